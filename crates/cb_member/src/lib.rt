@@ -1,0 +1,11 @@
+//! Membership: which memory nodes are up, how often each has joined, and at which epoch each of
+//! its incarnations crashed; and the names by which the crates above speak of nodes and losses.
+#![tactic(auto)]
+
+pub mod losses;
+pub mod names;
+pub mod no_memory;
+
+pub use losses::Losses;
+pub use names::{Epoch, Loss, NodeId, Shard};
+pub use no_memory::NoMemory;
