@@ -1,0 +1,51 @@
+ghost use Rattle.std.specs.Prelude.{◌≡◌, IfOk};
+
+use cb_member::NoMemory;
+use std::alloc::Global;
+use std::marker::Model;
+
+/// The bytes of an object, or of a text. Contracts see them as a list.
+#[derive(Debug, Drop)]
+pub struct Bytes {
+    items: Vec<u8>,
+}
+
+impl Model for Bytes {
+    ghost use Rattle.std.specs.Prelude.{List, ℕ};
+
+    ghost Value = { List ℕ };
+
+    ghost view = { λ a. a.items.items };
+}
+
+impl Bytes {
+    /// A copy of the bytes.
+    pub fn copy_of(alloc: Global, items: &[u8]) -> Result<Bytes, NoMemory>
+        ensures items { IfOk result (λ copy. copy ≡ items.now) }
+    {
+        let items = Vec::from_slice(alloc, items)?;
+        Ok(Bytes { items })
+    }
+
+    pub fn as_slice(&self) -> &[u8]
+        ensures items { result.now ≡ self.now }
+    {
+        self.items.as_slice()
+    }
+
+    /// Gives the bytes' own memory back as a vector; takes none.
+    pub fn into_vec(self) -> Vec<u8>
+        ensures items { result.items ≡ self }
+    {
+        self.items
+    }
+}
+
+impl From<Vec<u8>> for Bytes {
+    ghost from_gives = { λ v bytes. bytes ≡ v.items };
+
+    /// Keeps the vector's own memory; takes none.
+    fn from(items: Vec<u8>) -> Bytes {
+        Bytes { items }
+    }
+}

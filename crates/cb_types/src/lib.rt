@@ -1,0 +1,31 @@
+//! The names by which the crates of carbink speak to one another: the configuration, requests and
+//! their replies, the answers of a run, and the source and the sink of a program's bytes.
+#![tactic(auto)]
+
+pub mod answer;
+pub mod answers;
+pub mod bytes;
+pub mod config;
+pub mod handle;
+pub mod memory;
+pub mod name;
+pub mod plain;
+pub mod sink;
+pub mod source;
+pub mod standard;
+
+pub use answer::{Answer, Reply, Request};
+pub use answers::Answers;
+pub use bytes::Bytes;
+pub use cb_member::{Epoch, Loss, Losses, NoMemory, NodeId};
+pub use config::{Config, Field};
+pub use handle::{Handle, Lane};
+pub use memory::{MemSink, MemSource};
+pub use name::Name;
+pub use plain::{PlainSink, PlainSource};
+pub use sink::{Sent, Sink};
+pub use source::{Source, Took};
+pub use standard::{StdSink, StdSource};
+
+#[cfg(test)]
+mod tests;

@@ -1,0 +1,36 @@
+ghost use Rattle.std.specs.Prelude.{◌≡◌, IfOk};
+
+use cb_member::NoMemory;
+use std::alloc::Global;
+use std::marker::Model;
+
+/// The name that a script gives an object: 1 to 16 lower-case letters and digits, where a script
+/// was read. Contracts see it as the list of its bytes.
+#[derive(Debug, Drop)]
+pub struct Name {
+    items: Vec<u8>,
+}
+
+impl Model for Name {
+    ghost use Rattle.std.specs.Prelude.{List, ℕ};
+
+    ghost Value = { List ℕ };
+
+    ghost view = { λ a. a.items.items };
+}
+
+impl Name {
+    /// A copy of the name.
+    pub fn copy_of(alloc: Global, items: &[u8]) -> Result<Name, NoMemory>
+        ensures items { IfOk result (λ copy. copy ≡ items.now) }
+    {
+        let items = Vec::from_slice(alloc, items)?;
+        Ok(Name { items })
+    }
+
+    pub fn as_slice(&self) -> &[u8]
+        ensures items { result.now ≡ self.now }
+    {
+        self.items.as_slice()
+    }
+}
