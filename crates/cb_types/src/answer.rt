@@ -1,6 +1,10 @@
+ghost use Rattle.std.specs.Prelude.{◌≡◌, IfOk};
+
 use crate::bytes::Bytes;
 use crate::handle::{Handle, Lane};
 use crate::name::Name;
+use cb_member::NoMemory;
+use std::alloc::Global;
 
 /// What a line of a script asks for.
 #[derive(Debug, Drop)]
@@ -9,6 +13,23 @@ pub enum Request {
     Make { name: Name, bytes: Bytes },
     /// The object's bytes.
     Read { name: Name },
+}
+
+impl Request {
+    /// A copy of the request.
+    pub fn copy(&self, alloc: Global) -> Result<Request, NoMemory>
+        ensures copy { IfOk result (λ copy. copy ≡ self.now) }
+    {
+        Ok(match self {
+            Request::Make { name, bytes } => Request::Make {
+                name: Name::copy_of(alloc, name.as_slice())?,
+                bytes: Bytes::copy_of(alloc, bytes.as_slice())?,
+            },
+            Request::Read { name } => Request::Read {
+                name: Name::copy_of(alloc, name.as_slice())?,
+            },
+        })
+    }
 }
 
 /// What a request is answered.

@@ -1,0 +1,4 @@
+pub mod Map
+pub mod Now
+pub mod History
+pub mod Legal
