@@ -1,0 +1,5 @@
+pub mod Spelling
+pub mod Form
+pub mod Cut
+pub mod Numbers
+pub mod Hexadecimal
