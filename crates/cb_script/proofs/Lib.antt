@@ -1,3 +1,4 @@
 pub mod Decimals
 pub mod HeaderWords
 pub mod HexText
+pub mod KnownNames

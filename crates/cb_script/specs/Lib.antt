@@ -3,3 +3,5 @@ pub mod Form
 pub mod Cut
 pub mod Numbers
 pub mod Hexadecimal
+pub mod Shape
+pub mod Known

@@ -6,10 +6,12 @@ mod contents;
 mod cut;
 pub mod fault;
 mod header;
+mod known;
 mod name;
 mod number;
 pub mod read;
 pub mod script;
+mod shape;
 
 pub use fault::{Reason, ScriptFault};
 pub use read::read_script;
