@@ -6,7 +6,7 @@ use Rattle.std.specs.Fmt.{decimal}
 use Rattle.std.specs.Char.{digit_value}
 use Rattle.std.specs.Int.{IsInRange}
 use Rattle.std.specs.Str.Parse.{AllDigits, digits_value}
-use Rattle.std.proofs.lemmas.Fmt.{decimal_is_IsNumeral, decimal-digits_value, decimal_digit, first_decimal}
+use Rattle.std.proofs.lemmas.Fmt.{decimal_is_IsNumeral, decimal-digits_value, decimal_digit, decimal_injective, first_decimal}
 use Rattle.std.proofs.lemmas.Str.{digit_value_digit}
 use Rattle.std.proofs.lemmas.Str.Parse.{IsNumeralModel, digit_at, digits_value-take-le}
 use Rattle.std.proofs.lemmas.Int.Digits.{digits_value_more, digits_more}
@@ -82,3 +82,6 @@ setting_from_number word name value number None at sign none = λ n small e.
     none n small (append_cancel_left (61 ∷ []) number (decimal n) (sym sign ∙ append_cancel_left name value (61 ∷ decimal n) (sym at ∙ e)))
 setting_from_number word name value number (Some n) at sign some =
     (some.0, at ∙ ap (λ (v : List ℕ). name ++ v) (sign ∙ ap (λ (v : List ℕ). 61 ∷ v) some.1))
+
+pub another_number : (word : List ℕ) (m n : ℕ) → m < 10 ^ 9 → n < 10 ^ 9 → word ≡ decimal m → (m ≡ n → ⊥) → word ≡ decimal n → ⊥
+another_number word m n m_small n_small is other e = other (decimal_injective m n (omega arith) (omega arith) (sym is ∙ e))

@@ -104,7 +104,7 @@ contents_taken text bytes hexadecimal short e =
     let back = encode_pairs 0 text bytes hexadecimal.each (sym (decode_of-even text hexadecimal.even) ∙ e) in
     (record { some = omega (arith, hexadecimal.some); few = omega arith; each = All-from_get_or (λ b. b < 256) bytes 0 (λ i within. ok.3 i) }, sym back)
 
-lower_encoded : (bytes : List ℕ) → All (λ b. b < 256) bytes → All IsLowerDigit (encode_lower bytes)
+pub lower_encoded : (bytes : List ℕ) → All (λ b. b < 256) bytes → All IsLowerDigit (encode_lower bytes)
 unfolding encode_with
 lower_encoded [] each = All-nil IsLowerDigit
 lower_encoded (b ∷ bytes) each =

@@ -5,3 +5,4 @@ pub mod Numbers
 pub mod Hexadecimal
 pub mod Shape
 pub mod Known
+pub mod Next

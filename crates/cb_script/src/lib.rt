@@ -7,6 +7,7 @@ mod cut;
 pub mod fault;
 mod header;
 mod known;
+mod line;
 mod name;
 mod number;
 pub mod read;
