@@ -55,6 +55,9 @@ pub record GoesOn (before front lines : List Line) (text : List ℕ) : Type 0 wh
   pub text_is : line_text next ≡ text
   pub follows : MayFollow (before ++ front) next
 
+cons_same : (l m : Line) (lines others : List Line) → l ≡ m → lines ≡ others → l ∷ lines ≡ m ∷ others
+cons_same l m lines others first rest = cc
+
 pub goes_on : (before front lines : List Line) (text : List ℕ) (texts : List (List ℕ)) → AreLines before front → AreLines before lines → map line_text lines ≡ map line_text front ++ text ∷ texts → GoesOn before front lines text
 goes_on before [] [] text texts are_front are e = absurd cc
 goes_on before [] (l ∷ lines) text texts are_front are e =
@@ -69,7 +72,7 @@ goes_on before (m ∷ front) (l ∷ lines) text texts are_front are e =
     record {
       next = on.next;
       after = on.after;
-      lines_are = ap (λ (n : Line). n ∷ lines) same ∙ ap (λ (ls : List Line). m ∷ ls) on.lines_are;
+      lines_are = cons_same l m lines (front ++ on.next ∷ on.after) same on.lines_are;
       text_is = on.text_is;
       follows = subst (λ (ls : List Line). MayFollow ls on.next) (append_assoc before (m ∷ []) front) on.follows;
     }
@@ -83,7 +86,7 @@ lines_unique before (l ∷ lines) (m ∷ others) are are_others e =
     let rest : map line_text lines ≡ map line_text others = cc in
     let same : l ≡ m = line_unique before l m are.0 are_others.0 first in
     let are_rest : AreLines (before ++ m ∷ []) lines = subst (λ (n : Line). AreLines (before ++ n ∷ []) lines) same are.1 in
-    ap (λ (n : Line). n ∷ lines) same ∙ ap (λ (ls : List Line). m ∷ ls) (lines_unique (before ++ m ∷ []) lines others are_rest are_others.1 rest)
+    cons_same l m lines others same (lines_unique (before ++ m ∷ []) lines others are_rest are_others.1 rest)
 
 -- no lines have these texts, where none comes next behind the front
 pub is_stuck : (front : List Line) (handles : ℕ) (text : List ℕ) (texts : List (List ℕ)) → AreLines [] front → ((l : Line) → ComesNext front handles text l → ⊥)

@@ -5,3 +5,4 @@ pub mod KnownNames
 pub mod Pieces
 pub mod Texts
 pub mod Front
+pub mod Headers

@@ -1,13 +1,31 @@
-ghost use Rattle.std.specs.Prelude.{◌≡◌, map, MatchOption};
+ghost use Rattle.std.specs.Prelude.{◌≡◌, map, IfOk, MatchOption};
+ghost use Rattle.cb_types.specs.Config.{IsAccepted};
 ghost use Rattle.cb_types.specs.declared.config.Config.{Config};
 ghost use Rattle.cb_script.specs.Spelling.{header_words};
+ghost use Rattle.cb_script.specs.Next.{header_text};
 ghost use Rattle.cb_script.specs.Numbers.{AreNumbers};
 
+use crate::cut::pieces_between;
 use crate::number::setting_of;
-use cb_types::Config;
+use cb_types::{Config, NoMemory};
+use std::alloc::Global;
+
+/// The configuration that a header of this text sets, where it is accepted.
+pub(crate) fn accepted_config_of(alloc: Global, text: &[u8]) -> Result<Option<Config>, NoMemory>
+    ensures { IfOk result (λ found. MatchOption found ((c : Config) → IsAccepted c → text.now ≡ header_text c → ⊥) (λ c. IsAccepted c × (text.now ≡ header_text c))) }
+{
+    let words = pieces_between(alloc, b' ', text)?;
+    let Some(config) = config_of(words.as_slice()) else {
+        return Ok(None);
+    };
+    if config.check().is_err() {
+        return Ok(None);
+    }
+    Ok(Some(config))
+}
 
 /// The configuration that the words of a header set, whether or not it is accepted.
-pub(crate) fn config_of(words: &[&[u8]]) -> Option<Config>
+fn config_of(words: &[&[u8]]) -> Option<Config>
     ensures { MatchOption result ((c : Config) → AreNumbers c → map (λ word. word.now) words.now ≡ header_words c → ⊥) (λ c. AreNumbers c × (map (λ word. word.now) words.now ≡ header_words c)) }
 {
     let [
