@@ -3,7 +3,7 @@ use Rattle.std.proofs.Common.{◌≡◌, ◌==◌, Bor, ℕ, ◌+◌, ◌<◌, �
 use Rattle.std.specs.Prelude.{Contains}
 use Rattle.std.specs.Fmt.{decimal}
 use Rattle.std.specs.List.{join_with_byte, slice_split, flat_map}
-use Rattle.std.proofs.lemmas.List.{append-nil, length-append, length-map}
+use Rattle.std.proofs.lemmas.List.{append-nil, length-append, length-map, length_push, map-append, map_more, map_push, drop_more, take-append-drop}
 use Rattle.std.proofs.lemmas.List.Concat.{flat_map-append, flat_map-cons}
 use Rattle.std.proofs.lemmas.List.Splits.{join_with_byte-slice_split}
 use Rattle.cb_types.specs.declared.answer.Request.{Request}
@@ -12,7 +12,7 @@ use Rattle.cb_script.specs.Spelling.{line_words, request_words}
 use Rattle.cb_script.specs.Form.{IsRequest, IsKnown, MayFollow, AreLines, made, names_made}
 use Rattle.cb_script.specs.Known.{MayStand}
 use Rattle.cb_script.specs.Next.{line_text, ComesNext}
-use Rattle.cb_script.proofs.HeaderWords.{texts}
+use Rattle.cb_script.proofs.HeaderWords.{texts, text_at}
 use Rattle.cb_script.proofs.Texts.{HasForm, HasForm-from_follow, line_splits, line_unique}
 
 -- ---- one line
@@ -108,3 +108,36 @@ pub no_words : (items view : List (Bor (List ℕ))) (text : List ℕ) → texts 
 no_words items view text cut same none before handles l next =
     let words = ap (λ (ws : List (List ℕ)). length ws) (cut ∙ next_words before handles text l next) in
     omega (arith, words, ap (λ (ws : List (Bor (List ℕ))). length ws) same, none, length-map items (λ (word : Bor (List ℕ)). word.now))
+
+-- ---- the texts of lines, as code goes over them
+
+pub texts_at : (all : List (Bor (List ℕ))) (i : ℕ) → i < length all → texts all ≡ texts (take i all) ++ text_at all i ∷ texts (drop (i + 1) all)
+texts_at all i within =
+    let nothing : Bor (List ℕ) = record { ref_ptr = (0, 0); now = [] } in
+    ap texts (sym (take-append-drop i all) ∙ ap (λ (ws : List (Bor (List ℕ))). take i all ++ ws) (drop_more all i nothing within))
+    ∙ map-append (λ (text : Bor (List ℕ)). text.now) (take i all) (get_or all i nothing ∷ drop (i + 1) all)
+
+pub texts_more : (all : List (Bor (List ℕ))) (i : ℕ) → i < length all → texts (take (i + 1) all) ≡ texts (take i all) ++ text_at all i ∷ []
+texts_more all i within = map_more (λ (text : Bor (List ℕ)). text.now) all i (record { ref_ptr = (0, 0); now = [] }) within
+
+-- the next text is of no line
+pub stuck_at : (front : List Line) (handles i : ℕ) (all : List (Bor (List ℕ))) → i < length all → AreLines [] front → map line_text front ≡ texts (take i all) → ((l : Line) → ComesNext front handles (text_at all i) l → ⊥)
+    → (lines : List Line) → AreLines [] lines → length (made lines) ≤ handles → map line_text lines ≡ texts all → ⊥
+stuck_at front handles i all within are_front read none lines are room e =
+    is_stuck front handles (text_at all i) (texts (drop (i + 1) all)) are_front none lines are room
+    (e ∙ texts_at all i within ∙ ap (λ (ts : List (List ℕ)). ts ++ text_at all i ∷ texts (drop (i + 1) all)) (sym read))
+
+-- one more line was read
+pub record FrontIsRead (front : List Line) (handles i : ℕ) (all : List (Bor (List ℕ))) : Type 0 where
+  pub are : AreLines [] front
+  pub room : length (made front) ≤ handles
+  pub read : map line_text front ≡ texts (take i all)
+  pub count : length front ≡ i
+
+pub front_more : (front : List Line) (handles i : ℕ) (all : List (Bor (List ℕ))) (l : Line) → FrontIsRead front handles i all → i < length all → ComesNext front handles (text_at all i) l → FrontIsRead (front ++ l ∷ []) handles (i + 1) all
+front_more front handles i all l is within next = record {
+  are = AreLines-push [] front l is.are next.follows;
+  room = next.room;
+  read = map_push line_text front l ∙ ap (λ (ts : List (List ℕ)). ts ++ line_text l ∷ []) is.read ∙ ap (λ (t : List ℕ). texts (take i all) ++ t ∷ []) (sym next.spelled) ∙ sym (texts_more all i within);
+  count = length_push front l ∙ ap (λ (n : ℕ). n + 1) is.count;
+}

@@ -1,6 +1,8 @@
 -- The set of names against the names that were made, and which request may stand behind them.
 use Rattle.std.proofs.Common.{◌≡◌, ℕ, ◌+◌, ◌<◌, ◌≤◌, Bool, true, false, cond, List, [], ◌∷◌, ◌++◌, length, inl, inr, Bor, refl, sym, ap, ◌∙◌, subst, arith}
 use Rattle.std.specs.Prelude.{codes, Contains}
+use Rattle.std.specs.List.{list_any}
+use Rattle.std.specs.BTreeMap.{is_at}
 use Rattle.std.specs.BTreeSet.{BTreeSet, Updates, btree_set_len}
 use Rattle.std.specs.Cmp.Lexicographic.{slice_cmp}
 use Rattle.std.specs.Ordering.{nat_cmp}
@@ -97,3 +99,10 @@ module _ (known : List (List ℕ)) (handles : ℕ) (name : List ℕ) where
 
   pub read_stands : IsName name → Contains known name → length known ≤ handles → MayStand known handles (codes "read" ∷ name ∷ []) (Read name)
   read_stands is_name made room = record { request = is_name; allowed = made; spelled = refl; room = omega (arith, ap length (append-nil known)) }
+
+-- a set with no names
+pub no_names : (names : BTreeSet (Bor (List ℕ))) → names.keys ≡ [] → HasNames names []
+no_names names empty = record {
+  each = λ name. (λ there. absurd (true≢false (sym there ∙ ap (λ (ks : List (Bor (List ℕ))). list_any (is_at (λ kept. slice_cmp nat_cmp name kept.now)) ks) empty)), λ contained. absurd (omega (arith, contained.1)));
+  count = ap (λ (ks : List (Bor (List ℕ))). length ks) empty;
+}
