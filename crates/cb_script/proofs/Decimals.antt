@@ -1,5 +1,5 @@
 -- What a word of digits spells.
-use Rattle.std.proofs.Common.{◌≡◌, ℕ, zero, suc, ◌+◌, ◌*◌, ◌^◌, ◌<◌, ◌≤◌, List, [], ◌∷◌, ◌++◌, length, get_or, take, Option, Some, None, MatchOption, refl, sym, ap, ◌∙◌, subst, arith, rules}
+use Rattle.std.proofs.Common.{◌≡◌, ℕ, zero, suc, ◌+◌, ◌*◌, ◌^◌, ◌<◌, ◌≤◌, List, [], ◌∷◌, ◌++◌, length, get_or, take, Option, Some, None, MatchOption, refl, sym, ap, ◌∙◌, subst, arith}
 use Rattle.std.proofs.lemmas.List.{append_cancel_left}
 use Rattle.cb_script.specs.Spelling.{setting}
 use Rattle.std.specs.Fmt.{decimal}
@@ -8,7 +8,7 @@ use Rattle.std.specs.Int.{IsInRange}
 use Rattle.std.specs.Str.Parse.{AllDigits, digits_value}
 use Rattle.std.proofs.lemmas.Fmt.{decimal_is_IsNumeral, decimal-digits_value, decimal_digit, decimal_injective, first_decimal}
 use Rattle.std.proofs.lemmas.Str.{digit_value_digit}
-use Rattle.std.proofs.lemmas.Str.Parse.{IsNumeralModel, digit_at, digits_value-take-le}
+use Rattle.std.proofs.lemmas.Str.Parse.{IsNumeralModel, digits_value-take-le}
 use Rattle.std.proofs.lemmas.Int.Digits.{digits_value_more, digits_more}
 
 model : IsNumeralModel (AllDigits 10) (digits_value 10)
@@ -42,9 +42,10 @@ pub value_step : (word : List ℕ) (i value d : ℕ) → i < length word → All
     → AllDigits 10 (take (i + 1) word) × (digits_value 10 (take (i + 1) word) ≡ value * 10 + d)
 value_step word i value d within digits so_far digit is =
     let e : digit_value (get_or word i 0) + 48 ≡ get_or word i 0 = digit_value_digit (get_or word i 0) digit in
-    let same : digit_value (get_or word i 0) ≡ d = omega arith in
-    (digits_more 10 word i within digits (omega (arith, digit)),
-     digits_value_more 10 word i within ∙ ap (λ (v : ℕ). v * 10 + digit_value (get_or word i 0)) so_far ∙ ap (λ (v : ℕ). value * 10 + v) same)
+    let same : digit_value (get_or word i 0) ≡ d = omega arith in (
+      digits_more 10 word i within digits (omega (arith, digit)),
+      digits_value_more 10 word i within ∙ ap (λ (v : ℕ). v * 10 + digit_value (get_or word i 0)) so_far ∙ ap (λ (v : ℕ). value * 10 + v) same,
+    )
 
 -- one more digit behind a value of nine digits is too much
 pub too_many : (word : List ℕ) (i value : ℕ) → i < length word → digits_value 10 (take i word) ≡ value → 100000000 ≤ value → digits_value 10 word < 10 ^ 9 → ⊥

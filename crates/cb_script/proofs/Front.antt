@@ -1,19 +1,17 @@
 -- Lines that were read one after the other.
 use Rattle.std.proofs.Common.{◌≡◌, ◌==◌, Bor, ℕ, ◌+◌, ◌<◌, ◌≤◌, List, [], ◌∷◌, ◌++◌, length, map, get_or, take, drop, refl, sym, ap, ◌∙◌, subst, append_assoc, arith}
-use Rattle.std.specs.Prelude.{Contains}
 use Rattle.std.specs.Fmt.{decimal}
-use Rattle.std.specs.List.{join_with_byte, slice_split, flat_map}
+use Rattle.std.specs.List.{join_with_byte, slice_split}
 use Rattle.std.proofs.lemmas.List.{append-nil, length-append, length-map, length_push, map-append, map_more, map_push, drop_more, take-append-drop}
-use Rattle.std.proofs.lemmas.List.Concat.{flat_map-append, flat_map-cons}
+use Rattle.std.proofs.lemmas.List.Concat.{flat_map-append}
 use Rattle.std.proofs.lemmas.List.Splits.{join_with_byte-slice_split}
-use Rattle.cb_types.specs.declared.answer.Request.{Request}
 use Rattle.cb_script.specs.declared.script.Line.{Line}
-use Rattle.cb_script.specs.Spelling.{line_words, request_words}
-use Rattle.cb_script.specs.Form.{IsRequest, IsKnown, MayFollow, AreLines, made, names_made}
+use Rattle.cb_script.specs.Spelling.{request_words}
+use Rattle.cb_script.specs.Form.{MayFollow, AreLines, made, names_made}
 use Rattle.cb_script.specs.Known.{MayStand}
 use Rattle.cb_script.specs.Next.{line_text, ComesNext}
 use Rattle.cb_script.proofs.HeaderWords.{texts, text_at}
-use Rattle.cb_script.proofs.Texts.{HasForm, HasForm-from_follow, line_splits, line_unique}
+use Rattle.cb_script.proofs.Texts.{HasForm-from_follow, line_splits, line_unique}
 
 -- ---- one line
 
@@ -100,9 +98,8 @@ is_stuck front handles text texts are_front none lines are room e =
 
 -- ---- the words of a line, as code reads them
 
-pub cut_words : (items view : List (Bor (List ℕ))) (lane : Bor (List ℕ)) (others : List (Bor (List ℕ))) (text : List ℕ) → texts items ≡ slice_split (λ b. b == 32) text → view ≡ items → view ≡ lane ∷ others
-    → slice_split (λ b. b == 32) text ≡ lane.now ∷ texts others
-cut_words items view lane others text cut same first = sym cut ∙ ap texts (sym same ∙ first)
+pub cut_words : (items view : List (Bor (List ℕ))) (first : Bor (List ℕ)) (others : List (Bor (List ℕ))) (pieces : List (List ℕ)) → texts items ≡ pieces → view ≡ items → view ≡ first ∷ others → pieces ≡ first.now ∷ texts others
+cut_words items view first others pieces cut same is = sym cut ∙ ap texts (sym same ∙ is)
 
 pub no_words : (items view : List (Bor (List ℕ))) (text : List ℕ) → texts items ≡ slice_split (λ b. b == 32) text → view ≡ items → length view ≡ 0 → (before : List Line) (handles : ℕ) (l : Line) → ComesNext before handles text l → ⊥
 no_words items view text cut same none before handles l next =

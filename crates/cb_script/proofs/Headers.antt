@@ -1,5 +1,5 @@
 -- The header: its text has one reading, and which configurations are accepted.
-use Rattle.std.proofs.Common.{◌≡◌, ◌==◌, ℕ, ◌^◌, ◌<◌, ◌≤◌, Bool, true, false, List, [], ◌∷◌, ◌++◌, get_or, Result, Ok, Err, Bor, refl, sym, ap, ◌∙◌, subst, arith}
+use Rattle.std.proofs.Common.{◌≡◌, ◌==◌, ℕ, ◌^◌, ◌<◌, true, false, List, [], ◌∷◌, get_or, Result, Ok, Err, Bor, sym, ap, ◌∙◌, arith}
 use Rattle.std.specs.Prelude.{codes, MatchResult, is_err}
 use Rattle.std.specs.Fmt.{decimal}
 use Rattle.std.specs.List.{join_with_byte, slice_split}
@@ -16,7 +16,7 @@ use Rattle.cb_script.specs.Next.{header_text}
 use Rattle.cb_script.specs.Numbers.{AreNumbers}
 use Rattle.cb_script.proofs.HeaderWords.{texts}
 use Rattle.cb_script.proofs.Pieces.{Lacks, IsFull}
-use Rattle.cb_script.proofs.Texts.{header_is_words, words_split, lacks_feed, is_full}
+use Rattle.cb_script.proofs.Texts.{header_is_words, words_split, lacks_feed}
 
 pub header_splits : (c : Config) → AreNumbers c → slice_split (λ b. b == 32) (header_text c) ≡ header_words c
 unfolding header_text
@@ -78,6 +78,14 @@ accepted_from_check c (Err field) h e = absurd (true≢false e)
 pub refused_from_check : (c : Config) (checked : Result Unit Field) → MatchResult checked (λ _. IsAccepted c) (λ field. IsFirstOutOfRange c field) → is_err checked ≡ true → IsAccepted c → ⊥
 refused_from_check c (Ok u) h e accepted = true≢false (sym e)
 refused_from_check c (Err field) h e accepted = h.out (accepted field)
+
+-- two accepted configurations with one text are one configuration
+pub header_unique : (c d : Config) → IsAccepted c → IsAccepted d → header_text c ≡ header_text d → c ≡ d
+header_unique c d hc hd e =
+    let nc = AreNumbers-from_accepted c hc in
+    let nd = AreNumbers-from_accepted d hd in
+    let words : header_words c ≡ header_words d = sym (header_splits c nc) ∙ ap (slice_split (λ b. b == 32)) e ∙ header_splits d nd in
+    config_unique c d nc nd words
 
 -- ---- as code reads it
 

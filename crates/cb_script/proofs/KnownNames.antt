@@ -15,8 +15,7 @@ use Rattle.std.proofs.lemmas.Slice.Eq.{bytes_eq-Decides}
 use Rattle.hex.specs.Hex.{encode_lower}
 use Rattle.cb_types.specs.declared.answer.Request.{Request}
 use Rattle.cb_types.specs.declared.answer.Request.TheVariants.{Make, Read}
-use Rattle.cb_script.specs.Form.{IsName, IsContents, IsRequest, IsKnown, names_made}
-use Rattle.cb_script.specs.Spelling.{request_words}
+use Rattle.cb_script.specs.Form.{IsName, IsContents}
 use Rattle.cb_script.specs.Known.{has_name, HasNames, MayStand}
 
 -- ---- the set of names
@@ -58,7 +57,6 @@ names_more names new key known has updates longer =
     }
 
 -- ---- a make
-
 
 module _ (known : List (List ℕ)) (handles : ℕ) (name text : List ℕ) where
   pub make_needs_name : (IsName name → ⊥) → (r : Request) → MayStand known handles (codes "make" ∷ name ∷ text ∷ []) r → ⊥

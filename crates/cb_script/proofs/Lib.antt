@@ -6,3 +6,4 @@ pub mod Pieces
 pub mod Texts
 pub mod Front
 pub mod Headers
+pub mod Scripts

@@ -1,7 +1,7 @@
 -- Pieces that are joined by a byte, and a text that is cut at it.
-use Rattle.std.proofs.Common.{◌≡◌, ℕ, Bool, false, eqb, List, [], ◌∷◌, ◌++◌, All, map, ◌⊎◌, inl, inr, refl, sym, ap, ◌∙◌, subst, append_assoc, arith}
+use Rattle.std.proofs.Common.{◌≡◌, ℕ, false, eqb, List, [], ◌∷◌, ◌++◌, All, ◌⊎◌, inl, inr, refl, sym, ap, ◌∙◌, append_assoc}
 use Rattle.std.specs.List.{join_with_byte, slice_split, flat_map}
-use Rattle.std.proofs.lemmas.Bool.{eq-eqb, eqb-true, true≢false}
+use Rattle.std.proofs.lemmas.Bool.{eq-eqb, true≢false}
 use Rattle.std.proofs.lemmas.List.{append-nil, append_cancel_right, same_from_push}
 use Rattle.std.proofs.lemmas.List.Elements.{All-head, All-tail}
 use Rattle.std.proofs.lemmas.List.Splits.{slice_split_none, slice_split_at, join_with_byte-slice_split}
@@ -77,18 +77,18 @@ pub pieces_given : (bytes text piece : List ℕ) (pieces : List (List ℕ)) → 
 pieces_given bytes text piece pieces opens lack full spelled =
     let joined = join_with_byte 10 (piece ∷ pieces) in
     let text_is : text ≡ joined =
-        elim spelled [
-          | inl ended ↦ elim opens [
-              | inl cut ↦ append_cancel_right text joined (10 ∷ []) (sym cut ∙ ended)
-              | inr whole ↦ absurd (whole.1 joined ended)
-            ]
-          | inr unended ↦
-              let bytes_are = append_cancel_right bytes joined (10 ∷ []) unended in
-              elim opens [
-                | inl cut ↦ absurd (no_feed_at_end piece pieces lack full text (sym bytes_are ∙ cut))
-                | inr whole ↦ sym whole.0 ∙ bytes_are
-              ]
-        ] in
+    elim spelled [
+      | inl ended ↦ elim opens [
+        | inl cut ↦ append_cancel_right text joined (10 ∷ []) (sym cut ∙ ended)
+        | inr whole ↦ absurd (whole.1 joined ended)
+      ]
+      | inr unended ↦
+          let bytes_are = append_cancel_right bytes joined (10 ∷ []) unended in
+          elim opens [
+            | inl cut ↦ absurd (no_feed_at_end piece pieces lack full text (sym bytes_are ∙ cut))
+            | inr whole ↦ sym whole.0 ∙ bytes_are
+          ]
+    ] in
     ap (slice_split (λ b. eqb b 10)) text_is ∙ split_join 10 piece pieces lack.0 lack.1
 
 pub pieces_taken : (bytes text piece : List ℕ) (pieces : List (List ℕ)) → OpensFeed bytes text → slice_split (λ b. eqb b 10) text ≡ piece ∷ pieces

@@ -1,12 +1,11 @@
 -- The texts of lines and of the header, and that each has one reading.
-use Rattle.std.proofs.Common.{◌≡◌, ℕ, suc, ◌+◌, ◌^◌, ◌<◌, ◌≤◌, Bool, true, false, eqb, leb, ◌&&◌, List, [], ◌∷◌, ◌++◌, length, All, map, ◌⊎◌, inl, inr, refl, sym, ap, ◌∙◌, subst, append_assoc, arith, rules}
+use Rattle.std.proofs.Common.{◌≡◌, ℕ, ◌^◌, ◌<◌, ◌≤◌, Bool, true, false, eqb, leb, ◌&&◌, List, [], ◌∷◌, ◌++◌, All, inl, inr, refl, sym, ap, ◌∙◌, subst, arith}
 use Rattle.std.specs.Prelude.{codes}
 use Rattle.std.specs.Fmt.{decimal}
 use Rattle.std.specs.Str.Parse.{AllDigits}
-use Rattle.std.specs.List.{join_with_byte, slice_split, flat_map}
+use Rattle.std.specs.List.{join_with_byte, slice_split}
 use Rattle.std.proofs.lemmas.Bool.{ne_eqb, leb-true, and_parts}
-use Rattle.std.proofs.lemmas.List.Elements.{All-nil, All-cons, All-head, All-tail, All-weaker, All-append}
-use Rattle.std.proofs.lemmas.Fmt.{decimal_injective}
+use Rattle.std.proofs.lemmas.List.Elements.{All-nil, All-cons, All-weaker, All-append}
 use Rattle.std.proofs.lemmas.Str.Parse.{digit_from_value}
 use Rattle.hex.specs.Hex.{encode_lower}
 use Rattle.cb_types.specs.declared.answer.Request.{Request}
@@ -14,7 +13,7 @@ use Rattle.cb_types.specs.declared.answer.Request.TheVariants.{Make, Read}
 use Rattle.cb_types.specs.declared.config.Config.{Config}
 use Rattle.cb_script.specs.declared.script.Line.{Line}
 use Rattle.cb_script.specs.Spelling.{setting, header_words, request_words, line_words}
-use Rattle.cb_script.specs.Form.{IsNameByte, IsName, IsContents, IsRequest, MayFollow}
+use Rattle.cb_script.specs.Form.{IsNameByte, IsRequest, MayFollow}
 use Rattle.cb_script.specs.Hexadecimal.{IsLowerDigit}
 use Rattle.cb_script.specs.Numbers.{AreNumbers}
 use Rattle.cb_script.specs.Next.{line_text}
@@ -142,21 +141,38 @@ line_same l m lanes numbers requests = λ i. record { lane = record { n = lanes 
 pub line_unique : (before : List Line) (l m : Line) → MayFollow before l → MayFollow before m → line_text l ≡ line_text m → l ≡ m
 line_unique before l m hl hm e =
     let words : line_words l ≡ line_words m =
-        sym (line_splits l (HasForm-from_follow before l hl)) ∙ ap (slice_split (λ b. eqb b 32)) e ∙ line_splits m (HasForm-from_follow before m hm) in
+    sym (line_splits l (HasForm-from_follow before l hl)) ∙ ap (slice_split (λ b. eqb b 32)) e ∙ line_splits m (HasForm-from_follow before m hm) in
     let requests : request_words l.request ≡ request_words m.request = cc in
     line_same l m (hl.lane ∙ sym hm.lane) (hl.line ∙ sym hm.line) (request_injective l.request m.request hl.request hm.request requests)
 
 -- ---- the header
 
 pub header_is_words : (c : Config) → AreNumbers c → AreWords (header_words c)
-header_is_words c numbers =
-    (IsWord-from_test (codes "carbink") refl,
-    (IsWord-from_test (codes "1") refl,
-    (IsWord-setting (codes "k") c.k refl numbers.k,
-    (IsWord-setting (codes "r") c.r refl numbers.r,
-    (IsWord-setting (codes "nodes") c.nodes refl numbers.nodes,
-    (IsWord-setting (codes "frames") c.frames refl numbers.frames,
-    (IsWord-setting (codes "room") c.room refl numbers.room,
-    (IsWord-setting (codes "handles") c.handles refl numbers.handles,
-    (IsWord-setting (codes "turns") c.turns refl numbers.turns,
-    tt)))))))))
+header_is_words c numbers = (
+  IsWord-from_test (codes "carbink") refl,
+  (
+    IsWord-from_test (codes "1") refl,
+    (
+      IsWord-setting (codes "k") c.k refl numbers.k,
+      (
+        IsWord-setting (codes "r") c.r refl numbers.r,
+        (
+          IsWord-setting (codes "nodes") c.nodes refl numbers.nodes,
+          (
+            IsWord-setting (codes "frames") c.frames refl numbers.frames,
+            (
+              IsWord-setting (codes "room") c.room refl numbers.room,
+              (
+                IsWord-setting (codes "handles") c.handles refl numbers.handles,
+                (
+                  IsWord-setting (codes "turns") c.turns refl numbers.turns,
+                  tt,
+                ),
+              ),
+            ),
+          ),
+        ),
+      ),
+    ),
+  ),
+)

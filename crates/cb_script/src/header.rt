@@ -28,18 +28,7 @@ pub(crate) fn accepted_config_of(alloc: Global, text: &[u8]) -> Result<Option<Co
 fn config_of(words: &[&[u8]]) -> Option<Config>
     ensures { MatchOption result ((c : Config) → AreNumbers c → map (λ word. word.now) words.now ≡ header_words c → ⊥) (λ c. AreNumbers c × (map (λ word. word.now) words.now ≡ header_words c)) }
 {
-    let [
-        carbink,
-        version,
-        k,
-        r,
-        nodes,
-        frames,
-        room,
-        handles,
-        turns,
-    ] = words
-    else {
+    let [carbink, version, k, r, nodes, frames, room, handles, turns] = words else {
         return None;
     };
     if *carbink != b"carbink".as_slice() || *version != b"1".as_slice() {

@@ -47,11 +47,7 @@ fn make_of<'a>(
     Ok(Some(Request::Make { name: copy, bytes }))
 }
 
-fn read_of(
-    alloc: Global,
-    names: &BTreeSet<&[u8]>,
-    name: &[u8],
-) -> Result<Option<Request>, NoMemory>
+fn read_of(alloc: Global, names: &BTreeSet<&[u8]>, name: &[u8]) -> Result<Option<Request>, NoMemory>
     ensures { (handles : ℕ) → IfOk result (λ found. (known : List (List ℕ)) → HasNames names.now known → length known ≤ handles → MatchOption found ((r : Request) → MayStand known handles (codes "read" ∷ name.now ∷ []) r → ⊥) (λ r. MayStand known handles (codes "read" ∷ name.now ∷ []) r × HasNames names.now (known ++ names_made r))) }
 {
     if !is_name(name) || !names.contains(name) {

@@ -58,11 +58,7 @@ fn script_of(alloc: Global, bytes: &[u8]) -> Result<Option<Script>, NoMemory>
 }
 
 /// The lines of these texts, where each may stand behind those before it.
-fn lines_of<'a>(
-    alloc: Global,
-    handles: u32,
-    texts: &[&'a [u8]],
-) -> Result<Option<Lines>, NoMemory>
+fn lines_of<'a>(alloc: Global, handles: u32, texts: &[&'a [u8]]) -> Result<Option<Lines>, NoMemory>
     requires { length texts.now ≤ 20000 }
     ensures { IfOk result (λ found. MatchOption found ((lines : List Line) → AreLines [] lines → length (made lines) ≤ handles → map line_text lines ≡ map (λ text. text.now) texts.entry.now → ⊥) (λ lines. AreLines [] lines × (length (made lines) ≤ handles) × (map line_text lines ≡ map (λ text. text.now) texts.entry.now))) }
 {

@@ -1,9 +1,8 @@
 ghost use Rattle.std.specs.Prelude.{◌≡◌, [], ◌∷◌, ◌++◌, OnOk, OnErr};
 
+use cb_types::{Config, Lane, NoMemory, Request};
 use std::alloc::Global;
 use std::marker::Model;
-
-use cb_types::{Config, Lane, NoMemory, Request};
 
 /// How a script is run, and so which lines it may have.
 #[derive(Clone, Copy, Debug, PartialEq, Eq)]

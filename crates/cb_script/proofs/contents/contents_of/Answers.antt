@@ -1,4 +1,4 @@
-use Rattle.std.proofs.Common.{◌≡◌, true, subst, sym, ap, length, ◌/◌, ◌≤◌, arith, rules}
+use Rattle.std.proofs.Common.{◌≡◌, true, subst, sym, ap, length, arith, rules}
 use Rattle.cb_script.specs.Hexadecimal.{IsHexadecimal}
 use Rattle.cb_script.proofs.HexText.{contents_taken, contents_hexadecimal}
 use Rattle.cb_script.proofs.contents.contents_of.Goals as goal
@@ -8,11 +8,11 @@ pub returns-then-not-is_hexadecimal : goal.returns-then-not-is_hexadecimal
 returns-then-not-is_hexadecimal c = λ bytes contents e.
     let fits = contents_hexadecimal bytes contents in
     elim c.then-not-is_hexadecimal.branch [
-      then-not-is_hexadecimal-via-then-not-is_hexadecimal w ↦
-        let yes : c.is_hexadecimal.result ≡ true = c.is_hexadecimal.ensures.1 (subst IsHexadecimal (sym e) fits.0) in
-        cc
-    | then-not-is_hexadecimal-via-else-not-is_hexadecimal+then-text-gt-LONGEST_CONTENTS w ↦
-        omega (arith, fits.1, ap length e)
+      | then-not-is_hexadecimal-via-then-not-is_hexadecimal w ↦
+          let yes : c.is_hexadecimal.result ≡ true = c.is_hexadecimal.ensures.1 (subst IsHexadecimal (sym e) fits.0) in
+          cc
+      | then-not-is_hexadecimal-via-else-not-is_hexadecimal+then-text-gt-LONGEST_CONTENTS w ↦
+          omega (arith, fits.1, ap length e)
     ]
 
 pub returns-in-Ok : goal.returns-in-Ok

@@ -1,4 +1,4 @@
-use Rattle.std.proofs.Common.{◌≡◌, true, false, sym, ◌∙◌, subst, rules}
+use Rattle.std.proofs.Common.{sym, ◌∙◌, subst}
 use Rattle.cb_types.specs.Config.{IsAccepted}
 use Rattle.cb_script.proofs.Headers.{AreNumbers-from_accepted, accepted_from_check, refused_from_check, config_unique, header_words_at, header_text_at}
 use Rattle.cb_script.proofs.header.accepted_config_of.Goals as goal
@@ -16,6 +16,7 @@ returns-then-is_err c = λ config accepted e.
     refused_from_check c.in-Some.config c.check.result c.check.ensures (sym c.is_err.ensures.value ∙ c.if-is_err.true) (subst IsAccepted same accepted)
 
 pub returns : goal.returns
-returns c =
-    (accepted_from_check c.in-Some.config c.check.result c.check.ensures (sym c.is_err.ensures.value ∙ c.if-is_err.false),
-     header_text_at c.in_ok-words.words.items c.as_slice.result.now c.args.text.now c.in_ok-words.ensures c.as_slice.ensures.value c.in-Some.config c.in-Some.ensures.1)
+returns c = (
+  accepted_from_check c.in-Some.config c.check.result c.check.ensures (sym c.is_err.ensures.value ∙ c.if-is_err.false),
+  header_text_at c.in_ok-words.words.items c.as_slice.result.now c.args.text.now c.in_ok-words.ensures c.as_slice.ensures.value c.in-Some.config c.in-Some.ensures.1,
+)

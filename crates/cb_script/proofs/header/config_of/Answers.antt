@@ -1,4 +1,4 @@
-use Rattle.std.proofs.Common.{◌≡◌, length, refl, rules, arith}
+use Rattle.std.proofs.Common.{refl, rules, arith}
 use Rattle.std.specs.Prelude.{codes}
 use Rattle.cb_types.specs.declared.config.Config.{Config}
 use Rattle.cb_script.proofs.HeaderWords.{ReadsHeader, header_lacks, header_read}

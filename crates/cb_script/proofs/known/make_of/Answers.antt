@@ -1,10 +1,9 @@
-use Rattle.std.proofs.Common.{◌≡◌, ◌+◌, true, false, not, ◌∷◌, [], ◌++◌, ◌<◌, ◌≤◌, length, sym, ◌∙◌, ap, subst, arith, rules}
-use Rattle.std.specs.Prelude.{codes, Contains}
+use Rattle.std.proofs.Common.{◌≡◌, ◌+◌, true, false, not, sym, ◌∙◌, ap, arith, rules}
+use Rattle.std.specs.Prelude.{Contains}
 use Rattle.std.specs.BTreeSet.{btree_set_len}
 use Rattle.std.proofs.lemmas.Bool.{both_ways}
-use Rattle.cb_types.specs.declared.answer.Request.TheVariants.{Make}
 use Rattle.cb_script.specs.Form.{IsName}
-use Rattle.cb_script.specs.Known.{HasNames, MayStand, has_name}
+use Rattle.cb_script.specs.Known.{has_name}
 use Rattle.cb_script.proofs.KnownNames.{names_more, make_needs_name, make_needs_new, make_needs_handle, make_stands}
 use Rattle.cb_script.proofs.known.make_of.Goals as goal
 use Rattle.cb_script.proofs.known.make_of.Goals.{then-not-is_name-via-then-not-is_name, then-not-is_name-via-else-not-is_name+then-contains, then-not-is_name-via-else-not-is_name+else-contains+then-len-handles}
@@ -12,12 +11,12 @@ use Rattle.cb_script.proofs.known.make_of.Goals.{then-not-is_name-via-then-not-i
 pub returns-then-not-is_name : goal.returns-then-not-is_name
 returns-then-not-is_name c = λ known has.
     elim c.then-not-is_name.branch [
-      then-not-is_name-via-then-not-is_name w ↦
-        make_needs_name known c.args.handles c.args.name.now c.args.text.now (λ is. both_ways c.is_name.result (search rules) (c.is_name.ensures.1 is))
-    | then-not-is_name-via-else-not-is_name+then-contains w ↦
-        make_needs_new known c.args.handles c.args.name.now c.args.text.now ((has.each c.args.name.now).0 (sym w.contains.ensures ∙ search rules))
-    | then-not-is_name-via-else-not-is_name+else-contains+then-len-handles w ↦
-        make_needs_handle known c.args.handles c.args.name.now c.args.text.now (omega (arith, has.count, w.len.ensures.len, w.if-len-handles.true))
+      | then-not-is_name-via-then-not-is_name w ↦
+          make_needs_name known c.args.handles c.args.name.now c.args.text.now (λ is. both_ways c.is_name.result (search rules) (c.is_name.ensures.1 is))
+      | then-not-is_name-via-else-not-is_name+then-contains w ↦
+          make_needs_new known c.args.handles c.args.name.now c.args.text.now ((has.each c.args.name.now).0 (sym w.contains.ensures ∙ search rules))
+      | then-not-is_name-via-else-not-is_name+else-contains+then-len-handles w ↦
+          make_needs_handle known c.args.handles c.args.name.now c.args.text.now (omega (arith, has.count, w.len.ensures.len, w.if-len-handles.true))
     ]
 
 pub returns : goal.returns

@@ -1,4 +1,4 @@
-use Rattle.std.proofs.Common.{◌≡◌, true, false, sym, ◌∙◌, rules}
+use Rattle.std.proofs.Common.{◌≡◌, false, sym, ◌∙◌, rules}
 use Rattle.std.proofs.lemmas.List.{append-nil}
 use Rattle.std.specs.Prelude.{Contains}
 use Rattle.std.proofs.lemmas.Bool.{both_ways}
@@ -11,11 +11,11 @@ use Rattle.cb_script.proofs.known.read_of.Goals.{then-not-is_name-via-then-not-i
 pub returns-then-not-is_name : goal.returns-then-not-is_name
 returns-then-not-is_name c = λ handles known has room.
     elim c.then-not-is_name.branch [
-      then-not-is_name-via-then-not-is_name w ↦
-        read_needs_name known handles c.args.name.now (λ is. both_ways c.is_name.result (search rules) (c.is_name.ensures.1 is))
-    | then-not-is_name-via-else-not-is_name+then-not-contains w ↦
-        let absent : has_name c.args.names.now c.args.name.now ≡ false = sym w.contains.ensures ∙ search rules in
-        read_needs_known known handles c.args.name.now (λ made. both_ways (has_name c.args.names.now c.args.name.now) absent ((has.each c.args.name.now).1 made))
+      | then-not-is_name-via-then-not-is_name w ↦
+          read_needs_name known handles c.args.name.now (λ is. both_ways c.is_name.result (search rules) (c.is_name.ensures.1 is))
+      | then-not-is_name-via-else-not-is_name+then-not-contains w ↦
+          let absent : has_name c.args.names.now c.args.name.now ≡ false = sym w.contains.ensures ∙ search rules in
+          read_needs_known known handles c.args.name.now (λ made. both_ways (has_name c.args.names.now c.args.name.now) absent ((has.each c.args.name.now).1 made))
     ]
 
 pub returns : goal.returns

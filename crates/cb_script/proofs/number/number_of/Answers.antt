@@ -13,9 +13,9 @@ pub returns : goal.returns
 returns c =
     let some : 0 < length c.args.word.now = search rules in
     let leading : get_or c.args.word.now 0 0 ≡ 48 → length c.args.word.now ≡ 1 =
-        elim c.else-word-gt1.branch [
-          else-word-gt1-via-then-word-gt1+else-word-eq48 w ↦ λ h. absurd (w.if-word-eq48.false h)
-        | else-word-gt1-via-else-word-gt1 w ↦ λ h. omega arith
-        ] in
+    elim c.else-word-gt1.branch [
+      | else-word-gt1-via-then-word-gt1+else-word-eq48 w ↦ λ h. absurd (w.if-word-eq48.false h)
+      | else-word-gt1-via-else-word-gt1 w ↦ λ h. omega arith
+    ] in
     let canonical : IsCanonical c.args.word.now = record { some = some; leading = leading } in
     number_from_value c.args.word.now c.value_of.result canonical c.value_of.ensures

@@ -1,4 +1,4 @@
-use Rattle.std.proofs.Common.{◌∷◌, [], rules}
+use Rattle.std.proofs.Common.{◌∷◌, []}
 use Rattle.std.proofs.lemmas.Bool.Decides.{Decides-eqb}
 use Rattle.std.proofs.lemmas.Slice.Eq.{strip_prefix_is}
 use Rattle.cb_script.proofs.Decimals.{setting_is_none, sign_is_none, setting_from_number}

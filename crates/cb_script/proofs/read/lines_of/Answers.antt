@@ -1,9 +1,6 @@
-use Rattle.std.proofs.Common.{◌≡◌, ◌+◌, ◌∷◌, [], ◌++◌, length, sym, refl, ◌∙◌, arith}
+use Rattle.std.proofs.Common.{refl, arith}
 use Rattle.std.proofs.lemmas.List.{take_all}
-use Rattle.cb_script.specs.Form.{made}
-use Rattle.cb_script.specs.Known.{HasNames}
-use Rattle.cb_script.proofs.HeaderWords.{text_at}
-use Rattle.cb_script.proofs.Front.{FrontIsRead, front_more, stuck_at}
+use Rattle.cb_script.proofs.Front.{front_more, stuck_at}
 use Rattle.cb_script.proofs.KnownNames.{no_names}
 use Rattle.cb_script.proofs.read.lines_of.Goals as goal
 
