@@ -17,3 +17,6 @@ mod shape;
 pub use fault::{Reason, ScriptFault};
 pub use read::read_script;
 pub use script::{Line, Lines, Mode, Script};
+
+#[cfg(test)]
+mod tests;
