@@ -1,0 +1,88 @@
+-- What a word of digits spells.
+use Rattle.std.proofs.Common.{◌≡◌, ℕ, zero, suc, ◌+◌, ◌*◌, ◌^◌, ◌<◌, ◌≤◌, List, [], ◌∷◌, ◌++◌, length, get_or, take, Option, Some, None, MatchOption, refl, sym, ap, ◌∙◌, subst, arith}
+use Rattle.std.proofs.lemmas.List.{append_cancel_left}
+use Rattle.cb_script.specs.Spelling.{setting}
+use Rattle.std.specs.Fmt.{decimal}
+use Rattle.std.specs.Char.{digit_value}
+use Rattle.std.specs.Int.{IsInRange}
+use Rattle.std.specs.Str.Parse.{AllDigits, digits_value}
+use Rattle.std.proofs.lemmas.Fmt.{decimal_is_IsNumeral, decimal-digits_value, decimal_digit, decimal_injective, first_decimal}
+use Rattle.std.proofs.lemmas.Str.{digit_value_digit}
+use Rattle.std.proofs.lemmas.Str.Parse.{IsNumeralModel, digits_value-take-le}
+use Rattle.std.proofs.lemmas.Int.Digits.{digits_value_more, digits_more}
+
+model : IsNumeralModel (AllDigits 10) (digits_value 10)
+model = record { to = λ ds h. h; from = λ ds h. h; same = λ ds h. refl }
+
+-- a word as it is where it spells a number
+pub record IsCanonical (word : List ℕ) : Type 0 where
+  pub some : 0 < length word
+  pub leading : get_or word 0 0 ≡ 48 → length word ≡ 1
+
+pub number_taken : (word : List ℕ) (n : ℕ) → IsCanonical word → AllDigits 10 word → digits_value 10 word ≡ n → n < 10 ^ 9 → word ≡ decimal n
+number_taken word n canonical digits value small =
+    sym (decimal-digits_value model word digits canonical.some canonical.leading (omega (arith, value))) ∙ ap decimal value
+
+pub decimal_value : (n : ℕ) → n < 10 ^ 9 → digits_value 10 (decimal n) ≡ n
+decimal_value n small = (decimal_is_IsNumeral n (omega arith)).1
+
+pub decimal_digits : (n : ℕ) → n < 10 ^ 9 → AllDigits 10 (decimal n)
+decimal_digits n small = (decimal_is_IsNumeral n (omega arith)).0.1
+
+leading_zero : (n : ℕ) → n < 10 ^ 9 → get_or (decimal n) 0 0 ≡ 48 → length (decimal n) ≡ 1
+leading_zero zero small zero_first = ap length (decimal_digit 0 (omega arith))
+leading_zero (suc n) small zero_first = absurd (omega (arith, first_decimal (suc n) (omega arith) (omega arith), zero_first))
+
+pub decimal_canonical : (n : ℕ) → n < 10 ^ 9 → IsCanonical (decimal n)
+decimal_canonical n small = record { some = (decimal_is_IsNumeral n (omega arith)).0.0; leading = leading_zero n small }
+
+-- ---- a number's digits, one after the other
+
+pub value_step : (word : List ℕ) (i value d : ℕ) → i < length word → AllDigits 10 (take i word) → digits_value 10 (take i word) ≡ value → IsInRange 48 57 (get_or word i 0) → d + 48 ≡ get_or word i 0
+    → AllDigits 10 (take (i + 1) word) × (digits_value 10 (take (i + 1) word) ≡ value * 10 + d)
+value_step word i value d within digits so_far digit is =
+    let e : digit_value (get_or word i 0) + 48 ≡ get_or word i 0 = digit_value_digit (get_or word i 0) digit in
+    let same : digit_value (get_or word i 0) ≡ d = omega arith in (
+      digits_more 10 word i within digits (omega (arith, digit)),
+      digits_value_more 10 word i within ∙ ap (λ (v : ℕ). v * 10 + digit_value (get_or word i 0)) so_far ∙ ap (λ (v : ℕ). value * 10 + v) same,
+    )
+
+-- one more digit behind a value of nine digits is too much
+pub too_many : (word : List ℕ) (i value : ℕ) → i < length word → digits_value 10 (take i word) ≡ value → 100000000 ≤ value → digits_value 10 word < 10 ^ 9 → ⊥
+too_many word i value within so_far large small =
+    omega (arith, digits_value_more 10 word i within, digits_value-take-le 10 word (i + 1) (omega arith), so_far)
+
+-- ---- from the value of the digits to the number that is spelled
+
+pub empty_is_none : (word : List ℕ) → length word ≡ 0 → (n : ℕ) → n < 10 ^ 9 → word ≡ decimal n → ⊥
+empty_is_none word empty n small e = omega (arith, (decimal_canonical n small).some, ap length e)
+
+pub leading_is_none : (word : List ℕ) → 1 < length word → get_or word 0 0 ≡ 48 → (n : ℕ) → n < 10 ^ 9 → word ≡ decimal n → ⊥
+leading_is_none word long zero_first n small e =
+    omega (arith, (decimal_canonical n small).leading (sym (ap (λ (w : List ℕ). get_or w 0 0) e) ∙ zero_first), ap length e)
+
+pub number_from_value : (word : List ℕ) (value : Option ℕ) → IsCanonical word
+    → MatchOption value (AllDigits 10 word → digits_value 10 word < 10 ^ 9 → ⊥) (λ n. (n < 10 ^ 9) × AllDigits 10 word × (digits_value 10 word ≡ n))
+    → MatchOption value ((n : ℕ) → n < 10 ^ 9 → word ≡ decimal n → ⊥) (λ n. (n < 10 ^ 9) × (word ≡ decimal n))
+number_from_value word None canonical none = λ n small e.
+    none (subst (λ (w : List ℕ). AllDigits 10 w) (sym e) (decimal_digits n small)) (omega (arith, ap (digits_value 10) e, decimal_value n small))
+number_from_value word (Some n) canonical some = (some.0, number_taken word n canonical some.1 some.2 some.0)
+
+-- ---- a name, `=` and a number
+
+pub setting_is_none : (word name : List ℕ) → ((rest : List ℕ) → word ≡ name ++ rest → ⊥) → (n : ℕ) → n < 10 ^ 9 → word ≡ setting name n → ⊥
+setting_is_none word name none n small e = none (61 ∷ decimal n) e
+
+pub sign_is_none : (word name value : List ℕ) → word ≡ name ++ value → ((rest : List ℕ) → value ≡ (61 ∷ []) ++ rest → ⊥) → (n : ℕ) → n < 10 ^ 9 → word ≡ setting name n → ⊥
+sign_is_none word name value at none n small e = none (decimal n) (append_cancel_left name value (61 ∷ decimal n) (sym at ∙ e))
+
+pub setting_from_number : (word name value number : List ℕ) (found : Option ℕ) → word ≡ name ++ value → value ≡ (61 ∷ []) ++ number
+    → MatchOption found ((n : ℕ) → n < 10 ^ 9 → number ≡ decimal n → ⊥) (λ n. (n < 10 ^ 9) × (number ≡ decimal n))
+    → MatchOption found ((n : ℕ) → n < 10 ^ 9 → word ≡ setting name n → ⊥) (λ n. (n < 10 ^ 9) × (word ≡ setting name n))
+setting_from_number word name value number None at sign none = λ n small e.
+    none n small (append_cancel_left (61 ∷ []) number (decimal n) (sym sign ∙ append_cancel_left name value (61 ∷ decimal n) (sym at ∙ e)))
+setting_from_number word name value number (Some n) at sign some =
+    (some.0, at ∙ ap (λ (v : List ℕ). name ++ v) (sign ∙ ap (λ (v : List ℕ). 61 ∷ v) some.1))
+
+pub another_number : (word : List ℕ) (m n : ℕ) → m < 10 ^ 9 → n < 10 ^ 9 → word ≡ decimal m → (m ≡ n → ⊥) → word ≡ decimal n → ⊥
+another_number word m n m_small n_small is other e = other (decimal_injective m n (omega arith) (omega arith) (sym is ∙ e))

@@ -1,0 +1,10 @@
+use Rattle.std.proofs.Common.{◌∷◌, [], inl, inr, refl}
+use Rattle.std.proofs.lemmas.Bool.Decides.{Decides-eqb}
+use Rattle.std.proofs.lemmas.Slice.Eq.{strip_suffix_is}
+use Rattle.cb_script.proofs.cut.without_last_feed.Goals as goal
+
+pub returns-in-Some : goal.returns-in-Some
+returns-in-Some c = inl (rw c.in-Some.is at (strip_suffix_is Decides-eqb c.args.bytes.now (10 ∷ []) c.strip_suffix.result c.strip_suffix.ensures.cases))
+
+pub returns-in-None : goal.returns-in-None
+returns-in-None c = inr (refl, rw c.in-None.is at (strip_suffix_is Decides-eqb c.args.bytes.now (10 ∷ []) c.strip_suffix.result c.strip_suffix.ensures.cases))

@@ -1,0 +1,76 @@
+ghost use Rattle.std.specs.Prelude.{◌≡◌, ◌≤◌, ◌⊎◌, List, [], length, map, IfOk, IfErr, Ok, Err, MatchOption};
+ghost use Rattle.cb_script.specs.declared.script.Line.{Line};
+ghost use Rattle.cb_script.specs.declared.script.Script.{Script};
+ghost use Rattle.cb_script.specs.Form.{AreLines, Spells, made};
+ghost use Rattle.cb_script.specs.Next.{line_text};
+ghost use Rattle.cb_script.specs.declared.script.Mode.{Mode};
+
+use crate::cut::{pieces_between, without_last_feed};
+use crate::fault::{Reason, ScriptFault};
+use crate::header::accepted_config_of;
+use crate::line::line_of;
+use crate::script::{Lines, Mode, Script};
+use cb_types::NoMemory;
+use std::alloc::Global;
+use std::collections::BTreeSet;
+
+/// The longest script has so many bytes.
+const LONGEST_SCRIPT: usize = 1_048_576;
+
+/// The longest script has so many lines behind its header.
+const MOST_LINES: usize = 20_000;
+
+/// Reads the script that the bytes spell. Answers Bad exactly where they spell none.
+pub fn read_script(alloc: Global, bytes: &[u8], mode: Mode) -> Result<Script, ScriptFault>
+    ensures found { IfOk result (λ script. Spells bytes.now mode script) }
+    ensures only { (script : Script) → Spells bytes.now mode script → (result ≡ Ok script) ⊎ (result ≡ Err ScriptFault.NoMemory) }
+    ensures bad { IfErr result (λ e. (e ≡ ScriptFault.NoMemory) ⊎ (e ≡ ScriptFault.Bad 0 Reason.Unbuilt)) }
+{
+    match script_of(alloc, bytes)? {
+        Some(script) => Ok(script),
+        None => Err(ScriptFault::Bad {
+            line: 0,
+            reason: Reason::Unbuilt,
+        }),
+    }
+}
+
+fn script_of(alloc: Global, bytes: &[u8]) -> Result<Option<Script>, NoMemory>
+    ensures { IfOk result (λ found. MatchOption found ((mode : Mode) (script : Script) → Spells bytes.now mode script → ⊥) (λ script. (mode : Mode) → Spells bytes.now mode script × ((other : Script) → Spells bytes.now mode other → script ≡ other))) }
+{
+    if bytes.len() > LONGEST_SCRIPT {
+        return Ok(None);
+    }
+    let texts = pieces_between(alloc, b'\n', without_last_feed(bytes))?;
+    let Some((header, texts)) = texts.split_first() else {
+        return Ok(None);
+    };
+    if texts.len() > MOST_LINES {
+        return Ok(None);
+    }
+    let Some(config) = accepted_config_of(alloc, header)? else {
+        return Ok(None);
+    };
+    let Some(lines) = lines_of(alloc, config.handles, texts)? else {
+        return Ok(None);
+    };
+    Ok(Some(Script { config, lines }))
+}
+
+/// The lines of these texts, where each may stand behind those before it.
+fn lines_of<'a>(alloc: Global, handles: u32, texts: &[&'a [u8]]) -> Result<Option<Lines>, NoMemory>
+    requires { length texts.now ≤ 20000 }
+    ensures { IfOk result (λ found. MatchOption found ((lines : List Line) → AreLines [] lines → length (made lines) ≤ handles → map line_text lines ≡ map (λ text. text.now) texts.entry.now → ⊥) (λ lines. AreLines [] lines × (length (made lines) ≤ handles) × (map line_text lines ≡ map (λ text. text.now) texts.entry.now))) }
+{
+    let mut names = BTreeSet::new(alloc);
+    let mut lines = Lines::new(alloc);
+    let mut number = 2;
+    for text in texts {
+        let Some(line) = line_of(alloc, &mut names, handles, number, text)? else {
+            return Ok(None);
+        };
+        lines.push(line)?;
+        number += 1;
+    }
+    Ok(Some(lines))
+}
