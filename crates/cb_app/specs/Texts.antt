@@ -1,0 +1,20 @@
+-- The texts that a run puts.
+use Rattle.std.specs.Prelude.{ℕ, List, [], ◌∷◌, ◌++◌, codes, decimal}
+use Rattle.cb_script.specs.declared.fault.Reason.{Reason}
+use Rattle.cb_script.specs.declared.fault.Reason.TheVariants.{Unbuilt}
+
+-- the number by which a reason is printed
+abbrev pub number_of : Reason → ℕ
+number_of Unbuilt = 13
+
+-- the word by which a reason is printed
+abbrev pub word_of : Reason → List ℕ
+word_of Unbuilt = codes "unbuilt"
+
+-- that the words of the command line are refused
+abbrev pub words_refused : List ℕ
+words_refused = codes "words refused\n"
+
+-- what is wrong with a script, and at which line
+abbrev pub fault_text : ℕ → Reason → List ℕ
+fault_text line reason = codes "script line " ++ decimal line ++ codes " reason " ++ decimal (number_of reason) ++ codes " " ++ word_of reason ++ codes "\n"

@@ -1,0 +1,33 @@
+ghost use Rattle.std.specs.Prelude.{◌≡◌, IfOk};
+ghost use Rattle.cb_text.specs.Line.{text_of};
+ghost use Rattle.cb_app.specs.Texts.{fault_text};
+
+use cb_script::Reason;
+use cb_text::line_text;
+use cb_types::{Answers, Bytes, NoMemory};
+use std::alloc::Global;
+
+/// What is put where the words of the command line are refused.
+pub const WORDS_REFUSED: &[u8] = b"words refused\n";
+
+/// The text of answers, a line each.
+pub fn answers_text(alloc: Global, answers: &Answers) -> Result<Bytes, NoMemory>
+    ensures { IfOk result (λ text. text ≡ text_of answers.now) }
+{
+    let mut text = Vec::new(alloc);
+    for answer in answers.as_slice() {
+        let line = line_text(alloc, answer.lane, &answer.request, &answer.reply)?;
+        text.extend_from_slice(line.as_slice())?;
+    }
+    Ok(Bytes::from(text))
+}
+
+/// The text that tells what is wrong with a script.
+pub fn script_fault_text(alloc: Global, line: u32, reason: Reason) -> Result<Bytes, NoMemory>
+    ensures { IfOk result (λ text. text ≡ fault_text line reason) }
+{
+    let number = reason.number();
+    let word = reason.word();
+    let text = format!(in alloc; "script line {line} reason {number} {word}\n")?;
+    Ok(Bytes::from(text.into_bytes()))
+}

@@ -1,0 +1,83 @@
+ghost use Rattle.std.specs.Prelude.{◌≡◌, ◌≢◌, ◌≤◌, ◌⊎◌, ℕ, List, length, Some};
+ghost use Rattle.std.specs.Io.KnownBytes.{Appends, Consumes};
+ghost use Rattle.cb_types.specs.Faults.{Rose};
+ghost use Rattle.cb_script.specs.declared.script.Script.{Script};
+ghost use Rattle.cb_script.specs.declared.script.Mode.TheVariants.{Seq};
+ghost use Rattle.cb_script.specs.declared.fault.Reason.TheVariants.{Unbuilt};
+ghost use Rattle.cb_script.specs.Form.{Spells};
+ghost use Rattle.cb_text.specs.Line.{text_of};
+ghost use Rattle.cb_app.specs.Outcome.{IsSeq, IsDone, AreWordsRefused, IsScriptRefused, IsDue, GetsFront};
+ghost use Rattle.cb_app.specs.Texts.{words_refused, fault_text};
+ghost use Rattle.cb_app.specs.Status.{status_of};
+
+use crate::ending::Ending;
+use crate::outcome::{Due, Failure};
+use crate::run::run;
+use cb_types::{Sink, Source};
+use std::alloc::Global;
+use std::sync::Wait;
+use std::thread::Threads;
+
+/// The exit status of an outcome.
+fn status(outcome: Result<Due, Failure>) -> u8
+    ensures { result ≡ status_of outcome }
+{
+    match outcome {
+        Ok(Due::Done) => 0,
+        Ok(Due::WordsRefused) => 1,
+        Ok(Due::ScriptRefused) => 2,
+        Err(Failure::Read) => 3,
+        Err(Failure::Write) => 4,
+        Err(Failure::NoMemory) => 5,
+    }
+}
+
+/// Runs the command that the words give, which come after the program's name. It takes bytes from
+/// the source, puts text into the sink, leaves in `end` what the run was beside its text, and
+/// answers the exit status: 0 done, 1 words refused, 2 script refused, 3 reading failed, 4 writing
+/// failed, 5 want of memory.
+pub fn carbink_run<R: Threads + Wait + Sync, S: Source, K: Sink>(
+    _rt: &R,
+    alloc: Global,
+    words: &[String],
+    src: &mut S,
+    out: &mut K,
+    end: &mut Ending,
+) -> u8
+    ensures statuses { result ≤ 5 }
+
+    // 0: the bytes taken spell a script, and its lines were answered as the plain map answers them.
+    ensures done { result ≡ 0 → IsDone words.now (S.left src.old) (S.left src.new) end.new }
+    ensures done_text { result ≡ 0 → Appends (K.held out.old) (K.held out.new) (text_of end.new.answers) }
+
+    // 1: the words are not the one word `seq`, and nothing was taken.
+    ensures words_refused { result ≡ 1 → AreWordsRefused words.now (S.left src.old) (S.left src.new) }
+    ensures words_text { result ≡ 1 → Appends (K.held out.old) (K.held out.new) words_refused }
+    ensures words_end { result ≡ 1 → end.new ≡ end.old }
+    ensures refuses { (IsSeq words.now → ⊥) → (result ≡ 1) ⊎ (result ≡ 4) }
+
+    // 2: the bytes taken spell no script.
+    ensures script_refused { result ≡ 2 → IsScriptRefused words.now (S.left src.old) (S.left src.new) }
+    ensures script_text { result ≡ 2 → Appends (K.held out.old) (K.held out.new) (fault_text 0 Unbuilt) }
+    ensures script_end { result ≡ 2 → end.new ≡ end.old }
+
+    // 3: reading failed in this call, and nothing was put.
+    ensures read_fault { result ≡ 3 → Rose (S.faults src.old) (S.faults src.new) }
+    ensures no_read_fault { result ≢ 3 → S.faults src.new ≡ S.faults src.old }
+    ensures read_end { result ≡ 3 → (out.new ≡ out.old) × (end.new ≡ end.old) }
+
+    // 4: writing failed in this call, and the text that was due is cut short.
+    ensures write_fault { result ≡ 4 → Rose (K.faults out.old) (K.faults out.new) }
+    ensures no_write_fault { result ≢ 4 → K.faults out.new ≡ K.faults out.old }
+    ensures cut { result ≡ 4 → (text : List ℕ) × IsDue words.now (S.left src.old) (S.left src.new) end.old end.new text × GetsFront (K.held out.old) (K.held out.new) text }
+
+    // 5: there was no memory, and nothing was put.
+    ensures memory_end { result ≡ 5 → (out.new ≡ out.old) × (end.new ≡ end.old) }
+
+    // At each status so many bytes are taken at the most.
+    ensures most { (bytes : List ℕ) × Consumes (S.left src.old) (S.left src.new) bytes × (length bytes ≤ 1048577) }
+    // What spells a script is answered, where neither reading nor writing fails and there is memory.
+    ensures complete { IsSeq words.now → (bytes : List ℕ) (script : Script) → S.left src.old ≡ Some bytes → Spells bytes Seq script → (result ≡ 0) ⊎ (3 ≤ result) }
+{
+    status(run(alloc, words, src, out, end))
+}
