@@ -30,6 +30,7 @@ impl Answers {
         }
     }
 
+    /// The answers, the first one first.
     pub fn as_slice(&self) -> &[Answer]
         ensures items { result.now ≡ self.now }
     {

@@ -27,6 +27,7 @@ impl Bytes {
         Ok(Bytes { items })
     }
 
+    /// The bytes, in order.
     pub fn as_slice(&self) -> &[u8]
         ensures items { result.now ≡ self.now }
     {

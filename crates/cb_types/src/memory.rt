@@ -70,7 +70,9 @@ impl Source for MemSource {
         ensures fault { OnTakeFailed result (Rose self.old.faults self.new.faults) }
         ensures kept { OnTakeFailed result (Keeps (Some self.old.left) (Some self.new.left)) }
 
-        ensures told { OnTakeFailed result (Contains self.old.failing self.old.calls) }
+        ensures told { Contains self.old.failing self.old.calls → result ≡ Took.Failed }
+        ensures only_told { OnTakeFailed result (Contains self.old.failing self.old.calls) }
+        ensures fault_counted { OnTakeFailed result (self.new.faults ≡ min (self.old.faults + 1) (2 ^ 64 - 1)) }
         ensures most { IfGot result (λ n. n ≡ min (min self.old.piece (length buf.old)) (length self.old.left)) }
         ensures others { (self.new.piece ≡ self.old.piece) × (self.new.failing ≡ self.old.failing) }
         ensures counted { self.new.calls ≡ min (self.old.calls + 1) (2 ^ 64 - 1) }
@@ -156,6 +158,7 @@ impl Sink for MemSink {
         ensures kept { OnPutFailed result (Keeps (Some self.old.held) (Some self.new.held)) }
 
         ensures told { Contains self.old.failing self.old.calls → result ≡ Sent.Failed }
+        ensures fault_counted { OnPutFailed result (self.new.faults ≡ min (self.old.faults + 1) (2 ^ 64 - 1)) }
         ensures most { IfSent result (λ n. n ≡ min self.old.piece (length bytes.now)) }
         ensures others { (self.new.piece ≡ self.old.piece) × (self.new.failing ≡ self.old.failing) }
         ensures counted { self.new.calls ≡ min (self.old.calls + 1) (2 ^ 64 - 1) }

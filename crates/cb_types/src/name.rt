@@ -28,6 +28,7 @@ impl Name {
         Ok(Name { items })
     }
 
+    /// The bytes of the name, in order.
     pub fn as_slice(&self) -> &[u8]
         ensures items { result.now ≡ self.now }
     {

@@ -1,4 +1,8 @@
-ghost use Rattle.std.specs.Prelude.{◌≡◌, ◌+◌, ◌-◌, ◌^◌, min, None, Some};
+ghost use Rattle.std.specs.Prelude.{◌≡◌, ◌<◌, ◌≤◌, ◌+◌, ◌-◌, ◌^◌, min, length, take, None, Some};
+ghost use Rattle.std.specs.Io.KnownBytes.{Appends, Consumes, Keeps, IsAtEnd};
+ghost use Rattle.cb_types.specs.Faults.{Rose, never};
+ghost use Rattle.cb_types.specs.Source.{IfGot, OnTakeFailed};
+ghost use Rattle.cb_types.specs.Sink.{IfSent, OnPutFailed};
 
 use crate::sink::{Sent, Sink};
 use crate::source::{Source, Took};
@@ -30,9 +34,19 @@ impl<'a> PlainSource<'a> {
 impl<'a> Source for PlainSource<'a> {
     ghost left = { λ s. Some s };
 
-    ghost faults = { λ _. 0 };
+    ghost faults = { λ _. never };
 
-    fn take(&mut self, buf: &mut [u8]) -> Took {
+    fn take(&mut self, buf: &mut [u8]) -> Took
+        requires { 0 < length buf.old }
+        ensures room { IfGot result (λ n. n ≤ length buf.new) }
+        ensures bytes { IfGot result (λ n. Consumes (Some self.old) (Some self.new) (take n buf.new)) }
+        ensures end { IfGot result (λ n. n ≡ 0 → IsAtEnd (Some self.new)) }
+        ensures no_fault { IfGot result (λ _. never ≡ never) }
+        ensures fault { OnTakeFailed result (Rose never never) }
+        ensures kept { OnTakeFailed result (Keeps (Some self.old) (Some self.new)) }
+
+        ensures most { result ≡ Took.Got (min (length buf.old) (length self.old)) }
+    {
         let count = buf.len().min(self.rest.len());
         let (front, rest) = self.rest.split_at(count);
         buf[..count].copy_from_slice(front);
@@ -60,9 +74,20 @@ impl PlainSink {
 impl Sink for PlainSink {
     ghost held = { λ _. None };
 
-    ghost faults = { λ _. 0 };
+    ghost faults = { λ _. never };
 
-    fn put(&mut self, bytes: &[u8]) -> Sent {
+    fn put(&mut self, bytes: &[u8]) -> Sent
+        requires { 0 < length bytes.now }
+        ensures some { IfSent result (λ n. 1 ≤ n) }
+        ensures room { IfSent result (λ n. n ≤ length bytes.now) }
+        ensures bytes { IfSent result (λ n. Appends None None (take n bytes.now)) }
+        ensures no_fault { IfSent result (λ _. never ≡ never) }
+        ensures fault { OnPutFailed result (Rose never never) }
+        ensures kept { OnPutFailed result (Keeps None None) }
+
+        ensures all { result ≡ Sent.Sent (length bytes.now) }
+        ensures counted { self.new.count ≡ min (self.old.count + length bytes.now) (2 ^ 64 - 1) }
+    {
         self.count = self.count.saturating_add(bytes.len() as u64);
         Sent::Sent(bytes.len())
     }

@@ -1,4 +1,8 @@
-ghost use Rattle.std.specs.Prelude.{◌≡◌, None};
+ghost use Rattle.std.specs.Prelude.{◌≡◌, ◌<◌, ◌≤◌, ◌+◌, ◌-◌, ◌^◌, min, length, take, None};
+ghost use Rattle.std.specs.Io.KnownBytes.{Appends, Consumes, Keeps, IsAtEnd};
+ghost use Rattle.cb_types.specs.Faults.{Rose};
+ghost use Rattle.cb_types.specs.Source.{IfGot, OnTakeFailed};
+ghost use Rattle.cb_types.specs.Sink.{IfSent, OnPutFailed};
 
 use crate::sink::{Sent, Sink};
 use crate::source::{Source, Took};
@@ -27,7 +31,20 @@ impl<R: Read> Source for StdSource<R> {
 
     ghost faults = { λ s. s.faults };
 
-    fn take(&mut self, buf: &mut [u8]) -> Took {
+    fn take(&mut self, buf: &mut [u8]) -> Took
+        requires { 0 < length buf.old }
+        ensures room { IfGot result (λ n. n ≤ length buf.new) }
+        ensures bytes { IfGot result (λ n. Consumes None None (take n buf.new)) }
+        ensures end { IfGot result (λ n. n ≡ 0 → IsAtEnd None) }
+        ensures no_fault { IfGot result (λ _. self.new.faults ≡ self.old.faults) }
+        ensures fault { OnTakeFailed result (Rose self.old.faults self.new.faults) }
+        ensures kept { OnTakeFailed result (Keeps None None) }
+
+        ensures fault_counted { OnTakeFailed result (self.new.faults ≡ min (self.old.faults + 1) (2 ^ 64 - 1)) }
+        // It is the reader's bytes that are given, where the reader tells them.
+        ensures reader { IfGot result (λ n. Consumes (R.remaining self.old.reader) (R.remaining self.new.reader) (take n buf.new)) }
+        ensures reader_end { IfGot result (λ n. n ≡ 0 → IsAtEnd (R.remaining self.new.reader)) }
+    {
         match self.reader.read(buf) {
             Ok(count) => Took::Got(count),
             Err(_) => {
@@ -62,7 +79,19 @@ impl<W: Write> Sink for StdSink<W> {
     ghost faults = { λ s. s.faults };
 
     /// A write that takes nothing counts as failed.
-    fn put(&mut self, bytes: &[u8]) -> Sent {
+    fn put(&mut self, bytes: &[u8]) -> Sent
+        requires { 0 < length bytes.now }
+        ensures some { IfSent result (λ n. 1 ≤ n) }
+        ensures room { IfSent result (λ n. n ≤ length bytes.now) }
+        ensures bytes { IfSent result (λ n. Appends None None (take n bytes.now)) }
+        ensures no_fault { IfSent result (λ _. self.new.faults ≡ self.old.faults) }
+        ensures fault { OnPutFailed result (Rose self.old.faults self.new.faults) }
+        ensures kept { OnPutFailed result (Keeps None None) }
+
+        ensures fault_counted { OnPutFailed result (self.new.faults ≡ min (self.old.faults + 1) (2 ^ 64 - 1)) }
+        // It is these bytes that the writer gets, where the writer tells what it holds.
+        ensures writer { IfSent result (λ n. Appends (W.contents self.old.writer) (W.contents self.new.writer) (take n bytes.now)) }
+    {
         match self.writer.write(bytes) {
             Ok(count) if count > 0 => Sent::Sent(count),
             _ => {
