@@ -1,0 +1,24 @@
+ghost use Rattle.std.specs.Prelude.{◌≡◌, length};
+ghost use Rattle.cb_gf256.specs.Row.{row_sum, scaled_row};
+
+use crate::field::mul;
+
+/// Adds the row `src` to the row `dst`, byte by byte.
+pub fn xor_row(dst: &mut [u8], src: &[u8])
+    requires { length dst.old ≡ length src.now }
+    ensures { dst.new ≡ row_sum dst.old src.now }
+{
+    for (i, x) in src.iter().enumerate() {
+        dst[i] ^= *x;
+    }
+}
+
+/// Adds `c` times the row `src` to the row `dst`, byte by byte.
+pub fn axpy_row(dst: &mut [u8], c: u8, src: &[u8])
+    requires { length dst.old ≡ length src.now }
+    ensures { dst.new ≡ row_sum dst.old (scaled_row c src.now) }
+{
+    for (i, x) in src.iter().enumerate() {
+        dst[i] ^= mul(c, *x);
+    }
+}
