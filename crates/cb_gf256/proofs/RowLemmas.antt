@@ -5,7 +5,7 @@ use Rattle.cb_gf256.specs.Sum.{◌⊕◌}
 use Rattle.cb_gf256.specs.Product.{◌⊗◌}
 use Rattle.cb_gf256.specs.Row.{row_sum, scaled_row}
 use Rattle.cb_gf256.proofs.Linear.{product-right}
-use Rattle.cb_gf256.proofs.FieldLaws.{product-zero}
+use Rattle.cb_gf256.proofs.FieldLaws.{product-zero, zero-product}
 
 -- xs with the first i bytes of ys added
 abbrev pub summed_front : List ℕ → List ℕ → ℕ → List ℕ
@@ -78,3 +78,9 @@ pub scaled_row-row_sum : (c : ℕ) (xs ys : List ℕ) → scaled_row c (row_sum 
 scaled_row-row_sum c [] ys = refl
 scaled_row-row_sum c (x ∷ xs) [] = refl
 scaled_row-row_sum c (x ∷ xs) (y ∷ ys) = ap₂ ◌∷◌ (product-right c x y) (scaled_row-row_sum c xs ys)
+
+pub row_sum-scaled_by_zero : (xs ys : List ℕ) → length xs ≡ length ys → row_sum xs (scaled_row 0 ys) ≡ xs
+row_sum-scaled_by_zero [] ys h = refl
+row_sum-scaled_by_zero (x ∷ xs) [] h = absurd (omega arith)
+row_sum-scaled_by_zero (x ∷ xs) (y ∷ ys) h =
+    ap₂ ◌∷◌ (ap (λ z. x ⊕ z) (zero-product y) ∙ xor_zero_r x) (row_sum-scaled_by_zero xs ys (omega arith))

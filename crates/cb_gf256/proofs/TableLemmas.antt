@@ -46,6 +46,28 @@ log-power i h =
     ap (λ x. get_or LOG x 0) (sym (exp_is i (omega arith)))
     ∙ eqb-true (get_or LOG (get_or EXP i 0) 0) i (each_below_at 255 (λ i. eqb (get_or LOG (get_or EXP i 0) 0) i) powers_apart i h)
 
+-- ---- a product with a power of 2
+log_of_zero : get_or LOG 0 0 ≡ 510
+log_of_zero = refl
+
+zeros : each_below 255 (λ i. eqb (get_or EXP (510 + i) 0) 0) ≡ true
+zeros = refl
+
+pub power_times_is : (i x : ℕ) → i < 255 → x < 256 → get_or EXP (i + get_or LOG x 0) 0 ≡ power 2 i ⊗ x
+power_times_is i zero h k =
+    let place : i + get_or LOG 0 0 ≡ 510 + i = omega (arith, log_of_zero) in
+    ap (λ n. get_or EXP n 0) place
+    ∙ eqb-true (get_or EXP (510 + i) 0) 0 (each_below_at 255 (λ i. eqb (get_or EXP (510 + i) 0) 0) zeros i h)
+    ∙ sym (product-zero (power 2 i))
+power_times_is i (suc x) h k =
+    let l = get_or LOG (suc x) 0 in
+    exp_is (i + l) (omega (arith, log-lt (suc x) (omega arith) k)) ∙ power-add 2 i l (omega arith)
+    ∙ ap (λ y. power 2 i ⊗ y) (power-log (suc x) (omega arith) k)
+
+pub power_times_within : (i x : ℕ) → i < 255 → x < 256 → i + get_or LOG x 0 < 765
+power_times_within i zero h k = omega (arith, log_of_zero)
+power_times_within i (suc x) h k = omega (arith, log-lt (suc x) (omega arith) k)
+
 -- ---- the powers of 2
 pub power_two_255 : power 2 255 ≡ 1
 power_two_255 = sym (exp_is 255 (omega arith))

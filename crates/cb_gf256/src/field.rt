@@ -3,7 +3,7 @@ ghost use Rattle.cb_gf256.specs.Sum.{◌⊕◌};
 ghost use Rattle.cb_gf256.specs.Product.{◌⊗◌};
 ghost use Rattle.cb_gf256.specs.Power.{power};
 
-use crate::tables::{logarithm, power_of_two};
+use crate::tables::{logarithm, power_of_two, power_of_two_times};
 
 /// The sum of two elements. Each element is its own negative, so this is their difference too.
 pub fn add(a: u8, b: u8) -> u8
@@ -16,10 +16,10 @@ pub fn add(a: u8, b: u8) -> u8
 pub fn mul(a: u8, b: u8) -> u8
     ensures { result ≡ a ⊗ b }
 {
-    if a == 0 || b == 0 {
+    if a == 0 {
         return 0;
     }
-    power_of_two(logarithm(a) + logarithm(b))
+    power_of_two_times(logarithm(a), b)
 }
 
 /// The one element whose product with `a` is 1.
