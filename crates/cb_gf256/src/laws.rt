@@ -72,6 +72,9 @@ pub fn row_laws()
     ensures scaled_sum { (c : ℕ) (xs ys : List ℕ)
         → scaled_row c (row_sum xs ys) ≡ row_sum (scaled_row c xs) (scaled_row c ys) }
 
+    ensures written_count { (rows : List (List ℕ)) (i : ℕ) (bytes : List ℕ) → length (with_row rows i bytes) ≡ length rows }
     ensures written_row { (rows : List (List ℕ)) (i : ℕ) (bytes : List ℕ)
         → HaveLength (length bytes) rows → i < length rows → with_row rows i bytes ≡ slice_set rows i bytes }
+    ensures written_lengths { (len : ℕ) (rows : List (List ℕ)) (i : ℕ) (bytes : List ℕ)
+        → HaveLength len rows → length bytes ≡ len → i < length rows → HaveLength len (with_row rows i bytes) }
 {}
