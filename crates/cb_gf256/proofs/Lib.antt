@@ -5,3 +5,4 @@ pub mod TableLemmas
 pub mod BlockLemmas
 pub mod RowLemmas
 pub mod SumLaws
+pub mod OrderLemmas

@@ -1,5 +1,5 @@
 //! The laws of the field, of powers, of sums and of rows. Each is a clause of a function that does nothing.
-ghost use Rattle.std.specs.Prelude.{◌≡◌, ℕ, ◌+◌, ◌*◌, ◌<◌, List, length, slice_index, slice_set, replicate};
+ghost use Rattle.std.specs.Prelude.{◌≡◌, ℕ, ◌+◌, ◌*◌, ◌<◌, List, length, fold, slice_index, IsPermutation, slice_set, replicate};
 ghost use Rattle.cb_gf256.specs.Sum.{◌⊕◌, sum_over};
 ghost use Rattle.cb_gf256.specs.Product.{◌⊗◌};
 ghost use Rattle.cb_gf256.specs.Power.{power};
@@ -66,6 +66,10 @@ pub fn row_laws()
     ensures sum_associates { (xs ys zs : List ℕ) → row_sum (row_sum xs ys) zs ≡ row_sum xs (row_sum ys zs) }
     ensures sum_with_zeros { (xs : List ℕ) → row_sum xs (replicate (length xs) 0) ≡ xs }
     ensures added_twice_is_gone { (xs ys : List ℕ) → length xs ≡ length ys → row_sum (row_sum xs ys) ys ≡ xs }
+
+    ensures sum_in_any_order { (len : ℕ) (start : List ℕ) (rows shuffled : List (List ℕ))
+        → length start ≡ len → HaveLength len rows → IsPermutation rows shuffled
+        → fold row_sum start shuffled ≡ fold row_sum start rows }
 
     ensures scaled_length { (c : ℕ) (xs : List ℕ) → length (scaled_row c xs) ≡ length xs }
     ensures scaled_by_byte { (c : ℕ) (xs : List ℕ) (i : ℕ) → slice_index (scaled_row c xs) i ≡ c ⊗ slice_index xs i }

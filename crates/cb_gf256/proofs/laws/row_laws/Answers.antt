@@ -1,4 +1,5 @@
 use Rattle.cb_gf256.proofs.RowLemmas.{length-row_sum, get_or-row_sum, row_sum_comm, row_sum_assoc, row_sum_zero, row_sum_twice, length-scaled_row, get_or-scaled_row, scaled_row-row_sum}
+use Rattle.cb_gf256.proofs.OrderLemmas.{fold-IsPermutation}
 use Rattle.cb_gf256.proofs.BlockLemmas.{length-with_row, with_row-set, HaveLength-with_row}
 use Rattle.cb_gf256.proofs.laws.row_laws.Goals as goal
 
@@ -37,3 +38,6 @@ returns-clause-written_count c = length-with_row
 
 pub returns-clause-written_lengths : goal.returns-clause-written_lengths
 returns-clause-written_lengths c = HaveLength-with_row
+
+pub returns-clause-sum_in_any_order : goal.returns-clause-sum_in_any_order
+returns-clause-sum_in_any_order c = fold-IsPermutation
