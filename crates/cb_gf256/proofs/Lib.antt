@@ -6,3 +6,4 @@ pub mod BlockLemmas
 pub mod RowLemmas
 pub mod SumLaws
 pub mod OrderLemmas
+pub mod WorkedVectors
