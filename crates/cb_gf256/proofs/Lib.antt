@@ -7,3 +7,4 @@ pub mod RowLemmas
 pub mod SumLaws
 pub mod OrderLemmas
 pub mod WorkedVectors
+pub mod PublicLaws

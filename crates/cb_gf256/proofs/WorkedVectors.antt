@@ -1,7 +1,6 @@
 -- The definitions at worked values: the products and the code word for two data rows and two parities.
-use Rattle.std.proofs.Common.{◌≡◌, ℕ, zero, suc, ◌<◌, ◌≤◌, List, [], ◌∷◌, length, get_or, refl, arith, Bool, true, ◌&&◌, eqb}
+use Rattle.std.proofs.Common.{◌≡◌, ℕ, zero, suc, List, [], ◌∷◌, refl, arith, true, eqb}
 use Rattle.std.proofs.lemmas.Bool.{eqb-true}
-use Rattle.cb_gf256.specs.Sum.{◌⊕◌, sum_over}
 use Rattle.cb_gf256.specs.Product.{◌⊗◌, plain_product, reduced}
 use Rattle.cb_gf256.specs.Power.{power}
 use Rattle.cb_gf256.specs.Rows.{HaveLength}
@@ -48,6 +47,6 @@ word_is_code_word = record {
   count = refl;
   equal_lengths = lengths;
   syndromes_zero = λ j column p q.
-    eqb-true (syndrome j word column) 0
+      eqb-true (syndrome j word column) 0
       (each_below_at 3 (λ c. eqb (syndrome j word c) 0) (each_below_at 2 (λ i. each_below 3 (λ c. eqb (syndrome i word c) 0)) syndromes j p) column q);
 }
