@@ -153,5 +153,3 @@ HaveLength-with_row len rows i bytes h e l k d m =
     (λ same. ap (λ j. length (get_or (set rows i bytes) j d)) same ∙ ap length (get_or-set_same rows i bytes d l) ∙ e)
     (λ other. ap length (get_or-set_other rows i k bytes d other) ∙ h k d within)
     (cases_eq k i)
-
-pub ruleset written_rows = (length-with_row, with_row-set)

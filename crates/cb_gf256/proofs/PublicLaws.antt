@@ -8,3 +8,6 @@ pub use Rattle.cb_gf256.proofs.SumLaws.{sum_over-lt as sum_over_is_byte, sum_ove
 pub use Rattle.cb_gf256.proofs.RowLemmas.{length-row_sum as row_sum_length, get_or-row_sum as row_sum_by_byte, row_sum_comm as row_sum_commutes, row_sum_assoc as row_sum_associates, row_sum_zero as row_sum_with_zeros, row_sum_twice as row_added_twice_is_gone, length-scaled_row as scaled_row_length, get_or-scaled_row as scaled_row_by_byte, scaled_row-row_sum as scaled_row_of_sum}
 pub use Rattle.cb_gf256.proofs.OrderLemmas.{fold-IsPermutation as rows_sum_in_any_order}
 pub use Rattle.cb_gf256.proofs.BlockLemmas.{length-with_row as written_count, with_row-set as written_row, HaveLength-with_row as written_lengths}
+
+-- what a caller of `row_mut` lists to read the rows that it has written
+pub ruleset written_rows = (written_count, written_row)

@@ -68,7 +68,7 @@ fn rows_add_up(rt: HostRuntime) {
 }
 
 #[test]
-#[tactic(auto, using(crate::proofs::BlockLemmas::written_rows))]
+#[tactic(auto, using(crate::proofs::PublicLaws::written_rows))]
 fn rows_are_zero_until_written(rt: HostRuntime) -> Result<(), Fail> {
     let mut rows = Rows::new(rt.alloc(), 3, 2)?;
     assert_eq!(rt; rows.count(), 3);
