@@ -3,9 +3,12 @@
 #![tactic(auto)]
 
 pub mod losses;
+pub mod members;
 pub mod names;
 pub mod no_memory;
+mod node;
 
 pub use losses::Losses;
+pub use members::{MemberAnswer, Members};
 pub use names::{Epoch, Loss, NodeId, Shard};
 pub use no_memory::NoMemory;
