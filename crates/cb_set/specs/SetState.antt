@@ -1,5 +1,5 @@
 -- A span-set: its number, the shard of each position, and what each data position holds.
-use Rattle.std.specs.Prelude.{ℕ, Bool, false, None, Option, List, [], replicate, is_some, slice_index_or, slice_set}
+use Rattle.std.specs.Prelude.{ℕ, ◌^◌, ◌<◌, ◌≤◌, Bool, length, false, None, Option, List, [], replicate, is_some, slice_index_or, slice_set}
 use Rattle.std.specs.List.{list_any}
 use Rattle.cb_member.specs.declared.names.Shard.{Shard}
 
@@ -49,3 +49,8 @@ cleared content slot = record content { slots = slice_set content.slots slot Non
 -- the set with another shard at one position, and all else the same
 abbrev pub with_shard : SetState → ℕ → Shard → SetState
 with_shard set position shard = record set { shards = slice_set set.shards position shard }
+
+-- What holds of every set: there are at least as many positions as data positions, and a u32 numbers them.
+pub record IsSet (set : SetState) : Type 0 where
+  pub data_first : length set.positions ≤ length set.shards
+  pub numbered : length set.shards < 2 ^ 32

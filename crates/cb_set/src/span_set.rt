@@ -1,6 +1,6 @@
 ghost use Rattle.std.specs.Prelude.{◌≡◌, ◌+◌, ◌-◌, ◌^◌, ◌<◌, ◌≤◌, ◌↔◌, length, Some, slice_get, is_some, IfOk, OnOk, OnErr, IsTrue};
 ghost use Rattle.std.specs.List.{list_any};
-ghost use Rattle.cb_set.specs.SetState.{fresh_set, position_of, live_at, slot_at, with_position, filled, cleared, dead, with_shard};
+ghost use Rattle.cb_set.specs.SetState.{IsSet, fresh_set, position_of, live_at, slot_at, with_position, filled, cleared, dead, with_shard};
 ghost use Rattle.cb_set.specs.Lost.{loss_of, lost, IsWhole, NodesAreMembers};
 ghost use Rattle.cb_set.specs.Matched.{IsMatched, PositionsApart};
 
@@ -19,14 +19,13 @@ pub struct SpanSet {
 }
 
 impl Model for SpanSet {
-    ghost use Rattle.std.specs.Prelude.{length, ◌≤◌, ◌<◌, ◌^◌};
-    ghost use Rattle.cb_set.specs.SetState.{SetState};
+    ghost use Rattle.cb_set.specs.SetState.{SetState, IsSet};
 
     ghost Value = { SetState };
 
     ghost view = { λ a. record { id = a.id; shards = a.shards.items; positions = a.positions.items } };
 
-    ghost invariant = { λ a. (length a.positions.items ≤ length a.shards.items) × (length a.shards.items < 2 ^ 32) };
+    ghost invariant = { λ a. IsSet (record { id = a.id; shards = a.shards.items; positions = a.positions.items }) };
 }
 
 impl SpanSet {
@@ -40,7 +39,8 @@ impl SpanSet {
     ) -> Result<SpanSet, NoMemory>
         requires count { length shards.now ≡ k + r }
         requires positions { k + r < 2 ^ 32 }
-        ensures { IfOk result (λ set. set ≡ fresh_set id k shards.now) }
+        ensures fresh { IfOk result (λ set. set ≡ fresh_set id k shards.now) }
+        ensures valid { IfOk result IsSet }
     {
         let shards = Vec::from_slice(alloc, shards)?;
         let mut positions = Vec::with_capacity(alloc, k as usize)?;
@@ -66,7 +66,8 @@ impl SpanSet {
 
     /// The number of data positions.
     pub fn k(&self) -> u32
-        ensures { result ≡ length self.now.positions }
+        ensures count { result ≡ length self.now.positions }
+        ensures valid { IsSet self.now }
     {
         self.positions.len() as u32
     }
@@ -247,3 +248,6 @@ fn live_apart(a: &[Position], b: &[Position]) -> bool
     }
     true
 }
+
+#[cfg(test)]
+mod tests;

@@ -1,4 +1,4 @@
-use Rattle.std.proofs.Common.{◌≡◌, ◌<◌, arith}
+use Rattle.std.proofs.Common.{arith}
 use Rattle.std.proofs.lemmas.Grind.{common_steps}
 use Rattle.cb_set.proofs.Lost.{lost_more}
 use Rattle.cb_set.proofs.span_set.SpanSet.lost_count.Goals as goal
