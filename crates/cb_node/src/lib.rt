@@ -1,0 +1,9 @@
+//! Memory nodes: each keeps rows by their keys, up to a capacity. Rows leave the nodes by one
+//! call, which is counted; nodes copy and combine rows among themselves.
+#![tactic(auto)]
+
+mod node;
+pub mod nodes;
+mod row;
+
+pub use nodes::{Nodes, PutAnswer};
