@@ -1,5 +1,5 @@
 -- No node holds more rows than it has room for, whatever one call does at one node.
-use Rattle.std.proofs.Common.{◌≡◌, ℕ, ◌+◌, ◌^◌, ◌<◌, ◌≤◌, true, false, cond, List, length, replicate, get_or, set, ap, sym, subst, ◌∙◌, arith}
+use Rattle.std.proofs.Common.{◌≡◌, ℕ, ◌+◌, ◌^◌, ◌<◌, ◌≤◌, true, false, cond, List, length, get_or, set, ap, sym, subst, ◌∙◌, arith}
 use Rattle.std.specs.Cmp.{nat_cmp_total}
 use Rattle.std.specs.Ordering.{nat_cmp}
 use Rattle.std.specs.FinMap as map
@@ -56,5 +56,5 @@ rows_at-read old items node n rows same at within read =
 pub kept_after_write : (state old : NodesState) (n : ℕ) (node : NodeId) (written rows : RowsByKey) → state ≡ old → n ≡ node.n → written ≡ rows → IsNodes (with_rows old node rows) → IsNodes (record state { nodes = set state.nodes n written })
 kept_after_write state old n node written rows same at is valid =
     subst (λ (s : NodesState). IsNodes (record s { nodes = set s.nodes n written })) (sym same)
-        (subst (λ (k : ℕ). IsNodes (record old { nodes = set old.nodes k written })) (sym at)
-            (subst (λ (y : RowsByKey). IsNodes (with_rows old node y)) (sym is) valid))
+    (subst (λ (k : ℕ). IsNodes (record old { nodes = set old.nodes k written })) (sym at)
+    (subst (λ (y : RowsByKey). IsNodes (with_rows old node y)) (sym is) valid))

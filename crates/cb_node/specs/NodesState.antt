@@ -1,5 +1,5 @@
 -- The rows at all nodes.
-use Rattle.std.specs.Prelude.{◌≡◌, ℕ, ◌^◌, ◌<◌, ◌≤◌, Bool, List, [], Option, All, length, replicate, refl, unwrap_or, slice_index_or, slice_set}
+use Rattle.std.specs.Prelude.{ℕ, ◌^◌, ◌<◌, ◌≤◌, Bool, List, [], Option, All, replicate, refl, unwrap_or, slice_index_or, slice_set}
 use Rattle.std.specs.Coded.{Coded, code_by, coded×, coded_ℕ, coded_list}
 use Rattle.std.specs.FinMap as map
 use Rattle.cb_member.specs.declared.names.NodeId.{NodeId}

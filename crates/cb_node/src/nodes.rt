@@ -1,8 +1,9 @@
-ghost use Rattle.std.specs.Prelude.{◌≡◌, ◌-◌, ◌+◌, ◌^◌, ◌<◌, ◌≤◌, length, true, false, if◌then◌else◌, IfOk, IfSome, IfNone, OnOk, OnErr};
+ghost use Rattle.std.specs.Prelude.{◌≡◌, ◌-◌, ◌+◌, ◌^◌, ◌<◌, ◌≤◌, ◌↔◌, IsTrue, length, true, false, if◌then◌else◌, IfOk, IfSome, IfNone, OnOk, OnErr};
 ghost use Rattle.std.specs.FinMap as map;
 ghost use Rattle.cb_gf256.specs.Row.{row_sum, scaled_row};
 ghost use Rattle.cb_node.specs.NodesState.{IsNodes, empty_nodes, rows_at, row_at, known_row, held, has, with_rows, with_row};
 ghost use Rattle.cb_node.specs.Answer.{PutGives};
+ghost use Rattle.cb_node.specs.Delta.{with_delta, Names};
 
 use crate::node::Node;
 use crate::row::Row;
@@ -88,6 +89,10 @@ impl Nodes {
         ensures answer { IfOk result (λ answer. PutGives self.old node key row.now answer self.new) }
         ensures err { OnErr result (self.new ≡ self.old) }
         ensures err_only_with_room { OnErr result (held self.old node < self.old.room) }
+
+        // What a caller needs for the next call, whatever the answer.
+        ensures count { length self.new.nodes ≡ length self.old.nodes }
+        ensures given { self.new.given ≡ self.old.given }
         ensures valid { IsNodes self.new }
     {
         let held = self.held(node);
@@ -116,6 +121,10 @@ impl Nodes {
         ensures answer { IfOk result (λ answer. PutGives self.old to fresh (known_row self.old from key) answer self.new) }
         ensures err { OnErr result (self.new ≡ self.old) }
         ensures err_only_with_room { OnErr result (held self.old to < self.old.room) }
+
+        // What a caller needs for the next call, whatever the answer.
+        ensures count { length self.new.nodes ≡ length self.old.nodes }
+        ensures given { self.new.given ≡ self.old.given }
         ensures valid { IsNodes self.new }
     {
         let held = self.held(to);
@@ -147,6 +156,31 @@ impl Nodes {
         true
     }
 
+    /// Adds `c` times the sum of the rows of the shards `old` and `new` to the row under `key` at
+    /// the node `to`. The incarnations of the shards are not looked at. No row is given; takes no
+    /// memory.
+    pub fn add_delta(&mut self, to: NodeId, key: u64, c: u8, old: Shard, new: Shard)
+        requires to { to.n < length self.old.nodes }
+        requires old_node { old.node.n < length self.old.nodes }
+        requires new_node { new.node.n < length self.old.nodes }
+        requires target { has self.old to key ≡ true }
+        requires old_row { has self.old old.node old.key ≡ true }
+        requires new_row { has self.old new.node new.key ≡ true }
+        requires old_length { length (known_row self.old to key) ≡ length (known_row self.old old.node old.key) }
+        requires new_length { length (known_row self.old to key) ≡ length (known_row self.old new.node new.key) }
+        ensures after { self.new ≡ with_delta self.old to key c old new }
+        ensures valid { IsNodes self.new }
+    {
+        let _ = &self.room;
+        match (is_row(old, to, key), is_row(new, to, key)) {
+            // A row differs from itself by nothing.
+            (true, true) => {}
+            (true, false) => self.add_own_change(to, key, c, new),
+            (false, true) => self.add_own_change(to, key, c, old),
+            (false, false) => self.add_change(to, key, c, old, new),
+        }
+    }
+
     /// Drops the row under the key at the node, if it is there.
     pub fn drop_row(&mut self, node: NodeId, key: u64)
         requires { node.n < length self.old.nodes }
@@ -163,6 +197,56 @@ impl Nodes {
         ensures valid { IsNodes self.new }
     {
         self.nodes[usize::from(node.n)].clear();
+    }
+
+    /// Adds `c` times the sum of two other rows to the row under the key.
+    fn add_change(&mut self, to: NodeId, key: u64, c: u8, old: Shard, new: Shard)
+        requires to { to.n < length self.old.nodes }
+        requires old_node { old.node.n < length self.old.nodes }
+        requires new_node { new.node.n < length self.old.nodes }
+        requires old_other { ¬ (Names old to key) }
+        requires new_other { ¬ (Names new to key) }
+        requires target { has self.old to key ≡ true }
+        requires old_row { has self.old old.node old.key ≡ true }
+        requires new_row { has self.old new.node new.key ≡ true }
+        requires old_length { length (known_row self.old to key) ≡ length (known_row self.old old.node old.key) }
+        requires new_length { length (known_row self.old to key) ≡ length (known_row self.old new.node new.key) }
+        ensures after { self.new ≡ with_delta self.old to key c old new }
+        ensures valid { IsNodes self.new }
+    {
+        let mut row = Row::empty(*self.nodes.allocator());
+        self.swap_row(to, key, &mut row);
+        row.add_scaled(c, self.known_row(old.node, old.key));
+        row.add_scaled(c, self.known_row(new.node, new.key));
+        self.swap_row(to, key, &mut row);
+    }
+
+    /// Adds `c` times the sum of itself and another row to the row under the key.
+    fn add_own_change(&mut self, to: NodeId, key: u64, c: u8, other: Shard)
+        requires to { to.n < length self.old.nodes }
+        requires other_node { other.node.n < length self.old.nodes }
+        requires other { ¬ (Names other to key) }
+        requires target { has self.old to key ≡ true }
+        requires other_row { has self.old other.node other.key ≡ true }
+        requires other_length { length (known_row self.old to key) ≡ length (known_row self.old other.node other.key) }
+        ensures after { self.new ≡ with_row self.old to key (row_sum (known_row self.old to key) (scaled_row c (row_sum (known_row self.old to key) (known_row self.old other.node other.key)))) }
+        ensures valid { IsNodes self.new }
+    {
+        let mut row = Row::empty(*self.nodes.allocator());
+        self.swap_row(to, key, &mut row);
+        row.add_own_change(c, self.known_row(other.node, other.key));
+        self.swap_row(to, key, &mut row);
+    }
+
+    /// Exchanges the row under the key, which is there, for another; takes no memory.
+    fn swap_row(&mut self, node: NodeId, key: u64, row: &mut Row)
+        requires node { node.n < length self.old.nodes }
+        requires there { has self.old node key ≡ true }
+        ensures after { self.new ≡ with_row self.old node key row.old }
+        ensures row { row.new ≡ known_row self.old node key }
+        ensures valid { IsNodes self.new }
+    {
+        self.nodes[usize::from(node.n)].swap_row(key, row);
     }
 
     /// The row under the key, which is there.
@@ -187,3 +271,13 @@ impl Nodes {
         Ok(())
     }
 }
+
+/// Whether the shard names that row of that node.
+fn is_row(shard: Shard, node: NodeId, key: u64) -> bool
+    ensures { IsTrue result ↔ Names shard node key }
+{
+    shard.node.n == node.n && shard.key == key
+}
+
+#[cfg(test)]
+mod tests;

@@ -1,4 +1,4 @@
-use Rattle.std.proofs.Common.{◌≡◌, is_some, ap, sym, ◌∙◌}
+use Rattle.std.proofs.Common.{is_some, ap, sym, ◌∙◌}
 use Rattle.std.specs.FinMap as map
 use Rattle.cb_node.proofs.Views.{get-view}
 use Rattle.cb_node.proofs.node.Node.has.Goals as goal

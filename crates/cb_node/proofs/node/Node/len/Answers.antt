@@ -1,4 +1,4 @@
-use Rattle.std.proofs.Common.{◌≡◌, is_some, ap, sym, ◌∙◌}
+use Rattle.std.proofs.Common.{ap, sym, ◌∙◌}
 use Rattle.std.specs.FinMap as map
 use Rattle.cb_node.proofs.Views.{len-view}
 use Rattle.cb_node.proofs.node.Node.len.Goals as goal
