@@ -1,9 +1,10 @@
 -- Lists of rows cut out of one block.
-use Rattle.std.proofs.Common.{◌≡◌, ℕ, zero, suc, ◌+◌, ◌-◌, ◌*◌, ◌^◌, ◌<◌, ◌≤◌, List, [], ◌∷◌, ◌++◌, length, take, drop, get_or, set, replicate, refl, sym, ap, ap₂, ◌∙◌, subst, arith, All}
+use Rattle.std.proofs.Common.{◌≡◌, ℕ, zero, suc, ◌+◌, ◌-◌, ◌*◌, ◌^◌, ◌<◌, ◌≤◌, List, [], ◌∷◌, ◌++◌, length, take, drop, get_or, set, replicate, refl, sym, ap, ap₂, ◌∙◌, subst, ⊎_elim, arith, All}
 use Rattle.std.specs.List.{concat}
 use Rattle.std.proofs.Math.Nat.{suc-mul, zero-mul, add_comm, mul-le-mul_right}
 use Rattle.std.proofs.Math.Seq.{take-append-add}
-use Rattle.std.proofs.lemmas.List.{length-take, length-take-le, length-drop, drop-drop, drop-take, take-take, take-replicate, drop-replicate, take-append-drop, take_at, drop_at, append_assoc, length-append, get_or-take, get_or-drop, get_or_default, nil_from_length}
+use Rattle.std.proofs.lemmas.List.{length-take, length-take-le, length-drop, drop-drop, drop-take, take-take, take-replicate, drop-replicate, take-append-drop, take_at, drop_at, append_assoc, length-append, get_or-take, get_or-drop, get_or_default, nil_from_length, get_or-set_same, get_or-set_other}
+use Rattle.std.proofs.lemmas.Bool.{cases_eq}
 use Rattle.cb_gf256.specs.Rows.{row_at, HaveLength, HoldBytes, AreRows}
 use Rattle.cb_gf256.specs.Block.{cut_rows, overwritten, with_row}
 
@@ -138,3 +139,17 @@ unfolding with_row
 with_row-set rows i bytes h l =
     ap (λ len. cut_rows (length rows) len (overwritten (concat rows) (i * len) bytes)) (h i [] l)
     ∙ written_row (length bytes) rows i bytes h l refl
+
+pub length-with_row : (rows : List (List ℕ)) (i : ℕ) (bytes : List ℕ) → length (with_row rows i bytes) ≡ length rows
+unfolding with_row
+length-with_row rows i bytes = length-cut_rows (length rows) (length (row_at rows i)) (overwritten (concat rows) (i * length (row_at rows i)) bytes)
+
+pub HaveLength-with_row : (len : ℕ) (rows : List (List ℕ)) (i : ℕ) (bytes : List ℕ) → HaveLength len rows → length bytes ≡ len → i < length rows → HaveLength len (with_row rows i bytes)
+HaveLength-with_row len rows i bytes h e l k d m =
+    let within : k < length rows = omega (arith, length-with_row rows i bytes) in
+    let written : with_row rows i bytes ≡ set rows i bytes = with_row-set rows i bytes (subst (λ n. HaveLength n rows) (sym e) h) l in
+    ap (λ rows. length (get_or rows k d)) written
+    ∙ ⊎_elim
+    (λ same. ap (λ j. length (get_or (set rows i bytes) j d)) same ∙ ap length (get_or-set_same rows i bytes d l) ∙ e)
+    (λ other. ap length (get_or-set_other rows i k bytes d other) ∙ h k d within)
+    (cases_eq k i)

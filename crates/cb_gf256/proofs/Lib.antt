@@ -5,3 +5,6 @@ pub mod TableLemmas
 pub mod BlockLemmas
 pub mod RowLemmas
 pub mod SumLaws
+pub mod OrderLemmas
+pub mod WorkedVectors
+pub mod PublicLaws

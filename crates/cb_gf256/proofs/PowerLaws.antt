@@ -1,5 +1,5 @@
 -- The laws of powers.
-use Rattle.std.proofs.Common.{◌≡◌, ℕ, zero, suc, ◌+◌, ◌*◌, ◌<◌, refl, sym, ap, ap₂, ◌∙◌, arith}
+use Rattle.std.proofs.Common.{◌≡◌, ℕ, zero, suc, ◌+◌, ◌*◌, ◌<◌, refl, sym, ap, ap₂, ◌∙◌, arith, add-one}
 use Rattle.std.proofs.Math.Nat.{zero-add, suc-add, mul-zero, mul-suc, add_comm}
 use Rattle.cb_gf256.specs.Product.{◌⊗◌}
 use Rattle.cb_gf256.specs.Power.{power}
@@ -12,6 +12,9 @@ power-zero a = refl
 pub power-suc : (a n : ℕ) → power a (suc n) ≡ a ⊗ power a n
 unfolding power
 power-suc a n = refl
+
+pub power-add-one : (a n : ℕ) → power a (n + 1) ≡ a ⊗ power a n
+power-add-one a n = ap (power a) (add-one n) ∙ power-suc a n
 
 pub power-lt : (a n : ℕ) → a < 256 → power a n < 256
 unfolding power

@@ -7,6 +7,8 @@ mod no_memory;
 mod row;
 mod rows;
 mod tables;
+#[cfg(test)]
+mod tests;
 
 pub use field::{add, inv, mul, pow};
 pub use laws::{field_laws, power_laws, powers_of_two, row_laws, sum_laws};

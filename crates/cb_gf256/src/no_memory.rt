@@ -1,3 +1,5 @@
+ghost use Rattle.std.specs.Prelude.{Some, codes};
+
 use std::alloc::AllocError;
 use std::error::Error;
 use std::fmt;
@@ -7,8 +9,10 @@ use std::fmt;
 pub struct NoMemory;
 
 impl fmt::Display for NoMemory {
+    ghost output = { λ _. Some (codes "no memory is left") };
+
     fn fmt<W: fmt::Write>(&self, f: &mut fmt::Formatter<W>) -> fmt::Result {
-        f.write_str("there is no memory left")
+        f.write_str("no memory is left")
     }
 }
 

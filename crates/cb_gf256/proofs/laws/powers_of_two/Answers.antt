@@ -1,11 +1,11 @@
-use Rattle.cb_gf256.proofs.TableLemmas.{powers_differ, generated, power_two_255}
+use Rattle.cb_gf256.proofs.PublicLaws.{powers_of_two_differ, powers_of_two_generate, powers_of_two_return}
 use Rattle.cb_gf256.proofs.laws.powers_of_two.Goals as goal
 
-pub returns-clause-differ : goal.returns-clause-differ
-returns-clause-differ c = powers_differ
+pub returns-clause-powers_of_two_differ : goal.returns-clause-powers_of_two_differ
+returns-clause-powers_of_two_differ c = powers_of_two_differ
 
-pub returns-clause-generate : goal.returns-clause-generate
-returns-clause-generate c = generated
+pub returns-clause-powers_of_two_generate : goal.returns-clause-powers_of_two_generate
+returns-clause-powers_of_two_generate c = powers_of_two_generate
 
-pub returns-clause-return_to_one : goal.returns-clause-return_to_one
-returns-clause-return_to_one c = power_two_255
+pub returns-clause-powers_of_two_return : goal.returns-clause-powers_of_two_return
+returns-clause-powers_of_two_return c = powers_of_two_return

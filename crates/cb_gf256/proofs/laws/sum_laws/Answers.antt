@@ -1,24 +1,23 @@
-use Rattle.cb_gf256.proofs.Linear.{sum_over-sum, sum_over-same}
-use Rattle.cb_gf256.proofs.SumLaws.{sum_over-lt, sum_over-zero, sum_over-add, product-sum_over, sum_over-swap}
+use Rattle.cb_gf256.proofs.PublicLaws.{sum_over_is_byte, sum_over_same, sum_over_zeros, sum_over_sums, sum_over_splits, product_with_sum_over, sum_over_swaps}
 use Rattle.cb_gf256.proofs.laws.sum_laws.Goals as goal
 
-pub returns-clause-sum_is_byte : goal.returns-clause-sum_is_byte
-returns-clause-sum_is_byte c = sum_over-lt
+pub returns-clause-sum_over_is_byte : goal.returns-clause-sum_over_is_byte
+returns-clause-sum_over_is_byte c = sum_over_is_byte
 
-pub returns-clause-sum_of_same : goal.returns-clause-sum_of_same
-returns-clause-sum_of_same c = sum_over-same
+pub returns-clause-sum_over_same : goal.returns-clause-sum_over_same
+returns-clause-sum_over_same c = sum_over_same
 
-pub returns-clause-sum_of_zeros : goal.returns-clause-sum_of_zeros
-returns-clause-sum_of_zeros c = sum_over-zero
+pub returns-clause-sum_over_zeros : goal.returns-clause-sum_over_zeros
+returns-clause-sum_over_zeros c = sum_over_zeros
 
-pub returns-clause-sum_of_sums : goal.returns-clause-sum_of_sums
-returns-clause-sum_of_sums c = sum_over-sum
+pub returns-clause-sum_over_sums : goal.returns-clause-sum_over_sums
+returns-clause-sum_over_sums c = sum_over_sums
 
-pub returns-clause-sum_splits : goal.returns-clause-sum_splits
-returns-clause-sum_splits c = sum_over-add
+pub returns-clause-sum_over_splits : goal.returns-clause-sum_over_splits
+returns-clause-sum_over_splits c = sum_over_splits
 
-pub returns-clause-factor_moves_in : goal.returns-clause-factor_moves_in
-returns-clause-factor_moves_in c = product-sum_over
+pub returns-clause-product_with_sum_over : goal.returns-clause-product_with_sum_over
+returns-clause-product_with_sum_over c = product_with_sum_over
 
-pub returns-clause-sums_swap : goal.returns-clause-sums_swap
-returns-clause-sums_swap c = sum_over-swap
+pub returns-clause-sum_over_swaps : goal.returns-clause-sum_over_swaps
+returns-clause-sum_over_swaps c = sum_over_swaps
