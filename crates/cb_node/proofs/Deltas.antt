@@ -3,7 +3,7 @@ use Rattle.std.proofs.Common.{◌≡◌, ℕ, ◌<◌, true, List, [], length, i
 use Rattle.cb_member.specs.declared.names.NodeId.{NodeId}
 use Rattle.cb_member.specs.declared.names.Shard.{Shard}
 use Rattle.cb_gf256.specs.Row.{row_sum, scaled_row}
-use Rattle.cb_gf256.proofs.RowLemmas.{row_sum_assoc, row_sum_twice, length-row_sum, length-scaled_row, scaled_row-row_sum}
+use Rattle.cb_gf256.proofs.PublicLaws.{row_sum_associates, row_added_twice_is_gone, row_sum_length, scaled_row_length, scaled_row_of_sum}
 use Rattle.cb_node.specs.NodesState.{NodesState, known_row, has, with_row}
 use Rattle.cb_node.specs.Delta.{Names}
 use Rattle.cb_node.proofs.Put.{row_at-with_row_here, row_at-with_row_other}
@@ -26,11 +26,11 @@ known_row-named state shard node key names =
 
 -- c times one row and c times another are c times their sum
 pub scaled_one_by_one : (row one other : List ℕ) (c : ℕ) → row_sum (row_sum row (scaled_row c one)) (scaled_row c other) ≡ row_sum row (scaled_row c (row_sum one other))
-scaled_one_by_one row one other c = row_sum_assoc row (scaled_row c one) (scaled_row c other) ∙ ap (λ x. row_sum row x) (sym (scaled_row-row_sum c one other))
+scaled_one_by_one row one other c = row_sum_associates row (scaled_row c one) (scaled_row c other) ∙ ap (λ x. row_sum row x) (sym (scaled_row_of_sum c one other))
 
 -- a row and itself differ by nothing
 pub own_change_is_none : (row : List ℕ) (c : ℕ) → row_sum row (scaled_row c (row_sum row row)) ≡ row
-own_change_is_none row c = sym (scaled_one_by_one row row row c) ∙ row_sum_twice row (scaled_row c row) (sym (length-scaled_row c row))
+own_change_is_none row c = sym (scaled_one_by_one row row row c) ∙ row_added_twice_is_gone row (scaled_row c row) (sym (scaled_row_length c row))
 
 pub length-added : (row one : List ℕ) (c : ℕ) → length row ≡ length one → length (row_sum row (scaled_row c one)) ≡ length row
-length-added row one c same = length-row_sum row (scaled_row c one) (same ∙ sym (length-scaled_row c one))
+length-added row one c same = row_sum_length row (scaled_row c one) (same ∙ sym (scaled_row_length c one))

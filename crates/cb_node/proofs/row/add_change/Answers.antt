@@ -1,16 +1,19 @@
-use Rattle.std.proofs.Common.{◌≡◌, ◌<◌, ℕ, zero, suc, List, [], ◌∷◌, length, get_or, set, refl, ap, sym, ◌∙◌, arith}
+use Rattle.std.proofs.Common.{◌≡◌, ◌<◌, ◌≢◌, ℕ, List, length, get_or, ap, sym, ◌∙◌, arith, below_more, get_or-set_same, get_or-set_other}
+use Rattle.std.proofs.lemmas.List.{ext_get_or}
 use Rattle.cb_gf256.specs.Sum.{◌⊕◌}
 use Rattle.cb_gf256.specs.Product.{◌⊗◌}
 use Rattle.cb_gf256.specs.Row.{row_sum, scaled_row}
-use Rattle.cb_gf256.proofs.RowLemmas.{summed_front, summed_front_more, summed_front_all, length-row_sum, get_or-row_sum, length-scaled_row, get_or-scaled_row}
+use Rattle.cb_gf256.proofs.PublicLaws.{row_sum_length, row_sum_by_byte, scaled_row_length, scaled_row_by_byte}
 use Rattle.cb_node.proofs.row.add_change.Goals as goal
 
--- the next byte is as it was
-get_or-summed_front : (xs ys : List ℕ) (i : ℕ) → i < length xs → i < length ys → get_or (summed_front xs ys i) i 0 ≡ get_or xs i 0
-get_or-summed_front [] ys i h k = absurd (omega arith)
-get_or-summed_front (x ∷ xs) [] i h k = absurd (omega arith)
-get_or-summed_front (x ∷ xs) (y ∷ ys) zero h k = refl
-get_or-summed_front (x ∷ xs) (y ∷ ys) (suc i) h k = get_or-summed_front xs ys i (omega arith) (omega arith)
+length-change : (row other : List ℕ) (c : ℕ) → length row ≡ length other → length (scaled_row c (row_sum row other)) ≡ length row
+length-change row other c same = scaled_row_length c (row_sum row other) ∙ row_sum_length row other same
+
+-- one byte of the row and its change
+get_or-changed : (row other : List ℕ) (c i : ℕ) → length row ≡ length other → get_or (row_sum row (scaled_row c (row_sum row other))) i 0 ≡ get_or row i 0 ⊕ (c ⊗ (get_or row i 0 ⊕ get_or other i 0))
+get_or-changed row other c i same =
+    row_sum_by_byte row (scaled_row c (row_sum row other)) i (sym (length-change row other c same))
+        ∙ ap (λ x. get_or row i 0 ⊕ x) (scaled_row_by_byte c (row_sum row other) i ∙ ap (λ x. c ⊗ x) (row_sum_by_byte row other i same))
 
 pub loop-i-preserved : goal.loop-i-preserved
 loop-i-preserved c =
@@ -18,18 +21,20 @@ loop-i-preserved c =
     let other = c.args.other.now in
     let now = c.loop-i.row in
     let i = c.loop-i.i in
-    let change = scaled_row c.args.c (row_sum row other) in
-    let long : length change ≡ length row = length-scaled_row c.args.c (row_sum row other) ∙ length-row_sum row other c.requires in
-    let untouched : get_or now i 0 ≡ get_or row i 0 = ap (λ xs. get_or xs i 0) c.loop-i.invariant ∙ get_or-summed_front row change i (omega arith) (omega arith) in
-    let difference : c.add.result ≡ get_or (row_sum row other) i 0 = c.add.ensures ∙ ap (λ x. x ⊕ get_or other i 0) untouched ∙ sym (get_or-row_sum row other i c.requires) in
-    let scaled : c.mul.result ≡ get_or change i 0 = c.mul.ensures ∙ ap (λ x. c.args.c ⊗ x) difference ∙ sym (get_or-scaled_row c.args.c (row_sum row other) i) in
-    ap (λ x. set now i x) (c.add-in-loop-i.ensures ∙ ap (λ x. get_or now i 0 ⊕ x) scaled)
-    ∙ summed_front_more row change now i (omega arith) (omega arith) c.loop-i.invariant
+    let byte = c.loop-i.invariant.untouched i (omega arith) in
+    let written : c.add-in-loop-i.result ≡ get_or (row_sum row (scaled_row c.args.c (row_sum row other))) i 0 =
+        c.add-in-loop-i.ensures ∙ ap (λ x. get_or now i 0 ⊕ x) (c.mul.ensures ∙ ap (λ x. c.args.c ⊗ x) c.add.ensures)
+            ∙ ap (λ b. b ⊕ (c.args.c ⊗ (b ⊕ get_or other i 0))) byte ∙ sym (get_or-changed row other c.args.c i c.requires) in
+    record {
+      changed = below_more _ _
+          (λ k below. let apart : k ≢ i = omega arith in get_or-set_other now i k c.add-in-loop-i.result 0 apart ∙ c.loop-i.invariant.changed k below)
+          (get_or-set_same now i c.add-in-loop-i.result 0 (omega arith) ∙ written);
+      untouched = λ k above. let apart : k ≢ i = omega arith in get_or-set_other now i k c.add-in-loop-i.result 0 apart ∙ c.loop-i.invariant.untouched k (omega arith)
+    }
 
 pub returns : goal.returns
 returns c =
     let row = c.args.row.now in
-    let other = c.args.other.now in
-    let change = scaled_row c.args.c (row_sum row other) in
-    let long : length change ≡ length row = length-scaled_row c.args.c (row_sum row other) ∙ length-row_sum row other c.requires in
-    c.loop-i.invariant ∙ summed_front_all row change c.loop-i.i (omega arith) (omega arith)
+    let change = scaled_row c.args.c (row_sum row c.args.other.now) in
+    let long : length (row_sum row change) ≡ length row = row_sum_length row change (sym (length-change row c.args.other.now c.args.c c.requires)) in
+    ext_get_or 0 c.loop-i.row (row_sum row change) (omega arith) (λ k within. c.loop-i.invariant.changed k (omega arith))

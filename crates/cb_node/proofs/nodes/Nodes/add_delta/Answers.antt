@@ -1,6 +1,6 @@
 use Rattle.std.proofs.Common.{refl, ap, sym, ◌∙◌}
 use Rattle.cb_gf256.specs.Row.{row_sum, scaled_row}
-use Rattle.cb_gf256.proofs.RowLemmas.{row_sum_comm}
+use Rattle.cb_gf256.proofs.PublicLaws.{row_sum_commutes}
 use Rattle.cb_node.specs.NodesState.{known_row, with_row}
 use Rattle.cb_node.proofs.Put.{with_row-known_row}
 use Rattle.cb_node.proofs.Deltas.{known_row-named, own_change_is_none}
@@ -24,4 +24,4 @@ returns-in-false-true-clause-after c =
     let old_row = known_row a.self.now a.old.node a.old.key in
     let new_row = known_row-named a.self.now a.new a.to a.key (c.in-false-true.ensures'.0 refl) in
     c.add_own_change-in-false-true.ensures.after
-    ∙ ap (λ x. with_row a.self.now a.to a.key (row_sum row (scaled_row a.c x))) (row_sum_comm row old_row ∙ ap (λ x. row_sum old_row x) (sym new_row))
+    ∙ ap (λ x. with_row a.self.now a.to a.key (row_sum row (scaled_row a.c x))) (row_sum_commutes row old_row ∙ ap (λ x. row_sum old_row x) (sym new_row))
