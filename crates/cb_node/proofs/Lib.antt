@@ -2,3 +2,4 @@ pub mod Views
 pub mod Kept
 pub mod Put
 pub mod Deltas
+pub mod PublicLaws

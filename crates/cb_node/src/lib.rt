@@ -2,8 +2,10 @@
 //! call, which is counted; nodes copy and combine rows among themselves.
 #![tactic(auto)]
 
+mod laws;
 mod node;
-pub mod nodes;
+mod nodes;
 mod row;
 
+pub use laws::node_laws;
 pub use nodes::{Nodes, PutAnswer};

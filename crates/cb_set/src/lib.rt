@@ -2,7 +2,9 @@
 //! memory nodes, and which of those shards are lost.
 #![tactic(auto)]
 
+mod laws;
 mod position;
-pub mod span_set;
+mod span_set;
 
+pub use laws::set_laws;
 pub use span_set::SpanSet;

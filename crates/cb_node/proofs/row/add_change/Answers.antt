@@ -1,4 +1,4 @@
-use Rattle.std.proofs.Common.{◌≡◌, ◌<◌, ◌≢◌, ℕ, List, length, get_or, ap, sym, ◌∙◌, arith, below_more, get_or-set_same, get_or-set_other}
+use Rattle.std.proofs.Common.{◌≡◌, ◌≢◌, ℕ, List, length, get_or, ap, sym, ◌∙◌, arith, below_more, get_or-set_same, get_or-set_other}
 use Rattle.std.proofs.lemmas.List.{ext_get_or}
 use Rattle.cb_gf256.specs.Sum.{◌⊕◌}
 use Rattle.cb_gf256.specs.Product.{◌⊗◌}
@@ -13,7 +13,7 @@ length-change row other c same = scaled_row_length c (row_sum row other) ∙ row
 get_or-changed : (row other : List ℕ) (c i : ℕ) → length row ≡ length other → get_or (row_sum row (scaled_row c (row_sum row other))) i 0 ≡ get_or row i 0 ⊕ (c ⊗ (get_or row i 0 ⊕ get_or other i 0))
 get_or-changed row other c i same =
     row_sum_by_byte row (scaled_row c (row_sum row other)) i (sym (length-change row other c same))
-        ∙ ap (λ x. get_or row i 0 ⊕ x) (scaled_row_by_byte c (row_sum row other) i ∙ ap (λ x. c ⊗ x) (row_sum_by_byte row other i same))
+    ∙ ap (λ x. get_or row i 0 ⊕ x) (scaled_row_by_byte c (row_sum row other) i ∙ ap (λ x. c ⊗ x) (row_sum_by_byte row other i same))
 
 pub loop-i-preserved : goal.loop-i-preserved
 loop-i-preserved c =
@@ -23,13 +23,13 @@ loop-i-preserved c =
     let i = c.loop-i.i in
     let byte = c.loop-i.invariant.untouched i (omega arith) in
     let written : c.add-in-loop-i.result ≡ get_or (row_sum row (scaled_row c.args.c (row_sum row other))) i 0 =
-        c.add-in-loop-i.ensures ∙ ap (λ x. get_or now i 0 ⊕ x) (c.mul.ensures ∙ ap (λ x. c.args.c ⊗ x) c.add.ensures)
-            ∙ ap (λ b. b ⊕ (c.args.c ⊗ (b ⊕ get_or other i 0))) byte ∙ sym (get_or-changed row other c.args.c i c.requires) in
+    c.add-in-loop-i.ensures ∙ ap (λ x. get_or now i 0 ⊕ x) (c.mul.ensures ∙ ap (λ x. c.args.c ⊗ x) c.add.ensures)
+    ∙ ap (λ b. b ⊕ (c.args.c ⊗ (b ⊕ get_or other i 0))) byte ∙ sym (get_or-changed row other c.args.c i c.requires) in
     record {
       changed = below_more _ _
           (λ k below. let apart : k ≢ i = omega arith in get_or-set_other now i k c.add-in-loop-i.result 0 apart ∙ c.loop-i.invariant.changed k below)
           (get_or-set_same now i c.add-in-loop-i.result 0 (omega arith) ∙ written);
-      untouched = λ k above. let apart : k ≢ i = omega arith in get_or-set_other now i k c.add-in-loop-i.result 0 apart ∙ c.loop-i.invariant.untouched k (omega arith)
+      untouched = λ k above. let apart : k ≢ i = omega arith in get_or-set_other now i k c.add-in-loop-i.result 0 apart ∙ c.loop-i.invariant.untouched k (omega arith);
     }
 
 pub returns : goal.returns
