@@ -118,7 +118,8 @@ impl Nodes {
         requires to { to.n < length self.old.nodes }
         requires source { has self.old from key ≡ true }
         requires fresh { has self.old to fresh ≡ false }
-        ensures answer { IfOk result (λ answer. PutGives self.old to fresh (known_row self.old from key) answer self.new) }
+        ensures answer { IfOk result
+            (λ answer. PutGives self.old to fresh (known_row self.old from key) answer self.new) }
         ensures err { OnErr result (self.new ≡ self.old) }
         ensures err_only_with_room { OnErr result (held self.old to < self.old.room) }
 
@@ -166,11 +167,14 @@ impl Nodes {
         requires target { has self.old to key ≡ true }
         requires old_row { has self.old old.node old.key ≡ true }
         requires new_row { has self.old new.node new.key ≡ true }
-        requires old_length { length (known_row self.old to key) ≡ length (known_row self.old old.node old.key) }
-        requires new_length { length (known_row self.old to key) ≡ length (known_row self.old new.node new.key) }
+        requires old_length { length (known_row self.old to key)
+            ≡ length (known_row self.old old.node old.key) }
+        requires new_length { length (known_row self.old to key)
+            ≡ length (known_row self.old new.node new.key) }
         ensures after { self.new ≡ with_delta self.old to key c old new }
         ensures valid { IsNodes self.new }
     {
+        // This opens the invariant, for the case in which nothing changes.
         let _ = &self.room;
         match (is_row(old, to, key), is_row(new, to, key)) {
             // A row differs from itself by nothing.
@@ -209,8 +213,10 @@ impl Nodes {
         requires target { has self.old to key ≡ true }
         requires old_row { has self.old old.node old.key ≡ true }
         requires new_row { has self.old new.node new.key ≡ true }
-        requires old_length { length (known_row self.old to key) ≡ length (known_row self.old old.node old.key) }
-        requires new_length { length (known_row self.old to key) ≡ length (known_row self.old new.node new.key) }
+        requires old_length { length (known_row self.old to key)
+            ≡ length (known_row self.old old.node old.key) }
+        requires new_length { length (known_row self.old to key)
+            ≡ length (known_row self.old new.node new.key) }
         ensures after { self.new ≡ with_delta self.old to key c old new }
         ensures valid { IsNodes self.new }
     {
@@ -228,8 +234,11 @@ impl Nodes {
         requires other { ¬ (Names other to key) }
         requires target { has self.old to key ≡ true }
         requires other_row { has self.old other.node other.key ≡ true }
-        requires other_length { length (known_row self.old to key) ≡ length (known_row self.old other.node other.key) }
-        ensures after { self.new ≡ with_row self.old to key (row_sum (known_row self.old to key) (scaled_row c (row_sum (known_row self.old to key) (known_row self.old other.node other.key)))) }
+        requires other_length { length (known_row self.old to key)
+            ≡ length (known_row self.old other.node other.key) }
+        ensures after { let row = known_row self.old to key in
+            let change = row_sum row (known_row self.old other.node other.key) in
+            self.new ≡ with_row self.old to key (row_sum row (scaled_row c change)) }
         ensures valid { IsNodes self.new }
     {
         let mut row = Row::empty(*self.nodes.allocator());
