@@ -2,10 +2,15 @@
 //! its incarnations crashed; and the names by which the crates above speak of nodes and losses.
 #![tactic(auto)]
 
-pub mod losses;
-pub mod names;
-pub mod no_memory;
+mod laws;
+mod losses;
+mod members;
+mod names;
+mod no_memory;
+mod node;
 
+pub use laws::membership_laws;
 pub use losses::Losses;
+pub use members::{MemberAnswer, Members};
 pub use names::{Epoch, Loss, NodeId, Shard};
 pub use no_memory::NoMemory;

@@ -1,0 +1,3 @@
+pub mod Fresh
+pub mod Crashes
+pub mod PublicLaws

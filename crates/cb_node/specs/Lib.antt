@@ -1,0 +1,4 @@
+pub mod Rows
+pub mod NodesState
+pub mod Answer
+pub mod Delta

@@ -1,0 +1,11 @@
+//! Memory nodes: each keeps rows by their keys, up to a capacity. Rows leave the nodes by one
+//! call, which is counted; nodes copy and combine rows among themselves.
+#![tactic(auto)]
+
+mod laws;
+mod node;
+mod nodes;
+mod row;
+
+pub use laws::node_laws;
+pub use nodes::{Nodes, PutAnswer};

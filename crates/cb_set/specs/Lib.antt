@@ -1,0 +1,4 @@
+pub mod SetState
+pub mod Lost
+pub mod Matched
+pub mod Nodes
