@@ -4,7 +4,7 @@ use Rattle.std.proofs.lemmas.Grind.{common_steps}
 use Rattle.cb_ptr.specs.declared.word.PtrWord.{PtrWord}
 use Rattle.cb_ptr.specs.declared.word.State.TheVariants.{Here}
 use Rattle.cb_ptr.specs.Word.{IsInWidths, fields_of, flag_number, hot_of, len_of, numbered_state, pins_of, place_of, state_number, state_of, word_of}
-use Rattle.cb_ptr.specs.Steps.{Claims, GivesPin, TakesPin}
+use Rattle.cb_ptr.specs.Steps.{Claims, GivesPin, Settles, TakesPin}
 
 -- the state's number is the remainder by 4, and back
 pub state_number-numbered : (n : ℕ) → n < 4 → state_number (numbered_state n) ≡ n
@@ -68,3 +68,10 @@ pub same_but_hot : (v w : ℕ) → v < 2 ^ 53 → w < 2 ^ 53 → state_of v ≡ 
 same_but_hot v w below_v below_w state pins len place =
     let bits : v % 4 ≡ w % 4 = sym (state_number-state_of v) ∙ ap state_number state ∙ state_number-state_of w in
     omega (arith, flag_number-hot_of v, flag_number-hot_of w)
+
+-- a claimed word that is settled at its place, as hot as it was, is the word that was claimed
+pub claim_then_settle : (a b c : ℕ) → a < 2 ^ 53 → state_of a ≡ Here → pins_of a ≡ 0 → Claims a b → Settles b (place_of a) (hot_of a) c → c ≡ a
+claim_then_settle a b c below here none claimed settled =
+    let near : c + flag_number (hot_of a) * 4 ≡ a + flag_number (hot_of c) * 4 =
+        same_but_hot c a settled.below below (settled.state ∙ sym here) (omega (arith, settled.pins, claimed.pins)) (settled.len ∙ claimed.len) settled.place in
+    omega (arith, near, ap flag_number settled.hot)
