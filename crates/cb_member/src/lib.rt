@@ -1,0 +1,14 @@
+//! Membership: which memory nodes are up, how often each has joined, and at which epoch each of
+//! its incarnations crashed; and the names by which the crates above speak of nodes and losses.
+#![tactic(auto)]
+
+pub mod losses;
+pub mod members;
+pub mod names;
+pub mod no_memory;
+mod node;
+
+pub use losses::Losses;
+pub use members::{MemberAnswer, Members};
+pub use names::{Epoch, Loss, NodeId, Shard};
+pub use no_memory::NoMemory;
