@@ -73,5 +73,5 @@ same_but_hot v w below_v below_w state pins len place =
 pub claim_then_settle : (a b c : ℕ) → a < 2 ^ 53 → state_of a ≡ Here → pins_of a ≡ 0 → Claims a b → Settles b (place_of a) (hot_of a) c → c ≡ a
 claim_then_settle a b c below here none claimed settled =
     let near : c + flag_number (hot_of a) * 4 ≡ a + flag_number (hot_of c) * 4 =
-        same_but_hot c a settled.below below (settled.state ∙ sym here) (omega (arith, settled.pins, claimed.pins)) (settled.len ∙ claimed.len) settled.place in
+    same_but_hot c a settled.below below (settled.state ∙ sym here) (omega (arith, settled.pins, claimed.pins)) (settled.len ∙ claimed.len) settled.place in
     omega (arith, near, ap flag_number settled.hot)
