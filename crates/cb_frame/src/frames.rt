@@ -44,6 +44,7 @@ impl Frames {
         ensures taken { IfSome result (λ f. self.new ≡ with_taken self.old f) }
         ensures none { IfNone result (self.new ≡ self.old) }
         ensures in_range { IfSome result (λ f. f < length self.old) }
+        ensures count { length self.new ≡ length self.old }
     {
         let f = bitmap::least_set(&self.words)?;
         bitmap::clear(&mut self.words, f);
@@ -55,7 +56,8 @@ impl Frames {
     pub fn give(&mut self, f: u32)
         requires in_range { f < length self.old }
         requires taken { ¬ (IsFree self.old f) }
-        ensures { self.new ≡ with_given self.old f }
+        ensures given { self.new ≡ with_given self.old f }
+        ensures count { length self.new ≡ length self.old }
     {
         bitmap::set(&mut self.words, f as usize);
         self.free += 1;

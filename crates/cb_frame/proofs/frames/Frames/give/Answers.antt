@@ -43,8 +43,8 @@ invariant_of-self c =
     rw (with_items_is c.self.inside.words new (same_len ∙ sym c.self.inside.words.ok.0))
     (IsBitmap-given words new count c.self.inside.free c.args.f c.self.invariant same_len within clear change)
 
-pub returns : goal.returns
-returns c =
+pub returns-clause-given : goal.returns-clause-given
+returns-clause-given c =
     let words = c.self.inside.words.items in
     let new = c.set.new.words in
     let count = c.self.inside.count in
