@@ -1,4 +1,4 @@
-use Rattle.std.specs.Prelude.{◌≡◌, ℕ, ◌<◌, ◌≤◌, false, List, Option, None, Some, count_by, is_none, is_some, length, position, replicate, slice_index_or, slice_set}
+use Rattle.std.specs.Prelude.{◌≡◌, ℕ, List, Option, None, Some, count_by, is_none, is_some, length, position, replicate, slice_index_or, slice_set}
 use Rattle.cb_class.specs.declared.class.Class.{Class}
 use Rattle.cb_class.specs.Class.{IsClass, slots_of}
 use Rattle.cb_span.specs.declared.temp.Temp.{Temp}
@@ -24,11 +24,11 @@ handle_at span slot = slice_index_or span.slots slot None
 
 -- the span where this slot has the handle, and every other slot is as it was
 abbrev pub with_placed : Contents → ℕ → ℕ → Contents
-with_placed span slot handle = record { class = span.class; temp = span.temp; slots = slice_set span.slots slot (Some handle) }
+with_placed span slot handle = record span { slots = slice_set span.slots slot (Some handle) }
 
 -- the span where this slot is empty, and every other slot is as it was
 abbrev pub with_cleared : Contents → ℕ → Contents
-with_cleared span slot = record { class = span.class; temp = span.temp; slots = slice_set span.slots slot None }
+with_cleared span slot = record span { slots = slice_set span.slots slot None }
 
 -- the least slot that is empty, if there is one
 abbrev pub least_empty : Contents → Option ℕ
@@ -37,10 +37,3 @@ least_empty span = position is_none span.slots
 -- the count of slots that are taken
 abbrev pub live_count : Contents → ℕ
 live_count span = count_by is_some span.slots
-
--- what a span keeps beside its contents: the count of taken slots, and a slot below which all are taken
-pub record IsKept (span : Contents) (live taken_below : ℕ) : Type 0 where
-  pub valid : IsSpan span
-  pub counted : live ≡ live_count span
-  pub within : taken_below ≤ length span.slots
-  pub taken : (k : ℕ) → k < taken_below → is_none (handle_at span k) ≡ false

@@ -22,7 +22,8 @@ pub struct Span {
 
 impl Model for Span {
     ghost use Rattle.std.specs.Prelude.{ℕ};
-    ghost use Rattle.cb_span.specs.Contents.{Contents, IsKept};
+    ghost use Rattle.cb_span.specs.Contents.{Contents};
+    ghost use Rattle.cb_span.specs.Kept.{IsKept};
 
     ghost Value = { Contents };
 

@@ -1,7 +1,7 @@
 use Rattle.std.proofs.Common.{◌≡◌, ◌<◌, Some, is_none, ap, sym, ◌∙◌, arith, rules}
 use Rattle.std.specs.List.{position}
 use Rattle.cb_span.specs.Contents.{Contents, least_empty}
-use Rattle.cb_span.proofs.Kept.{IsKept-with_placed, least_empty-lt}
+use Rattle.cb_span.proofs.Cursor.{IsKept-with_placed, least_empty-lt}
 use Rattle.cb_span.proofs.Laws.{least_empty_full, live_count-le, slots-le}
 use Rattle.cb_span.proofs.span.Span.place.Goals as goal
 

@@ -3,7 +3,8 @@ use Rattle.std.proofs.Common.{◌≡◌, ℕ, ◌+◌, ◌<◌, true, false, Som
 use Rattle.std.proofs.lemmas.Bool.{cases_eq}
 use Rattle.std.proofs.lemmas.List.{length-set}
 use Rattle.std.proofs.lemmas.List.Quantifiers.{position-Some}
-use Rattle.cb_span.specs.Contents.{Contents, IsKept, IsSpan, handle_at, least_empty, with_placed}
+use Rattle.cb_span.specs.Contents.{Contents, IsSpan, handle_at, least_empty, with_placed}
+use Rattle.cb_span.specs.Kept.{IsKept}
 use Rattle.cb_span.proofs.Laws.{IsSpan-with_placed, handle_at-with_placed, handle_at-with_placed_other, least_empty-Some, live_count-with_placed, slots-le}
 
 -- the least empty slot is one of at most 256
