@@ -1,0 +1,65 @@
+ghost use Rattle.std.specs.Prelude.{◌≡◌, ◌*◌, ◌<◌, ◌≤◌};
+ghost use Rattle.cb_class.specs.Class.{IsClass, IsClassOf, bytes_of, slots_of, words_of};
+
+/// The bytes of a span: one page.
+pub const SPAN_BYTES: u32 = 4096;
+
+/// The bytes of a word of memory.
+pub const WORD_BYTES: u32 = 8;
+
+/// The number of size classes.
+const CLASSES: usize = 12;
+
+/// The bytes of a slot of each class, by the class's index.
+const CLASS_BYTES: [u32; CLASSES] = [16, 32, 48, 64, 96, 128, 192, 256, 384, 512, 768, 1024];
+
+/// A size class, named by its index in the table of sizes: a greater index has greater slots.
+#[derive(Clone, Copy, Debug, PartialEq, Eq, PartialOrd, Ord, Hash)]
+pub struct Class {
+    pub index: u32,
+}
+
+/// The class of an object of `len` bytes, 1 to 1,024: the least class whose slots hold it.
+pub fn class_of(len: u32) -> Class
+    requires some_byte { 1 ≤ len }
+    requires fits_largest { len ≤ 1024 }
+    ensures { IsClassOf len result }
+{
+    let index = CLASS_BYTES.partition_point(|bytes| *bytes < len);
+    Class {
+        index: index as u32,
+    }
+}
+
+/// The bytes of a slot of the class, 16 to 1,024 and a multiple of 16.
+pub fn class_bytes(c: Class) -> u32
+    requires { IsClass c }
+    ensures bytes { result ≡ bytes_of c }
+    ensures at_least { 16 ≤ result }
+    ensures at_most { result ≤ 1024 }
+{
+    CLASS_BYTES[c.index as usize]
+}
+
+/// The slots of a span of the class, 4 to 256: as many as lie whole in the span's bytes. Slot s starts
+/// at byte s times the class's bytes.
+pub fn slots(c: Class) -> u32
+    requires { IsClass c }
+    ensures slots { result ≡ slots_of c }
+    ensures at_least { 4 ≤ result }
+    ensures at_most { result ≤ 256 }
+    ensures fit { result * bytes_of c ≤ SPAN_BYTES }
+{
+    SPAN_BYTES / class_bytes(c)
+}
+
+/// The words of eight bytes of a slot of the class, 2 to 128.
+pub fn slot_words(c: Class) -> u32
+    requires { IsClass c }
+    ensures words { result ≡ words_of c }
+    ensures at_least { 2 ≤ result }
+    ensures at_most { result ≤ 128 }
+    ensures fill { result * WORD_BYTES ≡ bytes_of c }
+{
+    class_bytes(c) / WORD_BYTES
+}

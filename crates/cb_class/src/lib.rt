@@ -1,0 +1,9 @@
+//! Size classes: the sizes that slots have, and how many slots of each size a span holds.
+//! An object lies in a slot of the least class that holds its length.
+#![tactic(auto)]
+
+mod class;
+#[cfg(test)]
+mod tests;
+
+pub use class::{Class, SPAN_BYTES, WORD_BYTES, class_bytes, class_of, slot_words, slots};

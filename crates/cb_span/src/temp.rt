@@ -1,0 +1,6 @@
+/// The temperature of a span: whether its objects were in use of late.
+#[derive(Clone, Copy, Debug, PartialEq, Eq, Hash)]
+pub enum Temp {
+    Hot,
+    Cold,
+}
