@@ -18,10 +18,10 @@ pub(crate) fn accepted_config_of(alloc: Global, text: &[u8]) -> Result<Option<Co
     let Some(config) = config_of(words.as_slice()) else {
         return Ok(None);
     };
-    if config.check().is_err() {
-        return Ok(None);
+    match config.check() {
+        Ok(()) => Ok(Some(config)),
+        Err(_) => Ok(None),
     }
-    Ok(Some(config))
 }
 
 /// The configuration that the words of a header set, whether or not it is accepted.

@@ -36,7 +36,7 @@ fn make_of<'a>(
 ) -> Result<Option<Request>, NoMemory>
     ensures { IfOk result (λ found. (known : List (List ℕ)) → HasNames names.old known → MatchOption found ((r : Request) → MayStand known handles (codes "make" ∷ name.entry.now ∷ text.now ∷ []) r → ⊥) (λ r. MayStand known handles (codes "make" ∷ name.entry.now ∷ text.now ∷ []) r × HasNames names.new (known ++ names_made r))) }
 {
-    if !is_name(name) || names.contains(name) || names.len() >= handles as usize {
+    if !is_name(name) || is_known(names, name) || names.len() >= handles as usize {
         return Ok(None);
     }
     let Some(bytes) = contents_of(alloc, text)? else {
@@ -50,9 +50,16 @@ fn make_of<'a>(
 fn read_of(alloc: Global, names: &BTreeSet<&[u8]>, name: &[u8]) -> Result<Option<Request>, NoMemory>
     ensures { (handles : ℕ) → IfOk result (λ found. (known : List (List ℕ)) → HasNames names.now known → length known ≤ handles → MatchOption found ((r : Request) → MayStand known handles (codes "read" ∷ name.now ∷ []) r → ⊥) (λ r. MayStand known handles (codes "read" ∷ name.now ∷ []) r × HasNames names.now (known ++ names_made r))) }
 {
-    if !is_name(name) || !names.contains(name) {
+    if !is_name(name) || !is_known(names, name) {
         return Ok(None);
     }
     let name = Name::copy_of(alloc, name)?;
     Ok(Some(Request::Read { name }))
+}
+
+/// Whether the name was made on a line before.
+fn is_known(names: &BTreeSet<&[u8]>, name: &[u8]) -> bool
+    ensures { result ≡ has_name names.now name.now }
+{
+    names.contains(name)
 }

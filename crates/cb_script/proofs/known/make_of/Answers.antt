@@ -6,23 +6,23 @@ use Rattle.cb_script.specs.Form.{IsName}
 use Rattle.cb_script.specs.Known.{has_name}
 use Rattle.cb_script.proofs.KnownNames.{names_more, make_needs_name, make_needs_new, make_needs_handle, make_stands}
 use Rattle.cb_script.proofs.known.make_of.Goals as goal
-use Rattle.cb_script.proofs.known.make_of.Goals.{then-not-is_name-via-then-not-is_name, then-not-is_name-via-else-not-is_name+then-contains, then-not-is_name-via-else-not-is_name+else-contains+then-len-handles}
+use Rattle.cb_script.proofs.known.make_of.Goals.{then-not-is_name-via-then-not-is_name, then-not-is_name-via-else-not-is_name+then-is_known, then-not-is_name-via-else-not-is_name+else-is_known+then-len-handles}
 
 pub returns-then-not-is_name : goal.returns-then-not-is_name
 returns-then-not-is_name c = λ known has.
     elim c.then-not-is_name.branch [
       | then-not-is_name-via-then-not-is_name w ↦
           make_needs_name known c.args.handles c.args.name.now c.args.text.now (λ is. both_ways c.is_name.result (search rules) (c.is_name.ensures.1 is))
-      | then-not-is_name-via-else-not-is_name+then-contains w ↦
-          make_needs_new known c.args.handles c.args.name.now c.args.text.now ((has.each c.args.name.now).0 (sym w.contains.ensures ∙ search rules))
-      | then-not-is_name-via-else-not-is_name+else-contains+then-len-handles w ↦
+      | then-not-is_name-via-else-not-is_name+then-is_known w ↦
+          make_needs_new known c.args.handles c.args.name.now c.args.text.now ((has.each c.args.name.now).0 (sym w.is_known.ensures ∙ search rules))
+      | then-not-is_name-via-else-not-is_name+else-is_known+then-len-handles w ↦
           make_needs_handle known c.args.handles c.args.name.now c.args.text.now (omega (arith, has.count, w.len.ensures.len, w.if-len-handles.true))
     ]
 
 pub returns : goal.returns
 returns c = λ known has.
     let is_name : IsName c.args.name.now = c.is_name.ensures.0 (search rules) in
-    let absent : has_name c.args.names.now c.args.name.now ≡ false = sym c.contains.ensures ∙ search rules in
+    let absent : has_name c.args.names.now c.args.name.now ≡ false = sym c.is_known.ensures ∙ search rules in
     let new : Contains known c.args.name.now → ⊥ = λ made. both_ways (has_name c.args.names.now c.args.name.now) absent ((has.each c.args.name.now).1 made) in
     let contents = rw c.in-Some.is at c.in_ok-bytes.ensures in
     let added : c.in_ok-insert.field-0 ≡ true = c.in_ok-insert.ensures.added ∙ ap not absent in
