@@ -1,6 +1,7 @@
 -- What a word of digits spells.
-use Rattle.std.proofs.Common.{◌≡◌, ℕ, zero, suc, ◌+◌, ◌*◌, ◌^◌, ◌<◌, ◌≤◌, List, [], ◌∷◌, ◌++◌, length, get_or, take, Option, Some, None, MatchOption, refl, sym, ap, ◌∙◌, subst, arith}
+use Rattle.std.proofs.Common.{◌≡◌, ℕ, zero, suc, ◌+◌, ◌*◌, ◌^◌, ◌<◌, ◌≤◌, List, [], ◌∷◌, ◌++◌, length, get_or, take, Option, Some, None, refl, sym, ap, ◌∙◌, subst, arith}
 use Rattle.std.proofs.lemmas.List.{append_cancel_left}
+use Rattle.cb_script.specs.Found.{Finds}
 use Rattle.cb_script.specs.Spelling.{setting}
 use Rattle.std.specs.Fmt.{decimal}
 use Rattle.std.specs.Char.{digit_value}
@@ -54,33 +55,38 @@ too_many word i value within so_far large small =
 
 -- ---- from the value of the digits to the number that is spelled
 
-pub empty_is_none : (word : List ℕ) → length word ≡ 0 → (n : ℕ) → n < 10 ^ 9 → word ≡ decimal n → ⊥
-empty_is_none word empty n small e = omega (arith, (decimal_canonical n small).some, ap length e)
+-- the word spells the number
+abbrev pub SpellsNumber : List ℕ → ℕ → Type 0
+SpellsNumber word n = (n < 10 ^ 9) × (word ≡ decimal n)
 
-pub leading_is_none : (word : List ℕ) → 1 < length word → get_or word 0 0 ≡ 48 → (n : ℕ) → n < 10 ^ 9 → word ≡ decimal n → ⊥
-leading_is_none word long zero_first n small e =
-    omega (arith, (decimal_canonical n small).leading (sym (ap (λ (w : List ℕ). get_or w 0 0) e) ∙ zero_first), ap length e)
+pub empty_is_none : (word : List ℕ) → length word ≡ 0 → (n : ℕ) → SpellsNumber word n → ⊥
+empty_is_none word empty n is = omega (arith, (decimal_canonical n is.0).some, ap length is.1)
+
+pub leading_is_none : (word : List ℕ) → 1 < length word → get_or word 0 0 ≡ 48 → (n : ℕ) → SpellsNumber word n → ⊥
+leading_is_none word long zero_first n is =
+    omega (arith, (decimal_canonical n is.0).leading (sym (ap (λ (w : List ℕ). get_or w 0 0) is.1) ∙ zero_first), ap length is.1)
 
 pub number_from_value : (word : List ℕ) (value : Option ℕ) → IsCanonical word
-    → MatchOption value (AllDigits 10 word → digits_value 10 word < 10 ^ 9 → ⊥) (λ n. (n < 10 ^ 9) × AllDigits 10 word × (digits_value 10 word ≡ n))
-    → MatchOption value ((n : ℕ) → n < 10 ^ 9 → word ≡ decimal n → ⊥) (λ n. (n < 10 ^ 9) × (word ≡ decimal n))
-number_from_value word None canonical none = λ n small e.
-    none (subst (λ (w : List ℕ). AllDigits 10 w) (sym e) (decimal_digits n small)) (omega (arith, ap (digits_value 10) e, decimal_value n small))
+    → Finds value (λ n. (n < 10 ^ 9) × AllDigits 10 word × (digits_value 10 word ≡ n)) → Finds value (SpellsNumber word)
+number_from_value word None canonical none = λ n is.
+    none n (is.0, subst (λ (w : List ℕ). AllDigits 10 w) (sym is.1) (decimal_digits n is.0), ap (digits_value 10) is.1 ∙ decimal_value n is.0)
 number_from_value word (Some n) canonical some = (some.0, number_taken word n canonical some.1 some.2 some.0)
 
 -- ---- a name, `=` and a number
 
-pub setting_is_none : (word name : List ℕ) → ((rest : List ℕ) → word ≡ name ++ rest → ⊥) → (n : ℕ) → n < 10 ^ 9 → word ≡ setting name n → ⊥
-setting_is_none word name none n small e = none (61 ∷ decimal n) e
+-- the word spells the number under the name
+abbrev pub SpellsSetting : List ℕ → List ℕ → ℕ → Type 0
+SpellsSetting word name n = (n < 10 ^ 9) × (word ≡ setting name n)
 
-pub sign_is_none : (word name value : List ℕ) → word ≡ name ++ value → ((rest : List ℕ) → value ≡ (61 ∷ []) ++ rest → ⊥) → (n : ℕ) → n < 10 ^ 9 → word ≡ setting name n → ⊥
-sign_is_none word name value at none n small e = none (decimal n) (append_cancel_left name value (61 ∷ decimal n) (sym at ∙ e))
+pub setting_is_none : (word name : List ℕ) → ((rest : List ℕ) → word ≡ name ++ rest → ⊥) → (n : ℕ) → SpellsSetting word name n → ⊥
+setting_is_none word name none n is = none (61 ∷ decimal n) is.1
 
-pub setting_from_number : (word name value number : List ℕ) (found : Option ℕ) → word ≡ name ++ value → value ≡ (61 ∷ []) ++ number
-    → MatchOption found ((n : ℕ) → n < 10 ^ 9 → number ≡ decimal n → ⊥) (λ n. (n < 10 ^ 9) × (number ≡ decimal n))
-    → MatchOption found ((n : ℕ) → n < 10 ^ 9 → word ≡ setting name n → ⊥) (λ n. (n < 10 ^ 9) × (word ≡ setting name n))
-setting_from_number word name value number None at sign none = λ n small e.
-    none n small (append_cancel_left (61 ∷ []) number (decimal n) (sym sign ∙ append_cancel_left name value (61 ∷ decimal n) (sym at ∙ e)))
+pub sign_is_none : (word name value : List ℕ) → word ≡ name ++ value → ((rest : List ℕ) → value ≡ (61 ∷ []) ++ rest → ⊥) → (n : ℕ) → SpellsSetting word name n → ⊥
+sign_is_none word name value at none n is = none (decimal n) (append_cancel_left name value (61 ∷ decimal n) (sym at ∙ is.1))
+
+pub setting_from_number : (word name value number : List ℕ) (found : Option ℕ) → word ≡ name ++ value → value ≡ (61 ∷ []) ++ number → Finds found (SpellsNumber number) → Finds found (SpellsSetting word name)
+setting_from_number word name value number None at sign none = λ n is.
+    none n (is.0, append_cancel_left (61 ∷ []) number (decimal n) (sym sign ∙ append_cancel_left name value (61 ∷ decimal n) (sym at ∙ is.1)))
 setting_from_number word name value number (Some n) at sign some =
     (some.0, at ∙ ap (λ (v : List ℕ). name ++ v) (sign ∙ ap (λ (v : List ℕ). 61 ∷ v) some.1))
 

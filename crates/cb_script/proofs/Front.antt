@@ -119,10 +119,10 @@ texts_more all i within = map_more (λ (text : Bor (List ℕ)). text.now) all i 
 
 -- the next text is of no line
 pub stuck_at : (front : List Line) (handles i : ℕ) (all : List (Bor (List ℕ))) → i < length all → AreLines [] front → map line_text front ≡ texts (take i all) → ((l : Line) → ComesNext front handles (text_at all i) l → ⊥)
-    → (lines : List Line) → AreLines [] lines → length (made lines) ≤ handles → map line_text lines ≡ texts all → ⊥
-stuck_at front handles i all within are_front read none lines are room e =
-    is_stuck front handles (text_at all i) (texts (drop (i + 1) all)) are_front none lines are room
-    (e ∙ texts_at all i within ∙ ap (λ (ts : List (List ℕ)). ts ++ text_at all i ∷ texts (drop (i + 1) all)) (sym read))
+    → (lines : List Line) → AreLines [] lines × (length (made lines) ≤ handles) × (map line_text lines ≡ texts all) → ⊥
+stuck_at front handles i all within are_front read none lines is =
+    is_stuck front handles (text_at all i) (texts (drop (i + 1) all)) are_front none lines is.0 is.1
+    (is.2 ∙ texts_at all i within ∙ ap (λ (ts : List (List ℕ)). ts ++ text_at all i ∷ texts (drop (i + 1) all)) (sym read))
 
 -- one more line was read
 pub record FrontIsRead (front : List Line) (handles i : ℕ) (all : List (Bor (List ℕ))) : Type 0 where

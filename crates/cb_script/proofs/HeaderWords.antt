@@ -19,9 +19,9 @@ text_at_is words i within = get_or-map (λ (word : Bor (List ℕ)). word.now) wo
 
 -- no header has these words, where the word at a place is no setting of that name
 pub header_lacks : (words : List (Bor (List ℕ))) (i : ℕ) (name : List ℕ) (field : Config → ℕ) → ((c : Config) → AreNumbers c → field c < 10 ^ 9) → ((c : Config) → get_or (header_words c) i [] ≡ setting name (field c))
-    → i < length words → ((n : ℕ) → n < 10 ^ 9 → text_at words i ≡ setting name n → ⊥) → (c : Config) → AreNumbers c → texts words ≡ header_words c → ⊥
-header_lacks words i name field small is within none c numbers e =
-    none (field c) (small c numbers) (sym (text_at_is words i within) ∙ ap (λ (ws : List (List ℕ)). get_or ws i []) e ∙ is c)
+    → i < length words → ((n : ℕ) → (n < 10 ^ 9) × (text_at words i ≡ setting name n) → ⊥) → (c : Config) → AreNumbers c × (texts words ≡ header_words c) → ⊥
+header_lacks words i name field small is within none c header =
+    none (field c) (small c header.0, sym (text_at_is words i within) ∙ ap (λ (ws : List (List ℕ)). get_or ws i []) header.1 ∙ is c)
 
 nine_words : (ws : List (List ℕ)) → length ws ≡ 9
     → ws ≡ get_or ws 0 [] ∷ get_or ws 1 [] ∷ get_or ws 2 [] ∷ get_or ws 3 [] ∷ get_or ws 4 [] ∷ get_or ws 5 [] ∷ get_or ws 6 [] ∷ get_or ws 7 [] ∷ get_or ws 8 [] ∷ []

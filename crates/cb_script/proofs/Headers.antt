@@ -1,15 +1,13 @@
 -- The header: its text has one reading, and which configurations are accepted.
-use Rattle.std.proofs.Common.{◌≡◌, ◌==◌, ℕ, ◌^◌, ◌<◌, true, false, List, [], ◌∷◌, get_or, Result, Ok, Err, Bor, sym, ap, ◌∙◌, arith}
-use Rattle.std.specs.Prelude.{codes, MatchResult, is_err}
+use Rattle.std.proofs.Common.{◌≡◌, ◌==◌, ℕ, ◌^◌, ◌<◌, List, [], ◌∷◌, get_or, Bor, sym, ap, ◌∙◌, arith}
+use Rattle.std.specs.Prelude.{codes}
 use Rattle.std.specs.Fmt.{decimal}
 use Rattle.std.specs.List.{join_with_byte, slice_split}
-use Rattle.std.proofs.lemmas.Bool.{true≢false}
 use Rattle.std.proofs.lemmas.Fmt.{decimal_injective}
 use Rattle.std.proofs.lemmas.List.{append_cancel_left}
 use Rattle.std.proofs.lemmas.List.Splits.{join_with_byte-slice_split}
-use Rattle.cb_types.specs.Config.{IsAccepted, IsFirstOutOfRange}
+use Rattle.cb_types.specs.Config.{IsAccepted}
 use Rattle.cb_types.specs.declared.config.Config.{Config}
-use Rattle.cb_types.specs.declared.config.Field.{Field}
 use Rattle.cb_types.specs.declared.config.Field.TheVariants.{K, R, Nodes, Frames, Room, Handles, Turns}
 use Rattle.cb_script.specs.Spelling.{setting, header_words}
 use Rattle.cb_script.specs.Next.{header_text}
@@ -70,14 +68,6 @@ AreNumbers-from_accepted c accepted =
     let handles = accepted Handles in
     let turns = accepted Turns in
     record { k = omega arith; r = omega arith; nodes = omega arith; frames = omega arith; room = omega arith; handles = omega arith; turns = omega arith }
-
-pub accepted_from_check : (c : Config) (checked : Result Unit Field) → MatchResult checked (λ _. IsAccepted c) (λ field. IsFirstOutOfRange c field) → is_err checked ≡ false → IsAccepted c
-accepted_from_check c (Ok u) h e = h
-accepted_from_check c (Err field) h e = absurd (true≢false e)
-
-pub refused_from_check : (c : Config) (checked : Result Unit Field) → MatchResult checked (λ _. IsAccepted c) (λ field. IsFirstOutOfRange c field) → is_err checked ≡ true → IsAccepted c → ⊥
-refused_from_check c (Ok u) h e accepted = true≢false (sym e)
-refused_from_check c (Err field) h e accepted = h.out (accepted field)
 
 -- two accepted configurations with one text are one configuration
 pub header_unique : (c d : Config) → IsAccepted c → IsAccepted d → header_text c ≡ header_text d → c ≡ d

@@ -71,8 +71,8 @@ module _ (known : List (List ℕ)) (handles : ℕ) (name text : List ℕ) where
   make_needs_handle full (Make n bytes) stands = omega (arith, stands.room, length_push known n)
   make_needs_handle full (Read n) stands = absurd (cc (stands.spelled))
 
-  pub make_needs_contents : ((bytes : List ℕ) → IsContents bytes → text ≡ encode_lower bytes → ⊥) → (r : Request) → MayStand known handles (codes "make" ∷ name ∷ text ∷ []) r → ⊥
-  make_needs_contents none (Make n bytes) stands = let e : text ≡ encode_lower bytes = cc (stands.spelled) in none bytes stands.request.1 e
+  pub make_needs_contents : ((bytes : List ℕ) → IsContents bytes × (text ≡ encode_lower bytes) → ⊥) → (r : Request) → MayStand known handles (codes "make" ∷ name ∷ text ∷ []) r → ⊥
+  make_needs_contents none (Make n bytes) stands = let e : text ≡ encode_lower bytes = cc (stands.spelled) in none bytes (stands.request.1, e)
   make_needs_contents none (Read n) stands = absurd (cc (stands.spelled))
 
   pub make_stands : (bytes : List ℕ) → IsName name → (Contains known name → ⊥) → length known < handles → IsContents bytes → text ≡ encode_lower bytes

@@ -67,11 +67,11 @@ script_read bytes text mode s opens cut form short =
 script_same : (s t : Script) → s.config ≡ t.config → s.lines ≡ t.lines → s ≡ t
 script_same s t configs lines = λ i. record { config = configs i; lines = lines i }
 
-pub script_unique : (s t : Script) → IsScript s → IsScript t → script_pieces s ≡ script_pieces t → s ≡ t
-script_unique s t hs ht e =
+pub script_unique : (s t : Script) → IsAccepted s.config → IsAccepted t.config → AreLines [] s.lines → AreLines [] t.lines → script_pieces s ≡ script_pieces t → s ≡ t
+script_unique s t s_accepted t_accepted s_lines t_lines e =
     let headers : header_text s.config ≡ header_text t.config = cc in
     let texts : map line_text s.lines ≡ map line_text t.lines = cc in
-    script_same s t (header_unique s.config t.config hs.config ht.config headers) (lines_unique [] s.lines t.lines hs.lines ht.lines texts)
+    script_same s t (header_unique s.config t.config s_accepted t_accepted headers) (lines_unique [] s.lines t.lines s_lines t_lines texts)
 
 -- ---- as code reads it
 
@@ -98,26 +98,40 @@ no_pieces items view text cut same none bytes mode s opens spells =
 
 -- no script has these lines, where the header's configuration is another's
 pub lines_lacking : (bytes header : List ℕ) (others : List (List ℕ)) (c : Config) → IsCut bytes header others → IsAccepted c → header ≡ header_text c
-    → ((lines : List Line) → AreLines [] lines → length (made lines) ≤ c.handles → map line_text lines ≡ others → ⊥) → (mode : Mode) (s : Script) → Spells bytes mode s → ⊥
+    → ((lines : List Line) → AreLines [] lines × (length (made lines) ≤ c.handles) × (map line_text lines ≡ others) → ⊥) → (mode : Mode) (s : Script) → Spells bytes mode s → ⊥
 lines_lacking bytes header others c cut accepted is none mode s spells =
     let same = header_unique s.config c spells.form.config accepted (sym (header_spelled bytes header others mode s cut spells) ∙ is) in
-    none s.lines spells.form.lines (subst (λ (d : Config). length (made s.lines) ≤ d.handles) same spells.form.room) (lines_spelled bytes header others mode s cut spells)
+    none s.lines (spells.form.lines, subst (λ (d : Config). length (made s.lines) ≤ d.handles) same spells.form.room, lines_spelled bytes header others mode s cut spells)
 
 pub too_many_lines : (bytes header : List ℕ) (others : List (Bor (List ℕ))) (mode : Mode) (s : Script) → IsCut bytes header (map (λ piece. piece.now) others) → 20000 < length others → Spells bytes mode s → ⊥
 too_many_lines bytes header others mode s cut many spells =
     omega (arith, many, spells.form.few, length-map s.lines line_text, length-map others (λ (piece : Bor (List ℕ)). piece.now), ap (λ (ts : List (List ℕ)). length ts) (lines_spelled bytes header (map (λ piece. piece.now) others) mode s cut spells))
 
--- lines of the texts behind a header make a script, and there is no other
+-- the lines are those of these texts
+abbrev pub AreLinesOf : List (Bor (List ℕ)) → ℕ → List Line → Type 0
+AreLinesOf texts handles lines = AreLines [] lines × (length (made lines) ≤ handles) × (map line_text lines ≡ map (λ text. text.now) texts)
+
+pieces_are : (bytes header : List ℕ) (others : List (Bor (List ℕ))) (s : Script) (cut : IsCut bytes header (map (λ piece. piece.now) others)) → header ≡ header_text s.config → map line_text s.lines ≡ map (λ piece. piece.now) others
+    → slice_split (λ b. b == 10) cut.text ≡ script_pieces s
+pieces_are bytes header others s cut header_is lines_are =
+    cut.cut ∙ ap (λ (h : List ℕ). h ∷ map (λ piece. piece.now) others) header_is ∙ ap (λ (ts : List (List ℕ)). header_text s.config ∷ ts) (sym lines_are)
+
+-- a header and the lines of the texts behind it are a script
 pub script_found : (bytes header : List ℕ) (others : List (Bor (List ℕ))) (s : Script) → IsCut bytes header (map (λ piece. piece.now) others) → length bytes ≤ 1048576 → length others ≤ 20000 → IsAccepted s.config → header ≡ header_text s.config
-    → AreLines [] s.lines → length (made s.lines) ≤ s.config.handles → map line_text s.lines ≡ map (λ piece. piece.now) others → (mode : Mode) → Spells bytes mode s × ((other : Script) → Spells bytes mode other → s ≡ other)
-script_found bytes header others s cut short few accepted header_is are room lines_are mode =
+    → AreLinesOf others s.config.handles s.lines → (mode : Mode) → Spells bytes mode s
+script_found bytes header others s cut short few accepted header_is lines mode =
+    let counts = ap (λ (ts : List (List ℕ)). length ts) lines.2 in
     let form : IsScript s = record {
       config = accepted;
-      few = omega (arith, few, length-map s.lines line_text, length-map others (λ (piece : Bor (List ℕ)). piece.now), ap (λ (ts : List (List ℕ)). length ts) lines_are);
-      lines = are;
-      room = room;
+      few = omega (arith, few, length-map s.lines line_text, length-map others (λ (piece : Bor (List ℕ)). piece.now), counts);
+      lines = lines.0;
+      room = lines.1;
     } in
-    let pieces : slice_split (λ b. b == 10) cut.text ≡ script_pieces s = cut.cut ∙ ap (λ (h : List ℕ). h ∷ map (λ piece. piece.now) others) header_is ∙ ap (λ (ts : List (List ℕ)). header_text s.config ∷ ts) (sym lines_are) in (
-      script_read bytes cut.text mode s cut.opens pieces form short,
-      λ other spells. script_unique s other form spells.form (sym pieces ∙ pieces_spelled bytes cut.text mode other cut.opens spells),
-    )
+    script_read bytes cut.text mode s cut.opens (pieces_are bytes header others s cut header_is lines.2) form short
+
+-- and there is no other
+pub script_one : (bytes header : List ℕ) (others : List (Bor (List ℕ))) (s : Script) → IsCut bytes header (map (λ piece. piece.now) others) → IsAccepted s.config → header ≡ header_text s.config → AreLinesOf others s.config.handles s.lines
+    → (mode : Mode) (other : Script) → Spells bytes mode other → s ≡ other
+script_one bytes header others s cut accepted header_is lines mode other spells =
+    script_unique s other accepted spells.form.config lines.0 spells.form.lines
+    (sym (pieces_are bytes header others s cut header_is lines.2) ∙ pieces_spelled bytes cut.text mode other cut.opens spells)

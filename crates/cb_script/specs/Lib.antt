@@ -1,6 +1,7 @@
 pub mod Spelling
 pub mod Form
 pub mod Cut
+pub mod Found
 pub mod Numbers
 pub mod Hexadecimal
 pub mod Shape

@@ -1,10 +1,13 @@
 -- The texts of a header and of lines, and the line that comes next.
 use Rattle.std.specs.Prelude.{◌≡◌, ◌≤◌, ℕ, List, [], ◌∷◌, ◌++◌, length}
+use Rattle.std.specs.Borrow.{Bor}
+use Rattle.std.specs.BTreeSet.{BTreeSet}
 use Rattle.std.specs.List.{join_with_byte}
 use Rattle.cb_script.specs.declared.script.Line.{Line}
 use Rattle.cb_types.specs.declared.config.Config.{Config}
 use Rattle.cb_script.specs.Spelling.{header_words, line_words}
 use Rattle.cb_script.specs.Form.{MayFollow, made}
+use Rattle.cb_script.specs.Known.{HasNames}
 
 -- the bytes of a header without its line feed
 unfoldable pub header_text : Config → List ℕ
@@ -20,3 +23,8 @@ pub record ComesNext (before : List Line) (handles : ℕ) (text : List ℕ) (l :
   pub spelled : text ≡ line_text l
   -- there is a handle for each object
   pub room : length (made (before ++ l ∷ [])) ≤ handles
+
+-- the names are those made on these lines, and there is a handle for each
+pub record IsBehind (names : BTreeSet (Bor (List ℕ))) (handles : ℕ) (before : List Line) : Type 0 where
+  pub known : HasNames names (made before)
+  pub room : length (made before) ≤ handles

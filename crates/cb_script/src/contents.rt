@@ -1,6 +1,7 @@
-ghost use Rattle.std.specs.Prelude.{◌≡◌, ◌<◌, ◌%◌, ◌↔◌, ℕ, List, All, length, IsTrue, IfOk, MatchOption};
+ghost use Rattle.std.specs.Prelude.{◌≡◌, ◌↔◌, IsTrue, IfOk};
 ghost use Rattle.hex.specs.Hex.{encode_lower};
 ghost use Rattle.cb_script.specs.Form.{IsContents};
+ghost use Rattle.cb_script.specs.Found.{Finds};
 ghost use Rattle.cb_script.specs.Hexadecimal.{IsLowerDigit, IsHexadecimal};
 
 use cb_types::{Bytes, NoMemory};
@@ -11,7 +12,7 @@ const LONGEST_CONTENTS: usize = 1024;
 
 /// The bytes that a make gives its object: 1 to 1,024 of them, in lower-case hexadecimal.
 pub(crate) fn contents_of(alloc: Global, text: &[u8]) -> Result<Option<Bytes>, NoMemory>
-    ensures { IfOk result (λ found. MatchOption found ((bytes : List ℕ) → IsContents bytes → text.now ≡ encode_lower bytes → ⊥) (λ bytes. IsContents bytes × (text.now ≡ encode_lower bytes))) }
+    ensures { IfOk result (λ found. Finds found (λ bytes. IsContents bytes × (text.now ≡ encode_lower bytes))) }
 {
     if !is_hexadecimal(text) || text.len() / 2 > LONGEST_CONTENTS {
         return Ok(None);

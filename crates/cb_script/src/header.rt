@@ -1,7 +1,7 @@
-ghost use Rattle.std.specs.Prelude.{◌≡◌, map, IfOk, MatchOption};
+ghost use Rattle.std.specs.Prelude.{◌≡◌, map, IfOk};
 ghost use Rattle.cb_types.specs.Config.{IsAccepted};
-ghost use Rattle.cb_types.specs.declared.config.Config.{Config};
 ghost use Rattle.cb_script.specs.Spelling.{header_words};
+ghost use Rattle.cb_script.specs.Found.{Finds};
 ghost use Rattle.cb_script.specs.Next.{header_text};
 ghost use Rattle.cb_script.specs.Numbers.{AreNumbers};
 
@@ -12,21 +12,21 @@ use std::alloc::Global;
 
 /// The configuration that a header of this text sets, where it is accepted.
 pub(crate) fn accepted_config_of(alloc: Global, text: &[u8]) -> Result<Option<Config>, NoMemory>
-    ensures { IfOk result (λ found. MatchOption found ((c : Config) → IsAccepted c → text.now ≡ header_text c → ⊥) (λ c. IsAccepted c × (text.now ≡ header_text c))) }
+    ensures { IfOk result (λ found. Finds found (λ c. IsAccepted c × (text.now ≡ header_text c))) }
 {
     let words = pieces_between(alloc, b' ', text)?;
     let Some(config) = config_of(words.as_slice()) else {
         return Ok(None);
     };
-    if config.check().is_err() {
-        return Ok(None);
+    match config.check() {
+        Ok(()) => Ok(Some(config)),
+        Err(_) => Ok(None),
     }
-    Ok(Some(config))
 }
 
 /// The configuration that the words of a header set, whether or not it is accepted.
 fn config_of(words: &[&[u8]]) -> Option<Config>
-    ensures { MatchOption result ((c : Config) → AreNumbers c → map (λ word. word.now) words.now ≡ header_words c → ⊥) (λ c. AreNumbers c × (map (λ word. word.now) words.now ≡ header_words c)) }
+    ensures { Finds result (λ c. AreNumbers c × (map (λ word. word.now) words.now ≡ header_words c)) }
 {
     let [carbink, version, k, r, nodes, frames, room, handles, turns] = words else {
         return None;

@@ -1,6 +1,6 @@
-ghost use Rattle.std.specs.Prelude.{◌≡◌, ◌+◌, ◌≤◌, ◌∷◌, [], ◌++◌, codes, ℕ, List, length, IfOk, MatchOption};
-ghost use Rattle.cb_types.specs.declared.answer.Request.{Request};
+ghost use Rattle.std.specs.Prelude.{◌≡◌, ◌≤◌, ◌∷◌, [], ◌++◌, codes, ℕ, List, length, IfOk, IfSome};
 ghost use Rattle.cb_script.specs.Known.{has_name, HasNames, MayStand};
+ghost use Rattle.cb_script.specs.Found.{Finds};
 ghost use Rattle.cb_script.specs.Shape.{shape_words};
 ghost use Rattle.cb_script.specs.Form.{names_made};
 
@@ -19,7 +19,10 @@ pub(crate) fn request_of<'a>(
     handles: u32,
     shape: Shape<'a>,
 ) -> Result<Option<Request>, NoMemory>
-    ensures { IfOk result (λ found. (known : List (List ℕ)) → HasNames names.old known → length known ≤ handles → MatchOption found ((r : Request) → MayStand known handles (shape_words shape.entry) r → ⊥) (λ r. MayStand known handles (shape_words shape.entry) r × HasNames names.new (known ++ names_made r))) }
+    ensures request { (known : List (List ℕ)) → HasNames names.old known → length known ≤ handles
+        → IfOk result (λ found. Finds found (MayStand known handles (shape_words shape.entry))) }
+    ensures names { (known : List (List ℕ)) → HasNames names.old known
+        → IfOk result (λ found. IfSome found (λ r. HasNames names.new (known ++ names_made r))) }
 {
     match shape {
         Shape::Make { name, text } => make_of(alloc, names, handles, name, text),
@@ -34,9 +37,12 @@ fn make_of<'a>(
     name: &'a [u8],
     text: &[u8],
 ) -> Result<Option<Request>, NoMemory>
-    ensures { IfOk result (λ found. (known : List (List ℕ)) → HasNames names.old known → MatchOption found ((r : Request) → MayStand known handles (codes "make" ∷ name.entry.now ∷ text.now ∷ []) r → ⊥) (λ r. MayStand known handles (codes "make" ∷ name.entry.now ∷ text.now ∷ []) r × HasNames names.new (known ++ names_made r))) }
+    ensures request { (known : List (List ℕ)) → HasNames names.old known
+        → IfOk result (λ found. Finds found (MayStand known handles (codes "make" ∷ name.entry.now ∷ text.now ∷ []))) }
+    ensures names { (known : List (List ℕ)) → HasNames names.old known
+        → IfOk result (λ found. IfSome found (λ r. HasNames names.new (known ++ names_made r))) }
 {
-    if !is_name(name) || names.contains(name) || names.len() >= handles as usize {
+    if !is_name(name) || is_known(names, name) || names.len() >= handles as usize {
         return Ok(None);
     }
     let Some(bytes) = contents_of(alloc, text)? else {
@@ -48,11 +54,21 @@ fn make_of<'a>(
 }
 
 fn read_of(alloc: Global, names: &BTreeSet<&[u8]>, name: &[u8]) -> Result<Option<Request>, NoMemory>
-    ensures { (handles : ℕ) → IfOk result (λ found. (known : List (List ℕ)) → HasNames names.now known → length known ≤ handles → MatchOption found ((r : Request) → MayStand known handles (codes "read" ∷ name.now ∷ []) r → ⊥) (λ r. MayStand known handles (codes "read" ∷ name.now ∷ []) r × HasNames names.now (known ++ names_made r))) }
+    ensures request { (known : List (List ℕ)) (handles : ℕ) → HasNames names.now known → length known ≤ handles
+        → IfOk result (λ found. Finds found (MayStand known handles (codes "read" ∷ name.now ∷ []))) }
+    ensures names { (known : List (List ℕ)) → HasNames names.now known
+        → IfOk result (λ found. IfSome found (λ r. HasNames names.now (known ++ names_made r))) }
 {
-    if !is_name(name) || !names.contains(name) {
+    if !is_name(name) || !is_known(names, name) {
         return Ok(None);
     }
     let name = Name::copy_of(alloc, name)?;
     Ok(Some(Request::Read { name }))
+}
+
+/// Whether the name was made on a line before.
+fn is_known(names: &BTreeSet<&[u8]>, name: &[u8]) -> bool
+    ensures { result ≡ has_name names.now name.now }
+{
+    names.contains(name)
 }

@@ -1,9 +1,10 @@
-ghost use Rattle.std.specs.Prelude.{◌≡◌, ◌+◌, ◌≤◌, ◌∷◌, ◌++◌, [], List, length, IfOk, MatchOption};
+ghost use Rattle.std.specs.Prelude.{◌≡◌, ◌+◌, ◌∷◌, ◌++◌, [], List, length, IfOk, IfSome};
 ghost use Rattle.std.specs.Fmt.{decimal};
 ghost use Rattle.cb_script.specs.declared.script.Line.{Line};
 ghost use Rattle.cb_script.specs.Form.{made};
 ghost use Rattle.cb_script.specs.Known.{HasNames};
-ghost use Rattle.cb_script.specs.Next.{ComesNext};
+ghost use Rattle.cb_script.specs.Found.{Finds};
+ghost use Rattle.cb_script.specs.Next.{ComesNext, IsBehind};
 
 use crate::cut::pieces_between;
 use crate::known::request_of;
@@ -23,7 +24,10 @@ pub(crate) fn line_of<'a>(
     number: u32,
     text: &'a [u8],
 ) -> Result<Option<Line>, NoMemory>
-    ensures { IfOk result (λ found. (before : List Line) → HasNames names.old (made before) → length (made before) ≤ handles → number ≡ length before + 2 → MatchOption found ((l : Line) → ComesNext before handles text.entry.now l → ⊥) (λ l. ComesNext before handles text.entry.now l × HasNames names.new (made (before ++ l ∷ [])))) }
+    ensures line { (before : List Line) → IsBehind names.old handles before → number ≡ length before + 2
+        → IfOk result (λ found. Finds found (ComesNext before handles text.entry.now)) }
+    ensures names { (before : List Line) → IsBehind names.old handles before
+        → IfOk result (λ found. IfSome found (λ l. HasNames names.new (made (before ++ l ∷ [])))) }
 {
     let words = pieces_between(alloc, b' ', text)?;
     let Some((lane, words)) = words.split_first() else {
@@ -47,7 +51,7 @@ pub(crate) fn line_of<'a>(
 
 /// The lane that the word spells. There is one lane yet, lane 1.
 fn lane_of(word: &[u8]) -> Option<Lane>
-    ensures { MatchOption result (word.now ≡ decimal 1 → ⊥) (λ lane. (lane.n ≡ 1) × (word.now ≡ decimal 1)) }
+    ensures { Finds result (λ lane. (lane.n ≡ 1) × (word.now ≡ decimal lane.n)) }
 {
     match number_of(word) {
         Some(1) => Some(Lane { n: 1 }),

@@ -1,7 +1,7 @@
-ghost use Rattle.std.specs.Prelude.{◌≡◌, ◌≤◌, ◌⊎◌, List, [], length, map, IfOk, IfErr, Ok, Err, MatchOption};
-ghost use Rattle.cb_script.specs.declared.script.Line.{Line};
+ghost use Rattle.std.specs.Prelude.{◌≡◌, ◌≤◌, ◌⊎◌, List, [], length, map, IfOk, IfErr, IfSome, Ok, Err};
 ghost use Rattle.cb_script.specs.declared.script.Script.{Script};
 ghost use Rattle.cb_script.specs.Form.{AreLines, Spells, made};
+ghost use Rattle.cb_script.specs.Found.{Finds};
 ghost use Rattle.cb_script.specs.Next.{line_text};
 ghost use Rattle.cb_script.specs.declared.script.Mode.{Mode};
 
@@ -36,7 +36,9 @@ pub fn read_script(alloc: Global, bytes: &[u8], mode: Mode) -> Result<Script, Sc
 }
 
 fn script_of(alloc: Global, bytes: &[u8]) -> Result<Option<Script>, NoMemory>
-    ensures { IfOk result (λ found. MatchOption found ((mode : Mode) (script : Script) → Spells bytes.now mode script → ⊥) (λ script. (mode : Mode) → Spells bytes.now mode script × ((other : Script) → Spells bytes.now mode other → script ≡ other))) }
+    ensures script { (mode : Mode) → IfOk result (λ found. Finds found (Spells bytes.now mode)) }
+    ensures one { (mode : Mode) (other : Script) → Spells bytes.now mode other
+        → IfOk result (λ found. IfSome found (λ script. script ≡ other)) }
 {
     if bytes.len() > LONGEST_SCRIPT {
         return Ok(None);
@@ -60,7 +62,8 @@ fn script_of(alloc: Global, bytes: &[u8]) -> Result<Option<Script>, NoMemory>
 /// The lines of these texts, where each may stand behind those before it.
 fn lines_of<'a>(alloc: Global, handles: u32, texts: &[&'a [u8]]) -> Result<Option<Lines>, NoMemory>
     requires { length texts.now ≤ 20000 }
-    ensures { IfOk result (λ found. MatchOption found ((lines : List Line) → AreLines [] lines → length (made lines) ≤ handles → map line_text lines ≡ map (λ text. text.now) texts.entry.now → ⊥) (λ lines. AreLines [] lines × (length (made lines) ≤ handles) × (map line_text lines ≡ map (λ text. text.now) texts.entry.now))) }
+    ensures { IfOk result (λ found. Finds found (λ lines. AreLines [] lines × (length (made lines) ≤ handles)
+        × (map line_text lines ≡ map (λ text. text.now) texts.entry.now))) }
 {
     let mut names = BTreeSet::new(alloc);
     let mut lines = Lines::new(alloc);

@@ -5,7 +5,9 @@ use Rattle.cb_script.proofs.contents.contents_of.Goals as goal
 use Rattle.cb_script.proofs.contents.contents_of.Goals.{then-not-is_hexadecimal-via-then-not-is_hexadecimal, then-not-is_hexadecimal-via-else-not-is_hexadecimal+then-text-gt-LONGEST_CONTENTS}
 
 pub returns-then-not-is_hexadecimal : goal.returns-then-not-is_hexadecimal
-returns-then-not-is_hexadecimal c = λ bytes contents e.
+returns-then-not-is_hexadecimal c = λ bytes is.
+    let contents = is.0 in
+    let e = is.1 in
     let fits = contents_hexadecimal bytes contents in
     elim c.then-not-is_hexadecimal.branch [
       | then-not-is_hexadecimal-via-then-not-is_hexadecimal w ↦

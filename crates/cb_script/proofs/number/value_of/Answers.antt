@@ -7,13 +7,14 @@ use Rattle.cb_script.proofs.number.value_of.Goals as goal
 use Rattle.cb_script.proofs.number.value_of.Goals.{then-not-is_ascii_digit-via-then-not-is_ascii_digit, then-not-is_ascii_digit-via-else-not-is_ascii_digit+then-value-ge100000000}
 
 pub returns-then-not-is_ascii_digit : goal.returns-then-not-is_ascii_digit
-returns-then-not-is_ascii_digit c = λ digits small.
+returns-then-not-is_ascii_digit c = λ n is.
+    let digits = is.1 in
     elim c.then-not-is_ascii_digit.branch [
       | then-not-is_ascii_digit-via-then-not-is_ascii_digit w ↦
           let digit : IsInRange 48 57 (get_or c.args.word.now c.loop-byte.byte-index 0) = digit_at c.args.word.now c.loop-byte.byte-index digits c.loop-byte-test.true in
           search rules
       | then-not-is_ascii_digit-via-else-not-is_ascii_digit+then-value-ge100000000 w ↦
-          too_many c.args.word.now c.loop-byte.byte-index c.loop-byte.value c.loop-byte-test.true c.loop-byte.invariant.value (search rules) small
+          too_many c.args.word.now c.loop-byte.byte-index c.loop-byte.value c.loop-byte-test.true c.loop-byte.invariant.value (search rules) (omega (arith, is.0, is.2))
     ]
 
 pub loop-byte-preserved : goal.loop-byte-preserved

@@ -1,5 +1,6 @@
 use Rattle.std.proofs.Common.{refl, arith}
 use Rattle.std.proofs.lemmas.List.{take_all}
+use Rattle.cb_script.specs.Next.{IsBehind}
 use Rattle.cb_script.proofs.Front.{front_more, stuck_at}
 use Rattle.cb_script.proofs.KnownNames.{no_names}
 use Rattle.cb_script.proofs.read.lines_of.Goals as goal
@@ -15,16 +16,19 @@ loop-text-init c =
 pub returns-in_default : goal.returns-in_default
 returns-in_default c =
     let front = c.loop-text.invariant.front in
-    let none = rw c.in_default.is at (c.in_ok-line.ensures c.loop-text.lines c.loop-text.invariant.names front.room (omega (arith, front.count))) in
+    let behind : IsBehind c.loop-text.names c.args.handles c.loop-text.lines = record { known = c.loop-text.invariant.names; room = front.room } in
+    let none = rw c.in_default.is at (c.in_ok-line.ensures.line c.loop-text.lines behind (omega (arith, front.count))) in
     stuck_at c.loop-text.lines c.args.handles c.loop-text.text-index c.args.texts.now c.loop-text-test.true front.are front.read none
 
 pub loop-text-preserved : goal.loop-text-preserved
 loop-text-preserved c =
     let front = c.loop-text.invariant.front in
-    let some = rw c.in-Some.is at (c.in_ok-line.ensures c.loop-text.lines c.loop-text.invariant.names front.room (omega (arith, front.count))) in
+    let behind : IsBehind c.loop-text.names c.args.handles c.loop-text.lines = record { known = c.loop-text.invariant.names; room = front.room } in
+    let next = rw c.in-Some.is at (c.in_ok-line.ensures.line c.loop-text.lines behind (omega (arith, front.count))) in
+    let names = rw c.in-Some.is at (c.in_ok-line.ensures.names c.loop-text.lines behind) in
     rw c.in_ok-push.ensures.ok (record {
-      front = front_more c.loop-text.lines c.args.handles c.loop-text.text-index c.args.texts.now c.in-Some.line front c.loop-text-test.true some.0;
-      names = some.1;
+      front = front_more c.loop-text.lines c.args.handles c.loop-text.text-index c.args.texts.now c.in-Some.line front c.loop-text-test.true next;
+      names = names;
       number = omega arith;
     })
 
