@@ -5,10 +5,7 @@ use Rattle.std.proofs.lemmas.List.{append-nil}
 use Rattle.std.specs.Io.KnownBytes.{Consumes, IsAtEnd}
 use Rattle.cb_script.specs.declared.script.Script.{Script}
 use Rattle.cb_script.specs.declared.script.Mode.TheVariants.{Seq}
-use Rattle.cb_script.specs.declared.fault.Reason.{Reason}
-use Rattle.cb_script.specs.declared.fault.Reason.TheVariants.{Unbuilt}
 use Rattle.cb_script.specs.Form.{Spells}
-use Rattle.cb_app.specs.Texts.{number_of, word_of}
 
 -- where all the bytes spell a script, all were taken
 pub all_taken : (before after : Option (List ℕ)) (bytes taken : List ℕ) (script : Script) → before ≡ Some bytes → Consumes before after taken → IsAtEnd after ⊎ (length taken ≡ 1048577) → Spells bytes Seq script → Spells taken Seq script
@@ -21,13 +18,6 @@ all_taken (Some all) (Some rest) bytes taken script told front whole spelled =
       | inr most ↦ absurd (omega (arith, most, spelled.short, ap length same, length-append taken rest))
     ] in
     subst (λ (l : List ℕ). Spells l Seq script) (same ∙ ap (λ (l : List ℕ). taken ++ l) nothing ∙ append-nil taken) spelled
-
--- there is one reason
-pub number_of_reason : (reason : Reason) → number_of reason ≡ 13
-number_of_reason Unbuilt = refl
-
-pub word_of_reason : (reason : Reason) → word_of reason ≡ codes "unbuilt"
-word_of_reason Unbuilt = refl
 
 -- the parts of the text of a fault, joined from the end
 pub fault_parts : (line number word : List ℕ) → codes "script line " ++ line ++ codes " reason " ++ number ++ codes " " ++ word ++ codes "\n" ≡ codes "script line " ++ (line ++ (codes " reason " ++ (number ++ (codes " " ++ (word ++ codes "\n")))))

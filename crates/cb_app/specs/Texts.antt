@@ -1,15 +1,7 @@
 -- The texts that a run puts.
-use Rattle.std.specs.Prelude.{ℕ, List, [], ◌∷◌, ◌++◌, codes, decimal}
+use Rattle.std.specs.Prelude.{ℕ, List, ◌++◌, codes, decimal}
 use Rattle.cb_script.specs.declared.fault.Reason.{Reason}
-use Rattle.cb_script.specs.declared.fault.Reason.TheVariants.{Unbuilt}
-
--- the number by which a reason is printed
-abbrev pub number_of : Reason → ℕ
-number_of Unbuilt = 13
-
--- the word by which a reason is printed
-abbrev pub word_of : Reason → List ℕ
-word_of Unbuilt = codes "unbuilt"
+use Rattle.cb_script.specs.Reasons.{number_of, word_of}
 
 -- that the words of the command line are refused
 abbrev pub words_refused : List ℕ

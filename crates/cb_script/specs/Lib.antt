@@ -7,3 +7,4 @@ pub mod Hexadecimal
 pub mod Shape
 pub mod Known
 pub mod Next
+pub mod Reasons

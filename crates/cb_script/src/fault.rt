@@ -1,4 +1,4 @@
-ghost use Rattle.std.specs.Prelude.{◌≡◌, codes};
+ghost use Rattle.std.specs.Prelude.{◌≡◌};
 ghost use Rattle.cb_script.specs.declared.fault.ScriptFault.TheVariants.{NoMemory as OutOfMemory};
 
 use cb_types::NoMemory;
@@ -11,9 +11,11 @@ pub enum Reason {
 }
 
 impl Reason {
+    ghost use Rattle.cb_script.specs.Reasons.{number_of, word_of};
+
     /// The number by which the reason is printed.
     pub fn number(&self) -> u32
-        ensures { result ≡ 13 }
+        ensures { result ≡ number_of self.now }
     {
         match self {
             Reason::Unbuilt => 13,
@@ -22,7 +24,7 @@ impl Reason {
 
     /// The word by which the reason is printed.
     pub fn word(&self) -> &'static str
-        ensures { result.now ≡ codes "unbuilt" }
+        ensures { result.now ≡ word_of self.now }
     {
         match self {
             Reason::Unbuilt => "unbuilt",

@@ -51,6 +51,7 @@ impl Lines {
         }
     }
 
+    /// The lines, the first one first.
     pub fn as_slice(&self) -> &[Line]
         ensures items { result.now ≡ self.now }
     {
