@@ -10,7 +10,8 @@ use Rattle.cb_script.specs.Spelling.{request_words}
 use Rattle.cb_script.specs.Form.{MayFollow, AreLines, made, names_made}
 use Rattle.cb_script.specs.Known.{MayStand}
 use Rattle.cb_script.specs.Next.{line_text, ComesNext}
-use Rattle.cb_script.proofs.HeaderWords.{texts, text_at}
+use Rattle.cb_script.proofs.HeaderWords.{text_at}
+use Rattle.cb_script.specs.Cut.{texts}
 use Rattle.cb_script.proofs.Texts.{HasForm-from_follow, line_splits, line_unique}
 
 -- ---- one line

@@ -1,14 +1,11 @@
 -- What a list of words is as a header.
-use Rattle.std.proofs.Common.{◌≡◌, ℕ, ◌^◌, ◌<◌, List, [], ◌∷◌, length, get_or, map, refl, sym, ap, ◌∙◌, arith, Bor}
+use Rattle.std.proofs.Common.{◌≡◌, ℕ, ◌^◌, ◌<◌, List, [], ◌∷◌, length, get_or, refl, sym, ap, ◌∙◌, arith, Bor}
 use Rattle.std.specs.Prelude.{codes}
 use Rattle.std.proofs.lemmas.List.{get_or-map, length-map}
 use Rattle.cb_types.specs.declared.config.Config.{Config}
+use Rattle.cb_script.specs.Cut.{texts}
 use Rattle.cb_script.specs.Spelling.{setting, header_words}
 use Rattle.cb_script.specs.Numbers.{AreNumbers}
-
--- the bytes of borrowed words
-abbrev pub texts : List (Bor (List ℕ)) → List (List ℕ)
-texts words = map (λ word. word.now) words
 
 -- the bytes of the word at a place, as code reads it
 abbrev pub text_at : List (Bor (List ℕ)) → ℕ → List ℕ

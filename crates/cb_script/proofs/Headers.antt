@@ -12,7 +12,7 @@ use Rattle.cb_types.specs.declared.config.Field.TheVariants.{K, R, Nodes, Frames
 use Rattle.cb_script.specs.Spelling.{setting, header_words}
 use Rattle.cb_script.specs.Next.{header_text}
 use Rattle.cb_script.specs.Numbers.{AreNumbers}
-use Rattle.cb_script.proofs.HeaderWords.{texts}
+use Rattle.cb_script.specs.Cut.{texts}
 use Rattle.cb_script.proofs.Pieces.{Lacks, IsFull}
 use Rattle.cb_script.proofs.Texts.{header_is_words, words_split, lacks_feed}
 

@@ -2,10 +2,11 @@
 use Rattle.std.proofs.Common.{◌≡◌, ℕ, ◌+◌, ◌*◌, ◌/◌, ◌%◌, ◌<◌, ◌≤◌, Bool, true, false, ◌&&◌, ◌||◌, not, eqb, leb, List, [], ◌∷◌, length, get_or, Option, Some, None, unwrap_or, Result, Ok, Err, All, inl, inr, refl, sym, ap, ◌∙◌, subst, arith}
 use Rattle.std.proofs.lemmas.List.{get_or_past}
 use Rattle.std.proofs.lemmas.Bool.{cases_lt, agree_below_at, eqb-true, leb-true, le-leb, and_parts, or_cases, and_from, or_left, or_right, true≢false}
-use Rattle.std.proofs.lemmas.List.Elements.{All-nil, All-cons, All-head, All-tail, All-from_get_or, All-get_or}
-use Rattle.hex.specs.Hex.{◌>>=◌, IsBytes, lower_digits, encode_with, encode_lower, hex_digit_value, digit_or_error, value_at, pair_value, decode_pairs, decode_of}
+use Rattle.std.specs.List.{AllPass}
+use Rattle.std.proofs.lemmas.List.Elements.{All-weaker, All-nil, All-cons, All-head, All-tail, All-from_get_or, All-get_or}
+use Rattle.hex.specs.Hex.{◌>>=◌, IsBytes, lower_digits, encode_with, encode_lower, hex_digit_value, digit_or_error, value_at, pair_value, decode_pairs, decode_of, is_hex_digit}
 use Rattle.hex.specs.declared.error.FromHexError.{FromHexError}
-use Rattle.hex.proofs.HexLemmas.{length-encode_with, decode_of-even, decode_of-ok, decode_of-encode_lower}
+use Rattle.hex.proofs.HexLemmas.{length-encode_with, decode_of-digits, decode_of-even, decode_of-ok, decode_of-encode_lower}
 use Rattle.cb_script.specs.Form.{IsContents}
 use Rattle.cb_script.specs.Hexadecimal.{IsLowerDigit, IsHexadecimal}
 
@@ -57,6 +58,12 @@ value_small c v lower e =
 
 digits_are_lower : (d : ℕ) → d < 16 → IsLowerDigit (get_or lower_digits d 0)
 digits_are_lower d small = lower_from_test (get_or lower_digits d 0) (agree_below_at (λ e. is_lower (get_or lower_digits e 0)) (λ _. true) 16 d refl small)
+
+abbrev reads : ℕ → Bool
+reads c = not (is_lower c) || is_hex_digit c
+
+lower_is_digit : (c : ℕ) → IsLowerDigit c → is_hex_digit c ≡ true
+lower_is_digit c lower = from_not (is_lower c) (is_hex_digit c) (agree_below_at reads (λ _. true) 103 c refl (below_103 c lower)) (test_from_lower c lower)
 
 -- ---- from the text to the bytes and back
 
@@ -128,3 +135,11 @@ pub encode_injective : (xs ys : List ℕ) → IsContents xs → IsContents ys �
 encode_injective xs ys x y e =
     let both : Ok xs ≡ Ok ys = sym (decode_of-encode_lower xs (bytes_at xs x.each)) ∙ ap decode_of e ∙ decode_of-encode_lower ys (bytes_at ys y.each) in
     cc
+
+-- such a text decodes
+pub hexadecimal_decodes : (text : List ℕ) (e : FromHexError) → IsHexadecimal text → decode_of text ≡ Err e → ⊥
+hexadecimal_decodes text e hexadecimal refused =
+    let digits : AllPass is_hex_digit text = All-weaker IsLowerDigit (λ c. is_hex_digit c ≡ true) lower_is_digit text hexadecimal.each in
+    let decoded = decode_of-digits text hexadecimal.even digits in
+    let both : ◌≡◌ {A = Result (List ℕ) FromHexError} (Err e) (Ok decoded.0) = sym refused ∙ decoded.1 in
+    absurd cc

@@ -9,7 +9,7 @@ use Rattle.cb_script.specs.declared.script.Mode.{Mode}
 use Rattle.cb_script.specs.declared.script.Script.{Script}
 use Rattle.cb_script.specs.Spelling.{line_of, line_words, script_text}
 use Rattle.cb_script.specs.Form.{AreLines, IsScript, Spells, made}
-use Rattle.cb_script.specs.Cut.{OpensFeed}
+use Rattle.cb_script.specs.Cut.{OpensFeed, texts}
 use Rattle.cb_script.specs.Next.{header_text, line_text}
 use Rattle.cb_script.proofs.Pieces.{AllLack, AreFull, ended_join, pieces_given, pieces_taken}
 use Rattle.cb_script.proofs.Texts.{HasForm-from_follow, line_lacks_feed, line_full}
@@ -70,8 +70,8 @@ script_same s t configs lines = λ i. record { config = configs i; lines = lines
 pub script_unique : (s t : Script) → IsAccepted s.config → IsAccepted t.config → AreLines [] s.lines → AreLines [] t.lines → script_pieces s ≡ script_pieces t → s ≡ t
 script_unique s t s_accepted t_accepted s_lines t_lines e =
     let headers : header_text s.config ≡ header_text t.config = cc in
-    let texts : map line_text s.lines ≡ map line_text t.lines = cc in
-    script_same s t (header_unique s.config t.config s_accepted t_accepted headers) (lines_unique [] s.lines t.lines s_lines t_lines texts)
+    let lines : map line_text s.lines ≡ map line_text t.lines = cc in
+    script_same s t (header_unique s.config t.config s_accepted t_accepted headers) (lines_unique [] s.lines t.lines s_lines t_lines lines)
 
 -- ---- as code reads it
 
@@ -81,8 +81,8 @@ pub record IsCut (bytes header : List ℕ) (others : List (List ℕ)) : Type 0 w
   pub opens : OpensFeed bytes text
   pub cut : slice_split (λ b. b == 10) text ≡ header ∷ others
 
-pub is_cut : (bytes text : List ℕ) (items view : List (Bor (List ℕ))) (header : Bor (List ℕ)) (others : List (Bor (List ℕ))) → OpensFeed bytes text → map (λ piece. piece.now) items ≡ slice_split (λ b. b == 10) text → view ≡ items → view ≡ header ∷ others
-    → IsCut bytes header.now (map (λ piece. piece.now) others)
+pub is_cut : (bytes text : List ℕ) (items view : List (Bor (List ℕ))) (header : Bor (List ℕ)) (others : List (Bor (List ℕ))) → OpensFeed bytes text → texts items ≡ slice_split (λ b. b == 10) text → view ≡ items → view ≡ header ∷ others
+    → IsCut bytes header.now (texts others)
 is_cut bytes text items view header others opens cut same first = record { text = text; opens = opens; cut = cut_words items view header others (slice_split (λ b. b == 10) text) cut same first }
 
 pub header_spelled : (bytes header : List ℕ) (others : List (List ℕ)) (mode : Mode) (s : Script) → IsCut bytes header others → Spells bytes mode s → header ≡ header_text s.config
@@ -91,7 +91,7 @@ header_spelled bytes header others mode s cut spells = let both = sym cut.cut �
 pub lines_spelled : (bytes header : List ℕ) (others : List (List ℕ)) (mode : Mode) (s : Script) → IsCut bytes header others → Spells bytes mode s → map line_text s.lines ≡ others
 lines_spelled bytes header others mode s cut spells = let both = sym cut.cut ∙ pieces_spelled bytes cut.text mode s cut.opens spells in cc (both)
 
-pub no_pieces : (items view : List (Bor (List ℕ))) (text : List ℕ) → map (λ piece. piece.now) items ≡ slice_split (λ b. b == 10) text → view ≡ items → length view ≡ 0 → (bytes : List ℕ) (mode : Mode) (s : Script) → OpensFeed bytes text → Spells bytes mode s → ⊥
+pub no_pieces : (items view : List (Bor (List ℕ))) (text : List ℕ) → texts items ≡ slice_split (λ b. b == 10) text → view ≡ items → length view ≡ 0 → (bytes : List ℕ) (mode : Mode) (s : Script) → OpensFeed bytes text → Spells bytes mode s → ⊥
 no_pieces items view text cut same none bytes mode s opens spells =
     let pieces = ap (λ (ws : List (List ℕ)). length ws) (cut ∙ pieces_spelled bytes text mode s opens spells) in
     omega (arith, pieces, ap (λ (ws : List (Bor (List ℕ))). length ws) same, none, length-map items (λ (piece : Bor (List ℕ)). piece.now))
@@ -103,21 +103,21 @@ lines_lacking bytes header others c cut accepted is none mode s spells =
     let same = header_unique s.config c spells.form.config accepted (sym (header_spelled bytes header others mode s cut spells) ∙ is) in
     none s.lines (spells.form.lines, subst (λ (d : Config). length (made s.lines) ≤ d.handles) same spells.form.room, lines_spelled bytes header others mode s cut spells)
 
-pub too_many_lines : (bytes header : List ℕ) (others : List (Bor (List ℕ))) (mode : Mode) (s : Script) → IsCut bytes header (map (λ piece. piece.now) others) → 20000 < length others → Spells bytes mode s → ⊥
+pub too_many_lines : (bytes header : List ℕ) (others : List (Bor (List ℕ))) (mode : Mode) (s : Script) → IsCut bytes header (texts others) → 20000 < length others → Spells bytes mode s → ⊥
 too_many_lines bytes header others mode s cut many spells =
-    omega (arith, many, spells.form.few, length-map s.lines line_text, length-map others (λ (piece : Bor (List ℕ)). piece.now), ap (λ (ts : List (List ℕ)). length ts) (lines_spelled bytes header (map (λ piece. piece.now) others) mode s cut spells))
+    omega (arith, many, spells.form.few, length-map s.lines line_text, length-map others (λ (piece : Bor (List ℕ)). piece.now), ap (λ (ts : List (List ℕ)). length ts) (lines_spelled bytes header (texts others) mode s cut spells))
 
--- the lines are those of these texts
+-- the lines are those of these pieces
 abbrev pub AreLinesOf : List (Bor (List ℕ)) → ℕ → List Line → Type 0
-AreLinesOf texts handles lines = AreLines [] lines × (length (made lines) ≤ handles) × (map line_text lines ≡ map (λ text. text.now) texts)
+AreLinesOf pieces handles lines = AreLines [] lines × (length (made lines) ≤ handles) × (map line_text lines ≡ texts pieces)
 
-pieces_are : (bytes header : List ℕ) (others : List (Bor (List ℕ))) (s : Script) (cut : IsCut bytes header (map (λ piece. piece.now) others)) → header ≡ header_text s.config → map line_text s.lines ≡ map (λ piece. piece.now) others
+pieces_are : (bytes header : List ℕ) (others : List (Bor (List ℕ))) (s : Script) (cut : IsCut bytes header (texts others)) → header ≡ header_text s.config → map line_text s.lines ≡ texts others
     → slice_split (λ b. b == 10) cut.text ≡ script_pieces s
 pieces_are bytes header others s cut header_is lines_are =
-    cut.cut ∙ ap (λ (h : List ℕ). h ∷ map (λ piece. piece.now) others) header_is ∙ ap (λ (ts : List (List ℕ)). header_text s.config ∷ ts) (sym lines_are)
+    cut.cut ∙ ap (λ (h : List ℕ). h ∷ texts others) header_is ∙ ap (λ (ts : List (List ℕ)). header_text s.config ∷ ts) (sym lines_are)
 
 -- a header and the lines of the texts behind it are a script
-pub script_found : (bytes header : List ℕ) (others : List (Bor (List ℕ))) (s : Script) → IsCut bytes header (map (λ piece. piece.now) others) → length bytes ≤ 1048576 → length others ≤ 20000 → IsAccepted s.config → header ≡ header_text s.config
+pub script_found : (bytes header : List ℕ) (others : List (Bor (List ℕ))) (s : Script) → IsCut bytes header (texts others) → length bytes ≤ 1048576 → length others ≤ 20000 → IsAccepted s.config → header ≡ header_text s.config
     → AreLinesOf others s.config.handles s.lines → (mode : Mode) → Spells bytes mode s
 script_found bytes header others s cut short few accepted header_is lines mode =
     let counts = ap (λ (ts : List (List ℕ)). length ts) lines.2 in
@@ -130,7 +130,7 @@ script_found bytes header others s cut short few accepted header_is lines mode =
     script_read bytes cut.text mode s cut.opens (pieces_are bytes header others s cut header_is lines.2) form short
 
 -- and there is no other
-pub script_one : (bytes header : List ℕ) (others : List (Bor (List ℕ))) (s : Script) → IsCut bytes header (map (λ piece. piece.now) others) → IsAccepted s.config → header ≡ header_text s.config → AreLinesOf others s.config.handles s.lines
+pub script_one : (bytes header : List ℕ) (others : List (Bor (List ℕ))) (s : Script) → IsCut bytes header (texts others) → IsAccepted s.config → header ≡ header_text s.config → AreLinesOf others s.config.handles s.lines
     → (mode : Mode) (other : Script) → Spells bytes mode other → s ≡ other
 script_one bytes header others s cut accepted header_is lines mode other spells =
     script_unique s other accepted spells.form.config lines.0 spells.form.lines

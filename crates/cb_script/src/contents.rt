@@ -5,6 +5,7 @@ ghost use Rattle.cb_script.specs.Found.{Finds};
 ghost use Rattle.cb_script.specs.Hexadecimal.{IsLowerDigit, IsHexadecimal};
 
 use cb_types::{Bytes, NoMemory};
+use hex::FromHexError;
 use std::alloc::Global;
 
 /// The longest contents have so many bytes.
@@ -12,15 +13,19 @@ const LONGEST_CONTENTS: usize = 1024;
 
 /// The bytes that a make gives its object: 1 to 1,024 of them, in lower-case hexadecimal.
 pub(crate) fn contents_of(alloc: Global, text: &[u8]) -> Result<Option<Bytes>, NoMemory>
-    ensures { IfOk result (λ found. Finds found (λ bytes. IsContents bytes × (text.now ≡ encode_lower bytes))) }
+    ensures { IfOk result (λ found.
+        Finds found (λ bytes. IsContents bytes × (text.now ≡ encode_lower bytes))) }
 {
     if !is_hexadecimal(text) || text.len() / 2 > LONGEST_CONTENTS {
         return Ok(None);
     }
     match hex::decode(alloc, text) {
         Ok(bytes) => Ok(Some(Bytes::from(bytes))),
-        // The digits were tested, so only memory is wanting.
-        Err(_) => Err(NoMemory),
+        Err(fault) => {
+            // The digits were tested, so only memory can be wanting.
+            prove!(matches!(fault, FromHexError::OutOfMemory));
+            Err(NoMemory)
+        }
     }
 }
 

@@ -1,6 +1,6 @@
-ghost use Rattle.std.specs.Prelude.{◌≡◌, ◌==◌, map, IfOk};
+ghost use Rattle.std.specs.Prelude.{◌≡◌, ◌==◌, IfOk};
 ghost use Rattle.std.specs.List.{slice_split};
-ghost use Rattle.cb_script.specs.Cut.{OpensFeed};
+ghost use Rattle.cb_script.specs.Cut.{OpensFeed, texts};
 
 use cb_types::NoMemory;
 use std::alloc::Global;
@@ -21,7 +21,8 @@ pub(crate) fn pieces_between<'a>(
     separator: u8,
     bytes: &'a [u8],
 ) -> Result<Vec<&'a [u8]>, NoMemory>
-    ensures { IfOk result (λ pieces. map (λ piece. piece.now) pieces.items ≡ slice_split (λ b. b == separator) bytes.entry.now) }
+    ensures { IfOk result (λ pieces.
+        texts pieces.items ≡ slice_split (λ b. b == separator) bytes.entry.now) }
 {
     let pieces = bytes.split(|b| *b == separator).collect(alloc)?;
     Ok(pieces)

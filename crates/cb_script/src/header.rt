@@ -1,6 +1,7 @@
-ghost use Rattle.std.specs.Prelude.{◌≡◌, map, IfOk};
+ghost use Rattle.std.specs.Prelude.{◌≡◌, IfOk};
 ghost use Rattle.cb_types.specs.Config.{IsAccepted};
 ghost use Rattle.cb_script.specs.Spelling.{header_words};
+ghost use Rattle.cb_script.specs.Cut.{texts};
 ghost use Rattle.cb_script.specs.Found.{Finds};
 ghost use Rattle.cb_script.specs.Next.{header_text};
 ghost use Rattle.cb_script.specs.Numbers.{AreNumbers};
@@ -26,7 +27,7 @@ pub(crate) fn accepted_config_of(alloc: Global, text: &[u8]) -> Result<Option<Co
 
 /// The configuration that the words of a header set, whether or not it is accepted.
 fn config_of(words: &[&[u8]]) -> Option<Config>
-    ensures { Finds result (λ c. AreNumbers c × (map (λ word. word.now) words.now ≡ header_words c)) }
+    ensures { Finds result (λ c. AreNumbers c × (texts words.now ≡ header_words c)) }
 {
     let [carbink, version, k, r, nodes, frames, room, handles, turns] = words else {
         return None;

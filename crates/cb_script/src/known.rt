@@ -38,7 +38,8 @@ fn make_of<'a>(
     text: &[u8],
 ) -> Result<Option<Request>, NoMemory>
     ensures request { (known : List (List ℕ)) → HasNames names.old known
-        → IfOk result (λ found. Finds found (MayStand known handles (codes "make" ∷ name.entry.now ∷ text.now ∷ []))) }
+        → IfOk result (λ found.
+        Finds found (MayStand known handles (codes "make" ∷ name.entry.now ∷ text.now ∷ []))) }
     ensures names { (known : List (List ℕ)) → HasNames names.old known
         → IfOk result (λ found. IfSome found (λ r. HasNames names.new (known ++ names_made r))) }
 {
@@ -54,8 +55,8 @@ fn make_of<'a>(
 }
 
 fn read_of(alloc: Global, names: &BTreeSet<&[u8]>, name: &[u8]) -> Result<Option<Request>, NoMemory>
-    ensures request { (known : List (List ℕ)) (handles : ℕ) → HasNames names.now known → length known ≤ handles
-        → IfOk result (λ found. Finds found (MayStand known handles (codes "read" ∷ name.now ∷ []))) }
+    ensures request { (known : List (List ℕ)) (handles : ℕ) → HasNames names.now known
+        → length known ≤ handles → IfOk result (λ found. Finds found (MayStand known handles (codes "read" ∷ name.now ∷ []))) }
     ensures names { (known : List (List ℕ)) → HasNames names.now known
         → IfOk result (λ found. IfSome found (λ r. HasNames names.now (known ++ names_made r))) }
 {

@@ -1,6 +1,7 @@
 ghost use Rattle.std.specs.Prelude.{◌≡◌, ◌≤◌, ◌⊎◌, List, [], length, map, IfOk, IfErr, IfSome, Ok, Err};
 ghost use Rattle.cb_script.specs.declared.script.Script.{Script};
 ghost use Rattle.cb_script.specs.Form.{AreLines, Spells, made};
+ghost use Rattle.cb_script.specs.Cut.{texts};
 ghost use Rattle.cb_script.specs.Found.{Finds};
 ghost use Rattle.cb_script.specs.Next.{line_text};
 ghost use Rattle.cb_script.specs.declared.script.Mode.{Mode};
@@ -43,33 +44,33 @@ fn script_of(alloc: Global, bytes: &[u8]) -> Result<Option<Script>, NoMemory>
     if bytes.len() > LONGEST_SCRIPT {
         return Ok(None);
     }
-    let texts = pieces_between(alloc, b'\n', without_last_feed(bytes))?;
-    let Some((header, texts)) = texts.split_first() else {
+    let pieces = pieces_between(alloc, b'\n', without_last_feed(bytes))?;
+    let Some((header, pieces)) = pieces.split_first() else {
         return Ok(None);
     };
-    if texts.len() > MOST_LINES {
+    if pieces.len() > MOST_LINES {
         return Ok(None);
     }
     let Some(config) = accepted_config_of(alloc, header)? else {
         return Ok(None);
     };
-    let Some(lines) = lines_of(alloc, config.handles, texts)? else {
+    let Some(lines) = lines_of(alloc, config.handles, pieces)? else {
         return Ok(None);
     };
     Ok(Some(Script { config, lines }))
 }
 
-/// The lines of these texts, where each may stand behind those before it.
-fn lines_of<'a>(alloc: Global, handles: u32, texts: &[&'a [u8]]) -> Result<Option<Lines>, NoMemory>
-    requires { length texts.now ≤ 20000 }
-    ensures { IfOk result (λ found. Finds found (λ lines. AreLines [] lines × (length (made lines) ≤ handles)
-        × (map line_text lines ≡ map (λ text. text.now) texts.entry.now))) }
+/// The lines of these pieces, where each may stand behind those before it.
+fn lines_of<'a>(alloc: Global, handles: u32, pieces: &[&'a [u8]]) -> Result<Option<Lines>, NoMemory>
+    requires { length pieces.now ≤ 20000 }
+    ensures { IfOk result (λ found. Finds found (λ lines.
+        AreLines [] lines × (length (made lines) ≤ handles) × (map line_text lines ≡ texts pieces.entry.now))) }
 {
     let mut names = BTreeSet::new(alloc);
     let mut lines = Lines::new(alloc);
     let mut number = 2;
-    for text in texts {
-        let Some(line) = line_of(alloc, &mut names, handles, number, text)? else {
+    for piece in pieces {
+        let Some(line) = line_of(alloc, &mut names, handles, number, piece)? else {
             return Ok(None);
         };
         lines.push(line)?;

@@ -1,6 +1,7 @@
-ghost use Rattle.std.specs.Prelude.{◌≡◌, ◌↔◌, map, IsTrue, MatchOption};
+ghost use Rattle.std.specs.Prelude.{◌≡◌, ◌↔◌, IsTrue, MatchOption};
 ghost use Rattle.cb_types.specs.declared.answer.Request.{Request};
 ghost use Rattle.cb_script.specs.Spelling.{request_words};
+ghost use Rattle.cb_script.specs.Cut.{texts};
 ghost use Rattle.cb_script.specs.Shape.{shape_words};
 
 /// The words of a request by what they are for, each as it stands in the input.
@@ -12,7 +13,8 @@ pub(crate) enum Shape<'a> {
 
 /// The shape of the words behind a lane: the verb, and the words that this verb has.
 pub(crate) fn shape_of<'a>(words: &[&'a [u8]]) -> Option<Shape<'a>>
-    ensures { MatchOption result ((r : Request) → map (λ word. word.now) words.now ≡ request_words r → ⊥) (λ shape. map (λ word. word.now) words.now ≡ shape_words shape) }
+    ensures { MatchOption result ((r : Request) → texts words.now ≡ request_words r → ⊥)
+        (λ shape. texts words.now ≡ shape_words shape) }
 {
     match words {
         [verb, name, text] if is_word(verb, b"make") => Some(Shape::Make { name, text }),

@@ -6,7 +6,7 @@ use Rattle.cb_script.specs.Form.{made}
 use Rattle.cb_script.specs.Shape.{shape_words}
 use Rattle.cb_script.specs.Spelling.{request_words}
 use Rattle.cb_script.proofs.Front.{cut_words, made-push, next_line, next_stands, next_words, no_words}
-use Rattle.cb_script.proofs.HeaderWords.{texts}
+use Rattle.cb_script.specs.Cut.{texts}
 use Rattle.cb_script.proofs.line.line_of.Goals as goal
 
 pub returns-in_default-clause-line : goal.returns-in_default-clause-line

@@ -5,9 +5,9 @@ use Rattle.cb_script.proofs.Front.{FrontIsRead}
 use Rattle.cb_script.proofs.read.lines_of.Given as goal
 
 -- the lines that were read are those of the texts so far, and the names are those made on them
-abbrev pub invariant-loop-text : goal.invariant-loop-text
-invariant-loop-text l = record {
-  front : FrontIsRead l.lines l.handles l.text-index l.texts;
+abbrev pub invariant-loop-piece : goal.invariant-loop-piece
+invariant-loop-piece l = record {
+  front : FrontIsRead l.lines l.handles l.piece-index l.pieces;
   names : HasNames l.names (made l.lines);
-  number : l.number ≡ l.text-index + 2;
+  number : l.number ≡ l.piece-index + 2;
 }
