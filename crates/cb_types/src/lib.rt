@@ -13,10 +13,12 @@ pub mod plain;
 pub mod sink;
 pub mod source;
 pub mod standard;
+pub mod want;
 
 pub use answer::{Answer, Reply, Request};
 pub use answers::Answers;
 pub use bytes::Bytes;
+pub use cb_gf256::Rows;
 pub use cb_member::{Epoch, Loss, Losses, NoMemory, NodeId};
 pub use config::{Config, Field};
 pub use handle::{Handle, Lane};
@@ -26,6 +28,7 @@ pub use plain::{PlainSink, PlainSource};
 pub use sink::{Sent, Sink};
 pub use source::{Source, Took};
 pub use standard::{StdSink, StdSource};
+pub use want::no_memory;
 
 #[cfg(test)]
 mod tests;
