@@ -1,0 +1,10 @@
+pub mod Linear
+pub mod FieldLaws
+pub mod PowerLaws
+pub mod TableLemmas
+pub mod BlockLemmas
+pub mod RowLemmas
+pub mod SumLaws
+pub mod OrderLemmas
+pub mod WorkedVectors
+pub mod PublicLaws

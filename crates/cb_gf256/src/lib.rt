@@ -1,0 +1,17 @@
+//! The field GF(256) of the polynomial x^8+x^4+x^3+x^2+1, its laws, sums of rows of bytes, and what a code word is.
+#![tactic(auto)]
+
+mod field;
+mod laws;
+mod no_memory;
+mod row;
+mod rows;
+mod tables;
+#[cfg(test)]
+mod tests;
+
+pub use field::{add, inv, mul, pow};
+pub use laws::{field_laws, power_laws, powers_of_two, row_laws, sum_laws};
+pub use no_memory::NoMemory;
+pub use row::{axpy_row, xor_row};
+pub use rows::Rows;

@@ -1,0 +1,67 @@
+ghost use Rattle.std.specs.Prelude.{◌≡◌, ◌<◌, [], length, replicate, IfOk};
+ghost use Rattle.std.specs.Borrow.{sem};
+ghost use Rattle.cb_gf256.specs.Rows.{row_at, AreRows};
+ghost use Rattle.cb_gf256.specs.Lends.{LendsRow};
+
+use crate::NoMemory;
+use std::alloc::Global;
+use std::marker::Model;
+
+/// A list of rows of bytes of equal length. The rows lie one after another in one block.
+#[derive(Debug, Drop)]
+pub struct Rows {
+    block: Vec<u8>,
+    count: u32,
+    len: u32,
+}
+
+impl Model for Rows {
+    ghost use Rattle.std.specs.Prelude.{◌≡◌, ◌*◌, ℕ, List, length};
+    ghost use Rattle.cb_gf256.specs.Block.{cut_rows};
+
+    ghost Value = { List (List ℕ) };
+
+    ghost view = { λ r. cut_rows r.count r.len r.block.items };
+
+    ghost invariant = { λ r. length r.block.items ≡ r.count * r.len };
+}
+
+impl Rows {
+    /// `count` rows of `len` bytes, all zero.
+    pub fn new(alloc: Global, count: u32, len: u32) -> Result<Rows, NoMemory>
+        ensures { IfOk result (λ rows. rows ≡ replicate count (replicate len 0)) }
+    {
+        let block = Vec::from_elem(alloc, 0, count as usize * len as usize)?;
+        Ok(Rows { block, count, len })
+    }
+
+    /// How many rows there are.
+    pub fn count(&self) -> u32
+        ensures { result ≡ length self.now }
+    {
+        self.count
+    }
+
+    /// The row at position `i`.
+    pub fn row(&self, i: u32) -> &[u8]
+        requires { i < length self.now }
+        ensures value { result.now ≡ row_at self.now i }
+        ensures rows { AreRows self.now }
+    {
+        let len = self.len as usize;
+        let start = i as usize * len;
+        let block = self.block.as_slice();
+        &block[start..start + len]
+    }
+
+    /// The row at position `i`, to be written to.
+    pub fn row_mut(&mut self, i: u32) -> &mut [u8]
+        requires { i < length self.old }
+        ensures* writes_back { sem 𝓛 (LendsRow self.entry i result) }
+        ensures value { result.now ≡ row_at self.old i }
+    {
+        let len = self.len as usize;
+        let start = i as usize * len;
+        self.block.slice_mut(start..start + len)
+    }
+}
