@@ -1,5 +1,6 @@
 -- The laws of the field. Each is a fact on linear functions, so it is enough to compute it at the powers of 2.
-use Rattle.std.proofs.Common.{◌≡◌, ℕ, zero, suc, ◌/◌, ◌^◌, ◌<◌, Bool, true, ◌&&◌, eqb, refl, ap, ◌∙◌, ⊎_elim, arith}
+use Rattle.std.proofs.Common.{◌≡◌, ℕ, zero, suc, ◌/◌, ◌^◌, ◌<◌, Bool, true, ◌&&◌, eqb, refl, sym, ap, ◌∙◌, ⊎_elim, arith}
+use lib.Bits.{xor_self, xor_assoc, xor_zero_r}
 use Rattle.std.proofs.lemmas.Bool.{and_parts, eqb-true, cases_order}
 use Rattle.std.proofs.lemmas.Nat.{xor_shr, xor_lt}
 use Rattle.cb_gf256.specs.Sum.{◌⊕◌}
@@ -112,3 +113,7 @@ product-lt a b p q =
 
 pub sum-lt : (a b : ℕ) → a < 256 → b < 256 → a ⊕ b < 256
 sum-lt a b p q = xor_lt 8 a b p q
+
+pub same_from_zero_sum : (a b : ℕ) → a ⊕ b ≡ 0 → a ≡ b
+same_from_zero_sum a b h =
+    sym (xor_zero_r a) ∙ ap (λ x. a ⊕ x) (sym (xor_self b)) ∙ sym (xor_assoc a b b) ∙ ap (λ x. x ⊕ b) h

@@ -1,10 +1,10 @@
 -- The laws that other crates cite: each has the name of the clause of a law function that states it.
-pub use Rattle.cb_gf256.proofs.FieldLaws.{sum-lt as sum_is_byte, product-lt as product_is_byte, product_comm as product_commutes, product_assoc as product_associates, product-one as product_with_one, product-zero as product_with_zero}
+pub use Rattle.cb_gf256.proofs.FieldLaws.{sum-lt as sum_is_byte, product-lt as product_is_byte, product_comm as product_commutes, product_assoc as product_associates, product-one as product_with_one, product-zero as product_with_zero, zero-product as zero_with_product, same_from_zero_sum}
 pub use lib.Bits.{xor_comm as sum_commutes, xor_assoc as sum_associates, xor_zero_r as sum_with_zero, xor_self as sum_with_itself}
-pub use Rattle.cb_gf256.proofs.Linear.{product-right as product_distributes, sum_over-same as sum_over_same, sum_over-sum as sum_over_sums}
-pub use Rattle.cb_gf256.proofs.TableLemmas.{inverse as inverse_exists, product_nonzero as product_is_nonzero, product_cancel as factor_cancels, powers_differ as powers_of_two_differ, generated as powers_of_two_generate, power_two_255 as powers_of_two_return, power_nonzero as power_of_nonzero}
-pub use Rattle.cb_gf256.proofs.PowerLaws.{power-lt as power_is_byte, power-zero as power_of_none, power-add-one as power_of_one_more, power-add as power_at_sum, power-mul as power_at_product, power-product as power_of_product}
-pub use Rattle.cb_gf256.proofs.SumLaws.{sum_over-lt as sum_over_is_byte, sum_over-zero as sum_over_zeros, sum_over-add as sum_over_splits, product-sum_over as product_with_sum_over, sum_over-swap as sum_over_swaps}
+pub use Rattle.cb_gf256.proofs.Linear.{product-right as product_distributes, product-left as product_distributes_right, sum_over-same as sum_over_same, sum_over-sum as sum_over_sums}
+pub use Rattle.cb_gf256.proofs.TableLemmas.{power_two-mod as powers_of_two_repeat, inverse as inverse_exists, product_nonzero as product_is_nonzero, product_cancel as factor_cancels, powers_differ as powers_of_two_differ, generated as powers_of_two_generate, power_two_255 as powers_of_two_return, power_nonzero as power_of_nonzero}
+pub use Rattle.cb_gf256.proofs.PowerLaws.{one-product as one_with_product, one-power as power_of_one, zero-power as power_of_zero, power-lt as power_is_byte, power-zero as power_of_none, power-add-one as power_of_one_more, power-add as power_at_sum, power-mul as power_at_product, power-product as power_of_product}
+pub use Rattle.cb_gf256.proofs.SumLaws.{sum_over-product as sum_over_with_product, sum_over-one_term as sum_over_one_term, sum_over-lt as sum_over_is_byte, sum_over-zero as sum_over_zeros, sum_over-add as sum_over_splits, product-sum_over as product_with_sum_over, sum_over-swap as sum_over_swaps}
 pub use Rattle.cb_gf256.proofs.RowLemmas.{length-row_sum as row_sum_length, get_or-row_sum as row_sum_by_byte, row_sum_comm as row_sum_commutes, row_sum_assoc as row_sum_associates, row_sum_zero as row_sum_with_zeros, row_sum_twice as row_added_twice_is_gone, length-scaled_row as scaled_row_length, get_or-scaled_row as scaled_row_by_byte, scaled_row-row_sum as scaled_row_of_sum}
 pub use Rattle.cb_gf256.proofs.OrderLemmas.{fold-IsPermutation as rows_sum_in_any_order}
 pub use Rattle.cb_gf256.proofs.BlockLemmas.{length-with_row as written_count, with_row-set as written_row, HaveLength-with_row as written_lengths}

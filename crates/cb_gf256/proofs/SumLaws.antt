@@ -1,6 +1,7 @@
 -- Sums over positions.
-use Rattle.std.proofs.Common.{◌≡◌, ℕ, zero, suc, ◌+◌, ◌<◌, refl, sym, ap, ap₂, ◌∙◌, arith}
+use Rattle.std.proofs.Common.{◌≡◌, ℕ, zero, suc, ◌+◌, ◌<◌, refl, sym, ap, ap₂, ◌∙◌, ◌≢◌, ⊎_elim, arith}
 use Rattle.std.proofs.Math.Nat.{add-zero, add-suc}
+use Rattle.std.proofs.lemmas.Bool.{cases_eq}
 use lib.Bits.{xor_zero_r, xor_assoc}
 use Rattle.cb_gf256.specs.Sum.{◌⊕◌, sum_over}
 use Rattle.cb_gf256.specs.Product.{◌⊗◌}
@@ -33,3 +34,15 @@ sum_over-add m zero f = ap (λ k. sum_over k f) (add-zero m) ∙ sym (xor_zero_r
 sum_over-add m (suc n) f =
     ap (λ k. sum_over k f) (add-suc m n) ∙ ap (λ x. x ⊕ f (m + n)) (sum_over-add m n f)
     ∙ xor_assoc (sum_over m f) (sum_over n (λ i. f (m + i))) (f (m + n))
+
+-- a sum with one term that is not 0 is that term
+pub sum_over-one_term : (n i : ℕ) (f : ℕ → ℕ) → i < n → ((j : ℕ) → j < n → j ≢ i → f j ≡ 0) → sum_over n f ≡ f i
+sum_over-one_term zero i f h z = absurd (omega arith)
+sum_over-one_term (suc n) i f h z =
+    ⊎_elim
+    (λ same.
+    ap (λ x. x ⊕ f n) (sum_over-zero n f (λ j k. z j (omega arith) (omega arith))) ∙ ap f (sym same))
+    (λ other.
+    ap₂ ◌⊕◌ (sum_over-one_term n i f (omega arith) (λ j k e. z j (omega arith) e)) (z n (omega arith) (λ e. other (sym e)))
+    ∙ xor_zero_r (f i))
+    (cases_eq i n)

@@ -27,7 +27,7 @@ impl Model for Rows {
 }
 
 impl Rows {
-    /// `count` rows of `len` bytes, all zero.
+    /// `count` rows of `len` bytes, all zero. The only error is want of memory.
     pub fn new(alloc: Global, count: u32, len: u32) -> Result<Rows, NoMemory>
         ensures { IfOk result (λ rows. rows ≡ replicate count (replicate len 0)) }
     {

@@ -1,4 +1,4 @@
-use Rattle.cb_gf256.proofs.PublicLaws.{sum_is_byte, sum_commutes, sum_associates, sum_with_zero, sum_with_itself, product_is_byte, product_commutes, product_associates, product_with_one, product_with_zero, product_distributes, inverse_exists, product_is_nonzero, factor_cancels}
+use Rattle.cb_gf256.proofs.PublicLaws.{same_from_zero_sum, one_with_product, zero_with_product, product_distributes_right, sum_is_byte, sum_commutes, sum_associates, sum_with_zero, sum_with_itself, product_is_byte, product_commutes, product_associates, product_with_one, product_with_zero, product_distributes, inverse_exists, product_is_nonzero, factor_cancels}
 use Rattle.cb_gf256.proofs.laws.field_laws.Goals as goal
 
 pub returns-clause-sum_is_byte : goal.returns-clause-sum_is_byte
@@ -42,3 +42,15 @@ returns-clause-product_is_nonzero c = product_is_nonzero
 
 pub returns-clause-factor_cancels : goal.returns-clause-factor_cancels
 returns-clause-factor_cancels c = factor_cancels
+
+pub returns-clause-same_from_zero_sum : goal.returns-clause-same_from_zero_sum
+returns-clause-same_from_zero_sum c = same_from_zero_sum
+
+pub returns-clause-one_with_product : goal.returns-clause-one_with_product
+returns-clause-one_with_product c = one_with_product
+
+pub returns-clause-zero_with_product : goal.returns-clause-zero_with_product
+returns-clause-zero_with_product c = zero_with_product
+
+pub returns-clause-product_distributes_right : goal.returns-clause-product_distributes_right
+returns-clause-product_distributes_right c = product_distributes_right
