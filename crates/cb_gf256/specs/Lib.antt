@@ -5,4 +5,7 @@ pub mod Row
 pub mod Rows
 pub mod Block
 pub mod CodeWord
+pub mod Polynomial
+pub mod Lagrange
+pub mod Split
 pub mod Lends
