@@ -10,4 +10,5 @@ pub mod WorkedVectors
 pub mod Polynomials
 pub mod LagrangeLemmas
 pub mod Restoring
+pub mod Splitting
 pub mod PublicLaws

@@ -5,7 +5,8 @@ use lib.Bits.{xor_self}
 use Rattle.cb_gf256.specs.Sum.{◌⊕◌, sum_over}
 use Rattle.cb_gf256.specs.Product.{◌⊗◌}
 use Rattle.cb_gf256.specs.Power.{power}
-use Rattle.cb_gf256.specs.Lagrange.{differences, points, IsLagrangeFactor}
+use Rattle.cb_gf256.specs.Lagrange.{points, IsLagrangeFactor, AreFactors}
+use Rattle.cb_gf256.specs.CodeColumn.{IsCodeColumn}
 use Rattle.cb_gf256.specs.Split.{Splits}
 use Rattle.cb_gf256.proofs.Linear.{sum_over-same}
 use Rattle.cb_gf256.proofs.FieldLaws.{product-zero, zero-product, product_assoc, product-lt, same_from_zero_sum}
@@ -14,11 +15,6 @@ use Rattle.cb_gf256.proofs.TableLemmas.{powers_differ}
 use Rattle.cb_gf256.proofs.SumLaws.{sum_over-lt, product-sum_over, sum_over-product, sum_over-swap, sum_over-add, sum_over-one_term}
 use Rattle.cb_gf256.proofs.Polynomials.{IsPolynomial, IsPolynomial-lt}
 use Rattle.cb_gf256.proofs.LagrangeLemmas.{IsBasis, basis_of, interpolates, polynomial_vanishes}
-
--- c is a column of a code word: n bytes whose syndromes of the powers below r are 0
-pub record IsCodeColumn (n r : ℕ) (c : ℕ → ℕ) : Type 0 where
-  pub bytes : (p : ℕ) → p < n → c p < 256
-  pub syndromes_zero : (j : ℕ) → j < r → sum_over n (λ p. power 2 (p * j) ⊗ c p) ≡ 0
 
 two_power-lt : (m : ℕ) → power 2 m < 256
 two_power-lt m = power-lt 2 m (omega arith)
@@ -67,11 +63,6 @@ made n k r present lost g c small split basis bytes h j l =
     ∙ xor_self (sum_over k (λ i. power 2 (present i * j) ⊗ c (present i)))
 
 -- ---- over the factors of a split
--- w e i is Lagrange's factor of the present position at i for the lost position at e
-pub record AreFactors (k r : ℕ) (present lost : ℕ → ℕ) (w : ℕ → ℕ → ℕ) : Type 0 where
-  pub factor : (e i : ℕ) → e < r → i < k → IsLagrangeFactor r lost e (present i) (w e i)
-  pub bytes : (e i : ℕ) → e < r → i < k → w e i < 256
-
 -- a column of a code word has at each lost position the sum of the present bytes, each times its factor
 pub column_restored : (n k r : ℕ) (present lost : ℕ → ℕ) (w : ℕ → ℕ → ℕ) (c : ℕ → ℕ) → n ≤ 255 → Splits n k r present lost → AreFactors k r present lost w → IsCodeColumn n r c → (e : ℕ) → e < r → c (lost e) ≡ sum_over k (λ i. w e i ⊗ c (present i))
 column_restored n k r present lost w c small split factors column e l =
@@ -103,14 +94,3 @@ columns_agree n k r present lost a b small split at bt same p l =
     ∙ sum_over-same k (λ i. basis.0 m (power 2 (present i)) ⊗ a (present i)) (λ i. basis.0 m (power 2 (present i)) ⊗ b (present i)) (λ i t. ap (λ v. basis.0 m (power 2 (present i)) ⊗ v) (same i t))
     ∙ sym (restored n k r present lost basis.0 b split basis.1 bt m q)))
     (split.covers p l)
-
--- ---- the splits that are used
--- the data positions are present and the parities are lost
-pub splits_parities : (k r : ℕ) → Splits (k + r) k r (λ i. i) (λ e. k + e)
-splits_parities k r = record {
-  present_below = λ i h. omega arith;
-  lost_below = λ e h. omega arith;
-  lost_ascend = λ d e h l. omega arith;
-  covers = λ p h. ⊎_elim (λ l. inl (p, l, refl)) (λ l. let e : k + (p - k) ≡ p = omega arith in inr (p - k, omega arith, e)) (cases_lt p k);
-  sums = λ f. sum_over-add k r f;
-}

@@ -1,4 +1,4 @@
-use Rattle.std.specs.Prelude.{◌≡◌, ℕ, zero, suc, ◌==◌, if◌then◌else◌}
+use Rattle.std.specs.Prelude.{◌≡◌, ℕ, zero, suc, ◌<◌, ◌==◌, if◌then◌else◌}
 use Rattle.cb_gf256.specs.Sum.{◌⊕◌}
 use Rattle.cb_gf256.specs.Product.{◌⊗◌}
 use Rattle.cb_gf256.specs.Power.{power}
@@ -19,3 +19,8 @@ points lost m = power 2 (lost m)
 -- f is the value at position p of Lagrange's polynomial for the lost position at e: it is 1 there and 0 at the other lost positions
 pub record IsLagrangeFactor (count : ℕ) (lost : ℕ → ℕ) (e p f : ℕ) : Type 0 where
   pub quotient : differences count (points lost) e (power 2 (lost e)) ⊗ f ≡ differences count (points lost) e (power 2 p)
+
+-- w e i is Lagrange's factor of the present position at i for the lost position at e
+pub record AreFactors (k r : ℕ) (present lost : ℕ → ℕ) (w : ℕ → ℕ → ℕ) : Type 0 where
+  pub factor : (e i : ℕ) → e < r → i < k → IsLagrangeFactor r lost e (present i) (w e i)
+  pub bytes : (e i : ℕ) → e < r → i < k → w e i < 256

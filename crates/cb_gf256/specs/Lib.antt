@@ -5,6 +5,9 @@ pub mod Row
 pub mod Rows
 pub mod Block
 pub mod CodeWord
+pub mod CodeColumn
+pub mod Positions
+pub mod Combination
 pub mod Polynomial
 pub mod Lagrange
 pub mod Split

@@ -1,8 +1,9 @@
-use Rattle.std.specs.Prelude.{◌≡◌, ℕ, ◌<◌, ◌⊎◌}
+use Rattle.std.specs.Prelude.{◌≡◌, ℕ, ◌+◌, ◌<◌, ◌⊎◌}
 use Rattle.cb_gf256.specs.Sum.{◌⊕◌, sum_over}
 
 -- each position below n is one of the k present ones or one of the r lost ones, and none is both or stands twice
 pub record Splits (n k r : ℕ) (present lost : ℕ → ℕ) : Type 0 where
+  pub count : k + r ≡ n
   pub present_below : (i : ℕ) → i < k → present i < n
   pub lost_below : (e : ℕ) → e < r → lost e < n
   pub lost_ascend : (d e : ℕ) → d < e → e < r → lost d < lost e
