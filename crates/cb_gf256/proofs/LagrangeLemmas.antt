@@ -1,20 +1,20 @@
 -- Lagrange's polynomials for the lost positions: with them the lost rows of a code word are sums of the present ones.
-use Rattle.std.proofs.Common.{◌≡◌, ◌≢◌, ℕ, zero, suc, ◌+◌, ◌*◌, ◌<◌, ◌≤◌, Bool, true, false, cond, eqb, List, [], ◌∷◌, length, refl, sym, ap, ap₂, subst, ◌∙◌, ⊎_elim, arith}
-use Rattle.std.proofs.Math.Nat.{add-zero, add-suc, mul-zero, mul-suc, add_comm}
-use Rattle.std.proofs.lemmas.Bool.{cases_lt, cases_eq, eq-eqb, ne_eqb}
-use lib.Bits.{xor_zero_r, xor_assoc, xor_comm, xor_self}
+use Rattle.std.proofs.Common.{◌≡◌, ◌≢◌, ℕ, zero, suc, ◌+◌, ◌*◌, ◌<◌, ◌≤◌, cond, eqb, List, [], ◌∷◌, length, get_or, All, add-one, sym, ap, ap₂, subst, ◌∙◌, ⊎_elim, arith}
+use Rattle.std.proofs.Math.Nat.{add-zero, mul-zero, mul-suc}
+use Rattle.std.specs.List.Sorted.{IsStrictlyIncreasing}
+use Rattle.std.proofs.lemmas.Bool.{cases_lt, cases_eq, cases_order, eq-eqb, ne_eqb}
+use lib.Bits.{xor_self}
 use Rattle.cb_gf256.specs.Sum.{◌⊕◌, sum_over}
 use Rattle.cb_gf256.specs.Product.{◌⊗◌}
 use Rattle.cb_gf256.specs.Power.{power}
 use Rattle.cb_gf256.specs.Polynomial.{evaluated}
-use Rattle.cb_gf256.specs.Lagrange.{product_over, differences, points, IsLagrangeFactor}
-use Rattle.cb_gf256.specs.Split.{Splits}
+use Rattle.cb_gf256.specs.Lagrange.{differences, points}
 use Rattle.cb_gf256.proofs.Linear.{product-left, product-right, sum_over-same, sum_over-sum}
 use Rattle.cb_gf256.proofs.FieldLaws.{product-zero, zero-product, product-one, product_comm, product_assoc, product-lt, sum-lt, same_from_zero_sum}
-use Rattle.cb_gf256.proofs.PowerLaws.{power-zero, power-suc, power-lt, power-add, power-mul, one-product}
+use Rattle.cb_gf256.proofs.PowerLaws.{power-zero, power-lt, power-add, one-product}
 use Rattle.cb_gf256.proofs.TableLemmas.{product_nonzero, product_cancel, inverse, powers_differ}
-use Rattle.cb_gf256.proofs.SumLaws.{sum_over-lt, sum_over-zero, product-sum_over, sum_over-product, sum_over-swap, sum_over-one_term}
-use Rattle.cb_gf256.proofs.Polynomials.{AreBytes, evaluated-lt, product_swap, differ_nonzero, IsPolynomial, IsPolynomial-same, IsPolynomial-lt, IsPolynomial-sum, IsPolynomial-scaled, IsPolynomial-lift, IsPolynomial-one, IsPolynomial-linear, IsPolynomial-power, IsPolynomial-sum_over, IsPolynomial-roots}
+use Rattle.cb_gf256.proofs.SumLaws.{sum_over-zero, product-sum_over, sum_over-one_term}
+use Rattle.cb_gf256.proofs.Polynomials.{AreBytes, evaluated-lt, product_swap, differ_nonzero, IsPolynomial, IsPolynomial-same, IsPolynomial-sum, IsPolynomial-scaled, IsPolynomial-one, IsPolynomial-linear, IsPolynomial-power, IsPolynomial-sum_over, IsPolynomial-roots}
 
 -- ---- the product of differences
 -- the difference at one point, or 1 at the point that is left out
@@ -170,3 +170,31 @@ basis_of r point b d =
     inverse_or_zero : (r : ℕ) (own : ℕ → ℕ) → ((e : ℕ) → e < r → own e < 256) → ((e : ℕ) → e < r → 0 < own e) → (e : ℕ) → (i : ℕ) × (e < r → (i < 256) × (own e ⊗ i ≡ 1))
     inverse_or_zero r own byte some e =
         ⊎_elim (λ k. let i = inverse (own e) (some e k) (byte e k) in (i.0, λ _. (i.1, i.2))) (λ k. (0, λ l. absurd (omega arith))) (cases_lt e r)
+
+-- ---- the loop over the lost positions
+pub differences-more_other : (n : ℕ) (point : ℕ → ℕ) (e x : ℕ) → n ≢ e → differences (n + 1) point e x ≡ differences n point e x ⊗ (x ⊕ point n)
+differences-more_other n point e x h = ap (λ k. differences k point e x) (add-one n) ∙ ap (λ v. differences n point e x ⊗ v) (difference_other point e x n h)
+
+pub differences-more_own : (n : ℕ) (point : ℕ → ℕ) (e x : ℕ) → n ≡ e → x < 256 → ((m : ℕ) → m < n → point m < 256) → differences (n + 1) point e x ≡ differences n point e x
+differences-more_own n point e x h k b =
+    ap (λ k. differences k point e x) (add-one n) ∙ ap (λ v. differences n point e x ⊗ v) (difference_own point e x n h)
+    ∙ product-one (differences n point e x) (differences-lt n point e x k b)
+
+-- ascending numbers, some places apart
+pub ascending_apart : (xs : List ℕ) → IsStrictlyIncreasing xs → (i j : ℕ) → i < j → j < length xs → get_or xs i 0 < get_or xs j 0
+ascending_apart xs h i zero k l = absurd (omega arith)
+ascending_apart xs h i (suc j) k l =
+    let step : get_or xs j 0 < get_or xs (suc j) 0 = subst (λ n. get_or xs j 0 < get_or xs n 0) (add-one j) (h j (omega arith)) in
+    ⊎_elim (λ below. omega (arith, ascending_apart xs h i j below (omega arith))) (λ here. let same : i ≡ j = omega arith in omega (arith, ap (λ n. get_or xs n 0) same)) (cases_lt i j)
+
+pub own_differences : (lost : List ℕ) (e : ℕ) → IsStrictlyIncreasing lost → All (λ m. m < 255) lost → e < length lost → 0 < differences (length lost) (points (λ m. get_or lost m 0)) e (power 2 (get_or lost e 0))
+own_differences lost e h b l =
+    differences_own (length lost) (points (λ m. get_or lost m 0)) e (power 2 (get_or lost e 0)) (power-lt 2 (get_or lost e 0) (omega arith))
+    (λ m _. power-lt 2 (get_or lost m 0) (omega arith))
+    (λ m k n same.
+    let equal : get_or lost e 0 ≡ get_or lost m 0 = powers_differ (get_or lost e 0) (get_or lost m 0) (b e 0 l) (b m 0 k) same in
+    ⊎_elim n (⊎_elim (λ below. omega (arith, ascending_apart lost h m e below l)) (λ above. omega (arith, ascending_apart lost h e m above k))) (cases_order m e))
+
+-- own times the quotient is the dividend
+pub quotient_times : (own here turned : ℕ) → own < 256 → here < 256 → turned < 256 → own ⊗ turned ≡ 1 → own ⊗ (here ⊗ turned) ≡ here
+quotient_times own here turned p q r h = product_swap own here turned p q r ∙ ap (λ v. here ⊗ v) h ∙ product-one here q

@@ -11,4 +11,5 @@ pub mod Polynomials
 pub mod LagrangeLemmas
 pub mod Restoring
 pub mod Splitting
+pub mod Words
 pub mod PublicLaws

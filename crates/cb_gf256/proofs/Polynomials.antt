@@ -1,14 +1,14 @@
 -- Polynomials with bytes as coefficients: sums, products with a factor, and how many roots there are.
-use Rattle.std.proofs.Common.{◌≡◌, ◌≢◌, ℕ, zero, suc, ◌<◌, List, [], ◌∷◌, ◌++◌, length, refl, sym, ap, ap₂, ◌∙◌, ⊎_elim, arith}
+use Rattle.std.proofs.Common.{◌≡◌, ◌≢◌, ℕ, zero, suc, ◌<◌, List, [], ◌∷◌, ◌++◌, length, get_or, All, AllPairs, refl, sym, ap, ap₂, ◌∙◌, ⊎_elim, arith}
 use Rattle.std.proofs.lemmas.Bool.{cases_lt}
-use lib.Bits.{xor_zero_r, xor_assoc, xor_comm, xor_self}
+use lib.Bits.{xor_zero_r, xor_comm, xor_self}
 use Rattle.cb_gf256.specs.Sum.{◌⊕◌, sum_over}
 use Rattle.cb_gf256.specs.Product.{◌⊗◌}
 use Rattle.cb_gf256.specs.Power.{power}
 use Rattle.cb_gf256.specs.Row.{row_sum, scaled_row}
 use Rattle.cb_gf256.specs.Polynomial.{evaluated}
 use Rattle.cb_gf256.proofs.Linear.{product-left, product-right, sum_exchange}
-use Rattle.cb_gf256.proofs.FieldLaws.{product-zero, product-one, product_comm, product_assoc, product-lt, sum-lt, same_from_zero_sum}
+use Rattle.cb_gf256.proofs.FieldLaws.{product-zero, product_comm, product_assoc, product-lt, sum-lt, same_from_zero_sum}
 use Rattle.cb_gf256.proofs.PowerLaws.{power-zero, power-suc}
 use Rattle.cb_gf256.proofs.RowLemmas.{length-row_sum, length-scaled_row}
 use Rattle.cb_gf256.proofs.TableLemmas.{product_nonzero}
@@ -241,3 +241,18 @@ IsPolynomial-roots n g root h b d z x l =
     h.value x l
     ∙ evaluated_zero h.coefficients x
     (zero_from_roots n h.coefficients root h.counted h.bytes b d (λ i k. sym (h.value (root i) (b i k)) ∙ z i k))
+
+-- ---- the same over lists of roots
+AreBytes-from_all : (cs : List ℕ) → All (λ a. a < 256) cs → AreBytes cs
+AreBytes-from_all [] h = tt
+AreBytes-from_all (a ∷ cs) h = (h 0 0 (omega arith), AreBytes-from_all cs (λ k d l. h (suc k) d (omega arith)))
+
+all_from_AreZero : (cs : List ℕ) → AreZero cs → All (λ a. a ≡ 0) cs
+all_from_AreZero [] h k d l = absurd (omega arith)
+all_from_AreZero (a ∷ cs) h zero d l = h.0
+all_from_AreZero (a ∷ cs) h (suc k) d l = all_from_AreZero cs h.1 k d (omega arith)
+
+pub roots_make_zero : (coefficients roots : List ℕ) → length coefficients ≡ length roots → All (λ a. a < 256) coefficients → All (λ x. x < 256) roots → AllPairs (λ x y. x ≢ y) roots → All (λ x. evaluated coefficients x ≡ 0) roots → All (λ a. a ≡ 0) coefficients
+roots_make_zero coefficients roots count bytes inside differ zeros =
+    all_from_AreZero coefficients
+    (zero_from_roots (length roots) coefficients (λ i. get_or roots i 0) count (AreBytes-from_all coefficients bytes) (λ i l. inside i 0 l) (λ i j k l. differ i j 0 k l) (λ i l. zeros i 0 l))

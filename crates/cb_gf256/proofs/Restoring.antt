@@ -1,19 +1,19 @@
 -- Columns of code words over a split of the positions: the lost bytes are fixed by the present ones.
-use Rattle.std.proofs.Common.{◌≡◌, ◌≢◌, ℕ, zero, suc, ◌+◌, ◌-◌, ◌*◌, ◌<◌, ◌≤◌, ◌⊎◌, inl, inr, refl, sym, ap, ap₂, subst, ◌∙◌, ⊎_elim, arith}
-use Rattle.std.proofs.lemmas.Bool.{cases_lt, cases_order}
+use Rattle.std.proofs.Common.{◌≡◌, ◌≢◌, ℕ, ◌*◌, ◌<◌, ◌≤◌, sym, ap, ap₂, subst, ◌∙◌, ⊎_elim, arith}
+use Rattle.std.proofs.lemmas.Bool.{cases_order}
 use lib.Bits.{xor_self}
 use Rattle.cb_gf256.specs.Sum.{◌⊕◌, sum_over}
 use Rattle.cb_gf256.specs.Product.{◌⊗◌}
 use Rattle.cb_gf256.specs.Power.{power}
-use Rattle.cb_gf256.specs.Lagrange.{points, IsLagrangeFactor, AreFactors}
+use Rattle.cb_gf256.specs.Lagrange.{points, AreFactors}
 use Rattle.cb_gf256.specs.CodeColumn.{IsCodeColumn}
 use Rattle.cb_gf256.specs.Split.{Splits}
 use Rattle.cb_gf256.proofs.Linear.{sum_over-same}
-use Rattle.cb_gf256.proofs.FieldLaws.{product-zero, zero-product, product_assoc, product-lt, same_from_zero_sum}
+use Rattle.cb_gf256.proofs.FieldLaws.{zero-product, product_assoc, same_from_zero_sum}
 use Rattle.cb_gf256.proofs.PowerLaws.{power-lt, power-mul, one-product}
 use Rattle.cb_gf256.proofs.TableLemmas.{powers_differ}
-use Rattle.cb_gf256.proofs.SumLaws.{sum_over-lt, product-sum_over, sum_over-product, sum_over-swap, sum_over-add, sum_over-one_term}
-use Rattle.cb_gf256.proofs.Polynomials.{IsPolynomial, IsPolynomial-lt}
+use Rattle.cb_gf256.proofs.SumLaws.{product-sum_over, sum_over-product, sum_over-swap, sum_over-one_term}
+use Rattle.cb_gf256.proofs.Polynomials.{IsPolynomial-lt}
 use Rattle.cb_gf256.proofs.LagrangeLemmas.{IsBasis, basis_of, interpolates, polynomial_vanishes}
 
 two_power-lt : (m : ℕ) → power 2 m < 256
@@ -78,9 +78,9 @@ column_made n k r present lost w c small split factors bytes h =
     record {
       bytes = bytes;
       syndromes_zero = made n k r present lost basis.0 c small split basis.1 bytes
-      (λ e l. h e l
-      ∙ sum_over-same k (λ i. w e i ⊗ c (present i)) (λ i. basis.0 e (power 2 (present i)) ⊗ c (present i))
-      (λ i q. ap (λ v. v ⊗ c (present i)) (basis.2 e (power 2 (present i)) (w e i) l (two_power-lt (present i)) (factors.bytes e i l q) ((factors.factor e i l q).quotient))));
+          (λ e l. h e l
+          ∙ sum_over-same k (λ i. w e i ⊗ c (present i)) (λ i. basis.0 e (power 2 (present i)) ⊗ c (present i))
+          (λ i q. ap (λ v. v ⊗ c (present i)) (basis.2 e (power 2 (present i)) (w e i) l (two_power-lt (present i)) (factors.bytes e i l q) ((factors.factor e i l q).quotient))));
     }
 
 -- two columns of code words that agree at the present positions agree at each position

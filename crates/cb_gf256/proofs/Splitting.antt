@@ -1,5 +1,5 @@
 -- How positions split into present and lost ones: one position after another.
-use Rattle.std.proofs.Common.{◌≡◌, ◌≢◌, ℕ, zero, suc, ◌+◌, ◌-◌, ◌<◌, ◌≤◌, List, length, get_or, cond, eqb, ◌⊎◌, inl, inr, refl, sym, ap, ap₂, subst, ◌∙◌, ⊎_elim, arith, add-one}
+use Rattle.std.proofs.Common.{◌≡◌, ℕ, zero, suc, ◌+◌, ◌-◌, ◌<◌, ◌≤◌, List, get_or, cond, eqb, ◌⊎◌, inl, inr, refl, sym, ap, ap₂, subst, ◌∙◌, ⊎_elim, arith, add-one}
 use Rattle.std.proofs.lemmas.Bool.{cases_lt, cases_eq, eq-eqb, ne_eqb}
 use lib.Bits.{xor_assoc, xor_comm}
 use Rattle.cb_gf256.specs.Sum.{◌⊕◌, sum_over}
@@ -152,3 +152,11 @@ splits_positions n k r positions e h =
     let all : whole.seen ≡ k = ⊎_elim (λ m. absurd (omega (arith, whole.next m, h.below whole.seen 0 (omega (arith, h.count))))) (λ m. omega (arith, whole.within)) (cases_lt whole.seen k) in
     let rest : whole.gone ≡ r = omega (arith, whole.split.count) in
     (whole.lost, subst (λ g. Splits n k g (λ i. get_or positions i 0) whole.lost) rest (subst (λ s. Splits n s whole.gone (λ i. get_or positions i 0) whole.lost) all whole.split))
+
+pub split_with_present : (n k r : ℕ) (present lost : ℕ → ℕ) → Splits n k r present lost → present k ≡ n → Splits (n + 1) (k + 1) r present lost
+split_with_present n k r present lost split next =
+    subst (λ m. Splits m (k + 1) r present lost) (sym (add-one n)) (subst (λ m. Splits (suc n) m r present lost) (sym (add-one k)) (split_present n k r present lost split next))
+
+pub split_with_lost : (n k r : ℕ) (present lost : ℕ → ℕ) → Splits n k r present lost → lost r ≡ n → Splits (n + 1) k (r + 1) present lost
+split_with_lost n k r present lost split next =
+    subst (λ m. Splits m k (r + 1) present lost) (sym (add-one n)) (subst (λ m. Splits (suc n) k m present lost) (sym (add-one r)) (split_lost n k r present lost split next))

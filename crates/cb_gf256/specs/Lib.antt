@@ -5,6 +5,7 @@ pub mod Row
 pub mod Rows
 pub mod Block
 pub mod CodeWord
+pub mod InRange
 pub mod CodeColumn
 pub mod Positions
 pub mod Combination
