@@ -69,7 +69,7 @@ column_restored n k r present lost w c small split factors column e l =
     let basis = basis_of r (points lost) (λ m _. two_power-lt (lost m)) (points_differ n k r present lost small split) in
     restored n k r present lost basis.0 c split basis.1 column e l
     ∙ sum_over-same k (λ i. basis.0 e (power 2 (present i)) ⊗ c (present i)) (λ i. w e i ⊗ c (present i))
-    (λ i q. ap (λ v. v ⊗ c (present i)) (sym (basis.2 e (power 2 (present i)) (w e i) l (two_power-lt (present i)) (factors.bytes e i l q) ((factors.factor e i l q).quotient))))
+    (λ i q. ap (λ v. v ⊗ c (present i)) (sym (basis.2 e (power 2 (present i)) (w e i) l (two_power-lt (present i)) ((factors.factor e i l q).byte) ((factors.factor e i l q).quotient))))
 
 -- and such bytes at the lost positions make a column of a code word
 pub column_made : (n k r : ℕ) (present lost : ℕ → ℕ) (w : ℕ → ℕ → ℕ) (c : ℕ → ℕ) → n ≤ 255 → Splits n k r present lost → AreFactors k r present lost w → ((p : ℕ) → p < n → c p < 256) → ((e : ℕ) → e < r → c (lost e) ≡ sum_over k (λ i. w e i ⊗ c (present i))) → IsCodeColumn n r c
@@ -80,7 +80,7 @@ column_made n k r present lost w c small split factors bytes h =
       syndromes_zero = made n k r present lost basis.0 c small split basis.1 bytes
           (λ e l. h e l
           ∙ sum_over-same k (λ i. w e i ⊗ c (present i)) (λ i. basis.0 e (power 2 (present i)) ⊗ c (present i))
-          (λ i q. ap (λ v. v ⊗ c (present i)) (basis.2 e (power 2 (present i)) (w e i) l (two_power-lt (present i)) (factors.bytes e i l q) ((factors.factor e i l q).quotient))));
+          (λ i q. ap (λ v. v ⊗ c (present i)) (basis.2 e (power 2 (present i)) (w e i) l (two_power-lt (present i)) ((factors.factor e i l q).byte) ((factors.factor e i l q).quotient))));
     }
 
 -- two columns of code words that agree at the present positions agree at each position

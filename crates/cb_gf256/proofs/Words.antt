@@ -71,7 +71,7 @@ word_made k r len word present lost w small some split factors count lengths byt
     ⊎_elim
     (λ (i, q, e). subst (λ s. byte_at word s column < 256) e (bytes i column q within))
     (λ (x, q, e). subst (λ s. byte_at word s column < 256) e
-    (omega (arith, sums x column q within, sum_over-lt k (λ i. w x i ⊗ byte_at word (present i) column) (λ i t. product-lt (w x i) (byte_at word (present i) column) (factors.bytes x i q t) (bytes i column t within)))))
+    (omega (arith, sums x column q within, sum_over-lt k (λ i. w x i ⊗ byte_at word (present i) column) (λ i t. product-lt (w x i) (byte_at word (present i) column) ((factors.factor x i q t).byte) (bytes i column t within)))))
     (split.covers p m))
     (λ e q. sums e column q within))
 

@@ -17,6 +17,7 @@ returns c =
     let lost = c.args.lost.now in
     let at = λ (x : ℕ). differences (length lost) (points (λ m. get_or lost m 0)) c.args.e x in
     record {
+      byte = c.mul.type_inv;
       quotient =
           ap (λ v. v ⊗ c.mul.result) (sym (c.product_of_differences-own.ensures ∙ ap at (c.pow.ensures ∙ ap (power 2) c.from.ensures)))
           ∙ ap (λ v. c.product_of_differences-own.result ⊗ v) c.mul.ensures

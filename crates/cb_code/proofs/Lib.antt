@@ -1,0 +1,3 @@
+pub mod Writes
+pub mod Tables
+pub mod Sums
