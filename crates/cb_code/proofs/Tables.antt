@@ -7,9 +7,8 @@ use Rattle.cb_gf256.specs.Product.{◌⊗◌}
 use Rattle.cb_gf256.specs.Rows.{row_at, byte_at, HaveLength, HoldBytes, AreRows}
 use Rattle.cb_gf256.specs.CodeWord.{IsCodeWord}
 use Rattle.cb_gf256.specs.InRange.{IsInRange}
-use Rattle.cb_gf256.specs.Combination.{combination, AreCombinations}
+use Rattle.cb_gf256.specs.Combination.{AreCombinations}
 use Rattle.cb_gf256.specs.Lagrange.{IsLagrangeFactor, AreFactors}
-use Rattle.cb_gf256.specs.Split.{Splits}
 use Rattle.cb_gf256.proofs.PublicLaws.{sum_over_same, split_of_same, parities_split, sums_make_a_word, sums_are_bytes, words_that_agree}
 use Rattle.cb_code.specs.Coefficients.{AreCoefficients}
 
@@ -87,3 +86,14 @@ only_parities k r rows sums others range count h bytes word other_bytes other =
     other (All-append (All (λ x. x < 2 ^ 8)) rows others h.bytes other_bytes)
     word (All-append (All (λ x. x < 2 ^ 8)) rows sums h.bytes bytes)
     (λ i l. get_or_append_left rows others [] i (omega arith) ∙ sym (get_or_append_left rows sums [] i (omega arith))))
+
+-- ---- the sums that a table of coefficients makes
+-- a table with a coefficient for each of the rows is the table for as many rows
+pub fits : (table rows : List (List ℕ)) → AreCoefficients (length (row_at table 0)) (length table) table → IsInRange (length (row_at table 0)) (length table) → HaveLength (length rows) table → AreCoefficients (length rows) (length table) table × IsInRange (length rows) (length table)
+fits table rows h range width =
+    let same : length (row_at table 0) ≡ length rows = width 0 [] (omega (arith, range.parities_least)) in
+    (subst (λ k. AreCoefficients k (length table) table) same h, subst (λ k. IsInRange k (length table)) same range)
+
+pub only_coded : (table rows sums others : List (List ℕ)) → AreCoefficients (length rows) (length table) table → IsInRange (length rows) (length table) → AreRows rows → AreCombinations table rows sums → HoldBytes others → IsCodeWord (length rows) (length table) (rows ++ others) → others ≡ sums
+only_coded table rows sums others h range bytes made other_bytes other =
+    only_parities (length rows) (length table) rows sums others range refl bytes (sums_are_bytes table rows sums h.bytes h.positions bytes made) (h.make_words rows sums refl bytes made) other_bytes other

@@ -5,7 +5,7 @@ ghost use Rattle.cb_gf256.specs.CodeWord.{IsCodeWord};
 ghost use Rattle.cb_gf256.specs.Combination.{combination, AreCombinations};
 
 use crate::Coeffs;
-use cb_gf256::{axpy_row, NoMemory, Rows};
+use cb_gf256::{NoMemory, Rows, axpy_row};
 use std::alloc::Global;
 
 /// The parities of these data rows, as many as the code has. The only error is want of memory.
@@ -16,8 +16,10 @@ pub fn encode(alloc: Global, c: &Coeffs, rows: &Rows) -> Result<Rows, NoMemory>
     ensures only { IfOk result (λ parities. (others : List (List ℕ)) → HoldBytes others
         → IsCodeWord (length rows.now) (length c.now) (rows.now ++ others) → others ≡ parities) }
 {
-    let mut parities = Rows::new(alloc, c.parities(), rows.row_len())?;
-    for j in 0..c.parities() {
+    let r = c.parities();
+    let len = rows.row_len();
+    let mut parities = Rows::new(alloc, r, len)?;
+    for j in 0..r {
         add_sum(parities.row_mut(j), c, j, rows);
     }
     Ok(parities)

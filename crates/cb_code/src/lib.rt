@@ -5,8 +5,6 @@ mod coeffs;
 mod encoding;
 mod syndromes;
 
-
-
-pub use coeffs::{coefficients, Coeffs};
+pub use coeffs::{Coeffs, coefficients};
 pub use encoding::encode;
 pub use syndromes::syndromes_zero;

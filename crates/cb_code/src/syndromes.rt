@@ -3,7 +3,7 @@ ghost use Rattle.cb_gf256.specs.Rows.{row_at, HaveLength};
 ghost use Rattle.cb_gf256.specs.CodeWord.{syndrome, IsCodeWord};
 ghost use Rattle.cb_gf256.specs.InRange.{IsInRange};
 
-use cb_gf256::{add, mul, pow, Rows};
+use cb_gf256::{Rows, add, mul, pow};
 
 /// Whether the rows, of which the last `r` are the parities, are a code word: all syndromes of the powers below `r` are 0.
 pub fn syndromes_zero(r: u32, rows: &Rows) -> bool

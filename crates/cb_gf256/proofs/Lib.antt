@@ -12,4 +12,5 @@ pub mod LagrangeLemmas
 pub mod Restoring
 pub mod Splitting
 pub mod Words
+pub mod Combining
 pub mod PublicLaws
