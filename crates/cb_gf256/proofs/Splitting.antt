@@ -15,6 +15,7 @@ split_none present lost = record {
   present_below = λ i h. absurd (omega arith);
   lost_below = λ e h. absurd (omega arith);
   lost_ascend = λ d e h l. absurd (omega arith);
+  apart = λ i e h. absurd (omega arith);
   covers = λ p h. absurd (omega arith);
   sums = λ f. refl;
 }
@@ -26,6 +27,8 @@ split_present n k r present lost split next = record {
   present_below = λ i h. ⊎_elim (λ l. omega (arith, split.present_below i l)) (λ l. let same : i ≡ k = omega arith in omega (arith, ap present same)) (cases_lt i k);
   lost_below = λ e h. omega (arith, split.lost_below e h);
   lost_ascend = split.lost_ascend;
+  apart = λ i e h l.
+      ⊎_elim (λ m. split.apart i e m l) (λ m same. let own : i ≡ k = omega arith in omega (arith, ap present own, split.lost_below e l)) (cases_lt i k);
   covers = λ p h.
       ⊎_elim
       (λ l. ⊎_elim (λ (i, q, e). inl (i, omega arith, e)) (λ (m, q, e). inr (m, q, e)) (split.covers p l))
@@ -46,6 +49,8 @@ split_lost n k r present lost split next = record {
   lost_below = λ e h. ⊎_elim (λ l. omega (arith, split.lost_below e l)) (λ l. let same : e ≡ r = omega arith in omega (arith, ap lost same)) (cases_lt e r);
   lost_ascend = λ d e h l.
       ⊎_elim (λ m. split.lost_ascend d e h m) (λ m. let same : e ≡ r = omega arith in omega (arith, ap lost same, split.lost_below d (omega arith))) (cases_lt e r);
+  apart = λ i e h l.
+      ⊎_elim (λ m. split.apart i e h m) (λ m same. let own : e ≡ r = omega arith in omega (arith, ap lost own, split.present_below i h)) (cases_lt e r);
   covers = λ p h.
       ⊎_elim
       (λ l. ⊎_elim (λ (i, q, e). inl (i, q, e)) (λ (m, q, e). inr (m, omega arith, e)) (split.covers p l))
@@ -62,6 +67,7 @@ split_same n k r present lost other split same = record {
   present_below = split.present_below;
   lost_below = λ e h. omega (arith, same e h, split.lost_below e h);
   lost_ascend = λ d e h l. omega (arith, same d (omega arith), same e l, split.lost_ascend d e h l);
+  apart = λ i e h l equal. split.apart i e h l (equal ∙ same e l);
   covers = λ p h. ⊎_elim (λ (i, q, e). inl (i, q, e)) (λ (m, q, e). inr (m, q, same m q ∙ e)) (split.covers p h);
   sums = λ f. split.sums f ∙ ap (λ v. sum_over k (λ i. f (present i)) ⊕ v) (sum_over-same r (λ e. f (lost e)) (λ e. f (other e)) (λ e h. ap f (sym (same e h))));
 }
@@ -73,6 +79,7 @@ splits_parities k r = record {
   present_below = λ i h. omega arith;
   lost_below = λ e h. omega arith;
   lost_ascend = λ d e h l. omega arith;
+  apart = λ i e h l equal. omega arith;
   covers = λ p h. ⊎_elim (λ l. inl (p, l, refl)) (λ l. let e : k + (p - k) ≡ p = omega arith in inr (p - k, omega arith, e)) (cases_lt p k);
   sums = λ f. sum_over-add k r f;
 }
