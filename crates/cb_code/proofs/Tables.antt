@@ -1,27 +1,17 @@
 -- A table of Lagrange's factors for the parities is the table of coefficients.
 use Rattle.std.proofs.Common.{◌≡◌, ℕ, ◌+◌, ◌^◌, ◌<◌, ◌≤◌, List, [], ◌++◌, length, get_or, take, map, All, refl, sym, ap, ap₂, subst, ◌∙◌, arith}
-use Rattle.std.proofs.lemmas.List.{get_or_default, get_or-take, length-take-le, get_or_append_left, get_or-append-add, length-append, append_cancel_left, get_or-map, length-map}
+use Rattle.std.proofs.lemmas.List.{get_or_default, length-take-le, get_or_append_left, get_or-append-add, length-append, append_cancel_left}
 use Rattle.std.proofs.lemmas.List.Elements.{All-append}
 use Rattle.cb_gf256.specs.Sum.{sum_over}
 use Rattle.cb_gf256.specs.Product.{◌⊗◌}
 use Rattle.cb_gf256.specs.Rows.{row_at, byte_at, HaveLength, HoldBytes, AreRows}
 use Rattle.cb_gf256.specs.CodeWord.{IsCodeWord}
+use Rattle.cb_gf256.specs.Corner.{corner}
 use Rattle.cb_gf256.specs.InRange.{IsInRange}
 use Rattle.cb_gf256.specs.Combination.{AreCombinations}
 use Rattle.cb_gf256.specs.Lagrange.{IsLagrangeFactor, AreFactors}
-use Rattle.cb_gf256.proofs.PublicLaws.{sum_over_same, split_of_same, parities_split, sums_make_a_word, sums_are_bytes, words_that_agree}
+use Rattle.cb_gf256.proofs.PublicLaws.{sum_over_same, split_of_same, parities_split, sums_make_a_word, sums_are_bytes, words_that_agree, corner_count, corner_row, corner_byte}
 use Rattle.cb_code.specs.Coefficients.{AreCoefficients}
-
--- the first k places of the first r rows
-abbrev pub corner : ℕ → ℕ → List (List ℕ) → List (List ℕ)
-corner k r table = map (take k) (take r table)
-
-row_at-corner : (k r : ℕ) (table : List (List ℕ)) (j : ℕ) → r ≤ length table → j < r → row_at (corner k r table) j ≡ take k (row_at table j)
-row_at-corner k r table j h l =
-    get_or-map (take k) (take r table) j [] [] (omega (arith, length-take-le r table h)) ∙ ap (take k) (get_or-take r table j [] l)
-
-length-corner : (k r : ℕ) (table : List (List ℕ)) → r ≤ length table → length (corner k r table) ≡ r
-length-corner k r table h = length-map (take r table) (take k) ∙ length-take-le r table h
 
 -- ---- a code word of data rows and parities
 byte_at-front : (rows sums : List (List ℕ)) (i column : ℕ) → i < length rows → byte_at (rows ++ sums) i column ≡ byte_at rows i column
@@ -58,23 +48,23 @@ pub coefficients_of : (k r : ℕ) (lost : List ℕ) (table : List (List ℕ)) �
 coefficients_of k r lost table range count at height width factor =
     let inside : r ≤ length table = omega (arith, range.parities_most) in
     let lengths : HaveLength k (corner k r table) = λ j d l.
-    let below : j < r = omega (arith, length-corner k r table inside) in
+    let below : j < r = omega (arith, corner_count k r table inside) in
     let own : length (row_at table j) ≡ 16 = width j [] (omega arith) in
-    ap length (get_or_default (corner k r table) j d [] l ∙ row_at-corner k r table j inside below) ∙ length-take-le k (row_at table j) (omega (arith, range.data_most)) in
+    ap length (get_or_default (corner k r table) j d [] l ∙ corner_row k r table j l) ∙ length-take-le k (row_at table j) (omega (arith, range.data_most)) in
     let same : (j i : ℕ) → j < r → i < k → byte_at (corner k r table) j i ≡ byte_at table j i = λ j i l m.
-    ap (λ row. get_or row i 0) (row_at-corner k r table j inside l) ∙ get_or-take k (row_at table j) i 0 m in
+    corner_byte k r table j i (omega (arith, corner_count k r table inside)) m in
     let factors : AreFactors k r (λ i. i) (λ e. get_or lost e 0) (byte_at (corner k r table)) = record {
       factor = λ e i l m. subst (IsLagrangeFactor r (λ x. get_or lost x 0) e i) (sym (same e i l m)) (subst (λ n. IsLagrangeFactor n (λ x. get_or lost x 0) e i (byte_at table e i)) count (factor e i l m));
     } in
     record {
-      parities = length-corner k r table inside;
+      parities = corner_count k r table inside;
       positions = lengths;
       bytes = λ j d l i z m.
-          let below : j < r = omega (arith, length-corner k r table inside) in
+          let below : j < r = omega (arith, corner_count k r table inside) in
           let row : get_or (corner k r table) j d ≡ row_at (corner k r table) j = get_or_default (corner k r table) j d [] l in
           let short : i < k = omega (arith, lengths j d l) in
           omega (arith, ap (λ x. get_or x i z) row, get_or_default (row_at (corner k r table) j) i z 0 (omega (arith, ap length row)), same j i below short, (factor j i below short).byte);
-      make_words = λ rows sums n h made. words_made k r lost (corner k r table) rows sums range at (length-corner k r table inside) lengths factors n h made;
+      make_words = λ rows sums n h made. words_made k r lost (corner k r table) rows sums range at (corner_count k r table inside) lengths factors n h made;
     }
 
 -- ---- the only parities

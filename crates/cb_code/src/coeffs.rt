@@ -17,16 +17,16 @@ pub struct Coeffs {
 }
 
 impl Model for Coeffs {
-    ghost use Rattle.std.specs.Prelude.{ℕ, List, map, take};
-    ghost use Rattle.std.specs.Prelude.{◌≡◌};
+    ghost use Rattle.std.specs.Prelude.{ℕ, List};
+    ghost use Rattle.cb_gf256.specs.Corner.{corner};
     ghost use Rattle.cb_gf256.specs.InRange.{IsInRange};
     ghost use Rattle.cb_code.specs.Coefficients.{AreCoefficients};
 
     ghost Value = { List (List ℕ) };
 
-    ghost view = { λ c. map (take c.k) (take c.r c.table) };
+    ghost view = { λ c. corner c.k c.r c.table };
 
-    ghost invariant = { λ c. IsInRange c.k c.r × AreCoefficients c.k c.r (map (take c.k) (take c.r c.table)) };
+    ghost invariant = { λ c. IsInRange c.k c.r × AreCoefficients c.k c.r (corner c.k c.r c.table) };
 }
 
 /// The coefficients of the code with `k` data rows (1 to 16) and `r` parities (1 to 4).

@@ -13,4 +13,5 @@ pub mod Restoring
 pub mod Splitting
 pub mod Words
 pub mod Combining
+pub mod CornerLemmas
 pub mod PublicLaws

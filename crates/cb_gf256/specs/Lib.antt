@@ -9,6 +9,7 @@ pub mod InRange
 pub mod CodeColumn
 pub mod Positions
 pub mod Combination
+pub mod Corner
 pub mod Polynomial
 pub mod Lagrange
 pub mod Split

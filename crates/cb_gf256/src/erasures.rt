@@ -1,5 +1,5 @@
 //! The laws of polynomials and of code words. Each is a clause of a function that does nothing.
-ghost use Rattle.std.specs.Prelude.{◌≡◌, ◌≢◌, ℕ, ◌+◌, ◌<◌, ◌≤◌, List, length, slice_index, replicate, All, AllPairs};
+ghost use Rattle.std.specs.Prelude.{◌≡◌, ◌≢◌, ℕ, ◌+◌, ◌<◌, ◌≤◌, List, length, slice_index, take, replicate, All, AllPairs};
 ghost use Rattle.cb_gf256.specs.Sum.{◌⊕◌, sum_over};
 ghost use Rattle.cb_gf256.specs.Product.{◌⊗◌};
 ghost use Rattle.cb_gf256.specs.Polynomial.{evaluated};
@@ -9,6 +9,7 @@ ghost use Rattle.cb_gf256.specs.Rows.{row_at, byte_at, HaveLength, HoldBytes, Ar
 ghost use Rattle.cb_gf256.specs.CodeWord.{IsCodeWord};
 ghost use Rattle.cb_gf256.specs.Positions.{ArePositions};
 ghost use Rattle.cb_gf256.specs.Split.{Splits};
+ghost use Rattle.cb_gf256.specs.Corner.{corner};
 ghost use Rattle.cb_gf256.specs.Lagrange.{AreFactors};
 ghost use Rattle.cb_gf256.specs.Combination.{combination, AreCombinations, IsPartSum, ArePartCombinations};
 
@@ -76,4 +77,15 @@ pub fn combining_laws()
         → ArePartCombinations len table rows (with_row sums j row) (j + 1) }
     ensures combinations_all { (len : ℕ) (table rows sums : List (List ℕ)) (j : ℕ) → ArePartCombinations len table rows sums j
         → length table ≤ j → length (row_at rows 0) ≡ len → AreCombinations table rows sums }
+{}
+
+/// The corner of a table that is wider and higher than what is used of it.
+pub fn corner_laws()
+    ensures corner_count { (k n : ℕ) (table : List (List ℕ)) → n ≤ length table → length (corner k n table) ≡ n }
+    ensures corner_row { (k n : ℕ) (table : List (List ℕ)) (j : ℕ) → j < length (corner k n table)
+        → row_at (corner k n table) j ≡ take k (row_at table j) }
+    ensures corner_width { (k n : ℕ) (table : List (List ℕ)) (j i : ℕ) → j < length (corner k n table)
+        → i < length (row_at (corner k n table) j) → i < k }
+    ensures corner_byte { (k n : ℕ) (table : List (List ℕ)) (j i : ℕ) → j < length (corner k n table) → i < k
+        → byte_at (corner k n table) j i ≡ byte_at table j i }
 {}

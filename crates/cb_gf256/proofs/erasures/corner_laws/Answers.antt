@@ -1,0 +1,14 @@
+use Rattle.cb_gf256.proofs.PublicLaws.{corner_count, corner_row, corner_width, corner_byte}
+use Rattle.cb_gf256.proofs.erasures.corner_laws.Goals as goal
+
+pub returns-clause-corner_count : goal.returns-clause-corner_count
+returns-clause-corner_count c = corner_count
+
+pub returns-clause-corner_row : goal.returns-clause-corner_row
+returns-clause-corner_row c = corner_row
+
+pub returns-clause-corner_width : goal.returns-clause-corner_width
+returns-clause-corner_width c = corner_width
+
+pub returns-clause-corner_byte : goal.returns-clause-corner_byte
+returns-clause-corner_byte c = corner_byte
