@@ -10,7 +10,7 @@ use Rattle.cb_gf256.specs.Corner.{corner}
 use Rattle.cb_gf256.specs.InRange.{IsInRange}
 use Rattle.cb_gf256.specs.Combination.{AreCombinations}
 use Rattle.cb_gf256.specs.Lagrange.{IsLagrangeFactor, AreFactors}
-use Rattle.cb_gf256.proofs.PublicLaws.{sum_over_same, split_of_same, parities_split, sums_make_a_word, sums_are_bytes, words_that_agree, corner_count, corner_row, corner_byte}
+use Rattle.cb_gf256.proofs.PublicLaws.{sum_over_same, split_of_same, parities_split, sums_make_a_word, sums_are_bytes, words_that_agree, corner_count, corner_byte, corner_lengths, corner_bytes}
 use Rattle.cb_code.specs.Coefficients.{AreCoefficients}
 
 -- ---- a code word of data rows and parities
@@ -47,10 +47,7 @@ words_made k r lost table rows sums range at height width factors count h made =
 pub coefficients_of : (k r : ℕ) (lost : List ℕ) (table : List (List ℕ)) → IsInRange k r → length lost ≡ r → ((e : ℕ) → e < r → get_or lost e 0 ≡ k + e) → length table ≡ 4 → HaveLength 16 table → ((m i : ℕ) → m < r → i < k → IsLagrangeFactor (length lost) (λ x. get_or lost x 0) m i (byte_at table m i)) → AreCoefficients k r (corner k r table)
 coefficients_of k r lost table range count at height width factor =
     let inside : r ≤ length table = omega (arith, range.parities_most) in
-    let lengths : HaveLength k (corner k r table) = λ j d l.
-    let below : j < r = omega (arith, corner_count k r table inside) in
-    let own : length (row_at table j) ≡ 16 = width j [] (omega arith) in
-    ap length (get_or_default (corner k r table) j d [] l ∙ corner_row k r table j l) ∙ length-take-le k (row_at table j) (omega (arith, range.data_most)) in
+    let lengths : HaveLength k (corner k r table) = corner_lengths k r 16 table range.data_most inside width in
     let same : (j i : ℕ) → j < r → i < k → byte_at (corner k r table) j i ≡ byte_at table j i = λ j i l m.
     corner_byte k r table j i (omega (arith, corner_count k r table inside)) m in
     let factors : AreFactors k r (λ i. i) (λ e. get_or lost e 0) (byte_at (corner k r table)) = record {
@@ -59,11 +56,7 @@ coefficients_of k r lost table range count at height width factor =
     record {
       parities = corner_count k r table inside;
       positions = lengths;
-      bytes = λ j d l i z m.
-          let below : j < r = omega (arith, corner_count k r table inside) in
-          let row : get_or (corner k r table) j d ≡ row_at (corner k r table) j = get_or_default (corner k r table) j d [] l in
-          let short : i < k = omega (arith, lengths j d l) in
-          omega (arith, ap (λ x. get_or x i z) row, get_or_default (row_at (corner k r table) j) i z 0 (omega (arith, ap length row)), same j i below short, (factor j i below short).byte);
+      bytes = corner_bytes k r 16 table range.data_most inside width (λ j i l m. (factor j i l m).byte);
       make_words = λ rows sums n h made. words_made k r lost (corner k r table) rows sums range at (corner_count k r table inside) lengths factors n h made;
     }
 

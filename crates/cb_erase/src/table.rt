@@ -1,4 +1,5 @@
-ghost use Rattle.std.specs.Prelude.{◌≡◌, ◌<◌, ◌≤◌, length, map, take};
+ghost use Rattle.std.specs.Prelude.{◌≡◌, ◌<◌, ◌≤◌, length};
+ghost use Rattle.cb_gf256.specs.Corner.{corner};
 ghost use Rattle.cb_gf256.specs.Rows.{row_at, byte_at};
 
 use std::marker::Model;
@@ -12,11 +13,12 @@ pub struct Weights {
 }
 
 impl Model for Weights {
-    ghost use Rattle.std.specs.Prelude.{ℕ, ◌≤◌, List, map, take};
+    ghost use Rattle.std.specs.Prelude.{ℕ, ◌≤◌, List};
+    ghost use Rattle.cb_gf256.specs.Corner.{corner};
 
     ghost Value = { List (List ℕ) };
 
-    ghost view = { λ w. map (take w.k) (take w.n w.table) };
+    ghost view = { λ w. corner w.k w.n w.table };
 
     ghost invariant = { λ w. (w.k ≤ 16) × (w.n ≤ 20) };
 }
@@ -26,7 +28,7 @@ impl Weights {
     pub(crate) fn of_table(table: [[u8; 16]; 20], k: u32, n: u32) -> Weights
         requires places { k ≤ 16 }
         requires rows { n ≤ 20 }
-        ensures { result ≡ map (take k) (take n table) }
+        ensures { result ≡ corner k n table }
     {
         Weights { table, k, n }
     }

@@ -1,5 +1,6 @@
 //! The laws of polynomials and of code words. Each is a clause of a function that does nothing.
 ghost use Rattle.std.specs.Prelude.{◌≡◌, ◌≢◌, ℕ, ◌+◌, ◌<◌, ◌≤◌, List, length, slice_index, take, replicate, All, AllPairs};
+ghost use Rattle.std.specs.List.Sorted.{IsStrictlyIncreasing};
 ghost use Rattle.cb_gf256.specs.Sum.{◌⊕◌, sum_over};
 ghost use Rattle.cb_gf256.specs.Product.{◌⊗◌};
 ghost use Rattle.cb_gf256.specs.Polynomial.{evaluated};
@@ -60,6 +61,8 @@ pub fn split_laws()
     ensures parities_split { (k r : ℕ) → Splits (k + r) k r (λ i. i) (λ e. k + e) }
     ensures position_is_at_most { (n k : ℕ) (positions : List ℕ) → ArePositions n k positions → (i : ℕ) → i < k
         → slice_index positions i + k ≤ n + i }
+    ensures ascending_apart { (xs : List ℕ) → IsStrictlyIncreasing xs → (i j : ℕ) → i < j → j < length xs
+        → slice_index xs i < slice_index xs j }
 {}
 
 /// How sums of rows, each times its factor, are made: row after row, and sum after sum.
@@ -88,4 +91,8 @@ pub fn corner_laws()
         → i < length (row_at (corner k n table) j) → i < k }
     ensures corner_byte { (k n : ℕ) (table : List (List ℕ)) (j i : ℕ) → j < length (corner k n table) → i < k
         → byte_at (corner k n table) j i ≡ byte_at table j i }
+    ensures corner_lengths { (k n width : ℕ) (table : List (List ℕ)) → k ≤ width → n ≤ length table → HaveLength width table
+        → HaveLength k (corner k n table) }
+    ensures corner_bytes { (k n width : ℕ) (table : List (List ℕ)) → k ≤ width → n ≤ length table → HaveLength width table
+        → ((j i : ℕ) → j < n → i < k → byte_at table j i < 256) → HoldBytes (corner k n table) }
 {}

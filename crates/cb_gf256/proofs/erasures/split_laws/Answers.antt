@@ -1,4 +1,4 @@
-use Rattle.cb_gf256.proofs.PublicLaws.{split_of_none, split_with_present, split_with_lost, split_of_same, parities_split, position_is_at_most}
+use Rattle.cb_gf256.proofs.PublicLaws.{split_of_none, split_with_present, split_with_lost, split_of_same, parities_split, position_is_at_most, ascending_apart}
 use Rattle.cb_gf256.proofs.erasures.split_laws.Goals as goal
 
 pub returns-clause-split_of_none : goal.returns-clause-split_of_none
@@ -18,3 +18,6 @@ returns-clause-parities_split c = parities_split
 
 pub returns-clause-position_is_at_most : goal.returns-clause-position_is_at_most
 returns-clause-position_is_at_most c = position_is_at_most
+
+pub returns-clause-ascending_apart : goal.returns-clause-ascending_apart
+returns-clause-ascending_apart c = ascending_apart
