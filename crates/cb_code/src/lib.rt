@@ -4,6 +4,8 @@
 mod coeffs;
 mod encoding;
 mod syndromes;
+#[cfg(test)]
+mod tests;
 
 pub use coeffs::{Coeffs, coefficients};
 pub use encoding::encode;

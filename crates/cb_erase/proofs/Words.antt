@@ -1,5 +1,5 @@
 -- The filled table is the table of weights: it restores code words, and makes code words of any present rows.
-use Rattle.std.proofs.Common.{◌≡◌, ◌≢◌, ℕ, ◌+◌, ◌<◌, ◌≤◌, ◌==◌, if◌then◌else◌, List, [], length, get_or, map, All, refl, sym, ap, ap₂, subst, ◌∙◌, ⊎_elim, arith, cond, eqb}
+use Rattle.std.proofs.Common.{◌≡◌, ℕ, ◌+◌, ◌<◌, ◌≤◌, ◌==◌, if◌then◌else◌, List, [], length, get_or, All, refl, sym, ap, subst, ◌∙◌, ⊎_elim, arith, cond}
 use Rattle.std.proofs.lemmas.Bool.{cases_eq, eq-eqb, ne_eqb}
 use Rattle.std.proofs.lemmas.List.{get_or_default, get_or-map, length-map}
 use Rattle.std.proofs.lemmas.Grind.{same_number_lists}
@@ -15,7 +15,7 @@ use Rattle.cb_gf256.specs.Lagrange.{IsLagrangeFactor, AreFactors}
 use Rattle.cb_gf256.specs.Split.{Splits}
 use Rattle.cb_gf256.proofs.PublicLaws.{zero_with_product, one_with_product, sum_over_same, sum_over_one_term, sums_make_a_word, lost_rows_are_sums, sums_are_bytes, agreeing_words_are_equal, corner_count, corner_byte, corner_lengths, corner_bytes}
 use Rattle.cb_erase.specs.Weights.{rows_at, IsSolution, AreWeights}
-use Rattle.cb_erase.proofs.Tables.{IsUnit, Filled}
+use Rattle.cb_erase.proofs.Tables.{Filled}
 
 -- ---- the present rows
 pub row_at-rows_at : (rows : List (List ℕ)) (present : List ℕ) (i : ℕ) → i < length present → row_at (rows_at rows present) i ≡ row_at rows (get_or present i 0)

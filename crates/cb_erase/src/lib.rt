@@ -4,6 +4,8 @@
 mod lost;
 mod solving;
 mod table;
+#[cfg(test)]
+mod tests;
 mod weighing;
 
 pub use solving::solve;

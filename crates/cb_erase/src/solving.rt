@@ -6,8 +6,8 @@ ghost use Rattle.cb_gf256.specs.Positions.{ArePositions};
 ghost use Rattle.cb_gf256.specs.Combination.{combination};
 ghost use Rattle.cb_erase.specs.Weights.{rows_at, IsSolution, AreWeights};
 
-use crate::{weights, Weights};
-use cb_gf256::{axpy_row, NoMemory, Rows};
+use crate::{Weights, weights};
+use cb_gf256::{NoMemory, Rows, axpy_row};
 use std::alloc::Global;
 
 /// The code word that agrees with the rows at the `k` positions `present`; the other rows are not read. The only error is want of memory.

@@ -6,8 +6,8 @@ ghost use Rattle.cb_gf256.specs.Positions.{ArePositions};
 ghost use Rattle.cb_gf256.specs.Lagrange.{IsLagrangeFactor};
 ghost use Rattle.cb_erase.specs.Weights.{AreWeights};
 
-use crate::lost::lost_positions;
 use crate::Weights;
+use crate::lost::lost_positions;
 use cb_gf256::lagrange_factor;
 
 /// The weights of the code with `k` data rows (1 to 16) and `r` parities (1 to 4), where the rows at the `k` positions `present` are there.

@@ -1,4 +1,3 @@
-use Rattle.std.proofs.Common.{length}
 use Rattle.cb_erase.proofs.Walking.{Walked}
 use Rattle.cb_erase.proofs.lost.lost_positions.Given as goal
 

@@ -1,7 +1,7 @@
-use Rattle.std.proofs.Common.{◌≡◌, ◌+◌, ◌<◌, [], length, get_or, All, map, sym, ap, subst, ◌∙◌, arith}
+use Rattle.std.proofs.Common.{◌≡◌, ◌<◌, [], length, get_or, All, ap, ◌∙◌, arith}
 use Rattle.std.proofs.lemmas.List.{length-map}
 use Rattle.cb_gf256.specs.Sum.{◌⊕◌}
-use Rattle.cb_gf256.specs.Rows.{row_at, AreRows}
+use Rattle.cb_gf256.specs.Rows.{row_at}
 use Rattle.cb_gf256.specs.Combination.{combination, AreCombinations}
 use Rattle.cb_gf256.proofs.PublicLaws.{combinations_more, combinations_all}
 use Rattle.cb_erase.specs.Weights.{rows_at}
@@ -13,11 +13,11 @@ loop-p-preserved c =
     let own = c.row_mut.ensures.value in
     let rows = rows_at c.args.rows.now c.args.present.now in (
       combinations_more c.row_len-len.result c.weights-w.result rows c.loop-p.word c.loop-p.p c.add_sum.new.row c.loop-p.invariant.0
-      (omega (arith, c.weights-w.ensures.positions))
-      (c.add_sum.ensures.length ∙ ap length own)
-      (λ column l.
-      c.add_sum.ensures.bytes column (omega (arith, ap length own))
-      ∙ ap (λ row. get_or row column 0 ⊕ combination (row_at c.weights-w.result c.loop-p.p) rows column) own),
+          (omega (arith, c.weights-w.ensures.positions))
+          (c.add_sum.ensures.length ∙ ap length own)
+          (λ column l.
+          c.add_sum.ensures.bytes column (omega (arith, ap length own))
+          ∙ ap (λ row. get_or row column 0 ⊕ combination (row_at c.weights-w.result c.loop-p.p) rows column) own),
       λ _. c.add_sum.ensures.rows,
     )
 

@@ -1,4 +1,3 @@
-use Rattle.std.proofs.Common.{length}
 use Rattle.cb_erase.proofs.Tables.{Filled}
 use Rattle.cb_erase.proofs.weighing.weights.Given as goal
 
