@@ -7,4 +7,11 @@ pub mod RowLemmas
 pub mod SumLaws
 pub mod OrderLemmas
 pub mod WorkedVectors
+pub mod Polynomials
+pub mod LagrangeLemmas
+pub mod Restoring
+pub mod Splitting
+pub mod Words
+pub mod Combining
+pub mod CornerLemmas
 pub mod PublicLaws

@@ -8,6 +8,12 @@ pub use Rattle.cb_gf256.proofs.SumLaws.{sum_over-product as sum_over_with_produc
 pub use Rattle.cb_gf256.proofs.RowLemmas.{length-row_sum as row_sum_length, get_or-row_sum as row_sum_by_byte, row_sum_comm as row_sum_commutes, row_sum_assoc as row_sum_associates, row_sum_zero as row_sum_with_zeros, row_sum_twice as row_added_twice_is_gone, length-scaled_row as scaled_row_length, get_or-scaled_row as scaled_row_by_byte, scaled_row-row_sum as scaled_row_of_sum}
 pub use Rattle.cb_gf256.proofs.OrderLemmas.{fold-IsPermutation as rows_sum_in_any_order}
 pub use Rattle.cb_gf256.proofs.BlockLemmas.{length-with_row as written_count, with_row-set as written_row, HaveLength-with_row as written_lengths}
+pub use Rattle.cb_gf256.proofs.Polynomials.{roots_make_zero}
+pub use Rattle.cb_gf256.proofs.Words.{words_agree_on as agreeing_words_are_equal, words_agree as words_that_agree, word_restored as lost_rows_are_sums, word_made as sums_make_a_word, HoldBytes-combinations as sums_are_bytes}
+pub use Rattle.cb_gf256.proofs.Splitting.{split_none as split_of_none, split_with_present, split_with_lost, split_same as split_of_same, splits_parities as parities_split, position_at_most as position_is_at_most}
+pub use Rattle.cb_gf256.proofs.Combining.{part_sum_none, part_sum_more, combinations_none, combinations_more, combinations_all}
+pub use Rattle.cb_gf256.proofs.CornerLemmas.{length-corner as corner_count, row_at-corner as corner_row, row_of_corner as corner_width, byte_at-corner as corner_byte, HaveLength-corner as corner_lengths, HoldBytes-corner as corner_bytes}
+pub use Rattle.cb_gf256.proofs.LagrangeLemmas.{ascending_apart}
 
 -- what a caller of `row_mut` lists to read the rows that it has written
 pub ruleset written_rows = (written_count, written_row)

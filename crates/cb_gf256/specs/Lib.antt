@@ -5,4 +5,12 @@ pub mod Row
 pub mod Rows
 pub mod Block
 pub mod CodeWord
+pub mod InRange
+pub mod CodeColumn
+pub mod Positions
+pub mod Combination
+pub mod Corner
+pub mod Polynomial
+pub mod Lagrange
+pub mod Split
 pub mod Lends

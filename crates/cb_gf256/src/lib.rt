@@ -1,7 +1,9 @@
 //! The field GF(256) of the polynomial x^8+x^4+x^3+x^2+1, its laws, sums of rows of bytes, and what a code word is.
 #![tactic(auto)]
 
+mod erasures;
 mod field;
+mod lagrange;
 mod laws;
 mod no_memory;
 mod row;
@@ -10,7 +12,9 @@ mod tables;
 #[cfg(test)]
 mod tests;
 
+pub use erasures::{code_laws, combining_laws, corner_laws, polynomial_laws, restoring_laws, split_laws};
 pub use field::{add, inv, mul, pow};
+pub use lagrange::lagrange_factor;
 pub use laws::{field_laws, power_laws, powers_of_two, row_laws, sum_laws};
 pub use no_memory::NoMemory;
 pub use row::{axpy_row, xor_row};

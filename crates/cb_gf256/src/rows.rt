@@ -1,6 +1,6 @@
 ghost use Rattle.std.specs.Prelude.{◌≡◌, ◌<◌, [], length, replicate, IfOk};
 ghost use Rattle.std.specs.Borrow.{sem};
-ghost use Rattle.cb_gf256.specs.Rows.{row_at, AreRows};
+ghost use Rattle.cb_gf256.specs.Rows.{row_at, HaveLength, AreRows};
 ghost use Rattle.cb_gf256.specs.Lends.{LendsRow};
 
 use crate::NoMemory;
@@ -40,6 +40,13 @@ impl Rows {
         ensures { result ≡ length self.now }
     {
         self.count
+    }
+
+    /// How many bytes each row has.
+    pub fn row_len(&self) -> u32
+        ensures { HaveLength result self.now }
+    {
+        self.len
     }
 
     /// The row at position `i`.

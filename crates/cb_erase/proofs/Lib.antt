@@ -1,0 +1,4 @@
+pub mod Writes
+pub mod Walking
+pub mod Tables
+pub mod Words

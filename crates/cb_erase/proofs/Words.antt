@@ -1,0 +1,181 @@
+-- The filled table is the table of weights: it restores code words, and makes code words of any present rows.
+use Rattle.std.proofs.Common.{◌≡◌, ℕ, ◌+◌, ◌<◌, ◌≤◌, ◌==◌, if◌then◌else◌, List, [], length, get_or, All, refl, sym, ap, subst, ◌∙◌, ⊎_elim, arith, cond}
+use Rattle.std.proofs.lemmas.Bool.{cases_eq, eq-eqb, ne_eqb}
+use Rattle.std.proofs.lemmas.List.{get_or_default, get_or-map, length-map}
+use Rattle.std.proofs.lemmas.Grind.{same_number_lists}
+use Rattle.cb_gf256.specs.Sum.{sum_over}
+use Rattle.cb_gf256.specs.Product.{◌⊗◌}
+use Rattle.cb_gf256.specs.Rows.{row_at, byte_at, HaveLength, HoldBytes, AreRows}
+use Rattle.cb_gf256.specs.CodeWord.{IsCodeWord}
+use Rattle.cb_gf256.specs.InRange.{IsInRange}
+use Rattle.cb_gf256.specs.Positions.{ArePositions}
+use Rattle.cb_gf256.specs.Combination.{combination, AreCombinations}
+use Rattle.cb_gf256.specs.Corner.{corner}
+use Rattle.cb_gf256.specs.Lagrange.{IsLagrangeFactor, AreFactors}
+use Rattle.cb_gf256.specs.Split.{Splits}
+use Rattle.cb_gf256.proofs.PublicLaws.{zero_with_product, one_with_product, sum_over_same, sum_over_one_term, sums_make_a_word, lost_rows_are_sums, sums_are_bytes, agreeing_words_are_equal, corner_count, corner_byte, corner_lengths, corner_bytes}
+use Rattle.cb_erase.specs.Weights.{rows_at, IsSolution, AreWeights}
+use Rattle.cb_erase.proofs.Tables.{Filled}
+
+-- ---- the present rows
+pub row_at-rows_at : (rows : List (List ℕ)) (present : List ℕ) (i : ℕ) → i < length present → row_at (rows_at rows present) i ≡ row_at rows (get_or present i 0)
+row_at-rows_at rows present i l = get_or-map (row_at rows) present i 0 [] l
+
+pub HaveLength-rows_at : (len : ℕ) (rows : List (List ℕ)) (present : List ℕ) → All (λ p. p < length rows) present → HaveLength len rows → HaveLength len (rows_at rows present)
+HaveLength-rows_at len rows present below h i d l =
+    let within : i < length present = omega (arith, length-map present (row_at rows)) in
+    ap length (get_or_default (rows_at rows present) i d [] l ∙ row_at-rows_at rows present i within) ∙ h (get_or present i 0) [] (below i 0 within)
+
+pub AreRows-rows_at : (rows : List (List ℕ)) (present : List ℕ) → All (λ p. p < length rows) present → AreRows rows → AreRows (rows_at rows present)
+AreRows-rows_at rows present below h =
+    let lengths = HaveLength-rows_at (length (row_at rows 0)) rows present below h.equal_lengths in
+    record {
+      equal_lengths = λ i d l. lengths i d l ∙ sym (lengths 0 [] (omega arith));
+      bytes = λ i d l column z m.
+          let within : i < length present = omega (arith, length-map present (row_at rows)) in
+          let same : get_or (rows_at rows present) i d ≡ row_at rows (get_or present i 0) = get_or_default (rows_at rows present) i d [] l ∙ row_at-rows_at rows present i within in
+          omega (arith, ap (λ row. get_or row column z) same, h.bytes (get_or present i 0) [] (below i 0 within) column z (omega (arith, ap length same)));
+    }
+
+-- a sum over the present rows, written at their positions
+combination-rows_at : (k : ℕ) (table rows : List (List ℕ)) (present : List ℕ) (p column : ℕ) → length present ≡ k → length (row_at table p) ≡ k → combination (row_at table p) (rows_at rows present) column ≡ sum_over k (λ i. byte_at table p i ⊗ byte_at rows (get_or present i 0) column)
+combination-rows_at k table rows present p column h l =
+    ap (λ n. sum_over n (λ i. byte_at table p i ⊗ byte_at (rows_at rows present) i column)) l
+    ∙ sum_over_same k (λ i. byte_at table p i ⊗ byte_at (rows_at rows present) i column) (λ i. byte_at table p i ⊗ byte_at rows (get_or present i 0) column)
+    (λ i m. ap (λ row. byte_at table p i ⊗ get_or row column 0) (row_at-rows_at rows present i (omega arith)))
+
+-- with unit factors the sum is one term
+unit_sum : (k i : ℕ) (f x : ℕ → ℕ) → i < k → ((j : ℕ) → j < k → f j ≡ (if j == i then 1 else 0)) → x i < 256 → sum_over k (λ j. f j ⊗ x j) ≡ x i
+unit_sum k i f x l unit byte =
+    sum_over_one_term k i (λ j. f j ⊗ x j) l
+    (λ j m d. ap (λ v. v ⊗ x j) (unit j m ∙ ap (λ b. cond b 1 0) (ne_eqb j i d)) ∙ zero_with_product (x j))
+    ∙ ap (λ v. v ⊗ x i) (unit i l ∙ ap (λ b. cond b 1 0) (eq-eqb i i refl)) ∙ one_with_product (x i) byte
+
+-- ---- what a filled table holds
+-- the corner of the table: units at the present positions, and factors at the lost ones
+pub record IsFilled (k r : ℕ) (present lost : List ℕ) (table : List (List ℕ)) : Type 0 where
+  pub range : IsInRange k r
+  pub positions : ArePositions (k + r) k present
+  pub split : Splits (k + r) k r (λ i. get_or present i 0) (λ e. get_or lost e 0)
+  pub height : length table ≡ k + r
+  pub width : HaveLength k table
+  pub bytes : HoldBytes table
+  pub units : (i j : ℕ) → i < k → j < k → byte_at table (get_or present i 0) j ≡ (if j == i then 1 else 0)
+  pub factors : AreFactors k r (λ i. get_or present i 0) (λ e. get_or lost e 0) (λ e i. byte_at table (get_or lost e 0) i)
+
+pub filled_corner : (k r : ℕ) (present lost : List ℕ) (table : List (List ℕ)) → IsInRange k r → ArePositions (k + r) k present → length lost ≡ r → Splits (k + r) k r (λ i. get_or present i 0) (λ e. get_or lost e 0) → Filled present lost table r → IsFilled k r present lost (corner k (k + r) table)
+filled_corner k r present lost table range positions count split h =
+    let n = k + r in
+    let inside : n ≤ length table = omega (arith, h.height, range.data_most, range.parities_most) in
+    let same : (p i : ℕ) → p < n → i < k → byte_at (corner k n table) p i ≡ byte_at table p i = λ p i l m. corner_byte k n table p i (omega (arith, corner_count k n table inside)) m in
+    let factor : (e i : ℕ) → e < r → i < k → IsLagrangeFactor r (λ m. get_or lost m 0) e (get_or present i 0) (byte_at table (get_or lost e 0) i) = λ e i l m.
+    subst (λ c. IsLagrangeFactor c (λ x. get_or lost x 0) e (get_or present i 0) (byte_at table (get_or lost e 0) i)) count (h.factors e l i (omega (arith, positions.count))) in
+    let unit : (i j : ℕ) → i < k → j < k → byte_at table (get_or present i 0) j ≡ (if j == i then 1 else 0) = λ i j l m. h.units i (omega (arith, positions.count)) j (omega (arith, range.data_most)) in
+    record {
+      range = range;
+      positions = positions;
+      split = split;
+      height = corner_count k n table inside;
+      width = corner_lengths k n 16 table range.data_most inside h.width;
+      bytes =
+          corner_bytes k n 16 table range.data_most inside h.width
+          (λ p i l m.
+          ⊎_elim
+          (λ (x, q, e). subst (λ s. byte_at table s i < 256) e (unit_byte (byte_at table (get_or present x 0) i) i x (unit x i q m)))
+          (λ (x, q, e). subst (λ s. byte_at table s i < 256) e (factor x i q m).byte)
+          (split.covers p l));
+      units = λ i j l m. same (get_or present i 0) j (split.present_below i l) m ∙ unit i j l m;
+      factors = record { factor = λ e i l m. subst (IsLagrangeFactor r (λ x. get_or lost x 0) e (get_or present i 0)) (sym (same (get_or lost e 0) i (split.lost_below e l) m)) (factor e i l m) };
+    }
+  where
+    unit_byte : (v i x : ℕ) → v ≡ (if i == x then 1 else 0) → v < 256
+    unit_byte v i x e =
+        ⊎_elim (λ s. omega (arith, e ∙ ap (λ b. cond b 1 0) (eq-eqb i x s))) (λ s. omega (arith, e ∙ ap (λ b. cond b 1 0) (ne_eqb i x s))) (cases_eq i x)
+
+-- ---- the weights
+restored : (k r : ℕ) (present lost : List ℕ) (table word : List (List ℕ)) → IsFilled k r present lost table → IsCodeWord k r word → HoldBytes word → AreCombinations table (rows_at word present) word
+restored k r present lost table word h is_word bytes =
+    let small : k + r ≤ 255 = omega (arith, h.range.data_most, h.range.parities_most) in
+    let below : All (λ p. p < length word) present = λ i d l. omega (arith, h.positions.below i d l, is_word.count) in
+    let first : length (row_at (rows_at word present) 0) ≡ length (row_at word 0) =
+    HaveLength-rows_at (length (row_at word 0)) word present below is_word.equal_lengths 0 [] (omega (arith, length-map present (row_at word), h.positions.count, h.range.data_least)) in
+    let byte : (p column : ℕ) → p < k + r → column < length (row_at word 0) → byte_at word p column < 256 = λ p column l m.
+    let within : p < length word = omega (arith, is_word.count) in
+    bytes p [] within column 0 (omega (arith, is_word.equal_lengths p [] within)) in
+    record {
+      count = is_word.count ∙ sym h.height;
+      equal_lengths = λ i d l. is_word.equal_lengths i d l ∙ sym first;
+      values = λ p column l m.
+          let within : p < k + r = omega (arith, h.height) in
+          let short : column < length (row_at word 0) = omega arith in
+          ⊎_elim
+          (λ (i, q, e).
+          subst (λ s. byte_at word s column ≡ combination (row_at table s) (rows_at word present) column) e
+          (sym
+          (combination-rows_at k table word present (get_or present i 0) column h.positions.count (h.width (get_or present i 0) [] (omega (arith, h.height, h.split.present_below i q)))
+          ∙ unit_sum k i (byte_at table (get_or present i 0)) (λ j. byte_at word (get_or present j 0) column) q (λ j t. h.units i j q t) (byte (get_or present i 0) column (h.split.present_below i q) short))))
+          (λ (x, q, e).
+          subst (λ s. byte_at word s column ≡ combination (row_at table s) (rows_at word present) column) e
+          (lost_rows_are_sums k r word (λ i. get_or present i 0) (λ y. get_or lost y 0) (λ y i. byte_at table (get_or lost y 0) i) small h.split h.factors is_word bytes x column q short
+          ∙ sym (combination-rows_at k table word present (get_or lost x 0) column h.positions.count (h.width (get_or lost x 0) [] (omega (arith, h.height, h.split.lost_below x q))))))
+          (h.split.covers p within);
+    }
+
+solved : (k r : ℕ) (present lost : List ℕ) (table rows word : List (List ℕ)) → IsFilled k r present lost table → length rows ≡ k + r → AreRows rows → AreCombinations table (rows_at rows present) word → IsSolution k r present rows word
+solved k r present lost table rows word h count are_rows made =
+    let small : k + r ≤ 255 = omega (arith, h.range.data_most, h.range.parities_most) in
+    let some : 0 < k = omega (arith, h.range.data_least) in
+    let len = length (row_at rows 0) in
+    let below : All (λ p. p < length rows) present = λ i d l. omega (arith, h.positions.below i d l) in
+    let first : length (row_at (rows_at rows present) 0) ≡ len =
+    HaveLength-rows_at len rows present below are_rows.equal_lengths 0 [] (omega (arith, length-map present (row_at rows), h.positions.count)) in
+    let lengths : HaveLength len word = λ i d l. made.equal_lengths i d l ∙ first in
+    let byte : (i column : ℕ) → i < k → column < len → byte_at rows (get_or present i 0) column < 256 = λ i column l m.
+    let within : get_or present i 0 < length rows = omega (arith, h.split.present_below i l) in
+    are_rows.bytes (get_or present i 0) [] within column 0 (omega (arith, are_rows.equal_lengths (get_or present i 0) [] within)) in
+    let kept : (i column : ℕ) → i < k → column < len → byte_at word (get_or present i 0) column ≡ byte_at rows (get_or present i 0) column = λ i column l m.
+    let p = get_or present i 0 in
+    let in_table : p < length table = omega (arith, h.height, h.split.present_below i l) in
+    made.values p column in_table (omega arith)
+    ∙ combination-rows_at k table rows present p column h.positions.count (h.width p [] in_table)
+    ∙ unit_sum k i (byte_at table p) (λ j. byte_at rows (get_or present j 0) column) l (λ j t. h.units i j l t) (byte i column l m) in
+    record {
+      is_word =
+          sums_make_a_word k r len word (λ i. get_or present i 0) (λ e. get_or lost e 0) (λ e i. byte_at table (get_or lost e 0) i) small some h.split h.factors
+          (made.count ∙ h.height) lengths
+          (λ i column l m. omega (arith, kept i column l m, byte i column l m))
+          (λ e column l m.
+          let p = get_or lost e 0 in
+          let in_table : p < length table = omega (arith, h.height, h.split.lost_below e l) in
+          made.values p column in_table (omega arith)
+          ∙ combination-rows_at k table rows present p column h.positions.count (h.width p [] in_table)
+          ∙ sum_over_same k (λ i. byte_at table p i ⊗ byte_at rows (get_or present i 0) column) (λ i. byte_at table p i ⊗ byte_at word (get_or present i 0) column)
+          (λ i q. ap (λ v. byte_at table p i ⊗ v) (sym (kept i column q m))));
+      agrees = λ i d l.
+          let own : i < k = omega (arith, h.positions.count) in
+          let q = get_or present i 0 in
+          let in_rows : q < length rows = omega (arith, h.split.present_below i own) in
+          let in_word : q < length word = omega (arith, made.count, h.height, h.split.present_below i own) in
+          subst (λ p. row_at word p ≡ row_at rows p) (get_or_default present i 0 d l)
+          (same_number_lists (row_at word q) (row_at rows q) (lengths q [] in_word ∙ sym (are_rows.equal_lengths q [] in_rows))
+          (λ column m. kept i column own (omega (arith, lengths q [] in_word))));
+    }
+
+pub weights_of : (k r : ℕ) (present lost : List ℕ) (table : List (List ℕ)) → IsFilled k r present lost table → AreWeights k r present table
+weights_of k r present lost table h = record {
+  positions = h.height;
+  factors = h.width;
+  bytes = h.bytes;
+  restore = λ word is_word bytes. restored k r present lost table word h is_word bytes;
+  solve = λ rows word count are_rows made. solved k r present lost table rows word h count are_rows made;
+}
+
+-- ---- the only solution
+pub only_solution : (k r : ℕ) (present : List ℕ) (table rows word other : List (List ℕ)) → IsInRange k r → ArePositions (k + r) k present → AreWeights k r present table → length rows ≡ k + r → AreRows rows → AreCombinations table (rows_at rows present) word → HoldBytes other → IsSolution k r present rows other → other ≡ word
+only_solution k r present table rows word other range positions weights count are_rows made bytes solution =
+    let own = weights.solve rows word count are_rows made in
+    let below : All (λ p. p < length rows) present = λ i d l. omega (arith, positions.below i d l) in
+    let width : HaveLength (length (rows_at rows present)) table = λ j d l. weights.factors j d l ∙ sym (length-map present (row_at rows) ∙ positions.count) in
+    agreeing_words_are_equal k r other word present (omega (arith, range.data_most, range.parities_most)) (omega (arith, range.data_least)) positions
+    solution.is_word bytes own.is_word (sums_are_bytes table (rows_at rows present) word weights.bytes width (AreRows-rows_at rows present below are_rows) made)
+    (λ i d l. solution.agrees i d l ∙ sym (own.agrees i d l))

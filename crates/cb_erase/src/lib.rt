@@ -1,0 +1,13 @@
+//! Erasures of the Reed-Solomon code over GF(256): any k rows of a code word give the others.
+#![tactic(auto)]
+
+mod lost;
+mod solving;
+mod table;
+#[cfg(test)]
+mod tests;
+mod weighing;
+
+pub use solving::solve;
+pub use table::Weights;
+pub use weighing::weights;
