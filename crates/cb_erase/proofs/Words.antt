@@ -9,11 +9,11 @@ use Rattle.cb_gf256.specs.Rows.{row_at, byte_at, HaveLength, HoldBytes, AreRows}
 use Rattle.cb_gf256.specs.CodeWord.{IsCodeWord}
 use Rattle.cb_gf256.specs.InRange.{IsInRange}
 use Rattle.cb_gf256.specs.Positions.{ArePositions}
-use Rattle.cb_gf256.specs.Combination.{combination, AreCombinations}
+use Rattle.cb_gf256.specs.Combination.{combination, AreCombinations, ArePartCombinations}
 use Rattle.cb_gf256.specs.Corner.{corner}
 use Rattle.cb_gf256.specs.Lagrange.{IsLagrangeFactor, AreFactors}
 use Rattle.cb_gf256.specs.Split.{Splits}
-use Rattle.cb_gf256.proofs.PublicLaws.{zero_with_product, one_with_product, sum_over_same, sum_over_one_term, sums_make_a_word, lost_rows_are_sums, sums_are_bytes, agreeing_words_are_equal, corner_count, corner_byte, corner_lengths, corner_bytes}
+use Rattle.cb_gf256.proofs.PublicLaws.{zero_with_product, one_with_product, sum_over_same, sum_over_one_term, sums_make_a_word, lost_rows_are_sums, sums_are_bytes, agreeing_words_are_equal, combinations_all, corner_count, corner_byte, corner_lengths, corner_bytes}
 use Rattle.cb_erase.specs.Weights.{rows_at, IsSolution, AreWeights}
 use Rattle.cb_erase.proofs.Tables.{Filled}
 
@@ -179,3 +179,10 @@ only_solution k r present table rows word other range positions weights count ar
     agreeing_words_are_equal k r other word present (omega (arith, range.data_most, range.parities_most)) (omega (arith, range.data_least)) positions
     solution.is_word bytes own.is_word (sums_are_bytes table (rows_at rows present) word weights.bytes width (AreRows-rows_at rows present below are_rows) made)
     (λ i d l. solution.agrees i d l ∙ sym (own.agrees i d l))
+
+-- all rows of the word are made
+pub all_made : (k r : ℕ) (present : List ℕ) (table rows word : List (List ℕ)) (len p : ℕ) → IsInRange k r → ArePositions (k + r) k present → AreWeights k r present table → length rows ≡ k + r → HaveLength len rows → ArePartCombinations len table (rows_at rows present) word p → k + r ≤ p → AreCombinations table (rows_at rows present) word
+all_made k r present table rows word len p range positions weights count lengths made all =
+    let below : All (λ q. q < length rows) present = λ i d l. omega (arith, positions.below i d l) in
+    combinations_all len table (rows_at rows present) word p made (omega (arith, weights.positions))
+    (HaveLength-rows_at len rows present below lengths 0 [] (omega (arith, length-map present (row_at rows), positions.count, range.data_least)))

@@ -1,5 +1,5 @@
 -- The corner of a table that is wider and higher than what is used of it.
-use Rattle.std.proofs.Common.{◌≡◌, ℕ, ◌<◌, ◌≤◌, List, [], length, get_or, take, map, ap, ◌∙◌, arith}
+use Rattle.std.proofs.Common.{◌≡◌, ℕ, ◌<◌, ◌≤◌, List, [], length, get_or, take, ap, ◌∙◌, arith}
 use Rattle.std.proofs.lemmas.List.{get_or_default, get_or-take, get_or-map, length-take-le, length-take, length-map}
 use Rattle.cb_gf256.specs.Rows.{row_at, byte_at, HaveLength, HoldBytes}
 use Rattle.cb_gf256.specs.Corner.{corner}

@@ -12,7 +12,9 @@ mod tables;
 #[cfg(test)]
 mod tests;
 
-pub use erasures::{code_laws, combining_laws, corner_laws, polynomial_laws, restoring_laws, split_laws};
+pub use erasures::{
+    code_laws, combining_laws, corner_laws, polynomial_laws, restoring_laws, split_laws,
+};
 pub use field::{add, inv, mul, pow};
 pub use lagrange::lagrange_factor;
 pub use laws::{field_laws, power_laws, powers_of_two, row_laws, sum_laws};
