@@ -2,6 +2,8 @@
 //! into two parities, as often as the one word says. It prints how many parities there were in all.
 #![tactic(auto)]
 
+ghost use Rattle.std.specs.Prelude.{◌≡◌, ◌*◌, IfOk};
+
 use cb_code::{coefficients, encode};
 use cb_gf256::{NoMemory, Rows};
 use std::alloc::Global;
@@ -16,13 +18,15 @@ const PARITIES: u32 = 2;
 const ROW_BYTES: u32 = 4096;
 
 /// Encodes so many times, and answers the number of parities.
-fn encode_times(alloc: Global, times: u32) -> Result<u64, NoMemory> {
+fn encode_times(alloc: Global, times: u32) -> Result<u64, NoMemory>
+    ensures { IfOk result (λ parities. parities ≡ times * PARITIES) }
+{
     let code = coefficients(DATA_ROWS, PARITIES);
     let rows = Rows::new(alloc, DATA_ROWS, ROW_BYTES)?;
     let mut parities = 0u64;
     for _ in 0..times {
         let encoded = encode(alloc, &code, &rows)?;
-        parities = parities.wrapping_add(u64::from(encoded.count()));
+        parities += u64::from(encoded.count());
     }
     Ok(parities)
 }

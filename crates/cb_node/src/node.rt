@@ -43,6 +43,7 @@ impl Node {
         self.rows.len()
     }
 
+    /// Whether there is a row under the key.
     pub fn has(&self, key: u64) -> bool
         ensures { result ≡ map.contains_key self.now key }
     {
@@ -72,6 +73,7 @@ impl Node {
         self.rows.remove(&key);
     }
 
+    /// Drops all rows.
     pub fn clear(&mut self)
         ensures { self.new ≡ map.empty }
     {

@@ -30,6 +30,7 @@ impl Row {
         }
     }
 
+    /// A copy of these bytes.
     pub fn copy_of(alloc: Global, bytes: &[u8]) -> Result<Row, NoMemory>
         ensures { IfOk result (λ row. row ≡ bytes.now) }
     {
@@ -53,6 +54,7 @@ impl Row {
         add_change(self.bytes.as_mut_slice(), c, other);
     }
 
+    /// The bytes of the row, in order.
     pub fn bytes(&self) -> &[u8]
         ensures { result.now ≡ self.now }
     {
