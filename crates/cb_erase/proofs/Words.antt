@@ -1,7 +1,7 @@
 -- The filled table is the table of weights: it restores code words, and makes code words of any present rows.
 use Rattle.std.proofs.Common.{◌≡◌, ℕ, ◌+◌, ◌<◌, ◌≤◌, ◌==◌, if◌then◌else◌, List, [], length, get_or, All, refl, sym, ap, subst, ◌∙◌, ⊎_elim, arith, cond}
 use Rattle.std.proofs.lemmas.Bool.{cases_eq, eq-eqb, ne_eqb}
-use Rattle.std.proofs.lemmas.List.{get_or_default, get_or-map, length-map}
+use Rattle.std.proofs.lemmas.List.{same_lists, get_or_default, get_or-map, length-map}
 use Rattle.std.proofs.lemmas.Grind.{same_number_lists}
 use Rattle.cb_gf256.specs.Sum.{sum_over}
 use Rattle.cb_gf256.specs.Product.{◌⊗◌}
@@ -121,44 +121,42 @@ restored k r present lost table word h is_word bytes =
           (h.split.covers p within);
     }
 
-solved : (k r : ℕ) (present lost : List ℕ) (table rows word : List (List ℕ)) → IsFilled k r present lost table → length rows ≡ k + r → AreRows rows → AreCombinations table (rows_at rows present) word → IsSolution k r present rows word
-solved k r present lost table rows word h count are_rows made =
-    let small : k + r ≤ 255 = omega (arith, h.range.data_most, h.range.parities_most) in
-    let some : 0 < k = omega (arith, h.range.data_least) in
-    let len = length (row_at rows 0) in
-    let below : All (λ p. p < length rows) present = λ i d l. omega (arith, h.positions.below i d l) in
-    let first : length (row_at (rows_at rows present) 0) ≡ len =
-    HaveLength-rows_at len rows present below are_rows.equal_lengths 0 [] (omega (arith, length-map present (row_at rows), h.positions.count)) in
-    let lengths : HaveLength len word = λ i d l. made.equal_lengths i d l ∙ first in
-    let byte : (i column : ℕ) → i < k → column < len → byte_at rows (get_or present i 0) column < 256 = λ i column l m.
-    let within : get_or present i 0 < length rows = omega (arith, h.split.present_below i l) in
-    are_rows.bytes (get_or present i 0) [] within column 0 (omega (arith, are_rows.equal_lengths (get_or present i 0) [] within)) in
-    let kept : (i column : ℕ) → i < k → column < len → byte_at word (get_or present i 0) column ≡ byte_at rows (get_or present i 0) column = λ i column l m.
+solved : (k r : ℕ) (present lost : List ℕ) (table shown word : List (List ℕ)) → IsFilled k r present lost table → length shown ≡ k → AreRows shown → AreCombinations table shown word → IsSolution k r present shown word
+solved k r present lost table shown word h count are_rows made =
+    let len = length (row_at shown 0) in
+    let byte : (i column : ℕ) → i < k → column < len → byte_at shown i column < 256 = λ i column l m.
+    let within : i < length shown = omega arith in
+    are_rows.bytes i [] within column 0 (omega (arith, are_rows.equal_lengths i [] within)) in
+    let value : (p column : ℕ) → p < k + r → column < len → byte_at word p column ≡ sum_over k (λ i. byte_at table p i ⊗ byte_at shown i column) = λ p column l m.
+    let in_table : p < length table = omega (arith, h.height) in
+    made.values p column in_table m ∙ ap (λ n. sum_over n (λ i. byte_at table p i ⊗ byte_at shown i column)) (h.width p [] in_table) in
+    let kept : (i column : ℕ) → i < k → column < len → byte_at word (get_or present i 0) column ≡ byte_at shown i column = λ i column l m.
     let p = get_or present i 0 in
-    let in_table : p < length table = omega (arith, h.height, h.split.present_below i l) in
-    made.values p column in_table (omega arith)
-    ∙ combination-rows_at k table rows present p column h.positions.count (h.width p [] in_table)
-    ∙ unit_sum k i (byte_at table p) (λ j. byte_at rows (get_or present j 0) column) l (λ j t. h.units i j l t) (byte i column l m) in
+    value p column (h.split.present_below i l) m ∙ unit_sum k i (byte_at table p) (λ j. byte_at shown j column) l (λ j t. h.units i j l t) (byte i column l m) in
     record {
       is_word =
-          sums_make_a_word k r len word (λ i. get_or present i 0) (λ e. get_or lost e 0) (λ e i. byte_at table (get_or lost e 0) i) small some h.split h.factors
-          (made.count ∙ h.height) lengths
+          sums_make_a_word k r len word (λ i. get_or present i 0) (λ e. get_or lost e 0) (λ e i. byte_at table (get_or lost e 0) i)
+          (omega (arith, h.range.data_most, h.range.parities_most)) (omega (arith, h.range.data_least)) h.split h.factors
+          (made.count ∙ h.height) made.equal_lengths
           (λ i column l m. omega (arith, kept i column l m, byte i column l m))
           (λ e column l m.
           let p = get_or lost e 0 in
-          let in_table : p < length table = omega (arith, h.height, h.split.lost_below e l) in
-          made.values p column in_table (omega arith)
-          ∙ combination-rows_at k table rows present p column h.positions.count (h.width p [] in_table)
-          ∙ sum_over_same k (λ i. byte_at table p i ⊗ byte_at rows (get_or present i 0) column) (λ i. byte_at table p i ⊗ byte_at word (get_or present i 0) column)
+          value p column (h.split.lost_below e l) m
+          ∙ sum_over_same k (λ i. byte_at table p i ⊗ byte_at shown i column) (λ i. byte_at table p i ⊗ byte_at word (get_or present i 0) column)
           (λ i q. ap (λ v. byte_at table p i ⊗ v) (sym (kept i column q m))));
-      agrees = λ i d l.
-          let own : i < k = omega (arith, h.positions.count) in
-          let q = get_or present i 0 in
-          let in_rows : q < length rows = omega (arith, h.split.present_below i own) in
-          let in_word : q < length word = omega (arith, made.count, h.height, h.split.present_below i own) in
-          subst (λ p. row_at word p ≡ row_at rows p) (get_or_default present i 0 d l)
-          (same_number_lists (row_at word q) (row_at rows q) (lengths q [] in_word ∙ sym (are_rows.equal_lengths q [] in_rows))
-          (λ column m. kept i column own (omega (arith, lengths q [] in_word))));
+      agrees =
+          same_lists (rows_at word present) shown (length-map present (row_at word) ∙ h.positions.count ∙ sym count)
+          (λ i d l.
+          let own : i < length present = omega (arith, length-map present (row_at word)) in
+          let below_k : i < k = omega (arith, h.positions.count) in
+          let p = get_or present i 0 in
+          let in_shown : i < length shown = omega arith in
+          let in_word : p < length word = omega (arith, made.count, h.height, h.split.present_below i below_k) in
+          get_or_default (rows_at word present) i d [] l
+          ∙ row_at-rows_at word present i own
+          ∙ same_number_lists (row_at word p) (row_at shown i) (made.equal_lengths p [] in_word ∙ sym (are_rows.equal_lengths i [] in_shown))
+          (λ column m. kept i column below_k (omega (arith, made.equal_lengths p [] in_word)))
+          ∙ sym (get_or_default shown i d [] in_shown));
     }
 
 pub weights_of : (k r : ℕ) (present lost : List ℕ) (table : List (List ℕ)) → IsFilled k r present lost table → AreWeights k r present table
@@ -167,18 +165,27 @@ weights_of k r present lost table h = record {
   factors = h.width;
   bytes = h.bytes;
   restore = λ word is_word bytes. restored k r present lost table word h is_word bytes;
-  solve = λ rows word count are_rows made. solved k r present lost table rows word h count are_rows made;
+  solve = λ shown word count are_rows made. solved k r present lost table shown word h count are_rows made;
 }
 
 -- ---- the only solution
-pub only_solution : (k r : ℕ) (present : List ℕ) (table rows word other : List (List ℕ)) → IsInRange k r → ArePositions (k + r) k present → AreWeights k r present table → length rows ≡ k + r → AreRows rows → AreCombinations table (rows_at rows present) word → HoldBytes other → IsSolution k r present rows other → other ≡ word
-only_solution k r present table rows word other range positions weights count are_rows made bytes solution =
-    let own = weights.solve rows word count are_rows made in
-    let below : All (λ p. p < length rows) present = λ i d l. omega (arith, positions.below i d l) in
-    let width : HaveLength (length (rows_at rows present)) table = λ j d l. weights.factors j d l ∙ sym (length-map present (row_at rows) ∙ positions.count) in
+pub only_solution : (k r : ℕ) (present : List ℕ) (table shown word other : List (List ℕ)) → IsInRange k r → ArePositions (k + r) k present → AreWeights k r present table → length shown ≡ k → AreRows shown → AreCombinations table shown word → HoldBytes other → IsSolution k r present shown other → other ≡ word
+only_solution k r present table shown word other range positions weights count are_rows made bytes solution =
+    let own = weights.solve shown word count are_rows made in
+    let width : HaveLength (length shown) table = λ j d l. weights.factors j d l ∙ sym count in
     agreeing_words_are_equal k r other word present (omega (arith, range.data_most, range.parities_most)) (omega (arith, range.data_least)) positions
-    solution.is_word bytes own.is_word (sums_are_bytes table (rows_at rows present) word weights.bytes width (AreRows-rows_at rows present below are_rows) made)
-    (λ i d l. solution.agrees i d l ∙ sym (own.agrees i d l))
+    solution.is_word bytes own.is_word (sums_are_bytes table shown word weights.bytes width are_rows made)
+    (λ i d l.
+    subst (λ p. row_at other p ≡ row_at word p) (get_or_default present i 0 d l)
+    (sym (row_at-rows_at other present i l) ∙ ap (λ rows. row_at rows i) (solution.agrees ∙ sym own.agrees) ∙ row_at-rows_at word present i l))
+
+-- ---- the rows that `solve` makes
+-- the present rows are k rows of bytes
+pub shown_rows : (k r : ℕ) (present : List ℕ) (rows : List (List ℕ)) → ArePositions (k + r) k present → length rows ≡ k + r → AreRows rows → (length (rows_at rows present) ≡ k) × AreRows (rows_at rows present)
+shown_rows k r present rows positions count are_rows = (
+  length-map present (row_at rows) ∙ positions.count,
+  AreRows-rows_at rows present (λ i d l. omega (arith, positions.below i d l)) are_rows,
+)
 
 -- all rows of the word are made
 pub all_made : (k r : ℕ) (present : List ℕ) (table rows word : List (List ℕ)) (len p : ℕ) → IsInRange k r → ArePositions (k + r) k present → AreWeights k r present table → length rows ≡ k + r → HaveLength len rows → ArePartCombinations len table (rows_at rows present) word p → k + r ≤ p → AreCombinations table (rows_at rows present) word

@@ -15,9 +15,9 @@ pub fn solve(alloc: Global, k: u32, r: u32, rows: &Rows, present: &[u8]) -> Resu
     requires in_range { IsInRange k r }
     requires positions { ArePositions (k + r) k present.now }
     requires count { length rows.now ≡ k + r }
-    ensures solution { IfOk result (λ word. IsSolution k r present.now rows.now word) }
+    ensures solution { IfOk result (λ word. IsSolution k r present.now (rows_at rows.now present.now) word) }
     ensures only { IfOk result (λ word. (other : List (List ℕ)) → HoldBytes other
-        → IsSolution k r present.now rows.now other → other ≡ word) }
+        → IsSolution k r present.now (rows_at rows.now present.now) other → other ≡ word) }
 {
     let w = weights(k, r, present);
     let len = rows.row_len();

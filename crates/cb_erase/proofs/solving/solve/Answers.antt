@@ -4,7 +4,7 @@ use Rattle.cb_gf256.specs.Rows.{row_at}
 use Rattle.cb_gf256.specs.Combination.{combination}
 use Rattle.cb_gf256.proofs.PublicLaws.{combinations_more}
 use Rattle.cb_erase.specs.Weights.{rows_at}
-use Rattle.cb_erase.proofs.Words.{only_solution, all_made}
+use Rattle.cb_erase.proofs.Words.{only_solution, shown_rows, all_made}
 use Rattle.cb_erase.proofs.solving.solve.Goals as goal
 
 pub loop-p-preserved : goal.loop-p-preserved
@@ -22,16 +22,23 @@ loop-p-preserved c =
 
 pub returns-clause-solution : goal.returns-clause-solution
 returns-clause-solution c =
+    let k = c.args.k in
+    let r = c.args.r in
     let rows = c.args.rows.now in
+    let present = c.args.present.now in
     let w = c.weights-w.ensures in
-    w.solve rows c.loop-p.word c.requires.count (c.loop-p.invariant.1 (omega (arith, c.requires.in_range.data_least)))
-    (all_made c.args.k c.args.r c.args.present.now c.weights-w.result rows c.loop-p.word c.row_len-len.result c.loop-p.p c.requires.in_range c.requires.positions w c.requires.count c.row_len-len.ensures c.loop-p.invariant.0 c.loop-p-test.false)
+    let shown = shown_rows k r present rows c.requires.positions c.requires.count (c.loop-p.invariant.1 (omega (arith, c.requires.in_range.data_least))) in
+    w.solve (rows_at rows present) c.loop-p.word shown.0 shown.1
+    (all_made k r present c.weights-w.result rows c.loop-p.word c.row_len-len.result c.loop-p.p c.requires.in_range c.requires.positions w c.requires.count c.row_len-len.ensures c.loop-p.invariant.0 c.loop-p-test.false)
 
 pub returns-clause-only : goal.returns-clause-only
 returns-clause-only c other bytes solution =
+    let k = c.args.k in
+    let r = c.args.r in
     let rows = c.args.rows.now in
+    let present = c.args.present.now in
     let w = c.weights-w.ensures in
-    only_solution c.args.k c.args.r c.args.present.now c.weights-w.result rows c.loop-p.word other c.requires.in_range c.requires.positions w c.requires.count
-    (c.loop-p.invariant.1 (omega (arith, c.requires.in_range.data_least)))
-    (all_made c.args.k c.args.r c.args.present.now c.weights-w.result rows c.loop-p.word c.row_len-len.result c.loop-p.p c.requires.in_range c.requires.positions w c.requires.count c.row_len-len.ensures c.loop-p.invariant.0 c.loop-p-test.false)
+    let shown = shown_rows k r present rows c.requires.positions c.requires.count (c.loop-p.invariant.1 (omega (arith, c.requires.in_range.data_least))) in
+    only_solution k r present c.weights-w.result (rows_at rows present) c.loop-p.word other c.requires.in_range c.requires.positions w shown.0 shown.1
+    (all_made k r present c.weights-w.result rows c.loop-p.word c.row_len-len.result c.loop-p.p c.requires.in_range c.requires.positions w c.requires.count c.row_len-len.ensures c.loop-p.invariant.0 c.loop-p-test.false)
     bytes solution
