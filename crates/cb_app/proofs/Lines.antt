@@ -1,5 +1,5 @@
 -- One more line of a script is answered.
-use Rattle.std.proofs.Common.{◌≡◌, ℕ, ◌+◌, ◌<◌, List, [], ◌∷◌, ◌++◌, length, get_or, take, map, refl, sym, ap, subst, ◌∙◌}
+use Rattle.std.proofs.Common.{◌≡◌, ℕ, ◌+◌, ◌<◌, List, [], ◌∷◌, ◌++◌, length, get_or, take, map, sym, ap, ◌∙◌}
 use Rattle.std.proofs.lemmas.List.{map_push, take_more}
 use Rattle.cb_types.specs.declared.answer.Answer.{Answer}
 use Rattle.cb_types.specs.declared.answer.Request.{Request}

@@ -1,13 +1,13 @@
 -- A run keeps what its answers made.
-use Rattle.std.proofs.Common.{◌≡◌, ℕ, ◌+◌, ◌<◌, ◌≤◌, Bool, true, false, cond, eqb, List, [], ◌∷◌, ◌++◌, length, get_or, map, Option, Some, None, refl, sym, ap, subst, ◌∙◌, append_assoc, arith, ◌⊎◌, inl, inr}
+use Rattle.std.proofs.Common.{◌≡◌, ℕ, ◌+◌, ◌<◌, ◌≤◌, Bool, true, false, cond, List, [], ◌∷◌, ◌++◌, length, map, Option, Some, None, refl, sym, ap, ◌∙◌, append_assoc, arith, inl, inr}
 use Rattle.std.specs.Option.{option_map}
-use Rattle.std.specs.List.{flat_map, fold, slice_get, Contains}
+use Rattle.std.specs.List.{fold, slice_get}
 use Rattle.std.specs.Str.{bytes_eq}
 use Rattle.std.proofs.lemmas.Bool.{cases_lt, cases_Bool, cases_eq, eq-eqb, ne_eqb}
-use Rattle.std.proofs.lemmas.List.{append-nil, length-append, length_push, map_push, get_or_append_left, get_or_push}
+use Rattle.std.proofs.lemmas.List.{append-nil, length_push, map_push, get_or_append_left, get_or_push}
 use Rattle.std.proofs.lemmas.List.Concat.{flat_map-append}
 use Rattle.std.proofs.lemmas.List.Sums.{fold-append}
-use Rattle.std.proofs.lemmas.Option.{slice_get_past, slice_get_within, slice_get-get_or}
+use Rattle.std.proofs.lemmas.Option.{slice_get_past, slice_get-get_or}
 use Rattle.std.proofs.lemmas.Slice.Eq.{bytes_eq-Decides}
 use Rattle.cb_types.specs.declared.answer.Answer.{Answer}
 use Rattle.cb_types.specs.declared.answer.Request.{Request}
@@ -17,12 +17,10 @@ use Rattle.cb_types.specs.declared.answer.Reply.TheVariants.{Made, Bytes}
 use Rattle.cb_types.specs.declared.handle.Handle.{Handle}
 use Rattle.cb_model.specs.declared.map.Object.{Object}
 use Rattle.cb_model.specs.Map.{Map, with_made}
-use Rattle.cb_model.specs.Now.{Now, Change, changed}
-use Rattle.cb_model.specs.Now.Now.{Never, Held}
-use Rattle.cb_model.specs.Now.Change.{Makes}
+use Rattle.cb_model.specs.Now.{Change, changed}
+use Rattle.cb_model.specs.Now.Now.{Never}
 use Rattle.cb_model.specs.History.{handle_of, handle_made, first_of, change_to, changes_to, value}
 use Rattle.cb_model.specs.Legal.{IsMapReply, Follow}
-use Rattle.cb_script.specs.declared.script.Line.{Line}
 use Rattle.cb_script.specs.Form.{made, names_made, IsKnown}
 use Rattle.cb_app.specs.Asked.{asked}
 use Rattle.cb_app.specs.Step.{Names, kept_handle, CanStep, Steps}
@@ -137,17 +135,6 @@ Tracks-push answers old new names kept a t known step =
       handles = λ q. handle_of-push q answers a ∙ parts.handles q;
       in_range = λ q h e. parts.in_range q h (sym (handle_of-push q answers a) ∙ e);
       count = parts.count ∙ sym (ap length (ap made (map_push asked answers a) ∙ made-push (map asked answers) (asked a)));
-    }
-
--- Before any line nothing is kept.
-pub Tracks-none : (handles : ℕ) (names : Names) → names.entries ≡ [] → Tracks [] (record { handles = handles; objects = [] }) names
-Tracks-none handles names empty =
-    record {
-      follow = tt;
-      values = λ h. refl;
-      handles = λ q. rw empty refl;
-      in_range = λ q h e. absurd cc;
-      count = refl;
     }
 
 some_kept : (kept : Option Handle) (h : ℕ) → option_map (λ (x : Handle). x.n) kept ≡ Some h → (handle : Handle) × (kept ≡ Some handle) × (handle.n ≡ h)

@@ -1,19 +1,18 @@
 -- Answers that follow the map are legal.
-use Rattle.std.proofs.Common.{◌≡◌, ℕ, ◌≤◌, Bool, true, false, cond, eqb, leb, List, [], ◌∷◌, ◌++◌, Option, Some, None, refl, sym, ap, subst, ◌∙◌, append_assoc, arith}
-use Rattle.std.specs.List.{flat_map, fold, filter, AllByRecursion}
+use Rattle.std.proofs.Common.{◌≡◌, ℕ, List, [], ◌∷◌, ◌++◌, Option, Some, None, refl, sym, ap, subst, ◌∙◌, append_assoc, arith}
+use Rattle.std.specs.List.{AllByRecursion}
 use Rattle.std.proofs.lemmas.Bool.{le-leb}
-use Rattle.std.proofs.lemmas.List.{append-nil}
 use Rattle.std.proofs.lemmas.List.Concat.{flat_map-append}
 use Rattle.cb_types.specs.declared.answer.Answer.{Answer}
 use Rattle.cb_types.specs.declared.answer.Request.{Request}
 use Rattle.cb_types.specs.declared.answer.Request.TheVariants.{Make, Read}
 use Rattle.cb_types.specs.declared.answer.Reply.{Reply}
 use Rattle.cb_types.specs.declared.answer.Reply.TheVariants.{Made, Bytes}
-use Rattle.cb_model.specs.Now.{Now, Change, changed}
-use Rattle.cb_model.specs.Now.Now.{Never, Held}
+use Rattle.cb_model.specs.Now.{Change}
+use Rattle.cb_model.specs.Now.Now.{Held}
 use Rattle.cb_model.specs.Now.Change.{Makes}
-use Rattle.cb_model.specs.History.{handle_of, handle_made, first_of, change_to, changes_to, value, history, by_version, held_at, IsHistory}
-use Rattle.cb_model.specs.Legal.{Shows, NeverFalls, Rising, name_of, version_of, IsMapReply, Follow, IsLegal, IsLegalInOrder}
+use Rattle.cb_model.specs.History.{handle_of, handle_made, first_of, change_to, changes_to, held_at}
+use Rattle.cb_model.specs.Legal.{Shows, NeverFalls, Rising, version_of, IsMapReply, Follow, IsLegal}
 use Rattle.cb_model.proofs.Single.{Single, Unmade, MadeOnce, Single-IsHistory, Single-push, Single-append, held_once}
 
 first_of-append : (here later longer : Option ℕ) (h : ℕ) → first_of here later ≡ Some h → (later ≡ Some h → longer ≡ Some h) → first_of here longer ≡ Some h

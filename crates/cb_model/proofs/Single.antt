@@ -1,6 +1,6 @@
 -- What answers that follow the map have at a handle: at most one change, a make at the first version.
-use Rattle.std.proofs.Common.{◌≡◌, ℕ, ◌≤◌, Bool, true, false, cond, eqb, leb, List, [], ◌∷◌, ◌++◌, Option, Some, None, refl, sym, ap, subst, ◌∙◌, append_assoc, arith}
-use Rattle.std.specs.List.{flat_map, fold, filter}
+use Rattle.std.proofs.Common.{◌≡◌, ℕ, Bool, true, false, cond, eqb, List, [], ◌∷◌, ◌++◌, refl, sym, ap, ◌∙◌, append_assoc}
+use Rattle.std.specs.List.{fold}
 use Rattle.std.proofs.lemmas.Bool.{eqb-true}
 use Rattle.std.proofs.lemmas.List.{append-nil}
 use Rattle.std.proofs.lemmas.List.Concat.{flat_map-append}
@@ -9,10 +9,10 @@ use Rattle.cb_types.specs.declared.answer.Request.{Request}
 use Rattle.cb_types.specs.declared.answer.Request.TheVariants.{Make, Read}
 use Rattle.cb_types.specs.declared.answer.Reply.{Reply}
 use Rattle.cb_types.specs.declared.answer.Reply.TheVariants.{Made, Bytes}
-use Rattle.cb_model.specs.Now.{Now, Change, changed}
+use Rattle.cb_model.specs.Now.{Change, changed}
 use Rattle.cb_model.specs.Now.Now.{Never, Held}
 use Rattle.cb_model.specs.Now.Change.{Makes}
-use Rattle.cb_model.specs.History.{handle_of, handle_made, first_of, change_to, changes_to, value, by_version, held_at, IsHistory}
+use Rattle.cb_model.specs.History.{change_to, changes_to, by_version, IsHistory}
 use Rattle.cb_model.specs.Legal.{IsMapReply, Follow}
 
 -- no change, or a make at the first version

@@ -8,7 +8,7 @@ use Rattle.cb_types.specs.declared.answer.Request.TheVariants.{Make, Read}
 use Rattle.cb_types.specs.declared.answer.Reply.{Reply}
 use Rattle.cb_types.specs.declared.answer.Reply.TheVariants.{Made, Bytes}
 use Rattle.cb_model.specs.Now.{Now, Change, changed}
-use Rattle.cb_model.specs.Now.Now.{Never, Held}
+use Rattle.cb_model.specs.Now.Now.{Never}
 use Rattle.cb_model.specs.Now.Change.{Makes}
 
 -- the handle that a make of this name was answered

@@ -1,4 +1,4 @@
-use Rattle.std.proofs.Common.{◌≡◌, sym, ap, ◌∙◌, inl, inr, Err}
+use Rattle.std.proofs.Common.{ap, inl, inr, Err}
 use Rattle.cb_app.proofs.Refusals.{all_taken}
 use Rattle.cb_app.proofs.run.run.Goals as goal
 

@@ -1,5 +1,4 @@
-use Rattle.std.proofs.Common.{◌≡◌, get_or, take, map, refl, sym, ap, ◌∙◌, arith, rules}
-use Rattle.cb_script.specs.Form.{made}
+use Rattle.std.proofs.Common.{map, ◌∙◌, arith, rules}
 use Rattle.cb_app.specs.Asked.{asked}
 use Rattle.cb_app.proofs.Tracking.{Steps-handles, Tracks-can_step}
 use Rattle.cb_app.proofs.Places.{IsNext, next_line}
