@@ -29,7 +29,8 @@ impl Model for SpanSet {
 }
 
 impl SpanSet {
-    /// A set whose data positions are all dead. A position is a u32, so their number is one too.
+    /// A set whose data positions are all dead. Positions are numbers of 32 bits: more shards than
+    /// they number are answered as want of memory.
     pub fn new(
         alloc: Global,
         id: u64,
@@ -37,11 +38,13 @@ impl SpanSet {
         r: u32,
         shards: &[Shard],
     ) -> Result<SpanSet, NoMemory>
-        requires count { length shards.now ≡ k + r }
-        requires positions { k + r < 2 ^ 32 }
+        requires { length shards.now ≡ k + r }
         ensures fresh { IfOk result (λ set. set ≡ fresh_set id k shards.now) }
         ensures valid { IfOk result IsSet }
     {
+        if shards.len() > u32::MAX as usize {
+            return Err(NoMemory);
+        }
         let shards = Vec::from_slice(alloc, shards)?;
         let mut positions = Vec::with_capacity(alloc, k as usize)?;
         for _ in 0..k {
