@@ -1,0 +1,106 @@
+ghost use Rattle.std.specs.Prelude.{◌≡◌, IfOk};
+
+use crate::bytes::Bytes;
+use crate::name::Name;
+use cb_member::{NoMemory, NodeId};
+use std::alloc::Global;
+
+/// What a line of a script asks for.
+#[derive(Debug, Drop)]
+pub enum Request {
+    /// A new object with these bytes, 1 to 1,024 of them, under a new name.
+    Make { name: Name, bytes: Bytes },
+    /// The object's bytes.
+    Read { name: Name },
+    /// These bytes, 0 to 1,024 of them, in place of those from the byte number `at` on.
+    Write { name: Name, at: u32, bytes: Bytes },
+    /// The end of the object.
+    Free { name: Name },
+    /// A pin of the lane: the object stays in local memory until it is given back.
+    Pin { name: Name },
+    /// The bytes of an object that the lane has pinned.
+    Peek { name: Name },
+    /// The newest pin of the lane on the object is given back.
+    Unpin { name: Name },
+    /// All pins of the lane are given back.
+    Leave,
+    /// The object moves to a span of its temperature.
+    Filter { name: Name },
+    /// A batch of spans leaves local memory, whole.
+    Evict,
+    /// A batch of spans begins to leave.
+    Begin,
+    /// The next row of the leaving batch is put on a node.
+    Ship,
+    /// The leaving batch is a span-set from here.
+    Commit,
+    /// The leaving batch stays in local memory.
+    Abort,
+    /// Two span-sets begin to be joined.
+    Pair,
+    /// The next row of the joining pair is made.
+    Patch,
+    /// The joining pair is one span-set from here.
+    Merge,
+    /// The joining pair stays two span-sets.
+    Part,
+    /// Two span-sets are joined, whole.
+    Compact,
+    /// A lost row is made again on another node.
+    Rebuild,
+    /// The node crashes: its rows are lost.
+    Crash { node: NodeId },
+    /// The node is up again, with no rows.
+    Join { node: NodeId },
+}
+
+impl Request {
+    /// A copy of the request.
+    pub fn copy(&self, alloc: Global) -> Result<Request, NoMemory>
+        ensures copy { IfOk result (λ copy. copy ≡ self.now) }
+    {
+        Ok(match self {
+            Request::Make { name, bytes } => Request::Make {
+                name: Name::copy_of(alloc, name.as_slice())?,
+                bytes: Bytes::copy_of(alloc, bytes.as_slice())?,
+            },
+            Request::Write { name, at, bytes } => Request::Write {
+                name: Name::copy_of(alloc, name.as_slice())?,
+                at: *at,
+                bytes: Bytes::copy_of(alloc, bytes.as_slice())?,
+            },
+            Request::Read { name } => Request::Read {
+                name: Name::copy_of(alloc, name.as_slice())?,
+            },
+            Request::Free { name } => Request::Free {
+                name: Name::copy_of(alloc, name.as_slice())?,
+            },
+            Request::Pin { name } => Request::Pin {
+                name: Name::copy_of(alloc, name.as_slice())?,
+            },
+            Request::Peek { name } => Request::Peek {
+                name: Name::copy_of(alloc, name.as_slice())?,
+            },
+            Request::Unpin { name } => Request::Unpin {
+                name: Name::copy_of(alloc, name.as_slice())?,
+            },
+            Request::Filter { name } => Request::Filter {
+                name: Name::copy_of(alloc, name.as_slice())?,
+            },
+            Request::Leave => Request::Leave,
+            Request::Evict => Request::Evict,
+            Request::Begin => Request::Begin,
+            Request::Ship => Request::Ship,
+            Request::Commit => Request::Commit,
+            Request::Abort => Request::Abort,
+            Request::Pair => Request::Pair,
+            Request::Patch => Request::Patch,
+            Request::Merge => Request::Merge,
+            Request::Part => Request::Part,
+            Request::Compact => Request::Compact,
+            Request::Rebuild => Request::Rebuild,
+            Request::Crash { node } => Request::Crash { node: *node },
+            Request::Join { node } => Request::Join { node: *node },
+        })
+    }
+}
