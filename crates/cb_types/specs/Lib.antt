@@ -3,3 +3,5 @@ pub mod Faults
 pub mod Source
 pub mod Sink
 pub mod Memory
+pub mod Requests
+pub mod Table

@@ -27,6 +27,13 @@ impl Bytes {
         Ok(Bytes { items })
     }
 
+    /// A copy of these bytes.
+    pub fn copy(&self, alloc: Global) -> Result<Bytes, NoMemory>
+        ensures items { IfOk result (λ copy. copy ≡ self.now) }
+    {
+        Bytes::copy_of(alloc, self.items.as_slice())
+    }
+
     /// The bytes, in order.
     pub fn as_slice(&self) -> &[u8]
         ensures items { result.now ≡ self.now }

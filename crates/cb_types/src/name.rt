@@ -28,6 +28,13 @@ impl Name {
         Ok(Name { items })
     }
 
+    /// A copy of these bytes.
+    pub fn copy(&self, alloc: Global) -> Result<Name, NoMemory>
+        ensures items { IfOk result (λ copy. copy ≡ self.now) }
+    {
+        Name::copy_of(alloc, self.items.as_slice())
+    }
+
     /// The bytes of the name, in order.
     pub fn as_slice(&self) -> &[u8]
         ensures items { result.now ≡ self.now }

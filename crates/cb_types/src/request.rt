@@ -1,4 +1,5 @@
 ghost use Rattle.std.specs.Prelude.{◌≡◌, IfOk};
+ghost use Rattle.cb_types.specs.Requests.{HasNoName};
 
 use crate::bytes::Bytes;
 use crate::name::Name;
@@ -59,35 +60,44 @@ impl Request {
     pub fn copy(&self, alloc: Global) -> Result<Request, NoMemory>
         ensures copy { IfOk result (λ copy. copy ≡ self.now) }
     {
-        Ok(match self {
-            Request::Make { name, bytes } => Request::Make {
-                name: Name::copy_of(alloc, name.as_slice())?,
-                bytes: Bytes::copy_of(alloc, bytes.as_slice())?,
-            },
-            Request::Write { name, at, bytes } => Request::Write {
-                name: Name::copy_of(alloc, name.as_slice())?,
+        match self {
+            Request::Make { name, bytes } => Ok(Request::Make {
+                name: name.copy(alloc)?,
+                bytes: bytes.copy(alloc)?,
+            }),
+            Request::Write { name, at, bytes } => Ok(Request::Write {
+                name: name.copy(alloc)?,
                 at: *at,
-                bytes: Bytes::copy_of(alloc, bytes.as_slice())?,
-            },
-            Request::Read { name } => Request::Read {
-                name: Name::copy_of(alloc, name.as_slice())?,
-            },
-            Request::Free { name } => Request::Free {
-                name: Name::copy_of(alloc, name.as_slice())?,
-            },
-            Request::Pin { name } => Request::Pin {
-                name: Name::copy_of(alloc, name.as_slice())?,
-            },
-            Request::Peek { name } => Request::Peek {
-                name: Name::copy_of(alloc, name.as_slice())?,
-            },
-            Request::Unpin { name } => Request::Unpin {
-                name: Name::copy_of(alloc, name.as_slice())?,
-            },
-            Request::Filter { name } => Request::Filter {
-                name: Name::copy_of(alloc, name.as_slice())?,
-            },
-            Request::Leave => Request::Leave,
+                bytes: bytes.copy(alloc)?,
+            }),
+            Request::Read { name } => Ok(Request::Read {
+                name: name.copy(alloc)?,
+            }),
+            Request::Free { name } => Ok(Request::Free {
+                name: name.copy(alloc)?,
+            }),
+            Request::Pin { name } => Ok(Request::Pin {
+                name: name.copy(alloc)?,
+            }),
+            Request::Peek { name } => Ok(Request::Peek {
+                name: name.copy(alloc)?,
+            }),
+            Request::Unpin { name } => Ok(Request::Unpin {
+                name: name.copy(alloc)?,
+            }),
+            Request::Filter { name } => Ok(Request::Filter {
+                name: name.copy(alloc)?,
+            }),
+            _ => Ok(self.copy_nameless()),
+        }
+    }
+
+    /// A copy of a request that has no name.
+    fn copy_nameless(&self) -> Request
+        requires { HasNoName self.now }
+        ensures copy { result ≡ self.now }
+    {
+        match self {
             Request::Evict => Request::Evict,
             Request::Begin => Request::Begin,
             Request::Ship => Request::Ship,
@@ -101,6 +111,7 @@ impl Request {
             Request::Rebuild => Request::Rebuild,
             Request::Crash { node } => Request::Crash { node: *node },
             Request::Join { node } => Request::Join { node: *node },
-        })
+            _ => Request::Leave,
+        }
     }
 }
