@@ -1,2 +1,4 @@
-pub mod Single
+pub mod Reading
+pub mod Growing
+pub mod Moves
 pub mod Order

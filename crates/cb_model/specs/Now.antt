@@ -1,15 +1,25 @@
--- What a handle holds, and what a completed call makes of it.
-use Rattle.std.specs.Prelude.{ℕ, List}
+-- What a map has at a handle, and what a completed call makes of it.
+use Rattle.std.specs.Prelude.{ℕ, ◌+◌, List, ◌++◌, length, take, drop, Option, Some, None}
+use Rattle.cb_model.specs.declared.object.Object.{Object}
+use Rattle.cb_model.specs.declared.object.Object.TheVariants.{Held, Freed}
 
--- a handle was never made, or it has these bytes at this version
-pub data Now : Type 0 where
-  Never : Now
-  Held : ℕ → List ℕ → Now
+-- a handle was never made, it has bytes at a version, or it was freed at a version
+abbrev pub Now : Type 0
+Now = Option Object
+
+-- the bytes from place `at` on are replaced by as many others
+abbrev pub overwritten : List ℕ → ℕ → List ℕ → List ℕ
+overwritten old at bytes = take at old ++ bytes ++ drop (at + length bytes) old
 
 -- what a completed call did to a handle
 pub data Change : Type 0 where
-  Makes : List ℕ → Change
+  Create : List ℕ → Change
+  Overwrite : ℕ → List ℕ → Change
+  Remove : Change
 
--- what the handle holds after a change that answered this version
+-- what the map has after a change that answered this version
 abbrev pub changed : Now → ℕ × Change → Now
-changed before (version, Makes bytes) = Held version bytes
+changed before (version, Create bytes) = Some (Held version bytes)
+changed (Some (Held old bytes)) (version, Overwrite at new) = Some (Held version (overwritten bytes at new))
+changed before (version, Overwrite at new) = before
+changed before (version, Remove) = Some (Freed version)

@@ -5,8 +5,16 @@ use cb_types::{Bytes, Handle};
 pub enum Call {
     /// A new object with these bytes.
     Make { bytes: Bytes },
-    /// The bytes of an object that was made.
+    /// The bytes of an object.
     Read { handle: Handle },
+    /// These bytes in place of those from the byte number `at` on, within the object.
+    Write {
+        handle: Handle,
+        at: u32,
+        bytes: Bytes,
+    },
+    /// The end of an object.
+    Free { handle: Handle },
 }
 
 /// What the map replies.
@@ -16,4 +24,14 @@ pub enum MapReply {
     Made { handle: Handle, version: u64 },
     /// The object's version, and its bytes.
     Bytes { version: u64, bytes: Bytes },
+    /// The version of the object since this write or free.
+    Version { version: u64 },
+    /// The object was freed.
+    Freed,
+    /// The write goes past the object's end; its length in bytes.
+    Range { len: u32 },
+    /// The handle was never made.
+    Unmade,
+    /// As many objects as there are handles were made; their number.
+    Full { handles: u32 },
 }

@@ -3,12 +3,12 @@
 #![tactic(auto)]
 
 pub mod call;
-pub mod laws;
 pub mod map;
+pub mod object;
 
 pub use call::{Call, MapReply};
-pub use laws::legal_in_order;
-pub use map::{MapState, Object};
+pub use map::MapState;
+pub use object::Object;
 
 #[cfg(test)]
 mod tests;

@@ -1,4 +1,4 @@
-ghost use Rattle.std.specs.Prelude.{◌≡◌, IfOk};
+ghost use Rattle.std.specs.Prelude.{◌≡◌, ◌≤◌, ◌+◌, ◌++◌, length, take, drop, IfOk};
 
 use cb_member::NoMemory;
 use std::alloc::Global;
@@ -39,6 +39,21 @@ impl Bytes {
         ensures items { result.now ≡ self.now }
     {
         self.items.as_slice()
+    }
+
+    /// How many bytes there are.
+    pub fn len(&self) -> usize
+        ensures { result ≡ length self.now }
+    {
+        self.items.len()
+    }
+
+    /// Puts bytes in place of as many from the place `at` on, which are within; takes no memory.
+    pub fn overwrite(&mut self, at: usize, bytes: &[u8])
+        requires within { at + length bytes.now ≤ length self.old }
+        ensures value { self.new ≡ take at self.old ++ bytes.now ++ drop (at + length bytes.now) self.old }
+    {
+        self.items[at..at + bytes.len()].copy_from_slice(bytes);
     }
 
     /// Gives the bytes' own memory back as a vector; takes none.
