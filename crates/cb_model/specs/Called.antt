@@ -29,10 +29,10 @@ abbrev pub handle_made : List ℕ → Request → Reply → Option ℕ
 handle_made name (Make made bytes) (Made handle version) = if bytes_eq name made then Some handle.n else None
 handle_made name request reply = None
 
--- the handle of a name, by the answer to its make
+-- the handle of a name, by the last answer to its make
 abbrev pub handle_of : List Answer → List ℕ → Option ℕ
 handle_of [] name = None
-handle_of (a ∷ later) name = first_of (handle_made name a.request a.reply) (handle_of later name)
+handle_of (a ∷ later) name = first_of (handle_of later name) (handle_made name a.request a.reply)
 
 -- the handle of a name, where there is a name
 abbrev pub handle_named : List Answer → Option (List ℕ) → Option ℕ

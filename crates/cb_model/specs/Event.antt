@@ -64,6 +64,17 @@ event_of (Write name at bytes) (reply.Range len) = FindsEnd at bytes len
 event_of (Free name) (reply.Version version) = Frees version
 event_of request reply = refusal (subject_of request) reply
 
+-- the reply is one that the map gives
+abbrev pub IsOfMap : Reply → Type 0
+IsOfMap (reply.Made handle version) = Unit {0}
+IsOfMap (reply.Version version) = Unit {0}
+IsOfMap (reply.Bytes version bytes) = Unit {0}
+IsOfMap (reply.Full handles) = Unit {0}
+IsOfMap reply.Unmade = Unit {0}
+IsOfMap reply.Freed = Unit {0}
+IsOfMap (reply.Range len) = Unit {0}
+IsOfMap reply = ⊥
+
 -- the change that an answered call made, with the version that it answered
 abbrev pub change_of : Event → List (ℕ × Change)
 change_of (Makes bytes version) = (version, Create bytes) ∷ []

@@ -6,6 +6,8 @@ use Rattle.cb_model.specs.declared.call.Call.{Call}
 use Rattle.cb_model.specs.declared.call.Call.TheVariants.{Make, Read, Write, Free}
 use Rattle.cb_model.specs.declared.call.MapReply.{MapReply}
 use Rattle.cb_model.specs.declared.call.MapReply.TheVariants as reply
+use Rattle.cb_types.specs.declared.reply.Reply.{Reply}
+use Rattle.cb_types.specs.declared.reply.Reply.TheVariants as lines
 use Rattle.cb_model.specs.Now.{Now, overwritten}
 use Rattle.cb_model.specs.Event.{Event}
 use Rattle.cb_model.specs.Event.Event.{Makes, Shows, Writes, Frees, FindsFull, FindsUnmade, FindsFreed, FindsEnd, Wrong}
@@ -15,6 +17,16 @@ use Rattle.cb_model.specs.Replies.{MapReplies}
 pub record Map : Type 0 where
   pub handles : ℕ
   pub objects : List Object
+
+-- the reply of a line for a reply of the map
+abbrev pub line_reply : MapReply → Reply
+line_reply (reply.Made handle version) = lines.Made handle version
+line_reply (reply.Bytes version bytes) = lines.Bytes version bytes
+line_reply (reply.Version version) = lines.Version version
+line_reply reply.Freed = lines.Freed
+line_reply (reply.Range len) = lines.Range len
+line_reply reply.Unmade = lines.Unmade
+line_reply (reply.Full handles) = lines.Full handles
 
 -- the number of bytes fits 32 bits
 abbrev pub IsSmall : Object → Type 0

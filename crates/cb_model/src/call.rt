@@ -1,4 +1,4 @@
-use cb_types::{Bytes, Handle};
+use cb_types::{Bytes, Handle, Reply};
 
 /// A call on the map.
 #[derive(Debug, Drop)]
@@ -34,4 +34,24 @@ pub enum MapReply {
     Unmade,
     /// As many objects as there are handles were made; their number.
     Full { handles: u32 },
+}
+
+impl From<MapReply> for Reply {
+    ghost use Rattle.std.specs.Prelude.{◌≡◌};
+    ghost use Rattle.cb_model.specs.Map.{line_reply};
+
+    ghost from_gives = { λ reply line. line ≡ line_reply reply };
+
+    /// The map's reply as that of a line. Takes no memory.
+    fn from(reply: MapReply) -> Reply {
+        match reply {
+            MapReply::Made { handle, version } => Reply::Made { handle, version },
+            MapReply::Bytes { version, bytes } => Reply::Bytes { version, bytes },
+            MapReply::Version { version } => Reply::Version { version },
+            MapReply::Freed => Reply::Freed,
+            MapReply::Range { len } => Reply::Range { len },
+            MapReply::Unmade => Reply::Unmade,
+            MapReply::Full { handles } => Reply::Full { handles },
+        }
+    }
 }

@@ -13,8 +13,8 @@ use Rattle.std.proofs.lemmas.List.Elements.{Contains-push, Contains-push_cases, 
 use Rattle.std.proofs.lemmas.Map.Text.{is_eq-slice_cmp}
 use Rattle.std.proofs.lemmas.Slice.Eq.{bytes_eq-Decides}
 use Rattle.hex.specs.Hex.{encode_lower}
-use Rattle.cb_types.specs.declared.answer.Request.{Request}
-use Rattle.cb_types.specs.declared.answer.Request.TheVariants.{Make, Read}
+use Rattle.cb_types.specs.declared.request.Request.{Request}
+use Rattle.cb_types.specs.declared.request.Request.TheVariants.{Make, Read}
 use Rattle.cb_script.specs.Form.{IsName, IsContents}
 use Rattle.cb_script.specs.Known.{has_name, HasNames, MayStand}
 
@@ -62,18 +62,22 @@ module _ (known : List (List ℕ)) (handles : ℕ) (name text : List ℕ) where
   pub make_needs_name : (IsName name → ⊥) → (r : Request) → MayStand known handles (codes "make" ∷ name ∷ text ∷ []) r → ⊥
   make_needs_name refuted (Make n bytes) stands = let e : n ≡ name = cc (stands.spelled) in refuted (subst IsName e stands.request.0)
   make_needs_name refuted (Read n) stands = absurd (cc (stands.spelled))
+  make_needs_name refuted other stands = absurd stands.request
 
   pub make_needs_new : Contains known name → (r : Request) → MayStand known handles (codes "make" ∷ name ∷ text ∷ []) r → ⊥
   make_needs_new made (Make n bytes) stands = let e : name ≡ n = cc (stands.spelled) in stands.allowed (subst (Contains known) e made)
   make_needs_new made (Read n) stands = absurd (cc (stands.spelled))
+  make_needs_new made other stands = absurd stands.request
 
   pub make_needs_handle : handles ≤ length known → (r : Request) → MayStand known handles (codes "make" ∷ name ∷ text ∷ []) r → ⊥
   make_needs_handle full (Make n bytes) stands = omega (arith, stands.room, length_push known n)
   make_needs_handle full (Read n) stands = absurd (cc (stands.spelled))
+  make_needs_handle full other stands = absurd stands.request
 
   pub make_needs_contents : ((bytes : List ℕ) → IsContents bytes × (text ≡ encode_lower bytes) → ⊥) → (r : Request) → MayStand known handles (codes "make" ∷ name ∷ text ∷ []) r → ⊥
   make_needs_contents none (Make n bytes) stands = let e : text ≡ encode_lower bytes = cc (stands.spelled) in none bytes (stands.request.1, e)
   make_needs_contents none (Read n) stands = absurd (cc (stands.spelled))
+  make_needs_contents none other stands = absurd stands.request
 
   pub make_stands : (bytes : List ℕ) → IsName name → (Contains known name → ⊥) → length known < handles → IsContents bytes → text ≡ encode_lower bytes
       → MayStand known handles (codes "make" ∷ name ∷ text ∷ []) (Make name bytes)
@@ -90,10 +94,12 @@ module _ (known : List (List ℕ)) (handles : ℕ) (name : List ℕ) where
   pub read_needs_name : (IsName name → ⊥) → (r : Request) → MayStand known handles (codes "read" ∷ name ∷ []) r → ⊥
   read_needs_name refuted (Make n bytes) stands = absurd (cc (stands.spelled))
   read_needs_name refuted (Read n) stands = let e : n ≡ name = cc (stands.spelled) in refuted (subst IsName e stands.request)
+  read_needs_name refuted other stands = absurd stands.request
 
   pub read_needs_known : (Contains known name → ⊥) → (r : Request) → MayStand known handles (codes "read" ∷ name ∷ []) r → ⊥
   read_needs_known refuted (Make n bytes) stands = absurd (cc (stands.spelled))
   read_needs_known refuted (Read n) stands = let e : n ≡ name = cc (stands.spelled) in refuted (subst (Contains known) e stands.allowed)
+  read_needs_known refuted other stands = absurd stands.request
 
   pub read_stands : IsName name → Contains known name → length known ≤ handles → MayStand known handles (codes "read" ∷ name ∷ []) (Read name)
   read_stands is_name made room = record { request = is_name; allowed = made; spelled = refl; room = omega (arith, ap length (append-nil known)) }

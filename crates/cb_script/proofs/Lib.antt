@@ -7,3 +7,4 @@ pub mod Texts
 pub mod Front
 pub mod Headers
 pub mod Scripts
+pub mod Building

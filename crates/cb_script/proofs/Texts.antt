@@ -8,8 +8,8 @@ use Rattle.std.proofs.lemmas.Bool.{ne_eqb, leb-true, and_parts}
 use Rattle.std.proofs.lemmas.List.Elements.{All-nil, All-cons, All-weaker, All-append}
 use Rattle.std.proofs.lemmas.Str.Parse.{digit_from_value}
 use Rattle.hex.specs.Hex.{encode_lower}
-use Rattle.cb_types.specs.declared.answer.Request.{Request}
-use Rattle.cb_types.specs.declared.answer.Request.TheVariants.{Make, Read}
+use Rattle.cb_types.specs.declared.request.Request.{Request}
+use Rattle.cb_types.specs.declared.request.Request.TheVariants.{Make, Read}
 use Rattle.cb_types.specs.declared.config.Config.{Config}
 use Rattle.cb_script.specs.declared.script.Line.{Line}
 use Rattle.cb_script.specs.Spelling.{setting, header_words, request_words, line_words}
@@ -67,6 +67,7 @@ request_is_words : (r : Request) → IsRequest r → AreWords (request_words r)
 request_is_words (Make name bytes) h =
     (IsWord-from_test (codes "make") refl, (All-weaker IsNameByte (λ b. 32 < b) above_name name h.0.each, (All-weaker IsLowerDigit (λ b. 32 < b) above_lower (encode_lower bytes) (lower_encoded bytes h.1.each), tt)))
 request_is_words (Read name) h = (IsWord-from_test (codes "read") refl, (All-weaker IsNameByte (λ b. 32 < b) above_name name h.each, tt))
+request_is_words request h = absurd h
 
 -- ---- words joined by spaces
 
@@ -117,6 +118,7 @@ line_lacks_feed l form = lacks_feed (line_words l) (line_is_words l form)
 request_full : (lane : List ℕ) (r : Request) → IsFull (join_with_byte 32 (lane ∷ request_words r))
 request_full lane (Make name bytes) = is_full lane (codes "make") (name ∷ encode_lower bytes ∷ [])
 request_full lane (Read name) = is_full lane (codes "read") (name ∷ [])
+request_full lane other = is_full lane [] []
 
 pub line_full : (l : Line) → IsFull (line_text l)
 line_full l = request_full (decimal l.lane.n) l.request
@@ -128,8 +130,11 @@ request_injective (Make m x) (Make n y) hr hs e =
     let bytes : x ≡ y = encode_injective x y hr.1 hs.1 texts in
     cc
 request_injective (Make m x) (Read n) hr hs e = absurd cc
+request_injective (Make m x) other hr hs e = absurd hs
 request_injective (Read m) (Make n y) hr hs e = absurd cc
 request_injective (Read m) (Read n) hr hs e = cc
+request_injective (Read m) other hr hs e = absurd hs
+request_injective request other hr hs e = absurd hr
 
 pub HasForm-from_follow : (before : List Line) (l : Line) → MayFollow before l → HasForm l
 HasForm-from_follow before l follows = record { lane = follows.lane; request = follows.request }

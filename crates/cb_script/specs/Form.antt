@@ -2,8 +2,8 @@
 use Rattle.std.specs.Prelude.{◌≡◌, ℕ, ◌+◌, ◌<◌, ◌≤◌, ◌⊎◌, List, [], ◌∷◌, ◌++◌, length, All, Contains}
 use Rattle.std.specs.List.{flat_map}
 use Rattle.cb_types.specs.Config.{IsAccepted}
-use Rattle.cb_types.specs.declared.answer.Request.{Request}
-use Rattle.cb_types.specs.declared.answer.Request.TheVariants.{Make, Read}
+use Rattle.cb_types.specs.declared.request.Request.{Request}
+use Rattle.cb_types.specs.declared.request.Request.TheVariants.{Make, Read}
 use Rattle.cb_script.specs.declared.script.Line.{Line}
 use Rattle.cb_script.specs.declared.script.Script.{Script}
 use Rattle.cb_script.specs.declared.script.Mode.{Mode}
@@ -29,11 +29,12 @@ pub record IsContents (bytes : List ℕ) : Type 0 where
 abbrev pub IsRequest : Request → Type 0
 IsRequest (Make name bytes) = IsName name × IsContents bytes
 IsRequest (Read name) = IsName name
+IsRequest request = ⊥
 
 -- the name that a request makes, where it makes one
 abbrev pub names_made : Request → List (List ℕ)
 names_made (Make name bytes) = name ∷ []
-names_made (Read name) = []
+names_made request = []
 
 -- the names made on these lines, in order
 abbrev pub made : List Line → List (List ℕ)
@@ -43,6 +44,7 @@ made lines = flat_map (λ l. names_made l.request) lines
 abbrev pub IsKnown : List (List ℕ) → Request → Type 0
 IsKnown names (Make name bytes) = Contains names name → ⊥
 IsKnown names (Read name) = Contains names name
+IsKnown names request = ⊥
 
 -- The line may stand behind these lines. The header is line 1, and there is one lane.
 pub record MayFollow (before : List Line) (l : Line) : Type 0 where

@@ -4,7 +4,7 @@ use Rattle.std.specs.Borrow.{Bor}
 use Rattle.std.specs.BTreeSet.{BTreeSet, contains_by, btree_set_len}
 use Rattle.std.specs.Cmp.Lexicographic.{slice_cmp}
 use Rattle.std.specs.Ordering.{nat_cmp}
-use Rattle.cb_types.specs.declared.answer.Request.{Request}
+use Rattle.cb_types.specs.declared.request.Request.{Request}
 use Rattle.cb_script.specs.Form.{IsRequest, IsKnown, names_made}
 use Rattle.cb_script.specs.Spelling.{request_words}
 

@@ -8,3 +8,4 @@ pub mod Shape
 pub mod Known
 pub mod Next
 pub mod Reasons
+pub mod Built

@@ -4,8 +4,8 @@ use Rattle.std.specs.List.{join_with_byte, flat_map}
 use Rattle.std.specs.Fmt.{decimal}
 use Rattle.hex.specs.Hex.{encode_lower}
 use Rattle.cb_types.specs.declared.config.Config.{Config}
-use Rattle.cb_types.specs.declared.answer.Request.{Request}
-use Rattle.cb_types.specs.declared.answer.Request.TheVariants.{Make, Read}
+use Rattle.cb_types.specs.declared.request.Request.{Request}
+use Rattle.cb_types.specs.declared.request.Request.TheVariants.{Make, Read}
 use Rattle.cb_script.specs.declared.script.Line.{Line}
 use Rattle.cb_script.specs.declared.script.Script.{Script}
 
@@ -28,6 +28,7 @@ header_words c =
 abbrev pub request_words : Request → List (List ℕ)
 request_words (Make name bytes) = codes "make" ∷ name ∷ encode_lower bytes ∷ []
 request_words (Read name) = codes "read" ∷ name ∷ []
+request_words request = [] ∷ []
 
 -- the words of a line: its lane and its request
 abbrev pub line_words : Line → List (List ℕ)

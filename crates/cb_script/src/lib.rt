@@ -13,10 +13,12 @@ mod number;
 pub mod read;
 pub mod script;
 mod shape;
+pub mod unbuilt;
 
 pub use fault::{Reason, ScriptFault};
 pub use read::read_script;
 pub use script::{Line, Lines, Mode, Script};
+pub use unbuilt::first_unbuilt;
 
 #[cfg(test)]
 mod tests;

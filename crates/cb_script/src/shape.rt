@@ -1,6 +1,7 @@
 ghost use Rattle.std.specs.Prelude.{◌≡◌, ◌↔◌, IsTrue, MatchOption};
-ghost use Rattle.cb_types.specs.declared.answer.Request.{Request};
+ghost use Rattle.cb_types.specs.declared.request.Request.{Request};
 ghost use Rattle.cb_script.specs.Spelling.{request_words};
+ghost use Rattle.cb_script.specs.Form.{IsRequest};
 ghost use Rattle.cb_script.specs.Cut.{texts};
 ghost use Rattle.cb_script.specs.Shape.{shape_words};
 
@@ -13,7 +14,7 @@ pub(crate) enum Shape<'a> {
 
 /// The shape of the words behind a lane: the verb, and the words that this verb has.
 pub(crate) fn shape_of<'a>(words: &[&'a [u8]]) -> Option<Shape<'a>>
-    ensures { MatchOption result ((r : Request) → texts words.now ≡ request_words r → ⊥)
+    ensures { MatchOption result ((r : Request) → IsRequest r → texts words.now ≡ request_words r → ⊥)
         (λ shape. texts words.now ≡ shape_words shape) }
 {
     match words {

@@ -2,8 +2,11 @@
 #![tactic(auto)]
 
 pub mod line;
+mod reply;
+mod verb;
+mod word;
 
-pub use line::line_text;
+pub use line::{line_text, push_line};
 
 #[cfg(test)]
 mod tests;

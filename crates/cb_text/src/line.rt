@@ -1,56 +1,60 @@
 ghost use Rattle.std.specs.Prelude.{◌≡◌, ◌++◌, OnOk, IfOk};
-ghost use Rattle.cb_text.specs.Line.{line_of, version_text, spaced};
+ghost use Rattle.cb_types.specs.Table.{IsReplyOf};
+ghost use Rattle.cb_text.specs.Line.{answer_line, spaced, subject_text};
 
+use crate::reply::push_reply;
+use crate::verb::verb;
+use crate::word::{push_number, push_word};
 use cb_types::{Bytes, Lane, NoMemory, Reply, Request};
 use itoa::Buffer;
 use std::alloc::Global;
 
-/// The line of output that tells a request of a lane and its reply, with its line feed.
+/// The line of output that tells a request of a lane and its reply, with its line feed. The reply is
+/// one that a line of this request may be answered.
 pub fn line_text(
     alloc: Global,
     lane: Lane,
     request: &Request,
     reply: &Reply,
 ) -> Result<Bytes, NoMemory>
-    ensures text { IfOk result (λ text. text ≡ line_of lane request.now reply.now) }
+    requires { IsReplyOf request.now reply.now }
+    ensures text { IfOk result (λ text. text ≡ answer_line lane request.now reply.now) }
 {
-    let mut line = Vec::new(alloc);
-    line.extend_from_slice(Buffer::new().format(lane.n).as_bytes())?;
-    match request {
-        Request::Make { name, .. } => {
-            push_word(&mut line, b"make")?;
-            push_word(&mut line, name.as_slice())?;
-        }
-        Request::Read { name } => {
-            push_word(&mut line, b"read")?;
-            push_word(&mut line, name.as_slice())?;
-        }
-    }
-    match reply {
-        Reply::Made { version, .. } => push_version(&mut line, *version)?,
-        Reply::Bytes { version, bytes } => {
-            push_version(&mut line, *version)?;
-            push_word(&mut line, hex::encode(alloc, bytes.as_slice())?.as_bytes())?;
-        }
-    }
-    line.push(b'\n')?;
-    Ok(Bytes::from(line))
+    let mut text = Vec::new(alloc);
+    push_line(&mut text, lane, request, reply)?;
+    Ok(Bytes::from(text))
 }
 
-/// Adds a space and a word at the end.
-fn push_word(line: &mut Vec<u8>, word: &[u8]) -> Result<(), NoMemory>
-    ensures { OnOk result (line.new.items ≡ line.old.items ++ spaced word.now) }
+/// Adds the line of output that tells a request of a lane and its reply at the end of a text.
+pub fn push_line(
+    text: &mut Vec<u8>,
+    lane: Lane,
+    request: &Request,
+    reply: &Reply,
+) -> Result<(), NoMemory>
+    requires { IsReplyOf request.now reply.now }
+    ensures text { OnOk result (text.new.items ≡ text.old.items ++ answer_line lane request.now reply.now) }
 {
-    line.push(b' ')?;
-    line.extend_from_slice(word)?;
+    text.extend_from_slice(Buffer::new().format(lane.n).as_bytes())?;
+    push_word(text, verb(request).as_bytes())?;
+    push_subject(text, request)?;
+    push_reply(text, reply)?;
+    text.push(b'\n')?;
     Ok(())
 }
 
-/// Adds a space and a version at the end.
-fn push_version(line: &mut Vec<u8>, version: u64) -> Result<(), NoMemory>
-    ensures { OnOk result (line.new.items ≡ line.old.items ++ spaced (version_text version)) }
+/// Adds the node or the name of a request, where it has one.
+fn push_subject(text: &mut Vec<u8>, request: &Request) -> Result<(), NoMemory>
+    ensures { OnOk result (text.new.items ≡ text.old.items ++ subject_text request.now) }
 {
-    line.extend_from_slice(b" v")?;
-    line.extend_from_slice(Buffer::new().format(version).as_bytes())?;
+    match request {
+        Request::Crash { node } => push_number(text, u64::from(node.n))?,
+        Request::Join { node } => push_number(text, u64::from(node.n))?,
+        _ => {
+            if let Some(name) = request.name() {
+                push_word(text, name.as_slice())?;
+            }
+        }
+    }
     Ok(())
 }

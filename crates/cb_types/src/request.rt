@@ -1,5 +1,6 @@
 ghost use Rattle.std.specs.Prelude.{◌≡◌, IfOk};
-ghost use Rattle.cb_types.specs.Requests.{HasNoName};
+ghost use Rattle.std.specs.Option.{option_map};
+ghost use Rattle.cb_types.specs.Requests.{HasNoName, name_of};
 
 use crate::bytes::Bytes;
 use crate::name::Name;
@@ -56,6 +57,23 @@ pub enum Request {
 }
 
 impl Request {
+    /// The name that the request is about, where it has one.
+    pub fn name(&self) -> Option<&Name>
+        ensures { option_map (λ name. name.now) result ≡ name_of self.now }
+    {
+        match self {
+            Request::Make { name, .. } => Some(name),
+            Request::Read { name } => Some(name),
+            Request::Write { name, .. } => Some(name),
+            Request::Free { name } => Some(name),
+            Request::Pin { name } => Some(name),
+            Request::Peek { name } => Some(name),
+            Request::Unpin { name } => Some(name),
+            Request::Filter { name } => Some(name),
+            _ => None,
+        }
+    }
+
     /// A copy of the request.
     pub fn copy(&self, alloc: Global) -> Result<Request, NoMemory>
         ensures copy { IfOk result (λ copy. copy ≡ self.now) }

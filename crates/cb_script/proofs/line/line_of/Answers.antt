@@ -18,7 +18,7 @@ returns-in_default-shape_of-clause-line c = λ before behind number l next.
     let cut = cut_words c.in_ok-words.words.items c.deref.result.now c.in-Some.lane.now c.in-Some.words.now (slice_split (λ b. b == 32) c.args.text.now) c.in_ok-words.ensures c.deref.ensures.value c.in-Some.ensures.cases.0 in
     let words = next_words before c.args.handles c.args.text.now l next in
     let others : texts c.in-Some.words.now ≡ request_words l.request = cc (sym cut ∙ words) in
-    c.in_default-shape_of.ensures l.request others
+    c.in_default-shape_of.ensures l.request next.follows.request others
 
 pub returns-in_default-lane_of-clause-line : goal.returns-in_default-lane_of-clause-line
 returns-in_default-lane_of-clause-line c = λ before behind number l next.
