@@ -96,7 +96,7 @@ front_on next len ((w, Remove) ∷ []) ys g = (g.0, refl)
 front_on next len ((w, Remove) ∷ d ∷ xs) ys g = absurd (let none : d ∷ (xs ++ ys) ≡ [] = g.1 in cc)
 
 -- what stands behind a front that leaves this
-abbrev IsRest : ℕ → List (ℕ × Change) → Now → Type 0
+abbrev pub IsRest : ℕ → List (ℕ × Change) → Now → Type 0
 IsRest len rest None = ⊥
 IsRest len rest (Some (Held v b)) = GoesOn (v + 1) len rest × (length b ≡ len)
 IsRest len rest (Some (Freed v)) = rest ≡ []

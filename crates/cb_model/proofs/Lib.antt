@@ -2,3 +2,4 @@ pub mod Reading
 pub mod Growing
 pub mod Moves
 pub mod Order
+pub mod Naming

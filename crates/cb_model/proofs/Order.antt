@@ -41,11 +41,11 @@ pub record Kept (first : ℕ) (calls : List Called) : Type 0 where
   pub histories : (h : ℕ) → IsHistory first (changes_to h calls)
   pub fresh : (h : ℕ) → makes calls ≤ h → changes_to h calls ≡ []
 
-is_fresh : (first : ℕ) (calls : List Called) (h : ℕ) → Kept first calls → IsFresh (makes calls) h (value calls h)
+pub is_fresh : (first : ℕ) (calls : List Called) (h : ℕ) → Kept first calls → IsFresh (makes calls) h (value calls h)
 is_fresh first calls h kept = λ le. ap left_by (kept.fresh h le)
 
 -- the change of a call at a handle may come next there
-fits_at : (first handles : ℕ) (before : List Called) (handle : Option ℕ) (event : Event) (h : ℕ) → Kept first before → MapReplies first handles (makes before) handle (value_at before handle) event → FitsAll first (value before h) (cond (is_about h handle) (change_of event) [])
+pub fits_at : (first handles : ℕ) (before : List Called) (handle : Option ℕ) (event : Event) (h : ℕ) → Kept first before → MapReplies first handles (makes before) handle (value_at before handle) event → FitsAll first (value before h) (cond (is_about h handle) (change_of event) [])
 fits_at first handles before None event h kept m = tt
 fits_at first handles before (Some k) event h kept m =
     elim (cases_Bool (eqb h k)) [
@@ -235,7 +235,7 @@ rises first handles before (call ∷ after) kept follow = (
   rises first handles (before ++ call ∷ []) after (Kept-push first handles before call kept follow.0) follow.1,
 )
 
-none_yet : (first : ℕ) → Kept first []
+pub none_yet : (first : ℕ) → Kept first []
 none_yet first = record { histories = λ h. tt; fresh = λ h le. refl }
 
 pub Follow-AreLegal : (first handles : ℕ) (calls : List Called) → Follow first handles [] calls → AreLegal first handles calls

@@ -26,7 +26,7 @@ first_of None later = later
 
 -- the handle that a make of this name was answered
 abbrev pub handle_made : List ℕ → Request → Reply → Option ℕ
-handle_made name (Make made bytes) (Made handle version) = if bytes_eq name made then Some handle.n else None
+handle_made name (Make made bytes) (Made handle version) = if bytes_eq made name then Some handle.n else None
 handle_made name request reply = None
 
 -- the handle of a name, by the last answer to its make

@@ -1,0 +1,5 @@
+pub mod Steps
+pub mod Objects
+pub mod Tracks
+pub mod Tracking
+pub mod Lines
