@@ -1,9 +1,4 @@
 pub mod Streams
-pub mod Steps
-pub mod Known
-pub mod Tracking
-pub mod Places
-pub mod Lines
 pub mod Words
 pub mod Refusals
 pub mod Statuses

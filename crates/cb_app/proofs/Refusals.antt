@@ -2,7 +2,13 @@
 use Rattle.std.proofs.Common.{◌≡◌, ℕ, List, [], ◌++◌, length, Option, Some, None, ap, subst, ◌∙◌, ◌⊎◌, inl, inr, arith, append_assoc, length-append}
 use Rattle.std.specs.Prelude.{codes}
 use Rattle.std.proofs.lemmas.List.{append-nil}
-use Rattle.std.specs.Io.KnownBytes.{Consumes, IsAtEnd}
+use Rattle.std.specs.Io.KnownBytes.{Consumes, IsAtEnd, Appends}
+use Rattle.std.proofs.Common.{String, Global}
+use Rattle.cb_script.specs.declared.fault.Reason.{Reason}
+use Rattle.cb_app.specs.declared.ending.Ending.{Ending}
+use Rattle.cb_app.specs.Texts.{fault_text}
+use Rattle.cb_app.specs.Outcome.{IsScriptRefused, RefusesScript, IsDue, GetsFront}
+use Rattle.cb_app.specs.Outcome.IsDue.{WhereScriptRefused}
 use Rattle.cb_script.specs.declared.script.Script.{Script}
 use Rattle.cb_script.specs.declared.script.Mode.TheVariants.{Seq}
 use Rattle.cb_script.specs.Form.{Spells}
@@ -22,3 +28,11 @@ all_taken (Some all) (Some rest) bytes taken script told front whole spelled =
 -- the parts of the text of a fault, joined from the end
 pub fault_parts : (line number word : List ℕ) → codes "script line " ++ line ++ codes " reason " ++ number ++ codes " " ++ word ++ codes "\n" ≡ codes "script line " ++ (line ++ (codes " reason " ++ (number ++ (codes " " ++ (word ++ codes "\n")))))
 fault_parts line number word = simp append_assoc
+
+-- the text of a refusal is put
+pub tells : (words : List (String Global)) (before after held_before held_after : Option (List ℕ)) (line : ℕ) (reason : Reason) (text : List ℕ) → IsScriptRefused words before after line reason → text ≡ fault_text line reason → Appends held_before held_after text → RefusesScript words before after held_before held_after
+tells words before after held_before held_after line reason text refused is put = (line, reason, refused, rw is at put)
+
+-- the text of a refusal is cut short
+pub cuts : (words : List (String Global)) (before after held_before held_after : Option (List ℕ)) (old new : Ending) (line : ℕ) (reason : Reason) (text : List ℕ) → IsScriptRefused words before after line reason → new ≡ old → text ≡ fault_text line reason → GetsFront held_before held_after text → (due : List ℕ) × IsDue words before after old new due × GetsFront held_before held_after due
+cuts words before after held_before held_after old new line reason text refused same is front = (text, WhereScriptRefused line reason refused same is, front)

@@ -1,6 +1,3 @@
-pub mod Asked
-pub mod Step
-pub mod Tracks
 pub mod Texts
 pub mod Outcome
 pub mod Failing

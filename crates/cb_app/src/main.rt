@@ -6,7 +6,6 @@ pub mod input;
 pub mod outcome;
 pub mod output;
 pub mod run;
-pub mod seq;
 #[cfg(test)]
 mod tests;
 pub mod texts;

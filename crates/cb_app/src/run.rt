@@ -3,19 +3,19 @@ ghost use Rattle.std.specs.Io.KnownBytes.{Appends, Consumes};
 ghost use Rattle.cb_types.specs.Faults.{Rose};
 ghost use Rattle.cb_script.specs.declared.script.Script.{Script};
 ghost use Rattle.cb_script.specs.declared.script.Mode.TheVariants.{Seq};
-ghost use Rattle.cb_script.specs.declared.fault.Reason.TheVariants.{Unbuilt};
 ghost use Rattle.cb_script.specs.Form.{Spells};
 ghost use Rattle.cb_text.specs.Line.{text_of};
-ghost use Rattle.cb_app.specs.Outcome.{IsSeq, IsAnswered, IsDone, AreWordsRefused, IsScriptRefused, IsDue, GetsFront};
-ghost use Rattle.cb_app.specs.Texts.{words_refused, fault_text};
+ghost use Rattle.cb_app.specs.Outcome.{IsSeq, IsAnswered, IsDone, AreWordsRefused, RefusesScript, IsFault, IsDue, GetsFront};
+ghost use Rattle.cb_app.specs.Texts.{words_refused};
+ghost use Rattle.cb_script.specs.Built.{AreBuilt};
 
 use crate::ending::Ending;
 use crate::input::take_all;
 use crate::outcome::{Due, Failure};
 use crate::output::put_all;
-use crate::seq::answer_script;
 use crate::texts::{WORDS_REFUSED, answers_text, script_fault_text};
-use cb_script::{Mode, ScriptFault, read_script};
+use cb_lanes::run_seq;
+use cb_script::{Mode, Reason, ScriptFault, first_unbuilt, read_script};
 use cb_types::{Bytes, Losses, Sink, Source};
 use std::alloc::Global;
 
@@ -33,16 +33,22 @@ fn is_seq(words: &[String]) -> bool
 fn answer_bytes(alloc: Global, bytes: &[u8]) -> Result<(Ending, Bytes), ScriptFault>
     ensures answered { IfOk result (λ due. (script : Script) × IsAnswered bytes.now script due.0) }
     ensures text { IfOk result (λ due. due.1 ≡ text_of due.0.answers) }
-    ensures refused { IfErr result (λ e. (e ≡ ScriptFault.NoMemory) ⊎ (e ≡ ScriptFault.Bad 0 Unbuilt)) }
-    ensures no_script { result ≡ Err (ScriptFault.Bad 0 Unbuilt) → (script : Script) → Spells bytes.now Seq script → ⊥ }
+    ensures refused { IfErr result (λ e. IsFault bytes.now e) }
+    ensures complete { (script : Script) → Spells bytes.now Seq script → AreBuilt script.lines → IfErr result (λ e. e ≡ ScriptFault.NoMemory) }
 {
     let script = read_script(alloc, bytes, Mode::Seq)?;
-    let answers = answer_script(alloc, &script)?;
-    let text = answers_text(alloc, &answers)?;
+    if let Some(line) = first_unbuilt(&script) {
+        return Err(ScriptFault::Bad {
+            line,
+            reason: Reason::Unbuilt,
+        });
+    }
+    let end = run_seq(alloc, &script)?;
+    let text = answers_text(alloc, &end.answers)?;
     let ending = Ending {
         config: Some(script.config),
-        answers,
-        losses: Losses::from(Vec::new(alloc)),
+        answers: end.answers,
+        losses: end.losses,
     };
     Ok((ending, text))
 }
@@ -62,8 +68,7 @@ pub fn run<S: Source, K: Sink>(
     ensures words_text { result ≡ Ok Due.WordsRefused → Appends (K.held sink.old) (K.held sink.new) words_refused }
     ensures words_end { result ≡ Ok Due.WordsRefused → end.new ≡ end.old }
 
-    ensures script_refused { result ≡ Ok Due.ScriptRefused → IsScriptRefused words.now (S.left source.old) (S.left source.new) }
-    ensures script_text { result ≡ Ok Due.ScriptRefused → Appends (K.held sink.old) (K.held sink.new) (fault_text 0 Unbuilt) }
+    ensures script_refused { result ≡ Ok Due.ScriptRefused → RefusesScript words.now (S.left source.old) (S.left source.new) (K.held sink.old) (K.held sink.new) }
     ensures script_end { result ≡ Ok Due.ScriptRefused → end.new ≡ end.old }
 
     ensures read_fault { result ≡ Err Failure.Read → Rose (S.faults source.old) (S.faults source.new) }
@@ -79,8 +84,8 @@ pub fn run<S: Source, K: Sink>(
 
     ensures refuses { (IsSeq words.now → ⊥) → (result ≡ Ok Due.WordsRefused) ⊎ (result ≡ Err Failure.Write) }
     ensures most { (bytes : List ℕ) × Consumes (S.left source.old) (S.left source.new) bytes × (length bytes ≤ 1048577) }
-    // What spells a script is not refused.
-    ensures complete { IsSeq words.now → (bytes : List ℕ) (script : Script) → S.left source.old ≡ Some bytes → Spells bytes Seq script → (result ≡ Ok Due.Done) ⊎ IsErr result }
+    // What spells a script whose verbs are built is not refused.
+    ensures complete { IsSeq words.now → (bytes : List ℕ) (script : Script) → S.left source.old ≡ Some bytes → Spells bytes Seq script → AreBuilt script.lines → (result ≡ Ok Due.Done) ⊎ IsErr result }
 {
     if !is_seq(words) {
         put_all(sink, WORDS_REFUSED)?;

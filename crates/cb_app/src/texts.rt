@@ -1,23 +1,25 @@
 ghost use Rattle.std.specs.Prelude.{◌≡◌, IfOk};
+ghost use Rattle.std.specs.List.{AllByRecursion};
+ghost use Rattle.cb_lanes.specs.Asked.{HasMapReply};
 ghost use Rattle.cb_text.specs.Line.{text_of};
 ghost use Rattle.cb_app.specs.Texts.{fault_text};
 
 use cb_script::Reason;
-use cb_text::line_text;
+use cb_text::push_line;
 use cb_types::{Answers, Bytes, NoMemory};
 use std::alloc::Global;
 
 /// What is put where the words of the command line are refused.
 pub const WORDS_REFUSED: &[u8] = b"words refused\n";
 
-/// The text of answers, a line each.
+/// The text of answers, a line each. Each reply is one that its line may have.
 pub fn answers_text(alloc: Global, answers: &Answers) -> Result<Bytes, NoMemory>
+    requires { AllByRecursion HasMapReply answers.now }
     ensures { IfOk result (λ text. text ≡ text_of answers.now) }
 {
     let mut text = Vec::new(alloc);
     for answer in answers.as_slice() {
-        let line = line_text(alloc, answer.lane, &answer.request, &answer.reply)?;
-        text.extend_from_slice(line.as_slice())?;
+        push_line(&mut text, answer.lane, &answer.request, &answer.reply)?;
     }
     Ok(Bytes::from(text))
 }

@@ -3,11 +3,11 @@ ghost use Rattle.std.specs.Io.KnownBytes.{Appends, Consumes};
 ghost use Rattle.cb_types.specs.Faults.{Rose};
 ghost use Rattle.cb_script.specs.declared.script.Script.{Script};
 ghost use Rattle.cb_script.specs.declared.script.Mode.TheVariants.{Seq};
-ghost use Rattle.cb_script.specs.declared.fault.Reason.TheVariants.{Unbuilt};
 ghost use Rattle.cb_script.specs.Form.{Spells};
 ghost use Rattle.cb_text.specs.Line.{text_of};
-ghost use Rattle.cb_app.specs.Outcome.{IsSeq, IsDone, AreWordsRefused, IsScriptRefused, IsDue, GetsFront};
-ghost use Rattle.cb_app.specs.Texts.{words_refused, fault_text};
+ghost use Rattle.cb_app.specs.Outcome.{IsSeq, IsDone, AreWordsRefused, RefusesScript, IsDue, GetsFront};
+ghost use Rattle.cb_app.specs.Texts.{words_refused};
+ghost use Rattle.cb_script.specs.Built.{AreBuilt};
 ghost use Rattle.cb_app.specs.Status.{status_of};
 
 use crate::ending::Ending;
@@ -56,9 +56,9 @@ pub fn carbink_run<R: Threads + Wait + Sync, S: Source, K: Sink>(
     ensures words_end { result ≡ 1 → end.new ≡ end.old }
     ensures refuses { (IsSeq words.now → ⊥) → (result ≡ 1) ⊎ (result ≡ 4) }
 
-    // 2: the bytes taken spell no script.
-    ensures script_refused { result ≡ 2 → IsScriptRefused words.now (S.left src.old) (S.left src.new) }
-    ensures script_text { result ≡ 2 → Appends (K.held out.old) (K.held out.new) (fault_text 0 Unbuilt) }
+    // 2: the bytes taken spell no script, or one with a verb that is not built; what is put tells
+    // where and why.
+    ensures script_refused { result ≡ 2 → RefusesScript words.now (S.left src.old) (S.left src.new) (K.held out.old) (K.held out.new) }
     ensures script_end { result ≡ 2 → end.new ≡ end.old }
 
     // 3: reading failed in this call, and nothing was put.
@@ -76,8 +76,8 @@ pub fn carbink_run<R: Threads + Wait + Sync, S: Source, K: Sink>(
 
     // At each status so many bytes are taken at the most.
     ensures most { (bytes : List ℕ) × Consumes (S.left src.old) (S.left src.new) bytes × (length bytes ≤ 1048577) }
-    // What spells a script is answered, where neither reading nor writing fails and there is memory.
-    ensures complete { IsSeq words.now → (bytes : List ℕ) (script : Script) → S.left src.old ≡ Some bytes → Spells bytes Seq script → (result ≡ 0) ⊎ (3 ≤ result) }
+    // What spells a script whose verbs are built is answered, where neither reading nor writing fails and there is memory.
+    ensures complete { IsSeq words.now → (bytes : List ℕ) (script : Script) → S.left src.old ≡ Some bytes → Spells bytes Seq script → AreBuilt script.lines → (result ≡ 0) ⊎ (3 ≤ result) }
 {
     status(run(alloc, words, src, out, end))
 }

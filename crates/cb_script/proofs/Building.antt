@@ -18,3 +18,9 @@ pub first_at : (lines : List Line) (i : ℕ) (l : Line) → i < length lines →
 first_at [] i l lt at are isnt = absurd (omega arith)
 first_at (m ∷ lines) zero l lt at are isnt = inl (rw at at isnt, ap (λ (x : Line). x.line) at)
 first_at (m ∷ lines) (suc i) l lt at are isnt = inr (are.0, first_at lines i l (omega arith) at are.1 isnt)
+
+-- lines that are built have no first that is not
+pub none_unbuilt : (lines : List Line) (number : ℕ) → AreBuilt lines → IsFirstUnbuilt lines number → ⊥
+none_unbuilt [] number are first = first
+none_unbuilt (l ∷ lines) number are (inl here) = here.0 are.0
+none_unbuilt (l ∷ lines) number are (inr later) = none_unbuilt lines number are.1 later.1
