@@ -3,3 +3,5 @@ pub mod Growing
 pub mod Moves
 pub mod Order
 pub mod Naming
+pub mod WorkedAnswers
+pub mod WorkedCalls
