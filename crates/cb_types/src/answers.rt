@@ -45,4 +45,20 @@ impl Answers {
         self.items.push(item)?;
         Ok(())
     }
+
+    /// Gives the list's own memory back as a vector; takes none.
+    pub fn into_vec(self) -> Vec<Answer>
+        ensures items { result.items ≡ self }
+    {
+        self.items
+    }
+}
+
+impl From<Vec<Answer>> for Answers {
+    ghost from_gives = { λ v answers. answers ≡ v.items };
+
+    /// Keeps the vector's own memory; takes none.
+    fn from(items: Vec<Answer>) -> Answers {
+        Answers { items }
+    }
 }

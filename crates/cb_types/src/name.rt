@@ -41,4 +41,20 @@ impl Name {
     {
         self.items.as_slice()
     }
+
+    /// Gives the name's own memory back as a vector; takes none.
+    pub fn into_vec(self) -> Vec<u8>
+        ensures items { result.items ≡ self }
+    {
+        self.items
+    }
+}
+
+impl From<Vec<u8>> for Name {
+    ghost from_gives = { λ v name. name ≡ v.items };
+
+    /// Keeps the vector's own memory; takes none.
+    fn from(items: Vec<u8>) -> Name {
+        Name { items }
+    }
 }

@@ -134,9 +134,9 @@ fn plain_and_standard_streams_pass_bytes_on(rt: HostRuntime) -> Result<(), Fail>
     let mut reader = StdSource::new([7u8, 8, 9].as_slice());
     assert_eq!(rt; reader.take(&mut piece), Took::Got(2));
     assert_eq!(rt; piece, [7, 8]);
-    assert_eq!(rt; reader.faults, 0);
+    assert_eq!(rt; reader.faults(), 0);
     let mut writer = StdSink::new(Vec::new(rt.alloc()));
     assert_eq!(rt; writer.put(&[7, 8, 9]), Sent::Sent(3));
-    assert_eq!(rt; writer.writer.as_slice(), [7, 8, 9].as_slice());
+    assert_eq!(rt; writer.into_writer().as_slice(), [7, 8, 9].as_slice());
     Ok(())
 }

@@ -1,0 +1,11 @@
+use Rattle.std.proofs.Common.{◌≡◌, length}
+use Rattle.std.specs.Io.KnownBytes.{Keeps}
+use Rattle.cb_types.proofs.standard.read_retrying.Given as goal
+
+-- an interrupted read takes nothing
+abbrev pub invariant-loop : goal.invariant-loop
+invariant-loop g l =
+    record {
+      room : length l.buf ≡ length l.fn.buf;
+      kept : Keeps (g.R.Read.remaining l.fn.reader) (g.R.Read.remaining l.reader);
+    }
