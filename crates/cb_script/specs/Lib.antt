@@ -1,10 +1,11 @@
+pub mod Phrase
 pub mod Spelling
-pub mod Form
-pub mod Cut
-pub mod Found
 pub mod Numbers
 pub mod Hexadecimal
-pub mod Shape
-pub mod Known
-pub mod Next
+pub mod Form
 pub mod Reasons
+pub mod Rules
+pub mod First
+pub mod Cut
+pub mod Found
+pub mod Reading

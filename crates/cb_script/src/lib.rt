@@ -10,13 +10,13 @@ mod known;
 mod line;
 mod name;
 mod number;
+mod phrase;
 pub mod read;
+mod request;
 pub mod script;
-mod shape;
+mod verb;
 
 pub use fault::{Reason, ScriptFault};
 pub use read::read_script;
 pub use script::{Line, Lines, Mode, Script};
 
-#[cfg(test)]
-mod tests;
