@@ -63,11 +63,12 @@ AreNumbers-from_accepted c accepted =
     let turns = accepted Turns in
     record { k = omega arith; r = omega arith; nodes = omega arith; frames = omega arith; room = omega arith; handles = omega arith; turns = omega arith }
 
--- two accepted configurations with one text are one configuration
-pub header_unique : (c d : Config) → IsAccepted c → IsAccepted d → header_line c ≡ header_line d → c ≡ d
-header_unique c d hc hd e =
-    let nc = AreNumbers-from_accepted c hc in
-    let nd = AreNumbers-from_accepted d hd in
+-- two configurations of numbers with one text are one configuration
+pub config_of_line : (c d : Config) → AreNumbers c → AreNumbers d → header_line c ≡ header_line d → c ≡ d
+config_of_line c d nc nd e =
     let words : header_words c ≡ header_words d = sym (header_splits c nc) ∙ ap (slice_split (λ b. b == 32)) e ∙ header_splits d nd in
     config_unique c d nc nd words
 
+-- two accepted configurations with one text are one configuration
+pub header_unique : (c d : Config) → IsAccepted c → IsAccepted d → header_line c ≡ header_line d → c ≡ d
+header_unique c d hc hd e = config_of_line c d (AreNumbers-from_accepted c hc) (AreNumbers-from_accepted d hd) e

@@ -11,3 +11,5 @@ pub mod Words
 pub mod Headers
 pub mod Front
 pub mod Scripts
+pub mod Back
+pub mod Laws
