@@ -41,21 +41,21 @@ place_cut separator xs r e =
 
 -- ---- the texts of lines
 
-without_empty_end-more : (text next : List ℕ) (texts : List (List ℕ)) → without_empty_end (text ∷ next ∷ texts) ≡ text ∷ without_empty_end (next ∷ texts)
+pub without_empty_end-more : (text next : List ℕ) (texts : List (List ℕ)) → without_empty_end (text ∷ next ∷ texts) ≡ text ∷ without_empty_end (next ∷ texts)
 without_empty_end-more [] next texts = refl
 without_empty_end-more (b ∷ text) next texts = refl
 
 -- a split has a first part
-record HasFirst (parts : List (List ℕ)) : Type 0 where
-  first : List ℕ
-  others : List (List ℕ)
-  is : parts ≡ first ∷ others
+pub record HasFirst (parts : List (List ℕ)) : Type 0 where
+  pub first : List ℕ
+  pub others : List (List ℕ)
+  pub is : parts ≡ first ∷ others
 
 onto_has : (b : ℕ) (parts : List (List ℕ)) → HasFirst (onto_first b parts)
 onto_has b [] = record { first = b ∷ []; others = []; is = refl }
 onto_has b (part ∷ parts) = record { first = b ∷ part; others = parts; is = refl }
 
-split_has : (p : ℕ → Bool) (xs : List ℕ) → HasFirst (slice_split p xs)
+pub split_has : (p : ℕ → Bool) (xs : List ℕ) → HasFirst (slice_split p xs)
 split_has p [] = record { first = []; others = []; is = refl }
 split_has p (x ∷ xs) =
     elim (cases_Bool (p x)) [

@@ -13,3 +13,4 @@ pub mod Front
 pub mod Scripts
 pub mod Back
 pub mod Laws
+pub mod Printing

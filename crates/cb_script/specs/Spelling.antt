@@ -1,5 +1,5 @@
 -- How a script is spelled.
-use Rattle.std.specs.Prelude.{ℕ, List, [], ◌∷◌, ◌++◌, ◌==◌, codes, map}
+use Rattle.std.specs.Prelude.{ℕ, List, [], ◌∷◌, ◌++◌, ◌==◌, if◌then◌else◌, codes, map}
 use Rattle.std.specs.List.{join_with_byte, slice_split, flat_map}
 use Rattle.std.specs.Fmt.{decimal}
 use Rattle.cb_types.specs.declared.config.Config.{Config}
@@ -51,3 +51,9 @@ script_lines s = header_line s.config ∷ map script_line s.lines
 -- a script as it is printed: a line feed behind each line
 abbrev pub script_text : Script → List ℕ
 script_text s = flat_map (λ line. line ++ 10 ∷ []) (script_lines s)
+
+-- an input with a line feed at its end, where it has some bytes and none there
+abbrev pub with_feed : List ℕ → List ℕ
+with_feed [] = []
+with_feed (b ∷ []) = if b == 10 then b ∷ [] else b ∷ 10 ∷ []
+with_feed (b ∷ c ∷ bytes) = b ∷ with_feed (c ∷ bytes)
