@@ -12,5 +12,5 @@ pub mod Headers
 pub mod Front
 pub mod Scripts
 pub mod Back
-pub mod Laws
+pub mod OneReading
 pub mod Printing

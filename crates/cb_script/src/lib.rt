@@ -8,6 +8,7 @@ mod cut;
 pub mod fault;
 mod header;
 mod known;
+pub mod laws;
 mod line;
 mod name;
 mod number;
@@ -20,8 +21,12 @@ pub mod unbuilt;
 mod verb;
 
 pub use fault::{Reason, ScriptFault};
+pub use laws::script_laws;
 pub use print::print_script;
 pub use read::read_script;
 pub use script::{Line, Lines, Mode, Script};
 pub use unbuilt::first_unbuilt;
 
+
+#[cfg(test)]
+mod tests;

@@ -1,4 +1,4 @@
-use Rattle.cb_script.proofs.Laws.{only_fault, only_script}
+use Rattle.cb_script.proofs.OneReading.{only_fault, only_script}
 use Rattle.cb_script.proofs.read.read_script.Goals as goal
 
 pub returns-clause-only : goal.returns-clause-only

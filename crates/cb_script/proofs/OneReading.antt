@@ -1,9 +1,9 @@
 -- The same bytes spell one script or have one first fault, and never both.
-use Rattle.std.proofs.Common.{◌≡◌, ℕ, suc, ◌+◌, ◌<◌, ◌≤◌, List, [], ◌∷◌, ◌++◌, length, map, Result, Ok, Err, ◌⊎◌, inl, inr, refl, sym, ap, ◌∙◌, subst, append_assoc, arith}
-use Rattle.std.specs.Prelude.{MatchResult}
+use Rattle.std.proofs.Common.{◌≡◌, ◌==◌, ℕ, suc, ◌+◌, ◌<◌, ◌≤◌, List, [], ◌∷◌, ◌++◌, length, map, Result, Ok, Err, ◌⊎◌, inl, inr, refl, sym, ap, ◌∙◌, subst, append_assoc, arith}
+use Rattle.std.specs.Prelude.{◌↔◌, MatchResult}
 use Rattle.std.specs.Fmt.{decimal}
 use Rattle.std.specs.List.{AllByRecursion}
-use Rattle.std.proofs.lemmas.Bool.{cases_lt}
+use Rattle.std.proofs.lemmas.Bool.{cases_Bool, cases_lt}
 use Rattle.std.proofs.lemmas.Fmt.{decimal_injective}
 use Rattle.std.proofs.lemmas.List.{append-nil, length-append, length-map}
 use Rattle.cb_types.specs.Config.{IsAccepted}
@@ -23,11 +23,12 @@ use Rattle.cb_script.specs.Phrase.{phrase_of, phrase_words}
 use Rattle.cb_script.specs.Reading.{FaultIs}
 use Rattle.cb_script.specs.Reasons.{number_of}
 use Rattle.cb_script.specs.Rules.{Place, Holds, IsLeast, IsShaped}
-use Rattle.cb_script.specs.Spelling.{words_of, lines_of, header_line, script_line, script_lines, line_words}
+use Rattle.cb_script.specs.Spelling.{words_of, lines_of, header_line, script_line, script_lines, line_words, with_feed}
 use Rattle.cb_script.proofs.Back.{request_injective, rules_hold}
 use Rattle.cb_script.proofs.Headers.{AreNumbers-from_accepted, header_unique, config_of_line}
 use Rattle.cb_script.proofs.LineRules.{line_holds}
 use Rattle.cb_script.proofs.Phrases.{phrase_injective}
+use Rattle.cb_script.proofs.Printing.{fed_lines}
 use Rattle.cb_script.proofs.Words.{HasForm, line_is_words, line_splits, words_full}
 
 -- ---- one line
@@ -268,3 +269,45 @@ module _ (bytes : List ℕ) (mode : Mode) where
   only_fault (Err (script_faults.Bad k q)) line reason right first =
       let same = first_unique bytes mode k line q reason right first in
       inl (ap (λ (n : ℕ). Err (script_faults.Bad n q)) same.0 ∙ ap (λ (x : Reason). Err (script_faults.Bad line x)) same.1)
+
+-- ---- an input and the same with a line feed at its end
+
+with_feed-longer : (bytes : List ℕ) → length bytes ≤ length (with_feed bytes)
+with_feed-longer [] = omega arith
+with_feed-longer (b ∷ []) = elim (cases_Bool (b == 10)) [ inl feed ↦ rw feed (omega arith) | inr other ↦ rw other (omega arith) ]
+with_feed-longer (b ∷ c ∷ bytes) = omega (arith, with_feed-longer (c ∷ bytes))
+
+-- what is said of an input by its lines and its length alone is said of both
+module _ (bytes other : List ℕ) (mode : Mode) (same : lines_of bytes ≡ lines_of other) where
+  spells_other : (s : Script) → length other ≤ 1048576 → Spells bytes mode s → Spells other mode s
+  spells_other s short spells = record { short = short; form = spells.form; allowed = spells.allowed; text = sym same ∙ spells.text }
+
+  header_other : (c : Config) → HasHeader other c → HasHeader bytes c
+  header_other c has = record { numbers = has.numbers; others = has.others; text = same ∙ has.text }
+
+  header_here : (c : Config) → HasHeader bytes c → HasHeader other c
+  header_here c has = record { numbers = has.numbers; others = has.others; text = sym same ∙ has.text }
+
+  bad_other : (line : ℕ) (reason : Reason) → IsBadLine bytes mode line reason → IsBadLine other mode line reason
+  bad_other line reason bad = record { before = bad.before; form = bad.form; allowed = bad.allowed; text = bad.text; after = bad.after; lines = sym same ∙ bad.lines; number = bad.number; least = bad.least }
+
+  first_other : (line : ℕ) (reason : Reason) → length bytes ≤ 1048576 → length other ≤ 1048576 → First bytes mode line reason → First other mode line reason
+  first_other line reasons.TooLong short other_short first = absurd (omega (arith, short, first.1))
+  first_other line reasons.Header short other_short first = (first.0, other_short, λ c has. first.2 c (header_other c has))
+  first_other line reasons.Config short other_short first = (first.0, other_short, first.2, header_here first.2 first.3, first.4)
+  first_other line reason short other_short first = (other_short, bad_other line reason first.1)
+
+pub same_script : (bytes : List ℕ) (mode : Mode) (s : Script) → length (with_feed bytes) ≤ 1048576 → Spells bytes mode s ↔ Spells (with_feed bytes) mode s
+same_script bytes mode s short =
+    let same = fed_lines bytes in (
+      spells_other bytes (with_feed bytes) mode (sym same) s short,
+      spells_other (with_feed bytes) bytes mode same s (omega (arith, short, with_feed-longer bytes)),
+    )
+
+pub same_fault : (bytes : List ℕ) (mode : Mode) (line : ℕ) (reason : Reason) → length (with_feed bytes) ≤ 1048576 → First bytes mode line reason ↔ First (with_feed bytes) mode line reason
+same_fault bytes mode line reason short =
+    let same = fed_lines bytes in
+    let shorter : length bytes ≤ 1048576 = omega (arith, short, with_feed-longer bytes) in (
+      first_other bytes (with_feed bytes) mode (sym same) line reason shorter short,
+      first_other (with_feed bytes) bytes mode same line reason short shorter,
+    )
