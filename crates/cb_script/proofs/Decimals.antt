@@ -2,6 +2,7 @@
 use Rattle.std.proofs.Common.{◌≡◌, ℕ, zero, suc, ◌+◌, ◌*◌, ◌^◌, ◌<◌, ◌≤◌, List, [], ◌∷◌, ◌++◌, length, get_or, take, Option, Some, None, refl, sym, ap, ◌∙◌, subst, arith}
 use Rattle.std.proofs.lemmas.List.{append_cancel_left}
 use Rattle.cb_script.specs.Found.{Finds}
+use Rattle.cb_script.specs.Rules.{IsNumber}
 use Rattle.cb_script.specs.Spelling.{setting}
 use Rattle.std.specs.Fmt.{decimal}
 use Rattle.std.specs.Char.{digit_value}
@@ -90,5 +91,6 @@ setting_from_number word name value number None at sign none = λ n is.
 setting_from_number word name value number (Some n) at sign some =
     (some.0, at ∙ ap (λ (v : List ℕ). name ++ v) (sign ∙ ap (λ (v : List ℕ). 61 ∷ v) some.1))
 
-pub another_number : (word : List ℕ) (m n : ℕ) → m < 10 ^ 9 → n < 10 ^ 9 → word ≡ decimal m → (m ≡ n → ⊥) → word ≡ decimal n → ⊥
-another_number word m n m_small n_small is other e = other (decimal_injective m n (omega arith) (omega arith) (sym is ∙ e))
+-- a word spells one number
+pub one_number : (word : List ℕ) (m n : ℕ) → IsNumber word m → IsNumber word n → m ≡ n
+one_number word m n is other = decimal_injective m n (omega (arith, is.0)) (omega (arith, other.0)) (sym is.1 ∙ other.1)

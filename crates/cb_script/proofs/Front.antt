@@ -1,141 +1,107 @@
 -- Lines that were read one after the other.
-use Rattle.std.proofs.Common.{◌≡◌, ◌==◌, Bor, ℕ, ◌+◌, ◌<◌, ◌≤◌, List, [], ◌∷◌, ◌++◌, length, map, get_or, take, drop, refl, sym, ap, ◌∙◌, subst, append_assoc, arith}
-use Rattle.std.specs.Fmt.{decimal}
-use Rattle.std.specs.List.{join_with_byte, slice_split}
-use Rattle.std.proofs.lemmas.List.{append-nil, length-append, length-map, length_push, map-append, map_more, map_push, drop_more, take-append-drop}
-use Rattle.std.proofs.lemmas.List.Concat.{flat_map-append}
-use Rattle.std.proofs.lemmas.List.Splits.{join_with_byte-slice_split}
+use Rattle.std.proofs.Common.{◌≡◌, ℕ, ◌+◌, ◌<◌, ◌≤◌, List, [], ◌∷◌, ◌++◌, length, map, ◌⊎◌, inl, inr, refl, sym, ap, ◌∙◌, subst, append_assoc, arith}
+use Rattle.std.specs.List.{AllByRecursion}
+use Rattle.std.proofs.lemmas.Bool.{cases_lt}
+use Rattle.std.proofs.lemmas.List.{append-nil, length_push, map_push, nil_from_length}
+use Rattle.cb_types.specs.declared.handle.Lane.{Lane}
+use Rattle.cb_script.specs.declared.fault.Reason.{Reason}
+use Rattle.cb_script.specs.declared.fault.Reason.TheVariants as reasons
+use Rattle.cb_script.specs.declared.fault.Refusal.{Refusal}
+use Rattle.cb_script.specs.declared.fault.Refusal.TheVariants.{Broken, NoMemory}
 use Rattle.cb_script.specs.declared.script.Line.{Line}
-use Rattle.cb_script.specs.Spelling.{request_words}
-use Rattle.cb_script.specs.Form.{MayFollow, AreLines, made, names_made}
-use Rattle.cb_script.specs.Known.{MayStand}
-use Rattle.cb_script.specs.Next.{line_text, ComesNext}
-use Rattle.cb_script.proofs.HeaderWords.{text_at}
-use Rattle.cb_script.specs.Cut.{texts}
-use Rattle.cb_script.proofs.Texts.{HasForm-from_follow, line_splits, line_unique}
+use Rattle.cb_script.specs.declared.script.Mode.{Mode}
+use Rattle.cb_script.specs.Form.{MayFollow, AreLines, AreInMode, FitsMode}
+use Rattle.cb_script.specs.Phrase.{phrase_of}
+use Rattle.cb_script.specs.Reading.{AreTheLines, ComesNext, FaultIs, HasBadLine, IsLeastLane, Refuses, fault_at}
+use Rattle.cb_script.specs.Rules.{Place, Holds, IsLeast}
+use Rattle.cb_script.specs.Spelling.{lines_of, script_line}
+use Rattle.cb_script.proofs.Least.{least_lines}
 
--- ---- one line
+pub AreLines-push : (nodes : ℕ) (before front : List Line) (l : Line) → AreLines nodes before front → MayFollow nodes (before ++ front) l → AreLines nodes before (front ++ l ∷ [])
+AreLines-push nodes before [] l are follows = (subst (λ (ls : List Line). MayFollow nodes ls l) (append-nil before) follows, tt)
+AreLines-push nodes before (m ∷ front) l are follows =
+    (are.0, AreLines-push nodes (before ++ m ∷ []) front l are.1 (subst (λ (ls : List Line). MayFollow nodes ls l) (sym (append_assoc before (m ∷ []) front)) follows))
 
-pub made-push : (before : List Line) (l : Line) → made (before ++ l ∷ []) ≡ made before ++ names_made l.request
-made-push before l = flat_map-append (λ m. names_made m.request) before (l ∷ []) ∙ ap (λ (ns : List (List ℕ)). made before ++ ns) (append-nil (names_made l.request))
+pub each_push : (P : Line → Type 0) (front : List Line) (l : Line) → AllByRecursion P front → P l → AllByRecursion P (front ++ l ∷ [])
+each_push P [] l are is = (is, tt)
+each_push P (m ∷ front) l are is = (are.0, each_push P front l are.1 is)
 
--- the words at which the text of a line is cut
-pub next_words : (before : List Line) (handles : ℕ) (text : List ℕ) (l : Line) → ComesNext before handles text l → slice_split (λ b. b == 32) text ≡ decimal 1 ∷ request_words l.request
-next_words before handles text l next =
-    ap (slice_split (λ b. b == 32)) next.spelled ∙ line_splits l (HasForm-from_follow before l next.follows) ∙ ap (λ (n : ℕ). decimal n ∷ request_words l.request) next.follows.lane
+pub each_front : (P : Line → Type 0) (front : List Line) (l : Line) → AllByRecursion P (front ++ l ∷ []) → AllByRecursion P front
+each_front P [] l are = tt
+each_front P (m ∷ front) l are = (are.0, each_front P front l are.1)
 
-pub next_stands : (before : List Line) (handles : ℕ) (text : List ℕ) (l : Line) (words : List (List ℕ)) → ComesNext before handles text l → words ≡ request_words l.request → MayStand (made before) handles words l.request
-next_stands before handles text l words next spelled = record {
-  request = next.follows.request;
-  allowed = next.follows.known;
-  spelled = spelled;
-  room = subst (λ (ns : List (List ℕ)). length ns ≤ handles) (made-push before l) next.room;
-}
+pub each_last : (P : Line → Type 0) (front : List Line) (l : Line) → AllByRecursion P (front ++ l ∷ []) → P l
+each_last P [] l are = are.0
+each_last P (m ∷ front) l are = each_last P front l are.1
 
-pub next_line : (before : List Line) (handles : ℕ) (text : List ℕ) (l : Line) (words : List (List ℕ)) → slice_split (λ b. b == 32) text ≡ decimal 1 ∷ words → l.lane.n ≡ 1 → l.line ≡ length before + 2 → MayStand (made before) handles words l.request → ComesNext before handles text l
-next_line before handles text l words cut lane number stands = record {
-  follows = record { lane = lane; line = number; request = stands.request; known = stands.allowed };
-  spelled = sym (join_with_byte-slice_split 32 text) ∙ ap (join_with_byte 32) (cut ∙ ap (λ (ws : List (List ℕ)). decimal 1 ∷ ws) stands.spelled) ∙ ap (λ (n : ℕ). join_with_byte 32 (decimal n ∷ request_words l.request)) (sym lane);
-  room = subst (λ (ns : List (List ℕ)). length ns ≤ handles) (sym (made-push before l)) stands.room;
-}
+-- ---- the least lane
 
--- ---- lines
+abbrev IsShared : Line → Type 0
+IsShared l = l.lane.n ≡ 0
 
-pub AreLines-push : (before front : List Line) (l : Line) → AreLines before front → MayFollow (before ++ front) l → AreLines before (front ++ l ∷ [])
-AreLines-push before [] l are follows = (subst (λ (ls : List Line). MayFollow ls l) (append-nil before) follows, tt)
-AreLines-push before (m ∷ front) l are follows =
-    (are.0, AreLines-push (before ++ m ∷ []) front l are.1 (subst (λ (ls : List Line). MayFollow ls l) (sym (append_assoc before (m ∷ []) front)) follows))
+pub another_lane : (before : List Line) (l : Line) (lane : Lane) → l.lane ≡ lane → 0 < lane.n → IsLeastLane (before ++ l ∷ []) 1
+another_lane before l lane same above = inr (refl, λ all. omega (arith, above, ap (λ (x : Lane). x.n) same, each_last IsShared before l all))
 
--- what has the texts of the front and then another
-pub record GoesOn (before front lines : List Line) (text : List ℕ) : Type 0 where
-  pub next : Line
-  pub after : List Line
-  pub lines_are : lines ≡ front ++ next ∷ after
-  pub text_is : line_text next ≡ text
-  pub follows : MayFollow (before ++ front) next
+pub lane_0 : (before : List Line) (least : ℕ) (l : Line) (lane : Lane) → IsLeastLane before least → l.lane ≡ lane → lane.n ≤ 0 → IsLeastLane (before ++ l ∷ []) least
+lane_0 before least l lane (inl shared) same none = inl (shared.0, each_push IsShared before l shared.1 (omega (arith, none, ap (λ (x : Lane). x.n) same)))
+lane_0 before least l lane (inr other) same none = inr (other.0, λ all. other.1 (each_front IsShared before l all))
 
-cons_same : (l m : Line) (lines others : List Line) → l ≡ m → lines ≡ others → l ∷ lines ≡ m ∷ others
-cons_same l m lines others first rest = cc
+-- ---- what was read of a text
 
-pub goes_on : (before front lines : List Line) (text : List ℕ) (texts : List (List ℕ)) → AreLines before front → AreLines before lines → map line_text lines ≡ map line_text front ++ text ∷ texts → GoesOn before front lines text
-goes_on before [] [] text texts are_front are e = absurd cc
-goes_on before [] (l ∷ lines) text texts are_front are e =
-    record { next = l; after = lines; lines_are = refl; text_is = cc; follows = subst (λ (ls : List Line). MayFollow ls l) (sym (append-nil before)) are.0 }
-goes_on before (m ∷ front) [] text texts are_front are e = absurd cc
-goes_on before (m ∷ front) (l ∷ lines) text texts are_front are e =
-    let first : line_text l ≡ line_text m = cc in
-    let others : map line_text lines ≡ map line_text front ++ text ∷ texts = cc in
-    let same : l ≡ m = line_unique before l m are.0 are_front.0 first in
-    let are_others : AreLines (before ++ m ∷ []) lines = subst (λ (n : Line). AreLines (before ++ n ∷ []) lines) same are.1 in
-    let on = goes_on (before ++ m ∷ []) front lines text texts are_front.1 are_others others in
-    record {
-      next = on.next;
-      after = on.after;
-      lines_are = cons_same l m lines (front ++ on.next ∷ on.after) same on.lines_are;
-      text_is = on.text_is;
-      follows = subst (λ (ls : List Line). MayFollow ls on.next) (append_assoc before (m ∷ []) front) on.follows;
-    }
+-- the lines are read, and the rest of the text is left
+pub record FrontIsRead (mode : Mode) (nodes : ℕ) (text : List ℕ) (lines : List Line) (rest : List ℕ) : Type 0 where
+  pub are : AreLines nodes [] lines
+  pub allowed : AreInMode mode lines
+  pub few : length lines ≤ 20000
+  pub read : lines_of text ≡ map script_line lines ++ lines_of rest
 
-pub lines_unique : (before lines others : List Line) → AreLines before lines → AreLines before others → map line_text lines ≡ map line_text others → lines ≡ others
-lines_unique before [] [] are are_others e = refl
-lines_unique before [] (m ∷ others) are are_others e = absurd cc
-lines_unique before (l ∷ lines) [] are are_others e = absurd cc
-lines_unique before (l ∷ lines) (m ∷ others) are are_others e =
-    let first : line_text l ≡ line_text m = cc in
-    let rest : map line_text lines ≡ map line_text others = cc in
-    let same : l ≡ m = line_unique before l m are.0 are_others.0 first in
-    let are_rest : AreLines (before ++ m ∷ []) lines = subst (λ (n : Line). AreLines (before ++ n ∷ []) lines) same are.1 in
-    cons_same l m lines others same (lines_unique (before ++ m ∷ []) lines others are_rest are_others.1 rest)
+module _ (mode : Mode) (nodes : ℕ) (text : List ℕ) (lines : List Line) (rest : List ℕ) (front : FrontIsRead mode nodes text lines rest) where
+  -- the next line of the rest
+  next_text : (line behind : List ℕ) → lines_of rest ≡ line ∷ lines_of behind → lines_of text ≡ map script_line lines ++ line ∷ lines_of behind
+  next_text line behind cut = front.read ∙ ap (λ (texts : List (List ℕ)). map script_line lines ++ texts) cut
 
--- no lines have these texts, where none comes next behind the front
-pub is_stuck : (front : List Line) (handles : ℕ) (text : List ℕ) (texts : List (List ℕ)) → AreLines [] front → ((l : Line) → ComesNext front handles text l → ⊥)
-    → (lines : List Line) → AreLines [] lines → length (made lines) ≤ handles → map line_text lines ≡ map line_text front ++ text ∷ texts → ⊥
-is_stuck front handles text texts are_front none lines are room e =
-    let on = goes_on [] front lines text texts are_front are e in
-    let regrouped : lines ≡ (front ++ on.next ∷ []) ++ on.after = on.lines_are ∙ sym (append_assoc front (on.next ∷ []) on.after) in
-    let names : made lines ≡ made (front ++ on.next ∷ []) ++ made on.after = ap made regrouped ∙ flat_map-append (λ m. names_made m.request) (front ++ on.next ∷ []) on.after in
-    let long : length (made lines) ≡ length (made (front ++ on.next ∷ [])) + length (made on.after) = ap length names ∙ length-append (made (front ++ on.next ∷ [])) (made on.after) in
-    none on.next (record { follows = on.follows; spelled = sym on.text_is; room = omega arith })
+  pub front_more : (line behind : List ℕ) (l : Line) → lines_of rest ≡ line ∷ lines_of behind → length lines < 20000 → ComesNext (record { mode = mode; nodes = nodes; before = lines }) line l → FrontIsRead mode nodes text (lines ++ l ∷ []) behind
+  front_more line behind l cut few next = record {
+    are = AreLines-push nodes [] lines l front.are next.follows;
+    allowed = each_push (λ (m : Line). FitsMode (phrase_of m.request) mode) lines l front.allowed next.allowed;
+    few = omega (arith, few, length_push lines l);
+    read = next_text line behind cut ∙ ap (λ (t : List ℕ). map script_line lines ++ t ∷ lines_of behind) next.spelled
+    ∙ sym (append_assoc (map script_line lines) (script_line l ∷ []) (lines_of behind)) ∙ ap (λ (ts : List (List ℕ)). ts ++ lines_of behind) (sym (map_push script_line lines l));
+  }
 
--- ---- the words of a line, as code reads them
+  pub has_bad_line : (line behind : List ℕ) (number : ℕ) (reason : Reason) → lines_of rest ≡ line ∷ lines_of behind → number ≡ length lines + 2 → IsLeast (Holds (record { mode = mode; nodes = nodes; before = lines }) line) reason
+      → HasBadLine mode nodes (lines_of text) number reason
+  has_bad_line line behind number reason cut numbered least = record {
+    before = lines;
+    are = front.are;
+    allowed = front.allowed;
+    few = front.few;
+    text = line;
+    after = lines_of behind;
+    read = next_text line behind cut;
+    number = numbered;
+    least = least;
+  }
 
-pub cut_words : (items view : List (Bor (List ℕ))) (first : Bor (List ℕ)) (others : List (Bor (List ℕ))) (pieces : List (List ℕ)) → texts items ≡ pieces → view ≡ items → view ≡ first ∷ others → pieces ≡ first.now ∷ texts others
-cut_words items view first others pieces cut same is = sym cut ∙ ap texts (sym same ∙ is)
+  -- the line after 20,000 others
+  pub has_lines_fault : (line behind : List ℕ) (number : ℕ) → lines_of rest ≡ line ∷ lines_of behind → number ≡ length lines + 2 → 20000 ≤ length lines → HasBadLine mode nodes (lines_of text) number reasons.Lines
+  has_lines_fault line behind number cut numbered many =
+      has_bad_line line behind number reasons.Lines cut numbered
+      (least_lines (Holds (record { mode = mode; nodes = nodes; before = lines }) line) (λ l p low is. tt) (λ l p low is. tt) (λ l p low is. tt) (λ (few : length lines < 20000). omega (arith, few, many)))
 
-pub no_words : (items view : List (Bor (List ℕ))) (text : List ℕ) → texts items ≡ slice_split (λ b. b == 32) text → view ≡ items → length view ≡ 0 → (before : List Line) (handles : ℕ) (l : Line) → ComesNext before handles text l → ⊥
-no_words items view text cut same none before handles l next =
-    let words = ap (λ (ws : List (List ℕ)). length ws) (cut ∙ next_words before handles text l next) in
-    omega (arith, words, ap (λ (ws : List (Bor (List ℕ))). length ws) same, none, length-map items (λ (word : Bor (List ℕ)). word.now))
+  pub line_fault : (line behind : List ℕ) (number : ℕ) (e : Refusal) → lines_of rest ≡ line ∷ lines_of behind → number ≡ length lines + 2 → Refuses e (IsLeast (Holds (record { mode = mode; nodes = nodes; before = lines }) line))
+      → FaultIs (fault_at number e) (HasBadLine mode nodes (lines_of text))
+  line_fault line behind number (Broken reason) cut numbered least = has_bad_line line behind number reason cut numbered least
+  line_fault line behind number NoMemory cut numbered least = tt
 
--- ---- the texts of lines, as code goes over them
+  pub all_read : length rest ≡ 0 → AreTheLines mode nodes (lines_of text) lines
+  all_read none = record {
+    are = front.are;
+    allowed = front.allowed;
+    few = front.few;
+    read = sym (front.read ∙ ap (λ (bytes : List ℕ). map script_line lines ++ lines_of bytes) (nil_from_length rest none) ∙ append-nil (map script_line lines));
+  }
 
-pub texts_at : (all : List (Bor (List ℕ))) (i : ℕ) → i < length all → texts all ≡ texts (take i all) ++ text_at all i ∷ texts (drop (i + 1) all)
-texts_at all i within =
-    let nothing : Bor (List ℕ) = record { ref_ptr = (0, 0); now = [] } in
-    ap texts (sym (take-append-drop i all) ∙ ap (λ (ws : List (Bor (List ℕ))). take i all ++ ws) (drop_more all i nothing within))
-    ∙ map-append (λ (text : Bor (List ℕ)). text.now) (take i all) (get_or all i nothing ∷ drop (i + 1) all)
-
-pub texts_more : (all : List (Bor (List ℕ))) (i : ℕ) → i < length all → texts (take (i + 1) all) ≡ texts (take i all) ++ text_at all i ∷ []
-texts_more all i within = map_more (λ (text : Bor (List ℕ)). text.now) all i (record { ref_ptr = (0, 0); now = [] }) within
-
--- the next text is of no line
-pub stuck_at : (front : List Line) (handles i : ℕ) (all : List (Bor (List ℕ))) → i < length all → AreLines [] front → map line_text front ≡ texts (take i all) → ((l : Line) → ComesNext front handles (text_at all i) l → ⊥)
-    → (lines : List Line) → AreLines [] lines × (length (made lines) ≤ handles) × (map line_text lines ≡ texts all) → ⊥
-stuck_at front handles i all within are_front read none lines is =
-    is_stuck front handles (text_at all i) (texts (drop (i + 1) all)) are_front none lines is.0 is.1
-    (is.2 ∙ texts_at all i within ∙ ap (λ (ts : List (List ℕ)). ts ++ text_at all i ∷ texts (drop (i + 1) all)) (sym read))
-
--- one more line was read
-pub record FrontIsRead (front : List Line) (handles i : ℕ) (all : List (Bor (List ℕ))) : Type 0 where
-  pub are : AreLines [] front
-  pub room : length (made front) ≤ handles
-  pub read : map line_text front ≡ texts (take i all)
-  pub count : length front ≡ i
-
-pub front_more : (front : List Line) (handles i : ℕ) (all : List (Bor (List ℕ))) (l : Line) → FrontIsRead front handles i all → i < length all → ComesNext front handles (text_at all i) l → FrontIsRead (front ++ l ∷ []) handles (i + 1) all
-front_more front handles i all l is within next = record {
-  are = AreLines-push [] front l is.are next.follows;
-  room = next.room;
-  read = map_push line_text front l ∙ ap (λ (ts : List (List ℕ)). ts ++ line_text l ∷ []) is.read ∙ ap (λ (t : List ℕ). texts (take i all) ++ t ∷ []) (sym next.spelled) ∙ sym (texts_more all i within);
-  count = length_push front l ∙ ap (λ (n : ℕ). n + 1) is.count;
-}
+-- nothing is read yet
+pub front_none : (mode : Mode) (nodes : ℕ) (text : List ℕ) → FrontIsRead mode nodes text [] text
+front_none mode nodes text = record { are = tt; allowed = tt; few = omega arith; read = refl }

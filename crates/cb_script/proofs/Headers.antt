@@ -9,29 +9,23 @@ use Rattle.std.proofs.lemmas.List.Splits.{join_with_byte-slice_split}
 use Rattle.cb_types.specs.Config.{IsAccepted}
 use Rattle.cb_types.specs.declared.config.Config.{Config}
 use Rattle.cb_types.specs.declared.config.Field.TheVariants.{K, R, Nodes, Frames, Room, Handles, Turns}
-use Rattle.cb_script.specs.Spelling.{setting, header_words}
-use Rattle.cb_script.specs.Next.{header_text}
+use Rattle.cb_script.specs.Spelling.{header_line, setting, header_words}
 use Rattle.cb_script.specs.Numbers.{AreNumbers}
 use Rattle.cb_script.specs.Cut.{texts}
-use Rattle.cb_script.proofs.Pieces.{Lacks, IsFull}
-use Rattle.cb_script.proofs.Texts.{header_is_words, words_split, lacks_feed}
+use Rattle.cb_script.proofs.Words.{Lacks, header_is_words, words_split, lacks_feed}
 
-pub header_splits : (c : Config) → AreNumbers c → slice_split (λ b. b == 32) (header_text c) ≡ header_words c
-unfolding header_text
+pub header_splits : (c : Config) → AreNumbers c → slice_split (λ b. b == 32) (header_line c) ≡ header_words c
+unfolding header_line
 header_splits c numbers =
     words_split (codes "carbink") (codes "1" ∷ setting (codes "k") c.k ∷ setting (codes "r") c.r ∷ setting (codes "nodes") c.nodes ∷ setting (codes "frames") c.frames ∷ setting (codes "room") c.room ∷ setting (codes "handles") c.handles ∷ setting (codes "turns") c.turns ∷ []) (header_is_words c numbers)
 
-pub header_joins : (c : Config) (text : List ℕ) → slice_split (λ b. b == 32) text ≡ header_words c → text ≡ header_text c
-unfolding header_text
+pub header_joins : (c : Config) (text : List ℕ) → slice_split (λ b. b == 32) text ≡ header_words c → text ≡ header_line c
+unfolding header_line
 header_joins c text cut = sym (join_with_byte-slice_split 32 text) ∙ ap (join_with_byte 32) cut
 
-pub header_lacks_feed : (c : Config) → AreNumbers c → Lacks 10 (header_text c)
-unfolding header_text
+pub header_lacks_feed : (c : Config) → AreNumbers c → Lacks 10 (header_line c)
+unfolding header_line
 header_lacks_feed c numbers = lacks_feed (header_words c) (header_is_words c numbers)
-
-pub header_full : (c : Config) → IsFull (header_text c)
-unfolding header_text
-header_full c = tt
 
 -- ---- one reading
 
@@ -69,18 +63,12 @@ AreNumbers-from_accepted c accepted =
     let turns = accepted Turns in
     record { k = omega arith; r = omega arith; nodes = omega arith; frames = omega arith; room = omega arith; handles = omega arith; turns = omega arith }
 
--- two accepted configurations with one text are one configuration
-pub header_unique : (c d : Config) → IsAccepted c → IsAccepted d → header_text c ≡ header_text d → c ≡ d
-header_unique c d hc hd e =
-    let nc = AreNumbers-from_accepted c hc in
-    let nd = AreNumbers-from_accepted d hd in
+-- two configurations of numbers with one text are one configuration
+pub config_of_line : (c d : Config) → AreNumbers c → AreNumbers d → header_line c ≡ header_line d → c ≡ d
+config_of_line c d nc nd e =
     let words : header_words c ≡ header_words d = sym (header_splits c nc) ∙ ap (slice_split (λ b. b == 32)) e ∙ header_splits d nd in
     config_unique c d nc nd words
 
--- ---- as code reads it
-
-pub header_words_at : (items view : List (Bor (List ℕ))) (text : List ℕ) → texts items ≡ slice_split (λ b. b == 32) text → view ≡ items → (c : Config) → AreNumbers c → text ≡ header_text c → texts view ≡ header_words c
-header_words_at items view text cut same c numbers e = ap texts same ∙ cut ∙ ap (slice_split (λ b. b == 32)) e ∙ header_splits c numbers
-
-pub header_text_at : (items view : List (Bor (List ℕ))) (text : List ℕ) → texts items ≡ slice_split (λ b. b == 32) text → view ≡ items → (c : Config) → texts view ≡ header_words c → text ≡ header_text c
-header_text_at items view text cut same c e = header_joins c text (sym cut ∙ ap texts (sym same) ∙ e)
+-- two accepted configurations with one text are one configuration
+pub header_unique : (c d : Config) → IsAccepted c → IsAccepted d → header_line c ≡ header_line d → c ≡ d
+header_unique c d hc hd e = config_of_line c d (AreNumbers-from_accepted c hc) (AreNumbers-from_accepted d hd) e

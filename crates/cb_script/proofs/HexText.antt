@@ -104,7 +104,7 @@ encode_pairs i (a ∷ b ∷ rest) bytes each e =
     let whole : encode_lower (pair.0 ∷ others.0) ≡ a ∷ b ∷ rest = rw (a_is, b_is, recursion) refl in
     subst (λ (bs : List ℕ). encode_lower bs ≡ a ∷ b ∷ rest) bytes_are whole
 
-pub contents_taken : (text bytes : List ℕ) → IsHexadecimal text → length text / 2 ≤ 1024 → decode_of text ≡ Ok bytes → IsContents bytes × (text ≡ encode_lower bytes)
+pub contents_taken : (text bytes : List ℕ) → IsHexadecimal text → length text ≤ 2048 → decode_of text ≡ Ok bytes → IsContents bytes × (text ≡ encode_lower bytes)
 contents_taken text bytes hexadecimal short e =
     let ok = decode_of-ok text bytes e in
     let n = ok.2 in
@@ -119,7 +119,7 @@ lower_encoded (b ∷ bytes) each =
     All-cons IsLowerDigit (get_or lower_digits (b / 16) 0) (get_or lower_digits (b % 16) 0 ∷ encode_lower bytes) (digits_are_lower (b / 16) (omega arith))
     (All-cons IsLowerDigit (get_or lower_digits (b % 16) 0) (encode_lower bytes) (digits_are_lower (b % 16) (omega arith)) (lower_encoded bytes (All-tail (λ b. b < 256) b bytes each)))
 
-pub contents_hexadecimal : (bytes : List ℕ) → IsContents bytes → IsHexadecimal (encode_lower bytes) × (length (encode_lower bytes) / 2 ≤ 1024)
+pub contents_hexadecimal : (bytes : List ℕ) → IsContents bytes → IsHexadecimal (encode_lower bytes) × (length (encode_lower bytes) ≤ 2048)
 contents_hexadecimal bytes contents =
     let n = length-encode_with lower_digits bytes in
     let some = contents.some in

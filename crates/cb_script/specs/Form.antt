@@ -1,13 +1,17 @@
 -- Which scripts there are, and which bytes spell one.
-use Rattle.std.specs.Prelude.{◌≡◌, ℕ, ◌+◌, ◌<◌, ◌≤◌, ◌⊎◌, List, [], ◌∷◌, ◌++◌, length, All, Contains}
-use Rattle.std.specs.List.{flat_map}
+use Rattle.std.specs.Prelude.{◌≡◌, ℕ, ◌+◌, ◌<◌, ◌≤◌, ◌⊎◌, List, [], ◌∷◌, ◌++◌, length, All}
+use Rattle.std.specs.List.{flat_map, AllByRecursion}
 use Rattle.cb_types.specs.Config.{IsAccepted}
 use Rattle.cb_types.specs.declared.request.Request.{Request}
-use Rattle.cb_types.specs.declared.request.Request.TheVariants.{Make, Read}
+use Rattle.cb_types.specs.declared.request.Request.TheVariants.{Make, Read, Write, Free, Pin, Peek, Unpin, Filter, Crash, Join}
+use Rattle.cb_script.specs.declared.verb.BareVerb.{BareVerb}
+use Rattle.cb_script.specs.declared.verb.BareVerb.TheVariants.{Begin, Ship, Commit, Abort, Pair, Patch, Merge, Part}
 use Rattle.cb_script.specs.declared.script.Line.{Line}
 use Rattle.cb_script.specs.declared.script.Script.{Script}
 use Rattle.cb_script.specs.declared.script.Mode.{Mode}
-use Rattle.cb_script.specs.Spelling.{script_text}
+use Rattle.cb_script.specs.declared.script.Mode.TheVariants.{Threads}
+use Rattle.cb_script.specs.Phrase.{Phrase, phrase_of}
+use Rattle.cb_script.specs.Spelling.{lines_of, script_lines}
 
 -- a lower-case letter or a digit
 abbrev pub IsNameByte : ℕ → Type 0
@@ -19,55 +23,117 @@ pub record IsName (name : List ℕ) : Type 0 where
   pub few : length name ≤ 16
   pub each : All IsNameByte name
 
--- 1 to 1,024 bytes
+-- the bytes of a make: 1 to 1,024 of them
 pub record IsContents (bytes : List ℕ) : Type 0 where
   pub some : 1 ≤ length bytes
   pub few : length bytes ≤ 1024
   pub each : All (λ b. b < 256) bytes
 
--- the request's name and bytes have their forms
-abbrev pub IsRequest : Request → Type 0
-IsRequest (Make name bytes) = IsName name × IsContents bytes
-IsRequest (Read name) = IsName name
-IsRequest request = ⊥
+-- the bytes of a write: 0 to 1,024 of them
+pub record IsChange (bytes : List ℕ) : Type 0 where
+  pub few : length bytes ≤ 1024
+  pub each : All (λ b. b < 256) bytes
+
+-- the request's name, numbers and bytes have their forms, where there are so many nodes
+abbrev pub IsRequest : ℕ → Request → Type 0
+IsRequest nodes (Make name bytes) = IsName name × IsContents bytes
+IsRequest nodes (Write name at bytes) = IsName name × (at ≤ 1024) × IsChange bytes
+IsRequest nodes (Read name) = IsName name
+IsRequest nodes (Free name) = IsName name
+IsRequest nodes (Pin name) = IsName name
+IsRequest nodes (Peek name) = IsName name
+IsRequest nodes (Unpin name) = IsName name
+IsRequest nodes (Filter name) = IsName name
+IsRequest nodes (Crash node) = node.n < nodes
+IsRequest nodes (Join node) = node.n < nodes
+IsRequest nodes _ = Unit {0}
 
 -- the name that a request makes, where it makes one
 abbrev pub names_made : Request → List (List ℕ)
 names_made (Make name bytes) = name ∷ []
-names_made request = []
+names_made _ = []
 
 -- the names made on these lines, in order
 abbrev pub made : List Line → List (List ℕ)
 made lines = flat_map (λ l. names_made l.request) lines
 
--- a make's name is new, and every other name was made
-abbrev pub IsKnown : List (List ℕ) → Request → Type 0
-IsKnown names (Make name bytes) = Contains names name → ⊥
-IsKnown names (Read name) = Contains names name
-IsKnown names request = ⊥
+-- the request makes the name
+abbrev pub Makes : Request → List ℕ → Type 0
+Makes (Make made_name bytes) name = made_name ≡ name
+Makes _ name = ⊥
 
--- The line may stand behind these lines. The header is line 1, and there is one lane.
-pub record MayFollow (before : List Line) (l : Line) : Type 0 where
-  pub lane : l.lane.n ≡ 1
+-- the lane makes the name on one of these lines
+abbrev pub IsMade : List Line → ℕ → List ℕ → Type 0
+IsMade [] lane name = ⊥
+IsMade (l ∷ lines) lane name = ((l.lane.n ≡ lane) × Makes l.request name) ⊎ IsMade lines lane name
+
+-- no lane makes the name on these lines
+abbrev pub IsNew : List Line → List ℕ → Type 0
+IsNew before name = (lane : ℕ) → IsMade before lane name → ⊥
+
+-- the name is the lane's own, or shared: lane 0 makes it
+abbrev pub KnowsName : List Line → ℕ → List ℕ → Type 0
+KnowsName before lane name = IsMade before lane name ⊎ IsMade before 0 name
+
+-- a make's name is new, and every other name is known to the lane
+abbrev pub IsKnown : List Line → ℕ → Request → Type 0
+IsKnown before lane (Make name bytes) = IsNew before name
+IsKnown before lane (Write name at bytes) = KnowsName before lane name
+IsKnown before lane (Read name) = KnowsName before lane name
+IsKnown before lane (Free name) = KnowsName before lane name
+IsKnown before lane (Pin name) = KnowsName before lane name
+IsKnown before lane (Peek name) = KnowsName before lane name
+IsKnown before lane (Unpin name) = KnowsName before lane name
+IsKnown before lane (Filter name) = KnowsName before lane name
+IsKnown before lane _ = Unit {0}
+
+-- The lane may stand behind these lines: there are lanes 0 to 15, and lane 0 stands first.
+pub record IsLane (before : List Line) (lane : ℕ) : Type 0 where
+  pub low : lane ≤ 15
+  pub first : lane ≡ 0 → AllByRecursion (λ l. l.lane.n ≡ 0) before
+
+-- The line may stand behind these lines. The header is line 1.
+pub record MayFollow (nodes : ℕ) (before : List Line) (l : Line) : Type 0 where
+  pub lane : IsLane before l.lane.n
   pub line : l.line ≡ length before + 2
-  pub request : IsRequest l.request
-  pub known : IsKnown (made before) l.request
+  pub request : IsRequest nodes l.request
+  pub known : IsKnown before l.lane.n l.request
 
 -- each line may stand behind the lines before it
-abbrev pub AreLines : List Line → List Line → Type 0
-AreLines before [] = Unit {0}
-AreLines before (l ∷ after) = MayFollow before l × AreLines (before ++ l ∷ []) after
+abbrev pub AreLines : ℕ → List Line → List Line → Type 0
+AreLines nodes before [] = Unit {0}
+AreLines nodes before (l ∷ after) = MayFollow nodes before l × AreLines nodes (before ++ l ∷ []) after
 
 -- What holds of every script.
 pub record IsScript (s : Script) : Type 0 where
   pub config : IsAccepted s.config
   pub few : length s.lines ≤ 20000
-  pub lines : AreLines [] s.lines
-  -- there is a handle for each object
-  pub room : length (made s.lines) ≤ s.config.handles
+  pub lines : AreLines s.config.nodes [] s.lines
 
--- The bytes spell the script. The last line feed may be left out, and the script is no longer than it may be.
+-- a part of an eviction or of a compaction, which workers do where lanes run as threads
+abbrev pub IsStep : BareVerb → Type 0
+IsStep Begin = Unit {0}
+IsStep Ship = Unit {0}
+IsStep Commit = Unit {0}
+IsStep Abort = Unit {0}
+IsStep Pair = Unit {0}
+IsStep Patch = Unit {0}
+IsStep Merge = Unit {0}
+IsStep Part = Unit {0}
+IsStep _ = ⊥
+
+-- in mode Threads there is no step
+abbrev pub FitsMode : Phrase → Mode → Type 0
+FitsMode (Phrase.Alone verb) Threads = IsStep verb → ⊥
+FitsMode _ _ = Unit {0}
+
+-- each line may stand in the mode
+abbrev pub AreInMode : Mode → List Line → Type 0
+AreInMode mode lines = AllByRecursion (λ l. FitsMode (phrase_of l.request) mode) lines
+
+-- The bytes spell the script, and they are no longer than they may be.
 pub record Spells (bytes : List ℕ) (mode : Mode) (s : Script) : Type 0 where
-  pub form : IsScript s
   pub short : length bytes ≤ 1048576
-  pub text : (bytes ≡ script_text s) ⊎ (bytes ++ 10 ∷ [] ≡ script_text s)
+  pub form : IsScript s
+  pub allowed : AreInMode mode s.lines
+  pub text : lines_of bytes ≡ script_lines s

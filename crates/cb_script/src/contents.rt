@@ -1,32 +1,51 @@
-ghost use Rattle.std.specs.Prelude.{◌≡◌, ◌↔◌, IsTrue, IfOk};
+ghost use Rattle.std.specs.Prelude.{◌≡◌, ◌↔◌, ◌≤◌, ◌⊎◌, codes, length, IsTrue};
 ghost use Rattle.hex.specs.Hex.{encode_lower};
-ghost use Rattle.cb_script.specs.Form.{IsContents};
-ghost use Rattle.cb_script.specs.Found.{Finds};
+ghost use Rattle.cb_script.specs.Form.{IsChange, IsContents};
 ghost use Rattle.cb_script.specs.Hexadecimal.{IsLowerDigit, IsHexadecimal};
+ghost use Rattle.cb_script.specs.Phrase.{change_text};
+ghost use Rattle.cb_script.specs.Reading.{Reads, HexFault};
 
-use cb_types::{Bytes, NoMemory};
+use crate::fault::{Reason, Refusal};
+use crate::verb::is_word;
+use cb_types::Bytes;
 use hex::FromHexError;
 use std::alloc::Global;
 
-/// The longest contents have so many bytes.
-const LONGEST_CONTENTS: usize = 1024;
+/// The longest contents have so many digits: two for each of 1,024 bytes.
+const MOST_DIGITS: usize = 2048;
 
-/// The bytes that a make gives its object: 1 to 1,024 of them, in lower-case hexadecimal.
-pub(crate) fn contents_of(alloc: Global, text: &[u8]) -> Result<Option<Bytes>, NoMemory>
-    ensures { IfOk result (λ found.
-        Finds found (λ bytes. IsContents bytes × (text.now ≡ encode_lower bytes))) }
+/// The bytes of a make: 1 to 1,024 of them, in lower-case hexadecimal.
+pub(crate) fn contents_of(alloc: Global, text: &[u8]) -> Result<Bytes, Refusal>
+    ensures { Reads result
+        (λ bytes. IsContents bytes × (text.now ≡ encode_lower bytes))
+        (HexFault (IsHexadecimal text.now) (length text.now ≤ 2048)) }
 {
-    if !is_hexadecimal(text) || text.len() / 2 > LONGEST_CONTENTS {
-        return Ok(None);
+    if !is_hexadecimal(text) {
+        return Err(Refusal::Broken(Reason::Hex));
+    }
+    if text.len() > MOST_DIGITS {
+        return Err(Refusal::Broken(Reason::Length));
     }
     match hex::decode(alloc, text) {
-        Ok(bytes) => Ok(Some(Bytes::from(bytes))),
+        Ok(bytes) => Ok(Bytes::from(bytes)),
         Err(fault) => {
             // The digits were tested, so only memory can be wanting.
             prove!(matches!(fault, FromHexError::OutOfMemory));
-            Err(NoMemory)
+            Err(Refusal::NoMemory)
         }
     }
+}
+
+/// The bytes of a write: 0 to 1,024 of them, in lower-case hexadecimal, and `-` for none.
+pub(crate) fn change_of(alloc: Global, text: &[u8]) -> Result<Bytes, Refusal>
+    ensures { Reads result
+        (λ bytes. IsChange bytes × (text.now ≡ change_text bytes))
+        (HexFault (IsHexadecimal text.now ⊎ (text.now ≡ codes "-")) (length text.now ≤ 2048)) }
+{
+    if is_word(text, b"-") {
+        return Ok(Bytes::from(Vec::new(alloc)));
+    }
+    contents_of(alloc, text)
 }
 
 /// Whether the text is an even number of lower-case hexadecimal digits, at least two.

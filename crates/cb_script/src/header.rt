@@ -1,30 +1,37 @@
-ghost use Rattle.std.specs.Prelude.{◌≡◌, IfOk};
+ghost use Rattle.std.specs.Prelude.{◌≡◌, MatchResult};
 ghost use Rattle.cb_types.specs.Config.{IsAccepted};
-ghost use Rattle.cb_script.specs.Spelling.{header_words};
+ghost use Rattle.cb_script.specs.Spelling.{header_words, header_line};
 ghost use Rattle.cb_script.specs.Cut.{texts};
 ghost use Rattle.cb_script.specs.Found.{Finds};
-ghost use Rattle.cb_script.specs.Next.{header_text};
+ghost use Rattle.cb_script.specs.Reading.{HeaderFault};
 ghost use Rattle.cb_script.specs.Numbers.{AreNumbers};
 
-use crate::cut::pieces_between;
+use crate::cut::words_into;
+use crate::fault::Reason;
 use crate::number::setting_of;
-use cb_types::{Config, NoMemory};
-use std::alloc::Global;
+use cb_types::Config;
+
+/// A header has so many words.
+const HEADER_WORDS: usize = 9;
 
 /// The configuration that a header of this text sets, where it is accepted.
-pub(crate) fn accepted_config_of(alloc: Global, text: &[u8]) -> Result<Option<Config>, NoMemory>
-    ensures { IfOk result (λ found. Finds found (λ c. IsAccepted c × (text.now ≡ header_text c))) }
+pub(crate) fn header_of(text: &[u8]) -> Result<Config, Reason>
+    ensures { MatchResult result
+        (λ c. IsAccepted c × (text.now ≡ header_line c))
+        (HeaderFault text.now) }
 {
-    let words = pieces_between(alloc, b' ', text)?;
-    let Some(config) = config_of(words.as_slice()) else {
-        return Ok(None);
+    let mut places = [b"".as_slice(); HEADER_WORDS];
+    let Some(count) = words_into(text, &mut places) else {
+        return Err(Reason::Header);
+    };
+    let Some(config) = config_of(&places[..count]) else {
+        return Err(Reason::Header);
     };
     match config.check() {
-        Ok(()) => Ok(Some(config)),
-        Err(_) => Ok(None),
+        Ok(()) => Ok(config),
+        Err(_) => Err(Reason::Config),
     }
 }
-
 /// The configuration that the words of a header set, whether or not it is accepted.
 fn config_of(words: &[&[u8]]) -> Option<Config>
     ensures { Finds result (λ c. AreNumbers c × (texts words.now ≡ header_words c)) }

@@ -1,75 +1,59 @@
-ghost use Rattle.std.specs.Prelude.{◌≡◌, ◌≤◌, ◌∷◌, [], ◌++◌, codes, ℕ, List, length, IfOk, IfSome};
-ghost use Rattle.cb_script.specs.Known.{has_name, HasNames, MayStand};
-ghost use Rattle.cb_script.specs.Found.{Finds};
-ghost use Rattle.cb_script.specs.Shape.{shape_words};
-ghost use Rattle.cb_script.specs.Form.{names_made};
+ghost use Rattle.std.specs.Prelude.{◌≡◌, ◌∷◌, [], ◌++◌, ℕ, List, MatchResult, IfOk};
+ghost use Rattle.cb_script.specs.declared.script.Line.{Line};
+ghost use Rattle.cb_script.specs.Form.{IsName, IsNew, KnowsName, Makes};
+ghost use Rattle.cb_script.specs.Reading.{NameFault, HasNames, maker_of};
 
-use crate::contents::contents_of;
+use crate::fault::Reason;
 use crate::name::is_name;
-use crate::shape::Shape;
-use cb_types::{Name, NoMemory, Request};
-use std::alloc::Global;
-use std::collections::BTreeSet;
+use cb_types::{Lane, NoMemory};
+use std::collections::BTreeMap;
 
-/// The request of this shape, where it may stand behind the names that were made so far. A make's
-/// name is then among them, and there are at the most as many as handles.
-pub(crate) fn request_of<'a>(
-    alloc: Global,
-    names: &mut BTreeSet<&'a [u8]>,
-    handles: u32,
-    shape: Shape<'a>,
-) -> Result<Option<Request>, NoMemory>
-    ensures request { (known : List (List ℕ)) → HasNames names.old known → length known ≤ handles
-        → IfOk result (λ found. Finds found (MayStand known handles (shape_words shape.entry))) }
-    ensures names { (known : List (List ℕ)) → HasNames names.old known
-        → IfOk result (λ found. IfSome found (λ r. HasNames names.new (known ++ names_made r))) }
+/// The names that were made on the lines so far, each with the lane that made it.
+pub(crate) type Names<'a> = BTreeMap<&'a [u8], u8>;
+
+/// Accepts a name that no line made.
+pub(crate) fn accept_new(names: &Names<'_>, name: &[u8]) -> Result<(), Reason>
+    ensures { (before : List Line) → HasNames names.now before → MatchResult result
+        (λ _. IsName name.now × IsNew before name.now)
+        (NameFault (IsName name.now) (IsNew before name.now)) }
 {
-    match shape {
-        Shape::Make { name, text } => make_of(alloc, names, handles, name, text),
-        Shape::Read { name } => read_of(alloc, names, name),
+    if !is_name(name) {
+        return Err(Reason::Name);
+    }
+    match maker(names, name) {
+        Some(_) => Err(Reason::Known),
+        None => Ok(()),
     }
 }
 
-fn make_of<'a>(
-    alloc: Global,
-    names: &mut BTreeSet<&'a [u8]>,
-    handles: u32,
-    name: &'a [u8],
-    text: &[u8],
-) -> Result<Option<Request>, NoMemory>
-    ensures request { (known : List (List ℕ)) → HasNames names.old known
-        → IfOk result (λ found.
-        Finds found (MayStand known handles (codes "make" ∷ name.entry.now ∷ text.now ∷ []))) }
-    ensures names { (known : List (List ℕ)) → HasNames names.old known
-        → IfOk result (λ found. IfSome found (λ r. HasNames names.new (known ++ names_made r))) }
+/// Accepts a name that this lane knows: lane 0 or this lane made it.
+pub(crate) fn accept_known(names: &Names<'_>, lane: Lane, name: &[u8]) -> Result<(), Reason>
+    ensures { (before : List Line) → HasNames names.now before → MatchResult result
+        (λ _. IsName name.now × KnowsName before lane.n name.now)
+        (NameFault (IsName name.now) (KnowsName before lane.n name.now)) }
 {
-    if !is_name(name) || is_known(names, name) || names.len() >= handles as usize {
-        return Ok(None);
+    if !is_name(name) {
+        return Err(Reason::Name);
     }
-    let Some(bytes) = contents_of(alloc, text)? else {
-        return Ok(None);
-    };
-    let copy = Name::copy_of(alloc, name)?;
-    names.insert(name)?;
-    Ok(Some(Request::Make { name: copy, bytes }))
+    match maker(names, name) {
+        Some(maker) if maker == lane.n || maker == 0 => Ok(()),
+        _ => Err(Reason::Known),
+    }
 }
 
-fn read_of(alloc: Global, names: &BTreeSet<&[u8]>, name: &[u8]) -> Result<Option<Request>, NoMemory>
-    ensures request { (known : List (List ℕ)) (handles : ℕ) → HasNames names.now known
-        → length known ≤ handles → IfOk result (λ found. Finds found (MayStand known handles (codes "read" ∷ name.now ∷ []))) }
-    ensures names { (known : List (List ℕ)) → HasNames names.now known
-        → IfOk result (λ found. IfSome found (λ r. HasNames names.now (known ++ names_made r))) }
+/// The lane that made the name, where one did.
+fn maker(names: &Names<'_>, name: &[u8]) -> Option<u8>
+    ensures { result ≡ maker_of names.now name.now }
 {
-    if !is_name(name) || !is_known(names, name) {
-        return Ok(None);
-    }
-    let name = Name::copy_of(alloc, name)?;
-    Ok(Some(Request::Read { name }))
+    names.get(name).copied()
 }
 
-/// Whether the name was made on a line before.
-fn is_known(names: &BTreeSet<&[u8]>, name: &[u8]) -> bool
-    ensures { result ≡ has_name names.now name.now }
+/// Keeps a new name with its lane.
+pub(crate) fn keep<'a>(names: &mut Names<'a>, name: &'a [u8], lane: Lane) -> Result<(), NoMemory>
+    ensures { (before : List Line) (l : Line) → HasNames names.old before
+        → IsNew before name.entry.now → l.lane ≡ lane → Makes l.request name.entry.now
+        → IfOk result (λ _. HasNames names.new (before ++ l ∷ [])) }
 {
-    names.contains(name)
+    names.insert(name, lane.n)?;
+    Ok(())
 }

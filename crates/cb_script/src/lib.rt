@@ -1,5 +1,6 @@
-//! The script: what a user writes, one request a line behind a header, and the reader that accepts
-//! exactly the scripts that are in the form.
+//! The script: what a user writes, one request a line behind a header. The reader accepts exactly
+//! the scripts that are in the form, and tells the first fault of every other input; the printer
+//! gives a script's text back.
 #![tactic(auto)]
 
 mod contents;
@@ -7,18 +8,25 @@ mod cut;
 pub mod fault;
 mod header;
 mod known;
+pub mod laws;
 mod line;
 mod name;
 mod number;
+mod phrase;
+pub mod print;
 pub mod read;
+mod request;
 pub mod script;
-mod shape;
 pub mod unbuilt;
+mod verb;
 
 pub use fault::{Reason, ScriptFault};
+pub use laws::script_laws;
+pub use print::print_script;
 pub use read::read_script;
 pub use script::{Line, Lines, Mode, Script};
 pub use unbuilt::first_unbuilt;
+
 
 #[cfg(test)]
 mod tests;

@@ -1,60 +1,70 @@
-ghost use Rattle.std.specs.Prelude.{◌≡◌, ◌+◌, ◌∷◌, ◌++◌, [], List, length, IfOk, IfSome};
-ghost use Rattle.std.specs.Fmt.{decimal};
+ghost use Rattle.std.specs.Prelude.{◌≡◌, ◌+◌, ◌<◌, ◌∷◌, ◌++◌, [], List, length, IfOk, MatchBool};
+ghost use Rattle.std.specs.List.{AllByRecursion};
 ghost use Rattle.cb_script.specs.declared.script.Line.{Line};
-ghost use Rattle.cb_script.specs.Form.{made};
-ghost use Rattle.cb_script.specs.Known.{HasNames};
-ghost use Rattle.cb_script.specs.Found.{Finds};
-ghost use Rattle.cb_script.specs.Next.{ComesNext, IsBehind};
+ghost use Rattle.cb_script.specs.Cut.{texts, phrase};
+ghost use Rattle.cb_script.specs.Phrase.{phrase_words};
+ghost use Rattle.cb_script.specs.Reading.{Reads, ComesNext, HasNames, IsLeastLane, place_of};
+ghost use Rattle.cb_script.specs.Rules.{Holds, IsLeast};
 
-use crate::cut::pieces_between;
-use crate::known::request_of;
-use crate::number::number_of;
+use crate::cut::words_into;
+use crate::fault::{Reason, Refusal};
+use crate::known::Names;
+use crate::number::lane_of;
+use crate::phrase::phrase_of;
+use crate::request::{Limits, request_of};
 use crate::script::Line;
-use crate::shape::shape_of;
-use cb_types::{Lane, NoMemory};
 use std::alloc::Global;
-use std::collections::BTreeSet;
 
-/// The line of this text and number, where it may stand behind the lines before it. The names are
-/// those that were made on the lines before, and then those with this line.
+/// A line has at the most so many words.
+const MOST_WORDS: usize = 5;
+
+/// The line of this text and number, where it may stand behind the lines before it: its lane is
+/// not below the least. The names are those that were made on the lines before, and then those with this line.
 pub(crate) fn line_of<'a>(
     alloc: Global,
-    names: &mut BTreeSet<&'a [u8]>,
-    handles: u32,
+    names: &mut Names<'a>,
+    limits: Limits,
+    least_lane: u8,
     number: u32,
     text: &'a [u8],
-) -> Result<Option<Line>, NoMemory>
-    ensures line { (before : List Line) → IsBehind names.old handles before → number ≡ length before + 2
-        → IfOk result (λ found. Finds found (ComesNext before handles text.entry.now)) }
-    ensures names { (before : List Line) → IsBehind names.old handles before
-        → IfOk result (λ found. IfSome found (λ l. HasNames names.new (made (before ++ l ∷ [])))) }
+) -> Result<Line, Refusal>
+    ensures line { (before : List Line) → HasNames names.old before → IsLeastLane before least_lane
+        → number ≡ length before + 2 → length before < 20000 → Reads result
+        (ComesNext (place_of limits before) text.entry.now)
+        (IsLeast (Holds (place_of limits before) text.entry.now)) }
+    ensures names { (before : List Line) → HasNames names.old before
+        → IfOk result (λ l. HasNames names.new (before ++ l ∷ [])) }
 {
-    let words = pieces_between(alloc, b' ', text)?;
+    let mut places = [b"".as_slice(); MOST_WORDS];
+    let Some(count) = words_into(text, &mut places) else {
+        return Err(Refusal::Broken(Reason::Shape));
+    };
+    let words = &places[..count];
+    if has_empty(words) {
+        return Err(Refusal::Broken(Reason::Shape));
+    }
     let Some((lane, words)) = words.split_first() else {
-        return Ok(None);
+        return Err(Refusal::Broken(Reason::Shape));
     };
-    let Some(shape) = shape_of(words) else {
-        return Ok(None);
+    let Some(words) = phrase_of(words) else {
+        return Err(Refusal::Broken(Reason::Shape));
     };
-    let Some(lane) = lane_of(lane) else {
-        return Ok(None);
+    let Some(lane) = lane_of(lane, least_lane) else {
+        return Err(Refusal::Broken(Reason::Lane));
     };
-    let Some(request) = request_of(alloc, names, handles, shape)? else {
-        return Ok(None);
-    };
-    Ok(Some(Line {
+    let request = request_of(alloc, names, limits, lane, words)?;
+    Ok(Line {
         lane,
         line: number,
         request,
-    }))
+    })
 }
 
-/// The lane that the word spells. There is one lane yet, lane 1.
-fn lane_of(word: &[u8]) -> Option<Lane>
-    ensures { Finds result (λ lane. (lane.n ≡ 1) × (word.now ≡ decimal lane.n)) }
+/// Whether one of the words is empty.
+fn has_empty(words: &[&[u8]]) -> bool
+    ensures { MatchBool result
+        (AllByRecursion (λ word. 0 < length word) (texts words.now) → ⊥)
+        (AllByRecursion (λ word. 0 < length word) (texts words.now)) }
 {
-    match number_of(word) {
-        Some(1) => Some(Lane { n: 1 }),
-        _ => None,
-    }
+    words.iter().any(|word| word.is_empty())
 }

@@ -1,12 +1,20 @@
-ghost use Rattle.std.specs.Prelude.{◌≡◌, ◌<◌, ◌^◌};
-ghost use Rattle.std.specs.Fmt.{decimal};
+ghost use Rattle.std.specs.Prelude.{◌≡◌, ◌<◌, ◌≤◌, ◌^◌};
 ghost use Rattle.std.specs.Str.Parse.{AllDigits, digits_value};
 ghost use Rattle.cb_script.specs.Found.{Finds};
+ghost use Rattle.cb_script.specs.Rules.{IsNumber};
 ghost use Rattle.cb_script.specs.Spelling.{setting};
+
+use cb_types::{Lane, NodeId};
+
+/// The greatest lane.
+const LAST_LANE: u32 = 15;
+
+/// The greatest place at which a write begins.
+const LAST_START: u32 = 1024;
 
 /// The number that the word spells: 0, or a digit 1 to 9 and at the most eight digits behind it.
 pub(crate) fn number_of(word: &[u8]) -> Option<u32>
-    ensures { Finds result (λ n. (n < 10 ^ 9) × (word.now ≡ decimal n)) }
+    ensures { Finds result (λ n. IsNumber word.now n) }
 {
     if word.is_empty() {
         return None;
@@ -24,6 +32,40 @@ pub(crate) fn setting_of(word: &[u8], name: &[u8]) -> Option<u32>
     let value = word.strip_prefix(name)?;
     let number = value.strip_prefix(b"=")?;
     number_of(number)
+}
+
+/// The lane that the word spells, from this lane on to 15.
+pub(crate) fn lane_of(word: &[u8], least: u8) -> Option<Lane>
+    ensures { Finds result (λ lane.
+        IsNumber word.now lane.n × (least ≤ lane.n) × (lane.n ≤ 15)) }
+{
+    let n = number_of(word)?;
+    if n < u32::from(least) || n > LAST_LANE {
+        return None;
+    }
+    Some(Lane { n: n as u8 })
+}
+
+/// The node that the word spells, where there are so many.
+pub(crate) fn node_of(word: &[u8], nodes: u8) -> Option<NodeId>
+    ensures { Finds result (λ node. IsNumber word.now node.n × (node.n < nodes)) }
+{
+    let n = number_of(word)?;
+    if n >= u32::from(nodes) {
+        return None;
+    }
+    Some(NodeId { n: n as u8 })
+}
+
+/// The place where a write begins, which the word spells: a number up to 1,024.
+pub(crate) fn start_of(word: &[u8]) -> Option<u32>
+    ensures { Finds result (λ at. IsNumber word.now at × (at ≤ 1024)) }
+{
+    let at = number_of(word)?;
+    if at > LAST_START {
+        return None;
+    }
+    Some(at)
 }
 
 /// The value of a word of digits, where it is below 10^9.

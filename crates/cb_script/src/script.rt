@@ -9,6 +9,9 @@ use std::marker::Model;
 pub enum Mode {
     /// On one thread, line after line.
     Seq,
+    /// Each lane on a thread of its own, beside workers, which make the steps of evictions and
+    /// compactions: no line may ask for one.
+    Threads,
 }
 
 /// A line of a script behind its header, which is line 1.
@@ -65,5 +68,21 @@ impl Lines {
     {
         self.items.push(item)?;
         Ok(())
+    }
+
+    /// Gives the lines' own memory back as a vector; takes none.
+    pub fn into_vec(self) -> Vec<Line>
+        ensures items { result.items ≡ self }
+    {
+        self.items
+    }
+}
+
+impl From<Vec<Line>> for Lines {
+    ghost from_gives = { λ v lines. lines ≡ v.items };
+
+    /// Keeps the vector's own memory; takes none.
+    fn from(items: Vec<Line>) -> Lines {
+        Lines { items }
     }
 }

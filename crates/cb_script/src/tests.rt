@@ -5,149 +5,88 @@ use std::test::Fail;
 
 const HEADER: &str = "carbink 1 k=2 r=2 nodes=6 frames=8 room=64 handles=16 turns=0\n";
 
-const OUTSIDE: ScriptFault = ScriptFault::Bad {
-    line: 0,
-    reason: Reason::Unbuilt,
-};
-
-// Whether the header with these lines behind it is read.
-fn reads(alloc: Global, lines: &str) -> Result<bool, Fail> {
+// The line and the number of the first fault of the header with these lines behind it, and 0 and 0
+// where they are a script.
+fn fault_of(alloc: Global, lines: &str, mode: Mode) -> Result<(u32, u32), Fail> {
     let header = HEADER;
     let text = format!(in alloc; "{header}{lines}")?;
-    reads_bytes(alloc, text.as_bytes())
+    fault_of_bytes(alloc, text.as_bytes(), mode)
 }
 
-fn reads_bytes(alloc: Global, bytes: &[u8]) -> Result<bool, Fail> {
-    match read_script(alloc, bytes, Mode::Seq) {
-        Ok(_) => Ok(true),
-        Err(fault) => {
-            if fault == OUTSIDE {
-                Ok(false)
-            } else {
-                Err(Fail::from(fault))
-            }
-        }
+fn fault_of_bytes(alloc: Global, bytes: &[u8], mode: Mode) -> Result<(u32, u32), Fail> {
+    match read_script(alloc, bytes, mode) {
+        Ok(_) => Ok((0, 0)),
+        Err(ScriptFault::Bad { line, reason }) => Ok((line, reason.number())),
+        Err(ScriptFault::NoMemory) => Err(Fail::from(NoMemory)),
     }
 }
 
 #[test]
-fn reads_a_make_and_a_read(rt: HostRuntime) -> Result<(), Fail> {
-    let header = HEADER;
-    let text = format!(in rt.alloc(); "{header}1 make a 0a0b\n1 read a\n")?;
-    assert_eq!(rt; text.len(), 85);
-    let script = read_script(rt.alloc(), text.as_bytes(), Mode::Seq)?;
-    let config = Config {
-        k: 2,
-        r: 2,
-        nodes: 6,
-        frames: 8,
-        room: 64,
-        handles: 16,
-        turns: 0,
-    };
-    assert_eq!(rt; script.config, config);
-    let lines = script.lines.as_slice();
-    assert_eq!(rt; lines.len(), 2);
-    for (i, line) in lines.iter().enumerate() {
-        assert_eq!(rt; line.lane, Lane { n: 1 });
-        assert_eq!(rt; line.line as usize, i + 2);
-        match &line.request {
-            Request::Make { name, bytes } => {
-                assert_eq!(rt; i, 0);
-                assert_eq!(rt; name.as_slice(), b"a".as_slice());
-                assert_eq!(rt; bytes.as_slice(), [10, 11].as_slice());
-            }
-            Request::Read { name } => {
-                assert_eq!(rt; i, 1);
-                assert_eq!(rt; name.as_slice(), b"a".as_slice());
-            }
-        }
+fn tells_the_first_bad_line_and_its_least_reason(rt: HostRuntime) -> Result<(), Fail> {
+    for (lines, fault) in [
+        ("", (0, 0)),
+        ("1 make a 0a0b\n1 read a", (0, 0)),
+        ("0 make a 00\n15 read a\n15 make b 00\n15 free b\n", (0, 0)),
+        ("1 make a 00\n1 write a 1024 -\n1 write a 0 ff\n", (0, 0)),
+        ("1 crash 0\n1 join 5\n1 leave\n1 evict\n1 begin\n1 ship\n", (0, 0)),
+        ("1 commit\n1 abort\n1 pair\n1 patch\n1 merge\n1 part\n", (0, 0)),
+        ("1 compact\n1 rebuild\n", (0, 0)),
+        ("1 make a 00\n1 pin a\n1 peek a\n1 unpin a\n1 filter a\n", (0, 0)),
+        ("\n", (2, 5)),
+        ("1 make a 0a\n\n", (3, 5)),
+        ("1  evict\n", (2, 5)),
+        (" 1 evict\n", (2, 5)),
+        ("1 evict \n", (2, 5)),
+        ("1 make a \n", (2, 5)),
+        ("1 read\n", (2, 5)),
+        ("1 recode\n", (2, 5)),
+        ("1 evict\r\n", (2, 5)),
+        ("16 evict\n", (2, 6)),
+        ("01 evict\n", (2, 6)),
+        ("1 evict\n0 evict\n", (3, 6)),
+        ("1 read A\n", (2, 7)),
+        ("1 make abcdefghijklmnop 00\n1 make abcdefghijklmnopq 00\n", (3, 7)),
+        ("1 make a 00\n2 make a 00\n", (3, 8)),
+        ("1 make a 00\n2 read a\n", (3, 8)),
+        ("1 read a\n", (2, 8)),
+        ("1 crash 6\n", (2, 9)),
+        ("1 make a 00\n1 write a 1025 00\n", (3, 9)),
+        ("1 make a 0A\n", (2, 10)),
+        ("1 make a 0a0\n", (2, 10)),
+        ("1 make a -\n", (2, 10)),
+        ("16 read A\n", (2, 6)),
+        ("1 make A 0A\n", (2, 7)),
+        ("1 make a 00\n1 write b 1025 0\n", (3, 8)),
+        ("1 make a 00\n1 write a 1025 0\n", (3, 9)),
+        ("1 make a 0\n1 evict \n", (2, 10)),
+    ] {
+        assert_eq!(rt; fault_of(rt.alloc(), lines, Mode::Seq)?, fault, "{lines:?}");
     }
     Ok(())
 }
 
 #[test]
-fn accepts_lines_in_the_form(rt: HostRuntime) -> Result<(), Fail> {
-    for lines in [
-        "",
-        "1 make a 0a0b\n1 read a\n",
-        "1 make a 0a0b\n1 read a",
-        "1 make a 00\n1 make b 00\n1 read a\n1 read b\n1 read a\n",
-        "1 make abcdefghijklmno9 00\n1 read abcdefghijklmno9\n",
-        "1 make 0 ff\n1 read 0\n",
-        "1 make a 0123456789abcdef\n",
+fn tells_faults_of_headers_and_modes(rt: HostRuntime) -> Result<(), Fail> {
+    for (text, fault) in [
+        ("", (1, 2)),
+        ("\n", (1, 2)),
+        ("carbink 1 k=02 r=2 nodes=6 frames=8 room=64 handles=16 turns=0\n", (1, 2)),
+        ("carbink 1 r=2 k=2 nodes=6 frames=8 room=64 handles=16 turns=0\n", (1, 2)),
+        ("carbink 1 k=2 r=2 nodes=6 frames=8 room=64 handles=16\n", (1, 2)),
+        ("carbink 1 k=2 r=2 nodes=6 frames=8 room=64 handles=16 turns=1000000000\n", (1, 2)),
+        ("carbink 1 k=0 r=2 nodes=6 frames=8 room=64 handles=16 turns=0\n1\n", (1, 3)),
+        ("carbink 1 k=2 r=2 nodes=3 frames=8 room=64 handles=16 turns=0", (1, 3)),
+        ("carbink 1 k=2 r=2 nodes=4 frames=8 room=64 handles=16 turns=0", (0, 0)),
     ] {
-        assert!(rt; reads(rt.alloc(), lines)?, "{lines:?}");
+        assert_eq!(rt; fault_of_bytes(rt.alloc(), text.as_bytes(), Mode::Seq)?, fault, "{text:?}");
     }
-    Ok(())
-}
-
-#[test]
-fn refuses_lines_outside_the_form(rt: HostRuntime) -> Result<(), Fail> {
-    for lines in [
-        "\n",
-        "1 make a 0a0b\n\n",
-        "1 make a 0a0b\n\n1 read a\n",
-        "1 make a 0A0B\n",
-        "1 make a 0a0\n",
-        "1 make a \n",
-        "1 make a\n",
-        "1 make a 0a 0b\n",
-        "1 make a -\n",
-        "1 make a 0g\n",
-        "1  make a 0a\n",
-        "1 make  a 0a\n",
-        " 1 make a 0a\n",
-        "1 make a 0a \n",
-        "1 make a 0a\r\n",
-        "1\tmake a 0a\n",
-        "1 make A 0a\n",
-        "1 make a_ 0a\n",
-        "1 make abcdefghijklmnopq 00\n",
-        "1 make a 00\n1 make a 00\n",
-        "1 read a\n",
-        "1 read a\n1 make a 00\n",
-        "1 make a 00\n1 read b\n",
-        "1 make a 00\n1 read a 00\n",
-        "1 make a 00\n1 read\n",
-        "0 make a 00\n",
-        "2 make a 00\n",
-        "01 make a 00\n",
-        "make a 00\n",
-        "1 Make a 00\n",
-        "1 free a\n",
-        "1 make a 00\n1 evict\n",
-    ] {
-        assert!(rt; !reads(rt.alloc(), lines)?, "{lines:?}");
+    for verb in ["begin", "ship", "commit", "abort", "pair", "patch", "merge", "part"] {
+        let lines = format!(in rt.alloc(); "1 evict\n1 {verb}\n")?;
+        assert_eq!(rt; fault_of(rt.alloc(), lines.as_str(), Mode::Threads)?, (3, 12), "{verb}");
+        assert_eq!(rt; fault_of(rt.alloc(), lines.as_str(), Mode::Seq)?, (0, 0), "{verb}");
     }
-    Ok(())
-}
-
-#[test]
-fn refuses_headers_outside_the_form(rt: HostRuntime) -> Result<(), Fail> {
-    for text in [
-        "",
-        "\n",
-        "1 make a 0a\n",
-        "carbink 1 k=0 r=2 nodes=6 frames=8 room=64 handles=16 turns=0\n",
-        "carbink 1 k=02 r=2 nodes=6 frames=8 room=64 handles=16 turns=0\n",
-        "carbink 1 k= r=2 nodes=6 frames=8 room=64 handles=16 turns=0\n",
-        "carbink 1 k=2 r=2 nodes=3 frames=8 room=64 handles=16 turns=0\n",
-        "carbink 1 k=2 r=2 nodes=6 frames=8 room=64 handles=16 turns=2501\n",
-        "carbink 1 k=2 r=2 nodes=6 frames=8 room=64 handles=16 turns=1000000000\n",
-        "carbink 1 k=2 r=2 nodes=6 frames=8 room=64 handles=16 turns=4294967296\n",
-        "carbink 1 k=2 r=2 nodes=6 frames=8 room=64 handles=16 turns=+0\n",
-        "carbink 1 k=2 r=2 nodes=6 frames=8 room=64 handles=16\n",
-        "carbink 1 r=2 k=2 nodes=6 frames=8 room=64 handles=16 turns=0\n",
-        "carbink 1 k=2 r=2 nodes=6 frames=8 room=64 handles=16 turns=0 \n",
-        "carbink  1 k=2 r=2 nodes=6 frames=8 room=64 handles=16 turns=0\n",
-        "carbink 1 k=2 r=2 nodes=6 frames=8 room=64 handles=16 turns=0\r\n",
-        "carbink 2 k=2 r=2 nodes=6 frames=8 room=64 handles=16 turns=0\n",
-        "Carbink 1 k=2 r=2 nodes=6 frames=8 room=64 handles=16 turns=0\n",
-        "carbink 1 k=2 r=2 nodes=6 frames=8 room=64 handles=1 turns=0\n1 make a 00\n1 make b 00\n",
-    ] {
-        assert!(rt; !reads_bytes(rt.alloc(), text.as_bytes())?, "{text:?}");
-    }
+    let lines = "1 compact\n1 rebuild\n1 leave\n16 begin\n";
+    assert_eq!(rt; fault_of(rt.alloc(), lines, Mode::Threads)?, (5, 6));
     Ok(())
 }
 
@@ -162,17 +101,20 @@ fn repeated(alloc: Global, front: &str, piece: &str, times: u32) -> Result<Strin
 
 #[test]
 fn meets_the_limits(rt: HostRuntime) -> Result<(), Fail> {
-    for (front, piece, times, accepted) in [
-        ("1 make a ", "00", 1024, true),
-        ("1 make a ", "00", 1025, false),
-        ("1 make a 00\n", "1 read a\n", 19_999, true),
-        ("1 make a 00\n", "1 read a\n", 20_000, false),
-        ("1 make a 00\n", "\n", 1_048_576, false),
+    for (front, piece, times, fault) in [
+        ("1 make a ", "00", 1024, (0, 0)),
+        ("1 make a ", "00", 1025, (2, 11)),
+        ("1 make a 00\n1 write a 0 ", "00", 1024, (0, 0)),
+        ("1 make a 00\n1 write a 0 ", "00", 1025, (3, 11)),
+        ("1 evict\n", "1 leave\n", 19_999, (0, 0)),
+        ("1 evict\n", "1 leave\n", 20_000, (20_002, 4)),
+        ("1 evict", "\n", 1_048_507, (3, 5)),
+        ("1 evict", "\n", 1_048_508, (0, 1)),
     ] {
         let lines = repeated(rt.alloc(), front, piece, times)?;
         assert_eq!(rt;
-            reads(rt.alloc(), lines.as_str())?,
-            accepted,
+            fault_of(rt.alloc(), lines.as_str(), Mode::Seq)?,
+            fault,
             "{front:?} {piece:?} {times}"
         );
     }
@@ -180,18 +122,50 @@ fn meets_the_limits(rt: HostRuntime) -> Result<(), Fail> {
 }
 
 #[test]
+fn prints_what_it_read(rt: HostRuntime) -> Result<(), Fail> {
+    let header = HEADER;
+    for (lines, unbuilt) in [
+        ("1 make a 0a0b\n1 read a\n", None),
+        ("0 make a 00\n2 write a 7 -\n2 write a 0 ff\n2 free a\n3 pin a\n3 leave\n", Some(6)),
+        ("15 crash 5\n15 join 0\n", Some(2)),
+    ] {
+        let text = format!(in rt.alloc(); "{header}{lines}")?;
+        let script = read_script(rt.alloc(), text.as_bytes(), Mode::Seq)?;
+        let printed = print_script(rt.alloc(), &script)?;
+        assert_eq!(rt; printed.as_slice(), text.as_bytes(), "{lines:?}");
+        assert_eq!(rt; first_unbuilt(&script), unbuilt, "{lines:?}");
+    }
+    let text = format!(in rt.alloc(); "{header}1 make a 0a0b\n1 read a")?;
+    assert_eq!(rt; text.len(), 84);
+    let script = read_script(rt.alloc(), text.as_bytes(), Mode::Seq)?;
+    assert_eq!(rt; print_script(rt.alloc(), &script)?.as_slice().len(), 85);
+    let config = Config {
+        k: 2,
+        r: 2,
+        nodes: 6,
+        frames: 8,
+        room: 64,
+        handles: 16,
+        turns: 0,
+    };
+    assert_eq!(rt; script.config, config);
+    assert_eq!(rt; script.lines.as_slice().len(), 2);
+    Ok(())
+}
+
+#[test]
 fn names_the_fault(rt: HostRuntime) -> Result<(), Fail> {
     assert_eq!(rt; Reason::Unbuilt.number(), 13);
-    assert_eq!(rt; Reason::Unbuilt.word(), "unbuilt");
+    assert_eq!(rt; Reason::TooLong.word(), "toolong");
     assert_eq!(rt; ScriptFault::from(NoMemory), ScriptFault::NoMemory);
     let mut lines = Lines::new(rt.alloc());
-    assert!(rt; lines.as_slice().is_empty());
-    let name = cb_types::Name::copy_of(rt.alloc(), b"a")?;
     lines.push(Line {
         lane: Lane { n: 1 },
         line: 2,
-        request: Request::Read { name },
+        request: Request::Leave,
     })?;
     assert_eq!(rt; lines.as_slice().len(), 1);
+    assert_eq!(rt; Lines::from(lines.into_vec()).as_slice().len(), 1);
+    script_laws();
     Ok(())
 }

@@ -5,20 +5,6 @@ use Rattle.cb_script.proofs.contents.contents_of.Goals.{in-OutOfMemory, in_defau
 use Rattle.cb_script.specs.Hexadecimal.{IsHexadecimal}
 use Rattle.cb_script.proofs.HexText.{hexadecimal_decodes, contents_taken, contents_hexadecimal}
 use Rattle.cb_script.proofs.contents.contents_of.Goals as goal
-use Rattle.cb_script.proofs.contents.contents_of.Goals.{then-not-is_hexadecimal-via-then-not-is_hexadecimal, then-not-is_hexadecimal-via-else-not-is_hexadecimal+then-text-gt-LONGEST_CONTENTS}
-
-pub returns-then-not-is_hexadecimal : goal.returns-then-not-is_hexadecimal
-returns-then-not-is_hexadecimal c = λ bytes is.
-    let contents = is.0 in
-    let e = is.1 in
-    let fits = contents_hexadecimal bytes contents in
-    elim c.then-not-is_hexadecimal.branch [
-      | then-not-is_hexadecimal-via-then-not-is_hexadecimal w ↦
-          let yes : c.is_hexadecimal.result ≡ true = c.is_hexadecimal.ensures.1 (subst IsHexadecimal (sym e) fits.0) in
-          cc
-      | then-not-is_hexadecimal-via-else-not-is_hexadecimal+then-text-gt-LONGEST_CONTENTS w ↦
-          omega (arith, fits.1, ap length e)
-    ]
 
 pub returns-in-Ok : goal.returns-in-Ok
 returns-in-Ok c =

@@ -1,15 +1,8 @@
-use Rattle.std.proofs.Common.{Ok, ap, inl}
+use Rattle.cb_script.proofs.OneReading.{only_fault, only_script}
 use Rattle.cb_script.proofs.read.read_script.Goals as goal
 
-pub returns-in-Some-clause-found : goal.returns-in-Some-clause-found
-returns-in-Some-clause-found c = rw c.in-Some.is at (c.in_ok-script.ensures.script c.args.mode)
+pub returns-clause-only : goal.returns-clause-only
+returns-clause-only c = λ s spells. only_script c.args.bytes.now c.args.mode c.script_of.result s c.script_of.ensures spells
 
-pub returns-in-Some-clause-only : goal.returns-in-Some-clause-only
-returns-in-Some-clause-only c = λ other spells.
-    let one = rw c.in-Some.is at (c.in_ok-script.ensures.one c.args.mode other spells) in
-    inl (ap Ok one)
-
-pub returns-in-None-clause-only : goal.returns-in-None-clause-only
-returns-in-None-clause-only c = λ script spells.
-    let none = rw c.in-None.is at (c.in_ok-script.ensures.script c.args.mode) in
-    absurd (none script spells)
+pub returns-clause-first : goal.returns-clause-first
+returns-clause-first c = λ line reason first. only_fault c.args.bytes.now c.args.mode c.script_of.result line reason c.script_of.ensures first

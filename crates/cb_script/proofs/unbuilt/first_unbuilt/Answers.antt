@@ -1,32 +1,21 @@
-use Rattle.std.proofs.Common.{rules, ◌≡◌, ◌<◌, ◌≤◌, length, get_or, take_all, arith}
+use Rattle.std.proofs.Common.{◌≡◌, ◌+◌, List, get_or, sym, ap, take, drop, rules, refl, ◌∙◌, ◌∷◌, ◌++◌}
 use Rattle.std.proofs.lemmas.Bool.{both_ways}
-use Rattle.cb_script.specs.Built.{AreBuilt}
-use Rattle.cb_script.proofs.Building.{built_more, first_at}
+use Rattle.std.proofs.lemmas.List.{drop_more, take-append-drop}
+use Rattle.cb_script.specs.declared.script.Line.{Line}
 use Rattle.cb_script.proofs.unbuilt.first_unbuilt.Goals as goal
-
-pub loop-line-init : goal.loop-line-init
-loop-line-init c = tt
 
 pub returns-then-not-is_built : goal.returns-then-not-is_built
 returns-then-not-is_built c =
     let lines = c.args.script.now.lines in
     let i = c.loop-line.line-index in
     let l = c.line-item.result in
-    let lt : i < length lines = search rules in
-    let at : l ≡ get_or lines i l = search rules in
-    first_at lines i l lt at c.loop-line.invariant (λ is. both_ways c.is_built.result c.if-not-is_built.true (c.is_built.ensures.1 is))
-
-pub loop-line-preserved : goal.loop-line-preserved
-loop-line-preserved c =
-    let lines = c.args.script.now.lines in
-    let i = c.loop-line.line-index in
-    let l = c.line-item.result in
-    let lt : i < length lines = search rules in
-    let at : l ≡ get_or lines i l = search rules in
-    built_more lines i l lt at c.loop-line.invariant (c.is_built.ensures.0 c.if-not-is_built.false)
-
-pub returns : goal.returns
-returns c =
-    let lines = c.args.script.now.lines in
-    let all : length lines ≤ c.loop-line.line-index = search rules in
-    rw take_all at c.loop-line.invariant
+    let here : l ≡ get_or lines i l = rw (← c.as_slice-line-items.ensures.items) c.line-item.is in
+    record {
+      before = take i lines;
+      here = l;
+      after = drop (i + 1) lines;
+      are = sym (take-append-drop i lines) ∙ ap (λ (ls : List Line). take i lines ++ ls) (drop_more lines i l (search rules) ∙ ap (λ (m : Line). m ∷ drop (i + 1) lines) (sym here));
+      built = c.loop-line.invariant;
+      unbuilt = λ is. both_ways c.is_built.result c.if-not-is_built.true (c.is_built.ensures.1 is);
+      number_is = refl;
+    }

@@ -1,0 +1,86 @@
+-- The names that are kept, each with the lane that made it, as lines are added.
+use Rattle.std.proofs.Common.{◌≡◌, ℕ, Bool, true, false, cond, List, [], ◌∷◌, ◌++◌, Option, Some, None, Result, Ok, Err, ◌⊎◌, inl, inr, Bor, refl, sym, ap, ◌∙◌, subst}
+use Rattle.std.specs.Prelude.{IfOk}
+use Rattle.std.specs.BTreeMap.{BTreeMap, is_at}
+use Rattle.std.specs.Map.{lookup}
+use Rattle.std.specs.Cmp.Lexicographic.{slice_cmp}
+use Rattle.std.specs.Ordering.{nat_cmp}
+use Rattle.std.specs.Str.{bytes_eq}
+use Rattle.std.proofs.lemmas.Bool.{cases_Bool, true≢false}
+use Rattle.std.proofs.lemmas.Slice.Eq.{bytes_eq-Decides}
+use Rattle.cb_types.specs.declared.handle.Lane.{Lane}
+use Rattle.cb_types.specs.declared.request.Request.{Request}
+use Rattle.cb_types.specs.declared.request.Request.TheVariants.{Make}
+use Rattle.cb_script.specs.declared.fault.Refusal.{Refusal}
+use Rattle.cb_script.specs.declared.script.Line.{Line}
+use Rattle.cb_script.specs.Form.{IsMade, IsNew, Makes, names_made}
+use Rattle.cb_script.specs.Reading.{HasNames, IsMaker, StaysNamed, maker_of}
+
+-- ---- one more line
+
+made_before : (before : List Line) (l : Line) (lane : ℕ) (name : List ℕ) → IsMade before lane name → IsMade (before ++ l ∷ []) lane name
+made_before [] l lane name is = absurd is
+made_before (m ∷ before) l lane name (inl here) = inl here
+made_before (m ∷ before) l lane name (inr later) = inr (made_before before l lane name later)
+
+made_here : (before : List Line) (l : Line) (name : List ℕ) → Makes l.request name → IsMade (before ++ l ∷ []) l.lane.n name
+made_here [] l name makes = inl (refl, makes)
+made_here (m ∷ before) l name makes = inr (made_here before l name makes)
+
+made_cases : (before : List Line) (l : Line) (lane : ℕ) (name : List ℕ) → IsMade (before ++ l ∷ []) lane name → IsMade before lane name ⊎ ((l.lane.n ≡ lane) × Makes l.request name)
+made_cases [] l lane name (inl here) = inr here
+made_cases [] l lane name (inr later) = absurd later
+made_cases (m ∷ before) l lane name (inl here) = inl (inl here)
+made_cases (m ∷ before) l lane name (inr later) = elim (made_cases before l lane name later) [ inl is ↦ inl (inr is) | inr here ↦ inr here ]
+
+makes_one : (r : Request) (name other : List ℕ) → Makes r name → Makes r other → name ≡ other
+makes_one (Make made_name bytes) name other is also = sym is ∙ also
+makes_one _ name other is also = absurd is
+
+makes_none : (r : Request) (name : List ℕ) → names_made r ≡ [] → Makes r name → ⊥
+makes_none (Make made_name bytes) name none is = absurd cc
+makes_none _ name none is = is
+
+-- a line that does not make the name leaves its maker
+maker_stays : (before : List Line) (l : Line) (name : List ℕ) (maker : Option ℕ) → (Makes l.request name → ⊥) → IsMaker before name maker → IsMaker (before ++ l ∷ []) name maker
+maker_stays before l name None other is = λ lane made. elim (made_cases before l lane name made) [ inl earlier ↦ is lane earlier | inr here ↦ other here.1 ]
+maker_stays before l name (Some maker) other is = (
+  made_before before l maker name is.0,
+  λ lane made. elim (made_cases before l lane name made) [ inl earlier ↦ is.1 lane earlier | inr here ↦ absurd (other here.1) ],
+)
+
+maker_here : (before : List Line) (l : Line) (lane : ℕ) (name : List ℕ) → l.lane.n ≡ lane → Makes l.request name → IsNew before name → IsMaker (before ++ l ∷ []) name (Some lane)
+maker_here before l lane name at makes new = (
+  subst (λ (n : ℕ). IsMade (before ++ l ∷ []) n name) at (made_here before l name makes),
+  λ other made. elim (made_cases before l other name made) [ inl earlier ↦ absurd (new other earlier) | inr here ↦ sym here.0 ∙ at ],
+)
+
+pub names_more : (names more : BTreeMap (Bor (List ℕ)) ℕ) (before : List Line) (l : Line) (lane : Lane) (name : List ℕ) → HasNames names before → IsNew before name → l.lane ≡ lane → Makes l.request name
+    → ((q : List ℕ) → maker_of more q ≡ cond (bytes_eq name q) (Some lane.n) (maker_of names q)) → HasNames more (before ++ l ∷ [])
+names_more names more before l lane name has new at makes updated q =
+    elim (cases_Bool (bytes_eq name q)) [
+      | inl same ↦
+          let one : name ≡ q = (bytes_eq-Decides name q).0 same in
+          let is : maker_of more q ≡ Some lane.n = updated q ∙ ap (λ (b : Bool). cond b (Some lane.n) (maker_of names q)) same in
+          subst (λ (o : Option ℕ). IsMaker (before ++ l ∷ []) q o) (sym is) (subst (λ (n : List ℕ). IsMaker (before ++ l ∷ []) n (Some lane.n)) one (maker_here before l lane.n name (ap (λ (x : Lane). x.n) at) makes new))
+      | inr differs ↦
+          let other : Makes l.request q → ⊥ = λ also. true≢false (sym ((bytes_eq-Decides name q).1 (makes_one l.request name q makes also)) ∙ differs) in
+          let is : maker_of more q ≡ maker_of names q = updated q ∙ ap (λ (b : Bool). cond b (Some lane.n) (maker_of names q)) differs in
+          subst (λ (o : Option ℕ). IsMaker (before ++ l ∷ []) q o) (sym is) (maker_stays before l q (maker_of names q) other (has q))
+    ]
+
+-- a request that makes no name
+pub names_stay : (names : BTreeMap (Bor (List ℕ)) ℕ) (before : List Line) (lane : Lane) (r : Request) → HasNames names before → names_made r ≡ [] → StaysNamed names before lane r
+names_stay names before lane r has none line name =
+    maker_stays before (record { lane = lane; line = line; request = r }) name (maker_of names name) (λ makes. makes_none r name none makes) (has name)
+
+pub names_stay_where : (names : BTreeMap (Bor (List ℕ)) ℕ) (before : List Line) (lane : Lane) (r : Result Request Refusal) → HasNames names before → IfOk r (λ x. names_made x ≡ []) → IfOk r (λ x. StaysNamed names before lane x)
+names_stay_where names before lane (Ok r) has none = names_stay names before lane r has none
+names_stay_where names before lane (Err e) has none = tt
+
+none_of : (names : BTreeMap (Bor (List ℕ)) ℕ) → names.entries ≡ [] → (name : List ℕ) → maker_of names name ≡ None
+none_of names empty name = ap (λ (es : List (Bor (List ℕ) × ℕ)). lookup (is_at (λ (kept : Bor (List ℕ)). slice_cmp nat_cmp name kept.now)) es) empty
+
+-- no names before the first line
+pub no_names : (names : BTreeMap (Bor (List ℕ)) ℕ) → names.entries ≡ [] → HasNames names []
+no_names names empty name = subst (λ (o : Option ℕ). IsMaker [] name o) (sym (none_of names empty name)) (λ lane made. made)

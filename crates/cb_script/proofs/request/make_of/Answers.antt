@@ -1,0 +1,8 @@
+use Rattle.std.proofs.Common.{refl}
+use Rattle.cb_types.specs.declared.request.Request.TheVariants.{Make}
+use Rattle.cb_script.proofs.request.make_of.Goals as goal
+
+pub returns-clause-names : goal.returns-clause-names
+returns-clause-names c = λ before has line.
+    let ok = c.in_ok-accept_new.ensures before has in
+    c.in_ok-keep.ensures before (record { lane = c.args.lane; line = line; request = Make c.in_ok-copy.copy c.in_ok-bytes.bytes }) has ok.1 refl c.in_ok-copy.ensures.items

@@ -1,0 +1,24 @@
+-- Which lines the program answers yet.
+use Rattle.std.specs.Prelude.{◌≡◌, ℕ, List, ◌∷◌, ◌++◌}
+use Rattle.std.specs.List.{AllByRecursion}
+use Rattle.cb_types.specs.declared.request.Request.{Request}
+use Rattle.cb_types.specs.declared.request.Request.TheVariants.{Make, Read, Write, Free}
+use Rattle.cb_script.specs.declared.script.Line.{Line}
+
+-- make, read, write and free are built
+abbrev pub IsBuilt : Request → Type 0
+IsBuilt (Make name bytes) = Unit {0}
+IsBuilt (Read name) = Unit {0}
+IsBuilt (Write name at bytes) = Unit {0}
+IsBuilt (Free name) = Unit {0}
+IsBuilt _ = ⊥
+
+-- The line of this number is not built, and every line before it is.
+pub record IsFirstUnbuilt (lines : List Line) (number : ℕ) : Type 0 where
+  pub before : List Line
+  pub here : Line
+  pub after : List Line
+  pub are : lines ≡ before ++ here ∷ after
+  pub built : AllByRecursion (λ l. IsBuilt l.request) before
+  pub unbuilt : IsBuilt here.request → ⊥
+  pub number_is : here.line ≡ number
