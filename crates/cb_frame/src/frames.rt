@@ -114,9 +114,10 @@ mod tests {
     #[test]
     fn frames_past_the_first_word_are_found(rt: HostRuntime) -> Result<(), Fail> {
         let mut frames = FrameSet::empty(rt.alloc(), 4096)?;
-        for f in [63, 64, 700, 4095] {
-            frames.insert(f);
-        }
+        frames.insert(63);
+        frames.insert(64);
+        frames.insert(700);
+        frames.insert(4095);
         frames.remove(64);
         for (start, found) in [
             (0, Some(63)),
