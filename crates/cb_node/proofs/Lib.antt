@@ -5,3 +5,4 @@ pub mod Dropped
 pub mod Bytes
 pub mod Deltas
 pub mod Laws
+pub mod Worked
