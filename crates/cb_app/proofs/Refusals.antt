@@ -39,12 +39,12 @@ pub fault_parts : (line number word : List ℕ) → codes "script line " ++ line
 fault_parts line number word = simp append_assoc
 
 -- the text of a refusal is put
-pub tells : (words : List (String Global)) (before after held_before held_after : Option (List ℕ)) (line : ℕ) (reason : Reason) (text : List ℕ) → IsScriptRefused words before after line reason → text ≡ fault_text line reason → Appends held_before held_after text → RefusesScript words before after held_before held_after
-tells words before after held_before held_after line reason text refused is put = (line, reason, refused, rw is at put)
+pub tells : (words : List (String Global)) (before after held_before held_after : Option (List ℕ)) (line : ℕ) (reason : Reason) (text made : List ℕ) → IsScriptRefused words before after line reason → text ≡ made → made ≡ fault_text line reason → Appends held_before held_after text → RefusesScript words before after held_before held_after
+tells words before after held_before held_after line reason text made refused same is put = (line, reason, refused, rw (same, is) at put)
 
 -- the text of a refusal is cut short
-pub cuts : (words : List (String Global)) (before after held_before held_after : Option (List ℕ)) (old new : Ending) (line : ℕ) (reason : Reason) (text : List ℕ) → IsScriptRefused words before after line reason → new ≡ old → text ≡ fault_text line reason → GetsFront held_before held_after text → (due : List ℕ) × IsDue words before after old new due × GetsFront held_before held_after due
-cuts words before after held_before held_after old new line reason text refused same is front = (text, WhereScriptRefused line reason refused same is, front)
+pub cuts : (words : List (String Global)) (before after held_before held_after : Option (List ℕ)) (old new : Ending) (line : ℕ) (reason : Reason) (text made : List ℕ) → IsScriptRefused words before after line reason → new ≡ old → text ≡ made → made ≡ fault_text line reason → GetsFront held_before held_after text → (due : List ℕ) × IsDue words before after old new due × GetsFront held_before held_after due
+cuts words before after held_before held_after old new line reason text made refused stays same is front = (text, WhereScriptRefused line reason refused stays (same ∙ is), front)
 
 -- a first fault is a refusal
 pub fault_refused : (bytes : List ℕ) (e : ScriptFault) → FaultIs e (First bytes Seq) → FaultIs e (IsRefusal bytes)
