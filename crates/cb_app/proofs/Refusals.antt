@@ -7,7 +7,16 @@ use Rattle.std.proofs.Common.{String, Global}
 use Rattle.cb_script.specs.declared.fault.Reason.{Reason}
 use Rattle.cb_app.specs.declared.ending.Ending.{Ending}
 use Rattle.cb_app.specs.Texts.{fault_text}
-use Rattle.cb_app.specs.Outcome.{IsScriptRefused, RefusesScript, IsDue, GetsFront}
+use Rattle.std.proofs.Common.{[], ◌∷◌}
+use Rattle.std.specs.List.{AllByRecursion}
+use Rattle.cb_script.specs.declared.script.Line.{Line}
+use Rattle.cb_script.specs.declared.fault.ScriptFault.{ScriptFault}
+use Rattle.cb_script.specs.declared.fault.ScriptFault.TheVariants.{Bad, NoMemory}
+use Rattle.cb_script.specs.First.{First}
+use Rattle.cb_script.specs.Reading.{FaultIs}
+use Rattle.cb_script.specs.Unbuilt.{IsBuilt, IsFirstUnbuilt}
+use Rattle.cb_app.specs.Outcome.IsRefusal.{NoScript}
+use Rattle.cb_app.specs.Outcome.{IsRefusal, IsScriptRefused, RefusesScript, IsDue, GetsFront}
 use Rattle.cb_app.specs.Outcome.IsDue.{WhereScriptRefused}
 use Rattle.cb_script.specs.declared.script.Script.{Script}
 use Rattle.cb_script.specs.declared.script.Mode.TheVariants.{Seq}
@@ -30,9 +39,22 @@ pub fault_parts : (line number word : List ℕ) → codes "script line " ++ line
 fault_parts line number word = simp append_assoc
 
 -- the text of a refusal is put
-pub tells : (words : List (String Global)) (before after held_before held_after : Option (List ℕ)) (line : ℕ) (reason : Reason) (text : List ℕ) → IsScriptRefused words before after line reason → text ≡ fault_text line reason → Appends held_before held_after text → RefusesScript words before after held_before held_after
-tells words before after held_before held_after line reason text refused is put = (line, reason, refused, rw is at put)
+pub tells : (words : List (String Global)) (before after held_before held_after : Option (List ℕ)) (line : ℕ) (reason : Reason) (text made : List ℕ) → IsScriptRefused words before after line reason → text ≡ made → made ≡ fault_text line reason → Appends held_before held_after text → RefusesScript words before after held_before held_after
+tells words before after held_before held_after line reason text made refused same is put = (line, reason, refused, rw (same, is) at put)
 
 -- the text of a refusal is cut short
-pub cuts : (words : List (String Global)) (before after held_before held_after : Option (List ℕ)) (old new : Ending) (line : ℕ) (reason : Reason) (text : List ℕ) → IsScriptRefused words before after line reason → new ≡ old → text ≡ fault_text line reason → GetsFront held_before held_after text → (due : List ℕ) × IsDue words before after old new due × GetsFront held_before held_after due
-cuts words before after held_before held_after old new line reason text refused same is front = (text, WhereScriptRefused line reason refused same is, front)
+pub cuts : (words : List (String Global)) (before after held_before held_after : Option (List ℕ)) (old new : Ending) (line : ℕ) (reason : Reason) (text made : List ℕ) → IsScriptRefused words before after line reason → new ≡ old → text ≡ made → made ≡ fault_text line reason → GetsFront held_before held_after text → (due : List ℕ) × IsDue words before after old new due × GetsFront held_before held_after due
+cuts words before after held_before held_after old new line reason text made refused stays same is front = (text, WhereScriptRefused line reason refused stays (same ∙ is), front)
+
+-- a first fault is a refusal
+pub fault_refused : (bytes : List ℕ) (e : ScriptFault) → FaultIs e (First bytes Seq) → FaultIs e (IsRefusal bytes)
+fault_refused bytes (Bad line reason) is = NoScript is
+fault_refused bytes NoMemory is = tt
+
+built_at : (before : List Line) (here : Line) (after : List Line) → AllByRecursion (λ l. IsBuilt l.request) (before ++ here ∷ after) → IsBuilt here.request
+built_at [] here after are = are.0
+built_at (l ∷ before) here after are = built_at before here after are.1
+
+-- lines that are built have no first that is not
+pub none_unbuilt : (lines : List Line) (number : ℕ) → AllByRecursion (λ l. IsBuilt l.request) lines → IsFirstUnbuilt lines number → ⊥
+none_unbuilt lines number are first = first.unbuilt (built_at first.before first.here first.after (rw first.are at are))

@@ -8,9 +8,8 @@ use Rattle.cb_script.specs.declared.script.Script.{Script}
 use Rattle.cb_script.specs.declared.script.Mode.TheVariants.{Seq}
 use Rattle.cb_script.specs.declared.fault.Reason.{Reason}
 use Rattle.cb_script.specs.declared.fault.Reason.TheVariants.{Unbuilt}
-use Rattle.cb_script.specs.declared.fault.ScriptFault.{ScriptFault}
-use Rattle.cb_script.specs.declared.fault.ScriptFault.TheVariants.{Bad, NoMemory}
-use Rattle.cb_script.specs.Built.{IsFirstUnbuilt}
+use Rattle.cb_script.specs.First.{First}
+use Rattle.cb_script.specs.Unbuilt.{IsFirstUnbuilt}
 use Rattle.cb_script.specs.Form.{Spells}
 use Rattle.cb_model.specs.Legal.{IsLegalInOrder}
 use Rattle.cb_text.specs.Line.{text_of}
@@ -51,9 +50,9 @@ pub record AreWordsRefused (words : List (String Global)) (before after : Option
   pub words_are_not : IsSeq words → ⊥
   pub nothing_taken : after ≡ before
 
--- Why bytes are refused: they spell no script, or a script with a verb that is not built yet.
+-- Why bytes are refused: they have a first fault, or spell a script with a verb that is not built yet.
 pub data IsRefusal (bytes : List ℕ) (line : ℕ) (reason : Reason) : Type 0 where
-  NoScript : ((script : Script) → Spells bytes Seq script → ⊥) → line ≡ 0 → reason ≡ Unbuilt → IsRefusal bytes line reason
+  NoScript : First bytes Seq line reason → IsRefusal bytes line reason
   NotBuilt : (script : Script) → Spells bytes Seq script → IsFirstUnbuilt script.lines line → reason ≡ Unbuilt → IsRefusal bytes line reason
 
 -- The bytes taken are refused at this line, for this reason.
@@ -75,8 +74,3 @@ GetsFront before after text = (n : ℕ) × (n < length text) × Appends before a
 abbrev pub RefusesScript : List (String Global) → Option (List ℕ) → Option (List ℕ) → Option (List ℕ) → Option (List ℕ) → Type 0
 RefusesScript words before after held_before held_after =
     (line : ℕ) × (reason : Reason) × IsScriptRefused words before after line reason × Appends held_before held_after (fault_text line reason)
-
--- what a fault says of the bytes
-abbrev pub IsFault : List ℕ → ScriptFault → Type 0
-IsFault bytes (Bad line reason) = IsRefusal bytes line reason
-IsFault bytes NoMemory = Unit {0}

@@ -5,9 +5,11 @@ ghost use Rattle.cb_script.specs.declared.script.Script.{Script};
 ghost use Rattle.cb_script.specs.declared.script.Mode.TheVariants.{Seq};
 ghost use Rattle.cb_script.specs.Form.{Spells};
 ghost use Rattle.cb_text.specs.Line.{text_of};
-ghost use Rattle.cb_app.specs.Outcome.{IsSeq, IsAnswered, IsDone, AreWordsRefused, RefusesScript, IsFault, IsDue, GetsFront};
+ghost use Rattle.cb_app.specs.Outcome.{IsSeq, IsAnswered, IsDone, AreWordsRefused, RefusesScript, IsRefusal, IsDue, GetsFront};
 ghost use Rattle.cb_app.specs.Texts.{words_refused};
-ghost use Rattle.cb_script.specs.Built.{AreBuilt};
+ghost use Rattle.cb_script.specs.Reading.{FaultIs};
+ghost use Rattle.cb_script.specs.Unbuilt.{IsBuilt};
+ghost use Rattle.std.specs.List.{AllByRecursion};
 
 use crate::ending::Ending;
 use crate::input::take_all;
@@ -33,8 +35,8 @@ fn is_seq(words: &[String]) -> bool
 fn answer_bytes(alloc: Global, bytes: &[u8]) -> Result<(Ending, Bytes), ScriptFault>
     ensures answered { IfOk result (λ due. (script : Script) × IsAnswered bytes.now script due.0) }
     ensures text { IfOk result (λ due. due.1 ≡ text_of due.0.answers) }
-    ensures refused { IfErr result (λ e. IsFault bytes.now e) }
-    ensures complete { (script : Script) → Spells bytes.now Seq script → AreBuilt script.lines → IfErr result (λ e. e ≡ ScriptFault.NoMemory) }
+    ensures refused { IfErr result (λ e. FaultIs e (IsRefusal bytes.now)) }
+    ensures complete { (script : Script) → Spells bytes.now Seq script → AllByRecursion (λ l. IsBuilt l.request) script.lines → IfErr result (λ e. e ≡ ScriptFault.NoMemory) }
 {
     let script = read_script(alloc, bytes, Mode::Seq)?;
     if let Some(line) = first_unbuilt(&script) {
@@ -66,7 +68,7 @@ pub fn run<S: Source, K: Sink>(
 
     ensures words_refused { result ≡ Ok Due.WordsRefused → AreWordsRefused words.now (S.left source.old) (S.left source.new) }
     ensures words_text { result ≡ Ok Due.WordsRefused → Appends (K.held sink.old) (K.held sink.new) words_refused }
-    ensures words_end { result ≡ Ok Due.WordsRefused → end.new ≡ end.old }
+    ensures words_end { result ≡ Ok Due.WordsRefused → (source.new ≡ source.old) × (end.new ≡ end.old) }
 
     ensures script_refused { result ≡ Ok Due.ScriptRefused → RefusesScript words.now (S.left source.old) (S.left source.new) (K.held sink.old) (K.held sink.new) }
     ensures script_end { result ≡ Ok Due.ScriptRefused → end.new ≡ end.old }
@@ -85,7 +87,7 @@ pub fn run<S: Source, K: Sink>(
     ensures refuses { (IsSeq words.now → ⊥) → (result ≡ Ok Due.WordsRefused) ⊎ (result ≡ Err Failure.Write) }
     ensures most { (bytes : List ℕ) × Consumes (S.left source.old) (S.left source.new) bytes × (length bytes ≤ 1048577) }
     // What spells a script whose verbs are built is not refused.
-    ensures complete { IsSeq words.now → (bytes : List ℕ) (script : Script) → S.left source.old ≡ Some bytes → Spells bytes Seq script → AreBuilt script.lines → (result ≡ Ok Due.Done) ⊎ IsErr result }
+    ensures complete { IsSeq words.now → (bytes : List ℕ) (script : Script) → S.left source.old ≡ Some bytes → Spells bytes Seq script → AllByRecursion (λ l. IsBuilt l.request) script.lines → (result ≡ Ok Due.Done) ⊎ IsErr result }
 {
     if !is_seq(words) {
         put_all(sink, WORDS_REFUSED)?;

@@ -71,6 +71,6 @@ fn refusals_are_told(rt: HostRuntime) -> Result<(), Fail> {
         &mut end,
     );
     assert_eq!(rt; status, 2);
-    assert_eq!(rt; count.count, 32);
+    assert_eq!(rt; count.count, 30);
     Ok(())
 }

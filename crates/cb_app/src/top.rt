@@ -7,7 +7,8 @@ ghost use Rattle.cb_script.specs.Form.{Spells};
 ghost use Rattle.cb_text.specs.Line.{text_of};
 ghost use Rattle.cb_app.specs.Outcome.{IsSeq, IsDone, AreWordsRefused, RefusesScript, IsDue, GetsFront};
 ghost use Rattle.cb_app.specs.Texts.{words_refused};
-ghost use Rattle.cb_script.specs.Built.{AreBuilt};
+ghost use Rattle.cb_script.specs.Unbuilt.{IsBuilt};
+ghost use Rattle.std.specs.List.{AllByRecursion};
 ghost use Rattle.cb_app.specs.Status.{status_of};
 
 use crate::ending::Ending;
@@ -53,7 +54,7 @@ pub fn carbink_run<R: Threads + Wait + Sync, S: Source, K: Sink>(
     // 1: the words are not the one word `seq`, and nothing was taken.
     ensures words_refused { result ≡ 1 → AreWordsRefused words.now (S.left src.old) (S.left src.new) }
     ensures words_text { result ≡ 1 → Appends (K.held out.old) (K.held out.new) words_refused }
-    ensures words_end { result ≡ 1 → end.new ≡ end.old }
+    ensures words_end { result ≡ 1 → (src.new ≡ src.old) × (end.new ≡ end.old) }
     ensures refuses { (IsSeq words.now → ⊥) → (result ≡ 1) ⊎ (result ≡ 4) }
 
     // 2: the bytes taken spell no script, or one with a verb that is not built; what is put tells
@@ -77,7 +78,7 @@ pub fn carbink_run<R: Threads + Wait + Sync, S: Source, K: Sink>(
     // At each status so many bytes are taken at the most.
     ensures most { (bytes : List ℕ) × Consumes (S.left src.old) (S.left src.new) bytes × (length bytes ≤ 1048577) }
     // What spells a script whose verbs are built is answered, where neither reading nor writing fails and there is memory.
-    ensures complete { IsSeq words.now → (bytes : List ℕ) (script : Script) → S.left src.old ≡ Some bytes → Spells bytes Seq script → AreBuilt script.lines → (result ≡ 0) ⊎ (3 ≤ result) }
+    ensures complete { IsSeq words.now → (bytes : List ℕ) (script : Script) → S.left src.old ≡ Some bytes → Spells bytes Seq script → AllByRecursion (λ l. IsBuilt l.request) script.lines → (result ≡ 0) ⊎ (3 ≤ result) }
 {
     status(run(alloc, words, src, out, end))
 }

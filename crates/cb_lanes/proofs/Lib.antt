@@ -3,3 +3,4 @@ pub mod Objects
 pub mod Tracks
 pub mod Tracking
 pub mod Lines
+pub mod WorkedReplies

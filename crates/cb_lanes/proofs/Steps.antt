@@ -17,7 +17,7 @@ use Rattle.cb_model.specs.Event.Event.{Makes}
 use Rattle.cb_model.specs.declared.call.Call.TheVariants as call
 use Rattle.cb_model.specs.declared.call.MapReply.TheVariants as map_reply
 use Rattle.cb_lanes.specs.Step.{Names, kept_handle, kept_number, handle_at, handle_in, AreReady, IsOnObject, Steps}
-use Rattle.cb_script.specs.Built.{IsBuilt}
+use Rattle.cb_script.specs.Unbuilt.{IsBuilt}
 
 mapped : (test : Bool) (here other : Option Handle) (found : Option Handle) → found ≡ cond test here other → option_map (λ (h : Handle). h.n) found ≡ cond test (option_map (λ (h : Handle). h.n) here) (option_map (λ (h : Handle). h.n) other)
 mapped true here other found e = ap (option_map (λ (h : Handle). h.n)) e

@@ -1,6 +1,6 @@
 ghost use Rattle.std.specs.Prelude.{◌≡◌, ◌<◌, IfOk, slice_get};
 ghost use Rattle.std.specs.Option.{option_map};
-ghost use Rattle.cb_script.specs.Built.{IsBuilt};
+ghost use Rattle.cb_script.specs.Unbuilt.{IsBuilt};
 ghost use Rattle.cb_model.specs.Map.{HasNext};
 ghost use Rattle.cb_lanes.specs.Step.{handle_in, AreReady, IsOnObject, ObjectSteps, Steps};
 

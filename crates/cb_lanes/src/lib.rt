@@ -6,3 +6,6 @@ pub mod seq;
 
 pub use seq::{SeqEnd, run_seq};
 
+
+#[cfg(test)]
+mod tests;

@@ -1,7 +1,7 @@
 ghost use Rattle.std.specs.Prelude.{◌≡◌, [], map, IfOk};
 ghost use Rattle.std.specs.List.{AllByRecursion};
 ghost use Rattle.cb_model.specs.Legal.{IsLegalInOrder};
-ghost use Rattle.cb_script.specs.Built.{AreBuilt};
+ghost use Rattle.cb_script.specs.Unbuilt.{IsBuilt};
 ghost use Rattle.cb_lanes.specs.Asked.{asked, HasMapReply};
 
 use crate::answering::reply_to;
@@ -23,7 +23,7 @@ pub struct SeqEnd {
 /// Answers the lines of a script in order, on one map. Each line's request is one that is built. A
 /// line costs the logarithm of the names and the length of its bytes.
 pub fn run_seq(alloc: Global, s: &Script) -> Result<SeqEnd, NoMemory>
-    requires built { AreBuilt s.now.lines }
+    requires built { AllByRecursion (λ l. IsBuilt l.request) s.now.lines }
     ensures lines { IfOk result (λ end. map asked end.answers ≡ s.now.lines) }
     ensures legal { IfOk result (λ end. IsLegalInOrder 1 s.now.config.handles end.answers) }
     ensures answered { IfOk result (λ end. AllByRecursion HasMapReply end.answers) }

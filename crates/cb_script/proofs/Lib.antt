@@ -14,3 +14,7 @@ pub mod Scripts
 pub mod Back
 pub mod OneReading
 pub mod Printing
+pub mod WorkedSpelling
+pub mod WorkedForms
+pub mod WorkedRules
+pub mod WorkedFaults

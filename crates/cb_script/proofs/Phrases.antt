@@ -12,7 +12,7 @@ use Rattle.cb_script.specs.declared.verb.BareVerb.TheVariants as bare
 use Rattle.cb_script.specs.Phrase.{Phrase, name_verb, node_verb, bare_verb, phrase_words}
 
 -- two words that a test tells apart
-differ : (a b : List ℕ) → a ≡ b → bytes_eq a b ≡ false → ⊥
+pub differ : (a b : List ℕ) → a ≡ b → bytes_eq a b ≡ false → ⊥
 differ a b same other = true≢false (sym ((bytes_eq-Decides a b).1 same) ∙ other)
 
 name_verb_injective : (v w : NameVerb) → name_verb v ≡ name_verb w → v ≡ w
