@@ -14,4 +14,9 @@ pub mod Splitting
 pub mod Words
 pub mod Combining
 pub mod CornerLemmas
+pub mod Writes
+pub mod Placing
+pub mod Summing
+pub mod Halving
+pub mod LaneLemmas
 pub mod PublicLaws

@@ -14,3 +14,6 @@ pub mod Polynomial
 pub mod Lagrange
 pub mod Split
 pub mod Lends
+pub mod Halves
+pub mod Lanes
+pub mod Placing

@@ -2,12 +2,16 @@
 #![tactic(auto)]
 
 mod erasures;
+mod factors;
 mod field;
 mod lagrange;
+mod lanes;
 mod laws;
 mod no_memory;
+mod products;
 mod row;
 mod rows;
+mod sums;
 mod tables;
 #[cfg(test)]
 mod tests;
@@ -15,9 +19,12 @@ mod tests;
 pub use erasures::{
     code_laws, combining_laws, corner_laws, polynomial_laws, restoring_laws, split_laws,
 };
+pub use factors::Factors;
 pub use field::{add, inv, mul, pow};
 pub use lagrange::lagrange_factor;
 pub use laws::{field_laws, power_laws, powers_of_two, row_laws, sum_laws};
+pub use lanes::{BLOCK, add_blocks, block_at, put_block};
 pub use no_memory::NoMemory;
+pub use products::Products;
 pub use row::{axpy_row, xor_row};
 pub use rows::Rows;

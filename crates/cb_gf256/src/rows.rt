@@ -42,14 +42,19 @@ impl Rows {
         self.count
     }
 
-    /// How many bytes each row has.
+    /// How many bytes each row has. The rows are bytes, all as long as the first.
     pub fn row_len(&self) -> u32
-        ensures { HaveLength result self.now }
+        requires { 0 < length self.now }
+        ensures length { HaveLength result self.now }
+        ensures rows { AreRows self.now }
     {
+        // What the first row shows of all rows is what a proof reads here.
+        let _ = self.row(0);
         self.len
     }
 
     /// The row at position `i`.
+    #[inline(always)]
     pub fn row(&self, i: u32) -> &[u8]
         requires { i < length self.now }
         ensures value { result.now ≡ row_at self.now i }
@@ -62,6 +67,7 @@ impl Rows {
     }
 
     /// The row at position `i`, to be written to.
+    #[inline(always)]
     pub fn row_mut(&mut self, i: u32) -> &mut [u8]
         requires { i < length self.old }
         ensures* writes_back { sem 𝓛 (LendsRow self.entry i result) }
