@@ -1,2 +1,2 @@
-pub mod Writes
 pub mod Tables
+pub mod Horner

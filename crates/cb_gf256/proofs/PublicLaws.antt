@@ -14,6 +14,8 @@ pub use Rattle.cb_gf256.proofs.Splitting.{split_none as split_of_none, split_wit
 pub use Rattle.cb_gf256.proofs.Combining.{part_sum_none, part_sum_more, combinations_none, combinations_more, combinations_all}
 pub use Rattle.cb_gf256.proofs.CornerLemmas.{length-corner as corner_count, row_at-corner as corner_row, row_of_corner as corner_width, byte_at-corner as corner_byte, HaveLength-corner as corner_lengths, HoldBytes-corner as corner_bytes}
 pub use Rattle.cb_gf256.proofs.LagrangeLemmas.{ascending_apart}
+pub use Rattle.cb_gf256.proofs.Writes.{below_more_set}
+pub use Rattle.cb_gf256.proofs.Summing.{row_at-rows_at as row_at_positions, all_rows}
 
 -- what a caller of `row_mut` lists to read the rows that it has written
 pub ruleset written_rows = (written_count, written_row)

@@ -1,6 +1,6 @@
 -- A block of sums, row after row.
 use Rattle.std.proofs.Common.{◌≡◌, ℕ, ◌+◌, ◌<◌, ◌≤◌, List, [], length, get_or, map, replicate, refl, sym, ap, ap₂, ◌∙◌, arith, add-one}
-use Rattle.std.proofs.lemmas.List.{get_or-map}
+use Rattle.std.proofs.lemmas.List.{get_or-map, length-map, ext_get_or}
 use Rattle.std.proofs.lemmas.Simd.{get_or-replicate, length-replicate}
 use Rattle.cb_gf256.specs.Sum.{◌⊕◌, sum_over}
 use Rattle.cb_gf256.specs.Product.{◌⊗◌}
@@ -54,3 +54,10 @@ block_sums_more r i at table shown sums next block h b size new = record {
 -- with all rows the sums are the combinations
 pub all_summed : (n : ℕ) (factors : List ℕ) (shown : List (List ℕ)) (column : ℕ) → length factors ≡ n → sum_of_first n factors shown column ≡ combination factors shown column
 all_summed n factors shown column e = ap (λ i. sum_of_first i factors shown column) (sym e)
+
+-- the rows at all positions, in order, are all rows
+pub all_rows : (rows : List (List ℕ)) (positions : List ℕ) → length positions ≡ length rows → ((i : ℕ) → i < length rows → get_or positions i 0 ≡ i) → rows_at rows positions ≡ rows
+all_rows rows positions count at =
+    ext_get_or [] (rows_at rows positions) rows (length-map positions (row_at rows) ∙ count) (λ i h.
+    let within : i < length positions = omega (arith, length-map positions (row_at rows)) in
+    row_at-rows_at rows positions i within ∙ ap (row_at rows) (at i (omega arith)))

@@ -1,5 +1,5 @@
 //! Blocks of 32 bytes as lanes.
-ghost use Rattle.std.specs.Prelude.{◌≡◌, ℕ, ◌+◌, ◌%◌, ◌/◌, ◌≤◌, length, slice_index, bit_and};
+ghost use Rattle.std.specs.Prelude.{◌≡◌, ℕ, ◌+◌, ◌%◌, ◌/◌, ◌<◌, ◌≤◌, ◌↔◌, length, slice_index, bit_and, IsTrue};
 ghost use Rattle.std.specs.Simd.Lanes.{chunk, put_chunk};
 ghost use Rattle.cb_gf256.specs.Sum.{◌⊕◌};
 ghost use Rattle.cb_gf256.specs.Product.{◌⊗◌};
@@ -88,4 +88,12 @@ fn twice(table: u8x16) -> u8x32
         0, 1, 2, 3, 4, 5, 6, 7, 8, 9, 10, 11, 12, 13, 14, 15, 0, 1, 2, 3, 4, 5, 6, 7, 8, 9, 10, 11,
         12, 13, 14, 15,
     ])
+}
+
+/// Whether all bytes of a block are 0.
+#[inline(always)]
+pub fn is_zero_block(block: u8x32) -> bool
+    ensures { IsTrue result ↔ ((l : ℕ) → l < 32 → slice_index block l ≡ 0) }
+{
+    block.simd_ne(u8x32::splat(0)).to_bitmask() == 0
 }

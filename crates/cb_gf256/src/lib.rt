@@ -23,7 +23,7 @@ pub use factors::Factors;
 pub use field::{add, inv, mul, pow};
 pub use lagrange::lagrange_factor;
 pub use laws::{field_laws, power_laws, powers_of_two, row_laws, sum_laws};
-pub use lanes::{BLOCK, add_blocks, block_at, put_block};
+pub use lanes::{BLOCK, add_blocks, block_at, is_zero_block, put_block};
 pub use no_memory::NoMemory;
 pub use products::Products;
 pub use row::{axpy_row, xor_row};

@@ -9,7 +9,7 @@ use std::simd::prelude::*;
 
 /// A constant, kept as its products with the sixteen low halves of a byte, 0 to 15, and with the
 /// sixteen high halves, 0 to 240. Its product with a byte is the sum of two of them.
-#[derive(Clone, Copy)]
+#[derive(Clone, Copy, Debug)]
 pub struct Products {
     halves: [u8; 32],
 }
