@@ -68,6 +68,7 @@ fn block_is_zero(r: u32, powers: &[Products; 4], rows: &Rows, at: usize, len: us
 /// The syndrome of a power in a block, by Horner: the sum so far times the power, and the next row, from the last row to the first.
 #[inline(always)]
 fn block_syndrome(factor: &Products, rows: &Rows, at: usize, len: usize) -> u8x32
+    requires byte { factor.now < 256 }
     requires positions { length rows.now ≤ 20 }
     requires lengths { HaveLength len rows.now }
     requires some { 0 < length rows.now }
