@@ -1,11 +1,7 @@
-use Rattle.std.specs.Prelude.{◌≡◌, ℕ, ◌+◌, List, length, map}
-use Rattle.cb_gf256.specs.Rows.{row_at, HaveLength, HoldBytes, AreRows}
+use Rattle.std.specs.Prelude.{◌≡◌, ℕ, ◌+◌, List, length}
+use Rattle.cb_gf256.specs.Rows.{rows_at, HaveLength, HoldBytes, AreRows}
 use Rattle.cb_gf256.specs.CodeWord.{IsCodeWord}
 use Rattle.cb_gf256.specs.Combination.{AreCombinations}
-
--- the rows at these positions
-abbrev pub rows_at : List (List ℕ) → List ℕ → List (List ℕ)
-rows_at rows positions = map (row_at rows) positions
 
 -- word is a code word whose rows at the present positions are these
 pub record IsSolution (k r : ℕ) (present : List ℕ) (shown word : List (List ℕ)) : Type 0 where

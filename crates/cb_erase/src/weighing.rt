@@ -53,7 +53,7 @@ fn unit_row(i: usize) -> [u8; 16]
 }
 
 /// The factors of the present rows in the row at `lost[e]`.
-fn factor_row(present: &[u8], lost: &[u8], e: usize) -> [u8; 16]
+pub(crate) fn factor_row(present: &[u8], lost: &[u8], e: usize) -> [u8; 16]
     requires few { length present.now ≤ 16 }
     requires ascending { IsStrictlyIncreasing lost.now }
     requires below { All (λ m. m < 255) lost.now }

@@ -35,6 +35,20 @@ impl Rows {
         Ok(Rows { block, count, len })
     }
 
+    /// A copy of these rows. The only error is want of memory.
+    pub fn copy(&self, alloc: Global) -> Result<Rows, NoMemory>
+        ensures value { IfOk result (λ rows. rows ≡ self.now) }
+        ensures rows { IfOk result (λ _. AreRows self.now) }
+    {
+        let items = self.block.as_slice();
+        let block = Vec::from_slice(alloc, &items[..])?;
+        Ok(Rows {
+            block,
+            count: self.count,
+            len: self.len,
+        })
+    }
+
     /// How many rows there are.
     pub fn count(&self) -> u32
         ensures { result ≡ length self.now }
