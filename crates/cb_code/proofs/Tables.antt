@@ -10,7 +10,7 @@ use Rattle.cb_gf256.specs.Corner.{corner}
 use Rattle.cb_gf256.specs.InRange.{IsInRange}
 use Rattle.cb_gf256.specs.Combination.{AreCombinations}
 use Rattle.cb_gf256.specs.Lagrange.{IsLagrangeFactor, AreFactors}
-use Rattle.cb_gf256.proofs.PublicLaws.{sum_over_same, split_of_same, parities_split, sums_make_a_word, sums_are_bytes, words_that_agree, corner_count, corner_byte, corner_lengths, corner_bytes}
+use Rattle.cb_gf256.proofs.PublicLaws.{sum_over_same, split_of_same, parities_split, sums_make_a_word, sums_are_bytes, words_that_agree, corner_count, corner_byte, corner_lengths, corner_bytes, unit_rows, column_rows, unit_rows_count, unit_rows_are_rows, unit_combinations, column_rows_are_bytes, same_columns}
 use Rattle.cb_gf256.specs.Rows.{rows_at}
 use Rattle.cb_gf256.proofs.PublicLaws.{all_rows}
 use Rattle.cb_code.specs.Coefficients.{AreCoefficients, IsCode}
@@ -99,3 +99,16 @@ is_code k r table range h =
       in_range = subst (λ n. IsInRange (length (row_at table 0)) n) (sym h.parities) (subst (λ n. IsInRange n r) (sym width) range);
       coefficients = subst (λ n. AreCoefficients (length (row_at table 0)) n table) (sym h.parities) (subst (λ n. AreCoefficients n r table) (sym width) h);
     }
+
+-- ---- the one table
+pub one_table : (k r : ℕ) (a b : List (List ℕ)) → IsInRange k r → AreCoefficients k r a → AreCoefficients k r b → a ≡ b
+one_table k r a b range ha hb =
+    same_columns k a b (ha.parities ∙ sym hb.parities) ha.positions hb.positions (λ i inside.
+    let rows = unit_rows k i in
+    let count : length rows ≡ k = unit_rows_count k i in
+    let are_rows : AreRows rows = unit_rows_are_rows k i in
+    let ma : AreCombinations a rows (column_rows a i) = unit_combinations k i a inside ha.positions ha.bytes in
+    let mb : AreCombinations b rows (column_rows b i) = unit_combinations k i b inside hb.positions hb.bytes in
+    only_parities k r rows (column_rows b i) (column_rows a i) range count are_rows
+    (column_rows_are_bytes k i b inside hb.positions hb.bytes) (hb.make_words rows (column_rows b i) count are_rows mb)
+    (column_rows_are_bytes k i a inside ha.positions ha.bytes) (ha.make_words rows (column_rows a i) count are_rows ma))

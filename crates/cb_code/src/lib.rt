@@ -3,10 +3,12 @@
 
 mod coeffs;
 mod encoding;
+mod laws;
 mod syndromes;
 #[cfg(test)]
 mod tests;
 
 pub use coeffs::{Coeffs, coefficients};
 pub use encoding::encode;
+pub use laws::coefficient_laws;
 pub use syndromes::syndromes_zero;

@@ -13,7 +13,7 @@ use Rattle.cb_gf256.specs.Combination.{combination, AreCombinations}
 use Rattle.cb_gf256.specs.Corner.{corner}
 use Rattle.cb_gf256.specs.Lagrange.{IsLagrangeFactor, AreFactors}
 use Rattle.cb_gf256.specs.Split.{Splits}
-use Rattle.cb_gf256.proofs.PublicLaws.{zero_with_product, one_with_product, sum_over_same, sum_over_one_term, sums_make_a_word, lost_rows_are_sums, sums_are_bytes, agreeing_words_are_equal, combinations_all, corner_count, corner_byte, corner_lengths, corner_bytes, row_at_positions as row_at-rows_at}
+use Rattle.cb_gf256.proofs.PublicLaws.{zero_with_product, one_with_product, sum_over_same, sum_over_one_term, sums_make_a_word, lost_rows_are_sums, sums_are_bytes, agreeing_words_are_equal, corner_count, corner_byte, corner_lengths, corner_bytes, row_at_positions as row_at-rows_at, unit_rows, column_rows, unit_rows_count, unit_rows_are_rows, unit_combinations, column_rows_are_bytes, same_columns}
 use Rattle.cb_erase.specs.Weights.{IsSolution, AreWeights}
 use Rattle.cb_erase.proofs.Tables.{Filled}
 
@@ -250,3 +250,18 @@ only_solution k r present lost table rows word other h bytes solution =
     (λ i d l.
     subst (λ p. row_at other p ≡ row_at word p) (get_or_default present i 0 d l)
     (sym (row_at-rows_at other present i l) ∙ ap (λ rows. row_at rows i) (solution.agrees ∙ sym own.agrees) ∙ row_at-rows_at word present i l))
+
+-- ---- the one table of weights
+pub one_table : (k r : ℕ) (present : List ℕ) (a b : List (List ℕ)) → IsInRange k r → ArePositions (k + r) k present → AreWeights k r present a → AreWeights k r present b → a ≡ b
+one_table k r present a b range positions ha hb =
+    same_columns k a b (ha.positions ∙ sym hb.positions) ha.factors hb.factors (λ i inside.
+    let rows = unit_rows k i in
+    let count : length rows ≡ k = unit_rows_count k i in
+    let are_rows : AreRows rows = unit_rows_are_rows k i in
+    let sa = ha.solve rows (column_rows a i) count are_rows (unit_combinations k i a inside ha.factors ha.bytes) in
+    let sb = hb.solve rows (column_rows b i) count are_rows (unit_combinations k i b inside hb.factors hb.bytes) in
+    agreeing_words_are_equal k r (column_rows a i) (column_rows b i) present (omega (arith, range.data_most, range.parities_most)) (omega (arith, range.data_least)) positions
+    sa.is_word (column_rows_are_bytes k i a inside ha.factors ha.bytes) sb.is_word (column_rows_are_bytes k i b inside hb.factors hb.bytes)
+    (λ m d l.
+    subst (λ p. row_at (column_rows a i) p ≡ row_at (column_rows b i) p) (get_or_default present m 0 d l)
+    (sym (row_at-rows_at (column_rows a i) present m l) ∙ ap (λ x. row_at x m) (sa.agrees ∙ sym sb.agrees) ∙ row_at-rows_at (column_rows b i) present m l)))

@@ -12,9 +12,10 @@ pub mod LagrangeLemmas
 pub mod Restoring
 pub mod Splitting
 pub mod Words
-pub mod Combining
+pub mod CodeColumn
 pub mod CornerLemmas
 pub mod Writes
+pub mod Units
 pub mod Placing
 pub mod Summing
 pub mod Halving

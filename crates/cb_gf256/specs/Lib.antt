@@ -6,7 +6,6 @@ pub mod Rows
 pub mod Block
 pub mod CodeWord
 pub mod InRange
-pub mod CodeColumn
 pub mod Positions
 pub mod Combination
 pub mod Corner

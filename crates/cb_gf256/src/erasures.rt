@@ -1,18 +1,16 @@
 //! The laws of polynomials and of code words. Each is a clause of a function that does nothing.
-ghost use Rattle.std.specs.Prelude.{◌≡◌, ◌≢◌, ℕ, ◌+◌, ◌<◌, ◌≤◌, List, length, slice_index, take, replicate, All, AllPairs};
+ghost use Rattle.std.specs.Prelude.{◌≡◌, ◌≢◌, ℕ, ◌+◌, ◌<◌, ◌≤◌, List, length, slice_index, take, All, AllPairs};
 ghost use Rattle.std.specs.List.Sorted.{IsStrictlyIncreasing};
-ghost use Rattle.cb_gf256.specs.Sum.{◌⊕◌, sum_over};
+ghost use Rattle.cb_gf256.specs.Sum.{sum_over};
 ghost use Rattle.cb_gf256.specs.Product.{◌⊗◌};
 ghost use Rattle.cb_gf256.specs.Polynomial.{evaluated};
-ghost use Rattle.cb_gf256.specs.Row.{row_sum, scaled_row};
-ghost use Rattle.cb_gf256.specs.Block.{with_row};
 ghost use Rattle.cb_gf256.specs.Rows.{row_at, byte_at, HaveLength, HoldBytes, AreRows};
 ghost use Rattle.cb_gf256.specs.CodeWord.{IsCodeWord};
 ghost use Rattle.cb_gf256.specs.Positions.{ArePositions};
 ghost use Rattle.cb_gf256.specs.Split.{Splits};
 ghost use Rattle.cb_gf256.specs.Corner.{corner};
 ghost use Rattle.cb_gf256.specs.Lagrange.{AreFactors};
-ghost use Rattle.cb_gf256.specs.Combination.{combination, AreCombinations, IsPartSum, ArePartCombinations};
+ghost use Rattle.cb_gf256.specs.Combination.{AreCombinations};
 
 /// A polynomial with as many distinct roots as coefficients is zero.
 pub fn polynomial_laws()
@@ -63,23 +61,6 @@ pub fn split_laws()
         → slice_index positions i + k ≤ n + i }
     ensures ascending_apart { (xs : List ℕ) → IsStrictlyIncreasing xs → (i j : ℕ) → i < j → j < length xs
         → slice_index xs i < slice_index xs j }
-{}
-
-/// How sums of rows, each times its factor, are made: row after row, and sum after sum.
-pub fn combining_laws()
-    ensures part_sum_none { (start factors : List ℕ) (rows : List (List ℕ)) → IsPartSum start start factors rows 0 }
-    ensures part_sum_more { (start now factors : List ℕ) (rows : List (List ℕ)) (i c : ℕ) (row next : List ℕ)
-        → IsPartSum start now factors rows i → row ≡ row_at rows i → length row ≡ length start → c ≡ slice_index factors i
-        → next ≡ row_sum now (scaled_row c row) → IsPartSum start next factors rows (i + 1) }
-    ensures combinations_none { (len count : ℕ) (table rows : List (List ℕ)) → count ≡ length table
-        → ArePartCombinations len table rows (replicate count (replicate len 0)) 0 }
-    ensures combinations_more { (len : ℕ) (table rows sums : List (List ℕ)) (j : ℕ) (row : List ℕ)
-        → ArePartCombinations len table rows sums j → j < length table → length row ≡ length (row_at sums j)
-        → ((column : ℕ) → column < length (row_at sums j)
-        → slice_index row column ≡ byte_at sums j column ⊕ combination (row_at table j) rows column)
-        → ArePartCombinations len table rows (with_row sums j row) (j + 1) }
-    ensures combinations_all { (len : ℕ) (table rows sums : List (List ℕ)) (j : ℕ) → ArePartCombinations len table rows sums j
-        → length table ≤ j → length (row_at rows 0) ≡ len → AreCombinations table rows sums }
 {}
 
 /// The corner of a table that is wider and higher than what is used of it.

@@ -17,7 +17,7 @@ mod tables;
 mod tests;
 
 pub use erasures::{
-    code_laws, combining_laws, corner_laws, polynomial_laws, restoring_laws, split_laws,
+    code_laws, corner_laws, polynomial_laws, restoring_laws, split_laws,
 };
 pub use factors::Factors;
 pub use field::{add, inv, mul, pow};
