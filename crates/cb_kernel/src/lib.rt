@@ -3,5 +3,7 @@
 #![tactic(auto)]
 
 mod kernel;
+#[cfg(test)]
+mod tests;
 
 pub use kernel::{axpy, xor};
