@@ -7,6 +7,7 @@ pub mod RowLemmas
 pub mod SumLaws
 pub mod OrderLemmas
 pub mod WorkedVectors
+pub mod WorkedRows
 pub mod Polynomials
 pub mod LagrangeLemmas
 pub mod Restoring
