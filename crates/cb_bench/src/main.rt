@@ -1,4 +1,5 @@
-//! Times one operation of the code for `bench/encode`. The words are the operation (`encode`, `solve`
+//! Times one operation of the code for `bench/encode`. The words are the operation (`encode`,
+//! `solve`
 //! or `check`), k, r and how many slices are timed. It prints the least time of a call in
 //! nanoseconds, over that many slices of four calls each, or 0 where no slice is asked for.
 #![tactic(auto)]
@@ -75,8 +76,15 @@ fn last_positions(k: u32, r: u32) -> &'static [u8]
     &all[r as usize..(k + r) as usize]
 }
 
-/// The least time of a call in nanoseconds. Each call's answer is counted, so that no call can be left out.
-fn least_time(rt: &HostRuntime, operation: Operation, k: u32, r: u32, slices: u32) -> io::Result<u64>
+/// The least time of a call in nanoseconds. Each call's answer is counted, so that no call can be
+/// left out.
+fn least_time(
+    rt: &HostRuntime,
+    operation: Operation,
+    k: u32,
+    r: u32,
+    slices: u32,
+) -> io::Result<u64>
     requires { IsInRange k r }
 {
     let alloc = rt.alloc();

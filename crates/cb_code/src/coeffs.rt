@@ -8,7 +8,8 @@ ghost use Rattle.cb_code.specs.Coefficients.{AreCoefficients};
 use cb_gf256::{Factors, lagrange_factor};
 use std::marker::Model;
 
-/// The coefficients of a code: parity j is the sum over the data positions i of `at(j, i)` times data row i.
+/// The coefficients of a code: parity j is the sum over the data positions i of `at(j, i)` times
+/// data row i.
 #[derive(Debug, Drop)]
 pub struct Coeffs {
     factors: Factors,
@@ -53,14 +54,17 @@ fn parity_positions(k: u32, r: u32) -> [u8; 4]
     positions
 }
 
-/// The coefficients of the parity at `lost[j]`, in the first `k` places: Lagrange's factors of the data positions.
+/// The coefficients of the parity at `lost[j]`, in the first `k` places: Lagrange's factors of
+/// the data positions.
 fn coefficient_row(k: u32, lost: &[u8], j: usize) -> [u8; 16]
     requires data { k ≤ 16 }
     requires ascending { IsStrictlyIncreasing lost.now }
     requires below { All (λ m. m < 255) lost.now }
     requires within { j < length lost.now }
     ensures size { length result ≡ 16 }
-    ensures factors { (i : ℕ) → i < k → IsLagrangeFactor (length lost.now) (λ m. slice_index lost.now m) j i (slice_index result i) }
+    ensures factors { (i : ℕ) → i < k
+        → IsLagrangeFactor (length lost.now) (λ m. slice_index lost.now m) j i
+            (slice_index result i) }
 {
     let mut row = [0; 16];
     for i in 0..k {
@@ -82,7 +86,8 @@ impl Coeffs {
     /// How many parities there are.
     pub fn parities(&self) -> u32
         ensures count { result ≡ length self.now }
-        ensures coefficients { AreCoefficients (length (row_at self.now 0)) (length self.now) self.now }
+        ensures coefficients { AreCoefficients (length (row_at self.now 0))
+            (length self.now) self.now }
         ensures in_range { IsInRange (length (row_at self.now 0)) (length self.now) }
     {
         self.factors.height()

@@ -11,7 +11,8 @@ use std::alloc::Global;
 pub fn encode(alloc: Global, c: &Coeffs, rows: &Rows) -> Result<Rows, NoMemory>
     requires { HaveLength (length rows.now) c.now }
     ensures sums { IfOk result (λ parities. AreCombinations c.now rows.now parities) }
-    ensures word { IfOk result (λ parities. IsCodeWord (length rows.now) (length c.now) (rows.now ++ parities)) }
+    ensures word { IfOk result (λ parities. IsCodeWord (length rows.now) (length c.now)
+        (rows.now ++ parities)) }
     ensures only { IfOk result (λ parities. (others : List (List ℕ)) → HoldBytes others
         → IsCodeWord (length rows.now) (length c.now) (rows.now ++ others) → others ≡ parities) }
 {

@@ -1,4 +1,5 @@
-//! The systematic Reed-Solomon code over GF(256): its coefficients, the parities of data rows, and the test of a code word.
+//! The systematic Reed-Solomon code over GF(256): its coefficients, the parities of data rows,
+//! and the test of a code word.
 #![tactic(auto)]
 
 mod coeffs;

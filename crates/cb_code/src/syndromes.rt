@@ -1,4 +1,5 @@
-ghost use Rattle.std.specs.Prelude.{◌≡◌, ℕ, ◌-◌, ◌+◌, ◌*◌, ◌/◌, ◌<◌, ◌≤◌, ◌↔◌, length, slice_index, IsTrue};
+ghost use Rattle.std.specs.Prelude.{◌≡◌, ℕ, ◌-◌, ◌+◌, ◌*◌, ◌/◌};
+ghost use Rattle.std.specs.Prelude.{◌<◌, ◌≤◌, ◌↔◌, length, slice_index, IsTrue};
 ghost use Rattle.cb_gf256.specs.Power.{power};
 ghost use Rattle.cb_gf256.specs.Rows.{row_at, HaveLength};
 ghost use Rattle.cb_gf256.specs.CodeWord.{syndrome, IsCodeWord};
@@ -8,7 +9,8 @@ ghost use Rattle.cb_gf256.specs.Lanes.{HasLanes};
 use cb_gf256::{BLOCK, Products, Rows, add, add_blocks, block_at, is_zero_block, mul, pow};
 use std::simd::prelude::*;
 
-/// Whether the rows, of which the last `r` are the parities, are a code word: all syndromes of the powers below `r` are 0.
+/// Whether the rows, of which the last `r` are the parities, are a code word: all syndromes of
+/// the powers below `r` are 0.
 pub fn syndromes_zero(r: u32, rows: &Rows) -> bool
     requires { IsInRange (length rows.now - r) r }
     ensures { IsTrue result ↔ IsCodeWord (length rows.now - r) r rows.now }
@@ -23,7 +25,8 @@ fn blocks_are_zero(r: u32, rows: &Rows, len: usize) -> bool
     requires positions { length rows.now ≤ 20 }
     requires lengths { HaveLength len rows.now }
     requires some { 0 < length rows.now }
-    ensures { IsTrue result ↔ ((column j : ℕ) → column < len / 32 * 32 → j < r → syndrome j rows.now column ≡ 0) }
+    ensures { IsTrue result ↔ ((column j : ℕ) → column < len / 32 * 32 → j < r
+        → syndrome j rows.now column ≡ 0) }
 {
     let powers = powers_of_two();
     for block in 0..len / BLOCK {
@@ -65,7 +68,8 @@ fn block_is_zero(r: u32, powers: &[Products; 4], rows: &Rows, at: usize, len: us
     true
 }
 
-/// The syndrome of a power in a block, by Horner: the sum so far times the power, and the next row, from the last row to the first.
+/// The syndrome of a power in a block, by Horner: the sum so far times the power, and the next
+/// row, from the last row to the first.
 #[inline(always)]
 fn block_syndrome(factor: &Products, rows: &Rows, at: usize, len: usize) -> u8x32
     requires byte { factor.now < 256 }
@@ -73,7 +77,8 @@ fn block_syndrome(factor: &Products, rows: &Rows, at: usize, len: usize) -> u8x3
     requires lengths { HaveLength len rows.now }
     requires some { 0 < length rows.now }
     requires inside { at + 32 ≤ len }
-    ensures { (j : ℕ) → factor.now ≡ power 2 j → HasLanes result (λ l. syndrome j rows.now (at + l)) }
+    ensures { (j : ℕ) → factor.now ≡ power 2 j
+        → HasLanes result (λ l. syndrome j rows.now (at + l)) }
 {
     let count = rows.count();
     let mut sum = u8x32::splat(0);
@@ -90,7 +95,8 @@ fn columns_are_zero(r: u32, rows: &Rows, from: usize, len: usize) -> bool
     requires positions { length rows.now ≤ 20 }
     requires lengths { HaveLength len rows.now }
     requires some { 0 < length rows.now }
-    ensures { IsTrue result ↔ ((column j : ℕ) → from ≤ column → column < len → j < r → syndrome j rows.now column ≡ 0) }
+    ensures { IsTrue result ↔ ((column j : ℕ) → from ≤ column → column < len → j < r
+        → syndrome j rows.now column ≡ 0) }
 {
     for column in from..len {
         if !column_is_zero(r, rows, column, len) {

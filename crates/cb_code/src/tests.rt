@@ -42,7 +42,8 @@ fn expect_word(rt: &impl Abort, alloc: Global, k: u32, r: u32, word: &[u8]) -> R
     Ok(())
 }
 
-// The vectors were made by an independent implementation. The first word for k = 2 and r = 2 can be checked by hand:
+// The vectors were made by an independent implementation. The first word for k = 2 and r = 2 can
+// be checked by hand:
 // 01 + C8 + C9 = 00, and 01 + 04*C8 + 08*C9 = 01 + 07 + 06 = 00.
 #[test]
 fn data_encode_to_the_parities_of_others(rt: HostRuntime) -> Result<(), Fail> {

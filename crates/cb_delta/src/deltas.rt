@@ -20,9 +20,12 @@ pub fn delta(old: &[u8], new: &[u8], into: &mut [u8])
 pub fn patch(parity: &mut [u8], coeff: u8, delta: &[u8])
     requires { length parity.old ≡ length delta.now }
     ensures value { parity.new ≡ row_sum parity.old (scaled_row coeff delta.now) }
-    ensures anew { (factors : List ℕ) (rows : List (List ℕ)) (i : ℕ) (new : List ℕ) → IsParity factors rows parity.old
-        → i < length factors → i < length rows → coeff ≡ slice_index factors i → length new ≡ length (row_at rows i)
-        → delta.now ≡ row_sum (row_at rows i) new → IsParity factors (slice_set rows i new) parity.new }
+    ensures anew { (factors : List ℕ) (rows : List (List ℕ)) (i : ℕ) (new : List ℕ)
+        → IsParity factors rows parity.old
+        → i < length factors → i < length rows → coeff ≡ slice_index factors i
+        → length new ≡ length (row_at rows i)
+        → delta.now ≡ row_sum (row_at rows i) new
+        → IsParity factors (slice_set rows i new) parity.new }
 {
     axpy(parity, coeff, delta);
 }

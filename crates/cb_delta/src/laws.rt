@@ -5,8 +5,10 @@ ghost use Rattle.cb_delta.specs.Parity.{IsParity};
 
 /// What a parity is: row j of what `encode` gives, and nothing else.
 pub fn parity_laws()
-    ensures sums_are_parities { (table rows sums : List (List ℕ)) (j : ℕ) → AreCombinations table rows sums
+    ensures sums_are_parities { (table rows sums : List (List ℕ)) (j : ℕ)
+        → AreCombinations table rows sums
         → j < length table → IsParity (row_at table j) rows (row_at sums j) }
-    ensures one_parity { (factors : List ℕ) (rows : List (List ℕ)) (a b : List ℕ) → IsParity factors rows a
+    ensures one_parity { (factors : List ℕ) (rows : List (List ℕ)) (a b : List ℕ)
+        → IsParity factors rows a
         → IsParity factors rows b → length a ≡ length b → a ≡ b }
 {}

@@ -11,12 +11,14 @@ use crate::weighing::factor_row;
 use cb_gf256::{Factors, NoMemory, Rows};
 use std::alloc::Global;
 
-/// The code word that agrees with the rows at the `k` positions `present`; what the other rows hold does not matter. The only error is want of memory.
+/// The code word that agrees with the rows at the `k` positions `present`; what the other rows
+/// hold does not matter. The only error is want of memory.
 pub fn solve(alloc: Global, k: u32, r: u32, rows: &Rows, present: &[u8]) -> Result<Rows, NoMemory>
     requires in_range { IsInRange k r }
     requires positions { ArePositions (k + r) k present.now }
     requires count { length rows.now ≡ k + r }
-    ensures solution { IfOk result (λ word. IsSolution k r present.now (rows_at rows.now present.now) word) }
+    ensures solution { IfOk result (λ word. IsSolution k r present.now
+        (rows_at rows.now present.now) word) }
     ensures only { IfOk result (λ word. (other : List (List ℕ)) → HoldBytes other
         → IsSolution k r present.now (rows_at rows.now present.now) other → other ≡ word) }
 {
@@ -37,7 +39,8 @@ fn lost_factors(k: u32, r: u32, present: &[u8], lost: &[u8]) -> Factors
     requires below { All (λ m. m < 255) lost.now }
     ensures height { length result ≡ r }
     ensures width { HaveLength k result }
-    ensures factors { AreFactors k r (λ i. slice_index present.now i) (λ e. slice_index lost.now e) (byte_at result) }
+    ensures factors { AreFactors k r (λ i. slice_index present.now i)
+        (λ e. slice_index lost.now e) (byte_at result) }
 {
     let mut table = [[0; 16]; 4];
     for e in 0..lost.len() {

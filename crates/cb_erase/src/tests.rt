@@ -68,7 +68,8 @@ fn expect_solution(
     Ok(())
 }
 
-// The vectors were made by an independent implementation: erasures of its words, where a lost row is 0 here, and random rows.
+// The vectors were made by an independent implementation: erasures of its words, where a lost row
+// is 0 here, and random rows.
 // In the last three each pair of positions is left out of the word 01, 00, C8, C9.
 #[test]
 fn solutions_are_those_of_others(rt: HostRuntime) -> Result<(), Fail> {

@@ -1,4 +1,5 @@
-//! The field GF(256) of the polynomial x^8+x^4+x^3+x^2+1, its laws, sums of rows of bytes, and what a code word is.
+//! The field GF(256) of the polynomial x^8+x^4+x^3+x^2+1, its laws, sums of rows of bytes, and
+//! what a code word is.
 #![tactic(auto)]
 
 mod erasures;

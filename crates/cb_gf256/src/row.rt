@@ -4,7 +4,8 @@ ghost use Rattle.cb_gf256.specs.Row.{row_sum, scaled_row, summed_front};
 use crate::lanes::{BLOCK, add_blocks, block_at, put_block};
 use crate::products::Products;
 
-/// Adds the row `src` to the row `dst`, byte by byte. Both are bytes of the field, as many in each.
+/// Adds the row `src` to the row `dst`, byte by byte. Both are bytes of the field, as many in
+/// each.
 pub fn xor_row(dst: &mut [u8], src: &[u8])
     requires { length dst.old ≡ length src.now }
     ensures { dst.new ≡ row_sum dst.old src.now }
@@ -41,7 +42,8 @@ fn xor_blocks(dst: &mut [u8], src: &[u8])
 /// Adds the whole blocks of `src`, times the factor.
 fn axpy_blocks(dst: &mut [u8], factor: &Products, src: &[u8])
     requires { length dst.old ≡ length src.now }
-    ensures { dst.new ≡ summed_front dst.old (scaled_row factor.now src.now) (length src.now / 32 * 32) }
+    ensures { dst.new ≡ summed_front dst.old (scaled_row factor.now src.now)
+        (length src.now / 32 * 32) }
 {
     for block in 0..src.len() / BLOCK {
         let at = block * BLOCK;

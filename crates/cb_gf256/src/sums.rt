@@ -1,5 +1,6 @@
 //! Sums of rows, each times its factor: a block of all sums at a time, and the rest byte by byte.
-ghost use Rattle.std.specs.Prelude.{◌≡◌, ◌≢◌, ℕ, ◌+◌, ◌-◌, ◌/◌, ◌*◌, ◌%◌, ◌<◌, ◌≤◌, List, length, All, slice_index};
+ghost use Rattle.std.specs.Prelude.{◌≡◌, ◌≢◌, ℕ, ◌+◌, ◌-◌, ◌/◌, ◌*◌};
+ghost use Rattle.std.specs.Prelude.{◌%◌, ◌<◌, ◌≤◌, List, length, All, slice_index};
 ghost use Rattle.std.specs.List.Sorted.{IsStrictlyIncreasing};
 ghost use Rattle.cb_gf256.specs.Sum.{◌⊕◌};
 ghost use Rattle.cb_gf256.specs.Product.{◌⊗◌};
@@ -15,13 +16,19 @@ use std::simd::prelude::*;
 
 /// Adds to each of the sums a block, times its factor for place `i`.
 #[inline(always)]
-fn with_products<const R: usize>(sums: [u8x32; R], factors: &Factors, i: usize, block: u8x32) -> [u8x32; R]
+fn with_products<const R: usize>(
+    sums: [u8x32; R],
+    factors: &Factors,
+    i: usize,
+    block: u8x32,
+) -> [u8x32; R]
     requires few { (R ≤ 4) × (i < 16) }
     requires height { R ≤ length factors.now }
     requires width { (j : ℕ) → j < R → i < length (row_at factors.now j) }
     ensures count { length result ≡ R }
     ensures lanes { (j : ℕ) → j < R
-        → HasLanes (row_at result j) (λ l. byte_at sums.entry j l ⊕ (byte_at factors.now j i ⊗ slice_index block l)) }
+        → HasLanes (row_at result j) (λ l. byte_at sums.entry j l ⊕
+            (byte_at factors.now j i ⊗ slice_index block l)) }
 {
     let mut more = sums;
     for j in 0..R {
@@ -32,7 +39,13 @@ fn with_products<const R: usize>(sums: [u8x32; R], factors: &Factors, i: usize, 
 
 /// The blocks of the first `R` sums from a place on.
 #[inline(always)]
-fn block_sums<const R: usize>(factors: &Factors, rows: &Rows, sources: &[u8], at: usize, len: usize) -> [u8x32; R]
+fn block_sums<const R: usize>(
+    factors: &Factors,
+    rows: &Rows,
+    sources: &[u8],
+    at: usize,
+    len: usize,
+) -> [u8x32; R]
     requires few { (R ≤ 4) × (length sources.now ≤ 16) }
     requires height { R ≤ length factors.now }
     requires width { HaveLength (length sources.now) factors.now }
@@ -40,7 +53,8 @@ fn block_sums<const R: usize>(factors: &Factors, rows: &Rows, sources: &[u8], at
     requires lengths { HaveLength len rows.now }
     requires inside { at + 32 ≤ len }
     ensures { (j : ℕ) → j < R
-        → HasLanes (row_at result j) (λ l. combination (row_at factors.now j) (rows_at rows.now sources.now) (at + l)) }
+        → HasLanes (row_at result j) (λ l. combination (row_at factors.now j)
+            (rows_at rows.now sources.now) (at + l)) }
 {
     let mut sums = [u8x32::splat(0); R];
     for (i, position) in sources.iter().enumerate() {
@@ -52,7 +66,13 @@ fn block_sums<const R: usize>(factors: &Factors, rows: &Rows, sources: &[u8], at
 
 /// Puts the blocks of the first `R` sums into the rows at the targets, from a place on.
 #[inline(always)]
-fn put_sums<const R: usize>(out: &mut Rows, targets: &[u8], at: usize, sums: [u8x32; R], len: usize)
+fn put_sums<const R: usize>(
+    out: &mut Rows,
+    targets: &[u8],
+    at: usize,
+    sums: [u8x32; R],
+    len: usize,
+)
     requires targets { length targets.now ≡ R }
     requires ascending { IsStrictlyIncreasing targets.now }
     requires below { All (λ p. p < length out.old) targets.now }
@@ -67,7 +87,14 @@ fn put_sums<const R: usize>(out: &mut Rows, targets: &[u8], at: usize, sums: [u8
 }
 
 /// Makes the sums in the rows at the targets, up to the last whole block.
-fn set_blocks<const R: usize>(out: &mut Rows, targets: &[u8], factors: &Factors, rows: &Rows, sources: &[u8], len: usize)
+fn set_blocks<const R: usize>(
+    out: &mut Rows,
+    targets: &[u8],
+    factors: &Factors,
+    rows: &Rows,
+    sources: &[u8],
+    len: usize,
+)
     requires few { (R ≤ 4) × (length sources.now ≤ 16) }
     requires height { length factors.now ≡ R }
     requires width { HaveLength (length sources.now) factors.now }
@@ -76,7 +103,8 @@ fn set_blocks<const R: usize>(out: &mut Rows, targets: &[u8], factors: &Factors,
     requires ascending { IsStrictlyIncreasing targets.now }
     requires below { All (λ p. p < length out.old) targets.now }
     requires lengths { HaveLength len rows.now × HaveLength len out.old }
-    ensures { Combined factors.now (rows_at rows.now sources.now) targets.now out.old out.new (len / 32 * 32) }
+    ensures { Combined factors.now (rows_at rows.now sources.now) targets.now out.old out.new
+        (len / 32 * 32) }
 {
     for block in 0..len / BLOCK {
         let at = block * BLOCK;
@@ -86,7 +114,14 @@ fn set_blocks<const R: usize>(out: &mut Rows, targets: &[u8], factors: &Factors,
 }
 
 /// The same for as many sums as there are rows of factors.
-fn set_whole_blocks(out: &mut Rows, targets: &[u8], factors: &Factors, rows: &Rows, sources: &[u8], len: usize)
+fn set_whole_blocks(
+    out: &mut Rows,
+    targets: &[u8],
+    factors: &Factors,
+    rows: &Rows,
+    sources: &[u8],
+    len: usize,
+)
     requires few { length sources.now ≤ 16 }
     requires height { length targets.now ≡ length factors.now }
     requires width { HaveLength (length sources.now) factors.now }
@@ -95,7 +130,8 @@ fn set_whole_blocks(out: &mut Rows, targets: &[u8], factors: &Factors, rows: &Ro
     requires below { All (λ p. p < length out.old) targets.now }
     requires lengths { HaveLength len rows.now × HaveLength len out.old }
     ensures height { length factors.now ≤ 4 }
-    ensures blocks { Combined factors.now (rows_at rows.now sources.now) targets.now out.old out.new (len / 32 * 32) }
+    ensures blocks { Combined factors.now
+        (rows_at rows.now sources.now) targets.now out.old out.new (len / 32 * 32) }
 {
     match factors.height() {
         0 => set_blocks::<0>(out, targets, factors, rows, sources, len),
@@ -123,7 +159,15 @@ fn sum_at(factors: &Factors, j: usize, rows: &Rows, sources: &[u8], column: usiz
 }
 
 /// Makes one column of the sums.
-fn set_column(out: &mut Rows, targets: &[u8], factors: &Factors, rows: &Rows, sources: &[u8], column: usize, len: usize)
+fn set_column(
+    out: &mut Rows,
+    targets: &[u8],
+    factors: &Factors,
+    rows: &Rows,
+    sources: &[u8],
+    column: usize,
+    len: usize,
+)
     requires few { (length targets.now ≤ 4) × (length sources.now ≤ 16) }
     requires height { length targets.now ≡ length factors.now }
     requires width { HaveLength (length sources.now) factors.now }
@@ -143,7 +187,15 @@ fn set_column(out: &mut Rows, targets: &[u8], factors: &Factors, rows: &Rows, so
 }
 
 /// Makes the columns of the sums from one on, where those before it are made.
-fn set_rest(out: &mut Rows, targets: &[u8], factors: &Factors, rows: &Rows, sources: &[u8], from: usize, len: usize)
+fn set_rest(
+    out: &mut Rows,
+    targets: &[u8],
+    factors: &Factors,
+    rows: &Rows,
+    sources: &[u8],
+    from: usize,
+    len: usize,
+)
     requires few { (length targets.now ≤ 4) × (length sources.now ≤ 16) }
     requires height { length targets.now ≡ length factors.now }
     requires width { HaveLength (length sources.now) factors.now }
@@ -175,8 +227,10 @@ impl Rows {
         requires lengths { HaveLength (length (row_at rows.now 0)) self.old }
         ensures count { length self.new ≡ length self.old }
         ensures lengths { HaveLength (length (row_at rows.now 0)) self.new }
-        ensures sums { AreCombinations factors.now (rows_at rows.now sources.now) (rows_at self.new targets.now) }
-        ensures others { (i : ℕ) → All (λ t. t ≢ i) targets.now → row_at self.new i ≡ row_at self.old i }
+        ensures sums { AreCombinations factors.now (rows_at rows.now sources.now)
+            (rows_at self.new targets.now) }
+        ensures others { (i : ℕ) → All (λ t. t ≢ i) targets.now
+            → row_at self.new i ≡ row_at self.old i }
     {
         let len = rows.row_len() as usize;
         set_whole_blocks(self, targets, factors, rows, sources, len);

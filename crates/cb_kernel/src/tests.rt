@@ -22,7 +22,13 @@ fn varied_bytes(alloc: Global, count: usize) -> Result<Vec<u8>, Fail> {
 }
 
 // The sums of two rows that begin at odd places of these bytes, beside the plain ones.
-fn expect_sums(rt: &impl Abort, alloc: Global, bytes: &[u8], c: u8, len: usize) -> Result<(), Fail> {
+fn expect_sums(
+    rt: &impl Abort,
+    alloc: Global,
+    bytes: &[u8],
+    c: u8,
+    len: usize,
+) -> Result<(), Fail> {
     assert!(rt; len <= 4097);
     assert!(rt; 131 + len <= bytes.len());
     let src = &bytes[1..1 + len];
