@@ -1,44 +1,68 @@
-/* The plain loop beside which bench/encode sets `encode`: four data rows of 4,096 bytes into two
- * parities, as often as the one argument says, by one look-up in a table of all products for each
- * byte and coefficient. It prints how many parities there were in all. */
+/* ISA-L's SSE encoder and memcpy, timed beside the program of crates/cb_bench by bench/encode. The
+ * words are k, r and how many slices of four calls are timed. It prints the least time of a call in
+ * nanoseconds: of the encoder, of the whole word from its last k rows, and of a copy of the data. */
+#include <isa-l/erasure_code.h>
 #include <stdint.h>
 #include <stdio.h>
 #include <stdlib.h>
+#include <string.h>
+#include <time.h>
 
-enum { DATA = 4, PARITIES = 2, BYTES = 4096 };
+enum { BYTES = 4096, MOST_DATA = 16, MOST_PARITIES = 4, CALLS = 4 };
 
-static uint8_t product[256][256];
-static uint8_t rows[DATA][BYTES];
-static uint8_t parities[PARITIES][BYTES];
-/* Any coefficients do for the time: a byte's product is one look-up whatever the factor is. */
-static const uint8_t coefficient[PARITIES][DATA] = {{0x1b, 0x1c, 0x12, 0x14}, {0x1c, 0x1b, 0x14, 0x12}};
+extern void ec_encode_data_sse(int len, int k, int rows, unsigned char *tables, unsigned char **data, unsigned char **coding);
 
-static uint8_t times(uint8_t a, uint8_t b) {
-    uint8_t sum = 0;
-    for (; b; b >>= 1, a = (uint8_t)(a << 1 ^ (a & 0x80 ? 0x1d : 0)))
-        if (b & 1) sum ^= a;
-    return sum;
+static uint64_t now(void) {
+    struct timespec t;
+    clock_gettime(CLOCK_MONOTONIC, &t);
+    return (uint64_t)t.tv_sec * 1000000000u + (uint64_t)t.tv_nsec;
+}
+
+/* The work of `solve`: the matrix of the lost rows, its tables, the lost rows, and the present rows. */
+static void solve(int k, int r, unsigned char *matrix, unsigned char **present, unsigned char **lost, unsigned char *word) {
+    unsigned char rows[MOST_DATA * MOST_DATA], inverse[MOST_DATA * MOST_DATA], tables[32 * MOST_DATA * MOST_PARITIES];
+    memcpy(rows, matrix + r * k, (size_t)k * (size_t)k);
+    gf_invert_matrix(rows, inverse, k);
+    ec_init_tables(k, r, inverse, tables);
+    ec_encode_data_sse(BYTES, k, r, tables, present, lost);
+    memcpy(word + r * BYTES, present[0], (size_t)k * BYTES);
 }
 
 int main(int argc, char **argv) {
-    unsigned long count = argc > 1 ? strtoul(argv[1], NULL, 10) : 1, made = 0;
-    for (int a = 0; a < 256; a++)
-        for (int b = 0; b < 256; b++) product[a][b] = times((uint8_t)a, (uint8_t)b);
-    /* The rows are written, so that the compiler does not take them for constants. */
-    for (int i = 0; i < DATA; i++)
-        for (int column = 0; column < BYTES; column++) rows[i][column] = (uint8_t)((i + argc) * column);
-    for (unsigned long n = 0; n < count; n++) {
-        for (int j = 0; j < PARITIES; j++) {
-            for (int column = 0; column < BYTES; column++) parities[j][column] = 0;
-            for (int i = 0; i < DATA; i++) {
-                const uint8_t *line = product[coefficient[j][i]];
-                for (int column = 0; column < BYTES; column++) parities[j][column] ^= line[rows[i][column]];
-            }
-            /* Keeps the compiler from leaving the work out. */
-            __asm__ volatile("" : : "r"(parities[j]) : "memory");
-            made++;
-        }
+    if (argc != 4) return 1;
+    int k = atoi(argv[1]), r = atoi(argv[2]), slices = atoi(argv[3]);
+    unsigned char *block = malloc(MOST_DATA * BYTES), *parities = malloc(MOST_PARITIES * BYTES);
+    unsigned char *copy = malloc(MOST_DATA * BYTES), *word = malloc((MOST_DATA + MOST_PARITIES) * BYTES);
+    unsigned char *data[MOST_DATA], *coding[MOST_PARITIES], *lost[MOST_PARITIES];
+    unsigned char matrix[(MOST_DATA + MOST_PARITIES) * MOST_DATA], tables[32 * MOST_DATA * MOST_PARITIES];
+    uint64_t seed = 88172645463325252u, encoded = UINT64_MAX, solved = UINT64_MAX, copied = UINT64_MAX;
+    if (!block || !parities || !copy || !word || k < 1 || k > MOST_DATA || r < 1 || r > MOST_PARITIES) return 1;
+    for (int i = 0; i < MOST_DATA * BYTES; i++) {
+        seed ^= seed << 13, seed ^= seed >> 7, seed ^= seed << 17;
+        block[i] = (unsigned char)(seed >> 56);
     }
-    printf("%lu\n", made);
+    for (int i = 0; i < k; i++) data[i] = block + i * BYTES;
+    for (int j = 0; j < r; j++) coding[j] = parities + j * BYTES, lost[j] = word + j * BYTES;
+    gf_gen_cauchy1_matrix(matrix, k + r, k);
+    ec_init_tables(k, r, matrix + k * k, tables);
+    for (int s = 0; s < slices; s++) {
+        uint64_t start = now();
+        for (int n = 0; n < CALLS; n++) ec_encode_data_sse(BYTES, k, r, tables, data, coding);
+        uint64_t taken = (now() - start) / CALLS;
+        if (taken < encoded) encoded = taken;
+        start = now();
+        for (int n = 0; n < CALLS; n++) solve(k, r, matrix, data, lost, word);
+        taken = (now() - start) / CALLS;
+        if (taken < solved) solved = taken;
+        start = now();
+        for (int n = 0; n < CALLS; n++) {
+            memcpy(copy, block, (size_t)k * BYTES);
+            /* Keeps the compiler from leaving the copy out. */
+            __asm__ volatile("" : : "r"(copy) : "memory");
+        }
+        taken = (now() - start) / CALLS;
+        if (taken < copied) copied = taken;
+    }
+    printf("%llu %llu %llu\n", (unsigned long long)encoded, (unsigned long long)solved, (unsigned long long)copied);
     return 0;
 }

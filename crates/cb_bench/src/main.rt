@@ -1,51 +1,158 @@
-//! Encodes the same rows again and again, for `bench/encode` to time: four data rows of 4,096 bytes
-//! into two parities, as often as the one word says. It prints how many parities there were in all.
+//! Times one operation of the code for `bench/encode`. The words are the operation (`encode`,
+//! `solve`
+//! or `check`), k, r and how many slices are timed. It prints the least time of a call in
+//! nanoseconds, over that many slices of four calls each, or 0 where no slice is asked for.
 #![tactic(auto)]
 
-ghost use Rattle.std.specs.Prelude.{◌≡◌, ◌*◌, IfOk};
+ghost use Rattle.std.specs.Prelude.{◌≡◌, ◌+◌, ◌≤◌, length, IfOk};
+ghost use Rattle.cb_gf256.specs.InRange.{IsInRange};
+ghost use Rattle.cb_gf256.specs.Positions.{ArePositions};
+ghost use Rattle.cb_gf256.specs.Rows.{HaveLength};
 
-use cb_code::{coefficients, encode};
+use cb_code::{coefficients, encode, syndromes_zero};
+use cb_erase::solve;
 use cb_gf256::{NoMemory, Rows};
 use std::alloc::Global;
 use std::process::ExitCode;
 use std::rt::Env;
+use std::time::Instant;
 use std::{env, io};
-
-const DATA_ROWS: u32 = 4;
-
-const PARITIES: u32 = 2;
 
 const ROW_BYTES: u32 = 4096;
 
-/// Encodes so many times, and answers the number of parities.
-fn encode_times(alloc: Global, times: u32) -> Result<u64, NoMemory>
-    ensures { IfOk result (λ parities. parities ≡ times * PARITIES) }
-{
-    let code = coefficients(DATA_ROWS, PARITIES);
-    let rows = Rows::new(alloc, DATA_ROWS, ROW_BYTES)?;
-    let mut parities = 0u64;
-    for _ in 0..times {
-        let encoded = encode(alloc, &code, &rows)?;
-        parities += u64::from(encoded.count());
-    }
-    Ok(parities)
+const CALLS_IN_A_SLICE: u64 = 4;
+
+/// What is timed.
+#[derive(Clone, Copy)]
+enum Operation {
+    /// Parities of k data rows.
+    Encode,
+    /// The word of the last k rows: r data rows are lost.
+    Solve,
+    /// The test of a code word.
+    Check,
 }
 
-/// The number of times that the words give: one number, and 1 where there is none.
-fn times_of<R: Env + AllocGlobal>(rt: &R) -> io::Result<u32> {
-    match env::args(rt)?.nth(1) {
-        Some(word) => Ok(word.as_str().parse::<u32>().unwrap_or(1)),
-        None => Ok(1),
+/// The next number of a sequence that looks random (Marsaglia 2003).
+fn next_drawn(seed: u64) -> u64 {
+    let a = seed ^ (seed << 13);
+    let b = a ^ (a >> 7);
+    b ^ (b << 17)
+}
+
+/// Fills a row with bytes that vary, and answers where the sequence goes on.
+fn fill(row: &mut [u8], first: u64) -> u64 {
+    let mut seed = first;
+    for byte in row {
+        seed = next_drawn(seed);
+        *byte = (seed >> 56) as u8;
+    }
+    seed
+}
+
+/// Rows of bytes that vary.
+fn varied_rows(alloc: Global, count: u32) -> Result<Rows, NoMemory>
+    ensures { IfOk result (λ rows. length rows ≡ count) }
+{
+    let mut rows = Rows::new(alloc, count, ROW_BYTES)?;
+    let mut seed = 88_172_645_463_325_252u64;
+    for i in 0..count {
+        seed = fill(rows.row_mut(i), seed);
+    }
+    Ok(rows)
+}
+
+/// All positions of the longest code.
+static POSITIONS: [u8; 20] = [
+    0, 1, 2, 3, 4, 5, 6, 7, 8, 9, 10, 11, 12, 13, 14, 15, 16, 17, 18, 19,
+];
+
+/// The last k positions.
+fn last_positions(k: u32, r: u32) -> &'static [u8]
+    requires { IsInRange k r }
+    ensures { ArePositions (k + r) k result.now }
+{
+    let all = POSITIONS.as_slice();
+    &all[r as usize..(k + r) as usize]
+}
+
+/// The least time of a call in nanoseconds. Each call's answer is counted, so that no call can be
+/// left out.
+fn least_time(
+    rt: &HostRuntime,
+    operation: Operation,
+    k: u32,
+    r: u32,
+    slices: u32,
+) -> io::Result<u64>
+    requires { IsInRange k r }
+{
+    let alloc = rt.alloc();
+    let Ok(given) = varied_rows(alloc, k) else {
+        return Err(io::Error::from(io::ErrorKind::OutOfMemory));
+    };
+    let Ok(broken) = varied_rows(alloc, k + r) else {
+        return Err(io::Error::from(io::ErrorKind::OutOfMemory));
+    };
+    let code = coefficients(k, r);
+    let present = last_positions(k, r);
+    let Ok(word) = solve(alloc, k, r, &broken, present) else {
+        return Err(io::Error::from(io::ErrorKind::OutOfMemory));
+    };
+    let mut least = u64::MAX;
+    let mut answers = 0u64;
+    for _ in 0..slices {
+        let start = Instant::now(rt)?;
+        for _ in 0..CALLS_IN_A_SLICE {
+            let answered = match operation {
+                Operation::Encode => encode(alloc, &code, &given).is_ok(),
+                Operation::Solve => solve(alloc, k, r, &broken, present).is_ok(),
+                Operation::Check => syndromes_zero(r, &word),
+            };
+            answers = answers.wrapping_add(u64::from(answered));
+        }
+        let nanoseconds = u64::try_from(start.elapsed(rt)?.as_nanos()).unwrap_or(u64::MAX);
+        least = least.min(nanoseconds / CALLS_IN_A_SLICE);
+    }
+    if slices == 0 || answers == 0 {
+        return Ok(0);
+    }
+    Ok(least)
+}
+
+/// The operation that a word names.
+fn operation_of(word: &str) -> Option<Operation> {
+    match word {
+        "encode" => Some(Operation::Encode),
+        "solve" => Some(Operation::Solve),
+        "check" => Some(Operation::Check),
+        _ => None,
+    }
+}
+
+/// The word at a place of the command line, as a number.
+fn number_at<R: Env + AllocGlobal>(rt: &R, place: usize) -> io::Result<u32> {
+    match env::args(rt)?.nth(place) {
+        Some(word) => Ok(word.as_str().parse::<u32>().unwrap_or(0)),
+        None => Ok(0),
     }
 }
 
 fn main(rt: HostRuntime) -> io::Result<ExitCode> {
-    let times = times_of(&rt)?;
-    match encode_times(rt.alloc(), times) {
-        Ok(parities) => {
-            println!(rt; "{parities}")?;
-            Ok(ExitCode::SUCCESS)
-        }
-        Err(NoMemory) => Ok(ExitCode::FAILURE),
+    let operation = match env::args(&rt)?.nth(1) {
+        Some(word) => operation_of(word.as_str()),
+        None => None,
+    };
+    let k = number_at(&rt, 2)?;
+    let r = number_at(&rt, 3)?;
+    let slices = number_at(&rt, 4)?;
+    let Some(operation) = operation else {
+        return Ok(ExitCode::FAILURE);
+    };
+    if k < 1 || k > 16 || r < 1 || r > 4 {
+        return Ok(ExitCode::FAILURE);
     }
+    let least = least_time(&rt, operation, k, r, slices)?;
+    println!(rt; "{least}")?;
+    Ok(ExitCode::SUCCESS)
 }

@@ -1,2 +1,3 @@
-pub mod Writes
 pub mod Tables
+pub mod Horner
+pub mod WorkedCode

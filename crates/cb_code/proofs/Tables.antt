@@ -10,8 +10,10 @@ use Rattle.cb_gf256.specs.Corner.{corner}
 use Rattle.cb_gf256.specs.InRange.{IsInRange}
 use Rattle.cb_gf256.specs.Combination.{AreCombinations}
 use Rattle.cb_gf256.specs.Lagrange.{IsLagrangeFactor, AreFactors}
-use Rattle.cb_gf256.proofs.PublicLaws.{sum_over_same, split_of_same, parities_split, sums_make_a_word, sums_are_bytes, words_that_agree, corner_count, corner_byte, corner_lengths, corner_bytes}
-use Rattle.cb_code.specs.Coefficients.{AreCoefficients}
+use Rattle.cb_gf256.proofs.PublicLaws.{sum_over_same, split_of_same, parities_split, sums_make_a_word, sums_are_bytes, words_that_agree, corner_count, corner_byte, corner_lengths, corner_bytes, unit_rows, column_rows, unit_rows_count, unit_rows_are_rows, unit_combinations, column_rows_are_bytes, same_columns}
+use Rattle.cb_gf256.specs.Rows.{rows_at}
+use Rattle.cb_gf256.proofs.PublicLaws.{all_rows}
+use Rattle.cb_code.specs.Coefficients.{AreCoefficients, IsCode}
 
 -- ---- a code word of data rows and parities
 byte_at-front : (rows sums : List (List ℕ)) (i column : ℕ) → i < length rows → byte_at (rows ++ sums) i column ≡ byte_at rows i column
@@ -80,3 +82,33 @@ fits table rows h range width =
 pub only_coded : (table rows sums others : List (List ℕ)) → AreCoefficients (length rows) (length table) table → IsInRange (length rows) (length table) → AreRows rows → AreCombinations table rows sums → HoldBytes others → IsCodeWord (length rows) (length table) (rows ++ others) → others ≡ sums
 only_coded table rows sums others h range bytes made other_bytes other =
     only_parities (length rows) (length table) rows sums others range refl bytes (sums_are_bytes table rows sums h.bytes h.positions bytes made) (h.make_words rows sums refl bytes made) other_bytes other
+
+-- the sums of all rows, in all rows
+pub combinations_of_all : (table factors rows sums : List (List ℕ)) (targets sources : List ℕ) → table ≡ factors → length targets ≡ length sums → ((i : ℕ) → i < length sums → get_or targets i 0 ≡ i)
+    → length sources ≡ length rows → ((i : ℕ) → i < length rows → get_or sources i 0 ≡ i) → AreCombinations factors (rows_at rows sources) (rows_at sums targets) → AreCombinations table rows sums
+combinations_of_all table factors rows sums targets sources same tc ta sc sa h =
+    subst (λ t. AreCombinations t rows sums) (sym same)
+    (subst (λ shown. AreCombinations factors shown sums) (all_rows rows sources sc sa)
+    (subst (λ made. AreCombinations factors (rows_at rows sources) made) (all_rows sums targets tc ta) h))
+
+-- a table of coefficients is that of the code that its size tells
+pub is_code : (k r : ℕ) (table : List (List ℕ)) → IsInRange k r → AreCoefficients k r table → IsCode table
+is_code k r table range h =
+    let width : length (row_at table 0) ≡ k = h.positions 0 [] (omega (arith, h.parities, range.parities_least)) in
+    record {
+      in_range = subst (λ n. IsInRange (length (row_at table 0)) n) (sym h.parities) (subst (λ n. IsInRange n r) (sym width) range);
+      coefficients = subst (λ n. AreCoefficients (length (row_at table 0)) n table) (sym h.parities) (subst (λ n. AreCoefficients n r table) (sym width) h);
+    }
+
+-- ---- the one table
+pub one_table : (k r : ℕ) (a b : List (List ℕ)) → IsInRange k r → AreCoefficients k r a → AreCoefficients k r b → a ≡ b
+one_table k r a b range ha hb =
+    same_columns k a b (ha.parities ∙ sym hb.parities) ha.positions hb.positions (λ i inside.
+    let rows = unit_rows k i in
+    let count : length rows ≡ k = unit_rows_count k i in
+    let are_rows : AreRows rows = unit_rows_are_rows k i in
+    let ma : AreCombinations a rows (column_rows a i) = unit_combinations k i a inside ha.positions ha.bytes in
+    let mb : AreCombinations b rows (column_rows b i) = unit_combinations k i b inside hb.positions hb.bytes in
+    only_parities k r rows (column_rows b i) (column_rows a i) range count are_rows
+    (column_rows_are_bytes k i b inside hb.positions hb.bytes) (hb.make_words rows (column_rows b i) count are_rows mb)
+    (column_rows_are_bytes k i a inside ha.positions ha.bytes) (ha.make_words rows (column_rows a i) count are_rows ma))

@@ -5,28 +5,25 @@ ghost use Rattle.cb_gf256.specs.Lagrange.{IsLagrangeFactor};
 ghost use Rattle.cb_gf256.specs.InRange.{IsInRange};
 ghost use Rattle.cb_code.specs.Coefficients.{AreCoefficients};
 
-use cb_gf256::lagrange_factor;
+use cb_gf256::{Factors, lagrange_factor};
 use std::marker::Model;
 
-/// The coefficients of a code: parity j is the sum over the data positions i of `at(j, i)` times data row i.
+/// The coefficients of a code: parity j is the sum over the data positions i of `at(j, i)` times
+/// data row i.
 #[derive(Debug, Drop)]
 pub struct Coeffs {
-    table: [[u8; 16]; 4],
-    k: u32,
-    r: u32,
+    factors: Factors,
 }
 
 impl Model for Coeffs {
     ghost use Rattle.std.specs.Prelude.{ℕ, List};
-    ghost use Rattle.cb_gf256.specs.Corner.{corner};
-    ghost use Rattle.cb_gf256.specs.InRange.{IsInRange};
-    ghost use Rattle.cb_code.specs.Coefficients.{AreCoefficients};
+    ghost use Rattle.cb_code.specs.Coefficients.{IsCode};
 
     ghost Value = { List (List ℕ) };
 
-    ghost view = { λ c. corner c.k c.r c.table };
+    ghost view = { λ c. c.factors };
 
-    ghost invariant = { λ c. IsInRange c.k c.r × AreCoefficients c.k c.r (corner c.k c.r c.table) };
+    ghost invariant = { λ c. IsCode c.factors };
 }
 
 /// The coefficients of the code with `k` data rows (1 to 16) and `r` parities (1 to 4).
@@ -40,7 +37,8 @@ pub fn coefficients(k: u32, r: u32) -> Coeffs
     for j in 0..r as usize {
         table[j] = coefficient_row(k, lost, j);
     }
-    Coeffs { table, k, r }
+    let factors = Factors::of_table(&table, k, r);
+    Coeffs { factors }
 }
 
 /// The positions of the parities, in the first `r` places.
@@ -56,14 +54,17 @@ fn parity_positions(k: u32, r: u32) -> [u8; 4]
     positions
 }
 
-/// The coefficients of the parity at `lost[j]`, in the first `k` places: Lagrange's factors of the data positions.
+/// The coefficients of the parity at `lost[j]`, in the first `k` places: Lagrange's factors of
+/// the data positions.
 fn coefficient_row(k: u32, lost: &[u8], j: usize) -> [u8; 16]
     requires data { k ≤ 16 }
     requires ascending { IsStrictlyIncreasing lost.now }
     requires below { All (λ m. m < 255) lost.now }
     requires within { j < length lost.now }
     ensures size { length result ≡ 16 }
-    ensures factors { (i : ℕ) → i < k → IsLagrangeFactor (length lost.now) (λ m. slice_index lost.now m) j i (slice_index result i) }
+    ensures factors { (i : ℕ) → i < k
+        → IsLagrangeFactor (length lost.now) (λ m. slice_index lost.now m) j i
+            (slice_index result i) }
 {
     let mut row = [0; 16];
     for i in 0..k {
@@ -79,15 +80,23 @@ impl Coeffs {
         requires position { position < length (row_at self.now parity) }
         ensures { result ≡ byte_at self.now parity position }
     {
-        self.table[parity as usize][position as usize]
+        self.factors.at(parity, position)
     }
 
     /// How many parities there are.
     pub fn parities(&self) -> u32
         ensures count { result ≡ length self.now }
-        ensures coefficients { AreCoefficients (length (row_at self.now 0)) (length self.now) self.now }
+        ensures coefficients { AreCoefficients (length (row_at self.now 0))
+            (length self.now) self.now }
         ensures in_range { IsInRange (length (row_at self.now 0)) (length self.now) }
     {
-        self.r
+        self.factors.height()
+    }
+
+    /// The coefficients with their products.
+    pub(crate) fn factors(&self) -> &Factors
+        ensures { result.now ≡ self.now }
+    {
+        &self.factors
     }
 }

@@ -1,12 +1,15 @@
-//! The systematic Reed-Solomon code over GF(256): its coefficients, the parities of data rows, and the test of a code word.
+//! The systematic Reed-Solomon code over GF(256): its coefficients, the parities of data rows,
+//! and the test of a code word.
 #![tactic(auto)]
 
 mod coeffs;
 mod encoding;
+mod laws;
 mod syndromes;
 #[cfg(test)]
 mod tests;
 
 pub use coeffs::{Coeffs, coefficients};
 pub use encoding::encode;
+pub use laws::coefficient_laws;
 pub use syndromes::syndromes_zero;

@@ -7,16 +7,16 @@ use std::alloc::Global;
 use std::process::Abort;
 use std::test::Fail;
 
-// Rows of one byte each.
+// Rows of 33 bytes each, all the same: a block and a rest.
 #[tactic(auto, using(cb_gf256::proofs::PublicLaws::written_rows))]
 fn column_of(alloc: Global, bytes: &[u8]) -> Result<Rows, NoMemory>
     requires { length bytes.now < 2 ^ 32 }
     ensures count { IfOk result (λ rows. length rows ≡ length bytes.now) }
-    ensures lengths { IfOk result (λ rows. HaveLength 1 rows) }
+    ensures lengths { IfOk result (λ rows. HaveLength 33 rows) }
 {
-    let mut rows = Rows::new(alloc, bytes.len() as u32, 1)?;
+    let mut rows = Rows::new(alloc, bytes.len() as u32, 33)?;
     for (i, byte) in bytes.iter().enumerate() {
-        xor_row(rows.row_mut(i as u32), &[*byte]);
+        xor_row(rows.row_mut(i as u32), &[*byte; 33]);
     }
     Ok(rows)
 }
@@ -34,7 +34,7 @@ fn expect_word(rt: &impl Abort, alloc: Global, k: u32, r: u32, word: &[u8]) -> R
     for j in 0..r {
         assert_eq!(rt;
             parities.row(j),
-            [word[(k + j) as usize]].as_slice(),
+            [word[(k + j) as usize]; 33].as_slice(),
             "parity {j} of {word:?}"
         );
     }
@@ -42,7 +42,8 @@ fn expect_word(rt: &impl Abort, alloc: Global, k: u32, r: u32, word: &[u8]) -> R
     Ok(())
 }
 
-// The vectors were made by an independent implementation. The first word for k = 2 and r = 2 can be checked by hand:
+// The vectors were made by an independent implementation. The first word for k = 2 and r = 2 can
+// be checked by hand:
 // 01 + C8 + C9 = 00, and 01 + 04*C8 + 08*C9 = 01 + 07 + 06 = 00.
 #[test]
 fn data_encode_to_the_parities_of_others(rt: HostRuntime) -> Result<(), Fail> {

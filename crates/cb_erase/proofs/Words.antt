@@ -1,26 +1,23 @@
 -- The filled table is the table of weights: it restores code words, and makes code words of any present rows.
-use Rattle.std.proofs.Common.{◌≡◌, ℕ, ◌+◌, ◌<◌, ◌≤◌, ◌==◌, if◌then◌else◌, List, [], length, get_or, All, refl, sym, ap, subst, ◌∙◌, ⊎_elim, arith, cond}
+use Rattle.std.proofs.Common.{◌≡◌, ◌≢◌, ℕ, ◌+◌, ◌<◌, ◌≤◌, ◌==◌, if◌then◌else◌, List, [], length, get_or, All, refl, sym, ap, subst, ◌∙◌, ⊎_elim, arith, cond}
 use Rattle.std.proofs.lemmas.Bool.{cases_eq, eq-eqb, ne_eqb}
-use Rattle.std.proofs.lemmas.List.{same_lists, get_or_default, get_or-map, length-map}
+use Rattle.std.proofs.lemmas.List.{same_lists, get_or_default, get_or-map, length-map, ext_get_or}
 use Rattle.std.proofs.lemmas.Grind.{same_number_lists}
 use Rattle.cb_gf256.specs.Sum.{sum_over}
 use Rattle.cb_gf256.specs.Product.{◌⊗◌}
-use Rattle.cb_gf256.specs.Rows.{row_at, byte_at, HaveLength, HoldBytes, AreRows}
+use Rattle.cb_gf256.specs.Rows.{row_at, rows_at, byte_at, HaveLength, HoldBytes, AreRows}
 use Rattle.cb_gf256.specs.CodeWord.{IsCodeWord}
 use Rattle.cb_gf256.specs.InRange.{IsInRange}
 use Rattle.cb_gf256.specs.Positions.{ArePositions}
-use Rattle.cb_gf256.specs.Combination.{combination, AreCombinations, ArePartCombinations}
+use Rattle.cb_gf256.specs.Combination.{combination, AreCombinations}
 use Rattle.cb_gf256.specs.Corner.{corner}
 use Rattle.cb_gf256.specs.Lagrange.{IsLagrangeFactor, AreFactors}
 use Rattle.cb_gf256.specs.Split.{Splits}
-use Rattle.cb_gf256.proofs.PublicLaws.{zero_with_product, one_with_product, sum_over_same, sum_over_one_term, sums_make_a_word, lost_rows_are_sums, sums_are_bytes, agreeing_words_are_equal, combinations_all, corner_count, corner_byte, corner_lengths, corner_bytes}
-use Rattle.cb_erase.specs.Weights.{rows_at, IsSolution, AreWeights}
+use Rattle.cb_gf256.proofs.PublicLaws.{zero_with_product, one_with_product, sum_over_same, sum_over_one_term, sums_make_a_word, lost_rows_are_sums, sums_are_bytes, agreeing_words_are_equal, corner_count, corner_byte, corner_lengths, corner_bytes, row_at_positions as row_at-rows_at, unit_rows, column_rows, unit_rows_count, unit_rows_are_rows, unit_combinations, column_rows_are_bytes, same_columns}
+use Rattle.cb_erase.specs.Weights.{IsSolution, AreWeights}
 use Rattle.cb_erase.proofs.Tables.{Filled}
 
 -- ---- the present rows
-pub row_at-rows_at : (rows : List (List ℕ)) (present : List ℕ) (i : ℕ) → i < length present → row_at (rows_at rows present) i ≡ row_at rows (get_or present i 0)
-row_at-rows_at rows present i l = get_or-map (row_at rows) present i 0 [] l
-
 pub HaveLength-rows_at : (len : ℕ) (rows : List (List ℕ)) (present : List ℕ) → All (λ p. p < length rows) present → HaveLength len rows → HaveLength len (rows_at rows present)
 HaveLength-rows_at len rows present below h i d l =
     let within : i < length present = omega (arith, length-map present (row_at rows)) in
@@ -168,28 +165,103 @@ weights_of k r present lost table h = record {
   solve = λ shown word count are_rows made. solved k r present lost table shown word h count are_rows made;
 }
 
+-- ---- the word that `solve` makes
+-- the lost rows of the word are sums of the present rows, each times its factor, and the present rows are those that were given
+pub record IsMade (k r : ℕ) (present lost : List ℕ) (table rows word : List (List ℕ)) : Type 0 where
+  pub range : IsInRange k r
+  pub positions : ArePositions (k + r) k present
+  pub lost_count : length lost ≡ r
+  pub split : Splits (k + r) k r (λ i. get_or present i 0) (λ e. get_or lost e 0)
+  pub factors : AreFactors k r (λ i. get_or present i 0) (λ e. get_or lost e 0) (byte_at table)
+  pub height : length table ≡ r
+  pub width : HaveLength k table
+  pub rows_count : length rows ≡ k + r
+  pub are_rows : AreRows rows
+  pub count : length word ≡ k + r
+  pub lengths : HaveLength (length (row_at rows 0)) word
+  pub sums : AreCombinations table (rows_at rows present) (rows_at word lost)
+  pub others : (i : ℕ) → All (λ t. t ≢ i) lost → row_at word i ≡ row_at rows i
+
+-- a present row is kept
+kept_row : (k r : ℕ) (present lost : List ℕ) (table rows word : List (List ℕ)) → IsMade k r present lost table rows word → (i : ℕ) → i < k → row_at word (get_or present i 0) ≡ row_at rows (get_or present i 0)
+kept_row k r present lost table rows word h i l =
+    h.others (get_or present i 0)
+    (λ e d m same. h.split.apart i e l (omega (arith, h.lost_count)) (sym same ∙ get_or_default lost e d 0 m))
+
+pub made_solution : (k r : ℕ) (present lost : List ℕ) (table rows word : List (List ℕ)) → IsMade k r present lost table rows word → IsSolution k r present (rows_at rows present) word
+made_solution k r present lost table rows word h =
+    let len = length (row_at rows 0) in
+    let first : length (row_at (rows_at rows present) 0) ≡ len =
+    HaveLength-rows_at len rows present (λ i d l. omega (arith, h.positions.below i d l, h.rows_count)) h.are_rows.equal_lengths 0 [] (omega (arith, length-map present (row_at rows), h.positions.count, h.range.data_least)) in
+    record {
+      is_word =
+          sums_make_a_word k r len word (λ i. get_or present i 0) (λ e. get_or lost e 0) (byte_at table)
+          (omega (arith, h.range.data_most, h.range.parities_most)) (omega (arith, h.range.data_least)) h.split h.factors h.count h.lengths
+          (λ i column l m.
+          let p = get_or present i 0 in
+          let within : p < length rows = omega (arith, h.split.present_below i l, h.rows_count) in
+          omega (arith, ap (λ row. get_or row column 0) (kept_row k r present lost table rows word h i l), h.are_rows.bytes p [] within column 0 (omega (arith, h.are_rows.equal_lengths p [] within))))
+          (λ e column l m.
+          let own : e < length lost = omega (arith, h.lost_count) in
+          let wide : length (row_at table e) ≡ k = h.width e [] (omega (arith, h.height)) in
+          ap (λ row. get_or row column 0) (sym (row_at-rows_at word lost e own))
+          ∙ h.sums.values e column (omega (arith, h.height)) (omega arith)
+          ∙ combination-rows_at k table rows present e column h.positions.count wide
+          ∙ sum_over_same k (λ i. byte_at table e i ⊗ byte_at rows (get_or present i 0) column) (λ i. byte_at table e i ⊗ byte_at word (get_or present i 0) column)
+            (λ i q. ap (λ row. byte_at table e i ⊗ get_or row column 0) (sym (kept_row k r present lost table rows word h i q))));
+      agrees =
+          ext_get_or [] (rows_at word present) (rows_at rows present) (length-map present (row_at word) ∙ sym (length-map present (row_at rows)))
+          (λ i l.
+          let own : i < length present = omega (arith, length-map present (row_at word)) in
+          row_at-rows_at word present i own ∙ kept_row k r present lost table rows word h i (omega (arith, h.positions.count)) ∙ sym (row_at-rows_at rows present i own));
+    }
+
+-- its rows are bytes
+factors_are_bytes : (k r : ℕ) (present lost : List ℕ) (table rows word : List (List ℕ)) → IsMade k r present lost table rows word → HoldBytes table
+factors_are_bytes k r present lost table rows word h e d l i z m =
+    let same : get_or table e d ≡ row_at table e = get_or_default table e d [] l in
+    let wide : i < k = omega (arith, ap length same, h.width e [] l) in
+    omega (arith, ap (λ row. get_or row i z) same, get_or_default (row_at table e) i z 0 (omega (arith, ap length same)), (h.factors.factor e i (omega (arith, h.height)) wide).byte)
+
+made_bytes : (k r : ℕ) (present lost : List ℕ) (table rows word : List (List ℕ)) → IsMade k r present lost table rows word → HoldBytes word
+made_bytes k r present lost table rows word h p d l column z m =
+    let below : All (λ q. q < length rows) present = λ i e q. omega (arith, h.positions.below i e q, h.rows_count) in
+    let shown_count : length (rows_at rows present) ≡ k = length-map present (row_at rows) ∙ h.positions.count in
+    let sums : HoldBytes (rows_at word lost) =
+    sums_are_bytes table (rows_at rows present) (rows_at word lost) (factors_are_bytes k r present lost table rows word h) (λ i e q. h.width i e q ∙ sym shown_count) (AreRows-rows_at rows present below h.are_rows) h.sums in
+    let own : get_or word p d ≡ row_at word p = get_or_default word p d [] l in
+    ⊎_elim
+    (λ (i, q, e).
+    let kept : row_at word p ≡ row_at rows p = subst (λ x. row_at word x ≡ row_at rows x) e (kept_row k r present lost table rows word h i q) in
+    omega (arith, ap (λ row. get_or row column z) (own ∙ kept), h.are_rows.bytes p [] (omega (arith, h.count, h.rows_count)) column z (omega (arith, ap length (own ∙ kept)))))
+    (λ (x, q, e).
+    let in_lost : x < length lost = omega (arith, h.lost_count) in
+    let made : row_at word p ≡ row_at (rows_at word lost) x = ap (row_at word) (sym e) ∙ sym (row_at-rows_at word lost x in_lost) in
+    omega (arith, ap (λ row. get_or row column z) (own ∙ made), sums x [] (omega (arith, length-map lost (row_at word))) column z (omega (arith, ap length (own ∙ made)))))
+    (h.split.covers p (omega (arith, h.count)))
+
 -- ---- the only solution
-pub only_solution : (k r : ℕ) (present : List ℕ) (table shown word other : List (List ℕ)) → IsInRange k r → ArePositions (k + r) k present → AreWeights k r present table → length shown ≡ k → AreRows shown → AreCombinations table shown word → HoldBytes other → IsSolution k r present shown other → other ≡ word
-only_solution k r present table shown word other range positions weights count are_rows made bytes solution =
-    let own = weights.solve shown word count are_rows made in
-    let width : HaveLength (length shown) table = λ j d l. weights.factors j d l ∙ sym count in
-    agreeing_words_are_equal k r other word present (omega (arith, range.data_most, range.parities_most)) (omega (arith, range.data_least)) positions
-    solution.is_word bytes own.is_word (sums_are_bytes table shown word weights.bytes width are_rows made)
+pub only_solution : (k r : ℕ) (present lost : List ℕ) (table rows word other : List (List ℕ)) → IsMade k r present lost table rows word → HoldBytes other
+    → IsSolution k r present (rows_at rows present) other → other ≡ word
+only_solution k r present lost table rows word other h bytes solution =
+    let own = made_solution k r present lost table rows word h in
+    agreeing_words_are_equal k r other word present (omega (arith, h.range.data_most, h.range.parities_most)) (omega (arith, h.range.data_least)) h.positions
+    solution.is_word bytes own.is_word (made_bytes k r present lost table rows word h)
     (λ i d l.
     subst (λ p. row_at other p ≡ row_at word p) (get_or_default present i 0 d l)
     (sym (row_at-rows_at other present i l) ∙ ap (λ rows. row_at rows i) (solution.agrees ∙ sym own.agrees) ∙ row_at-rows_at word present i l))
 
--- ---- the rows that `solve` makes
--- the present rows are k rows of bytes
-pub shown_rows : (k r : ℕ) (present : List ℕ) (rows : List (List ℕ)) → ArePositions (k + r) k present → length rows ≡ k + r → AreRows rows → (length (rows_at rows present) ≡ k) × AreRows (rows_at rows present)
-shown_rows k r present rows positions count are_rows = (
-  length-map present (row_at rows) ∙ positions.count,
-  AreRows-rows_at rows present (λ i d l. omega (arith, positions.below i d l)) are_rows,
-)
-
--- all rows of the word are made
-pub all_made : (k r : ℕ) (present : List ℕ) (table rows word : List (List ℕ)) (len p : ℕ) → IsInRange k r → ArePositions (k + r) k present → AreWeights k r present table → length rows ≡ k + r → HaveLength len rows → ArePartCombinations len table (rows_at rows present) word p → k + r ≤ p → AreCombinations table (rows_at rows present) word
-all_made k r present table rows word len p range positions weights count lengths made all =
-    let below : All (λ q. q < length rows) present = λ i d l. omega (arith, positions.below i d l) in
-    combinations_all len table (rows_at rows present) word p made (omega (arith, weights.positions))
-    (HaveLength-rows_at len rows present below lengths 0 [] (omega (arith, length-map present (row_at rows), positions.count, range.data_least)))
+-- ---- the one table of weights
+pub one_table : (k r : ℕ) (present : List ℕ) (a b : List (List ℕ)) → IsInRange k r → ArePositions (k + r) k present → AreWeights k r present a → AreWeights k r present b → a ≡ b
+one_table k r present a b range positions ha hb =
+    same_columns k a b (ha.positions ∙ sym hb.positions) ha.factors hb.factors (λ i inside.
+    let rows = unit_rows k i in
+    let count : length rows ≡ k = unit_rows_count k i in
+    let are_rows : AreRows rows = unit_rows_are_rows k i in
+    let sa = ha.solve rows (column_rows a i) count are_rows (unit_combinations k i a inside ha.factors ha.bytes) in
+    let sb = hb.solve rows (column_rows b i) count are_rows (unit_combinations k i b inside hb.factors hb.bytes) in
+    agreeing_words_are_equal k r (column_rows a i) (column_rows b i) present (omega (arith, range.data_most, range.parities_most)) (omega (arith, range.data_least)) positions
+    sa.is_word (column_rows_are_bytes k i a inside ha.factors ha.bytes) sb.is_word (column_rows_are_bytes k i b inside hb.factors hb.bytes)
+    (λ m d l.
+    subst (λ p. row_at (column_rows a i) p ≡ row_at (column_rows b i) p) (get_or_default present m 0 d l)
+    (sym (row_at-rows_at (column_rows a i) present m l) ∙ ap (λ x. row_at x m) (sa.agrees ∙ sym sb.agrees) ∙ row_at-rows_at (column_rows b i) present m l)))

@@ -1,6 +1,7 @@
 //! Erasures of the Reed-Solomon code over GF(256): any k rows of a code word give the others.
 #![tactic(auto)]
 
+mod laws;
 mod lost;
 mod solving;
 mod table;
@@ -8,6 +9,7 @@ mod table;
 mod tests;
 mod weighing;
 
+pub use laws::weight_laws;
 pub use solving::solve;
 pub use table::Weights;
 pub use weighing::weights;

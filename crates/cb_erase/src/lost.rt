@@ -8,7 +8,8 @@ pub fn lost_positions(k: u32, r: u32, present: &[u8]) -> [u8; 4]
     requires in_range { IsInRange k r }
     requires positions { ArePositions (k + r) k present.now }
     ensures size { length result ≡ 4 }
-    ensures split { Splits (k + r) k r (λ i. slice_index present.now i) (λ e. slice_index result e) }
+    ensures split { Splits (k + r) k r (λ i. slice_index present.now i)
+        (λ e. slice_index result e) }
 {
     let mut lost = [0; 4];
     let mut seen = 0;

@@ -1,47 +1,50 @@
-ghost use Rattle.std.specs.Prelude.{◌≡◌, ℕ, ◌+◌, ◌^◌, ◌<◌, List, length, All, IfOk, slice_index};
-ghost use Rattle.cb_gf256.specs.Sum.{◌⊕◌};
-ghost use Rattle.cb_gf256.specs.Rows.{row_at, HaveLength, HoldBytes, AreRows};
+ghost use Rattle.std.specs.Prelude.{◌≡◌, ℕ, ◌+◌, ◌<◌, List, length, All, IfOk, slice_index};
+ghost use Rattle.std.specs.List.Sorted.{IsStrictlyIncreasing};
+ghost use Rattle.cb_gf256.specs.Rows.{rows_at, byte_at, HaveLength, HoldBytes};
 ghost use Rattle.cb_gf256.specs.InRange.{IsInRange};
 ghost use Rattle.cb_gf256.specs.Positions.{ArePositions};
-ghost use Rattle.cb_gf256.specs.Combination.{combination};
-ghost use Rattle.cb_erase.specs.Weights.{rows_at, IsSolution, AreWeights};
+ghost use Rattle.cb_gf256.specs.Lagrange.{AreFactors};
+ghost use Rattle.cb_erase.specs.Weights.{IsSolution};
 
-use crate::{Weights, weights};
-use cb_gf256::{NoMemory, Rows, axpy_row};
+use crate::lost::lost_positions;
+use crate::weighing::factor_row;
+use cb_gf256::{Factors, NoMemory, Rows};
 use std::alloc::Global;
 
-/// The code word that agrees with the rows at the `k` positions `present`; the other rows are not read. The only error is want of memory.
+/// The code word that agrees with the rows at the `k` positions `present`; what the other rows
+/// hold does not matter. The only error is want of memory.
 pub fn solve(alloc: Global, k: u32, r: u32, rows: &Rows, present: &[u8]) -> Result<Rows, NoMemory>
     requires in_range { IsInRange k r }
     requires positions { ArePositions (k + r) k present.now }
     requires count { length rows.now ≡ k + r }
-    ensures solution { IfOk result (λ word. IsSolution k r present.now (rows_at rows.now present.now) word) }
+    ensures solution { IfOk result (λ word. IsSolution k r present.now
+        (rows_at rows.now present.now) word) }
     ensures only { IfOk result (λ word. (other : List (List ℕ)) → HoldBytes other
         → IsSolution k r present.now (rows_at rows.now present.now) other → other ≡ word) }
 {
-    let w = weights(k, r, present);
-    let len = rows.row_len();
-    let mut word = Rows::new(alloc, k + r, len)?;
-    for p in 0..k + r {
-        add_sum(word.row_mut(p), &w, p, rows, present);
-    }
+    let positions = lost_positions(k, r, present);
+    let lost = &positions[..r as usize];
+    let factors = lost_factors(k, r, present, lost);
+    let mut word = rows.copy(alloc)?;
+    word.set_sums(lost, &factors, rows, present);
     Ok(word)
 }
 
-/// Adds to `row` the sum of the present rows, each times its weight for the position `p`.
-fn add_sum(row: &mut [u8], w: &Weights, p: u32, rows: &Rows, present: &[u8])
-    requires index { p < length w.now }
-    requires some { 0 < length present.now }
-    requires width { HaveLength (length present.now) w.now }
-    requires below { All (λ q. q < length rows.now) present.now }
-    requires few { length present.now < 2 ^ 32 }
-    requires lengths { HaveLength (length row.old) rows.now }
-    ensures length { length row.new ≡ length row.old }
-    ensures bytes { (column : ℕ) → column < length row.old
-        → slice_index row.new column ≡ slice_index row.old column ⊕ combination (row_at w.now p) (rows_at rows.now present.now) column }
-    ensures rows { AreRows rows.now }
+/// The factors of the present rows in the lost ones: row e is for the row at `lost[e]`.
+fn lost_factors(k: u32, r: u32, present: &[u8], lost: &[u8]) -> Factors
+    requires in_range { IsInRange k r }
+    requires present { length present.now ≡ k }
+    requires lost { length lost.now ≡ r }
+    requires ascending { IsStrictlyIncreasing lost.now }
+    requires below { All (λ m. m < 255) lost.now }
+    ensures height { length result ≡ r }
+    ensures width { HaveLength k result }
+    ensures factors { AreFactors k r (λ i. slice_index present.now i)
+        (λ e. slice_index lost.now e) (byte_at result) }
 {
-    for (i, position) in present.iter().enumerate() {
-        axpy_row(row, w.at(p, i as u32), rows.row(u32::from(*position)));
+    let mut table = [[0; 16]; 4];
+    for e in 0..lost.len() {
+        table[e] = factor_row(present, lost, e);
     }
+    Factors::of_table(&table, k, r)
 }

@@ -4,7 +4,8 @@ ghost use Rattle.cb_gf256.specs.Rows.{row_at, byte_at};
 
 use std::marker::Model;
 
-/// The factors of a word's present rows: the row at position p is the sum over i of `at(p, i)` times the present row i.
+/// The factors of a word's present rows: the row at position p is the sum over i of `at(p, i)`
+/// times the present row i.
 #[derive(Debug, Drop)]
 pub struct Weights {
     table: [[u8; 16]; 20],

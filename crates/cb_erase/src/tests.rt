@@ -9,16 +9,16 @@ use std::alloc::Global;
 use std::process::Abort;
 use std::test::Fail;
 
-// Rows of one byte each.
+// Rows of 33 bytes each, all the same: a block and a rest.
 #[tactic(auto, using(cb_gf256::proofs::PublicLaws::written_rows))]
 fn column_of(alloc: Global, bytes: &[u8]) -> Result<Rows, NoMemory>
     requires { length bytes.now < 2 ^ 32 }
     ensures count { IfOk result (λ rows. length rows ≡ length bytes.now) }
-    ensures lengths { IfOk result (λ rows. HaveLength 1 rows) }
+    ensures lengths { IfOk result (λ rows. HaveLength 33 rows) }
 {
-    let mut rows = Rows::new(alloc, bytes.len() as u32, 1)?;
+    let mut rows = Rows::new(alloc, bytes.len() as u32, 33)?;
     for (i, byte) in bytes.iter().enumerate() {
-        xor_row(rows.row_mut(i as u32), &[*byte]);
+        xor_row(rows.row_mut(i as u32), &[*byte; 33]);
     }
     Ok(rows)
 }
@@ -61,14 +61,15 @@ fn expect_solution(
     for p in 0..k + r {
         assert_eq!(rt;
             word.row(p),
-            [solution[p as usize]].as_slice(),
+            [solution[p as usize]; 33].as_slice(),
             "position {p} of {solution:?}"
         );
     }
     Ok(())
 }
 
-// The vectors were made by an independent implementation: erasures of its words, where a lost row is 0 here, and random rows.
+// The vectors were made by an independent implementation: erasures of its words, where a lost row
+// is 0 here, and random rows.
 // In the last three each pair of positions is left out of the word 01, 00, C8, C9.
 #[test]
 fn solutions_are_those_of_others(rt: HostRuntime) -> Result<(), Fail> {

@@ -1,4 +1,5 @@
-ghost use Rattle.std.specs.Prelude.{◌≡◌, ℕ, ◌+◌, ◌<◌, ◌≤◌, ◌==◌, if◌then◌else◌, length, All, slice_index};
+ghost use Rattle.std.specs.Prelude.{◌≡◌, ℕ, ◌+◌, ◌<◌, ◌≤◌};
+ghost use Rattle.std.specs.Prelude.{◌==◌, if◌then◌else◌, length, All, slice_index};
 ghost use Rattle.std.specs.List.Sorted.{IsStrictlyIncreasing};
 ghost use Rattle.cb_gf256.specs.Rows.{byte_at, HaveLength};
 ghost use Rattle.cb_gf256.specs.InRange.{IsInRange};
@@ -10,7 +11,8 @@ use crate::Weights;
 use crate::lost::lost_positions;
 use cb_gf256::lagrange_factor;
 
-/// The weights of the code with `k` data rows (1 to 16) and `r` parities (1 to 4), where the rows at the `k` positions `present` are there.
+/// The weights of the code with `k` data rows (1 to 16) and `r` parities (1 to 4), where the rows
+/// at the `k` positions `present` are there.
 pub fn weights(k: u32, r: u32, present: &[u8]) -> Weights
     requires in_range { IsInRange k r }
     requires positions { ArePositions (k + r) k present.now }
@@ -32,7 +34,8 @@ fn unit_rows(present: &[u8]) -> [[u8; 16]; 20]
     requires below { All (λ p. p < 20) present.now }
     ensures height { length result ≡ 20 }
     ensures width { HaveLength 16 result }
-    ensures units { (i j : ℕ) → i < length present.now → j < 16 → byte_at result (slice_index present.now i) j ≡ (if j == i then 1 else 0) }
+    ensures units { (i j : ℕ) → i < length present.now → j < 16
+        → byte_at result (slice_index present.now i) j ≡ (if j == i then 1 else 0) }
 {
     let mut table = [[0; 16]; 20];
     for (i, position) in present.iter().enumerate() {
@@ -53,14 +56,15 @@ fn unit_row(i: usize) -> [u8; 16]
 }
 
 /// The factors of the present rows in the row at `lost[e]`.
-fn factor_row(present: &[u8], lost: &[u8], e: usize) -> [u8; 16]
+pub(crate) fn factor_row(present: &[u8], lost: &[u8], e: usize) -> [u8; 16]
     requires few { length present.now ≤ 16 }
     requires ascending { IsStrictlyIncreasing lost.now }
     requires below { All (λ m. m < 255) lost.now }
     requires within { e < length lost.now }
     ensures size { length result ≡ 16 }
     ensures factors { (i : ℕ) → i < length present.now
-        → IsLagrangeFactor (length lost.now) (λ m. slice_index lost.now m) e (slice_index present.now i) (slice_index result i) }
+        → IsLagrangeFactor (length lost.now) (λ m. slice_index lost.now m) e
+            (slice_index present.now i) (slice_index result i) }
 {
     let mut row = [0; 16];
     for (i, position) in present.iter().enumerate() {

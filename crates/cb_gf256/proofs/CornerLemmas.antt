@@ -1,5 +1,5 @@
 -- The corner of a table that is wider and higher than what is used of it.
-use Rattle.std.proofs.Common.{◌≡◌, ℕ, ◌<◌, ◌≤◌, List, [], length, get_or, take, ap, ◌∙◌, arith}
+use Rattle.std.proofs.Common.{◌≡◌, ℕ, ◌<◌, ◌≤◌, zero, suc, List, [], ◌∷◌, length, get_or, take, refl, sym, ap, ext_get_or, ◌∙◌, arith}
 use Rattle.std.proofs.lemmas.List.{get_or_default, get_or-take, get_or-map, length-take-le, length-take, length-map}
 use Rattle.cb_gf256.specs.Rows.{row_at, byte_at, HaveLength, HoldBytes}
 use Rattle.cb_gf256.specs.Corner.{corner}
@@ -35,3 +35,25 @@ HoldBytes-corner k n width table h l wide bytes j d m i z q =
       byte_at-corner k n table j i m short,
       bytes j i (omega (arith, length-corner k n table l)) short,
     )
+
+pub at_default : {X : Type 0} (xs : List X) (i : ℕ) (d e : X) → i < length xs → get_or xs i d ≡ get_or xs i e
+at_default [] i d e h = absurd (omega arith)
+at_default (x ∷ xs) zero d e h = refl
+at_default (x ∷ xs) (suc i) d e h = at_default xs i d e (omega arith)
+
+-- two tables whose used places hold the same have the same corner
+pub same_corner : (k n width : ℕ) (a b : List (List ℕ)) → k ≤ width → n ≤ length a → n ≤ length b → HaveLength width a → HaveLength width b
+    → ((j i : ℕ) → j < n → i < k → byte_at a j i ≡ byte_at b j i) → corner k n a ≡ corner k n b
+same_corner k n width a b small ha hb wa wb same =
+    let la = length-corner k n a ha in
+    let lb = length-corner k n b hb in
+    ext_get_or [] (corner k n a) (corner k n b) (la ∙ sym lb) (λ j h.
+    let within : j < n = omega arith in
+    let long_a : k ≤ length (row_at a j) = omega (arith, wa j [] (omega arith)) in
+    let long_b : k ≤ length (row_at b j) = omega (arith, wb j [] (omega arith)) in
+    row_at-corner k n a j h
+    ∙ ext_get_or 0 (take k (row_at a j)) (take k (row_at b j)) (length-take-le k (row_at a j) long_a ∙ sym (length-take-le k (row_at b j) long_b))
+      (λ i l.
+      let place : i < k = omega (arith, length-take-le k (row_at a j) long_a) in
+      get_or-take k (row_at a j) i 0 place ∙ same j i within place ∙ sym (get_or-take k (row_at b j) i 0 place))
+    ∙ sym (row_at-corner k n b j (omega arith)))

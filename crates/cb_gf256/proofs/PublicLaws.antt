@@ -11,9 +11,11 @@ pub use Rattle.cb_gf256.proofs.BlockLemmas.{length-with_row as written_count, wi
 pub use Rattle.cb_gf256.proofs.Polynomials.{roots_make_zero}
 pub use Rattle.cb_gf256.proofs.Words.{words_agree_on as agreeing_words_are_equal, words_agree as words_that_agree, word_restored as lost_rows_are_sums, word_made as sums_make_a_word, HoldBytes-combinations as sums_are_bytes}
 pub use Rattle.cb_gf256.proofs.Splitting.{split_none as split_of_none, split_with_present, split_with_lost, split_same as split_of_same, splits_parities as parities_split, position_at_most as position_is_at_most}
-pub use Rattle.cb_gf256.proofs.Combining.{part_sum_none, part_sum_more, combinations_none, combinations_more, combinations_all}
-pub use Rattle.cb_gf256.proofs.CornerLemmas.{length-corner as corner_count, row_at-corner as corner_row, row_of_corner as corner_width, byte_at-corner as corner_byte, HaveLength-corner as corner_lengths, HoldBytes-corner as corner_bytes}
+pub use Rattle.cb_gf256.proofs.CornerLemmas.{length-corner as corner_count, row_at-corner as corner_row, row_of_corner as corner_width, byte_at-corner as corner_byte, HaveLength-corner as corner_lengths, HoldBytes-corner as corner_bytes, at_default}
 pub use Rattle.cb_gf256.proofs.LagrangeLemmas.{ascending_apart}
+pub use Rattle.cb_gf256.proofs.Writes.{below_more_set}
+pub use Rattle.cb_gf256.proofs.Summing.{row_at-rows_at as row_at_positions, all_rows}
+pub use Rattle.cb_gf256.proofs.Units.{unit_rows, column_rows, length-unit_rows as unit_rows_count, AreRows-unit_rows as unit_rows_are_rows, unit_combinations, HoldBytes-column_rows as column_rows_are_bytes, same_columns}
 
 -- what a caller of `row_mut` lists to read the rows that it has written
 pub ruleset written_rows = (written_count, written_row)

@@ -6,7 +6,7 @@ use Rattle.cb_gf256.specs.Sum.{◌⊕◌, sum_over}
 use Rattle.cb_gf256.specs.Product.{◌⊗◌}
 use Rattle.cb_gf256.specs.Power.{power}
 use Rattle.cb_gf256.specs.Lagrange.{points, AreFactors}
-use Rattle.cb_gf256.specs.CodeColumn.{IsCodeColumn}
+use Rattle.cb_gf256.proofs.CodeColumn.{IsCodeColumn}
 use Rattle.cb_gf256.specs.Split.{Splits}
 use Rattle.cb_gf256.proofs.Linear.{sum_over-same}
 use Rattle.cb_gf256.proofs.FieldLaws.{zero-product, product_assoc, same_from_zero_sum}

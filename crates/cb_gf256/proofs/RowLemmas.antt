@@ -1,15 +1,15 @@
 -- Sums of rows, byte by byte.
-use Rattle.std.proofs.Common.{◌≡◌, ℕ, zero, suc, ◌+◌, ◌<◌, List, [], ◌∷◌, ◌++◌, length, take, drop, get_or, set, replicate, refl, sym, ap, ap₂, ◌∙◌, arith, add-one}
+use Rattle.std.proofs.Common.{◌≡◌, ℕ, zero, suc, ◌+◌, ◌<◌, List, [], ◌∷◌, ◌++◌, length, take, drop, get_or, set, replicate, ext_get_or, ⊎_elim, ◌-◌, ◌≤◌, subst, refl, sym, ap, ap₂, ◌∙◌, arith, add-one}
 use lib.Bits.{xor_self, xor_assoc, xor_comm, xor_zero_r}
 use Rattle.cb_gf256.specs.Sum.{◌⊕◌}
 use Rattle.cb_gf256.specs.Product.{◌⊗◌}
-use Rattle.cb_gf256.specs.Row.{row_sum, scaled_row}
+use Rattle.std.specs.Simd.Lanes.{put_chunk}
+use Rattle.std.proofs.lemmas.Bool.{cases_lt}
+use Rattle.std.proofs.lemmas.Simd.{length-put_chunk, get_or-put_chunk_below, get_or-put_chunk_at, get_or-put_chunk_above}
+use Rattle.cb_gf256.specs.Lanes.{HasLanes}
+use Rattle.cb_gf256.specs.Row.{row_sum, scaled_row, summed_front}
 use Rattle.cb_gf256.proofs.Linear.{product-right}
 use Rattle.cb_gf256.proofs.FieldLaws.{product-zero, zero-product}
-
--- xs with the first i bytes of ys added
-abbrev pub summed_front : List ℕ → List ℕ → ℕ → List ℕ
-summed_front xs ys i = row_sum (take i xs) (take i ys) ++ drop i xs
 
 front_more : (xs ys : List ℕ) (i : ℕ) → i < length xs → i < length ys → set (summed_front xs ys i) i (get_or (summed_front xs ys i) i 0 ⊕ get_or ys i 0) ≡ summed_front xs ys (suc i)
 front_more [] ys i h k = absurd (omega arith)
@@ -84,3 +84,52 @@ row_sum-scaled_by_zero [] ys h = refl
 row_sum-scaled_by_zero (x ∷ xs) [] h = absurd (omega arith)
 row_sum-scaled_by_zero (x ∷ xs) (y ∷ ys) h =
     ap₂ ◌∷◌ (ap (λ z. x ⊕ z) (zero-product y) ∙ xor_zero_r x) (row_sum-scaled_by_zero xs ys (omega arith))
+
+-- ---- a front of whole blocks
+pub length-front : (xs ys : List ℕ) (i : ℕ) → i ≤ length xs → i ≤ length ys → length (summed_front xs ys i) ≡ length xs
+length-front xs ys zero h k = refl
+length-front [] ys (suc i) h k = absurd (omega arith)
+length-front (x ∷ xs) [] (suc i) h k = absurd (omega arith)
+length-front (x ∷ xs) (y ∷ ys) (suc i) h k = ap suc (length-front xs ys i (omega arith) (omega arith))
+
+pub front_below : (xs ys : List ℕ) (i n : ℕ) → n < i → i ≤ length xs → i ≤ length ys → get_or (summed_front xs ys i) n 0 ≡ get_or xs n 0 ⊕ get_or ys n 0
+front_below xs ys zero n l h k = absurd (omega arith)
+front_below [] ys (suc i) n l h k = absurd (omega arith)
+front_below (x ∷ xs) [] (suc i) n l h k = absurd (omega arith)
+front_below (x ∷ xs) (y ∷ ys) (suc i) zero l h k = refl
+front_below (x ∷ xs) (y ∷ ys) (suc i) (suc n) l h k = front_below xs ys i n (omega arith) (omega arith) (omega arith)
+
+pub front_above : (xs ys : List ℕ) (i n : ℕ) → i ≤ n → i ≤ length xs → i ≤ length ys → get_or (summed_front xs ys i) n 0 ≡ get_or xs n 0
+front_above xs ys zero n l h k = refl
+front_above [] ys (suc i) n l h k = absurd (omega arith)
+front_above (x ∷ xs) [] (suc i) n l h k = absurd (omega arith)
+front_above (x ∷ xs) (y ∷ ys) (suc i) zero l h k = absurd (omega arith)
+front_above (x ∷ xs) (y ∷ ys) (suc i) (suc n) l h k = front_above xs ys i n (omega arith) (omega arith) (omega arith)
+
+-- one block more is added
+pub summed_front_block : (xs ys now block : List ℕ) (i to : ℕ) → to ≡ i + 32 → to ≤ length xs → to ≤ length ys → now ≡ summed_front xs ys i
+    → HasLanes block (λ l. get_or now (i + l) 0 ⊕ get_or ys (i + l) 0) → put_chunk i now block ≡ summed_front xs ys to
+summed_front_block xs ys now block i to next h k e b =
+    let long : length now ≡ length xs = ap length e ∙ length-front xs ys i (omega arith) (omega arith) in
+    ext_get_or 0 (put_chunk i now block) (summed_front xs ys to) (length-put_chunk i now block ∙ long ∙ sym (length-front xs ys to h k)) (λ n l.
+    ⊎_elim
+    (λ below.
+    get_or-put_chunk_below i now block n 0 below ∙ ap (λ zs. get_or zs n 0) e ∙ front_below xs ys i n below (omega arith) (omega arith)
+    ∙ sym (front_below xs ys to n (omega arith) h k))
+    (λ above.
+    ⊎_elim
+    (λ within.
+    let place : i + (n - i) ≡ n = omega arith in
+    subst (λ m. get_or (put_chunk i now block) m 0 ≡ get_or (summed_front xs ys to) m 0) place
+    (get_or-put_chunk_at i now block (n - i) 0 (omega (arith, b.count)) (omega (arith, b.count))
+    ∙ b.each (n - i) (omega arith)
+    ∙ ap (λ m. get_or now m 0 ⊕ get_or ys m 0) place
+    ∙ ap (λ zs. get_or zs n 0 ⊕ get_or ys n 0) e
+    ∙ ap (λ x. x ⊕ get_or ys n 0) (front_above xs ys i n above (omega arith) (omega arith))
+    ∙ sym (front_below xs ys to n within h k)
+    ∙ ap (λ m. get_or (summed_front xs ys to) m 0) (sym place)))
+    (λ past.
+    get_or-put_chunk_above i now block n 0 (omega (arith, b.count)) ∙ ap (λ zs. get_or zs n 0) e ∙ front_above xs ys i n above (omega arith) (omega arith)
+    ∙ sym (front_above xs ys to n (omega arith) h k))
+    (cases_lt n to))
+    (cases_lt n i))

@@ -7,7 +7,7 @@ use Rattle.cb_gf256.specs.Product.{◌⊗◌}
 use Rattle.cb_gf256.specs.Power.{power}
 use Rattle.cb_gf256.specs.Rows.{row_at, byte_at, HaveLength, HoldBytes, AreRows}
 use Rattle.cb_gf256.specs.CodeWord.{IsCodeWord}
-use Rattle.cb_gf256.specs.CodeColumn.{IsCodeColumn}
+use Rattle.cb_gf256.proofs.CodeColumn.{IsCodeColumn}
 use Rattle.cb_gf256.specs.Positions.{ArePositions}
 use Rattle.cb_gf256.specs.Combination.{combination, AreCombinations}
 use Rattle.cb_gf256.specs.Lagrange.{AreFactors}

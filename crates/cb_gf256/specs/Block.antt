@@ -11,7 +11,8 @@ cut_rows (suc count) len block = take len block ∷ cut_rows count len (drop len
 abbrev pub overwritten : List ℕ → ℕ → List ℕ → List ℕ
 overwritten block at bytes = take at block ++ (bytes ++ drop (length bytes) (drop at block))
 
--- the rows with these bytes written over the block from the start of row i on: over row i alone, where they are as many as a row has
+-- the rows with these bytes written over the block from the start of row i on: over row i alone,
+-- where they are as many as a row has
 unfoldable pub with_row : List (List ℕ) → ℕ → List ℕ → List (List ℕ)
 with_row rows i bytes =
     let len = length (row_at rows i) in

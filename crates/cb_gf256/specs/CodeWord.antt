@@ -8,8 +8,10 @@ use Rattle.cb_gf256.specs.Rows.{row_at, byte_at, HaveLength}
 abbrev pub syndrome : ℕ → List (List ℕ) → ℕ → ℕ
 syndrome j rows column = sum_over (length rows) (λ i. power 2 (i * j) ⊗ byte_at rows i column)
 
--- a code word for k data rows and r parities (Reed and Solomon 1960): k + r rows of equal length whose syndromes of the powers below r are 0 at each column
+-- a code word for k data rows and r parities (Reed and Solomon 1960): k + r rows of equal length
+-- whose syndromes of the powers below r are 0 at each column
 pub record IsCodeWord (k r : ℕ) (rows : List (List ℕ)) : Type 0 where
   pub count : length rows ≡ k + r
   pub equal_lengths : HaveLength (length (row_at rows 0)) rows
-  pub syndromes_zero : (j column : ℕ) → j < r → column < length (row_at rows 0) → syndrome j rows column ≡ 0
+  pub syndromes_zero : (j column : ℕ) → j < r → column < length (row_at rows 0)
+      → syndrome j rows column ≡ 0

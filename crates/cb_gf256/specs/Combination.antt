@@ -1,26 +1,16 @@
-use Rattle.std.specs.Prelude.{◌≡◌, ℕ, ◌<◌, ◌≤◌, List, length, slice_index}
-use Rattle.cb_gf256.specs.Sum.{◌⊕◌, sum_over}
+use Rattle.std.specs.Prelude.{◌≡◌, ℕ, ◌<◌, List, length, slice_index}
+use Rattle.cb_gf256.specs.Sum.{sum_over}
 use Rattle.cb_gf256.specs.Product.{◌⊗◌}
 use Rattle.cb_gf256.specs.Rows.{row_at, byte_at, HaveLength}
 
 -- the byte at a column of the sum of the rows, each times its factor
 abbrev pub combination : List ℕ → List (List ℕ) → ℕ → ℕ
-combination factors rows column = sum_over (length factors) (λ i. slice_index factors i ⊗ byte_at rows i column)
+combination factors rows column = sum_over (length factors)
+    (λ i. slice_index factors i ⊗ byte_at rows i column)
 
 -- row j of these sums is the sum of the rows, each times its factor in row j of the table
 pub record AreCombinations (table rows sums : List (List ℕ)) : Type 0 where
   pub count : length sums ≡ length table
   pub equal_lengths : HaveLength (length (row_at rows 0)) sums
-  pub values : (j column : ℕ) → j < length table → column < length (row_at rows 0) → byte_at sums j column ≡ combination (row_at table j) rows column
-
--- now is start with the first i rows added, each times its factor
-pub record IsPartSum (start now factors : List ℕ) (rows : List (List ℕ)) (i : ℕ) : Type 0 where
-  pub same_length : length now ≡ length start
-  pub values : (column : ℕ) → column < length start → slice_index now column ≡ slice_index start column ⊕ sum_over i (λ m. slice_index factors m ⊗ byte_at rows m column)
-
--- of these rows of one length those below row j are the sums of the table, and the others are 0
-pub record ArePartCombinations (len : ℕ) (table rows sums : List (List ℕ)) (j : ℕ) : Type 0 where
-  pub count : length sums ≡ length table
-  pub equal_lengths : HaveLength len sums
-  pub values : (m column : ℕ) → m < j → m < length table → column < len → byte_at sums m column ≡ combination (row_at table m) rows column
-  pub zeros : (m column : ℕ) → j ≤ m → byte_at sums m column ≡ 0
+  pub values : (j column : ℕ) → j < length table → column < length (row_at rows 0)
+      → byte_at sums j column ≡ combination (row_at table j) rows column

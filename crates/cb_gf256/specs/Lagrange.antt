@@ -16,10 +16,12 @@ differences count point e x = product_over count (λ m. if m == e then 1 else (x
 abbrev pub points : (ℕ → ℕ) → ℕ → ℕ
 points lost m = power 2 (lost m)
 
--- f is the value at position p of Lagrange's polynomial for the lost position at e, which is 1 there and 0 at the other lost positions
+-- f is the value at position p of Lagrange's polynomial for the lost position at e, which is 1
+-- there and 0 at the other lost positions
 pub record IsLagrangeFactor (count : ℕ) (lost : ℕ → ℕ) (e p f : ℕ) : Type 0 where
   pub byte : f < 256
-  pub quotient : differences count (points lost) e (power 2 (lost e)) ⊗ f ≡ differences count (points lost) e (power 2 p)
+  pub quotient : differences count (points lost) e (power 2 (lost e)) ⊗ f
+      ≡ differences count (points lost) e (power 2 p)
 
 -- w e i is Lagrange's factor of the present position at i for the lost position at e
 pub record AreFactors (k r : ℕ) (present lost : ℕ → ℕ) (w : ℕ → ℕ → ℕ) : Type 0 where

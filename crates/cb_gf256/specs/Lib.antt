@@ -6,7 +6,6 @@ pub mod Rows
 pub mod Block
 pub mod CodeWord
 pub mod InRange
-pub mod CodeColumn
 pub mod Positions
 pub mod Combination
 pub mod Corner
@@ -14,3 +13,6 @@ pub mod Polynomial
 pub mod Lagrange
 pub mod Split
 pub mod Lends
+pub mod Halves
+pub mod Lanes
+pub mod Placing

@@ -2,7 +2,8 @@ use Rattle.std.specs.Prelude.{ℕ, ◌-◌, ◌*◌, ◌^◌, [], ◌∷◌, fol
 use Rattle.std.specs.Int.{bit_at}
 use Rattle.cb_gf256.specs.Sum.{◌⊕◌, sum_over}
 
--- the plain product of two polynomials over GF(2): the sum, over the bits i that are set in b, of a shifted left by i
+-- the plain product of two polynomials over GF(2): the sum, over the bits i that are set in b, of
+-- a shifted left by i
 abbrev pub plain_product : ℕ → ℕ → ℕ
 plain_product a b = sum_over 8 (λ i. bit_at b i * (a * 2 ^ i))
 

@@ -1,4 +1,5 @@
-use Rattle.std.specs.Prelude.{◌≡◌, ℕ, ◌^◌, ◌<◌, List, [], length, All, slice_index, slice_index_or}
+use Rattle.std.specs.Prelude.{◌≡◌, ℕ, ◌^◌, ◌<◌, List}
+use Rattle.std.specs.Prelude.{[], length, All, map, slice_index, slice_index_or}
 
 -- the row at position i
 abbrev pub row_at : List (List ℕ) → ℕ → List ℕ
@@ -20,3 +21,7 @@ HoldBytes rows = All (All (λ x. x < 2 ^ 8)) rows
 pub record AreRows (rows : List (List ℕ)) : Type 0 where
   pub equal_lengths : HaveLength (length (row_at rows 0)) rows
   pub bytes : HoldBytes rows
+
+-- the rows at these positions
+abbrev pub rows_at : List (List ℕ) → List ℕ → List (List ℕ)
+rows_at rows positions = map (row_at rows) positions

@@ -5,8 +5,10 @@ ghost use Rattle.cb_gf256.specs.Lagrange.{differences, points, IsLagrangeFactor}
 
 use crate::field::{add, inv, mul, pow};
 
-/// The factor of the row at position `p` in the row at `lost[e]`, where the rows at the positions `lost` are restored from all others.
-/// It is Lagrange's: the product, over the other lost positions m, of (2^p - 2^m) / (2^lost[e] - 2^m).
+/// The factor of the row at position `p` in the row at `lost[e]`, where the rows at the positions
+/// `lost` are restored from all others.
+/// It is Lagrange's: the product, over the other lost positions m, of (2^p - 2^m) / (2^lost[e] -
+/// 2^m).
 pub fn lagrange_factor(lost: &[u8], e: usize, p: u8) -> u8
     requires ascending { IsStrictlyIncreasing lost.now }
     requires below { All (λ m. m < 255) lost.now }

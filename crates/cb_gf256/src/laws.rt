@@ -1,5 +1,8 @@
-//! The laws of the field, of powers, of sums and of rows. Each is a clause of a function that does nothing.
-ghost use Rattle.std.specs.Prelude.{◌≡◌, ◌≢◌, ℕ, ◌+◌, ◌*◌, ◌%◌, ◌<◌, List, length, fold, slice_index, IsPermutation, slice_set, replicate};
+//! The laws of the field, of powers, of sums and of rows. Each is a clause of a function that
+//! does nothing.
+ghost use Rattle.std.specs.Prelude.{◌≡◌, ◌≢◌, ℕ, ◌+◌, ◌*◌, ◌%◌, ◌<◌};
+ghost use Rattle.std.specs.Prelude.{List, length, fold, slice_index, IsPermutation};
+ghost use Rattle.std.specs.Prelude.{slice_set, replicate};
 ghost use Rattle.cb_gf256.specs.Sum.{◌⊕◌, sum_over};
 ghost use Rattle.cb_gf256.specs.Product.{◌⊗◌};
 ghost use Rattle.cb_gf256.specs.Power.{power};
@@ -33,7 +36,8 @@ pub fn field_laws()
         → a ⊗ b ≡ a ⊗ c → b ≡ c }
 {}
 
-/// The element 2 generates every nonzero element: its powers below 255 are all different, and there are no others.
+/// The element 2 generates every nonzero element: its powers below 255 are all different, and
+/// there are no others.
 pub fn powers_of_two()
     ensures powers_of_two_differ { (i j : ℕ) → i < 255 → j < 255 → power 2 i ≡ power 2 j → i ≡ j }
     ensures powers_of_two_generate { (a : ℕ) → 0 < a → a < 256

@@ -35,6 +35,20 @@ impl Rows {
         Ok(Rows { block, count, len })
     }
 
+    /// A copy of these rows. The only error is want of memory.
+    pub fn copy(&self, alloc: Global) -> Result<Rows, NoMemory>
+        ensures value { IfOk result (λ rows. rows ≡ self.now) }
+        ensures rows { IfOk result (λ _. AreRows self.now) }
+    {
+        let items = self.block.as_slice();
+        let block = Vec::from_slice(alloc, &items[..])?;
+        Ok(Rows {
+            block,
+            count: self.count,
+            len: self.len,
+        })
+    }
+
     /// How many rows there are.
     pub fn count(&self) -> u32
         ensures { result ≡ length self.now }
@@ -42,14 +56,19 @@ impl Rows {
         self.count
     }
 
-    /// How many bytes each row has.
+    /// How many bytes each row has. The rows are bytes, all as long as the first.
     pub fn row_len(&self) -> u32
-        ensures { HaveLength result self.now }
+        requires { 0 < length self.now }
+        ensures length { HaveLength result self.now }
+        ensures rows { AreRows self.now }
     {
+        // What the first row shows of all rows is what a proof reads here.
+        let _ = self.row(0);
         self.len
     }
 
     /// The row at position `i`.
+    #[inline(always)]
     pub fn row(&self, i: u32) -> &[u8]
         requires { i < length self.now }
         ensures value { result.now ≡ row_at self.now i }
@@ -62,6 +81,7 @@ impl Rows {
     }
 
     /// The row at position `i`, to be written to.
+    #[inline(always)]
     pub fn row_mut(&mut self, i: u32) -> &mut [u8]
         requires { i < length self.old }
         ensures* writes_back { sem 𝓛 (LendsRow self.entry i result) }

@@ -1,9 +1,11 @@
-//! The powers of 2 and their logarithms. A product with a power of 2 is two look-ups, with no test for 0.
+//! The powers of 2 and their logarithms. A product with a power of 2 is two look-ups, with no
+//! test for 0.
 ghost use Rattle.std.specs.Prelude.{◌≡◌, ◌<◌};
 ghost use Rattle.cb_gf256.specs.Product.{◌⊗◌};
 ghost use Rattle.cb_gf256.specs.Power.{power};
 
-/// `EXP[i]` is 2 to the power `i` where `i` is below 510, and 0 from there on. The 255 powers stand
+/// `EXP[i]` is 2 to the power `i` where `i` is below 510, and 0 from there on. The 255 powers
+/// stand
 /// twice, so that the sum of two logarithms needs no remainder.
 static EXP: [u8; 765] = [
     0x01, 0x02, 0x04, 0x08, 0x10, 0x20, 0x40, 0x80, 0x1D, 0x3A, 0x74, 0xE8, 0xCD, 0x87, 0x13, 0x26,
@@ -56,7 +58,8 @@ static EXP: [u8; 765] = [
     0x00, 0x00, 0x00, 0x00, 0x00, 0x00, 0x00, 0x00, 0x00, 0x00, 0x00, 0x00, 0x00,
 ];
 
-/// `LOG[a]` is the power of 2, below 255, that gives `a`. The element 0 has none; its entry is 510,
+/// `LOG[a]` is the power of 2, below 255, that gives `a`. The element 0 has none; its entry is
+/// 510,
 /// where the zeros of `EXP` begin.
 static LOG: [u16; 256] = [
     510, 0, 1, 25, 2, 50, 26, 198, 3, 223, 51, 238, 27, 104, 199, 75, 4, 100, 224, 14, 52, 141,

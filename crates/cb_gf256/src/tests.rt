@@ -1,7 +1,8 @@
 use super::*;
 use std::test::Fail;
 
-// The product by its definition: the plain product bit by bit, then reduced from bit 14 down to bit 8.
+// The product by its definition: the plain product bit by bit, then reduced from bit 14 down to
+// bit 8.
 fn long_product(a: u8, b: u8) -> u32 {
     let mut product = 0u32;
     for i in 0..8u32 {
@@ -55,7 +56,8 @@ fn elements_are_those_of_the_standard(rt: HostRuntime) {
     assert_eq!(rt; add(0x0E, 0x08), 0x06);
 }
 
-// Each column is one of the code with two data rows and two parities: C8 and 8F are the coefficients of its first parity.
+// Each column is one of the code with two data rows and two parities: C8 and 8F are the
+// coefficients of its first parity.
 #[test]
 fn rows_add_up(rt: HostRuntime) {
     let mut parity = [0, 0, 0, 0];

@@ -1,7 +1,7 @@
 use Rattle.std.proofs.Common.{length, get_or, arith, ◌∙◌}
 use Rattle.std.proofs.lemmas.List.{length-set}
 use Rattle.cb_gf256.specs.Lagrange.{IsLagrangeFactor}
-use Rattle.cb_code.proofs.Writes.{below_more_set}
+use Rattle.cb_gf256.proofs.PublicLaws.{below_more_set}
 use Rattle.cb_code.proofs.coeffs.coefficient_row.Goals as goal
 
 pub loop-i-preserved : goal.loop-i-preserved

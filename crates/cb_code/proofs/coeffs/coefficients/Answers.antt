@@ -1,11 +1,11 @@
-use Rattle.std.proofs.Common.{◌≡◌, ℕ, ◌+◌, ◌<◌, ◌≤◌, List, [], length, get_or, set, take, map, arith, ◌∙◌}
+use Rattle.std.proofs.Common.{◌≡◌, ℕ, ◌+◌, ◌<◌, ◌≤◌, List, [], length, get_or, set, take, map, subst, sym, arith, ◌∙◌}
 use Rattle.std.proofs.lemmas.List.{get_or-take, length-take-le, length-set}
 use Rattle.std.proofs.lemmas.List.Elements.{All-set}
 use Rattle.cb_gf256.specs.InRange.{IsInRange}
 use Rattle.cb_gf256.specs.Lagrange.{IsLagrangeFactor}
 use Rattle.cb_code.specs.Coefficients.{AreCoefficients}
-use Rattle.cb_code.proofs.Writes.{below_more_set}
-use Rattle.cb_code.proofs.Tables.{coefficients_of}
+use Rattle.cb_gf256.proofs.PublicLaws.{below_more_set}
+use Rattle.cb_code.proofs.Tables.{coefficients_of, is_code}
 use Rattle.cb_code.proofs.coeffs.coefficients.Invariants.{Filled}
 use Rattle.cb_code.proofs.coeffs.coefficients.Goals as goal
 
@@ -26,12 +26,13 @@ all_filled k r j parities table range size at done h =
     let inside : r ≤ length parities = omega (arith, range.parities_most) in
     coefficients_of k r (take r parities) table range (length-take-le r parities inside) (λ e l. get_or-take r parities e 0 l ∙ at e l) h.height h.width (λ m i l q. h.factors m i (omega arith) q)
 
-pub invariant_of-result : goal.invariant_of-result
-invariant_of-result c = (
-  c.requires,
-  all_filled c.args.k c.args.r c.loop-j.j c.parity_positions-parities.result c.loop-j.table c.requires c.parity_positions-parities.ensures.size c.parity_positions-parities.ensures.positions c.loop-j-test.false c.loop-j.invariant,
-)
-
 pub returns : goal.returns
 returns c =
-    all_filled c.args.k c.args.r c.loop-j.j c.parity_positions-parities.result c.loop-j.table c.requires c.parity_positions-parities.ensures.size c.parity_positions-parities.ensures.positions c.loop-j-test.false c.loop-j.invariant
+    subst (AreCoefficients c.args.k c.args.r) (sym c.of_table-factors.ensures)
+    (all_filled c.args.k c.args.r c.loop-j.j c.parity_positions-parities.result c.loop-j.table c.requires c.parity_positions-parities.ensures.size c.parity_positions-parities.ensures.positions c.loop-j-test.false c.loop-j.invariant)
+
+pub invariant_of-result : goal.invariant_of-result
+invariant_of-result c =
+    is_code c.args.k c.args.r c.of_table-factors.result c.requires
+    (subst (AreCoefficients c.args.k c.args.r) (sym c.of_table-factors.ensures)
+    (all_filled c.args.k c.args.r c.loop-j.j c.parity_positions-parities.result c.loop-j.table c.requires c.parity_positions-parities.ensures.size c.parity_positions-parities.ensures.positions c.loop-j-test.false c.loop-j.invariant))

@@ -1,6 +1,6 @@
 use Rattle.std.proofs.Common.{◌≡◌, ◌+◌, refl, arith, ◌∙◌}
 use Rattle.std.proofs.lemmas.List.{length-set}
-use Rattle.cb_code.proofs.Writes.{below_more_set}
+use Rattle.cb_gf256.proofs.PublicLaws.{below_more_set}
 use Rattle.cb_code.proofs.coeffs.parity_positions.Goals as goal
 
 pub loop-e-preserved : goal.loop-e-preserved

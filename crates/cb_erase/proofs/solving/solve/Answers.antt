@@ -1,44 +1,41 @@
-use Rattle.std.proofs.Common.{length, get_or, ap, ◌∙◌, arith}
-use Rattle.cb_gf256.specs.Sum.{◌⊕◌}
-use Rattle.cb_gf256.specs.Rows.{row_at}
-use Rattle.cb_gf256.specs.Combination.{combination}
-use Rattle.cb_gf256.proofs.PublicLaws.{combinations_more}
-use Rattle.cb_erase.specs.Weights.{rows_at}
-use Rattle.cb_erase.proofs.Words.{only_solution, shown_rows, all_made}
+use Rattle.std.proofs.Common.{◌≡◌, ◌≢◌, ℕ, ◌+◌, ◌<◌, List, [], length, get_or, take, sym, ap, subst, ◌∙◌, arith}
+use Rattle.std.proofs.lemmas.List.{get_or-take, length-take-le}
+use Rattle.cb_gf256.specs.Rows.{row_at, HaveLength}
+use Rattle.cb_gf256.specs.Split.{Splits}
+use Rattle.cb_gf256.proofs.PublicLaws.{split_of_same}
+use Rattle.cb_erase.proofs.Words.{IsMade, made_solution, only_solution}
 use Rattle.cb_erase.proofs.solving.solve.Goals as goal
 
-pub loop-p-preserved : goal.loop-p-preserved
-loop-p-preserved c =
-    let own = c.row_mut.ensures.value in
-    let rows = rows_at c.args.rows.now c.args.present.now in (
-      combinations_more c.row_len-len.result c.weights-w.result rows c.loop-p.word c.loop-p.p c.add_sum.new.row c.loop-p.invariant.0
-          (omega (arith, c.weights-w.ensures.positions))
-          (c.add_sum.ensures.length ∙ ap length own)
-          (λ column l.
-          c.add_sum.ensures.bytes column (omega (arith, ap length own))
-          ∙ ap (λ row. get_or row column 0 ⊕ combination (row_at c.weights-w.result c.loop-p.p) rows column) own),
-      λ _. c.add_sum.ensures.rows,
-    )
+pub set_sums-requires-clause-lengths : goal.set_sums-requires-clause-lengths
+set_sums-requires-clause-lengths c = subst (HaveLength (length (row_at c.args.rows.now 0))) (sym c.in_ok-word.ensures.value) c.in_ok-word.ensures.rows.equal_lengths
+
+made : (c : goal.After-set_sums) → IsMade c.args.k c.args.r c.args.present.now (take c.args.r c.lost_positions-positions.result) c.lost_factors-factors.result c.args.rows.now c.set_sums.new.self
+made c =
+    let k = c.args.k in
+    let r = c.args.r in
+    let present = c.args.present.now in
+    let positions = c.lost_positions-positions.result in
+    record {
+      range = c.requires.in_range;
+      positions = c.requires.positions;
+      lost_count = length-take-le r positions (omega (arith, c.lost_positions-positions.ensures.size, c.requires.in_range.parities_most));
+      split =
+          split_of_same (k + r) k r (λ i. get_or present i 0) (λ e. get_or positions e 0) (λ e. get_or (take r positions) e 0) c.lost_positions-positions.ensures.split (λ e l. get_or-take r positions e 0 l);
+      factors = c.lost_factors-factors.ensures.factors;
+      height = c.lost_factors-factors.ensures.height;
+      width = c.lost_factors-factors.ensures.width;
+      rows_count = c.requires.count;
+      are_rows = c.in_ok-word.ensures.rows;
+      count = c.set_sums.ensures.count ∙ ap length c.in_ok-word.ensures.value ∙ c.requires.count;
+      lengths = c.set_sums.ensures.lengths;
+      sums = c.set_sums.ensures.sums;
+      others = λ i apart. c.set_sums.ensures.others i apart ∙ ap (λ rows. row_at rows i) c.in_ok-word.ensures.value;
+    }
 
 pub returns-clause-solution : goal.returns-clause-solution
 returns-clause-solution c =
-    let k = c.args.k in
-    let r = c.args.r in
-    let rows = c.args.rows.now in
-    let present = c.args.present.now in
-    let w = c.weights-w.ensures in
-    let shown = shown_rows k r present rows c.requires.positions c.requires.count (c.loop-p.invariant.1 (omega (arith, c.requires.in_range.data_least))) in
-    w.solve (rows_at rows present) c.loop-p.word shown.0 shown.1
-    (all_made k r present c.weights-w.result rows c.loop-p.word c.row_len-len.result c.loop-p.p c.requires.in_range c.requires.positions w c.requires.count c.row_len-len.ensures c.loop-p.invariant.0 c.loop-p-test.false)
+    made_solution c.args.k c.args.r c.args.present.now (take c.args.r c.lost_positions-positions.result) c.lost_factors-factors.result c.args.rows.now c.set_sums.new.self (made c)
 
 pub returns-clause-only : goal.returns-clause-only
 returns-clause-only c other bytes solution =
-    let k = c.args.k in
-    let r = c.args.r in
-    let rows = c.args.rows.now in
-    let present = c.args.present.now in
-    let w = c.weights-w.ensures in
-    let shown = shown_rows k r present rows c.requires.positions c.requires.count (c.loop-p.invariant.1 (omega (arith, c.requires.in_range.data_least))) in
-    only_solution k r present c.weights-w.result (rows_at rows present) c.loop-p.word other c.requires.in_range c.requires.positions w shown.0 shown.1
-    (all_made k r present c.weights-w.result rows c.loop-p.word c.row_len-len.result c.loop-p.p c.requires.in_range c.requires.positions w c.requires.count c.row_len-len.ensures c.loop-p.invariant.0 c.loop-p-test.false)
-    bytes solution
+    only_solution c.args.k c.args.r c.args.present.now (take c.args.r c.lost_positions-positions.result) c.lost_factors-factors.result c.args.rows.now c.set_sums.new.self other (made c) bytes solution

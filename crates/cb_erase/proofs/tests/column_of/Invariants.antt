@@ -3,4 +3,4 @@ use Rattle.cb_gf256.specs.Rows.{HaveLength}
 use Rattle.cb_erase.proofs.tests.column_of.Given as goal
 
 abbrev pub invariant-loop-i : goal.invariant-loop-i
-invariant-loop-i l = (length l.rows ≡ length l.bytes) × HaveLength 1 l.rows
+invariant-loop-i l = (length l.rows ≡ length l.bytes) × HaveLength 33 l.rows

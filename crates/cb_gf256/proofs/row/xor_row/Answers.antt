@@ -4,7 +4,7 @@ use Rattle.cb_gf256.proofs.row.xor_row.Goals as goal
 
 pub loop-i-preserved : goal.loop-i-preserved
 loop-i-preserved c =
-    summed_front_more c.args.dst.now c.args.src.now c.loop-i.dst c.loop-i.i (omega arith) (omega arith) c.loop-i.invariant
+    summed_front_more c.args.dst.now c.args.src.now c.loop-i.dst c.loop-i.i (omega (arith, c.requires)) c.loop-i-test.true c.loop-i.invariant
 
 pub returns : goal.returns
 returns c =

@@ -1,6 +1,6 @@
 use Rattle.std.proofs.Common.{◌≡◌}
-use Rattle.cb_gf256.proofs.RowLemmas.{summed_front}
+use Rattle.cb_gf256.specs.Row.{scaled_row, summed_front}
 use Rattle.cb_gf256.proofs.row.xor_row.Given as goal
 
 abbrev pub invariant-loop-i : goal.invariant-loop-i
-invariant-loop-i l = l.dst ≡ summed_front l.initial.dst l.src l.i
+invariant-loop-i l = l.dst ≡ summed_front l.fn.dst l.src l.i

@@ -1,0 +1,10 @@
+//! Deltas of data rows, and parities that are patched by them.
+#![tactic(auto)]
+
+mod deltas;
+mod laws;
+#[cfg(test)]
+mod tests;
+
+pub use deltas::{delta, patch};
+pub use laws::parity_laws;

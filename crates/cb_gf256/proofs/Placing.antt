@@ -1,0 +1,153 @@
+-- Bytes that are put into some rows, from a place on, and sums that are made so.
+use Rattle.std.proofs.Common.{◌≡◌, ◌≢◌, ℕ, ◌+◌, ◌-◌, ◌<◌, ◌≤◌, List, [], length, get_or, set, refl, sym, ap, subst, ◌∙◌, ⊎_elim, arith}
+use Rattle.std.specs.List.Sorted.{IsStrictlyIncreasing}
+use Rattle.std.proofs.lemmas.Bool.{cases_lt, cases_eq}
+use Rattle.std.proofs.lemmas.List.{get_or-set_same, get_or-set_other, length-set}
+use Rattle.cb_gf256.specs.Rows.{row_at, byte_at, rows_at}
+use Rattle.cb_gf256.specs.Combination.{combination, AreCombinations}
+use Rattle.std.proofs.Common.{All}
+use Rattle.std.proofs.lemmas.List.{length-map}
+use Rattle.cb_gf256.proofs.Summing.{row_at-rows_at}
+use Rattle.cb_gf256.specs.Placing.{Placed, Combined}
+use Rattle.std.specs.Simd.Lanes.{put_chunk}
+use Rattle.std.proofs.lemmas.Simd.{length-put_chunk, get_or-put_chunk_at, get_or-put_chunk_below}
+use Rattle.cb_gf256.specs.Rows.{HaveLength}
+use Rattle.cb_gf256.specs.Block.{with_row}
+use Rattle.cb_gf256.proofs.BlockLemmas.{with_row-set}
+use Rattle.cb_gf256.proofs.CornerLemmas.{at_default}
+use Rattle.cb_gf256.proofs.LagrangeLemmas.{ascending_apart}
+
+pub placed_none : (w at : ℕ) (targets : List ℕ) (v : ℕ → ℕ → ℕ) (rows : List (List ℕ)) → Placed w at targets v rows rows 0
+placed_none w at targets v rows = record {
+  count = refl;
+  lengths = λ i. refl;
+  placed = λ j l h. absurd (omega arith);
+  front = λ i c h. refl;
+  others = λ i h. refl;
+}
+
+-- what holds of row t and its new bytes holds of it after the write, and the other rows are as they were
+set_row : (P : List ℕ → Type 0) (rows : List (List ℕ)) (t i : ℕ) (row : List ℕ) → t < length rows → (t ≡ i → P row) → (t ≢ i → P (row_at rows i)) → P (row_at (set rows t row) i)
+set_row P rows t i row within here there =
+    ⊎_elim
+    (λ same. subst P (sym (ap (row_at (set rows t row)) (sym same) ∙ get_or-set_same rows t row [] within)) (here same))
+    (λ other. subst P (sym (get_or-set_other rows t i row [] (λ e. other (sym e)))) (there other))
+    (cases_eq t i)
+
+pub placed_more : (w at : ℕ) (targets : List ℕ) (v : ℕ → ℕ → ℕ) (before now : List (List ℕ)) (m : ℕ) (row : List ℕ) → IsStrictlyIncreasing targets → m < length targets
+    → get_or targets m 0 < length now → length row ≡ length (row_at now (get_or targets m 0))
+    → ((l : ℕ) → l < w → get_or row (at + l) 0 ≡ v m l) → ((c : ℕ) → c < at → get_or row c 0 ≡ byte_at now (get_or targets m 0) c)
+    → Placed w at targets v before now m → Placed w at targets v before (set now (get_or targets m 0) row) (m + 1)
+placed_more w at targets v before now m row ascend inside within size new old h =
+    let t = get_or targets m 0 in
+    record {
+      count = length-set now t row ∙ h.count;
+      lengths = λ i. set_row (λ r. length r ≡ length (row_at before i)) now t i row within (λ e. size ∙ ap (λ x. length (row_at now x)) e ∙ h.lengths i) (λ _. h.lengths i);
+      placed = λ j l k q.
+          ⊎_elim
+          (λ below.
+          set_row (λ r. get_or r (at + l) 0 ≡ v j l) now t (get_or targets j 0) row within
+            (λ e. absurd (omega (arith, ascending_apart targets ascend j m below inside))) (λ _. h.placed j l below q))
+          (λ last.
+          let same : m ≡ j = omega arith in
+          subst (λ x. byte_at (set now t row) (get_or targets x 0) (at + l) ≡ v x l) same (ap (λ r. get_or r (at + l) 0) (get_or-set_same now t row [] within) ∙ new l q))
+          (cases_lt j m);
+      front = λ i c k. set_row (λ r. get_or r c 0 ≡ byte_at before i c) now t i row within (λ e. old c k ∙ ap (λ x. byte_at now x c) e ∙ h.front i c k) (λ _. h.front i c k);
+      others = λ i apart. set_row (λ r. r ≡ row_at before i) now t i row within (λ e. absurd (apart m (omega arith) e)) (λ _. h.others i (λ j k. apart j (omega arith)));
+    }
+
+pub combined_none : (table shown : List (List ℕ)) (targets : List ℕ) (rows : List (List ℕ)) → Combined table shown targets rows rows 0
+combined_none table shown targets rows = record {
+  count = refl;
+  lengths = λ i. refl;
+  sums = λ j c h k. absurd (omega arith);
+  others = λ i h. refl;
+}
+
+pub combined_more : (table shown : List (List ℕ)) (targets : List ℕ) (before now next : List (List ℕ)) (w at m to : ℕ) → m ≡ length targets → to ≡ at + w → Combined table shown targets before now at
+    → Placed w at targets (λ j l. combination (row_at table j) shown (at + l)) now next m → Combined table shown targets before next to
+combined_more table shown targets before now next w at m to all e h p = record {
+  count = p.count ∙ h.count;
+  lengths = λ i. p.lengths i ∙ h.lengths i;
+  sums = λ j c k q.
+      ⊎_elim
+      (λ below. p.front (get_or targets j 0) c below ∙ h.sums j c k below)
+      (λ above.
+      let place : at + (c - at) ≡ c = omega arith in
+      subst (λ x. byte_at next (get_or targets j 0) x ≡ combination (row_at table j) shown x) place (p.placed j (c - at) (omega arith) (omega arith)))
+      (cases_lt c at);
+  others = λ i apart. p.others i (λ j k. apart j (omega arith)) ∙ h.others i apart;
+}
+
+-- the same with other words for the bytes
+pub placed_same : (w at m : ℕ) (targets : List ℕ) (u v : ℕ → ℕ → ℕ) (before now : List (List ℕ)) → ((j l : ℕ) → j < m → l < w → u j l ≡ v j l) → Placed w at targets u before now m → Placed w at targets v before now m
+placed_same w at m targets u v before now same h = record {
+  count = h.count;
+  lengths = h.lengths;
+  placed = λ j l k q. h.placed j l k q ∙ same j l k q;
+  front = h.front;
+  others = h.others;
+}
+
+pub kept_lengths : (len : ℕ) (before now : List (List ℕ)) → length now ≡ length before → ((i : ℕ) → length (row_at now i) ≡ length (row_at before i)) → HaveLength len before → HaveLength len now
+kept_lengths len before now count same h i d k = ap length (at_default now i d [] k) ∙ same i ∙ h i [] (omega arith)
+
+-- a block is put into the row at target m
+pub block_placed : (w at len : ℕ) (targets : List ℕ) (v : ℕ → ℕ → ℕ) (before now : List (List ℕ)) (m : ℕ) (block : List ℕ) → IsStrictlyIncreasing targets → m < length targets
+    → get_or targets m 0 < length now → HaveLength len before → at + w ≤ len → length block ≡ w → ((l : ℕ) → l < w → get_or block l 0 ≡ v m l)
+    → Placed w at targets v before now m → Placed w at targets v before (with_row now (get_or targets m 0) (put_chunk at (row_at now (get_or targets m 0)) block)) (m + 1)
+block_placed w at len targets v before now m block ascend inside within even room size new h =
+    let t = get_or targets m 0 in
+    let row = row_at now t in
+    let next = put_chunk at row block in
+    let lengths = kept_lengths len before now h.count h.lengths even in
+    let long : length row ≡ len = lengths t [] within in
+    let same : length next ≡ len = length-put_chunk at row block ∙ long in
+    subst (λ rows. Placed w at targets v before rows (m + 1)) (sym (with_row-set now t next (λ i d k. lengths i d k ∙ sym same) within))
+    (placed_more w at targets v before now m next ascend inside within (length-put_chunk at row block)
+    (λ l k. get_or-put_chunk_at at row block l 0 (omega arith) (omega arith) ∙ new l k)
+    (λ c k. get_or-put_chunk_below at row block c 0 k)
+    h)
+
+-- a byte is put into the row at target m
+pub byte_placed : (at len b : ℕ) (targets : List ℕ) (v : ℕ → ℕ → ℕ) (before now : List (List ℕ)) (m : ℕ) → IsStrictlyIncreasing targets → m < length targets
+    → get_or targets m 0 < length now → HaveLength len before → at < len → b ≡ v m 0
+    → Placed 1 at targets v before now m → Placed 1 at targets v before (with_row now (get_or targets m 0) (set (row_at now (get_or targets m 0)) at b)) (m + 1)
+byte_placed at len b targets v before now m ascend inside within even room new h =
+    let t = get_or targets m 0 in
+    let row = row_at now t in
+    let next = set row at b in
+    let lengths = kept_lengths len before now h.count h.lengths even in
+    let long : length row ≡ len = lengths t [] within in
+    let same : length next ≡ len = length-set row at b ∙ long in
+    subst (λ rows. Placed 1 at targets v before rows (m + 1)) (sym (with_row-set now t next (λ i d k. lengths i d k ∙ sym same) within))
+    (placed_more 1 at targets v before now m next ascend inside within (length-set row at b)
+    (λ l k.
+    let first : l ≡ 0 = omega arith in
+    subst (λ x. get_or next (at + x) 0 ≡ v m x) (sym first) (ap (λ n. get_or next n 0) (omega arith) ∙ get_or-set_same row at b 0 (omega arith) ∙ new))
+    (λ c k. get_or-set_other row at c b 0 (λ e. omega arith))
+    h)
+
+-- with all columns made, the rows at the targets are the combinations
+pub combinations_at : (table shown : List (List ℕ)) (targets : List ℕ) (before now : List (List ℕ)) (len : ℕ) → length targets ≡ length table → length (row_at shown 0) ≡ len
+    → All (λ p. p < length before) targets → HaveLength len before → Combined table shown targets before now len → AreCombinations table shown (rows_at now targets)
+combinations_at table shown targets before now len height first below even h =
+    let lengths = kept_lengths len before now h.count h.lengths even in
+    record {
+      count = length-map targets (row_at now) ∙ height;
+      equal_lengths = λ j d k.
+          let within : j < length targets = omega (arith, length-map targets (row_at now)) in
+          ap length (at_default (rows_at now targets) j d [] k ∙ row_at-rows_at now targets j within)
+          ∙ lengths (get_or targets j 0) [] (omega (arith, h.count, below j 0 within)) ∙ sym first;
+      values = λ j c k l.
+          let within : j < length targets = omega arith in
+          ap (λ row. get_or row c 0) (row_at-rows_at now targets j within) ∙ h.sums j c within (omega arith);
+    }
+
+-- the first row of all, and the first of those at some positions, are as long as all others
+pub source_rows : (rows : List (List ℕ)) (positions : List ℕ) (len : ℕ) → 0 < length positions → All (λ p. p < length rows) positions → HaveLength len rows
+    → (length (row_at rows 0) ≡ len) × (length (row_at (rows_at rows positions) 0) ≡ len)
+source_rows rows positions len some below even = (
+  even 0 [] (omega (arith, below 0 0 some)),
+  ap length (row_at-rows_at rows positions 0 some) ∙ even (get_or positions 0 0) [] (below 0 0 some),
+)

@@ -1,0 +1,70 @@
+use Rattle.std.proofs.Common.{◌≡◌, ℕ, ◌+◌, ◌/◌, ◌^◌, ◌<◌, List, [], length, get_or, bit_and, cond, eqb, replicate, refl, sym, ap, ◌∙◌, arith}
+use Rattle.std.specs.Int.{bit_at}
+use Rattle.std.proofs.lemmas.Simd.{get_or-replicate}
+use Rattle.cb_gf256.specs.Sum.{◌⊕◌, sum_over}
+use Rattle.cb_gf256.specs.Product.{◌⊗◌}
+use Rattle.cb_gf256.specs.Power.{power}
+use Rattle.cb_gf256.specs.Lanes.{HasLanes}
+use Rattle.cb_gf256.proofs.FieldLaws.{zero-product, product-lt}
+use Rattle.cb_gf256.proofs.PowerLaws.{one-product, power-zero, power-lt}
+use Rattle.cb_gf256.proofs.LaneLemmas.{lane_fits}
+use Rattle.cb_gf256.proofs.Halving.{named_power, named_powers, doubling_added, doubled_more}
+use Rattle.std.proofs.lemmas.Bool.{ne_eqb, eq-eqb}
+use Rattle.std.proofs.lemmas.Nat.{and_mask}
+use Rattle.cb_gf256.proofs.products.multiplied.Goals.{then-c-bit-eq1, else-c-bit-eq1}
+use Rattle.cb_gf256.proofs.products.multiplied.Goals as goal
+
+named_bit : (n i : ℕ) → bit_and (n / 2 ^ i) 1 ≡ 1 → bit_at n i ≡ 1
+named_bit n i e = sym (and_mask (n / 2 ^ i) 1) ∙ e
+
+other_bit : (n i : ℕ) → bit_at n i ≡ 1 → bit_and (n / 2 ^ i) 1 ≡ 1
+other_bit n i e = and_mask (n / 2 ^ i) 1 ∙ e
+
+pub loop-bit-init : goal.loop-bit-init
+loop-bit-init c =
+    let block = c.args.block in (
+      record { count = refl; each = λ l h. get_or-replicate 32 l 0 0 h ∙ sym (zero-product (get_or block l 0)) },
+      record {
+        count = c.fits-block.0;
+        each = λ l h. sym (ap (λ p. p ⊗ get_or block l 0) (power-zero 2) ∙ one-product (get_or block l 0) (lane_fits block c.fits-block.0 c.fits-block.1 l h));
+      },
+    )
+
+pub loop-bit-preserved : goal.loop-bit-preserved
+loop-bit-preserved c =
+    let block = c.args.block in
+    let i = c.loop-bit.bit in
+    let mask_is : c.if-c-bit-eq1.mask ≡ cond (eqb (bit_at c.args.c i) 1) 255 0 =
+    elim c.if-c-bit-eq1.branch [
+      then-c-bit-eq1 w ↦ w.mask-is ∙ sym (ap (λ t. cond t 255 0) (eq-eqb (bit_at c.args.c i) 1 (named_bit c.args.c i w.if-c-bit-eq1.true)))
+      | else-c-bit-eq1 w ↦ w.mask-is ∙ sym (ap (λ t. cond t 255 0) (ne_eqb (bit_at c.args.c i) 1 (λ e. w.if-c-bit-eq1.false (other_bit c.args.c i e))))
+    ] in (
+      record {
+        count = c.add_blocks-sum.ensures.count;
+        each = λ l h.
+            c.add_blocks-sum.ensures.each l h
+            ∙ ap (λ x. get_or c.loop-bit.sum l 0 ⊕ x) (c.masked.ensures.each l h)
+            ∙ doubling_added c.args.c i (get_or block l 0) (get_or c.loop-bit.sum l 0) (get_or c.loop-bit.doubling l 0) c.if-c-bit-eq1.mask
+              (c.loop-bit.invariant.0.each l h)
+              (omega (arith, c.loop-bit.invariant.1.each l h, product-lt (power 2 i) (get_or block l 0) (power-lt 2 i (omega arith)) (lane_fits block c.fits-block.0 c.fits-block.1 l h)))
+              (c.loop-bit.invariant.1.each l h) mask_is;
+      },
+      record {
+        count = c.doubled-doubling.ensures.count;
+        each = λ l h.
+            c.doubled-doubling.ensures.each l h ∙ ap (λ x. 2 ⊗ x) (c.loop-bit.invariant.1.each l h)
+            ∙ doubled_more i (get_or block l 0) (lane_fits block c.fits-block.0 c.fits-block.1 l h);
+      },
+    )
+
+pub returns : goal.returns
+returns c =
+    let block = c.args.block in
+    let all : c.loop-bit.bit ≡ 8 = omega arith in
+    record {
+      count = c.loop-bit.invariant.0.count;
+      each = λ l h.
+          c.loop-bit.invariant.0.each l h
+          ∙ ap (λ n. sum_over n (named_power c.args.c) ⊗ get_or block l 0) all
+          ∙ ap (λ x. x ⊗ get_or block l 0) (named_powers c.args.c c.ranges.c.fits);
+    }

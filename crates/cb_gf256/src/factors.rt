@@ -1,0 +1,87 @@
+//! A table of factors, each kept as its products with the halves of a byte.
+ghost use Rattle.std.specs.Prelude.{◌≡◌, ℕ, ◌^◌, ◌<◌, ◌≤◌, length, slice_index};
+ghost use Rattle.cb_gf256.specs.Rows.{row_at, byte_at, HaveLength};
+ghost use Rattle.cb_gf256.specs.Corner.{corner};
+
+use crate::products::Products;
+use std::marker::Model;
+
+/// Up to four rows of up to sixteen factors each, 2 KB in place.
+#[derive(Debug, Drop)]
+pub struct Factors {
+    products: [[Products; 16]; 4],
+    width: u32,
+    height: u32,
+}
+
+impl Model for Factors {
+    ghost use Rattle.std.specs.Prelude.{ℕ, List};
+    ghost use Rattle.cb_gf256.specs.Corner.{corner, HasCorner};
+
+    ghost Value = { List (List ℕ) };
+
+    ghost view = { λ f. corner f.width f.height f.products };
+
+    ghost invariant = { λ f. HasCorner f.width f.height f.products };
+}
+
+impl Factors {
+    /// The first `width` factors of the first `height` rows of this table.
+    pub fn of_table(table: &[[u8; 16]; 4], width: u32, height: u32) -> Factors
+        requires places { width ≤ 16 }
+        requires rows { height ≤ 4 }
+        requires sized { HaveLength 16 table.now }
+        ensures { result ≡ corner width height table.now }
+    {
+        let mut products = [[Products::of(0); 16]; 4];
+        for j in 0..height as usize {
+            products[j] = products_of(&table[j], width as usize);
+        }
+        Factors {
+            products,
+            width,
+            height,
+        }
+    }
+
+    /// How many rows there are.
+    pub fn height(&self) -> u32
+        ensures count { result ≡ length self.now }
+        ensures most { result ≤ 4 }
+    {
+        self.height
+    }
+
+    /// Factor `i` of row `j`.
+    pub fn at(&self, j: u32, i: u32) -> u8
+        requires row { j < length self.now }
+        requires place { i < length (row_at self.now j) }
+        ensures { result ≡ byte_at self.now j i }
+    {
+        self.product(j as usize, i as usize).factor()
+    }
+
+    /// Factor `i` of row `j` with its products.
+    #[inline(always)]
+    pub(crate) fn product(&self, j: usize, i: usize) -> &Products
+        requires row { j < length self.now }
+        requires place { i < length (row_at self.now j) }
+        requires few { (j < 2 ^ 32) × (i < 2 ^ 32) }
+        ensures { result.now ≡ byte_at self.now j i }
+    {
+        &self.products[j][i]
+    }
+}
+
+/// The first `width` factors of a row.
+fn products_of(row: &[u8; 16], width: usize) -> [Products; 16]
+    requires { width ≤ 16 }
+    ensures count { length result ≡ 16 }
+    ensures factors { (i : ℕ) → i < width → slice_index result i ≡ slice_index row.now i }
+{
+    let mut products = [Products::of(0); 16];
+    for i in 0..width {
+        products[i] = Products::of(row[i]);
+    }
+    products
+}

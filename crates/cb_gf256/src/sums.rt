@@ -1,0 +1,239 @@
+//! Sums of rows, each times its factor: a block of all sums at a time, and the rest byte by byte.
+ghost use Rattle.std.specs.Prelude.{◌≡◌, ◌≢◌, ℕ, ◌+◌, ◌-◌, ◌/◌, ◌*◌};
+ghost use Rattle.std.specs.Prelude.{◌%◌, ◌<◌, ◌≤◌, List, length, All, slice_index};
+ghost use Rattle.std.specs.List.Sorted.{IsStrictlyIncreasing};
+ghost use Rattle.cb_gf256.specs.Sum.{◌⊕◌};
+ghost use Rattle.cb_gf256.specs.Product.{◌⊗◌};
+ghost use Rattle.cb_gf256.specs.Rows.{row_at, rows_at, byte_at, HaveLength};
+ghost use Rattle.cb_gf256.specs.Lanes.{HasLanes};
+ghost use Rattle.cb_gf256.specs.Combination.{combination, AreCombinations};
+ghost use Rattle.cb_gf256.specs.Placing.{Placed, Combined};
+
+use crate::factors::Factors;
+use crate::lanes::{BLOCK, add_blocks, block_at, put_block};
+use crate::rows::Rows;
+use std::simd::prelude::*;
+
+/// Adds to each of the sums a block, times its factor for place `i`.
+#[inline(always)]
+fn with_products<const R: usize>(
+    sums: [u8x32; R],
+    factors: &Factors,
+    i: usize,
+    block: u8x32,
+) -> [u8x32; R]
+    requires few { (R ≤ 4) × (i < 16) }
+    requires height { R ≤ length factors.now }
+    requires width { (j : ℕ) → j < R → i < length (row_at factors.now j) }
+    ensures count { length result ≡ R }
+    ensures lanes { (j : ℕ) → j < R
+        → HasLanes (row_at result j) (λ l. byte_at sums.entry j l ⊕
+            (byte_at factors.now j i ⊗ slice_index block l)) }
+{
+    let mut more = sums;
+    for j in 0..R {
+        more[j] = add_blocks(more[j], factors.product(j, i).times_block(block));
+    }
+    more
+}
+
+/// The blocks of the first `R` sums from a place on.
+#[inline(always)]
+fn block_sums<const R: usize>(
+    factors: &Factors,
+    rows: &Rows,
+    sources: &[u8],
+    at: usize,
+    len: usize,
+) -> [u8x32; R]
+    requires few { (R ≤ 4) × (length sources.now ≤ 16) }
+    requires height { R ≤ length factors.now }
+    requires width { HaveLength (length sources.now) factors.now }
+    requires below { All (λ p. p < length rows.now) sources.now }
+    requires lengths { HaveLength len rows.now }
+    requires inside { at + 32 ≤ len }
+    ensures { (j : ℕ) → j < R
+        → HasLanes (row_at result j) (λ l. combination (row_at factors.now j)
+            (rows_at rows.now sources.now) (at + l)) }
+{
+    let mut sums = [u8x32::splat(0); R];
+    for (i, position) in sources.iter().enumerate() {
+        let block = block_at(rows.row(u32::from(*position)), at);
+        sums = with_products::<R>(sums, factors, i, block);
+    }
+    sums
+}
+
+/// Puts the blocks of the first `R` sums into the rows at the targets, from a place on.
+#[inline(always)]
+fn put_sums<const R: usize>(
+    out: &mut Rows,
+    targets: &[u8],
+    at: usize,
+    sums: [u8x32; R],
+    len: usize,
+)
+    requires targets { length targets.now ≡ R }
+    requires ascending { IsStrictlyIncreasing targets.now }
+    requires below { All (λ p. p < length out.old) targets.now }
+    requires lengths { HaveLength len out.old }
+    requires inside { at + 32 ≤ len }
+    requires lanes { (j : ℕ) → j < R → length (row_at sums j) ≡ 32 }
+    ensures { Placed 32 at targets.now (byte_at sums.entry) out.old out.new R }
+{
+    for j in 0..R {
+        put_block(out.row_mut(u32::from(targets[j])), at, sums[j]);
+    }
+}
+
+/// Makes the sums in the rows at the targets, up to the last whole block.
+fn set_blocks<const R: usize>(
+    out: &mut Rows,
+    targets: &[u8],
+    factors: &Factors,
+    rows: &Rows,
+    sources: &[u8],
+    len: usize,
+)
+    requires few { (R ≤ 4) × (length sources.now ≤ 16) }
+    requires height { length factors.now ≡ R }
+    requires width { HaveLength (length sources.now) factors.now }
+    requires sources { All (λ p. p < length rows.now) sources.now }
+    requires targets { length targets.now ≡ R }
+    requires ascending { IsStrictlyIncreasing targets.now }
+    requires below { All (λ p. p < length out.old) targets.now }
+    requires lengths { HaveLength len rows.now × HaveLength len out.old }
+    ensures { Combined factors.now (rows_at rows.now sources.now) targets.now out.old out.new
+        (len / 32 * 32) }
+{
+    for block in 0..len / BLOCK {
+        let at = block * BLOCK;
+        let sums = block_sums::<R>(factors, rows, sources, at, len);
+        put_sums::<R>(out, targets, at, sums, len);
+    }
+}
+
+/// The same for as many sums as there are rows of factors.
+fn set_whole_blocks(
+    out: &mut Rows,
+    targets: &[u8],
+    factors: &Factors,
+    rows: &Rows,
+    sources: &[u8],
+    len: usize,
+)
+    requires few { length sources.now ≤ 16 }
+    requires height { length targets.now ≡ length factors.now }
+    requires width { HaveLength (length sources.now) factors.now }
+    requires sources { All (λ p. p < length rows.now) sources.now }
+    requires ascending { IsStrictlyIncreasing targets.now }
+    requires below { All (λ p. p < length out.old) targets.now }
+    requires lengths { HaveLength len rows.now × HaveLength len out.old }
+    ensures height { length factors.now ≤ 4 }
+    ensures blocks { Combined factors.now
+        (rows_at rows.now sources.now) targets.now out.old out.new (len / 32 * 32) }
+{
+    match factors.height() {
+        0 => set_blocks::<0>(out, targets, factors, rows, sources, len),
+        1 => set_blocks::<1>(out, targets, factors, rows, sources, len),
+        2 => set_blocks::<2>(out, targets, factors, rows, sources, len),
+        3 => set_blocks::<3>(out, targets, factors, rows, sources, len),
+        _ => set_blocks::<4>(out, targets, factors, rows, sources, len),
+    }
+}
+
+/// The byte at a column of sum `j`.
+fn sum_at(factors: &Factors, j: usize, rows: &Rows, sources: &[u8], column: usize) -> u8
+    requires few { (j < 4) × (length sources.now ≤ 16) }
+    requires height { j < length factors.now }
+    requires width { HaveLength (length sources.now) factors.now }
+    requires below { All (λ p. p < length rows.now) sources.now }
+    requires inside { (i : ℕ) → i < length rows.now → column < length (row_at rows.now i) }
+    ensures { result ≡ combination (row_at factors.now j) (rows_at rows.now sources.now) column }
+{
+    let mut sum = 0;
+    for (i, position) in sources.iter().enumerate() {
+        sum ^= factors.product(j, i).times(rows.row(u32::from(*position))[column]);
+    }
+    sum
+}
+
+/// Makes one column of the sums.
+fn set_column(
+    out: &mut Rows,
+    targets: &[u8],
+    factors: &Factors,
+    rows: &Rows,
+    sources: &[u8],
+    column: usize,
+    len: usize,
+)
+    requires few { (length targets.now ≤ 4) × (length sources.now ≤ 16) }
+    requires height { length targets.now ≡ length factors.now }
+    requires width { HaveLength (length sources.now) factors.now }
+    requires sources { All (λ p. p < length rows.now) sources.now }
+    requires ascending { IsStrictlyIncreasing targets.now }
+    requires below { All (λ p. p < length out.old) targets.now }
+    requires lengths { HaveLength len rows.now × HaveLength len out.old }
+    requires inside { column < len }
+    ensures { Placed 1 column targets.now
+        (λ j l. combination (row_at factors.now j) (rows_at rows.now sources.now) (column + l))
+        out.old out.new (length targets.now) }
+{
+    for (j, target) in targets.iter().enumerate() {
+        let sum = sum_at(factors, j, rows, sources, column);
+        out.row_mut(u32::from(*target))[column] = sum;
+    }
+}
+
+/// Makes the columns of the sums from one on, where those before it are made.
+fn set_rest(
+    out: &mut Rows,
+    targets: &[u8],
+    factors: &Factors,
+    rows: &Rows,
+    sources: &[u8],
+    from: usize,
+    len: usize,
+)
+    requires few { (length targets.now ≤ 4) × (length sources.now ≤ 16) }
+    requires height { length targets.now ≡ length factors.now }
+    requires width { HaveLength (length sources.now) factors.now }
+    requires sources { All (λ p. p < length rows.now) sources.now }
+    requires ascending { IsStrictlyIncreasing targets.now }
+    requires below { All (λ p. p < length out.old) targets.now }
+    requires lengths { HaveLength len rows.now × HaveLength len out.old }
+    requires inside { from ≤ len }
+    ensures { (before : List (List ℕ))
+        → Combined factors.now (rows_at rows.now sources.now) targets.now before out.old from
+        → Combined factors.now (rows_at rows.now sources.now) targets.now before out.new len }
+{
+    for column in from..len {
+        set_column(out, targets, factors, rows, sources, column, len);
+    }
+}
+
+impl Rows {
+    /// Makes the rows at `targets` sums of the rows of `rows` at `sources`: row j of the factors
+    /// has the factor of each source in the row at target j. All other rows stay.
+    pub fn set_sums(&mut self, targets: &[u8], factors: &Factors, rows: &Rows, sources: &[u8])
+        requires some { 0 < length sources.now }
+        requires few { length sources.now ≤ 16 }
+        requires height { length targets.now ≡ length factors.now }
+        requires width { HaveLength (length sources.now) factors.now }
+        requires sources { All (λ p. p < length rows.now) sources.now }
+        requires ascending { IsStrictlyIncreasing targets.now }
+        requires below { All (λ p. p < length self.old) targets.now }
+        requires lengths { HaveLength (length (row_at rows.now 0)) self.old }
+        ensures count { length self.new ≡ length self.old }
+        ensures lengths { HaveLength (length (row_at rows.now 0)) self.new }
+        ensures sums { AreCombinations factors.now (rows_at rows.now sources.now)
+            (rows_at self.new targets.now) }
+        ensures others { (i : ℕ) → All (λ t. t ≢ i) targets.now
+            → row_at self.new i ≡ row_at self.old i }
+    {
+        let len = rows.row_len() as usize;
+        set_whole_blocks(self, targets, factors, rows, sources, len);
+        set_rest(self, targets, factors, rows, sources, len / BLOCK * BLOCK, len);
+    }
+}

@@ -1,0 +1,9 @@
+//! Sums of rows of bytes over lanes, for whoever has no list of rows: they are the plain sums of
+//! the field, for every length.
+#![tactic(auto)]
+
+mod kernel;
+#[cfg(test)]
+mod tests;
+
+pub use kernel::{axpy, xor};
