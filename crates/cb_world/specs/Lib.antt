@@ -1,0 +1,11 @@
+pub mod Memory
+pub mod Write
+pub mod Shown
+pub mod Settling
+pub mod Played
+pub mod Looks
+pub mod Allowed
+pub mod Plain
+pub mod Grasped
+pub mod Written
+pub mod StillDesk
