@@ -30,7 +30,8 @@ IsSettledAs word.Far w = w ≡ 1 + len_of w * 8192
 IsSettledAs word.Here w = w < 2 ^ 53
 IsSettledAs word.Moving w = ⊥
 
--- a word is claimed where it is here and has no pins; the claim tells the object's version and words
+-- a word is claimed where it is here and has no pins; the claim tells the object's version and
+-- words
 pub record IsClaim (x : Words) (h w v : ℕ) (words : List ℕ) : Type 0 where
   pub found : slice_index x.words h ≡ w
   pub within : h < length x.words

@@ -20,7 +20,8 @@ MayFree s h (is.Far len v words) = version_at s h ≡ v + 1
 MayFree s h (is.Claimed len place v words) = version_at s h ≡ v + 1
 MayFree s h _ = ⊥
 
--- it is put away: its length alone stands in the word, and its version word is the last complete one
+-- it is put away: its length alone stands in the word, and its version word is the last complete
+-- one
 abbrev pub IsPutAway : Shown → ℕ → ℕ → ℕ → ℕ → Type 0
 IsPutAway s h w len v = (w ≡ 1 + len_of w * 8192) × (len_of w ≡ len) × (version_at s h ≡ v)
 
