@@ -30,3 +30,7 @@ pub mod Apart
 pub mod Kept
 pub mod Freed
 pub mod Closed
+pub mod Unmoved
+pub mod Claimed
+pub mod AfterClaim
+pub mod AfterLook

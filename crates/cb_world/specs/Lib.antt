@@ -27,3 +27,9 @@ pub mod Now
 pub mod SetAdded
 pub mod SwappedIn
 pub mod JoinSteps
+pub mod Sound
+pub mod Performs
+pub mod Claimed
+pub mod Still
+pub mod Finishes
+pub mod Reads
