@@ -34,3 +34,4 @@ pub mod Unmoved
 pub mod Claimed
 pub mod AfterClaim
 pub mod AfterLook
+pub mod Beside

@@ -1,0 +1,5 @@
+pub mod Merged
+pub mod Stores
+pub mod Answered
+pub mod WriteRule
+pub mod WriteEnds
