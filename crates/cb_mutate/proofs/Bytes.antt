@@ -3,14 +3,14 @@ use Rattle.std.proofs.Common.{◌≡◌, ◌≢◌, ◌⊎◌, ℕ, ◌+◌, ◌
 use native.Mathlib.Decide.{ℕ_discrete}
 use Rattle.std.specs.Int.{to_le_bytes, w64}
 use Rattle.cb_world.specs.declared.event.Event.{Event}
-use Rattle.cb_world.specs.declared.event.Event.TheVariants.{Looked, Claimed, Told, Loaded, Stored, Stamped, Settled}
+use Rattle.cb_world.specs.declared.event.Event.TheVariants.{Loaded, Stored}
 use Rattle.cb_world.specs.Memory.{byte_at, window, put, words_for}
 use Rattle.cb_world.specs.declared.shown.Shown.{Shown}
 use Rattle.cb_world.specs.Played.{Agree, played}
 use Rattle.cb_world.specs.Write.{IsWrite}
 use Rattle.cb_world.specs.Shown.{Owns, Covers}
-use Rattle.cb_world.proofs.Windows.{put_at, set_put, window_at, length_put}
-use Rattle.cb_world.specs.StillDesk.{put_window, window_length}
+use Rattle.cb_world.proofs.Windows.{put_at, set_put, length_put}
+use Rattle.cb_world.specs.StillDesk.{window_length}
 use Rattle.cb_world.proofs.Tracing.{played_append, agree_last}
 use Rattle.cb_mutate.specs.Merged.{IsMerged, IsMixed}
 use Rattle.cb_mutate.specs.Stores.{AreStores}

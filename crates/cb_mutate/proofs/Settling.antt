@@ -1,5 +1,5 @@
 -- How a claimed object is settled.
-use Rattle.std.proofs.Common.{◌≡◌, ◌≢◌, ◌⊎◌, ℕ, Bool, true, ◌+◌, ◌-◌, ◌*◌, ◌%◌, ◌^◌, ◌<◌, ◌≤◌, List, [], ◌∷◌, ◌++◌, length, get_or, set, sym, refl, ap, ◌∙◌, subst, arith, inl, inr, length-set, get_or-set_other, get_or-set_same, eqb, eq-eqb, ne_eqb, cond}
+use Rattle.std.proofs.Common.{◌≡◌, ℕ, Bool, true, ◌+◌, ◌^◌, ◌<◌, ◌≤◌, List, [], ◌∷◌, ◌++◌, length, set, sym, refl, ap, ◌∙◌, subst, arith, inr, get_or-set_same, ne_eqb, cond}
 use Rattle.cb_ptr.specs.declared.word.State.{State}
 use Rattle.cb_ptr.specs.declared.word.State.TheVariants as word
 use Rattle.cb_ptr.specs.declared.word.PtrWord.{PtrWord}
@@ -8,17 +8,17 @@ use Rattle.cb_ptr.specs.Steps.{Claims, Settles}
 use Rattle.cb_world.specs.declared.object.Object.{Object}
 use Rattle.cb_world.specs.declared.object.Object.TheVariants as is
 use Rattle.cb_world.specs.declared.event.Event.{Event}
-use Rattle.cb_world.specs.declared.event.Event.TheVariants.{Looked, Claimed, Told, Loaded, Stored, Stamped, Settled}
+use Rattle.cb_world.specs.declared.event.Event.TheVariants.{Told, Loaded, Stored, Stamped, Settled}
 use Rattle.cb_world.specs.Memory.{window, put, words_for}
 use Rattle.cb_world.specs.StillDesk.{window_length}
 use Rattle.cb_world.specs.declared.shown.Shown.{Shown}
 use Rattle.cb_world.specs.Write.{IsWrite}
-use Rattle.cb_world.specs.Shown.{IsHeld, MayLie, Owns, Covers, object_at, version_at}
+use Rattle.cb_world.specs.Shown.{MayLie, Covers, object_at, version_at}
 use Rattle.cb_world.specs.Settling.{MaySettle, MaySettleAs, MayBring}
-use Rattle.cb_world.specs.Played.{after, played, settled_by}
-use Rattle.cb_world.proofs.Tracing.{played_append, written_append}
+use Rattle.cb_world.specs.Played.{after, played}
+use Rattle.cb_world.proofs.Tracing.{played_append}
 use Rattle.cb_world.specs.declared.entry.Entry.{Entry}
-use Rattle.cb_world.specs.Written.{Writes, written_by, adds_as, newer, entry}
+use Rattle.cb_world.specs.Written.{Writes, written_by, adds_as, entry}
 use Rattle.cb_world.specs.Settling.{settled_words}
 use Rattle.cb_world.specs.Looks.{NoLook, NoClaim, LooksFirst, told_by}
 use Rattle.cb_world.specs.Grasped.{IsFree}
@@ -27,7 +27,6 @@ use Rattle.cb_mutate.specs.Stores.{AreStores}
 use Rattle.cb_world.specs.Claimed.{OwnsAll, IsClaimedAt}
 use Rattle.cb_world.proofs.Claimed.{settled_here}
 use Rattle.cb_mutate.specs.WriteEnds.{with_rewritten}
-use Rattle.cb_mutate.proofs.Bytes.{owns_put}
 
 -- how the word at which a written object is settled stands to the word at which it was claimed
 pub same_slot : (w m n place : ℕ) → IsFree w → Claims w m → place ≡ place_of w

@@ -1,8 +1,7 @@
 -- Events at memory words, and a write that is done as far as some byte.
-use Rattle.std.specs.Prelude.{◌≡◌, ◌⊎◌, ℕ, ◌+◌, ◌*◌, ◌<◌, ◌≤◌, List, [], ◌∷◌, length, slice_index}
+use Rattle.std.specs.Prelude.{List, [], ◌∷◌}
 use Rattle.cb_world.specs.declared.event.Event.{Event}
 use Rattle.cb_world.specs.declared.event.Event.TheVariants.{Loaded, Stored}
-use Rattle.cb_world.specs.Memory.{byte_at}
 
 -- every event is at a memory word
 abbrev pub AreStores : List Event → Type 0

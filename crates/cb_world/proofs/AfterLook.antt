@@ -1,11 +1,11 @@
 -- An operation that ends without a claim: looks, and reads behind them, change nothing.
 use Rattle.std.proofs.Common.{◌≡◌, ℕ, Bool, List, [], ◌∷◌, ◌++◌, sym, refl, ap, ◌∙◌, subst, inl}
 use Rattle.cb_world.specs.declared.event.Event.{Event}
-use Rattle.cb_world.specs.declared.event.Event.TheVariants.{Looked, Told, Loaded}
+use Rattle.cb_world.specs.declared.event.Event.TheVariants.{Looked, Claimed, Told, Loaded}
 use Rattle.cb_world.specs.declared.entry.Entry.{Entry}
 use Rattle.cb_world.specs.declared.shown.Shown.{Shown}
 use Rattle.cb_world.specs.Played.{after, played}
-use Rattle.cb_world.specs.Looks.{NoLook, IsFound, IsTold, AreLooks, LooksFirst, told_by}
+use Rattle.cb_world.specs.Looks.{NoLook, IsFound, IsTaken, IsTold, AreLooks, LooksFirst, told_by}
 use Rattle.cb_world.specs.Reads.{AreReads}
 use Rattle.cb_world.specs.Allowed.{Allowed}
 use Rattle.cb_world.specs.Written.{written_by}
@@ -84,6 +84,12 @@ pub told_before : (h v : ℕ) (es fs : List Event) → IsTold h v fs → IsTold 
 told_before h v [] fs a = a
 told_before h v (Told k u ∷ es) fs a = inl (told_before h v es fs a)
 told_before h v (e ∷ es) fs a = told_before h v es fs a
+
+pub taken_before : (h v : ℕ) (words : List ℕ) (es fs : List Event) → IsTaken h v words fs
+    → IsTaken h v words (es ++ fs)
+taken_before h v words [] fs a = a
+taken_before h v words (Claimed k w u xs ∷ es) fs a = inl (taken_before h v words es fs a)
+taken_before h v words (e ∷ es) fs a = taken_before h v words es fs a
 
 sound_hots : (far : FarState) (s : Shown) (hots : List Bool) → LocalSound s far
     → LocalSound (record s { hots = hots }) far
