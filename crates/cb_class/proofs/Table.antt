@@ -54,3 +54,21 @@ sizes_ascend i j d low high =
       | inl h ↦ let grown : size_at i < size_at j = sizes_grow i j h high in omega arith
       | inr h ↦ let same : i ≡ j = omega arith in rw same (omega arith)
     ])
+
+step_shrinks : (i : ℕ) → i < 11 → 4096 / size_at (suc i) < 4096 / size_at i
+step_shrinks i h =
+    let test = λ (k : ℕ). ltb (4096 / size_at (suc k)) (4096 / size_at k) in
+    let all : Passes test 11 = refl in
+    ltb-true _ _ (agree_below_at test (λ _. true) 11 i all h)
+
+-- of a greater size fewer fit
+pub counts_shrink : (i j : ℕ) → i < j → j < 12 → 4096 / size_at j < 4096 / size_at i
+counts_shrink i zero low high = absurd (omega arith)
+counts_shrink i (suc j) low high =
+    let step : 4096 / size_at (suc j) < 4096 / size_at j = step_shrinks j (omega arith) in
+    elim (cases_lt i j) [
+      | inl h ↦
+          let before : 4096 / size_at j < 4096 / size_at i = counts_shrink i j h (omega arith) in
+          omega (arith, step, before)
+      | inr h ↦ let same : i ≡ j = omega arith in rw same step
+    ]

@@ -7,11 +7,14 @@ pub const SPAN_BYTES: u32 = 4096;
 /// The bytes of a word of memory.
 pub const WORD_BYTES: u32 = 8;
 
+/// The words of memory of a frame, which holds one span.
+pub const FRAME_WORDS: u32 = SPAN_BYTES / WORD_BYTES;
+
 /// The number of size classes.
-const CLASSES: usize = 12;
+pub const CLASSES: usize = 12;
 
 /// The bytes of a slot of each class, by the class's index.
-const CLASS_BYTES: [u32; CLASSES] = [16, 32, 48, 64, 96, 128, 192, 256, 384, 512, 768, 1024];
+pub const CLASS_BYTES: [u32; CLASSES] = [16, 32, 48, 64, 96, 128, 192, 256, 384, 512, 768, 1024];
 
 /// A size class, named by its index in the table of sizes: a greater index has greater slots.
 #[derive(Clone, Copy, Debug, PartialEq, Eq, PartialOrd, Ord, Hash)]
@@ -41,8 +44,8 @@ pub fn class_bytes(c: Class) -> u32
     CLASS_BYTES[c.index as usize]
 }
 
-/// The slots of a span of the class, 4 to 256: as many as lie whole in the span's bytes. Slot s starts
-/// at byte s times the class's bytes.
+/// The slots of a span of the class, 4 to 256: as many as lie whole in the span's bytes. Slot s
+/// starts at byte s times the class's bytes.
 pub fn slots(c: Class) -> u32
     requires { IsClass c }
     ensures slots { result ≡ slots_of c }

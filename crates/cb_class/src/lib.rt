@@ -6,4 +6,7 @@ mod class;
 #[cfg(test)]
 mod tests;
 
-pub use class::{Class, SPAN_BYTES, WORD_BYTES, class_bytes, class_of, slot_words, slots};
+pub use class::{
+    CLASS_BYTES, CLASSES, Class, FRAME_WORDS, SPAN_BYTES, WORD_BYTES, class_bytes, class_of,
+    slot_words, slots,
+};

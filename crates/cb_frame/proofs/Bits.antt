@@ -5,7 +5,9 @@ use Rattle.std.specs.List.{range_with_len}
 use Rattle.std.proofs.lemmas.Bool.{cases_eq, cases_lt, eq-eqb, lt-ltb, le-ltb}
 use Rattle.std.proofs.lemmas.List.{get_or_past}
 use Rattle.std.proofs.lemmas.List.FromFn.{length-map-range_with_len, get_or-map-range_with_len}
-use Rattle.std.proofs.lemmas.Nat.Bits.{bit_at-zero, bit_at-trailing_zeros, bit_at_ones, bit_at_ones_above}
+use Rattle.std.proofs.lemmas.Nat.Bits.{bit_at-zero, bit_at_above, bit_at-trailing_zeros, bit_at_ones, bit_at_ones_above}
+use Rattle.std.proofs.lemmas.Nat.{pow-add}
+use Rattle.std.proofs.Math.Nat.{div-div-eq-div-mul}
 use Rattle.cb_frame.specs.Bitmap.{ChangesBit, IsFull, IsLeastSet, bit_in}
 
 -- the bit of a word that is 0 is clear
@@ -17,8 +19,10 @@ pub clear_past_words : (words : List ℕ) (n : ℕ) → 64 * length words ≤ n 
 clear_past_words words n past = clear_in_zero words n (get_or_past words (n / 64) 0 (omega arith))
 
 -- a write of a word that differs in one bit
-pub changes_bit : (words : List ℕ) (n v : ℕ) (bit : Bool) → n / 64 < length words → nat_eq (bit_at v (n % 64)) 1 ≡ bit
-    → ((i : ℕ) → i < 64 → i ≢ n % 64 → bit_at v i ≡ bit_at (get_or words (n / 64) 0) i) → ChangesBit words (set words (n / 64) v) n bit
+pub changes_bit : (words : List ℕ) (n v : ℕ) (bit : Bool) → n / 64 < length words
+    → nat_eq (bit_at v (n % 64)) 1 ≡ bit
+    → ((i : ℕ) → i < 64 → i ≢ n % 64 → bit_at v i ≡ bit_at (get_or words (n / 64) 0) i)
+    → ChangesBit words (set words (n / 64) v) n bit
 changes_bit words n v bit within here elsewhere = record {
   at = rw (get_or-set_same words (n / 64) v 0 within) here;
   others = λ k other. elim (cases_eq (k / 64) (n / 64)) [
@@ -28,25 +32,85 @@ changes_bit words n v bit within here elsewhere = record {
   ];
 }
 
--- the least bit of a bitmap is that of its first word that is not 0
-pub least_in_word : (words : List ℕ) (i : ℕ) → 0 < get_or words i 0 → get_or words i 0 < 2 ^ 64
-    → ((k : ℕ) → k < 64 * i → bit_in words k ≡ false) → IsLeastSet words (64 * i + trailing_zeros w64 (get_or words i 0))
-least_in_word words i some small before =
+-- the least bit from a start, in the first word that is not 0
+pub least_in_word : (words : List ℕ) (start i : ℕ) → 0 < get_or words i 0
+    → get_or words i 0 < 2 ^ 64 → start ≤ 64 * i
+    → ((k : ℕ) → start ≤ k → k < 64 * i → bit_in words k ≡ false)
+    → IsLeastSet words start (64 * i + trailing_zeros w64 (get_or words i 0))
+least_in_word words start i some small after before =
     let x = get_or words i 0 in
     let t = trailing_zeros w64 x in
-    let lowest : (t < 64) × (bit_at x t ≡ 1) × ((k : ℕ) → k < t → bit_at x k ≡ 0) = bit_at-trailing_zeros w64 x some small in
+    let lowest : (t < 64) × (bit_at x t ≡ 1) × ((k : ℕ) → k < t → bit_at x k ≡ 0) =
+    bit_at-trailing_zeros w64 x some small in
     let t_small : t < 64 = lowest.0 in
     let place : (64 * i + t) / 64 ≡ i = omega arith in
     let bit : (64 * i + t) % 64 ≡ t = omega arith in
     record {
+      after = omega arith;
       set = rw (place, bit) (eq-eqb (bit_at x t) 1 lowest.1);
-      before = λ k low. elim (cases_lt k (64 * i)) [
-        | inl earlier ↦ before k earlier
+      before = λ k from low. elim (cases_lt k (64 * i)) [
+        | inl earlier ↦ before k from earlier
         | inr later ↦ let same : k / 64 ≡ i = omega arith in
             let below : k % 64 < t = omega arith in
             rw (same, lowest.2 (k % 64) below) refl
       ];
     }
+
+-- a bit of a word that was shifted down
+bit_at-shifted : (x s j : ℕ) → bit_at (x / 2 ^ s) j ≡ bit_at x (s + j)
+bit_at-shifted x s j =
+    ap (λ q. q % 2) (div-div-eq-div-mul x (2 ^ s) (2 ^ j) ∙ ap (λ p. x / p) (sym (pow-add 2 s j)))
+
+-- the rest of the word in which a search starts
+abbrev pub rest_of : List ℕ → ℕ → ℕ
+rest_of words start = get_or words (start / 64) 0 / 2 ^ (start % 64)
+
+-- a bit of that word, from the start on
+bit_of_rest : (words : List ℕ) (start k : ℕ) → start ≤ k → k / 64 ≡ start / 64
+    → bit_in words k ≡ nat_eq (bit_at (rest_of words start) (k - start)) 1
+bit_of_rest words start k from same =
+    let place : start % 64 + (k - start) ≡ k % 64 = omega arith in
+    ap (λ i. nat_eq (bit_at (get_or words i 0) (k % 64)) 1) same
+    ∙ ap (λ i. nat_eq (bit_at (get_or words (start / 64) 0) i) 1) (sym place)
+    ∙ ap (λ b. nat_eq b 1)
+    (sym (bit_at-shifted (get_or words (start / 64) 0) (start % 64) (k - start)))
+
+-- a bit that is set lies within the word
+set_within : (x i : ℕ) → x < 2 ^ 64 → bit_at x i ≡ 1 → i < 64
+set_within x i small set = elim (cases_lt i 64) [
+  | inl within ↦ within
+  | inr past ↦ absurd (omega (arith, bit_at_above x 64 i small past, set))
+]
+
+-- the least bit from a start, in the word of the start
+pub least_in_rest : (words : List ℕ) (start : ℕ) → get_or words (start / 64) 0 < 2 ^ 64
+    → 0 < rest_of words start → rest_of words start < 2 ^ 64
+    → IsLeastSet words start (start + trailing_zeros w64 (rest_of words start))
+least_in_rest words start fits some small =
+    let x = get_or words (start / 64) 0 in
+    let rest = rest_of words start in
+    let t = trailing_zeros w64 rest in
+    let lowest : (t < 64) × (bit_at rest t ≡ 1) × ((k : ℕ) → k < t → bit_at rest k ≡ 0) =
+    bit_at-trailing_zeros w64 rest some small in
+    let in_word : start % 64 + t < 64 =
+    set_within x (start % 64 + t) fits (sym (bit_at-shifted x (start % 64) t) ∙ lowest.1) in
+    record {
+      after = omega arith;
+      set = bit_of_rest words start (start + t) (omega arith) (omega (arith, in_word))
+          ∙ ap (λ i. nat_eq (bit_at rest i) 1) (let e : start + t - start ≡ t = omega arith in e)
+          ∙ eq-eqb (bit_at rest t) 1 lowest.1;
+      before = λ k from low.
+          bit_of_rest words start k from (omega (arith, in_word))
+          ∙ ap (λ b. nat_eq b 1) (lowest.2 (k - start) (omega arith));
+    }
+
+-- where the rest is 0, no bit of that word from the start on is set
+pub none_in_rest : (words : List ℕ) (start : ℕ) → rest_of words start ≡ 0
+    → (k : ℕ) → start ≤ k → k < 64 * (start / 64 + 1) → bit_in words k ≡ false
+none_in_rest words start zero k from low =
+    bit_of_rest words start k from (omega arith)
+    ∙ ap (λ r. nat_eq (bit_at r (k - start)) 1) zero
+    ∙ ap (λ b. nat_eq b 1) (bit_at-zero (k - start))
 
 -- a word of so many ones, at a bit
 ones_at : (m i : ℕ) → nat_eq (bit_at (2 ^ m - 1) i) 1 ≡ nat_lt i m
@@ -67,7 +131,8 @@ abbrev pub ones_of : ℕ → ℕ → ℕ
 ones_of count i = 2 ^ min (count - 64 * i) 64 - 1
 
 -- a bitmap whose words are made for its bits
-pub full_by_words : (words : List ℕ) (count len : ℕ) → len ≡ (count + 63) / 64 → words ≡ map (ones_of count) (range_with_len 0 len) → IsFull words count
+pub full_by_words : (words : List ℕ) (count len : ℕ) → len ≡ (count + 63) / 64
+    → words ≡ map (ones_of count) (range_with_len 0 len) → IsFull words count
 full_by_words words count len enough made =
     let length_is : length words ≡ len = ap length made ∙ length-map-range_with_len (ones_of count) 0 len in
     record {

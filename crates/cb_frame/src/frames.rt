@@ -1,28 +1,30 @@
 ghost use Rattle.std.specs.Prelude.{◌≡◌, ◌<◌, IfNone, IfOk, IfSome, length};
+ghost use Rattle.cb_frame.specs.FrameSet.{contains};
 ghost use Rattle.cb_frame.specs.FreeFrames.{IsFree, all_free, free_count, least_free, with_given, with_taken};
 
-use crate::bitmap;
+use crate::frame_set::FrameSet;
 use cb_member::NoMemory;
 use std::alloc::Global;
 use std::marker::Model;
 
-/// Which of a count of frames are free. Frames are numbered from 0. One bit a frame, and a counter.
+/// Which of a count of frames are free: the set of those, and a counter. Frames are numbered
+/// from 0.
 #[derive(Debug, Drop)]
 pub struct Frames {
-    words: Vec<u64>,
-    count: u32,
+    set: FrameSet,
+    // The count of free frames.
     free: u32,
 }
 
 impl Model for Frames {
-    ghost use Rattle.std.specs.Prelude.{Bool, List};
-    ghost use Rattle.cb_frame.specs.Bitmap.{IsBitmap, flags};
+    ghost use Rattle.std.specs.Prelude.{◌≡◌, Bool, List};
+    ghost use Rattle.cb_frame.specs.FreeFrames.{free_count};
 
     ghost Value = { List Bool };
 
-    ghost view = { λ a. flags a.words.items a.count };
+    ghost view = { λ a. a.set };
 
-    ghost invariant = { λ a. IsBitmap a.words.items a.count a.free };
+    ghost invariant = { λ a. a.free ≡ free_count a.set };
 }
 
 impl Frames {
@@ -30,10 +32,8 @@ impl Frames {
     pub fn new(alloc: Global, count: u32) -> Result<Frames, NoMemory>
         ensures { IfOk result (λ frames. frames ≡ all_free count) }
     {
-        let words = bitmap::full(alloc, count as usize)?;
         Ok(Frames {
-            words,
-            count,
+            set: FrameSet::full(alloc, count)?,
             free: count,
         })
     }
@@ -46,10 +46,10 @@ impl Frames {
         ensures in_range { IfSome result (λ f. f < length self.old) }
         ensures count { length self.new ≡ length self.old }
     {
-        let f = bitmap::least_set(&self.words)?;
-        bitmap::clear(&mut self.words, f);
+        let f = self.set.least()?;
+        self.set.remove(f);
         self.free -= 1;
-        Some(f as u32)
+        Some(f)
     }
 
     /// Gives a taken frame back. Takes no memory.
@@ -59,7 +59,7 @@ impl Frames {
         ensures given { self.new ≡ with_given self.old f }
         ensures count { length self.new ≡ length self.old }
     {
-        bitmap::set(&mut self.words, f as usize);
+        self.set.insert(f);
         self.free += 1;
     }
 
@@ -68,6 +68,27 @@ impl Frames {
         ensures { result ≡ free_count self.now }
     {
         self.free
+    }
+
+    /// Whether the frame is free; one past the count is not.
+    pub fn is_free(&self, f: u32) -> bool
+        ensures { result ≡ contains self.now f }
+    {
+        self.set.contains(f)
+    }
+
+    /// How many frames there are, free or not.
+    pub fn count(&self) -> u32
+        ensures { result ≡ length self.now }
+    {
+        self.set.count()
+    }
+
+    /// The set of the free frames.
+    pub fn free_set(&self) -> &FrameSet
+        ensures { result.now ≡ self.now }
+    {
+        &self.set
     }
 }
 
@@ -84,18 +105,31 @@ mod tests {
         assert_eq!(rt; frames.take(), Some(1));
         assert_eq!(rt; frames.take(), None);
         frames.give(0);
-        assert_eq!(rt; frames.free(), 1);
+        assert_eq!(rt; (frames.free(), frames.count()), (1, 2));
+        assert!(rt; frames.is_free(0) && !frames.is_free(1) && !frames.is_free(2));
         assert_eq!(rt; frames.take(), Some(0));
         Ok(())
     }
 
     #[test]
-    fn frames_past_the_first_word_are_taken(rt: HostRuntime) -> Result<(), Fail> {
-        let mut frames = Frames::new(rt.alloc(), 130)?;
-        for f in 0..130 {
-            assert_eq!(rt; frames.take(), Some(f));
+    fn frames_past_the_first_word_are_found(rt: HostRuntime) -> Result<(), Fail> {
+        let mut frames = FrameSet::empty(rt.alloc(), 4096)?;
+        frames.insert(63);
+        frames.insert(64);
+        frames.insert(700);
+        frames.insert(4095);
+        frames.remove(64);
+        for (start, found) in [
+            (0, Some(63)),
+            (64, Some(700)),
+            (700, Some(700)),
+            (701, Some(4095)),
+            (4096, None),
+        ] {
+            assert_eq!(rt; frames.least_from(start), found, "from {start}");
         }
-        assert_eq!(rt; frames.take(), None);
+        assert_eq!(rt; frames.least(), Some(63));
+        assert!(rt; frames.contains(63) && !frames.contains(64) && !frames.contains(9999));
         Ok(())
     }
 }

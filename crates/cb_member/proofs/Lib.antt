@@ -1,3 +1,6 @@
 pub mod Fresh
 pub mod Crashes
-pub mod PublicLaws
+pub mod Valid
+pub mod Changes
+pub mod Laws
+pub mod Worked

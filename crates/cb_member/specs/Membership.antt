@@ -1,5 +1,5 @@
 -- Which nodes are up, how often each has joined, and when each of its incarnations crashed.
-use Rattle.std.specs.Prelude.{◌≡◌, ℕ, ◌+◌, Bool, true, false, if◌then◌else◌, List, [], ◌∷◌, ◌++◌, length, slice_get, slice_index_or, slice_set, Option, All, replicate, sum_by}
+use Rattle.std.specs.Prelude.{◌≡◌, ◌≢◌, ℕ, ◌+◌, ◌^◌, ◌<◌, ◌≤◌, Bool, true, false, if◌then◌else◌, List, [], ◌∷◌, ◌++◌, length, slice_get, slice_index_or, slice_set, Option, Some, All, replicate, sum_by}
 use Rattle.cb_member.specs.declared.names.NodeId.{NodeId}
 use Rattle.cb_member.specs.declared.names.Epoch.{Epoch}
 
@@ -48,16 +48,24 @@ abbrev pub with_state : Membership → NodeId → NodeState → Membership
 with_state m node state = record { epoch = m.epoch + 1; nodes = slice_set m.nodes node.n state }
 
 -- a crash of a node that is up: it is down, and the epoch stands under the incarnation that ended
-abbrev pub crashed : Membership → NodeId → Membership
-crashed m node =
+abbrev pub with_crash : Membership → NodeId → Membership
+with_crash m node =
     let s = state_of m node in
-    with_state m node (record { up = false; incarnation = s.incarnation; crashes = s.crashes ++ next_epoch m ∷ [] })
+    with_state m node (record {
+      up = false;
+      incarnation = s.incarnation;
+      crashes = s.crashes ++ next_epoch m ∷ [];
+    })
 
 -- a join of a node that is down: it is up, in the next incarnation
-abbrev pub joined : Membership → NodeId → Membership
-joined m node =
+abbrev pub with_join : Membership → NodeId → Membership
+with_join m node =
     let s = state_of m node in
-    with_state m node (record { up = true; incarnation = s.incarnation + 1; crashes = s.crashes })
+    with_state m node (record {
+      up = true;
+      incarnation = s.incarnation + 1;
+      crashes = s.crashes;
+    })
 
 -- how many crashes and joins a node has had
 abbrev pub events_of : NodeState → ℕ
@@ -69,7 +77,18 @@ ended_incarnations s = if s.up then s.incarnation else s.incarnation + 1
 
 -- What holds at every moment.
 pub record IsMembership (m : Membership) : Type 0 where
+  -- a u32 counts the nodes
+  pub numbered : length m.nodes < 2 ^ 32
   -- the epoch is the number of crashes and joins
   pub counted : m.epoch ≡ sum_by events_of m.nodes
   -- each incarnation that is over ended by one crash
   pub ended : All (λ s. length s.crashes ≡ ended_incarnations s) m.nodes
+  -- the epochs of crashes lie from 1 to the epoch
+  pub in_range : (node : NodeId) (which : ℕ) (e : Epoch) → crashed_at m node which ≡ Some e
+      → (1 ≤ e.n) × (e.n ≤ m.epoch)
+  -- a node's later incarnation ended at a later epoch
+  pub rising : (node : NodeId) (earlier later : ℕ) (d e : Epoch) → earlier < later
+      → crashed_at m node earlier ≡ Some d → crashed_at m node later ≡ Some e → d.n < e.n
+  -- no two nodes crashed at one epoch
+  pub apart : (a b : NodeId) (i j : ℕ) (d e : Epoch) → a.n ≢ b.n
+      → crashed_at m a i ≡ Some d → crashed_at m b j ≡ Some e → d.n ≢ e.n

@@ -2,14 +2,12 @@
 //! its incarnations crashed; and the names by which the crates above speak of nodes and losses.
 #![tactic(auto)]
 
-mod laws;
 mod losses;
 mod members;
 mod names;
 mod no_memory;
 mod node;
 
-pub use laws::membership_laws;
 pub use losses::Losses;
 pub use members::{MemberAnswer, Members};
 pub use names::{Epoch, Loss, NodeId, Shard};

@@ -33,6 +33,7 @@ impl Losses {
         Ok(Losses { items })
     }
 
+    /// The losses in order.
     pub fn as_slice(&self) -> &[Loss]
         ensures items { result.now ≡ self.now }
     {

@@ -71,11 +71,11 @@ impl Members {
         ensures epoch { self.new.epoch ≤ self.old.epoch + 1 }
         ensures valid { IsMembership self.new }
     {
-        let epoch = Epoch { n: self.epoch + 1 };
-        let state = &mut self.nodes[usize::from(node.n)];
-        if !state.up {
+        if !self.alive(node) {
             return Ok(MemberAnswer::Down { node });
         }
+        let epoch = Epoch { n: self.epoch + 1 };
+        let state = &mut self.nodes[usize::from(node.n)];
         state.crashes.push(epoch)?;
         state.up = false;
         self.epoch = epoch.n;
@@ -93,15 +93,31 @@ impl Members {
         ensures epoch { self.new.epoch ≤ self.old.epoch + 1 }
         ensures valid { IsMembership self.new }
     {
-        let epoch = Epoch { n: self.epoch + 1 };
-        let state = &mut self.nodes[usize::from(node.n)];
-        if state.up {
+        if self.alive(node) {
             return MemberAnswer::Up { node };
         }
+        let epoch = Epoch { n: self.epoch + 1 };
+        let state = &mut self.nodes[usize::from(node.n)];
         state.up = true;
         state.incarnation += 1;
         self.epoch = epoch.n;
         MemberAnswer::Changed { epoch }
+    }
+
+    /// The present epoch: how many crashes and joins there were.
+    pub fn epoch(&self) -> Epoch
+        ensures epoch { result.n ≡ self.now.epoch }
+        ensures valid { IsMembership self.now }
+    {
+        Epoch { n: self.epoch }
+    }
+
+    /// How many nodes there are, up or down.
+    pub fn count(&self) -> u32
+        ensures count { result ≡ length self.now.nodes }
+        ensures valid { IsMembership self.now }
+    {
+        self.nodes.len() as u32
     }
 
     /// Whether the node is up.
@@ -150,6 +166,7 @@ mod tests {
         assert_eq!(rt; members.crash(node)?, MemberAnswer::Down { node });
         assert!(rt; !members.alive(node));
         assert_eq!(rt; members.join(node), changed(2));
+        assert_eq!(rt; (members.epoch(), members.count()), (Epoch { n: 2 }, 6));
         assert_eq!(rt; members.incarnation(node), 1);
         assert_eq!(rt; members.crashed_at(node, 0), Some(Epoch { n: 1 }));
         assert_eq!(rt; members.crashed_at(node, 1), None);

@@ -1,3 +1,4 @@
 pub mod Bits
 pub mod Laws
 pub mod Pointers
+pub mod Worked

@@ -1,5 +1,5 @@
-use Rattle.std.specs.Prelude.{◌≡◌, ◌+◌, ◌*◌, ◌^◌, ◌<◌, Bool, true, ℕ}
-use Rattle.cb_ptr.specs.declared.word.State.TheVariants.{Here, Moving}
+use Rattle.std.specs.Prelude.{◌≡◌, ◌+◌, ◌*◌, ◌^◌, ◌<◌, Bool, true, false, ℕ}
+use Rattle.cb_ptr.specs.declared.word.State.TheVariants.{Far, Here, Moving}
 use Rattle.cb_ptr.specs.Word.{flag_number, hot_of, len_of, pins_of, place_of, state_of}
 
 -- the new word is the old one with one pin more, and hot: 8 more, and 4 more where it was not hot
@@ -37,3 +37,12 @@ pub record Settles (old at : ℕ) (as_hot : Bool) (new : ℕ) : Type 0 where
   pub len : len_of new ≡ len_of old
   pub place : place_of new ≡ at
   pub below : new < 2 ^ 53
+
+-- the word of a Far object: its length in bytes, and nothing else
+pub record IsFarWord (bytes w : ℕ) : Type 0 where
+  pub state : state_of w ≡ Far
+  pub hot : hot_of w ≡ false
+  pub pins : pins_of w ≡ 0
+  pub len : len_of w ≡ bytes
+  pub place : place_of w ≡ 0
+  pub number : w ≡ 1 + bytes * 8192

@@ -27,9 +27,11 @@ pub record IsInWidths (p : PtrWord) : Type 0 where
   pub len : p.len < 2 ^ 16
   pub place : p.place < 2 ^ 24
 
--- the word of the fields: state in bits 0 and 1, hot in bit 2, pins from bit 3, length from bit 13, place from bit 29
+-- the word of the fields: state in bits 0 and 1, hot in bit 2, pins from bit 3, length from bit 13,
+-- place from bit 29
 abbrev pub word_of : PtrWord → ℕ
-word_of p = state_number p.state + flag_number p.hot * 4 + p.pins * 8 + p.len * 8192 + p.place * 536870912
+word_of p =
+    state_number p.state + flag_number p.hot * 4 + p.pins * 8 + p.len * 8192 + p.place * 536870912
 
 -- the state in a word
 abbrev pub state_of : ℕ → State
@@ -53,9 +55,16 @@ place_of w = w / 536870912 % 16777216
 
 -- the fields of a word
 abbrev pub fields_of : ℕ → PtrWord
-fields_of w = record { state = state_of w; hot = hot_of w; pins = pins_of w; len = len_of w; place = place_of w }
+fields_of w = record {
+  state = state_of w;
+  hot = hot_of w;
+  pins = pins_of w;
+  len = len_of w;
+  place = place_of w;
+}
 
--- a word of an object: an Empty word is 0, a Far one has its length alone, one with pins is Here and hot
+-- a word of an object: an Empty word is 0, a Far one has its length alone, and one with pins is Here
+-- and hot
 pub record IsPointer (w : ℕ) : Type 0 where
   pub below : w < 2 ^ 53
   pub empty : state_of w ≡ Empty → w ≡ 0

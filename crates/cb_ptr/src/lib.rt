@@ -7,5 +7,5 @@ mod steps;
 mod tests;
 mod word;
 
-pub use steps::{claimed, pinned, settled, unpinned};
+pub use steps::{claimed, far_word, pinned, settled, unpinned};
 pub use word::{PtrWord, State, pack, unpack};

@@ -1,7 +1,7 @@
 ghost use Rattle.std.specs.Prelude.{◌≡◌, ◌^◌, ◌<◌, ◌≤◌};
 ghost use Rattle.cb_ptr.specs.declared.word.State.TheVariants.{Here, Moving};
 ghost use Rattle.cb_ptr.specs.Word.{pins_of, state_of};
-ghost use Rattle.cb_ptr.specs.Steps.{Claims, GivesPin, Settles, TakesPin};
+ghost use Rattle.cb_ptr.specs.Steps.{Claims, GivesPin, IsFarWord, Settles, TakesPin};
 
 use crate::word::{PtrWord, State, pack, unpack};
 
@@ -48,5 +48,19 @@ pub fn settled(w: u64, place: u32, hot: bool) -> u64
         hot,
         place,
         ..unpack(w)
+    })
+}
+
+/// The word of a Far object of so many bytes, below 65,536: what leaving stores.
+pub fn far_word(len: u32) -> u64
+    requires { len < 2 ^ 16 }
+    ensures { IsFarWord len result }
+{
+    pack(&PtrWord {
+        state: State::Far,
+        hot: false,
+        pins: 0,
+        len,
+        place: 0,
     })
 }

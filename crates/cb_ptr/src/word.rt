@@ -55,8 +55,8 @@ pub struct PtrWord {
     pub place: u32,
 }
 
-/// The word of these fields: state in bits 0 and 1, hot in bit 2, pins from bit 3, length from bit 13 and
-/// place from bit 29. Bits 53 to 63 are zero.
+/// The word of these fields: state in bits 0 and 1, hot in bit 2, pins from bit 3, length from bit
+/// 13 and place from bit 29. Bits 53 to 63 are zero.
 pub fn pack(p: &PtrWord) -> u64
     requires { IsInWidths p.now }
     ensures word { result ≡ word_of p.now }

@@ -7,8 +7,8 @@ use Rattle.std.proofs.lemmas.List.Elements.{filter_map-append}
 use Rattle.std.proofs.lemmas.List.Sums.{sum_by-cons, sum_by-set}
 use Rattle.cb_member.specs.declared.names.NodeId.{NodeId}
 use Rattle.cb_member.specs.declared.names.Shard.{Shard}
-use Rattle.cb_member.specs.Membership.{Membership, alive, incarnation, next_epoch, crashed, joined, crashed_at, IsMembership}
-use Rattle.cb_member.proofs.PublicLaws.{crash_ends_its_incarnation, crash_keeps_other_incarnations, crash_keeps_other_nodes, join_keeps_crashes}
+use Rattle.cb_member.specs.Membership.{Membership, alive, incarnation, next_epoch, with_crash, with_join, crashed_at, IsMembership}
+use Rattle.cb_member.proofs.Laws.{crash_ends_its_incarnation, crash_keeps_other_incarnations, crash_keeps_other_nodes, join_keeps_crashes}
 use Rattle.cb_set.specs.Lost.{loss_of, lost, is_lost}
 
 -- one shard more
@@ -30,22 +30,22 @@ pub length-lost-set : (m : Membership) (shards : List Shard) (i : ℕ) (shard d 
 length-lost-set m shards i shard d within = omega (arith, length-lost m (set shards i shard), length-lost m shards, sum_by-set (λ s. if is_lost m s then 1 else 0) shards i shard d within)
 
 -- a crash loses the node's shards of the incarnation that it ends
-pub loss_of-crashed_here : (m : Membership) (shard : Shard) → IsMembership m → shard.node.n < length m.nodes → alive m shard.node ≡ true → shard.incarnation ≡ incarnation m shard.node → loss_of (crashed m shard.node) shard ≡ Some (record { node = shard.node; epoch = next_epoch m })
+pub loss_of-crashed_here : (m : Membership) (shard : Shard) → IsMembership m → shard.node.n < length m.nodes → alive m shard.node ≡ true → shard.incarnation ≡ incarnation m shard.node → loss_of (with_crash m shard.node) shard ≡ Some (record { node = shard.node; epoch = next_epoch m })
 loss_of-crashed_here m shard valid within up current =
-    ap (option_map (λ epoch. record { node = shard.node; epoch = epoch })) (ap (crashed_at (crashed m shard.node) shard.node) current ∙ crash_ends_its_incarnation m shard.node valid within up)
+    ap (option_map (λ epoch. record { node = shard.node; epoch = epoch })) (ap (crashed_at (with_crash m shard.node) shard.node) current ∙ crash_ends_its_incarnation m shard.node valid within up)
 
 -- and no others
-pub loss_of-crashed_other_incarnation : (m : Membership) (shard : Shard) → IsMembership m → shard.node.n < length m.nodes → alive m shard.node ≡ true → shard.incarnation ≢ incarnation m shard.node → loss_of (crashed m shard.node) shard ≡ loss_of m shard
+pub loss_of-crashed_other_incarnation : (m : Membership) (shard : Shard) → IsMembership m → shard.node.n < length m.nodes → alive m shard.node ≡ true → shard.incarnation ≢ incarnation m shard.node → loss_of (with_crash m shard.node) shard ≡ loss_of m shard
 loss_of-crashed_other_incarnation m shard valid within up other =
     ap (option_map (λ epoch. record { node = shard.node; epoch = epoch })) (crash_keeps_other_incarnations m shard.node shard.incarnation valid within up other)
 
-pub loss_of-crashed_other_node : (m : Membership) (node : NodeId) (shard : Shard) → shard.node.n ≢ node.n → loss_of (crashed m node) shard ≡ loss_of m shard
+pub loss_of-crashed_other_node : (m : Membership) (node : NodeId) (shard : Shard) → shard.node.n ≢ node.n → loss_of (with_crash m node) shard ≡ loss_of m shard
 loss_of-crashed_other_node m node shard other =
     ap (option_map (λ epoch. record { node = shard.node; epoch = epoch })) (crash_keeps_other_nodes m node shard.node shard.incarnation other)
 
 -- a join loses no shard and brings none back
-pub lost-joined : (m : Membership) (node : NodeId) (shards : List Shard) → node.n < length m.nodes → lost (joined m node) shards ≡ lost m shards
+pub lost-joined : (m : Membership) (node : NodeId) (shards : List Shard) → node.n < length m.nodes → lost (with_join m node) shards ≡ lost m shards
 lost-joined m node [] within = refl
 lost-joined m node (x ∷ xs) within =
-    let here : loss_of (joined m node) x ≡ loss_of m x = ap (option_map (λ epoch. record { node = x.node; epoch = epoch })) (join_keeps_crashes m node x.node x.incarnation within) in
-    ap (λ o. cons_option o (lost (joined m node) xs)) here ∙ ap (cons_option (loss_of m x)) (lost-joined m node xs within)
+    let here : loss_of (with_join m node) x ≡ loss_of m x = ap (option_map (λ epoch. record { node = x.node; epoch = epoch })) (join_keeps_crashes m node x.node x.incarnation within) in
+    ap (λ o. cons_option o (lost (with_join m node) xs)) here ∙ ap (cons_option (loss_of m x)) (lost-joined m node xs within)

@@ -2,7 +2,7 @@
 ghost use Rattle.std.specs.Prelude.{◌≡◌, ◌≢◌, ℕ, ◌+◌, ◌<◌, true, if◌then◌else◌, List, length, Some, slice_index_or, slice_set, count_by};
 ghost use Rattle.cb_member.specs.declared.names.NodeId.{NodeId};
 ghost use Rattle.cb_member.specs.declared.names.Shard.{Shard};
-ghost use Rattle.cb_member.specs.Membership.{Membership, IsMembership, alive, incarnation, next_epoch, crashed, joined};
+ghost use Rattle.cb_member.specs.Membership.{Membership, IsMembership, alive, incarnation, next_epoch, with_crash, with_join};
 ghost use Rattle.cb_set.specs.Lost.{loss_of, lost, is_lost};
 ghost use Rattle.cb_set.specs.Nodes.{OnDistinctNodes};
 
@@ -14,14 +14,14 @@ pub fn set_laws()
         ≡ length (lost m shards) + (if is_lost m shard then 1 else 0) }
     ensures crash_loses_its_incarnation { (m : Membership) (shard : Shard) → IsMembership m → shard.node.n < length m.nodes
         → alive m shard.node ≡ true → shard.incarnation ≡ incarnation m shard.node
-        → loss_of (crashed m shard.node) shard ≡ Some (record { node = shard.node; epoch = next_epoch m }) }
+        → loss_of (with_crash m shard.node) shard ≡ Some (record { node = shard.node; epoch = next_epoch m }) }
     ensures crash_keeps_other_incarnations { (m : Membership) (shard : Shard) → IsMembership m
         → shard.node.n < length m.nodes → alive m shard.node ≡ true
-        → shard.incarnation ≢ incarnation m shard.node → loss_of (crashed m shard.node) shard ≡ loss_of m shard }
+        → shard.incarnation ≢ incarnation m shard.node → loss_of (with_crash m shard.node) shard ≡ loss_of m shard }
     ensures crash_keeps_other_nodes { (m : Membership) (node : NodeId) (shard : Shard) → shard.node.n ≢ node.n
-        → loss_of (crashed m node) shard ≡ loss_of m shard }
+        → loss_of (with_crash m node) shard ≡ loss_of m shard }
     ensures join_keeps_lost { (m : Membership) (node : NodeId) (shards : List Shard) → node.n < length m.nodes
-        → lost (joined m node) shards ≡ lost m shards }
+        → lost (with_join m node) shards ≡ lost m shards }
     ensures spare_node_is_distinct { (shards : List Shard) (i : ℕ) (shard : Shard) → OnDistinctNodes shards
         → ((k : ℕ) (other : Shard) → k < length shards → k ≢ i → (slice_index_or shards k other).node.n ≢ shard.node.n)
         → OnDistinctNodes (slice_set shards i shard) }

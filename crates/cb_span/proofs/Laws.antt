@@ -1,16 +1,16 @@
 -- The laws of a span's contents that the crates above cite.
-use Rattle.std.proofs.Common.{◌≡◌, ◌≢◌, ℕ, ◌+◌, ◌<◌, ◌≤◌, true, false, List, Option, Some, None, is_none, is_some, length, set, replicate, refl, ap, sym, ◌∙◌, arith, inl, inr, if◌then◌else◌}
+use Rattle.std.proofs.Common.{Bool, ◌≡◌, ◌≢◌, ℕ, suc, ◌+◌, ◌<◌, ◌≤◌, true, false, List, [], ◌∷◌, Option, count_by, get_or, Some, None, is_none, is_some, length, set, replicate, refl, ap, sym, ◌∙◌, arith, inl, inr, if◌then◌else◌}
 use Rattle.std.specs.List.{position_or_len}
 use Rattle.std.proofs.lemmas.Bool.{cases_lt, false≢true, le-ltb, lt-ltb}
 use Rattle.std.proofs.lemmas.List.{get_or-set_other, get_or-set_same, get_or-replicate, get_or_past, length-replicate, length-set, set-get_or, set-set}
 use Rattle.std.proofs.lemmas.List.Folds.{sum_by-replicate}
 use Rattle.std.proofs.lemmas.List.Quantifiers.{position-Some}
-use Rattle.std.proofs.lemmas.List.Sums.{count_by-le-length, fails_before_first, passes_at_first, position_or_len_is, sum_by-set}
+use Rattle.std.proofs.lemmas.List.Sums.{count_by-le-length, fails_before_first, passes_at_first, position_or_len_is, sum_by-cons, sum_by-set}
 use Rattle.cb_class.specs.declared.class.Class.{Class}
 use Rattle.cb_class.specs.Class.{IsClass, slots_of}
 use Rattle.cb_class.proofs.Laws.{slots_at_most}
 use Rattle.cb_span.specs.declared.temp.Temp.{Temp}
-use Rattle.cb_span.specs.Contents.{Contents, IsSpan, handle_at, least_empty, live_count, new_span, with_cleared, with_placed}
+use Rattle.cb_span.specs.Contents.{Contents, IsSpan, handle_at, least_empty, live_count, new_span, span_of, with_cleared, with_placed}
 
 -- an option that holds nothing is None
 none_unless : (o : Option ℕ) → ((x : ℕ) → o ≡ Some x → ⊥) → o ≡ None
@@ -124,6 +124,37 @@ live_count-pos span slot handle taken = omega (arith, live_count-with_cleared sp
 pub all_empty : (span : Contents) → live_count span ≡ 0 → (slot : ℕ) → handle_at span slot ≡ None
 all_empty span none slot = none_unless (handle_at span slot) (λ handle taken. omega (arith, live_count-pos span slot handle taken))
 
+count_by-all_none : (slots : List (Option ℕ))
+    → ((k : ℕ) → k < length slots → get_or slots k None ≡ None) → count_by is_some slots ≡ 0
+count_by-all_none [] empty = refl
+count_by-all_none (o ∷ slots) empty =
+    let first : counted o ≡ 0 = ap counted (empty 0 (omega arith)) in
+    let rest : count_by is_some slots ≡ 0 =
+    count_by-all_none slots (λ k within. empty (suc k) (omega arith)) in
+    omega (arith, sum_by-cons counted o slots, first, rest)
+
+count_by-all_some : (slots : List (Option ℕ))
+    → ((k : ℕ) → k < length slots → is_some (get_or slots k None) ≡ true)
+    → count_by is_some slots ≡ length slots
+count_by-all_some [] taken = refl
+count_by-all_some (o ∷ slots) taken =
+    let first : counted o ≡ 1 =
+    ap (λ (b : Bool). if b then 1 else 0) (taken 0 (omega arith)) in
+    let rest : count_by is_some slots ≡ length slots =
+    count_by-all_some slots (λ k within. taken (suc k) (omega arith)) in
+    omega (arith, sum_by-cons counted o slots, first, rest)
+
+-- a span each of whose slots is empty has the count 0
+pub none_taken : (span : Contents) → ((slot : ℕ) → handle_at span slot ≡ None)
+    → live_count span ≡ 0
+none_taken span empty = count_by-all_none span.slots (λ k within. empty k)
+
+-- a span each of whose slots is taken has the count of its slots
+pub live_count_full : (span : Contents)
+    → ((slot : ℕ) → slot < length span.slots → is_some (handle_at span slot) ≡ true)
+    → live_count span ≡ length span.slots
+live_count_full span taken = count_by-all_some span.slots taken
+
 -- the least empty slot is in range and empty, and every slot below it is taken
 pub least_empty-Some : (span : Contents) (slot : ℕ) → least_empty span ≡ Some slot
     → (slot < length span.slots) × (handle_at span slot ≡ None) × ((k : ℕ) → k < slot → is_some (handle_at span k) ≡ true)
@@ -160,3 +191,21 @@ least_empty_full span full =
           absurd (omega (arith, more, most, full, length-set span.slots place (Some 0)))
       | inr past ↦ rw (le-ltb place (length span.slots) past) refl
     ]
+
+-- a span has no least empty slot exactly where all its slots are taken
+pub all_taken : (span : Contents) → live_count span ≡ length span.slots
+    → (slot : ℕ) → slot < length span.slots → is_some (handle_at span slot) ≡ true
+all_taken span full = least_empty-None span (least_empty_full span full)
+
+pub live_count-no_empty : (span : Contents) → least_empty span ≡ None
+    → live_count span ≡ length span.slots
+live_count-no_empty span none = live_count_full span (least_empty-None span none)
+
+-- the span of a span's own parts is that span
+pub span_of-parts : (span : Contents) → span_of span.class span.temp span.slots ≡ span
+span_of-parts span = refl
+
+-- a slot table of the class's length makes a span
+pub IsSpan-span_of : (class : Class) (temp : Temp) (slots : List (Option ℕ)) → IsClass class
+    → length slots ≡ slots_of class → IsSpan (span_of class temp slots)
+IsSpan-span_of class temp slots known sized = record { in_table = known; sized = sized }

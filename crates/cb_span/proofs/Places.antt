@@ -1,22 +1,68 @@
--- Where slots lie in memory.
-use Rattle.std.proofs.Common.{ℕ, ◌+◌, ◌*◌, ◌^◌, ◌<◌, ◌≤◌, arith}
+-- Where slots lie in memory: the laws that the crates above cite.
+use Rattle.std.proofs.Common.{◌≡◌, ℕ, ◌+◌, ◌*◌, ◌/◌, ◌%◌, ◌^◌, ◌<◌, ◌≤◌, ap, sym, ◌∙◌, arith}
+use Rattle.std.proofs.Math.Nat.{div-add-mod, mul-div_right}
 use Rattle.cb_class.specs.declared.class.Class.{Class}
 use Rattle.cb_class.specs.Class.{IsClass, slots_of, words_of}
-use Rattle.cb_class.proofs.Laws.{slot_within, slots_apart}
-use Rattle.cb_span.specs.Places.{slot_place}
+use Rattle.cb_class.proofs.Laws.{slot_within, slots_apart, words_at_least}
+use Rattle.cb_span.specs.Places.{frame_of, slot_of, slot_place}
 
 -- a slot lies within the 512 words of its frame
-pub slot_place_within : (class : Class) (frame slot : ℕ) → IsClass class → slot < slots_of class → slot_place class frame slot + words_of class ≤ 512 * (frame + 1)
+pub slot_place_within : (class : Class) (frame slot : ℕ) → IsClass class → slot < slots_of class
+    → slot_place class frame slot + words_of class ≤ 512 * (frame + 1)
 slot_place_within class frame slot known within = omega (arith, slot_within class slot known within)
 
--- the place of a slot in one of 4,096 frames fits a pointer word
-pub slot_place_fits : (class : Class) (frame slot : ℕ) → IsClass class → slot < slots_of class → frame < 4096 → slot_place class frame slot < 2 ^ 24
-slot_place_fits class frame slot known within below = omega (arith, slot_within class slot known within)
+-- the place of a slot in one of 2^15 frames fits a pointer word
+pub slot_place_fits : (class : Class) (frame slot : ℕ) → IsClass class → slot < slots_of class
+    → frame < 2 ^ 15 → slot_place class frame slot < 2 ^ 24
+slot_place_fits class frame slot known within below =
+    omega (arith, slot_within class slot known within, words_at_least class known)
 
 -- slots of two frames do not overlap
-pub frames_apart : (a b : Class) (f g s t : ℕ) → IsClass a → s < slots_of a → f < g → slot_place a f s + words_of a ≤ slot_place b g t
+pub frames_apart : (a b : Class) (f g s t : ℕ) → IsClass a → s < slots_of a → f < g
+    → slot_place a f s + words_of a ≤ slot_place b g t
 frames_apart a b f g s t known within below = omega (arith, slot_within a s known within)
 
 -- two slots of one frame do not overlap
-pub slot_places_apart : (class : Class) (frame s t : ℕ) → s < t → slot_place class frame s + words_of class ≤ slot_place class frame t
+pub slot_places_apart : (class : Class) (frame s t : ℕ) → s < t
+    → slot_place class frame s + words_of class ≤ slot_place class frame t
 slot_places_apart class frame s t below = omega (arith, slots_apart class s t below)
+
+-- the frame of a slot's place, and of every word of the slot
+pub frame_of-slot_place : (class : Class) (frame slot : ℕ) → IsClass class → slot < slots_of class
+    → frame_of (slot_place class frame slot) ≡ frame
+frame_of-slot_place class frame slot known within =
+    omega (arith, slot_within class slot known within, words_at_least class known)
+
+pub frame_of-word : (class : Class) (frame slot word : ℕ) → IsClass class
+    → slot < slots_of class → word < words_of class
+    → frame_of (slot_place class frame slot + word) ≡ frame
+frame_of-word class frame slot word known within inside =
+    omega (arith, slot_within class slot known within)
+
+-- the slot of a slot's place
+pub slot_of-slot_place : (class : Class) (frame slot : ℕ) → IsClass class → slot < slots_of class
+    → slot_of class (slot_place class frame slot) ≡ slot
+slot_of-slot_place class frame slot known within =
+    let some : 0 < words_of class = omega (arith, words_at_least class known) in
+    let low : slot_place class frame slot % 512 ≡ words_of class * slot =
+    omega (arith, slot_within class slot known within, words_at_least class known) in
+    ap (λ n. n / words_of class) low ∙ mul-div_right slot some
+
+-- a place that is a whole number of slots into its frame is the place of that slot
+pub slot_place-of_place : (class : Class) (place : ℕ) → IsClass class
+    → place % 512 % words_of class ≡ 0
+    → slot_place class (frame_of place) (slot_of class place) ≡ place
+slot_place-of_place class place known whole =
+    let some : 0 < words_of class = omega (arith, words_at_least class known) in
+    let split = div-add-mod (place % 512) (words_of class) in
+    omega (arith, split, whole)
+
+-- slots at one place are one slot
+pub same_slot : (class : Class) (f g s t : ℕ) → IsClass class → s < slots_of class
+    → t < slots_of class → slot_place class f s ≡ slot_place class g t → (f ≡ g) × (s ≡ t)
+same_slot class f g s t known s_in t_in same = (
+  sym (frame_of-slot_place class f s known s_in) ∙ ap frame_of same
+      ∙ frame_of-slot_place class g t known t_in,
+  sym (slot_of-slot_place class f s known s_in) ∙ ap (slot_of class) same
+      ∙ slot_of-slot_place class g t known t_in,
+)

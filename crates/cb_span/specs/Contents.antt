@@ -14,9 +14,13 @@ pub record IsSpan (span : Contents) : Type 0 where
   pub in_table : IsClass span.class
   pub sized : length span.slots ≡ slots_of span.class
 
+-- the span of a class and a temperature whose slots hold this
+abbrev pub span_of : Class → Temp → List (Option ℕ) → Contents
+span_of class temp slots = record { class = class; temp = temp; slots = slots }
+
 -- a span without objects
 abbrev pub new_span : Class → Temp → Contents
-new_span class temp = record { class = class; temp = temp; slots = replicate (slots_of class) None }
+new_span class temp = span_of class temp (replicate (slots_of class) None)
 
 -- the handle in a slot, if it is taken
 abbrev pub handle_at : Contents → ℕ → Option ℕ

@@ -1,6 +1,6 @@
-ghost use Rattle.std.specs.Prelude.{◌≡◌, ℕ, ◌<◌, ◌↔◌, IfNone, IfOk, IfSome, IsTrue, None, false, is_none, length, position, slice_index_or};
-ghost use Rattle.cb_class.specs.Class.{IsClass};
-ghost use Rattle.cb_span.specs.Contents.{IsSpan, handle_at, least_empty, live_count, new_span, with_cleared, with_placed};
+ghost use Rattle.std.specs.Prelude.{◌≡◌, ℕ, ◌^◌, ◌<◌, ◌↔◌, IfNone, IfOk, IfSome, IsTrue, None, count_by, false, is_none, is_some, length, position, slice_index_or};
+ghost use Rattle.cb_class.specs.Class.{IsClass, slots_of};
+ghost use Rattle.cb_span.specs.Contents.{IsSpan, handle_at, least_empty, live_count, new_span, span_of, with_cleared, with_placed};
 
 use crate::temp::Temp;
 use cb_class::{Class, slots};
@@ -22,14 +22,14 @@ pub struct Span {
 
 impl Model for Span {
     ghost use Rattle.std.specs.Prelude.{ℕ};
-    ghost use Rattle.cb_span.specs.Contents.{Contents};
+    ghost use Rattle.cb_span.specs.Contents.{Contents, span_of};
     ghost use Rattle.cb_span.specs.Kept.{IsKept};
 
     ghost Value = { Contents };
 
-    ghost view = { λ a. record { class = a.class; temp = a.temp; slots = a.slots.items } };
+    ghost view = { λ a. span_of a.class a.temp a.slots.items };
 
-    ghost invariant = { λ a. IsKept (record { class = a.class; temp = a.temp; slots = a.slots.items }) a.live a.taken_below };
+    ghost invariant = { λ a. IsKept (span_of a.class a.temp a.slots.items) a.live a.taken_below };
 }
 
 impl Span {
@@ -48,15 +48,40 @@ impl Span {
         })
     }
 
-    /// Puts the handle into the least slot that is empty, and None exactly where all are taken. Takes no memory.
+    /// A span of the class and temperature whose slots are a copy of these, which are as many as
+    /// the class has.
+    pub fn from_slots(
+        alloc: Global,
+        class: Class,
+        temp: Temp,
+        slots: &[Option<u32>],
+    ) -> Result<Span, NoMemory>
+        requires class { IsClass class }
+        requires sized { length slots.now ≡ slots_of class }
+        ensures slots { IfOk result (λ span. span ≡ span_of class temp slots.now) }
+        ensures valid { IfOk result IsSpan }
+    {
+        let live = taken_count(slots);
+        Ok(Span {
+            class,
+            temp,
+            slots: Vec::from_slice(alloc, slots)?,
+            live,
+            taken_below: 0,
+        })
+    }
+
+    /// Puts the handle into the least slot that is empty, and None exactly where all are taken.
+    /// Takes no memory.
     pub fn place(&mut self, handle: u32) -> Option<u32>
         ensures least { result ≡ least_empty self.old }
         ensures placed { IfSome result (λ slot. self.new ≡ with_placed self.old slot handle) }
         ensures full { IfNone result (self.new ≡ self.old) }
         ensures in_range { IfSome result (λ slot. slot < length self.old.slots) }
         ensures sized { length self.new.slots ≡ length self.old.slots }
+        ensures valid { IsSpan self.new }
     {
-        if self.live as usize == self.slots.len() {
+        if self.is_full() {
             return None;
         }
         let slot = least_none(self.slots.as_slice(), self.taken_below as usize)?;
@@ -71,6 +96,7 @@ impl Span {
         requires { slot < length self.old.slots }
         ensures cleared { self.new ≡ with_cleared self.old slot }
         ensures sized { length self.new.slots ≡ length self.old.slots }
+        ensures valid { IsSpan self.new }
     {
         let place = slot as usize;
         if self.slots[place].is_none() {
@@ -89,6 +115,14 @@ impl Span {
         self.slots[slot as usize]
     }
 
+    /// The slot table: the handle in each slot, and None where the slot is empty.
+    pub fn slots(&self) -> &[Option<u32>]
+        ensures slots { result.now ≡ self.now.slots }
+        ensures valid { IsSpan self.now }
+    {
+        self.slots.as_slice()
+    }
+
     /// The count of taken slots. Constant time.
     pub fn live(&self) -> u32
         ensures { result ≡ live_count self.now }
@@ -96,7 +130,7 @@ impl Span {
         self.live
     }
 
-    /// The class that `new` was given.
+    /// The class that the span was made with.
     pub fn class(&self) -> Class
         ensures class { result ≡ self.now.class }
         ensures valid { IsSpan self.now }
@@ -104,7 +138,7 @@ impl Span {
         self.class
     }
 
-    /// The temperature that `new` was given.
+    /// The temperature that the span was made with.
     pub fn temp(&self) -> Temp
         ensures { result ≡ self.now.temp }
     {
@@ -117,6 +151,21 @@ impl Span {
     {
         self.live == 0
     }
+
+    /// Whether no slot is empty. Constant time.
+    pub fn is_full(&self) -> bool
+        ensures { IsTrue result ↔ (live_count self.now ≡ length self.now.slots) }
+    {
+        self.live as usize == self.slots.len()
+    }
+}
+
+/// How many slots are taken.
+fn taken_count(slots: &[Option<u32>]) -> u32
+    requires { length slots.now < 2 ^ 32 }
+    ensures { result ≡ count_by is_some slots.now }
+{
+    slots.iter().filter(|slot| slot.is_some()).count() as u32
 }
 
 /// The least slot that is empty, looked for from a slot below which all are taken.
@@ -155,6 +204,22 @@ mod tests {
         }
         assert_eq!(rt; span.live(), 4);
         assert!(rt; !span.is_empty());
+        Ok(())
+    }
+
+    #[test]
+    #[tactic(auto, unfolding(cb_class::specs::Class::slots_of, cb_class::specs::Class::bytes_of))]
+    fn a_slot_table_with_holes_is_kept(rt: HostRuntime) -> Result<(), Fail> {
+        let table = [None, Some(8), None, Some(9)];
+        let mut span = Span::from_slots(rt.alloc(), Class { index: 11 }, Temp::Hot, &table)?;
+        assert_eq!(rt; span.slots(), table.as_slice());
+        assert!(rt; span.live() == 2 && !span.is_full());
+        assert_eq!(rt;
+            (span.place(7), span.place(6), span.place(5)),
+            (Some(0), Some(2), None)
+        );
+        assert!(rt; span.is_full());
+        assert_eq!(rt; span.at(2), Some(6));
         Ok(())
     }
 

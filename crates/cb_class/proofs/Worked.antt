@@ -1,0 +1,58 @@
+-- Worked classes: what meets each definition, and what breaks one of its parts alone.
+use Rattle.std.proofs.Common.{◌≡◌, ℕ, List, [], ◌∷◌, map, refl, arith}
+use Rattle.cb_class.specs.declared.class.Class.{Class}
+use Rattle.cb_class.specs.Class.{IsClass, IsClassOf, bytes_of, slots_of, words_of}
+
+abbrev at : ℕ → Class
+at i = record { index = i }
+
+abbrev indices : List ℕ
+indices = 0 ∷ 1 ∷ 2 ∷ 3 ∷ 4 ∷ 5 ∷ 6 ∷ 7 ∷ 8 ∷ 9 ∷ 10 ∷ 11 ∷ []
+
+bytes : map (λ i. bytes_of (at i)) indices
+    ≡ 16 ∷ 32 ∷ 48 ∷ 64 ∷ 96 ∷ 128 ∷ 192 ∷ 256 ∷ 384 ∷ 512 ∷ 768 ∷ 1024 ∷ []
+unfolding bytes_of
+bytes = refl
+
+slot_counts : map (λ i. slots_of (at i)) indices
+    ≡ 256 ∷ 128 ∷ 85 ∷ 64 ∷ 42 ∷ 32 ∷ 21 ∷ 16 ∷ 10 ∷ 8 ∷ 5 ∷ 4 ∷ []
+unfolding slots_of bytes_of
+slot_counts = refl
+
+word_counts : map (λ i. words_of (at i)) indices
+    ≡ 2 ∷ 4 ∷ 6 ∷ 8 ∷ 12 ∷ 16 ∷ 24 ∷ 32 ∷ 48 ∷ 64 ∷ 96 ∷ 128 ∷ []
+unfolding words_of bytes_of
+word_counts = refl
+
+last_class : IsClass (at 11)
+last_class = omega arith
+
+past_the_table : ¬ (IsClass (at 12))
+past_the_table h = absurd (omega (arith, h))
+
+-- 17 bytes take slots of 32
+class_of_17 : IsClassOf 17 (at 1)
+unfolding bytes_of
+class_of_17 = record {
+  in_table = omega arith;
+  holds = omega arith;
+  least = λ smaller less. let first : smaller.index ≡ 0 = omega arith in rw first (omega arith);
+}
+
+-- slots of 16 are too small for 17 bytes, and of 48 too large
+too_small : ¬ (IsClassOf 17 (at 0))
+unfolding bytes_of
+too_small h = absurd (omega (arith, h.holds))
+
+too_large : ¬ (IsClassOf 17 (at 2))
+unfolding bytes_of
+too_large h = absurd (omega (arith, h.least (at 1) (omega arith)))
+
+-- a length that fills a class has that class
+next_for_an_exact_length : ¬ (IsClassOf 16 (at 1))
+unfolding bytes_of
+next_for_an_exact_length h = absurd (omega (arith, h.least (at 0) (omega arith)))
+
+-- beyond the table no class holds anything, though each class of the table is too small
+not_in_the_table : ¬ (IsClassOf 1025 (at 12))
+not_in_the_table h = past_the_table h.in_table
