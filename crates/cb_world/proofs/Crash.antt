@@ -3,7 +3,7 @@ use Rattle.std.proofs.Common.{◌≡◌, ◌≢◌, ℕ, ◌<◌, true, List, le
 use Rattle.std.specs.FinMap as map
 use Rattle.cb_member.specs.declared.names.NodeId.{NodeId}
 use Rattle.cb_member.specs.declared.names.Shard.{Shard}
-use Rattle.cb_member.specs.Membership.{IsMembership, alive, crashed}
+use Rattle.cb_member.specs.Membership.{IsMembership, alive, with_crash}
 use Rattle.cb_node.specs.NodesState.{NodesState, with_rows, row_at as row_under}
 use Rattle.cb_world.specs.declared.shown.Shown.{Shown}
 use Rattle.cb_node.proofs.PublicLaws.{change_keeps_other_nodes as rows_elsewhere}
@@ -16,7 +16,7 @@ use Rattle.cb_world.proofs.Words.{crash_keeps_word, crash_keeps_current, crash_s
 -- the far state after a crash
 abbrev pub crashed_far : FarState → NodeId → FarState
 crashed_far far node =
-    record far { nodes = with_rows far.nodes node map.empty; members = crashed far.members node }
+    record far { nodes = with_rows far.nodes node map.empty; members = with_crash far.members node }
 
 same_shards : (far : FarState) (node : NodeId) (o : Owner) (a : Shard)
     → IsShardOf (crashed_far far node) o a → IsShardOf far o a
@@ -44,7 +44,7 @@ left_elsewhere nodes node q key row within at =
 
 crash_keeps_rows : (far : FarState) (node : NodeId) → AreRows far
     → node.n < length far.members.nodes → alive far.members node ≡ true
-    → IsMembership (crashed far.members node) → AreRows (crashed_far far node)
+    → IsMembership (with_crash far.members node) → AreRows (crashed_far far node)
 crash_keeps_rows far node rows within up valid = record {
   members = valid;
   counted = omega (arith, counts);
@@ -58,7 +58,7 @@ crash_keeps_rows far node rows within up valid = record {
       rows.one o q a b (same_shards far node o a x) (same_shards far node q b y) same;
   drawn = λ o a x. rows.drawn o a (same_shards far node o a x);
   current = λ o a x. let c = rows.current o a (same_shards far node o a x) in
-      let count : length (crashed far.members node).nodes ≡ length far.members.nodes =
+      let count : length (with_crash far.members node).nodes ≡ length far.members.nodes =
           length-set far.members.nodes node.n _ in
       (omega (arith, c.0, count),
           omega (arith, c.1, crash_keeps_incarnations far.members node a.node within));
@@ -71,7 +71,7 @@ crash_keeps_rows far node rows within up valid = record {
 -- the sets, their homes, the rows and the batch stay sound
 pub crash_keeps : (s : Shown) (far : FarState) (node : NodeId) → AwaySound s far
     → node.n < length far.members.nodes → alive far.members node ≡ true
-    → IsMembership (crashed far.members node) → AwaySound s (crashed_far far node)
+    → IsMembership (with_crash far.members node) → AwaySound s (crashed_far far node)
 crash_keeps s far node sound within up valid = record {
   sets = record {
     shaped = λ id set at. let x =

@@ -2,7 +2,7 @@
 use Rattle.std.proofs.Common.{◌≡◌, ◌⊎◌, ℕ, zero, suc, ◌<◌, Bool, true, false, List, length, Option, Some, None, sym, refl, ap, ◌∙◌, arith, inl, inr}
 use Rattle.std.proofs.lemmas.Bool.{false≢true, lt-ltb, ltb-true}
 use Rattle.cb_member.specs.declared.names.NodeId.{NodeId}
-use Rattle.cb_member.specs.Membership.{Membership, IsMembership, alive, crashed}
+use Rattle.cb_member.specs.Membership.{Membership, IsMembership, alive, with_crash}
 use Rattle.cb_set.specs.SetState.{SetState}
 use Rattle.cb_set.specs.Lost.{lost}
 use Rattle.cb_world.specs.declared.object.Object.{Object}
@@ -31,18 +31,18 @@ pub record BecomesGone (s : Shown) (far new : FarState) (h : ℕ) : Type 0 where
 
 broken_grows : (m : Membership) (node : NodeId) (set : SetState) → IsMembership m
     → node.n < length m.nodes → alive m node ≡ true → AreCurrent m set.shards
-    → is_broken m set ≡ true → is_broken (crashed m node) set ≡ true
+    → is_broken m set ≡ true → is_broken (with_crash m node) set ≡ true
 broken_grows m node set valid within up current broken =
     let more =
-        lost_grow m (crashed m node) set.shards (λ p shard at kept.
+        lost_grow m (with_crash m node) set.shards (λ p shard at kept.
         (crash_survivor m node shard valid within up (current p shard at).1 kept).1) in
-    lt-ltb (parities set) (length (lost (crashed m node) set.shards)) (omega (arith, more,
+    lt-ltb (parities set) (length (lost (with_crash m node) set.shards)) (omega (arith, more,
         ltb-true _ _ broken))
 
 set_grows : (m : Membership) (node : NodeId) (o : Option SetState) → IsMembership m
     → node.n < length m.nodes → alive m node ≡ true
     → ((set : SetState) → o ≡ Some set → IsShaped m set) → broken_set m o ≡ true
-    → broken_set (crashed m node) o ≡ true
+    → broken_set (with_crash m node) o ≡ true
 set_grows m node None valid within up shaped broken = broken
 set_grows m node (Some set) valid within up shaped broken =
     broken_grows m node set valid within up (shaped set refl).current broken

@@ -3,7 +3,7 @@ use Rattle.std.proofs.Common.{◌≡◌, ℕ, ◌<◌, true, List, length, Optio
 use Rattle.cb_code.specs.Coefficients.{AreCoefficients}
 use Rattle.cb_member.specs.declared.names.NodeId.{NodeId}
 use Rattle.cb_member.specs.declared.names.Shard.{Shard}
-use Rattle.cb_member.specs.Membership.{IsMembership, alive, crashed}
+use Rattle.cb_member.specs.Membership.{IsMembership, alive, with_crash}
 use Rattle.cb_set.specs.SetState.{SetState}
 use Rattle.cb_world.specs.declared.shown.Shown.{Shown}
 use Rattle.cb_world.specs.FarState.{FarState}
@@ -39,7 +39,7 @@ one_pair far pair is j other at = subst (IsJoin far) (pair_same pair other (sym 
 
 pub crash_whole : (s : Shown) (far : FarState) (node : NodeId) → FarSound s far
     → node.n < length far.members.nodes → alive far.members node ≡ true
-    → IsMembership (crashed far.members node) → FarSound s (crashed_far far node)
+    → IsMembership (with_crash far.members node) → FarSound s (crashed_far far node)
 crash_whole s far node x within up valid = record {
   sound = crash_keeps s far node x.sound within up valid;
   join = λ pair at. crash_keeps_join s far node pair x.sound within up (x.join pair at);

@@ -8,8 +8,8 @@ use Rattle.cb_member.specs.declared.names.NodeId.{NodeId}
 use Rattle.cb_member.specs.declared.names.Epoch.{Epoch}
 use Rattle.cb_member.specs.declared.names.Loss.{Loss}
 use Rattle.cb_member.specs.declared.names.Shard.{Shard}
-use Rattle.cb_member.specs.Membership.{Membership, IsMembership, NodeState, alive, incarnation, crashed, crashed_at}
-use Rattle.cb_member.proofs.PublicLaws.{ended_incarnations_crashed, change_is_at_its_node, change_keeps_other_nodes}
+use Rattle.cb_member.specs.Membership.{Membership, IsMembership, NodeState, alive, incarnation, with_crash, crashed_at}
+use Rattle.cb_member.proofs.Laws.{ended_incarnations_crashed, change_is_at_its_node, change_keeps_other_nodes}
 use Rattle.cb_node.specs.NodesState.{NodesState, with_rows, row_at as row_under}
 use Rattle.cb_node.proofs.PublicLaws.{change_keeps_other_nodes as rows_elsewhere}
 use Rattle.cb_set.specs.SetState.{SetState}
@@ -66,7 +66,7 @@ some_mapped f (Some x) = refl
 -- the crash of a node loses each shard there
 pub crash_loses : (m : Membership) (shard : Shard) → IsMembership m → shard.node.n < length m.nodes
     → alive m shard.node ≡ true → shard.incarnation ≤ incarnation m shard.node
-    → is_lost (crashed m shard.node) shard ≡ true
+    → is_lost (with_crash m shard.node) shard ≡ true
 crash_loses m shard valid within up current =
     elim (cases_eq shard.incarnation (incarnation m shard.node)) [
   | inl now ↦ ap is_some (crash_loses_its_incarnation m shard valid within up now)
@@ -86,10 +86,10 @@ same_node a b e = ap (λ (n : ℕ). record { n = n }) e
 -- what survives the crash is elsewhere, and survived before
 pub crash_survivor : (m : Membership) (node : NodeId) (shard : Shard) → IsMembership m
     → node.n < length m.nodes → alive m node ≡ true → shard.incarnation ≤ incarnation m shard.node
-    → is_lost (crashed m node) shard ≡ false → (shard.node.n ≢ node.n) × (is_lost m shard ≡ false)
+    → is_lost (with_crash m node) shard ≡ false → (shard.node.n ≢ node.n) × (is_lost m shard ≡ false)
 crash_survivor m node shard valid within up current kept =
     let off : shard.node.n ≢ node.n = λ here. let e = same_node shard.node node here in
-      false≢true (sym kept ∙ ap (λ (n : NodeId). is_lost (crashed m n) shard) (sym e)
+      false≢true (sym kept ∙ ap (λ (n : NodeId). is_lost (with_crash m n) shard) (sym e)
           ∙ crash_loses m shard valid (omega (arith, here, within)) (ap (alive m) e
           ∙ up) current) in
     (off, ap is_some (sym (crash_keeps_other_nodes m node shard off)) ∙ kept)
@@ -99,9 +99,9 @@ pub crash_keeps_word : (nodes : NodesState) (m : Membership) (node : NodeId) (se
     (rows : List (List ℕ)) → IsMembership m → node.n < length m.nodes → alive m node ≡ true
     → AreCurrent m set.shards
     → IsWordOf nodes m set rows
-        → IsWordOf (with_rows nodes node map.empty) (crashed m node) set rows
+        → IsWordOf (with_rows nodes node map.empty) (with_crash m node) set rows
 crash_keeps_word nodes m node set rows valid within up current word =
-    word_kept nodes (with_rows nodes node map.empty) m (crashed m node) set rows
+    word_kept nodes (with_rows nodes node map.empty) m (with_crash m node) set rows
     (λ p shard at kept. let x =
         crash_survivor m node shard valid within up (current p shard at).1 kept in
       (x.1, ap (λ rows.
@@ -110,20 +110,20 @@ crash_keeps_word nodes m node set rows valid within up current word =
 
 -- the incarnations stay
 pub crash_keeps_incarnations : (m : Membership) (node other : NodeId) → node.n < length m.nodes
-    → incarnation (crashed m node) other ≡ incarnation m other
+    → incarnation (with_crash m node) other ≡ incarnation m other
 crash_keeps_incarnations m node other within = elim (cases_eq other.n node.n) [
   | inl here ↦ let e = same_node other node here in
-      ap (incarnation (crashed m node)) e
+      ap (incarnation (with_crash m node)) e
           ∙ ap (λ (s : NodeState). s.incarnation) (change_is_at_its_node m node _ within)
           ∙ ap (incarnation m) (sym e)
   | inr off ↦ ap (λ (s : NodeState). s.incarnation) (change_keeps_other_nodes m node other _ off)
 ]
 
 pub crash_keeps_current : (m : Membership) (node : NodeId) (shards : List Shard)
-    → node.n < length m.nodes → AreCurrent m shards → AreCurrent (crashed m node) shards
+    → node.n < length m.nodes → AreCurrent m shards → AreCurrent (with_crash m node) shards
 crash_keeps_current m node shards within current p shard at =
     let c = current p shard at in
-    let count : length (crashed m node).nodes ≡ length m.nodes = length-set m.nodes node.n _ in
+    let count : length (with_crash m node).nodes ≡ length m.nodes = length-set m.nodes node.n _ in
     (omega (arith, c.0, count),
         omega (arith, c.1, crash_keeps_incarnations m node shard.node within))
 
