@@ -35,3 +35,4 @@ pub mod Claimed
 pub mod AfterClaim
 pub mod AfterLook
 pub mod Beside
+pub mod SlotFinding

@@ -1,6 +1,7 @@
 -- The far state as contracts see it.
 use Rattle.std.specs.Prelude.{ℕ, Bool, List, Option, None, Some, slice_index_or}
 use Rattle.cb_span.specs.Contents.{Contents, handle_at}
+use Rattle.cb_class.specs.declared.class.Class.{Class}
 use Rattle.cb_node.specs.NodesState.{NodesState}
 use Rattle.cb_member.specs.Membership.{Membership}
 use Rattle.cb_world.specs.declared.homes.Home.{Home}
@@ -38,3 +39,11 @@ handle_in (Some span) slot = handle_at span slot
 -- the handle in a slot of the span in a frame
 abbrev pub resident : List (Option Contents) → ℕ → ℕ → Option ℕ
 resident spans f slot = handle_in (span_in spans f) slot
+
+abbrev pub class_of : Option Contents → Option Class
+class_of None = None
+class_of (Some span) = Some span.class
+
+-- the class of the span in a frame
+abbrev pub class_in : List (Option Contents) → ℕ → Option Class
+class_in spans f = class_of (span_in spans f)

@@ -33,3 +33,4 @@ pub mod Claimed
 pub mod Still
 pub mod Finishes
 pub mod Reads
+pub mod Released
