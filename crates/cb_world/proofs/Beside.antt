@@ -35,7 +35,7 @@ put_twice_beside ms xs ys place len count more p beside =
     put_beside (put ms place xs) ys place len more p beside ∙ put_beside ms xs place len count p beside
 
 -- a frame that is leaving is another than that of an object that is here
-apart_frames : (far : FarState) (s t : Shown) (h len place f : ℕ) (batch : LeavingState)
+pub apart_frames : (far : FarState) (s t : Shown) (h len place f : ℕ) (batch : LeavingState)
     → Sound s far → object_at s h ≡ is.Here len place → KeepsBeside s.memory t.memory place len
     → far.leaving ≡ Some batch → Contains batch.frames f
     → window t.memory (512 * f) 512 ≡ window s.memory (512 * f) 512

@@ -1,11 +1,10 @@
 -- The sound world once all objects of a span are away and its frame is given back.
-use Rattle.std.proofs.Common.{◌≡◌, ◌≢◌, ◌⊎◌, ◌↔◌, ℕ, Bool, true, false, ◌*◌, ◌<◌, ◌≤◌, List, length, set, sym, ap, ◌∙◌, subst, arith, inl, inr, Option, Some, None, length-set, get_or-set_other, get_or-set_same}
+use Rattle.std.proofs.Common.{◌≡◌, ◌≢◌, ◌⊎◌, ◌↔◌, ℕ, Bool, true, false, ◌*◌, ◌<◌, ◌≤◌, length, set, sym, ap, ◌∙◌, subst, arith, inl, inr, Option, Some, None, length-set, get_or-set_other, get_or-set_same}
 use Rattle.std.proofs.lemmas.Bool.{cases_eq}
 use Rattle.cb_frame.specs.FreeFrames.{IsFree, with_given}
 use Rattle.cb_span.specs.Contents.{Contents, handle_at}
 use Rattle.cb_span.specs.Places.{slot_place}
 use Rattle.cb_world.specs.declared.object.Object.{Object}
-use Rattle.cb_world.specs.declared.object.Object.TheVariants as is
 use Rattle.cb_world.specs.declared.shown.Shown.{Shown}
 use Rattle.cb_world.specs.Shown.{object_at, version_at, never}
 use Rattle.cb_world.specs.FarState.{FarState, span_in}
@@ -17,14 +16,12 @@ pub record IsSpared (s t : Shown) (span : Contents) (h : ℕ) : Type 0 where
   pub object : object_at t h ≡ object_at s h
   pub absent : (slot : ℕ) → handle_at span slot ≡ Some h → ⊥
 
--- the span names the object, which is away
+-- the span names the object, which was made and lies nowhere in local memory any more
 pub record IsSentAway (t : Shown) (span : Contents) (h : ℕ) : Type 0 where
   pub slot : ℕ
   pub named : handle_at span slot ≡ Some h
-  pub len : ℕ
-  pub version : ℕ
-  pub words : List ℕ
-  pub away : object_at t h ≡ is.Far len version words
+  pub gone : (len place : ℕ) → LiesAt (object_at t h) len place → ⊥
+  pub made : object_at t h ≡ never → ⊥
 
 pub record IsSentOff (s t : Shown) (span : Contents) : Type 0 where
   pub first : t.first ≡ s.first
@@ -33,6 +30,7 @@ pub record IsSentOff (s t : Shown) (span : Contents) : Type 0 where
   pub stamped : (h : ℕ) → IsStamped (object_at t h) (version_at t h)
   pub each : (h : ℕ) → IsSpared s t span h ⊎ IsSentAway t span h
 
+-- the far state whose frame is given back
 abbrev pub with_closed : FarState → ℕ → FarState
 with_closed far f = record far { frames = with_given far.frames f; spans = set far.spans f None }
 
@@ -41,12 +39,6 @@ some_none x e = cc
 
 lies_never : (o : Object) (len place : ℕ) → LiesAt o len place → o ≡ never → ⊥
 lies_never o len place lies e = subst (λ (q : Object). LiesAt q len place) e lies
-
-far_never : (o : Object) (len v : ℕ) (words : List ℕ) → o ≡ is.Far len v words → o ≡ never → ⊥
-far_never o len v words e z = no_conf (sym e ∙ z)
-  where
-    no_conf : is.Far len v words ≡ never → ⊥
-    no_conf e = cc
 
 pub sound_closed : (far : FarState) (s t : Shown) (f : ℕ) (span : Contents) → LocalSound s far
     → span_in far.spans f ≡ Some span → f < length far.spans → IsSentOff s t span
@@ -69,7 +61,7 @@ sound_closed far s t f span sound there within x =
                   (lies_never (object_at s h) n.len (slot_place span.class f sent.slot) n.lies
                   ((sound.known.made h (omega (arith, below, x.objects))).0 m))),
                   (λ z. absurd
-                  (far_never (object_at t h) sent.len sent.version sent.words sent.away z)))
+                  (sent.made z)))
         ];
         stamped = x.stamped;
       };
@@ -106,7 +98,7 @@ sound_closed far s t f span sound there within x =
                   ∙ ap (span_in far.spans) (sym e) ∙ d.there)) ∙ d.named) in
               record { frame = d.frame; slot = d.slot; span = d.span; there = else d.frame off
                   ∙ d.there; named = d.named; at = d.at; fits = d.fits }
-          | inr sent ↦ absurd (subst (λ (o : Object). LiesAt o len place) sent.away lies)
+          | inr sent ↦ absurd (sent.gone len place lies)
         ];
         named = λ g slot h other at taken. let d =
             sound.placed.named g slot h other (was g other at) taken in elim (x.each h) [

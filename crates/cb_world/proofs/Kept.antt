@@ -21,7 +21,7 @@ use Rattle.cb_world.specs.LocalSound.{LocalSound, LiesAt, IsStamped}
 use Rattle.cb_world.proofs.Apart.{apart, slot_inside}
 use Rattle.cb_world.proofs.Tracing.{played_append, agree_last, looks_played}
 
-frame_in_range : (spans : List (Option Contents)) (f : ℕ) (span : Contents)
+pub frame_in_range : (spans : List (Option Contents)) (f : ℕ) (span : Contents)
     → span_in spans f ≡ Some span → f < length spans
 frame_in_range spans f span there = elim (cases_lt f (length spans)) [
   | inl within ↦ within

@@ -1,13 +1,13 @@
 -- How the slot at a place is found and emptied.
-use Rattle.std.proofs.Common.{◌≡◌, ℕ, Bool, true, false, ◌<◌, ◌==◌, List, Option, Some, None, length, set, IsTrue, ◌↔◌, if◌then◌else◌, sym, refl, ap, ◌∙◌, subst, length-set, nat_eq}
+use Rattle.std.proofs.Common.{◌≡◌, ℕ, Bool, true, false, ◌<◌, List, Option, Some, None, set, if◌then◌else◌, sym, ap, ◌∙◌, subst}
 use Rattle.std.proofs.lemmas.List.{set-set}
 use Rattle.cb_class.specs.declared.class.Class.{Class}
-use Rattle.cb_class.specs.Class.{IsClass, slots_of}
-use Rattle.cb_frame.specs.FreeFrames.{IsFree, with_given}
-use Rattle.cb_span.specs.Contents.{Contents, with_cleared, live_count}
+use Rattle.cb_class.specs.Class.{IsClass}
+use Rattle.cb_frame.specs.FreeFrames.{with_given}
+use Rattle.cb_span.specs.Contents.{Contents, with_cleared}
 use Rattle.cb_span.specs.Places.{frame_of, slot_of}
 use Rattle.cb_span.proofs.Places.{frame_of-slot_place, slot_of-slot_place}
-use Rattle.cb_world.specs.FarState.{span_in, class_of, class_in}
+use Rattle.cb_world.specs.FarState.{class_of, class_in}
 use Rattle.cb_world.specs.Released.{is_last, spans_without, frames_without, IsSlotAt}
 
 one_class : (a b : Class) → Some a ≡ Some b → a ≡ b

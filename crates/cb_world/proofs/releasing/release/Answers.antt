@@ -1,9 +1,8 @@
-use Rattle.std.proofs.Common.{◌≡◌, ℕ, ◌<◌, Bool, List, Option, Some, None, length, set, sym, ap, ◌∙◌, subst}
+use Rattle.std.proofs.Common.{ℕ, ◌<◌, List, Option, None, length, set, sym, ap, ◌∙◌, subst}
 use Rattle.cb_frame.specs.FreeFrames.{IsFree}
 use Rattle.cb_span.specs.Contents.{Contents}
 use Rattle.cb_world.specs.FarState.{span_in, class_of, class_in}
 use Rattle.std.specs.Option.{IfSome}
-use Rattle.cb_world.specs.Released.{IsSlotAt, is_last}
 use Rattle.cb_world.proofs.SlotFinding.{IsFoundAt, frame_is, slot_is, known_class, left_last, left_more}
 use Rattle.cb_world.proofs.releasing.release.Goals as goal
 
