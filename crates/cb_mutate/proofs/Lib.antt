@@ -1,3 +1,4 @@
 pub mod Bytes
 pub mod Settling
 pub mod Written
+pub mod Emptied

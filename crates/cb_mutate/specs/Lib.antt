@@ -3,3 +3,5 @@ pub mod Stores
 pub mod Answered
 pub mod WriteRule
 pub mod WriteEnds
+pub mod FreeRule
+pub mod FreeEnds
