@@ -3,57 +3,80 @@ use Rattle.std.proofs.Common.{◌≡◌, ℕ, ◌+◌, ◌^◌, ◌<◌, ◌≤�
 use Rattle.std.specs.Cmp.{nat_cmp_total}
 use Rattle.std.specs.Ordering.{nat_cmp}
 use Rattle.std.specs.FinMap as map
-use Rattle.std.proofs.lemmas.List.{get_or_read}
+use Rattle.std.proofs.lemmas.List.{get_or_read, length-replicate, length-set}
 use Rattle.std.proofs.lemmas.List.Elements.{All-replicate, All-set}
 use Rattle.cb_member.specs.declared.names.NodeId.{NodeId}
 use Rattle.cb_node.specs.Rows.{RowsByKey}
-use Rattle.cb_node.specs.NodesState.{NodesState, IsNodes, empty_nodes, rows_at, with_rows, with_row, held, has}
+use Rattle.cb_node.specs.NodesState.{NodesState, IsNodes, empty_nodes, rows_at, with_dropped, with_row, with_rows, with_wiped, held, has}
 
-pub empty-IsNodes : (count room : ℕ) → room < 2 ^ 32 → IsNodes (empty_nodes count room)
-empty-IsNodes count room fits = record {
-  room_is_kept = All-replicate (λ rows. map.len rows ≤ room) count map.empty (omega (arith, map.len-empty nat_cmp (List ℕ)));
+pub IsNodes-empty_nodes : (count room : ℕ) → count < 2 ^ 32 → room < 2 ^ 32
+    → IsNodes (empty_nodes count room)
+IsNodes-empty_nodes count room few fits = record {
+  numbered = omega (arith, few, length-replicate {A = RowsByKey} count map.empty);
+  room_is_kept =
+      All-replicate (λ rows. map.len rows ≤ room) count map.empty
+      (omega (arith, map.len-empty nat_cmp (List ℕ)));
   room_fits = fits;
 }
 
 -- other rows at one node, as many as it has room for
-pub with_rows-IsNodes : (state : NodesState) (node : NodeId) (rows : RowsByKey) → IsNodes state → map.len rows ≤ state.room → IsNodes (with_rows state node rows)
-with_rows-IsNodes state node rows valid fits = record {
-  room_is_kept = All-set (λ held. map.len held ≤ state.room) state.nodes node.n rows fits valid.room_is_kept;
+pub IsNodes-with_rows : (state : NodesState) (node : NodeId) (rows : RowsByKey) → IsNodes state
+    → map.len rows ≤ state.room → IsNodes (with_rows state node rows)
+IsNodes-with_rows state node rows valid fits = record {
+  numbered = omega (arith, valid.numbered, length-set state.nodes node.n rows);
+  room_is_kept =
+      All-set (λ held. map.len held ≤ state.room) state.nodes node.n rows fits
+      valid.room_is_kept;
   room_fits = valid.room_fits;
 }
 
 -- one row more, at a node with room
-pub with_row-IsNodes : (state : NodesState) (node : NodeId) (key : ℕ) (row : List ℕ) → IsNodes state → has state node key ≡ false → held state node < state.room → IsNodes (with_row state node key row)
-with_row-IsNodes state node key row valid fresh room =
+pub IsNodes-with_row : (state : NodesState) (node : NodeId) (key : ℕ) (row : List ℕ)
+    → IsNodes state → has state node key ≡ false → held state node < state.room
+    → IsNodes (with_row state node key row)
+IsNodes-with_row state node key row valid fresh room =
     let one_more : map.len (map.insert (rows_at state node) key row) ≡ held state node + 1 =
-    map.len-insert nat_cmp_total (rows_at state node) key row ∙ ap (λ b. cond b (held state node) (held state node + 1)) fresh in
-    with_rows-IsNodes state node _ valid (omega arith)
+    map.len-insert nat_cmp_total (rows_at state node) key row
+    ∙ ap (λ b. cond b (held state node) (held state node + 1)) fresh in
+    IsNodes-with_rows state node _ valid (omega arith)
 
 -- another row in place of one
-pub with_row-again-IsNodes : (state : NodesState) (node : NodeId) (key : ℕ) (row : List ℕ) → node.n < length state.nodes → IsNodes state → has state node key ≡ true → IsNodes (with_row state node key row)
-with_row-again-IsNodes state node key row within valid there =
+pub IsNodes-with_row_again : (state : NodesState) (node : NodeId) (key : ℕ) (row : List ℕ)
+    → node.n < length state.nodes → IsNodes state → has state node key ≡ true
+    → IsNodes (with_row state node key row)
+IsNodes-with_row_again state node key row within valid there =
     let as_many : map.len (map.insert (rows_at state node) key row) ≡ held state node =
-    map.len-insert nat_cmp_total (rows_at state node) key row ∙ ap (λ b. cond b (held state node) (held state node + 1)) there in
-    with_rows-IsNodes state node _ valid (omega (arith, valid.room_is_kept node.n map.empty within))
+    map.len-insert nat_cmp_total (rows_at state node) key row
+    ∙ ap (λ b. cond b (held state node) (held state node + 1)) there in
+    IsNodes-with_rows state node _ valid (omega (arith, valid.room_is_kept node.n map.empty within))
 
 -- a row less
-pub without_row-IsNodes : (state : NodesState) (node : NodeId) (key : ℕ) → node.n < length state.nodes → IsNodes state → IsNodes (with_rows state node (map.remove (rows_at state node) key))
-without_row-IsNodes state node key within valid =
-    let fewer : map.len (map.remove (rows_at state node) key) ≤ held state node = grind (arith, map.len-remove nat_cmp_total (rows_at state node) key) in
-    with_rows-IsNodes state node _ valid (omega (arith, valid.room_is_kept node.n map.empty within))
+pub IsNodes-with_dropped : (state : NodesState) (node : NodeId) (key : ℕ)
+    → node.n < length state.nodes → IsNodes state → IsNodes (with_dropped state node key)
+IsNodes-with_dropped state node key within valid =
+    let fewer : map.len (map.remove (rows_at state node) key) ≤ held state node =
+    grind (arith, map.len-remove nat_cmp_total (rows_at state node) key) in
+    IsNodes-with_rows state node _ valid (omega (arith, valid.room_is_kept node.n map.empty within))
 
 -- no row at all
-pub no_rows-IsNodes : (state : NodesState) (node : NodeId) → IsNodes state → IsNodes (with_rows state node map.empty)
-no_rows-IsNodes state node valid = with_rows-IsNodes state node map.empty valid (omega (arith, map.len-empty nat_cmp (List ℕ)))
+pub IsNodes-with_wiped : (state : NodesState) (node : NodeId) → IsNodes state
+    → IsNodes (with_wiped state node)
+IsNodes-with_wiped state node valid =
+    IsNodes-with_rows state node map.empty valid (omega (arith, map.len-empty nat_cmp (List ℕ)))
 
 -- what a read of one node's rows gives
-pub rows_at-read : (old : NodesState) (items : List RowsByKey) (node : NodeId) (n : ℕ) (rows : RowsByKey) → items ≡ old.nodes → n ≡ node.n → node.n < length old.nodes → rows ≡ get_or items n rows → rows ≡ rows_at old node
+pub rows_at-read : (old : NodesState) (items : List RowsByKey) (node : NodeId) (n : ℕ)
+    (rows : RowsByKey) → items ≡ old.nodes → n ≡ node.n → node.n < length old.nodes
+    → rows ≡ get_or items n rows → rows ≡ rows_at old node
 rows_at-read old items node n rows same at within read =
-    let here : rows ≡ get_or old.nodes node.n rows = read ∙ ap (λ xs. get_or xs n rows) same ∙ ap (λ k. get_or old.nodes k rows) at in
+    let here : rows ≡ get_or old.nodes node.n rows =
+    read ∙ ap (λ xs. get_or xs n rows) same ∙ ap (λ k. get_or old.nodes k rows) at in
     get_or_read old.nodes node.n rows within here map.empty
 
 -- the state that a write at one node leaves
-pub kept_after_write : (state old : NodesState) (n : ℕ) (node : NodeId) (written rows : RowsByKey) → state ≡ old → n ≡ node.n → written ≡ rows → IsNodes (with_rows old node rows) → IsNodes (record state { nodes = set state.nodes n written })
+pub kept_after_write : (state old : NodesState) (n : ℕ) (node : NodeId)
+    (written rows : RowsByKey) → state ≡ old → n ≡ node.n → written ≡ rows
+    → IsNodes (with_rows old node rows) → IsNodes (record state { nodes = set state.nodes n written })
 kept_after_write state old n node written rows same at is valid =
     subst (λ (s : NodesState). IsNodes (record s { nodes = set s.nodes n written })) (sym same)
     (subst (λ (k : ℕ). IsNodes (record old { nodes = set old.nodes k written })) (sym at)

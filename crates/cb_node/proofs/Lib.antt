@@ -1,5 +1,8 @@
 pub mod Views
 pub mod Kept
 pub mod Put
+pub mod Dropped
+pub mod Bytes
 pub mod Deltas
-pub mod PublicLaws
+pub mod Laws
+pub mod Worked

@@ -20,10 +20,10 @@ rows_at-with_rows_here state node rows within = get_or-set_same state.nodes node
 pub rows_at-with_rows_other : (state : NodesState) (node q : NodeId) (rows : RowsByKey) → q.n ≢ node.n → rows_at (with_rows state node rows) q ≡ rows_at state q
 rows_at-with_rows_other state node q rows other = get_or-set_other state.nodes node.n q.n rows map.empty other
 
-eq_by_cmp-same : (k : ℕ) → eq_by_cmp nat_cmp k k ≡ true
+pub eq_by_cmp-same : (k : ℕ) → eq_by_cmp nat_cmp k k ≡ true
 eq_by_cmp-same k = grind (arith, nat_tests)
 
-eq_by_cmp-other : (q k : ℕ) → q ≢ k → eq_by_cmp nat_cmp q k ≡ false
+pub eq_by_cmp-other : (q k : ℕ) → q ≢ k → eq_by_cmp nat_cmp q k ≡ false
 eq_by_cmp-other q k other = grind (arith, nat_tests)
 
 -- the row stands under its key
@@ -54,7 +54,7 @@ row_at-with_row_other state node q key k row within other = elim (cases_eq q.n n
   | inr apart ↦ row_at-with_row_other_node state node q key k row apart
 ]
 
-covered : (b : Bool) (x y z : Option (List ℕ)) → cond b x (cond b y z) ≡ cond b x z
+pub covered : (b : Bool) (x y z : Option (List ℕ)) → cond b x (cond b y z) ≡ cond b x z
 covered true x y z = refl
 covered false x y z = refl
 
@@ -74,16 +74,16 @@ with_row-with_row state node key a b within =
     ∙ ap (λ nodes. record state { nodes = nodes }) (set-set state.nodes node.n (map.insert (rows_at state node) key a) (map.insert (map.insert (rows_at state node) key a) key b))
     ∙ ap (λ rows. with_rows state node rows) (insert-insert (rows_at state node) key a b)
 
-equal_from_eq : (o : Ordering) → is_eq o ≡ true → o ≡ Equal
+pub equal_from_eq : (o : Ordering) → is_eq o ≡ true → o ≡ Equal
 equal_from_eq Less e = absurd (false≢true e)
 equal_from_eq Equal e = refl
 equal_from_eq Greater e = absurd (false≢true e)
 
-some_known : (o : Option (List ℕ)) → is_some o ≡ true → Some (unwrap_or o []) ≡ o
+pub some_known : (o : Option (List ℕ)) → is_some o ≡ true → Some (unwrap_or o []) ≡ o
 some_known None there = absurd (false≢true there)
 some_known (Some row) there = refl
 
-chosen : (b : Bool) (x y : Option (List ℕ)) → (b ≡ true → x ≡ y) → cond b x y ≡ y
+pub chosen : (b : Bool) (x y : Option (List ℕ)) → (b ≡ true → x ≡ y) → cond b x y ≡ y
 chosen true x y same = same refl
 chosen false x y same = refl
 

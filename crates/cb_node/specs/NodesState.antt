@@ -1,11 +1,12 @@
 -- The rows at all nodes.
-use Rattle.std.specs.Prelude.{ℕ, ◌^◌, ◌<◌, ◌≤◌, Bool, List, [], Option, All, replicate, refl, unwrap_or, slice_index_or, slice_set}
+use Rattle.std.specs.Prelude.{◌≡◌, ℕ, ◌^◌, ◌<◌, ◌≤◌, Bool, List, [], Option, Some, All, length, replicate, refl, unwrap_or, slice_index_or, slice_set}
 use Rattle.std.specs.Coded.{Coded, code_by, coded×, coded_ℕ, coded_list}
 use Rattle.std.specs.FinMap as map
 use Rattle.cb_member.specs.declared.names.NodeId.{NodeId}
 use Rattle.cb_node.specs.Rows.{RowsByKey, rows_code}
 
--- How many rows a node can hold, how many rows were ever given out, and the nodes' rows in order of their numbers.
+-- How many rows a node can hold, how many rows were ever given out, and the nodes' rows in order of
+-- their numbers.
 pub record NodesState : Type 0 where
   pub room : ℕ
   pub given : ℕ
@@ -14,7 +15,9 @@ pub record NodesState : Type 0 where
 -- the state is stored as these three
 abbrev pub nodes_code : Coded NodesState
 nodes_code =
-    code_by (ℕ × (ℕ × List RowsByKey)) (coded× coded_ℕ (coded× coded_ℕ (coded_list rows_code))) (λ s. (s.room, (s.given, s.nodes))) (λ p. record { room = p.0; given = p.1.0; nodes = p.1.1 }) (λ _. refl)
+    code_by (ℕ × (ℕ × List RowsByKey)) (coded× coded_ℕ (coded× coded_ℕ (coded_list rows_code)))
+    (λ s. (s.room, (s.given, s.nodes))) (λ p. record { room = p.0; given = p.1.0; nodes = p.1.1 })
+    (λ _. refl)
 
 -- so many nodes with no row, none of which was given
 abbrev pub empty_nodes : ℕ → ℕ → NodesState
@@ -48,7 +51,22 @@ with_rows state node rows = record state { nodes = slice_set state.nodes node.n 
 abbrev pub with_row : NodesState → NodeId → ℕ → List ℕ → NodesState
 with_row state node key row = with_rows state node (map.insert (rows_at state node) key row)
 
--- What holds at every moment: no node holds more than it has room for.
+-- no row under the key at the node; every other key and every other node are as they were
+abbrev pub with_dropped : NodesState → NodeId → ℕ → NodesState
+with_dropped state node key = with_rows state node (map.remove (rows_at state node) key)
+
+-- no row at the node; every other node is as it was
+abbrev pub with_wiped : NodesState → NodeId → NodesState
+with_wiped state node = with_rows state node map.empty
+
+-- each number of each row is a byte
+abbrev pub RowsAreBytes : NodesState → Type 0
+RowsAreBytes state =
+    (node : NodeId) (key : ℕ) (row : List ℕ) → row_at state node key ≡ Some row
+    → All (λ x. x < 2 ^ 8) row
+
+-- What holds at every moment: a u32 counts the nodes, and none holds more than it has room for.
 pub record IsNodes (state : NodesState) : Type 0 where
+  pub numbered : length state.nodes < 2 ^ 32
   pub room_is_kept : All (λ rows. map.len rows ≤ state.room) state.nodes
   pub room_fits : state.room < 2 ^ 32

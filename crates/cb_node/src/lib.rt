@@ -2,10 +2,8 @@
 //! call, which is counted; nodes copy and combine rows among themselves.
 #![tactic(auto)]
 
-mod laws;
 mod node;
 mod nodes;
 mod row;
 
-pub use laws::node_laws;
 pub use nodes::{Nodes, PutAnswer};

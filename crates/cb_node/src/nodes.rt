@@ -1,7 +1,6 @@
 ghost use Rattle.std.specs.Prelude.{◌≡◌, ◌-◌, ◌+◌, ◌^◌, ◌<◌, ◌≤◌, ◌↔◌, IsTrue, length, true, false, if◌then◌else◌, IfOk, IfSome, IfNone, OnOk, OnErr};
-ghost use Rattle.std.specs.FinMap as map;
 ghost use Rattle.cb_gf256.specs.Row.{row_sum, scaled_row};
-ghost use Rattle.cb_node.specs.NodesState.{IsNodes, empty_nodes, rows_at, row_at, known_row, held, has, with_rows, with_row};
+ghost use Rattle.cb_node.specs.NodesState.{IsNodes, empty_nodes, row_at, known_row, held, has, with_dropped, with_row, with_wiped};
 ghost use Rattle.cb_node.specs.Answer.{PutGives};
 ghost use Rattle.cb_node.specs.Delta.{with_delta, Names};
 
@@ -55,6 +54,22 @@ impl Nodes {
             given: 0,
             nodes: all,
         })
+    }
+
+    /// How many nodes there are.
+    pub fn len(&self) -> u32
+        ensures count { result ≡ length self.now.nodes }
+        ensures valid { IsNodes self.now }
+    {
+        self.nodes.len() as u32
+    }
+
+    /// How many rows each node has room for.
+    pub fn room(&self) -> u32
+        ensures room { result ≡ self.now.room }
+        ensures valid { IsNodes self.now }
+    {
+        self.room
     }
 
     /// How many rows the node holds.
@@ -185,19 +200,21 @@ impl Nodes {
         }
     }
 
-    /// Drops the row under the key at the node, if it is there.
+    /// Drops the row under the key at the node, if it is there. Takes no memory.
     pub fn drop_row(&mut self, node: NodeId, key: u64)
         requires { node.n < length self.old.nodes }
-        ensures after { self.new ≡ with_rows self.old node (map.remove (rows_at self.old node) key) }
+        ensures after { self.new ≡ with_dropped self.old node key }
+        ensures count { length self.new.nodes ≡ length self.old.nodes }
         ensures valid { IsNodes self.new }
     {
         self.nodes[usize::from(node.n)].remove(key);
     }
 
-    /// Drops all rows at the node.
+    /// Drops all rows at the node. Takes no memory.
     pub fn wipe(&mut self, node: NodeId)
         requires { node.n < length self.old.nodes }
-        ensures after { self.new ≡ with_rows self.old node map.empty }
+        ensures after { self.new ≡ with_wiped self.old node }
+        ensures count { length self.new.nodes ≡ length self.old.nodes }
         ensures valid { IsNodes self.new }
     {
         self.nodes[usize::from(node.n)].clear();

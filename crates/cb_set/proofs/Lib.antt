@@ -1,3 +1,8 @@
-pub mod Lost
-pub mod Nodes
-pub mod PublicLaws
+pub mod Losing
+pub mod Naming
+pub mod Crashing
+pub mod Survivors
+pub mod Masks
+pub mod Changes
+pub mod Laws
+pub mod Worked

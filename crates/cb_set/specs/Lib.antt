@@ -1,4 +1,5 @@
 pub mod SetState
 pub mod Lost
+pub mod Surviving
 pub mod Matched
 pub mod Nodes

@@ -2,9 +2,10 @@
 //! memory nodes, and which of those shards are lost.
 #![tactic(auto)]
 
-mod laws;
+mod lost;
+mod matched;
 mod position;
 mod span_set;
 
-pub use laws::set_laws;
+pub use lost::{MOST_POSITIONS, is_lost};
 pub use span_set::SpanSet;

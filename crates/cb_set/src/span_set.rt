@@ -1,11 +1,11 @@
-ghost use Rattle.std.specs.Prelude.{◌≡◌, ◌+◌, ◌-◌, ◌^◌, ◌<◌, ◌≤◌, ◌↔◌, length, Some, slice_get, is_some, IfOk, OnOk, OnErr, IsTrue};
+ghost use Rattle.std.specs.Prelude.{◌≡◌, ◌+◌, ◌-◌, ◌^◌, ◌<◌, ◌≤◌, length, Some, slice_get, is_some, nat_eq, IfOk, OnOk, OnErr};
 ghost use Rattle.std.specs.List.{list_any};
-ghost use Rattle.cb_set.specs.SetState.{IsSet, fresh_set, position_of, live_at, slot_at, with_position, filled, cleared, dead, with_shard};
-ghost use Rattle.cb_set.specs.Lost.{loss_of, lost, IsWhole, NodesAreMembers};
-ghost use Rattle.cb_set.specs.Matched.{IsMatched, PositionsApart};
+ghost use Rattle.cb_set.specs.SetState.{IsSet, dead_position, filled_position, fresh_set, is_live, live_at, parities, position_of, slot_at, with_cleared, with_position, with_shard};
+ghost use Rattle.cb_set.specs.Matched.{live_mask};
+ghost use Rattle.cb_set.specs.Nodes.{names_elsewhere};
 
 use crate::position::Position;
-use cb_member::{Loss, Losses, Members, NoMemory, Shard};
+use cb_member::{NoMemory, NodeId, Shard};
 use std::alloc::Global;
 use std::marker::Model;
 
@@ -19,9 +19,11 @@ pub struct SpanSet {
 }
 
 impl Model for SpanSet {
-    ghost use Rattle.cb_set.specs.SetState.{SetState, IsSet};
+    ghost use Rattle.cb_set.specs.SetState.{SetState, IsSet, set_code};
 
     ghost Value = { SetState };
+
+    ghost coded = { set_code };
 
     ghost view = { λ a. record { id = a.id; shards = a.shards.items; positions = a.positions.items } };
 
@@ -77,7 +79,8 @@ impl SpanSet {
 
     /// The number of parities.
     pub fn r(&self) -> u32
-        ensures { result + length self.now.positions ≡ length self.now.shards }
+        ensures parities { result ≡ parities self.now }
+        ensures rest { result + length self.now.positions ≡ length self.now.shards }
     {
         (self.shards.len() - self.positions.len()) as u32
     }
@@ -86,8 +89,9 @@ impl SpanSet {
     /// Want of memory changes nothing.
     pub fn fill(&mut self, position: u32, handles: &[Option<u32>]) -> Result<(), NoMemory>
         requires { position < length self.old.positions }
-        ensures ok { OnOk result (self.new ≡ with_position self.old position (filled handles.now)) }
+        ensures ok { OnOk result (self.new ≡ with_position self.old position (filled_position handles.now)) }
         ensures err { OnErr result (self.new ≡ self.old) }
+        ensures valid { IsSet self.new }
     {
         let slots = Vec::from_slice(*self.shards.allocator(), handles)?;
         let live = names_a_handle(handles);
@@ -116,10 +120,12 @@ impl SpanSet {
         content.slots.as_slice()
     }
 
-    /// Empties one slot and leaves the live flag.
+    /// Empties one slot and leaves the live flag. Takes no memory.
     pub fn clear(&mut self, position: u32, slot: u32)
         requires { position < length self.old.positions }
-        ensures { self.new ≡ with_position self.old position (cleared (position_of self.old position) slot) }
+        ensures cleared { self.new
+            ≡ with_position self.old position (with_cleared (position_of self.old position) slot) }
+        ensures valid { IsSet self.new }
     {
         let content = &mut self.positions[position as usize];
         if let Some(handle) = content.slots.get_mut(slot as usize) {
@@ -127,14 +133,15 @@ impl SpanSet {
         }
     }
 
-    /// Takes the slot table from the data position and makes the position dead.
+    /// Takes the slot table from the data position, gives its memory back, and makes the position
+    /// dead. Takes no memory.
     pub fn kill(&mut self, position: u32)
         requires { position < length self.old.positions }
-        ensures { self.new ≡ with_position self.old position dead }
+        ensures killed { self.new ≡ with_position self.old position dead_position }
+        ensures valid { IsSet self.new }
     {
-        let content = &mut self.positions[position as usize];
-        content.live = false;
-        content.slots.clear();
+        let slots = Vec::new(*self.shards.allocator());
+        self.positions[position as usize] = Position { live: false, slots };
     }
 
     /// Whether the data position is live.
@@ -145,6 +152,30 @@ impl SpanSet {
         self.positions[position as usize].live
     }
 
+    /// Whether a data position is live.
+    pub fn is_live(&self) -> bool
+        ensures { result ≡ is_live self.now }
+    {
+        self.positions.iter().any(|position| position.live)
+    }
+
+    /// The live data positions as bits, that of position 0 the lowest; for at most 32 positions.
+    pub fn live_mask(&self) -> u32
+        requires { length self.now.positions ≤ 32 }
+        ensures { result ≡ live_mask self.now.positions }
+    {
+        mask_of(&self.positions)
+    }
+
+    /// Whether a position other than this names the node.
+    pub fn names_elsewhere(&self, node: NodeId, position: u32) -> bool
+        requires { position < length self.now.shards }
+        ensures { result ≡ names_elsewhere self.now.shards node position }
+    {
+        let place = position as usize;
+        names(&self.shards[..place], node) || names(&self.shards[place + 1..], node)
+    }
+
     /// The shard of the position, data or parity.
     pub fn shard(&self, position: u32) -> Shard
         requires { position < length self.now.shards }
@@ -153,84 +184,48 @@ impl SpanSet {
         self.shards[position as usize]
     }
 
+    /// What the data positions hold.
+    pub(crate) fn positions(&self) -> &[Position]
+        ensures { result.now ≡ self.now.positions }
+    {
+        self.positions.as_slice()
+    }
+
     /// The shards of all positions, data first.
     pub fn shards(&self) -> &[Shard]
-        ensures { result.now ≡ self.now.shards }
+        ensures shards { result.now ≡ self.now.shards }
+        ensures valid { IsSet self.now }
     {
         self.shards.as_slice()
     }
 
-    /// Puts another shard in place of the position's.
+    /// Puts another shard in place of the position's. Takes no memory.
     pub fn set_shard(&mut self, position: u32, shard: Shard)
         requires { position < length self.old.shards }
-        ensures { self.new ≡ with_shard self.old position shard }
+        ensures shard { self.new ≡ with_shard self.old position shard }
+        ensures valid { IsSet self.new }
     {
         self.shards[position as usize] = shard;
     }
-
-    /// How many shards are lost.
-    pub fn lost_count(&self, m: &Members) -> u32
-        requires { NodesAreMembers m.now self.now.shards }
-        ensures { result ≡ length (lost m.now self.now.shards) }
-    {
-        let mut count = 0;
-        for shard in &self.shards {
-            if loss_of(m, *shard).is_some() {
-                count += 1;
-            }
-        }
-        count
-    }
-
-    /// The lost shards in order of position, each as its node and the epoch of the crash that
-    /// ended its incarnation.
-    pub fn lost(&self, alloc: Global, m: &Members) -> Result<Losses, NoMemory>
-        requires { NodesAreMembers m.now self.now.shards }
-        ensures { IfOk result (λ losses. losses ≡ lost m.now self.now.shards) }
-    {
-        let mut losses = Vec::new(alloc);
-        for shard in &self.shards {
-            if let Some(loss) = loss_of(m, *shard) {
-                losses.push(loss)?;
-            }
-        }
-        Ok(Losses::from(losses))
-    }
-
-    /// Whether no shard is lost.
-    pub fn whole(&self, m: &Members) -> bool
-        requires { NodesAreMembers m.now self.now.shards }
-        ensures { IsTrue result ↔ IsWhole m.now self.now }
-    {
-        self.lost_count(m) == 0
-    }
-
-    /// Whether both sets are whole and no position is live in both.
-    pub fn matched(a: &SpanSet, b: &SpanSet, m: &Members) -> bool
-        requires nodes_a { NodesAreMembers m.now a.now.shards }
-        requires nodes_b { NodesAreMembers m.now b.now.shards }
-        ensures { IsTrue result ↔ IsMatched m.now a.now b.now }
-    {
-        a.whole(m) && b.whole(m) && a.is_apart_from(b)
-    }
-
-    /// Whether no position is live in both sets.
-    fn is_apart_from(&self, other: &SpanSet) -> bool
-        ensures { IsTrue result ↔ PositionsApart self.now.positions other.now.positions }
-    {
-        live_apart(&self.positions, &other.positions)
-    }
 }
 
-fn loss_of(m: &Members, shard: Shard) -> Option<Loss>
-    requires { shard.node.n < length m.now.nodes }
-    ensures { result ≡ loss_of m.now shard }
+/// Whether one of the shards stands on the node.
+fn names(shards: &[Shard], node: NodeId) -> bool
+    ensures { result ≡ list_any (λ shard. nat_eq shard.node.n node.n) shards.now }
 {
-    let epoch = m.crashed_at(shard.node, shard.incarnation)?;
-    Some(Loss {
-        node: shard.node,
-        epoch,
-    })
+    shards.iter().any(|shard| shard.node.n == node.n)
+}
+
+/// The bits of the live positions, the first the lowest.
+fn mask_of(positions: &[Position]) -> u32
+    requires { length positions.now ≤ 32 }
+    ensures { result ≡ live_mask positions.now }
+{
+    let mut mask = 0;
+    for (place, position) in positions.iter().enumerate() {
+        mask += u32::from(position.live) << place;
+    }
+    mask
 }
 
 /// Whether the slot table names a handle.
@@ -238,18 +233,6 @@ fn names_a_handle(slots: &[Option<u32>]) -> bool
     ensures { result ≡ list_any (λ slot. is_some slot) slots.now }
 {
     slots.iter().any(|slot| slot.is_some())
-}
-
-/// Whether no place is live in both lists.
-fn live_apart(a: &[Position], b: &[Position]) -> bool
-    ensures { IsTrue result ↔ PositionsApart a.now b.now }
-{
-    for (x, y) in a.iter().zip(b) {
-        if x.live && y.live {
-            return false;
-        }
-    }
-    true
 }
 
 #[cfg(test)]

@@ -2,7 +2,7 @@ ghost use Rattle.std.specs.Prelude.{◌≡◌, length};
 ghost use Rattle.cb_set.specs.Lost.{NodesAreMembers};
 
 use super::*;
-use cb_member::{Epoch, NodeId};
+use cb_member::{Epoch, Loss, Members};
 use std::process::Abort;
 use std::test::Fail;
 
@@ -34,6 +34,7 @@ fn loses_the_old_incarnation(
     };
     let losses = set.lost(alloc, members)?;
     assert_eq!(rt; losses.as_slice(), [loss].as_slice());
+    assert_eq!(rt; set.least_lost(members), Some(1));
     Ok(())
 }
 

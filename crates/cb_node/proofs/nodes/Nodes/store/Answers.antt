@@ -1,7 +1,7 @@
 use Rattle.std.proofs.Common.{ap, ◌∙◌, subst}
 use Rattle.std.specs.FinMap as map
 use Rattle.cb_node.specs.NodesState.{IsNodes, rows_at}
-use Rattle.cb_node.proofs.Kept.{rows_at-read, kept_after_write, with_row-IsNodes}
+use Rattle.cb_node.proofs.Kept.{rows_at-read, kept_after_write, IsNodes-with_row}
 use Rattle.cb_node.proofs.nodes.Nodes.store.Goals as goal
 
 pub invariant_of-self-2 : goal.invariant_of-self-2
@@ -11,7 +11,7 @@ invariant_of-self-2 c =
     let read = rows_at-read old c.self.inside.nodes.items node c.from.result c.index_mut.result.now (ap (λ s. s.nodes) c.self.view_is) c.from.ensures c.requires.node c.index_mut.ensures.value in
     kept_after_write _ old c.from.result node c.insert.new.self (map.insert (rows_at old node) c.args.key c.args.row) c.self.view_is c.from.ensures
     (c.in_ok-insert.ensures.ok ∙ ap (λ rows. map.insert rows c.args.key c.args.row) read)
-    (with_row-IsNodes old node c.args.key c.args.row (subst IsNodes c.self.view_is c.self.invariant) c.requires.fresh c.requires.room)
+    (IsNodes-with_row old node c.args.key c.args.row (subst IsNodes c.self.view_is c.self.invariant) c.requires.fresh c.requires.room)
 
 pub returns-clause-valid : goal.returns-clause-valid
 returns-clause-valid c =
@@ -20,4 +20,4 @@ returns-clause-valid c =
     let read = rows_at-read old c.self.inside.nodes.items node c.from.result c.index_mut.result.now (ap (λ s. s.nodes) c.self.view_is) c.from.ensures c.requires.node c.index_mut.ensures.value in
     kept_after_write _ old c.from.result node c.insert.new.self (map.insert (rows_at old node) c.args.key c.args.row) c.self.view_is c.from.ensures
     (c.in_ok-insert.ensures.ok ∙ ap (λ rows. map.insert rows c.args.key c.args.row) read)
-    (with_row-IsNodes old node c.args.key c.args.row (subst IsNodes c.self.view_is c.self.invariant) c.requires.fresh c.requires.room)
+    (IsNodes-with_row old node c.args.key c.args.row (subst IsNodes c.self.view_is c.self.invariant) c.requires.fresh c.requires.room)

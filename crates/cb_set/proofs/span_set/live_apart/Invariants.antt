@@ -1,6 +1,0 @@
-use Rattle.std.proofs.Common.{◌≡◌, ℕ, ◌<◌, true, length, get_or}
-use Rattle.cb_set.specs.SetState.{dead}
-use Rattle.cb_set.proofs.span_set.live_apart.Given as goal
-
-abbrev pub invariant-loop-x : goal.invariant-loop-x
-invariant-loop-x l = (k : ℕ) → k < length l.yielded → (get_or l.a k dead).live ≡ true → (get_or l.b k dead).live ≡ true → ⊥
