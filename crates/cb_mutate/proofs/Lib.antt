@@ -2,3 +2,4 @@ pub mod Bytes
 pub mod Settling
 pub mod Written
 pub mod Emptied
+pub mod Freed

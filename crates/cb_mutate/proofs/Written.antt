@@ -155,7 +155,7 @@ write_before state.Empty h w at bytes es fs r a = absent_before state.Empty h es
 write_before state.Far h w at bytes es fs r a = a
 write_before state.Moving h w at bytes es fs r a = a
 
-no_taken : (h v : ℕ) (words : List ℕ) (es : List Event) → AreReads h es → IsTaken h v words es → ⊥
+pub no_taken : (h v : ℕ) (words : List ℕ) (es : List Event) → AreReads h es → IsTaken h v words es → ⊥
 no_taken h v words [] reads taken = taken
 no_taken h v words (Told k u ∷ es) reads taken = no_taken h v words es reads.1 taken
 no_taken h v words (Loaded p x ∷ es) reads taken = no_taken h v words es reads taken

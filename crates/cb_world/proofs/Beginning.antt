@@ -13,7 +13,8 @@ use Rattle.cb_world.specs.declared.shown.Shown.{Shown}
 use Rattle.cb_world.specs.FarState.{FarState}
 use Rattle.cb_world.specs.Sets.{set_in, SetMap}
 use Rattle.cb_world.specs.Joining.{JoiningState}
-use Rattle.cb_world.specs.SetWord.{parities, IsSpanWord, IsShaped}
+use Rattle.cb_world.specs.SetWord.{IsSpanWord, IsShaped}
+use Rattle.cb_set.specs.SetState.{parities}
 use Rattle.cb_world.specs.FarSound.{IsSetWord, AreRows, Owner, of_set, of_leaving, of_joining, IsShardOf, AwaySound}
 use Rattle.cb_world.specs.Merged.{IsMergedWord}
 use Rattle.cb_world.specs.Join.{NoneLost, AreFit, IsJoin}

@@ -5,7 +5,7 @@ use Rattle.std.proofs.lemmas.Bool.{cases_eq}
 use Rattle.cb_member.specs.declared.names.NodeId.{NodeId}
 use Rattle.cb_member.specs.declared.names.Shard.{Shard}
 use Rattle.cb_node.specs.NodesState.{NodesState, with_row, row_at as row_under}
-use Rattle.cb_node.proofs.PublicLaws.{put_keeps_other_rows}
+use Rattle.cb_node.proofs.Laws.{put_keeps_other_rows}
 use Rattle.cb_world.specs.Stored.{all_put}
 use Rattle.cb_world.proofs.Storing.{InRange}
 

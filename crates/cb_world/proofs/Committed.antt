@@ -10,7 +10,7 @@ use Rattle.cb_member.specs.declared.names.NodeId.{NodeId}
 use Rattle.cb_member.specs.declared.names.Shard.{Shard}
 use Rattle.cb_member.specs.Membership.{Membership, IsMembership, incarnation}
 use Rattle.cb_node.specs.NodesState.{row_at as row_under}
-use Rattle.cb_set.specs.SetState.{SetState, PositionState, position_of, live_at, slot_at, dead}
+use Rattle.cb_set.specs.SetState.{SetState, PositionState, position_of, live_at, slot_at, dead_position}
 use Rattle.cb_set.specs.Lost.{is_lost}
 use Rattle.cb_world.specs.declared.shown.Shown.{Shown}
 use Rattle.cb_world.specs.declared.homes.Home.{Home}
@@ -18,7 +18,8 @@ use Rattle.cb_world.specs.FarState.{FarState}
 use Rattle.cb_world.specs.Sets.{set_in}
 use Rattle.cb_world.specs.Homes.{home_at}
 use Rattle.cb_world.specs.Joining.{JoiningState}
-use Rattle.cb_world.specs.SetWord.{parities, IsSpanWord, IsWordOf, IsShaped}
+use Rattle.cb_world.specs.SetWord.{IsSpanWord, IsWordOf, IsShaped}
+use Rattle.cb_set.specs.SetState.{parities}
 use Rattle.cb_world.specs.FarSound.{HoldsObject, IsSetWord, AreSets, AreAway, AreRows, Owner, of_set, of_leaving, of_joining, IsShardOf, AwaySound}
 use Rattle.cb_world.specs.Merged.{takes, IsMergedWord}
 use Rattle.cb_world.specs.Join.{IsFresh, IsJoinWord, IsBeside, AreFit, IsJoin}
@@ -85,7 +86,7 @@ named_inside set p slot h named = elim (cases_lt p (length set.positions)) [
   | inl within ↦ within
   | inr past ↦
       absurd (some_none _ h (ap (λ (c : PositionState).
-      get_or c.slots slot None) (get_or_past set.positions p dead past)) named)
+      get_or c.slots slot None) (get_or_past set.positions p dead_position past)) named)
 ]
 
 -- what the merged set names, b names at a taken position or a names at another one

@@ -6,8 +6,8 @@ use Rattle.cb_member.specs.declared.names.Shard.{Shard}
 use Rattle.cb_member.specs.Membership.{IsMembership, alive, with_crash}
 use Rattle.cb_node.specs.NodesState.{NodesState, with_rows, row_at as row_under}
 use Rattle.cb_world.specs.declared.shown.Shown.{Shown}
-use Rattle.cb_node.proofs.PublicLaws.{change_keeps_other_nodes as rows_elsewhere}
-use Rattle.cb_set.proofs.PublicLaws.{crash_keeps_other_nodes}
+use Rattle.cb_node.proofs.Laws.{change_keeps_other_nodes as rows_elsewhere}
+use Rattle.cb_set.proofs.Laws.{crash_keeps_other_nodes}
 use Rattle.cb_world.specs.FarState.{FarState}
 use Rattle.cb_world.proofs.Storing.{wiped_node_is_empty}
 use Rattle.cb_world.specs.FarSound.{AreRows, Owner, of_set, of_leaving, of_joining, IsShardOf, AwaySound}

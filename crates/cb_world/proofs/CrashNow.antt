@@ -13,7 +13,8 @@ use Rattle.cb_world.specs.declared.homes.Home.{Home}
 use Rattle.cb_world.specs.FarState.{FarState}
 use Rattle.cb_world.specs.Sets.{set_in}
 use Rattle.cb_world.specs.Homes.{home_at}
-use Rattle.cb_world.specs.SetWord.{parities, is_broken, AreCurrent, IsShaped}
+use Rattle.cb_world.specs.SetWord.{is_broken, AreCurrent, IsShaped}
+use Rattle.cb_set.specs.SetState.{parities}
 use Rattle.cb_world.specs.FarSound.{AwaySound}
 use Rattle.cb_world.specs.Now.{gone, broken_set, broken_home, is_gone, now_as, now}
 use Rattle.cb_world.proofs.Words.{crash_survivor, lost_grow}

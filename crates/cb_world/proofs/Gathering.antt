@@ -12,7 +12,9 @@ use Rattle.cb_node.specs.NodesState.{NodesState, row_at as row_under}
 use Rattle.cb_set.specs.SetState.{SetState}
 use Rattle.cb_set.specs.Lost.{is_lost, lost}
 use Rattle.cb_erase.specs.Weights.{rows_at, IsSolution}
-use Rattle.cb_world.specs.SetWord.{surviving_from, surviving, parities, IsShaped, IsWordOf}
+use Rattle.cb_world.specs.SetWord.{IsShaped, IsWordOf}
+use Rattle.cb_set.specs.Surviving.{surviving_from, surviving}
+use Rattle.cb_set.specs.SetState.{parities}
 use Rattle.cb_world.proofs.Surviving.{count_surviving, counted, taken_survives}
 use Rattle.std.proofs.lemmas.Option.{slice_get_within}
 use Rattle.cb_world.specs.Fetched.{StandAt, StandsAt}

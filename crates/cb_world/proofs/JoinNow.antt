@@ -8,10 +8,10 @@ use Rattle.cb_member.specs.declared.names.NodeId.{NodeId}
 use Rattle.cb_member.specs.declared.names.Shard.{Shard}
 use Rattle.cb_member.specs.Membership.{Membership}
 use Rattle.cb_node.specs.NodesState.{row_at as row_under}
-use Rattle.cb_set.specs.SetState.{SetState, PositionState, live_at, slot_at, dead, with_position}
+use Rattle.cb_set.specs.SetState.{SetState, PositionState, live_at, slot_at, dead_position, with_position}
 use Rattle.cb_set.specs.Lost.{is_lost, lost}
 use Rattle.cb_world.proofs.Surviving.{count_surviving}
-use Rattle.cb_world.specs.SetWord.{surviving_from}
+use Rattle.cb_set.specs.Surviving.{surviving_from}
 use Rattle.cb_world.specs.declared.shown.Shown.{Shown}
 use Rattle.cb_world.specs.Shown.{object_at}
 use Rattle.cb_world.specs.declared.homes.Home.{Home}
@@ -19,7 +19,8 @@ use Rattle.cb_world.specs.FarState.{FarState}
 use Rattle.cb_world.specs.Sets.{set_in, SetMap}
 use Rattle.cb_world.specs.Homes.{home_at}
 use Rattle.cb_world.specs.Joining.{JoiningState}
-use Rattle.cb_world.specs.SetWord.{parities, is_broken}
+use Rattle.cb_world.specs.SetWord.{is_broken}
+use Rattle.cb_set.specs.SetState.{parities}
 use Rattle.cb_world.specs.FarSound.{Owner, of_set, of_joining, IsShardOf, AwaySound}
 use Rattle.cb_world.specs.Now.{broken_home, broken_set, now, now_as}
 use Rattle.cb_world.specs.Join.{NoneLost, IsFresh, IsBeside, IsJoin}
@@ -165,10 +166,10 @@ WasSet far q c = (a : SetState) × (set_in far.sets q ≡ Some a) × (c.shards �
     × ((p : ℕ) → live_at c p ≡ true → live_at a p ≡ true)
 
 live_before : (set : SetState) (p q : ℕ) → p < length set.positions
-    → live_at (with_position set p dead) q ≡ true → live_at set q ≡ true
+    → live_at (with_position set p dead_position) q ≡ true → live_at set q ≡ true
 live_before set p q within l = elim (cases_eq q p) [
   | inl here ↦
-      absurd (false≢true (sym (ap (λ (n : ℕ). live_at (with_position set p dead) n) here
+      absurd (false≢true (sym (ap (λ (n : ℕ). live_at (with_position set p dead_position) n) here
       ∙ ap (λ (c : PositionState). c.live) (dead_here set p within)) ∙ l))
   | inr off ↦ ap (λ (c : PositionState). c.live) (sym (dead_else set p q off)) ∙ l
 ]
@@ -179,10 +180,10 @@ was_set : (s t : Shown) (far new : FarState) (id : ℕ) (set : SetState) (p : �
 was_set s t far new id set p x q c at = elim (cases_eq q id) [
   | inl here ↦ elim x.left [
       | inl on ↦
-          let e = set_same (with_position set p dead) c (sym on.there
+          let e = set_same (with_position set p dead_position) c (sym on.there
               ∙ ap (set_in new.sets) (sym here) ∙ at) in
           subst (λ (d : SetState). WasSet far q d) e (set, ap (set_in far.sets) here
-              ∙ x.was, refl, length-set set.positions p dead, λ z l. live_before set p z x.inside l)
+              ∙ x.was, refl, length-set set.positions p dead_position, λ z l. live_before set p z x.inside l)
       | inr dropped ↦
           absurd (some_none (set_in new.sets id) c dropped.gone (ap (set_in new.sets) (sym here)
           ∙ at))

@@ -7,7 +7,7 @@ use Rattle.cb_member.specs.declared.names.NodeId.{NodeId}
 use Rattle.cb_member.specs.declared.names.Shard.{Shard}
 use Rattle.cb_member.specs.Membership.{Membership, alive}
 use Rattle.cb_node.specs.NodesState.{row_at as row_under}
-use Rattle.cb_node.proofs.PublicLaws.{change_keeps_other_nodes as rows_elsewhere}
+use Rattle.cb_node.proofs.Laws.{change_keeps_other_nodes as rows_elsewhere}
 use Rattle.cb_set.specs.SetState.{SetState}
 use Rattle.cb_set.specs.Lost.{is_lost}
 use Rattle.cb_world.specs.declared.shown.Shown.{Shown}

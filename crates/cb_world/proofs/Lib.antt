@@ -8,7 +8,6 @@ pub mod SecondDesk
 pub mod Surviving
 pub mod Storing
 pub mod Words
-pub mod Views
 pub mod Crash
 pub mod CrashNow
 pub mod Added

@@ -13,7 +13,8 @@ use Rattle.cb_world.specs.Memory.{window, words_for, bytes_in}
 use Rattle.cb_world.specs.Shown.{object_at, version_at}
 use Rattle.cb_world.specs.FarState.{FarState}
 use Rattle.cb_world.specs.Homes.{home_at}
-use Rattle.cb_world.specs.SetWord.{parities, is_broken}
+use Rattle.cb_world.specs.SetWord.{is_broken}
+use Rattle.cb_set.specs.SetState.{parities}
 use Rattle.cb_world.specs.Now.{held, broken_set, broken_home, is_gone, now_as, now}
 use Rattle.cb_world.specs.SetAdded.{IsSetAdded}
 

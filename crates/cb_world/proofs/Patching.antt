@@ -11,7 +11,8 @@ use Rattle.cb_node.specs.NodesState.{row_at as row_under}
 use Rattle.cb_set.specs.SetState.{SetState}
 use Rattle.cb_world.specs.FarState.{FarState}
 use Rattle.cb_world.specs.Joining.{JoiningState}
-use Rattle.cb_world.specs.SetWord.{IsSpanWord, IsWordOf, parities}
+use Rattle.cb_world.specs.SetWord.{IsSpanWord, IsWordOf}
+use Rattle.cb_set.specs.SetState.{parities}
 use Rattle.cb_world.specs.Merged.{takes, patched, IsMergedWord}
 use Rattle.cb_world.specs.Join.{IsFresh, IsJoinWord, IsJoin}
 use Rattle.cb_world.proofs.Merging.{AreTwoWords, merged_parity}

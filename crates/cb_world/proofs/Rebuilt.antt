@@ -7,7 +7,7 @@ use Rattle.cb_gf256.specs.Rows.{row_at}
 use Rattle.cb_member.specs.declared.names.Shard.{Shard}
 use Rattle.cb_member.specs.Membership.{Membership}
 use Rattle.cb_node.specs.NodesState.{NodesState, with_row, row_at as row_under}
-use Rattle.cb_node.proofs.PublicLaws.{row_is_put, put_keeps_other_rows}
+use Rattle.cb_node.proofs.Laws.{row_is_put, put_keeps_other_rows}
 use Rattle.cb_set.specs.SetState.{SetState, with_shard}
 use Rattle.cb_world.specs.SetWord.{IsSpanWord, IsWordOf}
 

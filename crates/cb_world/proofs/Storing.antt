@@ -10,8 +10,9 @@ use Rattle.cb_member.specs.declared.names.NodeId.{NodeId}
 use Rattle.cb_member.specs.declared.names.Shard.{Shard}
 use Rattle.cb_node.specs.Rows.{RowsByKey}
 use Rattle.cb_node.specs.NodesState.{NodesState, rows_at, with_rows, with_row, row_at as row_under}
-use Rattle.cb_node.proofs.PublicLaws.{row_is_put, put_keeps_other_rows, change_is_at_its_node, change_keeps_other_nodes}
-use Rattle.cb_world.specs.Stored.{all_put, all_dropped, without_row, NoKey}
+use Rattle.cb_node.proofs.Laws.{row_is_put, put_keeps_other_rows, change_is_at_its_node, change_keeps_other_nodes}
+use Rattle.cb_world.specs.Stored.{all_put, all_dropped, NoKey}
+use Rattle.cb_node.specs.NodesState.{with_dropped}
 
 -- the nodes of the shards are there
 abbrev pub InRange : NodesState → List Shard → Type 0
@@ -72,7 +73,7 @@ eq_by_cmp-same k = grind (arith, nat_tests)
 
 -- the row that is dropped is gone
 pub dropped_row_is_gone : (state : NodesState) (node : NodeId) (key : ℕ)
-    → node.n < length state.nodes → row_under (without_row state node key) node key ≡ None
+    → node.n < length state.nodes → row_under (with_dropped state node key) node key ≡ None
 dropped_row_is_gone state node key within =
     ap (λ rows. map.get rows key) (change_is_at_its_node state node _ within)
     ∙ map.get-remove nat_cmp_total (rows_at state node) key key
@@ -81,10 +82,10 @@ dropped_row_is_gone state node key within =
 -- and no other
 pub drop_keeps_other_rows : (state : NodesState) (node other : NodeId) (key k : ℕ)
     → node.n < length state.nodes → ((other.n ≡ node.n) × (k ≡ key) → ⊥)
-    → row_under (without_row state node key) other k ≡ row_under state other k
+    → row_under (with_dropped state node key) other k ≡ row_under state other k
 drop_keeps_other_rows state node other key k within apart = elim (cases_eq other.n node.n) [
   | inl here ↦
-      ap (λ (n : ℕ). map.get (get_or (without_row state node key).nodes n map.empty) k) here
+      ap (λ (n : ℕ). map.get (get_or (with_dropped state node key).nodes n map.empty) k) here
       ∙ ap (λ rows. map.get rows k) (change_is_at_its_node state node _ within)
       ∙ map.get-remove nat_cmp_total (rows_at state node) key k
       ∙ ap (λ b.
@@ -109,7 +110,7 @@ pub drop_elsewhere : (nodes : NodesState) (shards : List Shard) (node : NodeId) 
     → row_under (all_dropped nodes shards) node key ≡ row_under nodes node key
 drop_elsewhere nodes [] node key range none = refl
 drop_elsewhere nodes (x ∷ xs) node key range none =
-    drop_elsewhere (without_row nodes x.node x.key) xs node key (later_range nodes x xs _ range)
+    drop_elsewhere (with_dropped nodes x.node x.key) xs node key (later_range nodes x xs _ range)
         (λ p shard at. none (suc p) shard at)
     ∙ drop_keeps_other_rows nodes x.node node x.key key (range 0 x refl) (λ same.
         none 0 x refl (sym same.1))

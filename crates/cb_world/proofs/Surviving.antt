@@ -13,7 +13,9 @@ use Rattle.cb_member.specs.Membership.{Membership}
 use Rattle.cb_node.specs.NodesState.{NodesState}
 use Rattle.cb_set.specs.SetState.{SetState}
 use Rattle.cb_set.specs.Lost.{is_lost, loss_of, lost}
-use Rattle.cb_world.specs.SetWord.{parities, IsWordOf, IsShaped, surviving_from, surviving}
+use Rattle.cb_world.specs.SetWord.{IsWordOf, IsShaped}
+use Rattle.cb_set.specs.SetState.{parities}
+use Rattle.cb_set.specs.Surviving.{surviving_from, surviving}
 
 -- as many survive as are not lost
 pub count_surviving : (m : Membership) (p : ℕ) (shards : List Shard)

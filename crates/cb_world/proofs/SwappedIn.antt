@@ -11,7 +11,7 @@ use Rattle.cb_member.specs.declared.names.NodeId.{NodeId}
 use Rattle.cb_member.specs.declared.names.Shard.{Shard}
 use Rattle.cb_member.specs.Membership.{Membership, IsMembership, incarnation}
 use Rattle.cb_node.specs.NodesState.{NodesState, row_at as row_under}
-use Rattle.cb_set.specs.SetState.{SetState, PositionState, position_of, live_at, slot_at, with_position, dead}
+use Rattle.cb_set.specs.SetState.{SetState, PositionState, position_of, live_at, slot_at, with_position, dead_position}
 use Rattle.cb_set.specs.Lost.{is_lost}
 use Rattle.cb_world.specs.declared.shown.Shown.{Shown}
 use Rattle.cb_world.specs.Shown.{object_at}
@@ -29,20 +29,20 @@ some_none : {X : Type 0} (o : Option X) (x : X) → o ≡ None → o ≡ Some x 
 some_none o x e f = cc
 
 pub dead_here : (set : SetState) (p : ℕ) → p < length set.positions
-    → position_of (with_position set p dead) p ≡ dead
-dead_here set p within = get_or-set_same set.positions p dead dead within
+    → position_of (with_position set p dead_position) p ≡ dead_position
+dead_here set p within = get_or-set_same set.positions p dead_position dead_position within
 
 pub dead_else : (set : SetState) (p q : ℕ) → q ≢ p
-    → position_of (with_position set p dead) q ≡ position_of set q
-dead_else set p q off = get_or-set_other set.positions p q dead dead off
+    → position_of (with_position set p dead_position) q ≡ position_of set q
+dead_else set p q off = get_or-set_other set.positions p q dead_position dead_position off
 
 -- a slot that is still named stands at another position
 pub named_else : (set : SetState) (p q slot h : ℕ) → p < length set.positions
-    → slot_at (with_position set p dead) q slot ≡ Some h → (q ≢ p) × (slot_at set q slot ≡ Some h)
+    → slot_at (with_position set p dead_position) q slot ≡ Some h → (q ≢ p) × (slot_at set q slot ≡ Some h)
 named_else set p q slot h within named =
     let off : q ≢ p =
         λ here. some_none _ h (ap (λ (n : ℕ).
-        get_or (position_of (with_position set p dead) n).slots slot None) here
+        get_or (position_of (with_position set p dead_position) n).slots slot None) here
         ∙ ap (λ (c : PositionState). get_or c.slots slot None) (dead_here set p within)) named in
     (off, ap (λ (c : PositionState). get_or c.slots slot None) (sym (dead_else set p q off))
         ∙ named)
@@ -56,10 +56,10 @@ named_live slots slot h named = elim (cases_lt slot (length slots)) [
 ]
 
 shaped_dead : (m : Membership) (set : SetState) (p : ℕ) → IsShaped m set
-    → IsShaped m (with_position set p dead)
+    → IsShaped m (with_position set p dead_position)
 shaped_dead m set p x =
-    let n : length (with_position set p dead).positions ≡ length set.positions =
-        length-set set.positions p dead in record {
+    let n : length (with_position set p dead_position).positions ≡ length set.positions =
+        length-set set.positions p dead_position in record {
       range = subst (λ (k : ℕ). IsInRange k (length set.shards - k)) (sym n) x.range;
       data_first = omega (arith, n, x.data_first);
       distinct = x.distinct;
@@ -83,10 +83,10 @@ left_object s t far new id set p sound x j q slot h other at named apart = elim 
 
 -- the word of the set stays its word
 word_dead : (nodes : NodesState) (m : Membership) (set : SetState) (p : ℕ) (rows : List (List ℕ))
-    → IsWordOf nodes m set rows → IsWordOf nodes m (with_position set p dead) rows
+    → IsWordOf nodes m set rows → IsWordOf nodes m (with_position set p dead_position) rows
 word_dead nodes m set p rows x =
-    let n : length (with_position set p dead).positions ≡ length set.positions =
-        length-set set.positions p dead in
+    let n : length (with_position set p dead_position).positions ≡ length set.positions =
+        length-set set.positions p dead_position in
     record { code =
         subst (λ (k : ℕ). IsSpanWord k (length set.shards - k) rows) (sym n) x.code; survive =
         x.survive }
@@ -121,7 +121,7 @@ set_number (of_joining p) = 0
 -- a set of the new world: the set without the position, or another one
 abbrev pub IsNewSet : FarState → FarState → ℕ → SetState → ℕ → ℕ → SetState → Type 0
 IsNewSet far new id set p j other =
-    ((j ≡ id) × GoesOn far new id set p × (with_position set p dead ≡ other))
+    ((j ≡ id) × GoesOn far new id set p × (with_position set p dead_position ≡ other))
     ⊎ ((j ≢ id) × (set_in far.sets j ≡ Some other))
 
 new_set : (s t : Shown) (far new : FarState) (id : ℕ) (set : SetState) (p : ℕ)
@@ -131,7 +131,7 @@ new_set s t far new id set p x j other at = elim (cases_eq j id) [
   | inl here ↦ elim x.left [
       | inl on ↦
           inl (here, on,
-          set_same (with_position set p dead) other (sym on.there ∙ ap (set_in new.sets) (sym here)
+          set_same (with_position set p dead_position) other (sym on.there ∙ ap (set_in new.sets) (sym here)
           ∙ at))
       | inr dropped ↦
           absurd (some_none (set_in new.sets id) other dropped.gone (ap (set_in new.sets) (sym here)
@@ -143,26 +143,26 @@ new_set s t far new id set p x j other at = elim (cases_eq j id) [
 -- by the two cases of a new set
 each_set : (s t : Shown) (far new : FarState) (id : ℕ) (set : SetState) (p : ℕ)
     → IsSwappedIn s t far new id set p → (P : ℕ → SetState → Type 0)
-    → (GoesOn far new id set p → P id (with_position set p dead))
+    → (GoesOn far new id set p → P id (with_position set p dead_position))
     → ((j : ℕ) (other : SetState) → j ≢ id → set_in far.sets j ≡ Some other → P j other)
         → (j : ℕ) (other : SetState) → set_in new.sets j ≡ Some other → P j other
 each_set s t far new id set p x P on off j other at =
     elim (new_set s t far new id set p x j other at) [
   | inl y ↦ subst (λ (c : SetState).
-      P j c) y.2 (subst (λ (n : ℕ). P n (with_position set p dead)) (sym y.0) (on y.1))
+      P j c) y.2 (subst (λ (n : ℕ). P n (with_position set p dead_position)) (sym y.0) (on y.1))
   | inr y ↦ off j other y.0 y.1
 ]
 
 live_dead : (set : SetState) (p : ℕ) → p < length set.positions
     → ((q : ℕ) → live_at set q ≡ list_any (λ x. is_some x) (position_of set q).slots)
     → (q : ℕ)
-        → live_at (with_position set p dead) q ≡ list_any (λ x.
-        is_some x) (position_of (with_position set p dead) q).slots
+        → live_at (with_position set p dead_position) q ≡ list_any (λ x.
+        is_some x) (position_of (with_position set p dead_position) q).slots
 live_dead set p within live q = elim (cases_eq q p) [
   | inl here ↦
       subst (λ (n : ℕ).
-      live_at (with_position set p dead) n ≡ list_any (λ x.
-      is_some x) (position_of (with_position set p dead) n).slots) (sym here)
+      live_at (with_position set p dead_position) n ≡ list_any (λ x.
+      is_some x) (position_of (with_position set p dead_position) n).slots) (sym here)
       (subst (λ (c : PositionState).
           c.live ≡ list_any (λ x. is_some x) c.slots) (sym (dead_here set p within)) refl)
   | inr off ↦
@@ -175,7 +175,7 @@ pub swapped_sets : (s t : Shown) (far new : FarState) (id : ℕ) (set : SetState
 swapped_sets s t far new id set p sound x = record {
   shaped = each_set s t far new id set p x (λ j c. IsShaped new.members c)
     (λ on. subst (λ (m : Membership).
-        IsShaped m (with_position set p dead)) (sym x.members)
+        IsShaped m (with_position set p dead_position)) (sym x.members)
         (shaped_dead far.members set p (sound.sets.shaped id set x.was)))
     (λ j other off was.
         subst (λ (m : Membership).
@@ -190,7 +190,7 @@ swapped_sets s t far new id set p sound x = record {
           let z = left_object s t far new id set p sound x id q slot h set x.was n.1 (λ both.
               n.0 both.1) in
           let d = dead_else set p q n.0 in
-          holds_kept s t (row_at y.0 q) (length (position_of (with_position set p dead) q).slots)
+          holds_kept s t (row_at y.0 q) (length (position_of (with_position set p dead_position) q).slots)
               slot h z.object (subst (λ (c : PositionState).
               HoldsObject s (row_at y.0 q) (length c.slots) slot h) (sym d)
               (y.1.holds q slot h n.1));
@@ -240,7 +240,7 @@ swapped_away s t far new id set p sound x = record {
                 slot_at set n home.slot ≡ Some h) q named) in
             elim x.left [
               | inl on ↦
-                  (with_position set p dead, ap (set_in new.sets) here
+                  (with_position set p dead_position, ap (set_in new.sets) here
                   ∙ on.there,
                   ap (λ (c : PositionState).
                   get_or c.slots home.slot None) (dead_else set p home.position off) ∙ named)
@@ -286,7 +286,7 @@ still_shard s t far new id set p x (of_set j q) shard row is there = elim (cases
       let at : slice_get set.shards q ≡ Some shard =
           subst (λ (c : SetState). slice_get c.shards q ≡ Some shard) e is.2 in
       elim x.left [
-        | inl on ↦ (with_position set p dead, ap (set_in new.sets) here ∙ on.there, at)
+        | inl on ↦ (with_position set p dead_position, ap (set_in new.sets) here ∙ on.there, at)
         | inr dropped ↦ absurd (some_none _ row (dropped.rows_gone q shard at) there)
       ]
   | inr off ↦ (is.0, x.others j off ∙ is.1, is.2)

@@ -8,7 +8,7 @@ use Rattle.cb_set.specs.SetState.{SetState}
 use Rattle.cb_world.specs.declared.shown.Shown.{Shown}
 use Rattle.cb_world.specs.FarState.{FarState}
 use Rattle.cb_world.specs.Joining.{JoiningState}
-use Rattle.cb_world.specs.SetWord.{parities}
+use Rattle.cb_set.specs.SetState.{parities}
 use Rattle.cb_world.specs.FarSound.{FarSound}
 use Rattle.cb_world.specs.SetAdded.{IsSetAdded}
 use Rattle.cb_world.specs.SwappedIn.{IsSwappedIn}

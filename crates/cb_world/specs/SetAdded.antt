@@ -15,7 +15,8 @@ use Rattle.cb_world.specs.Sets.{set_in}
 use Rattle.cb_world.specs.Homes.{home_at}
 use Rattle.cb_world.specs.Leaving.{LeavingState}
 use Rattle.cb_world.specs.FarState.{FarState}
-use Rattle.cb_world.specs.SetWord.{parities, IsSpanWord, IsShaped}
+use Rattle.cb_world.specs.SetWord.{IsSpanWord, IsShaped}
+use Rattle.cb_set.specs.SetState.{parities}
 use Rattle.cb_world.specs.Stored.{NoKey}
 use Rattle.cb_world.specs.FarSound.{HoldsObject, batch_rows}
 

@@ -6,13 +6,9 @@ use Rattle.cb_gf256.specs.InRange.{IsInRange}
 use Rattle.cb_member.specs.declared.names.Shard.{Shard}
 use Rattle.cb_member.specs.Membership.{Membership, incarnation}
 use Rattle.cb_node.specs.NodesState.{NodesState, row_at as row_under}
-use Rattle.cb_set.specs.SetState.{SetState}
+use Rattle.cb_set.specs.SetState.{SetState, parities}
 use Rattle.cb_set.specs.Lost.{is_lost, lost}
 use Rattle.cb_set.specs.Nodes.{OnDistinctNodes}
-
--- the parities of a set: the positions beyond the data positions
-abbrev pub parities : SetState → ℕ
-parities set = length set.shards - length set.positions
 
 -- more shards are lost than there are parities
 abbrev pub is_broken : Membership → SetState → Bool
@@ -46,13 +42,3 @@ pub record IsShaped (m : Membership) (set : SetState) : Type 0 where
   pub data_first : length set.positions ≤ length set.shards
   pub distinct : OnDistinctNodes set.shards
   pub current : AreCurrent m set.shards
-
--- the positions from the place on whose shards are not lost
-abbrev pub surviving_from : Membership → ℕ → List Shard → List ℕ
-surviving_from m p [] = []
-surviving_from m p (shard ∷ shards) =
-    if is_lost m shard then surviving_from m (p + 1) shards else p ∷ surviving_from m (p + 1) shards
-
--- the positions of the shards that are not lost, in order
-abbrev pub surviving : Membership → List Shard → List ℕ
-surviving m shards = surviving_from m 0 shards

@@ -3,7 +3,7 @@ use Rattle.std.specs.Prelude.{◌≡◌, ◌≢◌, ◌⊎◌, ℕ, ◌<◌, tru
 use Rattle.cb_member.specs.declared.names.NodeId.{NodeId}
 use Rattle.cb_member.specs.declared.names.Shard.{Shard}
 use Rattle.cb_node.specs.NodesState.{row_at as row_under}
-use Rattle.cb_set.specs.SetState.{SetState, live_at, slot_at, with_position, dead}
+use Rattle.cb_set.specs.SetState.{SetState, live_at, slot_at, with_position, dead_position}
 use Rattle.cb_world.specs.declared.shown.Shown.{Shown}
 use Rattle.cb_world.specs.Shown.{object_at}
 use Rattle.cb_world.specs.Sets.{set_in}
@@ -30,8 +30,8 @@ pub record IsBrought (t : Shown) (new : FarState) (set : SetState) (p h : ℕ) :
 
 -- the set goes on without the position, and all rows stay
 pub record GoesOn (far new : FarState) (id : ℕ) (set : SetState) (p : ℕ) : Type 0 where
-  pub there : set_in new.sets id ≡ Some (with_position set p dead)
-  pub some_live : (q : ℕ) × (live_at (with_position set p dead) q ≡ true)
+  pub there : set_in new.sets id ≡ Some (with_position set p dead_position)
+  pub some_live : (q : ℕ) × (live_at (with_position set p dead_position) q ≡ true)
   pub rows : (node : NodeId) (key : ℕ) → row_under new.nodes node key ≡ row_under far.nodes node key
 
 -- no other position is live: the set is dropped with its rows

@@ -1,41 +1,17 @@
 ghost use Rattle.std.specs.Prelude.{◌≡◌, ℕ, ◌+◌, ◌-◌, ◌^◌, ◌<◌, ◌≤◌, List, All, IfOk, OnOk, length, take, slice_index, if◌then◌else◌};
 ghost use Rattle.cb_gf256.specs.Rows.{row_at, HaveLength};
-ghost use Rattle.cb_set.specs.Lost.{is_lost, lost, NodesAreMembers};
-ghost use Rattle.cb_world.specs.SetWord.{parities, surviving, IsShaped, IsWordOf};
+ghost use Rattle.cb_set.specs.Lost.{lost};
+ghost use Rattle.cb_world.specs.SetWord.{IsShaped, IsWordOf};
+ghost use Rattle.cb_set.specs.SetState.{parities};
+ghost use Rattle.cb_set.specs.Surviving.{surviving};
 ghost use Rattle.cb_world.specs.Fetched.{StandAt};
 
 use cb_erase::solve;
 use cb_gf256::Rows;
-use cb_member::{Members, NoMemory, Shard};
+use cb_member::{Members, NoMemory};
 use cb_node::Nodes;
-use cb_set::SpanSet;
+use cb_set::{SpanSet, is_lost};
 use std::alloc::Global;
-
-/// Whether the shard is lost.
-fn is_lost(m: &Members, shard: Shard) -> bool
-    requires { shard.node.n < length m.now.nodes }
-    ensures { result ≡ is_lost m.now shard }
-{
-    m.crashed_at(shard.node, shard.incarnation).is_some()
-}
-
-/// The positions whose shards are not lost, ascending, in the first places.
-fn survivors(set: &SpanSet, m: &Members) -> [u8; 20]
-    requires members { NodesAreMembers m.now set.now.shards }
-    requires few { length set.now.shards ≤ 20 }
-    ensures size { length result ≡ 20 }
-    ensures positions { take (length (surviving m.now set.now.shards)) result ≡ surviving m.now set.now.shards }
-{
-    let mut present = [0; 20];
-    let mut count = 0;
-    for (p, shard) in set.shards().iter().enumerate() {
-        if !is_lost(m, *shard) {
-            present[count] = p as u8;
-            count += 1;
-        }
-    }
-    present
-}
 
 /// Gives the rows at these positions of the set out into the table.
 fn give_rows(nodes: &mut Nodes, set: &SpanSet, positions: &[u8], table: &mut Rows)
@@ -54,7 +30,8 @@ fn give_rows(nodes: &mut Nodes, set: &SpanSet, positions: &[u8], table: &mut Row
     }
 }
 
-/// Gives rows of the set out, one at each of its k least positions whose shards are not lost, and makes the word of them.
+/// Gives rows of the set out, one at each of its k least positions whose shards are not lost, and
+/// makes the word of them.
 fn solved(alloc: Global, nodes: &mut Nodes, members: &Members, set: &SpanSet) -> Result<Rows, NoMemory>
     requires given { nodes.old.given + length set.now.positions < 2 ^ 64 }
     requires counted { length nodes.old.nodes ≡ length members.now.nodes }
@@ -69,7 +46,7 @@ fn solved(alloc: Global, nodes: &mut Nodes, members: &Members, set: &SpanSet) ->
     let Ok(mut table) = Rows::new(alloc, k + r, 4096) else {
         return Err(NoMemory);
     };
-    let present = survivors(set, members);
+    let present = set.survivors(members);
     let present = &present[..k as usize];
     give_rows(nodes, set, present, &mut table);
     match solve(alloc, k, r, &table, present) {
@@ -78,8 +55,8 @@ fn solved(alloc: Global, nodes: &mut Nodes, members: &Members, set: &SpanSet) ->
     }
 }
 
-/// The row of the set's word at a position, in `into`: its own row where its shard is not lost (one row is given out),
-/// else the row that k others make (k rows are given out).
+/// The row of the set's word at a position, in `into`: its own row where its shard is not lost (one
+/// row is given out), else the row that k others make (k rows are given out). Rows have 4,096 bytes.
 pub fn fetch(
     alloc: Global,
     nodes: &mut Nodes,

@@ -3,14 +3,15 @@ use Rattle.std.proofs.lemmas.List.{length-replicate}
 use Rattle.std.proofs.lemmas.Option.{slice_get-get_or}
 use Rattle.cb_gf256.specs.Positions.{ArePositions}
 use Rattle.cb_erase.specs.Weights.{rows_at, IsSolution}
-use Rattle.cb_world.specs.SetWord.{parities, surviving}
+use Rattle.cb_set.specs.SetState.{parities}
+use Rattle.cb_set.specs.Surviving.{surviving}
 use Rattle.cb_world.specs.Fetched.{StandAt}
 use Rattle.cb_world.proofs.Surviving.{are_positions, counted}
 use Rattle.cb_world.proofs.Gathering.{first_survivors, survivors_stand, word_is_solution}
 use Rattle.cb_world.proofs.fetching.solved.Goals as goal
 
-pub survivors-present-requires-clause-members : goal.survivors-present-requires-clause-members
-survivors-present-requires-clause-members c k d l =
+pub survivors-present-requires-clause-nodes : goal.survivors-present-requires-clause-nodes
+survivors-present-requires-clause-nodes c k d l =
     (c.requires.shaped.current k (get_or c.args.set.now.shards k d)
     (slice_get-get_or c.args.set.now.shards k d l)).0
 

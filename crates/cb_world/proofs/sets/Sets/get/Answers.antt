@@ -1,6 +1,6 @@
 use Rattle.std.proofs.Common.{ap, sym, ◌∙◌}
 use Rattle.std.specs.FinMap as map
-use Rattle.cb_world.proofs.Views.{get-view}
+use Rattle.cb_node.proofs.Laws.{get-view}
 use Rattle.cb_world.proofs.sets.Sets.get.Goals as goal
 
 pub returns : goal.returns

@@ -1,6 +1,6 @@
 use Rattle.std.proofs.Common.{ap, ◌∙◌}
 use Rattle.std.specs.FinMap as map
-use Rattle.cb_world.proofs.Views.{view-insert}
+use Rattle.cb_node.proofs.Laws.{view-insert}
 use Rattle.cb_world.proofs.sets.Sets.put.Goals as goal
 
 pub returns-clause-ok : goal.returns-clause-ok

@@ -1,6 +1,6 @@
 use Rattle.std.proofs.Common.{ap, ◌∙◌}
 use Rattle.std.specs.FinMap as map
-use Rattle.cb_world.proofs.Views.{view-remove}
+use Rattle.cb_node.proofs.Laws.{view-remove}
 use Rattle.cb_world.proofs.sets.Sets.remove.Goals as goal
 
 pub returns : goal.returns
