@@ -52,20 +52,28 @@ mixed_all n old first at bytes new all m = record {
 pub write_none : (old : List ℕ) (at : ℕ) (bytes : List ℕ)
     → IsWriteBelow (8 * (at / 8)) old at bytes old
 write_none old at bytes =
-    record { sized = refl; inside = λ i below e. absurd (omega (arith, e)); outside =
-    λ p below e. refl }
+    record {
+      sized = refl;
+      inside = λ i below e. absurd (omega (arith, e));
+      outside =
+          λ p below e. refl;
+    }
 
 pub write_all : (n : ℕ) (old : List ℕ) (at : ℕ) (bytes new : List ℕ) → at + length bytes ≤ n
     → IsWriteBelow n old at bytes new → IsWrite old at bytes new
 write_all n old at bytes new enough w =
-    record { sized = w.sized; inside =
-    λ i below. w.inside i below (omega (arith, below, enough)); outside =
-    λ p below e. w.outside p below (inr e) }
+    record {
+      sized = w.sized;
+      inside =
+          λ i below. w.inside i below (omega (arith, below, enough));
+      outside =
+          λ p below e. w.outside p below (inr e);
+    }
 
 pub write_more : (old new : List ℕ) (i at : ℕ) (bytes : List ℕ) (y : ℕ)
     → IsWriteBelow (8 * i) old at bytes new → i < length old
     → IsMerged (get_or new i 0) (8 * i) at bytes y
-        → IsWriteBelow (8 * (i + 1)) old at bytes (set new i y)
+    → IsWriteBelow (8 * (i + 1)) old at bytes (set new i y)
 write_more old new i at bytes y w within m = record {
   sized = length-set new i y ∙ w.sized;
   inside = λ k below e. inside k below e (ℕ_discrete ((at + k) / 8) i);
@@ -79,10 +87,11 @@ write_more old new i at bytes y w within m = record {
         let split : 8 * i + j ≡ at + k = omega (arith, here) in
         let low : j < 8 = omega arith in
         byte_here new i y (at + k) (omega (arith, within, w.sized)) here
-            ∙ m.inside j low (omega (arith, split)) (omega (arith, split, below))
+        ∙ m.inside j low (omega (arith, split)) (omega (arith, split, below))
         ∙ ap (λ (q : ℕ). get_or bytes q 0) (let z : 8 * i + j - at ≡ k = omega (arith, split) in z)
     inside k below e (no other) = byte_else new i y (at + k) other
         ∙ w.inside k below (let z : (at + k) / 8 ≢ i = other in omega (arith, z, e))
+
     outside : (p : ℕ) → p < 8 * length old → (8 * (i + 1) ≤ p)
         ⊎ ((p < at) ⊎ (at + length bytes ≤ p)) → Dec (p / 8 ≡ i)
         → byte_at (set new i y) p ≡ byte_at old p
@@ -92,10 +101,10 @@ write_more old new i at bytes y w within m = record {
         let split : 8 * i + j ≡ p = omega (arith, here) in
         let low : j < 8 = omega arith in
         let side : (8 * i + j < at) ⊎ (at + length bytes ≤ 8 * i + j) =
-            subst (λ (q : ℕ). (q < at) ⊎ (at + length bytes ≤ q)) (sym split) e in
+        subst (λ (q : ℕ). (q < at) ⊎ (at + length bytes ≤ q)) (sym split) e in
         byte_here new i y p (omega (arith, within, w.sized)) here ∙ m.outside j low (inr side)
         ∙ ap (λ (q : ℕ). get_or (to_le_bytes w64 (get_or new q 0)) j 0) (sym here)
-            ∙ w.outside p below (inr e)
+        ∙ w.outside p below (inr e)
     outside p below (inl e) (no other) = byte_else new i y p other
         ∙ w.outside p below (inl (omega (arith, e)))
     outside p below (inr e) (no other) = byte_else new i y p other ∙ w.outside p below (inr e)
@@ -112,8 +121,11 @@ pub owns_put : (s t : Shown) (place len p : ℕ) (new : List ℕ)
     → Owns t p
 owns_put s t place len p new e o covers =
     subst (λ (q : Shown).
-    Owns q p) (sym e) (subst (λ (n : ℕ).
-    p < n) (sym (length_put s.memory place new)) (o p covers).0, (o p covers).1)
+    Owns q p) (sym e) (
+      subst (λ (n : ℕ).
+          p < n) (sym (length_put s.memory place new)) (o p covers).0,
+      (o p covers).1,
+    )
 
 pub owns_here : (s t : Shown) (place len i : ℕ) (new : List ℕ)
     → t ≡ record s { memory = put s.memory place new } → OwnsAll s place len → i < words_for len
@@ -125,27 +137,37 @@ pub store_one : (es : List Event) (s : Shown) (place len i at x y : ℕ) (bytes 
     → Agree s (es ++ Loaded (place + i) x ∷ Stored (place + i) y ∷ []) → OwnsAll s place len
     → i < words_for len
     → (new : List ℕ) → IsWriteBelow (8 * i) (window s.memory place (words_for len)) at bytes new
-        → played es s ≡ record s { memory = put s.memory place new } → IsMerged x (8 * i) at bytes y
+    → played es s ≡ record s { memory = put s.memory place new } → IsMerged x (8 * i) at bytes y
     → (next : List ℕ)
-        × IsWriteBelow (8 * (i + 1)) (window s.memory place (words_for len)) at bytes next
-      × (played (es ++ Loaded (place + i) x ∷ Stored (place + i) y ∷ []) s ≡ record s { memory =
-          put s.memory place next })
+    × IsWriteBelow (8 * (i + 1)) (window s.memory place (words_for len)) at bytes next
+    × (played (es ++ Loaded (place + i) x ∷ Stored (place + i) y ∷ []) s ≡ record s {
+      memory =
+          put s.memory place next;
+    })
 store_one es s place len i at x y bytes agree o below new w e m =
     let length_new : length new ≡ words_for len = w.sized
-        ∙ window_length s.memory place (words_for len) in
+    ∙ window_length s.memory place (words_for len) in
     let last = o (place + (words_for len - 1)) (omega arith, omega (arith, below)) in
     let told : x ≡ get_or (played es s).memory (place + i) 0 =
-        (agree_last es (Loaded (place + i) x ∷ Stored (place + i) y ∷ []) s agree).0
-        (owns_here s (played es s) place len i new e o below) in
+    (agree_last es (Loaded (place + i) x ∷ Stored (place + i) y ∷ []) s agree).0
+    (owns_here s (played es s) place len i new e o below) in
     let read : x ≡ get_or new i 0 = told ∙ ap (λ (t : Shown). get_or t.memory (place + i) 0) e
-        ∙ put_at s.memory place new i (omega (arith, below, length_new)) (omega (arith, last.0,
-        length_new, below)) in
-    (set new i y,
-      write_more (window s.memory place (words_for len)) new i at bytes y w (omega (arith, below,
-          window_length s.memory place (words_for len))) (subst (λ (z : ℕ).
+    ∙ put_at s.memory place new i (omega (arith, below, length_new)) (omega (
+      arith,
+      last.0,
+      length_new,
+      below,
+    )) in (
+      set new i y,
+      write_more (window s.memory place (words_for len)) new i at bytes y w (omega (
+        arith,
+        below,
+        window_length s.memory place (words_for len),
+      )) (subst (λ (z : ℕ).
           IsMerged z (8 * i) at bytes y) read m),
       played_append es (Loaded (place + i) x ∷ Stored (place + i) y ∷ []) s
-      ∙ ap (λ (t : Shown). let q : Shown = record t { memory = set t.memory (place + i) y } in q) e
-      ∙ ap (λ (l : List ℕ). let q : Shown =
+          ∙ ap (λ (t : Shown). let q : Shown = record t { memory = set t.memory (place + i) y } in q) e
+          ∙ ap (λ (l : List ℕ). let q : Shown =
           record s { memory = l } in
-          q) (set_put s.memory place new i y (omega (arith, below, length_new))))
+          q) (set_put s.memory place new i y (omega (arith, below, length_new))),
+    )

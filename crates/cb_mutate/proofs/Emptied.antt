@@ -22,17 +22,20 @@ stamp s h w v n words c = get_or-set_same s.versions h n 0 c.stamp
 
 pub may_free : (s : Shown) (h w v x : ℕ) (words : List ℕ) → IsClaimedAt s h w v words → x ≡ v
     → MaySettle (with_stamped s h (x + 1)) h 0
-may_free s h w v x words c same =
-    (refl, subst (MayFree (with_stamped s h (x + 1)) h) (sym c.object)
-      (stamp s h w v (x + 1) words c ∙ ap (λ (i : ℕ). i + 1) same))
+may_free s h w v x words c same = (
+  refl,
+  subst (MayFree (with_stamped s h (x + 1)) h) (sym c.object)
+      (stamp s h w v (x + 1) words c ∙ ap (λ (i : ℕ). i + 1) same),
+)
 
 pub emptied : (s : Shown) (h w v x : ℕ) (words : List ℕ) → IsClaimedAt s h w v words → x ≡ v
     → played (Told h x ∷ Stamped h (x + 1) ∷ Settled h 0 ∷ []) s ≡ with_emptied s h v
 emptied s h w v x words c same =
     ap (λ (i : ℕ). let q : Shown = record s {
-        objects = set s.objects h (is.Empty i);
-        hots = set s.hots h false;
-        versions = set s.versions h (x + 1) } in q) (stamp s h w v (x + 1) words c)
+      objects = set s.objects h (is.Empty i);
+      hots = set s.hots h false;
+      versions = set s.versions h (x + 1);
+    } in q) (stamp s h w v (x + 1) words c)
     ∙ ap (λ (i : ℕ). with_emptied s h i) same
 
 pub emptied_once : (s : Shown) (h w v x : ℕ) (words : List ℕ) → IsClaimedAt s h w v words → x ≡ v
@@ -40,4 +43,4 @@ pub emptied_once : (s : Shown) (h w v x : ℕ) (words : List ℕ) → IsClaimedA
 emptied_once s h w v x words c same old =
     ap (λ (o : Object). adds_as state.Empty (with_stamped s h (x + 1)) h 0 o ++ old) c.object
     ∙ ap (λ (i : ℕ). gone h i words ∷ old)
-      (stamp s h w v (x + 1) words c ∙ ap (λ (i : ℕ). i + 1) same)
+    (stamp s h w v (x + 1) words c ∙ ap (λ (i : ℕ). i + 1) same)

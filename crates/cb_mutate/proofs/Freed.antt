@@ -54,8 +54,9 @@ slot_at far s h len place sound c =
       within = within;
       counted = subst (λ (n : ℕ). c.frame < n) sound.here.frames.sized within;
       busy = λ free. some_none c.span (sym c.there
-        ∙ (sound.here.frames.free c.frame
-            (subst (λ (n : ℕ). c.frame < n) sound.here.frames.sized within)).0 free) }
+          ∙ (sound.here.frames.free c.frame
+          (subst (λ (n : ℕ). c.frame < n) sound.here.frames.sized within)).0 free);
+    }
 
 -- What holds after a free that began with a claim.
 pub record IsFreeDone (far new : FarState) (s t : Shown) (es : List Event) (h w : ℕ) (r : Reply)
@@ -77,19 +78,29 @@ emptied_well far new s t first done h w v words sound c a taken range stamp x le
     let all : t ≡ u = x.settled ∙ ap (λ (q : Shown). with_emptied q h v) a.at_claim in
     let count = claimed_words (played first s) h w v words a.claimed in
     let objects : u.objects ≡ set s.objects h (is.Empty (v + 1)) =
-      set-set s.objects h (is.Claimed (len_of w) (place_of w) v words) (is.Empty (v + 1)) in
+    set-set s.objects h (is.Claimed (len_of w) (place_of w) v words) (is.Empty (v + 1)) in
     let versions : u.versions ≡ set s.versions h (v + 1) = set-set s.versions h v (v + 1) in
-    subst (λ (q : Shown). Sound q new × IsGone h (v + 1) (first ++ done) s q) (sym all)
-      (subst (Sound u) (sym left)
+    subst (λ (q : Shown). Sound q new × IsGone h (v + 1) (first ++ done) s q) (sym all) (
+      subst (Sound u) (sym left)
           (sound_gone far s u h (len_of w) (place_of w) v c sound a.here range stamp
-            (record { first = refl; objects = objects; versions = versions;
-              memory = length_put s.memory (place_of w) words })
-            (put_beside s.memory words (place_of w) (len_of w) count)),
-        record {
-          version = v; words = words; taken = taken; next = refl; objects = objects;
-          versions = ap (λ (l : List ℕ). set l h (v + 1)) (sym a.versions);
-          memory = sym a.memory;
-          one = λ old. a.writes old ∙ x.one old })
+          (record {
+            first = refl;
+            objects = objects;
+            versions = versions;
+            memory = length_put s.memory (place_of w) words;
+          })
+          (put_beside s.memory words (place_of w) (len_of w) count)),
+      record {
+        version = v;
+        words = words;
+        taken = taken;
+        next = refl;
+        objects = objects;
+        versions = ap (λ (l : List ℕ). set l h (v + 1)) (sym a.versions);
+        memory = sym a.memory;
+        one = λ old. a.writes old ∙ x.one old;
+      },
+    )
 
 pub free_done : (far new : FarState) (s t : Shown) (first done : List Event) (h w v : ℕ)
     (words : List ℕ) (r : Reply) → Sound s far → (c : HasSlot far.spans h (len_of w) (place_of w))
@@ -106,7 +117,8 @@ free_done far new s t first done h w v words r sound c a free taken range stamp 
       sound = subst (Sound t) (sym same) y.0;
       effect = subst (λ (q : Reply). FreeEffect h q (first ++ done) s t) (sym x.1) y.1;
       rule = inr (free.1, (v, words, taken, inl (x.0, x.1)));
-      state = subst (λ (q : Reply). FreeFar h q far new) (sym x.1) same }
+      state = subst (λ (q : Reply). FreeFar h q far new) (sym x.1) same;
+    }
 free_done far new s t first done h w v words r sound c a free taken range stamp stays left
     (inr x) =
     let gone = left (v + 1) x.1 in
@@ -116,8 +128,14 @@ free_done far new s t first done h w v words r sound c a free taken range stamp 
       effect = subst (λ (q : Reply). FreeEffect h q (first ++ done) s t) (sym x.1) y.1;
       rule = inr (free.1, (v, words, taken, inr (x.0, x.1)));
       state = subst (λ (q : Reply). FreeFar h q far new) (sym x.1) (record {
-        frame = c.frame; slot = c.slot; span = c.span; there = c.there; named = c.named;
-        left = gone }) }
+        frame = c.frame;
+        slot = c.slot;
+        span = c.span;
+        there = c.there;
+        named = c.named;
+        left = gone;
+      });
+    }
 
 free_here_before : (h w : ℕ) (es fs : List Event) (r : Reply) → FreeHere h fs r w
     → FreeHere h (es ++ fs) r w
@@ -144,7 +162,8 @@ refused_by : (h : ℕ) (far : FarState) (es : List Event) (s t : Shown) (r q : R
     → FreeEffect h q es s t → FreeFar h q far far → IsRefused h far es s t r
 refused_by h far es s t r q e effect state = record {
   effect = subst (λ (z : Reply). FreeEffect h z es s t) (sym e) effect;
-  state = subst (λ (z : Reply). FreeFar h z far far) (sym e) state }
+  state = subst (λ (z : Reply). FreeFar h z far far) (sym e) state;
+}
 
 empty_refused : (v h : ℕ) (far : FarState) (es : List Event) (s t : Shown) (r : Reply)
     → EmptyAnswer v r → IsStill es s t → IsRefused h far es s t r

@@ -32,39 +32,43 @@ use Rattle.cb_mutate.specs.WriteEnds.{with_rewritten}
 pub same_slot : (w m n place : ℕ) → IsFree w → Claims w m → place ≡ place_of w
     → Settles m place true n
     → (state_of n ≡ word.Here) × (pins_of n ≡ 0) × (len_of n ≡ len_of w) × (place_of n ≡ place_of w)
-        × (hot_of n ≡ true) × (n < 2 ^ 53)
+    × (hot_of n ≡ true) × (n < 2 ^ 53)
 same_slot w m n place free moved e s =
     (s.state, s.pins ∙ moved.pins, s.len ∙ moved.len, s.place ∙ e, s.hot, s.below)
 
 pub may_settle_written : (s t : Shown) (h w v n at : ℕ) (words bytes new : List ℕ)
     → IsClaimedAt s h w v words → IsWrite words at bytes new → at + length bytes ≤ len_of w
     → (state_of n ≡ word.Here) × (pins_of n ≡ 0) × (len_of n ≡ len_of w) × (place_of n ≡ place_of w)
-        × (hot_of n ≡ true) × (n < 2 ^ 53)
+    × (hot_of n ≡ true) × (n < 2 ^ 53)
     → t ≡ record s { versions = set s.versions h (v + 1); memory = put s.memory (place_of w) new }
-        → MaySettle t h n
+    → MaySettle t h n
 may_settle_written s t h w v n at words bytes new c wrote inside k e =
     let count : length new ≡ words_for (len_of w) = wrote.sized ∙ ap length (sym c.contents)
-        ∙ window_length s.memory (place_of w) (words_for (len_of w)) in
+    ∙ window_length s.memory (place_of w) (words_for (len_of w)) in
     let stamp : version_at t h ≡ v + 1 = ap (λ (q : Shown). version_at q h) e
-        ∙ get_or-set_same s.versions h (v + 1) 0 c.stamp in
+    ∙ get_or-set_same s.versions h (v + 1) 0 c.stamp in
     let read : window t.memory (place_of n) (words_for (len_of w)) ≡ new =
-        ap (λ (q : Shown). window q.memory (place_of n) (words_for (len_of w))) e
-        ∙ ap (λ (p : ℕ). window (put s.memory (place_of w) new) p (words_for (len_of w))) k.3
-        ∙ ap (window (put s.memory (place_of w) new) (place_of w)) (sym count)
-        ∙ window_put s.memory (place_of w) new (omega (arith, count, c.within)) in
+    ap (λ (q : Shown). window q.memory (place_of n) (words_for (len_of w))) e
+    ∙ ap (λ (p : ℕ). window (put s.memory (place_of w) new) p (words_for (len_of w))) k.3
+    ∙ ap (window (put s.memory (place_of w) new) (place_of w)) (sym count)
+    ∙ window_put s.memory (place_of w) new (omega (arith, count, c.within)) in
     let object : object_at t h ≡ is.Claimed (len_of w) (place_of w) v words =
-        ap (λ (q : Shown). object_at q h) e ∙ c.object in
-    subst (λ (q : State). MaySettleAs q t h n) (sym k.0)
-      (k.5, k.1,
-        (λ p covers. owned p (subst (λ (a : ℕ). Covers a (len_of n) p) k.3 covers)),
-        subst (MayBring t h n) (sym object) (k.2,
-            inr (stamp, (at, bytes, inside, subst (IsWrite words at bytes) (sym read) wrote))))
+    ap (λ (q : Shown). object_at q h) e ∙ c.object in
+    subst (λ (q : State). MaySettleAs q t h n) (sym k.0) (
+      k.5,
+      k.1,
+      (λ p covers. owned p (subst (λ (a : ℕ). Covers a (len_of n) p) k.3 covers)),
+      subst (MayBring t h n) (sym object) (
+        k.2,
+        inr (stamp, (at, bytes, inside, subst (IsWrite words at bytes) (sym read) wrote)),
+      ),
+    )
   where
     owned : (p : ℕ) → Covers (place_of w) (len_of n) p → MayLie t h p
     owned p covers = subst (λ (q : Shown). MayLie q h p) (sym e)
-      (let had =
-          c.alone p (subst (λ (l : ℕ). Covers (place_of w) l p) k.2 covers) in
-          (subst (λ (m : ℕ). p < m) (sym (length_put s.memory (place_of w) new)) had.0, had.1))
+        (let had =
+        c.alone p (subst (λ (l : ℕ). Covers (place_of w) l p) k.2 covers) in
+        (subst (λ (m : ℕ). p < m) (sym (length_put s.memory (place_of w) new)) had.0, had.1))
 
 pub stores_no_look : (h : ℕ) (es fs : List Event) → AreStores es → NoLook h fs → NoLook h (es ++ fs)
 stores_no_look h [] fs a b = b
@@ -83,9 +87,9 @@ stores_told (e ∷ es) fs s a = absurd a
 pub overwrote : (s : Shown) (es : List Event) (w at : ℕ) (bytes : List ℕ) (f : PtrWord)
     → f ≡ fields_of w
     → (new : List ℕ) × IsWrite (window s.memory f.place (words_for f.len)) at bytes new
-        × (played es s ≡ record s { memory = put s.memory f.place new })
+    × (played es s ≡ record s { memory = put s.memory f.place new })
     → (new : List ℕ) × IsWrite (window s.memory (place_of w) (words_for (len_of w))) at bytes new
-        × (played es s ≡ record s { memory = put s.memory (place_of w) new })
+    × (played es s ≡ record s { memory = put s.memory (place_of w) new })
 overwrote s es w at bytes f e x =
     subst (λ (g : PtrWord). (new : List ℕ)
     × IsWrite (window s.memory g.place (words_for g.len)) at bytes new
@@ -98,35 +102,47 @@ owned_at s h w v words f e c = subst (λ (g : PtrWord). OwnsAll s g.place g.len)
 -- after the stores the version word is stored
 pub stamped : (s : Shown) (es : List Event) (h v x place : ℕ) (new : List ℕ)
     → played es s ≡ record s { memory = put s.memory place new } → x ≡ v
-    → played (es ++ Stamped h (x + 1) ∷ []) s ≡ record s { versions =
-        set s.versions h (v + 1); memory = put s.memory place new }
+    → played (es ++ Stamped h (x + 1) ∷ []) s ≡ record s {
+      versions =
+          set s.versions h (v + 1);
+      memory = put s.memory place new;
+    }
 stamped s es h v x place new e same = played_append es (Stamped h (x + 1) ∷ []) s
     ∙ ap (λ (t : Shown). let q : Shown = record t { versions = set t.versions h (x + 1) } in q) e
     ∙ ap (λ (u : ℕ). let q : Shown =
-        record s { versions = set s.versions h (u + 1); memory = put s.memory place new } in q) same
+    record s { versions = set s.versions h (u + 1); memory = put s.memory place new } in q) same
 
 -- and then the word
 pub settled_at_end : (s : Shown) (es : List Event) (h w v x n : ℕ) (new : List ℕ)
     → played es s ≡ record s { memory = put s.memory (place_of w) new } → x ≡ v
     → (state_of n ≡ word.Here) × (pins_of n ≡ 0) × (len_of n ≡ len_of w) × (place_of n ≡ place_of w)
-        × (hot_of n ≡ true) × (n < 2 ^ 53)
+    × (hot_of n ≡ true) × (n < 2 ^ 53)
     → played (es ++ Stamped h (x + 1) ∷ Settled h n ∷ []) s ≡ with_rewritten s h w v new
 settled_at_end s es h w v x n new e same k =
     let t : Shown =
-        record s { versions = set s.versions h (v + 1); memory = put s.memory (place_of w) new } in
+    record s { versions = set s.versions h (v + 1); memory = put s.memory (place_of w) new } in
     played_append es (Stamped h (x + 1) ∷ Settled h n ∷ []) s
     ∙ ap (after (Settled h n)) (sym (played_append es (Stamped h (x + 1) ∷ []) s)
-        ∙ stamped s es h v x (place_of w) new e same)
+    ∙ stamped s es h v x (place_of w) new e same)
     ∙ settled_here t h n k.0
     ∙ ap (λ (l : ℕ). let q : Shown =
-        record t { objects = set s.objects h (is.Here l (place_of n)); hots =
-        set s.hots h (hot_of n) } in q) k.2
+    record t {
+      objects = set s.objects h (is.Here l (place_of n));
+      hots =
+          set s.hots h (hot_of n);
+    } in q) k.2
     ∙ ap (λ (l : ℕ). let q : Shown =
-        record t { objects = set s.objects h (is.Here (len_of w) l); hots =
-        set s.hots h (hot_of n) } in q) k.3
+    record t {
+      objects = set s.objects h (is.Here (len_of w) l);
+      hots =
+          set s.hots h (hot_of n);
+    } in q) k.3
     ∙ ap (λ (b : Bool). let q : Shown =
-        record t { objects = set s.objects h (is.Here (len_of w) (place_of w)); hots =
-        set s.hots h b } in q) k.4
+    record t {
+      objects = set s.objects h (is.Here (len_of w) (place_of w));
+      hots =
+          set s.hots h b;
+    } in q) k.4
 
 stores_no_claim : (es fs : List Event) → AreStores es → NoClaim fs → NoClaim (es ++ fs)
 stores_no_claim [] fs a b = b
@@ -154,31 +170,31 @@ pub wrote_one : (s : Shown) (es : List Event) (h w v x n at : ℕ) (words bytes 
     → AreStores es → IsClaimedAt s h w v words → IsWrite words at bytes new
     → played es s ≡ record s { memory = put s.memory (place_of w) new } → x ≡ v
     → (state_of n ≡ word.Here) × (pins_of n ≡ 0) × (len_of n ≡ len_of w) × (place_of n ≡ place_of w)
-        × (hot_of n ≡ true) × (n < 2 ^ 53)
+    × (hot_of n ≡ true) × (n < 2 ^ 53)
     → Writes (Told h x ∷ (es ++ Stamped h (x + 1) ∷ Settled h n ∷ [])) s
-        (entry h (v + 1) (len_of w) words new ∷ [])
+    (entry h (v + 1) (len_of w) words new ∷ [])
 wrote_one s es h w v x n at words bytes new stores c wrote e same k old =
     let t : Shown =
-        record s { versions = set s.versions h (v + 1); memory = put s.memory (place_of w) new } in
+    record s { versions = set s.versions h (v + 1); memory = put s.memory (place_of w) new } in
     let count : length new ≡ words_for (len_of w) = wrote.sized ∙ ap length (sym c.contents)
-        ∙ window_length s.memory (place_of w) (words_for (len_of w)) in
+    ∙ window_length s.memory (place_of w) (words_for (len_of w)) in
     let read : settled_words t n ≡ new =
-        ap (λ (p : ℕ). window (put s.memory (place_of w) new) p (words_for (len_of n))) k.3
-        ∙ ap (λ (p : ℕ). window (put s.memory (place_of w) new) (place_of w) (words_for p)) k.2
-        ∙ ap (window (put s.memory (place_of w) new) (place_of w)) (sym count)
-        ∙ window_put s.memory (place_of w) new (omega (arith, count, c.within)) in
+    ap (λ (p : ℕ). window (put s.memory (place_of w) new) p (words_for (len_of n))) k.3
+    ∙ ap (λ (p : ℕ). window (put s.memory (place_of w) new) (place_of w) (words_for p)) k.2
+    ∙ ap (window (put s.memory (place_of w) new) (place_of w)) (sym count)
+    ∙ window_put s.memory (place_of w) new (omega (arith, count, c.within)) in
     let stamp : version_at t h ≡ v + 1 = get_or-set_same s.versions h (v + 1) 0 c.stamp in
     stores_written es (Stamped h (x + 1) ∷ Settled h n ∷ []) s old stores
     ∙ ap (λ (q : Shown). written_by (Settled h n ∷ []) (after (Stamped h (x + 1)) q) old) e
     ∙ ap (λ (u : ℕ).
-        written_by (Settled h n ∷ []) (let q : Shown =
-        record s { versions = set s.versions h (u + 1); memory = put s.memory (place_of w) new } in
-        q) old) same
+    written_by (Settled h n ∷ []) (let q : Shown =
+    record s { versions = set s.versions h (u + 1); memory = put s.memory (place_of w) new } in
+    q) old) same
     ∙ ap (λ (q : State). adds_as q t h n (object_at t h) ++ old) k.0
     ∙ ap (λ (o : Object). adds_as word.Here t h n o ++ old) c.object
     ∙ ap (λ (b : Bool).
-        cond b [] (entry h (version_at t h) (len_of n) words (settled_words t n) ∷ []) ++ old)
-        (ne_eqb (version_at t h) v (λ q. omega (arith, q, stamp)))
+    cond b [] (entry h (version_at t h) (len_of n) words (settled_words t n) ∷ []) ++ old)
+    (ne_eqb (version_at t h) v (λ q. omega (arith, q, stamp)))
     ∙ ap (λ (u : ℕ). entry h u (len_of n) words (settled_words t n) ∷ old) stamp
     ∙ ap (λ (u : ℕ). entry h (v + 1) u words (settled_words t n) ∷ old) k.2
     ∙ ap (λ (l : List ℕ). entry h (v + 1) (len_of w) words l ∷ old) read

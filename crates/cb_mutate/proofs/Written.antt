@@ -51,16 +51,18 @@ back_well far s t first done h w v words sound a back =
     let all : t ≡ u = back.settled ∙ ap (λ (q : Shown). with_settled q h w (hot_of w)) a.at_claim in
     let objects = objects_back s a.hots h w v words (hot_of w) a.here in
     let count = claimed_words (played first s) h w v words a.claimed in
-    subst (λ (q : Shown). Sound q far × IsStill (first ++ done) s q) (sym all)
-      (sound_beside far s u h (len_of w) (place_of w) sound a.here refl objects
+    subst (λ (q : Shown). Sound q far × IsStill (first ++ done) s q) (sym all) (
+      sound_beside far s u h (len_of w) (place_of w) sound a.here refl objects
           (length_put s.memory (place_of w) words)
           (λ k other. get_or-set_other s.versions h k v 0 other)
           (put_beside s.memory words (place_of w) (len_of w) count),
-        record {
-          objects = objects;
-          versions = sym a.versions;
-          memory = sym a.memory;
-          nothing = λ old. a.writes old ∙ back.nothing old })
+      record {
+        objects = objects;
+        versions = sym a.versions;
+        memory = sym a.memory;
+        nothing = λ old. a.writes old ∙ back.nothing old;
+      },
+    )
 
 rewritten_well : (far : FarState) (s t : Shown) (first done : List Event) (h w v at : ℕ)
     (words bytes : List ℕ) → Sound s far → IsAfterClaim s h w v words first done
@@ -72,20 +74,29 @@ rewritten_well far s t first done h w v at words bytes sound a found taken x =
     let all : t ≡ u = x.settled ∙ ap (λ (q : Shown). with_rewritten q h w v x.new) a.at_claim in
     let objects = objects_back s a.hots h w v words true a.here in
     let count = claimed_words (played first s) h w v words a.claimed in
-    subst (λ (q : Shown). Sound q far × IsWritten h (v + 1) at bytes (first ++ done) s q) (sym all)
-      (sound_beside far s u h (len_of w) (place_of w) sound a.here refl objects
+    subst (λ (q : Shown). Sound q far × IsWritten h (v + 1) at bytes (first ++ done) s q) (sym all) (
+      sound_beside far s u h (len_of w) (place_of w) sound a.here refl objects
           (length_put (put s.memory (place_of w) words) (place_of w) x.new
-            ∙ length_put s.memory (place_of w) words)
+          ∙ length_put s.memory (place_of w) words)
           (λ k other. get_or-set_other (set s.versions h v) h k (v + 1) 0 other
-            ∙ get_or-set_other s.versions h k v 0 other)
+          ∙ get_or-set_other s.versions h k v 0 other)
           (put_twice_beside s.memory words x.new (place_of w) (len_of w) count
-            (x.write.sized ∙ count)),
-        record {
-          word = w; version = v; words = words; new = x.new; found = found; taken = taken;
-          next = refl; write = x.write; objects = objects;
-          versions = ap (λ (l : List ℕ). set l h (v + 1)) (sym a.versions);
-          memory = ap (λ (l : List ℕ). put l (place_of w) x.new) (sym a.memory);
-          one = λ old. a.writes old ∙ x.one old })
+          (x.write.sized ∙ count)),
+      record {
+        word = w;
+        version = v;
+        words = words;
+        new = x.new;
+        found = found;
+        taken = taken;
+        next = refl;
+        write = x.write;
+        objects = objects;
+        versions = ap (λ (l : List ℕ). set l h (v + 1)) (sym a.versions);
+        memory = ap (λ (l : List ℕ). put l (place_of w) x.new) (sym a.memory);
+        one = λ old. a.writes old ∙ x.one old;
+      },
+    )
 
 -- What holds after a write that began with a claim.
 pub record IsWriteDone (far : FarState) (s t : Shown) (es : List Event) (h w at : ℕ)
@@ -103,26 +114,29 @@ write_done far s t first done h w v at words bytes r sound a free found taken (i
     let y = back_well far s t first done h w v words sound a x.2 in record {
       sound = y.0;
       effect = subst (λ (q : Reply). WriteEffect h at bytes q (first ++ done) s t) (sym x.1) y.1;
-      rule = inl (x.0, x.1) }
+      rule = inl (x.0, x.1);
+    }
 write_done far s t first done h w v at words bytes r sound a free found taken (inr x) =
     ending x.0 x.1
   where
     ending : at + length bytes ≤ len_of w
         → ((v ≡ 2 ^ 64 - 1) × (r ≡ answer.Worn) × IsBack (played first s) h w done t)
-          ⊎ ((v < 2 ^ 64 - 1) × (r ≡ answer.Version (v + 1))
-            × IsRewritten (played first s) h w v at words bytes done t)
+        ⊎ ((v < 2 ^ 64 - 1) × (r ≡ answer.Version (v + 1))
+        × IsRewritten (played first s) h w v at words bytes done t)
         → IsWriteDone far s t (first ++ done) h w at bytes r
     ending inside (inl z) = let y = back_well far s t first done h w v words sound a z.2 in record {
-        sound = y.0;
-        effect = subst (λ (q : Reply). WriteEffect h at bytes q (first ++ done) s t) (sym z.1) y.1;
-        rule = inr (inside, inr (free.1, (v, words, taken, inl (z.0, z.1)))) }
+      sound = y.0;
+      effect = subst (λ (q : Reply). WriteEffect h at bytes q (first ++ done) s t) (sym z.1) y.1;
+      rule = inr (inside, inr (free.1, (v, words, taken, inl (z.0, z.1))));
+    }
     ending inside (inr z) =
         let y = rewritten_well far s t first done h w v at words bytes sound a found taken z.2 in
         record {
           sound = y.0;
           effect = subst (λ (q : Reply). WriteEffect h at bytes q (first ++ done) s t) (sym z.1)
-            y.1;
-          rule = inr (inside, inr (free.1, (v, words, taken, inr (z.0, z.1)))) }
+              y.1;
+          rule = inr (inside, inr (free.1, (v, words, taken, inr (z.0, z.1))));
+        }
 
 -- an object that is not here is answered by what was told after the look too
 pub absent_before : (q : State) (h : ℕ) (es fs : List Event) (r : Reply) → AbsentAs q h fs r
@@ -138,10 +152,10 @@ write_here_before h w at bytes es fs r (inl a) = inl a
 write_here_before h w at bytes es fs r (inr a) = inr (a.0, pinned a.1)
   where
     pinned : ((1 ≤ pins_of w) × (r ≡ answer.Pinned (pins_of w)))
-          ⊎ ((pins_of w ≡ 0) × ((v : ℕ) × (words : List ℕ) × IsTaken h v words fs × NextVersion v r))
+        ⊎ ((pins_of w ≡ 0) × ((v : ℕ) × (words : List ℕ) × IsTaken h v words fs × NextVersion v r))
         → ((1 ≤ pins_of w) × (r ≡ answer.Pinned (pins_of w)))
-          ⊎ ((pins_of w ≡ 0)
-            × ((v : ℕ) × (words : List ℕ) × IsTaken h v words (es ++ fs) × NextVersion v r))
+        ⊎ ((pins_of w ≡ 0)
+        × ((v : ℕ) × (words : List ℕ) × IsTaken h v words (es ++ fs) × NextVersion v r))
     pinned (inl b) = inl b
     pinned (inr b) =
         inr (b.0, (b.1.0, b.1.1, taken_before h b.1.0 b.1.1 es fs b.1.2, b.1.3))
@@ -184,8 +198,8 @@ refused_effect state.Here h w at bytes reads es s t r told (inl a) still =
 refused_effect state.Here h w at bytes reads es s t r told (inr a) still = pinned a.1
   where
     pinned : ((1 ≤ pins_of w) × (r ≡ answer.Pinned (pins_of w)))
-          ⊎ ((pins_of w ≡ 0)
-            × ((v : ℕ) × (words : List ℕ) × IsTaken h v words reads × NextVersion v r))
+        ⊎ ((pins_of w ≡ 0)
+        × ((v : ℕ) × (words : List ℕ) × IsTaken h v words reads × NextVersion v r))
         → WriteEffect h at bytes r es s t
     pinned (inl b) = subst (λ (q : Reply). WriteEffect h at bytes q es s t) (sym b.1) still
     pinned (inr b) = absurd (no_taken h b.1.0 b.1.1 reads told b.1.2)

@@ -11,9 +11,10 @@ use Rattle.cb_mutate.specs.WriteEnds.{IsBack}
 -- the object is empty with the next version
 abbrev pub with_emptied : Shown → ℕ → ℕ → Shown
 with_emptied s h v = record s {
-    objects = slice_set s.objects h (is.Empty (v + 1));
-    hots = slice_set s.hots h false;
-    versions = slice_set s.versions h (v + 1) }
+  objects = slice_set s.objects h (is.Empty (v + 1));
+  hots = slice_set s.hots h false;
+  versions = slice_set s.versions h (v + 1);
+}
 
 pub record IsEmptied (s : Shown) (h v : ℕ) (words : List ℕ) (es : List Event) (t : Shown)
     : Type 0 where

@@ -19,7 +19,7 @@ use Rattle.cb_mutate.specs.WriteRule.{NextVersion}
 abbrev pub FreeHere : ℕ → List Event → Reply → ℕ → Type 0
 FreeHere h es r w = ((1 ≤ pins_of w) × (r ≡ answer.Pinned (pins_of w)))
     ⊎ ((pins_of w ≡ 0)
-      × ((v : ℕ) × (words : List ℕ) × IsTaken h v words es × NextVersion v r))
+    × ((v : ℕ) × (words : List ℕ) × IsTaken h v words es × NextVersion v r))
 
 -- the slot that named the object is empty
 pub record IsReleased (far new : FarState) (h : ℕ) : Type 0 where

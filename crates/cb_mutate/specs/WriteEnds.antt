@@ -18,8 +18,9 @@ pub record IsBack (s : Shown) (h word : ℕ) (es : List Event) (t : Shown) : Typ
 -- the object is settled with these words and the next version, hot
 abbrev pub with_rewritten : Shown → ℕ → ℕ → ℕ → List ℕ → Shown
 with_rewritten s h word v new = record (with_settled s h word true) {
-    versions = slice_set s.versions h (v + 1);
-    memory = put s.memory (place_of word) new }
+  versions = slice_set s.versions h (v + 1);
+  memory = put s.memory (place_of word) new;
+}
 
 pub record IsRewritten (s : Shown) (h word v at : ℕ) (words bytes : List ℕ) (es : List Event)
     (t : Shown) : Type 0 where
@@ -34,6 +35,6 @@ abbrev pub WriteEnds : ℕ → ℕ → ℕ → List ℕ → Reply → List Event
 WriteEnds h word at bytes r es s v words t =
     ((len_of word < at + length bytes) × (r ≡ answer.Range (len_of word)) × IsBack s h word es t)
     ⊎ ((at + length bytes ≤ len_of word)
-      × (((v ≡ 2 ^ 64 - 1) × (r ≡ answer.Worn) × IsBack s h word es t)
-        ⊎ ((v < 2 ^ 64 - 1) × (r ≡ answer.Version (v + 1))
-          × IsRewritten s h word v at words bytes es t)))
+    × (((v ≡ 2 ^ 64 - 1) × (r ≡ answer.Worn) × IsBack s h word es t)
+    ⊎ ((v < 2 ^ 64 - 1) × (r ≡ answer.Version (v + 1))
+    × IsRewritten s h word v at words bytes es t)))

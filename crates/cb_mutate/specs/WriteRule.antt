@@ -22,9 +22,9 @@ abbrev pub WriteHere : ℕ → ℕ → List ℕ → List Event → Reply → ℕ
 WriteHere h at bytes es r w =
     ((len_of w < at + length bytes) × (r ≡ answer.Range (len_of w)))
     ⊎ ((at + length bytes ≤ len_of w)
-      × (((1 ≤ pins_of w) × (r ≡ answer.Pinned (pins_of w)))
-        ⊎ ((pins_of w ≡ 0)
-          × ((v : ℕ) × (words : List ℕ) × IsTaken h v words es × NextVersion v r))))
+    × (((1 ≤ pins_of w) × (r ≡ answer.Pinned (pins_of w)))
+    ⊎ ((pins_of w ≡ 0)
+    × ((v : ℕ) × (words : List ℕ) × IsTaken h v words es × NextVersion v r))))
 
 -- the reply of a write of bytes from the byte number `at` on
 abbrev pub WriteRule : ℕ → ℕ → List ℕ → Reply → List Event → Type 0

@@ -22,8 +22,8 @@ pub(crate) fn overwrite<D: Desk>(desk: &mut D, place: u32, len: u32, at: u32, by
     requires owned { (s : Shown) × D.shows desk.old s × OwnsAll s place len }
     ensures { (es : List Event) × D.run desk.old es desk.new × AreStores es
         × ((s : Shown) → D.shows desk.old s → OwnsAll s place len
-            → (new : List ℕ) × IsWrite (window s.memory place (words_for len)) at bytes.now new
-            × (played es s ≡ record s { memory = put s.memory place new }) × Allowed s es) }
+        → (new : List ℕ) × IsWrite (window s.memory place (words_for len)) at bytes.now new
+        × (played es s ≡ record s { memory = put s.memory place new }) × Allowed s es) }
 {
     let end = at + bytes.len() as u32;
     for i in at / 8..end.div_ceil(8) {

@@ -27,8 +27,17 @@ set_same a b e = cc
 pub holds_kept : (s t : Shown) (row : List ℕ) (slots slot h : ℕ) → object_at t h ≡ object_at s h
     → HoldsObject s row slots slot h → HoldsObject t row slots slot h
 holds_kept s t row slots slot h same x =
-    record { len = x.len; version = x.version; words = x.words; class = x.class; away = same
-    ∙ x.away; fits = x.fits; sized = x.sized; contents = x.contents }
+    record {
+      len = x.len;
+      version = x.version;
+      words = x.words;
+      class = x.class;
+      away = same
+          ∙ x.away;
+      fits = x.fits;
+      sized = x.sized;
+      contents = x.contents;
+    }
 
 pub was_far : (o : Object) (len v : ℕ) (words : List ℕ) → o ≡ is.Far len v words → is_far o
 was_far o len v words e = subst is_far (sym e) tt
@@ -46,15 +55,15 @@ old_object s t far new id set rows row slots slot h x holds = elim (x.each h) [
 old_word : (s t : Shown) (far new : FarState) (id : ℕ) (set : SetState) (rows : List (List ℕ))
     (old : SetState) (word : List (List ℕ)) → IsSetAdded s t far new id set rows
     → ((p : ℕ) (shard : Shard) → slice_get old.shards p ≡ Some shard → shard.key < far.counts.keys)
-        → IsSetWord s far.nodes far.members old word → IsSetWord t new.nodes new.members old word
+    → IsSetWord s far.nodes far.members old word → IsSetWord t new.nodes new.members old word
 old_word s t far new id set rows old word x keys y = record {
   word = record {
     code = y.word.code;
     survive = λ p shard at kept.
         x.stay shard.node shard.key (λ q other there same. let a = x.keys q other there in let b =
-            keys p shard at in absurd (omega (arith, a.0, b, same)))
+        keys p shard at in absurd (omega (arith, a.0, b, same)))
         ∙ y.word.survive p shard at (ap (λ (m : Membership). is_lost m shard) (sym x.members)
-            ∙ kept);
+        ∙ kept);
   };
   holds = λ p slot h named. let z =
       y.holds p slot h named in
@@ -71,10 +80,10 @@ new_word s t far new id set rows x = record {
     | inl stays ↦ absurd (stays.absent p slot named)
     | inr moved ↦ let e = moved.once p slot named in
         subst (λ (q : ℕ).
-            HoldsObject t (row_at rows p) (length (position_of set p).slots) q h) (sym e.1)
+        HoldsObject t (row_at rows p) (length (position_of set p).slots) q h) (sym e.1)
         (subst (λ (q : ℕ).
-            HoldsObject t (row_at rows q) (length (position_of set q).slots) moved.slot h) (sym e.0)
-            moved.holds)
+        HoldsObject t (row_at rows q) (length (position_of set q).slots) moved.slot h) (sym e.0)
+        moved.holds)
   ];
 }
 
@@ -83,17 +92,21 @@ pub added_sets : (s t : Shown) (far new : FarState) (id : ℕ) (set : SetState) 
 added_sets s t far new id set rows sound x = record {
   shaped = λ j other at.
       subst (λ (m : Membership). IsShaped m other) (sym x.members) (elim (cases_eq j id) [
-    | inl here ↦ subst (IsShaped far.members) (fresh j other at here) x.shape
-    | inr off ↦ sound.sets.shaped j other (old j other at off)
-  ]);
+        | inl here ↦ subst (IsShaped far.members) (fresh j other at here) x.shape
+        | inr off ↦ sound.sets.shaped j other (old j other at off)
+      ]);
   worded = λ j other at. elim (cases_eq j id) [
-    | inl here ↦
-        (rows, subst (λ (c : SetState).
-        IsSetWord t new.nodes new.members c rows) (fresh j other at here)
-        (new_word s t far new id set rows x))
-    | inr off ↦ let y = sound.sets.worded j other (old j other at off) in
-        (y.0, old_word s t far new id set rows other y.0 x (λ p shard is.
-            sound.rows.drawn (of_set j p) shard (other, old j other at off, is)) y.1)
+    | inl here ↦ (
+      rows,
+      subst (λ (c : SetState).
+          IsSetWord t new.nodes new.members c rows) (fresh j other at here)
+          (new_word s t far new id set rows x),
+    )
+    | inr off ↦ let y = sound.sets.worded j other (old j other at off) in (
+      y.0,
+      old_word s t far new id set rows other y.0 x (λ p shard is.
+          sound.rows.drawn (of_set j p) shard (other, old j other at off, is)) y.1,
+    )
   ];
   live = λ j p other at. elim (cases_eq j id) [
     | inl here ↦
@@ -115,6 +128,7 @@ added_sets s t far new id set rows sound x = record {
   where
     fresh : (j : ℕ) (other : SetState) → set_in new.sets j ≡ Some other → j ≡ id → set ≡ other
     fresh j other at here = set_same set other (sym x.added ∙ ap (set_in new.sets) (sym here) ∙ at)
+
     old : (j : ℕ) (other : SetState) → set_in new.sets j ≡ Some other → j ≢ id
         → set_in far.sets j ≡ Some other
     old j other at off = sym (x.others j off) ∙ at
@@ -135,20 +149,26 @@ added_away s t far new id set rows sound x = record {
         let n = sound.sets.numbered home.set y.0 y.1 in
         (y.0, x.others home.set (λ e. absurd (omega (arith, n, e, x.drawn.0))) ∙ y.1, y.2)
     | inr moved ↦ let e =
-        home_same (record { set = id; position = moved.position; slot =
-        moved.slot }) home (sym moved.home ∙ at) in
-        (set, subst (λ (k : Home). set_in new.sets k.set ≡ Some set) e x.added,
-            subst (λ (k : Home). slot_at set k.position k.slot ≡ Some h) e moved.named)
+        home_same (record {
+          set = id;
+          position = moved.position;
+          slot =
+              moved.slot;
+        }) home (sym moved.home ∙ at) in (
+          set,
+          subst (λ (k : Home). set_in new.sets k.set ≡ Some set) e x.added,
+          subst (λ (k : Home). slot_at set k.position k.slot ≡ Some h) e moved.named,
+        )
   ];
   named = λ j p slot h other at named. elim (cases_eq j id) [
     | inl here ↦ let e = set_same set other (sym x.added ∙ ap (set_in new.sets) (sym here) ∙ at) in
         new_named j p slot h here (subst (λ (c : SetState).
-            slot_at c p slot ≡ Some h) (sym e) named)
+        slot_at c p slot ≡ Some h) (sym e) named)
     | inr off ↦
         let was = sym (x.others j off) ∙ at in
         let y = sound.sets.worded j other was in
         let z = old_object s t far new id set rows (row_at y.0 p)
-            (length (position_of other p).slots) slot h x (y.1.holds p slot h named) in
+        (length (position_of other p).slots) slot h x (y.1.holds p slot h named) in
         z.home ∙ sound.away.named j p slot h other was named
   ];
 }
@@ -159,10 +179,10 @@ added_away s t far new id set rows sound x = record {
       | inl stays ↦ absurd (stays.absent p slot named)
       | inr moved ↦ let e = moved.once p slot named in
           moved.home
-              ∙ ap (λ (n : ℕ).
-              Some (record { set = n; position = moved.position; slot = moved.slot })) (sym here)
+          ∙ ap (λ (n : ℕ).
+          Some (record { set = n; position = moved.position; slot = moved.slot })) (sym here)
           ∙ ap (λ (n : ℕ). Some (record { set = j; position = n; slot = moved.slot })) (sym e.0)
-              ∙ ap (λ (n : ℕ). Some (record { set = j; position = p; slot = n })) (sym e.1)
+          ∙ ap (λ (n : ℕ). Some (record { set = j; position = p; slot = n })) (sym e.1)
     ]
 
 -- a shard of the new world is one of the old world or of the new set
@@ -174,8 +194,11 @@ pub split_shard : (s t : Shown) (far new : FarState) (id : ℕ) (set : SetState)
     → IsShardOf new o shard → IsShardOf far o shard ⊎ IsNewShard set id o shard
 split_shard s t far new id set rows x (of_set j p) shard is = elim (cases_eq j id) [
   | inl here ↦ let e = set_same set is.0 (sym x.added ∙ ap (set_in new.sets) (sym here) ∙ is.1) in
-      inr (p, ap (λ (n : ℕ). of_set n p) here,
-          subst (λ (c : SetState). slice_get c.shards p ≡ Some shard) (sym e) is.2)
+      inr (
+        p,
+        ap (λ (n : ℕ). of_set n p) here,
+        subst (λ (c : SetState). slice_get c.shards p ≡ Some shard) (sym e) is.2,
+      )
   | inr off ↦ inl (is.0, sym (x.others j off) ∙ is.1, is.2)
 ]
 split_shard s t far new id set rows x (of_leaving p) shard is =
@@ -188,7 +211,7 @@ keep_shard : (s t : Shown) (far new : FarState) (id : ℕ) (set : SetState) (row
     → IsShardOf far o shard → IsShardOf new o shard
 keep_shard s t far new id set rows sound x (of_set j p) shard is =
     let n = sound.sets.numbered j is.0 is.1 in
-        (is.0, x.others j (λ e. absurd (omega (arith, n, e, x.drawn.0))) ∙ is.1, is.2)
+    (is.0, x.others j (λ e. absurd (omega (arith, n, e, x.drawn.0))) ∙ is.1, is.2)
 keep_shard s t far new id set rows sound x (of_leaving p) shard is = (is.0, x.leaving ∙ is.1, is.2)
 keep_shard s t far new id set rows sound x (of_joining p) shard is = (is.0, x.joining ∙ is.1, is.2)
 
@@ -198,12 +221,22 @@ added_rows s t far new id set rows sound x = record {
   members = subst IsMembership (sym x.members) sound.rows.members;
   counted = x.nodes ∙ sound.rows.counted ∙ ap (λ (m : Membership). length m.nodes) (sym x.members);
   owned = λ node key row at. elim (x.only node key row at) [
-    | inl old ↦ let y = sound.rows.owned node key row old in
-        (y.0, y.1, keep_shard s t far new id set rows sound x y.0 y.1 y.2, y.3, y.4,
-            ap (λ (m : Membership). is_lost m y.1) x.members ∙ y.5)
-    | inr (p, shard, is, same, under) ↦
-        (of_set id p, shard, (set, x.added, is), same, under,
-        ap (λ (m : Membership). is_lost m shard) x.members ∙ x.up p shard is)
+    | inl old ↦ let y = sound.rows.owned node key row old in (
+      y.0,
+      y.1,
+      keep_shard s t far new id set rows sound x y.0 y.1 y.2,
+      y.3,
+      y.4,
+      ap (λ (m : Membership). is_lost m y.1) x.members ∙ y.5,
+    )
+    | inr (p, shard, is, same, under) ↦ (
+      of_set id p,
+      shard,
+      (set, x.added, is),
+      same,
+      under,
+      ap (λ (m : Membership). is_lost m shard) x.members ∙ x.up p shard is,
+    )
   ];
   one = λ o q a b is js same.
       one o q a b (split_shard s t far new id set rows x o a is)
@@ -216,9 +249,9 @@ added_rows s t far new id set rows sound x = record {
       subst (λ (m : Membership). (a.node.n < length m.nodes)
       × (a.incarnation ≤ incarnation m a.node)) (sym x.members)
       (elim (split_shard s t far new id set rows x o a is) [
-    | inl old ↦ sound.rows.current o a old
-    | inr (p, e, at) ↦ x.shape.current p a at
-  ]);
+        | inl old ↦ sound.rows.current o a old
+        | inr (p, e, at) ↦ x.shape.current p a at
+      ]);
 }
   where
     one : (o q : Owner) (a b : Shard) → IsShardOf far o a ⊎ IsNewShard set id o a
@@ -243,7 +276,7 @@ added_batch s t far new id set rows sound x b at =
       put = λ p shard is kept.
           let d = sound.rows.drawn (of_leaving p) shard (b, was, is) in
           x.stay shard.node shard.key (λ q other there e. let a =
-              x.keys q other there in absurd (omega (arith, a.0, d, e)))
+          x.keys q other there in absurd (omega (arith, a.0, d, e)))
           ∙ y.put p shard is (ap (λ (m : Membership). is_lost m shard) (sym x.members) ∙ kept)
           ∙ ap (λ (l : List (List ℕ)). Some (row_at l p)) (sym same);
       apart = y.apart;

@@ -65,10 +65,10 @@ after_claim far s before done h w v words sound range stamp looks free agree qui
     let p = claim_played s before h w v words looks agree in
     let x = looks_told h before s looks in
     let all : told_by (first ++ done) s
-        ≡ told_by (Claimed h w v words ∷ []) (record s { hots = x.0 }) =
-      told_append first done s ∙ quiet (told_by first s)
-      ∙ told_append before (Claimed h w v words ∷ []) s
-      ∙ ap (told_by (Claimed h w v words ∷ [])) x.1 in
+    ≡ told_by (Claimed h w v words ∷ []) (record s { hots = x.0 }) =
+    told_append first done s ∙ quiet (told_by first s)
+    ∙ told_append before (Claimed h w v words ∷ []) s
+    ∙ ap (told_by (Claimed h w v words ∷ [])) x.1 in
     record {
       hots = p.0;
       at_claim = p.1;
@@ -78,22 +78,23 @@ after_claim far s before done h w v words sound range stamp looks free agree qui
       versions = ap (λ (t : Shown). t.versions) all;
       memory = ap (λ (t : Shown). t.memory) all;
       writes = λ old. written_append first done s old
-        ∙ ap (written_by done (played first s))
+          ∙ ap (written_by done (played first s))
           (written_append before (Claimed h w v words ∷ []) s old
-            ∙ looks_written h before s old looks) }
+          ∙ looks_written h before s old looks);
+    }
 
 -- what the whole list tells of the object
 pub claim_found : (before done : List Event) (h w v : ℕ) (words : List ℕ) → NoLook h done
     → IsFound h w (claim_after before h w v words ++ done)
 claim_found before done h w v words none =
     found_more h w (claim_after before h w v words) done
-      (found_last h w before (Claimed h w v words) (refl, refl)) none
+    (found_last h w before (Claimed h w v words) (refl, refl)) none
 
 pub claim_taken : (before done : List Event) (h w v : ℕ) (words : List ℕ) → AreLooks h before
     → IsTaken h v words (claim_after before h w v words ++ done)
 claim_taken before done h w v words looks =
     taken_more h v words (claim_after before h w v words) done
-      (taken_after_looks h w v words before looks)
+    (taken_after_looks h w v words before looks)
 
 pub claim_first : (before done : List Event) (h w v : ℕ) (words : List ℕ) → AreLooks h before
     → NoLook h done → LooksFirst done → LooksFirst (claim_after before h w v words ++ done)
@@ -105,4 +106,4 @@ pub claim_all_allowed : (before done : List Event) (h w v : ℕ) (words : List �
     → Allowed s (claim_after before h w v words ++ done)
 claim_all_allowed before done h w v words s looks rest =
     allowed_append (claim_after before h w v words) done s
-      (claim_allowed before h w v words s looks) rest
+    (claim_allowed before h w v words s looks) rest

@@ -100,7 +100,9 @@ sound_hots far s hots x = record {
     memory = x.placed.memory;
     placed = x.placed.placed;
     named = λ f slot k span there taken. let y = x.placed.named f slot k span there taken in
-      record { len = y.len; lies = y.lies } } }
+        record { len = y.len; lies = y.lies };
+  };
+}
 
 look_played : (s : Shown) (before es : List Event) (h w : ℕ) → AreLooks h before → AreReads h es
     → (hots : List Bool) × (played (look_after before h w ++ es) s ≡ record s { hots = hots })
@@ -116,19 +118,20 @@ look_still s before es h w looks reads =
     let q = looks_told h (look_after before h w) s one in
     let x = look_played s before es h w looks reads in
     let y : told_by (look_after before h w ++ es) s ≡ record s { hots = q.0 } =
-      told_append (look_after before h w) es s ∙ reads_told h es _ reads ∙ q.1 in
+    told_append (look_after before h w) es s ∙ reads_told h es _ reads ∙ q.1 in
     record {
       objects = ap (λ (t : Shown). t.objects) x.1;
       versions = ap (λ (t : Shown). t.versions) x.1 ∙ sym (ap (λ (t : Shown). t.versions) y);
       memory = ap (λ (t : Shown). t.memory) x.1 ∙ sym (ap (λ (t : Shown). t.memory) y);
       nothing = λ old. written_append (look_after before h w) es s old
-        ∙ reads_written h es _ _ reads ∙ looks_written h (look_after before h w) s old one }
+          ∙ reads_written h es _ _ reads ∙ looks_written h (look_after before h w) s old one;
+    }
 
 pub look_sound : (far : FarState) (s : Shown) (before es : List Event) (h w : ℕ) → Sound s far
     → AreLooks h before → AreReads h es → Sound (played (look_after before h w ++ es) s) far
 look_sound far s before es h w sound looks reads =
     let x = look_played s before es h w looks reads in
     subst (λ (t : Shown). Sound t far) (sym x.1)
-      (sound_near s (record s { hots = x.0 }) far far sound (sound_hots far s x.0 sound.here)
-        (keeps_all far) (λ k. inl refl)
-        (λ batch there. record { spans = λ f leaves. refl; words = λ f leaves. refl }))
+    (sound_near s (record s { hots = x.0 }) far far sound (sound_hots far s x.0 sound.here)
+    (keeps_all far) (λ k. inl refl)
+    (λ batch there. record { spans = λ f leaves. refl; words = λ f leaves. refl }))

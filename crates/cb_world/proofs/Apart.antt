@@ -18,7 +18,7 @@ pub slot_inside : (far : FarState) (s : Shown) (h len place : ℕ) → LocalSoun
 slot_inside far s h len place sound c =
     let valid : IsSpan c.span = sound.frames.valid c.frame c.span c.there in
     let range : c.slot < slots_of c.span.class =
-        subst (λ (n : ℕ). c.slot < n) valid.sized (slot_in_range c.span c.slot h c.named) in
+    subst (λ (n : ℕ). c.slot < n) valid.sized (slot_in_range c.span c.slot h c.named) in
     let ends = slot_within c.span.class c.slot valid.in_table range in
     let fits = object_fits len c.span.class c.fits in
     (omega (arith, c.at), omega (arith, c.at, ends, fits))
@@ -36,15 +36,15 @@ in_one : (far : FarState) (h len place k len' place' p : ℕ) (c : HasSlot far.s
     → Covers place len p → Covers place' len' p → c.frame ≡ d.frame → ⊥
 in_one far h len place k len' place' p c d other u v same =
     let span : c.span ≡ d.span =
-        some_same c.span d.span (sym c.there ∙ ap (span_in far.spans) same ∙ d.there) in
+    some_same c.span d.span (sym c.there ∙ ap (span_in far.spans) same ∙ d.there) in
     let fit_h = object_fits len c.span.class c.fits in
     let fit_k = object_fits len' d.span.class d.fits in
     let width : words_of c.span.class ≡ words_of d.span.class =
-        ap (λ (q : Contents). words_of q.class) span in
+    ap (λ (q : Contents). words_of q.class) span in
     let starts : 512 * c.frame + c.slot * words_of c.span.class ≡ place = sym c.at in
     let starts' : 512 * c.frame + d.slot * words_of c.span.class ≡ place' =
-        ap (λ (n : ℕ). 512 * n + d.slot * words_of c.span.class) same
-        ∙ ap (λ (n : ℕ). 512 * d.frame + d.slot * n) width ∙ sym d.at in
+    ap (λ (n : ℕ). 512 * n + d.slot * words_of c.span.class) same
+    ∙ ap (λ (n : ℕ). 512 * d.frame + d.slot * n) width ∙ sym d.at in
     elim (cases_order c.slot d.slot) [
       | inl one ↦
           other (some_same h k (sym c.named ∙ ap (λ (q : Contents). handle_at q c.slot) span

@@ -32,8 +32,10 @@ whole_none m (x ∷ xs) e p shard at =
   where
     cons_nil : (l : Loss) (ls : List Loss) → (l ∷ ls) ≡ [] → ⊥
     cons_nil l ls f = cc
+
     same : (a b : Shard) → Some a ≡ Some b → a ≡ b
     same a b f = cc
+
     go : (lost m xs ≡ [] → (p : ℕ) → slice_get xs p ≡ Some shard → is_lost m shard ≡ false)
         → (o : Option Loss) → loss_of m x ≡ o → (p : ℕ) → slice_get (x ∷ xs) p ≡ Some shard
         → is_lost m shard ≡ false
@@ -50,8 +52,14 @@ begun_rows s far new pair a b sound x = record {
       ∙ ap (λ (m : Membership). length m.nodes) (sym x.left.members);
   owned = λ node key row at. let y =
       sound.rows.owned node key row (ap (λ (n : NodesState). row_under n node key) (sym x.nodes)
-      ∙ at) in (y.0, y.1, still y.0 y.1 y.2, y.3, y.4,
-      ap (λ (m : Membership). is_lost m y.1) x.left.members ∙ y.5);
+      ∙ at) in (
+        y.0,
+        y.1,
+        still y.0 y.1 y.2,
+        y.3,
+        y.4,
+        ap (λ (m : Membership). is_lost m y.1) x.left.members ∙ y.5,
+      );
   one = λ o q y z is js same. sound.rows.one o q y z (was o y is) (was q z js) same;
   drawn = λ o y is. omega (arith, sound.rows.drawn o y (was o y is), x.left.keys);
   current = λ o y is.
@@ -62,12 +70,14 @@ begun_rows s far new pair a b sound x = record {
   where
     pair_same : (p q : JoiningState) → Some p ≡ Some q → p ≡ q
     pair_same p q e = cc
+
     was : (o : Owner) (y : Shard) → IsShardOf new o y → IsShardOf far o y
     was (of_set id q) y is = (is.0, ap (λ (m : SetMap). set_in m id) (sym x.left.sets) ∙ is.1, is.2)
     was (of_leaving q) y is = (is.0, sym x.left.leaving ∙ is.1, is.2)
     was (of_joining q) y is =
         absurd (x.undone q y (ap (λ (p : JoiningState).
         slice_get p.steps q) (pair_same pair is.0 (sym x.now ∙ is.1)) ∙ is.2))
+
     still : (o : Owner) (y : Shard) → IsShardOf far o y → IsShardOf new o y
     still (of_set id q) y is = (is.0, ap (λ (m : SetMap). set_in m id) x.left.sets ∙ is.1, is.2)
     still (of_leaving q) y is = (is.0, x.left.leaving ∙ is.1, is.2)
@@ -94,16 +104,30 @@ begun_join s far new pair a b table sound coeffs x = record {
   b_count = ap length x.b_shards ∙ x.shards ∙ total;
   count = x.count ∙ total;
   apart = x.distinct;
-  drawn = (omega (arith, sound.sets.numbered pair.a a x.a_there, x.left.drawn),
-      omega (arith, sound.sets.numbered pair.b b x.b_there, x.left.drawn));
+  drawn = (
+    omega (arith, sound.sets.numbered pair.a a x.a_there, x.left.drawn),
+    omega (arith, sound.sets.numbered pair.b b x.b_there, x.left.drawn),
+  );
   a_keys = λ p shard at.
-      omega (arith,
-      sound.rows.drawn (of_set pair.a p) shard (a, x.a_there,
-      ap (λ (l : List Shard). slice_get l p) (sym x.a_shards) ∙ at), x.left.keys);
+      omega (
+        arith,
+        sound.rows.drawn (of_set pair.a p) shard (
+          a,
+          x.a_there,
+          ap (λ (l : List Shard). slice_get l p) (sym x.a_shards) ∙ at,
+        ),
+        x.left.keys,
+      );
   b_keys = λ p shard at.
-      omega (arith,
-      sound.rows.drawn (of_set pair.b p) shard (b, x.b_there,
-      ap (λ (l : List Shard). slice_get l p) (sym x.b_shards) ∙ at), x.left.keys);
+      omega (
+        arith,
+        sound.rows.drawn (of_set pair.b p) shard (
+          b,
+          x.b_there,
+          ap (λ (l : List Shard). slice_get l p) (sym x.b_shards) ∙ at,
+        ),
+        x.left.keys,
+      );
   steps = λ p shard at. absurd (x.undone p shard at);
   beside = λ p shard at. absurd (x.undone p shard at);
   fit = λ c d f. let e =
@@ -112,42 +136,51 @@ begun_join s far new pair a b table sound coeffs x = record {
       same b d (sym x.b_there ∙ ap (λ (m : SetMap). set_in m pair.b) (sym x.left.sets)
       ∙ f.b_there) in
       subst (λ (c : SetState).
-          AreFit pair (length a.positions) c d) e (subst (λ (d : SetState).
-          AreFit pair (length a.positions) a d) g (record {
+      AreFit pair (length a.positions) c d) e (subst (λ (d : SetState).
+      AreFit pair (length a.positions) a d) g (record {
         a_count = refl;
         b_count = x.positions;
         a_live = λ p l. x.live p ∙ off p l (live_at b p) refl;
         b_live = λ p l. x.live p ∙ l;
       }));
-  word = λ c d f. (m.0, record {
-    word = m.1.word;
-    a_rows = λ i shard l t at. here shard
-        ∙ wa.1.word.survive i shard (ap (λ (l : List Shard). slice_get l i) (sym x.a_shards)
-        ∙ at) (whole_none far.members a.shards x.matched.whole_a i shard (ap (λ (l : List Shard).
-        slice_get l i) (sym x.a_shards) ∙ at))
-        ∙ ap Some (sym (m.1.chosen i l ∙ ap (λ t. cond t (row_at wb.0 i) (row_at wa.0 i)) t));
-    b_rows = λ i shard l t at. here shard
-        ∙ wb.1.word.survive i shard (ap (λ (l : List Shard). slice_get l i) (sym x.b_shards)
-        ∙ at) (whole_none far.members b.shards x.matched.whole_b i shard (ap (λ (l : List Shard).
-        slice_get l i) (sym x.b_shards) ∙ at))
-        ∙ ap Some (sym (m.1.chosen i l ∙ ap (λ t. cond t (row_at wb.0 i) (row_at wa.0 i)) t));
-    new_rows = λ p shard at. absurd (x.undone p shard at);
-  });
+  word = λ c d f. (
+    m.0,
+    record {
+      word = m.1.word;
+      a_rows = λ i shard l t at. here shard
+          ∙ wa.1.word.survive i shard (ap (λ (l : List Shard). slice_get l i) (sym x.a_shards)
+          ∙ at) (whole_none far.members a.shards x.matched.whole_a i shard (ap (λ (l : List Shard).
+          slice_get l i) (sym x.a_shards) ∙ at))
+          ∙ ap Some (sym (m.1.chosen i l ∙ ap (λ t. cond t (row_at wb.0 i) (row_at wa.0 i)) t));
+      b_rows = λ i shard l t at. here shard
+          ∙ wb.1.word.survive i shard (ap (λ (l : List Shard). slice_get l i) (sym x.b_shards)
+          ∙ at) (whole_none far.members b.shards x.matched.whole_b i shard (ap (λ (l : List Shard).
+          slice_get l i) (sym x.b_shards) ∙ at))
+          ∙ ap Some (sym (m.1.chosen i l ∙ ap (λ t. cond t (row_at wb.0 i) (row_at wa.0 i)) t));
+      new_rows = λ p shard at. absurd (x.undone p shard at);
+    },
+  );
 }
   where
     same : (p q : SetState) → Some p ≡ Some q → p ≡ q
     same p q e = cc
+
     shaped : IsShaped far.members a
     shaped = sound.sets.shaped pair.a a x.a_there
+
     total : length a.shards ≡ length a.positions + parities a
     total = omega (arith, shaped.data_first)
+
     here : (shard : Shard)
         → row_under new.nodes shard.node shard.key ≡ row_under far.nodes shard.node shard.key
     here shard = ap (λ (n : NodesState). row_under n shard.node shard.key) x.nodes
+
     wa : (rows : List (List ℕ)) × IsSetWord s far.nodes far.members a rows
     wa = sound.sets.worded pair.a a x.a_there
+
     wb : (rows : List (List ℕ)) × IsSetWord s far.nodes far.members b rows
     wb = sound.sets.worded pair.b b x.b_there
+
     m : (rows : List (List ℕ))
         × IsMergedWord (length a.positions) (parities a) pair.taken wa.0 wb.0 rows
     m = merged_word (length a.positions) (parities a) table wa.0 wb.0 pair.taken (record {
@@ -155,9 +188,13 @@ begun_join s far new pair a b table sound coeffs x = record {
       coefficients = coeffs;
       a_word = wa.1.word.code;
       b_word = subst (λ (r : ℕ).
-          IsSpanWord (length a.positions) r wb.0) (omega (arith, x.positions,
-          x.shards)) (subst (λ (k : ℕ). IsSpanWord k (parities b) wb.0) x.positions wb.1.word.code);
+          IsSpanWord (length a.positions) r wb.0) (omega (
+            arith,
+            x.positions,
+            x.shards,
+          )) (subst (λ (k : ℕ). IsSpanWord k (parities b) wb.0) x.positions wb.1.word.code);
     }) x.taken
+
     off : (p : ℕ) → live_at a p ≡ true → (flag : Bool) → live_at b p ≡ flag → live_at b p ≡ false
     off p l true e = absurd (x.matched.apart p l e)
     off p l false e = e

@@ -43,9 +43,9 @@ apart_frames far s t h len place f batch sound here beside there leaves =
     let c = sound.here.placed.placed h len place (lies s h len place here) in
     let x = slot_inside far s h len place sound.here c in
     let other : f ≢ c.frame = λ e. not_leaving s far batch c.frame c.slot h c.span sound there
-        (subst IsAtLarge (sym here) tt) c.there c.named (subst (Contains batch.frames) e leaves) in
+    (subst IsAtLarge (sym here) tt) c.there c.named (subst (Contains batch.frames) e leaves) in
     window_same t.memory s.memory (512 * f) 512
-      (λ i low high. beside i (side f c.frame place len i (cases_order f c.frame) other x.0 x.1 low high))
+    (λ i low high. beside i (side f c.frame place len i (cases_order f c.frame) other x.0 x.1 low high))
   where
     side : (f g place len i : ℕ) → (f ≡ g) ⊎ ((f < g) ⊎ (g < f)) → f ≢ g → 512 * g ≤ place
         → place + words_for len ≤ 512 * g + 512 → 512 * f ≤ i → i < 512 * f + 512
@@ -61,7 +61,8 @@ pub leaving_beside : (far : FarState) (s t : Shown) (h len place : ℕ) (batch :
     → far.leaving ≡ Some batch → KeepsLeaving s t far far batch
 leaving_beside far s t h len place batch sound here beside there = record {
   spans = λ f leaves. refl;
-  words = λ f leaves. apart_frames far s t h len place f batch sound here beside there leaves }
+  words = λ f leaves. apart_frames far s t h len place f batch sound here beside there leaves;
+}
 
 -- the world stays sound where the words and the version word of one object that is here change
 pub sound_beside : (far : FarState) (s t : Shown) (h len place : ℕ) → Sound s far
@@ -71,7 +72,7 @@ pub sound_beside : (far : FarState) (s t : Shown) (h len place : ℕ) → Sound 
     → KeepsBeside s.memory t.memory place len → Sound t far
 sound_beside far s t h len place sound here first objects memory versions beside =
     sound_near s t far far sound
-      (sound_kept far s t h len place sound.here here first objects memory versions)
-      (keeps_all far)
-      (λ k. inl (ap (λ (l : List Object). get_or l k (is.Empty 0)) objects))
-      (λ batch there. leaving_beside far s t h len place batch sound here beside there)
+    (sound_kept far s t h len place sound.here here first objects memory versions)
+    (keeps_all far)
+    (λ k. inl (ap (λ (l : List Object). get_or l k (is.Empty 0)) objects))
+    (λ batch there. leaving_beside far s t h len place batch sound here beside there)

@@ -24,16 +24,17 @@ named_or_not [] node key = inr (λ p shard is. none_some p shard is.0)
 named_or_not (x ∷ xs) node key = elim (named_or_not xs node key) [
   | inl (p, shard, is) ↦ inl (suc p, shard, is)
   | inr none ↦ elim (cases_eq x.node.n node.n) [
-      | inl n ↦ elim (cases_eq x.key key) [
-          | inl k ↦ inl (0, x, (refl, n, k))
-          | inr off ↦ inr (λ p shard is. first none (λ both. off both.1) p shard is)
-        ]
-      | inr off ↦ inr (λ p shard is. first none (λ both. off both.0) p shard is)
+    | inl n ↦ elim (cases_eq x.key key) [
+      | inl k ↦ inl (0, x, (refl, n, k))
+      | inr off ↦ inr (λ p shard is. first none (λ both. off both.1) p shard is)
     ]
+    | inr off ↦ inr (λ p shard is. first none (λ both. off both.0) p shard is)
+  ]
 ]
   where
     some_same : (a b : Shard) → Some a ≡ Some b → a ≡ b
     some_same a b e = cc
+
     first : ((p : ℕ) (shard : Shard) → IsAt xs node key p shard → ⊥)
         → ((x.node.n ≡ node.n) × (x.key ≡ key) → ⊥) → (p : ℕ) (shard : Shard)
         → IsAt (x ∷ xs) node key p shard → ⊥
@@ -50,19 +51,19 @@ put_past nodes [] rows node key range none = refl
 put_past nodes (x ∷ xs) [] node key range none = refl
 put_past nodes (x ∷ xs) (row ∷ rows) node key range none =
     put_past (with_row nodes x.node x.key row) xs rows node key (λ p shard at.
-        let n : length (with_row nodes x.node x.key row).nodes ≡ length nodes.nodes =
-        length-set nodes.nodes x.node.n _ in
-        omega (arith, n, range (suc p) shard at)) (λ p shard is. none (suc p) shard is)
+    let n : length (with_row nodes x.node x.key row).nodes ≡ length nodes.nodes =
+    length-set nodes.nodes x.node.n _ in
+    omega (arith, n, range (suc p) shard at)) (λ p shard is. none (suc p) shard is)
     ∙ put_keeps_other_rows nodes x.node node x.key key row (range 0 x refl) (λ same.
-        none 0 x (refl, sym same.0, sym same.1))
+    none 0 x (refl, sym same.0, sym same.1))
 
 -- each row after the puts was there before, or is one of those that were put
 pub put_only : (nodes : NodesState) (shards : List Shard) (rows : List (List ℕ)) (node : NodeId)
     (key : ℕ) (row : List ℕ) → InRange nodes shards
     → row_under (all_put nodes shards rows) node key ≡ Some row
     → (row_under nodes node key ≡ Some row)
-        ⊎ ((p : ℕ) × (shard : Shard) × (slice_get shards p ≡ Some shard) × (shard.node.n ≡ node.n)
-        × (shard.key ≡ key))
+    ⊎ ((p : ℕ) × (shard : Shard) × (slice_get shards p ≡ Some shard) × (shard.node.n ≡ node.n)
+    × (shard.key ≡ key))
 put_only nodes shards rows node key row range at = elim (named_or_not shards node key) [
   | inl (p, shard, is) ↦ inr (p, shard, is.0, is.1, is.2)
   | inr none ↦ inl (sym (put_past nodes shards rows node key range none) ∙ at)

@@ -39,7 +39,7 @@ left_elsewhere : (nodes : NodesState) (node q : NodeId) (key : ℕ) (row : List 
     → (q.n ≢ node.n) × (row_under nodes q key ≡ Some row)
 left_elsewhere nodes node q key row within at =
     let off : q.n ≢ node.n =
-        λ here. none_some _ None row (wiped_node_is_empty nodes node q key within here) at in
+    λ here. none_some _ None row (wiped_node_is_empty nodes node q key within here) at in
     (off, ap (λ rows. map.get rows key) (sym (rows_elsewhere nodes node q map.empty off)) ∙ at)
 
 crash_keeps_rows : (far : FarState) (node : NodeId) → AreRows far
@@ -50,18 +50,24 @@ crash_keeps_rows far node rows within up valid = record {
   counted = omega (arith, counts);
   owned = λ q key row at. let x =
       left_elsewhere far.nodes node q key row (omega (arith, rows.counted, within)) at in
-      let y = rows.owned q key row x.1 in
-      (y.0, y.1, back_shards far node y.0 y.1 y.2, y.3, y.4,
-          ap is_some (crash_keeps_other_nodes far.members node y.1 (λ here. x.0 (sym y.3 ∙ here)))
-          ∙ y.5);
+      let y = rows.owned q key row x.1 in (
+        y.0,
+        y.1,
+        back_shards far node y.0 y.1 y.2,
+        y.3,
+        y.4,
+        ap is_some (crash_keeps_other_nodes far.members node y.1 (λ here. x.0 (sym y.3 ∙ here)))
+            ∙ y.5,
+      );
   one = λ o q a b x y same.
       rows.one o q a b (same_shards far node o a x) (same_shards far node q b y) same;
   drawn = λ o a x. rows.drawn o a (same_shards far node o a x);
   current = λ o a x. let c = rows.current o a (same_shards far node o a x) in
       let count : length (with_crash far.members node).nodes ≡ length far.members.nodes =
-          length-set far.members.nodes node.n _ in
-      (omega (arith, c.0, count),
-          omega (arith, c.1, crash_keeps_incarnations far.members node a.node within));
+      length-set far.members.nodes node.n _ in (
+        omega (arith, c.0, count),
+        omega (arith, c.1, crash_keeps_incarnations far.members node a.node within),
+      );
 }
   where
     counts : length (crashed_far far node).nodes.nodes ≡ length (crashed_far far node).members.nodes
@@ -76,12 +82,22 @@ crash_keeps s far node sound within up valid = record {
   sets = record {
     shaped = λ id set at. let x =
         sound.sets.shaped id set at in
-        record { range = x.range; data_first = x.data_first; distinct = x.distinct; current =
-        crash_keeps_current far.members node set.shards within x.current };
-    worded = λ id set at. let x = sound.sets.worded id set at in
-        (x.0, record { word =
+        record {
+          range = x.range;
+          data_first = x.data_first;
+          distinct = x.distinct;
+          current =
+              crash_keeps_current far.members node set.shards within x.current;
+        };
+    worded = λ id set at. let x = sound.sets.worded id set at in (
+      x.0,
+      record {
+        word =
             crash_keeps_word far.nodes far.members node set x.0 sound.rows.members within up
-            (sound.sets.shaped id set at).current x.1.word; holds = x.1.holds });
+            (sound.sets.shaped id set at).current x.1.word;
+        holds = x.1.holds;
+      },
+    );
     live = sound.sets.live;
     kept = sound.sets.kept;
     numbered = sound.sets.numbered;
@@ -94,7 +110,7 @@ crash_keeps s far node sound within up valid = record {
     put = λ p shard is kept. let c = sound.rows.current (of_leaving p) shard (b, at, is) in
         let y = crash_survivor far.members node shard sound.rows.members within up c.1 kept in
         ap (λ rows. map.get rows shard.key) (rows_elsewhere far.nodes node shard.node map.empty y.0)
-            ∙ x.put p shard is y.1;
+        ∙ x.put p shard is y.1;
     apart = x.apart;
   };
 }

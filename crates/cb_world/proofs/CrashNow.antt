@@ -35,10 +35,13 @@ broken_grows : (m : Membership) (node : NodeId) (set : SetState) → IsMembershi
     → is_broken m set ≡ true → is_broken (with_crash m node) set ≡ true
 broken_grows m node set valid within up current broken =
     let more =
-        lost_grow m (with_crash m node) set.shards (λ p shard at kept.
-        (crash_survivor m node shard valid within up (current p shard at).1 kept).1) in
-    lt-ltb (parities set) (length (lost (with_crash m node) set.shards)) (omega (arith, more,
-        ltb-true _ _ broken))
+    lost_grow m (with_crash m node) set.shards (λ p shard at kept.
+    (crash_survivor m node shard valid within up (current p shard at).1 kept).1) in
+    lt-ltb (parities set) (length (lost (with_crash m node) set.shards)) (omega (
+      arith,
+      more,
+      ltb-true _ _ broken,
+    ))
 
 set_grows : (m : Membership) (node : NodeId) (o : Option SetState) → IsMembership m
     → node.n < length m.nodes → alive m node ≡ true
@@ -74,15 +77,24 @@ crash_now s far node h sound within up =
         inl (ap (now_as s h (is_gone (crashed_far far node) h)) e
         ∙ sym (ap (now_as s h (is_gone far h)) e))
     turn (is.Far len v words) e b a =
-        inr (record { len = len; version = v; words = words; away = e; before = b; after = a; now =
-        ap (now_as s h (is_gone (crashed_far far node) h)) e
-        ∙ ap (λ (x : Bool). now_as s h x (is.Far len v words)) a })
+        inr (record {
+          len = len;
+          version = v;
+          words = words;
+          away = e;
+          before = b;
+          after = a;
+          now =
+              ap (now_as s h (is_gone (crashed_far far node) h)) e
+              ∙ ap (λ (x : Bool). now_as s h x (is.Far len v words)) a;
+        })
     turn (is.Here len place) e b a =
         inl (ap (now_as s h (is_gone (crashed_far far node) h)) e
         ∙ sym (ap (now_as s h (is_gone far h)) e))
     turn (is.Claimed len place v words) e b a =
         inl (ap (now_as s h (is_gone (crashed_far far node) h)) e
         ∙ sym (ap (now_as s h (is_gone far h)) e))
+
     go : (b a : Bool) → is_gone far h ≡ b → is_gone (crashed_far far node) h ≡ a
         → (now s (crashed_far far node) h ≡ now s far h)
         ⊎ BecomesGone s far (crashed_far far node) h

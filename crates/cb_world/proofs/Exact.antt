@@ -21,7 +21,7 @@ found_exact (Looked k u ∷ es) x y h w run first (inr found) =
     ap (λ (i : ℕ). get_or x.words i 0) (sym found.0.0) ∙ run.0.0 ∙ found.0.1
 found_exact (Claimed k u v xs ∷ es) x y h w run first (inl found) =
     sym (get_or-set_other x.words k h (u + 1) 0 (λ e.
-        not_seen h w es (subst (λ (i : ℕ). NoLook i es) (sym e) first.0) found))
+    not_seen h w es (subst (λ (i : ℕ). NoLook i es) (sym e) first.0) found))
     ∙ found_exact es (record x { words = set x.words k (u + 1) }) y h w run.1 first.1 found
 found_exact (Claimed k u v xs ∷ es) x y h w run first (inr found) =
     ap (λ (i : ℕ). get_or x.words i 0) (sym found.0.0) ∙ run.0.found ∙ found.0.1
@@ -38,7 +38,7 @@ found_exact (Stamped k v ∷ es) x y h w run first (inl found) =
 found_exact (Stamped k v ∷ es) x y h w run first (inr found) = absurd found.0
 found_exact (Settled k u ∷ es) x y h w run first (inl found) =
     sym (get_or-set_other x.words k h u 0 (λ e.
-        not_seen h w es (subst (λ (i : ℕ). NoLook i es) (sym e) first.0) found))
+    not_seen h w es (subst (λ (i : ℕ). NoLook i es) (sym e) first.0) found))
     ∙ found_exact es (record x { words = set x.words k u }) y h w run.1 first.1 found
 found_exact (Settled k u ∷ es) x y h w run first (inr found) = absurd found.0
 
@@ -51,17 +51,23 @@ not_taken h v words (e ∷ es) none taken = not_taken h v words es none taken
 pub taken_exact : (es : List Event) (x y : Words) (h v : ℕ) (words : List ℕ) → Plain x es y
     → LooksFirst es → IsTaken h v words es
     → (w : ℕ) × IsFound h w es × (v ≡ get_or x.versions h 0)
-        × (words ≡ window x.memory (place_of w) (words_for (len_of w)))
+    × (words ≡ window x.memory (place_of w) (words_for (len_of w)))
 taken_exact [] x y h v words run first taken = absurd taken
 taken_exact (Looked k u ∷ es) x y h v words run first taken = let t =
     taken_exact es x y h v words run.1 first taken in (t.0, inl t.1, t.2, t.3)
 taken_exact (Claimed k u z xs ∷ es) x y h v words run first (inl taken) =
-    let t = taken_exact es (record x { words =
-        set x.words k (u + 1) }) y h v words run.1 first.1 taken in (t.0, inl t.1, t.2, t.3)
-taken_exact (Claimed k u z xs ∷ es) x y h v words run first (inr taken) =
-    (u, inr ((taken.0, refl), subst (λ (i : ℕ). NoLook i es) taken.0 first.0), sym taken.1
-        ∙ sym run.0.version ∙ ap (λ (i : ℕ). get_or x.versions i 0) taken.0, sym taken.2
-        ∙ run.0.contents)
+    let t = taken_exact es (record x {
+      words =
+          set x.words k (u + 1);
+    }) y h v words run.1 first.1 taken in (t.0, inl t.1, t.2, t.3)
+taken_exact (Claimed k u z xs ∷ es) x y h v words run first (inr taken) = (
+  u,
+  inr ((taken.0, refl), subst (λ (i : ℕ). NoLook i es) taken.0 first.0),
+  sym taken.1
+      ∙ sym run.0.version ∙ ap (λ (i : ℕ). get_or x.versions i 0) taken.0,
+  sym taken.2
+      ∙ run.0.contents,
+)
 taken_exact (Told k u ∷ es) x y h v words run first taken = let t =
     taken_exact es x y h v words run.1 first taken in (t.0, inl t.1, t.2, t.3)
 taken_exact (Loaded p u ∷ es) x y h v words run first taken = let t =
@@ -72,7 +78,7 @@ taken_exact (Stamped k u ∷ es) x y h v words run first taken =
     absurd (not_taken h v words es first.0 taken)
 taken_exact (Settled k u ∷ es) x y h v words run first taken =
     let t = taken_exact es (record x { words = set x.words k u }) y h v words run.1 first.1 taken in
-        (t.0, inl t.1, t.2, t.3)
+    (t.0, inl t.1, t.2, t.3)
 
 pub first_claim : (h w v : ℕ) (words : List ℕ) (before es : List Event) → AreLooks h before
     → NoLook h es → LooksFirst es → LooksFirst ((before ++ Claimed h w v words ∷ []) ++ es)

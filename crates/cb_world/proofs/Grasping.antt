@@ -19,7 +19,7 @@ one_word (is.Far len u words) v w a b p q e =
     absurd (let x = bits_here v p.0 in let y = a.0 in omega (arith, x, y))
 one_word (is.Here len place) v w a b p q e =
     let near =
-        same_but_hot v w a.0 b.0 (p.0 ∙ sym q.0) (p.1 ∙ sym q.1) (a.1 ∙ sym b.1) (a.2 ∙ sym b.2) in
+    same_but_hot v w a.0 b.0 (p.0 ∙ sym q.0) (p.1 ∙ sym q.1) (a.1 ∙ sym b.1) (a.2 ∙ sym b.2) in
     let flags = ap flag_number e in omega (arith, near, flags)
 one_word (is.Claimed len place u words) v w a b p q e =
     absurd (let x = bits_here v p.0 in let y = bits_moving v a.4 in omega (arith, x, y))
@@ -41,9 +41,12 @@ pub looks_decide : (s : Shown) (h saw found last : ℕ) → h < length s.hots
 looks_decide s h saw found last within a p q raced again =
     let hots = set s.hots h (hot_of saw) in
     let one : get_or hots h false ≡ hot_of saw =
-        get_or-set_same s.hots h (hot_of saw) false within in
+    get_or-set_same s.hots h (hot_of saw) false within in
     let two : get_or (set hots h (hot_of found)) h false ≡ hot_of found =
-        get_or-set_same hots h (hot_of found) false (omega (arith, within,
-        length-set s.hots h (hot_of saw))) in
+    get_or-set_same hots h (hot_of found) false (omega (
+      arith,
+      within,
+      length-set s.hots h (hot_of saw),
+    )) in
     second_decides (object_at s h) saw found last a.0.0 a.1.0.0 a.1.1.0.0 (λ e.
-        a.1.0.1 (one ∙ e)) (λ e. a.1.1.0.1 (two ∙ e)) p q raced again
+    a.1.0.1 (one ∙ e)) (λ e. a.1.1.0.1 (two ∙ e)) p q raced again

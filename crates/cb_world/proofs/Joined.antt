@@ -69,12 +69,15 @@ pair_kept far new pair x j = record {
   steps = j.steps;
   beside = j.beside;
   fit = λ c d f. let y = x.fresh c d f in y.3 j.k (j.fit y.0 y.1 y.2);
-  word = λ c d f. let y = x.fresh c d f in let m = j.word y.0 y.1 y.2 in (m.0, record {
-    word = m.1.word;
-    a_rows = λ i shard l t at. x.a_stay c d f i shard at ∙ m.1.a_rows i shard l t at;
-    b_rows = λ i shard l t at. x.b_stay c d f i shard at ∙ m.1.b_rows i shard l t at;
-    new_rows = λ p shard at. x.new_stay c d f p shard at ∙ m.1.new_rows p shard at;
-  });
+  word = λ c d f. let y = x.fresh c d f in let m = j.word y.0 y.1 y.2 in (
+    m.0,
+    record {
+      word = m.1.word;
+      a_rows = λ i shard l t at. x.a_stay c d f i shard at ∙ m.1.a_rows i shard l t at;
+      b_rows = λ i shard l t at. x.b_stay c d f i shard at ∙ m.1.b_rows i shard l t at;
+      new_rows = λ p shard at. x.new_stay c d f p shard at ∙ m.1.new_rows p shard at;
+    },
+  );
 }
 
 -- ---- a crash: where it loses a shard of a or b the pair is stale, else all its rows stay
@@ -83,41 +86,58 @@ pub crash_keeps_join : (s : Shown) (far : FarState) (node : NodeId) (pair : Join
     → IsJoin far pair → IsJoin (crashed_far far node) pair
 crash_keeps_join s far node pair sound within up j =
     pair_kept far (crashed_far far node) pair (record {
-  more_sets = omega arith;
-  more_keys = omega arith;
-  fresh = λ c d f. (c, d, before c d f, λ k fit. fit);
-  a_stay = λ c d f p shard at. stays shard (a_left c d f p shard at).0;
-  b_stay = λ c d f p shard at. stays shard (b_left c d f p shard at).0;
-  new_stay = λ c d f p shard at. let y = j.beside p shard at in
-      stays shard (λ here.
+      more_sets = omega arith;
+      more_keys = omega arith;
+      fresh = λ c d f. (c, d, before c d f, λ k fit. fit);
+      a_stay = λ c d f p shard at. stays shard (a_left c d f p shard at).0;
+      b_stay = λ c d f p shard at. stays shard (b_left c d f p shard at).0;
+      new_stay = λ c d f p shard at. let y = j.beside p shard at in
+          stays shard (λ here.
           (a_left c d f p y.0 y.1).0 (ap (λ (q : NodeId). q.n) (sym y.2.node) ∙ here));
-}) j
+    }) j
   where
     new : FarState
     new = crashed_far far node
+
     stays : (shard : Shard) → shard.node.n ≢ node.n
         → row_under new.nodes shard.node shard.key ≡ row_under far.nodes shard.node shard.key
     stays shard off =
         ap (λ rows. map.get rows shard.key) (rows_elsewhere far.nodes node shard.node map.empty off)
+
     a_left : (c d : SetState) → IsFresh new pair c d → (p : ℕ) (shard : Shard)
         → slice_get pair.shards_a p ≡ Some shard → (shard.node.n ≢ node.n)
         × (is_lost far.members shard ≡ false)
     a_left c d f p shard at =
         crash_survivor far.members node shard sound.rows.members within up
-        (sound.rows.current (of_set pair.a p) shard (c, f.a_there,
-        ap (λ (l : List Shard). slice_get l p) f.a_shards ∙ at)).1 (f.a_whole p shard at)
+        (sound.rows.current (of_set pair.a p) shard (
+          c,
+          f.a_there,
+          ap (λ (l : List Shard). slice_get l p) f.a_shards ∙ at,
+        )).1 (f.a_whole p shard at)
+
     b_left : (c d : SetState) → IsFresh new pair c d → (p : ℕ) (shard : Shard)
         → slice_get pair.shards_b p ≡ Some shard → (shard.node.n ≢ node.n)
         × (is_lost far.members shard ≡ false)
     b_left c d f p shard at =
         crash_survivor far.members node shard sound.rows.members within up
-        (sound.rows.current (of_set pair.b p) shard (d, f.b_there,
-        ap (λ (l : List Shard). slice_get l p) f.b_shards ∙ at)).1 (f.b_whole p shard at)
+        (sound.rows.current (of_set pair.b p) shard (
+          d,
+          f.b_there,
+          ap (λ (l : List Shard). slice_get l p) f.b_shards ∙ at,
+        )).1 (f.b_whole p shard at)
+
     before : (c d : SetState) → IsFresh new pair c d → IsFresh far pair c d
     before c d f =
-        record { a_there = f.a_there; b_there = f.b_there; a_shards = f.a_shards; b_shards =
-        f.b_shards; a_whole = λ p shard at. (a_left c d f p shard at).1; b_whole =
-        λ p shard at. (b_left c d f p shard at).1 }
+        record {
+          a_there = f.a_there;
+          b_there = f.b_there;
+          a_shards = f.a_shards;
+          b_shards =
+              f.b_shards;
+          a_whole = λ p shard at. (a_left c d f p shard at).1;
+          b_whole =
+              λ p shard at. (b_left c d f p shard at).1;
+        }
 
 -- ---- a change of the pair alone
 -- the sets, the homes and the batch stay where their rows stay
@@ -134,15 +154,18 @@ sets_kept s far new sound x keeps rows = record {
     shaped = λ id set at.
         subst (λ (m : Membership).
         IsShaped m set) (sym x.members) (sound.sets.shaped id set (was id set at));
-    worded = λ id set at. let y = sound.sets.worded id set (was id set at) in (y.0, record {
-      word = record {
-        code = y.1.word.code;
-        survive = λ p shard is kept. keeps.set_rows id p shard (set, was id set at, is)
-            ∙ y.1.word.survive p shard is (ap (λ (m : Membership). is_lost m shard) (sym x.members)
-            ∙ kept);
-      };
-      holds = y.1.holds;
-    });
+    worded = λ id set at. let y = sound.sets.worded id set (was id set at) in (
+      y.0,
+      record {
+        word = record {
+          code = y.1.word.code;
+          survive = λ p shard is kept. keeps.set_rows id p shard (set, was id set at, is)
+              ∙ y.1.word.survive p shard is (ap (λ (m : Membership). is_lost m shard) (sym x.members)
+              ∙ kept);
+        };
+        holds = y.1.holds;
+      },
+    );
     live = λ id p set at. sound.sets.live id p set (was id set at);
     kept = λ id set at. sound.sets.kept id set (was id set at);
     numbered = λ id set at. omega (arith, sound.sets.numbered id set (was id set at), x.drawn);

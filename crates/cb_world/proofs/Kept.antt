@@ -52,14 +52,15 @@ spares_other p (is.Claimed len place v words) f = tt
 pub owns_claimed : (far : FarState) (s t : Shown) (h len place v : ℕ) (words : List ℕ)
     → LocalSound s far → object_at s h ≡ is.Here len place → h < length s.objects
     → t.objects ≡ set s.objects h (is.Claimed len place v words) → length t.memory ≡ length s.memory
-        → (p : ℕ) → Covers place len p → Owns t p
+    → (p : ℕ) → Covers place len p → Owns t p
 owns_claimed far s t h len place v words sound here range objects memory p covers =
     let lies : LiesAt (object_at s h) len place =
-        subst (λ (o : Object). LiesAt o len place) (sym here) (refl, refl) in
-    let within = lies_within far s h len place sound lies in
-    (omega (arith, covers.1, within.0, memory),
-        λ k. subst (λ (l : List Object).
-        Spares p (get_or l k never)) (sym objects) (spare lies k (ℕ_discrete k h)))
+    subst (λ (o : Object). LiesAt o len place) (sym here) (refl, refl) in
+    let within = lies_within far s h len place sound lies in (
+      omega (arith, covers.1, within.0, memory),
+      λ k. subst (λ (l : List Object).
+          Spares p (get_or l k never)) (sym objects) (spare lies k (ℕ_discrete k h)),
+    )
   where
     spare : LiesAt (object_at s h) len place → (k : ℕ) → Dec (k ≡ h)
         → Spares p (get_or (set s.objects h (is.Claimed len place v words)) k never)
@@ -70,8 +71,8 @@ owns_claimed far s t h len place v words sound here range objects memory p cover
     spare lies k (no n) =
         subst (Spares p)
         (sym (get_or-set_other s.objects h k (is.Claimed len place v words) never n))
-      (spares_other p (object_at s k) (λ len' place' there over.
-          apart far s h len place k len' place' p sound lies there (λ e. n (sym e)) covers over))
+        (spares_other p (object_at s k) (λ len' place' there over.
+        apart far s h len place k len' place' p sound lies there (λ e. n (sym e)) covers over))
 
 -- the world stays sound where the objects and all version words but that of an object that is here
 -- are as they were
@@ -81,13 +82,16 @@ pub sound_kept : (far : FarState) (s t : Shown) (h len place : ℕ) → LocalSou
     → ((k : ℕ) → k ≢ h → version_at t k ≡ version_at s k) → LocalSound t far
 sound_kept far s t h len place sound here first objects memory versions =
     let at : (k : ℕ) → object_at t k ≡ object_at s k =
-        λ k. ap (λ (l : List Object). get_or l k never) objects in record {
+    λ k. ap (λ (l : List Object). get_or l k never) objects in record {
       known = record {
         first = first ∙ sound.known.first;
         made = λ k below.
             subst (λ (o : Object).
-            far.made ≤ k ↔ (o ≡ never)) (sym (at k)) (sound.known.made k (omega (arith, below,
-            ap length objects)));
+            far.made ≤ k ↔ (o ≡ never)) (sym (at k)) (sound.known.made k (omega (
+              arith,
+              below,
+              ap length objects,
+            )));
         stamped = λ k.
             subst (λ (o : Object).
             IsStamped o (version_at t k)) (sym (at k)) (stamp k (ℕ_discrete k h));
@@ -99,9 +103,12 @@ sound_kept far s t h len place sound here first objects memory versions =
             sound.placed.placed k n p (subst (λ (o : Object). LiesAt o n p) (at k) lies);
         named = λ f slot k span there taken. let x =
             sound.placed.named f slot k span there taken in
-            record { len = x.len; lies =
-            subst (λ (o : Object).
-            LiesAt o x.len (slot_place span.class f slot)) (sym (at k)) x.lies };
+            record {
+              len = x.len;
+              lies =
+                  subst (λ (o : Object).
+                  LiesAt o x.len (slot_place span.class f slot)) (sym (at k)) x.lies;
+            };
       };
     }
   where
@@ -113,23 +120,33 @@ sound_kept far s t h len place sound here first objects memory versions =
 -- what is known once the object is claimed after some looks
 abbrev pub claimed_from : Shown → List Bool → ℕ → ℕ → ℕ → List ℕ → Shown
 claimed_from s hots h w v words =
-    record s { objects = set s.objects h (is.Claimed (len_of w) (place_of w) v words); hots =
-    set hots h (hot_of w); versions = set s.versions h v; memory = put s.memory (place_of w) words }
+    record s {
+      objects = set s.objects h (is.Claimed (len_of w) (place_of w) v words);
+      hots =
+          set hots h (hot_of w);
+      versions = set s.versions h v;
+      memory = put s.memory (place_of w) words;
+    }
 
 pub claim_played : (s : Shown) (before : List Event) (h w v : ℕ) (words : List ℕ)
     → AreLooks h before → Agree s (before ++ Claimed h w v words ∷ [])
     → (hots : List Bool)
-        × (played (before ++ Claimed h w v words ∷ []) s ≡ claimed_from s hots h w v words)
-        × (object_at s h ≡ is.Here (len_of w) (place_of w)) × (w < 2 ^ 53)
-        × (length words ≡ words_for (len_of w))
+    × (played (before ++ Claimed h w v words ∷ []) s ≡ claimed_from s hots h w v words)
+    × (object_at s h ≡ is.Here (len_of w) (place_of w)) × (w < 2 ^ 53)
+    × (length words ≡ words_for (len_of w))
 claim_played s before h w v words looks agree =
     let x = looks_played h before s looks in
     let a : Agrees (record s { hots = x.0 }) (Claimed h w v words) =
-        subst (λ (t : Shown).
-        Agrees t (Claimed h w v words)) x.2 (agree_last before (Claimed h w v words ∷ []) s agree).0
-        in
-    (x.0, played_append before (Claimed h w v words ∷ []) s
-        ∙ ap (after (Claimed h w v words)) x.2, a.0, a.2, a.3)
+    subst (λ (t : Shown).
+    Agrees t (Claimed h w v words)) x.2 (agree_last before (Claimed h w v words ∷ []) s agree).0
+    in (
+      x.0,
+      played_append before (Claimed h w v words ∷ []) s
+          ∙ ap (after (Claimed h w v words)) x.2,
+      a.0,
+      a.2,
+      a.3,
+    )
 
 -- an object that was claimed and settled where it was is what it was
 pub set_back : (objects : List Object) (h : ℕ) (o : Object) (len place : ℕ)

@@ -36,15 +36,15 @@ pub put_away_now : (s t : Shown) (far new : FarState) (id : ℕ) (set : SetState
     (rows : List (List ℕ)) (h position slot len v place : ℕ) (words : List ℕ)
     → IsSetAdded s t far new id set rows
     → home_at new.homes h ≡ Some (record { set = id; position = position; slot = slot })
-        → object_at s h ≡ is.Claimed len place v words → object_at t h ≡ is.Far len v words
-        → now t new h ≡ now s far h
+    → object_at s h ≡ is.Claimed len place v words → object_at t h ≡ is.Far len v words
+    → now t new h ≡ now s far h
 put_away_now s t far new id set rows h position slot len v place words x home before after =
     let e : is_gone new h ≡ false = ap (broken_home new) home ∙ ap (broken_set new.members) x.added
-        ∙ ap (λ (m : Membership). is_broken m set) x.members
-      ∙ le-ltb (parities set) (length (lost far.members set.shards)) (let z =
-          none_lost far.members set.shards x.up in omega (arith, z)) in
+    ∙ ap (λ (m : Membership). is_broken m set) x.members
+    ∙ le-ltb (parities set) (length (lost far.members set.shards)) (let z =
+    none_lost far.members set.shards x.up in omega (arith, z)) in
     ap (now_as t h (is_gone new h)) after ∙ ap (λ (b : Bool). now_as t h b (is.Far len v words)) e
-        ∙ sym (ap (now_as s h (is_gone far h)) before)
+    ∙ sym (ap (now_as s h (is_gone far h)) before)
 
 -- `now` of an object that is brought back
 pub brought_now : (s t : Shown) (far new : FarState) (h len v place : ℕ) (words : List ℕ)
@@ -52,7 +52,7 @@ pub brought_now : (s t : Shown) (far new : FarState) (h len v place : ℕ) (word
     → version_at t h ≡ v → window t.memory place (words_for len) ≡ words → now t new h ≡ now s far h
 brought_now s t far new h len v place words before whole after stamp contents =
     ap (now_as t h (is_gone new h)) after
-        ∙ ap (λ (n : ℕ). held n (bytes_in (window t.memory place (words_for len)) len)) stamp
-        ∙ ap (λ (l : List ℕ). held v (bytes_in l len)) contents
+    ∙ ap (λ (n : ℕ). held n (bytes_in (window t.memory place (words_for len)) len)) stamp
+    ∙ ap (λ (l : List ℕ). held v (bytes_in l len)) contents
     ∙ sym (ap (now_as s h (is_gone far h)) before
-        ∙ ap (λ (b : Bool). now_as s h b (is.Far len v words)) whole)
+    ∙ ap (λ (b : Bool). now_as s h b (is.Far len v words)) whole)

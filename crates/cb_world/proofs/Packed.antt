@@ -25,7 +25,7 @@ pub packed_write : (len at : ℕ) (old bytes new : List ℕ) → IsPacked len ol
     → IsWrite old at bytes new → at + length bytes ≤ len → IsPacked len new
 packed_write len at old bytes new packed w inside p past below =
     let n = w.sized in w.outside p (omega arith) (inr (omega (arith, inside, past)))
-        ∙ packed p past (omega arith)
+    ∙ packed p past (omega arith)
 
 -- the last complete contents are packed
 abbrev pub HasPacked : Object → Type 0
@@ -47,12 +47,12 @@ pub contents_packed : (s : Shown) (h w len v : ℕ) (words : List ℕ) → HasCo
 contents_packed s h w len v words m k =
     subst (λ (n : ℕ). IsPacked n (window s.memory (place_of w) (words_for n))) (sym m.0)
     (⊎_elim (λ (a : (version_at s h ≡ v)
-        × (window s.memory (place_of w) (words_for len) ≡ words)). subst (IsPacked len) (sym a.1) k)
+    × (window s.memory (place_of w) (words_for len) ≡ words)). subst (IsPacked len) (sym a.1) k)
     (λ (a : (version_at s h ≡ v + 1)
-        × ((at : ℕ) × (bytes : List ℕ) × (at + length bytes ≤ len)
-        × IsWrite words at bytes (window s.memory (place_of w) (words_for len)))).
-      packed_write len a.1.0 words a.1.1 (window s.memory (place_of w) (words_for len)) k a.1.3
-          a.1.2) m.1)
+    × ((at : ℕ) × (bytes : List ℕ) × (at + length bytes ≤ len)
+    × IsWrite words at bytes (window s.memory (place_of w) (words_for len)))).
+    packed_write len a.1.0 words a.1.1 (window s.memory (place_of w) (words_for len)) k a.1.3
+    a.1.2) m.1)
 
 -- what is brought is packed
 pub brought : (s : Shown) (h w : ℕ) (o : Object) → MayBring s h w o → HasPacked o
@@ -93,7 +93,7 @@ here_set : (x : Words) (h w : ℕ) → h < length x.words → (state_of w ≡ wo
     → ((k : ℕ) → k < length x.words → state_of (get_or x.words k 0) ≡ word.Here
     → PackedAt x (get_or x.words k 0))
     → (k : ℕ) → k < length (set x.words h w) → state_of (get_or (set x.words h w) k 0) ≡ word.Here
-        → PackedAt x (get_or (set x.words h w) k 0)
+    → PackedAt x (get_or (set x.words h w) k 0)
 here_set x h w within p all k below here = elim (ℕ_discrete k h) [
   | yes e ↦ let at : get_or (set x.words h w) k 0 ≡ w =
       ap (λ (j : ℕ). get_or (set x.words h w) j 0) e
@@ -114,27 +114,32 @@ pub packed_kept : (es : List Event) (x y : Words) (s : Shown) → Plain x es y �
     → Allowed s es → ArePacked x s → ArePacked y (played es s)
 packed_kept [] x y s run shows ok p = subst (λ (z : Words). ArePacked z s) (sym run) p
 packed_kept (Looked h w ∷ es) x y s run shows ok p =
-    packed_kept es x y (after (Looked h w) s) run.1 (plain_follows (Looked h w ∷ []) x x s (run.0,
-    refl) shows).1 ok.1 (record { here = p.here; told = p.told })
+    packed_kept es x y (after (Looked h w) s) run.1 (plain_follows (Looked h w ∷ []) x x s (
+      run.0,
+      refl,
+    ) shows).1 ok.1 (record { here = p.here; told = p.told })
 packed_kept (Told h v ∷ es) x y s run shows ok p = packed_kept es x y s run.1 shows ok.1 p
 packed_kept (Loaded q u ∷ es) x y s run shows ok p = packed_kept es x y s run.1 shows ok.1 p
 packed_kept (Stamped h v ∷ es) x y s run shows ok p = let z : Words =
     record x { versions = set x.versions h v } in
     packed_kept es z y (after (Stamped h v) s) run
-        (plain_follows (Stamped h v ∷ []) x z s refl shows).1 ok.1 (record { here = p.here; told =
-        p.told })
+    (plain_follows (Stamped h v ∷ []) x z s refl shows).1 ok.1 (record {
+      here = p.here;
+      told =
+          p.told;
+    })
 packed_kept (Stored q u ∷ es) x y s run shows ok p = let z : Words =
     record x { memory = set x.memory q u } in
     packed_kept es z y (after (Stored q u) s) run
-        (plain_follows (Stored q u ∷ []) x z s refl shows).1 ok.1 (record {
+    (plain_follows (Stored q u ∷ []) x z s refl shows).1 ok.1 (record {
       here = λ h l e. let w : ℕ = get_or x.words h 0 in
           let spared = subst (Spares q) (here_is (object_at s h) w (shows.fit h l) e) (ok.0.1 h) in
           let same : window (set x.memory q u) (place_of w) (words_for (len_of w)) ≡ window x.memory
-              (place_of w) (words_for (len_of w)) =
-              window_same (set x.memory q u) x.memory (place_of w) (words_for (len_of w))
-            (λ i low high.
-                get_or-set_other x.memory q i u 0 (λ z.
-                spared (subst (Covers (place_of w) (len_of w)) z (low, high)))) in
+          (place_of w) (words_for (len_of w)) =
+          window_same (set x.memory q u) x.memory (place_of w) (words_for (len_of w))
+          (λ i low high.
+          get_or-set_other x.memory q i u 0 (λ z.
+          spared (subst (Covers (place_of w) (len_of w)) z (low, high)))) in
           subst (IsPacked (len_of w)) (sym same) (p.here h l e);
       told = p.told;
     })
@@ -142,10 +147,10 @@ packed_kept (Claimed h w v xs ∷ es) x y s run shows ok p = let z : Words =
     record x { words = set x.words h (w + 1) } in let b = run.0 in
     let moved : Claims w (w + 1) = claims w b.here b.no_pins in
     let mine : IsPacked (len_of w) xs =
-        subst (IsPacked (len_of w)) (sym b.contents)
-        (subst (PackedAt x) b.found (p.here h b.within (ap state_of b.found ∙ b.here))) in
+    subst (IsPacked (len_of w)) (sym b.contents)
+    (subst (PackedAt x) b.found (p.here h b.within (ap state_of b.found ∙ b.here))) in
     packed_kept es z y (after (Claimed h w v xs) s) run.1
-        (plain_follows (Claimed h w v xs ∷ []) x z s (run.0, refl) shows).1 ok.1 (record {
+    (plain_follows (Claimed h w v xs ∷ []) x z s (run.0, refl) shows).1 ok.1 (record {
       here = here_set x h (w + 1) b.within (λ e.
           absurd (let m = bits_moving (w + 1) moved.state in let n =
           bits_here (w + 1) e in omega (arith, m, n))) p.here;
@@ -153,8 +158,10 @@ packed_kept (Claimed h w v xs ∷ es) x y s run shows ok p = let z : Words =
     })
 packed_kept (Settled h w ∷ es) x y s run shows ok p = let z : Words =
     record x { words = set x.words h w } in
-    packed_kept es z y (after (Settled h w) s) run.1 (plain_follows (Settled h w ∷ []) x z s (run.0,
-        refl) shows).1 ok.1 (record {
+    packed_kept es z y (after (Settled h w) s) run.1 (plain_follows (Settled h w ∷ []) x z s (
+      run.0,
+      refl,
+    ) shows).1 ok.1 (record {
       here = here_set x h w run.0.0 (λ e.
           subst (λ (l : List ℕ).
           IsPacked (len_of w) (window l (place_of w) (words_for (len_of w)))) shows.memory

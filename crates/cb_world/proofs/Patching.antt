@@ -54,12 +54,12 @@ join_is_merged far pair a b wa wb m j f xa xb x = record {
         let d : Shard = record { node = record { n = 0 }; incarnation = 0; key = 0 } in
         let at = slice_get-get_or pair.shards_b i d (omega (arith, l, j.b_count)) in
         row_same (row_at m i) (row_at wb i) (sym (x.b_rows i (get_or pair.shards_b i d) l t at)
-            ∙ b_row far pair a b wb f xb i (get_or pair.shards_b i d) at)
+        ∙ b_row far pair a b wb f xb i (get_or pair.shards_b i d) at)
     by_flag i l false t =
         let d : Shard = record { node = record { n = 0 }; incarnation = 0; key = 0 } in
         let at = slice_get-get_or pair.shards_a i d (omega (arith, l, j.a_count)) in
         row_same (row_at m i) (row_at wa i) (sym (x.a_rows i (get_or pair.shards_a i d) l t at)
-            ∙ a_row far pair a b wa f xa i (get_or pair.shards_a i d) at)
+        ∙ a_row far pair a b wa f xa i (get_or pair.shards_a i d) at)
 
 -- the words of the pair's sets are words of the pair's code
 pub two_words : (far : FarState) (pair : JoiningState) (a b : SetState)
@@ -72,12 +72,20 @@ two_words far pair a b table wa wb j f c xa xb =
       range = j.range;
       coefficients = c;
       a_word = subst (λ (r : ℕ).
-          IsSpanWord j.k r wa) (omega (arith, fit.a_count, j.a_count,
-          ap length f.a_shards)) (subst (λ (k : ℕ).
+          IsSpanWord j.k r wa) (omega (
+            arith,
+            fit.a_count,
+            j.a_count,
+            ap length f.a_shards,
+          )) (subst (λ (k : ℕ).
           IsSpanWord k (parities a) wa) fit.a_count xa.code);
       b_word = subst (λ (r : ℕ).
-          IsSpanWord j.k r wb) (omega (arith, fit.b_count, j.b_count,
-          ap length f.b_shards)) (subst (λ (k : ℕ).
+          IsSpanWord j.k r wb) (omega (
+            arith,
+            fit.b_count,
+            j.b_count,
+            ap length f.b_shards,
+          )) (subst (λ (k : ℕ).
           IsSpanWord k (parities b) wb) fit.b_count xb.code);
     }
 
@@ -87,10 +95,10 @@ pub parity_step : (far : FarState) (pair : JoiningState) (a b : SetState)
     → AreCoefficients j.k j.r table → IsWordOf far.nodes far.members a wa
     → IsWordOf far.nodes far.members b wb
     → IsJoinWord far pair j.k j.r m → (e : ℕ) → e < j.r
-        → patched (row_at table e) wa wb (row_at wa (j.k + e)) pair.taken ≡ row_at m (j.k + e)
+    → patched (row_at table e) wa wb (row_at wa (j.k + e)) pair.taken ≡ row_at m (j.k + e)
 parity_step far pair a b table wa wb m j f c xa xb x e l =
     merged_parity j.k j.r table wa wb m pair.taken (two_words far pair a b table wa wb j f c xa xb)
-        j.taken (join_is_merged far pair a b wa wb m j f xa xb x) e l
+    j.taken (join_is_merged far pair a b wa wb m j f xa xb x) e l
 
 -- the loop over the deltas: one more
 patched_append : (factors : List ℕ) (a b : List (List ℕ)) (row : List ℕ) (taken : List ℕ) (i : ℕ)
@@ -104,8 +112,8 @@ patched_append factors a b row (q ∷ taken) i =
 pub patched_more : (factors : List ℕ) (a b : List (List ℕ)) (row : List ℕ) (taken : List ℕ) (t : ℕ)
     → t < length taken
     → patched factors a b row (take (t + 1) taken) ≡ row_sum
-        (patched factors a b row (take t taken))
-        (scaled_row (get_or factors (get_or taken t 0) 0)
-        (row_sum (row_at a (get_or taken t 0)) (row_at b (get_or taken t 0))))
+    (patched factors a b row (take t taken))
+    (scaled_row (get_or factors (get_or taken t 0) 0)
+    (row_sum (row_at a (get_or taken t 0)) (row_at b (get_or taken t 0))))
 patched_more factors a b row taken t l = ap (patched factors a b row) (take_more taken t 0 l)
     ∙ patched_append factors a b row (take t taken) (get_or taken t 0)

@@ -27,15 +27,15 @@ shard_else shards p q shard other off at =
     let n = length-set shards p shard in
     let l = slice_get_within (set shards p shard) q other at in
     slice_get-get_or shards q shard (omega (arith, n, l))
-        ∙ ap Some (sym (get_or-set_other shards p q shard shard off)
-        ∙ get_or_from_slice_get (set shards p shard) q other shard at)
+    ∙ ap Some (sym (get_or-set_other shards p q shard shard off)
+    ∙ get_or_from_slice_get (set shards p shard) q other shard at)
 
 -- the set keeps its word where the row of the word is put for one of its positions, under a key
 -- that the set does not name
 pub rebuilt_word : (nodes : NodesState) (m : Membership) (set : SetState) (rows : List (List ℕ))
     (p : ℕ) (shard : Shard) → p < length set.shards → shard.node.n < length nodes.nodes
     → ((q : ℕ) (other : Shard) → slice_get set.shards q ≡ Some other → other.key ≢ shard.key)
-        → IsWordOf nodes m set rows
+    → IsWordOf nodes m set rows
     → IsWordOf (with_row nodes shard.node shard.key (row_at rows p)) m (with_shard set p shard) rows
 rebuilt_word nodes m set rows p shard within node fresh word =
     let n = length-set set.shards p shard in
@@ -45,15 +45,15 @@ rebuilt_word nodes m set rows p shard within node fresh word =
       survive = λ q other at kept. elim (cases_eq q p) [
         | inl here ↦
             let e = shard_same shard other (sym (shard_here set.shards p shard within)
-                ∙ ap (slice_get (with_shard set p shard).shards) (sym here) ∙ at) in
+            ∙ ap (slice_get (with_shard set p shard).shards) (sym here) ∙ at) in
             subst (λ (s : Shard).
-                row_under (with_row nodes shard.node shard.key (row_at rows p)) s.node s.key ≡ Some
-                (row_at rows q)) e
+            row_under (with_row nodes shard.node shard.key (row_at rows p)) s.node s.key ≡ Some
+            (row_at rows q)) e
             (row_is_put nodes shard.node shard.key (row_at rows p) node
-                ∙ ap (λ (k : ℕ). Some (row_at rows k)) (sym here))
+            ∙ ap (λ (k : ℕ). Some (row_at rows k)) (sym here))
         | inr off ↦
             let was = shard_else set.shards p q shard other off at in
             put_keeps_other_rows nodes shard.node other.node shard.key other.key (row_at rows p)
-                node (λ same. fresh q other was same.1) ∙ word.survive q other was kept
+            node (λ same. fresh q other was same.1) ∙ word.survive q other was kept
       ];
     }

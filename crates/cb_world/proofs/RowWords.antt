@@ -20,14 +20,14 @@ unfolding words_from
 words_of_row [] small = refl
 words_of_row (w ∷ ws) small =
     let t : take 8 (to_le_bytes w64 w ++ row_of ws) ≡ to_le_bytes w64 w =
-        take_at (to_le_bytes w64 w) (row_of ws) 8 refl in
+    take_at (to_le_bytes w64 w) (row_of ws) 8 refl in
     let d : drop 8 (to_le_bytes w64 w ++ row_of ws) ≡ row_of ws =
-        drop_at (to_le_bytes w64 w) (row_of ws) 8 refl in
+    drop_at (to_le_bytes w64 w) (row_of ws) 8 refl in
     ap (λ (b : List ℕ).
-        from_le_bytes w64 b ∷ words_from (length ws) (drop 8 (to_le_bytes w64 w ++ row_of ws))) t
+    from_le_bytes w64 b ∷ words_from (length ws) (drop 8 (to_le_bytes w64 w ++ row_of ws))) t
     ∙ ap (λ (x : ℕ).
-        x ∷ words_from (length ws) (drop 8 (to_le_bytes w64 w ++ row_of ws)))
-        (from_le_bytes-to_le_bytes_8 w (small 0 (omega arith)))
+    x ∷ words_from (length ws) (drop 8 (to_le_bytes w64 w ++ row_of ws)))
+    (from_le_bytes-to_le_bytes_8 w (small 0 (omega arith)))
     ∙ ap (λ (b : List ℕ). w ∷ words_from (length ws) b) d
     ∙ ap (λ (l : List ℕ). w ∷ l) (words_of_row ws (λ i l. small (suc i) (omega (arith, l))))
 
@@ -40,12 +40,12 @@ windows_agree xs ys p q (suc n) same =
     let a : p + 0 ≡ p = omega arith in
     let b : q + 0 ≡ q = omega arith in
     ap (λ (x : ℕ). x ∷ window xs (p + 1) n) (sym (ap (λ (k : ℕ). get_or xs k 0) a)
-        ∙ same 0 (omega arith) ∙ ap (λ (k : ℕ). get_or ys k 0) b)
+    ∙ same 0 (omega arith) ∙ ap (λ (k : ℕ). get_or ys k 0) b)
     ∙ ap (λ (l : List ℕ). get_or ys q 0 ∷ l) (windows_agree xs ys (p + 1) (q + 1) n (λ i l.
-      let c : (p + 1) + i ≡ p + suc i = omega arith in
-      let d : q + suc i ≡ (q + 1) + i = omega arith in
-      ap (λ (k : ℕ). get_or xs k 0) c ∙ same (suc i) (omega (arith, l))
-          ∙ ap (λ (k : ℕ). get_or ys k 0) d))
+    let c : (p + 1) + i ≡ p + suc i = omega arith in
+    let d : q + suc i ≡ (q + 1) + i = omega arith in
+    ap (λ (k : ℕ). get_or xs k 0) c ∙ same (suc i) (omega (arith, l))
+    ∙ ap (λ (k : ℕ). get_or ys k 0) d))
 
 -- lemma (iii): the words of a row put into a frame give each slot's words back
 pub row_put : (ms row : List ℕ) (base at n : ℕ) → base + 512 ≤ length ms → at + n ≤ 512
@@ -55,8 +55,11 @@ row_put ms row base at n room within =
     let w = length_words 512 row in
     let e : (base + at) + i ≡ base + (at + i) = omega arith in
     ap (λ (k : ℕ). get_or (put ms base (words_in row)) k 0) e
-        ∙ put_at ms base (words_in row) (at + i) (omega (arith, w, l, within)) (omega (arith, w,
-        room)))
+    ∙ put_at ms base (words_in row) (at + i) (omega (arith, w, l, within)) (omega (
+      arith,
+      w,
+      room,
+    )))
 
 -- for an eviction: the row made of a frame has in each slot the words that stand there
 pub row_made : (ms : List ℕ) (base at n : ℕ) → ((i : ℕ) → get_or ms i 0 < 2 ^ 64) → at + n ≤ 512
@@ -64,12 +67,12 @@ pub row_made : (ms : List ℕ) (base at n : ℕ) → ((i : ℕ) → get_or ms i 
 row_made ms base at n small within =
     let count : length (window ms base 512) ≡ 512 = window_length ms base 512 in
     let e : words_in (row_of (window ms base 512)) ≡ window ms base 512 =
-      ap (λ (k : ℕ). words_from k (row_of (window ms base 512))) (sym count)
-          ∙ words_of_row (window ms base 512) (λ i l. let s =
-          window_at ms base 512 i (omega (arith, l, count)) in let t =
-          small (base + i) in omega (arith, s, t)) in
+    ap (λ (k : ℕ). words_from k (row_of (window ms base 512))) (sym count)
+    ∙ words_of_row (window ms base 512) (λ i l. let s =
+    window_at ms base 512 i (omega (arith, l, count)) in let t =
+    small (base + i) in omega (arith, s, t)) in
     windows_agree (words_in (row_of (window ms base 512))) ms at (base + at) n (λ i l.
-      let a : base + (at + i) ≡ (base + at) + i = omega arith in
-      ap (λ (l : List ℕ). get_or l (at + i) 0) e
-          ∙ window_at ms base 512 (at + i) (omega (arith, l, within))
-          ∙ ap (λ (k : ℕ). get_or ms k 0) a)
+    let a : base + (at + i) ≡ (base + at) + i = omega arith in
+    ap (λ (l : List ℕ). get_or l (at + i) 0) e
+    ∙ window_at ms base 512 (at + i) (omega (arith, l, within))
+    ∙ ap (λ (k : ℕ). get_or ms k 0) a)

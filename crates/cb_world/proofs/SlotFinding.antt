@@ -23,15 +23,15 @@ pub frame_is : (frames : List Bool) (spans : List (Option Contents)) (place f sl
     (span : Contents) → IsSlotAt frames spans place f slot span → frame ≡ frame_of place → frame ≡ f
 frame_is frames spans place f slot frame span x e = e ∙ ap frame_of x.at
     ∙ frame_of-slot_place span.class f slot x.valid.in_table
-      (subst (λ (n : ℕ). slot < n) x.valid.sized x.inside)
+    (subst (λ (n : ℕ). slot < n) x.valid.sized x.inside)
 
 pub class_is : (frames : List Bool) (spans : List (Option Contents)) (place f slot frame : ℕ)
     (span : Contents) (class : Class) → IsSlotAt frames spans place f slot span
     → IsFoundAt spans place frame class → class ≡ span.class
 class_is frames spans place f slot frame span class x found =
     one_class class span.class (sym found.classed
-      ∙ ap (class_in spans) (frame_is frames spans place f slot frame span x found.framed)
-      ∙ ap class_of x.there)
+    ∙ ap (class_in spans) (frame_is frames spans place f slot frame span x found.framed)
+    ∙ ap class_of x.there)
 
 pub slot_is : (frames : List Bool) (spans : List (Option Contents)) (place f slot frame q : ℕ)
     (span : Contents) (class : Class) → IsSlotAt frames spans place f slot span
@@ -39,36 +39,38 @@ pub slot_is : (frames : List Bool) (spans : List (Option Contents)) (place f slo
 slot_is frames spans place f slot frame q span class x found e =
     let same = class_is frames spans place f slot frame span class x found in
     e ∙ ap (λ (k : Class). slot_of k place) same ∙ ap (slot_of span.class) x.at
-      ∙ slot_of-slot_place span.class f slot x.valid.in_table
-        (subst (λ (n : ℕ). slot < n) x.valid.sized x.inside)
+    ∙ slot_of-slot_place span.class f slot x.valid.in_table
+    (subst (λ (n : ℕ). slot < n) x.valid.sized x.inside)
 
 pub known_class : (frames : List Bool) (spans : List (Option Contents)) (place f slot frame : ℕ)
     (span : Contents) (class : Class) → IsSlotAt frames spans place f slot span
     → IsFoundAt spans place frame class → IsClass class
 known_class frames spans place f slot frame span class x found =
     subst IsClass (sym (class_is frames spans place f slot frame span class x found))
-      x.valid.in_table
+    x.valid.in_table
 
 -- what is left where the slot had the last object of its span, and where it had not
 pub left_last : (frames : List Bool) (spans : List (Option Contents)) (f slot frame q : ℕ)
     (span : Contents) → frame ≡ f → q ≡ slot → is_last span q ≡ true
     → (set (set spans frame (Some (with_cleared span q))) frame None ≡ spans_without spans f slot span)
-      × (with_given frames frame ≡ frames_without frames f slot span)
+    × (with_given frames frame ≡ frames_without frames f slot span)
 left_last frames spans f slot frame q span here there last =
-    let e : is_last span slot ≡ true = ap (is_last span) (sym there) ∙ last in
-    (set-set spans frame (Some (with_cleared span q)) None
-      ∙ ap (λ (i : ℕ). set spans i None) here
-      ∙ ap (λ (b : Bool). set spans f (if b then None else Some (with_cleared span slot))) (sym e),
-    ap (with_given frames) here
-      ∙ ap (λ (b : Bool). if b then with_given frames f else frames) (sym e))
+    let e : is_last span slot ≡ true = ap (is_last span) (sym there) ∙ last in (
+      set-set spans frame (Some (with_cleared span q)) None
+          ∙ ap (λ (i : ℕ). set spans i None) here
+          ∙ ap (λ (b : Bool). set spans f (if b then None else Some (with_cleared span slot))) (sym e),
+      ap (with_given frames) here
+          ∙ ap (λ (b : Bool). if b then with_given frames f else frames) (sym e),
+    )
 
 pub left_more : (frames : List Bool) (spans : List (Option Contents)) (f slot frame q : ℕ)
     (span : Contents) → frame ≡ f → q ≡ slot → is_last span q ≡ false
     → (set spans frame (Some (with_cleared span q)) ≡ spans_without spans f slot span)
-      × (frames ≡ frames_without frames f slot span)
+    × (frames ≡ frames_without frames f slot span)
 left_more frames spans f slot frame q span here there more =
-    let e : is_last span slot ≡ false = ap (is_last span) (sym there) ∙ more in
-    (ap (λ (i : ℕ). set spans i (Some (with_cleared span q))) here
-      ∙ ap (λ (i : ℕ). set spans f (Some (with_cleared span i))) there
-      ∙ ap (λ (b : Bool). set spans f (if b then None else Some (with_cleared span slot))) (sym e),
-    ap (λ (b : Bool). if b then with_given frames f else frames) (sym e))
+    let e : is_last span slot ≡ false = ap (is_last span) (sym there) ∙ more in (
+      ap (λ (i : ℕ). set spans i (Some (with_cleared span q))) here
+          ∙ ap (λ (i : ℕ). set spans f (Some (with_cleared span i))) there
+          ∙ ap (λ (b : Bool). set spans f (if b then None else Some (with_cleared span slot))) (sym e),
+      ap (λ (b : Bool). if b then with_given frames f else frames) (sym e),
+    )

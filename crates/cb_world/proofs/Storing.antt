@@ -37,9 +37,9 @@ put_elsewhere nodes [] rows node key range none = refl
 put_elsewhere nodes (x ∷ xs) [] node key range none = refl
 put_elsewhere nodes (x ∷ xs) (row ∷ rows) node key range none =
     put_elsewhere (with_row nodes x.node x.key row) xs rows node key
-        (later_range nodes x xs _ range) (λ p shard at. none (suc p) shard at)
+    (later_range nodes x xs _ range) (λ p shard at. none (suc p) shard at)
     ∙ put_keeps_other_rows nodes x.node node x.key key row (range 0 x refl) (λ same.
-        none 0 x refl (sym same.1))
+    none 0 x refl (sym same.1))
 
 -- each row stands at its node under its key
 pub put_there : (nodes : NodesState) (shards : List Shard) (rows : List (List ℕ)) (p : ℕ)
@@ -54,16 +54,16 @@ put_there nodes (x ∷ xs) [] p shard range apart same at = absurd (omega (arith
 put_there nodes (x ∷ xs) (row ∷ rows) zero shard range apart same at =
     let is : x ≡ shard = some_same at in
     subst (λ (s : Shard).
-        row_under (all_put (with_row nodes x.node x.key row) xs rows) s.node s.key ≡ Some row) is
+    row_under (all_put (with_row nodes x.node x.key row) xs rows) s.node s.key ≡ Some row) is
     (put_elsewhere (with_row nodes x.node x.key row) xs rows x.node x.key
-        (later_range nodes x xs _ range) apart.0
-        ∙ row_is_put nodes x.node x.key row (range 0 x refl))
+    (later_range nodes x xs _ range) apart.0
+    ∙ row_is_put nodes x.node x.key row (range 0 x refl))
   where
     some_same : Some x ≡ Some shard → x ≡ shard
     some_same e = cc
 put_there nodes (x ∷ xs) (row ∷ rows) (suc p) shard range apart same at =
     put_there (with_row nodes x.node x.key row) xs rows p shard (later_range nodes x xs _ range)
-        apart.1 (omega (arith, same)) at
+    apart.1 (omega (arith, same)) at
 
 eq_by_cmp-other : (q k : ℕ) → q ≢ k → eq_by_cmp nat_cmp q k ≡ false
 eq_by_cmp-other q k other = grind (arith, nat_tests)
@@ -89,8 +89,8 @@ drop_keeps_other_rows state node other key k within apart = elim (cases_eq other
       ∙ ap (λ rows. map.get rows k) (change_is_at_its_node state node _ within)
       ∙ map.get-remove nat_cmp_total (rows_at state node) key k
       ∙ ap (λ b.
-          cond b None (map.get (rows_at state node) k)) (eq_by_cmp-other k key (λ same.
-          apart (here, same)))
+      cond b None (map.get (rows_at state node) k)) (eq_by_cmp-other k key (λ same.
+      apart (here, same)))
       ∙ ap (λ (n : ℕ). map.get (get_or state.nodes n map.empty) k) (sym here)
   | inr off ↦ ap (λ rows. map.get rows k) (change_keeps_other_nodes state node other _ off)
 ]
@@ -111,6 +111,6 @@ pub drop_elsewhere : (nodes : NodesState) (shards : List Shard) (node : NodeId) 
 drop_elsewhere nodes [] node key range none = refl
 drop_elsewhere nodes (x ∷ xs) node key range none =
     drop_elsewhere (with_dropped nodes x.node x.key) xs node key (later_range nodes x xs _ range)
-        (λ p shard at. none (suc p) shard at)
+    (λ p shard at. none (suc p) shard at)
     ∙ drop_keeps_other_rows nodes x.node node x.key key (range 0 x refl) (λ same.
-        none 0 x refl (sym same.1))
+    none 0 x refl (sym same.1))

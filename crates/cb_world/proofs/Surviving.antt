@@ -26,7 +26,7 @@ count_surviving m p (x ∷ xs) =
   where
     step : (o : Option Loss) (rest : List ℕ) → length rest + length (lost m xs) ≡ length xs
         → length (if is_some o then rest else p ∷ rest) + length (cons_option o (lost m xs)) ≡
-            length (x ∷ xs)
+        length (x ∷ xs)
     step None rest e = omega (arith, e)
     step (Some loss) rest e = omega (arith, e)
 
@@ -41,16 +41,22 @@ pub record Survives (m : Membership) (first : ℕ) (shards : List Shard) (q : �
 survives_later : (m : Membership) (p : ℕ) (x : Shard) (xs : List Shard) (q : ℕ)
     → Survives m (p + 1) xs q → Survives m p (x ∷ xs) q
 survives_later m p x xs q s =
-    record { shard = s.shard; at = suc s.at; place = omega (arith, s.place); there = s.there; kept =
-    s.kept }
+    record {
+      shard = s.shard;
+      at = suc s.at;
+      place = omega (arith, s.place);
+      there = s.there;
+      kept =
+          s.kept;
+    }
 
 survives_step : (m : Membership) (p : ℕ) (x : Shard) (xs : List Shard)
     → ((i : ℕ) → i < length (surviving_from m (p + 1) xs)
     → Survives m (p + 1) xs (get_or (surviving_from m (p + 1) xs) i 0)) → (b : Bool)
     → is_lost m x ≡ b
     → (j : ℕ) → j < length (cond b (surviving_from m (p + 1) xs) (p ∷ surviving_from m (p + 1) xs))
-        → Survives m p (x ∷ xs)
-        (get_or (cond b (surviving_from m (p + 1) xs) (p ∷ surviving_from m (p + 1) xs)) j 0)
+    → Survives m p (x ∷ xs)
+    (get_or (cond b (surviving_from m (p + 1) xs) (p ∷ surviving_from m (p + 1) xs)) j 0)
 survives_step m p x xs later true e j l = survives_later m p x xs _ (later j l)
 survives_step m p x xs later false e zero l =
     record { shard = x; at = 0; place = omega arith; there = refl; kept = e }
@@ -72,7 +78,7 @@ increasing_step p rest later least false zero l = least (omega (arith, l))
 increasing_step p rest later least false (suc j) l =
     let n : suc j + 1 ≡ suc (j + 1) = omega arith in
     let e : get_or (p ∷ rest) (suc j + 1) 0 ≡ get_or rest (j + 1) 0 =
-        ap (λ (n : ℕ). get_or (p ∷ rest) n 0) n in
+    ap (λ (n : ℕ). get_or (p ∷ rest) n 0) n in
     omega (arith, e, later j (omega (arith, l)))
 
 pub increasing : (m : Membership) (p : ℕ) (shards : List Shard)
@@ -87,19 +93,19 @@ pub are_positions : (m : Membership) (shards : List Shard) (k n : ℕ) → lengt
     → k + length (lost m shards) ≤ n → ArePositions n k (take k (surviving m shards))
 are_positions m shards k n count few =
     let enough : k ≤ length (surviving m shards) =
-        omega (arith, count_surviving m 0 shards, count, few) in
+    omega (arith, count_surviving m 0 shards, count, few) in
     let taken : length (take k (surviving m shards)) ≡ k =
-        length-take-le k (surviving m shards) enough in
+    length-take-le k (surviving m shards) enough in
     record {
       count = taken;
       ascend = λ i l. let a =
           get_or-take k (surviving m shards) i 0 (omega (arith, l, taken)) in let b =
           get_or-take k (surviving m shards) (i + 1) 0 (omega (arith, l, taken)) in
           let c = increasing m 0 shards i (omega (arith, l, taken, enough)) in
-              omega (arith, a, b, c);
+          omega (arith, a, b, c);
       below = λ i d l. let s = survives m 0 shards i (omega (arith, l, taken, enough)) in
           let a = get_or_default (take k (surviving m shards)) i d 0 l in let b =
-              get_or-take k (surviving m shards) i 0 (omega (arith, l, taken)) in
+          get_or-take k (surviving m shards) i 0 (omega (arith, l, taken)) in
           let w = slice_get_within shards s.at s.shard s.there in
           omega (arith, a, b, s.place, w, count);
     }
@@ -116,6 +122,7 @@ taken_survives m shards k i l =
     fewer : (m : Membership) (shards : List Shard) (k i : ℕ)
         → i < length (take k (surviving m shards)) → i < k
     fewer m shards k i l = omega (arith, l, length-take k (surviving m shards))
+
     longer : (m : Membership) (shards : List Shard) (k i : ℕ)
         → i < length (take k (surviving m shards)) → i < length (surviving m shards)
     longer m shards k i l = omega (arith, l, length-take k (surviving m shards))
@@ -136,14 +143,17 @@ one_word nodes m set a b shaped few one other =
     let k = length set.positions in let r = parities set in
     let all = counted m set shaped in
     let range = shaped.range in
-    agreeing_words_are_equal k r a b (take k (surviving m set.shards)) (omega (arith,
-        range.data_most, range.parities_most)) (omega (arith, range.data_least))
+    agreeing_words_are_equal k r a b (take k (surviving m set.shards)) (omega (
+      arith,
+      range.data_most,
+      range.parities_most,
+    )) (omega (arith, range.data_least))
     (are_positions m set.shards k (k + r) (omega (arith, all)) (omega (arith, all, few)))
     one.code.is_word one.code.bytes other.code.is_word other.code.bytes
     (λ i d l. let s = taken_survives m set.shards k i l in
-      let q : get_or (take k (surviving m set.shards)) i d ≡ s.at =
-          get_or_default (take k (surviving m set.shards)) i d 0 l ∙ s.place ∙ omega arith in
-      subst (λ p.
-          row_at a p ≡ row_at b p) (sym q)
-          (some_same (row_at a s.at) (row_at b s.at) (sym (one.survive s.at s.shard s.there s.kept)
-          ∙ other.survive s.at s.shard s.there s.kept)))
+    let q : get_or (take k (surviving m set.shards)) i d ≡ s.at =
+    get_or_default (take k (surviving m set.shards)) i d 0 l ∙ s.place ∙ omega arith in
+    subst (λ p.
+    row_at a p ≡ row_at b p) (sym q)
+    (some_same (row_at a s.at) (row_at b s.at) (sym (one.survive s.at s.shard s.there s.kept)
+    ∙ other.survive s.at s.shard s.there s.kept)))

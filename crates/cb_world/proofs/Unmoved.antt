@@ -55,19 +55,39 @@ pub record KeepsAway (far new : FarState) : Type 0 where
 
 pub keeps_all : (far : FarState) → KeepsAway far far
 keeps_all far = record {
-  sets = refl; homes = refl; nodes = refl; members = refl; leaving = refl; joining = refl; counts = refl }
+  sets = refl;
+  homes = refl;
+  nodes = refl;
+  members = refl;
+  leaving = refl;
+  joining = refl;
+  counts = refl;
+}
 
 -- the far part of the state with other local parts
 abbrev pub with_local : FarState → FarState → FarState
 with_local far new = record far {
-    first = new.first; made = new.made; frames = new.frames; spans = new.spans }
+  first = new.first;
+  made = new.made;
+  frames = new.frames;
+  spans = new.spans;
+}
 
 -- a state that keeps the far parts is the old one with its own local parts
 pub same_away : (far new : FarState) → KeepsAway far new → new ≡ with_local far new
 same_away far new k = λ i. record {
-  first = new.first; made = new.made; frames = new.frames; spans = new.spans;
-  sets = k.sets i; homes = k.homes i; nodes = k.nodes i; members = k.members i;
-  leaving = k.leaving i; joining = k.joining i; counts = k.counts i }
+  first = new.first;
+  made = new.made;
+  frames = new.frames;
+  spans = new.spans;
+  sets = k.sets i;
+  homes = k.homes i;
+  nodes = k.nodes i;
+  members = k.members i;
+  leaving = k.leaving i;
+  joining = k.joining i;
+  counts = k.counts i;
+}
 
 shard_kept : (far new : FarState) (o : Owner) (a : Shard) → IsShardOf (with_local far new) o a
     → IsShardOf far o a
@@ -98,8 +118,13 @@ far_was s t h len v words (inr near) e =
 fresh_back : (far new : FarState) (pair : JoiningState) (a b : SetState)
     → IsFresh (with_local far new) pair a b → IsFresh far pair a b
 fresh_back far new pair a b f = record {
-  a_there = f.a_there; b_there = f.b_there; a_shards = f.a_shards; b_shards = f.b_shards;
-  a_whole = f.a_whole; b_whole = f.b_whole }
+  a_there = f.a_there;
+  b_there = f.b_there;
+  a_shards = f.a_shards;
+  b_shards = f.b_shards;
+  a_whole = f.a_whole;
+  b_whole = f.b_whole;
+}
 
 -- the far part stays sound where no far object changed and the leaving frames are as they were
 pub away_kept : (s t : Shown) (far new : FarState) → KeepsAway far new
@@ -111,19 +136,33 @@ away_kept s t far new keeps objects batches sound =
       sound = record {
         sets = record {
           shaped = x.sets.shaped;
-          worded = λ id set there. let w = x.sets.worded id set there in
-              (w.0, record { word = w.1.word; holds = λ p slot h e. let o = w.1.holds p slot h e in
-                record { len = o.len; version = o.version; words = o.words; class = o.class;
-                  away = far_stays s t h o.len o.version o.words (objects h) o.away;
-                  fits = o.fits; sized = o.sized; contents = o.contents } });
+          worded = λ id set there. let w = x.sets.worded id set there in (
+            w.0,
+            record {
+              word = w.1.word;
+              holds = λ p slot h e. let o = w.1.holds p slot h e in
+                  record {
+                    len = o.len;
+                    version = o.version;
+                    words = o.words;
+                    class = o.class;
+                    away = far_stays s t h o.len o.version o.words (objects h) o.away;
+                    fits = o.fits;
+                    sized = o.sized;
+                    contents = o.contents;
+                  };
+            },
+          );
           live = x.sets.live;
           kept = x.sets.kept;
-          numbered = x.sets.numbered };
+          numbered = x.sets.numbered;
+        };
         away = record {
           away = λ h len v words e.
               x.away.away h len v words (far_was s t h len v words (objects h) e);
           home = x.away.home;
-          named = x.away.named };
+          named = x.away.named;
+        };
         rows = record {
           members = x.rows.members;
           counted = x.rows.counted;
@@ -132,21 +171,43 @@ away_kept s t far new keeps objects batches sound =
           one = λ o q a b p r. x.rows.one o q a b (shard_kept far new o a p)
               (shard_kept far new q b r);
           drawn = λ o a p. x.rows.drawn o a (shard_kept far new o a p);
-          current = λ o a p. x.rows.current o a (shard_kept far new o a p) };
+          current = λ o a p. x.rows.current o a (shard_kept far new o a p);
+        };
         batch = λ b there. let y = x.batch b there in let e = sym (batches b there) in record {
           word = subst (λ (rows : List (List ℕ)).
               IsSpanWord (length b.frames) (length b.parities) rows) e y.word;
           count = y.count;
           put = λ p shard at lost. y.put p shard at lost
               ∙ ap (λ (rows : List (List ℕ)). Some (row_at rows p)) e;
-          apart = y.apart } };
+          apart = y.apart;
+        };
+      };
       join = λ pair there. let j = sound.join pair there in record {
-        k = j.k; r = j.r; range = j.range; taken = j.taken; a_count = j.a_count;
-        b_count = j.b_count; count = j.count; apart = j.apart; drawn = j.drawn;
-        a_keys = j.a_keys; b_keys = j.b_keys; steps = j.steps; beside = j.beside;
+        k = j.k;
+        r = j.r;
+        range = j.range;
+        taken = j.taken;
+        a_count = j.a_count;
+        b_count = j.b_count;
+        count = j.count;
+        apart = j.apart;
+        drawn = j.drawn;
+        a_keys = j.a_keys;
+        b_keys = j.b_keys;
+        steps = j.steps;
+        beside = j.beside;
         fit = λ a b f. j.fit a b (fresh_back far new pair a b f);
-        word = λ a b f. let w = j.word a b (fresh_back far new pair a b f) in (w.0, record {
-          word = w.1.word; a_rows = w.1.a_rows; b_rows = w.1.b_rows; new_rows = w.1.new_rows }) } })
+        word = λ a b f. let w = j.word a b (fresh_back far new pair a b f) in (
+          w.0,
+          record {
+            word = w.1.word;
+            a_rows = w.1.a_rows;
+            b_rows = w.1.b_rows;
+            new_rows = w.1.new_rows;
+          },
+        );
+      };
+    })
   where
     x : AwaySound s far
     x = sound.sound
@@ -163,9 +224,9 @@ same_rows : (ms ns : List ℕ) (fs : List ℕ)
 same_rows ms ns [] same = refl
 same_rows ms ns (f ∷ fs) same =
     ap (λ (row : List ℕ). row ∷ map (λ f. row_of (window ns (512 * f) 512)) fs)
-      (ap (λ (ws : List ℕ). row_of ws) (same f (0, omega arith, refl)))
+    (ap (λ (ws : List ℕ). row_of ws) (same f (0, omega arith, refl)))
     ∙ ap (λ (rows : List (List ℕ)). row_of (window ms (512 * f) 512) ∷ rows)
-      (same_rows ms ns fs (λ g c. same g (c.0 + 1, omega (arith, c.1), later fs f g c)))
+    (same_rows ms ns fs (λ g c. same g (c.0 + 1, omega (arith, c.1), later fs f g c)))
   where
     later : (fs : List ℕ) (f g : ℕ) → (c : Contains fs g) → get_or (f ∷ fs) (c.0 + 1) g ≡ g
     later fs f g c = ap (λ (i : ℕ). get_or (f ∷ fs) i g) (let e : c.0 + 1 ≡ suc c.0 = omega arith in e) ∙ c.2
@@ -174,7 +235,7 @@ pub batch_kept : (s t : Shown) (far new : FarState) (batch : LeavingState)
     → KeepsLeaving s t far new batch → batch_rows t batch ≡ batch_rows s batch
 batch_kept s t far new batch k =
     ap (λ (rows : List (List ℕ)). rows ++ batch.parities)
-      (same_rows s.memory t.memory batch.frames k.words)
+    (same_rows s.memory t.memory batch.frames k.words)
 
 noted_kept : (s t : Shown) (far new : FarState) (batch : LeavingState)
     → KeepsLeaving s t far new batch
@@ -182,16 +243,24 @@ noted_kept : (s t : Shown) (far new : FarState) (batch : LeavingState)
     → AreNoted s far batch → AreNoted t new batch
 noted_kept s t far new batch k objects noted = record {
   each = λ f slot h span leaves there named.
-    let n = noted.each f slot h span leaves (sym (k.spans f leaves) ∙ there) named in
-    stays n (objects h) }
+      let n = noted.each f slot h span leaves (sym (k.spans f leaves) ∙ there) named in
+      stays n (objects h);
+}
   where
     stays : {h : ℕ} → (n : IsNoted s batch h) → (object_at t h ≡ object_at s h) ⊎ IsNear s t h
         → IsNoted t batch h
     stays {h} n (inl same) = record {
-      former = n.former; noted = n.noted; handle = n.handle; free = n.free; below = n.below;
-      version = n.version; words = n.words; claimed = same ∙ n.claimed }
+      former = n.former;
+      noted = n.noted;
+      handle = n.handle;
+      free = n.free;
+      below = n.below;
+      version = n.version;
+      words = n.words;
+      claimed = same ∙ n.claimed;
+    }
     stays {h} n (inr near) = absurd (not_claimed (object_at s h) (len_of n.former.word)
-      (place_of n.former.word) n.version n.words near.before n.claimed)
+        (place_of n.former.word) n.version n.words near.before n.claimed)
 
 -- the world stays sound where no far and no claimed object changed, and the leaving frames are as
 -- they were
@@ -203,9 +272,10 @@ pub sound_near : (s t : Shown) (far new : FarState) → Sound s far → LocalSou
 sound_near s t far new sound here keeps objects leaving = record {
   here = here;
   noted = λ batch there. let was = sym keeps.leaving ∙ there in
-    noted_kept s t far new batch (leaving batch was) objects (sound.noted batch was);
+      noted_kept s t far new batch (leaving batch was) objects (sound.noted batch was);
   away = away_kept s t far new keeps objects
-    (λ batch there. batch_kept s t far new batch (leaving batch there)) sound.away }
+      (λ batch there. batch_kept s t far new batch (leaving batch there)) sound.away;
+}
 
 -- an object that is here does not stand in a frame that is leaving
 pub not_leaving : (s : Shown) (far : FarState) (batch : LeavingState) (f slot h : ℕ)
@@ -214,4 +284,4 @@ pub not_leaving : (s : Shown) (far : FarState) (batch : LeavingState) (f slot h 
 not_leaving s far batch f slot h span sound there large span_there named leaves =
     let n = (sound.noted batch there).each f slot h span leaves span_there named in
     not_claimed (object_at s h) (len_of n.former.word) (place_of n.former.word) n.version n.words
-      large n.claimed
+    large n.claimed

@@ -40,39 +40,67 @@ may_held s h w may = go (state_of w) (object_at s h) refl may
 pub untouched : (es : List Event) (x y : Words) (s : Shown) (k len place : ℕ) → Plain x es y
     → Allowed s es → Leaves k es → object_at s k ≡ is.Here len place → IsUntouched k len place x y
 untouched [] x y s k len place run ok l here =
-    record { word = ap (λ (z : Words). get_or z.words k 0) run; version =
-    ap (λ (z : Words). get_or z.versions k 0) run; memory =
-    λ p c. ap (λ (z : Words). get_or z.memory p 0) run }
+    record {
+      word = ap (λ (z : Words). get_or z.words k 0) run;
+      version =
+          ap (λ (z : Words). get_or z.versions k 0) run;
+      memory =
+          λ p c. ap (λ (z : Words). get_or z.memory p 0) run;
+    }
 untouched (Looked h w ∷ es) x y s k len place run ok l here =
     untouched es x y (after (Looked h w) s) k len place run.1 ok.1 l here
 untouched (Claimed h w v xs ∷ es) x y s k len place run ok l here =
-    let z = untouched es (record x { words =
-        set x.words h (w + 1) }) y (after (Claimed h w v xs) s) k len place run.1 ok.1 l.1
-        (get_or-set_other s.objects h k _ never l.0 ∙ here) in
-    record { word = z.word ∙ get_or-set_other x.words h k (w + 1) 0 l.0; version =
-        z.version; memory = z.memory }
+    let z = untouched es (record x {
+      words =
+          set x.words h (w + 1);
+    }) y (after (Claimed h w v xs) s) k len place run.1 ok.1 l.1
+    (get_or-set_other s.objects h k _ never l.0 ∙ here) in
+    record {
+      word = z.word ∙ get_or-set_other x.words h k (w + 1) 0 l.0;
+      version =
+          z.version;
+      memory = z.memory;
+    }
 untouched (Told h v ∷ es) x y s k len place run ok l here =
     untouched es x y s k len place run.1 ok.1 l here
 untouched (Loaded p u ∷ es) x y s k len place run ok l here =
     untouched es x y s k len place run.1 ok.1 l here
 untouched (Stored q u ∷ es) x y s k len place run ok l here =
-    let z = untouched es (record x { memory =
-        set x.memory q u }) y (after (Stored q u) s) k len place run ok.1 l here in
-    record { word = z.word; version = z.version; memory = λ p c. z.memory p c
-        ∙ get_or-set_other x.memory q p u 0 (λ e.
-        subst (Spares q) here (ok.0.1 k) (subst (Covers place len) e c)) }
+    let z = untouched es (record x {
+      memory =
+          set x.memory q u;
+    }) y (after (Stored q u) s) k len place run ok.1 l here in
+    record {
+      word = z.word;
+      version = z.version;
+      memory = λ p c. z.memory p c
+          ∙ get_or-set_other x.memory q p u 0 (λ e.
+          subst (Spares q) here (ok.0.1 k) (subst (Covers place len) e c));
+    }
 untouched (Stamped h v ∷ es) x y s k len place run ok l here =
-    let z = untouched es (record x { versions =
-        set x.versions h v }) y (after (Stamped h v) s) k len place run ok.1 l here in
-    record { word = z.word; version = z.version
-        ∙ get_or-set_other x.versions h k v 0 (other s k h len place here ok.0); memory = z.memory }
+    let z = untouched es (record x {
+      versions =
+          set x.versions h v;
+    }) y (after (Stamped h v) s) k len place run ok.1 l here in
+    record {
+      word = z.word;
+      version = z.version
+          ∙ get_or-set_other x.versions h k v 0 (other s k h len place here ok.0);
+      memory = z.memory;
+    }
 untouched (Settled h w ∷ es) x y s k len place run ok l here =
     let apart = other s k h len place here (may_held s h w ok.0) in
-    let z = untouched es (record x { words =
-        set x.words h w }) y (after (Settled h w) s) k len place run.1 ok.1 l
-        (get_or-set_other s.objects h k _ never apart ∙ here) in
-    record { word = z.word ∙ get_or-set_other x.words h k w 0 apart; version = z.version; memory =
-        z.memory }
+    let z = untouched es (record x {
+      words =
+          set x.words h w;
+    }) y (after (Settled h w) s) k len place run.1 ok.1 l
+    (get_or-set_other s.objects h k _ never apart ∙ here) in
+    record {
+      word = z.word ∙ get_or-set_other x.words h k w 0 apart;
+      version = z.version;
+      memory =
+          z.memory;
+    }
 
 pub allowed_append : (es fs : List Event) (s : Shown) → Allowed s es → Allowed (played es s) fs
     → Allowed s (es ++ fs)

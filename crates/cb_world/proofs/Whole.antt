@@ -87,5 +87,8 @@ parted_whole s far new pair x c =
 pub committed_whole : (s : Shown) (far new : FarState) (pair : JoiningState) (a b c : SetState)
     (id : ℕ) → FarSound s far → IsCommitted far new pair a b c id → FarSound s new
 committed_whole s far new pair a b c id x y =
-    record { sound = commit_keeps s far new pair a b c id x.sound (x.join pair y.was) y; join =
-    no_pair new y.now }
+    record {
+      sound = commit_keeps s far new pair a b c id x.sound (x.join pair y.was) y;
+      join =
+          no_pair new y.now;
+    }

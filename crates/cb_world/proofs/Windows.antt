@@ -25,14 +25,17 @@ unfolding put
 put_at ms p [] i e fits = absurd (omega arith)
 put_at ms p (x ∷ xs) zero e fits =
     let at : get_or (put (set ms p x) (p + 1) xs) p 0 ≡ get_or (set ms p x) p 0 =
-        put_else (set ms p x) (p + 1) xs p (inl (omega arith)) in
+    put_else (set ms p x) (p + 1) xs p (inl (omega arith)) in
     let zeroth : p + 0 ≡ p = omega arith in
     ap (λ (j : ℕ). get_or (put (set ms p x) (p + 1) xs) j 0) zeroth ∙ at
-        ∙ get_or-set_same ms p x 0 (omega (arith, fits))
+    ∙ get_or-set_same ms p x 0 (omega (arith, fits))
 put_at ms p (x ∷ xs) (suc i) e fits =
     let here : get_or (put (set ms p x) (p + 1) xs) ((p + 1) + i) 0 ≡ get_or xs i 0 =
-        put_at (set ms p x) (p + 1) xs i (omega (arith, e)) (omega (arith, fits,
-        length-set ms p x)) in
+    put_at (set ms p x) (p + 1) xs i (omega (arith, e)) (omega (
+      arith,
+      fits,
+      length-set ms p x,
+    )) in
     let same : p + suc i ≡ (p + 1) + i = omega arith in
     ap (λ (j : ℕ). get_or (put (set ms p x) (p + 1) xs) j 0) same ∙ here
 
@@ -50,9 +53,9 @@ unfolding window
 window_same ms ns p zero e = refl
 window_same ms ns p (suc n) e =
     ap (λ (x : ℕ). x ∷ window ms (p + 1) n) (e p (omega arith) (omega arith))
-        ∙ ap (λ (l : List ℕ).
-        get_or ns p 0 ∷ l) (window_same ms ns (p + 1) n (λ i low high.
-        e i (omega (arith, low)) (omega (arith, high))))
+    ∙ ap (λ (l : List ℕ).
+    get_or ns p 0 ∷ l) (window_same ms ns (p + 1) n (λ i low high.
+    e i (omega (arith, low)) (omega (arith, high))))
 
 window_of : (ms : List ℕ) (p : ℕ) (xs : List ℕ)
     → ((i : ℕ) → i < length xs → get_or ms (p + i) 0 ≡ get_or xs i 0) → window ms p (length xs) ≡ xs
@@ -60,12 +63,12 @@ unfolding window
 window_of ms p [] e = refl
 window_of ms p (x ∷ xs) e =
     let first : get_or ms p 0 ≡ x =
-        ap (λ (j : ℕ). get_or ms j 0) (let q : p ≡ p + 0 = omega arith in q) ∙ e 0 (omega arith) in
+    ap (λ (j : ℕ). get_or ms j 0) (let q : p ≡ p + 0 = omega arith in q) ∙ e 0 (omega arith) in
     ap (λ (y : ℕ). y ∷ window ms (p + 1) (length xs)) first
     ∙ ap (λ (l : List ℕ).
-        x ∷ l) (window_of ms (p + 1) xs (λ i below.
-        ap (λ (j : ℕ). get_or ms j 0) (let q : (p + 1) + i ≡ p + suc i = omega arith in q)
-        ∙ e (suc i) (omega (arith, below))))
+    x ∷ l) (window_of ms (p + 1) xs (λ i below.
+    ap (λ (j : ℕ). get_or ms j 0) (let q : (p + 1) + i ≡ p + suc i = omega arith in q)
+    ∙ e (suc i) (omega (arith, below))))
 
 pub window_put : (ms : List ℕ) (p : ℕ) (xs : List ℕ) → p + length xs ≤ length ms
     → window (put ms p xs) p (length xs) ≡ xs
@@ -87,8 +90,8 @@ set_put ms p [] i y e = absurd (omega arith)
 set_put ms p (x ∷ xs) zero y e =
     let at : p + 0 ≡ p = omega arith in
     ap (λ (j : ℕ). set (put (set ms p x) (p + 1) xs) j y) at
-        ∙ put_early (set ms p x) p (p + 1) xs y (omega arith)
-        ∙ ap (λ (l : List ℕ). put l (p + 1) xs) (set-set ms p x y)
+    ∙ put_early (set ms p x) p (p + 1) xs y (omega arith)
+    ∙ ap (λ (l : List ℕ). put l (p + 1) xs) (set-set ms p x y)
 set_put ms p (x ∷ xs) (suc i) y e =
     ap (λ (j : ℕ). set (put (set ms p x) (p + 1) xs) j y) (let q : p + suc i ≡ (p + 1) + i =
-        omega arith in q) ∙ set_put (set ms p x) (p + 1) xs i y (omega (arith, e))
+    omega arith in q) ∙ set_put (set ms p x) (p + 1) xs i y (omega (arith, e))

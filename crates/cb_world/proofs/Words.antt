@@ -23,8 +23,8 @@ use Rattle.cb_world.proofs.Storing.{InRange, KeysApart, put_there, put_elsewhere
 -- the word of a set stays where the rows of the shards that survive stay
 pub word_kept : (nodes new : NodesState) (m n : Membership) (set : SetState) (rows : List (List ℕ))
     → ((p : ℕ) (shard : Shard) → slice_get set.shards p ≡ Some shard → is_lost n shard ≡ false
-        → (is_lost m shard ≡ false)
-        × (row_under new shard.node shard.key ≡ row_under nodes shard.node shard.key))
+    → (is_lost m shard ≡ false)
+    × (row_under new shard.node shard.key ≡ row_under nodes shard.node shard.key))
     → IsWordOf nodes m set rows → IsWordOf new n set rows
 word_kept nodes new m n set rows same word = record {
   code = word.code;
@@ -35,7 +35,7 @@ word_kept nodes new m n set rows same word = record {
 pub fresh_word : (nodes : NodesState) (m : Membership) (set : SetState) (rows : List (List ℕ))
     → IsSpanWord (length set.positions) (parities set) rows
     → InRange nodes set.shards → KeysApart set.shards → length rows ≡ length set.shards
-        → IsWordOf (all_put nodes set.shards rows) m set rows
+    → IsWordOf (all_put nodes set.shards rows) m set rows
 fresh_word nodes m set rows code range apart same = record {
   code = code;
   survive = λ p shard at kept. put_there nodes set.shards rows p shard range apart same at;
@@ -45,19 +45,19 @@ fresh_word nodes m set rows code range apart same = record {
 pub put_keeps_word : (nodes : NodesState) (m : Membership) (set : SetState) (rows : List (List ℕ))
     (shards : List Shard) (put : List (List ℕ)) → InRange nodes shards
     → ((p : ℕ) (shard : Shard) → slice_get set.shards p ≡ Some shard → NoKey shards shard.key)
-        → IsWordOf nodes m set rows → IsWordOf (all_put nodes shards put) m set rows
+    → IsWordOf nodes m set rows → IsWordOf (all_put nodes shards put) m set rows
 put_keeps_word nodes m set rows shards put range other word =
     word_kept nodes (all_put nodes shards put) m m set rows (λ p shard at kept.
-        (kept, put_elsewhere nodes shards put shard.node shard.key range (other p shard at))) word
+    (kept, put_elsewhere nodes shards put shard.node shard.key range (other p shard at))) word
 
 -- and so do rows that are dropped
 pub drop_keeps_word : (nodes : NodesState) (m : Membership) (set : SetState) (rows : List (List ℕ))
     (shards : List Shard) → InRange nodes shards
     → ((p : ℕ) (shard : Shard) → slice_get set.shards p ≡ Some shard → NoKey shards shard.key)
-        → IsWordOf nodes m set rows → IsWordOf (all_dropped nodes shards) m set rows
+    → IsWordOf nodes m set rows → IsWordOf (all_dropped nodes shards) m set rows
 drop_keeps_word nodes m set rows shards range other word =
     word_kept nodes (all_dropped nodes shards) m m set rows (λ p shard at kept.
-        (kept, drop_elsewhere nodes shards shard.node shard.key range (other p shard at))) word
+    (kept, drop_elsewhere nodes shards shard.node shard.key range (other p shard at))) word
 
 -- ---- a crash
 some_mapped : (f : Epoch → Loss) (o : Option Epoch) → is_some (option_map f o) ≡ is_some o
@@ -70,16 +70,16 @@ pub crash_loses : (m : Membership) (shard : Shard) → IsMembership m → shard.
     → is_lost (with_crash m shard.node) shard ≡ true
 crash_loses m shard valid within up current =
     elim (cases_eq shard.incarnation (incarnation m shard.node)) [
-  | inl now ↦ ap is_some (crash_loses_its_incarnation m shard valid within up now)
-  | inr before ↦
-      ap is_some (crash_keeps_other_incarnations m shard valid within up before)
-      ∙ some_mapped _ (crashed_at m shard.node shard.incarnation)
-      ∙ ended_incarnations_crashed m shard.node shard.incarnation valid within
-      ∙ ap (λ b.
+      | inl now ↦ ap is_some (crash_loses_its_incarnation m shard valid within up now)
+      | inr before ↦
+          ap is_some (crash_keeps_other_incarnations m shard valid within up before)
+          ∙ some_mapped _ (crashed_at m shard.node shard.incarnation)
+          ∙ ended_incarnations_crashed m shard.node shard.incarnation valid within
+          ∙ ap (λ b.
           nat_lt shard.incarnation
           (cond b (incarnation m shard.node) (incarnation m shard.node + 1))) up
-      ∙ lt-ltb shard.incarnation (incarnation m shard.node) (omega (arith, before, current))
-]
+          ∙ lt-ltb shard.incarnation (incarnation m shard.node) (omega (arith, before, current))
+    ]
 
 same_node : (a b : NodeId) → a.n ≡ b.n → a ≡ b
 same_node a b e = ap (λ (n : ℕ). record { n = n }) e
@@ -90,9 +90,9 @@ pub crash_survivor : (m : Membership) (node : NodeId) (shard : Shard) → IsMemb
     → is_lost (with_crash m node) shard ≡ false → (shard.node.n ≢ node.n) × (is_lost m shard ≡ false)
 crash_survivor m node shard valid within up current kept =
     let off : shard.node.n ≢ node.n = λ here. let e = same_node shard.node node here in
-      false≢true (sym kept ∙ ap (λ (n : NodeId). is_lost (with_crash m n) shard) (sym e)
-          ∙ crash_loses m shard valid (omega (arith, here, within)) (ap (alive m) e
-          ∙ up) current) in
+    false≢true (sym kept ∙ ap (λ (n : NodeId). is_lost (with_crash m n) shard) (sym e)
+    ∙ crash_loses m shard valid (omega (arith, here, within)) (ap (alive m) e
+    ∙ up) current) in
     (off, ap is_some (sym (crash_keeps_other_nodes m node shard off)) ∙ kept)
 
 -- F3 over a crash: each set keeps its word
@@ -100,13 +100,15 @@ pub crash_keeps_word : (nodes : NodesState) (m : Membership) (node : NodeId) (se
     (rows : List (List ℕ)) → IsMembership m → node.n < length m.nodes → alive m node ≡ true
     → AreCurrent m set.shards
     → IsWordOf nodes m set rows
-        → IsWordOf (with_rows nodes node map.empty) (with_crash m node) set rows
+    → IsWordOf (with_rows nodes node map.empty) (with_crash m node) set rows
 crash_keeps_word nodes m node set rows valid within up current word =
     word_kept nodes (with_rows nodes node map.empty) m (with_crash m node) set rows
     (λ p shard at kept. let x =
-        crash_survivor m node shard valid within up (current p shard at).1 kept in
-      (x.1, ap (λ rows.
-          map.get rows shard.key) (rows_elsewhere nodes node shard.node map.empty x.0)))
+    crash_survivor m node shard valid within up (current p shard at).1 kept in (
+      x.1,
+      ap (λ rows.
+          map.get rows shard.key) (rows_elsewhere nodes node shard.node map.empty x.0),
+    ))
     word
 
 -- the incarnations stay
@@ -115,8 +117,8 @@ pub crash_keeps_incarnations : (m : Membership) (node other : NodeId) → node.n
 crash_keeps_incarnations m node other within = elim (cases_eq other.n node.n) [
   | inl here ↦ let e = same_node other node here in
       ap (incarnation (with_crash m node)) e
-          ∙ ap (λ (s : NodeState). s.incarnation) (change_is_at_its_node m node _ within)
-          ∙ ap (incarnation m) (sym e)
+      ∙ ap (λ (s : NodeState). s.incarnation) (change_is_at_its_node m node _ within)
+      ∙ ap (incarnation m) (sym e)
   | inr off ↦ ap (λ (s : NodeState). s.incarnation) (change_keeps_other_nodes m node other _ off)
 ]
 
@@ -124,9 +126,10 @@ pub crash_keeps_current : (m : Membership) (node : NodeId) (shards : List Shard)
     → node.n < length m.nodes → AreCurrent m shards → AreCurrent (with_crash m node) shards
 crash_keeps_current m node shards within current p shard at =
     let c = current p shard at in
-    let count : length (with_crash m node).nodes ≡ length m.nodes = length-set m.nodes node.n _ in
-    (omega (arith, c.0, count),
-        omega (arith, c.1, crash_keeps_incarnations m node shard.node within))
+    let count : length (with_crash m node).nodes ≡ length m.nodes = length-set m.nodes node.n _ in (
+      omega (arith, c.0, count),
+      omega (arith, c.1, crash_keeps_incarnations m node shard.node within),
+    )
 
 -- no lost shard comes back
 pub lost_grow : (m n : Membership) (shards : List Shard)

@@ -28,5 +28,6 @@ pub record IsClaimedAt (s : Shown) (h word v : ℕ) (words : List ℕ) : Type 0 
 -- the object is settled where it was
 abbrev pub with_settled : Shown → ℕ → ℕ → Bool → Shown
 with_settled s h word hot = record s {
-    objects = slice_set s.objects h (is.Here (len_of word) (place_of word));
-    hots = slice_set s.hots h hot }
+  objects = slice_set s.objects h (is.Here (len_of word) (place_of word));
+  hots = slice_set s.hots h hot;
+}

@@ -83,7 +83,7 @@ pub record AreRows (far : FarState) : Type 0 where
   pub counted : length far.nodes.nodes ≡ length far.members.nodes
   pub owned : (node : NodeId) (key : ℕ) (row : List ℕ) → row_under far.nodes node key ≡ Some row
       → (o : Owner) × (shard : Shard) × IsShardOf far o shard × (shard.node.n ≡ node.n)
-          × (shard.key ≡ key) × (is_lost far.members shard ≡ false)
+      × (shard.key ≡ key) × (is_lost far.members shard ≡ false)
   pub one : (o q : Owner) (a b : Shard) → IsShardOf far o a → IsShardOf far q b → a.key ≡ b.key
       → o ≡ q
   pub drawn : (o : Owner) (a : Shard) → IsShardOf far o a → a.key < far.counts.keys

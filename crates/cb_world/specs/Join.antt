@@ -30,16 +30,16 @@ pub record IsFresh (far : FarState) (pair : JoiningState) (a b : SetState) : Typ
 -- m is the merged word: b's rows stand at the taken positions, a's rows at the other data
 -- positions, and each new row is its position's
 pub record IsJoinWord (far : FarState) (pair : JoiningState) (k r : ℕ) (m : List (List ℕ)) : Type 0
-    where
-  pub word : IsSpanWord k r m
-  pub a_rows : (i : ℕ) (shard : Shard) → i < k → takes pair.taken i ≡ false
-      → slice_get pair.shards_a i ≡ Some shard
-      → row_under far.nodes shard.node shard.key ≡ Some (row_at m i)
-  pub b_rows : (i : ℕ) (shard : Shard) → i < k → takes pair.taken i ≡ true
-      → slice_get pair.shards_b i ≡ Some shard
-      → row_under far.nodes shard.node shard.key ≡ Some (row_at m i)
-  pub new_rows : (p : ℕ) (shard : Shard) → slice_get pair.steps p ≡ Some (Some shard)
-      → row_under far.nodes shard.node shard.key ≡ Some (row_at m p)
+  where
+    pub word : IsSpanWord k r m
+    pub a_rows : (i : ℕ) (shard : Shard) → i < k → takes pair.taken i ≡ false
+        → slice_get pair.shards_a i ≡ Some shard
+        → row_under far.nodes shard.node shard.key ≡ Some (row_at m i)
+    pub b_rows : (i : ℕ) (shard : Shard) → i < k → takes pair.taken i ≡ true
+        → slice_get pair.shards_b i ≡ Some shard
+        → row_under far.nodes shard.node shard.key ≡ Some (row_at m i)
+    pub new_rows : (p : ℕ) (shard : Shard) → slice_get pair.steps p ≡ Some (Some shard)
+        → row_under far.nodes shard.node shard.key ≡ Some (row_at m p)
 
 -- a new shard stands beside a's shard of its position
 pub record IsBeside (old shard : Shard) : Type 0 where

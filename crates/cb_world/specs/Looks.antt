@@ -40,9 +40,10 @@ abbrev pub told_by : List Event → Shown → Shown
 told_by [] s = s
 told_by (Looked h w ∷ es) s = told_by es (record s { hots = slice_set s.hots h (hot_of w) })
 told_by (Claimed h w v words ∷ es) s = told_by es (record s {
-    hots = slice_set s.hots h (hot_of w);
-    versions = slice_set s.versions h v;
-    memory = put s.memory (place_of w) words })
+  hots = slice_set s.hots h (hot_of w);
+  versions = slice_set s.versions h v;
+  memory = put s.memory (place_of w) words;
+})
 told_by (e ∷ es) s = told_by es s
 
 -- every event is a look at the object

@@ -25,15 +25,17 @@ settled_by word.Moving w version o = o
 abbrev pub after : Event → Shown → Shown
 after (Looked h w) s = record s { hots = slice_set s.hots h (hot_of w) }
 after (Claimed h w v words) s = record s {
-    objects = slice_set s.objects h (is.Claimed (len_of w) (place_of w) v words);
-    hots = slice_set s.hots h (hot_of w);
-    versions = slice_set s.versions h v;
-    memory = put s.memory (place_of w) words }
+  objects = slice_set s.objects h (is.Claimed (len_of w) (place_of w) v words);
+  hots = slice_set s.hots h (hot_of w);
+  versions = slice_set s.versions h v;
+  memory = put s.memory (place_of w) words;
+}
 after (Stored p x) s = record s { memory = slice_set s.memory p x }
 after (Stamped h v) s = record s { versions = slice_set s.versions h v }
 after (Settled h w) s = record s {
-    objects = slice_set s.objects h (settled_by (state_of w) w (version_at s h) (object_at s h));
-    hots = slice_set s.hots h (hot_of w) }
+  objects = slice_set s.objects h (settled_by (state_of w) w (version_at s h) (object_at s h));
+  hots = slice_set s.hots h (hot_of w);
+}
 after _ s = s
 
 -- what is known after events, the first one first

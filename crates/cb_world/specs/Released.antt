@@ -21,8 +21,9 @@ frames_without frames f slot span = if is_last span slot then with_given frames 
 -- the far state without the object
 abbrev pub with_released : FarState → ℕ → ℕ → Contents → FarState
 with_released far f slot span = record far {
-    frames = frames_without far.frames f slot span;
-    spans = spans_without far.spans f slot span }
+  frames = frames_without far.frames f slot span;
+  spans = spans_without far.spans f slot span;
+}
 
 -- the place is that of a slot of the span in a frame
 pub record IsSlotAt (frames : List Bool) (spans : List (Option Contents)) (place f slot : ℕ)

@@ -66,8 +66,8 @@ pub record IsSetAdded (s t : Shown) (far new : FarState) (id : ℕ) (set : SetSt
       → row_under new.nodes node key ≡ row_under far.nodes node key
   pub only : (node : NodeId) (key : ℕ) (row : List ℕ) → row_under new.nodes node key ≡ Some row
       → (row_under far.nodes node key ≡ Some row)
-          ⊎ ((p : ℕ) × (shard : Shard) × (slice_get set.shards p ≡ Some shard)
-          × (shard.node.n ≡ node.n) × (shard.key ≡ key))
+      ⊎ ((p : ℕ) × (shard : Shard) × (slice_get set.shards p ≡ Some shard)
+      × (shard.node.n ≡ node.n) × (shard.key ≡ key))
   pub nodes : length new.nodes.nodes ≡ length far.nodes.nodes
   pub members : new.members ≡ far.members
   pub leaving : new.leaving ≡ far.leaving

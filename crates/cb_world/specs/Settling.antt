@@ -35,7 +35,7 @@ abbrev pub HasContents : Shown → ℕ → ℕ → ℕ → ℕ → List ℕ → 
 HasContents s h w len v words = (len_of w ≡ len)
     × (((version_at s h ≡ v) × (window s.memory (place_of w) (words_for len) ≡ words))
     ⊎ ((version_at s h ≡ v + 1) × ((at : ℕ) × (bytes : List ℕ) × (at + length bytes ≤ len)
-        × IsWrite words at bytes (window s.memory (place_of w) (words_for len)))))
+    × IsWrite words at bytes (window s.memory (place_of w) (words_for len)))))
 
 -- it is brought to a place: a new object with packed words at the first version, or one with its
 -- contents

@@ -90,20 +90,20 @@ pub fits_set : (objects : List Object) (ws : List ℕ) (h w : ℕ) (o : Object)
     → length objects ≡ length ws → h < length ws → Fits o w
     → ((k : ℕ) → k < length ws → Fits (get_or objects k never) (get_or ws k 0))
     → (k : ℕ) → k < length (set ws h w)
-        → Fits (get_or (set objects h o) k never) (get_or (set ws h w) k 0)
+    → Fits (get_or (set objects h o) k never) (get_or (set ws h w) k 0)
 fits_set objects ws h w o same within fit all k below = elim (ℕ_discrete k h) [
   | yes at ↦
       subst (λ (j : ℕ). Fits (get_or (set objects h o) j never) (get_or (set ws h w) j 0)) (sym at)
       (subst (λ (p : Object).
-          Fits p (get_or (set ws h w) h 0))
-          (sym (get_or-set_same objects h o never (omega (arith, same, within))))
+      Fits p (get_or (set ws h w) h 0))
+      (sym (get_or-set_same objects h o never (omega (arith, same, within))))
       (subst (λ (n : ℕ). Fits o n) (sym (get_or-set_same ws h w 0 within)) fit))
   | no apart ↦
       subst (λ (p : Object).
       Fits p (get_or (set ws h w) k 0)) (sym (get_or-set_other objects h k o never apart))
       (subst (λ (n : ℕ).
-          Fits (get_or objects k never) n) (sym (get_or-set_other ws h k w 0 apart)) (all k (let n =
-          length-set ws h w in omega (arith, n, below))))
+      Fits (get_or objects k never) n) (sym (get_or-set_other ws h k w 0 apart)) (all k (let n =
+      length-set ws h w in omega (arith, n, below))))
 ]
 
 -- a word that is known to be hot is hot
@@ -111,13 +111,13 @@ pub hots_set : (hots : List Bool) (ws : List ℕ) (h w : ℕ) (hot : Bool) → l
     → h < length ws → (hot ≡ true → hot_of w ≡ true)
     → ((k : ℕ) → k < length ws → get_or hots k false ≡ true → hot_of (get_or ws k 0) ≡ true)
     → (k : ℕ) → k < length (set ws h w) → get_or (set hots h hot) k false ≡ true
-        → hot_of (get_or (set ws h w) k 0) ≡ true
+    → hot_of (get_or (set ws h w) k 0) ≡ true
 hots_set hots ws h w hot same within fit all k below known = elim (ℕ_discrete k h) [
   | yes at ↦ let here : get_or (set hots h hot) h false ≡ hot =
       get_or-set_same hots h hot false (omega (arith, same, within)) in
       let there : get_or (set ws h w) h 0 ≡ w = get_or-set_same ws h w 0 within in
       ap (λ (j : ℕ). hot_of (get_or (set ws h w) j 0)) at ∙ ap hot_of there
-          ∙ fit (sym here ∙ ap (λ (j : ℕ). get_or (set hots h hot) j false) (sym at) ∙ known)
+      ∙ fit (sym here ∙ ap (λ (j : ℕ). get_or (set hots h hot) j false) (sym at) ∙ known)
   | no apart ↦ ap hot_of (get_or-set_other ws h k w 0 apart)
       ∙ all k (let n =
       length-set ws h w in omega (arith, n, below)) (sym (get_or-set_other hots h k hot false apart)
@@ -144,17 +144,17 @@ pub shows_claim : (x : Words) (s : Shown) (h w v : ℕ) (xs : List ℕ) → Show
     → Shows (record x { words = set x.words h (w + 1) }) (after (Claimed h w v xs) s)
 shows_claim x s h w v xs r b wide = let moved : Claims w (w + 1) =
     claims w b.here b.no_pins in record {
-  objects = length-set s.objects h _ ∙ r.objects ∙ sym (length-set x.words h (w + 1));
-  hots = length-set s.hots h (hot_of w) ∙ r.hots ∙ sym (length-set x.words h (w + 1));
-  versions = ap (λ (l : List ℕ). set l h v) r.versions ∙ ap (set x.versions h) (sym b.version)
-      ∙ set-get_or x.versions h 0;
-  memory = ap (λ (l : List ℕ). put l (place_of w) xs) r.memory
-      ∙ ap (put x.memory (place_of w)) b.contents
-      ∙ put_window x.memory (place_of w) (words_for (len_of w));
-  fit = fits_set s.objects x.words h (w + 1) (is.Claimed (len_of w) (place_of w) v xs) r.objects
-      b.within (wider w wide b.here, moved.len, moved.place, moved.pins, moved.state) r.fit;
-  hot = hots_set s.hots x.words h (w + 1) (hot_of w) r.hots b.within (λ e. moved.hot ∙ e) r.hot;
-}
+      objects = length-set s.objects h _ ∙ r.objects ∙ sym (length-set x.words h (w + 1));
+      hots = length-set s.hots h (hot_of w) ∙ r.hots ∙ sym (length-set x.words h (w + 1));
+      versions = ap (λ (l : List ℕ). set l h v) r.versions ∙ ap (set x.versions h) (sym b.version)
+          ∙ set-get_or x.versions h 0;
+      memory = ap (λ (l : List ℕ). put l (place_of w) xs) r.memory
+          ∙ ap (put x.memory (place_of w)) b.contents
+          ∙ put_window x.memory (place_of w) (words_for (len_of w));
+      fit = fits_set s.objects x.words h (w + 1) (is.Claimed (len_of w) (place_of w) v xs) r.objects
+          b.within (wider w wide b.here, moved.len, moved.place, moved.pins, moved.state) r.fit;
+      hot = hots_set s.hots x.words h (w + 1) (hot_of w) r.hots b.within (λ e. moved.hot ∙ e) r.hot;
+    }
   where
     wider : (w : ℕ) → w < 2 ^ 53 → state_of w ≡ word.Here → w + 1 < 2 ^ 53
     wider w wide here = let b = bits_here w here in omega (arith, b, wide)
@@ -170,19 +170,37 @@ pub plain_follows : (es : List Event) (x y : Words) (s : Shown) → Plain x es y
     → Agree s es × Shows y (played es s)
 plain_follows [] x y s a r = (tt, subst (λ (l : Words). Shows l s) (sym a) r)
 plain_follows (Looked h w ∷ es) x y s a r = let next =
-    plain_follows es x y (after (Looked h w) s) a.1 (shows_look x s h w r a.0.0 a.0.1) in
-    (((subst (Fits (object_at s h)) a.0.0 (r.fit h a.0.1), λ e. ap hot_of (sym a.0.0)
-        ∙ r.hot h a.0.1 e), next.0), next.1)
+    plain_follows es x y (after (Looked h w) s) a.1 (shows_look x s h w r a.0.0 a.0.1) in (
+      (
+        (
+          subst (Fits (object_at s h)) a.0.0 (r.fit h a.0.1),
+          λ e. ap hot_of (sym a.0.0)
+              ∙ r.hot h a.0.1 e,
+        ),
+        next.0,
+      ),
+      next.1,
+    )
 plain_follows (Claimed h w v xs ∷ es) x y s a r = let b = a.0 in
     let fit : Fits (object_at s h) w = subst (Fits (object_at s h)) b.found (r.fit h b.within) in
     let wide : w < 2 ^ 53 = below_here (object_at s h) w fit b.here in
     let next =
-        plain_follows es (record x { words =
-        set x.words h (w + 1) }) y (after (Claimed h w v xs) s) a.1
-        (shows_claim x s h w v xs r b wide) in
-    (((here_is (object_at s h) w fit b.here, (λ e. ap hot_of (sym b.found) ∙ r.hot h b.within e),
-        wide, ap length b.contents ∙ window_length x.memory (place_of w) (words_for (len_of w))),
-        next.0), next.1)
+    plain_follows es (record x {
+      words =
+          set x.words h (w + 1);
+    }) y (after (Claimed h w v xs) s) a.1
+    (shows_claim x s h w v xs r b wide) in (
+      (
+        (
+          here_is (object_at s h) w fit b.here,
+          (λ e. ap hot_of (sym b.found) ∙ r.hot h b.within e),
+          wide,
+          ap length b.contents ∙ window_length x.memory (place_of w) (words_for (len_of w)),
+        ),
+        next.0,
+      ),
+      next.1,
+    )
 plain_follows (Told h v ∷ es) x y s a r = let next =
     plain_follows es x y s a.1 r in
     (((λ _. sym a.0 ∙ ap (λ (l : List ℕ). get_or l h 0) (sym r.versions)), next.0), next.1)
@@ -191,23 +209,43 @@ plain_follows (Loaded p w ∷ es) x y s a r = let next =
     (((λ _. sym a.0 ∙ ap (λ (l : List ℕ). get_or l p 0) (sym r.memory)), next.0), next.1)
 plain_follows (Stored p w ∷ es) x y s a r =
     let next =
-        plain_follows es (record x { memory =
-        set x.memory p w }) y (after (Stored p w) s) a (record { objects = r.objects; hots =
-        r.hots; hot = r.hot; versions = r.versions; memory =
-        ap (λ (l : List ℕ). set l p w) r.memory; fit = r.fit }) in
+    plain_follows es (record x {
+      memory =
+          set x.memory p w;
+    }) y (after (Stored p w) s) a (record {
+      objects = r.objects;
+      hots =
+          r.hots;
+      hot = r.hot;
+      versions = r.versions;
+      memory =
+          ap (λ (l : List ℕ). set l p w) r.memory;
+      fit = r.fit;
+    }) in
     ((tt, next.0), next.1)
 plain_follows (Stamped h v ∷ es) x y s a r =
     let next =
-        plain_follows es (record x { versions =
-        set x.versions h v }) y (after (Stamped h v) s) a (record { objects = r.objects; hots =
-        r.hots; hot = r.hot; versions = ap (λ (l : List ℕ). set l h v) r.versions; memory =
-        r.memory; fit = r.fit }) in
+    plain_follows es (record x {
+      versions =
+          set x.versions h v;
+    }) y (after (Stamped h v) s) a (record {
+      objects = r.objects;
+      hots =
+          r.hots;
+      hot = r.hot;
+      versions = ap (λ (l : List ℕ). set l h v) r.versions;
+      memory =
+          r.memory;
+      fit = r.fit;
+    }) in
     ((tt, next.0), next.1)
 plain_follows (Settled h w ∷ es) x y s a r =
     let o = settled_by (state_of w) w (version_at s h) (object_at s h) in
     let next =
-        plain_follows es (record x { words =
-        set x.words h w }) y (after (Settled h w) s) a.1 (record {
+    plain_follows es (record x {
+      words =
+          set x.words h w;
+    }) y (after (Settled h w) s) a.1 (record {
       objects = length-set s.objects h o ∙ r.objects ∙ sym (length-set x.words h w);
       hots = length-set s.hots h (hot_of w) ∙ r.hots ∙ sym (length-set x.words h w);
       versions = r.versions;
@@ -221,6 +259,10 @@ plain_follows (Settled h w ∷ es) x y s a r =
 pub plain_sized : (x : Words) (s : Shown) → IsSized x → Shows x s
     → (length s.objects ≡ x.settings.handles) × (length s.hots ≡ x.settings.handles)
     × (length s.versions ≡ x.settings.handles) × (length s.memory ≡ 512 * x.settings.frames)
-plain_sized x s z r =
-    (r.objects ∙ z.words, r.hots ∙ z.words, ap length r.versions ∙ z.versions, ap length r.memory
-    ∙ z.memory)
+plain_sized x s z r = (
+  r.objects ∙ z.words,
+  r.hots ∙ z.words,
+  ap length r.versions ∙ z.versions,
+  ap length r.memory
+      ∙ z.memory,
+)

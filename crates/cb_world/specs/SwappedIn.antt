@@ -14,7 +14,6 @@ use Rattle.cb_world.specs.Stored.{NoKey}
 use Rattle.cb_world.specs.FarSound.{batch_rows}
 use Rattle.cb_world.specs.SetAdded.{is_far}
 
-
 -- nothing of the object changed, and the position does not name it
 pub record IsLeft (s t : Shown) (far new : FarState) (set : SetState) (p h : ℕ) : Type 0 where
   pub object : object_at t h ≡ object_at s h
@@ -47,15 +46,15 @@ pub record IsDropped (far new : FarState) (id : ℕ) (set : SetState) (p : ℕ) 
 
 -- a position of a committed set is swapped in
 pub record IsSwappedIn (s t : Shown) (far new : FarState) (id : ℕ) (set : SetState) (p : ℕ) : Type 0
-    where
-  pub was : set_in far.sets id ≡ Some set
-  pub inside : p < length set.positions
-  pub others : (j : ℕ) → j ≢ id → set_in new.sets j ≡ set_in far.sets j
-  pub left : GoesOn far new id set p ⊎ IsDropped far new id set p
-  pub nodes : length new.nodes.nodes ≡ length far.nodes.nodes
-  pub members : new.members ≡ far.members
-  pub leaving : new.leaving ≡ far.leaving
-  pub joining : new.joining ≡ far.joining
-  pub counts : new.counts ≡ far.counts
-  pub batch : (b : LeavingState) → far.leaving ≡ Some b → batch_rows t b ≡ batch_rows s b
-  pub each : (h : ℕ) → IsLeft s t far new set p h ⊎ IsBrought t new set p h
+  where
+    pub was : set_in far.sets id ≡ Some set
+    pub inside : p < length set.positions
+    pub others : (j : ℕ) → j ≢ id → set_in new.sets j ≡ set_in far.sets j
+    pub left : GoesOn far new id set p ⊎ IsDropped far new id set p
+    pub nodes : length new.nodes.nodes ≡ length far.nodes.nodes
+    pub members : new.members ≡ far.members
+    pub leaving : new.leaving ≡ far.leaving
+    pub joining : new.joining ≡ far.joining
+    pub counts : new.counts ≡ far.counts
+    pub batch : (b : LeavingState) → far.leaving ≡ Some b → batch_rows t b ≡ batch_rows s b
+    pub each : (h : ℕ) → IsLeft s t far new set p h ⊎ IsBrought t new set p h

@@ -16,12 +16,24 @@ use Rattle.cb_world.specs.Played.{after}
 -- the object has these words at this version, and had others before
 abbrev pub entry : ℕ → ℕ → ℕ → List ℕ → List ℕ → Entry
 entry h v len before words = record {
-    handle = h; version = v; len = len; freed = false; before = before; after = words }
+  handle = h;
+  version = v;
+  len = len;
+  freed = false;
+  before = before;
+  after = words;
+}
 
 -- the object is freed at this version
 abbrev pub gone : ℕ → ℕ → List ℕ → Entry
 gone h v before = record {
-    handle = h; version = v; len = 0; freed = true; before = before; after = [] }
+  handle = h;
+  version = v;
+  len = 0;
+  freed = true;
+  before = before;
+  after = [];
+}
 
 -- the entry of the version n, where the object had another one
 abbrev pub newer : ℕ → ℕ → ℕ → ℕ → List ℕ → List ℕ → List Entry

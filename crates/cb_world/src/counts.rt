@@ -20,17 +20,22 @@ impl Model for Counts {
     ghost Value = { CountsState };
 
     ghost view = { λ a. record {
-        turns = a.turns;
-        by_job = a.by_job;
-        sets = a.sets;
-        keys = a.keys } };
+      turns = a.turns;
+      by_job = a.by_job;
+      sets = a.sets;
+      keys = a.keys;
+    } };
 }
 
 impl Counts {
     /// Nothing was counted.
     pub fn new() -> Counts
         ensures zero { result ≡ record {
-            turns = 0; by_job = replicate JOBS 0; sets = 0; keys = 0 } }
+          turns = 0;
+          by_job = replicate JOBS 0;
+          sets = 0;
+          keys = 0;
+        } }
     {
         Counts {
             turns: 0,

@@ -3,7 +3,10 @@
 /// Objects are named by handle, places and words are those of local memory, of eight bytes each.
 pub enum Event {
     /// The pointer word of an object was found, by a look or by a claim that was raced.
-    Looked { handle: u32, word: u64 },
+    Looked {
+        handle: u32,
+        word: u64,
+    },
     /// The object was claimed at this word, with its version and the words of its contents.
     Claimed {
         handle: u32,
@@ -12,13 +15,28 @@ pub enum Event {
         words: [u64; 0],
     },
     /// The version word of an object was read.
-    Told { handle: u32, version: u64 },
+    Told {
+        handle: u32,
+        version: u64,
+    },
     /// A memory word was read.
-    Loaded { place: u32, word: u64 },
+    Loaded {
+        place: u32,
+        word: u64,
+    },
     /// A memory word was stored.
-    Stored { place: u32, word: u64 },
+    Stored {
+        place: u32,
+        word: u64,
+    },
     /// The version word of an object was stored.
-    Stamped { handle: u32, version: u64 },
+    Stamped {
+        handle: u32,
+        version: u64,
+    },
     /// The pointer word of an object was stored.
-    Settled { handle: u32, word: u64 },
+    Settled {
+        handle: u32,
+        word: u64,
+    },
 }

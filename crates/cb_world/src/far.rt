@@ -38,15 +38,16 @@ impl Model for Far {
     ghost coded = { Prim.hlevel (codes, sets_code, nodes_code) };
 
     ghost view = { λ a. record {
-        first = a.first;
-        made = a.made;
-        frames = a.frames;
-        spans = a.spans;
-        sets = a.sets;
-        homes = a.homes;
-        nodes = a.nodes;
-        members = a.members;
-        leaving = a.leaving;
-        joining = a.joining;
-        counts = a.counts } };
+      first = a.first;
+      made = a.made;
+      frames = a.frames;
+      spans = a.spans;
+      sets = a.sets;
+      homes = a.homes;
+      nodes = a.nodes;
+      members = a.members;
+      leaving = a.leaving;
+      joining = a.joining;
+      counts = a.counts;
+    } };
 }

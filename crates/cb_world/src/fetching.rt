@@ -32,7 +32,12 @@ fn give_rows(nodes: &mut Nodes, set: &SpanSet, positions: &[u8], table: &mut Row
 
 /// Gives rows of the set out, one at each of its k least positions whose shards are not lost, and
 /// makes the word of them.
-fn solved(alloc: Global, nodes: &mut Nodes, members: &Members, set: &SpanSet) -> Result<Rows, NoMemory>
+fn solved(
+    alloc: Global,
+    nodes: &mut Nodes,
+    members: &Members,
+    set: &SpanSet,
+) -> Result<Rows, NoMemory>
     requires given { nodes.old.given + length set.now.positions < 2 ^ 64 }
     requires counted { length nodes.old.nodes ≡ length members.now.nodes }
     requires shaped { IsShaped members.now set.now }

@@ -19,10 +19,11 @@ impl Model for Joining {
     ghost Value = { JoiningState };
 
     ghost view = { λ pair. record {
-        a = pair.a;
-        b = pair.b;
-        shards_a = pair.shards_a.items;
-        shards_b = pair.shards_b.items;
-        taken = pair.taken.items;
-        steps = pair.steps.items } };
+      a = pair.a;
+      b = pair.b;
+      shards_a = pair.shards_a.items;
+      shards_b = pair.shards_b.items;
+      taken = pair.taken.items;
+      steps = pair.steps.items;
+    } };
 }

@@ -26,9 +26,10 @@ impl Model for Leaving {
     ghost Value = { LeavingState };
 
     ghost view = { λ a. record {
-        set = a.set;
-        frames = a.frames.items;
-        words = a.words.items;
-        parities = a.parities;
-        shards = a.shards.items } };
+      set = a.set;
+      frames = a.frames.items;
+      words = a.words.items;
+      parities = a.parities;
+      shards = a.shards.items;
+    } };
 }

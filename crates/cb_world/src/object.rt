@@ -2,7 +2,9 @@
 /// arrays as lists of any length. Lengths are in bytes, places are indices of memory words.
 pub enum Object {
     /// Never made (version 0), or freed at this version.
-    Empty { version: u64 },
+    Empty {
+        version: u64,
+    },
     /// Away: its length, its last complete version and the words of its contents.
     Far {
         len: u32,
@@ -10,7 +12,10 @@ pub enum Object {
         words: [u64; 0],
     },
     /// In local memory. Others may pin it, claim it and write it.
-    Here { len: u32, place: u32 },
+    Here {
+        len: u32,
+        place: u32,
+    },
     /// In local memory and claimed by the holder: its last complete version and the words of its
     /// contents.
     Claimed {

@@ -25,16 +25,18 @@ impl Model for PlainDesk {
     ghost Value = { Words };
 
     ghost view = { λ d. record {
-        settings = d.config;
-        words = d.words.items;
-        versions = d.versions.items;
-        memory = d.memory.items } };
+      settings = d.config;
+      words = d.words.items;
+      versions = d.versions.items;
+      memory = d.memory.items;
+    } };
 
     ghost invariant = { λ d. IsSized (record {
-        settings = d.config;
-        words = d.words.items;
-        versions = d.versions.items;
-        memory = d.memory.items }) };
+      settings = d.config;
+      words = d.words.items;
+      versions = d.versions.items;
+      memory = d.memory.items;
+    }) };
 }
 
 impl PlainDesk {
@@ -43,10 +45,11 @@ impl PlainDesk {
     pub fn new(alloc: Global, config: Config) -> Result<PlainDesk, NoMemory>
         requires { IsAccepted config }
         ensures empty { IfOk result (λ desk. desk ≡ record {
-            settings = config;
-            words = replicate config.handles 0;
-            versions = replicate config.handles 0;
-            memory = replicate (512 * config.frames) 0 }) }
+          settings = config;
+          words = replicate config.handles 0;
+          versions = replicate config.handles 0;
+          memory = replicate (512 * config.frames) 0;
+        }) }
     {
         Ok(PlainDesk {
             config,

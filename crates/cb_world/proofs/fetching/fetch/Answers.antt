@@ -12,12 +12,12 @@ pub give_row-requires-clause-length : goal.give_row-requires-clause-length
 give_row-requires-clause-length c =
     let rows = c.requires.word.0 in
     let within =
-        slice_get_within c.args.set.now.shards c.args.position c.shard-shard.result
-        c.shard-shard.ensures in
+    slice_get_within c.args.set.now.shards c.args.position c.shard-shard.result
+    c.shard-shard.ensures in
     subst (λ (o : Option (List ℕ)).
-        IfSome o (λ r.
-        length r ≡ length c.args.into.now))
-        (sym (c.requires.word.1.survive c.args.position c.shard-shard.result c.shard-shard.ensures
-        (sym c.is_lost.ensures ∙ c.if-not-is_lost.true)))
+    IfSome o (λ r.
+    length r ≡ length c.args.into.now))
+    (sym (c.requires.word.1.survive c.args.position c.shard-shard.result c.shard-shard.ensures
+    (sym c.is_lost.ensures ∙ c.if-not-is_lost.true)))
     (row_wide c.args.nodes.now c.args.members.now c.args.set.now rows c.args.position
-        c.requires.shaped c.requires.word.1 within ∙ sym c.requires.into)
+    c.requires.shaped c.requires.word.1 within ∙ sym c.requires.into)
