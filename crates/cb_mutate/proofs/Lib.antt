@@ -1,0 +1,5 @@
+pub mod Bytes
+pub mod Settling
+pub mod Written
+pub mod Emptied
+pub mod Freed

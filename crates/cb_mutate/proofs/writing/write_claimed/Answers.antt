@@ -1,0 +1,180 @@
+use Rattle.std.proofs.Common.{ℕ, ◌+◌, ◌≤◌, List, [], ◌∷◌, ◌++◌, length, refl, sym, ap, ◌∙◌, subst, arith, inl, inr}
+use Rattle.cb_types.specs.declared.reply.Reply.TheVariants as answer
+use Rattle.cb_ptr.specs.declared.word.PtrWord.{PtrWord}
+use Rattle.cb_ptr.specs.Word.{len_of, place_of}
+use Rattle.cb_world.specs.declared.event.Event.TheVariants.{Told, Stamped, Settled}
+use Rattle.cb_world.specs.declared.shown.Shown.{Shown}
+use Rattle.cb_world.specs.Write.{IsWrite}
+use Rattle.cb_world.specs.Shown.{IsHeld, object_at}
+use Rattle.cb_world.specs.Played.{after, played}
+use Rattle.cb_world.proofs.Tracing.{played_append}
+use Rattle.cb_world.proofs.Untouched.{allowed_append}
+use Rattle.cb_world.proofs.Claimed.{held, may_put_back, settled_here, back_written}
+use Rattle.cb_mutate.proofs.Settling.{same_slot, may_settle_written, stores_no_look, stores_told, stores_first, overwrote, owned_at, stamped, settled_at_end, wrote_one}
+use Rattle.cb_mutate.proofs.writing.write_claimed.Goals as goal
+
+pub returns-then-at-bytes : goal.returns-then-at-bytes
+returns-then-at-bytes g c =
+    let h = c.args.h.n in let w = c.args.word in
+    let len = ap (λ (p : PtrWord). p.len) c.unpack-fields.ensures.fields in
+    record {
+      events = Settled h w ∷ [];
+      ran = c.settle.ensures;
+      no_look = ((λ w e. e), tt);
+      looks_first = (tt, tt);
+      quiet = λ s. refl;
+      allowed = λ s v words k. (may_put_back s h w v words k.1, tt);
+      ends_so = λ s v words k. inl (
+        omega (arith, len, c.if-at-bytes.true),
+        ap answer.Range len,
+        record {
+          settled = settled_here s h w k.1.free.0;
+          nothing = back_written s h w v words k.1;
+        },
+      );
+    }
+
+pub settle-requires-then-version-clause-may : goal.settle-requires-then-version-clause-may
+settle-requires-then-version-clause-may g c =
+    let had = c.requires.claimed in let told = Told c.args.h.n c.version-version.result ∷ [] in (
+      had.0,
+      (g.met.D.Desk.follows _ _ told had.0 c.version-version.ensures had.1).1,
+      may_put_back had.0 c.args.h.n c.args.word had.2.0 had.2.1 had.2.2,
+    )
+
+pub returns-then-version : goal.returns-then-version
+returns-then-version g c =
+    let h = c.args.h.n in let w = c.args.word in let x = c.version-version.result in
+    let len = ap (λ (p : PtrWord). p.len) c.unpack-fields.ensures.fields in
+    record {
+      events = Told h x ∷ Settled h w ∷ [];
+      ran = g.met.D.Desk.more _ _ _ _ _ c.version-version.ensures c.settle-then-version.ensures;
+      no_look = ((λ w e. e), ((λ w e. e), tt));
+      looks_first = (tt, tt);
+      quiet = λ s. refl;
+      allowed = λ s v words k. (tt, (may_put_back s h w v words k.1, tt));
+      ends_so = λ s v words k.
+          let told = (g.met.D.Desk.follows _ _ (Told h x ∷ []) s c.version-version.ensures k.0).0.0
+          (held s h w v words k.1) ∙ k.1.version in
+          inr (
+            omega (arith, c.if-at-bytes.false, len),
+            inl (
+              sym told ∙ c.if-version.true,
+              refl,
+              record {
+                settled = settled_here s h w k.1.free.0;
+                nothing = back_written s h w v words k.1;
+              },
+            ),
+          );
+    }
+
+pub overwrite-requires-clause-owned : goal.overwrite-requires-clause-owned
+overwrite-requires-clause-owned g c =
+    let had = c.requires.claimed in let told = Told c.args.h.n c.version-version.result ∷ [] in (
+      had.0,
+      (g.met.D.Desk.follows _ _ told had.0 c.version-version.ensures had.1).1,
+      owned_at had.0 c.args.h.n c.args.word had.2.0 had.2.1 c.unpack-fields.result
+          c.unpack-fields.ensures.fields had.2.2,
+    )
+
+pub store_version-requires-clause-held : goal.store_version-requires-clause-held
+store_version-requires-clause-held g c =
+    let had = c.requires.claimed in let h = c.args.h.n in let x = c.version-version.result in
+    let ow = c.overwrite.ensures in let s = had.0 in
+    let told = g.met.D.Desk.follows _ _ (Told h x ∷ []) s c.version-version.ensures had.1 in
+    let now = ow.3 s told.1 (owned_at s h c.args.word had.2.0 had.2.1 c.unpack-fields.result
+    c.unpack-fields.ensures.fields had.2.2) in (
+      played ow.0 s,
+      (g.met.D.Desk.follows _ _ ow.0 s ow.1 told.1).1,
+      subst (λ (t : Shown). IsHeld (object_at t h)) (sym now.2)
+          (held s h c.args.word had.2.0 had.2.1 had.2.2),
+    )
+
+pub settle-requires-2-clause-may : goal.settle-requires-2-clause-may
+settle-requires-2-clause-may g c =
+    let had = c.requires.claimed in let h = c.args.h.n in let x = c.version-version.result in
+    let ow = c.overwrite.ensures in let s = had.0 in let v = had.2.0 in let words = had.2.1 in
+    let k = had.2.2 in let f = c.unpack-fields.ensures.fields in let w = c.args.word in
+    let told = g.met.D.Desk.follows _ _ (Told h x ∷ []) s c.version-version.ensures had.1 in
+    let same = told.0.0 (held s h w v words k) ∙ k.version in
+    let now = overwrote s ow.0 w c.args.at c.args.bytes.now c.unpack-fields.result f
+    (let z = ow.3 s told.1 (owned_at s h w v words c.unpack-fields.result f k) in
+    (z.0, z.1, z.2)) in
+    let es = ow.0 ++ Stamped h (x + 1) ∷ [] in
+    let ran = g.met.D.Desk.more _ _ _ _ _ ow.1 c.store_version.ensures in (
+      played es s,
+      (g.met.D.Desk.follows _ _ es s ran told.1).1,
+      may_settle_written s (played es s) h w v c.settled.result c.args.at words c.args.bytes.now
+          now.0 k
+          (subst (λ (l : List ℕ). IsWrite l c.args.at c.args.bytes.now now.0) k.contents now.1)
+          (omega (arith, c.if-at-bytes.false, ap (λ (p : PtrWord). p.len) f))
+          (same_slot w c.claimed.result c.settled.result c.unpack-fields.result.place k.free
+          c.claimed.ensures (ap (λ (p : PtrWord). p.place) f) c.settled.ensures)
+          (stamped s ow.0 h v x (place_of w) now.0 now.2 same),
+    )
+
+pub returns : goal.returns
+returns g c =
+    let h = c.args.h.n in let x = c.version-version.result in let ow = c.overwrite.ensures in
+    let f = c.unpack-fields.ensures.fields in let w = c.args.word in
+    let n = c.settled.result in
+    let tail = Stamped h (x + 1) ∷ Settled h n ∷ [] in
+    let inside : c.args.at + length c.args.bytes.now ≤ len_of w =
+    omega (arith, c.if-at-bytes.false, ap (λ (p : PtrWord). p.len) f) in
+    record {
+      events = Told h x ∷ (ow.0 ++ tail);
+      ran = g.met.D.Desk.more _ _ _ _ _ c.version-version.ensures
+          (g.met.D.Desk.more _ _ _ _ _ ow.1
+          (g.met.D.Desk.more _ _ _ _ _ c.store_version.ensures c.settle-2.ensures));
+      no_look = ((λ w e. e), stores_no_look h ow.0 tail ow.2 ((λ w e. e), ((λ w e. e), tt)));
+      looks_first = stores_first ow.0 tail ow.2 tt (tt, (tt, tt));
+      quiet = λ s. stores_told ow.0 tail s ow.2;
+      allowed = λ s v words k.
+          let told = g.met.D.Desk.follows _ _ (Told h x ∷ []) s c.version-version.ensures k.0 in
+          let same = told.0.0 (held s h w v words k.1) ∙ k.1.version in
+          let z = ow.3 s told.1 (owned_at s h w v words c.unpack-fields.result f k.1) in
+          let now = overwrote s ow.0 w c.args.at c.args.bytes.now c.unpack-fields.result f
+          (z.0, z.1, z.2) in
+          let slot = same_slot w c.claimed.result n c.unpack-fields.result.place k.1.free
+          c.claimed.ensures (ap (λ (p : PtrWord). p.place) f) c.settled.ensures in (
+            tt,
+            allowed_append ow.0 tail s z.3 (
+              subst (λ (t : Shown). IsHeld (object_at t h)) (sym now.2) (held s h w v words k.1),
+              (
+                may_settle_written s (after (Stamped h (x + 1)) (played ow.0 s)) h w v n c.args.at
+                    words c.args.bytes.now now.0 k.1
+                    (subst (λ (l : List ℕ). IsWrite l c.args.at c.args.bytes.now now.0) k.1.contents
+                    now.1)
+                    inside slot
+                    (sym (played_append ow.0 (Stamped h (x + 1) ∷ []) s)
+                    ∙ stamped s ow.0 h v x (place_of w) now.0 now.2 same),
+                tt,
+              ),
+            ),
+          );
+      ends_so = λ s v words k.
+          let told = g.met.D.Desk.follows _ _ (Told h x ∷ []) s c.version-version.ensures k.0 in
+          let same = told.0.0 (held s h w v words k.1) ∙ k.1.version in
+          let z = ow.3 s told.1 (owned_at s h w v words c.unpack-fields.result f k.1) in
+          let now = overwrote s ow.0 w c.args.at c.args.bytes.now c.unpack-fields.result f
+          (z.0, z.1, z.2) in
+          let slot = same_slot w c.claimed.result n c.unpack-fields.result.place k.1.free
+          c.claimed.ensures (ap (λ (p : PtrWord). p.place) f) c.settled.ensures in
+          let wrote = subst (λ (l : List ℕ). IsWrite l c.args.at c.args.bytes.now now.0)
+          k.1.contents now.1 in
+          inr (
+            inside,
+            inr (
+              (omega (arith, same, c.if-version.false, c.version-version.type_inv)),
+              ap (λ (u : ℕ). answer.Version (u + 1)) same,
+              record {
+                new = now.0;
+                write = wrote;
+                settled = settled_at_end s ow.0 h w v x n now.0 now.2 same slot;
+                one = wrote_one s ow.0 h w v x n c.args.at words c.args.bytes.now now.0 ow.2 k.1
+                    wrote now.2 same slot;
+              },
+            ),
+          );
+    }

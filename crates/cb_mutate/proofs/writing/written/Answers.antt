@@ -1,0 +1,111 @@
+use Rattle.std.proofs.Common.{ℕ, ◌<◌, List, [], ◌++◌, sym, refl, subst}
+use Rattle.cb_ptr.specs.declared.word.State.{State}
+use Rattle.cb_ptr.specs.Word.{state_of}
+use Rattle.cb_world.specs.declared.event.Event.{Event}
+use Rattle.cb_world.specs.declared.shown.Shown.{Shown}
+use Rattle.cb_world.specs.Played.{played}
+use Rattle.cb_world.specs.Sound.{Sound}
+use Rattle.cb_world.proofs.AfterClaim.{claim_after, after_claim, claim_found, claim_taken, claim_first, claim_all_allowed}
+use Rattle.cb_world.proofs.AfterLook.{look_after, look_found, look_first, look_allowed, look_sound, look_still}
+use Rattle.cb_mutate.specs.Answered.{AnsweredAs}
+use Rattle.cb_mutate.specs.WriteRule.{WriteHere}
+use Rattle.cb_mutate.specs.WriteEnds.{WriteEnds}
+use Rattle.cb_mutate.proofs.Written.{write_done, write_before, refused_effect}
+use Rattle.cb_mutate.proofs.writing.written.Goals as goal
+
+pub write_claimed-requires-clause-claimed : goal.write_claimed-requires-clause-claimed
+write_claimed-requires-clause-claimed g c =
+    let h = c.args.h.n in let w = c.in-Claimed.word in let got = c.in-Claimed.ensures in
+    let tried = got.2 in let v = tried.1 in let words = tried.2 in
+    let first = claim_after tried.0 h w v words in
+    let had = c.requires.sound in let s = had.0 in
+    let ran = subst (λ (l : List Event). g.D.Desk.run c.args.desk.now l c.try_claim.new.desk)
+    tried.3 got.1 in
+    let follows = g.met.D.Desk.follows _ _ first s ran had.1 in
+    let sized = g.met.D.Desk.sized _ s had.1 in (
+      played first s,
+      follows.1,
+      (
+        v,
+        words,
+        (after_claim c.args.far.now s tried.0 [] h w v words had.2.here
+            (subst (λ (n : ℕ). h < n) (sym sized.0) c.requires.handle)
+            (subst (λ (n : ℕ). h < n) (sym sized.2) c.requires.handle)
+            tried.4 tried.5 follows.0 (λ t. refl)).claimed,
+      ),
+    )
+
+pub returns-in-Claimed : goal.returns-in-Claimed
+returns-in-Claimed g c =
+    let h = c.args.h.n in let w = c.in-Claimed.word in let got = c.in-Claimed.ensures in
+    let tried = got.2 in let before = tried.0 in let v = tried.1 in let words = tried.2 in
+    let first = claim_after before h w v words in
+    let ran = subst (λ (l : List Event). g.D.Desk.run c.args.desk.now l c.try_claim.new.desk)
+    tried.3 got.1 in
+    let rest = c.write_claimed.ensures in let done = rest.events in
+    let r = c.write_claimed.result in
+    let found = claim_found before done h w v words rest.no_look in
+    let taken = claim_taken before done h w v words tried.4 in
+    let after = λ (s : Shown) (a : g.D.Desk.shows c.args.desk.now s)
+    (sound : Sound s c.args.far.now).
+    let follows = g.met.D.Desk.follows _ _ first s ran a in
+    let sized = g.met.D.Desk.sized _ s a in
+    after_claim c.args.far.now s before done h w v words sound.here
+    (subst (λ (n : ℕ). h < n) (sym sized.0) c.requires.handle)
+    (subst (λ (n : ℕ). h < n) (sym sized.2) c.requires.handle)
+    tried.4 tried.5 follows.0 rest.quiet in
+    let ended = λ (s : Shown) (a : g.D.Desk.shows c.args.desk.now s)
+    (sound : Sound s c.args.far.now).
+    let follows = g.met.D.Desk.follows _ _ first s ran a in
+    let x = after s a sound in
+    write_done c.args.far.now s (played (first ++ done) s) first done h w v c.args.at words
+    c.args.bytes.now r sound x tried.5 found taken
+    (subst (λ (t : Shown). WriteEnds h w c.args.at c.args.bytes.now r done (played first s)
+    v words t)
+    (sym x.at_end) (rest.ends_so (played first s) v words (follows.1, x.claimed))) in
+    let had = c.requires.sound in
+    record {
+      write = record {
+        events = first ++ done;
+        ran = g.met.D.Desk.more _ _ _ _ _ ran rest.ran;
+        looks_first = claim_first before done h w v words tried.4 rest.no_look rest.looks_first;
+        rule = (
+          w,
+          found,
+          subst (λ (q : State). AnsweredAs q
+              (WriteHere h c.args.at c.args.bytes.now (first ++ done) r) w h (first ++ done) r)
+              (sym tried.5.0) (ended had.0 had.1 had.2).rule,
+        );
+        allowed = λ s k. claim_all_allowed before done h w v words s tried.4
+            (rest.allowed (played first s) v words
+            ((g.met.D.Desk.follows _ _ first s ran k.0).1, (after s k.0 k.1).claimed));
+        sound_after = λ s k. (ended s k.0 k.1).sound;
+        effect = λ s k. (ended s k.0 k.1).effect;
+      };
+    }
+
+pub returns-in-Left : goal.returns-in-Left
+returns-in-Left g c =
+    let h = c.args.h.n in let w = c.in-Left.word in let got = c.in-Left.ensures in
+    let tried = got.2 in let before = tried.0 in
+    let first = look_after before h w in
+    let ran = subst (λ (l : List Event). g.D.Desk.run c.args.desk.now l c.try_claim.new.desk)
+    tried.1 got.1 in
+    let rest = c.refuse_write.ensures in let r = c.refuse_write.result in
+    record {
+      write = record {
+        events = first ++ rest.0;
+        ran = g.met.D.Desk.more _ _ _ _ _ ran rest.1;
+        looks_first = look_first before rest.0 h w tried.2 rest.2;
+        rule = (
+          w,
+          look_found before rest.0 h w rest.2,
+          write_before (state_of w) h w c.args.at c.args.bytes.now first rest.0 r rest.3,
+        );
+        allowed = λ s k. look_allowed before rest.0 h w s tried.2 rest.2;
+        sound_after = λ s k. look_sound c.args.far.now s before rest.0 h w k.1 tried.2 rest.2;
+        effect = λ s k. refused_effect (state_of w) h w c.args.at c.args.bytes.now rest.0
+            (first ++ rest.0) s (played (first ++ rest.0) s) r rest.2 rest.3
+            (look_still s before rest.0 h w tried.2 rest.2);
+      };
+    }

@@ -1,0 +1,11 @@
+-- Events at memory words, and a write that is done as far as some byte.
+use Rattle.std.specs.Prelude.{List, [], ◌∷◌}
+use Rattle.cb_world.specs.declared.event.Event.{Event}
+use Rattle.cb_world.specs.declared.event.Event.TheVariants.{Loaded, Stored}
+
+-- every event is at a memory word
+abbrev pub AreStores : List Event → Type 0
+AreStores [] = Unit {0}
+AreStores (Loaded p x ∷ es) = AreStores es
+AreStores (Stored p x ∷ es) = AreStores es
+AreStores (e ∷ es) = ⊥

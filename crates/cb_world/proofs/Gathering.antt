@@ -1,0 +1,220 @@
+-- How the surviving positions are found, and their rows given out.
+use Rattle.std.proofs.Common.{◌≡◌, ◌≢◌, ℕ, suc, ◌+◌, ◌<◌, ◌≤◌, Bool, true, false, cond, List, [], ◌∷◌, ◌++◌, length, take, get_or, set, Some, sym, refl, ap, ◌∙◌, subst, arith, inl, inr, length-set, get_or-set_same, get_or-set_other}
+use Rattle.std.specs.List.{slice_get}
+use Rattle.std.proofs.lemmas.Bool.{cases_eq}
+use Rattle.std.proofs.lemmas.List.{append-nil, take-take, take_more, length-take-le, take_more_set}
+use Rattle.cb_gf256.specs.Rows.{row_at, HaveLength}
+use Rattle.cb_gf256.specs.Block.{with_row}
+use Rattle.cb_gf256.proofs.PublicLaws.{written_count, written_row, written_lengths}
+use Rattle.cb_member.specs.declared.names.Shard.{Shard}
+use Rattle.cb_member.specs.Membership.{Membership}
+use Rattle.cb_node.specs.NodesState.{NodesState, row_at as row_under}
+use Rattle.cb_set.specs.SetState.{SetState}
+use Rattle.cb_set.specs.Lost.{is_lost, lost}
+use Rattle.cb_erase.specs.Weights.{rows_at, IsSolution}
+use Rattle.cb_world.specs.SetWord.{IsShaped, IsWordOf}
+use Rattle.cb_set.specs.Surviving.{surviving_from, surviving}
+use Rattle.cb_set.specs.SetState.{parities}
+use Rattle.cb_world.proofs.Surviving.{count_surviving, counted, taken_survives}
+use Rattle.std.proofs.lemmas.Option.{slice_get_within}
+use Rattle.cb_world.specs.Fetched.{StandAt, StandsAt}
+
+surviving_append : (m : Membership) (p : ℕ) (xs : List Shard) (x : Shard)
+    → surviving_from m p (xs ++ (x ∷ [])) ≡ surviving_from m p xs ++ cond (is_lost m x) []
+    ((p + length xs) ∷ [])
+surviving_append m p [] x = ap (λ (q : ℕ). cond (is_lost m x) [] (q ∷ [])) (omega arith)
+surviving_append m p (y ∷ ys) x =
+    let e : (p + 1) + length ys ≡ p + length (y ∷ ys) = omega arith in
+    ap (λ (l : List ℕ). cond (is_lost m y) l (p ∷ l)) (surviving_append m (p + 1) ys x
+    ∙ ap (λ (q : ℕ). surviving_from m (p + 1) ys ++ cond (is_lost m x) [] (q ∷ [])) e)
+    ∙ split (is_lost m y) (surviving_from m (p + 1) ys)
+    (cond (is_lost m x) [] ((p + length (y ∷ ys)) ∷ []))
+  where
+    split : (b : Bool) (l r : List ℕ) → cond b (l ++ r) (p ∷ (l ++ r)) ≡ cond b l (p ∷ l) ++ r
+    split true l r = refl
+    split false l r = refl
+
+pub surviving_more : (m : Membership) (shards : List Shard) (i : ℕ) (d : Shard) → i < length shards
+    → surviving m (take (i + 1) shards) ≡ surviving m (take i shards) ++ cond
+    (is_lost m (get_or shards i d)) [] (i ∷ [])
+surviving_more m shards i d within =
+    ap (surviving m) (take_more shards i d within)
+    ∙ surviving_append m 0 (take i shards) (get_or shards i d)
+    ∙ ap (λ (q : ℕ).
+    surviving m (take i shards) ++ cond (is_lost m (get_or shards i d)) [] (q ∷ [])) (let n =
+    length-take-le i shards (omega (arith, within)) in omega (arith, n))
+
+-- the surviving ones among the first i positions stand in the first places
+pub record Found (m : Membership) (shards : List Shard) (i : ℕ) (present : List ℕ) (count : ℕ) :
+    Type 0 where
+  pub size : length present ≡ 20
+  pub behind : count ≤ i
+  pub counted : count ≡ length (surviving m (take i shards))
+  pub listed : take count present ≡ surviving m (take i shards)
+
+pub found_none : (m : Membership) (shards : List Shard) (present : List ℕ) → length present ≡ 20
+    → Found m shards 0 present 0
+found_none m shards present size =
+    record { size = size; behind = omega arith; counted = refl; listed = refl }
+
+pub found_lost : (m : Membership) (shards : List Shard) (i : ℕ) (present : List ℕ) (count : ℕ)
+    (d : Shard) → Found m shards i present count → i < length shards
+    → is_lost m (get_or shards i d) ≡ true → Found m shards (i + 1) present count
+found_lost m shards i present count d f within lost =
+    let e : surviving m (take (i + 1) shards) ≡ surviving m (take i shards) =
+    surviving_more m shards i d within
+    ∙ ap (λ (b : Bool). surviving m (take i shards) ++ cond b [] (i ∷ [])) lost
+    ∙ append-nil (surviving m (take i shards)) in
+    record {
+      size = f.size;
+      behind = omega (arith, f.behind);
+      counted = f.counted
+          ∙ ap length (sym e);
+      listed = f.listed ∙ sym e;
+    }
+
+pub found_more : (m : Membership) (shards : List Shard) (i : ℕ) (present : List ℕ) (count : ℕ)
+    (d : Shard) → Found m shards i present count → i < length shards → length shards ≤ 20
+    → is_lost m (get_or shards i d) ≡ false
+    → Found m shards (i + 1) (set present count i) (count + 1)
+found_more m shards i present count d f within few kept =
+    let e : surviving m (take (i + 1) shards) ≡ surviving m (take i shards) ++ i ∷ [] =
+    surviving_more m shards i d within
+    ∙ ap (λ (b : Bool). surviving m (take i shards) ++ cond b [] (i ∷ [])) kept in
+    let room : count < length present = omega (arith, f.size, f.behind, within, few) in
+    let l : take (count + 1) (set present count i) ≡ surviving m (take (i + 1) shards) =
+    take_more_set present count i room ∙ ap (λ (l : List ℕ). l ++ i ∷ []) f.listed ∙ sym e in
+    let n = length-take-le (count + 1) (set present count i) (omega (
+      arith,
+      room,
+      length-set present count i,
+    )) in
+    record {
+      size = length-set present count i ∙ f.size;
+      behind = omega (arith, f.behind);
+      counted =
+          sym n ∙ ap length l;
+      listed = l;
+    }
+
+-- the rows of the first i positions are those of the word
+pub record Given (old now : NodesState) (shards : List Shard) (positions : List ℕ)
+    (table given : List (List ℕ)) (i : ℕ) : Type 0 where
+  pub nodes : now ≡ record old { given = old.given + i }
+  pub count : length given ≡ length table
+  pub lengths : HaveLength 4096 given
+  pub rows : (rows : List (List ℕ)) → StandAt old shards rows positions → (j : ℕ) → j < i
+      → row_at given (get_or positions j 0) ≡ row_at rows (get_or positions j 0)
+
+pub given_more : (old now next : NodesState) (shards : List Shard) (positions : List ℕ)
+    (table given : List (List ℕ)) (i p : ℕ) (row : List ℕ)
+    → Given old now shards positions table given i → i < length positions → p ≡ get_or positions i 0
+    → p < length table
+    → length row ≡ 4096 → next ≡ record now { given = now.given + 1 }
+    → ((rows : List (List ℕ)) → StandAt old shards rows positions → row ≡ row_at rows p)
+    → Given old next shards positions table (with_row given p row) (i + 1)
+given_more old now next shards positions table given i p row g within here below wide one is =
+    let inside : p < length given = omega (arith, g.count, below) in
+    let lengths : HaveLength (length row) given = λ q d l. omega (arith, g.lengths q d l, wide) in
+    let e = written_row given p row lengths inside in
+    record {
+      nodes = one ∙ ap (λ (n : NodesState). record n { given = n.given + 1 }) g.nodes
+          ∙ ap (λ (k : ℕ). record old { given = k }) (omega arith);
+      count = written_count given p row ∙ g.count;
+      lengths = written_lengths 4096 given p row g.lengths wide inside;
+      rows = λ rows stand j l. ap (λ (t : List (List ℕ)). row_at t (get_or positions j 0)) e
+          ∙ elim (cases_eq (get_or positions j 0) p) [
+            | inl same ↦ ap (row_at (set given p row)) same ∙ get_or-set_same given p row [] inside
+                ∙ is rows stand ∙ ap (row_at rows) (sym same)
+            | inr off ↦ get_or-set_other given p (get_or positions j 0) row [] off
+                ∙ g.rows rows stand j (earlier j l (λ at.
+                off (ap (λ (n : ℕ). get_or positions n 0) at ∙ sym here)))
+          ];
+    }
+  where
+    earlier : (j : ℕ) → j < i + 1 → j ≢ i → j < i
+    earlier j l off = omega (arith, l, off)
+
+shard_same : (a b : Shard) → Some a ≡ Some b → a ≡ b
+shard_same a b e = cc
+
+pub stand_row : (old now : NodesState) (shards : List Shard) (positions : List ℕ) (i p : ℕ)
+    (shard : Shard) (rows : List (List ℕ)) → now ≡ record old { given = old.given + i }
+    → StandAt old shards rows positions → i < length positions → p ≡ get_or positions i 0
+    → slice_get shards p ≡ Some shard → (row_under now shard.node shard.key ≡ Some (row_at rows p))
+    × (length (row_at rows p) ≡ 4096)
+stand_row old now shards positions i p shard rows is stand within here at =
+    let s = stand i within in
+    let e : s.shard ≡ shard =
+    shard_same s.shard shard (sym s.at ∙ ap (slice_get shards) (sym here) ∙ at) in (
+      ap (λ (n : NodesState). row_under n shard.node shard.key) is
+          ∙ ap (λ (q : Shard). row_under old q.node q.key) (sym e) ∙ s.row
+          ∙ ap (λ (n : ℕ). Some (row_at rows n)) (sym here),
+      ap (λ (n : ℕ). length (row_at rows n)) here ∙ s.wide,
+    )
+
+-- the first k of them
+pub first_survivors : (m : Membership) (set : SetState) (present : List ℕ) → IsShaped m set
+    → length (lost m set.shards) ≤ parities set
+    → take (length (surviving m set.shards)) present ≡ surviving m set.shards
+    → take (length set.positions) present ≡ take (length set.positions) (surviving m set.shards)
+first_survivors m set present shaped few listed =
+    let enough : length set.positions ≤ length (surviving m set.shards) =
+    omega (arith, count_surviving m 0 set.shards, counted m set shaped, few) in
+    sym (take-take (length set.positions) (length (surviving m set.shards)) present enough)
+    ∙ ap (take (length set.positions)) listed
+
+-- their rows stand at their nodes
+pub survivors_stand : (nodes : NodesState) (m : Membership) (set : SetState) (rows : List (List ℕ))
+    (k : ℕ) → IsShaped m set → length nodes.nodes ≡ length m.nodes → IsWordOf nodes m set rows
+    → StandAt nodes set.shards rows (take k (surviving m set.shards))
+survivors_stand nodes m set rows k shaped count word i within =
+    let s = taken_survives m set.shards k i within in
+    let q : get_or (take k (surviving m set.shards)) i 0 ≡ s.at = s.place ∙ omega arith in
+    let c = shaped.current s.at s.shard s.there in
+    let inside : s.at < length rows =
+    omega (
+      arith,
+      slice_get_within set.shards s.at s.shard s.there,
+      word.code.is_word.count,
+      counted m set shaped,
+    ) in
+    let wide : length (row_at rows s.at) ≡ 4096 = word.code.is_word.equal_lengths s.at [] inside
+    ∙ word.code.wide in
+    subst (StandsAt nodes set.shards rows) (sym q) (record {
+      shard = s.shard;
+      at = s.there;
+      node =
+          omega (arith, c.0, count);
+      row = word.survive s.at s.shard s.there s.kept;
+      wide = wide;
+    })
+
+-- the word of a set is what is solved from these rows
+pub word_is_solution : (nodes : NodesState) (m : Membership) (set : SetState)
+    (rows table : List (List ℕ)) (positions : List ℕ) → IsWordOf nodes m set rows
+    → ((i : ℕ) → i < length positions
+    → row_at table (get_or positions i 0) ≡ row_at rows (get_or positions i 0))
+    → IsSolution (length set.positions) (parities set) positions (rows_at table positions) rows
+word_is_solution nodes m set rows table positions word same = record {
+  is_word = word.code.is_word;
+  agrees = alike positions same;
+}
+  where
+    alike : (ps : List ℕ)
+        → ((i : ℕ) → i < length ps → row_at table (get_or ps i 0) ≡ row_at rows (get_or ps i 0))
+        → rows_at rows ps ≡ rows_at table ps
+    alike [] h = refl
+    alike (p ∷ ps) h =
+        ap (λ (l : List (List ℕ)).
+        row_at rows p ∷ l) (alike ps (λ i l. h (suc i) (omega (arith, l))))
+        ∙ ap (λ (r : List ℕ). r ∷ rows_at table ps) (sym (h 0 (omega arith)))
+
+-- a row of the word has the bytes of a span
+pub row_wide : (nodes : NodesState) (m : Membership) (set : SetState) (rows : List (List ℕ)) (p : ℕ)
+    → IsShaped m set → IsWordOf nodes m set rows → p < length set.shards
+    → length (row_at rows p) ≡ 4096
+row_wide nodes m set rows p shaped word within =
+    let inside : p < length rows =
+    omega (arith, within, word.code.is_word.count, counted m set shaped) in
+    word.code.is_word.equal_lengths p [] inside ∙ word.code.wide

@@ -1,0 +1,78 @@
+-- The words of a row in local memory.
+use Rattle.std.proofs.Common.{◌≡◌, ℕ, zero, suc, ◌+◌, ◌^◌, ◌<◌, ◌≤◌, List, [], ◌∷◌, ◌++◌, length, take, drop, get_or, sym, refl, ap, ◌∙◌, arith}
+use Rattle.std.specs.Int.{to_le_bytes, from_le_bytes, w64}
+use Rattle.std.proofs.lemmas.Nat.{from_le_bytes-to_le_bytes_8}
+use Rattle.std.proofs.lemmas.List.{take_at, drop_at}
+use Rattle.cb_world.specs.Memory.{window, put}
+use Rattle.cb_world.proofs.Windows.{put_at, window_at}
+use Rattle.cb_world.specs.StillDesk.{window_length}
+use Rattle.cb_world.specs.RowWords.{words_from, words_in, row_of}
+
+pub length_words : (n : ℕ) (row : List ℕ) → length (words_from n row) ≡ n
+unfolding words_from
+length_words zero row = refl
+length_words (suc n) row = ap suc (length_words n (drop 8 row))
+
+-- the row that words make has these words
+pub words_of_row : (ws : List ℕ) → ((i : ℕ) → i < length ws → get_or ws i 0 < 2 ^ 64)
+    → words_from (length ws) (row_of ws) ≡ ws
+unfolding words_from
+words_of_row [] small = refl
+words_of_row (w ∷ ws) small =
+    let t : take 8 (to_le_bytes w64 w ++ row_of ws) ≡ to_le_bytes w64 w =
+    take_at (to_le_bytes w64 w) (row_of ws) 8 refl in
+    let d : drop 8 (to_le_bytes w64 w ++ row_of ws) ≡ row_of ws =
+    drop_at (to_le_bytes w64 w) (row_of ws) 8 refl in
+    ap (λ (b : List ℕ).
+    from_le_bytes w64 b ∷ words_from (length ws) (drop 8 (to_le_bytes w64 w ++ row_of ws))) t
+    ∙ ap (λ (x : ℕ).
+    x ∷ words_from (length ws) (drop 8 (to_le_bytes w64 w ++ row_of ws)))
+    (from_le_bytes-to_le_bytes_8 w (small 0 (omega arith)))
+    ∙ ap (λ (b : List ℕ). w ∷ words_from (length ws) b) d
+    ∙ ap (λ (l : List ℕ). w ∷ l) (words_of_row ws (λ i l. small (suc i) (omega (arith, l))))
+
+-- two windows of different lists with the same words
+pub windows_agree : (xs ys : List ℕ) (p q n : ℕ)
+    → ((i : ℕ) → i < n → get_or xs (p + i) 0 ≡ get_or ys (q + i) 0) → window xs p n ≡ window ys q n
+unfolding window
+windows_agree xs ys p q zero same = refl
+windows_agree xs ys p q (suc n) same =
+    let a : p + 0 ≡ p = omega arith in
+    let b : q + 0 ≡ q = omega arith in
+    ap (λ (x : ℕ). x ∷ window xs (p + 1) n) (sym (ap (λ (k : ℕ). get_or xs k 0) a)
+    ∙ same 0 (omega arith) ∙ ap (λ (k : ℕ). get_or ys k 0) b)
+    ∙ ap (λ (l : List ℕ). get_or ys q 0 ∷ l) (windows_agree xs ys (p + 1) (q + 1) n (λ i l.
+    let c : (p + 1) + i ≡ p + suc i = omega arith in
+    let d : q + suc i ≡ (q + 1) + i = omega arith in
+    ap (λ (k : ℕ). get_or xs k 0) c ∙ same (suc i) (omega (arith, l))
+    ∙ ap (λ (k : ℕ). get_or ys k 0) d))
+
+-- lemma (iii): the words of a row put into a frame give each slot's words back
+pub row_put : (ms row : List ℕ) (base at n : ℕ) → base + 512 ≤ length ms → at + n ≤ 512
+    → window (put ms base (words_in row)) (base + at) n ≡ window (words_in row) at n
+row_put ms row base at n room within =
+    windows_agree (put ms base (words_in row)) (words_in row) (base + at) at n (λ i l.
+    let w = length_words 512 row in
+    let e : (base + at) + i ≡ base + (at + i) = omega arith in
+    ap (λ (k : ℕ). get_or (put ms base (words_in row)) k 0) e
+    ∙ put_at ms base (words_in row) (at + i) (omega (arith, w, l, within)) (omega (
+      arith,
+      w,
+      room,
+    )))
+
+-- for an eviction: the row made of a frame has in each slot the words that stand there
+pub row_made : (ms : List ℕ) (base at n : ℕ) → ((i : ℕ) → get_or ms i 0 < 2 ^ 64) → at + n ≤ 512
+    → window (words_in (row_of (window ms base 512))) at n ≡ window ms (base + at) n
+row_made ms base at n small within =
+    let count : length (window ms base 512) ≡ 512 = window_length ms base 512 in
+    let e : words_in (row_of (window ms base 512)) ≡ window ms base 512 =
+    ap (λ (k : ℕ). words_from k (row_of (window ms base 512))) (sym count)
+    ∙ words_of_row (window ms base 512) (λ i l. let s =
+    window_at ms base 512 i (omega (arith, l, count)) in let t =
+    small (base + i) in omega (arith, s, t)) in
+    windows_agree (words_in (row_of (window ms base 512))) ms at (base + at) n (λ i l.
+    let a : base + (at + i) ≡ (base + at) + i = omega arith in
+    ap (λ (l : List ℕ). get_or l (at + i) 0) e
+    ∙ window_at ms base 512 (at + i) (omega (arith, l, within))
+    ∙ ap (λ (k : ℕ). get_or ms k 0) a)

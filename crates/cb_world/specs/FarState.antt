@@ -1,0 +1,49 @@
+-- The far state as contracts see it.
+use Rattle.std.specs.Prelude.{ℕ, Bool, List, Option, None, Some, slice_index_or}
+use Rattle.cb_span.specs.Contents.{Contents, handle_at}
+use Rattle.cb_class.specs.declared.class.Class.{Class}
+use Rattle.cb_node.specs.NodesState.{NodesState}
+use Rattle.cb_member.specs.Membership.{Membership}
+use Rattle.cb_world.specs.declared.homes.Home.{Home}
+use Rattle.cb_world.specs.Sets.{SetMap}
+use Rattle.cb_world.specs.Leaving.{LeavingState}
+use Rattle.cb_world.specs.Joining.{JoiningState}
+use Rattle.cb_world.specs.Counts.{CountsState}
+
+-- the version that a make gives, and how many handles were made; free frames and the spans in the
+-- others; span-sets, homes of far objects, nodes and their membership; the batch that is leaving
+-- and
+-- the pair that is joining; and what is counted
+pub record FarState : Type 0 where
+  pub first : ℕ
+  pub made : ℕ
+  pub frames : List Bool
+  pub spans : List (Option Contents)
+  pub sets : SetMap
+  pub homes : List (Option Home)
+  pub nodes : NodesState
+  pub members : Membership
+  pub leaving : Option LeavingState
+  pub joining : Option JoiningState
+  pub counts : CountsState
+
+-- the span in a frame
+abbrev pub span_in : List (Option Contents) → ℕ → Option Contents
+span_in spans f = slice_index_or spans f None
+
+-- the handle in a slot, where there is a span
+abbrev pub handle_in : Option Contents → ℕ → Option ℕ
+handle_in None slot = None
+handle_in (Some span) slot = handle_at span slot
+
+-- the handle in a slot of the span in a frame
+abbrev pub resident : List (Option Contents) → ℕ → ℕ → Option ℕ
+resident spans f slot = handle_in (span_in spans f) slot
+
+abbrev pub class_of : Option Contents → Option Class
+class_of None = None
+class_of (Some span) = Some span.class
+
+-- the class of the span in a frame
+abbrev pub class_in : List (Option Contents) → ℕ → Option Class
+class_in spans f = class_of (span_in spans f)

@@ -1,0 +1,20 @@
+-- How the part of an operation is told that begins with a claimed object.
+use Rattle.std.specs.Prelude.{◌≡◌, ℕ, List}
+use Rattle.cb_world.specs.declared.event.Event.{Event}
+use Rattle.cb_world.specs.declared.shown.Shown.{Shown}
+use Rattle.cb_world.specs.Played.{played}
+use Rattle.cb_world.specs.Looks.{NoLook, LooksFirst, told_by}
+use Rattle.cb_world.specs.Allowed.{Allowed}
+
+-- Its events, which the desk ran: none looks at the object, none claims an object. And for all that is
+-- known of the claimed object, its version and its words: the events are allowed, and end so.
+pub record Finishes (runs : List Event → Type 0) (knows : Shown → ℕ → List ℕ → Type 0) (h : ℕ)
+    (ends : List Event → Shown → ℕ → List ℕ → Shown → Type 0) : Type 0 where
+  pub events : List Event
+  pub ran : runs events
+  pub no_look : NoLook h events
+  pub looks_first : LooksFirst events
+  pub quiet : (s : Shown) → told_by events s ≡ s
+  pub allowed : (s : Shown) (v : ℕ) (words : List ℕ) → knows s v words → Allowed s events
+  pub ends_so : (s : Shown) (v : ℕ) (words : List ℕ) → knows s v words
+      → ends events s v words (played events s)

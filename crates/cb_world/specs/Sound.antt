@@ -1,0 +1,36 @@
+-- The sound world, over what the holder of the far lock knows and the far state.
+use Rattle.std.specs.Prelude.{◌≡◌, ℕ, ◌^◌, ◌<◌, List, Some, Contains}
+use Rattle.cb_ptr.specs.Word.{len_of, place_of}
+use Rattle.cb_span.specs.Contents.{Contents, handle_at}
+use Rattle.cb_world.specs.declared.leaving.Former.{Former}
+use Rattle.cb_world.specs.declared.object.Object.TheVariants as is
+use Rattle.cb_world.specs.declared.shown.Shown.{Shown}
+use Rattle.cb_world.specs.Shown.{object_at}
+use Rattle.cb_world.specs.Grasped.{IsFree}
+use Rattle.cb_world.specs.Leaving.{LeavingState}
+use Rattle.cb_world.specs.FarState.{FarState, span_in}
+use Rattle.cb_world.specs.LocalSound.{LocalSound}
+use Rattle.cb_world.specs.FarSound.{FarSound}
+
+-- the object is claimed at the word that it had before the begin, which is noted
+pub record IsNoted (s : Shown) (batch : LeavingState) (h : ℕ) : Type 0 where
+  pub former : Former
+  pub noted : Contains batch.words former
+  pub handle : former.handle ≡ h
+  pub free : IsFree former.word
+  pub below : former.word < 2 ^ 53
+  pub version : ℕ
+  pub words : List ℕ
+  pub claimed : object_at s h
+      ≡ is.Claimed (len_of former.word) (place_of former.word) version words
+
+-- each object of a frame that is leaving is claimed
+pub record AreNoted (s : Shown) (far : FarState) (batch : LeavingState) : Type 0 where
+  pub each : (f slot h : ℕ) (span : Contents) → Contains batch.frames f
+      → span_in far.spans f ≡ Some span → handle_at span slot ≡ Some h → IsNoted s batch h
+
+-- The part of local memory, the batch that is leaving, and the far part.
+pub record Sound (s : Shown) (far : FarState) : Type 0 where
+  pub here : LocalSound s far
+  pub noted : (batch : LeavingState) → far.leaving ≡ Some batch → AreNoted s far batch
+  pub away : FarSound s far

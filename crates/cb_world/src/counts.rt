@@ -1,0 +1,47 @@
+ghost use Rattle.std.specs.Prelude.{◌≡◌, replicate};
+
+use std::marker::Model;
+
+/// How many kinds of turns there are.
+pub const JOBS: usize = 19;
+
+/// The turns, in all and by job, and how many set numbers and row keys were drawn.
+#[derive(Drop)]
+pub struct Counts {
+    pub turns: u64,
+    pub by_job: [u64; JOBS],
+    pub sets: u64,
+    pub keys: u64,
+}
+
+impl Model for Counts {
+    ghost use Rattle.cb_world.specs.Counts.{CountsState};
+
+    ghost Value = { CountsState };
+
+    ghost view = { λ a. record {
+      turns = a.turns;
+      by_job = a.by_job;
+      sets = a.sets;
+      keys = a.keys;
+    } };
+}
+
+impl Counts {
+    /// Nothing was counted.
+    pub fn new() -> Counts
+        ensures zero { result ≡ record {
+          turns = 0;
+          by_job = replicate JOBS 0;
+          sets = 0;
+          keys = 0;
+        } }
+    {
+        Counts {
+            turns: 0,
+            by_job: [0; JOBS],
+            sets: 0,
+            keys: 0,
+        }
+    }
+}

@@ -1,0 +1,91 @@
+ghost use Rattle.std.specs.Prelude.{◌≡◌, ℕ, ◌+◌, ◌-◌, ◌^◌, ◌<◌, ◌≤◌, List, All, IfOk, OnOk, length, take, slice_index, if◌then◌else◌};
+ghost use Rattle.cb_gf256.specs.Rows.{row_at, HaveLength};
+ghost use Rattle.cb_set.specs.Lost.{lost};
+ghost use Rattle.cb_world.specs.SetWord.{IsShaped, IsWordOf};
+ghost use Rattle.cb_set.specs.SetState.{parities};
+ghost use Rattle.cb_set.specs.Surviving.{surviving};
+ghost use Rattle.cb_world.specs.Fetched.{StandAt};
+
+use cb_erase::solve;
+use cb_gf256::Rows;
+use cb_member::{Members, NoMemory};
+use cb_node::Nodes;
+use cb_set::{SpanSet, is_lost};
+use std::alloc::Global;
+
+/// Gives the rows at these positions of the set out into the table.
+fn give_rows(nodes: &mut Nodes, set: &SpanSet, positions: &[u8], table: &mut Rows)
+    requires given { nodes.old.given + length positions.now < 2 ^ 64 }
+    requires below { All (λ p. p < length table.old) positions.now }
+    requires lengths { HaveLength 4096 table.old }
+    requires there { (rows : List (List ℕ)) × StandAt nodes.old set.now.shards rows positions.now }
+    ensures nodes { nodes.new ≡ record nodes.old { given = nodes.old.given + length positions.now } }
+    ensures count { length table.new ≡ length table.old }
+    ensures rows { (rows : List (List ℕ)) → StandAt nodes.old set.now.shards rows positions.now
+        → (i : ℕ) → i < length positions.now → row_at table.new (slice_index positions.now i) ≡ row_at rows (slice_index positions.now i) }
+{
+    for position in positions {
+        let shard = set.shard(u32::from(*position));
+        nodes.give_row(shard.node, shard.key, table.row_mut(u32::from(*position)));
+    }
+}
+
+/// Gives rows of the set out, one at each of its k least positions whose shards are not lost, and
+/// makes the word of them.
+fn solved(
+    alloc: Global,
+    nodes: &mut Nodes,
+    members: &Members,
+    set: &SpanSet,
+) -> Result<Rows, NoMemory>
+    requires given { nodes.old.given + length set.now.positions < 2 ^ 64 }
+    requires counted { length nodes.old.nodes ≡ length members.now.nodes }
+    requires shaped { IsShaped members.now set.now }
+    requires few { length (lost members.now set.now.shards) ≤ parities set.now }
+    requires word { (rows : List (List ℕ)) × IsWordOf nodes.old members.now set.now rows }
+    ensures nodes { OnOk result (nodes.new ≡ record nodes.old { given = nodes.old.given + length set.now.positions }) }
+    ensures rows { IfOk result (λ word. (rows : List (List ℕ)) → IsWordOf nodes.old members.now set.now rows → rows ≡ word) }
+{
+    let k = set.k();
+    let r = set.r();
+    let Ok(mut table) = Rows::new(alloc, k + r, 4096) else {
+        return Err(NoMemory);
+    };
+    let present = set.survivors(members);
+    let present = &present[..k as usize];
+    give_rows(nodes, set, present, &mut table);
+    match solve(alloc, k, r, &table, present) {
+        Ok(word) => Ok(word),
+        Err(_) => Err(NoMemory),
+    }
+}
+
+/// The row of the set's word at a position, in `into`: its own row where its shard is not lost (one
+/// row is given out), else the row that k others make (k rows are given out). Rows have 4,096 bytes.
+pub fn fetch(
+    alloc: Global,
+    nodes: &mut Nodes,
+    members: &Members,
+    set: &SpanSet,
+    position: u32,
+    into: &mut [u8],
+) -> Result<(), NoMemory>
+    requires given { nodes.old.given + length set.now.positions < 2 ^ 64 }
+    requires counted { length nodes.old.nodes ≡ length members.now.nodes }
+    requires shaped { IsShaped members.now set.now }
+    requires few { length (lost members.now set.now.shards) ≤ parities set.now }
+    requires position { position < length set.now.positions }
+    requires into { length into.old ≡ 4096 }
+    requires word { (rows : List (List ℕ)) × IsWordOf nodes.old members.now set.now rows }
+    ensures nodes { OnOk result ((n : ℕ) × (n ≤ length set.now.positions) × (nodes.new ≡ record nodes.old { given = nodes.old.given + n })) }
+    ensures row { OnOk result ((rows : List (List ℕ)) → IsWordOf nodes.old members.now set.now rows → into.new ≡ row_at rows position) }
+{
+    let shard = set.shard(position);
+    if !is_lost(members, shard) {
+        nodes.give_row(shard.node, shard.key, into);
+        return Ok(());
+    }
+    let word = solved(alloc, nodes, members, set)?;
+    into.copy_from_slice(word.row(position));
+    Ok(())
+}

@@ -1,0 +1,36 @@
+//! The world: the words of local memory at a desk, and the far state beside them.
+#![tactic(auto)]
+
+pub mod counts;
+pub mod desk;
+pub mod entry;
+pub mod event;
+pub mod far;
+pub mod fetching;
+pub mod grasp;
+pub mod homes;
+pub mod joining;
+pub mod leaving;
+pub mod object;
+pub mod plain_desk;
+pub mod releasing;
+pub mod sets;
+pub mod shown;
+pub mod spans;
+
+pub use counts::Counts;
+pub use desk::{Claim, Desk};
+pub use entry::Entry;
+pub use event::Event;
+pub use far::Far;
+pub use fetching::fetch;
+pub use grasp::{Grasp, is_free, try_claim};
+pub use homes::{Home, Homes};
+pub use joining::Joining;
+pub use leaving::{Former, Leaving};
+pub use object::Object;
+pub use plain_desk::PlainDesk;
+pub use releasing::release;
+pub use sets::{KeptSet, Sets};
+pub use shown::Shown;
+pub use spans::Spans;

@@ -1,0 +1,130 @@
+ghost use Rattle.std.specs.Prelude.{◌≡◌, ℕ, ◌+◌, ◌*◌, ◌<◌, ◌≤◌, length, slice_index, replicate, IfOk};
+ghost use Rattle.cb_types.specs.Config.{IsAccepted};
+
+use crate::desk::{Claim, Desk};
+use cb_ptr::claimed;
+use cb_types::{Config, Handle, NoMemory};
+use std::alloc::Global;
+use std::marker::Model;
+
+/// How many words of memory a frame has.
+const FRAME_WORDS: usize = 512;
+
+/// The still desk: pointer words, version words and memory words that no one else changes.
+#[derive(Debug, Drop)]
+pub struct PlainDesk {
+    config: Config,
+    words: Vec<u64>,
+    versions: Vec<u64>,
+    memory: Vec<u64>,
+}
+
+impl Model for PlainDesk {
+    ghost use Rattle.cb_world.specs.Plain.{Words, IsSized};
+
+    ghost Value = { Words };
+
+    ghost view = { λ d. record {
+      settings = d.config;
+      words = d.words.items;
+      versions = d.versions.items;
+      memory = d.memory.items;
+    } };
+
+    ghost invariant = { λ d. IsSized (record {
+      settings = d.config;
+      words = d.words.items;
+      versions = d.versions.items;
+      memory = d.memory.items;
+    }) };
+}
+
+impl PlainDesk {
+    /// A desk with no objects: every word is 0. Takes the memory of all pointer words, version words
+    /// and frames.
+    pub fn new(alloc: Global, config: Config) -> Result<PlainDesk, NoMemory>
+        requires { IsAccepted config }
+        ensures empty { IfOk result (λ desk. desk ≡ record {
+          settings = config;
+          words = replicate config.handles 0;
+          versions = replicate config.handles 0;
+          memory = replicate (512 * config.frames) 0;
+        }) }
+    {
+        Ok(PlainDesk {
+            config,
+            words: vec![in alloc; 0; config.handles as usize]?,
+            versions: vec![in alloc; 0; config.handles as usize]?,
+            memory: vec![in alloc; 0; FRAME_WORDS * config.frames as usize]?,
+        })
+    }
+
+    /// The pointer word of an object.
+    fn word_of(&self, h: Handle) -> u64
+        requires { h.n < self.now.settings.handles }
+        ensures { slice_index self.now.words h.n ≡ result }
+    {
+        self.words[h.n as usize]
+    }
+}
+
+impl Desk for PlainDesk {
+    ghost use Rattle.std.proofs.Common.{refl};
+    ghost use Rattle.cb_world.specs.Plain.{Words, Plain, Shows, IsSized};
+    ghost use Rattle.cb_world.specs.StillDesk.{plain_more, plain_stays, plain_follows, plain_sized};
+
+    ghost settings = { λ d. d.settings };
+
+    ghost shows = { λ d s. IsSized d × Shows d s };
+
+    ghost run = { λ d es e. Plain d es e × (IsSized d → IsSized e) };
+
+    fn config(&self) -> Config {
+        self.config
+    }
+
+    fn word(&mut self, h: Handle) -> u64 {
+        self.words[h.n as usize]
+    }
+
+    fn version(&mut self, h: Handle) -> u64 {
+        self.versions[h.n as usize]
+    }
+
+    fn load(&mut self, place: u32) -> u64 {
+        self.memory[place as usize]
+    }
+
+    fn claim(&mut self, h: Handle, saw: u64) -> Claim {
+        let found = self.word_of(h);
+        if found == saw {
+            self.words[h.n as usize] = claimed(saw);
+            Claim::Claimed
+        } else {
+            Claim::Raced { found }
+        }
+    }
+
+    fn store(&mut self, place: u32, word: u64) {
+        self.memory[place as usize] = word;
+    }
+
+    fn store_version(&mut self, h: Handle, version: u64) {
+        self.versions[h.n as usize] = version;
+    }
+
+    fn settle(&mut self, h: Handle, word: u64) {
+        self.words[h.n as usize] = word;
+    }
+
+    ghost none = { λ d. (refl, λ i. i) };
+
+    ghost more = { λ d e f es fs a b. (plain_more d e f es fs a.0 b.0, λ i. b.1 (a.1 i)) };
+
+    ghost stays = { λ d e es a. plain_stays d e es a.0 };
+
+    ghost follows = { λ d e es s a b.
+        let next = plain_follows es d e s a.0 b.1 in (next.0, (a.1 b.0, next.1)) };
+
+    ghost sized = { λ d s a. plain_sized d s a.0 a.1 };
+}
