@@ -59,7 +59,7 @@ home_grows s far node (Some home) sound within up broken =
     set_grows far.members node (set_in far.sets home.set) sound.rows.members within up
     (sound.sets.shaped home.set) broken
 
--- D10 of a crash: an object becomes gone where its set passes its parities by it, and `now` of
+-- after a crash: an object becomes gone where its set passes its parities by it, and `now` of
 -- every other handle stays
 pub crash_now : (s : Shown) (far : FarState) (node : NodeId) (h : ℕ) → AwaySound s far
     → node.n < length far.members.nodes → alive far.members node ≡ true
