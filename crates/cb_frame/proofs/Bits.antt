@@ -27,7 +27,12 @@ changes_bit words n v bit within here elsewhere = record {
   at = rw (get_or-set_same words (n / 64) v 0 within) here;
   others = λ k other. elim (cases_eq (k / 64) (n / 64)) [
     | inl same ↦ let apart : k % 64 ≢ n % 64 = λ e. other (omega arith) in
-        rw (same, get_or-set_same words (n / 64) v 0 within, elsewhere (k % 64) (omega arith) apart) refl
+        rw (
+          same,
+          get_or-set_same words (n / 64) v 0 within,
+          elsewhere (k % 64)
+              (omega arith) apart,
+        ) refl
     | inr apart ↦ rw (get_or-set_other words (n / 64) (k / 64) v 0 apart) refl
   ];
 }
@@ -134,7 +139,8 @@ ones_of count i = 2 ^ min (count - 64 * i) 64 - 1
 pub full_by_words : (words : List ℕ) (count len : ℕ) → len ≡ (count + 63) / 64
     → words ≡ map (ones_of count) (range_with_len 0 len) → IsFull words count
 full_by_words words count len enough made =
-    let length_is : length words ≡ len = ap length made ∙ length-map-range_with_len (ones_of count) 0 len in
+    let length_is : length words ≡ len =
+    ap length made ∙ length-map-range_with_len (ones_of count) 0 len in
     record {
       words_suffice = omega arith;
       words_exact = omega arith;
@@ -142,9 +148,12 @@ full_by_words words count len enough made =
         | inl inside ↦
             let within : n / 64 < len = omega arith in
             let word : get_or words (n / 64) 0 ≡ ones_of count (n / 64) =
-            ap (λ ws. get_or ws (n / 64) 0) made ∙ get_or-map-range_with_len (ones_of count) 0 len (n / 64) (n / 64) 0 within (omega arith) in
+            ap (λ ws. get_or ws (n / 64) 0) made
+            ∙ get_or-map-range_with_len (ones_of count) 0 len (n / 64) (n / 64) 0 within
+            (omega arith) in
             rw word (ones_at (min (count - 64 * (n / 64)) 64) (n % 64)
-            ∙ same_order (n % 64) (min (count - 64 * (n / 64)) 64) n count (λ h. omega arith) (λ h. omega arith))
+            ∙ same_order (n % 64) (min (count - 64 * (n / 64)) 64) n count (λ h. omega arith)
+            (λ h. omega arith))
         | inr past ↦ clear_past_words words n (omega arith) ∙ sym (le-ltb n count (omega arith))
       ];
     }

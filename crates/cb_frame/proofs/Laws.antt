@@ -92,7 +92,8 @@ free_count-pos frames f free = omega (arith, free_count-with_taken frames f free
 pub least_free-Some : (frames : List Bool) (f : ℕ) → least_free frames ≡ Some f
     → (IsFree frames f) × ((g : ℕ) → g < f → ¬ (IsFree frames g))
 least_free-Some frames f found =
-    let first : (f < length frames) × (get_or frames f false ≡ true) × ((g : ℕ) → g < f → get_or frames g false ≡ false) =
+    let first : (f < length frames) × (get_or frames f false ≡ true)
+    × ((g : ℕ) → g < f → get_or frames g false ≡ false) =
     position-Some (λ (b : Bool). b) frames f false found in
     (first.1, λ g below free. false≢true (sym (first.2 g below) ∙ free))
 
@@ -181,13 +182,14 @@ least_from-Some frames start f found =
     let sum : start + n ≡ f = back.2 in
     let first : (n < length (drop start frames)) × (get_or (drop start frames) n false ≡ true)
     × ((g : ℕ) → g < n → get_or (drop start frames) g false ≡ false) =
-    position-Some (λ (b : Bool). b) (drop start frames) n false back.1 in
-    (omega arith,
-    ap (λ k. contains frames k) (sym sum) ∙ sym (get_or-drop start frames n false) ∙ first.1,
-    λ g from below.
-    let place : start + (g - start) ≡ g = omega arith in
-    ap (λ k. contains frames k) (sym place) ∙ sym (get_or-drop start frames (g - start) false)
-    ∙ first.2 (g - start) (omega arith))
+    position-Some (λ (b : Bool). b) (drop start frames) n false back.1 in (
+      omega arith,
+      ap (λ k. contains frames k) (sym sum) ∙ sym (get_or-drop start frames n false) ∙ first.1,
+      λ g from below.
+          let place : start + (g - start) ≡ g = omega arith in
+          ap (λ k. contains frames k) (sym place) ∙ sym (get_or-drop start frames (g - start) false)
+          ∙ first.2 (g - start) (omega arith),
+    )
 
 pub least_from-None : (frames : List Bool) (start : ℕ) → least_from frames start ≡ None
     → (g : ℕ) → start ≤ g → contains frames g ≡ false

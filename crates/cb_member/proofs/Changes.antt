@@ -18,7 +18,8 @@ join_keeps_count m node = length-set m.nodes node.n _
 -- a node that crashed is down, and every other is up as before
 pub crash_takes_down : (m : Membership) (node : NodeId) → node.n < length m.nodes
     → alive (with_crash m node) node ≡ false
-crash_takes_down m node within = ap (λ (s : NodeState). s.up) (state_of-with_state_here m node _ within)
+crash_takes_down m node within =
+    ap (λ (s : NodeState). s.up) (state_of-with_state_here m node _ within)
 
 pub crash_keeps_others : (m : Membership) (node other : NodeId) → other.n ≢ node.n
     → alive (with_crash m node) other ≡ alive m other
@@ -41,7 +42,8 @@ crash_keeps_incarnations m node other within = elim (cases_eq other.n node.n) [
 -- a node that joined is up in its next incarnation, and every other is as before
 pub join_brings_up : (m : Membership) (node : NodeId) → node.n < length m.nodes
     → alive (with_join m node) node ≡ true
-join_brings_up m node within = ap (λ (s : NodeState). s.up) (state_of-with_state_here m node _ within)
+join_brings_up m node within =
+    ap (λ (s : NodeState). s.up) (state_of-with_state_here m node _ within)
 
 pub join_raises_incarnation : (m : Membership) (node : NodeId) → node.n < length m.nodes
     → incarnation (with_join m node) node ≡ incarnation m node + 1

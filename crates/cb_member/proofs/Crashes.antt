@@ -23,14 +23,17 @@ slice_get-push_other : {X : Type 0} (xs : List X) (x : X) (i : ℕ) → i ≢ le
 slice_get-push_other [] x zero other = absurd (other refl)
 slice_get-push_other [] x (suc i) other = refl
 slice_get-push_other (y ∷ ys) x zero other = refl
-slice_get-push_other (y ∷ ys) x (suc i) other = slice_get-push_other ys x i (λ e. other (omega arith))
+slice_get-push_other (y ∷ ys) x (suc i) other =
+    slice_get-push_other ys x i (λ e. other (omega arith))
 
 -- a list has an element at each place below its length
-pub is_some-slice_get : {X : Type 0} (xs : List X) (i : ℕ) → is_some (slice_get xs i) ≡ nat_lt i (length xs)
+pub is_some-slice_get : {X : Type 0} (xs : List X) (i : ℕ)
+    → is_some (slice_get xs i) ≡ nat_lt i (length xs)
 is_some-slice_get xs i = grind (arith, common_steps, gets, nat_tests, slice_get_cases xs i)
 
 -- a node that is up has as many crashes as joins
-pub up_crashes : (s : NodeState) → s.up ≡ true → length s.crashes ≡ ended_incarnations s → length s.crashes ≡ s.incarnation
+pub up_crashes : (s : NodeState) → s.up ≡ true → length s.crashes ≡ ended_incarnations s
+    → length s.crashes ≡ s.incarnation
 up_crashes s up ended = ended ∙ ap (λ b. if b then s.incarnation else s.incarnation + 1) up
 
 -- one node has the new state

@@ -150,7 +150,8 @@ join_stays_valid m node valid within down =
     let over : length s.crashes ≡ s.incarnation + 1 =
     valid.ended node.n fresh_node within
     ∙ ap (λ b. if b then s.incarnation else s.incarnation + 1) down in
-    let was = λ (q : NodeId) (which : ℕ) (e : Epoch) (at : crashed_at (with_join m node) q which ≡ Some e).
+    let was = λ (q : NodeId) (which : ℕ) (e : Epoch)
+    (at : crashed_at (with_join m node) q which ≡ Some e).
     sym (crashed_at-with_join m node q which within) ∙ at in
     record {
       numbered = omega (arith, valid.numbered, length-set m.nodes node.n up);
@@ -220,7 +221,8 @@ pub crash_written : (m : Membership) (node : NodeId) (n : ℕ) (s d : NodeState)
 crash_written m node n s d crashes valid within up at read longer =
     state_written m node n (down_with s crashes) _ at
     (ap (down_with s) longer
-    ∙ ap (λ t. down_with t (t.crashes ++ next_epoch m ∷ [])) (state_read m node n s d within at read))
+    ∙ ap (λ t. down_with t (t.crashes ++ next_epoch m ∷ []))
+    (state_read m node n s d within at read))
     (crash_stays_valid m node valid within up)
 
 pub join_written : (m : Membership) (node : NodeId) (n : ℕ) (s d : NodeState)

@@ -15,5 +15,9 @@ impl Model for Node {
 
     ghost Value = { NodeState };
 
-    ghost view = { λ a. record { up = a.up; incarnation = a.incarnation; crashes = a.crashes.items } };
+    ghost view = { λ a. record {
+      up = a.up;
+      incarnation = a.incarnation;
+      crashes = a.crashes.items;
+    } };
 }

@@ -76,7 +76,8 @@ rows_at-read old items node n rows same at within read =
 -- the state that a write at one node leaves
 pub kept_after_write : (state old : NodesState) (n : ℕ) (node : NodeId)
     (written rows : RowsByKey) → state ≡ old → n ≡ node.n → written ≡ rows
-    → IsNodes (with_rows old node rows) → IsNodes (record state { nodes = set state.nodes n written })
+    → IsNodes (with_rows old node rows)
+    → IsNodes (record state { nodes = set state.nodes n written })
 kept_after_write state old n node written rows same at is valid =
     subst (λ (s : NodesState). IsNodes (record s { nodes = set s.nodes n written })) (sym same)
     (subst (λ (k : ℕ). IsNodes (record old { nodes = set old.nodes k written })) (sym at)

@@ -12,6 +12,10 @@ pub record NodesState : Type 0 where
   pub given : ℕ
   pub nodes : List RowsByKey
 
+-- the state of these parts
+abbrev pub nodes_of : ℕ → ℕ → List RowsByKey → NodesState
+nodes_of room given nodes = record { room = room; given = given; nodes = nodes }
+
 -- the state is stored as these three
 abbrev pub nodes_code : Coded NodesState
 nodes_code =
@@ -21,7 +25,7 @@ nodes_code =
 
 -- so many nodes with no row, none of which was given
 abbrev pub empty_nodes : ℕ → ℕ → NodesState
-empty_nodes count room = record { room = room; given = 0; nodes = replicate count map.empty }
+empty_nodes count room = nodes_of room 0 (replicate count map.empty)
 
 -- the rows at the node
 abbrev pub rows_at : NodesState → NodeId → RowsByKey

@@ -28,15 +28,15 @@ pub struct Nodes {
 }
 
 impl Model for Nodes {
-    ghost use Rattle.cb_node.specs.NodesState.{NodesState, IsNodes, nodes_code};
+    ghost use Rattle.cb_node.specs.NodesState.{NodesState, IsNodes, nodes_code, nodes_of};
 
     ghost Value = { NodesState };
 
     ghost coded = { nodes_code };
 
-    ghost view = { λ a. record { room = a.room; given = a.given; nodes = a.nodes.items } };
+    ghost view = { λ a. nodes_of a.room a.given a.nodes.items };
 
-    ghost invariant = { λ a. IsNodes (record { room = a.room; given = a.given; nodes = a.nodes.items }) };
+    ghost invariant = { λ a. IsNodes (nodes_of a.room a.given a.nodes.items) };
 }
 
 impl Nodes {
@@ -101,7 +101,8 @@ impl Nodes {
     pub fn put(&mut self, node: NodeId, key: u64, row: &[u8]) -> Result<PutAnswer, NoMemory>
         requires node { node.n < length self.old.nodes }
         requires fresh { has self.old node key ≡ false }
-        ensures answer { IfOk result (λ answer. PutGives self.old node key row.now answer self.new) }
+        ensures answer { IfOk result
+            (λ answer. PutGives self.old node key row.now answer self.new) }
         ensures err { OnErr result (self.new ≡ self.old) }
         ensures err_only_with_room { OnErr result (held self.old node < self.old.room) }
 
@@ -161,7 +162,8 @@ impl Nodes {
         ensures there { result ≡ has self.old node key }
         ensures row { IfSome (row_at self.old node key) (λ row. into.new ≡ row) }
         ensures no_row { IfNone (row_at self.old node key) (into.new ≡ into.old) }
-        ensures given { self.new ≡ record self.old { given = self.old.given + (if result then 1 else 0) } }
+        ensures given { self.new
+            ≡ record self.old { given = self.old.given + (if result then 1 else 0) } }
         ensures valid { IsNodes self.new }
     {
         let Some(row) = self.nodes[usize::from(node.n)].row(key) else {

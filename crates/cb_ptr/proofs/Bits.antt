@@ -14,12 +14,16 @@ or_one_low r h = elim (cases_lt r 1) [
 
 or_one : (high low : ℕ) → low < 2 → bit_or (high * 2 + low) 1 ≡ high * 2 + 1
 or_one high low h =
-    let split : bit_or (high * 2 + low) 1 ≡ bit_or high 0 * 2 + bit_or low 1 = or_block 1 high 0 low 1 h (omega arith) in
+    let split : bit_or (high * 2 + low) 1 ≡ bit_or high 0 * 2 + bit_or low 1 =
+    or_block 1 high 0 low 1 h (omega arith) in
     omega (arith, split, or_zero high, or_one_low low h)
 
-or_four_parts : (high bit low : ℕ) → bit < 2 → low < 4 → bit_or ((high * 2 + bit) * 4 + low) 4 ≡ (high * 2 + 1) * 4 + low
+or_four_parts : (high bit low : ℕ) → bit < 2 → low < 4
+    → bit_or ((high * 2 + bit) * 4 + low) 4 ≡ (high * 2 + 1) * 4 + low
 or_four_parts high bit low b l =
-    let split : bit_or ((high * 2 + bit) * 4 + low) 4 ≡ bit_or (high * 2 + bit) 1 * 4 + bit_or low 0 = or_block 2 (high * 2 + bit) 1 low 0 l (omega arith) in
+    let split : bit_or ((high * 2 + bit) * 4 + low) 4
+    ≡ bit_or (high * 2 + bit) 1 * 4 + bit_or low 0 =
+    or_block 2 (high * 2 + bit) 1 low 0 l (omega arith) in
     omega (arith, split, or_one high bit b, or_zero low)
 
 -- to set bit 2 adds 4 where it was clear

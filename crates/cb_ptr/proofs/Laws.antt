@@ -118,7 +118,8 @@ far_number w pointer far =
     let flag : w / 4 % 2 ≡ 0 = sym (flag_number-hot_of w) ∙ ap flag_number clear.0 in
     let pins : pins_of w ≡ 0 = clear.1 in
     let place : place_of w ≡ 0 = clear.2 in
-    far_word_is (len_of w) w (len_of-below w) (omega (arith, bits, flag, pins, place, pointer.below))
+    far_word_is (len_of w) w (len_of-below w)
+    (omega (arith, bits, flag, pins, place, pointer.below))
 
 -- the word of a Far object is below 2^53
 pub far_below : (len w : ℕ) → IsFarWord len w → w < 2 ^ 53

@@ -75,11 +75,27 @@ pinned_but_not_hot h = absurd (let hot = (h.held (lit< tt)).1 in cc)
 
 -- a second pin
 second_pin : TakesPin 274877923342 274877923350
-second_pin = record { state = refl; hot = refl; pins = refl; len = refl; place = refl; number = refl }
+second_pin = record {
+  state = refl;
+  hot = refl;
+  pins = refl;
+  len = refl;
+  place = refl;
+  number =
+      refl;
+}
 
 -- a first pin on a word that is not hot sets hot
 first_pin : TakesPin 274877923330 274877923342
-first_pin = record { state = refl; hot = refl; pins = refl; len = refl; place = refl; number = refl }
+first_pin = record {
+  state = refl;
+  hot = refl;
+  pins = refl;
+  len = refl;
+  place = refl;
+  number =
+      refl;
+}
 
 pin_that_moves : ¬ (TakesPin 274877923330 274877923343)
 pin_that_moves h = absurd (let state = h.state in cc)
@@ -101,7 +117,15 @@ pin_with_a_high_bit : ¬ (TakesPin 274877923330 9007474132664334)
 pin_with_a_high_bit h = absurd (omega (arith, h.number))
 
 one_pin_less : GivesPin 274877923342 274877923334
-one_pin_less = record { state = refl; hot = refl; pins = refl; len = refl; place = refl; number = refl }
+one_pin_less = record {
+  state = refl;
+  hot = refl;
+  pins = refl;
+  len = refl;
+  place = refl;
+  number =
+      refl;
+}
 
 unpin_that_cools : ¬ (GivesPin 274877923342 274877923330)
 unpin_that_cools h = absurd (let hot = h.hot in cc)

@@ -63,8 +63,8 @@ fields_of w = record {
   place = place_of w;
 }
 
--- a word of an object: an Empty word is 0, a Far one has its length alone, and one with pins is Here
--- and hot
+-- a word of an object: an Empty word is 0, a Far one has its length alone, and one with pins is
+-- Here and hot
 pub record IsPointer (w : ℕ) : Type 0 where
   pub below : w < 2 ^ 53
   pub empty : state_of w ≡ Empty → w ≡ 0

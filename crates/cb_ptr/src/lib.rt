@@ -1,5 +1,5 @@
-//! Pointer words: where an object is, whether it was used, how often it is pinned, how long it is and
-//! where it lies, in the low 53 bits of one word. Its changes are steps on the number.
+//! Pointer words: where an object is, whether it was used, how often it is pinned, how long it is
+//! and where it lies, in the low 53 bits of one word. Its changes are steps on the number.
 #![tactic(auto)]
 
 mod steps;

@@ -20,4 +20,5 @@ fn each_step_has_its_number(rt: HostRuntime) {
     assert_eq!(rt; claimed(274_877_923_334), 274_877_923_335);
     assert_eq!(rt; settled(274_877_923_335, 1024, false), 549_755_830_274);
     assert_eq!(rt; pinned(549_755_830_274), 549_755_830_286);
+    assert_eq!(rt; far_word(2), 16_385);
 }

@@ -26,8 +26,8 @@ is_lost-ended m shard valid within =
     is_some-option_map _ (crashed_at m shard.node shard.incarnation)
     ∙ ended_incarnations_crashed m shard.node shard.incarnation valid within
 
--- a shard that is not lost, of no later incarnation than its node's, stands on a node that is up, in
--- its present incarnation
+-- a shard that is not lost, of no later incarnation than its node's, stands on a node that is up,
+-- in its present incarnation
 pub survivor_is_current : (m : Membership) (shard : Shard) → IsMembership m
     → shard.node.n < length m.nodes → shard.incarnation ≤ incarnation m shard.node
     → is_lost m shard ≡ false
@@ -38,12 +38,14 @@ survivor_is_current m shard valid within current kept =
     elim (cases_Bool s.up) [
       | inl up ↦
           let over : nat_lt shard.incarnation s.incarnation ≡ false =
-          ap (λ b. nat_lt shard.incarnation (if b then s.incarnation else s.incarnation + 1)) (sym up)
+          ap (λ b. nat_lt shard.incarnation (if b then s.incarnation else s.incarnation + 1))
+          (sym up)
           ∙ test in
           (up, omega (arith, ltb-false shard.incarnation s.incarnation over, current))
       | inr down ↦
           let over : nat_lt shard.incarnation (s.incarnation + 1) ≡ false =
-          ap (λ b. nat_lt shard.incarnation (if b then s.incarnation else s.incarnation + 1)) (sym down)
+          ap (λ b. nat_lt shard.incarnation (if b then s.incarnation else s.incarnation + 1))
+          (sym down)
           ∙ test in
           absurd (omega (arith, ltb-false shard.incarnation (s.incarnation + 1) over, current))
     ]
@@ -142,7 +144,8 @@ crash_elsewhere m node [] off = refl
 crash_elsewhere m node (x ∷ xs) off =
     ap (λ o. cons_option o (lost (with_crash m node) xs))
     (loss_of-with_crash_other_node m node x (off 0 x refl))
-    ∙ ap (cons_option (loss_of m x)) (crash_elsewhere m node xs (λ p shard at. off (suc p) shard at))
+    ∙ ap (cons_option (loss_of m x))
+    (crash_elsewhere m node xs (λ p shard at. off (suc p) shard at))
 
 flag-le : (b : Bool) → (if b then 1 else 0) ≤ 1
 flag-le true = omega arith

@@ -1,11 +1,14 @@
 -- The lost shards of a list: how many there are, and what a crash, a join and another shard change.
-use Rattle.std.proofs.Common.{◌≡◌, ℕ, ◌+◌, ◌<◌, ◌≢◌, true, false, List, [], ◌∷◌, ◌++◌, length, take, get_or, set, Option, Some, None, is_some, if◌then◌else◌, refl, ap, ◌∙◌, arith}
+use Rattle.std.proofs.Common.{◌≡◌, ℕ, ◌+◌, ◌<◌, ◌≢◌, true, false, List, [], ◌∷◌, ◌++◌, length, take, get_or, set, Option, Some, None, is_some, zero, suc, if◌then◌else◌, refl, ap, sym, ◌∙◌, arith}
 use Rattle.std.specs.List.{filter_map, cons_option, count_by, position_or_len}
+use Rattle.std.specs.Prelude.{slice_get}
 use Rattle.std.specs.Option.{option_map}
-use Rattle.std.proofs.lemmas.Bool.{le-ltb, lt-ltb}
-use Rattle.std.proofs.lemmas.List.{take_more}
+use Rattle.std.proofs.lemmas.Bool.{false≢true, le-ltb, lt-ltb}
+use Rattle.std.proofs.lemmas.List.{nil_from_length, take_more}
 use Rattle.std.proofs.lemmas.List.Elements.{filter_map-append}
 use Rattle.std.proofs.lemmas.List.Sums.{position_or_len_is, sum_by-cons, sum_by-set}
+use Rattle.std.proofs.lemmas.Option.{none-some, same_Some}
+use Rattle.cb_member.specs.declared.names.Loss.{Loss}
 use Rattle.cb_member.specs.declared.names.NodeId.{NodeId}
 use Rattle.cb_member.specs.declared.names.Shard.{Shard}
 use Rattle.cb_member.specs.Membership.{Membership, alive, incarnation, next_epoch, with_crash, with_join, crashed_at, IsMembership}
@@ -104,3 +107,50 @@ least_lost-none m shards d kept =
     position_or_len_is (is_lost m) shards (length shards) d (omega arith) kept
     (λ h. absurd (omega arith)) in
     rw (place, le-ltb (length shards) (length shards) (omega arith)) refl
+
+-- where the lost list is empty, no shard is lost
+pub whole_none : (m : Membership) (shards : List Shard) → lost m shards ≡ []
+    → (p : ℕ) (shard : Shard) → slice_get shards p ≡ Some shard → is_lost m shard ≡ false
+whole_none m [] none p shard at = absurd (none-some shard at)
+whole_none m (x ∷ xs) none zero shard at =
+    head (loss_of m x) none
+    (ap (is_lost m) (same_Some x shard at))
+  where
+    head : (o : Option Loss) → cons_option o (lost m xs) ≡ [] → is_some o ≡ is_lost m shard
+        → is_lost m shard ≡ false
+    head None e same = sym same
+    head (Some y) e same = absurd (omega (arith, ap length e))
+whole_none m (x ∷ xs) none (suc p) shard at =
+    whole_none m xs (tail (loss_of m x) none) p shard at
+  where
+    tail : (o : Option Loss) → cons_option o (lost m xs) ≡ [] → lost m xs ≡ []
+    tail None e = e
+    tail (Some y) e = absurd (omega (arith, ap length e))
+
+-- and where no shard is lost, the list is empty
+pub none_whole : (m : Membership) (shards : List Shard)
+    → ((p : ℕ) (shard : Shard) → slice_get shards p ≡ Some shard → is_lost m shard ≡ false)
+    → lost m shards ≡ []
+none_whole m [] kept = refl
+none_whole m (x ∷ xs) kept =
+    head (loss_of m x) (kept 0 x refl) ∙ none_whole m xs (λ p shard at. kept (suc p) shard at)
+  where
+    head : (o : Option Loss) → is_some o ≡ false → cons_option o (lost m xs) ≡ lost m xs
+    head None e = refl
+    head (Some y) e = absurd (false≢true (sym e))
+
+pub whole_by_count : (m : Membership) (shards : List Shard) → length (lost m shards) ≡ 0
+    → lost m shards ≡ []
+whole_by_count m shards none = nil_from_length (lost m shards) none
+
+-- whether a shard is lost hangs on its node and its incarnation alone
+pub is_lost-same : (m : Membership) (a b : Shard) → a.node.n ≡ b.node.n
+    → a.incarnation ≡ b.incarnation → is_lost m a ≡ is_lost m b
+is_lost-same m a b node incarnation =
+    ap (λ (n : ℕ). is_lost m (record {
+      node = record { n = n };
+      incarnation = a.incarnation;
+      key = a.key;
+    })) node
+    ∙ ap (λ (i : ℕ). is_lost m (record { node = b.node; incarnation = i; key = a.key }))
+    incarnation

@@ -74,7 +74,8 @@ mask_step xs i p d mask n within few is masked flag =
     ∙ ap (λ (q : PositionState). live_mask (take i xs) + bit q * 2 ^ i) (sym is) in
     let total : mask + n * 2 ^ i % 4294967296 ≡ live_mask (take (i + 1) xs) =
     omega (arith, one, more, masked) in
-    let size : length (take (i + 1) xs) ≡ i + 1 = length-take-le (i + 1) xs (omega (arith, within)) in
+    let size : length (take (i + 1) xs) ≡ i + 1 =
+    length-take-le (i + 1) xs (omega (arith, within)) in
     let low : live_mask (take (i + 1) xs) < 2 ^ (i + 1) =
     omega (arith, live_mask-lt (take (i + 1) xs), ap (λ n. 2 ^ n) size) in
     let high : 2 ^ (i + 1) ≤ 2 ^ 32 =

@@ -27,10 +27,12 @@ OnDistinctNodes-set shards i shard distinct spare j k d before within same =
           elim (cases_eq k i) [
             | inl at_k ↦
                 let here = get_or-set_at shards i k shard d at_k (omega arith) in
-                spare j d (omega arith) off_j (sym (ap (λ s. s.node.n) e) ∙ same ∙ ap (λ s. s.node.n) here)
+                spare j d (omega arith) off_j
+                (sym (ap (λ s. s.node.n) e) ∙ same ∙ ap (λ s. s.node.n) here)
             | inr off_k ↦
                 let f = get_or-set_other shards i k shard d off_k in
-                distinct j k d before inside (sym (ap (λ s. s.node.n) e) ∙ same ∙ ap (λ s. s.node.n) f)
+                distinct j k d before inside
+                (sym (ap (λ s. s.node.n) e) ∙ same ∙ ap (λ s. s.node.n) f)
           ]
     ]
 

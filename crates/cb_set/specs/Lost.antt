@@ -7,7 +7,8 @@ use Rattle.cb_member.specs.declared.names.Shard.{Shard}
 use Rattle.cb_member.specs.Membership.{Membership, crashed_at}
 use Rattle.cb_set.specs.SetState.{SetState}
 
--- a shard is lost where its node has crashed in the shard's incarnation, with the epoch of that crash
+-- a shard is lost where its node has crashed in the shard's incarnation, with the epoch of that
+-- crash
 abbrev pub loss_of : Membership → Shard → Option Loss
 loss_of m shard =
     option_map (λ epoch. record { node = shard.node; epoch = epoch })

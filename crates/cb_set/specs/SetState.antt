@@ -36,17 +36,17 @@ set_code =
     (λ s. (s.id, (s.shards, s.positions)))
     (λ p. record { id = p.0; shards = p.1.0; positions = p.1.1 }) (λ _. refl)
 
+-- the set of these parts
+abbrev pub set_of : ℕ → List Shard → List PositionState → SetState
+set_of id shards positions = record { id = id; shards = shards; positions = positions }
+
 -- a position that is not live and has no slot table
 abbrev pub dead_position : PositionState
 dead_position = record { live = false; slots = [] }
 
 -- a set with these shards, all of whose k data positions are dead
 abbrev pub fresh_set : ℕ → ℕ → List Shard → SetState
-fresh_set id k shards = record {
-  id = id;
-  shards = shards;
-  positions = replicate k dead_position;
-}
+fresh_set id k shards = set_of id shards (replicate k dead_position)
 
 -- the parities of a set: the positions beyond the data positions
 abbrev pub parities : SetState → ℕ
@@ -85,8 +85,8 @@ with_cleared content slot = record content { slots = slice_set content.slots slo
 abbrev pub with_shard : SetState → ℕ → Shard → SetState
 with_shard set position shard = record set { shards = slice_set set.shards position shard }
 
--- What holds of every set: there are at least as many positions as data positions, and a u32 numbers
--- them.
+-- What holds of every set: there are at least as many positions as data positions, and a u32
+-- numbers them.
 pub record IsSet (set : SetState) : Type 0 where
   pub data_first : length set.positions ≤ length set.shards
   pub numbered : length set.shards < 2 ^ 32

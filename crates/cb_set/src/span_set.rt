@@ -19,15 +19,15 @@ pub struct SpanSet {
 }
 
 impl Model for SpanSet {
-    ghost use Rattle.cb_set.specs.SetState.{SetState, IsSet, set_code};
+    ghost use Rattle.cb_set.specs.SetState.{SetState, IsSet, set_code, set_of};
 
     ghost Value = { SetState };
 
     ghost coded = { set_code };
 
-    ghost view = { λ a. record { id = a.id; shards = a.shards.items; positions = a.positions.items } };
+    ghost view = { λ a. set_of a.id a.shards.items a.positions.items };
 
-    ghost invariant = { λ a. IsSet (record { id = a.id; shards = a.shards.items; positions = a.positions.items }) };
+    ghost invariant = { λ a. IsSet (set_of a.id a.shards.items a.positions.items) };
 }
 
 impl SpanSet {
@@ -89,7 +89,8 @@ impl SpanSet {
     /// Want of memory changes nothing.
     pub fn fill(&mut self, position: u32, handles: &[Option<u32>]) -> Result<(), NoMemory>
         requires { position < length self.old.positions }
-        ensures ok { OnOk result (self.new ≡ with_position self.old position (filled_position handles.now)) }
+        ensures ok { OnOk result
+            (self.new ≡ with_position self.old position (filled_position handles.now)) }
         ensures err { OnErr result (self.new ≡ self.old) }
         ensures valid { IsSet self.new }
     {

@@ -3,7 +3,8 @@ use Rattle.cb_class.specs.declared.class.Class.{Class}
 use Rattle.cb_class.specs.Class.{IsClass, slots_of}
 use Rattle.cb_span.specs.declared.temp.Temp.{Temp}
 
--- a span: its class, its temperature and, slot by slot, the handle of the object there, if there is one
+-- a span: its class, its temperature and, slot by slot, the handle of the object there, if there is
+-- one
 pub record Contents : Type 0 where
   pub class : Class
   pub temp : Temp

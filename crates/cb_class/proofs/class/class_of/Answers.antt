@@ -11,15 +11,20 @@ unfolding bytes_of
 returns c =
     let len = c.args.len in
     let index = c.partition_point-index.result in
-    let point : IsPartitionPoint (λ (n : ℕ). ltb n len ≡ true) (λ (n : ℕ). ltb n len ≡ false) sizes index =
-    IsPartitionPoint-from_clause (λ (n : ℕ). ltb n len) sizes index c.partition_point-index.ensures.partitioned (IsPartitionedBy-ltb (λ (n : ℕ). n) sizes len sizes_ascend) (λ a r q k. search rules) in
+    let point : IsPartitionPoint (λ (n : ℕ). ltb n len ≡ true)
+    (λ (n : ℕ). ltb n len ≡ false) sizes index =
+    IsPartitionPoint-from_clause
+    (λ (n : ℕ). ltb n len) sizes index c.partition_point-index.ensures.partitioned
+    (IsPartitionedBy-ltb (λ (n : ℕ). n) sizes len sizes_ascend) (λ a r q k. search rules) in
     let in_table : index < 12 =
     elim (cases_lt index 12) [
       | inl below ↦ below
-      | inr past ↦ let last : 1024 < len = ltb-true 1024 len (point.0 11 0 (omega arith) (omega arith)) in absurd (omega arith)
+      | inr past ↦ let last : 1024 < len =
+          ltb-true 1024 len (point.0 11 0 (omega arith) (omega arith)) in absurd (omega arith)
     ] in
     record {
       in_table = in_table;
       holds = ltb-false (size_at index) len (point.1 index 0 (omega arith) in_table);
-      least = λ smaller less. ltb-true (size_at smaller.index) len (point.0 smaller.index 0 (omega arith) less);
+      least = λ smaller less. ltb-true (size_at smaller.index) len
+          (point.0 smaller.index 0 (omega arith) less);
     }

@@ -6,7 +6,8 @@ use Rattle.cb_class.proofs.class.slot_words.Goals as goal
 pub returns : goal.returns
 unfolding words_of
 returns c =
-    let same : c.class_bytes.result / 8 ≡ words_of c.args.c = ap (λ n. n / 8) c.class_bytes.ensures.bytes in
+    let same : c.class_bytes.result / 8 ≡ words_of c.args.c =
+    ap (λ n. n / 8) c.class_bytes.ensures.bytes in
     record {
       words = same;
       at_least = omega arith;

@@ -6,7 +6,8 @@ use Rattle.cb_class.proofs.class.slots.Goals as goal
 pub returns : goal.returns
 unfolding slots_of
 returns c =
-    let same : 4096 / c.class_bytes.result ≡ slots_of c.args.c = ap (λ n. 4096 / n) c.class_bytes.ensures.bytes in
+    let same : 4096 / c.class_bytes.result ≡ slots_of c.args.c =
+    ap (λ n. 4096 / n) c.class_bytes.ensures.bytes in
     record {
       slots = same;
       at_least = rw same (slots_at_least c.args.c c.requires);

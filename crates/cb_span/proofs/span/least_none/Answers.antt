@@ -9,8 +9,10 @@ pub returns-then-is_none : goal.returns-then-is_none
 returns-then-is_none c =
     let slots = c.args.slots.now in
     let i = c.loop-i.i in
-    let empty : is_none (get_or slots i None) ≡ true = test_from_none (get_or slots i None) c.if-is_none.ensures in
-    let place : position_or_len is_none slots ≡ i = position_or_len_is is_none slots i None (omega arith) c.loop-i.invariant (λ _. empty) in
+    let empty : is_none (get_or slots i None) ≡ true =
+    test_from_none (get_or slots i None) c.if-is_none.ensures in
+    let place : position_or_len is_none slots ≡ i =
+    position_or_len_is is_none slots i None (omega arith) c.loop-i.invariant (λ _. empty) in
     rw (place, lt-ltb i (length slots) c.loop-i-test.true) refl
 
 pub returns : goal.returns
@@ -18,7 +20,9 @@ returns c =
     let slots = c.args.slots.now in
     let place = position_or_len is_none slots in
     elim (cases_lt place (length slots)) [
-      | inl inside ↦ absurd (let here : is_none (get_or slots place None) ≡ true = passes_at_first is_none slots None inside in
+      | inl inside ↦ absurd
+          (let here : is_none (get_or slots place None) ≡ true =
+          passes_at_first is_none slots None inside in
           let before = c.loop-i.invariant place (omega arith) in cc)
       | inr past ↦ rw (le-ltb place (length slots) past) refl
     ]

@@ -7,7 +7,8 @@ pub overflow_add-self : goal.overflow_add-self
 overflow_add-self c =
     let set = c.self.inside.set in
     let now = c.insert.new.self in
-    let within : c.args.f < length set = omega (arith, c.requires.in_range, ap length c.self.view_is) in
+    let within : c.args.f < length set =
+    omega (arith, c.requires.in_range, ap length c.self.view_is) in
     let taken = subst (λ fs. ¬ (IsFree fs c.args.f)) (sym c.self.view_is) c.requires.taken in
     let count : free_count now ≡ free_count set + 1 =
     ap free_count c.insert.ensures.inserted ∙ free_count-with_given set c.args.f within taken in

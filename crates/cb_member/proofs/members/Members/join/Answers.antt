@@ -5,7 +5,8 @@ use Rattle.cb_member.proofs.members.Members.join.Goals as goal
 
 pub invariant_of-self : goal.invariant_of-self
 invariant_of-self c =
-    let m : Membership = record { epoch = c.self.inside.epoch; nodes = c.self.inside.nodes.items } in
+    let m : Membership =
+    record { epoch = c.self.inside.epoch; nodes = c.self.inside.nodes.items } in
     let was : alive c.args.self.now c.args.node ≡ false = search rules in
     join_written m c.args.node c.from.result _ c.index_mut-state.result.now c.self.invariant
     (search rules)
@@ -14,7 +15,8 @@ invariant_of-self c =
 
 pub returns-clause-valid : goal.returns-clause-valid
 returns-clause-valid c =
-    let m : Membership = record { epoch = c.self.inside.epoch; nodes = c.self.inside.nodes.items } in
+    let m : Membership =
+    record { epoch = c.self.inside.epoch; nodes = c.self.inside.nodes.items } in
     let was : alive c.args.self.now c.args.node ≡ false = search rules in
     join_written m c.args.node c.from.result _ c.index_mut-state.result.now c.self.invariant
     (search rules)

@@ -4,4 +4,5 @@ use Rattle.cb_node.proofs.Views.{get-view}
 use Rattle.cb_node.proofs.node.Node.row.Goals as goal
 
 pub returns : goal.returns
-returns c = c.get.ensures.value ∙ sym (get-view c.self.inside.rows c.args.key) ∙ ap (λ rows. map.get rows c.args.key) c.self.view_is
+returns c = c.get.ensures.value ∙ sym (get-view c.self.inside.rows c.args.key)
+    ∙ ap (λ rows. map.get rows c.args.key) c.self.view_is

@@ -8,16 +8,24 @@ pub invariant_of-self : goal.invariant_of-self
 invariant_of-self c =
     let old = c.args.self.now in
     let node = c.args.node in
-    let read = rows_at-read old c.self.inside.nodes.items node c.from.result c.index_mut.result.now (ap (λ s. s.nodes) c.self.view_is) c.from.ensures c.requires.node c.index_mut.ensures.value in
-    kept_after_write _ old c.from.result node c.swap_row.new.self (map.insert (rows_at old node) c.args.key c.args.row.now) c.self.view_is c.from.ensures
+    let read = rows_at-read old c.self.inside.nodes.items node c.from.result c.index_mut.result.now
+    (ap (λ s. s.nodes) c.self.view_is) c.from.ensures c.requires.node c.index_mut.ensures.value
+    in
+    kept_after_write _ old c.from.result node c.swap_row.new.self
+    (map.insert (rows_at old node) c.args.key c.args.row.now) c.self.view_is c.from.ensures
     (c.swap_row.ensures.after ∙ ap (λ rows. map.insert rows c.args.key c.args.row.now) read)
-    (IsNodes-with_row_again old node c.args.key c.args.row.now c.requires.node (subst IsNodes c.self.view_is c.self.invariant) c.requires.there)
+    (IsNodes-with_row_again old node c.args.key c.args.row.now c.requires.node
+    (subst IsNodes c.self.view_is c.self.invariant) c.requires.there)
 
 pub returns-clause-valid : goal.returns-clause-valid
 returns-clause-valid c =
     let old = c.args.self.now in
     let node = c.args.node in
-    let read = rows_at-read old c.self.inside.nodes.items node c.from.result c.index_mut.result.now (ap (λ s. s.nodes) c.self.view_is) c.from.ensures c.requires.node c.index_mut.ensures.value in
-    kept_after_write _ old c.from.result node c.swap_row.new.self (map.insert (rows_at old node) c.args.key c.args.row.now) c.self.view_is c.from.ensures
+    let read = rows_at-read old c.self.inside.nodes.items node c.from.result c.index_mut.result.now
+    (ap (λ s. s.nodes) c.self.view_is) c.from.ensures c.requires.node c.index_mut.ensures.value
+    in
+    kept_after_write _ old c.from.result node c.swap_row.new.self
+    (map.insert (rows_at old node) c.args.key c.args.row.now) c.self.view_is c.from.ensures
     (c.swap_row.ensures.after ∙ ap (λ rows. map.insert rows c.args.key c.args.row.now) read)
-    (IsNodes-with_row_again old node c.args.key c.args.row.now c.requires.node (subst IsNodes c.self.view_is c.self.invariant) c.requires.there)
+    (IsNodes-with_row_again old node c.args.key c.args.row.now c.requires.node
+    (subst IsNodes c.self.view_is c.self.invariant) c.requires.there)

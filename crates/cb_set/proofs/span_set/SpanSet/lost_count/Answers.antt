@@ -5,5 +5,6 @@ use Rattle.cb_set.proofs.span_set.SpanSet.lost_count.Goals as goal
 
 pub loop-shard-preserved : goal.loop-shard-preserved
 loop-shard-preserved c =
-    let e = lost_more c.args.m.now c.shards-shard-items.result.now c.loop-shard.shard-index (record { node = record { n = 0 }; incarnation = 0; key = 0 }) (omega arith) in
+    let e = lost_more c.args.m.now c.shards-shard-items.result.now c.loop-shard.shard-index
+    (record { node = record { n = 0 }; incarnation = 0; key = 0 }) (omega arith) in
     record { counted = grind (arith, common_steps); bound = grind (arith, common_steps) }

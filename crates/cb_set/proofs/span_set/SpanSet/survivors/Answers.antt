@@ -13,7 +13,8 @@ loop-p-preserved c =
     let d : Shard = record { node = record { n = 0 }; incarnation = 0; key = 0 } in
     let g = c.shards-shard-items.ensures.shards in
     let same = ap (λ (l : List Shard). is_lost m (get_or l i d)) (sym g) in
-    let within : i < length shards = subst (λ (l : List Shard). i < length l) g c.loop-p-test.true in
+    let within : i < length shards =
+    subst (λ (l : List Shard). i < length l) g c.loop-p-test.true in
     elim c.if-not-is_lost.branch [
       | then-not-is_lost w ↦
           subst (λ (l : List ℕ). Found m shards (i + 1) l c.if-not-is_lost.count) (sym w.present-is)
