@@ -1,10 +1,10 @@
 -- A syndrome by Horner's rule, from the last row to the first.
-use Rattle.std.proofs.Common.{◌≡◌, ℕ, zero, suc, ◌+◌, ◌-◌, ◌*◌, ◌<◌, ◌≤◌, List, [], ◌∷◌, length, get_or, refl, sym, ap, ap₂, ◌∙◌, arith, add-one}
+use Rattle.std.proofs.Common.{◌≡◌, ℕ, zero, suc, ◌+◌, ◌-◌, ◌*◌, ◌<◌, ◌≤◌, List, [], ◌∷◌, length, get_or, refl, sym, ap, ap₂, ◌∙◌, arith}
 use Rattle.std.proofs.Math.Nat.{mul_comm}
 use Rattle.cb_gf256.specs.Sum.{◌⊕◌, sum_over}
 use Rattle.cb_gf256.specs.Product.{◌⊗◌}
 use Rattle.cb_gf256.specs.Power.{power}
-use Rattle.cb_gf256.specs.Rows.{row_at, byte_at, HaveLength, HoldBytes}
+use Rattle.cb_gf256.specs.Rows.{byte_at, HaveLength, HoldBytes}
 use Rattle.cb_gf256.specs.Lanes.{HasLanes}
 use Rattle.cb_gf256.specs.CodeWord.{syndrome}
 use Rattle.cb_gf256.proofs.PublicLaws.{sum_over_same, sum_over_splits, product_with_sum_over, product_associates, one_with_product, power_is_byte, power_of_none, power_of_one_more, power_at_product, sum_commutes, sum_with_zero}
@@ -30,10 +30,10 @@ sum_of_last_more i c rows column small within bytes =
     let rest : c ⊗ sum_of_last i c rows column ≡ sum_over i (λ m. f (1 + m)) =
     product_with_sum_over c i (λ m. power c m ⊗ byte_at rows (n - i + m) column)
     ∙ sum_over_same i (λ m. c ⊗ (power c m ⊗ byte_at rows (n - i + m) column)) (λ m. f (1 + m)) (λ m h.
-      sym (product_associates c (power c m) (byte_at rows (n - i + m) column) small (power_is_byte c m small) (bytes (n - i + m) (omega arith)))
-      ∙ (let next : m + 1 ≡ 1 + m = omega arith in
-      let place : n - i + m ≡ n - (i + 1) + (1 + m) = omega arith in
-      ap₂ ◌⊗◌ (sym (power_of_one_more c m) ∙ ap (power c) next) (ap (λ p. byte_at rows p column) place))) in
+    sym (product_associates c (power c m) (byte_at rows (n - i + m) column) small (power_is_byte c m small) (bytes (n - i + m) (omega arith)))
+    ∙ (let next : m + 1 ≡ 1 + m = omega arith in
+    let place : n - i + m ≡ n - (i + 1) + (1 + m) = omega arith in
+    ap₂ ◌⊗◌ (sym (power_of_one_more c m) ∙ ap (power c) next) (ap (λ p. byte_at rows p column) place))) in
     sum_commutes (c ⊗ sum_of_last i c rows column) (byte_at rows (n - 1 - i) column)
     ∙ ap₂ ◌⊕◌ first rest
     ∙ ap (λ x. x ⊕ sum_over i (λ m. f (1 + m))) (sym (zero_xor (f 0)))
@@ -45,7 +45,7 @@ pub all_of_last : (n j c : ℕ) (rows : List (List ℕ)) (column : ℕ) → n �
 all_of_last n j c rows column all e =
     ap (λ i. sum_of_last i c rows column) all
     ∙ sum_over_same (length rows) (λ m. power c m ⊗ byte_at rows (length rows - length rows + m) column) (λ m. power 2 (m * j) ⊗ byte_at rows m column)
-      (λ m h. ap₂ ◌⊗◌ (ap (λ x. power x m) e ∙ sym (power_at_product 2 j m (omega arith)) ∙ ap (power 2) (mul_comm j m)) (let place : length rows - length rows + m ≡ m = omega arith in ap (λ p. byte_at rows p column) place))
+    (λ m h. ap₂ ◌⊗◌ (ap (λ x. power x m) e ∙ sym (power_at_product 2 j m (omega arith)) ∙ ap (power 2) (mul_comm j m)) (let place : length rows - length rows + m ≡ m = omega arith in ap (λ p. byte_at rows p column) place))
 
 -- the powers of 2 of which a syndrome is taken
 pub first_powers : (power 2 0 ≡ 1) × (power 2 1 ≡ 2) × (power 2 2 ≡ 4) × (power 2 3 ≡ 8)

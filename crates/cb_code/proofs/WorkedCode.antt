@@ -1,11 +1,10 @@
 -- The table of one data row and one parity at worked values: for each part of the definition a table that breaks it alone.
 use Rattle.std.proofs.Common.{◌≡◌, ℕ, zero, suc, ◌^◌, ◌<◌, get_or, List, [], ◌∷◌, length, refl, arith}
-use Rattle.cb_gf256.specs.Sum.{sum_over}
 use Rattle.cb_gf256.specs.Product.{◌⊗◌}
 use Rattle.cb_gf256.specs.Power.{power}
-use Rattle.cb_gf256.specs.Rows.{row_at, byte_at, HaveLength, AreRows}
-use Rattle.cb_gf256.specs.CodeWord.{IsCodeWord, syndrome}
-use Rattle.cb_gf256.specs.Combination.{combination, AreCombinations}
+use Rattle.cb_gf256.specs.Rows.{row_at, byte_at, HaveLength}
+use Rattle.cb_gf256.specs.CodeWord.{syndrome}
+use Rattle.cb_gf256.specs.Combination.{combination}
 use Rattle.cb_code.specs.Coefficients.{AreCoefficients, IsCode}
 
 pub no_table_without_rows : AreCoefficients 1 1 [] → ⊥

@@ -64,7 +64,7 @@ fn coefficient_row(k: u32, lost: &[u8], j: usize) -> [u8; 16]
     ensures size { length result ≡ 16 }
     ensures factors { (i : ℕ) → i < k
         → IsLagrangeFactor (length lost.now) (λ m. slice_index lost.now m) j i
-            (slice_index result i) }
+        (slice_index result i) }
 {
     let mut row = [0; 16];
     for i in 0..k {

@@ -1,8 +1,7 @@
 -- A sum of rows in which one row is replaced.
-use Rattle.std.proofs.Common.{◌≡◌, ◌≢◌, ℕ, ◌<◌, List, [], length, get_or, set, refl, sym, ap, ap₂, ext_get_or, ⊎_elim, ◌∙◌, arith}
-use Rattle.std.proofs.lemmas.Bool.{cases_eq}
+use Rattle.std.proofs.Common.{◌≡◌, ◌≢◌, ℕ, ◌<◌, List, [], length, get_or, set, sym, ap, ap₂, ext_get_or, ◌∙◌, arith}
 use Rattle.std.proofs.lemmas.List.{get_or-set_same, get_or-set_other}
-use Rattle.cb_gf256.specs.Sum.{◌⊕◌, sum_over}
+use Rattle.cb_gf256.specs.Sum.{◌⊕◌}
 use Rattle.cb_gf256.specs.Product.{◌⊗◌}
 use Rattle.cb_gf256.specs.Row.{row_sum, scaled_row}
 use Rattle.cb_gf256.specs.Rows.{row_at, byte_at}
@@ -29,9 +28,9 @@ replaced factors rows i new column inside within =
     ∙ ap (λ x. combination factors rows column ⊕ x) (sym (sum_over_one_term n i change inside others))
     ∙ sym (sum_over_sums n f change)
     ∙ sum_over_same n (λ m. f m ⊕ change m) (λ m. get_or factors m 0 ⊗ byte_at (set rows i new) m column)
-      (λ m h.
-      sym (product_distributes (get_or factors m 0) (byte_at rows m column) (byte_at rows m column ⊕ byte_at (set rows i new) m column))
-      ∙ ap (λ x. get_or factors m 0 ⊗ x) (moved (byte_at rows m column) (byte_at (set rows i new) m column)))
+    (λ m h.
+    sym (product_distributes (get_or factors m 0) (byte_at rows m column) (byte_at rows m column ⊕ byte_at (set rows i new) m column))
+    ∙ ap (λ x. get_or factors m 0 ⊗ x) (moved (byte_at rows m column) (byte_at (set rows i new) m column)))
 
 pub patched : (factors : List ℕ) (rows : List (List ℕ)) (i c : ℕ) (old new delta parity : List ℕ) → IsParity factors rows parity → i < length factors → i < length rows
     → c ≡ get_or factors i 0 → length new ≡ length (row_at rows i) → delta ≡ row_sum (row_at rows i) new → length parity ≡ length delta → old ≡ row_sum parity (scaled_row c delta)
@@ -42,8 +41,8 @@ patched factors rows i c old new delta parity h inside within factor size change
     ap (λ row. get_or row column 0) made
     ∙ row_sum_by_byte parity (scaled_row c delta) column same
     ∙ ap₂ ◌⊕◌ (h column short)
-      (scaled_row_by_byte c delta column
-      ∙ ap₂ ◌⊗◌ factor (ap (λ row. get_or row column 0) change ∙ row_sum_by_byte (row_at rows i) new column (sym size)))
+    (scaled_row_by_byte c delta column
+    ∙ ap₂ ◌⊗◌ factor (ap (λ row. get_or row column 0) change ∙ row_sum_by_byte (row_at rows i) new column (sym size)))
     ∙ replaced factors rows i new column inside within
 
 pub sums_are_parities : (table rows sums : List (List ℕ)) (j : ℕ) → AreCombinations table rows sums → j < length table → IsParity (row_at table j) rows (row_at sums j)

@@ -1,5 +1,5 @@
 -- A parity at worked values: 02 times 80 is 1D.
-use Rattle.std.proofs.Common.{◌≡◌, ℕ, zero, suc, ◌<◌, List, [], ◌∷◌, refl, arith}
+use Rattle.std.proofs.Common.{◌≡◌, zero, suc, [], ◌∷◌, refl, arith}
 use Rattle.cb_gf256.specs.Product.{◌⊗◌}
 use Rattle.cb_gf256.specs.Combination.{combination}
 use Rattle.cb_delta.specs.Parity.{IsParity}

@@ -1,7 +1,7 @@
 -- The filled table is the table of weights: it restores code words, and makes code words of any present rows.
 use Rattle.std.proofs.Common.{◌≡◌, ◌≢◌, ℕ, ◌+◌, ◌<◌, ◌≤◌, ◌==◌, if◌then◌else◌, List, [], length, get_or, All, refl, sym, ap, subst, ◌∙◌, ⊎_elim, arith, cond}
 use Rattle.std.proofs.lemmas.Bool.{cases_eq, eq-eqb, ne_eqb}
-use Rattle.std.proofs.lemmas.List.{same_lists, get_or_default, get_or-map, length-map, ext_get_or}
+use Rattle.std.proofs.lemmas.List.{same_lists, get_or_default, length-map, ext_get_or}
 use Rattle.std.proofs.lemmas.Grind.{same_number_lists}
 use Rattle.cb_gf256.specs.Sum.{sum_over}
 use Rattle.cb_gf256.specs.Product.{◌⊗◌}
@@ -208,7 +208,7 @@ made_solution k r present lost table rows word h =
           ∙ h.sums.values e column (omega (arith, h.height)) (omega arith)
           ∙ combination-rows_at k table rows present e column h.positions.count wide
           ∙ sum_over_same k (λ i. byte_at table e i ⊗ byte_at rows (get_or present i 0) column) (λ i. byte_at table e i ⊗ byte_at word (get_or present i 0) column)
-            (λ i q. ap (λ row. byte_at table e i ⊗ get_or row column 0) (sym (kept_row k r present lost table rows word h i q))));
+          (λ i q. ap (λ row. byte_at table e i ⊗ get_or row column 0) (sym (kept_row k r present lost table rows word h i q))));
       agrees =
           ext_get_or [] (rows_at word present) (rows_at rows present) (length-map present (row_at word) ∙ sym (length-map present (row_at rows)))
           (λ i l.

@@ -2,9 +2,9 @@
 use Rattle.std.proofs.Common.{◌≡◌, ℕ, zero, suc, ◌^◌, ◌<◌, get_or, List, [], ◌∷◌, length, refl, ap, arith}
 use Rattle.cb_gf256.specs.Product.{◌⊗◌}
 use Rattle.cb_gf256.specs.Power.{power}
-use Rattle.cb_gf256.specs.Rows.{row_at, byte_at, HaveLength, HoldBytes}
+use Rattle.cb_gf256.specs.Rows.{byte_at, HaveLength}
 use Rattle.cb_gf256.specs.CodeWord.{IsCodeWord, syndrome}
-use Rattle.cb_gf256.specs.Combination.{combination, AreCombinations}
+use Rattle.cb_gf256.specs.Combination.{combination}
 use Rattle.cb_erase.specs.Weights.{IsSolution, AreWeights}
 
 -- the word 05 05

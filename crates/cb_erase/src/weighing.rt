@@ -64,7 +64,7 @@ pub(crate) fn factor_row(present: &[u8], lost: &[u8], e: usize) -> [u8; 16]
     ensures size { length result ≡ 16 }
     ensures factors { (i : ℕ) → i < length present.now
         → IsLagrangeFactor (length lost.now) (λ m. slice_index lost.now m) e
-            (slice_index present.now i) (slice_index result i) }
+        (slice_index present.now i) (slice_index result i) }
 {
     let mut row = [0; 16];
     for (i, position) in present.iter().enumerate() {

@@ -53,7 +53,7 @@ same_corner k n width a b small ha hb wa wb same =
     let long_b : k ≤ length (row_at b j) = omega (arith, wb j [] (omega arith)) in
     row_at-corner k n a j h
     ∙ ext_get_or 0 (take k (row_at a j)) (take k (row_at b j)) (length-take-le k (row_at a j) long_a ∙ sym (length-take-le k (row_at b j) long_b))
-      (λ i l.
-      let place : i < k = omega (arith, length-take-le k (row_at a j) long_a) in
-      get_or-take k (row_at a j) i 0 place ∙ same j i within place ∙ sym (get_or-take k (row_at b j) i 0 place))
+    (λ i l.
+    let place : i < k = omega (arith, length-take-le k (row_at a j) long_a) in
+    get_or-take k (row_at a j) i 0 place ∙ same j i within place ∙ sym (get_or-take k (row_at b j) i 0 place))
     ∙ sym (row_at-corner k n b j (omega arith)))

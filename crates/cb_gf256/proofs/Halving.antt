@@ -1,5 +1,5 @@
 -- Products by halves and by doublings of a byte.
-use Rattle.std.proofs.Common.{◌≡◌, ℕ, zero, suc, ◌+◌, ◌*◌, ◌/◌, ◌%◌, ◌^◌, ◌<◌, leb, eqb, ltb, ◌-◌, List, length, get_or, cond, true, false, Bool, bit_and, refl, arith, ap₂, add-one, sym, ap, ◌∙◌}
+use Rattle.std.proofs.Common.{◌≡◌, ℕ, ◌+◌, ◌*◌, ◌/◌, ◌%◌, ◌^◌, ◌<◌, leb, eqb, ◌-◌, List, length, get_or, cond, true, false, Bool, bit_and, refl, arith, ap₂, add-one, sym, ap, ◌∙◌}
 use Rattle.std.proofs.lemmas.Bool.{eqb-true, lt-ltb, le-ltb}
 use Rattle.std.proofs.lemmas.Nat.{and_mask}
 use Rattle.std.specs.Int.{bit_at}

@@ -1,5 +1,5 @@
 -- What the operations on blocks of 32 bytes hold at each lane.
-use Rattle.std.proofs.Common.{◌≡◌, ℕ, zero, suc, ◌+◌, ◌*◌, ◌/◌, ◌%◌, ◌^◌, ◌<◌, List, [], ◌∷◌, Bool, true, false, cond, eqb, leb, length, get_or, map, replicate, refl, sym, ap, subst, ◌∙◌, arith, w8, bit_and, Fits, not, ◌↔◌, ◌≤◌, eq-eqb}
+use Rattle.std.proofs.Common.{◌≡◌, ℕ, zero, suc, ◌+◌, ◌*◌, ◌/◌, ◌%◌, ◌^◌, ◌<◌, List, [], ◌∷◌, Bool, true, false, cond, eqb, length, get_or, map, replicate, refl, sym, ap, ◌∙◌, arith, w8, Fits, not, ◌↔◌, ◌≤◌, eq-eqb}
 use Rattle.std.proofs.lemmas.Bool.{eqb-true, eqb-false}
 use Rattle.std.proofs.lemmas.List.{length-map}
 use Rattle.std.proofs.lemmas.Simd.{mask_l-mod}
@@ -78,8 +78,7 @@ flag x = go (eqb x 0) refl
 none_differ : (xs : List ℕ) → (mask_l (map (top 7) (zip2 differs xs (replicate (length xs) 0))) ≡ 0) ↔ ((l : ℕ) → l < length xs → get_or xs l 0 ≡ 0)
 none_differ [] = (λ _ l h. refl, λ _. refl)
 none_differ (x ∷ xs) =
-    let r = none_differ xs in
-    (
+    let r = none_differ xs in (
       λ e. elim [ zero ↦ λ h. (flag x).0 (omega arith) | suc l ↦ λ h. r.0 (omega arith) l (omega arith) ],
       λ h. omega (arith, (flag x).1 (h 0 (omega arith)), r.1 (λ l k. h (suc l) (omega arith))),
     )
@@ -87,8 +86,7 @@ none_differ (x ∷ xs) =
 pub zero_of_mask : (xs : List ℕ) → length xs ≡ 32 → (eqb (mask_l (map (top 7) (zip2 differs xs (replicate 32 0))) % 2 ^ 64) 0 ≡ true) ↔ ((l : ℕ) → l < 32 → get_or xs l 0 ≡ 0)
 zero_of_mask xs long =
     let size : length (map (top 7) (zip2 differs xs (replicate 32 0))) ≤ 64 = omega (arith, length-map (zip2 differs xs (replicate 32 0)) (top 7), length-zip2 differs xs (replicate 32 0) long) in
-    let e = mask_l-mod _ 64 size ∙ ap (λ n. mask_l (map (top 7) (zip2 differs xs (replicate n 0)))) (sym long) in
-    (
+    let e = mask_l-mod _ 64 size ∙ ap (λ n. mask_l (map (top 7) (zip2 differs xs (replicate n 0)))) (sym long) in (
       λ t l h. (none_differ xs).0 (sym e ∙ eqb-true _ _ t) l (omega arith),
       λ z. eq-eqb _ _ (e ∙ (none_differ xs).1 (λ l h. z l (omega arith))),
     )

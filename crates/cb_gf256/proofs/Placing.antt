@@ -47,7 +47,7 @@ placed_more w at targets v before now m row ascend inside within size new old h 
           ⊎_elim
           (λ below.
           set_row (λ r. get_or r (at + l) 0 ≡ v j l) now t (get_or targets j 0) row within
-            (λ e. absurd (omega (arith, ascending_apart targets ascend j m below inside))) (λ _. h.placed j l below q))
+          (λ e. absurd (omega (arith, ascending_apart targets ascend j m below inside))) (λ _. h.placed j l below q))
           (λ last.
           let same : m ≡ j = omega arith in
           subst (λ x. byte_at (set now t row) (get_or targets x 0) (at + l) ≡ v x l) same (ap (λ r. get_or r (at + l) 0) (get_or-set_same now t row [] within) ∙ new l q))

@@ -1,5 +1,5 @@
 -- Sums of rows, byte by byte.
-use Rattle.std.proofs.Common.{◌≡◌, ℕ, zero, suc, ◌+◌, ◌<◌, List, [], ◌∷◌, ◌++◌, length, take, drop, get_or, set, replicate, ext_get_or, ⊎_elim, ◌-◌, ◌≤◌, subst, refl, sym, ap, ap₂, ◌∙◌, arith, add-one}
+use Rattle.std.proofs.Common.{◌≡◌, ℕ, zero, suc, ◌+◌, ◌<◌, List, [], ◌∷◌, length, get_or, set, replicate, ext_get_or, ⊎_elim, ◌-◌, ◌≤◌, subst, refl, sym, ap, ap₂, ◌∙◌, arith, add-one}
 use lib.Bits.{xor_self, xor_assoc, xor_comm, xor_zero_r}
 use Rattle.cb_gf256.specs.Sum.{◌⊕◌}
 use Rattle.cb_gf256.specs.Product.{◌⊗◌}

@@ -1,10 +1,10 @@
 -- A block of sums, row after row.
-use Rattle.std.proofs.Common.{◌≡◌, ℕ, ◌+◌, ◌<◌, ◌≤◌, List, [], length, get_or, map, replicate, refl, sym, ap, ap₂, ◌∙◌, arith, add-one}
+use Rattle.std.proofs.Common.{◌≡◌, ℕ, ◌+◌, ◌<◌, List, [], length, get_or, replicate, sym, ap, ap₂, ◌∙◌, arith, add-one}
 use Rattle.std.proofs.lemmas.List.{get_or-map, length-map, ext_get_or}
 use Rattle.std.proofs.lemmas.Simd.{get_or-replicate, length-replicate}
 use Rattle.cb_gf256.specs.Sum.{◌⊕◌, sum_over}
 use Rattle.cb_gf256.specs.Product.{◌⊗◌}
-use Rattle.cb_gf256.specs.Rows.{row_at, byte_at, rows_at, HaveLength}
+use Rattle.cb_gf256.specs.Rows.{row_at, byte_at, rows_at}
 use Rattle.cb_gf256.specs.Lanes.{HasLanes}
 use Rattle.cb_gf256.specs.Combination.{combination}
 

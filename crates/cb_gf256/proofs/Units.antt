@@ -1,13 +1,13 @@
 -- A table is known by the sums that it makes of rows of which one is 1 and the others are 0.
-use Rattle.std.proofs.Common.{◌≡◌, ◌≢◌, ℕ, zero, suc, ◌+◌, ◌^◌, ◌<◌, Bool, true, false, List, [], ◌∷◌, length, get_or, map, cond, eqb, refl, sym, ap, ext_get_or, ◌∙◌, ⊎_elim, arith}
+use Rattle.std.proofs.Common.{◌≡◌, ℕ, zero, suc, ◌+◌, ◌<◌, Bool, true, false, List, [], ◌∷◌, length, get_or, map, cond, eqb, refl, sym, ap, ext_get_or, ◌∙◌, arith}
 use Rattle.std.specs.List.{range_with_len}
-use Rattle.std.proofs.lemmas.Bool.{cases_eq, eq-eqb, ne_eqb}
-use Rattle.std.proofs.lemmas.List.{get_or-map, length-map, get_or_default}
+use Rattle.std.proofs.lemmas.Bool.{eq-eqb, ne_eqb}
+use Rattle.std.proofs.lemmas.List.{get_or-map, length-map}
 use Rattle.std.proofs.lemmas.List.FromFn.{get_or-map-range_with_len}
 use Rattle.cb_gf256.specs.Sum.{sum_over}
 use Rattle.cb_gf256.specs.Product.{◌⊗◌}
 use Rattle.cb_gf256.specs.Rows.{row_at, byte_at, HaveLength, HoldBytes, AreRows}
-use Rattle.cb_gf256.specs.Combination.{combination, AreCombinations}
+use Rattle.cb_gf256.specs.Combination.{AreCombinations}
 use Rattle.cb_gf256.proofs.FieldLaws.{product-one, product-zero}
 use Rattle.cb_gf256.proofs.SumLaws.{sum_over-one_term}
 use Rattle.cb_gf256.proofs.CornerLemmas.{at_default}
@@ -72,10 +72,10 @@ unit_combinations k i table inside width bytes =
           ap (λ row. get_or row column 0) (row_at-unit_rows k i m q) ∙ one_byte (cond (eqb m i) 1 0) column 0 (omega arith) in
           ap (λ row. get_or row column 0) (row_at-column_rows table i j h) ∙ one_byte (byte_at table j i) column 0 (omega arith)
           ∙ sym
-            (ap (λ n. sum_over n (λ m. byte_at table j m ⊗ byte_at (unit_rows k i) m column)) wide
-            ∙ sum_over-one_term k i (λ m. byte_at table j m ⊗ byte_at (unit_rows k i) m column) inside
-              (λ m q apart. ap (λ x. byte_at table j m ⊗ x) (unit m q ∙ ap (λ t. cond t 1 0) (ne_eqb m i apart)) ∙ product-zero (byte_at table j m))
-            ∙ ap (λ x. byte_at table j i ⊗ x) (unit i inside ∙ ap (λ t. cond t 1 0) (eq-eqb i i refl)) ∙ product-one (byte_at table j i) own);
+          (ap (λ n. sum_over n (λ m. byte_at table j m ⊗ byte_at (unit_rows k i) m column)) wide
+          ∙ sum_over-one_term k i (λ m. byte_at table j m ⊗ byte_at (unit_rows k i) m column) inside
+          (λ m q apart. ap (λ x. byte_at table j m ⊗ x) (unit m q ∙ ap (λ t. cond t 1 0) (ne_eqb m i apart)) ∙ product-zero (byte_at table j m))
+          ∙ ap (λ x. byte_at table j i ⊗ x) (unit i inside ∙ ap (λ t. cond t 1 0) (eq-eqb i i refl)) ∙ product-one (byte_at table j i) own);
     }
 
 pub HoldBytes-column_rows : (k i : ℕ) (table : List (List ℕ)) → i < k → HaveLength k table → HoldBytes table → HoldBytes (column_rows table i)

@@ -1,18 +1,18 @@
 -- Rows, their sums and tables of factors at worked values: what meets each definition, and for each part what breaks it alone.
-use Rattle.std.proofs.Common.{◌≡◌, ◌≢◌, ◌⊎◌, ℕ, zero, suc, ◌*◌, ◌<◌, ◌≤◌, List, [], ◌∷◌, length, get_or, refl, arith, inl, inr}
-use Rattle.cb_gf256.specs.Sum.{◌⊕◌, sum_over}
+use Rattle.std.proofs.Common.{◌≡◌, ℕ, zero, suc, ◌*◌, ◌<◌, List, [], ◌∷◌, get_or, refl, arith}
+use Rattle.cb_gf256.specs.Sum.{sum_over}
 use Rattle.cb_gf256.specs.Product.{◌⊗◌}
 use Rattle.cb_gf256.specs.Power.{power}
 use Rattle.cb_gf256.specs.Row.{row_sum, scaled_row}
-use Rattle.cb_gf256.specs.Rows.{row_at, rows_at, byte_at, HaveLength, HoldBytes, AreRows}
+use Rattle.cb_gf256.specs.Rows.{row_at, rows_at, byte_at, HaveLength, AreRows}
 use Rattle.cb_gf256.specs.Block.{cut_rows, with_row}
 use Rattle.cb_gf256.specs.Corner.{corner}
 use Rattle.cb_gf256.specs.Combination.{combination, AreCombinations}
 use Rattle.cb_gf256.specs.CodeWord.{IsCodeWord, syndrome}
 use Rattle.cb_gf256.specs.InRange.{IsInRange}
 use Rattle.cb_gf256.specs.Positions.{ArePositions}
-use Rattle.cb_gf256.specs.Lagrange.{IsLagrangeFactor, differences, points, product_over}
-use Rattle.cb_gf256.specs.Halves.{half_at, half_products}
+use Rattle.cb_gf256.specs.Lagrange.{IsLagrangeFactor, differences, points}
+use Rattle.cb_gf256.specs.Halves.{half_products}
 use Rattle.cb_gf256.specs.Polynomial.{evaluated}
 
 -- ---- sums and products of rows

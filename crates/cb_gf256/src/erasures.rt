@@ -41,15 +41,15 @@ pub fn code_laws()
 /// such rows make a code word.
 pub fn restoring_laws()
     ensures lost_rows_are_sums { (k r : ℕ) (word : List (List ℕ)) (present lost : ℕ → ℕ)
-            (w : ℕ → ℕ → ℕ)
+        (w : ℕ → ℕ → ℕ)
         → k + r ≤ 255
         → Splits (k + r) k r present lost → AreFactors k r present lost w → IsCodeWord k r word
         → HoldBytes word
         → (e column : ℕ) → e < r → column < length (row_at word 0)
         → byte_at word (lost e) column ≡ sum_over k (λ i. w e i ⊗ byte_at word
-            (present i) column) }
+        (present i) column) }
     ensures sums_make_a_word { (k r len : ℕ) (word : List (List ℕ)) (present lost : ℕ → ℕ)
-            (w : ℕ → ℕ → ℕ)
+        (w : ℕ → ℕ → ℕ)
         → k + r ≤ 255 → 0 < k
         → Splits (k + r) k r present lost → AreFactors k r present lost w → length word ≡ k + r
         → HaveLength len word

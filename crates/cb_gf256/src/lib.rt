@@ -17,14 +17,12 @@ mod tables;
 #[cfg(test)]
 mod tests;
 
-pub use erasures::{
-    code_laws, corner_laws, polynomial_laws, restoring_laws, split_laws,
-};
+pub use erasures::{code_laws, corner_laws, polynomial_laws, restoring_laws, split_laws};
 pub use factors::Factors;
 pub use field::{add, inv, mul, pow};
 pub use lagrange::lagrange_factor;
-pub use laws::{field_laws, power_laws, powers_of_two, row_laws, sum_laws};
 pub use lanes::{BLOCK, add_blocks, block_at, is_zero_block, put_block};
+pub use laws::{field_laws, power_laws, powers_of_two, row_laws, sum_laws};
 pub use no_memory::NoMemory;
 pub use products::Products;
 pub use row::{axpy_row, xor_row};

@@ -28,7 +28,7 @@ fn with_products<const R: usize>(
     ensures count { length result ≡ R }
     ensures lanes { (j : ℕ) → j < R
         → HasLanes (row_at result j) (λ l. byte_at sums.entry j l ⊕
-            (byte_at factors.now j i ⊗ slice_index block l)) }
+        (byte_at factors.now j i ⊗ slice_index block l)) }
 {
     let mut more = sums;
     for j in 0..R {
@@ -54,7 +54,7 @@ fn block_sums<const R: usize>(
     requires inside { at + 32 ≤ len }
     ensures { (j : ℕ) → j < R
         → HasLanes (row_at result j) (λ l. combination (row_at factors.now j)
-            (rows_at rows.now sources.now) (at + l)) }
+        (rows_at rows.now sources.now) (at + l)) }
 {
     let mut sums = [u8x32::splat(0); R];
     for (i, position) in sources.iter().enumerate() {
@@ -66,13 +66,7 @@ fn block_sums<const R: usize>(
 
 /// Puts the blocks of the first `R` sums into the rows at the targets, from a place on.
 #[inline(always)]
-fn put_sums<const R: usize>(
-    out: &mut Rows,
-    targets: &[u8],
-    at: usize,
-    sums: [u8x32; R],
-    len: usize,
-)
+fn put_sums<const R: usize>(out: &mut Rows, targets: &[u8], at: usize, sums: [u8x32; R], len: usize)
     requires targets { length targets.now ≡ R }
     requires ascending { IsStrictlyIncreasing targets.now }
     requires below { All (λ p. p < length out.old) targets.now }
@@ -153,7 +147,9 @@ fn sum_at(factors: &Factors, j: usize, rows: &Rows, sources: &[u8], column: usiz
 {
     let mut sum = 0;
     for (i, position) in sources.iter().enumerate() {
-        sum ^= factors.product(j, i).times(rows.row(u32::from(*position))[column]);
+        sum ^= factors
+            .product(j, i)
+            .times(rows.row(u32::from(*position))[column]);
     }
     sum
 }
@@ -234,6 +230,14 @@ impl Rows {
     {
         let len = rows.row_len() as usize;
         set_whole_blocks(self, targets, factors, rows, sources, len);
-        set_rest(self, targets, factors, rows, sources, len / BLOCK * BLOCK, len);
+        set_rest(
+            self,
+            targets,
+            factors,
+            rows,
+            sources,
+            len / BLOCK * BLOCK,
+            len,
+        );
     }
 }

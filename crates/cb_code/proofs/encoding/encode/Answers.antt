@@ -1,8 +1,5 @@
-use Rattle.std.proofs.Common.{◌≡◌, ◌<◌, [], length, replicate, ap, sym, subst, refl, ◌∙◌, arith}
+use Rattle.std.proofs.Common.{◌≡◌, length, replicate, ap, sym, refl, ◌∙◌, arith}
 use Rattle.std.proofs.lemmas.List.{length-replicate}
-use Rattle.cb_gf256.specs.Rows.{rows_at}
-use Rattle.cb_gf256.specs.Combination.{AreCombinations}
-use Rattle.cb_gf256.proofs.PublicLaws.{all_rows}
 use Rattle.cb_code.proofs.Tables.{fits, only_coded, combinations_of_all}
 use Rattle.cb_code.proofs.encoding.encode.Goals as goal
 

@@ -1,4 +1,4 @@
-use Rattle.std.proofs.Common.{◌≡◌, ◌∙◌, arith}
+use Rattle.std.proofs.Common.{arith}
 use Rattle.cb_gf256.proofs.PublicLaws.{at_default, power_is_byte}
 use Rattle.cb_code.proofs.syndromes.block_is_zero.Goals as goal
 

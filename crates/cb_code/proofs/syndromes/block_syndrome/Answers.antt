@@ -1,6 +1,6 @@
-use Rattle.std.proofs.Common.{◌≡◌, ◌+◌, ◌-◌, length, get_or, refl, sym, ap, ◌∙◌, arith}
+use Rattle.std.proofs.Common.{◌≡◌, ◌+◌, ◌-◌, length, get_or, refl, ap, ◌∙◌, arith}
 use Rattle.std.proofs.lemmas.Simd.{get_or-replicate}
-use Rattle.cb_gf256.specs.Rows.{row_at, byte_at}
+use Rattle.cb_gf256.specs.Rows.{byte_at}
 use Rattle.cb_code.proofs.Horner.{block_more, all_of_last}
 use Rattle.cb_code.proofs.syndromes.block_syndrome.Goals as goal
 

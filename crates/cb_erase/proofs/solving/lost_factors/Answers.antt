@@ -1,8 +1,7 @@
-use Rattle.std.proofs.Common.{◌≡◌, ℕ, ◌+◌, ◌<◌, ◌≤◌, ap, List, [], length, get_or, set, sym, subst, ◌∙◌, arith}
+use Rattle.std.proofs.Common.{◌≡◌, ◌≤◌, ap, [], length, get_or, sym, subst, ◌∙◌, arith}
 use Rattle.std.proofs.lemmas.List.{length-set}
 use Rattle.std.proofs.lemmas.List.Elements.{All-set}
-use Rattle.cb_gf256.specs.Rows.{row_at, byte_at, HaveLength}
-use Rattle.cb_gf256.specs.Corner.{corner}
+use Rattle.cb_gf256.specs.Rows.{byte_at, HaveLength}
 use Rattle.cb_gf256.specs.Lagrange.{IsLagrangeFactor}
 use Rattle.cb_gf256.proofs.PublicLaws.{below_more_set, corner_count, corner_byte, corner_lengths}
 use Rattle.cb_erase.proofs.Tables.{HasFactors}

@@ -1,7 +1,6 @@
-use Rattle.std.proofs.Common.{◌≡◌, ◌≢◌, ℕ, ◌+◌, ◌<◌, List, [], length, get_or, take, sym, ap, subst, ◌∙◌, arith}
+use Rattle.std.proofs.Common.{◌+◌, length, get_or, take, sym, ap, subst, ◌∙◌, arith}
 use Rattle.std.proofs.lemmas.List.{get_or-take, length-take-le}
 use Rattle.cb_gf256.specs.Rows.{row_at, HaveLength}
-use Rattle.cb_gf256.specs.Split.{Splits}
 use Rattle.cb_gf256.proofs.PublicLaws.{split_of_same}
 use Rattle.cb_erase.proofs.Words.{IsMade, made_solution, only_solution}
 use Rattle.cb_erase.proofs.solving.solve.Goals as goal

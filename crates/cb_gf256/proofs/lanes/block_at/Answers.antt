@@ -1,4 +1,3 @@
-use Rattle.std.proofs.Common.{◌≡◌, ◌+◌, length, get_or}
 use Rattle.std.proofs.lemmas.Simd.{length-chunk, get_or-chunk}
 use Rattle.cb_gf256.proofs.lanes.block_at.Goals as goal
 

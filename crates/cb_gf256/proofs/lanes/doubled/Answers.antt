@@ -1,4 +1,4 @@
-use Rattle.std.proofs.Common.{◌≡◌, ℕ, ◌+◌, ◌%◌, ◌^◌, Bool, leb, cond, get_or, List, length, map, replicate, sym, subst, refl, ◌∙◌, arith, w8, ap₂}
+use Rattle.std.proofs.Common.{◌≡◌, ℕ, ◌+◌, ◌%◌, ◌^◌, leb, cond, get_or, List, length, map, replicate, sym, subst, ◌∙◌, w8, ap₂}
 use Rattle.std.specs.Simd.Lanes.{zip2, sel_l, top}
 use Rattle.std.proofs.lemmas.Simd.{tops_compared}
 use Rattle.cb_gf256.specs.Sum.{◌⊕◌}

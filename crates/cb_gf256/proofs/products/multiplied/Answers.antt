@@ -1,10 +1,9 @@
-use Rattle.std.proofs.Common.{◌≡◌, ℕ, ◌+◌, ◌/◌, ◌^◌, ◌<◌, List, [], length, get_or, bit_and, cond, eqb, replicate, refl, sym, ap, ◌∙◌, arith}
+use Rattle.std.proofs.Common.{◌≡◌, ℕ, ◌/◌, ◌^◌, get_or, bit_and, cond, eqb, refl, sym, ap, ◌∙◌, arith}
 use Rattle.std.specs.Int.{bit_at}
 use Rattle.std.proofs.lemmas.Simd.{get_or-replicate}
 use Rattle.cb_gf256.specs.Sum.{◌⊕◌, sum_over}
 use Rattle.cb_gf256.specs.Product.{◌⊗◌}
 use Rattle.cb_gf256.specs.Power.{power}
-use Rattle.cb_gf256.specs.Lanes.{HasLanes}
 use Rattle.cb_gf256.proofs.FieldLaws.{zero-product, product-lt}
 use Rattle.cb_gf256.proofs.PowerLaws.{one-product, power-zero, power-lt}
 use Rattle.cb_gf256.proofs.LaneLemmas.{lane_fits}
@@ -36,7 +35,7 @@ loop-bit-preserved c =
     let i = c.loop-bit.bit in
     let mask_is : c.if-c-bit-eq1.mask ≡ cond (eqb (bit_at c.args.c i) 1) 255 0 =
     elim c.if-c-bit-eq1.branch [
-      then-c-bit-eq1 w ↦ w.mask-is ∙ sym (ap (λ t. cond t 255 0) (eq-eqb (bit_at c.args.c i) 1 (named_bit c.args.c i w.if-c-bit-eq1.true)))
+      | then-c-bit-eq1 w ↦ w.mask-is ∙ sym (ap (λ t. cond t 255 0) (eq-eqb (bit_at c.args.c i) 1 (named_bit c.args.c i w.if-c-bit-eq1.true)))
       | else-c-bit-eq1 w ↦ w.mask-is ∙ sym (ap (λ t. cond t 255 0) (ne_eqb (bit_at c.args.c i) 1 (λ e. w.if-c-bit-eq1.false (other_bit c.args.c i e))))
     ] in (
       record {
@@ -45,9 +44,9 @@ loop-bit-preserved c =
             c.add_blocks-sum.ensures.each l h
             ∙ ap (λ x. get_or c.loop-bit.sum l 0 ⊕ x) (c.masked.ensures.each l h)
             ∙ doubling_added c.args.c i (get_or block l 0) (get_or c.loop-bit.sum l 0) (get_or c.loop-bit.doubling l 0) c.if-c-bit-eq1.mask
-              (c.loop-bit.invariant.0.each l h)
-              (omega (arith, c.loop-bit.invariant.1.each l h, product-lt (power 2 i) (get_or block l 0) (power-lt 2 i (omega arith)) (lane_fits block c.fits-block.0 c.fits-block.1 l h)))
-              (c.loop-bit.invariant.1.each l h) mask_is;
+            (c.loop-bit.invariant.0.each l h)
+            (omega (arith, c.loop-bit.invariant.1.each l h, product-lt (power 2 i) (get_or block l 0) (power-lt 2 i (omega arith)) (lane_fits block c.fits-block.0 c.fits-block.1 l h)))
+            (c.loop-bit.invariant.1.each l h) mask_is;
       },
       record {
         count = c.doubled-doubling.ensures.count;

@@ -1,4 +1,4 @@
-use Rattle.std.proofs.Common.{◌≡◌, ◌+◌, ◌*◌, ◌/◌, ◌≤◌, ◌∙◌, sym, ap, ap₂, length, get_or, arith}
+use Rattle.std.proofs.Common.{◌≡◌, ◌+◌, ◌*◌, ◌≤◌, ◌∙◌, sym, ap, ap₂, length, arith}
 use Rattle.cb_gf256.specs.Sum.{◌⊕◌}
 use Rattle.cb_gf256.specs.Product.{◌⊗◌}
 use Rattle.cb_gf256.specs.Row.{scaled_row}
@@ -19,5 +19,5 @@ loop-block-preserved c =
       each = λ l h.
           c.add_blocks.ensures.each l h
           ∙ ap₂ ◌⊕◌ (c.block_at-in-loop-block.ensures.each l h)
-            (c.times_block-product.ensures.each l h ∙ ap (λ x. factor ⊗ x) (c.block_at.ensures.each l h) ∙ sym (get_or-scaled_row factor src (at + l)));
+          (c.times_block-product.ensures.each l h ∙ ap (λ x. factor ⊗ x) (c.block_at.ensures.each l h) ∙ sym (get_or-scaled_row factor src (at + l)));
     })

@@ -1,7 +1,7 @@
-use Rattle.std.proofs.Common.{◌≡◌, ◌*◌, ◌/◌, ◌∙◌, ap, sym, subst, arith, length, get_or, set}
+use Rattle.std.proofs.Common.{◌≡◌, ◌*◌, ◌/◌, ◌∙◌, ap, sym, arith, length, get_or, set}
 use Rattle.cb_gf256.specs.Sum.{◌⊕◌}
 use Rattle.cb_gf256.specs.Product.{◌⊗◌}
-use Rattle.cb_gf256.specs.Row.{row_sum, scaled_row, summed_front}
+use Rattle.cb_gf256.specs.Row.{scaled_row, summed_front}
 use Rattle.cb_gf256.proofs.RowLemmas.{summed_front_more, summed_front_all, length-scaled_row, get_or-scaled_row}
 use Rattle.cb_gf256.proofs.row.axpy_row.Goals as goal
 

@@ -1,5 +1,4 @@
-use Rattle.std.proofs.Common.{◌≡◌, ◌+◌, ◌*◌, ◌/◌, ◌≤◌, ◌∙◌, ap, ap₂, length, get_or, arith}
-use Rattle.std.specs.Simd.Lanes.{put_chunk}
+use Rattle.std.proofs.Common.{◌+◌, ◌*◌, ◌≤◌, ◌∙◌, ap₂, length, arith}
 use Rattle.cb_gf256.specs.Sum.{◌⊕◌}
 use Rattle.cb_gf256.proofs.RowLemmas.{summed_front_block}
 use Rattle.cb_gf256.proofs.row.xor_blocks.Goals as goal

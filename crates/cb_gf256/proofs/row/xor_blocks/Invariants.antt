@@ -1,5 +1,5 @@
 use Rattle.std.proofs.Common.{◌≡◌, ◌*◌}
-use Rattle.cb_gf256.specs.Row.{scaled_row, summed_front}
+use Rattle.cb_gf256.specs.Row.{summed_front}
 use Rattle.cb_gf256.proofs.row.xor_blocks.Given as goal
 
 abbrev pub invariant-loop-block : goal.invariant-loop-block

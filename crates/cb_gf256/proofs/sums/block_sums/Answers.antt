@@ -1,6 +1,5 @@
-use Rattle.std.proofs.Common.{◌≡◌, ◌+◌, [], length, get_or, replicate, refl, sym, ap, ◌∙◌, arith}
-use Rattle.std.proofs.lemmas.Simd.{get_or-replicate, length-replicate}
-use Rattle.cb_gf256.specs.Rows.{row_at, rows_at, byte_at}
+use Rattle.std.proofs.Common.{◌≡◌, ◌+◌, [], length, ap, ◌∙◌, arith}
+use Rattle.cb_gf256.specs.Rows.{row_at, rows_at}
 use Rattle.cb_gf256.proofs.Summing.{block_sums_none, block_sums_more, shown_block, all_summed}
 use Rattle.cb_gf256.proofs.sums.block_sums.Goals as goal
 

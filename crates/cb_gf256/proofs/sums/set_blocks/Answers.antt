@@ -1,8 +1,7 @@
-use Rattle.std.proofs.Common.{◌≡◌, ℕ, ◌+◌, ◌*◌, ◌/◌, ◌<◌, length, subst, sym, ap, arith}
+use Rattle.std.proofs.Common.{◌+◌, ◌*◌, sym, arith}
 use Rattle.cb_gf256.specs.Rows.{row_at, rows_at, byte_at}
 use Rattle.cb_gf256.specs.Combination.{combination}
-use Rattle.cb_gf256.specs.Placing.{Combined}
-use Rattle.cb_gf256.proofs.Placing.{combined_none, combined_more, placed_same, kept_lengths}
+use Rattle.cb_gf256.proofs.Placing.{combined_more, placed_same}
 use Rattle.cb_gf256.proofs.sums.set_blocks.Goals as goal
 
 pub loop-block-preserved : goal.loop-block-preserved

@@ -1,5 +1,5 @@
-use Rattle.std.proofs.Common.{◌≡◌, ◌+◌, ◌<◌, ℕ, [], length, get_or, set, sym, ap, subst, ◌∙◌, arith, refl}
-use Rattle.cb_gf256.specs.Rows.{row_at, byte_at, rows_at}
+use Rattle.std.proofs.Common.{◌≡◌, ◌+◌, ℕ, get_or, set, sym, ap, subst, ◌∙◌, arith}
+use Rattle.cb_gf256.specs.Rows.{row_at, rows_at}
 use Rattle.cb_gf256.specs.Block.{with_row}
 use Rattle.cb_gf256.specs.Combination.{combination}
 use Rattle.cb_gf256.specs.Placing.{Placed}
@@ -18,9 +18,9 @@ loop-j-preserved c =
     let v = λ (i : ℕ) (x : ℕ). combination (row_at c.args.factors.now i) (rows_at c.args.rows.now c.args.sources.now) (at + x) in
     let zero_more : at ≡ at + 0 = omega arith in
     let next = byte_placed at c.args.len c.sum_at-sum.result targets v c.args.out.now out j c.requires.ascending c.loop-j-test.true
-        (omega (arith, c.loop-j.invariant.count, c.requires.below j 0 c.loop-j-test.true))
-        c.requires.lengths.1 c.requires.inside
-        (c.sum_at-sum.ensures ∙ ap (combination (row_at c.args.factors.now j) (rows_at c.args.rows.now c.args.sources.now)) zero_more) c.loop-j.invariant in
+    (omega (arith, c.loop-j.invariant.count, c.requires.below j 0 c.loop-j-test.true))
+    c.requires.lengths.1 c.requires.inside
+    (c.sum_at-sum.ensures ∙ ap (combination (row_at c.args.factors.now j) (rows_at c.args.rows.now c.args.sources.now)) zero_more) c.loop-j.invariant in
     subst (λ t. Placed 1 at targets v c.args.out.now (with_row out t (set c.row_mut.result.now at c.sum_at-sum.result)) (j + 1)) (sym c.from.ensures)
     (subst (λ row. Placed 1 at targets v c.args.out.now (with_row out (get_or targets j 0) (set row at c.sum_at-sum.result)) (j + 1))
     (sym (c.row_mut.ensures.value ∙ ap (row_at out) c.from.ensures)) next)

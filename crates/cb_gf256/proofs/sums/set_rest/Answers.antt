@@ -1,6 +1,5 @@
-use Rattle.std.proofs.Common.{◌≡◌, ℕ, ◌+◌, ◌≤◌, List, length, refl, ◌∙◌, arith}
-use Rattle.cb_gf256.specs.Rows.{rows_at, HaveLength}
-use Rattle.cb_gf256.specs.Placing.{Combined}
+use Rattle.std.proofs.Common.{◌+◌, length, refl, ◌∙◌, arith}
+use Rattle.cb_gf256.specs.Rows.{rows_at}
 use Rattle.cb_gf256.proofs.Placing.{combined_more, kept_lengths}
 use Rattle.cb_gf256.proofs.sums.set_rest.Goals as goal
 
@@ -14,5 +13,5 @@ loop-column-preserved c =
       kept_lengths c.args.len c.loop-column.out c.set_column.new.out made.count made.lengths c.loop-column.invariant.2,
       λ before h.
           combined_more c.args.factors.now (rows_at c.args.rows.now c.args.sources.now) targets before c.loop-column.out c.set_column.new.out 1 at (length targets) (at + 1) refl refl
-            (c.loop-column.invariant.3 before h) made,
+          (c.loop-column.invariant.3 before h) made,
     )

@@ -1,7 +1,7 @@
-use Rattle.std.proofs.Common.{◌≡◌, ◌+◌, [], length, get_or, sym, ap, ap₂, ◌∙◌, arith, add-one}
+use Rattle.std.proofs.Common.{[], get_or, sym, ap, ap₂, ◌∙◌, arith, add-one}
 use Rattle.cb_gf256.specs.Sum.{◌⊕◌}
 use Rattle.cb_gf256.specs.Product.{◌⊗◌}
-use Rattle.cb_gf256.specs.Rows.{row_at, byte_at, rows_at}
+use Rattle.cb_gf256.specs.Rows.{row_at, rows_at}
 use Rattle.cb_gf256.proofs.Summing.{sum_of_first, row_at-rows_at, all_summed}
 use Rattle.cb_gf256.proofs.sums.sum_at.Goals as goal
 

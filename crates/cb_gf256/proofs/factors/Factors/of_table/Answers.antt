@@ -1,7 +1,7 @@
-use Rattle.std.proofs.Common.{◌≡◌, ℕ, ◌<◌, ◌≤◌, [], length, get_or, arith, sym, ◌∙◌}
+use Rattle.std.proofs.Common.{◌≡◌, ℕ, ◌<◌, [], length, get_or, arith, ◌∙◌}
 use Rattle.std.proofs.lemmas.List.{length-set}
 use Rattle.std.proofs.lemmas.List.Elements.{All-set}
-use Rattle.cb_gf256.specs.Rows.{row_at, byte_at, HaveLength}
+use Rattle.cb_gf256.specs.Rows.{byte_at}
 use Rattle.cb_gf256.proofs.Writes.{below_more_set}
 use Rattle.cb_gf256.proofs.CornerLemmas.{same_corner}
 use Rattle.cb_gf256.proofs.factors.Factors.of_table.Goals as goal
@@ -15,7 +15,7 @@ loop-j-preserved c =
       All-set (λ row. length row ≡ 16) c.loop-j.products j c.products_of.result made.count c.loop-j.invariant.1,
       λ m i h k.
           below_more_set (λ x row. (y : ℕ) → y < c.args.width → get_or row y 0 ≡ byte_at table x y) c.loop-j.products j c.products_of.result [] (omega arith)
-            (λ x p y q. c.loop-j.invariant.2 x y p q) (λ y q. made.factors y q) m h i k,
+          (λ x p y q. c.loop-j.invariant.2 x y p q) (λ y q. made.factors y q) m h i k,
     )
 
 pub invariant_of-result : goal.invariant_of-result

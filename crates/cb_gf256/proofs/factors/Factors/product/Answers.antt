@@ -1,7 +1,7 @@
-use Rattle.std.proofs.Common.{◌≡◌, ◌<◌, [], length, sym, ap, subst, ◌∙◌, arith, get_or, List, ℕ}
+use Rattle.std.proofs.Common.{◌<◌, length, sym, ap, subst, ◌∙◌, arith}
 use Rattle.cb_gf256.specs.Rows.{row_at, byte_at}
 use Rattle.cb_gf256.specs.Corner.{corner}
-use Rattle.cb_gf256.proofs.CornerLemmas.{length-corner, row_of_corner, byte_at-corner, at_default}
+use Rattle.cb_gf256.proofs.CornerLemmas.{row_of_corner, byte_at-corner, at_default}
 use Rattle.cb_gf256.proofs.factors.Factors.product.Goals as goal
 
 pub returns : goal.returns

@@ -1,6 +1,5 @@
-use Rattle.std.proofs.Common.{◌≡◌, ◌≢◌, ℕ, ◌+◌, ◌≤◌, ◌<◌, List, [], length, get_or, refl, sym, ap, subst, ◌∙◌, arith}
-use Rattle.cb_gf256.specs.Rows.{row_at, rows_at, HaveLength}
-use Rattle.cb_gf256.specs.Placing.{Combined}
+use Rattle.std.proofs.Common.{length, ◌∙◌}
+use Rattle.cb_gf256.specs.Rows.{row_at, rows_at}
 use Rattle.cb_gf256.proofs.Placing.{kept_lengths, combinations_at, source_rows}
 use Rattle.cb_gf256.proofs.rows.Rows.set_sums.Goals as goal
 
