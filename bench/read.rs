@@ -6,7 +6,7 @@ use std::io::Read;
 
 enum Request {
     Make(Vec<u8>, Vec<u8>),
-    Write(Vec<u8>, u32, Vec<u8>),
+    Write(Vec<u8>, usize, Vec<u8>),
     Named(usize, Vec<u8>),
     Facing(usize, u8),
     Alone(usize),
@@ -91,7 +91,7 @@ fn request<'a>(
             known(made, name)?;
             let at = number(at).filter(|at| *at <= 1024).ok_or(9u32)?;
             let bytes = if *hex == b"-" { Vec::new() } else { bytes(hex)? };
-            Ok(Request::Write(name.to_vec(), at, bytes))
+            Ok(Request::Write(name.to_vec(), at as usize, bytes))
         }
         [verb, word] => {
             if let Some(verb) = NAMED.iter().position(|named| named == verb) {
@@ -152,7 +152,8 @@ fn main() {
         Err((line, reason)) => println!("{line} {reason}"),
         Ok(lines) => {
             let size = |request: &Request| match request {
-                Request::Make(name, bytes) | Request::Write(name, _, bytes) => name.len() + bytes.len(),
+                Request::Make(name, bytes) => name.len() + bytes.len(),
+                Request::Write(name, at, bytes) => name.len() + at + bytes.len(),
                 Request::Named(verb, name) => verb + name.len(),
                 Request::Facing(verb, node) => verb + usize::from(*node),
                 Request::Alone(verb) => *verb,
