@@ -35,7 +35,8 @@ pub record IsBadLine (bytes : List ℕ) (mode : Mode) (line : ℕ) (reason : Rea
 -- The first bad line, and the least reason on it. The input is tested as a whole, and then line 1.
 abbrev pub First : List ℕ → Mode → ℕ → Reason → Type 0
 First bytes mode line TooLong = (line ≡ 0) × (1048576 < length bytes)
-First bytes mode line Header = (line ≡ 1) × (length bytes ≤ 1048576) × ((c : Config) → HasHeader bytes c → ⊥)
+First bytes mode line Header =
+    (line ≡ 1) × (length bytes ≤ 1048576) × ((c : Config) → HasHeader bytes c → ⊥)
 First bytes mode line BadConfig =
     (line ≡ 1) × (length bytes ≤ 1048576) × (c : Config) × HasHeader bytes c × (IsAccepted c → ⊥)
 First bytes mode line reason = (length bytes ≤ 1048576) × IsBadLine bytes mode line reason

@@ -102,7 +102,8 @@ pub record MayFollow (nodes : ℕ) (before : List Line) (l : Line) : Type 0 wher
 -- each line may stand behind the lines before it
 abbrev pub AreLines : ℕ → List Line → List Line → Type 0
 AreLines nodes before [] = Unit {0}
-AreLines nodes before (l ∷ after) = MayFollow nodes before l × AreLines nodes (before ++ l ∷ []) after
+AreLines nodes before (l ∷ after) =
+    MayFollow nodes before l × AreLines nodes (before ++ l ∷ []) after
 
 -- What holds of every script.
 pub record IsScript (s : Script) : Type 0 where

@@ -121,24 +121,27 @@ alone bare.Rebuild = request.Rebuild
 -- the header is not in its form, or one of its fields is out of its range
 abbrev pub HeaderFault : List ℕ → Reason → Type 0
 HeaderFault text reasons.Header = (c : Config) → AreNumbers c → text ≡ header_line c → ⊥
-HeaderFault text reasons.Config = (c : Config) × AreNumbers c × (text ≡ header_line c) × (IsAccepted c → ⊥)
+HeaderFault text reasons.Config =
+    (c : Config) × AreNumbers c × (text ≡ header_line c) × (IsAccepted c → ⊥)
 HeaderFault text _ = ⊥
 
--- lane 1 is the least that may stand behind these lines, where one of another lane than 0 is among them
+-- the least lane that may stand behind these lines: 1 where another lane than 0 is among them
 abbrev pub IsLeastLane : List Line → ℕ → Type 0
 IsLeastLane before least =
     ((least ≡ 0) × AllByRecursion (λ l. l.lane.n ≡ 0) before)
     ⊎ ((least ≡ 1) × (AllByRecursion (λ l. l.lane.n ≡ 0) before → ⊥))
 
 -- these texts are the lines
-pub record AreTheLines (mode : Mode) (nodes : ℕ) (texts : List (List ℕ)) (lines : List Line) : Type 0 where
+pub record AreTheLines (mode : Mode) (nodes : ℕ) (texts : List (List ℕ)) (lines : List Line)
+    : Type 0 where
   pub are : AreLines nodes [] lines
   pub allowed : AreInMode mode lines
   pub few : length lines ≤ 20000
   pub read : map script_line lines ≡ texts
 
 -- a text among these that is no line behind those before it
-pub record HasBadLine (mode : Mode) (nodes : ℕ) (texts : List (List ℕ)) (line : ℕ) (reason : Reason) : Type 0 where
+pub record HasBadLine (mode : Mode) (nodes : ℕ) (texts : List (List ℕ)) (line : ℕ) (reason : Reason)
+    : Type 0 where
   pub before : List Line
   pub are : AreLines nodes [] before
   pub allowed : AreInMode mode before

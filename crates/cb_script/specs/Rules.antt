@@ -80,7 +80,8 @@ Holds place text reasons.Shape = (lane : List ℕ) × (phrase : Phrase) × IsSha
 Holds place text reasons.Lane =
     (lane : List ℕ) (phrase : Phrase) → IsShaped text lane phrase → HasLane place lane
 Holds place text reason =
-    (lane : ℕ) (phrase : Phrase) → lane ≤ 15 → IsShaped text (decimal lane) phrase → Rule place lane phrase reason
+    (lane : ℕ) (phrase : Phrase) → lane ≤ 15 → IsShaped text (decimal lane) phrase
+    → Rule place lane phrase reason
 
 -- The reason's rule is broken, and no rule of a lesser number is.
 pub record IsLeast (rules : Reason → Type 0) (reason : Reason) : Type 0 where

@@ -29,8 +29,9 @@ setting name n = name ++ 61 ∷ decimal n
 abbrev pub header_words : Config → List (List ℕ)
 header_words c =
     codes "carbink" ∷ codes "1" ∷ setting (codes "k") c.k ∷ setting (codes "r") c.r
-    ∷ setting (codes "nodes") c.nodes ∷ setting (codes "frames") c.frames ∷ setting (codes "room") c.room
-    ∷ setting (codes "handles") c.handles ∷ setting (codes "turns") c.turns ∷ []
+    ∷ setting (codes "nodes") c.nodes ∷ setting (codes "frames") c.frames
+    ∷ setting (codes "room") c.room ∷ setting (codes "handles") c.handles
+    ∷ setting (codes "turns") c.turns ∷ []
 
 -- the header, its words with one space between them
 unfoldable pub header_line : Config → List ℕ

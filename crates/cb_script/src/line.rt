@@ -19,7 +19,8 @@ use std::alloc::Global;
 const MOST_WORDS: usize = 5;
 
 /// The line of this text and number, where it may stand behind the lines before it: its lane is
-/// not below the least. The names are those that were made on the lines before, and then those with this line.
+/// not below the least. The names are those that were made on the lines before, and then on this
+/// line too.
 pub(crate) fn line_of<'a>(
     alloc: Global,
     names: &mut Names<'a>,

@@ -70,7 +70,8 @@ pub(crate) fn start_of(word: &[u8]) -> Option<u32>
 
 /// The value of a word of digits, where it is below 10^9.
 fn value_of(word: &[u8]) -> Option<u32>
-    ensures { Finds result (λ n. (n < 10 ^ 9) × AllDigits 10 word.now × (digits_value 10 word.now ≡ n)) }
+    ensures { Finds result (λ n.
+        (n < 10 ^ 9) × AllDigits 10 word.now × (digits_value 10 word.now ≡ n)) }
 {
     let mut value = 0u32;
     for byte in word {
