@@ -11,7 +11,8 @@ use Rattle.cb_member.specs.Membership.{Membership}
 use Rattle.cb_node.specs.NodesState.{NodesState, row_at as row_under}
 use Rattle.cb_set.specs.SetState.{SetState}
 use Rattle.cb_set.specs.Lost.{is_lost, lost}
-use Rattle.cb_erase.specs.Weights.{rows_at, IsSolution}
+use Rattle.cb_gf256.specs.Rows.{rows_at}
+use Rattle.cb_erase.specs.Weights.{IsSolution}
 use Rattle.cb_world.specs.SetWord.{IsShaped, IsWordOf}
 use Rattle.cb_set.specs.Surviving.{surviving_from, surviving}
 use Rattle.cb_set.specs.SetState.{parities}

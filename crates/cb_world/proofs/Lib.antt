@@ -36,3 +36,4 @@ pub mod AfterLook
 pub mod Beside
 pub mod SlotFinding
 pub mod Gone
+mod WorkedDesk

@@ -2,7 +2,8 @@ use Rattle.std.proofs.Common.{◌≡◌, ℕ, ◌+◌, ◌<◌, List, length, ta
 use Rattle.std.proofs.lemmas.List.{length-replicate}
 use Rattle.std.proofs.lemmas.Option.{slice_get-get_or}
 use Rattle.cb_gf256.specs.Positions.{ArePositions}
-use Rattle.cb_erase.specs.Weights.{rows_at, IsSolution}
+use Rattle.cb_gf256.specs.Rows.{rows_at}
+use Rattle.cb_erase.specs.Weights.{IsSolution}
 use Rattle.cb_set.specs.SetState.{parities}
 use Rattle.cb_set.specs.Surviving.{surviving}
 use Rattle.cb_world.specs.Fetched.{StandAt}
