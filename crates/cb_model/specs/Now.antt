@@ -20,6 +20,7 @@ pub data Change : Type 0 where
 -- what the map has after a change that answered this version
 abbrev pub changed : Now → ℕ × Change → Now
 changed before (version, Create bytes) = Some (Held version bytes)
-changed (Some (Held old bytes)) (version, Overwrite at new) = Some (Held version (overwritten bytes at new))
+changed (Some (Held old bytes)) (version, Overwrite at new) =
+    Some (Held version (overwritten bytes at new))
 changed before (version, Overwrite at new) = before
 changed before (version, Remove) = Some (Freed version)
