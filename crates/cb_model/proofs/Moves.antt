@@ -1,15 +1,14 @@
 -- What the map's reply to one call says, in whatever state the map is.
-use Rattle.std.proofs.Common.{◌≡◌, ℕ, ◌+◌, ◌<◌, ◌≤◌, List, [], ◌∷◌, ◌++◌, length, Option, Some, None, refl, sym, ap, ◌∙◌, arith}
+use Rattle.std.proofs.Common.{◌≡◌, ℕ, ◌+◌, ◌≤◌, List, [], ◌∷◌, ◌++◌, Some, None, refl, arith}
 use Rattle.std.specs.List.{fold}
 use Rattle.std.proofs.lemmas.List.{append-nil}
 use Rattle.cb_model.specs.declared.object.Object.TheVariants.{Held, Freed}
 use Rattle.cb_model.specs.Now.{Now, Change, changed}
 use Rattle.cb_model.specs.Now.Change.{Create, Overwrite, Remove}
-use Rattle.cb_model.specs.Event.{Event, Subject, change_of, version_of}
-use Rattle.cb_model.specs.Event.Subject.{NewObject, Contents, Other, Nothing}
+use Rattle.cb_model.specs.Event.{Event, change_of, version_of}
 use Rattle.cb_model.specs.Event.Event.{Makes, Shows, Pins, Writes, Frees, FindsFull, FindsUnmade, FindsFreed, FindsEnd, Refused, Wrong}
 use Rattle.cb_model.specs.History.{IsHistory, left_by}
-use Rattle.cb_model.specs.Replies.{MapReplies, ObjectReplies}
+use Rattle.cb_model.specs.Replies.{MapReplies}
 use Rattle.cb_model.specs.Legal.{IsNotBelow, MayFollow}
 use Rattle.cb_model.proofs.Growing.{Fits, grow, latest}
 

@@ -1,5 +1,5 @@
 -- Calls that are each answered as the map answers them are legal.
-use Rattle.std.proofs.Common.{◌≡◌, ℕ, ◌+◌, ◌<◌, ◌≤◌, Bool, true, false, cond, eqb, List, [], ◌∷◌, ◌++◌, length, Option, Some, None, refl, sym, ap, subst, ◌∙◌, append_assoc, arith, inl, inr}
+use Rattle.std.proofs.Common.{◌≡◌, ℕ, ◌+◌, ◌<◌, ◌≤◌, cond, eqb, List, [], ◌∷◌, ◌++◌, length, Option, Some, None, refl, sym, ap, ◌∙◌, append_assoc, arith, inl, inr}
 use Rattle.std.specs.List.{AllByRecursion, fold}
 use Rattle.std.proofs.lemmas.Bool.{cases_Bool, eqb-true, eq-eqb}
 use Rattle.std.proofs.lemmas.List.{append-nil}
@@ -8,15 +8,15 @@ use Rattle.std.proofs.lemmas.List.Sums.{fold-append}
 use Rattle.cb_types.specs.declared.answer.Answer.{Answer}
 use Rattle.cb_model.specs.declared.object.Object.TheVariants.{Held, Freed}
 use Rattle.cb_model.specs.Now.{Now, Change, changed}
-use Rattle.cb_model.specs.Event.{Event, Subject, change_of, version_of}
+use Rattle.cb_model.specs.Event.{Event, change_of}
 use Rattle.cb_model.specs.Event.Subject.{NewObject, Contents, Other, Nothing}
 use Rattle.cb_model.specs.Event.Event.{Makes, Shows, Pins, Writes, Frees, FindsFull, FindsUnmade, FindsFreed, FindsEnd, Refused, Wrong}
-use Rattle.cb_model.specs.History.{IsHistory, IsMadeWith, by_version, left_by, at_version}
+use Rattle.cb_model.specs.History.{IsHistory, IsMadeWith, left_by, at_version}
 use Rattle.cb_model.specs.Replies.{MapReplies, ObjectReplies}
 use Rattle.cb_model.specs.Called.{Called, calls_of, change_to, changes_to, is_about, value, value_at, history, makes, made_by}
-use Rattle.cb_model.specs.Legal.{Tells, IsTrueOf, MayFollow, WasTold, NeverFalls, Rising, AreLegal, IsMapReply, IsUnmadeRight, Follow, IsLegal, IsLegalInOrder}
+use Rattle.cb_model.specs.Legal.{IsTrueOf, NeverFalls, Rising, AreLegal, IsMapReply, IsUnmadeRight, Follow, IsLegalInOrder}
 use Rattle.cb_model.proofs.Growing.{sorted, held_front, freed_front}
-use Rattle.cb_model.proofs.Moves.{FitsAll, IsFresh, fits, more_history, IsFreed, Covers, covers, still_covers, may_follow}
+use Rattle.cb_model.proofs.Moves.{FitsAll, IsFresh, fits, more_history, Covers, covers, still_covers, may_follow}
 
 -- the changes of calls and of those behind them
 pub changes_to-append : (h : ℕ) (xs ys : List Called)

@@ -1,7 +1,6 @@
 -- The map's replies at worked values, and replies that it does not give.
-use Rattle.std.proofs.Common.{◌≡◌, ℕ, ◌<◌, ◌≤◌, List, [], ◌∷◌, refl, ap, arith}
+use Rattle.std.proofs.Common.{◌≡◌, [], ◌∷◌, refl, ap, arith}
 use Rattle.cb_types.specs.declared.handle.Handle.{Handle}
-use Rattle.cb_model.specs.declared.object.Object.{Object}
 use Rattle.cb_model.specs.declared.object.Object.TheVariants.{Held, Freed}
 use Rattle.cb_model.specs.declared.call.Call.TheVariants.{Make, Read, Write, Free}
 use Rattle.cb_model.specs.declared.call.MapReply.TheVariants as reply

@@ -4,9 +4,9 @@ use Rattle.std.specs.List.{AllByRecursion}
 use Rattle.cb_types.specs.declared.answer.Answer.{Answer}
 use Rattle.cb_model.specs.declared.object.Object.TheVariants.{Held, Freed}
 use Rattle.cb_model.specs.Now.{Change}
-use Rattle.cb_model.specs.Event.{Event, Subject, version_of}
+use Rattle.cb_model.specs.Event.{Event, version_of}
 use Rattle.cb_model.specs.Event.Subject.{NewObject, Nothing}
-use Rattle.cb_model.specs.Event.Event.{Makes, Shows, Pins, Writes, Frees, FindsFull, FindsUnmade, FindsFreed, FindsEnd, Refused, Wrong}
+use Rattle.cb_model.specs.Event.Event.{Makes, Shows, Pins, Writes, Frees, FindsFull, FindsUnmade, FindsFreed, FindsEnd, Refused}
 use Rattle.cb_model.specs.History.{IsHistory, IsMadeWith, at_version, left_by}
 use Rattle.cb_model.specs.Replies.{MapReplies}
 use Rattle.cb_model.specs.Called.{Called, calls_of, value_at, history, makes}

@@ -1,5 +1,5 @@
 -- What a map has at a handle, and what a completed call makes of it.
-use Rattle.std.specs.Prelude.{ℕ, ◌+◌, List, ◌++◌, length, take, drop, Option, Some, None}
+use Rattle.std.specs.Prelude.{ℕ, ◌+◌, List, ◌++◌, length, take, drop, Option, Some}
 use Rattle.cb_model.specs.declared.object.Object.{Object}
 use Rattle.cb_model.specs.declared.object.Object.TheVariants.{Held, Freed}
 

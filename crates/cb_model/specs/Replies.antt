@@ -2,9 +2,9 @@
 use Rattle.std.specs.Prelude.{◌≡◌, ℕ, ◌+◌, ◌<◌, ◌≤◌, length, Option, Some, None}
 use Rattle.cb_model.specs.declared.object.Object.TheVariants.{Held, Freed}
 use Rattle.cb_model.specs.Now.{Now}
-use Rattle.cb_model.specs.Event.{Event, Subject}
-use Rattle.cb_model.specs.Event.Subject.{NewObject, Contents, Other, Nothing}
-use Rattle.cb_model.specs.Event.Event.{Makes, Shows, Pins, Writes, Frees, FindsFull, FindsUnmade, FindsFreed, FindsEnd, Refused, Wrong}
+use Rattle.cb_model.specs.Event.{Event}
+use Rattle.cb_model.specs.Event.Subject.{NewObject, Other, Nothing}
+use Rattle.cb_model.specs.Event.Event.{Makes, Shows, Pins, Writes, Frees, FindsFull, FindsUnmade, FindsFreed, FindsEnd, Refused}
 
 -- What a call on an object is answered where the map has this. Each write and free is one version
 -- higher; a write lies within the bytes, and past their end it is told their number; what was
