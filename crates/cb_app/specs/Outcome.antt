@@ -43,7 +43,8 @@ pub record IsAnswered (bytes : List ℕ) (script : Script) (end : Ending) : Type
 -- The script that was taken was answered.
 pub record IsDone (words : List (String Global)) (before after : Option (List ℕ)) (end : Ending) : Type 0 where
   pub words_are : IsSeq words
-  pub answered : (bytes : List ℕ) × (script : Script) × IsTaken before after bytes × IsAnswered bytes script end
+  pub answered : (bytes : List ℕ) × (script : Script)
+      × IsTaken before after bytes × IsAnswered bytes script end
 
 -- The words are of no form, and nothing was taken.
 pub record AreWordsRefused (words : List (String Global)) (before after : Option (List ℕ)) : Type 0 where
@@ -53,7 +54,8 @@ pub record AreWordsRefused (words : List (String Global)) (before after : Option
 -- Why bytes are refused: they have a first fault, or spell a script with a verb that is not built yet.
 pub data IsRefusal (bytes : List ℕ) (line : ℕ) (reason : Reason) : Type 0 where
   NoScript : First bytes Seq line reason → IsRefusal bytes line reason
-  NotBuilt : (script : Script) → Spells bytes Seq script → IsFirstUnbuilt script.lines line → reason ≡ Unbuilt → IsRefusal bytes line reason
+  NotBuilt : (script : Script) → Spells bytes Seq script → IsFirstUnbuilt script.lines line
+      → reason ≡ Unbuilt → IsRefusal bytes line reason
 
 -- The bytes taken are refused at this line, for this reason.
 pub record IsScriptRefused (words : List (String Global)) (before after : Option (List ℕ)) (line : ℕ) (reason : Reason) : Type 0 where
@@ -62,15 +64,21 @@ pub record IsScriptRefused (words : List (String Global)) (before after : Option
 
 -- The text that is due, and the ending with it. `old` and `new` are the ending before and after.
 pub data IsDue (words : List (String Global)) (before after : Option (List ℕ)) (old new : Ending) (text : List ℕ) : Type 0 where
-  WhereDone : IsDone words before after new → text ≡ text_of new.answers → IsDue words before after old new text
-  WhereWordsRefused : AreWordsRefused words before after → new ≡ old → text ≡ words_refused → IsDue words before after old new text
-  WhereScriptRefused : (line : ℕ) (reason : Reason) → IsScriptRefused words before after line reason → new ≡ old → text ≡ fault_text line reason → IsDue words before after old new text
+  WhereDone : IsDone words before after new → text ≡ text_of new.answers
+      → IsDue words before after old new text
+  WhereWordsRefused : AreWordsRefused words before after → new ≡ old → text ≡ words_refused
+      → IsDue words before after old new text
+  WhereScriptRefused : (line : ℕ) (reason : Reason) → IsScriptRefused words before after line reason
+      → new ≡ old → text ≡ fault_text line reason → IsDue words before after old new text
 
 -- A sink got a front of the text, and not all of it.
 abbrev pub GetsFront : Option (List ℕ) → Option (List ℕ) → List ℕ → Type 0
 GetsFront before after text = (n : ℕ) × (n < length text) × Appends before after (take n text)
 
 -- The bytes taken are refused, and the text that tells it is put.
-abbrev pub RefusesScript : List (String Global) → Option (List ℕ) → Option (List ℕ) → Option (List ℕ) → Option (List ℕ) → Type 0
+abbrev pub RefusesScript : List (String Global)
+    → (before after held_before held_after : Option (List ℕ))
+    → Type 0
 RefusesScript words before after held_before held_after =
-    (line : ℕ) × (reason : Reason) × IsScriptRefused words before after line reason × Appends held_before held_after (fault_text line reason)
+    (line : ℕ) × (reason : Reason) × IsScriptRefused words before after line reason
+    × Appends held_before held_after (fault_text line reason)

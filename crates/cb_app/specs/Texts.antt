@@ -9,4 +9,6 @@ words_refused = codes "words refused\n"
 
 -- what is wrong with a script, and at which line
 abbrev pub fault_text : ℕ → Reason → List ℕ
-fault_text line reason = codes "script line " ++ decimal line ++ codes " reason " ++ decimal (number_of reason) ++ codes " " ++ word_of reason ++ codes "\n"
+fault_text line reason =
+    codes "script line " ++ decimal line ++ codes " reason " ++ decimal (number_of reason)
+    ++ codes " " ++ word_of reason ++ codes "\n"

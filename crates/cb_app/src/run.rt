@@ -36,7 +36,9 @@ fn answer_bytes(alloc: Global, bytes: &[u8]) -> Result<(Ending, Bytes), ScriptFa
     ensures answered { IfOk result (λ due. (script : Script) × IsAnswered bytes.now script due.0) }
     ensures text { IfOk result (λ due. due.1 ≡ text_of due.0.answers) }
     ensures refused { IfErr result (λ e. FaultIs e (IsRefusal bytes.now)) }
-    ensures complete { (script : Script) → Spells bytes.now Seq script → AllByRecursion (λ l. IsBuilt l.request) script.lines → IfErr result (λ e. e ≡ ScriptFault.NoMemory) }
+    ensures complete { (script : Script) → Spells bytes.now Seq script
+        → AllByRecursion (λ l. IsBuilt l.request) script.lines
+        → IfErr result (λ e. e ≡ ScriptFault.NoMemory) }
 {
     let script = read_script(alloc, bytes, Mode::Seq)?;
     if let Some(line) = first_unbuilt(&script) {
@@ -63,31 +65,47 @@ pub fn run<S: Source, K: Sink>(
     sink: &mut K,
     end: &mut Ending,
 ) -> Result<Due, Failure>
-    ensures done { result ≡ Ok Due.Done → IsDone words.now (S.left source.old) (S.left source.new) end.new }
-    ensures done_text { result ≡ Ok Due.Done → Appends (K.held sink.old) (K.held sink.new) (text_of end.new.answers) }
+    ensures done { result ≡ Ok Due.Done
+        → IsDone words.now (S.left source.old) (S.left source.new) end.new }
+    ensures done_text { result ≡ Ok Due.Done
+        → Appends (K.held sink.old) (K.held sink.new) (text_of end.new.answers) }
 
-    ensures words_refused { result ≡ Ok Due.WordsRefused → AreWordsRefused words.now (S.left source.old) (S.left source.new) }
-    ensures words_text { result ≡ Ok Due.WordsRefused → Appends (K.held sink.old) (K.held sink.new) words_refused }
-    ensures words_end { result ≡ Ok Due.WordsRefused → (source.new ≡ source.old) × (end.new ≡ end.old) }
+    ensures words_refused { result ≡ Ok Due.WordsRefused
+        → AreWordsRefused words.now (S.left source.old) (S.left source.new) }
+    ensures words_text { result ≡ Ok Due.WordsRefused
+        → Appends (K.held sink.old) (K.held sink.new) words_refused }
+    ensures words_end { result ≡ Ok Due.WordsRefused → (source.new ≡ source.old)
+        × (end.new ≡ end.old) }
 
-    ensures script_refused { result ≡ Ok Due.ScriptRefused → RefusesScript words.now (S.left source.old) (S.left source.new) (K.held sink.old) (K.held sink.new) }
+    ensures script_refused { result ≡ Ok Due.ScriptRefused
+        → RefusesScript words.now (S.left source.old) (S.left source.new) (K.held sink.old) (K.held sink.new) }
     ensures script_end { result ≡ Ok Due.ScriptRefused → end.new ≡ end.old }
 
-    ensures read_fault { result ≡ Err Failure.Read → Rose (S.faults source.old) (S.faults source.new) }
+    ensures read_fault { result ≡ Err Failure.Read
+        → Rose (S.faults source.old) (S.faults source.new) }
     ensures no_read_fault { result ≢ Err Failure.Read → S.faults source.new ≡ S.faults source.old }
     ensures read_end { result ≡ Err Failure.Read → (sink.new ≡ sink.old) × (end.new ≡ end.old) }
 
-    ensures write_fault { result ≡ Err Failure.Write → Rose (K.faults sink.old) (K.faults sink.new) }
+    ensures write_fault { result ≡ Err Failure.Write
+        → Rose (K.faults sink.old) (K.faults sink.new) }
     ensures no_write_fault { result ≢ Err Failure.Write → K.faults sink.new ≡ K.faults sink.old }
     // What was due is cut short.
-    ensures cut { result ≡ Err Failure.Write → (text : List ℕ) × IsDue words.now (S.left source.old) (S.left source.new) end.old end.new text × GetsFront (K.held sink.old) (K.held sink.new) text }
+    ensures cut { result ≡ Err Failure.Write → (text : List ℕ)
+        × IsDue words.now (S.left source.old) (S.left source.new) end.old end.new text
+        × GetsFront (K.held sink.old) (K.held sink.new) text }
 
-    ensures memory_end { result ≡ Err Failure.NoMemory → (sink.new ≡ sink.old) × (end.new ≡ end.old) }
+    ensures memory_end { result ≡ Err Failure.NoMemory → (sink.new ≡ sink.old)
+        × (end.new ≡ end.old) }
 
-    ensures refuses { (IsSeq words.now → ⊥) → (result ≡ Ok Due.WordsRefused) ⊎ (result ≡ Err Failure.Write) }
-    ensures most { (bytes : List ℕ) × Consumes (S.left source.old) (S.left source.new) bytes × (length bytes ≤ 1048577) }
+    ensures refuses { (IsSeq words.now → ⊥)
+        → (result ≡ Ok Due.WordsRefused) ⊎ (result ≡ Err Failure.Write) }
+    ensures most { (bytes : List ℕ) × Consumes (S.left source.old) (S.left source.new) bytes
+        × (length bytes ≤ 1048577) }
     // What spells a script whose verbs are built is not refused.
-    ensures complete { IsSeq words.now → (bytes : List ℕ) (script : Script) → S.left source.old ≡ Some bytes → Spells bytes Seq script → AllByRecursion (λ l. IsBuilt l.request) script.lines → (result ≡ Ok Due.Done) ⊎ IsErr result }
+    ensures complete { IsSeq words.now → (bytes : List ℕ) (script : Script)
+        → S.left source.old ≡ Some bytes → Spells bytes Seq script
+        → AllByRecursion (λ l. IsBuilt l.request) script.lines
+        → (result ≡ Ok Due.Done) ⊎ IsErr result }
 {
     if !is_seq(words) {
         put_all(sink, WORDS_REFUSED)?;

@@ -49,17 +49,20 @@ pub fn carbink_run<R: Threads + Wait + Sync, S: Source, K: Sink>(
 
     // 0: the bytes taken spell a script, and its lines were answered as the plain map answers them.
     ensures done { result ≡ 0 → IsDone words.now (S.left src.old) (S.left src.new) end.new }
-    ensures done_text { result ≡ 0 → Appends (K.held out.old) (K.held out.new) (text_of end.new.answers) }
+    ensures done_text { result ≡ 0
+        → Appends (K.held out.old) (K.held out.new) (text_of end.new.answers) }
 
     // 1: the words are not the one word `seq`, and nothing was taken.
-    ensures words_refused { result ≡ 1 → AreWordsRefused words.now (S.left src.old) (S.left src.new) }
+    ensures words_refused { result ≡ 1
+        → AreWordsRefused words.now (S.left src.old) (S.left src.new) }
     ensures words_text { result ≡ 1 → Appends (K.held out.old) (K.held out.new) words_refused }
     ensures words_end { result ≡ 1 → (src.new ≡ src.old) × (end.new ≡ end.old) }
     ensures refuses { (IsSeq words.now → ⊥) → (result ≡ 1) ⊎ (result ≡ 4) }
 
     // 2: the bytes taken spell no script, or one with a verb that is not built; what is put tells
     // where and why.
-    ensures script_refused { result ≡ 2 → RefusesScript words.now (S.left src.old) (S.left src.new) (K.held out.old) (K.held out.new) }
+    ensures script_refused { result ≡ 2
+        → RefusesScript words.now (S.left src.old) (S.left src.new) (K.held out.old) (K.held out.new) }
     ensures script_end { result ≡ 2 → end.new ≡ end.old }
 
     // 3: reading failed in this call, and nothing was put.
@@ -70,15 +73,20 @@ pub fn carbink_run<R: Threads + Wait + Sync, S: Source, K: Sink>(
     // 4: writing failed in this call, and the text that was due is cut short.
     ensures write_fault { result ≡ 4 → Rose (K.faults out.old) (K.faults out.new) }
     ensures no_write_fault { result ≢ 4 → K.faults out.new ≡ K.faults out.old }
-    ensures cut { result ≡ 4 → (text : List ℕ) × IsDue words.now (S.left src.old) (S.left src.new) end.old end.new text × GetsFront (K.held out.old) (K.held out.new) text }
+    ensures cut { result ≡ 4 → (text : List ℕ)
+        × IsDue words.now (S.left src.old) (S.left src.new) end.old end.new text
+        × GetsFront (K.held out.old) (K.held out.new) text }
 
     // 5: there was no memory, and nothing was put.
     ensures memory_end { result ≡ 5 → (out.new ≡ out.old) × (end.new ≡ end.old) }
 
     // At each status so many bytes are taken at the most.
-    ensures most { (bytes : List ℕ) × Consumes (S.left src.old) (S.left src.new) bytes × (length bytes ≤ 1048577) }
+    ensures most { (bytes : List ℕ) × Consumes (S.left src.old) (S.left src.new) bytes
+        × (length bytes ≤ 1048577) }
     // What spells a script whose verbs are built is answered, where neither reading nor writing fails and there is memory.
-    ensures complete { IsSeq words.now → (bytes : List ℕ) (script : Script) → S.left src.old ≡ Some bytes → Spells bytes Seq script → AllByRecursion (λ l. IsBuilt l.request) script.lines → (result ≡ 0) ⊎ (3 ≤ result) }
+    ensures complete { IsSeq words.now → (bytes : List ℕ) (script : Script)
+        → S.left src.old ≡ Some bytes → Spells bytes Seq script
+        → AllByRecursion (λ l. IsBuilt l.request) script.lines → (result ≡ 0) ⊎ (3 ≤ result) }
 {
     status(run(alloc, words, src, out, end))
 }

@@ -28,5 +28,6 @@ goes_on handles lines i answers pushed l request reply old new names kept lt at 
     let all : pushed ≡ answers ++ a ∷ [] = is_pushed ∙ ap (λ (r : Request). answers ++ answer_to l r reply ∷ []) copied in
     rw all (record {
       tracks = Tracks-push handles answers old new names kept a tracks step;
-      lines_so_far = map_push asked answers a ∙ ap (λ (ls : List Line). ls ++ l ∷ []) so_far ∙ ap (λ (x : Line). take i lines ++ x ∷ []) at ∙ sym (take_more lines i l lt);
+      lines_so_far =
+          map_push asked answers a ∙ ap (λ (ls : List Line). ls ++ l ∷ []) so_far ∙ ap (λ (x : Line). take i lines ++ x ∷ []) at ∙ sym (take_more lines i l lt);
     })

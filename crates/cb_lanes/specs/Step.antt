@@ -52,23 +52,28 @@ IsOnObject request = ⊥
 
 -- each name's handle is one that there is, and what it has can be changed
 abbrev pub AreReady : Map → Names → Type 0
-AreReady state names = (name : List ℕ) (h : ℕ) → kept_number names name ≡ Some h → (h < state.handles) × HasNext (slice_get state.objects h)
+AreReady state names =
+    (name : List ℕ) (h : ℕ) → kept_number names name ≡ Some h
+    → (h < state.handles) × HasNext (slice_get state.objects h)
 
 -- the names after an answer: a make that was given a handle has it kept under its name
 abbrev pub number_after : Names → Request → Reply → List ℕ → Option ℕ
-number_after names (Make name bytes) (Made handle version) other = if bytes_eq name other then Some handle.n else kept_number names other
+number_after names (Make name bytes) (Made handle version) other =
+    if bytes_eq name other then Some handle.n else kept_number names other
 number_after names request reply other = kept_number names other
 
 -- what a call on an object answers and makes of the map
 pub record ObjectSteps (old : Map) (h : ℕ) (request : Request) (reply : Reply) (new : Map) : Type 0 where
-  pub answer : MapReplies 1 old.handles (length old.objects) (Some h) (slice_get old.objects h) (event_of request reply)
+  pub answer : MapReplies 1 old.handles (length old.objects) (Some h)
+      (slice_get old.objects h) (event_of request reply)
   pub effect : new ≡ map_after old (Some h) (event_of request reply)
   pub of_line : IsReplyOf request reply
   pub of_map : IsOfMap reply
 
 -- What a request is answered by the map and the names, and what it makes of them.
 pub record Steps (old : Map) (names : Names) (request : Request) (reply : Reply) (new : Map) (kept : Names) : Type 0 where
-  pub answer : MapReplies 1 old.handles (length old.objects) (handle_about names request reply) (now_at old (handle_about names request reply)) (event_of request reply)
+  pub answer : MapReplies 1 old.handles (length old.objects) (handle_about names request reply)
+      (now_at old (handle_about names request reply)) (event_of request reply)
   pub effect : new ≡ map_after old (handle_about names request reply) (event_of request reply)
   pub names_after : (name : List ℕ) → kept_number kept name ≡ number_after names request reply name
   pub of_line : IsReplyOf request reply

@@ -50,10 +50,7 @@ fn make_named<'a>(
 }
 
 /// The handle that is kept for the request's name.
-fn handle_of<'a>(
-    names: &BTreeMap<&'a [u8], Handle>,
-    request: &'a Request,
-) -> Option<Handle>
+fn handle_of<'a>(names: &BTreeMap<&'a [u8], Handle>, request: &'a Request) -> Option<Handle>
     ensures { option_map (λ handle. handle.n) result ≡ handle_in names.now request.now }
 {
     let name = request.name()?;

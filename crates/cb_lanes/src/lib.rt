@@ -6,6 +6,5 @@ pub mod seq;
 
 pub use seq::{SeqEnd, run_seq};
 
-
 #[cfg(test)]
 mod tests;

@@ -1,7 +1,6 @@
 -- The map's replies at worked values, and replies that it does not give.
-use Rattle.std.proofs.Common.{◌≡◌, ℕ, ◌<◌, ◌≤◌, List, [], ◌∷◌, refl, ap, arith}
+use Rattle.std.proofs.Common.{◌≡◌, [], ◌∷◌, refl, ap, arith}
 use Rattle.cb_types.specs.declared.handle.Handle.{Handle}
-use Rattle.cb_model.specs.declared.object.Object.{Object}
 use Rattle.cb_model.specs.declared.object.Object.TheVariants.{Held, Freed}
 use Rattle.cb_model.specs.declared.call.Call.TheVariants.{Make, Read, Write, Free}
 use Rattle.cb_model.specs.declared.call.MapReply.TheVariants as reply
@@ -35,7 +34,8 @@ a_make = record { answer = (refl, omega arith, refl); effect = refl }
 a_make_at_a_handle_again : (new : Map) → Replies one (Make (7 ∷ [])) (reply.Made handle 1) new → ⊥
 a_make_at_a_handle_again new is = absurd (let e = is.answer.0 in cc)
 
-a_make_at_version_2 : (new : Map) → Replies one (Make (7 ∷ [])) (reply.Made (record { n = 1 }) 2) new → ⊥
+a_make_at_version_2 : (new : Map)
+    → Replies one (Make (7 ∷ [])) (reply.Made (record { n = 1 }) 2) new → ⊥
 a_make_at_version_2 new is = absurd (let e = is.answer.2 in cc)
 
 all_made : Replies full (Make (7 ∷ [])) (reply.Full 1) full
@@ -44,7 +44,8 @@ all_made = record { answer = (refl, refl); effect = refl }
 full_one_too_early : Replies one (Make (7 ∷ [])) (reply.Full 2) one → ⊥
 full_one_too_early is = absurd (let e = is.answer.0 in cc)
 
-a_make_past_the_last_handle : (new : Map) → Replies full (Make (7 ∷ [])) (reply.Made (record { n = 1 }) 1) new → ⊥
+a_make_past_the_last_handle : (new : Map)
+    → Replies full (Make (7 ∷ [])) (reply.Made (record { n = 1 }) 1) new → ⊥
 a_make_past_the_last_handle new is = absurd (let lt = is.answer.1 in omega (arith, lt))
 
 a_write : Replies one (Write handle 1 (9 ∷ [])) (reply.Version 4) (record { handles = 2; objects = Held 4 (1 ∷ 9 ∷ []) ∷ [] })
@@ -53,13 +54,15 @@ a_write = record { answer = (omega arith, refl); effect = refl }
 a_write_of_no_bytes_at_the_end : Replies one (Write handle 2 []) (reply.Version 4) (record { handles = 2; objects = Held 4 (1 ∷ 2 ∷ []) ∷ [] })
 a_write_of_no_bytes_at_the_end = record { answer = (omega arith, refl); effect = refl }
 
-a_write_that_keeps_the_version : (new : Map) → Replies one (Write handle 1 (9 ∷ [])) (reply.Version 3) new → ⊥
+a_write_that_keeps_the_version : (new : Map)
+    → Replies one (Write handle 1 (9 ∷ [])) (reply.Version 3) new → ⊥
 a_write_that_keeps_the_version new is = absurd (let e = is.answer.1 in cc)
 
 a_write_past_the_end : Replies one (Write handle 2 (9 ∷ [])) (reply.Range 2) one
 a_write_past_the_end = record { answer = (omega arith, refl); effect = refl }
 
-a_write_that_lengthens : (new : Map) → Replies one (Write handle 2 (9 ∷ [])) (reply.Version 4) new → ⊥
+a_write_that_lengthens : (new : Map) → Replies one (Write handle 2 (9 ∷ [])) (reply.Version 4) new
+    → ⊥
 a_write_that_lengthens new is = absurd (let le = is.answer.0 in omega (arith, le))
 
 a_range_within : (new : Map) → Replies one (Write handle 1 (9 ∷ [])) (reply.Range 2) new → ⊥
@@ -68,10 +71,12 @@ a_range_within new is = absurd (let lt = is.answer.0 in omega (arith, lt))
 a_free : Replies one (Free handle) (reply.Version 4) gone
 a_free = record { answer = refl; effect = refl }
 
-a_free_that_keeps_the_bytes : Replies one (Free handle) (reply.Version 4) (record { handles = 2; objects = Held 4 (1 ∷ 2 ∷ []) ∷ [] }) → ⊥
+a_free_that_keeps_the_bytes : Replies one (Free handle) (reply.Version 4) (record { handles = 2; objects = Held 4 (1 ∷ 2 ∷ []) ∷ [] })
+    → ⊥
 a_free_that_keeps_the_bytes is = absurd (let e = ap (λ (m : Map). m.objects) is.effect in cc)
 
-freed_comes_before_range : (new : Map) → Replies gone (Write handle 2 (9 ∷ [])) (reply.Range 2) new → ⊥
+freed_comes_before_range : (new : Map)
+    → Replies gone (Write handle 2 (9 ∷ [])) (reply.Range 2) new → ⊥
 freed_comes_before_range new is = is.answer
 
 freed_for_good : Replies gone (Write handle 2 (9 ∷ [])) reply.Freed gone
@@ -86,7 +91,8 @@ a_read = record { answer = (refl, refl); effect = refl }
 a_read_of_other_bytes : (new : Map) → Replies one (Read handle) (reply.Bytes 3 (1 ∷ [])) new → ⊥
 a_read_of_other_bytes new is = absurd (let e = is.answer.1 in cc)
 
-a_read_at_another_version : (new : Map) → Replies one (Read handle) (reply.Bytes 2 (1 ∷ 2 ∷ [])) new → ⊥
+a_read_at_another_version : (new : Map)
+    → Replies one (Read handle) (reply.Bytes 2 (1 ∷ 2 ∷ [])) new → ⊥
 a_read_at_another_version new is = absurd (let e = is.answer.0 in cc)
 
 never_made : Replies one (Read (record { n = 1 })) reply.Unmade one
@@ -96,5 +102,6 @@ unmade_for_a_made_handle : (new : Map) → Replies one (Read handle) reply.Unmad
 unmade_for_a_made_handle new is = is.answer
 
 -- the last version has none above it
-at_the_last_version : IsPossible (record { handles = 1; objects = Held 0xFFFFFFFFFFFFFFFF (1 ∷ []) ∷ [] }) (Free handle) → ⊥
+at_the_last_version : IsPossible (record { handles = 1; objects = Held 0xFFFFFFFFFFFFFFFF (1 ∷ []) ∷ [] }) (Free handle)
+    → ⊥
 at_the_last_version possible = absurd (let lt = possible.1 in omega (arith, lt))

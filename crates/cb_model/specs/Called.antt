@@ -26,7 +26,8 @@ first_of None later = later
 
 -- the handle that a make of this name was answered
 abbrev pub handle_made : List ℕ → Request → Reply → Option ℕ
-handle_made name (Make made bytes) (Made handle version) = if bytes_eq made name then Some handle.n else None
+handle_made name (Make made bytes) (Made handle version) =
+    if bytes_eq made name then Some handle.n else None
 handle_made name request reply = None
 
 -- the handle of a name, by the last answer to its make
@@ -47,7 +48,11 @@ handle_for before request reply = handle_named before (name_of request)
 
 -- an answer as a call, behind the answers before it
 abbrev pub called : List Answer → Answer → Called
-called before a = record { lane = a.lane.n; handle = handle_for before a.request a.reply; event = event_of a.request a.reply }
+called before a = record {
+  lane = a.lane.n;
+  handle = handle_for before a.request a.reply;
+  event = event_of a.request a.reply;
+}
 
 -- answers as calls, behind those before them
 abbrev pub calls_behind : List Answer → List Answer → List Called

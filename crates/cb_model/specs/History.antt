@@ -31,11 +31,13 @@ IsMadeWith changes len = ⊥
 abbrev pub GoesOn : ℕ → ℕ → List (ℕ × Change) → Type 0
 GoesOn next len [] = Unit {0}
 GoesOn next len ((version, Create bytes) ∷ later) = ⊥
-GoesOn next len ((version, Overwrite at bytes) ∷ later) = (version ≡ next) × (at + length bytes ≤ len) × GoesOn (next + 1) len later
+GoesOn next len ((version, Overwrite at bytes) ∷ later) =
+    (version ≡ next) × (at + length bytes ≤ len) × GoesOn (next + 1) len later
 GoesOn next len ((version, Remove) ∷ later) = (version ≡ next) × (later ≡ [])
 
 -- the make comes first, at the first version, and the versions go up one by one
 abbrev pub IsHistory : ℕ → List (ℕ × Change) → Type 0
 IsHistory first [] = Unit {0}
-IsHistory first ((version, Create bytes) ∷ later) = (version ≡ first) × GoesOn (first + 1) (length bytes) later
+IsHistory first ((version, Create bytes) ∷ later) =
+    (version ≡ first) × GoesOn (first + 1) (length bytes) later
 IsHistory first changes = ⊥

@@ -4,9 +4,9 @@ use Rattle.std.specs.List.{AllByRecursion}
 use Rattle.cb_types.specs.declared.answer.Answer.{Answer}
 use Rattle.cb_model.specs.declared.object.Object.TheVariants.{Held, Freed}
 use Rattle.cb_model.specs.Now.{Change}
-use Rattle.cb_model.specs.Event.{Event, Subject, version_of}
+use Rattle.cb_model.specs.Event.{Event, version_of}
 use Rattle.cb_model.specs.Event.Subject.{NewObject, Nothing}
-use Rattle.cb_model.specs.Event.Event.{Makes, Shows, Pins, Writes, Frees, FindsFull, FindsUnmade, FindsFreed, FindsEnd, Refused, Wrong}
+use Rattle.cb_model.specs.Event.Event.{Makes, Shows, Pins, Writes, Frees, FindsFull, FindsUnmade, FindsFreed, FindsEnd, Refused}
 use Rattle.cb_model.specs.History.{IsHistory, IsMadeWith, at_version, left_by}
 use Rattle.cb_model.specs.Replies.{MapReplies}
 use Rattle.cb_model.specs.Called.{Called, calls_of, value_at, history, makes}
@@ -15,7 +15,8 @@ use Rattle.cb_model.specs.Called.{Called, calls_of, value_at, history, makes}
 -- was read or pinned was held at that version; a write was past the end of the bytes of the make.
 abbrev pub Tells : List (ℕ × Change) → Event → Type 0
 Tells history (Shows version bytes) = at_version history version ≡ Some (Held version bytes)
-Tells history (Pins version) = (bytes : List ℕ) × (at_version history version ≡ Some (Held version bytes))
+Tells history (Pins version) =
+    (bytes : List ℕ) × (at_version history version ≡ Some (Held version bytes))
 Tells history (Writes at bytes version) = Unit {0}
 Tells history (Frees version) = Unit {0}
 Tells history (FindsEnd at bytes len) = IsMadeWith history len × (len < at + length bytes)
@@ -46,7 +47,8 @@ IsNotBelow version event = Unit {0}
 -- what may be answered later: behind a version none below it, and behind freed no version at all
 abbrev pub MayFollow : Event → Event → Type 0
 MayFollow FindsFreed later = version_of later ≡ None
-MayFollow earlier later = (version : ℕ) → version_of earlier ≡ Some version → IsNotBelow version later
+MayFollow earlier later =
+    (version : ℕ) → version_of earlier ≡ Some version → IsNotBelow version later
 
 -- the answer was given to this lane before: to itself, or to lane 0
 abbrev pub WasTold : (teller lane : ℕ) → Type 0
@@ -54,7 +56,9 @@ WasTold teller lane = (teller ≡ lane) ⊎ (teller ≡ 0)
 
 -- of two calls on one handle, the later may follow what its lane was told before
 abbrev pub NeverFalls : Called → Called → Type 0
-NeverFalls earlier later = (h : ℕ) → WasTold earlier.lane later.lane → earlier.handle ≡ Some h → later.handle ≡ Some h → MayFollow earlier.event later.event
+NeverFalls earlier later =
+    (h : ℕ) → WasTold earlier.lane later.lane → earlier.handle ≡ Some h → later.handle ≡ Some h
+    → MayFollow earlier.event later.event
 
 -- so of each call and each later one
 abbrev pub Rising : List Called → Type 0
@@ -74,13 +78,15 @@ IsUnmadeRight handle event = Unit {0}
 
 -- The map's reply after the calls before it.
 pub record IsMapReply (first handles : ℕ) (before : List Called) (call : Called) : Type 0 where
-  pub reply : MapReplies first handles (makes before) call.handle (value_at before call.handle) call.event
+  pub reply : MapReplies first handles (makes before) call.handle
+      (value_at before call.handle) call.event
   pub unmade : IsUnmadeRight call.handle call.event
 
 -- each call is answered as the map answers it after the calls before it
 abbrev pub Follow : (first handles : ℕ) → List Called → List Called → Type 0
 Follow first handles before [] = Unit {0}
-Follow first handles before (call ∷ after) = IsMapReply first handles before call × Follow first handles (before ++ call ∷ []) after
+Follow first handles before (call ∷ after) =
+    IsMapReply first handles before call × Follow first handles (before ++ call ∷ []) after
 
 -- Legal answers: a fact about the answers alone, for a first version and a number of handles.
 abbrev pub IsLegal : (first handles : ℕ) → List Answer → Type 0

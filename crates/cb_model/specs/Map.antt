@@ -1,5 +1,5 @@
 -- The map, and what a call makes of it.
-use Rattle.std.specs.Prelude.{◌≡◌, ℕ, ◌+◌, ◌-◌, ◌^◌, ◌<◌, List, [], ◌∷◌, ◌++◌, length, slice_get, slice_set, Option, Some, None}
+use Rattle.std.specs.Prelude.{◌≡◌, ℕ, ◌-◌, ◌^◌, ◌<◌, List, [], ◌∷◌, ◌++◌, length, slice_get, slice_set, Option, Some, None}
 use Rattle.cb_model.specs.declared.object.Object.{Object}
 use Rattle.cb_model.specs.declared.object.Object.TheVariants.{Held, Freed}
 use Rattle.cb_model.specs.declared.call.Call.{Call}
@@ -47,7 +47,8 @@ HasNext now = Unit {0}
 abbrev pub IsPossible : Map → Call → Type 0
 IsPossible map (Make bytes) = Unit {0}
 IsPossible map (Read handle) = handle.n < map.handles
-IsPossible map (Write handle at bytes) = (handle.n < map.handles) × HasNext (slice_get map.objects handle.n)
+IsPossible map (Write handle at bytes) =
+    (handle.n < map.handles) × HasNext (slice_get map.objects handle.n)
 IsPossible map (Free handle) = (handle.n < map.handles) × HasNext (slice_get map.objects handle.n)
 
 -- the handle that an answered call is about
@@ -98,15 +99,20 @@ object_after object event = object
 -- the objects after a call on this handle, where the map has `now`
 abbrev pub objects_after : List Object → ℕ → Now → Event → List Object
 objects_after objects handle now (Makes bytes version) = objects ++ Held version bytes ∷ []
-objects_after objects handle (Some object) event = slice_set objects handle (object_after object event)
+objects_after objects handle (Some object) event =
+    slice_set objects handle (object_after object event)
 objects_after objects handle None event = objects
 
 -- the map after a call on this handle, where there is one
 abbrev pub map_after : Map → Option ℕ → Event → Map
 map_after map None event = map
-map_after map (Some handle) event = record { handles = map.handles; objects = objects_after map.objects handle (slice_get map.objects handle) event }
+map_after map (Some handle) event = record {
+  handles = map.handles;
+  objects = objects_after map.objects handle (slice_get map.objects handle) event;
+}
 
 -- The map's reply to a call, with first versions of 1, and the map afterwards.
 pub record Replies (old : Map) (call : Call) (reply : MapReply) (new : Map) : Type 0 where
-  pub answer : MapReplies 1 old.handles (length old.objects) (call_handle call reply) (now_at old (call_handle call reply)) (call_event call reply)
+  pub answer : MapReplies 1 old.handles (length old.objects) (call_handle call reply)
+      (now_at old (call_handle call reply)) (call_event call reply)
   pub effect : new ≡ map_after old (call_handle call reply) (call_event call reply)

@@ -1,5 +1,5 @@
 -- What a map has at a handle, and what a completed call makes of it.
-use Rattle.std.specs.Prelude.{ℕ, ◌+◌, List, ◌++◌, length, take, drop, Option, Some, None}
+use Rattle.std.specs.Prelude.{ℕ, ◌+◌, List, ◌++◌, length, take, drop, Option, Some}
 use Rattle.cb_model.specs.declared.object.Object.{Object}
 use Rattle.cb_model.specs.declared.object.Object.TheVariants.{Held, Freed}
 
@@ -20,6 +20,7 @@ pub data Change : Type 0 where
 -- what the map has after a change that answered this version
 abbrev pub changed : Now → ℕ × Change → Now
 changed before (version, Create bytes) = Some (Held version bytes)
-changed (Some (Held old bytes)) (version, Overwrite at new) = Some (Held version (overwritten bytes at new))
+changed (Some (Held old bytes)) (version, Overwrite at new) =
+    Some (Held version (overwritten bytes at new))
 changed before (version, Overwrite at new) = before
 changed before (version, Remove) = Some (Freed version)

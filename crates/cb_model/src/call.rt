@@ -4,9 +4,13 @@ use cb_types::{Bytes, Handle, Reply};
 #[derive(Debug, Drop)]
 pub enum Call {
     /// A new object with these bytes.
-    Make { bytes: Bytes },
+    Make {
+        bytes: Bytes,
+    },
     /// The bytes of an object.
-    Read { handle: Handle },
+    Read {
+        handle: Handle,
+    },
     /// These bytes in place of those from the byte number `at` on, within the object.
     Write {
         handle: Handle,
@@ -14,7 +18,9 @@ pub enum Call {
         bytes: Bytes,
     },
     /// The end of an object.
-    Free { handle: Handle },
+    Free {
+        handle: Handle,
+    },
 }
 
 /// What the map replies.

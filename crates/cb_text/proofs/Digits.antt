@@ -12,13 +12,15 @@ first_byte : (b : ℕ) (rest : List ℕ) → encode_lower (b ∷ rest) ≡ digit
 unfolding encode_with
 first_byte b rest = refl
 
-next_byte : (bytes : List ℕ) (i : ℕ) → i < length bytes → drop i bytes ≡ get_or bytes i 0 ∷ drop (i + 1) bytes
+next_byte : (bytes : List ℕ) (i : ℕ) → i < length bytes
+    → drop i bytes ≡ get_or bytes i 0 ∷ drop (i + 1) bytes
 next_byte bytes i lt =
     let next : suc i ≡ i + 1 = omega arith in
     drop-cons bytes i 0 lt ∙ ap (λ (n : ℕ). get_or bytes i 0 ∷ drop n bytes) next
 
 -- the first of the bytes that are left is added
-pub one_byte : (text bytes : List ℕ) (i : ℕ) → i < length bytes → (text ++ digits_of (get_or bytes i 0)) ++ encode_lower (drop (i + 1) bytes) ≡ text ++ encode_lower (drop i bytes)
+pub one_byte : (text bytes : List ℕ) (i : ℕ) → i < length bytes
+    → (text ++ digits_of (get_or bytes i 0)) ++ encode_lower (drop (i + 1) bytes) ≡ text ++ encode_lower (drop i bytes)
 one_byte text bytes i lt =
     append_assoc text (digits_of (get_or bytes i 0)) (encode_lower (drop (i + 1) bytes))
     ∙ ap (λ (l : List ℕ). text ++ l) (sym (first_byte (get_or bytes i 0) (drop (i + 1) bytes)) ∙ ap encode_lower (sym (next_byte bytes i lt)))
@@ -28,8 +30,11 @@ unfolding encode_with
 encode_none = refl
 
 -- none are left
-pub none_left : (text bytes : List ℕ) (i : ℕ) → length bytes ≤ i → text ++ encode_lower (drop i bytes) ≡ text
-none_left text bytes i past = ap (λ (l : List ℕ). text ++ encode_lower l) (drop_all i bytes past) ∙ ap (λ (l : List ℕ). text ++ l) encode_none ∙ append-nil text
+pub none_left : (text bytes : List ℕ) (i : ℕ) → length bytes ≤ i
+    → text ++ encode_lower (drop i bytes) ≡ text
+none_left text bytes i past =
+    ap (λ (l : List ℕ). text ++ encode_lower l) (drop_all i bytes past) ∙ ap (λ (l : List ℕ). text ++ l) encode_none ∙ append-nil text
 
-pub four_parts : (text a b c d : List ℕ) → (((text ++ a) ++ b) ++ c) ++ d ≡ text ++ (((a ++ b) ++ c) ++ d)
+pub four_parts : (text a b c d : List ℕ)
+    → (((text ++ a) ++ b) ++ c) ++ d ≡ text ++ (((a ++ b) ++ c) ++ d)
 four_parts text a b c d = simp append_assoc

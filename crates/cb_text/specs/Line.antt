@@ -64,7 +64,9 @@ reply_text (Made handle version) = spaced (version_text version)
 reply_text (Version version) = spaced (version_text version)
 reply_text (Bytes version bytes) = spaced (version_text version) ++ spaced (encode_lower bytes)
 reply_text (Full handles) = counted (codes "full") handles
-reply_text (NoRoom frames loose nodes) = spaced (codes "noroom") ++ counted (codes "frames") frames ++ counted (codes "loose") loose ++ counted (codes "nodes") nodes
+reply_text (NoRoom frames loose nodes) =
+    spaced (codes "noroom") ++ counted (codes "frames") frames ++ counted (codes "loose") loose
+    ++ counted (codes "nodes") nodes
 reply_text Unmade = spaced (codes "unmade")
 reply_text Freed = spaced (codes "freed")
 reply_text Moving = spaced (codes "moving")
@@ -77,7 +79,8 @@ reply_text NoFrame = []
 
 -- the line of an answer: the lane, the verb, the name or node, the reply and a line feed
 abbrev pub answer_line : Lane → Request → Reply → List ℕ
-answer_line lane request reply = decimal lane.n ++ spaced (verb_of request) ++ subject_text request ++ reply_text reply ++ 10 ∷ []
+answer_line lane request reply =
+    decimal lane.n ++ spaced (verb_of request) ++ subject_text request ++ reply_text reply ++ 10 ∷ []
 
 -- the lines of answers, one after the other
 abbrev pub text_of : List Answer → List ℕ

@@ -33,12 +33,7 @@ pub(crate) fn push_reply(text: &mut Vec<u8>, reply: &Reply) -> Result<(), NoMemo
 }
 
 /// Adds that there is no room, and the three numbers that show it.
-fn push_no_room(
-    text: &mut Vec<u8>,
-    frames: u32,
-    loose: u32,
-    nodes: u32,
-) -> Result<(), NoMemory>
+fn push_no_room(text: &mut Vec<u8>, frames: u32, loose: u32, nodes: u32) -> Result<(), NoMemory>
     ensures { OnOk result (text.new.items ≡ text.old.items ++ reply_text (Reply.NoRoom frames loose nodes)) }
 {
     push_word(text, b"noroom")?;

@@ -34,7 +34,10 @@ fn lines_are_exact(rt: HostRuntime) -> Result<(), Fail> {
         nodes: 3,
     };
     let line = line_text(alloc, lane, &read, &no_room)?;
-    assert_eq!(rt; line.as_slice(), b"1 read a noroom frames 2 loose 2 nodes 3\n".as_slice());
+    assert_eq!(rt;
+        line.as_slice(),
+        b"1 read a noroom frames 2 loose 2 nodes 3\n".as_slice()
+    );
     let crash = Request::Crash {
         node: NodeId { n: 5 },
     };

@@ -75,7 +75,8 @@ too_many_turns is = omega (arith, is Turns)
 -- the nodes are too few, and the frames behind them are out of range too
 the_first : IsFirstOutOfRange (config 2 2 3 0 64 16 0) Nodes
 the_first = record { out = λ is. omega (arith, is.0); before = before } where
-  before : (earlier : Field) → place earlier < place Nodes → IsInRange (config 2 2 3 0 64 16 0) earlier
+  before : (earlier : Field) → place earlier < place Nodes
+      → IsInRange (config 2 2 3 0 64 16 0) earlier
   before K lt = (omega arith, omega arith)
   before R lt = (omega arith, omega arith)
   before Nodes lt = absurd (omega (arith, lt))

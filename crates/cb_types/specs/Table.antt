@@ -10,14 +10,12 @@ IsReplyOf (line.Make name bytes) (Made handle version) = Unit {0}
 IsReplyOf (line.Make name bytes) (Full handles) = Unit {0}
 IsReplyOf (line.Make name bytes) (NoRoom frames loose nodes) = Unit {0}
 IsReplyOf (line.Make name bytes) Worn = Unit {0}
-
 IsReplyOf (line.Read name) (Bytes version bytes) = Unit {0}
 IsReplyOf (line.Read name) (NoRoom frames loose nodes) = Unit {0}
 IsReplyOf (line.Read name) Unmade = Unit {0}
 IsReplyOf (line.Read name) Freed = Unit {0}
 IsReplyOf (line.Read name) Moving = Unit {0}
 IsReplyOf (line.Read name) Worn = Unit {0}
-
 IsReplyOf (line.Write name at bytes) (Version version) = Unit {0}
 IsReplyOf (line.Write name at bytes) (NoRoom frames loose nodes) = Unit {0}
 IsReplyOf (line.Write name at bytes) Unmade = Unit {0}
@@ -26,36 +24,29 @@ IsReplyOf (line.Write name at bytes) Moving = Unit {0}
 IsReplyOf (line.Write name at bytes) (Range len) = Unit {0}
 IsReplyOf (line.Write name at bytes) (Pinned count) = Unit {0}
 IsReplyOf (line.Write name at bytes) Worn = Unit {0}
-
 IsReplyOf (line.Free name) (Version version) = Unit {0}
 IsReplyOf (line.Free name) Unmade = Unit {0}
 IsReplyOf (line.Free name) Freed = Unit {0}
 IsReplyOf (line.Free name) Moving = Unit {0}
 IsReplyOf (line.Free name) (Pinned count) = Unit {0}
 IsReplyOf (line.Free name) Worn = Unit {0}
-
 IsReplyOf (line.Pin name) (Version version) = Unit {0}
 IsReplyOf (line.Pin name) (NoRoom frames loose nodes) = Unit {0}
 IsReplyOf (line.Pin name) Unmade = Unit {0}
 IsReplyOf (line.Pin name) Freed = Unit {0}
 IsReplyOf (line.Pin name) Moving = Unit {0}
 IsReplyOf (line.Pin name) Worn = Unit {0}
-
 IsReplyOf (line.Peek name) (Bytes version bytes) = Unit {0}
 IsReplyOf (line.Peek name) Unmade = Unit {0}
 IsReplyOf (line.Peek name) reply = ⊥
-
 IsReplyOf (line.Unpin name) Unmade = Unit {0}
 IsReplyOf (line.Unpin name) reply = ⊥
-
 IsReplyOf (line.Filter name) Unmade = Unit {0}
 IsReplyOf (line.Filter name) Moving = Unit {0}
 IsReplyOf (line.Filter name) (Pinned count) = Unit {0}
 IsReplyOf (line.Filter name) Worn = Unit {0}
 IsReplyOf (line.Filter name) NotHere = Unit {0}
-
 IsReplyOf line.Leave reply = ⊥
-
 -- every other line makes a turn
 IsReplyOf request Worn = Unit {0}
 IsReplyOf request reply = ⊥

@@ -14,6 +14,7 @@ puts-preserved g c =
     let both = Appends-then (held c.args.sink.now) (held c.puts.sink) (held c.put.new.self) (take done bytes) (take count (drop done bytes)) c.puts.invariant.front more in
     record {
       within = search rules;
-      front = subst (λ (l : List ℕ). Appends (held c.args.sink.now) (held c.put.new.self) l) (take-add done count bytes) both;
+      front =
+          subst (λ (l : List ℕ). Appends (held c.args.sink.now) (held c.put.new.self) l) (take-add done count bytes) both;
       no_fault = c.in-Sent.ensures.no_fault ∙ c.puts.invariant.no_fault;
     }

@@ -13,7 +13,8 @@ returns-in_err-script-clause-refused c =
     rw (p.1, p.2) (fault_refused c.args.bytes.now c.in_err-script.field-0.0 c.in_err-script.ensures.bad)
 
 pub returns-in-Some-clause-refused : goal.returns-in-Some-clause-refused
-returns-in-Some-clause-refused c = NotBuilt c.in_ok-script.script c.in_ok-script.ensures.found c.in-Some.ensures refl
+returns-in-Some-clause-refused c =
+    NotBuilt c.in_ok-script.script c.in_ok-script.ensures.found c.in-Some.ensures refl
 
 pub returns-in-Some-clause-complete : goal.returns-in-Some-clause-complete
 returns-in-Some-clause-complete c = λ script spelled built.

@@ -10,7 +10,8 @@ returns-in-Err-Bad-clause-script_refused g c = λ is.
     let refusal = rw (c.in-Err-Bad.field-0-is, c.as_slice.ensures.value) at c.in-Err-Bad.ensures.refused in
     let refused : IsScriptRefused c.args.words.now (left c.args.source.now) (left c.take_all.new.source) c.in-Err-Bad.line c.in-Err-Bad.reason = record {
       words_are = c.is_seq.ensures.0 c.if-not-is_seq.false;
-      refused = (c.in_ok-bytes.bytes.items, record { front = c.in_ok-bytes.ensures.bytes; whole = c.in_ok-bytes.ensures.end }, refusal);
+      refused =
+          (c.in_ok-bytes.bytes.items, record { front = c.in_ok-bytes.ensures.bytes; whole = c.in_ok-bytes.ensures.end }, refusal);
     } in
     tells c.args.words.now (left c.args.source.now) (left c.take_all.new.source) (held c.args.sink.now) (held c.put_all-in-Err-Bad.new.sink) c.in-Err-Bad.line c.in-Err-Bad.reason c.as_slice-in-Err-Bad.result.now c.in_ok-text-in-Err-Bad.text refused c.as_slice-in-Err-Bad.ensures.items c.in_ok-text-in-Err-Bad.ensures c.in_ok-put_all-in-Err-Bad.ensures.ok
 
@@ -21,7 +22,8 @@ returns-in_err-put_all-in-Err-Bad-clause-cut g c = λ is.
     let refusal = rw (c.in-Err-Bad.field-0-is, c.as_slice.ensures.value) at c.in-Err-Bad.ensures.refused in
     let refused : IsScriptRefused c.args.words.now (left c.args.source.now) (left c.take_all.new.source) c.in-Err-Bad.line c.in-Err-Bad.reason = record {
       words_are = c.is_seq.ensures.0 c.if-not-is_seq.false;
-      refused = (c.in_ok-bytes.bytes.items, record { front = c.in_ok-bytes.ensures.bytes; whole = c.in_ok-bytes.ensures.end }, refusal);
+      refused =
+          (c.in_ok-bytes.bytes.items, record { front = c.in_ok-bytes.ensures.bytes; whole = c.in_ok-bytes.ensures.end }, refusal);
     } in
     cuts c.args.words.now (left c.args.source.now) (left c.take_all.new.source) (held c.args.sink.now) (held c.put_all-in-Err-Bad.new.sink) c.args.end.now c.args.end.now c.in-Err-Bad.line c.in-Err-Bad.reason c.as_slice-in-Err-Bad.result.now c.in_ok-text-in-Err-Bad.text refused refl c.as_slice-in-Err-Bad.ensures.items c.in_ok-text-in-Err-Bad.ensures c.in_err-put_all-in-Err-Bad.ensures.front
 

@@ -30,4 +30,5 @@ loop-line-preserved c =
     }
 
 pub returns-clause-legal : goal.returns-clause-legal
-returns-clause-legal c = legal_in_order 1 c.args.s.now.config.handles c.loop-line.answers c.loop-line.invariant.tracks.follow
+returns-clause-legal c =
+    legal_in_order 1 c.args.s.now.config.handles c.loop-line.answers c.loop-line.invariant.tracks.follow

@@ -11,4 +11,5 @@ loop-byte-preserved c =
     ap (λ (l : List ℕ). l ++ encode_lower (drop (i + 1) bytes)) added ∙ one_byte c.loop-byte.text.items bytes i c.loop-byte-test.true ∙ c.loop-byte.invariant
 
 pub returns : goal.returns
-returns c = sym (none_left c.loop-byte.text.items c.args.bytes.now c.loop-byte.byte-index c.loop-byte-test.false) ∙ c.loop-byte.invariant
+returns c =
+    sym (none_left c.loop-byte.text.items c.args.bytes.now c.loop-byte.byte-index c.loop-byte-test.false) ∙ c.loop-byte.invariant

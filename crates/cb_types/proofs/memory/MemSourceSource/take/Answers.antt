@@ -3,7 +3,8 @@ use Rattle.std.proofs.lemmas.List.{take_at, drop-drop, take-append-drop}
 use Rattle.cb_types.proofs.memory.MemSourceSource.take.Goals as goal
 
 -- the piece that was copied to the front of the buffer, and the bytes behind it, are the bytes that were left
-joined : (bytes copied behind : List ℕ) (at n : ℕ) → copied ≡ take (at + n - at) (drop at bytes) → length copied ≡ n → drop at bytes ≡ take n (copied ++ behind) ++ drop (at + n) bytes
+joined : (bytes copied behind : List ℕ) (at n : ℕ) → copied ≡ take (at + n - at) (drop at bytes)
+    → length copied ≡ n → drop at bytes ≡ take n (copied ++ behind) ++ drop (at + n) bytes
 joined bytes copied behind at n e len =
     let same : at + n - at ≡ n = omega arith in
     rw (take_at copied behind n len, e, same, ← drop-drop n at bytes) (sym (take-append-drop n (drop at bytes)))
