@@ -1,4 +1,4 @@
-ghost use Rattle.std.specs.Prelude.{◌≡◌, ◌≤◌, ◌⊎◌, ◌∷◌, ◌++◌, [], ℕ, List, length, IfOk, MatchResult, Ok, Err};
+ghost use Rattle.std.specs.Prelude.{◌≡◌, ◌≤◌, ◌⊎◌, ◌∷◌, ◌++◌, [], ℕ, List, length, IfOk, IfErr, MatchResult, Ok, Err};
 ghost use Rattle.cb_script.specs.declared.fault.Reason.{Reason};
 ghost use Rattle.cb_script.specs.declared.script.Line.{Line};
 ghost use Rattle.cb_script.specs.declared.script.Script.{Script};
@@ -31,7 +31,7 @@ pub fn read_script(alloc: Global, bytes: &[u8], mode: Mode) -> Result<Script, Sc
     ensures found { IfOk result (λ script. Spells bytes.now mode script) }
     ensures only { (script : Script) → Spells bytes.now mode script
         → (result ≡ Ok script) ⊎ (result ≡ Err ScriptFault.NoMemory) }
-    ensures bad { MatchResult result (λ _. Unit {0}) (λ e. FaultIs e (First bytes.now mode)) }
+    ensures bad { IfErr result (λ e. FaultIs e (First bytes.now mode)) }
     ensures first { (line : ℕ) (reason : Reason) → First bytes.now mode line reason
         → (result ≡ Err (ScriptFault.Bad line reason)) ⊎ (result ≡ Err ScriptFault.NoMemory) }
 {
