@@ -1,7 +1,10 @@
 -- The rows that are given out to make one row of a set's word.
-use Rattle.std.specs.Prelude.{◌≡◌, ℕ, ◌<◌, List, Some, length, slice_get, slice_index}
+use Rattle.std.specs.Prelude.{◌≡◌, ℕ, ◌+◌, ◌<◌, if◌then◌else◌, List, Some, length, slice_get, slice_index}
 use Rattle.cb_gf256.specs.Rows.{row_at}
 use Rattle.cb_member.specs.declared.names.Shard.{Shard}
+use Rattle.cb_member.specs.Membership.{Membership}
+use Rattle.cb_set.specs.SetState.{SetState}
+use Rattle.cb_set.specs.Lost.{lost_at}
 use Rattle.cb_node.specs.NodesState.{NodesState, row_at as row_under}
 
 -- the row of a word at a position stands at the node of the position's shard
@@ -17,3 +20,11 @@ pub record StandsAt (nodes : NodesState) (shards : List Shard) (rows : List (Lis
 abbrev pub StandAt : NodesState → List Shard → List (List ℕ) → List ℕ → Type 0
 StandAt nodes shards rows positions = (i : ℕ) → i < length positions
     → StandsAt nodes shards rows (slice_index positions i)
+
+-- the nodes once so many rows more were given out
+abbrev pub with_given : NodesState → ℕ → NodesState
+with_given nodes n = record nodes { given = nodes.given + n }
+
+-- how many rows are given out for the row of a position: its own, or one at each of k others
+abbrev pub rows_needed : Membership → SetState → ℕ → ℕ
+rows_needed m set position = if lost_at m set.shards position then length set.positions else 1

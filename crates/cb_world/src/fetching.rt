@@ -1,10 +1,10 @@
-ghost use Rattle.std.specs.Prelude.{◌≡◌, ℕ, ◌+◌, ◌-◌, ◌^◌, ◌<◌, ◌≤◌, List, All, IfOk, OnOk, length, take, slice_index, if◌then◌else◌};
+ghost use Rattle.std.specs.Prelude.{◌≡◌, ℕ, ◌+◌, ◌-◌, ◌^◌, ◌<◌, ◌≤◌, List, All, IfOk, OnOk, OnErr, length, take, slice_index, if◌then◌else◌};
 ghost use Rattle.cb_gf256.specs.Rows.{row_at, HaveLength};
 ghost use Rattle.cb_set.specs.Lost.{lost};
 ghost use Rattle.cb_world.specs.SetWord.{IsShaped, IsWordOf};
 ghost use Rattle.cb_set.specs.SetState.{parities};
 ghost use Rattle.cb_set.specs.Surviving.{surviving};
-ghost use Rattle.cb_world.specs.Fetched.{StandAt};
+ghost use Rattle.cb_world.specs.Fetched.{StandAt, with_given, rows_needed};
 
 use cb_erase::solve;
 use cb_gf256::Rows;
@@ -43,7 +43,9 @@ fn solved(
     requires shaped { IsShaped members.now set.now }
     requires few { length (lost members.now set.now.shards) ≤ parities set.now }
     requires word { (rows : List (List ℕ)) × IsWordOf nodes.old members.now set.now rows }
-    ensures nodes { OnOk result (nodes.new ≡ record nodes.old { given = nodes.old.given + length set.now.positions }) }
+    ensures nodes { OnOk result (nodes.new ≡ with_given nodes.old (length set.now.positions)) }
+    ensures error { OnErr result ((n : ℕ) × (n ≤ length set.now.positions)
+        × (nodes.new ≡ with_given nodes.old n)) }
     ensures rows { IfOk result (λ word. (rows : List (List ℕ)) → IsWordOf nodes.old members.now set.now rows → rows ≡ word) }
 {
     let k = set.k();
@@ -62,6 +64,7 @@ fn solved(
 
 /// The row of the set's word at a position, in `into`: its own row where its shard is not lost (one
 /// row is given out), else the row that k others make (k rows are given out). Rows have 4,096 bytes.
+/// Where there is no memory, at most k rows were given out, and `into` may have any bytes.
 pub fn fetch(
     alloc: Global,
     nodes: &mut Nodes,
@@ -77,7 +80,10 @@ pub fn fetch(
     requires position { position < length set.now.positions }
     requires into { length into.old ≡ 4096 }
     requires word { (rows : List (List ℕ)) × IsWordOf nodes.old members.now set.now rows }
-    ensures nodes { OnOk result ((n : ℕ) × (n ≤ length set.now.positions) × (nodes.new ≡ record nodes.old { given = nodes.old.given + n })) }
+    ensures nodes { OnOk result (nodes.new
+        ≡ with_given nodes.old (rows_needed members.now set.now position)) }
+    ensures error { OnErr result ((n : ℕ) × (n ≤ length set.now.positions)
+        × (nodes.new ≡ with_given nodes.old n)) }
     ensures row { OnOk result ((rows : List (List ℕ)) → IsWordOf nodes.old members.now set.now rows → into.new ≡ row_at rows position) }
 {
     let shard = set.shard(position);
