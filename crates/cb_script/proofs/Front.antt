@@ -66,7 +66,7 @@ module _ (mode : Mode) (nodes : ℕ) (text : List ℕ) (lines : List Line) (rest
     allowed = each_push (λ (m : Line). FitsMode (phrase_of m.request) mode) lines l front.allowed next.allowed;
     few = omega (arith, few, length_push lines l);
     read = next_text line behind cut ∙ ap (λ (t : List ℕ). map script_line lines ++ t ∷ lines_of behind) next.spelled
-    ∙ sym (append_assoc (map script_line lines) (script_line l ∷ []) (lines_of behind)) ∙ ap (λ (ts : List (List ℕ)). ts ++ lines_of behind) (sym (map_push script_line lines l));
+        ∙ sym (append_assoc (map script_line lines) (script_line l ∷ []) (lines_of behind)) ∙ ap (λ (ts : List (List ℕ)). ts ++ lines_of behind) (sym (map_push script_line lines l));
   }
 
   pub has_bad_line : (line behind : List ℕ) (number : ℕ) (reason : Reason) → lines_of rest ≡ line ∷ lines_of behind → number ≡ length lines + 2 → IsLeast (Holds (record { mode = mode; nodes = nodes; before = lines }) line) reason

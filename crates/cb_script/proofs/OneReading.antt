@@ -188,9 +188,9 @@ bad_unique bytes mode l k r q a b =
     elim (cases_lt (length a.before.lines) (length b.before.lines)) [
       | inl shorter ↦ absurd (bad_ends mode a.before b.before a.text a.after (b.text ∷ b.after) r a.form b.form b.allowed shorter (sym texts) a.least.broken)
       | inr longer ↦ elim (cases_lt (length b.before.lines) (length a.before.lines)) [
-          | inl shorter ↦ absurd (bad_ends mode b.before a.before b.text b.after (a.text ∷ a.after) q b.form a.form a.allowed shorter texts b.least.broken)
-          | inr equal ↦ same_bad bytes mode l k r q a b texts (omega arith)
-        ]
+        | inl shorter ↦ absurd (bad_ends mode b.before a.before b.text b.after (a.text ∷ a.after) q b.form a.form a.allowed shorter texts b.least.broken)
+        | inr equal ↦ same_bad bytes mode l k r q a b texts (omega arith)
+      ]
     ]
 
 -- ---- the first fault

@@ -80,17 +80,17 @@ first_of c rest =
     let has = split_has (λ b. b == 10) rest in
     elim (cases_Bool (c == 10)) [
       | inl feed ↦ record {
-          first = [];
-          others = slice_split (λ b. b == 10) rest;
-          is = rw feed refl;
-          kept = ap (λ (parts : List (List ℕ)). without_empty_end ([] ∷ parts)) has.is ∙ without_empty_end-more [] has.first has.others ∙ ap (λ (parts : List (List ℕ)). [] ∷ without_empty_end parts) (sym has.is);
-        }
+        first = [];
+        others = slice_split (λ b. b == 10) rest;
+        is = rw feed refl;
+        kept = ap (λ (parts : List (List ℕ)). without_empty_end ([] ∷ parts)) has.is ∙ without_empty_end-more [] has.first has.others ∙ ap (λ (parts : List (List ℕ)). [] ∷ without_empty_end parts) (sym has.is);
+      }
       | inr other ↦ record {
-          first = c ∷ has.first;
-          others = has.others;
-          is = rw other (ap (onto_first c) has.is);
-          kept = refl;
-        }
+        first = c ∷ has.first;
+        others = has.others;
+        is = rw other (ap (onto_first c) has.is);
+        kept = refl;
+      }
     ]
 
 -- one byte more in front of a text that is not empty

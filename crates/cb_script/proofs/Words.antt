@@ -169,12 +169,26 @@ line_splits nodes l form = words_split (decimal l.lane.n) (phrase_words (phrase_
 pub header_is_words : (c : Config) → AreNumbers c → AreWords (header_words c)
 header_is_words c numbers = (
   word_from_test 99 (codes "arbink") refl,
-  (word_from_test 49 [] refl,
-  (IsWord-setting 107 [] c.k refl numbers.k,
-  (IsWord-setting 114 [] c.r refl numbers.r,
-  (IsWord-setting 110 (codes "odes") c.nodes refl numbers.nodes,
-  (IsWord-setting 102 (codes "rames") c.frames refl numbers.frames,
-  (IsWord-setting 114 (codes "oom") c.room refl numbers.room,
-  (IsWord-setting 104 (codes "andles") c.handles refl numbers.handles,
-  (IsWord-setting 116 (codes "urns") c.turns refl numbers.turns, tt)))))))),
+  (
+    word_from_test 49 [] refl,
+    (
+      IsWord-setting 107 [] c.k refl numbers.k,
+      (
+        IsWord-setting 114 [] c.r refl numbers.r,
+        (
+          IsWord-setting 110 (codes "odes") c.nodes refl numbers.nodes,
+          (
+            IsWord-setting 102 (codes "rames") c.frames refl numbers.frames,
+            (
+              IsWord-setting 114 (codes "oom") c.room refl numbers.room,
+              (
+                IsWord-setting 104 (codes "andles") c.handles refl numbers.handles,
+                (IsWord-setting 116 (codes "urns") c.turns refl numbers.turns, tt),
+              ),
+            ),
+          ),
+        ),
+      ),
+    ),
+  ),
 )

@@ -96,7 +96,7 @@ lane_first = (
     lines = refl;
     number = refl;
     least = lane_fault (place_behind Seq only_header) (codes "16 read A") (omega arith) (codes "16") (Phrase.Naming on_name.Read (codes "A"))
-    (record { words = refl; full = (omega arith, (omega arith, (omega arith, tt))) }) (λ some. sixteenth_word some.0 some.1 some.2.low);
+        (record { words = refl; full = (omega arith, (omega arith, (omega arith, tt))) }) (λ some. sixteenth_word some.0 some.1 some.2.low);
   },
 )
 
