@@ -1,7 +1,6 @@
 -- Lines that were read one after the other.
-use Rattle.std.proofs.Common.{◌≡◌, ℕ, ◌+◌, ◌<◌, ◌≤◌, List, [], ◌∷◌, ◌++◌, length, map, ◌⊎◌, inl, inr, refl, sym, ap, ◌∙◌, subst, append_assoc, arith}
+use Rattle.std.proofs.Common.{◌≡◌, ℕ, ◌+◌, ◌<◌, ◌≤◌, List, [], ◌∷◌, ◌++◌, length, map, inl, inr, refl, sym, ap, ◌∙◌, subst, append_assoc, arith}
 use Rattle.std.specs.List.{AllByRecursion}
-use Rattle.std.proofs.lemmas.Bool.{cases_lt}
 use Rattle.std.proofs.lemmas.List.{append-nil, length_push, map_push, nil_from_length}
 use Rattle.cb_types.specs.declared.handle.Lane.{Lane}
 use Rattle.cb_script.specs.declared.fault.Reason.{Reason}
@@ -13,7 +12,7 @@ use Rattle.cb_script.specs.declared.script.Mode.{Mode}
 use Rattle.cb_script.specs.Form.{MayFollow, AreLines, AreInMode, FitsMode}
 use Rattle.cb_script.specs.Phrase.{phrase_of}
 use Rattle.cb_script.specs.Reading.{AreTheLines, ComesNext, FaultIs, HasBadLine, IsLeastLane, Refuses, fault_at}
-use Rattle.cb_script.specs.Rules.{Place, Holds, IsLeast}
+use Rattle.cb_script.specs.Rules.{Holds, IsLeast}
 use Rattle.cb_script.specs.Spelling.{lines_of, script_line}
 use Rattle.cb_script.proofs.Least.{least_lines}
 

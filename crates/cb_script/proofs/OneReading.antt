@@ -1,5 +1,5 @@
 -- The same bytes spell one script or have one first fault, and never both.
-use Rattle.std.proofs.Common.{◌≡◌, ◌==◌, ℕ, suc, ◌+◌, ◌<◌, ◌≤◌, List, [], ◌∷◌, ◌++◌, length, map, Result, Ok, Err, ◌⊎◌, inl, inr, refl, sym, ap, ◌∙◌, subst, append_assoc, arith}
+use Rattle.std.proofs.Common.{◌≡◌, ◌==◌, ℕ, ◌<◌, ◌≤◌, List, [], ◌∷◌, ◌++◌, length, map, Result, Ok, Err, ◌⊎◌, inl, inr, refl, sym, ap, ◌∙◌, subst, append_assoc, arith}
 use Rattle.std.specs.Prelude.{◌↔◌, MatchResult}
 use Rattle.std.specs.Fmt.{decimal}
 use Rattle.std.specs.List.{AllByRecursion}
@@ -9,7 +9,6 @@ use Rattle.std.proofs.lemmas.List.{append-nil, length-append, length-map}
 use Rattle.cb_types.specs.Config.{IsAccepted}
 use Rattle.cb_types.specs.declared.config.Config.{Config}
 use Rattle.cb_types.specs.declared.config.Field.TheVariants.{Nodes}
-use Rattle.cb_types.specs.declared.request.Request.{Request}
 use Rattle.cb_script.specs.declared.fault.Reason.{Reason}
 use Rattle.cb_script.specs.declared.fault.Reason.TheVariants as reasons
 use Rattle.cb_script.specs.declared.fault.ScriptFault.{ScriptFault}

@@ -15,7 +15,7 @@ use Rattle.cb_script.specs.declared.script.Script.{Script}
 use Rattle.cb_script.specs.First.{First}
 use Rattle.cb_script.specs.Form.{AreInMode, AreLines, IsScript, Spells}
 use Rattle.cb_script.specs.Spelling.{without_empty_end, lines_of, header_line, line_words, script_line, script_lines, script_text, setting, with_feed}
-use Rattle.cb_script.proofs.Cuts.{HasFirst, line_then, split_has, without_empty_end-more}
+use Rattle.cb_script.proofs.Cuts.{line_then, split_has, without_empty_end-more}
 use Rattle.cb_script.proofs.Headers.{AreNumbers-from_accepted, header_lacks_feed}
 use Rattle.cb_script.proofs.Words.{AllLack, lacks_feed, line_is_words}
 

@@ -1,5 +1,5 @@
 -- The words of headers and of lines: each is some bytes above the space.
-use Rattle.std.proofs.Common.{◌≡◌, ℕ, ◌+◌, ◌^◌, ◌<◌, ◌≤◌, Bool, true, false, eqb, leb, ◌&&◌, List, [], ◌∷◌, ◌++◌, length, All, inl, inr, refl, sym, ap, ◌∙◌, subst, arith}
+use Rattle.std.proofs.Common.{◌≡◌, ℕ, ◌^◌, ◌<◌, ◌≤◌, Bool, true, false, eqb, leb, ◌&&◌, List, [], ◌∷◌, length, All, inl, inr, refl, ap, ◌∙◌, arith}
 use Rattle.std.specs.Prelude.{codes}
 use Rattle.std.specs.Fmt.{decimal}
 use Rattle.std.specs.Str.Parse.{AllDigits}
@@ -16,7 +16,7 @@ use Rattle.cb_types.specs.declared.request.Request.TheVariants as request
 use Rattle.cb_types.specs.declared.config.Config.{Config}
 use Rattle.cb_script.specs.declared.script.Line.{Line}
 use Rattle.cb_script.specs.Spelling.{words_of, setting, header_words, script_line, line_words}
-use Rattle.cb_script.specs.Form.{IsName, IsNameByte, IsContents, IsChange, IsRequest}
+use Rattle.cb_script.specs.Form.{IsName, IsNameByte, IsChange, IsRequest}
 use Rattle.cb_script.specs.Hexadecimal.{IsLowerDigit}
 use Rattle.cb_script.specs.Numbers.{AreNumbers}
 use Rattle.cb_script.specs.Phrase.{phrase_of, phrase_words, change_text}
