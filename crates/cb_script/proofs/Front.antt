@@ -1,7 +1,6 @@
 -- Lines that were read one after the other.
-use Rattle.std.proofs.Common.{◌≡◌, ℕ, ◌+◌, ◌<◌, ◌≤◌, List, [], ◌∷◌, ◌++◌, length, map, ◌⊎◌, inl, inr, refl, sym, ap, ◌∙◌, subst, append_assoc, arith}
+use Rattle.std.proofs.Common.{◌≡◌, ℕ, ◌+◌, ◌<◌, ◌≤◌, List, [], ◌∷◌, ◌++◌, length, map, inl, inr, refl, sym, ap, ◌∙◌, subst, append_assoc, arith}
 use Rattle.std.specs.List.{AllByRecursion}
-use Rattle.std.proofs.lemmas.Bool.{cases_lt}
 use Rattle.std.proofs.lemmas.List.{append-nil, length_push, map_push, nil_from_length}
 use Rattle.cb_types.specs.declared.handle.Lane.{Lane}
 use Rattle.cb_script.specs.declared.fault.Reason.{Reason}
@@ -13,7 +12,7 @@ use Rattle.cb_script.specs.declared.script.Mode.{Mode}
 use Rattle.cb_script.specs.Form.{MayFollow, AreLines, AreInMode, FitsMode}
 use Rattle.cb_script.specs.Phrase.{phrase_of}
 use Rattle.cb_script.specs.Reading.{AreTheLines, ComesNext, FaultIs, HasBadLine, IsLeastLane, Refuses, fault_at}
-use Rattle.cb_script.specs.Rules.{Place, Holds, IsLeast}
+use Rattle.cb_script.specs.Rules.{Holds, IsLeast}
 use Rattle.cb_script.specs.Spelling.{lines_of, script_line}
 use Rattle.cb_script.proofs.Least.{least_lines}
 
@@ -66,7 +65,7 @@ module _ (mode : Mode) (nodes : ℕ) (text : List ℕ) (lines : List Line) (rest
     allowed = each_push (λ (m : Line). FitsMode (phrase_of m.request) mode) lines l front.allowed next.allowed;
     few = omega (arith, few, length_push lines l);
     read = next_text line behind cut ∙ ap (λ (t : List ℕ). map script_line lines ++ t ∷ lines_of behind) next.spelled
-    ∙ sym (append_assoc (map script_line lines) (script_line l ∷ []) (lines_of behind)) ∙ ap (λ (ts : List (List ℕ)). ts ++ lines_of behind) (sym (map_push script_line lines l));
+        ∙ sym (append_assoc (map script_line lines) (script_line l ∷ []) (lines_of behind)) ∙ ap (λ (ts : List (List ℕ)). ts ++ lines_of behind) (sym (map_push script_line lines l));
   }
 
   pub has_bad_line : (line behind : List ℕ) (number : ℕ) (reason : Reason) → lines_of rest ≡ line ∷ lines_of behind → number ≡ length lines + 2 → IsLeast (Holds (record { mode = mode; nodes = nodes; before = lines }) line) reason

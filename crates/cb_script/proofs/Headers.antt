@@ -1,5 +1,5 @@
 -- The header: its text has one reading, and which configurations are accepted.
-use Rattle.std.proofs.Common.{◌≡◌, ◌==◌, ℕ, ◌^◌, ◌<◌, List, [], ◌∷◌, get_or, Bor, sym, ap, ◌∙◌, arith}
+use Rattle.std.proofs.Common.{◌≡◌, ◌==◌, ℕ, ◌^◌, ◌<◌, List, [], ◌∷◌, get_or, sym, ap, ◌∙◌, arith}
 use Rattle.std.specs.Prelude.{codes}
 use Rattle.std.specs.Fmt.{decimal}
 use Rattle.std.specs.List.{join_with_byte, slice_split}
@@ -11,7 +11,6 @@ use Rattle.cb_types.specs.declared.config.Config.{Config}
 use Rattle.cb_types.specs.declared.config.Field.TheVariants.{K, R, Nodes, Frames, Room, Handles, Turns}
 use Rattle.cb_script.specs.Spelling.{header_line, setting, header_words}
 use Rattle.cb_script.specs.Numbers.{AreNumbers}
-use Rattle.cb_script.specs.Cut.{texts}
 use Rattle.cb_script.proofs.Words.{Lacks, header_is_words, words_split, lacks_feed}
 
 pub header_splits : (c : Config) → AreNumbers c → slice_split (λ b. b == 32) (header_line c) ≡ header_words c

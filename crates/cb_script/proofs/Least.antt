@@ -122,4 +122,3 @@ module _ (R : Reason → Type 0) where
 
   pub least_mode : R reasons.TooLong → R reasons.Header → R reasons.Config → R reasons.Lines → R reasons.Shape → R reasons.Lane → R reasons.Name → R reasons.Known → R reasons.Number → R reasons.Hex → R reasons.Length → (R reasons.Mode → ⊥) → IsLeast R reasons.Mode
   least_mode r1 r2 r3 r4 r5 r6 r7 r8 r9 r10 r11 broken = record { broken = broken; lesser = λ other below. below_mode r1 r2 r3 r4 r5 r6 r7 r8 r9 r10 r11 other below }
-

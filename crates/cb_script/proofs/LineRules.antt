@@ -1,5 +1,5 @@
 -- A line of a script against the rules of its place.
-use Rattle.std.proofs.Common.{◌≡◌, ℕ, ◌+◌, ◌<◌, ◌≤◌, List, [], ◌∷◌, ◌++◌, length, ◌⊎◌, inl, inr, refl, sym, ap, ◌∙◌, subst, Bor, arith}
+use Rattle.std.proofs.Common.{◌≡◌, ℕ, ◌+◌, ◌<◌, ◌≤◌, List, ◌∷◌, length, inl, inr, sym, ap, ◌∙◌, subst, Bor, arith}
 use Rattle.std.specs.Fmt.{decimal}
 use Rattle.std.specs.List.{join_with_byte, AllByRecursion}
 use Rattle.std.proofs.lemmas.Bool.{cases_lt}
@@ -14,10 +14,10 @@ use Rattle.cb_script.specs.declared.fault.Refusal.TheVariants.{Broken, NoMemory}
 use Rattle.cb_script.specs.declared.script.Line.{Line}
 use Rattle.cb_script.specs.Cut.{texts}
 use Rattle.cb_script.specs.Form.{FitsMode, IsKnown, IsLane}
-use Rattle.cb_script.specs.Phrase.{Phrase, phrase_of, phrase_words}
+use Rattle.cb_script.specs.Phrase.{Phrase, phrase_words}
 use Rattle.cb_script.specs.Reading.{ComesNext, IsLeastLane, MayStand, Refuses}
-use Rattle.cb_script.specs.Rules.{Place, Rule, Holds, HasLane, IsLeast, IsNumber, IsShaped}
-use Rattle.cb_script.specs.Spelling.{words_of, script_line, line_words}
+use Rattle.cb_script.specs.Rules.{Place, Rule, Holds, HasLane, IsLeast, IsShaped}
+use Rattle.cb_script.specs.Spelling.{words_of, line_words}
 use Rattle.cb_script.proofs.Least.{least_shape, least_lane}
 use Rattle.cb_script.proofs.Phrases.{phrase_injective}
 

@@ -1,5 +1,5 @@
 -- The same bytes spell one script or have one first fault, and never both.
-use Rattle.std.proofs.Common.{◌≡◌, ◌==◌, ℕ, suc, ◌+◌, ◌<◌, ◌≤◌, List, [], ◌∷◌, ◌++◌, length, map, Result, Ok, Err, ◌⊎◌, inl, inr, refl, sym, ap, ◌∙◌, subst, append_assoc, arith}
+use Rattle.std.proofs.Common.{◌≡◌, ◌==◌, ℕ, ◌<◌, ◌≤◌, List, [], ◌∷◌, ◌++◌, length, map, Result, Ok, Err, ◌⊎◌, inl, inr, refl, sym, ap, ◌∙◌, subst, append_assoc, arith}
 use Rattle.std.specs.Prelude.{◌↔◌, MatchResult}
 use Rattle.std.specs.Fmt.{decimal}
 use Rattle.std.specs.List.{AllByRecursion}
@@ -9,7 +9,6 @@ use Rattle.std.proofs.lemmas.List.{append-nil, length-append, length-map}
 use Rattle.cb_types.specs.Config.{IsAccepted}
 use Rattle.cb_types.specs.declared.config.Config.{Config}
 use Rattle.cb_types.specs.declared.config.Field.TheVariants.{Nodes}
-use Rattle.cb_types.specs.declared.request.Request.{Request}
 use Rattle.cb_script.specs.declared.fault.Reason.{Reason}
 use Rattle.cb_script.specs.declared.fault.Reason.TheVariants as reasons
 use Rattle.cb_script.specs.declared.fault.ScriptFault.{ScriptFault}
@@ -188,9 +187,9 @@ bad_unique bytes mode l k r q a b =
     elim (cases_lt (length a.before.lines) (length b.before.lines)) [
       | inl shorter ↦ absurd (bad_ends mode a.before b.before a.text a.after (b.text ∷ b.after) r a.form b.form b.allowed shorter (sym texts) a.least.broken)
       | inr longer ↦ elim (cases_lt (length b.before.lines) (length a.before.lines)) [
-          | inl shorter ↦ absurd (bad_ends mode b.before a.before b.text b.after (a.text ∷ a.after) q b.form a.form a.allowed shorter texts b.least.broken)
-          | inr equal ↦ same_bad bytes mode l k r q a b texts (omega arith)
-        ]
+        | inl shorter ↦ absurd (bad_ends mode b.before a.before b.text b.after (a.text ∷ a.after) q b.form a.form a.allowed shorter texts b.least.broken)
+        | inr equal ↦ same_bad bytes mode l k r q a b texts (omega arith)
+      ]
     ]
 
 -- ---- the first fault

@@ -15,7 +15,7 @@ use Rattle.cb_script.specs.declared.script.Script.{Script}
 use Rattle.cb_script.specs.First.{First}
 use Rattle.cb_script.specs.Form.{AreInMode, AreLines, IsScript, Spells}
 use Rattle.cb_script.specs.Spelling.{without_empty_end, lines_of, header_line, line_words, script_line, script_lines, script_text, setting, with_feed}
-use Rattle.cb_script.proofs.Cuts.{HasFirst, line_then, split_has, without_empty_end-more}
+use Rattle.cb_script.proofs.Cuts.{line_then, split_has, without_empty_end-more}
 use Rattle.cb_script.proofs.Headers.{AreNumbers-from_accepted, header_lacks_feed}
 use Rattle.cb_script.proofs.Words.{AllLack, lacks_feed, line_is_words}
 
@@ -80,17 +80,17 @@ first_of c rest =
     let has = split_has (λ b. b == 10) rest in
     elim (cases_Bool (c == 10)) [
       | inl feed ↦ record {
-          first = [];
-          others = slice_split (λ b. b == 10) rest;
-          is = rw feed refl;
-          kept = ap (λ (parts : List (List ℕ)). without_empty_end ([] ∷ parts)) has.is ∙ without_empty_end-more [] has.first has.others ∙ ap (λ (parts : List (List ℕ)). [] ∷ without_empty_end parts) (sym has.is);
-        }
+        first = [];
+        others = slice_split (λ b. b == 10) rest;
+        is = rw feed refl;
+        kept = ap (λ (parts : List (List ℕ)). without_empty_end ([] ∷ parts)) has.is ∙ without_empty_end-more [] has.first has.others ∙ ap (λ (parts : List (List ℕ)). [] ∷ without_empty_end parts) (sym has.is);
+      }
       | inr other ↦ record {
-          first = c ∷ has.first;
-          others = has.others;
-          is = rw other (ap (onto_first c) has.is);
-          kept = refl;
-        }
+        first = c ∷ has.first;
+        others = has.others;
+        is = rw other (ap (onto_first c) has.is);
+        kept = refl;
+      }
     ]
 
 -- one byte more in front of a text that is not empty

@@ -1,5 +1,5 @@
 -- A whole input: its header, and the lines behind it.
-use Rattle.std.proofs.Common.{◌≡◌, ℕ, ◌<◌, ◌≤◌, List, [], ◌∷◌, ◌++◌, length, map, refl, sym, ap, ◌∙◌, subst, arith}
+use Rattle.std.proofs.Common.{◌≡◌, ℕ, ◌≤◌, List, [], ◌∷◌, length, refl, sym, ap, ◌∙◌, subst, arith}
 use Rattle.std.proofs.lemmas.List.{nil_from_length}
 use Rattle.cb_types.specs.Config.{IsAccepted}
 use Rattle.cb_types.specs.declared.config.Config.{Config}
@@ -9,8 +9,7 @@ use Rattle.cb_script.specs.declared.fault.ScriptFault.{ScriptFault}
 use Rattle.cb_script.specs.declared.fault.ScriptFault.TheVariants as script_faults
 use Rattle.cb_script.specs.declared.script.Line.{Line}
 use Rattle.cb_script.specs.declared.script.Mode.{Mode}
-use Rattle.cb_script.specs.declared.script.Script.{Script}
-use Rattle.cb_script.specs.First.{First, HasHeader, IsBadLine}
+use Rattle.cb_script.specs.First.{First, IsBadLine}
 use Rattle.cb_script.specs.Form.{AreLines, Spells}
 use Rattle.cb_script.specs.Reading.{AreTheLines, FaultIs, HasBadLine, HeaderFault}
 use Rattle.cb_script.specs.Rules.{Holds, IsLeast}

@@ -1,5 +1,5 @@
 -- The words of headers and of lines: each is some bytes above the space.
-use Rattle.std.proofs.Common.{◌≡◌, ℕ, ◌+◌, ◌^◌, ◌<◌, ◌≤◌, Bool, true, false, eqb, leb, ◌&&◌, List, [], ◌∷◌, ◌++◌, length, All, inl, inr, refl, sym, ap, ◌∙◌, subst, arith}
+use Rattle.std.proofs.Common.{◌≡◌, ℕ, ◌^◌, ◌<◌, ◌≤◌, Bool, true, false, eqb, leb, ◌&&◌, List, [], ◌∷◌, length, All, inl, inr, refl, ap, ◌∙◌, arith}
 use Rattle.std.specs.Prelude.{codes}
 use Rattle.std.specs.Fmt.{decimal}
 use Rattle.std.specs.Str.Parse.{AllDigits}
@@ -16,7 +16,7 @@ use Rattle.cb_types.specs.declared.request.Request.TheVariants as request
 use Rattle.cb_types.specs.declared.config.Config.{Config}
 use Rattle.cb_script.specs.declared.script.Line.{Line}
 use Rattle.cb_script.specs.Spelling.{words_of, setting, header_words, script_line, line_words}
-use Rattle.cb_script.specs.Form.{IsName, IsNameByte, IsContents, IsChange, IsRequest}
+use Rattle.cb_script.specs.Form.{IsName, IsNameByte, IsChange, IsRequest}
 use Rattle.cb_script.specs.Hexadecimal.{IsLowerDigit}
 use Rattle.cb_script.specs.Numbers.{AreNumbers}
 use Rattle.cb_script.specs.Phrase.{phrase_of, phrase_words, change_text}
@@ -169,12 +169,26 @@ line_splits nodes l form = words_split (decimal l.lane.n) (phrase_words (phrase_
 pub header_is_words : (c : Config) → AreNumbers c → AreWords (header_words c)
 header_is_words c numbers = (
   word_from_test 99 (codes "arbink") refl,
-  (word_from_test 49 [] refl,
-  (IsWord-setting 107 [] c.k refl numbers.k,
-  (IsWord-setting 114 [] c.r refl numbers.r,
-  (IsWord-setting 110 (codes "odes") c.nodes refl numbers.nodes,
-  (IsWord-setting 102 (codes "rames") c.frames refl numbers.frames,
-  (IsWord-setting 114 (codes "oom") c.room refl numbers.room,
-  (IsWord-setting 104 (codes "andles") c.handles refl numbers.handles,
-  (IsWord-setting 116 (codes "urns") c.turns refl numbers.turns, tt)))))))),
+  (
+    word_from_test 49 [] refl,
+    (
+      IsWord-setting 107 [] c.k refl numbers.k,
+      (
+        IsWord-setting 114 [] c.r refl numbers.r,
+        (
+          IsWord-setting 110 (codes "odes") c.nodes refl numbers.nodes,
+          (
+            IsWord-setting 102 (codes "rames") c.frames refl numbers.frames,
+            (
+              IsWord-setting 114 (codes "oom") c.room refl numbers.room,
+              (
+                IsWord-setting 104 (codes "andles") c.handles refl numbers.handles,
+                (IsWord-setting 116 (codes "urns") c.turns refl numbers.turns, tt),
+              ),
+            ),
+          ),
+        ),
+      ),
+    ),
+  ),
 )

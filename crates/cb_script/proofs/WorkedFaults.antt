@@ -1,22 +1,17 @@
 -- Worked examples: the first bad line and its least reason.
-use Rattle.std.proofs.Common.{◌≡◌, ℕ, ◌+◌, ◌<◌, ◌≤◌, List, [], ◌∷◌, ◌++◌, length, inl, inr, refl, sym, ap, ◌∙◌, arith}
+use Rattle.std.proofs.Common.{◌≡◌, ℕ, List, [], ◌∷◌, ◌++◌, length, refl, arith}
 use Rattle.std.specs.Prelude.{codes}
 use Rattle.std.specs.Fmt.{decimal, digits}
-use Rattle.std.proofs.lemmas.List.{length-append}
-use Rattle.cb_types.specs.Config.{IsAccepted, IsInRange}
+use Rattle.cb_types.specs.Config.{IsAccepted}
 use Rattle.cb_types.specs.declared.config.Config.{Config}
-use Rattle.cb_types.specs.declared.config.Field.{Field}
 use Rattle.cb_types.specs.declared.config.Field.TheVariants.{K, R, Nodes, Frames, Room, Handles, Turns}
 use Rattle.cb_types.specs.declared.request.Request.TheVariants.{Begin, Evict}
-use Rattle.cb_script.specs.declared.fault.Reason.{Reason}
 use Rattle.cb_script.specs.declared.fault.Reason.TheVariants as reasons
-use Rattle.cb_script.specs.declared.script.Line.{Line}
-use Rattle.cb_script.specs.declared.script.Mode.{Mode}
 use Rattle.cb_script.specs.declared.script.Mode.TheVariants.{Seq, Threads}
 use Rattle.cb_script.specs.declared.script.Script.{Script}
 use Rattle.cb_script.specs.declared.verb.NameVerb.TheVariants as on_name
 use Rattle.cb_script.specs.declared.verb.BareVerb.TheVariants as bare
-use Rattle.cb_script.specs.First.{First, HasHeader, place_behind}
+use Rattle.cb_script.specs.First.{First, place_behind}
 use Rattle.cb_script.specs.Form.{IsScript, Spells}
 use Rattle.cb_script.specs.Phrase.{Phrase}
 use Rattle.cb_script.specs.Rules.{Holds, IsLeast, IsShaped, Rule}
@@ -96,7 +91,7 @@ lane_first = (
     lines = refl;
     number = refl;
     least = lane_fault (place_behind Seq only_header) (codes "16 read A") (omega arith) (codes "16") (Phrase.Naming on_name.Read (codes "A"))
-    (record { words = refl; full = (omega arith, (omega arith, (omega arith, tt))) }) (λ some. sixteenth_word some.0 some.1 some.2.low);
+        (record { words = refl; full = (omega arith, (omega arith, (omega arith, tt))) }) (λ some. sixteenth_word some.0 some.1 some.2.low);
   },
 )
 

@@ -1,14 +1,12 @@
 -- Worked examples: which lines may stand behind others. Each part of a definition is broken alone.
-use Rattle.std.proofs.Common.{◌≡◌, ℕ, ◌+◌, ◌<◌, ◌≤◌, List, [], ◌∷◌, ◌++◌, length, All, ◌⊎◌, inl, inr, refl, sym, ap, arith}
+use Rattle.std.proofs.Common.{◌≡◌, ℕ, ◌<◌, ◌≤◌, List, [], ◌∷◌, ◌++◌, length, All, ◌⊎◌, inl, inr, refl, arith}
 use Rattle.std.specs.Prelude.{codes}
-use Rattle.std.specs.List.{AllByRecursion}
-use Rattle.std.proofs.lemmas.List.Elements.{All-cons, All-nil, All-head, All-from_recursion}
-use Rattle.cb_types.specs.declared.request.Request.{Request}
+use Rattle.std.proofs.lemmas.List.Elements.{All-cons, All-nil, All-head}
 use Rattle.cb_types.specs.declared.request.Request.TheVariants.{Make, Read, Write, Crash, Leave, Begin, Evict}
 use Rattle.cb_script.specs.declared.script.Line.{Line}
 use Rattle.cb_script.specs.declared.script.Mode.TheVariants.{Seq, Threads}
 use Rattle.cb_script.specs.declared.script.Script.{Script}
-use Rattle.cb_script.specs.Form.{IsName, IsNameByte, IsContents, IsChange, IsRequest, IsLane, IsMade, IsNew, KnowsName, IsKnown, MayFollow, AreLines, AreInMode, IsScript, Spells}
+use Rattle.cb_script.specs.Form.{IsName, IsNameByte, IsContents, IsChange, IsRequest, IsLane, IsNew, KnowsName, IsKnown, MayFollow, AreInMode, IsScript, Spells}
 use Rattle.cb_script.specs.Unbuilt.{IsFirstUnbuilt}
 use Rattle.cb_script.proofs.Phrases.{differ}
 use Rattle.cb_script.proofs.WorkedSpelling.{worked_lane}

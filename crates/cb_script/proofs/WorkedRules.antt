@@ -1,10 +1,10 @@
 -- Worked examples: what each reason asks of a line, with each rule broken alone.
-use Rattle.std.proofs.Common.{◌≡◌, ℕ, ◌+◌, ◌<◌, ◌≤◌, false, List, [], ◌∷◌, ◌++◌, length, All, ◌⊎◌, inl, inr, refl, sym, ap, ◌∙◌, arith}
+use Rattle.std.proofs.Common.{◌≡◌, ℕ, ◌≤◌, false, List, [], ◌∷◌, length, inl, inr, refl, sym, ap, arith}
 use Rattle.std.specs.Prelude.{codes}
-use Rattle.std.specs.Fmt.{decimal, digits}
+use Rattle.std.specs.Fmt.{digits}
 use Rattle.std.specs.Str.{bytes_eq}
 use Rattle.std.proofs.lemmas.Fmt.{decimal_injective}
-use Rattle.std.proofs.lemmas.List.Elements.{All-cons, All-nil, All-head, All-tail}
+use Rattle.std.proofs.lemmas.List.Elements.{All-cons, All-nil, All-head}
 use Rattle.cb_script.specs.declared.script.Mode.TheVariants.{Seq, Threads}
 use Rattle.cb_script.specs.declared.verb.NameVerb.TheVariants as on_name
 use Rattle.cb_script.specs.declared.verb.NodeVerb.TheVariants as on_node
@@ -16,7 +16,7 @@ use Rattle.cb_script.specs.Phrase.{Phrase, bare_verb, phrase_words}
 use Rattle.cb_script.specs.Rules.{Place, IsNumber, IsShaped, HasLane, HasName, HasKnown, HasNumber, HasHex, HasLength}
 use Rattle.cb_script.proofs.Decimals.{leading_is_none, one_number}
 use Rattle.cb_script.proofs.Phrases.{differ}
-use Rattle.cb_script.proofs.WorkedForms.{another_lanes_name, bad_byte, lane_0_late, made_twice, own_name, two_makes}
+use Rattle.cb_script.proofs.WorkedForms.{another_lanes_name, bad_byte, made_twice, own_name, two_makes}
 
 -- six nodes, lane 0's name a and lane 1's name b
 abbrev worked_place : Place

@@ -1,5 +1,5 @@
 -- Worked examples: how inputs are cut, and how a script is spelled.
-use Rattle.std.proofs.Common.{◌≡◌, ℕ, List, [], ◌∷◌, ◌++◌, length, refl}
+use Rattle.std.proofs.Common.{◌≡◌, ℕ, [], ◌∷◌, ◌++◌, length, refl}
 use Rattle.std.specs.Prelude.{codes}
 use Rattle.std.specs.Fmt.{digits}
 use Rattle.hex.specs.Hex.{encode_with}
@@ -9,7 +9,6 @@ use Rattle.cb_types.specs.declared.request.Request.TheVariants.{Make, Read, Writ
 use Rattle.cb_script.specs.declared.fault.Reason.TheVariants as reasons
 use Rattle.cb_script.specs.declared.script.Line.{Line}
 use Rattle.cb_script.specs.declared.script.Script.{Script}
-use Rattle.cb_script.specs.Phrase.{phrase_of, phrase_words, change_text}
 use Rattle.cb_script.specs.Reasons.{number_of, word_of}
 use Rattle.cb_script.specs.Spelling.{lines_of, words_of, header_line, script_line, script_lines, script_text, with_feed}
 

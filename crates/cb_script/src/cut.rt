@@ -8,7 +8,7 @@ fn place_in(bytes: &[u8], separator: u8) -> Option<usize>
     ensures cut { MatchOption result
         (slice_split (λ b. b == separator) bytes.now ≡ bytes.now ∷ [])
         (λ i. slice_split (λ b. b == separator) bytes.now
-            ≡ take i bytes.now ∷ slice_split (λ b. b == separator) (drop (i + 1) bytes.now)) }
+        ≡ take i bytes.now ∷ slice_split (λ b. b == separator) (drop (i + 1) bytes.now)) }
     ensures within { IfSome result (λ i. i < length bytes.now) }
 {
     bytes.iter().position(|b| *b == separator)
@@ -19,7 +19,7 @@ pub(crate) fn cut_at(bytes: &[u8], separator: u8) -> Option<(&[u8], &[u8])>
     ensures cut { MatchOption result
         (slice_split (λ b. b == separator) bytes.now ≡ bytes.now ∷ [])
         (λ parts. slice_split (λ b. b == separator) bytes.now
-            ≡ parts.0.now ∷ slice_split (λ b. b == separator) parts.1.now) }
+        ≡ parts.0.now ∷ slice_split (λ b. b == separator) parts.1.now) }
     ensures shorter { IfSome result (λ parts. length parts.1.now < length bytes.now) }
 {
     let end = place_in(bytes, separator)?;

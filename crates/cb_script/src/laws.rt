@@ -23,5 +23,4 @@ pub fn script_laws()
     ensures same_fault { (bytes : List ℕ) (mode : Mode) (line : ℕ) (reason : Reason)
         → length (with_feed bytes) ≤ 1048576
         → (First bytes mode line reason ↔ First (with_feed bytes) mode line reason) }
-{
-}
+{}

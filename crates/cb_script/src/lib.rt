@@ -27,6 +27,5 @@ pub use read::read_script;
 pub use script::{Line, Lines, Mode, Script};
 pub use unbuilt::first_unbuilt;
 
-
 #[cfg(test)]
 mod tests;

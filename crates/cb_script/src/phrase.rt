@@ -2,13 +2,18 @@ ghost use Rattle.std.specs.Prelude.{◌≡◌, ◌∷◌, [], MatchOption};
 ghost use Rattle.cb_script.specs.Cut.{texts, phrase};
 ghost use Rattle.cb_script.specs.Phrase.{Phrase, phrase_words};
 
-use crate::verb::{BareVerb, NameVerb, NodeVerb, bare_verb_of, is_word, name_verb_of, node_verb_of};
+use crate::verb::{
+    BareVerb, NameVerb, NodeVerb, bare_verb_of, is_word, name_verb_of, node_verb_of,
+};
 
 /// The words behind the lane of a line, by what they are for, each as it stands in the input.
 #[derive(Clone, Copy, Debug)]
 pub(crate) enum Words<'a> {
     /// `make NAME HEX`
-    Making { name: &'a [u8], hex: &'a [u8] },
+    Making {
+        name: &'a [u8],
+        hex: &'a [u8],
+    },
     /// `write NAME AT HEX`
     Writing {
         name: &'a [u8],
@@ -16,11 +21,19 @@ pub(crate) enum Words<'a> {
         hex: &'a [u8],
     },
     /// A verb and NAME.
-    Naming { verb: NameVerb, name: &'a [u8] },
+    Naming {
+        verb: NameVerb,
+        name: &'a [u8],
+    },
     /// A verb and NODE.
-    Facing { verb: NodeVerb, node: &'a [u8] },
+    Facing {
+        verb: NodeVerb,
+        node: &'a [u8],
+    },
     /// A verb alone.
-    Alone { verb: BareVerb },
+    Alone {
+        verb: BareVerb,
+    },
 }
 
 /// What the words behind a lane are for, by their verb and their count.

@@ -28,10 +28,19 @@ fn tells_the_first_bad_line_and_its_least_reason(rt: HostRuntime) -> Result<(), 
         ("1 make a 0a0b\n1 read a", (0, 0)),
         ("0 make a 00\n15 read a\n15 make b 00\n15 free b\n", (0, 0)),
         ("1 make a 00\n1 write a 1024 -\n1 write a 0 ff\n", (0, 0)),
-        ("1 crash 0\n1 join 5\n1 leave\n1 evict\n1 begin\n1 ship\n", (0, 0)),
-        ("1 commit\n1 abort\n1 pair\n1 patch\n1 merge\n1 part\n", (0, 0)),
+        (
+            "1 crash 0\n1 join 5\n1 leave\n1 evict\n1 begin\n1 ship\n",
+            (0, 0),
+        ),
+        (
+            "1 commit\n1 abort\n1 pair\n1 patch\n1 merge\n1 part\n",
+            (0, 0),
+        ),
         ("1 compact\n1 rebuild\n", (0, 0)),
-        ("1 make a 00\n1 pin a\n1 peek a\n1 unpin a\n1 filter a\n", (0, 0)),
+        (
+            "1 make a 00\n1 pin a\n1 peek a\n1 unpin a\n1 filter a\n",
+            (0, 0),
+        ),
         ("\n", (2, 5)),
         ("1 make a 0a\n\n", (3, 5)),
         ("1  evict\n", (2, 5)),
@@ -45,7 +54,10 @@ fn tells_the_first_bad_line_and_its_least_reason(rt: HostRuntime) -> Result<(), 
         ("01 evict\n", (2, 6)),
         ("1 evict\n0 evict\n", (3, 6)),
         ("1 read A\n", (2, 7)),
-        ("1 make abcdefghijklmnop 00\n1 make abcdefghijklmnopq 00\n", (3, 7)),
+        (
+            "1 make abcdefghijklmnop 00\n1 make abcdefghijklmnopq 00\n",
+            (3, 7),
+        ),
         ("1 make a 00\n2 make a 00\n", (3, 8)),
         ("1 make a 00\n2 read a\n", (3, 8)),
         ("1 read a\n", (2, 8)),
@@ -70,20 +82,55 @@ fn tells_faults_of_headers_and_modes(rt: HostRuntime) -> Result<(), Fail> {
     for (text, fault) in [
         ("", (1, 2)),
         ("\n", (1, 2)),
-        ("carbink 1 k=02 r=2 nodes=6 frames=8 room=64 handles=16 turns=0\n", (1, 2)),
-        ("carbink 1 r=2 k=2 nodes=6 frames=8 room=64 handles=16 turns=0\n", (1, 2)),
-        ("carbink 1 k=2 r=2 nodes=6 frames=8 room=64 handles=16\n", (1, 2)),
-        ("carbink 1 k=2 r=2 nodes=6 frames=8 room=64 handles=16 turns=1000000000\n", (1, 2)),
-        ("carbink 1 k=0 r=2 nodes=6 frames=8 room=64 handles=16 turns=0\n1\n", (1, 3)),
-        ("carbink 1 k=2 r=2 nodes=3 frames=8 room=64 handles=16 turns=0", (1, 3)),
-        ("carbink 1 k=2 r=2 nodes=4 frames=8 room=64 handles=16 turns=0", (0, 0)),
+        (
+            "carbink 1 k=02 r=2 nodes=6 frames=8 room=64 handles=16 turns=0\n",
+            (1, 2),
+        ),
+        (
+            "carbink 1 r=2 k=2 nodes=6 frames=8 room=64 handles=16 turns=0\n",
+            (1, 2),
+        ),
+        (
+            "carbink 1 k=2 r=2 nodes=6 frames=8 room=64 handles=16\n",
+            (1, 2),
+        ),
+        (
+            "carbink 1 k=2 r=2 nodes=6 frames=8 room=64 handles=16 turns=1000000000\n",
+            (1, 2),
+        ),
+        (
+            "carbink 1 k=0 r=2 nodes=6 frames=8 room=64 handles=16 turns=0\n1\n",
+            (1, 3),
+        ),
+        (
+            "carbink 1 k=2 r=2 nodes=3 frames=8 room=64 handles=16 turns=0",
+            (1, 3),
+        ),
+        (
+            "carbink 1 k=2 r=2 nodes=4 frames=8 room=64 handles=16 turns=0",
+            (0, 0),
+        ),
     ] {
-        assert_eq!(rt; fault_of_bytes(rt.alloc(), text.as_bytes(), Mode::Seq)?, fault, "{text:?}");
+        assert_eq!(rt;
+            fault_of_bytes(rt.alloc(), text.as_bytes(), Mode::Seq)?,
+            fault,
+            "{text:?}"
+        );
     }
-    for verb in ["begin", "ship", "commit", "abort", "pair", "patch", "merge", "part"] {
+    for verb in [
+        "begin", "ship", "commit", "abort", "pair", "patch", "merge", "part",
+    ] {
         let lines = format!(in rt.alloc(); "1 evict\n1 {verb}\n")?;
-        assert_eq!(rt; fault_of(rt.alloc(), lines.as_str(), Mode::Threads)?, (3, 12), "{verb}");
-        assert_eq!(rt; fault_of(rt.alloc(), lines.as_str(), Mode::Seq)?, (0, 0), "{verb}");
+        assert_eq!(rt;
+            fault_of(rt.alloc(), lines.as_str(), Mode::Threads)?,
+            (3, 12),
+            "{verb}"
+        );
+        assert_eq!(rt;
+            fault_of(rt.alloc(), lines.as_str(), Mode::Seq)?,
+            (0, 0),
+            "{verb}"
+        );
     }
     let lines = "1 compact\n1 rebuild\n1 leave\n16 begin\n";
     assert_eq!(rt; fault_of(rt.alloc(), lines, Mode::Threads)?, (5, 6));
@@ -126,7 +173,10 @@ fn prints_what_it_read(rt: HostRuntime) -> Result<(), Fail> {
     let header = HEADER;
     for (lines, unbuilt) in [
         ("1 make a 0a0b\n1 read a\n", None),
-        ("0 make a 00\n2 write a 7 -\n2 write a 0 ff\n2 free a\n3 pin a\n3 leave\n", Some(6)),
+        (
+            "0 make a 00\n2 write a 7 -\n2 write a 0 ff\n2 free a\n3 pin a\n3 leave\n",
+            Some(6),
+        ),
         ("15 crash 5\n15 join 0\n", Some(2)),
     ] {
         let text = format!(in rt.alloc(); "{header}{lines}")?;

@@ -1,9 +1,9 @@
-use Rattle.std.proofs.Common.{◌≡◌, true, subst, sym, ap, length, arith, rules}
+use Rattle.std.proofs.Common.{rules}
 use Rattle.std.proofs.Common.{inl, inr}
 use Rattle.std.proofs.lemmas.Bool.{both_ways}
 use Rattle.cb_script.proofs.contents.contents_of.Goals.{in-OutOfMemory, in_default}
 use Rattle.cb_script.specs.Hexadecimal.{IsHexadecimal}
-use Rattle.cb_script.proofs.HexText.{hexadecimal_decodes, contents_taken, contents_hexadecimal}
+use Rattle.cb_script.proofs.HexText.{hexadecimal_decodes, contents_taken}
 use Rattle.cb_script.proofs.contents.contents_of.Goals as goal
 
 pub returns-in-Ok : goal.returns-in-Ok

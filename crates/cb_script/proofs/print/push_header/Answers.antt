@@ -1,4 +1,3 @@
-use Rattle.std.proofs.Common.{◌∙◌}
 use Rattle.cb_script.proofs.Printing.{header_pushed}
 use Rattle.cb_script.proofs.print.push_header.Goals as goal
 
