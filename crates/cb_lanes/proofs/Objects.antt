@@ -1,16 +1,16 @@
 -- The objects of a map after one call.
-use Rattle.std.proofs.Common.{◌≡◌, ℕ, zero, suc, ◌+◌, ◌<◌, ◌≤◌, Bool, true, false, cond, eqb, List, [], ◌∷◌, ◌++◌, length, set, Option, Some, None, refl, sym, ap, ◌∙◌, arith, inl, inr, length-set}
+use Rattle.std.proofs.Common.{◌≡◌, ℕ, zero, suc, ◌+◌, ◌<◌, true, false, cond, eqb, List, [], ◌∷◌, ◌++◌, length, set, Option, Some, None, refl, sym, ap, ◌∙◌, arith, inl, inr, length-set}
 use Rattle.std.specs.List.{fold, slice_get}
 use Rattle.std.proofs.lemmas.Bool.{cases_Bool, cases_lt, eqb-true, eq-eqb}
 use Rattle.std.proofs.lemmas.List.{length_push, get_or_append_left, get_or_push}
 use Rattle.std.proofs.lemmas.Option.{slice_get_past, slice_get-get_or, slice_get_within}
 use Rattle.cb_model.specs.declared.object.Object.{Object}
 use Rattle.cb_model.specs.declared.object.Object.TheVariants.{Held, Freed}
-use Rattle.cb_model.specs.Now.{Now, Change, changed}
-use Rattle.cb_model.specs.Event.{Event, Subject, change_of}
+use Rattle.cb_model.specs.Now.{Now, changed}
+use Rattle.cb_model.specs.Event.{Event, change_of}
 use Rattle.cb_model.specs.Event.Event.{Makes, Shows, Pins, Writes, Frees, FindsFull, FindsUnmade, FindsFreed, FindsEnd, Refused, Wrong}
 use Rattle.cb_model.specs.Called.{is_about, made_by}
-use Rattle.cb_model.specs.Replies.{MapReplies, ObjectReplies}
+use Rattle.cb_model.specs.Replies.{MapReplies}
 use Rattle.cb_model.specs.Map.{Map, now_at, map_after, objects_after, object_after}
 
 set_here : (objects : List Object) (k : ℕ) (o : Object) → k < length objects

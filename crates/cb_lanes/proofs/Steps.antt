@@ -1,5 +1,5 @@
 -- One request on the map and the names.
-use Rattle.std.proofs.Common.{◌≡◌, ℕ, ◌<◌, Bool, true, false, cond, List, length, Option, Some, None, refl, sym, ap, ◌∙◌}
+use Rattle.std.proofs.Common.{◌≡◌, ℕ, ◌<◌, Bool, true, false, cond, List, Option, Some, None, refl, sym, ap, ◌∙◌}
 use Rattle.std.specs.Prelude.{slice_get}
 use Rattle.std.specs.Option.{option_map}
 use Rattle.std.specs.BTreeMap.{UpdatesBy}
@@ -16,7 +16,7 @@ use Rattle.cb_model.specs.Map.{Map, Replies, HasNext, map_after}
 use Rattle.cb_model.specs.Event.Event.{Makes}
 use Rattle.cb_model.specs.declared.call.Call.TheVariants as call
 use Rattle.cb_model.specs.declared.call.MapReply.TheVariants as map_reply
-use Rattle.cb_lanes.specs.Step.{Names, kept_handle, kept_number, handle_at, handle_in, AreReady, IsOnObject, Steps}
+use Rattle.cb_lanes.specs.Step.{Names, kept_handle, handle_at, handle_in, AreReady, IsOnObject, Steps}
 use Rattle.cb_script.specs.Unbuilt.{IsBuilt}
 
 mapped : (test : Bool) (here other : Option Handle) (found : Option Handle)

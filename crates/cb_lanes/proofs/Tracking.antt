@@ -1,29 +1,28 @@
 -- A run keeps what its answers made.
-use Rattle.std.proofs.Common.{◌≡◌, ℕ, ◌+◌, ◌-◌, ◌^◌, ◌<◌, ◌≤◌, Bool, true, false, cond, List, [], ◌∷◌, ◌++◌, length, get_or, Option, Some, None, refl, sym, ap, subst, ◌∙◌, arith}
+use Rattle.std.proofs.Common.{◌≡◌, ℕ, ◌+◌, ◌-◌, ◌^◌, ◌<◌, ◌≤◌, Bool, true, false, cond, List, [], ◌∷◌, ◌++◌, length, get_or, Option, Some, None, refl, sym, ap, ◌∙◌, arith}
 use Rattle.std.specs.List.{AllByRecursion, fold, slice_get}
 use Rattle.std.specs.Str.{bytes_eq}
 use Rattle.std.proofs.lemmas.List.{length_push}
-use Rattle.std.proofs.lemmas.Option.{slice_get_past, slice_get-get_or}
+use Rattle.std.proofs.lemmas.Option.{slice_get-get_or}
 use Rattle.cb_types.specs.declared.answer.Answer.{Answer}
-use Rattle.cb_types.specs.declared.handle.Handle.{Handle}
 use Rattle.cb_types.specs.declared.request.Request.{Request}
 use Rattle.cb_types.specs.declared.request.Request.TheVariants.{Make}
 use Rattle.cb_types.specs.declared.reply.Reply.{Reply}
-use Rattle.cb_types.specs.declared.reply.Reply.TheVariants.{Made, Version, Bytes, Full, NoRoom, Unmade, Freed, Moving, Range, Pinned, Worn, NotHere, NoFrame}
+use Rattle.cb_types.specs.declared.reply.Reply.TheVariants.{Made}
 use Rattle.cb_types.specs.Requests.{name_of}
 use Rattle.cb_model.specs.declared.object.Object.{Object}
 use Rattle.cb_model.specs.declared.object.Object.TheVariants as object
-use Rattle.cb_model.specs.Now.{Now, Change, changed}
-use Rattle.cb_model.specs.Event.{Event, event_of, change_of}
+use Rattle.cb_model.specs.Now.{Now, changed}
+use Rattle.cb_model.specs.Event.{Event, event_of}
 use Rattle.cb_model.specs.Event.Event.{Makes, Shows, Pins, Writes, Frees, FindsFull, FindsUnmade, FindsFreed, FindsEnd, Refused, Wrong}
-use Rattle.cb_model.specs.Map.{Map, HasNext, now_at, map_after}
+use Rattle.cb_model.specs.Map.{Map, HasNext, now_at}
 use Rattle.cb_model.specs.Replies.{MapReplies, ObjectReplies}
-use Rattle.cb_model.specs.Called.{Called, first_of, handle_made, handle_of, handle_named, handle_for, called, calls_of, is_about, change_to, value, value_at, makes, made_by}
+use Rattle.cb_model.specs.Called.{Called, first_of, handle_made, handle_of, handle_named, handle_for, called, calls_of, change_to, value, value_at, makes, made_by}
 use Rattle.cb_model.specs.Legal.{IsMapReply, IsUnmadeRight, Follow}
 use Rattle.cb_model.proofs.Growing.{latest}
-use Rattle.cb_model.proofs.Moves.{FitsAll, not_higher}
+use Rattle.cb_model.proofs.Moves.{not_higher}
 use Rattle.cb_model.proofs.Naming.{calls_of-push, handle_of-push, Follow-push}
-use Rattle.cb_model.proofs.Order.{Kept, Kept-append, none_yet, value-push, makes-push, makes-le, fits_at}
+use Rattle.cb_model.proofs.Order.{Kept-append, none_yet, value-push, makes-push, makes-le, fits_at}
 use Rattle.cb_lanes.specs.Asked.{HasMapReply}
 use Rattle.cb_lanes.specs.Step.{Names, kept_number, handle_at, handle_about, number_after, AreReady, Steps}
 use Rattle.cb_lanes.proofs.Objects.{Left, left, same_handles}

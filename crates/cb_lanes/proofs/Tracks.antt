@@ -1,5 +1,5 @@
 -- What a run keeps while it answers the lines of a script.
-use Rattle.std.proofs.Common.{◌≡◌, ℕ, ◌<◌, ◌≤◌, List, [], length, Option, Some}
+use Rattle.std.proofs.Common.{◌≡◌, ℕ, ◌<◌, ◌≤◌, List, [], length, Some}
 use Rattle.std.specs.List.{AllByRecursion, slice_get}
 use Rattle.cb_types.specs.declared.answer.Answer.{Answer}
 use Rattle.cb_model.specs.Map.{Map}

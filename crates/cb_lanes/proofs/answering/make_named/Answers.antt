@@ -1,4 +1,3 @@
-use Rattle.std.proofs.Common.{◌∙◌}
 use Rattle.cb_lanes.proofs.Steps.{made_step}
 use Rattle.cb_lanes.proofs.answering.make_named.Goals as goal
 

@@ -1,4 +1,4 @@
-use Rattle.std.proofs.Common.{rules, ◌≡◌, ℕ, ◌-◌, ◌^◌, ◌<◌, ◌≤◌, length, get_or, map, take, ap, ◌∙◌, arith, length-take}
+use Rattle.std.proofs.Common.{rules, ◌-◌, ◌^◌, ◌<◌, ◌≤◌, length, ap, arith, length-take}
 use Rattle.std.proofs.lemmas.List.{length-map}
 use Rattle.cb_model.proofs.Order.{legal_in_order}
 use Rattle.cb_lanes.specs.Asked.{asked}
