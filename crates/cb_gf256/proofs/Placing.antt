@@ -10,7 +10,7 @@ use Rattle.std.proofs.lemmas.List.{length-map}
 use Rattle.cb_gf256.proofs.Summing.{row_at-rows_at}
 use Rattle.cb_gf256.specs.Placing.{Placed, Combined}
 use Rattle.std.specs.Simd.Lanes.{put_chunk}
-use Rattle.std.proofs.lemmas.Simd.{length-put_chunk, get_or-put_chunk_at, get_or-put_chunk_below}
+use Rattle.std.proofs.lemmas.Simd.{length-put_chunk, get_or-put_chunk_at, get_or-put_chunk_below, get_or-put_chunk_above}
 use Rattle.cb_gf256.specs.Rows.{HaveLength}
 use Rattle.cb_gf256.specs.Block.{with_row}
 use Rattle.cb_gf256.proofs.BlockLemmas.{with_row-set}
@@ -23,6 +23,7 @@ placed_none w at targets v rows = record {
   lengths = λ i. refl;
   placed = λ j l h. absurd (omega arith);
   front = λ i c h. refl;
+  back = λ i c h. refl;
   others = λ i h. refl;
 }
 
@@ -37,8 +38,9 @@ set_row P rows t i row within here there =
 pub placed_more : (w at : ℕ) (targets : List ℕ) (v : ℕ → ℕ → ℕ) (before now : List (List ℕ)) (m : ℕ) (row : List ℕ) → IsStrictlyIncreasing targets → m < length targets
     → get_or targets m 0 < length now → length row ≡ length (row_at now (get_or targets m 0))
     → ((l : ℕ) → l < w → get_or row (at + l) 0 ≡ v m l) → ((c : ℕ) → c < at → get_or row c 0 ≡ byte_at now (get_or targets m 0) c)
+    → ((c : ℕ) → at + w ≤ c → get_or row c 0 ≡ byte_at now (get_or targets m 0) c)
     → Placed w at targets v before now m → Placed w at targets v before (set now (get_or targets m 0) row) (m + 1)
-placed_more w at targets v before now m row ascend inside within size new old h =
+placed_more w at targets v before now m row ascend inside within size new old behind h =
     let t = get_or targets m 0 in
     record {
       count = length-set now t row ∙ h.count;
@@ -53,29 +55,50 @@ placed_more w at targets v before now m row ascend inside within size new old h 
           subst (λ x. byte_at (set now t row) (get_or targets x 0) (at + l) ≡ v x l) same (ap (λ r. get_or r (at + l) 0) (get_or-set_same now t row [] within) ∙ new l q))
           (cases_lt j m);
       front = λ i c k. set_row (λ r. get_or r c 0 ≡ byte_at before i c) now t i row within (λ e. old c k ∙ ap (λ x. byte_at now x c) e ∙ h.front i c k) (λ _. h.front i c k);
+      back = λ i c k. set_row (λ r. get_or r c 0 ≡ byte_at before i c) now t i row within (λ e. behind c k ∙ ap (λ x. byte_at now x c) e ∙ h.back i c k) (λ _. h.back i c k);
       others = λ i apart. set_row (λ r. r ≡ row_at before i) now t i row within (λ e. absurd (apart m (omega arith) e)) (λ _. h.others i (λ j k. apart j (omega arith)));
     }
 
-pub combined_none : (table shown : List (List ℕ)) (targets : List ℕ) (rows : List (List ℕ)) → Combined table shown targets rows rows 0
-combined_none table shown targets rows = record {
+pub combined_none : (table shown : List (List ℕ)) (targets : List ℕ) (rows : List (List ℕ)) (at : ℕ) → Combined table shown targets rows rows at at
+combined_none table shown targets rows at = record {
   count = refl;
   lengths = λ i. refl;
-  sums = λ j c h k. absurd (omega arith);
+  sums = λ j c h k l. absurd (omega arith);
   others = λ i h. refl;
 }
 
-pub combined_more : (table shown : List (List ℕ)) (targets : List ℕ) (before now next : List (List ℕ)) (w at m to : ℕ) → m ≡ length targets → to ≡ at + w → Combined table shown targets before now at
-    → Placed w at targets (λ j l. combination (row_at table j) shown (at + l)) now next m → Combined table shown targets before next to
-combined_more table shown targets before now next w at m to all e h p = record {
+-- the columns of a block, where they are put
+block_columns : (table shown : List (List ℕ)) (targets : List ℕ) (now next : List (List ℕ)) (w at m : ℕ) → m ≡ length targets → Placed w at targets (λ j l. combination (row_at table j) shown (at + l)) now next m
+    → (j c : ℕ) → j < length targets → at ≤ c → c < at + w → byte_at next (get_or targets j 0) c ≡ combination (row_at table j) shown c
+block_columns table shown targets now next w at m all p j c k low high =
+    let place : at + (c - at) ≡ c = omega arith in
+    subst (λ x. byte_at next (get_or targets j 0) x ≡ combination (row_at table j) shown x) place (p.placed j (c - at) (omega arith) (omega arith))
+
+-- the columns after those that are made
+pub combined_more : (table shown : List (List ℕ)) (targets : List ℕ) (before now next : List (List ℕ)) (w from at m to : ℕ) → m ≡ length targets → to ≡ at + w → Combined table shown targets before now from at
+    → Placed w at targets (λ j l. combination (row_at table j) shown (at + l)) now next m → Combined table shown targets before next from to
+combined_more table shown targets before now next w from at m to all e h p = record {
   count = p.count ∙ h.count;
   lengths = λ i. p.lengths i ∙ h.lengths i;
-  sums = λ j c k q.
+  sums = λ j c k low high.
       ⊎_elim
-      (λ below. p.front (get_or targets j 0) c below ∙ h.sums j c k below)
-      (λ above.
-      let place : at + (c - at) ≡ c = omega arith in
-      subst (λ x. byte_at next (get_or targets j 0) x ≡ combination (row_at table j) shown x) place (p.placed j (c - at) (omega arith) (omega arith)))
+      (λ below. p.front (get_or targets j 0) c below ∙ h.sums j c k low below)
+      (λ above. block_columns table shown targets now next w at m all p j c k above (omega arith))
       (cases_lt c at);
+  others = λ i apart. p.others i (λ j k. apart j (omega arith)) ∙ h.others i apart;
+}
+
+-- the columns before those that are made
+pub combined_before : (table shown : List (List ℕ)) (targets : List ℕ) (before now next : List (List ℕ)) (w at m from to : ℕ) → m ≡ length targets → from ≡ at + w → Combined table shown targets before now from to
+    → Placed w at targets (λ j l. combination (row_at table j) shown (at + l)) now next m → Combined table shown targets before next at to
+combined_before table shown targets before now next w at m from to all e h p = record {
+  count = p.count ∙ h.count;
+  lengths = λ i. p.lengths i ∙ h.lengths i;
+  sums = λ j c k low high.
+      ⊎_elim
+      (λ below. block_columns table shown targets now next w at m all p j c k low (omega arith))
+      (λ above. p.back (get_or targets j 0) c (omega arith) ∙ h.sums j c k above high)
+      (cases_lt c from);
   others = λ i apart. p.others i (λ j k. apart j (omega arith)) ∙ h.others i apart;
 }
 
@@ -86,6 +109,7 @@ placed_same w at m targets u v before now same h = record {
   lengths = h.lengths;
   placed = λ j l k q. h.placed j l k q ∙ same j l k q;
   front = h.front;
+  back = h.back;
   others = h.others;
 }
 
@@ -107,6 +131,7 @@ block_placed w at len targets v before now m block ascend inside within even roo
     (placed_more w at targets v before now m next ascend inside within (length-put_chunk at row block)
     (λ l k. get_or-put_chunk_at at row block l 0 (omega arith) (omega arith) ∙ new l k)
     (λ c k. get_or-put_chunk_below at row block c 0 k)
+    (λ c k. get_or-put_chunk_above at row block c 0 (omega arith))
     h)
 
 -- a byte is put into the row at target m
@@ -126,11 +151,12 @@ byte_placed at len b targets v before now m ascend inside within even room new h
     let first : l ≡ 0 = omega arith in
     subst (λ x. get_or next (at + x) 0 ≡ v m x) (sym first) (ap (λ n. get_or next n 0) (omega arith) ∙ get_or-set_same row at b 0 (omega arith) ∙ new))
     (λ c k. get_or-set_other row at c b 0 (λ e. omega arith))
+    (λ c k. get_or-set_other row at c b 0 (λ e. omega arith))
     h)
 
 -- with all columns made, the rows at the targets are the combinations
 pub combinations_at : (table shown : List (List ℕ)) (targets : List ℕ) (before now : List (List ℕ)) (len : ℕ) → length targets ≡ length table → length (row_at shown 0) ≡ len
-    → All (λ p. p < length before) targets → HaveLength len before → Combined table shown targets before now len → AreCombinations table shown (rows_at now targets)
+    → All (λ p. p < length before) targets → HaveLength len before → Combined table shown targets before now 0 len → AreCombinations table shown (rows_at now targets)
 combinations_at table shown targets before now len height first below even h =
     let lengths = kept_lengths len before now h.count h.lengths even in
     record {
@@ -141,7 +167,7 @@ combinations_at table shown targets before now len height first below even h =
           ∙ lengths (get_or targets j 0) [] (omega (arith, h.count, below j 0 within)) ∙ sym first;
       values = λ j c k l.
           let within : j < length targets = omega arith in
-          ap (λ row. get_or row c 0) (row_at-rows_at now targets j within) ∙ h.sums j c within (omega arith);
+          ap (λ row. get_or row c 0) (row_at-rows_at now targets j within) ∙ h.sums j c within (omega arith) (omega arith);
     }
 
 -- the first row of all, and the first of those at some positions, are as long as all others

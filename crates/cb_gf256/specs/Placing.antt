@@ -1,25 +1,26 @@
-use Rattle.std.specs.Prelude.{◌≡◌, ◌≢◌, ℕ, ◌+◌, ◌<◌, List, length, slice_index}
+use Rattle.std.specs.Prelude.{◌≡◌, ◌≢◌, ℕ, ◌+◌, ◌<◌, ◌≤◌, List, length, slice_index}
 use Rattle.cb_gf256.specs.Rows.{row_at, byte_at}
 use Rattle.cb_gf256.specs.Combination.{combination}
 
 -- w bytes from the place at on, v j, are put into each row at the first m targets; what stood
--- before that place, and all other rows, stay
+-- before that place and behind those bytes, and all other rows, stay
 pub record Placed (w at : ℕ) (targets : List ℕ) (v : ℕ → ℕ → ℕ) (before now : List (List ℕ))
     (m : ℕ) : Type 0 where
   pub count : length now ≡ length before
   pub lengths : (i : ℕ) → length (row_at now i) ≡ length (row_at before i)
   pub placed : (j l : ℕ) → j < m → l < w → byte_at now (slice_index targets j) (at + l) ≡ v j l
   pub front : (i c : ℕ) → c < at → byte_at now i c ≡ byte_at before i c
+  pub back : (i c : ℕ) → at + w ≤ c → byte_at now i c ≡ byte_at before i c
   pub others : (i : ℕ) → ((j : ℕ) → j < m → slice_index targets j ≢ i)
       → row_at now i ≡ row_at before i
 
--- below the place at, the rows at the targets are the sums of the shown rows; all other rows are
--- as they were
+-- from one column to before another, the rows at the targets are the sums of the shown rows; all
+-- other rows are as they were
 pub record Combined (table shown : List (List ℕ)) (targets : List ℕ) (before now : List (List ℕ))
-    (at : ℕ) : Type 0 where
+    (from to : ℕ) : Type 0 where
   pub count : length now ≡ length before
   pub lengths : (i : ℕ) → length (row_at now i) ≡ length (row_at before i)
-  pub sums : (j c : ℕ) → j < length targets → c < at
+  pub sums : (j c : ℕ) → j < length targets → from ≤ c → c < to
       → byte_at now (slice_index targets j) c ≡ combination (row_at table j) shown c
   pub others : (i : ℕ) → ((j : ℕ) → j < length targets → slice_index targets j ≢ i)
       → row_at now i ≡ row_at before i

@@ -80,7 +80,7 @@ fn put_sums<const R: usize>(out: &mut Rows, targets: &[u8], at: usize, sums: [u8
     }
 }
 
-/// Makes the sums in the rows at the targets, up to the last whole block.
+/// Makes the sums in the rows at the targets, up to the last whole block and from there down.
 fn set_blocks<const R: usize>(
     out: &mut Rows,
     targets: &[u8],
@@ -98,9 +98,11 @@ fn set_blocks<const R: usize>(
     requires below { All (λ p. p < length out.old) targets.now }
     requires lengths { HaveLength len rows.now × HaveLength len out.old }
     ensures { Combined factors.now (rows_at rows.now sources.now) targets.now out.old out.new
-        (len / 32 * 32) }
+        0 (len / 32 * 32) }
 {
-    for block in 0..len / BLOCK {
+    // From the last to the first: a processor that compares the last twelve bits of addresses
+    // alone takes a block for the one that was just written, where that one lies lower in its row.
+    for block in (0..len / BLOCK).rev() {
         let at = block * BLOCK;
         let sums = block_sums::<R>(factors, rows, sources, at, len);
         put_sums::<R>(out, targets, at, sums, len);
@@ -125,7 +127,7 @@ fn set_whole_blocks(
     requires lengths { HaveLength len rows.now × HaveLength len out.old }
     ensures height { length factors.now ≤ 4 }
     ensures blocks { Combined factors.now
-        (rows_at rows.now sources.now) targets.now out.old out.new (len / 32 * 32) }
+        (rows_at rows.now sources.now) targets.now out.old out.new 0 (len / 32 * 32) }
 {
     match factors.height() {
         0 => set_blocks::<0>(out, targets, factors, rows, sources, len),
@@ -201,8 +203,8 @@ fn set_rest(
     requires lengths { HaveLength len rows.now × HaveLength len out.old }
     requires inside { from ≤ len }
     ensures { (before : List (List ℕ))
-        → Combined factors.now (rows_at rows.now sources.now) targets.now before out.old from
-        → Combined factors.now (rows_at rows.now sources.now) targets.now before out.new len }
+        → Combined factors.now (rows_at rows.now sources.now) targets.now before out.old 0 from
+        → Combined factors.now (rows_at rows.now sources.now) targets.now before out.new 0 len }
 {
     for column in from..len {
         set_column(out, targets, factors, rows, sources, column, len);

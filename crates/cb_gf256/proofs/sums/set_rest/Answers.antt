@@ -12,6 +12,6 @@ loop-column-preserved c =
       made.count ∙ c.loop-column.invariant.1,
       kept_lengths c.args.len c.loop-column.out c.set_column.new.out made.count made.lengths c.loop-column.invariant.2,
       λ before h.
-          combined_more c.args.factors.now (rows_at c.args.rows.now c.args.sources.now) targets before c.loop-column.out c.set_column.new.out 1 at (length targets) (at + 1) refl refl
+          combined_more c.args.factors.now (rows_at c.args.rows.now c.args.sources.now) targets before c.loop-column.out c.set_column.new.out 1 0 at (length targets) (at + 1) refl refl
           (c.loop-column.invariant.3 before h) made,
     )

@@ -6,4 +6,4 @@ use Rattle.cb_gf256.proofs.sums.set_rest.Given as goal
 abbrev pub invariant-loop-column : goal.invariant-loop-column
 invariant-loop-column l =
     (l.from ≤ l.column) × (length l.out ≡ length l.initial.out) × HaveLength l.len l.out
-    × ((before : List (List ℕ)) → Combined l.factors (rows_at l.rows l.sources) l.targets before l.initial.out l.from → Combined l.factors (rows_at l.rows l.sources) l.targets before l.out l.column)
+    × ((before : List (List ℕ)) → Combined l.factors (rows_at l.rows l.sources) l.targets before l.initial.out 0 l.from → Combined l.factors (rows_at l.rows l.sources) l.targets before l.out 0 l.column)
