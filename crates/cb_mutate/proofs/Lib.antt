@@ -3,3 +3,4 @@ pub mod Settling
 pub mod Written
 pub mod Emptied
 pub mod Freed
+pub mod Loaded

@@ -5,3 +5,5 @@ pub mod WriteRule
 pub mod WriteEnds
 pub mod FreeRule
 pub mod FreeEnds
+pub mod ReadRule
+pub mod Loads

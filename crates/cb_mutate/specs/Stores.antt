@@ -9,3 +9,9 @@ AreStores [] = Unit {0}
 AreStores (Loaded p x ∷ es) = AreStores es
 AreStores (Stored p x ∷ es) = AreStores es
 AreStores (e ∷ es) = ⊥
+
+-- every event reads a memory word
+abbrev pub AreLoads : List Event → Type 0
+AreLoads [] = Unit {0}
+AreLoads (Loaded p x ∷ es) = AreLoads es
+AreLoads (e ∷ es) = ⊥

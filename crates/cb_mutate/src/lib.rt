@@ -2,6 +2,7 @@
 #![tactic(auto)]
 
 mod freeing;
+mod loading;
 mod merge;
 mod overwriting;
 mod refusing;
