@@ -4,3 +4,5 @@ pub mod Written
 pub mod Emptied
 pub mod Freed
 pub mod Loaded
+pub mod SettledHot
+pub mod ReadAfter

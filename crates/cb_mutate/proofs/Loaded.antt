@@ -1,5 +1,5 @@
 -- The words of an object are read one after the other.
-use Rattle.std.proofs.Common.{◌≡◌, ◌≢◌, ◌⊎◌, ℕ, zero, suc, ◌+◌, ◌*◌, ◌/◌, ◌%◌, ◌<◌, ◌≤◌, List, [], ◌∷◌, ◌++◌, length, get_or, take, map, sym, refl, ap, ◌∙◌, subst, arith, inl, inr}
+use Rattle.std.proofs.Common.{◌≡◌, ◌≢◌, ◌⊎◌, ℕ, ◌+◌, ◌*◌, ◌/◌, ◌%◌, ◌<◌, ◌≤◌, List, [], ◌∷◌, ◌++◌, length, get_or, take, map, sym, refl, ap, ◌∙◌, subst, arith, inl, inr}
 use Rattle.std.proofs.lemmas.Bool.{cases_eq, cases_lt}
 use Rattle.std.proofs.lemmas.List.{ext_get_or, get_or-take, get_or_append_left, length-append, length-take-le}
 use Rattle.std.proofs.lemmas.List.FromFn.{get_or-map-range_with_len, length-map-range_with_len}
@@ -49,7 +49,7 @@ loaded_last [] p x = inr (refl, refl)
 loaded_last (Loaded q y ∷ es) p x = inl (loaded_last es p x)
 loaded_last (e ∷ es) p x = loaded_last es p x
 
-loads_keep : (es : List Event) (s : Shown) → AreLoads es → played es s ≡ s
+pub loads_keep : (es : List Event) (s : Shown) → AreLoads es → played es s ≡ s
 loads_keep [] s a = refl
 loads_keep (Loaded p x ∷ es) s a = loads_keep es s a
 loads_keep (e ∷ es) s a = absurd a
@@ -60,7 +60,7 @@ pub loaded_agrees : (es : List Event) (s : Shown) (p x : ℕ) → AreLoads es
 loaded_agrees es s p x loads agree owned =
     let at : played es s ≡ s = loads_keep es s loads in
     let told : Owns (played es s) p → x ≡ get_or (played es s).memory p 0 =
-      (agree_last es (Loaded p x ∷ []) s agree).0 in
+    (agree_last es (Loaded p x ∷ []) s agree).0 in
     subst (λ (t : Shown). Owns t p → x ≡ get_or t.memory p 0) at told owned
 
 -- one word more was read, and its bytes were put behind the others
@@ -72,11 +72,16 @@ pub record IsPutWord (old new : List ℕ) (i x : ℕ) : Type 0 where
 pub loads_none : (runs : List Event → Type 0) (owns : Shown → Type 0) (place : ℕ) (into : List ℕ)
     → runs [] → length into ≡ 1024 → LoadsBelow runs owns place 0 into
 loads_none runs owns place into ran sized = record {
-  events = []; ran = ran; loads = tt; words = []; count = refl;
+  events = [];
+  ran = ran;
+  loads = tt;
+  words = [];
+  count = refl;
   loaded = λ i below. absurd (omega (arith, below));
   sized = sized;
   bytes = λ p below. absurd (omega (arith, below));
-  contents = λ s o k below. absurd (omega (arith, below)) }
+  contents = λ s o k below. absurd (omega (arith, below));
+}
 
 pub loads_one : (runs more : List Event → Type 0) (owns : Shown → Type 0) (place i x : ℕ)
     (old new : List ℕ) → (l : LoadsBelow runs owns place i old)
@@ -92,40 +97,45 @@ loads_one runs more owns place i x old new l ran put told = record {
   loaded = λ k below. loaded k (cases_eq k i) below;
   sized = put.sized ∙ l.sized;
   bytes = λ p below. bytes p below (cases_lt p (8 * i));
-  contents = λ s o k below. contents s o k below (cases_eq k i) }
+  contents = λ s o k below. contents s o k below (cases_eq k i);
+}
   where
     last : get_or (l.words ++ x ∷ []) i 0 ≡ x
     last = ap (λ (n : ℕ). get_or (l.words ++ x ∷ []) n 0) (sym l.count)
         ∙ get_or-append_seam l.words x [] 0
+
     earlier : (k : ℕ) → k < i → get_or (l.words ++ x ∷ []) k 0 ≡ get_or l.words k 0
     earlier k below = get_or_append_left l.words (x ∷ []) 0 k (omega (arith, below, l.count))
+
     loaded : (k : ℕ) → (k ≡ i) ⊎ (k ≢ i) → k < length (l.words ++ x ∷ [])
         → IsLoaded (place + k) (get_or (l.words ++ x ∷ []) k 0)
-          (l.events ++ Loaded (place + i) x ∷ [])
+        (l.events ++ Loaded (place + i) x ∷ [])
     loaded k (inl e) below = subst (λ (n : ℕ). IsLoaded (place + n) (get_or (l.words ++ x ∷ []) n 0)
         (l.events ++ Loaded (place + i) x ∷ [])) (sym e)
-      (subst (λ (y : ℕ). IsLoaded (place + i) y (l.events ++ Loaded (place + i) x ∷ [])) (sym last)
+        (subst (λ (y : ℕ). IsLoaded (place + i) y (l.events ++ Loaded (place + i) x ∷ [])) (sym last)
         (loaded_last l.events (place + i) x))
     loaded k (inr off) below =
         let n = length-append l.words (x ∷ []) in
         let less : k < i = omega (arith, below, n, l.count, off) in
         subst (λ (y : ℕ). IsLoaded (place + k) y (l.events ++ Loaded (place + i) x ∷ []))
-          (sym (earlier k less))
-          (loaded_before l.events (Loaded (place + i) x ∷ []) (place + k) (get_or l.words k 0)
-            (l.loaded k (omega (arith, less, l.count))))
+        (sym (earlier k less))
+        (loaded_before l.events (Loaded (place + i) x ∷ []) (place + k) (get_or l.words k 0)
+        (l.loaded k (omega (arith, less, l.count))))
+
     bytes : (p : ℕ) → p < 8 * (i + 1) → (p < 8 * i) ⊎ (8 * i ≤ p)
         → get_or new p 0 ≡ byte_at (l.words ++ x ∷ []) p
     bytes p below (inl less) = put.outside p (inl less) ∙ l.bytes p less
         ∙ ap (λ (w : ℕ). get_or (to_le_bytes w64 w) (p % 8) 0)
-          (sym (earlier (p / 8) (omega (arith, less))))
+        (sym (earlier (p / 8) (omega (arith, less))))
     bytes p below (inr more) =
         let j = p % 8 in
         let at : p / 8 ≡ i = omega (arith, below, more) in
         let split : 8 * i + j ≡ p = omega (arith, at) in
         let low : j < 8 = omega arith in
         ap (λ (q : ℕ). get_or new q 0) (sym split) ∙ put.inside j low
-          ∙ ap (λ (w : ℕ). get_or (to_le_bytes w64 w) j 0)
-            (sym (ap (λ (n : ℕ). get_or (l.words ++ x ∷ []) n 0) at ∙ last))
+        ∙ ap (λ (w : ℕ). get_or (to_le_bytes w64 w) j 0)
+        (sym (ap (λ (n : ℕ). get_or (l.words ++ x ∷ []) n 0) at ∙ last))
+
     contents : (s : Shown) → owns s → (k : ℕ) → k < i + 1 → (k ≡ i) ⊎ (k ≢ i)
         → get_or (l.words ++ x ∷ []) k 0 ≡ get_or s.memory (place + k) 0
     contents s o k below (inl e) = ap (λ (n : ℕ). get_or (l.words ++ x ∷ []) n 0) e ∙ last
@@ -139,19 +149,23 @@ pub loads_all : (runs : List Event → Type 0) (owns : Shown → Type 0) (place 
     → Loads runs owns place len into
 unfolding bytes_in
 loads_all runs owns place len i into same short l = record {
-  events = l.events; ran = l.ran; loads = l.loads; words = l.words;
+  events = l.events;
+  ran = l.ran;
+  loads = l.loads;
+  words = l.words;
   count = l.count ∙ same;
   loaded = l.loaded;
   bytes = ext_get_or 0 (take len into) (map (byte_at l.words) (range_with_len 0 len))
-    (taken ∙ sym (length-map-range_with_len (byte_at l.words) 0 len))
-    (λ k below. get_or-take len into k 0 (omega (arith, below, taken))
+      (taken ∙ sym (length-map-range_with_len (byte_at l.words) 0 len))
+      (λ k below. get_or-take len into k 0 (omega (arith, below, taken))
       ∙ l.bytes k (omega (arith, below, taken, same))
       ∙ sym (get_or-map-range_with_len (byte_at l.words) 0 len k k 0 (omega (arith, below, taken))
-        (omega arith)));
+      (omega arith)));
   contents = λ s o. ext_get_or 0 l.words (window s.memory place (words_for len))
-    (l.count ∙ same ∙ sym (window_length s.memory place (words_for len)))
-    (λ k below. l.contents s o k (omega (arith, below, l.count))
-      ∙ sym (window_at s.memory place (words_for len) k (omega (arith, below, l.count, same)))) }
+      (l.count ∙ same ∙ sym (window_length s.memory place (words_for len)))
+      (λ k below. l.contents s o k (omega (arith, below, l.count))
+      ∙ sym (window_at s.memory place (words_for len) k (omega (arith, below, l.count, same))));
+}
   where
     taken : length (take len into) ≡ len
     taken = length-take-le len into (omega (arith, short, l.sized))

@@ -7,3 +7,4 @@ pub mod FreeRule
 pub mod FreeEnds
 pub mod ReadRule
 pub mod Loads
+pub mod ReadEnds

@@ -1,5 +1,5 @@
 -- The bytes of an object, as its words were read.
-use Rattle.std.specs.Prelude.{◌≡◌, ℕ, ◌+◌, ◌<◌, List, length, take}
+use Rattle.std.specs.Prelude.{◌≡◌, ℕ, List, length, take}
 use Rattle.cb_world.specs.declared.event.Event.{Event}
 use Rattle.cb_world.specs.declared.shown.Shown.{Shown}
 use Rattle.cb_world.specs.Memory.{window, words_for, bytes_in}

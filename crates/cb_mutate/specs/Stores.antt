@@ -1,4 +1,4 @@
--- Events at memory words, and a write that is done as far as some byte.
+-- Events at memory words.
 use Rattle.std.specs.Prelude.{List, [], ◌∷◌}
 use Rattle.cb_world.specs.declared.event.Event.{Event}
 use Rattle.cb_world.specs.declared.event.Event.TheVariants.{Loaded, Stored}

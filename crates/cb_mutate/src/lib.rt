@@ -5,8 +5,10 @@ mod freeing;
 mod loading;
 mod merge;
 mod overwriting;
+mod reading;
 mod refusing;
 mod writing;
 
 pub use freeing::free;
+pub use reading::read;
 pub use writing::write;

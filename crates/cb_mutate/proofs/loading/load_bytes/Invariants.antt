@@ -1,6 +1,3 @@
-use Rattle.std.proofs.Common.{ℕ, List}
-use Rattle.cb_world.specs.declared.event.Event.{Event}
-use Rattle.cb_world.specs.declared.shown.Shown.{Shown}
 use Rattle.cb_world.specs.Claimed.{OwnsAll}
 use Rattle.cb_mutate.proofs.Loaded.{LoadsBelow}
 use Rattle.cb_mutate.proofs.loading.load_bytes.Given as goal

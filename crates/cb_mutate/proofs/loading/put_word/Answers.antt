@@ -1,4 +1,4 @@
-use Rattle.std.proofs.Common.{rules, ◌≡◌, ℕ, ◌+◌, ◌-◌, ◌*◌, ◌<◌, ◌≤◌, List, ◌++◌, length, get_or, ap, ◌∙◌, arith}
+use Rattle.std.proofs.Common.{rules, ◌≡◌, ℕ, ◌+◌, ◌-◌, ◌*◌, List, get_or, ap, ◌∙◌}
 use Rattle.std.proofs.lemmas.List.{places, get_or_append_left}
 use Rattle.std.specs.Int.{to_le_bytes, w64}
 use borrow.Rule.Slice.PartMut.{put_mid}
@@ -10,6 +10,6 @@ returns-clause-inside c = λ j below.
     let k = 8 * c.args.i + 8 - 8 * c.args.i in
     let buf = c.write_u64.new.buf in
     let placed : get_or (put_mid a k c.args.into.now buf) (a + j) 0 ≡ get_or buf j 0 =
-        search (rules, places) in
+    search (rules, places) in
     placed ∙ ap (λ (l : List ℕ). get_or l j 0) c.write_u64.ensures
-      ∙ get_or_append_left (to_le_bytes w64 c.args.word) _ 0 j below
+    ∙ get_or_append_left (to_le_bytes w64 c.args.word) _ 0 j below
