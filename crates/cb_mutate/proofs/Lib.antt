@@ -3,3 +3,6 @@ pub mod Settling
 pub mod Written
 pub mod Emptied
 pub mod Freed
+pub mod Loaded
+pub mod SettledHot
+pub mod ReadAfter

@@ -5,3 +5,6 @@ pub mod WriteRule
 pub mod WriteEnds
 pub mod FreeRule
 pub mod FreeEnds
+pub mod ReadRule
+pub mod Loads
+pub mod ReadEnds

@@ -2,10 +2,6 @@
 use Rattle.std.specs.Prelude.{◌≡◌, ◌⊎◌, ℕ, ◌+◌, ◌-◌, ◌<◌, ◌≤◌, List, length, slice_index}
 use Rattle.std.specs.Int.{to_le_bytes, w64}
 
--- the byte j of a word
-abbrev pub byte_of : ℕ → ℕ → ℕ
-byte_of word j = slice_index (to_le_bytes w64 word) j
-
 -- the bytes below n, of eight that begin at the byte `first` of an object, with one write
 pub record IsMixed (n : ℕ) (old : List ℕ) (first at : ℕ) (bytes : List ℕ) (new : List ℕ) : Type 0
   where

@@ -1,4 +1,4 @@
--- Events at memory words, and a write that is done as far as some byte.
+-- Events at memory words.
 use Rattle.std.specs.Prelude.{List, [], ◌∷◌}
 use Rattle.cb_world.specs.declared.event.Event.{Event}
 use Rattle.cb_world.specs.declared.event.Event.TheVariants.{Loaded, Stored}
@@ -9,3 +9,9 @@ AreStores [] = Unit {0}
 AreStores (Loaded p x ∷ es) = AreStores es
 AreStores (Stored p x ∷ es) = AreStores es
 AreStores (e ∷ es) = ⊥
+
+-- every event reads a memory word
+abbrev pub AreLoads : List Event → Type 0
+AreLoads [] = Unit {0}
+AreLoads (Loaded p x ∷ es) = AreLoads es
+AreLoads (e ∷ es) = ⊥

@@ -2,10 +2,13 @@
 #![tactic(auto)]
 
 mod freeing;
+mod loading;
 mod merge;
 mod overwriting;
+mod reading;
 mod refusing;
 mod writing;
 
 pub use freeing::free;
+pub use reading::read;
 pub use writing::write;

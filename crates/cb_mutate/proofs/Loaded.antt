@@ -1,0 +1,171 @@
+-- The words of an object are read one after the other.
+use Rattle.std.proofs.Common.{◌≡◌, ◌≢◌, ◌⊎◌, ℕ, ◌+◌, ◌*◌, ◌/◌, ◌%◌, ◌<◌, ◌≤◌, List, [], ◌∷◌, ◌++◌, length, get_or, take, map, sym, refl, ap, ◌∙◌, subst, arith, inl, inr}
+use Rattle.std.proofs.lemmas.Bool.{cases_eq, cases_lt}
+use Rattle.std.proofs.lemmas.List.{ext_get_or, get_or-take, get_or_append_left, length-append, length-take-le}
+use Rattle.std.proofs.lemmas.List.FromFn.{get_or-map-range_with_len, length-map-range_with_len}
+use Rattle.std.proofs.Math.Seq.{get_or-append_seam}
+use Rattle.std.specs.Int.{to_le_bytes, w64}
+use Rattle.std.specs.List.{range_with_len}
+use Rattle.cb_world.specs.declared.event.Event.{Event}
+use Rattle.cb_world.specs.declared.event.Event.TheVariants.{Loaded}
+use Rattle.cb_world.specs.declared.shown.Shown.{Shown}
+use Rattle.cb_world.specs.Memory.{window, words_for, byte_at, bytes_in}
+use Rattle.cb_world.specs.Shown.{Owns}
+use Rattle.cb_world.specs.Played.{played, Agree}
+use Rattle.cb_world.specs.StillDesk.{window_length}
+use Rattle.cb_world.proofs.Tracing.{agree_last}
+use Rattle.cb_world.proofs.Windows.{window_at}
+use Rattle.cb_mutate.specs.Stores.{AreLoads}
+use Rattle.cb_mutate.specs.ReadRule.{IsLoaded, AreLoaded}
+use Rattle.cb_mutate.specs.Loads.{Loads}
+
+-- the first i words were read, and their bytes stand in front
+pub record LoadsBelow (runs : List Event → Type 0) (owns : Shown → Type 0) (place i : ℕ)
+    (into : List ℕ) : Type 0 where
+  pub events : List Event
+  pub ran : runs events
+  pub loads : AreLoads events
+  pub words : List ℕ
+  pub count : length words ≡ i
+  pub loaded : AreLoaded place words events
+  pub sized : length into ≡ 1024
+  pub bytes : (p : ℕ) → p < 8 * i → get_or into p 0 ≡ byte_at words p
+  pub contents : (s : Shown) → owns s → (k : ℕ) → k < i
+      → get_or words k 0 ≡ get_or s.memory (place + k) 0
+
+loads_more : (es : List Event) (p x : ℕ) → AreLoads es → AreLoads (es ++ Loaded p x ∷ [])
+loads_more [] p x a = tt
+loads_more (Loaded q y ∷ es) p x a = loads_more es p x a
+loads_more (e ∷ es) p x a = absurd a
+
+loaded_before : (es fs : List Event) (p x : ℕ) → IsLoaded p x es → IsLoaded p x (es ++ fs)
+loaded_before [] fs p x a = absurd a
+loaded_before (Loaded q y ∷ es) fs p x (inl a) = inl (loaded_before es fs p x a)
+loaded_before (Loaded q y ∷ es) fs p x (inr a) = inr a
+loaded_before (e ∷ es) fs p x a = loaded_before es fs p x a
+
+pub loaded_last : (es : List Event) (p x : ℕ) → IsLoaded p x (es ++ Loaded p x ∷ [])
+loaded_last [] p x = inr (refl, refl)
+loaded_last (Loaded q y ∷ es) p x = inl (loaded_last es p x)
+loaded_last (e ∷ es) p x = loaded_last es p x
+
+pub loads_keep : (es : List Event) (s : Shown) → AreLoads es → played es s ≡ s
+loads_keep [] s a = refl
+loads_keep (Loaded p x ∷ es) s a = loads_keep es s a
+loads_keep (e ∷ es) s a = absurd a
+
+-- the last word that was read is that of the memory, where the reader owns it
+pub loaded_agrees : (es : List Event) (s : Shown) (p x : ℕ) → AreLoads es
+    → Agree s (es ++ Loaded p x ∷ []) → Owns s p → x ≡ get_or s.memory p 0
+loaded_agrees es s p x loads agree owned =
+    let at : played es s ≡ s = loads_keep es s loads in
+    let told : Owns (played es s) p → x ≡ get_or (played es s).memory p 0 =
+    (agree_last es (Loaded p x ∷ []) s agree).0 in
+    subst (λ (t : Shown). Owns t p → x ≡ get_or t.memory p 0) at told owned
+
+-- one word more was read, and its bytes were put behind the others
+pub record IsPutWord (old new : List ℕ) (i x : ℕ) : Type 0 where
+  pub inside : (j : ℕ) → j < 8 → get_or new (8 * i + j) 0 ≡ get_or (to_le_bytes w64 x) j 0
+  pub outside : (p : ℕ) → (p < 8 * i) ⊎ (8 * i + 8 ≤ p) → get_or new p 0 ≡ get_or old p 0
+  pub sized : length new ≡ length old
+
+pub loads_none : (runs : List Event → Type 0) (owns : Shown → Type 0) (place : ℕ) (into : List ℕ)
+    → runs [] → length into ≡ 1024 → LoadsBelow runs owns place 0 into
+loads_none runs owns place into ran sized = record {
+  events = [];
+  ran = ran;
+  loads = tt;
+  words = [];
+  count = refl;
+  loaded = λ i below. absurd (omega (arith, below));
+  sized = sized;
+  bytes = λ p below. absurd (omega (arith, below));
+  contents = λ s o k below. absurd (omega (arith, below));
+}
+
+pub loads_one : (runs more : List Event → Type 0) (owns : Shown → Type 0) (place i x : ℕ)
+    (old new : List ℕ) → (l : LoadsBelow runs owns place i old)
+    → more (l.events ++ Loaded (place + i) x ∷ []) → IsPutWord old new i x
+    → ((s : Shown) → owns s → x ≡ get_or s.memory (place + i) 0)
+    → LoadsBelow more owns place (i + 1) new
+loads_one runs more owns place i x old new l ran put told = record {
+  events = l.events ++ Loaded (place + i) x ∷ [];
+  ran = ran;
+  loads = loads_more l.events (place + i) x l.loads;
+  words = l.words ++ x ∷ [];
+  count = length-append l.words (x ∷ []) ∙ ap (λ (n : ℕ). n + 1) l.count;
+  loaded = λ k below. loaded k (cases_eq k i) below;
+  sized = put.sized ∙ l.sized;
+  bytes = λ p below. bytes p below (cases_lt p (8 * i));
+  contents = λ s o k below. contents s o k below (cases_eq k i);
+}
+  where
+    last : get_or (l.words ++ x ∷ []) i 0 ≡ x
+    last = ap (λ (n : ℕ). get_or (l.words ++ x ∷ []) n 0) (sym l.count)
+        ∙ get_or-append_seam l.words x [] 0
+
+    earlier : (k : ℕ) → k < i → get_or (l.words ++ x ∷ []) k 0 ≡ get_or l.words k 0
+    earlier k below = get_or_append_left l.words (x ∷ []) 0 k (omega (arith, below, l.count))
+
+    loaded : (k : ℕ) → (k ≡ i) ⊎ (k ≢ i) → k < length (l.words ++ x ∷ [])
+        → IsLoaded (place + k) (get_or (l.words ++ x ∷ []) k 0)
+        (l.events ++ Loaded (place + i) x ∷ [])
+    loaded k (inl e) below = subst (λ (n : ℕ). IsLoaded (place + n) (get_or (l.words ++ x ∷ []) n 0)
+        (l.events ++ Loaded (place + i) x ∷ [])) (sym e)
+        (subst (λ (y : ℕ). IsLoaded (place + i) y (l.events ++ Loaded (place + i) x ∷ [])) (sym last)
+        (loaded_last l.events (place + i) x))
+    loaded k (inr off) below =
+        let n = length-append l.words (x ∷ []) in
+        let less : k < i = omega (arith, below, n, l.count, off) in
+        subst (λ (y : ℕ). IsLoaded (place + k) y (l.events ++ Loaded (place + i) x ∷ []))
+        (sym (earlier k less))
+        (loaded_before l.events (Loaded (place + i) x ∷ []) (place + k) (get_or l.words k 0)
+        (l.loaded k (omega (arith, less, l.count))))
+
+    bytes : (p : ℕ) → p < 8 * (i + 1) → (p < 8 * i) ⊎ (8 * i ≤ p)
+        → get_or new p 0 ≡ byte_at (l.words ++ x ∷ []) p
+    bytes p below (inl less) = put.outside p (inl less) ∙ l.bytes p less
+        ∙ ap (λ (w : ℕ). get_or (to_le_bytes w64 w) (p % 8) 0)
+        (sym (earlier (p / 8) (omega (arith, less))))
+    bytes p below (inr more) =
+        let j = p % 8 in
+        let at : p / 8 ≡ i = omega (arith, below, more) in
+        let split : 8 * i + j ≡ p = omega (arith, at) in
+        let low : j < 8 = omega arith in
+        ap (λ (q : ℕ). get_or new q 0) (sym split) ∙ put.inside j low
+        ∙ ap (λ (w : ℕ). get_or (to_le_bytes w64 w) j 0)
+        (sym (ap (λ (n : ℕ). get_or (l.words ++ x ∷ []) n 0) at ∙ last))
+
+    contents : (s : Shown) → owns s → (k : ℕ) → k < i + 1 → (k ≡ i) ⊎ (k ≢ i)
+        → get_or (l.words ++ x ∷ []) k 0 ≡ get_or s.memory (place + k) 0
+    contents s o k below (inl e) = ap (λ (n : ℕ). get_or (l.words ++ x ∷ []) n 0) e ∙ last
+        ∙ told s o ∙ ap (λ (n : ℕ). get_or s.memory (place + n) 0) (sym e)
+    contents s o k below (inr off) = let less : k < i = omega (arith, below, off) in
+        earlier k less ∙ l.contents s o k less
+
+-- all words of the object were read
+pub loads_all : (runs : List Event → Type 0) (owns : Shown → Type 0) (place len i : ℕ)
+    (into : List ℕ) → i ≡ words_for len → len ≤ 1024 → LoadsBelow runs owns place i into
+    → Loads runs owns place len into
+unfolding bytes_in
+loads_all runs owns place len i into same short l = record {
+  events = l.events;
+  ran = l.ran;
+  loads = l.loads;
+  words = l.words;
+  count = l.count ∙ same;
+  loaded = l.loaded;
+  bytes = ext_get_or 0 (take len into) (map (byte_at l.words) (range_with_len 0 len))
+      (taken ∙ sym (length-map-range_with_len (byte_at l.words) 0 len))
+      (λ k below. get_or-take len into k 0 (omega (arith, below, taken))
+      ∙ l.bytes k (omega (arith, below, taken, same))
+      ∙ sym (get_or-map-range_with_len (byte_at l.words) 0 len k k 0 (omega (arith, below, taken))
+      (omega arith)));
+  contents = λ s o. ext_get_or 0 l.words (window s.memory place (words_for len))
+      (l.count ∙ same ∙ sym (window_length s.memory place (words_for len)))
+      (λ k below. l.contents s o k (omega (arith, below, l.count))
+      ∙ sym (window_at s.memory place (words_for len) k (omega (arith, below, l.count, same))));
+}
+  where
+    taken : length (take len into) ≡ len
+    taken = length-take-le len into (omega (arith, short, l.sized))

@@ -1,0 +1,185 @@
+-- The world after a read.
+use Rattle.std.proofs.Common.{◌≡◌, ℕ, zero, suc, true, false, ◌+◌, ◌<◌, List, [], ◌∷◌, ◌++◌, length, take, slice_index, sym, refl, ap, ◌∙◌, subst, arith, inl, inr, get_or-set_same, get_or-set_other}
+use Rattle.cb_ptr.specs.declared.word.State.{State}
+use Rattle.cb_ptr.specs.declared.word.State.TheVariants as state
+use Rattle.cb_ptr.specs.Word.{state_of, len_of, place_of, pins_of}
+use Rattle.cb_ptr.proofs.Laws.{here_bits}
+use Rattle.cb_types.specs.declared.reply.Reply.{Reply}
+use Rattle.cb_types.specs.declared.reply.Reply.TheVariants as answer
+use Rattle.cb_world.specs.declared.object.Object.{Object}
+use Rattle.cb_world.specs.declared.object.Object.TheVariants as is
+use Rattle.cb_world.specs.declared.event.Event.{Event}
+use Rattle.cb_world.specs.declared.event.Event.TheVariants.{Looked, Claimed, Loaded}
+use Rattle.cb_world.specs.declared.shown.Shown.{Shown}
+use Rattle.cb_world.specs.Shown.{Fits, object_at, hot_at}
+use Rattle.cb_world.specs.Played.{Agree, Agrees, played}
+use Rattle.cb_world.specs.Looks.{IsLook, NoLook, IsFound, IsTaken, AreLooks}
+use Rattle.cb_world.specs.Grasped.{IsFree}
+use Rattle.cb_world.specs.Still.{IsStill}
+use Rattle.cb_world.specs.FarState.{FarState}
+use Rattle.cb_world.specs.Sound.{Sound}
+use Rattle.cb_world.specs.Claimed.{with_settled}
+use Rattle.cb_world.proofs.Windows.{length_put}
+use Rattle.cb_world.proofs.Tracing.{agree_last, looks_played}
+use Rattle.cb_world.proofs.Kept.{claimed_from, lies_within}
+use Rattle.cb_world.proofs.Claimed.{lies}
+use Rattle.cb_world.proofs.AfterClaim.{IsAfterClaim}
+use Rattle.cb_world.proofs.AfterLook.{look_after, told_before, taken_before}
+use Rattle.cb_world.proofs.Beside.{sound_beside, put_beside}
+use Rattle.cb_mutate.specs.Answered.{EmptyAnswer, AnsweredAs}
+use Rattle.cb_mutate.specs.ReadRule.{IsLoaded, ReadHere, ReadEffect, IsShown}
+use Rattle.cb_mutate.specs.ReadEnds.{ReadEnds, IsWithin}
+use Rattle.cb_mutate.proofs.Written.{objects_back, claimed_words, absent_before}
+
+-- a claimed object that is settled hot is what it was
+hot_well : (far : FarState) (s t : Shown) (first done : List Event) (h w v version : ℕ)
+    (words into : List ℕ) → Sound s far → IsAfterClaim s h w v words first done
+    → ReadEnds h w version into done (played first s) v words t
+    → Sound t far × IsStill (first ++ done) s t
+hot_well far s t first done h w v version words into sound a x =
+    let u = with_settled (claimed_from s a.hots h w v words) h w true in
+    let all : t ≡ u = x.settled ∙ ap (λ (q : Shown). with_settled q h w true) a.at_claim in
+    let objects = objects_back s a.hots h w v words true a.here in
+    let count = claimed_words (played first s) h w v words a.claimed in
+    subst (λ (q : Shown). Sound q far × IsStill (first ++ done) s q) (sym all) (
+      sound_beside far s u h (len_of w) (place_of w) sound a.here refl objects
+          (length_put s.memory (place_of w) words)
+          (λ k other. get_or-set_other s.versions h k v 0 other)
+          (put_beside s.memory words (place_of w) (len_of w) count),
+      record {
+        objects = objects;
+        versions = sym a.versions;
+        memory = sym a.memory;
+        nothing = λ old. a.writes old ∙ x.nothing old;
+      },
+    )
+
+-- What holds after a read that began with a claim.
+pub record IsReadDone (far : FarState) (s t : Shown) (es : List Event) (h w version len : ℕ)
+    (into : List ℕ) : Type 0 where
+  pub sound : Sound t far
+  pub effect : IsShown h es s t
+  pub rule : ReadHere h es (answer.Bytes version (take len into)) w
+
+pub read_done : (far : FarState) (s t : Shown) (first done : List Event) (h w v version len : ℕ)
+    (words into : List ℕ) → Sound s far → IsAfterClaim s h w v words first done → IsFree w
+    → IsTaken h v words (first ++ done) → len ≡ len_of w → h < length (played first s).hots
+    → ReadEnds h w version into done (played first s) v words t
+    → IsReadDone far s t (first ++ done) h w version len into
+read_done far s t first done h w v version len words into sound a free taken e range x =
+    let y = hot_well far s t first done h w v version words into sound a x in record {
+      sound = y.0;
+      effect = record {
+        still = y.1;
+        hot = λ u found none. ap (λ (q : Shown). hot_at q h) x.settled
+            ∙ get_or-set_same (played first s).hots h true false range;
+      };
+      rule = inl (
+        free.1,
+        (
+          v,
+          words,
+          taken,
+          ap (λ (n : ℕ). answer.Bytes version (take n into)) e
+              ∙ (λ i. answer.Bytes (x.version_is i) (x.bytes i)),
+        ),
+      );
+    }
+
+loaded_later : (p x : ℕ) (es fs : List Event) → IsLoaded p x fs → IsLoaded p x (es ++ fs)
+loaded_later p x [] fs a = a
+loaded_later p x (Loaded q y ∷ es) fs a = inl (loaded_later p x es fs a)
+loaded_later p x (e ∷ es) fs a = loaded_later p x es fs a
+
+-- what is seen of a word that is not free is by what was told after the look too
+pub read_before : (q : State) (h w : ℕ) (es fs : List Event) (r : Reply)
+    → AnsweredAs q (ReadHere h fs r) w h fs r
+    → AnsweredAs q (ReadHere h (es ++ fs) r) w h (es ++ fs) r
+read_before state.Empty h w es fs r a = absent_before state.Empty h es fs r a
+read_before state.Far h w es fs r a = a
+read_before state.Moving h w es fs r a = a
+read_before state.Here h w es fs r (inl a) =
+    inl (a.0, (a.1.0, a.1.1, taken_before h a.1.0 a.1.1 es fs a.1.2, a.1.3))
+read_before state.Here h w es fs r (inr a) = inr (
+  a.0,
+  (
+    a.1.0,
+    a.1.1,
+    told_before h a.1.0 es fs a.1.2,
+    a.1.3,
+    (λ i below. loaded_later (place_of w + i) (slice_index a.1.1 i) es fs (a.1.4 i below)),
+    a.1.5,
+  ),
+)
+
+not_seen : (h w : ℕ) (es : List Event) → NoLook h es → IsFound h w es → ⊥
+not_seen h w [] none found = found
+not_seen h w (e ∷ es) none (inl found) = not_seen h w es none.1 found
+not_seen h w (e ∷ es) none (inr found) = none.0 w found.0
+
+same_look : (h v w : ℕ) (e : Event) → IsLook h v e → IsLook h w e → v ≡ w
+same_look h v w (Looked k x) a b = sym a.1 ∙ b.1
+same_look h v w (Claimed k x u words) a b = sym a.1 ∙ b.1
+same_look h v w e a b = absurd a
+
+-- the last look found one word
+found_once : (h v w : ℕ) (es : List Event) → IsFound h v es → IsFound h w es → v ≡ w
+found_once h v w [] a b = absurd a
+found_once h v w (e ∷ es) (inl a) (inl b) = found_once h v w es a b
+found_once h v w (e ∷ es) (inl a) (inr b) = absurd (not_seen h v es b.1 a)
+found_once h v w (e ∷ es) (inr a) (inl b) = absurd (not_seen h w es a.1 b)
+found_once h v w (e ∷ es) (inr a) (inr b) = same_look h v w e a.0 b.0
+
+read_empty : (v h : ℕ) (es : List Event) (s t : Shown) (r : Reply) → EmptyAnswer v r
+    → IsStill es s t → ReadEffect h r es s t
+read_empty zero h es s t r e still = subst (λ (q : Reply). ReadEffect h q es s t) (sym e) still
+read_empty (suc v) h es s t r e still = subst (λ (q : Reply). ReadEffect h q es s t) (sym e) still
+
+-- a read that found no free word changes nothing
+pub left_effect : (q : State) (h w : ℕ) (reads es : List Event) (s t : Shown) (r : Reply)
+    → state_of w ≡ q → (IsFree w → ⊥) → IsFound h w es
+    → AnsweredAs q (ReadHere h reads r) w h reads r → IsStill es s t → ReadEffect h r es s t
+left_effect state.Empty h w reads es s t r e busy found a still = read_empty a.0 h es s t r a.2 still
+left_effect state.Far h w reads es s t r e busy found a still =
+    subst (λ (q : Reply). ReadEffect h q es s t) (sym a) still
+left_effect state.Moving h w reads es s t r e busy found a still =
+    subst (λ (q : Reply). ReadEffect h q es s t) (sym a) still
+left_effect state.Here h w reads es s t r e busy found (inl a) still = absurd (busy (e, a.0))
+left_effect state.Here h w reads es s t r e busy found (inr a) still =
+    subst (λ (q : Reply). ReadEffect h q es s t) (sym a.1.5) (record {
+      still = still;
+      hot = λ u seen none.
+          absurd (busy (e, ap pins_of (found_once h w u es found seen) ∙ none));
+    })
+
+empty_here : state.Empty ≡ state.Here → ⊥
+empty_here e = cc
+
+moving_here : state.Moving ≡ state.Here → ⊥
+moving_here e = cc
+
+-- an object whose word was found here is here
+fits_here : (o : Object) (w : ℕ) → Fits o w → state_of w ≡ state.Here
+    → o ≡ is.Here (len_of w) (place_of w)
+fits_here (is.Empty v) w f e = absurd (empty_here (ap state_of (sym f) ∙ e))
+fits_here (is.Far len v words) w f e =
+    let bits = here_bits w e in absurd (omega (arith, f.0, bits))
+fits_here (is.Here len place) w f e = λ i. is.Here (sym f.1 i) (sym f.2 i)
+fits_here (is.Claimed len place v words) w f e = absurd (moving_here (sym f.4 ∙ e))
+
+-- a word that was seen here names words of the memory
+pub seen_within : (far : FarState) (s : Shown) (before : List Event) (h w size : ℕ) → Sound s far
+    → AreLooks h before → Agree s (look_after before h w) → state_of w ≡ state.Here
+    → length s.memory ≡ size → IsWithin w size
+seen_within far s before h w size sound looks agree here sized =
+    let p = looks_played h before s looks in
+    let a : Agrees (record s { hots = p.0 }) (Looked h w) =
+    subst (λ (t : Shown). Agrees t (Looked h w)) p.2 (agree_last before (Looked h w ∷ []) s agree).0
+    in
+    let object : object_at s h ≡ is.Here (len_of w) (place_of w) =
+    fits_here (object_at s h) w a.0 here in
+    let x = lies_within far s h (len_of w) (place_of w) sound.here
+    (lies s h (len_of w) (place_of w) object) in record {
+      short = x.1;
+      inside = omega (arith, x.0, sized);
+    }

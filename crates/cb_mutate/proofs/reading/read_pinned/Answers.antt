@@ -1,0 +1,22 @@
+use Rattle.std.proofs.Common.{◌≡◌, ◌∷◌, take, refl, subst, ◌∙◌, ap, inr}
+use Rattle.cb_ptr.specs.declared.word.PtrWord.{PtrWord}
+use Rattle.cb_world.specs.declared.event.Event.TheVariants.{Told}
+use Rattle.cb_world.specs.Memory.{words_for, bytes_in}
+use Rattle.cb_mutate.specs.ReadRule.{AreLoaded}
+use Rattle.cb_mutate.proofs.SettledHot.{loads_are_reads}
+use Rattle.cb_mutate.proofs.reading.read_pinned.Goals as goal
+
+pub returns : goal.returns
+returns g c =
+    let h = c.args.h.n in let x = c.version-version.result in
+    let l = c.load_bytes.ensures in let f = c.unpack-fields.ensures.fields in record {
+      events = Told h x ∷ l.events;
+      ran = g.met.D.Desk.more _ _ _ _ _ c.version-version.ensures l.ran;
+      reads = (refl, loads_are_reads h l.events l.loads);
+      told = inr (refl, refl);
+      words = l.words;
+      count = l.count ∙ ap (λ (p : PtrWord). words_for p.len) f;
+      loaded = subst (λ (p : PtrWord). AreLoaded p.place l.words l.events) f l.loaded;
+      bytes = subst (λ (p : PtrWord). take p.len c.load_bytes.new.into ≡ bytes_in l.words p.len) f
+          l.bytes;
+    }

@@ -1,0 +1,143 @@
+use Rattle.std.proofs.Common.{ℕ, ◌*◌, ◌<◌, ◌≤◌, List, [], ◌++◌, take, sym, refl, ap, subst}
+use Rattle.cb_types.specs.declared.config.Config.{Config}
+use Rattle.cb_types.specs.declared.reply.Reply.TheVariants as answer
+use Rattle.cb_ptr.specs.declared.word.State.{State}
+use Rattle.cb_ptr.specs.declared.word.PtrWord.{PtrWord}
+use Rattle.cb_ptr.specs.Word.{state_of}
+use Rattle.cb_world.specs.declared.event.Event.{Event}
+use Rattle.cb_world.specs.declared.shown.Shown.{Shown}
+use Rattle.cb_world.specs.Played.{played}
+use Rattle.cb_world.specs.Sound.{Sound}
+use Rattle.cb_world.proofs.AfterClaim.{claim_after, after_claim, claim_found, claim_taken, claim_first, claim_all_allowed}
+use Rattle.cb_world.proofs.AfterLook.{look_after, look_found, look_first, look_allowed, look_sound, look_still}
+use Rattle.cb_mutate.specs.Answered.{AnsweredAs}
+use Rattle.cb_mutate.specs.ReadRule.{ReadHere}
+use Rattle.cb_mutate.specs.ReadEnds.{ReadEnds, IsWithin, reply_of}
+use Rattle.cb_mutate.proofs.ReadAfter.{read_done, read_before, left_effect, seen_within}
+use Rattle.cb_mutate.proofs.reading.see.Goals as goal
+
+pub read_claimed-version-requires-clause-claimed : goal.read_claimed-version-requires-clause-claimed
+read_claimed-version-requires-clause-claimed g c =
+    let h = c.args.h.n in let w = c.in-Claimed.word in let got = c.in-Claimed.ensures in
+    let tried = got.2 in let v = tried.1 in let words = tried.2 in
+    let first = claim_after tried.0 h w v words in
+    let had = c.requires.sound in let s = had.0 in
+    let ran = subst (λ (l : List Event). g.D.Desk.run c.args.desk.now l c.try_claim.new.desk)
+    tried.3 got.1 in
+    let follows = g.met.D.Desk.follows _ _ first s ran had.1 in
+    let sized = g.met.D.Desk.sized _ s had.1 in (
+      played first s,
+      follows.1,
+      (
+        v,
+        words,
+        (after_claim c.args.far.now s tried.0 [] h w v words had.2.here
+            (subst (λ (n : ℕ). h < n) (sym sized.0) c.requires.handle)
+            (subst (λ (n : ℕ). h < n) (sym sized.2) c.requires.handle)
+            tried.4 tried.5 follows.0 (λ t. refl)).claimed,
+      ),
+    )
+
+pub see_left-requires-clause-within : goal.see_left-requires-clause-within
+see_left-requires-clause-within g c =
+    let h = c.args.h.n in let w = c.in-Left.word in let got = c.in-Left.ensures in
+    let tried = got.2 in let before = tried.0 in
+    let first = look_after before h w in
+    let ran = subst (λ (l : List Event). g.D.Desk.run c.args.desk.now l c.try_claim.new.desk)
+    tried.1 got.1 in
+    let had = c.requires.sound in let s = had.0 in
+    let follows = g.met.D.Desk.follows _ _ first s ran had.1 in
+    let sized = g.met.D.Desk.sized _ s had.1 in
+    let stays = g.met.D.Desk.stays _ _ _ ran in λ here.
+    subst (λ (q : Config). IsWithin w (512 * q.frames)) (sym stays)
+    (seen_within c.args.far.now s before h w _ had.2 tried.2 follows.0 here sized.3)
+
+pub returns-in-Claimed-clause-see : goal.returns-in-Claimed-clause-see
+returns-in-Claimed-clause-see g c =
+    let h = c.args.h.n in let w = c.in-Claimed.word in let got = c.in-Claimed.ensures in
+    let tried = got.2 in let before = tried.0 in let v = tried.1 in let words = tried.2 in
+    let first = claim_after before h w v words in
+    let ran = subst (λ (l : List Event). g.D.Desk.run c.args.desk.now l c.try_claim.new.desk)
+    tried.3 got.1 in
+    let rest = c.read_claimed-version.ensures in let done = rest.events in
+    let into = c.read_claimed-version.new.into in
+    let version = c.read_claimed-version.result in
+    let len = c.unpack-len.result.len in
+    let r = answer.Bytes version (take len into) in
+    let same = ap (λ (p : PtrWord). p.len) c.unpack-len.ensures.fields in
+    let found = claim_found before done h w v words rest.no_look in
+    let taken = claim_taken before done h w v words tried.4 in
+    let after = λ (s : Shown) (a : g.D.Desk.shows c.args.desk.now s)
+    (sound : Sound s c.args.far.now).
+    let follows = g.met.D.Desk.follows _ _ first s ran a in
+    let sized = g.met.D.Desk.sized _ s a in
+    after_claim c.args.far.now s before done h w v words sound.here
+    (subst (λ (n : ℕ). h < n) (sym sized.0) c.requires.handle)
+    (subst (λ (n : ℕ). h < n) (sym sized.2) c.requires.handle)
+    tried.4 tried.5 follows.0 rest.quiet in
+    let ended = λ (s : Shown) (a : g.D.Desk.shows c.args.desk.now s)
+    (sound : Sound s c.args.far.now).
+    let follows = g.met.D.Desk.follows _ _ first s ran a in
+    let stays = g.met.D.Desk.stays _ _ _ ran in
+    let sized = g.met.D.Desk.sized _ (played first s) follows.1 in
+    let x = after s a sound in
+    read_done c.args.far.now s (played (first ++ done) s) first done h w v version len words into
+    sound x tried.5 taken same
+    (subst (λ (n : ℕ). h < n) (sym sized.1)
+    (subst (λ (q : Config). h < q.handles) (sym stays) c.requires.handle))
+    (subst (λ (t : Shown). ReadEnds h w version into done (played first s) v words t)
+    (sym x.at_end) (rest.ends_so (played first s) v words (follows.1, x.claimed))) in
+    let had = c.requires.sound in record {
+      events = first ++ done;
+      ran = g.met.D.Desk.more _ _ _ _ _ ran rest.ran;
+      looks_first = claim_first before done h w v words tried.4 rest.no_look rest.looks_first;
+      rule = (
+        w,
+        found,
+        subst (λ (q : State). AnsweredAs q (ReadHere h (first ++ done) r) w h (first ++ done) r)
+            (sym tried.5.0) (ended had.0 had.1 had.2).rule,
+      );
+      allowed = λ s k. claim_all_allowed before done h w v words s tried.4
+          (rest.allowed (played first s) v words
+          ((g.met.D.Desk.follows _ _ first s ran k.0).1, (after s k.0 k.1).claimed));
+      sound_after = λ s k. (ended s k.0 k.1).sound;
+      effect = λ s k. (ended s k.0 k.1).effect;
+    }
+
+pub returns-in-Claimed-clause-short : goal.returns-in-Claimed-clause-short
+returns-in-Claimed-clause-short g c =
+    let h = c.args.h.n in let w = c.in-Claimed.word in let got = c.in-Claimed.ensures in
+    let tried = got.2 in let v = tried.1 in let words = tried.2 in
+    let first = claim_after tried.0 h w v words in
+    let had = c.requires.sound in let s = had.0 in
+    let ran = subst (λ (l : List Event). g.D.Desk.run c.args.desk.now l c.try_claim.new.desk)
+    tried.3 got.1 in
+    let follows = g.met.D.Desk.follows _ _ first s ran had.1 in
+    let sized = g.met.D.Desk.sized _ s had.1 in
+    let claimed = (after_claim c.args.far.now s tried.0 [] h w v words had.2.here
+    (subst (λ (n : ℕ). h < n) (sym sized.0) c.requires.handle)
+    (subst (λ (n : ℕ). h < n) (sym sized.2) c.requires.handle)
+    tried.4 tried.5 follows.0 (λ t. refl)).claimed in
+    subst (λ (n : ℕ). n ≤ 1024) (sym (ap (λ (p : PtrWord). p.len) c.unpack-len.ensures.fields))
+    claimed.short
+
+pub returns-in-Left-clause-see : goal.returns-in-Left-clause-see
+returns-in-Left-clause-see g c =
+    let h = c.args.h.n in let w = c.in-Left.word in let got = c.in-Left.ensures in
+    let tried = got.2 in let before = tried.0 in
+    let first = look_after before h w in
+    let ran = subst (λ (l : List Event). g.D.Desk.run c.args.desk.now l c.try_claim.new.desk)
+    tried.1 got.1 in
+    let rest = c.see_left.ensures.left in
+    let r = reply_of c.see_left.result c.see_left.new.into in
+    let found = look_found before rest.0 h w rest.2 in record {
+      events = first ++ rest.0;
+      ran = g.met.D.Desk.more _ _ _ _ _ ran rest.1;
+      looks_first = look_first before rest.0 h w tried.2 rest.2;
+      rule = (w, found, read_before (state_of w) h w first rest.0 r rest.3);
+      allowed = λ s k. look_allowed before rest.0 h w s tried.2 rest.2;
+      sound_after = λ s k. look_sound c.args.far.now s before rest.0 h w k.1 tried.2 rest.2;
+      effect = λ s k. left_effect (state_of w) h w rest.0 (first ++ rest.0) s
+          (played (first ++ rest.0) s) r refl tried.3 found rest.3
+          (look_still s before rest.0 h w tried.2 rest.2);
+    }
