@@ -1,6 +1,6 @@
 -- Which scripts there are, and which bytes spell one.
 use Rattle.std.specs.Prelude.{◌≡◌, ℕ, ◌+◌, ◌<◌, ◌≤◌, ◌⊎◌, List, [], ◌∷◌, ◌++◌, length, All}
-use Rattle.std.specs.List.{flat_map, AllByRecursion}
+use Rattle.std.specs.List.{AllByRecursion}
 use Rattle.cb_types.specs.Config.{IsAccepted}
 use Rattle.cb_types.specs.declared.request.Request.{Request}
 use Rattle.cb_types.specs.declared.request.Request.TheVariants.{Make, Read, Write, Free, Pin, Peek, Unpin, Filter, Crash, Join}
@@ -52,10 +52,6 @@ IsRequest nodes _ = Unit {0}
 abbrev pub names_made : Request → List (List ℕ)
 names_made (Make name bytes) = name ∷ []
 names_made _ = []
-
--- the names made on these lines, in order
-abbrev pub made : List Line → List (List ℕ)
-made lines = flat_map (λ l. names_made l.request) lines
 
 -- the request makes the name
 abbrev pub Makes : Request → List ℕ → Type 0

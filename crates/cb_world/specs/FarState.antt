@@ -12,8 +12,7 @@ use Rattle.cb_world.specs.Counts.{CountsState}
 
 -- the version that a make gives, and how many handles were made; free frames and the spans in the
 -- others; span-sets, homes of far objects, nodes and their membership; the batch that is leaving
--- and
--- the pair that is joining; and what is counted
+-- and the pair that is joining; and what is counted
 pub record FarState : Type 0 where
   pub first : ℕ
   pub made : ℕ
