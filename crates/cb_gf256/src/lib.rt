@@ -10,6 +10,7 @@ mod lanes;
 mod laws;
 mod no_memory;
 mod products;
+mod recovering;
 mod row;
 mod rows;
 mod sums;
