@@ -196,54 +196,6 @@ block_placed w at len targets v before now m block ascend inside within even roo
     (λ c k. get_or-put_chunk_above at row block c 0 (omega arith))
     h)
 
--- two blocks beside each other are put into the row at target m
-pub pair_placed : (at len : ℕ) (targets : List ℕ) (v : ℕ → ℕ → ℕ) (before now : List (List ℕ)) (m : ℕ) (low high : List ℕ) → IsStrictlyIncreasing targets → m < length targets
-    → get_or targets m 0 < length now → HaveLength len before → at + 64 ≤ len → length low ≡ 32 → length high ≡ 32
-    → ((l : ℕ) → l < 32 → get_or low l 0 ≡ v m l) → ((l : ℕ) → l < 32 → get_or high l 0 ≡ v m (32 + l))
-    → Placed 64 at targets v before now m
-    → Placed 64 at targets v before (with_row now (get_or targets m 0) (put_chunk (at + 32) (put_chunk at (row_at now (get_or targets m 0)) low) high)) (m + 1)
-pair_placed at len targets v before now m low high ascend inside within even room size_low size_high new_low new_high h =
-    let t = get_or targets m 0 in
-    let row = row_at now t in
-    let once = put_chunk at row low in
-    let next = put_chunk (at + 32) once high in
-    let lengths = kept_lengths len before now h.count h.lengths even in
-    let long : length row ≡ len = lengths t [] within in
-    let kept : length once ≡ length row = length-put_chunk at row low in
-    let same : length next ≡ len = length-put_chunk (at + 32) once high ∙ kept ∙ long in
-    subst (λ rows. Placed 64 at targets v before rows (m + 1)) (sym (with_row-set now t next (λ i d k. lengths i d k ∙ sym same) within))
-    (placed_more 64 at targets v before now m next ascend inside within (length-put_chunk (at + 32) once high ∙ kept)
-    (λ l k.
-    ⊎_elim
-    (λ below. get_or-put_chunk_below (at + 32) once high (at + l) 0 (omega arith) ∙ get_or-put_chunk_at at row low l 0 (omega arith) (omega arith) ∙ new_low l below)
-    (λ above.
-    let place : at + 32 + (l - 32) ≡ at + l = omega arith in
-    let place_in : 32 + (l - 32) ≡ l = omega arith in
-    subst (λ x. get_or next x 0 ≡ v m l) place
-    (get_or-put_chunk_at (at + 32) once high (l - 32) 0 (omega arith) (omega arith) ∙ new_high (l - 32) (omega arith) ∙ ap (v m) place_in))
-    (cases_lt l 32))
-    (λ c k. get_or-put_chunk_below (at + 32) once high c 0 (omega arith) ∙ get_or-put_chunk_below at row low c 0 k)
-    (λ c k. get_or-put_chunk_above (at + 32) once high c 0 (omega arith) ∙ get_or-put_chunk_above at row low c 0 (omega arith))
-    h)
-
--- two blocks of the sums, one after the other
-pub placed_pair : (at m : ℕ) (targets : List ℕ) (v : ℕ → ℕ → ℕ) (before mid now : List (List ℕ)) → Placed 32 at targets v before mid m → Placed 32 (at + 32) targets (λ j l. v j (32 + l)) mid now m → Placed 64 at targets v before now m
-placed_pair at m targets v before mid now a b = record {
-  count = b.count ∙ a.count;
-  lengths = λ i. b.lengths i ∙ a.lengths i;
-  placed = λ j l k q.
-      ⊎_elim
-      (λ below. b.front (get_or targets j 0) (at + l) (omega arith) ∙ a.placed j l k below)
-      (λ above.
-      let place : at + 32 + (l - 32) ≡ at + l = omega arith in
-      let place_in : 32 + (l - 32) ≡ l = omega arith in
-      subst (λ x. byte_at now (get_or targets j 0) x ≡ v j l) place (b.placed j (l - 32) k (omega arith) ∙ ap (v j) place_in))
-      (cases_lt l 32);
-  front = λ i c k. b.front i c (omega arith) ∙ a.front i c k;
-  back = λ i c k. b.back i c (omega arith) ∙ a.back i c (omega arith);
-  others = λ i apart. b.others i apart ∙ a.others i apart;
-}
-
 -- a byte is put into the row at target m
 pub byte_placed : (at len b : ℕ) (targets : List ℕ) (v : ℕ → ℕ → ℕ) (before now : List (List ℕ)) (m : ℕ) → IsStrictlyIncreasing targets → m < length targets
     → get_or targets m 0 < length now → HaveLength len before → at < len → b ≡ v m 0

@@ -49,8 +49,7 @@ fn kept_block_sums<const R: usize>(
     sums
 }
 
-/// Makes the sums and the copies in the whole blocks, from the last to the first. The answer is
-/// the column behind them.
+/// Makes the sums and the copies in the whole blocks, from the last to the first.
 fn restore_blocks<const R: usize>(
     out: &mut Rows,
     targets: &[u8],
@@ -58,7 +57,7 @@ fn restore_blocks<const R: usize>(
     rows: &Rows,
     sources: &[u8],
     len: usize,
-) -> usize
+)
     requires few { (R ≤ 4) × (length sources.now ≤ 16) }
     requires height { length factors.now ≡ R }
     requires width { HaveLength (length sources.now) factors.now }
@@ -69,93 +68,14 @@ fn restore_blocks<const R: usize>(
         × All (λ p. p < length out.old) targets.now }
     requires apart { AreApart sources.now targets.now }
     requires lengths { HaveLength len rows.now × HaveLength len out.old }
-    ensures end { result ≡ len / 32 * 32 }
-    ensures made { Restored factors.now (rows_at rows.now sources.now) targets.now sources.now
-        out.old out.new 0 result }
+    ensures { Restored factors.now (rows_at rows.now sources.now) targets.now sources.now
+        out.old out.new 0 (len / 32 * 32) }
 {
     for block in (0..len / BLOCK).rev() {
         let at = block * BLOCK;
         let sums = kept_block_sums::<R>(out, factors, rows, sources, at, len);
         put_sums::<R>(out, targets, at, sums, len);
     }
-    len / BLOCK * BLOCK
-}
-
-/// The same sums and copies for two blocks beside each other, so that a line of the memory is
-/// visited once. The registers hold both blocks of up to two sums.
-#[inline(always)]
-fn kept_pair_sums<const R: usize>(
-    out: &mut Rows,
-    factors: &Factors,
-    rows: &Rows,
-    sources: &[u8],
-    at: usize,
-    len: usize,
-) -> ([u8x32; R], [u8x32; R])
-    requires few { (R ≤ 4) × (length sources.now ≤ 16) }
-    requires height { R ≤ length factors.now }
-    requires width { HaveLength (length sources.now) factors.now }
-    requires ascending { IsStrictlyIncreasing sources.now }
-    requires sources { All (λ p. p < length rows.now) sources.now }
-    requires below { All (λ p. p < length out.old) sources.now }
-    requires lengths { HaveLength len rows.now × HaveLength len out.old }
-    requires inside { at + 64 ≤ len }
-    ensures first { (j : ℕ) → j < R
-        → HasLanes (row_at result.0 j) (λ l. combination (row_at factors.now j)
-        (rows_at rows.now sources.now) (at + l)) }
-    ensures second { (j : ℕ) → j < R
-        → HasLanes (row_at result.1 j) (λ l. combination (row_at factors.now j)
-        (rows_at rows.now sources.now) (at + 32 + l)) }
-    ensures kept { Placed 64 at sources.now
-        (λ i l. byte_at (rows_at rows.now sources.now) i (at + l))
-        out.old out.new (length sources.now) }
-{
-    let mut first = [u8x32::splat(0); R];
-    let mut second = [u8x32::splat(0); R];
-    for (i, position) in sources.iter().enumerate() {
-        let row = u32::from(*position);
-        let low = block_at(rows.row(row), at);
-        let high = block_at(rows.row(row), at + BLOCK);
-        let target = out.row_mut(row);
-        put_block(target, at, low);
-        put_block(target, at + BLOCK, high);
-        first = with_products::<R>(first, factors, i, low);
-        second = with_products::<R>(second, factors, i, high);
-    }
-    (first, second)
-}
-
-/// Makes the sums and the copies in the whole pairs of blocks, from the last to the first. The
-/// answer is the column behind them.
-fn restore_pairs<const R: usize>(
-    out: &mut Rows,
-    targets: &[u8],
-    factors: &Factors,
-    rows: &Rows,
-    sources: &[u8],
-    len: usize,
-) -> usize
-    requires few { (R ≤ 4) × (length sources.now ≤ 16) }
-    requires height { length factors.now ≡ R }
-    requires width { HaveLength (length sources.now) factors.now }
-    requires sources { All (λ p. p < length rows.now) sources.now }
-    requires targets { length targets.now ≡ R }
-    requires ascending { IsStrictlyIncreasing sources.now × IsStrictlyIncreasing targets.now }
-    requires below { All (λ p. p < length out.old) sources.now
-        × All (λ p. p < length out.old) targets.now }
-    requires apart { AreApart sources.now targets.now }
-    requires lengths { HaveLength len rows.now × HaveLength len out.old }
-    ensures end { result ≡ len / 64 * 64 }
-    ensures made { Restored factors.now (rows_at rows.now sources.now) targets.now sources.now
-        out.old out.new 0 result }
-{
-    for pair in (0..len / 64).rev() {
-        let at = pair * 64;
-        let (first, second) = kept_pair_sums::<R>(out, factors, rows, sources, at, len);
-        put_sums::<R>(out, targets, at, first, len);
-        put_sums::<R>(out, targets, at + BLOCK, second, len);
-    }
-    len / 64 * 64
 }
 
 /// The same for as many sums as there are rows of factors.
@@ -166,7 +86,7 @@ fn restore_whole_blocks(
     rows: &Rows,
     sources: &[u8],
     len: usize,
-) -> usize
+)
     requires few { length sources.now ≤ 16 }
     requires height { length targets.now ≡ length factors.now }
     requires width { HaveLength (length sources.now) factors.now }
@@ -177,14 +97,13 @@ fn restore_whole_blocks(
     requires apart { AreApart sources.now targets.now }
     requires lengths { HaveLength len rows.now × HaveLength len out.old }
     ensures height { length factors.now ≤ 4 }
-    ensures within { result ≤ len }
     ensures blocks { Restored factors.now (rows_at rows.now sources.now) targets.now sources.now
-        out.old out.new 0 result }
+        out.old out.new 0 (len / 32 * 32) }
 {
     match factors.height() {
         0 => restore_blocks::<0>(out, targets, factors, rows, sources, len),
-        1 => restore_pairs::<1>(out, targets, factors, rows, sources, len),
-        2 => restore_pairs::<2>(out, targets, factors, rows, sources, len),
+        1 => restore_blocks::<1>(out, targets, factors, rows, sources, len),
+        2 => restore_blocks::<2>(out, targets, factors, rows, sources, len),
         3 => restore_blocks::<3>(out, targets, factors, rows, sources, len),
         _ => restore_blocks::<4>(out, targets, factors, rows, sources, len),
     }
@@ -266,7 +185,8 @@ impl Rows {
             → row_at self.new i ≡ row_at self.old i }
     {
         let len = rows.row_len() as usize;
-        let from = restore_whole_blocks(self, targets, factors, rows, sources, len);
+        let from = len / BLOCK * BLOCK;
+        restore_whole_blocks(self, targets, factors, rows, sources, len);
         restore_rest(self, targets, factors, rows, sources, from, len);
     }
 }
