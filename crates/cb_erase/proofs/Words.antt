@@ -1,5 +1,5 @@
 -- The filled table is the table of weights: it restores code words, and makes code words of any present rows.
-use Rattle.std.proofs.Common.{◌≡◌, ◌≢◌, ℕ, ◌+◌, ◌<◌, ◌≤◌, ◌==◌, if◌then◌else◌, List, [], length, get_or, All, refl, sym, ap, subst, ◌∙◌, ⊎_elim, arith, cond}
+use Rattle.std.proofs.Common.{◌≡◌, ℕ, ◌+◌, ◌<◌, ◌≤◌, ◌==◌, if◌then◌else◌, List, [], length, get_or, All, refl, sym, ap, subst, ◌∙◌, ⊎_elim, arith, cond}
 use Rattle.std.proofs.lemmas.Bool.{cases_eq, eq-eqb, ne_eqb}
 use Rattle.std.proofs.lemmas.List.{same_lists, get_or_default, length-map, ext_get_or}
 use Rattle.std.proofs.lemmas.Grind.{same_number_lists}
@@ -180,13 +180,7 @@ pub record IsMade (k r : ℕ) (present lost : List ℕ) (table rows word : List 
   pub count : length word ≡ k + r
   pub lengths : HaveLength (length (row_at rows 0)) word
   pub sums : AreCombinations table (rows_at rows present) (rows_at word lost)
-  pub others : (i : ℕ) → All (λ t. t ≢ i) lost → row_at word i ≡ row_at rows i
-
--- a present row is kept
-kept_row : (k r : ℕ) (present lost : List ℕ) (table rows word : List (List ℕ)) → IsMade k r present lost table rows word → (i : ℕ) → i < k → row_at word (get_or present i 0) ≡ row_at rows (get_or present i 0)
-kept_row k r present lost table rows word h i l =
-    h.others (get_or present i 0)
-    (λ e d m same. h.split.apart i e l (omega (arith, h.lost_count)) (sym same ∙ get_or_default lost e d 0 m))
+  pub kept : (i : ℕ) → i < k → row_at word (get_or present i 0) ≡ row_at rows (get_or present i 0)
 
 pub made_solution : (k r : ℕ) (present lost : List ℕ) (table rows word : List (List ℕ)) → IsMade k r present lost table rows word → IsSolution k r present (rows_at rows present) word
 made_solution k r present lost table rows word h =
@@ -200,7 +194,7 @@ made_solution k r present lost table rows word h =
           (λ i column l m.
           let p = get_or present i 0 in
           let within : p < length rows = omega (arith, h.split.present_below i l, h.rows_count) in
-          omega (arith, ap (λ row. get_or row column 0) (kept_row k r present lost table rows word h i l), h.are_rows.bytes p [] within column 0 (omega (arith, h.are_rows.equal_lengths p [] within))))
+          omega (arith, ap (λ row. get_or row column 0) (h.kept i l), h.are_rows.bytes p [] within column 0 (omega (arith, h.are_rows.equal_lengths p [] within))))
           (λ e column l m.
           let own : e < length lost = omega (arith, h.lost_count) in
           let wide : length (row_at table e) ≡ k = h.width e [] (omega (arith, h.height)) in
@@ -208,12 +202,12 @@ made_solution k r present lost table rows word h =
           ∙ h.sums.values e column (omega (arith, h.height)) (omega arith)
           ∙ combination-rows_at k table rows present e column h.positions.count wide
           ∙ sum_over_same k (λ i. byte_at table e i ⊗ byte_at rows (get_or present i 0) column) (λ i. byte_at table e i ⊗ byte_at word (get_or present i 0) column)
-          (λ i q. ap (λ row. byte_at table e i ⊗ get_or row column 0) (sym (kept_row k r present lost table rows word h i q))));
+          (λ i q. ap (λ row. byte_at table e i ⊗ get_or row column 0) (sym (h.kept i q))));
       agrees =
           ext_get_or [] (rows_at word present) (rows_at rows present) (length-map present (row_at word) ∙ sym (length-map present (row_at rows)))
           (λ i l.
           let own : i < length present = omega (arith, length-map present (row_at word)) in
-          row_at-rows_at word present i own ∙ kept_row k r present lost table rows word h i (omega (arith, h.positions.count)) ∙ sym (row_at-rows_at rows present i own));
+          row_at-rows_at word present i own ∙ h.kept i (omega (arith, h.positions.count)) ∙ sym (row_at-rows_at rows present i own));
     }
 
 -- its rows are bytes
@@ -232,7 +226,7 @@ made_bytes k r present lost table rows word h p d l column z m =
     let own : get_or word p d ≡ row_at word p = get_or_default word p d [] l in
     ⊎_elim
     (λ (i, q, e).
-    let kept : row_at word p ≡ row_at rows p = subst (λ x. row_at word x ≡ row_at rows x) e (kept_row k r present lost table rows word h i q) in
+    let kept : row_at word p ≡ row_at rows p = subst (λ x. row_at word x ≡ row_at rows x) e (h.kept i q) in
     omega (arith, ap (λ row. get_or row column z) (own ∙ kept), h.are_rows.bytes p [] (omega (arith, h.count, h.rows_count)) column z (omega (arith, ap length (own ∙ kept)))))
     (λ (x, q, e).
     let in_lost : x < length lost = omega (arith, h.lost_count) in

@@ -25,8 +25,8 @@ pub fn solve(alloc: Global, k: u32, r: u32, rows: &Rows, present: &[u8]) -> Resu
     let positions = lost_positions(k, r, present);
     let lost = &positions[..r as usize];
     let factors = lost_factors(k, r, present, lost);
-    let mut word = rows.copy(alloc)?;
-    word.set_sums(lost, &factors, rows, present);
+    let mut word = Rows::new(alloc, k + r, rows.row_len())?;
+    word.restore(lost, &factors, rows, present);
     Ok(word)
 }
 

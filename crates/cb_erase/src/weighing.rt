@@ -9,7 +9,7 @@ ghost use Rattle.cb_erase.specs.Weights.{AreWeights};
 
 use crate::Weights;
 use crate::lost::lost_positions;
-use cb_gf256::lagrange_factor;
+use cb_gf256::{factor_by, own_inverse};
 
 /// The weights of the code with `k` data rows (1 to 16) and `r` parities (1 to 4), where the rows
 /// at the `k` positions `present` are there.
@@ -66,9 +66,10 @@ pub(crate) fn factor_row(present: &[u8], lost: &[u8], e: usize) -> [u8; 16]
         → IsLagrangeFactor (length lost.now) (λ m. slice_index lost.now m) e
         (slice_index present.now i) (slice_index result i) }
 {
+    let inverse = own_inverse(lost, e);
     let mut row = [0; 16];
     for (i, position) in present.iter().enumerate() {
-        row[i] = lagrange_factor(lost, e, *position);
+        row[i] = factor_by(lost, e, inverse, *position);
     }
     row
 }

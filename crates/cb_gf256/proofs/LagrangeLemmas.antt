@@ -31,7 +31,7 @@ difference-lt : (point : ℕ → ℕ) (e x m : ℕ) → x < 256 → point m < 25
 difference-lt point e x m h k =
     ⊎_elim (λ same. omega (arith, difference_own point e x m same)) (λ other. omega (arith, difference_other point e x m other, sum-lt x (point m) h k)) (cases_eq m e)
 
-differences-lt : (n : ℕ) (point : ℕ → ℕ) (e x : ℕ) → x < 256 → ((m : ℕ) → m < n → point m < 256) → differences n point e x < 256
+pub differences-lt : (n : ℕ) (point : ℕ → ℕ) (e x : ℕ) → x < 256 → ((m : ℕ) → m < n → point m < 256) → differences n point e x < 256
 differences-lt zero point e x h b = omega arith
 differences-lt (suc n) point e x h b =
     product-lt (differences n point e x) (difference point e x n) (differences-lt n point e x h (λ m k. b m (omega arith))) (difference-lt point e x n h (b n (omega arith)))

@@ -8,7 +8,8 @@ use Rattle.cb_gf256.specs.Combination.{combination, AreCombinations}
 use Rattle.std.proofs.Common.{All}
 use Rattle.std.proofs.lemmas.List.{length-map}
 use Rattle.cb_gf256.proofs.Summing.{row_at-rows_at}
-use Rattle.cb_gf256.specs.Placing.{Placed, Combined}
+use Rattle.cb_gf256.specs.Placing.{Placed, Combined, Restored, AreApart}
+use Rattle.std.proofs.lemmas.Grind.{same_number_lists}
 use Rattle.std.specs.Simd.Lanes.{put_chunk}
 use Rattle.std.proofs.lemmas.Simd.{length-put_chunk, get_or-put_chunk_at, get_or-put_chunk_below, get_or-put_chunk_above}
 use Rattle.cb_gf256.specs.Rows.{HaveLength}
@@ -102,6 +103,67 @@ combined_before table shown targets before now next w at m from to all e h p = r
   others = λ i apart. p.others i (λ j k. apart j (omega arith)) ∙ h.others i apart;
 }
 
+-- ---- sums beside copies
+pub restored_none : (table shown : List (List ℕ)) (targets sources : List ℕ) (rows : List (List ℕ)) (at : ℕ) → Restored table shown targets sources rows rows at at
+restored_none table shown targets sources rows at = record {
+  count = refl;
+  lengths = λ i. refl;
+  sums = λ j c h k l. absurd (omega arith);
+  kept = λ j c h k l. absurd (omega arith);
+  others = λ i h k. refl;
+}
+
+-- a block of the copies and then of the sums
+copied_columns : (shown : List (List ℕ)) (targets sources : List ℕ) (v : ℕ → ℕ → ℕ) (now mid next : List (List ℕ)) (w at m : ℕ) → m ≡ length targets → AreApart sources targets
+    → Placed w at sources (λ i l. byte_at shown i (at + l)) now mid (length sources) → Placed w at targets v mid next m
+    → (i c : ℕ) → i < length sources → at ≤ c → c < at + w → byte_at next (get_or sources i 0) c ≡ byte_at shown i c
+copied_columns shown targets sources v now mid next w at m all apart copied put i c k low high =
+    let place : at + (c - at) ≡ c = omega arith in
+    ap (λ row. get_or row c 0) (put.others (get_or sources i 0) (λ j l same. apart i j k (omega arith) (sym same)))
+    ∙ subst (λ x. byte_at mid (get_or sources i 0) x ≡ byte_at shown i x) place (copied.placed i (c - at) k (omega arith))
+
+-- the columns before those that are made
+pub restored_before : (table shown : List (List ℕ)) (targets sources : List ℕ) (before now mid next : List (List ℕ)) (w at m from to : ℕ) → m ≡ length targets → from ≡ at + w → AreApart sources targets
+    → Restored table shown targets sources before now from to
+    → Placed w at sources (λ i l. byte_at shown i (at + l)) now mid (length sources) → Placed w at targets (λ j l. combination (row_at table j) shown (at + l)) mid next m
+    → Restored table shown targets sources before next at to
+restored_before table shown targets sources before now mid next w at m from to all e apart h copied put = record {
+  count = put.count ∙ copied.count ∙ h.count;
+  lengths = λ i. put.lengths i ∙ copied.lengths i ∙ h.lengths i;
+  sums = λ j c k low high.
+      ⊎_elim
+      (λ below. block_columns table shown targets mid next w at m all put j c k low (omega arith))
+      (λ above. put.back (get_or targets j 0) c (omega arith) ∙ copied.back (get_or targets j 0) c (omega arith) ∙ h.sums j c k above high)
+      (cases_lt c from);
+  kept = λ i c k low high.
+      ⊎_elim
+      (λ below. copied_columns shown targets sources (λ j l. combination (row_at table j) shown (at + l)) now mid next w at m all apart copied put i c k low (omega arith))
+      (λ above. put.back (get_or sources i 0) c (omega arith) ∙ copied.back (get_or sources i 0) c (omega arith) ∙ h.kept i c k above high)
+      (cases_lt c from);
+  others = λ i out_of_targets out_of_sources. put.others i (λ j k. out_of_targets j (omega arith)) ∙ copied.others i out_of_sources ∙ h.others i out_of_targets out_of_sources;
+}
+
+-- the columns after those that are made
+pub restored_more : (table shown : List (List ℕ)) (targets sources : List ℕ) (before now mid next : List (List ℕ)) (w from at m to : ℕ) → m ≡ length targets → to ≡ at + w → AreApart sources targets
+    → Restored table shown targets sources before now from at
+    → Placed w at sources (λ i l. byte_at shown i (at + l)) now mid (length sources) → Placed w at targets (λ j l. combination (row_at table j) shown (at + l)) mid next m
+    → Restored table shown targets sources before next from to
+restored_more table shown targets sources before now mid next w from at m to all e apart h copied put = record {
+  count = put.count ∙ copied.count ∙ h.count;
+  lengths = λ i. put.lengths i ∙ copied.lengths i ∙ h.lengths i;
+  sums = λ j c k low high.
+      ⊎_elim
+      (λ below. put.front (get_or targets j 0) c below ∙ copied.front (get_or targets j 0) c below ∙ h.sums j c k low below)
+      (λ above. block_columns table shown targets mid next w at m all put j c k above (omega arith))
+      (cases_lt c at);
+  kept = λ i c k low high.
+      ⊎_elim
+      (λ below. put.front (get_or sources i 0) c below ∙ copied.front (get_or sources i 0) c below ∙ h.kept i c k low below)
+      (λ above. copied_columns shown targets sources (λ j l. combination (row_at table j) shown (at + l)) now mid next w at m all apart copied put i c k above (omega arith))
+      (cases_lt c at);
+  others = λ i out_of_targets out_of_sources. put.others i (λ j k. out_of_targets j (omega arith)) ∙ copied.others i out_of_sources ∙ h.others i out_of_targets out_of_sources;
+}
+
 -- the same with other words for the bytes
 pub placed_same : (w at m : ℕ) (targets : List ℕ) (u v : ℕ → ℕ → ℕ) (before now : List (List ℕ)) → ((j l : ℕ) → j < m → l < w → u j l ≡ v j l) → Placed w at targets u before now m → Placed w at targets v before now m
 placed_same w at m targets u v before now same h = record {
@@ -155,20 +217,41 @@ byte_placed at len b targets v before now m ascend inside within even room new h
     h)
 
 -- with all columns made, the rows at the targets are the combinations
-pub combinations_at : (table shown : List (List ℕ)) (targets : List ℕ) (before now : List (List ℕ)) (len : ℕ) → length targets ≡ length table → length (row_at shown 0) ≡ len
-    → All (λ p. p < length before) targets → HaveLength len before → Combined table shown targets before now 0 len → AreCombinations table shown (rows_at now targets)
-combinations_at table shown targets before now len height first below even h =
-    let lengths = kept_lengths len before now h.count h.lengths even in
+made_combinations : (table shown : List (List ℕ)) (targets : List ℕ) (before now : List (List ℕ)) (len : ℕ) → length targets ≡ length table → length (row_at shown 0) ≡ len
+    → All (λ p. p < length before) targets → HaveLength len before → length now ≡ length before → ((i : ℕ) → length (row_at now i) ≡ length (row_at before i))
+    → ((j c : ℕ) → j < length targets → c < len → byte_at now (get_or targets j 0) c ≡ combination (row_at table j) shown c) → AreCombinations table shown (rows_at now targets)
+made_combinations table shown targets before now len height first below even count same sums =
+    let lengths = kept_lengths len before now count same even in
     record {
       count = length-map targets (row_at now) ∙ height;
       equal_lengths = λ j d k.
           let within : j < length targets = omega (arith, length-map targets (row_at now)) in
           ap length (at_default (rows_at now targets) j d [] k ∙ row_at-rows_at now targets j within)
-          ∙ lengths (get_or targets j 0) [] (omega (arith, h.count, below j 0 within)) ∙ sym first;
+          ∙ lengths (get_or targets j 0) [] (omega (arith, count, below j 0 within)) ∙ sym first;
       values = λ j c k l.
           let within : j < length targets = omega arith in
-          ap (λ row. get_or row c 0) (row_at-rows_at now targets j within) ∙ h.sums j c within (omega arith) (omega arith);
+          ap (λ row. get_or row c 0) (row_at-rows_at now targets j within) ∙ sums j c within (omega arith);
     }
+
+pub combinations_at : (table shown : List (List ℕ)) (targets : List ℕ) (before now : List (List ℕ)) (len : ℕ) → length targets ≡ length table → length (row_at shown 0) ≡ len
+    → All (λ p. p < length before) targets → HaveLength len before → Combined table shown targets before now 0 len → AreCombinations table shown (rows_at now targets)
+combinations_at table shown targets before now len height first below even h =
+    made_combinations table shown targets before now len height first below even h.count h.lengths (λ j c k l. h.sums j c k (omega arith) l)
+
+pub restored_combinations : (table shown : List (List ℕ)) (targets sources : List ℕ) (before now : List (List ℕ)) (len : ℕ) → length targets ≡ length table → length (row_at shown 0) ≡ len
+    → All (λ p. p < length before) targets → HaveLength len before → Restored table shown targets sources before now 0 len → AreCombinations table shown (rows_at now targets)
+restored_combinations table shown targets sources before now len height first below even h =
+    made_combinations table shown targets before now len height first below even h.count h.lengths (λ j c k l. h.sums j c k (omega arith) l)
+
+-- with all columns made, the rows at the sources are those that were given
+pub restored_kept : (table rows : List (List ℕ)) (targets sources : List ℕ) (before now : List (List ℕ)) (len : ℕ) → All (λ p. p < length rows) sources → All (λ p. p < length before) sources
+    → HaveLength len rows → HaveLength len before → Restored table (rows_at rows sources) targets sources before now 0 len
+    → (i : ℕ) → i < length sources → row_at now (get_or sources i 0) ≡ row_at rows (get_or sources i 0)
+restored_kept table rows targets sources before now len inside below given even h i l =
+    let p = get_or sources i 0 in
+    let long : length (row_at now p) ≡ len = kept_lengths len before now h.count h.lengths even p [] (omega (arith, h.count, below i 0 l)) in
+    same_number_lists (row_at now p) (row_at rows p) (long ∙ sym (given p [] (inside i 0 l)))
+    (λ c k. h.kept i c l (omega arith) (omega arith) ∙ ap (λ row. get_or row c 0) (row_at-rows_at rows sources i l))
 
 -- the first row of all, and the first of those at some positions, are as long as all others
 pub source_rows : (rows : List (List ℕ)) (positions : List ℕ) (len : ℕ) → 0 < length positions → All (λ p. p < length rows) positions → HaveLength len rows

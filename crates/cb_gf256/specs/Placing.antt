@@ -24,3 +24,21 @@ pub record Combined (table shown : List (List ℕ)) (targets : List ℕ) (before
       → byte_at now (slice_index targets j) c ≡ combination (row_at table j) shown c
   pub others : (i : ℕ) → ((j : ℕ) → j < length targets → slice_index targets j ≢ i)
       → row_at now i ≡ row_at before i
+
+-- the same, and from the one column to before the other the rows at the sources are the shown ones
+pub record Restored (table shown : List (List ℕ)) (targets sources : List ℕ)
+    (before now : List (List ℕ)) (from to : ℕ) : Type 0 where
+  pub count : length now ≡ length before
+  pub lengths : (i : ℕ) → length (row_at now i) ≡ length (row_at before i)
+  pub sums : (j c : ℕ) → j < length targets → from ≤ c → c < to
+      → byte_at now (slice_index targets j) c ≡ combination (row_at table j) shown c
+  pub kept : (i c : ℕ) → i < length sources → from ≤ c → c < to
+      → byte_at now (slice_index sources i) c ≡ byte_at shown i c
+  pub others : (i : ℕ) → ((j : ℕ) → j < length targets → slice_index targets j ≢ i)
+      → ((j : ℕ) → j < length sources → slice_index sources j ≢ i)
+      → row_at now i ≡ row_at before i
+
+-- no source is a target
+abbrev pub AreApart : List ℕ → List ℕ → Type 0
+AreApart sources targets = (i j : ℕ) → i < length sources → j < length targets
+    → slice_index sources i ≢ slice_index targets j

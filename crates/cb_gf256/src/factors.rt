@@ -35,7 +35,7 @@ impl Factors {
     {
         let mut products = [[Products::of(0); 16]; 4];
         for j in 0..height as usize {
-            products[j] = products_of(&table[j], width as usize);
+            set_products(&mut products[j], &table[j], width as usize);
         }
         Factors {
             products,
@@ -73,15 +73,14 @@ impl Factors {
     }
 }
 
-/// The first `width` factors of a row.
-fn products_of(row: &[u8; 16], width: usize) -> [Products; 16]
+/// Sets the first `width` factors of a row.
+fn set_products(products: &mut [Products; 16], row: &[u8; 16], width: usize)
     requires { width ≤ 16 }
-    ensures count { length result ≡ 16 }
-    ensures factors { (i : ℕ) → i < width → slice_index result i ≡ slice_index row.now i }
+    ensures count { length products.new ≡ 16 }
+    ensures factors { (i : ℕ) → i < width
+        → slice_index products.new i ≡ slice_index row.now i }
 {
-    let mut products = [Products::of(0); 16];
     for i in 0..width {
         products[i] = Products::of(row[i]);
     }
-    products
 }

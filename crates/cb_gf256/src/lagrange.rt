@@ -1,9 +1,12 @@
 ghost use Rattle.std.specs.Prelude.{◌<◌, length, All, slice_index};
 ghost use Rattle.std.specs.Prelude.{◌≡◌};
 ghost use Rattle.std.specs.List.Sorted.{IsStrictlyIncreasing};
+ghost use Rattle.cb_gf256.specs.Product.{◌⊗◌};
+ghost use Rattle.cb_gf256.specs.Power.{power};
 ghost use Rattle.cb_gf256.specs.Lagrange.{differences, points, IsLagrangeFactor};
 
-use crate::field::{add, inv, mul, pow};
+use crate::field::{add, inv, mul};
+use crate::tables::power_of_two;
 
 /// The factor of the row at position `p` in the row at `lost[e]`, where the rows at the positions
 /// `lost` are restored from all others.
@@ -15,9 +18,30 @@ pub fn lagrange_factor(lost: &[u8], e: usize, p: u8) -> u8
     requires within { e < length lost.now }
     ensures { IsLagrangeFactor (length lost.now) (λ m. slice_index lost.now m) e p result }
 {
-    let own = product_of_differences(lost, e, pow(2, u32::from(lost[e])));
-    let here = product_of_differences(lost, e, pow(2, u32::from(p)));
-    mul(here, inv(own))
+    factor_by(lost, e, own_inverse(lost, e), p)
+}
+
+/// The inverse of what each factor in the row at `lost[e]` is divided by: of the product, over the
+/// other lost positions m, of 2^lost[e] - 2^m.
+pub fn own_inverse(lost: &[u8], e: usize) -> u8
+    requires ascending { IsStrictlyIncreasing lost.now }
+    requires below { All (λ m. m < 255) lost.now }
+    requires within { e < length lost.now }
+    ensures { differences (length lost.now) (points (λ m. slice_index lost.now m)) e
+        (power 2 (slice_index lost.now e)) ⊗ result ≡ 1 }
+{
+    inv(product_of_differences(lost, e, power_of_two(usize::from(lost[e]))))
+}
+
+/// The same factor as `lagrange_factor`, by the inverse that all factors in the row at `lost[e]`
+/// share.
+pub fn factor_by(lost: &[u8], e: usize, own_inverse: u8, p: u8) -> u8
+    requires inverse { differences (length lost.now) (points (λ m. slice_index lost.now m)) e
+        (power 2 (slice_index lost.now e)) ⊗ own_inverse ≡ 1 }
+    ensures { IsLagrangeFactor (length lost.now) (λ m. slice_index lost.now m) e p result }
+{
+    let here = product_of_differences(lost, e, power_of_two(usize::from(p)));
+    mul(here, own_inverse)
 }
 
 /// The product of `x` less the points 2^m, over all lost positions m but `lost[e]`.
@@ -27,7 +51,7 @@ fn product_of_differences(lost: &[u8], e: usize, x: u8) -> u8
     let mut product = 1;
     for (m, position) in lost.iter().enumerate() {
         if m != e {
-            product = mul(product, add(x, pow(2, u32::from(*position))));
+            product = mul(product, add(x, power_of_two(usize::from(*position))));
         }
     }
     product

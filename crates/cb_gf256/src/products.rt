@@ -77,7 +77,7 @@ fn multiplied(c: u8, block: u8x32) -> u8x32
     let mut sum = u8x32::splat(0);
     let mut doubling = block;
     for bit in 0..8u32 {
-        let mask = if (c >> bit) & 1 == 1 { 255 } else { 0 };
+        let mask = ((c >> bit) & 1) * 255;
         sum = add_blocks(sum, masked(doubling, mask));
         doubling = doubled(doubling);
     }

@@ -16,7 +16,7 @@ use std::simd::prelude::*;
 
 /// Adds to each of the sums a block, times its factor for place `i`.
 #[inline(always)]
-fn with_products<const R: usize>(
+pub(crate) fn with_products<const R: usize>(
     sums: [u8x32; R],
     factors: &Factors,
     i: usize,
@@ -66,7 +66,13 @@ fn block_sums<const R: usize>(
 
 /// Puts the blocks of the first `R` sums into the rows at the targets, from a place on.
 #[inline(always)]
-fn put_sums<const R: usize>(out: &mut Rows, targets: &[u8], at: usize, sums: [u8x32; R], len: usize)
+pub(crate) fn put_sums<const R: usize>(
+    out: &mut Rows,
+    targets: &[u8],
+    at: usize,
+    sums: [u8x32; R],
+    len: usize,
+)
     requires targets { length targets.now ≡ R }
     requires ascending { IsStrictlyIncreasing targets.now }
     requires below { All (λ p. p < length out.old) targets.now }
@@ -157,7 +163,7 @@ fn sum_at(factors: &Factors, j: usize, rows: &Rows, sources: &[u8], column: usiz
 }
 
 /// Makes one column of the sums.
-fn set_column(
+pub(crate) fn set_column(
     out: &mut Rows,
     targets: &[u8],
     factors: &Factors,

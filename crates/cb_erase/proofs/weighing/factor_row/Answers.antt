@@ -9,7 +9,7 @@ loop-i-preserved c =
     let lost = c.args.lost.now in
     let present = c.args.present.now in
     let i = c.loop-i.i in (
-      length-set c.loop-i.row i c.lagrange_factor.result ∙ c.loop-i.invariant.0,
-      placed_more (λ m x. IsLagrangeFactor (length lost) (λ y. get_or lost y 0) c.args.e (get_or present m 0) x) (λ m. m) c.loop-i.row i c.lagrange_factor.result 0
-          (omega (arith, c.loop-i.invariant.0, c.requires.few)) (λ m k s. omega arith) c.loop-i.invariant.1 c.lagrange_factor.ensures,
+      length-set c.loop-i.row i c.factor_by.result ∙ c.loop-i.invariant.0,
+      placed_more (λ m x. IsLagrangeFactor (length lost) (λ y. get_or lost y 0) c.args.e (get_or present m 0) x) (λ m. m) c.loop-i.row i c.factor_by.result 0
+          (omega (arith, c.loop-i.invariant.0, c.requires.few)) (λ m k s. omega arith) c.loop-i.invariant.1 c.factor_by.ensures,
     )

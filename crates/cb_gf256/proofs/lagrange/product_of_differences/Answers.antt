@@ -16,7 +16,7 @@ loop-m-preserved c =
       | then-m-e w ↦
           w.product-is
           ∙ w.mul-product.ensures
-          ∙ ap₂ ◌⊗◌ c.loop-m.invariant (w.add.ensures ∙ ap (λ v. c.args.x ⊕ v) (w.pow.ensures ∙ ap (power 2) w.from.ensures))
+          ∙ ap₂ ◌⊗◌ c.loop-m.invariant (w.add.ensures ∙ ap (λ v. c.args.x ⊕ v) (w.power_of_two.ensures ∙ ap (power 2) w.from.ensures))
           ∙ sym (differences-more_other c.loop-m.m point c.args.e c.args.x w.if-m-e.true)
       | else-m-e w ↦
           w.product-is

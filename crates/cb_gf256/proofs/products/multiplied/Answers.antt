@@ -1,4 +1,4 @@
-use Rattle.std.proofs.Common.{◌≡◌, ℕ, ◌/◌, ◌^◌, get_or, bit_and, cond, eqb, refl, sym, ap, ◌∙◌, arith}
+use Rattle.std.proofs.Common.{◌≡◌, ℕ, ◌/◌, ◌%◌, ◌*◌, ◌^◌, ◌≢◌, ⊎_elim, get_or, bit_and, cond, eqb, refl, sym, ap, ◌∙◌, arith}
 use Rattle.std.specs.Int.{bit_at}
 use Rattle.std.proofs.lemmas.Simd.{get_or-replicate}
 use Rattle.cb_gf256.specs.Sum.{◌⊕◌, sum_over}
@@ -8,16 +8,12 @@ use Rattle.cb_gf256.proofs.FieldLaws.{zero-product, product-lt}
 use Rattle.cb_gf256.proofs.PowerLaws.{one-product, power-zero, power-lt}
 use Rattle.cb_gf256.proofs.LaneLemmas.{lane_fits}
 use Rattle.cb_gf256.proofs.Halving.{named_power, named_powers, doubling_added, doubled_more}
-use Rattle.std.proofs.lemmas.Bool.{ne_eqb, eq-eqb}
+use Rattle.std.proofs.lemmas.Bool.{cases_eq, ne_eqb, eq-eqb}
 use Rattle.std.proofs.lemmas.Nat.{and_mask}
-use Rattle.cb_gf256.proofs.products.multiplied.Goals.{then-c-bit-eq1, else-c-bit-eq1}
 use Rattle.cb_gf256.proofs.products.multiplied.Goals as goal
 
-named_bit : (n i : ℕ) → bit_and (n / 2 ^ i) 1 ≡ 1 → bit_at n i ≡ 1
-named_bit n i e = sym (and_mask (n / 2 ^ i) 1) ∙ e
-
-other_bit : (n i : ℕ) → bit_at n i ≡ 1 → bit_and (n / 2 ^ i) 1 ≡ 1
-other_bit n i e = and_mask (n / 2 ^ i) 1 ∙ e
+zero_bit : (x : ℕ) → x % 2 ≢ 1 → x % 2 ≡ 0
+zero_bit x other = omega (arith, other)
 
 pub loop-bit-init : goal.loop-bit-init
 loop-bit-init c =
@@ -33,17 +29,19 @@ pub loop-bit-preserved : goal.loop-bit-preserved
 loop-bit-preserved c =
     let block = c.args.block in
     let i = c.loop-bit.bit in
-    let mask_is : c.if-c-bit-eq1.mask ≡ cond (eqb (bit_at c.args.c i) 1) 255 0 =
-    elim c.if-c-bit-eq1.branch [
-      | then-c-bit-eq1 w ↦ w.mask-is ∙ sym (ap (λ t. cond t 255 0) (eq-eqb (bit_at c.args.c i) 1 (named_bit c.args.c i w.if-c-bit-eq1.true)))
-      | else-c-bit-eq1 w ↦ w.mask-is ∙ sym (ap (λ t. cond t 255 0) (ne_eqb (bit_at c.args.c i) 1 (λ e. w.if-c-bit-eq1.false (other_bit c.args.c i e))))
-    ] in (
+    let bit = bit_at c.args.c i in
+    let is : bit_and (c.args.c / 2 ^ i) 1 ≡ bit = and_mask (c.args.c / 2 ^ i) 1 in
+    let mask_is : bit_and (c.args.c / 2 ^ i) 1 * 255 ≡ cond (eqb bit 1) 255 0 =
+    ⊎_elim
+    (λ one. ap (λ x. x * 255) (is ∙ one) ∙ sym (ap (λ t. cond t 255 0) (eq-eqb bit 1 one)))
+    (λ other. ap (λ x. x * 255) (is ∙ zero_bit (c.args.c / 2 ^ i) other) ∙ sym (ap (λ t. cond t 255 0) (ne_eqb bit 1 other)))
+    (cases_eq bit 1) in (
       record {
         count = c.add_blocks-sum.ensures.count;
         each = λ l h.
             c.add_blocks-sum.ensures.each l h
             ∙ ap (λ x. get_or c.loop-bit.sum l 0 ⊕ x) (c.masked.ensures.each l h)
-            ∙ doubling_added c.args.c i (get_or block l 0) (get_or c.loop-bit.sum l 0) (get_or c.loop-bit.doubling l 0) c.if-c-bit-eq1.mask
+            ∙ doubling_added c.args.c i (get_or block l 0) (get_or c.loop-bit.sum l 0) (get_or c.loop-bit.doubling l 0) (bit_and (c.args.c / 2 ^ i) 1 * 255)
             (c.loop-bit.invariant.0.each l h)
             (omega (arith, c.loop-bit.invariant.1.each l h, product-lt (power 2 i) (get_or block l 0) (power-lt 2 i (omega arith)) (lane_fits block c.fits-block.0 c.fits-block.1 l h)))
             (c.loop-bit.invariant.1.each l h) mask_is;

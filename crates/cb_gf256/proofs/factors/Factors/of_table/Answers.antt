@@ -10,11 +10,11 @@ pub loop-j-preserved : goal.loop-j-preserved
 loop-j-preserved c =
     let j = c.loop-j.j in
     let table = c.args.table.now in
-    let made = c.products_of.ensures in (
-      length-set c.loop-j.products j c.products_of.result ∙ c.loop-j.invariant.0,
-      All-set (λ row. length row ≡ 16) c.loop-j.products j c.products_of.result made.count c.loop-j.invariant.1,
+    let made = c.set_products.ensures in (
+      length-set c.loop-j.products j c.set_products.new.products ∙ c.loop-j.invariant.0,
+      All-set (λ row. length row ≡ 16) c.loop-j.products j c.set_products.new.products made.count c.loop-j.invariant.1,
       λ m i h k.
-          below_more_set (λ x row. (y : ℕ) → y < c.args.width → get_or row y 0 ≡ byte_at table x y) c.loop-j.products j c.products_of.result [] (omega arith)
+          below_more_set (λ x row. (y : ℕ) → y < c.args.width → get_or row y 0 ≡ byte_at table x y) c.loop-j.products j c.set_products.new.products [] (omega arith)
           (λ x p y q. c.loop-j.invariant.2 x y p q) (λ y q. made.factors y q) m h i k,
     )
 

@@ -1,7 +1,7 @@
 use Rattle.std.proofs.Common.{◌≡◌, get_or, arith, ◌∙◌}
 use Rattle.std.proofs.lemmas.List.{length-set}
 use Rattle.cb_gf256.proofs.Writes.{below_more_set}
-use Rattle.cb_gf256.proofs.factors.products_of.Goals as goal
+use Rattle.cb_gf256.proofs.factors.set_products.Goals as goal
 
 pub loop-i-preserved : goal.loop-i-preserved
 loop-i-preserved c =

@@ -1,5 +1,5 @@
 use Rattle.std.proofs.Common.{◌≡◌, ℕ, ◌<◌, length, slice_index}
-use Rattle.cb_gf256.proofs.factors.products_of.Given as goal
+use Rattle.cb_gf256.proofs.factors.set_products.Given as goal
 
 abbrev pub invariant-loop-i : goal.invariant-loop-i
 invariant-loop-i l = (length l.products ≡ 16) × ((m : ℕ) → m < l.i → slice_index l.products m ≡ slice_index l.row m)
