@@ -37,3 +37,4 @@ pub mod Beside
 pub mod SlotFinding
 pub mod Gone
 mod WorkedDesk
+mod WorkedWorld
