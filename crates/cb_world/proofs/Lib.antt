@@ -38,3 +38,4 @@ pub mod SlotFinding
 pub mod Gone
 mod WorkedDesk
 mod WorkedWorld
+mod WorkedFar

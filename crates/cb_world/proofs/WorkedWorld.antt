@@ -1,6 +1,6 @@
 -- Worked examples of the local part of the sound world: a world that meets it, and for each fact
 -- one that breaks it.
-use Rattle.std.proofs.Common.{◌≡◌, ◌↔◌, ℕ, zero, suc, ◌<◌, ◌≤◌, Bool, true, false, List, [], ◌∷◌, Option, None, Some, length, replicate, refl, subst, sym, ◌∙◌, lit<, lit≤, arith}
+use Rattle.std.proofs.Common.{◌≡◌, ◌↔◌, ℕ, zero, suc, ◌<◌, ◌≤◌, Bool, true, false, List, [], ◌∷◌, Option, None, Some, replicate, refl, subst, sym, ◌∙◌, lit<, lit≤, arith}
 use Rattle.std.proofs.lemmas.Bool.{agree_below_at, ltb-true}
 use Rattle.std.proofs.Math.Dec.{ltb}
 use Rattle.std.specs.FinMap as map
@@ -12,7 +12,6 @@ use Rattle.cb_node.specs.NodesState.{empty_nodes}
 use Rattle.cb_span.specs.declared.temp.Temp.TheVariants.{Cold}
 use Rattle.cb_span.specs.Contents.{Contents, IsSpan, handle_at, live_count, span_of}
 use Rattle.cb_span.specs.Places.{slot_place}
-use Rattle.cb_world.specs.declared.object.Object.{Object}
 use Rattle.cb_world.specs.declared.object.Object.TheVariants as is
 use Rattle.cb_world.specs.declared.shown.Shown.{Shown}
 use Rattle.cb_world.specs.Shown.{object_at, version_at, never}
@@ -65,7 +64,7 @@ class_of_1024 = record {
   least = λ smaller less.
       let test : ℕ → Bool = λ (i : ℕ). ltb (bytes_of (record { index = i })) 1024 in
       ltb-true (bytes_of smaller) 1024
-        (agree_below_at test (λ _. true) 11 smaller.index refl less);
+      (agree_below_at test (λ _. true) 11 smaller.index refl less);
 }
 
 second_slot : 128 ≡ slot_place largest 0 1
@@ -80,6 +79,7 @@ are_known = record { first = refl; made = made; stamped = stamped }
     made (suc zero) below = (λ most. absurd (omega (arith, most)), λ e. absurd (cc))
     made (suc (suc zero)) below = (λ most. refl, λ e. lit≤ tt)
     made (suc (suc (suc h))) below = absurd (omega (arith, below))
+
     stamped : (h : ℕ) → IsStamped (object_at known h) (version_at known h)
     stamped zero = tt
     stamped (suc zero) = refl
@@ -97,10 +97,12 @@ are_frames = record { sized = refl; free = free; valid = valid; taken = taken }
     free zero below = (λ e. absurd (cc), λ e. absurd (cc))
     free (suc zero) below = (λ e. refl, λ e. refl)
     free (suc (suc f)) below = absurd (omega (arith, below))
+
     valid : (f : ℕ) (x : Contents) → span_in far.spans f ≡ Some x → IsSpan x
     valid zero x e = subst IsSpan (some_same span x e) is_span
     valid (suc zero) x e = absurd (cc)
     valid (suc (suc f)) x e = absurd (cc)
+
     taken : (f : ℕ) (x : Contents) → span_in far.spans f ≡ Some x → 1 ≤ live_count x
     taken zero x e = subst (λ (y : Contents). 1 ≤ live_count y) (some_same span x e) (lit≤ tt)
     taken (suc zero) x e = absurd (cc)
@@ -123,6 +125,7 @@ are_placed = record { memory = refl; placed = placed; named = named }
     placed (suc zero) len place lies = absurd lies
     placed (suc (suc zero)) len place lies = absurd lies
     placed (suc (suc (suc h))) len place lies = absurd lies
+
     in_span : (slot h : ℕ) → handle_at span slot ≡ Some h → NamesObject known 0 slot h span
     in_span zero h e = absurd (cc)
     in_span (suc zero) h e =
@@ -131,6 +134,7 @@ are_placed = record { memory = refl; placed = placed; named = named }
     in_span (suc (suc zero)) h e = absurd (cc)
     in_span (suc (suc (suc zero))) h e = absurd (cc)
     in_span (suc (suc (suc (suc slot)))) h e = absurd (cc)
+
     named : (f slot h : ℕ) (x : Contents) → span_in far.spans f ≡ Some x
         → handle_at x slot ≡ Some h → NamesObject known f slot h x
     named zero slot h x e =
