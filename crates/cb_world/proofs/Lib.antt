@@ -36,6 +36,7 @@ pub mod AfterLook
 pub mod Beside
 pub mod SlotFinding
 pub mod Gone
+pub mod OpenSpans
 mod WorkedDesk
 mod WorkedWorld
 mod WorkedFar

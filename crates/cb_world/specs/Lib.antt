@@ -21,6 +21,7 @@ pub mod Stored
 pub mod Fetched
 pub mod Merged
 pub mod Join
+pub mod OpenSpans
 pub mod LocalSound
 pub mod FarSound
 pub mod Now
