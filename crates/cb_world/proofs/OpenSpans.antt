@@ -1,8 +1,10 @@
 -- The index of open spans stays exact as the span in one frame changes.
-use Rattle.std.proofs.Common.{◌≡◌, ◌≢◌, ℕ, ◌<◌, Bool, true, false, List, [], Option, None, Some, length, set, get_or, replicate, refl, sym, ap, ◌∙◌, subst, arith, inl, inr, length-set, get_or-set_other, get_or-set_same}
+use Rattle.std.proofs.Common.{◌≡◌, ◌≢◌, ℕ, ◌+◌, ◌<◌, ◌≤◌, Bool, true, false, List, [], Option, None, Some, length, set, get_or, replicate, refl, sym, ap, ◌∙◌, subst, arith, inl, inr, length-set, get_or-set_other, get_or-set_same}
 use Rattle.std.proofs.lemmas.Bool.{cases_eq, cases_lt, cases_Bool, eqb-true, eq-eqb}
 use Rattle.std.proofs.lemmas.List.{get_or_default, get_or-replicate, get_or_past, length-replicate}
-use Rattle.cb_frame.proofs.Laws.{contains-no_frames}
+use Rattle.std.specs.List.{Contains}
+use Rattle.cb_frame.specs.FrameSet.{least_from}
+use Rattle.cb_frame.proofs.Laws.{contains-no_frames, least_from-Some, least_from-None}
 use Rattle.std.specs.Prelude.{nat_eq}
 use Rattle.cb_frame.specs.FrameSet.{contains, no_frames}
 use Rattle.std.specs.Option.{IfSome}
@@ -12,7 +14,7 @@ use Rattle.cb_span.specs.Contents.{Contents, least_empty, live_count}
 use Rattle.cb_span.proofs.Laws.{least_empty_full, live_count-no_empty}
 use Rattle.cb_world.proofs.Apart.{some_same}
 use Rattle.cb_world.specs.FarState.{span_in}
-use Rattle.cb_world.specs.OpenSpans.{IsIndex, frames_of, with_flag, retold, is_kind, kind_if, kind_of, open_kind}
+use Rattle.cb_world.specs.OpenSpans.{IsIndex, IsOpen, MayTake, frames_of, with_flag, retold, is_kind, kind_if, kind_of, open_kind}
 
 -- one flag of one set is as said, and every other as it was
 record Flags (sets new : List (List Bool)) (n f : ℕ) (o : Option ℕ) (bit : Bool) : Type 0 where
@@ -199,3 +201,72 @@ kind_when_open o span class temp kind e room same_class same_temp is =
         → Some (kind_of span.class span.temp) ≡ open_kind (Some span)
     at None none = absurd (room (live_count-no_empty span none))
     at (Some slot) found = sym (ap (kind_if span) found)
+
+-- the set of a kind has the frames of the open spans of a class and temperature
+pub open_in : (spans : List (Option Contents)) (sets : List (List Bool)) (class : Class)
+    (temp : Temp) (kind f : ℕ) → IsIndex spans sets → kind < 24 → kind ≡ kind_of class temp
+    → contains (frames_of sets kind) f ≡ true → IsOpen spans class temp f
+open_in spans sets class temp kind f index low is e =
+    told_kind (open_kind (span_in spans f)) (sym (index.exact kind f low) ∙ e) ∙ ap Some is
+  where
+    told_kind : (o : Option ℕ) → is_kind o kind ≡ true → o ≡ Some kind
+    told_kind None e = absurd (cc)
+    told_kind (Some a) e = ap Some (same_kind a kind e)
+
+pub open_out : (spans : List (Option Contents)) (sets : List (List Bool)) (class : Class)
+    (temp : Temp) (kind f : ℕ) → IsIndex spans sets → kind < 24 → kind ≡ kind_of class temp
+    → contains (frames_of sets kind) f ≡ false → ¬ (IsOpen spans class temp f)
+open_out spans sets class temp kind f index low is e open' =
+    let t : is_kind (open_kind (span_in spans f)) kind ≡ true =
+    ap (λ (o : Option ℕ). is_kind o kind) (open' ∙ ap Some (sym is)) ∙ eq-eqb kind kind refl in
+    absurd (let z : false ≡ true = sym e ∙ index.exact kind f low ∙ t in cc)
+
+-- what a look from a start on finds
+pub looks_on : (spans : List (Option Contents)) (sets : List (List Bool)) (class : Class)
+    (temp : Temp) (except : List ℕ) (kind start f : ℕ) → IsIndex spans sets → kind < 24
+    → kind ≡ kind_of class temp → ((g : ℕ) → g < start → ¬ (MayTake spans class temp except g))
+    → least_from (frames_of sets kind) start ≡ Some f
+    → IsOpen spans class temp f × ((g : ℕ) → g < f → ¬ (MayTake spans class temp except g))
+looks_on spans sets class temp except kind start f index low is before e =
+    let x = least_from-Some (frames_of sets kind) start f e in (
+      open_in spans sets class temp kind f index low is x.1,
+      λ g below may. elim (cases_lt g start) [
+        | inl less ↦ before g less may
+        | inr from ↦ open_out spans sets class temp kind g index low is (x.2 g from below) may.0
+      ],
+    )
+
+pub looks_on_past : (spans : List (Option Contents)) (sets : List (List Bool)) (class : Class)
+    (temp : Temp) (except : List ℕ) (kind start f : ℕ) → IsIndex spans sets → kind < 24
+    → kind ≡ kind_of class temp → ((g : ℕ) → g < start → ¬ (MayTake spans class temp except g))
+    → least_from (frames_of sets kind) start ≡ Some f → Contains except f
+    → (g : ℕ) → g < f + 1 → ¬ (MayTake spans class temp except g)
+looks_on_past spans sets class temp except kind start f index low is before e among g below may =
+    elim (cases_eq g f) [
+      | inl same ↦ may.1 (subst (Contains except) (sym same) among)
+      | inr apart ↦ (looks_on spans sets class temp except kind start f index low is before e).1 g
+          (omega (arith, below, apart)) may
+    ]
+
+pub looks_no_more : (spans : List (Option Contents)) (sets : List (List Bool)) (class : Class)
+    (temp : Temp) (except : List ℕ) (kind start : ℕ) → IsIndex spans sets → kind < 24
+    → kind ≡ kind_of class temp → ((g : ℕ) → g < start → ¬ (MayTake spans class temp except g))
+    → least_from (frames_of sets kind) start ≡ None
+    → (g : ℕ) → ¬ (MayTake spans class temp except g)
+looks_no_more spans sets class temp except kind start index low is before e g may =
+    elim (cases_lt g start) [
+      | inl less ↦ before g less may
+      | inr from ↦ open_out spans sets class temp kind g index low is
+          (least_from-None (frames_of sets kind) start e g from) may.0
+    ]
+
+-- no frame past the last can be taken
+pub past_all : (spans : List (Option Contents)) (class : Class) (temp : Temp) (except : List ℕ)
+    (start : ℕ) → ((g : ℕ) → g < start → ¬ (MayTake spans class temp except g))
+    → length spans ≤ start → (g : ℕ) → ¬ (MayTake spans class temp except g)
+past_all spans class temp except start before past g may = elim (cases_lt g start) [
+  | inl less ↦ before g less may
+  | inr from ↦
+      let none : span_in spans g ≡ None = get_or_past spans g None (omega (arith, past, from)) in
+      absurd (let z : None ≡ Some (kind_of class temp) = sym (ap open_kind none) ∙ may.0 in cc)
+]

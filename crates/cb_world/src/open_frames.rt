@@ -52,6 +52,14 @@ impl OpenFrames {
         }
     }
 
+    /// How many frames there are, in the set of a kind or not.
+    pub fn count(&self, kind: u32) -> u32
+        requires { kind < length self.now }
+        ensures { result ≡ length (frames_of self.now kind) }
+    {
+        self.sets[kind as usize].count()
+    }
+
     /// The least frame in the set of a kind that is `start` or a greater one.
     pub fn least_from(&self, kind: u32, start: u32) -> Option<u32>
         requires { kind < length self.now }
