@@ -37,6 +37,7 @@ pub mod Beside
 pub mod SlotFinding
 pub mod Gone
 pub mod OpenSpans
+pub mod Empty
 mod WorkedDesk
 mod WorkedWorld
 mod WorkedFar

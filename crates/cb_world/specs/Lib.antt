@@ -29,6 +29,7 @@ pub mod SetAdded
 pub mod SwappedIn
 pub mod JoinSteps
 pub mod Sound
+pub mod Empty
 pub mod Performs
 pub mod Claimed
 pub mod Still
