@@ -36,4 +36,8 @@ pub mod AfterLook
 pub mod Beside
 pub mod SlotFinding
 pub mod Gone
+pub mod OpenSpans
+pub mod Empty
 mod WorkedDesk
+mod WorkedWorld
+mod WorkedFar

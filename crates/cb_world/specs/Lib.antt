@@ -21,6 +21,7 @@ pub mod Stored
 pub mod Fetched
 pub mod Merged
 pub mod Join
+pub mod OpenSpans
 pub mod LocalSound
 pub mod FarSound
 pub mod Now
@@ -28,6 +29,7 @@ pub mod SetAdded
 pub mod SwappedIn
 pub mod JoinSteps
 pub mod Sound
+pub mod Empty
 pub mod Performs
 pub mod Claimed
 pub mod Still

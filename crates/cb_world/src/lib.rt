@@ -12,6 +12,7 @@ pub mod homes;
 pub mod joining;
 pub mod leaving;
 pub mod object;
+mod open_frames;
 pub mod plain_desk;
 pub mod releasing;
 pub mod sets;

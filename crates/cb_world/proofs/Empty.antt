@@ -1,0 +1,137 @@
+-- The empty world is sound.
+use Rattle.std.proofs.Common.{◌≡◌, ℕ, ◌*◌, ◌<◌, true, false, List, Option, None, Some, get_or, replicate, refl, sym, ap, ◌∙◌, subst, arith, inl, inr}
+use Rattle.std.proofs.lemmas.Bool.{cases_lt}
+use Rattle.std.proofs.lemmas.List.{get_or-replicate, get_or_past, length-replicate}
+use Rattle.std.specs.FinMap as map
+use Rattle.std.specs.Ordering.{nat_cmp}
+use Rattle.cb_types.specs.declared.config.Config.{Config}
+use Rattle.cb_member.specs.declared.names.NodeId.{NodeId}
+use Rattle.cb_member.specs.declared.names.Shard.{Shard}
+use Rattle.cb_member.specs.Membership.{fresh_node}
+use Rattle.cb_member.proofs.Fresh.{fresh-IsMembership}
+use Rattle.cb_node.specs.NodesState.{row_at as row_under}
+use Rattle.cb_node.specs.Rows.{RowsByKey}
+use Rattle.cb_span.specs.Contents.{Contents}
+use Rattle.cb_world.specs.declared.object.Object.{Object}
+use Rattle.cb_world.specs.declared.object.Object.TheVariants as is
+use Rattle.cb_world.specs.Shown.{object_at, version_at, never}
+use Rattle.cb_world.specs.Sets.{set_in}
+use Rattle.cb_world.specs.Homes.{home_at}
+use Rattle.cb_world.specs.FarState.{span_in}
+use Rattle.cb_world.specs.LocalSound.{LocalSound, LiesAt, IsStamped}
+use Rattle.cb_world.specs.FarSound.{FarSound, IsShardOf, Owner}
+use Rattle.cb_world.specs.FarSound.Owner.{of_set, of_leaving, of_joining}
+use Rattle.cb_world.specs.Sound.{Sound}
+use Rattle.cb_world.specs.Now.{now, now_as, is_gone}
+use Rattle.cb_world.specs.Now.Now.{never as made_never}
+use Rattle.cb_world.specs.Empty.{empty_far, empty_shown}
+
+-- each read of a list of one value gives it
+reads_one : {A : Type 0} (n i : ℕ) (x : A) → get_or (replicate n x) i x ≡ x
+reads_one n i x = elim (cases_lt i n) [
+  | inl below ↦ get_or-replicate n i x x below
+  | inr past ↦ get_or_past (replicate n x) i x (omega (arith, past, length-replicate n x))
+]
+
+no_object : (c : Config) (h : ℕ) → object_at (empty_shown c) h ≡ never
+no_object c h = reads_one c.handles h never
+
+no_span : (c : Config) (f : ℕ) → span_in (empty_far c).spans f ≡ None
+no_span c f = reads_one c.frames f None
+
+no_home : (c : Config) (h : ℕ) → home_at (empty_far c).homes h ≡ None
+no_home c h = reads_one c.handles h None
+
+no_set : (c : Config) (id : ℕ) → set_in (empty_far c).sets id ≡ None
+no_set c id = grind (arith, map.gets)
+
+no_row : (c : Config) (node : NodeId) (key : ℕ) → row_under (empty_far c).nodes node key ≡ None
+no_row c node key =
+    ap (λ (rows : RowsByKey). map.get rows key) (reads_one c.nodes node.n map.empty)
+    ∙ map.get-empty nat_cmp key
+
+none_some : {A : Type 0} (o : Option A) (x : A) → o ≡ None → o ≡ Some x → ⊥
+none_some o x none some = cc
+
+lies_nowhere : (c : Config) (h len place : ℕ) → LiesAt (object_at (empty_shown c) h) len place → ⊥
+lies_nowhere c h len place lies =
+    subst (λ (o : Object). LiesAt o len place) (no_object c h) lies
+
+nobody : (c : Config) (o : Owner) (shard : Shard) → IsShardOf (empty_far c) o shard → ⊥
+nobody c (of_set id p) shard (x, e, y) = none_some _ x (no_set c id) e
+nobody c (of_leaving p) shard (x, e, y) = cc
+nobody c (of_joining p) shard (x, e, y) = cc
+
+local : (c : Config) → LocalSound (empty_shown c) (empty_far c)
+local c = record {
+  known = record {
+    first = refl;
+    made = λ h below. (λ least. no_object c h, λ e. omega arith);
+    stamped = λ h. subst (λ (o : Object). IsStamped o (version_at (empty_shown c) h))
+        (sym (no_object c h)) (reads_one c.handles h 0);
+  };
+  frames = record {
+    sized = length-replicate c.frames no_contents ∙ sym (length-replicate c.frames true);
+    free = λ f below. (
+      λ free. no_span c f,
+      λ e. get_or-replicate c.frames f true false
+          (omega (arith, below, length-replicate c.frames true)),
+    );
+    valid = λ f span e. absurd (none_some _ span (no_span c f) e);
+    taken = λ f span e. absurd (none_some _ span (no_span c f) e);
+  };
+  placed = record {
+    memory = length-replicate (512 * c.frames) 0
+        ∙ ap (λ (n : ℕ). 512 * n) (sym (length-replicate c.frames no_contents));
+    placed = λ h len place lies. absurd (lies_nowhere c h len place lies);
+    named = λ f slot h span e named. absurd (none_some _ span (no_span c f) e);
+  };
+}
+  where
+    no_contents : Option Contents
+    no_contents = None
+
+far_never : (o : Object) (len v : ℕ) (words : List ℕ) → o ≡ never → o ≡ is.Far len v words → ⊥
+far_never o len v words e q = cc
+
+away : (c : Config) → c.nodes < 4294967296 → FarSound (empty_shown c) (empty_far c)
+away c few = record {
+  sound = record {
+    sets = record {
+      shaped = λ id set e. absurd (none_some _ set (no_set c id) e);
+      worded = λ id set e. absurd (none_some _ set (no_set c id) e);
+      live = λ id p set e. absurd (none_some _ set (no_set c id) e);
+      kept = λ id set e. absurd (none_some _ set (no_set c id) e);
+      numbered = λ id set e. absurd (none_some _ set (no_set c id) e);
+    };
+    away = record {
+      away = λ h len v words e.
+          absurd (far_never (object_at (empty_shown c) h) len v words (no_object c h) e);
+      home = λ h home e. absurd (none_some _ home (no_home c h) e);
+      named = λ id p slot h set e named. absurd (none_some _ set (no_set c id) e);
+    };
+    rows = record {
+      members = fresh-IsMembership c.nodes few;
+      counted = length-replicate c.nodes map.empty ∙ sym (length-replicate c.nodes fresh_node);
+      owned = λ node key row e. absurd (none_some _ row (no_row c node key) e);
+      one = λ o q a b x y same. absurd (nobody c o a x);
+      drawn = λ o a x. absurd (nobody c o a x);
+      current = λ o a x. absurd (nobody c o a x);
+    };
+    batch = λ b e. absurd (cc);
+  };
+  join = λ pair e. absurd (cc);
+}
+
+-- the empty world is sound
+pub empty_sound : (c : Config) → c.nodes < 4294967296 → Sound (empty_shown c) (empty_far c)
+empty_sound c few = record {
+  here = local c;
+  noted = λ batch e. absurd (cc);
+  away = away c few;
+}
+
+-- and no object was ever made
+pub empty_never : (c : Config) (h : ℕ) → now (empty_shown c) (empty_far c) h ≡ made_never
+empty_never c h =
+    ap (now_as (empty_shown c) h (is_gone (empty_far c) h)) (no_object c h)

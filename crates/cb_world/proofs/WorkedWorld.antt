@@ -1,0 +1,231 @@
+-- Worked examples of the local part of the sound world: a world that meets it, and for each fact
+-- one that breaks it.
+use Rattle.std.proofs.Common.{◌≡◌, ◌↔◌, ℕ, zero, suc, ◌<◌, ◌≤◌, Bool, true, false, List, [], ◌∷◌, Option, None, Some, replicate, refl, subst, sym, ◌∙◌, lit<, lit≤, arith}
+use Rattle.std.proofs.lemmas.Bool.{agree_below_at, ltb-true}
+use Rattle.std.proofs.Math.Dec.{ltb}
+use Rattle.std.specs.FinMap as map
+use Rattle.cb_class.specs.declared.class.Class.{Class}
+use Rattle.cb_class.specs.Class.{IsClassOf, bytes_of, slots_of, words_of}
+use Rattle.cb_frame.specs.FreeFrames.{IsFree}
+use Rattle.cb_member.specs.Membership.{fresh_members}
+use Rattle.cb_node.specs.NodesState.{empty_nodes}
+use Rattle.cb_span.specs.declared.temp.Temp.TheVariants.{Cold}
+use Rattle.cb_span.specs.Contents.{Contents, IsSpan, handle_at, live_count, span_of}
+use Rattle.cb_span.specs.Places.{slot_place}
+use Rattle.cb_world.specs.declared.object.Object.TheVariants as is
+use Rattle.cb_world.specs.declared.shown.Shown.{Shown}
+use Rattle.cb_world.specs.Shown.{object_at, version_at, never}
+use Rattle.cb_world.specs.FarState.{FarState, span_in}
+use Rattle.cb_world.specs.LocalSound.{LocalSound, AreKnown, AreFrames, ArePlaced, HasSlot, NamesObject, LiesAt, IsStamped}
+use Rattle.cb_world.proofs.Apart.{some_same}
+
+-- slots of 1,024 bytes, four a span
+abbrev largest : Class
+largest = record { index = 11 }
+
+abbrev slots_with : Option ℕ → Option ℕ → List (Option ℕ)
+slots_with first second = first ∷ second ∷ None ∷ None ∷ []
+
+-- object 0 lies in slot 1
+abbrev span : Contents
+span = span_of largest Cold (slots_with None (Some 0))
+
+-- object 0 is in local memory, object 1 was freed at version 2, and object 2 was never made
+abbrev pub known : Shown
+known = record {
+  first = 1;
+  objects = is.Here 1024 128 ∷ is.Empty 2 ∷ is.Empty 0 ∷ [];
+  hots = false ∷ false ∷ false ∷ [];
+  versions = 1 ∷ 2 ∷ 0 ∷ [];
+  memory = replicate 1024 0;
+}
+
+-- two frames, of which the first has the span
+abbrev pub far : FarState
+far = record {
+  first = 1;
+  made = 2;
+  frames = false ∷ true ∷ [];
+  spans = Some span ∷ None ∷ [];
+  sets = map.empty;
+  homes = None ∷ None ∷ None ∷ [];
+  nodes = empty_nodes 1 1;
+  members = fresh_members 1;
+  leaving = None;
+  joining = None;
+  counts = record { turns = 0; by_job = []; sets = 0; keys = 0 };
+}
+
+class_of_1024 : IsClassOf 1024 largest
+unfolding bytes_of
+class_of_1024 = record {
+  in_table = lit< tt;
+  holds = lit≤ tt;
+  least = λ smaller less.
+      let test : ℕ → Bool = λ (i : ℕ). ltb (bytes_of (record { index = i })) 1024 in
+      ltb-true (bytes_of smaller) 1024
+      (agree_below_at test (λ _. true) 11 smaller.index refl less);
+}
+
+second_slot : 128 ≡ slot_place largest 0 1
+unfolding words_of bytes_of
+second_slot = refl
+
+are_known : AreKnown known far
+are_known = record { first = refl; made = made; stamped = stamped }
+  where
+    made : (h : ℕ) → h < 3 → 2 ≤ h ↔ (object_at known h ≡ never)
+    made zero below = (λ most. absurd (omega (arith, most)), λ e. absurd (cc))
+    made (suc zero) below = (λ most. absurd (omega (arith, most)), λ e. absurd (cc))
+    made (suc (suc zero)) below = (λ most. refl, λ e. lit≤ tt)
+    made (suc (suc (suc h))) below = absurd (omega (arith, below))
+
+    stamped : (h : ℕ) → IsStamped (object_at known h) (version_at known h)
+    stamped zero = tt
+    stamped (suc zero) = refl
+    stamped (suc (suc zero)) = refl
+    stamped (suc (suc (suc h))) = refl
+
+is_span : IsSpan span
+unfolding slots_of bytes_of
+is_span = record { in_table = lit< tt; sized = refl }
+
+are_frames : AreFrames far
+are_frames = record { sized = refl; free = free; valid = valid; taken = taken }
+  where
+    free : (f : ℕ) → f < 2 → IsFree far.frames f ↔ (span_in far.spans f ≡ None)
+    free zero below = (λ e. absurd (cc), λ e. absurd (cc))
+    free (suc zero) below = (λ e. refl, λ e. refl)
+    free (suc (suc f)) below = absurd (omega (arith, below))
+
+    valid : (f : ℕ) (x : Contents) → span_in far.spans f ≡ Some x → IsSpan x
+    valid zero x e = subst IsSpan (some_same span x e) is_span
+    valid (suc zero) x e = absurd (cc)
+    valid (suc (suc f)) x e = absurd (cc)
+
+    taken : (f : ℕ) (x : Contents) → span_in far.spans f ≡ Some x → 1 ≤ live_count x
+    taken zero x e = subst (λ (y : Contents). 1 ≤ live_count y) (some_same span x e) (lit≤ tt)
+    taken (suc zero) x e = absurd (cc)
+    taken (suc (suc f)) x e = absurd (cc)
+
+are_placed : ArePlaced known far
+are_placed = record { memory = refl; placed = placed; named = named }
+  where
+    placed : (h len place : ℕ) → LiesAt (object_at known h) len place
+        → HasSlot far.spans h len place
+    placed zero len place lies = record {
+      frame = 0;
+      slot = 1;
+      span = span;
+      there = refl;
+      named = refl;
+      at = lies.1 ∙ second_slot;
+      fits = subst (λ (n : ℕ). IsClassOf n largest) (sym lies.0) class_of_1024;
+    }
+    placed (suc zero) len place lies = absurd lies
+    placed (suc (suc zero)) len place lies = absurd lies
+    placed (suc (suc (suc h))) len place lies = absurd lies
+
+    in_span : (slot h : ℕ) → handle_at span slot ≡ Some h → NamesObject known 0 slot h span
+    in_span zero h e = absurd (cc)
+    in_span (suc zero) h e =
+        subst (λ (k : ℕ). NamesObject known 0 1 k span) (some_same 0 h e)
+        (record { len = 1024; lies = (refl, sym second_slot) })
+    in_span (suc (suc zero)) h e = absurd (cc)
+    in_span (suc (suc (suc zero))) h e = absurd (cc)
+    in_span (suc (suc (suc (suc slot)))) h e = absurd (cc)
+
+    named : (f slot h : ℕ) (x : Contents) → span_in far.spans f ≡ Some x
+        → handle_at x slot ≡ Some h → NamesObject known f slot h x
+    named zero slot h x e =
+        subst (λ (y : Contents). handle_at y slot ≡ Some h → NamesObject known 0 slot h y)
+        (some_same span x e) (in_span slot h)
+    named (suc zero) slot h x e = absurd (cc)
+    named (suc (suc f)) slot h x e = absurd (cc)
+
+sound_here : LocalSound known far
+sound_here = record { known = are_known; frames = are_frames; placed = are_placed }
+
+-- the version of the next make is another one
+another_first : ¬ (AreKnown (record known { first = 2 }) far)
+another_first x = absurd (let z : 2 ≡ 1 = x.first in omega (arith, z))
+
+-- a handle that counts as made is never, and one that does not was freed
+made_but_never : ¬ (AreKnown known (record far { made = 3 }))
+made_but_never x = absurd (let z = (x.made 2 (lit< tt)).1 refl in omega (arith, z))
+
+unmade_but_freed : ¬ (AreKnown known (record far { made = 1 }))
+unmade_but_freed x = absurd (let z = (x.made 1 (lit< tt)).0 (lit≤ tt) in cc)
+
+-- the version word of the freed object is another one
+another_version : ¬ (AreKnown (record known { versions = 1 ∷ 3 ∷ 0 ∷ [] }) far)
+another_version x = absurd (let z : 3 ≡ 2 = x.stamped 1 in omega (arith, z))
+
+-- a claimed object was written already; one that others may change may have any version word
+written_while_claimed : ¬ (AreKnown (record known {
+  objects = is.Claimed 1024 128 1 [] ∷ is.Empty 2 ∷ is.Empty 0 ∷ [];
+  versions = 2 ∷ 2 ∷ 0 ∷ [];
+}) far)
+written_while_claimed x = absurd (let z : 2 ≡ 1 = x.stamped 0 in omega (arith, z))
+
+written_by_others : IsStamped (is.Here 1024 128) 7
+written_by_others = tt
+
+-- a third frame that no list of spans reaches
+frame_too_many : ¬ (AreFrames (record far { frames = false ∷ true ∷ true ∷ [] }))
+frame_too_many x = absurd (let z : 2 ≡ 3 = x.sized in omega (arith, z))
+
+free_with_a_span : ¬ (AreFrames (record far { frames = true ∷ true ∷ [] }))
+free_with_a_span x = absurd (let z = (x.free 0 (lit< tt)).0 refl in cc)
+
+taken_without_a_span : ¬ (AreFrames (record far { frames = false ∷ false ∷ [] }))
+taken_without_a_span x = absurd (let z = (x.free 1 (lit< tt)).1 refl in cc)
+
+slot_too_many : ¬ (AreFrames (record far {
+  spans = Some (span_of largest Cold (None ∷ slots_with None (Some 0))) ∷ None ∷ [];
+}))
+unfolding slots_of bytes_of
+slot_too_many x =
+    absurd (let z : 5 ≡ 4 = (x.valid 0 _ refl).sized in omega (arith, z))
+
+empty_span : ¬ (AreFrames (record far {
+  spans = Some (span_of largest Cold (slots_with None None)) ∷ None ∷ [];
+}))
+empty_span x =
+    absurd (let z : 1 ≤ 0 = x.taken 0 _ refl in omega (arith, z))
+
+-- memory of another size
+word_too_few : ¬ (ArePlaced (record known { memory = replicate 1023 0 }) far)
+word_too_few x = absurd (let z : 1023 ≡ 1024 = x.memory in omega (arith, z))
+
+-- object 0 has no slot, one of another class, or lies beside its slot
+without_a_slot : ¬ (ArePlaced known (record far {
+  spans = None ∷ None ∷ [];
+}))
+without_a_slot x = absurd (nowhere (x.placed 0 1024 128 (refl, refl)))
+  where
+    nowhere : HasSlot (None ∷ None ∷ []) 0 1024 128 → ⊥
+    nowhere slot = none slot.frame slot.span slot.there
+      where
+        none : (f : ℕ) (y : Contents) → span_in (None ∷ None ∷ []) f ≡ Some y → ⊥
+        none zero y e = cc
+        none (suc zero) y e = cc
+        none (suc (suc f)) y e = cc
+
+-- a slot names a freed object, or one that lies elsewhere
+names_nobody : ¬ (ArePlaced known (record far {
+  spans = Some (span_of largest Cold (slots_with (Some 1) (Some 0))) ∷ None ∷ [];
+}))
+names_nobody x = absurd ((x.named 0 0 1 _ refl refl).lies)
+
+named_beside : ¬ (ArePlaced known (record far {
+  spans = Some (span_of largest Cold (slots_with (Some 0) None)) ∷ None ∷ [];
+}))
+unfolding words_of bytes_of
+named_beside x =
+    absurd (let z : 0 ≡ 128 = (x.named 0 0 0 _ refl refl).lies.1 in omega (arith, z))
+
+-- an object of 1,024 bytes has no slot of another class
+another_class : ¬ (IsClassOf 1024 (record { index = 10 }))
+unfolding bytes_of
+another_class x = absurd (omega (arith, x.holds))

@@ -1,0 +1,36 @@
+-- The empty world of a configuration.
+use Rattle.std.specs.Prelude.{◌*◌, false, None, replicate}
+use Rattle.std.specs.FinMap as map
+use Rattle.cb_types.specs.declared.config.Config.{Config}
+use Rattle.cb_frame.specs.FreeFrames.{all_free}
+use Rattle.cb_member.specs.Membership.{fresh_members}
+use Rattle.cb_node.specs.NodesState.{empty_nodes}
+use Rattle.cb_world.specs.declared.shown.Shown.{Shown}
+use Rattle.cb_world.specs.Shown.{never}
+use Rattle.cb_world.specs.FarState.{FarState}
+
+-- all frames are free, no object was made and all nodes are up without rows
+abbrev pub empty_far : Config → FarState
+empty_far c = record {
+  first = 1;
+  made = 0;
+  frames = all_free c.frames;
+  spans = replicate c.frames None;
+  sets = map.empty;
+  homes = replicate c.handles None;
+  nodes = empty_nodes c.nodes c.room;
+  members = fresh_members c.nodes;
+  leaving = None;
+  joining = None;
+  counts = record { turns = 0; by_job = replicate 19 0; sets = 0; keys = 0 };
+}
+
+-- no object was made, and every word is 0
+abbrev pub empty_shown : Config → Shown
+empty_shown c = record {
+  first = 1;
+  objects = replicate c.handles never;
+  hots = replicate c.handles false;
+  versions = replicate c.handles 0;
+  memory = replicate (512 * c.frames) 0;
+}
