@@ -1,20 +1,21 @@
 use Rattle.std.proofs.Common.{◌≡◌, List, ℕ, Ok, Err, refl, sym, subst, ◌∙◌, inl, inr}
 use Rattle.std.proofs.lemmas.Result.{err_from_is_err_and}
 use Rattle.std.specs.List.{AllByRecursion}
-use Rattle.cb_script.specs.declared.script.Script.{Script}
 use Rattle.cb_script.specs.Unbuilt.{IsBuilt}
+use Rattle.cb_script.specs.declared.script.Script.{Script}
+use Rattle.cb_app.specs.declared.words.Command.TheVariants.{Seq}
 use Rattle.cb_app.specs.Outcome.IsRefusal.{NotBuilt}
 use Rattle.cb_app.proofs.Refusals.{fault_refused, none_unbuilt}
-use Rattle.cb_app.proofs.run.answer_bytes.Goals as goal
+use Rattle.cb_app.proofs.commands.answer_bytes.Goals as goal
 
 pub returns-in_err-script-clause-refused : goal.returns-in_err-script-clause-refused
 returns-in_err-script-clause-refused c =
     let p = err_from_is_err_and c.from_residual.result c.from_residual.ensures.1 in
-    rw (p.1, p.2) (fault_refused c.args.bytes.now c.in_err-script.field-0.0 c.in_err-script.ensures.bad)
+    rw (p.1, p.2) (fault_refused Seq c.args.bytes.now c.in_err-script.field-0.0 c.in_err-script.ensures.bad)
 
 pub returns-in-Some-clause-refused : goal.returns-in-Some-clause-refused
 returns-in-Some-clause-refused c =
-    NotBuilt c.in_ok-script.script c.in_ok-script.ensures.found c.in-Some.ensures refl
+    NotBuilt refl c.in_ok-script.script c.in_ok-script.ensures.found c.in-Some.ensures refl
 
 pub returns-in-Some-clause-complete : goal.returns-in-Some-clause-complete
 returns-in-Some-clause-complete c = λ script spelled built.
