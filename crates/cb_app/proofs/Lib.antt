@@ -4,3 +4,4 @@ pub mod LaneCounts
 pub mod Refusals
 pub mod Statuses
 pub mod WorkedRuns
+pub mod WorkedCommands
