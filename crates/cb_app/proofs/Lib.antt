@@ -1,5 +1,7 @@
 pub mod Streams
-pub mod Words
+pub mod CommandWords
+pub mod LaneCounts
 pub mod Refusals
 pub mod Statuses
 pub mod WorkedRuns
+pub mod WorkedCommands

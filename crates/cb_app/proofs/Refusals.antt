@@ -6,6 +6,7 @@ use Rattle.std.specs.Io.KnownBytes.{Consumes, IsAtEnd, Appends}
 use Rattle.std.proofs.Common.{String, Global}
 use Rattle.cb_script.specs.declared.fault.Reason.{Reason}
 use Rattle.cb_app.specs.declared.ending.Ending.{Ending}
+use Rattle.cb_app.specs.declared.words.Command.{Command}
 use Rattle.cb_app.specs.Texts.{fault_text}
 use Rattle.std.proofs.Common.{[], ◌∷◌}
 use Rattle.std.specs.List.{AllByRecursion}
@@ -41,6 +42,11 @@ pub fault_parts : (line number word : List ℕ)
     → codes "script line " ++ line ++ codes " reason " ++ number ++ codes " " ++ word ++ codes "\n" ≡ codes "script line " ++ (line ++ (codes " reason " ++ (number ++ (codes " " ++ (word ++ codes "\n")))))
 fault_parts line number word = simp append_assoc
 
+-- the parts of the text of a check, joined from the end
+pub check_parts : (lines lanes : List ℕ)
+    → codes "script ok lines " ++ lines ++ codes " lanes " ++ lanes ++ codes "\n" ≡ codes "script ok lines " ++ (lines ++ (codes " lanes " ++ (lanes ++ codes "\n")))
+check_parts lines lanes = simp append_assoc
+
 -- the text of a refusal is put
 pub tells : (words : List (String Global)) (before after held_before held_after : Option (List ℕ)) (line : ℕ) (reason : Reason) (text made : List ℕ)
     → IsScriptRefused words before after line reason → text ≡ made → made ≡ fault_text line reason
@@ -58,10 +64,10 @@ cuts words before after held_before held_after old new line reason text made ref
     (text, WhereScriptRefused line reason refused stays (same ∙ is), front)
 
 -- a first fault is a refusal
-pub fault_refused : (bytes : List ℕ) (e : ScriptFault) → FaultIs e (First bytes Seq)
-    → FaultIs e (IsRefusal bytes)
-fault_refused bytes (Bad line reason) is = NoScript is
-fault_refused bytes NoMemory is = tt
+pub fault_refused : (command : Command) (bytes : List ℕ) (e : ScriptFault)
+    → FaultIs e (First bytes Seq) → FaultIs e (IsRefusal command bytes)
+fault_refused command bytes (Bad line reason) is = NoScript is
+fault_refused command bytes NoMemory is = tt
 
 built_at : (before : List Line) (here : Line) (after : List Line)
     → AllByRecursion (λ l. IsBuilt l.request) (before ++ here ∷ after) → IsBuilt here.request

@@ -1,3 +1,5 @@
+pub mod Words
+pub mod Lanes
 pub mod Texts
 pub mod Outcome
 pub mod Failing

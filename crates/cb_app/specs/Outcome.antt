@@ -1,6 +1,6 @@
 -- What a run took, what it leaves, and the text that is due. Each is a fact about the words, the
 -- bytes taken, the ending and the text alone.
-use Rattle.std.specs.Prelude.{◌≡◌, ℕ, ◌<◌, ◌⊎◌, List, [], ◌∷◌, length, take, map, codes, Option, Some, String, string_bytes}
+use Rattle.std.specs.Prelude.{◌≡◌, ℕ, ◌<◌, ◌⊎◌, List, [], length, take, map, Option, Some, String}
 use Rattle.std.specs.List.{AllByRecursion}
 use Rattle.std.specs.Io.KnownBytes.{Appends, Consumes, IsAtEnd}
 use Rattle.std.specs.declared.alloc.Global.{Global}
@@ -9,17 +9,17 @@ use Rattle.cb_script.specs.declared.script.Mode.TheVariants.{Seq}
 use Rattle.cb_script.specs.declared.fault.Reason.{Reason}
 use Rattle.cb_script.specs.declared.fault.Reason.TheVariants.{Unbuilt}
 use Rattle.cb_script.specs.First.{First}
-use Rattle.cb_script.specs.Unbuilt.{IsFirstUnbuilt}
+use Rattle.cb_script.specs.declared.script.Line.{Line}
+use Rattle.cb_script.specs.Unbuilt.{IsBuilt, IsFirstUnbuilt}
 use Rattle.cb_script.specs.Form.{Spells}
 use Rattle.cb_model.specs.Legal.{IsLegalInOrder}
 use Rattle.cb_text.specs.Line.{text_of}
 use Rattle.cb_app.specs.declared.ending.Ending.{Ending}
 use Rattle.cb_lanes.specs.Asked.{asked, HasMapReply}
-use Rattle.cb_app.specs.Texts.{words_refused, fault_text}
-
--- the words are the one word `seq`
-abbrev pub IsSeq : List (String Global) → Type 0
-IsSeq words = map string_bytes words ≡ codes "seq" ∷ []
+use Rattle.cb_app.specs.Texts.{words_refused, fault_text, check_text}
+use Rattle.cb_app.specs.declared.words.Command.{Command}
+use Rattle.cb_app.specs.declared.words.Command.TheVariants as commands
+use Rattle.cb_app.specs.Words.{Name, NameNone}
 
 -- The bytes that were taken, all there were or as many as may be taken. The two options are what the
 -- source had and has left, where it tells.
@@ -40,32 +40,52 @@ pub record IsAnswered (bytes : List ℕ) (script : Script) (end : Ending) : Type
   pub replies : AllByRecursion HasMapReply end.answers
   pub losses : end.losses ≡ []
 
--- The script that was taken was answered.
-pub record IsDone (words : List (String Global)) (before after : Option (List ℕ)) (end : Ending) : Type 0 where
-  pub words_are : IsSeq words
-  pub answered : (bytes : List ℕ) × (script : Script)
-      × IsTaken before after bytes × IsAnswered bytes script end
+-- The ending of a script that was checked: its configuration, and nothing else.
+pub record IsChecked (bytes : List ℕ) (script : Script) (end : Ending) : Type 0 where
+  -- the bytes taken spell the script
+  pub spelled : Spells bytes Seq script
+  pub config : end.config ≡ Some script.config
+  pub no_answers : end.answers ≡ []
+  pub no_losses : end.losses ≡ []
 
--- The words are of no form, and nothing was taken.
+-- the ending and the text that a command yields for a script
+abbrev pub Yields : Command → List ℕ → Script → Ending → List ℕ → Type 0
+Yields commands.Seq bytes script end text = IsAnswered bytes script end × (text ≡ text_of end.answers)
+Yields commands.Check bytes script end text = IsChecked bytes script end × (text ≡ check_text script)
+
+-- a script of these lines is accepted: `seq` wants verbs that are built, and `check` any
+abbrev pub Accepts : Command → List Line → Type 0
+Accepts commands.Seq lines = AllByRecursion (λ l. IsBuilt l.request) lines
+Accepts commands.Check lines = Unit {0}
+
+-- The words name a command, and this is what it yields for the script that was taken.
+pub record IsDone (words : List (String Global)) (before after : Option (List ℕ)) (end : Ending) (text : List ℕ) : Type 0 where
+  pub command : Command
+  pub words_are : Name words command
+  pub yields : (bytes : List ℕ) × (script : Script)
+      × IsTaken before after bytes × Yields command bytes script end text
+
+-- The words name no command, and nothing was taken.
 pub record AreWordsRefused (words : List (String Global)) (before after : Option (List ℕ)) : Type 0 where
-  pub words_are_not : IsSeq words → ⊥
+  pub words_are_not : NameNone words
   pub nothing_taken : after ≡ before
 
--- Why bytes are refused: they have a first fault, or spell a script with a verb that is not built yet.
-pub data IsRefusal (bytes : List ℕ) (line : ℕ) (reason : Reason) : Type 0 where
-  NoScript : First bytes Seq line reason → IsRefusal bytes line reason
-  NotBuilt : (script : Script) → Spells bytes Seq script → IsFirstUnbuilt script.lines line
-      → reason ≡ Unbuilt → IsRefusal bytes line reason
+-- Why a command refuses bytes: they have a first fault, or a line of a script that `seq` is to answer
+-- has a verb that is not built yet.
+pub data IsRefusal (command : Command) (bytes : List ℕ) (line : ℕ) (reason : Reason) : Type 0 where
+  NoScript : First bytes Seq line reason → IsRefusal command bytes line reason
+  NotBuilt : command ≡ commands.Seq → (script : Script) → Spells bytes Seq script
+      → IsFirstUnbuilt script.lines line → reason ≡ Unbuilt → IsRefusal command bytes line reason
 
--- The bytes taken are refused at this line, for this reason.
+-- The words name a command, and it refuses the bytes taken at this line, for this reason.
 pub record IsScriptRefused (words : List (String Global)) (before after : Option (List ℕ)) (line : ℕ) (reason : Reason) : Type 0 where
-  pub words_are : IsSeq words
-  pub refused : (bytes : List ℕ) × IsTaken before after bytes × IsRefusal bytes line reason
+  pub command : Command
+  pub words_are : Name words command
+  pub refused : (bytes : List ℕ) × IsTaken before after bytes × IsRefusal command bytes line reason
 
 -- The text that is due, and the ending with it. `old` and `new` are the ending before and after.
 pub data IsDue (words : List (String Global)) (before after : Option (List ℕ)) (old new : Ending) (text : List ℕ) : Type 0 where
-  WhereDone : IsDone words before after new → text ≡ text_of new.answers
-      → IsDue words before after old new text
+  WhereDone : IsDone words before after new text → IsDue words before after old new text
   WhereWordsRefused : AreWordsRefused words before after → new ≡ old → text ≡ words_refused
       → IsDue words before after old new text
   WhereScriptRefused : (line : ℕ) (reason : Reason) → IsScriptRefused words before after line reason
@@ -82,3 +102,9 @@ abbrev pub RefusesScript : List (String Global)
 RefusesScript words before after held_before held_after =
     (line : ℕ) × (reason : Reason) × IsScriptRefused words before after line reason
     × Appends held_before held_after (fault_text line reason)
+
+-- The script is done with, and the text that is due is put.
+abbrev pub TellsScript : List (String Global) → (before after held_before held_after : Option (List ℕ))
+    → Ending → Type 0
+TellsScript words before after held_before held_after end =
+    (text : List ℕ) × IsDone words before after end text × Appends held_before held_after text

@@ -1,8 +1,10 @@
-//! The program `carbink`: reads a script, answers it, and writes the answers.
+//! The program `carbink`: reads a script, answers or checks it, and writes what it has to tell.
 #![tactic(auto)]
 
+pub mod commands;
 pub mod ending;
 pub mod input;
+pub mod lanes;
 pub mod outcome;
 pub mod output;
 pub mod run;
@@ -10,6 +12,7 @@ pub mod run;
 mod tests;
 pub mod texts;
 pub mod top;
+pub mod words;
 
 use cb_types::{StdSink, StdSource};
 use ending::Ending;

@@ -2,9 +2,10 @@ ghost use Rattle.std.specs.Prelude.{◌≡◌, IfOk};
 ghost use Rattle.std.specs.List.{AllByRecursion};
 ghost use Rattle.cb_lanes.specs.Asked.{HasMapReply};
 ghost use Rattle.cb_text.specs.Line.{text_of};
-ghost use Rattle.cb_app.specs.Texts.{fault_text};
+ghost use Rattle.cb_app.specs.Texts.{fault_text, check_text};
 
-use cb_script::Reason;
+use crate::lanes::different_lanes;
+use cb_script::{Reason, Script};
 use cb_text::push_line;
 use cb_types::{Answers, Bytes, NoMemory};
 use std::alloc::Global;
@@ -31,5 +32,16 @@ pub fn script_fault_text(alloc: Global, line: u32, reason: Reason) -> Result<Byt
     let number = reason.number();
     let word = reason.word();
     let text = format!(in alloc; "script line {line} reason {number} {word}\n")?;
+    Ok(Bytes::from(text.into_bytes()))
+}
+
+/// The text that tells that a script was read, and how many lines and lanes it has.
+pub fn script_ok_text(alloc: Global, script: &Script) -> Result<Bytes, NoMemory>
+    ensures { IfOk result (λ text. text ≡ check_text script.now) }
+{
+    let lines = script.lines.as_slice();
+    let count = lines.len();
+    let lanes = different_lanes(lines);
+    let text = format!(in alloc; "script ok lines {count} lanes {lanes}\n")?;
     Ok(Bytes::from(text.into_bytes()))
 }

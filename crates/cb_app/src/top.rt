@@ -4,11 +4,10 @@ ghost use Rattle.cb_types.specs.Faults.{Rose};
 ghost use Rattle.cb_script.specs.declared.script.Script.{Script};
 ghost use Rattle.cb_script.specs.declared.script.Mode.TheVariants.{Seq};
 ghost use Rattle.cb_script.specs.Form.{Spells};
-ghost use Rattle.cb_text.specs.Line.{text_of};
-ghost use Rattle.cb_app.specs.Outcome.{IsSeq, IsDone, AreWordsRefused, RefusesScript, IsDue, GetsFront};
+ghost use Rattle.cb_app.specs.Words.{Name, NameNone};
+ghost use Rattle.cb_app.specs.declared.words.Command.{Command};
+ghost use Rattle.cb_app.specs.Outcome.{TellsScript, AreWordsRefused, RefusesScript, Accepts, IsDue, GetsFront};
 ghost use Rattle.cb_app.specs.Texts.{words_refused};
-ghost use Rattle.cb_script.specs.Unbuilt.{IsBuilt};
-ghost use Rattle.std.specs.List.{AllByRecursion};
 ghost use Rattle.cb_app.specs.Status.{status_of};
 
 use crate::ending::Ending;
@@ -47,20 +46,20 @@ pub fn carbink_run<R: Threads + Wait + Sync, S: Source, K: Sink>(
 ) -> u8
     ensures statuses { result ≤ 5 }
 
-    // 0: the bytes taken spell a script, and its lines were answered as the plain map answers them.
-    ensures done { result ≡ 0 → IsDone words.now (S.left src.old) (S.left src.new) end.new }
-    ensures done_text { result ≡ 0
-        → Appends (K.held out.old) (K.held out.new) (text_of end.new.answers) }
+    // 0: the words name a command, and the bytes taken spell a script. `seq` answered its lines as the
+    // plain map answers them, and puts the answers; `check` puts how many lines and lanes it has.
+    ensures done { result ≡ 0
+        → TellsScript words.now (S.left src.old) (S.left src.new) (K.held out.old) (K.held out.new) end.new }
 
-    // 1: the words are not the one word `seq`, and nothing was taken.
+    // 1: the words name no command, and nothing was taken.
     ensures words_refused { result ≡ 1
         → AreWordsRefused words.now (S.left src.old) (S.left src.new) }
     ensures words_text { result ≡ 1 → Appends (K.held out.old) (K.held out.new) words_refused }
     ensures words_end { result ≡ 1 → (src.new ≡ src.old) × (end.new ≡ end.old) }
-    ensures refuses { (IsSeq words.now → ⊥) → (result ≡ 1) ⊎ (result ≡ 4) }
+    ensures refuses { NameNone words.now → (result ≡ 1) ⊎ (result ≡ 4) }
 
-    // 2: the bytes taken spell no script, or one with a verb that is not built; what is put tells
-    // where and why.
+    // 2: the bytes taken spell no script, or one with a verb that is not built and that `seq` would
+    // have to answer; what is put tells where and why.
     ensures script_refused { result ≡ 2
         → RefusesScript words.now (S.left src.old) (S.left src.new) (K.held out.old) (K.held out.new) }
     ensures script_end { result ≡ 2 → end.new ≡ end.old }
@@ -83,10 +82,11 @@ pub fn carbink_run<R: Threads + Wait + Sync, S: Source, K: Sink>(
     // At each status so many bytes are taken at the most.
     ensures most { (bytes : List ℕ) × Consumes (S.left src.old) (S.left src.new) bytes
         × (length bytes ≤ 1048577) }
-    // What spells a script whose verbs are built is answered, where neither reading nor writing fails and there is memory.
-    ensures complete { IsSeq words.now → (bytes : List ℕ) (script : Script)
+    // What spells a script that the command accepts is done with, where neither reading nor writing
+    // fails and there is memory.
+    ensures complete { (command : Command) → Name words.now command → (bytes : List ℕ) (script : Script)
         → S.left src.old ≡ Some bytes → Spells bytes Seq script
-        → AllByRecursion (λ l. IsBuilt l.request) script.lines → (result ≡ 0) ⊎ (3 ≤ result) }
+        → Accepts command script.lines → (result ≡ 0) ⊎ (3 ≤ result) }
 {
     status(run(alloc, words, src, out, end))
 }

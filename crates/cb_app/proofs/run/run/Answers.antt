@@ -1,4 +1,5 @@
 use Rattle.std.proofs.Common.{ap, sym, refl, ◌∙◌, ◌≡◌, inl, inr, Err}
+use Rattle.cb_app.proofs.CommandWords.{one_command}
 use Rattle.cb_app.proofs.Refusals.{all_taken, tells, cuts}
 use Rattle.cb_app.specs.Outcome.{IsTaken, IsRefusal, IsScriptRefused}
 use Rattle.cb_app.proofs.run.run.Goals as goal
@@ -9,7 +10,8 @@ returns-in-Err-Bad-clause-script_refused g c = λ is.
     let held = g.K.Sink.held in
     let refusal = rw (c.in-Err-Bad.field-0-is, c.as_slice.ensures.value) at c.in-Err-Bad.ensures.refused in
     let refused : IsScriptRefused c.args.words.now (left c.args.source.now) (left c.take_all.new.source) c.in-Err-Bad.line c.in-Err-Bad.reason = record {
-      words_are = c.is_seq.ensures.0 c.if-not-is_seq.false;
+      command = c.in-Some.command;
+      words_are = c.in-Some.ensures;
       refused =
           (c.in_ok-bytes.bytes.items, record { front = c.in_ok-bytes.ensures.bytes; whole = c.in_ok-bytes.ensures.end }, refusal);
     } in
@@ -21,15 +23,17 @@ returns-in_err-put_all-in-Err-Bad-clause-cut g c = λ is.
     let held = g.K.Sink.held in
     let refusal = rw (c.in-Err-Bad.field-0-is, c.as_slice.ensures.value) at c.in-Err-Bad.ensures.refused in
     let refused : IsScriptRefused c.args.words.now (left c.args.source.now) (left c.take_all.new.source) c.in-Err-Bad.line c.in-Err-Bad.reason = record {
-      words_are = c.is_seq.ensures.0 c.if-not-is_seq.false;
+      command = c.in-Some.command;
+      words_are = c.in-Some.ensures;
       refused =
           (c.in_ok-bytes.bytes.items, record { front = c.in_ok-bytes.ensures.bytes; whole = c.in_ok-bytes.ensures.end }, refusal);
     } in
     cuts c.args.words.now (left c.args.source.now) (left c.take_all.new.source) (held c.args.sink.now) (held c.put_all-in-Err-Bad.new.sink) c.args.end.now c.args.end.now c.in-Err-Bad.line c.in-Err-Bad.reason c.as_slice-in-Err-Bad.result.now c.in_ok-text-in-Err-Bad.text refused refl c.as_slice-in-Err-Bad.ensures.items c.in_ok-text-in-Err-Bad.ensures c.in_err-put_all-in-Err-Bad.ensures.front
 
 pub returns-in-Err-Bad-clause-complete : goal.returns-in-Err-Bad-clause-complete
-returns-in-Err-Bad-clause-complete g c = λ seq bytes script told spelled built.
+returns-in-Err-Bad-clause-complete g c = λ command named bytes script told spelled accepted.
     let left = g.S.Source.left in
     let taken = all_taken (left c.args.source.now) (left c.take_all.new.source) bytes c.in_ok-bytes.bytes.items script told c.in_ok-bytes.ensures.bytes c.in_ok-bytes.ensures.end spelled in
-    let memory = c.in-Err-Bad.ensures.complete script (rw c.as_slice.ensures.value taken) built in
+    let same = one_command c.args.words.now command c.in-Some.command named c.in-Some.ensures in
+    let memory = c.in-Err-Bad.ensures.complete script (rw c.as_slice.ensures.value taken) (rw same at accepted) in
     absurd (let both = sym memory ∙ c.in-Err-Bad.field-0-is in cc)

@@ -1,0 +1,27 @@
+use Rattle.std.proofs.Common.{◌≡◌, List, ℕ, Ok, Err, refl, sym, subst, ◌∙◌, inl, inr}
+use Rattle.std.proofs.lemmas.Result.{err_from_is_err_and}
+use Rattle.std.specs.List.{AllByRecursion}
+use Rattle.cb_script.specs.Unbuilt.{IsBuilt}
+use Rattle.cb_script.specs.declared.script.Script.{Script}
+use Rattle.cb_app.specs.declared.words.Command.TheVariants.{Seq}
+use Rattle.cb_app.specs.Outcome.IsRefusal.{NotBuilt}
+use Rattle.cb_app.proofs.Refusals.{fault_refused, none_unbuilt}
+use Rattle.cb_app.proofs.commands.answer_bytes.Goals as goal
+
+pub returns-in_err-script-clause-refused : goal.returns-in_err-script-clause-refused
+returns-in_err-script-clause-refused c =
+    let p = err_from_is_err_and c.from_residual.result c.from_residual.ensures.1 in
+    rw (p.1, p.2) (fault_refused Seq c.args.bytes.now c.in_err-script.field-0.0 c.in_err-script.ensures.bad)
+
+pub returns-in-Some-clause-refused : goal.returns-in-Some-clause-refused
+returns-in-Some-clause-refused c =
+    NotBuilt refl c.in_ok-script.script c.in_ok-script.ensures.found c.in-Some.ensures refl
+
+pub returns-in-Some-clause-complete : goal.returns-in-Some-clause-complete
+returns-in-Some-clause-complete c = λ script spelled built.
+    elim (c.read_script.ensures.only script spelled) [
+      | inl ok ↦
+          let same : script ≡ c.in_ok-script.script = (let both = sym ok ∙ c.in_ok-script.was in cc) in
+          absurd (none_unbuilt c.in_ok-script.script.lines c.in-Some.line (subst (λ (s : Script). AllByRecursion (λ l. IsBuilt l.request) s.lines) same built) c.in-Some.ensures)
+      | inr memory ↦ absurd (let both = sym memory ∙ c.in_ok-script.was in cc)
+    ]
