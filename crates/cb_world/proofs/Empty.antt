@@ -14,7 +14,8 @@ use Rattle.cb_node.specs.Rows.{RowsByKey}
 use Rattle.cb_span.specs.Contents.{Contents}
 use Rattle.cb_world.specs.declared.object.Object.{Object}
 use Rattle.cb_world.specs.declared.object.Object.TheVariants as is
-use Rattle.cb_world.specs.Shown.{object_at, version_at, never}
+use Rattle.cb_world.specs.Plain.{Shows}
+use Rattle.cb_world.specs.Shown.{Fits, object_at, version_at, never}
 use Rattle.cb_world.specs.Sets.{set_in}
 use Rattle.cb_world.specs.Homes.{home_at}
 use Rattle.cb_world.specs.FarState.{span_in}
@@ -24,7 +25,7 @@ use Rattle.cb_world.specs.FarSound.Owner.{of_set, of_leaving, of_joining}
 use Rattle.cb_world.specs.Sound.{Sound}
 use Rattle.cb_world.specs.Now.{now, now_as, is_gone}
 use Rattle.cb_world.specs.Now.Now.{never as made_never}
-use Rattle.cb_world.specs.Empty.{empty_far, empty_shown}
+use Rattle.cb_world.specs.Empty.{empty_far, empty_shown, empty_words}
 
 -- each read of a list of one value gives it
 reads_one : {A : Type 0} (n i : ℕ) (x : A) → get_or (replicate n x) i x ≡ x
@@ -135,3 +136,18 @@ empty_sound c few = record {
 pub empty_never : (c : Config) (h : ℕ) → now (empty_shown c) (empty_far c) h ≡ made_never
 empty_never c h =
     ap (now_as (empty_shown c) h (is_gone (empty_far c) h)) (no_object c h)
+
+-- the words of the empty desk are as the empty world says
+pub empty_shows : (c : Config) → Shows (empty_words c) (empty_shown c)
+empty_shows c = record {
+  objects = length-replicate c.handles never ∙ sym (length-replicate c.handles 0);
+  versions = refl;
+  hots = length-replicate c.handles false ∙ sym (length-replicate c.handles 0);
+  hot = λ h below e. absurd (never_hot h e);
+  memory = refl;
+  fit = λ h below. subst (λ (o : Object). Fits o (get_or (replicate c.handles 0) h 0))
+      (sym (no_object c h)) (reads_one c.handles h 0);
+}
+  where
+    never_hot : (h : ℕ) → get_or (replicate c.handles false) h false ≡ true → ⊥
+    never_hot h e = let z : false ≡ true = sym (reads_one c.handles h false) ∙ e in cc

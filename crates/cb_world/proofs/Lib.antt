@@ -41,3 +41,4 @@ pub mod Empty
 mod WorkedDesk
 mod WorkedWorld
 mod WorkedFar
+mod WorkedOpen

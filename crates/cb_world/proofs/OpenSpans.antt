@@ -104,7 +104,8 @@ index_kept spans sets f new before after index within was is low_before low_afte
         ≡ is_kind after k
     flag k low =
         let mid = with_flag sets f before false in
-        let one = flags sets (length spans) f before false index.count index.sized within low_before in
+        let one = flags sets (length spans) f before false index.count index.sized within low_before
+        in
         let two = flags mid (length spans) f after true (one.count ∙ index.count) one.sized within
         low_after in
         elim (cases_Bool (is_kind after k)) [
@@ -180,7 +181,11 @@ pub index_written : (spans : List (Option Contents)) (sets told : List (List Boo
 index_written spans sets told f new x y before after index within reads ends was is =
     index_told spans sets told f new before after index within
     (was ∙ ap open_kind (read_is spans f x within reads))
-    (is ∙ ap open_kind (read_is (set spans f new) f y (omega (arith, within, length-set spans f new)) ends
+    (is ∙ ap open_kind (read_is (set spans f new) f y (omega (
+      arith,
+      within,
+      length-set spans f new,
+    )) ends
     ∙ get_or-set_same spans f new None within))
 
 pub kind_when_full : (o : Option Contents) (span : Contents) → o ≡ Some span

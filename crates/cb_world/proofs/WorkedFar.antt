@@ -198,7 +198,8 @@ row_of_nobody : ¬ (AreRows stray)
 row_of_nobody x =
     let found = x.owned (node 0) 0 [] (stands 0) in nobody found.0 found.1 found.2
   where
-    stands : (key : ℕ) → row_under (with_row (empty_nodes 2 1) (node 0) key []) (node 0) key ≡ Some []
+    stands : (key : ℕ)
+        → row_under (with_row (empty_nodes 2 1) (node 0) key []) (node 0) key ≡ Some []
     stands key = grind (arith, map.gets)
 
     no_set : (id : ℕ) → set_in map.empty id ≡ None
@@ -212,9 +213,14 @@ row_of_nobody x =
 no_key_left : ¬ (AreRows
     (record (away set) { counts = record { turns = 0; by_job = []; sets = 6; keys = 1 } }))
 no_key_left x =
-    absurd (let z : 1 < 1 = x.drawn (of_set 5 1) (at 1 1) (set, there set, refl) in omega (arith, z))
+    absurd (let z : 1 < 1 =
+    x.drawn (of_set 5 1) (at 1 1) (set, there set, refl) in omega (arith, z))
 
-past_the_members : ¬ (AreRows (record (away set) { members = fresh_members 1; nodes = empty_nodes 1 1 }))
+past_the_members : ¬ (AreRows (record (away set) {
+  members = fresh_members 1;
+  nodes =
+      empty_nodes 1 1;
+}))
 past_the_members x =
     absurd (let z : 1 < 1 = (x.current (of_set 5 1) (at 1 1) (set, there set, refl)).0 in
     omega (arith, z))
@@ -287,11 +293,21 @@ batch = record { set = 5; frames = []; words = []; parities = []; shards = [] }
 no_frames_leave : ¬ (IsBatch known (away set) batch)
 no_frames_leave x = absurd (let z : 0 ≡ 4096 = x.word.wide in omega (arith, z))
 
-shard_too_few : ¬ (IsBatch known (away set) (record batch { frames = 0 ∷ []; shards = None ∷ []; parities = [] ∷ [] }))
+shard_too_few : ¬ (IsBatch known (away set) (record batch {
+  frames = 0 ∷ [];
+  shards =
+      None ∷ [];
+  parities = [] ∷ [];
+}))
 shard_too_few x = absurd (let z : 1 ≡ 2 = x.count in omega (arith, z))
 
 put_on_one_node : ¬ (IsBatch known (away set)
-    (record batch { frames = 0 ∷ []; shards = Some (at 0 0) ∷ Some (at 0 1) ∷ []; parities = [] ∷ [] }))
+    (record batch {
+      frames = 0 ∷ [];
+      shards = Some (at 0 0) ∷ Some (at 0 1) ∷ [];
+      parities =
+          [] ∷ [];
+    }))
 put_on_one_node x =
     absurd (let z : 0 ≡ 1 = x.apart 0 1 (at 0 0) (at 0 1) refl refl refl in omega (arith, z))
 

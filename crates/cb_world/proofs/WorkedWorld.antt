@@ -20,7 +20,7 @@ use Rattle.cb_world.specs.LocalSound.{LocalSound, AreKnown, AreFrames, ArePlaced
 use Rattle.cb_world.proofs.Apart.{some_same}
 
 -- slots of 1,024 bytes, four a span
-abbrev largest : Class
+abbrev pub largest : Class
 largest = record { index = 11 }
 
 abbrev slots_with : Option ℕ → Option ℕ → List (Option ℕ)

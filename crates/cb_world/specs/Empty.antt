@@ -8,6 +8,7 @@ use Rattle.cb_node.specs.NodesState.{empty_nodes}
 use Rattle.cb_world.specs.declared.shown.Shown.{Shown}
 use Rattle.cb_world.specs.Shown.{never}
 use Rattle.cb_world.specs.FarState.{FarState}
+use Rattle.cb_world.specs.Plain.{Words}
 
 -- all frames are free, no object was made and all nodes are up without rows
 abbrev pub empty_far : Config → FarState
@@ -31,6 +32,15 @@ empty_shown c = record {
   first = 1;
   objects = replicate c.handles never;
   hots = replicate c.handles false;
+  versions = replicate c.handles 0;
+  memory = replicate (512 * c.frames) 0;
+}
+
+-- the desk where every word is 0
+abbrev pub empty_words : Config → Words
+empty_words c = record {
+  settings = c;
+  words = replicate c.handles 0;
   versions = replicate c.handles 0;
   memory = replicate (512 * c.frames) 0;
 }

@@ -1,3 +1,7 @@
+ghost use Rattle.std.specs.Prelude.{◌≡◌, IfOk};
+ghost use Rattle.cb_types.specs.Config.{IsAccepted};
+ghost use Rattle.cb_world.specs.Empty.{empty_far};
+
 use crate::counts::Counts;
 use crate::homes::Homes;
 use crate::joining::Joining;
@@ -5,8 +9,10 @@ use crate::leaving::Leaving;
 use crate::sets::Sets;
 use crate::spans::Spans;
 use cb_frame::Frames;
-use cb_member::Members;
+use cb_member::{Members, NoMemory};
 use cb_node::Nodes;
+use cb_types::Config;
+use std::alloc::Global;
 use std::marker::Model;
 
 /// The far state: all that stands beside the words of local memory. It is the far lock's to change.
@@ -50,4 +56,28 @@ impl Model for Far {
       joining = a.joining;
       counts = a.counts;
     } };
+}
+
+impl Far {
+    /// The far state of a configuration at the start: all frames are free, no object was made, and
+    /// all nodes are up without rows. Takes the memory of all frames' spans,
+    /// their index and all homes.
+    pub fn new(alloc: Global, config: Config) -> Result<Far, NoMemory>
+        requires { IsAccepted config }
+        ensures empty { IfOk result (λ far. far ≡ empty_far config) }
+    {
+        Ok(Far {
+            first: 1,
+            made: 0,
+            frames: Frames::new(alloc, config.frames)?,
+            spans: Spans::new(alloc, config.frames)?,
+            sets: Sets::new(alloc),
+            homes: Homes::new(alloc, config.handles)?,
+            nodes: Nodes::new(alloc, config.nodes, config.room)?,
+            members: Members::new(alloc, config.nodes)?,
+            leaving: None,
+            joining: None,
+            counts: Counts::new(),
+        })
+    }
 }
