@@ -19,13 +19,12 @@ use Rattle.cb_script.specs.Unbuilt.{IsFirstUnbuilt}
 use Rattle.cb_script.proofs.OneReading.{spells_no_fault}
 use Rattle.cb_script.proofs.Phrases.{differ}
 use Rattle.cb_app.specs.declared.ending.Ending.{Ending}
-use Rattle.cb_app.specs.declared.words.Command.{Command}
 use Rattle.cb_app.specs.declared.words.Command.TheVariants.{Seq, Check}
 use Rattle.cb_app.specs.Lanes.{lane_count}
 use Rattle.cb_app.specs.Outcome.{IsChecked, Yields, Accepts, IsTaken, IsDone, AreWordsRefused, IsRefusal, IsScriptRefused}
 use Rattle.cb_app.specs.Outcome.IsRefusal.{NoScript, NotBuilt}
 use Rattle.cb_app.specs.Texts.{check_text}
-use Rattle.cb_app.specs.Words.{word_of, Name, NameNone}
+use Rattle.cb_app.specs.Words.{Name, NameNone}
 
 -- ---- the words
 

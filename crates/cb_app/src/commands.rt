@@ -20,10 +20,11 @@ use std::alloc::Global;
 
 /// The ending and the text that a command makes of the bytes of a script.
 pub fn obey(alloc: Global, command: Command, bytes: &[u8]) -> Result<(Ending, Bytes), ScriptFault>
-    ensures yields { IfOk result (λ due. (script : Script) × Yields command bytes.now script due.0 due.1) }
+    ensures yields { IfOk result (λ due. (script : Script)
+        × Yields command bytes.now script due.0 due.1) }
     ensures refused { IfErr result (λ e. FaultIs e (IsRefusal command bytes.now)) }
-    ensures complete { (script : Script) → Spells bytes.now Seq script → Accepts command script.lines
-        → IfErr result (λ e. e ≡ ScriptFault.NoMemory) }
+    ensures complete { (script : Script) → Spells bytes.now Seq script
+        → Accepts command script.lines → IfErr result (λ e. e ≡ ScriptFault.NoMemory) }
 {
     match command {
         Command::Seq => answer_bytes(alloc, bytes),

@@ -29,7 +29,8 @@ pub fn run<S: Source, K: Sink>(
     end: &mut Ending,
 ) -> Result<Due, Failure>
     ensures done { result ≡ Ok Due.Done
-        → TellsScript words.now (S.left source.old) (S.left source.new) (K.held sink.old) (K.held sink.new) end.new }
+        → TellsScript words.now (S.left source.old) (S.left source.new)
+        (K.held sink.old) (K.held sink.new) end.new }
 
     ensures words_refused { result ≡ Ok Due.WordsRefused
         → AreWordsRefused words.now (S.left source.old) (S.left source.new) }
@@ -39,7 +40,8 @@ pub fn run<S: Source, K: Sink>(
         × (end.new ≡ end.old) }
 
     ensures script_refused { result ≡ Ok Due.ScriptRefused
-        → RefusesScript words.now (S.left source.old) (S.left source.new) (K.held sink.old) (K.held sink.new) }
+        → RefusesScript words.now (S.left source.old) (S.left source.new)
+        (K.held sink.old) (K.held sink.new) }
     ensures script_end { result ≡ Ok Due.ScriptRefused → end.new ≡ end.old }
 
     ensures read_fault { result ≡ Err Failure.Read
@@ -63,7 +65,8 @@ pub fn run<S: Source, K: Sink>(
     ensures most { (bytes : List ℕ) × Consumes (S.left source.old) (S.left source.new) bytes
         × (length bytes ≤ 1048577) }
     // What spells a script that the command accepts is not refused.
-    ensures complete { (command : Command) → Name words.now command → (bytes : List ℕ) (script : Script)
+    ensures complete { (command : Command) → Name words.now command
+        → (bytes : List ℕ) (script : Script)
         → S.left source.old ≡ Some bytes → Spells bytes Seq script
         → Accepts command script.lines
         → (result ≡ Ok Due.Done) ⊎ IsErr result }

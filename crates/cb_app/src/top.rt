@@ -49,7 +49,8 @@ pub fn carbink_run<R: Threads + Wait + Sync, S: Source, K: Sink>(
     // 0: the words name a command, and the bytes taken spell a script. `seq` answered its lines as the
     // plain map answers them, and puts the answers; `check` puts how many lines and lanes it has.
     ensures done { result ≡ 0
-        → TellsScript words.now (S.left src.old) (S.left src.new) (K.held out.old) (K.held out.new) end.new }
+        → TellsScript words.now (S.left src.old) (S.left src.new)
+        (K.held out.old) (K.held out.new) end.new }
 
     // 1: the words name no command, and nothing was taken.
     ensures words_refused { result ≡ 1
@@ -61,7 +62,8 @@ pub fn carbink_run<R: Threads + Wait + Sync, S: Source, K: Sink>(
     // 2: the bytes taken spell no script, or one with a verb that is not built and that `seq` would
     // have to answer; what is put tells where and why.
     ensures script_refused { result ≡ 2
-        → RefusesScript words.now (S.left src.old) (S.left src.new) (K.held out.old) (K.held out.new) }
+        → RefusesScript words.now (S.left src.old) (S.left src.new)
+        (K.held out.old) (K.held out.new) }
     ensures script_end { result ≡ 2 → end.new ≡ end.old }
 
     // 3: reading failed in this call, and nothing was put.
@@ -84,7 +86,8 @@ pub fn carbink_run<R: Threads + Wait + Sync, S: Source, K: Sink>(
         × (length bytes ≤ 1048577) }
     // What spells a script that the command accepts is done with, where neither reading nor writing
     // fails and there is memory.
-    ensures complete { (command : Command) → Name words.now command → (bytes : List ℕ) (script : Script)
+    ensures complete { (command : Command) → Name words.now command
+        → (bytes : List ℕ) (script : Script)
         → S.left src.old ≡ Some bytes → Spells bytes Seq script
         → Accepts command script.lines → (result ≡ 0) ⊎ (3 ≤ result) }
 {

@@ -1,4 +1,4 @@
-use Rattle.std.proofs.Common.{◌≡◌, ◌+◌, ◌<◌, List, [], ◌∷◌, ◌++◌, take, refl, sym, ◌∙◌, rules, arith}
+use Rattle.std.proofs.Common.{◌≡◌, ◌+◌, ◌<◌, [], ◌∷◌, ◌++◌, take, refl, sym, ◌∙◌, rules, arith}
 use Rattle.cb_app.specs.Lanes.{lanes_of}
 use Rattle.cb_app.proofs.LaneCounts.{none_raised, raised, raised_before, lanes_more, counts_again, counts_new}
 use Rattle.cb_app.proofs.lanes.different_lanes.Goals as goal
@@ -19,13 +19,13 @@ loop-line-preserved c =
     let low : x < 256 = search rules in
     elim c.if-not-seen-lane.branch [
       | then-not-seen-lane w ↦ rw (w.seen-is, w.count-is, more, c.from-lane.ensures) (record {
-          flags = raised c.loop-line.seen before x low flags;
-          counted = counts_new c.loop-line.seen before x c.loop-line.count low flags (rw c.from-lane.ensures at w.if-not-seen-lane.true) c.loop-line.invariant.counted;
-          few = omega (arith, c.loop-line.invariant.few);
-        })
+        flags = raised c.loop-line.seen before x low flags;
+        counted = counts_new c.loop-line.seen before x c.loop-line.count low flags (rw c.from-lane.ensures at w.if-not-seen-lane.true) c.loop-line.invariant.counted;
+        few = omega (arith, c.loop-line.invariant.few);
+      })
       | else-not-seen-lane w ↦ rw (w.seen-is, w.count-is, more) (record {
-          flags = raised_before c.loop-line.seen before x (sym (flags.each x low) ∙ (rw c.from-lane.ensures at w.if-not-seen-lane.false)) flags;
-          counted = counts_again c.loop-line.seen before x c.loop-line.count low flags (rw c.from-lane.ensures at w.if-not-seen-lane.false) c.loop-line.invariant.counted;
-          few = omega (arith, c.loop-line.invariant.few);
-        })
+        flags = raised_before c.loop-line.seen before x (sym (flags.each x low) ∙ (rw c.from-lane.ensures at w.if-not-seen-lane.false)) flags;
+        counted = counts_again c.loop-line.seen before x c.loop-line.count low flags (rw c.from-lane.ensures at w.if-not-seen-lane.false) c.loop-line.invariant.counted;
+        few = omega (arith, c.loop-line.invariant.few);
+      })
     ]

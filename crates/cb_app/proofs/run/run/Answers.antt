@@ -1,7 +1,7 @@
-use Rattle.std.proofs.Common.{ap, sym, refl, ◌∙◌, ◌≡◌, inl, inr, Err}
+use Rattle.std.proofs.Common.{sym, refl, ◌∙◌}
 use Rattle.cb_app.proofs.CommandWords.{one_command}
 use Rattle.cb_app.proofs.Refusals.{all_taken, tells, cuts}
-use Rattle.cb_app.specs.Outcome.{IsTaken, IsRefusal, IsScriptRefused}
+use Rattle.cb_app.specs.Outcome.{IsScriptRefused}
 use Rattle.cb_app.proofs.run.run.Goals as goal
 
 pub returns-in-Err-Bad-clause-script_refused : goal.returns-in-Err-Bad-clause-script_refused
