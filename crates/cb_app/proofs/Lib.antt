@@ -5,3 +5,5 @@ pub mod Refusals
 pub mod Statuses
 pub mod WorkedRuns
 pub mod WorkedCommands
+pub mod WorkedAnswered
+mod OneWord

@@ -25,17 +25,18 @@ use Rattle.cb_app.specs.Outcome.{IsChecked, Yields, Accepts, IsTaken, IsDone, Ar
 use Rattle.cb_app.specs.Outcome.IsRefusal.{NoScript, NotBuilt}
 use Rattle.cb_app.specs.Texts.{check_text}
 use Rattle.cb_app.specs.Words.{Name, NameNone}
+use Rattle.cb_world.specs.World.{WorldState}
 
 -- ---- the words
 
-seq_named : (w : String Global) → string_bytes w ≡ codes "seq" → Name (w ∷ []) Seq
+pub seq_named : (w : String Global) → string_bytes w ≡ codes "seq" → Name (w ∷ []) Seq
 seq_named w is = ap (λ (b : List ℕ). b ∷ []) is
 
 check_named : (w : String Global) → string_bytes w ≡ codes "check" → Name (w ∷ []) Check
 check_named w is = ap (λ (b : List ℕ). b ∷ []) is
 
 -- no word, a second word, and a word of neither command name none
-no_word : NameNone []
+pub no_word : NameNone []
 no_word command is = absurd cc
 
 second_word : (v w : String Global) → NameNone (v ∷ w ∷ [])
@@ -123,19 +124,19 @@ unfolding digits
 text_of_it = refl
 
 abbrev ending : Ending
-ending = record { config = Some small; answers = []; losses = [] }
+ending = record { config = Some small; answers = []; losses = []; world = None }
 
 checked : IsChecked input script ending
-checked = record { spelled = spelled; config = refl; no_answers = refl; no_losses = refl }
+checked = record { spelled = spelled; config = refl; no_answers = refl; no_losses = refl; no_world = refl }
 
 -- another script is spelled
 another_script : IsChecked input (record { config = small; lines = [] }) ending → ⊥
 another_script is = absurd (let e = is.spelled.text in cc)
 
-no_config : IsChecked input script (record { config = None; answers = []; losses = [] }) → ⊥
+no_config : IsChecked input script (record { config = None; answers = []; losses = []; world = None }) → ⊥
 no_config is = absurd (let e : None ≡ Some small = is.config in cc)
 
-an_answer : (a : Answer) → IsChecked input script (record { config = Some small; answers = a ∷ []; losses = [] }) → ⊥
+an_answer : (a : Answer) → IsChecked input script (record { config = Some small; answers = a ∷ []; losses = []; world = None }) → ⊥
 an_answer a is = absurd (let e : a ∷ [] ≡ [] = is.no_answers in cc)
 
 a_loss : (end : Ending) → length end.losses ≡ 1 → IsChecked input script end → ⊥
@@ -198,3 +199,7 @@ refused_by_seq w is = record { command = Seq; words_are = seq_named w is; refuse
 
 refused_without_words : IsScriptRefused [] (Some input) (Some []) 2 Unbuilt → ⊥
 refused_without_words is = no_word is.command is.words_are
+
+-- a world is left
+a_world : (end : Ending) → (w : WorldState) → end.world ≡ Some w → IsChecked input script end → ⊥
+a_world end w there is = absurd (let both : None ≡ Some w = sym is.no_world ∙ there in cc)

@@ -1,6 +1,6 @@
 -- What a run took, what it leaves, and the text that is due. Each is a fact about the words, the
 -- bytes taken, the ending and the text alone.
-use Rattle.std.specs.Prelude.{◌≡◌, ℕ, ◌<◌, ◌⊎◌, List, [], length, take, map, Option, Some, String}
+use Rattle.std.specs.Prelude.{◌≡◌, ℕ, ◌<◌, ◌⊎◌, List, [], length, take, map, Option, None, Some, String}
 use Rattle.std.specs.List.{AllByRecursion}
 use Rattle.std.specs.Io.KnownBytes.{Appends, Consumes, IsAtEnd}
 use Rattle.std.specs.declared.alloc.Global.{Global}
@@ -15,7 +15,11 @@ use Rattle.cb_script.specs.Form.{Spells}
 use Rattle.cb_model.specs.Legal.{IsLegalInOrder}
 use Rattle.cb_text.specs.Line.{text_of}
 use Rattle.cb_app.specs.declared.ending.Ending.{Ending}
-use Rattle.cb_lanes.specs.Asked.{asked, HasMapReply}
+use Rattle.cb_lanes.specs.Asked.{asked, HasLineReply}
+use Rattle.cb_lanes.specs.Held.{HoldsAnswers}
+use Rattle.cb_lanes.specs.LineStep.{LinesLead}
+use Rattle.cb_lanes.specs.Lost.{losses_of}
+use Rattle.cb_world.specs.World.{WorldState, IsSoundWorld, empty_world}
 use Rattle.cb_app.specs.Texts.{words_refused, fault_text, check_text}
 use Rattle.cb_app.specs.declared.words.Command.{Command}
 use Rattle.cb_app.specs.declared.words.Command.TheVariants as commands
@@ -36,9 +40,17 @@ pub record IsAnswered (bytes : List ℕ) (script : Script) (end : Ending) : Type
   pub lines : map asked end.answers ≡ script.lines
   -- the answers are legal, each of them the plain map's after all before it
   pub legal : IsLegalInOrder 1 script.config.handles end.answers
-  -- and no line is refused for another reason
-  pub replies : AllByRecursion HasMapReply end.answers
-  pub losses : end.losses ≡ []
+  -- each of them is one that its line may have
+  pub replies : AllByRecursion HasLineReply end.answers
+  -- by these answers the lines lead from the empty world to the one that is left
+  pub world : WorldState
+  pub left : end.world ≡ Some world
+  pub leads : LinesLead [] (empty_world script.config) end.answers world
+  -- which is sound, and holds at each handle what the plain map has
+  pub sound : IsSoundWorld world
+  pub holds : HoldsAnswers world end.answers
+  -- the crashes that took place
+  pub losses : end.losses ≡ losses_of end.answers
 
 -- The ending of a script that was checked: its configuration, and nothing else.
 pub record IsChecked (bytes : List ℕ) (script : Script) (end : Ending) : Type 0 where
@@ -47,6 +59,7 @@ pub record IsChecked (bytes : List ℕ) (script : Script) (end : Ending) : Type 
   pub config : end.config ≡ Some script.config
   pub no_answers : end.answers ≡ []
   pub no_losses : end.losses ≡ []
+  pub no_world : end.world ≡ None
 
 -- the ending and the text that a command yields for a script
 abbrev pub Yields : Command → List ℕ → Script → Ending → List ℕ → Type 0

@@ -53,6 +53,7 @@ fn answer_bytes(alloc: Global, bytes: &[u8]) -> Result<(Ending, Bytes), ScriptFa
         config: Some(script.config),
         answers: end.answers,
         losses: end.losses,
+        world: Some(end.world),
     };
     Ok((ending, text))
 }

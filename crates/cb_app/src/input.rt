@@ -9,7 +9,7 @@ use std::alloc::{AllocError, Global};
 const MOST_TAKEN: usize = 1_048_577;
 
 /// How many bytes one call asks for at the most.
-const PIECE: usize = 4096;
+const PIECE: usize = 65_536;
 
 /// Why a source was not taken to its end.
 #[derive(Clone, Copy, Debug, PartialEq, Eq)]

@@ -60,8 +60,8 @@ pub fn run<S: Source, K: Sink>(
     ensures memory_end { result ≡ Err Failure.NoMemory → (sink.new ≡ sink.old)
         × (end.new ≡ end.old) }
 
-    ensures refuses { NameNone words.now
-        → (result ≡ Ok Due.WordsRefused) ⊎ (result ≡ Err Failure.Write) }
+    ensures refuses { NameNone words.now → (result ≡ Ok Due.WordsRefused)
+        ⊎ ((result ≡ Err Failure.Write) ⊎ (result ≡ Err Failure.NoMemory)) }
     ensures most { (bytes : List ℕ) × Consumes (S.left source.old) (S.left source.new) bytes
         × (length bytes ≤ 1048577) }
     // What spells a script that the command accepts is not refused.
@@ -71,7 +71,7 @@ pub fn run<S: Source, K: Sink>(
         → Accepts command script.lines
         → (result ≡ Ok Due.Done) ⊎ IsErr result }
 {
-    let Some(command) = command_of(words) else {
+    let Some(command) = command_of(alloc, words)? else {
         put_all(sink, WORDS_REFUSED)?;
         return Ok(Due::WordsRefused);
     };

@@ -1,6 +1,6 @@
 ghost use Rattle.std.specs.Prelude.{◌≡◌, IfOk};
 ghost use Rattle.std.specs.List.{AllByRecursion};
-ghost use Rattle.cb_lanes.specs.Asked.{HasMapReply};
+ghost use Rattle.cb_lanes.specs.Asked.{HasLineReply};
 ghost use Rattle.cb_text.specs.Line.{text_of};
 ghost use Rattle.cb_app.specs.Texts.{fault_text, check_text};
 
@@ -15,7 +15,7 @@ pub const WORDS_REFUSED: &[u8] = b"words refused\n";
 
 /// The text of answers, a line each. Each reply is one that its line may have.
 pub fn answers_text(alloc: Global, answers: &Answers) -> Result<Bytes, NoMemory>
-    requires { AllByRecursion HasMapReply answers.now }
+    requires { AllByRecursion HasLineReply answers.now }
     ensures { IfOk result (λ text. text ≡ text_of answers.now) }
 {
     let mut text = Vec::new(alloc);

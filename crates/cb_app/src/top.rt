@@ -57,7 +57,7 @@ pub fn carbink_run<R: Threads + Wait + Sync, S: Source, K: Sink>(
         → AreWordsRefused words.now (S.left src.old) (S.left src.new) }
     ensures words_text { result ≡ 1 → Appends (K.held out.old) (K.held out.new) words_refused }
     ensures words_end { result ≡ 1 → (src.new ≡ src.old) × (end.new ≡ end.old) }
-    ensures refuses { NameNone words.now → (result ≡ 1) ⊎ (result ≡ 4) }
+    ensures refuses { NameNone words.now → (result ≡ 1) ⊎ (4 ≤ result) }
 
     // 2: the bytes taken spell no script, or one with a verb that is not built and that `seq` would
     // have to answer; what is put tells where and why.

@@ -1,4 +1,5 @@
-ghost use Rattle.std.specs.Prelude.{◌≡◌, ◌*◌, ◌<◌, ◌≤◌};
+ghost use Rattle.std.specs.Prelude.{◌≡◌, ◌≢◌, ◌*◌, ◌<◌, ◌≤◌, IfNone, IfSome};
+ghost use Rattle.cb_class.specs.declared.class.Class.{Class};
 ghost use Rattle.cb_class.specs.Class.{IsClass, IsClassOf, bytes_of, slots_of, words_of};
 
 /// The bytes of a span: one page.
@@ -54,6 +55,22 @@ pub fn slots(c: Class) -> u32
     ensures fit { result * bytes_of c ≤ SPAN_BYTES }
 {
     SPAN_BYTES / class_bytes(c)
+}
+
+/// The class of which a span has so many slots, and None where there is none: no two classes have
+/// the same count. A walk over the table of classes.
+pub fn class_with_slots(count: u32) -> Option<Class>
+    ensures class { IfSome result IsClass }
+    ensures slots { IfSome result (λ c. slots_of c ≡ count) }
+    ensures none { IfNone result ((c : Class) → IsClass c → slots_of c ≢ count) }
+{
+    for index in 0..CLASSES as u32 {
+        let class = Class { index };
+        if slots(class) == count {
+            return Some(class);
+        }
+    }
+    None
 }
 
 /// The words of eight bytes of a slot of the class, 2 to 128.

@@ -8,5 +8,5 @@ mod tests;
 
 pub use class::{
     CLASS_BYTES, CLASSES, Class, FRAME_WORDS, SPAN_BYTES, WORD_BYTES, class_bytes, class_of,
-    slot_words, slots,
+    class_with_slots, slot_words, slots,
 };

@@ -22,3 +22,19 @@ fn a_span_has_the_slots_and_words_of_its_class(rt: HostRuntime) {
         assert_eq!(rt; slot_words(class), words, "at {index}");
     }
 }
+
+#[test]
+fn a_count_of_slots_tells_the_class(rt: HostRuntime) {
+    for (count, index) in [
+        (256, Some(0)),
+        (85, Some(2)),
+        (4, Some(11)),
+        (3, None),
+        (86, None),
+    ] {
+        assert!(rt;
+            class_with_slots(count) == index.map(|index| Class { index }),
+            "at {count}"
+        );
+    }
+}

@@ -1,11 +1,69 @@
--- The table of one data row and one parity at worked values: for each part of the definition a table that breaks it alone.
-use Rattle.std.proofs.Common.{◌≡◌, ℕ, zero, suc, ◌^◌, ◌<◌, get_or, List, [], ◌∷◌, length, refl, arith}
+-- Tables at worked values: one that meets the definition, and for each part one of one data row and one parity that breaks it alone.
+use Rattle.std.proofs.Common.{◌≡◌, ℕ, zero, suc, ◌^◌, ◌+◌, ◌<◌, get_or, List, [], ◌∷◌, length, replicate, refl, arith}
 use Rattle.cb_gf256.specs.Product.{◌⊗◌}
 use Rattle.cb_gf256.specs.Power.{power}
 use Rattle.cb_gf256.specs.Rows.{row_at, byte_at, HaveLength}
 use Rattle.cb_gf256.specs.CodeWord.{syndrome}
 use Rattle.cb_gf256.specs.Combination.{combination}
+use Rattle.cb_gf256.specs.InRange.{IsInRange}
+use Rattle.cb_gf256.specs.Lagrange.{differences, points}
 use Rattle.cb_code.specs.Coefficients.{AreCoefficients, IsCode}
+use Rattle.cb_code.proofs.Tables.{coefficients_of, is_code}
+
+-- ---- the table of two data rows and two parities: each coefficient is Lagrange's factor of a data
+-- position for a parity's
+abbrev parities : List ℕ
+parities = 2 ∷ 3 ∷ []
+
+abbrev at_parity : ℕ → ℕ
+at_parity e = get_or parities e 0
+
+abbrev places : List (List ℕ)
+places =
+    (0xC8 ∷ 0x8F ∷ replicate 14 0) ∷ (0xC9 ∷ 0x8E ∷ replicate 14 0) ∷ replicate 16 0 ∷ replicate 16 0 ∷ []
+
+two_by_two : IsInRange 2 2
+two_by_two = record { data_least = omega arith; data_most = omega arith; parities_least = omega arith; parities_most = omega arith }
+
+parity_at : (e : ℕ) → e < 2 → at_parity e ≡ 2 + e
+parity_at zero l = refl
+parity_at (suc zero) l = refl
+parity_at (suc (suc e)) l = absurd (omega arith)
+
+sixteen_places : HaveLength 16 places
+sixteen_places zero d l = refl
+sixteen_places (suc zero) d l = refl
+sixteen_places (suc (suc zero)) d l = refl
+sixteen_places (suc (suc (suc zero))) d l = refl
+sixteen_places (suc (suc (suc (suc k)))) d l = absurd (omega arith)
+
+quotients : (m i : ℕ) → m < 2 → i < 2
+    → differences 2 (points at_parity) m (power 2 (at_parity m)) ⊗ byte_at places m i ≡ differences 2 (points at_parity) m (power 2 i)
+unfolding ◌⊗◌ power
+quotients zero zero p q = refl
+quotients zero (suc zero) p q = refl
+quotients (suc zero) zero p q = refl
+quotients (suc zero) (suc zero) p q = refl
+quotients (suc (suc m)) i p q = absurd (omega arith)
+quotients m (suc (suc i)) p q = absurd (omega arith)
+
+factor_bytes : (m i : ℕ) → m < 2 → i < 2 → byte_at places m i < 256
+factor_bytes zero zero p q = omega arith
+factor_bytes zero (suc zero) p q = omega arith
+factor_bytes (suc zero) zero p q = omega arith
+factor_bytes (suc zero) (suc zero) p q = omega arith
+factor_bytes (suc (suc m)) i p q = absurd (omega arith)
+factor_bytes m (suc (suc i)) p q = absurd (omega arith)
+
+pub of_two_and_two : AreCoefficients 2 2 ((0xC8 ∷ 0x8F ∷ []) ∷ (0xC9 ∷ 0x8E ∷ []) ∷ [])
+of_two_and_two =
+    coefficients_of 2 2 parities places two_by_two refl parity_at refl sixteen_places
+    (λ m i p q. record { byte = factor_bytes m i p q; quotient = quotients m i p q })
+
+pub is_the_code : IsCode ((0xC8 ∷ 0x8F ∷ []) ∷ (0xC9 ∷ 0x8E ∷ []) ∷ [])
+is_the_code = is_code 2 2 ((0xC8 ∷ 0x8F ∷ []) ∷ (0xC9 ∷ 0x8E ∷ []) ∷ []) two_by_two of_two_and_two
+
+-- ---- tables that are not
 
 pub no_table_without_rows : AreCoefficients 1 1 [] → ⊥
 no_table_without_rows h = absurd (omega (arith, h.parities))

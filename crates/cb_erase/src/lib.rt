@@ -1,6 +1,8 @@
 //! Erasures of the Reed-Solomon code over GF(256): any k rows of a code word give the others.
 #![tactic(auto)]
 
+#[cfg(test)]
+mod block_tests;
 mod laws;
 mod lost;
 mod solving;

@@ -23,7 +23,7 @@ fn column_of(alloc: Global, bytes: &[u8]) -> Result<Rows, NoMemory>
     Ok(rows)
 }
 
-fn expect_range(rt: &impl Abort, k: u32, r: u32)
+pub(crate) fn expect_range(rt: &impl Abort, k: u32, r: u32)
     ensures { IsInRange k r }
 {
     assert!(rt; 1 <= k);
@@ -32,7 +32,7 @@ fn expect_range(rt: &impl Abort, k: u32, r: u32)
     assert!(rt; r <= 4);
 }
 
-fn expect_positions(rt: &impl Abort, n: u32, k: u32, positions: &[u8])
+pub(crate) fn expect_positions(rt: &impl Abort, n: u32, k: u32, positions: &[u8])
     ensures { ArePositions n k positions.now }
 {
     assert_eq!(rt; positions.len(), k as usize);

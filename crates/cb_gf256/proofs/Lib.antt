@@ -8,6 +8,7 @@ pub mod SumLaws
 pub mod OrderLemmas
 pub mod WorkedVectors
 pub mod WorkedRows
+pub mod WorkedPlacing
 pub mod Polynomials
 pub mod LagrangeLemmas
 pub mod Restoring

@@ -1,6 +1,8 @@
-pub mod Steps
-pub mod Objects
-pub mod Tracks
-pub mod Tracking
-pub mod Lines
-pub mod WorkedReplies
+pub mod Calls
+pub mod NamesKept
+pub mod Near
+pub mod Turning
+pub mod LineGoes
+pub mod Silent
+pub mod Along
+pub mod WorkedLines

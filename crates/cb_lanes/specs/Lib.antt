@@ -1,2 +1,5 @@
 pub mod Asked
-pub mod Step
+pub mod Names
+pub mod LineStep
+pub mod Held
+pub mod Lost

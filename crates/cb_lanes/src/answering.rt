@@ -1,51 +1,85 @@
-ghost use Rattle.std.specs.Prelude.{◌≡◌, ◌<◌, IfOk, slice_get};
+ghost use Rattle.std.specs.Prelude.{◌≡◌, ◌<◌, ◌≤◌, ℕ, List, Some, IfOk, length};
 ghost use Rattle.std.specs.Option.{option_map};
 ghost use Rattle.cb_script.specs.Unbuilt.{IsBuilt};
-ghost use Rattle.cb_model.specs.Map.{HasNext};
-ghost use Rattle.cb_lanes.specs.Step.{handle_in, AreReady, IsOnObject, ObjectSteps, Steps};
+ghost use Rattle.cb_script.specs.Form.{IsRequest};
+ghost use Rattle.cb_world.specs.World.{IsSoundWorld};
+ghost use Rattle.cb_core.specs.Jobs.{IsJob};
+ghost use Rattle.cb_core.specs.Step.{Step};
+ghost use Rattle.cb_lanes.specs.LineStep.{LineStep, ObjectStep};
+ghost use Rattle.cb_lanes.specs.Names.{AreKept, AreReady, IsOnObject, handle_in};
 
-use cb_model::{MapReply, MapState};
-use cb_types::{Bytes, Handle, Name, NoMemory, Reply, Request};
+use cb_core::{Event, step};
+use cb_types::{Bytes, Handle, Job, Name, NoMemory, Reply, Request};
+use cb_world::World;
 use std::alloc::Global;
 use std::collections::BTreeMap;
 
-/// Answers one request on the map, and keeps the handle of a name that it makes.
+/// Answers one request of the lane of this seat in the world, and keeps the handle of a name that it
+/// makes. A line costs the logarithm of the names, and what its event costs.
 pub(crate) fn reply_to<'a>(
     alloc: Global,
-    state: &mut MapState,
+    world: &mut World,
     names: &mut BTreeMap<&'a [u8], Handle>,
+    seat: u32,
     request: &'a Request,
 ) -> Result<Reply, NoMemory>
+    requires seat { seat < 64 }
     requires built { IsBuilt request.now }
-    requires ready { AreReady state.old names.old }
-    ensures step { IfOk result (λ reply. Steps state.old names.old request.now reply state.new names.new) }
+    requires request { IsRequest world.old.desk.settings.nodes request.now }
+    requires ready { AreReady world.old.desk.settings.handles names.old }
+    requires sound { IsSoundWorld world.old }
+    ensures line { IfOk result (λ reply. LineStep seat (handle_in names.old request.now) request.now world.old reply world.new) }
+    ensures names { IfOk result (λ reply. AreKept names.old request.now reply names.new) }
+    ensures sound { IsSoundWorld world.new }
 {
-    if let Request::Make { name, bytes } = request {
-        return make_named(alloc, state, names, name, bytes);
+    match request {
+        Request::Make { name, bytes } => make_named(alloc, world, names, seat, name, bytes),
+        Request::Crash { node } => turn_of(alloc, world, seat, Job::Crash { node: *node }),
+        Request::Join { node } => turn_of(alloc, world, seat, Job::Join { node: *node }),
+        _ => match handle_of(names, request) {
+            None => Ok(Reply::Unmade),
+            Some(handle) => call_object(alloc, world, seat, handle, request),
+        },
     }
-    match handle_of(names, request) {
-        None => Ok(Reply::Unmade),
-        Some(handle) => call_object(alloc, state, handle, request),
-    }
+}
+
+/// A turn of a seat.
+fn turn_of(alloc: Global, world: &mut World, seat: u32, job: Job) -> Result<Reply, NoMemory>
+    requires seat { seat < 64 }
+    requires job { IsJob world.old.desk.settings job }
+    requires sound { IsSoundWorld world.old }
+    ensures step { IfOk result (λ reply. Step world.old (Event.Turn seat job) reply world.new) }
+    ensures sound { IsSoundWorld world.new }
+{
+    step(alloc, world, &Event::Turn { seat, job })
 }
 
 /// Makes an object, and keeps its handle under the name.
 fn make_named<'a>(
     alloc: Global,
-    state: &mut MapState,
+    world: &mut World,
     names: &mut BTreeMap<&'a [u8], Handle>,
+    seat: u32,
     name: &'a Name,
     bytes: &Bytes,
 ) -> Result<Reply, NoMemory>
-    ensures step { IfOk result (λ reply. Steps state.old names.old (Request.Make name.now bytes.now) reply state.new names.new) }
+    requires seat { seat < 64 }
+    requires some_byte { 1 ≤ length bytes.now }
+    requires few { length bytes.now ≤ 1024 }
+    requires sound { IsSoundWorld world.old }
+    ensures step { IfOk result (λ reply. Step world.old (Event.Turn seat (Job.Make bytes.now)) reply world.new) }
+    ensures names { IfOk result (λ reply. AreKept names.old (Request.Make name.now bytes.now) reply names.new) }
+    ensures sound { IsSoundWorld world.new }
 {
-    match state.make(alloc, bytes.as_slice())? {
-        MapReply::Made { handle, version } => {
+    let job = Job::Make {
+        bytes: bytes.copy(alloc)?,
+    };
+    match turn_of(alloc, world, seat, job)? {
+        Reply::Made { handle, version } => {
             names.insert(name.as_slice(), handle)?;
             Ok(Reply::Made { handle, version })
         }
-        MapReply::Full { handles } => Ok(Reply::Full { handles }),
-        _ => unreachable!(),
+        reply => Ok(reply),
     }
 }
 
@@ -60,19 +94,26 @@ fn handle_of<'a>(names: &BTreeMap<&'a [u8], Handle>, request: &'a Request) -> Op
 /// Answers a read, a write or a free of an object.
 fn call_object(
     alloc: Global,
-    state: &mut MapState,
+    world: &mut World,
+    seat: u32,
     handle: Handle,
     request: &Request,
 ) -> Result<Reply, NoMemory>
+    requires seat { seat < 64 }
     requires known { IsOnObject request.now }
-    requires within { handle.n < state.old.handles }
-    requires next { HasNext (slice_get state.old.objects handle.n) }
-    ensures step { IfOk result (λ reply. ObjectSteps state.old handle.n request.now reply state.new) }
+    requires within { handle.n < world.old.desk.settings.handles }
+    requires sound { IsSoundWorld world.old }
+    ensures step { IfOk result (λ reply. ObjectStep seat (Some handle.n) request.now world.old reply world.new) }
+    ensures sound { IsSoundWorld world.new }
 {
-    let reply = match request {
-        Request::Write { at, bytes, .. } => state.write(handle, *at, bytes.as_slice()),
-        Request::Free { .. } => state.free(handle),
-        _ => state.read(alloc, handle)?,
+    let job = match request {
+        Request::Write { at, bytes, .. } => Job::Write {
+            handle,
+            at: *at,
+            bytes: bytes.copy(alloc)?,
+        },
+        Request::Free { .. } => Job::Free { handle },
+        _ => Job::Read { handle },
     };
-    Ok(Reply::from(reply))
+    turn_of(alloc, world, seat, job)
 }

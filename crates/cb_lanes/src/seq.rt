@@ -1,39 +1,53 @@
-ghost use Rattle.std.specs.Prelude.{◌≡◌, [], map, IfOk};
-ghost use Rattle.std.specs.List.{AllByRecursion};
+ghost use Rattle.std.specs.Prelude.{◌≡◌, [], ◌++◌, map, IfOk};
+ghost use Rattle.std.specs.List.{AllByRecursion, cons_option};
 ghost use Rattle.cb_model.specs.Legal.{IsLegalInOrder};
+ghost use Rattle.cb_script.specs.Form.{IsScript};
 ghost use Rattle.cb_script.specs.Unbuilt.{IsBuilt};
-ghost use Rattle.cb_lanes.specs.Asked.{asked, HasMapReply};
+ghost use Rattle.cb_world.specs.World.{IsSoundWorld, empty_world};
+ghost use Rattle.cb_lanes.specs.Asked.{asked, HasLineReply};
+ghost use Rattle.cb_lanes.specs.Held.{HoldsAnswers};
+ghost use Rattle.cb_lanes.specs.LineStep.{LinesLead};
+ghost use Rattle.cb_lanes.specs.Lost.{loss_of, losses_of};
 
 use crate::answering::reply_to;
-use cb_model::MapState;
 use cb_script::Script;
-use cb_types::{Answer, Answers, Losses, NoMemory};
+use cb_types::{Answer, Answers, Loss, Losses, NoMemory, Reply, Request};
+use cb_world::World;
 use std::alloc::Global;
 use std::collections::BTreeMap;
 
 /// What a script leaves that was run on one thread.
-#[derive(Debug, Drop)]
+#[derive(Drop)]
 pub struct SeqEnd {
     /// The answers, one for each line behind the header, in order.
     pub answers: Answers,
     /// The crashes that took place.
     pub losses: Losses,
+    /// The world that the lines led to.
+    pub world: World,
 }
 
-/// Answers the lines of a script in order, on one map. Each line's request is one that is built. A
-/// line costs the logarithm of the names and the length of its bytes.
+/// Answers the lines of a script in order, in one world. Each line's request is one that is built. A
+/// line costs the logarithm of the names, and what its event costs.
 pub fn run_seq(alloc: Global, s: &Script) -> Result<SeqEnd, NoMemory>
+    requires script { IsScript s.now }
     requires built { AllByRecursion (λ l. IsBuilt l.request) s.now.lines }
     ensures lines { IfOk result (λ end. map asked end.answers ≡ s.now.lines) }
     ensures legal { IfOk result (λ end. IsLegalInOrder 1 s.now.config.handles end.answers) }
-    ensures answered { IfOk result (λ end. AllByRecursion HasMapReply end.answers) }
-    ensures losses { IfOk result (λ end. end.losses ≡ []) }
+    ensures answered { IfOk result (λ end. AllByRecursion HasLineReply end.answers) }
+    ensures leads { IfOk result (λ end. LinesLead [] (empty_world s.now.config) end.answers end.world) }
+    ensures sound { IfOk result (λ end. IsSoundWorld end.world) }
+    ensures holds { IfOk result (λ end. HoldsAnswers end.world end.answers) }
+    ensures losses { IfOk result (λ end. end.losses ≡ losses_of end.answers) }
 {
-    let mut state = MapState::new(alloc, s.config.handles)?;
+    let mut world = World::new(alloc, s.config)?;
     let mut names = BTreeMap::new(alloc);
     let mut answers = Answers::new(alloc);
+    let mut losses = Vec::new(alloc);
     for line in s.lines.as_slice() {
-        let reply = reply_to(alloc, &mut state, &mut names, &line.request)?;
+        let seat = u32::from(line.lane.n);
+        let reply = reply_to(alloc, &mut world, &mut names, seat, &line.request)?;
+        note_loss(&mut losses, &line.request, &reply)?;
         answers.push(Answer {
             lane: line.lane,
             line: line.line,
@@ -43,6 +57,30 @@ pub fn run_seq(alloc: Global, s: &Script) -> Result<SeqEnd, NoMemory>
     }
     Ok(SeqEnd {
         answers,
-        losses: Losses::from(Vec::new(alloc)),
+        losses: Losses::from(losses),
+        world,
     })
+}
+
+/// Adds the loss of an answered line, where it has one.
+fn note_loss(losses: &mut Vec<Loss>, request: &Request, reply: &Reply) -> Result<(), NoMemory>
+    ensures noted { IfOk result (λ done. losses.new.items ≡ losses.old.items ++ cons_option (loss_of request.now reply.now) []) }
+{
+    if let Some(loss) = loss_of(request, reply) {
+        losses.push(loss)?;
+    }
+    Ok(())
+}
+
+/// The loss of an answered line: the node of a crash that took place, with its epoch.
+fn loss_of(request: &Request, reply: &Reply) -> Option<Loss>
+    ensures { result ≡ loss_of request.now reply.now }
+{
+    match (request, reply) {
+        (Request::Crash { node }, Reply::EpochAt { epoch }) => Some(Loss {
+            node: *node,
+            epoch: *epoch,
+        }),
+        _ => None,
+    }
 }

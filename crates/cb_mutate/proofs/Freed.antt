@@ -1,5 +1,5 @@
 -- The world after a free.
-use Rattle.std.proofs.Common.{◌≡◌, ℕ, zero, suc, ◌+◌, ◌<◌, List, ◌++◌, Some, None, length, set, sym, refl, ap, ◌∙◌, subst, inl, inr}
+use Rattle.std.proofs.Common.{◌≡◌, ◌≢◌, ℕ, zero, suc, Bool, false, ◌+◌, ◌<◌, List, ◌++◌, Some, None, length, set, sym, refl, ap, ◌∙◌, subst, inl, inr}
 use Rattle.std.proofs.lemmas.List.{set-set}
 use Rattle.cb_ptr.specs.declared.word.State.{State}
 use Rattle.cb_ptr.specs.declared.word.State.TheVariants as state
@@ -29,7 +29,7 @@ use Rattle.cb_world.proofs.AfterLook.{taken_before}
 use Rattle.cb_world.proofs.Beside.{put_beside}
 use Rattle.cb_world.proofs.Gone.{sound_gone}
 use Rattle.cb_mutate.specs.Answered.{EmptyAnswer, AnsweredAs}
-use Rattle.cb_mutate.specs.FreeRule.{FreeHere, FreeFar, FreeEffect, IsGone}
+use Rattle.cb_mutate.specs.FreeRule.{FreeAs, FreeHere, FreeFar, FreeEffect, IsGone, LeavesPlace}
 use Rattle.cb_mutate.specs.FreeEnds.{with_emptied, IsEmptied, FreeEnds}
 use Rattle.cb_mutate.proofs.Written.{back_well, claimed_words, absent_before, no_taken}
 
@@ -64,7 +64,7 @@ pub record IsFreeDone (far new : FarState) (s t : Shown) (es : List Event) (h w 
   pub sound : Sound t new
   pub effect : FreeEffect h r es s t
   pub rule : FreeHere h es r w
-  pub state : FreeFar h r far new
+  pub state : FreeFar w h r far new
 
 emptied_well : (far new : FarState) (s t : Shown) (first done : List Event) (h w v : ℕ)
     (words : List ℕ) → Sound s far → (c : HasSlot far.spans h (len_of w) (place_of w))
@@ -93,9 +93,10 @@ emptied_well far new s t first done h w v words sound c a taken range stamp x le
       record {
         version = v;
         words = words;
-        taken = taken;
+        last = inl taken;
         next = refl;
         objects = objects;
+        hots = ap (λ (l : List Bool). set l h false) (sym a.told_hots);
         versions = ap (λ (l : List ℕ). set l h (v + 1)) (sym a.versions);
         memory = sym a.memory;
         one = λ old. a.writes old ∙ x.one old;
@@ -117,7 +118,7 @@ free_done far new s t first done h w v words r sound c a free taken range stamp 
       sound = subst (Sound t) (sym same) y.0;
       effect = subst (λ (q : Reply). FreeEffect h q (first ++ done) s t) (sym x.1) y.1;
       rule = inr (free.1, (v, words, taken, inl (x.0, x.1)));
-      state = subst (λ (q : Reply). FreeFar h q far new) (sym x.1) same;
+      state = subst (λ (q : Reply). FreeFar w h q far new) (sym x.1) same;
     }
 free_done far new s t first done h w v words r sound c a free taken range stamp stays left
     (inr x) =
@@ -127,14 +128,15 @@ free_done far new s t first done h w v words r sound c a free taken range stamp 
       sound = y.0;
       effect = subst (λ (q : Reply). FreeEffect h q (first ++ done) s t) (sym x.1) y.1;
       rule = inr (free.1, (v, words, taken, inr (x.0, x.1)));
-      state = subst (λ (q : Reply). FreeFar h q far new) (sym x.1) (record {
-        frame = c.frame;
-        slot = c.slot;
-        span = c.span;
-        there = c.there;
-        named = c.named;
-        left = gone;
-      });
+      state = subst (λ (q : Reply). FreeFar w h q far new) (sym x.1)
+          (subst (λ (q : State). LeavesPlace q far new h) (sym free.0) (record {
+            frame = c.frame;
+            slot = c.slot;
+            span = c.span;
+            there = c.there;
+            named = c.named;
+            left = gone;
+          }));
     }
 
 free_here_before : (h w : ℕ) (es fs : List Event) (r : Reply) → FreeHere h fs r w
@@ -144,42 +146,42 @@ free_here_before h w es fs r (inr a) =
     inr (a.0, (a.1.0, a.1.1, taken_before h a.1.0 a.1.1 es fs a.1.2, a.1.3))
 
 -- a refusal is by what was told after the look too
-pub free_before : (q : State) (h w : ℕ) (es fs : List Event) (r : Reply)
-    → AnsweredAs q (FreeHere h fs r) w h fs r
-    → AnsweredAs q (FreeHere h (es ++ fs) r) w h (es ++ fs) r
-free_before state.Here h w es fs r a = free_here_before h w es fs r a
-free_before state.Empty h w es fs r a = absent_before state.Empty h es fs r a
-free_before state.Far h w es fs r a = a
-free_before state.Moving h w es fs r a = a
+pub free_before : (q : State) (h w : ℕ) (es fs : List Event) (r : Reply) → q ≢ state.Far
+    → AnsweredAs q (FreeHere h fs r) w h fs r → FreeAs q w h (es ++ fs) r
+free_before state.Here h w es fs r near a = free_here_before h w es fs r a
+free_before state.Empty h w es fs r near a = absent_before state.Empty h es fs r a
+free_before state.Far h w es fs r near a = absurd (near refl)
+free_before state.Moving h w es fs r near a = a
 
 -- A free that found no free word changes nothing.
-pub record IsRefused (h : ℕ) (far : FarState) (es : List Event) (s t : Shown) (r : Reply)
+pub record IsRefused (h w : ℕ) (far : FarState) (es : List Event) (s t : Shown) (r : Reply)
     : Type 0 where
   pub effect : FreeEffect h r es s t
-  pub state : FreeFar h r far far
+  pub state : FreeFar w h r far far
 
-refused_by : (h : ℕ) (far : FarState) (es : List Event) (s t : Shown) (r q : Reply) → r ≡ q
-    → FreeEffect h q es s t → FreeFar h q far far → IsRefused h far es s t r
-refused_by h far es s t r q e effect state = record {
+refused_by : (h w : ℕ) (far : FarState) (es : List Event) (s t : Shown) (r q : Reply) → r ≡ q
+    → FreeEffect h q es s t → FreeFar w h q far far → IsRefused h w far es s t r
+refused_by h w far es s t r q e effect state = record {
   effect = subst (λ (z : Reply). FreeEffect h z es s t) (sym e) effect;
-  state = subst (λ (z : Reply). FreeFar h z far far) (sym e) state;
+  state = subst (λ (z : Reply). FreeFar w h z far far) (sym e) state;
 }
 
-empty_refused : (v h : ℕ) (far : FarState) (es : List Event) (s t : Shown) (r : Reply)
-    → EmptyAnswer v r → IsStill es s t → IsRefused h far es s t r
-empty_refused zero h far es s t r e still = refused_by h far es s t r answer.Unmade e still refl
-empty_refused (suc v) h far es s t r e still = refused_by h far es s t r answer.Freed e still refl
+empty_refused : (v h w : ℕ) (far : FarState) (es : List Event) (s t : Shown) (r : Reply)
+    → EmptyAnswer v r → IsStill es s t → IsRefused h w far es s t r
+empty_refused zero h w far es s t r e still =
+    refused_by h w far es s t r answer.Unmade e still refl
+empty_refused (suc v) h w far es s t r e still =
+    refused_by h w far es s t r answer.Freed e still refl
 
 pub free_refused : (q : State) (h w : ℕ) (far : FarState) (reads es : List Event) (s t : Shown)
-    (r : Reply) → AreReads h reads → AnsweredAs q (FreeHere h reads r) w h reads r
-    → IsStill es s t → IsRefused h far es s t r
-free_refused state.Empty h w far reads es s t r told a still =
-    empty_refused a.0 h far es s t r a.2 still
-free_refused state.Far h w far reads es s t r told a still =
-    refused_by h far es s t r answer.NotHere a still refl
-free_refused state.Moving h w far reads es s t r told a still =
-    refused_by h far es s t r answer.Moving a still refl
-free_refused state.Here h w far reads es s t r told (inl a) still =
-    refused_by h far es s t r (answer.Pinned (pins_of w)) a.1 still refl
-free_refused state.Here h w far reads es s t r told (inr a) still =
+    (r : Reply) → q ≢ state.Far → AreReads h reads
+    → AnsweredAs q (FreeHere h reads r) w h reads r → IsStill es s t → IsRefused h w far es s t r
+free_refused state.Empty h w far reads es s t r near told a still =
+    empty_refused a.0 h w far es s t r a.2 still
+free_refused state.Far h w far reads es s t r near told a still = absurd (near refl)
+free_refused state.Moving h w far reads es s t r near told a still =
+    refused_by h w far es s t r answer.Moving a still refl
+free_refused state.Here h w far reads es s t r near told (inl a) still =
+    refused_by h w far es s t r (answer.Pinned (pins_of w)) a.1 still refl
+free_refused state.Here h w far reads es s t r near told (inr a) still =
     absurd (no_taken h a.1.0 a.1.1 reads told a.1.2)

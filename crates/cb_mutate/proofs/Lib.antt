@@ -1,8 +1,29 @@
 pub mod Bytes
+pub mod Packing
+pub mod NewObject
+pub mod Made
+pub mod StillWorlds
+mod WorkedMake
 pub mod Settling
 pub mod Written
 pub mod Emptied
 pub mod Freed
+pub mod FarFreed
 pub mod Loaded
 pub mod SettledHot
 pub mod ReadAfter
+pub mod Stepping
+pub mod WriteStep
+pub mod FreeStep
+pub mod ReadStep
+pub mod MapReplies
+pub mod WrittenBytes
+pub mod ChangedObject
+pub mod ReadCall
+pub mod WriteCall
+pub mod FarCall
+pub mod FreeCall
+pub mod MakeStep
+pub mod MakeCall
+mod WorkedSteps
+pub mod MapBeside

@@ -10,21 +10,24 @@ use Rattle.cb_world.specs.declared.event.Event.{Event}
 use Rattle.cb_world.specs.declared.event.Event.TheVariants.{Loaded}
 use Rattle.cb_world.specs.declared.shown.Shown.{Shown}
 use Rattle.cb_world.specs.Memory.{window, words_for, byte_at, bytes_in}
-use Rattle.cb_world.specs.Shown.{Owns}
+use Rattle.cb_world.specs.Shown.{Covers, Owns}
+use Rattle.cb_world.specs.Touches.{Touches}
 use Rattle.cb_world.specs.Played.{played, Agree}
 use Rattle.cb_world.specs.StillDesk.{window_length}
 use Rattle.cb_world.proofs.Tracing.{agree_last}
+use Rattle.cb_world.proofs.Touching.{touches_append}
 use Rattle.cb_world.proofs.Windows.{window_at}
 use Rattle.cb_mutate.specs.Stores.{AreLoads}
 use Rattle.cb_mutate.specs.ReadRule.{IsLoaded, AreLoaded}
 use Rattle.cb_mutate.specs.Loads.{Loads}
 
 -- the first i words were read, and their bytes stand in front
-pub record LoadsBelow (runs : List Event → Type 0) (owns : Shown → Type 0) (place i : ℕ)
+pub record LoadsBelow (runs : List Event → Type 0) (owns : Shown → Type 0) (place len i : ℕ)
     (into : List ℕ) : Type 0 where
   pub events : List Event
   pub ran : runs events
   pub loads : AreLoads events
+  pub touches : (h : ℕ) → Touches h place len events
   pub words : List ℕ
   pub count : length words ≡ i
   pub loaded : AreLoaded place words events
@@ -69,12 +72,13 @@ pub record IsPutWord (old new : List ℕ) (i x : ℕ) : Type 0 where
   pub outside : (p : ℕ) → (p < 8 * i) ⊎ (8 * i + 8 ≤ p) → get_or new p 0 ≡ get_or old p 0
   pub sized : length new ≡ length old
 
-pub loads_none : (runs : List Event → Type 0) (owns : Shown → Type 0) (place : ℕ) (into : List ℕ)
-    → runs [] → length into ≡ 1024 → LoadsBelow runs owns place 0 into
-loads_none runs owns place into ran sized = record {
+pub loads_none : (runs : List Event → Type 0) (owns : Shown → Type 0) (place len : ℕ)
+    (into : List ℕ) → runs [] → length into ≡ 1024 → LoadsBelow runs owns place len 0 into
+loads_none runs owns place len into ran sized = record {
   events = [];
   ran = ran;
   loads = tt;
+  touches = λ h. tt;
   words = [];
   count = refl;
   loaded = λ i below. absurd (omega (arith, below));
@@ -83,15 +87,17 @@ loads_none runs owns place into ran sized = record {
   contents = λ s o k below. absurd (omega (arith, below));
 }
 
-pub loads_one : (runs more : List Event → Type 0) (owns : Shown → Type 0) (place i x : ℕ)
-    (old new : List ℕ) → (l : LoadsBelow runs owns place i old)
+pub loads_one : (runs more : List Event → Type 0) (owns : Shown → Type 0) (place len i x : ℕ)
+    (old new : List ℕ) → (l : LoadsBelow runs owns place len i old) → Covers place len (place + i)
     → more (l.events ++ Loaded (place + i) x ∷ []) → IsPutWord old new i x
     → ((s : Shown) → owns s → x ≡ get_or s.memory (place + i) 0)
-    → LoadsBelow more owns place (i + 1) new
-loads_one runs more owns place i x old new l ran put told = record {
+    → LoadsBelow more owns place len (i + 1) new
+loads_one runs more owns place len i x old new l covers ran put told = record {
   events = l.events ++ Loaded (place + i) x ∷ [];
   ran = ran;
   loads = loads_more l.events (place + i) x l.loads;
+  touches = λ h. touches_append h place len l.events (Loaded (place + i) x ∷ []) (l.touches h)
+      (covers, tt);
   words = l.words ++ x ∷ [];
   count = length-append l.words (x ∷ []) ∙ ap (λ (n : ℕ). n + 1) l.count;
   loaded = λ k below. loaded k (cases_eq k i) below;
@@ -145,13 +151,14 @@ loads_one runs more owns place i x old new l ran put told = record {
 
 -- all words of the object were read
 pub loads_all : (runs : List Event → Type 0) (owns : Shown → Type 0) (place len i : ℕ)
-    (into : List ℕ) → i ≡ words_for len → len ≤ 1024 → LoadsBelow runs owns place i into
+    (into : List ℕ) → i ≡ words_for len → len ≤ 1024 → LoadsBelow runs owns place len i into
     → Loads runs owns place len into
 unfolding bytes_in
 loads_all runs owns place len i into same short l = record {
   events = l.events;
   ran = l.ran;
   loads = l.loads;
+  touches = l.touches;
   words = l.words;
   count = l.count ∙ same;
   loaded = l.loaded;

@@ -1,19 +1,19 @@
 -- The world after a read.
-use Rattle.std.proofs.Common.{◌≡◌, ℕ, zero, suc, true, false, ◌+◌, ◌<◌, List, [], ◌∷◌, ◌++◌, length, take, slice_index, sym, refl, ap, ◌∙◌, subst, arith, inl, inr, get_or-set_same, get_or-set_other}
+use Rattle.std.proofs.Common.{◌≡◌, ℕ, zero, suc, Bool, true, ◌+◌, List, [], ◌∷◌, ◌++◌, length, set, take, slice_index, sym, refl, ap, ◌∙◌, subst, arith, inl, inr, get_or-set_other}
 use Rattle.cb_ptr.specs.declared.word.State.{State}
 use Rattle.cb_ptr.specs.declared.word.State.TheVariants as state
-use Rattle.cb_ptr.specs.Word.{state_of, len_of, place_of, pins_of}
+use Rattle.cb_ptr.specs.Word.{state_of, len_of, place_of}
 use Rattle.cb_ptr.proofs.Laws.{here_bits}
 use Rattle.cb_types.specs.declared.reply.Reply.{Reply}
 use Rattle.cb_types.specs.declared.reply.Reply.TheVariants as answer
 use Rattle.cb_world.specs.declared.object.Object.{Object}
 use Rattle.cb_world.specs.declared.object.Object.TheVariants as is
 use Rattle.cb_world.specs.declared.event.Event.{Event}
-use Rattle.cb_world.specs.declared.event.Event.TheVariants.{Looked, Claimed, Loaded}
+use Rattle.cb_world.specs.declared.event.Event.TheVariants.{Looked, Loaded}
 use Rattle.cb_world.specs.declared.shown.Shown.{Shown}
-use Rattle.cb_world.specs.Shown.{Fits, object_at, hot_at}
+use Rattle.cb_world.specs.Shown.{Fits, object_at}
 use Rattle.cb_world.specs.Played.{Agree, Agrees, played}
-use Rattle.cb_world.specs.Looks.{IsLook, NoLook, IsFound, IsTaken, AreLooks}
+use Rattle.cb_world.specs.Looks.{IsFound, IsTaken, AreLooks}
 use Rattle.cb_world.specs.Grasped.{IsFree}
 use Rattle.cb_world.specs.Still.{IsStill}
 use Rattle.cb_world.specs.FarState.{FarState}
@@ -34,19 +34,24 @@ use Rattle.cb_mutate.proofs.Written.{objects_back, claimed_words, absent_before}
 -- a claimed object that is settled hot is what it was
 hot_well : (far : FarState) (s t : Shown) (first done : List Event) (h w v version : ℕ)
     (words into : List ℕ) → Sound s far → IsAfterClaim s h w v words first done
+    → IsFree w → IsFound h w (first ++ done)
     → ReadEnds h w version into done (played first s) v words t
-    → Sound t far × IsStill (first ++ done) s t
-hot_well far s t first done h w v version words into sound a x =
+    → Sound t far × IsShown h (first ++ done) s t
+hot_well far s t first done h w v version words into sound a free found x =
     let u = with_settled (claimed_from s a.hots h w v words) h w true in
     let all : t ≡ u = x.settled ∙ ap (λ (q : Shown). with_settled q h w true) a.at_claim in
     let objects = objects_back s a.hots h w v words true a.here in
     let count = claimed_words (played first s) h w v words a.claimed in
-    subst (λ (q : Shown). Sound q far × IsStill (first ++ done) s q) (sym all) (
+    subst (λ (q : Shown). Sound q far × IsShown h (first ++ done) s q) (sym all) (
       sound_beside far s u h (len_of w) (place_of w) sound a.here refl objects
           (length_put s.memory (place_of w) words)
           (λ k other. get_or-set_other s.versions h k v 0 other)
           (put_beside s.memory words (place_of w) (len_of w) count),
       record {
+        word = w;
+        found = found;
+        hot = λ none. ap (λ (l : List Bool). set l h true) (sym a.told_hots);
+        pinned = λ some. absurd (omega (arith, some, free.1));
         objects = objects;
         versions = sym a.versions;
         memory = sym a.memory;
@@ -63,17 +68,13 @@ pub record IsReadDone (far : FarState) (s t : Shown) (es : List Event) (h w vers
 
 pub read_done : (far : FarState) (s t : Shown) (first done : List Event) (h w v version len : ℕ)
     (words into : List ℕ) → Sound s far → IsAfterClaim s h w v words first done → IsFree w
-    → IsTaken h v words (first ++ done) → len ≡ len_of w → h < length (played first s).hots
+    → IsFound h w (first ++ done) → IsTaken h v words (first ++ done) → len ≡ len_of w
     → ReadEnds h w version into done (played first s) v words t
     → IsReadDone far s t (first ++ done) h w version len into
-read_done far s t first done h w v version len words into sound a free taken e range x =
-    let y = hot_well far s t first done h w v version words into sound a x in record {
+read_done far s t first done h w v version len words into sound a free found taken e x =
+    let y = hot_well far s t first done h w v version words into sound a free found x in record {
       sound = y.0;
-      effect = record {
-        still = y.1;
-        hot = λ u found none. ap (λ (q : Shown). hot_at q h) x.settled
-            ∙ get_or-set_same (played first s).hots h true false range;
-      };
+      effect = y.1;
       rule = inl (
         free.1,
         (
@@ -112,24 +113,6 @@ read_before state.Here h w es fs r (inr a) = inr (
   ),
 )
 
-not_seen : (h w : ℕ) (es : List Event) → NoLook h es → IsFound h w es → ⊥
-not_seen h w [] none found = found
-not_seen h w (e ∷ es) none (inl found) = not_seen h w es none.1 found
-not_seen h w (e ∷ es) none (inr found) = none.0 w found.0
-
-same_look : (h v w : ℕ) (e : Event) → IsLook h v e → IsLook h w e → v ≡ w
-same_look h v w (Looked k x) a b = sym a.1 ∙ b.1
-same_look h v w (Claimed k x u words) a b = sym a.1 ∙ b.1
-same_look h v w e a b = absurd a
-
--- the last look found one word
-found_once : (h v w : ℕ) (es : List Event) → IsFound h v es → IsFound h w es → v ≡ w
-found_once h v w [] a b = absurd a
-found_once h v w (e ∷ es) (inl a) (inl b) = found_once h v w es a b
-found_once h v w (e ∷ es) (inl a) (inr b) = absurd (not_seen h v es b.1 a)
-found_once h v w (e ∷ es) (inr a) (inl b) = absurd (not_seen h w es a.1 b)
-found_once h v w (e ∷ es) (inr a) (inr b) = same_look h v w e a.0 b.0
-
 read_empty : (v h : ℕ) (es : List Event) (s t : Shown) (r : Reply) → EmptyAnswer v r
     → IsStill es s t → ReadEffect h r es s t
 read_empty zero h es s t r e still = subst (λ (q : Reply). ReadEffect h q es s t) (sym e) still
@@ -147,9 +130,14 @@ left_effect state.Moving h w reads es s t r e busy found a still =
 left_effect state.Here h w reads es s t r e busy found (inl a) still = absurd (busy (e, a.0))
 left_effect state.Here h w reads es s t r e busy found (inr a) still =
     subst (λ (q : Reply). ReadEffect h q es s t) (sym a.1.5) (record {
-      still = still;
-      hot = λ u seen none.
-          absurd (busy (e, ap pins_of (found_once h w u es found seen) ∙ none));
+      word = w;
+      found = found;
+      hot = λ none. absurd (busy (e, none));
+      pinned = λ some. still.hots;
+      objects = still.objects;
+      versions = still.versions;
+      memory = still.memory;
+      nothing = still.nothing;
     })
 
 empty_here : state.Empty ≡ state.Here → ⊥

@@ -21,9 +21,11 @@ use Rattle.cb_world.specs.declared.entry.Entry.{Entry}
 use Rattle.cb_world.specs.Written.{Writes, written_by, adds_as, entry}
 use Rattle.cb_world.specs.Settling.{settled_words}
 use Rattle.cb_world.specs.Looks.{NoLook, NoClaim, LooksFirst, told_by}
+use Rattle.cb_world.specs.Touches.{Touches, SettlesLast}
 use Rattle.cb_world.specs.Grasped.{IsFree}
 use Rattle.cb_world.proofs.Windows.{window_put, length_put}
 use Rattle.cb_mutate.specs.Stores.{AreStores}
+use Rattle.cb_mutate.specs.Overwrites.{Rewrites}
 use Rattle.cb_world.specs.Claimed.{OwnsAll, IsClaimedAt}
 use Rattle.cb_world.proofs.Claimed.{settled_here}
 use Rattle.cb_mutate.specs.WriteEnds.{with_rewritten}
@@ -85,19 +87,19 @@ stores_told (e ∷ es) fs s a = absurd a
 
 -- what the stores of a write left, told by the fields of the word
 pub overwrote : (s : Shown) (es : List Event) (w at : ℕ) (bytes : List ℕ) (f : PtrWord)
-    → f ≡ fields_of w
-    → (new : List ℕ) × IsWrite (window s.memory f.place (words_for f.len)) at bytes new
-    × (played es s ≡ record s { memory = put s.memory f.place new })
-    → (new : List ℕ) × IsWrite (window s.memory (place_of w) (words_for (len_of w))) at bytes new
-    × (played es s ≡ record s { memory = put s.memory (place_of w) new })
+    → f ≡ fields_of w → Rewrites s f.place f.len at bytes es
+    → Rewrites s (place_of w) (len_of w) at bytes es
 overwrote s es w at bytes f e x =
-    subst (λ (g : PtrWord). (new : List ℕ)
-    × IsWrite (window s.memory g.place (words_for g.len)) at bytes new
-    × (played es s ≡ record s { memory = put s.memory g.place new })) e x
+    subst (λ (g : PtrWord). Rewrites s g.place g.len at bytes es) e x
 
 pub owned_at : (s : Shown) (h w v : ℕ) (words : List ℕ) (f : PtrWord) → f ≡ fields_of w
     → IsClaimedAt s h w v words → OwnsAll s f.place f.len
 owned_at s h w v words f e c = subst (λ (g : PtrWord). OwnsAll s g.place g.len) (sym e) c.owned
+
+-- what is at the words of the object by the fields of its word is so by the word
+pub touches_at : (h w : ℕ) (f : PtrWord) → f ≡ fields_of w → (es : List Event)
+    → Touches h f.place f.len es → Touches h (place_of w) (len_of w) es
+touches_at h w f e es x = subst (λ (g : PtrWord). Touches h g.place g.len es) e x
 
 -- after the stores the version word is stored
 pub stamped : (s : Shown) (es : List Event) (h v x place : ℕ) (new : List ℕ)
@@ -156,6 +158,13 @@ stores_first [] fs a b c = c
 stores_first (Loaded p x ∷ es) fs a b c = stores_first es fs a b c
 stores_first (Stored p x ∷ es) fs a b c = (stores_no_claim es fs a b, stores_first es fs a b c)
 stores_first (e ∷ es) fs a b c = absurd a
+
+pub stores_settle_last : (es fs : List Event) → AreStores es → SettlesLast fs
+    → SettlesLast (es ++ fs)
+stores_settle_last [] fs a b = b
+stores_settle_last (Loaded p x ∷ es) fs a b = stores_settle_last es fs a b
+stores_settle_last (Stored p x ∷ es) fs a b = stores_settle_last es fs a b
+stores_settle_last (e ∷ es) fs a b = absurd a
 
 -- stores write nothing
 pub stores_written : (es fs : List Event) (s : Shown) (old : List Entry) → AreStores es

@@ -1,5 +1,6 @@
 -- The world after a write.
 use Rattle.std.proofs.Common.{◌≡◌, ◌⊎◌, ℕ, zero, suc, Bool, true, ◌+◌, ◌-◌, ◌^◌, ◌<◌, ◌≤◌, List, [], ◌∷◌, ◌++◌, length, set, sym, refl, ap, ◌∙◌, subst, inl, inr, get_or-set_other}
+use Rattle.std.proofs.lemmas.List.{set-set}
 use Rattle.cb_ptr.specs.declared.word.State.{State}
 use Rattle.cb_ptr.specs.declared.word.State.TheVariants as state
 use Rattle.cb_ptr.specs.Word.{hot_of, len_of, place_of, pins_of}
@@ -58,6 +59,7 @@ back_well far s t first done h w v words sound a back =
           (put_beside s.memory words (place_of w) (len_of w) count),
       record {
         objects = objects;
+        hots = set-set a.hots h (hot_of w) (hot_of w) ∙ sym a.told_hots;
         versions = sym a.versions;
         memory = sym a.memory;
         nothing = λ old. a.writes old ∙ back.nothing old;
@@ -92,6 +94,7 @@ rewritten_well far s t first done h w v at words bytes sound a found taken x =
         next = refl;
         write = x.write;
         objects = objects;
+        hots = ap (λ (l : List Bool). set l h true) (sym a.told_hots);
         versions = ap (λ (l : List ℕ). set l h (v + 1)) (sym a.versions);
         memory = ap (λ (l : List ℕ). put l (place_of w) x.new) (sym a.memory);
         one = λ old. a.writes old ∙ x.one old;

@@ -2,11 +2,12 @@
 use Rattle.std.specs.Prelude.{◌≡◌, ℕ, zero, suc, List}
 use Rattle.cb_ptr.specs.declared.word.State.{State}
 use Rattle.cb_ptr.specs.declared.word.State.TheVariants as word
-use Rattle.cb_ptr.specs.Word.{state_of}
+use Rattle.cb_ptr.specs.Word.{state_of, len_of, place_of}
 use Rattle.cb_types.specs.declared.reply.Reply.{Reply}
 use Rattle.cb_types.specs.declared.reply.Reply.TheVariants as answer
 use Rattle.cb_world.specs.declared.event.Event.{Event}
 use Rattle.cb_world.specs.Looks.{IsFound, IsTold}
+use Rattle.cb_world.specs.Touches.{Touches, SettlesLast}
 
 -- an object with an empty word: never made at version 0, and else freed
 abbrev pub EmptyAnswer : ℕ → Reply → Type 0
@@ -25,6 +26,15 @@ abbrev pub AnsweredAs : State → (ℕ → Type 0) → ℕ → ℕ → List Even
 AnsweredAs word.Here here w h es r = here w
 AnsweredAs state here w h es r = AbsentAs state h es r
 
--- the answer is by the word that the last look at the object found
+-- The answer is by the word that the last look at the object found. Nothing but the words of the
+-- object was read and stored, and its pointer word last.
+pub record AnsweredBy (by : ℕ → Type 0) (h : ℕ) (es : List Event) : Type 0 where
+  pub word : ℕ
+  pub found : IsFound h word es
+  pub touches : Touches h (place_of word) (len_of word) es
+  pub settles_last : SettlesLast es
+  pub answer : by word
+
+-- an object that is not here is refused
 abbrev pub Answered : (ℕ → Type 0) → ℕ → List Event → Reply → Type 0
-Answered here h es r = (w : ℕ) × IsFound h w es × AnsweredAs (state_of w) here w h es r
+Answered here h es r = AnsweredBy (λ w. AnsweredAs (state_of w) here w h es r) h es

@@ -4,6 +4,7 @@ use Rattle.cb_types.specs.declared.reply.Reply.{Reply}
 use Rattle.cb_types.specs.declared.reply.Reply.TheVariants as answer
 use Rattle.cb_world.specs.declared.object.Object.TheVariants as is
 use Rattle.cb_world.specs.declared.event.Event.{Event}
+use Rattle.cb_world.specs.declared.event.Event.TheVariants.{Told, Stamped, Settled}
 use Rattle.cb_world.specs.declared.shown.Shown.{Shown}
 use Rattle.cb_world.specs.Written.{Writes, gone}
 use Rattle.cb_mutate.specs.WriteEnds.{IsBack}
@@ -26,3 +27,11 @@ abbrev pub FreeEnds : ℕ → ℕ → Reply → List Event → Shown → ℕ →
 FreeEnds h word r es s v words t =
     ((v ≡ 2 ^ 64 - 1) × (r ≡ answer.Worn) × IsBack s h word es t)
     ⊎ ((v < 2 ^ 64 - 1) × (r ≡ answer.Version (v + 1)) × IsEmptied s h v words es t)
+
+-- the version word of a far object was told: with no next version nothing is done; else the next one
+-- is stored, and the object is empty
+abbrev pub FreesFar : (List Event → Type 0) → ℕ → ℕ → Reply → Type 0
+FreesFar runs h v r =
+    ((v ≡ 2 ^ 64 - 1) × (r ≡ answer.Worn) × runs (Told h v ∷ []))
+    ⊎ ((v < 2 ^ 64 - 1) × (r ≡ answer.Version (v + 1))
+    × runs (Told h v ∷ Stamped h (v + 1) ∷ Settled h 0 ∷ []))

@@ -8,3 +8,13 @@ pub mod FreeEnds
 pub mod ReadRule
 pub mod Loads
 pub mod ReadEnds
+pub mod StillReplies
+pub mod Steps
+pub mod WordsOf
+pub mod MakeRule
+pub mod MakeEnds
+pub mod MapCalls
+pub mod MakeStep
+pub mod MapBeside
+pub mod Overwrites
+pub mod StillWorld

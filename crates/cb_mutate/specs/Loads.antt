@@ -3,16 +3,18 @@ use Rattle.std.specs.Prelude.{◌≡◌, ℕ, List, length, take}
 use Rattle.cb_world.specs.declared.event.Event.{Event}
 use Rattle.cb_world.specs.declared.shown.Shown.{Shown}
 use Rattle.cb_world.specs.Memory.{window, words_for, bytes_in}
+use Rattle.cb_world.specs.Touches.{Touches}
 use Rattle.cb_mutate.specs.Stores.{AreLoads}
 use Rattle.cb_mutate.specs.ReadRule.{AreLoaded}
 
--- The words of an object of so many bytes were read from its place on, and its bytes stand in front.
--- Where the reader owns the words, they are those of the memory.
+-- The words of an object of so many bytes were read from its place on, and its bytes stand in
+-- front. Where the reader owns the words, they are those of the memory.
 pub record Loads (runs : List Event → Type 0) (owns : Shown → Type 0) (place len : ℕ)
     (into : List ℕ) : Type 0 where
   pub events : List Event
   pub ran : runs events
   pub loads : AreLoads events
+  pub touches : (h : ℕ) → Touches h place len events
   pub words : List ℕ
   pub count : length words ≡ words_for len
   pub loaded : AreLoaded place words events

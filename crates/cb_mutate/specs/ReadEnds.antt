@@ -8,6 +8,7 @@ use Rattle.cb_world.specs.declared.shown.Shown.{Shown}
 use Rattle.cb_world.specs.Memory.{words_for, bytes_in}
 use Rattle.cb_world.specs.Looks.{IsTold}
 use Rattle.cb_world.specs.Reads.{AreReads}
+use Rattle.cb_world.specs.Touches.{Touches}
 use Rattle.cb_world.specs.Written.{Writes}
 use Rattle.cb_world.specs.Claimed.{with_settled}
 use Rattle.cb_mutate.specs.declared.reading.Seen.{Seen}
@@ -38,6 +39,7 @@ pub record ReadsPinned (runs : List Event → Type 0) (h word version : ℕ) (in
   pub events : List Event
   pub ran : runs events
   pub reads : AreReads h events
+  pub touches : Touches h (place_of word) (len_of word) events
   pub told : IsTold h version events
   pub words : List ℕ
   pub count : length words ≡ words_for (len_of word)

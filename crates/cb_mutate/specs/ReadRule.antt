@@ -1,5 +1,5 @@
 -- The rule of a read, and what it does.
-use Rattle.std.specs.Prelude.{◌≡◌, ◌⊎◌, ℕ, true, ◌+◌, ◌<◌, ◌≤◌, List, [], ◌∷◌, length, slice_index}
+use Rattle.std.specs.Prelude.{◌≡◌, ◌⊎◌, ℕ, true, ◌+◌, ◌<◌, ◌≤◌, List, [], ◌∷◌, length, slice_index, slice_set}
 use Rattle.cb_ptr.specs.Word.{len_of, place_of, pins_of}
 use Rattle.cb_types.specs.declared.reply.Reply.{Reply}
 use Rattle.cb_types.specs.declared.reply.Reply.TheVariants as answer
@@ -7,9 +7,9 @@ use Rattle.cb_world.specs.declared.event.Event.{Event}
 use Rattle.cb_world.specs.declared.event.Event.TheVariants.{Loaded}
 use Rattle.cb_world.specs.declared.shown.Shown.{Shown}
 use Rattle.cb_world.specs.Memory.{words_for, bytes_in}
-use Rattle.cb_world.specs.Shown.{hot_at}
-use Rattle.cb_world.specs.Looks.{IsFound, IsTaken, IsTold}
+use Rattle.cb_world.specs.Looks.{IsFound, IsTaken, IsTold, told_by}
 use Rattle.cb_world.specs.Still.{IsStill}
+use Rattle.cb_world.specs.Written.{Writes}
 use Rattle.cb_mutate.specs.Answered.{Answered}
 
 -- a memory word was read at the place, and was this one
@@ -43,10 +43,20 @@ ReadHere h es r w = ((pins_of w ≡ 0) × ShowsClaimed h es r w)
 abbrev pub ReadRule : ℕ → Reply → List Event → Type 0
 ReadRule h r es = Answered (ReadHere h es r) h es r
 
--- nothing changes but that a word that was claimed is hot
+-- nothing changes but that a word without pins, which was claimed, is hot
 pub record IsShown (h : ℕ) (es : List Event) (s t : Shown) : Type 0 where
-  pub still : IsStill es s t
-  pub hot : (w : ℕ) → IsFound h w es → pins_of w ≡ 0 → hot_at t h ≡ true
+  pub word : ℕ
+  pub found : IsFound h word es
+  pub hot : pins_of word ≡ 0 → t.hots ≡ slice_set (told_by es s).hots h true
+  pub pinned : 1 ≤ pins_of word → t.hots ≡ (told_by es s).hots
+  pub objects : t.objects ≡ s.objects
+  pub versions : t.versions ≡ (told_by es s).versions
+  pub memory : t.memory ≡ (told_by es s).memory
+  pub nothing : Writes es s []
+
+-- so many bytes of the object were seen, which would have been the reply
+abbrev pub HasSeen : ℕ → List Event → Type 0
+HasSeen h es = (v : ℕ) × (bytes : List ℕ) × ReadRule h (answer.Bytes v bytes) es
 
 -- what a read with this reply does; a refusal changes nothing
 abbrev pub ReadEffect : ℕ → Reply → List Event → Shown → Shown → Type 0

@@ -1,5 +1,5 @@
 -- Events at memory words.
-use Rattle.std.specs.Prelude.{List, [], ◌∷◌}
+use Rattle.std.specs.Prelude.{ℕ, ◌+◌, List, [], ◌∷◌}
 use Rattle.cb_world.specs.declared.event.Event.{Event}
 use Rattle.cb_world.specs.declared.event.Event.TheVariants.{Loaded, Stored}
 
@@ -15,3 +15,8 @@ abbrev pub AreLoads : List Event → Type 0
 AreLoads [] = Unit {0}
 AreLoads (Loaded p x ∷ es) = AreLoads es
 AreLoads (e ∷ es) = ⊥
+
+-- each word is stored once, the first one at this place, the others behind it
+abbrev pub stores_from : ℕ → List ℕ → List Event
+stores_from place [] = []
+stores_from place (x ∷ xs) = Stored place x ∷ stores_from (place + 1) xs

@@ -1,5 +1,5 @@
 -- The rule of a write, and what it does.
-use Rattle.std.specs.Prelude.{◌≡◌, ◌⊎◌, ℕ, ◌+◌, ◌-◌, ◌^◌, ◌<◌, ◌≤◌, List, [], ◌∷◌, length, slice_set}
+use Rattle.std.specs.Prelude.{◌≡◌, ◌⊎◌, ℕ, true, ◌+◌, ◌-◌, ◌^◌, ◌<◌, ◌≤◌, List, [], ◌∷◌, length, slice_set}
 use Rattle.cb_ptr.specs.Word.{len_of, place_of, pins_of}
 use Rattle.cb_types.specs.declared.reply.Reply.{Reply}
 use Rattle.cb_types.specs.declared.reply.Reply.TheVariants as answer
@@ -30,7 +30,7 @@ WriteHere h at bytes es r w =
 abbrev pub WriteRule : ℕ → ℕ → List ℕ → Reply → List Event → Type 0
 WriteRule h at bytes r es = Answered (WriteHere h at bytes es r) h es r
 
--- the object has its next version, and the words of its contents with the write
+-- the object has its next version, and the words of its contents with the write, and is hot
 pub record IsWritten (h n at : ℕ) (bytes : List ℕ) (es : List Event) (s t : Shown) : Type 0 where
   pub word : ℕ
   pub version : ℕ
@@ -41,6 +41,7 @@ pub record IsWritten (h n at : ℕ) (bytes : List ℕ) (es : List Event) (s t : 
   pub next : n ≡ version + 1
   pub write : IsWrite words at bytes new
   pub objects : t.objects ≡ s.objects
+  pub hots : t.hots ≡ slice_set (told_by es s).hots h true
   pub versions : t.versions ≡ slice_set (told_by es s).versions h n
   pub memory : t.memory ≡ put (told_by es s).memory (place_of word) new
   pub one : Writes es s (entry h n (len_of word) words new ∷ [])

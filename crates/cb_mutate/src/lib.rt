@@ -3,12 +3,16 @@
 
 mod freeing;
 mod loading;
+mod making;
 mod merge;
 mod overwriting;
 mod reading;
 mod refusing;
+#[cfg(test)]
+mod tests;
 mod writing;
 
 pub use freeing::free;
+pub use making::make;
 pub use reading::read;
 pub use writing::write;

@@ -1,13 +1,9 @@
-ghost use Rattle.std.specs.Prelude.{◌≡◌, ℕ, ◌+◌, ◌*◌, ◌^◌, ◌<◌, ◌≤◌, List, length};
+ghost use Rattle.std.specs.Prelude.{◌≡◌, ℕ, ◌+◌, ◌*◌, ◌<◌, ◌≤◌, List, length};
 ghost use Rattle.cb_types.specs.Config.{IsAccepted};
-ghost use Rattle.cb_world.specs.declared.event.Event.{Event};
 ghost use Rattle.cb_world.specs.declared.shown.Shown.{Shown};
-ghost use Rattle.cb_world.specs.Memory.{window, put, words_for};
-ghost use Rattle.cb_world.specs.Write.{IsWrite};
-ghost use Rattle.cb_world.specs.Played.{played};
-ghost use Rattle.cb_world.specs.Allowed.{Allowed};
+ghost use Rattle.cb_world.specs.Memory.{words_for};
 ghost use Rattle.cb_world.specs.Claimed.{OwnsAll};
-ghost use Rattle.cb_mutate.specs.Stores.{AreStores};
+ghost use Rattle.cb_mutate.specs.Overwrites.{Overwrites};
 
 use crate::merge::merged;
 use cb_world::Desk;
@@ -20,10 +16,8 @@ pub(crate) fn overwrite<D: Desk>(desk: &mut D, place: u32, len: u32, at: u32, by
     requires memory { place + words_for len ≤ 512 * (D.settings desk.old).frames }
     requires config { IsAccepted (D.settings desk.old) }
     requires owned { (s : Shown) × D.shows desk.old s × OwnsAll s place len }
-    ensures { (es : List Event) × D.run desk.old es desk.new × AreStores es
-        × ((s : Shown) → D.shows desk.old s → OwnsAll s place len
-        → (new : List ℕ) × IsWrite (window s.memory place (words_for len)) at bytes.now new
-        × (played es s ≡ record s { memory = put s.memory place new }) × Allowed s es) }
+    ensures { Overwrites (λ es. D.run desk.old es desk.new)
+        (λ s. D.shows desk.old s × OwnsAll s place len) place len at bytes.now }
 {
     let end = at + bytes.len() as u32;
     for i in at / 8..end.div_ceil(8) {

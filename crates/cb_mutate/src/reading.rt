@@ -5,14 +5,14 @@ ghost use Rattle.cb_ptr.specs.Word.{state_of, len_of, place_of};
 ghost use Rattle.cb_world.specs.declared.event.Event.{Event};
 ghost use Rattle.cb_world.specs.declared.shown.Shown.{Shown};
 ghost use Rattle.cb_world.specs.Sound.{Sound};
-ghost use Rattle.cb_world.specs.Still.{IsStill};
 ghost use Rattle.cb_world.specs.Claimed.{IsClaimedAt};
 ghost use Rattle.cb_world.specs.Grasped.{IsFree};
 ghost use Rattle.cb_world.specs.Reads.{AreReads};
+ghost use Rattle.cb_world.specs.Touches.{Touches};
 ghost use Rattle.cb_world.specs.Performs.{Performs};
 ghost use Rattle.cb_world.specs.Finishes.{Finishes};
 ghost use Rattle.cb_mutate.specs.Answered.{AnsweredAs};
-ghost use Rattle.cb_mutate.specs.ReadRule.{ReadHere, ReadRule, ReadEffect};
+ghost use Rattle.cb_mutate.specs.ReadRule.{ReadHere, ReadRule, ReadEffect, HasSeen, IsShown};
 ghost use Rattle.cb_mutate.specs.ReadEnds.{ReadEnds, ReadsPinned, IsWithin, IsShort, reply_of};
 
 use crate::loading::{MOST_BYTES, load_bytes};
@@ -32,7 +32,7 @@ pub(crate) enum Seen {
 
 /// Reads an object in local memory, and leaves its word hot. Pins don't hinder it: what others pin
 /// they don't write, so a pinned object is read as it stands. Takes the memory of the answer alone;
-/// where there is none, nothing has changed but that the word may be hot.
+/// where there is none, all else is as if it had been answered.
 ///
 /// Refuses with Unmade, Freed, Moving or NotHere where the object is not here.
 pub fn read<D: Desk>(
@@ -52,9 +52,9 @@ pub fn read<D: Desk>(
         (ReadEffect h.n reply)) }
     ensures error { OnErr result (Performs (λ es. D.run desk.old es desk.new)
         (λ s. D.shows desk.old s × Sound s far.old)
-        (λ es. Unit {0})
+        (HasSeen h.n)
         (λ t. Sound t far.new)
-        (λ es s t. IsStill es s t)) }
+        (IsShown h.n)) }
 {
     let mut bytes = [0; MOST_BYTES];
     match see(desk, far, h, &mut bytes) {
@@ -97,6 +97,7 @@ fn see_left<D: Desk>(desk: &mut D, h: Handle, word: u64, into: &mut [u8; MOST_BY
     requires within { state_of word ≡ state.Here
         → IsWithin word (512 * (D.settings desk.old).frames) }
     ensures left { (es : List Event) × D.run desk.old es desk.new × AreReads h.n es
+        × Touches h.n (place_of word) (len_of word) es
         × AnsweredAs (state_of word) (ReadHere h.n es (reply_of result into.new)) word h.n es
         (reply_of result into.new) }
     ensures short { IsShort result }
@@ -123,7 +124,7 @@ fn read_claimed<D: Desk>(desk: &mut D, h: Handle, word: u64, into: &mut [u8; MOS
     requires claimed { (s : Shown) × D.shows desk.old s
         × ((v : ℕ) × (words : List ℕ) × IsClaimedAt s h.n word v words) }
     ensures { Finishes (λ es. D.run desk.old es desk.new)
-        (λ s v words. D.shows desk.old s × IsClaimedAt s h.n word v words) h.n
+        (λ s v words. D.shows desk.old s × IsClaimedAt s h.n word v words) h.n word
         (ReadEnds h.n word result into.new) }
 {
     let fields = unpack(word);

@@ -1,11 +1,12 @@
 ghost use Rattle.std.specs.Prelude.{◌≡◌, ℕ, ◌+◌, ◌<◌, List, length, IsOk, IfOk};
 ghost use Rattle.cb_types.specs.Config.{IsAccepted};
-ghost use Rattle.cb_ptr.specs.Word.{state_of};
+ghost use Rattle.cb_ptr.specs.Word.{state_of, len_of, place_of};
 ghost use Rattle.cb_world.specs.declared.event.Event.{Event};
 ghost use Rattle.cb_world.specs.declared.shown.Shown.{Shown};
 ghost use Rattle.cb_world.specs.Sound.{Sound};
 ghost use Rattle.cb_world.specs.Grasped.{IsFree};
 ghost use Rattle.cb_world.specs.Reads.{AreReads};
+ghost use Rattle.cb_world.specs.Touches.{Touches};
 ghost use Rattle.cb_world.specs.Claimed.{IsClaimedAt};
 ghost use Rattle.cb_world.specs.Performs.{Performs};
 ghost use Rattle.cb_world.specs.Finishes.{Finishes};
@@ -68,6 +69,7 @@ fn refuse_write<D: Desk>(desk: &mut D, h: Handle, word: u64, at: u32, bytes: &[u
     requires handle { h.n < (D.settings desk.old).handles }
     requires left { ¬ (IsFree word) }
     ensures { (es : List Event) × D.run desk.old es desk.new × AreReads h.n es
+        × Touches h.n (place_of word) (len_of word) es
         × AnsweredAs (state_of word) (WriteHere h.n at bytes.now es result) word h.n es result }
 {
     let fields = unpack(word);
@@ -87,7 +89,7 @@ fn write_claimed<D: Desk>(desk: &mut D, h: Handle, word: u64, at: u32, bytes: &[
     requires claimed { (s : Shown) × D.shows desk.old s
         × ((v : ℕ) × (words : List ℕ) × IsClaimedAt s h.n word v words) }
     ensures { Finishes (λ es. D.run desk.old es desk.new)
-        (λ s v words. D.shows desk.old s × IsClaimedAt s h.n word v words) h.n
+        (λ s v words. D.shows desk.old s × IsClaimedAt s h.n word v words) h.n word
         (WriteEnds h.n word at bytes.now result) }
 {
     let fields = unpack(word);

@@ -1,12 +1,14 @@
 -- A text that is cut at a byte, as code cuts it.
-use Rattle.std.proofs.Common.{◌≡◌, ◌==◌, Bor, ℕ, suc, ◌+◌, ◌-◌, ◌<◌, ◌≤◌, Bool, false, true, cond, ltb, List, [], ◌∷◌, ◌++◌, length, take, drop, Option, Some, None, refl, sym, ap, ◌∙◌, subst, arith, inl, inr}
+use Rattle.std.proofs.Common.{◌≡◌, ◌==◌, Bor, ℕ, suc, ◌+◌, ◌-◌, ◌<◌, ◌≤◌, Bool, false, true, List, [], ◌∷◌, ◌++◌, length, get_or, take, drop, Option, Some, None, refl, sym, ap, ◌∙◌, subst, arith, inl, inr}
 use Rattle.std.specs.Prelude.{MatchOption, IfSome}
 use Rattle.std.specs.Bool.{MatchBool}
 use Rattle.std.specs.List.{slice_split, onto_first, position_or_len, HoldsAt, AllWithin, AllByRecursion, All}
-use Rattle.std.proofs.lemmas.Bool.{cases_Bool, cases_lt, lt-ltb, le-ltb}
+use Rattle.std.proofs.lemmas.Bool.{cases_Bool}
 use Rattle.std.proofs.lemmas.List.{nil_from_length, length-append, length-map, length-take, take_all}
 use Rattle.std.proofs.lemmas.List.Elements.{All-nil, All-cons, All-head, All-tail}
 use Rattle.std.proofs.lemmas.List.Splits.{slice_split_first}
+use Rattle.std.proofs.lemmas.List.Sums.{position_or_len_is}
+use Rattle.memchr.specs.Find.{IsFirstByte, is_byte}
 use Rattle.cb_script.specs.Cut.{texts}
 use Rattle.cb_script.specs.Spelling.{without_empty_end, lines_of, words_of}
 
@@ -23,21 +25,23 @@ split_whole p (x ∷ xs) past =
           rw (later, whole) refl
     ]
 
-pub place_cut : (separator : ℕ) (xs : List ℕ) (r : Option ℕ)
-    → r ≡ cond (ltb (position_or_len (λ b. b == separator) xs) (length xs)) (Some (position_or_len (λ b. b == separator) xs)) None
+not_true : (b : Bool) → (b ≡ true → ⊥) → b ≡ false
+not_true true other = absurd (other refl)
+not_true false other = refl
+
+-- what the place of the first such byte says of the split
+pub place_cut : (separator : ℕ) (xs : List ℕ) (r : Option ℕ) → IsFirstByte (is_byte separator) xs r
     → MatchOption r (slice_split (λ b. b == separator) xs ≡ xs ∷ []) (λ i. slice_split (λ b. b == separator) xs ≡ take i xs ∷ slice_split (λ b. b == separator) (drop (i + 1) xs))
     × IfSome r (λ i. i < length xs)
-place_cut separator xs r e =
+place_cut separator xs None nowhere =
     let p : ℕ → Bool = λ b. b == separator in
-    let Goal : Option ℕ → Type 0 = λ o. MatchOption o (slice_split p xs ≡ xs ∷ []) (λ i. slice_split p xs ≡ take i xs ∷ slice_split p (drop (i + 1) xs)) × IfSome o (λ i. i < length xs) in
-    elim (cases_lt (position_or_len p xs) (length xs)) [
-      | inl within ↦
-          let is : r ≡ Some (position_or_len p xs) = e ∙ ap (λ (b : Bool). cond b (Some (position_or_len p xs)) None) (lt-ltb _ _ within) in
-          subst Goal (sym is) (slice_split_first p xs 0 within, within)
-      | inr past ↦
-          let is : r ≡ None = e ∙ ap (λ (b : Bool). cond b (Some (position_or_len p xs)) None) (le-ltb _ _ past) in
-          subst Goal (sym is) (split_whole p xs past, tt)
-    ]
+    let at_end : position_or_len p xs ≡ length xs = position_or_len_is p xs (length xs) 0 (omega arith) (λ k l. not_true (p (get_or xs k 0)) (nowhere k (omega arith) l)) (λ l. absurd (omega arith)) in
+    (split_whole p xs (omega (arith, at_end)), tt)
+place_cut separator xs (Some i) (first, passes) =
+    let p : ℕ → Bool = λ b. b == separator in
+    let within : i < length xs = first.high in
+    let at : position_or_len p xs ≡ i = position_or_len_is p xs i 0 (omega arith) (λ k l. not_true (p (get_or xs k 0)) (first.before k (omega arith) l)) (λ l. passes) in
+    (subst (λ (n : ℕ). slice_split p xs ≡ take n xs ∷ slice_split p (drop (n + 1) xs)) at (slice_split_first p xs 0 (omega (arith, at))), within)
 
 -- ---- the texts of lines
 

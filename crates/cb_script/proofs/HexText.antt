@@ -1,13 +1,12 @@
 -- Lower-case hexadecimal and the bytes that it spells.
-use Rattle.std.proofs.Common.{◌≡◌, ℕ, ◌+◌, ◌*◌, ◌/◌, ◌%◌, ◌<◌, ◌≤◌, Bool, true, false, ◌&&◌, ◌||◌, not, eqb, leb, List, [], ◌∷◌, length, get_or, Option, Some, None, unwrap_or, Result, Ok, Err, All, inl, inr, refl, sym, ap, ◌∙◌, subst, arith}
-use Rattle.std.proofs.lemmas.List.{get_or_past}
-use Rattle.std.proofs.lemmas.Bool.{cases_lt, agree_below_at, eqb-true, leb-true, le-leb, and_parts, or_cases, and_from, or_left, or_right, true≢false}
-use Rattle.std.specs.List.{AllPass}
-use Rattle.std.proofs.lemmas.List.Elements.{All-weaker, All-nil, All-cons, All-head, All-tail, All-from_get_or, All-get_or}
-use Rattle.hex.specs.Hex.{◌>>=◌, IsBytes, lower_digits, encode_with, encode_lower, hex_digit_value, digit_or_error, value_at, pair_value, decode_pairs, decode_of, is_hex_digit}
-use Rattle.hex.specs.declared.error.FromHexError.{FromHexError}
-use Rattle.hex.proofs.HexLemmas.{length-encode_with, decode_of-digits, decode_of-even, decode_of-ok, decode_of-encode_lower}
+use Rattle.std.proofs.Common.{◌≡◌, ℕ, ◌+◌, ◌*◌, ◌/◌, ◌%◌, ◌<◌, ◌≤◌, Bool, true, false, ◌&&◌, ◌||◌, not, eqb, leb, List, [], ◌∷◌, ◌++◌, length, get_or, drop, drop-cons, suc, append_assoc, ltb, Ok, All, inl, inr, refl, sym, ap, ◌∙◌, arith}
+use Rattle.std.proofs.lemmas.List.{get_or_past, append-nil, drop_all}
+use Rattle.std.proofs.lemmas.Bool.{cases_lt, agree_below_at, eqb-true, leb-true, le-leb, and_parts, or_cases, and_from, or_left, or_right, true≢false, ltb-true, lt-ltb}
+use Rattle.std.proofs.lemmas.List.Elements.{All-nil, All-cons, All-head, All-tail, All-get_or}
+use Rattle.hex.specs.Hex.{IsBytes, lower_digits, encode_with, encode_lower, decode_of}
+use Rattle.hex.proofs.HexLemmas.{length-encode_with, decode_of-encode_lower}
 use Rattle.cb_script.specs.Form.{IsContents}
+use Rattle.cb_script.specs.declared.digits.TheConstants.{VALUES}
 use Rattle.cb_script.specs.Hexadecimal.{IsLowerDigit, IsHexadecimal}
 
 -- the test of a lower-case digit
@@ -29,87 +28,85 @@ test_from_lower : (c : ℕ) → IsLowerDigit c → is_lower c ≡ true
 test_from_lower c (inl digit) = or_left (leb 48 c && leb c 57) (leb 97 c && leb c 102) (and_from (leb 48 c) (leb c 57) (le-leb 48 c digit.0) (le-leb c 57 digit.1))
 test_from_lower c (inr letter) = or_right (leb 48 c && leb c 57) (leb 97 c && leb c 102) (and_from (leb 97 c) (leb c 102) (le-leb 97 c letter.0) (le-leb c 102 letter.1))
 
--- a lower-case digit's value is the place at which it stands in the table
-abbrev stands_at_value : ℕ → Bool
-stands_at_value c = not (is_lower c) || eqb (get_or lower_digits (unwrap_or (hex_digit_value c) 16) 0) c
-
 from_not : (b c : Bool) → (not b || c) ≡ true → b ≡ true → c ≡ true
 from_not true c h e = h
 from_not false c h e = absurd (true≢false (sym e))
 
-below_103 : (c : ℕ) → IsLowerDigit c → c < 103
-below_103 c (inl digit) = omega arith
-below_103 c (inr letter) = omega arith
-
-digit_at_value : (c v : ℕ) → IsLowerDigit c → hex_digit_value c ≡ Some v → get_or lower_digits v 0 ≡ c
-digit_at_value c v lower e =
-    let test = from_not (is_lower c) (eqb (get_or lower_digits (unwrap_or (hex_digit_value c) 16) 0) c) (agree_below_at stands_at_value (λ _. true) 103 c refl (below_103 c lower)) (test_from_lower c lower) in
-    subst (λ (o : Option ℕ). get_or lower_digits (unwrap_or o 16) 0 ≡ c) e (eqb-true _ c test)
-
--- such a value is below 16
-abbrev is_small : ℕ → Bool
-is_small c = not (is_lower c) || leb (unwrap_or (hex_digit_value c) 16) 15
-
-value_small : (c v : ℕ) → IsLowerDigit c → hex_digit_value c ≡ Some v → v < 16
-value_small c v lower e =
-    let test = from_not (is_lower c) (leb (unwrap_or (hex_digit_value c) 16) 15) (agree_below_at is_small (λ _. true) 103 c refl (below_103 c lower)) (test_from_lower c lower) in
-    let le : v ≤ 15 = subst (λ (o : Option ℕ). unwrap_or o 16 ≤ 15) e (leb-true _ 15 test) in
-    omega arith
-
 digits_are_lower : (d : ℕ) → d < 16 → IsLowerDigit (get_or lower_digits d 0)
 digits_are_lower d small = lower_from_test (get_or lower_digits d 0) (agree_below_at (λ e. is_lower (get_or lower_digits e 0)) (λ _. true) 16 d refl small)
 
-abbrev reads : ℕ → Bool
-reads c = not (is_lower c) || is_hex_digit c
-
-lower_is_digit : (c : ℕ) → IsLowerDigit c → is_hex_digit c ≡ true
-lower_is_digit c lower = from_not (is_lower c) (is_hex_digit c) (agree_below_at reads (λ _. true) 103 c refl (below_103 c lower)) (test_from_lower c lower)
-
 -- ---- from the text to the bytes and back
 
-bind_ok : {A B : Type 0} (r : Result A FromHexError) (f : A → Result B FromHexError) (y : B) → (r >>= f) ≡ Ok y → (x : A) × (r ≡ Ok x) × (f x ≡ Ok y)
-bind_ok (Ok x) f y e = (x, refl, e)
-bind_ok (Err d) f y e = absurd cc
+encode_none : encode_lower [] ≡ []
+unfolding encode_with
+encode_none = refl
 
-digit_read : (c i : ℕ) (o : Option ℕ) (v : ℕ) → digit_or_error c i o ≡ Ok v → o ≡ Some v
-digit_read c i (Some w) v e = cc
-digit_read c i None v e = absurd cc
+-- the two digits of a byte
+abbrev digits_of : ℕ → List ℕ
+digits_of b = get_or lower_digits (b / 16) 0 ∷ get_or lower_digits (b % 16) 0 ∷ []
 
-encode_pairs : (i : ℕ) (text bytes : List ℕ) → All IsLowerDigit text → decode_pairs i text ≡ Ok bytes → encode_lower bytes ≡ text
-unfolding decode_pairs encode_with
-encode_pairs i [] bytes each e =
-    let none : [] ≡ bytes = cc in
-    subst (λ (bs : List ℕ). encode_lower bs ≡ []) none refl
-encode_pairs i (a ∷ []) bytes each e = absurd cc
-encode_pairs i (a ∷ b ∷ rest) bytes each e =
-    let pair = bind_ok (pair_value a b i) (λ byte. decode_pairs (i + 2) rest >>= λ others. Ok (byte ∷ others)) bytes e in
-    let others = bind_ok (decode_pairs (i + 2) rest) (λ others. Ok (pair.0 ∷ others)) bytes pair.2 in
-    let high = bind_ok (value_at a i) (λ h. value_at b (i + 1) >>= λ l. Ok (h * 16 + l)) pair.0 pair.1 in
-    let low = bind_ok (value_at b (i + 1)) (λ l. Ok (high.0 * 16 + l)) pair.0 high.2 in
-    let high_is = digit_read a i (hex_digit_value a) high.0 high.1 in
-    let low_is = digit_read b (i + 1) (hex_digit_value b) low.0 low.1 in
-    let a_lower = All-head IsLowerDigit a (b ∷ rest) each in
-    let after = All-tail IsLowerDigit a (b ∷ rest) each in
-    let b_lower = All-head IsLowerDigit b rest after in
-    let behind = All-tail IsLowerDigit b rest after in
-    let high_small = value_small a high.0 a_lower high_is in
-    let low_small = value_small b low.0 b_lower low_is in
-    let byte_is : high.0 * 16 + low.0 ≡ pair.0 = cc (low.2) in
-    let bytes_are : pair.0 ∷ others.0 ≡ bytes = cc (others.2) in
-    let front : pair.0 / 16 ≡ high.0 = omega arith in
-    let back : pair.0 % 16 ≡ low.0 = omega arith in
-    let recursion : encode_lower others.0 ≡ rest = encode_pairs (i + 2) rest others.0 behind others.1 in
-    let a_is : get_or lower_digits (pair.0 / 16) 0 ≡ a = rw front (digit_at_value a high.0 a_lower high_is) in
-    let b_is : get_or lower_digits (pair.0 % 16) 0 ≡ b = rw back (digit_at_value b low.0 b_lower low_is) in
-    let whole : encode_lower (pair.0 ∷ others.0) ≡ a ∷ b ∷ rest = rw (a_is, b_is, recursion) refl in
-    subst (λ (bs : List ℕ). encode_lower bs ≡ a ∷ b ∷ rest) bytes_are whole
+encode_more : (bytes : List ℕ) (b : ℕ) → encode_lower (bytes ++ b ∷ []) ≡ encode_lower bytes ++ digits_of b
+unfolding encode_with
+encode_more [] b = refl
+encode_more (x ∷ bytes) b = ap (λ (l : List ℕ). get_or lower_digits (x / 16) 0 ∷ get_or lower_digits (x % 16) 0 ∷ l) (encode_more bytes b)
 
-pub contents_taken : (text bytes : List ℕ) → IsHexadecimal text → length text ≤ 2048 → decode_of text ≡ Ok bytes → IsContents bytes × (text ≡ encode_lower bytes)
-contents_taken text bytes hexadecimal short e =
-    let ok = decode_of-ok text bytes e in
-    let n = ok.2 in
-    let back = encode_pairs 0 text bytes hexadecimal.each (sym (decode_of-even text hexadecimal.even) ∙ e) in
-    (record { some = omega (arith, hexadecimal.some); few = omega arith; each = All-from_get_or (λ b. b < 256) bytes 0 (λ i within. ok.3 i) }, sym back)
+two_more : (text : List ℕ) (i j k : ℕ) → j ≡ 2 * i → k ≡ 2 * (i + 1) → k ≤ length text
+    → drop j text ≡ get_or text j 0 ∷ get_or text (j + 1) 0 ∷ drop k text
+two_more text i j k at next within =
+    let one : suc j ≡ j + 1 = omega arith in
+    let two : suc (j + 1) ≡ k = omega arith in
+    drop-cons text j 0 (omega arith)
+    ∙ ap (λ (n : ℕ). get_or text j 0 ∷ drop n text) one
+    ∙ ap (λ (l : List ℕ). get_or text j 0 ∷ l) (drop-cons text (j + 1) 0 (omega arith) ∙ ap (λ (n : ℕ). get_or text (j + 1) 0 ∷ drop n text) two)
+
+-- what the bytes so far spell, and what is left of the text
+abbrev pub IsReadTo : List ℕ → List ℕ → ℕ → Type 0
+IsReadTo text bytes i = encode_lower bytes ++ drop (2 * i) text ≡ text
+
+pub read_none : (text : List ℕ) → IsReadTo text [] 0
+read_none text = ap (λ (l : List ℕ). l ++ text) encode_none
+
+-- one more byte, of two digits
+pub read_more : (text bytes : List ℕ) (i high low : ℕ) → 2 * (i + 1) ≤ length text → high < 16 → low < 16
+    → get_or lower_digits high 0 ≡ get_or text (2 * i) 0 → get_or lower_digits low 0 ≡ get_or text (2 * i + 1) 0
+    → IsReadTo text bytes i → IsReadTo text (bytes ++ (high * 16 + low) ∷ []) (i + 1)
+read_more text bytes i high low within small also first second so_far =
+    let b : ℕ = high * 16 + low in
+    let front : b / 16 ≡ high = omega arith in
+    let back : b % 16 ≡ low = omega arith in
+    let digits : digits_of b ≡ get_or text (2 * i) 0 ∷ get_or text (2 * i + 1) 0 ∷ [] = rw (front, back, first, second) refl in
+    let rest : List ℕ = drop (2 * (i + 1)) text in
+    ap (λ (l : List ℕ). l ++ rest) (encode_more bytes b)
+    ∙ append_assoc (encode_lower bytes) (digits_of b) rest
+    ∙ ap (λ (l : List ℕ). encode_lower bytes ++ (l ++ rest)) digits
+    ∙ ap (λ (l : List ℕ). encode_lower bytes ++ l) (sym (two_more text i (2 * i) (2 * (i + 1)) refl refl within))
+    ∙ so_far
+
+pub read_all : (text bytes : List ℕ) (i : ℕ) → length text ≤ 2 * i → IsReadTo text bytes i → text ≡ encode_lower bytes
+read_all text bytes i past so_far =
+    sym so_far ∙ ap (λ (l : List ℕ). encode_lower bytes ++ l) (drop_all (2 * i) text past) ∙ append-nil (encode_lower bytes)
+
+-- ---- the table of values
+
+value_is_place : (c : ℕ) → (not (ltb (get_or VALUES c 0) 16) || eqb (get_or lower_digits (get_or VALUES c 0) 0) c) ≡ true → get_or VALUES c 0 < 16
+    → get_or lower_digits (get_or VALUES c 0) 0 ≡ c
+value_is_place c test small = eqb-true _ c (from_not (ltb (get_or VALUES c 0) 16) _ test (lt-ltb _ 16 small))
+
+pub digit_of_value : (c : ℕ) → c < 256 → get_or VALUES c 0 < 16 → get_or lower_digits (get_or VALUES c 0) 0 ≡ c
+digit_of_value c byte small =
+    value_is_place c (agree_below_at (λ x. not (ltb (get_or VALUES x 0) 16) || eqb (get_or lower_digits (get_or VALUES x 0) 0) x) (λ _. true) 256 c refl byte) small
+
+pub value_of_digit : (c : ℕ) → c < 256 → IsLowerDigit c → get_or VALUES c 0 < 16
+value_of_digit c byte lower =
+    ltb-true _ 16 (from_not (is_lower c) (ltb (get_or VALUES c 0) 16) (agree_below_at (λ x. not (is_lower x) || ltb (get_or VALUES x 0) 16) (λ _. true) 256 c refl byte) (test_from_lower c lower))
+
+-- ---- contents
+
+pub contents_spelled : (text bytes : List ℕ) → 0 < length text → length text ≤ 2048 → All (λ b. b < 256) bytes → text ≡ encode_lower bytes
+    → IsContents bytes × (text ≡ encode_lower bytes)
+contents_spelled text bytes some few each is =
+    let n : length text ≡ 2 * length bytes = ap length is ∙ length-encode_with lower_digits bytes in
+    (record { some = omega (arith, n); few = omega (arith, n); each = each }, is)
 
 pub lower_encoded : (bytes : List ℕ) → All (λ b. b < 256) bytes → All IsLowerDigit (encode_lower bytes)
 unfolding encode_with
@@ -135,11 +132,3 @@ pub encode_injective : (xs ys : List ℕ) → IsContents xs → IsContents ys �
 encode_injective xs ys x y e =
     let both : Ok xs ≡ Ok ys = sym (decode_of-encode_lower xs (bytes_at xs x.each)) ∙ ap decode_of e ∙ decode_of-encode_lower ys (bytes_at ys y.each) in
     cc
-
--- such a text decodes
-pub hexadecimal_decodes : (text : List ℕ) (e : FromHexError) → IsHexadecimal text → decode_of text ≡ Err e → ⊥
-hexadecimal_decodes text e hexadecimal refused =
-    let digits : AllPass is_hex_digit text = All-weaker IsLowerDigit (λ c. is_hex_digit c ≡ true) lower_is_digit text hexadecimal.each in
-    let decoded = decode_of-digits text hexadecimal.even digits in
-    let both : ◌≡◌ {A = Result (List ℕ) FromHexError} (Err e) (Ok decoded.0) = sym refused ∙ decoded.1 in
-    absurd cc

@@ -5,6 +5,7 @@ pub mod HeaderWords
 pub mod Least
 pub mod Phrases
 pub mod Requests
+pub mod NameNumbers
 pub mod Makers
 pub mod LineRules
 pub mod Words
@@ -15,6 +16,7 @@ pub mod Back
 pub mod OneReading
 pub mod Printing
 pub mod WorkedSpelling
+pub mod WorkedScript
 pub mod WorkedForms
 pub mod WorkedRules
 pub mod WorkedFaults

@@ -1,20 +1,21 @@
 -- The names that are kept, each with the lane that made it, as lines are added.
-use Rattle.std.proofs.Common.{◌≡◌, ℕ, Bool, cond, List, [], ◌∷◌, ◌++◌, Option, Some, None, Result, Ok, Err, ◌⊎◌, inl, inr, Bor, refl, sym, ap, ◌∙◌, subst}
+use Rattle.std.proofs.Common.{◌≡◌, ℕ, Bool, cond, List, [], ◌∷◌, ◌++◌, Option, Some, None, Result, Ok, Err, ◌⊎◌, inl, inr, refl, true, sym, ap, ◌∙◌, subst}
 use Rattle.std.specs.Prelude.{IfOk}
-use Rattle.std.specs.BTreeMap.{BTreeMap, is_at}
+use Rattle.std.specs.BTreeMap.{BTreeMap, get, is_at}
 use Rattle.std.specs.Map.{lookup}
-use Rattle.std.specs.Cmp.Lexicographic.{slice_cmp}
-use Rattle.std.specs.Ordering.{nat_cmp}
-use Rattle.std.specs.Str.{bytes_eq}
+use Rattle.std.specs.Ordering.{nat_cmp, is_eq}
+use Rattle.std.specs.Cmp.{Equal-is, nat_cmp_is}
+use Rattle.std.specs.declared.cmp.Ordering.TheVariants.{Equal}
 use Rattle.std.proofs.lemmas.Bool.{cases_Bool, true≢false}
-use Rattle.std.proofs.lemmas.Slice.Eq.{bytes_eq-Decides}
+use Rattle.std.proofs.lemmas.Map.Lookups.{exact_unsigned}
 use Rattle.cb_types.specs.declared.handle.Lane.{Lane}
 use Rattle.cb_types.specs.declared.request.Request.{Request}
 use Rattle.cb_types.specs.declared.request.Request.TheVariants.{Make}
 use Rattle.cb_script.specs.declared.fault.Refusal.{Refusal}
 use Rattle.cb_script.specs.declared.script.Line.{Line}
-use Rattle.cb_script.specs.Form.{IsMade, IsNew, Makes, names_made}
-use Rattle.cb_script.specs.Reading.{HasNames, IsMaker, StaysNamed, maker_of}
+use Rattle.cb_script.specs.Form.{IsName, IsMade, IsNew, Makes, names_made}
+use Rattle.cb_script.specs.Reading.{HasNames, IsMaker, StaysNamed, maker_of, number_of_name}
+use Rattle.cb_script.proofs.NameNumbers.{one_name}
 
 -- ---- one more line
 
@@ -55,32 +56,41 @@ maker_here before l lane name at makes new = (
   λ other made. elim (made_cases before l other name made) [ inl earlier ↦ absurd (new other earlier) | inr here ↦ sym here.0 ∙ at ],
 )
 
-pub names_more : (names more : BTreeMap (Bor (List ℕ)) ℕ) (before : List Line) (l : Line) (lane : Lane) (name : List ℕ) → HasNames names before → IsNew before name → l.lane ≡ lane → Makes l.request name
-    → ((q : List ℕ) → maker_of more q ≡ cond (bytes_eq name q) (Some lane.n) (maker_of names q)) → HasNames more (before ++ l ∷ [])
-names_more names more before l lane name has new at makes updated q =
-    elim (cases_Bool (bytes_eq name q)) [
+-- equal numbers compare so, and no others
+equal_numbers : (m n : ℕ) → is_eq (nat_cmp m n) ≡ true → m ≡ n
+equal_numbers m n e = exact_unsigned m n ((Equal-is (nat_cmp m n)).0 e)
+
+same_numbers : (m n : ℕ) → m ≡ n → is_eq (nat_cmp m n) ≡ true
+same_numbers m n e = (Equal-is (nat_cmp m n)).1 (sym (nat_cmp_is m n Equal e))
+
+pub names_more : (names more : BTreeMap ℕ ℕ) (before : List Line) (l : Line) (lane : Lane) (name : List ℕ) → IsName name → HasNames names before → IsNew before name → l.lane ≡ lane → Makes l.request name
+    → ((q : ℕ) → get nat_cmp more q ≡ cond (is_eq (nat_cmp (number_of_name name) q)) (Some lane.n) (get nat_cmp names q)) → HasNames more (before ++ l ∷ [])
+names_more names more before l lane name named has new at makes updated q also =
+    let m = number_of_name name in
+    let n = number_of_name q in
+    elim (cases_Bool (is_eq (nat_cmp m n))) [
       | inl same ↦
-          let one : name ≡ q = (bytes_eq-Decides name q).0 same in
-          let is : maker_of more q ≡ Some lane.n = updated q ∙ ap (λ (b : Bool). cond b (Some lane.n) (maker_of names q)) same in
+          let one : name ≡ q = one_name name q named also (equal_numbers m n same) in
+          let is : maker_of more q ≡ Some lane.n = updated n ∙ ap (λ (b : Bool). cond b (Some lane.n) (maker_of names q)) same in
           subst (λ (o : Option ℕ). IsMaker (before ++ l ∷ []) q o) (sym is) (subst (λ (n : List ℕ). IsMaker (before ++ l ∷ []) n (Some lane.n)) one (maker_here before l lane.n name (ap (λ (x : Lane). x.n) at) makes new))
       | inr differs ↦
-          let other : Makes l.request q → ⊥ = λ also. true≢false (sym ((bytes_eq-Decides name q).1 (makes_one l.request name q makes also)) ∙ differs) in
-          let is : maker_of more q ≡ maker_of names q = updated q ∙ ap (λ (b : Bool). cond b (Some lane.n) (maker_of names q)) differs in
-          subst (λ (o : Option ℕ). IsMaker (before ++ l ∷ []) q o) (sym is) (maker_stays before l q (maker_of names q) other (has q))
+          let other : Makes l.request q → ⊥ = λ another. true≢false (sym (same_numbers m n (ap number_of_name (makes_one l.request name q makes another))) ∙ differs) in
+          let is : maker_of more q ≡ maker_of names q = updated n ∙ ap (λ (b : Bool). cond b (Some lane.n) (maker_of names q)) differs in
+          subst (λ (o : Option ℕ). IsMaker (before ++ l ∷ []) q o) (sym is) (maker_stays before l q (maker_of names q) other (has q also))
     ]
 
 -- a request that makes no name
-pub names_stay : (names : BTreeMap (Bor (List ℕ)) ℕ) (before : List Line) (lane : Lane) (r : Request) → HasNames names before → names_made r ≡ [] → StaysNamed names before lane r
-names_stay names before lane r has none line name =
-    maker_stays before (record { lane = lane; line = line; request = r }) name (maker_of names name) (λ makes. makes_none r name none makes) (has name)
+pub names_stay : (names : BTreeMap ℕ ℕ) (before : List Line) (lane : Lane) (r : Request) → HasNames names before → names_made r ≡ [] → StaysNamed names before lane r
+names_stay names before lane r has none line name named =
+    maker_stays before (record { lane = lane; line = line; request = r }) name (maker_of names name) (λ makes. makes_none r name none makes) (has name named)
 
-pub names_stay_where : (names : BTreeMap (Bor (List ℕ)) ℕ) (before : List Line) (lane : Lane) (r : Result Request Refusal) → HasNames names before → IfOk r (λ x. names_made x ≡ []) → IfOk r (λ x. StaysNamed names before lane x)
+pub names_stay_where : (names : BTreeMap ℕ ℕ) (before : List Line) (lane : Lane) (r : Result Request Refusal) → HasNames names before → IfOk r (λ x. names_made x ≡ []) → IfOk r (λ x. StaysNamed names before lane x)
 names_stay_where names before lane (Ok r) has none = names_stay names before lane r has none
 names_stay_where names before lane (Err e) has none = tt
 
-none_of : (names : BTreeMap (Bor (List ℕ)) ℕ) → names.entries ≡ [] → (name : List ℕ) → maker_of names name ≡ None
-none_of names empty name = ap (λ (es : List (Bor (List ℕ) × ℕ)). lookup (is_at (λ (kept : Bor (List ℕ)). slice_cmp nat_cmp name kept.now)) es) empty
+none_of : (names : BTreeMap ℕ ℕ) → names.entries ≡ [] → (name : List ℕ) → maker_of names name ≡ None
+none_of names empty name = ap (λ (es : List (ℕ × ℕ)). lookup (is_at (nat_cmp (number_of_name name))) es) empty
 
 -- no names before the first line
-pub no_names : (names : BTreeMap (Bor (List ℕ)) ℕ) → names.entries ≡ [] → HasNames names []
-no_names names empty name = subst (λ (o : Option ℕ). IsMaker [] name o) (sym (none_of names empty name)) (λ lane made. made)
+pub no_names : (names : BTreeMap ℕ ℕ) → names.entries ≡ [] → HasNames names []
+no_names names empty name named = subst (λ (o : Option ℕ). IsMaker [] name o) (sym (none_of names empty name)) (λ lane made. made)

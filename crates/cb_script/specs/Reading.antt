@@ -1,9 +1,7 @@
 -- What the parts of the reader answer.
-use Rattle.std.specs.Prelude.{◌≡◌, ℕ, ◌+◌, ◌≤◌, ◌⊎◌, Option, Some, None, Result, Ok, Err, List, [], ◌∷◌, ◌++◌, length, map}
+use Rattle.std.specs.Prelude.{◌≡◌, ℕ, ◌+◌, ◌*◌, ◌≤◌, ◌⊎◌, Option, Some, None, Result, Ok, Err, List, [], ◌∷◌, ◌++◌, length, map}
 use Rattle.std.specs.List.{AllByRecursion}
-use Rattle.std.specs.BTreeMap.{BTreeMap, get_by}
-use Rattle.std.specs.Borrow.{Bor}
-use Rattle.std.specs.Cmp.Lexicographic.{slice_cmp}
+use Rattle.std.specs.BTreeMap.{BTreeMap, get}
 use Rattle.std.specs.Ordering.{nat_cmp}
 use Rattle.cb_types.specs.Config.{IsAccepted}
 use Rattle.cb_types.specs.declared.config.Config.{Config}
@@ -25,7 +23,7 @@ use Rattle.cb_script.specs.declared.verb.NodeVerb.{NodeVerb}
 use Rattle.cb_script.specs.declared.verb.NodeVerb.TheVariants as on_node
 use Rattle.cb_script.specs.declared.verb.BareVerb.{BareVerb}
 use Rattle.cb_script.specs.declared.verb.BareVerb.TheVariants as bare
-use Rattle.cb_script.specs.Form.{IsMade, IsRequest, IsKnown, MayFollow, FitsMode, AreLines, AreInMode}
+use Rattle.cb_script.specs.Form.{IsName, IsMade, IsRequest, IsKnown, MayFollow, FitsMode, AreLines, AreInMode}
 use Rattle.cb_script.specs.Numbers.{AreNumbers}
 use Rattle.cb_script.specs.Phrase.{Phrase, phrase_of}
 use Rattle.cb_script.specs.Rules.{Place, Holds, IsLeast}
@@ -53,9 +51,14 @@ HexFault hex short reasons.Hex = hex → ⊥
 HexFault hex short reasons.Length = hex × (short → ⊥)
 HexFault hex short _ = ⊥
 
--- the lane that the names kept have for this one
-abbrev pub maker_of : BTreeMap (Bor (List ℕ)) ℕ → List ℕ → Option ℕ
-maker_of names name = get_by (λ kept. slice_cmp nat_cmp name kept.now) names
+-- the bytes of a name as one number, the first byte lowest
+abbrev pub number_of_name : List ℕ → ℕ
+number_of_name [] = 0
+number_of_name (b ∷ bytes) = number_of_name bytes * 256 + b
+
+-- the lane that the names kept have for this one; a name is kept by its number
+abbrev pub maker_of : BTreeMap ℕ ℕ → List ℕ → Option ℕ
+maker_of names name = get nat_cmp names (number_of_name name)
 
 -- the lane alone made the name on these lines, or none did
 abbrev pub IsMaker : List Line → List ℕ → Option ℕ → Type 0
@@ -64,8 +67,9 @@ IsMaker before name (Some maker) =
     IsMade before maker name × ((lane : ℕ) → IsMade before lane name → lane ≡ maker)
 
 -- the names kept are those made on these lines, each with its lane
-abbrev pub HasNames : BTreeMap (Bor (List ℕ)) ℕ → List Line → Type 0
-HasNames names before = (name : List ℕ) → IsMaker before name (maker_of names name)
+abbrev pub HasNames : BTreeMap ℕ ℕ → List Line → Type 0
+HasNames names before =
+    (name : List ℕ) → IsName name → IsMaker before name (maker_of names name)
 
 -- the request has this phrase, and may stand here in this lane
 pub record MayStand (place : Place) (lane : ℕ) (phrase : Phrase) (r : Request) : Type 0 where
@@ -81,7 +85,7 @@ pub record ComesNext (place : Place) (text : List ℕ) (l : Line) : Type 0 where
   pub spelled : text ≡ script_line l
 
 -- the names are still those made, with the request's line behind these lines, whatever its number
-abbrev pub StaysNamed : BTreeMap (Bor (List ℕ)) ℕ → List Line → Lane → Request → Type 0
+abbrev pub StaysNamed : BTreeMap ℕ ℕ → List Line → Lane → Request → Type 0
 StaysNamed names before lane r =
     (line : ℕ) → HasNames names (before ++ record { lane = lane; line = line; request = r } ∷ [])
 

@@ -5,10 +5,10 @@ ghost use Rattle.cb_script.specs.Hexadecimal.{IsLowerDigit, IsHexadecimal};
 ghost use Rattle.cb_script.specs.Phrase.{change_text};
 ghost use Rattle.cb_script.specs.Reading.{Reads, HexFault};
 
+use crate::digits::spelled_bytes;
 use crate::fault::{Reason, Refusal};
 use crate::verb::is_word;
 use cb_types::Bytes;
-use hex::FromHexError;
 use std::alloc::Global;
 
 /// The longest contents have so many digits: two for each of 1,024 bytes.
@@ -20,19 +20,19 @@ pub(crate) fn contents_of(alloc: Global, text: &[u8]) -> Result<Bytes, Refusal>
         (λ bytes. IsContents bytes × (text.now ≡ encode_lower bytes))
         (HexFault (IsHexadecimal text.now) (length text.now ≤ 2048)) }
 {
-    if !is_hexadecimal(text) {
+    if text.len() > MOST_DIGITS {
+        // That one of them is no digit is told before that there are too many.
+        if is_hexadecimal(text) {
+            return Err(Refusal::Broken(Reason::Length));
+        }
         return Err(Refusal::Broken(Reason::Hex));
     }
-    if text.len() > MOST_DIGITS {
-        return Err(Refusal::Broken(Reason::Length));
+    if text.is_empty() || text.len() % 2 != 0 {
+        return Err(Refusal::Broken(Reason::Hex));
     }
-    match hex::decode(alloc, text) {
-        Ok(bytes) => Ok(Bytes::from(bytes)),
-        Err(fault) => {
-            // The digits were tested, so only memory can be wanting.
-            prove!(matches!(fault, FromHexError::OutOfMemory));
-            Err(Refusal::NoMemory)
-        }
+    match spelled_bytes(alloc, text)? {
+        Some(bytes) => Ok(bytes),
+        None => Err(Refusal::Broken(Reason::Hex)),
     }
 }
 

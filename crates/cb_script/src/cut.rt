@@ -3,6 +3,8 @@ ghost use Rattle.std.specs.List.{slice_split};
 ghost use Rattle.cb_script.specs.Cut.{texts};
 ghost use Rattle.cb_script.specs.Spelling.{lines_of, words_of};
 
+use memchr::memchr;
+
 /// Where the first of this value is, where there is one.
 fn place_in(bytes: &[u8], separator: u8) -> Option<usize>
     ensures cut { MatchOption result
@@ -11,7 +13,7 @@ fn place_in(bytes: &[u8], separator: u8) -> Option<usize>
         ≡ take i bytes.now ∷ slice_split (λ b. b == separator) (drop (i + 1) bytes.now)) }
     ensures within { IfSome result (λ i. i < length bytes.now) }
 {
-    bytes.iter().position(|b| *b == separator)
+    memchr(separator, bytes)
 }
 
 /// The bytes before the first of this value and those behind it, where there is one.

@@ -5,6 +5,7 @@
 
 mod contents;
 mod cut;
+mod digits;
 pub mod fault;
 mod header;
 mod known;

@@ -23,7 +23,7 @@ const MOST_WORDS: usize = 5;
 /// line too.
 pub(crate) fn line_of<'a>(
     alloc: Global,
-    names: &mut Names<'a>,
+    names: &mut Names,
     limits: Limits,
     least_lane: u8,
     number: u32,

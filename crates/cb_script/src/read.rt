@@ -74,7 +74,7 @@ fn read_lines(alloc: Global, limits: Limits, text: &[u8]) -> Result<Lines, Scrip
         (AreTheLines limits.mode limits.nodes (lines_of text.now))
         (λ e. FaultIs e (HasBadLine limits.mode limits.nodes (lines_of text.now))) }
 {
-    let mut names: Names<'_> = BTreeMap::new(alloc);
+    let mut names: Names = BTreeMap::new(alloc);
     let mut lines = Lines::new(alloc);
     let mut least_lane = 0;
     let mut number = 2;

@@ -8,7 +8,7 @@ ghost use Rattle.cb_script.specs.Rules.{Place, Rule, IsLeast};
 
 use crate::contents::{change_of, contents_of};
 use crate::fault::{Reason, Refusal};
-use crate::known::{Names, accept_known, accept_new, keep};
+use crate::known::{Names, accept_known, accept_new};
 use crate::number::{node_of, start_of};
 use crate::phrase::Words;
 use crate::script::Mode;
@@ -27,7 +27,7 @@ pub(crate) struct Limits {
 /// names. A make's name is then among them.
 pub(crate) fn request_of<'a>(
     alloc: Global,
-    names: &mut Names<'a>,
+    names: &mut Names,
     limits: Limits,
     lane: Lane,
     words: Words<'a>,
@@ -49,7 +49,7 @@ pub(crate) fn request_of<'a>(
 
 fn make_of<'a>(
     alloc: Global,
-    names: &mut Names<'a>,
+    names: &mut Names,
     lane: Lane,
     name: &'a [u8],
     hex: &[u8],
@@ -60,16 +60,15 @@ fn make_of<'a>(
     ensures names { (before : List Line) → HasNames names.old before
         → IfOk result (λ r. StaysNamed names.new before lane r) }
 {
-    accept_new(names, name)?;
+    accept_new(names, name, lane)?;
     let bytes = contents_of(alloc, hex)?;
-    let copy = Name::copy_of(alloc, name)?;
-    keep(names, name, lane)?;
-    Ok(Request::Make { name: copy, bytes })
+    let name = Name::copy_of(alloc, name)?;
+    Ok(Request::Make { name, bytes })
 }
 
 fn write_of(
     alloc: Global,
-    names: &Names<'_>,
+    names: &Names,
     lane: Lane,
     name: &[u8],
     at: &[u8],
@@ -91,7 +90,7 @@ fn write_of(
 
 fn named_of(
     alloc: Global,
-    names: &Names<'_>,
+    names: &Names,
     lane: Lane,
     verb: NameVerb,
     name: &[u8],

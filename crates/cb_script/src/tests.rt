@@ -177,7 +177,7 @@ fn prints_what_it_read(rt: HostRuntime) -> Result<(), Fail> {
             "0 make a 00\n2 write a 7 -\n2 write a 0 ff\n2 free a\n3 pin a\n3 leave\n",
             Some(6),
         ),
-        ("15 crash 5\n15 join 0\n", Some(2)),
+        ("15 crash 5\n15 join 0\n", None),
     ] {
         let text = format!(in rt.alloc(); "{header}{lines}")?;
         let script = read_script(rt.alloc(), text.as_bytes(), Mode::Seq)?;

@@ -26,6 +26,11 @@ fn is_built(request: &Request) -> bool
 {
     matches!(
         request,
-        Request::Make { .. } | Request::Read { .. } | Request::Write { .. } | Request::Free { .. }
+        Request::Make { .. }
+            | Request::Read { .. }
+            | Request::Write { .. }
+            | Request::Free { .. }
+            | Request::Crash { .. }
+            | Request::Join { .. }
     )
 }

@@ -1,14 +1,14 @@
 -- What another content of one position, and another shard at one, leave of a set.
-use Rattle.std.proofs.Common.{◌≡◌, ◌≢◌, ℕ, ◌^◌, ◌<◌, ◌≤◌, true, false, List, length, get_or, set, Option, Some, None, is_some, ap, sym, ◌∙◌, inl, inr, arith, length-set, get_or-set_same, get_or-set_other}
+use Rattle.std.proofs.Common.{◌≡◌, ◌≢◌, ℕ, ◌^◌, ◌<◌, ◌≤◌, Bool, true, false, if◌then◌else◌, List, length, get_or, set, Option, Some, None, is_some, ap, sym, ◌∙◌, inl, inr, arith, refl, subst, length-set, get_or-set_same, get_or-set_other}
 use Rattle.std.specs.List.{list_any, slice_get}
 use Rattle.std.specs.Option.{option_map_or}
-use Rattle.std.proofs.lemmas.Bool.{cases_lt}
-use Rattle.std.proofs.lemmas.List.{get_or_past, length-replicate}
+use Rattle.std.proofs.lemmas.Bool.{cases_eq, cases_lt}
+use Rattle.std.proofs.lemmas.List.{get_or_past, length-replicate, set-set}
 use Rattle.std.proofs.lemmas.List.Folds.{list_any_at}
 use Rattle.std.proofs.lemmas.Option.{get_or_from_slice_get, none-some, slice_get-get_or, slice_get_within}
 use Rattle.cb_member.specs.declared.names.Shard.{Shard}
 use Rattle.cb_member.specs.Membership.{Membership}
-use Rattle.cb_set.specs.SetState.{IsSet, PositionState, SetState, dead_position, fresh_set, parities, position_of, slot_at, with_position, with_shard}
+use Rattle.cb_set.specs.SetState.{IsSet, PositionState, SetState, dead_position, fresh_set, parities, position_of, slot_at, with_cleared, with_position, with_shard, without_object, IsRestOf}
 use Rattle.cb_set.specs.Lost.{is_lost, lost_at}
 
 -- one position has the new content, and every other its old one
@@ -28,6 +28,62 @@ dead_here set p within = position_here set p dead_position within
 pub dead_else : (set : SetState) (p q : ℕ) → q ≢ p
     → position_of (with_position set p dead_position) q ≡ position_of set q
 dead_else set p q off = position_else set p q dead_position off
+
+-- the last content of a position stays
+pub position_twice : (set : SetState) (p : ℕ) (a b : PositionState)
+    → with_position (with_position set p a) p b ≡ with_position set p b
+position_twice set p a b =
+    ap (λ (l : List PositionState). record set { positions = l }) (set-set set.positions p a b)
+
+-- a position whose last object was taken out is dead
+pub without_last : (content : PositionState) (slot : ℕ)
+    → list_any (λ x. is_some x) (with_cleared content slot).slots ≡ false
+    → without_object content slot ≡ dead_position
+without_last content slot none =
+    ap (λ (b : Bool). if b then with_cleared content slot else dead_position) none
+
+-- what a position has that lost an object, or all
+pub dead_is_rest : (old : PositionState) → IsRestOf old dead_position
+dead_is_rest old = record {
+  named = λ slot h e. absurd (no_slot slot h e);
+  sized = λ slot h e. absurd (no_slot slot h e);
+  live = refl;
+}
+  where
+    no_slot : (slot h : ℕ) → get_or dead_position.slots slot None ≡ Some h → ⊥
+    no_slot slot h e = none-some h (sym (get_or_past dead_position.slots slot None (omega arith))
+        ∙ e)
+
+pub rest_without : (old : PositionState) (slot : ℕ)
+    → old.live ≡ list_any (λ x. is_some x) old.slots → old.live ≡ true
+    → IsRestOf old (without_object old slot)
+rest_without old slot live on = by (list_any (λ x. is_some x) (with_cleared old slot).slots) refl
+  where
+    left : PositionState
+    left = with_cleared old slot
+
+    still : (b : Bool) → list_any (λ x. is_some x) left.slots ≡ b → (q h : ℕ)
+        → get_or left.slots q None ≡ Some h → get_or old.slots q None ≡ Some h
+    still b any q h e = elim (cases_eq q slot) [
+      | inl here ↦ elim (cases_lt q (length old.slots)) [
+        | inl within ↦ absurd (none-some h (sym (ap (λ (n : ℕ). get_or left.slots n None) here
+            ∙ get_or-set_same old.slots slot None None
+            (subst (λ (n : ℕ). n < length old.slots) here within)) ∙ e))
+        | inr past ↦ absurd (none-some h (sym (get_or_past left.slots q None
+            (let n = length-set old.slots slot None in omega (arith, n, past))) ∙ e))
+      ]
+      | inr off ↦ sym (get_or-set_other old.slots slot q None None off) ∙ e
+    ]
+
+    by : (b : Bool) → list_any (λ x. is_some x) left.slots ≡ b
+        → IsRestOf old (without_object old slot)
+    by true any = subst (IsRestOf old) (sym (ap (λ (b : Bool). if b then left else dead_position) any))
+        (record {
+          named = still true any;
+          sized = λ q h e. length-set old.slots slot None;
+          live = on ∙ sym any;
+        })
+    by false any = subst (IsRestOf old) (sym (without_last old slot any)) (dead_is_rest old)
 
 -- a slot that is still named stands at another position
 pub named_else : (set : SetState) (p q slot h : ℕ) → p < length set.positions

@@ -4,4 +4,4 @@ pub use Rattle.cb_set.proofs.Crashing.{crash_adds_one, crash_elsewhere, crash_le
 pub use Rattle.cb_set.proofs.Survivors.{Survives, lost_and_surviving, survives, surviving_ascend, surviving_more}
 pub use Rattle.cb_set.proofs.Naming.{OnDistinctNodes-set as spare_node_is_distinct, spare_keeps_distinct, spare_node}
 pub use Rattle.cb_set.proofs.Masks.{apart_from_masks, live_mask-lt, masks_from_apart, masks_of_matched, matched_by_masks}
-pub use Rattle.cb_set.proofs.Changes.{IsSet-fresh_set, IsSet-with_position, IsSet-with_shard, dead_else, dead_here, lost_at-shard, named_else, named_live, parities-with_position, parities-with_shard, position_else, position_here, shard_else, shard_here}
+pub use Rattle.cb_set.proofs.Changes.{IsSet-fresh_set, IsSet-with_position, IsSet-with_shard, dead_else, dead_here, lost_at-shard, named_else, named_live, parities-with_position, parities-with_shard, position_else, position_here, position_twice, without_last, dead_is_rest, rest_without, shard_else, shard_here}

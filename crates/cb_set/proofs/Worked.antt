@@ -1,10 +1,10 @@
 -- Worked span-sets: what meets each definition, and what breaks one of its parts alone.
-use Rattle.std.proofs.Common.{◌≡◌, ℕ, zero, suc, true, false, List, [], ◌∷◌, Option, None, Some, length, lit<, ap, refl, arith}
+use Rattle.std.proofs.Common.{◌≡◌, ℕ, zero, suc, true, false, List, [], ◌∷◌, Option, None, Some, length, get_or, lit<, ap, refl, arith}
 use Rattle.cb_member.specs.declared.names.NodeId.{NodeId}
 use Rattle.cb_member.specs.declared.names.Loss.{Loss}
 use Rattle.cb_member.specs.declared.names.Shard.{Shard}
 use Rattle.cb_member.specs.Membership.{Membership}
-use Rattle.cb_set.specs.SetState.{IsSet, PositionState, SetState, dead_position, filled_position, fresh_set, is_live, live_at, parities, slot_at, with_cleared, with_position, with_shard}
+use Rattle.cb_set.specs.SetState.{IsRestOf, IsSet, PositionState, SetState, dead_position, filled_position, fresh_set, is_live, live_at, parities, slot_at, with_cleared, with_position, with_shard, without_object}
 use Rattle.cb_set.specs.Lost.{IsWhole, NodesAreMembers, least_lost, loss_of, lost, lost_at}
 use Rattle.cb_set.specs.Surviving.{surviving}
 use Rattle.cb_set.specs.Matched.{IsMatched, PositionsApart, live_mask}
@@ -188,3 +188,47 @@ named_there = refl
 
 named_here_alone : names_elsewhere shards (node 1) 1 ≡ false
 named_here_alone = refl
+
+-- the object of a slot is taken out: of two one is left, and of one none
+abbrev two : PositionState
+two = filled_position (Some 4 ∷ Some 9 ∷ [])
+
+one_left : without_object two 0 ≡ record { live = true; slots = None ∷ Some 9 ∷ [] }
+one_left = refl
+
+none_left : without_object (filled_position table) 1 ≡ dead_position
+none_left = refl
+
+none_some : (h : ℕ) → None ≡ Some h → ⊥
+none_some h e = cc
+
+other_name : (h : ℕ) → Some 4 ≡ Some h → h ≡ 4
+other_name h e = cc
+
+rest : IsRestOf two (without_object two 0)
+rest = record { named = named; sized = λ slot h e. refl; live = refl }
+  where
+    named : (slot h : ℕ) → get_or (None ∷ Some 9 ∷ []) slot None ≡ Some h
+        → get_or (Some 4 ∷ Some 9 ∷ []) slot None ≡ Some h
+    named zero h e = absurd (none_some h e)
+    named (suc zero) h e = e
+    named (suc (suc slot)) h e = absurd (none_some h e)
+
+no_rest : IsRestOf two dead_position
+no_rest = record {
+  named = λ slot h e. absurd (none_some h e);
+  sized = λ slot h e. absurd (none_some h e);
+  live = refl;
+}
+
+rest_names_another : ¬ (IsRestOf two (filled_position (Some 5 ∷ None ∷ [])))
+rest_names_another x = let e : 5 ≡ 4 = other_name 5 (x.named 0 5 refl) in omega (arith, e)
+
+rest_of_fewer_slots : ¬ (IsRestOf two (filled_position (Some 4 ∷ [])))
+rest_of_fewer_slots x = let e : 1 ≡ 2 = x.sized 0 4 refl in omega (arith, e)
+
+rest_live_without_a_name : ¬ (IsRestOf two (record { live = true; slots = None ∷ None ∷ [] }))
+rest_live_without_a_name x = true_false x.live
+  where
+    true_false : true ≡ false → ⊥
+    true_false e = cc

@@ -1,5 +1,5 @@
 -- A span-set: its number, the shard of each position, and what each data position holds.
-use Rattle.std.specs.Prelude.{ℕ, ◌-◌, ◌^◌, ◌<◌, ◌≤◌, Bool, length, false, None, Option, List, [], replicate, is_some, refl, slice_index_or, slice_set}
+use Rattle.std.specs.Prelude.{◌≡◌, ℕ, ◌-◌, ◌^◌, ◌<◌, ◌≤◌, Bool, length, false, None, Some, Option, List, [], if◌then◌else◌, replicate, is_some, refl, slice_index_or, slice_set}
 use Rattle.std.specs.List.{list_any}
 use Rattle.std.specs.Coded.{Coded, code_by, coded×, coded_bool, coded_list, coded_option, coded_ℕ}
 use Rattle.cb_member.specs.declared.names.Shard.{Shard}
@@ -80,6 +80,21 @@ filled_position slots = record { live = list_any (λ slot. is_some slot) slots; 
 -- a position with one slot emptied, and the live flag that it had
 abbrev pub with_cleared : PositionState → ℕ → PositionState
 with_cleared content slot = record content { slots = slice_set content.slots slot None }
+
+-- the position without the object of a slot; one that names no handle then is dead
+abbrev pub without_object : PositionState → ℕ → PositionState
+without_object content slot =
+    let left = with_cleared content slot in
+    if list_any (λ slot. is_some slot) left.slots then left else dead_position
+
+-- What a position has that lost objects: some of those that it had, in the same slots, or none. It
+-- is live where it names one.
+pub record IsRestOf (old left : PositionState) : Type 0 where
+  pub named : (slot h : ℕ) → slice_index_or left.slots slot None ≡ Some h
+      → slice_index_or old.slots slot None ≡ Some h
+  pub sized : (slot h : ℕ) → slice_index_or left.slots slot None ≡ Some h
+      → length left.slots ≡ length old.slots
+  pub live : left.live ≡ list_any (λ slot. is_some slot) left.slots
 
 -- the set with another shard at one position, and all else the same
 abbrev pub with_shard : SetState → ℕ → Shard → SetState

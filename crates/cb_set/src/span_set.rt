@@ -1,6 +1,6 @@
 ghost use Rattle.std.specs.Prelude.{◌≡◌, ◌+◌, ◌-◌, ◌^◌, ◌<◌, ◌≤◌, length, Some, slice_get, is_some, nat_eq, IfOk, OnOk, OnErr};
 ghost use Rattle.std.specs.List.{list_any};
-ghost use Rattle.cb_set.specs.SetState.{IsSet, dead_position, filled_position, fresh_set, is_live, live_at, parities, position_of, slot_at, with_cleared, with_position, with_shard};
+ghost use Rattle.cb_set.specs.SetState.{IsSet, dead_position, filled_position, fresh_set, is_live, live_at, parities, position_of, slot_at, with_cleared, without_object, with_position, with_shard};
 ghost use Rattle.cb_set.specs.Matched.{live_mask};
 ghost use Rattle.cb_set.specs.Nodes.{names_elsewhere};
 
@@ -131,6 +131,20 @@ impl SpanSet {
         let content = &mut self.positions[position as usize];
         if let Some(handle) = content.slots.get_mut(slot as usize) {
             *handle = None;
+        }
+    }
+
+    /// Takes the object out of one slot. A position that names no handle then is dead, and gives the
+    /// memory of its slot table back. Looks at the position's slots; takes no memory.
+    pub fn take_out(&mut self, position: u32, slot: u32)
+        requires { position < length self.old.positions }
+        ensures left { self.new
+            ≡ with_position self.old position (without_object (position_of self.old position) slot) }
+        ensures valid { IsSet self.new }
+    {
+        self.clear(position, slot);
+        if !names_a_handle(self.slots(position)) {
+            self.kill(position);
         }
     }
 

@@ -1,40 +1,35 @@
--- Text in hexadecimal, byte after byte, and text that is added in four parts.
-use Rattle.std.proofs.Common.{◌≡◌, ℕ, ◌+◌, ◌/◌, ◌%◌, ◌<◌, List, [], ◌∷◌, ◌++◌, length, get_or, drop, suc, refl, sym, ap, ◌∙◌, append_assoc, drop-cons, arith}
-use Rattle.std.specs.Prelude.{slice_index, ◌≤◌}
-use Rattle.std.proofs.lemmas.List.{append-nil, drop_all}
+-- Text in hexadecimal, piece after piece, and text that is added in four parts.
+use Rattle.std.proofs.Common.{◌≡◌, ℕ, ◌/◌, ◌%◌, List, [], ◌∷◌, ◌++◌, refl, sym, ap, ◌∙◌, append_assoc}
+use Rattle.std.specs.Prelude.{slice_index}
+use Rattle.std.proofs.lemmas.List.{append-nil}
 use Rattle.hex.specs.Hex.{encode_lower, encode_with, lower_digits}
 
--- the two digits of a byte
-abbrev pub digits_of : ℕ → List ℕ
-digits_of b = slice_index lower_digits (b / 16) ∷ slice_index lower_digits (b % 16) ∷ []
-
-first_byte : (b : ℕ) (rest : List ℕ) → encode_lower (b ∷ rest) ≡ digits_of b ++ encode_lower rest
+encode_joined : (xs ys : List ℕ) → encode_lower (xs ++ ys) ≡ encode_lower xs ++ encode_lower ys
 unfolding encode_with
-first_byte b rest = refl
+encode_joined [] ys = refl
+encode_joined (x ∷ xs) ys =
+    ap (λ (l : List ℕ). slice_index lower_digits (x / 16) ∷ slice_index lower_digits (x % 16) ∷ l) (encode_joined xs ys)
 
-next_byte : (bytes : List ℕ) (i : ℕ) → i < length bytes
-    → drop i bytes ≡ get_or bytes i 0 ∷ drop (i + 1) bytes
-next_byte bytes i lt =
-    let next : suc i ≡ i + 1 = omega arith in
-    drop-cons bytes i 0 lt ∙ ap (λ (n : ℕ). get_or bytes i 0 ∷ drop n bytes) next
-
--- the first of the bytes that are left is added
-pub one_byte : (text bytes : List ℕ) (i : ℕ) → i < length bytes
-    → (text ++ digits_of (get_or bytes i 0)) ++ encode_lower (drop (i + 1) bytes) ≡ text ++ encode_lower (drop i bytes)
-one_byte text bytes i lt =
-    append_assoc text (digits_of (get_or bytes i 0)) (encode_lower (drop (i + 1) bytes))
-    ∙ ap (λ (l : List ℕ). text ++ l) (sym (first_byte (get_or bytes i 0) (drop (i + 1) bytes)) ∙ ap encode_lower (sym (next_byte bytes i lt)))
+-- the front of the bytes that are left is added
+pub one_piece : (text made rest piece behind : List ℕ) → made ≡ text ++ encode_lower piece → piece ++ behind ≡ rest
+    → made ++ encode_lower behind ≡ text ++ encode_lower rest
+one_piece text made rest piece behind is parts =
+    ap (λ (l : List ℕ). l ++ encode_lower behind) is
+    ∙ append_assoc text (encode_lower piece) (encode_lower behind)
+    ∙ ap (λ (l : List ℕ). text ++ l) (sym (encode_joined piece behind) ∙ ap encode_lower parts)
 
 encode_none : encode_lower [] ≡ []
 unfolding encode_with
 encode_none = refl
 
 -- none are left
-pub none_left : (text bytes : List ℕ) (i : ℕ) → length bytes ≤ i
-    → text ++ encode_lower (drop i bytes) ≡ text
-none_left text bytes i past =
-    ap (λ (l : List ℕ). text ++ encode_lower l) (drop_all i bytes past) ∙ ap (λ (l : List ℕ). text ++ l) encode_none ∙ append-nil text
+pub none_left : (text rest : List ℕ) → rest ≡ [] → text ++ encode_lower rest ≡ text
+none_left text rest is =
+    ap (λ (l : List ℕ). text ++ encode_lower l) is ∙ ap (λ (l : List ℕ). text ++ l) encode_none ∙ append-nil text
 
 pub four_parts : (text a b c d : List ℕ)
     → (((text ++ a) ++ b) ++ c) ++ d ≡ text ++ (((a ++ b) ++ c) ++ d)
 four_parts text a b c d = simp append_assoc
+
+pub three_parts : (text a b c : List ℕ) → ((text ++ a) ++ b) ++ c ≡ text ++ ((a ++ b) ++ c)
+three_parts text a b c = simp append_assoc

@@ -4,9 +4,12 @@ use Rattle.std.specs.Prelude.{codes}
 use Rattle.std.specs.Fmt.{digits}
 use Rattle.hex.specs.Hex.{encode_with}
 use Rattle.cb_types.specs.declared.handle.Lane.{Lane}
-use Rattle.cb_types.specs.declared.request.Request.TheVariants.{Make, Read, Write, Free, Peek, Filter, Evict, Crash}
-use Rattle.cb_types.specs.declared.reply.Reply.TheVariants.{Made, Version, Bytes, Full, NoRoom, Unmade, Freed, Moving, Range, Pinned, Worn, NotHere}
-use Rattle.cb_text.specs.Line.{answer_line}
+use Rattle.cb_types.specs.declared.answer.Answer.{Answer}
+use Rattle.cb_types.specs.declared.reply.Reply.{Reply}
+use Rattle.cb_types.specs.declared.request.Request.{Request}
+use Rattle.cb_types.specs.declared.request.Request.TheVariants.{Make, Read, Write, Free, Pin, Peek, Unpin, Leave, Filter, Evict, Rebuild, Crash, Join}
+use Rattle.cb_types.specs.declared.reply.Reply.TheVariants.{Made, Version, Bytes, Done, Left, Moved, Same, Set, Rebuilt, EpochAt, Full, NoRoom, Unmade, Freed, Moving, Unavailable, Range, Pinned, Worn, ScopeFull, NotPinned, NotHere, NoSlot, NoSpans, NoNodes, Whole, Stuck, Down, Up}
+use Rattle.cb_text.specs.Line.{answer_line, text_of}
 
 abbrev lane : ℕ → Lane
 lane n = record { n = n }
@@ -65,3 +68,79 @@ worn = refl
 a_node : answer_line (lane 0) (Crash (record { n = 5 })) Worn ≡ codes "0 crash 5 worn\n"
 unfolding digits
 a_node = refl
+
+unpinned : answer_line (lane 1) (Unpin a) (Done) ≡ codes "1 unpin a ok\n"
+unfolding digits
+unpinned = refl
+
+left : answer_line (lane 1) (Leave) (Left 16) ≡ codes "1 leave left 16\n"
+unfolding digits
+left = refl
+
+scope_full : answer_line (lane 1) (Pin a) (ScopeFull) ≡ codes "1 pin a scopefull\n"
+unfolding digits
+scope_full = refl
+
+not_pinned : answer_line (lane 1) (Peek a) (NotPinned) ≡ codes "1 peek a notpinned\n"
+unfolding digits
+not_pinned = refl
+
+moved : answer_line (lane 1) (Filter a) (Moved) ≡ codes "1 filter a moved\n"
+unfolding digits
+moved = refl
+
+same : answer_line (lane 1) (Filter a) (Same) ≡ codes "1 filter a same\n"
+unfolding digits
+same = refl
+
+no_slot : answer_line (lane 1) (Filter a) (NoSlot 8) ≡ codes "1 filter a noslot 8\n"
+unfolding digits
+no_slot = refl
+
+a_set : answer_line (lane 1) (Evict) (Set (record { n = 5 })) ≡ codes "1 evict set 5\n"
+unfolding digits
+a_set = refl
+
+no_spans : answer_line (lane 1) (Evict) (NoSpans 1) ≡ codes "1 evict nospans 1\n"
+unfolding digits
+no_spans = refl
+
+no_nodes : answer_line (lane 1) (Evict) (NoNodes 3) ≡ codes "1 evict nonodes 3\n"
+unfolding digits
+no_nodes = refl
+
+rebuilt : answer_line (lane 1) (Rebuild) (Rebuilt (record { n = 0 }) 1 (record { n = 5 })) ≡ codes "1 rebuild rebuilt set 0 position 1 node 5\n"
+unfolding digits
+rebuilt = refl
+
+whole : answer_line (lane 1) (Rebuild) (Whole 2) ≡ codes "1 rebuild whole 2\n"
+unfolding digits
+whole = refl
+
+stuck : answer_line (lane 1) (Rebuild) (Stuck (record { n = 5 })) ≡ codes "1 rebuild stuck set 5\n"
+unfolding digits
+stuck = refl
+
+an_epoch : answer_line (lane 1) (Crash (record { n = 5 })) (EpochAt (record { n = 1 })) ≡ codes "1 crash 5 epoch 1\n"
+unfolding digits
+an_epoch = refl
+
+down : answer_line (lane 1) (Crash (record { n = 5 })) (Down (record { n = 5 })) ≡ codes "1 crash 5 down 5\n"
+unfolding digits
+down = refl
+
+up : answer_line (lane 1) (Join (record { n = 5 })) (Up (record { n = 5 })) ≡ codes "1 join 5 up 5\n"
+unfolding digits
+up = refl
+
+unavailable : answer_line (lane 1) (Read a) (Unavailable (record { n = 7 }) (record { node = record { n = 0 }; epoch = record { n = 1 } } ∷ record { node = record { n = 5 }; epoch = record { n = 12 } } ∷ [])) ≡ codes "1 read a unavailable set 7 lost 0@1 5@12\n"
+unfolding digits
+unavailable = refl
+
+-- the lines of a make and of a read, one behind the other
+abbrev answer : ℕ → Request → Reply → Answer
+answer line request reply = record { lane = lane 1; line = line; request = request; reply = reply }
+
+pub made_and_read_text : text_of (answer 2 (Make a (10 ∷ 11 ∷ [])) (Made (record { n = 0 }) 1) ∷ answer 3 (Read a) (Bytes 1 (10 ∷ 11 ∷ [])) ∷ []) ≡ codes "1 make a v1\n1 read a v1 0a0b\n"
+unfolding digits encode_with
+made_and_read_text = refl

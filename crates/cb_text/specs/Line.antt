@@ -2,12 +2,13 @@
 use Rattle.std.specs.Prelude.{ℕ, List, [], ◌∷◌, ◌++◌, codes, decimal, Option, Some, None}
 use Rattle.std.specs.List.{flat_map}
 use Rattle.hex.specs.Hex.{encode_lower}
+use Rattle.cb_member.specs.declared.names.Loss.{Loss}
 use Rattle.cb_types.specs.declared.handle.Lane.{Lane}
 use Rattle.cb_types.specs.declared.answer.Answer.{Answer}
 use Rattle.cb_types.specs.declared.request.Request.{Request}
 use Rattle.cb_types.specs.declared.request.Request.TheVariants.{Make, Read, Write, Free, Pin, Peek, Unpin, Leave, Filter, Evict, Begin, Ship, Commit, Abort, Pair, Patch, Merge, Part, Compact, Rebuild, Crash, Join}
 use Rattle.cb_types.specs.declared.reply.Reply.{Reply}
-use Rattle.cb_types.specs.declared.reply.Reply.TheVariants.{Made, Version, Bytes, Full, NoRoom, Unmade, Freed, Moving, Range, Pinned, Worn, NotHere, NoFrame}
+use Rattle.cb_types.specs.declared.reply.Reply.TheVariants.{Made, Version, Bytes, Done, Left, Moved, Same, Set, Rebuilt, EpochAt, Full, NoRoom, Unmade, Freed, Moving, Unavailable, Range, Pinned, Worn, ScopeFull, NotPinned, NotHere, NoSlot, NoSpans, NoNodes, Whole, Stuck, Down, Up}
 use Rattle.cb_types.specs.Requests.{name_of}
 
 -- a space, and then the word
@@ -58,24 +59,73 @@ subject_text (Crash node) = spaced (decimal node.n)
 subject_text (Join node) = spaced (decimal node.n)
 subject_text request = name_text (name_of request)
 
--- the words of a reply, each behind a space; bytes are written in lower-case hexadecimal
+-- the word that a reply is told by; one that no line is answered has none
+abbrev pub word_of : Reply → List ℕ
+word_of (Full handles) = codes "full"
+word_of Unmade = codes "unmade"
+word_of Freed = codes "freed"
+word_of Moving = codes "moving"
+word_of (Range len) = codes "range"
+word_of (Pinned count) = codes "pinned"
+word_of Worn = codes "worn"
+word_of Done = codes "ok"
+word_of (Left pins) = codes "left"
+word_of Moved = codes "moved"
+word_of Same = codes "same"
+word_of (Set set) = codes "set"
+word_of (EpochAt epoch) = codes "epoch"
+word_of ScopeFull = codes "scopefull"
+word_of NotPinned = codes "notpinned"
+word_of NotHere = codes "nothere"
+word_of (NoSlot frames) = codes "noslot"
+word_of (NoSpans loose) = codes "nospans"
+word_of (NoNodes nodes) = codes "nonodes"
+word_of (Whole gone) = codes "whole"
+word_of (Down node) = codes "down"
+word_of (Up node) = codes "up"
+word_of reply = []
+
+-- the number that is told behind the word, where there is one
+abbrev pub number_of : Reply → Option ℕ
+number_of (Full handles) = Some handles
+number_of (Range len) = Some len
+number_of (Pinned count) = Some count
+number_of (Left pins) = Some pins
+number_of (Set set) = Some set.n
+number_of (EpochAt epoch) = Some epoch.n
+number_of (NoSlot frames) = Some frames
+number_of (NoSpans loose) = Some loose
+number_of (NoNodes nodes) = Some nodes
+number_of (Whole gone) = Some gone
+number_of (Down node) = Some node.n
+number_of (Up node) = Some node.n
+number_of reply = None
+
+abbrev pub number_text : Option ℕ → List ℕ
+number_text None = []
+number_text (Some number) = spaced (decimal number)
+
+-- a lost shard behind a space: its node, `@` and the epoch of its crash
+abbrev pub loss_text : Loss → List ℕ
+loss_text loss = spaced (decimal loss.node.n) ++ 64 ∷ decimal loss.epoch.n
+
+-- The words of a reply, each behind a space: a version with its `v`, and bytes in lower-case
+-- hexadecimal; numbers by their names; else one word, and a number where it has one.
 abbrev pub reply_text : Reply → List ℕ
 reply_text (Made handle version) = spaced (version_text version)
 reply_text (Version version) = spaced (version_text version)
 reply_text (Bytes version bytes) = spaced (version_text version) ++ spaced (encode_lower bytes)
-reply_text (Full handles) = counted (codes "full") handles
 reply_text (NoRoom frames loose nodes) =
     spaced (codes "noroom") ++ counted (codes "frames") frames ++ counted (codes "loose") loose
     ++ counted (codes "nodes") nodes
-reply_text Unmade = spaced (codes "unmade")
-reply_text Freed = spaced (codes "freed")
-reply_text Moving = spaced (codes "moving")
-reply_text (Range len) = counted (codes "range") len
-reply_text (Pinned count) = counted (codes "pinned") count
-reply_text Worn = spaced (codes "worn")
-reply_text NotHere = spaced (codes "nothere")
--- no line is answered so
-reply_text NoFrame = []
+reply_text (Unavailable set lost) =
+    spaced (codes "unavailable") ++ counted (codes "set") set.n ++ spaced (codes "lost")
+    ++ flat_map loss_text lost
+reply_text (Rebuilt set position node) =
+    spaced (codes "rebuilt") ++ counted (codes "set") set.n ++ counted (codes "position") position
+    ++ counted (codes "node") node.n
+reply_text (Stuck set) = spaced (codes "stuck") ++ counted (codes "set") set.n
+reply_text reply = spaced (word_of reply) ++ number_text (number_of reply)
 
 -- the line of an answer: the lane, the verb, the name or node, the reply and a line feed
 abbrev pub answer_line : Lane → Request → Reply → List ℕ

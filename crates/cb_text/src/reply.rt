@@ -1,8 +1,10 @@
-ghost use Rattle.std.specs.Prelude.{◌≡◌, ◌++◌, OnOk};
-ghost use Rattle.cb_text.specs.Line.{reply_text};
+ghost use Rattle.std.specs.Prelude.{◌≡◌, ◌++◌, OnOk, codes};
+ghost use Rattle.std.specs.List.{flat_map};
+ghost use Rattle.cb_text.specs.Line.{counted, loss_text, number_of, reply_text, spaced, word_of};
 
-use crate::word::{push_counted, push_hexadecimal, push_version, push_word};
-use cb_types::{NoMemory, Reply};
+use crate::word::{push_counted, push_hexadecimal, push_number, push_version, push_word};
+use cb_types::{Loss, NoMemory, NodeId, Reply, SetId};
+use itoa::Buffer;
 
 /// Adds the words of a reply at the end, each behind a space.
 pub(crate) fn push_reply(text: &mut Vec<u8>, reply: &Reply) -> Result<(), NoMemory>
@@ -15,21 +17,96 @@ pub(crate) fn push_reply(text: &mut Vec<u8>, reply: &Reply) -> Result<(), NoMemo
             push_version(text, *version)?;
             push_hexadecimal(text, bytes.as_slice())
         }
-        Reply::Full { handles } => push_counted(text, b"full", *handles),
         Reply::NoRoom {
             frames,
             loose,
             nodes,
         } => push_no_room(text, *frames, *loose, *nodes),
-        Reply::Unmade => push_word(text, b"unmade"),
-        Reply::Freed => push_word(text, b"freed"),
-        Reply::Moving => push_word(text, b"moving"),
-        Reply::Range { len } => push_counted(text, b"range", *len),
-        Reply::Pinned { count } => push_counted(text, b"pinned", *count),
-        Reply::Worn => push_word(text, b"worn"),
-        Reply::NotHere => push_word(text, b"nothere"),
-        Reply::NoFrame => Ok(()),
+        Reply::Unavailable { set, lost } => push_unavailable(text, *set, lost.as_slice()),
+        Reply::Rebuilt {
+            set,
+            position,
+            node,
+        } => push_rebuilt(text, *set, *position, *node),
+        Reply::Stuck { set } => push_set(text, b"stuck", *set),
+        _ => {
+            push_word(text, word(reply).as_bytes())?;
+            match number(reply) {
+                Some(number) => push_number(text, number),
+                None => Ok(()),
+            }
+        }
     }
+}
+
+/// The word that tells a reply which is told by one word and perhaps a number; else none.
+fn word(reply: &Reply) -> &'static str
+    ensures { result.now ≡ word_of reply.now }
+{
+    match reply {
+        Reply::Full { .. } => "full",
+        Reply::Unmade => "unmade",
+        Reply::Freed => "freed",
+        Reply::Moving => "moving",
+        Reply::Range { .. } => "range",
+        Reply::Pinned { .. } => "pinned",
+        Reply::Worn => "worn",
+        Reply::Done => "ok",
+        Reply::Left { .. } => "left",
+        Reply::Moved => "moved",
+        Reply::Same => "same",
+        Reply::Set { .. } => "set",
+        Reply::EpochAt { .. } => "epoch",
+        Reply::ScopeFull => "scopefull",
+        Reply::NotPinned => "notpinned",
+        Reply::NotHere => "nothere",
+        Reply::NoSlot { .. } => "noslot",
+        Reply::NoSpans { .. } => "nospans",
+        Reply::NoNodes { .. } => "nonodes",
+        Reply::Whole { .. } => "whole",
+        Reply::Down { .. } => "down",
+        Reply::Up { .. } => "up",
+        _ => "",
+    }
+}
+
+/// The number that is told behind the word of a reply, where there is one.
+fn number(reply: &Reply) -> Option<u64>
+    ensures { result ≡ number_of reply.now }
+{
+    match reply {
+        Reply::Full { handles } => Some(u64::from(*handles)),
+        Reply::Range { len } => Some(u64::from(*len)),
+        Reply::Pinned { count } => Some(u64::from(*count)),
+        Reply::Left { pins } => Some(u64::from(*pins)),
+        Reply::Set { set } => Some(set.n),
+        Reply::EpochAt { epoch } => Some(epoch.n),
+        Reply::NoSlot { frames } => Some(u64::from(*frames)),
+        Reply::NoSpans { loose } => Some(u64::from(*loose)),
+        Reply::NoNodes { nodes } => Some(u64::from(*nodes)),
+        Reply::Whole { gone } => Some(u64::from(*gone)),
+        Reply::Down { node } => Some(u64::from(node.n)),
+        Reply::Up { node } => Some(u64::from(node.n)),
+        _ => None,
+    }
+}
+
+/// Adds a word, and the number of a set.
+fn push_set(text: &mut Vec<u8>, word: &[u8], set: SetId) -> Result<(), NoMemory>
+    ensures { OnOk result (text.new.items ≡ text.old.items ++ (spaced word.now ++ counted (codes "set") set.n)) }
+{
+    push_word(text, word)?;
+    push_counted(text, b"set", set.n)
+}
+
+/// Adds that a lost row stands again: its set, its position and its node.
+fn push_rebuilt(text: &mut Vec<u8>, set: SetId, position: u32, node: NodeId) -> Result<(), NoMemory>
+    ensures { OnOk result (text.new.items ≡ text.old.items ++ reply_text (Reply.Rebuilt set position node)) }
+{
+    push_set(text, b"rebuilt", set)?;
+    push_counted(text, b"position", position as u64)?;
+    push_counted(text, b"node", node.n as u64)?;
+    Ok(())
 }
 
 /// Adds that there is no room, and the three numbers that show it.
@@ -37,8 +114,37 @@ fn push_no_room(text: &mut Vec<u8>, frames: u32, loose: u32, nodes: u32) -> Resu
     ensures { OnOk result (text.new.items ≡ text.old.items ++ reply_text (Reply.NoRoom frames loose nodes)) }
 {
     push_word(text, b"noroom")?;
-    push_counted(text, b"frames", frames)?;
-    push_counted(text, b"loose", loose)?;
-    push_counted(text, b"nodes", nodes)?;
+    push_counted(text, b"frames", frames as u64)?;
+    push_counted(text, b"loose", loose as u64)?;
+    push_counted(text, b"nodes", nodes as u64)?;
+    Ok(())
+}
+
+/// Adds that a set has lost too much, and the lost shards that show it.
+fn push_unavailable(text: &mut Vec<u8>, set: SetId, lost: &[Loss]) -> Result<(), NoMemory>
+    ensures { OnOk result (text.new.items ≡ text.old.items ++ reply_text (Reply.Unavailable set lost.now)) }
+{
+    push_set(text, b"unavailable", set)?;
+    push_word(text, b"lost")?;
+    push_losses(text, lost)
+}
+
+/// Adds each lost shard behind a space: its node, `@` and the epoch of its crash.
+fn push_losses(text: &mut Vec<u8>, lost: &[Loss]) -> Result<(), NoMemory>
+    ensures { OnOk result (text.new.items ≡ text.old.items ++ flat_map loss_text lost.now) }
+{
+    for loss in lost {
+        push_loss(text, *loss)?;
+    }
+    Ok(())
+}
+
+/// Adds one lost shard.
+fn push_loss(text: &mut Vec<u8>, loss: Loss) -> Result<(), NoMemory>
+    ensures { OnOk result (text.new.items ≡ text.old.items ++ loss_text loss) }
+{
+    push_number(text, u64::from(loss.node.n))?;
+    text.push(b'@')?;
+    text.extend_from_slice(Buffer::new().format(loss.epoch.n).as_bytes())?;
     Ok(())
 }

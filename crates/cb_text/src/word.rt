@@ -1,5 +1,5 @@
-ghost use Rattle.std.specs.Prelude.{◌≡◌, ◌<◌, ◌++◌, OnOk, decimal, slice_index};
-ghost use Rattle.hex.specs.Hex.{encode_lower, lower_digits};
+ghost use Rattle.std.specs.Prelude.{◌≡◌, ◌≤◌, ◌++◌, OnOk, decimal, length};
+ghost use Rattle.hex.specs.Hex.{encode_lower};
 ghost use Rattle.cb_text.specs.Line.{spaced, counted, version_text};
 
 use cb_types::NoMemory;
@@ -22,11 +22,11 @@ pub(crate) fn push_number(text: &mut Vec<u8>, number: u64) -> Result<(), NoMemor
 }
 
 /// Adds a word and a number at the end, each behind a space.
-pub(crate) fn push_counted(text: &mut Vec<u8>, word: &[u8], number: u32) -> Result<(), NoMemory>
+pub(crate) fn push_counted(text: &mut Vec<u8>, word: &[u8], number: u64) -> Result<(), NoMemory>
     ensures { OnOk result (text.new.items ≡ text.old.items ++ counted word.now number) }
 {
     push_word(text, word)?;
-    push_number(text, u64::from(number))
+    push_number(text, number)
 }
 
 /// Adds a space and a version at the end.
@@ -46,23 +46,31 @@ pub(crate) fn push_hexadecimal(text: &mut Vec<u8>, bytes: &[u8]) -> Result<(), N
     push_digits(text, bytes)
 }
 
-/// The digits of hexadecimal text, each at the place of its value.
-const DIGITS: [u8; 16] = *b"0123456789abcdef";
+/// So many bytes get their digits at once.
+const PIECE: usize = 64;
 
 /// Adds two digits for each byte, the high one first.
 fn push_digits(text: &mut Vec<u8>, bytes: &[u8]) -> Result<(), NoMemory>
     ensures { OnOk result (text.new.items ≡ text.old.items ++ encode_lower bytes.now) }
 {
-    for byte in bytes {
-        text.extend_from_slice(&[digit(byte / 16), digit(byte % 16)])?;
+    let mut rest = bytes;
+    while !rest.is_empty() {
+        let (piece, behind) = rest.split_at(PIECE.min(rest.len()));
+        push_piece(text, piece)?;
+        rest = behind;
     }
     Ok(())
 }
 
-/// The digit of a value below 16.
-fn digit(value: u8) -> u8
-    requires { value < 16 }
-    ensures { result ≡ slice_index lower_digits value }
+/// Adds two digits for each byte of a piece.
+fn push_piece(text: &mut Vec<u8>, piece: &[u8]) -> Result<(), NoMemory>
+    requires { length piece.now ≤ PIECE }
+    ensures { OnOk result (text.new.items ≡ text.old.items ++ encode_lower piece.now) }
 {
-    DIGITS[value as usize]
+    let mut places = [0; 2 * PIECE];
+    let digits = &mut places[..2 * piece.len()];
+    // There is just the room, so it never fails.
+    let _filled = hex::encode_to_slice(piece, digits);
+    text.extend_from_slice(digits)?;
+    Ok(())
 }

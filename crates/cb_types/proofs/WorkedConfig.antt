@@ -4,7 +4,7 @@ use Rattle.cb_types.specs.declared.config.Config.{Config}
 use Rattle.cb_types.specs.declared.config.Field.{Field}
 use Rattle.cb_types.specs.declared.config.Field.TheVariants.{K, R, Nodes, Frames, Room, Handles, Turns}
 use Rattle.cb_types.specs.declared.request.Request.TheVariants as line
-use Rattle.cb_types.specs.declared.reply.Reply.TheVariants.{Made, Version, Bytes, Full, NoRoom, Unmade, Freed, Moving, Range, Pinned, Worn, NotHere, NoFrame}
+use Rattle.cb_types.specs.declared.reply.Reply.TheVariants.{Made, Version, Bytes, Done, Left, Full, NoRoom, Unmade, Freed, Moving, Unavailable, Range, Pinned, Worn, ScopeFull, NotHere, NoFrame, Down, Stays}
 use Rattle.cb_types.specs.Config.{IsInRange, IsAccepted, IsFirstOutOfRange, place}
 use Rattle.cb_types.specs.Faults.{Rose}
 use Rattle.cb_types.specs.Table.{IsReplyOf}
@@ -144,3 +144,27 @@ an_eviction_is_answered_worn = tt
 
 no_line_is_answered_that_no_frame_is_free : IsReplyOf (line.Make [] []) NoFrame → ⊥
 no_line_is_answered_that_no_frame_is_free is = is
+
+a_pin_is_answered_that_the_scope_is_full : IsReplyOf (line.Pin []) ScopeFull
+a_pin_is_answered_that_the_scope_is_full = tt
+
+a_read_is_not_answered_that_the_scope_is_full : IsReplyOf (line.Read []) ScopeFull → ⊥
+a_read_is_not_answered_that_the_scope_is_full is = is
+
+a_free_is_not_answered_unavailable : IsReplyOf (line.Free []) (Unavailable (record { n = 0 }) []) → ⊥
+a_free_is_not_answered_unavailable is = is
+
+an_unpin_is_answered_done : IsReplyOf (line.Unpin []) Done
+an_unpin_is_answered_done = tt
+
+a_leave_tells_the_pins : IsReplyOf line.Leave (Left 16)
+a_leave_tells_the_pins = tt
+
+an_eviction_is_not_answered_that_a_node_is_down : IsReplyOf line.Evict (Down (record { n = 0 })) → ⊥
+an_eviction_is_not_answered_that_a_node_is_down is = is
+
+a_join_is_not_answered_down : IsReplyOf (line.Join (record { n = 0 })) (Down (record { n = 0 })) → ⊥
+a_join_is_not_answered_down is = is
+
+no_line_is_answered_that_an_object_stays : IsReplyOf (line.Pin []) Stays → ⊥
+no_line_is_answered_that_an_object_stays is = is

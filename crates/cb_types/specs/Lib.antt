@@ -5,3 +5,4 @@ pub mod Sink
 pub mod Memory
 pub mod Requests
 pub mod Table
+pub mod Jobs

@@ -9,3 +9,9 @@ pub struct Handle {
 pub struct Lane {
     pub n: u8,
 }
+
+/// A span-set, by its number. Numbers count up from 0 and none is used again.
+#[derive(Clone, Copy, Debug, PartialEq, Eq, PartialOrd, Ord)]
+pub struct SetId {
+    pub n: u64,
+}

@@ -30,6 +30,19 @@ looks_told h (Looked k w ∷ es) s a =
     looks_told h es (record s { hots = set s.hots k (hot_of w) }) a.1
 looks_told h (e ∷ es) s a = absurd a
 
+-- the claim behind some looks
+abbrev pub claim_after : List Event → ℕ → ℕ → ℕ → List ℕ → List Event
+claim_after before h w v words = before ++ Claimed h w v words ∷ []
+
+-- what looks and a claim tell of the hot bits is what is then known of them
+claim_hots : (h w v : ℕ) (words : List ℕ) (before : List Event) (s : Shown) → AreLooks h before
+    → (told_by (claim_after before h w v words) s).hots
+    ≡ (played (claim_after before h w v words) s).hots
+claim_hots h w v words [] s a = refl
+claim_hots h w v words (Looked k x ∷ es) s a =
+    claim_hots h w v words es (record s { hots = set s.hots k (hot_of x) }) a.1
+claim_hots h w v words (e ∷ es) s a = absurd a
+
 -- looks and a claim are allowed at any time
 pub claim_allowed : (before : List Event) (h w v : ℕ) (words : List ℕ) (s : Shown)
     → AreLooks h before → Allowed s (before ++ Claimed h w v words ∷ [])
@@ -46,14 +59,11 @@ pub record IsAfterClaim (s : Shown) (h w v : ℕ) (words : List ℕ) (first done
   pub at_end : played (first ++ done) s ≡ played done (played first s)
   pub here : object_at s h ≡ is.Here (len_of w) (place_of w)
   pub claimed : IsClaimedAt (played first s) h w v words
+  pub told_hots : (told_by (first ++ done) s).hots ≡ set hots h (hot_of w)
   pub versions : (told_by (first ++ done) s).versions ≡ set s.versions h v
   pub memory : (told_by (first ++ done) s).memory ≡ put s.memory (place_of w) words
   pub writes : (old : List Entry)
       → written_by (first ++ done) s old ≡ written_by done (played first s) old
-
--- the claim behind some looks
-abbrev pub claim_after : List Event → ℕ → ℕ → ℕ → List ℕ → List Event
-claim_after before h w v words = before ++ Claimed h w v words ∷ []
 
 pub after_claim : (far : FarState) (s : Shown) (before done : List Event) (h w v : ℕ)
     (words : List ℕ) → LocalSound s far → h < length s.objects → h < length s.versions
@@ -75,6 +85,8 @@ after_claim far s before done h w v words sound range stamp looks free agree qui
       at_end = played_append first done s;
       here = p.2;
       claimed = is_claimed_at far s before h w v words sound range stamp looks agree free;
+      told_hots = ap (λ (t : Shown). t.hots) (told_append first done s ∙ quiet (told_by first s))
+          ∙ claim_hots h w v words before s looks ∙ ap (λ (t : Shown). t.hots) p.1;
       versions = ap (λ (t : Shown). t.versions) all;
       memory = ap (λ (t : Shown). t.memory) all;
       writes = λ old. written_append first done s old

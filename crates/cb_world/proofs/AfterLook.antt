@@ -13,9 +13,8 @@ use Rattle.cb_world.specs.Still.{IsStill}
 use Rattle.cb_world.specs.FarState.{FarState}
 use Rattle.cb_world.specs.LocalSound.{LocalSound}
 use Rattle.cb_world.specs.Sound.{Sound}
-use Rattle.cb_world.proofs.Tracing.{told_append, played_append, looks_played, written_append, looks_written, found_more, found_last}
+use Rattle.cb_world.proofs.Tracing.{played_append, looks_played, written_append, looks_written, found_more, found_last}
 use Rattle.cb_world.proofs.Exact.{first_look}
-use Rattle.cb_world.proofs.AfterClaim.{looks_told}
 use Rattle.cb_world.proofs.Unmoved.{keeps_all, sound_near}
 
 -- the look behind some looks
@@ -94,7 +93,12 @@ taken_before h v words (e ∷ es) fs a = taken_before h v words es fs a
 sound_hots : (far : FarState) (s : Shown) (hots : List Bool) → LocalSound s far
     → LocalSound (record s { hots = hots }) far
 sound_hots far s hots x = record {
-  known = record { first = x.known.first; made = x.known.made; stamped = x.known.stamped };
+  known = record {
+    first = x.known.first;
+    bounded = x.known.bounded;
+    made = x.known.made;
+    stamped = x.known.stamped;
+  };
   frames = x.frames;
   placed = record {
     memory = x.placed.memory;
@@ -111,18 +115,27 @@ look_played s before es h w looks reads =
     let p = looks_played h (look_after before h w) s one in
     (p.0, played_append (look_after before h w) es s ∙ reads_played h es _ reads ∙ p.2)
 
+-- what looks, and reads behind them, tell is what is then known
+look_tells : (h w : ℕ) (before es : List Event) (s : Shown) → AreLooks h before → AreReads h es
+    → told_by (look_after before h w ++ es) s ≡ played (look_after before h w ++ es) s
+look_tells h w [] es s a b = reads_told h es (after (Looked h w) s) b
+    ∙ sym (reads_played h es (after (Looked h w) s) b)
+look_tells h w (Looked k x ∷ before) es s a b =
+    look_tells h w before es (after (Looked k x) s) a.1 b
+look_tells h w (e ∷ before) es s a b = absurd a
+
 pub look_still : (s : Shown) (before es : List Event) (h w : ℕ) → AreLooks h before
-    → AreReads h es → IsStill (look_after before h w ++ es) s (played (look_after before h w ++ es) s)
+    → AreReads h es → IsStill (look_after before h w ++ es) s (played
+    (look_after before h w ++ es) s)
 look_still s before es h w looks reads =
     let one = looks_all h w before looks in
-    let q = looks_told h (look_after before h w) s one in
     let x = look_played s before es h w looks reads in
-    let y : told_by (look_after before h w ++ es) s ≡ record s { hots = q.0 } =
-    told_append (look_after before h w) es s ∙ reads_told h es _ reads ∙ q.1 in
+    let told = sym (look_tells h w before es s looks reads) in
     record {
       objects = ap (λ (t : Shown). t.objects) x.1;
-      versions = ap (λ (t : Shown). t.versions) x.1 ∙ sym (ap (λ (t : Shown). t.versions) y);
-      memory = ap (λ (t : Shown). t.memory) x.1 ∙ sym (ap (λ (t : Shown). t.memory) y);
+      hots = ap (λ (t : Shown). t.hots) told;
+      versions = ap (λ (t : Shown). t.versions) told;
+      memory = ap (λ (t : Shown). t.memory) told;
       nothing = λ old. written_append (look_after before h w) es s old
           ∙ reads_written h es _ _ reads ∙ looks_written h (look_after before h w) s old one;
     }

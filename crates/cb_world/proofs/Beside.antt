@@ -34,6 +34,19 @@ pub put_twice_beside : (ms xs ys : List ℕ) (place len : ℕ) → length xs ≡
 put_twice_beside ms xs ys place len count more p beside =
     put_beside (put ms place xs) ys place len more p beside ∙ put_beside ms xs place len count p beside
 
+-- the words of another frame than that of the object
+pub other_frame : (ms ns : List ℕ) (place len f g : ℕ) → f ≢ g → 512 * g ≤ place
+    → place + words_for len ≤ 512 * g + 512 → KeepsBeside ms ns place len
+    → window ns (512 * f) 512 ≡ window ms (512 * f) 512
+other_frame ms ns place len f g other start end beside =
+    window_same ns ms (512 * f) 512 (λ i low high. beside i (side i (cases_order f g) low high))
+  where
+    side : (i : ℕ) → (f ≡ g) ⊎ ((f < g) ⊎ (g < f)) → 512 * f ≤ i → i < 512 * f + 512
+        → IsBeside place len i
+    side i (inl same) low high = absurd (other same)
+    side i (inr (inl less)) low high = inl (omega (arith, less, start, high))
+    side i (inr (inr more)) low high = inr (omega (arith, more, end, low))
+
 -- a frame that is leaving is another than that of an object that is here
 pub apart_frames : (far : FarState) (s t : Shown) (h len place f : ℕ) (batch : LeavingState)
     → Sound s far → object_at s h ≡ is.Here len place → KeepsBeside s.memory t.memory place len
@@ -44,17 +57,7 @@ apart_frames far s t h len place f batch sound here beside there leaves =
     let x = slot_inside far s h len place sound.here c in
     let other : f ≢ c.frame = λ e. not_leaving s far batch c.frame c.slot h c.span sound there
     (subst IsAtLarge (sym here) tt) c.there c.named (subst (Contains batch.frames) e leaves) in
-    window_same t.memory s.memory (512 * f) 512
-    (λ i low high. beside i (side f c.frame place len i (cases_order f c.frame) other x.0 x.1 low high))
-  where
-    side : (f g place len i : ℕ) → (f ≡ g) ⊎ ((f < g) ⊎ (g < f)) → f ≢ g → 512 * g ≤ place
-        → place + words_for len ≤ 512 * g + 512 → 512 * f ≤ i → i < 512 * f + 512
-        → IsBeside place len i
-    side f g place len i (inl same) other start end low high = absurd (other same)
-    side f g place len i (inr (inl less)) other start end low high =
-        inl (omega (arith, less, start, high))
-    side f g place len i (inr (inr more)) other start end low high =
-        inr (omega (arith, more, end, low))
+    other_frame s.memory t.memory place len f c.frame other x.0 x.1 beside
 
 pub leaving_beside : (far : FarState) (s t : Shown) (h len place : ℕ) (batch : LeavingState)
     → Sound s far → object_at s h ≡ is.Here len place → KeepsBeside s.memory t.memory place len

@@ -51,6 +51,7 @@ sound_closed far s t f span sound there within x =
     record {
       known = record {
         first = x.first ∙ sound.known.first;
+        bounded = omega (arith, sound.known.bounded, x.objects);
         made = λ h below. elim (x.each h) [
           | inl spared ↦
               subst (λ (o : Object).

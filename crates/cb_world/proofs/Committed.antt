@@ -25,7 +25,7 @@ use Rattle.cb_world.specs.Merged.{takes, IsMergedWord}
 use Rattle.cb_world.specs.Join.{IsFresh, IsJoinWord, IsBeside, AreFit, IsJoin}
 use Rattle.cb_world.specs.JoinSteps.{merged_shard, IsMergedSet, IsCommitted}
 use Rattle.cb_world.proofs.Added.{set_same, home_same}
-use Rattle.cb_world.proofs.SwappedIn.{named_live}
+use Rattle.cb_set.proofs.Laws.{named_live}
 use Rattle.cb_world.proofs.Patching.{join_is_merged}
 
 some_none : {X : Type 0} (o : Option X) (x : X) → o ≡ None → o ≡ Some x → ⊥

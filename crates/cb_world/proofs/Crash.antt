@@ -9,14 +9,10 @@ use Rattle.cb_world.specs.declared.shown.Shown.{Shown}
 use Rattle.cb_node.proofs.Laws.{change_keeps_other_nodes as rows_elsewhere}
 use Rattle.cb_set.proofs.Laws.{crash_keeps_other_nodes}
 use Rattle.cb_world.specs.FarState.{FarState}
+use Rattle.cb_world.specs.NodeChanges.{crashed_far}
 use Rattle.cb_world.proofs.Storing.{wiped_node_is_empty}
 use Rattle.cb_world.specs.FarSound.{AreRows, Owner, of_set, of_leaving, of_joining, IsShardOf, AwaySound}
 use Rattle.cb_world.proofs.Words.{crash_keeps_word, crash_keeps_current, crash_survivor, crash_keeps_incarnations}
-
--- the far state after a crash
-abbrev pub crashed_far : FarState → NodeId → FarState
-crashed_far far node =
-    record far { nodes = with_rows far.nodes node map.empty; members = with_crash far.members node }
 
 same_shards : (far : FarState) (node : NodeId) (o : Owner) (a : Shard)
     → IsShardOf (crashed_far far node) o a → IsShardOf far o a

@@ -18,7 +18,7 @@ use Rattle.cb_set.specs.SetState.{parities}
 use Rattle.cb_world.specs.FarSound.{AwaySound}
 use Rattle.cb_world.specs.Now.{gone, broken_set, broken_home, is_gone, now_as, now}
 use Rattle.cb_world.proofs.Words.{crash_survivor, lost_grow}
-use Rattle.cb_world.proofs.Crash.{crashed_far}
+use Rattle.cb_world.specs.NodeChanges.{crashed_far}
 
 -- the object becomes gone
 pub record BecomesGone (s : Shown) (far new : FarState) (h : ℕ) : Type 0 where

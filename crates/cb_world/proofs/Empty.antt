@@ -28,13 +28,13 @@ use Rattle.cb_world.specs.Now.Now.{never as made_never}
 use Rattle.cb_world.specs.Empty.{empty_far, empty_shown, empty_words}
 
 -- each read of a list of one value gives it
-reads_one : {A : Type 0} (n i : ℕ) (x : A) → get_or (replicate n x) i x ≡ x
+pub reads_one : {A : Type 0} (n i : ℕ) (x : A) → get_or (replicate n x) i x ≡ x
 reads_one n i x = elim (cases_lt i n) [
   | inl below ↦ get_or-replicate n i x x below
   | inr past ↦ get_or_past (replicate n x) i x (omega (arith, past, length-replicate n x))
 ]
 
-no_object : (c : Config) (h : ℕ) → object_at (empty_shown c) h ≡ never
+pub no_object : (c : Config) (h : ℕ) → object_at (empty_shown c) h ≡ never
 no_object c h = reads_one c.handles h never
 
 no_span : (c : Config) (f : ℕ) → span_in (empty_far c).spans f ≡ None
@@ -67,6 +67,7 @@ local : (c : Config) → LocalSound (empty_shown c) (empty_far c)
 local c = record {
   known = record {
     first = refl;
+    bounded = omega arith;
     made = λ h below. (λ least. no_object c h, λ e. omega arith);
     stamped = λ h. subst (λ (o : Object). IsStamped o (version_at (empty_shown c) h))
         (sym (no_object c h)) (reads_one c.handles h 0);
@@ -94,6 +95,10 @@ local c = record {
 
 far_never : (o : Object) (len v : ℕ) (words : List ℕ) → o ≡ never → o ≡ is.Far len v words → ⊥
 far_never o len v words e q = cc
+
+claimed_never : (o : Object) (len place v : ℕ) (words : List ℕ) → o ≡ never
+    → o ≡ is.Claimed len place v words → ⊥
+claimed_never o len place v words e q = cc
 
 away : (c : Config) → c.nodes < 4294967296 → FarSound (empty_shown c) (empty_far c)
 away c few = record {
@@ -129,6 +134,8 @@ pub empty_sound : (c : Config) → c.nodes < 4294967296 → Sound (empty_shown c
 empty_sound c few = record {
   here = local c;
   noted = λ batch e. absurd (cc);
+  claimed = λ h len place v words e.
+      absurd (claimed_never (object_at (empty_shown c) h) len place v words (no_object c h) e);
   away = away c few;
 }
 

@@ -93,6 +93,7 @@ pub sound_freed : (far : FarState) (s : Shown) (h len place v : ℕ) → LocalSo
 sound_freed far s h len place v sound lies c range stamp frame live = record {
   known = record {
     first = sound.known.first;
+    bounded = omega (arith, sound.known.bounded, length-set s.objects h (is.Empty (v + 1)));
     made = λ k below. made k below (ℕ_discrete k h);
     stamped = λ k. stamped k (ℕ_discrete k h);
   };

@@ -33,6 +33,7 @@ local_fields s t far first objects versions memory x =
     record {
       known = record {
         first = first ∙ x.known.first;
+        bounded = omega (arith, x.known.bounded, ap length objects);
         made = λ h below. subst (λ (o : Object). far.made ≤ h ↔ (o ≡ never)) (sym (at h))
             (x.known.made h (omega (arith, below, ap length objects)));
         stamped = λ h. subst (λ (o : Object). IsStamped o (version_at t h)) (sym (at h))

@@ -1,14 +1,14 @@
--- What a step, a parting and a commit leave of `now`; and what a fresh set, a swap-in and the begin
--- leave of the pair.
-use Rattle.std.proofs.Common.{◌≡◌, ◌≢◌, ℕ, suc, ◌+◌, ◌<◌, ◌≤◌, Bool, true, false, cond, nat_lt, List, [], ◌∷◌, length, set, Option, Some, None, sym, refl, ap, ap₂, ◌∙◌, subst, arith, inl, inr, length-set}
-use Rattle.std.specs.List.{slice_get}
-use Rattle.std.proofs.lemmas.Bool.{cases_eq, false≢true}
+-- What a step, a parting and a commit leave of `now`; and what a fresh set, a position that gives objects
+-- up and the begin leave of the pair.
+use Rattle.std.proofs.Common.{◌≡◌, ◌≢◌, ℕ, suc, ◌+◌, ◌<◌, ◌≤◌, Bool, true, false, cond, nat_lt, List, [], ◌∷◌, length, set, Option, Some, None, is_some, sym, refl, ap, ap₂, ◌∙◌, subst, arith, inl, inr, length-set}
+use Rattle.std.specs.List.{slice_get, list_any}
+use Rattle.std.proofs.lemmas.Bool.{cases_eq}
 use Rattle.std.proofs.lemmas.Bool.Decides.{nat_tests}
 use Rattle.cb_member.specs.declared.names.NodeId.{NodeId}
 use Rattle.cb_member.specs.declared.names.Shard.{Shard}
 use Rattle.cb_member.specs.Membership.{Membership}
 use Rattle.cb_node.specs.NodesState.{row_at as row_under}
-use Rattle.cb_set.specs.SetState.{SetState, PositionState, live_at, slot_at, dead_position, with_position}
+use Rattle.cb_set.specs.SetState.{SetState, PositionState, IsRestOf, position_of, live_at, slot_at, with_position}
 use Rattle.cb_set.specs.Lost.{is_lost, lost}
 use Rattle.cb_world.proofs.Surviving.{count_surviving}
 use Rattle.cb_set.specs.Surviving.{surviving_from}
@@ -26,9 +26,10 @@ use Rattle.cb_world.specs.Now.{broken_home, broken_set, now, now_as}
 use Rattle.cb_world.specs.Join.{NoneLost, IsFresh, IsBeside, IsJoin}
 use Rattle.cb_world.specs.JoinSteps.{LeavesSets, IsUnnamed, IsCommitted}
 use Rattle.cb_world.specs.SetAdded.{IsSetAdded}
-use Rattle.cb_world.specs.SwappedIn.{IsSwappedIn}
+use Rattle.cb_world.specs.GivenUp.{GivesUp}
 use Rattle.cb_world.proofs.Added.{set_same}
-use Rattle.cb_world.proofs.SwappedIn.{dead_here, dead_else}
+use Rattle.cb_set.proofs.Laws.{named_live, position_here, position_else}
+use Rattle.cb_world.proofs.GivenUp.{live_names}
 use Rattle.cb_world.proofs.Joined.{pair_kept}
 use Rattle.cb_world.proofs.Committed.{c_home, c_beside}
 
@@ -166,37 +167,43 @@ added_keeps_join s t far new id set rows pair sound was x j = pair_kept far new 
           ∙ f.b_whole p shard at;
     }
 
--- a swap-in, of one of the pair's sets too: a position less is live, and a set that is dropped
--- makes the pair stale
+-- a position gives objects up, of one of the pair's sets too: no position more is live, and a set that
+-- is dropped makes the pair stale
 abbrev WasSet : (far : FarState) (q : ℕ) (c : SetState) → Type 0
 WasSet far q c = (a : SetState) × (set_in far.sets q ≡ Some a) × (c.shards ≡ a.shards)
     × (length c.positions ≡ length a.positions)
     × ((p : ℕ) → live_at c p ≡ true → live_at a p ≡ true)
 
-live_before : (set : SetState) (p q : ℕ) → p < length set.positions
-    → live_at (with_position set p dead_position) q ≡ true → live_at set q ≡ true
-live_before set p q within l = elim (cases_eq q p) [
+live_before : (set : SetState) (p : ℕ) (left : PositionState) (q : ℕ) → p < length set.positions
+    → IsRestOf (position_of set p) left
+    → live_at set p ≡ list_any (λ x. is_some x) (position_of set p).slots
+    → live_at (with_position set p left) q ≡ true → live_at set q ≡ true
+live_before set p left q within rest live l = elim (cases_eq q p) [
   | inl here ↦
-      absurd (false≢true (sym (ap (λ (n : ℕ). live_at (with_position set p dead_position) n) here
-      ∙ ap (λ (c : PositionState). c.live) (dead_here set p within)) ∙ l))
-  | inr off ↦ ap (λ (c : PositionState). c.live) (sym (dead_else set p q off)) ∙ l
+      let on : left.live ≡ true =
+      sym (ap (λ (n : ℕ). live_at (with_position set p left) n) here
+      ∙ ap (λ (c : PositionState). c.live) (position_here set p left within)) ∙ l in
+      let x = live_names left.slots (sym rest.live ∙ on) in
+      ap (λ (n : ℕ). live_at set n) here ∙ live
+      ∙ named_live (position_of set p).slots x.0 x.1 (rest.named x.0 x.1 x.2)
+  | inr off ↦ ap (λ (c : PositionState). c.live) (sym (position_else set p q left off)) ∙ l
 ]
 
 was_set : (s t : Shown) (far new : FarState) (id : ℕ) (set : SetState) (p : ℕ)
-    → IsSwappedIn s t far new id set p → (q : ℕ) (c : SetState) → set_in new.sets q ≡ Some c
-    → WasSet far q c
-was_set s t far new id set p x q c at = elim (cases_eq q id) [
-  | inl here ↦ elim x.left [
+    (left : PositionState) → AwaySound s far → GivesUp s t far new id set p left → (q : ℕ)
+    (c : SetState) → set_in new.sets q ≡ Some c → WasSet far q c
+was_set s t far new id set p left sound x q c at = elim (cases_eq q id) [
+  | inl here ↦ elim x.after [
     | inl on ↦
-        let e = set_same (with_position set p dead_position) c (sym on.there
+        let e = set_same (with_position set p left) c (sym on.there
         ∙ ap (set_in new.sets) (sym here) ∙ at) in
         subst (λ (d : SetState). WasSet far q d) e (
           set,
           ap (set_in far.sets) here
               ∙ x.was,
           refl,
-          length-set set.positions p dead_position,
-          λ z l. live_before set p z x.inside l,
+          length-set set.positions p left,
+          λ z l. live_before set p left z x.inside x.rest (sound.sets.live id p set x.was) l,
         )
     | inr dropped ↦
         absurd (some_none (set_in new.sets id) c dropped.gone (ap (set_in new.sets) (sym here)
@@ -205,14 +212,14 @@ was_set s t far new id set p x q c at = elim (cases_eq q id) [
   | inr off ↦ (c, sym (x.others q off) ∙ at, refl, refl, λ z l. l)
 ]
 
-pub swap_keeps_join : (s t : Shown) (far new : FarState) (id : ℕ) (set : SetState) (p : ℕ)
-    (pair : JoiningState) → AwaySound s far → far.joining ≡ Some pair
-    → IsSwappedIn s t far new id set p → IsJoin far pair → IsJoin new pair
-swap_keeps_join s t far new id set p pair sound was x j = pair_kept far new pair (record {
+pub given_keeps_join : (s t : Shown) (far new : FarState) (id : ℕ) (set : SetState) (p : ℕ)
+    (left : PositionState) (pair : JoiningState) → AwaySound s far → far.joining ≡ Some pair
+    → GivesUp s t far new id set p left → IsJoin far pair → IsJoin new pair
+given_keeps_join s t far new id set p left pair sound was x j = pair_kept far new pair (record {
   more_sets = subst (λ c. far.counts.sets ≤ c.sets) (sym x.counts) (omega arith);
   more_keys = subst (λ c. far.counts.keys ≤ c.keys) (sym x.counts) (omega arith);
-  fresh = λ c d f. let y = was_set s t far new id set p x pair.a c f.a_there in let z =
-      was_set s t far new id set p x pair.b d f.b_there in (
+  fresh = λ c d f. let y = was_set s t far new id set p left sound x pair.a c f.a_there in let z =
+      was_set s t far new id set p left sound x pair.b d f.b_there in (
         y.0,
         z.0,
         before c d f,
@@ -225,14 +232,14 @@ swap_keeps_join s t far new id set p pair sound was x j = pair_kept far new pair
         },
       );
   a_stay = λ c d f q shard at. let y = before c d f in let w =
-      was_set s t far new id set p x pair.a c f.a_there in
+      was_set s t far new id set p left sound x pair.a c f.a_there in
       stays pair.a q c f.a_there shard (
         w.0,
         y.a_there,
         ap (λ (l : List Shard). slice_get l q) y.a_shards ∙ at,
       );
   b_stay = λ c d f q shard at. let y = before c d f in let w =
-      was_set s t far new id set p x pair.b d f.b_there in
+      was_set s t far new id set p left sound x pair.b d f.b_there in
       stays pair.b q d f.b_there shard (
         w.0,
         y.b_there,
@@ -242,10 +249,10 @@ swap_keeps_join s t far new id set p pair sound was x j = pair_kept far new pair
 }) j
   where
     before : (c d : SetState) (f : IsFresh new pair c d)
-        → IsFresh far pair (was_set s t far new id set p x pair.a c f.a_there).0
-        (was_set s t far new id set p x pair.b d f.b_there).0
-    before c d f = let y = was_set s t far new id set p x pair.a c f.a_there in let z =
-        was_set s t far new id set p x pair.b d f.b_there in record {
+        → IsFresh far pair (was_set s t far new id set p left sound x pair.a c f.a_there).0
+        (was_set s t far new id set p left sound x pair.b d f.b_there).0
+    before c d f = let y = was_set s t far new id set p left sound x pair.a c f.a_there in let z =
+        was_set s t far new id set p left sound x pair.b d f.b_there in record {
           a_there = y.1;
           b_there = z.1;
           a_shards = sym y.2 ∙ f.a_shards;
@@ -266,7 +273,7 @@ swap_keeps_join s t far new id set p pair sound was x j = pair_kept far new pair
     stays : (n q : ℕ) (c : SetState) → set_in new.sets n ≡ Some c → (shard : Shard)
         → IsShardOf far (of_set n q) shard
         → row_under new.nodes shard.node shard.key ≡ row_under far.nodes shard.node shard.key
-    stays n q c there shard is = elim x.left [
+    stays n q c there shard is = elim x.after [
       | inl on ↦ on.rows shard.node shard.key
       | inr dropped ↦ dropped.rows_stay shard.node shard.key (λ r mine at e.
           let same =
@@ -280,7 +287,7 @@ swap_keeps_join s t far new id set p pair sound was x j = pair_kept far new pair
 
     new_stays : (q : ℕ) (shard : Shard) → slice_get pair.steps q ≡ Some (Some shard)
         → row_under new.nodes shard.node shard.key ≡ row_under far.nodes shard.node shard.key
-    new_stays q shard at = elim x.left [
+    new_stays q shard at = elim x.after [
       | inl on ↦ on.rows shard.node shard.key
       | inr dropped ↦
           dropped.rows_stay shard.node shard.key (λ r mine there e.

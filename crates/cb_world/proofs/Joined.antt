@@ -20,7 +20,7 @@ use Rattle.cb_world.specs.FarSound.{AreRows, of_set, of_leaving, IsShardOf, Away
 use Rattle.cb_world.specs.Join.{IsFresh, AreFit, IsJoin}
 use Rattle.cb_world.specs.JoinSteps.{LeavesSets}
 use Rattle.cb_world.proofs.Words.{crash_survivor}
-use Rattle.cb_world.proofs.Crash.{crashed_far}
+use Rattle.cb_world.specs.NodeChanges.{crashed_far}
 
 -- a shard of a fresh pair's sets is one of the far state
 a_owner : (far : FarState) (pair : JoiningState) (a b : SetState) → IsFresh far pair a b

@@ -85,6 +85,7 @@ sound_kept far s t h len place sound here first objects memory versions =
     λ k. ap (λ (l : List Object). get_or l k never) objects in record {
       known = record {
         first = first ∙ sound.known.first;
+        bounded = omega (arith, sound.known.bounded, ap length objects);
         made = λ k below.
             subst (λ (o : Object).
             far.made ≤ k ↔ (o ≡ never)) (sym (at k)) (sound.known.made k (omega (

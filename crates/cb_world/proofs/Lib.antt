@@ -11,7 +11,12 @@ pub mod Words
 pub mod Crash
 pub mod CrashNow
 pub mod Added
-pub mod SwappedIn
+pub mod GivenUp
+pub mod SetChanging
+pub mod SetsLeft
+pub mod GivenUpNow
+pub mod FarGone
+pub mod FarGoneNow
 pub mod Gathering
 pub mod Rebuilt
 pub mod NowKept
@@ -33,12 +38,30 @@ pub mod Unmoved
 pub mod Claimed
 pub mod AfterClaim
 pub mod AfterLook
+pub mod Touching
+pub mod Known
+pub mod StillWords
+pub mod StillPerforms
+pub mod NowSame
+pub mod NowOthers
+pub mod PinNow
 pub mod Beside
 pub mod SlotFinding
 pub mod Gone
 pub mod OpenSpans
+pub mod Choices
+pub mod Slots
+pub mod Placed
 pub mod Empty
+pub mod Worlds
+pub mod NodeJoin
+pub mod Alike
+pub mod Pins
 mod WorkedDesk
 mod WorkedWorld
 mod WorkedFar
 mod WorkedOpen
+mod WorkedChoices
+mod WorkedLeft
+mod WorkedPlaced
+mod WorkedSeats

@@ -1,5 +1,5 @@
 -- Last complete contents over a fresh set and over a swap-in.
-use Rattle.std.proofs.Common.{◌≡◌, ℕ, suc, Bool, false, List, [], ◌∷◌, length, Option, Some, None, is_some, sym, refl, ap, ◌∙◌, arith}
+use Rattle.std.proofs.Common.{◌≡◌, ℕ, zero, suc, Bool, false, List, [], ◌∷◌, length, Option, Some, None, is_some, sym, refl, ap, ◌∙◌, arith}
 use Rattle.std.specs.List.{slice_get, cons_option}
 use Rattle.std.proofs.lemmas.Bool.{le-ltb, false≢true}
 use Rattle.cb_member.specs.declared.names.Loss.{Loss}
@@ -7,6 +7,7 @@ use Rattle.cb_member.specs.declared.names.Shard.{Shard}
 use Rattle.cb_member.specs.Membership.{Membership}
 use Rattle.cb_set.specs.SetState.{SetState}
 use Rattle.cb_set.specs.Lost.{is_lost, loss_of, lost}
+use Rattle.cb_world.specs.declared.object.Object.{Object}
 use Rattle.cb_world.specs.declared.object.Object.TheVariants as is
 use Rattle.cb_world.specs.declared.shown.Shown.{Shown}
 use Rattle.cb_world.specs.Memory.{window, words_for, bytes_in}
@@ -56,3 +57,22 @@ brought_now s t far new h len v place words before whole after stamp contents =
     ∙ ap (λ (l : List ℕ). held v (bytes_in l len)) contents
     ∙ sym (ap (now_as s h (is_gone far h)) before
     ∙ ap (λ (b : Bool). now_as s h b (is.Far len v words)) whole)
+
+-- where its object, its version and its words are as they were, so is what it holds
+pub now_kept : (s t : Shown) (far new : FarState) (h : ℕ) → object_at t h ≡ object_at s h
+    → version_at t h ≡ version_at s h
+    → ((len place : ℕ) → object_at s h ≡ is.Here len place
+    → window t.memory place (words_for len) ≡ window s.memory place (words_for len))
+    → is_gone new h ≡ is_gone far h → now t new h ≡ now s far h
+now_kept s t far new h object version words gone =
+    ap (now_as t h (is_gone new h)) object
+    ∙ ap (λ (lost : Bool). now_as t h lost (object_at s h)) gone
+    ∙ by (is_gone far h) (object_at s h) refl
+  where
+    by : (lost : Bool) (o : Object) → object_at s h ≡ o → now_as t h lost o ≡ now_as s h lost o
+    by lost (is.Empty zero) e = refl
+    by lost (is.Empty (suc v)) e = refl
+    by lost (is.Far len v contents) e = refl
+    by lost (is.Here len place) e =
+        let same = words len place e in λ i. held (version i) (bytes_in (same i) len)
+    by lost (is.Claimed len place v contents) e = refl

@@ -11,13 +11,9 @@ use Rattle.cb_member.specs.declared.names.Shard.{Shard}
 use Rattle.cb_node.specs.Rows.{RowsByKey}
 use Rattle.cb_node.specs.NodesState.{NodesState, rows_at, with_rows, with_row, row_at as row_under}
 use Rattle.cb_node.proofs.Laws.{row_is_put, put_keeps_other_rows, change_is_at_its_node, change_keeps_other_nodes}
+pub use Rattle.cb_world.specs.Stored.{AreThere as InRange}
 use Rattle.cb_world.specs.Stored.{all_put, all_dropped, NoKey}
 use Rattle.cb_node.specs.NodesState.{with_dropped}
-
--- the nodes of the shards are there
-abbrev pub InRange : NodesState → List Shard → Type 0
-InRange nodes shards = (p : ℕ) (shard : Shard) → slice_get shards p ≡ Some shard
-    → shard.node.n < length nodes.nodes
 
 -- no two shards have one key
 abbrev pub KeysApart : List Shard → Type 0

@@ -1,5 +1,5 @@
 -- What a change of objects that are not far leaves of the far part of the sound world.
-use Rattle.std.proofs.Common.{◌≡◌, ◌⊎◌, ℕ, suc, ◌+◌, ◌*◌, List, [], ◌∷◌, ◌++◌, Some, Contains, length, get_or, map, sym, refl, ap, ◌∙◌, subst, arith, inl, inr}
+use Rattle.std.proofs.Common.{◌≡◌, ◌⊎◌, ℕ, suc, ◌+◌, ◌-◌, ◌*◌, ◌<◌, ◌≤◌, List, [], ◌∷◌, ◌++◌, Some, Contains, length, get_or, map, sym, refl, ap, ◌∙◌, subst, arith, inl, inr}
 use Rattle.cb_gf256.specs.Rows.{row_at}
 use Rattle.cb_member.specs.declared.names.Shard.{Shard}
 use Rattle.cb_set.specs.SetState.{SetState}
@@ -15,12 +15,14 @@ use Rattle.cb_world.specs.SetWord.{IsSpanWord}
 use Rattle.cb_world.specs.FarSound.{IsShardOf, Owner, of_set, of_leaving, of_joining, batch_rows, AwaySound, FarSound}
 use Rattle.cb_ptr.specs.Word.{len_of, place_of}
 use Rattle.cb_span.specs.Contents.{Contents, handle_at}
-use Rattle.cb_world.specs.Memory.{window}
+use Rattle.cb_world.specs.Memory.{window, words_for}
 use Rattle.cb_world.specs.RowWords.{row_of}
 use Rattle.cb_world.specs.LocalSound.{LocalSound}
-use Rattle.cb_world.specs.Sound.{IsNoted, AreNoted, Sound}
+use Rattle.cb_world.specs.Sound.{IsNoted, AreNoted, IsLeaving, Sound}
 use Rattle.cb_world.specs.SetAdded.{is_far}
 use Rattle.cb_world.proofs.Added.{was_far}
+use Rattle.cb_world.proofs.Apart.{slot_inside}
+use Rattle.cb_world.proofs.Windows.{window_at, window_same}
 
 -- the object is empty, or here for others to change
 abbrev pub IsAtLarge : Object → Type 0
@@ -242,6 +244,7 @@ noted_kept : (s t : Shown) (far new : FarState) (batch : LeavingState)
     → ((h : ℕ) → (object_at t h ≡ object_at s h) ⊎ IsNear s t h)
     → AreNoted s far batch → AreNoted t new batch
 noted_kept s t far new batch k objects noted = record {
+  held = λ f leaves. let x = noted.held f leaves in (x.0, k.spans f leaves ∙ x.1);
   each = λ f slot h span leaves there named.
       let n = noted.each f slot h span leaves (sym (k.spans f leaves) ∙ there) named in
       stays n (objects h);
@@ -262,6 +265,47 @@ noted_kept s t far new batch k objects noted = record {
     stays {h} n (inr near) = absurd (not_claimed (object_at s h) (len_of n.former.word)
         (place_of n.former.word) n.version n.words near.before n.claimed)
 
+-- words of a frame that is as it was
+in_frame : (ms ns : List ℕ) (f place n : ℕ) → 512 * f ≤ place → place + n ≤ 512 * f + 512
+    → window ns (512 * f) 512 ≡ window ms (512 * f) 512 → window ns place n ≡ window ms place n
+in_frame ms ns f place n start end same =
+    window_same ns ms place n (λ i low high. let k = i - 512 * f in
+    let at : 512 * f + k ≡ i = omega (arith, low, start) in
+    let below : k < 512 = omega (arith, low, high, start, end) in
+    ap (λ (j : ℕ). get_or ns j 0) (sym at) ∙ sym (window_at ns (512 * f) 512 k below)
+    ∙ ap (λ (l : List ℕ). get_or l k 0) same ∙ window_at ms (512 * f) 512 k below
+    ∙ ap (λ (j : ℕ). get_or ms j 0) at)
+
+-- the objects of the leaving frames are claimed with the same words
+claimed_kept : (s t : Shown) (far new : FarState) → Sound s far → far.leaving ≡ new.leaving
+    → ((h : ℕ) → (object_at t h ≡ object_at s h) ⊎ IsNear s t h)
+    → ((batch : LeavingState) → far.leaving ≡ Some batch → KeepsLeaving s t far new batch)
+    → (h len place v : ℕ) (words : List ℕ) → object_at t h ≡ is.Claimed len place v words
+    → IsLeaving t new h len place words
+claimed_kept s t far new sound same objects leaving h len place v words e = by (objects h)
+  where
+    by : (object_at t h ≡ object_at s h) ⊎ IsNear s t h → IsLeaving t new h len place words
+    by (inr near) = absurd (not_claimed (object_at t h) len place v words near.after e)
+    by (inl stays) =
+        let x = sound.claimed h len place v words (sym stays ∙ e) in
+        let k = leaving x.batch x.there in
+        let inside = slot_inside far s h len place sound.here x.slot in record {
+          batch = x.batch;
+          there = sym same ∙ x.there;
+          slot = record {
+            frame = x.slot.frame;
+            slot = x.slot.slot;
+            span = x.slot.span;
+            there = k.spans x.slot.frame x.leaves ∙ x.slot.there;
+            named = x.slot.named;
+            at = x.slot.at;
+            fits = x.slot.fits;
+          };
+          leaves = x.leaves;
+          contents = x.contents ∙ sym (in_frame s.memory t.memory x.slot.frame place (words_for len)
+              inside.0 inside.1 (k.words x.slot.frame x.leaves));
+        }
+
 -- the world stays sound where no far and no claimed object changed, and the leaving frames are as
 -- they were
 pub sound_near : (s t : Shown) (far new : FarState) → Sound s far → LocalSound t new
@@ -273,6 +317,7 @@ sound_near s t far new sound here keeps objects leaving = record {
   here = here;
   noted = λ batch there. let was = sym keeps.leaving ∙ there in
       noted_kept s t far new batch (leaving batch was) objects (sound.noted batch was);
+  claimed = claimed_kept s t far new sound (sym keeps.leaving) objects leaving;
   away = away_kept s t far new keeps objects
       (λ batch there. batch_kept s t far new batch (leaving batch there)) sound.away;
 }

@@ -4,24 +4,25 @@ use Rattle.cb_code.specs.Coefficients.{AreCoefficients}
 use Rattle.cb_member.specs.declared.names.NodeId.{NodeId}
 use Rattle.cb_member.specs.declared.names.Shard.{Shard}
 use Rattle.cb_member.specs.Membership.{IsMembership, alive, with_crash}
-use Rattle.cb_set.specs.SetState.{SetState}
+use Rattle.cb_set.specs.SetState.{SetState, PositionState}
 use Rattle.cb_world.specs.declared.shown.Shown.{Shown}
 use Rattle.cb_world.specs.FarState.{FarState}
 use Rattle.cb_world.specs.Joining.{JoiningState}
 use Rattle.cb_set.specs.SetState.{parities}
 use Rattle.cb_world.specs.FarSound.{FarSound}
 use Rattle.cb_world.specs.SetAdded.{IsSetAdded}
-use Rattle.cb_world.specs.SwappedIn.{IsSwappedIn}
+use Rattle.cb_world.specs.GivenUp.{GivesUp}
 use Rattle.cb_world.specs.Join.{IsJoin}
 use Rattle.cb_world.specs.JoinSteps.{with_step, IsBegun, IsStepped, IsParted, IsCommitted}
 use Rattle.cb_world.proofs.Added.{set_added}
-use Rattle.cb_world.proofs.SwappedIn.{swapped_in}
-use Rattle.cb_world.proofs.Crash.{crashed_far, crash_keeps}
+use Rattle.cb_world.proofs.GivenUp.{given_up}
+use Rattle.cb_world.specs.NodeChanges.{crashed_far}
+use Rattle.cb_world.proofs.Crash.{crash_keeps}
 use Rattle.cb_world.proofs.Joined.{crash_keeps_join}
 use Rattle.cb_world.proofs.Stepping.{step_keeps, step_keeps_join, part_keeps}
 use Rattle.cb_world.proofs.Beginning.{begin_keeps, begun_join}
 use Rattle.cb_world.proofs.Committed.{commit_keeps}
-use Rattle.cb_world.proofs.JoinNow.{added_keeps_join, swap_keeps_join}
+use Rattle.cb_world.proofs.JoinNow.{added_keeps_join, given_keeps_join}
 
 pair_same : (x y : JoiningState) → Some x ≡ Some y → x ≡ y
 pair_same x y e = cc
@@ -53,12 +54,12 @@ added_whole s t far new id set rows x c = record {
       ∙ at in added_keeps_join s t far new id set rows pair x.sound was c (x.join pair was);
 }
 
-pub swapped_whole : (s t : Shown) (far new : FarState) (id : ℕ) (set : SetState) (p : ℕ)
-    → FarSound s far → IsSwappedIn s t far new id set p → FarSound t new
-swapped_whole s t far new id set p x c = record {
-  sound = swapped_in s t far new id set p x.sound c;
+pub given_whole : (s t : Shown) (far new : FarState) (id : ℕ) (set : SetState) (p : ℕ)
+    (left : PositionState) → FarSound s far → GivesUp s t far new id set p left → FarSound t new
+given_whole s t far new id set p left x c = record {
+  sound = given_up s t far new id set p left x.sound c;
   join = λ pair at. let was = sym c.joining
-      ∙ at in swap_keeps_join s t far new id set p pair x.sound was c (x.join pair was);
+      ∙ at in given_keeps_join s t far new id set p left pair x.sound was c (x.join pair was);
 }
 
 pub begun_whole : (s : Shown) (far new : FarState) (pair : JoiningState) (a b : SetState)

@@ -1,7 +1,7 @@
 -- Worked examples of what is known at a desk: what meets each definition, and what breaks one part.
 use Rattle.std.proofs.Common.{◌≡◌, ℕ, zero, suc, true, false, [], ◌∷◌, refl, inl, inr, lit<, lit≤, arith}
 use Rattle.cb_world.specs.declared.object.Object.TheVariants as is
-use Rattle.cb_world.specs.declared.event.Event.TheVariants.{Looked, Claimed, Told, Stored, Stamped, Settled}
+use Rattle.cb_world.specs.declared.event.Event.TheVariants.{Looked, Claimed, Told, Loaded, Stored, Stamped, Settled}
 use Rattle.cb_world.specs.declared.shown.Shown.{Shown}
 use Rattle.cb_world.specs.Memory.{window, put, words_for, byte_at, bytes_in, IsPacked}
 use Rattle.cb_world.specs.Write.{IsWrite}
@@ -9,6 +9,8 @@ use Rattle.cb_world.specs.Shown.{Spares, Owns, MayLie, IsHeld, Fits, object_at}
 use Rattle.cb_world.specs.Settling.{MaySettle}
 use Rattle.cb_world.specs.Played.{after, played, Agrees}
 use Rattle.cb_world.specs.Looks.{IsFound, IsTaken, IsTold, LooksFirst}
+use Rattle.cb_world.specs.Touches.{Touches, SettlesLast}
+use Rattle.cb_world.specs.Still.{IsStill}
 use Rattle.cb_world.specs.Allowed.{IsAllowed}
 use Rattle.cb_world.specs.Written.{written_by, entry, gone}
 
@@ -153,6 +155,54 @@ claims_after_a_store l = l.0
 
 claims_after_a_stamp : LooksFirst (Stamped 0 1 ∷ Claimed 0 calm 1 [] ∷ []) → ⊥
 claims_after_a_stamp l = l.0
+
+-- the words of the object of two bytes at place 0 alone
+at_its_words : Touches 0 0 2 (Looked 0 calm ∷ Claimed 0 calm 1 (2826 ∷ []) ∷ Told 0 1
+    ∷ Loaded 0 2826 ∷ Stored 0 12 ∷ Stamped 0 2 ∷ Settled 0 calm ∷ [])
+at_its_words =
+    (refl, (refl, (refl, ((lit≤ tt, lit< tt), ((lit≤ tt, lit< tt), (refl, (refl, tt)))))))
+
+claims_another : Touches 0 0 2 (Claimed 1 calm 1 [] ∷ []) → ⊥
+claims_another t = omega (arith, t.0)
+
+stamps_another : Touches 0 0 2 (Stamped 1 2 ∷ []) → ⊥
+stamps_another t = omega (arith, t.0)
+
+settles_another : Touches 0 0 2 (Settled 1 calm ∷ []) → ⊥
+settles_another t = omega (arith, t.0)
+
+stores_behind : Touches 0 0 2 (Stored 1 12 ∷ []) → ⊥
+stores_behind t = omega (arith, t.0.1)
+
+-- memory words, then the version word, then the pointer word
+settled_last : SettlesLast (Told 0 1 ∷ Stored 0 12 ∷ Stamped 0 2 ∷ Settled 0 calm ∷ [])
+settled_last = (tt, tt, (tt, tt, tt, tt))
+
+tells_after_the_stamp : SettlesLast (Stamped 0 2 ∷ Told 0 2 ∷ []) → ⊥
+tells_after_the_stamp l = l.0
+
+tells_after_settling : SettlesLast (Settled 0 calm ∷ Told 0 2 ∷ []) → ⊥
+tells_after_settling l = l.0
+
+stores_after_the_stamp : SettlesLast (Stamped 0 2 ∷ Stored 0 12 ∷ []) → ⊥
+stores_after_the_stamp l = l.1
+
+stores_after_settling : SettlesLast (Settled 0 calm ∷ Stored 0 12 ∷ []) → ⊥
+stores_after_settling l = l.1
+
+stamps_after_settling : SettlesLast (Settled 0 calm ∷ Stamped 0 2 ∷ []) → ⊥
+stamps_after_settling l = l.2
+
+-- a claim that is given back changes nothing, and one that is settled cold does
+given_back : IsStill (Claimed 0 calm 1 (2826 ∷ []) ∷ Settled 0 calm ∷ []) known
+    (played (Claimed 0 calm 1 (2826 ∷ []) ∷ Settled 0 calm ∷ []) known)
+unfolding put window
+given_back =
+    record { objects = refl; hots = refl; versions = refl; memory = refl; nothing = λ old. refl }
+
+cooled : IsStill (Claimed 0 calm 1 (2826 ∷ []) ∷ Settled 0 16386 ∷ []) known
+    (played (Claimed 0 calm 1 (2826 ∷ []) ∷ Settled 0 16386 ∷ []) known) → ⊥
+cooled s = let z : false ∷ [] ≡ true ∷ [] = s.hots in cc
 
 -- the last look counts
 last_look : IsFound 0 5 (Looked 0 4 ∷ Looked 0 5 ∷ [])

@@ -1,6 +1,6 @@
 -- Worked examples of the local part of the sound world: a world that meets it, and for each fact
 -- one that breaks it.
-use Rattle.std.proofs.Common.{◌≡◌, ◌↔◌, ℕ, zero, suc, ◌<◌, ◌≤◌, Bool, true, false, List, [], ◌∷◌, Option, None, Some, replicate, refl, subst, sym, ◌∙◌, lit<, lit≤, arith}
+use Rattle.std.proofs.Common.{◌≡◌, ◌↔◌, ℕ, zero, suc, ◌<◌, ◌≤◌, Bool, true, false, List, [], ◌∷◌, Option, None, Some, Contains, replicate, get_or, refl, ap, subst, sym, ◌∙◌, lit<, lit≤, arith}
 use Rattle.std.proofs.lemmas.Bool.{agree_below_at, ltb-true}
 use Rattle.std.proofs.Math.Dec.{ltb}
 use Rattle.std.specs.FinMap as map
@@ -17,6 +17,10 @@ use Rattle.cb_world.specs.declared.shown.Shown.{Shown}
 use Rattle.cb_world.specs.Shown.{object_at, version_at, never}
 use Rattle.cb_world.specs.FarState.{FarState, span_in}
 use Rattle.cb_world.specs.LocalSound.{LocalSound, AreKnown, AreFrames, ArePlaced, HasSlot, NamesObject, LiesAt, IsStamped}
+use Rattle.cb_world.specs.Memory.{window}
+use Rattle.cb_world.specs.Leaving.{LeavingState}
+use Rattle.cb_world.specs.Placed.{leaving_frames}
+use Rattle.cb_world.specs.Sound.{IsLeaving}
 use Rattle.cb_world.proofs.Apart.{some_same}
 
 -- slots of 1,024 bytes, four a span
@@ -27,7 +31,7 @@ abbrev slots_with : Option ℕ → Option ℕ → List (Option ℕ)
 slots_with first second = first ∷ second ∷ None ∷ None ∷ []
 
 -- object 0 lies in slot 1
-abbrev span : Contents
+abbrev pub span : Contents
 span = span_of largest Cold (slots_with None (Some 0))
 
 -- object 0 is in local memory, object 1 was freed at version 2, and object 2 was never made
@@ -72,7 +76,7 @@ unfolding words_of bytes_of
 second_slot = refl
 
 are_known : AreKnown known far
-are_known = record { first = refl; made = made; stamped = stamped }
+are_known = record { first = refl; bounded = lit≤ tt; made = made; stamped = stamped }
   where
     made : (h : ℕ) → h < 3 → 2 ≤ h ↔ (object_at known h ≡ never)
     made zero below = (λ most. absurd (omega (arith, most)), λ e. absurd (cc))
@@ -149,6 +153,10 @@ sound_here = record { known = are_known; frames = are_frames; placed = are_place
 -- the version of the next make is another one
 another_first : ¬ (AreKnown (record known { first = 2 }) far)
 another_first x = absurd (let z : 2 ≡ 1 = x.first in omega (arith, z))
+
+-- more handles were made than there are
+more_than_there_are : ¬ (AreKnown known (record far { made = 4 }))
+more_than_there_are x = absurd (let z : 4 ≤ 3 = x.bounded in omega (arith, z))
 
 -- a handle that counts as made is never, and one that does not was freed
 made_but_never : ¬ (AreKnown known (record far { made = 3 }))
@@ -229,3 +237,46 @@ named_beside x =
 another_class : ¬ (IsClassOf 1024 (record { index = 10 }))
 unfolding bytes_of
 another_class x = absurd (omega (arith, x.holds))
+
+-- the span leaves, and object 0 with it, in its words
+abbrev leaver : ℕ → LeavingState
+leaver frame =
+    record { set = 0; frames = frame ∷ []; words = []; parities = []; shards = [] }
+
+abbrev leaving_in : ℕ → FarState
+leaving_in frame = record far { leaving = Some (leaver frame) }
+
+leaves_with_its_span : IsLeaving known (leaving_in 0) 0 1024 128 (replicate 128 0)
+unfolding window
+leaves_with_its_span = record {
+  batch = leaver 0;
+  there = refl;
+  slot = record {
+    frame = 0;
+    slot = 1;
+    span = span;
+    there = refl;
+    named = refl;
+    at = second_slot;
+    fits = class_of_1024;
+  };
+  leaves = (0, lit< tt, refl);
+  contents = refl;
+}
+
+no_batch_leaves : ¬ (IsLeaving known far 0 1024 128 (replicate 128 0))
+no_batch_leaves x = absurd (let e : None ≡ Some x.batch = x.there in cc)
+
+another_frame_leaves : ¬ (IsLeaving known (leaving_in 1) 0 1024 128 (replicate 128 0))
+another_frame_leaves x =
+    let c : Contains (1 ∷ []) x.slot.frame =
+    subst (λ (l : List ℕ). Contains l x.slot.frame) (sym (ap leaving_frames x.there)) x.leaves in
+    let first : c.0 ≡ 0 = omega (arith, c.1) in
+    let frame : 1 ≡ x.slot.frame =
+    ap (λ (i : ℕ). get_or (1 ∷ []) i x.slot.frame) (sym first) ∙ c.2 in
+    absurd (let e : None ≡ Some x.slot.span = ap (span_in far.spans) frame ∙ x.slot.there in cc)
+
+claimed_with_other_words : ¬ (IsLeaving known (leaving_in 0) 0 1024 128 (1 ∷ replicate 127 0))
+unfolding window
+claimed_with_other_words x = absurd (let e : 1 ≡ 0 =
+    ap (λ (l : List ℕ). get_or l 0 0) x.contents in omega (arith, e))

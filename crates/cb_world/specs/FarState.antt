@@ -1,6 +1,6 @@
 -- The far state as contracts see it.
 use Rattle.std.specs.Prelude.{ℕ, Bool, List, Option, None, Some, slice_index_or}
-use Rattle.cb_span.specs.Contents.{Contents, handle_at}
+use Rattle.cb_span.specs.Contents.{Contents, handle_at, least_empty}
 use Rattle.cb_class.specs.declared.class.Class.{Class}
 use Rattle.cb_node.specs.NodesState.{NodesState}
 use Rattle.cb_member.specs.Membership.{Membership}
@@ -46,3 +46,12 @@ class_of (Some span) = Some span.class
 -- the class of the span in a frame
 abbrev pub class_in : List (Option Contents) → ℕ → Option Class
 class_in spans f = class_of (span_in spans f)
+
+-- the least empty slot, where there is a span that has one
+abbrev pub empty_slot : Option Contents → Option ℕ
+empty_slot None = None
+empty_slot (Some span) = least_empty span
+
+-- the least empty slot of the span in a frame
+abbrev pub empty_slot_in : List (Option Contents) → ℕ → Option ℕ
+empty_slot_in spans f = empty_slot (span_in spans f)

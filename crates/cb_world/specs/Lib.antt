@@ -4,6 +4,7 @@ pub mod Shown
 pub mod Settling
 pub mod Played
 pub mod Looks
+pub mod Touches
 pub mod Allowed
 pub mod Plain
 pub mod StillDesk
@@ -15,6 +16,7 @@ pub mod Leaving
 pub mod Joining
 pub mod Counts
 pub mod FarState
+pub mod NodeChanges
 pub mod RowWords
 pub mod SetWord
 pub mod Stored
@@ -26,13 +28,20 @@ pub mod LocalSound
 pub mod FarSound
 pub mod Now
 pub mod SetAdded
-pub mod SwappedIn
+pub mod GivenUp
+pub mod LeftOver
 pub mod JoinSteps
 pub mod Sound
 pub mod Empty
+pub mod Pinned
+pub mod Seats
 pub mod Performs
 pub mod Claimed
 pub mod Still
 pub mod Finishes
 pub mod Reads
 pub mod Released
+pub mod World
+pub mod StillWords
+pub mod Placed
+pub mod Choices

@@ -42,6 +42,7 @@ pub record NamesObject (s : Shown) (f slot h : ℕ) (span : Contents) : Type 0 w
 -- the objects and the words that others may not change
 pub record AreKnown (s : Shown) (far : FarState) : Type 0 where
   pub first : s.first ≡ far.first
+  pub bounded : far.made ≤ length s.objects
   pub made : (h : ℕ) → h < length s.objects → far.made ≤ h ↔ (object_at s h ≡ never)
   pub stamped : (h : ℕ) → IsStamped (object_at s h) (version_at s h)
 

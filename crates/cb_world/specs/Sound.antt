@@ -9,7 +9,8 @@ use Rattle.cb_world.specs.Shown.{object_at}
 use Rattle.cb_world.specs.Grasped.{IsFree}
 use Rattle.cb_world.specs.Leaving.{LeavingState}
 use Rattle.cb_world.specs.FarState.{FarState, span_in}
-use Rattle.cb_world.specs.LocalSound.{LocalSound}
+use Rattle.cb_world.specs.Memory.{window, words_for}
+use Rattle.cb_world.specs.LocalSound.{HasSlot, LocalSound}
 use Rattle.cb_world.specs.FarSound.{FarSound}
 
 -- the object is claimed at the word that it had before the begin, which is noted
@@ -24,13 +25,26 @@ pub record IsNoted (s : Shown) (batch : LeavingState) (h : ℕ) : Type 0 where
   pub claimed : object_at s h
       ≡ is.Claimed (len_of former.word) (place_of former.word) version words
 
--- each object of a frame that is leaving is claimed
+-- each frame that is leaving holds a span, and each object there is claimed
 pub record AreNoted (s : Shown) (far : FarState) (batch : LeavingState) : Type 0 where
+  pub held : (f : ℕ) → Contains batch.frames f → (span : Contents)
+      × (span_in far.spans f ≡ Some span)
   pub each : (f slot h : ℕ) (span : Contents) → Contains batch.frames f
       → span_in far.spans f ≡ Some span → handle_at span slot ≡ Some h → IsNoted s batch h
 
--- The part of local memory, the batch that is leaving, and the far part.
+-- a claimed object stands in a frame that is leaving, and its words are those of the memory there
+pub record IsLeaving (s : Shown) (far : FarState) (h len place : ℕ) (words : List ℕ) : Type 0 where
+  pub batch : LeavingState
+  pub there : far.leaving ≡ Some batch
+  pub slot : HasSlot far.spans h len place
+  pub leaves : Contains batch.frames slot.frame
+  pub contents : words ≡ window s.memory place (words_for len)
+
+-- The part of local memory, the batch that is leaving, whose objects alone are claimed, and the
+-- far part.
 pub record Sound (s : Shown) (far : FarState) : Type 0 where
   pub here : LocalSound s far
   pub noted : (batch : LeavingState) → far.leaving ≡ Some batch → AreNoted s far batch
+  pub claimed : (h len place v : ℕ) (words : List ℕ)
+      → object_at s h ≡ is.Claimed len place v words → IsLeaving s far h len place words
   pub away : FarSound s far

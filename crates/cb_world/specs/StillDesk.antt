@@ -159,7 +159,7 @@ shows_claim x s h w v xs r b wide = let moved : Claims w (w + 1) =
     wider : (w : ℕ) → w < 2 ^ 53 → state_of w ≡ word.Here → w + 1 < 2 ^ 53
     wider w wide here = let b = bits_here w here in omega (arith, b, wide)
 
-below_here : (o : Object) (w : ℕ) → Fits o w → state_of w ≡ word.Here → w < 2 ^ 53
+pub below_here : (o : Object) (w : ℕ) → Fits o w → state_of w ≡ word.Here → w < 2 ^ 53
 below_here (is.Empty v) w fit here = absurd (let b = bits_here w here in omega (arith, b, fit))
 below_here (is.Far len v words) w fit here =
     absurd (let b = bits_here w here in let f = fit.0 in omega (arith, b, f))

@@ -1,5 +1,5 @@
 -- Many rows put at nodes, and dropped from them.
-use Rattle.std.specs.Prelude.{◌≡◌, ℕ, List, [], ◌∷◌, Some, slice_get}
+use Rattle.std.specs.Prelude.{◌≡◌, ℕ, ◌<◌, length, List, [], ◌∷◌, Some, slice_get}
 use Rattle.cb_member.specs.declared.names.Shard.{Shard}
 use Rattle.cb_node.specs.NodesState.{NodesState, with_row, with_dropped}
 
@@ -18,3 +18,8 @@ all_dropped nodes (shard ∷ shards) = all_dropped (with_dropped nodes shard.nod
 -- no shard has this key
 abbrev pub NoKey : List Shard → ℕ → Type 0
 NoKey shards key = (p : ℕ) (shard : Shard) → slice_get shards p ≡ Some shard → shard.key ≡ key → ⊥
+
+-- the nodes of the shards are there
+abbrev pub AreThere : NodesState → List Shard → Type 0
+AreThere nodes shards = (p : ℕ) (shard : Shard) → slice_get shards p ≡ Some shard
+    → shard.node.n < length nodes.nodes

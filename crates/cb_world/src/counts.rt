@@ -1,4 +1,6 @@
-ghost use Rattle.std.specs.Prelude.{◌≡◌, replicate};
+ghost use Rattle.std.specs.Prelude.{◌≡◌, ◌<◌, ◌^◌, replicate};
+ghost use Rattle.std.specs.List.{sum_by};
+ghost use Rattle.cb_world.specs.Counts.{with_turn};
 
 use std::marker::Model;
 
@@ -43,5 +45,16 @@ impl Counts {
             sets: 0,
             keys: 0,
         }
+    }
+
+    /// Counts one turn more, of this kind of job. Each turn counted so far was one of some job.
+    pub fn count(&mut self, kind: usize)
+        requires kind { kind < 19 }
+        requires few { self.old.turns < 2 ^ 40 }
+        requires jobs { sum_by (λ n. n) self.old.by_job ≡ self.old.turns }
+        ensures counted { self.new ≡ with_turn self.old kind }
+    {
+        self.turns += 1;
+        self.by_job[kind] += 1;
     }
 }

@@ -18,6 +18,8 @@ use std::marker::Model;
 /// The far state: all that stands beside the words of local memory. It is the far lock's to change.
 #[derive(Drop)]
 pub struct Far {
+    /// From where its parts, and the calls on them, take memory.
+    pub alloc: Global,
     /// The version that a make gives.
     pub first: u64,
     /// How many handles were made.
@@ -67,6 +69,7 @@ impl Far {
         ensures empty { IfOk result (λ far. far ≡ empty_far config) }
     {
         Ok(Far {
+            alloc,
             first: 1,
             made: 0,
             frames: Frames::new(alloc, config.frames)?,

@@ -1,8 +1,11 @@
 ghost use Rattle.std.specs.Prelude.{◌≡◌, ℕ, ◌+◌, ◌*◌, ◌<◌, ◌≤◌, length, slice_index, replicate, IfOk};
 ghost use Rattle.cb_types.specs.Config.{IsAccepted};
+ghost use Rattle.cb_ptr.specs.declared.word.State.TheVariants as state;
+ghost use Rattle.cb_ptr.specs.Word.{pins_of, state_of};
+ghost use Rattle.cb_world.specs.Pinned.{IsPinned, IsUnpinned};
 
 use crate::desk::{Claim, Desk};
-use cb_ptr::claimed;
+use cb_ptr::{claimed, pinned, unpinned};
 use cb_types::{Config, Handle, NoMemory};
 use std::alloc::Global;
 use std::marker::Model;
@@ -60,11 +63,40 @@ impl PlainDesk {
     }
 
     /// The pointer word of an object.
-    fn word_of(&self, h: Handle) -> u64
+    pub fn look(&self, h: Handle) -> u64
         requires { h.n < self.now.settings.handles }
         ensures { slice_index self.now.words h.n ≡ result }
     {
         self.words[h.n as usize]
+    }
+
+    /// The version word of an object.
+    pub fn tell(&self, h: Handle) -> u64
+        requires { h.n < self.now.settings.handles }
+        ensures { slice_index self.now.versions h.n ≡ result }
+    {
+        self.versions[h.n as usize]
+    }
+
+    /// Puts one pin more on an object that is here and has fewer than 1,023.
+    pub fn pin(&mut self, h: Handle)
+        requires handle { h.n < self.old.settings.handles }
+        requires here { state_of (slice_index self.old.words h.n) ≡ state.Here }
+        requires room { pins_of (slice_index self.old.words h.n) < 1023 }
+        ensures { IsPinned self.old h.n self.new }
+    {
+        let word = self.look(h);
+        self.words[h.n as usize] = pinned(word);
+    }
+
+    /// Takes one pin off an object.
+    pub fn unpin(&mut self, h: Handle)
+        requires handle { h.n < self.old.settings.handles }
+        requires pinned { 1 ≤ pins_of (slice_index self.old.words h.n) }
+        ensures { IsUnpinned self.old h.n self.new }
+    {
+        let word = self.look(h);
+        self.words[h.n as usize] = unpinned(word);
     }
 }
 
@@ -96,7 +128,7 @@ impl Desk for PlainDesk {
     }
 
     fn claim(&mut self, h: Handle, saw: u64) -> Claim {
-        let found = self.word_of(h);
+        let found = self.look(h);
         if found == saw {
             self.words[h.n as usize] = claimed(saw);
             Claim::Claimed

@@ -1,7 +1,8 @@
-ghost use Rattle.std.specs.Prelude.{◌≡◌, true, false, Some, OnOk, OnErr};
+ghost use Rattle.std.specs.Prelude.{◌≡◌, ◌<◌, true, false, IfSome, Some, OnOk, OnErr, length};
 ghost use Rattle.std.specs.Option.{option_map};
 ghost use Rattle.std.specs.FinMap as map;
-ghost use Rattle.cb_world.specs.Sets.{Kept};
+ghost use Rattle.cb_set.specs.SetState.{dead_position, position_of, with_position, without_object};
+ghost use Rattle.cb_world.specs.Sets.{Kept, set_in};
 
 use cb_member::NoMemory;
 use cb_set::SpanSet;
@@ -22,6 +23,30 @@ impl Model for KeptSet {
     ghost Value = { Kept };
 
     ghost view = { λ a. record { set = a.set; committed = a.committed } };
+}
+
+impl KeptSet {
+    /// Makes a data position of the set dead. Takes no memory.
+    fn kill(&mut self, position: u32)
+        requires { position < length self.old.set.positions }
+        ensures { self.new ≡ record self.old {
+          set = with_position self.old.set position dead_position;
+        } }
+    {
+        self.set.kill(position);
+    }
+
+    /// Takes the object out of a slot of the set. A position that names no handle then is dead. Takes
+    /// no memory.
+    fn take_out(&mut self, position: u32, slot: u32)
+        requires { position < length self.old.set.positions }
+        ensures { self.new ≡ record self.old {
+          set = with_position self.old.set position
+              (without_object (position_of self.old.set position) slot);
+        } }
+    {
+        self.set.take_out(position, slot);
+    }
 }
 
 /// The span-sets by their numbers. Each call costs the logarithm of their count.
@@ -58,6 +83,16 @@ impl Sets {
         self.sets.get(&id)
     }
 
+    /// The committed set of that number.
+    pub fn committed(&self, id: u64) -> Option<&SpanSet>
+        ensures { option_map (λ set. set.now) result ≡ set_in self.now id }
+    {
+        match self.get(id) {
+            Some(kept) if kept.committed => Some(&kept.set),
+            _ => None,
+        }
+    }
+
     /// Keeps the set under its number.
     pub fn put(&mut self, id: u64, kept: KeptSet) -> Result<(), NoMemory>
         ensures ok { OnOk result (self.new ≡ map.insert self.old id kept) }
@@ -65,6 +100,36 @@ impl Sets {
     {
         self.sets.insert(id, kept)?;
         Ok(())
+    }
+
+    /// Makes a data position of the set of that number dead, in place. Takes no memory.
+    pub fn kill(&mut self, id: u64, position: u32)
+        requires { IfSome (map.get self.old id)
+            (λ kept. position < length kept.set.positions) }
+        ensures { (kept : Kept) → map.get self.old id ≡ Some kept → self.new
+            ≡ map.insert self.old id (record kept {
+              set = with_position kept.set position dead_position;
+            }) }
+    {
+        if let Some(kept) = self.sets.get_mut(&id) {
+            kept.kill(position);
+        }
+    }
+
+    /// Takes the object out of a slot of the set of that number, in place. A position that names no
+    /// handle then is dead. Takes no memory.
+    pub fn take_out(&mut self, id: u64, position: u32, slot: u32)
+        requires { IfSome (map.get self.old id)
+            (λ kept. position < length kept.set.positions) }
+        ensures { (kept : Kept) → map.get self.old id ≡ Some kept → self.new
+            ≡ map.insert self.old id (record kept {
+              set = with_position kept.set position
+                  (without_object (position_of kept.set position) slot);
+            }) }
+    {
+        if let Some(kept) = self.sets.get_mut(&id) {
+            kept.take_out(position, slot);
+        }
     }
 
     /// Takes the set of that number out.

@@ -25,3 +25,34 @@ returns-in-Some-clause-complete c = λ script spelled built.
           absurd (none_unbuilt c.in_ok-script.script.lines c.in-Some.line (subst (λ (s : Script). AllByRecursion (λ l. IsBuilt l.request) s.lines) same built) c.in-Some.ensures)
       | inr memory ↦ absurd (let both = sym memory ∙ c.in_ok-script.was in cc)
     ]
+
+pub returns-in_err-text-clause-refused : goal.returns-in_err-text-clause-refused
+returns-in_err-text-clause-refused c =
+    let p = err_from_is_err_and c.from_residual-in_err-text.result
+    c.from_residual-in_err-text.ensures.1 in
+    rw (p.1, p.2) tt
+
+pub returns-in_err-text-clause-complete : goal.returns-in_err-text-clause-complete
+returns-in_err-text-clause-complete c = λ script spelled built.
+    let p = err_from_is_err_and c.from_residual-in_err-text.result
+    c.from_residual-in_err-text.ensures.1 in
+    rw (p.1, p.2) refl
+
+pub returns-clause-answered : goal.returns-clause-answered
+returns-clause-answered c = (
+  c.in_ok-script.script,
+  record {
+    spelled = c.in_ok-script.ensures.found;
+    config = refl;
+    lines = c.in_ok-end.ensures.lines;
+    legal = c.in_ok-end.ensures.legal;
+    replies = c.in_ok-end.ensures.answered;
+    world = c.in_ok-end.end.world;
+    left = refl;
+    leads = c.in_ok-end.ensures.leads;
+    sound = c.in_ok-end.ensures.sound;
+    holds = c.in_ok-end.ensures.holds;
+    losses = c.in_ok-end.ensures.losses;
+  },
+  c.in_ok-text.ensures,
+)

@@ -11,7 +11,7 @@ returns-in-Err-Bad-clause-script_refused g c = λ is.
     let refusal = rw (c.in-Err-Bad.field-0-is, c.as_slice.ensures.value) at c.in-Err-Bad.ensures.refused in
     let refused : IsScriptRefused c.args.words.now (left c.args.source.now) (left c.take_all.new.source) c.in-Err-Bad.line c.in-Err-Bad.reason = record {
       command = c.in-Some.command;
-      words_are = c.in-Some.ensures;
+      words_are = rw c.in-Some.is at c.in_ok-command.ensures;
       refused =
           (c.in_ok-bytes.bytes.items, record { front = c.in_ok-bytes.ensures.bytes; whole = c.in_ok-bytes.ensures.end }, refusal);
     } in
@@ -24,7 +24,7 @@ returns-in_err-put_all-in-Err-Bad-clause-cut g c = λ is.
     let refusal = rw (c.in-Err-Bad.field-0-is, c.as_slice.ensures.value) at c.in-Err-Bad.ensures.refused in
     let refused : IsScriptRefused c.args.words.now (left c.args.source.now) (left c.take_all.new.source) c.in-Err-Bad.line c.in-Err-Bad.reason = record {
       command = c.in-Some.command;
-      words_are = c.in-Some.ensures;
+      words_are = rw c.in-Some.is at c.in_ok-command.ensures;
       refused =
           (c.in_ok-bytes.bytes.items, record { front = c.in_ok-bytes.ensures.bytes; whole = c.in_ok-bytes.ensures.end }, refusal);
     } in
@@ -34,6 +34,6 @@ pub returns-in-Err-Bad-clause-complete : goal.returns-in-Err-Bad-clause-complete
 returns-in-Err-Bad-clause-complete g c = λ command named bytes script told spelled accepted.
     let left = g.S.Source.left in
     let taken = all_taken (left c.args.source.now) (left c.take_all.new.source) bytes c.in_ok-bytes.bytes.items script told c.in_ok-bytes.ensures.bytes c.in_ok-bytes.ensures.end spelled in
-    let same = one_command c.args.words.now command c.in-Some.command named c.in-Some.ensures in
+    let same = one_command c.args.words.now command c.in-Some.command named (rw c.in-Some.is at c.in_ok-command.ensures) in
     let memory = c.in-Err-Bad.ensures.complete script (rw c.as_slice.ensures.value taken) (rw same at accepted) in
     absurd (let both = sym memory ∙ c.in-Err-Bad.field-0-is in cc)

@@ -1,10 +1,26 @@
-use Rattle.cb_lanes.proofs.Steps.{made_step}
+use Rattle.std.proofs.Common.{ℕ, List, subst}
+use Rattle.cb_types.specs.declared.job.Job.TheVariants as job
+use Rattle.cb_core.specs.Step.{TurnStep}
+use Rattle.cb_lanes.proofs.NamesKept.{made_names, refused_names}
 use Rattle.cb_lanes.proofs.answering.make_named.Goals as goal
 
-pub returns-in_ok-insert-in-Made : goal.returns-in_ok-insert-in-Made
-returns-in_ok-insert-in-Made c =
-    let replied = rw c.in-Made.is at c.in_ok-handle.ensures.reply in
+pub returns-in_ok-insert-in-Made-clause-step : goal.returns-in_ok-insert-in-Made-clause-step
+returns-in_ok-insert-in-Made-clause-step c =
+    rw c.in-Made.is at (subst (λ (b : List ℕ). TurnStep (job.Make b) c.args.world.now c.in_ok-reply.reply
+    c.turn_of.new.world) c.in_ok-copy.ensures.items c.in_ok-reply.ensures.step)
+
+pub returns-in_ok-insert-in-Made-clause-names : goal.returns-in_ok-insert-in-Made-clause-names
+returns-in_ok-insert-in-Made-clause-names c =
+    made_names c.args.names.now c.insert.new.self c.args.name.now c.args.bytes.now c.as_slice.result.now
+    c.in-Made.handle c.in-Made.version c.as_slice.ensures.items c.in_ok-insert-in-Made.ensures.updates
+
+pub returns-in_default : goal.returns-in_default
+returns-in_default c =
+    let step = subst (λ (b : List ℕ). TurnStep (job.Make b) c.args.world.now c.in_ok-reply.reply
+    c.turn_of.new.world) c.in_ok-copy.ensures.items c.in_ok-reply.ensures.step in
     record {
-      step =
-          made_step c.args.state.now c.make.new.self c.args.names.now c.insert.new.self c.args.name.now c.args.bytes.now c.as_slice.result.now c.as_slice-in-Made.result.now c.in-Made.handle c.in-Made.version c.as_slice.ensures.items c.as_slice-in-Made.ensures.items replied c.in_ok-insert-in-Made.ensures.updates;
+      step = step;
+      names = refused_names c.args.world.now c.turn_of.new.world c.args.names.now c.args.name.now
+          c.args.bytes.now c.in_ok-reply.reply step c.in_default.not-Made;
+      sound = c.in_ok-reply.ensures.sound;
     }

@@ -20,6 +20,8 @@ returns-then-version-clause-ends g c =
       ran = g.met.D.Desk.more _ _ _ _ _ c.version-version.ensures c.settle.ensures;
       no_look = ((λ w e. e), ((λ w e. e), tt));
       looks_first = (tt, tt);
+      touches = (refl, (refl, tt));
+      settles_last = (tt, tt, tt, tt);
       quiet = λ s. refl;
       allowed = λ s v words k. (tt, (may_put_back s h w v words k.1, tt));
       ends_so = λ s v words k.
@@ -62,6 +64,8 @@ returns-clause-ends g c =
           (g.met.D.Desk.more _ _ _ _ _ c.store_version.ensures c.settle-2.ensures);
       no_look = ((λ w e. e), ((λ w e. e), ((λ w e. e), tt)));
       looks_first = (tt, (tt, tt));
+      touches = (refl, (refl, (refl, tt)));
+      settles_last = (tt, tt, (tt, tt, tt, tt));
       quiet = λ s. refl;
       allowed = λ s v words k.
           let told = g.met.D.Desk.follows _ _ (Told h x ∷ []) s c.version-version.ensures k.0 in

@@ -1,16 +1,19 @@
-use Rattle.std.proofs.Common.{ℕ, ◌<◌, List, [], ◌++◌, sym, refl, subst}
+use Rattle.std.proofs.Common.{ℕ, ◌+◌, ◌<◌, List, [], ◌∷◌, ◌++◌, sym, refl, ap, ◌∙◌, subst, inl, inr}
 use Rattle.cb_ptr.specs.declared.word.State.{State}
 use Rattle.cb_ptr.specs.Word.{state_of, len_of, place_of}
 use Rattle.cb_world.specs.declared.event.Event.{Event}
+use Rattle.cb_world.specs.declared.event.Event.TheVariants.{Told}
 use Rattle.cb_world.specs.declared.shown.Shown.{Shown}
 use Rattle.cb_world.specs.Played.{played}
 use Rattle.cb_world.specs.Sound.{Sound}
 use Rattle.cb_world.proofs.AfterClaim.{claim_after, after_claim, claim_found, claim_taken, claim_first, claim_all_allowed}
 use Rattle.cb_world.proofs.AfterLook.{look_after, look_found, look_first, look_allowed, look_sound, look_still}
-use Rattle.cb_mutate.specs.Answered.{AnsweredAs}
-use Rattle.cb_mutate.specs.FreeRule.{FreeHere}
+use Rattle.cb_world.proofs.Touching.{claim_touches, claim_settles_last, look_touches, look_settles_last}
+use Rattle.cb_world.proofs.Tracing.{looks_played}
+use Rattle.cb_mutate.specs.FreeRule.{FreeAs}
 use Rattle.cb_mutate.specs.FreeEnds.{FreeEnds}
 use Rattle.cb_mutate.proofs.Freed.{slot_here, slot_at, free_done, free_before, free_refused}
+use Rattle.cb_mutate.proofs.FarFreed.{far_at, far_events, far_freed, far_freed_done, far_worn, far_worn_done, found_far, its_home, no_more, one_look_more}
 use Rattle.cb_mutate.proofs.freeing.freed.Goals as goal
 
 pub free_claimed-requires-clause-claimed : goal.free_claimed-requires-clause-claimed
@@ -97,12 +100,15 @@ returns-in-Claimed g c =
         ran = g.met.D.Desk.more _ _ _ _ _ ran rest.ran;
         looks_first = claim_first before done h w v words tried.4 rest.no_look rest.looks_first;
         rule = record {
-          reply = (
-            w,
-            found,
-            subst (λ (q : State). AnsweredAs q (FreeHere h (first ++ done) r) w h
-                (first ++ done) r) (sym tried.5.0) (ended had.0 had.1 had.2).rule,
-          );
+          reply = record {
+            word = w;
+            found = found;
+            touches = claim_touches h w v (place_of w) (len_of w) words before done tried.4
+                rest.touches;
+            settles_last = claim_settles_last h w v words before done tried.4 rest.settles_last;
+            answer = subst (λ (q : State). FreeAs q w h (first ++ done) r) (sym tried.5.0)
+                (ended had.0 had.1 had.2).rule;
+          };
           state = (ended had.0 had.1 had.2).state;
         };
         allowed = λ s k. claim_all_allowed before done h w v words s tried.4
@@ -113,16 +119,114 @@ returns-in-Claimed g c =
       };
     }
 
-pub returns-in-Left : goal.returns-in-Left
-returns-in-Left g c =
+pub free_far-requires-clause-away : goal.free_far-requires-clause-away
+free_far-requires-clause-away g c =
+    let h = c.args.h.n in let w = c.in-Left.word in let got = c.in-Left.ensures in
+    let tried = got.2 in let first = look_after tried.0 h w in
+    let had = c.requires.sound in let s = had.0 in
+    let ran = subst (λ (l : List Event). g.D.Desk.run c.args.desk.now l c.try_claim.new.desk)
+    tried.1 got.1 in
+    let follows = g.met.D.Desk.follows _ _ first s ran had.1 in
+    let p = looks_played h first s (one_look_more h w tried.0 tried.2) in
+    let away = found_far s tried.0 h w tried.2 follows.0 (c.is_far.ensures.far c.if-is_far.true) in (
+      record s { hots = p.0 },
+      subst (λ (t : Shown). g.D.Desk.shows c.try_claim.new.desk t) p.2 follows.1,
+      subst (λ (t : Shown). Sound t c.args.far.now)
+          (ap (λ (l : List Event). played l s) (no_more first) ∙ p.2)
+          (look_sound c.args.far.now s tried.0 [] h w had.2 tried.2 tt),
+      (away.0, away.1, away.2, away.3),
+    )
+
+pub returns-then-is_far : goal.returns-then-is_far
+returns-then-is_far g c =
+    let h = c.args.h.n in let w = c.in-Left.word in let got = c.in-Left.ensures in
+    let tried = got.2 in let before = tried.0 in let far = c.args.far.now in
+    let first = look_after before h w in
+    let new = c.free_far.new.far in let r = c.free_far.result in
+    let is_far = c.is_far.ensures.far c.if-is_far.true in
+    let ran = subst (λ (l : List Event). g.D.Desk.run c.args.desk.now l c.try_claim.new.desk)
+    tried.1 got.1 in
+    let had = c.requires.sound in
+    let frees = c.free_far.ensures.frees in let x = frees.0 in
+    elim frees.1 [
+      | inl z ↦
+          let same = c.free_far.ensures.stays z.1 in
+          let rule = far_worn far new before h w x r tried.2 is_far z.0 z.1 same in
+          let done = λ (s : Shown) (sound : Sound s far).
+          far_worn_done far new s before h w x r sound tried.2 z.1 same in
+          record {
+            free = record {
+              events = first ++ Told h x ∷ [];
+              ran = g.met.D.Desk.more _ _ _ _ _ ran z.2;
+              looks_first = rule.looks_first;
+              rule = record {
+                reply = record {
+                  word = w;
+                  found = rule.found;
+                  touches = rule.touches;
+                  settles_last = rule.settles_last;
+                  answer = rule.answer;
+                };
+                state = rule.state;
+              };
+              allowed = λ s k. (done s k.1).allowed;
+              sound_after = λ s k. (done s k.1).sound;
+              effect = λ s k. (done s k.1).effect;
+            };
+          }
+      | inr z ↦
+          let away = λ (s : Shown) (a : g.D.Desk.shows c.args.desk.now s) (sound : Sound s far).
+          let follows = g.met.D.Desk.follows _ _ first s ran a in
+          let told = g.met.D.Desk.follows _ _ (far_events h x) (played first s) z.2 follows.1 in
+          far_at s far before h w x sound tried.2 follows.0 is_far told.0.0 in
+          let left = λ (s : Shown) (a : g.D.Desk.shows c.args.desk.now s) (sound : Sound s far).
+          let y = away s a sound in
+          let k = its_home s far h y.0 x y.1 sound y.2 in
+          c.free_far.ensures.removed (x + 1) k.home k.set z.1 k.lies in
+          let mine = away had.0 had.1 had.2 in
+          let k = its_home had.0 far h mine.0 x mine.1 had.2 mine.2 in
+          let rule = far_freed far new before h w x r had.0 tried.2 is_far z.0 z.1 k
+          (left had.0 had.1 had.2) in
+          let done = λ (s : Shown) (a : g.D.Desk.shows c.args.desk.now s) (sound : Sound s far).
+          let sized = g.met.D.Desk.sized _ s a in
+          let y = away s a sound in
+          far_freed_done far new s before h w y.0 x y.1 r sound tried.2 y.2
+          (subst (λ (n : ℕ). h < n) (sym sized.0) c.requires.handle)
+          (subst (λ (n : ℕ). h < n) (sym sized.2) c.requires.handle)
+          z.1 (its_home s far h y.0 x y.1 sound y.2) (left s a sound) in
+          record {
+            free = record {
+              events = first ++ far_events h x;
+              ran = g.met.D.Desk.more _ _ _ _ _ ran z.2;
+              looks_first = rule.looks_first;
+              rule = record {
+                reply = record {
+                  word = w;
+                  found = rule.found;
+                  touches = rule.touches;
+                  settles_last = rule.settles_last;
+                  answer = rule.answer;
+                };
+                state = rule.state;
+              };
+              allowed = λ s k. (done s k.0 k.1).allowed;
+              sound_after = λ s k. (done s k.0 k.1).sound;
+              effect = λ s k. (done s k.0 k.1).effect;
+            };
+          }
+    ]
+
+pub returns-else-is_far : goal.returns-else-is_far
+returns-else-is_far g c =
     let h = c.args.h.n in let w = c.in-Left.word in let got = c.in-Left.ensures in
     let tried = got.2 in let before = tried.0 in
     let first = look_after before h w in
     let ran = subst (λ (l : List Event). g.D.Desk.run c.args.desk.now l c.try_claim.new.desk)
     tried.1 got.1 in
     let rest = c.refuse_free.ensures in let r = c.refuse_free.result in
+    let near = c.is_far.ensures.other c.if-is_far.false in
     let refused = λ (s : Shown). free_refused (state_of w) h w c.args.far.now rest.0
-    (first ++ rest.0) s (played (first ++ rest.0) s) r rest.2 rest.3
+    (first ++ rest.0) s (played (first ++ rest.0) s) r near rest.2 rest.4
     (look_still s before rest.0 h w tried.2 rest.2) in
     record {
       free = record {
@@ -130,11 +234,13 @@ returns-in-Left g c =
         ran = g.met.D.Desk.more _ _ _ _ _ ran rest.1;
         looks_first = look_first before rest.0 h w tried.2 rest.2;
         rule = record {
-          reply = (
-            w,
-            look_found before rest.0 h w rest.2,
-            free_before (state_of w) h w first rest.0 r rest.3,
-          );
+          reply = record {
+            word = w;
+            found = look_found before rest.0 h w rest.2;
+            touches = look_touches h w (place_of w) (len_of w) before rest.0 tried.2 rest.3;
+            settles_last = look_settles_last h w before rest.0 tried.2 rest.2;
+            answer = free_before (state_of w) h w first rest.0 r near rest.4;
+          };
           state = (refused c.requires.sound.0).state;
         };
         allowed = λ s k. look_allowed before rest.0 h w s tried.2 rest.2;

@@ -1,11 +1,12 @@
 use Rattle.std.proofs.Common.{◌+◌, ◌*◌, ◌<◌, sym, subst, arith}
 use Rattle.cb_types.specs.declared.config.Config.{Config}
+use Rattle.cb_world.specs.Shown.{Covers}
 use Rattle.cb_types.specs.declared.config.Field.TheVariants.{Frames}
 use Rattle.cb_mutate.proofs.Loaded.{loads_none, loads_one, loads_all, loaded_agrees}
 use Rattle.cb_mutate.proofs.loading.load_bytes.Goals as goal
 
 pub loop-i-init : goal.loop-i-init
-loop-i-init g c = loads_none _ _ c.args.place _ (g.met.D.Desk.none _) c.told-into
+loop-i-init g c = loads_none _ _ c.args.place c.args.len _ (g.met.D.Desk.none _) c.told-into
 
 pub overflow_add-place : goal.overflow_add-place
 overflow_add-place g c = omega (
@@ -26,7 +27,9 @@ pub loop-i-preserved : goal.loop-i-preserved
 loop-i-preserved g c = let l = c.loop-i.invariant in
     let p = c.args.place + c.loop-i.i in let x = c.load.result in
     let ran = g.met.D.Desk.more _ _ _ _ _ l.ran c.load.ensures in
-    loads_one _ _ _ c.args.place c.loop-i.i x _ _ l ran
+    let here : Covers c.args.place c.args.len p =
+    (omega arith, omega (arith, c.loop-i-test.true, c.div_ceil-i-end.ensures)) in
+    loads_one _ _ _ c.args.place c.args.len c.loop-i.i x _ _ l here ran
     (record {
       inside = c.put_word.ensures.inside;
       outside = c.put_word.ensures.outside;
@@ -34,7 +37,7 @@ loop-i-preserved g c = let l = c.loop-i.invariant in
     })
     (λ s o. loaded_agrees l.events s p x l.loads
     (g.met.D.Desk.follows _ _ _ s ran o.0).0
-    (o.1 p (omega arith, omega (arith, c.loop-i-test.true, c.div_ceil-i-end.ensures))))
+    (o.1 p here))
 
 pub returns : goal.returns
 returns g c = loads_all _ _ c.args.place c.args.len c.loop-i.i _

@@ -7,7 +7,9 @@ use Rattle.cb_world.specs.StillDesk.{put_window}
 use Rattle.cb_world.specs.declared.shown.Shown.{Shown}
 use Rattle.cb_world.specs.Played.{played}
 use Rattle.cb_world.proofs.Tracing.{played_append}
+use Rattle.cb_world.specs.Shown.{Covers}
 use Rattle.cb_world.proofs.Untouched.{allowed_append}
+use Rattle.cb_world.proofs.Touching.{touches_append}
 use Rattle.cb_mutate.proofs.Bytes.{write_none, write_all, store_one, stores_more, owns_here}
 use Rattle.cb_mutate.proofs.overwriting.overwrite.Goals as goal
 
@@ -16,6 +18,7 @@ loop-i-init g c = (
   [],
   g.met.D.Desk.none _,
   tt,
+  λ h. tt,
   λ s a o. (
     window s.memory c.args.place (words_for c.args.len),
     write_none _ c.args.at c.args.bytes.now,
@@ -57,7 +60,7 @@ store-requires-clause-owned g c = let inv = c.loop-i.invariant in let had = c.re
     let follows =
     g.met.D.Desk.follows _ _ es had.0 (g.met.D.Desk.more _ _ _ _ _ inv.1 c.load-old.ensures)
     had.1 in
-    let now = inv.3 had.0 had.1 had.2 in
+    let now = inv.4 had.0 had.1 had.2 in
     let below : c.loop-i.i < words_for c.args.len =
     omega (arith, c.loop-i-test.true, c.div_ceil-i-end.ensures, c.requires.inside) in (
       played es had.0,
@@ -73,11 +76,14 @@ loop-i-preserved g c = let inv = c.loop-i.invariant in
     let ran = g.met.D.Desk.more _ _ _ _ _ inv.1
     (g.met.D.Desk.more _ _ _ _ _ c.load-old.ensures c.store.ensures) in
     let below : c.loop-i.i < words_for c.args.len =
-    omega (arith, c.loop-i-test.true, c.div_ceil-i-end.ensures, c.requires.inside) in (
+    omega (arith, c.loop-i-test.true, c.div_ceil-i-end.ensures, c.requires.inside) in
+    let here : Covers c.args.place c.args.len p = (omega arith, omega (arith, below)) in (
       inv.0 ++ Loaded p x ∷ Stored p y ∷ [],
       ran,
       stores_more inv.0 (Loaded p x ∷ Stored p y ∷ []) inv.2 tt,
-      λ s a o. let now = inv.3 s a o in let z =
+      λ h. touches_append h c.args.place c.args.len inv.0 (Loaded p x ∷ Stored p y ∷ []) (inv.3 h)
+          (here, (here, tt)),
+      λ s a o. let now = inv.4 s a o in let z =
           store_one inv.0 s c.args.place c.args.len c.loop-i.i c.args.at x y c.args.bytes.now
           (g.met.D.Desk.follows _ _ _ s ran a).0 o below now.0 now.1 now.2 c.merged.ensures in (
             z.0,
@@ -94,22 +100,19 @@ loop-i-preserved g c = let inv = c.loop-i.invariant in
     )
 
 pub returns : goal.returns
-returns g c = let inv = c.loop-i.invariant in (
-  inv.0,
-  inv.1,
-  inv.2,
-  λ s a o. let now =
-      inv.3 s a o in (
-        now.0,
-        write_all (8 * c.loop-i.i) _ c.args.at c.args.bytes.now now.0 (omega (
-          arith,
-          c.loop-i-test.false,
-          c.div_ceil-i-end.ensures,
-        )) now.1,
-        now.2,
-        now.3,
-      ),
-)
+returns g c = let inv = c.loop-i.invariant in record {
+  events = inv.0;
+  ran = inv.1;
+  stores = inv.2;
+  touches = inv.3;
+  rewrites = λ s o. let now = inv.4 s o.0 o.1 in record {
+    new = now.0;
+    write = write_all (8 * c.loop-i.i) _ c.args.at c.args.bytes.now now.0
+        (omega (arith, c.loop-i-test.false, c.div_ceil-i-end.ensures)) now.1;
+    left = now.2;
+    allowed = now.3;
+  };
+}
 
 pub overflow_add-place : goal.overflow_add-place
 overflow_add-place g c = omega (

@@ -1,13 +1,15 @@
-use Rattle.std.proofs.Common.{[], ◌∷◌, ◌++◌, sym, ap, ◌∙◌, subst}
+use Rattle.std.proofs.Common.{[], ◌∷◌, ◌++◌, refl, sym, ap, ◌∙◌, subst}
 use Rattle.cb_ptr.specs.declared.word.PtrWord.{PtrWord}
 use Rattle.cb_world.specs.declared.event.Event.TheVariants.{Told, Settled}
 use Rattle.cb_world.specs.declared.shown.Shown.{Shown}
+use Rattle.cb_ptr.specs.Word.{len_of, place_of}
 use Rattle.cb_world.specs.Settling.{MaySettle}
+use Rattle.cb_world.proofs.Touching.{touches_append}
 use Rattle.cb_world.specs.Played.{played}
 use Rattle.cb_world.proofs.Untouched.{allowed_append}
 use Rattle.cb_world.proofs.Claimed.{held}
 use Rattle.cb_mutate.proofs.Loaded.{loads_keep}
-use Rattle.cb_mutate.proofs.Settling.{same_slot, stores_no_look, stores_told, stores_first, owned_at}
+use Rattle.cb_mutate.proofs.Settling.{same_slot, stores_no_look, stores_told, stores_first, owned_at, touches_at, stores_settle_last}
 use Rattle.cb_mutate.proofs.SettledHot.{may_settle_hot, loads_are_stores, loads_allowed, hot_at_end, hot_writes_none, read_bytes}
 use Rattle.cb_mutate.proofs.reading.read_claimed.Goals as goal
 
@@ -37,6 +39,12 @@ returns g c =
           (g.met.D.Desk.more _ _ _ _ _ l.ran c.settle.ensures);
       no_look = ((λ w e. e), stores_no_look h l.events tail stores ((λ w e. e), tt));
       looks_first = stores_first l.events tail stores tt (tt, tt);
+      touches = (
+        refl,
+        touches_append h (place_of w) (len_of w) l.events tail (touches_at h w c.unpack-fields.result
+            f l.events (l.touches h)) (refl, tt),
+      );
+      settles_last = stores_settle_last l.events tail stores (tt, tt, tt, tt);
       quiet = λ s. stores_told l.events tail s stores;
       allowed = λ s v words k.
           let slot = same_slot w c.claimed.result n c.unpack-fields.result.place k.1.free

@@ -4,6 +4,7 @@ use Rattle.cb_world.specs.declared.event.Event.TheVariants.{Told}
 use Rattle.cb_world.specs.Memory.{words_for, bytes_in}
 use Rattle.cb_mutate.specs.ReadRule.{AreLoaded}
 use Rattle.cb_mutate.proofs.SettledHot.{loads_are_reads}
+use Rattle.cb_mutate.proofs.Settling.{touches_at}
 use Rattle.cb_mutate.proofs.reading.read_pinned.Goals as goal
 
 pub returns : goal.returns
@@ -13,6 +14,7 @@ returns g c =
       events = Told h x ∷ l.events;
       ran = g.met.D.Desk.more _ _ _ _ _ c.version-version.ensures l.ran;
       reads = (refl, loads_are_reads h l.events l.loads);
+      touches = (refl, touches_at h c.args.word c.unpack-fields.result f l.events (l.touches h));
       told = inr (refl, refl);
       words = l.words;
       count = l.count ∙ ap (λ (p : PtrWord). words_for p.len) f;

@@ -3,13 +3,14 @@ use Rattle.cb_types.specs.declared.config.Config.{Config}
 use Rattle.cb_types.specs.declared.reply.Reply.TheVariants as answer
 use Rattle.cb_ptr.specs.declared.word.State.{State}
 use Rattle.cb_ptr.specs.declared.word.PtrWord.{PtrWord}
-use Rattle.cb_ptr.specs.Word.{state_of}
+use Rattle.cb_ptr.specs.Word.{state_of, len_of, place_of}
 use Rattle.cb_world.specs.declared.event.Event.{Event}
 use Rattle.cb_world.specs.declared.shown.Shown.{Shown}
 use Rattle.cb_world.specs.Played.{played}
 use Rattle.cb_world.specs.Sound.{Sound}
 use Rattle.cb_world.proofs.AfterClaim.{claim_after, after_claim, claim_found, claim_taken, claim_first, claim_all_allowed}
 use Rattle.cb_world.proofs.AfterLook.{look_after, look_found, look_first, look_allowed, look_sound, look_still}
+use Rattle.cb_world.proofs.Touching.{claim_touches, claim_settles_last, look_touches, look_settles_last}
 use Rattle.cb_mutate.specs.Answered.{AnsweredAs}
 use Rattle.cb_mutate.specs.ReadRule.{ReadHere}
 use Rattle.cb_mutate.specs.ReadEnds.{ReadEnds, IsWithin, reply_of}
@@ -78,25 +79,24 @@ returns-in-Claimed-clause-see g c =
     let ended = λ (s : Shown) (a : g.D.Desk.shows c.args.desk.now s)
     (sound : Sound s c.args.far.now).
     let follows = g.met.D.Desk.follows _ _ first s ran a in
-    let stays = g.met.D.Desk.stays _ _ _ ran in
-    let sized = g.met.D.Desk.sized _ (played first s) follows.1 in
     let x = after s a sound in
     read_done c.args.far.now s (played (first ++ done) s) first done h w v version len words into
-    sound x tried.5 taken same
-    (subst (λ (n : ℕ). h < n) (sym sized.1)
-    (subst (λ (q : Config). h < q.handles) (sym stays) c.requires.handle))
+    sound x tried.5 found taken same
     (subst (λ (t : Shown). ReadEnds h w version into done (played first s) v words t)
     (sym x.at_end) (rest.ends_so (played first s) v words (follows.1, x.claimed))) in
     let had = c.requires.sound in record {
       events = first ++ done;
       ran = g.met.D.Desk.more _ _ _ _ _ ran rest.ran;
       looks_first = claim_first before done h w v words tried.4 rest.no_look rest.looks_first;
-      rule = (
-        w,
-        found,
-        subst (λ (q : State). AnsweredAs q (ReadHere h (first ++ done) r) w h (first ++ done) r)
-            (sym tried.5.0) (ended had.0 had.1 had.2).rule,
-      );
+      rule = record {
+        word = w;
+        found = found;
+        touches = claim_touches h w v (place_of w) (len_of w) words before done tried.4 rest.touches;
+        settles_last = claim_settles_last h w v words before done tried.4 rest.settles_last;
+        answer = subst (λ (q : State).
+            AnsweredAs q (ReadHere h (first ++ done) r) w h (first ++ done) r)
+            (sym tried.5.0) (ended had.0 had.1 had.2).rule;
+      };
       allowed = λ s k. claim_all_allowed before done h w v words s tried.4
           (rest.allowed (played first s) v words
           ((g.met.D.Desk.follows _ _ first s ran k.0).1, (after s k.0 k.1).claimed));
@@ -134,10 +134,16 @@ returns-in-Left-clause-see g c =
       events = first ++ rest.0;
       ran = g.met.D.Desk.more _ _ _ _ _ ran rest.1;
       looks_first = look_first before rest.0 h w tried.2 rest.2;
-      rule = (w, found, read_before (state_of w) h w first rest.0 r rest.3);
+      rule = record {
+        word = w;
+        found = found;
+        touches = look_touches h w (place_of w) (len_of w) before rest.0 tried.2 rest.3;
+        settles_last = look_settles_last h w before rest.0 tried.2 rest.2;
+        answer = read_before (state_of w) h w first rest.0 r rest.4;
+      };
       allowed = λ s k. look_allowed before rest.0 h w s tried.2 rest.2;
       sound_after = λ s k. look_sound c.args.far.now s before rest.0 h w k.1 tried.2 rest.2;
       effect = λ s k. left_effect (state_of w) h w rest.0 (first ++ rest.0) s
-          (played (first ++ rest.0) s) r refl tried.3 found rest.3
+          (played (first ++ rest.0) s) r refl tried.3 found rest.4
           (look_still s before rest.0 h w tried.2 rest.2);
     }

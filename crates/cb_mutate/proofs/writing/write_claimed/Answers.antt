@@ -9,8 +9,9 @@ use Rattle.cb_world.specs.Shown.{IsHeld, object_at}
 use Rattle.cb_world.specs.Played.{after, played}
 use Rattle.cb_world.proofs.Tracing.{played_append}
 use Rattle.cb_world.proofs.Untouched.{allowed_append}
+use Rattle.cb_world.proofs.Touching.{touches_append}
 use Rattle.cb_world.proofs.Claimed.{held, may_put_back, settled_here, back_written}
-use Rattle.cb_mutate.proofs.Settling.{same_slot, may_settle_written, stores_no_look, stores_told, stores_first, overwrote, owned_at, stamped, settled_at_end, wrote_one}
+use Rattle.cb_mutate.proofs.Settling.{same_slot, may_settle_written, stores_no_look, stores_told, stores_first, overwrote, owned_at, stamped, settled_at_end, wrote_one, touches_at, stores_settle_last}
 use Rattle.cb_mutate.proofs.writing.write_claimed.Goals as goal
 
 pub returns-then-at-bytes : goal.returns-then-at-bytes
@@ -22,6 +23,8 @@ returns-then-at-bytes g c =
       ran = c.settle.ensures;
       no_look = ((λ w e. e), tt);
       looks_first = (tt, tt);
+      touches = (refl, tt);
+      settles_last = (tt, tt, tt, tt);
       quiet = λ s. refl;
       allowed = λ s v words k. (may_put_back s h w v words k.1, tt);
       ends_so = λ s v words k. inl (
@@ -51,6 +54,8 @@ returns-then-version g c =
       ran = g.met.D.Desk.more _ _ _ _ _ c.version-version.ensures c.settle-then-version.ensures;
       no_look = ((λ w e. e), ((λ w e. e), tt));
       looks_first = (tt, tt);
+      touches = (refl, (refl, tt));
+      settles_last = (tt, tt, tt, tt);
       quiet = λ s. refl;
       allowed = λ s v words k. (tt, (may_put_back s h w v words k.1, tt));
       ends_so = λ s v words k.
@@ -83,11 +88,14 @@ store_version-requires-clause-held g c =
     let had = c.requires.claimed in let h = c.args.h.n in let x = c.version-version.result in
     let ow = c.overwrite.ensures in let s = had.0 in
     let told = g.met.D.Desk.follows _ _ (Told h x ∷ []) s c.version-version.ensures had.1 in
-    let now = ow.3 s told.1 (owned_at s h c.args.word had.2.0 had.2.1 c.unpack-fields.result
-    c.unpack-fields.ensures.fields had.2.2) in (
-      played ow.0 s,
-      (g.met.D.Desk.follows _ _ ow.0 s ow.1 told.1).1,
-      subst (λ (t : Shown). IsHeld (object_at t h)) (sym now.2)
+    let now = ow.rewrites s (
+      told.1,
+      owned_at s h c.args.word had.2.0 had.2.1 c.unpack-fields.result c.unpack-fields.ensures.fields
+          had.2.2,
+    ) in (
+      played ow.events s,
+      (g.met.D.Desk.follows _ _ ow.events s ow.ran told.1).1,
+      subst (λ (t : Shown). IsHeld (object_at t h)) (sym now.left)
           (held s h c.args.word had.2.0 had.2.1 had.2.2),
     )
 
@@ -98,20 +106,19 @@ settle-requires-2-clause-may g c =
     let k = had.2.2 in let f = c.unpack-fields.ensures.fields in let w = c.args.word in
     let told = g.met.D.Desk.follows _ _ (Told h x ∷ []) s c.version-version.ensures had.1 in
     let same = told.0.0 (held s h w v words k) ∙ k.version in
-    let now = overwrote s ow.0 w c.args.at c.args.bytes.now c.unpack-fields.result f
-    (let z = ow.3 s told.1 (owned_at s h w v words c.unpack-fields.result f k) in
-    (z.0, z.1, z.2)) in
-    let es = ow.0 ++ Stamped h (x + 1) ∷ [] in
-    let ran = g.met.D.Desk.more _ _ _ _ _ ow.1 c.store_version.ensures in (
+    let now = overwrote s ow.events w c.args.at c.args.bytes.now c.unpack-fields.result f
+    (ow.rewrites s (told.1, owned_at s h w v words c.unpack-fields.result f k)) in
+    let es = ow.events ++ Stamped h (x + 1) ∷ [] in
+    let ran = g.met.D.Desk.more _ _ _ _ _ ow.ran c.store_version.ensures in (
       played es s,
       (g.met.D.Desk.follows _ _ es s ran told.1).1,
       may_settle_written s (played es s) h w v c.settled.result c.args.at words c.args.bytes.now
-          now.0 k
-          (subst (λ (l : List ℕ). IsWrite l c.args.at c.args.bytes.now now.0) k.contents now.1)
+          now.new k
+          (subst (λ (l : List ℕ). IsWrite l c.args.at c.args.bytes.now now.new) k.contents now.write)
           (omega (arith, c.if-at-bytes.false, ap (λ (p : PtrWord). p.len) f))
           (same_slot w c.claimed.result c.settled.result c.unpack-fields.result.place k.free
           c.claimed.ensures (ap (λ (p : PtrWord). p.place) f) c.settled.ensures)
-          (stamped s ow.0 h v x (place_of w) now.0 now.2 same),
+          (stamped s ow.events h v x (place_of w) now.new now.left same),
     )
 
 pub returns : goal.returns
@@ -123,32 +130,37 @@ returns g c =
     let inside : c.args.at + length c.args.bytes.now ≤ len_of w =
     omega (arith, c.if-at-bytes.false, ap (λ (p : PtrWord). p.len) f) in
     record {
-      events = Told h x ∷ (ow.0 ++ tail);
+      events = Told h x ∷ (ow.events ++ tail);
       ran = g.met.D.Desk.more _ _ _ _ _ c.version-version.ensures
-          (g.met.D.Desk.more _ _ _ _ _ ow.1
+          (g.met.D.Desk.more _ _ _ _ _ ow.ran
           (g.met.D.Desk.more _ _ _ _ _ c.store_version.ensures c.settle-2.ensures));
-      no_look = ((λ w e. e), stores_no_look h ow.0 tail ow.2 ((λ w e. e), ((λ w e. e), tt)));
-      looks_first = stores_first ow.0 tail ow.2 tt (tt, (tt, tt));
-      quiet = λ s. stores_told ow.0 tail s ow.2;
+      no_look = ((λ w e. e), stores_no_look h ow.events tail ow.stores ((λ w e. e), ((λ w e. e), tt)));
+      looks_first = stores_first ow.events tail ow.stores tt (tt, (tt, tt));
+      touches = (
+        refl,
+        touches_append h (place_of w) (len_of w) ow.events tail
+            (touches_at h w c.unpack-fields.result f ow.events (ow.touches h)) (refl, (refl, tt)),
+      );
+      settles_last = stores_settle_last ow.events tail ow.stores (tt, tt, (tt, tt, tt, tt));
+      quiet = λ s. stores_told ow.events tail s ow.stores;
       allowed = λ s v words k.
           let told = g.met.D.Desk.follows _ _ (Told h x ∷ []) s c.version-version.ensures k.0 in
           let same = told.0.0 (held s h w v words k.1) ∙ k.1.version in
-          let z = ow.3 s told.1 (owned_at s h w v words c.unpack-fields.result f k.1) in
-          let now = overwrote s ow.0 w c.args.at c.args.bytes.now c.unpack-fields.result f
-          (z.0, z.1, z.2) in
+          let now = overwrote s ow.events w c.args.at c.args.bytes.now c.unpack-fields.result f
+          (ow.rewrites s (told.1, owned_at s h w v words c.unpack-fields.result f k.1)) in
           let slot = same_slot w c.claimed.result n c.unpack-fields.result.place k.1.free
           c.claimed.ensures (ap (λ (p : PtrWord). p.place) f) c.settled.ensures in (
             tt,
-            allowed_append ow.0 tail s z.3 (
-              subst (λ (t : Shown). IsHeld (object_at t h)) (sym now.2) (held s h w v words k.1),
+            allowed_append ow.events tail s now.allowed (
+              subst (λ (t : Shown). IsHeld (object_at t h)) (sym now.left) (held s h w v words k.1),
               (
-                may_settle_written s (after (Stamped h (x + 1)) (played ow.0 s)) h w v n c.args.at
-                    words c.args.bytes.now now.0 k.1
-                    (subst (λ (l : List ℕ). IsWrite l c.args.at c.args.bytes.now now.0) k.1.contents
-                    now.1)
+                may_settle_written s (after (Stamped h (x + 1)) (played ow.events s)) h w v n c.args.at
+                    words c.args.bytes.now now.new k.1
+                    (subst (λ (l : List ℕ). IsWrite l c.args.at c.args.bytes.now now.new) k.1.contents
+                    now.write)
                     inside slot
-                    (sym (played_append ow.0 (Stamped h (x + 1) ∷ []) s)
-                    ∙ stamped s ow.0 h v x (place_of w) now.0 now.2 same),
+                    (sym (played_append ow.events (Stamped h (x + 1) ∷ []) s)
+                    ∙ stamped s ow.events h v x (place_of w) now.new now.left same),
                 tt,
               ),
             ),
@@ -156,24 +168,23 @@ returns g c =
       ends_so = λ s v words k.
           let told = g.met.D.Desk.follows _ _ (Told h x ∷ []) s c.version-version.ensures k.0 in
           let same = told.0.0 (held s h w v words k.1) ∙ k.1.version in
-          let z = ow.3 s told.1 (owned_at s h w v words c.unpack-fields.result f k.1) in
-          let now = overwrote s ow.0 w c.args.at c.args.bytes.now c.unpack-fields.result f
-          (z.0, z.1, z.2) in
+          let now = overwrote s ow.events w c.args.at c.args.bytes.now c.unpack-fields.result f
+          (ow.rewrites s (told.1, owned_at s h w v words c.unpack-fields.result f k.1)) in
           let slot = same_slot w c.claimed.result n c.unpack-fields.result.place k.1.free
           c.claimed.ensures (ap (λ (p : PtrWord). p.place) f) c.settled.ensures in
-          let wrote = subst (λ (l : List ℕ). IsWrite l c.args.at c.args.bytes.now now.0)
-          k.1.contents now.1 in
+          let wrote = subst (λ (l : List ℕ). IsWrite l c.args.at c.args.bytes.now now.new)
+          k.1.contents now.write in
           inr (
             inside,
             inr (
               (omega (arith, same, c.if-version.false, c.version-version.type_inv)),
               ap (λ (u : ℕ). answer.Version (u + 1)) same,
               record {
-                new = now.0;
+                new = now.new;
                 write = wrote;
-                settled = settled_at_end s ow.0 h w v x n now.0 now.2 same slot;
-                one = wrote_one s ow.0 h w v x n c.args.at words c.args.bytes.now now.0 ow.2 k.1
-                    wrote now.2 same slot;
+                settled = settled_at_end s ow.events h w v x n now.new now.left same slot;
+                one = wrote_one s ow.events h w v x n c.args.at words c.args.bytes.now now.new ow.stores k.1
+                    wrote now.left same slot;
               },
             ),
           );

@@ -1,12 +1,13 @@
 use Rattle.std.proofs.Common.{ℕ, ◌<◌, List, [], ◌++◌, sym, refl, subst}
 use Rattle.cb_ptr.specs.declared.word.State.{State}
-use Rattle.cb_ptr.specs.Word.{state_of}
+use Rattle.cb_ptr.specs.Word.{state_of, len_of, place_of}
 use Rattle.cb_world.specs.declared.event.Event.{Event}
 use Rattle.cb_world.specs.declared.shown.Shown.{Shown}
 use Rattle.cb_world.specs.Played.{played}
 use Rattle.cb_world.specs.Sound.{Sound}
 use Rattle.cb_world.proofs.AfterClaim.{claim_after, after_claim, claim_found, claim_taken, claim_first, claim_all_allowed}
 use Rattle.cb_world.proofs.AfterLook.{look_after, look_found, look_first, look_allowed, look_sound, look_still}
+use Rattle.cb_world.proofs.Touching.{claim_touches, claim_settles_last, look_touches, look_settles_last}
 use Rattle.cb_mutate.specs.Answered.{AnsweredAs}
 use Rattle.cb_mutate.specs.WriteRule.{WriteHere}
 use Rattle.cb_mutate.specs.WriteEnds.{WriteEnds}
@@ -69,13 +70,15 @@ returns-in-Claimed g c =
         events = first ++ done;
         ran = g.met.D.Desk.more _ _ _ _ _ ran rest.ran;
         looks_first = claim_first before done h w v words tried.4 rest.no_look rest.looks_first;
-        rule = (
-          w,
-          found,
-          subst (λ (q : State). AnsweredAs q
+        rule = record {
+          word = w;
+          found = found;
+          touches = claim_touches h w v (place_of w) (len_of w) words before done tried.4 rest.touches;
+          settles_last = claim_settles_last h w v words before done tried.4 rest.settles_last;
+          answer = subst (λ (q : State). AnsweredAs q
               (WriteHere h c.args.at c.args.bytes.now (first ++ done) r) w h (first ++ done) r)
-              (sym tried.5.0) (ended had.0 had.1 had.2).rule,
-        );
+              (sym tried.5.0) (ended had.0 had.1 had.2).rule;
+        };
         allowed = λ s k. claim_all_allowed before done h w v words s tried.4
             (rest.allowed (played first s) v words
             ((g.met.D.Desk.follows _ _ first s ran k.0).1, (after s k.0 k.1).claimed));
@@ -97,15 +100,17 @@ returns-in-Left g c =
         events = first ++ rest.0;
         ran = g.met.D.Desk.more _ _ _ _ _ ran rest.1;
         looks_first = look_first before rest.0 h w tried.2 rest.2;
-        rule = (
-          w,
-          look_found before rest.0 h w rest.2,
-          write_before (state_of w) h w c.args.at c.args.bytes.now first rest.0 r rest.3,
-        );
+        rule = record {
+          word = w;
+          found = look_found before rest.0 h w rest.2;
+          touches = look_touches h w (place_of w) (len_of w) before rest.0 tried.2 rest.3;
+          settles_last = look_settles_last h w before rest.0 tried.2 rest.2;
+          answer = write_before (state_of w) h w c.args.at c.args.bytes.now first rest.0 r rest.4;
+        };
         allowed = λ s k. look_allowed before rest.0 h w s tried.2 rest.2;
         sound_after = λ s k. look_sound c.args.far.now s before rest.0 h w k.1 tried.2 rest.2;
         effect = λ s k. refused_effect (state_of w) h w c.args.at c.args.bytes.now rest.0
-            (first ++ rest.0) s (played (first ++ rest.0) s) r rest.2 rest.3
+            (first ++ rest.0) s (played (first ++ rest.0) s) r rest.2 rest.4
             (look_still s before rest.0 h w tried.2 rest.2);
       };
     }

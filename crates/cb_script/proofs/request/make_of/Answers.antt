@@ -4,5 +4,4 @@ use Rattle.cb_script.proofs.request.make_of.Goals as goal
 
 pub returns-clause-names : goal.returns-clause-names
 returns-clause-names c = λ before has line.
-    let ok = c.in_ok-accept_new.ensures before has in
-    c.in_ok-keep.ensures before (record { lane = c.args.lane; line = line; request = Make c.in_ok-copy.copy c.in_ok-bytes.bytes }) has ok.1 refl c.in_ok-copy.ensures.items
+    c.in_ok-accept_new.ensures.kept before (record { lane = c.args.lane; line = line; request = Make c.in_ok-name.name c.in_ok-bytes.bytes }) has refl c.in_ok-name.ensures.items

@@ -1,15 +1,16 @@
-use Rattle.std.proofs.Common.{◌++◌, List, ℕ, ◌+◌, drop, ap, sym, ◌∙◌}
-use Rattle.hex.specs.Hex.{encode_lower}
-use Rattle.cb_text.proofs.Digits.{one_byte, none_left}
+use Rattle.std.proofs.Common.{◌≡◌, ◌++◌, sym, ap₂, ◌∙◌, rules}
+use Rattle.std.proofs.lemmas.List.{take-append-drop, nil_from_length}
+use Rattle.cb_text.proofs.Digits.{one_piece, none_left}
 use Rattle.cb_text.proofs.word.push_digits.Goals as goal
 
-pub loop-byte-preserved : goal.loop-byte-preserved
-loop-byte-preserved c =
-    let bytes = c.args.bytes.now in
-    let i = c.loop-byte.byte-index in
-    let added = rw (c.digit.ensures, c.digit-in-loop-byte.ensures) at c.in_ok-extend_from_slice.ensures.items in
-    ap (λ (l : List ℕ). l ++ encode_lower (drop (i + 1) bytes)) added ∙ one_byte c.loop-byte.text.items bytes i c.loop-byte-test.true ∙ c.loop-byte.invariant
+pub loop-rest-preserved : goal.loop-rest-preserved
+loop-rest-preserved c =
+    let rest = c.loop-rest.rest.now in
+    let n = c.min.result in
+    let parts : c.split_at.result.0.now ++ c.split_at.result.1.now ≡ rest = ap₂ ◌++◌ c.split_at.ensures.front c.split_at.ensures.back ∙ take-append-drop n rest in
+    one_piece c.loop-rest.text.items c.push_piece.new.text.items rest c.split_at.result.0.now c.split_at.result.1.now c.in_ok-push_piece.ensures parts ∙ c.loop-rest.invariant
 
 pub returns : goal.returns
 returns c =
-    sym (none_left c.loop-byte.text.items c.args.bytes.now c.loop-byte.byte-index c.loop-byte-test.false) ∙ c.loop-byte.invariant
+    let rest = c.loop-rest.rest.now in
+    sym (none_left c.loop-rest.text.items rest (nil_from_length rest (search rules))) ∙ c.loop-rest.invariant

@@ -1,8 +1,11 @@
-use Rattle.std.proofs.Common.{◌≡◌, ◌++◌, drop}
+use Rattle.std.proofs.Common.{◌≡◌, ◌++◌, length}
 use Rattle.hex.specs.Hex.{encode_lower}
 use Rattle.cb_text.proofs.word.push_digits.Given as goal
 
 -- what is left to add makes the text whole
-abbrev pub invariant-loop-byte : goal.invariant-loop-byte
-invariant-loop-byte l =
-    l.text.items ++ encode_lower (drop l.byte-index l.bytes) ≡ l.fn.text.items ++ encode_lower l.bytes
+abbrev pub invariant-loop-rest : goal.invariant-loop-rest
+invariant-loop-rest l =
+    l.text.items ++ encode_lower l.rest ≡ l.fn.text.items ++ encode_lower l.bytes
+
+abbrev pub decreases-loop-rest : goal.decreases-loop-rest
+decreases-loop-rest l = length l.rest

@@ -6,7 +6,7 @@ use Rattle.cb_world.proofs.plain_desk.PlainDeskDesk.claim.Goals as goal
 pub returns-then-found-saw-clause-won : goal.returns-then-found-saw-clause-won
 returns-then-found-saw-clause-won c =
     let found : slice_index c.args.self.now.words c.args.h.n ≡ c.args.saw =
-    c.word_of-found.ensures ∙ c.if-found-saw.true in
+    c.look-found.ensures ∙ c.if-found-saw.true in
     let memory = c.args.self.now.memory in
     let contents = window memory (place_of c.args.saw) (words_for (len_of c.args.saw)) in
     λ _. (

@@ -1,0 +1,157 @@
+-- Worked example: what `seq` leaves and puts for a script of two lines, and for each part what breaks it.
+use Rattle.std.proofs.Common.{◌≡◌, ℕ, List, [], ◌∷◌, length, Some, None, refl, sym, ap, ◌∙◌, arith, inl, String, Global}
+use Rattle.std.specs.Prelude.{codes, string_bytes}
+use Rattle.cb_types.specs.declared.answer.Answer.{Answer}
+use Rattle.cb_types.specs.declared.reply.Reply.{Reply}
+use Rattle.cb_types.specs.declared.reply.Reply.TheVariants as replies
+use Rattle.cb_types.specs.declared.request.Request.{Request}
+use Rattle.cb_script.specs.declared.script.Line.{Line}
+use Rattle.cb_script.specs.declared.script.Script.{Script}
+use Rattle.cb_script.proofs.Phrases.{differ}
+use Rattle.cb_script.proofs.WorkedScript.{small, made_and_read as input, make_a, read_a, script, spelled}
+use Rattle.cb_text.proofs.WorkedLines.{made_and_read_text}
+use Rattle.cb_model.specs.Legal.{IsLegalInOrder}
+use Rattle.cb_model.proofs.Order.{legal_in_order}
+use Rattle.cb_text.specs.Line.{text_of}
+use Rattle.cb_lanes.specs.Held.{HoldsAnswers}
+use Rattle.cb_lanes.specs.LineStep.{LinesLead}
+use Rattle.cb_lanes.specs.Lost.{losses_of}
+use Rattle.cb_world.specs.World.{WorldState, IsSoundWorld, empty_world}
+use Rattle.cb_app.specs.declared.ending.Ending.{Ending}
+use Rattle.cb_app.specs.declared.words.Command.{Command}
+use Rattle.cb_app.specs.declared.words.Command.TheVariants.{Seq, Check}
+use Rattle.cb_app.specs.Outcome.{IsTaken, IsAnswered, Yields, IsDone, TellsScript}
+use Rattle.cb_app.proofs.WorkedCommands.{seq_named, no_word}
+
+-- ---- the answers
+
+abbrev answer : ℕ → Request → Reply → Answer
+answer line request reply = record { lane = record { n = 1 }; line = line; request = request; reply = reply }
+
+abbrev made : Answer
+made = answer 2 make_a (replies.Made (record { n = 0 }) 1)
+
+abbrev answers : List Answer
+answers = made ∷ answer 3 read_a (replies.Bytes 1 (10 ∷ 11 ∷ [])) ∷ []
+
+abbrev ending_of : WorldState → List Answer → Ending
+ending_of world list = record { config = Some small; answers = list; losses = []; world = Some world }
+
+legal : IsLegalInOrder 1 16 answers
+legal = legal_in_order 1 16 answers (
+  record { reply = (refl, omega arith, refl); unmade = tt },
+  (record { reply = (refl, refl); unmade = tt }, tt),
+)
+
+-- the world is one that the two lines lead to
+record IsLeft (world : WorldState) : Type 0 where
+  leads : LinesLead [] (empty_world small) answers world
+  sound : IsSoundWorld world
+  holds : HoldsAnswers world answers
+
+answered : (world : WorldState) → IsLeft world → IsAnswered input script (ending_of world answers)
+answered world there = record {
+  spelled = spelled;
+  config = refl;
+  lines = refl;
+  legal = legal;
+  replies = (tt, (tt, tt));
+  world = world;
+  left = refl;
+  leads = there.leads;
+  sound = there.sound;
+  holds = there.holds;
+  losses = refl;
+}
+
+no_world : (end : Ending) → end.world ≡ None → IsAnswered input script end → ⊥
+no_world end none is = absurd (let e : None ≡ Some is.world = sym none ∙ is.left in cc)
+
+-- without lines the world is the empty one
+no_turn_counted : (world : WorldState) → LinesLead [] (empty_world small) [] world
+    → world.far.counts.turns ≡ 1 → ⊥
+no_turn_counted world leads one =
+    omega (arith, sym one ∙ ap (λ (w : WorldState). w.far.counts.turns) leads)
+
+-- another script is spelled
+another_script : (world : WorldState)
+    → IsAnswered input (record { config = small; lines = [] }) (ending_of world []) → ⊥
+another_script world is = absurd (let e = is.spelled.text in cc)
+
+no_config : (world : WorldState) → IsAnswered input script
+    (record { config = None; answers = answers; losses = []; world = Some world }) → ⊥
+no_config world is = absurd (let e : None ≡ Some small = is.config in cc)
+
+a_line_left_out : (world : WorldState) → IsAnswered input script (ending_of world (made ∷ [])) → ⊥
+a_line_left_out world is = absurd (omega (arith, ap (λ (lines : List Line). length lines) is.lines))
+
+-- the read is numbered as the make is
+abbrev first_number : List Line → ℕ
+first_number [] = 0
+first_number (l ∷ lines) = l.line
+
+another_number : (world : WorldState) → IsAnswered input script (ending_of world (answer 3 make_a (replies.Made (record { n = 0 }) 1) ∷ answer 3 read_a (replies.Bytes 1 (10 ∷ 11 ∷ [])) ∷ []))
+    → ⊥
+another_number world is = absurd (let e : 3 ≡ 2 = ap first_number is.lines in omega (arith, e))
+
+other_bytes : (world : WorldState) → IsAnswered input script (ending_of world (made ∷ answer 3 read_a (replies.Bytes 1 (10 ∷ 12 ∷ [])) ∷ []))
+    → ⊥
+other_bytes world is = absurd (let e = is.legal.in_order.1.0.reply in cc)
+
+-- no read is answered that a node is down
+another_refusal : (world : WorldState) → IsAnswered input script
+    (ending_of world (made ∷ answer 3 read_a (replies.Down (record { n = 0 })) ∷ [])) → ⊥
+another_refusal world is = is.replies.1.0
+
+-- no crash took place, and one is told
+a_loss : (end : Ending) → losses_of end.answers ≡ [] → length end.losses ≡ 1
+    → IsAnswered input script end → ⊥
+a_loss end none one is = omega (arith, sym one ∙ ap length (is.losses ∙ none))
+
+-- ---- the text, and the run
+
+abbrev text : List ℕ
+text = codes "1 make a v1\n1 read a v1 0a0b\n"
+
+pub text_is : text_of answers ≡ text
+text_is = made_and_read_text
+
+yielded : (world : WorldState) → IsLeft world → Yields Seq input script (ending_of world answers) text
+yielded world there = (answered world there, sym text_is)
+
+-- a line feed is left out
+no_line_feed : (world : WorldState) → Yields Seq input script (ending_of world answers) (codes "1 make a v1\n1 read a v1 0a0b") → ⊥
+no_line_feed world is = differ (codes "1 make a v1\n1 read a v1 0a0b") text (is.1 ∙ text_is) refl
+
+all_taken : IsTaken (Some input) (Some []) input
+all_taken = record { front = refl; whole = inl refl }
+
+done : (w : String Global) (world : WorldState) → IsLeft world → string_bytes w ≡ codes "seq"
+    → IsDone (w ∷ []) (Some input) (Some []) (ending_of world answers) text
+done w world there is = record {
+  command = Seq;
+  words_are = seq_named w is;
+  yields = (input, script, all_taken, yielded world there);
+}
+
+-- the sink held a byte before, and has the text behind it
+tells : (w : String Global) (world : WorldState) → IsLeft world → string_bytes w ≡ codes "seq"
+    → TellsScript (w ∷ []) (Some input) (Some []) (Some (7 ∷ [])) (Some (7 ∷ text))
+    (ending_of world answers)
+tells w world there is = (text, done w world there is, refl)
+
+tells_without_words : (world : WorldState)
+    → TellsScript [] (Some input) (Some []) (Some []) (Some text) (ending_of world answers) → ⊥
+tells_without_words world (due, is, put) = no_word is.command is.words_are
+
+-- nothing is put
+not_empty : (world : WorldState) (command : Command) (bytes : List ℕ) (s : Script) (due : List ℕ)
+    → Yields command bytes s (ending_of world answers) due
+    → due ≡ [] → ⊥
+not_empty world Seq bytes s due is none = differ text [] (sym text_is ∙ sym is.1 ∙ none) refl
+not_empty world Check bytes s due is none = absurd (let e : answers ≡ [] = is.0.no_answers in cc)
+
+tells_nothing : (words : List (String Global)) (world : WorldState)
+    → TellsScript words (Some input) (Some []) (Some []) (Some []) (ending_of world answers) → ⊥
+tells_nothing words world (due, told, put) =
+    not_empty world told.command told.yields.0 told.yields.1 due told.yields.3 (sym put)

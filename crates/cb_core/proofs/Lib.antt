@@ -1,0 +1,9 @@
+pub mod Counting
+pub mod Changes
+pub mod WorldKept
+pub mod PinsKept
+pub mod Settings
+pub mod WorkedPins
+pub mod WorkedMembership
+pub mod WorkedRoom
+pub mod WorkedTurns

@@ -1,0 +1,20 @@
+use cb_types::{Handle, Job};
+
+/// One atomic step on one word.
+#[derive(Clone, Copy, Debug, PartialEq, Eq)]
+pub enum Atomic {
+    /// The pointer word of an object is read.
+    Load { handle: Handle },
+    /// The object is pinned.
+    Pin { handle: Handle },
+    /// The seat's newest pin on the object is given back.
+    Unpin { handle: Handle },
+}
+
+/// What happens next: a seat takes an atomic step, or makes a turn with a job. Seats are numbered
+/// from 0, below 64.
+#[derive(Debug, Drop)]
+pub enum Event {
+    Step { seat: u32, atomic: Atomic },
+    Turn { seat: u32, job: Job },
+}

@@ -1,0 +1,17 @@
+//! The core: every line of a script is an event of it, a turn of the holder of the far lock or one
+//! atomic step, and the world after each event is fixed by one relation.
+#![tactic(auto)]
+
+pub mod event;
+mod membership;
+mod pinning;
+mod room;
+pub mod stepping;
+#[cfg(test)]
+mod tests;
+pub mod turning;
+
+pub use cb_types::Job;
+pub use event::{Atomic, Event};
+pub use stepping::step;
+pub use turning::{MOST_TURNS, turn};

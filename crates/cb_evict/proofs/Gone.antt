@@ -1,0 +1,215 @@
+-- The local part of the sound world once all objects of some spans are away and their frames are
+-- given back.
+use Rattle.std.proofs.Common.{◌≡◌, ◌≢◌, ◌⊎◌, ◌↔◌, ℕ, zero, suc, Bool, true, false, ◌*◌, ◌<◌, ◌≤◌, List, [], ◌∷◌, length, get_or, set, All, sym, refl, ap, ◌∙◌, subst, arith, inl, inr, Option, Some, None, length-set, get_or-set_other, get_or-set_same}
+use Rattle.std.specs.List.{Contains}
+use Rattle.std.proofs.lemmas.Bool.{cases_eq, cases_lt}
+use Rattle.std.proofs.lemmas.List.{get_or_past}
+use Rattle.std.proofs.lemmas.List.Elements.{All-nil, All-cons}
+use Rattle.cb_frame.specs.FreeFrames.{IsFree, with_given}
+use Rattle.cb_span.specs.Contents.{Contents, handle_at}
+use Rattle.cb_span.specs.Places.{slot_place}
+use Rattle.cb_world.specs.declared.homes.Home.{Home}
+use Rattle.cb_world.specs.declared.object.Object.{Object}
+use Rattle.cb_world.specs.declared.shown.Shown.{Shown}
+use Rattle.cb_world.specs.Shown.{object_at, version_at, never}
+use Rattle.cb_world.specs.FarState.{FarState, span_in, resident, handle_in}
+use Rattle.cb_world.specs.LocalSound.{LocalSound, LiesAt, IsStamped}
+use Rattle.cb_world.proofs.Freed.{one_slot}
+use Rattle.cb_evict.specs.Looking.{IsIn}
+use Rattle.cb_evict.specs.Closing.{all_given, all_closed, with_homes}
+use Rattle.cb_evict.proofs.Homing.{closed_else, given_else, length_closed, length_given}
+
+some_none : (x : Contents) → Some x ≡ None → ⊥
+some_none x e = cc
+
+-- a number is among these, or is none of them
+pub in_or_out : (frames : List ℕ) (f : ℕ) → Contains frames f ⊎ All (λ g. g ≢ f) frames
+in_or_out [] f = inr (All-nil (λ g. g ≢ f))
+in_or_out (g ∷ frames) f = elim (cases_eq g f) [
+  | inl e ↦ inl (0, omega arith, e)
+  | inr off ↦ elim (in_or_out frames f) [
+    | inl (k, l, e) ↦ inl (suc k, omega (arith, l), e)
+    | inr none ↦ inr (All-cons (λ x. x ≢ f) g frames off none)
+  ]
+]
+
+pub out_of : (frames : List ℕ) (f : ℕ) → All (λ g. g ≢ f) frames → Contains frames f → ⊥
+out_of frames f none (k, l, e) = none k f l e
+
+set_none : (spans : List (Option Contents)) (g : ℕ) → span_in (set spans g None) g ≡ None
+set_none spans g = elim (cases_lt g (length spans)) [
+  | inl within ↦ get_or-set_same spans g None None within
+  | inr past ↦ get_or_past (set spans g None) g None
+      (let n = length-set spans g None in omega (arith, n, past))
+]
+
+-- an empty frame stays so
+pub closed_empty : (spans : List (Option Contents)) (frames : List ℕ) (f : ℕ)
+    → span_in spans f ≡ None → span_in (all_closed spans frames) f ≡ None
+closed_empty spans [] f e = e
+closed_empty spans (g ∷ frames) f e = closed_empty (set spans g None) frames f (elim (cases_eq f g) [
+  | inl same ↦ ap (λ (i : ℕ). span_in (set spans g None) i) same ∙ set_none spans g
+  | inr off ↦ get_or-set_other spans g f None None off ∙ e
+])
+
+-- the span in one of the frames is gone
+pub closed_in : (spans : List (Option Contents)) (frames : List ℕ) (f : ℕ) → Contains frames f
+    → span_in (all_closed spans frames) f ≡ None
+closed_in spans [] f (k, l, e) = absurd (omega (arith, l))
+closed_in spans (g ∷ frames) f (zero, l, e) = closed_empty (set spans g None) frames f
+    (ap (λ (i : ℕ). span_in (set spans g None) i) (sym e) ∙ set_none spans g)
+closed_in spans (g ∷ frames) f (suc k, l, e) =
+    closed_in (set spans g None) frames f (k, omega (arith, l), e)
+
+given_free : (free : List Bool) (frames : List ℕ) (f : ℕ) → f < length free → get_or free f false ≡ true
+    → get_or (all_given free frames) f false ≡ true
+given_free free [] f within e = e
+given_free free (g ∷ frames) f within e =
+    given_free (with_given free g) frames f (let n = length-set free g true in omega (arith, n, within))
+    (elim (cases_eq f g) [
+      | inl same ↦ ap (λ (i : ℕ). get_or (with_given free g) i false) same
+          ∙ get_or-set_same free g true false (omega (arith, within, same))
+      | inr off ↦ get_or-set_other free g f true false off ∙ e
+    ])
+
+pub given_in : (free : List Bool) (frames : List ℕ) (f : ℕ) → f < length free → Contains frames f
+    → get_or (all_given free frames) f false ≡ true
+given_in free [] f within (k, l, e) = absurd (omega (arith, l))
+given_in free (g ∷ frames) f within (zero, l, e) =
+    let n = length-set free g true in
+    given_free (with_given free g) frames f (omega (arith, n, within))
+    (ap (λ (i : ℕ). get_or (with_given free g) i false) (sym e)
+    ∙ get_or-set_same free g true false (let same : g ≡ f = e in omega (arith, within, same)))
+given_in free (g ∷ frames) f within (suc k, l, e) =
+    given_in (with_given free g) frames f (let n = length-set free g true in omega (arith, n, within))
+    (k, omega (arith, l), e)
+
+-- ---- objects that are gone
+-- the object is as it was, and the spans do not name it
+pub record IsSpared (s t : Shown) (spans : List (Option Contents)) (frames : List ℕ) (h : ℕ)
+    : Type 0 where
+  pub object : object_at t h ≡ object_at s h
+  pub absent : IsIn spans frames h → ⊥
+
+-- one of the spans names the object, which was made and lies nowhere in local memory any more
+pub record IsSentAway (t : Shown) (spans : List (Option Contents)) (frames : List ℕ) (h : ℕ)
+    : Type 0 where
+  pub named : IsIn spans frames h
+  pub gone : (len place : ℕ) → LiesAt (object_at t h) len place → ⊥
+  pub made : object_at t h ≡ never → ⊥
+
+pub record AreSentOff (s t : Shown) (spans : List (Option Contents)) (frames : List ℕ) : Type 0 where
+  pub first : t.first ≡ s.first
+  pub memory : length t.memory ≡ length s.memory
+  pub objects : length t.objects ≡ length s.objects
+  pub stamped : (h : ℕ) → IsStamped (object_at t h) (version_at t h)
+  pub each : (h : ℕ) → IsSpared s t spans frames h ⊎ IsSentAway t spans frames h
+
+lies_never : (o : Object) (len place : ℕ) → LiesAt o len place → o ≡ never → ⊥
+lies_never o len place lies e = subst (λ (q : Object). LiesAt q len place) e lies
+
+-- a span that is left was there
+was_there : (spans : List (Option Contents)) (frames : List ℕ) (g : ℕ) (other : Contents)
+    → span_in (all_closed spans frames) g ≡ Some other
+    → (span_in spans g ≡ Some other) × All (λ f. f ≢ g) frames
+was_there spans frames g other at = elim (in_or_out frames g) [
+  | inl c ↦ absurd (some_none other (sym at ∙ closed_in spans frames g c))
+  | inr none ↦ (sym (closed_else spans frames g none) ∙ at, none)
+]
+
+none_some : (h : ℕ) → None ≡ Some h → ⊥
+none_some h e = cc
+
+span_named : (spans : List (Option Contents)) (f slot h : ℕ) → resident spans f slot ≡ Some h
+    → (span : Contents) × (span_in spans f ≡ Some span) × (handle_at span slot ≡ Some h)
+span_named spans f slot h named = go (span_in spans f) refl
+  where
+    go : (o : Option Contents) → span_in spans f ≡ o
+        → (span : Contents) × (span_in spans f ≡ Some span) × (handle_at span slot ≡ Some h)
+    go (Some span) e = (span, e, sym (ap (λ (o : Option Contents). handle_in o slot) e) ∙ named)
+    go None e = absurd (none_some h (sym (ap (λ (o : Option Contents). handle_in o slot) e) ∙ named))
+
+pub sound_gone : (far : FarState) (s t : Shown) (frames : List ℕ) (homes : List (Option Home))
+    → LocalSound s far → ((f : ℕ) → Contains frames f → f < length far.spans)
+    → AreSentOff s t far.spans frames → LocalSound t (with_homes far frames homes)
+sound_gone far s t frames homes sound within x = record {
+  known = record {
+    first = x.first ∙ sound.known.first;
+    bounded = omega (arith, sound.known.bounded, x.objects);
+    made = λ h below. elim (x.each h) [
+      | inl spared ↦ subst (λ (o : Object). far.made ≤ h ↔ (o ≡ never)) (sym spared.object)
+          (sound.known.made h (omega (arith, below, x.objects)))
+      | inr sent ↦
+          let y = span_named far.spans sent.named.0 sent.named.2.0 h sent.named.2.1 in
+          let n = sound.placed.named sent.named.0 sent.named.2.0 h y.0 y.1 y.2 in (
+            (λ m. absurd (lies_never (object_at s h) n.len
+                (slot_place y.0.class sent.named.0 sent.named.2.0) n.lies
+                ((sound.known.made h (omega (arith, below, x.objects))).0 m))),
+            (λ z. absurd (sent.made z)),
+          )
+    ];
+    stamped = x.stamped;
+  };
+  frames = record {
+    sized = length_closed far.spans frames ∙ sound.frames.sized ∙ sym (length_given far.frames frames);
+    free = λ g below. elim (in_or_out frames g) [
+      | inl c ↦ (
+        (λ z. closed_in far.spans frames g c),
+        (λ z. given_in far.frames frames g
+            (let n = length_given far.frames frames in omega (arith, n, below)) c),
+      )
+      | inr none ↦
+          subst (λ (o : Option Contents). IsFree (all_given far.frames frames) g ↔ (o ≡ None))
+          (sym (closed_else far.spans frames g none))
+          (subst (λ (b : Bool). (b ≡ true) ↔ (span_in far.spans g ≡ None))
+          (sym (given_else far.frames frames g none))
+          (sound.frames.free g (let n = length_given far.frames frames in omega (arith, n, below))))
+    ];
+    valid = λ g other at. sound.frames.valid g other (was_there far.spans frames g other at).0;
+    taken = λ g other at. sound.frames.taken g other (was_there far.spans frames g other at).0;
+  };
+  placed = record {
+    memory = x.memory ∙ sound.placed.memory
+        ∙ ap (λ (n : ℕ). 512 * n) (sym (length_closed far.spans frames));
+    placed = λ h len place lies. elim (x.each h) [
+      | inl spared ↦
+          let d = sound.placed.placed h len place
+          (subst (λ (o : Object). LiesAt o len place) spared.object lies) in
+          let named : resident far.spans d.frame d.slot ≡ Some h =
+          ap (λ (o : Option Contents). handle_in o d.slot) d.there ∙ d.named in
+          let off : All (λ f. f ≢ d.frame) frames =
+          elim (in_or_out frames d.frame) [
+            | inl c ↦ absurd (spared.absent (d.frame, c, (d.slot, named)))
+            | inr none ↦ none
+          ] in
+          record {
+            frame = d.frame;
+            slot = d.slot;
+            span = d.span;
+            there = closed_else far.spans frames d.frame off ∙ d.there;
+            named = d.named;
+            at = d.at;
+            fits = d.fits;
+          }
+      | inr sent ↦ absurd (sent.gone len place lies)
+    ];
+    named = λ g slot h other at taken.
+        let w = was_there far.spans frames g other at in
+        let d = sound.placed.named g slot h other w.0 taken in
+        elim (x.each h) [
+          | inl spared ↦ record {
+            len = d.len;
+            lies = subst (λ (o : Object). LiesAt o d.len (slot_place other.class g slot))
+                (sym spared.object) d.lies;
+          }
+          | inr sent ↦
+              let y = span_named far.spans sent.named.0 sent.named.2.0 h sent.named.2.1 in
+              let c = sound.placed.placed h d.len (slot_place other.class g slot) d.lies in
+              let one = one_slot far s h d.len (slot_place other.class g slot) g slot other sound
+              d.lies c w.0 taken in
+              let two = one_slot far s h d.len (slot_place other.class g slot) sent.named.0
+              sent.named.2.0 y.0 sound d.lies c y.1 y.2 in
+              absurd (out_of frames g w.1 (subst (Contains frames) (two.0 ∙ sym one.0) sent.named.1))
+        ];
+  };
+}

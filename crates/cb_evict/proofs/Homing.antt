@@ -1,0 +1,338 @@
+-- Objects get their homes, and their spans are taken out, one after another.
+use Rattle.std.proofs.Common.{◌≡◌, ◌≢◌, ℕ, zero, suc, ◌+◌, ◌^◌, ◌<◌, ◌≤◌, Bool, true, false, List, [], ◌∷◌, ◌++◌, length, take, set, get_or, All, Option, Some, None, sym, refl, ap, ◌∙◌, subst, arith, inl, inr, length-set, get_or-set_same, get_or-set_other}
+use Rattle.std.specs.List.{slice_get, AllPairs}
+use Rattle.std.specs.Option.{IfSome}
+use Rattle.std.proofs.lemmas.Bool.{cases_eq, cases_lt}
+use Rattle.std.proofs.lemmas.List.{take_more, length-take-le, get_or-take, get_or_past, take_all}
+use Rattle.std.proofs.lemmas.List.Elements.{Contains-append_left, Contains-push}
+use Rattle.std.proofs.lemmas.Option.{slice_get-get_or, get_or_from_slice_get}
+use Rattle.cb_frame.specs.FreeFrames.{with_given}
+use Rattle.cb_class.proofs.Laws.{slots_at_most}
+use Rattle.cb_span.specs.Contents.{Contents, IsSpan}
+use Rattle.cb_world.specs.declared.homes.Home.{Home}
+use Rattle.cb_world.specs.Homes.{home_at}
+use Rattle.cb_world.specs.FarState.{FarState, span_in, resident, handle_in}
+use Rattle.cb_evict.specs.Candidates.{AreUnique}
+use Rattle.cb_evict.specs.Storing.{slots_of}
+use Rattle.cb_evict.specs.Closing.{all_given, all_closed, HasHomes, HaveHomes, with_homes, ClosesSpan}
+use Rattle.cb_evict.proofs.Putting.{taken_at}
+use Rattle.cb_evict.proofs.Sharing.{get_pushed}
+
+-- the objects in the slots below n have their homes
+pub record HasSome (slots : List (Option ℕ)) (n id position : ℕ) (old new : List (Option Home))
+    : Type 0 where
+  pub count : length new ≡ length old
+  pub here : (slot h : ℕ) → slot < n → get_or slots slot None ≡ Some h
+      → home_at new h ≡ Some (record { set = id; position = position; slot = slot })
+  pub others : (h : ℕ) → ((slot : ℕ) → slot < n → get_or slots slot None ≡ Some h → ⊥)
+      → home_at new h ≡ home_at old h
+
+pub homes_none : (slots : List (Option ℕ)) (id position : ℕ) (homes : List (Option Home))
+    → HasSome slots 0 id position homes homes
+homes_none slots id position homes = record {
+  count = refl;
+  here = λ slot h below named. absurd (omega (arith, below));
+  others = λ h none. refl;
+}
+
+-- an empty slot gives no home
+pub home_skipped : (slots : List (Option ℕ)) (n id position : ℕ) (old now : List (Option Home))
+    → HasSome slots n id position old now → get_or slots n None ≡ None
+    → HasSome slots (n + 1) id position old now
+home_skipped slots n id position old now a empty = record {
+  count = a.count;
+  here = λ slot h below named. elim (cases_eq slot n) [
+    | inl e ↦ absurd (none_some h (sym empty ∙ ap (λ (k : ℕ). get_or slots k None) (sym e) ∙ named))
+    | inr off ↦ a.here slot h (omega (arith, below, off)) named
+  ];
+  others = λ h none. a.others h (λ slot below named. none slot (omega (arith, below)) named);
+}
+  where
+    none_some : (h : ℕ) → None ≡ Some h → ⊥
+    none_some h e = cc
+
+-- the object in the next slot gets its home
+pub home_more : (slots : List (Option ℕ)) (n id position h : ℕ) (old now : List (Option Home))
+    → HasSome slots n id position old now → get_or slots n None ≡ Some h → h < length old
+    → ((i j k : ℕ) → get_or slots i None ≡ Some k → get_or slots j None ≡ Some k → i ≡ j)
+    → HasSome slots (n + 1) id position old
+    (set now h (Some (record { set = id; position = position; slot = n })))
+home_more slots n id position h old now a named within apart =
+    let home : Home = record { set = id; position = position; slot = n } in record {
+      count = length-set now h (Some home) ∙ a.count;
+      here = λ slot k below there. elim (cases_eq slot n) [
+        | inl e ↦
+            let same : k ≡ h = some_same (sym there ∙ ap (λ (i : ℕ). get_or slots i None) e ∙ named) in
+            subst (λ (i : ℕ). home_at (set now h (Some home)) i
+            ≡ Some (record { set = id; position = position; slot = slot })) (sym same)
+            (get_or-set_same now h (Some home) None (omega (arith, within, a.count))
+            ∙ ap (λ (i : ℕ). let x : Home = record { set = id; position = position; slot = i } in Some x) (sym e))
+        | inr off ↦
+            get_or-set_other now h k (Some home) None
+            (λ same. off (apart slot n h (subst (λ (i : ℕ). get_or slots slot None ≡ Some i) same there) named))
+            ∙ a.here slot k (omega (arith, below, off)) there
+      ];
+      others = λ k none.
+          get_or-set_other now h k (Some home) None
+          (λ same. none n (omega arith) (subst (λ (i : ℕ). get_or slots n None ≡ Some i) (sym same) named))
+          ∙ a.others k (λ slot below there. none slot (omega (arith, below)) there);
+    }
+  where
+    some_same : {x y : ℕ} → Some x ≡ Some y → x ≡ y
+    some_same e = cc
+
+pub homes_all : (slots : List (Option ℕ)) (n id position : ℕ) (old new : List (Option Home))
+    → HasSome slots n id position old new → length slots ≤ n → HasHomes slots id position old new
+homes_all slots n id position old new a all = record {
+  count = a.count;
+  here = λ slot h named. a.here slot h (below slot h named) named;
+  others = λ h none. a.others h (λ slot l named. none slot named);
+}
+  where
+    below : (slot h : ℕ) → get_or slots slot None ≡ Some h → slot < n
+    below slot h named = let w = in_range slots slot h named in omega (arith, w, all)
+      where
+        in_range : (xs : List (Option ℕ)) (i k : ℕ) → get_or xs i None ≡ Some k → i < length xs
+        in_range [] i k e = absurd (none_some e)
+          where
+            none_some : None ≡ Some k → ⊥
+            none_some e = cc
+        in_range (x ∷ xs) zero k e = omega arith
+        in_range (x ∷ xs) (suc i) k e = let r = in_range xs i k e in omega (arith, r)
+
+-- ---- spans
+pub closed_last : (spans : List (Option Contents)) (xs : List ℕ) (x : ℕ)
+    → all_closed spans (xs ++ x ∷ []) ≡ set (all_closed spans xs) x None
+closed_last spans [] x = refl
+closed_last spans (y ∷ ys) x = closed_last (set spans y None) ys x
+
+pub given_last : (free : List Bool) (xs : List ℕ) (x : ℕ)
+    → all_given free (xs ++ x ∷ []) ≡ with_given (all_given free xs) x
+given_last free [] x = refl
+given_last free (y ∷ ys) x = given_last (with_given free y) ys x
+
+-- a span in another frame stays
+pub closed_else : (spans : List (Option Contents)) (frames : List ℕ) (f : ℕ)
+    → All (λ g. g ≢ f) frames → span_in (all_closed spans frames) f ≡ span_in spans f
+closed_else spans [] f none = refl
+closed_else spans (g ∷ frames) f none =
+    closed_else (set spans g None) frames f (λ k d l. none (suc k) d (omega (arith, l)))
+    ∙ get_or-set_other spans g f None None (λ e. none 0 0 (omega arith) (sym e))
+
+pub given_else : (free : List Bool) (frames : List ℕ) (f : ℕ) → All (λ g. g ≢ f) frames
+    → get_or (all_given free frames) f false ≡ get_or free f false
+given_else free [] f none = refl
+given_else free (g ∷ frames) f none =
+    given_else (with_given free g) frames f (λ k d l. none (suc k) d (omega (arith, l)))
+    ∙ get_or-set_other free g f true false (λ e. none 0 0 (omega arith) (sym e))
+
+pub length_closed : (spans : List (Option Contents)) (frames : List ℕ)
+    → length (all_closed spans frames) ≡ length spans
+length_closed spans [] = refl
+length_closed spans (f ∷ frames) = length_closed (set spans f None) frames ∙ length-set spans f None
+
+pub length_given : (free : List Bool) (frames : List ℕ)
+    → length (all_given free frames) ≡ length free
+length_given free [] = refl
+length_given free (f ∷ frames) = length_given (with_given free f) frames ∙ length-set free f true
+
+-- the spans in the first n frames are taken out
+pub record AreClosed (far new : FarState) (frames : List ℕ) (id : ℕ) : Type 0 where
+  pub state : new ≡ with_homes far frames new.homes
+  pub homes : HaveHomes far.spans frames id far.homes new.homes
+
+pub closed_none : (far : FarState) (id : ℕ) → AreClosed far far [] id
+closed_none far id = record {
+  state = refl;
+  homes = record {
+    count = refl;
+    here = λ p f slot h at named. absurd (none_some f at);
+    others = λ h none. refl;
+  };
+}
+  where
+    none_some : (f : ℕ) → None ≡ Some f → ⊥
+    none_some f e = cc
+
+-- the frame of a place is another than those before it
+pub none_before : (frames : List ℕ) (n : ℕ) → AllPairs (λ f g. f ≢ g) frames → n < length frames
+    → All (λ g. g ≢ get_or frames n 0) (take n frames)
+none_before frames n apart within i d l e =
+    let count : length (take n frames) ≡ n = length-take-le n frames (omega (arith, within)) in
+    let less : i < n = omega (arith, l, count) in
+    differ (sym (get_or-take n frames i d less) ∙ e) less
+  where
+    differ : get_or frames i d ≡ get_or frames n 0 → i < n → ⊥
+    differ e less = apart i n d less within (e ∙ default)
+      where
+        default : get_or frames n 0 ≡ get_or frames n d
+        default = get_or_from_slice_get frames n (get_or frames n d) 0 (slice_get-get_or frames n d within)
+
+slots_resident : (o : Option Contents) (slot : ℕ) → get_or (slots_of o) slot None ≡ handle_in o slot
+slots_resident None slot = refl
+slots_resident (Some span) slot = refl
+
+-- taking spans out names no more
+pub names_closed : (spans : List (Option Contents)) (frames : List ℕ) (f slot h : ℕ)
+    → resident (all_closed spans frames) f slot ≡ Some h → resident spans f slot ≡ Some h
+names_closed spans [] f slot h e = e
+names_closed spans (g ∷ frames) f slot h e =
+    back (names_closed (set spans g None) frames f slot h e)
+  where
+    none_some : (k : ℕ) → None ≡ Some k → ⊥
+    none_some k e = cc
+
+    back : resident (set spans g None) f slot ≡ Some h → resident spans f slot ≡ Some h
+    back x = elim (cases_eq f g) [
+      | inl same ↦ elim (cases_lt g (length spans)) [
+        | inl within ↦ absurd (none_some h (sym (ap (λ (o : Option Contents). handle_in o slot)
+            (ap (λ (i : ℕ). get_or (set spans g None) i None) same
+            ∙ get_or-set_same spans g None None within)) ∙ x))
+        | inr past ↦ absurd (none_some h (sym (ap (λ (o : Option Contents). handle_in o slot)
+            (ap (λ (i : ℕ). get_or (set spans g None) i None) same
+            ∙ get_or_past (set spans g None) g None (let n = length-set spans g None in omega (arith, n, past)))) ∙ x))
+      ]
+      | inr off ↦ sym (ap (λ (o : Option Contents). handle_in o slot) (get_or-set_other spans g f None None off)) ∙ x
+    ]
+
+pub unique_closed : (spans : List (Option Contents)) (frames : List ℕ) (n m : ℕ) → AreUnique spans n
+    → m ≡ n → AreUnique (all_closed spans frames) m
+unique_closed spans frames n m u e = record {
+  below = λ f h (slot, named). let b = u.below f h (slot, names_closed spans frames f slot h named) in
+      omega (arith, b, e);
+  one_frame = λ f g h (i, a) (j, b). u.one_frame f g h (i, names_closed spans frames f i h a)
+      (j, names_closed spans frames g j h b);
+  one_slot = λ f i j h a b. u.one_slot f i j h (names_closed spans frames f i h a)
+      (names_closed spans frames f j h b);
+}
+
+-- the next span is there still, and its frame is not free
+pub record IsNextFrame (far now : FarState) (f : ℕ) : Type 0 where
+  pub span : span_in now.spans f ≡ span_in far.spans f
+  pub free : get_or now.frames f false ≡ get_or far.frames f false
+  pub count : length now.frames ≡ length far.frames
+  pub places : length now.spans ≡ length far.spans
+  pub unique : AreUnique now.spans (length now.homes)
+
+pub next_frame : (far now : FarState) (frames : List ℕ) (n id : ℕ)
+    → AreClosed far now (take n frames) id → AllPairs (λ f g. f ≢ g) frames → n < length frames
+    → AreUnique far.spans (length far.homes) → IsNextFrame far now (get_or frames n 0)
+next_frame far now frames n id a apart within unique =
+    let off = none_before frames n apart within in
+    subst (λ (x : FarState). IsNextFrame far x (get_or frames n 0)) (sym a.state) (record {
+      span = closed_else far.spans (take n frames) (get_or frames n 0) off;
+      free = given_else far.frames (take n frames) (get_or frames n 0) off;
+      count = length_given far.frames (take n frames);
+      places = length_closed far.spans (take n frames);
+      unique = unique_closed far.spans (take n frames) (length far.homes) (length now.homes) unique a.homes.count;
+    })
+
+pub closed_more : (far now new : FarState) (frames : List ℕ) (n id : ℕ)
+    → AreClosed far now (take n frames) id → ClosesSpan now new id n (get_or frames n 0)
+    → AllPairs (λ f g. f ≢ g) frames → n < length frames → AreUnique far.spans (length far.homes)
+    → AreClosed far new (take (n + 1) frames) id
+closed_more far now new frames n id a x apart within unique =
+    let f = get_or frames n 0 in
+    let more = take_more frames n 0 within in
+    let next = next_frame far now frames n id a apart within unique in
+    let count : length (take n frames) ≡ n = length-take-le n frames (omega (arith, within)) in
+    let at : slice_get frames n ≡ Some f = slice_get-get_or frames n 0 within in
+    let named : (slot h : ℕ) → get_or (slots_of (span_in now.spans f)) slot None ≡ resident far.spans f slot =
+    λ slot h. slots_resident (span_in now.spans f) slot
+    ∙ ap (λ (o : Option Contents). handle_in o slot) next.span in
+    subst (λ (l : List ℕ). AreClosed far new l id) (sym more) (record {
+      state = x.state
+          ∙ ap (λ (y : FarState). let z : FarState = record y {
+            frames = with_given y.frames f;
+            spans = set y.spans f None;
+            homes = new.homes;
+          } in z) a.state
+          ∙ ap (λ (l : List Bool). let z : FarState = record far {
+            frames = l;
+            spans = set (all_closed far.spans (take n frames)) f None;
+            homes = new.homes;
+          } in z) (sym (given_last far.frames (take n frames) f))
+          ∙ ap (λ (l : List (Option Contents)). let z : FarState = record far {
+            frames = all_given far.frames (take n frames ++ f ∷ []);
+            spans = l;
+            homes = new.homes;
+          } in z) (sym (closed_last far.spans (take n frames) f));
+      homes = record {
+        count = x.homes.count ∙ a.homes.count;
+        here = λ p g slot h there is. elim (get_pushed (take n frames) f p g there) [
+          | inl old ↦ x.homes.others h (λ i e. differ p g slot h (taken_at frames n p g old) is i (sym (named i h) ∙ e))
+              ∙ a.homes.here p g slot h old is
+          | inr last ↦ subst (λ (i : ℕ). home_at new.homes h ≡ Some (record { set = id; position = i; slot = slot }))
+              (sym (last.0 ∙ count))
+              (x.homes.here slot h (named slot h ∙ subst (λ (i : ℕ). resident far.spans i slot ≡ Some h) (sym last.1) is))
+        ];
+        others = λ h none. x.homes.others h (λ slot e. none f (Contains-push (take n frames) f)
+            (slot, sym (named slot h) ∙ e))
+            ∙ a.homes.others h (λ g c named. none g (Contains-append_left (take n frames) (f ∷ []) g c) named);
+      };
+    })
+  where
+    differ : (p g slot h : ℕ) → (slice_get frames p ≡ Some g) × (p < n) → resident far.spans g slot ≡ Some h
+        → (i : ℕ) → resident far.spans (get_or frames n 0) i ≡ Some h → ⊥
+    differ p g slot h there is i e =
+        let same : g ≡ get_or frames n 0 = unique.one_frame g (get_or frames n 0) h (slot, is) (i, e) in
+        apart p n 0 there.1 within (get_or_from_slice_get frames p g 0 there.0 ∙ same)
+
+-- one slot more
+pub homes_step : (slots : List (Option ℕ)) (n id position : ℕ) (old now new : List (Option Home))
+    → HasSome slots n id position old now
+    → ((slot h : ℕ) → get_or slots slot None ≡ Some h → h < length old)
+    → ((i j k : ℕ) → get_or slots i None ≡ Some k → get_or slots j None ≡ Some k → i ≡ j)
+    → ((h : ℕ) → get_or slots n None ≡ Some h
+    → new ≡ set now h (Some (record { set = id; position = position; slot = n })))
+    → (get_or slots n None ≡ None → new ≡ now)
+    → HasSome slots (n + 1) id position old new
+homes_step slots n id position old now new a below apart put none = step (get_or slots n None) refl
+  where
+    step : (o : Option ℕ) → get_or slots n None ≡ o → HasSome slots (n + 1) id position old new
+    step None e = subst (HasSome slots (n + 1) id position old) (sym (none e))
+        (home_skipped slots n id position old now a e)
+    step (Some h) e = subst (HasSome slots (n + 1) id position old) (sym (put h e))
+        (home_more slots n id position h old now a e (below n h e) apart)
+
+pub object_below : (slots : List (Option ℕ)) (n count now : ℕ)
+    → ((slot h : ℕ) → get_or slots slot None ≡ Some h → h < count) → now ≡ count
+    → IfSome (get_or slots n None) (λ h. h < now)
+object_below slots n count now below same = step (get_or slots n None) refl
+  where
+    step : (o : Option ℕ) → get_or slots n None ≡ o → IfSome o (λ h. h < now)
+    step None e = tt
+    step (Some h) e = let b = below n h e in omega (arith, b, same)
+
+slot_in : (spans : List (Option Contents)) (f : ℕ) (slots : List (Option ℕ)) (slot h : ℕ)
+    → slots ≡ slots_of (span_in spans f) → get_or slots slot None ≡ Some h
+    → resident spans f slot ≡ Some h
+slot_in spans f slots slot h same named = sym (slots_resident (span_in spans f) slot)
+    ∙ ap (λ (l : List (Option ℕ)). get_or l slot None) (sym same) ∙ named
+
+pub slots_below : (spans : List (Option Contents)) (f n : ℕ) (slots : List (Option ℕ))
+    → AreUnique spans n → slots ≡ slots_of (span_in spans f)
+    → (slot h : ℕ) → get_or slots slot None ≡ Some h → h < n
+slots_below spans f n slots u same slot h named =
+    u.below f h (slot, slot_in spans f slots slot h same named)
+
+pub slots_apart : (spans : List (Option Contents)) (f n : ℕ) (slots : List (Option ℕ))
+    → AreUnique spans n → slots ≡ slots_of (span_in spans f)
+    → (i j h : ℕ) → get_or slots i None ≡ Some h → get_or slots j None ≡ Some h → i ≡ j
+slots_apart spans f n slots u same i j h a b =
+    u.one_slot f i j h (slot_in spans f slots i h same a) (slot_in spans f slots j h same b)
+
+-- a span has at most 256 slots
+pub span_slots : (span : Contents) → IsSpan span → length span.slots ≤ 256
+span_slots span valid =
+    let most = slots_at_most span.class valid.in_table in omega (arith, most, valid.sized)
+
+pub span_few : (span : Contents) (slots : List (Option ℕ)) → slots ≡ span.slots → IsSpan span
+    → length slots < 2 ^ 32
+span_few span slots same valid =
+    let n = span_slots span valid in let m = ap (λ (l : List (Option ℕ)). length l) same in omega (arith, n, m)
+
+pub all_closed_spans : (far new : FarState) (frames : List ℕ) (n id : ℕ)
+    → AreClosed far new (take n frames) id → length frames ≤ n → AreClosed far new frames id
+all_closed_spans far new frames n id a all =
+    subst (λ (l : List ℕ). AreClosed far new l id) (take_all n frames all) a

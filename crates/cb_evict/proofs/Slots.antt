@@ -1,0 +1,226 @@
+-- The events of a look or a claim.
+use Rattle.std.proofs.Common.{◌≡◌, ◌⊎◌, ℕ, ◌+◌, ◌<◌, ◌≤◌, true, false, List, [], ◌∷◌, ◌++◌, length, All, Option, None, Some, refl, ap, sym, ◌∙◌, subst, arith, inl, inr}
+use Rattle.std.specs.Option.{IfSome}
+use Rattle.std.proofs.lemmas.Bool.{cases_eq}
+use Rattle.std.proofs.lemmas.List.Elements.{All-nil, All-cons}
+use Rattle.cb_span.specs.Contents.{Contents, handle_at}
+use Rattle.cb_span.proofs.Laws.{slot_in_range}
+use Rattle.cb_world.specs.declared.leaving.Former.{Former}
+use Rattle.cb_world.specs.declared.shown.Shown.{Shown}
+use Rattle.cb_world.specs.declared.event.Event.{Event}
+use Rattle.cb_world.specs.declared.event.Event.TheVariants.{Looked, Claimed, Told, Loaded, Stored, Stamped, Settled}
+use Rattle.cb_world.specs.Looks.{AreLooks, IsFound, LooksFirst}
+use Rattle.cb_world.specs.Grasped.{IsFree}
+use Rattle.cb_world.proofs.Tracing.{found_more}
+use Rattle.cb_evict.specs.Looking.{IsSlotLoose}
+use Rattle.cb_evict.proofs.Events.{touches_quiet, found_after}
+use Rattle.cb_world.specs.FarState.{FarState}
+use Rattle.cb_evict.specs.Events.{Touches}
+use Rattle.cb_evict.specs.Claims.{AreApart}
+use Rattle.cb_evict.specs.Looking.{Has}
+use Rattle.cb_evict.specs.Claiming.{AreOf, Claims, ClaimsSlot, SlotNotes}
+use Rattle.cb_evict.proofs.Claims.{claim_of}
+use Rattle.cb_world.specs.Played.{played}
+use Rattle.cb_evict.proofs.Gathers.{Gathers, gathers_more}
+
+pub claim_touches : (before : List Event) (h w v : ℕ) (words : List ℕ) → AreLooks h before
+    → Touches (λ k. Some h ≡ Some k) (λ p. ⊥) (claim_of before h w v words)
+claim_touches [] h w v words a = (refl, tt)
+claim_touches (Looked k x ∷ es) h w v words a =
+    (ap (λ (n : ℕ). Some n) (sym a.0), claim_touches es h w v words a.1)
+claim_touches (Claimed k x u xs ∷ es) h w v words a = absurd a
+claim_touches (Settled k x ∷ es) h w v words a = absurd a
+claim_touches (Loaded p x ∷ es) h w v words a = absurd a
+claim_touches (Told k u ∷ es) h w v words a = absurd a
+claim_touches (Stored p x ∷ es) h w v words a = absurd a
+claim_touches (Stamped k u ∷ es) h w v words a = absurd a
+
+pub claim_looks_first : (before : List Event) (h w v : ℕ) (words : List ℕ) → AreLooks h before
+    → LooksFirst (claim_of before h w v words)
+claim_looks_first [] h w v words a = (tt, tt)
+claim_looks_first (Looked k x ∷ es) h w v words a = claim_looks_first es h w v words a.1
+claim_looks_first (Claimed k x u xs ∷ es) h w v words a = absurd a
+claim_looks_first (Settled k x ∷ es) h w v words a = absurd a
+claim_looks_first (Loaded p x ∷ es) h w v words a = absurd a
+claim_looks_first (Told k u ∷ es) h w v words a = absurd a
+claim_looks_first (Stored p x ∷ es) h w v words a = absurd a
+claim_looks_first (Stamped k u ∷ es) h w v words a = absurd a
+
+pub look_touches : (before : List Event) (h w : ℕ) → AreLooks h before
+    → Touches (λ k. Some h ≡ Some k) (λ p. ⊥) (before ++ Looked h w ∷ [])
+look_touches [] h w a = (refl, tt)
+look_touches (Looked k x ∷ es) h w a = (ap (λ (n : ℕ). Some n) (sym a.0), look_touches es h w a.1)
+look_touches (Claimed k x u xs ∷ es) h w a = absurd a
+look_touches (Settled k x ∷ es) h w a = absurd a
+look_touches (Loaded p x ∷ es) h w a = absurd a
+look_touches (Told k u ∷ es) h w a = absurd a
+look_touches (Stored p x ∷ es) h w a = absurd a
+look_touches (Stamped k u ∷ es) h w a = absurd a
+
+pub looks_first : (before : List Event) (h w : ℕ) → AreLooks h before
+    → LooksFirst (before ++ Looked h w ∷ [])
+looks_first [] h w a = tt
+looks_first (Looked k x ∷ es) h w a = looks_first es h w a.1
+looks_first (Claimed k x u xs ∷ es) h w a = absurd a
+looks_first (Settled k x ∷ es) h w a = absurd a
+looks_first (Loaded p x ∷ es) h w a = absurd a
+looks_first (Told k u ∷ es) h w a = absurd a
+looks_first (Stored p x ∷ es) h w a = absurd a
+looks_first (Stamped k u ∷ es) h w a = absurd a
+
+-- the span has the object in a slot below i
+abbrev pub HasBelow : Contents → ℕ → ℕ → Type 0
+HasBelow span i h = (slot : ℕ) × (slot < i) × (handle_at span slot ≡ Some h)
+
+-- ---- the claims of slots
+pub slot_of : (slot : Option ℕ) (es : List Event) (more : List Former) → SlotNotes true es slot more
+    → AreOf (λ h. slot ≡ Some h) more × AreApart more
+slot_of None es more e = subst (λ (l : List Former). AreOf (λ h. None ≡ Some h) l × AreApart l) (sym e) (
+  record { all = λ h x. absurd (none_some h x); only = All-nil (λ f. None ≡ Some f.handle) },
+  λ i j d less within. absurd (omega (arith, within)),
+)
+  where
+    none_some : (h : ℕ) → None ≡ Some h → ⊥
+    none_some h e = cc
+slot_of (Some h) es more (w, e) =
+    let f : Former = record { handle = h; word = w } in
+    subst (λ (l : List Former). AreOf (λ k. Some h ≡ Some k) l × AreApart l) (sym e) (
+      record {
+        all = λ k x. (f, (0, omega arith, refl), some_same k x);
+        only = All-cons (λ g. Some h ≡ Some g.handle) f [] refl (All-nil (λ g. Some h ≡ Some g.handle));
+      },
+      λ i j d less within. absurd (omega (arith, less, within)),
+    )
+  where
+    some_same : (k : ℕ) → Some h ≡ Some k → h ≡ k
+    some_same k e = cc
+
+pub slot_claimed : (runs : List Event → Type 0) (shows : Shown → Type 0) (slot : Option ℕ)
+    (old new : List Former) → (c : ClaimsSlot runs shows slot true old new)
+    → Gathers runs shows (λ h. slot ≡ Some h) (λ h. slot ≡ Some h) c.events c.more
+slot_claimed runs shows slot old new c = let x = slot_of slot c.events c.more c.notes in record {
+  ran = c.ran;
+  touches = c.touches;
+  first = c.first;
+  of = x.0;
+  within = λ h e. e;
+  each_once = x.1;
+  claims = c.claims;
+}
+
+pub slot_left : (runs : List Event → Type 0) (shows : Shown → Type 0) (slot : Option ℕ)
+    (old new : List Former) → (c : ClaimsSlot runs shows slot false old new)
+    → Gathers runs shows (λ h. slot ≡ Some h) (λ h. ⊥) c.events c.more
+slot_left runs shows slot old new c = record {
+  ran = c.ran;
+  touches = c.touches;
+  first = c.first;
+  of = record {
+    all = λ h x. absurd x;
+    only = subst (λ (l : List Former). All (λ f. ⊥) l) (sym c.notes.0) (All-nil (λ f. ⊥));
+  };
+  within = λ h x. absurd x;
+  each_once = subst AreApart (sym c.notes.0) (λ i j d less within. absurd (omega (arith, within)));
+  claims = c.claims;
+}
+
+-- the next slot's object is another than those before
+pub slot_apart : (span : Contents) (i : ℕ) (slot : Option ℕ) → slot ≡ handle_at span i
+    → ((i j h : ℕ) → handle_at span i ≡ Some h → handle_at span j ≡ Some h → i ≡ j)
+    → (h : ℕ) → HasBelow span i h → slot ≡ Some h → ⊥
+slot_apart span i slot e apart h (j, less, named) is =
+    let same = apart j i h named (sym e ∙ is) in absurd (omega (arith, less, same))
+
+pub slot_more : (span : Contents) (i : ℕ) (slot : Option ℕ) → slot ≡ handle_at span i → (h : ℕ)
+    → slot ≡ Some h → HasBelow span (i + 1) h
+slot_more span i slot e h is = (i, omega arith, sym e ∙ is)
+
+pub below_more : (span : Contents) (i h : ℕ) → HasBelow span i h → HasBelow span (i + 1) h
+below_more span i h (slot, less, named) = (slot, omega (arith, less), named)
+
+pub below_split : (span : Contents) (i : ℕ) (slot : Option ℕ) → slot ≡ handle_at span i → (h : ℕ)
+    → HasBelow span (i + 1) h → HasBelow span i h ⊎ (slot ≡ Some h)
+below_split span i slot e h (j, less, named) = elim (cases_eq j i) [
+  | inl same ↦ inr (e ∙ ap (λ (k : ℕ). handle_at span k) (sym same) ∙ named)
+  | inr off ↦ inl (j, omega (arith, less, off), named)
+]
+
+pub below_all : (span : Contents) (n h : ℕ) → length span.slots ≤ n → Has span h → HasBelow span n h
+below_all span n h all (slot, named) =
+    let w = slot_in_range span slot h named in (slot, omega (arith, w, all), named)
+
+pub below_has : (span : Contents) (n h : ℕ) → HasBelow span n h → Has span h
+below_has span n h (slot, less, named) = (slot, named)
+
+-- no slot is below the first
+pub nothing_yet : (runs : List Event → Type 0) (shows : Shown → Type 0) (span : Contents) → runs []
+    → ((far : FarState) → Claims shows far [] [])
+    → Gathers runs shows (HasBelow span 0) (HasBelow span 0) [] []
+nothing_yet runs shows span ran claims = record {
+  ran = ran;
+  touches = tt;
+  first = tt;
+  of = record {
+    all = λ h (slot, less, named). absurd (omega (arith, less));
+    only = All-nil (λ f. HasBelow span 0 f.handle);
+  };
+  within = λ h x. x;
+  each_once = λ i j d less within. absurd (omega (arith, within));
+  claims = claims;
+}
+
+pub slot_handle : (span : Contents) (i n : ℕ) (slot : Option ℕ) → slot ≡ handle_at span i
+    → ((h : ℕ) → Has span h → h < n) → IfSome slot (λ h. h < n)
+slot_handle span i n None e below = tt
+slot_handle span i n (Some h) e below = below h (i, sym e)
+
+-- one slot more, whose object could not be claimed
+pub slot_failed : (runsA runsB runsC : List Event → Type 0) (showsA showsB : Shown → Type 0)
+    (span : Contents) (i : ℕ) (slot : Option ℕ) (old new : List Former) (es : List Event)
+    (more : List Former)
+    → Gathers runsA showsA (HasBelow span i) (HasBelow span i) es more
+    → (x : ClaimsSlot runsB showsB slot false old new) → slot ≡ handle_at span i
+    → ((i j h : ℕ) → handle_at span i ≡ Some h → handle_at span j ≡ Some h → i ≡ j)
+    → (runsA es → runsB x.events → runsC (es ++ x.events))
+    → ((s : Shown) → runsA es → showsA s → showsB (played es s))
+    → Gathers runsC showsA (HasBelow span (i + 1)) (HasBelow span i) (es ++ x.events) (more ++ x.more)
+slot_failed runsA runsB runsC showsA showsB span i slot old new es more a x e apart run shown =
+    gathers_more runsA runsB runsC showsA showsB (HasBelow span i) (λ h. slot ≡ Some h)
+    (HasBelow span (i + 1)) (HasBelow span i) (λ h. ⊥) (HasBelow span i) es x.events more x.more a
+    (slot_left runsB showsB slot old new x) run shown (slot_apart span i slot e apart)
+    (below_more span i) (slot_more span i slot e) (λ h y. y) (λ h y. absurd y) (λ h y. inl y)
+
+-- one slot more, whose object was claimed, if there is one
+pub slot_succeeded : (runsA runsB runsC : List Event → Type 0) (showsA showsB : Shown → Type 0)
+    (span : Contents) (i : ℕ) (slot : Option ℕ) (old new : List Former) (es : List Event)
+    (more : List Former)
+    → Gathers runsA showsA (HasBelow span i) (HasBelow span i) es more
+    → (x : ClaimsSlot runsB showsB slot true old new) → slot ≡ handle_at span i
+    → ((i j h : ℕ) → handle_at span i ≡ Some h → handle_at span j ≡ Some h → i ≡ j)
+    → (runsA es → runsB x.events → runsC (es ++ x.events))
+    → ((s : Shown) → runsA es → showsA s → showsB (played es s))
+    → Gathers runsC showsA (HasBelow span (i + 1)) (HasBelow span (i + 1)) (es ++ x.events) (more ++ x.more)
+slot_succeeded runsA runsB runsC showsA showsB span i slot old new es more a x e apart run shown =
+    gathers_more runsA runsB runsC showsA showsB (HasBelow span i) (λ h. slot ≡ Some h)
+    (HasBelow span (i + 1)) (HasBelow span i) (λ h. slot ≡ Some h) (HasBelow span (i + 1))
+    es x.events more x.more a
+    (slot_claimed runsB showsB slot old new x) run shown (slot_apart span i slot e apart)
+    (below_more span i) (slot_more span i slot e) (below_more span i) (slot_more span i slot e)
+    (below_split span i slot e)
+
+-- one slot more was looked at
+pub slot_looks : (span : Contents) (i : ℕ) (slot : Option ℕ) (es fs : List Event)
+    → slot ≡ handle_at span i
+    → ((i j h : ℕ) → handle_at span i ≡ Some h → handle_at span j ≡ Some h → i ≡ j)
+    → ((h : ℕ) → HasBelow span i h → (w : ℕ) × IsFound h w es × IsFree w)
+    → Touches (λ h. slot ≡ Some h) (λ p. ⊥) fs → IsSlotLoose fs slot
+    → (h : ℕ) → HasBelow span (i + 1) h → (w : ℕ) × IsFound h w (es ++ fs) × IsFree w
+slot_looks span i slot es fs e apart a touches b h below = elim (below_split span i slot e h below) [
+  | inl old ↦ let x = a h old in (
+    x.0,
+    found_more h x.0 es fs x.1
+        (touches_quiet (λ k. slot ≡ Some k) (λ p. ⊥) h fs (slot_apart span i slot e apart h old) touches),
+    x.2,
+  )
+  | inr new ↦ let x = b h new in (x.0, found_after h x.0 es fs x.1, x.2)
+]

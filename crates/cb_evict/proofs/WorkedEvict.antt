@@ -1,0 +1,220 @@
+-- Worked examples of the rule and of the effect of an eviction: values that meet a definition, and for
+-- each of its parts one that breaks that part alone.
+use Rattle.std.proofs.Common.{◌≡◌, ℕ, ◌*◌, Bool, true, false, List, [], ◌∷◌, None, Some, refl, sym, ap, ◌∙◌, lit<, lit≤, arith, inl, inr}
+use Rattle.std.proofs.lemmas.Bool.{false≢true}
+use Rattle.std.specs.FinMap as map
+use Rattle.cb_class.specs.Class.{words_of, bytes_of}
+use Rattle.cb_member.specs.Membership.{fresh_members}
+use Rattle.cb_node.specs.NodesState.{empty_nodes}
+use Rattle.cb_span.specs.declared.temp.Temp.TheVariants.{Cold}
+use Rattle.cb_ptr.specs.Word.{len_of}
+use Rattle.cb_span.specs.Contents.{Contents, span_of}
+use Rattle.cb_types.specs.declared.config.Config.{Config}
+use Rattle.cb_types.specs.declared.reply.Reply.{Reply}
+use Rattle.cb_types.specs.declared.reply.Reply.TheVariants as answer
+use Rattle.cb_world.specs.declared.event.Event.{Event}
+use Rattle.cb_world.specs.declared.event.Event.TheVariants.{Claimed}
+use Rattle.cb_world.specs.declared.object.Object.TheVariants as is
+use Rattle.cb_world.specs.declared.shown.Shown.{Shown}
+use Rattle.cb_world.specs.Choices.{room_count}
+use Rattle.cb_world.specs.Still.{IsStill}
+use Rattle.cb_world.specs.FarState.{FarState}
+use Rattle.cb_world.specs.Looks.{IsFound, IsTaken}
+use Rattle.cb_world.specs.Memory.{window, words_for}
+use Rattle.cb_world.specs.RowWords.{words_from, words_in}
+use Rattle.cb_evict.specs.EvictRule.{IsInRow, HasFewSpans, HasFewNodes, HasBoth}
+use Rattle.cb_evict.specs.EvictEffect.{IsAway, EvictEffect}
+use Rattle.cb_evict.proofs.Composed.{few_spans}
+
+-- one node, with room for one row
+abbrev far : FarState
+far = record {
+  first = 1;
+  made = 2;
+  frames = false ∷ true ∷ [];
+  spans = None ∷ None ∷ [];
+  sets = map.empty;
+  homes = None ∷ None ∷ None ∷ [];
+  nodes = empty_nodes 1 1;
+  members = fresh_members 1;
+  leaving = None;
+  joining = None;
+  counts = record { turns = 0; by_job = []; sets = 0; keys = 0 };
+}
+
+-- two data rows and a parity
+abbrev config : Config
+config = record { k = 2; r = 1; nodes = 3; frames = 4; room = 2; handles = 3; turns = 0 }
+
+-- ---- too few spans
+one_span : HasFewSpans config far far (answer.NoSpans 1) (1 ∷ [])
+one_span = record { few = lit< tt; reply = refl; state = refl }
+
+not_enough_spans : HasFewSpans config far far (answer.NoSpans 2) (1 ∷ 3 ∷ []) → ⊥
+not_enough_spans a = let l = a.few in absurd (omega (arith, l))
+
+counts : (n m : ℕ) → answer.NoSpans n ≡ answer.NoSpans m → n ≡ m
+counts n m e = cc
+
+not_another_count : HasFewSpans config far far (answer.NoSpans 0) (1 ∷ []) → ⊥
+not_another_count a = let e = counts 0 1 a.reply in absurd (omega (arith, e))
+
+not_changed : HasFewSpans config far (record far { made = 3 }) (answer.NoSpans 1) (1 ∷ []) → ⊥
+not_changed a = let e : 3 ≡ 2 = ap (λ (f : FarState). f.made) a.state in absurd (omega (arith, e))
+
+-- ---- too few nodes: the one node has room
+one_node : room_count far.nodes far.members ≡ 1
+one_node = grind (arith, map.gets)
+
+few_nodes_room : HasFewNodes config far far (answer.NoNodes 1) (1 ∷ 3 ∷ [])
+few_nodes_room = record {
+  enough = lit≤ tt;
+  few = omega (arith, one_node);
+  reply = ap answer.NoNodes (sym one_node);
+  state = refl;
+}
+
+-- too few spans are told before too few nodes
+not_nodes_first : HasFewNodes config far far (answer.NoNodes 1) (1 ∷ []) → ⊥
+not_nodes_first a = let l = a.enough in absurd (omega (arith, l))
+
+-- one data row and one parity where one node has room
+not_enough_nodes : HasFewNodes (record config { k = 0 }) far far (answer.NoNodes 1) [] → ⊥
+not_enough_nodes a = let l = a.few in absurd (omega (arith, l, one_node))
+
+-- no set is made where a node is missing
+not_without_room : (r : Reply) (es : List Event) → HasBoth config far far r (1 ∷ 3 ∷ []) es → ⊥
+not_without_room r es a = let l = a.room in absurd (omega (arith, l, one_node))
+
+-- ---- an object in a row
+-- here, eight bytes, at place 0
+abbrev word : ℕ
+word = 65538
+
+abbrev claim : List ℕ → List Event
+claim words = Claimed 0 word 3 words ∷ []
+
+abbrev span : Contents
+span = span_of (record { index = 0 }) Cold (None ∷ Some 0 ∷ [])
+
+-- a row of zeros has an object whose word is 0
+in_row : IsInRow (claim (0 ∷ [])) span [] 1 0
+unfolding words_of bytes_of window words_from
+in_row = record {
+  word = word;
+  version = 3;
+  words = 0 ∷ [];
+  found = inr ((refl, refl), tt);
+  told = inr (refl, refl, refl);
+  contents = refl;
+}
+
+first_is : (a b : ℕ) → a ∷ [] ≡ b ∷ [] → a ≡ b
+first_is a b e = cc
+
+found_is : (w : ℕ) (words : List ℕ) → IsFound 0 w (claim words) → word ≡ w
+found_is w words (inl f) = absurd f
+found_is w words (inr f) = f.0.1
+
+told_is : (v : ℕ) (xs words : List ℕ) → IsTaken 0 v xs (claim words) → (3 ≡ v) × (words ≡ xs)
+told_is v xs words (inl f) = absurd f
+told_is v xs words (inr f) = (f.1, f.2)
+
+zeros : window (words_in []) (1 * words_of span.class) 1 ≡ 0 ∷ []
+unfolding words_of bytes_of window words_from
+zeros = refl
+
+-- an object whose word is 7 is not in a row of zeros
+not_in_row : IsInRow (claim (7 ∷ [])) span [] 1 0 → ⊥
+not_in_row a =
+    let t = told_is a.version a.words (7 ∷ []) a.told in
+    let e : 7 ∷ [] ≡ 0 ∷ [] = t.1 ∙ a.contents
+    ∙ ap (λ (w : ℕ). window (words_in []) (1 * words_of span.class) (words_for (len_of w)))
+    (sym (found_is a.word (7 ∷ []) a.found)) ∙ zeros in
+    let x = first_is 7 0 e in absurd (omega (arith, x))
+
+-- an object that was not claimed is in no row
+not_unclaimed : IsInRow [] span [] 1 0 → ⊥
+not_unclaimed a = a.found
+
+-- ---- nothing changes
+abbrev known : Shown
+known = record {
+  first = 1;
+  objects = is.Here 8 0 ∷ [];
+  hots = false ∷ [];
+  versions = 3 ∷ [];
+  memory = 0 ∷ [];
+}
+
+left : IsStill [] known known
+left = record {
+  objects = refl;
+  hots = refl;
+  versions = refl;
+  memory = refl;
+  nothing = λ old. refl;
+}
+
+heads : (a b : Bool) → a ∷ [] ≡ b ∷ [] → a ≡ b
+heads a b e = cc
+
+not_warmed : IsStill [] known (record known { hots = true ∷ [] }) → ⊥
+not_warmed a = false≢true (sym (heads true false a.hots))
+
+not_sent : IsStill [] known (record known { objects = is.Empty 4 ∷ [] }) → ⊥
+not_sent a = differ a.objects
+  where
+    differ : is.Empty 4 ∷ [] ≡ is.Here 8 0 ∷ [] → ⊥
+    differ e = cc
+
+-- ---- an object is away
+abbrev sent : ℕ → ℕ → ℕ → Bool → Shown
+sent len version content hot = record known {
+  objects = is.Far len version (content ∷ []) ∷ [];
+  hots = hot ∷ [];
+}
+
+away : IsAway (claim (7 ∷ [])) (sent 8 3 7 false) 0
+away = record {
+  word = word;
+  version = 3;
+  words = 7 ∷ [];
+  found = inr ((refl, refl), tt);
+  told = inr (refl, refl, refl);
+  object = refl;
+  cold = refl;
+}
+
+far_is : (len m version v : ℕ) (xs ys : List ℕ) → is.Far len version xs ≡ is.Far m v ys
+    → (len ≡ m) × (version ≡ v) × (xs ≡ ys)
+far_is len m version v xs ys e = (cc, cc, cc)
+
+-- with other contents than its claim told
+not_other_words : IsAway (claim (7 ∷ [])) (sent 8 3 6 false) 0 → ⊥
+not_other_words a =
+    let f = far_is _ _ _ _ _ _ a.object in let t = told_is a.version a.words (7 ∷ []) a.told in
+    let e = first_is 6 7 (f.2 ∙ sym t.1) in absurd (omega (arith, e))
+
+-- at another version
+not_newer : IsAway (claim (7 ∷ [])) (sent 8 4 7 false) 0 → ⊥
+not_newer a =
+    let f = far_is _ _ _ _ _ _ a.object in let t = told_is a.version a.words (7 ∷ []) a.told in
+    let e : 4 ≡ 3 = f.1 ∙ sym t.0 in absurd (omega (arith, e))
+
+not_hot : IsAway (claim (7 ∷ [])) (sent 8 3 7 true) 0 → ⊥
+not_hot a = false≢true (sym a.cold)
+
+not_here : IsAway (claim (7 ∷ [])) known 0 → ⊥
+not_here a = differ _ _ _ a.object
+  where
+    differ : (len v : ℕ) (xs : List ℕ) → is.Here 8 0 ≡ is.Far len v xs → ⊥
+    differ len v xs e = cc
+
+-- ---- the effect of a refusal
+refused : EvictEffect far far (answer.NoSpans 1) [] known known
+refused = record { evicted = λ id e. absurd (few_spans 1 _ id refl e); left = λ none. left }
+
+-- a refusal changes nothing
+not_refused : EvictEffect far far (answer.NoSpans 1) [] known (record known { hots = true ∷ [] }) → ⊥
+not_refused a = not_warmed (a.left (λ id e. few_spans 1 _ id refl e))

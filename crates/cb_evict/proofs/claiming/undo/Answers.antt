@@ -1,0 +1,23 @@
+use Rattle.std.proofs.Common.{List, drop, All, ap, sym, subst, ◌∙◌}
+use Rattle.std.proofs.lemmas.List.{take_rest}
+use Rattle.cb_world.specs.declared.leaving.Former.{Former}
+use Rattle.cb_world.specs.declared.shown.Shown.{Shown}
+use Rattle.cb_world.specs.FarState.{FarState}
+use Rattle.cb_world.specs.LocalSound.{LocalSound}
+use Rattle.cb_evict.specs.Claims.{IsHeldAt}
+use Rattle.cb_evict.specs.Claiming.{GivesBack}
+use Rattle.cb_evict.proofs.claiming.undo.Goals as goal
+
+pub give_back-requires-clause-held : goal.give_back-requires-clause-held
+give_back-requires-clause-held g c =
+    let part = take_rest c.deref.result.now c.args.start
+    ∙ ap (λ (l : List Former). drop c.args.start l) c.deref.ensures.value in
+    subst (λ (l : List Former). (s : Shown) × g.D.Desk.shows c.args.desk.now s
+    × ((far : FarState) × LocalSound s far × All (IsHeldAt s) l)) (sym part) c.requires.held
+
+pub returns-clause-back : goal.returns-clause-back
+returns-clause-back g c =
+    let part = take_rest c.deref.result.now c.args.start
+    ∙ ap (λ (l : List Former). drop c.args.start l) c.deref.ensures.value in
+    subst (λ (l : List Former). GivesBack (λ es. g.D.Desk.run c.args.desk.now es c.give_back.new.desk)
+    (λ s. g.D.Desk.shows c.args.desk.now s) l) part c.give_back.ensures

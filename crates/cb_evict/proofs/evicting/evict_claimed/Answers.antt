@@ -1,0 +1,220 @@
+use Rattle.std.proofs.Common.{◌<◌, List, ◌++◌, length, get_or, All, sym, ap, ◌∙◌, subst, arith, rules}
+use Rattle.cb_frame.specs.FreeFrames.{IsFree}
+use Rattle.cb_types.specs.declared.config.Config.{Config}
+use Rattle.cb_types.specs.declared.config.Field.TheVariants.{K}
+use Rattle.cb_world.specs.declared.event.Event.{Event}
+use Rattle.cb_world.specs.declared.shown.Shown.{Shown}
+use Rattle.cb_world.specs.Played.{played}
+use Rattle.cb_world.specs.Allowed.{Allowed}
+use Rattle.cb_world.specs.FarState.{FarState, span_in}
+use Rattle.cb_world.proofs.Untouched.{allowed_append}
+use Rattle.cb_evict.specs.Candidates.{AreUnique}
+use Rattle.cb_evict.specs.Evicting.{IsReady}
+use Rattle.cb_evict.specs.Loading.{LiesInOne}
+use Rattle.cb_evict.proofs.Events.{are_reads, first_append}
+use Rattle.cb_evict.proofs.Evicts.{told_all}
+use Rattle.cb_evict.proofs.Ending.{taken_ready, place_in, handles_all, code_range, done, IsEnd, end_quiet, ended, state_then, homes_then, taken_in, spans_touched, frames_below}
+use Rattle.cb_evict.proofs.NewSet.{can_put}
+use Rattle.cb_evict.proofs.Restored.{batch_back}
+use Rattle.cb_evict.proofs.Standing.{are_unique}
+use Rattle.cb_evict.proofs.evicting.evict_claimed.Goals as goal
+
+pub load_frames-requires-clause-few : goal.load_frames-requires-clause-few
+load_frames-requires-clause-few g c =
+    let most = c.requires.config K in omega (arith, most.1, c.requires.taken.count)
+
+pub load_frames-requires-clause-frames : goal.load_frames-requires-clause-frames
+load_frames-requires-clause-frames g c =
+    let r = c.requires.ready.2 in
+    let sized = g.met.D.Desk.sized _ (played c.requires.ready.0 c.requires.ready.1) r.shown in
+    frames_below _ c.args.far.now c.args.frames.now c.args.formers.now c.requires.ready.1
+    (played c.requires.ready.0 c.requires.ready.1) _ c.requires.taken r.sound.here r.here sized.3
+
+pub keep_set-requires-clause-there : goal.keep_set-requires-clause-there
+keep_set-requires-clause-there g c = λ k d l.
+    let x = taken_ready _ c.args.far.now c.args.frames.now c.args.formers.now c.requires.ready.1
+    c.requires.taken c.requires.ready.2.sound.here (get_or c.args.frames.now k d)
+    (place_in c.args.frames.now k d l) in (x.span, x.there)
+
+pub keep_set-requires-clause-range : goal.keep_set-requires-clause-range
+keep_set-requires-clause-range g c =
+    let range = code_range _ c.requires.config in record {
+      data_least = omega (arith, range.data_least, c.requires.taken.count);
+      data_most = omega (arith, range.data_most, c.requires.taken.count);
+      parities_least = omega (arith, range.parities_least, c.requires.taken.count, c.requires.shards.count);
+      parities_most = omega (arith, range.parities_most, c.requires.taken.count, c.requires.shards.count);
+    }
+
+pub keep_set-requires-clause-can : goal.keep_set-requires-clause-can
+keep_set-requires-clause-can g c =
+    can_put c.args.far.now _ c.args.shards.now c.requires.shards
+    c.requires.ready.2.sound.away.sound.rows
+
+pub send-requires-clause-handles : goal.send-requires-clause-handles
+send-requires-clause-handles g c =
+    let r = c.requires.ready.2 in
+    let sized = g.met.D.Desk.sized _ (played c.requires.ready.0 c.requires.ready.1) r.shown in
+    let stays = g.met.D.Desk.stays _ _ c.load_frames.ensures.loads.events c.load_frames.ensures.loads.ran in
+    handles_all c.requires.ready.0 c.requires.ready.1 _ c.args.formers.now _ r.claimed
+    (sized.0 ∙ ap (λ (n : Config). n.handles) (sym stays))
+
+pub send-requires-clause-apart : goal.send-requires-clause-apart
+send-requires-clause-apart g c = c.requires.taken.each_once
+
+-- what is known after the reads is what was known
+pub send-requires-clause-told : goal.send-requires-clause-told
+send-requires-clause-told g c =
+    let r = c.requires.ready.2 in let t = played c.requires.ready.0 c.requires.ready.1 in
+    let x = c.load_frames.ensures.loads in
+    let reads = are_reads (LiesInOne c.args.frames.now) x.events x.loads in
+    let sized = g.met.D.Desk.sized _ t r.shown in (
+      t,
+      subst (λ (v : Shown). g.D.Desk.shows c.load_frames.new.desk v) (reads.stays t)
+          (g.met.D.Desk.follows _ _ x.events t x.ran r.shown).1,
+      told_all c.args.far.now c.requires.ready.0 c.requires.ready.1 t c.args.formers.now r.claimed
+          r.here (sized.1 ∙ sym sized.0),
+    )
+
+pub give_back-requires-clause-handles : goal.give_back-requires-clause-handles
+give_back-requires-clause-handles g c =
+    let r = c.requires.ready.2 in
+    let sized = g.met.D.Desk.sized _ (played c.requires.ready.0 c.requires.ready.1) r.shown in
+    let stays = g.met.D.Desk.stays _ _ c.load_frames.ensures.loads.events c.load_frames.ensures.loads.ran in
+    handles_all c.requires.ready.0 c.requires.ready.1 _ c.args.formers.now _ r.claimed
+    (sized.0 ∙ ap (λ (n : Config). n.handles) (sym stays))
+
+pub give_back-requires-clause-apart : goal.give_back-requires-clause-apart
+give_back-requires-clause-apart g c = c.requires.taken.each_once
+
+pub give_back-requires-clause-held : goal.give_back-requires-clause-held
+give_back-requires-clause-held g c =
+    let r = c.requires.ready.2 in let t = played c.requires.ready.0 c.requires.ready.1 in
+    let x = c.load_frames.ensures.loads in
+    let reads = are_reads (LiesInOne c.args.frames.now) x.events x.loads in (
+      t,
+      subst (λ (v : Shown). g.D.Desk.shows c.load_frames.new.desk v) (reads.stays t)
+          (g.met.D.Desk.follows _ _ x.events t x.ran r.shown).1,
+      (c.args.far.now, r.here, λ k d l. (r.claimed.taken k d l).at),
+    )
+
+pub close_spans-requires-clause-there : goal.close_spans-requires-clause-there
+close_spans-requires-clause-there g c =
+    let kept = c.in-Ok.ensures.kept in λ k d l.
+    let x = taken_ready _ c.args.far.now c.args.frames.now c.args.formers.now c.requires.ready.1
+    c.requires.taken c.requires.ready.2.sound.here (get_or c.args.frames.now k d)
+    (place_in c.args.frames.now k d l) in
+    (x.span, ap (λ (f : FarState). span_in f.spans (get_or c.args.frames.now k d)) kept.state ∙ x.there)
+
+pub close_spans-requires-clause-unique : goal.close_spans-requires-clause-unique
+close_spans-requires-clause-unique g c =
+    let kept = c.in-Ok.ensures.kept in let r = c.requires.ready.2 in
+    let t = played c.requires.ready.0 c.requires.ready.1 in
+    let sized = g.met.D.Desk.sized _ t r.shown in
+    subst (λ (f : FarState). AreUnique f.spans (length f.homes)) (sym kept.state)
+    (are_unique c.args.far.now t (length c.args.far.now.homes) r.here
+    (sized.0 ∙ sym c.requires.configured.homes))
+
+pub close_spans-requires-clause-apart : goal.close_spans-requires-clause-apart
+close_spans-requires-clause-apart g c = c.requires.taken.apart
+
+pub close_spans-requires-clause-within : goal.close_spans-requires-clause-within
+close_spans-requires-clause-within g c =
+    let kept = c.in-Ok.ensures.kept in
+    subst (λ (y : FarState). All (λ f. (f < length y.frames) × (f < length y.spans)) c.args.frames.now)
+    (sym kept.state) (λ k d l.
+    let x = taken_ready _ c.args.far.now c.args.frames.now c.args.formers.now c.requires.ready.1
+    c.requires.taken c.requires.ready.2.sound.here (get_or c.args.frames.now k d)
+    (place_in c.args.frames.now k d l) in (x.counted, x.within))
+
+pub close_spans-requires-clause-busy : goal.close_spans-requires-clause-busy
+close_spans-requires-clause-busy g c =
+    let kept = c.in-Ok.ensures.kept in
+    subst (λ (y : FarState). All (λ f. ¬ (IsFree y.frames f)) c.args.frames.now)
+    (sym kept.state) (λ k d l.
+    (taken_ready _ c.args.far.now c.args.frames.now c.args.formers.now c.requires.ready.1
+    c.requires.taken c.requires.ready.2.sound.here (get_or c.args.frames.now k d)
+    (place_in c.args.frames.now k d l)).busy)
+
+pub close_spans-requires-clause-few : goal.close_spans-requires-clause-few
+close_spans-requires-clause-few g c =
+    let most = c.requires.config K in omega (arith, most.1, c.requires.taken.count)
+
+pub returns-in-Ok-clause-evict : goal.returns-in-Ok-clause-evict
+returns-in-Ok-clause-evict g c =
+    let x = c.load_frames.ensures.loads in let y = c.send.ensures in
+    let kept = c.in-Ok.ensures.kept in
+    let far = c.args.far.now in let frames = c.args.frames.now in let formers = c.args.formers.now in
+    let reads = are_reads (LiesInOne frames) x.events x.loads in
+    let end : IsEnd (LiesInOne frames) formers x.events y.events =
+    record { reads = reads; touches = y.touches; quiet = y.quiet } in
+    let shows = λ (t : Shown). g.D.Desk.shows c.args.desk.now t in
+    let is = state_then far c.keep_set.new.far c.close_spans.new.far frames c.args.shards.now _
+    kept.state c.close_spans.ensures.state in
+    let homed = homes_then far c.keep_set.new.far frames c.args.shards.now _ _ _ kept.state
+    (search rules) c.close_spans.ensures.homes in
+    let shown = λ (before : List Event) (s : Shown) (r : IsReady shows far formers before s).
+    subst (λ (v : Shown). g.D.Desk.shows c.load_frames.new.desk v) (reads.stays (played before s))
+    (g.met.D.Desk.follows _ _ x.events (played before s) x.ran r.shown).1 in
+    let told = λ (before : List Event) (s : Shown) (r : IsReady shows far formers before s).
+    let sized = g.met.D.Desk.sized _ (played before s) r.shown in
+    told_all far before s (played before s) formers r.claimed r.here (sized.1 ∙ sym sized.0) in
+    let all = λ (before : List Event) (s : Shown) (r : IsReady shows far formers before s).
+    ended (g.D.Desk.settings c.args.desk.now) far c.close_spans.new.far frames formers c.args.shards.now _
+    c.close_spans.new.far.homes (LiesInOne frames) _ _ before x.events y.events s
+    (done (g.D.Desk.settings c.args.desk.now) far c.keep_set.new.far frames formers c.args.shards.now
+    c.load_frames.new.rows c.close_spans.new.far.homes shows before s _ c.requires.config r
+    c.requires.taken (y.sent (played before s) (shown before s r) (told before s r)) c.requires.shards
+    kept (search rules) x.made homed)
+    end is r.steady
+    (spans_touched _ far frames formers (LiesInOne frames) before x.events y.events s c.requires.taken
+    r.touches end)
+    (y.nothing (played before s) (shown before s r) (told before s r)) in
+    record {
+      events = x.events ++ y.events;
+      ran = g.met.D.Desk.more _ _ _ _ _ x.ran y.ran;
+      touches = taken_in _ far frames formers x.events y.events c.requires.taken end;
+      quiet = end_quiet (LiesInOne frames) formers x.events y.events end;
+      first = first_append (λ h. ⊥) (LiesInOne frames) x.events y.events reads.touches reads.first
+          y.first (λ h e. absurd e);
+      allowed = λ before s r. allowed_append x.events y.events (played before s)
+          (reads.steady (played before s)).allowed
+          (subst (λ (v : Shown). Allowed v y.events) (sym (reads.stays (played before s)))
+          (y.allowed (played before s) (shown before s r) (told before s r)));
+      evicted = λ before s r. (all before s r).evicted;
+      sound = λ before s r. (all before s r).sound;
+      effect = λ before s r. (all before s r).effect;
+    }
+
+pub returns-in-Err-clause-error : goal.returns-in-Err-clause-error
+returns-in-Err-clause-error g c =
+    let x = c.load_frames.ensures.loads in let y = c.give_back.ensures in
+    let far = c.args.far.now in let frames = c.args.frames.now in let formers = c.args.formers.now in
+    let reads = are_reads (LiesInOne frames) x.events x.loads in
+    let end : IsEnd (LiesInOne frames) formers x.events y.events =
+    record { reads = reads; touches = y.touches; quiet = y.quiet } in
+    let shows = λ (t : Shown). g.D.Desk.shows c.args.desk.now t in
+    let back = λ (before : List Event) (s : Shown) (r : IsReady shows far formers before s).
+    y.back (played before s) far
+    (subst (λ (v : Shown). g.D.Desk.shows c.load_frames.new.desk v) (reads.stays (played before s))
+    (g.met.D.Desk.follows _ _ x.events (played before s) x.ran r.shown).1)
+    r.here (λ k d l. (r.claimed.taken k d l).at) in
+    let all = λ (before : List Event) (s : Shown) (r : IsReady shows far formers before s).
+    let b = back before s r in
+    batch_back far formers (LiesInOne frames) _ _ before x.events y.events s r.sound r.claimed
+    r.steady end b.0 b.1 b.2
+    (spans_touched _ far frames formers (LiesInOne frames) before x.events y.events s c.requires.taken
+    r.touches end) in
+    record {
+      events = x.events ++ y.events;
+      ran = g.met.D.Desk.more _ _ _ _ _ x.ran y.ran;
+      touches = taken_in _ far frames formers x.events y.events c.requires.taken end;
+      quiet = end_quiet (LiesInOne frames) formers x.events y.events end;
+      first = first_append (λ h. ⊥) (LiesInOne frames) x.events y.events reads.touches reads.first
+          y.first (λ h e. absurd e);
+      allowed = λ before s r. allowed_append x.events y.events (played before s)
+          (reads.steady (played before s)).allowed
+          (subst (λ (v : Shown). Allowed v y.events) (sym (reads.stays (played before s)))
+          (back before s r).2.allowed);
+      sound = λ before s r. (all before s r).1;
+      left = λ before s r. (all before s r).0;
+    }

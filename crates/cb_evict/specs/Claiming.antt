@@ -1,0 +1,113 @@
+-- The claims of spans.
+use Rattle.std.specs.Prelude.{◌≡◌, ◌≢◌, ◌⊎◌, ℕ, ◌≤◌, Bool, true, false, ◌++◌, List, [], ◌∷◌, Option, None, Some, All, length}
+use Rattle.std.specs.List.{Contains, AllPairs}
+use Rattle.cb_span.specs.Contents.{Contents}
+use Rattle.cb_world.specs.declared.event.Event.{Event}
+use Rattle.cb_world.specs.declared.leaving.Former.{Former}
+use Rattle.cb_world.specs.declared.shown.Shown.{Shown}
+use Rattle.cb_world.specs.Played.{played}
+use Rattle.cb_world.specs.Looks.{NoLook, LooksFirst}
+use Rattle.cb_world.specs.FarState.{FarState}
+use Rattle.cb_world.specs.LocalSound.{LocalSound}
+use Rattle.cb_evict.specs.Candidates.{Names, IsLoose, IsHeldUp, AreLoose}
+use Rattle.cb_evict.specs.Looking.{Has, IsIn, IsSlotHeldUp, SpanFinds}
+use Rattle.cb_evict.specs.Events.{Touches, IsSteady}
+use Rattle.cb_evict.specs.Claims.{AreClaimed, AreBack, AreApart, IsHeldAt}
+
+-- one of these objects
+abbrev pub IsOne : List Former → ℕ → Type 0
+IsOne formers h = (former : Former) × Contains formers former × (former.handle ≡ h)
+
+-- what claims do, for all knowledge that the desk shows and of which the local part is sound: these
+-- objects are claimed, and the events are allowed and write no version
+abbrev pub Claims : (Shown → Type 0) → FarState → List Event → List Former → Type 0
+Claims shows far es formers = (s : Shown) → shows s → LocalSound s far
+    → AreClaimed es s (played es s) formers × LocalSound (played es s) far × IsSteady es s
+
+-- claimed objects are settled at the words that are noted
+pub record GivesBack (runs : List Event → Type 0) (shows : Shown → Type 0) (formers : List Former)
+    : Type 0 where
+  pub events : List Event
+  pub ran : runs events
+  pub touches : Touches (IsOne formers) (λ p. ⊥) events
+  pub quiet : (k : ℕ) → NoLook k events
+  pub first : LooksFirst events
+  pub back : (s : Shown) (far : FarState) → shows s → LocalSound s far → All (IsHeldAt s) formers
+      → AreBack s (played events s) formers × LocalSound (played events s) far
+      × IsSteady events s
+
+-- what came of the claim of the object in a slot, if there is one: it is noted, or it was found at a
+-- word at which it can't be claimed
+abbrev pub SlotNotes : Bool → List Event → Option ℕ → List Former → Type 0
+SlotNotes true es None more = more ≡ []
+SlotNotes true es (Some h) more = (w : ℕ) × (more ≡ (record { handle = h; word = w }) ∷ [])
+SlotNotes false es slot more = (more ≡ []) × IsSlotHeldUp es slot
+
+-- the claim of the object in a slot
+pub record ClaimsSlot (runs : List Event → Type 0) (shows : Shown → Type 0) (slot : Option ℕ)
+    (claimed : Bool) (old new : List Former) : Type 0 where
+  pub events : List Event
+  pub ran : runs events
+  pub touches : Touches (λ h. slot ≡ Some h) (λ p. ⊥) events
+  pub first : LooksFirst events
+  pub more : List Former
+  pub noted : new ≡ old ++ more
+  pub notes : SlotNotes claimed events slot more
+  pub claims : (far : FarState) → Claims shows far events more
+
+-- the objects of the span are those that are noted
+pub record AreOf (has : ℕ → Type 0) (formers : List Former) : Type 0 where
+  pub all : (h : ℕ) → has h → IsOne formers h
+  pub only : All (λ former. has former.handle) formers
+
+abbrev pub SpanNotes : Bool → List Event → Contents → List Former → Type 0
+SpanNotes true es span more = AreOf (Has span) more
+SpanNotes false es span more = (more ≡ []) × SpanFinds false es span
+
+-- the claim of all objects of a span, or of none
+pub record ClaimsSpan (runs : List Event → Type 0) (shows : Shown → Type 0) (span : Contents)
+    (claimed : Bool) (old new : List Former) : Type 0 where
+  pub events : List Event
+  pub ran : runs events
+  pub touches : Touches (Has span) (λ p. ⊥) events
+  pub first : LooksFirst events
+  pub more : List Former
+  pub noted : new ≡ old ++ more
+  pub notes : SpanNotes claimed events span more
+  pub each_once : AreApart more
+  pub claims : (far : FarState) → Claims shows far events more
+
+-- the claim of the span in a frame, which is added if all its objects are claimed
+pub record ClaimsFrame (runs : List Event → Type 0) (shows : Shown → Type 0)
+    (spans : List (Option Contents)) (f : ℕ) (old new : List ℕ) (before after : List Former)
+    : Type 0 where
+  pub events : List Event
+  pub ran : runs events
+  pub touches : Touches (Names spans f) (λ p. ⊥) events
+  pub first : LooksFirst events
+  pub more : List Former
+  pub noted : after ≡ before ++ more
+  pub notes : (AreOf (Names spans f) more × (new ≡ old ++ f ∷ []) × IsLoose events spans f)
+      ⊎ ((more ≡ []) × (new ≡ old) × IsHeldUp events spans f)
+  pub each_once : AreApart more
+  pub claims : (far : FarState) → Claims shows far events more
+
+-- the claims of the spans in some frames, one after another, until k of them are claimed: the spans
+-- in these frames are, and the objects that are noted are theirs
+pub record ClaimsSpans (runs : List Event → Type 0) (shows : Shown → Type 0)
+    (spans : List (Option Contents)) (loose : List ℕ) (k : ℕ) (frames : List ℕ)
+    (formers : List Former) : Type 0 where
+  pub events : List Event
+  pub ran : runs events
+  pub touches : Touches (IsIn spans loose) (λ p. ⊥) events
+  pub first : LooksFirst events
+  pub rest : List ℕ
+  pub few : length frames ≤ k
+  pub stops : (length frames ≡ k) ⊎ (rest ≡ [])
+  pub found : (before : List Event) (all : List ℕ) → AllPairs (λ f g. f ≢ g) all
+      → AreLoose before spans all loose → AreLoose (before ++ events) spans all (frames ++ rest)
+  pub among : All (Contains loose) frames
+  pub apart : AllPairs (λ f g. f ≢ g) frames
+  pub of : AreOf (IsIn spans frames) formers
+  pub each_once : AreApart formers
+  pub claims : (far : FarState) → Claims shows far events formers

@@ -1,0 +1,81 @@
+-- The rule of an eviction.
+use Rattle.std.specs.Prelude.{◌≡◌, ◌⊎◌, ℕ, ◌+◌, ◌*◌, ◌<◌, ◌≤◌, List, Some, length, take, slice_get}
+use Rattle.cb_class.specs.Class.{words_of}
+use Rattle.cb_gf256.specs.Rows.{row_at}
+use Rattle.cb_member.specs.declared.names.Shard.{Shard}
+use Rattle.cb_ptr.specs.Word.{len_of}
+use Rattle.cb_span.specs.Contents.{Contents, handle_at}
+use Rattle.cb_types.specs.declared.config.Config.{Config}
+use Rattle.cb_types.specs.declared.reply.Reply.{Reply}
+use Rattle.cb_types.specs.declared.reply.Reply.TheVariants as answer
+use Rattle.cb_world.specs.declared.event.Event.{Event}
+use Rattle.cb_world.specs.Choices.{room_count}
+use Rattle.cb_world.specs.FarState.{FarState, span_in}
+use Rattle.cb_world.specs.Looks.{IsFound, IsTaken}
+use Rattle.cb_world.specs.Memory.{window, words_for}
+use Rattle.cb_world.specs.RowWords.{words_in}
+use Rattle.cb_world.specs.SetWord.{IsSpanWord}
+use Rattle.cb_evict.specs.Candidates.{candidates, AreLoose}
+use Rattle.cb_evict.specs.Events.{Touches}
+use Rattle.cb_evict.specs.Looking.{IsIn}
+use Rattle.cb_evict.specs.Loading.{LiesInOne}
+use Rattle.cb_evict.specs.Storing.{AreShards, with_set}
+use Rattle.cb_evict.specs.Closing.{HaveHomes, with_homes}
+
+-- the object was claimed, and the words that the claim told stand in its slot of the row
+pub record IsInRow (es : List Event) (span : Contents) (row : List ℕ) (slot h : ℕ) : Type 0 where
+  pub word : ℕ
+  pub version : ℕ
+  pub words : List ℕ
+  pub found : IsFound h word es
+  pub told : IsTaken h version words es
+  pub contents : words ≡ window (words_in row) (slot * words_of span.class) (words_for (len_of word))
+
+-- the rows have the words of the objects of the spans in these frames, each at its frame's place
+abbrev pub AreInRows : List Event → FarState → List ℕ → List (List ℕ) → Type 0
+AreInRows es far frames rows = (p f slot h : ℕ) (span : Contents) → slice_get frames p ≡ Some f
+    → span_in far.spans f ≡ Some span → handle_at span slot ≡ Some h
+    → IsInRow es span (row_at rows p) slot h
+
+-- The spans in these frames left local memory as a new set: a code word whose rows have the words of
+-- their objects stands at the nodes of the set's shards, the objects' homes are in the set, and the
+-- frames are free. Nothing else of the far state changed.
+pub record HasEvicted (c : Config) (far new : FarState) (frames : List ℕ) (es : List Event)
+    : Type 0 where
+  pub shards : List Shard
+  pub rows : List (List ℕ)
+  pub chosen : AreShards far (c.k + c.r) shards
+  pub word : IsSpanWord c.k c.r rows
+  pub contents : AreInRows es far frames rows
+  pub homes : HaveHomes far.spans frames far.counts.sets far.homes new.homes
+  pub state : new ≡ with_homes (with_set far shards frames rows) frames new.homes
+
+-- fewer spans are loose than a set has data positions
+pub record HasFewSpans (c : Config) (far new : FarState) (r : Reply) (loose : List ℕ) : Type 0 where
+  pub few : length loose < c.k
+  pub reply : r ≡ answer.NoSpans (length loose)
+  pub state : new ≡ far
+
+-- enough spans are loose, and fewer nodes have room than a set has positions
+pub record HasFewNodes (c : Config) (far new : FarState) (r : Reply) (loose : List ℕ) : Type 0 where
+  pub enough : c.k ≤ length loose
+  pub few : room_count far.nodes far.members < c.k + c.r
+  pub reply : r ≡ answer.NoNodes (room_count far.nodes far.members)
+  pub state : new ≡ far
+
+-- enough spans are loose and enough nodes have room: the first k of the loose spans are evicted
+pub record HasBoth (c : Config) (far new : FarState) (r : Reply) (loose : List ℕ) (es : List Event)
+    : Type 0 where
+  pub enough : c.k ≤ length loose
+  pub room : c.k + c.r ≤ room_count far.nodes far.members
+  pub reply : r ≡ answer.Set (record { n = far.counts.sets })
+  pub evicted : HasEvicted c far new (take c.k loose) es
+
+-- The reply of an eviction and the far state after it, by which spans are loose by the last looks.
+-- Only objects and words of spans that may leave are touched.
+pub record EvictRule (c : Config) (far new : FarState) (r : Reply) (es : List Event) : Type 0 where
+  pub loose : List ℕ
+  pub found : AreLoose es far.spans (candidates far) loose
+  pub answered : HasFewSpans c far new r loose ⊎ (HasFewNodes c far new r loose
+      ⊎ HasBoth c far new r loose es)
+  pub touches : Touches (IsIn far.spans (candidates far)) (LiesInOne (candidates far)) es

@@ -1,0 +1,85 @@
+-- The parts of an eviction.
+use Rattle.std.specs.Prelude.{◌≡◌, ◌≢◌, ℕ, ◌^◌, ◌<◌, ◌++◌, All, List, length}
+use Rattle.std.specs.List.{Contains, AllPairs}
+use Rattle.cb_types.specs.declared.config.Config.{Config}
+use Rattle.cb_types.specs.declared.reply.Reply.{Reply}
+use Rattle.cb_world.specs.declared.event.Event.{Event}
+use Rattle.cb_world.specs.declared.leaving.Former.{Former}
+use Rattle.cb_world.specs.declared.shown.Shown.{Shown}
+use Rattle.cb_world.specs.Played.{played}
+use Rattle.cb_world.specs.Looks.{NoLook, LooksFirst}
+use Rattle.cb_world.specs.Allowed.{Allowed}
+use Rattle.cb_world.specs.LocalSound.{LocalSound}
+use Rattle.cb_world.specs.Sound.{Sound}
+use Rattle.cb_world.specs.Still.{IsStill}
+use Rattle.cb_world.specs.FarState.{FarState}
+use Rattle.cb_evict.specs.Candidates.{candidates, AreLoose}
+use Rattle.cb_evict.specs.Events.{Touches, IsSteady}
+use Rattle.cb_evict.specs.Claims.{AreApart, AreClaimed}
+use Rattle.cb_evict.specs.Claiming.{AreOf}
+use Rattle.cb_evict.specs.Looking.{IsIn}
+use Rattle.cb_evict.specs.Loading.{LiesInOne}
+use Rattle.cb_evict.specs.EvictRule.{EvictRule, HasEvicted}
+use Rattle.cb_evict.specs.EvictEffect.{IsEvicted}
+
+-- only objects and words of spans that may leave are touched
+abbrev pub TouchesSpans : FarState → List Event → Type 0
+TouchesSpans far es = Touches (IsIn far.spans (candidates far)) (LiesInOne (candidates far)) es
+
+-- the rule of the part behind the looks that found these spans loose
+abbrev pub RuleAfter : Config → FarState → FarState → Reply → List ℕ → List Event → Type 0
+RuleAfter c far new r loose es = (before : List Event)
+    → AreLoose before far.spans (candidates far) loose → TouchesSpans far before
+    → EvictRule c far new r (before ++ es)
+
+-- k different spans may leave, and these are their objects
+pub record AreTaken (c : Config) (far : FarState) (frames : List ℕ) (formers : List Former)
+    : Type 0 where
+  pub count : length frames ≡ c.k
+  pub among : All (Contains (candidates far)) frames
+  pub apart : AllPairs (λ f g. f ≢ g) frames
+  pub of : AreOf (IsIn far.spans frames) formers
+  pub each_once : AreApart formers
+
+-- the desk shows what is known after these events, by which these objects were claimed in a sound
+-- world
+pub record IsReady (shows : Shown → Type 0) (far : FarState) (formers : List Former)
+    (before : List Event) (s : Shown) : Type 0 where
+  pub shown : shows (played before s)
+  pub sound : Sound s far
+  pub claimed : AreClaimed before s (played before s) formers
+  pub here : LocalSound (played before s) far
+  pub steady : IsSteady before s
+  pub touches : TouchesSpans far before
+
+-- claimed spans are evicted
+pub record EvictsClaimed (runs : List Event → Type 0) (shows : Shown → Type 0) (c : Config)
+    (far new : FarState) (frames : List ℕ) (formers : List Former) : Type 0 where
+  pub events : List Event
+  pub ran : runs events
+  pub touches : Touches (IsIn far.spans frames) (LiesInOne frames) events
+  pub quiet : (k : ℕ) → NoLook k events
+  pub first : LooksFirst events
+  pub allowed : (before : List Event) (s : Shown) → IsReady shows far formers before s
+      → Allowed (played before s) events
+  pub evicted : (before : List Event) (s : Shown) → IsReady shows far formers before s
+      → HasEvicted c far new frames (before ++ events)
+  pub sound : (before : List Event) (s : Shown) → IsReady shows far formers before s
+      → Sound (played (before ++ events) s) new
+  pub effect : (before : List Event) (s : Shown) → IsReady shows far formers before s
+      → IsEvicted far new (before ++ events) s (played (before ++ events) s)
+
+-- claimed spans are given back
+pub record LeavesClaimed (runs : List Event → Type 0) (shows : Shown → Type 0) (far : FarState)
+    (frames : List ℕ) (formers : List Former) : Type 0 where
+  pub events : List Event
+  pub ran : runs events
+  pub touches : Touches (IsIn far.spans frames) (LiesInOne frames) events
+  pub quiet : (k : ℕ) → NoLook k events
+  pub first : LooksFirst events
+  pub allowed : (before : List Event) (s : Shown) → IsReady shows far formers before s
+      → Allowed (played before s) events
+  pub sound : (before : List Event) (s : Shown) → IsReady shows far formers before s
+      → Sound (played (before ++ events) s) far
+  pub left : (before : List Event) (s : Shown) → IsReady shows far formers before s
+      → IsStill (before ++ events) s (played (before ++ events) s)

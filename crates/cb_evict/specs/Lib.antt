@@ -1,0 +1,12 @@
+pub mod Candidates
+pub mod Events
+pub mod Claims
+pub mod Looking
+pub mod Claiming
+pub mod Loading
+pub mod Storing
+pub mod Sending
+pub mod Closing
+pub mod EvictRule
+pub mod EvictEffect
+pub mod Evicting

@@ -1,0 +1,69 @@
+-- Looks at the spans that may leave.
+use Rattle.std.specs.Prelude.{◌≡◌, ◌⊎◌, ℕ, Bool, true, false, ◌++◌, List, [], ◌∷◌, Option, Some}
+use Rattle.std.specs.List.{Contains}
+use Rattle.cb_span.specs.Contents.{Contents, handle_at}
+use Rattle.cb_world.specs.declared.event.Event.{Event}
+use Rattle.cb_world.specs.Looks.{IsFound}
+use Rattle.cb_world.specs.Grasped.{IsFree}
+use Rattle.cb_evict.specs.Candidates.{Names, IsLoose, IsHeldUp, AreLoose}
+use Rattle.cb_evict.specs.Events.{Touches, OnlyLooks}
+
+-- the object in a slot was found at a word at which it can be claimed, or there is none
+abbrev pub IsSlotLoose : List Event → Option ℕ → Type 0
+IsSlotLoose es slot = (h : ℕ) → slot ≡ Some h → (w : ℕ) × IsFound h w es × IsFree w
+
+-- the object in a slot was found at a word at which it can't be claimed
+abbrev pub IsSlotHeldUp : List Event → Option ℕ → Type 0
+IsSlotHeldUp es slot = (h w : ℕ) × (slot ≡ Some h) × IsFound h w es × ¬ (IsFree w)
+
+-- by the answer
+abbrev pub SlotFinds : Bool → List Event → Option ℕ → Type 0
+SlotFinds true es slot = IsSlotLoose es slot
+SlotFinds false es slot = IsSlotHeldUp es slot
+
+-- one look, if the slot is taken
+pub record LooksAtSlot (runs : List Event → Type 0) (slot : Option ℕ) (loose : Bool) : Type 0 where
+  pub events : List Event
+  pub ran : runs events
+  pub looks : OnlyLooks events
+  pub touches : Touches (λ h. slot ≡ Some h) (λ p. ⊥) events
+  pub finds : SlotFinds loose events slot
+
+-- a slot of the span has the object
+abbrev pub Has : Contents → ℕ → Type 0
+Has span h = (slot : ℕ) × (handle_at span slot ≡ Some h)
+
+abbrev pub SpanFinds : Bool → List Event → Contents → Type 0
+SpanFinds true es span = (h : ℕ) → Has span h → (w : ℕ) × IsFound h w es × IsFree w
+SpanFinds false es span = (h w : ℕ) × Has span h × IsFound h w es × ¬ (IsFree w)
+
+-- looks at objects of a span, until one is found that can't be claimed
+pub record LooksAtSpan (runs : List Event → Type 0) (span : Contents) (loose : Bool) : Type 0 where
+  pub events : List Event
+  pub ran : runs events
+  pub looks : OnlyLooks events
+  pub touches : Touches (Has span) (λ p. ⊥) events
+  pub finds : SpanFinds loose events span
+
+-- looks at objects of the span in a frame, which is added to the loose ones if it is one
+pub record LooksAtFrame (runs : List Event → Type 0) (spans : List (Option Contents)) (f : ℕ)
+    (old new : List ℕ) : Type 0 where
+  pub events : List Event
+  pub ran : runs events
+  pub looks : OnlyLooks events
+  pub touches : Touches (Names spans f) (λ p. ⊥) events
+  pub finds : (IsLoose events spans f × (new ≡ old ++ f ∷ []))
+      ⊎ (IsHeldUp events spans f × (new ≡ old))
+
+-- an object of the span in one of the frames
+abbrev pub IsIn : List (Option Contents) → List ℕ → ℕ → Type 0
+IsIn spans frames h = (f : ℕ) × Contains frames f × Names spans f h
+
+-- looks at objects of the spans in some frames, of which these are loose
+pub record LooksOver (runs : List Event → Type 0) (spans : List (Option Contents))
+    (frames loose : List ℕ) : Type 0 where
+  pub events : List Event
+  pub ran : runs events
+  pub looks : OnlyLooks events
+  pub touches : Touches (IsIn spans frames) (λ p. ⊥) events
+  pub finds : AreLoose events spans frames loose

@@ -1,0 +1,57 @@
+-- Claimed objects that are put away.
+use Rattle.std.specs.Prelude.{◌≡◌, ℕ, ◌<◌, false, List, [], length, All}
+use Rattle.cb_ptr.specs.Word.{len_of, place_of}
+use Rattle.cb_world.specs.declared.leaving.Former.{Former}
+use Rattle.cb_world.specs.declared.object.Object.TheVariants as is
+use Rattle.cb_world.specs.declared.event.Event.{Event}
+use Rattle.cb_world.specs.declared.shown.Shown.{Shown}
+use Rattle.cb_world.specs.Shown.{object_at, version_at, hot_at}
+use Rattle.cb_world.specs.Played.{played}
+use Rattle.cb_world.specs.Looks.{NoLook, LooksFirst}
+use Rattle.cb_world.specs.Allowed.{Allowed}
+use Rattle.cb_world.specs.Written.{Writes}
+use Rattle.cb_evict.specs.Events.{Touches}
+use Rattle.cb_evict.specs.Claims.{IsNone}
+use Rattle.cb_evict.specs.Claiming.{IsOne}
+
+-- the object is claimed at the word that is noted, and its version word is its last complete version
+pub record IsTold (s : Shown) (former : Former) : Type 0 where
+  pub version : ℕ
+  pub words : List ℕ
+  pub object : object_at s former.handle
+      ≡ is.Claimed (len_of former.word) (place_of former.word) version words
+  pub stamp : version_at s former.handle ≡ version
+  pub handle : former.handle < length s.objects
+  pub warm : former.handle < length s.hots
+
+-- the object was claimed and is away, cold, with its version and its words
+pub record IsSent (s t : Shown) (former : Former) : Type 0 where
+  pub version : ℕ
+  pub words : List ℕ
+  pub before : object_at s former.handle
+      ≡ is.Claimed (len_of former.word) (place_of former.word) version words
+  pub after : object_at t former.handle ≡ is.Far (len_of former.word) version words
+  pub cold : hot_at t former.handle ≡ false
+
+-- so are these objects, and all else is as it was
+pub record AreSent (s t : Shown) (formers : List Former) : Type 0 where
+  pub sent : All (IsSent s t) formers
+  pub others : (h : ℕ) → IsNone formers h → object_at t h ≡ object_at s h
+  pub hots : (h : ℕ) → IsNone formers h → hot_at t h ≡ hot_at s h
+  pub objects : length t.objects ≡ length s.objects
+  pub heat : length t.hots ≡ length s.hots
+  pub versions : t.versions ≡ s.versions
+  pub memory : t.memory ≡ s.memory
+  pub first : t.first ≡ s.first
+
+-- claimed objects are settled as away
+pub record Sends (runs : List Event → Type 0) (shows : Shown → Type 0) (formers : List Former)
+    : Type 0 where
+  pub events : List Event
+  pub ran : runs events
+  pub touches : Touches (IsOne formers) (λ p. ⊥) events
+  pub quiet : (k : ℕ) → NoLook k events
+  pub first : LooksFirst events
+  pub allowed : (s : Shown) → shows s → All (IsTold s) formers → Allowed s events
+  pub nothing : (s : Shown) → shows s → All (IsTold s) formers → Writes events s []
+  pub sent : (s : Shown) → shows s → All (IsTold s) formers → AreSent s (played events s) formers

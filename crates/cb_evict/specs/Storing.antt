@@ -1,0 +1,72 @@
+-- The rows of a new set, and the set.
+use Rattle.std.specs.Prelude.{◌≡◌, ℕ, ◌+◌, ◌<◌, ◌++◌, true, false, List, [], Option, None, Some, length, map as mapped, take, slice_get}
+use Rattle.std.specs.FinMap as map
+use Rattle.cb_gf256.specs.Rows.{HoldBytes}
+use Rattle.cb_gf256.specs.CodeWord.{IsCodeWord}
+use Rattle.cb_member.specs.declared.names.Shard.{Shard}
+use Rattle.cb_member.specs.Membership.{incarnation}
+use Rattle.cb_node.specs.NodesState.{NodesState, has}
+use Rattle.cb_set.specs.SetState.{SetState, PositionState, filled_position, set_of}
+use Rattle.cb_span.specs.Contents.{Contents}
+use Rattle.cb_world.specs.Choices.{IsLeastNode}
+use Rattle.cb_world.specs.FarState.{FarState, span_in}
+use Rattle.cb_world.specs.Stored.{all_put}
+
+-- the shard for a position: on the least node of those with room on which no earlier shard stands,
+-- in its incarnation, under the next row key. The rows of earlier positions are put at other nodes,
+-- so that the counts of the nodes that are left are those before the call.
+pub record IsShardAt (far : FarState) (shards : List Shard) (p : ℕ) (shard : Shard) : Type 0 where
+  pub node : IsLeastNode far.nodes far.members (take p shards) shard.node
+  pub incarnation : shard.incarnation ≡ incarnation far.members shard.node
+  pub key : shard.key ≡ far.counts.keys + p
+
+-- one for each of n positions
+pub record AreShards (far : FarState) (n : ℕ) (shards : List Shard) : Type 0 where
+  pub count : length shards ≡ n
+  pub each : (p : ℕ) (shard : Shard) → slice_get shards p ≡ Some shard
+      → IsShardAt far shards p shard
+
+-- a row can be put under the key of each shard: the nodes are there, no two keys are the same, and
+-- no node has a row under its key
+pub record CanPut (nodes : NodesState) (shards : List Shard) : Type 0 where
+  pub within : (p : ℕ) (shard : Shard) → slice_get shards p ≡ Some shard
+      → shard.node.n < length nodes.nodes
+  pub apart : (p q : ℕ) (a b : Shard) → slice_get shards p ≡ Some a → slice_get shards q ≡ Some b
+      → a.key ≡ b.key → p ≡ q
+  pub fresh : (p : ℕ) (shard : Shard) → slice_get shards p ≡ Some shard
+      → has nodes shard.node shard.key ≡ false
+
+-- the slot table of a span
+abbrev pub slots_of : Option Contents → List (Option ℕ)
+slots_of None = []
+slots_of (Some span) = span.slots
+
+-- the position of the span in a frame
+abbrev pub position_for : List (Option Contents) → ℕ → PositionState
+position_for spans f = filled_position (slots_of (span_in spans f))
+
+-- the set of the spans in some frames, each at its place
+abbrev pub set_for : FarState → List Shard → List ℕ → SetState
+set_for far shards frames = set_of far.counts.sets shards (mapped (position_for far.spans) frames)
+
+-- the far state with that set, whose rows are put at its shards' nodes; its number and the keys of
+-- its rows are drawn
+abbrev pub with_set : FarState → List Shard → List ℕ → List (List ℕ) → FarState
+with_set far shards frames rows = record far {
+  sets = map.insert far.sets far.counts.sets
+      (record { set = set_for far shards frames; committed = true });
+  nodes = all_put far.nodes shards rows;
+  counts = record far.counts {
+    sets = far.counts.sets + 1;
+    keys = far.counts.keys + length shards;
+  };
+}
+
+-- a set is kept, whose rows are these data rows and their parities
+pub record KeepsSet (far new : FarState) (shards : List Shard) (frames : List ℕ)
+    (rows : List (List ℕ)) : Type 0 where
+  pub parities : List (List ℕ)
+  pub count : length shards ≡ length frames + length parities
+  pub word : IsCodeWord (length frames) (length parities) (rows ++ parities)
+  pub bytes : HoldBytes (rows ++ parities)
+  pub state : new ≡ with_set far shards frames (rows ++ parities)

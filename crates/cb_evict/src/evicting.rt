@@ -1,0 +1,161 @@
+ghost use Rattle.std.specs.Prelude.{◌≡◌, ℕ, ◌^◌, ◌+◌, ◌<◌, ◌≤◌, ◌≢◌, All, IfOk, OnErr, OnOk, List, length};
+ghost use Rattle.std.specs.List.{Contains, AllPairs};
+ghost use Rattle.cb_types.specs.Config.{IsAccepted};
+ghost use Rattle.cb_gf256.specs.Rows.{HaveLength};
+ghost use Rattle.cb_types.specs.declared.reply.Reply.TheVariants as answer;
+ghost use Rattle.cb_world.specs.declared.event.Event.{Event};
+ghost use Rattle.cb_world.specs.declared.shown.Shown.{Shown};
+ghost use Rattle.cb_world.specs.World.{IsConfigured};
+ghost use Rattle.cb_world.specs.Still.{IsStill};
+ghost use Rattle.cb_world.specs.Choices.{room_count};
+ghost use Rattle.cb_world.specs.Sound.{Sound};
+ghost use Rattle.cb_world.specs.Performs.{Performs};
+ghost use Rattle.cb_evict.specs.Candidates.{candidates};
+ghost use Rattle.cb_evict.specs.Storing.{AreShards};
+ghost use Rattle.cb_evict.specs.EvictRule.{EvictRule};
+ghost use Rattle.cb_evict.specs.EvictEffect.{EvictEffect};
+ghost use Rattle.cb_evict.specs.Evicting.{AreTaken, IsReady, EvictsClaimed, LeavesClaimed, TouchesSpans, RuleAfter};
+
+use crate::candidates::candidates;
+use crate::claiming::{claim_spans, give_back};
+use crate::closing::close_spans;
+use crate::loading::load_frames;
+use crate::looking::find_loose;
+use crate::sending::send;
+use crate::storing::{choose_shards, keep_set, next_number};
+use cb_member::Shard;
+use cb_types::{Config, NoMemory, Reply, Rows, SetId};
+use cb_world::{Desk, Far, Former, nodes_with_room};
+
+/// How many objects a span has at the most.
+const MOST_OBJECTS: usize = 256;
+
+/// Evicts k spans at once. Of the spans none of whose objects is pinned or claimed, and which are not
+/// leaving, the first k go, the cold ones before the hot ones and then by frame number: they are coded
+/// together, their rows are put at k + r nodes, and the objects are far.
+///
+/// Refuses with NoSpans where fewer than k spans are so, and then with NoNodes where fewer than k + r
+/// nodes have room. A batch that is leaving does not hinder it and stays as it is. Each object of a span
+/// that may leave is looked at once; nothing walks over all sets or homes. Where there is no memory,
+/// nothing has changed.
+pub fn evict_now<D: Desk>(desk: &mut D, far: &mut Far) -> Result<Reply, NoMemory>
+    requires config { IsAccepted (D.settings desk.old) }
+    requires configured { IsConfigured (D.settings desk.old) far.old }
+    requires counts { (far.old.counts.sets < 2 ^ 62) × (far.old.counts.keys < 2 ^ 62) }
+    requires sound { (s : Shown) × D.shows desk.old s × Sound s far.old }
+    ensures evict { IfOk result (λ reply. Performs (λ es. D.run desk.old es desk.new)
+        (λ s. D.shows desk.old s × Sound s far.old)
+        (EvictRule (D.settings desk.old) far.old far.new reply)
+        (λ t. Sound t far.new)
+        (EvictEffect far.old far.new reply)) }
+    ensures error { OnErr result (Performs (λ es. D.run desk.old es desk.new)
+        (λ s. D.shows desk.old s × Sound s far.old)
+        (TouchesSpans far.old)
+        (λ t. Sound t far.new)
+        IsStill) }
+    ensures unchanged { OnErr result (far.new ≡ far.old) }
+{
+    let config = desk.config();
+    let frames = candidates(far)?;
+    let mut loose = Vec::with_capacity(far.alloc, frames.len())?;
+    find_loose(desk, &far.spans, &frames, &mut loose);
+    if loose.len() < config.k as usize {
+        return Ok(Reply::NoSpans {
+            loose: loose.len() as u32,
+        });
+    }
+    let nodes = nodes_with_room(&far.nodes, &far.members);
+    if nodes < config.k + config.r {
+        return Ok(Reply::NoNodes { nodes });
+    }
+    let shards = choose_shards(far, config.k + config.r)?;
+    evict_loose(desk, far, config, &loose, &shards)
+}
+
+/// Evicts the first k of these spans whose objects can all be claimed.
+fn evict_loose<D: Desk>(
+    desk: &mut D,
+    far: &mut Far,
+    config: Config,
+    loose: &[u32],
+    shards: &[Shard],
+) -> Result<Reply, NoMemory>
+    requires config { (IsAccepted config) × (config ≡ D.settings desk.old) }
+    requires configured { IsConfigured config far.old }
+    requires counts { (far.old.counts.sets < 2 ^ 62) × (far.old.counts.keys < 2 ^ 62) }
+    requires sound { (s : Shown) × D.shows desk.old s × Sound s far.old }
+    requires among { All (Contains (candidates far.old)) loose.now }
+    requires apart { AllPairs (λ f g. f ≢ g) loose.now }
+    requires enough { config.k ≤ length loose.now }
+    requires room { config.k + config.r ≤ room_count far.old.nodes far.old.members }
+    requires shards { AreShards far.old (config.k + config.r) shards.now }
+    ensures evict { IfOk result (λ reply. Performs (λ es. D.run desk.old es desk.new)
+        (λ s. D.shows desk.old s × Sound s far.old)
+        (RuleAfter config far.old far.new reply loose.now)
+        (λ t. Sound t far.new)
+        (EvictEffect far.old far.new reply)) }
+    ensures error { OnErr result (Performs (λ es. D.run desk.old es desk.new)
+        (λ s. D.shows desk.old s × Sound s far.old)
+        (TouchesSpans far.old)
+        (λ t. Sound t far.new)
+        IsStill) }
+    ensures unchanged { OnErr result (far.new ≡ far.old) }
+{
+    let k = config.k as usize;
+    let mut rows = match Rows::new(far.alloc, config.k, 4096) {
+        Ok(rows) => rows,
+        Err(_) => return Err(NoMemory),
+    };
+    let mut frames = Vec::with_capacity(far.alloc, k)?;
+    let mut formers = Vec::with_capacity(far.alloc, MOST_OBJECTS * k)?;
+    claim_spans(desk, &far.spans, loose, k, &mut frames, &mut formers);
+    if frames.len() < k {
+        give_back(desk, &formers);
+        return Ok(Reply::NoSpans {
+            loose: frames.len() as u32,
+        });
+    }
+    evict_claimed(desk, far, shards, &frames, &formers, &mut rows)
+}
+
+/// Evicts spans whose objects are claimed, and gives them back where there is no memory. The rows
+/// have room for the spans.
+fn evict_claimed<D: Desk>(
+    desk: &mut D,
+    far: &mut Far,
+    shards: &[Shard],
+    frames: &[u32],
+    formers: &[Former],
+    rows: &mut Rows,
+) -> Result<Reply, NoMemory>
+    requires config { IsAccepted (D.settings desk.old) }
+    requires configured { IsConfigured (D.settings desk.old) far.old }
+    requires counts { (far.old.counts.sets < 2 ^ 62) × (far.old.counts.keys < 2 ^ 62) }
+    requires taken { AreTaken (D.settings desk.old) far.old frames.now formers.now }
+    requires shards { AreShards far.old ((D.settings desk.old).k + (D.settings desk.old).r) shards.now }
+    requires rows { (length rows.old ≡ length frames.now) × HaveLength 4096 rows.old }
+    requires ready { (before : List Event) × (s : Shown)
+        × IsReady (λ t. D.shows desk.old t) far.old formers.now before s }
+    ensures reply { IfOk result (λ reply. reply ≡ answer.Set (record { n = far.old.counts.sets })) }
+    ensures evict { OnOk result (EvictsClaimed (λ es. D.run desk.old es desk.new)
+        (λ s. D.shows desk.old s) (D.settings desk.old) far.old far.new frames.now formers.now) }
+    ensures error { OnErr result (LeavesClaimed (λ es. D.run desk.old es desk.new)
+        (λ s. D.shows desk.old s) far.old frames.now formers.now) }
+    ensures unchanged { OnErr result (far.new ≡ far.old) }
+{
+    load_frames(desk, frames, rows);
+    let set = next_number(far);
+    match keep_set(far, shards, frames, rows) {
+        Ok(()) => {
+            send(desk, formers);
+            close_spans(far, set, frames);
+            Ok(Reply::Set {
+                set: SetId { n: set },
+            })
+        }
+        Err(_) => {
+            give_back(desk, formers);
+            Err(NoMemory)
+        }
+    }
+}

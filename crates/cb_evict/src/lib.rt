@@ -1,0 +1,16 @@
+//! Eviction: spans whose objects no one uses leave local memory, coded together as a span-set whose
+//! rows stand on memory nodes.
+#![tactic(auto)]
+
+mod candidates;
+mod claiming;
+mod closing;
+mod evicting;
+mod loading;
+mod looking;
+mod sending;
+mod storing;
+#[cfg(test)]
+mod tests;
+
+pub use evicting::evict_now;

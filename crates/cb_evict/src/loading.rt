@@ -1,0 +1,51 @@
+ghost use Rattle.std.specs.Prelude.{◌≡◌, ◌+◌, ◌*◌, ◌^◌, ◌<◌, ◌≤◌, ◌++◌, All, length, take};
+ghost use Rattle.std.specs.Int.{to_le_bytes, w64};
+ghost use Rattle.cb_gf256.specs.Rows.{HaveLength};
+ghost use Rattle.cb_types.specs.Config.{IsAccepted};
+ghost use Rattle.cb_evict.specs.Loading.{LoadsFrame, LoadsFrames};
+
+use cb_types::Rows;
+use cb_world::Desk;
+
+/// How many words of memory a frame has.
+const FRAME_WORDS: u32 = 512;
+
+/// Puts the eight bytes of a word into the row, as word `i` of it.
+fn put_word(into: &mut [u8], i: usize, word: u64)
+    requires within { 8 * i + 8 ≤ length into.old }
+    ensures word { take (8 * i + 8) into.new ≡ take (8 * i) into.old ++ to_le_bytes w64 word }
+    ensures sized { length into.new ≡ length into.old }
+{
+    into[8 * i..8 * i + 8].copy_from_slice(&word.to_le_bytes());
+}
+
+/// Reads the words of a frame into a row of 4,096 bytes, each word once.
+fn load_frame<D: Desk>(desk: &mut D, frame: u32, into: &mut [u8])
+    requires into { length into.old ≡ 4096 }
+    requires config { IsAccepted (D.settings desk.old) }
+    requires frame { frame < (D.settings desk.old).frames }
+    ensures loads { LoadsFrame (λ es. D.run desk.old es desk.new) (λ s. D.shows desk.old s) frame
+        into.new }
+    ensures sized { length into.new ≡ 4096 }
+{
+    for i in 0..FRAME_WORDS {
+        put_word(into, i as usize, desk.load(FRAME_WORDS * frame + i));
+    }
+}
+
+/// Reads the words of the frames, each into the row at its place; rows have 4,096 bytes.
+pub(crate) fn load_frames<D: Desk>(desk: &mut D, frames: &[u32], rows: &mut Rows)
+    requires count { length rows.old ≡ length frames.now }
+    requires few { length frames.now < 2 ^ 32 }
+    requires lengths { HaveLength 4096 rows.old }
+    requires config { IsAccepted (D.settings desk.old) }
+    requires frames { All (λ f. f < (D.settings desk.old).frames) frames.now }
+    ensures loads { LoadsFrames (λ es. D.run desk.old es desk.new) (λ s. D.shows desk.old s)
+        frames.now rows.new }
+    ensures count { length rows.new ≡ length rows.old }
+    ensures lengths { HaveLength 4096 rows.new }
+{
+    for (p, frame) in frames.iter().enumerate() {
+        load_frame(desk, *frame, rows.row_mut(p as u32));
+    }
+}

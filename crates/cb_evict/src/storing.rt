@@ -1,0 +1,210 @@
+ghost use Rattle.std.specs.Prelude.{◌≡◌, ℕ, ◌+◌, ◌-◌, ◌^◌, ◌<◌, ◌≤◌, ◌++◌, All, IfOk, List, OnErr, OnOk, Some, false, length, map};
+ghost use Rattle.cb_gf256.specs.CodeWord.{IsCodeWord};
+ghost use Rattle.cb_gf256.specs.InRange.{IsInRange};
+ghost use Rattle.cb_gf256.specs.Rows.{row_at, HoldBytes};
+ghost use Rattle.cb_node.specs.NodesState.{NodesState, has, with_row};
+ghost use Rattle.cb_set.specs.SetState.{set_of};
+ghost use Rattle.cb_span.specs.Contents.{Contents};
+ghost use Rattle.cb_world.specs.Choices.{room_count};
+ghost use Rattle.cb_world.specs.FarState.{span_in};
+ghost use Rattle.cb_world.specs.Stored.{all_put};
+ghost use Rattle.cb_evict.specs.Storing.{AreShards, CanPut, KeepsSet, position_for, set_for};
+
+use cb_code::{coefficients, encode};
+use cb_member::Shard;
+use cb_node::{Nodes, PutAnswer};
+use cb_set::SpanSet;
+use cb_types::{NoMemory, Rows};
+use cb_world::{Far, KeptSet, Spans, least_node};
+use std::alloc::Global;
+
+/// The shards of a new set: for each of `n` positions, in order, the node with the fewest rows of those
+/// that have room and are not taken yet, and the next row key. At least `n` nodes have room.
+pub(crate) fn choose_shards(far: &Far, n: u32) -> Result<Vec<Shard>, NoMemory>
+    requires counted { length far.now.nodes.nodes ≡ length far.now.members.nodes }
+    requires few { length far.now.nodes.nodes ≤ 256 }
+    requires room { n ≤ room_count far.now.nodes far.now.members }
+    requires keys { far.now.counts.keys + n < 2 ^ 64 }
+    ensures shards { IfOk result (λ shards. AreShards far.now n shards.items) }
+{
+    let mut shards = Vec::with_capacity(far.alloc, n as usize)?;
+    for p in 0..n {
+        let node = least_node(&far.nodes, &far.members, &shards).unwrap();
+        shards.push(Shard {
+            node,
+            incarnation: far.members.incarnation(node),
+            key: far.counts.keys + u64::from(p),
+        })?;
+    }
+    Ok(shards)
+}
+
+/// The row at a position: the data rows come first, and then the parities.
+fn row_at<'a>(rows: &'a Rows, parities: &'a Rows, p: u32) -> &'a [u8]
+    requires { p < length rows.now + length parities.now }
+    ensures { result.now ≡ row_at (rows.now ++ parities.now) p }
+{
+    let k = rows.count();
+    if p < k {
+        rows.row(p)
+    } else {
+        parities.row(p - k)
+    }
+}
+
+/// Drops the rows that were put for these shards, the last one first. Takes no memory.
+fn drop_rows(nodes: &mut Nodes, shards: &[Shard])
+    requires within { All (λ shard. shard.node.n < length nodes.old.nodes) shards.now }
+    ensures dropped { (before : NodesState) (rows : List (List ℕ)) → CanPut before shards.now
+        → length shards.now ≤ length rows → nodes.old ≡ all_put before shards.now rows
+        → nodes.new ≡ before }
+{
+    for p in (0..shards.len()).rev() {
+        nodes.drop_row(shards[p].node, shards[p].key);
+    }
+}
+
+/// Puts a row at its shard's node, which has room.
+fn put_row(nodes: &mut Nodes, shard: Shard, row: &[u8]) -> Result<(), NoMemory>
+    requires within { shard.node.n < length nodes.old.nodes }
+    requires fresh { has nodes.old shard.node shard.key ≡ false }
+    ensures ok { OnOk result (nodes.new ≡ with_row nodes.old shard.node shard.key row.now) }
+    ensures err { OnErr result (nodes.new ≡ nodes.old) }
+{
+    match nodes.put(shard.node, shard.key, row)? {
+        PutAnswer::Stored => Ok(()),
+        PutAnswer::Full { .. } => Err(NoMemory),
+    }
+}
+
+/// Puts the rows of a set at its shards' nodes, which have room. Where there is no memory, no row is
+/// left there.
+fn put_rows(
+    nodes: &mut Nodes,
+    shards: &[Shard],
+    rows: &Rows,
+    parities: &Rows,
+) -> Result<(), NoMemory>
+    requires count { length shards.now ≡ length rows.now + length parities.now }
+    requires few { length shards.now < 2 ^ 32 }
+    requires can { CanPut nodes.old shards.now }
+    ensures ok { OnOk result
+        (nodes.new ≡ all_put nodes.old shards.now (rows.now ++ parities.now)) }
+    ensures err { OnErr result (nodes.new ≡ nodes.old) }
+{
+    for (p, shard) in shards.iter().enumerate() {
+        let row = row_at(rows, parities, p as u32);
+        let Ok(()) = put_row(nodes, *shard, row) else {
+            drop_rows(nodes, &shards[..p]);
+            return Err(NoMemory);
+        };
+    }
+    Ok(())
+}
+
+/// Gives each data position of a set the slot table of the span in its frame.
+fn fill(set: &mut SpanSet, spans: &Spans, frames: &[u32]) -> Result<(), NoMemory>
+    requires there { All (λ f. (span : Contents) × (span_in spans.now f ≡ Some span)) frames.now }
+    requires count { length set.old.positions ≡ length frames.now }
+    requires few { length frames.now < 2 ^ 32 }
+    ensures filled { OnOk result (set.new
+        ≡ record set.old { positions = map (position_for spans.now) frames.now }) }
+{
+    for (p, frame) in frames.iter().enumerate() {
+        set.fill(p as u32, spans.get(*frame).unwrap().slots())?;
+    }
+    Ok(())
+}
+
+/// The set of this number of the spans in these frames, each at its place.
+fn make_set(
+    alloc: Global,
+    id: u64,
+    shards: &[Shard],
+    spans: &Spans,
+    frames: &[u32],
+) -> Result<SpanSet, NoMemory>
+    requires there { All (λ f. (span : Contents) × (span_in spans.now f ≡ Some span)) frames.now }
+    requires few { length shards.now < 2 ^ 32 }
+    requires count { length frames.now ≤ length shards.now }
+    ensures set { IfOk result (λ set. set
+        ≡ set_of id shards.now (map (position_for spans.now) frames.now)) }
+{
+    let k = frames.len() as u32;
+    let r = shards.len() as u32 - k;
+    let mut set = SpanSet::new(alloc, id, k, r, shards)?;
+    fill(&mut set, spans, frames)?;
+    Ok(set)
+}
+
+/// The number of the next set.
+pub(crate) fn next_number(far: &Far) -> u64
+    ensures { result ≡ far.now.counts.sets }
+{
+    far.counts.sets
+}
+
+/// The set of the spans in these frames, with the next set number.
+fn next_set(far: &Far, shards: &[Shard], frames: &[u32]) -> Result<SpanSet, NoMemory>
+    requires there { All (λ f. (span : Contents) × (span_in far.now.spans f ≡ Some span)) frames.now }
+    requires few { length shards.now < 2 ^ 32 }
+    requires count { length frames.now ≤ length shards.now }
+    ensures set { IfOk result (λ set. set ≡ set_for far.now shards.now frames.now) }
+{
+    make_set(far.alloc, next_number(far), shards, &far.spans, frames)
+}
+
+/// The parities of some data rows.
+pub(crate) fn make_parities(alloc: Global, rows: &Rows, r: u32) -> Result<Rows, NoMemory>
+    requires range { IsInRange (length rows.now) r }
+    ensures count { IfOk result (λ parities. length parities ≡ r) }
+    ensures word { IfOk result (λ parities. IsCodeWord (length rows.now) r (rows.now ++ parities)) }
+    ensures bytes { IfOk result (λ parities. HoldBytes (rows.now ++ parities)) }
+{
+    let _ = rows.row_len();
+    match encode(alloc, &coefficients(rows.count(), r), rows) {
+        Ok(parities) => Ok(parities),
+        Err(_) => Err(NoMemory),
+    }
+}
+
+/// Codes the rows of the spans in these frames, puts data and parities at the shards' nodes and keeps
+/// the set as committed. Its number and the row keys are drawn. Where there is no memory, nothing has
+/// changed.
+pub(crate) fn keep_set(
+    far: &mut Far,
+    shards: &[Shard],
+    frames: &[u32],
+    rows: &Rows,
+) -> Result<(), NoMemory>
+    requires there { All (λ f. (span : Contents) × (span_in far.old.spans f ≡ Some span)) frames.now }
+    requires data_rows { length rows.now ≡ length frames.now }
+    requires range { IsInRange (length frames.now) (length shards.now - length frames.now) }
+    requires can { CanPut far.old.nodes shards.now }
+    requires counts { (far.old.counts.sets < 2 ^ 62) × (far.old.counts.keys < 2 ^ 62) }
+    ensures err { OnErr result (far.new ≡ far.old) }
+    ensures kept { OnOk result (KeepsSet far.old far.new shards.now frames.now rows.now) }
+{
+    let r = shards.len() - frames.len();
+    let parities = make_parities(far.alloc, rows, r as u32)?;
+    let set = next_set(far, shards, frames)?;
+    put_rows(&mut far.nodes, shards, rows, &parities)?;
+    let id = far.counts.sets;
+    if far
+        .sets
+        .put(
+            id,
+            KeptSet {
+                set,
+                committed: true,
+            },
+        )
+        .is_err()
+    {
+        drop_rows(&mut far.nodes, shards);
+        return Err(NoMemory);
+    }
+    far.counts.sets += 1;
+    far.counts.keys += shards.len() as u64;
+    Ok(())
+}

@@ -1,0 +1,34 @@
+use super::*;
+use cb_types::{Config, Reply};
+use cb_world::World;
+use std::alloc::Global;
+use std::test::Fail;
+
+/// What an eviction in an empty world answers, with so many data positions and parities.
+fn evict_empty(alloc: Global, k: u32, r: u32) -> Result<Reply, Fail> {
+    let config = Config {
+        k,
+        r,
+        nodes: 20,
+        frames: 2,
+        room: 4,
+        handles: 9,
+        turns: 0,
+    };
+    let Ok(()) = config.check() else {
+        return Err(Fail::from("a field is out of range"));
+    };
+    let mut world = World::new(alloc, config)?;
+    Ok(evict_now(&mut world.desk, &mut world.far)?)
+}
+
+#[test]
+fn an_empty_world_has_no_span_to_evict(rt: HostRuntime) -> Result<(), Fail> {
+    for (k, r) in [(1, 1), (2, 2), (16, 4)] {
+        assert!(rt;
+            matches!(evict_empty(rt.alloc(), k, r)?, Reply::NoSpans { loose: 0 }),
+            "{k} and {r}"
+        );
+    }
+    Ok(())
+}

@@ -1,0 +1,377 @@
+-- What a run keeps while it answers the lines of a script.
+use Rattle.std.proofs.Common.{◌≡◌, ◌⊎◌, ℕ, zero, suc, ◌+◌, ◌^◌, ◌<◌, ◌≤◌, List, [], ◌∷◌, ◌++◌, length, Bool, true, false, cond, Option, None, Some, refl, sym, ap, ◌∙◌, subst, arith, inl, inr, get_or, take, map, append_assoc}
+use Rattle.std.specs.List.{AllByRecursion, cons_option}
+use Rattle.std.specs.Str.{bytes_eq}
+use Rattle.std.proofs.lemmas.List.Elements.{filter_map-append}
+use Rattle.std.proofs.lemmas.List.{map_push, take_more, length_push, append-nil}
+use Rattle.cb_types.specs.declared.answer.Answer.{Answer}
+use Rattle.cb_types.specs.declared.config.Config.{Config}
+use Rattle.cb_types.specs.Config.{IsAccepted}
+use Rattle.cb_types.specs.declared.config.Field.TheVariants.{Nodes}
+use Rattle.cb_types.specs.declared.job.Job.TheVariants as job
+use Rattle.cb_types.specs.declared.request.Request.{Request}
+use Rattle.cb_types.specs.declared.request.Request.TheVariants.{Make, Read, Write, Free, Crash, Join}
+use Rattle.cb_types.specs.declared.reply.Reply.{Reply}
+use Rattle.cb_types.specs.declared.reply.Reply.TheVariants as answer
+use Rattle.cb_types.specs.Requests.{name_of}
+use Rattle.cb_model.specs.Event.{Event, event_of}
+use Rattle.cb_model.specs.Event.Event.{FindsUnmade}
+use Rattle.cb_model.specs.Called.{first_of, handle_of, handle_made, handle_named, handle_for, called, calls_of, makes, made_by, value_at}
+use Rattle.cb_model.specs.Now.{Now as MapNow}
+use Rattle.cb_model.specs.Replies.{MapReplies}
+use Rattle.cb_model.specs.Legal.{Follow, IsMapReply, IsUnmadeRight}
+use Rattle.cb_model.proofs.Naming.{calls_of-push, handle_of-push, Follow-push}
+use Rattle.cb_model.proofs.Order.{makes-le, makes-push}
+use Rattle.cb_script.specs.declared.script.Line.{Line}
+use Rattle.cb_script.specs.Form.{IsRequest, AreLines}
+use Rattle.cb_script.specs.Unbuilt.{IsBuilt}
+use Rattle.cb_world.specs.World.{WorldState, IsSoundWorld, empty_world}
+use Rattle.cb_mutate.specs.MapBeside.{IsMapBeside}
+use Rattle.cb_mutate.proofs.MapBeside.{is_map_reply, is_map_make, beside_kept, empty_beside}
+use Rattle.cb_core.specs.declared.event.Event.TheVariants.{Turn}
+use Rattle.cb_core.proofs.Settings.{step_settings}
+use Rattle.cb_world.specs.Empty.{empty_words, empty_far, empty_shown}
+use Rattle.cb_world.proofs.Empty.{empty_shows, empty_sound}
+use Rattle.cb_world.proofs.NowSame.{now_same}
+use Rattle.cb_world.proofs.Worlds.{empty_world_sound}
+use Rattle.cb_lanes.specs.Asked.{asked, HasLineReply}
+use Rattle.cb_lanes.specs.Held.{HoldsAnswers}
+use Rattle.cb_lanes.specs.LineStep.{LineStep, ObjectStep, LinesLead}
+use Rattle.cb_lanes.specs.Lost.{loss_of, losses_of}
+use Rattle.cb_lanes.specs.Names.{Names, kept_number, handle_at, handle_in, number_after, AreKept, AreReady}
+use Rattle.cb_lanes.proofs.LineGoes.{read_goes, write_goes, free_goes, make_goes}
+use Rattle.cb_lanes.proofs.Near.{IsNear}
+use Rattle.cb_lanes.proofs.Silent.{unmade_read, unmade_write, unmade_free, crash_goes, join_goes}
+use Rattle.cb_lanes.proofs.Turning.{answer_to, Turning, Goes}
+
+-- The answers so far are the map's, the map is beside the world that they led to, and the names are what
+-- these answers made of them.
+pub record Along (c : Config) (answers : List Answer) (w : WorldState) (names : Names) : Type 0 where
+  pub sound : IsSoundWorld w
+  pub beside : IsMapBeside (calls_of answers) sound.shown w.far
+  pub near : IsNear w.far
+  pub settings : w.desk.settings ≡ c
+  pub first : w.far.first ≡ 1
+  pub turns : w.far.counts.turns ≤ length answers
+  pub leads : LinesLead [] (empty_world c) answers w
+  pub follow : Follow 1 c.handles [] (calls_of answers)
+  pub answered : AllByRecursion HasLineReply answers
+  pub kept : (name : List ℕ) → handle_of answers name ≡ kept_number names name
+  pub within : (name : List ℕ) (h : ℕ) → kept_number names name ≡ Some h → h < w.far.made
+
+-- ---- a line
+
+-- the line on an object whose name has this handle, if it has one
+pub line_goes : (answers : List Answer) (l : Line) (request : Request) (r : Reply) (w new : WorldState)
+    (handle : Option ℕ) → (c : Turning answers w new) → IsBuilt request
+    → IsRequest w.desk.settings.nodes request
+    → handle_named answers (name_of request) ≡ handle
+    → ((h : ℕ) → handle ≡ Some h → h < w.desk.settings.handles)
+    → LineStep l.lane.n handle request w r new
+    → Goes answers (answer_to l request r) w new c.then.shown
+line_goes answers l (Make name bytes) r w new handle c built is named ready step =
+    make_goes answers l name bytes r w new c step
+line_goes answers l (Crash node) r w new handle c built is named ready step =
+    crash_goes answers l node r w new c is step
+line_goes answers l (Join node) r w new handle c built is named ready step =
+    join_goes answers l node r w new c is step
+line_goes answers l (Read name) r w new None c built is named ready step =
+    unmade_read answers l name r w new c named step
+line_goes answers l (Read name) r w new (Some h) c built is named ready step =
+    read_goes answers l name h r w new c (ready h refl) named step
+line_goes answers l (Write name at bytes) r w new None c built is named ready step =
+    unmade_write answers l name at bytes r w new c named step
+line_goes answers l (Write name at bytes) r w new (Some h) c built is named ready step =
+    write_goes answers l name at bytes h r w new c (ready h refl) named step
+line_goes answers l (Free name) r w new None c built is named ready step =
+    unmade_free answers l name r w new c named step
+line_goes answers l (Free name) r w new (Some h) c built is named ready step =
+    free_goes answers l name h r w new c (ready h refl) named step
+line_goes answers l request r w new handle c built is named ready step = absurd built
+
+-- ---- the handle that an answer is about
+
+pub same_name : (answers : List Answer) (names : Names) (name : Option (List ℕ))
+    → ((q : List ℕ) → handle_of answers q ≡ kept_number names q)
+    → handle_named answers name ≡ handle_at names name
+same_name answers names None kept = refl
+same_name answers names (Some q) kept = kept q
+
+name_within : (names : Names) (made : ℕ) (name : Option (List ℕ)) (h : ℕ)
+    → ((q : List ℕ) (k : ℕ) → kept_number names q ≡ Some k → k < made)
+    → handle_at names name ≡ Some h → h < made
+name_within names made None h within e = absurd cc
+name_within names made (Some q) h within e = within q h e
+
+-- an answer that found its name unmade is about no object that was made
+pub about_made : (answers : List Answer) (request : Request) (r : Reply) (h made : ℕ) → IsBuilt request
+    → ((name : List ℕ) (k : ℕ) → handle_of answers name ≡ Some k → k < made)
+    → handle_for answers request r ≡ Some h → (h < made) ⊎ ((event_of request r ≡ FindsUnmade) → ⊥)
+about_made answers (Make name bytes) (answer.Made handle version) h made built within e = inr (λ z. cc)
+about_made answers (Make name bytes) r h made built within e = absurd cc
+about_made answers (Read name) r h made built within e = inl (within name h e)
+about_made answers (Write name at bytes) r h made built within e = inl (within name h e)
+about_made answers (Free name) r h made built within e = inl (within name h e)
+about_made answers (Crash node) r h made built within e = absurd cc
+about_made answers (Join node) r h made built within e = absurd cc
+about_made answers request r h made built within e = absurd built
+
+-- the answer is the map's reply after the answers before it
+pub reply_of : (answers : List Answer) (l : Line) (request : Request) (r : Reply) (w new : WorldState)
+    → (c : Turning answers w new) → IsBuilt request
+    → ((name : List ℕ) (k : ℕ) → handle_of answers name ≡ Some k → k < w.far.made)
+    → Goes answers (answer_to l request r) w new c.then.shown
+    → IsMapReply w.far.first w.desk.settings.handles (calls_of answers)
+    (called answers (answer_to l request r))
+reply_of answers l request r w new c built within goes = by (handle_for answers request r) refl
+  where
+    P : Type 0
+    P = IsMapReply w.far.first w.desk.settings.handles (calls_of answers)
+        (called answers (answer_to l request r))
+
+    some : (h : ℕ) → handle_for answers request r ≡ Some h
+        → (h < w.far.made) ⊎ ((event_of request r ≡ FindsUnmade) → ⊥) → P
+    some h e (inl below) = is_map_reply w.desk.settings.handles (calls_of answers)
+        (called answers (answer_to l request r)) c.before.shown c.then.shown w.far new.far h goes.follows
+        c.beside c.before.known.sound e below
+    some h e (inr never) = is_map_make w.desk.settings.handles (calls_of answers)
+        (called answers (answer_to l request r)) c.then.shown w.far new.far goes.follows never
+
+    by : (o : Option ℕ) → handle_for answers request r ≡ o → P
+    by None e = record { reply = goes.follows.reply; unmade = rw e tt }
+    by (Some h) e = some h e (about_made answers request r h w.far.made built within e)
+
+-- ---- the names after one more answer
+
+chosen : (test : Bool) (n : ℕ) (found kept : Option ℕ) → found ≡ kept
+    → first_of (cond test (Some n) None) found ≡ cond test (Some n) kept
+chosen true n found kept e = refl
+chosen false n found kept e = found_first found ∙ e where
+  found_first : (found : Option ℕ) → first_of None found ≡ found
+  found_first None = refl
+  found_first (Some h) = refl
+
+named_after : (names : Names) (request : Request) (reply : Reply) (name : List ℕ) (found : Option ℕ)
+    → found ≡ kept_number names name
+    → first_of (handle_made name request reply) found ≡ number_after names request reply name
+named_after names (Make made bytes) (answer.Made handle version) name found e =
+    chosen (bytes_eq made name) handle.n found (kept_number names name) e
+named_after names (Make made bytes) reply name found e = e
+named_after names request reply name found e = e
+
+-- each name's handle was made
+within_after : (names : Names) (answers : List Answer) (first handles made next : ℕ) (now : MapNow)
+    (request : Request) (reply : Reply) (name : List ℕ) (h : ℕ)
+    → ((q : List ℕ) (k : ℕ) → kept_number names q ≡ Some k → k < made)
+    → MapReplies first handles made (handle_for answers request reply) now (event_of request reply)
+    → next ≡ made + made_by (event_of request reply)
+    → number_after names request reply name ≡ Some h → h < next
+within_after names answers first handles made next now (Make text bytes) (answer.Made handle version) name h within m is e =
+    decide (bytes_eq text name) e where
+      at : handle.n ≡ made
+      at = let both : Some handle.n ≡ Some made = m.0 in cc
+
+      decide : (test : Bool) → cond test (Some handle.n) (kept_number names name) ≡ Some h → h < next
+      decide true e = let same : handle.n ≡ h = cc in omega (arith, at, is)
+      decide false e = let lt = within name h e in omega (arith, lt, is)
+within_after names answers first handles made next now (Make text bytes) reply name h within m is e =
+    let lt = within name h e in omega (arith, lt, is)
+within_after names answers first handles made next now request reply name h within m is e =
+    let lt = within name h e in omega (arith, lt, is)
+
+-- ---- one more line
+
+pub leads_push : (before after : List Answer) (w mid new : WorldState) (a : Answer)
+    → LinesLead before w after mid
+    → LineStep a.lane.n (handle_named (before ++ after) (name_of a.request)) a.request mid a.reply new
+    → LinesLead before w (after ++ a ∷ []) new
+leads_push before [] w mid new a leads step = (
+  new,
+  subst (λ (v : WorldState).
+      LineStep a.lane.n (handle_named before (name_of a.request)) a.request v a.reply new) leads
+      (subst (λ (xs : List Answer).
+      LineStep a.lane.n (handle_named xs (name_of a.request)) a.request mid a.reply new)
+      (append-nil before) step),
+  refl,
+)
+leads_push before (b ∷ after) w mid new a leads step = (
+  leads.0,
+  leads.1,
+  leads_push (before ++ b ∷ []) after leads.0 mid new a leads.2
+      (subst (λ (xs : List Answer).
+      LineStep a.lane.n (handle_named xs (name_of a.request)) a.request mid a.reply new)
+      (sym (append_assoc before (b ∷ []) after)) step),
+)
+
+all_push : (answers : List Answer) (a : Answer) → AllByRecursion HasLineReply answers
+    → HasLineReply a → AllByRecursion HasLineReply (answers ++ a ∷ [])
+all_push [] a all is = (is, tt)
+all_push (b ∷ answers) a all is = (all.0, all_push answers a all.1 is)
+
+object_settings : (seat : ℕ) (handle : Option ℕ) (request : Request) (w new : WorldState) (r : Reply)
+    → ObjectStep seat handle request w r new → new.desk.settings ≡ w.desk.settings
+object_settings seat None request w new r step = ap (λ (v : WorldState). v.desk.settings) step.1
+object_settings seat (Some h) (Read name) w new r step =
+    step_settings w new (Turn seat (job.Read (record { n = h }))) r step
+object_settings seat (Some h) (Write name at bytes) w new r step =
+    step_settings w new (Turn seat (job.Write (record { n = h }) at bytes)) r step
+object_settings seat (Some h) (Free name) w new r step =
+    step_settings w new (Turn seat (job.Free (record { n = h }))) r step
+object_settings seat (Some h) request w new r step = absurd step
+
+-- no line changes the configuration
+pub line_settings : (seat : ℕ) (handle : Option ℕ) (request : Request) (w new : WorldState) (r : Reply)
+    → LineStep seat handle request w r new → new.desk.settings ≡ w.desk.settings
+line_settings seat handle (Make name bytes) w new r step =
+    step_settings w new (Turn seat (job.Make bytes)) r step
+line_settings seat handle (Crash node) w new r step =
+    step_settings w new (Turn seat (job.Crash node)) r step
+line_settings seat handle (Join node) w new r step =
+    step_settings w new (Turn seat (job.Join node)) r step
+line_settings seat handle request w new r step = object_settings seat handle request w new r step
+
+-- what the lines after this one need
+pub along_push : (c : Config) (answers : List Answer) (l : Line) (request : Request) (r : Reply)
+    (w new : WorldState) (names kept : Names) → Along c answers w names → length answers < 20000
+    → IsSoundWorld new → IsBuilt request → IsRequest c.nodes request
+    → LineStep l.lane.n (handle_in names request) request w r new → AreKept names request r kept
+    → Along c (answers ++ answer_to l request r ∷ []) new kept
+along_push c answers l request r w new names kept along few then built is step names_after = record {
+  sound = then;
+  beside = rw more goes.follows.beside;
+  near = goes.near;
+  settings = line_settings l.lane.n (handle_in names request) request w new r step ∙ along.settings;
+  first = goes.first ∙ along.first;
+  turns = let turns = goes.turns in let before = along.turns in
+      omega (arith, turns, before, length_push answers a);
+  leads = leads_push [] answers (empty_world c) w new a along.leads step_by_answers;
+  follow = rw more (Follow-push 1 c.handles [] (calls_of answers) (called answers a) along.follow reply);
+  answered = all_push answers a along.answered goes.reply;
+  kept = λ name. handle_of-push name answers a
+      ∙ named_after names request r name (handle_of answers name) (along.kept name)
+      ∙ sym (names_after name);
+  within = λ name h e. within_after names answers 1 c.handles w.far.made new.far.made
+      (value_at (calls_of answers) (handle_for answers request r)) request r name h along.within
+      (subst (λ (n : ℕ). MapReplies 1 c.handles n (handle_for answers request r)
+      (value_at (calls_of answers) (handle_for answers request r)) (event_of request r)) along.beside.made
+      reply.reply) made (sym (names_after name) ∙ e);
+}
+  where
+    a : Answer
+    a = answer_to l request r
+
+    named : handle_named answers (name_of request) ≡ handle_in names request
+    named = same_name answers names (name_of request) along.kept
+
+    step_by_answers : LineStep l.lane.n (handle_named answers (name_of request)) request w r new
+    step_by_answers = subst (λ (o : Option ℕ). LineStep l.lane.n o request w r new) (sym named) step
+
+    most : makes (calls_of answers) ≤ c.handles
+    most = makes-le 1 c.handles [] (calls_of answers) (omega arith) along.follow
+
+    turning : Turning answers w new
+    turning = record {
+      before = along.sound;
+      then = then;
+      near = along.near;
+      few = let turns = along.turns in omega (arith, turns, few);
+      beside = along.beside;
+    }
+
+    goes : Goes answers a w new then.shown
+    goes = line_goes answers l request r w new (handle_in names request) turning built
+        (subst (λ (d : Config). IsRequest d.nodes request) (sym along.settings) is) named
+        (λ h e. let lt = name_within names w.far.made (name_of request) h along.within e in
+        let same = ap (λ (d : Config). d.handles) along.settings in
+        omega (arith, lt, most, along.beside.made, same)) step
+
+    reply : IsMapReply 1 c.handles (calls_of answers) (called answers a)
+    reply = rw along.first at (subst (λ (d : Config).
+        IsMapReply w.far.first d.handles (calls_of answers) (called answers a)) along.settings
+        (reply_of answers l request r w new turning built
+        (λ name k e. along.within name k (sym (along.kept name) ∙ e)) goes))
+
+    more : calls_of (answers ++ a ∷ []) ≡ calls_of answers ++ called answers a ∷ []
+    more = calls_of-push answers a
+
+    made : new.far.made ≡ w.far.made + made_by (event_of request r)
+    made = sym goes.follows.beside.made ∙ makes-push (calls_of answers) (called answers a)
+        ∙ ap (λ (n : ℕ). n + made_by (event_of request r)) along.beside.made
+
+-- the names of the next request have handles
+pub along_ready : (c : Config) (answers : List Answer) (w : WorldState) (names : Names)
+    → Along c answers w names → AreReady w.desk.settings.handles names
+along_ready c answers w names along = λ name h e.
+    let lt = along.within name h e in
+    let most = makes-le 1 c.handles [] (calls_of answers) (omega arith) along.follow in
+    let same = ap (λ (d : Config). d.handles) along.settings in
+    omega (arith, lt, most, along.beside.made, same)
+
+-- at first no object was made
+empty_map : (c : Config) → IsAccepted c → (sound : IsSoundWorld (empty_world c))
+    → IsMapBeside [] sound.shown (empty_far c)
+empty_map c ok sound =
+    beside_kept [] (empty_shown c) sound.shown (empty_far c) (empty_far c) (empty_beside c) refl
+    (λ k. now_same (empty_words c) (empty_shown c) sound.shown (empty_far c) k (empty_shows c)
+    (empty_sound c (let n = (ok Nodes).1 in omega (arith, n))) sound.known.shows sound.known.sound)
+
+-- nothing was answered yet
+pub along_none : (c : Config) (w : WorldState) (names : Names) → IsAccepted c → w ≡ empty_world c
+    → ((name : List ℕ) → kept_number names name ≡ None) → Along c [] w names
+along_none c w names accepted is none =
+    subst (λ (v : WorldState). Along c [] v names) (sym is) (record {
+      sound = empty_world_sound c accepted;
+      beside = empty_map c accepted (empty_world_sound c accepted);
+      near = record { sets = refl; leaving = refl };
+      settings = refl;
+      first = refl;
+      turns = omega arith;
+      leads = refl;
+      follow = tt;
+      answered = tt;
+      kept = λ name. sym (none name);
+      within = λ name h e. let both : None ≡ Some h = sym (none name) ∙ e in absurd cc;
+    })
+
+-- what the world holds
+pub along_holds : (c : Config) (answers : List Answer) (w : WorldState) (names : Names)
+    → Along c answers w names → HoldsAnswers w answers
+along_holds c answers w names along = record {
+  shown = along.sound.shown;
+  known = along.sound.known;
+  beside = along.beside;
+}
+
+-- the lines that were answered
+pub lines_push : (lines : List Line) (i : ℕ) (answers : List Answer) (l : Line) (request : Request)
+    (r : Reply) → i < length lines → l ≡ get_or lines i l → map asked answers ≡ take i lines
+    → request ≡ l.request → map asked (answers ++ answer_to l request r ∷ []) ≡ take (i + 1) lines
+lines_push lines i answers l request r lt at so_far copied =
+    rw copied (map_push asked answers (answer_to l l.request r)
+    ∙ ap (λ (ls : List Line). ls ++ l ∷ []) so_far
+    ∙ ap (λ (x : Line). take i lines ++ x ∷ []) at ∙ sym (take_more lines i l lt))
+
+-- the losses of one more answer
+pub losses_push : (answers : List Answer) (a : Answer)
+    → losses_of (answers ++ a ∷ []) ≡ losses_of answers ++ cons_option (loss_of a.request a.reply) []
+losses_push answers a =
+    filter_map-append (λ (b : Answer). loss_of b.request b.reply) answers (a ∷ [])
+
+-- every line has a lane and a request of their forms
+pub line_form : (nodes : ℕ) (before lines : List Line) (i : ℕ) (l : Line) → AreLines nodes before lines
+    → i < length lines → l ≡ get_or lines i l → IsRequest nodes l.request × (l.lane.n ≤ 15)
+line_form nodes before (x ∷ lines) zero l all below at =
+    subst (λ (y : Line). IsRequest nodes y.request × (y.lane.n ≤ 15)) (sym at)
+    (all.0.request, all.0.lane.low)
+line_form nodes before (x ∷ lines) (suc i) l all below at =
+    line_form nodes (before ++ x ∷ []) lines i l all.1 (omega (arith, below)) at
+line_form nodes before [] i l all below at = absurd (omega (arith, below))
+
+-- every line's request is built
+pub line_built : (lines : List Line) (i : ℕ) (l : Line) → AllByRecursion (λ x. IsBuilt x.request) lines
+    → i < length lines → l ≡ get_or lines i l → IsBuilt l.request
+line_built (x ∷ lines) zero l all below at =
+    subst (λ (y : Line). IsBuilt y.request) (sym at) all.0
+line_built (x ∷ lines) (suc i) l all below at =
+    line_built lines i l all.1 (omega (arith, below)) at
+line_built [] i l all below at = absurd (omega (arith, below))

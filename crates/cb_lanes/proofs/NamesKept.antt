@@ -1,0 +1,56 @@
+-- The names after a make.
+use Rattle.std.proofs.Common.{◌≡◌, ◌⊎◌, ℕ, ◌<◌, Bool, true, false, cond, List, Option, Some, None, refl, sym, ap, ◌∙◌, subst, inl, inr}
+use Rattle.std.specs.Option.{option_map}
+use Rattle.std.specs.BTreeMap.{UpdatesBy}
+use Rattle.std.specs.Cmp.Lexicographic.{slice_cmp}
+use Rattle.std.specs.Ordering.{nat_cmp}
+use Rattle.std.specs.Str.{bytes_eq}
+use Rattle.std.proofs.lemmas.Map.Text.{btree_map_updates_str}
+use Rattle.cb_types.specs.declared.handle.Handle.{Handle}
+use Rattle.cb_types.specs.declared.job.Job.TheVariants as job
+use Rattle.cb_types.specs.declared.request.Request.TheVariants.{Make}
+use Rattle.cb_types.specs.declared.reply.Reply.{Reply}
+use Rattle.cb_types.specs.declared.reply.Reply.TheVariants as reply
+use Rattle.cb_world.specs.World.{WorldState}
+use Rattle.cb_mutate.specs.MakeStep.{IsMakeStep}
+use Rattle.cb_core.specs.Room.{final_reply}
+use Rattle.cb_core.specs.Step.{TurnStep, worn, done}
+use Rattle.cb_core.specs.Turned.{counted}
+use Rattle.cb_lanes.specs.Names.{Names, kept_handle, kept_number, AreKept, AreReady, handle_at}
+
+mapped : (test : Bool) (here other : Option Handle) (found : Option Handle)
+    → found ≡ cond test here other
+    → option_map (λ (h : Handle). h.n) found
+    ≡ cond test (option_map (λ (h : Handle). h.n) here) (option_map (λ (h : Handle). h.n) other)
+mapped true here other found e = ap (option_map (λ (h : Handle). h.n)) e
+mapped false here other found e = ap (option_map (λ (h : Handle). h.n)) e
+
+-- a make that was given a handle has it kept under its name
+pub made_names : (names kept : Names) (name bytes text : List ℕ) (handle : Handle) (version : ℕ)
+    → text ≡ name
+    → UpdatesBy (λ x y. slice_cmp nat_cmp x.now y.now) (λ k. slice_cmp nat_cmp text k.now) names kept
+    (Some handle)
+    → AreKept names (Make name bytes) (reply.Made handle version) kept
+made_names names kept name bytes text handle version same updates q =
+    rw same at (mapped (bytes_eq text q) (Some handle) (kept_handle names q) (kept_handle kept q)
+    (btree_map_updates_str text names kept (Some handle) updates q))
+
+-- a make that was refused leaves them
+pub refused_names : (w new : WorldState) (names : Names) (name bytes : List ℕ) (r : Reply)
+    → TurnStep (job.Make bytes) w r new
+    → ((handle : Handle) (version : ℕ) → r ≡ reply.Made handle version → ⊥)
+    → AreKept names (Make name bytes) r names
+refused_names w new names name bytes r (worn end is same) never =
+    subst (λ (q : Reply). AreKept names (Make name bytes) q names) (sym is) (λ q. refl)
+refused_names w new names name bytes r (done q few works is seats) never = go works
+  where
+    to : (p : Reply) → q ≡ p → AreKept names (Make name bytes) (final_reply new p) names
+        → AreKept names (Make name bytes) r names
+    to p e kept = subst (λ (z : Reply). AreKept names (Make name bytes) z names)
+        (sym (is ∙ ap (final_reply new) e)) kept
+
+    go : IsMakeStep w.desk new.desk (counted w.far (job.Make bytes)) new.far bytes q
+        → AreKept names (Make name bytes) r names
+    go (inl (made, e, x, y)) = to (reply.Full w.desk.settings.handles) e (λ k. refl)
+    go (inr (more, inl (crammed, e, x, y))) = to reply.NoFrame e (λ k. refl)
+    go (inr (more, inr (e, z))) = absurd (never _ _ (is ∙ ap (final_reply new) e))

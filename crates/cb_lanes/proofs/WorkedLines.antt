@@ -1,0 +1,92 @@
+-- Worked examples: the losses of answers, the replies that lines may have, and the steps of lines.
+use Rattle.std.proofs.Common.{◌≡◌, ℕ, ◌+◌, List, [], ◌∷◌, Some, None, refl, sym, ap, ◌∙◌, arith}
+use Rattle.cb_member.specs.declared.names.Epoch.{Epoch}
+use Rattle.cb_member.specs.declared.names.Loss.{Loss}
+use Rattle.cb_types.specs.declared.answer.Answer.{Answer}
+use Rattle.cb_types.specs.declared.config.Config.{Config}
+use Rattle.cb_types.specs.declared.job.Job.TheVariants as job
+use Rattle.cb_types.specs.declared.request.Request.{Request}
+use Rattle.cb_types.specs.declared.request.Request.TheVariants.{Read, Write, Crash, Join, Evict}
+use Rattle.cb_types.specs.declared.reply.Reply.{Reply}
+use Rattle.cb_types.specs.declared.reply.Reply.TheVariants.{Bytes, EpochAt, Down, Up, Range, Unmade, Freed, Version}
+use Rattle.cb_world.specs.World.{WorldState, empty_world}
+use Rattle.cb_core.specs.Membership.{is_up}
+use Rattle.cb_core.specs.Step.{done}
+use Rattle.cb_core.specs.Turned.{counted}
+use Rattle.cb_lanes.specs.Asked.{HasLineReply}
+use Rattle.cb_lanes.specs.LineStep.{job_on, LineStep, LinesLead}
+use Rattle.cb_lanes.specs.Lost.{loss_of, losses_of}
+
+abbrev answer : Request → Reply → Answer
+answer request reply = record { lane = record { n = 1 }; line = 2; request = request; reply = reply }
+
+abbrev crash : ℕ → Reply → Answer
+crash n reply = answer (Crash (record { n = n })) reply
+
+abbrev epoch : ℕ → Reply
+epoch n = EpochAt (record { n = n })
+
+-- ---- losses
+
+pub two_crashes : losses_of (crash 3 (epoch 1) ∷ answer (Join (record { n = 3 })) (epoch 2) ∷ crash 3 (epoch 3)
+    ∷ crash 3 (Down (record { n = 3 })) ∷ [])
+    ≡ record { node = record { n = 3 }; epoch = record { n = 1 } }
+    ∷ record { node = record { n = 3 }; epoch = record { n = 3 } } ∷ []
+two_crashes = refl
+
+a_join_loses_nothing : loss_of (Join (record { n = 3 })) (epoch 2) ≡ None
+a_join_loses_nothing = refl
+
+-- ---- replies of lines
+
+shown : HasLineReply (answer (Read (97 ∷ [])) (Bytes 1 (7 ∷ [])))
+shown = tt
+
+no_read_is_out_of_range : HasLineReply (answer (Read (97 ∷ [])) (Range 1)) → ⊥
+no_read_is_out_of_range is = is
+
+no_join_is_down : HasLineReply (answer (Join (record { n = 3 })) (Down (record { n = 3 }))) → ⊥
+no_join_is_down is = is
+
+-- ---- steps of lines
+
+a_write_is_a_write : job_on 4 (Write (97 ∷ []) 2 (9 ∷ []))
+    ≡ Some (job.Write (record { n = 4 }) 2 (9 ∷ []))
+a_write_is_a_write = refl
+
+not_built : job_on 4 Evict ≡ None
+not_built = refl
+
+-- a name that has no handle is unmade, and nothing happens
+unmade : (w : WorldState) → LineStep 1 None (Read (97 ∷ [])) w Unmade w
+unmade w = (refl, refl)
+
+another_reply : (w : WorldState) → LineStep 1 None (Read (97 ∷ [])) w Freed w → ⊥
+another_reply w step = absurd (let e = step.0 in cc)
+
+another_world : (w new : WorldState) → LineStep 1 None (Read (97 ∷ [])) w Unmade new
+    → new.far.made ≡ w.far.made + 1 → ⊥
+another_world w new step more = omega (arith, more, ap (λ (v : WorldState). v.far.made) step.1)
+
+-- a join of a node that is up is a turn, and changes nothing else
+abbrev small : Config
+small = record { k = 2; r = 2; nodes = 4; frames = 2; room = 2; handles = 2; turns = 0 }
+
+abbrev node : ℕ
+node = 3
+
+abbrev joined : WorldState
+joined = record (empty_world small) {
+  far = counted (empty_world small).far (job.Join (record { n = node }));
+}
+
+a_join : LineStep 1 None (Join (record { n = node })) (empty_world small) (Up (record { n = node })) joined
+a_join = done (Up (record { n = node })) (omega arith) (refl, is_up refl refl refl) refl refl
+
+leads : LinesLead [] (empty_world small) (answer (Join (record { n = node })) (Up (record { n = node })) ∷ [])
+    joined
+leads = (joined, a_join, refl)
+
+-- without lines the world stays
+no_line : LinesLead [] (empty_world small) [] joined → ⊥
+no_line is = omega (arith, ap (λ (v : WorldState). v.far.counts.turns) is)

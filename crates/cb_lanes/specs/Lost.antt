@@ -1,0 +1,18 @@
+-- The losses of a run.
+use Rattle.std.specs.Prelude.{List, Option, None, Some}
+use Rattle.std.specs.List.{filter_map}
+use Rattle.cb_member.specs.declared.names.Loss.{Loss}
+use Rattle.cb_types.specs.declared.answer.Answer.{Answer}
+use Rattle.cb_types.specs.declared.request.Request.{Request}
+use Rattle.cb_types.specs.declared.request.Request.TheVariants.{Crash}
+use Rattle.cb_types.specs.declared.reply.Reply.{Reply}
+use Rattle.cb_types.specs.declared.reply.Reply.TheVariants.{EpochAt}
+
+-- the node of a crash that took place, with its epoch
+abbrev pub loss_of : Request → Reply → Option Loss
+loss_of (Crash node) (EpochAt epoch) = Some (record { node = node; epoch = epoch })
+loss_of request reply = None
+
+-- the crashes that took place, in the order of the answers
+abbrev pub losses_of : List Answer → List Loss
+losses_of answers = filter_map (λ a. loss_of a.request a.reply) answers

@@ -1,0 +1,56 @@
+-- The names that were made, and their handles.
+use Rattle.std.specs.Prelude.{◌≡◌, ℕ, ◌<◌, List, Option, Some, None, if◌then◌else◌}
+use Rattle.std.specs.BTreeMap.{BTreeMap, get_by}
+use Rattle.std.specs.Cmp.Lexicographic.{slice_cmp}
+use Rattle.std.specs.Option.{option_map}
+use Rattle.std.specs.Ordering.{nat_cmp}
+use Rattle.std.specs.Borrow.{Bor}
+use Rattle.std.specs.Str.{bytes_eq}
+use Rattle.cb_types.specs.declared.handle.Handle.{Handle}
+use Rattle.cb_types.specs.declared.request.Request.{Request}
+use Rattle.cb_types.specs.declared.request.Request.TheVariants.{Make, Read, Write, Free}
+use Rattle.cb_types.specs.declared.reply.Reply.{Reply}
+use Rattle.cb_types.specs.declared.reply.Reply.TheVariants.{Made}
+use Rattle.cb_types.specs.Requests.{name_of}
+
+-- names and their handles, as they are kept
+abbrev pub Names : Type 0
+Names = BTreeMap (Bor (List ℕ)) Handle
+
+-- the handle that is kept for a name
+abbrev pub kept_handle : Names → List ℕ → Option Handle
+kept_handle names name = get_by (λ k. slice_cmp nat_cmp name k.now) names
+
+-- its number
+abbrev pub kept_number : Names → List ℕ → Option ℕ
+kept_number names name = option_map (λ handle. handle.n) (kept_handle names name)
+
+-- the handle that is kept for a request's name
+abbrev pub handle_at : Names → Option (List ℕ) → Option ℕ
+handle_at names None = None
+handle_at names (Some name) = kept_number names name
+
+abbrev pub handle_in : Names → Request → Option ℕ
+handle_in names request = handle_at names (name_of request)
+
+-- the names after an answer: a make that was given a handle has it kept under its name
+abbrev pub number_after : Names → Request → Reply → List ℕ → Option ℕ
+number_after names (Make name bytes) (Made handle version) other =
+    if bytes_eq name other then Some handle.n else kept_number names other
+number_after names request reply other = kept_number names other
+
+-- the names after an answer
+abbrev pub AreKept : Names → Request → Reply → Names → Type 0
+AreKept names request reply kept =
+    (name : List ℕ) → kept_number kept name ≡ number_after names request reply name
+
+-- each name's handle is one of so many
+abbrev pub AreReady : ℕ → Names → Type 0
+AreReady handles names = (name : List ℕ) (h : ℕ) → kept_number names name ≡ Some h → h < handles
+
+-- the request is a read, a write or a free
+abbrev pub IsOnObject : Request → Type 0
+IsOnObject (Read name) = Unit {0}
+IsOnObject (Write name at bytes) = Unit {0}
+IsOnObject (Free name) = Unit {0}
+IsOnObject request = ⊥

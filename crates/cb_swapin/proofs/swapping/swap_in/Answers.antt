@@ -1,0 +1,163 @@
+use Rattle.std.proofs.Common.{◌≡◌, ℕ, ◌<◌, List, [], Option, None, Some, length, refl, sym, ap, ◌∙◌, subst}
+use Rattle.cb_frame.specs.FreeFrames.{least_free}
+use Rattle.cb_set.specs.SetState.{dead_position, with_position}
+use Rattle.cb_world.specs.declared.homes.Home.{Home}
+use Rattle.cb_world.specs.declared.shown.Shown.{Shown}
+use Rattle.cb_world.specs.Fetched.{rows_needed}
+use Rattle.cb_world.specs.Played.{played}
+use Rattle.cb_world.specs.Sets.{set_in}
+use Rattle.cb_world.specs.Sound.{Sound}
+use Rattle.cb_world.specs.Stored.{AreThere}
+use Rattle.cb_world.specs.FarState.{FarState}
+use Rattle.cb_swapin.specs.Brings.{Brings}
+use Rattle.cb_swapin.specs.Named.{AreCleared}
+use Rattle.cb_swapin.specs.Fetching.{far_given}
+use Rattle.cb_swapin.proofs.Committed.{live_within}
+use Rattle.cb_swapin.proofs.Waits.{Arrives, homes_within, names_apart, waiting}
+use Rattle.cb_swapin.proofs.ArrivedFar.{sound_arrived, there_of}
+use Rattle.cb_swapin.proofs.Swapped.{by_frame, has_arrived, is_whole, swapped_in, swapped_to, unavailable, with_arrived}
+use Rattle.cb_swapin.proofs.swapping.swap_in.Goals as goal
+
+pub returns-in-Some-clause-swap : goal.returns-in-Some-clause-swap
+returns-in-Some-clause-swap g c =
+    let far = c.args.far.now in let live = c.requires.live in let set = live.0 in record {
+      events = [];
+      ran = g.met.D.Desk.none _;
+      looks_first = tt;
+      rule = record {
+        set = set;
+        there = live.1;
+        reply = unavailable far c.args.id.n set c.in-Some.lost
+            (sym (c.in_ok-lost.ensures set live.1) ∙ c.in-Some.is);
+        state = (refl, refl);
+      };
+      allowed = λ s k. tt;
+      sound_after = λ s k. k.1;
+      effect = λ s k. refl;
+    }
+
+pub returns-in_default-least-clause-swap : goal.returns-in_default-least-clause-swap
+returns-in_default-least-clause-swap g c =
+    let far = c.args.far.now in let live = c.requires.live in let set = live.0 in
+    let whole = is_whole far set (sym (c.in_ok-lost.ensures set live.1) ∙ c.in_default.is) in
+    let least : least_free far.frames ≡ None =
+    sym (ap least_free (c.free_set.ensures ∙ ap (λ (q : FarState). q.frames) c.far.view_is))
+    ∙ sym c.least.ensures.least ∙ c.in_default-least.is in record {
+      events = [];
+      ran = g.met.D.Desk.none _;
+      looks_first = tt;
+      rule = record {
+        set = set;
+        there = live.1;
+        reply = by_frame far c.args.id.n set None whole least;
+        state = (refl, refl);
+      };
+      allowed = λ s k. tt;
+      sound_after = λ s k. k.1;
+      effect = λ s k. refl;
+    }
+
+pub bring_span-requires-clause-apart : goal.bring_span-requires-clause-apart
+bring_span-requires-clause-apart g c =
+    let far = c.args.far.now in let live = c.requires.live in let had = c.requires.sound in
+    let x = c.in_ok-span.ensures.fetched live.0 live.1 in
+    names_apart had.0 far c.args.id.n c.args.position live.0 c.in_ok-span.span.slots
+    had.2.away.sound live.1 x.slots
+
+pub bring_span-requires-clause-homes : goal.bring_span-requires-clause-homes
+bring_span-requires-clause-homes g c h named =
+    let far = c.args.far.now in let live = c.requires.live in let had = c.requires.sound in
+    let x = c.in_ok-span.ensures.fetched live.0 live.1 in
+    let now = c.far-2.view_is ∙ c.in_ok-span.ensures.far live.0 live.1 in
+    subst (λ (l : List (Option Home)). h < length l) (sym (ap (λ (q : FarState). q.homes) now))
+    (homes_within had.0 far c.args.id.n c.args.position live.0 c.in_ok-span.span.slots
+    had.2.away.sound live.1 x.slots h named)
+
+pub bring_span-requires-clause-waiting : goal.bring_span-requires-clause-waiting
+bring_span-requires-clause-waiting g c =
+    let far = c.args.far.now in let live = c.requires.live in let set = live.0 in
+    let had = c.requires.sound in let s = had.0 in
+    let sized = g.met.D.Desk.sized _ s had.1 in (
+      s,
+      had.1,
+      waiting s far c.args.id.n c.args.position set c.in-Some-least.frame c.in_ok-span.span
+          c.fetch_span.new.row (record {
+            sound = had.2;
+            there = live.1;
+            live = live.2;
+            whole = is_whole far set (sym (c.in_ok-lost.ensures set live.1) ∙ c.in_default.is);
+            least = sym (ap least_free (c.free_set.ensures
+                ∙ ap (λ (q : FarState). q.frames) c.far.view_is))
+                ∙ sym c.least.ensures.least ∙ c.in-Some-least.is;
+            flags = sized.1 ∙ sym sized.0;
+            fetched = c.in_ok-span.ensures.fetched set live.1;
+          }),
+    )
+
+pub keep_span-requires-clause-set : goal.keep_span-requires-clause-set
+keep_span-requires-clause-set g c =
+    let far = c.args.far.now in let live = c.requires.live in let set = live.0 in
+    let had = c.requires.sound in
+    let now = c.far-2.view_is ∙ c.in_ok-span.ensures.far set live.1 in (
+      set,
+      ap (λ (q : FarState). set_in q.sets c.args.id.n) now ∙ live.1,
+      live_within set c.args.position live.2,
+      subst (λ (q : FarState). AreThere q.nodes set.shards) (sym now)
+          (there_of had.0 far c.args.id.n set had.2.away.sound live.1),
+    )
+
+pub returns-clause-swap : goal.returns-clause-swap
+returns-clause-swap g c =
+    let far = c.args.far.now in let live = c.requires.live in let set = live.0 in
+    let id = c.args.id.n in let p = c.args.position in let f = c.in-Some-least.frame in
+    let span = c.in_ok-span.span in let row = c.fetch_span.new.row in
+    let n = rows_needed far.members set p in
+    let whole = is_whole far set (sym (c.in_ok-lost.ensures set live.1) ∙ c.in_default.is) in
+    let least : least_free far.frames ≡ Some f =
+    sym (ap least_free (c.free_set.ensures ∙ ap (λ (q : FarState). q.frames) c.far.view_is))
+    ∙ sym c.least.ensures.least ∙ c.in-Some-least.is in
+    let fetched = c.in_ok-span.ensures.fetched set live.1 in
+    let now = c.far-2.view_is ∙ c.in_ok-span.ensures.far set live.1 in
+    let homes = c.bring_span.new.homes in
+    let new = c.keep_span.new.far in
+    let rest = with_position set p dead_position in
+    let left : new ≡ with_arrived (far_given far n) homes id rest f span =
+    c.keep_span.ensures set (ap (λ (q : FarState). set_in q.sets id) now ∙ live.1)
+    ∙ ap (λ (q : FarState). with_arrived q homes id rest f span) now in
+    let cleared = subst (λ (l : List (Option Home)). AreCleared span.slots l homes)
+    (ap (λ (q : FarState). q.homes) now) c.bring_span.ensures.homes in
+    let b = c.bring_span.ensures.brought in
+    let arrives = λ (s : Shown) (a : g.D.Desk.shows c.args.desk.now s) (sound : Sound s far).
+    let sized = g.met.D.Desk.sized _ s a in
+    let x : Arrives s far id p set f span row = record {
+      sound = sound;
+      there = live.1;
+      live = live.2;
+      whole = whole;
+      least = least;
+      flags = sized.1 ∙ sym sized.0;
+      fetched = fetched;
+    } in x in
+    let knows = λ (s : Shown) (a : g.D.Desk.shows c.args.desk.now s) (sound : Sound s far).
+    waiting s far id p set f span row (arrives s a sound) in
+    let arrived = λ (s : Shown) (a : g.D.Desk.shows c.args.desk.now s) (sound : Sound s far).
+    has_arrived s (played b.events s) far new homes id p set f n span row left cleared
+    (b.effect s (a, knows s a sound)) in record {
+      events = b.events;
+      ran = b.ran;
+      looks_first = b.looks_first;
+      rule = record {
+        set = set;
+        there = live.1;
+        reply = by_frame far id set (Some f) whole least;
+        state = (
+          swapped_to far new homes id p set f span row fetched left cleared,
+          subst (λ (l : List (Option ℕ)). Brings l f b.events) fetched.slots b.tells,
+        );
+      };
+      allowed = λ s k. b.allowed s (k.0, knows s k.0 k.1);
+      sound_after = λ s k. sound_arrived s (played b.events s) far new id p set f n span row
+          (arrives s k.0 k.1) (arrived s k.0 k.1);
+      effect = λ s k. swapped_in s (played b.events s) far new id p set f n span row b.events
+          (arrives s k.0 k.1) (arrived s k.0 k.1) (b.nothing s (k.0, knows s k.0 k.1));
+    }

@@ -1,0 +1,7 @@
+pub mod Named
+pub mod Brings
+pub mod Waiting
+pub mod BroughtIn
+pub mod Fetching
+pub mod SwapRule
+pub mod SwapEffect

@@ -1,0 +1,69 @@
+-- The rule of a swap-in.
+use Rattle.std.specs.Prelude.{◌≡◌, ℕ, List, [], Option, None, Some, length, if◌then◌else◌, slice_set}
+use Rattle.cb_class.specs.declared.class.Class.{Class}
+use Rattle.cb_class.specs.Class.{IsClass, slots_of}
+use Rattle.cb_frame.specs.FreeFrames.{least_free, with_taken}
+use Rattle.cb_span.specs.declared.temp.Temp.TheVariants.{Hot}
+use Rattle.cb_span.specs.Contents.{span_of}
+use Rattle.cb_set.specs.SetState.{SetState, dead_position, position_of, with_position}
+use Rattle.cb_set.specs.Lost.{lost}
+use Rattle.cb_types.specs.declared.reply.Reply.{Reply}
+use Rattle.cb_types.specs.declared.reply.Reply.TheVariants as answer
+use Rattle.cb_world.specs.declared.event.Event.{Event}
+use Rattle.cb_world.specs.Sets.{set_in}
+use Rattle.cb_world.specs.SetWord.{is_broken}
+use Rattle.cb_world.specs.FarState.{FarState}
+use Rattle.cb_world.specs.Fetched.{rows_needed, with_given}
+use Rattle.cb_world.specs.LeftOver.{nodes_left, sets_left}
+use Rattle.cb_swapin.specs.Named.{AreCleared}
+use Rattle.cb_swapin.specs.Brings.{Brings}
+
+-- the least free frame is taken, if there is one
+abbrev pub frame_answer : Option ℕ → Reply
+frame_answer None = answer.NoFrame
+frame_answer (Some f) = answer.Swapped f
+
+-- what a swap-in of the set is answered: unavailable where it has lost more shards than it has
+-- parities, with all that it lost
+abbrev pub swap_answer : FarState → ℕ → SetState → Reply
+swap_answer far id set =
+    if is_broken far.members set
+    then answer.Unavailable (record { n = id }) (lost far.members set.shards)
+    else frame_answer (least_free far.frames)
+
+-- The far state once position p of the set was brought into the frame: the frame is taken, and has
+-- the hot span of the position's slots, whose count tells their class; the objects have no home;
+-- the rows that were needed were given out; the position is dead, and a set with no live position
+-- is dropped with its rows. All else is as it was.
+pub record IsSwappedTo (far new : FarState) (id p : ℕ) (set : SetState) (f : ℕ) : Type 0 where
+  pub class : Class
+  pub in_table : IsClass class
+  pub sized : length (position_of set p).slots ≡ slots_of class
+  pub frames : new.frames ≡ with_taken far.frames f
+  pub spans : new.spans
+      ≡ slice_set far.spans f (Some (span_of class Hot (position_of set p).slots))
+  pub homes : AreCleared (position_of set p).slots far.homes new.homes
+  pub sets : new.sets ≡ sets_left far.sets id (with_position set p dead_position)
+  pub nodes : new.nodes
+      ≡ nodes_left (with_given far.nodes (rows_needed far.members set p))
+      (with_position set p dead_position)
+  pub rest : new ≡ record far {
+    frames = new.frames;
+    spans = new.spans;
+    homes = new.homes;
+    sets = new.sets;
+    nodes = new.nodes;
+  }
+
+-- the far state after a swap-in with this reply, and its events; a refusal changes nothing
+abbrev pub SwapFar : FarState → FarState → ℕ → ℕ → SetState → List Event → Reply → Type 0
+SwapFar far new id p set es (answer.Swapped f) =
+    IsSwappedTo far new id p set f × Brings (position_of set p).slots f es
+SwapFar far new id p set es _ = (new ≡ far) × (es ≡ [])
+
+-- the reply of a swap-in of position p of the set of a number, and the far state after it
+pub record SwapRule (id p : ℕ) (far new : FarState) (r : Reply) (es : List Event) : Type 0 where
+  pub set : SetState
+  pub there : set_in far.sets id ≡ Some set
+  pub reply : r ≡ swap_answer far id set
+  pub state : SwapFar far new id p set es r

@@ -1,0 +1,123 @@
+ghost use Rattle.std.specs.Prelude.{◌≡◌, ℕ, true, false, ◌+◌, ◌^◌, ◌<◌, ◌≤◌, List, Some, IfOk, OnOk, OnErr, length, slice_set};
+ghost use Rattle.cb_types.specs.Config.{IsAccepted};
+ghost use Rattle.cb_frame.specs.FreeFrames.{least_free, with_taken};
+ghost use Rattle.cb_set.specs.SetState.{SetState, dead_position, live_at, position_of, with_position};
+ghost use Rattle.cb_world.specs.declared.event.Event.{Event};
+ghost use Rattle.cb_world.specs.declared.shown.Shown.{Shown};
+ghost use Rattle.cb_world.specs.Sets.{set_in};
+ghost use Rattle.cb_world.specs.SetWord.{is_broken};
+ghost use Rattle.cb_world.specs.FarSound.{AwaySound};
+ghost use Rattle.cb_world.specs.Sound.{Sound};
+ghost use Rattle.cb_world.specs.Fetched.{rows_needed};
+ghost use Rattle.cb_world.specs.Stored.{AreThere};
+ghost use Rattle.cb_world.specs.LeftOver.{nodes_left, sets_left};
+ghost use Rattle.cb_world.specs.Performs.{Performs};
+ghost use Rattle.cb_swapin.specs.Fetching.{IsFetched, far_given, losses_of};
+ghost use Rattle.cb_swapin.specs.SwapRule.{SwapRule};
+ghost use Rattle.cb_swapin.specs.SwapEffect.{SwapEffect};
+
+use crate::bringing::bring_span;
+use cb_class::{SPAN_BYTES, class_with_slots};
+use cb_member::Losses;
+use cb_span::{Span, Temp};
+use cb_types::{NoMemory, Reply, SetId};
+use cb_world::{Desk, Far, fetch, kill_position};
+
+/// Swaps the span of a live position of a committed set in. Takes all memory before anything is
+/// changed; where there is none, at most k rows were given out and nothing else has changed.
+///
+/// Refuses with Unavailable where the set has lost more shards than it has parities, and then with
+/// NoFrame where no frame is free. Else the least free frame has the span, hot and with the slots of
+/// the position: their objects are here, not hot, at the version that they had. The row is the
+/// position's own where its shard is not lost (one row is given out), else the one that the k least
+/// other positions make whose shards are not lost (k rows are given out). The position is dead then,
+/// and a set with no live position goes with all its rows.
+pub fn swap_in<D: Desk>(
+    desk: &mut D,
+    far: &mut Far,
+    id: SetId,
+    position: u32,
+) -> Result<Reply, NoMemory>
+    requires config { IsAccepted (D.settings desk.old) }
+    requires live { (set : SetState) × (set_in far.old.sets id.n ≡ Some set)
+        × (live_at set position ≡ true) }
+    requires sound { (s : Shown) × D.shows desk.old s × Sound s far.old }
+    requires given { far.old.nodes.given + 16 < 2 ^ 64 }
+    ensures swap { IfOk result (λ reply. Performs (λ es. D.run desk.old es desk.new)
+        (λ s. D.shows desk.old s × Sound s far.old)
+        (SwapRule id.n position far.old far.new reply)
+        (λ t. Sound t far.new)
+        (SwapEffect id.n position far.old far.new reply)) }
+    ensures desk { OnErr result (desk.new ≡ desk.old) }
+    ensures far { OnErr result ((set : SetState) → set_in far.old.sets id.n ≡ Some set → (n : ℕ)
+        × (n ≤ length set.positions) × (far.new ≡ far_given far.old n)) }
+{
+    if let Some(lost) = losses(far, id)? {
+        return Ok(Reply::Unavailable { set: id, lost });
+    }
+    let Some(frame) = far.frames.free_set().least() else {
+        return Ok(Reply::NoFrame);
+    };
+    let mut row = [0; SPAN_BYTES as usize];
+    let span = fetch_span(far, id, position, &mut row)?;
+    bring_span(desk, &mut far.homes, frame, &span, &row);
+    keep_span(far, id, position, frame, span);
+    Ok(Reply::Swapped { frame })
+}
+
+/// What a committed set has lost, where it has lost more shards than it has parities.
+fn losses(far: &Far, id: SetId) -> Result<Option<Losses>, NoMemory>
+    requires sound { (s : Shown) × AwaySound s far.now }
+    requires there { (set : SetState) × (set_in far.now.sets id.n ≡ Some set) }
+    ensures { IfOk result (λ lost. (set : SetState) → set_in far.now.sets id.n ≡ Some set
+        → lost ≡ losses_of far.now set) }
+{
+    let set = far.sets.committed(id.n).unwrap();
+    if set.lost_count(&far.members) <= set.r() {
+        return Ok(None);
+    }
+    Ok(Some(set.lost(far.alloc, &far.members)?))
+}
+
+/// The span of a live position of a committed set, and its row in `row`. Takes all memory that a
+/// swap-in needs.
+fn fetch_span(far: &mut Far, id: SetId, position: u32, row: &mut [u8]) -> Result<Span, NoMemory>
+    requires sound { (s : Shown) × AwaySound s far.old }
+    requires live { (set : SetState) × (set_in far.old.sets id.n ≡ Some set)
+        × (live_at set position ≡ true) × (is_broken far.old.members set ≡ false) }
+    requires given { far.old.nodes.given + 16 < 2 ^ 64 }
+    requires row { length row.old ≡ 4096 }
+    ensures fetched { IfOk result (λ span. (set : SetState) → set_in far.old.sets id.n ≡ Some set
+        → IsFetched far.old set position span row.new) }
+    ensures far { OnOk result ((set : SetState) → set_in far.old.sets id.n ≡ Some set
+        → far.new ≡ far_given far.old (rows_needed far.old.members set position)) }
+    ensures error { OnErr result ((set : SetState) → set_in far.old.sets id.n ≡ Some set → (n : ℕ)
+        × (n ≤ length set.positions) × (far.new ≡ far_given far.old n)) }
+{
+    let set = far.sets.committed(id.n).unwrap();
+    let slots = set.slots(position);
+    let class = class_with_slots(slots.len() as u32).unwrap();
+    let span = Span::from_slots(far.alloc, class, Temp::Hot, slots)?;
+    fetch(far.alloc, &mut far.nodes, &far.members, set, position, row)?;
+    Ok(span)
+}
+
+/// Puts the span that was brought in into the least free frame. Its position is dead then, and a set
+/// with no live position goes with all its rows.
+fn keep_span(far: &mut Far, id: SetId, position: u32, frame: u32, span: Span)
+    requires frame { least_free far.old.frames ≡ Some frame }
+    requires within { frame < length far.old.spans }
+    requires set { (set : SetState) × (set_in far.old.sets id.n ≡ Some set)
+        × (position < length set.positions) × AreThere far.old.nodes set.shards }
+    ensures { (set : SetState) → set_in far.old.sets id.n ≡ Some set
+        → far.new ≡ record far.old {
+          frames = with_taken far.old.frames frame;
+          spans = slice_set far.old.spans frame (Some span);
+          sets = sets_left far.old.sets id.n (with_position set position dead_position);
+          nodes = nodes_left far.old.nodes (with_position set position dead_position);
+        } }
+{
+    far.frames.take();
+    far.spans.put(frame, span);
+    kill_position(&mut far.sets, &mut far.nodes, id.n, position);
+}

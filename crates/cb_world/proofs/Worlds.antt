@@ -1,0 +1,111 @@
+-- The empty world is sound.
+use Rattle.std.proofs.Common.{sum_by, ap, ◌∙◌, sym, get_or, length, ◌≤◌, length-set, ◌^◌, ◌+◌, ◌≡◌, ℕ, ◌*◌, ◌<◌, false, [], replicate, arith}
+use Rattle.std.specs.List.{All}
+use Rattle.std.proofs.lemmas.List.{length-replicate}
+use Rattle.std.proofs.lemmas.List.Elements.{All-replicate}
+use Rattle.std.proofs.lemmas.List.Folds.{sum_by-replicate}
+use Rattle.std.proofs.lemmas.List.Sums.{sum_by-set}
+use Rattle.cb_world.specs.Counts.{CountsState, with_turn}
+use Rattle.cb_world.specs.FarState.{FarState}
+use Rattle.cb_types.specs.declared.config.Config.{Config}
+use Rattle.cb_types.specs.declared.config.Field.TheVariants.{Nodes}
+use Rattle.cb_types.specs.Config.{IsAccepted}
+use Rattle.std.specs.FinMap as map
+use Rattle.cb_ptr.specs.Word.{hot_of, pins_of}
+use Rattle.cb_world.specs.declared.object.Object.{Object}
+use Rattle.cb_world.specs.declared.object.Object.TheVariants as is
+use Rattle.cb_world.specs.declared.seats.Pin.{Pin}
+use Rattle.cb_world.specs.Shown.{object_at, never}
+use Rattle.cb_world.specs.Empty.{empty_words, empty_shown, empty_far}
+use Rattle.cb_world.specs.Seats.{SeatState, idle_seat, pins_on, all_pins_on}
+use Rattle.cb_world.specs.World.{AreCounted, IsKnown, ArePinned, IsSoundWorld, empty_world, word_at}
+use Rattle.cb_world.proofs.Empty.{empty_sound, empty_shows, no_object, reads_one}
+
+not_here : (o : Object) (len place : ℕ) → o ≡ never → o ≡ is.Here len place → ⊥
+not_here o len place e q = cc
+
+known : (c : Config) → IsAccepted c → IsKnown (empty_words c) (empty_far c) (empty_shown c)
+known c ok = record {
+  sized = record {
+    words = length-replicate c.handles 0;
+    versions = length-replicate c.handles 0;
+    memory = length-replicate (512 * c.frames) 0;
+  };
+  shows = empty_shows c;
+  hots = λ h below. reads_one c.handles h false ∙ ap hot_of (sym (reads_one c.handles h 0));
+  sound = empty_sound c (let n = (ok Nodes).1 in omega (arith, n));
+  here = λ h len place below e.
+      absurd (not_here (object_at (empty_shown c) h) len place (no_object c h) e);
+}
+
+none_on : (h : ℕ) → all_pins_on h (replicate 64 idle_seat) ≡ 0
+none_on h = sum_by-replicate (λ (seat : SeatState). pins_on h seat.pins) 64 idle_seat
+
+no_pins : (c : Config) (h : ℕ) → pins_of (word_at (empty_words c) h) ≡ 0
+no_pins c h = ap pins_of (reads_one c.handles h 0)
+
+none_of : (P : Pin → Type 0) → All P []
+none_of P = λ k d lt. absurd (omega (arith, lt))
+
+idle : (P : SeatState → Type 0) → P idle_seat → All P (replicate 64 idle_seat)
+idle P p = All-replicate P 64 idle_seat p
+
+pinned : (c : Config) → ArePinned (empty_words c) (replicate 64 idle_seat)
+pinned c = record {
+  count = length-replicate 64 idle_seat;
+  few = idle (λ (seat : SeatState). length seat.pins ≤ 16) (omega arith);
+  counted = λ h below. no_pins c h ∙ sym (none_on h);
+  known = idle (λ (seat : SeatState).
+      All (λ (pin : Pin). pin.handle < length (empty_words c).words) seat.pins) (none_of _);
+  here = λ h below some. absurd (let n = no_pins c h in omega (arith, n, some));
+  versions = idle (λ (seat : SeatState).
+      All (λ (pin : Pin). pin.version ≡ get_or (empty_words c).versions pin.handle 0) seat.pins)
+      (none_of _);
+}
+
+-- the empty world is sound
+pub empty_world_sound : (c : Config) → IsAccepted c → IsSoundWorld (empty_world c)
+empty_world_sound c ok = record {
+  config = ok;
+  configured = record {
+    frames = length-replicate c.frames _;
+    homes = length-replicate c.handles _;
+    nodes = length-replicate c.nodes (map.empty {K = ℕ});
+  };
+  shown = empty_shown c;
+  known = known c ok;
+  pinned = pinned c;
+  counted = record {
+    kinds = length-replicate {A = ℕ} 19 0;
+    jobs = sum_by-replicate (λ (n : ℕ). n) 19 0;
+    turns = omega arith;
+    sets = omega arith;
+    keys = omega arith;
+    epoch = omega arith;
+    given = omega arith;
+  };
+}
+
+-- a turn more is counted: a node may have crashed or joined, and the other numbers stay
+pub counted_more : (far new : FarState) (kind : ℕ) → AreCounted far → far.counts.turns < 2 ^ 40
+    → kind < 19 → new.counts ≡ with_turn far.counts kind
+    → new.members.epoch ≤ far.members.epoch + 1 → new.nodes.given ≡ far.nodes.given
+    → AreCounted new
+counted_more far new kind c few below counts epoch given =
+    let old = far.counts in
+    let lt : kind < length old.by_job = (let n = c.kinds in omega (arith, n, below)) in
+    let sum = sum_by-set (λ (n : ℕ). n) old.by_job kind (get_or old.by_job kind 0 + 1) 0 lt in
+    let jobs = c.jobs in let sets = c.sets in let keys = c.keys in let e = c.epoch in let g = c.given in
+    record {
+      kinds = ap (λ (x : CountsState). length x.by_job) counts
+          ∙ length-set old.by_job kind _ ∙ c.kinds;
+      jobs = ap (λ (x : CountsState). sum_by (λ n. n) x.by_job) counts
+          ∙ (let total : sum_by (λ (n : ℕ). n) (with_turn old kind).by_job ≡ old.turns + 1 =
+          omega (arith, sum, jobs) in total)
+          ∙ sym (ap (λ (x : CountsState). x.turns) counts);
+      turns = rw counts (omega (arith, few));
+      sets = rw counts (omega (arith, sets));
+      keys = rw counts (omega (arith, keys));
+      epoch = rw counts (omega (arith, e, epoch));
+      given = rw counts (omega (arith, g, given));
+    }

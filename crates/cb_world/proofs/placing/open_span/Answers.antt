@@ -1,0 +1,44 @@
+use Rattle.std.proofs.Common.{List, Bool, Option, Some, refl, sym, ap, ◌∙◌, arith, set}
+use Rattle.cb_class.proofs.Laws.{slots_at_least}
+use Rattle.cb_frame.specs.FreeFrames.{least_free, free_count, with_taken}
+use Rattle.cb_span.specs.Contents.{Contents}
+use Rattle.cb_world.specs.FarState.{FarState}
+use Rattle.cb_world.proofs.Slots.{placed_in_new, first_taken, none_free}
+use Rattle.cb_world.proofs.placing.open_span.Goals as goal
+
+pub returns-then-free-eq0-clause-placed : goal.returns-then-free-eq0-clause-placed
+returns-then-free-eq0-clause-placed c = (
+  record {
+    full = c.requires.full;
+    taken = none_free c.args.far.now.frames c.free.result
+        (c.free.ensures ∙ ap (λ (far : FarState). free_count far.frames) c.far.view_is)
+        c.if-free-eq0.true;
+  },
+  refl,
+)
+
+pub slot_place-requires-clause-slot : goal.slot_place-requires-clause-slot
+slot_place-requires-clause-slot c =
+    omega (arith, slots_at_least c.args.class c.requires.class)
+
+pub returns-clause-placed : goal.returns-clause-placed
+returns-clause-placed c =
+    let f = c.in-Some.frame in let h = c.args.handle in
+    let span = first_taken c.args.class c.args.temp h c.in_ok-span.span c.place.new.self
+    c.place.result c.requires.class c.in_ok-span.ensures.fresh c.place.ensures.least
+    c.place.ensures.placed in
+    placed_in_new c.args.far.now _ c.args.class c.args.temp h f c.slot_place.result
+    c.requires.full
+    (sym (ap (λ (far : FarState). least_free far.frames) c.far.view_is)
+    ∙ sym c.in-Some.ensures.least)
+    (ap (λ (far : FarState). let q : FarState =
+    record far { frames = c.take.new.self; spans = c.put.new.self } in q) c.far.view_is
+    ∙ ap (λ (l : List Bool). let q : FarState =
+    record c.args.far.now { frames = l; spans = c.put.new.self } in q) (c.in-Some.ensures.taken
+    ∙ ap (λ (far : FarState). with_taken far.frames f) c.far.view_is)
+    ∙ ap (λ (l : List (Option Contents)). let q : FarState =
+    record c.args.far.now { frames = with_taken c.args.far.now.frames f; spans = l } in q)
+    (c.put.ensures
+    ∙ ap (λ (far : FarState). set far.spans f (Some c.place.new.self)) c.far.view_is
+    ∙ ap (λ (x : Contents). set c.args.far.now.spans f (Some x)) span))
+    c.slot_place.ensures.place

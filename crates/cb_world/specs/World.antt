@@ -1,0 +1,83 @@
+-- The world on one thread, and what is sound of it.
+use Rattle.std.specs.Prelude.{◌≡◌, ℕ, ◌*◌, ◌^◌, ◌<◌, ◌≤◌, true, List, length, replicate, slice_index}
+use Rattle.std.specs.Prelude.{All}
+use Rattle.std.specs.List.{sum_by}
+use Rattle.cb_types.specs.declared.config.Config.{Config}
+use Rattle.cb_types.specs.Config.{IsAccepted}
+use Rattle.cb_ptr.specs.declared.word.State.TheVariants as word
+use Rattle.cb_ptr.specs.Word.{state_of, hot_of, pins_of}
+use Rattle.cb_world.specs.declared.object.Object.TheVariants as is
+use Rattle.cb_world.specs.declared.shown.Shown.{Shown}
+use Rattle.cb_world.specs.Shown.{object_at, hot_at}
+use Rattle.cb_world.specs.Plain.{Words, Shows, IsSized}
+use Rattle.cb_world.specs.Empty.{empty_words, empty_far}
+use Rattle.cb_world.specs.FarState.{FarState}
+use Rattle.cb_world.specs.Seats.{SeatState, idle_seat, all_pins_on}
+use Rattle.cb_world.specs.Sound.{Sound}
+
+-- the words of local memory at the still desk, the far state, and the seats
+pub record WorldState : Type 0 where
+  pub desk : Words
+  pub far : FarState
+  pub seats : List SeatState
+
+-- no object was made, all frames are free, all nodes are up without rows, and all seats are idle
+abbrev pub empty_world : Config → WorldState
+empty_world c = record {
+  desk = empty_words c;
+  far = empty_far c;
+  seats = replicate 64 idle_seat;
+}
+
+-- the pointer word of a handle
+abbrev pub word_at : Words → ℕ → ℕ
+word_at desk h = slice_index desk.words h
+
+-- What the holder of the far lock knows of the still desk, where it knows all: the words are as it
+-- says, with each hot bit, and the world is sound.
+pub record IsKnown (desk : Words) (far : FarState) (s : Shown) : Type 0 where
+  pub sized : IsSized desk
+  pub shows : Shows desk s
+  pub hots : (h : ℕ) → h < length desk.words → hot_at s h ≡ hot_of (word_at desk h)
+  pub sound : Sound s far
+  -- an object that is here and not claimed has a word that is here: no seat claims one
+  pub here : (h len place : ℕ) → h < length desk.words → object_at s h ≡ is.Here len place
+      → state_of (word_at desk h) ≡ word.Here
+
+-- The pins of each word are those that the seats have on it; an object with pins is here, and hot.
+pub record ArePinned (desk : Words) (seats : List SeatState) : Type 0 where
+  pub count : length seats ≡ 64
+  pub few : All (λ seat. length seat.pins ≤ 16) seats
+  pub counted : (h : ℕ) → h < length desk.words → pins_of (word_at desk h) ≡ all_pins_on h seats
+  pub known : All (λ seat. All (λ pin. pin.handle < length desk.words) seat.pins) seats
+  pub here : (h : ℕ) → h < length desk.words → 1 ≤ pins_of (word_at desk h)
+      → (state_of (word_at desk h) ≡ word.Here) × (hot_of (word_at desk h) ≡ true)
+  -- a pin's version is that of the object, for as long as the pin is there
+  pub versions : All (λ seat. All (λ pin. pin.version ≡ slice_index desk.versions pin.handle) seat.pins)
+      seats
+
+-- What was counted: turns, in all and by job; and each number that is drawn or rises is at most 2^20
+-- times the turns.
+pub record AreCounted (far : FarState) : Type 0 where
+  pub kinds : length far.counts.by_job ≡ 19
+  pub jobs : sum_by (λ n. n) far.counts.by_job ≡ far.counts.turns
+  pub turns : far.counts.turns ≤ 2 ^ 40
+  pub sets : far.counts.sets ≤ 2 ^ 20 * far.counts.turns
+  pub keys : far.counts.keys ≤ 2 ^ 20 * far.counts.turns
+  pub epoch : far.members.epoch ≤ 2 ^ 20 * far.counts.turns
+  pub given : far.nodes.given ≤ 2 ^ 20 * far.counts.turns
+
+-- The far state has as many frames, homes and nodes as the configuration says.
+pub record IsConfigured (c : Config) (far : FarState) : Type 0 where
+  pub frames : length far.spans ≡ c.frames
+  pub homes : length far.homes ≡ c.handles
+  pub nodes : length far.nodes.nodes ≡ c.nodes
+
+-- The world is sound.
+pub record IsSoundWorld (w : WorldState) : Type 0 where
+  pub config : IsAccepted w.desk.settings
+  pub configured : IsConfigured w.desk.settings w.far
+  pub shown : Shown
+  pub known : IsKnown w.desk w.far shown
+  pub pinned : ArePinned w.desk w.seats
+  pub counted : AreCounted w.far
