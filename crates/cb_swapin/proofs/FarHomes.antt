@@ -10,9 +10,10 @@ use Rattle.cb_world.specs.declared.homes.Home.{Home}
 use Rattle.cb_world.specs.declared.shown.Shown.{Shown}
 use Rattle.cb_world.specs.Shown.{object_at}
 use Rattle.cb_world.specs.Homes.{home_at}
-use Rattle.cb_world.specs.Now.{now}
+use Rattle.cb_world.specs.Now.{broken_home, broken_set, is_gone, now}
 use Rattle.cb_world.specs.Plain.{Words}
 use Rattle.cb_world.specs.Sets.{set_in}
+use Rattle.cb_world.specs.SetWord.{is_broken}
 use Rattle.cb_world.specs.FarState.{FarState}
 use Rattle.cb_world.specs.World.{word_at, IsKnown}
 use Rattle.cb_world.proofs.Alike.{recounted_sound}
@@ -57,6 +58,13 @@ far_home x far s h k away = elim (cases_lt h (length x.words)) [
             lies.2,
           ),
         )
+
+-- the object of a home is gone where the set of its home is broken
+pub gone_is_broken : (far : FarState) (h : ℕ) (home : Home) (set : SetState)
+    → home_at far.homes h ≡ Some home → set_in far.sets home.set ≡ Some set
+    → is_gone far h ≡ is_broken far.members set
+gone_is_broken far h home set at there =
+    ap (broken_home far) at ∙ ap (broken_set far.members) there
 
 -- ---- a swap-in that found no memory: its rows were given out, and nothing else was done
 pub given_known : (x : Words) (far : FarState) (s : Shown) (n : ℕ) → IsKnown x far s

@@ -15,6 +15,7 @@ pub mod SwapStep
 pub mod SwapKeeps
 pub mod SwapPins
 pub mod FarHomes
+pub mod SwapWorld
 mod WorkedNamed
 mod WorkedSwap
 mod WorkedSwapStep

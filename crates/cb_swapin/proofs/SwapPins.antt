@@ -12,6 +12,7 @@ use Rattle.cb_span.specs.declared.temp.Temp.TheVariants.{Hot}
 use Rattle.cb_span.specs.Contents.{Contents, span_of}
 use Rattle.cb_span.specs.Places.{slot_place}
 use Rattle.cb_types.specs.declared.reply.Reply.{Reply}
+use Rattle.cb_types.specs.declared.reply.Reply.TheVariants as answer
 use Rattle.cb_world.specs.declared.object.Object.{Object}
 use Rattle.cb_world.specs.declared.object.Object.TheVariants as is
 use Rattle.cb_world.specs.declared.shown.Shown.{Shown}
@@ -21,6 +22,8 @@ use Rattle.cb_world.specs.Plain.{Words}
 use Rattle.cb_world.specs.StillDesk.{here_is}
 use Rattle.cb_world.specs.StillWords.{contents_at}
 use Rattle.cb_world.specs.Sets.{set_in}
+use Rattle.cb_world.specs.declared.homes.Home.{Home}
+use Rattle.cb_world.specs.Homes.{home_at}
 use Rattle.cb_world.specs.FarState.{FarState, span_in}
 use Rattle.cb_world.specs.LocalSound.{LiesAt}
 use Rattle.cb_world.specs.World.{word_at, IsKnown}
@@ -31,6 +34,7 @@ use Rattle.cb_swapin.specs.SwapStep.{IsSwapped, IsSwapStep, brought_word}
 use Rattle.cb_swapin.proofs.SlotNames.{named_or_not}
 use Rattle.cb_swapin.proofs.Waits.{free_frame}
 use Rattle.cb_swapin.proofs.ArrivedFar.{other_words}
+use Rattle.cb_swapin.proofs.SwapAnswers.{only_swapped}
 use Rattle.cb_swapin.proofs.SwapWords.{far_within}
 use Rattle.cb_swapin.proofs.SwapKeeps.{step_cases}
 
@@ -195,3 +199,27 @@ contents_stay x y far new id p r s k z h below near =
         ∙ ap (λ (l : List ℕ). window l (place_of v) (words_for (len_of v))) w.words.memory
         ∙ other_words x.memory f c.frame (row_at w.rows p) off (place_of v) (words_for (len_of v))
         inside.0 inside.1
+
+-- ---- a step that came into a frame
+-- each object that the position names came in
+pub step_comes_in : (x y : Words) (far new : FarState) (s t : Shown) (id p f : ℕ)
+    → IsKnown x far s → IsKnown y new t → (z : IsSwapStep x y far new id p (answer.Swapped f))
+    → (slot h : ℕ) → Names (position_of z.set p).slots slot h
+    → HasComeIn x y z.change.state.class f slot h
+step_comes_in x y far new s t id p f k l z =
+    come_in x y far new s t id p z.set f k l z.there (only_swapped far id z.set f (sym z.reply)).1
+    z.change
+
+-- and so an object whose home it is
+pub home_comes_in : (x y : Words) (far new : FarState) (s t : Shown) (h : ℕ) (home : Home) (f : ℕ)
+    → IsKnown x far s → IsKnown y new t → home_at far.homes h ≡ Some home
+    → (z : IsSwapStep x y far new home.set home.position (answer.Swapped f))
+    → HasComeIn x y z.change.state.class f home.slot h
+home_comes_in x y far new s t h home f k l at z =
+    let lies = k.sound.away.sound.away.home h home at in
+    let same : lies.0 ≡ z.set = set_same lies.0 z.set (sym lies.1 ∙ z.there) in
+    step_comes_in x y far new s t home.set home.position f k l z home.slot h
+    (subst (λ (q : SetState). Names (position_of q home.position).slots home.slot h) same lies.2)
+  where
+    set_same : (a b : SetState) → Some a ≡ Some b → a ≡ b
+    set_same a b e = cc
