@@ -54,7 +54,7 @@ abbrev pub pin_on : ℕ → ℕ → Pin
 pin_on h version = record { handle = h; version = version }
 
 abbrev pub seat_with : List Pin → SeatState
-seat_with pins = record { pins = pins; claims = []; holds = false }
+seat_with pins = record { pins = pins; claims = []; holds = false; order = None }
 
 -- object 0 has this word at version 3, and two seats have these pins
 abbrev pub world : FarState → ℕ → List Pin → List Pin → WorldState

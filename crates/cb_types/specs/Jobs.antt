@@ -1,14 +1,28 @@
 -- The kinds of jobs.
 use Rattle.std.specs.Prelude.{ℕ}
 use Rattle.cb_types.specs.declared.job.Job.{Job}
-use Rattle.cb_types.specs.declared.job.Job.TheVariants.{Make, Read, Write, Free, Crash, Join}
+use Rattle.cb_types.specs.declared.job.Job.TheVariants.{Make, Read, Write, Free, Swap, Filter, Evict, Begin, Ship, Commit, Abort, Pair, Patch, Merge, Part, Compact, Rebuild, Crash, Join}
 
--- The number of a job's kind: the calls on objects (0 to 3), and the membership (17 and 18). Those
--- between are the numbers of jobs that are still to come.
+-- The number of a job's kind: the calls on objects (0 to 3), what moves one span or object (4 and 5),
+-- what leaves (6 to 10), what is joined (11 to 15), what is made again (16), and the membership (17
+-- and 18).
 abbrev pub job_index : Job → ℕ
 job_index (Make bytes) = 0
 job_index (Read handle) = 1
 job_index (Write handle at bytes) = 2
 job_index (Free handle) = 3
+job_index (Swap handle) = 4
+job_index (Filter handle) = 5
+job_index Evict = 6
+job_index Begin = 7
+job_index Ship = 8
+job_index Commit = 9
+job_index Abort = 10
+job_index Pair = 11
+job_index Patch = 12
+job_index Merge = 13
+job_index Part = 14
+job_index Compact = 15
+job_index Rebuild = 16
 job_index (Crash node) = 17
 job_index (Join node) = 18

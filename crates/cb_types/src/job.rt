@@ -26,6 +26,36 @@ pub enum Job {
     Free {
         handle: Handle,
     },
+    /// The object's span comes back into local memory.
+    Swap {
+        handle: Handle,
+    },
+    /// The object moves to a span of its temperature.
+    Filter {
+        handle: Handle,
+    },
+    /// A batch of spans leaves local memory, whole.
+    Evict,
+    /// A batch of spans begins to leave.
+    Begin,
+    /// The next row of the leaving batch is put on a node.
+    Ship,
+    /// The leaving batch is a span-set from here.
+    Commit,
+    /// The leaving batch stays in local memory.
+    Abort,
+    /// Two span-sets begin to be joined.
+    Pair,
+    /// The next row of the joining pair is made.
+    Patch,
+    /// The joining pair is one span-set from here.
+    Merge,
+    /// The joining pair stays two span-sets.
+    Part,
+    /// Two span-sets are joined, whole.
+    Compact,
+    /// A lost row is made again on another node.
+    Rebuild,
     /// The node crashes: its rows are lost.
     Crash {
         node: NodeId,
@@ -47,6 +77,19 @@ impl Job {
             Job::Read { .. } => 1,
             Job::Write { .. } => 2,
             Job::Free { .. } => 3,
+            Job::Swap { .. } => 4,
+            Job::Filter { .. } => 5,
+            Job::Evict => 6,
+            Job::Begin => 7,
+            Job::Ship => 8,
+            Job::Commit => 9,
+            Job::Abort => 10,
+            Job::Pair => 11,
+            Job::Patch => 12,
+            Job::Merge => 13,
+            Job::Part => 14,
+            Job::Compact => 15,
+            Job::Rebuild => 16,
             Job::Crash { .. } => 17,
             Job::Join { .. } => 18,
         }

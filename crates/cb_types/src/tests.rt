@@ -140,3 +140,11 @@ fn plain_and_standard_streams_pass_bytes_on(rt: HostRuntime) -> Result<(), Fail>
     assert_eq!(rt; writer.into_writer().as_slice(), [7, 8, 9].as_slice());
     Ok(())
 }
+
+#[test]
+fn positions_are_copied_in_order(rt: HostRuntime) -> Result<(), Fail> {
+    let positions = Positions::copy_of(&[3, 0, 19]);
+    assert_eq!(rt; positions.as_slice(), [3, 0, 19].as_slice());
+    assert_eq!(rt; Positions::copy_of(&[]).as_slice().len(), 0);
+    Ok(())
+}

@@ -7,6 +7,8 @@ use Rattle.std.proofs.lemmas.List.Elements.{All-cons, All-replicate}
 use Rattle.cb_ptr.specs.declared.word.State.TheVariants as word
 use Rattle.cb_ptr.specs.Word.{state_of, hot_of, pins_of}
 use Rattle.cb_types.specs.declared.config.Config.{Config}
+use Rattle.cb_types.specs.declared.order.Kept.{Kept}
+use Rattle.cb_types.specs.declared.order.Kept.TheVariants as kept
 use Rattle.cb_world.specs.declared.seats.Pin.{Pin}
 use Rattle.cb_world.specs.FarState.{FarState}
 use Rattle.cb_world.specs.Pinned.{IsPinned, IsUnpinned, with_word}
@@ -19,7 +21,7 @@ abbrev pin_on : ℕ → ℕ → Pin
 pin_on h version = record { handle = h; version = version }
 
 abbrev seat_with : List Pin → SeatState
-seat_with pins = record { pins = pins; claims = []; holds = false }
+seat_with pins = record { pins = pins; claims = []; holds = false; order = None }
 
 -- ---- the pins of a seat
 abbrev three : List Pin
@@ -60,8 +62,11 @@ all_seats_count : all_pins_on 0 (seat_with three ∷ idle_seat ∷ seat_with (pi
 all_seats_count = refl
 
 -- other pins of one seat; what else it has stays, and so do the other seats
-one_seat : with_pins (record { pins = three; claims = 7 ∷ []; holds = true } ∷ idle_seat ∷ []) 0 []
-    ≡ record { pins = []; claims = 7 ∷ []; holds = true } ∷ idle_seat ∷ []
+abbrev an_order : Option Kept
+an_order = Some (kept.Encode (record { set = 3; k = 1; r = 1; rows = [] }))
+
+one_seat : with_pins (record { pins = three; claims = 7 ∷ []; holds = true; order = an_order } ∷ idle_seat ∷ []) 0 []
+    ≡ record { pins = []; claims = 7 ∷ []; holds = true; order = an_order } ∷ idle_seat ∷ []
 one_seat = refl
 
 -- ---- words and pins

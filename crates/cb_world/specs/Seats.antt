@@ -1,18 +1,20 @@
 -- The seats from which callers act, and their pins.
-use Rattle.std.specs.Prelude.{◌≡◌, ◌≢◌, ℕ, ◌<◌, Bool, false, nat_eq, List, [], Some, slice_get, slice_index_or, slice_set, if◌then◌else◌}
+use Rattle.std.specs.Prelude.{◌≡◌, ◌≢◌, ℕ, ◌<◌, Bool, false, nat_eq, List, [], Option, None, Some, slice_get, slice_index_or, slice_set, if◌then◌else◌}
 use Rattle.std.specs.List.{sum_by}
+use Rattle.cb_types.specs.declared.order.Kept.{Kept}
 use Rattle.cb_world.specs.declared.seats.Pin.{Pin}
 
--- what a seat has: its pins, the newest one last, the handles of the objects that it claims, and
--- whether it holds the far lock
+-- what a seat has: its pins, the newest one last, the handles of the objects that it claims, whether
+-- it holds the far lock, and the order that it keeps
 pub record SeatState : Type 0 where
   pub pins : List Pin
   pub claims : List ℕ
   pub holds : Bool
+  pub order : Option Kept
 
 -- a seat that has nothing
 abbrev pub idle_seat : SeatState
-idle_seat = record { pins = []; claims = []; holds = false }
+idle_seat = record { pins = []; claims = []; holds = false; order = None }
 
 abbrev pub seat_at : List SeatState → ℕ → SeatState
 seat_at seats seat = slice_index_or seats seat idle_seat

@@ -37,7 +37,7 @@ pub use joining::Joining;
 pub use leaving::{Former, Leaving};
 pub use leftover::{kill_position, remove_far};
 pub use object::Object;
-pub use placing::place_object;
+pub use placing::{leaving_frames, place_object};
 pub use plain_desk::PlainDesk;
 pub use releasing::release;
 pub use seats::{MOST_PINS, Pin, SEATS, Seat, Seats};

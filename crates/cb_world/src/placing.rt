@@ -10,7 +10,7 @@ use cb_member::NoMemory;
 use cb_span::{Span, Temp, slot_place};
 
 /// The frames of the batch that is leaving, and none where no batch is.
-fn leaving_frames(leaving: &Option<Leaving>) -> &[u32]
+pub fn leaving_frames(leaving: &Option<Leaving>) -> &[u32]
     ensures { result.now ≡ leaving_frames leaving.now }
 {
     match leaving {

@@ -5,6 +5,7 @@ ghost use Rattle.cb_world.specs.Seats.{SeatState, IsNewest, NoneOn, idle_seat, p
 
 use arrayvec::ArrayVec;
 use cb_member::NoMemory;
+use cb_types::Kept;
 use std::alloc::Global;
 use std::marker::Model;
 
@@ -21,13 +22,14 @@ pub struct Pin {
     pub version: u64,
 }
 
-/// What a seat has: its pins, the newest one last, the handles of the objects that it claims, and
-/// whether it holds the far lock.
+/// What a seat has: its pins, the newest one last, the handles of the objects that it claims, whether
+/// it holds the far lock, and the order that it keeps.
 #[derive(Drop)]
 pub struct Seat {
     pins: ArrayVec<Pin, MOST_PINS>,
     claims: Vec<u32>,
     holds: bool,
+    order: Option<Kept>,
 }
 
 impl Model for Seat {
@@ -39,6 +41,7 @@ impl Model for Seat {
       pins = a.pins.items;
       claims = a.claims.items;
       holds = a.holds;
+      order = a.order;
     } };
 }
 
@@ -58,7 +61,7 @@ impl Model for Seats {
 }
 
 impl Seats {
-    /// All seats idle: no pin, no claim, and none holds the far lock.
+    /// All seats idle: no pin, no claim, no order, and none holds the far lock.
     pub fn new(alloc: Global) -> Result<Seats, NoMemory>
         ensures idle { IfOk result (λ seats. seats ≡ replicate 64 idle_seat) }
     {
@@ -68,6 +71,7 @@ impl Seats {
                 pins: ArrayVec::new(),
                 claims: Vec::new(alloc),
                 holds: false,
+                order: None,
             })?;
         }
         Ok(Seats { seats })

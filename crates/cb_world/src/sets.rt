@@ -102,14 +102,16 @@ impl Sets {
         Ok(())
     }
 
-    /// Makes a data position of the set of that number dead, in place. Takes no memory.
+    /// Makes a data position of the set of that number dead, in place; where there is no such set
+    /// nothing changes. Takes no memory.
     pub fn kill(&mut self, id: u64, position: u32)
         requires { IfSome (map.get self.old id)
             (λ kept. position < length kept.set.positions) }
-        ensures { (kept : Kept) → map.get self.old id ≡ Some kept → self.new
+        ensures killed { (kept : Kept) → map.get self.old id ≡ Some kept → self.new
             ≡ map.insert self.old id (record kept {
               set = with_position kept.set position dead_position;
             }) }
+        ensures none { map.get self.old id ≡ None → self.new ≡ self.old }
     {
         if let Some(kept) = self.sets.get_mut(&id) {
             kept.kill(position);
@@ -117,15 +119,16 @@ impl Sets {
     }
 
     /// Takes the object out of a slot of the set of that number, in place. A position that names no
-    /// handle then is dead. Takes no memory.
+    /// handle then is dead. Where there is no such set nothing changes. Takes no memory.
     pub fn take_out(&mut self, id: u64, position: u32, slot: u32)
         requires { IfSome (map.get self.old id)
             (λ kept. position < length kept.set.positions) }
-        ensures { (kept : Kept) → map.get self.old id ≡ Some kept → self.new
+        ensures taken { (kept : Kept) → map.get self.old id ≡ Some kept → self.new
             ≡ map.insert self.old id (record kept {
               set = with_position kept.set position
                   (without_object (position_of kept.set position) slot);
             }) }
+        ensures none { map.get self.old id ≡ None → self.new ≡ self.old }
     {
         if let Some(kept) = self.sets.get_mut(&id) {
             kept.take_out(position, slot);

@@ -6,13 +6,13 @@ use Rattle.cb_world.proofs.leftover.kill_position.Goals as goal
 pub drop_if_dead-requires : goal.drop_if_dead-requires
 drop_if_dead-requires c =
     let x = c.requires.set in let set = x.0 in let rest = with_position set c.args.position dead_position in
-    let now = c.kill.ensures _ (is_kept c.args.sets.now c.args.id set x.1) in
+    let now = c.kill.ensures.killed _ (is_kept c.args.sets.now c.args.id set x.1) in
     record { set = (rest, there_after c.args.sets.now c.kill.new.self c.args.id rest now, x.3) }
 
 pub returns-clause-sets : goal.returns-clause-sets
 returns-clause-sets c = λ set at.
     let rest = with_position set c.args.position dead_position in
-    let now = c.kill.ensures _ (is_kept c.args.sets.now c.args.id set at) in
+    let now = c.kill.ensures.killed _ (is_kept c.args.sets.now c.args.id set at) in
     c.drop_if_dead.ensures.sets rest
     (there_after c.args.sets.now c.kill.new.self c.args.id rest now)
     ∙ left_after c.args.sets.now c.kill.new.self c.args.id rest now
@@ -20,6 +20,6 @@ returns-clause-sets c = λ set at.
 pub returns-clause-nodes : goal.returns-clause-nodes
 returns-clause-nodes c = λ set at.
     let rest = with_position set c.args.position dead_position in
-    let now = c.kill.ensures _ (is_kept c.args.sets.now c.args.id set at) in
+    let now = c.kill.ensures.killed _ (is_kept c.args.sets.now c.args.id set at) in
     c.drop_if_dead.ensures.nodes rest
     (there_after c.args.sets.now c.kill.new.self c.args.id rest now)

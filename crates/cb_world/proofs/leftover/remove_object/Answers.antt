@@ -7,14 +7,14 @@ pub drop_if_dead-requires : goal.drop_if_dead-requires
 drop_if_dead-requires c =
     let x = c.requires.set in let set = x.0 in let rest = with_position set c.args.position
     (without_object (position_of set c.args.position) c.args.slot) in
-    let now = c.take_out.ensures _ (is_kept c.args.sets.now c.args.id set x.1) in
+    let now = c.take_out.ensures.taken _ (is_kept c.args.sets.now c.args.id set x.1) in
     record { set = (rest, there_after c.args.sets.now c.take_out.new.self c.args.id rest now, x.3) }
 
 pub returns-clause-sets : goal.returns-clause-sets
 returns-clause-sets c = λ set at.
     let rest = with_position set c.args.position
     (without_object (position_of set c.args.position) c.args.slot) in
-    let now = c.take_out.ensures _ (is_kept c.args.sets.now c.args.id set at) in
+    let now = c.take_out.ensures.taken _ (is_kept c.args.sets.now c.args.id set at) in
     c.drop_if_dead.ensures.sets rest
     (there_after c.args.sets.now c.take_out.new.self c.args.id rest now)
     ∙ left_after c.args.sets.now c.take_out.new.self c.args.id rest now
@@ -23,6 +23,6 @@ pub returns-clause-nodes : goal.returns-clause-nodes
 returns-clause-nodes c = λ set at.
     let rest = with_position set c.args.position
     (without_object (position_of set c.args.position) c.args.slot) in
-    let now = c.take_out.ensures _ (is_kept c.args.sets.now c.args.id set at) in
+    let now = c.take_out.ensures.taken _ (is_kept c.args.sets.now c.args.id set at) in
     c.drop_if_dead.ensures.nodes rest
     (there_after c.args.sets.now c.take_out.new.self c.args.id rest now)

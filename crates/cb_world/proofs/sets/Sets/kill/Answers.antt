@@ -1,4 +1,4 @@
-use Rattle.std.proofs.Common.{◌≡◌, ◌<◌, true, IfSome, length, is_some, ap, sym, ◌∙◌, subst, Option}
+use Rattle.std.proofs.Common.{◌≡◌, ◌<◌, true, false, IfSome, length, is_some, ap, sym, ◌∙◌, subst, Option}
 use Rattle.std.specs.Option.{option_copied_mut}
 use Rattle.std.specs.Ordering.{nat_cmp}
 use Rattle.std.specs.BTreeMap as tree
@@ -17,8 +17,8 @@ kill-requires c =
     (ap (λ m. map.get m c.args.id) (sym c.self.view_is) ∙ get-view c.self.inside.sets c.args.id
     ∙ sym c.get_mut.ensures.value ∙ ap option_copied_mut c.in-Some.is) c.requires
 
-pub returns : goal.returns
-returns c kept at =
+pub returns-clause-killed : goal.returns-clause-killed
+returns-clause-killed c kept at =
     let sets = c.self.inside.sets in
     let id = c.args.id in
     let there : is_some (tree.get nat_cmp sets id) ≡ true =
@@ -42,4 +42,16 @@ returns c kept at =
       | in_default w ↦ absurd
           (false≢true (sym (ap (λ r. is_some (option_copied_mut r)) w.in_default.is)
           ∙ ap is_some c.get_mut.ensures.value ∙ there))
+    ]
+
+pub returns-clause-none : goal.returns-clause-none
+returns-clause-none c none =
+    let sets = c.self.inside.sets in
+    let id = c.args.id in
+    let absent : is_some (tree.get nat_cmp sets id) ≡ false =
+    ap is_some (sym (get-view sets id) ∙ ap (λ m. map.get m id) c.self.view_is ∙ none) in
+    elim c.match-get_mut.branch [
+      | in-Some w ↦ absurd (false≢true (sym absent ∙ sym (ap is_some c.get_mut.ensures.value)
+          ∙ ap (λ r. is_some (option_copied_mut r)) w.in-Some.is))
+      | in_default w ↦ rw w.self-inside-is (ap view c.get_mut.follows.holds-at-none ∙ c.self.view_is)
     ]
