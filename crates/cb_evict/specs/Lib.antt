@@ -9,4 +9,5 @@ pub mod Sending
 pub mod Closing
 pub mod EvictRule
 pub mod EvictEffect
+pub mod EvictStep
 pub mod Evicting

@@ -5,3 +5,4 @@ pub mod BroughtIn
 pub mod Fetching
 pub mod SwapRule
 pub mod SwapEffect
+pub mod SwapStep

@@ -1,0 +1,93 @@
+-- An eviction as a step of the still desk: the reply, every word and the far state afterwards.
+use Rattle.std.specs.Prelude.{◌≡◌, ℕ, ◌+◌, ◌*◌, ◌≤◌, ◌&&◌, Bool, true, false, nat_eq, List, Option, None, Some, filter, length, slice_get, take}
+use Rattle.std.specs.List.{list_all}
+use Rattle.cb_class.specs.Class.{words_of}
+use Rattle.cb_gf256.specs.Rows.{row_at}
+use Rattle.cb_member.specs.declared.names.Shard.{Shard}
+use Rattle.cb_ptr.specs.declared.word.State.{State}
+use Rattle.cb_ptr.specs.declared.word.State.TheVariants as state
+use Rattle.cb_ptr.specs.Word.{state_of, len_of, pins_of}
+use Rattle.cb_ptr.specs.Steps.{IsFarWord}
+use Rattle.cb_span.specs.Contents.{Contents, handle_at}
+use Rattle.cb_types.specs.declared.reply.Reply.{Reply}
+use Rattle.cb_types.specs.declared.reply.Reply.TheVariants as answer
+use Rattle.cb_world.specs.Choices.{room_count}
+use Rattle.cb_world.specs.FarState.{FarState, span_in}
+use Rattle.cb_world.specs.Memory.{window, words_for}
+use Rattle.cb_world.specs.Plain.{Words}
+use Rattle.cb_world.specs.RowWords.{words_in}
+use Rattle.cb_world.specs.SetWord.{IsSpanWord}
+use Rattle.cb_world.specs.StillWords.{contents_at}
+use Rattle.cb_world.specs.World.{word_at}
+use Rattle.cb_evict.specs.Candidates.{candidates}
+use Rattle.cb_evict.specs.Looking.{IsIn}
+use Rattle.cb_evict.specs.Storing.{AreShards, with_set}
+use Rattle.cb_evict.specs.Closing.{HaveHomes, with_homes}
+use Rattle.cb_evict.specs.EvictRule.{HasFewSpans, HasFewNodes}
+
+abbrev pub is_here : State → Bool
+is_here state.Here = true
+is_here other = false
+
+-- whether the object in a slot is neither pinned nor claimed; so it is where there is none
+abbrev pub is_slot_loose : Words → Option ℕ → Bool
+is_slot_loose desk None = true
+is_slot_loose desk (Some h) =
+    is_here (state_of (word_at desk h)) && nat_eq (pins_of (word_at desk h)) 0
+
+-- whether a frame holds a span none of whose objects is pinned or claimed
+abbrev pub is_loose : Words → Option Contents → Bool
+is_loose desk None = false
+is_loose desk (Some span) = list_all (is_slot_loose desk) span.slots
+
+-- the loose spans that may leave, in the order in which they are taken
+abbrev pub loose_frames : Words → FarState → List ℕ
+loose_frames desk far = filter (λ f. is_loose desk (span_in far.spans f)) (candidates far)
+
+-- The objects of the spans in these frames are far: their words have their lengths alone. Every
+-- other word is as it was, and so are all version words and memory words.
+pub record AreSentOff (x y : Words) (far : FarState) (frames : List ℕ) : Type 0 where
+  pub sent : (h : ℕ) → IsIn far.spans frames h → IsFarWord (len_of (word_at x h)) (word_at y h)
+  pub others : (h : ℕ) → ¬ (IsIn far.spans frames h) → word_at y h ≡ word_at x h
+  pub count : length y.words ≡ length x.words
+  pub settings : y.settings ≡ x.settings
+  pub versions : y.versions ≡ x.versions
+  pub memory : y.memory ≡ x.memory
+
+-- the rows have the memory words of the objects of the spans in these frames, each in its slot of
+-- the row at its frame's place
+abbrev pub HaveContents : Words → FarState → List ℕ → List (List ℕ) → Type 0
+HaveContents x far frames rows = (p f slot h : ℕ) (span : Contents) → slice_get frames p ≡ Some f
+    → span_in far.spans f ≡ Some span → handle_at span slot ≡ Some h
+    → contents_at x h ≡ window (words_in (row_at rows p)) (slot * words_of span.class)
+    (words_for (len_of (word_at x h)))
+
+-- The spans in these frames left as a new set: a code word whose rows have the memory words of their
+-- objects stands at the nodes of the set's shards, the objects' homes are in the set, and the frames
+-- are free. Nothing else of the far state changed, and of the words those of the objects alone.
+pub record IsEvictedTo (x y : Words) (far new : FarState) (frames : List ℕ) : Type 0 where
+  pub shards : List Shard
+  pub rows : List (List ℕ)
+  pub chosen : AreShards far (x.settings.k + x.settings.r) shards
+  pub word : IsSpanWord x.settings.k x.settings.r rows
+  pub contents : HaveContents x far frames rows
+  pub homes : HaveHomes far.spans frames far.counts.sets far.homes new.homes
+  pub state : new ≡ with_homes (with_set far shards frames rows) frames new.homes
+  pub sent : AreSentOff x y far frames
+
+-- enough spans are loose and enough nodes have room: the first k of the loose spans left as a set
+pub record IsSetMade (x y : Words) (far new : FarState) (r : Reply) : Type 0 where
+  pub enough : x.settings.k ≤ length (loose_frames x far)
+  pub room : x.settings.k + x.settings.r ≤ room_count far.nodes far.members
+  pub reply : r ≡ answer.Set (record { n = far.counts.sets })
+  pub evicted : IsEvictedTo x y far new (take x.settings.k (loose_frames x far))
+
+-- An eviction leads from the words x and a far state to the words y and another. Where fewer than k
+-- spans are loose it is refused, then where fewer than k + r nodes have room; a refusal changes
+-- nothing. Else the first k loose spans leave.
+pub data IsEvictStep (x y : Words) (far new : FarState) (r : Reply) : Type 0 where
+  few_spans : HasFewSpans x.settings far new r (loose_frames x far) → y ≡ x
+      → IsEvictStep x y far new r
+  few_nodes : HasFewNodes x.settings far new r (loose_frames x far) → y ≡ x
+      → IsEvictStep x y far new r
+  made : IsSetMade x y far new r → IsEvictStep x y far new r
