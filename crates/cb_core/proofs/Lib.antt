@@ -6,7 +6,6 @@ pub mod KeptParts
 pub mod StillParts
 pub mod StillTurns
 pub mod FarCalls
-pub mod CountedTurns
 pub mod WorldKept
 pub mod PinsKept
 pub mod Settings

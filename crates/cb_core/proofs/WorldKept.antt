@@ -23,7 +23,7 @@ use Rattle.cb_core.specs.Parts.{Holding, NeverDeclined, NeverLacks}
 use Rattle.cb_core.specs.Room.{final_reply}
 use Rattle.cb_core.specs.Step.{StillMake, StillMakeLacks, StillRead, StillReadLacks, StillWrite, StillFind, StillDecline, StillEvict, StillEvictLacks, StillSwap, StillSwapLacks, StillBring, StillBringLacks, StillWorks, StillStops, TurnStep, worn, done, Stops}
 use Rattle.cb_core.specs.Turned.{Does, Turned, worn as was_worn, done as was_done, Stopped, counted, once_counted, Makes, MakeLacks, Reads, ReadLacks, Writes, Finds, Declines, Evicts, EvictLacks, Swaps, SwapLacks, Brings, BringLacks, Stops as StopsOver}
-use Rattle.cb_core.proofs.CountedTurns.{counted_sound}
+use Rattle.cb_core.proofs.Counting.{counted_sound}
 use Rattle.cb_core.proofs.FarCalls.{read_far, write_far, find_far, never_far, decline_far, swap_far, evict_far}
 use Rattle.cb_core.proofs.KeptParts.{IsGood, Rises, Arrives, Carries, CarriesLack, IsLike, like_same, rises_more, arrives_then, arrives_same, arrives_like, counted_rises}
 use Rattle.cb_core.proofs.StillParts.{Ran, Tells, Any, IsFar, both_same, make_part, read_part, write_part, free_part, find_part, never_part, decline_part, evict_part, swap_part, make_lack, read_lack, evict_lack, swap_lack}
@@ -31,14 +31,14 @@ use Rattle.cb_core.proofs.StillTurns.{with_room, where_it_is, brings_in, room_st
 
 -- ---- membership
 -- the node is one of the members
-member : (c : Config) (seats : List SeatState) (a : Holding Words) (node : NodeId)
+member_of : (c : Config) (seats : List SeatState) (a : Holding Words) (node : NodeId)
     → IsGood c seats a → node.n < c.nodes → node.n < length a.far.members.nodes
-member c seats a node good below =
+member_of c seats a node good below =
     let rows = good.known.sound.away.sound.rows.counted in
     let nodes = good.configured.nodes in omega (arith, below, rows, nodes)
 
 -- all is known of the desk where the far state changed in its nodes alone
-known_far : (x : Words) (far new : FarState) (s : Shown) → IsKnown x far s → Sound s new
+pub known_far : (x : Words) (far new : FarState) (s : Shown) → IsKnown x far s → Sound s new
     → IsKnown x new s
 known_far x far new s k sound = record {
   sized = k.sized;
@@ -64,7 +64,7 @@ crash_part c seats node a b r Z good below words (crashed up reply far) z =
       given = refl;
     })
     (known_far a.desk a.far new good.shown good.known
-    (node_crash_sound good.shown a.far node good.known.sound (member c seats a node good below) up))
+    (node_crash_sound good.shown a.far node good.known.sound (member_of c seats a node good below) up))
     refl good.pinned z)
 crash_part c seats node a b r Z good below words (is_down is reply far) z =
     arrives_same c seats 1 a b Z good (both_same a b words far) z
@@ -85,7 +85,7 @@ join_part c seats node a b r Z good below words (joined is reply far) z =
       given = refl;
     })
     (known_far a.desk a.far new good.shown good.known
-    (node_join_sound good.shown a.far node good.known.sound (member c seats a node good below) is))
+    (node_join_sound good.shown a.far node good.known.sound (member_of c seats a node good below) is))
     refl good.pinned z)
 join_part c seats node a b r Z good below words (is_up is reply far) z =
     arrives_same c seats 1 a b Z good (both_same a b words far) z
@@ -213,6 +213,18 @@ with_job w y new = record { desk = y; far = new; seats = w.seats }
 abbrev pub held : WorldState → Holding Words
 held w = record { desk = w.desk; far = w.far }
 
+pub known_counted : (w : WorldState) (job : Job) (s : Shown) → IsKnown w.desk w.far s
+    → IsKnown w.desk (counted w.far job) s
+known_counted w job s k = known_far w.desk w.far (counted w.far job) s k
+    (counted_sound s w.far (counted w.far job) job refl k.sound)
+
+-- the node is one of the members
+pub member : (w : WorldState) (node : NodeId) → IsSoundWorld w → node.n < w.desk.settings.nodes
+    → node.n < length w.far.members.nodes
+member w node sound below =
+    let rows = sound.known.sound.away.sound.rows.counted in
+    let nodes = sound.configured.nodes in omega (arith, below, rows, nodes)
+
 counted_good : (w : WorldState) (job : Job) → IsSoundWorld w
     → IsGood w.desk.settings w.seats (once_counted (held w) job)
 counted_good w job sound = record {
@@ -223,8 +235,7 @@ counted_good w job sound = record {
     nodes = sound.configured.nodes;
   };
   shown = sound.shown;
-  known = known_far w.desk w.far (counted w.far job) sound.shown sound.known
-      (counted_sound sound.shown w.far (counted w.far job) job refl sound.known.sound);
+  known = known_counted w job sound.shown sound.known;
   pinned = sound.pinned;
 }
 
