@@ -13,3 +13,4 @@ pub mod WorkedPins
 pub mod WorkedMembership
 pub mod WorkedRoom
 pub mod WorkedTurns
+pub mod WorkedStill
