@@ -7,6 +7,7 @@ use Rattle.cb_member.specs.declared.names.Shard.{Shard}
 use Rattle.cb_member.specs.Membership.{fresh_members}
 use Rattle.cb_set.specs.SetState.{SetState, PositionState, set_of}
 use Rattle.cb_span.specs.declared.temp.Temp.TheVariants.{Hot}
+use Rattle.cb_types.specs.declared.config.Field.TheVariants.{K, R, Nodes, Frames, Room, Handles, Turns}
 use Rattle.cb_types.specs.declared.handle.SetId.{SetId}
 use Rattle.cb_types.specs.declared.job.Job.TheVariants.{Read, Write, Swap, Rebuild}
 use Rattle.cb_types.specs.declared.reply.Reply.{Reply}
@@ -92,6 +93,13 @@ reads_and_makes step = let e : 2 ≡ 1 = ap made_of step.1 in omega (arith, e)
 not_here : StillWrite 0 1 (7 ∷ []) (holds away near) answer.NotHere (holds away near)
 not_here = (record { reply = refl; change = refl }, refl)
 
+not_here_is_not_moving : StillWrite 0 1 (7 ∷ []) (holds away near) answer.Moving (holds away near)
+    → ⊥
+not_here_is_not_moving step = moving_away step.0.reply
+  where
+    moving_away : answer.Moving ≡ answer.NotHere → ⊥
+    moving_away e = cc
+
 not_here_and_warms : StillWrite 0 1 (7 ∷ []) (holds away near) answer.NotHere (holds hot near) → ⊥
 not_here_and_warms step = let e : 16390 ≡ 16385 =
     ap (λ (x : Words). get_or x.words 0 0) step.0.change in omega (arith, e)
@@ -153,11 +161,19 @@ emptied = record {
   far = (empty_world settings).far;
 }
 
-words_are_lost : IsAccepted settings
-    → HoldOn (record { desk = (empty_world settings).desk; far = (empty_world settings).far }) emptied
+accepted : IsAccepted settings
+accepted K = (lit≤ tt, lit≤ tt)
+accepted R = (lit≤ tt, lit≤ tt)
+accepted Nodes = (lit≤ tt, lit≤ tt)
+accepted Frames = (lit≤ tt, lit≤ tt)
+accepted Room = (lit≤ tt, lit≤ tt)
+accepted Handles = (lit≤ tt, lit≤ tt)
+accepted Turns = lit≤ tt
+
+words_are_lost : HoldOn (record { desk = (empty_world settings).desk; far = (empty_world settings).far }) emptied
     → ⊥
-words_are_lost ok hold =
-    let sound = empty_world_sound settings ok in
+words_are_lost hold =
+    let sound = empty_world_sound settings accepted in
     let after = hold sound.shown sound.known in
     let e : 0 ≡ 2 = after.1.sized.words in omega (arith, e)
 
