@@ -1,6 +1,8 @@
 pub mod Membership
 pub mod Pinning
 pub mod Jobs
+pub mod Parts
+pub mod Declining
 pub mod Turned
 pub mod Room
 pub mod Step

@@ -1,32 +1,99 @@
 -- One event of the core, at the still desk: its reply, and every part of the world after it.
-use Rattle.std.specs.Prelude.{◌≡◌, ℕ, ◌^◌, ◌<◌, List, [], ◌∷◌}
+use Rattle.std.specs.Prelude.{◌≡◌, ℕ, ◌^◌, ◌<◌, ◌≤◌, true, List, [], ◌∷◌, Option, Some, length}
+use Rattle.cb_member.specs.Membership.{alive}
+use Rattle.cb_ptr.specs.Word.{state_of, len_of}
+use Rattle.cb_set.specs.SetState.{SetState}
 use Rattle.cb_types.specs.declared.job.Job.{Job}
-use Rattle.cb_types.specs.declared.job.Job.TheVariants.{Make, Read, Write, Free, Crash, Join}
+use Rattle.cb_types.specs.declared.job.Job.TheVariants.{Make, Read, Write, Free, Swap, Evict, Crash, Join}
 use Rattle.cb_types.specs.declared.reply.Reply.{Reply}
 use Rattle.cb_types.specs.declared.reply.Reply.TheVariants as answer
+use Rattle.cb_world.specs.declared.homes.Home.{Home}
+use Rattle.cb_world.specs.declared.shown.Shown.{Shown}
 use Rattle.cb_world.specs.FarState.{FarState}
+use Rattle.cb_world.specs.Homes.{home_at}
+use Rattle.cb_world.specs.Now.{is_gone, now}
 use Rattle.cb_world.specs.Plain.{Words}
-use Rattle.cb_world.specs.World.{WorldState, word_at}
+use Rattle.cb_world.specs.StillWords.{stamp_at}
+use Rattle.cb_world.specs.World.{WorldState, IsKnown, word_at}
+use Rattle.cb_mutate.specs.MakeRule.{NeedsNewSpan}
 use Rattle.cb_mutate.specs.MakeStep.{IsMakeStep}
+use Rattle.cb_mutate.specs.StillReplies.{reply_as}
 use Rattle.cb_mutate.specs.Steps.{IsReadStep, IsWriteStep, IsFreeStep}
+use Rattle.cb_evict.specs.EvictStep.{IsEvictStep}
+use Rattle.cb_swapin.specs.SwapStep.{IsSwapStep}
 use Rattle.cb_core.specs.declared.event.Atomic.{Atomic}
 use Rattle.cb_core.specs.declared.event.Atomic.TheVariants.{Load, Pin, Unpin}
 use Rattle.cb_core.specs.declared.event.Event.{Event}
 use Rattle.cb_core.specs.declared.event.Event.TheVariants as event
+use Rattle.cb_core.specs.Declining.{write_refusal}
 use Rattle.cb_core.specs.Membership.{CrashTurn, JoinTurn}
+use Rattle.cb_core.specs.Parts.{Holding, WithRoom, WhereItIs, NeverDeclined, BringsIn, RoomStops, CallStops, NeverLacks}
 use Rattle.cb_core.specs.Pinning.{PinStep, UnpinStep}
-use Rattle.cb_core.specs.Turned.{MayLack, counted}
 use Rattle.cb_core.specs.Room.{final_reply}
+use Rattle.cb_core.specs.Turned.{IsGiven, counted}
+
+-- the parts of a turn, each a step from words and a far state to others
+abbrev pub StillMake : List ℕ → Holding Words → Reply → Holding Words → Type 0
+StillMake bytes a r b = IsMakeStep a.desk b.desk a.far b.far bytes r
+
+abbrev pub StillRead : ℕ → Holding Words → Reply → Holding Words → Type 0
+StillRead h a r b = IsReadStep a.desk b.desk h r × (b.far ≡ a.far)
+
+abbrev pub StillWrite : ℕ → ℕ → List ℕ → Holding Words → Reply → Holding Words → Type 0
+StillWrite h at bytes a r b = IsWriteStep a.desk b.desk h at bytes r × (b.far ≡ a.far)
+
+abbrev pub StillFree : ℕ → Holding Words → Reply → Holding Words → Type 0
+StillFree h a r b = IsFreeStep a.desk b.desk a.far b.far h r
+
+-- a look at where an object is: Stays where it is here
+abbrev pub StillFind : ℕ → Holding Words → Reply → Holding Words → Type 0
+StillFind h a r b =
+    (r ≡ reply_as (state_of (word_at a.desk h)) (stamp_at a.desk h) answer.Stays) × (b ≡ a)
+
+-- a far object is looked at before a write of so many bytes
+abbrev pub StillDecline : ℕ → ℕ → ℕ → Holding Words → Option Reply → Holding Words → Type 0
+StillDecline h at count a declined b = (declined
+    ≡ write_refusal (is_gone a.far h) (len_of (word_at a.desk h)) (stamp_at a.desk h) at count)
+    × (b ≡ a)
+
+-- What every object holds stays: who knows all of the words and the far state before knows all after,
+-- and it is the same.
+abbrev pub HoldOn : Holding Words → Holding Words → Type 0
+HoldOn a b = (s : Shown) → IsKnown a.desk a.far s
+    → (t : Shown) × IsKnown b.desk b.far t × ((h : ℕ) → now t b.far h ≡ now s a.far h)
+
+abbrev pub StillEvict : Holding Words → Reply → Holding Words → Type 0
+StillEvict a r b = IsEvictStep a.desk b.desk a.far b.far r × HoldOn a b
+
+-- a swap-in of the position at which a far object has its home
+abbrev pub StillSwap : ℕ → Holding Words → Reply → Holding Words → Type 0
+StillSwap h a r b = (home : Home) × (home_at a.far.homes h ≡ Some home)
+    × IsSwapStep a.desk b.desk a.far b.far home.set home.position r × HoldOn a b
+
+-- a far object is brought in, and room is won for it
+abbrev pub StillBring : ℕ → Holding Words → Reply → Holding Words → Type 0
+StillBring h = WithRoom (StillSwap h) StillEvict
+
+-- a job once the turn is counted, part by part
+abbrev pub StillWorks : Job → Holding Words → Reply → Holding Words → Type 0
+StillWorks (Make bytes) a r b = WithRoom (StillMake bytes) StillEvict a r b
+StillWorks (Read handle) a r b =
+    WhereItIs (StillRead handle.n) NeverDeclined (StillBring handle.n) a r b
+StillWorks (Write handle at bytes) a r b = WhereItIs (StillWrite handle.n at bytes)
+    (StillDecline handle.n at (length bytes)) (StillBring handle.n) a r b
+StillWorks (Free handle) a r b = StillFree handle.n a r b
+StillWorks (Swap handle) a r b = BringsIn (StillFind handle.n) (StillBring handle.n) a r b
+StillWorks Evict a r b = StillEvict a r b
+StillWorks (Crash node) a r b = (b.desk ≡ a.desk) × CrashTurn node a.far r b.far
+StillWorks (Join node) a r b = (b.desk ≡ a.desk) × JoinTurn node a.far r b.far
+-- every other job is not built
+StillWorks job a r b = ⊥
 
 -- A job once the turn is counted: it leads from the words x and a far state to the words y and
 -- another.
 abbrev pub Works : Words → FarState → Job → Reply → Words → FarState → Type 0
-Works x far (Make bytes) r y new = IsMakeStep x y far new bytes r
-Works x far (Read handle) r y new = IsReadStep x y handle.n r × (new ≡ far)
-Works x far (Write handle at bytes) r y new = IsWriteStep x y handle.n at bytes r × (new ≡ far)
-Works x far (Free handle) r y new = IsFreeStep x y far new handle.n r
-Works x far (Crash node) r y new = (y ≡ x) × CrashTurn node far r new
-Works x far (Join node) r y new = (y ≡ x) × JoinTurn node far r new
+Works x far job r y new =
+    StillWorks job (record { desk = x; far = far }) r (record { desk = y; far = new })
 
 -- A turn: where 2^40 turns were counted it is refused; else it is counted, and does its job. The
 -- seats stay as they are.
@@ -53,16 +120,44 @@ Leads w [] [] new = new ≡ w
 Leads w (e ∷ es) (r ∷ rs) new = (between : WorldState) × Step w e r between × Leads between es rs new
 Leads w es rs new = ⊥
 
--- The words after a job that found no memory: a read is as if it had been answered.
-abbrev pub StopWords : Words → Job → Words → Type 0
-StopWords x (Read handle) y = (v : ℕ) × (bytes : List ℕ)
-    × IsReadStep x y handle.n (answer.Bytes v bytes)
-StopWords x job y = y ≡ x
+-- ---- want of memory
 
--- A turn that found no memory is one that may: it is counted, and nothing else is done. A step
--- always has its reply.
+abbrev pub StillMakeLacks : List ℕ → Holding Words → Holding Words → Type 0
+StillMakeLacks bytes a b = (b ≡ a) × NeedsNewSpan a.desk.settings.handles (length bytes) a.far
+
+-- a read is as if it had been answered
+abbrev pub StillReadLacks : ℕ → Holding Words → Holding Words → Type 0
+StillReadLacks h a b =
+    (b.far ≡ a.far) × ((v : ℕ) × (bytes : List ℕ) × IsReadStep a.desk b.desk h (answer.Bytes v bytes))
+
+abbrev pub StillEvictLacks : Holding Words → Holding Words → Type 0
+StillEvictLacks a b = b ≡ a
+
+-- rows of the object's set were given out, and nothing else was done
+abbrev pub StillSwapLacks : ℕ → Holding Words → Holding Words → Type 0
+StillSwapLacks h a b = (b.desk ≡ a.desk) × IsGiven a.far b.far h
+
+abbrev pub StillBringLacks : ℕ → Holding Words → Holding Words → Type 0
+StillBringLacks h = RoomStops (StillSwap h) (StillSwapLacks h) StillEvict StillEvictLacks
+
+-- where a job that found no memory stopped
+abbrev pub StillStops : Job → Holding Words → Holding Words → Type 0
+StillStops (Make bytes) a b =
+    RoomStops (StillMake bytes) (StillMakeLacks bytes) StillEvict StillEvictLacks a b
+StillStops (Read handle) a b = CallStops (StillRead handle.n) (StillReadLacks handle.n) NeverDeclined
+    (StillBring handle.n) (StillBringLacks handle.n) a b
+StillStops (Write handle at bytes) a b = CallStops (StillWrite handle.n at bytes) NeverLacks
+    (StillDecline handle.n at (length bytes)) (StillBring handle.n) (StillBringLacks handle.n) a b
+StillStops (Swap handle) a b =
+    (m : Holding Words) × StillFind handle.n a answer.NotHere m × StillBringLacks handle.n m b
+StillStops Evict a b = StillEvictLacks a b
+StillStops (Crash node) a b = (b ≡ a) × (alive a.far.members node ≡ true)
+StillStops job a b = ⊥
+
+-- A turn that found no memory is counted; what its parts did before stays. A step always has its
+-- reply.
 abbrev pub Stops : WorldState → Event → WorldState → Type 0
 Stops w (event.Step seat atomic) new = ⊥
-Stops w (event.Turn seat job) new = (w.far.counts.turns < 2 ^ 40)
-    × (new.far ≡ counted w.far job) × (new.seats ≡ w.seats) × StopWords w.desk job new.desk
-    × MayLack w.far.members job
+Stops w (event.Turn seat job) new = (w.far.counts.turns < 2 ^ 40) × (new.seats ≡ w.seats)
+    × StillStops job (record { desk = w.desk; far = counted w.far job })
+    (record { desk = new.desk; far = new.far })

@@ -1,72 +1,201 @@
 -- A turn over any desk.
-use Rattle.std.specs.Prelude.{◌≡◌, ◌^◌, ◌<◌, true, List, []}
-use Rattle.cb_member.specs.Membership.{Membership, alive}
+use Rattle.std.specs.Prelude.{◌≡◌, ◌⊎◌, ℕ, ◌^◌, ◌<◌, ◌≤◌, true, false, List, [], Option, None, Some, length}
+use Rattle.cb_member.specs.declared.names.NodeId.{NodeId}
+use Rattle.cb_member.specs.Membership.{alive}
+use Rattle.cb_ptr.specs.Word.{len_of}
+use Rattle.cb_set.specs.SetState.{SetState}
 use Rattle.cb_types.specs.declared.config.Config.{Config}
 use Rattle.cb_types.specs.declared.job.Job.{Job}
-use Rattle.cb_types.specs.declared.job.Job.TheVariants.{Make, Read, Write, Free, Crash, Join}
+use Rattle.cb_types.specs.declared.job.Job.TheVariants.{Make, Read, Write, Free, Swap, Evict, Crash, Join}
 use Rattle.cb_types.specs.declared.reply.Reply.{Reply}
 use Rattle.cb_types.specs.declared.reply.Reply.TheVariants as answer
 use Rattle.cb_types.specs.Jobs.{job_index}
 use Rattle.cb_world.specs.declared.event.Event.{Event}
+use Rattle.cb_world.specs.declared.homes.Home.{Home}
 use Rattle.cb_world.specs.declared.shown.Shown.{Shown}
 use Rattle.cb_world.specs.Counts.{with_turn}
 use Rattle.cb_world.specs.FarState.{FarState}
+use Rattle.cb_world.specs.Homes.{home_at}
+use Rattle.cb_world.specs.Looks.{IsFound, IsTold}
+use Rattle.cb_world.specs.Now.{is_gone}
 use Rattle.cb_world.specs.Performs.{Performs}
+use Rattle.cb_world.specs.Sets.{set_in}
 use Rattle.cb_world.specs.Sound.{Sound}
-use Rattle.cb_mutate.specs.MakeRule.{MakeRule, MakeEffect}
+use Rattle.cb_world.specs.Still.{IsStill}
+use Rattle.cb_world.specs.Touches.{SettlesLast}
+use Rattle.cb_mutate.specs.Answered.{Answered}
+use Rattle.cb_mutate.specs.MakeRule.{MakeRule, MakeEffect, NeedsNewSpan}
 use Rattle.cb_mutate.specs.ReadRule.{ReadRule, ReadEffect, HasSeen, IsShown}
 use Rattle.cb_mutate.specs.WriteRule.{WriteRule, WriteEffect}
 use Rattle.cb_mutate.specs.FreeRule.{FreeRule, FreeEffect}
+use Rattle.cb_evict.specs.EvictEffect.{EvictEffect}
+use Rattle.cb_evict.specs.EvictRule.{EvictRule}
+use Rattle.cb_evict.specs.Evicting.{TouchesSpans}
+use Rattle.cb_swapin.specs.Fetching.{far_given}
+use Rattle.cb_swapin.specs.SwapEffect.{SwapEffect}
+use Rattle.cb_swapin.specs.SwapRule.{SwapRule}
+use Rattle.cb_core.specs.Declining.{write_refusal}
 use Rattle.cb_core.specs.Membership.{CrashTurn, JoinTurn}
+use Rattle.cb_core.specs.Parts.{Holding, WithRoom, WhereItIs, NeverDeclined, BringsIn, RoomStops, CallStops, NeverLacks}
 
 -- the far state with one turn more of the job's kind
 abbrev pub counted : FarState → Job → FarState
 counted far job = record far { counts = with_turn far.counts (job_index job) }
 
--- What a job does once the turn is counted, as its operation tells it.
-abbrev pub Does : (runs : List Event → Type 0) (shown : Shown → Type 0) → Config → Job → FarState
-    → Reply → FarState → Type 0
-Does runs shown c (Make bytes) far r new = Performs runs (λ s. shown s × Sound s far)
-    (MakeRule c.handles bytes far new r) (λ t. Sound t new) (MakeEffect bytes far new r)
-Does runs shown c (Read handle) far r new = (new ≡ far)
-    × Performs runs (λ s. shown s × Sound s far) (ReadRule handle.n r) (λ t. Sound t new)
-    (ReadEffect handle.n r)
-Does runs shown c (Write handle at bytes) far r new = (new ≡ far)
-    × Performs runs (λ s. shown s × Sound s far) (WriteRule handle.n at bytes r) (λ t. Sound t new)
-    (WriteEffect handle.n at bytes r)
-Does runs shown c (Free handle) far r new = Performs runs (λ s. shown s × Sound s far)
-    (FreeRule handle.n far new r) (λ t. Sound t new) (FreeEffect handle.n r)
-Does runs shown c (Crash node) far r new = runs [] × CrashTurn node far r new
-Does runs shown c (Join node) far r new = runs [] × JoinTurn node far r new
+-- an operation over a desk of any kind, by its rule and by its effect
+abbrev pub Operates : {D : Type 0} → (D → List Event → D → Type 0) → (D → Shown → Type 0)
+    → (FarState → FarState → Reply → List Event → Type 0)
+    → (FarState → FarState → Reply → List Event → Shown → Shown → Type 0)
+    → Holding D → Reply → Holding D → Type 0
+Operates run shows rule effect a r b = Performs (λ es. run a.desk es b.desk)
+    (λ s. shows a.desk s × Sound s a.far) (rule a.far b.far r) (λ t. Sound t b.far)
+    (effect a.far b.far r)
+
+-- the calls on objects in local memory
+abbrev pub Makes : {D : Type 0} → (D → List Event → D → Type 0) → (D → Shown → Type 0) → Config → List ℕ
+    → Holding D → Reply → Holding D → Type 0
+Makes run shows c bytes = Operates run shows (λ far new r. MakeRule c.handles bytes far new r)
+    (λ far new r. MakeEffect bytes far new r)
+
+abbrev pub Reads : {D : Type 0} → (D → List Event → D → Type 0) → (D → Shown → Type 0) → ℕ
+    → Holding D → Reply → Holding D → Type 0
+Reads run shows h = Operates run shows (λ far new r es. (new ≡ far) × ReadRule h r es)
+    (λ far new r. ReadEffect h r)
+
+abbrev pub Writes : {D : Type 0} → (D → List Event → D → Type 0) → (D → Shown → Type 0) → ℕ → ℕ
+    → List ℕ → Holding D → Reply → Holding D → Type 0
+Writes run shows h at bytes =
+    Operates run shows (λ far new r es. (new ≡ far) × WriteRule h at bytes r es)
+    (λ far new r. WriteEffect h at bytes r)
+
+abbrev pub Frees : {D : Type 0} → (D → List Event → D → Type 0) → (D → Shown → Type 0) → ℕ
+    → Holding D → Reply → Holding D → Type 0
+Frees run shows h = Operates run shows (λ far new r. FreeRule h far new r) (λ far new r. FreeEffect h r)
+
+-- a look at where an object is: Stays where it is here
+abbrev pub Finds : {D : Type 0} → (D → List Event → D → Type 0) → (D → Shown → Type 0) → ℕ
+    → Holding D → Reply → Holding D → Type 0
+Finds run shows h =
+    Operates run shows (λ far new r es. (new ≡ far) × Answered (λ w. r ≡ answer.Stays) h es r)
+    (λ far new r. IsStill)
+
+-- a far object is looked at before a write of so many bytes: the write is declined by the length of
+-- its word and by its version word, which is read before any word is stored
+abbrev pub IsDeclined : ℕ → ℕ → ℕ → FarState → Option Reply → List Event → Type 0
+IsDeclined h at count far declined es = ((is_gone far h ≡ true) × (declined ≡ None) × (es ≡ []))
+    ⊎ ((is_gone far h ≡ false) × ((w v : ℕ) × IsFound h w es × IsTold h v es × SettlesLast es
+    × (declined ≡ write_refusal false (len_of w) v at count)))
+
+abbrev pub Declines : {D : Type 0} → (D → List Event → D → Type 0) → (D → Shown → Type 0) → ℕ → ℕ → ℕ
+    → Holding D → Option Reply → Holding D → Type 0
+Declines run shows h at count a declined b = (b.far ≡ a.far) × Performs (λ es. run a.desk es b.desk)
+    (λ s. shows a.desk s × Sound s a.far) (IsDeclined h at count a.far declined)
+    (λ t. Sound t b.far) IsStill
+
+-- an eviction
+abbrev pub Evicts : {D : Type 0} → (D → List Event → D → Type 0) → (D → Shown → Type 0) → Config
+    → Holding D → Reply → Holding D → Type 0
+Evicts run shows c = Operates run shows (λ far new r. EvictRule c far new r) (λ far new r. EvictEffect far new r)
+
+-- a swap-in of the position at which a far object has its home
+abbrev pub Swaps : {D : Type 0} → (D → List Event → D → Type 0) → (D → Shown → Type 0) → ℕ
+    → Holding D → Reply → Holding D → Type 0
+Swaps run shows h a r b = (home : Home) × (home_at a.far.homes h ≡ Some home)
+    × Operates run shows (λ far new q. SwapRule home.set home.position far new q)
+    (λ far new q. SwapEffect home.set home.position far new q) a r b
+
+-- a far object is brought in, and room is won for it
+abbrev pub Brings : {D : Type 0} → (D → List Event → D → Type 0) → (D → Shown → Type 0) → Config → ℕ
+    → Holding D → Reply → Holding D → Type 0
+Brings run shows c h = WithRoom (Swaps run shows h) (Evicts run shows c)
+
+-- What a job does once the turn is counted, part by part.
+abbrev pub Does : {D : Type 0} → (D → List Event → D → Type 0) → (D → Shown → Type 0) → Config → Job
+    → Holding D → Reply → Holding D → Type 0
+Does run shows c (Make bytes) a r b = WithRoom (Makes run shows c bytes) (Evicts run shows c) a r b
+Does run shows c (Read handle) a r b =
+    WhereItIs (Reads run shows handle.n) NeverDeclined (Brings run shows c handle.n) a r b
+Does run shows c (Write handle at bytes) a r b = WhereItIs (Writes run shows handle.n at bytes)
+    (Declines run shows handle.n at (length bytes)) (Brings run shows c handle.n) a r b
+Does run shows c (Free handle) a r b = Frees run shows handle.n a r b
+Does run shows c (Swap handle) a r b =
+    BringsIn (Finds run shows handle.n) (Brings run shows c handle.n) a r b
+Does run shows c Evict a r b = Evicts run shows c a r b
+Does run shows c (Crash node) a r b = run a.desk [] b.desk × CrashTurn node a.far r b.far
+Does run shows c (Join node) a r b = run a.desk [] b.desk × JoinTurn node a.far r b.far
+-- every other job is not built
+Does run shows c job a r b = ⊥
+
+-- the holding, where one turn more of the job's kind is counted
+abbrev pub once_counted : {D : Type 0} → Holding D → Job → Holding D
+once_counted a job = record { desk = a.desk; far = counted a.far job }
 
 -- A turn: where 2^40 turns were counted it is refused and nothing is done; else it is counted
 -- first, and then does its job.
-pub data Turned (runs : List Event → Type 0) (shown : Shown → Type 0) (c : Config) (job : Job)
-    (far : FarState) (r : Reply) (new : FarState) : Type 0 where
-  worn : far.counts.turns ≡ 2 ^ 40 → r ≡ answer.Worn → new ≡ far → runs []
-      → Turned runs shown c job far r new
-  done : far.counts.turns < 2 ^ 40 → Does runs shown c job (counted far job) r new
-      → Turned runs shown c job far r new
+pub data Turned {D : Type 0} (run : D → List Event → D → Type 0) (shows : D → Shown → Type 0)
+    (c : Config) (job : Job) (a : Holding D) (r : Reply) (b : Holding D) : Type 0 where
+  worn : a.far.counts.turns ≡ 2 ^ 40 → r ≡ answer.Worn → b.far ≡ a.far → run a.desk [] b.desk
+      → Turned run shows c job a r b
+  done : a.far.counts.turns < 2 ^ 40 → Does run shows c job (once_counted a job) r b
+      → Turned run shows c job a r b
 
--- Which jobs may find no memory: a make, a read, and a crash of a node that is up.
-abbrev pub MayLack : Membership → Job → Type 0
-MayLack members (Make bytes) = Unit {0}
-MayLack members (Read handle) = Unit {0}
-MayLack members (Write handle at bytes) = ⊥
-MayLack members (Free handle) = ⊥
-MayLack members (Crash node) = alive members node ≡ true
-MayLack members (Join node) = ⊥
+-- ---- want of memory
 
--- What a job that found no memory left: a read may have made the word hot; nothing else was done.
-abbrev pub Stops : (runs : List Event → Type 0) (shown : Shown → Type 0) → Job → FarState → Type 0
-Stops runs shown (Read handle) far = Performs runs (λ s. shown s × Sound s far)
-    (HasSeen handle.n) (λ t. Sound t far) (IsShown handle.n)
-Stops runs shown job far = runs []
+-- a make that lacks memory for a new span changes nothing
+abbrev pub MakeLacks : {D : Type 0} → (D → List Event → D → Type 0) → Config → List ℕ → Holding D
+    → Holding D → Type 0
+MakeLacks run c bytes a b =
+    run a.desk [] b.desk × (b.far ≡ a.far) × NeedsNewSpan c.handles (length bytes) a.far
 
--- a turn that found no memory is one that may, and is counted
-pub record Stopped (runs : List Event → Type 0) (shown : Shown → Type 0) (job : Job)
-    (far new : FarState) : Type 0 where
-  pub few : far.counts.turns < 2 ^ 40
-  pub lacks : MayLack far.members job
-  pub state : new ≡ counted far job
-  pub stops : Stops runs shown job (counted far job)
+-- a read that lacks memory for the bytes has seen the object
+abbrev pub ReadLacks : {D : Type 0} → (D → List Event → D → Type 0) → (D → Shown → Type 0) → ℕ
+    → Holding D → Holding D → Type 0
+ReadLacks run shows h a b = (b.far ≡ a.far) × Performs (λ es. run a.desk es b.desk)
+    (λ s. shows a.desk s × Sound s a.far) (HasSeen h) (λ t. Sound t b.far) (IsShown h)
+
+-- an eviction that lacks memory changes nothing
+abbrev pub EvictLacks : {D : Type 0} → (D → List Event → D → Type 0) → (D → Shown → Type 0)
+    → Holding D → Holding D → Type 0
+EvictLacks run shows a b = (b.far ≡ a.far) × Performs (λ es. run a.desk es b.desk)
+    (λ s. shows a.desk s × Sound s a.far) (TouchesSpans a.far) (λ t. Sound t b.far) IsStill
+
+-- rows of the object's set were given out, at most as many as it has data positions
+abbrev pub IsGiven : FarState → FarState → ℕ → Type 0
+IsGiven far new h = (home : Home) (set : SetState) → home_at far.homes h ≡ Some home
+    → set_in far.sets home.set ≡ Some set → (n : ℕ) × (n ≤ length set.positions)
+    × (new ≡ far_given far n)
+
+-- a swap-in that lacks memory has given out rows, and nothing else was done
+abbrev pub SwapLacks : {D : Type 0} → (D → List Event → D → Type 0) → ℕ → Holding D → Holding D
+    → Type 0
+SwapLacks run h a b = run a.desk [] b.desk × IsGiven a.far b.far h
+
+abbrev pub BringLacks : {D : Type 0} → (D → List Event → D → Type 0) → (D → Shown → Type 0) → Config
+    → ℕ → Holding D → Holding D → Type 0
+BringLacks run shows c h = RoomStops (Swaps run shows h) (SwapLacks run h) (Evicts run shows c)
+    (EvictLacks run shows)
+
+-- Where a job that found no memory stopped.
+abbrev pub Stops : {D : Type 0} → (D → List Event → D → Type 0) → (D → Shown → Type 0) → Config → Job
+    → Holding D → Holding D → Type 0
+Stops run shows c (Make bytes) a b = RoomStops (Makes run shows c bytes) (MakeLacks run c bytes)
+    (Evicts run shows c) (EvictLacks run shows) a b
+Stops run shows c (Read handle) a b =
+    CallStops (Reads run shows handle.n) (ReadLacks run shows handle.n) NeverDeclined
+    (Brings run shows c handle.n) (BringLacks run shows c handle.n) a b
+Stops run shows c (Write handle at bytes) a b =
+    CallStops (Writes run shows handle.n at bytes) NeverLacks
+    (Declines run shows handle.n at (length bytes)) (Brings run shows c handle.n)
+    (BringLacks run shows c handle.n) a b
+Stops {D = D} run shows c (Swap handle) a b =
+    (m : Holding D) × Finds run shows handle.n a answer.NotHere m × BringLacks run shows c handle.n m b
+Stops run shows c Evict a b = EvictLacks run shows a b
+Stops run shows c (Crash node) a b =
+    run a.desk [] b.desk × (b.far ≡ a.far) × (alive a.far.members node ≡ true)
+Stops run shows c job a b = ⊥
+
+-- a turn that found no memory is counted
+pub record Stopped {D : Type 0} (run : D → List Event → D → Type 0) (shows : D → Shown → Type 0)
+    (c : Config) (job : Job) (a b : Holding D) : Type 0 where
+  pub few : a.far.counts.turns < 2 ^ 40
+  pub stops : Stops run shows c job (once_counted a job) b

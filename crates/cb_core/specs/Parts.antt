@@ -1,0 +1,77 @@
+-- The parts of a turn, one after another.
+use Rattle.std.specs.Prelude.{◌≡◌, ℕ, Option, None, Some}
+use Rattle.cb_types.specs.declared.handle.SetId.{SetId}
+use Rattle.cb_types.specs.declared.reply.Reply.{Reply}
+use Rattle.cb_types.specs.declared.reply.Reply.TheVariants as answer
+use Rattle.cb_world.specs.FarState.{FarState}
+
+-- what the holder of the far lock works at: a desk, and the far state beside it
+pub record Holding (D : Type 0) : Type 0 where
+  pub desk : D
+  pub far : FarState
+
+-- An operation for which room is won: where it finds no frame, an eviction makes some and the
+-- operation is done once more; where the eviction is refused too, there is no frame for it.
+pub data WithRoom {D : Type 0} (operation eviction : Holding D → Reply → Holding D → Type 0)
+    (a : Holding D) (r : Reply) (b : Holding D) : Type 0 where
+  at_once : operation a r b → (r ≡ answer.NoFrame → ⊥) → WithRoom operation eviction a r b
+  no_room : (m : Holding D) (refusal : Reply) → operation a answer.NoFrame m
+      → eviction m refusal b → ((id : SetId) → refusal ≡ answer.Set id → ⊥) → r ≡ answer.NoFrame
+      → WithRoom operation eviction a r b
+  won : (m n : Holding D) (id : SetId) → operation a answer.NoFrame m → eviction m (answer.Set id) n
+      → operation n r b → (r ≡ answer.NoFrame → ⊥) → WithRoom operation eviction a r b
+
+-- A call on an object wherever it is. One that is far is first looked at, which may decline the call;
+-- then it is brought in, and the call is made once more. Where it can't be brought in the call is
+-- answered as its bringing in was.
+pub data WhereItIs {D : Type 0} (call : Holding D → Reply → Holding D → Type 0)
+    (look : Holding D → Option Reply → Holding D → Type 0)
+    (bringing : Holding D → Reply → Holding D → Type 0) (a : Holding D) (r : Reply) (b : Holding D)
+    : Type 0 where
+  near : call a r b → (r ≡ answer.NotHere → ⊥) → WhereItIs call look bringing a r b
+  declined : (m : Holding D) → call a answer.NotHere m → look m (Some r) b
+      → WhereItIs call look bringing a r b
+  stays_far : (m n : Holding D) → call a answer.NotHere m → look m None n → bringing n r b
+      → ((f : ℕ) → r ≡ answer.Swapped f → ⊥) → WhereItIs call look bringing a r b
+  brought : (m n o : Holding D) (f : ℕ) → call a answer.NotHere m → look m None n
+      → bringing n (answer.Swapped f) o → call o r b → WhereItIs call look bringing a r b
+
+-- a call that is never declined
+abbrev pub NeverDeclined : {D : Type 0} → Holding D → Option Reply → Holding D → Type 0
+NeverDeclined a refusal b = (refusal ≡ None) × (b ≡ a)
+
+-- An object that is far is brought in; of one that is not the reply tells where it is.
+pub data BringsIn {D : Type 0} (call bringing : Holding D → Reply → Holding D → Type 0)
+    (a : Holding D) (r : Reply) (b : Holding D) : Type 0 where
+  not_far : call a r b → (r ≡ answer.NotHere → ⊥) → BringsIn call bringing a r b
+  was_far : (m : Holding D) → call a answer.NotHere m → bringing m r b → BringsIn call bringing a r b
+
+-- An operation for which room is won, and which found no memory at the one part or at the other. The
+-- eviction stays, where there was one.
+pub data RoomStops {D : Type 0} (operation : Holding D → Reply → Holding D → Type 0)
+    (lacks : Holding D → Holding D → Type 0) (eviction : Holding D → Reply → Holding D → Type 0)
+    (eviction_lacks : Holding D → Holding D → Type 0) (a b : Holding D) : Type 0 where
+  at_once : lacks a b → RoomStops operation lacks eviction eviction_lacks a b
+  evicting : (m : Holding D) → operation a answer.NoFrame m → eviction_lacks m b
+      → RoomStops operation lacks eviction eviction_lacks a b
+  after : (m n : Holding D) (id : SetId) → operation a answer.NoFrame m
+      → eviction m (answer.Set id) n → lacks n b
+      → RoomStops operation lacks eviction eviction_lacks a b
+
+-- A call on an object wherever it is that found no memory: itself, where the object is brought in, or
+-- once it is here. What was done before stays.
+pub data CallStops {D : Type 0} (call : Holding D → Reply → Holding D → Type 0)
+    (lacks : Holding D → Holding D → Type 0)
+    (look : Holding D → Option Reply → Holding D → Type 0)
+    (bringing : Holding D → Reply → Holding D → Type 0)
+    (bringing_lacks : Holding D → Holding D → Type 0) (a b : Holding D) : Type 0 where
+  near : lacks a b → CallStops call lacks look bringing bringing_lacks a b
+  far : (m n : Holding D) → call a answer.NotHere m → look m None n → bringing_lacks n b
+      → CallStops call lacks look bringing bringing_lacks a b
+  after : (m n o : Holding D) (f : ℕ) → call a answer.NotHere m → look m None n
+      → bringing n (answer.Swapped f) o → lacks o b
+      → CallStops call lacks look bringing bringing_lacks a b
+
+-- an operation that always finds memory
+abbrev pub NeverLacks : {D : Type 0} → Holding D → Holding D → Type 0
+NeverLacks a b = ⊥
