@@ -1,4 +1,5 @@
 pub mod Counting
+pub mod PartsFar
 pub mod Changes
 pub mod WorldKept
 pub mod PinsKept
