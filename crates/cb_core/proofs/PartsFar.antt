@@ -84,12 +84,12 @@ has_sent c far new r id es rule set = elim rule.answered [
   | inl few ↦ absurd (few_spans _ r id few.reply set)
   | inr (inl few) ↦ absurd (few_nodes _ r id few.reply set)
   | inr (inr both) ↦ record {
-      frames = take c.k rule.loose;
-      evicted = both.evicted;
-      among = λ f in_taken. loose_among es far.spans (candidates far) rule.loose f rule.found
-          (taken_of c.k rule.loose f in_taken);
-      count = length-take-le c.k rule.loose both.enough;
-    }
+    frames = take c.k rule.loose;
+    evicted = both.evicted;
+    among = λ f in_taken. loose_among es far.spans (candidates far) rule.loose f rule.found
+        (taken_of c.k rule.loose f in_taken);
+    count = length-take-le c.k rule.loose both.enough;
+  }
 ]
 
 put_given : (nodes : NodesState) (shards : List Shard) (rows : List (List ℕ))

@@ -68,7 +68,7 @@ fn bring<D: Desk>(desk: &mut D, far: &mut Far, h: Handle) -> Result<Reply, NoMem
         (record { desk = desk.old; far = far.old }) reply (record { desk = desk.new; far = far.new })) }
     ensures error { OnErr result (BringLacks (λ d es e. D.run d es e) (λ d s. D.shows d s) (D.settings desk.old) h.n
         (record { desk = desk.old; far = far.old }) (record { desk = desk.new; far = far.new })) }
-    ensures handles { (D.settings desk.new).handles ≡ (D.settings desk.old).handles }
+    ensures settings { D.settings desk.new ≡ D.settings desk.old }
     ensures sound { IfOk result (λ reply. (s : Shown) × D.shows desk.new s × Sound s far.new) }
 {
     let home = far.homes.at(h.n).unwrap();

@@ -1,8 +1,8 @@
-ghost use Rattle.std.specs.Prelude.{◌≡◌, ℕ, ◌<◌, length, Some, Option};
-ghost use Rattle.cb_types.specs.Config.{IsAccepted};
+ghost use Rattle.std.specs.Prelude.{◌≡◌, ℕ, ◌<◌, length, List};
 ghost use Rattle.cb_types.specs.declared.reply.Reply.TheVariants as answer;
+ghost use Rattle.cb_world.specs.declared.object.Object.TheVariants as is;
 ghost use Rattle.cb_world.specs.declared.shown.Shown.{Shown};
-ghost use Rattle.cb_world.specs.Homes.{home_at};
+ghost use Rattle.cb_world.specs.Shown.{object_at};
 ghost use Rattle.cb_world.specs.Now.{is_gone};
 ghost use Rattle.cb_world.specs.Sound.{Sound};
 ghost use Rattle.cb_world.specs.FarSound.{AwaySound};
@@ -17,6 +17,8 @@ use cb_world::{Desk, Far};
 pub(crate) fn find<D: Desk>(desk: &mut D, far: &Far, h: Handle) -> Reply
     requires handle { h.n < (D.settings desk.old).handles }
     requires sound { (s : Shown) × D.shows desk.old s × Sound s far.now }
+    ensures away { result ≡ answer.NotHere → (s : Shown) → D.shows desk.old s
+        → (len v : ℕ) × (words : List ℕ) × (object_at s h.n ≡ is.Far len v words) }
     ensures finds { Finds (λ d es e. D.run d es e) (λ d s. D.shows d s) h.n
         (record { desk = desk.old; far = far.now }) result (record { desk = desk.new; far = far.now }) }
 {
