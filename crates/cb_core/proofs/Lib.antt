@@ -1,5 +1,6 @@
 pub mod Counting
 pub mod PartsFar
+pub mod Composing
 pub mod Changes
 pub mod WorldKept
 pub mod PinsKept

@@ -1,15 +1,18 @@
 -- What the parts of a turn find in the far state, and what they leave there.
-use Rattle.std.proofs.Common.{◌≡◌, ℕ, Bool, true, false, ◌<◌, ◌≤◌, List, [], ◌∷◌, Option, None, Some, is_some, length, get_or, take, sym, refl, ap, ◌∙◌, subst, arith, inl, inr}
+use Rattle.std.proofs.Common.{◌≡◌, ℕ, Bool, true, false, ◌<◌, ◌≤◌, List, [], ◌∷◌, Option, None, Some, is_some, length, get_or, take, sym, refl, ap, ◌∙◌, subst, arith, inl, inr, if◌then◌else◌}
 use Rattle.std.specs.List.{Contains}
 use Rattle.std.proofs.lemmas.List.{length-take-le}
 use Rattle.std.proofs.lemmas.List.Elements.{Contains-get_or}
 use Rattle.std.proofs.lemmas.List.Folds.{list_any_at}
 use Rattle.cb_frame.specs.FreeFrames.{least_free}
 use Rattle.cb_frame.proofs.Laws.{least_free-None}
+use Rattle.cb_member.specs.declared.names.Loss.{Loss}
 use Rattle.cb_member.specs.declared.names.Shard.{Shard}
 use Rattle.cb_node.specs.NodesState.{NodesState, with_row}
+use Rattle.cb_set.specs.Lost.{lost}
 use Rattle.cb_set.specs.SetState.{SetState, live_at, position_of, slot_at}
 use Rattle.cb_span.specs.Contents.{Contents}
+use Rattle.cb_span.specs.Places.{slot_place}
 use Rattle.cb_types.specs.declared.config.Config.{Config}
 use Rattle.cb_types.specs.declared.config.Field.TheVariants.{K}
 use Rattle.cb_types.specs.Config.{IsAccepted}
@@ -68,7 +71,7 @@ not_resident s far h f home sound at (slot, named) =
     let span = names_span far.spans f h (slot, named) in
     let lies = sound.here.placed.named f slot h span.0 span.1
     (named_at far.spans f slot h span.0 span.1 named) in
-    subst (λ (o : Object). LiesAt o lies.len _) object.away lies.lies
+    subst (λ (o : Object). LiesAt o lies.len (slot_place span.0.class f slot)) object.away lies.lies
 
 -- ---- an eviction that made a set
 -- the frames of the spans that left: as many as a set has data positions, among those that may leave
@@ -87,7 +90,7 @@ has_sent c far new r id es rule set = elim rule.answered [
     frames = take c.k rule.loose;
     evicted = both.evicted;
     among = λ f in_taken. loose_among es far.spans (candidates far) rule.loose f rule.found
-        (taken_of c.k rule.loose f in_taken);
+        (taken_of rule.loose c.k f in_taken);
     count = length-take-le c.k rule.loose both.enough;
   }
 ]
@@ -140,7 +143,7 @@ make_crammed handles bytes far new r es rule none =
     let x = subst (λ (q : Reply). MakeRule handles bytes far new q es) none rule in
     (x.2.0, x.1.2.taken)
 
-unavailable_not : (r : Reply) (id : SetId) (ls : List _) → r ≡ answer.Unavailable id ls
+unavailable_not : (r : Reply) (id : SetId) (ls : List Loss) → r ≡ answer.Unavailable id ls
     → r ≡ answer.NoFrame → ⊥
 unavailable_not r id ls a e = cc
 
@@ -154,8 +157,14 @@ no_least (Some f) e = absurd (differ (frame_answer (Some f)) f refl e)
 by_broken : (far : FarState) (id : ℕ) (set : SetState) (broken : Bool)
     → is_broken far.members set ≡ broken → swap_answer far id set ≡ answer.NoFrame
     → least_free far.frames ≡ None
-by_broken far id set true b e = absurd (unavailable_not (swap_answer far id set) _ _ (rw b refl) e)
-by_broken far id set false b e = no_least (least_free far.frames) (rw (sym b) e)
+by_broken far id set broken b e = by broken (subst (λ (x : Bool). (if x
+    then answer.Unavailable (record { n = id }) (lost far.members set.shards)
+    else frame_answer (least_free far.frames)) ≡ answer.NoFrame) b e)
+  where
+    by : (x : Bool) → (if x then answer.Unavailable (record { n = id }) (lost far.members set.shards)
+        else frame_answer (least_free far.frames)) ≡ answer.NoFrame → least_free far.frames ≡ None
+    by true q = absurd (unavailable_not _ (record { n = id }) (lost far.members set.shards) refl q)
+    by false q = no_least (least_free far.frames) q
 
 pub swap_crammed : (id p : ℕ) (far new : FarState) (r : Reply) (es : List Event)
     → SwapRule id p far new r es → r ≡ answer.NoFrame

@@ -1,37 +1,78 @@
-use Rattle.cb_core.proofs.PartsFar.{has_won}
-use Rattle.std.proofs.Common.{rules, ◌≡◌, ℕ, ◌^◌, ◌+◌, ◌<◌, ◌≤◌, length, true, false, Some, IfOk, OnErr, ◌-◌, ◌*◌, ◌/◌, ◌%◌, Bool, nat_eq, nat_lt, List, [], ◌∷◌, ◌++◌, slice_index_or, slice_set, bit_and, bit_or, Fits, w8, w32, w64, Bor, MutBor}
-use Rattle.cb_types.specs.Config.{IsAccepted}
-use Rattle.cb_types.specs.declared.handle.SetId.{SetId}
-use Rattle.cb_types.specs.declared.reply.Reply.TheVariants as answer
-use Rattle.cb_world.specs.declared.homes.Home.{Home}
-use Rattle.cb_world.specs.declared.shown.Shown.{Shown}
-use Rattle.cb_world.specs.Homes.{home_at}
-use Rattle.cb_world.specs.Sound.{Sound}
-use Rattle.cb_world.specs.World.{IsConfigured}
-use Rattle.cb_core.specs.Parts.{BringsIn, CallStops, Holding, NeverDeclined, NeverLacks, RoomStops, WhereItIs, WithRoom}
-use Rattle.cb_core.specs.Turned.{BringLacks, Brings, Declines, Evicts, EvictLacks, Finds, MakeLacks, Makes, ReadLacks, Reads, Writes}
+use Rattle.std.proofs.Common.{◌∙◌}
+use Rattle.cb_core.proofs.Composing.{holding, make_again, make_lacks_again, make_refused, make_without, shown_after, won_between}
+use Rattle.cb_core.proofs.PartsFar.{make_crammed}
 use Rattle.cb_core.proofs.bringing.make_with_room.Goals as goal
 
--- src/bringing.rt:49:16
 pub evict_now-requires-clause-sound : goal.evict_now-requires-clause-sound
-evict_now-requires-clause-sound g c = ?
+evict_now-requires-clause-sound g c =
+    shown_after _ _ _ _ _ _ _ c.in_ok-reply.ensures.make
+    (λ es s ran a. (g.met.D.Desk.follows _ _ es s ran a).1) c.requires.sound
 
--- src/bringing.rt:49:16
 pub returns-in_err-room-clause-error : goal.returns-in_err-room-clause-error
-returns-in_err-room-clause-error g c = ?
+returns-in_err-room-clause-error g c =
+    make_without (λ d es e. g.D.Desk.run d es e) (λ d s. g.D.Desk.shows d s)
+    (g.D.Desk.settings c.args.desk.now) c.args.bytes.now
+    (holding c.args.desk.now c.args.far.now)
+    (holding c.make.new.desk c.make.new.far) c.in_ok-reply.reply
+    (holding c.evict_now.new.desk c.evict_now.new.far)
+    c.from_residual-in_err-room.result c.in_ok-reply.ensures.make
+    (c.is_no_frame.ensures.yes c.if-not-is_no_frame.false)
+    (c.in_err-room.ensures.unchanged, c.in_err-room.ensures.error)
 
--- src/bringing.rt:51:9
 pub returns-then-not-is_set-clause-makes : goal.returns-then-not-is_set-clause-makes
-returns-then-not-is_set-clause-makes g c = ?
+returns-then-not-is_set-clause-makes g c =
+    let x = c.in_ok-reply.ensures.make in
+    make_refused (λ d es e. g.D.Desk.run d es e) (λ d s. g.D.Desk.shows d s)
+    (g.D.Desk.settings c.args.desk.now) c.args.bytes.now
+    (holding c.args.desk.now c.args.far.now)
+    (holding c.make.new.desk c.make.new.far) c.in_ok-reply.reply
+    (holding c.evict_now.new.desk c.evict_now.new.far)
+    (g.D.Desk.settings c.make.new.desk) c.in_ok-room.room x
+    (c.is_no_frame.ensures.yes c.if-not-is_no_frame.false) (g.met.D.Desk.stays _ _ x.events x.ran)
+    c.in_ok-room.ensures.evict (c.is_set.ensures.other c.if-not-is_set.true)
 
--- src/bringing.rt:53:5
 pub make-requires-2-clause-sound : goal.make-requires-2-clause-sound
-make-requires-2-clause-sound g c = ?
+make-requires-2-clause-sound g c =
+    shown_after _ _ _ _ _ _ _ c.in_ok-room.ensures.evict
+    (λ es s ran a. (g.met.D.Desk.follows _ _ es s ran a).1)
+    (shown_after _ _ _ _ _ _ _ c.in_ok-reply.ensures.make
+    (λ es s ran a. (g.met.D.Desk.follows _ _ es s ran a).1) c.requires.sound)
 
--- src/bringing.rt:23:1
 pub returns-clause-makes : goal.returns-clause-makes
-returns-clause-makes g c = ?
+returns-clause-makes g c =
+    let x = c.in_ok-reply.ensures.make in let y = c.in_ok-room.ensures.evict in
+    let set = c.is_set.ensures.yes c.if-not-is_set.false in
+    let none = c.is_no_frame.ensures.yes c.if-not-is_no_frame.false in
+    let same = g.met.D.Desk.stays _ _ x.events x.ran in
+    let m = holding c.make.new.desk c.make.new.far in
+    let n = holding c.evict_now.new.desk c.evict_now.new.far in
+    make_again (λ d es e. g.D.Desk.run d es e) (λ d s. g.D.Desk.shows d s)
+    (g.D.Desk.settings c.args.desk.now) c.args.bytes.now
+    (holding c.args.desk.now c.args.far.now)
+    m c.in_ok-reply.reply n
+    (holding c.make-2.new.desk c.make-2.new.far)
+    (g.D.Desk.settings c.make.new.desk) (g.D.Desk.settings c.evict_now.new.desk) c.in_ok-room.room
+    set.0 c.make-2.result x none same (g.met.D.Desk.stays _ _ y.events y.ran ∙ same) y set.1
+    (won_between (λ d es e. g.D.Desk.run d es e) (λ d s. g.D.Desk.shows d s)
+    (g.D.Desk.settings c.args.desk.now) (g.D.Desk.settings c.make.new.desk) c.args.far.now m n
+    c.in_ok-room.room set.0 same c.requires.config c.requires.configured
+    (make_crammed _ _ c.args.far.now c.make.new.far c.in_ok-reply.reply x.events x.rule none).0
+    (shown_after _ _ _ _ _ _ _ x (λ es s ran a. (g.met.D.Desk.follows _ _ es s ran a).1)
+    c.requires.sound) set.1 y)
+    c.make-2.ensures.make
 
--- src/bringing.rt:23:1
 pub returns-clause-error : goal.returns-clause-error
-returns-clause-error g c = ?
+returns-clause-error g c =
+    let x = c.in_ok-reply.ensures.make in let y = c.in_ok-room.ensures.evict in
+    let set = c.is_set.ensures.yes c.if-not-is_set.false in
+    let same = g.met.D.Desk.stays _ _ x.events x.ran in
+    make_lacks_again (λ d es e. g.D.Desk.run d es e) (λ d s. g.D.Desk.shows d s)
+    (g.D.Desk.settings c.args.desk.now) c.args.bytes.now
+    (holding c.args.desk.now c.args.far.now)
+    (holding c.make.new.desk c.make.new.far) c.in_ok-reply.reply
+    (holding c.evict_now.new.desk c.evict_now.new.far)
+    (holding c.make-2.new.desk c.make-2.new.far)
+    (g.D.Desk.settings c.make.new.desk) (g.D.Desk.settings c.evict_now.new.desk) c.in_ok-room.room
+    set.0 c.make-2.result (λ d. g.met.D.Desk.none d) x
+    (c.is_no_frame.ensures.yes c.if-not-is_no_frame.false) same
+    (g.met.D.Desk.stays _ _ y.events y.ran ∙ same) y set.1 c.make-2.ensures.error
