@@ -1,4 +1,6 @@
 pub mod Counting
+pub mod PartsFar
+pub mod Composing
 pub mod Changes
 pub mod KeptPins
 pub mod Loose
