@@ -7,3 +7,5 @@ pub mod WorkedPins
 pub mod WorkedMembership
 pub mod WorkedRoom
 pub mod WorkedTurns
+pub mod Runs
+pub mod WorkedRuns

@@ -5,3 +5,4 @@ pub mod Turned
 pub mod Room
 pub mod Step
 pub mod Events
+pub mod Run

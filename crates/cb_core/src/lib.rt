@@ -5,7 +5,9 @@
 pub mod event;
 mod membership;
 mod pinning;
+pub mod replies;
 mod room;
+pub mod running;
 pub mod stepping;
 #[cfg(test)]
 mod tests;
@@ -13,5 +15,7 @@ pub mod turning;
 
 pub use cb_types::Job;
 pub use event::{Atomic, Event};
+pub use replies::Replies;
+pub use running::run;
 pub use stepping::step;
 pub use turning::{MOST_TURNS, turn};
