@@ -16,3 +16,5 @@ pub mod WorkedMembership
 pub mod WorkedRoom
 pub mod WorkedTurns
 pub mod WorkedStill
+pub mod Runs
+pub mod WorkedRuns

@@ -7,3 +7,4 @@ pub mod Turned
 pub mod Room
 pub mod Step
 pub mod Events
+pub mod Run

@@ -7,7 +7,9 @@ mod declining;
 pub mod event;
 mod membership;
 mod pinning;
+pub mod replies;
 mod room;
+pub mod running;
 pub mod stepping;
 #[cfg(test)]
 mod tests;
@@ -15,5 +17,7 @@ pub mod turning;
 
 pub use cb_types::Job;
 pub use event::{Atomic, Event};
+pub use replies::Replies;
+pub use running::run;
 pub use stepping::step;
 pub use turning::{MOST_TURNS, turn};

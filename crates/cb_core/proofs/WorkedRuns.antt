@@ -1,0 +1,68 @@
+-- Worked examples of runs: what meets each definition, and what breaks one part.
+use Rattle.std.proofs.Common.{◌≡◌, ℕ, List, [], ◌∷◌, refl, ap, sym, ◌∙◌, subst, inl, inr}
+use Rattle.cb_types.specs.Config.{IsAccepted}
+use Rattle.cb_types.specs.declared.config.Config.{Config}
+use Rattle.cb_types.specs.declared.reply.Reply.{Reply}
+use Rattle.cb_types.specs.declared.reply.Reply.TheVariants as answer
+use Rattle.cb_world.specs.World.{WorldState, IsSoundWorld, empty_world}
+use Rattle.cb_world.proofs.Worlds.{empty_world_sound}
+use Rattle.cb_core.specs.declared.event.Atomic.TheVariants.{Load}
+use Rattle.cb_core.specs.declared.event.Event.{Event}
+use Rattle.cb_core.specs.declared.event.Event.TheVariants as event
+use Rattle.cb_core.specs.Run.{LeadsSoundly, RunStops}
+use Rattle.cb_core.specs.Step.{Leads, Stops}
+
+abbrev c : Config
+c = record { k = 1; r = 1; nodes = 2; frames = 2; room = 4; handles = 2; turns = 0 }
+
+abbrev w : WorldState
+w = empty_world c
+
+-- a look at a handle that was never made
+abbrev look : Event
+look = event.Step 0 (Load (record { n = 1 }))
+
+abbrev word : ℕ → Reply
+word n = answer.Word n
+
+-- ---- runs
+pub looks_twice : IsAccepted c
+    → LeadsSoundly w (look ∷ look ∷ []) (word 0 ∷ word 0 ∷ []) w
+looks_twice ok = (w, (refl, refl), empty_world_sound c ok, (w, (refl, refl), empty_world_sound c ok, refl))
+
+abbrev number_of : Reply → ℕ
+number_of (answer.Word n) = n
+number_of reply = 7
+
+another_reply : LeadsSoundly w (look ∷ []) (word 1 ∷ []) w → ⊥
+another_reply leads = let e : 1 ≡ 0 = ap number_of leads.1.0 in absurd cc
+
+a_reply_too_few : LeadsSoundly w (look ∷ look ∷ []) (word 0 ∷ []) w → ⊥
+a_reply_too_few leads = leads.3
+
+a_reply_too_many : LeadsSoundly w [] (word 0 ∷ []) w → ⊥
+a_reply_too_many leads = leads
+
+ends_elsewhere : (other : WorldState) → (other ≡ w → ⊥)
+    → LeadsSoundly w (look ∷ []) (word 0 ∷ []) other → ⊥
+ends_elsewhere other not leads = not (leads.3 ∙ leads.1.1)
+
+-- a world that is not sound is not come by
+unsound : (v : WorldState) (r : Reply) → (IsSoundWorld v → ⊥) → LeadsSoundly v (look ∷ []) (r ∷ []) v → ⊥
+unsound v r not leads = not (subst IsSoundWorld leads.1.1 leads.2)
+
+-- ---- a run that found no memory
+stops_behind_one : RunStops w (look ∷ look ∷ []) w
+stops_behind_one = record {
+  before = look ∷ [];
+  after = look ∷ [];
+  replies = word 0 ∷ [];
+  reached = w;
+  are = refl;
+  leads = (w, (refl, refl), refl);
+  left = inl refl;
+}
+
+-- a look finds memory, so nothing else is left behind it
+looks_never_stop : (new : WorldState) → Stops w look new → ⊥
+looks_never_stop new stops = stops

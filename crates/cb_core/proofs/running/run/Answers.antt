@@ -1,0 +1,36 @@
+use Rattle.std.proofs.Common.{rules, ◌≡◌, ◌+◌, [], ◌∷◌, ◌++◌, subst}
+use Rattle.cb_core.specs.Run.{RunStops}
+use Rattle.cb_core.proofs.Runs.{going_more, going_all, going_stops, going_ends, only_leads, of_error}
+use Rattle.cb_core.proofs.running.run.Goals as goal
+
+pub loop-event-preserved : goal.loop-event-preserved
+loop-event-preserved c = rw c.in_ok-push.ensures.ok
+    (going_more c.args.world.now c.args.events.now c.loop-event.event-index c.loop-event.replies
+    c.loop-event.world c.step.new.world c.event-item.result c.in_ok-reply.reply c.loop-event.invariant
+    (search rules) (search rules) c.in_ok-reply.ensures.step c.in_ok-reply.ensures.sound)
+
+pub returns-clause-along : goal.returns-clause-along
+returns-clause-along c = going_all c.args.world.now c.args.events.now c.loop-event.event-index
+    c.loop-event.replies c.loop-event.world c.loop-event.invariant c.loop-event-test.false
+
+pub returns-clause-leads : goal.returns-clause-leads
+returns-clause-leads c = only_leads c.args.world.now c.loop-event.world c.args.events.now
+    c.loop-event.replies (going_all c.args.world.now c.args.events.now c.loop-event.event-index
+    c.loop-event.replies c.loop-event.world c.loop-event.invariant c.loop-event-test.false)
+
+pub returns-in_err-reply-clause-error : goal.returns-in_err-reply-clause-error
+returns-in_err-reply-clause-error c =
+    of_error (RunStops c.args.world.now c.args.events.now c.step.new.world) c.from_residual.result
+    (going_stops c.args.world.now c.args.events.now c.loop-event.event-index c.loop-event.replies
+    c.loop-event.world c.step.new.world c.event-item.result c.loop-event.invariant (search rules)
+    (search rules) c.in_err-reply.ensures.error)
+
+pub returns-in_err-push-clause-error : goal.returns-in_err-push-clause-error
+returns-in_err-push-clause-error c =
+    of_error (RunStops c.args.world.now c.args.events.now c.step.new.world)
+    c.from_residual-in_err-push.result
+    (going_ends c.args.world.now c.args.events.now (c.loop-event.event-index + 1)
+    (c.loop-event.replies ++ c.in_ok-reply.reply ∷ []) c.step.new.world
+    (going_more c.args.world.now c.args.events.now c.loop-event.event-index c.loop-event.replies
+    c.loop-event.world c.step.new.world c.event-item.result c.in_ok-reply.reply c.loop-event.invariant
+    (search rules) (search rules) c.in_ok-reply.ensures.step c.in_ok-reply.ensures.sound))

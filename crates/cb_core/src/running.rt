@@ -1,0 +1,32 @@
+ghost use Rattle.std.specs.Prelude.{IfOk, OnErr};
+ghost use Rattle.std.specs.List.{AllByRecursion};
+ghost use Rattle.cb_world.specs.World.{IsSoundWorld};
+ghost use Rattle.cb_core.specs.Events.{IsEvent};
+ghost use Rattle.cb_core.specs.Run.{LeadsSoundly, RunStops};
+ghost use Rattle.cb_core.specs.Step.{Leads};
+
+use crate::event::Event;
+use crate::replies::Replies;
+use crate::stepping::step;
+use cb_types::NoMemory;
+use cb_world::World;
+use std::alloc::Global;
+
+/// Events one after another, with the reply to each. The world is sound after each of them. Where
+/// there is no memory, some first events took place, and the next one stopped, or its reply or none
+/// was done.
+pub fn run(alloc: Global, world: &mut World, events: &[Event]) -> Result<Replies, NoMemory>
+    requires sound { IsSoundWorld world.old }
+    requires events { AllByRecursion (IsEvent world.old.desk.settings) events.now }
+    ensures leads { IfOk result (λ replies. Leads world.old events.now replies world.new) }
+    ensures along { IfOk result (λ replies. LeadsSoundly world.old events.now replies world.new) }
+    ensures sound { IsSoundWorld world.new }
+    ensures error { OnErr result (RunStops world.old events.now world.new) }
+{
+    let mut replies = Replies::new(alloc);
+    for event in events {
+        let reply = step(alloc, world, event)?;
+        replies.push(reply)?;
+    }
+    Ok(replies)
+}
