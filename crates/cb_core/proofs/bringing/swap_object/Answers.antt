@@ -1,3 +1,4 @@
+use Rattle.cb_core.proofs.Composing.{holding}
 use Rattle.std.proofs.Common.{rules, ◌≡◌, ℕ, ◌^◌, ◌+◌, ◌<◌, ◌≤◌, length, true, false, Some, IfOk, OnErr, ◌-◌, ◌*◌, ◌/◌, ◌%◌, Bool, nat_eq, nat_lt, List, [], ◌∷◌, ◌++◌, slice_index_or, slice_set, bit_and, bit_or, Fits, w8, w32, w64, Bor, MutBor}
 use Rattle.cb_types.specs.Config.{IsAccepted}
 use Rattle.cb_types.specs.declared.handle.SetId.{SetId}
