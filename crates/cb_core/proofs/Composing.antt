@@ -27,7 +27,7 @@ use Rattle.cb_swapin.specs.SwapEffect.{SwapEffect}
 use Rattle.cb_swapin.specs.SwapRule.{SwapRule}
 use Rattle.cb_core.specs.Parts.{Holding, WithRoom, WhereItIs, RoomStops, CallStops}
 use Rattle.cb_core.specs.Parts.CallStops.{far as far_lacks, after as come_lacks}
-use Rattle.cb_core.specs.Parts.WhereItIs.{stays_far, brought}
+use Rattle.cb_core.specs.Parts.WhereItIs.{declined, stays_far, brought}
 use Rattle.cb_core.specs.Parts.WithRoom.{no_room, won}
 use Rattle.cb_core.specs.Parts.RoomStops.{evicting, after}
 use Rattle.cb_core.specs.Turned.{Brings, BringLacks, Evicts, EvictLacks, IsGiven, MakeLacks, Makes, Operates}
@@ -258,6 +258,13 @@ pub bring_lacks_as : {D : Type 0} (run : D → List Event → D → Type 0) (sho
     → BringLacks run shows c h a b
 bring_lacks_as run shows c d h a b same x =
     subst (λ (e : Config). BringLacks run shows e h a b) same x
+
+pub is_declined : {D : Type 0} (call : Holding D → Reply → Holding D → Type 0)
+    (look : Holding D → Option Reply → Holding D → Type 0)
+    (bringing : Holding D → Reply → Holding D → Type 0) (a m b : Holding D) (q r : Reply)
+    → call a q m → q ≡ answer.NotHere → look m (Some r) b → WhereItIs call look bringing a r b
+is_declined call look bringing a m b q r called away looked =
+    declined m (subst (λ (p : Reply). call a p m) away called) looked
 
 module _ {D : Type 0} (call : Holding D → Reply → Holding D → Type 0)
     (look : Holding D → Option Reply → Holding D → Type 0)
