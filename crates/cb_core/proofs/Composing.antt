@@ -25,12 +25,13 @@ use Rattle.cb_evict.specs.Evicting.{TouchesSpans}
 use Rattle.cb_swapin.specs.Fetching.{far_given}
 use Rattle.cb_swapin.specs.SwapEffect.{SwapEffect}
 use Rattle.cb_swapin.specs.SwapRule.{SwapRule}
-use Rattle.cb_core.specs.Parts.{Holding, WithRoom, WhereItIs, RoomStops, CallStops}
+use Rattle.cb_core.specs.Parts.{Holding, WithRoom, WhereItIs, BringsIn, RoomStops, CallStops}
+use Rattle.cb_core.specs.Parts.BringsIn.{was_far}
 use Rattle.cb_core.specs.Parts.CallStops.{far as far_lacks, after as come_lacks}
 use Rattle.cb_core.specs.Parts.WhereItIs.{declined, stays_far, brought}
 use Rattle.cb_core.specs.Parts.WithRoom.{no_room, won}
 use Rattle.cb_core.specs.Parts.RoomStops.{evicting, after}
-use Rattle.cb_core.specs.Turned.{Brings, BringLacks, Evicts, EvictLacks, IsGiven, MakeLacks, Makes, Operates}
+use Rattle.cb_core.specs.Turned.{Brings, BringLacks, Evicts, EvictLacks, Finds, IsGiven, MakeLacks, Makes, Operates}
 use Rattle.cb_core.proofs.PartsFar.{HasWon, has_won, make_crammed, swap_crammed}
 
 -- ---- what a part leaves known
@@ -296,3 +297,21 @@ module _ {D : Type 0} (call : Holding D → Reply → Holding D → Type 0)
       → OnErr result (CallStops call lacks look bringing bringing_lacks a b)
   come_stops lacks bringing_lacks o b p f result x is y = err_map _ (lacks o b) result y
       (λ z. come_lacks m n o f was_called looked (subst (λ (r : Reply). bringing n r o) is x) z)
+
+-- ---- an object that is brought in
+pub comes_in : {D : Type 0} (call bringing : Holding D → Reply → Holding D → Type 0) (a m b : Holding D)
+    (q : Reply) (result : Result Reply NoMemory) → call a q m → q ≡ answer.NotHere
+    → IfOk result (λ r. bringing m r b) → IfOk result (λ r. BringsIn call bringing a r b)
+comes_in call bringing a m b q result called away x = if_map (λ r. BringsIn call bringing a r b)
+    (λ r. bringing m r b) result x
+    (λ r y. was_far m (subst (λ (p : Reply). call a p m) away called) y)
+
+pub finds_as : {D : Type 0} (run : D → List Event → D → Type 0) (shows : D → Shown → Type 0) (h : ℕ)
+    (a b : Holding D) (q r : Reply) → q ≡ r → Finds run shows h a q b → Finds run shows h a r b
+finds_as run shows h a b q r is x = subst (λ (p : Reply). Finds run shows h a p b) is x
+
+pub brings_as_if : {D : Type 0} (run : D → List Event → D → Type 0) (shows : D → Shown → Type 0)
+    (c d : Config) (h : ℕ) (a b : Holding D) (result : Result Reply NoMemory) → d ≡ c
+    → IfOk result (λ r. Brings run shows d h a r b) → IfOk result (λ r. Brings run shows c h a r b)
+brings_as_if run shows c d h a b result same x =
+    subst (λ (e : Config). IfOk result (λ r. Brings run shows e h a r b)) same x
