@@ -3,6 +3,12 @@ pub mod PartsFar
 pub mod Composing
 pub mod DeclinedLooks
 pub mod Changes
+pub mod KeptPins
+pub mod Loose
+pub mod KeptParts
+pub mod StillParts
+pub mod StillTurns
+pub mod FarCalls
 pub mod WorldKept
 pub mod PinsKept
 pub mod Settings
@@ -10,3 +16,4 @@ pub mod WorkedPins
 pub mod WorkedMembership
 pub mod WorkedRoom
 pub mod WorkedTurns
+pub mod WorkedStill
