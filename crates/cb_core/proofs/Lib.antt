@@ -17,3 +17,5 @@ pub mod WorkedMembership
 pub mod WorkedRoom
 pub mod WorkedTurns
 pub mod WorkedStill
+pub mod WorkedParts
+pub mod WorkedDeclined
