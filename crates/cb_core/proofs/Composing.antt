@@ -25,10 +25,13 @@ use Rattle.cb_evict.specs.Evicting.{TouchesSpans}
 use Rattle.cb_swapin.specs.Fetching.{far_given}
 use Rattle.cb_swapin.specs.SwapEffect.{SwapEffect}
 use Rattle.cb_swapin.specs.SwapRule.{SwapRule}
-use Rattle.cb_core.specs.Parts.{Holding, WithRoom, RoomStops}
+use Rattle.cb_core.specs.Parts.{Holding, WithRoom, WhereItIs, BringsIn, RoomStops, CallStops}
+use Rattle.cb_core.specs.Parts.BringsIn.{was_far}
+use Rattle.cb_core.specs.Parts.CallStops.{far as far_lacks, after as come_lacks}
+use Rattle.cb_core.specs.Parts.WhereItIs.{declined, stays_far, brought}
 use Rattle.cb_core.specs.Parts.WithRoom.{no_room, won}
 use Rattle.cb_core.specs.Parts.RoomStops.{evicting, after}
-use Rattle.cb_core.specs.Turned.{Brings, BringLacks, Evicts, EvictLacks, IsGiven, MakeLacks, Makes, Operates}
+use Rattle.cb_core.specs.Turned.{Brings, BringLacks, Evicts, EvictLacks, Finds, IsGiven, MakeLacks, Makes, Operates}
 use Rattle.cb_core.proofs.PartsFar.{HasWon, has_won, make_crammed, swap_crammed}
 
 -- ---- what a part leaves known
@@ -217,3 +220,98 @@ module _ {D : Type 0} (run : D → List Event → D → Type 0) (shows : D → S
         subst (λ (u : D). run n.desk [] u) (sym desk) (nothing n.desk),
         is_given n.far b.far h home (left.homes h home at) far,
       ))
+
+-- ---- a call on an object wherever it is
+-- a part that leaves the far state as it was
+pub far_kept : (runs : List Event → Type 0) (knows : Shown → Type 0) (rules : List Event → Type 0)
+    (sound : Shown → Type 0) (does : List Event → Shown → Shown → Type 0) (far new : FarState)
+    → Performs runs knows rules sound does → new ≡ far
+    → Performs runs knows (λ es. (new ≡ far) × rules es) sound does
+far_kept runs knows rules sound does far new p same = record {
+  events = p.events;
+  ran = p.ran;
+  looks_first = p.looks_first;
+  rule = (same, p.rule);
+  allowed = p.allowed;
+  sound_after = p.sound_after;
+  effect = p.effect;
+}
+
+pub far_kept_if : (runs : List Event → Type 0) (knows : Shown → Type 0)
+    (rules : Reply → List Event → Type 0) (sound : Shown → Type 0)
+    (does : Reply → List Event → Shown → Shown → Type 0) (far new : FarState)
+    (result : Result Reply NoMemory) → IfOk result (λ r. Performs runs knows (rules r) sound (does r))
+    → new ≡ far
+    → IfOk result (λ r. Performs runs knows (λ es. (new ≡ far) × rules r es) sound (does r))
+far_kept_if runs knows rules sound does far new result x same =
+    if_map (λ r. Performs runs knows (λ es. (new ≡ far) × rules r es) sound (does r))
+    (λ r. Performs runs knows (rules r) sound (does r)) result x
+    (λ r p. far_kept runs knows (rules r) sound (does r) far new p same)
+
+pub brings_as : {D : Type 0} (run : D → List Event → D → Type 0) (shows : D → Shown → Type 0)
+    (c d : Config) (h : ℕ) (a b : Holding D) (r : Reply) → d ≡ c → Brings run shows d h a r b
+    → Brings run shows c h a r b
+brings_as run shows c d h a b r same x =
+    subst (λ (e : Config). Brings run shows e h a r b) same x
+
+pub bring_lacks_as : {D : Type 0} (run : D → List Event → D → Type 0) (shows : D → Shown → Type 0)
+    (c d : Config) (h : ℕ) (a b : Holding D) → d ≡ c → BringLacks run shows d h a b
+    → BringLacks run shows c h a b
+bring_lacks_as run shows c d h a b same x =
+    subst (λ (e : Config). BringLacks run shows e h a b) same x
+
+pub is_declined : {D : Type 0} (call : Holding D → Reply → Holding D → Type 0)
+    (look : Holding D → Option Reply → Holding D → Type 0)
+    (bringing : Holding D → Reply → Holding D → Type 0) (a m b : Holding D) (q r : Reply)
+    → call a q m → q ≡ answer.NotHere → look m (Some r) b → WhereItIs call look bringing a r b
+is_declined call look bringing a m b q r called away looked =
+    declined m (subst (λ (p : Reply). call a p m) away called) looked
+
+module _ {D : Type 0} (call : Holding D → Reply → Holding D → Type 0)
+    (look : Holding D → Option Reply → Holding D → Type 0)
+    (bringing : Holding D → Reply → Holding D → Type 0) (a m n : Holding D) (q : Reply)
+    (called : call a q m) (away : q ≡ answer.NotHere) (looked : look m None n) where
+  was_called : call a answer.NotHere m
+  was_called = subst (λ (r : Reply). call a r m) away called
+
+  pub far_stays : (b : Holding D) (r : Reply) → bringing n r b
+      → ((f : ℕ) → r ≡ answer.Swapped f → ⊥) → WhereItIs call look bringing a r b
+  far_stays b r x left = stays_far m n was_called looked x left
+
+  pub far_comes : (o b : Holding D) (p : Reply) (f : ℕ) (result : Result Reply NoMemory)
+      → bringing n p o → p ≡ answer.Swapped f → IfOk result (λ r. call o r b)
+      → IfOk result (λ r. WhereItIs call look bringing a r b)
+  far_comes o b p f result x is y = if_map (λ r. WhereItIs call look bringing a r b)
+      (λ r. call o r b) result y
+      (λ r z. brought m n o f was_called looked (subst (λ (r : Reply). bringing n r o) is x) z)
+
+  pub far_stops : (lacks bringing_lacks : Holding D → Holding D → Type 0) (b : Holding D)
+      (result : Result Reply NoMemory) → bringing_lacks n b
+      → OnErr result (CallStops call lacks look bringing bringing_lacks a b)
+  far_stops lacks bringing_lacks b result x =
+      any_err _ result (far_lacks m n was_called looked x)
+
+  pub come_stops : (lacks bringing_lacks : Holding D → Holding D → Type 0) (o b : Holding D)
+      (p : Reply) (f : ℕ) (result : Result Reply NoMemory) → bringing n p o → p ≡ answer.Swapped f
+      → OnErr result (lacks o b)
+      → OnErr result (CallStops call lacks look bringing bringing_lacks a b)
+  come_stops lacks bringing_lacks o b p f result x is y = err_map _ (lacks o b) result y
+      (λ z. come_lacks m n o f was_called looked (subst (λ (r : Reply). bringing n r o) is x) z)
+
+-- ---- an object that is brought in
+pub comes_in : {D : Type 0} (call bringing : Holding D → Reply → Holding D → Type 0) (a m b : Holding D)
+    (q : Reply) (result : Result Reply NoMemory) → call a q m → q ≡ answer.NotHere
+    → IfOk result (λ r. bringing m r b) → IfOk result (λ r. BringsIn call bringing a r b)
+comes_in call bringing a m b q result called away x = if_map (λ r. BringsIn call bringing a r b)
+    (λ r. bringing m r b) result x
+    (λ r y. was_far m (subst (λ (p : Reply). call a p m) away called) y)
+
+pub finds_as : {D : Type 0} (run : D → List Event → D → Type 0) (shows : D → Shown → Type 0) (h : ℕ)
+    (a b : Holding D) (q r : Reply) → q ≡ r → Finds run shows h a q b → Finds run shows h a r b
+finds_as run shows h a b q r is x = subst (λ (p : Reply). Finds run shows h a p b) is x
+
+pub brings_as_if : {D : Type 0} (run : D → List Event → D → Type 0) (shows : D → Shown → Type 0)
+    (c d : Config) (h : ℕ) (a b : Holding D) (result : Result Reply NoMemory) → d ≡ c
+    → IfOk result (λ r. Brings run shows d h a r b) → IfOk result (λ r. Brings run shows c h a r b)
+brings_as_if run shows c d h a b result same x =
+    subst (λ (e : Config). IfOk result (λ r. Brings run shows e h a r b)) same x

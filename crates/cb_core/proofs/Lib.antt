@@ -1,6 +1,7 @@
 pub mod Counting
 pub mod PartsFar
 pub mod Composing
+pub mod DeclinedLooks
 pub mod Changes
 pub mod KeptPins
 pub mod Loose
@@ -18,3 +19,5 @@ pub mod WorkedTurns
 pub mod WorkedStill
 pub mod Runs
 pub mod WorkedRuns
+pub mod WorkedParts
+pub mod WorkedDeclined

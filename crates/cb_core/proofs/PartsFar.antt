@@ -22,6 +22,7 @@ use Rattle.cb_types.specs.declared.reply.Reply.TheVariants as answer
 use Rattle.cb_world.specs.declared.event.Event.{Event}
 use Rattle.cb_world.specs.declared.homes.Home.{Home}
 use Rattle.cb_world.specs.declared.object.Object.{Object}
+use Rattle.cb_world.specs.declared.object.Object.TheVariants as is
 use Rattle.cb_world.specs.declared.shown.Shown.{Shown}
 use Rattle.cb_world.specs.Shown.{object_at}
 use Rattle.cb_world.specs.FarState.{FarState}
@@ -60,6 +61,12 @@ live_home s far h home sound at =
           (named_within (position_of x.0 home.position).slots home.slot h x.2)
           (ap (λ (o : Option ℕ). is_some o) x.2),
     )
+
+-- a far object has a home
+pub far_has_home : (s : Shown) (far : FarState) (h : ℕ) → Sound s far
+    → (len v : ℕ) × (words : List ℕ) × (object_at s h ≡ is.Far len v words)
+    → (home : Home) × (home_at far.homes h ≡ Some home)
+far_has_home s far h sound x = sound.away.sound.away.away h x.0 x.1 x.2 x.3
 
 -- no span of local memory names an object that has a home
 pub not_resident : (s : Shown) (far : FarState) (h f : ℕ) (home : Home) → Sound s far
