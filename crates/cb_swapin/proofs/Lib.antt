@@ -9,5 +9,13 @@ pub mod Waits
 pub mod Arrived
 pub mod ArrivedFar
 pub mod Swapped
+pub mod SwapAnswers
+pub mod SwapWords
+pub mod SwapStep
+pub mod SwapKeeps
+pub mod SwapPins
+pub mod FarHomes
+pub mod SwapWorld
 mod WorkedNamed
 mod WorkedSwap
+mod WorkedSwapStep

@@ -26,11 +26,11 @@ use Rattle.cb_swapin.specs.SwapRule.{IsSwappedTo, SwapFar, swap_answer}
 abbrev node : ℕ → NodeId
 node n = record { n = n }
 
-abbrev at : ℕ → ℕ → Shard
+abbrev pub at : ℕ → ℕ → Shard
 at n key = record { node = node n; incarnation = 0; key = key }
 
 -- node 1 crashed at epoch 1 and node 2 at epoch 3
-abbrev members : Membership
+abbrev pub members : Membership
 members = record {
   epoch = 3;
   nodes =
@@ -44,20 +44,20 @@ abbrev loss : ℕ → ℕ → Loss
 loss n epoch = record { node = node n; epoch = record { n = epoch } }
 
 -- a span of four slots with object 0 in slot 1, and one with object 1
-abbrev first : PositionState
+abbrev pub first : PositionState
 first = filled_position (None ∷ Some 0 ∷ None ∷ None ∷ [])
 
 abbrev second : PositionState
 second = filled_position (Some 1 ∷ None ∷ None ∷ None ∷ [])
 
 -- two data positions and a parity, by the nodes of their shards
-abbrev on : ℕ → ℕ → ℕ → SetState
+abbrev pub on : ℕ → ℕ → ℕ → SetState
 on a b c = set_of 5 (at a 7 ∷ at b 8 ∷ at c 9 ∷ []) (first ∷ second ∷ [])
 
 abbrev home : ℕ → ℕ → Home
 home position slot = record { set = 5; position = position; slot = slot }
 
-abbrev far : List Bool → SetState → FarState
+abbrev pub far : List Bool → SetState → FarState
 far frames set = record {
   first = 1;
   made = 2;
@@ -73,10 +73,10 @@ far frames set = record {
 }
 
 -- frame 0 is taken
-abbrev some_free : List Bool
+abbrev pub some_free : List Bool
 some_free = false ∷ true ∷ true ∷ []
 
-abbrev none_free : List Bool
+abbrev pub none_free : List Bool
 none_free = false ∷ false ∷ false ∷ []
 
 -- ---- what it is answered: no shard lost, one, and two
@@ -117,7 +117,7 @@ two_rows : rows_needed members (on 1 0 3) 0 ≡ 2
 two_rows = refl
 
 -- ---- a refusal
-abbrev refused : FarState
+abbrev pub refused : FarState
 refused = far none_free (on 1 0 3)
 
 refuses : SwapFar refused refused 5 0 (on 1 0 3) [] answer.NoFrame
@@ -132,13 +132,13 @@ refuses_and_looks : SwapFar refused refused 5 0 (on 1 0 3) (Looked 0 1 ∷ []) a
 refuses_and_looks x = let e : 1 ≡ 0 = ap (λ l. length l) x.1 in omega (arith, e)
 
 -- ---- position 0 comes into frame 1, by one row; position 1 is live
-abbrev class : Class
+abbrev pub class : Class
 class = record { index = 11 }
 
-abbrev set : SetState
+abbrev pub set : SetState
 set = on 0 3 1
 
-abbrev old : FarState
+abbrev pub old : FarState
 old = far some_free set
 
 abbrev with_set : SetState → SetMap
@@ -150,7 +150,7 @@ rest = set_of 5 (at 0 7 ∷ at 3 8 ∷ at 1 9 ∷ []) (dead_position ∷ second 
 abbrev span : Temp → Contents
 span temp = span_of class temp first.slots
 
-abbrev new : FarState
+abbrev pub new : FarState
 new = record old {
   frames = false ∷ false ∷ true ∷ [];
   spans = None ∷ Some (span Hot) ∷ None ∷ [];
@@ -159,21 +159,21 @@ new = record old {
   nodes = with_given old.nodes 1;
 }
 
-none_some : {X : Type 0} (x : X) → None ≡ Some x → ⊥
+pub none_some : {X : Type 0} (x : X) → None ≡ Some x → ⊥
 none_some x e = cc
 
-some_same : {X : Type 0} (x y : X) → Some x ≡ Some y → x ≡ y
+pub some_same : {X : Type 0} (x y : X) → Some x ≡ Some y → x ≡ y
 some_same x y e = cc
 
 -- the one object of the position
-the_one : (slot h : ℕ) → get_or first.slots slot None ≡ Some h → (slot ≡ 1) × (h ≡ 0)
+pub the_one : (slot h : ℕ) → get_or first.slots slot None ≡ Some h → (slot ≡ 1) × (h ≡ 0)
 the_one zero h e = absurd (none_some h e)
 the_one (suc zero) h e = (refl, sym (some_same 0 h e))
 the_one (suc (suc zero)) h e = absurd (none_some h e)
 the_one (suc (suc (suc zero))) h e = absurd (none_some h e)
 the_one (suc (suc (suc (suc slot)))) h e = absurd (none_some h e)
 
-swapped : IsSwappedTo old new 5 0 set 1
+pub swapped : IsSwappedTo old new 5 0 set 1
 unfolding slots_of bytes_of
 swapped = record {
   class = class;

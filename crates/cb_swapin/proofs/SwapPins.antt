@@ -1,0 +1,225 @@
+-- What a step of a swap-in does to single objects: those of the position, which were far, are here;
+-- every other one, and so each with pins, is as it was.
+use Rattle.std.proofs.Common.{◌≡◌, ◌≢◌, ℕ, false, nat_eq, ◌+◌, ◌*◌, ◌/◌, ◌%◌, ◌^◌, ◌<◌, ◌≤◌, List, Option, Some, None, length, refl, sym, ap, ◌∙◌, subst, arith, inl, inr, get_or-set_same}
+use Rattle.cb_class.specs.declared.class.Class.{Class}
+use Rattle.cb_frame.specs.FreeFrames.{least_free}
+use Rattle.cb_gf256.specs.Rows.{row_at}
+use Rattle.cb_ptr.specs.declared.word.State.TheVariants as pointer
+use Rattle.cb_ptr.specs.Word.{numbered_state, state_of, hot_of, len_of, place_of, pins_of}
+use Rattle.cb_ptr.proofs.Laws.{len_of-below}
+use Rattle.cb_set.specs.SetState.{SetState, position_of}
+use Rattle.cb_span.specs.declared.temp.Temp.TheVariants.{Hot}
+use Rattle.cb_span.specs.Contents.{Contents, span_of}
+use Rattle.cb_span.specs.Places.{slot_place}
+use Rattle.cb_types.specs.declared.reply.Reply.{Reply}
+use Rattle.cb_types.specs.declared.reply.Reply.TheVariants as answer
+use Rattle.cb_world.specs.declared.object.Object.{Object}
+use Rattle.cb_world.specs.declared.object.Object.TheVariants as is
+use Rattle.cb_world.specs.declared.shown.Shown.{Shown}
+use Rattle.cb_world.specs.Memory.{window, words_for}
+use Rattle.cb_world.specs.Shown.{Fits, object_at}
+use Rattle.cb_world.specs.Plain.{Words}
+use Rattle.cb_world.specs.StillDesk.{here_is}
+use Rattle.cb_world.specs.StillWords.{contents_at}
+use Rattle.cb_world.specs.Sets.{set_in}
+use Rattle.cb_world.specs.declared.homes.Home.{Home}
+use Rattle.cb_world.specs.Homes.{home_at}
+use Rattle.cb_world.specs.FarState.{FarState, span_in}
+use Rattle.cb_world.specs.LocalSound.{LiesAt}
+use Rattle.cb_world.specs.World.{word_at, IsKnown}
+use Rattle.cb_world.proofs.Apart.{slot_inside}
+use Rattle.cb_world.proofs.NowSame.{IsNearAt, bits, near_object}
+use Rattle.cb_swapin.specs.Named.{Names}
+use Rattle.cb_swapin.specs.SwapStep.{IsSwapped, IsSwapStep, brought_word}
+use Rattle.cb_swapin.proofs.SlotNames.{named_or_not}
+use Rattle.cb_swapin.proofs.Waits.{free_frame}
+use Rattle.cb_swapin.proofs.ArrivedFar.{other_words}
+use Rattle.cb_swapin.proofs.SwapAnswers.{only_swapped}
+use Rattle.cb_swapin.proofs.SwapWords.{far_within}
+use Rattle.cb_swapin.proofs.SwapKeeps.{step_cases}
+
+-- ---- an object that a position names is far
+pub record IsFarAt (x : Words) (h : ℕ) : Type 0 where
+  pub within : h < length x.words
+  pub far : state_of (word_at x h) ≡ pointer.Far
+  pub no_pins : pins_of (word_at x h) ≡ 0
+
+pub named_far : (x : Words) (far : FarState) (s : Shown) (id p : ℕ) (set : SetState)
+    → IsKnown x far s → set_in far.sets id ≡ Some set → (slot h : ℕ)
+    → Names (position_of set p).slots slot h → IsFarAt x h
+named_far x far s id p set k there slot h named =
+    let z = (k.sound.away.sound.sets.worded id set there).1.holds p slot h named in
+    let below : h < length x.words = (let n = far_within s h z.len z.version z.words z.away in
+    let m = k.shows.objects in omega (arith, n, m)) in
+    let fit : Fits (is.Far z.len z.version z.words) (word_at x h) =
+    subst (λ (o : Object). Fits o (word_at x h)) z.away (k.shows.fit h below) in record {
+      within = below;
+      far = ap numbered_state (let e : word_at x h % 4 ≡ 1 = omega (arith, fit.0) in e);
+      no_pins = omega (arith, fit.0);
+    }
+
+-- ---- how the word of an object that was brought in reads
+pub record IsBroughtWord (w len : ℕ) : Type 0 where
+  pub here : state_of w ≡ pointer.Here
+  pub cold : hot_of w ≡ false
+  pub no_pins : pins_of w ≡ 0
+  pub len_is : len_of w ≡ len
+
+pub brought_reads : (len place : ℕ) → len < 2 ^ 16 → IsBroughtWord (brought_word len place) len
+brought_reads len place short = reads (brought_word len place) len place short (omega arith)
+  where
+    reads : (w len place : ℕ) → len < 2 ^ 16 → w ≡ 2 + len * 8192 + place * 536870912
+        → IsBroughtWord w len
+    reads w len place short e = record {
+      here = ap numbered_state (let a : w % 4 ≡ 2 = omega (arith, e) in a);
+      cold = ap (λ (n : ℕ). nat_eq n 1) (let a : w / 4 % 2 ≡ 0 = omega (arith, e) in a);
+      no_pins = omega (arith, e);
+      len_is = omega (arith, e, short);
+    }
+
+pub word_reads : (x y : Words) (far new : FarState) (id p : ℕ) (set : SetState) (f : ℕ)
+    → IsSwapped x y far new id p set f → (slot h : ℕ) → Names (position_of set p).slots slot h
+    → IsBroughtWord (word_at y h) (len_of (word_at x h))
+word_reads x y far new id p set f w slot h named =
+    subst (λ (n : ℕ). IsBroughtWord n (len_of (word_at x h))) (sym (w.words.here slot h named))
+    (brought_reads (len_of (word_at x h)) (slot_place w.state.class f slot)
+    (len_of-below (word_at x h)))
+
+-- An object that came in: it was far and without pins, and is here at its slot of the frame, with its
+-- length, not hot and without pins.
+pub record HasComeIn (x y : Words) (class : Class) (f slot h : ℕ) : Type 0 where
+  pub was : IsFarAt x h
+  pub reads : IsBroughtWord (word_at y h) (len_of (word_at x h))
+  pub place : place_of (word_at y h) ≡ slot_place class f slot
+
+pub come_in : (x y : Words) (far new : FarState) (s t : Shown) (id p : ℕ) (set : SetState) (f : ℕ)
+    → IsKnown x far s → IsKnown y new t → set_in far.sets id ≡ Some set
+    → least_free far.frames ≡ Some f → (w : IsSwapped x y far new id p set f) → (slot h : ℕ)
+    → Names (position_of set p).slots slot h → HasComeIn x y w.state.class f slot h
+come_in x y far new s t id p set f k l there least w slot h named =
+    let was = named_far x far s id p set k there slot h named in
+    let reads = word_reads x y far new id p set f w slot h named in
+    let below : h < length y.words =
+    (let n = w.words.count in let m = was.within in omega (arith, n, m)) in
+    let object : object_at t h ≡ is.Here (len_of (word_at y h)) (place_of (word_at y h)) =
+    here_is (object_at t h) (word_at y h) (l.shows.fit h below) reads.here in
+    let span = span_of w.state.class Hot (position_of set p).slots in
+    let frame : span_in new.spans f ≡ Some span =
+    ap (λ (c : List (Option Contents)). span_in c f) w.state.spans
+    ∙ get_or-set_same far.spans f (Some span) None (free_frame s far f k.sound.here least).0 in
+    let z = l.sound.here.placed.named f slot h span frame named in
+    let lies : LiesAt (is.Here (len_of (word_at y h)) (place_of (word_at y h))) z.len
+    (slot_place w.state.class f slot) =
+    subst (λ (o : Object). LiesAt o z.len (slot_place w.state.class f slot)) object z.lies in record {
+      was = was;
+      reads = reads;
+      place = sym lies.1;
+    }
+
+-- ---- every other object
+-- the word of an object that is not far stays
+pub near_stays : (x y : Words) (far new : FarState) (id p : ℕ) (r : Reply) (s : Shown)
+    → IsKnown x far s → IsSwapStep x y far new id p r → (h : ℕ)
+    → (state_of (word_at x h) ≡ pointer.Far → ⊥) → word_at y h ≡ word_at x h
+near_stays x y far new id p r s k z h near =
+    step_cases (word_at y h ≡ word_at x h) x y far new id p r z
+    (λ same. ap (λ (q : Words). word_at q h) same.0)
+    (λ f whole least e w. elim (named_or_not (position_of z.set p).slots h) [
+      | inl named ↦
+          absurd (near (named_far x far s id p z.set k z.there named.0 h named.1).far)
+      | inr off ↦ w.words.others h off
+    ])
+
+-- and so that of one that is here
+pub here_stays : (x y : Words) (far new : FarState) (id p : ℕ) (r : Reply) (s : Shown)
+    → IsKnown x far s → IsSwapStep x y far new id p r → (h : ℕ)
+    → state_of (word_at x h) ≡ pointer.Here → word_at y h ≡ word_at x h
+here_stays x y far new id p r s k z h here = near_stays x y far new id p r s k z h
+    (λ away. let a = bits (word_at x h) pointer.Here here in
+    let b = bits (word_at x h) pointer.Far away in omega (arith, a, b))
+
+-- the pins of each word stay
+pub pins_stay : (x y : Words) (far new : FarState) (id p : ℕ) (r : Reply) (s : Shown)
+    → IsKnown x far s → IsSwapStep x y far new id p r → (h : ℕ)
+    → pins_of (word_at y h) ≡ pins_of (word_at x h)
+pins_stay x y far new id p r s k z h =
+    step_cases (pins_of (word_at y h) ≡ pins_of (word_at x h)) x y far new id p r z
+    (λ same. ap (λ (q : Words). pins_of (word_at q h)) same.0)
+    (λ f whole least e w. elim (named_or_not (position_of z.set p).slots h) [
+      | inl named ↦ (word_reads x y far new id p z.set f w named.0 h named.1).no_pins
+          ∙ sym (named_far x far s id p z.set k z.there named.0 h named.1).no_pins
+      | inr off ↦ ap pins_of (w.words.others h off)
+    ])
+
+-- a word with pins stays
+pub pinned_stays : (x y : Words) (far new : FarState) (id p : ℕ) (r : Reply) (s : Shown)
+    → IsKnown x far s → IsSwapStep x y far new id p r → (h : ℕ) → 1 ≤ pins_of (word_at x h)
+    → word_at y h ≡ word_at x h
+pinned_stays x y far new id p r s k z h pinned =
+    step_cases (word_at y h ≡ word_at x h) x y far new id p r z
+    (λ same. ap (λ (q : Words). word_at q h) same.0)
+    (λ f whole least e w. elim (named_or_not (position_of z.set p).slots h) [
+      | inl named ↦
+          absurd (let none = (named_far x far s id p z.set k z.there named.0 h named.1).no_pins in
+          omega (arith, none, pinned))
+      | inr off ↦ w.words.others h off
+    ])
+
+some_none : {X : Type 0} (o : Option X) (a : X) → o ≡ None → o ≡ Some a → ⊥
+some_none o a e f = cc
+
+-- the memory words of an object that is here stay, as those of one that is moving do
+pub contents_stay : (x y : Words) (far new : FarState) (id p : ℕ) (r : Reply) (s : Shown)
+    → IsKnown x far s → IsSwapStep x y far new id p r → (h : ℕ) → h < length x.words
+    → 2 ≤ word_at x h % 4 → contents_at y h ≡ contents_at x h
+contents_stay x y far new id p r s k z h below near =
+    step_cases (contents_at y h ≡ contents_at x h) x y far new id p r z
+    (λ same. ap (λ (q : Words). contents_at q h) same.0)
+    (λ f whole least e w. moved f (free_frame s far f k.sound.here least) w
+    (near_stays x y far new id p r s k z h (λ away. let b = bits (word_at x h) pointer.Far away in
+    omega (arith, b, near))))
+  where
+    v : ℕ
+    v = word_at x h
+
+    lies : IsNearAt (object_at s h) v → LiesAt (object_at s h) (len_of v) (place_of v)
+    lies (inl o) = subst (λ (q : Object). LiesAt q (len_of v) (place_of v)) (sym o) (refl, refl)
+    lies (inr (n, words, o)) =
+        subst (λ (q : Object). LiesAt q (len_of v) (place_of v)) (sym o) (refl, refl)
+
+    moved : (f : ℕ) → (f < length far.spans) × (span_in far.spans f ≡ None)
+        → IsSwapped x y far new id p z.set f → word_at y h ≡ v → contents_at y h ≡ contents_at x h
+    moved f free w same =
+        let c = k.sound.here.placed.placed h (len_of v) (place_of v)
+        (lies (near_object (object_at s h) v (k.shows.fit h below) near)) in
+        let inside = slot_inside far s h (len_of v) (place_of v) k.sound.here c in
+        let off : c.frame ≢ f = λ at. some_none (span_in far.spans f) c.span free.1
+        (ap (span_in far.spans) (sym at) ∙ c.there) in
+        ap (λ (n : ℕ). window y.memory (place_of n) (words_for (len_of n))) same
+        ∙ ap (λ (l : List ℕ). window l (place_of v) (words_for (len_of v))) w.words.memory
+        ∙ other_words x.memory f c.frame (row_at w.rows p) off (place_of v) (words_for (len_of v))
+        inside.0 inside.1
+
+-- ---- a step that came into a frame
+-- each object that the position names came in
+pub step_comes_in : (x y : Words) (far new : FarState) (s t : Shown) (id p f : ℕ)
+    → IsKnown x far s → IsKnown y new t → (z : IsSwapStep x y far new id p (answer.Swapped f))
+    → (slot h : ℕ) → Names (position_of z.set p).slots slot h
+    → HasComeIn x y z.change.state.class f slot h
+step_comes_in x y far new s t id p f k l z =
+    come_in x y far new s t id p z.set f k l z.there (only_swapped far id z.set f (sym z.reply)).1
+    z.change
+
+-- and so an object whose home it is
+pub home_comes_in : (x y : Words) (far new : FarState) (s t : Shown) (h : ℕ) (home : Home) (f : ℕ)
+    → IsKnown x far s → IsKnown y new t → home_at far.homes h ≡ Some home
+    → (z : IsSwapStep x y far new home.set home.position (answer.Swapped f))
+    → HasComeIn x y z.change.state.class f home.slot h
+home_comes_in x y far new s t h home f k l at z =
+    let lies = k.sound.away.sound.away.home h home at in
+    let same : lies.0 ≡ z.set = set_same lies.0 z.set (sym lies.1 ∙ z.there) in
+    step_comes_in x y far new s t home.set home.position f k l z home.slot h
+    (subst (λ (q : SetState). Names (position_of q home.position).slots home.slot h) same lies.2)
+  where
+    set_same : (a b : SetState) → Some a ≡ Some b → a ≡ b
+    set_same a b e = cc
