@@ -32,7 +32,7 @@ use Rattle.cb_world.proofs.Untouched.{allowed_append}
 use Rattle.cb_evict.specs.Candidates.{candidates, AreLoose}
 use Rattle.cb_evict.specs.Claims.{AreClaimed}
 use Rattle.cb_evict.specs.Claiming.{IsOne, GivesBack, ClaimsSpans}
-use Rattle.cb_evict.specs.Events.{Touches, OnlyLooks}
+use Rattle.cb_evict.specs.Events.{TouchesOnly, OnlyLooks}
 use Rattle.cb_evict.specs.EvictEffect.{IsAway, IsEvicted, EvictEffect}
 use Rattle.cb_evict.specs.EvictRule.{IsInRow, HasEvicted, HasFewSpans, HasFewNodes, HasBoth, EvictRule}
 use Rattle.cb_evict.specs.Evicting.{TouchesSpans, RuleAfter, AreTaken, IsReady, EvictsClaimed, LeavesClaimed}
@@ -223,7 +223,7 @@ effect_before far new r es fs s t looks a = record {
 
 -- only objects of candidates were looked at
 looks_touch : (far : FarState) (es : List Event)
-    → Touches (IsIn far.spans (candidates far)) (λ p. ⊥) es → TouchesSpans far es
+    → TouchesOnly (IsIn far.spans (candidates far)) (λ p. ⊥) es → TouchesSpans far es
 looks_touch far es t = touches_more (IsIn far.spans (candidates far)) (IsIn far.spans (candidates far))
     (λ p. ⊥) (LiesInOne (candidates far)) es (λ h x. x) (λ p x. absurd x) t
 
@@ -340,7 +340,7 @@ looks_refuse c far r loose runs shows x few =
 -- ---- the claims, and then the rest
 -- what was claimed are objects of candidates
 claims_touch : (far : FarState) (loose : List ℕ) (es : List Event)
-    → All (Contains (candidates far)) loose → Touches (IsIn far.spans loose) (λ p. ⊥) es
+    → All (Contains (candidates far)) loose → TouchesOnly (IsIn far.spans loose) (λ p. ⊥) es
     → TouchesSpans far es
 claims_touch far loose es among t = touches_more (IsIn far.spans loose) (IsIn far.spans (candidates far))
     (λ p. ⊥) (LiesInOne (candidates far)) es
@@ -352,7 +352,7 @@ one_touch : (far : FarState) (loose : List ℕ) (runs : List Event → Type 0) (
     (k : ℕ) (frames : List ℕ) (formers : List Former) (es : List Event)
     → All (Contains (candidates far)) loose
     → (x : ClaimsSpans runs shows far.spans loose k frames formers)
-    → Touches (IsOne formers) (λ p. ⊥) es → TouchesSpans far es
+    → TouchesOnly (IsOne formers) (λ p. ⊥) es → TouchesSpans far es
 one_touch far loose runs shows k frames formers es among x t =
     touches_more (IsOne formers) (IsIn far.spans (candidates far)) (λ p. ⊥) (LiesInOne (candidates far)) es
     (λ h (f, c, same). subst (IsIn far.spans (candidates far)) same (wide f.handle
@@ -384,7 +384,7 @@ wide_touch : (far : FarState) (loose : List ℕ) (runs : List Event → Type 0) 
     (k : ℕ) (frames : List ℕ) (formers : List Former) (es : List Event)
     → All (Contains (candidates far)) loose
     → (x : ClaimsSpans runs shows far.spans loose k frames formers)
-    → Touches (IsIn far.spans frames) (LiesInOne frames) es → TouchesSpans far es
+    → TouchesOnly (IsIn far.spans frames) (LiesInOne frames) es → TouchesSpans far es
 wide_touch far loose runs shows k frames formers es among x t =
     touches_more (IsIn far.spans frames) (IsIn far.spans (candidates far)) (LiesInOne frames)
     (LiesInOne (candidates far)) es

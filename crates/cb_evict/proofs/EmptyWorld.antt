@@ -1,13 +1,12 @@
 -- An eviction can be tried in the empty world.
-use Rattle.std.proofs.Common.{◌≡◌, ◌*◌, sym, ◌∙◌, subst, arith}
+use Rattle.std.proofs.Common.{◌≡◌, ◌*◌, sym, subst, arith}
 use Rattle.std.proofs.lemmas.List.{length-replicate}
 use Rattle.cb_types.specs.Config.{IsAccepted}
 use Rattle.cb_types.specs.declared.config.Config.{Config}
 use Rattle.cb_types.specs.declared.config.Field.TheVariants.{Nodes}
 use Rattle.cb_world.specs.declared.shown.Shown.{Shown}
 use Rattle.cb_world.specs.Empty.{empty_shown}
-use Rattle.cb_world.specs.Plain.{Words, IsSized, Shows}
-use Rattle.cb_world.specs.FarState.{FarState}
+use Rattle.cb_world.specs.Plain.{IsSized, Shows}
 use Rattle.cb_world.specs.Sound.{Sound}
 use Rattle.cb_world.specs.World.{WorldState, empty_world}
 use Rattle.cb_world.proofs.Empty.{empty_shows, empty_sound}

@@ -28,7 +28,7 @@ use Rattle.cb_evict.specs.Candidates.{candidates}
 use Rattle.cb_evict.specs.Claims.{AreClaimed}
 use Rattle.cb_evict.specs.Claiming.{IsOne}
 use Rattle.cb_evict.specs.Closing.{HaveHomes, with_homes}
-use Rattle.cb_evict.specs.Events.{Touches, IsSteady}
+use Rattle.cb_evict.specs.Events.{TouchesOnly, IsSteady}
 use Rattle.cb_evict.specs.EvictEffect.{IsEvicted}
 use Rattle.cb_evict.specs.EvictRule.{HasEvicted}
 use Rattle.cb_evict.specs.Evicting.{AreTaken, IsReady, TouchesSpans}
@@ -122,7 +122,7 @@ pub record Ended (c : Config) (far new : FarState) (frames : List ℕ) (before e
 -- the events read words and put objects away
 pub record IsEnd (q : ℕ → Type 0) (formers : List Former) (ls ss : List Event) : Type 0 where
   pub reads : AreReads q ls
-  pub touches : Touches (IsOne formers) (λ p. ⊥) ss
+  pub touches : TouchesOnly (IsOne formers) (λ p. ⊥) ss
   pub quiet : (k : ℕ) → NoLook k ss
 
 pub end_quiet : (q : ℕ → Type 0) (formers : List Former) (ls ss : List Event) → IsEnd q formers ls ss
@@ -130,7 +130,7 @@ pub end_quiet : (q : ℕ → Type 0) (formers : List Former) (ls ss : List Event
 end_quiet q formers ls ss e k = no_look_append k ls ss (e.reads.quiet k) (e.quiet k)
 
 pub end_touches : (q : ℕ → Type 0) (formers : List Former) (ls ss : List Event)
-    → IsEnd q formers ls ss → Touches (IsOne formers) q (ls ++ ss)
+    → IsEnd q formers ls ss → TouchesOnly (IsOne formers) q (ls ++ ss)
 end_touches q formers ls ss e = touches_append (IsOne formers) q ls ss
     (touches_more (λ h. ⊥) (IsOne formers) q q ls (λ h x. absurd x) (λ p x. x) e.reads.touches)
     (touches_more (IsOne formers) (IsOne formers) (λ p. ⊥) q ss (λ h x. x) (λ p x. absurd x) e.touches)
@@ -145,7 +145,7 @@ pub ended : (c : Config) (far new : FarState) (frames : List ℕ) (formers : Lis
     (q o p : ℕ → Type 0) (before ls ss : List Event) (s : Shown)
     → Done c far frames formers shards rows homes before s (played before s) (played ss (played before s))
     → IsEnd q formers ls ss → new ≡ after_far far frames shards rows homes → IsSteady before s
-    → Touches o p (before ++ (ls ++ ss)) → Writes ss (played before s) []
+    → TouchesOnly o p (before ++ (ls ++ ss)) → Writes ss (played before s) []
     → Ended c far new frames before (ls ++ ss) s
 ended c far new frames formers shards rows homes q o p before ls ss s d e is steady touches nothing =
     let t = played before s in let u = played ss t in
@@ -193,7 +193,7 @@ homes_then far mid frames shards rows id homes a e x =
 -- the events touch objects and words of the frames alone
 pub taken_in : (c : Config) (far : FarState) (frames : List ℕ) (formers : List Former)
     (ls ss : List Event) → AreTaken c far frames formers → IsEnd (LiesInOne frames) formers ls ss
-    → Touches (IsIn far.spans frames) (LiesInOne frames) (ls ++ ss)
+    → TouchesOnly (IsIn far.spans frames) (LiesInOne frames) (ls ++ ss)
 taken_in c far frames formers ls ss a e =
     touches_more (IsOne formers) (IsIn far.spans frames) (LiesInOne frames) (LiesInOne frames) (ls ++ ss)
     (λ h (f, x, same). subst (IsIn far.spans frames) same
@@ -203,7 +203,7 @@ taken_in c far frames formers ls ss a e =
 -- the frames are candidates
 pub in_candidates : (c : Config) (far : FarState) (frames : List ℕ) (formers : List Former)
     → AreTaken c far frames formers → (es : List Event)
-    → Touches (IsIn far.spans frames) (LiesInOne frames) es → TouchesSpans far es
+    → TouchesOnly (IsIn far.spans frames) (LiesInOne frames) es → TouchesSpans far es
 in_candidates c far frames formers a es t =
     touches_more (IsIn far.spans frames) (IsIn far.spans (candidates far)) (LiesInOne frames)
     (LiesInOne (candidates far)) es

@@ -12,12 +12,12 @@ use Rattle.cb_world.specs.Allowed.{Allowed}
 use Rattle.cb_world.specs.Written.{written_by}
 use Rattle.cb_world.proofs.Tracing.{played_append, told_append, written_append}
 use Rattle.cb_world.proofs.Untouched.{allowed_append}
-use Rattle.cb_evict.specs.Events.{Touches, OnlyLooks, IsSteady}
+use Rattle.cb_evict.specs.Events.{TouchesOnly, OnlyLooks, IsSteady}
 use Rattle.cb_evict.specs.Loading.{OnlyLoads}
 
 -- ---- what events are about
-pub touches_append : (o : ℕ → Type 0) (q : ℕ → Type 0) (es fs : List Event) → Touches o q es
-    → Touches o q fs → Touches o q (es ++ fs)
+pub touches_append : (o : ℕ → Type 0) (q : ℕ → Type 0) (es fs : List Event) → TouchesOnly o q es
+    → TouchesOnly o q fs → TouchesOnly o q (es ++ fs)
 touches_append o q [] fs a b = b
 touches_append o q (Looked h w ∷ es) fs a b = (a.0, touches_append o q es fs a.1 b)
 touches_append o q (Claimed h w v ws ∷ es) fs a b = (a.0, touches_append o q es fs a.1 b)
@@ -28,7 +28,7 @@ touches_append o q (Stored p x ∷ es) fs a b = absurd a
 touches_append o q (Stamped h v ∷ es) fs a b = absurd a
 
 pub touches_more : (o p q r : ℕ → Type 0) (es : List Event) → ((h : ℕ) → o h → p h)
-    → ((i : ℕ) → q i → r i) → Touches o q es → Touches p r es
+    → ((i : ℕ) → q i → r i) → TouchesOnly o q es → TouchesOnly p r es
 touches_more o p q r [] f g a = tt
 touches_more o p q r (Looked h w ∷ es) f g a = (f h a.0, touches_more o p q r es f g a.1)
 touches_more o p q r (Claimed h w v ws ∷ es) f g a = (f h a.0, touches_more o p q r es f g a.1)
@@ -39,7 +39,7 @@ touches_more o p q r (Stored i x ∷ es) f g a = absurd a
 touches_more o p q r (Stamped h v ∷ es) f g a = absurd a
 
 -- an object that they are not about is not looked at
-pub touches_quiet : (o q : ℕ → Type 0) (k : ℕ) (es : List Event) → (o k → ⊥) → Touches o q es
+pub touches_quiet : (o q : ℕ → Type 0) (k : ℕ) (es : List Event) → (o k → ⊥) → TouchesOnly o q es
     → NoLook k es
 touches_quiet o q k [] none a = tt
 touches_quiet o q k (Looked h w ∷ es) none a =
@@ -62,7 +62,7 @@ found_after h w (e ∷ es) fs a = inl (found_after h w es fs a)
 
 -- objects are looked at before they are changed, where those of the first events are not looked at
 -- by the later ones
-pub first_append : (o q : ℕ → Type 0) (es fs : List Event) → Touches o q es → LooksFirst es
+pub first_append : (o q : ℕ → Type 0) (es fs : List Event) → TouchesOnly o q es → LooksFirst es
     → LooksFirst fs → ((h : ℕ) → o h → NoLook h fs) → LooksFirst (es ++ fs)
 first_append o q [] fs a first rest quiet = rest
 first_append o q (Looked h w ∷ es) fs a first rest quiet =
@@ -166,7 +166,7 @@ told_objects (Stored p x ∷ es) s = told_objects es s
 told_objects (Stamped h v ∷ es) s = told_objects es s
 
 -- where nothing is stored, the words are as they were told
-pub told_words : (o q : ℕ → Type 0) (es : List Event) (s u : Shown) → Touches o q es
+pub told_words : (o q : ℕ → Type 0) (es : List Event) (s u : Shown) → TouchesOnly o q es
     → s.versions ≡ u.versions → s.memory ≡ u.memory
     → ((played es s).versions ≡ (told_by es u).versions) × ((played es s).memory ≡ (told_by es u).memory)
 told_words o q [] s u a b c = (b, c)
@@ -226,7 +226,7 @@ loads_more q r (Stamped h v ∷ es) f a = absurd a
 pub record AreReads (q : ℕ → Type 0) (es : List Event) : Type 0 where
   pub stays : (s : Shown) → played es s ≡ s
   pub steady : (s : Shown) → IsSteady es s
-  pub touches : Touches (λ h. ⊥) q es
+  pub touches : TouchesOnly (λ h. ⊥) q es
   pub quiet : (k : ℕ) → NoLook k es
   pub first : LooksFirst es
 

@@ -18,7 +18,7 @@ use Rattle.cb_span.specs.Places.{slot_place}
 use Rattle.cb_types.specs.declared.config.Config.{Config}
 use Rattle.cb_world.specs.declared.event.Event.{Event}
 use Rattle.cb_world.specs.declared.event.Event.TheVariants.{Looked, Claimed, Told, Loaded, Stored, Stamped, Settled}
-use Rattle.cb_evict.specs.Events.{Touches}
+use Rattle.cb_evict.specs.Events.{TouchesOnly}
 use Rattle.cb_world.specs.declared.homes.Home.{Home}
 use Rattle.cb_world.specs.declared.leaving.Former.{Former}
 use Rattle.cb_world.specs.declared.object.Object.{Object}
@@ -59,7 +59,7 @@ use Rattle.cb_evict.specs.Storing.{AreShards, set_for, with_set, slots_of as tab
 use Rattle.cb_evict.proofs.Claims.{among, no_former}
 use Rattle.cb_evict.specs.EvictEffect.{HasLeft, IsEvicted}
 use Rattle.cb_evict.specs.EvictRule.{HasEvicted}
-use Rattle.cb_evict.proofs.Gone.{AreSentOff, sound_gone, closed_in, in_or_out}
+use Rattle.cb_evict.proofs.Gone.{LeftMemory, sound_gone, closed_in, in_or_out}
 use Rattle.cb_evict.proofs.Homing.{closed_else}
 use Rattle.cb_evict.proofs.NewSet.{shards_within, shards_apart, keys_apart, shards_distinct, shards_up, shards_current, set_count, position_at, slot_is, slot_named, set_lives, set_live, set_added_in, set_others}
 use Rattle.cb_evict.proofs.Owned.{row_slot, frame_stays}
@@ -500,7 +500,7 @@ module _ (c : Config) (far : FarState) (frames : List ℕ) (formers : List Forme
       subst (λ (x : Object). IsStamped x (version_at u h))
       (sym (ap (object_at u) (sym g.same) ∙ g.gone)) (version_same h ∙ stamp)
 
-  sent_off : AreSentOff s u far.spans frames
+  sent_off : LeftMemory s u far.spans frames
   sent_off = record {
     first = d.sent.first ∙ d.claimed.keeps.first;
     memory = ap (λ (l : List ℕ). length l) d.sent.memory ∙ d.claimed.keeps.memory;
@@ -732,7 +732,7 @@ told_all far es s t formers a here count k e l = let x = (a.taken k e l).at in r
 }
 
 -- what the events of a claimed batch tell no more
-quiet_told : (o q : ℕ → Type 0) (es : List Event) (s : Shown) → Touches o q es
+quiet_told : (o q : ℕ → Type 0) (es : List Event) (s : Shown) → TouchesOnly o q es
     → ((k : ℕ) → NoLook k es) → told_by es s ≡ s
 quiet_told o q [] s a quiet = refl
 quiet_told o q (Looked h w ∷ es) s a quiet = absurd ((quiet h).0 w (refl, refl))
@@ -743,7 +743,7 @@ quiet_told o q (Told h v ∷ es) s a quiet = absurd a
 quiet_told o q (Stored p x ∷ es) s a quiet = absurd a
 quiet_told o q (Stamped h v ∷ es) s a quiet = absurd a
 
-pub told_before : (o q : ℕ → Type 0) (before es : List Event) (s : Shown) → Touches o q es
+pub told_before : (o q : ℕ → Type 0) (before es : List Event) (s : Shown) → TouchesOnly o q es
     → ((k : ℕ) → NoLook k es) → told_by (before ++ es) s ≡ told_by before s
 told_before o q before es s a quiet =
     told_append before es s ∙ quiet_told o q es (told_by before s) a quiet

@@ -11,7 +11,7 @@ use Rattle.cb_world.specs.Looks.{LooksFirst}
 use Rattle.cb_world.specs.FarState.{FarState}
 use Rattle.cb_world.specs.LocalSound.{LocalSound}
 use Rattle.cb_world.proofs.Tracing.{played_append}
-use Rattle.cb_evict.specs.Events.{Touches}
+use Rattle.cb_evict.specs.Events.{TouchesOnly}
 use Rattle.cb_evict.specs.Claims.{AreClaimed, AreApart, IsNone}
 use Rattle.cb_evict.specs.Claiming.{IsOne, Claims, AreOf, GivesBack}
 use Rattle.cb_evict.proofs.Events.{touches_append, touches_more, touches_quiet, first_append, steady_append}
@@ -21,7 +21,7 @@ use Rattle.cb_evict.proofs.Claims.{claims_append, claims_back}
 pub record Gathers (runs : List Event → Type 0) (shows : Shown → Type 0) (touched has : ℕ → Type 0)
     (es : List Event) (more : List Former) : Type 0 where
   pub ran : runs es
-  pub touches : Touches touched (λ p. ⊥) es
+  pub touches : TouchesOnly touched (λ p. ⊥) es
   pub first : LooksFirst es
   pub of : AreOf has more
   pub within : (h : ℕ) → has h → touched h

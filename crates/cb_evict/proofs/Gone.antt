@@ -98,7 +98,7 @@ pub record IsSentAway (t : Shown) (spans : List (Option Contents)) (frames : Lis
   pub gone : (len place : ℕ) → LiesAt (object_at t h) len place → ⊥
   pub made : object_at t h ≡ never → ⊥
 
-pub record AreSentOff (s t : Shown) (spans : List (Option Contents)) (frames : List ℕ) : Type 0 where
+pub record LeftMemory (s t : Shown) (spans : List (Option Contents)) (frames : List ℕ) : Type 0 where
   pub first : t.first ≡ s.first
   pub memory : length t.memory ≡ length s.memory
   pub objects : length t.objects ≡ length s.objects
@@ -131,7 +131,7 @@ span_named spans f slot h named = go (span_in spans f) refl
 
 pub sound_gone : (far : FarState) (s t : Shown) (frames : List ℕ) (homes : List (Option Home))
     → LocalSound s far → ((f : ℕ) → Contains frames f → f < length far.spans)
-    → AreSentOff s t far.spans frames → LocalSound t (with_homes far frames homes)
+    → LeftMemory s t far.spans frames → LocalSound t (with_homes far frames homes)
 sound_gone far s t frames homes sound within x = record {
   known = record {
     first = x.first ∙ sound.known.first;

@@ -19,6 +19,11 @@ mod Evicts
 mod Ending
 mod Restored
 mod Composed
+mod LooseSpans
+pub mod EvictStep
+pub mod AfterEvict
 mod WorkedLoose
 mod WorkedEvict
+mod WorkedEvictStep
+mod WorkedSetMade
 mod EmptyWorld

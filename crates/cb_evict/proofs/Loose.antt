@@ -13,7 +13,7 @@ use Rattle.cb_world.specs.Grasped.{IsFree}
 use Rattle.cb_world.specs.FarState.{span_in, handle_in}
 use Rattle.cb_world.proofs.Tracing.{found_more}
 use Rattle.cb_evict.specs.Candidates.{Names, IsLoose, IsHeldUp, AreLoose, AreUnique}
-use Rattle.cb_evict.specs.Events.{Touches}
+use Rattle.cb_evict.specs.Events.{TouchesOnly}
 use Rattle.cb_evict.specs.Looking.{Has, IsIn}
 use Rattle.cb_evict.proofs.Homing.{none_before, span_slots}
 use Rattle.cb_evict.proofs.Events.{touches_quiet, found_after}
@@ -127,20 +127,20 @@ apart_tail f frames apart i j d less within =
 
 -- the spans in other frames are not looked at
 pub others_quiet : (spans : List (Option Contents)) (n x : ℕ) (fs : List Event) → AreUnique spans n
-    → Touches (Names spans x) (λ p. ⊥) fs → (f : ℕ) → f ≢ x → (h : ℕ) → Names spans f h → NoLook h fs
+    → TouchesOnly (Names spans x) (λ p. ⊥) fs → (f : ℕ) → f ≢ x → (h : ℕ) → Names spans f h → NoLook h fs
 others_quiet spans n x fs unique touches f off h named =
     touches_quiet (Names spans x) (λ p. ⊥) h fs (λ other. off (unique.one_frame f x h named other)) touches
 
 -- the frames behind x are others
 tail_quiet : (spans : List (Option Contents)) (n x : ℕ) (fs : List Event) (frames : List ℕ)
-    → AreUnique spans n → Touches (Names spans x) (λ p. ⊥) fs → (Contains frames x → ⊥)
+    → AreUnique spans n → TouchesOnly (Names spans x) (λ p. ⊥) fs → (Contains frames x → ⊥)
     → (f : ℕ) → Contains frames f → (h : ℕ) → Names spans f h → NoLook h fs
 tail_quiet spans n x fs frames unique touches none f c =
     others_quiet spans n x fs unique touches f (λ e. none (subst (Contains frames) e c))
 
 -- it is loose still
 pub loose_kept : (es fs : List Event) (spans : List (Option Contents)) (n x : ℕ)
-    (frames loose : List ℕ) → AreUnique spans n → Touches (Names spans x) (λ p. ⊥) fs
+    (frames loose : List ℕ) → AreUnique spans n → TouchesOnly (Names spans x) (λ p. ⊥) fs
     → AllPairs (λ f g. f ≢ g) frames → IsLoose (es ++ fs) spans x → Contains loose x
     → AreLoose es spans frames loose → AreLoose (es ++ fs) spans frames loose
 loose_kept es fs spans n x [] [] unique touches apart now among a = tt
@@ -175,7 +175,7 @@ middle (c ∷ chosen) x rest = contains_tail c x (chosen ++ x ∷ rest) (middle 
 
 -- it is held up
 pub loose_lost : (es fs : List Event) (spans : List (Option Contents)) (n x : ℕ)
-    (frames chosen rest : List ℕ) → AreUnique spans n → Touches (Names spans x) (λ p. ⊥) fs
+    (frames chosen rest : List ℕ) → AreUnique spans n → TouchesOnly (Names spans x) (λ p. ⊥) fs
     → AllPairs (λ f g. f ≢ g) frames → IsHeldUp (es ++ fs) spans x
     → AreLoose es spans frames (chosen ++ x ∷ rest)
     → AreLoose (es ++ fs) spans frames (chosen ++ rest)
@@ -235,7 +235,7 @@ not_before frames i apart within (k, l, e) =
 pub frame_looked : (spans : List (Option Contents)) (n : ℕ) (frames : List ℕ) (i : ℕ)
     (es fs : List Event) (old new : List ℕ) → AreUnique spans n → AllPairs (λ f g. f ≢ g) frames
     → i < length frames → AreLoose es spans (take i frames) old
-    → Touches (Names spans (get_or frames i 0)) (λ p. ⊥) fs
+    → TouchesOnly (Names spans (get_or frames i 0)) (λ p. ⊥) fs
     → (IsLoose fs spans (get_or frames i 0) × (new ≡ old ++ get_or frames i 0 ∷ []))
     ⊎ (IsHeldUp fs spans (get_or frames i 0) × (new ≡ old))
     → AreLoose (es ++ fs) spans (take i frames ++ get_or frames i 0 ∷ []) new

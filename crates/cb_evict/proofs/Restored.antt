@@ -12,7 +12,7 @@ use Rattle.cb_world.specs.LocalSound.{LocalSound}
 use Rattle.cb_world.specs.Sound.{Sound}
 use Rattle.cb_world.proofs.Unmoved.{keeps_all, sound_near}
 use Rattle.cb_evict.specs.Claims.{AreClaimed, AreBack}
-use Rattle.cb_evict.specs.Events.{Touches, OnlyLooks, IsSteady}
+use Rattle.cb_evict.specs.Events.{TouchesOnly, OnlyLooks, IsSteady}
 use Rattle.cb_world.specs.Still.{IsStill}
 use Rattle.cb_evict.proofs.Claims.{claims_back, sound_hots}
 use Rattle.cb_evict.proofs.Ending.{IsEnd, end_played}
@@ -22,7 +22,7 @@ use Rattle.cb_evict.proofs.Owned.{frame_stays}
 -- nothing changed
 pub restored : (far : FarState) (es : List Event) (s : Shown) (o p : ℕ → Type 0) → Sound s far
     → AreClaimed es s (played es s) [] → LocalSound (played es s) far → IsSteady es s
-    → Touches o p es → IsStill es s (played es s) × Sound (played es s) far
+    → TouchesOnly o p es → IsStill es s (played es s) × Sound (played es s) far
 restored far es s o p sound claimed here steady touches =
     let t = played es s in
     let same : (h : ℕ) → object_at t h ≡ object_at s h =
@@ -69,7 +69,7 @@ pub batch_back : (far : FarState) (formers : List Former) (q o p : ℕ → Type 
     → AreClaimed before s (played before s) formers → IsSteady before s → IsEnd q formers ls bs
     → AreBack (played before s) (played bs (played before s)) formers
     → LocalSound (played bs (played before s)) far → IsSteady bs (played before s)
-    → Touches o p (before ++ (ls ++ bs))
+    → TouchesOnly o p (before ++ (ls ++ bs))
     → IsStill (before ++ (ls ++ bs)) s (played (before ++ (ls ++ bs)) s)
     × Sound (played (before ++ (ls ++ bs)) s) far
 batch_back far formers q o p before ls bs s sound claimed steady e back here after touches =

@@ -15,7 +15,7 @@ use Rattle.cb_world.proofs.Tracing.{found_more}
 use Rattle.cb_evict.specs.Looking.{IsSlotLoose}
 use Rattle.cb_evict.proofs.Events.{touches_quiet, found_after}
 use Rattle.cb_world.specs.FarState.{FarState}
-use Rattle.cb_evict.specs.Events.{Touches}
+use Rattle.cb_evict.specs.Events.{TouchesOnly}
 use Rattle.cb_evict.specs.Claims.{AreApart}
 use Rattle.cb_evict.specs.Looking.{Has}
 use Rattle.cb_evict.specs.Claiming.{AreOf, Claims, ClaimsSlot, SlotNotes}
@@ -24,7 +24,7 @@ use Rattle.cb_world.specs.Played.{played}
 use Rattle.cb_evict.proofs.Gathers.{Gathers, gathers_more}
 
 pub claim_touches : (before : List Event) (h w v : ℕ) (words : List ℕ) → AreLooks h before
-    → Touches (λ k. Some h ≡ Some k) (λ p. ⊥) (claim_of before h w v words)
+    → TouchesOnly (λ k. Some h ≡ Some k) (λ p. ⊥) (claim_of before h w v words)
 claim_touches [] h w v words a = (refl, tt)
 claim_touches (Looked k x ∷ es) h w v words a =
     (ap (λ (n : ℕ). Some n) (sym a.0), claim_touches es h w v words a.1)
@@ -47,7 +47,7 @@ claim_looks_first (Stored p x ∷ es) h w v words a = absurd a
 claim_looks_first (Stamped k u ∷ es) h w v words a = absurd a
 
 pub look_touches : (before : List Event) (h w : ℕ) → AreLooks h before
-    → Touches (λ k. Some h ≡ Some k) (λ p. ⊥) (before ++ Looked h w ∷ [])
+    → TouchesOnly (λ k. Some h ≡ Some k) (λ p. ⊥) (before ++ Looked h w ∷ [])
 look_touches [] h w a = (refl, tt)
 look_touches (Looked k x ∷ es) h w a = (ap (λ (n : ℕ). Some n) (sym a.0), look_touches es h w a.1)
 look_touches (Claimed k x u xs ∷ es) h w a = absurd a
@@ -213,7 +213,7 @@ pub slot_looks : (span : Contents) (i : ℕ) (slot : Option ℕ) (es fs : List E
     → slot ≡ handle_at span i
     → ((i j h : ℕ) → handle_at span i ≡ Some h → handle_at span j ≡ Some h → i ≡ j)
     → ((h : ℕ) → HasBelow span i h → (w : ℕ) × IsFound h w es × IsFree w)
-    → Touches (λ h. slot ≡ Some h) (λ p. ⊥) fs → IsSlotLoose fs slot
+    → TouchesOnly (λ h. slot ≡ Some h) (λ p. ⊥) fs → IsSlotLoose fs slot
     → (h : ℕ) → HasBelow span (i + 1) h → (w : ℕ) × IsFound h w (es ++ fs) × IsFree w
 slot_looks span i slot es fs e apart a touches b h below = elim (below_split span i slot e h below) [
   | inl old ↦ let x = a h old in (

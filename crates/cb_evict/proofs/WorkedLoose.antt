@@ -10,7 +10,7 @@ use Rattle.cb_world.specs.declared.event.Event.TheVariants.{Looked, Loaded, Stor
 use Rattle.cb_world.specs.Looks.{IsFound}
 use Rattle.cb_world.specs.Grasped.{IsFree}
 use Rattle.cb_evict.specs.Candidates.{candidates_of, Names, IsLoose, IsHeldUp, AreLoose, AreUnique}
-use Rattle.cb_evict.specs.Events.{Touches, OnlyLooks}
+use Rattle.cb_evict.specs.Events.{TouchesOnly, OnlyLooks}
 
 -- slots of 1,024 bytes, of which the second has an object
 abbrev span_with : Temp → ℕ → Option Contents
@@ -123,16 +123,16 @@ not_unmade : AreUnique (span_with Hot 1 ∷ []) 1 → ⊥
 not_unmade a = let l = a.below 0 1 (1, refl) in absurd (omega (arith, l))
 
 -- ---- what events are about
-touches : Touches (λ h. h ≡ 1) (λ p. p < 512) (Looked 1 2 ∷ Loaded 511 7 ∷ Settled 1 2 ∷ [])
+touches : TouchesOnly (λ h. h ≡ 1) (λ p. p < 512) (Looked 1 2 ∷ Loaded 511 7 ∷ Settled 1 2 ∷ [])
 touches = (refl, (lit< tt, (refl, tt)))
 
-not_another : Touches (λ h. h ≡ 1) (λ p. p < 512) (Looked 0 2 ∷ []) → ⊥
+not_another : TouchesOnly (λ h. h ≡ 1) (λ p. p < 512) (Looked 0 2 ∷ []) → ⊥
 not_another a = let e = a.0 in absurd (omega (arith, e))
 
-not_elsewhere : Touches (λ h. h ≡ 1) (λ p. p < 512) (Loaded 512 7 ∷ []) → ⊥
+not_elsewhere : TouchesOnly (λ h. h ≡ 1) (λ p. p < 512) (Loaded 512 7 ∷ []) → ⊥
 not_elsewhere a = let l = a.0 in absurd (omega (arith, l))
 
-not_stored : Touches (λ h. h ≡ 1) (λ p. p < 512) (Stored 0 7 ∷ []) → ⊥
+not_stored : TouchesOnly (λ h. h ≡ 1) (λ p. p < 512) (Stored 0 7 ∷ []) → ⊥
 not_stored a = a
 
 only_looks : OnlyLooks looks

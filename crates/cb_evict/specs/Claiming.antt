@@ -11,7 +11,7 @@ use Rattle.cb_world.specs.FarState.{FarState}
 use Rattle.cb_world.specs.LocalSound.{LocalSound}
 use Rattle.cb_evict.specs.Candidates.{Names, IsLoose, IsHeldUp, AreLoose}
 use Rattle.cb_evict.specs.Looking.{Has, IsIn, IsSlotHeldUp, SpanFinds}
-use Rattle.cb_evict.specs.Events.{Touches, IsSteady}
+use Rattle.cb_evict.specs.Events.{TouchesOnly, IsSteady}
 use Rattle.cb_evict.specs.Claims.{AreClaimed, AreBack, AreApart, IsHeldAt}
 
 -- one of these objects
@@ -29,7 +29,7 @@ pub record GivesBack (runs : List Event → Type 0) (shows : Shown → Type 0) (
     : Type 0 where
   pub events : List Event
   pub ran : runs events
-  pub touches : Touches (IsOne formers) (λ p. ⊥) events
+  pub touches : TouchesOnly (IsOne formers) (λ p. ⊥) events
   pub quiet : (k : ℕ) → NoLook k events
   pub first : LooksFirst events
   pub back : (s : Shown) (far : FarState) → shows s → LocalSound s far → All (IsHeldAt s) formers
@@ -48,7 +48,7 @@ pub record ClaimsSlot (runs : List Event → Type 0) (shows : Shown → Type 0) 
     (claimed : Bool) (old new : List Former) : Type 0 where
   pub events : List Event
   pub ran : runs events
-  pub touches : Touches (λ h. slot ≡ Some h) (λ p. ⊥) events
+  pub touches : TouchesOnly (λ h. slot ≡ Some h) (λ p. ⊥) events
   pub first : LooksFirst events
   pub more : List Former
   pub noted : new ≡ old ++ more
@@ -69,7 +69,7 @@ pub record ClaimsSpan (runs : List Event → Type 0) (shows : Shown → Type 0) 
     (claimed : Bool) (old new : List Former) : Type 0 where
   pub events : List Event
   pub ran : runs events
-  pub touches : Touches (Has span) (λ p. ⊥) events
+  pub touches : TouchesOnly (Has span) (λ p. ⊥) events
   pub first : LooksFirst events
   pub more : List Former
   pub noted : new ≡ old ++ more
@@ -83,7 +83,7 @@ pub record ClaimsFrame (runs : List Event → Type 0) (shows : Shown → Type 0)
     : Type 0 where
   pub events : List Event
   pub ran : runs events
-  pub touches : Touches (Names spans f) (λ p. ⊥) events
+  pub touches : TouchesOnly (Names spans f) (λ p. ⊥) events
   pub first : LooksFirst events
   pub more : List Former
   pub noted : after ≡ before ++ more
@@ -99,7 +99,7 @@ pub record ClaimsSpans (runs : List Event → Type 0) (shows : Shown → Type 0)
     (formers : List Former) : Type 0 where
   pub events : List Event
   pub ran : runs events
-  pub touches : Touches (IsIn spans loose) (λ p. ⊥) events
+  pub touches : TouchesOnly (IsIn spans loose) (λ p. ⊥) events
   pub first : LooksFirst events
   pub rest : List ℕ
   pub few : length frames ≤ k

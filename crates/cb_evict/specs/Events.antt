@@ -10,13 +10,13 @@ use Rattle.cb_world.specs.Written.{Writes}
 
 -- each event looks at, claims or settles one of these objects, or reads the word at one of these
 -- places; nothing is stored
-abbrev pub Touches : (ℕ → Type 0) → (ℕ → Type 0) → List Event → Type 0
-Touches objects places [] = Unit {0}
-Touches objects places (Looked h w ∷ es) = objects h × Touches objects places es
-Touches objects places (Claimed h w v words ∷ es) = objects h × Touches objects places es
-Touches objects places (Settled h w ∷ es) = objects h × Touches objects places es
-Touches objects places (Loaded p x ∷ es) = places p × Touches objects places es
-Touches objects places (e ∷ es) = ⊥
+abbrev pub TouchesOnly : (ℕ → Type 0) → (ℕ → Type 0) → List Event → Type 0
+TouchesOnly objects places [] = Unit {0}
+TouchesOnly objects places (Looked h w ∷ es) = objects h × TouchesOnly objects places es
+TouchesOnly objects places (Claimed h w v words ∷ es) = objects h × TouchesOnly objects places es
+TouchesOnly objects places (Settled h w ∷ es) = objects h × TouchesOnly objects places es
+TouchesOnly objects places (Loaded p x ∷ es) = places p × TouchesOnly objects places es
+TouchesOnly objects places (e ∷ es) = ⊥
 
 -- each event is a look
 abbrev pub OnlyLooks : List Event → Type 0

@@ -16,7 +16,7 @@ use Rattle.cb_world.specs.Memory.{window, words_for}
 use Rattle.cb_world.specs.RowWords.{words_in}
 use Rattle.cb_world.specs.SetWord.{IsSpanWord}
 use Rattle.cb_evict.specs.Candidates.{candidates, AreLoose}
-use Rattle.cb_evict.specs.Events.{Touches}
+use Rattle.cb_evict.specs.Events.{TouchesOnly}
 use Rattle.cb_evict.specs.Looking.{IsIn}
 use Rattle.cb_evict.specs.Loading.{LiesInOne}
 use Rattle.cb_evict.specs.Storing.{AreShards, with_set}
@@ -78,4 +78,4 @@ pub record EvictRule (c : Config) (far new : FarState) (r : Reply) (es : List Ev
   pub found : AreLoose es far.spans (candidates far) loose
   pub answered : HasFewSpans c far new r loose ⊎ (HasFewNodes c far new r loose
       ⊎ HasBoth c far new r loose es)
-  pub touches : Touches (IsIn far.spans (candidates far)) (LiesInOne (candidates far)) es
+  pub touches : TouchesOnly (IsIn far.spans (candidates far)) (LiesInOne (candidates far)) es

@@ -1,5 +1,5 @@
 -- The parts of an eviction.
-use Rattle.std.specs.Prelude.{◌≡◌, ◌≢◌, ℕ, ◌^◌, ◌<◌, ◌++◌, All, List, length}
+use Rattle.std.specs.Prelude.{◌≡◌, ◌≢◌, ℕ, ◌++◌, All, List, length}
 use Rattle.std.specs.List.{Contains, AllPairs}
 use Rattle.cb_types.specs.declared.config.Config.{Config}
 use Rattle.cb_types.specs.declared.reply.Reply.{Reply}
@@ -14,7 +14,7 @@ use Rattle.cb_world.specs.Sound.{Sound}
 use Rattle.cb_world.specs.Still.{IsStill}
 use Rattle.cb_world.specs.FarState.{FarState}
 use Rattle.cb_evict.specs.Candidates.{candidates, AreLoose}
-use Rattle.cb_evict.specs.Events.{Touches, IsSteady}
+use Rattle.cb_evict.specs.Events.{TouchesOnly, IsSteady}
 use Rattle.cb_evict.specs.Claims.{AreApart, AreClaimed}
 use Rattle.cb_evict.specs.Claiming.{AreOf}
 use Rattle.cb_evict.specs.Looking.{IsIn}
@@ -24,7 +24,7 @@ use Rattle.cb_evict.specs.EvictEffect.{IsEvicted}
 
 -- only objects and words of spans that may leave are touched
 abbrev pub TouchesSpans : FarState → List Event → Type 0
-TouchesSpans far es = Touches (IsIn far.spans (candidates far)) (LiesInOne (candidates far)) es
+TouchesSpans far es = TouchesOnly (IsIn far.spans (candidates far)) (LiesInOne (candidates far)) es
 
 -- the rule of the part behind the looks that found these spans loose
 abbrev pub RuleAfter : Config → FarState → FarState → Reply → List ℕ → List Event → Type 0
@@ -57,7 +57,7 @@ pub record EvictsClaimed (runs : List Event → Type 0) (shows : Shown → Type 
     (far new : FarState) (frames : List ℕ) (formers : List Former) : Type 0 where
   pub events : List Event
   pub ran : runs events
-  pub touches : Touches (IsIn far.spans frames) (LiesInOne frames) events
+  pub touches : TouchesOnly (IsIn far.spans frames) (LiesInOne frames) events
   pub quiet : (k : ℕ) → NoLook k events
   pub first : LooksFirst events
   pub allowed : (before : List Event) (s : Shown) → IsReady shows far formers before s
@@ -74,7 +74,7 @@ pub record LeavesClaimed (runs : List Event → Type 0) (shows : Shown → Type 
     (frames : List ℕ) (formers : List Former) : Type 0 where
   pub events : List Event
   pub ran : runs events
-  pub touches : Touches (IsIn far.spans frames) (LiesInOne frames) events
+  pub touches : TouchesOnly (IsIn far.spans frames) (LiesInOne frames) events
   pub quiet : (k : ℕ) → NoLook k events
   pub first : LooksFirst events
   pub allowed : (before : List Event) (s : Shown) → IsReady shows far formers before s

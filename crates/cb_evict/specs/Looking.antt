@@ -6,7 +6,7 @@ use Rattle.cb_world.specs.declared.event.Event.{Event}
 use Rattle.cb_world.specs.Looks.{IsFound}
 use Rattle.cb_world.specs.Grasped.{IsFree}
 use Rattle.cb_evict.specs.Candidates.{Names, IsLoose, IsHeldUp, AreLoose}
-use Rattle.cb_evict.specs.Events.{Touches, OnlyLooks}
+use Rattle.cb_evict.specs.Events.{TouchesOnly, OnlyLooks}
 
 -- the object in a slot was found at a word at which it can be claimed, or there is none
 abbrev pub IsSlotLoose : List Event → Option ℕ → Type 0
@@ -26,7 +26,7 @@ pub record LooksAtSlot (runs : List Event → Type 0) (slot : Option ℕ) (loose
   pub events : List Event
   pub ran : runs events
   pub looks : OnlyLooks events
-  pub touches : Touches (λ h. slot ≡ Some h) (λ p. ⊥) events
+  pub touches : TouchesOnly (λ h. slot ≡ Some h) (λ p. ⊥) events
   pub finds : SlotFinds loose events slot
 
 -- a slot of the span has the object
@@ -42,7 +42,7 @@ pub record LooksAtSpan (runs : List Event → Type 0) (span : Contents) (loose :
   pub events : List Event
   pub ran : runs events
   pub looks : OnlyLooks events
-  pub touches : Touches (Has span) (λ p. ⊥) events
+  pub touches : TouchesOnly (Has span) (λ p. ⊥) events
   pub finds : SpanFinds loose events span
 
 -- looks at objects of the span in a frame, which is added to the loose ones if it is one
@@ -51,7 +51,7 @@ pub record LooksAtFrame (runs : List Event → Type 0) (spans : List (Option Con
   pub events : List Event
   pub ran : runs events
   pub looks : OnlyLooks events
-  pub touches : Touches (Names spans f) (λ p. ⊥) events
+  pub touches : TouchesOnly (Names spans f) (λ p. ⊥) events
   pub finds : (IsLoose events spans f × (new ≡ old ++ f ∷ []))
       ⊎ (IsHeldUp events spans f × (new ≡ old))
 
@@ -65,5 +65,5 @@ pub record LooksOver (runs : List Event → Type 0) (spans : List (Option Conten
   pub events : List Event
   pub ran : runs events
   pub looks : OnlyLooks events
-  pub touches : Touches (IsIn spans frames) (λ p. ⊥) events
+  pub touches : TouchesOnly (IsIn spans frames) (λ p. ⊥) events
   pub finds : AreLoose events spans frames loose

@@ -10,7 +10,7 @@ use Rattle.cb_world.specs.Played.{played}
 use Rattle.cb_world.specs.Looks.{NoLook, LooksFirst}
 use Rattle.cb_world.specs.Allowed.{Allowed}
 use Rattle.cb_world.specs.Written.{Writes}
-use Rattle.cb_evict.specs.Events.{Touches}
+use Rattle.cb_evict.specs.Events.{TouchesOnly}
 use Rattle.cb_evict.specs.Claims.{IsNone}
 use Rattle.cb_evict.specs.Claiming.{IsOne}
 
@@ -49,7 +49,7 @@ pub record Sends (runs : List Event → Type 0) (shows : Shown → Type 0) (form
     : Type 0 where
   pub events : List Event
   pub ran : runs events
-  pub touches : Touches (IsOne formers) (λ p. ⊥) events
+  pub touches : TouchesOnly (IsOne formers) (λ p. ⊥) events
   pub quiet : (k : ℕ) → NoLook k events
   pub first : LooksFirst events
   pub allowed : (s : Shown) → shows s → All (IsTold s) formers → Allowed s events

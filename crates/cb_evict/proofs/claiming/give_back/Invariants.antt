@@ -5,7 +5,7 @@ use Rattle.cb_world.specs.Played.{played}
 use Rattle.cb_world.specs.Looks.{NoLook, LooksFirst}
 use Rattle.cb_world.specs.FarState.{FarState}
 use Rattle.cb_world.specs.LocalSound.{LocalSound}
-use Rattle.cb_evict.specs.Events.{Touches, IsSteady}
+use Rattle.cb_evict.specs.Events.{TouchesOnly, IsSteady}
 use Rattle.cb_evict.specs.Claims.{AreBack, IsHeldAt}
 use Rattle.cb_evict.specs.Claiming.{IsOne}
 use Rattle.cb_evict.proofs.claiming.give_back.Given as goal
@@ -13,7 +13,7 @@ use Rattle.cb_evict.proofs.claiming.give_back.Given as goal
 -- the earlier objects were given back
 abbrev pub invariant-loop-former : goal.invariant-loop-former
 invariant-loop-former g l = (es : List Event) × g.D.Desk.run l.fn.desk es l.desk
-    × Touches (IsOne l.formers) (λ p. ⊥) es × ((k : ℕ) → NoLook k es) × LooksFirst es
+    × TouchesOnly (IsOne l.formers) (λ p. ⊥) es × ((k : ℕ) → NoLook k es) × LooksFirst es
     × ((s : Shown) (far : FarState) → g.D.Desk.shows l.fn.desk s → LocalSound s far
     → All (IsHeldAt s) l.formers
     → AreBack s (played es s) (take l.former-index l.formers) × LocalSound (played es s) far

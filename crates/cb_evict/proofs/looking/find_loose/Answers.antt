@@ -2,7 +2,7 @@ use Rattle.std.proofs.Common.{ℕ, List, [], ◌∷◌, ◌++◌, take, get_or, 
 use Rattle.std.proofs.lemmas.List.{take_all, take_more}
 use Rattle.cb_types.specs.declared.config.Config.{Config}
 use Rattle.cb_evict.specs.Candidates.{Names, AreLoose, AreUnique}
-use Rattle.cb_evict.specs.Events.{Touches}
+use Rattle.cb_evict.specs.Events.{TouchesOnly}
 use Rattle.cb_evict.specs.Looking.{IsIn}
 use Rattle.cb_evict.proofs.Events.{touches_append, touches_more, looks_append}
 use Rattle.cb_evict.proofs.Loose.{frame_looked, in_more, in_last}
@@ -35,7 +35,7 @@ loop-frame-preserved g c =
       inv.0 ++ x.events,
       g.met.D.Desk.more _ _ _ _ _ inv.1 x.ran,
       looks_append inv.0 x.events inv.2 x.looks,
-      subst (λ (l : List ℕ). Touches (IsIn spans l) (λ p. ⊥) (inv.0 ++ x.events)) (sym more)
+      subst (λ (l : List ℕ). TouchesOnly (IsIn spans l) (λ p. ⊥) (inv.0 ++ x.events)) (sym more)
           (touches_append (IsIn spans (take i frames ++ f ∷ [])) (λ p. ⊥) inv.0 x.events
           (touches_more (IsIn spans (take i frames)) (IsIn spans (take i frames ++ f ∷ [])) (λ p. ⊥) (λ p. ⊥)
           inv.0 (in_more spans (take i frames) f) (λ p y. y) inv.3)
@@ -56,7 +56,7 @@ returns g c =
         events = inv.0;
         ran = inv.1;
         looks = inv.2;
-        touches = subst (λ (l : List ℕ). Touches (IsIn c.args.spans.now l) (λ p. ⊥) inv.0) all inv.3;
+        touches = subst (λ (l : List ℕ). TouchesOnly (IsIn c.args.spans.now l) (λ p. ⊥) inv.0) all inv.3;
         finds = subst (λ (l : List ℕ). AreLoose inv.0 c.args.spans.now l c.loop-frame.loose.items) all inv.4;
       };
     }

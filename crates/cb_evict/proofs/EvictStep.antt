@@ -1,0 +1,200 @@
+-- Over a still desk an eviction is a step: what its rule and its effect say is exact there.
+use Rattle.std.proofs.Common.{◌≡◌, ◌⊎◌, ℕ, ◌+◌, ◌*◌, ◌<◌, ◌≤◌, List, length, take, Option, Some, None, refl, sym, ap, ◌∙◌, subst, arith, inl, inr}
+use Rattle.std.proofs.lemmas.Bool.{cases_lt}
+use Rattle.std.proofs.lemmas.List.{get_or_past}
+use Rattle.cb_class.specs.Class.{words_of}
+use Rattle.cb_gf256.specs.Rows.{row_at}
+use Rattle.cb_ptr.specs.Word.{len_of, place_of}
+use Rattle.cb_ptr.proofs.Laws.{far_word_is, len_of-below}
+use Rattle.cb_span.specs.Contents.{Contents}
+use Rattle.cb_types.specs.declared.reply.Reply.{Reply}
+use Rattle.cb_world.specs.declared.object.Object.{Object}
+use Rattle.cb_world.specs.declared.object.Object.TheVariants as is
+use Rattle.cb_world.specs.declared.event.Event.{Event}
+use Rattle.cb_world.specs.declared.shown.Shown.{Shown}
+use Rattle.cb_world.specs.Shown.{Fits, hot_at}
+use Rattle.cb_world.specs.FarState.{FarState, span_in}
+use Rattle.cb_world.specs.Memory.{window, words_for}
+use Rattle.cb_world.specs.Now.{now}
+use Rattle.cb_world.specs.Plain.{Words, Shows}
+use Rattle.cb_world.specs.Played.{played}
+use Rattle.cb_world.specs.RowWords.{words_in}
+use Rattle.cb_world.specs.Still.{IsStill}
+use Rattle.cb_world.specs.StillDesk.{plain_follows, plain_stays}
+use Rattle.cb_world.specs.World.{word_at, IsKnown}
+use Rattle.cb_world.proofs.Exact.{found_exact, taken_exact}
+use Rattle.cb_world.proofs.NowSame.{now_same}
+use Rattle.cb_world.proofs.StillWords.{word_back}
+use Rattle.cb_world.proofs.StillPerforms.{PerformsStill, RunsStill, runs_still, known_then, stays_still}
+use Rattle.cb_evict.specs.Closing.{all_closed}
+use Rattle.cb_evict.specs.EvictEffect.{HasLeft, IsEvicted, EvictEffect}
+use Rattle.cb_evict.specs.EvictRule.{AreInRows, HasEvicted, HasFewSpans, HasFewNodes, HasBoth, EvictRule}
+use Rattle.cb_evict.specs.EvictStep.{loose_frames, AreSentOff, HaveContents, IsEvictedTo, IsEvictStep, few_spans, few_nodes, made}
+use Rattle.cb_evict.specs.Evicting.{TouchesSpans}
+use Rattle.cb_evict.specs.Looking.{IsIn}
+use Rattle.cb_evict.proofs.Composed.{few_spans as not_few_spans, few_nodes as not_few_nodes}
+use Rattle.cb_evict.proofs.Gone.{in_or_out, closed_in}
+use Rattle.cb_evict.proofs.Homing.{closed_else}
+use Rattle.cb_evict.proofs.LooseSpans.{loose_exact}
+use Rattle.cb_evict.proofs.Standing.{names_span, are_unique}
+
+-- ---- which objects left
+some_none : (span : Contents) → Some span ≡ None → ⊥
+some_none span e = cc
+
+has_left : (far new : FarState) (frames : List ℕ) (h : ℕ)
+    → new.spans ≡ all_closed far.spans frames → IsIn far.spans frames h → HasLeft far new h
+has_left far new frames h e (f, c, named) = (
+  f,
+  named,
+  ap (λ (spans : List (Option Contents)). span_in spans f) e ∙ closed_in far.spans frames f c,
+)
+
+was_in : (far new : FarState) (frames : List ℕ) (h : ℕ) → new.spans ≡ all_closed far.spans frames
+    → HasLeft far new h → IsIn far.spans frames h
+was_in far new frames h e (f, named, gone) = elim (in_or_out frames f) [
+  | inl c ↦ (f, c, named)
+  | inr none ↦ let span = names_span far.spans f h named in
+      absurd (some_none span.0 (sym span.1 ∙ sym (closed_else far.spans frames f none)
+      ∙ sym (ap (λ (spans : List (Option Contents)). span_in spans f) e) ∙ gone))
+]
+
+-- ---- every word
+sent_off : (x y : Words) (far new : FarState) (s : Shown) (es : List Event) (frames : List ℕ)
+    → RunsStill x y far s es → new.spans ≡ all_closed far.spans frames
+    → IsEvicted far new es s (played es s) → AreSentOff x y far frames
+sent_off x y far new s es frames r closed z = record {
+  sent = λ h m.
+      let a = z.away h (has_left far new frames h closed m) in
+      let found : word_at x h ≡ a.word =
+      found_exact es x y h a.word r.ran r.looks_first a.found in
+      let below : h < length s.objects =
+      (are_unique far s (length s.objects) r.known.sound.here refl).below m.0 h m.2 in
+      let fit : Fits (is.Far (len_of a.word) a.version a.words) (word_at y h) =
+      subst (λ (o : Object). Fits o (word_at y h)) a.object
+      (shows.fit h (omega (arith, below, count, r.known.shows.objects))) in
+      far_word_is (len_of (word_at x h)) (word_at y h) (len_of-below (word_at x h))
+      (fit.0 ∙ ap (λ (n : ℕ). 1 + n * 8192) (fit.1 ∙ ap len_of (sym found)));
+  others = λ h out. other h out (cases_lt h (length x.words));
+  count = count;
+  settings = plain_stays x y es r.ran;
+  versions = sym shows.versions ∙ z.versions ∙ ap (λ (t : Shown). t.versions) r.told
+      ∙ r.known.shows.versions;
+  memory = sym shows.memory ∙ z.memory ∙ ap (λ (t : Shown). t.memory) r.told
+      ∙ r.known.shows.memory;
+}
+  where
+    shows : Shows y (played es s)
+    shows = (plain_follows es x y s r.ran r.known.shows).1
+
+    count : length y.words ≡ length x.words
+    count = sym shows.objects ∙ z.objects ∙ r.known.shows.objects
+
+    other : (h : ℕ) → ¬ (IsIn far.spans frames h) → (h < length x.words) ⊎ (length x.words ≤ h)
+        → word_at y h ≡ word_at x h
+    other h out (inl below) =
+        let stays : ¬ (HasLeft far new h) = λ left. out (was_in far new frames h closed left) in
+        word_back x y far s es h r.known r.ran r.allowed below (omega (arith, below, count))
+        (z.others h stays) (z.hots h stays ∙ ap (λ (t : Shown). hot_at t h) r.told)
+    other h out (inr past) = get_or_past y.words h 0 (omega (arith, past, count))
+        ∙ sym (get_or_past x.words h 0 past)
+
+-- the claims told the memory words as they stand
+have_contents : (x y : Words) (far : FarState) (s : Shown) (es : List Event) (frames : List ℕ)
+    (rows : List (List ℕ)) → RunsStill x y far s es → AreInRows es far frames rows
+    → HaveContents x far frames rows
+have_contents x y far s es frames rows r are p f slot h span at there named =
+    let c = are p f slot h span at there named in
+    let t = taken_exact es x y h c.version c.words r.ran r.looks_first c.told in
+    ap (λ (w : ℕ). window x.memory (place_of w) (words_for (len_of w)))
+    (found_exact es x y h t.0 r.ran r.looks_first t.1)
+    ∙ sym t.3 ∙ c.contents
+    ∙ ap (λ (w : ℕ). window (words_in (row_at rows p)) (slot * words_of span.class)
+    (words_for (len_of w))) (sym (found_exact es x y h c.word r.ran r.looks_first c.found))
+
+evicted_to : (x y : Words) (far new : FarState) (s : Shown) (es : List Event) (frames : List ℕ)
+    → RunsStill x y far s es → HasEvicted x.settings far new frames es
+    → IsEvicted far new es s (played es s) → IsEvictedTo x y far new frames
+evicted_to x y far new s es frames r e z = record {
+  shards = e.shards;
+  rows = e.rows;
+  chosen = e.chosen;
+  word = e.word;
+  contents = have_contents x y far s es frames e.rows r e.contents;
+  homes = e.homes;
+  state = e.state;
+  sent = sent_off x y far new s es frames r (ap (λ (f : FarState). f.spans) e.state) z;
+}
+
+-- ---- the step
+-- All is known of the desk after the step, and the last complete contents of each handle stay.
+pub record IsStepKnown (y : Words) (far new : FarState) (s : Shown) : Type 0 where
+  pub shown : Shown
+  pub known : IsKnown y new shown
+  pub same_now : (h : ℕ) → now shown new h ≡ now s far h
+
+refused : (x y : Words) (far new : FarState) (s t : Shown) → IsKnown x far s → IsKnown y new t
+    → y ≡ x → new ≡ far → IsStepKnown y far new s
+refused x y far new s t k l words state =
+    let m : IsKnown x far t = subst (λ (f : FarState). IsKnown x f t) state
+    (subst (λ (u : Words). IsKnown u new t) words l) in
+    record {
+      shown = t;
+      known = l;
+      same_now = λ h. ap (λ (f : FarState). now t f h) state
+          ∙ now_same x s t far h k.shows k.sound m.shows m.sound;
+    }
+
+by_rule : (x y : Words) (far new : FarState) (r : Reply) (s : Shown) (es : List Event)
+    (loose : List ℕ) → RunsStill x y far s es → IsKnown y new (played es s)
+    → loose ≡ loose_frames x far → EvictEffect far new r es s (played es s)
+    → HasFewSpans x.settings far new r loose ⊎ (HasFewNodes x.settings far new r loose
+    ⊎ HasBoth x.settings far new r loose es)
+    → IsEvictStep x y far new r × IsStepKnown y far new s
+by_rule x y far new r s es loose runs l same effect (inl a) =
+    let words = stays_still x y far s es runs
+    (effect.left (λ id e. not_few_spans (length loose) r id a.reply e)) in (
+      few_spans (subst (HasFewSpans x.settings far new r) same a) words,
+      refused x y far new s (played es s) runs.known l words a.state,
+    )
+by_rule x y far new r s es loose runs l same effect (inr (inl a)) =
+    let words = stays_still x y far s es runs
+    (effect.left (λ id e. not_few_nodes _ r id a.reply e)) in (
+      few_nodes (subst (HasFewNodes x.settings far new r) same a) words,
+      refused x y far new s (played es s) runs.known l words a.state,
+    )
+by_rule x y far new r s es loose runs l same effect (inr (inr a)) =
+    let b = subst (λ (frames : List ℕ). HasBoth x.settings far new r frames es) same a in
+    let z = effect.evicted (record { n = far.counts.sets }) a.reply in (
+      made (record {
+        enough = b.enough;
+        room = b.room;
+        reply = b.reply;
+        evicted = evicted_to x y far new s es (take x.settings.k (loose_frames x far)) runs
+            b.evicted z;
+      }),
+      record {
+        shown = played es s;
+        known = l;
+        same_now = λ h. z.same_now h ∙ ap (λ (t : Shown). now t far h) runs.told;
+      },
+    )
+
+-- Over a still desk of which all is known an eviction is a step, and all is known of it afterwards.
+pub evict_step : (x y : Words) (far new : FarState) (r : Reply) (s : Shown)
+    → PerformsStill x y far new (EvictRule x.settings far new r) (EvictEffect far new r)
+    → IsKnown x far s → IsEvictStep x y far new r × IsStepKnown y far new s
+evict_step x y far new r s p k =
+    let rules = EvictRule x.settings far new r in let does = EvictEffect far new r in
+    let runs = runs_still x y far new rules does s k p in
+    by_rule x y far new r s p.events p.rule.loose runs
+    (known_then x y far new rules does s k p)
+    (loose_exact p.events x y far p.rule.loose p.ran.0 p.looks_first p.rule.found)
+    (p.effect s ((k.sized, k.shows), k.sound)) p.rule.answered
+
+-- One that found no memory changes no word.
+pub evict_stopped : (x y : Words) (far : FarState) (s : Shown)
+    → PerformsStill x y far far (TouchesSpans far) IsStill → IsKnown x far s → y ≡ x
+evict_stopped x y far s p k =
+    stays_still x y far s p.events (runs_still x y far far (TouchesSpans far) IsStill s k p)
+    (p.effect s ((k.sized, k.shows), k.sound))

@@ -1,0 +1,246 @@
+-- A worked example of a whole step: the loose one of two spans is evicted; and for each part of what
+-- is said of it a value that breaks that part alone.
+use Rattle.std.proofs.Common.{◌≡◌, ℕ, zero, suc, ◌*◌, ◌^◌, ◌<◌, ◌≤◌, false, nat_lt, List, [], ◌∷◌, length, get_or, All, Option, None, Some, replicate, refl, sym, ap, ◌∙◌, subst, lit<, lit≤, arith, inr}
+use Rattle.std.specs.FinMap as map
+use Rattle.std.specs.List.{Contains, slice_get}
+use Rattle.std.proofs.lemmas.Bool.{false≢true}
+use Rattle.std.proofs.lemmas.List.{get_or-replicate, length-replicate}
+use Rattle.std.proofs.lemmas.List.Elements.{All-nil, All-cons, All-replicate}
+use Rattle.cb_class.specs.Class.{words_of, bytes_of}
+use Rattle.cb_gf256.specs.Rows.{byte_at}
+use Rattle.cb_gf256.specs.Power.{power}
+use Rattle.cb_gf256.specs.Product.{◌⊗◌}
+use Rattle.cb_gf256.proofs.PublicLaws.{product_with_zero, sum_over_zeros}
+use Rattle.cb_member.specs.declared.names.Shard.{Shard}
+use Rattle.cb_node.specs.NodesState.{held}
+use Rattle.cb_set.specs.SetState.{SetState}
+use Rattle.cb_types.specs.declared.handle.SetId.{SetId}
+use Rattle.cb_types.specs.declared.reply.Reply.TheVariants as answer
+use Rattle.cb_world.specs.declared.homes.Home.{Home}
+use Rattle.cb_world.specs.Choices.{numbered, room_count, stands_on, IsLeastNode}
+use Rattle.cb_world.specs.FarState.{FarState, span_in, resident, handle_in}
+use Rattle.cb_world.specs.Homes.{home_at}
+use Rattle.cb_world.specs.Memory.{window}
+use Rattle.cb_world.specs.RowWords.{words_from, words_in}
+use Rattle.cb_world.specs.Sets.{set_in}
+use Rattle.cb_world.specs.SetWord.{IsSpanWord}
+use Rattle.cb_evict.specs.Candidates.{Names}
+use Rattle.cb_evict.specs.Closing.{HaveHomes, with_homes}
+use Rattle.cb_evict.specs.EvictStep.{IsEvictedTo, IsSetMade, IsEvictStep, made}
+use Rattle.cb_evict.specs.Storing.{IsShardAt, AreShards, set_for, with_set}
+use Rattle.cb_evict.proofs.NewSet.{set_added_in}
+use Rattle.cb_evict.proofs.WorkedEvictStep.{before, after, busy, pair, lone, one_node, none_is, same_number, sent_off, not_here, contents_in}
+
+-- ---- the code word: a row of zeros and its parity
+row : List ℕ
+row = replicate 4096 0
+
+abbrev rows : List (List ℕ)
+rows = row ∷ row ∷ []
+
+row_length : length row ≡ 4096
+unfolding row
+row_length = length-replicate {A = ℕ} 4096 0
+
+row_zeros : (column : ℕ) → column < 4096 → get_or row column 0 ≡ 0
+unfolding row
+row_zeros column below = get_or-replicate 4096 column 0 0 below
+
+row_bytes : All (λ (b : ℕ). b < 2 ^ 8) row
+unfolding row
+row_bytes = All-replicate (λ (b : ℕ). b < 2 ^ 8) 4096 0 (lit< tt)
+
+row_words : window (words_in row) (1 * words_of (record { index = 0 })) 1 ≡ 0 ∷ []
+unfolding row words_of bytes_of window words_from
+row_words = refl
+
+bytes_zero : (column i : ℕ) → column < 4096 → byte_at rows i column ≡ 0
+bytes_zero column zero below = row_zeros column below
+bytes_zero column (suc zero) below = row_zeros column below
+bytes_zero column (suc (suc i)) below = refl
+
+is_word : IsSpanWord 1 1 rows
+is_word = record {
+  is_word = record {
+    count = refl;
+    equal_lengths = All-cons (λ (r : List ℕ). length r ≡ length row) row (row ∷ []) refl
+        (All-cons (λ (r : List ℕ). length r ≡ length row) row [] refl
+        (All-nil (λ (r : List ℕ). length r ≡ length row)));
+    syndromes_zero = λ j column low below.
+        sum_over_zeros 2 (λ i. power 2 (i * j) ⊗ byte_at rows i column)
+        (λ i l. ap (λ (b : ℕ). power 2 (i * j) ⊗ b)
+        (bytes_zero column i (omega (arith, below, row_length)))
+        ∙ product_with_zero (power 2 (i * j)));
+  };
+  bytes = All-cons (All (λ (b : ℕ). b < 2 ^ 8)) row (row ∷ []) row_bytes
+      (All-cons (All (λ (b : ℕ). b < 2 ^ 8)) row [] row_bytes (All-nil (All (λ (b : ℕ). b < 2 ^ 8))));
+  wide = row_length;
+}
+
+-- ---- the shards: both nodes are empty, and the one with the least number comes first
+abbrev shard : ℕ → Shard
+shard n = record { node = numbered n; incarnation = 0; key = n }
+
+abbrev shards : List Shard
+shards = shard 0 ∷ shard 1 ∷ []
+
+none_held : (n : ℕ) → held pair.nodes (numbered n) ≡ 0
+none_held zero = grind (arith, map.gets)
+none_held (suc zero) = grind (arith, map.gets)
+none_held (suc (suc n)) = grind (arith, map.gets)
+
+apart : (n : ℕ) → stands_on (shard 0 ∷ []) (numbered n) ≡ false → 1 ≤ n
+apart zero e = absurd (false≢true (sym e))
+apart (suc n) e = omega arith
+
+first_node : IsLeastNode pair.nodes pair.members [] (numbered 0)
+first_node = record {
+  may = record {
+    within = lit< tt;
+    room = ap (λ (n : ℕ). nat_lt n 2) (none_held 0);
+    spare = refl;
+  };
+  least = λ other m. inr (none_held 0 ∙ sym (none_held other.n), omega arith);
+}
+
+second_node : IsLeastNode pair.nodes pair.members (shard 0 ∷ []) (numbered 1)
+second_node = record {
+  may = record {
+    within = lit< tt;
+    room = ap (λ (n : ℕ). nat_lt n 2) (none_held 1);
+    spare = refl;
+  };
+  least = λ other m. inr (none_held 1 ∙ sym (none_held other.n), apart other.n m.spare);
+}
+
+some_shard : (a b : Shard) → Some a ≡ Some b → a ≡ b
+some_shard a b e = cc
+
+no_shard : (a : Shard) → None ≡ Some a → ⊥
+no_shard a e = cc
+
+chosen : AreShards pair 2 shards
+chosen = record { count = refl; each = λ p s at. each p s at }
+  where
+    each : (p : ℕ) (s : Shard) → slice_get shards p ≡ Some s → IsShardAt pair shards p s
+    each zero s at = subst (IsShardAt pair shards 0) (some_shard (shard 0) s at)
+        (record { node = first_node; incarnation = refl; key = refl })
+    each (suc zero) s at = subst (IsShardAt pair shards 1) (some_shard (shard 1) s at)
+        (record { node = second_node; incarnation = refl; key = refl })
+    each (suc (suc p)) s at = absurd (no_shard s at)
+
+two_nodes : room_count pair.nodes pair.members ≡ 2
+two_nodes = let a = none_held 0 in let b = none_held 1 in grind (arith, a, b)
+
+-- ---- the home of the object
+abbrev homes : List (Option Home)
+homes = Some (record { set = 0; position = 0; slot = 1 }) ∷ None ∷ None ∷ None ∷ []
+
+homed : HaveHomes pair.spans (0 ∷ []) 0 pair.homes homes
+homed = record {
+  count = refl;
+  here = λ p f slot h at named. here p f slot h at named;
+  others = λ h none. others h none;
+}
+  where
+    by_slot : (slot h : ℕ) → handle_in (span_in pair.spans 0) slot ≡ Some h
+        → home_at homes h ≡ Some (record { set = 0; position = 0; slot = slot })
+    by_slot zero h e = absurd (none_is h e)
+    by_slot (suc zero) h e = ap (home_at homes) (sym (same_number 0 h e))
+    by_slot (suc (suc n)) h e = absurd (none_is h e)
+
+    here : (p f slot h : ℕ) → slice_get (0 ∷ []) p ≡ Some f → resident pair.spans f slot ≡ Some h
+        → home_at homes h ≡ Some (record { set = 0; position = p; slot = slot })
+    here zero f slot h at named = by_slot slot h
+        (ap (λ (n : ℕ). handle_in (span_in pair.spans n) slot) (same_number 0 f at) ∙ named)
+    here (suc p) f slot h at named = absurd (none_is f at)
+
+    others : (h : ℕ) → ((f : ℕ) → Contains (0 ∷ []) f → Names pair.spans f h → ⊥)
+        → home_at homes h ≡ home_at pair.homes h
+    others zero none = absurd (none 0 (0, lit< tt, refl) (1, refl))
+    others (suc h) none = refl
+
+-- ---- the step
+abbrev with_shards : List Shard → FarState
+with_shards shards = with_homes (with_set pair shards (0 ∷ []) rows) (0 ∷ []) homes
+
+abbrev new : FarState
+new = with_shards shards
+
+evicted : IsEvictedTo before after pair new (0 ∷ [])
+evicted = record {
+  shards = shards;
+  rows = rows;
+  chosen = chosen;
+  word = is_word;
+  contents = contents_in row (row ∷ []) row_words;
+  homes = homed;
+  state = refl;
+  sent = sent_off;
+}
+
+set_made : IsSetMade before after pair new (answer.Set (record { n = 0 }))
+set_made = record {
+  enough = lit≤ tt;
+  room = omega (arith, two_nodes);
+  reply = refl;
+  evicted = evicted;
+}
+
+step : IsEvictStep before after pair new (answer.Set (record { n = 0 }))
+step = made set_made
+
+-- ---- what is no such set
+-- the first node again, for the second row
+abbrev again : Shard
+again = record { node = numbered 0; incarnation = 0; key = 1 }
+
+some_set : (a b : SetState) → Some a ≡ Some b → a ≡ b
+some_set a b e = cc
+
+-- two rows at one node
+not_twice : IsEvictedTo before after pair (with_shards (shard 0 ∷ again ∷ [])) (0 ∷ []) → ⊥
+not_twice a =
+    let wrong = shard 0 ∷ again ∷ [] in
+    let set : set_for pair wrong (0 ∷ []) ≡ set_for pair a.shards (0 ∷ []) = some_set _ _
+    (sym (set_added_in pair.sets 0 (set_for pair wrong (0 ∷ [])))
+    ∙ ap (λ (f : FarState). set_in f.sets 0) a.state
+    ∙ set_added_in pair.sets 0 (set_for pair a.shards (0 ∷ []))) in
+    let same : wrong ≡ a.shards = ap (λ (s : SetState). s.shards) set in
+    let at = (subst (λ (l : List Shard). AreShards pair 2 l) (sym same) a.chosen).each 1 again refl in
+    false≢true (sym at.node.may.spare)
+
+-- another part of the far state changed
+not_made : IsEvictedTo before after pair (record new { made = 5 }) (0 ∷ []) → ⊥
+not_made a = let e : 5 ≡ 4 = ap (λ (f : FarState). f.made) a.state in absurd (omega (arith, e))
+
+-- the object has no home
+not_homeless : IsEvictedTo before after pair (record new { homes = pair.homes }) (0 ∷ []) → ⊥
+not_homeless a = no_home (record { set = 0; position = 0; slot = 1 })
+    (a.homes.here 0 0 1 0 refl refl)
+  where
+    no_home : (home : Home) → None ≡ Some home → ⊥
+    no_home home e = cc
+
+-- the object is here as before
+not_sent : IsEvictedTo before before pair new (0 ∷ []) → ⊥
+not_sent a = not_here a.sent
+
+-- a set is made only where enough spans are loose
+not_pinned : IsSetMade busy after pair new (answer.Set (record { n = 0 })) → ⊥
+not_pinned a = let l : 1 ≤ 0 = a.enough in absurd (omega (arith, l))
+
+-- and enough nodes have room
+not_lone : (far : FarState) → IsSetMade before after lone far (answer.Set (record { n = 0 })) → ⊥
+not_lone far a = let l = a.room in absurd (omega (arith, l, one_node))
+
+id_is : (a b : SetId) → answer.Set a ≡ answer.Set b → a ≡ b
+id_is a b e = cc
+
+-- the reply has the set's number
+not_another_number : IsSetMade before after pair new (answer.Set (record { n = 1 })) → ⊥
+not_another_number a = let e : 1 ≡ 0 = ap (λ (id : SetId). id.n) (id_is _ _ a.reply) in absurd (omega (arith, e))
+
+-- a set that was to be made is no refusal
+not_refused : IsSetMade before before pair pair (answer.Set (record { n = 0 })) → ⊥
+not_refused a = not_here a.evicted.sent
