@@ -7,3 +7,7 @@ pub mod WorkedPins
 pub mod WorkedMembership
 pub mod WorkedRoom
 pub mod WorkedTurns
+pub mod TurnCallsKept
+pub mod TurnCallsFar
+pub mod TurnCallsMap
+pub mod TurnCallsReply

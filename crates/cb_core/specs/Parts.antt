@@ -38,7 +38,7 @@ pub data WhereItIs {D : Type 0} (call : Holding D → Reply → Holding D → Ty
 
 -- a call that is never declined
 abbrev pub NeverDeclined : {D : Type 0} → Holding D → Option Reply → Holding D → Type 0
-NeverDeclined a declined b = (declined ≡ None) × (b ≡ a)
+NeverDeclined a refusal b = (refusal ≡ None) × (b ≡ a)
 
 -- An object that is far is brought in; of one that is not the reply tells where it is.
 pub data BringsIn {D : Type 0} (call bringing : Holding D → Reply → Holding D → Type 0)

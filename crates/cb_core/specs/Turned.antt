@@ -22,6 +22,7 @@ use Rattle.cb_world.specs.Performs.{Performs}
 use Rattle.cb_world.specs.Sets.{set_in}
 use Rattle.cb_world.specs.Sound.{Sound}
 use Rattle.cb_world.specs.Still.{IsStill}
+use Rattle.cb_world.specs.Touches.{SettlesLast}
 use Rattle.cb_mutate.specs.Answered.{Answered}
 use Rattle.cb_mutate.specs.MakeRule.{MakeRule, MakeEffect, NeedsNewSpan}
 use Rattle.cb_mutate.specs.ReadRule.{ReadRule, ReadEffect, HasSeen, IsShown}
@@ -79,10 +80,10 @@ Finds run shows h =
     (λ far new r. IsStill)
 
 -- a far object is looked at before a write of so many bytes: the write is declined by the length of
--- its word and by its version word
+-- its word and by its version word, which is read before any word is stored
 abbrev pub IsDeclined : ℕ → ℕ → ℕ → FarState → Option Reply → List Event → Type 0
 IsDeclined h at count far declined es = ((is_gone far h ≡ true) × (declined ≡ None) × (es ≡ []))
-    ⊎ ((is_gone far h ≡ false) × ((w v : ℕ) × IsFound h w es × IsTold h v es
+    ⊎ ((is_gone far h ≡ false) × ((w v : ℕ) × IsFound h w es × IsTold h v es × SettlesLast es
     × (declined ≡ write_refusal false (len_of w) v at count)))
 
 abbrev pub Declines : {D : Type 0} → (D → List Event → D → Type 0) → (D → Shown → Type 0) → ℕ → ℕ → ℕ
@@ -186,8 +187,8 @@ Stops run shows c (Write handle at bytes) a b =
     CallStops (Writes run shows handle.n at bytes) NeverLacks
     (Declines run shows handle.n at (length bytes)) (Brings run shows c handle.n)
     (BringLacks run shows c handle.n) a b
-Stops run shows c (Swap handle) a b = (m : Holding D) × Finds run shows handle.n a answer.NotHere m
-    × BringLacks run shows c handle.n m b
+Stops {D = D} run shows c (Swap handle) a b =
+    (m : Holding D) × Finds run shows handle.n a answer.NotHere m × BringLacks run shows c handle.n m b
 Stops run shows c Evict a b = EvictLacks run shows a b
 Stops run shows c (Crash node) a b =
     run a.desk [] b.desk × (b.far ≡ a.far) × (alive a.far.members node ≡ true)
