@@ -18,21 +18,21 @@ use Rattle.cb_world.proofs.Claimed.{settled_here}
 use Rattle.cb_swapin.specs.Waiting.{IsReady}
 use Rattle.cb_swapin.specs.BroughtIn.{BringsOne, with_here}
 
--- the word of an object that is here at a place, with no pins and not hot
-pub record IsHereWord (x len place : ℕ) : Type 0 where
+-- the word of an object that is here at a place, with no pins, hot or not
+pub record IsHereWord (x len place : ℕ) (hot : Bool) : Type 0 where
   pub state : state_of x ≡ word.Here
-  pub hot : hot_of x ≡ false
+  pub hot_is : hot_of x ≡ hot
   pub pins : pins_of x ≡ 0
   pub length : len_of x ≡ len
   pub at : place_of x ≡ place
   pub below : x < 2 ^ 53
 
-pub here_word : (x place : ℕ) (q : PtrWord) (w : ℕ) → x < 2 ^ 53
-    → fields_of x ≡ record { state = word.Here; hot = false; pins = 0; len = q.len; place = place }
-    → q ≡ fields_of w → IsHereWord x (len_of w) place
-here_word x place q w below e f = record {
+pub here_word : (x place : ℕ) (hot : Bool) (q : PtrWord) (w : ℕ) → x < 2 ^ 53
+    → fields_of x ≡ record { state = word.Here; hot = hot; pins = 0; len = q.len; place = place }
+    → q ≡ fields_of w → IsHereWord x (len_of w) place hot
+here_word x place hot q w below e f = record {
   state = ap (λ (r : PtrWord). r.state) e;
-  hot = ap (λ (r : PtrWord). r.hot) e;
+  hot_is = ap (λ (r : PtrWord). r.hot) e;
   pins = ap (λ (r : PtrWord). r.pins) e;
   length = ap (λ (r : PtrWord). r.len) e ∙ ap (λ (r : PtrWord). r.len) f;
   at = ap (λ (r : PtrWord). r.place) e;
@@ -44,9 +44,10 @@ far_len : (s : Shown) (h w len v : ℕ) (words : List ℕ) → object_at s h ≡
     → Agrees s (Looked h w) → len_of w ≡ len
 far_len s h w len v words away a = (subst (λ (o : Object). Fits o w) away a.0).1
 
-pub may_bring : (s : Shown) (h place w x : ℕ) → IsReady s h place → Agrees s (Looked h w)
-    → IsHereWord x (len_of w) place → MaySettle (after (Looked h w) s) h x
-may_bring s h place w x r a k =
+pub may_bring : (s : Shown) (h place w x : ℕ) (hot : Bool) → IsReady s h place
+    → Agrees s (Looked h w) → IsHereWord x (len_of w) place hot
+    → MaySettle (after (Looked h w) s) h x
+may_bring s h place w x hot r a k =
     let len : len_of x ≡ r.len = k.length ∙ far_len s h w r.len r.version r.words r.away a in
     subst (λ (q : State). MaySettleAs q (after (Looked h w) s) h x) (sym k.state) (
       k.below,
@@ -59,7 +60,7 @@ may_bring s h place w x r a k =
       ),
     )
 
-brought_to : (s : Shown) (h place w x : ℕ) → IsHereWord x (len_of w) place
+brought_to : (s : Shown) (h place w x : ℕ) → IsHereWord x (len_of w) place false
     → played (Looked h w ∷ Settled h x ∷ []) s ≡ with_here s h (len_of w) place
 brought_to s h place w x k =
     settled_here (after (Looked h w) s) h x k.state
@@ -74,10 +75,10 @@ brought_to s h place w x k =
     in t) k.at
     ∙ ap (λ (b : Bool). let t : Shown =
     record s { objects = set s.objects h (is.Here (len_of w) place); hots = set s.hots h b } in t)
-    k.hot
+    k.hot_is
 
 brought_nothing : (s : Shown) (h place w x : ℕ) → IsReady s h place
-    → IsHereWord x (len_of w) place → Writes (Looked h w ∷ Settled h x ∷ []) s []
+    → IsHereWord x (len_of w) place false → Writes (Looked h w ∷ Settled h x ∷ []) s []
 brought_nothing s h place w x r k old =
     let t = after (Looked h w) s in
     ap (λ (q : State). adds_as q t h x (object_at t h) ++ old) k.state
@@ -87,9 +88,9 @@ brought_nothing s h place w x r k old =
     (eq-eqb (version_at t h) r.version r.stamp)
 
 pub brings_one : (s : Shown) (h place w x : ℕ) → IsReady s h place → Agrees s (Looked h w)
-    → IsHereWord x (len_of w) place → BringsOne s h place w x
+    → IsHereWord x (len_of w) place false → BringsOne s h place w x
 brings_one s h place w x r a k = record {
-  may = may_bring s h place w x r a k;
+  may = may_bring s h place w x false r a k;
   len = λ n v words away. far_len s h w n v words away a;
   settled = brought_to s h place w x k;
   nothing = brought_nothing s h place w x r k;

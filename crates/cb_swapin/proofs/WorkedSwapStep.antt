@@ -1,6 +1,6 @@
 -- Worked examples of a swap-in as a step of the still desk: what meets each definition, and what
 -- breaks one of its parts alone.
-use Rattle.std.proofs.Common.{◌≡◌, ◌≢◌, ℕ, zero, suc, Bool, true, false, ◌+◌, List, [], ◌∷◌, None, Some, length, get_or, refl, sym, ap, ◌∙◌, subst, arith, inr}
+use Rattle.std.proofs.Common.{◌≡◌, ◌≢◌, ℕ, zero, suc, Bool, true, false, ◌+◌, ◌≤◌, List, [], ◌∷◌, None, Some, length, get_or, refl, sym, ap, ◌∙◌, subst, arith, inl, inr}
 use Rattle.std.specs.FinMap as map
 use Rattle.cb_class.specs.Class.{bytes_of, slots_of, words_of}
 use Rattle.cb_gf256.specs.Rows.{row_at}
@@ -21,7 +21,7 @@ use Rattle.cb_world.specs.Sets.{set_in}
 use Rattle.cb_world.specs.SetWord.{IsWordOf}
 use Rattle.cb_world.specs.World.{word_at}
 use Rattle.cb_world.proofs.RowWords.{length_words}
-use Rattle.cb_world.proofs.Windows.{length_put, put_else}
+use Rattle.cb_world.proofs.Windows.{length_put, put_at, put_else}
 use Rattle.cb_swapin.specs.Named.{IsNamed}
 use Rattle.cb_swapin.specs.Fetching.{far_given}
 use Rattle.cb_swapin.specs.SwapRule.{IsSwappedTo, swap_answer}
@@ -155,6 +155,18 @@ changes_a_word_behind : (c : Config) (m n row : List ℕ) → get_or n 1024 0 �
     → AreBroughtTo (before c m) (afterwards c n) first.slots class 1 row → ⊥
 changes_a_word_behind c m n row other x = other (ap (λ (l : List ℕ). get_or l 1024 0) x.memory
     ∙ put_else m 512 (words_in row) 1024 (inr (omega (arith, length_words 512 row))))
+
+changes_a_word_before : (c : Config) (m n row : List ℕ) → get_or n 511 0 ≢ get_or m 511 0
+    → AreBroughtTo (before c m) (afterwards c n) first.slots class 1 row → ⊥
+changes_a_word_before c m n row other x = other (ap (λ (l : List ℕ). get_or l 511 0) x.memory
+    ∙ put_else m 512 (words_in row) 511 (inl (omega arith)))
+
+has_another_row : (c : Config) (m n row : List ℕ) → 1024 ≤ length m
+    → get_or n 512 0 ≢ get_or (words_in row) 0 0
+    → AreBroughtTo (before c m) (afterwards c n) first.slots class 1 row → ⊥
+has_another_row c m n row room other x = other (ap (λ (l : List ℕ). get_or l 512 0) x.memory
+    ∙ put_at m 512 (words_in row) 0 (omega (arith, length_words 512 row))
+    (omega (arith, length_words 512 row, room)))
 
 has_more_frames : (c : Config) (m n row : List ℕ)
     → AreBroughtTo (before c m) (afterwards (record c { frames = c.frames + 1 }) n) first.slots class
