@@ -11,3 +11,6 @@ pub mod TurnCallsKept
 pub mod TurnCallsFar
 pub mod TurnCallsMap
 pub mod TurnCallsReply
+pub mod TurnCallsWhere
+pub mod TurnCallsLost
+pub mod TurnCallsParts
