@@ -14,3 +14,5 @@ pub mod TurnCallsReply
 pub mod TurnCallsWhere
 pub mod TurnCallsLost
 pub mod TurnCallsParts
+pub mod TurnCallsMake
+pub mod TurnCallsSwap

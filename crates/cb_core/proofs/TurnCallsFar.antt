@@ -1,5 +1,5 @@
 -- How the bringing in of a far object within a turn ends.
-use Rattle.std.proofs.Common.{◌≡◌, ℕ, zero, suc, Bool, true, false, Option, None, Some, List, refl, sym, ap, ◌∙◌, subst}
+use Rattle.std.proofs.Common.{◌≡◌, ℕ, zero, suc, Bool, true, false, None, Some, List, refl, sym, ap, ◌∙◌, subst}
 use Rattle.cb_frame.specs.FreeFrames.{least_free}
 use Rattle.cb_member.specs.declared.names.Loss.{Loss}
 use Rattle.cb_ptr.specs.declared.word.State.TheVariants as state
@@ -15,22 +15,20 @@ use Rattle.cb_world.specs.declared.object.Object.TheVariants as is
 use Rattle.cb_world.specs.declared.shown.Shown.{Shown}
 use Rattle.cb_world.specs.FarState.{FarState}
 use Rattle.cb_world.specs.Homes.{home_at}
-use Rattle.cb_world.specs.Now.{Now, never, freed, held, gone, now, now_as, is_gone}
+use Rattle.cb_world.specs.Now.{gone, now, now_as, is_gone}
 use Rattle.cb_world.specs.Plain.{Words}
 use Rattle.cb_world.specs.Sets.{set_in}
 use Rattle.cb_world.specs.SetWord.{is_broken}
 use Rattle.cb_world.specs.Shown.{object_at}
 use Rattle.cb_world.specs.World.{IsKnown, word_at}
-use Rattle.cb_evict.specs.EvictStep.{IsEvictStep}
-use Rattle.cb_swapin.specs.SwapRule.{swap_answer}
 use Rattle.cb_swapin.specs.SwapStep.{IsSwapStep}
 use Rattle.cb_swapin.proofs.FarHomes.{gone_is_broken}
 use Rattle.cb_swapin.proofs.SwapAnswers.{by_answer, unavailable_answer}
 use Rattle.cb_swapin.proofs.SwapKeeps.{step_only_no_frame}
 use Rattle.cb_swapin.proofs.SwapPins.{home_comes_in}
-use Rattle.cb_core.specs.Parts.{Holding, WithRoom, at_once, no_room, won}
-use Rattle.cb_core.specs.Step.{StillEvict, StillSwap, StillBring}
-use Rattle.cb_core.proofs.TurnCallsKept.{HasKept, same_holding, kept_swap, kept_evict, kept_then}
+use Rattle.cb_core.specs.Parts.{Holding, at_once, no_room, won}
+use Rattle.cb_core.specs.Step.{StillSwap, StillBring}
+use Rattle.cb_core.proofs.TurnCallsKept.{HasKept, kept_swap, kept_evict, kept_then}
 
 -- The object's set has lost more shards than it has parities: its number, and what it lost.
 pub record IsLostFar (far : FarState) (h : ℕ) (id : SetId) (losses : List Loss) : Type 0 where

@@ -1,7 +1,5 @@
 -- What an eviction and a swap-in within a turn keep: what every object holds.
-use Rattle.std.proofs.Common.{◌≡◌, ℕ, ◌<◌, length, refl, sym, ap, ◌∙◌, subst, arith}
-use Rattle.cb_types.specs.declared.config.Config.{Config}
-use Rattle.cb_types.specs.declared.handle.SetId.{SetId}
+use Rattle.std.proofs.Common.{◌≡◌, ℕ, refl, ap, ◌∙◌}
 use Rattle.cb_types.specs.declared.job.Job.{Job}
 use Rattle.cb_types.specs.declared.reply.Reply.{Reply}
 use Rattle.cb_types.specs.declared.reply.Reply.TheVariants as answer
@@ -11,14 +9,12 @@ use Rattle.cb_world.specs.Counts.{with_turn}
 use Rattle.cb_world.specs.FarState.{FarState}
 use Rattle.cb_world.specs.Now.{now}
 use Rattle.cb_world.specs.Plain.{Words}
-use Rattle.cb_world.specs.World.{WorldState, IsKnown, IsSoundWorld}
+use Rattle.cb_world.specs.World.{WorldState, IsKnown}
 use Rattle.cb_world.proofs.Alike.{recounted_sound}
 use Rattle.cb_world.proofs.NowSame.{now_same}
-use Rattle.cb_evict.specs.EvictStep.{IsEvictStep}
 use Rattle.cb_evict.proofs.AfterEvict.{evict_keeps, evict_settings}
-use Rattle.cb_swapin.specs.SwapStep.{IsSwapStep}
 use Rattle.cb_swapin.proofs.SwapKeeps.{keeps_far, settings_stay}
-use Rattle.cb_core.specs.Parts.{Holding, WithRoom, at_once, no_room, won}
+use Rattle.cb_core.specs.Parts.{Holding, at_once, no_room, won}
 use Rattle.cb_core.specs.Step.{StillEvict, StillSwap, StillBring}
 use Rattle.cb_core.specs.Turned.{counted}
 

@@ -1,5 +1,5 @@
 -- Unavailable is answered exactly where the object's set has lost more shards than it has parities.
-use Rattle.std.proofs.Common.{◌≡◌, ℕ, Bool, true, false, List, Option, Some, None, refl, sym, ap, ◌∙◌, subst}
+use Rattle.std.proofs.Common.{◌≡◌, ℕ, true, List, Option, Some, None, refl, sym, ap, ◌∙◌, subst}
 use Rattle.std.proofs.lemmas.Bool.{false≢true}
 use Rattle.cb_member.specs.declared.names.Loss.{Loss}
 use Rattle.cb_ptr.specs.declared.word.State.TheVariants as state
@@ -17,13 +17,12 @@ use Rattle.cb_world.specs.Homes.{home_at}
 use Rattle.cb_world.specs.Now.{broken_home, broken_set, is_gone}
 use Rattle.cb_world.specs.Plain.{Words}
 use Rattle.cb_world.specs.Sets.{set_in}
-use Rattle.cb_world.specs.SetWord.{is_broken}
 use Rattle.cb_world.specs.World.{WorldState, IsKnown, word_at}
 use Rattle.cb_swapin.proofs.SwapPins.{named_far}
 use Rattle.cb_core.specs.Parts.{Holding, WhereItIs, near, declined, stays_far, brought}
 use Rattle.cb_core.specs.Room.{final_reply}
 use Rattle.cb_core.specs.Step.{StillBring}
-use Rattle.cb_core.proofs.TurnCallsFar.{IsLostFar, lost_gone, BringEnds, came, broke, crammed, bring_ends}
+use Rattle.cb_core.proofs.TurnCallsFar.{IsLostFar, BringEnds, came, broke, crammed, bring_ends}
 use Rattle.cb_core.proofs.TurnCallsWhere.{IsPart}
 
 -- an object with a home is far

@@ -1,5 +1,5 @@
 -- A call on the map stays one where what objects hold is the same before it and after it.
-use Rattle.std.proofs.Common.{◌≡◌, ◌≢◌, ◌⊎◌, ℕ, Bool, ◌+◌, ◌<◌, length, Option, Some, None, refl, sym, ap, ◌∙◌, subst, inl, inr}
+use Rattle.std.proofs.Common.{◌≡◌, ℕ, Bool, ◌+◌, ◌<◌, length, Option, Some, None, refl, sym, ap, ◌∙◌, subst, inl, inr}
 use Rattle.cb_ptr.specs.declared.word.State.TheVariants as state
 use Rattle.cb_ptr.specs.Word.{state_of}
 use Rattle.cb_types.specs.declared.job.Job.{Job}
@@ -9,13 +9,12 @@ use Rattle.cb_model.specs.Called.{made_by}
 use Rattle.cb_model.specs.Event.{event_of}
 use Rattle.cb_model.specs.Event.Subject.{Contents}
 use Rattle.cb_model.specs.Event.Event.{Refused}
-use Rattle.cb_model.specs.Now.{Now as MapNow}
 use Rattle.cb_model.specs.Replies.{MapReplies}
 use Rattle.cb_world.specs.declared.homes.Home.{Home}
 use Rattle.cb_world.specs.declared.shown.Shown.{Shown}
 use Rattle.cb_world.specs.FarState.{FarState}
 use Rattle.cb_world.specs.Homes.{home_at}
-use Rattle.cb_world.specs.Now.{Now, now, now_as, is_gone}
+use Rattle.cb_world.specs.Now.{Now, now, now_as}
 use Rattle.cb_world.specs.Plain.{Words}
 use Rattle.cb_world.specs.Shown.{object_at}
 use Rattle.cb_world.specs.World.{IsKnown, word_at}

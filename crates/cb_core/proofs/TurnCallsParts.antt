@@ -1,12 +1,11 @@
 -- A read and a write as parts of a turn.
-use Rattle.std.proofs.Common.{◌≡◌, ◌⊎◌, ℕ, zero, suc, Bool, true, false, ◌+◌, ◌-◌, ◌^◌, ◌==◌, ◌<◌, nat_lt, List, length, Option, Some, None, refl, sym, ap, ◌∙◌, subst, inl, inr, arith, if◌then◌else◌}
-use Rattle.std.proofs.lemmas.Bool.{cases_Bool, ltb-true}
+use Rattle.std.proofs.Common.{◌≡◌, ℕ, zero, suc, Bool, true, false, ◌+◌, ◌-◌, ◌^◌, ◌==◌, ◌<◌, nat_lt, List, length, Option, Some, None, refl, sym, ap, ◌∙◌, subst, arith, if◌then◌else◌}
+use Rattle.std.proofs.lemmas.Bool.{ltb-true}
 use Rattle.cb_member.specs.declared.names.Loss.{Loss}
 use Rattle.cb_ptr.specs.declared.word.State.{State}
 use Rattle.cb_ptr.specs.declared.word.State.TheVariants as state
 use Rattle.cb_ptr.specs.Word.{state_of, len_of, pins_of}
 use Rattle.cb_types.specs.declared.handle.SetId.{SetId}
-use Rattle.cb_types.specs.declared.request.Request.{Request}
 use Rattle.cb_types.specs.declared.request.Request.TheVariants.{Read, Write}
 use Rattle.cb_types.specs.declared.reply.Reply.{Reply}
 use Rattle.cb_types.specs.declared.reply.Reply.TheVariants as answer
@@ -18,22 +17,21 @@ use Rattle.cb_model.specs.Now.{Now as MapNow}
 use Rattle.cb_model.specs.Replies.{MapReplies}
 use Rattle.cb_world.specs.declared.object.Object.TheVariants as object
 use Rattle.cb_world.specs.declared.shown.Shown.{Shown}
-use Rattle.cb_world.specs.FarState.{FarState}
 use Rattle.cb_world.specs.Memory.{bytes_in}
 use Rattle.cb_world.specs.Now.{Now, now, now_as, is_gone}
 use Rattle.cb_world.specs.Now.Now.{held}
 use Rattle.cb_world.specs.Plain.{Words}
 use Rattle.cb_world.specs.Shown.{object_at}
 use Rattle.cb_world.specs.StillWords.{stamp_at, contents_at}
-use Rattle.cb_world.specs.World.{WorldState, IsKnown, word_at}
+use Rattle.cb_world.specs.World.{IsKnown, word_at}
 use Rattle.cb_world.proofs.NowSame.{far_object}
 use Rattle.cb_mutate.specs.MapCalls.{IsValue, IsMapCall, IsCallOn}
-use Rattle.cb_mutate.specs.StillReplies.{reply_as, read_reply, write_reply, next_reply, change_reply}
+use Rattle.cb_mutate.specs.StillReplies.{reply_as, write_reply, next_reply, change_reply}
 use Rattle.cb_mutate.proofs.MapReplies.{map_same, stays_call}
 use Rattle.cb_mutate.proofs.ReadCall.{read_call}
 use Rattle.cb_mutate.proofs.WriteCall.{write_call}
 use Rattle.cb_mutate.proofs.WrittenBytes.{bytes_length}
-use Rattle.cb_core.specs.Declining.{far_refusal, write_refusal}
+use Rattle.cb_core.specs.Declining.{write_refusal}
 use Rattle.cb_core.specs.Parts.{Holding, NeverDeclined}
 use Rattle.cb_core.specs.Step.{StillRead, StillWrite, StillDecline}
 use Rattle.cb_core.proofs.TurnCallsKept.{same_holding}

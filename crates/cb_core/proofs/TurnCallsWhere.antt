@@ -1,6 +1,5 @@
 -- A call on an object wherever it is.
-use Rattle.std.proofs.Common.{◌≡◌, ℕ, Bool, true, false, ◌<◌, List, length, Option, Some, None, refl, sym, ap, ◌∙◌, subst, arith}
-use Rattle.std.proofs.lemmas.Bool.{false≢true}
+use Rattle.std.proofs.Common.{◌≡◌, ℕ, true, false, ◌<◌, List, length, Option, Some, None, sym, ap, ◌∙◌, subst, arith}
 use Rattle.cb_member.specs.declared.names.Loss.{Loss}
 use Rattle.cb_ptr.specs.declared.word.State.TheVariants as state
 use Rattle.cb_ptr.specs.Word.{state_of}
@@ -21,10 +20,10 @@ use Rattle.cb_mutate.specs.MapCalls.{IsCallOn}
 use Rattle.cb_core.specs.Parts.{Holding, WhereItIs, near, declined, stays_far, brought}
 use Rattle.cb_core.specs.Room.{final_reply}
 use Rattle.cb_core.specs.Step.{StillBring}
-use Rattle.cb_core.proofs.TurnCallsKept.{HasKept, kept_all, kept_then, kept_bring, known_same}
-use Rattle.cb_core.proofs.TurnCallsFar.{IsLostFar, lost_gone, BringEnds, came, broke, crammed, bring_ends}
+use Rattle.cb_core.proofs.TurnCallsKept.{HasKept, kept_all, kept_bring, known_same}
+use Rattle.cb_core.proofs.TurnCallsFar.{BringEnds, came, broke, crammed, bring_ends}
 use Rattle.cb_core.proofs.TurnCallsMap.{IsSameMap, map_stays, call_carried, far_refused}
-use Rattle.cb_core.proofs.TurnCallsReply.{final_same, own_final}
+use Rattle.cb_core.proofs.TurnCallsReply.{own_final}
 
 -- the call is the map's, and the reply is one of the line's
 pub record IsAnswered (handles : ℕ) (s t : Shown) (far new : FarState) (h : ℕ) (q : Request) (r : Reply)
@@ -78,11 +77,12 @@ pub within : (a : Holding Words) (s : Shown) (h : ℕ) → IsKnown a.desk a.far 
     → h < a.desk.settings.handles → h < length a.desk.words
 within a s h k below = let n = k.sized.words in omega (arith, below, n)
 
-no_frame : (new : WorldState) (r : Reply) → r ≡ answer.NoFrame → (C : Reply → Type 0)
+-- where there was no frame the turn is answered that there is no room
+pub no_frame : (new : WorldState) (r : Reply) → r ≡ answer.NoFrame → (C : Reply → Type 0)
     → ((frames loose nodes : ℕ) → C (answer.NoRoom frames loose nodes)) → C (final_reply new r)
 no_frame new r e C room = subst C (sym (ap (final_reply new) e)) (room _ _ _)
 
-lost_same : (new : WorldState) (r : Reply) (id : SetId) (l : List Loss) → r ≡ answer.Unavailable id l
+pub lost_same : (new : WorldState) (r : Reply) (id : SetId) (l : List Loss) → r ≡ answer.Unavailable id l
     → (C : Reply → Type 0) → C (answer.Unavailable id l) → C (final_reply new r)
 lost_same new r id l e C c = subst C (sym (ap (final_reply new) e)) c
 
