@@ -16,3 +16,5 @@ pub mod TurnCallsLost
 pub mod TurnCallsParts
 pub mod TurnCallsMake
 pub mod TurnCallsSwap
+pub mod TurnCallsNodes
+pub mod TurnCallsFirst

@@ -28,7 +28,7 @@ pub record IsMadeAs (handles : ℕ) (s t : Shown) (far new : FarState) (q : Requ
   pub line : IsReplyOf q r
 
 -- where there is no frame for an object, not all handles were made, and nothing is done
-make_crammed : (x y : Words) (far new : FarState) (bytes : List ℕ)
+pub make_crammed : (x y : Words) (far new : FarState) (bytes : List ℕ)
     → IsMakeStep x y far new bytes answer.NoFrame
     → (far.made < x.settings.handles) × (y ≡ x) × (new ≡ far)
 make_crammed x y far new bytes (inl (full, is, same, left)) = absurd (full_crammed is)
