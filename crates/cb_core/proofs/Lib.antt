@@ -18,3 +18,5 @@ pub mod TurnCallsMake
 pub mod TurnCallsSwap
 pub mod TurnCallsNodes
 pub mod TurnCallsFirst
+pub mod TurnCalls
+pub mod TurnCallsUnavailable
