@@ -41,7 +41,7 @@ by_next C Z v c worn next = elim (cases_Bool (v == 2 ^ 64 - 1)) [
 ]
 
 -- the reply of a change: pinned, worn, or the next version of an object without pins
-by_change : (C : Reply → Type 0) (Z : Type 0) (w v : ℕ) → C (change_reply w v)
+pub by_change : (C : Reply → Type 0) (Z : Type 0) (w v : ℕ) → C (change_reply w v)
     → (C (answer.Pinned (pins_of w)) → Z) → (C answer.Worn → Z)
     → (pins_of w ≡ 0 → C (answer.Version (v + 1)) → Z) → Z
 by_change C Z w v c pinned worn next = elim (cases_Bool (pins_of w == 0)) [

@@ -1,5 +1,11 @@
 pub mod Counting
 pub mod Changes
+pub mod KeptPins
+pub mod Loose
+pub mod KeptParts
+pub mod StillParts
+pub mod StillTurns
+pub mod FarCalls
 pub mod WorldKept
 pub mod PinsKept
 pub mod Settings

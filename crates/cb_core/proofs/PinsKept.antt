@@ -1,9 +1,10 @@
 -- The world stays sound through a pin and its end; and the handles that spans name are in range.
-use Rattle.std.proofs.Common.{◌≡◌, ℕ, ◌<◌, length, get_or, Option, None, Some, refl, sym, subst, arith, inl, inr}
+use Rattle.std.proofs.Common.{◌≡◌, ℕ, ◌<◌, ◌≤◌, length, get_or, Option, None, Some, refl, sym, subst, arith, inl, inr}
 use Rattle.std.specs.Prelude.{All, IfSome}
 use Rattle.std.proofs.lemmas.Bool.{cases_lt}
 use Rattle.std.proofs.lemmas.List.{get_or_past, get_or_default}
 use Rattle.cb_span.specs.Contents.{Contents}
+use Rattle.cb_types.specs.declared.config.Field.TheVariants.{Nodes}
 use Rattle.cb_types.specs.declared.reply.Reply.{Reply}
 use Rattle.cb_world.specs.declared.object.Object.{Object}
 use Rattle.cb_world.specs.declared.shown.Shown.{Shown}
@@ -41,6 +42,15 @@ handles_below w sound f span there = λ i d lt.
         let below = lying_below sound.shown h named.len _ named.lies in
         let objects = known.shows.objects in let words = known.sized.words in
         omega (arith, below, objects, words)
+
+-- there are at most 64 nodes, each a member
+pub few_nodes : (w : WorldState) → IsSoundWorld w → length w.far.nodes.nodes ≤ 256
+few_nodes w sound = let n = sound.configured.nodes in let most = (sound.config Nodes).1 in
+    omega (arith, n, most)
+
+pub nodes_counted : (w : WorldState) → IsSoundWorld w
+    → length w.far.nodes.nodes ≡ length w.far.members.nodes
+nodes_counted w sound = sound.known.sound.away.sound.rows.counted
 
 pub pin_step_sound : (w new : WorldState) (seat h : ℕ) (r : Reply) → IsSoundWorld w → seat < 64
     → h < w.desk.settings.handles → PinStep seat h w r new → IsSoundWorld new

@@ -1,56 +1,207 @@
 -- No event changes the configuration.
-use Rattle.std.proofs.Common.{◌≡◌, ◌⊎◌, ℕ, List, refl, sym, ap, ◌∙◌, subst, inl, inr}
+use Rattle.std.proofs.Common.{◌≡◌, ◌⊎◌, ℕ, List, Option, None, Some, length, refl, sym, ap, ◌∙◌, subst, inl, inr}
 use Rattle.cb_types.specs.declared.config.Config.{Config}
 use Rattle.cb_types.specs.declared.job.Job.{Job}
-use Rattle.cb_types.specs.declared.job.Job.TheVariants.{Make, Read, Write, Free, Crash, Join}
+use Rattle.cb_types.specs.declared.job.Job.TheVariants.{Make, Read, Write, Free, Swap, Filter, Evict, Begin, Ship, Commit, Abort, Pair, Patch, Merge, Part, Compact, Rebuild, Crash, Join}
 use Rattle.cb_types.specs.declared.reply.Reply.{Reply}
 use Rattle.cb_types.specs.declared.reply.Reply.TheVariants as answer
 use Rattle.cb_world.specs.FarState.{FarState}
 use Rattle.cb_world.specs.Plain.{Words}
 use Rattle.cb_world.specs.World.{WorldState}
 use Rattle.cb_mutate.specs.MakeStep.{IsMakeStep}
+use Rattle.cb_mutate.specs.Steps.{with_seen}
+use Rattle.cb_evict.proofs.AfterEvict.{evict_settings}
+use Rattle.cb_swapin.proofs.SwapKeeps.{settings_stay}
 use Rattle.cb_core.specs.declared.event.Atomic.{Atomic}
 use Rattle.cb_core.specs.declared.event.Atomic.TheVariants.{Load, Pin, Unpin}
 use Rattle.cb_core.specs.declared.event.Event.{Event}
 use Rattle.cb_core.specs.declared.event.Event.TheVariants as event
+use Rattle.cb_core.specs.Parts.{Holding, NeverDeclined, NeverLacks, WithRoom, at_once, no_room, won, WhereItIs, near, declined, stays_far, brought, BringsIn, not_far, was_far, RoomStops, evicting, after, CallStops, far}
 use Rattle.cb_core.specs.Pinning.{PinStep, scope_full, refused, taken, UnpinStep, not_pinned, given}
-use Rattle.cb_core.specs.Step.{Works, TurnStep, worn, done, Step, Stops, StopWords}
+use Rattle.cb_core.specs.Step.{StillMake, StillRead, StillWrite, StillFree, StillFind, StillDecline, StillEvict, StillSwap, StillBring, StillWorks, StillMakeLacks, StillReadLacks, StillEvictLacks, StillSwapLacks, StillBringLacks, StillStops, TurnStep, worn, done, Step, Stops}
 use Rattle.cb_core.specs.Turned.{counted}
 use Rattle.cb_core.proofs.Changes.{read_leaves, write_leaves, free_leaves}
 
-settings : Words → Config
-settings x = x.settings
+-- the two have the same configuration
+abbrev Same : Holding Words → Holding Words → Type 0
+Same a b = b.desk.settings ≡ a.desk.settings
 
-works_settings : (x y : Words) (far new : FarState) (job : Job) (r : Reply) → Works x far job r y new
-    → y.settings ≡ x.settings
-works_settings x y far new (Make bytes) r step = go step
+-- so it is with all that is done by P
+abbrev Stay : {A : Type 0} → (Holding Words → A → Holding Words → Type 0) → Type 0
+Stay {A = A} P = (a b : Holding Words) (r : A) → P a r b → Same a b
+
+abbrev Rest : (Holding Words → Holding Words → Type 0) → Type 0
+Rest L = (a b : Holding Words) → L a b → Same a b
+
+same_as : (a b : Holding Words) → b ≡ a → Same a b
+same_as a b e = ap (λ (d : Holding Words). d.desk.settings) e
+
+words_same : (a b : Holding Words) → b.desk ≡ a.desk → Same a b
+words_same a b e = ap (λ (x : Words). x.settings) e
+
+-- ---- the parts one after another
+room_same : (P E : Holding Words → Reply → Holding Words → Type 0) → Stay P → Stay E
+    → Stay (WithRoom P E)
+room_same P E p e a b r (at_once o off) = p a b r o
+room_same P E p e a b r (no_room m refusal o v none is) = e m b refusal v ∙ p a m answer.NoFrame o
+room_same P E p e a b r (won m n id o v again off) =
+    p n b r again ∙ e m n (answer.Set id) v ∙ p a m answer.NoFrame o
+
+where_same : (P : Holding Words → Reply → Holding Words → Type 0)
+    (L : Holding Words → Option Reply → Holding Words → Type 0)
+    (E : Holding Words → Reply → Holding Words → Type 0) → Stay P → Stay L → Stay E
+    → Stay (WhereItIs P L E)
+where_same P L E p l e a b r (near o off) = p a b r o
+where_same P L E p l e a b r (declined m o d) = l m b (Some r) d ∙ p a m answer.NotHere o
+where_same P L E p l e a b r (stays_far m n o d v off) =
+    e n b r v ∙ l m n None d ∙ p a m answer.NotHere o
+where_same P L E p l e a b r (brought m n q f o d v again) =
+    p q b r again ∙ e n q (answer.Swapped f) v ∙ l m n None d ∙ p a m answer.NotHere o
+
+brings_same : (P E : Holding Words → Reply → Holding Words → Type 0) → Stay P → Stay E
+    → Stay (BringsIn P E)
+brings_same P E p e a b r (not_far o off) = p a b r o
+brings_same P E p e a b r (was_far m o v) = e m b r v ∙ p a m answer.NotHere o
+
+room_rest : (P : Holding Words → Reply → Holding Words → Type 0)
+    (L : Holding Words → Holding Words → Type 0)
+    (E : Holding Words → Reply → Holding Words → Type 0)
+    (M : Holding Words → Holding Words → Type 0) → Stay P → Rest L → Stay E → Rest M
+    → Rest (RoomStops P L E M)
+room_rest P L E M p l e k a b (at_once o) = l a b o
+room_rest P L E M p l e k a b (evicting m o v) = k m b v ∙ p a m answer.NoFrame o
+room_rest P L E M p l e k a b (after m n id o v w) =
+    l n b w ∙ e m n (answer.Set id) v ∙ p a m answer.NoFrame o
+
+call_rest : (P : Holding Words → Reply → Holding Words → Type 0)
+    (L : Holding Words → Holding Words → Type 0)
+    (S : Holding Words → Option Reply → Holding Words → Type 0)
+    (E : Holding Words → Reply → Holding Words → Type 0)
+    (M : Holding Words → Holding Words → Type 0) → Stay P → Rest L → Stay S → Stay E → Rest M
+    → Rest (CallStops P L S E M)
+call_rest P L S E M p l s e k a b (near o) = l a b o
+call_rest P L S E M p l s e k a b (far m n o d v) = k n b v ∙ s m n None d ∙ p a m answer.NotHere o
+call_rest P L S E M p l s e k a b (after m n q f o d v w) =
+    l q b w ∙ e n q (answer.Swapped f) v ∙ s m n None d ∙ p a m answer.NotHere o
+
+-- ---- each part
+make_same : (bytes : List ℕ) → Stay (StillMake bytes)
+make_same bytes a b r step = go step
   where
-    go : IsMakeStep x y far new bytes r → y.settings ≡ x.settings
-    go (inl (made, reply, e, same)) = ap (λ (z : Words). z.settings) e
-    go (inr (more, inl (crammed, reply, e, same))) = ap (λ (z : Words). z.settings) e
-    go (inr (more, inr (reply, z))) = ap (λ (z : Words). z.settings) z.left
-works_settings x y far new (Read handle) r step = elim (read_leaves x y handle.n r step.0) [
-  | inl e ↦ ap (λ (z : Words). z.settings) e
-  | inr e ↦ ap (λ (z : Words). z.settings) e
-]
-works_settings x y far new (Write handle at bytes) r step =
-    elim (write_leaves x y handle.n at bytes r step.0) [
-      | inl e ↦ ap (λ (z : Words). z.settings) e
-      | inr e ↦ ap (λ (z : Words). z.settings) e.1.1.left
-    ]
-works_settings x y far new (Free handle) r step =
-    elim (free_leaves x y far new handle.n r step) [
-      | inl e ↦ ap (λ (z : Words). z.settings) e.0
-      | inr e ↦ ap (λ (z : Words). z.settings) e.1.1.left
-    ]
-works_settings x y far new (Crash node) r step = ap (λ (z : Words). z.settings) step.0
-works_settings x y far new (Join node) r step = ap (λ (z : Words). z.settings) step.0
+    go : IsMakeStep a.desk b.desk a.far b.far bytes r → Same a b
+    go (inl (made, reply, e, same)) = words_same a b e
+    go (inr (more, inl (crammed, reply, e, same))) = words_same a b e
+    go (inr (more, inr (reply, z))) = ap (λ (x : Words). x.settings) z.left
 
+read_same : (h : ℕ) → Stay (StillRead h)
+read_same h a b r step = elim (read_leaves a.desk b.desk h r step.0) [
+  | inl e ↦ words_same a b e
+  | inr e ↦ ap (λ (x : Words). x.settings) e
+]
+
+write_same : (h at : ℕ) (bytes : List ℕ) → Stay (StillWrite h at bytes)
+write_same h at bytes a b r step = elim (write_leaves a.desk b.desk h at bytes r step.0) [
+  | inl e ↦ words_same a b e
+  | inr e ↦ ap (λ (x : Words). x.settings) e.1.1.left
+]
+
+free_same : (h : ℕ) → Stay (StillFree h)
+free_same h a b r step = elim (free_leaves a.desk b.desk a.far b.far h r step) [
+  | inl e ↦ words_same a b e.0
+  | inr e ↦ ap (λ (x : Words). x.settings) e.1.1.left
+]
+
+find_same : (h : ℕ) → Stay (StillFind h)
+find_same h a b r step = same_as a b step.1
+
+never_same : Stay NeverDeclined
+never_same a b r step = same_as a b step.1
+
+decline_same : (h at count : ℕ) → Stay (StillDecline h at count)
+decline_same h at count a b r step = same_as a b step.1
+
+evict_same : Stay StillEvict
+evict_same a b r step = evict_settings a.desk b.desk a.far b.far r step.0
+
+swap_same : (h : ℕ) → Stay (StillSwap h)
+swap_same h a b r (home, at, step, hold) =
+    settings_stay a.desk b.desk a.far b.far home.set home.position r step
+
+bring_same : (h : ℕ) → Stay (StillBring h)
+bring_same h = room_same (StillSwap h) StillEvict (swap_same h) evict_same
+
+-- ---- a job, and one that found no memory
+works_settings : (job : Job) (a b : Holding Words) (r : Reply) → StillWorks job a r b → Same a b
+works_settings (Make bytes) a b r step =
+    room_same (StillMake bytes) StillEvict (make_same bytes) evict_same a b r step
+works_settings (Read handle) a b r step = where_same (StillRead handle.n) NeverDeclined
+    (StillBring handle.n) (read_same handle.n) never_same (bring_same handle.n) a b r step
+works_settings (Write handle at bytes) a b r step = where_same (StillWrite handle.n at bytes)
+    (StillDecline handle.n at (length bytes)) (StillBring handle.n) (write_same handle.n at bytes)
+    (decline_same handle.n at (length bytes)) (bring_same handle.n) a b r step
+works_settings (Free handle) a b r step = free_same handle.n a b r step
+works_settings (Swap handle) a b r step = brings_same (StillFind handle.n) (StillBring handle.n)
+    (find_same handle.n) (bring_same handle.n) a b r step
+works_settings Evict a b r step = evict_same a b r step
+works_settings (Crash node) a b r step = words_same a b step.0
+works_settings (Join node) a b r step = words_same a b step.0
+works_settings (Filter handle) a b r step = absurd step
+works_settings Begin a b r step = absurd step
+works_settings Ship a b r step = absurd step
+works_settings Commit a b r step = absurd step
+works_settings Abort a b r step = absurd step
+works_settings Pair a b r step = absurd step
+works_settings Patch a b r step = absurd step
+works_settings Merge a b r step = absurd step
+works_settings Part a b r step = absurd step
+works_settings Compact a b r step = absurd step
+works_settings Rebuild a b r step = absurd step
+
+read_rest : (h : ℕ) → Rest (StillReadLacks h)
+read_rest h a b (same, (v, bytes, step)) = elim (read_leaves a.desk b.desk h (answer.Bytes v bytes) step) [
+  | inl e ↦ words_same a b e
+  | inr e ↦ ap (λ (x : Words). x.settings) e
+]
+
+bring_rest : (h : ℕ) → Rest (StillBringLacks h)
+bring_rest h = room_rest (StillSwap h) (StillSwapLacks h) StillEvict StillEvictLacks (swap_same h)
+    (λ a b step. words_same a b step.0) evict_same same_as
+
+stops_settings : (job : Job) (a b : Holding Words) → StillStops job a b → Same a b
+stops_settings (Make bytes) a b stops = room_rest (StillMake bytes) (StillMakeLacks bytes) StillEvict
+    StillEvictLacks (make_same bytes) (λ d e step. same_as d e step.0) evict_same same_as a b stops
+stops_settings (Read handle) a b stops = call_rest (StillRead handle.n) (StillReadLacks handle.n)
+    NeverDeclined (StillBring handle.n) (StillBringLacks handle.n) (read_same handle.n)
+    (read_rest handle.n) never_same (bring_same handle.n) (bring_rest handle.n) a b stops
+stops_settings (Write handle at bytes) a b stops = call_rest (StillWrite handle.n at bytes) NeverLacks
+    (StillDecline handle.n at (length bytes)) (StillBring handle.n) (StillBringLacks handle.n)
+    (write_same handle.n at bytes) (λ d e none. absurd none)
+    (decline_same handle.n at (length bytes)) (bring_same handle.n) (bring_rest handle.n) a b stops
+stops_settings (Swap handle) a b (m, found, stops) =
+    bring_rest handle.n m b stops ∙ find_same handle.n a m answer.NotHere found
+stops_settings Evict a b stops = same_as a b stops
+stops_settings (Crash node) a b stops = same_as a b stops.0
+stops_settings (Free handle) a b stops = absurd stops
+stops_settings (Filter handle) a b stops = absurd stops
+stops_settings Begin a b stops = absurd stops
+stops_settings Ship a b stops = absurd stops
+stops_settings Commit a b stops = absurd stops
+stops_settings Abort a b stops = absurd stops
+stops_settings Pair a b stops = absurd stops
+stops_settings Patch a b stops = absurd stops
+stops_settings Merge a b stops = absurd stops
+stops_settings Part a b stops = absurd stops
+stops_settings Compact a b stops = absurd stops
+stops_settings Rebuild a b stops = absurd stops
+stops_settings (Join node) a b stops = absurd stops
+
+-- ---- events
 turn_settings : (w new : WorldState) (job : Job) (r : Reply) → TurnStep job w r new
     → new.desk.settings ≡ w.desk.settings
 turn_settings w new job r (worn end reply same) = ap (λ (v : WorldState). v.desk.settings) same
 turn_settings w new job r (done q few works reply seats) =
-    works_settings w.desk new.desk (counted w.far job) new.far job q works
+    works_settings job (record { desk = w.desk; far = counted w.far job })
+    (record { desk = new.desk; far = new.far }) q works
 
 pin_settings : (w new : WorldState) (seat h : ℕ) (r : Reply) → PinStep seat h w r new
     → new.desk.settings ≡ w.desk.settings
@@ -73,18 +224,9 @@ step_settings w new (event.Step seat (Load handle)) r step =
 step_settings w new (event.Step seat (Pin handle)) r step = pin_settings w new seat handle.n r step
 step_settings w new (event.Step seat (Unpin handle)) r step = unpin_settings w new seat handle.n r step
 
-stop_words : (x y : Words) (job : Job) → StopWords x job y → y.settings ≡ x.settings
-stop_words x y (Make bytes) e = ap (λ (z : Words). z.settings) e
-stop_words x y (Read handle) e = elim (read_leaves x y handle.n (answer.Bytes e.0 e.1) e.2) [
-  | inl q ↦ ap (λ (z : Words). z.settings) q
-  | inr q ↦ ap (λ (z : Words). z.settings) q
-]
-stop_words x y (Write handle at bytes) e = ap (λ (z : Words). z.settings) e
-stop_words x y (Free handle) e = ap (λ (z : Words). z.settings) e
-stop_words x y (Crash node) e = ap (λ (z : Words). z.settings) e
-stop_words x y (Join node) e = ap (λ (z : Words). z.settings) e
-
 pub stop_settings : (w new : WorldState) (e : Event) → Stops w e new
     → new.desk.settings ≡ w.desk.settings
 stop_settings w new (event.Step seat atomic) stops = absurd stops
-stop_settings w new (event.Turn seat job) stops = stop_words w.desk new.desk job stops.3
+stop_settings w new (event.Turn seat job) stops =
+    stops_settings job (record { desk = w.desk; far = counted w.far job })
+    (record { desk = new.desk; far = new.far }) stops.2

@@ -1,12 +1,17 @@
-ghost use Rattle.std.specs.Prelude.{◌≡◌, ◌<◌, ◌≤◌, ◌^◌, ℕ, All, IfSome, Some, length};
+ghost use Rattle.std.specs.Prelude.{◌≡◌, ◌<◌, ◌≤◌, ◌^◌, ◌&&◌, ℕ, All, IfSome, Some, length, not};
+ghost use Rattle.std.specs.List.{count_by, range_with_len};
+ghost use Rattle.cb_evict.specs.Candidates.{is_among};
+ghost use Rattle.cb_evict.specs.EvictStep.{is_loose, is_slot_loose};
 ghost use Rattle.cb_span.specs.Contents.{Contents};
+ghost use Rattle.cb_world.specs.Choices.{room_count};
 ghost use Rattle.cb_world.specs.FarState.{span_in};
-ghost use Rattle.cb_core.specs.Room.{is_loose, is_slot_loose, loose_count};
+ghost use Rattle.cb_world.specs.Placed.{leaving_frames};
+ghost use Rattle.cb_core.specs.Room.{is_frame_loose, loose_count};
 
 use cb_ptr::{State, unpack};
 use cb_span::Span;
 use cb_types::Handle;
-use cb_world::{Far, PlainDesk, Spans};
+use cb_world::{Desk, Far, PlainDesk, Spans, leaving_frames, nodes_with_room};
 
 /// Whether the object in a slot is neither pinned nor claimed; so it is where there is none.
 fn is_slot_loose(desk: &PlainDesk, slot: Option<u32>) -> bool
@@ -33,40 +38,60 @@ fn is_span_loose(desk: &PlainDesk, span: &Span) -> bool
     true
 }
 
-/// How many spans are loose: none of their objects is pinned or claimed.
-pub(crate) fn loose_spans(desk: &PlainDesk, far: &Far) -> u32
-    requires few { length far.now.spans < 2 ^ 32 }
-    requires handles { (f : ℕ) (span : Contents) → span_in far.now.spans f ≡ Some span
-        → All (λ slot. IfSome slot (λ h. h < desk.now.settings.handles)) span.slots }
-    ensures { result ≡ loose_count desk.now far.now.spans }
+/// Whether the frame is one of these.
+fn is_among(frames: &[u32], frame: u32) -> bool
+    ensures { result ≡ is_among frames.now frame }
 {
-    loose_among(desk, &far.spans)
+    frames.iter().any(|other| *other == frame)
 }
 
-/// How many of these spans are loose.
-fn loose_among(desk: &PlainDesk, spans: &Spans) -> u32
+/// Whether the frame holds a span none of whose objects is pinned or claimed, and which is not
+/// leaving.
+fn is_frame_loose(desk: &PlainDesk, spans: &Spans, leaving: &[u32], frame: u32) -> bool
+    requires handles { (span : Contents) → span_in spans.now frame ≡ Some span
+        → All (λ slot. IfSome slot (λ h. h < desk.now.settings.handles)) span.slots }
+    ensures { result ≡ (is_loose desk.now (span_in spans.now frame) && not (is_among leaving.now frame)) }
+{
+    match spans.get(frame) {
+        Some(span) => is_span_loose(desk, span) && !is_among(leaving, frame),
+        None => false,
+    }
+}
+
+/// How many of these spans are loose and not leaving.
+fn loose_among(desk: &PlainDesk, spans: &Spans, leaving: &[u32]) -> u32
     requires few { length spans.now < 2 ^ 32 }
     requires handles { (f : ℕ) (span : Contents) → span_in spans.now f ≡ Some span
         → All (λ slot. IfSome slot (λ h. h < desk.now.settings.handles)) span.slots }
-    ensures { result ≡ loose_count desk.now spans.now }
+    ensures { result ≡ count_by
+        (λ f. is_loose desk.now (span_in spans.now f) && not (is_among leaving.now f))
+        (range_with_len 0 (length spans.now)) }
 {
     let mut count = 0;
     for frame in 0..spans.count() {
-        if is_frame_loose(desk, spans, frame) {
+        if is_frame_loose(desk, spans, leaving, frame) {
             count += 1;
         }
     }
     count
 }
 
-/// Whether the frame holds a span none of whose objects is pinned or claimed.
-fn is_frame_loose(desk: &PlainDesk, spans: &Spans, frame: u32) -> bool
-    requires handles { (span : Contents) → span_in spans.now frame ≡ Some span
+/// How many spans are loose: none of their objects is pinned or claimed, and they are not leaving.
+/// Takes no memory.
+pub(crate) fn loose_spans(desk: &PlainDesk, far: &Far) -> u32
+    requires few { length far.now.spans < 2 ^ 32 }
+    requires handles { (f : ℕ) (span : Contents) → span_in far.now.spans f ≡ Some span
         → All (λ slot. IfSome slot (λ h. h < desk.now.settings.handles)) span.slots }
-    ensures { result ≡ is_loose desk.now (span_in spans.now frame) }
+    ensures { result ≡ loose_count desk.now far.now }
 {
-    match spans.get(frame) {
-        Some(span) => is_span_loose(desk, span),
-        None => false,
-    }
+    loose_among(desk, &far.spans, leaving_frames(&far.leaving))
+}
+
+/// How many nodes have room for a row more. Takes no memory.
+pub(crate) fn open_nodes(far: &Far) -> u32
+    requires counted { length far.now.nodes.nodes ≡ length far.now.members.nodes }
+    requires few { length far.now.nodes.nodes ≤ 256 }
+    ensures { result ≡ room_count far.now.nodes far.now.members }
+{
+    nodes_with_room(&far.nodes, &far.members)
 }

@@ -7,15 +7,15 @@ ghost use Rattle.cb_core.specs.Step.{AtomicStep, Step, Stops, TurnStep};
 
 use crate::event::{Atomic, Event};
 use crate::pinning::{pin, unpin};
-use crate::room::loose_spans;
+use crate::room::{loose_spans, open_nodes};
 use crate::turning::turn;
 use cb_types::{Job, NoMemory, Reply};
 use cb_world::{Desk, World};
 use std::alloc::Global;
 
 /// One event: a seat takes an atomic step, or makes a turn. The world stays sound. Where there is
-/// no memory, the turn is counted, and a word that was to be read may be hot; nothing else has
-/// changed.
+/// no memory, the turn is counted, and what its parts did before stays: a span may have left or
+/// come in.
 pub fn step(alloc: Global, world: &mut World, event: &Event) -> Result<Reply, NoMemory>
     requires sound { IsSoundWorld world.old }
     requires event { IsEvent world.old.desk.settings event.now }
@@ -69,7 +69,7 @@ fn with_room(world: &World, reply: Reply) -> Reply
         Reply::NoFrame => Reply::NoRoom {
             frames: world.desk.config().frames,
             loose: loose_spans(&world.desk, &world.far),
-            nodes: 0,
+            nodes: open_nodes(&world.far),
         },
         reply => reply,
     }

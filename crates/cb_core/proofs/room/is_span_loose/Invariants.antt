@@ -1,6 +1,6 @@
 use Rattle.std.proofs.Common.{◌≡◌, take, true}
 use Rattle.std.specs.List.{list_all}
-use Rattle.cb_core.specs.Room.{is_slot_loose}
+use Rattle.cb_evict.specs.EvictStep.{is_slot_loose}
 use Rattle.cb_core.proofs.room.is_span_loose.Given as goal
 
 -- no object so far is pinned or claimed

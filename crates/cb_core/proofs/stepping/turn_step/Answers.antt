@@ -1,9 +1,10 @@
-use Rattle.std.proofs.Common.{refl, sym, subst}
+use Rattle.std.proofs.Common.{sym, subst}
 use Rattle.cb_types.specs.declared.reply.Reply.{Reply}
 use Rattle.cb_world.specs.World.{WorldState, IsSoundWorld}
 use Rattle.cb_core.specs.Jobs.{IsJob}
-use Rattle.cb_core.specs.Step.{TurnStep}
-use Rattle.cb_core.proofs.WorldKept.{turn_works, with_job, turn_stops, StopsAt}
+use Rattle.cb_core.specs.declared.event.Event.TheVariants as event
+use Rattle.cb_core.specs.Step.{TurnStep, Stops}
+use Rattle.cb_core.proofs.WorldKept.{turn_works, with_job, turn_stops}
 use Rattle.cb_core.proofs.stepping.turn_step.Goals as goal
 
 pub with_room-requires : goal.with_room-requires
@@ -52,7 +53,6 @@ returns-in-Err-clause-error c =
     let w : WorldState =
     record { desk = c.world.inside.desk; far = c.world.inside.far; seats = c.world.inside.seats } in
     let sound : IsSoundWorld w = subst IsSoundWorld (sym c.world.view_is) c.requires.sound in
-    let stopped = c.in-Err.ensures.error in
-    let z = turn_stops w c.args.job.now c.turn.new.desk c.turn.new.far sound stopped in
-    subst (λ (v : WorldState). StopsAt v c.args.job.now c.turn.new.desk c.turn.new.far
-    c.world.inside.seats) c.world.view_is (stopped.few, stopped.state, refl, z.words, stopped.lacks)
+    let z = turn_stops w c.args.job.now c.turn.new.desk c.turn.new.far sound c.in-Err.ensures.error in
+    subst (λ (v : WorldState). Stops v (event.Turn 0 c.args.job.now)
+    (with_job w c.turn.new.desk c.turn.new.far)) c.world.view_is z.stops

@@ -1,0 +1,190 @@
+-- What a part of a turn leaves: all is known, and the numbers that are drawn rose by little.
+use Rattle.std.proofs.Common.{◌≡◌, ℕ, ◌+◌, ◌*◌, ◌^◌, ◌<◌, ◌≤◌, List, length, get_or, refl, ap, ◌∙◌, sym, subst, arith, length-set}
+use Rattle.std.specs.List.{sum_by}
+use Rattle.std.proofs.lemmas.List.Sums.{sum_by-set}
+use Rattle.cb_types.specs.declared.config.Config.{Config}
+use Rattle.cb_world.specs.declared.shown.Shown.{Shown}
+use Rattle.cb_world.specs.Counts.{CountsState, with_turn}
+use Rattle.cb_world.specs.FarState.{FarState}
+use Rattle.cb_world.specs.Plain.{Words}
+use Rattle.cb_world.specs.Seats.{SeatState}
+use Rattle.cb_world.specs.World.{IsKnown, ArePinned, AreCounted, IsConfigured}
+use Rattle.cb_core.specs.Parts.{Holding}
+
+-- all is known of a holding with this configuration, and its pins are those of these seats
+pub record IsGood (c : Config) (seats : List SeatState) (a : Holding Words) : Type 0 where
+  pub settings : a.desk.settings ≡ c
+  pub configured : IsConfigured c a.far
+  pub shown : Shown
+  pub known : IsKnown a.desk a.far shown
+  pub pinned : ArePinned a.desk seats
+
+-- the turns stay, and each number that is drawn or rises did so by at most n
+pub record Rises (n : ℕ) (far new : FarState) : Type 0 where
+  pub turns : new.counts.turns ≡ far.counts.turns
+  pub by_job : new.counts.by_job ≡ far.counts.by_job
+  pub sets : new.counts.sets ≤ far.counts.sets + n
+  pub keys : new.counts.keys ≤ far.counts.keys + n
+  pub epoch : new.members.epoch ≤ far.members.epoch + n
+  pub given : new.nodes.given ≤ far.nodes.given + n
+
+rises_then : (n m k : ℕ) (far mid new : FarState) → n + m ≤ k → Rises n far mid → Rises m mid new
+    → Rises k far new
+rises_then n m k far mid new most p q =
+    let a = p.sets in let b = q.sets in let c = p.keys in let d = q.keys in
+    let e = p.epoch in let f = q.epoch in let g = p.given in let h = q.given in record {
+      turns = q.turns ∙ p.turns;
+      by_job = q.by_job ∙ p.by_job;
+      sets = omega (arith, a, b, most);
+      keys = omega (arith, c, d, most);
+      epoch = omega (arith, e, f, most);
+      given = omega (arith, g, h, most);
+    }
+
+pub rises_more : (n k : ℕ) (far new : FarState) → n ≤ k → Rises n far new → Rises k far new
+rises_more n k far new most p =
+    let a = p.sets in let c = p.keys in let e = p.epoch in let g = p.given in record {
+      turns = p.turns;
+      by_job = p.by_job;
+      sets = omega (arith, a, most);
+      keys = omega (arith, c, most);
+      epoch = omega (arith, e, most);
+      given = omega (arith, g, most);
+    }
+
+-- what a part comes to: this holds of it, all is known, and the numbers rose by at most n
+pub record Arrives (c : Config) (seats : List SeatState) (n : ℕ) (a b : Holding Words) (Z : Type 0)
+    : Type 0 where
+  pub is : Z
+  pub good : IsGood c seats b
+  pub rises : Rises n a.far b.far
+
+-- each part that is P comes to Q, where all was known
+abbrev pub Carries : {A : Type 0} → Config → List SeatState → ℕ
+    → (Holding Words → A → Holding Words → Type 0) → (Holding Words → A → Holding Words → Type 0)
+    → Type 0
+Carries {A = A} c seats n P Q =
+    (a b : Holding Words) (r : A) → IsGood c seats a → P a r b → Arrives c seats n a b (Q a r b)
+
+-- so does each that found no memory, where C holds
+abbrev pub CarriesLack : Config → List SeatState → ℕ → (Holding Words → Type 0)
+    → (Holding Words → Holding Words → Type 0) → (Holding Words → Holding Words → Type 0) → Type 0
+CarriesLack c seats n C L M =
+    (a b : Holding Words) → IsGood c seats a → C a → L a b → Arrives c seats n a b (M a b)
+
+-- one after another
+pub arrives_then : (c : Config) (seats : List SeatState) (n m k : ℕ) (a b d : Holding Words)
+    (Y Z W : Type 0) → n + m ≤ k → Arrives c seats n a b Y → Arrives c seats m b d Z → W
+    → Arrives c seats k a d W
+arrives_then c seats n m k a b d Y Z W most p q w = record {
+  is = w;
+  good = q.good;
+  rises = rises_then n m k a.far b.far d.far most p.rises q.rises;
+}
+
+pub arrives_more : (c : Config) (seats : List SeatState) (n k : ℕ) (a b : Holding Words)
+    (Z W : Type 0) → n ≤ k → Arrives c seats n a b Z → W → Arrives c seats k a b W
+arrives_more c seats n k a b Z W most p w = record {
+  is = w;
+  good = p.good;
+  rises = rises_more n k a.far b.far most p.rises;
+}
+
+-- nothing changed
+pub arrives_same : (c : Config) (seats : List SeatState) (n : ℕ) (a b : Holding Words) (Z : Type 0)
+    → IsGood c seats a → b ≡ a → Z → Arrives c seats n a b Z
+arrives_same c seats n a b Z good same z = record {
+  is = z;
+  good = subst (IsGood c seats) (sym same) good;
+  rises = subst (λ (d : Holding Words). Rises n a.far d.far) (sym same) (record {
+    turns = refl;
+    by_job = refl;
+    sets = omega arith;
+    keys = omega arith;
+    epoch = omega arith;
+    given = omega arith;
+  });
+}
+
+-- a far state that differs in frames, spans, homes, sets and rows, and in the epoch by one at most
+pub record IsLike (far new : FarState) : Type 0 where
+  pub spans : length new.spans ≡ length far.spans
+  pub homes : length new.homes ≡ length far.homes
+  pub nodes : length new.nodes.nodes ≡ length far.nodes.nodes
+  pub counts : new.counts ≡ far.counts
+  pub epoch : new.members.epoch ≤ far.members.epoch + 1
+  pub given : new.nodes.given ≡ far.nodes.given
+
+pub like_same : (far : FarState) → IsLike far far
+like_same far = record {
+  spans = refl;
+  homes = refl;
+  nodes = refl;
+  counts = refl;
+  epoch = omega arith;
+  given = refl;
+}
+
+like_rises : (far new : FarState) → IsLike far new → Rises 1 far new
+like_rises far new like =
+    let sets : new.counts.sets ≡ far.counts.sets = ap (λ (x : CountsState). x.sets) like.counts in
+    let keys : new.counts.keys ≡ far.counts.keys = ap (λ (x : CountsState). x.keys) like.counts in
+    let given = like.given in record {
+      turns = ap (λ (x : CountsState). x.turns) like.counts;
+      by_job = ap (λ (x : CountsState). x.by_job) like.counts;
+      sets = omega (arith, sets);
+      keys = omega (arith, keys);
+      epoch = like.epoch;
+      given = omega (arith, given);
+    }
+
+-- a part that keeps the pins and changes the far state little
+pub arrives_like : (c : Config) (seats : List SeatState) (a b : Holding Words) (t : Shown)
+    (Z : Type 0) → IsGood c seats a → IsLike a.far b.far → IsKnown b.desk b.far t
+    → b.desk.settings ≡ a.desk.settings → ArePinned b.desk seats → Z → Arrives c seats 1 a b Z
+arrives_like c seats a b t Z good like known settings pinned z = record {
+  is = z;
+  good = record {
+    settings = settings ∙ good.settings;
+    configured = record {
+      frames = like.spans ∙ good.configured.frames;
+      homes = like.homes ∙ good.configured.homes;
+      nodes = like.nodes ∙ good.configured.nodes;
+    };
+    shown = t;
+    known = known;
+    pinned = pinned;
+  };
+  rises = like_rises a.far b.far like;
+}
+
+-- what was counted, after a turn in which the numbers rose by little
+pub counted_rises : (far mid new : FarState) (kind : ℕ) → AreCounted far → far.counts.turns < 2 ^ 40
+    → kind < 19 → mid ≡ record far { counts = with_turn far.counts kind } → Rises (2 ^ 20) mid new
+    → AreCounted new
+counted_rises far mid new kind c few below is rises =
+    let old = far.counts in
+    let lt : kind < length old.by_job = (let n = c.kinds in omega (arith, n, below)) in
+    let sum = sum_by-set (λ (n : ℕ). n) old.by_job kind (get_or old.by_job kind 0 + 1) 0 lt in
+    let jobs = c.jobs in let sets = c.sets in let keys = c.keys in let e = c.epoch in let g = c.given in
+    let by_job : new.counts.by_job ≡ (with_turn old kind).by_job =
+    rises.by_job ∙ ap (λ (f : FarState). f.counts.by_job) is in
+    let turns : new.counts.turns ≡ old.turns + 1 =
+    rises.turns ∙ ap (λ (f : FarState). f.counts.turns) is in
+    let ms : mid.counts.sets ≡ old.sets = ap (λ (f : FarState). f.counts.sets) is in
+    let mk : mid.counts.keys ≡ old.keys = ap (λ (f : FarState). f.counts.keys) is in
+    let me : mid.members.epoch ≡ far.members.epoch = ap (λ (f : FarState). f.members.epoch) is in
+    let mg : mid.nodes.given ≡ far.nodes.given = ap (λ (f : FarState). f.nodes.given) is in
+    let rs = rises.sets in let rk = rises.keys in let re = rises.epoch in let rg = rises.given in
+    record {
+      kinds = ap (λ (l : List ℕ). length l) by_job ∙ length-set old.by_job kind _ ∙ c.kinds;
+      jobs = ap (sum_by (λ (n : ℕ). n)) by_job
+          ∙ (let total : sum_by (λ (n : ℕ). n) (with_turn old kind).by_job ≡ old.turns + 1 =
+          omega (arith, sum, jobs) in total)
+          ∙ sym turns;
+      turns = omega (arith, turns, few);
+      sets = omega (arith, turns, sets, ms, rs);
+      keys = omega (arith, turns, keys, mk, rk);
+      epoch = omega (arith, turns, e, me, re);
+      given = omega (arith, turns, g, mg, rg);
+    }

@@ -1,0 +1,416 @@
+-- Each part of a turn over a still desk is a step, and leaves all known.
+use Rattle.std.proofs.Common.{◌≡◌, ◌⊎◌, ℕ, zero, suc, Bool, true, false, ◌+◌, ◌^◌, ◌<◌, ◌≤◌, List, [], length, Option, None, Some, refl, sym, ap, ◌∙◌, subst, arith, inl, inr, length-set}
+use Rattle.std.proofs.lemmas.Bool.{cases_Bool}
+use Rattle.cb_ptr.specs.declared.word.State.{State}
+use Rattle.cb_ptr.specs.declared.word.State.TheVariants as state
+use Rattle.cb_ptr.specs.Word.{state_of, len_of, pins_of}
+use Rattle.cb_set.specs.SetState.{SetState}
+use Rattle.cb_types.specs.declared.config.Config.{Config}
+use Rattle.cb_types.specs.Config.{IsAccepted}
+use Rattle.cb_types.specs.declared.handle.SetId.{SetId}
+use Rattle.cb_types.specs.declared.reply.Reply.{Reply}
+use Rattle.cb_types.specs.declared.reply.Reply.TheVariants as answer
+use Rattle.cb_world.specs.declared.event.Event.{Event}
+use Rattle.cb_member.specs.Membership.{Membership}
+use Rattle.cb_world.specs.declared.homes.Home.{Home}
+use Rattle.cb_world.specs.declared.object.Object.{Object}
+use Rattle.cb_world.specs.declared.shown.Shown.{Shown}
+use Rattle.cb_world.specs.Counts.{CountsState}
+use Rattle.cb_world.specs.FarState.{FarState}
+use Rattle.cb_world.specs.Homes.{home_at}
+use Rattle.cb_world.specs.LeftOver.{set_without}
+use Rattle.cb_world.specs.Looks.{IsFound, IsTold}
+use Rattle.cb_world.specs.Now.{now, is_gone}
+use Rattle.cb_world.specs.Placed.{place_in}
+use Rattle.cb_world.specs.Plain.{Words, Plain, Shows, IsSized}
+use Rattle.cb_world.specs.Seats.{SeatState}
+use Rattle.cb_world.specs.Sets.{set_in}
+use Rattle.cb_world.specs.Shown.{Fits, object_at, never}
+use Rattle.cb_world.specs.Still.{IsStill}
+use Rattle.cb_world.specs.StillWords.{stamp_at}
+use Rattle.cb_world.specs.World.{IsKnown, ArePinned, AreCounted, IsConfigured, word_at}
+use Rattle.cb_world.proofs.Exact.{found_exact}
+use Rattle.cb_world.proofs.SetsLeft.{left_count, left_given}
+use Rattle.cb_world.proofs.StillPerforms.{PerformsStill, RunsStill, runs_still, known_then, stays_still}
+use Rattle.cb_world.proofs.StillWords.{told_exact}
+use Rattle.cb_mutate.specs.Answered.{Answered}
+use Rattle.cb_mutate.specs.FreeRule.{IsReleased, IsRemoved, LeavesPlace, FreeRule, FreeEffect}
+use Rattle.cb_mutate.specs.MakeRule.{MakeRule, MakeEffect, NeedsNewSpan, new_word}
+use Rattle.cb_mutate.specs.MakeStep.{IsMakeStep, with_new}
+use Rattle.cb_mutate.specs.ReadRule.{ReadRule, ReadEffect, HasSeen, IsShown}
+use Rattle.cb_mutate.specs.Steps.{IsReadStep, with_seen, IsWriteStep, IsOverwritten, IsFreeStep, IsTakenOut}
+use Rattle.cb_mutate.specs.StillReplies.{reply_as}
+use Rattle.cb_mutate.specs.WriteRule.{WriteRule, WriteEffect}
+use Rattle.cb_mutate.proofs.FreeStep.{free_step}
+use Rattle.cb_mutate.proofs.MakeStep.{make_step}
+use Rattle.cb_mutate.proofs.ReadStep.{read_step, failed_step}
+use Rattle.cb_mutate.proofs.Stepping.{is_exact, Comes, comes, reply_comes}
+use Rattle.cb_mutate.proofs.WriteStep.{write_step}
+use Rattle.cb_evict.specs.Evicting.{TouchesSpans}
+use Rattle.cb_evict.specs.EvictEffect.{EvictEffect}
+use Rattle.cb_evict.specs.EvictRule.{EvictRule}
+use Rattle.cb_evict.specs.EvictStep.{IsEvictStep}
+use Rattle.cb_evict.proofs.AfterEvict.{evict_settings, evict_configured, evict_seats, evict_keeps, evict_sets, evict_keys, evict_given}
+use Rattle.cb_evict.proofs.EvictStep.{evict_step, evict_stopped}
+use Rattle.cb_swapin.specs.Fetching.{far_given}
+use Rattle.cb_swapin.specs.SwapEffect.{SwapEffect}
+use Rattle.cb_swapin.specs.SwapRule.{SwapRule}
+use Rattle.cb_swapin.proofs.FarHomes.{far_home, given_known}
+use Rattle.cb_swapin.proofs.SwapKeeps.{keeps_far, given_most, settings_stay}
+use Rattle.cb_swapin.proofs.SwapStep.{swap_step}
+use Rattle.cb_swapin.proofs.SwapWorld.{configured_kept, pinned_kept}
+use Rattle.cb_core.specs.Declining.{write_refusal}
+use Rattle.cb_core.specs.Parts.{Holding, NeverDeclined}
+use Rattle.cb_core.specs.Step.{StillMake, StillRead, StillWrite, StillFree, StillFind, StillDecline, StillEvict, StillSwap, StillMakeLacks, StillReadLacks, StillEvictLacks, StillSwapLacks}
+use Rattle.cb_core.specs.Turned.{Makes, Reads, Writes, Frees, Finds, Declines, Evicts, Swaps, MakeLacks, ReadLacks, EvictLacks, SwapLacks, IsDeclined, IsGiven}
+use Rattle.cb_core.proofs.Changes.{MayGo, read_leaves, write_leaves, free_leaves}
+use Rattle.cb_core.proofs.KeptParts.{IsGood, Rises, Arrives, Carries, CarriesLack, arrives_same, arrives_like, IsLike, like_same}
+use Rattle.cb_core.proofs.KeptPins.{seen_pinned, written_pinned, freed_pinned, new_pinned, no_pins}
+
+-- what the still desk runs and shows
+abbrev pub Ran : Words → List Event → Words → Type 0
+Ran x es y = Plain x es y × (IsSized x → IsSized y)
+
+abbrev pub Tells : Words → Shown → Type 0
+Tells x s = IsSized x × Shows x s
+
+-- both the words and the far state stay
+pub both_same : (a b : Holding Words) → b.desk ≡ a.desk → b.far ≡ a.far → b ≡ a
+both_same a b words far = λ i. record { desk = words i; far = far i }
+
+-- an operation that leaves the far state
+without_far : (x y : Words) (far new : FarState) (rules : List Event → Type 0)
+    (does : List Event → Shown → Shown → Type 0)
+    → PerformsStill x y far new (λ es. (new ≡ far) × rules es) does
+    → PerformsStill x y far new rules does
+without_far x y far new rules does p = record {
+  events = p.events;
+  ran = p.ran;
+  looks_first = p.looks_first;
+  rule = p.rule.1;
+  allowed = p.allowed;
+  sound_after = p.sound_after;
+  effect = p.effect;
+}
+
+-- ---- the calls on objects in local memory
+read_kept : (c : Config) (seats : List SeatState) (h : ℕ) (a b : Holding Words) (r : Reply)
+    (t : Shown) (Z : Type 0) → IsGood c seats a → b.far ≡ a.far → IsReadStep a.desk b.desk h r
+    → IsKnown b.desk b.far t → Z → Arrives c seats 1 a b Z
+read_kept c seats h a b r t Z good same step known z =
+    go (read_leaves a.desk b.desk h r step)
+  where
+    like : IsLike a.far b.far
+    like = subst (IsLike a.far) (sym same) (like_same a.far)
+
+    go : (b.desk ≡ a.desk) ⊎ (b.desk ≡ with_seen a.desk h) → Arrives c seats 1 a b Z
+    go (inl e) = arrives_like c seats a b t Z good like known (ap (λ (x : Words). x.settings) e)
+        (subst (λ (x : Words). ArePinned x seats) (sym e) good.pinned) z
+    go (inr e) = arrives_like c seats a b t Z good like known (ap (λ (x : Words). x.settings) e)
+        (subst (λ (x : Words). ArePinned x seats) (sym e) (seen_pinned a.desk seats h good.pinned)) z
+
+pub read_part : (c : Config) (seats : List SeatState) (h : ℕ)
+    → Carries c seats 1 (Reads Ran Tells h) (StillRead h)
+read_part c seats h a b r good p =
+    let q = without_far a.desk b.desk a.far b.far (ReadRule h r) (ReadEffect h r) p in
+    let z = read_step a.desk b.desk a.far b.far good.shown h r good.known q in
+    read_kept c seats h a b r _ (StillRead h a r b) good p.rule.0 z.0 z.1 (z.0, p.rule.0)
+
+pub write_part : (c : Config) (seats : List SeatState) (h at : ℕ) (bytes : List ℕ)
+    → Carries c seats 1 (Writes Ran Tells h at bytes) (StillWrite h at bytes)
+write_part c seats h at bytes a b r good p =
+    let q = without_far a.desk b.desk a.far b.far (WriteRule h at bytes r) (WriteEffect h at bytes r) p in
+    let z = write_step a.desk b.desk a.far b.far good.shown h at bytes r good.known q in
+    go _ z.0 z.1 (write_leaves a.desk b.desk h at bytes r z.0)
+  where
+    like : IsLike a.far b.far
+    like = subst (IsLike a.far) (sym p.rule.0) (like_same a.far)
+
+    go : (t : Shown) → IsWriteStep a.desk b.desk h at bytes r → IsKnown b.desk b.far t
+        → (b.desk ≡ a.desk) ⊎ ((pins_of (word_at a.desk h) ≡ 0)
+        × ((n : ℕ) × IsOverwritten a.desk b.desk h n at bytes))
+        → Arrives c seats 1 a b (StillWrite h at bytes a r b)
+    go t step known (inl e) =
+        arrives_like c seats a b t (StillWrite h at bytes a r b) good like known
+        (ap (λ (x : Words). x.settings) e)
+        (subst (λ (x : Words). ArePinned x seats) (sym e) good.pinned) (step, p.rule.0)
+    go t step known (inr (free, (n, o))) =
+        arrives_like c seats a b t (StillWrite h at bytes a r b) good like known
+        (ap (λ (x : Words). x.settings) o.left)
+        (subst (λ (x : Words). ArePinned x seats) (sym o.left)
+        (written_pinned a.desk seats h n o.words good.pinned free)) (step, p.rule.0)
+
+pub free_part : (c : Config) (seats : List SeatState) (h : ℕ)
+    → Carries c seats 1 (Frees Ran Tells h) (StillFree h)
+free_part c seats h a b r good p =
+    let z = free_step a.desk b.desk a.far b.far good.shown h r good.known p in
+    go _ z.0 z.1 (free_leaves a.desk b.desk a.far b.far h r z.0)
+  where
+    released : IsReleased a.far b.far h → IsLike a.far b.far
+    released z = subst (IsLike a.far) (sym z.left) (record {
+      spans = length-set a.far.spans z.frame _;
+      homes = refl;
+      nodes = refl;
+      counts = refl;
+      epoch = omega arith;
+      given = refl;
+    })
+
+    removed : IsRemoved a.far b.far h → IsLike a.far b.far
+    removed z = subst (IsLike a.far) (sym z.left) (record {
+      spans = refl;
+      homes = length-set a.far.homes h _;
+      nodes = left_count a.far.nodes (set_without z.set z.home);
+      counts = refl;
+      epoch = omega arith;
+      given = left_given a.far.nodes (set_without z.set z.home);
+    })
+
+    leaves : (q : State) → LeavesPlace q a.far b.far h → IsLike a.far b.far
+    leaves state.Here z = released z
+    leaves state.Far z = removed z
+    leaves state.Empty z = absurd z
+    leaves state.Moving z = absurd z
+
+    go : (t : Shown) → IsFreeStep a.desk b.desk a.far b.far h r → IsKnown b.desk b.far t
+        → ((b.desk ≡ a.desk) × (b.far ≡ a.far)) ⊎ (MayGo (word_at a.desk h)
+        × ((n : ℕ) × IsTakenOut a.desk b.desk a.far b.far h n))
+        → Arrives c seats 1 a b (StillFree h a r b)
+    go t step known (inl (e, same)) =
+        arrives_same c seats 1 a b (StillFree h a r b) good (both_same a b e same) step
+    go t step known (inr (may, (n, o))) =
+        arrives_like c seats a b t (StillFree h a r b) good
+        (leaves (state_of (word_at a.desk h)) o.leaves) known (ap (λ (x : Words). x.settings) o.left)
+        (subst (λ (x : Words). ArePinned x seats) (sym o.left)
+        (freed_pinned a.desk seats h n good.pinned (no_pins a.desk seats h good.pinned may))) step
+
+-- the next handle has an empty word, without pins
+next_free : (x : Words) (far : FarState) (s : Shown) → IsKnown x far s
+    → far.made < x.settings.handles → pins_of (word_at x far.made) ≡ 0
+next_free x far s k more =
+    let h = far.made in
+    let below : h < length x.words = (let n = k.sized.words in omega (arith, more, n)) in
+    let lt : h < length s.objects = (let n = k.shows.objects in omega (arith, below, n)) in
+    let never_made : object_at s h ≡ never = (k.sound.here.known.made h lt).0 (omega arith) in
+    let fit = subst (λ (o : Object). Fits o (word_at x h)) never_made (k.shows.fit h below) in
+    ap pins_of fit
+
+new_pins : (len place : ℕ) → pins_of (new_word len place) ≡ 0
+new_pins len place = omega arith
+
+pub make_part : (c : Config) (seats : List SeatState) (bytes : List ℕ)
+    → Carries c seats 1 (Makes Ran Tells c bytes) (StillMake bytes)
+make_part c seats bytes a b r good p =
+    let q = subst (λ (d : Config). PerformsStill a.desk b.desk a.far b.far
+    (MakeRule d.handles bytes a.far b.far r) (MakeEffect bytes a.far b.far r)) (sym good.settings) p in
+    let z = make_step a.desk b.desk a.far b.far good.shown bytes r good.known q in go _ z.0 z.1 z.0
+  where
+    go : (t : Shown) → StillMake bytes a r b → IsKnown b.desk b.far t
+        → IsMakeStep a.desk b.desk a.far b.far bytes r → Arrives c seats 1 a b (StillMake bytes a r b)
+    go t step known (inl (made, reply, e, same)) =
+        arrives_same c seats 1 a b (StillMake bytes a r b) good (both_same a b e same) step
+    go t step known (inr (more, inl (crammed, reply, e, same))) =
+        arrives_same c seats 1 a b (StillMake bytes a r b) good (both_same a b e same) step
+    go t step known (inr (more, inr (reply, z))) =
+        arrives_like c seats a b t (StillMake bytes a r b) good
+        (subst (IsLike a.far) (sym z.state) (record {
+          spans = length-set a.far.spans z.slot.frame _;
+          homes = refl;
+          nodes = refl;
+          counts = refl;
+          epoch = omega arith;
+          given = refl;
+        })) known (ap (λ (x : Words). x.settings) z.left)
+        (subst (λ (x : Words). ArePinned x seats) (sym z.left)
+        (new_pinned a.desk seats a.far.made a.far.first (length bytes) (place_in z.slot) z.words
+        good.pinned (next_free a.desk a.far good.shown good.known more)
+        (new_pins (length bytes) (place_in z.slot)))) step
+
+-- ---- looks at an object
+pub find_part : (c : Config) (seats : List SeatState) (h : ℕ)
+    → Carries c seats 1 (Finds Ran Tells h) (StillFind h)
+find_part c seats h a b r good p =
+    arrives_same c seats 1 a b (StillFind h a r b) good same (reply, same)
+  where
+    x : Words
+    x = a.desk
+
+    rules : List Event → Type 0
+    rules es = Answered (λ w. r ≡ answer.Stays) h es r
+
+    q : PerformsStill a.desk b.desk a.far b.far rules IsStill
+    q = without_far a.desk b.desk a.far b.far rules IsStill p
+
+    runs : RunsStill a.desk b.desk a.far good.shown q.events
+    runs = runs_still a.desk b.desk a.far b.far rules IsStill good.shown good.known q
+
+    same : b ≡ a
+    same = both_same a b (stays_still a.desk b.desk a.far good.shown q.events runs
+        (q.effect good.shown ((good.known.sized, good.known.shows), good.known.sound))) p.rule.0
+
+    reply : r ≡ reply_as (state_of (word_at a.desk h)) (stamp_at a.desk h) answer.Stays
+    reply = let exact = is_exact a.desk b.desk h q.events q.ran.0 q.looks_first q.rule.settles_last in
+        let w = q.rule.word in
+        let z : Comes (λ _. Unit {0}) (λ _. Unit {0}) r
+        (reply_as (state_of w) (stamp_at a.desk h) answer.Stays) =
+        reply_comes (λ _. Unit {0}) (λ _. Unit {0}) (state_of w) (λ w. r ≡ answer.Stays) answer.Stays w h
+        (stamp_at a.desk h) q.events r
+        (record { unmade = λ u. u; freed = λ u. u; not_here = λ u. u; moving = λ u. u })
+        exact.told
+        (λ here e. comes (λ _. Unit {0}) (λ _. Unit {0}) r answer.Stays e tt (λ u. u)) q.rule.answer tt in
+        z.reply ∙ ap (λ (v : ℕ). reply_as (state_of v) (stamp_at a.desk h) answer.Stays)
+        (exact.found w q.rule.found)
+
+pub never_part : (c : Config) (seats : List SeatState)
+    → Carries c seats 1 NeverDeclined NeverDeclined
+never_part c seats a b r good p = arrives_same c seats 1 a b (NeverDeclined a r b) good p.1 p
+
+abbrev Refuses : ℕ → ℕ → Option Reply → Bool → ℕ → ℕ → Type 0
+Refuses at count r lost w v = r ≡ write_refusal lost (len_of w) v at count
+
+pub decline_part : (c : Config) (seats : List SeatState) (h at count : ℕ)
+    → Carries c seats 1 (Declines Ran Tells h at count) (StillDecline h at count)
+decline_part c seats h at count a b r good (far_same, p) =
+    arrives_same c seats 1 a b (StillDecline h at count a r b) good same (by p.rule, same)
+  where
+    same : b ≡ a
+    same = both_same a b (stays_still a.desk b.desk a.far good.shown p.events
+        (runs_still a.desk b.desk a.far b.far _ IsStill good.shown good.known p)
+        (p.effect good.shown ((good.known.sized, good.known.shows), good.known.sound))) far_same
+
+    by : IsDeclined h at count a.far r p.events → Refuses at count r (is_gone a.far h) (word_at a.desk h) (stamp_at a.desk h)
+    by (inl (gone, none, nothing)) = subst (λ (g : Bool).
+        Refuses at count r g (word_at a.desk h) (stamp_at a.desk h)) (sym gone) none
+    by (inr (stays, (w, v, found, told, last, is))) =
+        subst (λ (g : Bool). Refuses at count r g (word_at a.desk h) (stamp_at a.desk h)) (sym stays)
+        (subst (λ (k : ℕ). Refuses at count r false k (stamp_at a.desk h))
+        (sym (found_exact p.events a.desk b.desk h w p.ran.0 p.looks_first found))
+        (subst (λ (k : ℕ). Refuses at count r false w k) (told_exact p.events a.desk b.desk h v p.ran.0 last told) is))
+
+-- ---- what leaves and what comes in
+pub evict_part : (c : Config) (seats : List SeatState) → IsAccepted c
+    → Carries c seats 24 (Evicts Ran Tells c) StillEvict
+evict_part c seats accepted a b r good p =
+    let x = a.desk in let y = b.desk in let far = a.far in let new = b.far in
+    let q = subst (λ (d : Config). PerformsStill x y far new (EvictRule d far new r)
+    (EvictEffect far new r)) (sym good.settings) p in
+    let z = evict_step x y far new r good.shown q good.known in
+    let keeps = evict_keeps x y far new r z.0 in
+    let sets = (evict_sets x y far new r z.0).1 in
+    let keys = (evict_keys x y far new r z.0 (subst IsAccepted (sym good.settings) accepted)).1 in
+    let epoch : new.members.epoch ≡ far.members.epoch = ap (λ (m : Membership). m.epoch) keeps.members in
+    let given = evict_given x y far new r z.0 in record {
+      is = (z.0, λ s k. let after = (evict_step x y far new r s q k).1 in
+          (after.shown, after.known, after.same_now));
+      good = record {
+        settings = evict_settings x y far new r z.0 ∙ good.settings;
+        configured = evict_configured x y far new r c z.0 good.configured;
+        shown = z.1.shown;
+        known = z.1.known;
+        pinned = evict_seats x y far new r seats z.0 good.pinned;
+      };
+      rises = record {
+        turns = keeps.turns;
+        by_job = keeps.by_job;
+        sets = omega (arith, sets);
+        keys = keys;
+        epoch = omega (arith, epoch);
+        given = omega (arith, given);
+      };
+    }
+
+pub swap_part : (c : Config) (seats : List SeatState) (h : ℕ)
+    → Carries c seats 16 (Swaps Ran Tells h) (StillSwap h)
+swap_part c seats h a b r good (home, at, p) =
+    let x = a.desk in let y = b.desk in let far = a.far in let new = b.far in
+    let z = swap_step x y far new home.set home.position r good.shown p good.known in
+    let keeps = keeps_far x y far new home.set home.position r z.0 in
+    let sets : new.counts.sets ≡ far.counts.sets = ap (λ (n : CountsState). n.sets) keeps.counts in
+    let keys : new.counts.keys ≡ far.counts.keys = ap (λ (n : CountsState). n.keys) keeps.counts in
+    let epoch : new.members.epoch ≡ far.members.epoch = ap (λ (m : Membership). m.epoch) keeps.members in
+    let settings : y.settings ≡ c = settings_stay x y far new home.set home.position r z.0 ∙ good.settings in
+    record {
+      is = (home, at, z.0, λ s k.
+          let after = (swap_step x y far new home.set home.position r s p k).1 in
+          (after.shown, after.known, after.same_now));
+      good = record {
+        settings = settings;
+        configured = subst (λ (d : Config). IsConfigured d new) settings
+            (configured_kept x y far new home.set home.position r z.0
+            (subst (λ (d : Config). IsConfigured d far) (sym good.settings) good.configured));
+        shown = z.1.shown;
+        known = z.1.known;
+        pinned = pinned_kept x y far new home.set home.position r good.shown seats good.known z.0
+            good.pinned;
+      };
+      rises = record {
+        turns = ap (λ (n : CountsState). n.turns) keeps.counts;
+        by_job = ap (λ (n : CountsState). n.by_job) keeps.counts;
+        sets = omega (arith, sets);
+        keys = omega (arith, keys);
+        epoch = omega (arith, epoch);
+        given = given_most x y far new home.set home.position r good.shown good.known z.0;
+      };
+    }
+
+-- ---- want of memory
+abbrev pub Any : Holding Words → Type 0
+Any a = Unit {0}
+
+abbrev pub IsFar : ℕ → Holding Words → Type 0
+IsFar h a = state_of (word_at a.desk h) ≡ state.Far
+
+pub make_lack : (c : Config) (seats : List SeatState) (bytes : List ℕ)
+    → CarriesLack c seats 1 Any (MakeLacks Ran c bytes) (StillMakeLacks bytes)
+make_lack c seats bytes a b good any p =
+    let same = both_same a b p.0.0 p.1 in
+    arrives_same c seats 1 a b (StillMakeLacks bytes a b) good same
+    (same, subst (λ (d : Config). NeedsNewSpan d.handles (length bytes) a.far) (sym good.settings) p.2)
+
+pub read_lack : (c : Config) (seats : List SeatState) (h : ℕ)
+    → CarriesLack c seats 1 Any (ReadLacks Ran Tells h) (StillReadLacks h)
+read_lack c seats h a b good any (same, p) =
+    let z = failed_step a.desk b.desk a.far b.far good.shown h good.known p in
+    read_kept c seats h a b (answer.Bytes z.0.0 z.0.1) _ (StillReadLacks h a b) good same z.0.2 z.1
+    (same, z.0)
+
+pub evict_lack : (c : Config) (seats : List SeatState)
+    → CarriesLack c seats 24 Any (EvictLacks Ran Tells) StillEvictLacks
+evict_lack c seats a b good any (same, p) =
+    let q = subst (λ (f : FarState). PerformsStill a.desk b.desk a.far f (TouchesSpans a.far) IsStill)
+    same p in
+    let e = both_same a b (evict_stopped a.desk b.desk a.far good.shown q good.known) same in
+    arrives_same c seats 24 a b (StillEvictLacks a b) good e e
+
+pub swap_lack : (c : Config) (seats : List SeatState) (h : ℕ)
+    → CarriesLack c seats 16 (IsFar h) (SwapLacks Ran h) (StillSwapLacks h)
+swap_lack c seats h a b good away (ran, given) =
+    let home = far_home a.desk a.far good.shown h good.known away in
+    let set = home.2.0 in
+    let z = given home.0 set home.1 home.2.1 in
+    let most = (good.known.sound.away.sound.sets.shaped home.0.set set home.2.1).range.data_most in
+    let few = z.1 in
+    let nodes : (far_given a.far z.0).nodes.given ≤ a.far.nodes.given + 16 = omega (arith, few, most) in
+    let same : b ≡ record { desk = a.desk; far = far_given a.far z.0 } = both_same _ b ran.0 z.2 in
+    record {
+      is = (ran.0, given);
+      good = subst (IsGood c seats) (sym same) (record {
+        settings = good.settings;
+        configured = record {
+          frames = good.configured.frames;
+          homes = good.configured.homes;
+          nodes = good.configured.nodes;
+        };
+        shown = good.shown;
+        known = given_known a.desk a.far good.shown z.0 good.known;
+        pinned = good.pinned;
+      });
+      rises = subst (Rises 16 a.far) (sym z.2) (record {
+        turns = refl;
+        by_job = refl;
+        sets = omega arith;
+        keys = omega arith;
+        epoch = omega arith;
+        given = nodes;
+      });
+    }
