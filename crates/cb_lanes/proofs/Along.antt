@@ -10,7 +10,7 @@ use Rattle.cb_types.specs.Config.{IsAccepted}
 use Rattle.cb_types.specs.declared.config.Field.TheVariants.{Nodes}
 use Rattle.cb_types.specs.declared.job.Job.TheVariants as job
 use Rattle.cb_types.specs.declared.request.Request.{Request}
-use Rattle.cb_types.specs.declared.request.Request.TheVariants.{Make, Read, Write, Free, Crash, Join}
+use Rattle.cb_types.specs.declared.request.Request.TheVariants.{Make, Read, Write, Free, Pin, Peek, Unpin, Crash, Join, Leave}
 use Rattle.cb_types.specs.declared.reply.Reply.{Reply}
 use Rattle.cb_types.specs.declared.reply.Reply.TheVariants as answer
 use Rattle.cb_types.specs.Requests.{name_of}
@@ -25,6 +25,8 @@ use Rattle.cb_model.proofs.Order.{makes-le, makes-push}
 use Rattle.cb_script.specs.declared.script.Line.{Line}
 use Rattle.cb_script.specs.Form.{IsRequest, AreLines}
 use Rattle.cb_script.specs.Unbuilt.{IsBuilt}
+use Rattle.cb_world.specs.FarState.{FarState}
+use Rattle.cb_world.specs.Seats.{pins_of_seat}
 use Rattle.cb_world.specs.World.{WorldState, IsSoundWorld, empty_world}
 use Rattle.cb_mutate.specs.MapBeside.{IsMapBeside}
 use Rattle.cb_mutate.proofs.MapBeside.{is_map_reply, is_map_make, beside_kept, empty_beside}
@@ -36,28 +38,39 @@ use Rattle.cb_world.proofs.NowSame.{now_same}
 use Rattle.cb_world.proofs.Worlds.{empty_world_sound}
 use Rattle.cb_lanes.specs.Asked.{asked, HasLineReply}
 use Rattle.cb_lanes.specs.Held.{HoldsAnswers}
-use Rattle.cb_lanes.specs.LineStep.{LineStep, ObjectStep, LinesLead}
+use Rattle.cb_lanes.specs.GivingBack.{Rests, lines_of}
+use Rattle.cb_lanes.specs.LineStep.{LineStep, ObjectStep, PeekStep, not_pinned, shown}
+use Rattle.cb_lanes.specs.LinesLeft.{AreLanes}
 use Rattle.cb_lanes.specs.Lost.{loss_of, losses_of}
 use Rattle.cb_lanes.specs.Names.{Names, kept_number, handle_at, handle_in, number_after, AreKept, AreReady}
+use Rattle.cb_lanes.specs.Scopes.{KeepScopes, ScopeSays, scope_of}
+use Rattle.cb_lanes.proofs.GivingBack.{Stands, stands_same, pin_stands, unpin_stands, gives_all}
 use Rattle.cb_lanes.proofs.LineGoes.{read_goes, write_goes, free_goes, make_goes}
 use Rattle.cb_lanes.proofs.Near.{IsNear}
+use Rattle.cb_lanes.proofs.PinLists.{AreApart}
+use Rattle.cb_lanes.proofs.Pinning.{pin_goes, peek_goes, unpin_goes, leave_goes, unmade_pins}
+use Rattle.cb_lanes.proofs.Scoping.{Scoped, line_scoped}
+use Rattle.cb_lanes.proofs.ScopesKept.{AreScopes, scopes_none, scopes_push, keep_push, Rested, rests, LeadsOn, leads_push, IsFresh, grown, apart_after, lines_own}
 use Rattle.cb_lanes.proofs.Silent.{unmade_read, unmade_write, unmade_free, crash_goes, join_goes}
 use Rattle.cb_lanes.proofs.Turning.{answer_to, Turning, Goes}
 
--- The answers so far are the map's, the map is beside the world that they led to, and the names are what
--- these answers made of them.
-pub record Along (c : Config) (answers : List Answer) (w : WorldState) (names : Names) : Type 0 where
-  pub sound : IsSoundWorld w
-  pub beside : IsMapBeside (calls_of answers) sound.shown w.far
-  pub near : IsNear w.far
-  pub settings : w.desk.settings ≡ c
-  pub first : w.far.first ≡ 1
-  pub turns : w.far.counts.turns ≤ length answers
-  pub leads : LinesLead [] (empty_world c) answers w
-  pub follow : Follow 1 c.handles [] (calls_of answers)
-  pub answered : AllByRecursion HasLineReply answers
-  pub kept : (name : List ℕ) → handle_of answers name ≡ kept_number names name
-  pub within : (name : List ℕ) (h : ℕ) → kept_number names name ≡ Some h → h < w.far.made
+-- The answers so far are the map's, the map is beside the world that they led to, the names are what
+-- these answers made of them, and each lane that has lines to come has the pins of its scope.
+pub record Along (c : Config) (later : List ℕ) (answers : List Answer) (w : WorldState) (names : Names) : Type 0
+  where
+    pub sound : IsSoundWorld w
+    pub beside : IsMapBeside (calls_of answers) sound.shown w.far
+    pub near : IsNear w.far
+    pub settings : w.desk.settings ≡ c
+    pub first : w.far.first ≡ 1
+    pub turns : w.far.counts.turns ≤ length answers
+    pub leads : LeadsOn later [] (empty_world c) answers w
+    pub follow : Follow 1 c.handles [] (calls_of answers)
+    pub answered : AllByRecursion HasLineReply answers
+    pub kept : (name : List ℕ) → handle_of answers name ≡ kept_number names name
+    pub within : (name : List ℕ) (h : ℕ) → kept_number names name ≡ Some h → h < w.far.made
+    pub scopes : AreScopes (kept_number names) later answers w
+    pub keep : KeepScopes [] answers
 
 -- ---- a line
 
@@ -67,27 +80,43 @@ pub line_goes : (answers : List Answer) (l : Line) (request : Request) (r : Repl
     → IsRequest w.desk.settings.nodes request
     → handle_named answers (name_of request) ≡ handle
     → ((h : ℕ) → handle ≡ Some h → h < w.desk.settings.handles)
+    → l.lane.n < 64 → ((h : ℕ) → handle ≡ Some h → h < w.far.made)
+    → ((seat : ℕ) → 16 ≤ seat → pins_of_seat w.seats seat ≡ [])
     → LineStep l.lane.n handle request w r new
     → Goes answers (answer_to l request r) w new c.then.shown
-line_goes answers l (Make name bytes) r w new handle c built is named ready step =
+line_goes answers l (Make name bytes) r w new handle c built is named ready lt made few step =
     make_goes answers l name bytes r w new c step
-line_goes answers l (Crash node) r w new handle c built is named ready step =
+line_goes answers l (Crash node) r w new handle c built is named ready lt made few step =
     crash_goes answers l node r w new c is step
-line_goes answers l (Join node) r w new handle c built is named ready step =
+line_goes answers l (Join node) r w new handle c built is named ready lt made few step =
     join_goes answers l node r w new c is step
-line_goes answers l (Read name) r w new None c built is named ready step =
+line_goes answers l (Read name) r w new None c built is named ready lt made few step =
     unmade_read answers l name r w new c named step
-line_goes answers l (Read name) r w new (Some h) c built is named ready step =
+line_goes answers l (Read name) r w new (Some h) c built is named ready lt made few step =
     read_goes answers l name h r w new c (ready h refl) named step
-line_goes answers l (Write name at bytes) r w new None c built is named ready step =
+line_goes answers l (Write name at bytes) r w new None c built is named ready lt made few step =
     unmade_write answers l name at bytes r w new c named step
-line_goes answers l (Write name at bytes) r w new (Some h) c built is named ready step =
+line_goes answers l (Write name at bytes) r w new (Some h) c built is named ready lt made few step =
     write_goes answers l name at bytes h r w new c (ready h refl) named step
-line_goes answers l (Free name) r w new None c built is named ready step =
+line_goes answers l (Free name) r w new None c built is named ready lt made few step =
     unmade_free answers l name r w new c named step
-line_goes answers l (Free name) r w new (Some h) c built is named ready step =
+line_goes answers l (Free name) r w new (Some h) c built is named ready lt made few step =
     free_goes answers l name h r w new c (ready h refl) named step
-line_goes answers l request r w new handle c built is named ready step = absurd built
+line_goes answers l Leave r w new handle c built is named ready lt made few step =
+    leave_goes answers l (length (pins_of_seat w.seats l.lane.n)) r w new c lt step.0 step.1
+line_goes answers l (Pin name) r w new None c built is named ready lt made few step =
+    unmade_pins answers l (Pin name) name r w new c named refl refl tt step
+line_goes answers l (Pin name) r w new (Some h) c built is named ready lt made few step =
+    pin_goes answers l name h r w new c lt (ready h refl) (made h refl) few named step
+line_goes answers l (Peek name) r w new None c built is named ready lt made few step =
+    unmade_pins answers l (Peek name) name r w new c named refl refl tt step
+line_goes answers l (Peek name) r w new (Some h) c built is named ready lt made few step =
+    peek_goes answers l name h r w new c lt (made h refl) named step
+line_goes answers l (Unpin name) r w new None c built is named ready lt made few step =
+    unmade_pins answers l (Unpin name) name r w new c named refl refl tt step
+line_goes answers l (Unpin name) r w new (Some h) c built is named ready lt made few step =
+    unpin_goes answers l name h r w new c lt (ready h refl) (made h refl) named step
+line_goes answers l request r w new handle c built is named ready lt made few step = absurd built
 
 -- ---- the handle that an answer is about
 
@@ -112,6 +141,10 @@ about_made answers (Make name bytes) r h made built within e = absurd cc
 about_made answers (Read name) r h made built within e = inl (within name h e)
 about_made answers (Write name at bytes) r h made built within e = inl (within name h e)
 about_made answers (Free name) r h made built within e = inl (within name h e)
+about_made answers (Pin name) r h made built within e = inl (within name h e)
+about_made answers (Peek name) r h made built within e = inl (within name h e)
+about_made answers (Unpin name) r h made built within e = inl (within name h e)
+about_made answers Leave r h made built within e = absurd cc
 about_made answers (Crash node) r h made built within e = absurd cc
 about_made answers (Join node) r h made built within e = absurd cc
 about_made answers request r h made built within e = absurd built
@@ -181,81 +214,91 @@ within_after names answers first handles made next now request reply name h with
 
 -- ---- one more line
 
-pub leads_push : (before after : List Answer) (w mid new : WorldState) (a : Answer)
-    → LinesLead before w after mid
-    → LineStep a.lane.n (handle_named (before ++ after) (name_of a.request)) a.request mid a.reply new
-    → LinesLead before w (after ++ a ∷ []) new
-leads_push before [] w mid new a leads step = (
-  new,
-  subst (λ (v : WorldState).
-      LineStep a.lane.n (handle_named before (name_of a.request)) a.request v a.reply new) leads
-      (subst (λ (xs : List Answer).
-      LineStep a.lane.n (handle_named xs (name_of a.request)) a.request mid a.reply new)
-      (append-nil before) step),
-  refl,
-)
-leads_push before (b ∷ after) w mid new a leads step = (
-  leads.0,
-  leads.1,
-  leads_push (before ++ b ∷ []) after leads.0 mid new a leads.2
-      (subst (λ (xs : List Answer).
-      LineStep a.lane.n (handle_named xs (name_of a.request)) a.request mid a.reply new)
-      (sym (append_assoc before (b ∷ []) after)) step),
-)
-
 all_push : (answers : List Answer) (a : Answer) → AllByRecursion HasLineReply answers
     → HasLineReply a → AllByRecursion HasLineReply (answers ++ a ∷ [])
 all_push [] a all is = (is, tt)
 all_push (b ∷ answers) a all is = (all.0, all_push answers a all.1 is)
 
 object_settings : (seat : ℕ) (handle : Option ℕ) (request : Request) (w new : WorldState) (r : Reply)
+    → IsSoundWorld w → seat < 64 → ((h : ℕ) → handle ≡ Some h → h < w.desk.settings.handles)
     → ObjectStep seat handle request w r new → new.desk.settings ≡ w.desk.settings
-object_settings seat None request w new r step = ap (λ (v : WorldState). v.desk.settings) step.1
-object_settings seat (Some h) (Read name) w new r step =
+object_settings seat None request w new r sound lt ready step =
+    ap (λ (v : WorldState). v.desk.settings) step.1
+object_settings seat (Some h) (Read name) w new r sound lt ready step =
     step_settings w new (Turn seat (job.Read (record { n = h }))) r step
-object_settings seat (Some h) (Write name at bytes) w new r step =
+object_settings seat (Some h) (Write name at bytes) w new r sound lt ready step =
     step_settings w new (Turn seat (job.Write (record { n = h }) at bytes)) r step
-object_settings seat (Some h) (Free name) w new r step =
+object_settings seat (Some h) (Free name) w new r sound lt ready step =
     step_settings w new (Turn seat (job.Free (record { n = h }))) r step
-object_settings seat (Some h) request w new r step = absurd step
+object_settings seat (Some h) (Pin name) w new r sound lt ready step =
+    (pin_stands w new seat h r sound lt (ready h refl) step).settings
+object_settings seat (Some h) (Unpin name) w new r sound lt ready step =
+    (unpin_stands w new seat h r sound lt (ready h refl) step).settings
+object_settings seat (Some h) (Peek name) w new r sound lt ready step = peek_settings step
+  where
+    peek_settings : PeekStep seat h w r new → new.desk.settings ≡ w.desk.settings
+    peek_settings (not_pinned none is same) = ap (λ (v : WorldState). v.desk.settings) same
+    peek_settings (shown at newest is same) = ap (λ (v : WorldState). v.desk.settings) same
+object_settings seat (Some h) request w new r sound lt ready step = absurd step
 
 -- no line changes the configuration
 pub line_settings : (seat : ℕ) (handle : Option ℕ) (request : Request) (w new : WorldState) (r : Reply)
+    → IsSoundWorld w → seat < 64 → ((h : ℕ) → handle ≡ Some h → h < w.desk.settings.handles)
     → LineStep seat handle request w r new → new.desk.settings ≡ w.desk.settings
-line_settings seat handle (Make name bytes) w new r step =
+line_settings seat handle (Make name bytes) w new r sound lt ready step =
     step_settings w new (Turn seat (job.Make bytes)) r step
-line_settings seat handle (Crash node) w new r step =
+line_settings seat handle (Crash node) w new r sound lt ready step =
     step_settings w new (Turn seat (job.Crash node)) r step
-line_settings seat handle (Join node) w new r step =
+line_settings seat handle (Join node) w new r sound lt ready step =
     step_settings w new (Turn seat (job.Join node)) r step
-line_settings seat handle request w new r step = object_settings seat handle request w new r step
+line_settings seat handle Leave w new r sound lt ready step =
+    (gives_all seat w new sound lt step.1).0.settings
+line_settings seat handle request w new r sound lt ready step =
+    object_settings seat handle request w new r sound lt ready step
 
 -- what the lines after this one need
-pub along_push : (c : Config) (answers : List Answer) (l : Line) (request : Request) (r : Reply)
-    (w new : WorldState) (names kept : Names) → Along c answers w names → length answers < 20000
-    → IsSoundWorld new → IsBuilt request → IsRequest c.nodes request
+pub along_push : (c : Config) (later : List ℕ) (answers : List Answer) (l : Line) (request : Request) (r : Reply)
+    (w new rested : WorldState) (names kept : Names) → Along c (l.lane.n ∷ later) answers w names
+    → length answers < 20000 → l.lane.n < 64 → IsSoundWorld new → IsBuilt request → IsRequest c.nodes request
+    → IsFresh (kept_number names) request
     → LineStep l.lane.n (handle_in names request) request w r new → AreKept names request r kept
-    → Along c (answers ++ answer_to l request r ∷ []) new kept
-along_push c answers l request r w new names kept along few then built is step names_after = record {
-  sound = then;
-  beside = rw more goes.follows.beside;
-  near = goes.near;
-  settings = line_settings l.lane.n (handle_in names request) request w new r step ∙ along.settings;
-  first = goes.first ∙ along.first;
-  turns = let turns = goes.turns in let before = along.turns in
-      omega (arith, turns, before, length_push answers a);
-  leads = leads_push [] answers (empty_world c) w new a along.leads step_by_answers;
-  follow = rw more (Follow-push 1 c.handles [] (calls_of answers) (called answers a) along.follow reply);
-  answered = all_push answers a along.answered goes.reply;
-  kept = λ name. handle_of-push name answers a
-      ∙ named_after names request r name (handle_of answers name) (along.kept name)
-      ∙ sym (names_after name);
-  within = λ name h e. within_after names answers 1 c.handles w.far.made new.far.made
-      (value_at (calls_of answers) (handle_for answers request r)) request r name h along.within
-      (subst (λ (n : ℕ). MapReplies 1 c.handles n (handle_for answers request r)
-      (value_at (calls_of answers) (handle_for answers request r)) (event_of request r)) along.beside.made
-      reply.reply) made (sym (names_after name) ∙ e);
-}
+    → Rests (lines_of l.lane.n later) l.lane.n new rested
+    → Along c later (answers ++ answer_to l request r ∷ []) rested kept
+along_push c later answers l request r w new rested names kept along few lt then built is fresh step
+    names_after rest = record {
+      sound = behind.stands.sound;
+      beside = rw more
+          (beside_kept (calls_of answers ++ called answers a ∷ []) then.shown behind.stands.sound.shown new.far
+          rested.far goes.follows.beside (ap (λ (f : FarState). f.made) behind.stands.far)
+          (λ k. behind.stands.holds then.shown behind.stands.sound.shown k then.known
+          behind.stands.sound.known));
+      near = subst IsNear (sym behind.stands.far) goes.near;
+      settings = behind.stands.settings
+          ∙ line_settings l.lane.n (handle_in names request) request w new r along.sound lt ready step
+          ∙ along.settings;
+      first = ap (λ (f : FarState). f.first) behind.stands.far ∙ goes.first ∙ along.first;
+      turns = let turns = goes.turns in let before = along.turns in
+          let same = ap (λ (f : FarState). f.counts.turns) behind.stands.far in
+          omega (arith, turns, before, same, length_push answers a);
+      leads = leads_push later [] answers (empty_world c) w new rested a along.leads step_by_answers rest;
+      follow = rw more (Follow-push 1 c.handles [] (calls_of answers) (called answers a) along.follow reply);
+      answered = all_push answers a along.answered goes.reply;
+      kept = λ name. handle_of-push name answers a
+          ∙ named_after names request r name (handle_of answers name) (along.kept name)
+          ∙ sym (names_after name);
+      within = λ name h e. let n = within_after names answers 1 c.handles w.far.made new.far.made
+          (value_at (calls_of answers) (handle_for answers request r)) request r name h along.within
+          map_reply made (sym (names_after name) ∙ e) in
+          let same = ap (λ (f : FarState). f.made) behind.stands.far in omega (arith, n, same);
+      scopes = scopes_push (kept_number names) (kept_number kept) later answers a (handle_in names request) w new
+          rested along.scopes scoped
+          (λ q h e. names_after q ∙ grown names request r q h fresh e)
+          (λ p q h x y. apart_after names answers 1 c.handles w.far.made
+          (value_at (calls_of answers) (handle_for answers request r)) request r along.scopes.apart along.within
+          map_reply p q h (sym (names_after p) ∙ x) (sym (names_after q) ∙ y)) behind;
+      keep = keep_push [] answers a along.keep
+          (subst (λ (o : Option ℕ). ScopeSays o (scope_of l.lane.n answers) request r) (sym named) scoped.says);
+    }
   where
     a : Answer
     a = answer_to l request r
@@ -269,6 +312,11 @@ along_push c answers l request r w new names kept along few then built is step n
     most : makes (calls_of answers) ≤ c.handles
     most = makes-le 1 c.handles [] (calls_of answers) (omega arith) along.follow
 
+    ready : (h : ℕ) → handle_in names request ≡ Some h → h < w.desk.settings.handles
+    ready h e = let below = name_within names w.far.made (name_of request) h along.within e in
+        let same = ap (λ (d : Config). d.handles) along.settings in
+        omega (arith, below, most, along.beside.made, same)
+
     turning : Turning answers w new
     turning = record {
       before = along.sound;
@@ -280,16 +328,31 @@ along_push c answers l request r w new names kept along few then built is step n
 
     goes : Goes answers a w new then.shown
     goes = line_goes answers l request r w new (handle_in names request) turning built
-        (subst (λ (d : Config). IsRequest d.nodes request) (sym along.settings) is) named
-        (λ h e. let lt = name_within names w.far.made (name_of request) h along.within e in
-        let same = ap (λ (d : Config). d.handles) along.settings in
-        omega (arith, lt, most, along.beside.made, same)) step
+        (subst (λ (d : Config). IsRequest d.nodes request) (sym along.settings) is) named ready lt
+        (λ h e. name_within names w.far.made (name_of request) h along.within e)
+        (λ seat high. along.scopes.gone seat (along.scopes.low seat high)) step
+
+    behind : Rested (lines_of l.lane.n later) l.lane.n new rested
+    behind = rests (lines_of l.lane.n later) l.lane.n new rested then lt rest
+
+    scoped : Scoped (kept_number names) (handle_in names request) (scope_of l.lane.n answers) request r l.lane.n
+        w new
+    scoped = line_scoped answers request r w new (handle_in names request) (kept_number names)
+        (scope_of l.lane.n answers) l.lane.n turning built lt along.scopes.apart
+        (λ name e. ap (handle_at names) (sym e)) ready
+        (along.scopes.are l.lane.n (let own = lines_own l.lane.n later in omega (arith, own))) step
 
     reply : IsMapReply 1 c.handles (calls_of answers) (called answers a)
     reply = rw along.first at (subst (λ (d : Config).
         IsMapReply w.far.first d.handles (calls_of answers) (called answers a)) along.settings
         (reply_of answers l request r w new turning built
         (λ name k e. along.within name k (sym (along.kept name) ∙ e)) goes))
+
+    map_reply : MapReplies 1 c.handles w.far.made (handle_for answers request r)
+        (value_at (calls_of answers) (handle_for answers request r)) (event_of request r)
+    map_reply = subst (λ (n : ℕ). MapReplies 1 c.handles n (handle_for answers request r)
+        (value_at (calls_of answers) (handle_for answers request r)) (event_of request r)) along.beside.made
+        reply.reply
 
     more : calls_of (answers ++ a ∷ []) ≡ calls_of answers ++ called answers a ∷ []
     more = calls_of-push answers a
@@ -299,9 +362,9 @@ along_push c answers l request r w new names kept along few then built is step n
         ∙ ap (λ (n : ℕ). n + made_by (event_of request r)) along.beside.made
 
 -- the names of the next request have handles
-pub along_ready : (c : Config) (answers : List Answer) (w : WorldState) (names : Names)
-    → Along c answers w names → AreReady w.desk.settings.handles names
-along_ready c answers w names along = λ name h e.
+pub along_ready : (c : Config) (later : List ℕ) (answers : List Answer) (w : WorldState) (names : Names)
+    → Along c later answers w names → AreReady w.desk.settings.handles names
+along_ready c later answers w names along = λ name h e.
     let lt = along.within name h e in
     let most = makes-le 1 c.handles [] (calls_of answers) (omega arith) along.follow in
     let same = ap (λ (d : Config). d.handles) along.settings in
@@ -316,10 +379,11 @@ empty_map c ok sound =
     (empty_sound c (let n = (ok Nodes).1 in omega (arith, n))) sound.known.shows sound.known.sound)
 
 -- nothing was answered yet
-pub along_none : (c : Config) (w : WorldState) (names : Names) → IsAccepted c → w ≡ empty_world c
-    → ((name : List ℕ) → kept_number names name ≡ None) → Along c [] w names
-along_none c w names accepted is none =
-    subst (λ (v : WorldState). Along c [] v names) (sym is) (record {
+pub along_none : (c : Config) (later : List ℕ) (w : WorldState) (names : Names) → IsAccepted c
+    → w ≡ empty_world c → AreLanes later → ((name : List ℕ) → kept_number names name ≡ None)
+    → Along c later [] w names
+along_none c later w names accepted is lanes none =
+    subst (λ (v : WorldState). Along c later [] v names) (sym is) (record {
       sound = empty_world_sound c accepted;
       beside = empty_map c accepted (empty_world_sound c accepted);
       near = record { sets = refl; leaving = refl };
@@ -331,12 +395,15 @@ along_none c w names accepted is none =
       answered = tt;
       kept = λ name. sym (none name);
       within = λ name h e. let both : None ≡ Some h = sym (none name) ∙ e in absurd cc;
+      scopes = scopes_none (kept_number names) later (empty_world c)
+          (λ p q h x y. let both : None ≡ Some h = sym (none p) ∙ x in absurd cc) lanes refl;
+      keep = tt;
     })
 
 -- what the world holds
-pub along_holds : (c : Config) (answers : List Answer) (w : WorldState) (names : Names)
-    → Along c answers w names → HoldsAnswers w answers
-along_holds c answers w names along = record {
+pub along_holds : (c : Config) (later : List ℕ) (answers : List Answer) (w : WorldState) (names : Names)
+    → Along c later answers w names → HoldsAnswers w answers
+along_holds c later answers w names along = record {
   shown = along.sound.shown;
   known = along.sound.known;
   beside = along.beside;

@@ -2,7 +2,14 @@ pub mod Calls
 pub mod NamesKept
 pub mod Near
 pub mod Turning
+pub mod PinLists
+pub mod GivingBack
 pub mod LineGoes
 pub mod Silent
+pub mod Pinning
+pub mod Shown
+pub mod Scoping
+pub mod ScopesKept
 pub mod Along
 pub mod WorkedLines
+pub mod WorkedPins

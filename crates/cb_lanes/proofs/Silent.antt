@@ -63,7 +63,7 @@ silent_follows handles calls c t far new map about none reply = record {
 
 -- ---- a name that has no handle
 
-unmade_goes : (answers : List Answer) (l : Line) (request : Request) (w new : WorldState)
+pub unmade_goes : (answers : List Answer) (l : Line) (request : Request) (w new : WorldState)
     → (c : Turning answers w new) → new ≡ w → handle_for answers request answer.Unmade ≡ None
     → event_of request answer.Unmade ≡ FindsUnmade → IsReplyOf request answer.Unmade
     → Goes answers (answer_to l request answer.Unmade) w new c.then.shown

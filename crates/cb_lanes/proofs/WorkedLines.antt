@@ -85,7 +85,7 @@ a_join = done (Up (record { n = node })) (omega arith) (refl, is_up refl refl re
 
 leads : LinesLead [] (empty_world small) (answer (Join (record { n = node })) (Up (record { n = node })) ∷ [])
     joined
-leads = (joined, a_join, refl)
+leads = (joined, joined, a_join, refl, refl)
 
 -- without lines the world stays
 no_line : LinesLead [] (empty_world small) [] joined → ⊥

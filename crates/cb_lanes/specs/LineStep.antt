@@ -1,17 +1,24 @@
 -- A line of a script as a step of the world.
-use Rattle.std.specs.Prelude.{◌≡◌, ℕ, List, [], ◌∷◌, ◌++◌, Option, None, Some}
+use Rattle.std.specs.Prelude.{◌≡◌, ℕ, List, [], ◌∷◌, ◌++◌, length, map, Option, None, Some}
+use Rattle.cb_ptr.specs.Word.{len_of}
 use Rattle.cb_types.specs.declared.answer.Answer.{Answer}
 use Rattle.cb_types.specs.declared.job.Job.{Job}
 use Rattle.cb_types.specs.declared.job.Job.TheVariants as job
 use Rattle.cb_types.specs.declared.request.Request.{Request}
-use Rattle.cb_types.specs.declared.request.Request.TheVariants.{Make, Read, Write, Free, Crash, Join}
+use Rattle.cb_types.specs.declared.request.Request.TheVariants.{Make, Read, Write, Free, Pin, Peek, Unpin, Crash, Join, Leave}
 use Rattle.cb_types.specs.declared.reply.Reply.{Reply}
 use Rattle.cb_types.specs.declared.reply.Reply.TheVariants as answer
 use Rattle.cb_types.specs.Requests.{name_of}
 use Rattle.cb_model.specs.Called.{handle_named}
-use Rattle.cb_world.specs.World.{WorldState}
+use Rattle.cb_world.specs.Memory.{bytes_in}
+use Rattle.cb_world.specs.Seats.{IsNewest, NoneOn, pins_of_seat}
+use Rattle.cb_world.specs.StillWords.{contents_at}
+use Rattle.cb_world.specs.World.{WorldState, word_at}
+use Rattle.cb_core.specs.declared.event.Atomic.TheVariants as atomic
+use Rattle.cb_core.specs.declared.event.Event.TheVariants as event
 use Rattle.cb_core.specs.declared.event.Event.TheVariants.{Turn}
 use Rattle.cb_core.specs.Step.{Step}
+use Rattle.cb_lanes.specs.GivingBack.{GivesAll, Rests, lines_of}
 
 -- the job of a line on an object, where its verb is built
 abbrev pub job_on : ℕ → Request → Option Job
@@ -25,23 +32,45 @@ abbrev pub TurnStep : ℕ → Option Job → WorldState → Reply → WorldState
 TurnStep seat None w r new = ⊥
 TurnStep seat (Some job) w r new = Step w (Turn seat job) r new
 
+-- A peek leaves the world as it is: a seat without a pin on the object is told so, and one that has a
+-- pin is shown the bytes that the object has, at the version of its newest pin on it.
+pub data PeekStep (seat h : ℕ) (w : WorldState) (r : Reply) (new : WorldState) : Type 0 where
+  not_pinned : NoneOn (pins_of_seat w.seats seat) h → r ≡ answer.NotPinned → new ≡ w
+      → PeekStep seat h w r new
+  shown : (at : ℕ) → (newest : IsNewest (pins_of_seat w.seats seat) h at)
+      → r ≡ answer.Bytes newest.pin.version
+      (bytes_in (contents_at w.desk h) (len_of (word_at w.desk h)))
+      → new ≡ w → PeekStep seat h w r new
+
+-- a line on the object of this handle: a pin and its end are one step each, a peek is no event, and
+-- every other is a turn
+abbrev pub CallStep : ℕ → ℕ → Request → WorldState → Reply → WorldState → Type 0
+CallStep seat h (Pin name) w r new = Step w (event.Step seat (atomic.Pin (record { n = h }))) r new
+CallStep seat h (Peek name) w r new = PeekStep seat h w r new
+CallStep seat h (Unpin name) w r new = Step w (event.Step seat (atomic.Unpin (record { n = h }))) r new
+CallStep seat h request w r new = TurnStep seat (job_on h request) w r new
+
 -- A line on an object: one whose name has no handle, since its make was refused, makes no event and is
--- answered so; else it is a turn.
+-- answered so.
 abbrev pub ObjectStep : ℕ → Option ℕ → Request → WorldState → Reply → WorldState → Type 0
 ObjectStep seat None request w r new = (r ≡ answer.Unmade) × (new ≡ w)
-ObjectStep seat (Some h) request w r new = TurnStep seat (job_on h request) w r new
+ObjectStep seat (Some h) request w r new = CallStep seat h request w r new
 
 -- A line of the lane of this seat, whose name has this handle, if it has one: it leads from one world
--- to another.
+-- to another. A lane that leaves gives all its pins back, and is told how many.
 abbrev pub LineStep : ℕ → Option ℕ → Request → WorldState → Reply → WorldState → Type 0
 LineStep seat handle (Make name bytes) w r new = Step w (Turn seat (job.Make bytes)) r new
 LineStep seat handle (Crash node) w r new = Step w (Turn seat (job.Crash node)) r new
 LineStep seat handle (Join node) w r new = Step w (Turn seat (job.Join node)) r new
+LineStep seat handle Leave w r new =
+    (r ≡ answer.Left (length (pins_of_seat w.seats seat))) × GivesAll seat w new
 LineStep seat handle request w r new = ObjectStep seat handle request w r new
 
--- The answers behind those before them lead from one world to another, line by line.
+-- The answers behind those before them lead from one world to another, line by line. Behind its last
+-- line a lane's pins are given back, before the next line.
 abbrev pub LinesLead : List Answer → WorldState → List Answer → WorldState → Type 0
 LinesLead before w [] new = new ≡ w
-LinesLead before w (a ∷ after) new = (between : WorldState)
+LinesLead before w (a ∷ after) new = (between : WorldState) × (rested : WorldState)
     × LineStep a.lane.n (handle_named before (name_of a.request)) a.request w a.reply between
-    × LinesLead (before ++ a ∷ []) between after new
+    × Rests (lines_of a.lane.n (map (λ later. later.lane.n) after)) a.lane.n between rested
+    × LinesLead (before ++ a ∷ []) rested after new

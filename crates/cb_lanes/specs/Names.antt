@@ -8,7 +8,7 @@ use Rattle.std.specs.Borrow.{Bor}
 use Rattle.std.specs.Str.{bytes_eq}
 use Rattle.cb_types.specs.declared.handle.Handle.{Handle}
 use Rattle.cb_types.specs.declared.request.Request.{Request}
-use Rattle.cb_types.specs.declared.request.Request.TheVariants.{Make, Read, Write, Free}
+use Rattle.cb_types.specs.declared.request.Request.TheVariants.{Make, Read, Write, Free, Pin, Peek, Unpin}
 use Rattle.cb_types.specs.declared.reply.Reply.{Reply}
 use Rattle.cb_types.specs.declared.reply.Reply.TheVariants.{Made}
 use Rattle.cb_types.specs.Requests.{name_of}
@@ -48,9 +48,12 @@ AreKept names request reply kept =
 abbrev pub AreReady : ℕ → Names → Type 0
 AreReady handles names = (name : List ℕ) (h : ℕ) → kept_number names name ≡ Some h → h < handles
 
--- the request is a read, a write or a free
+-- the request is about an object that was to be made before
 abbrev pub IsOnObject : Request → Type 0
 IsOnObject (Read name) = Unit {0}
 IsOnObject (Write name at bytes) = Unit {0}
 IsOnObject (Free name) = Unit {0}
+IsOnObject (Pin name) = Unit {0}
+IsOnObject (Peek name) = Unit {0}
+IsOnObject (Unpin name) = Unit {0}
 IsOnObject request = ⊥

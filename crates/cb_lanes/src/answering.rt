@@ -4,11 +4,14 @@ ghost use Rattle.cb_script.specs.Unbuilt.{IsBuilt};
 ghost use Rattle.cb_script.specs.Form.{IsRequest};
 ghost use Rattle.cb_world.specs.World.{IsSoundWorld};
 ghost use Rattle.cb_core.specs.Jobs.{IsJob};
-ghost use Rattle.cb_core.specs.Step.{Step};
-ghost use Rattle.cb_lanes.specs.LineStep.{LineStep, ObjectStep};
+ghost use Rattle.cb_core.specs.Events.{handle_of};
+ghost use Rattle.cb_core.specs.Step.{AtomicStep, Step};
+ghost use Rattle.cb_lanes.specs.LineStep.{LineStep, ObjectStep, PeekStep};
 ghost use Rattle.cb_lanes.specs.Names.{AreKept, AreReady, IsOnObject, handle_in};
 
-use cb_core::{Event, step};
+use crate::resting::give_back;
+use cb_core::{Atomic, Event, step};
+use cb_mutate::read;
 use cb_types::{Bytes, Handle, Job, Name, NoMemory, Reply, Request};
 use cb_world::World;
 use std::alloc::Global;
@@ -36,6 +39,9 @@ pub(crate) fn reply_to<'a>(
         Request::Make { name, bytes } => make_named(alloc, world, names, seat, name, bytes),
         Request::Crash { node } => turn_of(alloc, world, seat, Job::Crash { node: *node }),
         Request::Join { node } => turn_of(alloc, world, seat, Job::Join { node: *node }),
+        Request::Leave => Ok(Reply::Left {
+            pins: give_back(alloc, world, seat)?,
+        }),
         _ => match handle_of(names, request) {
             None => Ok(Reply::Unmade),
             Some(handle) => call_object(alloc, world, seat, handle, request),
@@ -91,7 +97,7 @@ fn handle_of<'a>(names: &BTreeMap<&'a [u8], Handle>, request: &'a Request) -> Op
     names.get(&name.as_slice()).copied()
 }
 
-/// Answers a read, a write or a free of an object.
+/// Answers a line on an object.
 fn call_object(
     alloc: Global,
     world: &mut World,
@@ -106,14 +112,55 @@ fn call_object(
     ensures step { IfOk result (λ reply. ObjectStep seat (Some handle.n) request.now world.old reply world.new) }
     ensures sound { IsSoundWorld world.new }
 {
-    let job = match request {
-        Request::Write { at, bytes, .. } => Job::Write {
-            handle,
-            at: *at,
-            bytes: bytes.copy(alloc)?,
-        },
-        Request::Free { .. } => Job::Free { handle },
-        _ => Job::Read { handle },
-    };
-    turn_of(alloc, world, seat, job)
+    match request {
+        Request::Pin { .. } => step_of(alloc, world, seat, Atomic::Pin { handle }),
+        Request::Unpin { .. } => step_of(alloc, world, seat, Atomic::Unpin { handle }),
+        Request::Peek { .. } => peek(alloc, world, seat, handle),
+        Request::Write { at, bytes, .. } => {
+            let job = Job::Write {
+                handle,
+                at: *at,
+                bytes: bytes.copy(alloc)?,
+            };
+            turn_of(alloc, world, seat, job)
+        }
+        Request::Free { .. } => turn_of(alloc, world, seat, Job::Free { handle }),
+        _ => turn_of(alloc, world, seat, Job::Read { handle }),
+    }
+}
+
+/// An atomic step of a seat.
+fn step_of(
+    alloc: Global,
+    world: &mut World,
+    seat: u32,
+    atomic: Atomic,
+) -> Result<Reply, NoMemory>
+    requires seat { seat < 64 }
+    requires handle { handle_of atomic < world.old.desk.settings.handles }
+    requires sound { IsSoundWorld world.old }
+    ensures step { IfOk result (λ reply. AtomicStep seat atomic world.old reply world.new) }
+    ensures sound { IsSoundWorld world.new }
+{
+    step(alloc, world, &Event::Step { seat, atomic })
+}
+
+/// Shows an object on which the seat has a pin: it stays as it is, so it is read as it stands, and the
+/// world is unchanged. Refuses with NotPinned where the seat has no pin on it.
+fn peek(
+    alloc: Global,
+    world: &mut World,
+    seat: u32,
+    handle: Handle,
+) -> Result<Reply, NoMemory>
+    requires seat { seat < 64 }
+    requires within { handle.n < world.old.desk.settings.handles }
+    requires sound { IsSoundWorld world.old }
+    ensures peek { IfOk result (λ reply. PeekStep seat handle.n world.old reply world.new) }
+    ensures sound { IsSoundWorld world.new }
+{
+    match world.seats.newest(seat, handle.n) {
+        None => Ok(Reply::NotPinned),
+        Some(_) => read(alloc, &mut world.desk, &mut world.far, handle),
+    }
 }

@@ -2,6 +2,7 @@
 #![tactic(auto)]
 
 mod answering;
+mod resting;
 pub mod seq;
 
 pub use seq::{SeqEnd, run_seq};

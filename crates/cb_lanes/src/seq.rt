@@ -1,15 +1,18 @@
-ghost use Rattle.std.specs.Prelude.{◌≡◌, [], ◌++◌, map, IfOk};
+ghost use Rattle.std.specs.Prelude.{◌≡◌, ℕ, [], ◌++◌, map, IfOk};
 ghost use Rattle.std.specs.List.{AllByRecursion, cons_option};
 ghost use Rattle.cb_model.specs.Legal.{IsLegalInOrder};
 ghost use Rattle.cb_script.specs.Form.{IsScript};
 ghost use Rattle.cb_script.specs.Unbuilt.{IsBuilt};
+ghost use Rattle.cb_world.specs.Seats.{pins_of_seat};
 ghost use Rattle.cb_world.specs.World.{IsSoundWorld, empty_world};
 ghost use Rattle.cb_lanes.specs.Asked.{asked, HasLineReply};
 ghost use Rattle.cb_lanes.specs.Held.{HoldsAnswers};
 ghost use Rattle.cb_lanes.specs.LineStep.{LinesLead};
 ghost use Rattle.cb_lanes.specs.Lost.{loss_of, losses_of};
+ghost use Rattle.cb_lanes.specs.Scopes.{KeepScopes};
 
 use crate::answering::reply_to;
+use crate::resting::{lines_by_lane, rest, take_line};
 use cb_script::Script;
 use cb_types::{Answer, Answers, Loss, Losses, NoMemory, Reply, Request};
 use cb_world::World;
@@ -27,8 +30,9 @@ pub struct SeqEnd {
     pub world: World,
 }
 
-/// Answers the lines of a script in order, in one world. Each line's request is one that is built. A
-/// line costs the logarithm of the names, and what its event costs.
+/// Answers the lines of a script in order, in one world. Each line's request is one that is built.
+/// Behind the last line of a lane its pins are given back. A line costs the logarithm of the names,
+/// and what its event costs.
 pub fn run_seq(alloc: Global, s: &Script) -> Result<SeqEnd, NoMemory>
     requires script { IsScript s.now }
     requires built { AllByRecursion (λ l. IsBuilt l.request) s.now.lines }
@@ -39,14 +43,18 @@ pub fn run_seq(alloc: Global, s: &Script) -> Result<SeqEnd, NoMemory>
     ensures sound { IfOk result (λ end. IsSoundWorld end.world) }
     ensures holds { IfOk result (λ end. HoldsAnswers end.world end.answers) }
     ensures losses { IfOk result (λ end. end.losses ≡ losses_of end.answers) }
+    ensures scopes { IfOk result (λ end. KeepScopes [] end.answers) }
+    ensures idle { IfOk result (λ end. (seat : ℕ) → pins_of_seat end.world.seats seat ≡ []) }
 {
     let mut world = World::new(alloc, s.config)?;
     let mut names = BTreeMap::new(alloc);
     let mut answers = Answers::new(alloc);
     let mut losses = Vec::new(alloc);
+    let mut left = lines_by_lane(s.lines.as_slice());
     for line in s.lines.as_slice() {
         let seat = u32::from(line.lane.n);
         let reply = reply_to(alloc, &mut world, &mut names, seat, &line.request)?;
+        rest(alloc, &mut world, seat, take_line(&mut left, line.lane.n))?;
         note_loss(&mut losses, &line.request, &reply)?;
         answers.push(Answer {
             lane: line.lane,

@@ -174,8 +174,8 @@ fn prints_what_it_read(rt: HostRuntime) -> Result<(), Fail> {
     for (lines, unbuilt) in [
         ("1 make a 0a0b\n1 read a\n", None),
         (
-            "0 make a 00\n2 write a 7 -\n2 write a 0 ff\n2 free a\n3 pin a\n3 leave\n",
-            Some(6),
+            "0 make a 00\n2 write a 7 -\n2 write a 0 ff\n2 free a\n3 pin a\n3 compact\n",
+            Some(7),
         ),
         ("15 crash 5\n15 join 0\n", None),
     ] {

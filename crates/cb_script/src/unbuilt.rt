@@ -30,7 +30,11 @@ fn is_built(request: &Request) -> bool
             | Request::Read { .. }
             | Request::Write { .. }
             | Request::Free { .. }
+            | Request::Pin { .. }
+            | Request::Peek { .. }
+            | Request::Unpin { .. }
             | Request::Crash { .. }
             | Request::Join { .. }
+            | Request::Leave
     )
 }

@@ -1,0 +1,310 @@
+-- A pin, a peek, an unpin and a leave are answered as the map beside the world answers them.
+use Rattle.std.proofs.Common.{◌≡◌, ◌≢◌, ◌⊎◌, ℕ, zero, suc, ◌+◌, ◌*◌, ◌<◌, ◌≤◌, ◌==◌, Bool, List, [], length, take, drop, get_or, Option, None, Some, refl, sym, ap, ◌∙◌, subst, arith, inl, inr, if◌then◌else◌, nat_eq}
+use Rattle.std.specs.List.{sum_by}
+use Rattle.std.proofs.lemmas.Bool.{cases_lt}
+use Rattle.std.proofs.lemmas.List.{length-drop, length-take, get_or-drop, get_or-take}
+use Rattle.std.proofs.lemmas.List.Elements.{All-get_or, All-from_get_or}
+use Rattle.std.proofs.lemmas.List.Sums.{sum_by-take-drop, sum_by-le, count_by-le-length}
+use Rattle.std.proofs.lemmas.Option.{slice_get_within, get_or_from_slice_get}
+use Rattle.cb_ptr.specs.declared.word.State.{State}
+use Rattle.cb_ptr.specs.declared.word.State.TheVariants as state
+use Rattle.cb_ptr.specs.Word.{state_of, len_of, pins_of}
+use Rattle.cb_types.specs.declared.answer.Answer.{Answer}
+use Rattle.cb_types.specs.declared.request.Request.{Request}
+use Rattle.cb_types.specs.declared.request.Request.TheVariants.{Pin, Peek, Unpin, Leave}
+use Rattle.cb_types.specs.declared.reply.Reply.{Reply}
+use Rattle.cb_types.specs.declared.reply.Reply.TheVariants as answer
+use Rattle.cb_types.specs.Table.{IsReplyOf}
+use Rattle.cb_model.specs.declared.object.Object.TheVariants.{Held, Freed}
+use Rattle.cb_model.specs.Now.{Now as MapNow}
+use Rattle.cb_model.specs.Event.{Event, event_of, change_of}
+use Rattle.cb_model.specs.Event.Subject.{Other, Nothing}
+use Rattle.cb_model.specs.Event.Event.{Shows, Pins, FindsUnmade, Refused}
+use Rattle.cb_model.specs.Called.{handle_of, handle_for, called, calls_of, made_by}
+use Rattle.cb_model.specs.Replies.{MapReplies}
+use Rattle.cb_script.specs.declared.script.Line.{Line}
+use Rattle.cb_world.specs.declared.shown.Shown.{Shown}
+use Rattle.cb_world.specs.declared.seats.Pin.{Pin as SeatPin}
+use Rattle.cb_world.specs.FarState.{FarState}
+use Rattle.cb_world.specs.Memory.{bytes_in}
+use Rattle.cb_world.specs.Now.{Now, now}
+use Rattle.cb_world.specs.Now.Now.{never, freed, held, gone}
+use Rattle.cb_world.specs.Plain.{Words}
+use Rattle.cb_world.specs.Seats.{IsNewest, SeatState, idle_seat, pins_of_seat, pins_on, all_pins_on}
+use Rattle.cb_world.specs.StillWords.{stamp_at, contents_at}
+use Rattle.cb_world.specs.World.{WorldState, IsKnown, IsSoundWorld, word_at}
+use Rattle.cb_mutate.specs.MapCalls.{IsValue, IsMapCall, IsCallOn}
+use Rattle.cb_mutate.specs.StillReplies.{reply_as}
+use Rattle.cb_mutate.specs.MapBeside.{IsMapBeside}
+use Rattle.cb_mutate.proofs.MapBeside.{call_follows, beside_kept, was_made}
+use Rattle.cb_mutate.proofs.MapReplies.{AreKnownBoth, IsOnContents, map_same, call_by_state, near_held, here_near}
+use Rattle.cb_core.specs.Pinning.{MayPin, PinStep, scope_full, refused, taken, pin_refusal, UnpinStep, not_pinned as unpin_refused, given}
+use Rattle.cb_lanes.specs.Asked.{HasLineReply}
+use Rattle.cb_lanes.specs.GivingBack.{GivesAll}
+use Rattle.cb_lanes.specs.LineStep.{PeekStep, not_pinned, shown}
+use Rattle.cb_lanes.proofs.Calls.{within}
+use Rattle.cb_lanes.proofs.GivingBack.{Stands, pin_stands, unpin_stands, stands_same, gives_all, pinned_here, pin_below}
+use Rattle.cb_lanes.proofs.Near.{IsNear, not_far}
+use Rattle.cb_lanes.proofs.Silent.{silent_follows, unmade_goes}
+use Rattle.cb_lanes.proofs.Turning.{answer_to, Turning, Goes}
+
+-- a world that changed in pins alone goes on by what it answers
+step_goes : (answers : List Answer) (a : Answer) (w new : WorldState) (h : ℕ) → (c : Turning answers w new)
+    → new.far ≡ w.far
+    → IsCallOn w.desk.settings.handles c.before.shown c.then.shown w.far new.far h a.request a.reply
+    → handle_for answers a.request a.reply ≡ Some h → HasLineReply a → Goes answers a w new c.then.shown
+step_goes answers a w new h c far call about reply = record {
+  follows = call_follows w.desk.settings.handles (calls_of answers) (called answers a) c.before.shown
+      c.then.shown w.far new.far h a.request a.reply c.beside call (record { about = about; event = refl });
+  near = subst IsNear (sym far) c.near;
+  reply = reply;
+  first = ap (λ (f : FarState). f.first) far;
+  turns = omega (arith, ap (λ (f : FarState). f.counts.turns) far);
+}
+
+-- so does one that is answered about an object, and changes nothing of what any holds
+kept_goes : (answers : List Answer) (a : Answer) (w new : WorldState) (h : ℕ) (e : Event)
+    → (c : Turning answers w new) → new.far ≡ w.far
+    → ((k : ℕ) → now c.then.shown new.far k ≡ now c.before.shown w.far k)
+    → event_of a.request a.reply ≡ e → change_of e ≡ [] → made_by e ≡ 0
+    → ((m : MapNow) → IsValue m (now c.before.shown w.far h)
+    → MapReplies w.far.first w.desk.settings.handles w.far.made (Some h) m e)
+    → handle_for answers a.request a.reply ≡ Some h → HasLineReply a → Goes answers a w new c.then.shown
+kept_goes answers a w new h e c far same event silent none replies about reply =
+    step_goes answers a w new h c far (record {
+      own = subst (IsMapCall w.far.first w.desk.settings.handles w.far.made (Some h) a.request a.reply
+          (now c.before.shown w.far h)) (sym (same h))
+          (map_same w.far.first w.desk.settings.handles w.far.made (Some h) a.request a.reply
+          (now c.before.shown w.far h) e event silent replies);
+      others = λ k off. same k;
+      counted = omega (arith, ap (λ (f : FarState). f.made) far, ap made_by event, none);
+    }) about reply
+
+-- ---- what the map answers
+
+-- an object that was made is there, or was freed
+refused_other : (n : Now) (first handles made h : ℕ) (m : MapNow) → (n ≡ never → ⊥) → IsValue m n
+    → MapReplies first handles made (Some h) m (Refused Other)
+refused_other never first handles made h m off is = absurd (off refl)
+refused_other (freed v) first handles made h None off is = absurd is
+refused_other (freed v) first handles made h (Some (Freed u)) off is = tt
+refused_other (freed v) first handles made h (Some (Held u b)) off is = absurd is
+refused_other (held v bytes) first handles made h None off is = absurd is
+refused_other (held v bytes) first handles made h (Some (Freed u)) off is = absurd is
+refused_other (held v bytes) first handles made h (Some (Held u b)) off is = tt
+refused_other (gone v) first handles made h None off is = absurd is
+refused_other (gone v) first handles made h (Some (Freed u)) off is = absurd is
+refused_other (gone v) first handles made h (Some (Held u b)) off is = tt
+
+pins_by : (v first handles made h : ℕ) (bytes : List ℕ) (m : MapNow) → IsValue m (held v bytes)
+    → MapReplies first handles made (Some h) m (Pins v)
+pins_by v first handles made h bytes None is = absurd is
+pins_by v first handles made h bytes (Some (Freed u)) is = absurd is
+pins_by v first handles made h bytes (Some (Held u b)) is = is.0
+
+shows_by : (v first handles made h : ℕ) (bytes : List ℕ) (m : MapNow) → IsValue m (held v bytes)
+    → MapReplies first handles made (Some h) m (Shows v bytes)
+shows_by v first handles made h bytes None is = absurd is
+shows_by v first handles made h bytes (Some (Freed u)) is = absurd is
+shows_by v first handles made h bytes (Some (Held u b)) is = is
+
+-- a line on an object that was made, which is refused and tells nothing of it
+refused_goes : (answers : List Answer) (a : Answer) (w new : WorldState) (h : ℕ) → (c : Turning answers w new)
+    → h < w.far.made → new ≡ w → event_of a.request a.reply ≡ Refused Other
+    → handle_for answers a.request a.reply ≡ Some h → HasLineReply a → Goes answers a w new c.then.shown
+refused_goes answers a w new h c made same event about reply =
+    kept_goes answers a w new h (Refused Other) c (ap (λ (v : WorldState). v.far) same)
+    (λ k. (stands_same 0 w new c.before same).holds c.before.shown c.then.shown k c.before.known c.then.known)
+    event refl refl
+    (λ m. refused_other (now c.before.shown w.far h) w.far.first w.desk.settings.handles w.far.made h m
+    (was_made c.before.shown w.far h c.before.known.sound made)) about reply
+
+-- ---- a pin
+
+-- where the seats of the 16 lanes alone have pins, no word has as many as it can count
+pub not_crowded : (w : WorldState) (h : ℕ) → IsSoundWorld w → h < length w.desk.words
+    → ((seat : ℕ) → 16 ≤ seat → pins_of_seat w.seats seat ≡ []) → pins_of (word_at w.desk h) < 1023
+not_crowded w h sound below none =
+    let all = sum_by-take-drop on w.seats 16 in
+    let low = sum_by-le on 16 (take 16 w.seats) (All-from_get_or (λ (x : SeatState). on x ≤ 16)
+    (take 16 w.seats) idle_seat few) in
+    let high = sum_by-le on 0 (drop 16 w.seats) (All-from_get_or (λ (x : SeatState). on x ≤ 0)
+    (drop 16 w.seats) idle_seat rest) in
+    let counted = sound.pinned.counted h below in
+    omega (arith, all, low, high, counted, length-take 16 w.seats)
+  where
+    on : SeatState → ℕ
+    on x = pins_on h x.pins
+
+    short : (pins : List SeatPin) → pins_on h pins ≤ length pins
+    short pins = count_by-le-length (λ (p : SeatPin). nat_eq p.handle h) pins
+
+    few : (i : ℕ) → i < length (take 16 w.seats) → on (get_or (take 16 w.seats) i idle_seat) ≤ 16
+    few i lt =
+        let below : i < length w.seats = omega (arith, lt, length-take 16 w.seats) in
+        let low : i < 16 = omega (arith, lt, length-take 16 w.seats) in
+        let own = All-get_or (λ (x : SeatState). length x.pins ≤ 16) w.seats i idle_seat below
+        sound.pinned.few in
+        let same = get_or-take 16 w.seats i idle_seat low in
+        let fits = short (pins_of_seat w.seats i) in
+        subst (λ (x : SeatState). on x ≤ 16) (sym same) (omega (arith, own, fits))
+
+    rest : (i : ℕ) → i < length (drop 16 w.seats) → on (get_or (drop 16 w.seats) i idle_seat) ≤ 0
+    rest i lt =
+        subst (λ (x : SeatState). on x ≤ 0) (sym (get_or-drop 16 w.seats i idle_seat))
+        (subst (λ (ps : List SeatPin). pins_on h ps ≤ 0)
+        (sym (none (16 + i) (omega arith))) (omega arith))
+
+on_pin : (name : List ℕ) → IsOnContents (Pin name)
+on_pin name = record {
+  unmade = refl;
+  freed = refl;
+  not_here = refl;
+  moving = refl;
+  pinned = λ count. refl;
+  worn = refl;
+}
+
+empty_line : (name : List ℕ) (v : ℕ) (here : Reply)
+    → IsReplyOf (Pin name) (reply_as state.Empty v here)
+empty_line name zero here = tt
+empty_line name (suc v) here = tt
+
+refused_line : (name : List ℕ) (q : State) (v : ℕ) → (q ≡ state.Far → ⊥) → (q ≡ state.Here → ⊥)
+    → IsReplyOf (Pin name) (reply_as q v answer.Crowded)
+refused_line name state.Empty v far here = empty_line name v answer.Crowded
+refused_line name state.Far v far here = absurd (far refl)
+refused_line name state.Here v far here = absurd (here refl)
+refused_line name state.Moving v far here = tt
+
+refusal_as : (q : State) (v pins : ℕ) → pin_refusal q v pins ≡ reply_as q v answer.Crowded
+refusal_as state.Empty v pins = refl
+refusal_as state.Far v pins = refl
+refusal_as state.Here v pins = refl
+refusal_as state.Moving v pins = refl
+
+pub pin_goes : (answers : List Answer) (l : Line) (name : List ℕ) (h : ℕ) (r : Reply) (w new : WorldState)
+    → (c : Turning answers w new) → l.lane.n < 64 → h < w.desk.settings.handles → h < w.far.made
+    → ((seat : ℕ) → 16 ≤ seat → pins_of_seat w.seats seat ≡ [])
+    → handle_of answers name ≡ Some h → PinStep l.lane.n h w r new
+    → Goes answers (answer_to l (Pin name) r) w new c.then.shown
+pin_goes answers l name h r w new c lt below made few named (scope_full full is same) =
+    subst (λ (q : Reply). Goes answers (answer_to l (Pin name) q) w new c.then.shown) (sym is)
+    (refused_goes answers (answer_to l (Pin name) answer.ScopeFull) w new h c made same refl named tt)
+pin_goes answers l name h r w new c lt below made few named (refused room never_may is same) =
+    let at = within w h c.before below in
+    let by : r ≡ reply_as (state_of (word_at w.desk h)) (stamp_at w.desk h) answer.Crowded =
+    is ∙ refusal_as (state_of (word_at w.desk h)) (stamp_at w.desk h) (pins_of (word_at w.desk h)) in
+    let off : state_of (word_at w.desk h) ≡ state.Here → ⊥ =
+    (λ here. never_may (record { here = here; room = not_crowded w h c.before at few })) in
+    step_goes answers (answer_to l (Pin name) r) w new h c (ap (λ (v : WorldState). v.far) same)
+    (call_by_state (λ q. Unit {0}) w.desk new.desk w.far new.far c.before.shown c.then.shown h
+    w.desk.settings.handles (Pin name) r answer.Crowded
+    (record { before = c.before.known; afterwards = c.then.known }) at (on_pin name)
+    (record { unmade = λ z. stays; freed = λ z. stays; not_here = λ z. stays; moving = λ z. stays })
+    by tt (λ here e. absurd (off here)))
+    named
+    (subst (IsReplyOf (Pin name)) (sym by) (refused_line name (state_of (word_at w.desk h))
+    (stamp_at w.desk h) (not_far w h c.before c.near at) off))
+  where
+    stays : (new.desk ≡ w.desk) × (new.far ≡ w.far)
+    stays = (ap (λ (v : WorldState). v.desk) same, ap (λ (v : WorldState). v.far) same)
+pin_goes answers l name h r w new c lt below made few named (taken room may is t) =
+    subst (λ (q : Reply). Goes answers (answer_to l (Pin name) q) w new c.then.shown) (sym is)
+    (kept_goes answers (answer_to l (Pin name) (answer.Version (stamp_at w.desk h))) w new h
+    (Pins (stamp_at w.desk h)) c t.far
+    (λ k. (pin_stands w new l.lane.n h r c.before lt below (taken room may is t)).holds
+    c.before.shown c.then.shown k c.before.known c.then.known)
+    refl refl refl
+    (λ m value. pins_by (stamp_at w.desk h) w.far.first w.desk.settings.handles w.far.made h
+    (bytes_in (contents_at w.desk h) (len_of (word_at w.desk h))) m
+    (subst (IsValue m) (near_held w.desk w.far c.before.shown h c.before.known (within w h c.before below)
+    (here_near (word_at w.desk h) may.here)) value)) named tt)
+
+-- ---- a peek
+
+-- a pin's version is that of the object
+pub pin_version : (w : WorldState) (seat at h : ℕ) → IsSoundWorld w → seat < 64
+    → (n : IsNewest (pins_of_seat w.seats seat) h at) → n.pin.version ≡ stamp_at w.desk h
+pin_version w seat at h sound lt n =
+    let pins = pins_of_seat w.seats seat in
+    let all = All-get_or (λ (y : SeatPin). y.version ≡ get_or w.desk.versions y.handle 0) pins at n.pin
+    (slice_get_within pins at n.pin n.there)
+    (All-get_or (λ (x : SeatState). (k : ℕ) (d : SeatPin) → k < length x.pins
+    → (get_or x.pins k d).version ≡ get_or w.desk.versions (get_or x.pins k d).handle 0)
+    w.seats seat idle_seat (omega (arith, lt, sound.pinned.count)) sound.pinned.versions) in
+    subst (λ (p : SeatPin). p.version ≡ stamp_at w.desk p.handle)
+    (get_or_from_slice_get pins at n.pin n.pin n.there) all
+    ∙ ap (stamp_at w.desk) n.on
+
+pub peek_goes : (answers : List Answer) (l : Line) (name : List ℕ) (h : ℕ) (r : Reply) (w new : WorldState)
+    → (c : Turning answers w new) → l.lane.n < 64 → h < w.far.made → handle_of answers name ≡ Some h
+    → PeekStep l.lane.n h w r new → Goes answers (answer_to l (Peek name) r) w new c.then.shown
+peek_goes answers l name h r w new c lt made named (not_pinned none is same) =
+    subst (λ (q : Reply). Goes answers (answer_to l (Peek name) q) w new c.then.shown) (sym is)
+    (refused_goes answers (answer_to l (Peek name) answer.NotPinned) w new h c made same refl named tt)
+peek_goes answers l name h r w new c lt made named (shown at newest is same) =
+    let bytes = bytes_in (contents_at w.desk h) (len_of (word_at w.desk h)) in
+    let own : r ≡ answer.Bytes (stamp_at w.desk h) bytes =
+    is ∙ ap (λ (v : ℕ). answer.Bytes v bytes) (pin_version w l.lane.n at h c.before lt newest) in
+    let here = pinned_here w l.lane.n at h c.before lt newest in
+    let below = pin_below w l.lane.n at h c.before lt newest in
+    subst (λ (q : Reply). Goes answers (answer_to l (Peek name) q) w new c.then.shown) (sym own)
+    (kept_goes answers (answer_to l (Peek name) (answer.Bytes (stamp_at w.desk h) bytes)) w new h
+    (Shows (stamp_at w.desk h) bytes) c (ap (λ (v : WorldState). v.far) same)
+    (λ k. (stands_same 0 w new c.before same).holds c.before.shown c.then.shown k c.before.known c.then.known)
+    refl refl refl
+    (λ m value. shows_by (stamp_at w.desk h) w.far.first w.desk.settings.handles w.far.made h bytes m
+    (subst (IsValue m) (near_held w.desk w.far c.before.shown h c.before.known below
+    (here_near (word_at w.desk h) here)) value)) named tt)
+
+-- ---- an unpin
+
+pub unpin_goes : (answers : List Answer) (l : Line) (name : List ℕ) (h : ℕ) (r : Reply) (w new : WorldState)
+    → (c : Turning answers w new) → l.lane.n < 64 → h < w.desk.settings.handles → h < w.far.made
+    → handle_of answers name ≡ Some h → UnpinStep l.lane.n h w r new
+    → Goes answers (answer_to l (Unpin name) r) w new c.then.shown
+unpin_goes answers l name h r w new c lt below made named (unpin_refused none is same) =
+    subst (λ (q : Reply). Goes answers (answer_to l (Unpin name) q) w new c.then.shown) (sym is)
+    (refused_goes answers (answer_to l (Unpin name) answer.NotPinned) w new h c made same refl named tt)
+unpin_goes answers l name h r w new c lt below made named (given is t) =
+    subst (λ (q : Reply). Goes answers (answer_to l (Unpin name) q) w new c.then.shown) (sym is)
+    (kept_goes answers (answer_to l (Unpin name) answer.Done) w new h (Refused Other) c t.far
+    (λ k. (unpin_stands w new l.lane.n h r c.before lt below (given is t)).holds
+    c.before.shown c.then.shown k c.before.known c.then.known)
+    refl refl refl
+    (λ m. refused_other (now c.before.shown w.far h) w.far.first w.desk.settings.handles w.far.made h m
+    (was_made c.before.shown w.far h c.before.known.sound made)) named tt)
+
+-- ---- a leave
+
+pub leave_goes : (answers : List Answer) (l : Line) (n : ℕ) (r : Reply) (w new : WorldState)
+    → (c : Turning answers w new) → l.lane.n < 64 → r ≡ answer.Left n → GivesAll l.lane.n w new
+    → Goes answers (answer_to l Leave r) w new c.then.shown
+leave_goes answers l n r w new c lt is leads =
+    subst (λ (q : Reply). Goes answers (answer_to l Leave q) w new c.then.shown) (sym is) (record {
+      follows = silent_follows w.desk.settings.handles (calls_of answers)
+          (called answers (answer_to l Leave (answer.Left n))) c.then.shown w.far new.far
+          (beside_kept (calls_of answers) c.before.shown c.then.shown w.far new.far c.beside
+          (ap (λ (f : FarState). f.made) gave.far)
+          (λ k. gave.holds c.before.shown c.then.shown k c.before.known c.then.known))
+          refl refl tt;
+      near = subst IsNear (sym gave.far) c.near;
+      reply = tt;
+      first = ap (λ (f : FarState). f.first) gave.far;
+      turns = omega (arith, ap (λ (f : FarState). f.counts.turns) gave.far);
+    })
+  where
+    gave : Stands l.lane.n w new
+    gave = (gives_all l.lane.n w new c.before lt leads).0
+
+-- ---- a name that has no handle
+
+pub unmade_pins : (answers : List Answer) (l : Line) (request : Request) (name : List ℕ) (r : Reply)
+    (w new : WorldState) → (c : Turning answers w new) → handle_of answers name ≡ None
+    → handle_for answers request answer.Unmade ≡ handle_of answers name
+    → event_of request answer.Unmade ≡ FindsUnmade → IsReplyOf request answer.Unmade
+    → (r ≡ answer.Unmade) × (new ≡ w) → Goes answers (answer_to l request r) w new c.then.shown
+unmade_pins answers l request name r w new c none about event line is =
+    subst (λ (q : Reply). Goes answers (answer_to l request q) w new c.then.shown) (sym is.0)
+    (unmade_goes answers l request w new c is.1 (about ∙ none) event line)
