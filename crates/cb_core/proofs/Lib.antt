@@ -26,3 +26,5 @@ pub mod TurnCallsNodes
 pub mod TurnCallsFirst
 pub mod TurnCalls
 pub mod TurnCallsUnavailable
+pub mod TurnCallsPinned
+pub mod TurnCallsSound

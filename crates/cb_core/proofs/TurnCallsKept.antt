@@ -1,5 +1,6 @@
 -- What an eviction and a swap-in within a turn keep: what every object holds.
 use Rattle.std.proofs.Common.{◌≡◌, ℕ, refl, ap, ◌∙◌}
+use Rattle.cb_ptr.specs.Word.{pins_of}
 use Rattle.cb_types.specs.declared.job.Job.{Job}
 use Rattle.cb_types.specs.declared.reply.Reply.{Reply}
 use Rattle.cb_types.specs.declared.reply.Reply.TheVariants as answer
@@ -9,16 +10,18 @@ use Rattle.cb_world.specs.Counts.{with_turn}
 use Rattle.cb_world.specs.FarState.{FarState}
 use Rattle.cb_world.specs.Now.{now}
 use Rattle.cb_world.specs.Plain.{Words}
-use Rattle.cb_world.specs.World.{WorldState, IsKnown}
+use Rattle.cb_world.specs.World.{WorldState, IsKnown, word_at}
 use Rattle.cb_world.proofs.Alike.{recounted_sound}
 use Rattle.cb_world.proofs.NowSame.{now_same}
-use Rattle.cb_evict.proofs.AfterEvict.{evict_keeps, evict_settings}
+use Rattle.cb_evict.proofs.AfterEvict.{evict_keeps, evict_pins, evict_settings}
 use Rattle.cb_swapin.proofs.SwapKeeps.{keeps_far, settings_stay}
+use Rattle.cb_swapin.proofs.SwapPins.{pins_stay}
 use Rattle.cb_core.specs.Parts.{Holding, at_once, no_room, won}
 use Rattle.cb_core.specs.Step.{StillEvict, StillSwap, StillBring}
 use Rattle.cb_core.specs.Turned.{counted}
 
--- All is known after, each object holds what it held, no object was made, and no turn was counted.
+-- All is known after, each object holds what it held, with its pins, no object was made, and no turn
+-- was counted.
 pub record HasKept (a b : Holding Words) (s : Shown) : Type 0 where
   pub shown : Shown
   pub known : IsKnown b.desk b.far shown
@@ -27,6 +30,7 @@ pub record HasKept (a b : Holding Words) (s : Shown) : Type 0 where
   pub made : b.far.made ≡ a.far.made
   pub turns : b.far.counts.turns ≡ a.far.counts.turns
   pub settings : b.desk.settings ≡ a.desk.settings
+  pub pins : (h : ℕ) → pins_of (word_at b.desk h) ≡ pins_of (word_at a.desk h)
 
 -- two holdings are the same where the desks and the far states are
 pub same_holding : (a b : Holding Words) → b.desk ≡ a.desk → b.far ≡ a.far → b ≡ a
@@ -41,6 +45,7 @@ kept_all a s k = record {
   made = refl;
   turns = refl;
   settings = refl;
+  pins = λ h. refl;
 }
 
 pub kept_then : (a b c : Holding Words) (s : Shown) → (k : HasKept a b s) → HasKept b c k.shown
@@ -53,6 +58,7 @@ kept_then a b c s k l = record {
   made = l.made ∙ k.made;
   turns = l.turns ∙ k.turns;
   settings = l.settings ∙ k.settings;
+  pins = λ h. l.pins h ∙ k.pins h;
 }
 
 pub kept_evict : (a b : Holding Words) (r : Reply) (s : Shown) → IsKnown a.desk a.far s
@@ -67,6 +73,7 @@ kept_evict a b r s k (step, hold) =
       made = keeps.made;
       turns = keeps.turns;
       settings = evict_settings a.desk b.desk a.far b.far r step;
+      pins = λ h. evict_pins a.desk b.desk a.far b.far r h step;
     }
 
 pub kept_swap : (a b : Holding Words) (h : ℕ) (r : Reply) (s : Shown) → IsKnown a.desk a.far s
@@ -81,6 +88,7 @@ kept_swap a b h r s k (home, at, step, hold) =
       made = keeps.made;
       turns = ap (λ n. n.turns) keeps.counts;
       settings = settings_stay a.desk b.desk a.far b.far home.set home.position r step;
+      pins = λ h. pins_stay a.desk b.desk a.far b.far home.set home.position r s k step h;
     }
 
 -- what is done with room won keeps what its parts keep

@@ -204,6 +204,15 @@ declined_whole lost len version at count id l e =
     by (past more is) = cc
     by (end is) = cc
 
+pub declined_pinned : (lost : Bool) (len version at count pins : ℕ)
+    → Some (answer.Pinned pins) ≡ write_refusal lost len version at count → ⊥
+declined_pinned lost len version at count pins e =
+    by (declined_as lost len version at count (answer.Pinned pins) e).1
+  where
+    by : DeclinedAs len version at count (answer.Pinned pins) → ⊥
+    by (past more is) = cc
+    by (end is) = cc
+
 pub write_part : (h at : ℕ) (bytes name : List ℕ)
     → IsPart (StillWrite h at bytes) (StillDecline h at (length bytes)) h (Write name at bytes)
 write_part h at bytes name = record {
