@@ -12,7 +12,9 @@ use Rattle.cb_world.specs.Sound.{Sound}
 use Rattle.cb_world.proofs.Alike.{recounted_sound}
 use Rattle.cb_types.specs.Jobs.{job_index}
 use Rattle.cb_world.specs.Counts.{with_turn}
-use Rattle.cb_core.specs.Turned.{Does, MayLack, Stops, Turned, done, Stopped, counted}
+use Rattle.cb_core.specs.Parts.{Holding}
+use Rattle.cb_core.specs.Turned.{Does, Stops, Turned, done, Stopped, counted}
+use Rattle.cb_core.proofs.Composing.{err_map, if_map}
 
 pub counted_sound : (s : Shown) (far mid : FarState) (job : Job) → mid ≡ counted far job → Sound s far
     → Sound s mid
@@ -20,22 +22,30 @@ counted_sound s far mid job is sound = subst (Sound s) (sym is)
     (recounted_sound s far (with_turn far.counts (job_index job)).turns
     (with_turn far.counts (job_index job)).by_job far.nodes.given sound)
 
-pub turned : (runs : List Event → Type 0) (shown : Shown → Type 0) (c : Config) (job : Job)
-    (far mid new : FarState) (result : Result Reply NoMemory) → far.counts.turns < 2 ^ 40
-    → mid ≡ counted far job → IfOk result (λ reply. Does runs shown c job mid reply new)
-    → IfOk result (λ reply. Turned runs shown c job far reply new)
-turned runs shown c job far mid new (Ok reply) few is does =
-    done few (subst (λ (f : FarState). Does runs shown c job f reply new) is does)
-turned runs shown c job far mid new (Err e) few is does = tt
+module _ {D : Type 0} (run : D → List Event → D → Type 0) (shows : D → Shown → Type 0) (c : Config)
+    (job : Job) (a b : Holding D) (result : Result Reply NoMemory) where
+  pub does_is : (j : Job) → job ≡ j → IfOk result (λ r. Does run shows c j a r b)
+      → IfOk result (λ r. Does run shows c job a r b)
+  does_is j is does = subst (λ (x : Job). IfOk result (λ r. Does run shows c x a r b)) (sym is) does
 
-pub stopped : (runs : List Event → Type 0) (shown : Shown → Type 0) (job : Job)
-    (far mid new : FarState) (result : Result Reply NoMemory) → far.counts.turns < 2 ^ 40
-    → mid ≡ counted far job → OnErr result (Stops runs shown job mid) → OnErr result (new ≡ mid)
-    → OnErr result (MayLack mid.members job) → OnErr result (Stopped runs shown job far new)
-stopped runs shown job far mid new (Ok reply) few is stops state lacks = tt
-stopped runs shown job far mid new (Err e) few is stops state lacks = record {
-  few = few;
-  lacks = subst (λ (f : FarState). MayLack f.members job) is lacks;
-  state = state ∙ is;
-  stops = subst (Stops runs shown job) is stops;
-}
+  pub stops_is : (j : Job) → job ≡ j → OnErr result (Stops run shows c j a b)
+      → OnErr result (Stops run shows c job a b)
+  stops_is j is stops = subst (λ (x : Job). OnErr result (Stops run shows c x a b)) (sym is) stops
+
+  pub turned : (mid : FarState) → a.far.counts.turns < 2 ^ 40 → mid ≡ counted a.far job
+      → IfOk result (λ r. Does run shows c job (record { desk = a.desk; far = mid }) r b)
+      → IfOk result (λ r. Turned run shows c job a r b)
+  turned mid few is does = if_map (λ r. Turned run shows c job a r b)
+      (λ r. Does run shows c job (record { desk = a.desk; far = mid }) r b) result does
+      (λ r x. done few (subst (λ (f : FarState).
+      Does run shows c job (record { desk = a.desk; far = f }) r b) is x))
+
+  pub stopped : (mid : FarState) → a.far.counts.turns < 2 ^ 40 → mid ≡ counted a.far job
+      → OnErr result (Stops run shows c job (record { desk = a.desk; far = mid }) b)
+      → OnErr result (Stopped run shows c job a b)
+  stopped mid few is stops = err_map (Stopped run shows c job a b)
+      (Stops run shows c job (record { desk = a.desk; far = mid }) b) result stops (λ x. record {
+        few = few;
+        stops = subst (λ (f : FarState).
+            Stops run shows c job (record { desk = a.desk; far = f }) b) is x;
+      })

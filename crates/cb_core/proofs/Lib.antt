@@ -1,4 +1,7 @@
 pub mod Counting
+pub mod PartsFar
+pub mod Composing
+pub mod DeclinedLooks
 pub mod Changes
 pub mod KeptPins
 pub mod Loose
@@ -13,6 +16,7 @@ pub mod WorkedPins
 pub mod WorkedMembership
 pub mod WorkedRoom
 pub mod WorkedTurns
+pub mod WorkedStill
 pub mod TurnCallsKept
 pub mod TurnCallsFar
 pub mod TurnCallsMap

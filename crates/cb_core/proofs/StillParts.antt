@@ -300,8 +300,11 @@ evict_part c seats accepted a b r good p =
     let keys = (evict_keys x y far new r z.0 (subst IsAccepted (sym good.settings) accepted)).1 in
     let epoch : new.members.epoch ≡ far.members.epoch = ap (λ (m : Membership). m.epoch) keeps.members in
     let given = evict_given x y far new r z.0 in record {
-      is = (z.0, λ s k. let after = (evict_step x y far new r s q k).1 in
-          (after.shown, after.known, after.same_now));
+      is = (
+        z.0,
+        λ s k. let after = (evict_step x y far new r s q k).1 in
+            (after.shown, after.known, after.same_now),
+      );
       good = record {
         settings = evict_settings x y far new r z.0 ∙ good.settings;
         configured = evict_configured x y far new r c z.0 good.configured;
@@ -330,9 +333,14 @@ swap_part c seats h a b r good (home, at, p) =
     let epoch : new.members.epoch ≡ far.members.epoch = ap (λ (m : Membership). m.epoch) keeps.members in
     let settings : y.settings ≡ c = settings_stay x y far new home.set home.position r z.0 ∙ good.settings in
     record {
-      is = (home, at, z.0, λ s k.
-          let after = (swap_step x y far new home.set home.position r s p k).1 in
-          (after.shown, after.known, after.same_now));
+      is = (
+        home,
+        at,
+        z.0,
+        λ s k.
+            let after = (swap_step x y far new home.set home.position r s p k).1 in
+            (after.shown, after.known, after.same_now),
+      );
       good = record {
         settings = settings;
         configured = subst (λ (d : Config). IsConfigured d new) settings

@@ -1,14 +1,21 @@
 -- Worked examples of loose spans, and of the reply of a turn that found no frame.
-use Rattle.std.proofs.Common.{◌≡◌, ℕ, ◌+◌, true, false, List, [], ◌∷◌, Option, None, Some, refl}
+use Rattle.std.proofs.Common.{◌≡◌, ℕ, ◌+◌, true, false, List, [], ◌∷◌, Option, None, Some, refl, ap, ◌∙◌, arith}
+use Rattle.std.specs.FinMap as map
 use Rattle.cb_class.specs.declared.class.Class.{Class}
+use Rattle.cb_member.specs.declared.names.NodeId.{NodeId}
+use Rattle.cb_member.specs.Membership.{Membership, fresh_node, fresh_members}
+use Rattle.cb_node.specs.NodesState.{empty_nodes}
 use Rattle.cb_span.specs.declared.temp.Temp.TheVariants.{Hot}
 use Rattle.cb_span.specs.Contents.{Contents, span_of}
 use Rattle.cb_types.specs.declared.handle.Handle.{Handle}
 use Rattle.cb_types.specs.declared.reply.Reply.TheVariants as answer
+use Rattle.cb_world.specs.Choices.{room_count}
+use Rattle.cb_world.specs.Counts.{CountsState}
 use Rattle.cb_world.specs.FarState.{FarState}
+use Rattle.cb_world.specs.Leaving.{LeavingState}
 use Rattle.cb_world.specs.Plain.{Words}
 use Rattle.cb_world.specs.World.{WorldState}
-use Rattle.cb_core.specs.Room.{is_slot_loose, is_loose, loose_count, final_reply}
+use Rattle.cb_core.specs.Room.{is_frame_loose, loose_count, final_reply}
 use Rattle.cb_core.proofs.WorkedPins.{settings, calm, hot, pinned, moving}
 
 -- slots of 1,024 bytes, four a span
@@ -20,7 +27,7 @@ abbrev pub span_with : Option ℕ → Option ℕ → Option Contents
 span_with first second = Some (span_of largest Hot (first ∷ second ∷ None ∷ None ∷ []))
 
 -- two objects with these words
-abbrev words_are : ℕ → ℕ → Words
+abbrev pub words_are : ℕ → ℕ → Words
 words_are first second = record {
   settings = settings;
   words = first ∷ second ∷ [];
@@ -28,66 +35,115 @@ words_are first second = record {
   memory = [];
 }
 
--- an object that is here and has no pins may leave, hot or cold; so may an empty slot
-calm_is_loose : is_slot_loose (words_are calm calm) (Some 0) ≡ true
-calm_is_loose = refl
+-- turns were counted, by their kinds
+abbrev pub counts : ℕ → List ℕ → CountsState
+counts turns by_job = record { turns = turns; by_job = by_job; sets = 0; keys = 0 }
 
-hot_is_loose : is_slot_loose (words_are hot calm) (Some 0) ≡ true
-hot_is_loose = refl
+-- two frames with these spans, of which a batch is leaving, and these members
+abbrev pub far_of : Option Contents → Option Contents → Option LeavingState → Membership
+    → CountsState → FarState
+far_of first second leaving members c = record {
+  first = 1;
+  made = 1;
+  frames = false ∷ false ∷ [];
+  spans = first ∷ second ∷ [];
+  sets = map.empty;
+  homes = None ∷ None ∷ [];
+  nodes = empty_nodes 2 4;
+  members = members;
+  leaving = leaving;
+  joining = None;
+  counts = c;
+}
 
-none_is_loose : is_slot_loose (words_are pinned pinned) None ≡ true
-none_is_loose = refl
+abbrev pub first_down : Membership
+first_down = record {
+  epoch = 1;
+  nodes = record { up = false; incarnation = 0; crashes = record { n = 1 } ∷ [] } ∷ fresh_node ∷ [];
+}
 
-pinned_is_not : is_slot_loose (words_are pinned calm) (Some 0) ≡ false
-pinned_is_not = refl
+-- object 0 is in the first span, and object 1 in the second one
+abbrev both : Option LeavingState → FarState
+both leaving = far_of (span_with (Some 0) None) (span_with None (Some 1)) leaving (fresh_members 2)
+    (counts 0 [])
 
-claimed_is_not : is_slot_loose (words_are moving calm) (Some 0) ≡ false
-claimed_is_not = refl
+-- ---- a frame
+both_calm : is_frame_loose (words_are calm hot) (both None) 0 ≡ true
+both_calm = refl
 
--- one object that stays keeps its span, first or not, and no other span
-first_stays : is_loose (words_are pinned calm) (span_with (Some 0) (Some 1)) ≡ false
-first_stays = refl
+-- an object that is pinned or claimed keeps its span, and no other span
+its_own_pinned : is_frame_loose (words_are pinned calm) (both None) 0 ≡ false
+its_own_pinned = refl
 
-second_stays : is_loose (words_are calm pinned) (span_with (Some 0) (Some 1)) ≡ false
-second_stays = refl
+its_own_claimed : is_frame_loose (words_are moving calm) (both None) 0 ≡ false
+its_own_claimed = refl
 
-another_stays : is_loose (words_are calm pinned) (span_with (Some 0) None) ≡ true
-another_stays = refl
+another_pinned : is_frame_loose (words_are calm pinned) (both None) 0 ≡ true
+another_pinned = refl
 
--- a frame without a span is not counted
-no_span : is_loose (words_are calm calm) None ≡ false
+-- a span that is leaving is not loose, and one beside it is
+abbrev batch : ℕ → LeavingState
+batch f = record { set = 0; frames = f ∷ []; words = []; parities = []; shards = [] }
+
+is_leaving : is_frame_loose (words_are calm calm) (both (Some (batch 0))) 0 ≡ false
+is_leaving = refl
+
+another_is_leaving : is_frame_loose (words_are calm calm) (both (Some (batch 1))) 0 ≡ true
+another_is_leaving = refl
+
+-- a frame without a span is not loose
+no_span : is_frame_loose (words_are calm calm)
+    (far_of None (span_with None None) None (fresh_members 2) (counts 0 [])) 0 ≡ false
 no_span = refl
 
-both_loose : loose_count (words_are calm hot)
-    (span_with (Some 0) None ∷ None ∷ span_with None (Some 1) ∷ []) ≡ 2
+-- ---- all frames
+both_loose : loose_count (words_are calm hot) (both None) ≡ 2
 both_loose = refl
 
-one_loose : loose_count (words_are calm pinned)
-    (span_with (Some 0) None ∷ None ∷ span_with None (Some 1) ∷ []) ≡ 1
+one_loose : loose_count (words_are calm pinned) (both None) ≡ 1
 one_loose = refl
 
-none_loose : loose_count (words_are moving pinned)
-    (span_with (Some 0) None ∷ None ∷ span_with None (Some 1) ∷ []) ≡ 0
+one_leaves : loose_count (words_are calm hot) (both (Some (batch 1))) ≡ 1
+one_leaves = refl
+
+none_loose : loose_count (words_are moving pinned) (both None) ≡ 0
 none_loose = refl
 
--- no frame becomes no room, with the configured frames and the loose spans; every other reply
--- stays
-abbrev world_of : FarState → ℕ → WorldState
-world_of far second = record {
-  desk = words_are calm second;
-  far = record far { spans = span_with (Some 0) None ∷ span_with None (Some 1) ∷ [] };
+-- ---- no frame becomes no room, with the configured frames, the loose spans and the nodes that have
+-- room; every other reply stays
+abbrev world_of : Words → Membership → WorldState
+world_of desk members = record {
+  desk = desk;
+  far = far_of (span_with (Some 0) None) (span_with None (Some 1)) None members (counts 0 []);
   seats = [];
 }
 
-no_room : (far : FarState) → final_reply (world_of far pinned) answer.NoFrame ≡ answer.NoRoom 2 1 0
-no_room far = refl
+pub two_open : room_count (empty_nodes 2 4) (fresh_members 2) ≡ 2
+two_open = grind (arith, map.gets)
 
-no_room_yet : (far : FarState) → final_reply (world_of far hot) answer.NoFrame ≡ answer.NoRoom 2 2 0
-no_room_yet far = refl
+one_open : room_count (empty_nodes 2 4) first_down ≡ 1
+one_open = grind (arith, map.gets)
 
-full_stays : (far : FarState) → final_reply (world_of far hot) (answer.Full 2) ≡ answer.Full 2
-full_stays far = refl
+one_span : final_reply (world_of (words_are calm pinned) (fresh_members 2)) answer.NoFrame
+    ≡ answer.NoRoom 2 1 2
+one_span = ap (answer.NoRoom 2 1) two_open
 
-made_stays : (far : FarState) (h : Handle)
-    → final_reply (world_of far hot) (answer.Made h 1) ≡ answer.Made h 1
-made_stays far h = refl
+two_spans : final_reply (world_of (words_are calm hot) (fresh_members 2)) answer.NoFrame
+    ≡ answer.NoRoom 2 2 2
+two_spans = ap (answer.NoRoom 2 2) two_open
+
+one_node : final_reply (world_of (words_are calm hot) first_down) answer.NoFrame
+    ≡ answer.NoRoom 2 2 1
+one_node = ap (answer.NoRoom 2 2) one_open
+
+three_frames : final_reply (world_of (record (words_are calm hot) {
+  settings = record settings { frames = 3 };
+}) first_down) answer.NoFrame ≡ answer.NoRoom 3 2 1
+three_frames = ap (answer.NoRoom 3 2) one_open
+
+full_stays : final_reply (world_of (words_are calm hot) first_down) (answer.Full 2) ≡ answer.Full 2
+full_stays = refl
+
+made_stays : (h : Handle) → final_reply (world_of (words_are calm hot) first_down) (answer.Made h 1)
+    ≡ answer.Made h 1
+made_stays h = refl

@@ -1,16 +1,18 @@
 -- Worked examples of turns, steps and events: what meets them, and what breaks one part.
-use Rattle.std.proofs.Common.{◌≡◌, ◌⊎◌, ℕ, zero, suc, ◌+◌, ◌*◌, ◌^◌, ◌<◌, ◌≤◌, Bool, true, false, List, [], ◌∷◌, ◌++◌, Option, None, Some, length, replicate, get_or, unwrap_or, refl, ap, sym, ◌∙◌, inl, inr, lit<, lit≤, arith}
+use Rattle.std.proofs.Common.{◌≡◌, ◌⊎◌, ℕ, zero, suc, ◌+◌, ◌*◌, ◌^◌, ◌<◌, ◌≤◌, Bool, true, false, List, [], ◌∷◌, ◌++◌, Option, None, Some, length, replicate, get_or, unwrap_or, refl, ap, sym, ◌∙◌, subst, inl, inr, lit<, lit≤, arith}
 use Rattle.std.specs.FinMap as map
 use Rattle.cb_class.specs.declared.class.Class.{Class}
 use Rattle.cb_class.specs.Class.{IsClassOf, bytes_of}
 use Rattle.cb_member.specs.declared.names.NodeId.{NodeId}
-use Rattle.cb_member.specs.Membership.{Membership, fresh_node, fresh_members}
+use Rattle.cb_member.specs.Membership.{Membership, fresh_members}
 use Rattle.cb_node.specs.NodesState.{NodesState, empty_nodes, with_rows}
 use Rattle.cb_span.specs.declared.temp.Temp.TheVariants.{Hot}
 use Rattle.cb_types.specs.declared.handle.Handle.{Handle}
-use Rattle.cb_types.specs.declared.job.Job.TheVariants.{Make, Read, Write, Free, Crash, Join}
+use Rattle.cb_types.specs.declared.handle.SetId.{SetId}
+use Rattle.cb_types.specs.declared.job.Job.TheVariants.{Make, Read, Write, Free, Swap, Filter, Evict, Crash, Join}
 use Rattle.cb_types.specs.declared.reply.Reply.{Reply}
 use Rattle.cb_types.specs.declared.reply.Reply.TheVariants as answer
+use Rattle.cb_world.specs.Choices.{room_count}
 use Rattle.cb_world.specs.Counts.{CountsState}
 use Rattle.cb_world.specs.FarState.{FarState}
 use Rattle.cb_world.specs.Placed.{HasRoom, IsCrammed}
@@ -20,16 +22,19 @@ use Rattle.cb_world.specs.Seats.{SeatState}
 use Rattle.cb_world.specs.World.{WorldState, word_at}
 use Rattle.cb_mutate.specs.MakeRule.{HasNoPlace}
 use Rattle.cb_mutate.specs.MakeStep.{IsMakeStep}
+use Rattle.cb_evict.specs.EvictStep.{IsEvictStep, loose_frames, few_spans}
+use Rattle.cb_evict.proofs.AfterEvict.{evict_made}
 use Rattle.cb_core.specs.declared.event.Atomic.TheVariants.{Load, Pin, Unpin}
 use Rattle.cb_core.specs.declared.event.Event.TheVariants as event
 use Rattle.cb_core.specs.Events.{IsEvent}
 use Rattle.cb_core.specs.Jobs.{IsJob}
 use Rattle.cb_core.specs.Membership.{CrashTurn, crashed, is_down}
+use Rattle.cb_core.specs.Parts.{Holding, at_once, no_room as no_room_won, won, near, far as was_away, after as once_in}
 use Rattle.cb_core.specs.Room.{final_reply}
-use Rattle.cb_core.specs.Step.{Works, TurnStep, worn, done, AtomicStep, Step, Leads, StopWords, Stops}
+use Rattle.cb_core.specs.Step.{StillEvict, TurnStep, worn, done, AtomicStep, Step, Leads, Stops, StillStops}
 use Rattle.cb_core.specs.Turned.{counted}
 use Rattle.cb_core.proofs.WorkedPins.{settings, desk, calm, hot, pinned, pin_on, seat_with}
-use Rattle.cb_core.proofs.WorkedRoom.{largest, span_with}
+use Rattle.cb_core.proofs.WorkedRoom.{counts, far_of, first_down, span_with, two_open, words_are}
 
 abbrev node : ℕ → NodeId
 node n = record { n = n }
@@ -37,32 +42,10 @@ node n = record { n = n }
 abbrev handle : ℕ → Handle
 handle n = record { n = n }
 
--- turns were counted, one of them a read
-abbrev counts : ℕ → List ℕ → CountsState
-counts turns by_job = record { turns = turns; by_job = by_job; sets = 0; keys = 0 }
-
 -- two frames whose spans have object 0 and no room for a small one; both nodes are up; one of two
 -- handles was made
 abbrev far : CountsState → FarState
-far c = record {
-  first = 1;
-  made = 1;
-  frames = false ∷ false ∷ [];
-  spans = span_with (Some 0) None ∷ span_with None None ∷ [];
-  sets = map.empty;
-  homes = None ∷ None ∷ [];
-  nodes = empty_nodes 2 4;
-  members = fresh_members 2;
-  leaving = None;
-  joining = None;
-  counts = c;
-}
-
-abbrev first_down : Membership
-first_down = record {
-  epoch = 1;
-  nodes = record { up = false; incarnation = 0; crashes = record { n = 1 } ∷ [] } ∷ fresh_node ∷ [];
-}
+far c = far_of (span_with (Some 0) None) (span_with None None) None (fresh_members 2) c
 
 -- node 0 crashed
 abbrev far_down : CountsState → FarState
@@ -159,7 +142,11 @@ worn_and_crashes step = let e : 1 ≡ 0 =
 worn_and_answers_down : TurnStep (Crash (node 0)) worn_out (answer.Down (node 0)) worn_out → ⊥
 worn_and_answers_down step = let e = (is_refused _ _ step).0 in absurd cc
 
--- ---- a make that finds no frame
+-- ---- a make that finds no frame, where no span can leave
+-- each span has an object with a pin
+abbrev crowd : CountsState → FarState
+crowd c = far_of (span_with (Some 0) None) (span_with (Some 1) None) None (fresh_members 2) c
+
 smallest : IsClassOf 1 (record { index = 0 })
 unfolding bytes_of
 smallest = record {
@@ -172,42 +159,85 @@ abbrev kind : Option ℕ → ℕ
 kind found = unwrap_or found 1
 
 -- the spans are of the largest class
-no_span_has_room : (c : CountsState) (f : ℕ) → HasRoom (far c) (record { index = 0 }) Hot f → ⊥
+no_span_has_room : (c : CountsState) (f : ℕ) → HasRoom (crowd c) (record { index = 0 }) Hot f → ⊥
 no_span_has_room c zero room = let e : 22 ≡ 0 = ap kind room.0 in omega (arith, e)
 no_span_has_room c (suc zero) room = let e : 22 ≡ 0 = ap kind room.0 in omega (arith, e)
 no_span_has_room c (suc (suc f)) room = let e : 1 ≡ 0 = ap kind room.0 in omega (arith, e)
 
-no_place : (c : CountsState) → HasNoPlace 1 (far c)
+no_place : (c : CountsState) → HasNoPlace 1 (crowd c)
 no_place c = (record { index = 0 }, smallest, record { full = no_span_has_room c; taken = refl })
 
 abbrev four_with_a_make : CountsState
 four_with_a_make = counts 4 (1 ∷ 3 ∷ replicate 17 0)
 
-abbrev no_frame : WorldState
-no_frame = world (far four_with_a_make) calm idle
+abbrev crowded : CountsState → WorldState
+crowded c = record { desk = words_are pinned pinned; far = crowd c; seats = idle }
 
-no_room : TurnStep (Make (7 ∷ [])) old (answer.NoRoom 2 2 0) no_frame
-no_room = done answer.NoFrame (lit< tt)
-    (inr (lit< tt, inl (no_place four_with_a_make, refl, refl, refl))) refl refl
+-- the desk and the far state once the turn is counted
+abbrev start : Holding Words
+start = record { desk = words_are pinned pinned; far = crowd four_with_a_make }
+
+no_spans : StillEvict start (answer.NoSpans 0) start
+no_spans = (
+  few_spans (record { few = lit< tt; reply = refl; state = refl }) refl,
+  λ s k. (s, k, λ h. refl),
+)
+
+spans_set : (n : ℕ) (id : SetId) → answer.NoSpans n ≡ answer.Set id → ⊥
+spans_set n id e = cc
+
+no_room : TurnStep (Make (7 ∷ [])) (crowded three) (answer.NoRoom 2 0 2) (crowded four_with_a_make)
+no_room = done answer.NoFrame (lit< tt) (no_room_won start (answer.NoSpans 0)
+    (inr (lit< tt, inl (no_place four_with_a_make, refl, refl, refl))) no_spans (spans_set 0) refl)
+    (ap (answer.NoRoom 2 0) (sym two_open)) refl
+
+no_frame_made : (h : Handle) (v : ℕ) → answer.NoFrame ≡ answer.Made h v → ⊥
+no_frame_made h v e = cc
+
+-- no set is made of spans that can't leave
+no_set : (m n : Holding Words) (id : SetId) → m.desk ≡ start.desk → m.far ≡ start.far
+    → StillEvict m (answer.Set id) n → ⊥
+no_set m n id words state (step, hold) =
+    let made = evict_made m.desk n.desk m.far n.far (answer.Set id) id step refl in
+    let few : 1 ≤ 0 = subst (λ (f : FarState). 1 ≤ length (loose_frames (words_are pinned pinned) f))
+    state (subst (λ (x : Words). x.settings.k ≤ length (loose_frames x m.far)) words made.enough) in
+    omega (arith, few)
+
+not_after_a_set : (m n : Holding Words) (id : SetId)
+    → IsMakeStep start.desk m.desk start.far m.far (7 ∷ []) answer.NoFrame
+    → StillEvict m (answer.Set id) n → ⊥
+not_after_a_set m n id (inl (all, reply, words, state)) v = absurd (omega (arith, all))
+not_after_a_set m n id (inr (more, inl (crammed, reply, words, state))) v =
+    no_set m n id words state v
+not_after_a_set m n id (inr (more, inr (reply, z))) v = no_frame_made _ _ reply
+
+not_made : (q : Reply) → IsMakeStep start.desk start.desk start.far start.far (7 ∷ []) q
+    → (q ≡ answer.NoFrame → ⊥) → ⊥
+not_made q (inl (all, reply, words, state)) off = absurd (omega (arith, all))
+not_made q (inr (more, inl (crammed, reply, words, state))) off = off reply
+not_made q (inr (more, inr (reply, z))) off = absurd (let e : 1 ≡ 2 =
+    ap (λ (f : FarState). f.made) z.state in omega (arith, e))
 
 -- where nothing was made, the reply is no room, with what the world counts
-told_no_room : (r : Reply) → TurnStep (Make (7 ∷ [])) old r no_frame → r ≡ answer.NoRoom 2 2 0
+told_no_room : (r : Reply) → TurnStep (Make (7 ∷ [])) (crowded three) r (crowded four_with_a_make)
+    → r ≡ answer.NoRoom 2 0 2
 told_no_room r (worn end reply same) = absurd (omega (arith, end))
-told_no_room r (done q few (inl (all, reply, words, state)) is seats) = absurd (omega (arith, all))
-told_no_room r (done q few (inr (more, inl (crammed, reply, words, state))) is seats) =
-    is ∙ ap (final_reply no_frame) reply
-told_no_room r (done q few (inr (more, inr (reply, z))) is seats) = absurd (let e : 1 ≡ 2 =
-    ap (λ (f : FarState). f.made) z.state in omega (arith, e))
+told_no_room r (done q few (at_once o off) is seats) = absurd (not_made q o off)
+told_no_room r (done q few (no_room_won m refusal o v none none_is) is seats) =
+    is ∙ ap (final_reply (crowded four_with_a_make)) none_is ∙ ap (answer.NoRoom 2 0) two_open
+told_no_room r (done q few (won m n id o v again off) is seats) = absurd (not_after_a_set m n id o v)
 
 abbrev loose_of : Reply → ℕ
 loose_of (answer.NoRoom frames loose nodes) = loose
-loose_of r = 0
+loose_of r = 7
 
-answers_no_frame : TurnStep (Make (7 ∷ [])) old answer.NoFrame no_frame → ⊥
-answers_no_frame step = let e : 0 ≡ 2 = ap loose_of (told_no_room _ step) in omega (arith, e)
+answers_no_frame : TurnStep (Make (7 ∷ [])) (crowded three) answer.NoFrame (crowded four_with_a_make)
+    → ⊥
+answers_no_frame step = let e : 7 ≡ 0 = ap loose_of (told_no_room _ step) in omega (arith, e)
 
-counts_too_few : TurnStep (Make (7 ∷ [])) old (answer.NoRoom 2 1 0) no_frame → ⊥
-counts_too_few step = let e : 1 ≡ 2 = ap loose_of (told_no_room _ step) in omega (arith, e)
+counts_too_many :
+    TurnStep (Make (7 ∷ [])) (crowded three) (answer.NoRoom 2 1 2) (crowded four_with_a_make) → ⊥
+counts_too_many step = let e : 1 ≡ 0 = ap loose_of (told_no_room _ step) in omega (arith, e)
 
 -- ---- atomic steps
 loads : Step old (event.Step 1 (Load (handle 0))) (answer.Word calm) old
@@ -244,40 +274,54 @@ a_reply_too_few new none = none
 
 -- ---- no memory
 stops : Stops old (event.Turn 0 (Crash (node 0))) (world (far four) calm idle)
-stops = (lit< tt, refl, refl, refl, refl)
+stops = (lit< tt, refl, (refl, refl))
 
 stops_and_crashes : Stops old (event.Turn 0 (Crash (node 0))) (world (far_down four) calm idle) → ⊥
 stops_and_crashes stopped = let e : 1 ≡ 0 =
-    ap (λ (f : FarState). f.members.epoch) stopped.1 in omega (arith, e)
+    ap (λ (d : Holding Words). d.far.members.epoch) stopped.2.0 in omega (arith, e)
 
 stops_uncounted : Stops old (event.Turn 0 (Crash (node 0))) old → ⊥
 stops_uncounted stopped = let e : 3 ≡ 4 =
-    ap (λ (f : FarState). f.counts.turns) stopped.1 in omega (arith, e)
+    ap (λ (d : Holding Words). d.far.counts.turns) stopped.2.0 in omega (arith, e)
 
--- a crash of a node that is down, a write, a free and a join take no memory
+stops_and_takes_a_pin : Stops old (event.Turn 0 (Crash (node 0)))
+    (world (far four) calm (seat_with (pin_on 0 3 ∷ []) ∷ seat_with [] ∷ [])) → ⊥
+stops_and_takes_a_pin stopped = let e : 1 ≡ 0 =
+    ap (λ (s : List SeatState). length (get_or s 0 (seat_with [])).pins) stopped.1 in omega (arith, e)
+
+-- the last turn was counted before
+stops_too_late : (new : WorldState) → Stops worn_out (event.Turn 0 (Crash (node 0))) new → ⊥
+stops_too_late new stopped = let few = stopped.0 in omega (arith, few)
+
+-- a crash of a node that is down, a free, a join and a write to an object that is here take no memory
 down_and_stops : Stops (world (far_down three) calm idle) (event.Turn 0 (Crash (node 0)))
     (world (far_down four) calm idle) → ⊥
-down_and_stops stopped = absurd (let e = stopped.4 in cc)
+down_and_stops stopped = absurd (let e = stopped.2.1 in cc)
 
-write_stops : Stops old (event.Turn 0 (Write (handle 0) 1 [])) (world (far four) calm idle) → ⊥
-write_stops stopped = stopped.4
+free_stops : (new : WorldState) → Stops old (event.Turn 0 (Free (handle 0))) new → ⊥
+free_stops new stopped = stopped.2
 
-free_stops : Stops old (event.Turn 0 (Free (handle 0))) (world (far four) calm idle) → ⊥
-free_stops stopped = stopped.4
+join_stops : (new : WorldState) → Stops old (event.Turn 0 (Join (node 0))) new → ⊥
+join_stops new stopped = stopped.2
 
-join_stops : Stops old (event.Turn 0 (Join (node 0))) (world (far four) calm idle) → ⊥
-join_stops stopped = stopped.4
+not_here_version : (v : ℕ) → answer.NotHere ≡ answer.Version v → ⊥
+not_here_version v e = cc
+
+write_stops : (new : WorldState) → Stops old (event.Turn 0 (Write (handle 0) 1 [])) new → ⊥
+write_stops new (few, seats, near none) = none
+write_stops new (few, seats, was_away m n o d lacks) = not_here_version 4 o.0.reply
+write_stops new (few, seats, once_in m n last f o d v lacks) = lacks
 
 stops_at_a_step : (new : WorldState) → Stops old (event.Step 0 (Load (handle 0))) new → ⊥
 stops_at_a_step new stopped = stopped
 
 -- a read that found no memory for its reply was done all the same
-stopped_read : StopWords (desk calm 3) (Read (handle 0)) (desk hot 3)
-unfolding bytes_in window
-stopped_read = (3, 10 ∷ 11 ∷ [], record { reply = refl; change = refl })
+abbrev holds : ℕ → ℕ → Holding Words
+holds word version = record { desk = desk word version; far = far three }
 
-stopped_free : StopWords (desk calm 3) (Free (handle 0)) (desk 0 4) → ⊥
-stopped_free e = let z : 0 ≡ 16386 = ap (λ (x : Words). get_or x.words 0 0) e in omega (arith, z)
+stopped_read : StillStops (Read (handle 0)) (holds calm 3) (holds hot 3)
+unfolding bytes_in window
+stopped_read = near (refl, (3, 10 ∷ 11 ∷ [], record { reply = refl; change = refl }))
 
 -- ---- which events may come
 last_seat : IsEvent settings (event.Step 63 (Pin (handle 1)))
@@ -300,3 +344,16 @@ too_many_bytes bytes n job = let z = job.1 in omega (arith, z, n)
 
 no_such_node : IsJob settings (Crash (node 2)) → ⊥
 no_such_node job = omega (arith, job)
+
+swapped_in : IsJob settings (Swap (handle 1))
+swapped_in = lit< tt
+
+none_to_swap : IsJob settings (Swap (handle 2)) → ⊥
+none_to_swap job = omega (arith, job)
+
+an_eviction : IsJob settings Evict
+an_eviction = tt
+
+-- which is not built
+a_filter : IsJob settings (Filter (handle 1)) → ⊥
+a_filter job = job

@@ -2,6 +2,8 @@
 //! atomic step, and the world after each event is fixed by one relation.
 #![tactic(auto)]
 
+mod bringing;
+mod declining;
 pub mod event;
 mod membership;
 mod pinning;

@@ -1,13 +1,15 @@
-ghost use Rattle.std.specs.Prelude.{◌≡◌, ℕ, ◌^◌, ◌<◌, length, true, false, IfOk, OnErr};
+ghost use Rattle.std.specs.Prelude.{◌≡◌, ◌+◌, ◌^◌, ◌<◌, true, false, IfOk, OnErr};
 ghost use Rattle.cb_types.specs.Config.{IsAccepted};
 ghost use Rattle.cb_world.specs.declared.shown.Shown.{Shown};
 ghost use Rattle.cb_world.specs.Sound.{Sound};
 ghost use Rattle.cb_world.specs.World.{AreCounted, IsConfigured};
 ghost use Rattle.cb_core.specs.Jobs.{IsJob};
-ghost use Rattle.cb_core.specs.Turned.{Does, MayLack, Stops, Turned, Stopped, counted};
+ghost use Rattle.cb_core.specs.Turned.{Does, Stops, Turned, Stopped, counted};
 
+use crate::bringing::{make_with_room, read_anywhere, swap_object, write_anywhere};
 use crate::membership::{crash, join};
-use cb_mutate::{free, make, read, write};
+use cb_evict::evict_now;
+use cb_mutate::free;
 use cb_types::{Job, NoMemory, Reply};
 use cb_world::{Desk, Far};
 use std::alloc::Global;
@@ -16,9 +18,12 @@ use std::alloc::Global;
 pub const MOST_TURNS: u64 = 1 << 40;
 
 /// A turn of the holder of the far lock: it is counted, and does its job. Where 2^40 turns were
-/// counted it answers Worn, and neither counts nor does anything. A make, a read, and a crash of
-/// a node that is up may find no memory: then the turn is counted, and nothing else has changed
-/// but that a word that was to be read may be hot.
+/// counted it answers Worn, and neither counts nor does anything.
+///
+/// Where there is no frame for a new object or for one that is brought in, an eviction makes room, and
+/// NoFrame is answered only where that is refused. A call on a far object brings it in first, and is
+/// answered as the bringing in where the object stays far. Where there is no memory, the turn is
+/// counted and what its parts did before stays.
 pub fn turn<D: Desk>(
     alloc: Global,
     desk: &mut D,
@@ -30,10 +35,12 @@ pub fn turn<D: Desk>(
     requires job { IsJob (D.settings desk.old) job.now }
     requires counted { AreCounted far.old }
     requires sound { (s : Shown) × D.shows desk.old s × Sound s far.old }
-    ensures turned { IfOk result (λ reply. Turned (λ es. D.run desk.old es desk.new)
-        (λ s. D.shows desk.old s) (D.settings desk.old) job.now far.old reply far.new) }
-    ensures error { OnErr result (Stopped (λ es. D.run desk.old es desk.new)
-        (λ s. D.shows desk.old s) job.now far.old far.new) }
+    ensures turned { IfOk result (λ reply. Turned (λ d es e. D.run d es e) (λ d s. D.shows d s)
+        (D.settings desk.old) job.now (record { desk = desk.old; far = far.old }) reply
+        (record { desk = desk.new; far = far.new })) }
+    ensures error { OnErr result (Stopped (λ d es e. D.run d es e) (λ d s. D.shows d s)
+        (D.settings desk.old) job.now (record { desk = desk.old; far = far.old })
+        (record { desk = desk.new; far = far.new })) }
 {
     if !count_turn(far, job) {
         return Ok(Reply::Worn);
@@ -59,23 +66,30 @@ fn count_turn(far: &mut Far, job: &Job) -> bool
 /// Does a job.
 fn work<D: Desk>(alloc: Global, desk: &mut D, far: &mut Far, job: &Job) -> Result<Reply, NoMemory>
     requires config { IsAccepted (D.settings desk.old) }
-    requires nodes { length far.old.nodes.nodes ≡ (D.settings desk.old).nodes }
+    requires configured { IsConfigured (D.settings desk.old) far.old }
     requires job { IsJob (D.settings desk.old) job.now }
+    requires counts { (far.old.counts.sets < 2 ^ 62) × (far.old.counts.keys < 2 ^ 62) }
+    requires given { far.old.nodes.given + 16 < 2 ^ 64 }
     requires epoch { far.old.members.epoch < 2 ^ 62 }
     requires sound { (s : Shown) × D.shows desk.old s × Sound s far.old }
-    ensures does { IfOk result (λ reply. Does (λ es. D.run desk.old es desk.new)
-        (λ s. D.shows desk.old s) (D.settings desk.old) job.now far.old reply far.new) }
-    ensures error { OnErr result (Stops (λ es. D.run desk.old es desk.new)
-        (λ s. D.shows desk.old s) job.now far.old) }
-    ensures state { OnErr result (far.new ≡ far.old) }
-    ensures lacks { OnErr result (MayLack far.old.members job.now) }
+    ensures does { IfOk result (λ reply. Does (λ d es e. D.run d es e) (λ d s. D.shows d s)
+        (D.settings desk.old) job.now (record { desk = desk.old; far = far.old }) reply
+        (record { desk = desk.new; far = far.new })) }
+    ensures error { OnErr result (Stops (λ d es e. D.run d es e) (λ d s. D.shows d s)
+        (D.settings desk.old) job.now (record { desk = desk.old; far = far.old })
+        (record { desk = desk.new; far = far.new })) }
 {
     match job {
-        Job::Make { bytes } => make(desk, far, bytes.as_slice()),
-        Job::Read { handle } => read(alloc, desk, far, *handle),
-        Job::Write { handle, at, bytes } => write(desk, far, *handle, *at, bytes.as_slice()),
+        Job::Make { bytes } => make_with_room(desk, far, bytes.as_slice()),
+        Job::Read { handle } => read_anywhere(alloc, desk, far, *handle),
+        Job::Write { handle, at, bytes } => {
+            write_anywhere(desk, far, *handle, *at, bytes.as_slice())
+        }
         Job::Free { handle } => free(desk, far, *handle),
+        Job::Swap { handle } => swap_object(desk, far, *handle),
+        Job::Evict => evict_now(desk, far),
         Job::Crash { node } => crash(far, *node),
         Job::Join { node } => Ok(join(far, *node)),
+        _ => unreachable!(),
     }
 }

@@ -1,8 +1,8 @@
 -- What an eviction leaves as it was, from the step alone.
 use Rattle.std.proofs.Common.{◌≡◌, ◌⊎◌, ℕ, zero, suc, Bool, true, false, ◌+◌, ◌<◌, ◌≤◌, List, [], ◌∷◌, length, get_or, take, Option, Some, None, refl, sym, ap, ◌∙◌, subst, arith, inl, inr}
 use Rattle.std.specs.List.{Contains}
-use Rattle.std.proofs.lemmas.Bool.{cases_eq, false≢true}
-use Rattle.std.proofs.lemmas.List.{length-take-le}
+use Rattle.std.proofs.lemmas.Bool.{cases_eq, cases_lt, false≢true}
+use Rattle.std.proofs.lemmas.List.{length-take-le, get_or_past}
 use Rattle.std.proofs.lemmas.List.Elements.{All-contains, filter_passes}
 use Rattle.cb_frame.specs.FreeFrames.{IsFree as IsFreeFrame, least_free}
 use Rattle.cb_frame.proofs.Laws.{least_free-None}
@@ -18,14 +18,19 @@ use Rattle.cb_types.specs.Config.{IsAccepted}
 use Rattle.cb_types.specs.declared.handle.SetId.{SetId}
 use Rattle.cb_types.specs.declared.reply.Reply.{Reply}
 use Rattle.cb_types.specs.declared.reply.Reply.TheVariants as answer
+use Rattle.cb_world.specs.declared.object.Object.{Object}
+use Rattle.cb_world.specs.declared.object.Object.TheVariants as is
+use Rattle.cb_world.specs.declared.shown.Shown.{Shown}
+use Rattle.cb_world.specs.Shown.{Fits, object_at}
 use Rattle.cb_world.specs.FarState.{FarState, span_in, handle_in}
 use Rattle.cb_world.specs.Grasped.{IsFree}
 use Rattle.cb_world.specs.Homes.{home_at}
 use Rattle.cb_world.specs.Plain.{Words}
 use Rattle.cb_world.specs.Seats.{SeatState}
 use Rattle.cb_world.specs.Sets.{set_in}
+use Rattle.cb_world.specs.StillDesk.{bits_here}
 use Rattle.cb_world.specs.Stored.{all_put}
-use Rattle.cb_world.specs.World.{word_at, IsConfigured, ArePinned}
+use Rattle.cb_world.specs.World.{word_at, IsKnown, IsConfigured, ArePinned}
 use Rattle.cb_world.proofs.Kept.{frame_in_range}
 use Rattle.cb_world.proofs.Pins.{pinned_still}
 use Rattle.cb_evict.specs.Candidates.{candidates}
@@ -124,7 +129,8 @@ not_later : (spans : List (Option Contents)) (f : ℕ) (frames : List ℕ) (h : 
     → ¬ (IsIn spans (f ∷ frames) h)
 not_later spans f frames h off out (g, (zero, l, e), (slot, named)) =
     off slot (ap (λ (n : ℕ). handle_in (span_in spans n) slot) e ∙ named)
-not_later spans f frames h off out (g, (suc k, l, e), named) = out (g, (k, omega (arith, l), e), named)
+not_later spans f frames h off out (g, (suc k, l, e), named) =
+    out (g, (k, omega (arith, l), e), named)
 
 -- an object is one of those that leave, or is not
 pub in_or_not : (spans : List (Option Contents)) (frames : List ℕ) (h : ℕ)
@@ -270,8 +276,8 @@ evict_keeps x y far new r step =
 pub evict_sets : (x y : Words) (far new : FarState) (r : Reply) → IsEvictStep x y far new r
     → (far.counts.sets ≤ new.counts.sets) × (new.counts.sets ≤ far.counts.sets + 1)
 evict_sets x y far new r step =
-    by_step (λ u f. (far.counts.sets ≤ f.counts.sets) × (f.counts.sets ≤ far.counts.sets + 1)) x y far
-    new r step (omega arith, omega arith)
+    by_step (λ u f. (far.counts.sets ≤ f.counts.sets) × (f.counts.sets ≤ far.counts.sets + 1))
+    x y far new r step (omega arith, omega arith)
     (λ m. let e : new.counts.sets ≡ far.counts.sets + 1 =
     ap (λ (f : FarState). f.counts.sets) m.evicted.state in
     (omega (arith, e), omega (arith, e)))
@@ -282,8 +288,8 @@ pub evict_keys : (x y : Words) (far new : FarState) (r : Reply) → IsEvictStep 
     → (far.counts.keys ≤ new.counts.keys) × (new.counts.keys ≤ far.counts.keys + 24)
 evict_keys x y far new r step accepted =
     let k = accepted K in let n = accepted R in
-    by_step (λ u f. (far.counts.keys ≤ f.counts.keys) × (f.counts.keys ≤ far.counts.keys + 24)) x y far
-    new r step (omega arith, omega arith)
+    by_step (λ u f. (far.counts.keys ≤ f.counts.keys) × (f.counts.keys ≤ far.counts.keys + 24))
+    x y far new r step (omega arith, omega arith)
     (λ m. let e : new.counts.keys ≡ far.counts.keys + length m.evicted.shards =
     ap (λ (f : FarState). f.counts.keys) m.evicted.state in
     (omega (arith, e), omega (arith, e, m.evicted.chosen.count, k.1, n.1)))
@@ -308,6 +314,23 @@ evict_home x y far new r h step absent =
     by_step (λ u f. home_at f.homes h ≡ home_at far.homes h) x y far new r step refl
     (λ m. m.evicted.homes.others h
     (λ f c named. absent (leaves_free x far x.settings.k h (f, c, named)).0))
+
+-- so that of an object that was far
+pub evict_far_home : (x y : Words) (far new : FarState) (r : Reply) (s : Shown) (h len v : ℕ)
+    (words : List ℕ) → IsEvictStep x y far new r → IsKnown x far s
+    → object_at s h ≡ is.Far len v words → home_at new.homes h ≡ home_at far.homes h
+evict_far_home x y far new r s h len v words step k away =
+    evict_home x y far new r h step (λ here. absent here (cases_lt h (length x.words)))
+  where
+    absent : state_of (word_at x h) ≡ state.Here → (h < length x.words) ⊎ (length x.words ≤ h) → ⊥
+    absent here (inl below) =
+        let bits = bits_here (word_at x h) here in
+        let fit : Fits (is.Far len v words) (word_at x h) =
+        subst (λ (o : Object). Fits o (word_at x h)) away (k.shows.fit h below) in
+        omega (arith, bits, fit.0)
+    absent here (inr past) =
+        let bits = bits_here (word_at x h) here in
+        let none = get_or_past x.words h 0 past in omega (arith, bits, none)
 
 -- ---- frames
 loose_span : (x : Words) (o : Option Contents) → is_loose x o ≡ true

@@ -1,24 +1,24 @@
 mod Framing
-mod Putting
+pub mod Putting
 mod Filling
 mod Sharing
-mod Homing
+pub mod Homing
 mod Events
 mod Claims
 mod Gathers
 mod Slots
-mod Loose
-mod Trying
+pub mod Loose
+pub mod Trying
 mod Sends
 mod Loads
-mod Standing
+pub mod Standing
 mod Owned
 mod NewSet
-mod Gone
+pub mod Gone
 mod Evicts
 mod Ending
 mod Restored
-mod Composed
+pub mod Composed
 mod LooseSpans
 pub mod EvictStep
 pub mod AfterEvict

@@ -1,5 +1,5 @@
--- Worked examples of loose spans by the words of the still desk, of objects that are sent off and of
--- the two refusals: values that meet a definition, and for each of its parts one that breaks that
+-- Worked examples of loose spans by the words of the still desk, of objects that are sent off and
+-- of the two refusals: values that meet a definition, and for each of its parts one that breaks that
 -- part alone.
 use Rattle.std.proofs.Common.{◌≡◌, ℕ, zero, suc, ◌+◌, ◌*◌, ◌<◌, ◌≤◌, true, false, List, [], ◌∷◌, length, Option, None, Some, refl, sym, ap, ◌∙◌, subst, lit<, lit≤, arith}
 use Rattle.std.specs.FinMap as map
@@ -175,14 +175,17 @@ sent_off = record {
 
 -- the object's word is far, and has its length
 pub not_here : AreSentOff before before pair (0 ∷ []) → ⊥
-not_here a = let e : calm ≡ 1 + 8 * 8192 = (a.sent 0 first_object).number in absurd (omega (arith, e))
+not_here a =
+    let e : calm ≡ 1 + 8 * 8192 = (a.sent 0 first_object).number in absurd (omega (arith, e))
 
 not_longer : AreSentOff before (desk (73729 ∷ pinned ∷ [])) pair (0 ∷ []) → ⊥
-not_longer a = let e : 73729 ≡ 1 + 8 * 8192 = (a.sent 0 first_object).number in absurd (omega (arith, e))
+not_longer a =
+    let e : 73729 ≡ 1 + 8 * 8192 = (a.sent 0 first_object).number in absurd (omega (arith, e))
 
 -- another object's word stays
 not_unpinned : AreSentOff before (desk (away ∷ calm ∷ [])) pair (0 ∷ []) → ⊥
-not_unpinned a = let e : calm ≡ pinned = a.others 1 (λ i. let z = only_object 1 i in omega (arith, z)) in
+not_unpinned a =
+    let e : calm ≡ pinned = a.others 1 (λ i. let z = only_object 1 i in omega (arith, z)) in
     absurd (omega (arith, e))
 
 -- and no word is added
@@ -211,7 +214,7 @@ pub zeros : window (words_in []) (1 * words_of (record { index = 0 })) 1 ≡ 0 �
 unfolding words_of bytes_of window words_from
 zeros = refl
 
-first_word : contents_at before 0 ≡ 0 ∷ []
+pub first_word : contents_at before 0 ≡ 0 ∷ []
 unfolding window
 first_word = refl
 
@@ -243,7 +246,7 @@ contents_in row rest is (suc p) f slot h span at there named = absurd (none_is f
 have_contents : HaveContents before pair (0 ∷ []) ([] ∷ [])
 have_contents = contents_in [] [] zeros
 
-heads : (a b : ℕ) → a ∷ [] ≡ b ∷ [] → a ≡ b
+pub heads : (a b : ℕ) → a ∷ [] ≡ b ∷ [] → a ≡ b
 heads a b e = cc
 
 -- an object whose word is 7 is not in a row of zeros

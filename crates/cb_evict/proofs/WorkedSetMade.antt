@@ -1,5 +1,5 @@
--- A worked example of a whole step: the loose one of two spans is evicted; and for each part of what
--- is said of it a value that breaks that part alone.
+-- A worked example of a whole step: the loose one of two spans is evicted; and for each part of
+-- what is said of it a value that breaks that part alone.
 use Rattle.std.proofs.Common.{◌≡◌, ℕ, zero, suc, ◌*◌, ◌^◌, ◌<◌, ◌≤◌, false, nat_lt, List, [], ◌∷◌, length, get_or, All, Option, None, Some, replicate, refl, sym, ap, ◌∙◌, subst, lit<, lit≤, arith, inr}
 use Rattle.std.specs.FinMap as map
 use Rattle.std.specs.List.{Contains, slice_get}
@@ -7,12 +7,12 @@ use Rattle.std.proofs.lemmas.Bool.{false≢true}
 use Rattle.std.proofs.lemmas.List.{get_or-replicate, length-replicate}
 use Rattle.std.proofs.lemmas.List.Elements.{All-nil, All-cons, All-replicate}
 use Rattle.cb_class.specs.Class.{words_of, bytes_of}
-use Rattle.cb_gf256.specs.Rows.{byte_at}
+use Rattle.cb_gf256.specs.Rows.{row_at, byte_at}
 use Rattle.cb_gf256.specs.Power.{power}
 use Rattle.cb_gf256.specs.Product.{◌⊗◌}
 use Rattle.cb_gf256.proofs.PublicLaws.{product_with_zero, sum_over_zeros}
 use Rattle.cb_member.specs.declared.names.Shard.{Shard}
-use Rattle.cb_node.specs.NodesState.{held}
+use Rattle.cb_node.specs.NodesState.{NodesState, held, row_at as row_under}
 use Rattle.cb_set.specs.SetState.{SetState}
 use Rattle.cb_types.specs.declared.handle.SetId.{SetId}
 use Rattle.cb_types.specs.declared.reply.Reply.TheVariants as answer
@@ -23,13 +23,15 @@ use Rattle.cb_world.specs.Homes.{home_at}
 use Rattle.cb_world.specs.Memory.{window}
 use Rattle.cb_world.specs.RowWords.{words_from, words_in}
 use Rattle.cb_world.specs.Sets.{set_in}
+use Rattle.cb_world.specs.Stored.{all_put}
+use Rattle.cb_span.specs.declared.temp.Temp.TheVariants.{Cold}
 use Rattle.cb_world.specs.SetWord.{IsSpanWord}
 use Rattle.cb_evict.specs.Candidates.{Names}
 use Rattle.cb_evict.specs.Closing.{HaveHomes, with_homes}
 use Rattle.cb_evict.specs.EvictStep.{IsEvictedTo, IsSetMade, IsEvictStep, made}
 use Rattle.cb_evict.specs.Storing.{IsShardAt, AreShards, set_for, with_set}
 use Rattle.cb_evict.proofs.NewSet.{set_added_in}
-use Rattle.cb_evict.proofs.WorkedEvictStep.{before, after, busy, pair, lone, one_node, none_is, same_number, sent_off, not_here, contents_in}
+use Rattle.cb_evict.proofs.WorkedEvictStep.{before, after, busy, pair, lone, one_node, none_is, same_number, sent_off, not_here, contents_in, first_word, heads, span_with}
 
 -- ---- the code word: a row of zeros and its parity
 row : List ℕ
@@ -73,7 +75,8 @@ is_word = record {
         ∙ product_with_zero (power 2 (i * j)));
   };
   bytes = All-cons (All (λ (b : ℕ). b < 2 ^ 8)) row (row ∷ []) row_bytes
-      (All-cons (All (λ (b : ℕ). b < 2 ^ 8)) row [] row_bytes (All-nil (All (λ (b : ℕ). b < 2 ^ 8))));
+      (All-cons (All (λ (b : ℕ). b < 2 ^ 8)) row [] row_bytes
+      (All-nil (All (λ (b : ℕ). b < 2 ^ 8))));
   wide = row_length;
 }
 
@@ -161,11 +164,12 @@ homed = record {
     others (suc h) none = refl
 
 -- ---- the step
-abbrev with_shards : List Shard → FarState
-with_shards shards = with_homes (with_set pair shards (0 ∷ []) rows) (0 ∷ []) homes
+-- the far state once these rows are put at these shards' nodes
+abbrev with_word : List Shard → List (List ℕ) → FarState
+with_word shards rows = with_homes (with_set pair shards (0 ∷ []) rows) (0 ∷ []) homes
 
 abbrev new : FarState
-new = with_shards shards
+new = with_word shards rows
 
 evicted : IsEvictedTo before after pair new (0 ∷ [])
 evicted = record {
@@ -198,17 +202,83 @@ again = record { node = numbered 0; incarnation = 0; key = 1 }
 some_set : (a b : SetState) → Some a ≡ Some b → a ≡ b
 some_set a b e = cc
 
--- two rows at one node
-not_twice : IsEvictedTo before after pair (with_shards (shard 0 ∷ again ∷ [])) (0 ∷ []) → ⊥
-not_twice a =
-    let wrong = shard 0 ∷ again ∷ [] in
-    let set : set_for pair wrong (0 ∷ []) ≡ set_for pair a.shards (0 ∷ []) = some_set _ _
-    (sym (set_added_in pair.sets 0 (set_for pair wrong (0 ∷ [])))
+-- the set says which its shards are
+same_shards : (at : List Shard) (put : List (List ℕ))
+    → (a : IsEvictedTo before after pair (with_word at put) (0 ∷ [])) → at ≡ a.shards
+same_shards at put a = ap (λ (s : SetState). s.shards)
+    (some_set (set_for pair at (0 ∷ [])) (set_for pair a.shards (0 ∷ []))
+    (sym (set_added_in pair.sets 0 (set_for pair at (0 ∷ [])))
     ∙ ap (λ (f : FarState). set_in f.sets 0) a.state
-    ∙ set_added_in pair.sets 0 (set_for pair a.shards (0 ∷ []))) in
-    let same : wrong ≡ a.shards = ap (λ (s : SetState). s.shards) set in
-    let at = (subst (λ (l : List Shard). AreShards pair 2 l) (sym same) a.chosen).each 1 again refl in
-    false≢true (sym at.node.may.spare)
+    ∙ set_added_in pair.sets 0 (set_for pair a.shards (0 ∷ []))))
+
+-- two rows at one node
+not_twice : IsEvictedTo before after pair (with_word (shard 0 ∷ again ∷ []) rows) (0 ∷ []) → ⊥
+not_twice a =
+    let chosen = subst (λ (l : List Shard). AreShards pair 2 l)
+    (sym (same_shards (shard 0 ∷ again ∷ []) rows a)) a.chosen in
+    false≢true (sym (chosen.each 1 again refl).node.may.spare)
+
+first_stored : (r q : List ℕ)
+    → row_under (all_put pair.nodes shards (r ∷ q ∷ [])) (numbered 0) 0 ≡ Some r
+first_stored r q = grind (arith, map.gets)
+
+second_stored : (r q : List ℕ)
+    → row_under (all_put pair.nodes shards (r ∷ q ∷ [])) (numbered 1) 1 ≡ Some q
+second_stored r q = grind (arith, map.gets)
+
+two_of : (l : List (List ℕ)) → length l ≡ 2 → l ≡ row_at l 0 ∷ row_at l 1 ∷ []
+two_of [] e = absurd (omega (arith, e))
+two_of (r ∷ []) e = absurd (omega (arith, e))
+two_of (r ∷ q ∷ []) e = refl
+two_of (r ∷ q ∷ u ∷ l) e = absurd (omega (arith, e))
+
+some_row : (r q : List ℕ) → Some r ≡ Some q → r ≡ q
+some_row r q e = cc
+
+-- the nodes say which its rows are
+same_rows : (r q : List ℕ)
+    → (a : IsEvictedTo before after pair (with_word shards (r ∷ q ∷ [])) (0 ∷ []))
+    → (r ≡ row_at a.rows 0) × (q ≡ row_at a.rows 1)
+same_rows r q a =
+    let nodes : all_put pair.nodes shards (r ∷ q ∷ [])
+    ≡ all_put pair.nodes shards (row_at a.rows 0 ∷ row_at a.rows 1 ∷ []) =
+    ap (λ (f : FarState). f.nodes) a.state
+    ∙ ap (λ (l : List Shard). all_put pair.nodes l a.rows)
+    (sym (same_shards shards (r ∷ q ∷ []) a))
+    ∙ ap (all_put pair.nodes shards) (two_of a.rows a.word.is_word.count) in (
+      some_row r (row_at a.rows 0) (sym (first_stored r q)
+          ∙ ap (λ (n : NodesState). row_under n (numbered 0) 0) nodes
+          ∙ first_stored (row_at a.rows 0) (row_at a.rows 1)),
+      some_row q (row_at a.rows 1) (sym (second_stored r q)
+          ∙ ap (λ (n : NodesState). row_under n (numbered 1) 1) nodes
+          ∙ second_stored (row_at a.rows 0) (row_at a.rows 1)),
+    )
+
+-- a row of zeros and an empty one are no word
+not_word : IsEvictedTo before after pair (with_word shards (row ∷ [] ∷ [])) (0 ∷ []) → ⊥
+not_word a =
+    let none : 0 ≡ length (row_at a.rows 1) =
+    ap (λ (l : List ℕ). length l) (same_rows row [] a).1 in
+    let count = a.word.is_word.count in
+    let same = a.word.is_word.equal_lengths 1 [] (omega (arith, count)) in
+    let wide = a.word.wide in absurd (omega (arith, none, same, wide))
+
+-- a row of ones has not the object's word
+ones : List ℕ
+ones = replicate 4096 1
+
+ones_words : window (words_in ones) (1 * words_of (record { index = 0 })) 1
+    ≡ 72340172838076673 ∷ []
+unfolding ones words_of bytes_of window words_from
+ones_words = refl
+
+not_its_words : IsEvictedTo before after pair (with_word shards (ones ∷ ones ∷ [])) (0 ∷ []) → ⊥
+not_its_words a =
+    let e = heads 72340172838076673 0 (sym ones_words
+    ∙ ap (λ (l : List ℕ). window (words_in l) (1 * words_of (record { index = 0 })) 1)
+    (same_rows ones ones a).0
+    ∙ sym (a.contents 0 0 1 0 (span_with Cold 0) refl refl refl) ∙ first_word) in
+    absurd (omega (arith, e))
 
 -- another part of the far state changed
 not_made : IsEvictedTo before after pair (record new { made = 5 }) (0 ∷ []) → ⊥
@@ -239,7 +309,8 @@ id_is a b e = cc
 
 -- the reply has the set's number
 not_another_number : IsSetMade before after pair new (answer.Set (record { n = 1 })) → ⊥
-not_another_number a = let e : 1 ≡ 0 = ap (λ (id : SetId). id.n) (id_is _ _ a.reply) in absurd (omega (arith, e))
+not_another_number a =
+    let e : 1 ≡ 0 = ap (λ (id : SetId). id.n) (id_is _ _ a.reply) in absurd (omega (arith, e))
 
 -- a set that was to be made is no refusal
 not_refused : IsSetMade before before pair pair (answer.Set (record { n = 0 })) → ⊥

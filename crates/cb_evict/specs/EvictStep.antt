@@ -25,6 +25,7 @@ use Rattle.cb_evict.specs.Storing.{AreShards, with_set}
 use Rattle.cb_evict.specs.Closing.{HaveHomes, with_homes}
 use Rattle.cb_evict.specs.EvictRule.{HasFewSpans, HasFewNodes}
 
+-- whether the state is Here
 abbrev pub is_here : State → Bool
 is_here state.Here = true
 is_here other = false
@@ -62,9 +63,10 @@ HaveContents x far frames rows = (p f slot h : ℕ) (span : Contents) → slice_
     → contents_at x h ≡ window (words_in (row_at rows p)) (slot * words_of span.class)
     (words_for (len_of (word_at x h)))
 
--- The spans in these frames left as a new set: a code word whose rows have the memory words of their
--- objects stands at the nodes of the set's shards, the objects' homes are in the set, and the frames
--- are free. Nothing else of the far state changed, and of the words those of the objects alone.
+-- The spans in these frames left as a new set: a code word whose rows have the memory words of
+-- their objects stands at the nodes of the set's shards, the objects' homes are in the set, and the
+-- frames are free. Nothing else of the far state changed, and of the words those of the objects
+-- alone.
 pub record IsEvictedTo (x y : Words) (far new : FarState) (frames : List ℕ) : Type 0 where
   pub shards : List Shard
   pub rows : List (List ℕ)

@@ -1,21 +1,10 @@
 ghost use Rattle.std.specs.Prelude.{◌≡◌, ◌^◌, ◌<◌, ◌++◌, IfOk, OnOk, filter, length};
 ghost use Rattle.std.specs.List.{range_with_len};
-ghost use Rattle.cb_world.specs.Placed.{leaving_frames};
 ghost use Rattle.cb_evict.specs.Candidates.{is_among, same_temp, has_temp, may_leave, frames_with, candidates};
 
 use cb_span::{Span, Temp};
 use cb_types::NoMemory;
-use cb_world::{Far, Leaving, Spans};
-
-/// The frames of the batch that is leaving.
-fn leaving_frames(leaving: &Option<Leaving>) -> &[u32]
-    ensures { result.now ≡ leaving_frames leaving.now }
-{
-    match leaving {
-        Some(batch) => batch.frames.as_slice(),
-        None => &[],
-    }
-}
+use cb_world::{Far, Spans, leaving_frames};
 
 /// Whether the frame is one of these.
 fn is_among(frames: &[u32], frame: u32) -> bool

@@ -9,6 +9,7 @@ pub mod Written
 pub mod Emptied
 pub mod Freed
 pub mod FarFreed
+pub mod FarSeen
 pub mod Loaded
 pub mod SettledHot
 pub mod ReadAfter

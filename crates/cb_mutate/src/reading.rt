@@ -3,7 +3,10 @@ ghost use Rattle.cb_types.specs.Config.{IsAccepted};
 ghost use Rattle.cb_ptr.specs.declared.word.State.TheVariants as state;
 ghost use Rattle.cb_ptr.specs.Word.{state_of, len_of, place_of};
 ghost use Rattle.cb_world.specs.declared.event.Event.{Event};
+ghost use Rattle.cb_types.specs.declared.reply.Reply.TheVariants as answer;
+ghost use Rattle.cb_world.specs.declared.object.Object.TheVariants as is;
 ghost use Rattle.cb_world.specs.declared.shown.Shown.{Shown};
+ghost use Rattle.cb_world.specs.Shown.{object_at};
 ghost use Rattle.cb_world.specs.Sound.{Sound};
 ghost use Rattle.cb_world.specs.Claimed.{IsClaimedAt};
 ghost use Rattle.cb_world.specs.Grasped.{IsFree};
@@ -34,7 +37,8 @@ pub(crate) enum Seen {
 /// they don't write, so a pinned object is read as it stands. Takes the memory of the answer alone;
 /// where there is none, all else is as if it had been answered.
 ///
-/// Refuses with Unmade, Freed, Moving or NotHere where the object is not here.
+/// Refuses with Unmade, Freed, Moving or NotHere where the object is not here; NotHere is answered only
+/// where it is far.
 pub fn read<D: Desk>(
     alloc: Global,
     desk: &mut D,
@@ -55,6 +59,8 @@ pub fn read<D: Desk>(
         (HasSeen h.n)
         (λ t. Sound t far.new)
         (IsShown h.n)) }
+    ensures away { IfOk result (λ reply. reply ≡ answer.NotHere → (s : Shown) → D.shows desk.old s
+        → (len v : ℕ) × (words : List ℕ) × (object_at s h.n ≡ is.Far len v words)) }
 {
     let mut bytes = [0; MOST_BYTES];
     match see(desk, far, h, &mut bytes) {
@@ -77,6 +83,8 @@ fn see<D: Desk>(desk: &mut D, far: &Far, h: Handle, into: &mut [u8; MOST_BYTES])
         (λ t. Sound t far.now)
         (ReadEffect h.n (reply_of result into.new)) }
     ensures short { IsShort result }
+    ensures away { reply_of result into.new ≡ answer.NotHere → (s : Shown) → D.shows desk.old s
+        → (len v : ℕ) × (words : List ℕ) × (object_at s h.n ≡ is.Far len v words) }
 {
     let _far = far;
     match try_claim(desk, h) {

@@ -2,7 +2,10 @@ ghost use Rattle.std.specs.Prelude.{◌≡◌, ℕ, ◌+◌, ◌<◌, List, leng
 ghost use Rattle.cb_types.specs.Config.{IsAccepted};
 ghost use Rattle.cb_ptr.specs.Word.{state_of, len_of, place_of};
 ghost use Rattle.cb_world.specs.declared.event.Event.{Event};
+ghost use Rattle.cb_types.specs.declared.reply.Reply.TheVariants as answer;
+ghost use Rattle.cb_world.specs.declared.object.Object.TheVariants as is;
 ghost use Rattle.cb_world.specs.declared.shown.Shown.{Shown};
+ghost use Rattle.cb_world.specs.Shown.{object_at};
 ghost use Rattle.cb_world.specs.Sound.{Sound};
 ghost use Rattle.cb_world.specs.Grasped.{IsFree};
 ghost use Rattle.cb_world.specs.Reads.{AreReads};
@@ -24,7 +27,8 @@ use cb_world::{Desk, Far, Grasp, try_claim};
 /// memory, and never answers that there is none.
 ///
 /// Refuses with Unmade, Freed, Moving or NotHere where the object is not here, with Range past its
-/// end, with Pinned where it has pins, and with Worn where its version has no next one.
+/// end, with Pinned where it has pins, and with Worn where its version has no next one. NotHere is
+/// answered only where it is far.
 pub fn write<D: Desk>(
     desk: &mut D,
     far: &mut Far,
@@ -42,6 +46,8 @@ pub fn write<D: Desk>(
         (WriteRule h.n at bytes.now reply)
         (λ t. Sound t far.new)
         (WriteEffect h.n at bytes.now reply)) }
+    ensures away { IfOk result (λ reply. reply ≡ answer.NotHere → (s : Shown) → D.shows desk.old s
+        → (len v : ℕ) × (words : List ℕ) × (object_at s h.n ≡ is.Far len v words)) }
 {
     Ok(written(desk, far, h, at, bytes))
 }
@@ -56,6 +62,8 @@ fn written<D: Desk>(desk: &mut D, far: &Far, h: Handle, at: u32, bytes: &[u8]) -
         (WriteRule h.n at bytes.now result)
         (λ t. Sound t far.now)
         (WriteEffect h.n at bytes.now result) }
+    ensures away { result ≡ answer.NotHere → (s : Shown) → D.shows desk.old s
+        → (len v : ℕ) × (words : List ℕ) × (object_at s h.n ≡ is.Far len v words) }
 {
     let _far = far;
     match try_claim(desk, h) {
@@ -88,9 +96,10 @@ fn write_claimed<D: Desk>(desk: &mut D, h: Handle, word: u64, at: u32, bytes: &[
     requires config { IsAccepted (D.settings desk.old) }
     requires claimed { (s : Shown) × D.shows desk.old s
         × ((v : ℕ) × (words : List ℕ) × IsClaimedAt s h.n word v words) }
-    ensures { Finishes (λ es. D.run desk.old es desk.new)
+    ensures ends { Finishes (λ es. D.run desk.old es desk.new)
         (λ s v words. D.shows desk.old s × IsClaimedAt s h.n word v words) h.n word
         (WriteEnds h.n word at bytes.now result) }
+    ensures here { result ≡ answer.NotHere → ⊥ }
 {
     let fields = unpack(word);
     if at as usize + bytes.len() > fields.len as usize {

@@ -1,5 +1,5 @@
 -- Where the object of a far word lies; and what is known where rows were given out in vain.
-use Rattle.std.proofs.Common.{◌≡◌, ℕ, true, ◌+◌, ◌<◌, Option, Some, None, is_some, length, refl, ap, ◌∙◌, arith, inl, inr}
+use Rattle.std.proofs.Common.{◌≡◌, ℕ, ◌+◌, ◌≤◌, true, ◌<◌, Option, Some, None, is_some, length, refl, ap, ◌∙◌, arith, inl, inr}
 use Rattle.std.proofs.lemmas.Bool.{cases_lt}
 use Rattle.std.proofs.lemmas.List.{get_or_past}
 use Rattle.std.proofs.lemmas.List.Folds.{list_any_at}
@@ -79,3 +79,11 @@ given_known x far s n k = record {
 
 pub given_now : (far : FarState) (s : Shown) (n h : ℕ) → now s (far_given far n) h ≡ now s far h
 given_now far s n h = refl
+
+-- at most as many as the set has data positions, which are 16 at the most
+pub given_failed : (x : Words) (far : FarState) (s : Shown) (id n : ℕ) (set : SetState)
+    → IsKnown x far s → set_in far.sets id ≡ Some set → n ≤ length set.positions
+    → (far_given far n).nodes.given ≤ far.nodes.given + 16
+given_failed x far s id n set k there few =
+    let most = (k.sound.away.sound.sets.shaped id set there).range.data_most in
+    omega (arith, few, most)

@@ -18,4 +18,5 @@ pub mod FarHomes
 pub mod SwapWorld
 mod WorkedNamed
 mod WorkedSwap
+mod WorkedWord
 mod WorkedSwapStep

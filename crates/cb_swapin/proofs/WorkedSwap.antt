@@ -23,7 +23,7 @@ use Rattle.cb_world.specs.FarState.{FarState}
 use Rattle.cb_swapin.specs.Fetching.{far_given, losses_of}
 use Rattle.cb_swapin.specs.SwapRule.{IsSwappedTo, SwapFar, swap_answer}
 
-abbrev node : ℕ → NodeId
+abbrev pub node : ℕ → NodeId
 node n = record { n = n }
 
 abbrev pub at : ℕ → ℕ → Shard

@@ -26,6 +26,7 @@ use Rattle.cb_swapin.specs.Named.{IsNamed}
 use Rattle.cb_swapin.specs.Fetching.{far_given}
 use Rattle.cb_swapin.specs.SwapRule.{IsSwappedTo, swap_answer}
 use Rattle.cb_swapin.specs.SwapStep.{AreBroughtTo, IsSwapped, IsSwapStep, brought_word}
+use Rattle.cb_swapin.proofs.WorkedWord.{is_word, nodes, one_row, row, rows}
 use Rattle.cb_swapin.proofs.WorkedSwap.{at, members, first, on, refused, class, set, old, new, swapped, none_some, some_same, the_one}
 
 -- ---- words: of an object of two bytes that is far, of one that came to place 640, and of one that is
@@ -198,35 +199,35 @@ swapped_at nodes = record {
 there : set_in old.sets 5 ≡ Some set
 there = grind (arith, map.gets)
 
--- the rows of the set's word, and that each such word has this row at position 0
-record IsTheWord (nodes : NodesState) (rows : List (List ℕ)) : Type 0 where
-  pub word : IsWordOf nodes members set rows
-  pub one : (others : List (List ℕ)) → IsWordOf nodes members set others
-      → row_at others 0 ≡ row_at rows 0
-
-is_swapped : (c : Config) (memory : List ℕ) (nodes : NodesState) (rows : List (List ℕ))
-    → IsTheWord nodes rows → IsSwapped (before c memory)
-    (afterwards c (put memory 512 (words_in (row_at rows 0)))) (old_at nodes) (new_at nodes) 5 0 set
-    1
+is_swapped : (c : Config) (memory : List ℕ) → IsSwapped (before c memory)
+    (afterwards c (put memory 512 (words_in (row 7)))) (old_at nodes) (new_at nodes) 5 0 set 1
 unfolding swapped_at
-is_swapped c memory nodes rows w = record {
+is_swapped c memory = record {
   state = swapped_at nodes;
   rows = rows;
-  word = w.word;
-  one_row = w.one;
-  words = brought c memory (row_at rows 0);
+  word = is_word;
+  one_row = one_row;
+  words = brought c memory (row 7);
 }
 
-swaps_in : (c : Config) (memory : List ℕ) (nodes : NodesState) (rows : List (List ℕ))
-    → IsTheWord nodes rows → IsSwapStep (before c memory)
-    (afterwards c (put memory 512 (words_in (row_at rows 0)))) (old_at nodes) (new_at nodes) 5 0
+swaps_in : (c : Config) (memory : List ℕ) → IsSwapStep (before c memory)
+    (afterwards c (put memory 512 (words_in (row 7)))) (old_at nodes) (new_at nodes) 5 0
     (answer.Swapped 1)
-swaps_in c memory nodes rows w = record {
+swaps_in c memory = record {
   set = set;
   there = there;
   reply = refl;
-  change = is_swapped c memory nodes rows w;
+  change = is_swapped c memory;
 }
+
+-- another row stands in the frame than that of the set's word
+has_another_rows_words : (c : Config) (m n : List ℕ) → 1024 ≤ length m
+    → get_or n 512 0 ≢ get_or (words_in (row 7)) 0 0
+    → IsSwapped (before c m) (afterwards c n) (old_at nodes) (new_at nodes) 5 0 set 1 → ⊥
+has_another_rows_words c m n room other z = other (ap (λ (l : List ℕ). get_or l 512 0) z.words.memory
+    ∙ put_at m 512 (words_in (row_at z.rows 0)) 0 (omega (arith, length_words 512 (row_at z.rows 0)))
+    (omega (arith, length_words 512 (row_at z.rows 0), room))
+    ∙ ap (λ (l : List ℕ). get_or (words_in l) 0 0) (sym (z.one_row rows is_word)))
 
 -- the objects are here, and the far state is as it was
 leaves_the_far_state : (x y : Words) (nodes : NodesState)
@@ -253,12 +254,12 @@ has_no_word x y z = none_some (row_at z.rows 0) (sym none ∙ z.word.survive 0 (
     none = grind (arith, map.gets)
 
 -- two words of the set differ in the row
-has_two_rows : (x y : Words) (nodes : NodesState) (rows others : List (List ℕ))
-    → IsWordOf nodes members set rows → IsWordOf nodes members set others
-    → row_at rows 0 ≢ row_at others 0
-    → IsSwapped x y (old_at nodes) (new_at nodes) 5 0 set 1 → ⊥
-has_two_rows x y nodes rows others a b differ z =
-    differ (z.one_row rows a ∙ sym (z.one_row others b))
+has_two_rows : (x y : Words) (held : NodesState) (one other : List (List ℕ))
+    → IsWordOf held members set one → IsWordOf held members set other
+    → row_at one 0 ≢ row_at other 0
+    → IsSwapped x y (old_at held) (new_at held) 5 0 set 1 → ⊥
+has_two_rows x y held one other a b differ z =
+    differ (z.one_row one a ∙ sym (z.one_row other b))
 
 -- ---- a step: the set is there, the reply is the one, and the change is that of the reply
 of_no_set : (x y : Words) (far : FarState) (r : Reply) → IsSwapStep x y old far 6 0 r → ⊥

@@ -42,8 +42,8 @@ pub record AreBroughtTo (x y : Words) (slots : List (Option ℕ)) (class : Class
       → word_at y h ≡ brought_word (len_of (word_at x h)) (slot_place class f slot)
   pub others : (h : ℕ) → (IsNamed slots h → ⊥) → word_at y h ≡ word_at x h
 
--- The far state after position p of the set was brought into the frame, and the words: its row is
--- that of the set's word, of which there is one, and the same in each.
+-- The far state and the words once position p of the set was brought into the frame: the set has a
+-- word, each such word has the same row at p, and that row stands in the frame.
 pub record IsSwapped (x y : Words) (far new : FarState) (id p : ℕ) (set : SetState) (f : ℕ) : Type 0
   where
     pub state : IsSwappedTo far new id p set f

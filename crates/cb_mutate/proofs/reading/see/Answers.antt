@@ -14,6 +14,8 @@ use Rattle.cb_world.proofs.Touching.{claim_touches, claim_settles_last, look_tou
 use Rattle.cb_mutate.specs.Answered.{AnsweredAs}
 use Rattle.cb_mutate.specs.ReadRule.{ReadHere}
 use Rattle.cb_mutate.specs.ReadEnds.{ReadEnds, IsWithin, reply_of}
+use Rattle.cb_mutate.proofs.FarFreed.{found_far}
+use Rattle.cb_mutate.proofs.FarSeen.{read_far}
 use Rattle.cb_mutate.proofs.ReadAfter.{read_done, read_before, left_effect, seen_within}
 use Rattle.cb_mutate.proofs.reading.see.Goals as goal
 
@@ -147,3 +149,13 @@ returns-in-Left-clause-see g c =
           (played (first ++ rest.0) s) r refl tried.3 found rest.4
           (look_still s before rest.0 h w tried.2 rest.2);
     }
+
+pub returns-in-Left-clause-away : goal.returns-in-Left-clause-away
+returns-in-Left-clause-away g c = λ e s shown.
+    let h = c.args.h.n in let w = c.in-Left.word in let got = c.in-Left.ensures in
+    let tried = got.2 in let before = tried.0 in
+    let ran = subst (λ (l : List Event). g.D.Desk.run c.args.desk.now l c.try_claim.new.desk)
+    tried.1 got.1 in
+    let rest = c.see_left.ensures.left in
+    found_far s before h w tried.2 (g.met.D.Desk.follows _ _ (look_after before h w) s ran shown).0
+    (read_far (state_of w) w h rest.0 (reply_of c.see_left.result c.see_left.new.into) rest.4 e)

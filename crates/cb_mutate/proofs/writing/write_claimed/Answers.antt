@@ -14,8 +14,8 @@ use Rattle.cb_world.proofs.Claimed.{held, may_put_back, settled_here, back_writt
 use Rattle.cb_mutate.proofs.Settling.{same_slot, may_settle_written, stores_no_look, stores_told, stores_first, overwrote, owned_at, stamped, settled_at_end, wrote_one, touches_at, stores_settle_last}
 use Rattle.cb_mutate.proofs.writing.write_claimed.Goals as goal
 
-pub returns-then-at-bytes : goal.returns-then-at-bytes
-returns-then-at-bytes g c =
+pub returns-then-at-bytes-clause-ends : goal.returns-then-at-bytes-clause-ends
+returns-then-at-bytes-clause-ends g c =
     let h = c.args.h.n in let w = c.args.word in
     let len = ap (λ (p : PtrWord). p.len) c.unpack-fields.ensures.fields in
     record {
@@ -45,8 +45,8 @@ settle-requires-then-version-clause-may g c =
       may_put_back had.0 c.args.h.n c.args.word had.2.0 had.2.1 had.2.2,
     )
 
-pub returns-then-version : goal.returns-then-version
-returns-then-version g c =
+pub returns-then-version-clause-ends : goal.returns-then-version-clause-ends
+returns-then-version-clause-ends g c =
     let h = c.args.h.n in let w = c.args.word in let x = c.version-version.result in
     let len = ap (λ (p : PtrWord). p.len) c.unpack-fields.ensures.fields in
     record {
@@ -121,8 +121,8 @@ settle-requires-2-clause-may g c =
           (stamped s ow.events h v x (place_of w) now.new now.left same),
     )
 
-pub returns : goal.returns
-returns g c =
+pub returns-clause-ends : goal.returns-clause-ends
+returns-clause-ends g c =
     let h = c.args.h.n in let x = c.version-version.result in let ow = c.overwrite.ensures in
     let f = c.unpack-fields.ensures.fields in let w = c.args.word in
     let n = c.settled.result in

@@ -11,6 +11,8 @@ use Rattle.cb_world.proofs.Touching.{claim_touches, claim_settles_last, look_tou
 use Rattle.cb_mutate.specs.Answered.{AnsweredAs}
 use Rattle.cb_mutate.specs.WriteRule.{WriteHere}
 use Rattle.cb_mutate.specs.WriteEnds.{WriteEnds}
+use Rattle.cb_mutate.proofs.FarFreed.{found_far}
+use Rattle.cb_mutate.proofs.FarSeen.{write_far}
 use Rattle.cb_mutate.proofs.Written.{write_done, write_before, refused_effect}
 use Rattle.cb_mutate.proofs.writing.written.Goals as goal
 
@@ -36,14 +38,14 @@ write_claimed-requires-clause-claimed g c =
       ),
     )
 
-pub returns-in-Claimed : goal.returns-in-Claimed
-returns-in-Claimed g c =
+pub returns-in-Claimed-clause-write : goal.returns-in-Claimed-clause-write
+returns-in-Claimed-clause-write g c =
     let h = c.args.h.n in let w = c.in-Claimed.word in let got = c.in-Claimed.ensures in
     let tried = got.2 in let before = tried.0 in let v = tried.1 in let words = tried.2 in
     let first = claim_after before h w v words in
     let ran = subst (λ (l : List Event). g.D.Desk.run c.args.desk.now l c.try_claim.new.desk)
     tried.3 got.1 in
-    let rest = c.write_claimed.ensures in let done = rest.events in
+    let rest = c.write_claimed.ensures.ends in let done = rest.events in
     let r = c.write_claimed.result in
     let found = claim_found before done h w v words rest.no_look in
     let taken = claim_taken before done h w v words tried.4 in
@@ -66,29 +68,27 @@ returns-in-Claimed g c =
     (sym x.at_end) (rest.ends_so (played first s) v words (follows.1, x.claimed))) in
     let had = c.requires.sound in
     record {
-      write = record {
-        events = first ++ done;
-        ran = g.met.D.Desk.more _ _ _ _ _ ran rest.ran;
-        looks_first = claim_first before done h w v words tried.4 rest.no_look rest.looks_first;
-        rule = record {
-          word = w;
-          found = found;
-          touches = claim_touches h w v (place_of w) (len_of w) words before done tried.4 rest.touches;
-          settles_last = claim_settles_last h w v words before done tried.4 rest.settles_last;
-          answer = subst (λ (q : State). AnsweredAs q
-              (WriteHere h c.args.at c.args.bytes.now (first ++ done) r) w h (first ++ done) r)
-              (sym tried.5.0) (ended had.0 had.1 had.2).rule;
-        };
-        allowed = λ s k. claim_all_allowed before done h w v words s tried.4
-            (rest.allowed (played first s) v words
-            ((g.met.D.Desk.follows _ _ first s ran k.0).1, (after s k.0 k.1).claimed));
-        sound_after = λ s k. (ended s k.0 k.1).sound;
-        effect = λ s k. (ended s k.0 k.1).effect;
+      events = first ++ done;
+      ran = g.met.D.Desk.more _ _ _ _ _ ran rest.ran;
+      looks_first = claim_first before done h w v words tried.4 rest.no_look rest.looks_first;
+      rule = record {
+        word = w;
+        found = found;
+        touches = claim_touches h w v (place_of w) (len_of w) words before done tried.4 rest.touches;
+        settles_last = claim_settles_last h w v words before done tried.4 rest.settles_last;
+        answer = subst (λ (q : State). AnsweredAs q
+            (WriteHere h c.args.at c.args.bytes.now (first ++ done) r) w h (first ++ done) r)
+            (sym tried.5.0) (ended had.0 had.1 had.2).rule;
       };
+      allowed = λ s k. claim_all_allowed before done h w v words s tried.4
+          (rest.allowed (played first s) v words
+          ((g.met.D.Desk.follows _ _ first s ran k.0).1, (after s k.0 k.1).claimed));
+      sound_after = λ s k. (ended s k.0 k.1).sound;
+      effect = λ s k. (ended s k.0 k.1).effect;
     }
 
-pub returns-in-Left : goal.returns-in-Left
-returns-in-Left g c =
+pub returns-in-Left-clause-write : goal.returns-in-Left-clause-write
+returns-in-Left-clause-write g c =
     let h = c.args.h.n in let w = c.in-Left.word in let got = c.in-Left.ensures in
     let tried = got.2 in let before = tried.0 in
     let first = look_after before h w in
@@ -96,21 +96,29 @@ returns-in-Left g c =
     tried.1 got.1 in
     let rest = c.refuse_write.ensures in let r = c.refuse_write.result in
     record {
-      write = record {
-        events = first ++ rest.0;
-        ran = g.met.D.Desk.more _ _ _ _ _ ran rest.1;
-        looks_first = look_first before rest.0 h w tried.2 rest.2;
-        rule = record {
-          word = w;
-          found = look_found before rest.0 h w rest.2;
-          touches = look_touches h w (place_of w) (len_of w) before rest.0 tried.2 rest.3;
-          settles_last = look_settles_last h w before rest.0 tried.2 rest.2;
-          answer = write_before (state_of w) h w c.args.at c.args.bytes.now first rest.0 r rest.4;
-        };
-        allowed = λ s k. look_allowed before rest.0 h w s tried.2 rest.2;
-        sound_after = λ s k. look_sound c.args.far.now s before rest.0 h w k.1 tried.2 rest.2;
-        effect = λ s k. refused_effect (state_of w) h w c.args.at c.args.bytes.now rest.0
-            (first ++ rest.0) s (played (first ++ rest.0) s) r rest.2 rest.4
-            (look_still s before rest.0 h w tried.2 rest.2);
+      events = first ++ rest.0;
+      ran = g.met.D.Desk.more _ _ _ _ _ ran rest.1;
+      looks_first = look_first before rest.0 h w tried.2 rest.2;
+      rule = record {
+        word = w;
+        found = look_found before rest.0 h w rest.2;
+        touches = look_touches h w (place_of w) (len_of w) before rest.0 tried.2 rest.3;
+        settles_last = look_settles_last h w before rest.0 tried.2 rest.2;
+        answer = write_before (state_of w) h w c.args.at c.args.bytes.now first rest.0 r rest.4;
       };
+      allowed = λ s k. look_allowed before rest.0 h w s tried.2 rest.2;
+      sound_after = λ s k. look_sound c.args.far.now s before rest.0 h w k.1 tried.2 rest.2;
+      effect = λ s k. refused_effect (state_of w) h w c.args.at c.args.bytes.now rest.0
+          (first ++ rest.0) s (played (first ++ rest.0) s) r rest.2 rest.4
+          (look_still s before rest.0 h w tried.2 rest.2);
     }
+
+pub returns-in-Left-clause-away : goal.returns-in-Left-clause-away
+returns-in-Left-clause-away g c = λ e s shown.
+    let h = c.args.h.n in let w = c.in-Left.word in let got = c.in-Left.ensures in
+    let tried = got.2 in let before = tried.0 in
+    let ran = subst (λ (l : List Event). g.D.Desk.run c.args.desk.now l c.try_claim.new.desk)
+    tried.1 got.1 in
+    let rest = c.refuse_write.ensures in
+    found_far s before h w tried.2 (g.met.D.Desk.follows _ _ (look_after before h w) s ran shown).0
+    (write_far (state_of w) w h c.args.at c.args.bytes.now rest.0 c.refuse_write.result rest.4 e)

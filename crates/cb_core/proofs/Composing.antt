@@ -1,0 +1,317 @@
+-- The parts of a turn one after another, over any desk.
+use Rattle.std.proofs.Common.{◌≡◌, ℕ, ◌<◌, ◌≤◌, List, [], length, Option, None, Some, Result, Ok, Err, sym, refl, ap, ◌∙◌, subst}
+use Rattle.std.specs.Prelude.{IfOk, OnErr}
+use Rattle.cb_frame.specs.FreeFrames.{least_free}
+use Rattle.cb_member.specs.declared.no_memory.NoMemory.{NoMemory}
+use Rattle.cb_set.specs.SetState.{SetState}
+use Rattle.cb_types.specs.declared.config.Config.{Config}
+use Rattle.cb_types.specs.Config.{IsAccepted}
+use Rattle.cb_types.specs.declared.handle.SetId.{SetId}
+use Rattle.cb_types.specs.declared.reply.Reply.{Reply}
+use Rattle.cb_types.specs.declared.reply.Reply.TheVariants as answer
+use Rattle.cb_world.specs.declared.event.Event.{Event}
+use Rattle.cb_world.specs.declared.homes.Home.{Home}
+use Rattle.cb_world.specs.declared.shown.Shown.{Shown}
+use Rattle.cb_world.specs.FarState.{FarState}
+use Rattle.cb_world.specs.Homes.{home_at}
+use Rattle.cb_world.specs.Performs.{Performs}
+use Rattle.cb_world.specs.Played.{played}
+use Rattle.cb_world.specs.Sets.{set_in}
+use Rattle.cb_world.specs.Sound.{Sound}
+use Rattle.cb_world.specs.Still.{IsStill}
+use Rattle.cb_world.specs.World.{IsConfigured}
+use Rattle.cb_mutate.specs.MakeRule.{NeedsNewSpan}
+use Rattle.cb_evict.specs.Evicting.{TouchesSpans}
+use Rattle.cb_swapin.specs.Fetching.{far_given}
+use Rattle.cb_swapin.specs.SwapEffect.{SwapEffect}
+use Rattle.cb_swapin.specs.SwapRule.{SwapRule}
+use Rattle.cb_core.specs.Parts.{Holding, WithRoom, WhereItIs, BringsIn, RoomStops, CallStops}
+use Rattle.cb_core.specs.Parts.BringsIn.{was_far}
+use Rattle.cb_core.specs.Parts.CallStops.{far as far_lacks, after as come_lacks}
+use Rattle.cb_core.specs.Parts.WhereItIs.{declined, stays_far, brought}
+use Rattle.cb_core.specs.Parts.WithRoom.{no_room, won}
+use Rattle.cb_core.specs.Parts.RoomStops.{evicting, after}
+use Rattle.cb_core.specs.Turned.{Brings, BringLacks, Evicts, EvictLacks, Finds, IsGiven, MakeLacks, Makes, Operates}
+use Rattle.cb_core.proofs.PartsFar.{HasWon, has_won, make_crammed, swap_crammed}
+
+-- ---- what a part leaves known
+-- a sound world that the desk shows
+abbrev pub IsShown : (Shown → Type 0) → FarState → Type 0
+IsShown shows far = (s : Shown) × shows s × Sound s far
+
+pub shown_after : (runs : List Event → Type 0) (shows then_shows : Shown → Type 0) (far new : FarState)
+    (rules : List Event → Type 0) (does : List Event → Shown → Shown → Type 0)
+    → Performs runs (λ s. shows s × Sound s far) rules (λ t. Sound t new) does
+    → ((es : List Event) (s : Shown) → runs es → shows s → then_shows (played es s))
+    → IsShown shows far → IsShown then_shows new
+shown_after runs shows then_shows far new rules does p follows k =
+    (played p.events k.0, follows p.events k.0 p.ran k.1, p.sound_after k.0 (k.1, k.2))
+
+abbrev pub holding : {D : Type 0} → D → FarState → Holding D
+holding desk far = record { desk = desk; far = far }
+
+-- ---- by the result
+pub if_map : (P Q : Reply → Type 0) (r : Result Reply NoMemory) → IfOk r Q → ((q : Reply) → Q q → P q)
+    → IfOk r P
+if_map P Q (Ok q) x f = f q x
+if_map P Q (Err e) x f = tt
+
+pub err_map : (P Q : Type 0) (r : Result Reply NoMemory) → OnErr r Q → (Q → P) → OnErr r P
+err_map P Q (Ok q) x f = tt
+err_map P Q (Err e) x f = f x
+
+pub err_both : (P Q R : Type 0) (r : Result Reply NoMemory) → OnErr r Q → OnErr r R → (Q → R → P)
+    → OnErr r P
+err_both P Q R (Ok q) x y f = tt
+err_both P Q R (Err e) x y f = f x y
+
+pub any_err : (P : Type 0) (r : Result Reply NoMemory) → P → OnErr r P
+any_err P (Ok q) p = tt
+any_err P (Err e) p = p
+
+-- by the result of the part
+pub shown_if : (runs : List Event → Type 0) (shows then_shows : Shown → Type 0) (far new : FarState)
+    (rules : Reply → List Event → Type 0) (does : Reply → List Event → Shown → Shown → Type 0)
+    (result : Result Reply NoMemory)
+    → IfOk result (λ r. Performs runs (λ s. shows s × Sound s far) (rules r) (λ t. Sound t new) (does r))
+    → ((es : List Event) (s : Shown) → runs es → shows s → then_shows (played es s))
+    → IsShown shows far → IfOk result (λ r. IsShown then_shows new)
+shown_if runs shows then_shows far new rules does result x follows k =
+    if_map (λ r. IsShown then_shows new)
+    (λ r. Performs runs (λ s. shows s × Sound s far) (rules r) (λ t. Sound t new) (does r)) result x
+    (λ r p. shown_after runs shows then_shows far new (rules r) (does r) p follows k)
+
+-- ---- the reply that it was
+pub makes_as : {D : Type 0} (run : D → List Event → D → Type 0) (shows : D → Shown → Type 0)
+    (c d : Config) (bytes : List ℕ) (a b : Holding D) (q r : Reply) → d ≡ c → q ≡ r
+    → Makes run shows d bytes a q b → Makes run shows c bytes a r b
+makes_as run shows c d bytes a b q r same is x =
+    subst (λ (e : Config). Makes run shows e bytes a r b) same
+    (subst (λ (p : Reply). Makes run shows d bytes a p b) is x)
+
+pub evicts_as : {D : Type 0} (run : D → List Event → D → Type 0) (shows : D → Shown → Type 0)
+    (c d : Config) (a b : Holding D) (q r : Reply) → d ≡ c → q ≡ r
+    → Evicts run shows d a q b → Evicts run shows c a r b
+evicts_as run shows c d a b q r same is x =
+    subst (λ (e : Config). Evicts run shows e a r b) same
+    (subst (λ (p : Reply). Evicts run shows d a p b) is x)
+
+-- ---- room that was won
+-- an eviction that made a set, in the far state that the operation left as it was
+pub won_between : {D : Type 0} (run : D → List Event → D → Type 0) (shows : D → Shown → Type 0)
+    (c d : Config) (far : FarState) (m n : Holding D) (q : Reply) (id : SetId) → d ≡ c
+    → IsAccepted c → IsConfigured c far → m.far ≡ far → IsShown (λ s. shows m.desk s) m.far
+    → q ≡ answer.Set id → Evicts run shows d m q n → HasWon c far n.far
+won_between run shows c d far m n q id same accepted configured left k is x =
+    let y = evicts_as run shows c d m n q q same refl x in
+    subst (λ (f : FarState). HasWon c f n.far) left
+    (has_won c k.0 m.far n.far q id y.events accepted
+    (subst (λ (f : FarState). IsConfigured c f) (sym left) configured) k.2 y.rule is)
+
+-- ---- a make for which room is won
+module _ {D : Type 0} (run : D → List Event → D → Type 0) (shows : D → Shown → Type 0) (c : Config)
+    (bytes : List ℕ) (a m : Holding D) (q : Reply) where
+  pub make_refused : (n : Holding D) (d : Config) (refusal : Reply) → Makes run shows c bytes a q m
+      → q ≡ answer.NoFrame → d ≡ c → Evicts run shows d m refusal n
+      → ((id : SetId) → refusal ≡ answer.Set id → ⊥)
+      → WithRoom (Makes run shows c bytes) (Evicts run shows c) a answer.NoFrame n
+  make_refused n d refusal x none same y left =
+      no_room m refusal (makes_as run shows c c bytes a m q answer.NoFrame refl none x)
+      (evicts_as run shows c d m n refusal refusal same refl y) left refl
+
+  pub make_again : (n b : Holding D) (d e : Config) (p : Reply) (id : SetId)
+      (result : Result Reply NoMemory) → Makes run shows c bytes a q m
+      → q ≡ answer.NoFrame → d ≡ c → e ≡ c → Evicts run shows d m p n → p ≡ answer.Set id
+      → HasWon c a.far n.far → IfOk result (λ r. Makes run shows e bytes n r b)
+      → IfOk result (λ r. WithRoom (Makes run shows c bytes) (Evicts run shows c) a r b)
+  make_again n b d e p id result x none same again y set left z =
+      if_map (λ r. WithRoom (Makes run shows c bytes) (Evicts run shows c) a r b)
+      (λ r. Makes run shows e bytes n r b) result z (λ r made.
+      let made_here = makes_as run shows c e bytes n b r r again refl made in
+      won m n id (makes_as run shows c c bytes a m q answer.NoFrame refl none x)
+      (evicts_as run shows c d m n p (answer.Set id) same set y) made_here
+      (λ crammed. left.free (make_crammed c.handles bytes n.far b.far r made_here.events made_here.rule
+      crammed).1))
+
+  pub make_without : (b : Holding D) (result : Result Reply NoMemory)
+      → Makes run shows c bytes a q m → q ≡ answer.NoFrame → EvictLacks run shows m b
+      → OnErr result (RoomStops (Makes run shows c bytes) (MakeLacks run c bytes) (Evicts run shows c)
+      (EvictLacks run shows) a b)
+  make_without b result x none lacks = any_err _ result
+      (evicting m (makes_as run shows c c bytes a m q answer.NoFrame refl none x) lacks)
+
+  pub make_lacks_again : (n b : Holding D) (d e : Config) (p : Reply) (id : SetId)
+      (result : Result Reply NoMemory) → ((x : D) → run x [] x) → Makes run shows c bytes a q m
+      → q ≡ answer.NoFrame → d ≡ c → e ≡ c → Evicts run shows d m p n → p ≡ answer.Set id
+      → OnErr result ((b.desk ≡ n.desk) × (b.far ≡ n.far)
+      × NeedsNewSpan e.handles (length bytes) n.far)
+      → OnErr result (RoomStops (Makes run shows c bytes) (MakeLacks run c bytes) (Evicts run shows c)
+      (EvictLacks run shows) a b)
+  make_lacks_again n b d e p id result nothing x none same again y set z =
+      err_map _ ((b.desk ≡ n.desk) × (b.far ≡ n.far) × NeedsNewSpan e.handles (length bytes) n.far)
+      result z (λ lacked.
+      after m n id (makes_as run shows c c bytes a m q answer.NoFrame refl none x)
+      (evicts_as run shows c d m n p (answer.Set id) same set y) (
+        subst (λ (u : D). run n.desk [] u) (sym lacked.0) (nothing n.desk),
+        lacked.1,
+        subst (λ (f : Config). NeedsNewSpan f.handles (length bytes) n.far) again lacked.2,
+      ))
+
+-- ---- a swap-in for which room is won
+-- a swap-in of a position
+abbrev pub SwapsAt : {D : Type 0} → (D → List Event → D → Type 0) → (D → Shown → Type 0) → ℕ → ℕ
+    → Holding D → Reply → Holding D → Type 0
+SwapsAt run shows id p = Operates run shows (λ far new q. SwapRule id p far new q)
+    (λ far new q. SwapEffect id p far new q)
+
+pub swaps_as : {D : Type 0} (run : D → List Event → D → Type 0) (shows : D → Shown → Type 0)
+    (id p : ℕ) (a b : Holding D) (q r : Reply) → q ≡ r → SwapsAt run shows id p a q b
+    → SwapsAt run shows id p a r b
+swaps_as run shows id p a b q r is x = subst (λ (e : Reply). SwapsAt run shows id p a e b) is x
+
+-- rows of the one set were given out
+pub is_given : (far new : FarState) (h : ℕ) (home : Home) → home_at far.homes h ≡ Some home
+    → ((set : SetState) → set_in far.sets home.set ≡ Some set → (n : ℕ) × (n ≤ length set.positions)
+    × (new ≡ far_given far n)) → IsGiven far new h
+is_given far new h home at x other set there in_sets =
+    x set (ap (λ (o : Home). set_in far.sets o.set) (home_same home other (sym at ∙ there)) ∙ in_sets)
+  where
+    home_same : (p q : Home) → Some p ≡ Some q → p ≡ q
+    home_same p q e = cc
+
+module _ {D : Type 0} (run : D → List Event → D → Type 0) (shows : D → Shown → Type 0) (c : Config)
+    (h : ℕ) (home : Home) (a m : Holding D) (q : Reply) (at : home_at a.far.homes h ≡ Some home)
+    (x : SwapsAt run shows home.set home.position a q m) where
+  pub swap_refused : (n : Holding D) (d : Config) (refusal : Reply) → q ≡ answer.NoFrame → d ≡ c
+      → Evicts run shows d m refusal n → ((id : SetId) → refusal ≡ answer.Set id → ⊥)
+      → Brings run shows c h a answer.NoFrame n
+  swap_refused n d refusal none same y left = no_room m refusal
+      (home, at, swaps_as run shows home.set home.position a m q answer.NoFrame none x)
+      (evicts_as run shows c d m n refusal refusal same refl y) left refl
+
+  pub swap_again : (n b : Holding D) (d : Config) (p : Reply) (id : SetId)
+      (result : Result Reply NoMemory) → q ≡ answer.NoFrame → d ≡ c → Evicts run shows d m p n
+      → p ≡ answer.Set id → HasWon c a.far n.far
+      → IfOk result (λ r. SwapsAt run shows home.set home.position n r b)
+      → IfOk result (λ r. Brings run shows c h a r b)
+  swap_again n b d p id result none same y set left z = if_map (λ r. Brings run shows c h a r b)
+      (λ r. SwapsAt run shows home.set home.position n r b) result z (λ r swapped.
+      won m n id (home, at, swaps_as run shows home.set home.position a m q answer.NoFrame none x)
+      (evicts_as run shows c d m n p (answer.Set id) same set y) (home, left.homes h home at, swapped)
+      (λ crammed. left.free (swap_crammed home.set home.position n.far b.far r swapped.events
+      swapped.rule crammed).1))
+
+  pub swap_without : (b : Holding D) (result : Result Reply NoMemory) → q ≡ answer.NoFrame
+      → EvictLacks run shows m b → OnErr result (BringLacks run shows c h a b)
+  swap_without b result none lacks = any_err _ result (evicting m
+      (home, at, swaps_as run shows home.set home.position a m q answer.NoFrame none x) lacks)
+
+  pub swap_lacks_again : (n b : Holding D) (d : Config) (p : Reply) (id : SetId)
+      (result : Result Reply NoMemory) → ((x : D) → run x [] x) → q ≡ answer.NoFrame → d ≡ c
+      → Evicts run shows d m p n → p ≡ answer.Set id → HasWon c a.far n.far
+      → OnErr result (b.desk ≡ n.desk)
+      → OnErr result ((set : SetState) → set_in n.far.sets home.set ≡ Some set → (i : ℕ)
+      × (i ≤ length set.positions) × (b.far ≡ far_given n.far i))
+      → OnErr result (BringLacks run shows c h a b)
+  swap_lacks_again n b d p id result nothing none same y set left z w =
+      err_both _ (b.desk ≡ n.desk) _ result z w (λ desk far.
+      after m n id (home, at, swaps_as run shows home.set home.position a m q answer.NoFrame none x)
+      (evicts_as run shows c d m n p (answer.Set id) same set y) (
+        subst (λ (u : D). run n.desk [] u) (sym desk) (nothing n.desk),
+        is_given n.far b.far h home (left.homes h home at) far,
+      ))
+
+-- ---- a call on an object wherever it is
+-- a part that leaves the far state as it was
+pub far_kept : (runs : List Event → Type 0) (knows : Shown → Type 0) (rules : List Event → Type 0)
+    (sound : Shown → Type 0) (does : List Event → Shown → Shown → Type 0) (far new : FarState)
+    → Performs runs knows rules sound does → new ≡ far
+    → Performs runs knows (λ es. (new ≡ far) × rules es) sound does
+far_kept runs knows rules sound does far new p same = record {
+  events = p.events;
+  ran = p.ran;
+  looks_first = p.looks_first;
+  rule = (same, p.rule);
+  allowed = p.allowed;
+  sound_after = p.sound_after;
+  effect = p.effect;
+}
+
+pub far_kept_if : (runs : List Event → Type 0) (knows : Shown → Type 0)
+    (rules : Reply → List Event → Type 0) (sound : Shown → Type 0)
+    (does : Reply → List Event → Shown → Shown → Type 0) (far new : FarState)
+    (result : Result Reply NoMemory) → IfOk result (λ r. Performs runs knows (rules r) sound (does r))
+    → new ≡ far
+    → IfOk result (λ r. Performs runs knows (λ es. (new ≡ far) × rules r es) sound (does r))
+far_kept_if runs knows rules sound does far new result x same =
+    if_map (λ r. Performs runs knows (λ es. (new ≡ far) × rules r es) sound (does r))
+    (λ r. Performs runs knows (rules r) sound (does r)) result x
+    (λ r p. far_kept runs knows (rules r) sound (does r) far new p same)
+
+pub brings_as : {D : Type 0} (run : D → List Event → D → Type 0) (shows : D → Shown → Type 0)
+    (c d : Config) (h : ℕ) (a b : Holding D) (r : Reply) → d ≡ c → Brings run shows d h a r b
+    → Brings run shows c h a r b
+brings_as run shows c d h a b r same x =
+    subst (λ (e : Config). Brings run shows e h a r b) same x
+
+pub bring_lacks_as : {D : Type 0} (run : D → List Event → D → Type 0) (shows : D → Shown → Type 0)
+    (c d : Config) (h : ℕ) (a b : Holding D) → d ≡ c → BringLacks run shows d h a b
+    → BringLacks run shows c h a b
+bring_lacks_as run shows c d h a b same x =
+    subst (λ (e : Config). BringLacks run shows e h a b) same x
+
+pub is_declined : {D : Type 0} (call : Holding D → Reply → Holding D → Type 0)
+    (look : Holding D → Option Reply → Holding D → Type 0)
+    (bringing : Holding D → Reply → Holding D → Type 0) (a m b : Holding D) (q r : Reply)
+    → call a q m → q ≡ answer.NotHere → look m (Some r) b → WhereItIs call look bringing a r b
+is_declined call look bringing a m b q r called away looked =
+    declined m (subst (λ (p : Reply). call a p m) away called) looked
+
+module _ {D : Type 0} (call : Holding D → Reply → Holding D → Type 0)
+    (look : Holding D → Option Reply → Holding D → Type 0)
+    (bringing : Holding D → Reply → Holding D → Type 0) (a m n : Holding D) (q : Reply)
+    (called : call a q m) (away : q ≡ answer.NotHere) (looked : look m None n) where
+  was_called : call a answer.NotHere m
+  was_called = subst (λ (r : Reply). call a r m) away called
+
+  pub far_stays : (b : Holding D) (r : Reply) → bringing n r b
+      → ((f : ℕ) → r ≡ answer.Swapped f → ⊥) → WhereItIs call look bringing a r b
+  far_stays b r x left = stays_far m n was_called looked x left
+
+  pub far_comes : (o b : Holding D) (p : Reply) (f : ℕ) (result : Result Reply NoMemory)
+      → bringing n p o → p ≡ answer.Swapped f → IfOk result (λ r. call o r b)
+      → IfOk result (λ r. WhereItIs call look bringing a r b)
+  far_comes o b p f result x is y = if_map (λ r. WhereItIs call look bringing a r b)
+      (λ r. call o r b) result y
+      (λ r z. brought m n o f was_called looked (subst (λ (r : Reply). bringing n r o) is x) z)
+
+  pub far_stops : (lacks bringing_lacks : Holding D → Holding D → Type 0) (b : Holding D)
+      (result : Result Reply NoMemory) → bringing_lacks n b
+      → OnErr result (CallStops call lacks look bringing bringing_lacks a b)
+  far_stops lacks bringing_lacks b result x =
+      any_err _ result (far_lacks m n was_called looked x)
+
+  pub come_stops : (lacks bringing_lacks : Holding D → Holding D → Type 0) (o b : Holding D)
+      (p : Reply) (f : ℕ) (result : Result Reply NoMemory) → bringing n p o → p ≡ answer.Swapped f
+      → OnErr result (lacks o b)
+      → OnErr result (CallStops call lacks look bringing bringing_lacks a b)
+  come_stops lacks bringing_lacks o b p f result x is y = err_map _ (lacks o b) result y
+      (λ z. come_lacks m n o f was_called looked (subst (λ (r : Reply). bringing n r o) is x) z)
+
+-- ---- an object that is brought in
+pub comes_in : {D : Type 0} (call bringing : Holding D → Reply → Holding D → Type 0) (a m b : Holding D)
+    (q : Reply) (result : Result Reply NoMemory) → call a q m → q ≡ answer.NotHere
+    → IfOk result (λ r. bringing m r b) → IfOk result (λ r. BringsIn call bringing a r b)
+comes_in call bringing a m b q result called away x = if_map (λ r. BringsIn call bringing a r b)
+    (λ r. bringing m r b) result x
+    (λ r y. was_far m (subst (λ (p : Reply). call a p m) away called) y)
+
+pub finds_as : {D : Type 0} (run : D → List Event → D → Type 0) (shows : D → Shown → Type 0) (h : ℕ)
+    (a b : Holding D) (q r : Reply) → q ≡ r → Finds run shows h a q b → Finds run shows h a r b
+finds_as run shows h a b q r is x = subst (λ (p : Reply). Finds run shows h a p b) is x
+
+pub brings_as_if : {D : Type 0} (run : D → List Event → D → Type 0) (shows : D → Shown → Type 0)
+    (c d : Config) (h : ℕ) (a b : Holding D) (result : Result Reply NoMemory) → d ≡ c
+    → IfOk result (λ r. Brings run shows d h a r b) → IfOk result (λ r. Brings run shows c h a r b)
+brings_as_if run shows c d h a b result same x =
+    subst (λ (e : Config). IfOk result (λ r. Brings run shows e h a r b)) same x

@@ -1,0 +1,181 @@
+-- What the parts of a turn find in the far state, and what they leave there.
+use Rattle.std.proofs.Common.{◌≡◌, ℕ, Bool, true, false, ◌<◌, ◌≤◌, List, [], ◌∷◌, Option, None, Some, is_some, length, get_or, take, sym, refl, ap, ◌∙◌, subst, arith, inl, inr, if◌then◌else◌}
+use Rattle.std.specs.List.{Contains}
+use Rattle.std.proofs.lemmas.List.{length-take-le}
+use Rattle.std.proofs.lemmas.List.Elements.{Contains-get_or}
+use Rattle.std.proofs.lemmas.List.Folds.{list_any_at}
+use Rattle.cb_frame.specs.FreeFrames.{least_free}
+use Rattle.cb_frame.proofs.Laws.{least_free-None}
+use Rattle.cb_member.specs.declared.names.Loss.{Loss}
+use Rattle.cb_member.specs.declared.names.Shard.{Shard}
+use Rattle.cb_node.specs.NodesState.{NodesState, with_row}
+use Rattle.cb_set.specs.Lost.{lost}
+use Rattle.cb_set.specs.SetState.{SetState, live_at, position_of, slot_at}
+use Rattle.cb_span.specs.Contents.{Contents}
+use Rattle.cb_span.specs.Places.{slot_place}
+use Rattle.cb_types.specs.declared.config.Config.{Config}
+use Rattle.cb_types.specs.declared.config.Field.TheVariants.{K}
+use Rattle.cb_types.specs.Config.{IsAccepted}
+use Rattle.cb_types.specs.declared.handle.SetId.{SetId}
+use Rattle.cb_types.specs.declared.reply.Reply.{Reply}
+use Rattle.cb_types.specs.declared.reply.Reply.TheVariants as answer
+use Rattle.cb_world.specs.declared.event.Event.{Event}
+use Rattle.cb_world.specs.declared.homes.Home.{Home}
+use Rattle.cb_world.specs.declared.object.Object.{Object}
+use Rattle.cb_world.specs.declared.object.Object.TheVariants as is
+use Rattle.cb_world.specs.declared.shown.Shown.{Shown}
+use Rattle.cb_world.specs.Shown.{object_at}
+use Rattle.cb_world.specs.FarState.{FarState}
+use Rattle.cb_world.specs.Homes.{home_at}
+use Rattle.cb_world.specs.LocalSound.{LiesAt}
+use Rattle.cb_world.specs.Sets.{set_in}
+use Rattle.cb_world.specs.SetWord.{is_broken}
+use Rattle.cb_world.specs.Sound.{Sound}
+use Rattle.cb_world.specs.Stored.{all_put}
+use Rattle.cb_world.specs.World.{IsConfigured}
+use Rattle.cb_mutate.specs.MakeRule.{MakeRule}
+use Rattle.cb_evict.specs.Candidates.{candidates, Names}
+use Rattle.cb_evict.specs.Closing.{all_given}
+use Rattle.cb_evict.specs.EvictRule.{HasEvicted, EvictRule}
+use Rattle.cb_evict.proofs.Composed.{few_spans, few_nodes}
+use Rattle.cb_evict.proofs.Gone.{given_in}
+use Rattle.cb_evict.proofs.Homing.{length_closed}
+use Rattle.cb_evict.proofs.Loose.{loose_among}
+use Rattle.cb_evict.proofs.Putting.{put_count}
+use Rattle.cb_evict.proofs.Standing.{names_span, named_at, ready_frame}
+use Rattle.cb_evict.proofs.Trying.{taken_of}
+use Rattle.cb_swapin.specs.SwapRule.{SwapFar, SwapRule, frame_answer, swap_answer}
+use Rattle.cb_swapin.proofs.SlotNames.{named_within}
+
+-- ---- the home of a far object
+-- a home is at a live position of a set that is there
+pub live_home : (s : Shown) (far : FarState) (h : ℕ) (home : Home) → Sound s far
+    → home_at far.homes h ≡ Some home → (set : SetState) × (set_in far.sets home.set ≡ Some set)
+    × (live_at set home.position ≡ true)
+live_home s far h home sound at =
+    let x = sound.away.sound.away.home h home at in (
+      x.0,
+      x.1,
+      sound.away.sound.sets.live home.set home.position x.0 x.1
+          ∙ list_any_at (λ (o : Option ℕ). is_some o) (position_of x.0 home.position).slots home.slot None
+          (named_within (position_of x.0 home.position).slots home.slot h x.2)
+          (ap (λ (o : Option ℕ). is_some o) x.2),
+    )
+
+-- a far object has a home
+pub far_has_home : (s : Shown) (far : FarState) (h : ℕ) → Sound s far
+    → (len v : ℕ) × (words : List ℕ) × (object_at s h ≡ is.Far len v words)
+    → (home : Home) × (home_at far.homes h ≡ Some home)
+far_has_home s far h sound x = sound.away.sound.away.away h x.0 x.1 x.2 x.3
+
+-- no span of local memory names an object that has a home
+pub not_resident : (s : Shown) (far : FarState) (h f : ℕ) (home : Home) → Sound s far
+    → home_at far.homes h ≡ Some home → Names far.spans f h → ⊥
+not_resident s far h f home sound at (slot, named) =
+    let x = sound.away.sound.away.home h home at in
+    let word = sound.away.sound.sets.worded home.set x.0 x.1 in
+    let object = word.1.holds home.position home.slot h x.2 in
+    let span = names_span far.spans f h (slot, named) in
+    let lies = sound.here.placed.named f slot h span.0 span.1
+    (named_at far.spans f slot h span.0 span.1 named) in
+    subst (λ (o : Object). LiesAt o lies.len (slot_place span.0.class f slot)) object.away lies.lies
+
+-- ---- an eviction that made a set
+-- the frames of the spans that left: as many as a set has data positions, among those that may leave
+pub record HasSent (c : Config) (far new : FarState) (es : List Event) : Type 0 where
+  pub frames : List ℕ
+  pub evicted : HasEvicted c far new frames es
+  pub among : (f : ℕ) → Contains frames f → Contains (candidates far) f
+  pub count : length frames ≡ c.k
+
+pub has_sent : (c : Config) (far new : FarState) (r : Reply) (id : SetId) (es : List Event)
+    → EvictRule c far new r es → r ≡ answer.Set id → HasSent c far new es
+has_sent c far new r id es rule set = elim rule.answered [
+  | inl few ↦ absurd (few_spans _ r id few.reply set)
+  | inr (inl few) ↦ absurd (few_nodes _ r id few.reply set)
+  | inr (inr both) ↦ record {
+    frames = take c.k rule.loose;
+    evicted = both.evicted;
+    among = λ f in_taken. loose_among es far.spans (candidates far) rule.loose f rule.found
+        (taken_of rule.loose c.k f in_taken);
+    count = length-take-le c.k rule.loose both.enough;
+  }
+]
+
+put_given : (nodes : NodesState) (shards : List Shard) (rows : List (List ℕ))
+    → (all_put nodes shards rows).given ≡ nodes.given
+put_given nodes [] rows = refl
+put_given nodes (shard ∷ shards) [] = refl
+put_given nodes (shard ∷ shards) (row ∷ rows) =
+    put_given (with_row nodes shard.node shard.key row) shards rows
+
+-- what it leaves for the part behind it: a frame is free, and far objects have the homes that they had
+pub record HasWon (c : Config) (far new : FarState) : Type 0 where
+  pub configured : IsConfigured c new
+  pub given : new.nodes.given ≡ far.nodes.given
+  pub free : least_free new.frames ≡ None → ⊥
+  pub homes : (h : ℕ) (home : Home) → home_at far.homes h ≡ Some home
+      → home_at new.homes h ≡ Some home
+
+pub has_won : (c : Config) (s : Shown) (far new : FarState) (r : Reply) (id : SetId)
+    (es : List Event) → IsAccepted c → IsConfigured c far → Sound s far → EvictRule c far new r es
+    → r ≡ answer.Set id → HasWon c far new
+has_won c s far new r id es accepted configured sound rule set =
+    let x = has_sent c far new r id es rule set in let e = x.evicted in
+    let most = accepted K in
+    let some : 0 < length x.frames = let n = x.count in omega (arith, n, most.0) in
+    let f = get_or x.frames 0 0 in
+    let inside = Contains-get_or x.frames 0 0 some in
+    let ready = ready_frame far s f sound.here (x.among f inside) in record {
+      configured = record {
+        frames = ap (λ (q : FarState). length q.spans) e.state ∙ length_closed far.spans x.frames
+            ∙ configured.frames;
+        homes = e.homes.count ∙ configured.homes;
+        nodes = ap (λ (q : FarState). length q.nodes.nodes) e.state ∙ put_count far.nodes e.shards e.rows
+            ∙ configured.nodes;
+      };
+      given = ap (λ (q : FarState). q.nodes.given) e.state ∙ put_given far.nodes e.shards e.rows;
+      free = λ none. least_free-None (all_given far.frames x.frames)
+          (sym (ap (λ (q : FarState). least_free q.frames) e.state) ∙ none) f
+          (given_in far.frames x.frames f ready.counted inside);
+      homes = λ h home at. e.homes.others h (λ g in_frames names.
+          not_resident s far h g home sound at names) ∙ at;
+    }
+
+-- ---- where there is no frame
+pub make_crammed : (handles : ℕ) (bytes : List ℕ) (far new : FarState) (r : Reply) (es : List Event)
+    → MakeRule handles bytes far new r es → r ≡ answer.NoFrame
+    → (new ≡ far) × (least_free far.frames ≡ None)
+make_crammed handles bytes far new r es rule none =
+    let x = subst (λ (q : Reply). MakeRule handles bytes far new q es) none rule in
+    (x.2.0, x.1.2.taken)
+
+unavailable_not : (r : Reply) (id : SetId) (ls : List Loss) → r ≡ answer.Unavailable id ls
+    → r ≡ answer.NoFrame → ⊥
+unavailable_not r id ls a e = cc
+
+no_least : (o : Option ℕ) → frame_answer o ≡ answer.NoFrame → o ≡ None
+no_least None e = refl
+no_least (Some f) e = absurd (differ (frame_answer (Some f)) f refl e)
+  where
+    differ : (r : Reply) (f : ℕ) → r ≡ answer.Swapped f → r ≡ answer.NoFrame → ⊥
+    differ r f a e = cc
+
+by_broken : (far : FarState) (id : ℕ) (set : SetState) (broken : Bool)
+    → is_broken far.members set ≡ broken → swap_answer far id set ≡ answer.NoFrame
+    → least_free far.frames ≡ None
+by_broken far id set broken b e = by broken (subst (λ (x : Bool). (if x
+    then answer.Unavailable (record { n = id }) (lost far.members set.shards)
+    else frame_answer (least_free far.frames)) ≡ answer.NoFrame) b e)
+  where
+    by : (x : Bool) → (if x then answer.Unavailable (record { n = id }) (lost far.members set.shards)
+        else frame_answer (least_free far.frames)) ≡ answer.NoFrame → least_free far.frames ≡ None
+    by true q = absurd (unavailable_not _ (record { n = id }) (lost far.members set.shards) refl q)
+    by false q = no_least (least_free far.frames) q
+
+pub swap_crammed : (id p : ℕ) (far new : FarState) (r : Reply) (es : List Event)
+    → SwapRule id p far new r es → r ≡ answer.NoFrame
+    → (new ≡ far) × (least_free far.frames ≡ None)
+swap_crammed id p far new r es rule none =
+    let x = subst (λ (q : Reply). SwapFar far new id p rule.set es q) none rule.state in
+    (x.0, by_broken far id rule.set (is_broken far.members rule.set) refl (sym rule.reply ∙ none))

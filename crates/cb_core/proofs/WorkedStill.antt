@@ -1,0 +1,356 @@
+-- Worked examples of the parts of a turn at the still desk: what meets each, and what breaks one of
+-- its parts alone.
+use Rattle.std.proofs.Common.{◌≡◌, ℕ, zero, suc, ◌+◌, ◌*◌, ◌^◌, ◌<◌, ◌≤◌, Bool, true, false, List, [], ◌∷◌, Option, None, Some, length, get_or, unwrap_or, refl, ap, sym, ◌∙◌, subst, inl, inr, lit<, lit≤, arith}
+use Rattle.std.specs.FinMap as map
+use Rattle.cb_class.specs.Class.{IsClassOf, bytes_of}
+use Rattle.cb_member.specs.declared.names.Shard.{Shard}
+use Rattle.cb_member.specs.Membership.{fresh_members}
+use Rattle.cb_set.specs.SetState.{SetState, PositionState, set_of}
+use Rattle.cb_span.specs.declared.temp.Temp.TheVariants.{Hot}
+use Rattle.cb_types.specs.declared.config.Field.TheVariants.{K, R, Nodes, Frames, Room, Handles, Turns}
+use Rattle.cb_types.specs.declared.handle.SetId.{SetId}
+use Rattle.cb_types.specs.declared.job.Job.TheVariants.{Read, Write, Swap, Rebuild}
+use Rattle.cb_types.specs.declared.reply.Reply.{Reply}
+use Rattle.cb_types.specs.declared.reply.Reply.TheVariants as answer
+use Rattle.cb_types.specs.Config.{IsAccepted}
+use Rattle.cb_world.specs.declared.homes.Home.{Home}
+use Rattle.cb_world.specs.declared.shown.Shown.{Shown}
+use Rattle.cb_world.specs.FarState.{FarState}
+use Rattle.cb_world.specs.Homes.{home_at}
+use Rattle.cb_world.specs.Memory.{bytes_in, window}
+use Rattle.cb_world.specs.Now.{now, is_gone, broken_set}
+use Rattle.cb_world.specs.Placed.{HasRoom}
+use Rattle.cb_world.specs.Plain.{Words}
+use Rattle.cb_world.specs.Sets.{set_in}
+use Rattle.cb_world.specs.World.{IsKnown, empty_world}
+use Rattle.cb_world.proofs.NowSame.{now_same}
+use Rattle.cb_world.proofs.Worlds.{empty_world_sound}
+use Rattle.cb_evict.specs.EvictStep.{few_spans, few_nodes, made}
+use Rattle.cb_swapin.specs.Fetching.{far_given}
+use Rattle.cb_core.specs.Declining.{write_refusal}
+use Rattle.cb_core.specs.Parts.{Holding, no_room, declined, stays_far, not_far, was_far}
+use Rattle.cb_core.specs.Step.{StillRead, StillWrite, StillFind, StillDecline, HoldOn, StillEvict, StillSwap, StillBring, StillWorks, StillMakeLacks, StillReadLacks, StillEvictLacks, StillSwapLacks}
+use Rattle.cb_core.proofs.WorkedPins.{settings, desk, away, calm, hot, pinned, moving}
+use Rattle.cb_core.proofs.WorkedRoom.{counts, far_of, span_with, words_are}
+
+-- ---- two frames, of which none is free, and whose spans have object 1; object 0 has its home in set
+-- 5, which has a live position
+abbrev shard : ℕ → Shard
+shard n = record { node = record { n = n }; incarnation = 0; key = n }
+
+abbrev set : SetState
+set = set_of 5 (shard 0 ∷ shard 1 ∷ [])
+    (record { live = true; slots = Some 0 ∷ None ∷ None ∷ None ∷ [] } ∷ [])
+
+abbrev home : Home
+home = record { set = 5; position = 0; slot = 0 }
+
+abbrev near : FarState
+near = far_of (span_with (Some 1) None) (span_with None (Some 1)) None (fresh_members 2) (counts 0 [])
+
+abbrev away_far : FarState
+away_far = record near {
+  sets = map.insert map.empty 5 (record { set = set; committed = true });
+  homes = Some home ∷ None ∷ [];
+}
+
+there : set_in away_far.sets 5 ≡ Some set
+there = grind (arith, map.gets)
+
+-- its set has lost no shard
+not_gone : is_gone away_far 0 ≡ false
+not_gone = ap (λ (o : Option SetState). broken_set away_far.members o) there
+
+abbrev more : FarState → FarState
+more far = record far { made = far.made + 1 }
+
+abbrev holds : ℕ → FarState → Holding Words
+holds word far = record { desk = desk word 3; far = far }
+
+abbrev word_of : Holding Words → ℕ
+word_of d = get_or d.desk.words 0 0
+
+abbrev made_of : FarState → ℕ
+made_of far = far.made
+
+-- ---- a read and a write keep the far state
+reads : StillRead 0 (holds calm near) (answer.Bytes 3 (10 ∷ 11 ∷ [])) (holds hot near)
+unfolding bytes_in window
+reads = (record { reply = refl; change = refl }, refl)
+
+reads_another : StillRead 0 (holds calm near) (answer.Bytes 4 (10 ∷ 11 ∷ [])) (holds hot near) → ⊥
+unfolding bytes_in window
+reads_another step = let e : 4 ≡ 3 = ap version_of step.0.reply in omega (arith, e)
+  where
+    version_of : Reply → ℕ
+    version_of (answer.Bytes v bytes) = v
+    version_of r = 0
+
+reads_and_makes : StillRead 0 (holds calm near) (answer.Bytes 3 (10 ∷ 11 ∷ [])) (holds hot (more near))
+    → ⊥
+reads_and_makes step = let e : 2 ≡ 1 = ap made_of step.1 in omega (arith, e)
+
+not_here : StillWrite 0 1 (7 ∷ []) (holds away near) answer.NotHere (holds away near)
+not_here = (record { reply = refl; change = refl }, refl)
+
+not_here_is_not_moving : StillWrite 0 1 (7 ∷ []) (holds away near) answer.Moving (holds away near)
+    → ⊥
+not_here_is_not_moving step = moving_away step.0.reply
+  where
+    moving_away : answer.Moving ≡ answer.NotHere → ⊥
+    moving_away e = cc
+
+not_here_and_warms : StillWrite 0 1 (7 ∷ []) (holds away near) answer.NotHere (holds hot near) → ⊥
+not_here_and_warms step = let e : 16390 ≡ 16385 =
+    ap (λ (x : Words). get_or x.words 0 0) step.0.change in omega (arith, e)
+
+not_here_and_makes : StillWrite 0 1 (7 ∷ []) (holds away near) answer.NotHere (holds away (more near))
+    → ⊥
+not_here_and_makes step = let e : 2 ≡ 1 = ap made_of step.1 in omega (arith, e)
+
+-- ---- a look at where an object is
+stays : StillFind 0 (holds calm near) answer.Stays (holds calm near)
+stays = (refl, refl)
+
+is_far : StillFind 0 (holds away near) answer.NotHere (holds away near)
+is_far = (refl, refl)
+
+is_moving : StillFind 0 (holds moving near) answer.Moving (holds moving near)
+is_moving = (refl, refl)
+
+was_freed : StillFind 0 (holds 0 near) answer.Freed (holds 0 near)
+was_freed = (refl, refl)
+
+never_made : StillFind 1 (holds calm near) answer.Unmade (holds calm near)
+never_made = (refl, refl)
+
+far_and_stays : StillFind 0 (holds away near) answer.Stays (holds away near) → ⊥
+far_and_stays step = let e = step.0 in absurd cc
+
+finds_and_warms : StillFind 0 (holds calm near) answer.Stays (holds hot near) → ⊥
+finds_and_warms step = let e : 16390 ≡ 16386 = ap word_of step.1 in omega (arith, e)
+
+-- ---- a look before a write: object 0 has two bytes
+abbrev refusal_by : Bool → ℕ → Option Reply
+refusal_by lost count = write_refusal lost 2 3 1 count
+
+goes_on : StillDecline 0 1 1 (holds away away_far) None (holds away away_far)
+goes_on = (ap (λ (b : Bool). refusal_by b 1) (sym not_gone), refl)
+
+past_its_end : StillDecline 0 1 2 (holds away away_far) (Some (answer.Range 2)) (holds away away_far)
+past_its_end = (ap (λ (b : Bool). refusal_by b 2) (sym not_gone), refl)
+
+none_some : (r : Reply) → None ≡ Some r → ⊥
+none_some r e = cc
+
+goes_on_past_its_end : StillDecline 0 1 2 (holds away away_far) None (holds away away_far) → ⊥
+goes_on_past_its_end step =
+    none_some (answer.Range 2) (step.0 ∙ ap (λ (b : Bool). refusal_by b 2) not_gone)
+
+looks_and_warms : StillDecline 0 1 1 (holds away away_far) None (holds hot away_far) → ⊥
+looks_and_warms step = let e : 16390 ≡ 16385 = ap word_of step.1 in omega (arith, e)
+
+-- ---- what every object holds
+same_holds : (a : Holding Words) → HoldOn a a
+same_holds a s k = (s, k, λ h. refl)
+
+-- words that are lost are not known
+abbrev emptied : Holding Words
+emptied = record {
+  desk = record { settings = settings; words = []; versions = []; memory = [] };
+  far = (empty_world settings).far;
+}
+
+accepted : IsAccepted settings
+accepted K = (lit≤ tt, lit≤ tt)
+accepted R = (lit≤ tt, lit≤ tt)
+accepted Nodes = (lit≤ tt, lit≤ tt)
+accepted Frames = (lit≤ tt, lit≤ tt)
+accepted Room = (lit≤ tt, lit≤ tt)
+accepted Handles = (lit≤ tt, lit≤ tt)
+accepted Turns = lit≤ tt
+
+words_are_lost : HoldOn (record { desk = (empty_world settings).desk; far = (empty_world settings).far }) emptied
+    → ⊥
+words_are_lost hold =
+    let sound = empty_world_sound settings accepted in
+    let after = hold sound.shown sound.known in
+    let e : 0 ≡ 2 = after.1.sized.words in omega (arith, e)
+
+-- nor does it hold on where all is known before and after, and one object holds something else
+holds_another : (a b : Holding Words) (s t : Shown) (h : ℕ) → IsKnown a.desk a.far s
+    → IsKnown b.desk b.far t → (now t b.far h ≡ now s a.far h → ⊥) → HoldOn a b → ⊥
+holds_another a b s t h k l off hold =
+    let after = hold s k in
+    off (now_same b.desk after.0 t b.far h after.1.shows after.1.sound l.shows l.sound ∙ after.2 h)
+
+-- ---- an eviction: both objects have pins
+abbrev crowd : Holding Words
+crowd = record {
+  desk = words_are pinned pinned;
+  far = far_of (span_with (Some 0) None) (span_with (Some 1) None) None (fresh_members 2) (counts 0 []);
+}
+
+no_spans : StillEvict crowd (answer.NoSpans 0) crowd
+no_spans = (
+  few_spans (record { few = lit< tt; reply = refl; state = refl }) refl,
+  same_holds crowd,
+)
+
+abbrev spans_of : Reply → ℕ
+spans_of (answer.NoSpans n) = n
+spans_of r = 9
+
+one_span : StillEvict crowd (answer.NoSpans 1) crowd → ⊥
+one_span (few_spans a e, hold) =
+    let z : 1 ≡ 0 = ap spans_of a.reply in absurd (omega (arith, z))
+one_span (few_nodes a e, hold) = let n : 1 ≤ 0 = a.enough in absurd (omega (arith, n))
+one_span (made m, hold) = let n : 1 ≤ 0 = m.enough in absurd (omega (arith, n))
+
+-- ---- a swap-in: no frame is free
+no_frame : StillSwap 0 (holds away away_far) answer.NoFrame (holds away away_far)
+no_frame = (
+  home,
+  refl,
+  record { set = set; there = there; reply = refl; change = (refl, refl) },
+  same_holds (holds away away_far),
+)
+
+-- an object without a home
+no_home : (r : Reply) (b : Holding Words) → StillSwap 1 (holds away away_far) r b → ⊥
+no_home r b (h, at, step, hold) = none_some h at
+  where
+    none_some : (h : Home) → None ≡ Some h → ⊥
+    none_some h e = cc
+
+no_frame_and_warms : StillSwap 0 (holds away away_far) answer.NoFrame (holds hot away_far) → ⊥
+no_frame_and_warms (h, at, step, hold) = let e : 16390 ≡ 16385 =
+    ap (λ (x : Words). get_or x.words 0 0) step.change.0 in omega (arith, e)
+
+-- ---- parts one after another
+abbrev start : Holding Words
+start = holds away away_far
+
+write_off : StillWrite 0 1 (7 ∷ 7 ∷ []) start answer.NotHere start
+write_off = (record { reply = refl; change = refl }, refl)
+
+-- a write past the end of a far object is declined, and brings nothing in
+declines : StillWorks (Write (record { n = 0 }) 1 (7 ∷ 7 ∷ [])) start (answer.Range 2) start
+declines = declined start write_off past_its_end
+
+-- object 1 is not in local memory, so no span is loose
+none_loose : StillEvict start (answer.NoSpans 0) start
+none_loose = (
+  few_spans (record { few = lit< tt; reply = refl; state = refl }) refl,
+  same_holds start,
+)
+
+spans_set : (n : ℕ) (id : SetId) → answer.NoSpans n ≡ answer.Set id → ⊥
+spans_set n id e = cc
+
+frame_swapped : (f : ℕ) → answer.NoFrame ≡ answer.Swapped f → ⊥
+frame_swapped f e = cc
+
+stays_out : StillBring 0 start answer.NoFrame start
+stays_out = no_room start (answer.NoSpans 0) no_frame none_loose (spans_set 0) refl
+
+swaps : StillWorks (Swap (record { n = 0 })) start answer.NoFrame start
+swaps = was_far start is_far_away stays_out
+  where
+    is_far_away : StillFind 0 start answer.NotHere start
+    is_far_away = (refl, refl)
+
+reads_in : StillWorks (Read (record { n = 0 })) start answer.NoFrame start
+reads_in = stays_far start start (record { reply = refl; change = refl }, refl) (refl, refl) stays_out
+    frame_swapped
+
+-- an object that is here is not brought in
+swaps_none : StillWorks (Swap (record { n = 0 })) (holds calm near) answer.Stays (holds calm near)
+swaps_none = not_far stays (λ e. stays_away e)
+  where
+    stays_away : answer.Stays ≡ answer.NotHere → ⊥
+    stays_away e = cc
+
+other_jobs : StillWorks Rebuild start answer.Done start → ⊥
+other_jobs works = works
+
+-- ---- no memory
+smallest : IsClassOf 1 (record { index = 0 })
+unfolding bytes_of
+smallest = record {
+  in_table = lit< tt;
+  holds = lit≤ tt;
+  least = λ smaller less. absurd (omega (arith, less));
+}
+
+abbrev kind : Option ℕ → ℕ
+kind found = unwrap_or found 1
+
+-- a frame is free, and the spans are of the largest class
+abbrev open_far : FarState
+open_far = record near { frames = false ∷ true ∷ []; spans = span_with (Some 0) None ∷ None ∷ [] }
+
+none_has_room : (f : ℕ) → HasRoom open_far (record { index = 0 }) Hot f → ⊥
+none_has_room zero room = let e : 22 ≡ 0 = ap kind room.0 in omega (arith, e)
+none_has_room (suc zero) room = let e : 1 ≡ 0 = ap kind room.0 in omega (arith, e)
+none_has_room (suc (suc f)) room = let e : 1 ≡ 0 = ap kind room.0 in omega (arith, e)
+
+make_stops : StillMakeLacks (7 ∷ []) (holds calm open_far) (holds calm open_far)
+make_stops = (
+  refl,
+  (lit< tt, (record { index = 0 }, smallest, record { full = none_has_room; some_free = lit≤ tt })),
+)
+
+make_stops_and_warms : StillMakeLacks (7 ∷ []) (holds calm open_far) (holds hot open_far) → ⊥
+make_stops_and_warms stops = let e : 16390 ≡ 16386 = ap word_of stops.0 in omega (arith, e)
+
+-- where all handles were made, no memory is lacked
+full_stops : StillMakeLacks (7 ∷ []) (holds calm (more open_far)) (holds calm (more open_far)) → ⊥
+full_stops stops = let e = stops.1.0 in omega (arith, e)
+
+read_stops : StillReadLacks 0 (holds calm near) (holds hot near)
+unfolding bytes_in window
+read_stops = (refl, (3, 10 ∷ 11 ∷ [], record { reply = refl; change = refl }))
+
+read_stops_and_makes : StillReadLacks 0 (holds calm near) (holds hot (more near)) → ⊥
+read_stops_and_makes stops = let e : 2 ≡ 1 = ap made_of stops.0 in omega (arith, e)
+
+read_stops_at_a_far_one : StillReadLacks 0 (holds away near) (holds away near) → ⊥
+read_stops_at_a_far_one stops = not_bytes stops.1.0 stops.1.1 stops.1.2.reply
+  where
+    not_bytes : (v : ℕ) (bytes : List ℕ) → answer.Bytes v bytes ≡ answer.NotHere → ⊥
+    not_bytes v bytes e = cc
+
+evict_stops : StillEvictLacks crowd crowd
+evict_stops = refl
+
+evict_stops_and_warms : StillEvictLacks (holds calm near) (holds hot near) → ⊥
+evict_stops_and_warms stops = let e : 16390 ≡ 16386 = ap word_of stops in omega (arith, e)
+
+-- one row was given out of the one data position, and not two
+set_same : (a b : SetState) → Some a ≡ Some b → a ≡ b
+set_same a b e = cc
+
+swap_stops : StillSwapLacks 0 (holds away away_far) (holds away (far_given away_far 1))
+swap_stops = (refl, λ h s at there. (1, most h s at there, refl))
+  where
+    home_same : (a b : Home) → Some a ≡ Some b → a ≡ b
+    home_same a b e = cc
+
+    most : (h : Home) (s : SetState) → home_at away_far.homes 0 ≡ Some h
+        → set_in away_far.sets h.set ≡ Some s → 1 ≤ length s.positions
+    most h s at found =
+        let e : home ≡ h = home_same home h at in
+        let z : set ≡ s = set_same set s (sym there
+        ∙ subst (λ (k : Home). set_in away_far.sets k.set ≡ Some s) (sym e) found) in
+        subst (λ (t : SetState). 1 ≤ length t.positions) z (lit≤ tt)
+
+swap_stops_and_warms : StillSwapLacks 0 (holds away away_far) (holds hot (far_given away_far 1)) → ⊥
+swap_stops_and_warms stops = let e : 16390 ≡ 16385 =
+    ap (λ (x : Words). get_or x.words 0 0) stops.0 in omega (arith, e)
+
+two_rows_too_many : StillSwapLacks 0 (holds away away_far) (holds away (far_given away_far 2)) → ⊥
+two_rows_too_many stops =
+    let z = stops.1 home set refl there in
+    let n = z.1 in
+    let e : 2 ≡ 0 + z.0 = ap (λ (f : FarState). f.nodes.given) z.2 in omega (arith, e, n)

@@ -1,0 +1,78 @@
+use Rattle.std.proofs.Common.{◌∙◌}
+use Rattle.cb_core.proofs.Composing.{holding, make_again, make_lacks_again, make_refused, make_without, shown_after, won_between}
+use Rattle.cb_core.proofs.PartsFar.{make_crammed}
+use Rattle.cb_core.proofs.bringing.make_with_room.Goals as goal
+
+pub evict_now-requires-clause-sound : goal.evict_now-requires-clause-sound
+evict_now-requires-clause-sound g c =
+    shown_after _ _ _ _ _ _ _ c.in_ok-reply.ensures.make
+    (λ es s ran a. (g.met.D.Desk.follows _ _ es s ran a).1) c.requires.sound
+
+pub returns-in_err-room-clause-error : goal.returns-in_err-room-clause-error
+returns-in_err-room-clause-error g c =
+    make_without (λ d es e. g.D.Desk.run d es e) (λ d s. g.D.Desk.shows d s)
+    (g.D.Desk.settings c.args.desk.now) c.args.bytes.now
+    (holding c.args.desk.now c.args.far.now)
+    (holding c.make.new.desk c.make.new.far) c.in_ok-reply.reply
+    (holding c.evict_now.new.desk c.evict_now.new.far)
+    c.from_residual-in_err-room.result c.in_ok-reply.ensures.make
+    (c.is_no_frame.ensures.yes c.if-not-is_no_frame.false)
+    (c.in_err-room.ensures.unchanged, c.in_err-room.ensures.error)
+
+pub returns-then-not-is_set-clause-makes : goal.returns-then-not-is_set-clause-makes
+returns-then-not-is_set-clause-makes g c =
+    let x = c.in_ok-reply.ensures.make in
+    make_refused (λ d es e. g.D.Desk.run d es e) (λ d s. g.D.Desk.shows d s)
+    (g.D.Desk.settings c.args.desk.now) c.args.bytes.now
+    (holding c.args.desk.now c.args.far.now)
+    (holding c.make.new.desk c.make.new.far) c.in_ok-reply.reply
+    (holding c.evict_now.new.desk c.evict_now.new.far)
+    (g.D.Desk.settings c.make.new.desk) c.in_ok-room.room x
+    (c.is_no_frame.ensures.yes c.if-not-is_no_frame.false) (g.met.D.Desk.stays _ _ x.events x.ran)
+    c.in_ok-room.ensures.evict (c.is_set.ensures.other c.if-not-is_set.true)
+
+pub make-requires-2-clause-sound : goal.make-requires-2-clause-sound
+make-requires-2-clause-sound g c =
+    shown_after _ _ _ _ _ _ _ c.in_ok-room.ensures.evict
+    (λ es s ran a. (g.met.D.Desk.follows _ _ es s ran a).1)
+    (shown_after _ _ _ _ _ _ _ c.in_ok-reply.ensures.make
+    (λ es s ran a. (g.met.D.Desk.follows _ _ es s ran a).1) c.requires.sound)
+
+pub returns-clause-makes : goal.returns-clause-makes
+returns-clause-makes g c =
+    let x = c.in_ok-reply.ensures.make in let y = c.in_ok-room.ensures.evict in
+    let set = c.is_set.ensures.yes c.if-not-is_set.false in
+    let none = c.is_no_frame.ensures.yes c.if-not-is_no_frame.false in
+    let same = g.met.D.Desk.stays _ _ x.events x.ran in
+    let m = holding c.make.new.desk c.make.new.far in
+    let n = holding c.evict_now.new.desk c.evict_now.new.far in
+    make_again (λ d es e. g.D.Desk.run d es e) (λ d s. g.D.Desk.shows d s)
+    (g.D.Desk.settings c.args.desk.now) c.args.bytes.now
+    (holding c.args.desk.now c.args.far.now)
+    m c.in_ok-reply.reply n
+    (holding c.make-2.new.desk c.make-2.new.far)
+    (g.D.Desk.settings c.make.new.desk) (g.D.Desk.settings c.evict_now.new.desk) c.in_ok-room.room
+    set.0 c.make-2.result x none same (g.met.D.Desk.stays _ _ y.events y.ran ∙ same) y set.1
+    (won_between (λ d es e. g.D.Desk.run d es e) (λ d s. g.D.Desk.shows d s)
+    (g.D.Desk.settings c.args.desk.now) (g.D.Desk.settings c.make.new.desk) c.args.far.now m n
+    c.in_ok-room.room set.0 same c.requires.config c.requires.configured
+    (make_crammed _ _ c.args.far.now c.make.new.far c.in_ok-reply.reply x.events x.rule none).0
+    (shown_after _ _ _ _ _ _ _ x (λ es s ran a. (g.met.D.Desk.follows _ _ es s ran a).1)
+    c.requires.sound) set.1 y)
+    c.make-2.ensures.make
+
+pub returns-clause-error : goal.returns-clause-error
+returns-clause-error g c =
+    let x = c.in_ok-reply.ensures.make in let y = c.in_ok-room.ensures.evict in
+    let set = c.is_set.ensures.yes c.if-not-is_set.false in
+    let same = g.met.D.Desk.stays _ _ x.events x.ran in
+    make_lacks_again (λ d es e. g.D.Desk.run d es e) (λ d s. g.D.Desk.shows d s)
+    (g.D.Desk.settings c.args.desk.now) c.args.bytes.now
+    (holding c.args.desk.now c.args.far.now)
+    (holding c.make.new.desk c.make.new.far) c.in_ok-reply.reply
+    (holding c.evict_now.new.desk c.evict_now.new.far)
+    (holding c.make-2.new.desk c.make-2.new.far)
+    (g.D.Desk.settings c.make.new.desk) (g.D.Desk.settings c.evict_now.new.desk) c.in_ok-room.room
+    set.0 c.make-2.result (λ d. g.met.D.Desk.none d) x
+    (c.is_no_frame.ensures.yes c.if-not-is_no_frame.false) same
+    (g.met.D.Desk.stays _ _ y.events y.ran ∙ same) y set.1 c.make-2.ensures.error

@@ -1,0 +1,92 @@
+use Rattle.std.proofs.Common.{sym, ◌∙◌, subst, ◌≡◌, Some, length}
+use Rattle.cb_types.specs.Config.{IsAccepted}
+use Rattle.cb_world.specs.declared.homes.Home.{Home}
+use Rattle.cb_world.specs.FarState.{FarState}
+use Rattle.cb_world.specs.Homes.{home_at}
+use Rattle.cb_core.specs.Parts.{NeverLacks}
+use Rattle.cb_core.specs.Turned.{BringLacks, Brings, Declines, Writes}
+use Rattle.cb_core.proofs.Composing.{bring_lacks_as, brings_as, far_comes, far_kept, far_kept_if, far_stays, far_stops, holding, is_declined, shown_after}
+use Rattle.cb_core.proofs.PartsFar.{far_has_home}
+use Rattle.cb_core.proofs.bringing.write_anywhere.Goals as goal
+
+pub decline-requires-clause-sound : goal.decline-requires-clause-sound
+decline-requires-clause-sound g c =
+    shown_after _ _ _ _ _ _ _ c.in_ok-reply.ensures.write
+    (λ es s ran a. (g.met.D.Desk.follows _ _ es s ran a).1) c.requires.sound
+
+pub returns-in-Some-clause-writes : goal.returns-in-Some-clause-writes
+returns-in-Some-clause-writes g c =
+    let x = c.in_ok-reply.ensures.write in
+    is_declined (Writes (λ d es e. g.D.Desk.run d es e) (λ d s. g.D.Desk.shows d s) c.args.h.n c.args.at c.args.bytes.now) (Declines (λ d es e. g.D.Desk.run d es e) (λ d s. g.D.Desk.shows d s) c.args.h.n c.args.at
+    (length c.args.bytes.now)) (Brings (λ d es e. g.D.Desk.run d es e) (λ d s. g.D.Desk.shows d s) (g.D.Desk.settings c.args.desk.now) c.args.h.n)
+    (holding c.args.desk.now c.args.far.now) (holding c.write.new.desk c.write.new.far)
+    (holding c.decline.new.desk c.write.new.far) c.in_ok-reply.reply c.in-Some.refusal
+    (far_kept _ _ _ _ _ _ _ x c.in_ok-reply.ensures.far)
+    (c.is_not_here.ensures.yes c.if-not-is_not_here.false) c.in-Some.ensures.declines
+
+pub bring-requires-clause-home : goal.bring-requires-clause-home
+bring-requires-clause-home g c =
+    let s = c.requires.sound in
+    subst (λ (f : FarState). (home : Home) × (home_at f.homes c.args.h.n ≡ Some home))
+    (sym c.in_ok-reply.ensures.far)
+    (far_has_home s.0 c.args.far.now c.args.h.n s.2 (c.in_ok-reply.ensures.away
+    (c.is_not_here.ensures.yes c.if-not-is_not_here.false) s.0 s.1))
+
+pub bring-requires-clause-sound : goal.bring-requires-clause-sound
+bring-requires-clause-sound g c =
+    shown_after _ _ _ _ _ _ _ c.in_default.ensures.declines.1
+    (λ es s ran a. (g.met.D.Desk.follows _ _ es s ran a).1)
+    (shown_after _ _ _ _ _ _ _ c.in_ok-reply.ensures.write
+    (λ es s ran a. (g.met.D.Desk.follows _ _ es s ran a).1) c.requires.sound)
+
+pub returns-in_err-brought-clause-error : goal.returns-in_err-brought-clause-error
+returns-in_err-brought-clause-error g c =
+    let x = c.in_ok-reply.ensures.write in let d = c.in_default.ensures.declines.1 in
+    far_stops (Writes (λ d es e. g.D.Desk.run d es e) (λ d s. g.D.Desk.shows d s) c.args.h.n c.args.at c.args.bytes.now) (Declines (λ d es e. g.D.Desk.run d es e) (λ d s. g.D.Desk.shows d s) c.args.h.n c.args.at
+    (length c.args.bytes.now)) (Brings (λ d es e. g.D.Desk.run d es e) (λ d s. g.D.Desk.shows d s) (g.D.Desk.settings c.args.desk.now) c.args.h.n)
+    (holding c.args.desk.now c.args.far.now) (holding c.write.new.desk c.write.new.far)
+    (holding c.decline.new.desk c.write.new.far) c.in_ok-reply.reply
+    (far_kept _ _ _ _ _ _ _ x c.in_ok-reply.ensures.far)
+    (c.is_not_here.ensures.yes c.if-not-is_not_here.false) c.in_default.ensures.declines NeverLacks (BringLacks (λ d es e. g.D.Desk.run d es e) (λ d s. g.D.Desk.shows d s) (g.D.Desk.settings c.args.desk.now) c.args.h.n)
+    (holding c.bring.new.desk c.bring.new.far) c.from_residual-in_err-brought.result
+    (bring_lacks_as (λ d es e. g.D.Desk.run d es e) (λ d s. g.D.Desk.shows d s) (g.D.Desk.settings c.args.desk.now) (g.D.Desk.settings c.decline.new.desk) c.args.h.n
+    (holding c.decline.new.desk c.write.new.far) (holding c.bring.new.desk c.bring.new.far)
+    (g.met.D.Desk.stays _ _ d.events d.ran ∙ g.met.D.Desk.stays _ _ x.events x.ran) c.in_err-brought.ensures.error)
+
+pub returns-then-not-is_swapped-clause-writes : goal.returns-then-not-is_swapped-clause-writes
+returns-then-not-is_swapped-clause-writes g c =
+    let x = c.in_ok-reply.ensures.write in let d = c.in_default.ensures.declines.1 in
+    far_stays (Writes (λ d es e. g.D.Desk.run d es e) (λ d s. g.D.Desk.shows d s) c.args.h.n c.args.at c.args.bytes.now) (Declines (λ d es e. g.D.Desk.run d es e) (λ d s. g.D.Desk.shows d s) c.args.h.n c.args.at
+    (length c.args.bytes.now)) (Brings (λ d es e. g.D.Desk.run d es e) (λ d s. g.D.Desk.shows d s) (g.D.Desk.settings c.args.desk.now) c.args.h.n)
+    (holding c.args.desk.now c.args.far.now) (holding c.write.new.desk c.write.new.far)
+    (holding c.decline.new.desk c.write.new.far) c.in_ok-reply.reply
+    (far_kept _ _ _ _ _ _ _ x c.in_ok-reply.ensures.far)
+    (c.is_not_here.ensures.yes c.if-not-is_not_here.false) c.in_default.ensures.declines
+    (holding c.bring.new.desk c.bring.new.far) c.in_ok-brought.brought
+    (brings_as (λ d es e. g.D.Desk.run d es e) (λ d s. g.D.Desk.shows d s) (g.D.Desk.settings c.args.desk.now) (g.D.Desk.settings c.decline.new.desk) c.args.h.n
+    (holding c.decline.new.desk c.write.new.far) (holding c.bring.new.desk c.bring.new.far)
+    c.in_ok-brought.brought (g.met.D.Desk.stays _ _ d.events d.ran ∙ g.met.D.Desk.stays _ _ x.events x.ran) c.in_ok-brought.ensures.brings)
+    (c.is_swapped.ensures.other c.if-not-is_swapped.true)
+
+pub write-requires-2-clause-config : goal.write-requires-2-clause-config
+write-requires-2-clause-config g c =
+    let x = c.in_ok-reply.ensures.write in let d = c.in_default.ensures.declines.1 in
+    subst IsAccepted (sym (c.in_ok-brought.ensures.settings ∙ (g.met.D.Desk.stays _ _ d.events d.ran ∙ g.met.D.Desk.stays _ _ x.events x.ran)))
+    c.requires.config
+
+pub returns-clause-writes : goal.returns-clause-writes
+returns-clause-writes g c =
+    let x = c.in_ok-reply.ensures.write in let d = c.in_default.ensures.declines.1 in
+    let is = c.is_swapped.ensures.yes c.if-not-is_swapped.false in
+    far_comes (Writes (λ d es e. g.D.Desk.run d es e) (λ d s. g.D.Desk.shows d s) c.args.h.n c.args.at c.args.bytes.now) (Declines (λ d es e. g.D.Desk.run d es e) (λ d s. g.D.Desk.shows d s) c.args.h.n c.args.at
+    (length c.args.bytes.now)) (Brings (λ d es e. g.D.Desk.run d es e) (λ d s. g.D.Desk.shows d s) (g.D.Desk.settings c.args.desk.now) c.args.h.n)
+    (holding c.args.desk.now c.args.far.now) (holding c.write.new.desk c.write.new.far)
+    (holding c.decline.new.desk c.write.new.far) c.in_ok-reply.reply
+    (far_kept _ _ _ _ _ _ _ x c.in_ok-reply.ensures.far)
+    (c.is_not_here.ensures.yes c.if-not-is_not_here.false) c.in_default.ensures.declines
+    (holding c.bring.new.desk c.bring.new.far) (holding c.write-2.new.desk c.write-2.new.far)
+    c.in_ok-brought.brought is.0 c.write-2.result
+    (brings_as (λ d es e. g.D.Desk.run d es e) (λ d s. g.D.Desk.shows d s) (g.D.Desk.settings c.args.desk.now) (g.D.Desk.settings c.decline.new.desk) c.args.h.n
+    (holding c.decline.new.desk c.write.new.far) (holding c.bring.new.desk c.bring.new.far)
+    c.in_ok-brought.brought (g.met.D.Desk.stays _ _ d.events d.ran ∙ g.met.D.Desk.stays _ _ x.events x.ran) c.in_ok-brought.ensures.brings)
+    is.1 (far_kept_if _ _ _ _ _ _ _ c.write-2.result c.write-2.ensures.write c.write-2.ensures.far)

@@ -1,0 +1,221 @@
+ghost use Rattle.std.specs.Prelude.{◌≡◌, ℕ, ◌^◌, ◌+◌, ◌<◌, ◌≤◌, length, true, false, Some, IfOk, OnErr};
+ghost use Rattle.cb_types.specs.Config.{IsAccepted};
+ghost use Rattle.cb_types.specs.declared.handle.SetId.{SetId};
+ghost use Rattle.cb_types.specs.declared.reply.Reply.TheVariants as answer;
+ghost use Rattle.cb_world.specs.declared.homes.Home.{Home};
+ghost use Rattle.cb_world.specs.declared.shown.Shown.{Shown};
+ghost use Rattle.cb_world.specs.Homes.{home_at};
+ghost use Rattle.cb_world.specs.Sound.{Sound};
+ghost use Rattle.cb_world.specs.World.{IsConfigured};
+ghost use Rattle.cb_core.specs.Parts.{BringsIn, CallStops, Holding, NeverDeclined, NeverLacks, RoomStops, WhereItIs, WithRoom};
+ghost use Rattle.cb_core.specs.Turned.{BringLacks, Brings, Declines, Evicts, EvictLacks, Finds, MakeLacks, Makes, ReadLacks, Reads, Writes};
+
+use crate::declining::{decline, find};
+use cb_evict::evict_now;
+use cb_mutate::{make, read, write};
+use cb_swapin::swap_in;
+use cb_types::{Handle, NoMemory, Reply, SetId};
+use cb_world::{Desk, Far};
+use std::alloc::Global;
+
+/// Makes an object of these bytes, 1 to 1,024. Where there is no frame for it, an eviction makes room,
+/// and it is made then; NoFrame is answered only where the eviction is refused.
+pub(crate) fn make_with_room<D: Desk>(
+    desk: &mut D,
+    far: &mut Far,
+    bytes: &[u8],
+) -> Result<Reply, NoMemory>
+    requires some_byte { 1 ≤ length bytes.now }
+    requires fits { length bytes.now ≤ 1024 }
+    requires config { IsAccepted (D.settings desk.old) }
+    requires configured { IsConfigured (D.settings desk.old) far.old }
+    requires counts { (far.old.counts.sets < 2 ^ 62) × (far.old.counts.keys < 2 ^ 62) }
+    requires sound { (s : Shown) × D.shows desk.old s × Sound s far.old }
+    ensures makes { IfOk result (λ reply. WithRoom
+        (Makes (λ d es e. D.run d es e) (λ d s. D.shows d s) (D.settings desk.old) bytes.now)
+        (Evicts (λ d es e. D.run d es e) (λ d s. D.shows d s) (D.settings desk.old))
+        (record { desk = desk.old; far = far.old }) reply (record { desk = desk.new; far = far.new })) }
+    ensures error { OnErr result (RoomStops
+        (Makes (λ d es e. D.run d es e) (λ d s. D.shows d s) (D.settings desk.old) bytes.now)
+        (MakeLacks (λ d es e. D.run d es e) (D.settings desk.old) bytes.now)
+        (Evicts (λ d es e. D.run d es e) (λ d s. D.shows d s) (D.settings desk.old))
+        (EvictLacks (λ d es e. D.run d es e) (λ d s. D.shows d s))
+        (record { desk = desk.old; far = far.old }) (record { desk = desk.new; far = far.new })) }
+{
+    let reply = make(desk, far, bytes)?;
+    if !is_no_frame(&reply) {
+        return Ok(reply);
+    }
+    let room = evict_now(desk, far)?;
+    if !is_set(&room) {
+        return Ok(Reply::NoFrame);
+    }
+    make(desk, far, bytes)
+}
+
+/// Brings a far object in, with the span in which it left. Where no frame is free, an eviction makes
+/// room, and the span is swapped in then; NoFrame is answered only where the eviction is refused.
+/// Answers Unavailable where its set has lost more shards than it has parities.
+fn bring<D: Desk>(desk: &mut D, far: &mut Far, h: Handle) -> Result<Reply, NoMemory>
+    requires handle { h.n < (D.settings desk.old).handles }
+    requires config { IsAccepted (D.settings desk.old) }
+    requires configured { IsConfigured (D.settings desk.old) far.old }
+    requires counts { (far.old.counts.sets < 2 ^ 62) × (far.old.counts.keys < 2 ^ 62) }
+    requires given { far.old.nodes.given + 16 < 2 ^ 64 }
+    requires home { (home : Home) × (home_at far.old.homes h.n ≡ Some home) }
+    requires sound { (s : Shown) × D.shows desk.old s × Sound s far.old }
+    ensures brings { IfOk result (λ reply. Brings (λ d es e. D.run d es e) (λ d s. D.shows d s) (D.settings desk.old) h.n
+        (record { desk = desk.old; far = far.old }) reply (record { desk = desk.new; far = far.new })) }
+    ensures error { OnErr result (BringLacks (λ d es e. D.run d es e) (λ d s. D.shows d s) (D.settings desk.old) h.n
+        (record { desk = desk.old; far = far.old }) (record { desk = desk.new; far = far.new })) }
+    ensures settings { D.settings desk.new ≡ D.settings desk.old }
+    ensures sound { IfOk result (λ reply. (s : Shown) × D.shows desk.new s × Sound s far.new) }
+{
+    let home = far.homes.at(h.n).unwrap();
+    let id = SetId { n: home.set };
+    let reply = swap_in(desk, far, id, home.position)?;
+    if !is_no_frame(&reply) {
+        return Ok(reply);
+    }
+    let room = evict_now(desk, far)?;
+    if !is_set(&room) {
+        return Ok(Reply::NoFrame);
+    }
+    swap_in(desk, far, id, home.position)
+}
+
+/// Reads an object wherever it is: a far one is brought in first. Where it can't be brought in the
+/// answer is why.
+pub(crate) fn read_anywhere<D: Desk>(
+    alloc: Global,
+    desk: &mut D,
+    far: &mut Far,
+    h: Handle,
+) -> Result<Reply, NoMemory>
+    requires handle { h.n < (D.settings desk.old).handles }
+    requires config { IsAccepted (D.settings desk.old) }
+    requires configured { IsConfigured (D.settings desk.old) far.old }
+    requires counts { (far.old.counts.sets < 2 ^ 62) × (far.old.counts.keys < 2 ^ 62) }
+    requires given { far.old.nodes.given + 16 < 2 ^ 64 }
+    requires sound { (s : Shown) × D.shows desk.old s × Sound s far.old }
+    ensures reads { IfOk result (λ reply. WhereItIs (Reads (λ d es e. D.run d es e) (λ d s. D.shows d s) h.n)
+        NeverDeclined
+        (Brings (λ d es e. D.run d es e) (λ d s. D.shows d s) (D.settings desk.old) h.n)
+        (record { desk = desk.old; far = far.old }) reply (record { desk = desk.new; far = far.new })) }
+    ensures error { OnErr result (CallStops (Reads (λ d es e. D.run d es e) (λ d s. D.shows d s) h.n)
+        (ReadLacks (λ d es e. D.run d es e) (λ d s. D.shows d s) h.n)
+        NeverDeclined
+        (Brings (λ d es e. D.run d es e) (λ d s. D.shows d s) (D.settings desk.old) h.n)
+        (BringLacks (λ d es e. D.run d es e) (λ d s. D.shows d s) (D.settings desk.old) h.n)
+        (record { desk = desk.old; far = far.old }) (record { desk = desk.new; far = far.new })) }
+{
+    let reply = read(alloc, desk, far, h)?;
+    if !is_not_here(&reply) {
+        return Ok(reply);
+    }
+    let brought = bring(desk, far, h)?;
+    if !is_swapped(&brought) {
+        return Ok(brought);
+    }
+    read(alloc, desk, far, h)
+}
+
+/// Writes over a part of an object wherever it is: a far one is brought in first, but where the write
+/// would be declined by the object's length or version, which are looked at. Where it can't be brought
+/// in the answer is why.
+pub(crate) fn write_anywhere<D: Desk>(
+    desk: &mut D,
+    far: &mut Far,
+    h: Handle,
+    at: u32,
+    bytes: &[u8],
+) -> Result<Reply, NoMemory>
+    requires handle { h.n < (D.settings desk.old).handles }
+    requires config { IsAccepted (D.settings desk.old) }
+    requires configured { IsConfigured (D.settings desk.old) far.old }
+    requires counts { (far.old.counts.sets < 2 ^ 62) × (far.old.counts.keys < 2 ^ 62) }
+    requires given { far.old.nodes.given + 16 < 2 ^ 64 }
+    requires sound { (s : Shown) × D.shows desk.old s × Sound s far.old }
+    ensures writes { IfOk result (λ reply. WhereItIs (Writes (λ d es e. D.run d es e) (λ d s. D.shows d s) h.n at bytes.now)
+        (Declines (λ d es e. D.run d es e) (λ d s. D.shows d s) h.n at (length bytes.now))
+        (Brings (λ d es e. D.run d es e) (λ d s. D.shows d s) (D.settings desk.old) h.n)
+        (record { desk = desk.old; far = far.old }) reply (record { desk = desk.new; far = far.new })) }
+    ensures error { OnErr result (CallStops (Writes (λ d es e. D.run d es e) (λ d s. D.shows d s) h.n at bytes.now)
+        NeverLacks
+        (Declines (λ d es e. D.run d es e) (λ d s. D.shows d s) h.n at (length bytes.now))
+        (Brings (λ d es e. D.run d es e) (λ d s. D.shows d s) (D.settings desk.old) h.n)
+        (BringLacks (λ d es e. D.run d es e) (λ d s. D.shows d s) (D.settings desk.old) h.n)
+        (record { desk = desk.old; far = far.old }) (record { desk = desk.new; far = far.new })) }
+{
+    let reply = write(desk, far, h, at, bytes)?;
+    if !is_not_here(&reply) {
+        return Ok(reply);
+    }
+    if let Some(refusal) = decline(desk, far, h, at, bytes) {
+        return Ok(refusal);
+    }
+    let brought = bring(desk, far, h)?;
+    if !is_swapped(&brought) {
+        return Ok(brought);
+    }
+    write(desk, far, h, at, bytes)
+}
+
+/// Brings an object in where it is far. Of one that is not far the answer is where it is: Unmade,
+/// Freed, Moving, or Stays where it is here.
+pub(crate) fn swap_object<D: Desk>(
+    desk: &mut D,
+    far: &mut Far,
+    h: Handle,
+) -> Result<Reply, NoMemory>
+    requires handle { h.n < (D.settings desk.old).handles }
+    requires config { IsAccepted (D.settings desk.old) }
+    requires configured { IsConfigured (D.settings desk.old) far.old }
+    requires counts { (far.old.counts.sets < 2 ^ 62) × (far.old.counts.keys < 2 ^ 62) }
+    requires given { far.old.nodes.given + 16 < 2 ^ 64 }
+    requires sound { (s : Shown) × D.shows desk.old s × Sound s far.old }
+    ensures swaps { IfOk result (λ reply. BringsIn (Finds (λ d es e. D.run d es e) (λ d s. D.shows d s) h.n)
+        (Brings (λ d es e. D.run d es e) (λ d s. D.shows d s) (D.settings desk.old) h.n)
+        (record { desk = desk.old; far = far.old }) reply (record { desk = desk.new; far = far.new })) }
+    ensures error { OnErr result ((m : Holding D)
+        × Finds (λ d es e. D.run d es e) (λ d s. D.shows d s) h.n (record { desk = desk.old; far = far.old }) answer.NotHere m
+        × BringLacks (λ d es e. D.run d es e) (λ d s. D.shows d s) (D.settings desk.old) h.n m (record { desk = desk.new; far = far.new })) }
+{
+    let place = find(desk, far, h);
+    if !is_not_here(&place) {
+        return Ok(place);
+    }
+    bring(desk, far, h)
+}
+
+/// Whether a reply is that there is no frame.
+fn is_no_frame(reply: &Reply) -> bool
+    ensures yes { result ≡ true → reply.now ≡ answer.NoFrame }
+    ensures other { result ≡ false → reply.now ≡ answer.NoFrame → ⊥ }
+{
+    matches!(reply, Reply::NoFrame)
+}
+
+/// Whether a reply is that a set was made.
+fn is_set(reply: &Reply) -> bool
+    ensures yes { result ≡ true → (id : SetId) × (reply.now ≡ answer.Set id) }
+    ensures other { result ≡ false → (id : SetId) → reply.now ≡ answer.Set id → ⊥ }
+{
+    matches!(reply, Reply::Set { .. })
+}
+
+/// Whether a reply is that the object is far.
+fn is_not_here(reply: &Reply) -> bool
+    ensures yes { result ≡ true → reply.now ≡ answer.NotHere }
+    ensures other { result ≡ false → reply.now ≡ answer.NotHere → ⊥ }
+{
+    matches!(reply, Reply::NotHere)
+}
+
+/// Whether a reply is that a span was swapped in.
+fn is_swapped(reply: &Reply) -> bool
+    ensures yes { result ≡ true → (f : ℕ) × (reply.now ≡ answer.Swapped f) }
+    ensures other { result ≡ false → (f : ℕ) → reply.now ≡ answer.Swapped f → ⊥ }
+{
+    matches!(reply, Reply::Swapped { .. })
+}
