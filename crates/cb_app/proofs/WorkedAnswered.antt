@@ -5,6 +5,7 @@ use Rattle.cb_types.specs.declared.answer.Answer.{Answer}
 use Rattle.cb_types.specs.declared.reply.Reply.{Reply}
 use Rattle.cb_types.specs.declared.reply.Reply.TheVariants as replies
 use Rattle.cb_types.specs.declared.request.Request.{Request}
+use Rattle.cb_types.specs.declared.request.Request.TheVariants.{Leave}
 use Rattle.cb_script.specs.declared.script.Line.{Line}
 use Rattle.cb_script.specs.declared.script.Script.{Script}
 use Rattle.cb_script.proofs.Phrases.{differ}
@@ -16,6 +17,7 @@ use Rattle.cb_text.specs.Line.{text_of}
 use Rattle.cb_lanes.specs.Held.{HoldsAnswers}
 use Rattle.cb_lanes.specs.LineStep.{LinesLead}
 use Rattle.cb_lanes.specs.Lost.{losses_of}
+use Rattle.cb_world.specs.Seats.{pins_of_seat}
 use Rattle.cb_world.specs.World.{WorldState, IsSoundWorld, empty_world}
 use Rattle.cb_app.specs.declared.ending.Ending.{Ending}
 use Rattle.cb_app.specs.declared.words.Command.{Command}
@@ -48,6 +50,7 @@ record IsLeft (world : WorldState) : Type 0 where
   leads : LinesLead [] (empty_world small) answers world
   sound : IsSoundWorld world
   holds : HoldsAnswers world answers
+  idle : (seat : ℕ) → pins_of_seat world.seats seat ≡ []
 
 answered : (world : WorldState) → IsLeft world → IsAnswered input script (ending_of world answers)
 answered world there = record {
@@ -62,6 +65,8 @@ answered world there = record {
   sound = there.sound;
   holds = there.holds;
   losses = refl;
+  scopes = (tt, (tt, tt));
+  idle = there.idle;
 }
 
 no_world : (end : Ending) → end.world ≡ None → IsAnswered input script end → ⊥
@@ -155,3 +160,15 @@ tells_nothing : (words : List (String Global)) (world : WorldState)
     → TellsScript words (Some input) (Some []) (Some []) (Some []) (ending_of world answers) → ⊥
 tells_nothing words world (due, told, put) =
     not_empty world told.command told.yields.0 told.yields.1 due told.yields.3 (sym put)
+
+-- no lane has a pin, and a leave is told of one
+a_pin_too_many : (bytes : List ℕ) (other : Script) (world : WorldState)
+    → IsAnswered bytes other (ending_of world (answer 2 Leave (replies.Left 1) ∷ [])) → ⊥
+a_pin_too_many bytes other world is = absurd (let e : replies.Left 1 ≡ replies.Left 0 = is.scopes.0 in cc)
+
+-- a lane has a pin at the end
+a_pin_is_left : (world : WorldState) → length (pins_of_seat world.seats 1) ≡ 1
+    → IsAnswered input script (ending_of world answers) → ⊥
+a_pin_is_left world one is =
+    let same : world ≡ is.world = let e : Some world ≡ Some is.world = is.left in cc in
+    omega (arith, one, ap (λ (w : WorldState). length (pins_of_seat w.seats 1)) same, ap length (is.idle 1))

@@ -19,6 +19,8 @@ use Rattle.cb_lanes.specs.Asked.{asked, HasLineReply}
 use Rattle.cb_lanes.specs.Held.{HoldsAnswers}
 use Rattle.cb_lanes.specs.LineStep.{LinesLead}
 use Rattle.cb_lanes.specs.Lost.{losses_of}
+use Rattle.cb_lanes.specs.Scopes.{KeepScopes}
+use Rattle.cb_world.specs.Seats.{pins_of_seat}
 use Rattle.cb_world.specs.World.{WorldState, IsSoundWorld, empty_world}
 use Rattle.cb_app.specs.Texts.{words_refused, fault_text, check_text}
 use Rattle.cb_app.specs.declared.words.Command.{Command}
@@ -51,6 +53,9 @@ pub record IsAnswered (bytes : List ℕ) (script : Script) (end : Ending) : Type
   pub holds : HoldsAnswers world end.answers
   -- the crashes that took place
   pub losses : end.losses ≡ losses_of end.answers
+  -- each answer is as its lane's pins say, and at the end no lane has one
+  pub scopes : KeepScopes [] end.answers
+  pub idle : (seat : ℕ) → pins_of_seat world.seats seat ≡ []
 
 -- The ending of a script that was checked: its configuration, and nothing else.
 pub record IsChecked (bytes : List ℕ) (script : Script) (end : Ending) : Type 0 where

@@ -1,9 +1,9 @@
 -- What a run keeps while it answers the lines of a script.
-use Rattle.std.proofs.Common.{◌≡◌, ◌⊎◌, ℕ, zero, suc, ◌+◌, ◌^◌, ◌<◌, ◌≤◌, List, [], ◌∷◌, ◌++◌, length, Bool, true, false, cond, Option, None, Some, refl, sym, ap, ◌∙◌, subst, arith, inl, inr, get_or, take, map, append_assoc}
+use Rattle.std.proofs.Common.{◌≡◌, ◌⊎◌, ℕ, zero, suc, ◌+◌, ◌<◌, ◌≤◌, List, [], ◌∷◌, ◌++◌, length, Bool, true, false, cond, Option, None, Some, refl, sym, ap, ◌∙◌, subst, arith, inl, inr, get_or, take, map}
 use Rattle.std.specs.List.{AllByRecursion, cons_option}
 use Rattle.std.specs.Str.{bytes_eq}
 use Rattle.std.proofs.lemmas.List.Elements.{filter_map-append}
-use Rattle.std.proofs.lemmas.List.{map_push, take_more, length_push, append-nil}
+use Rattle.std.proofs.lemmas.List.{map_push, take_more, length_push}
 use Rattle.cb_types.specs.declared.answer.Answer.{Answer}
 use Rattle.cb_types.specs.declared.config.Config.{Config}
 use Rattle.cb_types.specs.Config.{IsAccepted}
@@ -14,12 +14,12 @@ use Rattle.cb_types.specs.declared.request.Request.TheVariants.{Make, Read, Writ
 use Rattle.cb_types.specs.declared.reply.Reply.{Reply}
 use Rattle.cb_types.specs.declared.reply.Reply.TheVariants as answer
 use Rattle.cb_types.specs.Requests.{name_of}
-use Rattle.cb_model.specs.Event.{Event, event_of}
+use Rattle.cb_model.specs.Event.{event_of}
 use Rattle.cb_model.specs.Event.Event.{FindsUnmade}
 use Rattle.cb_model.specs.Called.{first_of, handle_of, handle_made, handle_named, handle_for, called, calls_of, makes, made_by, value_at}
 use Rattle.cb_model.specs.Now.{Now as MapNow}
 use Rattle.cb_model.specs.Replies.{MapReplies}
-use Rattle.cb_model.specs.Legal.{Follow, IsMapReply, IsUnmadeRight}
+use Rattle.cb_model.specs.Legal.{Follow, IsMapReply}
 use Rattle.cb_model.proofs.Naming.{calls_of-push, handle_of-push, Follow-push}
 use Rattle.cb_model.proofs.Order.{makes-le, makes-push}
 use Rattle.cb_script.specs.declared.script.Line.{Line}
@@ -44,10 +44,9 @@ use Rattle.cb_lanes.specs.LinesLeft.{AreLanes}
 use Rattle.cb_lanes.specs.Lost.{loss_of, losses_of}
 use Rattle.cb_lanes.specs.Names.{Names, kept_number, handle_at, handle_in, number_after, AreKept, AreReady}
 use Rattle.cb_lanes.specs.Scopes.{KeepScopes, ScopeSays, scope_of}
-use Rattle.cb_lanes.proofs.GivingBack.{Stands, stands_same, pin_stands, unpin_stands, gives_all}
+use Rattle.cb_lanes.proofs.GivingBack.{pin_stands, unpin_stands, gives_all}
 use Rattle.cb_lanes.proofs.LineGoes.{read_goes, write_goes, free_goes, make_goes}
 use Rattle.cb_lanes.proofs.Near.{IsNear}
-use Rattle.cb_lanes.proofs.PinLists.{AreApart}
 use Rattle.cb_lanes.proofs.Pinning.{pin_goes, peek_goes, unpin_goes, leave_goes, unmade_pins}
 use Rattle.cb_lanes.proofs.Scoping.{Scoped, line_scoped}
 use Rattle.cb_lanes.proofs.ScopesKept.{AreScopes, scopes_none, scopes_push, keep_push, Rested, rests, LeadsOn, leads_push, IsFresh, grown, apart_after, lines_own}

@@ -1,21 +1,16 @@
 -- A line on the world is a call on the map that the world holds.
-use Rattle.std.proofs.Common.{◌≡◌, ◌≢◌, ◌⊎◌, ℕ, Bool, true, false, ◌+◌, ◌^◌, ◌<◌, ◌≤◌, List, [], length, Option, None, Some, refl, sym, ap, ◌∙◌, subst, arith, inl, inr}
-use Rattle.std.specs.List.{slice_get}
+use Rattle.std.proofs.Common.{◌≡◌, ℕ, Bool, ◌<◌, List, length, Option, None, Some, refl, ap, arith}
 use Rattle.cb_types.specs.declared.job.Job.{Job}
 use Rattle.cb_types.specs.declared.job.Job.TheVariants as job
-use Rattle.cb_types.specs.declared.request.Request.{Request}
-use Rattle.cb_types.specs.declared.request.Request.TheVariants.{Make, Read, Write, Free, Crash, Join}
+use Rattle.cb_types.specs.declared.request.Request.TheVariants.{Make, Read, Write, Free}
 use Rattle.cb_types.specs.declared.reply.Reply.{Reply}
-use Rattle.cb_types.specs.declared.reply.Reply.TheVariants as answer
 use Rattle.cb_world.specs.declared.homes.Home.{Home}
 use Rattle.cb_world.specs.declared.shown.Shown.{Shown}
 use Rattle.cb_world.specs.FarState.{FarState}
 use Rattle.cb_world.specs.Homes.{home_at}
-use Rattle.cb_world.specs.Now.{Now, now, now_as, is_gone}
-use Rattle.cb_world.specs.Plain.{Words}
+use Rattle.cb_world.specs.Now.{now, now_as}
 use Rattle.cb_world.specs.Shown.{object_at}
-use Rattle.cb_world.specs.World.{WorldState, IsKnown, IsSoundWorld}
-use Rattle.cb_world.proofs.NowSame.{now_same}
+use Rattle.cb_world.specs.World.{WorldState, IsSoundWorld}
 use Rattle.cb_mutate.specs.MapCalls.{IsCallOn, IsMakeCall}
 use Rattle.cb_mutate.proofs.MapReplies.{AreKnownBoth}
 use Rattle.cb_mutate.proofs.ReadCall.{read_call}

@@ -1,13 +1,12 @@
 -- What pins and their ends leave of a world, and giving all pins of a seat back.
-use Rattle.std.proofs.Common.{◌≡◌, ◌≢◌, ◌⊎◌, ℕ, zero, suc, ◌+◌, ◌-◌, ◌<◌, ◌≤◌, List, [], ◌∷◌, ◌++◌, length, map, replicate, reverse, take, get_or, Some, refl, sym, ap, ◌∙◌, subst, arith, inl, inr, get_or-set_same, get_or-set_other}
+use Rattle.std.proofs.Common.{◌≡◌, ◌≢◌, ℕ, suc, ◌+◌, ◌-◌, ◌<◌, ◌≤◌, List, [], ◌∷◌, ◌++◌, length, map, replicate, reverse, take, get_or, refl, sym, ap, ◌∙◌, subst, arith, get_or-set_same, get_or-set_other}
 use Rattle.std.specs.List.{remove}
-use Rattle.std.proofs.lemmas.List.{length_push, length-reverse, nil_from_length, reverse-append, take_more, take_all, get_or_default}
+use Rattle.std.proofs.lemmas.List.{length_push, length-reverse, nil_from_length, reverse-append, take_more, take_all}
 use Rattle.std.proofs.lemmas.List.Edits.{length-remove}
 use Rattle.std.proofs.lemmas.List.Elements.{All-get_or}
 use Rattle.std.proofs.lemmas.Option.{slice_get_within, get_or_from_slice_get}
 use Rattle.cb_ptr.specs.declared.word.State.TheVariants as word
 use Rattle.cb_ptr.specs.Word.{state_of}
-use Rattle.cb_types.specs.declared.config.Config.{Config}
 use Rattle.cb_types.specs.declared.reply.Reply.{Reply}
 use Rattle.cb_types.specs.declared.reply.Reply.TheVariants as answer
 use Rattle.cb_world.specs.declared.seats.Pin.{Pin}
@@ -16,7 +15,7 @@ use Rattle.cb_world.specs.FarState.{FarState}
 use Rattle.cb_world.specs.Now.{now}
 use Rattle.cb_world.specs.Plain.{Words}
 use Rattle.cb_world.specs.Seats.{IsNewest, NoneOn, SeatState, idle_seat, pins_of_seat, with_pins}
-use Rattle.cb_world.specs.World.{WorldState, IsKnown, ArePinned, IsSoundWorld, word_at}
+use Rattle.cb_world.specs.World.{WorldState, IsKnown, IsSoundWorld, word_at}
 use Rattle.cb_world.proofs.PinNow.{pinned_now, unpinned_now}
 use Rattle.cb_world.proofs.Pins.{pin_counts}
 use Rattle.cb_core.specs.declared.event.Event.{Event}
@@ -201,10 +200,12 @@ gave_last seat w new front pin r sound lt e (given is t) = record {
       (subst (λ (es : List Event). Leads w es (replicate (length (front ++ pin ∷ [])) answer.Done) end)
       (sym (ap (map (end_of seat)) (reverse-append front (pin ∷ []))))
       (subst (λ (n : ℕ). Leads w (end_of seat pin ∷ map (end_of seat) (reverse front))
-      (replicate n answer.Done) end) (sym long)
-      (new, subst (λ (q : Reply). UnpinStep seat pin.handle w q new) is (given is t),
-      subst (λ (ps : List Pin). Leads new (map (end_of seat) (reverse ps))
-      (replicate (length ps) answer.Done) end) own leads)));
+      (replicate n answer.Done) end) (sym long) (
+        new,
+        subst (λ (q : Reply). UnpinStep seat pin.handle w q new) is (given is t),
+        subst (λ (ps : List Pin). Leads new (map (end_of seat) (reverse ps))
+            (replicate (length ps) answer.Done) end) own leads,
+      )));
   fewer = ap length e ∙ length_push front pin ∙ sym (ap (λ (ps : List Pin). length ps + 1) own);
 }
   where

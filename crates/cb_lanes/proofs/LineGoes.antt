@@ -1,24 +1,22 @@
 -- A line on the world is answered as the map beside it answers it.
-use Rattle.std.proofs.Common.{◌≡◌, ◌⊎◌, ℕ, ◌+◌, ◌^◌, ◌<◌, ◌≤◌, List, [], length, Option, None, Some, refl, sym, ap, ◌∙◌, subst, arith, inl, inr}
-use Rattle.cb_member.specs.declared.names.NodeId.{NodeId}
+use Rattle.std.proofs.Common.{◌≡◌, ℕ, ◌<◌, List, [], Some, refl, sym, ap, ◌∙◌, subst, inl, inr}
 use Rattle.cb_ptr.specs.declared.word.State.{State}
 use Rattle.cb_ptr.specs.declared.word.State.TheVariants as state
 use Rattle.cb_ptr.specs.Word.{state_of}
 use Rattle.cb_types.specs.declared.answer.Answer.{Answer}
 use Rattle.cb_types.specs.declared.handle.Handle.{Handle}
 use Rattle.cb_types.specs.declared.job.Job.TheVariants as job
-use Rattle.cb_types.specs.declared.request.Request.{Request}
-use Rattle.cb_types.specs.declared.request.Request.TheVariants.{Make, Read, Write, Free, Crash, Join}
+use Rattle.cb_types.specs.declared.request.Request.TheVariants.{Make, Read, Write, Free}
 use Rattle.cb_types.specs.declared.reply.Reply.{Reply}
 use Rattle.cb_types.specs.declared.reply.Reply.TheVariants as answer
 use Rattle.cb_types.specs.Table.{IsReplyOf}
-use Rattle.cb_model.specs.Event.{Event, event_of, change_of}
-use Rattle.cb_model.specs.Called.{handle_of, handle_for, called, calls_of}
+use Rattle.cb_model.specs.Event.{event_of, change_of}
+use Rattle.cb_model.specs.Called.{handle_of, handle_for}
 use Rattle.cb_script.specs.declared.script.Line.{Line}
 use Rattle.cb_world.specs.FarState.{FarState}
 use Rattle.cb_world.specs.Plain.{Words}
-use Rattle.cb_world.specs.World.{WorldState, IsKnown, IsSoundWorld, word_at}
-use Rattle.cb_mutate.specs.FreeRule.{LeavesPlace, IsReleased}
+use Rattle.cb_world.specs.World.{WorldState, word_at}
+use Rattle.cb_mutate.specs.FreeRule.{LeavesPlace}
 use Rattle.cb_mutate.specs.MakeStep.{IsMakeStep}
 use Rattle.cb_mutate.specs.MapCalls.{IsCallOn, IsMakeCall, IsRefusedMake}
 use Rattle.cb_core.specs.Room.{final_reply}
@@ -26,8 +24,8 @@ use Rattle.cb_core.specs.Step.{Works, TurnStep}
 use Rattle.cb_core.specs.Turned.{counted}
 use Rattle.cb_core.proofs.Changes.{free_leaves}
 use Rattle.cb_lanes.proofs.Calls.{within, read_is, write_is, free_is, make_is}
-use Rattle.cb_lanes.proofs.Near.{IsNear, not_far, read_line, write_line, free_line}
-use Rattle.cb_lanes.proofs.Turning.{answer_to, Turning, Goes, Keeps, keeps_is, worked, own_reply, final_same, call_goes, refused_goes}
+use Rattle.cb_lanes.proofs.Near.{not_far, read_line, write_line, free_line}
+use Rattle.cb_lanes.proofs.Turning.{answer_to, Turning, Goes, Keeps, keeps_is, worked, own_reply, call_goes, refused_goes}
 
 -- ---- calls on objects
 

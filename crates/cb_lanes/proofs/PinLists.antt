@@ -1,12 +1,12 @@
 -- The pins of a seat beside the scope of its lane.
-use Rattle.std.proofs.Common.{◌≡◌, ◌≢◌, ◌⊎◌, ℕ, zero, suc, ◌+◌, ◌<◌, ◌≤◌, Bool, true, false, cond, List, [], ◌∷◌, ◌++◌, length, take, drop, Option, None, Some, refl, sym, ap, ◌∙◌, subst, arith, inl, inr, get_or, eq-eqb, ne_eqb, if◌then◌else◌, nat_eq}
+use Rattle.std.proofs.Common.{◌≡◌, ◌≢◌, ◌⊎◌, ℕ, zero, suc, ◌<◌, ◌≤◌, Bool, true, false, List, [], ◌∷◌, ◌++◌, length, take, drop, Option, None, Some, refl, sym, ap, ◌∙◌, subst, arith, inl, inr, eq-eqb, ne_eqb, if◌then◌else◌, nat_eq}
 use Rattle.std.specs.Prelude.{slice_get}
-use Rattle.std.specs.List.{remove, sum_by}
+use Rattle.std.specs.List.{remove}
 use Rattle.std.specs.Str.{bytes_eq}
 use Rattle.std.proofs.lemmas.Bool.{cases_Bool, cases_lt, true≢false}
-use Rattle.std.proofs.lemmas.List.{length_push, get_or_push, take-append-le, drop-append-le, take_all, drop_all, append-nil, append_assoc}
+use Rattle.std.proofs.lemmas.List.{length_push, take-append-le, drop-append-le, take_all, drop_all, append-nil, append_assoc}
 use Rattle.std.proofs.lemmas.List.Sums.{sum_by-cons, sum_by_push}
-use Rattle.std.proofs.lemmas.Option.{slice_get-get_or, slice_get_within}
+use Rattle.std.proofs.lemmas.Option.{slice_get_within}
 use Rattle.std.proofs.lemmas.Slice.Eq.{bytes_eq-Decides}
 use Rattle.cb_world.specs.declared.seats.Pin.{Pin}
 use Rattle.cb_world.specs.Seats.{IsNewest, NoneOn, pins_on}
@@ -222,10 +222,13 @@ module _ (number : List ℕ → Option ℕ) (apart : AreApart number) (name : Li
       by later (inr off) =
           let before = newest_before front pin h at (other_handle named pin is off.1) m in
           subst (λ (b : Bool). ArePinsOf number
-          (if b then older else named ∷ without_newest name older) (remove pins at)) (sym off.0)
-          (remove front at, pin,
-          ap (λ (ps : List Pin). remove ps at) e ∙ remove_before front pin at before.0, is,
-          later before.1)
+          (if b then older else named ∷ without_newest name older) (remove pins at)) (sym off.0) (
+            remove front at,
+            pin,
+            ap (λ (ps : List Pin). remove ps at) e ∙ remove_before front pin at before.0,
+            is,
+            later before.1,
+          )
 
   pub scope_count : (scope : Scope) (pins : List Pin) → ArePinsOf number scope pins
       → named_on name scope ≡ pins_on h pins

@@ -1,8 +1,6 @@
 -- A pin, a peek, an unpin and a leave are answered as the map beside the world answers them.
-use Rattle.std.proofs.Common.{◌≡◌, ◌≢◌, ◌⊎◌, ℕ, zero, suc, ◌+◌, ◌*◌, ◌<◌, ◌≤◌, ◌==◌, Bool, List, [], length, take, drop, get_or, Option, None, Some, refl, sym, ap, ◌∙◌, subst, arith, inl, inr, if◌then◌else◌, nat_eq}
-use Rattle.std.specs.List.{sum_by}
-use Rattle.std.proofs.lemmas.Bool.{cases_lt}
-use Rattle.std.proofs.lemmas.List.{length-drop, length-take, get_or-drop, get_or-take}
+use Rattle.std.proofs.Common.{◌≡◌, ℕ, zero, suc, ◌+◌, ◌<◌, ◌≤◌, List, [], length, take, drop, get_or, None, Some, refl, sym, ap, ◌∙◌, subst, arith, nat_eq}
+use Rattle.std.proofs.lemmas.List.{length-take, get_or-drop, get_or-take}
 use Rattle.std.proofs.lemmas.List.Elements.{All-get_or, All-from_get_or}
 use Rattle.std.proofs.lemmas.List.Sums.{sum_by-take-drop, sum_by-le, count_by-le-length}
 use Rattle.std.proofs.lemmas.Option.{slice_get_within, get_or_from_slice_get}
@@ -18,27 +16,24 @@ use Rattle.cb_types.specs.Table.{IsReplyOf}
 use Rattle.cb_model.specs.declared.object.Object.TheVariants.{Held, Freed}
 use Rattle.cb_model.specs.Now.{Now as MapNow}
 use Rattle.cb_model.specs.Event.{Event, event_of, change_of}
-use Rattle.cb_model.specs.Event.Subject.{Other, Nothing}
+use Rattle.cb_model.specs.Event.Subject.{Other}
 use Rattle.cb_model.specs.Event.Event.{Shows, Pins, FindsUnmade, Refused}
 use Rattle.cb_model.specs.Called.{handle_of, handle_for, called, calls_of, made_by}
 use Rattle.cb_model.specs.Replies.{MapReplies}
 use Rattle.cb_script.specs.declared.script.Line.{Line}
-use Rattle.cb_world.specs.declared.shown.Shown.{Shown}
 use Rattle.cb_world.specs.declared.seats.Pin.{Pin as SeatPin}
 use Rattle.cb_world.specs.FarState.{FarState}
 use Rattle.cb_world.specs.Memory.{bytes_in}
 use Rattle.cb_world.specs.Now.{Now, now}
 use Rattle.cb_world.specs.Now.Now.{never, freed, held, gone}
-use Rattle.cb_world.specs.Plain.{Words}
-use Rattle.cb_world.specs.Seats.{IsNewest, SeatState, idle_seat, pins_of_seat, pins_on, all_pins_on}
+use Rattle.cb_world.specs.Seats.{IsNewest, SeatState, idle_seat, pins_of_seat, pins_on}
 use Rattle.cb_world.specs.StillWords.{stamp_at, contents_at}
-use Rattle.cb_world.specs.World.{WorldState, IsKnown, IsSoundWorld, word_at}
+use Rattle.cb_world.specs.World.{WorldState, IsSoundWorld, word_at}
 use Rattle.cb_mutate.specs.MapCalls.{IsValue, IsMapCall, IsCallOn}
 use Rattle.cb_mutate.specs.StillReplies.{reply_as}
-use Rattle.cb_mutate.specs.MapBeside.{IsMapBeside}
 use Rattle.cb_mutate.proofs.MapBeside.{call_follows, beside_kept, was_made}
-use Rattle.cb_mutate.proofs.MapReplies.{AreKnownBoth, IsOnContents, map_same, call_by_state, near_held, here_near}
-use Rattle.cb_core.specs.Pinning.{MayPin, PinStep, scope_full, refused, taken, pin_refusal, UnpinStep, not_pinned as unpin_refused, given}
+use Rattle.cb_mutate.proofs.MapReplies.{IsOnContents, map_same, call_by_state, near_held, here_near}
+use Rattle.cb_core.specs.Pinning.{PinStep, scope_full, refused, taken, pin_refusal, UnpinStep, not_pinned as unpin_refused, given}
 use Rattle.cb_lanes.specs.Asked.{HasLineReply}
 use Rattle.cb_lanes.specs.GivingBack.{GivesAll}
 use Rattle.cb_lanes.specs.LineStep.{PeekStep, not_pinned, shown}

@@ -1,13 +1,11 @@
 -- The scopes of all lanes, line after line, and the lanes that have come to their end.
-use Rattle.std.proofs.Common.{◌≡◌, ◌≢◌, ◌⊎◌, ℕ, zero, suc, ◌+◌, ◌-◌, ◌<◌, ◌≤◌, Bool, true, false, cond, List, [], ◌∷◌, ◌++◌, length, map, get_or, set, take, drop, replicate, Option, None, Some, refl, sym, ap, ◌∙◌, subst, arith, inl, inr, eq-eqb, ne_eqb, if◌then◌else◌, nat_eq, append_assoc}
-use Rattle.std.specs.List.{AllByRecursion, fold, count_by}
+use Rattle.std.proofs.Common.{◌≡◌, ◌≢◌, ◌⊎◌, ℕ, zero, suc, ◌+◌, ◌<◌, ◌≤◌, Bool, true, false, cond, List, [], ◌∷◌, ◌++◌, length, map, get_or, set, take, drop, replicate, Option, None, Some, refl, sym, ap, ◌∙◌, subst, arith, inl, inr, eq-eqb, ne_eqb, if◌then◌else◌, nat_eq, append_assoc}
 use Rattle.std.specs.Str.{bytes_eq}
 use native.Mathlib.Decide.{ℕ_discrete}
 use Rattle.std.proofs.lemmas.Bool.{cases_lt}
 use Rattle.std.proofs.lemmas.List.{append-nil, map_push, take_more, drop_more, get_or_past, length-replicate, length-set, get_or-set_same, get_or-set_other, get_or-replicate}
 use Rattle.std.proofs.lemmas.List.Sums.{fold_push, sum_by-cons, sum_by_push}
 use Rattle.cb_types.specs.declared.answer.Answer.{Answer}
-use Rattle.cb_types.specs.declared.config.Config.{Config}
 use Rattle.cb_types.specs.declared.request.Request.{Request}
 use Rattle.cb_types.specs.declared.request.Request.TheVariants.{Make}
 use Rattle.cb_types.specs.declared.reply.Reply.{Reply}
@@ -18,11 +16,11 @@ use Rattle.cb_model.specs.Event.{event_of}
 use Rattle.cb_model.specs.Now.{Now as MapNow}
 use Rattle.cb_model.specs.Replies.{MapReplies}
 use Rattle.cb_script.specs.declared.script.Line.{Line}
-use Rattle.cb_script.specs.Form.{Makes, IsMade, IsNew, IsKnown, AreLines}
+use Rattle.cb_script.specs.Form.{Makes, IsNew, IsKnown, AreLines}
 use Rattle.cb_world.specs.Seats.{SeatState, idle_seat, pins_of_seat}
 use Rattle.cb_world.specs.World.{WorldState, IsSoundWorld}
 use Rattle.cb_lanes.specs.Asked.{asked}
-use Rattle.cb_lanes.specs.GivingBack.{GivesAll, Rests, lines_of}
+use Rattle.cb_lanes.specs.GivingBack.{Rests, lines_of}
 use Rattle.cb_lanes.specs.LineStep.{LineStep, LinesLead}
 use Rattle.cb_lanes.specs.LinesLeft.{AreLanes, AreLeft, lanes_of}
 use Rattle.cb_lanes.specs.Names.{Names, kept_number, number_after}
@@ -164,13 +162,19 @@ pub keep_push : (before after : List Answer) (a : Answer) → KeepScopes before 
     → ScopeSays (handle_named (before ++ after) (name_of a.request)) (scope_of a.lane.n (before ++ after))
     a.request a.reply
     → KeepScopes before (after ++ a ∷ [])
-keep_push before [] a keep says = (subst (λ (xs : List Answer).
-    ScopeSays (handle_named xs (name_of a.request)) (scope_of a.lane.n xs) a.request a.reply)
-    (append-nil before) says, tt)
-keep_push before (b ∷ after) a keep says = (keep.0, keep_push (before ++ b ∷ []) after a keep.1
-    (subst (λ (xs : List Answer).
-    ScopeSays (handle_named xs (name_of a.request)) (scope_of a.lane.n xs) a.request a.reply)
-    (sym (append_assoc before (b ∷ []) after)) says))
+keep_push before [] a keep says = (
+  subst (λ (xs : List Answer).
+      ScopeSays (handle_named xs (name_of a.request)) (scope_of a.lane.n xs) a.request a.reply)
+      (append-nil before) says,
+  tt,
+)
+keep_push before (b ∷ after) a keep says = (
+  keep.0,
+  keep_push (before ++ b ∷ []) after a keep.1
+      (subst (λ (xs : List Answer).
+      ScopeSays (handle_named xs (name_of a.request)) (scope_of a.lane.n xs) a.request a.reply)
+      (sym (append_assoc before (b ∷ []) after)) says),
+)
 
 -- ---- the lines lead, with more to come
 
@@ -363,10 +367,13 @@ left_more lanes left lane n lt is are = record {
 -- and one less
 pub left_less : (later left : List ℕ) (lane n : ℕ) → lane < 16 → n + 1 ≡ get_or left lane 0
     → AreLeft (lane ∷ later) left → AreLeft later (set left lane n) × (n ≡ lines_of lane later)
-left_less later left lane n lt is are = (record {
-  sized = length-set left lane n ∙ are.sized;
-  counts = λ k below. by k below (ℕ_discrete k lane);
-}, own)
+left_less later left lane n lt is are = (
+  record {
+    sized = length-set left lane n ∙ are.sized;
+    counts = λ k below. by k below (ℕ_discrete k lane);
+  },
+  own,
+)
   where
     own : n ≡ lines_of lane later
     own = let a = are.counts lane lt in let b = lines_own lane later in omega (arith, a, b, is)

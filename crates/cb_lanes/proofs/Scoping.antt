@@ -1,11 +1,8 @@
 -- What a line leaves of the scope of its lane.
-use Rattle.std.proofs.Common.{◌≡◌, ◌≢◌, ◌⊎◌, ℕ, zero, suc, ◌+◌, ◌-◌, ◌^◌, ◌<◌, ◌≤◌, ◌==◌, Bool, true, false, cond, List, [], ◌∷◌, ◌++◌, length, Option, None, Some, refl, sym, ap, ◌∙◌, subst, arith, inl, inr, eq-eqb, ne_eqb, if◌then◌else◌, nat_eq, append_assoc}
+use Rattle.std.proofs.Common.{◌≡◌, ◌≢◌, ◌⊎◌, ℕ, zero, suc, ◌+◌, ◌-◌, ◌^◌, ◌<◌, ◌≤◌, ◌==◌, Bool, true, false, List, length, Option, None, Some, refl, sym, ap, ◌∙◌, subst, arith, inl, inr, eq-eqb, ne_eqb, if◌then◌else◌}
 use Rattle.std.specs.Prelude.{nat_lt}
-use Rattle.std.specs.List.{fold, remove, sum_by}
-use native.Mathlib.Decide.{ℕ_discrete}
 use Rattle.std.proofs.lemmas.Bool.{cases_Bool, cases_eq}
-use Rattle.std.proofs.lemmas.List.{append-nil}
-use Rattle.std.proofs.lemmas.List.Sums.{fold_push, sum_by-cons, get_or-le-sum_by}
+use Rattle.std.proofs.lemmas.List.Sums.{get_or-le-sum_by}
 use Rattle.cb_ptr.specs.declared.word.State.{State}
 use Rattle.cb_ptr.specs.declared.word.State.TheVariants as state
 use Rattle.cb_ptr.specs.Word.{state_of, len_of, pins_of}
@@ -17,9 +14,7 @@ use Rattle.cb_types.specs.declared.request.Request.TheVariants.{Make, Read, Writ
 use Rattle.cb_types.specs.declared.reply.Reply.{Reply}
 use Rattle.cb_types.specs.declared.reply.Reply.TheVariants as answer
 use Rattle.cb_types.specs.Requests.{name_of}
-use Rattle.cb_model.specs.Called.{handle_named}
 use Rattle.cb_script.specs.Unbuilt.{IsBuilt}
-use Rattle.cb_world.specs.declared.seats.Pin.{Pin as SeatPin}
 use Rattle.cb_world.specs.Seats.{SeatState, idle_seat, pins_of_seat, pins_on}
 use Rattle.cb_world.specs.StillWords.{stamp_at}
 use Rattle.cb_world.specs.World.{WorldState, IsSoundWorld, word_at}
@@ -27,13 +22,13 @@ use Rattle.cb_mutate.specs.StillReplies.{empty_reply, reply_as, next_reply, chan
 use Rattle.cb_core.specs.Pinning.{PinStep, scope_full, refused, taken, pin_refusal, UnpinStep, not_pinned as unpin_refused, given}
 use Rattle.cb_core.specs.Step.{TurnStep, worn, done}
 use Rattle.cb_core.specs.Turned.{counted}
-use Rattle.cb_lanes.specs.GivingBack.{GivesAll, Rests, lines_of}
+use Rattle.cb_lanes.specs.GivingBack.{GivesAll}
 use Rattle.cb_lanes.specs.LineStep.{LineStep, PeekStep, not_pinned, shown}
-use Rattle.cb_lanes.specs.Scopes.{NamedPin, Scope, newest_on, without_newest, named_on, scope_after, scope_more, scope_of, PeekSays, UnpinSays, ScopeSays, KeepScopes}
+use Rattle.cb_lanes.specs.Scopes.{Scope, without_newest, scope_after, PeekSays, UnpinSays, ScopeSays}
 use Rattle.cb_lanes.proofs.Calls.{within}
-use Rattle.cb_lanes.proofs.GivingBack.{Stands, stands_same, gives_all, pins_own, pins_other, given_pins}
+use Rattle.cb_lanes.proofs.GivingBack.{gives_all, pins_own, pins_other, given_pins}
 use Rattle.cb_lanes.proofs.Near.{write_line, free_line}
-use Rattle.cb_lanes.proofs.PinLists.{AreApart, ArePinsOf, pins_length, pins_kept, scope_none, scope_newest, scope_without, scope_count}
+use Rattle.cb_lanes.proofs.PinLists.{AreApart, ArePinsOf, pins_length, scope_none, scope_newest, scope_without, scope_count}
 use Rattle.cb_lanes.proofs.Turning.{Turning, worked, own_reply}
 
 -- The line is answered as its lane's scope says, the seat's pins are then those of the scope after it, and

@@ -1,9 +1,8 @@
 -- A read of a pinned object is a peek: nothing changes.
-use Rattle.std.proofs.Common.{◌≡◌, ◌⊎◌, ℕ, ◌+◌, ◌==◌, ◌<◌, ◌≤◌, List, Bool, Result, Ok, Err, IfOk, OnErr, Some, refl, sym, ap, ◌∙◌, subst, arith, inl, inr, ne_eqb, if◌then◌else◌, set, get_or, length}
+use Rattle.std.proofs.Common.{◌≡◌, ◌⊎◌, ℕ, ◌<◌, ◌≤◌, List, Bool, Result, Ok, Err, IfOk, OnErr, sym, ap, ◌∙◌, subst, arith, inl, inr, ne_eqb, if◌then◌else◌}
 use Rattle.std.proofs.lemmas.List.{set-get_or}
 use Rattle.cb_ptr.specs.declared.word.State.{State}
-use Rattle.cb_ptr.specs.declared.word.State.TheVariants as state
-use Rattle.cb_ptr.specs.Word.{state_of, len_of, pins_of}
+use Rattle.cb_ptr.specs.Word.{len_of, pins_of}
 use Rattle.cb_types.specs.declared.reply.Reply.{Reply}
 use Rattle.cb_types.specs.declared.reply.Reply.TheVariants as answer
 use Rattle.cb_world.specs.FarState.{FarState}

@@ -1,5 +1,5 @@
 -- Answers about no object: a name that has no handle, a crash, a join.
-use Rattle.std.proofs.Common.{◌≡◌, ◌⊎◌, ℕ, ◌+◌, ◌^◌, ◌<◌, ◌≤◌, List, [], ◌∷◌, ◌++◌, fold, length, Option, None, Some, refl, sym, ap, ◌∙◌, subst, arith, inl, inr, if◌then◌else◌}
+use Rattle.std.proofs.Common.{◌≡◌, ℕ, ◌<◌, List, [], ◌∷◌, ◌++◌, fold, Option, None, refl, sym, ap, ◌∙◌, subst, arith, if◌then◌else◌}
 use Rattle.cb_member.specs.declared.names.Epoch.{Epoch}
 use Rattle.cb_member.specs.declared.names.NodeId.{NodeId}
 use Rattle.cb_types.specs.declared.answer.Answer.{Answer}
@@ -9,7 +9,7 @@ use Rattle.cb_types.specs.declared.request.Request.TheVariants.{Read, Write, Fre
 use Rattle.cb_types.specs.declared.reply.Reply.{Reply}
 use Rattle.cb_types.specs.declared.reply.Reply.TheVariants as answer
 use Rattle.cb_types.specs.Table.{IsReplyOf}
-use Rattle.cb_model.specs.Event.{Event, event_of, change_of}
+use Rattle.cb_model.specs.Event.{event_of, change_of}
 use Rattle.cb_model.specs.Event.Event.{FindsUnmade}
 use Rattle.cb_model.specs.Called.{Called, handle_of, handle_for, called, calls_of, makes, made_by, value, change_to, is_about}
 use Rattle.cb_model.specs.Now.{Now as MapNow, Change, changed}
@@ -22,7 +22,7 @@ use Rattle.cb_world.specs.NodeChanges.{crashed_far, joined_far}
 use Rattle.cb_world.specs.Now.{now}
 use Rattle.cb_world.specs.Plain.{Words}
 use Rattle.cb_world.specs.Sound.{Sound}
-use Rattle.cb_world.specs.World.{WorldState, IsKnown, IsSoundWorld}
+use Rattle.cb_world.specs.World.{WorldState, IsKnown}
 use Rattle.cb_world.proofs.NowSame.{now_same}
 use Rattle.cb_world.proofs.CrashNow.{crash_now}
 use Rattle.cb_world.proofs.NodeJoin.{node_crash_sound, node_join_sound, node_join_now}
@@ -34,9 +34,8 @@ use Rattle.cb_core.specs.Room.{final_reply}
 use Rattle.cb_core.specs.Step.{TurnStep}
 use Rattle.cb_core.specs.Turned.{counted}
 use Rattle.cb_core.proofs.WorldKept.{known_counted, member}
-use Rattle.cb_lanes.specs.Asked.{HasLineReply}
 use Rattle.cb_lanes.proofs.Near.{IsNear}
-use Rattle.cb_lanes.proofs.Turning.{answer_to, Turning, Goes, Keeps, keeps_is, worked, final_same, known_same, goes_by, beside_counted}
+use Rattle.cb_lanes.proofs.Turning.{answer_to, Turning, Goes, Keeps, keeps_is, worked, known_same, goes_by, beside_counted}
 
 change_none : (c : Called) (k : ℕ) → c.handle ≡ None → change_to k c ≡ []
 change_none c k about = ap (λ (o : Option ℕ). if is_about k o then change_of c.event else []) about

@@ -1,14 +1,12 @@
 -- Worked examples: the losses of answers, the replies that lines may have, and the steps of lines.
-use Rattle.std.proofs.Common.{◌≡◌, ℕ, ◌+◌, List, [], ◌∷◌, Some, None, refl, sym, ap, ◌∙◌, arith}
-use Rattle.cb_member.specs.declared.names.Epoch.{Epoch}
-use Rattle.cb_member.specs.declared.names.Loss.{Loss}
+use Rattle.std.proofs.Common.{◌≡◌, ℕ, ◌+◌, [], ◌∷◌, Some, None, refl, ap, arith}
 use Rattle.cb_types.specs.declared.answer.Answer.{Answer}
 use Rattle.cb_types.specs.declared.config.Config.{Config}
 use Rattle.cb_types.specs.declared.job.Job.TheVariants as job
 use Rattle.cb_types.specs.declared.request.Request.{Request}
 use Rattle.cb_types.specs.declared.request.Request.TheVariants.{Read, Write, Crash, Join, Evict}
 use Rattle.cb_types.specs.declared.reply.Reply.{Reply}
-use Rattle.cb_types.specs.declared.reply.Reply.TheVariants.{Bytes, EpochAt, Down, Up, Range, Unmade, Freed, Version}
+use Rattle.cb_types.specs.declared.reply.Reply.TheVariants.{Bytes, EpochAt, Down, Up, Range, Unmade, Freed}
 use Rattle.cb_world.specs.World.{WorldState, empty_world}
 use Rattle.cb_core.specs.Membership.{is_up}
 use Rattle.cb_core.specs.Step.{done}

@@ -1,12 +1,12 @@
 -- Worked examples: scopes of lanes, what they say of answers, and pins that are given back.
-use Rattle.std.proofs.Common.{◌≡◌, ℕ, zero, suc, ◌+◌, ◌<◌, List, [], ◌∷◌, length, replicate, Some, None, refl, sym, ap, ◌∙◌, arith}
+use Rattle.std.proofs.Common.{◌≡◌, ℕ, zero, suc, List, [], ◌∷◌, length, replicate, Some, None, refl, ap, arith}
 use Rattle.std.specs.Prelude.{slice_get}
 use Rattle.std.proofs.lemmas.List.Edits.{length-remove}
 use Rattle.std.proofs.lemmas.Option.{slice_get_within}
 use Rattle.cb_types.specs.declared.answer.Answer.{Answer}
 use Rattle.cb_types.specs.declared.config.Config.{Config}
 use Rattle.cb_types.specs.declared.request.Request.{Request}
-use Rattle.cb_types.specs.declared.request.Request.TheVariants.{Make, Read, Write, Pin, Peek, Unpin, Leave}
+use Rattle.cb_types.specs.declared.request.Request.TheVariants.{Make, Pin, Peek, Unpin, Leave}
 use Rattle.cb_types.specs.declared.reply.Reply.{Reply}
 use Rattle.cb_types.specs.declared.reply.Reply.TheVariants.{Made, Version, Bytes, Done, Left, Unmade, Freed, Pinned, ScopeFull, NotPinned}
 use Rattle.cb_ptr.specs.Word.{len_of}
@@ -17,9 +17,9 @@ use Rattle.cb_world.specs.StillWords.{contents_at}
 use Rattle.cb_world.specs.World.{WorldState, empty_world, word_at}
 use Rattle.cb_core.specs.declared.event.Atomic.TheVariants as atomic
 use Rattle.cb_core.specs.declared.event.Event.TheVariants as event
-use Rattle.cb_core.specs.Pinning.{not_pinned as unpin_refused, given, IsPinGiven}
+use Rattle.cb_core.specs.Pinning.{not_pinned as unpin_refused, given}
 use Rattle.cb_lanes.specs.GivingBack.{end_of, GivesAll, lines_of, Rests}
-use Rattle.cb_lanes.specs.LineStep.{PeekStep, not_pinned, shown, CallStep, LineStep}
+use Rattle.cb_lanes.specs.LineStep.{not_pinned, shown, CallStep, LineStep}
 use Rattle.cb_lanes.specs.LinesLeft.{AreLanes, AreLeft}
 use Rattle.cb_lanes.specs.Scopes.{NamedPin, Scope, newest_on, without_newest, named_on, scope_after, scope_of, PinnedSays, ScopeSays, KeepScopes}
 
@@ -165,9 +165,13 @@ run left = by 1 (Make a (7 ∷ [])) (Made (record { n = 0 }) 1) ∷ by 1 (Pin a)
 run_keeps : KeepScopes [] (run 1)
 run_keeps = (
   tt,
-  ((λ e. absurd (let f : Version 1 ≡ ScopeFull = e in cc),
-      λ e. absurd (let f : ◌≡◌ {A = ℕ} 0 16 = e in omega (arith, f))),
-  ((7 ∷ [], refl), (refl, tt))),
+  (
+    (
+      λ e. absurd (let f : Version 1 ≡ ScopeFull = e in cc),
+      λ e. absurd (let f : ◌≡◌ {A = ℕ} 0 16 = e in omega (arith, f)),
+    ),
+    ((7 ∷ [], refl), (refl, tt)),
+  ),
 )
 
 run_tells_too_many : KeepScopes [] (run 2) → ⊥

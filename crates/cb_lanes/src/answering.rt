@@ -130,12 +130,7 @@ fn call_object(
 }
 
 /// An atomic step of a seat.
-fn step_of(
-    alloc: Global,
-    world: &mut World,
-    seat: u32,
-    atomic: Atomic,
-) -> Result<Reply, NoMemory>
+fn step_of(alloc: Global, world: &mut World, seat: u32, atomic: Atomic) -> Result<Reply, NoMemory>
     requires seat { seat < 64 }
     requires handle { handle_of atomic < world.old.desk.settings.handles }
     requires sound { IsSoundWorld world.old }
@@ -147,12 +142,7 @@ fn step_of(
 
 /// Shows an object on which the seat has a pin: it stays as it is, so it is read as it stands, and the
 /// world is unchanged. Refuses with NotPinned where the seat has no pin on it.
-fn peek(
-    alloc: Global,
-    world: &mut World,
-    seat: u32,
-    handle: Handle,
-) -> Result<Reply, NoMemory>
+fn peek(alloc: Global, world: &mut World, seat: u32, handle: Handle) -> Result<Reply, NoMemory>
     requires seat { seat < 64 }
     requires within { handle.n < world.old.desk.settings.handles }
     requires sound { IsSoundWorld world.old }

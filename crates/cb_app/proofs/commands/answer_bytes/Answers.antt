@@ -53,6 +53,8 @@ returns-clause-answered c = (
     sound = c.in_ok-end.ensures.sound;
     holds = c.in_ok-end.ensures.holds;
     losses = c.in_ok-end.ensures.losses;
+    scopes = c.in_ok-end.ensures.scopes;
+    idle = c.in_ok-end.ensures.idle;
   },
   c.in_ok-text.ensures,
 )

@@ -1,5 +1,4 @@
-use Rattle.std.proofs.Common.{sym, subst, ◌<◌}
-use Rattle.cb_types.specs.declared.reply.Reply.{Reply}
+use Rattle.std.proofs.Common.{sym, subst}
 use Rattle.cb_world.specs.World.{WorldState, IsSoundWorld}
 use Rattle.cb_lanes.specs.LineStep.{PeekStep}
 use Rattle.cb_lanes.proofs.Shown.{ok_then, either_way, PeekedAt, peek_is, peek_sound, peek_stopped}

@@ -1,4 +1,4 @@
-use Rattle.std.proofs.Common.{rules, arith, ◌<◌, ◌∙◌, subst, sym, ℕ}
+use Rattle.std.proofs.Common.{rules, ◌<◌, subst, sym, ℕ}
 use Rattle.cb_lanes.proofs.ScopesKept.{lane_below}
 use Rattle.cb_lanes.proofs.resting.lines_by_lane.Goals as goal
 

@@ -1,7 +1,6 @@
 use Rattle.std.proofs.Common.{rules, sym, ap, ◌∙◌, subst, arith, ◌≡◌, ℕ, ◌+◌, ◌<◌, ◌≤◌, [], ◌∷◌, ◌++◌, List, length, take, drop, get_or, length-take, refl}
-use Rattle.std.proofs.lemmas.List.{length-map, take_all, drop_all, drop_more}
+use Rattle.std.proofs.lemmas.List.{length-map, take_all, drop_all}
 use Rattle.std.specs.List.{cons_option}
-use Rattle.cb_types.specs.declared.answer.Answer.{Answer}
 use Rattle.cb_types.specs.declared.config.Config.{Config}
 use Rattle.cb_types.specs.declared.request.Request.{Request}
 use Rattle.cb_member.specs.declared.names.Loss.{Loss}
