@@ -10,7 +10,7 @@ use Rattle.cb_types.specs.Config.{IsAccepted}
 use Rattle.cb_types.specs.declared.config.Field.TheVariants.{Nodes}
 use Rattle.cb_types.specs.declared.job.Job.TheVariants as job
 use Rattle.cb_types.specs.declared.request.Request.{Request}
-use Rattle.cb_types.specs.declared.request.Request.TheVariants.{Make, Read, Write, Free, Pin, Peek, Unpin, Crash, Join, Leave}
+use Rattle.cb_types.specs.declared.request.Request.TheVariants.{Make, Read, Write, Free, Pin, Peek, Unpin, Evict, Crash, Join, Leave}
 use Rattle.cb_types.specs.declared.reply.Reply.{Reply}
 use Rattle.cb_types.specs.declared.reply.Reply.TheVariants as answer
 use Rattle.cb_types.specs.Requests.{name_of}
@@ -44,14 +44,14 @@ use Rattle.cb_lanes.specs.LinesLeft.{AreLanes}
 use Rattle.cb_lanes.specs.Lost.{loss_of, losses_of}
 use Rattle.cb_lanes.specs.Names.{Names, kept_number, handle_at, handle_in, number_after, AreKept, AreReady}
 use Rattle.cb_lanes.specs.Scopes.{KeepScopes, ScopeSays, scope_of}
-use Rattle.cb_lanes.proofs.GivingBack.{pin_stands, unpin_stands, gives_all}
+use Rattle.cb_lanes.proofs.GivingBack.{Stands, stands_same, unpin_stands, gives_all}
 use Rattle.cb_lanes.proofs.LineGoes.{read_goes, write_goes, free_goes, make_goes}
-use Rattle.cb_lanes.proofs.Near.{IsNear}
-use Rattle.cb_lanes.proofs.Pinning.{pin_goes, peek_goes, unpin_goes, leave_goes, unmade_pins}
+use Rattle.cb_lanes.proofs.PinLists.{AreApart}
+use Rattle.cb_lanes.proofs.Pinning.{pin_goes, pin_settings, peek_goes, unpin_goes, leave_goes, unmade_pins}
 use Rattle.cb_lanes.proofs.Scoping.{Scoped, line_scoped}
 use Rattle.cb_lanes.proofs.ScopesKept.{AreScopes, scopes_none, scopes_push, keep_push, Rested, rests, LeadsOn, leads_push, IsFresh, grown, apart_after, lines_own}
-use Rattle.cb_lanes.proofs.Silent.{unmade_read, unmade_write, unmade_free, crash_goes, join_goes}
-use Rattle.cb_lanes.proofs.Turning.{answer_to, Turning, Goes}
+use Rattle.cb_lanes.proofs.Silent.{unmade_read, unmade_write, unmade_free, evict_goes, crash_goes, join_goes}
+use Rattle.cb_lanes.proofs.Turning.{answer_to, Turning, around, Goes}
 
 -- The answers so far are the map's, the map is beside the world that they led to, the names are what
 -- these answers made of them, and each lane that has lines to come has the pins of its scope.
@@ -59,7 +59,6 @@ pub record Along (c : Config) (later : List ℕ) (answers : List Answer) (w : Wo
   where
     pub sound : IsSoundWorld w
     pub beside : IsMapBeside (calls_of answers) sound.shown w.far
-    pub near : IsNear w.far
     pub settings : w.desk.settings ≡ c
     pub first : w.far.first ≡ 1
     pub turns : w.far.counts.turns ≤ length answers
@@ -85,36 +84,38 @@ pub line_goes : (answers : List Answer) (l : Line) (request : Request) (r : Repl
     → Goes answers (answer_to l request r) w new c.then.shown
 line_goes answers l (Make name bytes) r w new handle c built is named ready lt made few step =
     make_goes answers l name bytes r w new c step
+line_goes answers l Evict r w new handle c built is named ready lt made few step =
+    evict_goes answers l r w new c step
 line_goes answers l (Crash node) r w new handle c built is named ready lt made few step =
     crash_goes answers l node r w new c is step
 line_goes answers l (Join node) r w new handle c built is named ready lt made few step =
     join_goes answers l node r w new c is step
 line_goes answers l (Read name) r w new None c built is named ready lt made few step =
-    unmade_read answers l name r w new c named step
+    unmade_read answers l name r w new (around answers w new c) named step
 line_goes answers l (Read name) r w new (Some h) c built is named ready lt made few step =
     read_goes answers l name h r w new c (ready h refl) named step
 line_goes answers l (Write name at bytes) r w new None c built is named ready lt made few step =
-    unmade_write answers l name at bytes r w new c named step
+    unmade_write answers l name at bytes r w new (around answers w new c) named step
 line_goes answers l (Write name at bytes) r w new (Some h) c built is named ready lt made few step =
     write_goes answers l name at bytes h r w new c (ready h refl) named step
 line_goes answers l (Free name) r w new None c built is named ready lt made few step =
-    unmade_free answers l name r w new c named step
+    unmade_free answers l name r w new (around answers w new c) named step
 line_goes answers l (Free name) r w new (Some h) c built is named ready lt made few step =
     free_goes answers l name h r w new c (ready h refl) named step
 line_goes answers l Leave r w new handle c built is named ready lt made few step =
-    leave_goes answers l (length (pins_of_seat w.seats l.lane.n)) r w new c lt step.0 step.1
+    leave_goes answers l (length (pins_of_seat w.seats l.lane.n)) r w new (around answers w new c) lt step.0 step.1
 line_goes answers l (Pin name) r w new None c built is named ready lt made few step =
-    unmade_pins answers l (Pin name) name r w new c named refl refl tt step
+    unmade_pins answers l (Pin name) name r w new (around answers w new c) named refl refl tt step
 line_goes answers l (Pin name) r w new (Some h) c built is named ready lt made few step =
     pin_goes answers l name h r w new c lt (ready h refl) (made h refl) few named step
 line_goes answers l (Peek name) r w new None c built is named ready lt made few step =
-    unmade_pins answers l (Peek name) name r w new c named refl refl tt step
+    unmade_pins answers l (Peek name) name r w new (around answers w new c) named refl refl tt step
 line_goes answers l (Peek name) r w new (Some h) c built is named ready lt made few step =
-    peek_goes answers l name h r w new c lt (made h refl) named step
+    peek_goes answers l name h r w new (around answers w new c) lt (made h refl) named step
 line_goes answers l (Unpin name) r w new None c built is named ready lt made few step =
-    unmade_pins answers l (Unpin name) name r w new c named refl refl tt step
+    unmade_pins answers l (Unpin name) name r w new (around answers w new c) named refl refl tt step
 line_goes answers l (Unpin name) r w new (Some h) c built is named ready lt made few step =
-    unpin_goes answers l name h r w new c lt (ready h refl) (made h refl) named step
+    unpin_goes answers l name h r w new (around answers w new c) lt (ready h refl) (made h refl) named step
 line_goes answers l request r w new handle c built is named ready lt made few step = absurd built
 
 -- ---- the handle that an answer is about
@@ -144,6 +145,7 @@ about_made answers (Pin name) r h made built within e = inl (within name h e)
 about_made answers (Peek name) r h made built within e = inl (within name h e)
 about_made answers (Unpin name) r h made built within e = inl (within name h e)
 about_made answers Leave r h made built within e = absurd cc
+about_made answers Evict r h made built within e = absurd cc
 about_made answers (Crash node) r h made built within e = absurd cc
 about_made answers (Join node) r h made built within e = absurd cc
 about_made answers request r h made built within e = absurd built
@@ -230,7 +232,7 @@ object_settings seat (Some h) (Write name at bytes) w new r sound lt ready step 
 object_settings seat (Some h) (Free name) w new r sound lt ready step =
     step_settings w new (Turn seat (job.Free (record { n = h }))) r step
 object_settings seat (Some h) (Pin name) w new r sound lt ready step =
-    (pin_stands w new seat h r sound lt (ready h refl) step).settings
+    pin_settings seat h w new r step
 object_settings seat (Some h) (Unpin name) w new r sound lt ready step =
     (unpin_stands w new seat h r sound lt (ready h refl) step).settings
 object_settings seat (Some h) (Peek name) w new r sound lt ready step = peek_settings step
@@ -246,6 +248,8 @@ pub line_settings : (seat : ℕ) (handle : Option ℕ) (request : Request) (w ne
     → LineStep seat handle request w r new → new.desk.settings ≡ w.desk.settings
 line_settings seat handle (Make name bytes) w new r sound lt ready step =
     step_settings w new (Turn seat (job.Make bytes)) r step
+line_settings seat handle Evict w new r sound lt ready step =
+    step_settings w new (Turn seat job.Evict) r step
 line_settings seat handle (Crash node) w new r sound lt ready step =
     step_settings w new (Turn seat (job.Crash node)) r step
 line_settings seat handle (Join node) w new r sound lt ready step =
@@ -271,7 +275,6 @@ along_push c later answers l request r w new rested names kept along few lt then
           rested.far goes.follows.beside (ap (λ (f : FarState). f.made) behind.stands.far)
           (λ k. behind.stands.holds then.shown behind.stands.sound.shown k then.known
           behind.stands.sound.known));
-      near = subst IsNear (sym behind.stands.far) goes.near;
       settings = behind.stands.settings
           ∙ line_settings l.lane.n (handle_in names request) request w new r along.sound lt ready step
           ∙ along.settings;
@@ -320,7 +323,6 @@ along_push c later answers l request r w new rested names kept along few lt then
     turning = record {
       before = along.sound;
       then = then;
-      near = along.near;
       few = let turns = along.turns in omega (arith, turns, few);
       beside = along.beside;
     }
@@ -385,7 +387,6 @@ along_none c later w names accepted is lanes none =
     subst (λ (v : WorldState). Along c later [] v names) (sym is) (record {
       sound = empty_world_sound c accepted;
       beside = empty_map c accepted (empty_world_sound c accepted);
-      near = record { sets = refl; leaving = refl };
       settings = refl;
       first = refl;
       turns = omega arith;

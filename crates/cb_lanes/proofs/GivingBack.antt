@@ -24,7 +24,7 @@ use Rattle.cb_core.specs.Step.{Leads}
 use Rattle.cb_core.proofs.PinsKept.{pin_step_sound, unpin_step_sound}
 use Rattle.cb_lanes.specs.GivingBack.{end_of, GivesAll}
 use Rattle.cb_lanes.proofs.PinLists.{newest_last, none_last, remove_last}
-use Rattle.cb_lanes.proofs.Turning.{known_same}
+use Rattle.cb_core.proofs.TurnCallsKept.{known_same}
 
 -- ---- what stays
 

@@ -1,6 +1,4 @@
-pub mod Calls
 pub mod NamesKept
-pub mod Near
 pub mod Turning
 pub mod PinLists
 pub mod GivingBack

@@ -12,11 +12,8 @@ use Rattle.cb_types.specs.declared.request.Request.TheVariants.{Make}
 use Rattle.cb_types.specs.declared.reply.Reply.{Reply}
 use Rattle.cb_types.specs.declared.reply.Reply.TheVariants as reply
 use Rattle.cb_world.specs.World.{WorldState}
-use Rattle.cb_mutate.specs.MakeStep.{IsMakeStep}
-use Rattle.cb_core.specs.Room.{final_reply}
-use Rattle.cb_core.specs.Step.{TurnStep, worn, done}
-use Rattle.cb_core.specs.Turned.{counted}
-use Rattle.cb_lanes.specs.Names.{Names, kept_handle, AreKept}
+use Rattle.cb_core.specs.Step.{TurnStep}
+use Rattle.cb_lanes.specs.Names.{Names, kept_handle, kept_number, AreKept, AreReady, handle_at}
 
 mapped : (test : Bool) (here other : Option Handle) (found : Option Handle)
     → found ≡ cond test here other
@@ -40,17 +37,5 @@ pub refused_names : (w new : WorldState) (names : Names) (name bytes : List ℕ)
     → TurnStep (job.Make bytes) w r new
     → ((handle : Handle) (version : ℕ) → r ≡ reply.Made handle version → ⊥)
     → AreKept names (Make name bytes) r names
-refused_names w new names name bytes r (worn end is same) never =
-    subst (λ (q : Reply). AreKept names (Make name bytes) q names) (sym is) (λ q. refl)
-refused_names w new names name bytes r (done q few works is seats) never = go works
-  where
-    to : (p : Reply) → q ≡ p → AreKept names (Make name bytes) (final_reply new p) names
-        → AreKept names (Make name bytes) r names
-    to p e kept = subst (λ (z : Reply). AreKept names (Make name bytes) z names)
-        (sym (is ∙ ap (final_reply new) e)) kept
-
-    go : IsMakeStep w.desk new.desk (counted w.far (job.Make bytes)) new.far bytes q
-        → AreKept names (Make name bytes) r names
-    go (inl (made, e, x, y)) = to (reply.Full w.desk.settings.handles) e (λ k. refl)
-    go (inr (more, inl (crammed, e, x, y))) = to reply.NoFrame e (λ k. refl)
-    go (inr (more, inr (e, z))) = absurd (never _ _ (is ∙ ap (final_reply new) e))
+refused_names w new names name bytes (reply.Made handle version) step never = absurd (never handle version refl)
+refused_names w new names name bytes r step never = λ q. refl

@@ -1,6 +1,8 @@
 -- A pin, a peek, an unpin and a leave are answered as the map beside the world answers them.
-use Rattle.std.proofs.Common.{◌≡◌, ℕ, zero, suc, ◌+◌, ◌<◌, ◌≤◌, List, [], length, take, drop, get_or, None, Some, refl, sym, ap, ◌∙◌, subst, arith, nat_eq}
-use Rattle.std.proofs.lemmas.List.{length-take, get_or-drop, get_or-take}
+use Rattle.std.proofs.Common.{◌≡◌, ◌≢◌, ◌⊎◌, ℕ, zero, suc, ◌+◌, ◌*◌, ◌^◌, ◌<◌, ◌≤◌, ◌==◌, Bool, List, [], length, take, drop, get_or, Option, None, Some, refl, sym, ap, ◌∙◌, subst, arith, inl, inr, if◌then◌else◌, nat_eq}
+use Rattle.std.specs.List.{sum_by}
+use Rattle.std.proofs.lemmas.Bool.{cases_lt}
+use Rattle.std.proofs.lemmas.List.{length-drop, length-take, get_or-drop, get_or-take}
 use Rattle.std.proofs.lemmas.List.Elements.{All-get_or, All-from_get_or}
 use Rattle.std.proofs.lemmas.List.Sums.{sum_by-take-drop, sum_by-le, count_by-le-length}
 use Rattle.std.proofs.lemmas.Option.{slice_get_within, get_or_from_slice_get}
@@ -8,6 +10,8 @@ use Rattle.cb_ptr.specs.declared.word.State.{State}
 use Rattle.cb_ptr.specs.declared.word.State.TheVariants as state
 use Rattle.cb_ptr.specs.Word.{state_of, len_of, pins_of}
 use Rattle.cb_types.specs.declared.answer.Answer.{Answer}
+use Rattle.cb_types.specs.declared.job.Job.{Job}
+use Rattle.cb_types.specs.declared.job.Job.TheVariants as job
 use Rattle.cb_types.specs.declared.request.Request.{Request}
 use Rattle.cb_types.specs.declared.request.Request.TheVariants.{Pin, Peek, Unpin, Leave}
 use Rattle.cb_types.specs.declared.reply.Reply.{Reply}
@@ -18,40 +22,47 @@ use Rattle.cb_model.specs.Now.{Now as MapNow}
 use Rattle.cb_model.specs.Event.{Event, event_of, change_of}
 use Rattle.cb_model.specs.Event.Subject.{Other}
 use Rattle.cb_model.specs.Event.Event.{Shows, Pins, FindsUnmade, Refused}
-use Rattle.cb_model.specs.Called.{handle_of, handle_for, called, calls_of, made_by}
+use Rattle.cb_model.specs.Called.{handle_of, handle_for, called, calls_of, made_by, makes, value_at}
 use Rattle.cb_model.specs.Replies.{MapReplies}
 use Rattle.cb_script.specs.declared.script.Line.{Line}
 use Rattle.cb_world.specs.declared.seats.Pin.{Pin as SeatPin}
+use Rattle.cb_world.specs.declared.shown.Shown.{Shown}
 use Rattle.cb_world.specs.FarState.{FarState}
 use Rattle.cb_world.specs.Memory.{bytes_in}
 use Rattle.cb_world.specs.Now.{Now, now}
 use Rattle.cb_world.specs.Now.Now.{never, freed, held, gone}
+use Rattle.cb_world.specs.Plain.{Words}
 use Rattle.cb_world.specs.Seats.{IsNewest, SeatState, idle_seat, pins_of_seat, pins_on}
 use Rattle.cb_world.specs.StillWords.{stamp_at, contents_at}
 use Rattle.cb_world.specs.World.{WorldState, IsSoundWorld, word_at}
 use Rattle.cb_mutate.specs.MapCalls.{IsValue, IsMapCall, IsCallOn}
 use Rattle.cb_mutate.specs.StillReplies.{reply_as}
 use Rattle.cb_mutate.proofs.MapBeside.{call_follows, beside_kept, was_made}
-use Rattle.cb_mutate.proofs.MapReplies.{IsOnContents, map_same, call_by_state, near_held, here_near}
-use Rattle.cb_core.specs.Pinning.{PinStep, scope_full, refused, taken, pin_refusal, UnpinStep, not_pinned as unpin_refused, given}
+use Rattle.cb_mutate.proofs.MapReplies.{AreKnownBoth, IsOnContents, map_same, call_by_state, near_held, here_near}
+use Rattle.cb_core.specs.Pinning.{MayPin, PinStep, scope_full, refused, taken, pin_refusal, UnpinStep, not_pinned as unpin_refused, given}
+use Rattle.cb_core.specs.declared.event.Atomic.TheVariants as atomic
+use Rattle.cb_core.specs.declared.event.Event.TheVariants as event
+use Rattle.cb_core.specs.Step.{TurnStep, worn, done}
+use Rattle.cb_core.proofs.Settings.{step_settings}
+use Rattle.cb_core.proofs.TurnCalls.{swap_turn, turn_turns}
+use Rattle.cb_core.proofs.TurnCallsMap.{IsSameMap}
+use Rattle.cb_core.proofs.TurnCallsSound.{swap_sound}
+use Rattle.cb_core.proofs.TurnCallsSwap.{IsSwapRefusal, SwapEnds, refused as swap_refused, stays, swapped, refusal_line}
 use Rattle.cb_lanes.specs.Asked.{HasLineReply}
 use Rattle.cb_lanes.specs.GivingBack.{GivesAll}
-use Rattle.cb_lanes.specs.LineStep.{PeekStep, not_pinned, shown}
-use Rattle.cb_lanes.proofs.Calls.{within}
+use Rattle.cb_lanes.specs.LineStep.{PeekStep, not_pinned, shown, IsInReply, PinLine, at_once, stays_far, swapped_in}
 use Rattle.cb_lanes.proofs.GivingBack.{Stands, pin_stands, unpin_stands, stands_same, gives_all, pinned_here, pin_below}
-use Rattle.cb_lanes.proofs.Near.{IsNear, not_far}
 use Rattle.cb_lanes.proofs.Silent.{silent_follows, unmade_goes}
-use Rattle.cb_lanes.proofs.Turning.{answer_to, Turning, Goes}
+use Rattle.cb_lanes.proofs.Turning.{answer_to, Around, Turning, around, within, Goes, call_goes}
 
 -- a world that changed in pins alone goes on by what it answers
-step_goes : (answers : List Answer) (a : Answer) (w new : WorldState) (h : ℕ) → (c : Turning answers w new)
+step_goes : (answers : List Answer) (a : Answer) (w new : WorldState) (h : ℕ) → (c : Around answers w new)
     → new.far ≡ w.far
     → IsCallOn w.desk.settings.handles c.before.shown c.then.shown w.far new.far h a.request a.reply
     → handle_for answers a.request a.reply ≡ Some h → HasLineReply a → Goes answers a w new c.then.shown
 step_goes answers a w new h c far call about reply = record {
   follows = call_follows w.desk.settings.handles (calls_of answers) (called answers a) c.before.shown
       c.then.shown w.far new.far h a.request a.reply c.beside call (record { about = about; event = refl });
-  near = subst IsNear (sym far) c.near;
   reply = reply;
   first = ap (λ (f : FarState). f.first) far;
   turns = omega (arith, ap (λ (f : FarState). f.counts.turns) far);
@@ -59,7 +70,7 @@ step_goes answers a w new h c far call about reply = record {
 
 -- so does one that is answered about an object, and changes nothing of what any holds
 kept_goes : (answers : List Answer) (a : Answer) (w new : WorldState) (h : ℕ) (e : Event)
-    → (c : Turning answers w new) → new.far ≡ w.far
+    → (c : Around answers w new) → new.far ≡ w.far
     → ((k : ℕ) → now c.then.shown new.far k ≡ now c.before.shown w.far k)
     → event_of a.request a.reply ≡ e → change_of e ≡ [] → made_by e ≡ 0
     → ((m : MapNow) → IsValue m (now c.before.shown w.far h)
@@ -104,7 +115,7 @@ shows_by v first handles made h bytes (Some (Freed u)) is = absurd is
 shows_by v first handles made h bytes (Some (Held u b)) is = is
 
 -- a line on an object that was made, which is refused and tells nothing of it
-refused_goes : (answers : List Answer) (a : Answer) (w new : WorldState) (h : ℕ) → (c : Turning answers w new)
+refused_goes : (answers : List Answer) (a : Answer) (w new : WorldState) (h : ℕ) → (c : Around answers w new)
     → h < w.far.made → new ≡ w → event_of a.request a.reply ≡ Refused Other
     → handle_for answers a.request a.reply ≡ Some h → HasLineReply a → Goes answers a w new c.then.shown
 refused_goes answers a w new h c made same event about reply =
@@ -178,15 +189,15 @@ refusal_as state.Far v pins = refl
 refusal_as state.Here v pins = refl
 refusal_as state.Moving v pins = refl
 
-pub pin_goes : (answers : List Answer) (l : Line) (name : List ℕ) (h : ℕ) (r : Reply) (w new : WorldState)
-    → (c : Turning answers w new) → l.lane.n < 64 → h < w.desk.settings.handles → h < w.far.made
+pin_here_goes : (answers : List Answer) (l : Line) (name : List ℕ) (h : ℕ) (r : Reply) (w new : WorldState)
+    → (c : Around answers w new) → l.lane.n < 64 → h < w.desk.settings.handles → h < w.far.made
     → ((seat : ℕ) → 16 ≤ seat → pins_of_seat w.seats seat ≡ [])
-    → handle_of answers name ≡ Some h → PinStep l.lane.n h w r new
+    → handle_of answers name ≡ Some h → PinStep l.lane.n h w r new → (r ≡ answer.NotHere → ⊥)
     → Goes answers (answer_to l (Pin name) r) w new c.then.shown
-pin_goes answers l name h r w new c lt below made few named (scope_full full is same) =
+pin_here_goes answers l name h r w new c lt below made few named (scope_full full is same) unless =
     subst (λ (q : Reply). Goes answers (answer_to l (Pin name) q) w new c.then.shown) (sym is)
     (refused_goes answers (answer_to l (Pin name) answer.ScopeFull) w new h c made same refl named tt)
-pin_goes answers l name h r w new c lt below made few named (refused room never_may is same) =
+pin_here_goes answers l name h r w new c lt below made few named (refused room never_may is same) unless =
     let at = within w h c.before below in
     let by : r ≡ reply_as (state_of (word_at w.desk h)) (stamp_at w.desk h) answer.Crowded =
     is ∙ refusal_as (state_of (word_at w.desk h)) (stamp_at w.desk h) (pins_of (word_at w.desk h)) in
@@ -200,11 +211,11 @@ pin_goes answers l name h r w new c lt below made few named (refused room never_
     by tt (λ here e. absurd (off here)))
     named
     (subst (IsReplyOf (Pin name)) (sym by) (refused_line name (state_of (word_at w.desk h))
-    (stamp_at w.desk h) (not_far w h c.before c.near at) off))
+    (stamp_at w.desk h) (λ away. unless (by ∙ ap (λ q. reply_as q (stamp_at w.desk h) answer.Crowded) away)) off))
   where
     stays : (new.desk ≡ w.desk) × (new.far ≡ w.far)
     stays = (ap (λ (v : WorldState). v.desk) same, ap (λ (v : WorldState). v.far) same)
-pin_goes answers l name h r w new c lt below made few named (taken room may is t) =
+pin_here_goes answers l name h r w new c lt below made few named (taken room may is t) unless =
     subst (λ (q : Reply). Goes answers (answer_to l (Pin name) q) w new c.then.shown) (sym is)
     (kept_goes answers (answer_to l (Pin name) (answer.Version (stamp_at w.desk h))) w new h
     (Pins (stamp_at w.desk h)) c t.far
@@ -215,6 +226,153 @@ pin_goes answers l name h r w new c lt below made few named (taken room may is t
     (bytes_in (contents_at w.desk h) (len_of (word_at w.desk h))) m
     (subst (IsValue m) (near_held w.desk w.far c.before.shown h c.before.known (within w h c.before below)
     (here_near (word_at w.desk h) may.here)) value)) named tt)
+
+-- ---- a pin of an object wherever it is
+
+-- what is not here is left as it is
+pub pin_nothing : (seat h : ℕ) (w m : WorldState) → PinStep seat h w answer.NotHere m → m ≡ w
+pin_nothing seat h w m (scope_full full is same) = same
+pin_nothing seat h w m (refused room unless is same) = same
+pin_nothing seat h w m (taken room may is t) = absurd (not_here is)
+  where
+    not_here : answer.NotHere ≡ answer.Version (stamp_at w.desk h) → ⊥
+    not_here e = cc
+
+pub in_or_refused : (y : Words) (h : ℕ) (r : Reply) → SwapEnds y h r → (IsInReply r → ⊥) → IsSwapRefusal r
+in_or_refused y h r (swap_refused z) off = z
+in_or_refused y h r (stays e here) off = absurd (off (subst IsInReply (sym e) tt))
+in_or_refused y h r (swapped f e here) off = absurd (off (subst IsInReply (sym e) tt))
+
+in_is_here : (y : Words) (h : ℕ) (r : Reply) → SwapEnds y h r → IsInReply r
+    → state_of (word_at y h) ≡ state.Here
+in_is_here y h r (swap_refused z) is = absurd (refused_in r z is)
+  where
+    refused_in : (r : Reply) → IsSwapRefusal r → IsInReply r → ⊥
+    refused_in answer.Unmade z is = is
+    refused_in answer.Freed z is = is
+    refused_in answer.Moving z is = is
+    refused_in (answer.Unavailable id l) z is = is
+    refused_in (answer.NoRoom frames loose nodes) z is = is
+    refused_in r z is = z
+in_is_here y h r (stays e here) is = here
+in_is_here y h r (swapped f e here) is = here
+
+-- an object that is here is not answered as one that is not
+pin_is_here : (seat h : ℕ) (w new : WorldState) (r : Reply) → PinStep seat h w r new
+    → state_of (word_at w.desk h) ≡ state.Here → r ≡ answer.NotHere → ⊥
+pin_is_here seat h w new r (scope_full full is same) here e = full_not_here (sym is ∙ e)
+  where
+    full_not_here : answer.ScopeFull ≡ answer.NotHere → ⊥
+    full_not_here e = cc
+pin_is_here seat h w new r (refused room unless is same) here e = crowded_not_here
+    (sym (is ∙ ap (λ q. pin_refusal q (stamp_at w.desk h) (pins_of (word_at w.desk h))) here) ∙ e)
+  where
+    crowded_not_here : answer.Crowded ≡ answer.NotHere → ⊥
+    crowded_not_here e = cc
+pin_is_here seat h w new r (taken room may is t) here e = version_not_here (sym is ∙ e)
+  where
+    version_not_here : answer.Version (stamp_at w.desk h) ≡ answer.NotHere → ⊥
+    version_not_here e = cc
+
+-- what a swap before a pin leaves
+pub record SwappedIn (w n : WorldState) (h : ℕ) (s t : Shown) : Type 0 where
+  pub same : IsSameMap s t w.far n.far
+  pub here : state_of (word_at n.desk h) ≡ state.Here
+  pub turns : n.far.counts.turns ≡ w.far.counts.turns + 1
+  pub settings : n.desk.settings ≡ w.desk.settings
+  pub seats : n.seats ≡ w.seats
+
+pub turn_seats : (j : Job) (w new : WorldState) (r : Reply) → TurnStep j w r new → new.seats ≡ w.seats
+turn_seats j w new r (worn end is same) = ap (λ (v : WorldState). v.seats) same
+turn_seats j w new r (done q few works is seats) = seats
+
+pub swapped_here : (w n : WorldState) (h seat : ℕ) (q : Reply) → (before : IsSoundWorld w)
+    → (after : IsSoundWorld n) → w.far.counts.turns < 2 ^ 40 → h < w.desk.settings.handles
+    → TurnStep (job.Swap (record { n = h })) w q n → IsInReply q
+    → SwappedIn w n h before.shown after.shown
+swapped_here w n h seat q before after few below step is =
+    let j = job.Swap (record { n = h }) in
+    let z = swap_turn w n h q before after few below step in record {
+      same = z.same;
+      here = in_is_here n.desk h q z.ends is;
+      turns = turn_turns j w n q before few step;
+      settings = step_settings w n (event.Turn seat j) q step;
+      seats = turn_seats j w n q step;
+    }
+
+stays_goes : (answers : List Answer) (l : Line) (name : List ℕ) (h : ℕ) (r : Reply) (w new : WorldState)
+    → (c : Turning answers w new) → h < w.desk.settings.handles → handle_of answers name ≡ Some h
+    → TurnStep (job.Swap (record { n = h })) w r new → (IsInReply r → ⊥)
+    → Goes answers (answer_to l (Pin name) r) w new c.then.shown
+stays_goes answers l name h r w new c below named step off =
+    let j = job.Swap (record { n = h }) in
+    let z = swap_turn w new h r c.before c.then c.few below step in
+    call_goes answers (answer_to l (Pin name) r) w new j r h c step (z.call name) named
+    (refusal_line name r (in_or_refused new.desk h r z.ends off))
+
+swapped_goes : (answers : List Answer) (l : Line) (name : List ℕ) (h : ℕ) (q r : Reply)
+    (w n new : WorldState) → (c : Turning answers w new) → l.lane.n < 64 → h < w.desk.settings.handles
+    → h < w.far.made → ((seat : ℕ) → 16 ≤ seat → pins_of_seat w.seats seat ≡ [])
+    → handle_of answers name ≡ Some h → TurnStep (job.Swap (record { n = h })) w q n → IsInReply q
+    → PinStep l.lane.n h n r new → Goes answers (answer_to l (Pin name) r) w new c.then.shown
+swapped_goes answers l name h q r w n new c lt below made few named swap is pin =
+    let after = swap_sound w n h q c.before swap in
+    let z = swapped_here w n h l.lane.n q c.before after c.few below swap is in
+    let d : Around answers n new = record {
+      before = after;
+      then = c.then;
+      beside = beside_kept (calls_of answers) c.before.shown after.shown w.far n.far c.beside z.same.made
+          z.same.now;
+    } in
+    let below_n : h < n.desk.settings.handles = subst (λ s. h < s.handles) (sym z.settings) below in
+    let made_n : h < n.far.made = subst (λ k. h < k) (sym z.same.made) made in
+    let goes = pin_here_goes answers l name h r n new d lt below_n made_n
+    (λ seat high. ap (λ (xs : List SeatState). pins_of_seat xs seat) z.seats ∙ few seat high) named pin
+    (pin_is_here l.lane.n h n new r pin z.here) in
+    let far = (pin_stands n new l.lane.n h r after lt below_n pin).far in
+    let a = answer_to l (Pin name) r in record {
+      follows = record {
+        reply = subst (λ k. MapReplies k w.desk.settings.handles (makes (calls_of answers))
+            (called answers a).handle (value_at (calls_of answers) (called answers a).handle)
+            (called answers a).event) z.same.first
+            (subst (λ s. MapReplies n.far.first s.handles (makes (calls_of answers))
+            (called answers a).handle (value_at (calls_of answers) (called answers a).handle)
+            (called answers a).event) z.settings goes.follows.reply);
+        beside = goes.follows.beside;
+      };
+      reply = goes.reply;
+      first = goes.first ∙ z.same.first;
+      turns = omega (arith, ap (λ (f : FarState). f.counts.turns) far, z.turns);
+    }
+
+pub pin_goes : (answers : List Answer) (l : Line) (name : List ℕ) (h : ℕ) (r : Reply) (w new : WorldState)
+    → (c : Turning answers w new) → l.lane.n < 64 → h < w.desk.settings.handles → h < w.far.made
+    → ((seat : ℕ) → 16 ≤ seat → pins_of_seat w.seats seat ≡ [])
+    → handle_of answers name ≡ Some h → PinLine l.lane.n h w r new
+    → Goes answers (answer_to l (Pin name) r) w new c.then.shown
+pin_goes answers l name h r w new c lt below made few named (at_once pin unless) =
+    pin_here_goes answers l name h r w new (around answers w new c) lt below made few named pin unless
+pin_goes answers l name h r w new c lt below made few named (stays_far m pin swap off) =
+    stays_goes answers l name h r w new c below named
+    (subst (λ (x : WorldState). TurnStep (job.Swap (record { n = h })) x r new)
+    (pin_nothing l.lane.n h w m pin) swap) off
+pin_goes answers l name h r w new c lt below made few named (swapped_in m n q pin swap is again) =
+    swapped_goes answers l name h q r w n new c lt below made few named
+    (subst (λ (x : WorldState). TurnStep (job.Swap (record { n = h })) x q n)
+    (pin_nothing l.lane.n h w m pin) swap) is again
+
+-- no pin changes the configuration
+pub pin_settings : (seat h : ℕ) (w new : WorldState) (r : Reply) → PinLine seat h w r new
+    → new.desk.settings ≡ w.desk.settings
+pin_settings seat h w new r (at_once pin unless) =
+    step_settings w new (event.Step seat (atomic.Pin (record { n = h }))) r pin
+pin_settings seat h w new r (stays_far m pin swap off) =
+    step_settings m new (event.Turn seat (job.Swap (record { n = h }))) r swap
+    ∙ step_settings w m (event.Step seat (atomic.Pin (record { n = h }))) answer.NotHere pin
+pin_settings seat h w new r (swapped_in m n q pin swap is again) =
+    step_settings n new (event.Step seat (atomic.Pin (record { n = h }))) r again
+    ∙ step_settings m n (event.Turn seat (job.Swap (record { n = h }))) q swap
+    ∙ step_settings w m (event.Step seat (atomic.Pin (record { n = h }))) answer.NotHere pin
 
 -- ---- a peek
 
@@ -233,7 +391,7 @@ pin_version w seat at h sound lt n =
     ∙ ap (stamp_at w.desk) n.on
 
 pub peek_goes : (answers : List Answer) (l : Line) (name : List ℕ) (h : ℕ) (r : Reply) (w new : WorldState)
-    → (c : Turning answers w new) → l.lane.n < 64 → h < w.far.made → handle_of answers name ≡ Some h
+    → (c : Around answers w new) → l.lane.n < 64 → h < w.far.made → handle_of answers name ≡ Some h
     → PeekStep l.lane.n h w r new → Goes answers (answer_to l (Peek name) r) w new c.then.shown
 peek_goes answers l name h r w new c lt made named (not_pinned none is same) =
     subst (λ (q : Reply). Goes answers (answer_to l (Peek name) q) w new c.then.shown) (sym is)
@@ -256,7 +414,7 @@ peek_goes answers l name h r w new c lt made named (shown at newest is same) =
 -- ---- an unpin
 
 pub unpin_goes : (answers : List Answer) (l : Line) (name : List ℕ) (h : ℕ) (r : Reply) (w new : WorldState)
-    → (c : Turning answers w new) → l.lane.n < 64 → h < w.desk.settings.handles → h < w.far.made
+    → (c : Around answers w new) → l.lane.n < 64 → h < w.desk.settings.handles → h < w.far.made
     → handle_of answers name ≡ Some h → UnpinStep l.lane.n h w r new
     → Goes answers (answer_to l (Unpin name) r) w new c.then.shown
 unpin_goes answers l name h r w new c lt below made named (unpin_refused none is same) =
@@ -274,7 +432,7 @@ unpin_goes answers l name h r w new c lt below made named (given is t) =
 -- ---- a leave
 
 pub leave_goes : (answers : List Answer) (l : Line) (n : ℕ) (r : Reply) (w new : WorldState)
-    → (c : Turning answers w new) → l.lane.n < 64 → r ≡ answer.Left n → GivesAll l.lane.n w new
+    → (c : Around answers w new) → l.lane.n < 64 → r ≡ answer.Left n → GivesAll l.lane.n w new
     → Goes answers (answer_to l Leave r) w new c.then.shown
 leave_goes answers l n r w new c lt is leads =
     subst (λ (q : Reply). Goes answers (answer_to l Leave q) w new c.then.shown) (sym is) (record {
@@ -284,7 +442,6 @@ leave_goes answers l n r w new c lt is leads =
           (ap (λ (f : FarState). f.made) gave.far)
           (λ k. gave.holds c.before.shown c.then.shown k c.before.known c.then.known))
           refl refl tt;
-      near = subst IsNear (sym gave.far) c.near;
       reply = tt;
       first = ap (λ (f : FarState). f.first) gave.far;
       turns = omega (arith, ap (λ (f : FarState). f.counts.turns) gave.far);
@@ -296,7 +453,7 @@ leave_goes answers l n r w new c lt is leads =
 -- ---- a name that has no handle
 
 pub unmade_pins : (answers : List Answer) (l : Line) (request : Request) (name : List ℕ) (r : Reply)
-    (w new : WorldState) → (c : Turning answers w new) → handle_of answers name ≡ None
+    (w new : WorldState) → (c : Around answers w new) → handle_of answers name ≡ None
     → handle_for answers request answer.Unmade ≡ handle_of answers name
     → event_of request answer.Unmade ≡ FindsUnmade → IsReplyOf request answer.Unmade
     → (r ≡ answer.Unmade) × (new ≡ w) → Goes answers (answer_to l request r) w new c.then.shown

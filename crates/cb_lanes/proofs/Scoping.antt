@@ -10,7 +10,7 @@ use Rattle.cb_types.specs.declared.answer.Answer.{Answer}
 use Rattle.cb_types.specs.declared.job.Job.{Job}
 use Rattle.cb_types.specs.declared.job.Job.TheVariants as job
 use Rattle.cb_types.specs.declared.request.Request.{Request}
-use Rattle.cb_types.specs.declared.request.Request.TheVariants.{Make, Read, Write, Free, Pin, Peek, Unpin, Crash, Join, Leave}
+use Rattle.cb_types.specs.declared.request.Request.TheVariants.{Make, Read, Write, Free, Pin, Peek, Unpin, Evict, Crash, Join, Leave}
 use Rattle.cb_types.specs.declared.reply.Reply.{Reply}
 use Rattle.cb_types.specs.declared.reply.Reply.TheVariants as answer
 use Rattle.cb_types.specs.Requests.{name_of}
@@ -20,16 +20,19 @@ use Rattle.cb_world.specs.StillWords.{stamp_at}
 use Rattle.cb_world.specs.World.{WorldState, IsSoundWorld, word_at}
 use Rattle.cb_mutate.specs.StillReplies.{empty_reply, reply_as, next_reply, change_reply, write_reply, free_as, free_reply}
 use Rattle.cb_core.specs.Pinning.{PinStep, scope_full, refused, taken, pin_refusal, UnpinStep, not_pinned as unpin_refused, given}
-use Rattle.cb_core.specs.Step.{TurnStep, worn, done}
+use Rattle.cb_core.specs.Step.{TurnStep}
+use Rattle.cb_core.proofs.TurnCalls.{swap_turn}
+use Rattle.cb_core.proofs.TurnCallsPinned.{write_counts, free_counts}
+use Rattle.cb_core.proofs.TurnCallsSound.{swap_sound}
+use Rattle.cb_core.proofs.TurnCallsSwap.{IsSwapRefusal}
 use Rattle.cb_core.specs.Turned.{counted}
-use Rattle.cb_lanes.specs.GivingBack.{GivesAll}
-use Rattle.cb_lanes.specs.LineStep.{LineStep, PeekStep, not_pinned, shown}
-use Rattle.cb_lanes.specs.Scopes.{Scope, without_newest, scope_after, PeekSays, UnpinSays, ScopeSays}
-use Rattle.cb_lanes.proofs.Calls.{within}
-use Rattle.cb_lanes.proofs.GivingBack.{gives_all, pins_own, pins_other, given_pins}
-use Rattle.cb_lanes.proofs.Near.{write_line, free_line}
-use Rattle.cb_lanes.proofs.PinLists.{AreApart, ArePinsOf, pins_length, scope_none, scope_newest, scope_without, scope_count}
-use Rattle.cb_lanes.proofs.Turning.{Turning, worked, own_reply}
+use Rattle.cb_lanes.specs.GivingBack.{GivesAll, Rests, lines_of}
+use Rattle.cb_lanes.specs.LineStep.{LineStep, PeekStep, not_pinned, shown, PinLine, at_once, stays_far, swapped_in}
+use Rattle.cb_lanes.specs.Scopes.{NamedPin, Scope, newest_on, without_newest, named_on, scope_after, scope_more, scope_of, PeekSays, UnpinSays, ScopeSays, KeepScopes}
+use Rattle.cb_lanes.proofs.GivingBack.{Stands, stands_same, gives_all, pins_own, pins_other, given_pins}
+use Rattle.cb_lanes.proofs.PinLists.{AreApart, ArePinsOf, pins_length, pins_kept, scope_none, scope_newest, scope_without, scope_count}
+use Rattle.cb_lanes.proofs.Pinning.{pin_nothing, in_or_refused, SwappedIn, swapped_here, turn_seats}
+use Rattle.cb_lanes.proofs.Turning.{Turning, within}
 
 -- The line is answered as its lane's scope says, the seat's pins are then those of the scope after it, and
 -- no other seat's pins change.
@@ -50,10 +53,6 @@ still_scoped number handle scope request r seat w new same are still says = reco
   others = λ k off. ap (λ (xs : List SeatState). pins_of_seat xs k) same;
 }
 
-turn_seats : (job : Job) (w new : WorldState) (r : Reply) → TurnStep job w r new → new.seats ≡ w.seats
-turn_seats job w new r (worn end is same) = ap (λ (v : WorldState). v.seats) same
-turn_seats job w new r (done q few works is seats) = seats
-
 -- a turn for a line of which the scope says nothing
 quiet : (handle : Option ℕ) (scope : Scope) (request : Request) (r : Reply) → ScopeSays None scope request r
     → ((h : ℕ) → ScopeSays (Some h) scope request r) → ScopeSays handle scope request r
@@ -61,63 +60,6 @@ quiet None scope request r none some = none
 quiet (Some h) scope request r none some = some h
 
 -- ---- an answer that counts pins
-
--- so many pins has the object of this word, and it has some
-abbrev IsCountOf : ℕ → ℕ → Type 0
-IsCountOf w count = (pins_of w ≡ count) × (1 ≤ pins_of w)
-
-next_pinned : (v count : ℕ) → next_reply v ≡ answer.Pinned count → ⊥
-next_pinned v count e = by (cases_Bool (v == 2 ^ 64 - 1))
-  where
-    by : ((v == 2 ^ 64 - 1) ≡ true) ⊎ ((v == 2 ^ 64 - 1) ≡ false) → ⊥
-    by (inl b) = let both : answer.Worn ≡ answer.Pinned count =
-        sym (ap (λ (z : Bool). if z then answer.Worn else answer.Version (v + 1)) b) ∙ e in cc
-    by (inr b) = let both : answer.Version (v + 1) ≡ answer.Pinned count =
-        sym (ap (λ (z : Bool). if z then answer.Worn else answer.Version (v + 1)) b) ∙ e in cc
-
-change_pinned : (w v count : ℕ) → change_reply w v ≡ answer.Pinned count → IsCountOf w count
-change_pinned w v count e = by (cases_eq (pins_of w) 0)
-  where
-    by : (pins_of w ≡ 0) ⊎ (pins_of w ≢ 0) → IsCountOf w count
-    by (inl none) = absurd (next_pinned v count
-        (sym (ap (λ (b : Bool). if b then next_reply v else answer.Pinned (pins_of w))
-        (eq-eqb (pins_of w) 0 none)) ∙ e))
-    by (inr some) = let both : answer.Pinned (pins_of w) ≡ answer.Pinned count =
-        sym (ap (λ (b : Bool). if b then next_reply v else answer.Pinned (pins_of w))
-        (ne_eqb (pins_of w) 0 some)) ∙ e in (cc, omega (arith, some))
-
-empty_pinned : (v count : ℕ) → empty_reply v ≡ answer.Pinned count → ⊥
-empty_pinned zero count e = cc
-empty_pinned (suc v) count e = cc
-
-as_pinned : (q : State) (w v count : ℕ) (here : Reply) → reply_as q v here ≡ answer.Pinned count
-    → (here ≡ answer.Pinned count → IsCountOf w count) → IsCountOf w count
-as_pinned state.Empty w v count here e by = absurd (empty_pinned v count e)
-as_pinned state.Far w v count here e by = absurd cc
-as_pinned state.Moving w v count here e by = absurd cc
-as_pinned state.Here w v count here e by = by e
-
-write_pinned : (w v at n count : ℕ) → write_reply w v at n ≡ answer.Pinned count → IsCountOf w count
-write_pinned w v at n count e = as_pinned (state_of w) w v count _ e
-    (λ here. by here (cases_Bool (nat_lt (len_of w) (at + n))))
-  where
-    by : (if nat_lt (len_of w) (at + n) then answer.Range (len_of w) else change_reply w v)
-        ≡ answer.Pinned count
-        → (nat_lt (len_of w) (at + n) ≡ true) ⊎ (nat_lt (len_of w) (at + n) ≡ false)
-        → IsCountOf w count
-    by here (inl b) = absurd (let both : answer.Range (len_of w) ≡ answer.Pinned count =
-        sym (ap (λ (z : Bool). if z then answer.Range (len_of w) else change_reply w v) b) ∙ here in cc)
-    by here (inr b) = change_pinned w v count
-        (sym (ap (λ (z : Bool). if z then answer.Range (len_of w) else change_reply w v) b) ∙ here)
-
-free_pinned : (w v count : ℕ) → free_reply w v ≡ answer.Pinned count → IsCountOf w count
-free_pinned w v count e = by (state_of w) e
-  where
-    by : (q : State) → free_as q v (change_reply w v) ≡ answer.Pinned count → IsCountOf w count
-    by state.Empty f = absurd (empty_pinned v count f)
-    by state.Far f = absurd (next_pinned v count f)
-    by state.Moving f = absurd cc
-    by state.Here f = change_pinned w v count f
 
 -- the pins of a word are those of all seats
 own_pins : (w : WorldState) (seat h : ℕ) → IsSoundWorld w → seat < 64 → h < length w.desk.words
@@ -226,6 +168,61 @@ unmade_scoped : (number : List ℕ → Option ℕ) (scope : Scope) (request : Re
 unmade_scoped number scope request seat r w new are same still says =
     still_scoped number None scope request r seat w new (ap (λ (v : WorldState). v.seats) same) are still says
 
+-- ---- a pin of an object wherever it is
+
+-- a swap's refusal is no pin, and does not tell that a scope is full
+refusal_still : (scope : Scope) (name : List ℕ) (r : Reply) → IsSwapRefusal r
+    → scope_after scope (Pin name) r ≡ scope
+refusal_still scope name answer.Unmade z = refl
+refusal_still scope name answer.Freed z = refl
+refusal_still scope name answer.Moving z = refl
+refusal_still scope name (answer.Unavailable id l) z = refl
+refusal_still scope name (answer.NoRoom frames loose nodes) z = refl
+refusal_still scope name r z = absurd z
+
+swap_not_full : (r : Reply) → IsSwapRefusal r → r ≡ answer.ScopeFull → ⊥
+swap_not_full r z e = absurd (subst IsSwapRefusal e z)
+
+-- what is not here is told so in a lane that has room for a pin
+pin_room : (seat h : ℕ) (w m : WorldState) → PinStep seat h w answer.NotHere m
+    → length (pins_of_seat w.seats seat) < 16
+pin_room seat h w m (scope_full full is same) = absurd (full_not_here is)
+  where
+    full_not_here : answer.NotHere ≡ answer.ScopeFull → ⊥
+    full_not_here e = cc
+pin_room seat h w m (refused room never is same) = room
+pin_room seat h w m (taken room may is t) = room
+
+pin_line_scoped : (answers : List Answer) (number : List ℕ → Option ℕ) (apart : AreApart number)
+    (scope : Scope) (name : List ℕ) (h seat : ℕ) (r : Reply) (w new : WorldState)
+    → (c : Turning answers w new) → seat < 64 → h < w.desk.settings.handles → number name ≡ Some h
+    → ArePinsOf number scope (pins_of_seat w.seats seat) → PinLine seat h w r new
+    → Scoped number (Some h) scope (Pin name) r seat w new
+pin_line_scoped answers number apart scope name h seat r w new c lt below at_name are (at_once pin never) =
+    pin_scoped number apart scope name h seat r w new c.before lt at_name are pin
+pin_line_scoped answers number apart scope name h seat r w new c lt below at_name are
+    (stays_far m pin swap off) =
+    let j = job.Swap (record { n = h }) in
+    let step = subst (λ (x : WorldState). TurnStep j x r new) (pin_nothing seat h w m pin) swap in
+    let refusal = in_or_refused new.desk h r (swap_turn w new h r c.before c.then c.few below step).ends off in
+    let room = pin_room seat h w m pin in
+    let long = pins_length number scope (pins_of_seat w.seats seat) are in
+    still_scoped number (Some h) scope (Pin name) r seat w new (turn_seats j w new r step) are
+    (refusal_still scope name r refusal)
+    (λ e. absurd (swap_not_full r refusal e), λ e. absurd (omega (arith, room, long, e)))
+pin_line_scoped answers number apart scope name h seat r w new c lt below at_name are
+    (swapped_in m n q pin swap is again) =
+    let j = job.Swap (record { n = h }) in
+    let step = subst (λ (x : WorldState). TurnStep j x q n) (pin_nothing seat h w m pin) swap in
+    let seats = turn_seats j w n q step in
+    let z = pin_scoped number apart scope name h seat r n new (swap_sound w n h q c.before step) lt at_name
+    (subst (λ (xs : List SeatState). ArePinsOf number scope (pins_of_seat xs seat)) (sym seats) are) again in
+    record {
+      says = z.says;
+      pins = z.pins;
+      others = λ k off. z.others k off ∙ ap (λ (xs : List SeatState). pins_of_seat xs k) seats;
+    }
+
 pub line_scoped : (answers : List Answer) (request : Request) (r : Reply) (w new : WorldState)
     (handle : Option ℕ) (number : List ℕ → Option ℕ) (scope : Scope) (seat : ℕ) → (c : Turning answers w new)
     → IsBuilt request → seat < 64 → AreApart number
@@ -237,6 +234,9 @@ line_scoped answers (Make name bytes) r w new handle number scope seat c built l
     still_scoped number handle scope (Make name bytes) r seat w new
     (turn_seats (job.Make bytes) w new r step) are refl
     (quiet handle scope (Make name bytes) r tt (λ h. tt))
+line_scoped answers Evict r w new handle number scope seat c built lt apart named ready are step =
+    still_scoped number handle scope Evict r seat w new
+    (turn_seats job.Evict w new r step) are refl (quiet handle scope Evict r tt (λ h. tt))
 line_scoped answers (Crash node) r w new handle number scope seat c built lt apart named ready are step =
     still_scoped number handle scope (Crash node) r seat w new
     (turn_seats (job.Crash node) w new r step) are refl (quiet handle scope (Crash node) r tt (λ h. tt))
@@ -256,36 +256,27 @@ line_scoped answers (Write name at bytes) r w new (Some h) number scope seat c b
     still_scoped number (Some h) scope (Write name at bytes) r seat w new
     (turn_seats (job.Write (record { n = h }) at bytes) w new r step) are refl (λ count is.
     let below = within w h c.before (ready h refl) in
-    let x = worked (job.Write (record { n = h }) at bytes) w new r c.few step in
-    let line = write_line w h at bytes name x.reply new.desk c.before c.near below x.works.0 in
-    let own : r ≡ x.reply = own_reply (Write name at bytes) new x.reply r line (λ e. e) x.is in
-    let counts = write_pinned (word_at w.desk h) (stamp_at w.desk h) at (length bytes) count
-    (sym x.works.0.reply ∙ sym own ∙ is) in
+    let counts = write_counts w new h at bytes count c.before c.few
+    (subst (λ (q : Reply). TurnStep (job.Write (record { n = h }) at bytes) w q new) is step) in
     let all = own_pins w seat h c.before lt below in
     let same = scope_count number apart name h (named name refl) scope (pins_of_seat w.seats seat) are in
-    let most = counts.0 in let some = counts.1 in
-    (omega (arith, most, some), omega (arith, same, all, most)))
+    (counts.some, omega (arith, same, all, counts.is)))
 line_scoped answers (Free name) r w new None number scope seat c built lt apart named ready are step =
     unmade_scoped number scope (Free name) seat r w new are step.1 refl tt
 line_scoped answers (Free name) r w new (Some h) number scope seat c built lt apart named ready are step =
     still_scoped number (Some h) scope (Free name) r seat w new
     (turn_seats (job.Free (record { n = h })) w new r step) are refl (λ count is.
     let below = within w h c.before (ready h refl) in
-    let x = worked (job.Free (record { n = h })) w new r c.few step in
-    let line = free_line w h name x.reply new.desk (counted w.far (job.Free (record { n = h }))) new.far
-    c.before c.near below x.works in
-    let own : r ≡ x.reply = own_reply (Free name) new x.reply r line (λ e. e) x.is in
-    let counts = free_pinned (word_at w.desk h) (stamp_at w.desk h) count
-    (sym x.works.reply ∙ sym own ∙ is) in
+    let counts = free_counts w new h count c.before c.few
+    (subst (λ (q : Reply). TurnStep (job.Free (record { n = h })) w q new) is step) in
     let all = own_pins w seat h c.before lt below in
     let same = scope_count number apart name h (named name refl) scope (pins_of_seat w.seats seat) are in
-    let most = counts.0 in let some = counts.1 in
-    (omega (arith, most, some), omega (arith, same, all, most)))
+    (counts.some, omega (arith, same, all, counts.is)))
 line_scoped answers (Pin name) r w new None number scope seat c built lt apart named ready are step =
     unmade_scoped number scope (Pin name) seat r w new are step.1 (ap (scope_after scope (Pin name)) step.0)
     step.0
 line_scoped answers (Pin name) r w new (Some h) number scope seat c built lt apart named ready are step =
-    pin_scoped number apart scope name h seat r w new c.before lt (named name refl) are step
+    pin_line_scoped answers number apart scope name h seat r w new c lt (ready h refl) (named name refl) are step
 line_scoped answers (Peek name) r w new None number scope seat c built lt apart named ready are step =
     unmade_scoped number scope (Peek name) seat r w new are step.1 refl step.0
 line_scoped answers (Peek name) r w new (Some h) number scope seat c built lt apart named ready are step =

@@ -1,16 +1,18 @@
--- Answers about no object: a name that has no handle, a crash, a join.
-use Rattle.std.proofs.Common.{◌≡◌, ℕ, ◌<◌, List, [], ◌∷◌, ◌++◌, fold, Option, None, refl, sym, ap, ◌∙◌, subst, arith, if◌then◌else◌}
-use Rattle.cb_member.specs.declared.names.Epoch.{Epoch}
+-- Lines about no object: names without a handle, evictions, crashes and joins.
+use Rattle.std.proofs.Common.{◌≡◌, ◌⊎◌, ℕ, ◌+◌, ◌<◌, ◌≤◌, List, [], ◌∷◌, ◌++◌, Option, None, Some, refl, sym, ap, ◌∙◌, subst, arith, inl, inr, fold, if◌then◌else◌}
 use Rattle.cb_member.specs.declared.names.NodeId.{NodeId}
 use Rattle.cb_types.specs.declared.answer.Answer.{Answer}
+use Rattle.cb_types.specs.declared.job.Job.{Job}
 use Rattle.cb_types.specs.declared.job.Job.TheVariants as job
 use Rattle.cb_types.specs.declared.request.Request.{Request}
-use Rattle.cb_types.specs.declared.request.Request.TheVariants.{Read, Write, Free, Crash, Join}
+use Rattle.cb_types.specs.declared.request.Request.TheVariants.{Read, Write, Free, Evict, Crash, Join}
 use Rattle.cb_types.specs.declared.reply.Reply.{Reply}
 use Rattle.cb_types.specs.declared.reply.Reply.TheVariants as answer
 use Rattle.cb_types.specs.Table.{IsReplyOf}
+use Rattle.cb_model.specs.declared.object.Object.TheVariants.{Held, Freed}
 use Rattle.cb_model.specs.Event.{event_of, change_of}
-use Rattle.cb_model.specs.Event.Event.{FindsUnmade}
+use Rattle.cb_model.specs.Event.Subject.{Nothing}
+use Rattle.cb_model.specs.Event.Event.{FindsUnmade, Refused}
 use Rattle.cb_model.specs.Called.{Called, handle_of, handle_for, called, calls_of, makes, made_by, value, change_to, is_about}
 use Rattle.cb_model.specs.Now.{Now as MapNow, Change, changed}
 use Rattle.cb_model.specs.Replies.{MapReplies}
@@ -18,24 +20,19 @@ use Rattle.cb_model.proofs.Order.{value-push, makes-push}
 use Rattle.cb_script.specs.declared.script.Line.{Line}
 use Rattle.cb_world.specs.declared.shown.Shown.{Shown}
 use Rattle.cb_world.specs.FarState.{FarState}
-use Rattle.cb_world.specs.NodeChanges.{crashed_far, joined_far}
 use Rattle.cb_world.specs.Now.{now}
-use Rattle.cb_world.specs.Plain.{Words}
-use Rattle.cb_world.specs.Sound.{Sound}
+use Rattle.cb_world.specs.Now.Now.{held, gone}
 use Rattle.cb_world.specs.World.{WorldState, IsKnown}
-use Rattle.cb_world.proofs.NowSame.{now_same}
-use Rattle.cb_world.proofs.CrashNow.{crash_now}
-use Rattle.cb_world.proofs.NodeJoin.{node_crash_sound, node_join_sound, node_join_now}
 use Rattle.cb_mutate.specs.MapCalls.{IsValue}
 use Rattle.cb_mutate.specs.MapBeside.{IsMapBeside}
-use Rattle.cb_mutate.proofs.MapBeside.{Follows, beside_kept, beside_lost}
-use Rattle.cb_core.specs.Membership.{CrashTurn, crashed, is_down, JoinTurn, joined, is_up}
-use Rattle.cb_core.specs.Room.{final_reply}
+use Rattle.cb_mutate.proofs.MapBeside.{Follows, beside_kept}
 use Rattle.cb_core.specs.Step.{TurnStep}
-use Rattle.cb_core.specs.Turned.{counted}
-use Rattle.cb_core.proofs.WorldKept.{known_counted, member}
-use Rattle.cb_lanes.proofs.Near.{IsNear}
-use Rattle.cb_lanes.proofs.Turning.{answer_to, Turning, Goes, Keeps, keeps_is, worked, known_same, goes_by, beside_counted}
+use Rattle.cb_core.proofs.TurnCalls.{evict_turn, crash_turn, join_turn}
+use Rattle.cb_core.proofs.TurnCallsKept.{known_same}
+use Rattle.cb_core.proofs.TurnCallsMap.{IsSameMap}
+use Rattle.cb_core.proofs.TurnCallsNodes.{IsMapLost}
+use Rattle.cb_lanes.specs.Asked.{HasLineReply}
+use Rattle.cb_lanes.proofs.Turning.{answer_to, Around, Turning, Goes, goes_by}
 
 change_none : (c : Called) (k : ℕ) → c.handle ≡ None → change_to k c ≡ []
 change_none c k about = ap (λ (o : Option ℕ). if is_about k o then change_of c.event else []) about
@@ -63,7 +60,7 @@ silent_follows handles calls c t far new map about none reply = record {
 -- ---- a name that has no handle
 
 pub unmade_goes : (answers : List Answer) (l : Line) (request : Request) (w new : WorldState)
-    → (c : Turning answers w new) → new ≡ w → handle_for answers request answer.Unmade ≡ None
+    → (c : Around answers w new) → new ≡ w → handle_for answers request answer.Unmade ≡ None
     → event_of request answer.Unmade ≡ FindsUnmade → IsReplyOf request answer.Unmade
     → Goes answers (answer_to l request answer.Unmade) w new c.then.shown
 unmade_goes answers l request w new c same about event line = record {
@@ -77,21 +74,20 @@ unmade_goes answers l request w new c same about event line = record {
       about (ap made_by event)
       (subst (MapReplies w.far.first w.desk.settings.handles (makes (calls_of answers)) None None)
       (sym event) tt);
-  near = subst (λ (v : WorldState). IsNear v.far) (sym same) c.near;
   reply = line;
   first = ap (λ (v : WorldState). v.far.first) same;
   turns = omega (arith, ap (λ (v : WorldState). v.far.counts.turns) same);
 }
 
 pub unmade_read : (answers : List Answer) (l : Line) (name : List ℕ) (r : Reply) (w new : WorldState)
-    → (c : Turning answers w new) → handle_of answers name ≡ None → (r ≡ answer.Unmade) × (new ≡ w)
+    → (c : Around answers w new) → handle_of answers name ≡ None → (r ≡ answer.Unmade) × (new ≡ w)
     → Goes answers (answer_to l (Read name) r) w new c.then.shown
 unmade_read answers l name r w new c none is =
     subst (λ (q : Reply). Goes answers (answer_to l (Read name) q) w new c.then.shown) (sym is.0)
     (unmade_goes answers l (Read name) w new c is.1 none refl tt)
 
 pub unmade_write : (answers : List Answer) (l : Line) (name : List ℕ) (at : ℕ) (bytes : List ℕ)
-    (r : Reply) (w new : WorldState) → (c : Turning answers w new) → handle_of answers name ≡ None
+    (r : Reply) (w new : WorldState) → (c : Around answers w new) → handle_of answers name ≡ None
     → (r ≡ answer.Unmade) × (new ≡ w)
     → Goes answers (answer_to l (Write name at bytes) r) w new c.then.shown
 unmade_write answers l name at bytes r w new c none is =
@@ -99,155 +95,94 @@ unmade_write answers l name at bytes r w new c none is =
     (unmade_goes answers l (Write name at bytes) w new c is.1 none refl tt)
 
 pub unmade_free : (answers : List Answer) (l : Line) (name : List ℕ) (r : Reply) (w new : WorldState)
-    → (c : Turning answers w new) → handle_of answers name ≡ None → (r ≡ answer.Unmade) × (new ≡ w)
+    → (c : Around answers w new) → handle_of answers name ≡ None → (r ≡ answer.Unmade) × (new ≡ w)
     → Goes answers (answer_to l (Free name) r) w new c.then.shown
 unmade_free answers l name r w new c none is =
     subst (λ (q : Reply). Goes answers (answer_to l (Free name) q) w new c.then.shown) (sym is.0)
     (unmade_goes answers l (Free name) w new c is.1 none refl tt)
 
--- ---- crashes and joins
+-- ---- turns about no object
 
--- the map is beside the far state that a crash leaves
-beside_crash : (answers : List Answer) (w new : WorldState) (node : NodeId) (q : Reply)
-    → (c : Turning answers w new) → node.n < w.desk.settings.nodes → new.desk ≡ w.desk
-    → CrashTurn node (counted w.far (job.Crash node)) q new.far
-    → IsMapBeside (calls_of answers) c.then.shown new.far
-beside_crash answers w new node q c below same turn = at turn
-  where
-    far : FarState
-    far = counted w.far (job.Crash node)
+-- a turn that leaves the map beside the world, and tells nothing of it
+quiet_goes : (answers : List Answer) (a : Answer) (w new : WorldState) (j : Job) (r : Reply)
+    → (c : Turning answers w new) → TurnStep j w r new → IsMapBeside (calls_of answers) c.then.shown new.far
+    → handle_for answers a.request a.reply ≡ None → event_of a.request a.reply ≡ Refused Nothing
+    → HasLineReply a → Goes answers a w new c.then.shown
+quiet_goes answers a w new j r c step map about event reply =
+    goes_by answers a w new j r c step
+    (silent_follows w.desk.settings.handles (calls_of answers) (called answers a) c.then.shown w.far new.far
+    map about (ap made_by event)
+    (subst (MapReplies w.far.first w.desk.settings.handles (makes (calls_of answers)) None None) (sym event)
+    tt)) reply
 
-    known : IsKnown w.desk far c.before.shown
-    known = known_counted w (job.Crash node) c.before.shown c.before.known
+-- the map stays beside a world that has the same
+beside_same : (answers : List Answer) (s t : Shown) (far new : FarState) → IsMapBeside (calls_of answers) s far
+    → IsSameMap s t far new → IsMapBeside (calls_of answers) t new
+beside_same answers s t far new map same = beside_kept (calls_of answers) s t far new map same.made same.now
 
-    then : IsKnown w.desk new.far c.then.shown
-    then = subst (λ (x : Words). IsKnown x new.far c.then.shown) same c.then.known
+-- of an object that was held the version alone is known once it is gone
+lost_value : (m : MapNow) (v : ℕ) (bytes : List ℕ) → IsValue m (held v bytes) → IsValue m (gone v)
+lost_value None v bytes i = absurd i
+lost_value (Some (Freed u)) v bytes i = absurd i
+lost_value (Some (Held u b)) v bytes i = i.0
 
-    start : IsMapBeside (calls_of answers) c.before.shown far
-    start = beside_counted answers w new (job.Crash node) c
+-- and it stays beside one in which some objects are gone
+beside_gone : (answers : List Answer) (s t : Shown) (far new : FarState) → IsMapBeside (calls_of answers) s far
+    → IsMapLost s t far new → IsMapBeside (calls_of answers) t new
+beside_gone answers s t far new map lost = record {
+  made = map.made ∙ sym lost.made;
+  values = λ k. elim (lost.now k) [
+    | inl same ↦ subst (IsValue (value (calls_of answers) k)) (sym same) (map.values k)
+    | inr (v, bytes, before, after) ↦ subst (IsValue (value (calls_of answers) k)) (sym after)
+        (lost_value (value (calls_of answers) k) v bytes
+        (subst (IsValue (value (calls_of answers) k)) before (map.values k)))
+  ];
+}
 
-    at : CrashTurn node far q new.far → IsMapBeside (calls_of answers) c.then.shown new.far
-    at (is_down down is state) = beside_kept (calls_of answers) c.before.shown c.then.shown far new.far
-        start (ap (λ (f : FarState). f.made) state)
-        (λ k. ap (λ (f : FarState). now c.then.shown f k) state
-        ∙ now_same w.desk c.before.shown c.then.shown far k known.shows known.sound then.shows
-        (subst (λ (f : FarState). Sound c.then.shown f) state then.sound))
-    at (crashed up is state) =
-        let within = member w node c.before below in
-        let sound = node_crash_sound c.before.shown far node known.sound within up in
-        beside_kept (calls_of answers) c.before.shown c.then.shown (crashed_far far node) new.far
-        (beside_lost (calls_of answers) c.before.shown far (crashed_far far node) start refl
-        (λ k. crash_now c.before.shown far node k known.sound.away.sound within up))
-        (ap (λ (f : FarState). f.made) state)
-        (λ k. ap (λ (f : FarState). now c.then.shown f k) state
-        ∙ now_same w.desk c.before.shown c.then.shown (crashed_far far node) k known.shows sound then.shows
-        (subst (λ (f : FarState). Sound c.then.shown f) state then.sound))
+-- these lines tell nothing of an object
+evict_event : (r : Reply) → IsReplyOf Evict r → event_of Evict r ≡ Refused Nothing
+evict_event (answer.Set set) line = refl
+evict_event (answer.NoSpans loose) line = refl
+evict_event (answer.NoNodes nodes) line = refl
+evict_event answer.Worn line = refl
+evict_event r line = absurd line
 
-crash_keeps : (far new : FarState) (node : NodeId) (q : Reply) → CrashTurn node far q new → Keeps far new
-crash_keeps far new node q (crashed up is state) = subst (λ (f : FarState). Keeps far f) (sym state)
-    (record { first = refl; sets = refl; leaving = refl; counts = refl })
-crash_keeps far new node q (is_down down is state) = keeps_is far new state
+crash_event : (node : NodeId) (r : Reply) → IsReplyOf (Crash node) r
+    → event_of (Crash node) r ≡ Refused Nothing
+crash_event node (answer.EpochAt epoch) line = refl
+crash_event node (answer.Down at) line = refl
+crash_event node answer.Worn line = refl
+crash_event node r line = absurd line
 
--- what a crash is answered
-crash_reply : (far to : FarState) (new : WorldState) (node : NodeId) (q : Reply) (C : Reply → Type 0)
-    → CrashTurn node far q to → ((epoch : Epoch) → C (answer.EpochAt epoch)) → C (answer.Down node)
-    → C (final_reply new q)
-crash_reply far to new node q C (crashed up is state) there down =
-    subst C (sym (ap (final_reply new) is)) (there _)
-crash_reply far to new node q C (is_down off is state) there down =
-    subst C (sym (ap (final_reply new) is)) down
+join_event : (node : NodeId) (r : Reply) → IsReplyOf (Join node) r
+    → event_of (Join node) r ≡ Refused Nothing
+join_event node (answer.EpochAt epoch) line = refl
+join_event node (answer.Up at) line = refl
+join_event node answer.Worn line = refl
+join_event node r line = absurd line
+
+pub evict_goes : (answers : List Answer) (l : Line) (r : Reply) (w new : WorldState)
+    → (c : Turning answers w new) → TurnStep job.Evict w r new
+    → Goes answers (answer_to l Evict r) w new c.then.shown
+evict_goes answers l r w new c step =
+    let z = evict_turn w new r c.before c.then c.few step in
+    quiet_goes answers (answer_to l Evict r) w new job.Evict r c step
+    (beside_same answers c.before.shown c.then.shown w.far new.far c.beside z.0) refl (evict_event r z.1) z.1
 
 pub crash_goes : (answers : List Answer) (l : Line) (node : NodeId) (r : Reply) (w new : WorldState)
     → (c : Turning answers w new) → node.n < w.desk.settings.nodes
     → TurnStep (job.Crash node) w r new → Goes answers (answer_to l (Crash node) r) w new c.then.shown
 crash_goes answers l node r w new c below step =
-    let x = worked (job.Crash node) w new r c.few step in
-    subst (λ (q : Reply). Goes answers (answer_to l (Crash node) q) w new c.then.shown) (sym x.is)
-    (crash_reply (counted w.far (job.Crash node)) new.far new node x.reply
-    (λ (q : Reply). Goes answers (answer_to l (Crash node) q) w new c.then.shown) x.works.1
-    (λ epoch. goes (answer.EpochAt epoch) refl tt tt x.reply x.works) (goes (answer.Down node) refl tt tt x.reply x.works))
-  where
-    goes : (q : Reply) → made_by (event_of (Crash node) q) ≡ 0
-        → MapReplies w.far.first w.desk.settings.handles (makes (calls_of answers)) None None
-        (event_of (Crash node) q)
-        → IsReplyOf (Crash node) q
-        → (p : Reply) → (new.desk ≡ w.desk) × CrashTurn node (counted w.far (job.Crash node)) p new.far
-        → Goes answers (answer_to l (Crash node) q) w new c.then.shown
-    goes q none reply line p works =
-        goes_by answers (answer_to l (Crash node) q) w new (job.Crash node) c
-        (crash_keeps (counted w.far (job.Crash node)) new.far node p works.1)
-        (silent_follows w.desk.settings.handles (calls_of answers)
-        (called answers (answer_to l (Crash node) q)) c.then.shown (counted w.far (job.Crash node)) new.far
-        (beside_crash answers w new node p c below works.0 works.1) refl none reply) line
-
--- the map is beside the far state that a join leaves
-beside_join : (answers : List Answer) (w new : WorldState) (node : NodeId) (q : Reply)
-    → (c : Turning answers w new) → node.n < w.desk.settings.nodes → new.desk ≡ w.desk
-    → JoinTurn node (counted w.far (job.Join node)) q new.far
-    → IsMapBeside (calls_of answers) c.then.shown new.far
-beside_join answers w new node q c below same turn = at turn
-  where
-    far : FarState
-    far = counted w.far (job.Join node)
-
-    known : IsKnown w.desk far c.before.shown
-    known = known_counted w (job.Join node) c.before.shown c.before.known
-
-    then : IsKnown w.desk new.far c.then.shown
-    then = subst (λ (x : Words). IsKnown x new.far c.then.shown) same c.then.known
-
-    start : IsMapBeside (calls_of answers) c.before.shown far
-    start = beside_counted answers w new (job.Join node) c
-
-    at : JoinTurn node far q new.far → IsMapBeside (calls_of answers) c.then.shown new.far
-    at (is_up up is state) = beside_kept (calls_of answers) c.before.shown c.then.shown far new.far
-        start (ap (λ (f : FarState). f.made) state)
-        (λ k. ap (λ (f : FarState). now c.then.shown f k) state
-        ∙ now_same w.desk c.before.shown c.then.shown far k known.shows known.sound then.shows
-        (subst (λ (f : FarState). Sound c.then.shown f) state then.sound))
-    at (joined down is state) =
-        let within = member w node c.before below in
-        let sound = node_join_sound c.before.shown far node known.sound within down in
-        beside_kept (calls_of answers) c.before.shown c.then.shown (joined_far far node) new.far
-        (beside_kept (calls_of answers) c.before.shown c.before.shown far (joined_far far node) start refl
-        (λ k. node_join_now c.before.shown far node k within))
-        (ap (λ (f : FarState). f.made) state)
-        (λ k. ap (λ (f : FarState). now c.then.shown f k) state
-        ∙ now_same w.desk c.before.shown c.then.shown (joined_far far node) k known.shows sound then.shows
-        (subst (λ (f : FarState). Sound c.then.shown f) state then.sound))
-
-join_keeps : (far new : FarState) (node : NodeId) (q : Reply) → JoinTurn node far q new → Keeps far new
-join_keeps far new node q (joined down is state) = subst (λ (f : FarState). Keeps far f) (sym state)
-    (record { first = refl; sets = refl; leaving = refl; counts = refl })
-join_keeps far new node q (is_up up is state) = keeps_is far new state
-
-join_reply : (far to : FarState) (new : WorldState) (node : NodeId) (q : Reply) (C : Reply → Type 0)
-    → JoinTurn node far q to → ((epoch : Epoch) → C (answer.EpochAt epoch)) → C (answer.Up node)
-    → C (final_reply new q)
-join_reply far to new node q C (joined down is state) there up =
-    subst C (sym (ap (final_reply new) is)) (there _)
-join_reply far to new node q C (is_up on is state) there up =
-    subst C (sym (ap (final_reply new) is)) up
+    let z = crash_turn w new node r c.before c.then c.few below step in
+    quiet_goes answers (answer_to l (Crash node) r) w new (job.Crash node) r c step
+    (beside_gone answers c.before.shown c.then.shown w.far new.far c.beside z.0) refl
+    (crash_event node r z.1) z.1
 
 pub join_goes : (answers : List Answer) (l : Line) (node : NodeId) (r : Reply) (w new : WorldState)
     → (c : Turning answers w new) → node.n < w.desk.settings.nodes
     → TurnStep (job.Join node) w r new → Goes answers (answer_to l (Join node) r) w new c.then.shown
 join_goes answers l node r w new c below step =
-    let x = worked (job.Join node) w new r c.few step in
-    subst (λ (q : Reply). Goes answers (answer_to l (Join node) q) w new c.then.shown) (sym x.is)
-    (join_reply (counted w.far (job.Join node)) new.far new node x.reply
-    (λ (q : Reply). Goes answers (answer_to l (Join node) q) w new c.then.shown) x.works.1
-    (λ epoch. goes (answer.EpochAt epoch) refl tt tt x.reply x.works) (goes (answer.Up node) refl tt tt x.reply x.works))
-  where
-    goes : (q : Reply) → made_by (event_of (Join node) q) ≡ 0
-        → MapReplies w.far.first w.desk.settings.handles (makes (calls_of answers)) None None
-        (event_of (Join node) q)
-        → IsReplyOf (Join node) q
-        → (p : Reply) → (new.desk ≡ w.desk) × JoinTurn node (counted w.far (job.Join node)) p new.far
-        → Goes answers (answer_to l (Join node) q) w new c.then.shown
-    goes q none reply line p works =
-        goes_by answers (answer_to l (Join node) q) w new (job.Join node) c
-        (join_keeps (counted w.far (job.Join node)) new.far node p works.1)
-        (silent_follows w.desk.settings.handles (calls_of answers)
-        (called answers (answer_to l (Join node) q)) c.then.shown (counted w.far (job.Join node)) new.far
-        (beside_join answers w new node p c below works.0 works.1) refl none reply) line
+    let z = join_turn w new node r c.before c.then c.few below step in
+    quiet_goes answers (answer_to l (Join node) r) w new (job.Join node) r c step
+    (beside_same answers c.before.shown c.then.shown w.far new.far c.beside z.0) refl
+    (join_event node r z.1) z.1

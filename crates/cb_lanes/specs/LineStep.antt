@@ -5,7 +5,7 @@ use Rattle.cb_types.specs.declared.answer.Answer.{Answer}
 use Rattle.cb_types.specs.declared.job.Job.{Job}
 use Rattle.cb_types.specs.declared.job.Job.TheVariants as job
 use Rattle.cb_types.specs.declared.request.Request.{Request}
-use Rattle.cb_types.specs.declared.request.Request.TheVariants.{Make, Read, Write, Free, Pin, Peek, Unpin, Crash, Join, Leave}
+use Rattle.cb_types.specs.declared.request.Request.TheVariants.{Make, Read, Write, Free, Pin, Peek, Unpin, Evict, Crash, Join, Leave}
 use Rattle.cb_types.specs.declared.reply.Reply.{Reply}
 use Rattle.cb_types.specs.declared.reply.Reply.TheVariants as answer
 use Rattle.cb_types.specs.Requests.{name_of}
@@ -42,10 +42,33 @@ pub data PeekStep (seat h : ℕ) (w : WorldState) (r : Reply) (new : WorldState)
       (bytes_in (contents_at w.desk h) (len_of (word_at w.desk h)))
       → new ≡ w → PeekStep seat h w r new
 
--- a line on the object of this handle: a pin and its end are one step each, a peek is no event, and
--- every other is a turn
+-- an object that was to be swapped in is in local memory
+abbrev pub IsInReply : Reply → Type 0
+IsInReply answer.Stays = Unit {0}
+IsInReply (answer.Swapped frame) = Unit {0}
+IsInReply r = ⊥
+
+-- one step that pins an object
+abbrev pub PinEvent : ℕ → ℕ → WorldState → Reply → WorldState → Type 0
+PinEvent seat h w r new = Step w (event.Step seat (atomic.Pin (record { n = h }))) r new
+
+-- a turn that swaps an object in
+abbrev pub SwapEvent : ℕ → ℕ → WorldState → Reply → WorldState → Type 0
+SwapEvent seat h w r new = Step w (Turn seat (job.Swap (record { n = h }))) r new
+
+-- A pin. An object that is not here is swapped in by a turn, and pinned then; where it can't be swapped
+-- in, the line is answered so.
+pub data PinLine (seat h : ℕ) (w : WorldState) (r : Reply) (new : WorldState) : Type 0 where
+  at_once : PinEvent seat h w r new → (r ≡ answer.NotHere → ⊥) → PinLine seat h w r new
+  stays_far : (m : WorldState) → PinEvent seat h w answer.NotHere m → SwapEvent seat h m r new
+      → (IsInReply r → ⊥) → PinLine seat h w r new
+  swapped_in : (m n : WorldState) (q : Reply) → PinEvent seat h w answer.NotHere m
+      → SwapEvent seat h m q n → IsInReply q → PinEvent seat h n r new → PinLine seat h w r new
+
+-- a line on the object of this handle: the end of a pin is one step, a peek is no event, and every other
+-- but a pin is a turn
 abbrev pub CallStep : ℕ → ℕ → Request → WorldState → Reply → WorldState → Type 0
-CallStep seat h (Pin name) w r new = Step w (event.Step seat (atomic.Pin (record { n = h }))) r new
+CallStep seat h (Pin name) w r new = PinLine seat h w r new
 CallStep seat h (Peek name) w r new = PeekStep seat h w r new
 CallStep seat h (Unpin name) w r new = Step w (event.Step seat (atomic.Unpin (record { n = h }))) r new
 CallStep seat h request w r new = TurnStep seat (job_on h request) w r new
@@ -60,6 +83,7 @@ ObjectStep seat (Some h) request w r new = CallStep seat h request w r new
 -- to another. A lane that leaves gives all its pins back, and is told how many.
 abbrev pub LineStep : ℕ → Option ℕ → Request → WorldState → Reply → WorldState → Type 0
 LineStep seat handle (Make name bytes) w r new = Step w (Turn seat (job.Make bytes)) r new
+LineStep seat handle Evict w r new = Step w (Turn seat job.Evict) r new
 LineStep seat handle (Crash node) w r new = Step w (Turn seat (job.Crash node)) r new
 LineStep seat handle (Join node) w r new = Step w (Turn seat (job.Join node)) r new
 LineStep seat handle Leave w r new =

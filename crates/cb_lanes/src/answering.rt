@@ -1,4 +1,4 @@
-ghost use Rattle.std.specs.Prelude.{◌≡◌, ◌<◌, ◌≤◌, ℕ, List, Some, IfOk, length};
+ghost use Rattle.std.specs.Prelude.{◌≡◌, ◌↔◌, IsTrue, ◌<◌, ◌≤◌, ℕ, List, Some, IfOk, length};
 ghost use Rattle.std.specs.Option.{option_map};
 ghost use Rattle.cb_script.specs.Unbuilt.{IsBuilt};
 ghost use Rattle.cb_script.specs.Form.{IsRequest};
@@ -6,7 +6,7 @@ ghost use Rattle.cb_world.specs.World.{IsSoundWorld};
 ghost use Rattle.cb_core.specs.Jobs.{IsJob};
 ghost use Rattle.cb_core.specs.Events.{handle_of};
 ghost use Rattle.cb_core.specs.Step.{AtomicStep, Step};
-ghost use Rattle.cb_lanes.specs.LineStep.{LineStep, ObjectStep, PeekStep};
+ghost use Rattle.cb_lanes.specs.LineStep.{IsInReply, LineStep, ObjectStep, PeekStep, PinLine};
 ghost use Rattle.cb_lanes.specs.Names.{AreKept, AreReady, IsOnObject, handle_in};
 
 use crate::resting::give_back;
@@ -37,6 +37,7 @@ pub(crate) fn reply_to<'a>(
 {
     match request {
         Request::Make { name, bytes } => make_named(alloc, world, names, seat, name, bytes),
+        Request::Evict => turn_of(alloc, world, seat, Job::Evict),
         Request::Crash { node } => turn_of(alloc, world, seat, Job::Crash { node: *node }),
         Request::Join { node } => turn_of(alloc, world, seat, Job::Join { node: *node }),
         Request::Leave => Ok(Reply::Left {
@@ -113,7 +114,7 @@ fn call_object(
     ensures sound { IsSoundWorld world.new }
 {
     match request {
-        Request::Pin { .. } => step_of(alloc, world, seat, Atomic::Pin { handle }),
+        Request::Pin { .. } => pin(alloc, world, seat, handle),
         Request::Unpin { .. } => step_of(alloc, world, seat, Atomic::Unpin { handle }),
         Request::Peek { .. } => peek(alloc, world, seat, handle),
         Request::Write { at, bytes, .. } => {
@@ -138,6 +139,36 @@ fn step_of(alloc: Global, world: &mut World, seat: u32, atomic: Atomic) -> Resul
     ensures sound { IsSoundWorld world.new }
 {
     step(alloc, world, &Event::Step { seat, atomic })
+}
+
+/// Pins an object. One that is not in local memory is swapped in by a turn before, and where it can't be,
+/// the pin is answered as the swap was.
+fn pin(alloc: Global, world: &mut World, seat: u32, handle: Handle) -> Result<Reply, NoMemory>
+    requires seat { seat < 64 }
+    requires within { handle.n < world.old.desk.settings.handles }
+    requires sound { IsSoundWorld world.old }
+    ensures pin { IfOk result (λ reply. PinLine seat handle.n world.old reply world.new) }
+    ensures sound { IsSoundWorld world.new }
+{
+    let pin = Atomic::Pin { handle };
+    match step_of(alloc, world, seat, pin)? {
+        Reply::NotHere => {
+            let reply = turn_of(alloc, world, seat, Job::Swap { handle })?;
+            if is_in(&reply) {
+                step_of(alloc, world, seat, pin)
+            } else {
+                Ok(reply)
+            }
+        }
+        reply => Ok(reply),
+    }
+}
+
+/// Whether a swap's reply says that the object is in local memory.
+fn is_in(reply: &Reply) -> bool
+    ensures { IsTrue result ↔ IsInReply reply.now }
+{
+    matches!(reply, Reply::Stays | Reply::Swapped { .. })
 }
 
 /// Shows an object on which the seat has a pin: it stays as it is, so it is read as it stands, and the

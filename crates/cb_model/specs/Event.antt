@@ -59,6 +59,8 @@ event_of (Make name bytes) (reply.Full handles) = FindsFull handles
 event_of (Read name) (reply.Bytes version bytes) = Shows version bytes
 event_of (Peek name) (reply.Bytes version bytes) = Shows version bytes
 event_of (Pin name) (reply.Version version) = Pins version
+-- that a lane's scope is full says nothing of the object, which may be freed
+event_of (Pin name) reply.ScopeFull = Refused Other
 event_of (Write name at bytes) (reply.Version version) = Writes at bytes version
 event_of (Write name at bytes) (reply.Range len) = FindsEnd at bytes len
 event_of (Free name) (reply.Version version) = Frees version

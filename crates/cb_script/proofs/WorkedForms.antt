@@ -168,5 +168,5 @@ too_long bytes s long spells = omega (arith, long, spells.short)
 
 -- ---- lines that are not built
 
-first_unbuilt_line : IsFirstUnbuilt (two_makes ++ worked_lane 1 Evict 4 ∷ worked_lane 1 Leave 5 ∷ []) 4
-first_unbuilt_line = record { before = two_makes; here = worked_lane 1 Evict 4; after = worked_lane 1 Leave 5 ∷ []; are = refl; built = (tt, (tt, tt)); unbuilt = λ is. is; number_is = refl }
+first_unbuilt_line : IsFirstUnbuilt (two_makes ++ worked_lane 1 Begin 4 ∷ worked_lane 1 Leave 5 ∷ []) 4
+first_unbuilt_line = record { before = two_makes; here = worked_lane 1 Begin 4; after = worked_lane 1 Leave 5 ∷ []; are = refl; built = (tt, (tt, tt)); unbuilt = λ is. is; number_is = refl }

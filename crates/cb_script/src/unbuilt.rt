@@ -33,6 +33,7 @@ fn is_built(request: &Request) -> bool
             | Request::Pin { .. }
             | Request::Peek { .. }
             | Request::Unpin { .. }
+            | Request::Evict
             | Request::Crash { .. }
             | Request::Join { .. }
             | Request::Leave

@@ -1,0 +1,241 @@
+-- Each turn is a call of the plain map, or leaves it as it is.
+use Rattle.std.proofs.Common.{◌≡◌, ◌≢◌, ◌⊎◌, ℕ, true, ◌+◌, ◌^◌, ◌<◌, List, [], length, Some, refl, sym, ap, ◌∙◌, subst, inl, inr, arith}
+use Rattle.cb_member.specs.declared.names.Loss.{Loss}
+use Rattle.cb_member.specs.declared.names.NodeId.{NodeId}
+use Rattle.cb_types.specs.declared.handle.SetId.{SetId}
+use Rattle.cb_types.specs.declared.job.Job.{Job}
+use Rattle.cb_types.specs.declared.job.Job.TheVariants as job
+use Rattle.cb_types.specs.declared.request.Request.{Request}
+use Rattle.cb_types.specs.declared.request.Request.TheVariants.{Make, Read, Write, Free, Evict, Crash, Join}
+use Rattle.cb_types.specs.declared.reply.Reply.{Reply}
+use Rattle.cb_types.specs.declared.reply.Reply.TheVariants as answer
+use Rattle.cb_types.specs.Table.{IsReplyOf}
+use Rattle.cb_world.specs.declared.shown.Shown.{Shown}
+use Rattle.cb_world.specs.FarState.{FarState}
+use Rattle.cb_world.specs.Now.{is_gone}
+use Rattle.cb_world.specs.Plain.{Words}
+use Rattle.cb_world.specs.StillWords.{stamp_at}
+use Rattle.cb_world.specs.World.{WorldState, IsKnown, IsSoundWorld, word_at}
+use Rattle.cb_mutate.specs.MapCalls.{IsCallOn, IsMakeCall}
+use Rattle.cb_mutate.proofs.FreeCall.{free_call}
+use Rattle.cb_core.specs.Parts.{Holding, NeverDeclined}
+use Rattle.cb_core.specs.Room.{final_reply}
+use Rattle.cb_core.specs.Step.{StillRead, StillWrite, StillDecline, StillWorks, TurnStep, worn, done}
+use Rattle.cb_core.specs.Turned.{counted}
+use Rattle.cb_core.proofs.TurnCallsKept.{HasKept, once_known, kept_evict}
+use Rattle.cb_core.proofs.TurnCallsFar.{IsLostFar}
+use Rattle.cb_core.proofs.TurnCallsFirst.{works_turn}
+use Rattle.cb_core.proofs.TurnCallsLost.{final_lost, where_lost, where_gone}
+use Rattle.cb_core.proofs.TurnCallsMake.{IsMadeAs, make_answered, evict_line}
+use Rattle.cb_core.proofs.TurnCallsMap.{IsSameMap, map_stays, map_then, counted_map, call_carried, make_carried}
+use Rattle.cb_core.proofs.TurnCallsNodes.{IsMapLost, crash_map, join_map, crash_line, join_line}
+use Rattle.cb_core.proofs.TurnCallsParts.{read_part, write_part, read_refusable, write_refusable}
+use Rattle.cb_core.proofs.TurnCallsReply.{own_final, free_line}
+use Rattle.cb_core.proofs.TurnCallsSwap.{IsSwapAs, swap_answered, swap_lost, swap_gone}
+use Rattle.cb_core.proofs.TurnCallsWhere.{IsAnswered, where_answered, kept_map, within}
+
+-- what is held once the turn is counted, and after it
+abbrev pub held_at : WorldState → Job → Holding Words
+held_at w j = record { desk = w.desk; far = counted w.far j }
+
+abbrev pub held_then : WorldState → Holding Words
+held_then new = record { desk = new.desk; far = new.far }
+
+-- a turn that was made: its parts, and their reply
+pub record IsDone (j : Job) (w : WorldState) (r : Reply) (new : WorldState) : Type 0 where
+  pub reply : Reply
+  pub works : StillWorks j (held_at w j) reply (held_then new)
+  pub is : r ≡ final_reply new reply
+
+pub is_done : (j : Job) (w new : WorldState) (r : Reply) → w.far.counts.turns < 2 ^ 40
+    → TurnStep j w r new → IsDone j w r new
+is_done j w new r few (worn end is same) = absurd (omega (arith, few, end))
+is_done j w new r few (done q more works is seats) = record { reply = q; works = works; is = is }
+
+-- what is known once the turn is counted
+pub known_at : (w : WorldState) (j : Job) → (before : IsSoundWorld w)
+    → IsKnown w.desk (counted w.far j) before.shown
+known_at w j before = once_known w j before.shown before.known
+
+-- the map before is that of the counted far state
+pub answered_at : (handles : ℕ) (w : WorldState) (j : Job) (s t : Shown) (new : FarState) (h : ℕ)
+    (q : Request) (r : Reply) → IsAnswered handles s t (counted w.far j) new h q r
+    → IsAnswered handles s t w.far new h q r
+answered_at handles w j s t new h q r z = record {
+  call = call_carried handles s s t t w.far (counted w.far j) new new q r (counted_map s w.far j)
+      (map_stays t new) h z.call;
+  line = z.line;
+}
+
+-- ---- calls on objects
+-- A read, wherever the object is.
+pub read_turn : (w new : WorldState) (h : ℕ) (name : List ℕ) (r : Reply) → (before : IsSoundWorld w)
+    → (after : IsSoundWorld new) → w.far.counts.turns < 2 ^ 40 → h < w.desk.settings.handles
+    → TurnStep (job.Read (record { n = h })) w r new
+    → IsAnswered w.desk.settings.handles before.shown after.shown w.far new.far h (Read name) r
+read_turn w new h name r before after few below step =
+    let j = job.Read (record { n = h }) in
+    let d = is_done j w new r few step in
+    subst (IsAnswered w.desk.settings.handles before.shown after.shown w.far new.far h (Read name))
+    (sym d.is) (answered_at w.desk.settings.handles w j before.shown after.shown new.far h (Read name)
+    (final_reply new d.reply)
+    (where_answered (StillRead h) NeverDeclined h (Read name) (read_part h name) (held_at w j)
+    (held_then new) before.shown after.shown d.reply new (read_refusable name) (known_at w j before)
+    after.known below d.works))
+
+-- A write, wherever the object is.
+pub write_turn : (w new : WorldState) (h at : ℕ) (bytes name : List ℕ) (r : Reply)
+    → (before : IsSoundWorld w) → (after : IsSoundWorld new) → w.far.counts.turns < 2 ^ 40
+    → h < w.desk.settings.handles → TurnStep (job.Write (record { n = h }) at bytes) w r new
+    → IsAnswered w.desk.settings.handles before.shown after.shown w.far new.far h (Write name at bytes) r
+write_turn w new h at bytes name r before after few below step =
+    let j = job.Write (record { n = h }) at bytes in
+    let d = is_done j w new r few step in
+    subst (IsAnswered w.desk.settings.handles before.shown after.shown w.far new.far h
+    (Write name at bytes)) (sym d.is)
+    (answered_at w.desk.settings.handles w j before.shown after.shown new.far h (Write name at bytes)
+    (final_reply new d.reply)
+    (where_answered (StillWrite h at bytes) (StillDecline h at (length bytes)) h (Write name at bytes)
+    (write_part h at bytes name) (held_at w j) (held_then new) before.shown after.shown d.reply new
+    (write_refusable name at bytes) (known_at w j before) after.known below d.works))
+
+-- A free: a far object is freed where it is.
+pub free_turn : (w new : WorldState) (h : ℕ) (name : List ℕ) (r : Reply) → (before : IsSoundWorld w)
+    → (after : IsSoundWorld new) → w.far.counts.turns < 2 ^ 40 → h < w.desk.settings.handles
+    → TurnStep (job.Free (record { n = h })) w r new
+    → IsAnswered w.desk.settings.handles before.shown after.shown w.far new.far h (Free name) r
+free_turn w new h name r before after few below step =
+    let j = job.Free (record { n = h }) in
+    let d = is_done j w new r few step in
+    let line = free_line (word_at w.desk h) (stamp_at w.desk h) name d.reply d.works.reply in
+    let own = d.is ∙ own_final (Free name) new d.reply line (λ e. e) in
+    subst (IsAnswered w.desk.settings.handles before.shown after.shown w.far new.far h (Free name))
+    (sym own) (answered_at w.desk.settings.handles w j before.shown after.shown new.far h (Free name)
+    d.reply (record {
+      call = free_call w.desk new.desk (counted w.far j) new.far before.shown after.shown h
+          w.desk.settings.handles name d.reply
+          (record { before = known_at w j before; afterwards = after.known })
+          (within (held_at w j) before.shown h (known_at w j before) below) d.works;
+      line = line;
+    }))
+
+-- A make, for which room is won.
+pub make_turn : (w new : WorldState) (bytes name : List ℕ) (r : Reply) → (before : IsSoundWorld w)
+    → (after : IsSoundWorld new) → w.far.counts.turns < 2 ^ 40 → TurnStep (job.Make bytes) w r new
+    → IsMadeAs w.desk.settings.handles before.shown after.shown w.far new.far (Make name bytes) r
+make_turn w new bytes name r before after few step =
+    let j = job.Make bytes in
+    let d = is_done j w new r few step in
+    let z = make_answered (held_at w j) (held_then new) before.shown after.shown bytes name d.reply new
+    (known_at w j before) after.known d.works in
+    subst (IsMadeAs w.desk.settings.handles before.shown after.shown w.far new.far (Make name bytes))
+    (sym d.is) (record {
+      call = make_carried w.desk.settings.handles before.shown before.shown after.shown after.shown w.far
+          (counted w.far j) new.far new.far (Make name bytes) (final_reply new d.reply)
+          (counted_map before.shown w.far j) (map_stays after.shown new.far) z.call;
+      line = z.line;
+    })
+
+-- ---- turns that are no calls
+-- An eviction leaves the map as it is.
+pub evict_turn : (w new : WorldState) (r : Reply) → (before : IsSoundWorld w)
+    → (after : IsSoundWorld new) → w.far.counts.turns < 2 ^ 40 → TurnStep job.Evict w r new
+    → IsSameMap before.shown after.shown w.far new.far × IsReplyOf Evict r
+evict_turn w new r before after few step =
+    let j = job.Evict in
+    let d = is_done j w new r few step in
+    let kept = kept_evict (held_at w j) (held_then new) d.reply before.shown (known_at w j before)
+    d.works in
+    let line = evict_line w.desk new.desk (counted w.far j) new.far d.reply d.works.0 in (
+      map_then before.shown before.shown after.shown w.far (counted w.far j) new.far
+          (counted_map before.shown w.far j)
+          (kept_map (held_at w j) (held_then new) before.shown after.shown kept after.known),
+      subst (IsReplyOf Evict) (sym (d.is ∙ own_final Evict new d.reply line (λ e. e))) line,
+    )
+
+-- A swap leaves the map as it is, and answers as a pin of the object may be refused, or that the object
+-- is here.
+pub swap_turn : (w new : WorldState) (h : ℕ) (r : Reply) → (before : IsSoundWorld w)
+    → (after : IsSoundWorld new) → w.far.counts.turns < 2 ^ 40 → h < w.desk.settings.handles
+    → TurnStep (job.Swap (record { n = h })) w r new
+    → IsSwapAs w.desk.settings.handles new.desk before.shown after.shown w.far new.far h r
+swap_turn w new h r before after few below step =
+    let j = job.Swap (record { n = h }) in
+    let d = is_done j w new r few step in
+    let z = swap_answered (held_at w j) (held_then new) before.shown after.shown h d.reply new
+    (known_at w j before) after.known below d.works in
+    subst (IsSwapAs w.desk.settings.handles new.desk before.shown after.shown w.far new.far h) (sym d.is)
+    (record {
+      same = map_then before.shown before.shown after.shown w.far (counted w.far j) new.far
+          (counted_map before.shown w.far j) z.same;
+      ends = z.ends;
+      call = λ name. call_carried w.desk.settings.handles before.shown before.shown after.shown
+          after.shown w.far (counted w.far j) new.far new.far _ (final_reply new d.reply)
+          (counted_map before.shown w.far j) (map_stays after.shown new.far) h (z.call name);
+    })
+
+member : (w : WorldState) (node : NodeId) → IsSoundWorld w → node.n < w.desk.settings.nodes
+    → node.n < length w.far.members.nodes
+member w node sound below =
+    let rows = sound.known.sound.away.sound.rows.counted in
+    let nodes = sound.configured.nodes in
+    omega (arith, below, rows, nodes)
+
+-- A crash: each object holds what it held, or is gone.
+pub crash_turn : (w new : WorldState) (node : NodeId) (r : Reply) → (before : IsSoundWorld w)
+    → (after : IsSoundWorld new) → w.far.counts.turns < 2 ^ 40 → node.n < w.desk.settings.nodes
+    → TurnStep (job.Crash node) w r new
+    → IsMapLost before.shown after.shown w.far new.far × IsReplyOf (Crash node) r
+crash_turn w new node r before after few below step =
+    let j = job.Crash node in
+    let d = is_done j w new r few step in
+    let lost = crash_map w.desk before.shown after.shown (counted w.far j) new.far node d.reply
+    (known_at w j before)
+    (subst (λ (x : Words). IsKnown x new.far after.shown) d.works.0 after.known)
+    (member w node before below) d.works.1 in
+    let same = counted_map before.shown w.far j in (
+      record {
+        now = λ h. elim (lost.now h) [
+          | inl e ↦ inl (e ∙ same.now h)
+          | inr (v, bytes, held_before, gone_after) ↦
+              inr (v, bytes, sym (same.now h) ∙ held_before, gone_after)
+        ];
+        first = lost.first;
+        made = lost.made;
+      },
+      subst (IsReplyOf (Crash node)) (sym d.is)
+          (crash_line (counted w.far j) new.far new node d.reply d.works.1),
+    )
+
+-- A join leaves the map as it is.
+pub join_turn : (w new : WorldState) (node : NodeId) (r : Reply) → (before : IsSoundWorld w)
+    → (after : IsSoundWorld new) → w.far.counts.turns < 2 ^ 40 → node.n < w.desk.settings.nodes
+    → TurnStep (job.Join node) w r new
+    → IsSameMap before.shown after.shown w.far new.far × IsReplyOf (Join node) r
+join_turn w new node r before after few below step =
+    let j = job.Join node in
+    let d = is_done j w new r few step in (
+      map_then before.shown before.shown after.shown w.far (counted w.far j) new.far
+          (counted_map before.shown w.far j)
+          (join_map w.desk before.shown after.shown (counted w.far j) new.far node d.reply
+          (known_at w j before)
+          (subst (λ (x : Words). IsKnown x new.far after.shown) d.works.0 after.known)
+          (member w node before below) d.works.1),
+      subst (IsReplyOf (Join node)) (sym d.is)
+          (join_line (counted w.far j) new.far new node d.reply d.works.1),
+    )
+
+-- ---- every turn
+pub turn_first : (j : Job) (w new : WorldState) (r : Reply) → IsSoundWorld w
+    → w.far.counts.turns < 2 ^ 40 → TurnStep j w r new → new.far.first ≡ w.far.first
+turn_first j w new r before few step =
+    let d = is_done j w new r few step in
+    (works_turn j (held_at w j) (held_then new) before.shown d.reply (known_at w j before) d.works).first
+
+pub turn_turns : (j : Job) (w new : WorldState) (r : Reply) → IsSoundWorld w
+    → w.far.counts.turns < 2 ^ 40 → TurnStep j w r new
+    → new.far.counts.turns ≡ w.far.counts.turns + 1
+turn_turns j w new r before few step =
+    let d = is_done j w new r few step in
+    (works_turn j (held_at w j) (held_then new) before.shown d.reply (known_at w j before) d.works).turns
+

@@ -1,0 +1,122 @@
+-- What an eviction and a swap-in within a turn keep: what every object holds.
+use Rattle.std.proofs.Common.{◌≡◌, ℕ, refl, ap, ◌∙◌}
+use Rattle.cb_ptr.specs.Word.{pins_of}
+use Rattle.cb_types.specs.declared.job.Job.{Job}
+use Rattle.cb_types.specs.declared.reply.Reply.{Reply}
+use Rattle.cb_types.specs.declared.reply.Reply.TheVariants as answer
+use Rattle.cb_types.specs.Jobs.{job_index}
+use Rattle.cb_world.specs.declared.shown.Shown.{Shown}
+use Rattle.cb_world.specs.Counts.{with_turn}
+use Rattle.cb_world.specs.FarState.{FarState}
+use Rattle.cb_world.specs.Now.{now}
+use Rattle.cb_world.specs.Plain.{Words}
+use Rattle.cb_world.specs.World.{WorldState, IsKnown, word_at}
+use Rattle.cb_world.proofs.Alike.{recounted_sound}
+use Rattle.cb_world.proofs.NowSame.{now_same}
+use Rattle.cb_evict.proofs.AfterEvict.{evict_keeps, evict_pins, evict_settings}
+use Rattle.cb_swapin.proofs.SwapKeeps.{keeps_far, settings_stay}
+use Rattle.cb_swapin.proofs.SwapPins.{pins_stay}
+use Rattle.cb_core.specs.Parts.{Holding, at_once, no_room, won}
+use Rattle.cb_core.specs.Step.{StillEvict, StillSwap, StillBring}
+use Rattle.cb_core.specs.Turned.{counted}
+
+-- All is known after, each object holds what it held, with its pins, no object was made, and no turn
+-- was counted.
+pub record HasKept (a b : Holding Words) (s : Shown) : Type 0 where
+  pub shown : Shown
+  pub known : IsKnown b.desk b.far shown
+  pub same_now : (h : ℕ) → now shown b.far h ≡ now s a.far h
+  pub first : b.far.first ≡ a.far.first
+  pub made : b.far.made ≡ a.far.made
+  pub turns : b.far.counts.turns ≡ a.far.counts.turns
+  pub settings : b.desk.settings ≡ a.desk.settings
+  pub pins : (h : ℕ) → pins_of (word_at b.desk h) ≡ pins_of (word_at a.desk h)
+
+-- two holdings are the same where the desks and the far states are
+pub same_holding : (a b : Holding Words) → b.desk ≡ a.desk → b.far ≡ a.far → b ≡ a
+same_holding a b desk far = λ i. record { desk = desk i; far = far i }
+
+pub kept_all : (a : Holding Words) (s : Shown) → IsKnown a.desk a.far s → HasKept a a s
+kept_all a s k = record {
+  shown = s;
+  known = k;
+  same_now = λ h. refl;
+  first = refl;
+  made = refl;
+  turns = refl;
+  settings = refl;
+  pins = λ h. refl;
+}
+
+pub kept_then : (a b c : Holding Words) (s : Shown) → (k : HasKept a b s) → HasKept b c k.shown
+    → HasKept a c s
+kept_then a b c s k l = record {
+  shown = l.shown;
+  known = l.known;
+  same_now = λ h. l.same_now h ∙ k.same_now h;
+  first = l.first ∙ k.first;
+  made = l.made ∙ k.made;
+  turns = l.turns ∙ k.turns;
+  settings = l.settings ∙ k.settings;
+  pins = λ h. l.pins h ∙ k.pins h;
+}
+
+pub kept_evict : (a b : Holding Words) (r : Reply) (s : Shown) → IsKnown a.desk a.far s
+    → StillEvict a r b → HasKept a b s
+kept_evict a b r s k (step, hold) =
+    let keeps = evict_keeps a.desk b.desk a.far b.far r step in
+    let then = hold s k in record {
+      shown = then.0;
+      known = then.1;
+      same_now = then.2;
+      first = keeps.first;
+      made = keeps.made;
+      turns = keeps.turns;
+      settings = evict_settings a.desk b.desk a.far b.far r step;
+      pins = λ h. evict_pins a.desk b.desk a.far b.far r h step;
+    }
+
+pub kept_swap : (a b : Holding Words) (h : ℕ) (r : Reply) (s : Shown) → IsKnown a.desk a.far s
+    → StillSwap h a r b → HasKept a b s
+kept_swap a b h r s k (home, at, step, hold) =
+    let keeps = keeps_far a.desk b.desk a.far b.far home.set home.position r step in
+    let then = hold s k in record {
+      shown = then.0;
+      known = then.1;
+      same_now = then.2;
+      first = keeps.first;
+      made = keeps.made;
+      turns = ap (λ n. n.turns) keeps.counts;
+      settings = settings_stay a.desk b.desk a.far b.far home.set home.position r step;
+      pins = λ h. pins_stay a.desk b.desk a.far b.far home.set home.position r s k step h;
+    }
+
+-- what is done with room won keeps what its parts keep
+pub kept_bring : (a b : Holding Words) (h : ℕ) (r : Reply) (s : Shown) → IsKnown a.desk a.far s
+    → StillBring h a r b → HasKept a b s
+kept_bring a b h r s k (at_once swap some) = kept_swap a b h r s k swap
+kept_bring a b h r s k (no_room m refusal swap evict other e) =
+    let one = kept_swap a m h answer.NoFrame s k swap in
+    kept_then a m b s one (kept_evict m b refusal one.shown one.known evict)
+kept_bring a b h r s k (won m n id swap evict again some) =
+    let one = kept_swap a m h answer.NoFrame s k swap in
+    let two = kept_then a m n s one (kept_evict m n (answer.Set id) one.shown one.known evict) in
+    kept_then a n b s two (kept_swap n b h r two.shown two.known again)
+
+-- what is known of the same words and far state is the same
+pub known_same : (x : Words) (far : FarState) (s t : Shown) (h : ℕ) → IsKnown x far s → IsKnown x far t
+    → now t far h ≡ now s far h
+known_same x far s t h before then =
+    now_same x s t far h before.shows before.sound then.shows then.sound
+
+-- ---- a turn is counted
+pub once_known : (w : WorldState) (job : Job) (s : Shown) → IsKnown w.desk w.far s
+    → IsKnown w.desk (counted w.far job) s
+once_known w job s k = record {
+  sized = k.sized;
+  shows = k.shows;
+  hots = k.hots;
+  sound = recounted_sound s w.far (with_turn w.far.counts (job_index job)).turns
+      (with_turn w.far.counts (job_index job)).by_job w.far.nodes.given k.sound;
+  here = k.here;
+}

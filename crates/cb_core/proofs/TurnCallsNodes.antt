@@ -1,0 +1,114 @@
+-- A crash and a join as parts of a turn.
+use Rattle.std.proofs.Common.{◌≡◌, ◌⊎◌, ℕ, ◌+◌, ◌<◌, List, length, refl, sym, ap, ◌∙◌, subst, inl, inr, arith}
+use Rattle.cb_member.specs.declared.names.NodeId.{NodeId}
+use Rattle.cb_ptr.specs.declared.word.State.{State}
+use Rattle.cb_ptr.specs.declared.word.State.TheVariants as state
+use Rattle.cb_ptr.specs.Word.{state_of}
+use Rattle.cb_types.specs.declared.handle.SetId.{SetId}
+use Rattle.cb_types.specs.declared.job.Job.{Job}
+use Rattle.cb_types.specs.declared.job.Job.TheVariants as job
+use Rattle.cb_types.specs.declared.request.Request.TheVariants.{Crash, Join}
+use Rattle.cb_types.specs.declared.reply.Reply.{Reply}
+use Rattle.cb_types.specs.declared.reply.Reply.TheVariants as answer
+use Rattle.cb_types.specs.Table.{IsReplyOf}
+use Rattle.cb_world.specs.declared.shown.Shown.{Shown}
+use Rattle.cb_world.specs.FarState.{FarState}
+use Rattle.cb_world.specs.Memory.{bytes_in}
+use Rattle.cb_world.specs.NodeChanges.{crashed_far, joined_far}
+use Rattle.cb_world.specs.Now.{Now, now, now_as, is_gone}
+use Rattle.cb_world.specs.Now.Now.{held, gone}
+use Rattle.cb_world.specs.Plain.{Words}
+use Rattle.cb_world.specs.Sound.{Sound}
+use Rattle.cb_world.specs.World.{WorldState, IsKnown}
+use Rattle.cb_world.proofs.CrashNow.{BecomesGone, crash_now}
+use Rattle.cb_world.proofs.NodeJoin.{node_crash_sound, node_join_sound, node_join_now}
+use Rattle.cb_world.proofs.NowSame.{now_same}
+use Rattle.cb_mutate.specs.FreeRule.{LeavesPlace}
+use Rattle.cb_mutate.specs.MakeStep.{IsMakeStep}
+use Rattle.cb_mutate.specs.Steps.{IsFreeStep}
+use Rattle.cb_core.specs.Membership.{CrashTurn, crashed, is_down, JoinTurn, joined, is_up}
+use Rattle.cb_core.specs.Parts.{Holding, WithRoom, at_once, no_room, won, WhereItIs, near, declined, stays_far, brought, BringsIn, not_far, was_far}
+use Rattle.cb_core.proofs.TurnCallsMap.{IsSameMap}
+use Rattle.cb_core.specs.Room.{final_reply}
+use Rattle.cb_core.specs.Step.{StillMake, StillEvict, StillBring, StillFind, StillWorks}
+use Rattle.cb_core.proofs.Changes.{free_leaves}
+use Rattle.cb_core.proofs.TurnCallsKept.{HasKept, same_holding, kept_evict, kept_bring}
+
+-- each object holds what it held, or was held and is gone; as many were made
+pub record IsMapLost (s t : Shown) (far new : FarState) : Type 0 where
+  pub now : (h : ℕ) → (now t new h ≡ now s far h)
+      ⊎ ((v : ℕ) × (bytes : List ℕ) × (now s far h ≡ held v bytes) × (now t new h ≡ gone v))
+  pub first : new.first ≡ far.first
+  pub made : new.made ≡ far.made
+
+becomes_gone : (s : Shown) (far new : FarState) (h : ℕ) → BecomesGone s far new h
+    → (v : ℕ) × (bytes : List ℕ) × (now s far h ≡ held v bytes) × (now s new h ≡ gone v)
+becomes_gone s far new h z = (
+  z.version,
+  bytes_in z.words z.len,
+  (λ i. now_as s h (z.before i) (z.away i)),
+  z.now,
+)
+
+-- a crash, where all is known before it and after it of the same words
+pub crash_map : (x : Words) (s t : Shown) (far new : FarState) (node : NodeId) (r : Reply)
+    → IsKnown x far s → IsKnown x new t → node.n < length far.members.nodes → CrashTurn node far r new
+    → IsMapLost s t far new
+crash_map x s t far new node r k l within (is_down down reply same) = record {
+  now = λ h. inl (ap (λ (f : FarState). now t f h) same
+      ∙ now_same x s t far h k.shows k.sound l.shows (subst (λ (f : FarState). Sound t f) same l.sound));
+  first = ap (λ (f : FarState). f.first) same;
+  made = ap (λ (f : FarState). f.made) same;
+}
+crash_map x s t far new node r k l within (crashed up reply same) = record {
+  now = λ h. by h (crash_now s far node h k.sound.away.sound within up);
+  first = ap (λ (f : FarState). f.first) same;
+  made = ap (λ (f : FarState). f.made) same;
+}
+  where
+    then : (h : ℕ) → now t new h ≡ now s (crashed_far far node) h
+    then h = ap (λ (f : FarState). now t f h) same
+        ∙ now_same x s t (crashed_far far node) h k.shows (node_crash_sound s far node k.sound within up)
+        l.shows (subst (λ (f : FarState). Sound t f) same l.sound)
+
+    by : (h : ℕ) → (now s (crashed_far far node) h ≡ now s far h)
+        ⊎ BecomesGone s far (crashed_far far node) h
+        → (now t new h ≡ now s far h)
+        ⊎ ((v : ℕ) × (bytes : List ℕ) × (now s far h ≡ held v bytes) × (now t new h ≡ gone v))
+    by h (inl e) = inl (then h ∙ e)
+    by h (inr z) = let lost = becomes_gone s far (crashed_far far node) h z in
+        inr (lost.0, lost.1, lost.2, then h ∙ lost.3)
+
+-- a join
+pub join_map : (x : Words) (s t : Shown) (far new : FarState) (node : NodeId) (r : Reply)
+    → IsKnown x far s → IsKnown x new t → node.n < length far.members.nodes → JoinTurn node far r new
+    → IsSameMap s t far new
+join_map x s t far new node r k l within (is_up up reply same) = record {
+  now = λ h. ap (λ (f : FarState). now t f h) same
+      ∙ now_same x s t far h k.shows k.sound l.shows (subst (λ (f : FarState). Sound t f) same l.sound);
+  first = ap (λ (f : FarState). f.first) same;
+  made = ap (λ (f : FarState). f.made) same;
+}
+join_map x s t far new node r k l within (joined down reply same) = record {
+  now = λ h. ap (λ (f : FarState). now t f h) same
+      ∙ now_same x s t (joined_far far node) h k.shows (node_join_sound s far node k.sound within down)
+      l.shows (subst (λ (f : FarState). Sound t f) same l.sound)
+      ∙ node_join_now s far node h within;
+  first = ap (λ (f : FarState). f.first) same;
+  made = ap (λ (f : FarState). f.made) same;
+}
+
+pub crash_line : (far to : FarState) (new : WorldState) (node : NodeId) (q : Reply)
+    → CrashTurn node far q to → IsReplyOf (Crash node) (final_reply new q)
+crash_line far to new node q (crashed up is same) =
+    subst (IsReplyOf (Crash node)) (sym (ap (final_reply new) is)) tt
+crash_line far to new node q (is_down down is same) =
+    subst (IsReplyOf (Crash node)) (sym (ap (final_reply new) is)) tt
+
+pub join_line : (far to : FarState) (new : WorldState) (node : NodeId) (q : Reply)
+    → JoinTurn node far q to → IsReplyOf (Join node) (final_reply new q)
+join_line far to new node q (joined down is same) =
+    subst (IsReplyOf (Join node)) (sym (ap (final_reply new) is)) tt
+join_line far to new node q (is_up up is same) =
+    subst (IsReplyOf (Join node)) (sym (ap (final_reply new) is)) tt
+

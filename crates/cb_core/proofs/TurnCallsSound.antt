@@ -1,0 +1,136 @@
+-- A swap that is a turn leaves the world sound.
+use Rattle.std.proofs.Common.{◌≡◌, ℕ, ◌+◌, ◌^◌, ◌<◌, ◌≤◌, List, refl, sym, ap, ◌∙◌, subst, arith}
+use Rattle.cb_member.specs.Membership.{Membership}
+use Rattle.cb_types.specs.declared.config.Config.{Config}
+use Rattle.cb_types.specs.declared.job.Job.TheVariants as job
+use Rattle.cb_types.specs.declared.reply.Reply.{Reply}
+use Rattle.cb_types.specs.declared.reply.Reply.TheVariants as answer
+use Rattle.cb_types.specs.Config.{IsAccepted}
+use Rattle.cb_types.specs.Jobs.{job_index}
+use Rattle.cb_world.specs.Counts.{CountsState}
+use Rattle.cb_world.specs.FarState.{FarState}
+use Rattle.cb_world.specs.Plain.{Words}
+use Rattle.cb_world.specs.Seats.{SeatState}
+use Rattle.cb_world.specs.World.{WorldState, ArePinned, IsConfigured, IsSoundWorld}
+use Rattle.cb_evict.proofs.AfterEvict.{evict_configured, evict_given, evict_keeps, evict_keys, evict_seats, evict_sets, evict_settings}
+use Rattle.cb_swapin.proofs.SwapKeeps.{given_most, keeps_far, settings_stay}
+use Rattle.cb_swapin.proofs.SwapWorld.{configured_kept, pinned_kept}
+use Rattle.cb_core.specs.Parts.{Holding, WithRoom, at_once, no_room, won, BringsIn, not_far, was_far}
+use Rattle.cb_core.specs.Step.{StillEvict, StillSwap, StillBring, StillFind, TurnStep, worn, done}
+use Rattle.cb_core.specs.Turned.{counted}
+use Rattle.cb_core.proofs.KeptParts.{IsGood, Arrives, arrives_then, arrives_more, arrives_same, rises_more, counted_rises}
+use Rattle.cb_core.proofs.TurnCalls.{held_at, held_then, known_at}
+
+-- what a part leaves
+abbrev Comes : Config → List SeatState → ℕ → Holding Words → Holding Words → Type 0
+Comes c seats n a b = Arrives c seats n a b (Unit {0})
+
+evict_comes : (c : Config) (seats : List SeatState) (a b : Holding Words) (r : Reply) → IsAccepted c
+    → IsGood c seats a → StillEvict a r b → Comes c seats 24 a b
+evict_comes c seats a b r accepted good (step, hold) =
+    let keeps = evict_keeps a.desk b.desk a.far b.far r step in
+    let sets = (evict_sets a.desk b.desk a.far b.far r step).1 in
+    let keys = (evict_keys a.desk b.desk a.far b.far r step
+    (subst IsAccepted (sym good.settings) accepted)).1 in
+    let epoch : b.far.members.epoch ≡ a.far.members.epoch = ap (λ (m : Membership). m.epoch) keeps.members in
+    let given = evict_given a.desk b.desk a.far b.far r step in
+    let known = hold good.shown good.known in record {
+      is = tt;
+      good = record {
+        settings = evict_settings a.desk b.desk a.far b.far r step ∙ good.settings;
+        configured = evict_configured a.desk b.desk a.far b.far r c step good.configured;
+        shown = known.0;
+        known = known.1;
+        pinned = evict_seats a.desk b.desk a.far b.far r seats step good.pinned;
+      };
+      rises = record {
+        turns = keeps.turns;
+        by_job = keeps.by_job;
+        sets = omega (arith, sets);
+        keys = keys;
+        epoch = omega (arith, epoch);
+        given = omega (arith, given);
+      };
+    }
+
+swap_comes : (c : Config) (seats : List SeatState) (h : ℕ) (a b : Holding Words) (r : Reply)
+    → IsGood c seats a → StillSwap h a r b → Comes c seats 16 a b
+swap_comes c seats h a b r good (home, at, step, hold) =
+    let keeps = keeps_far a.desk b.desk a.far b.far home.set home.position r step in
+    let sets : b.far.counts.sets ≡ a.far.counts.sets = ap (λ (n : CountsState). n.sets) keeps.counts in
+    let keys : b.far.counts.keys ≡ a.far.counts.keys = ap (λ (n : CountsState). n.keys) keeps.counts in
+    let epoch : b.far.members.epoch ≡ a.far.members.epoch = ap (λ (m : Membership). m.epoch) keeps.members in
+    let settings : b.desk.settings ≡ c =
+    settings_stay a.desk b.desk a.far b.far home.set home.position r step ∙ good.settings in
+    let known = hold good.shown good.known in record {
+      is = tt;
+      good = record {
+        settings = settings;
+        configured = subst (λ (d : Config). IsConfigured d b.far) settings
+            (configured_kept a.desk b.desk a.far b.far home.set home.position r step
+            (subst (λ (d : Config). IsConfigured d a.far) (sym good.settings) good.configured));
+        shown = known.0;
+        known = known.1;
+        pinned = pinned_kept a.desk b.desk a.far b.far home.set home.position r good.shown seats good.known
+            step good.pinned;
+      };
+      rises = record {
+        turns = ap (λ (n : CountsState). n.turns) keeps.counts;
+        by_job = ap (λ (n : CountsState). n.by_job) keeps.counts;
+        sets = omega (arith, sets);
+        keys = omega (arith, keys);
+        epoch = omega (arith, epoch);
+        given = given_most a.desk b.desk a.far b.far home.set home.position r good.shown good.known step;
+      };
+    }
+
+bring_comes : (c : Config) (seats : List SeatState) (h : ℕ) (a b : Holding Words) (r : Reply)
+    → IsAccepted c → IsGood c seats a → StillBring h a r b → Comes c seats 56 a b
+bring_comes c seats h a b r accepted good (at_once swap some) =
+    arrives_more c seats 16 56 a b (Unit {0}) (Unit {0}) (omega arith) (swap_comes c seats h a b r good swap)
+    tt
+bring_comes c seats h a b r accepted good (no_room m refusal swap evict other e) =
+    let one = swap_comes c seats h a m answer.NoFrame good swap in
+    arrives_then c seats 16 24 56 a m b (Unit {0}) (Unit {0}) (Unit {0}) (omega arith) one
+    (evict_comes c seats m b refusal accepted one.good evict) tt
+bring_comes c seats h a b r accepted good (won m n id swap evict again some) =
+    let one = swap_comes c seats h a m answer.NoFrame good swap in
+    let two = arrives_then c seats 16 24 40 a m n (Unit {0}) (Unit {0}) (Unit {0}) (omega arith) one
+    (evict_comes c seats m n (answer.Set id) accepted one.good evict) tt in
+    arrives_then c seats 40 16 56 a n b (Unit {0}) (Unit {0}) (Unit {0}) (omega arith) two
+    (swap_comes c seats h n b r two.good again) tt
+
+swap_arrives : (c : Config) (seats : List SeatState) (h : ℕ) (a b : Holding Words) (r : Reply)
+    → IsAccepted c → IsGood c seats a → BringsIn (StillFind h) (StillBring h) a r b → Comes c seats 56 a b
+swap_arrives c seats h a b r accepted good (not_far find never) =
+    arrives_same c seats 56 a b (Unit {0}) good find.1 tt
+swap_arrives c seats h a b r accepted good (was_far m find bring) =
+    bring_comes c seats h a b r accepted good
+    (subst (λ (x : Holding Words). StillBring h x r b) find.1 bring)
+
+-- The world is sound after a swap.
+pub swap_sound : (w new : WorldState) (h : ℕ) (r : Reply) → IsSoundWorld w
+    → TurnStep (job.Swap (record { n = h })) w r new → IsSoundWorld new
+swap_sound w new h r sound (worn end is same) = subst IsSoundWorld (sym same) sound
+swap_sound w new h r sound (done q few works is seats) =
+    let j = job.Swap (record { n = h }) in
+    let z = swap_arrives w.desk.settings w.seats h (held_at w j) (held_then new) q sound.config (record {
+      settings = refl;
+      configured = record {
+        frames = sound.configured.frames;
+        homes = sound.configured.homes;
+        nodes = sound.configured.nodes;
+      };
+      shown = sound.shown;
+      known = known_at w j sound;
+      pinned = sound.pinned;
+    }) works in
+    record {
+      config = subst IsAccepted (sym z.good.settings) sound.config;
+      configured = subst (λ (c : Config). IsConfigured c new.far) (sym z.good.settings) z.good.configured;
+      shown = z.good.shown;
+      known = z.good.known;
+      pinned = subst (ArePinned new.desk) (sym seats) z.good.pinned;
+      counted = counted_rises w.far (counted w.far j) new.far (job_index j) sound.counted few
+          (omega arith) refl (rises_more 56 (2 ^ 20) (counted w.far j) new.far (omega arith) z.rises);
+    }
