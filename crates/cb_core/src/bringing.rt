@@ -64,9 +64,11 @@ fn bring<D: Desk>(desk: &mut D, far: &mut Far, h: Handle) -> Result<Reply, NoMem
     requires given { far.old.nodes.given + 16 < 2 ^ 64 }
     requires home { (home : Home) × (home_at far.old.homes h.n ≡ Some home) }
     requires sound { (s : Shown) × D.shows desk.old s × Sound s far.old }
-    ensures brings { IfOk result (λ reply. Brings (λ d es e. D.run d es e) (λ d s. D.shows d s) (D.settings desk.old) h.n
+    ensures brings { IfOk result (λ reply. Brings
+        (λ d es e. D.run d es e) (λ d s. D.shows d s) (D.settings desk.old) h.n
         (record { desk = desk.old; far = far.old }) reply (record { desk = desk.new; far = far.new })) }
-    ensures error { OnErr result (BringLacks (λ d es e. D.run d es e) (λ d s. D.shows d s) (D.settings desk.old) h.n
+    ensures error { OnErr result (BringLacks
+        (λ d es e. D.run d es e) (λ d s. D.shows d s) (D.settings desk.old) h.n
         (record { desk = desk.old; far = far.old }) (record { desk = desk.new; far = far.new })) }
     ensures settings { D.settings desk.new ≡ D.settings desk.old }
     ensures sound { IfOk result (λ reply. (s : Shown) × D.shows desk.new s × Sound s far.new) }
@@ -98,11 +100,13 @@ pub(crate) fn read_anywhere<D: Desk>(
     requires counts { (far.old.counts.sets < 2 ^ 62) × (far.old.counts.keys < 2 ^ 62) }
     requires given { far.old.nodes.given + 16 < 2 ^ 64 }
     requires sound { (s : Shown) × D.shows desk.old s × Sound s far.old }
-    ensures reads { IfOk result (λ reply. WhereItIs (Reads (λ d es e. D.run d es e) (λ d s. D.shows d s) h.n)
+    ensures reads { IfOk result (λ reply. WhereItIs
+        (Reads (λ d es e. D.run d es e) (λ d s. D.shows d s) h.n)
         NeverDeclined
         (Brings (λ d es e. D.run d es e) (λ d s. D.shows d s) (D.settings desk.old) h.n)
         (record { desk = desk.old; far = far.old }) reply (record { desk = desk.new; far = far.new })) }
-    ensures error { OnErr result (CallStops (Reads (λ d es e. D.run d es e) (λ d s. D.shows d s) h.n)
+    ensures error { OnErr result (CallStops
+        (Reads (λ d es e. D.run d es e) (λ d s. D.shows d s) h.n)
         (ReadLacks (λ d es e. D.run d es e) (λ d s. D.shows d s) h.n)
         NeverDeclined
         (Brings (λ d es e. D.run d es e) (λ d s. D.shows d s) (D.settings desk.old) h.n)
@@ -136,11 +140,13 @@ pub(crate) fn write_anywhere<D: Desk>(
     requires counts { (far.old.counts.sets < 2 ^ 62) × (far.old.counts.keys < 2 ^ 62) }
     requires given { far.old.nodes.given + 16 < 2 ^ 64 }
     requires sound { (s : Shown) × D.shows desk.old s × Sound s far.old }
-    ensures writes { IfOk result (λ reply. WhereItIs (Writes (λ d es e. D.run d es e) (λ d s. D.shows d s) h.n at bytes.now)
+    ensures writes { IfOk result (λ reply. WhereItIs
+        (Writes (λ d es e. D.run d es e) (λ d s. D.shows d s) h.n at bytes.now)
         (Declines (λ d es e. D.run d es e) (λ d s. D.shows d s) h.n at (length bytes.now))
         (Brings (λ d es e. D.run d es e) (λ d s. D.shows d s) (D.settings desk.old) h.n)
         (record { desk = desk.old; far = far.old }) reply (record { desk = desk.new; far = far.new })) }
-    ensures error { OnErr result (CallStops (Writes (λ d es e. D.run d es e) (λ d s. D.shows d s) h.n at bytes.now)
+    ensures error { OnErr result (CallStops
+        (Writes (λ d es e. D.run d es e) (λ d s. D.shows d s) h.n at bytes.now)
         NeverLacks
         (Declines (λ d es e. D.run d es e) (λ d s. D.shows d s) h.n at (length bytes.now))
         (Brings (λ d es e. D.run d es e) (λ d s. D.shows d s) (D.settings desk.old) h.n)
@@ -174,12 +180,15 @@ pub(crate) fn swap_object<D: Desk>(
     requires counts { (far.old.counts.sets < 2 ^ 62) × (far.old.counts.keys < 2 ^ 62) }
     requires given { far.old.nodes.given + 16 < 2 ^ 64 }
     requires sound { (s : Shown) × D.shows desk.old s × Sound s far.old }
-    ensures swaps { IfOk result (λ reply. BringsIn (Finds (λ d es e. D.run d es e) (λ d s. D.shows d s) h.n)
+    ensures swaps { IfOk result (λ reply. BringsIn
+        (Finds (λ d es e. D.run d es e) (λ d s. D.shows d s) h.n)
         (Brings (λ d es e. D.run d es e) (λ d s. D.shows d s) (D.settings desk.old) h.n)
         (record { desk = desk.old; far = far.old }) reply (record { desk = desk.new; far = far.new })) }
     ensures error { OnErr result ((m : Holding D)
-        × Finds (λ d es e. D.run d es e) (λ d s. D.shows d s) h.n (record { desk = desk.old; far = far.old }) answer.NotHere m
-        × BringLacks (λ d es e. D.run d es e) (λ d s. D.shows d s) (D.settings desk.old) h.n m (record { desk = desk.new; far = far.new })) }
+        × Finds (λ d es e. D.run d es e) (λ d s. D.shows d s) h.n
+        (record { desk = desk.old; far = far.old }) answer.NotHere m
+        × BringLacks (λ d es e. D.run d es e) (λ d s. D.shows d s) (D.settings desk.old) h.n m
+        (record { desk = desk.new; far = far.new })) }
 {
     let place = find(desk, far, h);
     if !is_not_here(&place) {
