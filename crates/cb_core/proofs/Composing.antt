@@ -1,7 +1,6 @@
 -- The parts of a turn one after another, over any desk.
-use Rattle.std.proofs.Common.{◌≡◌, ℕ, ◌<◌, ◌≤◌, List, [], length, Option, None, Some, Result, Ok, Err, sym, refl, ap, ◌∙◌, subst}
+use Rattle.std.proofs.Common.{◌≡◌, ℕ, ◌≤◌, List, [], length, Option, None, Some, Result, Ok, Err, sym, refl, ap, ◌∙◌, subst}
 use Rattle.std.specs.Prelude.{IfOk, OnErr}
-use Rattle.cb_frame.specs.FreeFrames.{least_free}
 use Rattle.cb_member.specs.declared.no_memory.NoMemory.{NoMemory}
 use Rattle.cb_set.specs.SetState.{SetState}
 use Rattle.cb_types.specs.declared.config.Config.{Config}
@@ -18,10 +17,8 @@ use Rattle.cb_world.specs.Performs.{Performs}
 use Rattle.cb_world.specs.Played.{played}
 use Rattle.cb_world.specs.Sets.{set_in}
 use Rattle.cb_world.specs.Sound.{Sound}
-use Rattle.cb_world.specs.Still.{IsStill}
 use Rattle.cb_world.specs.World.{IsConfigured}
 use Rattle.cb_mutate.specs.MakeRule.{NeedsNewSpan}
-use Rattle.cb_evict.specs.Evicting.{TouchesSpans}
 use Rattle.cb_swapin.specs.Fetching.{far_given}
 use Rattle.cb_swapin.specs.SwapEffect.{SwapEffect}
 use Rattle.cb_swapin.specs.SwapRule.{SwapRule}

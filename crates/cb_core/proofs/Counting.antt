@@ -1,5 +1,5 @@
 -- A turn is counted, and then does its job.
-use Rattle.std.proofs.Common.{◌≡◌, ◌^◌, ◌<◌, List, Result, Ok, Err, sym, ◌∙◌, subst}
+use Rattle.std.proofs.Common.{◌≡◌, ◌^◌, ◌<◌, List, Result, sym, subst}
 use Rattle.std.specs.Prelude.{IfOk, OnErr}
 use Rattle.cb_member.specs.declared.no_memory.NoMemory.{NoMemory}
 use Rattle.cb_types.specs.declared.config.Config.{Config}

@@ -1,5 +1,5 @@
 -- Looks at an object, and at the version word of it, over any desk.
-use Rattle.std.proofs.Common.{◌≡◌, ℕ, zero, suc, true, false, ◌+◌, ◌-◌, ◌^◌, ◌==◌, ◌<◌, ◌≤◌, nat_lt, List, [], ◌∷◌, Option, None, Some, length, refl, sym, ap, ◌∙◌, subst, inl, inr, arith, if◌then◌else◌, lt-ltb, le-ltb, eq-eqb, ne_eqb}
+use Rattle.std.proofs.Common.{◌≡◌, ℕ, zero, suc, true, false, ◌+◌, ◌-◌, ◌^◌, ◌==◌, ◌<◌, ◌≤◌, List, [], ◌∷◌, Option, None, Some, refl, sym, ap, ◌∙◌, subst, inl, inr, if◌then◌else◌, lt-ltb, le-ltb, eq-eqb, ne_eqb}
 use Rattle.cb_ptr.specs.declared.word.State.{State}
 use Rattle.cb_ptr.specs.declared.word.State.TheVariants as state
 use Rattle.cb_ptr.specs.Word.{state_of, len_of, place_of}
@@ -11,13 +11,11 @@ use Rattle.cb_world.specs.declared.shown.Shown.{Shown}
 use Rattle.cb_world.specs.FarState.{FarState}
 use Rattle.cb_world.specs.Now.{is_gone}
 use Rattle.cb_world.specs.Reads.{AreReads}
-use Rattle.cb_world.specs.Sound.{Sound}
 use Rattle.cb_world.specs.Touches.{Touches}
-use Rattle.cb_world.proofs.AfterLook.{look_after, look_allowed, look_first, look_found, look_sound, look_still}
+use Rattle.cb_world.proofs.AfterLook.{look_allowed, look_first, look_found, look_sound, look_still}
 use Rattle.cb_world.proofs.Touching.{look_settles_last, look_touches}
 use Rattle.cb_mutate.specs.Answered.{AnsweredAs, EmptyAnswer}
 use Rattle.cb_core.specs.Declining.{write_refusal}
-use Rattle.cb_core.specs.Parts.{Holding}
 use Rattle.cb_core.specs.Turned.{Declines, Finds}
 
 -- ---- why a write is declined

@@ -17,6 +17,8 @@ pub mod WorkedMembership
 pub mod WorkedRoom
 pub mod WorkedTurns
 pub mod WorkedStill
+pub mod WorkedParts
+pub mod WorkedDeclined
 pub mod TurnCallsKept
 pub mod TurnCallsFar
 pub mod TurnCallsMap

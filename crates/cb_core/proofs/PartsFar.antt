@@ -1,5 +1,5 @@
 -- What the parts of a turn find in the far state, and what they leave there.
-use Rattle.std.proofs.Common.{◌≡◌, ℕ, Bool, true, false, ◌<◌, ◌≤◌, List, [], ◌∷◌, Option, None, Some, is_some, length, get_or, take, sym, refl, ap, ◌∙◌, subst, arith, inl, inr, if◌then◌else◌}
+use Rattle.std.proofs.Common.{◌≡◌, ℕ, Bool, true, false, ◌<◌, List, [], ◌∷◌, Option, None, Some, is_some, length, get_or, take, sym, refl, ap, ◌∙◌, subst, arith, inl, inr, if◌then◌else◌}
 use Rattle.std.specs.List.{Contains}
 use Rattle.std.proofs.lemmas.List.{length-take-le}
 use Rattle.std.proofs.lemmas.List.Elements.{Contains-get_or}
@@ -10,8 +10,7 @@ use Rattle.cb_member.specs.declared.names.Loss.{Loss}
 use Rattle.cb_member.specs.declared.names.Shard.{Shard}
 use Rattle.cb_node.specs.NodesState.{NodesState, with_row}
 use Rattle.cb_set.specs.Lost.{lost}
-use Rattle.cb_set.specs.SetState.{SetState, live_at, position_of, slot_at}
-use Rattle.cb_span.specs.Contents.{Contents}
+use Rattle.cb_set.specs.SetState.{SetState, live_at, position_of}
 use Rattle.cb_span.specs.Places.{slot_place}
 use Rattle.cb_types.specs.declared.config.Config.{Config}
 use Rattle.cb_types.specs.declared.config.Field.TheVariants.{K}

@@ -73,9 +73,9 @@ fn bring<D: Desk>(desk: &mut D, far: &mut Far, h: Handle) -> Result<Reply, NoMem
 {
     let home = far.homes.at(h.n).unwrap();
     let id = SetId { n: home.set };
-    let reply = swap_in(desk, far, id, home.position)?;
-    if !is_no_frame(&reply) {
-        return Ok(reply);
+    let swapped = swap_in(desk, far, id, home.position)?;
+    if !is_no_frame(&swapped) {
+        return Ok(swapped);
     }
     let room = evict_now(desk, far)?;
     if !is_set(&room) {
@@ -154,9 +154,9 @@ pub(crate) fn write_anywhere<D: Desk>(
     if let Some(refusal) = decline(desk, far, h, at, bytes) {
         return Ok(refusal);
     }
-    let brought = bring(desk, far, h)?;
-    if !is_swapped(&brought) {
-        return Ok(brought);
+    let came = bring(desk, far, h)?;
+    if !is_swapped(&came) {
+        return Ok(came);
     }
     write(desk, far, h, at, bytes)
 }

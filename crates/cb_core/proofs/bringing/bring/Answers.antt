@@ -13,22 +13,22 @@ swap_in-requires-clause-live g c =
 
 pub returns-then-not-is_no_frame-clause-sound : goal.returns-then-not-is_no_frame-clause-sound
 returns-then-not-is_no_frame-clause-sound g c =
-    shown_after _ _ _ _ _ _ _ c.in_ok-reply.ensures.swap
+    shown_after _ _ _ _ _ _ _ c.in_ok-swapped.ensures.swap
     (λ es s ran a. (g.met.D.Desk.follows _ _ es s ran a).1) c.requires.sound
 
 pub evict_now-requires-clause-sound : goal.evict_now-requires-clause-sound
 evict_now-requires-clause-sound g c =
-    shown_after _ _ _ _ _ _ _ c.in_ok-reply.ensures.swap
+    shown_after _ _ _ _ _ _ _ c.in_ok-swapped.ensures.swap
     (λ es s ran a. (g.met.D.Desk.follows _ _ es s ran a).1) c.requires.sound
 
 pub returns-in_err-room-clause-error : goal.returns-in_err-room-clause-error
 returns-in_err-room-clause-error g c =
     let at = ap (λ (q : FarState). home_at q.homes c.args.h.n) (sym c.far.view_is)
     ∙ sym c.at.ensures.home ∙ c.unwrap-home.ensures in
-    let x = c.in_ok-reply.ensures.swap in
+    let x = c.in_ok-swapped.ensures.swap in
     swap_without (λ d es e. g.D.Desk.run d es e) (λ d s. g.D.Desk.shows d s) (g.D.Desk.settings c.args.desk.now) c.args.h.n c.unwrap-home.result
     (holding c.args.desk.now c.args.far.now) (holding c.swap_in.new.desk c.swap_in.new.far)
-    c.in_ok-reply.reply at x
+    c.in_ok-swapped.swapped at x
     (holding c.evict_now.new.desk c.evict_now.new.far) c.from_residual-in_err-room.result
     (c.is_no_frame.ensures.yes c.if-not-is_no_frame.false)
     (c.in_err-room.ensures.unchanged, c.in_err-room.ensures.error)
@@ -37,10 +37,10 @@ pub returns-then-not-is_set-clause-brings : goal.returns-then-not-is_set-clause-
 returns-then-not-is_set-clause-brings g c =
     let at = ap (λ (q : FarState). home_at q.homes c.args.h.n) (sym c.far.view_is)
     ∙ sym c.at.ensures.home ∙ c.unwrap-home.ensures in
-    let x = c.in_ok-reply.ensures.swap in
+    let x = c.in_ok-swapped.ensures.swap in
     swap_refused (λ d es e. g.D.Desk.run d es e) (λ d s. g.D.Desk.shows d s) (g.D.Desk.settings c.args.desk.now) c.args.h.n c.unwrap-home.result
     (holding c.args.desk.now c.args.far.now) (holding c.swap_in.new.desk c.swap_in.new.far)
-    c.in_ok-reply.reply at x
+    c.in_ok-swapped.swapped at x
     (holding c.evict_now.new.desk c.evict_now.new.far) (g.D.Desk.settings c.swap_in.new.desk)
     c.in_ok-room.room (c.is_no_frame.ensures.yes c.if-not-is_no_frame.false)
     (g.met.D.Desk.stays _ _ x.events x.ran) c.in_ok-room.ensures.evict
@@ -50,14 +50,14 @@ pub returns-then-not-is_set-clause-sound : goal.returns-then-not-is_set-clause-s
 returns-then-not-is_set-clause-sound g c =
     shown_after _ _ _ _ _ _ _ c.in_ok-room.ensures.evict
     (λ es s ran a. (g.met.D.Desk.follows _ _ es s ran a).1)
-    (shown_after _ _ _ _ _ _ _ c.in_ok-reply.ensures.swap
+    (shown_after _ _ _ _ _ _ _ c.in_ok-swapped.ensures.swap
     (λ es s ran a. (g.met.D.Desk.follows _ _ es s ran a).1) c.requires.sound)
 
 pub swap_in-requires-2-clause-live : goal.swap_in-requires-2-clause-live
 swap_in-requires-2-clause-live g c =
     let at = ap (λ (q : FarState). home_at q.homes c.args.h.n) (sym c.far.view_is)
     ∙ sym c.at.ensures.home ∙ c.unwrap-home.ensures in
-    let x = c.in_ok-reply.ensures.swap in let y = c.in_ok-room.ensures.evict in
+    let x = c.in_ok-swapped.ensures.swap in let y = c.in_ok-room.ensures.evict in
     let set = c.is_set.ensures.yes c.if-not-is_set.false in
     let none = c.is_no_frame.ensures.yes c.if-not-is_no_frame.false in
     let same = g.met.D.Desk.stays _ _ x.events x.ran in
@@ -66,7 +66,7 @@ swap_in-requires-2-clause-live g c =
     let won = (won_between (λ d es e. g.D.Desk.run d es e) (λ d s. g.D.Desk.shows d s) (g.D.Desk.settings c.args.desk.now) (g.D.Desk.settings c.swap_in.new.desk) c.args.far.now
     (holding c.swap_in.new.desk c.swap_in.new.far) (holding c.evict_now.new.desk c.evict_now.new.far)
     c.in_ok-room.room set.0 same c.requires.config c.requires.configured
-    (swap_crammed _ _ c.args.far.now c.swap_in.new.far c.in_ok-reply.reply x.events x.rule none).0
+    (swap_crammed _ _ c.args.far.now c.swap_in.new.far c.in_ok-swapped.swapped x.events x.rule none).0
     known set.1 y) in
     let s = shown_after _ _ (λ s. g.D.Desk.shows c.evict_now.new.desk s) _ _ _ _ y (λ es s ran a. (g.met.D.Desk.follows _ _ es s ran a).1) known in
     live_home s.0 c.evict_now.new.far c.args.h.n c.unwrap-home.result s.2
@@ -76,12 +76,12 @@ pub swap_in-requires-2-clause-sound : goal.swap_in-requires-2-clause-sound
 swap_in-requires-2-clause-sound g c =
     shown_after _ _ _ _ _ _ _ c.in_ok-room.ensures.evict
     (λ es s ran a. (g.met.D.Desk.follows _ _ es s ran a).1)
-    (shown_after _ _ _ _ _ _ _ c.in_ok-reply.ensures.swap
+    (shown_after _ _ _ _ _ _ _ c.in_ok-swapped.ensures.swap
     (λ es s ran a. (g.met.D.Desk.follows _ _ es s ran a).1) c.requires.sound)
 
 pub swap_in-requires-2-clause-given : goal.swap_in-requires-2-clause-given
 swap_in-requires-2-clause-given g c =
-    let x = c.in_ok-reply.ensures.swap in let y = c.in_ok-room.ensures.evict in
+    let x = c.in_ok-swapped.ensures.swap in let y = c.in_ok-room.ensures.evict in
     let set = c.is_set.ensures.yes c.if-not-is_set.false in
     let none = c.is_no_frame.ensures.yes c.if-not-is_no_frame.false in
     let same = g.met.D.Desk.stays _ _ x.events x.ran in
@@ -90,7 +90,7 @@ swap_in-requires-2-clause-given g c =
     let won = (won_between (λ d es e. g.D.Desk.run d es e) (λ d s. g.D.Desk.shows d s) (g.D.Desk.settings c.args.desk.now) (g.D.Desk.settings c.swap_in.new.desk) c.args.far.now
     (holding c.swap_in.new.desk c.swap_in.new.far) (holding c.evict_now.new.desk c.evict_now.new.far)
     c.in_ok-room.room set.0 same c.requires.config c.requires.configured
-    (swap_crammed _ _ c.args.far.now c.swap_in.new.far c.in_ok-reply.reply x.events x.rule none).0
+    (swap_crammed _ _ c.args.far.now c.swap_in.new.far c.in_ok-swapped.swapped x.events x.rule none).0
     known set.1 y) in
     subst (λ (n : ℕ). n + 16 < 2 ^ 64) (sym won.given) c.requires.given
 
@@ -98,7 +98,7 @@ pub returns-clause-brings : goal.returns-clause-brings
 returns-clause-brings g c =
     let at = ap (λ (q : FarState). home_at q.homes c.args.h.n) (sym c.far.view_is)
     ∙ sym c.at.ensures.home ∙ c.unwrap-home.ensures in
-    let x = c.in_ok-reply.ensures.swap in let y = c.in_ok-room.ensures.evict in
+    let x = c.in_ok-swapped.ensures.swap in let y = c.in_ok-room.ensures.evict in
     let set = c.is_set.ensures.yes c.if-not-is_set.false in
     let none = c.is_no_frame.ensures.yes c.if-not-is_no_frame.false in
     let same = g.met.D.Desk.stays _ _ x.events x.ran in
@@ -106,14 +106,14 @@ returns-clause-brings g c =
     c.requires.sound in
     swap_again (λ d es e. g.D.Desk.run d es e) (λ d s. g.D.Desk.shows d s) (g.D.Desk.settings c.args.desk.now) c.args.h.n c.unwrap-home.result
     (holding c.args.desk.now c.args.far.now) (holding c.swap_in.new.desk c.swap_in.new.far)
-    c.in_ok-reply.reply at x
+    c.in_ok-swapped.swapped at x
     (holding c.evict_now.new.desk c.evict_now.new.far)
     (holding c.swap_in-2.new.desk c.swap_in-2.new.far) (g.D.Desk.settings c.swap_in.new.desk)
     c.in_ok-room.room set.0 c.swap_in-2.result none same y set.1
     (won_between (λ d es e. g.D.Desk.run d es e) (λ d s. g.D.Desk.shows d s) (g.D.Desk.settings c.args.desk.now) (g.D.Desk.settings c.swap_in.new.desk) c.args.far.now
     (holding c.swap_in.new.desk c.swap_in.new.far) (holding c.evict_now.new.desk c.evict_now.new.far)
     c.in_ok-room.room set.0 same c.requires.config c.requires.configured
-    (swap_crammed _ _ c.args.far.now c.swap_in.new.far c.in_ok-reply.reply x.events x.rule none).0
+    (swap_crammed _ _ c.args.far.now c.swap_in.new.far c.in_ok-swapped.swapped x.events x.rule none).0
     known set.1 y)
     c.swap_in-2.ensures.swap
 
@@ -121,7 +121,7 @@ pub returns-clause-error : goal.returns-clause-error
 returns-clause-error g c =
     let at = ap (λ (q : FarState). home_at q.homes c.args.h.n) (sym c.far.view_is)
     ∙ sym c.at.ensures.home ∙ c.unwrap-home.ensures in
-    let x = c.in_ok-reply.ensures.swap in let y = c.in_ok-room.ensures.evict in
+    let x = c.in_ok-swapped.ensures.swap in let y = c.in_ok-room.ensures.evict in
     let set = c.is_set.ensures.yes c.if-not-is_set.false in
     let none = c.is_no_frame.ensures.yes c.if-not-is_no_frame.false in
     let same = g.met.D.Desk.stays _ _ x.events x.ran in
@@ -129,20 +129,20 @@ returns-clause-error g c =
     c.requires.sound in
     swap_lacks_again (λ d es e. g.D.Desk.run d es e) (λ d s. g.D.Desk.shows d s) (g.D.Desk.settings c.args.desk.now) c.args.h.n c.unwrap-home.result
     (holding c.args.desk.now c.args.far.now) (holding c.swap_in.new.desk c.swap_in.new.far)
-    c.in_ok-reply.reply at x
+    c.in_ok-swapped.swapped at x
     (holding c.evict_now.new.desk c.evict_now.new.far)
     (holding c.swap_in-2.new.desk c.swap_in-2.new.far) (g.D.Desk.settings c.swap_in.new.desk)
     c.in_ok-room.room set.0 c.swap_in-2.result (λ d. g.met.D.Desk.none d) none same y set.1
     (won_between (λ d es e. g.D.Desk.run d es e) (λ d s. g.D.Desk.shows d s) (g.D.Desk.settings c.args.desk.now) (g.D.Desk.settings c.swap_in.new.desk) c.args.far.now
     (holding c.swap_in.new.desk c.swap_in.new.far) (holding c.evict_now.new.desk c.evict_now.new.far)
     c.in_ok-room.room set.0 same c.requires.config c.requires.configured
-    (swap_crammed _ _ c.args.far.now c.swap_in.new.far c.in_ok-reply.reply x.events x.rule none).0
+    (swap_crammed _ _ c.args.far.now c.swap_in.new.far c.in_ok-swapped.swapped x.events x.rule none).0
     known set.1 y)
     c.swap_in-2.ensures.desk c.swap_in-2.ensures.far
 
 pub returns-clause-sound : goal.returns-clause-sound
 returns-clause-sound g c =
-    let x = c.in_ok-reply.ensures.swap in let y = c.in_ok-room.ensures.evict in
+    let x = c.in_ok-swapped.ensures.swap in let y = c.in_ok-room.ensures.evict in
     shown_if (λ es. g.D.Desk.run c.evict_now.new.desk es c.swap_in-2.new.desk)
     (λ s. g.D.Desk.shows c.evict_now.new.desk s) (λ s. g.D.Desk.shows c.swap_in-2.new.desk s)
     c.evict_now.new.far c.swap_in-2.new.far _ _ c.swap_in-2.result c.swap_in-2.ensures.swap

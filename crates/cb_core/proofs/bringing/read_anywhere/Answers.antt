@@ -1,5 +1,4 @@
-use Rattle.std.proofs.Common.{sym, ◌∙◌, refl, ap, subst, ◌≡◌, Option, Some}
-use Rattle.cb_types.specs.declared.config.Config.{Config}
+use Rattle.std.proofs.Common.{sym, ◌∙◌, refl, subst, ◌≡◌, Some}
 use Rattle.cb_types.specs.Config.{IsAccepted}
 use Rattle.cb_world.specs.FarState.{FarState}
 use Rattle.cb_world.specs.declared.homes.Home.{Home}

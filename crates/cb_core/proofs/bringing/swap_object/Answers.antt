@@ -1,5 +1,4 @@
-use Rattle.std.proofs.Common.{◌≡◌}
-use Rattle.cb_core.specs.Turned.{BringLacks, Brings, Finds}
+use Rattle.cb_core.specs.Turned.{Brings, Finds}
 use Rattle.cb_core.proofs.Composing.{bring_lacks_as, brings_as_if, comes_in, err_map, finds_as, holding, shown_after}
 use Rattle.cb_core.proofs.PartsFar.{far_has_home}
 use Rattle.cb_core.proofs.bringing.swap_object.Goals as goal

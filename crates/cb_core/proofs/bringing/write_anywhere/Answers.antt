@@ -39,8 +39,8 @@ bring-requires-clause-sound g c =
     (shown_after _ _ _ _ _ _ _ c.in_ok-reply.ensures.write
     (λ es s ran a. (g.met.D.Desk.follows _ _ es s ran a).1) c.requires.sound)
 
-pub returns-in_err-brought-clause-error : goal.returns-in_err-brought-clause-error
-returns-in_err-brought-clause-error g c =
+pub returns-in_err-came-clause-error : goal.returns-in_err-came-clause-error
+returns-in_err-came-clause-error g c =
     let x = c.in_ok-reply.ensures.write in let d = c.in_default.ensures.declines.1 in
     far_stops (Writes (λ d es e. g.D.Desk.run d es e) (λ d s. g.D.Desk.shows d s) c.args.h.n c.args.at c.args.bytes.now) (Declines (λ d es e. g.D.Desk.run d es e) (λ d s. g.D.Desk.shows d s) c.args.h.n c.args.at
     (length c.args.bytes.now)) (Brings (λ d es e. g.D.Desk.run d es e) (λ d s. g.D.Desk.shows d s) (g.D.Desk.settings c.args.desk.now) c.args.h.n)
@@ -48,10 +48,10 @@ returns-in_err-brought-clause-error g c =
     (holding c.decline.new.desk c.write.new.far) c.in_ok-reply.reply
     (far_kept _ _ _ _ _ _ _ x c.in_ok-reply.ensures.far)
     (c.is_not_here.ensures.yes c.if-not-is_not_here.false) c.in_default.ensures.declines NeverLacks (BringLacks (λ d es e. g.D.Desk.run d es e) (λ d s. g.D.Desk.shows d s) (g.D.Desk.settings c.args.desk.now) c.args.h.n)
-    (holding c.bring.new.desk c.bring.new.far) c.from_residual-in_err-brought.result
+    (holding c.bring.new.desk c.bring.new.far) c.from_residual-in_err-came.result
     (bring_lacks_as (λ d es e. g.D.Desk.run d es e) (λ d s. g.D.Desk.shows d s) (g.D.Desk.settings c.args.desk.now) (g.D.Desk.settings c.decline.new.desk) c.args.h.n
     (holding c.decline.new.desk c.write.new.far) (holding c.bring.new.desk c.bring.new.far)
-    (g.met.D.Desk.stays _ _ d.events d.ran ∙ g.met.D.Desk.stays _ _ x.events x.ran) c.in_err-brought.ensures.error)
+    (g.met.D.Desk.stays _ _ d.events d.ran ∙ g.met.D.Desk.stays _ _ x.events x.ran) c.in_err-came.ensures.error)
 
 pub returns-then-not-is_swapped-clause-writes : goal.returns-then-not-is_swapped-clause-writes
 returns-then-not-is_swapped-clause-writes g c =
@@ -62,16 +62,16 @@ returns-then-not-is_swapped-clause-writes g c =
     (holding c.decline.new.desk c.write.new.far) c.in_ok-reply.reply
     (far_kept _ _ _ _ _ _ _ x c.in_ok-reply.ensures.far)
     (c.is_not_here.ensures.yes c.if-not-is_not_here.false) c.in_default.ensures.declines
-    (holding c.bring.new.desk c.bring.new.far) c.in_ok-brought.brought
+    (holding c.bring.new.desk c.bring.new.far) c.in_ok-came.came
     (brings_as (λ d es e. g.D.Desk.run d es e) (λ d s. g.D.Desk.shows d s) (g.D.Desk.settings c.args.desk.now) (g.D.Desk.settings c.decline.new.desk) c.args.h.n
     (holding c.decline.new.desk c.write.new.far) (holding c.bring.new.desk c.bring.new.far)
-    c.in_ok-brought.brought (g.met.D.Desk.stays _ _ d.events d.ran ∙ g.met.D.Desk.stays _ _ x.events x.ran) c.in_ok-brought.ensures.brings)
+    c.in_ok-came.came (g.met.D.Desk.stays _ _ d.events d.ran ∙ g.met.D.Desk.stays _ _ x.events x.ran) c.in_ok-came.ensures.brings)
     (c.is_swapped.ensures.other c.if-not-is_swapped.true)
 
 pub write-requires-2-clause-config : goal.write-requires-2-clause-config
 write-requires-2-clause-config g c =
     let x = c.in_ok-reply.ensures.write in let d = c.in_default.ensures.declines.1 in
-    subst IsAccepted (sym (c.in_ok-brought.ensures.settings ∙ (g.met.D.Desk.stays _ _ d.events d.ran ∙ g.met.D.Desk.stays _ _ x.events x.ran)))
+    subst IsAccepted (sym (c.in_ok-came.ensures.settings ∙ (g.met.D.Desk.stays _ _ d.events d.ran ∙ g.met.D.Desk.stays _ _ x.events x.ran)))
     c.requires.config
 
 pub returns-clause-writes : goal.returns-clause-writes
@@ -85,8 +85,8 @@ returns-clause-writes g c =
     (far_kept _ _ _ _ _ _ _ x c.in_ok-reply.ensures.far)
     (c.is_not_here.ensures.yes c.if-not-is_not_here.false) c.in_default.ensures.declines
     (holding c.bring.new.desk c.bring.new.far) (holding c.write-2.new.desk c.write-2.new.far)
-    c.in_ok-brought.brought is.0 c.write-2.result
+    c.in_ok-came.came is.0 c.write-2.result
     (brings_as (λ d es e. g.D.Desk.run d es e) (λ d s. g.D.Desk.shows d s) (g.D.Desk.settings c.args.desk.now) (g.D.Desk.settings c.decline.new.desk) c.args.h.n
     (holding c.decline.new.desk c.write.new.far) (holding c.bring.new.desk c.bring.new.far)
-    c.in_ok-brought.brought (g.met.D.Desk.stays _ _ d.events d.ran ∙ g.met.D.Desk.stays _ _ x.events x.ran) c.in_ok-brought.ensures.brings)
+    c.in_ok-came.came (g.met.D.Desk.stays _ _ d.events d.ran ∙ g.met.D.Desk.stays _ _ x.events x.ran) c.in_ok-came.ensures.brings)
     is.1 (far_kept_if _ _ _ _ _ _ _ c.write-2.result c.write-2.ensures.write c.write-2.ensures.far)

@@ -1,4 +1,4 @@
-use Rattle.std.proofs.Common.{length, Some, None, refl, sym, ap, ◌∙◌, arith}
+use Rattle.std.proofs.Common.{length, Some, None, sym, ap, ◌∙◌}
 use Rattle.cb_ptr.specs.declared.word.PtrWord.{PtrWord}
 use Rattle.cb_types.specs.declared.reply.Reply.TheVariants as answer
 use Rattle.cb_core.proofs.DeclinedLooks.{declines_by, declines_gone, may_go_on, no_next, past_end}

@@ -1,0 +1,131 @@
+-- Worked examples of a look before a write, and of rows that were given out, over any desk: what meets
+-- the definitions, and what breaks one part alone.
+use Rattle.std.proofs.Common.{◌≡◌, ℕ, ◌≤◌, true, false, List, [], ◌∷◌, Option, None, Some, length, refl, sym, ap, ◌∙◌, subst, inl, inr, lit≤, arith}
+use Rattle.std.specs.FinMap as map
+use Rattle.std.proofs.lemmas.Bool.{false≢true}
+use Rattle.cb_member.specs.declared.names.Shard.{Shard}
+use Rattle.cb_member.specs.Membership.{Membership, fresh_members}
+use Rattle.cb_set.specs.SetState.{SetState, set_of}
+use Rattle.cb_types.specs.declared.reply.Reply.{Reply}
+use Rattle.cb_types.specs.declared.reply.Reply.TheVariants as answer
+use Rattle.cb_world.specs.declared.event.Event.{Event}
+use Rattle.cb_world.specs.declared.event.Event.TheVariants.{Looked, Told, Settled}
+use Rattle.cb_world.specs.declared.homes.Home.{Home}
+use Rattle.cb_world.specs.FarState.{FarState}
+use Rattle.cb_world.specs.Homes.{home_at}
+use Rattle.cb_world.specs.Now.{is_gone, broken_set}
+use Rattle.cb_world.specs.Sets.{set_in}
+use Rattle.cb_swapin.specs.Fetching.{far_given}
+use Rattle.cb_core.specs.Turned.{IsDeclined, IsGiven}
+use Rattle.cb_core.proofs.WorkedRoom.{counts, far_of, span_with}
+
+-- ---- object 0 is far: it has its home in set 5, of one data position and one parity
+abbrev shard : ℕ → Shard
+shard n = record { node = record { n = n }; incarnation = 0; key = n }
+
+abbrev set : SetState
+set = set_of 5 (shard 0 ∷ shard 1 ∷ [])
+    (record { live = true; slots = Some 0 ∷ None ∷ None ∷ None ∷ [] } ∷ [])
+
+abbrev home : Home
+home = record { set = 5; position = 0; slot = 0 }
+
+abbrev with_nodes : Membership → FarState
+with_nodes members = record (far_of (span_with (Some 1) None) (span_with None (Some 1)) None members
+    (counts 0 [])) {
+      sets = map.insert map.empty 5 (record { set = set; committed = true });
+      homes = Some home ∷ None ∷ [];
+    }
+
+-- both nodes are up; and both have crashed
+abbrev whole : FarState
+whole = with_nodes (fresh_members 2)
+
+abbrev lost : FarState
+lost = with_nodes (record {
+  epoch = 2;
+  nodes = record { up = false; incarnation = 0; crashes = record { n = 1 } ∷ [] }
+      ∷ record { up = false; incarnation = 0; crashes = record { n = 2 } ∷ [] } ∷ [];
+})
+
+there : (members : Membership) → set_in (with_nodes members).sets 5 ≡ Some set
+there members = grind (arith, map.gets)
+
+not_gone : is_gone whole 0 ≡ false
+not_gone = ap (λ (o : Option SetState). broken_set whole.members o) (there (fresh_members 2))
+
+gone : is_gone lost 0 ≡ true
+gone = ap (λ (o : Option SetState). broken_set lost.members o) (there lost.members)
+
+-- ---- a look before a write to it: its word has two bytes, and its version is 3
+abbrev looks : List Event
+looks = Looked 0 16385 ∷ Told 0 3 ∷ []
+
+goes_on : IsDeclined 0 1 1 whole None looks
+goes_on = inr (not_gone, (16385, 3, inr ((refl, refl), ((λ w e. e), tt)), inr (refl, refl), tt, refl))
+
+past_its_end : IsDeclined 0 1 2 whole (Some (answer.Range 2)) looks
+past_its_end =
+    inr (not_gone, (16385, 3, inr ((refl, refl), ((λ w e. e), tt)), inr (refl, refl), tt, refl))
+
+not_looked_at : IsDeclined 0 1 2 lost None []
+not_looked_at = inl (gone, refl, refl)
+
+none_some : (r : Reply) → None ≡ Some r → ⊥
+none_some r e = cc
+
+-- where the set is broken nothing is looked at, and nothing declined
+looks_at_lost : IsDeclined 0 1 1 lost None looks → ⊥
+looks_at_lost (inl x) = nothing x.2
+  where
+    nothing : looks ≡ [] → ⊥
+    nothing e = let n : 2 ≡ 0 = ap (λ (es : List Event). length es) e in omega (arith, n)
+looks_at_lost (inr x) = false≢true (sym x.0 ∙ gone)
+
+declines_lost : IsDeclined 0 1 2 lost (Some (answer.Range 2)) [] → ⊥
+declines_lost (inl x) = none_some (answer.Range 2) (sym x.1)
+declines_lost (inr x) = false≢true (sym x.0 ∙ gone)
+
+-- nothing was looked at though the set is not broken
+not_looked : IsDeclined 0 1 1 whole None [] → ⊥
+not_looked (inl x) = false≢true (sym not_gone ∙ x.0)
+not_looked (inr x) = x.1.2
+
+-- no version word was read
+not_told : IsDeclined 0 1 1 whole None (Looked 0 16385 ∷ []) → ⊥
+not_told (inl x) = false≢true (sym not_gone ∙ x.0)
+not_told (inr x) = x.1.3
+
+-- the version word was read behind a settling
+told_late : IsDeclined 0 1 1 whole None (Looked 0 16385 ∷ Settled 0 0 ∷ Told 0 3 ∷ []) → ⊥
+told_late (inl x) = false≢true (sym not_gone ∙ x.0)
+told_late (inr x) = x.1.4.0
+
+-- ---- rows that were given out in vain
+some_home : (p q : Home) → Some p ≡ Some q → p ≡ q
+some_home p q e = cc
+
+some_set : (a b : SetState) → Some a ≡ Some b → a ≡ b
+some_set a b e = cc
+
+its_set : (h : Home) (s : SetState) → home_at whole.homes 0 ≡ Some h
+    → set_in whole.sets h.set ≡ Some s → s ≡ set
+its_set h s at in_sets = some_set s set (sym in_sets
+    ∙ ap (λ (x : Home). set_in whole.sets x.set) (sym (some_home home h at)) ∙ there (fresh_members 2))
+
+given_one : IsGiven whole (far_given whole 1) 0
+given_one h s at in_sets =
+    (1, subst (λ (x : SetState). 1 ≤ length x.positions) (sym (its_set h s at in_sets)) (lit≤ tt), refl)
+
+-- more rows than the set has data positions
+given_two : IsGiven whole (far_given whole 2) 0 → ⊥
+given_two x =
+    let y = x home set refl (there (fresh_members 2)) in
+    let e = ap (λ (f : FarState). f.nodes.given) y.2 in
+    let most : y.0 ≤ 1 = y.1 in omega (arith, most, e)
+
+-- something else was done too
+given_and_made : IsGiven whole (record (far_given whole 1) { made = 7 }) 0 → ⊥
+given_and_made x =
+    let y = x home set refl (there (fresh_members 2)) in
+    let e : 7 ≡ 1 = ap (λ (f : FarState). f.made) y.2 in omega (arith, e)
