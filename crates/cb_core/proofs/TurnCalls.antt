@@ -238,4 +238,3 @@ pub turn_turns : (j : Job) (w new : WorldState) (r : Reply) → IsSoundWorld w
 turn_turns j w new r before few step =
     let d = is_done j w new r few step in
     (works_turn j (held_at w j) (held_then new) before.shown d.reply (known_at w j before) d.works).turns
-

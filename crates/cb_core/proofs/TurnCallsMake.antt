@@ -97,4 +97,3 @@ pub evict_line : (x y : Words) (far new : FarState) (r : Reply) → IsEvictStep 
 evict_line x y far new r (few_spans z same) = subst (IsReplyOf Evict) (sym z.reply) tt
 evict_line x y far new r (few_nodes z same) = subst (IsReplyOf Evict) (sym z.reply) tt
 evict_line x y far new r (made z) = subst (IsReplyOf Evict) (sym z.reply) tt
-

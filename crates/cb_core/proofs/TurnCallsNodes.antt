@@ -111,4 +111,3 @@ join_line far to new node q (joined down is same) =
     subst (IsReplyOf (Join node)) (sym (ap (final_reply new) is)) tt
 join_line far to new node q (is_up up is same) =
     subst (IsReplyOf (Join node)) (sym (ap (final_reply new) is)) tt
-

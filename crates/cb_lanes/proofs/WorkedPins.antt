@@ -8,7 +8,7 @@ use Rattle.cb_types.specs.declared.config.Config.{Config}
 use Rattle.cb_types.specs.declared.request.Request.{Request}
 use Rattle.cb_types.specs.declared.request.Request.TheVariants.{Make, Pin, Peek, Unpin, Leave}
 use Rattle.cb_types.specs.declared.reply.Reply.{Reply}
-use Rattle.cb_types.specs.declared.reply.Reply.TheVariants.{Made, Version, Bytes, Done, Left, Unmade, Freed, Pinned, ScopeFull, NotPinned}
+use Rattle.cb_types.specs.declared.reply.Reply.TheVariants.{Made, Version, Bytes, Done, Left, Unmade, Freed, Pinned, ScopeFull, NotPinned, NotHere, NoRoom, Stays, Swapped}
 use Rattle.cb_ptr.specs.Word.{len_of}
 use Rattle.cb_world.specs.declared.seats.Pin.{Pin as SeatPin}
 use Rattle.cb_world.specs.Memory.{bytes_in}
@@ -19,7 +19,7 @@ use Rattle.cb_core.specs.declared.event.Atomic.TheVariants as atomic
 use Rattle.cb_core.specs.declared.event.Event.TheVariants as event
 use Rattle.cb_core.specs.Pinning.{not_pinned as unpin_refused, given}
 use Rattle.cb_lanes.specs.GivingBack.{end_of, GivesAll, lines_of, Rests}
-use Rattle.cb_lanes.specs.LineStep.{not_pinned, shown, CallStep, LineStep}
+use Rattle.cb_lanes.specs.LineStep.{not_pinned, shown, CallStep, LineStep, IsInReply, PinEvent, SwapEvent, PinLine, at_once, stays_far, swapped_in}
 use Rattle.cb_lanes.specs.LinesLeft.{AreLanes, AreLeft}
 use Rattle.cb_lanes.specs.Scopes.{NamedPin, Scope, newest_on, without_newest, named_on, scope_after, scope_of, PinnedSays, ScopeSays, KeepScopes}
 
@@ -254,3 +254,28 @@ peek_at_another_version (shown at n is same) =
 
 peek_needs_a_pin : CallStep 2 0 (Peek a) held NotPinned held
 peek_needs_a_pin = not_pinned (λ at p there. absurd cc) refl refl
+
+-- ---- pins of objects that are not here
+
+it_stays : IsInReply Stays
+it_stays = tt
+
+it_came_in : IsInReply (Swapped 3)
+it_came_in = tt
+
+without_room_it_is_not_in : IsInReply (NoRoom 8 1 4) → ⊥
+without_room_it_is_not_in is = is
+
+-- an object that is here is pinned by the one step
+pinned_at_once : (w new : WorldState) → PinEvent 1 4 w (Version 2) new → PinLine 1 4 w (Version 2) new
+pinned_at_once w new pin = at_once pin (λ e. cc)
+
+-- one that can't be swapped in is answered as the swap was
+not_swapped_in : (w m new : WorldState) → PinEvent 1 4 w NotHere m → SwapEvent 1 4 m (NoRoom 8 1 4) new
+    → PinLine 1 4 w (NoRoom 8 1 4) new
+not_swapped_in w m new pin swap = stays_far m pin swap (λ is. is)
+
+-- and one that came in is pinned then
+pinned_once_here : (w m n new : WorldState) → PinEvent 1 4 w NotHere m → SwapEvent 1 4 m (Swapped 3) n
+    → PinEvent 1 4 n (Version 2) new → PinLine 1 4 w (Version 2) new
+pinned_once_here w m n new pin swap again = swapped_in m n (Swapped 3) pin swap tt again
