@@ -165,3 +165,8 @@ carried s h w v place n words copied x k =
           ∙ nothing_written (with_words s place words) h w v n words x.claimed.object
           x.claimed.version k.state old;
     }
+
+-- what agrees with what is known does so in its first part
+pub agree_first : (es fs : List Event) (s : Shown) → Agree s (es ++ fs) → Agree s es
+agree_first [] fs s a = tt
+agree_first (e ∷ es) fs s a = (a.0, agree_first es fs (after e s) a.1)

@@ -1,3 +1,4 @@
 pub mod Copied
 pub mod Cooled
 pub mod Seated
+pub mod Berths
