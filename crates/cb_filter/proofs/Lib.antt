@@ -2,3 +2,4 @@ pub mod Copied
 pub mod Cooled
 pub mod Seated
 pub mod Berths
+pub mod Moved
