@@ -3,3 +3,5 @@ pub mod Cooled
 pub mod Seated
 pub mod Berths
 pub mod Moved
+pub mod Settled
+pub mod Filtered
