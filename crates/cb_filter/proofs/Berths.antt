@@ -1,5 +1,5 @@
 -- The slot that an object leaves and the one that it gets: they lie in different frames.
-use Rattle.std.proofs.Common.{◌≡◌, ◌≢◌, ℕ, Bool, ◌<◌, List, Option, Some, None, length, set, sym, ap, ◌∙◌, subst, refl, inl, inr, length-set, get_or-set_other}
+use Rattle.std.proofs.Common.{◌≡◌, ◌≢◌, ℕ, Bool, ◌<◌, List, Option, Some, None, sym, ap, ◌∙◌, subst, refl, inl, inr, length-set, get_or-set_other}
 use Rattle.cb_class.specs.declared.class.Class.{Class}
 use Rattle.cb_frame.specs.FreeFrames.{IsFree}
 use Rattle.cb_frame.proofs.Laws.{least_free-Some}
@@ -10,7 +10,7 @@ use Rattle.cb_span.specs.Places.{frame_of}
 use Rattle.cb_world.specs.FarState.{FarState, span_in}
 use Rattle.cb_world.specs.LocalSound.{AreFrames}
 use Rattle.cb_world.specs.Placed.{Slot, IsChosen, with_object}
-use Rattle.cb_world.specs.Released.{IsSlotAt, spans_without, frames_without, with_released}
+use Rattle.cb_world.specs.Released.{spans_without, frames_without, with_released}
 use Rattle.cb_world.proofs.Apart.{some_same}
 use Rattle.cb_world.proofs.Slots.{chosen_empty}
 use Rattle.cb_filter.specs.Seats.{Seat, with_moved}

@@ -1,8 +1,8 @@
 -- A claimed object is settled at a place where its words stand, not hot.
-use Rattle.std.proofs.Common.{◌≡◌, ℕ, Bool, false, ◌+◌, ◌<◌, ◌≤◌, List, [], ◌∷◌, ◌++◌, length, set, sym, refl, ap, ◌∙◌, subst, arith, inl, eq-eqb, cond}
+use Rattle.std.proofs.Common.{◌≡◌, ℕ, Bool, false, ◌+◌, ◌<◌, ◌≤◌, List, [], ◌∷◌, ◌++◌, length, set, sym, ap, ◌∙◌, subst, arith, inl, eq-eqb, cond}
 use Rattle.cb_ptr.specs.declared.word.State.{State}
 use Rattle.cb_ptr.specs.declared.word.State.TheVariants as word
-use Rattle.cb_ptr.specs.Word.{state_of, hot_of, len_of, place_of}
+use Rattle.cb_ptr.specs.Word.{state_of, len_of, place_of}
 use Rattle.cb_ptr.specs.Steps.{Claims, Settles}
 use Rattle.cb_world.specs.declared.object.Object.{Object}
 use Rattle.cb_world.specs.declared.object.Object.TheVariants as is
@@ -14,15 +14,14 @@ use Rattle.cb_world.specs.Shown.{Covers, Owns, MayLie, object_at, version_at}
 use Rattle.cb_world.specs.Settling.{MaySettle, MaySettleAs, MayBring, settled_words}
 use Rattle.cb_world.specs.Played.{Agree, after, played}
 use Rattle.cb_world.specs.Allowed.{Allowed}
-use Rattle.cb_world.specs.Grasped.{IsFree}
 use Rattle.cb_world.specs.Written.{Writes, written_by, adds_as, entry}
-use Rattle.cb_world.specs.Claimed.{IsClaimedAt, with_settled}
+use Rattle.cb_world.specs.Claimed.{IsClaimedAt}
 use Rattle.cb_world.proofs.Windows.{window_put, length_put}
 use Rattle.cb_world.proofs.Claimed.{held, settled_here}
-use Rattle.cb_world.proofs.Tracing.{played_append, agree_last}
+use Rattle.cb_world.proofs.Tracing.{played_append}
 use Rattle.cb_world.proofs.Untouched.{allowed_append}
 use Rattle.cb_filter.specs.Copies.{IsCoolWord, IsVacant, copied_from}
-use Rattle.cb_filter.specs.ClaimEnds.{with_carried, IsCarried, IsSettledBack}
+use Rattle.cb_filter.specs.ClaimEnds.{IsCarried, IsSettledBack}
 use Rattle.cb_filter.proofs.Copied.{copied_played, copied_allowed, copied_words, copied_written, owns_lie}
 
 -- the word at which the object is settled
@@ -50,8 +49,10 @@ may_settle_at t h w v n place words object version contents alone k =
           (subst (λ (l : ℕ). Covers (place_of n) l p) k.len covers)),
       subst (MayBring t h n) (sym object) (
         k.len,
-        inl (version,
-            ap (λ (p : ℕ). window t.memory p (words_for (len_of w))) k.at ∙ contents),
+        inl (
+          version,
+          ap (λ (p : ℕ). window t.memory p (words_for (len_of w))) k.at ∙ contents,
+        ),
       ),
     )
 

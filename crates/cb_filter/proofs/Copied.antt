@@ -1,5 +1,5 @@
 -- Words copied to another place, and what is known then.
-use Rattle.std.proofs.Common.{◌≡◌, ◌≢◌, ℕ, suc, Bool, false, ◌+◌, ◌*◌, ◌^◌, ◌<◌, ◌≤◌, List, [], ◌∷◌, ◌++◌, length, get_or, set, sym, refl, ap, ◌∙◌, subst, arith, inl, inr, length-set, get_or-set_other}
+use Rattle.std.proofs.Common.{◌≡◌, ℕ, suc, ◌+◌, ◌<◌, ◌≤◌, List, [], ◌∷◌, ◌++◌, length, get_or, set, sym, refl, ap, ◌∙◌, subst, arith, length-set, get_or-set_other}
 use native.Mathlib.Decide.{ℕ_discrete}
 use Rattle.cb_world.specs.declared.object.Object.{Object}
 use Rattle.cb_world.specs.declared.object.Object.TheVariants as is
@@ -9,7 +9,7 @@ use Rattle.cb_world.specs.declared.entry.Entry.{Entry}
 use Rattle.cb_world.specs.declared.shown.Shown.{Shown}
 use Rattle.cb_world.specs.Memory.{window, put}
 use Rattle.cb_world.specs.Shown.{Owns, Spares, Avoids, MayLie, IsHeld, object_at}
-use Rattle.cb_world.specs.Played.{Agree, after, played}
+use Rattle.cb_world.specs.Played.{Agree, played}
 use Rattle.cb_world.specs.Looks.{NoLook, NoClaim, LooksFirst, told_by}
 use Rattle.cb_world.specs.Touches.{SettlesLast}
 use Rattle.cb_world.specs.Allowed.{Allowed}

@@ -1,19 +1,18 @@
 -- The world after a filter.
-use Rattle.std.proofs.Common.{◌≡◌, ◌≢◌, ◌⊎◌, ℕ, zero, suc, Bool, false, ◌+◌, ◌<◌, ◌≤◌, List, [], ◌∷◌, ◌++◌, length, set, sym, refl, ap, ◌∙◌, subst, arith, inl, inr, get_or-set_other}
+use Rattle.std.proofs.Common.{◌≡◌, ℕ, zero, suc, Bool, false, ◌<◌, List, ◌++◌, length, set, sym, refl, ap, ◌∙◌, subst, arith, inl, inr, get_or-set_other}
 use Rattle.std.proofs.lemmas.List.{set-set}
 use Rattle.cb_ptr.specs.declared.word.State.{State}
 use Rattle.cb_ptr.specs.declared.word.State.TheVariants as state
-use Rattle.cb_ptr.specs.Word.{state_of, hot_of, len_of, place_of, pins_of}
+use Rattle.cb_ptr.specs.Word.{hot_of, len_of, place_of, pins_of}
 use Rattle.cb_span.specs.declared.temp.Temp.{Temp}
 use Rattle.cb_span.specs.Contents.{Contents}
 use Rattle.cb_types.specs.declared.reply.Reply.{Reply}
 use Rattle.cb_types.specs.declared.reply.Reply.TheVariants as answer
 use Rattle.cb_world.specs.declared.object.Object.TheVariants as is
 use Rattle.cb_world.specs.declared.event.Event.{Event}
-use Rattle.cb_world.specs.declared.event.Event.TheVariants.{Settled}
 use Rattle.cb_world.specs.declared.shown.Shown.{Shown}
 use Rattle.cb_world.specs.Memory.{window, put, words_for}
-use Rattle.cb_world.specs.Shown.{object_at, never}
+use Rattle.cb_world.specs.Shown.{never}
 use Rattle.cb_world.specs.Played.{played}
 use Rattle.cb_world.specs.Looks.{IsFound, IsTaken, told_by}
 use Rattle.cb_world.specs.Grasped.{IsFree}
@@ -27,16 +26,16 @@ use Rattle.cb_world.proofs.Windows.{window_put, length_put}
 use Rattle.cb_world.proofs.Kept.{claimed_from}
 use Rattle.cb_world.proofs.AfterClaim.{IsAfterClaim}
 use Rattle.cb_world.proofs.AfterLook.{told_before}
-use Rattle.cb_filter.specs.Seats.{Seat, IsSeatOf, temp_for, with_moved}
+use Rattle.cb_filter.specs.Seats.{Seat, IsSeatOf, temp_for}
 use Rattle.cb_filter.specs.FilterRule.{EmptyAnswer, GetsSlot, FilterHere, FilterAs, NeedsMemory}
-use Rattle.cb_filter.specs.FilterEffect.{IsMoved, FilterEffect}
+use Rattle.cb_filter.specs.FilterEffect.{FilterEffect}
 use Rattle.cb_filter.specs.Refused.{RefusedAs}
-use Rattle.cb_filter.specs.Plans.{LiesIn, Wants}
+use Rattle.cb_filter.specs.Plans.{Wants}
 use Rattle.cb_filter.specs.Copies.{IsVacant}
 use Rattle.cb_filter.specs.ClaimEnds.{IsKnownAt, IsCarried, with_carried, SeatEnds}
 use Rattle.cb_filter.proofs.Berths.{one_span}
 use Rattle.cb_filter.proofs.Moved.{IsReady, seat_of, seat_lies, vacant_at, sound_moved}
-use Rattle.cb_filter.proofs.Settled.{claimed_words, told_objects, settled_well, back_now, is_cooled, is_still, still_now, HasMoved, moved_now}
+use Rattle.cb_filter.proofs.Settled.{claimed_words, told_objects, settled_well, back_now, is_cooled, is_still, still_now, moved_now}
 
 -- What holds where a filter begins with a claim.
 pub record IsBegun (far : FarState) (s : Shown) (first done : List Event) (h w v : ℕ)

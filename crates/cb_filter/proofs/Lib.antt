@@ -5,3 +5,6 @@ pub mod Berths
 pub mod Moved
 pub mod Settled
 pub mod Filtered
+pub mod EmptyWorld
+pub mod WorkedSeats
+mod WorkedFilter

@@ -1,5 +1,5 @@
 -- The world once an object that was here is in another slot.
-use Rattle.std.proofs.Common.{◌≡◌, ◌≢◌, ◌⊎◌, ℕ, Bool, true, false, ◌+◌, ◌*◌, ◌<◌, ◌≤◌, ◌==◌, List, Option, Some, None, Contains, length, get_or, set, if◌then◌else◌, sym, refl, ap, ◌∙◌, subst, arith, inl, inr, length-set, get_or-set_other, get_or-set_same}
+use Rattle.std.proofs.Common.{◌≡◌, ◌≢◌, ◌⊎◌, ℕ, Bool, true, false, ◌+◌, ◌*◌, ◌<◌, ◌≤◌, List, Option, Some, None, length, get_or, set, if◌then◌else◌, sym, refl, ap, ◌∙◌, subst, arith, inl, inr, length-set, get_or-set_other, get_or-set_same}
 use native.Mathlib.Decide.{ℕ_discrete}
 use Rattle.std.proofs.lemmas.Bool.{cases_order, cases_lt}
 use Rattle.std.proofs.lemmas.List.{set-set, set_comm}
@@ -7,7 +7,6 @@ use Rattle.cb_class.specs.Class.{IsClassOf}
 use Rattle.cb_frame.specs.FrameSet.{contains}
 use Rattle.cb_frame.specs.FreeFrames.{with_given}
 use Rattle.cb_frame.proofs.Laws.{contains-with_inserted, contains-with_inserted_other}
-use Rattle.cb_ptr.specs.Word.{hot_of, len_of, place_of}
 use Rattle.cb_span.specs.declared.temp.Temp.{Temp}
 use Rattle.cb_span.specs.Contents.{Contents, with_cleared, with_placed}
 use Rattle.cb_span.proofs.Laws.{slot_in_range}
@@ -15,25 +14,22 @@ use Rattle.cb_world.specs.declared.object.Object.{Object}
 use Rattle.cb_world.specs.declared.object.Object.TheVariants as is
 use Rattle.cb_world.specs.declared.shown.Shown.{Shown}
 use Rattle.cb_world.specs.Memory.{put, words_for}
-use Rattle.cb_world.specs.Shown.{Covers, Avoids, MayLie, object_at, version_at, never}
+use Rattle.cb_world.specs.Shown.{Covers, Avoids, MayLie, object_at, never}
 use Rattle.cb_world.specs.FarState.{FarState, span_in}
-use Rattle.cb_world.specs.Leaving.{LeavingState}
 use Rattle.cb_world.specs.LocalSound.{HasSlot}
 use Rattle.cb_world.specs.Sound.{Sound}
-use Rattle.cb_world.specs.Placed.{Slot, IsChosen, place_in, with_object}
+use Rattle.cb_world.specs.Placed.{Slot, IsChosen, place_in}
 use Rattle.cb_world.specs.Released.{is_last, frames_without, with_released}
 use Rattle.cb_world.proofs.Apart.{slot_inside}
 use Rattle.cb_world.proofs.Windows.{length_put}
-use Rattle.cb_world.proofs.Kept.{claimed_from, frame_in_range}
+use Rattle.cb_world.proofs.Kept.{frame_in_range}
 use Rattle.cb_world.proofs.Claimed.{lies}
 use Rattle.cb_world.proofs.Beside.{put_beside}
 use Rattle.cb_world.proofs.Gone.{sound_gone}
 use Rattle.cb_world.proofs.Slots.{IsEmptySlot, chosen_empty, chosen_class, chosen_stays}
 use Rattle.cb_world.proofs.Placed.{IsCounted, made_counted, slot_bounds, may_lie, sound_brought, with_made}
 use Rattle.cb_filter.specs.Seats.{Seat, with_moved}
-use Rattle.cb_filter.specs.Copies.{IsVacant}
 use Rattle.cb_filter.specs.Plans.{LiesIn}
-use Rattle.cb_filter.specs.ClaimEnds.{with_carried}
 use Rattle.cb_filter.proofs.Berths.{apart_frame}
 
 some_none : (x : Contents) → Some x ≡ None → ⊥

@@ -1,5 +1,5 @@
 -- The slot that lies at a place.
-use Rattle.std.proofs.Common.{◌≡◌, ℕ, sym, ap, ◌∙◌, Some, None}
+use Rattle.std.proofs.Common.{◌≡◌, ℕ, ap, ◌∙◌, Some, None}
 use Rattle.cb_span.specs.Contents.{Contents}
 use Rattle.cb_span.specs.Places.{frame_of}
 use Rattle.cb_world.specs.FarState.{FarState, span_in}

@@ -1,7 +1,6 @@
 -- How a filter of a claimed object ends.
 use Rattle.std.specs.Prelude.{◌≡◌, ◌≢◌, ◌⊎◌, ℕ, Bool, false, List, [], slice_set}
 use Rattle.cb_ptr.specs.Word.{hot_of, len_of, place_of}
-use Rattle.cb_span.specs.declared.temp.Temp.{Temp}
 use Rattle.cb_types.specs.declared.reply.Reply.{Reply}
 use Rattle.cb_world.specs.declared.object.Object.TheVariants as is
 use Rattle.cb_world.specs.declared.event.Event.{Event}

@@ -1,4 +1,5 @@
 ghost use Rattle.std.specs.Prelude.{◌<◌};
+
 use super::*;
 use cb_types::{Config, Handle, Reply};
 use cb_world::World;
@@ -28,7 +29,10 @@ fn filter_empty(alloc: Global, n: u32) -> Result<Reply, Fail>
 #[test]
 fn an_object_that_was_never_made_is_unmade(rt: HostRuntime) -> Result<(), Fail> {
     for n in 0..9 {
-        assert!(rt; matches!(filter_empty(rt.alloc(), n)?, Reply::Unmade), "{n}");
+        assert!(rt;
+            matches!(filter_empty(rt.alloc(), n)?, Reply::Unmade),
+            "{n}"
+        );
     }
     Ok(())
 }

@@ -1,7 +1,6 @@
-use Rattle.std.proofs.Common.{ℕ, ◌+◌, ◌<◌, refl, sym, ap, ◌∙◌, subst, arith}
+use Rattle.std.proofs.Common.{ℕ, refl, ap, subst, arith}
 use Rattle.cb_types.specs.declared.config.Field.TheVariants.{Frames}
 use Rattle.cb_ptr.specs.declared.word.PtrWord.{PtrWord}
-use Rattle.cb_world.specs.declared.event.Event.{Event}
 use Rattle.cb_world.specs.Played.{played}
 use Rattle.cb_filter.specs.Copies.{copied_from}
 use Rattle.cb_filter.proofs.Cooled.{cool_word, may_carry, owns_vacant}

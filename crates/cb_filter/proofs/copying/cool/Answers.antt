@@ -1,4 +1,4 @@
-use Rattle.std.proofs.Common.{refl, ap}
+use Rattle.std.proofs.Common.{ap}
 use Rattle.cb_ptr.specs.declared.word.PtrWord.{PtrWord}
 use Rattle.cb_filter.proofs.Cooled.{cool_word, may_cool}
 use Rattle.cb_filter.proofs.copying.cool.Goals as goal

@@ -1,18 +1,14 @@
-use Rattle.std.proofs.Common.{ℕ, List, Bool, Option, [], ◌∷◌, ◌++◌, refl, sym, ap, ◌∙◌, subst, inl, inr}
-use Rattle.cb_span.specs.declared.temp.Temp.{Temp}
+use Rattle.std.proofs.Common.{ℕ, List, [], ◌∷◌, ◌++◌, refl, sym, ap, ◌∙◌, subst, inl, inr}
 use Rattle.cb_ptr.specs.declared.word.PtrWord.{PtrWord}
 use Rattle.cb_ptr.specs.Word.{hot_of, place_of}
 use Rattle.cb_types.specs.declared.config.Config.{Config}
 use Rattle.cb_types.specs.declared.reply.Reply.TheVariants as answer
-use Rattle.cb_world.specs.declared.event.Event.{Event}
 use Rattle.cb_world.specs.declared.event.Event.TheVariants.{Settled}
 use Rattle.cb_world.specs.declared.shown.Shown.{Shown}
 use Rattle.cb_world.specs.FarState.{FarState}
 use Rattle.cb_world.specs.Played.{played}
-use Rattle.cb_world.specs.Placed.{Slot, place_in, with_object}
 use Rattle.cb_world.specs.Released.{IsSlotAt}
 use Rattle.cb_world.proofs.Claimed.{may_put_back, settled_here, back_written}
-use Rattle.cb_filter.specs.declared.planning.Plan.{Plan}
 use Rattle.cb_filter.specs.Seats.{Seat, temp_for}
 use Rattle.cb_filter.specs.Copies.{IsVacant, copied_from}
 use Rattle.cb_filter.specs.Plans.{LiesIn, Plans}
@@ -37,7 +33,7 @@ release-requires g c =
         seat.number,
         seat.span,
         subst (λ (p : ℕ). IsSlotAt c.far.inside.frames c.far.inside.spans p seat.frame seat.number
-        seat.span)
+            seat.span)
             (sym (ap (λ (p : PtrWord). p.place) c.unpack.ensures.fields)) lies,
       );
     }
@@ -126,7 +122,7 @@ returns-in-Move-clause-ends g c =
           (sym (c.far.view_is ∙ plan.3))
           (lies_beside far temp plan.0 h from seat c.requires.frames plan.2 lies plan.1) in
           let at = subst (λ (p : ℕ). IsSlotAt c.far.inside.frames c.far.inside.spans p seat.frame seat.number
-        seat.span)
+          seat.span)
           (sym (ap (λ (p : PtrWord). p.place) c.unpack.ensures.fields)) there in
           inr (inr (
             plan.0,

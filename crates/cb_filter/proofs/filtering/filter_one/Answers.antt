@@ -1,4 +1,4 @@
-use Rattle.std.proofs.Common.{◌≡◌, ℕ, ◌+◌, ◌<◌, List, [], ◌∷◌, ◌++◌, length, refl, sym, ap, ◌∙◌, subst, arith}
+use Rattle.std.proofs.Common.{◌≡◌, ℕ, ◌<◌, List, [], ◌∷◌, ◌++◌, refl, sym, ◌∙◌, subst, arith}
 use Rattle.std.proofs.lemmas.Result.{IfOk-weaker, on_err_weaker}
 use Rattle.cb_ptr.specs.declared.word.State.{State}
 use Rattle.cb_ptr.specs.Word.{state_of, hot_of, len_of, place_of}
@@ -9,17 +9,13 @@ use Rattle.cb_world.specs.declared.event.Event.{Event}
 use Rattle.cb_world.specs.declared.event.Event.TheVariants.{Settled}
 use Rattle.cb_world.specs.declared.shown.Shown.{Shown}
 use Rattle.cb_world.specs.Played.{played}
-use Rattle.cb_world.specs.Looks.{told_by}
 use Rattle.cb_world.specs.Sound.{Sound}
-use Rattle.cb_world.specs.Performs.{Performs}
-use Rattle.cb_world.specs.Still.{IsStill}
 use Rattle.cb_world.proofs.AfterClaim.{claim_after, after_claim, claim_found, claim_taken, claim_first, claim_all_allowed}
 use Rattle.cb_world.proofs.AfterLook.{look_after, look_found, look_first, look_allowed, look_sound, look_still}
 use Rattle.cb_world.proofs.Claimed.{may_put_back, settled_here, back_written}
 use Rattle.cb_world.proofs.Touching.{claim_settles_last, look_settles_last}
 use Rattle.cb_filter.specs.Seats.{Seat, temp_for}
-use Rattle.cb_filter.specs.FilterRule.{FilterRule, FilterAs, NeedsMemory}
-use Rattle.cb_filter.specs.FilterEffect.{FilterEffect}
+use Rattle.cb_filter.specs.FilterRule.{FilterAs}
 use Rattle.cb_filter.specs.Plans.{LiesIn, Wants}
 use Rattle.cb_filter.specs.ClaimEnds.{Ends, FilterEnds, SeatEnds, IsKnownAt}
 use Rattle.cb_filter.proofs.Moved.{slot_here, seat_of, seat_lies}
@@ -174,9 +170,10 @@ returns-in-Claimed-clause-filter g c =
             new r (first ++ done)) (sym tried.5.0) (ended had.0 had.1 had.2).rule;
       };
       allowed = λ s k. claim_all_allowed before done h w v words s tried.4
-          (rest.allowed (played first s) v words
-          ((g.met.D.Desk.follows _ _ first s ran k.0).1,
-          known_at far s first done h w v words (begun s k.0 k.1)));
+          (rest.allowed (played first s) v words (
+            (g.met.D.Desk.follows _ _ first s ran k.0).1,
+            known_at far s first done h w v words (begun s k.0 k.1),
+          ));
       sound_after = λ s k. (ended s k.0 k.1).sound;
       effect = λ s k. (ended s k.0 k.1).effect;
     }) c.filter_claimed.ensures.ends
