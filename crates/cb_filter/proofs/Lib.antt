@@ -1,0 +1,10 @@
+pub mod Copied
+pub mod Cooled
+pub mod Seated
+pub mod Berths
+pub mod Moved
+pub mod Settled
+pub mod Filtered
+pub mod EmptyWorld
+pub mod WorkedSeats
+mod WorkedFilter

@@ -1,0 +1,253 @@
+-- The world once an object that was here is in another slot.
+use Rattle.std.proofs.Common.{◌≡◌, ◌≢◌, ◌⊎◌, ℕ, Bool, true, false, ◌+◌, ◌*◌, ◌<◌, ◌≤◌, List, Option, Some, None, length, get_or, set, if◌then◌else◌, sym, refl, ap, ◌∙◌, subst, arith, inl, inr, length-set, get_or-set_other, get_or-set_same}
+use native.Mathlib.Decide.{ℕ_discrete}
+use Rattle.std.proofs.lemmas.Bool.{cases_order, cases_lt}
+use Rattle.std.proofs.lemmas.List.{set-set, set_comm}
+use Rattle.cb_class.specs.Class.{IsClassOf}
+use Rattle.cb_frame.specs.FrameSet.{contains}
+use Rattle.cb_frame.specs.FreeFrames.{with_given}
+use Rattle.cb_frame.proofs.Laws.{contains-with_inserted, contains-with_inserted_other}
+use Rattle.cb_span.specs.declared.temp.Temp.{Temp}
+use Rattle.cb_span.specs.Contents.{Contents, with_cleared, with_placed}
+use Rattle.cb_span.proofs.Laws.{slot_in_range}
+use Rattle.cb_world.specs.declared.object.Object.{Object}
+use Rattle.cb_world.specs.declared.object.Object.TheVariants as is
+use Rattle.cb_world.specs.declared.shown.Shown.{Shown}
+use Rattle.cb_world.specs.Memory.{put, words_for}
+use Rattle.cb_world.specs.Shown.{Covers, Avoids, MayLie, object_at, never}
+use Rattle.cb_world.specs.FarState.{FarState, span_in}
+use Rattle.cb_world.specs.LocalSound.{HasSlot}
+use Rattle.cb_world.specs.Sound.{Sound}
+use Rattle.cb_world.specs.Placed.{Slot, IsChosen, place_in}
+use Rattle.cb_world.specs.Released.{is_last, frames_without, with_released}
+use Rattle.cb_world.proofs.Apart.{slot_inside}
+use Rattle.cb_world.proofs.Windows.{length_put}
+use Rattle.cb_world.proofs.Kept.{frame_in_range}
+use Rattle.cb_world.proofs.Claimed.{lies}
+use Rattle.cb_world.proofs.Beside.{put_beside}
+use Rattle.cb_world.proofs.Gone.{sound_gone}
+use Rattle.cb_world.proofs.Slots.{IsEmptySlot, chosen_empty, chosen_class, chosen_stays}
+use Rattle.cb_world.proofs.Placed.{IsCounted, made_counted, slot_bounds, may_lie, sound_brought, with_made}
+use Rattle.cb_filter.specs.Seats.{Seat, with_moved}
+use Rattle.cb_filter.specs.Plans.{LiesIn}
+use Rattle.cb_filter.proofs.Berths.{apart_frame}
+
+some_none : (x : Contents) → Some x ≡ None → ⊥
+some_none x e = cc
+
+-- the slot of an object that is here
+pub slot_here : (far : FarState) (s : Shown) (h len place : ℕ) → Sound s far
+    → object_at s h ≡ is.Here len place → HasSlot far.spans h len place
+slot_here far s h len place sound here =
+    sound.here.placed.placed h len place (lies s h len place here)
+
+-- as a slot of its span
+abbrev pub seat_of : (spans : List (Option Contents)) (h len place : ℕ)
+    → HasSlot spans h len place → Seat
+seat_of spans h len place c = record { frame = c.frame; number = c.slot; span = c.span }
+
+pub seat_lies : (far : FarState) (s : Shown) (h len place : ℕ) → Sound s far
+    → (c : HasSlot far.spans h len place) → LiesIn far place (seat_of far.spans h len place c)
+seat_lies far s h len place sound c =
+    let within = frame_in_range far.spans c.frame c.span c.there in record {
+      there = c.there;
+      at = c.at;
+      inside = slot_in_range c.span c.slot h c.named;
+      valid = sound.here.frames.valid c.frame c.span c.there;
+      within = within;
+      counted = subst (λ (n : ℕ). c.frame < n) sound.here.frames.sized within;
+      busy = λ free. some_none c.span (sym c.there
+          ∙ (sound.here.frames.free c.frame
+          (subst (λ (n : ℕ). c.frame < n) sound.here.frames.sized within)).0 free);
+    }
+
+-- What holds where an object that is here gets another slot.
+pub record IsReady (s : Shown) (far : FarState) (h len place : ℕ) (temp : Temp) (slot : Slot)
+    : Type 0 where
+  pub sound : Sound s far
+  pub here : object_at s h ≡ is.Here len place
+  pub range : h < length s.objects
+  pub stamp : h < length s.versions
+  pub c : HasSlot far.spans h len place
+  pub other : c.span.temp ≢ temp
+  pub chosen : IsChosen far c.span.class temp slot
+
+module _ (s : Shown) (far : FarState) (h len place : ℕ) (temp : Temp) (slot : Slot)
+    (x : IsReady s far h len place temp slot) where
+  -- the frames are two
+  frames_apart : x.c.frame ≢ slot.frame
+  frames_apart = apart_frame far x.c.span.class temp slot place
+      (seat_of far.spans h len place x.c) x.chosen (seat_lies far s h len place x.sound x.c) x.other
+
+  frames_off : slot.frame ≢ x.c.frame
+  frames_off e = frames_apart (sym e)
+
+  free : IsEmptySlot far slot
+  free = chosen_empty far x.c.span.class temp slot x.sound.here.frames x.c.fits.in_table x.chosen
+
+  fits : IsClassOf len slot.span.class
+  fits = subst (IsClassOf len) (sym (chosen_class far x.c.span.class temp slot x.chosen)) x.c.fits
+
+  -- the far state without the object, and the slot there
+  abbrev between : FarState
+  between = with_released far x.c.frame x.c.slot x.c.span
+
+  abbrev again : Slot
+  again = record slot { free = frames_without slot.free x.c.frame x.c.slot x.c.span }
+
+  same_flags : (b : Bool) (f : ℕ) → f ≢ slot.frame
+      → contains (if b then with_given slot.free x.c.frame else slot.free) f
+      ≡ contains (if b then with_given far.frames x.c.frame else far.frames) f
+  same_flags false f off = free.others f off
+  same_flags true f off = by (ℕ_discrete f x.c.frame)
+    where
+      within : x.c.frame < length far.frames
+      within = (seat_lies far s h len place x.sound x.c).counted
+
+      by : Dec (f ≡ x.c.frame)
+          → contains (with_given slot.free x.c.frame) f ≡ contains (with_given far.frames x.c.frame) f
+      by (yes e) = ap (contains (with_given slot.free x.c.frame)) e
+          ∙ contains-with_inserted slot.free x.c.frame (omega (arith, within, free.sized))
+          ∙ sym (ap (contains (with_given far.frames x.c.frame)) e
+          ∙ contains-with_inserted far.frames x.c.frame within)
+      by (no n) = contains-with_inserted_other slot.free x.c.frame f n ∙ free.others f off
+          ∙ sym (contains-with_inserted_other far.frames x.c.frame f n)
+
+  same_size : (b : Bool) → length (if b then with_given slot.free x.c.frame else slot.free)
+      ≡ length (if b then with_given far.frames x.c.frame else far.frames)
+  same_size false = free.sized
+  same_size true = length-set slot.free x.c.frame true ∙ free.sized
+      ∙ sym (length-set far.frames x.c.frame true)
+
+  still_busy : (b : Bool)
+      → contains (if b then with_given slot.free x.c.frame else slot.free) slot.frame ≡ false
+  still_busy false = free.busy
+  still_busy true =
+      contains-with_inserted_other slot.free x.c.frame slot.frame frames_off ∙ free.busy
+
+  abbrev left_over : Option Contents
+  left_over = if is_last x.c.span x.c.slot then None else Some (with_cleared x.c.span x.c.slot)
+
+  else_same : span_in between.spans slot.frame ≡ span_in far.spans slot.frame
+  else_same = get_or-set_other far.spans x.c.frame slot.frame left_over None frames_off
+
+  free_again : IsEmptySlot between again
+  free_again = record {
+    within = subst (λ (n : ℕ). slot.frame < n) (sym (length-set far.spans x.c.frame left_over))
+        free.within;
+    valid = free.valid;
+    inside = free.inside;
+    empty = free.empty;
+    before = elim free.before [
+      | inl there ↦ inl (else_same ∙ there)
+      | inr none ↦ inr (else_same ∙ none.0, none.1)
+    ];
+    sized = same_size (is_last x.c.span x.c.slot);
+    busy = still_busy (is_last x.c.span x.c.slot);
+    others = λ f off. same_flags (is_last x.c.span x.c.slot) f off;
+  }
+
+  -- both ways round the far state is one
+  same_far : with_made between again h far.made
+      ≡ with_moved far (seat_of far.spans h len place x.c) slot h
+  same_far = ap (λ (l : List (Option Contents)). let q : FarState = record far {
+    frames = frames_without slot.free x.c.frame x.c.slot x.c.span;
+    spans = l;
+  } in q) (set_comm far.spans x.c.frame slot.frame left_over
+      (Some (with_placed slot.span slot.number h)) frames_apart)
+
+  -- what would be known if the object were freed
+  abbrev freed_at : ℕ → List ℕ → Shown
+  freed_at v words = record s {
+    objects = set s.objects h (is.Empty (v + 1));
+    versions = set s.versions h (v + 1);
+    memory = put s.memory place words;
+  }
+
+  sound_between : (v : ℕ) (words : List ℕ) → length words ≡ words_for len
+      → Sound (freed_at v words) between
+  sound_between v words count = sound_gone far s (freed_at v words) h len place v x.c x.sound x.here
+      x.range x.stamp (record {
+        first = refl;
+        objects = refl;
+        versions = refl;
+        memory = length_put s.memory place words;
+      }) (put_beside s.memory words place len count)
+
+  empty_at : (v : ℕ) (words : List ℕ) → object_at (freed_at v words) h ≡ is.Empty (v + 1)
+  empty_at v words = get_or-set_same s.objects h (is.Empty (v + 1)) never x.range
+
+  here_never : is.Here len place ≡ never → ⊥
+  here_never e = subst IsAt e tt
+    where
+      IsAt : Object → Type 0
+      IsAt (is.Here l p) = Unit {0}
+      IsAt _ = ⊥
+
+  counted : IsCounted far.made far.made h
+  counted = made_counted far.made h (by (cases_lt h far.made))
+    where
+      by : (h < far.made) ⊎ (far.made ≤ h) → h < far.made
+      by (inl below) = below
+      by (inr most) = absurd (here_never (sym x.here
+          ∙ (x.sound.here.known.made h x.range).0 most))
+
+  range_at : (v : ℕ) → h < length (set s.objects h (is.Empty (v + 1)))
+  range_at v = subst (λ (n : ℕ). h < n) (sym (length-set s.objects h (is.Empty (v + 1)))) x.range
+
+  -- the object may lie in its new slot, whose words it has not
+  pub vacant_at : (v : ℕ) (words : List ℕ) (t : Shown) → length words ≡ words_for len
+      → ((k : ℕ) → k ≢ h → object_at t k ≡ object_at s k) → length t.memory ≡ length s.memory
+      → (place_in slot + words_for len ≤ length t.memory)
+      × ((p : ℕ) → Covers (place_in slot) len p → MayLie t h p)
+      × ((p : ℕ) → Covers (place_in slot) len p → Covers place len p → ⊥)
+  vacant_at v words t count others memory =
+      let ends = slot_bounds far slot len free fits in
+      let old = slot_inside far s h len place x.sound.here x.c in (
+        omega (arith, ends.1, free.within, x.sound.here.placed.memory, memory),
+        λ p covers. let may = may_lie between (freed_at v words) again h len far.made (v + 1) p
+            (sound_between v words count).here (empty_at v words) (range_at v) free_again fits
+            counted covers in (
+              omega (arith, may.0, memory, length_put s.memory place words),
+              λ k off. subst (Avoids p)
+                  (get_or-set_other s.objects h k (is.Empty (v + 1)) never off
+                  ∙ sym (others k off)) (may.1 k off),
+            ),
+        λ p mine yours. two_frames p (cases_order x.c.frame slot.frame) ends old mine yours,
+      )
+    where
+      two_frames : (p : ℕ)
+          → (x.c.frame ≡ slot.frame) ⊎ ((x.c.frame < slot.frame) ⊎ (slot.frame < x.c.frame))
+          → (512 * slot.frame ≤ place_in slot)
+          × (place_in slot + words_for len ≤ 512 * slot.frame + 512)
+          → (512 * x.c.frame ≤ place) × (place + words_for len ≤ 512 * x.c.frame + 512)
+          → Covers (place_in slot) len p → Covers place len p → ⊥
+      two_frames p (inl same) ends old mine yours = frames_apart same
+      two_frames p (inr (inl less)) ends old mine yours =
+          omega (arith, less, ends.0, old.1, mine.0, yours.1)
+      two_frames p (inr (inr more)) ends old mine yours =
+          omega (arith, more, ends.1, old.0, mine.1, yours.0)
+
+  -- the world stays sound where the object is in its new slot
+  pub sound_moved : (t : Shown) (v : ℕ) (words : List ℕ) → length words ≡ words_for len
+      → t.first ≡ s.first → t.objects ≡ set s.objects h (is.Here len (place_in slot))
+      → t.versions ≡ set s.versions h v
+      → t.memory ≡ put (put s.memory place words) (place_in slot) words
+      → Sound t (with_moved far (seat_of far.spans h len place x.c) slot h)
+  sound_moved t v words count first objects versions memory =
+      subst (Sound t) same_far
+      (sound_brought between (freed_at v words) t again h len far.made (v + 1)
+      (sound_between v words count) (empty_at v words) (range_at v) free_again
+      (λ batch there leaves. chosen_stays s far x.c.span.class temp slot batch x.sound x.chosen
+      there leaves) fits counted
+      (record {
+        first = first;
+        objects = objects
+            ∙ sym (set-set s.objects h (is.Empty (v + 1)) (is.Here len (place_in slot)));
+        versions = λ k off. ap (λ (l : List ℕ). get_or l k 0) versions
+            ∙ get_or-set_other s.versions h k v 0 off
+            ∙ sym (get_or-set_other s.versions h k (v + 1) 0 off);
+        memory = ap length memory ∙ length_put (put s.memory place words) (place_in slot) words;
+      })
+      (λ p beside. ap (λ (l : List ℕ). get_or l p 0) memory
+      ∙ put_beside (put s.memory place words) words (place_in slot) len count p beside))

@@ -1,0 +1,7 @@
+pub mod Seats
+pub mod FilterRule
+pub mod FilterEffect
+pub mod Refused
+pub mod Copies
+pub mod Plans
+pub mod ClaimEnds

@@ -1,0 +1,12 @@
+//! The filter: an object in local memory moves to a span of its temperature, so that cold objects
+//! leave together.
+#![tactic(auto)]
+
+mod copying;
+mod filtering;
+mod planning;
+mod refusing;
+#[cfg(test)]
+mod tests;
+
+pub use filtering::filter_one;

@@ -1,0 +1,47 @@
+ghost use Rattle.std.specs.Prelude.{◌≡◌, ◌⊎◌, ◌≢◌, ℕ, ◌<◌, ◌≤◌, List};
+ghost use Rattle.cb_ptr.specs.declared.word.State.TheVariants as state;
+ghost use Rattle.cb_ptr.specs.Word.{state_of, pins_of};
+ghost use Rattle.cb_types.specs.declared.reply.Reply.TheVariants as answer;
+ghost use Rattle.cb_world.specs.declared.event.Event.{Event};
+ghost use Rattle.cb_world.specs.Grasped.{IsFree};
+ghost use Rattle.cb_world.specs.Reads.{AreReads};
+ghost use Rattle.cb_filter.specs.FilterRule.{AbsentAs};
+ghost use Rattle.cb_filter.specs.Refused.{RefusedAs};
+
+use cb_ptr::{State, unpack};
+use cb_types::{Handle, Reply};
+use cb_world::Desk;
+
+/// Why an object whose word can't be claimed is not filtered.
+pub(crate) fn refuse<D: Desk>(desk: &mut D, h: Handle, word: u64) -> Reply
+    requires handle { h.n < (D.settings desk.old).handles }
+    requires left { ¬ (IsFree word) }
+    ensures { (es : List Event) × D.run desk.old es desk.new × AreReads h.n es
+        × RefusedAs (state_of word) h.n word es result }
+{
+    let fields = unpack(word);
+    match fields.state {
+        State::Here => Reply::Pinned { count: fields.pins },
+        _ => absent(desk, h, word),
+    }
+}
+
+/// What is answered of an object that is not here: Unmade, NotHere or Moving.
+fn absent<D: Desk>(desk: &mut D, h: Handle, found: u64) -> Reply
+    requires handle { h.n < (D.settings desk.old).handles }
+    requires away { state_of found ≢ state.Here }
+    ensures { (es : List Event) × D.run desk.old es desk.new × AreReads h.n es
+        × AbsentAs (state_of found) h.n es result }
+{
+    match unpack(found).state {
+        State::Empty => {
+            if desk.version(h) == 0 {
+                Reply::Unmade
+            } else {
+                Reply::NotHere
+            }
+        }
+        State::Far => Reply::NotHere,
+        _ => Reply::Moving,
+    }
+}
