@@ -1,0 +1,2 @@
+mod WeakSets
+mod Walking
