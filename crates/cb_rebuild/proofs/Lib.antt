@@ -1,2 +1,3 @@
 mod WeakSets
 mod Walking
+mod RestoredFar
