@@ -1,3 +1,4 @@
-mod WeakSets
+pub mod WeakSets
 mod Walking
-mod RestoredFar
+pub mod RestoredFar
+pub mod RebuildKeeps

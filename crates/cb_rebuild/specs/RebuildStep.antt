@@ -114,3 +114,9 @@ pub record RestoresFirst (far new : FarState) (r : Reply) : Type 0 where
 -- a turn of the rebuild: the reply and the far state after it
 abbrev pub RebuildStep : FarState → FarState → Reply → Type 0
 RebuildStep far new r = FindsNone far new r ⊎ RestoresFirst far new r
+
+-- every word of a committed set is one of the set of that number afterwards
+abbrev pub KeepWords : FarState → FarState → Type 0
+KeepWords far new = (id : ℕ) (set : SetState) (rows : List (List ℕ)) → set_in far.sets id ≡ Some set
+    → IsWordOf far.nodes far.members set rows → (after : SetState)
+    × (set_in new.sets id ≡ Some after) × IsWordOf new.nodes new.members after rows

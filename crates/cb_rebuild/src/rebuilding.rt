@@ -6,7 +6,7 @@ ghost use Rattle.cb_world.specs.World.{IsConfigured};
 ghost use Rattle.cb_world.specs.FarSound.{AwaySound};
 ghost use Rattle.cb_world.specs.Sound.{Sound};
 ghost use Rattle.cb_world.specs.Now.{now};
-ghost use Rattle.cb_rebuild.specs.RebuildStep.{IsFirstWeak, RebuildStep, Restores, far_given};
+ghost use Rattle.cb_rebuild.specs.RebuildStep.{IsFirstWeak, KeepWords, RebuildStep, Restores, far_given};
 
 use crate::choosing::{lost_position, next_shard, spare_node};
 use crate::finding::{Found, find_weak};
@@ -66,6 +66,7 @@ pub fn rebuild_next<D: Desk>(desk: &mut D, far: &mut Far) -> Result<Reply, NoMem
         × (far.new ≡ far_given far.old n)) }
     ensures sound { (s : Shown) → Sound s far.old → Sound s far.new }
     ensures now { (s : Shown) (h : ℕ) → Sound s far.old → now s far.new h ≡ now s far.old h }
+    ensures words { (s : Shown) → Sound s far.old → KeepWords far.old far.new }
 {
     match find_weak(far) {
         Found::Whole { gone } => Ok(Reply::Whole { gone }),
