@@ -161,7 +161,7 @@ none_pass p b (suc k) f =
     here true e = absurd (f b (omega arith) e)
 
 -- where a shard stands on each number that passes, no more pass than there are shards
-few_pass : (shards : List Shard) (p : ℕ → Bool) (k : ℕ)
+pub few_pass : (shards : List Shard) (p : ℕ → Bool) (k : ℕ)
     → ((n : ℕ) → n < k → p n ≡ true → stands_on shards (numbered n) ≡ true)
     → count_by p (range_with_len 0 k) ≤ length shards
 few_pass [] p k f =

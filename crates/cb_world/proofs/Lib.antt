@@ -19,6 +19,7 @@ pub mod FarGone
 pub mod FarGoneNow
 pub mod Gathering
 pub mod Rebuilt
+mod NextSet
 pub mod NowKept
 pub mod Bridge
 pub mod Merging

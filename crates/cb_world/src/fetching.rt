@@ -31,8 +31,8 @@ fn give_rows(nodes: &mut Nodes, set: &SpanSet, positions: &[u8], table: &mut Row
 }
 
 /// Gives rows of the set out, one at each of its k least positions whose shards are not lost, and
-/// makes the word of them.
-fn solved(
+/// makes the word of them. Where there is no memory, at most k rows were given out.
+pub fn solved(
     alloc: Global,
     nodes: &mut Nodes,
     members: &Members,

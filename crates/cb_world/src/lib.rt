@@ -30,7 +30,7 @@ pub use desk::{Claim, Desk};
 pub use entry::Entry;
 pub use event::Event;
 pub use far::Far;
-pub use fetching::fetch;
+pub use fetching::{fetch, solved};
 pub use grasp::{Grasp, is_free, try_claim};
 pub use homes::{Home, Homes};
 pub use joining::Joining;

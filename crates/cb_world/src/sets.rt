@@ -1,10 +1,10 @@
-ghost use Rattle.std.specs.Prelude.{◌≡◌, ◌<◌, true, false, IfSome, Some, OnOk, OnErr, length};
+ghost use Rattle.std.specs.Prelude.{◌≡◌, ℕ, ◌<◌, ◌≤◌, true, false, IfNone, IfSome, IsSome, Some, OnOk, OnErr, length};
 ghost use Rattle.std.specs.Option.{option_map};
 ghost use Rattle.std.specs.FinMap as map;
-ghost use Rattle.cb_set.specs.SetState.{dead_position, position_of, with_position, without_object};
+ghost use Rattle.cb_set.specs.SetState.{dead_position, position_of, with_position, with_shard, without_object};
 ghost use Rattle.cb_world.specs.Sets.{Kept, set_in};
 
-use cb_member::NoMemory;
+use cb_member::{NoMemory, Shard};
 use cb_set::SpanSet;
 use std::alloc::Global;
 use std::collections::BTreeMap;
@@ -46,6 +46,14 @@ impl KeptSet {
         } }
     {
         self.set.take_out(position, slot);
+    }
+
+    /// Puts another shard in place of the position's. Takes no memory.
+    fn set_shard(&mut self, position: u32, shard: Shard)
+        requires { position < length self.old.set.shards }
+        ensures { self.new ≡ record self.old { set = with_shard self.old.set position shard } }
+    {
+        self.set.set_shard(position, shard);
     }
 }
 
@@ -93,6 +101,17 @@ impl Sets {
         }
     }
 
+    /// The least number of a set from this one on, committed or not; None exactly where there is none.
+    pub fn next(&self, from: u64) -> Option<u64>
+        ensures found { IfSome result (λ id. (from ≤ id) × IsSome (map.get self.now id)) }
+        ensures least { IfSome result (λ id. (j : ℕ) → from ≤ j → j < id
+            → map.get self.now j ≡ None) }
+        ensures none { IfNone result ((j : ℕ) → from ≤ j → map.get self.now j ≡ None) }
+    {
+        let (id, _) = self.sets.range(from..).next()?;
+        Some(*id)
+    }
+
     /// Keeps the set under its number.
     pub fn put(&mut self, id: u64, kept: KeptSet) -> Result<(), NoMemory>
         ensures ok { OnOk result (self.new ≡ map.insert self.old id kept) }
@@ -132,6 +151,20 @@ impl Sets {
     {
         if let Some(kept) = self.sets.get_mut(&id) {
             kept.take_out(position, slot);
+        }
+    }
+
+    /// Puts another shard in place of that of a position of the set of that number, in place. Where
+    /// there is no such set nothing changes. Takes no memory.
+    pub fn set_shard(&mut self, id: u64, position: u32, shard: Shard)
+        requires { IfSome (map.get self.old id)
+            (λ kept. position < length kept.set.shards) }
+        ensures renamed { (kept : Kept) → map.get self.old id ≡ Some kept → self.new
+            ≡ map.insert self.old id (record kept { set = with_shard kept.set position shard }) }
+        ensures none { map.get self.old id ≡ None → self.new ≡ self.old }
+    {
+        if let Some(kept) = self.sets.get_mut(&id) {
+            kept.set_shard(position, shard);
         }
     }
 

@@ -1,0 +1,4 @@
+pub mod WeakSets
+mod Walking
+pub mod RestoredFar
+pub mod RebuildKeeps

@@ -1,0 +1,189 @@
+-- The walk over the sets.
+use Rattle.std.proofs.Common.{◌≡◌, ◌≢◌, ℕ, zero, suc, ◌+◌, ◌-◌, ◌<◌, ◌≤◌, Bool, true, false, cond, nat_lt, nat_eq, List, Option, Some, None, length, get_or, map as mapped, refl, sym, ap, ◌∙◌, subst, arith, inl, inr}
+use Rattle.std.specs.FinMap as map
+use Rattle.std.specs.List.{count_by, list_any, range_with_len}
+use Rattle.std.proofs.lemmas.Bool.{cases_lt, cases_eq, false≢true, ltb-true, lt-ltb, eq-eqb}
+use Rattle.std.proofs.lemmas.Bool.Decides.{nat_tests}
+use Rattle.std.proofs.lemmas.List.{get_or-map, get_or_past, length-map}
+use Rattle.std.proofs.lemmas.List.Folds.{list_any_at}
+use Rattle.cb_member.specs.declared.names.Shard.{Shard}
+use Rattle.cb_member.specs.Membership.{Membership}
+use Rattle.cb_set.specs.SetState.{SetState, parities, position_of}
+use Rattle.cb_set.specs.Lost.{lost}
+use Rattle.cb_world.specs.declared.homes.Home.{Home}
+use Rattle.cb_world.specs.declared.shown.Shown.{Shown}
+use Rattle.cb_world.specs.Choices.{numbered, stands_on}
+use Rattle.cb_world.specs.Homes.{home_at}
+use Rattle.cb_world.specs.Now.{broken_set}
+use Rattle.cb_world.specs.Sets.{Kept, set_in, if_committed}
+use Rattle.cb_world.specs.SetWord.{is_broken}
+use Rattle.cb_world.specs.FarState.{FarState}
+use Rattle.cb_world.specs.FarSound.{AwaySound}
+use Rattle.cb_world.proofs.Choices.{count_more, few_pass, number}
+use Rattle.cb_world.proofs.GivenUp.{live_names}
+use Rattle.cb_rebuild.specs.declared.finding.Health.{Health}
+use Rattle.cb_rebuild.specs.declared.finding.Health.TheVariants as health
+use Rattle.cb_rebuild.specs.RebuildStep.{IsFirstWeak, IsWeak, gone_count}
+use Rattle.cb_rebuild.specs.Finding.{HasHealth, HealthAt, gone_number}
+use Rattle.cb_rebuild.proofs.WeakSets.{weak_not_broken}
+
+abbrev pub gone_below : FarState → ℕ → ℕ
+gone_below far n =
+    count_by (λ id. broken_set far.members (set_in far.sets id)) (range_with_len 0 n)
+
+-- the sets below a number were looked at: none is weak, and so many are gone
+pub record Walked (far : FarState) (from gone : ℕ) : Type 0 where
+  pub within : from ≤ far.counts.sets
+  pub none : (j : ℕ) (set : SetState) → j < from → set_in far.sets j ≡ Some set
+      → ¬ (IsWeak far.members set)
+  pub counted : gone ≡ gone_below far from
+
+pub starts : (far : FarState) → Walked far 0 0
+starts far = record {
+  within = omega arith;
+  none = λ j set l. absurd (omega (arith, l));
+  counted = refl;
+}
+
+none_some : (set : SetState) → None ≡ Some set → ⊥
+none_some set e = cc
+
+-- ---- numbers without a set
+skip_by : (far : FarState) (a d : ℕ)
+    → ((j : ℕ) → a ≤ j → j < a + d → map.get far.sets j ≡ None)
+    → gone_below far (a + d) ≡ gone_below far a
+skip_by far a zero none = ap (gone_below far) (let e : a + 0 ≡ a = omega arith in e)
+skip_by far a (suc d) none =
+    let e : a + suc d ≡ a + d + 1 = omega arith in
+    let more = count_more (λ id. broken_set far.members (set_in far.sets id)) 0 (a + d) in
+    let z : 0 + (a + d) ≡ a + d = omega arith in
+    let here : broken_set far.members (set_in far.sets (0 + (a + d))) ≡ false =
+    ap (λ (n : ℕ). broken_set far.members (set_in far.sets n)) z
+    ∙ ap (λ o. broken_set far.members (if_committed o)) (none (a + d) (omega arith) (omega arith)) in
+    let one = ap number here in
+    let rest = skip_by far a d (λ j low high. none j low (omega (arith, high))) in
+    ap (gone_below far) e ∙ omega (arith, more, one, rest)
+
+pub walked_to : (far : FarState) (from id gone : ℕ) → Walked far from gone → from ≤ id
+    → id ≤ far.counts.sets → ((j : ℕ) → from ≤ j → j < id → map.get far.sets j ≡ None)
+    → Walked far id gone
+walked_to far from id gone w low high none = record {
+  within = high;
+  none = λ j set l there. elim (cases_lt j from) [
+    | inl before ↦ w.none j set before there
+    | inr after ↦ absurd (none_some set (sym (ap if_committed (none j (omega (arith, after)) l)) ∙ there))
+  ];
+  counted = w.counted ∙ sym (to (id - from) (omega (arith, low)));
+}
+  where
+    to : (d : ℕ) → id ≡ from + d → gone_below far id ≡ gone_below far from
+    to d e = ap (gone_below far) e ∙ skip_by far from d (λ j l h. none j l (omega (arith, h, e)))
+
+-- ---- one set more
+not_weak : (m : Membership) (set : SetState) (x : Health) → HasHealth m set x → x ≢ health.Weak
+    → ¬ (IsWeak m set)
+not_weak m set health.Whole e off weak = let some = weak.some_lost in absurd (omega (arith, some, e))
+not_weak m set health.Weak e off weak = absurd (off refl)
+not_weak m set health.Gone e off weak = false≢true (sym (weak_not_broken m set weak) ∙ e)
+
+is_counted : (m : Membership) (set : SetState) (x : Health) → HasHealth m set x
+    → x ≢ health.Weak → number (is_broken m set) ≡ gone_number x
+is_counted m set health.Whole e off = by (is_broken m set) refl
+  where
+    by : (b : Bool) → is_broken m set ≡ b → number (is_broken m set) ≡ 0
+    by false is = ap number is
+    by true is = let l = ltb-true (parities set) (length (lost m set.shards)) is in
+        absurd (omega (arith, l, e))
+is_counted m set health.Weak e off = absurd (off refl)
+is_counted m set health.Gone e off = ap number e
+
+here_counted : (m : Membership) (o : Option SetState) (x : Health) → HealthAt m o x
+    → x ≢ health.Weak → number (broken_set m o) ≡ gone_number x
+here_counted m None x e off = ap gone_number (sym e)
+here_counted m (Some set) x e off = is_counted m set x e off
+
+pub walked_over : (far : FarState) (id gone : ℕ) (x : Health) → Walked far id gone
+    → id < far.counts.sets → HealthAt far.members (set_in far.sets id) x → x ≢ health.Weak
+    → Walked far (id + 1) (gone + gone_number x)
+walked_over far id gone x w below has off = record {
+  within = omega (arith, below);
+  none = λ j set l there. elim (cases_eq j id) [
+    | inl here ↦ not_weak far.members set x
+        (subst (λ (o : Option SetState). HealthAt far.members o x)
+        (ap (set_in far.sets) (sym here) ∙ there) has) off
+    | inr other ↦ w.none j set (omega (arith, l, other)) there
+  ];
+  counted = let more = count_more (λ n. broken_set far.members (set_in far.sets n)) 0 id in
+      let z : 0 + id ≡ id = omega arith in
+      let e = ap (λ (n : ℕ). number (broken_set far.members (set_in far.sets n))) z in
+      let c = here_counted far.members (set_in far.sets id) x has off in
+      let d = w.counted in
+      omega (arith, more, e, c, d);
+}
+
+-- ---- what is found
+pub found_first : (far : FarState) (id gone : ℕ) → Walked far id gone
+    → HealthAt far.members (set_in far.sets id) health.Weak → (set : SetState)
+    × IsFirstWeak far id set
+found_first far id gone w has = by (set_in far.sets id) refl has
+  where
+    whole_weak : health.Weak ≡ health.Whole → ⊥
+    whole_weak e = cc
+
+    by : (o : Option SetState) → set_in far.sets id ≡ o → HealthAt far.members o health.Weak
+        → (set : SetState) × IsFirstWeak far id set
+    by None e x = absurd (whole_weak x)
+    by (Some set) e x = (
+      set,
+      record { there = e; weak = x; least = λ j other l there. w.none j other l there },
+    )
+
+pub found_none : (s : Shown) (far : FarState) (from gone : ℕ) → AwaySound s far
+    → Walked far from gone
+    → ((j : ℕ) → from ≤ j → j < far.counts.sets → map.get far.sets j ≡ None)
+    → ((id : ℕ) (set : SetState) → set_in far.sets id ≡ Some set → ¬ (IsWeak far.members set))
+    × (gone ≡ gone_count far)
+found_none s far from gone sound w none =
+    let x = walked_to far from far.counts.sets gone w w.within (omega arith) none in (
+      λ id set there. x.none id set (sound.sets.numbered id set there) there,
+      x.counted,
+    )
+
+-- ---- no more sets are gone than there are homes
+-- a shard in place of a home, which stands on the node of the set's number
+abbrev home_set : Option Home → ℕ
+home_set None = 0
+home_set (Some home) = home.set
+
+abbrev stand_in : Option Home → Shard
+stand_in home = record { node = record { n = home_set home }; incarnation = 0; key = 0 }
+
+no_home : (home : Home) → None ≡ Some home → ⊥
+no_home home e = cc
+
+pub few_gone : (s : Shown) (far : FarState) (n : ℕ) → AwaySound s far
+    → gone_below far n ≤ length far.homes
+few_gone s far n sound =
+    let most = few_pass (mapped stand_in far.homes) (λ id. broken_set far.members (set_in far.sets id))
+    n (λ id l gone. stands id (set_in far.sets id) refl gone) in
+    let len = length-map far.homes stand_in in omega (arith, most, len)
+  where
+    stands : (id : ℕ) (o : Option SetState) → set_in far.sets id ≡ o
+        → broken_set far.members o ≡ true
+        → stands_on (mapped stand_in far.homes) (numbered id) ≡ true
+    stands id None e gone = absurd (false≢true gone)
+    stands id (Some set) e gone =
+        let kept = sound.sets.kept id set e in
+        let x = live_names (position_of set kept.0).slots
+        (sym (sound.sets.live id kept.0 set e) ∙ kept.1) in
+        let h = x.1 in
+        let home = sound.away.named id kept.0 x.0 h set e x.2 in
+        elim (cases_lt h (length far.homes)) [
+          | inl within ↦
+              let len = length-map far.homes stand_in in
+              list_any_at (λ (shard : Shard). nat_eq shard.node.n id) (mapped stand_in far.homes) h
+              (stand_in None) (omega (arith, within, len))
+              (ap (λ (a : Shard). nat_eq a.node.n id) (get_or-map stand_in far.homes h None (stand_in None) within
+              ∙ ap stand_in home) ∙ eq-eqb id id refl)
+          | inr past ↦ absurd (no_home _ (sym (get_or_past far.homes h None past) ∙ home))
+        ]

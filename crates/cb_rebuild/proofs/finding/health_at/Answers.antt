@@ -1,0 +1,18 @@
+use Rattle.std.proofs.Common.{sym, ap, ◌∙◌, subst}
+use Rattle.cb_member.specs.Membership.{Membership}
+use Rattle.cb_set.specs.Lost.{NodesAreMembers}
+use Rattle.cb_world.specs.Sets.{set_in}
+use Rattle.cb_world.specs.FarState.{FarState}
+use Rattle.cb_rebuild.proofs.WeakSets.{are_members, found_there}
+use Rattle.cb_rebuild.proofs.finding.health_at.Goals as goal
+
+pub health_of-requires : goal.health_of-requires
+health_of-requires c =
+    let far = c.args.far.now in let set = c.in-Some.set.now in
+    let there = ap (λ (q : FarState). set_in q.sets c.args.id) (sym c.far.view_is)
+    ∙ found_there c.committed.result c.in-Some.set _ c.committed.ensures c.in-Some.is in
+    record {
+      nodes = subst (λ (m : Membership). NodesAreMembers m set.shards)
+          (sym (ap (λ (q : FarState). q.members) c.far.view_is))
+          (are_members c.requires.sound.0 far c.args.id set c.requires.sound.1 there);
+    }

@@ -1,0 +1,2 @@
+pub mod RebuildStep
+pub mod Finding

@@ -1,0 +1,63 @@
+ghost use Rattle.std.specs.Prelude.{◌≡◌, ℕ, ◌+◌, ◌^◌, ◌<◌, ◌≤◌, false, true, List, OnErr, OnOk, Some, length};
+ghost use Rattle.std.specs.FinMap as map;
+ghost use Rattle.cb_node.specs.NodesState.{has, with_row};
+ghost use Rattle.cb_set.specs.SetState.{SetState, with_shard};
+ghost use Rattle.cb_world.specs.declared.shown.Shown.{Shown};
+ghost use Rattle.cb_world.specs.Sets.{set_in};
+ghost use Rattle.cb_world.specs.FarSound.{AwaySound};
+ghost use Rattle.cb_rebuild.specs.RebuildStep.{IsRowOf, IsWeak, far_given, with_name, with_put};
+
+use cb_member::Shard;
+use cb_node::{Nodes, PutAnswer};
+use cb_types::NoMemory;
+use cb_world::{Far, solved};
+
+/// Puts a row at its shard's node, which has room.
+fn put_row(nodes: &mut Nodes, shard: Shard, row: &[u8]) -> Result<(), NoMemory>
+    requires within { shard.node.n < length nodes.old.nodes }
+    requires fresh { has nodes.old shard.node shard.key ≡ false }
+    ensures ok { OnOk result (nodes.new ≡ with_row nodes.old shard.node shard.key row.now) }
+    ensures err { OnErr result (nodes.new ≡ nodes.old) }
+{
+    match nodes.put(shard.node, shard.key, row)? {
+        PutAnswer::Stored => Ok(()),
+        PutAnswer::Full { .. } => Err(NoMemory),
+    }
+}
+
+/// Makes the row of a position of a committed set again, from k rows that are given out, and puts it
+/// under the shard. Takes all memory that a rebuild needs.
+pub(crate) fn put_again(
+    far: &mut Far,
+    id: u64,
+    position: u32,
+    shard: Shard,
+) -> Result<(), NoMemory>
+    requires sound { (s : Shown) × AwaySound s far.old }
+    requires weak { (set : SetState) × (set_in far.old.sets id ≡ Some set)
+        × IsWeak far.old.members set × (position < length set.shards) }
+    requires given { far.old.nodes.given + 16 < 2 ^ 64 }
+    requires within { shard.node.n < length far.old.nodes.nodes }
+    requires fresh { has far.old.nodes shard.node shard.key ≡ false }
+    ensures put { OnOk result ((set : SetState) → set_in far.old.sets id ≡ Some set
+        → (row : List ℕ) × IsRowOf far.old set position row
+        × (far.new ≡ with_put far.old set shard row)) }
+    ensures error { OnErr result ((set : SetState) → set_in far.old.sets id ≡ Some set → (n : ℕ)
+        × (n ≤ length set.positions) × (far.new ≡ far_given far.old n)) }
+{
+    let set = far.sets.committed(id).unwrap();
+    let word = solved(far.alloc, &mut far.nodes, &far.members, set)?;
+    put_row(&mut far.nodes, shard, word.row(position))
+}
+
+/// Names the new shard at the position, whose key is drawn. Takes no memory.
+pub(crate) fn name_shard(far: &mut Far, id: u64, position: u32, shard: Shard)
+    requires there { (set : SetState) × (set_in far.old.sets id ≡ Some set)
+        × (position < length set.shards) }
+    requires keys { far.old.counts.keys < 2 ^ 62 }
+    ensures { (set : SetState) → set_in far.old.sets id ≡ Some set
+        → far.new ≡ with_name far.old id set position shard }
+{
+    far.counts.keys += 1;
+    far.sets.set_shard(id, position, shard);
+}
