@@ -1,10 +1,14 @@
 -- The map's replies at worked values, and replies that it does not give.
-use Rattle.std.proofs.Common.{◌≡◌, [], ◌∷◌, refl, ap, arith}
+use Rattle.std.proofs.Common.{◌≡◌, [], ◌∷◌, Some, refl, ap, arith}
 use Rattle.cb_types.specs.declared.handle.Handle.{Handle}
 use Rattle.cb_model.specs.declared.object.Object.TheVariants.{Held, Freed}
 use Rattle.cb_model.specs.declared.call.Call.TheVariants.{Make, Read, Write, Free}
 use Rattle.cb_model.specs.declared.call.MapReply.TheVariants as reply
+use Rattle.cb_types.specs.declared.request.Request.TheVariants.{Pin as PinLine}
+use Rattle.cb_types.specs.declared.reply.Reply.TheVariants.{ScopeFull, Moving}
+use Rattle.cb_model.specs.Event.{event_of}
 use Rattle.cb_model.specs.Now.{overwritten}
+use Rattle.cb_model.specs.Replies.{MapReplies}
 use Rattle.cb_model.specs.Map.{Map, Replies, IsPossible}
 
 -- the middle byte of three is replaced
@@ -105,3 +109,11 @@ unmade_for_a_made_handle new is = is.answer
 at_the_last_version : IsPossible (record { handles = 1; objects = Held 0xFFFFFFFFFFFFFFFF (1 ∷ []) ∷ [] }) (Free handle)
     → ⊥
 at_the_last_version possible = absurd (let lt = possible.1 in omega (arith, lt))
+
+-- a pin that a full scope refused may be on an object that was freed
+full_scope_of_a_freed_object : MapReplies 1 2 1 (Some 0) (Some (Freed 4)) (event_of (PinLine []) ScopeFull)
+full_scope_of_a_freed_object = tt
+
+-- but not one that finds it moving
+no_move_of_a_freed_object : MapReplies 1 2 1 (Some 0) (Some (Freed 4)) (event_of (PinLine []) Moving) → ⊥
+no_move_of_a_freed_object replies = replies
