@@ -44,9 +44,8 @@ use Rattle.cb_lanes.specs.LinesLeft.{AreLanes}
 use Rattle.cb_lanes.specs.Lost.{loss_of, losses_of}
 use Rattle.cb_lanes.specs.Names.{Names, kept_number, handle_at, handle_in, number_after, AreKept, AreReady}
 use Rattle.cb_lanes.specs.Scopes.{KeepScopes, ScopeSays, scope_of}
-use Rattle.cb_lanes.proofs.GivingBack.{Stands, stands_same, unpin_stands, gives_all}
+use Rattle.cb_lanes.proofs.GivingBack.{unpin_stands, gives_all}
 use Rattle.cb_lanes.proofs.LineGoes.{read_goes, write_goes, free_goes, make_goes}
-use Rattle.cb_lanes.proofs.PinLists.{AreApart}
 use Rattle.cb_lanes.proofs.Pinning.{pin_goes, pin_settings, peek_goes, unpin_goes, leave_goes, unmade_pins}
 use Rattle.cb_lanes.proofs.Scoping.{Scoped, line_scoped}
 use Rattle.cb_lanes.proofs.ScopesKept.{AreScopes, scopes_none, scopes_push, keep_push, Rested, rests, LeadsOn, leads_push, IsFresh, grown, apart_after, lines_own}

@@ -1,9 +1,7 @@
 -- A line on the world is answered as the map beside it answers it.
-use Rattle.std.proofs.Common.{◌≡◌, ◌⊎◌, ℕ, ◌<◌, List, [], ◌∷◌, Option, None, Some, refl, sym, ap, ◌∙◌, subst, inl, inr}
+use Rattle.std.proofs.Common.{◌≡◌, ℕ, ◌<◌, List, [], ◌∷◌, None, Some, refl, ap, inl, inr}
 use Rattle.cb_types.specs.declared.answer.Answer.{Answer}
-use Rattle.cb_types.specs.declared.handle.Handle.{Handle}
 use Rattle.cb_types.specs.declared.job.Job.TheVariants as job
-use Rattle.cb_types.specs.declared.request.Request.{Request}
 use Rattle.cb_types.specs.declared.request.Request.TheVariants.{Make, Read, Write, Free}
 use Rattle.cb_types.specs.declared.reply.Reply.{Reply}
 use Rattle.cb_types.specs.declared.reply.Reply.TheVariants as answer
@@ -14,7 +12,7 @@ use Rattle.cb_model.specs.Now.Change.{Create}
 use Rattle.cb_model.specs.Called.{handle_of, handle_for}
 use Rattle.cb_script.specs.declared.script.Line.{Line}
 use Rattle.cb_world.specs.World.{WorldState}
-use Rattle.cb_mutate.specs.MapCalls.{IsCallOn, IsMakeCall}
+use Rattle.cb_mutate.specs.MapCalls.{IsMakeCall}
 use Rattle.cb_core.specs.Step.{TurnStep}
 use Rattle.cb_core.proofs.TurnCalls.{read_turn, write_turn, free_turn, make_turn}
 use Rattle.cb_lanes.proofs.Turning.{answer_to, Turning, Goes, call_goes, refused_goes}

@@ -1,5 +1,5 @@
 -- The names after a make.
-use Rattle.std.proofs.Common.{◌≡◌, ℕ, Bool, true, false, cond, List, Option, Some, refl, sym, ap, ◌∙◌, subst, inl, inr}
+use Rattle.std.proofs.Common.{◌≡◌, ℕ, Bool, true, false, cond, List, Option, Some, refl, ap}
 use Rattle.std.specs.Option.{option_map}
 use Rattle.std.specs.BTreeMap.{UpdatesBy}
 use Rattle.std.specs.Cmp.Lexicographic.{slice_cmp}
@@ -13,7 +13,7 @@ use Rattle.cb_types.specs.declared.reply.Reply.{Reply}
 use Rattle.cb_types.specs.declared.reply.Reply.TheVariants as reply
 use Rattle.cb_world.specs.World.{WorldState}
 use Rattle.cb_core.specs.Step.{TurnStep}
-use Rattle.cb_lanes.specs.Names.{Names, kept_handle, kept_number, AreKept, AreReady, handle_at}
+use Rattle.cb_lanes.specs.Names.{Names, kept_handle, AreKept}
 
 mapped : (test : Bool) (here other : Option Handle) (found : Option Handle)
     → found ≡ cond test here other

@@ -1,8 +1,6 @@
 -- A pin, a peek, an unpin and a leave are answered as the map beside the world answers them.
-use Rattle.std.proofs.Common.{◌≡◌, ◌≢◌, ◌⊎◌, ℕ, zero, suc, ◌+◌, ◌*◌, ◌^◌, ◌<◌, ◌≤◌, ◌==◌, Bool, List, [], length, take, drop, get_or, Option, None, Some, refl, sym, ap, ◌∙◌, subst, arith, inl, inr, if◌then◌else◌, nat_eq}
-use Rattle.std.specs.List.{sum_by}
-use Rattle.std.proofs.lemmas.Bool.{cases_lt}
-use Rattle.std.proofs.lemmas.List.{length-drop, length-take, get_or-drop, get_or-take}
+use Rattle.std.proofs.Common.{◌≡◌, ℕ, zero, suc, ◌+◌, ◌^◌, ◌<◌, ◌≤◌, List, [], length, take, drop, get_or, None, Some, refl, sym, ap, ◌∙◌, subst, arith, nat_eq}
+use Rattle.std.proofs.lemmas.List.{length-take, get_or-drop, get_or-take}
 use Rattle.std.proofs.lemmas.List.Elements.{All-get_or, All-from_get_or}
 use Rattle.std.proofs.lemmas.List.Sums.{sum_by-take-drop, sum_by-le, count_by-le-length}
 use Rattle.std.proofs.lemmas.Option.{slice_get_within, get_or_from_slice_get}
@@ -38,8 +36,8 @@ use Rattle.cb_world.specs.World.{WorldState, IsSoundWorld, word_at}
 use Rattle.cb_mutate.specs.MapCalls.{IsValue, IsMapCall, IsCallOn}
 use Rattle.cb_mutate.specs.StillReplies.{reply_as}
 use Rattle.cb_mutate.proofs.MapBeside.{call_follows, beside_kept, was_made}
-use Rattle.cb_mutate.proofs.MapReplies.{AreKnownBoth, IsOnContents, map_same, call_by_state, near_held, here_near}
-use Rattle.cb_core.specs.Pinning.{MayPin, PinStep, scope_full, refused, taken, pin_refusal, UnpinStep, not_pinned as unpin_refused, given}
+use Rattle.cb_mutate.proofs.MapReplies.{IsOnContents, map_same, call_by_state, near_held, here_near}
+use Rattle.cb_core.specs.Pinning.{PinStep, scope_full, refused, taken, pin_refusal, UnpinStep, not_pinned as unpin_refused, given}
 use Rattle.cb_core.specs.declared.event.Atomic.TheVariants as atomic
 use Rattle.cb_core.specs.declared.event.Event.TheVariants as event
 use Rattle.cb_core.specs.Step.{TurnStep, worn, done}

@@ -1,13 +1,10 @@
 -- What a line leaves of the scope of its lane.
-use Rattle.std.proofs.Common.{◌≡◌, ◌≢◌, ◌⊎◌, ℕ, zero, suc, ◌+◌, ◌-◌, ◌^◌, ◌<◌, ◌≤◌, ◌==◌, Bool, true, false, List, length, Option, None, Some, refl, sym, ap, ◌∙◌, subst, arith, inl, inr, eq-eqb, ne_eqb, if◌then◌else◌}
-use Rattle.std.specs.Prelude.{nat_lt}
-use Rattle.std.proofs.lemmas.Bool.{cases_Bool, cases_eq}
+use Rattle.std.proofs.Common.{◌≡◌, ◌≢◌, ℕ, zero, suc, ◌<◌, ◌≤◌, List, length, Option, None, Some, refl, sym, ap, ◌∙◌, subst, arith}
 use Rattle.std.proofs.lemmas.List.Sums.{get_or-le-sum_by}
 use Rattle.cb_ptr.specs.declared.word.State.{State}
 use Rattle.cb_ptr.specs.declared.word.State.TheVariants as state
-use Rattle.cb_ptr.specs.Word.{state_of, len_of, pins_of}
+use Rattle.cb_ptr.specs.Word.{pins_of}
 use Rattle.cb_types.specs.declared.answer.Answer.{Answer}
-use Rattle.cb_types.specs.declared.job.Job.{Job}
 use Rattle.cb_types.specs.declared.job.Job.TheVariants as job
 use Rattle.cb_types.specs.declared.request.Request.{Request}
 use Rattle.cb_types.specs.declared.request.Request.TheVariants.{Make, Read, Write, Free, Pin, Peek, Unpin, Evict, Crash, Join, Leave}
@@ -18,20 +15,18 @@ use Rattle.cb_script.specs.Unbuilt.{IsBuilt}
 use Rattle.cb_world.specs.Seats.{SeatState, idle_seat, pins_of_seat, pins_on}
 use Rattle.cb_world.specs.StillWords.{stamp_at}
 use Rattle.cb_world.specs.World.{WorldState, IsSoundWorld, word_at}
-use Rattle.cb_mutate.specs.StillReplies.{empty_reply, reply_as, next_reply, change_reply, write_reply, free_as, free_reply}
 use Rattle.cb_core.specs.Pinning.{PinStep, scope_full, refused, taken, pin_refusal, UnpinStep, not_pinned as unpin_refused, given}
 use Rattle.cb_core.specs.Step.{TurnStep}
 use Rattle.cb_core.proofs.TurnCalls.{swap_turn}
 use Rattle.cb_core.proofs.TurnCallsPinned.{write_counts, free_counts}
 use Rattle.cb_core.proofs.TurnCallsSound.{swap_sound}
 use Rattle.cb_core.proofs.TurnCallsSwap.{IsSwapRefusal}
-use Rattle.cb_core.specs.Turned.{counted}
-use Rattle.cb_lanes.specs.GivingBack.{GivesAll, Rests, lines_of}
+use Rattle.cb_lanes.specs.GivingBack.{GivesAll}
 use Rattle.cb_lanes.specs.LineStep.{LineStep, PeekStep, not_pinned, shown, PinLine, at_once, stays_far, swapped_in}
-use Rattle.cb_lanes.specs.Scopes.{NamedPin, Scope, newest_on, without_newest, named_on, scope_after, scope_more, scope_of, PeekSays, UnpinSays, ScopeSays, KeepScopes}
-use Rattle.cb_lanes.proofs.GivingBack.{Stands, stands_same, gives_all, pins_own, pins_other, given_pins}
-use Rattle.cb_lanes.proofs.PinLists.{AreApart, ArePinsOf, pins_length, pins_kept, scope_none, scope_newest, scope_without, scope_count}
-use Rattle.cb_lanes.proofs.Pinning.{pin_nothing, in_or_refused, SwappedIn, swapped_here, turn_seats}
+use Rattle.cb_lanes.specs.Scopes.{Scope, without_newest, scope_after, PeekSays, UnpinSays, ScopeSays}
+use Rattle.cb_lanes.proofs.GivingBack.{gives_all, pins_own, pins_other, given_pins}
+use Rattle.cb_lanes.proofs.PinLists.{AreApart, ArePinsOf, pins_length, scope_none, scope_newest, scope_without, scope_count}
+use Rattle.cb_lanes.proofs.Pinning.{pin_nothing, in_or_refused, turn_seats}
 use Rattle.cb_lanes.proofs.Turning.{Turning, within}
 
 -- The line is answered as its lane's scope says, the seat's pins are then those of the scope after it, and

@@ -1,5 +1,5 @@
 -- What a turn for a line leaves, where the plain map is beside the world.
-use Rattle.std.proofs.Common.{◌≡◌, ℕ, ◌+◌, ◌^◌, ◌<◌, ◌≤◌, List, length, None, Some, refl, sym, ap, ◌∙◌, subst, arith}
+use Rattle.std.proofs.Common.{◌≡◌, ℕ, ◌+◌, ◌^◌, ◌<◌, ◌≤◌, List, length, None, Some, refl, arith}
 use Rattle.cb_types.specs.declared.answer.Answer.{Answer}
 use Rattle.cb_types.specs.declared.job.Job.{Job}
 use Rattle.cb_types.specs.declared.request.Request.{Request}
@@ -7,7 +7,6 @@ use Rattle.cb_types.specs.declared.reply.Reply.{Reply}
 use Rattle.cb_model.specs.Called.{handle_for, called, calls_of}
 use Rattle.cb_script.specs.declared.script.Line.{Line}
 use Rattle.cb_world.specs.declared.shown.Shown.{Shown}
-use Rattle.cb_world.specs.FarState.{FarState}
 use Rattle.cb_world.specs.World.{WorldState, IsSoundWorld}
 use Rattle.cb_mutate.specs.MapCalls.{IsCallOn, IsRefusedMake}
 use Rattle.cb_mutate.specs.MapBeside.{IsMapBeside}
