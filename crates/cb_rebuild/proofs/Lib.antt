@@ -2,3 +2,7 @@ pub mod WeakSets
 mod Walking
 pub mod RestoredFar
 pub mod RebuildKeeps
+mod EmptyWorld
+mod WorkedWord
+mod WorkedWeak
+mod WorkedRebuilt

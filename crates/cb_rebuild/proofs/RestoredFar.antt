@@ -1,5 +1,5 @@
 -- A row that stands again keeps the world sound, every set's word, and last complete contents.
-use Rattle.std.proofs.Common.{◌≡◌, ◌≢◌, ◌⊎◌, ℕ, ◌+◌, ◌<◌, ◌≤◌, Bool, true, false, cond, nat_lt, ◌&&◌, List, length, get_or, set as slice_set, Option, Some, None, is_some, if◌then◌else◌, refl, sym, ap, ◌∙◌, subst, arith, inl, inr, length-set, get_or-set_other}
+use Rattle.std.proofs.Common.{◌≡◌, ◌≢◌, ◌⊎◌, ℕ, ◌+◌, ◌<◌, ◌≤◌, Bool, true, false, cond, nat_lt, ◌&&◌, List, length, set as slice_set, Option, Some, None, is_some, if◌then◌else◌, refl, sym, ap, ◌∙◌, subst, arith, inl, inr, length-set, get_or-set_other}
 use Rattle.std.specs.FinMap as map
 use Rattle.std.specs.Cmp.{nat_cmp_total}
 use Rattle.std.specs.Ordering.{nat_cmp, eq_by_cmp}
@@ -8,13 +8,12 @@ use Rattle.std.specs.Option.{option_map}
 use Rattle.std.proofs.lemmas.Bool.{cases_eq, false≢true, ltb-true}
 use Rattle.std.proofs.lemmas.Bool.Decides.{nat_tests}
 use Rattle.std.proofs.lemmas.Option.{slice_get-get_or, slice_get_past, slice_get_within, get_or_from_slice_get}
-use Rattle.cb_gf256.specs.Rows.{row_at}
 use Rattle.cb_gf256.specs.InRange.{IsInRange}
 use Rattle.cb_member.specs.declared.names.Epoch.{Epoch}
 use Rattle.cb_member.specs.declared.names.Loss.{Loss}
 use Rattle.cb_member.specs.declared.names.NodeId.{NodeId}
 use Rattle.cb_member.specs.declared.names.Shard.{Shard}
-use Rattle.cb_member.specs.Membership.{Membership, alive, ended_incarnations, fresh_node, incarnation, state_of}
+use Rattle.cb_member.specs.Membership.{alive, ended_incarnations, fresh_node, incarnation, state_of}
 use Rattle.cb_node.specs.NodesState.{NodesState, has, held, with_row, row_at as row_under}
 use Rattle.cb_node.proofs.Laws.{row_is_put, put_keeps_other_rows}
 use Rattle.cb_set.specs.SetState.{SetState, live_at, parities, position_of, slot_at, with_shard}
@@ -28,7 +27,7 @@ use Rattle.cb_world.specs.Homes.{home_at}
 use Rattle.cb_world.specs.Join.{IsFresh, IsJoin}
 use Rattle.cb_world.specs.Joining.{JoiningState}
 use Rattle.cb_world.specs.Now.{broken_home, broken_set, now, now_as}
-use Rattle.cb_world.specs.Sets.{Kept, SetMap, set_in, if_committed}
+use Rattle.cb_world.specs.Sets.{Kept, set_in, if_committed}
 use Rattle.cb_world.specs.SetWord.{AreCurrent, IsShaped, IsWordOf, is_broken}
 use Rattle.cb_world.specs.FarState.{FarState}
 use Rattle.cb_world.specs.FarSound.{IsSetWord, AreSets, AreAway, AreRows, Owner, of_set, of_leaving, of_joining, IsShardOf, AwaySound}

@@ -1,6 +1,6 @@
 -- What is known of a committed set of a sound world that has lost shards, and of the least position
 -- that is lost.
-use Rattle.std.proofs.Common.{◌≡◌, ℕ, ◌<◌, ◌≤◌, Bool, true, false, cond, nat_lt, List, [], IsSome, Option, Some, None, Bor, length, get_or, is_some, refl, sym, ap, ◌∙◌, subst, arith, inl, inr}
+use Rattle.std.proofs.Common.{◌≡◌, ℕ, ◌<◌, ◌≤◌, Bool, true, false, cond, nat_lt, List, IsSome, Option, Some, None, Bor, length, get_or, is_some, refl, sym, ap, ◌∙◌, arith, inl, inr}
 use Rattle.std.specs.Option.{option_map}
 use Rattle.std.specs.List.{slice_get, position_or_len}
 use Rattle.std.proofs.lemmas.Bool.{cases_lt, false≢true, ltb-true, lt-ltb}
@@ -13,7 +13,7 @@ use Rattle.cb_set.specs.Lost.{NodesAreMembers, is_lost, least_lost, lost}
 use Rattle.cb_set.proofs.Laws.{none_whole}
 use Rattle.cb_world.specs.declared.shown.Shown.{Shown}
 use Rattle.cb_world.specs.Sets.{set_in}
-use Rattle.cb_world.specs.SetWord.{IsShaped, is_broken}
+use Rattle.cb_world.specs.SetWord.{is_broken}
 use Rattle.cb_world.specs.FarState.{FarState}
 use Rattle.cb_world.specs.FarSound.{AwaySound}
 use Rattle.cb_rebuild.specs.RebuildStep.{IsWeak}

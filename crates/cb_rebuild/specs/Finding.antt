@@ -1,5 +1,5 @@
 -- What the walk over the sets finds.
-use Rattle.std.specs.Prelude.{◌≡◌, ℕ, true, Option, None, Some, [], length}
+use Rattle.std.specs.Prelude.{◌≡◌, ℕ, true, Option, None, Some, length}
 use Rattle.cb_member.specs.Membership.{Membership}
 use Rattle.cb_set.specs.SetState.{SetState}
 use Rattle.cb_set.specs.Lost.{lost}

@@ -1,8 +1,5 @@
-use Rattle.std.proofs.Common.{◌≡◌, ◌≢◌, ℕ, ◌+◌, ◌<◌, sym, ap, ◌∙◌, subst, arith}
-use Rattle.cb_world.specs.Sets.{set_in}
-use Rattle.cb_rebuild.specs.declared.finding.Health.{Health}
-use Rattle.cb_rebuild.specs.declared.finding.Health.TheVariants as health
-use Rattle.cb_rebuild.proofs.Walking.{Walked, few_gone, found_first, found_none, walked_over, walked_to}
+use Rattle.std.proofs.Common.{ℕ, ◌+◌, sym, subst, arith}
+use Rattle.cb_rebuild.proofs.Walking.{Walked, few_gone, found_none, walked_over, walked_to}
 use Rattle.cb_rebuild.proofs.finding.find_weak.Goals as goal
 
 pub overflow_add-gone : goal.overflow_add-gone

@@ -1,4 +1,4 @@
-use Rattle.std.proofs.Common.{◌≡◌, ◌<◌, IfNone, IfSome, Option, length, refl, sym, ap, ◌∙◌, subst, arith, inl}
+use Rattle.std.proofs.Common.{◌<◌, IfNone, IfSome, Option, length, refl, sym, subst, arith, inl}
 use Rattle.cb_member.specs.declared.names.NodeId.{NodeId}
 use Rattle.cb_set.specs.Nodes.{other_shards}
 use Rattle.cb_world.specs.Choices.{IsLeastNode, MayPut}
