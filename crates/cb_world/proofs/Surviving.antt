@@ -135,7 +135,7 @@ counted m set shaped = let a = shaped.data_first in omega (arith, a)
 some_same : (a b : List ℕ) → Some a ≡ Some b → a ≡ b
 some_same a b e = cc
 
--- D7: where at most r shards are lost, the set has one word
+-- Where at most r shards are lost, the set has one word
 pub one_word : (nodes : NodesState) (m : Membership) (set : SetState) (a b : List (List ℕ))
     → IsShaped m set → length (lost m set.shards) ≤ parities set
     → IsWordOf nodes m set a → IsWordOf nodes m set b → a ≡ b
