@@ -106,6 +106,7 @@ moves = record {
   found = inr ((refl, refl), ((λ x e. e), tt));
   taken = inr (refl, refl, refl);
   stood = stands;
+  other = hot_cold;
   chosen = chosen;
   state = refl;
   objects = refl;
