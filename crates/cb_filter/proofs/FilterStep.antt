@@ -161,13 +161,15 @@ moved_words x y far new s es h r free z =
     let memory = sym shows.memory ∙ z.memory
     ∙ ap (λ (l : List ℕ). put l place z.words) (ap (λ (t : Shown). t.memory) r.told
     ∙ r.known.shows.memory)
-    ∙ ap (put x.memory place) contents in
-    (at, (λ i. record {
-      settings = settings i;
-      words = words i;
-      versions = versions i;
-      memory = memory i;
-    }))
+    ∙ ap (put x.memory place) contents in (
+      at,
+      (λ i. record {
+        settings = settings i;
+        words = words i;
+        versions = versions i;
+        memory = memory i;
+      }),
+    )
 
 -- ---- the step
 step_here : (x y : Words) (far new : FarState) (s : Shown) (es : List Event) (h : ℕ) (r : Reply)
