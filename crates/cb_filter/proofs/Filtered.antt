@@ -118,6 +118,7 @@ module _ (far : FarState) (s : Shown) (first done : List Event) (h w v : ℕ) (w
             found = b.found;
             taken = b.taken;
             stood = stands;
+            other = x.other;
             chosen = x.chosen;
             state = x.state;
             objects = objects;

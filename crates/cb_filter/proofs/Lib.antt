@@ -5,6 +5,8 @@ pub mod Berths
 pub mod Moved
 pub mod Settled
 pub mod Filtered
+pub mod FilterStep
 pub mod EmptyWorld
 pub mod WorkedSeats
 mod WorkedFilter
+mod WorkedFilterStep

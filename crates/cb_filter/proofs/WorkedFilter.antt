@@ -1,5 +1,5 @@
 -- Worked examples of what a filter does, of copied words, and of the parts of a filter.
-use Rattle.std.proofs.Common.{◌≡◌, ◌≢◌, ℕ, zero, suc, Bool, ◌+◌, ◌*◌, ◌^◌, ◌<◌, true, false, List, [], ◌∷◌, None, length, get_or, refl, ap, lit<, lit≤, arith, inl, inr}
+use Rattle.std.proofs.Common.{subst, ◌∙◌, ◌≡◌, ◌≢◌, ℕ, zero, suc, Bool, ◌+◌, ◌*◌, ◌^◌, ◌<◌, true, false, List, [], ◌∷◌, None, length, get_or, refl, ap, lit<, lit≤, arith, inl, inr}
 use Rattle.cb_class.specs.Class.{slots_of, bytes_of, words_of}
 use Rattle.cb_ptr.specs.declared.word.State.TheVariants as state
 use Rattle.cb_types.specs.declared.reply.Reply.TheVariants as answer
@@ -13,11 +13,18 @@ use Rattle.cb_world.specs.declared.shown.Shown.{Shown}
 use Rattle.cb_world.specs.Memory.{put}
 use Rattle.cb_world.specs.Shown.{Avoids, object_at, never}
 use Rattle.cb_world.specs.FarState.{FarState}
+use Rattle.cb_world.specs.Placed.{place_in}
+use Rattle.cb_world.specs.Played.{played}
+use Rattle.cb_world.specs.Looks.{NoLook}
+use Rattle.cb_world.specs.Touches.{SettlesLast}
+use Rattle.cb_world.specs.Allowed.{Allowed}
+use Rattle.cb_world.specs.Settling.{MaySettle}
+use Rattle.cb_world.proofs.Windows.{length_put}
 use Rattle.cb_filter.specs.declared.planning.Plan.TheVariants as plan
 use Rattle.cb_filter.specs.FilterEffect.{IsCooled, IsMoved, FilterEffect}
 use Rattle.cb_filter.specs.Copies.{copied_from, IsCoolWord, IsVacant}
 use Rattle.cb_filter.specs.Plans.{LiesIn, Plans, Wants}
-use Rattle.cb_filter.specs.ClaimEnds.{IsSettledBack, IsCarried, SeatEnds}
+use Rattle.cb_filter.specs.ClaimEnds.{IsKnownAt, Ends, IsSettledBack, IsCarried, SeatEnds}
 use Rattle.cb_filter.proofs.Settled.{now_fields}
 use Rattle.cb_filter.proofs.WorkedSeats.{far, moved, full, short, seat, slot, stands, chosen, gets, in_place, hot_cold, no_room}
 
@@ -106,6 +113,7 @@ moves = record {
   found = inr ((refl, refl), ((λ x e. e), tt));
   taken = inr (refl, refl, refl);
   stood = stands;
+  other = hot_cold;
   chosen = chosen;
   state = refl;
   objects = refl;
@@ -142,6 +150,12 @@ moved_with_another x = absurd (let z : 1 ≡ 128 = ap (λ (l : List Object). at 
     at : Object → ℕ
     at (is.Here len place) = place
     at o = 1
+
+moved_with_fewer_words : ¬ (IsMoved 0 far moved moving s (record there { memory = [] }))
+unfolding put
+moved_with_fewer_words x = absurd (let z : 0 ≡ 3 =
+    ap (λ (l : List ℕ). length l) x.memory ∙ length_put s.memory (place_in x.slot) x.words in
+    omega (arith, z))
 
 -- ---- the effect
 effect : FilterEffect 0 far far answer.Same cooling s t
@@ -310,3 +324,37 @@ ends_same_of_a_cold_one (inr (inl x)) = absurd (let z : answer.Same ≡ answer.N
     cc)
 ends_same_of_a_cold_one (inr (inr x)) = absurd (let z : answer.Same ≡ answer.Moved = x.1.reply in
     cc)
+
+-- ---- the events behind a claim
+abbrev Ending : (List Event → Type 0) → (Shown → Type 0) → Type 0
+Ending runs knows = Ends runs (λ q v words. knows q) 0 (λ es q u words. u ≡ played es q)
+
+ends : Ending (λ es. es ≡ Settled 0 cold_word ∷ []) (λ q. MaySettle q 0 cold_word)
+ends = record {
+  events = Settled 0 cold_word ∷ [];
+  ran = refl;
+  no_look = ((λ w e. e), tt);
+  looks_first = (tt, tt);
+  settles_last = (tt, tt, tt, tt);
+  quiet = λ q. refl;
+  allowed = λ q v words k. (k, tt);
+  ends_so = λ q v words k. refl;
+}
+
+-- a look, a late store, and a word at which no object may be settled
+ends_with_a_look : ¬ (Ending (λ es. es ≡ Looked 0 1 ∷ []) (λ q. Unit {0}))
+ends_with_a_look x = (subst (NoLook 0) x.ran x.no_look).0 1 (refl, refl)
+
+ends_with_a_store : ¬ (Ending (λ es. es ≡ Settled 0 cold_word ∷ Stored 0 1 ∷ [])
+    (λ q. MaySettle q 0 cold_word))
+ends_with_a_store x = (subst SettlesLast x.ran x.settles_last).1
+
+ends_while_moving : ¬ (Ending (λ es. es ≡ Settled 0 3 ∷ []) (λ q. Unit {0}))
+ends_while_moving x = (subst (Allowed s) x.ran (x.allowed s 0 [] tt)).0
+
+-- an object that is not claimed is not known so
+known_and_here : ¬ (IsKnownAt s far 0 cold_word 4 [])
+known_and_here x = here x.claimed.object
+  where
+    here : is.Here 16 512 ≡ is.Claimed 16 512 4 [] → ⊥
+    here e = cc

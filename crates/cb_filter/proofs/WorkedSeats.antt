@@ -21,7 +21,7 @@ use Rattle.cb_filter.specs.Refused.{RefusedAs}
 abbrev largest : Class
 largest = record { index = 11 }
 
-abbrev config : Config
+abbrev pub config : Config
 config = record {
   k = 2;
   r = 1;

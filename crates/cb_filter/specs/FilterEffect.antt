@@ -1,5 +1,5 @@
 -- What a filter does.
-use Rattle.std.specs.Prelude.{◌≡◌, ℕ, false, List, [], slice_set}
+use Rattle.std.specs.Prelude.{◌≡◌, ◌≢◌, ℕ, false, List, [], slice_set}
 use Rattle.cb_ptr.specs.Word.{hot_of, len_of}
 use Rattle.cb_types.specs.declared.reply.Reply.{Reply}
 use Rattle.cb_types.specs.declared.reply.Reply.TheVariants as answer
@@ -34,6 +34,7 @@ pub record IsMoved (h : ℕ) (far new : FarState) (es : List Event) (s t : Shown
   pub found : IsFound h word es
   pub taken : IsTaken h version words es
   pub stood : IsSeatOf far h seat
+  pub other : seat.span.temp ≢ temp_for (hot_of word)
   pub chosen : IsChosen far seat.span.class (temp_for (hot_of word)) slot
   pub state : new ≡ with_moved far seat slot h
   pub objects : t.objects ≡ slice_set s.objects h (is.Here (len_of word) (place_in slot))

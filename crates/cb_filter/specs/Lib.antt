@@ -5,3 +5,4 @@ pub mod Refused
 pub mod Copies
 pub mod Plans
 pub mod ClaimEnds
+pub mod FilterStep

@@ -40,14 +40,14 @@ fn is_same(one: Temp, other: Temp) -> bool
     }
 }
 
-/// The class and the temperature of the span in which a place lies, where there is one.
+/// The class and the temperature of a span.
 #[derive(Clone, Copy)]
 struct Kind {
     class: Class,
     temp: Temp,
 }
 
-/// The class and the temperature of the span in which a place lies.
+/// The class and the temperature of the span in which a place lies, where there is one.
 fn kind_at(far: &Far, place: u32) -> Option<Kind>
     ensures { (seat : Seat) → LiesIn far.now place seat
         → result ≡ Some (record { class = seat.span.class; temp = seat.span.temp }) }
