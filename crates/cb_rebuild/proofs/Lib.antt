@@ -2,6 +2,7 @@ pub mod WeakSets
 mod Walking
 pub mod RestoredFar
 pub mod RebuildKeeps
+pub mod RebuildCounts
 mod EmptyWorld
 mod WorkedWord
 mod WorkedWeak
