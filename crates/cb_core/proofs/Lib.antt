@@ -36,3 +36,5 @@ pub mod TurnCalls
 pub mod TurnCallsUnavailable
 pub mod TurnCallsPinned
 pub mod TurnCallsSound
+pub mod CallsBeside
+pub mod RunLegal
