@@ -19,6 +19,7 @@ pub mod WorkedTurns
 pub mod WorkedStill
 pub mod Runs
 pub mod WorkedRuns
+pub mod WorkedCalled
 pub mod WorkedParts
 pub mod WorkedDeclined
 pub mod TurnCallsKept
@@ -36,3 +37,5 @@ pub mod TurnCalls
 pub mod TurnCallsUnavailable
 pub mod TurnCallsPinned
 pub mod TurnCallsSound
+pub mod CallsBeside
+pub mod RunLegal

@@ -8,3 +8,4 @@ pub mod Room
 pub mod Step
 pub mod Events
 pub mod Run
+pub mod Called

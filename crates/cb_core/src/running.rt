@@ -1,6 +1,9 @@
-ghost use Rattle.std.specs.Prelude.{IfOk, OnErr};
+ghost use Rattle.std.specs.Prelude.{◌++◌, List, IfOk, OnErr};
 ghost use Rattle.std.specs.List.{AllByRecursion};
+ghost use Rattle.cb_model.specs.Called.{Called};
+ghost use Rattle.cb_model.specs.Legal.{Follow};
 ghost use Rattle.cb_world.specs.World.{IsSoundWorld};
+ghost use Rattle.cb_core.specs.Called.{calls_by, StandsBeside};
 ghost use Rattle.cb_core.specs.Events.{IsEvent};
 ghost use Rattle.cb_core.specs.Run.{LeadsSoundly, RunStops};
 ghost use Rattle.cb_core.specs.Step.{Leads};
@@ -15,11 +18,22 @@ use std::alloc::Global;
 /// Events one after another, with the reply to each. The world is sound after each of them. Where
 /// there is no memory, some first events took place, and the next one stopped, or its reply or none
 /// was done.
+///
+/// The completed calls among the events are legal in their order: makes, turns on objects and pins,
+/// but for those that are answered Worn or ScopeFull, which say nothing of any object. Wherever the
+/// plain map stands beside the world, each call is answered as the map answers it after the calls
+/// before it, and the map goes on standing beside the world. The empty map stands beside the empty
+/// world, and calls that follow it from there are legal: each object has a history, each answer is true
+/// of it, and no version falls.
 pub fn run(alloc: Global, world: &mut World, events: &[Event]) -> Result<Replies, NoMemory>
     requires sound { IsSoundWorld world.old }
     requires events { AllByRecursion (IsEvent world.old.desk.settings) events.now }
     ensures leads { IfOk result (λ replies. Leads world.old events.now replies world.new) }
     ensures along { IfOk result (λ replies. LeadsSoundly world.old events.now replies world.new) }
+    ensures legal { IfOk result (λ replies. (before : List Called) → StandsBeside before world.old
+        → Follow world.old.far.first world.old.desk.settings.handles before
+        (calls_by before events.now replies)
+        × StandsBeside (before ++ calls_by before events.now replies) world.new) }
     ensures sound { IsSoundWorld world.new }
     ensures error { OnErr result (RunStops world.old events.now world.new) }
 {
