@@ -7,7 +7,7 @@ use Rattle.cb_types.specs.declared.answer.Answer.{Answer}
 use Rattle.cb_types.specs.declared.config.Config.{Config}
 use Rattle.cb_types.specs.declared.config.Field.TheVariants.{K, R, Nodes, Frames, Room, Handles, Turns}
 use Rattle.cb_types.specs.declared.request.Request.{Request}
-use Rattle.cb_types.specs.declared.request.Request.TheVariants.{Evict, Leave}
+use Rattle.cb_types.specs.declared.request.Request.TheVariants.{Compact, Leave}
 use Rattle.cb_script.specs.declared.fault.Reason.{Reason}
 use Rattle.cb_script.specs.declared.fault.Reason.TheVariants.{Unbuilt}
 use Rattle.cb_script.specs.declared.script.Line.{Line}
@@ -72,26 +72,26 @@ no_lane : lane_count [] ≡ 0
 no_lane = refl
 
 -- a lane that stands twice counts once, also where others stand between
-lane_twice : lane_count (lane_line 1 2 Evict ∷ lane_line 1 3 Leave ∷ []) ≡ 1
+lane_twice : lane_count (lane_line 1 2 Compact ∷ lane_line 1 3 Leave ∷ []) ≡ 1
 lane_twice = refl
 
-lanes_in_turn : lane_count (lane_line 1 2 Evict ∷ lane_line 2 3 Evict ∷ lane_line 1 4 Evict ∷ lane_line 2 5 Evict ∷ []) ≡ 2
+lanes_in_turn : lane_count (lane_line 1 2 Compact ∷ lane_line 2 3 Compact ∷ lane_line 1 4 Compact ∷ lane_line 2 5 Compact ∷ []) ≡ 2
 lanes_in_turn = refl
 
 -- lane 0 counts
-first_and_last : lane_count (lane_line 0 2 Evict ∷ lane_line 15 3 Evict ∷ lane_line 15 4 Evict ∷ []) ≡ 2
+first_and_last : lane_count (lane_line 0 2 Compact ∷ lane_line 15 3 Compact ∷ lane_line 15 4 Compact ∷ []) ≡ 2
 first_and_last = refl
 
--- ---- a script of two lines, whose second verb is not built
+-- ---- a script of two lines, whose first verb is not built
 
 abbrev small : Config
 small = record { k = 2; r = 2; nodes = 6; frames = 8; room = 64; handles = 16; turns = 0 }
 
 abbrev input : List ℕ
-input = codes "carbink 1 k=2 r=2 nodes=6 frames=8 room=64 handles=16 turns=0\n3 evict\n3 leave\n"
+input = codes "carbink 1 k=2 r=2 nodes=6 frames=8 room=64 handles=16 turns=0\n3 compact\n3 leave\n"
 
 abbrev script : Script
-script = record { config = small; lines = lane_line 3 2 Evict ∷ lane_line 3 3 Leave ∷ [] }
+script = record { config = small; lines = lane_line 3 2 Compact ∷ lane_line 3 3 Leave ∷ [] }
 
 accepted : IsAccepted small
 accepted K = (omega arith, omega arith)
@@ -183,7 +183,7 @@ input_taken : AreWordsRefused [] (Some (1 ∷ [])) (Some []) → ⊥
 input_taken refused = absurd (let e : Some [] ≡ Some (1 ∷ []) = refused.nothing_taken in cc)
 
 first_line : IsFirstUnbuilt script.lines 2
-first_line = record { before = []; here = lane_line 3 2 Evict; after = lane_line 3 3 Leave ∷ []; are = refl; built = tt; unbuilt = λ no. no; number_is = refl }
+first_line = record { before = []; here = lane_line 3 2 Compact; after = lane_line 3 3 Leave ∷ []; are = refl; built = tt; unbuilt = λ no. no; number_is = refl }
 
 -- `seq` refuses the script at line 2, and `check` nowhere
 seq_refuses : IsRefusal Seq input 2 Unbuilt
