@@ -42,7 +42,7 @@ moved_like far new seat slot h state = subst (IsLike far) (sym state) (record {
 })
 
 module _ (c : Config) (seats : List SeatState) (h : ℕ) (a b : Holding Words) (r : Reply)
-    (good : IsGood c seats a) (hold : HoldOn a b) (z : IsStepKnown b.desk b.far a.far good.shown)
+    (good : IsGood c seats a) (hold : HoldOn a b) (z : IsStepKnown b.desk a.far b.far good.shown)
   where
     -- by the step
     filtered : IsFilterStep a.desk b.desk a.far b.far h r → Arrives c seats 1 a b (StillFilter h a r b)
@@ -76,8 +76,8 @@ filter_part c seats h a b r good p =
     let z = filter_step x y far new good.shown h r good.known q in
     filtered c seats h a b r good
     (λ s k.
-        let after = (filter_step x y far new s h r k q).1 in
-        (after.shown, after.known, after.same_now))
+    let after = (filter_step x y far new s h r k q).1 in
+    (after.shown, after.known, after.same_now))
     z.1 z.0
 
 -- ---- want of memory

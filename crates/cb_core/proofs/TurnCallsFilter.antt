@@ -1,5 +1,5 @@
 -- A filter and a rebuild, as parts of a turn: what each keeps, and how each is answered.
-use Rattle.std.proofs.Common.{◌≡◌, ◌⊎◌, ℕ, zero, suc, ◌<◌, ◌≤◌, List, [], length, get_or, set, Option, Some, None, refl, sym, ap, ◌∙◌, subst, inl, inr, get_or-set_same, get_or-set_other}
+use Rattle.std.proofs.Common.{◌≡◌, ◌⊎◌, ℕ, zero, suc, ◌%◌, ◌<◌, ◌≤◌, arith, List, [], length, get_or, set, Option, Some, None, refl, sym, ap, ◌∙◌, subst, inl, inr, get_or-set_same, get_or-set_other}
 use native.Mathlib.Decide.{ℕ_discrete}
 use Rattle.cb_ptr.specs.declared.word.State.{State}
 use Rattle.cb_ptr.specs.declared.word.State.TheVariants as state
@@ -24,9 +24,9 @@ use Rattle.cb_world.specs.Placed.{place_in}
 use Rattle.cb_world.specs.Plain.{Words}
 use Rattle.cb_world.specs.StillWords.{stamp_at}
 use Rattle.cb_world.specs.World.{IsKnown, word_at}
-use Rattle.cb_world.proofs.NowSame.{empty_value, empty_now}
+use Rattle.cb_world.proofs.NowSame.{bits, empty_value, empty_now}
 use Rattle.cb_mutate.specs.MapCalls.{IsValue, IsCallOn}
-use Rattle.cb_mutate.proofs.MapReplies.{AreKnownBoth, IsThere, map_same, stays_call, far_there, near_held, here_near, moving_near, in_range}
+use Rattle.cb_mutate.proofs.MapReplies.{AreKnownBoth, IsThere, map_same, stays_call, far_there, near_held, here_near, in_range}
 use Rattle.cb_filter.specs.FilterRule.{EmptyAnswer}
 use Rattle.cb_filter.specs.FilterStep.{IsFilterStep, refused, cools, without_slot, moves, RefusesAs, cool_word}
 use Rattle.cb_rebuild.specs.RebuildStep.{RebuildStep, Restores}
@@ -191,6 +191,9 @@ unmade_by n e first handles made handle m i = by m (subst (IsValue m) e i)
     by None i = tt
     by (Some (Freed u)) i = absurd i
     by (Some (Held u b)) i = absurd i
+
+moving_near : (w : ℕ) → state_of w ≡ state.Moving → 2 ≤ w % 4
+moving_near w e = let b = bits w state.Moving e in omega (arith, b)
 
 -- an object that was never made is Unmade, and of every other one the reply tells the map nothing
 abbrev Tells : Now → Reply → Type 0

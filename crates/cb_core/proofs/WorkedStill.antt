@@ -431,11 +431,15 @@ over_a_number_with_one_gone x = one_gone x.1
 
 -- ---- a filter that found no memory: object 0 lies in a hot span and is cold, and one frame is free
 abbrev seat : Seat
-seat = record { frame = 0; number = 0; span = record {
-  class = largest;
-  temp = Hot;
-  slots = Some 0 ∷ None ∷ None ∷ None ∷ [];
-} }
+seat = record {
+  frame = 0;
+  number = 0;
+  span = record {
+    class = largest;
+    temp = Hot;
+    slots = Some 0 ∷ None ∷ None ∷ None ∷ [];
+  };
+}
 
 none_cold : (f : ℕ) → HasRoom open_far largest Cold f → ⊥
 none_cold zero room = let e : 22 ≡ 23 = ap kind room.0 in omega (arith, e)

@@ -67,13 +67,19 @@ returns-in-Rebuild-clause-does g c =
     does_is (λ d es e. g.D.Desk.run d es e) (λ d s. g.D.Desk.shows d s) (g.D.Desk.settings c.args.desk.now)
     c.args.job.now (holding c.args.desk.now c.args.far.now) (holding c.rebuild_next.new.desk c.rebuild_next.new.far)
     c.rebuild_next.result _ c.in-Rebuild.is (if_map _ _ c.rebuild_next.result c.rebuild_next.ensures.step
-    (λ r step. (subst (λ d. g.D.Desk.run c.args.desk.now [] d) (sym c.rebuild_next.ensures.desk)
-    (g.met.D.Desk.none _), step)))
+    (λ r step. (
+      subst (λ d. g.D.Desk.run c.args.desk.now [] d) (sym c.rebuild_next.ensures.desk)
+          (g.met.D.Desk.none _),
+      step,
+    )))
 
 pub returns-in-Rebuild-clause-error : goal.returns-in-Rebuild-clause-error
 returns-in-Rebuild-clause-error g c =
     stops_is (λ d es e. g.D.Desk.run d es e) (λ d s. g.D.Desk.shows d s) (g.D.Desk.settings c.args.desk.now)
     c.args.job.now (holding c.args.desk.now c.args.far.now) (holding c.rebuild_next.new.desk c.rebuild_next.new.far)
     c.rebuild_next.result _ c.in-Rebuild.is (err_map _ _ c.rebuild_next.result c.rebuild_next.ensures.error
-    (λ given. (subst (λ d. g.D.Desk.run c.args.desk.now [] d) (sym c.rebuild_next.ensures.desk)
-    (g.met.D.Desk.none _), given)))
+    (λ given. (
+      subst (λ d. g.D.Desk.run c.args.desk.now [] d) (sym c.rebuild_next.ensures.desk)
+          (g.met.D.Desk.none _),
+      given,
+    )))
