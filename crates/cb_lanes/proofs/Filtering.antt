@@ -14,6 +14,7 @@ use Rattle.cb_filter.specs.FilterRule.{EmptyAnswer}
 use Rattle.cb_filter.specs.FilterStep.{RefusesAs, IsFilterStep, refused, cools, without_slot, moves}
 use Rattle.cb_core.specs.Room.{final_reply}
 use Rattle.cb_core.specs.Step.{TurnStep}
+use Rattle.cb_core.specs.Turned.{counted}
 use Rattle.cb_core.proofs.TurnCalls.{is_done}
 use Rattle.cb_core.proofs.TurnCallsPinned.{IsPinCount}
 
@@ -56,6 +57,6 @@ pub filter_counts : (w new : WorldState) (h count : ℕ) → w.far.counts.turns 
 filter_counts w new h count few step =
     let j = job.Filter (record { n = h }) in
     let d = is_done j w new (answer.Pinned count) few step in
-    step_pinned w.desk new.desk _ new.far h count
-    (subst (λ (q : Reply). IsFilterStep w.desk new.desk _ new.far h q)
+    step_pinned w.desk new.desk (counted w.far j) new.far h count
+    (subst (λ (q : Reply). IsFilterStep w.desk new.desk (counted w.far j) new.far h q)
     (final_pinned new d.reply count (sym d.is)) d.works.0)

@@ -149,7 +149,7 @@ evict_event r line = absurd line
 
 rebuild_event : (r : Reply) → IsReplyOf Rebuild r → event_of Rebuild r ≡ Refused Nothing
 rebuild_event (answer.Rebuilt set position node) line = refl
-rebuild_event (answer.Whole gone) line = refl
+rebuild_event (answer.Whole broken) line = refl
 rebuild_event (answer.Stuck set) line = refl
 rebuild_event answer.Worn line = refl
 rebuild_event r line = absurd line
