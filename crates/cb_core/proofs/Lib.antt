@@ -7,6 +7,8 @@ pub mod KeptPins
 pub mod Loose
 pub mod KeptParts
 pub mod StillParts
+pub mod StillFilters
+pub mod StillRebuilds
 pub mod StillTurns
 pub mod FarCalls
 pub mod WorldKept
@@ -32,6 +34,7 @@ pub mod TurnCallsParts
 pub mod TurnCallsMake
 pub mod TurnCallsSwap
 pub mod TurnCallsNodes
+pub mod TurnCallsFilter
 pub mod TurnCallsFirst
 pub mod TurnCalls
 pub mod TurnCallsUnavailable

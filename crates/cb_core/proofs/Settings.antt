@@ -11,6 +11,7 @@ use Rattle.cb_world.specs.World.{WorldState}
 use Rattle.cb_mutate.specs.MakeStep.{IsMakeStep}
 use Rattle.cb_mutate.specs.Steps.{with_seen}
 use Rattle.cb_evict.proofs.AfterEvict.{evict_settings}
+use Rattle.cb_filter.specs.FilterStep.{refused as refuses, cools, without_slot, moves}
 use Rattle.cb_swapin.proofs.SwapKeeps.{settings_stay}
 use Rattle.cb_core.specs.declared.event.Atomic.{Atomic}
 use Rattle.cb_core.specs.declared.event.Atomic.TheVariants.{Load, Pin, Unpin}
@@ -18,7 +19,7 @@ use Rattle.cb_core.specs.declared.event.Event.{Event}
 use Rattle.cb_core.specs.declared.event.Event.TheVariants as event
 use Rattle.cb_core.specs.Parts.{Holding, NeverDeclined, NeverLacks, WithRoom, at_once, no_room, won, WhereItIs, near, declined, stays_far, brought, BringsIn, not_far, was_far, RoomStops, evicting, after, CallStops, far}
 use Rattle.cb_core.specs.Pinning.{PinStep, scope_full, refused, taken, UnpinStep, not_pinned, given}
-use Rattle.cb_core.specs.Step.{StillMake, StillRead, StillWrite, StillFree, StillFind, StillDecline, StillEvict, StillSwap, StillBring, StillWorks, StillMakeLacks, StillReadLacks, StillEvictLacks, StillSwapLacks, StillBringLacks, StillStops, TurnStep, worn, done, Step, Stops}
+use Rattle.cb_core.specs.Step.{StillMake, StillRead, StillWrite, StillFree, StillFind, StillDecline, StillEvict, StillSwap, StillBring, StillFilter, StillWorks, StillMakeLacks, StillReadLacks, StillEvictLacks, StillSwapLacks, StillBringLacks, StillStops, TurnStep, worn, done, Step, Stops}
 use Rattle.cb_core.specs.Turned.{counted}
 use Rattle.cb_core.proofs.Changes.{read_leaves, write_leaves, free_leaves}
 
@@ -130,6 +131,12 @@ swap_same h a b r (home, at, step, hold) =
 bring_same : (h : ℕ) → Stay (StillBring h)
 bring_same h = room_same (StillSwap h) StillEvict (swap_same h) evict_same
 
+filter_same : (h : ℕ) → Stay (StillFilter h)
+filter_same h a b r (refuses why same state, hold) = words_same a b same
+filter_same h a b r (cools seat is place same, hold) = ap (λ (x : Words). x.settings) same
+filter_same h a b r (without_slot seat is none same, hold) = words_same a b same
+filter_same h a b r (moves seat slot is gets same, hold) = ap (λ (x : Words). x.settings) same
+
 -- ---- a job, and one that found no memory
 works_settings : (job : Job) (a b : Holding Words) (r : Reply) → StillWorks job a r b → Same a b
 works_settings (Make bytes) a b r step =
@@ -143,9 +150,10 @@ works_settings (Free handle) a b r step = free_same handle.n a b r step
 works_settings (Swap handle) a b r step = brings_same (StillFind handle.n) (StillBring handle.n)
     (find_same handle.n) (bring_same handle.n) a b r step
 works_settings Evict a b r step = evict_same a b r step
+works_settings (Filter handle) a b r step = filter_same handle.n a b r step
+works_settings Rebuild a b r step = words_same a b step.0
 works_settings (Crash node) a b r step = words_same a b step.0
 works_settings (Join node) a b r step = words_same a b step.0
-works_settings (Filter handle) a b r step = absurd step
 works_settings Begin a b r step = absurd step
 works_settings Ship a b r step = absurd step
 works_settings Commit a b r step = absurd step
@@ -155,7 +163,6 @@ works_settings Patch a b r step = absurd step
 works_settings Merge a b r step = absurd step
 works_settings Part a b r step = absurd step
 works_settings Compact a b r step = absurd step
-works_settings Rebuild a b r step = absurd step
 
 read_rest : (h : ℕ) → Rest (StillReadLacks h)
 read_rest h a b (same, (v, bytes, step)) = elim (read_leaves a.desk b.desk h (answer.Bytes v bytes) step) [
@@ -180,9 +187,10 @@ stops_settings (Write handle at bytes) a b stops = call_rest (StillWrite handle.
 stops_settings (Swap handle) a b (m, found, stops) =
     bring_rest handle.n m b stops ∙ find_same handle.n a m answer.NotHere found
 stops_settings Evict a b stops = same_as a b stops
+stops_settings (Filter handle) a b stops = same_as a b stops.0
+stops_settings Rebuild a b stops = words_same a b stops.0
 stops_settings (Crash node) a b stops = same_as a b stops.0
 stops_settings (Free handle) a b stops = absurd stops
-stops_settings (Filter handle) a b stops = absurd stops
 stops_settings Begin a b stops = absurd stops
 stops_settings Ship a b stops = absurd stops
 stops_settings Commit a b stops = absurd stops
@@ -192,7 +200,6 @@ stops_settings Patch a b stops = absurd stops
 stops_settings Merge a b stops = absurd stops
 stops_settings Part a b stops = absurd stops
 stops_settings Compact a b stops = absurd stops
-stops_settings Rebuild a b stops = absurd stops
 stops_settings (Join node) a b stops = absurd stops
 
 -- ---- events

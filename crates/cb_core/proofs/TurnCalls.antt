@@ -6,7 +6,7 @@ use Rattle.cb_types.specs.declared.handle.SetId.{SetId}
 use Rattle.cb_types.specs.declared.job.Job.{Job}
 use Rattle.cb_types.specs.declared.job.Job.TheVariants as job
 use Rattle.cb_types.specs.declared.request.Request.{Request}
-use Rattle.cb_types.specs.declared.request.Request.TheVariants.{Make, Read, Write, Free, Evict, Crash, Join}
+use Rattle.cb_types.specs.declared.request.Request.TheVariants.{Make, Read, Write, Free, Filter, Evict, Rebuild, Crash, Join}
 use Rattle.cb_types.specs.declared.reply.Reply.{Reply}
 use Rattle.cb_types.specs.declared.reply.Reply.TheVariants as answer
 use Rattle.cb_types.specs.Table.{IsReplyOf}
@@ -24,6 +24,7 @@ use Rattle.cb_core.specs.Step.{StillRead, StillWrite, StillDecline, StillWorks, 
 use Rattle.cb_core.specs.Turned.{counted}
 use Rattle.cb_core.proofs.TurnCallsKept.{HasKept, once_known, kept_evict}
 use Rattle.cb_core.proofs.TurnCallsFar.{IsLostFar}
+use Rattle.cb_core.proofs.TurnCallsFilter.{IsFilterAs, filter_line, filter_answered, kept_rebuild, rebuild_line}
 use Rattle.cb_core.proofs.TurnCallsFirst.{works_turn}
 use Rattle.cb_core.proofs.TurnCallsLost.{final_lost, where_lost, where_gone}
 use Rattle.cb_core.proofs.TurnCallsMake.{IsMadeAs, make_answered, evict_line}
@@ -173,6 +174,45 @@ swap_turn w new h r before after few below step =
           after.shown w.far (counted w.far j) new.far new.far _ (final_reply new d.reply)
           (counted_map before.shown w.far j) (map_stays after.shown new.far) h (z.call name);
     })
+
+-- A filter leaves the map as it is, and answers as it is written of a line about an object in another
+-- way than by its contents.
+pub filter_turn : (w new : WorldState) (h : ℕ) (r : Reply) → (before : IsSoundWorld w)
+    → (after : IsSoundWorld new) → w.far.counts.turns < 2 ^ 40 → h < w.desk.settings.handles
+    → TurnStep (job.Filter (record { n = h })) w r new
+    → IsFilterAs w.desk.settings.handles before.shown after.shown w.far new.far h r
+filter_turn w new h r before after few below step =
+    let j = job.Filter (record { n = h }) in
+    let d = is_done j w new r few step in
+    let line = filter_line w.desk new.desk (counted w.far j) new.far h d.reply d.works.0 in
+    let z = filter_answered (held_at w j) (held_then new) before.shown after.shown h d.reply
+    (known_at w j before) after.known below d.works in
+    subst (IsFilterAs w.desk.settings.handles before.shown after.shown w.far new.far h)
+    (sym (d.is ∙ own_final (Filter []) new d.reply (line []) (λ e. e)))
+    (record {
+      same = map_then before.shown before.shown after.shown w.far (counted w.far j) new.far
+          (counted_map before.shown w.far j) z.same;
+      line = line;
+      call = λ name. call_carried w.desk.settings.handles before.shown before.shown after.shown
+          after.shown w.far (counted w.far j) new.far new.far (Filter name) d.reply
+          (counted_map before.shown w.far j) (map_stays after.shown new.far) h (z.call name);
+    })
+
+-- A rebuild leaves the map as it is.
+pub rebuild_turn : (w new : WorldState) (r : Reply) → (before : IsSoundWorld w)
+    → (after : IsSoundWorld new) → w.far.counts.turns < 2 ^ 40 → TurnStep job.Rebuild w r new
+    → IsSameMap before.shown after.shown w.far new.far × IsReplyOf Rebuild r
+rebuild_turn w new r before after few step =
+    let j = job.Rebuild in
+    let d = is_done j w new r few step in
+    let kept = kept_rebuild (held_at w j) (held_then new) d.reply before.shown (known_at w j before)
+    d.works in
+    let line = rebuild_line (counted w.far j) new.far d.reply d.works.1 in (
+      map_then before.shown before.shown after.shown w.far (counted w.far j) new.far
+          (counted_map before.shown w.far j)
+          (kept_map (held_at w j) (held_then new) before.shown after.shown kept after.known),
+      subst (IsReplyOf Rebuild) (sym (d.is ∙ own_final Rebuild new d.reply line (λ e. e))) line,
+    )
 
 member : (w : WorldState) (node : NodeId) → IsSoundWorld w → node.n < w.desk.settings.nodes
     → node.n < length w.far.members.nodes

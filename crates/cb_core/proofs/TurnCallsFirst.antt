@@ -34,6 +34,7 @@ use Rattle.cb_core.proofs.Changes.{free_leaves}
 use Rattle.cb_core.proofs.TurnCallsMake.{make_crammed}
 use Rattle.cb_core.proofs.TurnCallsParts.{read_part, write_part}
 use Rattle.cb_core.proofs.TurnCallsKept.{HasKept, same_holding, kept_evict, kept_bring}
+use Rattle.cb_core.proofs.TurnCallsFilter.{kept_filter, kept_rebuild}
 
 pub record IsTurnOf (far new : FarState) : Type 0 where
   pub first : new.first ≡ far.first
@@ -146,7 +147,10 @@ works_turn (job.Write handle at bytes) a b s r k works =
     a b s r k works
 works_turn (job.Free handle) a b s r k works = freed_turn a.desk b.desk a.far b.far handle.n r works
 works_turn (job.Swap handle) a b s r k works = swap_turn_of a b s handle.n r k works
+works_turn (job.Filter handle) a b s r k works =
+    turn_kept a b s (kept_filter a b handle.n r s k works)
 works_turn job.Evict a b s r k works = turn_kept a b s (kept_evict a b r s k works)
+works_turn job.Rebuild a b s r k works = turn_kept a b s (kept_rebuild a b r s k works)
 works_turn (job.Crash node) a b s r k works = crash_turn_of a.far b.far node r works.1
 works_turn (job.Join node) a b s r k works = join_turn_of a.far b.far node r works.1
 works_turn j a b s r k works = absurd works

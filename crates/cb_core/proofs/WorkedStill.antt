@@ -2,36 +2,43 @@
 -- its parts alone.
 use Rattle.std.proofs.Common.{◌≡◌, ℕ, zero, suc, ◌+◌, ◌*◌, ◌^◌, ◌<◌, ◌≤◌, Bool, true, false, List, [], ◌∷◌, Option, None, Some, length, get_or, unwrap_or, refl, ap, sym, ◌∙◌, subst, inl, inr, lit<, lit≤, arith}
 use Rattle.std.specs.FinMap as map
+use Rattle.std.specs.Ordering.{nat_cmp}
 use Rattle.cb_class.specs.Class.{IsClassOf, bytes_of}
 use Rattle.cb_member.specs.declared.names.Shard.{Shard}
 use Rattle.cb_member.specs.Membership.{fresh_members}
 use Rattle.cb_set.specs.SetState.{SetState, PositionState, set_of}
-use Rattle.cb_span.specs.declared.temp.Temp.TheVariants.{Hot}
+use Rattle.cb_span.specs.Contents.{Contents}
+use Rattle.cb_span.specs.declared.temp.Temp.TheVariants.{Hot, Cold}
 use Rattle.cb_types.specs.declared.config.Field.TheVariants.{K, R, Nodes, Frames, Room, Handles, Turns}
 use Rattle.cb_types.specs.declared.handle.SetId.{SetId}
-use Rattle.cb_types.specs.declared.job.Job.TheVariants.{Read, Write, Swap, Rebuild}
+use Rattle.cb_types.specs.declared.job.Job.TheVariants.{Read, Write, Swap, Merge}
 use Rattle.cb_types.specs.declared.reply.Reply.{Reply}
 use Rattle.cb_types.specs.declared.reply.Reply.TheVariants as answer
 use Rattle.cb_types.specs.Config.{IsAccepted}
+use Rattle.cb_world.specs.declared.event.Event.{Event}
 use Rattle.cb_world.specs.declared.homes.Home.{Home}
 use Rattle.cb_world.specs.declared.shown.Shown.{Shown}
-use Rattle.cb_world.specs.FarState.{FarState}
+use Rattle.cb_world.specs.FarState.{FarState, span_in}
 use Rattle.cb_world.specs.Homes.{home_at}
 use Rattle.cb_world.specs.Memory.{bytes_in, window}
 use Rattle.cb_world.specs.Now.{now, is_gone, broken_set}
 use Rattle.cb_world.specs.Placed.{HasRoom}
 use Rattle.cb_world.specs.Plain.{Words}
-use Rattle.cb_world.specs.Sets.{set_in}
+use Rattle.cb_world.specs.Sets.{if_committed, set_in}
 use Rattle.cb_world.specs.World.{IsKnown, empty_world}
 use Rattle.cb_world.proofs.NowSame.{now_same}
 use Rattle.cb_world.proofs.Worlds.{empty_world_sound}
 use Rattle.cb_evict.specs.EvictStep.{few_spans, few_nodes, made}
+use Rattle.cb_filter.specs.FilterStep.{refused, cools, without_slot, moves}
+use Rattle.cb_filter.specs.Seats.{Seat}
+use Rattle.cb_rebuild.specs.RebuildStep.{IsFirstWeak, IsWeak, RebuildStep}
 use Rattle.cb_swapin.specs.Fetching.{far_given}
 use Rattle.cb_core.specs.Declining.{write_refusal}
 use Rattle.cb_core.specs.Parts.{Holding, no_room, declined, stays_far, not_far, was_far}
-use Rattle.cb_core.specs.Step.{StillRead, StillWrite, StillFind, StillDecline, HoldOn, StillEvict, StillSwap, StillBring, StillWorks, StillMakeLacks, StillReadLacks, StillEvictLacks, StillSwapLacks}
+use Rattle.cb_core.specs.Step.{StillRead, StillWrite, StillFind, StillDecline, HoldOn, StillEvict, StillSwap, StillBring, StillFilter, StillRebuild, StillWorks, StillMakeLacks, StillReadLacks, StillEvictLacks, StillSwapLacks, StillFilterLacks, StillRebuildLacks}
+use Rattle.cb_core.specs.Turned.{IsWeakGiven, Rebuilds, RebuildLacks}
 use Rattle.cb_core.proofs.WorkedPins.{settings, desk, away, calm, hot, pinned, moving}
-use Rattle.cb_core.proofs.WorkedRoom.{counts, far_of, span_with, words_are}
+use Rattle.cb_core.proofs.WorkedRoom.{counts, far_of, first_down, largest, span_with, words_are}
 
 -- ---- two frames, of which none is free, and whose spans have object 1; object 0 has its home in set
 -- 5, which has a live position
@@ -271,7 +278,7 @@ swaps_none = not_far stays (λ e. stays_away e)
     stays_away : answer.Stays ≡ answer.NotHere → ⊥
     stays_away e = cc
 
-other_jobs : StillWorks Rebuild start answer.Done start → ⊥
+other_jobs : StillWorks Merge start answer.Done start → ⊥
 other_jobs works = works
 
 -- ---- no memory
@@ -354,3 +361,186 @@ two_rows_too_many stops =
     let z = stops.1 home set refl there in
     let n = z.1 in
     let e : 2 ≡ 0 + z.0 = ap (λ (f : FarState). f.nodes.given) z.2 in omega (arith, e, n)
+
+-- ---- a filter: object 0 has a pin
+filters : StillFilter 0 (holds pinned near) (answer.Pinned 1) (holds pinned near)
+filters = (refused (lit≤ tt, refl) refl refl, same_holds (holds pinned near))
+
+filters_with_more_pins : StillFilter 0 (holds pinned near) (answer.Pinned 2) (holds pinned near) → ⊥
+filters_with_more_pins (refused why same state, hold) = let e : 2 ≡ 1 = ap pins_in why.1 in omega (arith, e)
+  where
+    pins_in : Reply → ℕ
+    pins_in (answer.Pinned n) = n
+    pins_in r = 0
+filters_with_more_pins (cools seat is place same, hold) = let e : 1 ≡ 0 = is.free.1 in omega (arith, e)
+filters_with_more_pins (without_slot seat is none same, hold) =
+    let e : 1 ≡ 0 = is.free.1 in omega (arith, e)
+filters_with_more_pins (moves seat slot is gets same, hold) =
+    let e : 1 ≡ 0 = is.free.1 in omega (arith, e)
+
+filters_and_makes : StillFilter 0 (holds pinned near) (answer.Pinned 1) (holds pinned (more near)) → ⊥
+filters_and_makes (refused why same state, hold) = let e : 2 ≡ 1 = ap made_of state in omega (arith, e)
+filters_and_makes (cools seat is place same, hold) = let e : 1 ≡ 0 = is.free.1 in omega (arith, e)
+filters_and_makes (without_slot seat is none same, hold) = let e : 1 ≡ 0 = is.free.1 in omega (arith, e)
+filters_and_makes (moves seat slot is gets same, hold) = let e : 1 ≡ 0 = is.free.1 in omega (arith, e)
+
+-- ---- a rebuild: no set was made
+no_set : (id : ℕ) (s : SetState) → set_in near.sets id ≡ Some s → ⊥
+no_set id s at = none_set s (sym (ap if_committed (map.get-empty nat_cmp id)) ∙ at)
+  where
+    none_set : (s : SetState) → None ≡ Some s → ⊥
+    none_set s e = cc
+
+none_weak : RebuildStep near near (answer.Whole 0)
+none_weak = inl (record { none = λ id s at weak. no_set id s at; reply = refl; same = refl })
+
+rebuilds : StillRebuild (holds calm near) (answer.Whole 0) (holds calm near)
+rebuilds = (refl, none_weak, same_holds (holds calm near))
+
+-- no set is gone
+one_gone : RebuildStep near near (answer.Whole 1) → ⊥
+one_gone (inl z) = let e : 1 ≡ 0 = ap gone_in z.reply in omega (arith, e)
+  where
+    gone_in : Reply → ℕ
+    gone_in (answer.Whole n) = n
+    gone_in r = 0
+one_gone (inr z) = no_set z.id z.set z.first.there
+
+rebuilds_with_one_gone : StillRebuild (holds calm near) (answer.Whole 1) (holds calm near) → ⊥
+rebuilds_with_one_gone step = one_gone step.1
+
+rebuilds_and_warms : StillRebuild (holds calm near) (answer.Whole 0) (holds hot near) → ⊥
+rebuilds_and_warms step = let e : 16390 ≡ 16386 =
+    ap (λ (x : Words). get_or x.words 0 0) step.0 in omega (arith, e)
+
+-- over a desk that is a number, and which runs nothing
+abbrev waits : ℕ → List Event → ℕ → Type 0
+waits d es e = e ≡ d
+
+over_a_number : Rebuilds waits (record { desk = 3; far = near }) (answer.Whole 0)
+    (record { desk = 3; far = near })
+over_a_number = (refl, none_weak)
+
+over_another_number : Rebuilds waits (record { desk = 3; far = near }) (answer.Whole 0)
+    (record { desk = 4; far = near }) → ⊥
+over_another_number x = let e : 4 ≡ 3 = x.0 in omega (arith, e)
+
+over_a_number_with_one_gone : Rebuilds waits (record { desk = 3; far = near }) (answer.Whole 1)
+    (record { desk = 3; far = near }) → ⊥
+over_a_number_with_one_gone x = one_gone x.1
+
+-- ---- a filter that found no memory: object 0 lies in a hot span and is cold, and one frame is free
+abbrev seat : Seat
+seat = record {
+  frame = 0;
+  number = 0;
+  span = record {
+    class = largest;
+    temp = Hot;
+    slots = Some 0 ∷ None ∷ None ∷ None ∷ [];
+  };
+}
+
+none_cold : (f : ℕ) → HasRoom open_far largest Cold f → ⊥
+none_cold zero room = let e : 22 ≡ 23 = ap kind room.0 in omega (arith, e)
+none_cold (suc zero) room = let e : 1 ≡ 23 = ap kind room.0 in omega (arith, e)
+none_cold (suc (suc f)) room = let e : 1 ≡ 23 = ap kind room.0 in omega (arith, e)
+
+hot_cold : Hot ≡ Cold → ⊥
+hot_cold e = cc
+
+filter_stops : StillFilterLacks 0 (holds calm open_far) (holds calm open_far)
+filter_stops = (
+  refl,
+  (
+    seat,
+    record { free = (refl, refl); stands = record { there = refl; named = refl } },
+    (hot_cold, record { full = none_cold; some_free = lit≤ tt }),
+  ),
+)
+
+filter_stops_and_warms : StillFilterLacks 0 (holds calm open_far) (holds hot open_far) → ⊥
+filter_stops_and_warms stops = let e : 16390 ≡ 16386 = ap word_of stops.0 in omega (arith, e)
+
+-- one with a pin is refused, and needs no memory
+filter_stops_at_a_pin : StillFilterLacks 0 (holds pinned open_far) (holds pinned open_far) → ⊥
+filter_stops_at_a_pin stops = let e : 1 ≡ 0 = stops.1.1.free.1 in omega (arith, e)
+
+-- a hot object stays in its span
+filter_stops_in_its_span : StillFilterLacks 0 (holds hot open_far) (holds hot open_far) → ⊥
+filter_stops_in_its_span stops =
+    by stops.1.0.frame stops.1.0.span stops.1.1.stands.there stops.1.2.0
+  where
+    span_same : (p q : Contents) → Some p ≡ Some q → p ≡ q
+    span_same p q e = cc
+
+    none_span : (p : Contents) → None ≡ Some p → ⊥
+    none_span p e = cc
+
+    by : (f : ℕ) (span : Contents) → span_in open_far.spans f ≡ Some span → (span.temp ≡ Hot → ⊥) → ⊥
+    by zero span there off =
+        off (ap (λ (p : Contents). p.temp) (sym (span_same seat.span span there)))
+    by (suc zero) span there off = none_span span there
+    by (suc (suc f)) span there off = none_span span there
+
+-- ---- a rebuild that found no memory: set 0 lost the shard on node 0, and one row was given out
+abbrev weak_far : FarState
+weak_far = record near {
+  sets = map.insert map.empty 0 (record { set = set; committed = true });
+  members = first_down;
+}
+
+weak_there : set_in weak_far.sets 0 ≡ Some set
+weak_there = grind (arith, map.gets)
+
+is_weak : IsWeak weak_far.members set
+is_weak = record { some_lost = lit≤ tt; few_lost = lit≤ tt }
+
+first_weak : IsFirstWeak weak_far 0 set
+first_weak = record {
+  there = weak_there;
+  weak = is_weak;
+  least = λ j other less at weak. absurd (omega (arith, less));
+}
+
+given_one : IsWeakGiven weak_far (far_given weak_far 1)
+given_one = (0, set, 1, first_weak, lit≤ tt, refl)
+
+rebuild_stops : StillRebuildLacks (holds calm weak_far) (holds calm (far_given weak_far 1))
+rebuild_stops = (refl, given_one)
+
+rebuild_stops_and_warms : StillRebuildLacks (holds calm weak_far) (holds hot (far_given weak_far 1))
+    → ⊥
+rebuild_stops_and_warms stops = let e : 16390 ≡ 16386 =
+    ap (λ (x : Words). get_or x.words 0 0) stops.0 in omega (arith, e)
+
+-- two rows of one data position; and where no set is weak
+given_two : IsWeakGiven weak_far (far_given weak_far 2) → ⊥
+given_two (id, s, n, first, few, state) = by id first.there (λ less. first.least 0 set less weak_there)
+  where
+    by : (i : ℕ) → set_in weak_far.sets i ≡ Some s → (0 < i → IsWeak weak_far.members set → ⊥) → ⊥
+    by zero there least =
+        let few_one : n ≤ 1 = subst (λ (x : SetState). n ≤ length x.positions)
+        (set_same s set (sym there ∙ weak_there)) few in
+        let e : 2 ≡ 0 + n = ap (λ (f : FarState). f.nodes.given) state in omega (arith, e, few_one)
+    by (suc i) there least = least (omega arith) is_weak
+
+given_of_none : IsWeakGiven near (far_given near 1) → ⊥
+given_of_none (id, s, n, first, few, state) = no_set id s first.there
+
+-- more than rows were given out
+given_and_made : IsWeakGiven weak_far (more (far_given weak_far 1)) → ⊥
+given_and_made (id, s, n, first, few, state) =
+    let e : 2 ≡ 1 = ap made_of state in omega (arith, e)
+
+number_stops : RebuildLacks waits (record { desk = 3; far = weak_far })
+    (record { desk = 3; far = far_given weak_far 1 })
+number_stops = (refl, given_one)
+
+another_number_stops : RebuildLacks waits (record { desk = 3; far = weak_far })
+    (record { desk = 4; far = far_given weak_far 1 }) → ⊥
+another_number_stops x = let e : 4 ≡ 3 = x.0 in omega (arith, e)
+
+number_stops_with_two : RebuildLacks waits (record { desk = 3; far = weak_far })
+    (record { desk = 3; far = far_given weak_far 2 }) → ⊥
+number_stops_with_two x = given_two x.1

@@ -9,7 +9,7 @@ use Rattle.cb_node.specs.NodesState.{NodesState, empty_nodes, with_rows}
 use Rattle.cb_span.specs.declared.temp.Temp.TheVariants.{Hot}
 use Rattle.cb_types.specs.declared.handle.Handle.{Handle}
 use Rattle.cb_types.specs.declared.handle.SetId.{SetId}
-use Rattle.cb_types.specs.declared.job.Job.TheVariants.{Make, Read, Write, Free, Swap, Filter, Evict, Crash, Join}
+use Rattle.cb_types.specs.declared.job.Job.TheVariants.{Make, Read, Write, Free, Swap, Filter, Evict, Merge, Rebuild, Crash, Join}
 use Rattle.cb_types.specs.declared.reply.Reply.{Reply}
 use Rattle.cb_types.specs.declared.reply.Reply.TheVariants as answer
 use Rattle.cb_world.specs.Choices.{room_count}
@@ -354,6 +354,15 @@ none_to_swap job = omega (arith, job)
 an_eviction : IsJob settings Evict
 an_eviction = tt
 
+filtered : IsJob settings (Filter (handle 1))
+filtered = lit< tt
+
+none_to_filter : IsJob settings (Filter (handle 2)) → ⊥
+none_to_filter job = omega (arith, job)
+
+a_rebuild : IsJob settings Rebuild
+a_rebuild = tt
+
 -- which is not built
-a_filter : IsJob settings (Filter (handle 1)) → ⊥
-a_filter job = job
+a_merge : IsJob settings Merge → ⊥
+a_merge job = job

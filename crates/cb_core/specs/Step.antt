@@ -4,7 +4,7 @@ use Rattle.cb_member.specs.Membership.{alive}
 use Rattle.cb_ptr.specs.Word.{state_of, len_of}
 use Rattle.cb_set.specs.SetState.{SetState}
 use Rattle.cb_types.specs.declared.job.Job.{Job}
-use Rattle.cb_types.specs.declared.job.Job.TheVariants.{Make, Read, Write, Free, Swap, Evict, Crash, Join}
+use Rattle.cb_types.specs.declared.job.Job.TheVariants.{Make, Read, Write, Free, Swap, Filter, Evict, Rebuild, Crash, Join}
 use Rattle.cb_types.specs.declared.reply.Reply.{Reply}
 use Rattle.cb_types.specs.declared.reply.Reply.TheVariants as answer
 use Rattle.cb_world.specs.declared.homes.Home.{Home}
@@ -20,6 +20,10 @@ use Rattle.cb_mutate.specs.MakeStep.{IsMakeStep}
 use Rattle.cb_mutate.specs.StillReplies.{reply_as}
 use Rattle.cb_mutate.specs.Steps.{IsReadStep, IsWriteStep, IsFreeStep}
 use Rattle.cb_evict.specs.EvictStep.{IsEvictStep}
+use Rattle.cb_filter.specs.FilterStep.{IsFilterStep, IsFreeIn, temp_of}
+use Rattle.cb_filter.specs.Plans.{Wants}
+use Rattle.cb_filter.specs.Seats.{Seat}
+use Rattle.cb_rebuild.specs.RebuildStep.{RebuildStep}
 use Rattle.cb_swapin.specs.SwapStep.{IsSwapStep}
 use Rattle.cb_core.specs.declared.event.Atomic.{Atomic}
 use Rattle.cb_core.specs.declared.event.Atomic.TheVariants.{Load, Pin, Unpin}
@@ -30,7 +34,7 @@ use Rattle.cb_core.specs.Membership.{CrashTurn, JoinTurn}
 use Rattle.cb_core.specs.Parts.{Holding, WithRoom, WhereItIs, NeverDeclined, BringsIn, RoomStops, CallStops, NeverLacks}
 use Rattle.cb_core.specs.Pinning.{PinStep, UnpinStep}
 use Rattle.cb_core.specs.Room.{final_reply}
-use Rattle.cb_core.specs.Turned.{IsGiven, counted}
+use Rattle.cb_core.specs.Turned.{IsGiven, IsWeakGiven, counted}
 
 -- the parts of a turn, each a step from words and a far state to others
 abbrev pub StillMake : List ℕ → Holding Words → Reply → Holding Words → Type 0
@@ -74,6 +78,14 @@ StillSwap h a r b = (home : Home) × (home_at a.far.homes h ≡ Some home)
 abbrev pub StillBring : ℕ → Holding Words → Reply → Holding Words → Type 0
 StillBring h = WithRoom (StillSwap h) StillEvict
 
+-- a filter of an object in local memory
+abbrev pub StillFilter : ℕ → Holding Words → Reply → Holding Words → Type 0
+StillFilter h a r b = IsFilterStep a.desk b.desk a.far b.far h r × HoldOn a b
+
+-- a rebuild of the next lost row
+abbrev pub StillRebuild : Holding Words → Reply → Holding Words → Type 0
+StillRebuild a r b = (b.desk ≡ a.desk) × RebuildStep a.far b.far r × HoldOn a b
+
 -- a job once the turn is counted, part by part
 abbrev pub StillWorks : Job → Holding Words → Reply → Holding Words → Type 0
 StillWorks (Make bytes) a r b = WithRoom (StillMake bytes) StillEvict a r b
@@ -83,7 +95,9 @@ StillWorks (Write handle at bytes) a r b = WhereItIs (StillWrite handle.n at byt
     (StillDecline handle.n at (length bytes)) (StillBring handle.n) a r b
 StillWorks (Free handle) a r b = StillFree handle.n a r b
 StillWorks (Swap handle) a r b = BringsIn (StillFind handle.n) (StillBring handle.n) a r b
+StillWorks (Filter handle) a r b = StillFilter handle.n a r b
 StillWorks Evict a r b = StillEvict a r b
+StillWorks Rebuild a r b = StillRebuild a r b
 StillWorks (Crash node) a r b = (b.desk ≡ a.desk) × CrashTurn node a.far r b.far
 StillWorks (Join node) a r b = (b.desk ≡ a.desk) × JoinTurn node a.far r b.far
 -- every other job is not built
@@ -140,6 +154,15 @@ StillSwapLacks h a b = (b.desk ≡ a.desk) × IsGiven a.far b.far h
 abbrev pub StillBringLacks : ℕ → Holding Words → Holding Words → Type 0
 StillBringLacks h = RoomStops (StillSwap h) (StillSwapLacks h) StillEvict StillEvictLacks
 
+-- nothing changed, and the object needs a slot in a new span
+abbrev pub StillFilterLacks : ℕ → Holding Words → Holding Words → Type 0
+StillFilterLacks h a b =
+    (b ≡ a) × ((seat : Seat) × IsFreeIn a.desk a.far h seat × Wants a.far (temp_of a.desk h) seat)
+
+-- rows of the first weak set were given out, and nothing else was done
+abbrev pub StillRebuildLacks : Holding Words → Holding Words → Type 0
+StillRebuildLacks a b = (b.desk ≡ a.desk) × IsWeakGiven a.far b.far
+
 -- where a job that found no memory stopped
 abbrev pub StillStops : Job → Holding Words → Holding Words → Type 0
 StillStops (Make bytes) a b =
@@ -150,7 +173,9 @@ StillStops (Write handle at bytes) a b = CallStops (StillWrite handle.n at bytes
     (StillDecline handle.n at (length bytes)) (StillBring handle.n) (StillBringLacks handle.n) a b
 StillStops (Swap handle) a b =
     (m : Holding Words) × StillFind handle.n a answer.NotHere m × StillBringLacks handle.n m b
+StillStops (Filter handle) a b = StillFilterLacks handle.n a b
 StillStops Evict a b = StillEvictLacks a b
+StillStops Rebuild a b = StillRebuildLacks a b
 StillStops (Crash node) a b = (b ≡ a) × (alive a.far.members node ≡ true)
 StillStops job a b = ⊥
 

@@ -5,7 +5,7 @@ use Rattle.cb_ptr.specs.Word.{len_of}
 use Rattle.cb_set.specs.SetState.{SetState}
 use Rattle.cb_types.specs.declared.config.Config.{Config}
 use Rattle.cb_types.specs.declared.job.Job.{Job}
-use Rattle.cb_types.specs.declared.job.Job.TheVariants.{Make, Read, Write, Free, Swap, Evict, Crash, Join}
+use Rattle.cb_types.specs.declared.job.Job.TheVariants.{Make, Read, Write, Free, Swap, Filter, Evict, Rebuild, Crash, Join}
 use Rattle.cb_types.specs.declared.reply.Reply.{Reply}
 use Rattle.cb_types.specs.declared.reply.Reply.TheVariants as answer
 use Rattle.cb_types.specs.Jobs.{job_index}
@@ -30,6 +30,9 @@ use Rattle.cb_mutate.specs.FreeRule.{FreeRule, FreeEffect}
 use Rattle.cb_evict.specs.EvictEffect.{EvictEffect}
 use Rattle.cb_evict.specs.EvictRule.{EvictRule}
 use Rattle.cb_evict.specs.Evicting.{TouchesSpans}
+use Rattle.cb_filter.specs.FilterEffect.{FilterEffect}
+use Rattle.cb_filter.specs.FilterRule.{FilterRule, NeedsMemory}
+use Rattle.cb_rebuild.specs.RebuildStep.{IsFirstWeak, RebuildStep}
 use Rattle.cb_swapin.specs.Fetching.{far_given}
 use Rattle.cb_swapin.specs.SwapEffect.{SwapEffect}
 use Rattle.cb_swapin.specs.SwapRule.{SwapRule}
@@ -108,6 +111,17 @@ abbrev pub Brings : {D : Type 0} → (D → List Event → D → Type 0) → (D 
     → Holding D → Reply → Holding D → Type 0
 Brings run shows c h = WithRoom (Swaps run shows h) (Evicts run shows c)
 
+-- a filter of an object in local memory
+abbrev pub Filters : {D : Type 0} → (D → List Event → D → Type 0) → (D → Shown → Type 0) → Config → ℕ
+    → Holding D → Reply → Holding D → Type 0
+Filters run shows c h = Operates run shows (λ far new r. FilterRule c.frames h far new r)
+    (λ far new r. FilterEffect h far new r)
+
+-- a rebuild of the next lost row, at which the desk runs nothing
+abbrev pub Rebuilds : {D : Type 0} → (D → List Event → D → Type 0) → Holding D → Reply → Holding D
+    → Type 0
+Rebuilds run a r b = run a.desk [] b.desk × RebuildStep a.far b.far r
+
 -- What a job does once the turn is counted, part by part.
 abbrev pub Does : {D : Type 0} → (D → List Event → D → Type 0) → (D → Shown → Type 0) → Config → Job
     → Holding D → Reply → Holding D → Type 0
@@ -119,7 +133,9 @@ Does run shows c (Write handle at bytes) a r b = WhereItIs (Writes run shows han
 Does run shows c (Free handle) a r b = Frees run shows handle.n a r b
 Does run shows c (Swap handle) a r b =
     BringsIn (Finds run shows handle.n) (Brings run shows c handle.n) a r b
+Does run shows c (Filter handle) a r b = Filters run shows c handle.n a r b
 Does run shows c Evict a r b = Evicts run shows c a r b
+Does run shows c Rebuild a r b = Rebuilds run a r b
 Does run shows c (Crash node) a r b = run a.desk [] b.desk × CrashTurn node a.far r b.far
 Does run shows c (Join node) a r b = run a.desk [] b.desk × JoinTurn node a.far r b.far
 -- every other job is not built
@@ -174,6 +190,22 @@ abbrev pub BringLacks : {D : Type 0} → (D → List Event → D → Type 0) →
 BringLacks run shows c h = RoomStops (Swaps run shows h) (SwapLacks run h) (Evicts run shows c)
     (EvictLacks run shows)
 
+-- a filter that lacks memory for a new span changes nothing
+abbrev pub FilterLacks : {D : Type 0} → (D → List Event → D → Type 0) → (D → Shown → Type 0) → ℕ
+    → Holding D → Holding D → Type 0
+FilterLacks run shows h a b = Performs (λ es. run a.desk es b.desk)
+    (λ s. shows a.desk s × Sound s a.far) (NeedsMemory h a.far b.far) (λ t. Sound t b.far) IsStill
+
+-- rows of the first weak set were given out, at most as many as it has data positions
+abbrev pub IsWeakGiven : FarState → FarState → Type 0
+IsWeakGiven far new = (id : ℕ) × (set : SetState) × (n : ℕ) × IsFirstWeak far id set
+    × (n ≤ length set.positions) × (new ≡ far_given far n)
+
+-- a rebuild that lacks memory has given out rows, and nothing else was done
+abbrev pub RebuildLacks : {D : Type 0} → (D → List Event → D → Type 0) → Holding D → Holding D
+    → Type 0
+RebuildLacks run a b = run a.desk [] b.desk × IsWeakGiven a.far b.far
+
 -- Where a job that found no memory stopped.
 abbrev pub Stops : {D : Type 0} → (D → List Event → D → Type 0) → (D → Shown → Type 0) → Config → Job
     → Holding D → Holding D → Type 0
@@ -188,7 +220,9 @@ Stops run shows c (Write handle at bytes) a b =
     (BringLacks run shows c handle.n) a b
 Stops {D = D} run shows c (Swap handle) a b =
     (m : Holding D) × Finds run shows handle.n a answer.NotHere m × BringLacks run shows c handle.n m b
+Stops run shows c (Filter handle) a b = FilterLacks run shows handle.n a b
 Stops run shows c Evict a b = EvictLacks run shows a b
+Stops run shows c Rebuild a b = RebuildLacks run a b
 Stops run shows c (Crash node) a b =
     run a.desk [] b.desk × (b.far ≡ a.far) × (alive a.far.members node ≡ true)
 Stops run shows c job a b = ⊥

@@ -9,7 +9,9 @@ ghost use Rattle.cb_core.specs.Turned.{Does, Stops, Turned, Stopped, counted};
 use crate::bringing::{make_with_room, read_anywhere, swap_object, write_anywhere};
 use crate::membership::{crash, join};
 use cb_evict::evict_now;
+use cb_filter::filter_one;
 use cb_mutate::free;
+use cb_rebuild::rebuild_next;
 use cb_types::{Job, NoMemory, Reply};
 use cb_world::{Desk, Far};
 use std::alloc::Global;
@@ -22,8 +24,8 @@ pub const MOST_TURNS: u64 = 1 << 40;
 ///
 /// Where there is no frame for a new object or for one that is brought in, an eviction makes room, and
 /// NoFrame is answered only where that is refused. A call on a far object brings it in first, and is
-/// answered as the bringing in where the object stays far. Where there is no memory, the turn is
-/// counted and what its parts did before stays.
+/// answered as the bringing in where the object stays far. A filter and a rebuild win no room: each is
+/// one part alone. Where there is no memory, the turn is counted and what its parts did before stays.
 pub fn turn<D: Desk>(
     alloc: Global,
     desk: &mut D,
@@ -87,7 +89,9 @@ fn work<D: Desk>(alloc: Global, desk: &mut D, far: &mut Far, job: &Job) -> Resul
         }
         Job::Free { handle } => free(desk, far, *handle),
         Job::Swap { handle } => swap_object(desk, far, *handle),
+        Job::Filter { handle } => filter_one(desk, far, *handle),
         Job::Evict => evict_now(desk, far),
+        Job::Rebuild => rebuild_next(desk, far),
         Job::Crash { node } => crash(far, *node),
         Job::Join { node } => Ok(join(far, *node)),
         _ => unreachable!(),

@@ -10,7 +10,7 @@ use Rattle.cb_types.specs.Config.{IsAccepted}
 use Rattle.cb_types.specs.declared.config.Field.TheVariants.{Nodes}
 use Rattle.cb_types.specs.declared.job.Job.TheVariants as job
 use Rattle.cb_types.specs.declared.request.Request.{Request}
-use Rattle.cb_types.specs.declared.request.Request.TheVariants.{Make, Read, Write, Free, Pin, Peek, Unpin, Evict, Crash, Join, Leave}
+use Rattle.cb_types.specs.declared.request.Request.TheVariants.{Make, Read, Write, Free, Pin, Peek, Unpin, Filter, Evict, Rebuild, Crash, Join, Leave}
 use Rattle.cb_types.specs.declared.reply.Reply.{Reply}
 use Rattle.cb_types.specs.declared.reply.Reply.TheVariants as answer
 use Rattle.cb_types.specs.Requests.{name_of}
@@ -45,11 +45,11 @@ use Rattle.cb_lanes.specs.Lost.{loss_of, losses_of}
 use Rattle.cb_lanes.specs.Names.{Names, kept_number, handle_at, handle_in, number_after, AreKept, AreReady}
 use Rattle.cb_lanes.specs.Scopes.{KeepScopes, ScopeSays, scope_of}
 use Rattle.cb_lanes.proofs.GivingBack.{unpin_stands, gives_all}
-use Rattle.cb_lanes.proofs.LineGoes.{read_goes, write_goes, free_goes, make_goes}
+use Rattle.cb_lanes.proofs.LineGoes.{read_goes, write_goes, free_goes, filter_goes, make_goes}
 use Rattle.cb_lanes.proofs.Pinning.{pin_goes, pin_settings, peek_goes, unpin_goes, leave_goes, unmade_pins}
 use Rattle.cb_lanes.proofs.Scoping.{Scoped, line_scoped}
 use Rattle.cb_lanes.proofs.ScopesKept.{AreScopes, scopes_none, scopes_push, keep_push, Rested, rests, LeadsOn, leads_push, IsFresh, grown, apart_after, lines_own}
-use Rattle.cb_lanes.proofs.Silent.{unmade_read, unmade_write, unmade_free, evict_goes, crash_goes, join_goes}
+use Rattle.cb_lanes.proofs.Silent.{unmade_read, unmade_write, unmade_free, evict_goes, rebuild_goes, crash_goes, join_goes}
 use Rattle.cb_lanes.proofs.Turning.{answer_to, Turning, around, Goes}
 
 -- The answers so far are the map's, the map is beside the world that they led to, the names are what
@@ -85,6 +85,8 @@ line_goes answers l (Make name bytes) r w new handle c built is named ready lt m
     make_goes answers l name bytes r w new c step
 line_goes answers l Evict r w new handle c built is named ready lt made few step =
     evict_goes answers l r w new c step
+line_goes answers l Rebuild r w new handle c built is named ready lt made few step =
+    rebuild_goes answers l r w new c step
 line_goes answers l (Crash node) r w new handle c built is named ready lt made few step =
     crash_goes answers l node r w new c is step
 line_goes answers l (Join node) r w new handle c built is named ready lt made few step =
@@ -101,6 +103,10 @@ line_goes answers l (Free name) r w new None c built is named ready lt made few 
     unmade_free answers l name r w new (around answers w new c) named step
 line_goes answers l (Free name) r w new (Some h) c built is named ready lt made few step =
     free_goes answers l name h r w new c (ready h refl) named step
+line_goes answers l (Filter name) r w new None c built is named ready lt made few step =
+    unmade_pins answers l (Filter name) name r w new (around answers w new c) named refl refl tt step
+line_goes answers l (Filter name) r w new (Some h) c built is named ready lt made few step =
+    filter_goes answers l name h r w new c (ready h refl) named step
 line_goes answers l Leave r w new handle c built is named ready lt made few step =
     leave_goes answers l (length (pins_of_seat w.seats l.lane.n)) r w new (around answers w new c) lt step.0 step.1
 line_goes answers l (Pin name) r w new None c built is named ready lt made few step =
@@ -143,8 +149,10 @@ about_made answers (Free name) r h made built within e = inl (within name h e)
 about_made answers (Pin name) r h made built within e = inl (within name h e)
 about_made answers (Peek name) r h made built within e = inl (within name h e)
 about_made answers (Unpin name) r h made built within e = inl (within name h e)
+about_made answers (Filter name) r h made built within e = inl (within name h e)
 about_made answers Leave r h made built within e = absurd cc
 about_made answers Evict r h made built within e = absurd cc
+about_made answers Rebuild r h made built within e = absurd cc
 about_made answers (Crash node) r h made built within e = absurd cc
 about_made answers (Join node) r h made built within e = absurd cc
 about_made answers request r h made built within e = absurd built
@@ -230,6 +238,8 @@ object_settings seat (Some h) (Write name at bytes) w new r sound lt ready step 
     step_settings w new (Turn seat (job.Write (record { n = h }) at bytes)) r step
 object_settings seat (Some h) (Free name) w new r sound lt ready step =
     step_settings w new (Turn seat (job.Free (record { n = h }))) r step
+object_settings seat (Some h) (Filter name) w new r sound lt ready step =
+    step_settings w new (Turn seat (job.Filter (record { n = h }))) r step
 object_settings seat (Some h) (Pin name) w new r sound lt ready step =
     pin_settings seat h w new r step
 object_settings seat (Some h) (Unpin name) w new r sound lt ready step =
@@ -249,6 +259,8 @@ line_settings seat handle (Make name bytes) w new r sound lt ready step =
     step_settings w new (Turn seat (job.Make bytes)) r step
 line_settings seat handle Evict w new r sound lt ready step =
     step_settings w new (Turn seat job.Evict) r step
+line_settings seat handle Rebuild w new r sound lt ready step =
+    step_settings w new (Turn seat job.Rebuild) r step
 line_settings seat handle (Crash node) w new r sound lt ready step =
     step_settings w new (Turn seat (job.Crash node)) r step
 line_settings seat handle (Join node) w new r sound lt ready step =

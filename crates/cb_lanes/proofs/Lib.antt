@@ -6,6 +6,7 @@ pub mod LineGoes
 pub mod Silent
 pub mod Pinning
 pub mod Shown
+pub mod Filtering
 pub mod Scoping
 pub mod ScopesKept
 pub mod Along

@@ -2,7 +2,7 @@
 use Rattle.std.proofs.Common.{◌≡◌, ℕ, ◌<◌, List, [], ◌∷◌, None, Some, refl, ap, inl, inr}
 use Rattle.cb_types.specs.declared.answer.Answer.{Answer}
 use Rattle.cb_types.specs.declared.job.Job.TheVariants as job
-use Rattle.cb_types.specs.declared.request.Request.TheVariants.{Make, Read, Write, Free}
+use Rattle.cb_types.specs.declared.request.Request.TheVariants.{Make, Read, Write, Free, Filter}
 use Rattle.cb_types.specs.declared.reply.Reply.{Reply}
 use Rattle.cb_types.specs.declared.reply.Reply.TheVariants as answer
 use Rattle.cb_types.specs.Table.{IsReplyOf}
@@ -14,7 +14,7 @@ use Rattle.cb_script.specs.declared.script.Line.{Line}
 use Rattle.cb_world.specs.World.{WorldState}
 use Rattle.cb_mutate.specs.MapCalls.{IsMakeCall}
 use Rattle.cb_core.specs.Step.{TurnStep}
-use Rattle.cb_core.proofs.TurnCalls.{read_turn, write_turn, free_turn, make_turn}
+use Rattle.cb_core.proofs.TurnCalls.{read_turn, write_turn, free_turn, make_turn, filter_turn}
 use Rattle.cb_lanes.proofs.Turning.{answer_to, Turning, Goes, call_goes, refused_goes}
 
 -- ---- calls on objects
@@ -45,6 +45,15 @@ free_goes answers l name h r w new c below named step =
     let z = free_turn w new h name r c.before c.then c.few below step in
     call_goes answers (answer_to l (Free name) r) w new (job.Free (record { n = h })) r h c step z.call named
     z.line
+
+pub filter_goes : (answers : List Answer) (l : Line) (name : List ℕ) (h : ℕ) (r : Reply) (w new : WorldState)
+    → (c : Turning answers w new) → h < w.desk.settings.handles → handle_of answers name ≡ Some h
+    → TurnStep (job.Filter (record { n = h })) w r new
+    → Goes answers (answer_to l (Filter name) r) w new c.then.shown
+filter_goes answers l name h r w new c below named step =
+    let z = filter_turn w new h r c.before c.then c.few below step in
+    call_goes answers (answer_to l (Filter name) r) w new (job.Filter (record { n = h })) r h c step
+    (z.call name) named (z.line name)
 
 -- ---- makes
 

@@ -7,7 +7,7 @@ use Rattle.cb_ptr.specs.Word.{pins_of}
 use Rattle.cb_types.specs.declared.answer.Answer.{Answer}
 use Rattle.cb_types.specs.declared.job.Job.TheVariants as job
 use Rattle.cb_types.specs.declared.request.Request.{Request}
-use Rattle.cb_types.specs.declared.request.Request.TheVariants.{Make, Read, Write, Free, Pin, Peek, Unpin, Evict, Crash, Join, Leave}
+use Rattle.cb_types.specs.declared.request.Request.TheVariants.{Make, Read, Write, Free, Pin, Peek, Unpin, Filter, Evict, Rebuild, Crash, Join, Leave}
 use Rattle.cb_types.specs.declared.reply.Reply.{Reply}
 use Rattle.cb_types.specs.declared.reply.Reply.TheVariants as answer
 use Rattle.cb_types.specs.Requests.{name_of}
@@ -25,6 +25,7 @@ use Rattle.cb_lanes.specs.GivingBack.{GivesAll}
 use Rattle.cb_lanes.specs.LineStep.{LineStep, PeekStep, not_pinned, shown, PinLine, at_once, stays_far, swapped_in}
 use Rattle.cb_lanes.specs.Scopes.{Scope, without_newest, scope_after, PeekSays, UnpinSays, ScopeSays}
 use Rattle.cb_lanes.proofs.GivingBack.{gives_all, pins_own, pins_other, given_pins}
+use Rattle.cb_lanes.proofs.Filtering.{filter_counts}
 use Rattle.cb_lanes.proofs.PinLists.{AreApart, ArePinsOf, pins_length, scope_none, scope_newest, scope_without, scope_count}
 use Rattle.cb_lanes.proofs.Pinning.{pin_nothing, in_or_refused, turn_seats}
 use Rattle.cb_lanes.proofs.Turning.{Turning, within}
@@ -232,6 +233,9 @@ line_scoped answers (Make name bytes) r w new handle number scope seat c built l
 line_scoped answers Evict r w new handle number scope seat c built lt apart named ready are step =
     still_scoped number handle scope Evict r seat w new
     (turn_seats job.Evict w new r step) are refl (quiet handle scope Evict r tt (λ h. tt))
+line_scoped answers Rebuild r w new handle number scope seat c built lt apart named ready are step =
+    still_scoped number handle scope Rebuild r seat w new
+    (turn_seats job.Rebuild w new r step) are refl (quiet handle scope Rebuild r tt (λ h. tt))
 line_scoped answers (Crash node) r w new handle number scope seat c built lt apart named ready are step =
     still_scoped number handle scope (Crash node) r seat w new
     (turn_seats (job.Crash node) w new r step) are refl (quiet handle scope (Crash node) r tt (λ h. tt))
@@ -264,6 +268,17 @@ line_scoped answers (Free name) r w new (Some h) number scope seat c built lt ap
     let below = within w h c.before (ready h refl) in
     let counts = free_counts w new h count c.before c.few
     (subst (λ (q : Reply). TurnStep (job.Free (record { n = h })) w q new) is step) in
+    let all = own_pins w seat h c.before lt below in
+    let same = scope_count number apart name h (named name refl) scope (pins_of_seat w.seats seat) are in
+    (counts.some, omega (arith, same, all, counts.is)))
+line_scoped answers (Filter name) r w new None number scope seat c built lt apart named ready are step =
+    unmade_scoped number scope (Filter name) seat r w new are step.1 refl tt
+line_scoped answers (Filter name) r w new (Some h) number scope seat c built lt apart named ready are step =
+    still_scoped number (Some h) scope (Filter name) r seat w new
+    (turn_seats (job.Filter (record { n = h })) w new r step) are refl (λ count is.
+    let below = within w h c.before (ready h refl) in
+    let counts = filter_counts w new h count c.few
+    (subst (λ (q : Reply). TurnStep (job.Filter (record { n = h })) w q new) is step) in
     let all = own_pins w seat h c.before lt below in
     let same = scope_count number apart name h (named name refl) scope (pins_of_seat w.seats seat) are in
     (counts.some, omega (arith, same, all, counts.is)))

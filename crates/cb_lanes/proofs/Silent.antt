@@ -1,11 +1,11 @@
--- Lines about no object: names without a handle, evictions, crashes and joins.
+-- Lines about no object: names without a handle, evictions, rebuilds, crashes and joins.
 use Rattle.std.proofs.Common.{◌≡◌, ℕ, ◌<◌, List, [], ◌∷◌, ◌++◌, Option, None, Some, refl, sym, ap, ◌∙◌, subst, arith, inl, inr, fold, if◌then◌else◌}
 use Rattle.cb_member.specs.declared.names.NodeId.{NodeId}
 use Rattle.cb_types.specs.declared.answer.Answer.{Answer}
 use Rattle.cb_types.specs.declared.job.Job.{Job}
 use Rattle.cb_types.specs.declared.job.Job.TheVariants as job
 use Rattle.cb_types.specs.declared.request.Request.{Request}
-use Rattle.cb_types.specs.declared.request.Request.TheVariants.{Read, Write, Free, Evict, Crash, Join}
+use Rattle.cb_types.specs.declared.request.Request.TheVariants.{Read, Write, Free, Evict, Rebuild, Crash, Join}
 use Rattle.cb_types.specs.declared.reply.Reply.{Reply}
 use Rattle.cb_types.specs.declared.reply.Reply.TheVariants as answer
 use Rattle.cb_types.specs.Table.{IsReplyOf}
@@ -27,7 +27,7 @@ use Rattle.cb_mutate.specs.MapCalls.{IsValue}
 use Rattle.cb_mutate.specs.MapBeside.{IsMapBeside}
 use Rattle.cb_mutate.proofs.MapBeside.{Follows, beside_kept}
 use Rattle.cb_core.specs.Step.{TurnStep}
-use Rattle.cb_core.proofs.TurnCalls.{evict_turn, crash_turn, join_turn}
+use Rattle.cb_core.proofs.TurnCalls.{evict_turn, rebuild_turn, crash_turn, join_turn}
 use Rattle.cb_core.proofs.TurnCallsKept.{known_same}
 use Rattle.cb_core.proofs.TurnCallsMap.{IsSameMap}
 use Rattle.cb_core.proofs.TurnCallsNodes.{IsMapLost}
@@ -147,6 +147,13 @@ evict_event (answer.NoNodes nodes) line = refl
 evict_event answer.Worn line = refl
 evict_event r line = absurd line
 
+rebuild_event : (r : Reply) → IsReplyOf Rebuild r → event_of Rebuild r ≡ Refused Nothing
+rebuild_event (answer.Rebuilt set position node) line = refl
+rebuild_event (answer.Whole broken) line = refl
+rebuild_event (answer.Stuck set) line = refl
+rebuild_event answer.Worn line = refl
+rebuild_event r line = absurd line
+
 crash_event : (node : NodeId) (r : Reply) → IsReplyOf (Crash node) r
     → event_of (Crash node) r ≡ Refused Nothing
 crash_event node (answer.EpochAt epoch) line = refl
@@ -168,6 +175,15 @@ evict_goes answers l r w new c step =
     let z = evict_turn w new r c.before c.then c.few step in
     quiet_goes answers (answer_to l Evict r) w new job.Evict r c step
     (beside_same answers c.before.shown c.then.shown w.far new.far c.beside z.0) refl (evict_event r z.1) z.1
+
+pub rebuild_goes : (answers : List Answer) (l : Line) (r : Reply) (w new : WorldState)
+    → (c : Turning answers w new) → TurnStep job.Rebuild w r new
+    → Goes answers (answer_to l Rebuild r) w new c.then.shown
+rebuild_goes answers l r w new c step =
+    let z = rebuild_turn w new r c.before c.then c.few step in
+    quiet_goes answers (answer_to l Rebuild r) w new job.Rebuild r c step
+    (beside_same answers c.before.shown c.then.shown w.far new.far c.beside z.0) refl (rebuild_event r z.1)
+    z.1
 
 pub crash_goes : (answers : List Answer) (l : Line) (node : NodeId) (r : Reply) (w new : WorldState)
     → (c : Turning answers w new) → node.n < w.desk.settings.nodes

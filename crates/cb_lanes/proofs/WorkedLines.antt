@@ -4,7 +4,7 @@ use Rattle.cb_types.specs.declared.answer.Answer.{Answer}
 use Rattle.cb_types.specs.declared.config.Config.{Config}
 use Rattle.cb_types.specs.declared.job.Job.TheVariants as job
 use Rattle.cb_types.specs.declared.request.Request.{Request}
-use Rattle.cb_types.specs.declared.request.Request.TheVariants.{Read, Write, Crash, Join, Evict}
+use Rattle.cb_types.specs.declared.request.Request.TheVariants.{Read, Write, Filter, Crash, Join, Evict}
 use Rattle.cb_types.specs.declared.reply.Reply.{Reply}
 use Rattle.cb_types.specs.declared.reply.Reply.TheVariants.{Bytes, EpochAt, Down, Up, Range, Unmade, Freed}
 use Rattle.cb_world.specs.World.{WorldState, empty_world}
@@ -51,6 +51,9 @@ no_join_is_down is = is
 a_write_is_a_write : job_on 4 (Write (97 ∷ []) 2 (9 ∷ []))
     ≡ Some (job.Write (record { n = 4 }) 2 (9 ∷ []))
 a_write_is_a_write = refl
+
+a_filter_is_a_filter : job_on 4 (Filter (97 ∷ [])) ≡ Some (job.Filter (record { n = 4 }))
+a_filter_is_a_filter = refl
 
 not_built : job_on 4 Evict ≡ None
 not_built = refl

@@ -6,9 +6,9 @@ use Rattle.std.proofs.lemmas.Option.{slice_get_within}
 use Rattle.cb_types.specs.declared.answer.Answer.{Answer}
 use Rattle.cb_types.specs.declared.config.Config.{Config}
 use Rattle.cb_types.specs.declared.request.Request.{Request}
-use Rattle.cb_types.specs.declared.request.Request.TheVariants.{Make, Pin, Peek, Unpin, Leave}
+use Rattle.cb_types.specs.declared.request.Request.TheVariants.{Make, Pin, Peek, Unpin, Filter, Leave}
 use Rattle.cb_types.specs.declared.reply.Reply.{Reply}
-use Rattle.cb_types.specs.declared.reply.Reply.TheVariants.{Made, Version, Bytes, Done, Left, Unmade, Freed, Pinned, ScopeFull, NotPinned, NotHere, NoRoom, Stays, Swapped}
+use Rattle.cb_types.specs.declared.reply.Reply.TheVariants.{Made, Version, Bytes, Done, Left, Same, Unmade, Freed, Pinned, ScopeFull, NotPinned, NotHere, NoRoom, Stays, Swapped}
 use Rattle.cb_ptr.specs.Word.{len_of}
 use Rattle.cb_world.specs.declared.seats.Pin.{Pin as SeatPin}
 use Rattle.cb_world.specs.Memory.{bytes_in}
@@ -156,6 +156,15 @@ fewer_than_the_own says = omega (arith, (says 1 refl).1)
 
 pinned_by_none : PinnedSays 0 (Pinned 0) → ⊥
 pinned_by_none says = omega (arith, (says 0 refl).0)
+
+a_filter_that_is_done : ScopeSays (Some 0) three (Filter a) Same
+a_filter_that_is_done = λ count e. absurd cc
+
+a_filter_tells_fewer : ScopeSays (Some 0) three (Filter a) (Pinned 1) → ⊥
+a_filter_tells_fewer says = omega (arith, (says 1 refl).1)
+
+a_filter_tells_none : ScopeSays (Some 0) three (Filter c) (Pinned 0) → ⊥
+a_filter_tells_none says = omega (arith, (says 0 refl).0)
 
 -- a run of one lane, line by line
 abbrev run : ℕ → List Answer

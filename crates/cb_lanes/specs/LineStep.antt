@@ -5,7 +5,7 @@ use Rattle.cb_types.specs.declared.answer.Answer.{Answer}
 use Rattle.cb_types.specs.declared.job.Job.{Job}
 use Rattle.cb_types.specs.declared.job.Job.TheVariants as job
 use Rattle.cb_types.specs.declared.request.Request.{Request}
-use Rattle.cb_types.specs.declared.request.Request.TheVariants.{Make, Read, Write, Free, Pin, Peek, Unpin, Evict, Crash, Join, Leave}
+use Rattle.cb_types.specs.declared.request.Request.TheVariants.{Make, Read, Write, Free, Pin, Peek, Unpin, Filter, Evict, Rebuild, Crash, Join, Leave}
 use Rattle.cb_types.specs.declared.reply.Reply.{Reply}
 use Rattle.cb_types.specs.declared.reply.Reply.TheVariants as answer
 use Rattle.cb_types.specs.Requests.{name_of}
@@ -25,6 +25,7 @@ abbrev pub job_on : ℕ → Request → Option Job
 job_on h (Read name) = Some (job.Read (record { n = h }))
 job_on h (Write name at bytes) = Some (job.Write (record { n = h }) at bytes)
 job_on h (Free name) = Some (job.Free (record { n = h }))
+job_on h (Filter name) = Some (job.Filter (record { n = h }))
 job_on h request = None
 
 -- a turn with a job, where there is one
@@ -84,6 +85,7 @@ ObjectStep seat (Some h) request w r new = CallStep seat h request w r new
 abbrev pub LineStep : ℕ → Option ℕ → Request → WorldState → Reply → WorldState → Type 0
 LineStep seat handle (Make name bytes) w r new = Step w (Turn seat (job.Make bytes)) r new
 LineStep seat handle Evict w r new = Step w (Turn seat job.Evict) r new
+LineStep seat handle Rebuild w r new = Step w (Turn seat job.Rebuild) r new
 LineStep seat handle (Crash node) w r new = Step w (Turn seat (job.Crash node)) r new
 LineStep seat handle (Join node) w r new = Step w (Turn seat (job.Join node)) r new
 LineStep seat handle Leave w r new =

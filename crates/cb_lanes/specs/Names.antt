@@ -8,7 +8,7 @@ use Rattle.std.specs.Borrow.{Bor}
 use Rattle.std.specs.Str.{bytes_eq}
 use Rattle.cb_types.specs.declared.handle.Handle.{Handle}
 use Rattle.cb_types.specs.declared.request.Request.{Request}
-use Rattle.cb_types.specs.declared.request.Request.TheVariants.{Make, Read, Write, Free, Pin, Peek, Unpin}
+use Rattle.cb_types.specs.declared.request.Request.TheVariants.{Make, Read, Write, Free, Pin, Peek, Unpin, Filter}
 use Rattle.cb_types.specs.declared.reply.Reply.{Reply}
 use Rattle.cb_types.specs.declared.reply.Reply.TheVariants.{Made}
 use Rattle.cb_types.specs.Requests.{name_of}
@@ -56,4 +56,5 @@ IsOnObject (Free name) = Unit {0}
 IsOnObject (Pin name) = Unit {0}
 IsOnObject (Peek name) = Unit {0}
 IsOnObject (Unpin name) = Unit {0}
+IsOnObject (Filter name) = Unit {0}
 IsOnObject request = ⊥

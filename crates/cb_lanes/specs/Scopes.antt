@@ -4,7 +4,7 @@ use Rattle.std.specs.List.{fold, sum_by}
 use Rattle.std.specs.Str.{bytes_eq}
 use Rattle.cb_types.specs.declared.answer.Answer.{Answer}
 use Rattle.cb_types.specs.declared.request.Request.{Request}
-use Rattle.cb_types.specs.declared.request.Request.TheVariants.{Write, Free, Pin, Peek, Unpin, Leave}
+use Rattle.cb_types.specs.declared.request.Request.TheVariants.{Write, Free, Pin, Peek, Unpin, Filter, Leave}
 use Rattle.cb_types.specs.declared.reply.Reply.{Reply}
 use Rattle.cb_types.specs.declared.reply.Reply.TheVariants as answer
 use Rattle.cb_types.specs.Requests.{name_of}
@@ -61,7 +61,7 @@ abbrev pub UnpinSays : Option ℕ → Reply → Type 0
 UnpinSays None r = r ≡ answer.NotPinned
 UnpinSays (Some version) r = r ≡ answer.Done
 
--- a change of an object that is answered pinned: so many pins are those of all lanes, and so at least
+-- a change or a move of an object that is answered pinned: so many pins are those of all lanes, and so at least
 -- one and at least the lane's own
 abbrev pub PinnedSays : ℕ → Reply → Type 0
 PinnedSays own r = (count : ℕ) → r ≡ answer.Pinned count → (1 ≤ count) × (own ≤ count)
@@ -73,6 +73,7 @@ CallSays scope (Peek name) r = PeekSays (newest_on name scope) r
 CallSays scope (Unpin name) r = UnpinSays (newest_on name scope) r
 CallSays scope (Write name at bytes) r = PinnedSays (named_on name scope) r
 CallSays scope (Free name) r = PinnedSays (named_on name scope) r
+CallSays scope (Filter name) r = PinnedSays (named_on name scope) r
 CallSays scope request r = Unit {0}
 
 -- and on one that has none, where the line is about pins

@@ -38,6 +38,7 @@ pub(crate) fn reply_to<'a>(
     match request {
         Request::Make { name, bytes } => make_named(alloc, world, names, seat, name, bytes),
         Request::Evict => turn_of(alloc, world, seat, Job::Evict),
+        Request::Rebuild => turn_of(alloc, world, seat, Job::Rebuild),
         Request::Crash { node } => turn_of(alloc, world, seat, Job::Crash { node: *node }),
         Request::Join { node } => turn_of(alloc, world, seat, Job::Join { node: *node }),
         Request::Leave => Ok(Reply::Left {
@@ -126,6 +127,7 @@ fn call_object(
             turn_of(alloc, world, seat, job)
         }
         Request::Free { .. } => turn_of(alloc, world, seat, Job::Free { handle }),
+        Request::Filter { .. } => turn_of(alloc, world, seat, Job::Filter { handle }),
         _ => turn_of(alloc, world, seat, Job::Read { handle }),
     }
 }

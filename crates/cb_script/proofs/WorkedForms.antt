@@ -2,12 +2,12 @@
 use Rattle.std.proofs.Common.{◌≡◌, ℕ, ◌<◌, ◌≤◌, List, [], ◌∷◌, ◌++◌, length, All, ◌⊎◌, inl, inr, refl, arith}
 use Rattle.std.specs.Prelude.{codes}
 use Rattle.std.proofs.lemmas.List.Elements.{All-cons, All-nil, All-head}
-use Rattle.cb_types.specs.declared.request.Request.TheVariants.{Make, Read, Write, Crash, Leave, Begin, Evict}
+use Rattle.cb_types.specs.declared.request.Request.TheVariants.{Make, Read, Write, Filter, Crash, Leave, Begin, Evict, Compact, Rebuild}
 use Rattle.cb_script.specs.declared.script.Line.{Line}
 use Rattle.cb_script.specs.declared.script.Mode.TheVariants.{Seq, Threads}
 use Rattle.cb_script.specs.declared.script.Script.{Script}
 use Rattle.cb_script.specs.Form.{IsName, IsNameByte, IsContents, IsChange, IsRequest, IsLane, IsNew, KnowsName, IsKnown, MayFollow, AreInMode, IsScript, Spells}
-use Rattle.cb_script.specs.Unbuilt.{IsFirstUnbuilt}
+use Rattle.cb_script.specs.Unbuilt.{IsBuilt, IsFirstUnbuilt}
 use Rattle.cb_script.proofs.Phrases.{differ}
 use Rattle.cb_script.proofs.WorkedSpelling.{worked_lane}
 
@@ -170,3 +170,12 @@ too_long bytes s long spells = omega (arith, long, spells.short)
 
 first_unbuilt_line : IsFirstUnbuilt (two_makes ++ worked_lane 1 Begin 4 ∷ worked_lane 1 Leave 5 ∷ []) 4
 first_unbuilt_line = record { before = two_makes; here = worked_lane 1 Begin 4; after = worked_lane 1 Leave 5 ∷ []; are = refl; built = (tt, (tt, tt)); unbuilt = λ is. is; number_is = refl }
+
+filter_built : IsBuilt (Filter (codes "a"))
+filter_built = tt
+
+rebuild_built : IsBuilt Rebuild
+rebuild_built = tt
+
+compact_unbuilt : IsBuilt Compact → ⊥
+compact_unbuilt is = is

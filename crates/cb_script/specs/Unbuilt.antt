@@ -2,10 +2,10 @@
 use Rattle.std.specs.Prelude.{◌≡◌, ℕ, List, ◌∷◌, ◌++◌}
 use Rattle.std.specs.List.{AllByRecursion}
 use Rattle.cb_types.specs.declared.request.Request.{Request}
-use Rattle.cb_types.specs.declared.request.Request.TheVariants.{Make, Read, Write, Free, Pin, Peek, Unpin, Evict, Crash, Join, Leave}
+use Rattle.cb_types.specs.declared.request.Request.TheVariants.{Make, Read, Write, Free, Pin, Peek, Unpin, Filter, Evict, Rebuild, Crash, Join, Leave}
 use Rattle.cb_script.specs.declared.script.Line.{Line}
 
--- calls on objects, pins and their ends, evictions, crashes and joins are built
+-- calls on objects, pins and their ends, filters, evictions, rebuilds, crashes and joins are built
 abbrev pub IsBuilt : Request → Type 0
 IsBuilt (Make name bytes) = Unit {0}
 IsBuilt (Read name) = Unit {0}
@@ -14,7 +14,9 @@ IsBuilt (Free name) = Unit {0}
 IsBuilt (Pin name) = Unit {0}
 IsBuilt (Peek name) = Unit {0}
 IsBuilt (Unpin name) = Unit {0}
+IsBuilt (Filter name) = Unit {0}
 IsBuilt Evict = Unit {0}
+IsBuilt Rebuild = Unit {0}
 IsBuilt (Crash node) = Unit {0}
 IsBuilt (Join node) = Unit {0}
 IsBuilt Leave = Unit {0}

@@ -33,7 +33,9 @@ fn is_built(request: &Request) -> bool
             | Request::Pin { .. }
             | Request::Peek { .. }
             | Request::Unpin { .. }
+            | Request::Filter { .. }
             | Request::Evict
+            | Request::Rebuild
             | Request::Crash { .. }
             | Request::Join { .. }
             | Request::Leave

@@ -1,6 +1,6 @@
-use Rattle.std.proofs.Common.{ℕ, List, sym, ap, ◌∙◌}
+use Rattle.std.proofs.Common.{ℕ, List, [], sym, ap, ◌∙◌, subst}
 use Rattle.cb_types.specs.declared.job.Job.TheVariants.{Make, Write}
-use Rattle.cb_core.proofs.Composing.{err_both, holding}
+use Rattle.cb_core.proofs.Composing.{err_both, err_map, if_map, holding}
 use Rattle.cb_core.proofs.Counting.{does_is, stops_is}
 use Rattle.cb_core.proofs.turning.work.Goals as goal
 
@@ -55,3 +55,31 @@ returns-in-Crash-clause-error g c =
     c.args.job.now (holding c.args.desk.now c.args.far.now) (holding c.args.desk.now c.crash.new.far)
     c.crash.result _ c.in-Crash.is (err_both _ _ _ c.crash.result c.crash.ensures.error
     c.crash.ensures.up (λ same up. (g.met.D.Desk.none _, same, up)))
+
+pub returns-in-Filter-clause-error : goal.returns-in-Filter-clause-error
+returns-in-Filter-clause-error g c =
+    stops_is (λ d es e. g.D.Desk.run d es e) (λ d s. g.D.Desk.shows d s) (g.D.Desk.settings c.args.desk.now)
+    c.args.job.now (holding c.args.desk.now c.args.far.now) (holding c.filter_one.new.desk c.filter_one.new.far)
+    c.filter_one.result _ c.in-Filter.is c.filter_one.ensures.error
+
+pub returns-in-Rebuild-clause-does : goal.returns-in-Rebuild-clause-does
+returns-in-Rebuild-clause-does g c =
+    does_is (λ d es e. g.D.Desk.run d es e) (λ d s. g.D.Desk.shows d s) (g.D.Desk.settings c.args.desk.now)
+    c.args.job.now (holding c.args.desk.now c.args.far.now) (holding c.rebuild_next.new.desk c.rebuild_next.new.far)
+    c.rebuild_next.result _ c.in-Rebuild.is (if_map _ _ c.rebuild_next.result c.rebuild_next.ensures.step
+    (λ r step. (
+      subst (λ d. g.D.Desk.run c.args.desk.now [] d) (sym c.rebuild_next.ensures.desk)
+          (g.met.D.Desk.none _),
+      step,
+    )))
+
+pub returns-in-Rebuild-clause-error : goal.returns-in-Rebuild-clause-error
+returns-in-Rebuild-clause-error g c =
+    stops_is (λ d es e. g.D.Desk.run d es e) (λ d s. g.D.Desk.shows d s) (g.D.Desk.settings c.args.desk.now)
+    c.args.job.now (holding c.args.desk.now c.args.far.now) (holding c.rebuild_next.new.desk c.rebuild_next.new.far)
+    c.rebuild_next.result _ c.in-Rebuild.is (err_map _ _ c.rebuild_next.result c.rebuild_next.ensures.error
+    (λ given. (
+      subst (λ d. g.D.Desk.run c.args.desk.now [] d) (sym c.rebuild_next.ensures.desk)
+          (g.met.D.Desk.none _),
+      given,
+    )))

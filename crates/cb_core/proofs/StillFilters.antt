@@ -1,0 +1,130 @@
+-- A filter over a still desk is a step, and leaves all known.
+use Rattle.std.proofs.Common.{◌≡◌, ◌⊎◌, ℕ, ◌+◌, ◌≤◌, List, [], ◌∷◌, length, get_or, set, refl, sym, ap, ◌∙◌, subst, arith, inl, inr, length-set}
+use Rattle.cb_ptr.specs.Word.{hot_of, place_of, pins_of}
+use Rattle.cb_types.specs.declared.config.Config.{Config}
+use Rattle.cb_types.specs.declared.reply.Reply.{Reply}
+use Rattle.cb_world.specs.declared.event.Event.{Event}
+use Rattle.cb_world.specs.declared.event.Event.TheVariants.{Looked, Claimed, Told, Loaded, Stored, Stamped, Settled}
+use Rattle.cb_world.specs.declared.shown.Shown.{Shown}
+use Rattle.cb_world.specs.FarState.{FarState}
+use Rattle.cb_world.specs.Grasped.{IsFree}
+use Rattle.cb_world.specs.Looks.{NoLook, IsFound, IsTaken, LooksFirst}
+use Rattle.cb_world.specs.Placed.{Slot, with_object, place_in}
+use Rattle.cb_world.specs.Plain.{Words, Plain}
+use Rattle.cb_world.specs.Seats.{SeatState}
+use Rattle.cb_world.specs.World.{IsKnown, word_at}
+use Rattle.cb_world.proofs.Exact.{found_exact}
+use Rattle.cb_world.proofs.StillPerforms.{PerformsStill}
+use Rattle.cb_filter.specs.FilterEffect.{FilterEffect}
+use Rattle.cb_filter.specs.FilterRule.{FilterRule}
+use Rattle.cb_filter.specs.FilterStep.{IsFilterStep, refused, cools, without_slot, moves, IsFreeIn, temp_of}
+use Rattle.cb_filter.specs.Plans.{Wants}
+use Rattle.cb_filter.specs.Seats.{Seat, temp_for, with_moved}
+use Rattle.cb_filter.proofs.FilterStep.{IsStepKnown, filter_step, filter_stopped}
+use Rattle.cb_core.specs.Parts.{Holding}
+use Rattle.cb_core.specs.Step.{HoldOn, StillFilter, StillFilterLacks}
+use Rattle.cb_core.specs.Turned.{Filters, FilterLacks}
+use Rattle.cb_core.proofs.KeptParts.{IsGood, Arrives, Carries, CarriesLack, IsLike, like_same, arrives_same, arrives_like}
+use Rattle.cb_core.proofs.KeptPins.{cooled_pinned}
+use Rattle.cb_core.proofs.StillParts.{Ran, Tells, Any, both_same}
+
+-- an object that moved changes frames and spans alone
+moved_like : (far new : FarState) (seat : Seat) (slot : Slot) (h : ℕ)
+    → new ≡ with_moved far seat slot h → IsLike far new
+moved_like far new seat slot h state = subst (IsLike far) (sym state) (record {
+  spans = length-set (with_object far slot h).spans seat.frame _
+      ∙ length-set far.spans slot.frame _;
+  homes = refl;
+  nodes = refl;
+  counts = refl;
+  epoch = omega arith;
+  given = refl;
+})
+
+module _ (c : Config) (seats : List SeatState) (h : ℕ) (a b : Holding Words) (r : Reply)
+    (good : IsGood c seats a) (hold : HoldOn a b) (z : IsStepKnown b.desk a.far b.far good.shown)
+  where
+    -- by the step
+    filtered : IsFilterStep a.desk b.desk a.far b.far h r → Arrives c seats 1 a b (StillFilter h a r b)
+    filtered (refused why same state) =
+        arrives_same c seats 1 a b (StillFilter h a r b) good (both_same a b same state)
+        (refused why same state, hold)
+    filtered (cools seat is place same) =
+        arrives_like c seats a b z.shown (StillFilter h a r b) good
+        (subst (IsLike a.far) (sym place.state) (like_same a.far)) z.known
+        (ap (λ (x : Words). x.settings) same)
+        (cooled_pinned a.desk b.desk seats h (place_of (word_at a.desk h)) good.pinned is.free
+        (ap (λ (x : Words). x.words) same) (ap (λ (x : Words). x.versions) same))
+        (cools seat is place same, hold)
+    filtered (without_slot seat is none same) =
+        arrives_same c seats 1 a b (StillFilter h a r b) good (both_same a b same none.state)
+        (without_slot seat is none same, hold)
+    filtered (moves seat slot is gets same) =
+        arrives_like c seats a b z.shown (StillFilter h a r b) good
+        (moved_like a.far b.far seat slot h gets.state) z.known
+        (ap (λ (x : Words). x.settings) same)
+        (cooled_pinned a.desk b.desk seats h (place_in slot) good.pinned is.free
+        (ap (λ (x : Words). x.words) same) (ap (λ (x : Words). x.versions) same))
+        (moves seat slot is gets same, hold)
+
+pub filter_part : (c : Config) (seats : List SeatState) (h : ℕ)
+    → Carries c seats 1 (Filters Ran Tells c h) (StillFilter h)
+filter_part c seats h a b r good p =
+    let x = a.desk in let y = b.desk in let far = a.far in let new = b.far in
+    let q = subst (λ (d : Config). PerformsStill x y far new (FilterRule d.frames h far new r)
+    (FilterEffect h far new r)) (sym good.settings) p in
+    let z = filter_step x y far new good.shown h r good.known q in
+    filtered c seats h a b r good
+    (λ s k.
+    let after = (filter_step x y far new s h r k q).1 in
+    (after.shown, after.known, after.same_now))
+    z.1 z.0
+
+-- ---- want of memory
+-- an object that was claimed was found free
+claim_free : (es : List Event) (x y : Words) (h v : ℕ) (words : List ℕ) → Plain x es y
+    → LooksFirst es → IsTaken h v words es → (w : ℕ) × IsFound h w es × IsFree w
+claim_free [] x y h v words run first taken = absurd taken
+claim_free (Looked k u ∷ es) x y h v words run first taken =
+    let t = claim_free es x y h v words run.1 first taken in (t.0, inl t.1, t.2)
+claim_free (Claimed k u n xs ∷ es) x y h v words run first (inl taken) =
+    let t = claim_free es (record x { words = set x.words k (u + 1) }) y h v words run.1 first.1
+    taken in (t.0, inl t.1, t.2)
+claim_free (Claimed k u n xs ∷ es) x y h v words run first (inr taken) = (
+  u,
+  inr ((taken.0, refl), subst (λ (i : ℕ). NoLook i es) taken.0 first.0),
+  (run.0.here, run.0.no_pins),
+)
+claim_free (Told k u ∷ es) x y h v words run first taken =
+    let t = claim_free es x y h v words run.1 first taken in (t.0, inl t.1, t.2)
+claim_free (Loaded p u ∷ es) x y h v words run first taken =
+    let t = claim_free es x y h v words run.1 first taken in (t.0, inl t.1, t.2)
+claim_free (Stored p u ∷ es) x y h v words run first taken =
+    let t = claim_free es (record x { memory = set x.memory p u }) y h v words run first.1 taken in
+    (t.0, inl t.1, t.2)
+claim_free (Stamped k u ∷ es) x y h v words run first taken =
+    let t = claim_free es (record x { versions = set x.versions k u }) y h v words run first.1 taken
+    in (t.0, inl t.1, t.2)
+claim_free (Settled k u ∷ es) x y h v words run first taken =
+    let t = claim_free es (record x { words = set x.words k u }) y h v words run.1 first.1 taken in
+    (t.0, inl t.1, t.2)
+
+pub filter_lack : (c : Config) (seats : List SeatState) (h : ℕ)
+    → CarriesLack c seats 1 Any (FilterLacks Ran Tells h) (StillFilterLacks h)
+filter_lack c seats h a b good any p =
+    let e = filter_stopped a.desk b.desk a.far b.far good.shown h good.known p in
+    let same = both_same a b e.0 e.1 in
+    arrives_same c seats 1 a b (StillFilterLacks h a b) good same (same, (p.rule.seat, is, wants))
+  where
+    free : IsFree (word_at a.desk h)
+    free = let claim = p.rule.claimed.1 in
+        let t = claim_free p.events a.desk b.desk h claim.0 claim.1 p.ran.0 p.looks_first claim.2 in
+        subst IsFree (sym (found_exact p.events a.desk b.desk h t.0 p.ran.0 p.looks_first t.1)) t.2
+
+    is : IsFreeIn a.desk a.far h p.rule.seat
+    is = record { free = free; stands = p.rule.stands }
+
+    wants : Wants a.far (temp_of a.desk h) p.rule.seat
+    wants = subst (λ (w : ℕ). Wants a.far (temp_for (hot_of w)) p.rule.seat)
+        (sym (found_exact p.events a.desk b.desk h p.rule.word p.ran.0 p.looks_first p.rule.found))
+        (p.rule.other, p.rule.needs)
