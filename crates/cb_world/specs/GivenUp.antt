@@ -1,5 +1,6 @@
 -- A position of a committed set gives objects up: they are brought in, or freed.
 use Rattle.std.specs.Prelude.{◌≡◌, ◌≢◌, ◌⊎◌, ℕ, ◌<◌, true, false, List, None, Some, length, slice_get, slice_index_or}
+use Rattle.std.specs.FinMap as map
 use Rattle.cb_member.specs.declared.names.NodeId.{NodeId}
 use Rattle.cb_member.specs.declared.names.Shard.{Shard}
 use Rattle.cb_node.specs.NodesState.{row_at as row_under}
@@ -54,7 +55,7 @@ pub record GivesUp (s t : Shown) (far new : FarState) (id : ℕ) (set : SetState
   pub was : set_in far.sets id ≡ Some set
   pub inside : p < length set.positions
   pub rest : IsRestOf (position_of set p) left
-  pub others : (j : ℕ) → j ≢ id → set_in new.sets j ≡ set_in far.sets j
+  pub others : (j : ℕ) → j ≢ id → map.get new.sets j ≡ map.get far.sets j
   pub after : GoesOn far new id (with_position set p left)
       ⊎ IsDropped far new id (with_position set p left)
   pub nodes : length new.nodes.nodes ≡ length far.nodes.nodes

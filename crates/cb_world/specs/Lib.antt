@@ -26,6 +26,7 @@ pub mod Join
 pub mod OpenSpans
 pub mod LocalSound
 pub mod FarSound
+pub mod Reserved
 pub mod Now
 pub mod SetAdded
 pub mod GivenUp

@@ -1,6 +1,7 @@
 -- A fresh set is committed.
-use Rattle.std.specs.Prelude.{◌≡◌, ◌≢◌, ◌⊎◌, ℕ, ◌<◌, ◌≤◌, true, false, List, Some, length, slice_get, is_some}
+use Rattle.std.specs.Prelude.{◌≡◌, ◌≢◌, ◌⊎◌, ℕ, ◌<◌, ◌≤◌, true, false, List, None, Some, length, slice_get, is_some}
 use Rattle.std.specs.List.{list_any}
+use Rattle.std.specs.FinMap as map
 use Rattle.cb_gf256.specs.Rows.{row_at}
 use Rattle.cb_member.specs.declared.names.NodeId.{NodeId}
 use Rattle.cb_member.specs.declared.names.Shard.{Shard}
@@ -18,7 +19,7 @@ use Rattle.cb_world.specs.FarState.{FarState}
 use Rattle.cb_world.specs.SetWord.{IsSpanWord, IsShaped}
 use Rattle.cb_set.specs.SetState.{parities}
 use Rattle.cb_world.specs.Stored.{NoKey}
-use Rattle.cb_world.specs.FarSound.{HoldsObject, batch_rows}
+use Rattle.cb_world.specs.FarSound.{HoldsObject, Owner, IsShardOf, batch_rows}
 
 abbrev pub is_far : Object → Type 0
 is_far (is.Empty v) = ⊥
@@ -43,7 +44,8 @@ pub record IsMoved (s t : Shown) (far new : FarState) (id : ℕ) (set : SetState
   pub before : is_far (object_at s h) → ⊥
   pub holds : HoldsObject t (row_at rows position) (length (position_of set position).slots) slot h
 
--- a fresh set is committed, with these rows
+-- a fresh set is committed, with these rows: no set of its number was, and no shard has a key of
+-- its shards
 pub record IsSetAdded (s t : Shown) (far new : FarState) (id : ℕ) (set : SetState)
     (rows : List (List ℕ)) : Type 0 where
   pub shape : IsShaped far.members set
@@ -51,10 +53,12 @@ pub record IsSetAdded (s t : Shown) (far new : FarState) (id : ℕ) (set : SetSt
   pub lives : (p : ℕ) → live_at set p ≡ list_any (λ slot. is_some slot) (position_of set p).slots
   pub some_live : (p : ℕ) × (live_at set p ≡ true)
   pub added : set_in new.sets id ≡ Some set
-  pub others : (j : ℕ) → j ≢ id → set_in new.sets j ≡ set_in far.sets j
-  pub drawn : (far.counts.sets ≤ id) × (id < new.counts.sets) × (far.counts.sets ≤ new.counts.sets)
+  pub fresh : set_in far.sets id ≡ None
+  pub others : (j : ℕ) → j ≢ id → map.get new.sets j ≡ map.get far.sets j
+  pub drawn : (id < new.counts.sets) × (far.counts.sets ≤ new.counts.sets)
   pub keys : (p : ℕ) (shard : Shard) → slice_get set.shards p ≡ Some shard
-      → (far.counts.keys ≤ shard.key) × (shard.key < new.counts.keys)
+      → shard.key < new.counts.keys
+  pub fresh_keys : (o : Owner) (a : Shard) → IsShardOf far o a → NoKey set.shards a.key
   pub more_keys : far.counts.keys ≤ new.counts.keys
   pub keys_apart : (p q : ℕ) (a b : Shard) → slice_get set.shards p ≡ Some a
       → slice_get set.shards q ≡ Some b → a.key ≡ b.key → p ≡ q

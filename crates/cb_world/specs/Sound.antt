@@ -1,5 +1,6 @@
 -- The sound world, over what the holder of the far lock knows and the far state.
-use Rattle.std.specs.Prelude.{◌≡◌, ℕ, ◌^◌, ◌<◌, List, Some, Contains}
+use Rattle.std.specs.Prelude.{◌≡◌, ◌≢◌, ℕ, ◌^◌, ◌<◌, All, List, Some, Contains}
+use Rattle.std.specs.List.{AllPairs}
 use Rattle.cb_ptr.specs.Word.{len_of, place_of}
 use Rattle.cb_span.specs.Contents.{Contents, handle_at}
 use Rattle.cb_world.specs.declared.leaving.Former.{Former}
@@ -8,10 +9,11 @@ use Rattle.cb_world.specs.declared.shown.Shown.{Shown}
 use Rattle.cb_world.specs.Shown.{object_at}
 use Rattle.cb_world.specs.Grasped.{IsFree}
 use Rattle.cb_world.specs.Leaving.{LeavingState}
-use Rattle.cb_world.specs.FarState.{FarState, span_in}
+use Rattle.cb_world.specs.FarState.{FarState, span_in, resident}
 use Rattle.cb_world.specs.Memory.{window, words_for}
 use Rattle.cb_world.specs.LocalSound.{HasSlot, LocalSound}
 use Rattle.cb_world.specs.FarSound.{FarSound}
+use Rattle.cb_world.specs.Reserved.{IsReserved}
 
 -- the object is claimed at the word that it had before the begin, which is noted
 pub record IsNoted (s : Shown) (batch : LeavingState) (h : ℕ) : Type 0 where
@@ -25,12 +27,21 @@ pub record IsNoted (s : Shown) (batch : LeavingState) (h : ℕ) : Type 0 where
   pub claimed : object_at s h
       ≡ is.Claimed (len_of former.word) (place_of former.word) version words
 
--- each frame that is leaving holds a span, and each object there is claimed
+-- a slot of a span that is leaving has the object
+abbrev pub Leaves : FarState → LeavingState → ℕ → Type 0
+Leaves far batch h = (f slot : ℕ) × Contains batch.frames f × (resident far.spans f slot ≡ Some h)
+
+-- The frames that are leaving are different, and each holds a span. Each object there is claimed, and
+-- the noted words are those of these objects, one of each. The set that they will be is kept.
 pub record AreNoted (s : Shown) (far : FarState) (batch : LeavingState) : Type 0 where
+  pub apart : AllPairs (λ f g. f ≢ g) batch.frames
   pub held : (f : ℕ) → Contains batch.frames f → (span : Contents)
       × (span_in far.spans f ≡ Some span)
   pub each : (f slot h : ℕ) (span : Contents) → Contains batch.frames f
       → span_in far.spans f ≡ Some span → handle_at span slot ≡ Some h → IsNoted s batch h
+  pub only : All (λ former. Leaves far batch former.handle) batch.words
+  pub each_once : AllPairs (λ a b. a.handle ≢ b.handle) batch.words
+  pub reserved : IsReserved far batch
 
 -- a claimed object stands in a frame that is leaving, and its words are those of the memory there
 pub record IsLeaving (s : Shown) (far : FarState) (h len place : ℕ) (words : List ℕ) : Type 0 where
