@@ -27,6 +27,13 @@ class Set:
         self.slots = {p: (s.size, list(s.slots)) for p, s in enumerate(spans)}  # live positions
 
 
+class Batch:
+    """A batch that is leaving: its spans stand in their frames, and its objects are moving."""
+    def __init__(self, number, frames, positions):
+        self.number, self.frames = number, frames
+        self.shards = [None] * positions  # as a set's, None where a position was not put yet
+
+
 class Object:
     def __init__(self, data, frame, slot):
         self.data, self.version, self.state = bytearray(data), 1, "here"
@@ -41,6 +48,7 @@ class World:
         self.frames, self.room, self.handles = frames, room, handles
         self.spans = [None] * frames
         self.sets, self.drawn = {}, 0
+        self.leaving = None
         self.objects = []
         self.up = [True] * nodes
         self.incarnation = [0] * nodes
@@ -65,11 +73,29 @@ class World:
     def is_broken(self, one):
         return len(self.lost(one)) > self.r
 
+    def put(self, others):
+        """Puts a row on the node with room and the fewest, outside the nodes of these shards; None where none is."""
+        named = {s[0] for s in others}
+        spare = [n for n in range(len(self.up)) if self.has_room(n) and n not in named]
+        if not spare:
+            return None
+        node = min(spare, key=lambda n: (self.rows[n], n))
+        self.rows[node] += 1
+        return node, self.incarnation[node]
+
+    def drop_rows(self, shards):
+        for shard in shards:
+            if not self.is_lost(shard):
+                self.rows[shard[0]] -= 1
+
     # ---- placing
+    def stays(self, frame):
+        return self.leaving is None or frame not in self.leaving.frames
+
     def place(self, handle, length, temp):
         size = next(s for s in SIZES if length <= s)
         for frame, span in enumerate(self.spans):
-            if span and span.size == size and span.temp == temp and None in span.slots:
+            if span and self.stays(frame) and span.size == size and span.temp == temp and None in span.slots:
                 slot = span.slots.index(None)
                 span.slots[slot] = handle
                 return frame, slot
@@ -87,43 +113,98 @@ class World:
 
     # ---- evictions and swap-ins
     def loose(self):
-        def ok(span):
-            return all(h is None or self.objects[h].pins == 0 for h in span.slots)
-        cold = [f for f, s in enumerate(self.spans) if s and s.temp == "cold" and ok(s)]
-        hot = [f for f, s in enumerate(self.spans) if s and s.temp == "hot" and ok(s)]
-        return cold + hot
+        def ok(frame, temp):
+            span = self.spans[frame]
+            return (span and span.temp == temp and self.stays(frame)
+                    and all(h is None or self.objects[h].pins == 0 for h in span.slots))
+        return [f for temp in ("cold", "hot") for f in range(self.frames) if ok(f, temp)]
 
-    def evict(self):
-        loose = self.loose()
-        if len(loose) < self.k:
-            return "nospans %d" % len(loose)
+    def cannot_leave(self):
+        """Why no batch can leave now; None where one can."""
+        if len(self.loose()) < self.k:
+            return "nospans %d" % len(self.loose())
         if self.nodes_with_room() < self.n:
             return "nonodes %d" % self.nodes_with_room()
-        shards = []
-        for _ in range(self.n):
-            taken = {s[0] for s in shards}
-            node = min((n for n in range(len(self.up)) if self.has_room(n) and n not in taken),
-                       key=lambda n: (self.rows[n], n))
-            shards.append((node, self.incarnation[node]))
-        frames = loose[:self.k]
-        one = Set(self.drawn, shards, [self.spans[f] for f in frames])
+        return None
+
+    def draw(self):
         self.drawn += 1
-        self.sets[one.number] = one
-        for node, _ in shards:
-            self.rows[node] += 1
+        return self.drawn - 1
+
+    def commit_set(self, number, frames, shards):
+        """The spans of these frames are far, as the set of this number, and the frames are free."""
+        self.sets[number] = Set(number, shards, [self.spans[f] for f in frames])
         for position, frame in enumerate(frames):
             for handle in self.spans[frame].slots:
                 if handle is not None:
-                    self.objects[handle].state = "far"
-                    self.objects[handle].hot = False
-                    self.objects[handle].home = (one.number, position)
+                    o = self.objects[handle]
+                    o.state, o.hot, o.home = "far", False, (number, position)
             self.spans[frame] = None
-        return "set %d" % one.number
+        return "set %d" % number
 
+    def evict(self):
+        refusal = self.cannot_leave()
+        if refusal:
+            return refusal
+        frames, shards = self.loose()[:self.k], []
+        for _ in range(self.n):
+            shards.append(self.put(shards))
+        return self.commit_set(self.draw(), frames, shards)
+
+    # ---- an eviction in steps
+    def set_states(self, frames, state):
+        for frame in frames:
+            for handle in self.spans[frame].slots:
+                if handle is not None:
+                    self.objects[handle].state = state
+
+    def to_ship(self):
+        """The positions of the batch that are not put, or whose row was lost."""
+        return [p for p, s in enumerate(self.leaving.shards) if s is None or self.is_lost(s)]
+
+    def begin(self):
+        if self.leaving:
+            return "leaving %d" % self.leaving.number
+        refusal = self.cannot_leave()
+        if refusal:
+            return refusal
+        self.leaving = Batch(self.draw(), self.loose()[:self.k], self.n)
+        self.set_states(self.leaving.frames, "moving")
+        return "batch %d" % self.leaving.number
+
+    def ship(self):
+        if not self.leaving:
+            return "nobatch"
+        if not self.to_ship():
+            return "allshipped"
+        position = self.to_ship()[0]
+        # The node of a lost row of another position is not taken either.
+        others = [s for p, s in enumerate(self.leaving.shards) if p != position and s]
+        shard = self.put(others)
+        if not shard:
+            return "nonode"
+        self.leaving.shards[position] = shard
+        return "shipped %d" % position
+
+    def commit(self):
+        if not self.leaving:
+            return "nobatch"
+        if self.to_ship():
+            return "short " + " ".join(str(p) for p in self.to_ship())
+        batch, self.leaving = self.leaving, None
+        return self.commit_set(batch.number, batch.frames, batch.shards)
+
+    def abort(self):
+        if not self.leaving:
+            return "nobatch"
+        self.set_states(self.leaving.frames, "here")
+        self.drop_rows(s for s in self.leaving.shards if s)
+        self.leaving = None
+        return "ok"
+
+    # ---- sets
     def drop(self, one):
-        for shard in one.shards:
-            if not self.is_lost(shard):
-                self.rows[shard[0]] -= 1
+        self.drop_rows(one.shards)
         del self.sets[one.number]
 
     def unavailable(self, one):
@@ -170,8 +251,8 @@ class World:
 
     def read(self, handle):
         o = self.objects[handle]
-        if o.state == "freed":
-            return "freed"
+        if o.state in ("freed", "moving"):
+            return o.state
         if o.state == "far":
             refusal = self.swap(handle)
             if refusal:
@@ -181,8 +262,8 @@ class World:
 
     def write(self, handle, at, data):
         o = self.objects[handle]
-        if o.state == "freed":
-            return "freed"
+        if o.state in ("freed", "moving"):
+            return o.state
         if o.state == "far" and self.is_broken(self.sets[o.home[0]]):
             return self.unavailable(self.sets[o.home[0]])
         if at + len(data) > len(o.data):
@@ -200,8 +281,8 @@ class World:
 
     def free(self, handle):
         o = self.objects[handle]
-        if o.state == "freed":
-            return "freed"
+        if o.state in ("freed", "moving"):
+            return o.state
         if o.pins:
             return "pinned %d" % o.pins
         if o.state == "far":
@@ -221,8 +302,10 @@ class World:
 
     def filter(self, handle):
         o = self.objects[handle]
-        if o.state != "here":
+        if o.state in ("freed", "far"):
             return "nothere"
+        if o.state == "moving":
+            return "moving"
         if o.pins:
             return "pinned %d" % o.pins
         temp = "hot" if o.hot else "cold"
@@ -262,15 +345,13 @@ class World:
             count = len(self.lost(one))
             if 1 <= count <= self.r:
                 position = next(p for p, s in enumerate(one.shards) if self.is_lost(s))
-                others = {s[0] for p, s in enumerate(one.shards) if p != position}
-                spare = [n for n in range(len(self.up)) if self.has_room(n) and n not in others]
-                if not spare:
+                others = [s for p, s in enumerate(one.shards) if p != position]
+                shard = self.put(others)
+                if not shard:
                     return "stuck set %d" % number
-                node = min(spare, key=lambda n: (self.rows[n], n))
-                self.rows[node] += 1
                 self.given += self.k
-                one.shards[position] = (node, self.incarnation[node])
-                return "rebuilt set %d position %d node %d" % (number, position, node)
+                one.shards[position] = shard
+                return "rebuilt set %d position %d node %d" % (number, position, shard[0])
         return "whole %d" % sum(self.is_broken(s) for s in self.sets.values())
 
 
@@ -306,8 +387,8 @@ def run(text):
             o = w.objects[h]
             if len(scope) == 16:
                 reply = "scopefull"
-            elif o.state == "freed":
-                reply = "freed"
+            elif o.state in ("freed", "moving"):
+                reply = o.state
             else:
                 reply = w.swap(h) if o.state == "far" else None
                 if reply is None:
@@ -330,7 +411,7 @@ def run(text):
             give_back(lane)
         elif verb == "filter":
             reply = w.filter(h)
-        elif verb in ("evict", "rebuild"):
+        elif verb in ("evict", "begin", "ship", "commit", "abort", "rebuild"):
             reply = getattr(w, verb)()
         else:
             reply = getattr(w, verb)(int(rest[0]))
