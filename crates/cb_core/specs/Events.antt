@@ -1,11 +1,10 @@
 -- Which events may come.
-use Rattle.std.specs.Prelude.{◌≡◌, ℕ, ◌<◌}
+use Rattle.std.specs.Prelude.{ℕ, ◌<◌}
 use Rattle.cb_types.specs.declared.config.Config.{Config}
 use Rattle.cb_core.specs.declared.event.Atomic.{Atomic}
 use Rattle.cb_core.specs.declared.event.Atomic.TheVariants.{Load, Pin, Unpin}
 use Rattle.cb_core.specs.declared.event.Event.{Event}
 use Rattle.cb_core.specs.declared.event.Event.TheVariants as event
-use Rattle.cb_world.specs.World.{WorldState, IsSoundWorld}
 use Rattle.cb_core.specs.Jobs.{IsJob}
 
 -- the handle that an atomic step is about
@@ -18,9 +17,3 @@ handle_of (Unpin handle) = handle.n
 abbrev pub IsEvent : Config → Event → Type 0
 IsEvent c (event.Step seat atomic) = (seat < 64) × (handle_of atomic < c.handles)
 IsEvent c (event.Turn seat job) = (seat < 64) × IsJob c job
-
--- a sound world with so many handles and nodes
-pub record IsWorldWith (handle_count node_count : ℕ) (w : WorldState) : Type 0 where
-  pub sound : IsSoundWorld w
-  pub handles : w.desk.settings.handles ≡ handle_count
-  pub nodes : w.desk.settings.nodes ≡ node_count

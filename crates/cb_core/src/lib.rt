@@ -11,8 +11,6 @@ pub mod replies;
 mod room;
 pub mod running;
 pub mod stepping;
-#[cfg(test)]
-mod tests;
 pub mod turning;
 
 pub use cb_types::Job;

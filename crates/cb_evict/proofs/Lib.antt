@@ -26,4 +26,3 @@ mod WorkedLoose
 mod WorkedEvict
 mod WorkedEvictStep
 mod WorkedSetMade
-mod EmptyWorld

@@ -10,7 +10,5 @@ mod loading;
 mod looking;
 mod sending;
 mod storing;
-#[cfg(test)]
-mod tests;
 
 pub use evicting::evict_now;

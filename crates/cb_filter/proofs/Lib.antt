@@ -6,7 +6,6 @@ pub mod Moved
 pub mod Settled
 pub mod Filtered
 pub mod FilterStep
-pub mod EmptyWorld
 pub mod WorkedSeats
 mod WorkedFilter
 mod WorkedFilterStep

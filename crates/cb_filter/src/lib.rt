@@ -6,7 +6,5 @@ mod copying;
 mod filtering;
 mod planning;
 mod refusing;
-#[cfg(test)]
-mod tests;
 
 pub use filtering::filter_one;

@@ -6,6 +6,3 @@ mod resting;
 pub mod seq;
 
 pub use seq::{SeqEnd, run_seq};
-
-#[cfg(test)]
-mod tests;

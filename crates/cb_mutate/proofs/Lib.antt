@@ -2,7 +2,6 @@ pub mod Bytes
 pub mod Packing
 pub mod NewObject
 pub mod Made
-pub mod StillWorlds
 mod WorkedMake
 pub mod Settling
 pub mod Written

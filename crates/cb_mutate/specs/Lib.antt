@@ -17,4 +17,3 @@ pub mod MapCalls
 pub mod MakeStep
 pub mod MapBeside
 pub mod Overwrites
-pub mod StillWorld

@@ -8,8 +8,6 @@ mod merge;
 mod overwriting;
 mod reading;
 mod refusing;
-#[cfg(test)]
-mod tests;
 mod writing;
 
 pub use freeing::free;

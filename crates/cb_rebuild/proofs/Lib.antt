@@ -3,7 +3,6 @@ mod Walking
 pub mod RestoredFar
 pub mod RebuildKeeps
 pub mod RebuildCounts
-mod EmptyWorld
 mod WorkedWord
 mod WorkedWeak
 mod WorkedRebuilt

@@ -6,7 +6,5 @@ mod choosing;
 mod finding;
 mod rebuilding;
 mod restoring;
-#[cfg(test)]
-mod tests;
 
 pub use rebuilding::rebuild_next;

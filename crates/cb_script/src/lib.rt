@@ -27,6 +27,3 @@ pub use print::print_script;
 pub use read::read_script;
 pub use script::{Line, Lines, Mode, Script};
 pub use unbuilt::first_unbuilt;
-
-#[cfg(test)]
-mod tests;

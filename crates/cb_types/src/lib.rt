@@ -39,6 +39,3 @@ pub use sink::{Sent, Sink};
 pub use source::{Source, Took};
 pub use standard::{StdSink, StdSource};
 pub use want::no_memory;
-
-#[cfg(test)]
-mod tests;

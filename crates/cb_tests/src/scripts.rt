@@ -1,4 +1,6 @@
-use super::*;
+use cb_script::{
+    Line, Lines, Mode, Reason, ScriptFault, first_unbuilt, print_script, read_script, script_laws,
+};
 use cb_types::{Config, Lane, NoMemory, Request};
 use std::alloc::Global;
 use std::test::Fail;

@@ -1,4 +1,7 @@
-use super::*;
+use cb_types::{
+    Answer, Answers, Bytes, Config, Field, Lane, MemSink, MemSource, Name, PlainSink, PlainSource,
+    Positions, Reply, Request, Sent, Sink, Source, StdSink, StdSource, Took,
+};
 use std::test::Fail;
 
 const FIRST: Config = Config {

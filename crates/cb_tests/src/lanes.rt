@@ -1,0 +1,52 @@
+use cb_lanes::{SeqEnd, run_seq};
+use cb_script::{Mode, first_unbuilt, read_script};
+use cb_types::Reply;
+use std::alloc::Global;
+use std::test::Fail;
+
+const SCRIPT: &[u8] = b"carbink 1 k=2 r=2 nodes=6 frames=8 room=64 handles=1 turns=0\n\
+    0 make a 0a0b\n1 write a 1 0c\n2 read a\n2 free a\n3 make b 01\n3 read b\n";
+
+/// Two objects leave as the data positions 0 and 1 of a set. Both nodes of the two crash, so that each
+/// read gives out the rows of the two that are left.
+const SOLVED: &[u8] = b"carbink 1 k=2 r=2 nodes=6 frames=8 room=64 handles=2 turns=0\n\
+    1 make a 0a0b\n1 make b 0c\n1 filter a\n1 evict\n1 crash 0\n1 crash 1\n1 read a\n1 read b\n";
+
+/// Two sets leave, and one object of each comes back by the one row that stands for it.
+const STANDING: &[u8] = b"carbink 1 k=2 r=2 nodes=6 frames=8 room=64 handles=4 turns=0\n\
+    1 make a 01\n1 make b 02\n1 filter a\n1 evict\n1 make c 03\n1 make d 04\n1 filter c\n1 evict\n\
+    1 read b\n1 read c\n";
+
+/// What the lines of a script lead to.
+fn end_of(alloc: Global, text: &[u8]) -> Result<SeqEnd, Fail> {
+    let Ok(script) = read_script(alloc, text, Mode::Seq) else {
+        return Err(Fail::from("no script"));
+    };
+    if let Some(_) = first_unbuilt(&script) {
+        return Err(Fail::from("a verb that is not built"));
+    }
+    Ok(run_seq(alloc, &script)?)
+}
+
+#[test]
+fn a_swap_in_gives_one_row_or_k(rt: HostRuntime) -> Result<(), Fail> {
+    assert_eq!(rt; end_of(rt.alloc(), SOLVED)?.world.far.nodes.given(), 4);
+    assert_eq!(rt; end_of(rt.alloc(), STANDING)?.world.far.nodes.given(), 2);
+    Ok(())
+}
+
+#[test]
+fn lines_are_answered_in_order(rt: HostRuntime) -> Result<(), Fail> {
+    let end = end_of(rt.alloc(), SCRIPT)?;
+    let [made, written, read, freed, full, unmade] = end.answers.as_slice() else {
+        return Err(Fail::from("not six answers"));
+    };
+    assert!(rt; matches!(made.reply, Reply::Made { version: 1, .. }));
+    assert!(rt; matches!(written.reply, Reply::Version { version: 2 }));
+    assert!(rt; matches!(read.reply, Reply::Bytes { version: 2, .. }));
+    assert!(rt; matches!(freed.reply, Reply::Version { version: 3 }));
+    assert!(rt; matches!(full.reply, Reply::Full { handles: 1 }));
+    assert!(rt; matches!(unmade.reply, Reply::Unmade));
+    assert_eq!(rt; end.losses.as_slice().len(), 0);
+    Ok(())
+}
