@@ -1,5 +1,5 @@
 -- The far part of the sound world once the batch that is leaving is given up.
-use Rattle.std.proofs.Common.{◌≡◌, ◌≢◌, ℕ, zero, suc, ◌<◌, ◌≤◌, Bool, true, false, cond, List, [], ◌∷◌, length, Option, Some, None, sym, refl, ap, ◌∙◌, subst, arith, inl, inr}
+use Rattle.std.proofs.Common.{◌≡◌, ℕ, zero, suc, Bool, true, false, cond, List, [], ◌∷◌, Option, Some, None, sym, refl, ap, ◌∙◌, arith, inl, inr}
 use Rattle.std.specs.List.{slice_get}
 use Rattle.std.specs.FinMap as map
 use Rattle.std.specs.Cmp.{nat_cmp_total}
@@ -17,8 +17,8 @@ use Rattle.cb_world.specs.Join.{IsFresh, IsJoin}
 use Rattle.cb_world.specs.Joining.{JoiningState}
 use Rattle.cb_world.specs.Leaving.{LeavingState}
 use Rattle.cb_world.specs.Reserved.{IsReserved, put_shards, without_batch}
-use Rattle.cb_world.specs.Sets.{Kept, set_in, if_committed}
-use Rattle.cb_world.specs.Stored.{AreThere, NoKey}
+use Rattle.cb_world.specs.Sets.{set_in, if_committed}
+use Rattle.cb_world.specs.Stored.{AreThere}
 use Rattle.cb_world.proofs.Joined.{pair_kept}
 use Rattle.cb_world.proofs.Reserving.{reserved_uncommitted}
 use Rattle.cb_world.proofs.SetsLeft.{drop_count, drop_fewer, drop_there}
