@@ -128,8 +128,7 @@ gone_rows s far batch sound there x = record {
   counted = drop_count far.nodes (put_shards batch.shards) ∙ sound.rows.counted;
   owned = λ node key row at.
       let y = sound.rows.owned node key row (drop_fewer far.nodes (put_shards batch.shards) node key
-      row (put_there s far batch sound.rows there) at) in
-      (
+      row (put_there s far batch sound.rows there) at) in (
         y.0,
         y.1,
         still_shard far batch x y.0 y.1 (other y.0 y.1 node key row at y.2 y.3 y.4) y.2,
