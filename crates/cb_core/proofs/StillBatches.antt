@@ -1,10 +1,13 @@
 -- The steps of a batch over a still desk: what they leave as it was, and that all stays known.
-use Rattle.std.proofs.Common.{◌≡◌, ◌⊎◌, ℕ, ◌+◌, ◌<◌, ◌≤◌, List, [], ◌∷◌, length, get_or, take, All, Some, refl, sym, ap, ◌∙◌, subst, arith, inl, inr, length-set}
+use Rattle.std.proofs.Common.{◌≡◌, ◌⊎◌, ℕ, ◌+◌, ◌<◌, ◌≤◌, List, [], ◌∷◌, length, get_or, All, Option, Some, refl, sym, ap, ◌∙◌, subst, arith, inl, inr, length-set}
 use Rattle.cb_member.specs.declared.names.Shard.{Shard}
+use Rattle.cb_member.specs.Membership.{Membership}
 use Rattle.cb_node.specs.NodesState.{NodesState, with_dropped}
 use Rattle.cb_ptr.specs.Word.{pins_of}
+use Rattle.cb_span.specs.Contents.{Contents}
 use Rattle.cb_types.specs.declared.config.Config.{Config}
 use Rattle.cb_types.specs.declared.reply.Reply.{Reply}
+use Rattle.cb_world.specs.declared.homes.Home.{Home}
 use Rattle.cb_world.specs.declared.leaving.Former.{Former}
 use Rattle.cb_world.specs.declared.object.Object.{Object}
 use Rattle.cb_world.specs.declared.shown.Shown.{Shown}
@@ -23,14 +26,13 @@ use Rattle.cb_evict.specs.AbortRule.{HasGivenUp}
 use Rattle.cb_evict.specs.AbortStep.{ArePutBack, IsAbortStep, no_batch as none_to_abort, given_up}
 use Rattle.cb_evict.specs.BeginEffect.{BeginEffect}
 use Rattle.cb_evict.specs.BeginRule.{BeginRule}
-use Rattle.cb_evict.specs.BeginStep.{IsBatchMade, IsBeginStep, is_leaving, few_spans, few_nodes, begins}
+use Rattle.cb_evict.specs.BeginStep.{IsBeginStep}
 use Rattle.cb_evict.specs.Claims.{IsNone}
 use Rattle.cb_evict.specs.CommitRule.{HasCommitted}
 use Rattle.cb_evict.specs.CommitStep.{ArePutAway, IsCommitStep, no_batch as none_to_commit, short, committed}
-use Rattle.cb_evict.specs.EvictStep.{loose_frames}
 use Rattle.cb_evict.specs.Restoring.{IsClaimedFrom}
 use Rattle.cb_evict.proofs.AbortStep.{abort_step}
-use Rattle.cb_evict.proofs.AfterEvict.{in_or_not, leaves_free}
+use Rattle.cb_evict.proofs.AfterBegin.{begin_settings, begin_count, begin_versions, begin_pinned, begin_pins, begin_keeps as begin_parts, begin_sets}
 use Rattle.cb_evict.proofs.BeginStep.{begin_step}
 use Rattle.cb_evict.proofs.Claims.{among, no_former}
 use Rattle.cb_evict.proofs.CommitStep.{commit_step}
@@ -86,41 +88,34 @@ keeps_same x y far new words state = subst (λ (u : Words). KeepsRest x u far ne
     }))
 
 -- ---- a begin
-begun_keeps : (x y : Words) (far new : FarState) (r : Reply) → IsBatchMade x y far new r
-    → KeepsRest x y far new
-begun_keeps x y far new r m =
-    let frames = take x.settings.k (loose_frames x far) in
-    let b = m.begun in record {
-      settings = b.held.settings;
-      count = b.held.count;
-      versions = b.held.versions;
-      pins = λ h. elim (in_or_not far.spans frames h) [
-        | inl i ↦ (b.held.claimed h i).pins ∙ sym (leaves_free x far x.settings.k h i).1
-        | inr out ↦ ap pins_of (b.held.others h out)
-      ];
-      pinned = λ h some. b.held.others h (λ i. let free = leaves_free x far x.settings.k h i in
-      omega (arith, free.1, some));
-      spans = ap (λ (f : FarState). length f.spans) b.state;
-      homes = ap (λ (f : FarState). length f.homes) b.state;
-      nodes = ap (λ (f : FarState). length f.nodes.nodes) b.state;
-      first = ap (λ (f : FarState). f.first) b.state;
-      made = ap (λ (f : FarState). f.made) b.state;
-      rises = subst (Rises 1 far) (sym b.state) (record {
-        turns = refl;
-        by_job = refl;
-        sets = omega arith;
-        keys = omega arith;
-        epoch = omega arith;
-        given = omega arith;
-      });
-    }
-
 pub begin_keeps : (x y : Words) (far new : FarState) (r : Reply) → IsBeginStep x y far new r
     → KeepsRest x y far new
-begin_keeps x y far new r (is_leaving batch there reply state same) = keeps_same x y far new same state
-begin_keeps x y far new r (few_spans none few same) = keeps_same x y far new same few.state
-begin_keeps x y far new r (few_nodes none few same) = keeps_same x y far new same few.state
-begin_keeps x y far new r (begins m) = begun_keeps x y far new r m
+begin_keeps x y far new r step =
+    let parts = begin_parts x y far new r step in
+    let sets = (begin_sets x y far new r step).1 in
+    let keys = parts.keys in
+    let epoch : new.members.epoch ≡ far.members.epoch = ap (λ (m : Membership). m.epoch) parts.members in
+    let given : new.nodes.given ≡ far.nodes.given = ap (λ (n : NodesState). n.given) parts.nodes in
+    record {
+      settings = begin_settings x y far new r step;
+      count = begin_count x y far new r step;
+      versions = begin_versions x y far new r step;
+      pins = λ h. begin_pins x y far new r h step;
+      pinned = λ h. begin_pinned x y far new r h step;
+      spans = ap (λ (l : List (Option Contents)). length l) parts.spans;
+      homes = ap (λ (l : List (Option Home)). length l) parts.homes;
+      nodes = ap (λ (n : NodesState). length n.nodes) parts.nodes;
+      first = parts.first;
+      made = parts.made;
+      rises = record {
+        turns = parts.turns;
+        by_job = parts.by_job;
+        sets = sets;
+        keys = omega (arith, keys);
+        epoch = omega (arith, epoch);
+        given = omega (arith, given);
+      };
+    }
 
 -- ---- the ends of a batch
 -- its objects had no pins; where they have none then, and other words stay, pins stay

@@ -83,3 +83,10 @@ returns-in-Rebuild-clause-error g c =
           (g.met.D.Desk.none _),
       given,
     )))
+
+pub returns-in-Begin-clause-error : goal.returns-in-Begin-clause-error
+returns-in-Begin-clause-error g c =
+    stops_is (λ d es e. g.D.Desk.run d es e) (λ d s. g.D.Desk.shows d s) (g.D.Desk.settings c.args.desk.now)
+    c.args.job.now (holding c.args.desk.now c.args.far.now) (holding c.begin.new.desk c.begin.new.far)
+    c.begin.result _ c.in-Begin.is (err_both _ _ _ c.begin.result c.begin.ensures.unchanged
+    c.begin.ensures.error (λ same x. (same, x)))
