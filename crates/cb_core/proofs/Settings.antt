@@ -146,6 +146,9 @@ begin_same a b r (few_spans none few same, hold) = words_same a b same
 begin_same a b r (few_nodes none few same, hold) = words_same a b same
 begin_same a b r (begins m, hold) = m.begun.held.settings
 
+ship_same : Stay StillShip
+ship_same a b r (step, hold) = words_same a b step.words
+
 commit_same : Stay StillCommit
 commit_same a b r (none_to_commit n same, hold) = words_same a b same
 commit_same a b r (short z same, hold) = words_same a b same

@@ -1,15 +1,18 @@
 -- The steps of a batch, as parts of a turn: what each keeps, and how each is answered.
-use Rattle.std.proofs.Common.{◌≡◌, sym, subst}
+use Rattle.std.proofs.Common.{◌≡◌, ◌⊎◌, ℕ, List, sym, subst, inl, inr}
 use Rattle.cb_types.specs.declared.request.Request.TheVariants.{Begin, Ship, Commit, Abort}
 use Rattle.cb_types.specs.declared.reply.Reply.{Reply}
 use Rattle.cb_types.specs.Table.{IsReplyOf}
 use Rattle.cb_world.specs.declared.shown.Shown.{Shown}
 use Rattle.cb_world.specs.FarState.{FarState}
+use Rattle.cb_world.specs.Leaving.{LeavingState}
 use Rattle.cb_world.specs.Plain.{Words}
 use Rattle.cb_world.specs.World.{IsKnown}
 use Rattle.cb_evict.specs.AbortStep.{IsAbortStep, no_batch as none_to_abort, given_up}
 use Rattle.cb_evict.specs.BeginStep.{IsBeginStep, is_leaving, few_spans, few_nodes, begins}
 use Rattle.cb_evict.specs.CommitStep.{IsCommitStep, no_batch as none_to_commit, short, committed}
+use Rattle.cb_evict.specs.ShipRule.{Ships as ShipsRow}
+use Rattle.cb_evict.specs.ShipStep.{IsShipStep, rows_at_desk}
 use Rattle.cb_core.specs.Parts.{Holding}
 use Rattle.cb_core.specs.Step.{HoldOn, StillBegin, StillShip, StillCommit, StillAbort}
 use Rattle.cb_core.proofs.StillBatches.{KeepsRest, begin_keeps, ship_keeps, commit_keeps, abort_keeps}
@@ -58,6 +61,17 @@ begin_line x y far new r (is_leaving batch there reply state same) =
 begin_line x y far new r (few_spans none few same) = subst (IsReplyOf Begin) (sym few.reply) tt
 begin_line x y far new r (few_nodes none few same) = subst (IsReplyOf Begin) (sym few.reply) tt
 begin_line x y far new r (begins m) = subst (IsReplyOf Begin) (sym m.reply) tt
+
+ships_line : (far new : FarState) (r : Reply) (rows : LeavingState → List (List ℕ))
+    → ShipsRow far new r rows → IsReplyOf Ship r
+ships_line far new r rows (inl none) = subst (IsReplyOf Ship) (sym none.reply) tt
+ships_line far new r rows (inr (inl all)) = subst (IsReplyOf Ship) (sym all.reply) tt
+ships_line far new r rows (inr (inr (inl none))) = subst (IsReplyOf Ship) (sym none.reply) tt
+ships_line far new r rows (inr (inr (inr z))) = subst (IsReplyOf Ship) (sym z.reply) tt
+
+pub ship_line : (x y : Words) (far new : FarState) (r : Reply) → IsShipStep x y far new r
+    → IsReplyOf Ship r
+ship_line x y far new r step = ships_line far new r (rows_at_desk x) step.ships
 
 pub commit_line : (x y : Words) (far new : FarState) (r : Reply) → IsCommitStep x y far new r
     → IsReplyOf Commit r

@@ -33,7 +33,9 @@ use Rattle.cb_evict.specs.AbortStep.{no_batch as none_to_abort, given_up}
 use Rattle.cb_evict.specs.BeginStep.{is_leaving, few_spans as few_to_begin, few_nodes as few_to_take, begins}
 use Rattle.cb_evict.specs.CommitStep.{no_batch as none_to_commit, short, committed}
 use Rattle.cb_evict.specs.EvictStep.{few_spans, few_nodes, made}
-use Rattle.cb_evict.specs.Waiting.{waiting}
+use Rattle.cb_evict.specs.ShipRule.{Ships as ShipsRow}
+use Rattle.cb_evict.specs.ShipStep.{rows_at_desk}
+use Rattle.cb_evict.specs.Waiting.{waiting, least_waiting}
 use Rattle.cb_filter.specs.FilterStep.{refused, cools, without_slot, moves}
 use Rattle.cb_filter.specs.Seats.{Seat}
 use Rattle.cb_rebuild.specs.RebuildStep.{IsFirstWeak, IsWeak, RebuildStep}
@@ -261,6 +263,54 @@ begins_beside (is_leaving b there reply state e, hold) = spans_leaving (record {
 begins_beside (few_to_begin none a e, hold) = some_batch none
 begins_beside (few_to_take none a e, hold) = some_batch none
 begins_beside (begins m, hold) = some_batch m.none
+
+-- ---- a ship: the rows of both positions were put
+abbrev put : LeavingState
+put = record batch { shards = Some (shard 0) ∷ Some (shard 1) ∷ [] }
+
+abbrev whole : Holding Words
+whole = record { desk = crowd.desk; far = record crowd.far { leaving = Some put } }
+
+ships_none : StillShip crowd answer.NoBatch crowd
+ships_none = (
+  record { words = refl; ships = inl (record { none = refl; reply = refl; same = refl }) },
+  same_holds crowd,
+)
+
+ships_all : StillShip whole answer.AllShipped whole
+ships_all = (
+  record {
+    words = refl;
+    ships = inr (inl (record { batch = put; there = refl; none = refl; reply = refl; same = refl }));
+  },
+  same_holds whole,
+)
+
+-- where positions wait
+ships_all_of_none : StillShip beside answer.AllShipped beside → ⊥
+ships_all_of_none (step, hold) = by step.ships
+  where
+    some_none : Some 0 ≡ None → ⊥
+    some_none e = cc
+
+    all_no_node : answer.AllShipped ≡ answer.NoNode → ⊥
+    all_no_node e = cc
+
+    all_shipped : (p : ℕ) → answer.AllShipped ≡ answer.Shipped p → ⊥
+    all_shipped p e = cc
+
+    by : ShipsRow beside.far beside.far answer.AllShipped (rows_at_desk crowd.desk) → ⊥
+    by (inl n) = some_batch n.none
+    by (inr (inl all)) =
+        some_none (ap (λ (b : LeavingState). least_waiting crowd.far.members b.shards)
+        (sym (batch_same all.batch all.there)) ∙ all.none)
+    by (inr (inr (inl n))) = all_no_node n.reply
+    by (inr (inr (inr z))) = all_shipped z.position z.reply
+
+ships_all_and_warms : StillShip whole answer.AllShipped
+    (record { desk = words_are hot pinned; far = whole.far }) → ⊥
+ships_all_and_warms (step, hold) = let w : 16390 ≡ 16398 =
+    ap (λ (x : Words). get_or x.words 0 0) step.words in omega (arith, w)
 
 -- ---- a commit
 commits_none : StillCommit crowd answer.NoBatch crowd

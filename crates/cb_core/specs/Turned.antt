@@ -34,7 +34,7 @@ use Rattle.cb_evict.specs.CommitRule.{CommitRule, CommitEffect}
 use Rattle.cb_evict.specs.EvictEffect.{EvictEffect}
 use Rattle.cb_evict.specs.EvictRule.{EvictRule}
 use Rattle.cb_evict.specs.Evicting.{TouchesSpans}
-use Rattle.cb_evict.specs.ShipRule.{ShipRule, ShipEffect}
+use Rattle.cb_evict.specs.ShipRule.{ReadsLeaving, ShipRule, ShipEffect}
 use Rattle.cb_filter.specs.FilterEffect.{FilterEffect}
 use Rattle.cb_filter.specs.FilterRule.{FilterRule, NeedsMemory}
 use Rattle.cb_rebuild.specs.RebuildStep.{IsFirstWeak, RebuildStep}
@@ -236,7 +236,8 @@ RebuildLacks run a b = run a.desk [] b.desk × IsWeakGiven a.far b.far
 -- a ship that lacks memory changes nothing
 abbrev pub ShipLacks : {D : Type 0} → (D → List Event → D → Type 0) → (D → Shown → Type 0)
     → Holding D → Holding D → Type 0
-ShipLacks run shows a b = TODO
+ShipLacks run shows a b = (b.far ≡ a.far) × Performs (λ es. run a.desk es b.desk)
+    (λ s. shows a.desk s × Sound s a.far) (ReadsLeaving a.far) (λ t. Sound t b.far) IsStill
 
 -- Where a job that found no memory stopped. A commit and an abort take no memory.
 abbrev pub Stops : {D : Type 0} → (D → List Event → D → Type 0) → (D → Shown → Type 0) → Config → Job
