@@ -27,3 +27,6 @@ mod WorkedEvict
 mod WorkedEvictStep
 mod WorkedSetMade
 mod EmptyWorld
+mod Begun
+mod BeginParts
+mod BeginEnd

@@ -2,6 +2,7 @@
 //! rows stand on memory nodes.
 #![tactic(auto)]
 
+mod beginning;
 mod candidates;
 mod claiming;
 mod closing;
@@ -13,4 +14,5 @@ mod storing;
 #[cfg(test)]
 mod tests;
 
+pub use beginning::begin;
 pub use evicting::evict_now;
