@@ -70,15 +70,15 @@ by_cmp-other q k other = grind (arith, nat_tests)
 by_cmp-same : (k : ℕ) → eq_by_cmp nat_cmp k k ≡ true
 by_cmp-same k = grind (arith, nat_tests)
 
-abbrev kept_only : SetState → Kept
+abbrev pub kept_only : SetState → Kept
 kept_only set = record { set = set; committed = false }
 
-reserved_kept : (sets : SetMap) (id : ℕ) (set : SetState)
+pub reserved_kept : (sets : SetMap) (id : ℕ) (set : SetState)
     → map.get (map.insert sets id (kept_only set)) id ≡ Some (kept_only set)
 reserved_kept sets id set = map.get-insert nat_cmp_total sets id (kept_only set) id
     ∙ ap (λ (b : Bool). cond b (Some (kept_only set)) (map.get sets id)) (by_cmp-same id)
 
-reserved_others : (sets : SetMap) (id j : ℕ) (set : SetState) → j ≢ id
+pub reserved_others : (sets : SetMap) (id j : ℕ) (set : SetState) → j ≢ id
     → set_in (map.insert sets id (kept_only set)) j ≡ set_in sets j
 reserved_others sets id j set off =
     ap if_committed (map.get-insert nat_cmp_total sets id (kept_only set) j
@@ -112,7 +112,7 @@ far_was s t h len v words (inl same) e = sym same ∙ e
 far_was s t h len v words (inr x) e = absurd (x.after (was_far (object_at t h) len v words e))
 
 -- the far state with a batch that leaves under the next set number
-abbrev begun_far : FarState → SetState → LeavingState → FarState
+abbrev pub begun_far : FarState → SetState → LeavingState → FarState
 begun_far far set batch = record far {
   sets = map.insert far.sets far.counts.sets (kept_only set);
   leaving = Some batch;
@@ -120,7 +120,7 @@ begun_far far set batch = record far {
 }
 
 -- no shard is named
-abbrev NoneNamed : LeavingState → Type 0
+abbrev pub NoneNamed : LeavingState → Type 0
 NoneNamed batch = (p : ℕ) (shard : Shard) → slice_get batch.shards p ≡ Some (Some shard) → ⊥
 
 module _ (s t : Shown) (far : FarState) (set : SetState) (batch : LeavingState)
@@ -444,6 +444,8 @@ module _ (c : Config) (far : FarState) (frames : List ℕ) (formers : List Forme
   reserved : IsReserved (with_batch c far frames formers parities) (new_batch c far frames formers parities)
   reserved = record {
     drawn = omega arith;
+    unpaired = λ pair there. let less = (d.sound.away.join pair there).drawn in
+        (λ same. omega (arith, less.0, same), λ same. omega (arith, less.1, same));
     range = subst (λ (n : ℕ). IsInRange n (length parities)) (sym d.taken.count)
         (subst (λ (n : ℕ). IsInRange c.k n) (sym d.few) d.range);
     blank = blank_shards (c.k + c.r);

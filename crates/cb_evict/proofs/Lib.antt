@@ -27,6 +27,8 @@ mod WorkedEvict
 mod WorkedEvictStep
 mod WorkedSetMade
 mod EmptyWorld
-mod Begun
-mod BeginParts
+pub mod Begun
+pub mod BeginParts
 mod BeginEnd
+pub mod BeginStep
+pub mod AfterBegin
