@@ -32,3 +32,4 @@ pub mod BeginParts
 mod BeginEnd
 pub mod BeginStep
 pub mod AfterBegin
+mod WorkedBegin
