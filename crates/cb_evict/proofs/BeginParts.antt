@@ -45,7 +45,7 @@ use Rattle.cb_evict.proofs.Restored.{looked}
 none_some : {X : Type 0} (a : X) → None ≡ Some a → ⊥
 none_some a e = cc
 
-abbrev number_of : LeavingState → SetId
+abbrev pub number_of : LeavingState → SetId
 number_of batch = record { n = batch.set }
 
 pub none_leaving : (o : Option LeavingState) → option_map number_of o ≡ None → o ≡ None

@@ -63,8 +63,8 @@ reserve-requires-clause-range g c =
       parities_most = omega (arith, range.parities_most, c.requires.taken.count, many, same);
     }
 
-pub note_batch-requires : goal.note_batch-requires
-note_batch-requires g c = record {
+pub note_batch-set-requires : goal.note_batch-set-requires
+note_batch-set-requires g c = record {
   counts = subst (λ (far : FarState). far.counts.sets < 2 ^ 62) (sym c.in-Ok.ensures.state)
       c.requires.counts;
 }
@@ -75,13 +75,13 @@ give_back-requires-clause-handles g c =
     let sized = g.met.D.Desk.sized _ (played c.requires.ready.0 c.requires.ready.1) r.shown in
     let stays = g.met.D.Desk.stays _ _ c.load_frames.ensures.loads.events c.load_frames.ensures.loads.ran in
     subst (λ (l : List Former). All (λ f. f.handle < (g.D.Desk.settings c.load_frames.new.desk).handles) l)
-    (sym c.deref-3.ensures.value)
+    (sym c.deref-in-Err.ensures.value)
     (handles_all c.requires.ready.0 c.requires.ready.1 _ c.args.formers.items _ r.claimed
     (sized.0 ∙ ap (λ (n : Config). n.handles) (sym stays)))
 
 pub give_back-requires-clause-apart : goal.give_back-requires-clause-apart
 give_back-requires-clause-apart g c =
-    subst (λ (l : List Former). AreApart l) (sym c.deref-3.ensures.value) c.requires.taken.each_once
+    subst (λ (l : List Former). AreApart l) (sym c.deref-in-Err.ensures.value) c.requires.taken.each_once
 
 pub give_back-requires-clause-held : goal.give_back-requires-clause-held
 give_back-requires-clause-held g c =
@@ -94,14 +94,14 @@ give_back-requires-clause-held g c =
       (
         c.args.far.now,
         r.here,
-        subst (λ (l : List Former). All (IsHeldAt t) l) (sym c.deref-3.ensures.value)
+        subst (λ (l : List Former). All (IsHeldAt t) l) (sym c.deref-in-Err.ensures.value)
             (λ k d l. (r.claimed.taken k d l).at),
       ),
     )
 
 pub returns-in-Ok-clause-reply : goal.returns-in-Ok-clause-reply
 returns-in-Ok-clause-reply g c =
-    ap answer.Batch (c.note_batch.ensures.set
+    ap answer.Batch (c.note_batch-set.ensures.set
     ∙ ap (λ (far : FarState). let id : SetId = record { n = far.counts.sets } in id) c.in-Ok.ensures.state)
 
 pub returns-in-Ok-clause-begun : goal.returns-in-Ok-clause-begun
@@ -115,11 +115,11 @@ returns-in-Ok-clause-begun g c =
     (config.k + config.r) c.load_frames.new.rows c.in-Ok.parities
     (ap (λ (l : List ℕ). length l) c.deref-2.ensures.value) (blank_count _ _ c.requires.blank)
     c.in-Ok.ensures.parities in
-    let is = batch_then config far c.reserve.new.far c.note_batch.new.far c.deref-2.result.now frames formers
+    let is = batch_then config far c.reserve.new.far c.note_batch-set.new.far c.deref-2.result.now frames formers
     c.in-Ok.parities c.args.blank.now c.args.shards.items c.deref-2.ensures.value c.in-Ok.ensures.state
-    c.note_batch.ensures.state c.requires.blank c.requires.shards in
+    c.note_batch-set.ensures.state c.requires.blank c.requires.shards in
     let all = λ (before : List Event) (s : Shown) (r : IsReady shows far formers before s).
-    starts config far c.note_batch.new.far frames formers c.load_frames.new.rows c.in-Ok.parities before x.events s
+    starts config far c.note_batch-set.new.far frames formers c.load_frames.new.rows c.in-Ok.parities before x.events s
     (begins config far frames formers c.load_frames.new.rows c.in-Ok.parities shows before s
     c.requires.config c.requires.none r c.requires.taken made
     (c.load_frames.ensures.count ∙ c.requires.rows.0) x.made)
@@ -140,7 +140,7 @@ pub returns-in-Err-clause-error : goal.returns-in-Err-clause-error
 returns-in-Err-clause-error g c =
     let far = c.args.far.now in let frames = c.args.frames.items in let formers = c.args.formers.items in
     let x = loads_as _ _ _ frames _ c.deref.ensures.value c.load_frames.ensures.loads in
-    let y = backs_as _ _ _ formers c.deref-3.ensures.value c.give_back.ensures in
+    let y = backs_as _ _ _ formers c.deref-in-Err.ensures.value c.give_back.ensures in
     let reads = are_reads (LiesInOne frames) x.events x.loads in
     let end : IsEnd (LiesInOne frames) formers x.events y.events =
     record { reads = reads; touches = y.touches; quiet = y.quiet } in

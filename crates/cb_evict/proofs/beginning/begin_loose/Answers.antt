@@ -1,6 +1,7 @@
-use Rattle.std.proofs.Common.{ℕ, ◌+◌, ◌<◌, List, length, get_or, All, refl, sym, ap, ◌∙◌, subst, arith}
+use Rattle.std.proofs.Common.{◌≡◌, ℕ, ◌+◌, ◌<◌, List, length, get_or, All, refl, sym, ap, ◌∙◌, subst, arith}
 use Rattle.cb_types.specs.Config.{IsAccepted}
 use Rattle.cb_types.specs.declared.config.Config.{Config}
+use Rattle.cb_types.specs.declared.config.Field.TheVariants.{K, R}
 use Rattle.cb_types.specs.declared.reply.Reply.TheVariants as answer
 use Rattle.cb_world.specs.declared.leaving.Former.{Former}
 use Rattle.cb_world.specs.Played.{played}
@@ -19,6 +20,16 @@ use Rattle.cb_evict.proofs.Composed.{if_ok, on_err, any_err, both_err, rows_made
 use Rattle.cb_evict.proofs.Ending.{handles_all}
 use Rattle.cb_evict.proofs.Standing.{are_unique, ready_frame}
 use Rattle.cb_evict.proofs.beginning.begin_loose.Goals as goal
+
+pub overflow_add-config : goal.overflow_add-config
+overflow_add-config g c =
+    let most = c.requires.config.0 K in let more = c.requires.config.0 R in
+    omega (arith, most.1, more.1)
+
+pub overflow_add-config-2 : goal.overflow_add-config-2
+overflow_add-config-2 g c =
+    let most = c.requires.config.0 K in let more = c.requires.config.0 R in
+    omega (arith, most.1, more.1)
 
 pub returns-in-Err-clause-error : goal.returns-in-Err-clause-error
 returns-in-Err-clause-error g c = nothing_done _ _ _ (g.met.D.Desk.none _)
@@ -94,7 +105,7 @@ pub returns-then-len-k-clause-begun : goal.returns-then-len-k-clause-begun
 returns-then-len-k-clause-begun g c =
     let x = claims_as _ _ _ _ c.args.loose.now c.args.config.k _ _
     (ap (λ (far : FarState). far.spans) c.far.view_is) c.claim_spans.ensures.claims in
-    let reply : answer.NoSpans (c.len-then-len-k.result % 2 ^ 32) ≡ answer.NoSpans (length c.claim_spans.new.frames.items) =
+    let reply : answer.NoSpans c.len-then-len-k.result ≡ answer.NoSpans (length c.claim_spans.new.frames.items) =
     ap answer.NoSpans (omega (arith, c.len-then-len-k.ensures, c.claim_spans.new.frames.ok)) in
     refuses_after c.args.config c.args.far.now _ c.args.loose.now
     (λ es. g.D.Desk.run c.args.desk.now es c.give_back.new.desk)

@@ -59,7 +59,7 @@ find_loose-requires-clause-apart g c =
 pub returns-then-len-config-clause-begun : goal.returns-then-len-config-clause-begun
 returns-then-len-config-clause-begun g c =
     let k = ap (λ (n : Config). n.k) c.config-config.ensures in
-    let reply : answer.NoSpans (c.len-then-len-config.result % 2 ^ 32) ≡ answer.NoSpans (length c.find_loose.new.loose.items) =
+    let reply : answer.NoSpans c.len-then-len-config.result ≡ answer.NoSpans (length c.find_loose.new.loose.items) =
     ap answer.NoSpans (omega (arith, c.len-then-len-config.ensures, c.find_loose.new.loose.ok)) in
     refuses (g.D.Desk.settings c.args.desk.now) c.args.far.now _
     (λ es. g.D.Desk.run c.args.desk.now es c.find_loose.new.desk)
