@@ -165,11 +165,11 @@ nothing_done far runs knows ran = record {
 looks_same : (es : List Event) (s : Shown) → OnlyLooks es → played es s ≡ told_by es s
 looks_same es s looks = let c = looks_change es s looks in c.2 ∙ sym c.3
 
-told_next : (es fs : List Event) (s : Shown) → OnlyLooks es
+pub told_next : (es fs : List Event) (s : Shown) → OnlyLooks es
     → told_by (es ++ fs) s ≡ told_by fs (played es s)
 told_next es fs s looks = told_append es fs s ∙ ap (told_by fs) (sym (looks_same es s looks))
 
-nothing_before : (es fs : List Event) (s : Shown) → OnlyLooks es → (old : List Entry)
+pub nothing_before : (es fs : List Event) (s : Shown) → OnlyLooks es → (old : List Entry)
     → written_by fs (played es s) old ≡ old → written_by (es ++ fs) s old ≡ old
 nothing_before es fs s looks old e = written_append es fs s old
     ∙ ap (written_by fs (played es s)) ((looks_steady es s looks).nothing old) ∙ e
@@ -222,7 +222,7 @@ effect_before far new r es fs s t looks a = record {
 }
 
 -- only objects of candidates were looked at
-looks_touch : (far : FarState) (es : List Event)
+pub looks_touch : (far : FarState) (es : List Event)
     → TouchesOnly (IsIn far.spans (candidates far)) (λ p. ⊥) es → TouchesSpans far es
 looks_touch far es t = touches_more (IsIn far.spans (candidates far)) (IsIn far.spans (candidates far))
     (λ p. ⊥) (LiesInOne (candidates far)) es (λ h x. x) (λ p x. absurd x) t
@@ -339,7 +339,7 @@ looks_refuse c far r loose runs shows x few =
 
 -- ---- the claims, and then the rest
 -- what was claimed are objects of candidates
-claims_touch : (far : FarState) (loose : List ℕ) (es : List Event)
+pub claims_touch : (far : FarState) (loose : List ℕ) (es : List Event)
     → All (Contains (candidates far)) loose → TouchesOnly (IsIn far.spans loose) (λ p. ⊥) es
     → TouchesSpans far es
 claims_touch far loose es among t = touches_more (IsIn far.spans loose) (IsIn far.spans (candidates far))
@@ -368,7 +368,7 @@ one_touch far loose runs shows k frames formers es among x t =
     )
 
 -- the spans that are loose in the end
-loose_then : (far : FarState) (loose : List ℕ) (runs : List Event → Type 0) (shows : Shown → Type 0)
+pub loose_then : (far : FarState) (loose : List ℕ) (runs : List Event → Type 0) (shows : Shown → Type 0)
     (k : ℕ) (frames : List ℕ) (formers : List Former) (before fs : List Event)
     → (x : ClaimsSpans runs shows far.spans loose k frames formers)
     → ((h : ℕ) → NoLook h fs) → AreLoose before far.spans (candidates far) loose
@@ -380,7 +380,7 @@ loose_then far loose runs shows k frames formers before fs x quiet found =
     (λ f c h named. quiet h)
     (x.found before (candidates far) (candidates_apart far) found))
 
-wide_touch : (far : FarState) (loose : List ℕ) (runs : List Event → Type 0) (shows : Shown → Type 0)
+pub wide_touch : (far : FarState) (loose : List ℕ) (runs : List Event → Type 0) (shows : Shown → Type 0)
     (k : ℕ) (frames : List ℕ) (formers : List Former) (es : List Event)
     → All (Contains (candidates far)) loose
     → (x : ClaimsSpans runs shows far.spans loose k frames formers)

@@ -26,3 +26,9 @@ mod WorkedLoose
 mod WorkedEvict
 mod WorkedEvictStep
 mod WorkedSetMade
+pub mod Begun
+pub mod BeginParts
+mod BeginEnd
+pub mod BeginStep
+pub mod AfterBegin
+mod WorkedBegin

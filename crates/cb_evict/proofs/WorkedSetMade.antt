@@ -34,7 +34,7 @@ use Rattle.cb_evict.proofs.NewSet.{set_added_in}
 use Rattle.cb_evict.proofs.WorkedEvictStep.{before, after, busy, pair, lone, one_node, none_is, same_number, sent_off, not_here, contents_in, first_word, heads, span_with}
 
 -- ---- the code word: a row of zeros and its parity
-row : List ℕ
+pub row : List ℕ
 row = replicate 4096 0
 
 abbrev rows : List (List ℕ)
@@ -61,7 +61,7 @@ bytes_zero column zero below = row_zeros column below
 bytes_zero column (suc zero) below = row_zeros column below
 bytes_zero column (suc (suc i)) below = refl
 
-is_word : IsSpanWord 1 1 rows
+pub is_word : IsSpanWord 1 1 rows
 is_word = record {
   is_word = record {
     count = refl;
@@ -132,7 +132,7 @@ chosen = record { count = refl; each = λ p s at. each p s at }
         (record { node = second_node; incarnation = refl; key = refl })
     each (suc (suc p)) s at = absurd (no_shard s at)
 
-two_nodes : room_count pair.nodes pair.members ≡ 2
+pub two_nodes : room_count pair.nodes pair.members ≡ 2
 two_nodes = let a = none_held 0 in let b = none_held 1 in grind (arith, a, b)
 
 -- ---- the home of the object

@@ -11,3 +11,7 @@ pub mod EvictRule
 pub mod EvictEffect
 pub mod EvictStep
 pub mod Evicting
+pub mod BeginRule
+pub mod BeginEffect
+pub mod Beginning
+pub mod BeginStep

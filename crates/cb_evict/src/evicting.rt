@@ -28,7 +28,7 @@ use cb_types::{Config, NoMemory, Reply, Rows, SetId};
 use cb_world::{Desk, Far, Former, nodes_with_room};
 
 /// How many objects a span has at the most.
-const MOST_OBJECTS: usize = 256;
+pub(crate) const MOST_OBJECTS: usize = 256;
 
 /// Evicts k spans at once. Of the spans none of whose objects is pinned or claimed, and which are not
 /// leaving, the first k go, the cold ones before the hot ones and then by frame number: they are coded

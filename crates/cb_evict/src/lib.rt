@@ -2,6 +2,7 @@
 //! rows stand on memory nodes.
 #![tactic(auto)]
 
+mod beginning;
 mod candidates;
 mod claiming;
 mod closing;
@@ -11,4 +12,5 @@ mod looking;
 mod sending;
 mod storing;
 
+pub use beginning::begin;
 pub use evicting::evict_now;
