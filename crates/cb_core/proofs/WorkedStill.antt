@@ -290,8 +290,8 @@ ships_all = (
 ships_all_of_none : StillShip beside answer.AllShipped beside → ⊥
 ships_all_of_none (step, hold) = by step.ships
   where
-    some_none : Some 0 ≡ None → ⊥
-    some_none e = cc
+    some_none : (p : ℕ) → Some p ≡ None → ⊥
+    some_none p e = cc
 
     all_no_node : answer.AllShipped ≡ answer.NoNode → ⊥
     all_no_node e = cc
@@ -302,7 +302,7 @@ ships_all_of_none (step, hold) = by step.ships
     by : ShipsRow beside.far beside.far answer.AllShipped (rows_at_desk crowd.desk) → ⊥
     by (inl n) = some_batch n.none
     by (inr (inl all)) =
-        some_none (ap (λ (b : LeavingState). least_waiting crowd.far.members b.shards)
+        some_none 0 (ap (λ (b : LeavingState). least_waiting crowd.far.members b.shards)
         (sym (batch_same all.batch all.there)) ∙ all.none)
     by (inr (inr (inl n))) = all_no_node n.reply
     by (inr (inr (inr z))) = all_shipped z.position z.reply
