@@ -10,7 +10,7 @@ use Rattle.cb_types.specs.Config.{IsAccepted}
 use Rattle.cb_types.specs.declared.config.Field.TheVariants.{Nodes}
 use Rattle.cb_types.specs.declared.job.Job.TheVariants as job
 use Rattle.cb_types.specs.declared.request.Request.{Request}
-use Rattle.cb_types.specs.declared.request.Request.TheVariants.{Make, Read, Write, Free, Pin, Peek, Unpin, Filter, Evict, Rebuild, Crash, Join, Leave}
+use Rattle.cb_types.specs.declared.request.Request.TheVariants.{Make, Read, Write, Free, Pin, Peek, Unpin, Filter, Evict, Begin, Ship, Commit, Abort, Rebuild, Crash, Join, Leave}
 use Rattle.cb_types.specs.declared.reply.Reply.{Reply}
 use Rattle.cb_types.specs.declared.reply.Reply.TheVariants as answer
 use Rattle.cb_types.specs.Requests.{name_of}
@@ -49,7 +49,7 @@ use Rattle.cb_lanes.proofs.LineGoes.{read_goes, write_goes, free_goes, filter_go
 use Rattle.cb_lanes.proofs.Pinning.{pin_goes, pin_settings, peek_goes, unpin_goes, leave_goes, unmade_pins}
 use Rattle.cb_lanes.proofs.Scoping.{Scoped, line_scoped}
 use Rattle.cb_lanes.proofs.ScopesKept.{AreScopes, scopes_none, scopes_push, keep_push, Rested, rests, LeadsOn, leads_push, IsFresh, grown, apart_after, lines_own}
-use Rattle.cb_lanes.proofs.Silent.{unmade_read, unmade_write, unmade_free, evict_goes, rebuild_goes, crash_goes, join_goes}
+use Rattle.cb_lanes.proofs.Silent.{unmade_read, unmade_write, unmade_free, evict_goes, begin_goes, ship_goes, commit_goes, abort_goes, rebuild_goes, crash_goes, join_goes}
 use Rattle.cb_lanes.proofs.Turning.{answer_to, Turning, around, Goes}
 
 -- The answers so far are the map's, the map is beside the world that they led to, the names are what
@@ -85,6 +85,14 @@ line_goes answers l (Make name bytes) r w new handle c built is named ready lt m
     make_goes answers l name bytes r w new c step
 line_goes answers l Evict r w new handle c built is named ready lt made few step =
     evict_goes answers l r w new c step
+line_goes answers l Begin r w new handle c built is named ready lt made few step =
+    begin_goes answers l r w new c step
+line_goes answers l Ship r w new handle c built is named ready lt made few step =
+    ship_goes answers l r w new c step
+line_goes answers l Commit r w new handle c built is named ready lt made few step =
+    commit_goes answers l r w new c step
+line_goes answers l Abort r w new handle c built is named ready lt made few step =
+    abort_goes answers l r w new c step
 line_goes answers l Rebuild r w new handle c built is named ready lt made few step =
     rebuild_goes answers l r w new c step
 line_goes answers l (Crash node) r w new handle c built is named ready lt made few step =
@@ -152,6 +160,10 @@ about_made answers (Unpin name) r h made built within e = inl (within name h e)
 about_made answers (Filter name) r h made built within e = inl (within name h e)
 about_made answers Leave r h made built within e = absurd cc
 about_made answers Evict r h made built within e = absurd cc
+about_made answers Begin r h made built within e = absurd cc
+about_made answers Ship r h made built within e = absurd cc
+about_made answers Commit r h made built within e = absurd cc
+about_made answers Abort r h made built within e = absurd cc
 about_made answers Rebuild r h made built within e = absurd cc
 about_made answers (Crash node) r h made built within e = absurd cc
 about_made answers (Join node) r h made built within e = absurd cc
@@ -259,6 +271,14 @@ line_settings seat handle (Make name bytes) w new r sound lt ready step =
     step_settings w new (Turn seat (job.Make bytes)) r step
 line_settings seat handle Evict w new r sound lt ready step =
     step_settings w new (Turn seat job.Evict) r step
+line_settings seat handle Begin w new r sound lt ready step =
+    step_settings w new (Turn seat job.Begin) r step
+line_settings seat handle Ship w new r sound lt ready step =
+    step_settings w new (Turn seat job.Ship) r step
+line_settings seat handle Commit w new r sound lt ready step =
+    step_settings w new (Turn seat job.Commit) r step
+line_settings seat handle Abort w new r sound lt ready step =
+    step_settings w new (Turn seat job.Abort) r step
 line_settings seat handle Rebuild w new r sound lt ready step =
     step_settings w new (Turn seat job.Rebuild) r step
 line_settings seat handle (Crash node) w new r sound lt ready step =

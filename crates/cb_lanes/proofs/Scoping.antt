@@ -7,7 +7,7 @@ use Rattle.cb_ptr.specs.Word.{pins_of}
 use Rattle.cb_types.specs.declared.answer.Answer.{Answer}
 use Rattle.cb_types.specs.declared.job.Job.TheVariants as job
 use Rattle.cb_types.specs.declared.request.Request.{Request}
-use Rattle.cb_types.specs.declared.request.Request.TheVariants.{Make, Read, Write, Free, Pin, Peek, Unpin, Filter, Evict, Rebuild, Crash, Join, Leave}
+use Rattle.cb_types.specs.declared.request.Request.TheVariants.{Make, Read, Write, Free, Pin, Peek, Unpin, Filter, Evict, Begin, Ship, Commit, Abort, Rebuild, Crash, Join, Leave}
 use Rattle.cb_types.specs.declared.reply.Reply.{Reply}
 use Rattle.cb_types.specs.declared.reply.Reply.TheVariants as answer
 use Rattle.cb_types.specs.Requests.{name_of}
@@ -233,6 +233,18 @@ line_scoped answers (Make name bytes) r w new handle number scope seat c built l
 line_scoped answers Evict r w new handle number scope seat c built lt apart named ready are step =
     still_scoped number handle scope Evict r seat w new
     (turn_seats job.Evict w new r step) are refl (quiet handle scope Evict r tt (λ h. tt))
+line_scoped answers Begin r w new handle number scope seat c built lt apart named ready are step =
+    still_scoped number handle scope Begin r seat w new
+    (turn_seats job.Begin w new r step) are refl (quiet handle scope Begin r tt (λ h. tt))
+line_scoped answers Ship r w new handle number scope seat c built lt apart named ready are step =
+    still_scoped number handle scope Ship r seat w new
+    (turn_seats job.Ship w new r step) are refl (quiet handle scope Ship r tt (λ h. tt))
+line_scoped answers Commit r w new handle number scope seat c built lt apart named ready are step =
+    still_scoped number handle scope Commit r seat w new
+    (turn_seats job.Commit w new r step) are refl (quiet handle scope Commit r tt (λ h. tt))
+line_scoped answers Abort r w new handle number scope seat c built lt apart named ready are step =
+    still_scoped number handle scope Abort r seat w new
+    (turn_seats job.Abort w new r step) are refl (quiet handle scope Abort r tt (λ h. tt))
 line_scoped answers Rebuild r w new handle number scope seat c built lt apart named ready are step =
     still_scoped number handle scope Rebuild r seat w new
     (turn_seats job.Rebuild w new r step) are refl (quiet handle scope Rebuild r tt (λ h. tt))

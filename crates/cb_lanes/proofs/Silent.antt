@@ -1,11 +1,11 @@
--- Lines about no object: names without a handle, evictions, rebuilds, crashes and joins.
+-- Lines about no object: names without a handle, evictions, whole and in steps, rebuilds, crashes and joins.
 use Rattle.std.proofs.Common.{◌≡◌, ℕ, ◌<◌, List, [], ◌∷◌, ◌++◌, Option, None, Some, refl, sym, ap, ◌∙◌, subst, arith, inl, inr, fold, if◌then◌else◌}
 use Rattle.cb_member.specs.declared.names.NodeId.{NodeId}
 use Rattle.cb_types.specs.declared.answer.Answer.{Answer}
 use Rattle.cb_types.specs.declared.job.Job.{Job}
 use Rattle.cb_types.specs.declared.job.Job.TheVariants as job
 use Rattle.cb_types.specs.declared.request.Request.{Request}
-use Rattle.cb_types.specs.declared.request.Request.TheVariants.{Read, Write, Free, Evict, Rebuild, Crash, Join}
+use Rattle.cb_types.specs.declared.request.Request.TheVariants.{Read, Write, Free, Evict, Begin, Ship, Commit, Abort, Rebuild, Crash, Join}
 use Rattle.cb_types.specs.declared.reply.Reply.{Reply}
 use Rattle.cb_types.specs.declared.reply.Reply.TheVariants as answer
 use Rattle.cb_types.specs.Table.{IsReplyOf}
@@ -27,7 +27,7 @@ use Rattle.cb_mutate.specs.MapCalls.{IsValue}
 use Rattle.cb_mutate.specs.MapBeside.{IsMapBeside}
 use Rattle.cb_mutate.proofs.MapBeside.{Follows, beside_kept}
 use Rattle.cb_core.specs.Step.{TurnStep}
-use Rattle.cb_core.proofs.TurnCalls.{evict_turn, rebuild_turn, crash_turn, join_turn}
+use Rattle.cb_core.proofs.TurnCalls.{evict_turn, begin_turn, ship_turn, commit_turn, abort_turn, rebuild_turn, crash_turn, join_turn}
 use Rattle.cb_core.proofs.TurnCallsKept.{known_same}
 use Rattle.cb_core.proofs.TurnCallsMap.{IsSameMap}
 use Rattle.cb_core.proofs.TurnCallsNodes.{IsMapLost}
@@ -147,6 +147,35 @@ evict_event (answer.NoNodes nodes) line = refl
 evict_event answer.Worn line = refl
 evict_event r line = absurd line
 
+begin_event : (r : Reply) → IsReplyOf Begin r → event_of Begin r ≡ Refused Nothing
+begin_event (answer.Batch set) line = refl
+begin_event (answer.NoSpans loose) line = refl
+begin_event (answer.NoNodes nodes) line = refl
+begin_event (answer.Leaving set) line = refl
+begin_event answer.Worn line = refl
+begin_event r line = absurd line
+
+ship_event : (r : Reply) → IsReplyOf Ship r → event_of Ship r ≡ Refused Nothing
+ship_event (answer.Shipped position) line = refl
+ship_event answer.AllShipped line = refl
+ship_event answer.NoNode line = refl
+ship_event answer.NoBatch line = refl
+ship_event answer.Worn line = refl
+ship_event r line = absurd line
+
+commit_event : (r : Reply) → IsReplyOf Commit r → event_of Commit r ≡ Refused Nothing
+commit_event (answer.Set set) line = refl
+commit_event answer.NoBatch line = refl
+commit_event (answer.Short positions) line = refl
+commit_event answer.Worn line = refl
+commit_event r line = absurd line
+
+abort_event : (r : Reply) → IsReplyOf Abort r → event_of Abort r ≡ Refused Nothing
+abort_event answer.Done line = refl
+abort_event answer.NoBatch line = refl
+abort_event answer.Worn line = refl
+abort_event r line = absurd line
+
 rebuild_event : (r : Reply) → IsReplyOf Rebuild r → event_of Rebuild r ≡ Refused Nothing
 rebuild_event (answer.Rebuilt set position node) line = refl
 rebuild_event (answer.Whole broken) line = refl
@@ -168,6 +197,15 @@ join_event node (answer.Up at) line = refl
 join_event node answer.Worn line = refl
 join_event node r line = absurd line
 
+-- a turn at which the map stays, by a line that tells nothing of an object
+same_goes : (answers : List Answer) (a : Answer) (w new : WorldState) (j : Job) (r : Reply)
+    → (c : Turning answers w new) → TurnStep j w r new
+    → IsSameMap c.before.shown c.then.shown w.far new.far → handle_for answers a.request a.reply ≡ None
+    → event_of a.request a.reply ≡ Refused Nothing → HasLineReply a → Goes answers a w new c.then.shown
+same_goes answers a w new j r c step same about event reply =
+    quiet_goes answers a w new j r c step
+    (beside_same answers c.before.shown c.then.shown w.far new.far c.beside same) about event reply
+
 pub evict_goes : (answers : List Answer) (l : Line) (r : Reply) (w new : WorldState)
     → (c : Turning answers w new) → TurnStep job.Evict w r new
     → Goes answers (answer_to l Evict r) w new c.then.shown
@@ -175,6 +213,34 @@ evict_goes answers l r w new c step =
     let z = evict_turn w new r c.before c.then c.few step in
     quiet_goes answers (answer_to l Evict r) w new job.Evict r c step
     (beside_same answers c.before.shown c.then.shown w.far new.far c.beside z.0) refl (evict_event r z.1) z.1
+
+pub begin_goes : (answers : List Answer) (l : Line) (r : Reply) (w new : WorldState)
+    → (c : Turning answers w new) → TurnStep job.Begin w r new
+    → Goes answers (answer_to l Begin r) w new c.then.shown
+begin_goes answers l r w new c step =
+    let z = begin_turn w new r c.before c.then c.few step in
+    same_goes answers (answer_to l Begin r) w new job.Begin r c step z.0 refl (begin_event r z.1) z.1
+
+pub ship_goes : (answers : List Answer) (l : Line) (r : Reply) (w new : WorldState)
+    → (c : Turning answers w new) → TurnStep job.Ship w r new
+    → Goes answers (answer_to l Ship r) w new c.then.shown
+ship_goes answers l r w new c step =
+    let z = ship_turn w new r c.before c.then c.few step in
+    same_goes answers (answer_to l Ship r) w new job.Ship r c step z.0 refl (ship_event r z.1) z.1
+
+pub commit_goes : (answers : List Answer) (l : Line) (r : Reply) (w new : WorldState)
+    → (c : Turning answers w new) → TurnStep job.Commit w r new
+    → Goes answers (answer_to l Commit r) w new c.then.shown
+commit_goes answers l r w new c step =
+    let z = commit_turn w new r c.before c.then c.few step in
+    same_goes answers (answer_to l Commit r) w new job.Commit r c step z.0 refl (commit_event r z.1) z.1
+
+pub abort_goes : (answers : List Answer) (l : Line) (r : Reply) (w new : WorldState)
+    → (c : Turning answers w new) → TurnStep job.Abort w r new
+    → Goes answers (answer_to l Abort r) w new c.then.shown
+abort_goes answers l r w new c step =
+    let z = abort_turn w new r c.before c.then c.few step in
+    same_goes answers (answer_to l Abort r) w new job.Abort r c step z.0 refl (abort_event r z.1) z.1
 
 pub rebuild_goes : (answers : List Answer) (l : Line) (r : Reply) (w new : WorldState)
     → (c : Turning answers w new) → TurnStep job.Rebuild w r new

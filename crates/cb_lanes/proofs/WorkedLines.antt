@@ -4,12 +4,13 @@ use Rattle.cb_types.specs.declared.answer.Answer.{Answer}
 use Rattle.cb_types.specs.declared.config.Config.{Config}
 use Rattle.cb_types.specs.declared.job.Job.TheVariants as job
 use Rattle.cb_types.specs.declared.request.Request.{Request}
-use Rattle.cb_types.specs.declared.request.Request.TheVariants.{Read, Write, Filter, Crash, Join, Evict}
+use Rattle.cb_types.specs.declared.request.Request.TheVariants.{Read, Write, Filter, Crash, Join, Evict, Begin, Ship, Commit, Abort}
 use Rattle.cb_types.specs.declared.reply.Reply.{Reply}
-use Rattle.cb_types.specs.declared.reply.Reply.TheVariants.{Bytes, EpochAt, Down, Up, Range, Unmade, Freed}
+use Rattle.cb_types.specs.declared.reply.Reply.TheVariants.{Bytes, Done, Batch, Shipped, NoBatch, Short, EpochAt, Down, Up, Range, Unmade, Freed}
 use Rattle.cb_world.specs.World.{WorldState, empty_world}
 use Rattle.cb_core.specs.Membership.{is_up}
-use Rattle.cb_core.specs.Step.{done}
+use Rattle.cb_core.specs.declared.event.Event.TheVariants.{Turn}
+use Rattle.cb_core.specs.Step.{Step, done}
 use Rattle.cb_core.specs.Turned.{counted}
 use Rattle.cb_lanes.specs.Asked.{HasLineReply}
 use Rattle.cb_lanes.specs.LineStep.{job_on, LineStep, LinesLead}
@@ -46,7 +47,36 @@ no_read_is_out_of_range is = is
 no_join_is_down : HasLineReply (answer (Join (record { n = 3 })) (Down (record { n = 3 }))) → ⊥
 no_join_is_down is = is
 
+-- the four steps by which a batch leaves
+begins : HasLineReply (answer Begin (Batch (record { n = 0 })))
+begins = tt
+
+no_begin_lacks_a_batch : HasLineReply (answer Begin NoBatch) → ⊥
+no_begin_lacks_a_batch is = is
+
+ships : HasLineReply (answer Ship (Shipped 3))
+ships = tt
+
+no_ship_is_short : HasLineReply (answer Ship (Short (0 ∷ []))) → ⊥
+no_ship_is_short is = is
+
+a_short_commit : HasLineReply (answer Commit (Short (0 ∷ 2 ∷ [])))
+a_short_commit = tt
+
+no_commit_is_done : HasLineReply (answer Commit Done) → ⊥
+no_commit_is_done is = is
+
+aborts : HasLineReply (answer Abort Done)
+aborts = tt
+
+no_abort_is_short : HasLineReply (answer Abort (Short (0 ∷ []))) → ⊥
+no_abort_is_short is = is
+
 -- ---- steps of lines
+
+-- each step is a turn with its own job
+step_is_a_turn : (w new : WorldState) (r : Reply) → Step w (Turn 1 job.Ship) r new → LineStep 1 None Ship w r new
+step_is_a_turn w new r step = step
 
 a_write_is_a_write : job_on 4 (Write (97 ∷ []) 2 (9 ∷ []))
     ≡ Some (job.Write (record { n = 4 }) 2 (9 ∷ []))

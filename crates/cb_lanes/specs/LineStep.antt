@@ -5,7 +5,7 @@ use Rattle.cb_types.specs.declared.answer.Answer.{Answer}
 use Rattle.cb_types.specs.declared.job.Job.{Job}
 use Rattle.cb_types.specs.declared.job.Job.TheVariants as job
 use Rattle.cb_types.specs.declared.request.Request.{Request}
-use Rattle.cb_types.specs.declared.request.Request.TheVariants.{Make, Read, Write, Free, Pin, Peek, Unpin, Filter, Evict, Rebuild, Crash, Join, Leave}
+use Rattle.cb_types.specs.declared.request.Request.TheVariants.{Make, Read, Write, Free, Pin, Peek, Unpin, Filter, Evict, Begin, Ship, Commit, Abort, Rebuild, Crash, Join, Leave}
 use Rattle.cb_types.specs.declared.reply.Reply.{Reply}
 use Rattle.cb_types.specs.declared.reply.Reply.TheVariants as answer
 use Rattle.cb_types.specs.Requests.{name_of}
@@ -85,6 +85,10 @@ ObjectStep seat (Some h) request w r new = CallStep seat h request w r new
 abbrev pub LineStep : ℕ → Option ℕ → Request → WorldState → Reply → WorldState → Type 0
 LineStep seat handle (Make name bytes) w r new = Step w (Turn seat (job.Make bytes)) r new
 LineStep seat handle Evict w r new = Step w (Turn seat job.Evict) r new
+LineStep seat handle Begin w r new = Step w (Turn seat job.Begin) r new
+LineStep seat handle Ship w r new = Step w (Turn seat job.Ship) r new
+LineStep seat handle Commit w r new = Step w (Turn seat job.Commit) r new
+LineStep seat handle Abort w r new = Step w (Turn seat job.Abort) r new
 LineStep seat handle Rebuild w r new = Step w (Turn seat job.Rebuild) r new
 LineStep seat handle (Crash node) w r new = Step w (Turn seat (job.Crash node)) r new
 LineStep seat handle (Join node) w r new = Step w (Turn seat (job.Join node)) r new

@@ -38,6 +38,10 @@ pub(crate) fn reply_to<'a>(
     match request {
         Request::Make { name, bytes } => make_named(alloc, world, names, seat, name, bytes),
         Request::Evict => turn_of(alloc, world, seat, Job::Evict),
+        Request::Begin => turn_of(alloc, world, seat, Job::Begin),
+        Request::Ship => turn_of(alloc, world, seat, Job::Ship),
+        Request::Commit => turn_of(alloc, world, seat, Job::Commit),
+        Request::Abort => turn_of(alloc, world, seat, Job::Abort),
         Request::Rebuild => turn_of(alloc, world, seat, Job::Rebuild),
         Request::Crash { node } => turn_of(alloc, world, seat, Job::Crash { node: *node }),
         Request::Join { node } => turn_of(alloc, world, seat, Job::Join { node: *node }),

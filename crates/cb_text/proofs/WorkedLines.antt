@@ -7,8 +7,8 @@ use Rattle.cb_types.specs.declared.handle.Lane.{Lane}
 use Rattle.cb_types.specs.declared.answer.Answer.{Answer}
 use Rattle.cb_types.specs.declared.reply.Reply.{Reply}
 use Rattle.cb_types.specs.declared.request.Request.{Request}
-use Rattle.cb_types.specs.declared.request.Request.TheVariants.{Make, Read, Write, Free, Pin, Peek, Unpin, Leave, Filter, Evict, Rebuild, Crash, Join}
-use Rattle.cb_types.specs.declared.reply.Reply.TheVariants.{Made, Version, Bytes, Done, Left, Moved, Same, Set, Rebuilt, EpochAt, Full, NoRoom, Unmade, Freed, Moving, Unavailable, Range, Pinned, Worn, ScopeFull, NotPinned, NotHere, NoSlot, NoSpans, NoNodes, Whole, Stuck, Down, Up}
+use Rattle.cb_types.specs.declared.request.Request.TheVariants.{Make, Read, Write, Free, Pin, Peek, Unpin, Leave, Filter, Evict, Begin, Ship, Commit, Abort, Rebuild, Crash, Join}
+use Rattle.cb_types.specs.declared.reply.Reply.TheVariants.{Made, Version, Bytes, Done, Left, Moved, Same, Set, Batch, Shipped, AllShipped, Rebuilt, EpochAt, Full, NoRoom, Unmade, Freed, Moving, Unavailable, Range, Pinned, Worn, ScopeFull, NotPinned, NotHere, NoSlot, NoSpans, NoNodes, Leaving, NoNode, NoBatch, Short, Whole, Stuck, Down, Up}
 use Rattle.cb_text.specs.Line.{answer_line, text_of}
 
 abbrev lane : ℕ → Lane
@@ -108,6 +108,42 @@ no_spans = refl
 no_nodes : answer_line (lane 1) (Evict) (NoNodes 3) ≡ codes "1 evict nonodes 3\n"
 unfolding digits
 no_nodes = refl
+
+batch : answer_line (lane 1) Begin (Batch (record { n = 4 })) ≡ codes "1 begin batch 4\n"
+unfolding digits
+batch = refl
+
+leaving : answer_line (lane 1) Begin (Leaving (record { n = 4 })) ≡ codes "1 begin leaving 4\n"
+unfolding digits
+leaving = refl
+
+shipped : answer_line (lane 1) Ship (Shipped 3) ≡ codes "1 ship shipped 3\n"
+unfolding digits
+shipped = refl
+
+all_shipped : answer_line (lane 1) Ship AllShipped ≡ codes "1 ship allshipped\n"
+unfolding digits
+all_shipped = refl
+
+no_node : answer_line (lane 1) Ship NoNode ≡ codes "1 ship nonode\n"
+unfolding digits
+no_node = refl
+
+no_batch : answer_line (lane 1) Ship NoBatch ≡ codes "1 ship nobatch\n"
+unfolding digits
+no_batch = refl
+
+short : answer_line (lane 1) Commit (Short (0 ∷ 2 ∷ 13 ∷ [])) ≡ codes "1 commit short 0 2 13\n"
+unfolding digits
+short = refl
+
+a_set_of_a_batch : answer_line (lane 1) Commit (Set (record { n = 4 })) ≡ codes "1 commit set 4\n"
+unfolding digits
+a_set_of_a_batch = refl
+
+aborted : answer_line (lane 1) Abort Done ≡ codes "1 abort ok\n"
+unfolding digits
+aborted = refl
 
 rebuilt : answer_line (lane 1) (Rebuild) (Rebuilt (record { n = 0 }) 1 (record { n = 5 })) ≡ codes "1 rebuild rebuilt set 0 position 1 node 5\n"
 unfolding digits

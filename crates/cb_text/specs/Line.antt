@@ -8,7 +8,7 @@ use Rattle.cb_types.specs.declared.answer.Answer.{Answer}
 use Rattle.cb_types.specs.declared.request.Request.{Request}
 use Rattle.cb_types.specs.declared.request.Request.TheVariants.{Make, Read, Write, Free, Pin, Peek, Unpin, Leave, Filter, Evict, Begin, Ship, Commit, Abort, Pair, Patch, Merge, Part, Compact, Rebuild, Crash, Join}
 use Rattle.cb_types.specs.declared.reply.Reply.{Reply}
-use Rattle.cb_types.specs.declared.reply.Reply.TheVariants.{Made, Version, Bytes, Done, Left, Moved, Same, Set, Rebuilt, EpochAt, Full, NoRoom, Unmade, Freed, Moving, Unavailable, Range, Pinned, Worn, ScopeFull, NotPinned, NotHere, NoSlot, NoSpans, NoNodes, Whole, Stuck, Down, Up}
+use Rattle.cb_types.specs.declared.reply.Reply.TheVariants.{Made, Version, Bytes, Done, Left, Moved, Same, Set, Batch, Shipped, AllShipped, Rebuilt, EpochAt, Full, NoRoom, Unmade, Freed, Moving, Unavailable, Range, Pinned, Worn, ScopeFull, NotPinned, NotHere, NoSlot, NoSpans, NoNodes, Leaving, NoNode, NoBatch, Short, Whole, Stuck, Down, Up}
 use Rattle.cb_types.specs.Requests.{name_of}
 
 -- a space, and then the word
@@ -73,6 +73,9 @@ word_of (Left pins) = codes "left"
 word_of Moved = codes "moved"
 word_of Same = codes "same"
 word_of (Set set) = codes "set"
+word_of (Batch set) = codes "batch"
+word_of (Shipped position) = codes "shipped"
+word_of AllShipped = codes "allshipped"
 word_of (EpochAt epoch) = codes "epoch"
 word_of ScopeFull = codes "scopefull"
 word_of NotPinned = codes "notpinned"
@@ -80,6 +83,9 @@ word_of NotHere = codes "nothere"
 word_of (NoSlot frames) = codes "noslot"
 word_of (NoSpans loose) = codes "nospans"
 word_of (NoNodes nodes) = codes "nonodes"
+word_of (Leaving set) = codes "leaving"
+word_of NoNode = codes "nonode"
+word_of NoBatch = codes "nobatch"
 word_of (Whole gone) = codes "whole"
 word_of (Down node) = codes "down"
 word_of (Up node) = codes "up"
@@ -92,10 +98,13 @@ number_of (Range len) = Some len
 number_of (Pinned count) = Some count
 number_of (Left pins) = Some pins
 number_of (Set set) = Some set.n
+number_of (Batch set) = Some set.n
+number_of (Shipped position) = Some position
 number_of (EpochAt epoch) = Some epoch.n
 number_of (NoSlot frames) = Some frames
 number_of (NoSpans loose) = Some loose
 number_of (NoNodes nodes) = Some nodes
+number_of (Leaving set) = Some set.n
 number_of (Whole gone) = Some gone
 number_of (Down node) = Some node.n
 number_of (Up node) = Some node.n
@@ -108,6 +117,10 @@ number_text (Some number) = spaced (decimal number)
 -- a lost shard behind a space: its node, `@` and the epoch of its crash
 abbrev pub loss_text : Loss → List ℕ
 loss_text loss = spaced (decimal loss.node.n) ++ 64 ∷ decimal loss.epoch.n
+
+-- a position behind a space
+abbrev pub position_text : ℕ → List ℕ
+position_text position = spaced (decimal position)
 
 -- The words of a reply, each behind a space: a version with its `v`, and bytes in lower-case
 -- hexadecimal; numbers by their names; else one word, and a number where it has one.
@@ -125,6 +138,7 @@ reply_text (Rebuilt set position node) =
     spaced (codes "rebuilt") ++ counted (codes "set") set.n ++ counted (codes "position") position
     ++ counted (codes "node") node.n
 reply_text (Stuck set) = spaced (codes "stuck") ++ counted (codes "set") set.n
+reply_text (Short positions) = spaced (codes "short") ++ flat_map position_text positions
 reply_text reply = spaced (word_of reply) ++ number_text (number_of reply)
 
 -- the line of an answer: the lane, the verb, the name or node, the reply and a line feed

@@ -1,6 +1,6 @@
 ghost use Rattle.std.specs.Prelude.{◌≡◌, ◌++◌, OnOk, codes};
 ghost use Rattle.std.specs.List.{flat_map};
-ghost use Rattle.cb_text.specs.Line.{counted, loss_text, number_of, reply_text, spaced, word_of};
+ghost use Rattle.cb_text.specs.Line.{counted, loss_text, number_of, position_text, reply_text, spaced, word_of};
 
 use crate::word::{push_counted, push_hexadecimal, push_number, push_version, push_word};
 use cb_types::{Loss, NoMemory, NodeId, Reply, SetId};
@@ -29,6 +29,7 @@ pub(crate) fn push_reply(text: &mut Vec<u8>, reply: &Reply) -> Result<(), NoMemo
             node,
         } => push_rebuilt(text, *set, *position, *node),
         Reply::Stuck { set } => push_set(text, b"stuck", *set),
+        Reply::Short { positions } => push_short(text, positions.as_slice()),
         _ => {
             push_word(text, word(reply).as_bytes())?;
             match number(reply) {
@@ -56,6 +57,9 @@ fn word(reply: &Reply) -> &'static str
         Reply::Moved => "moved",
         Reply::Same => "same",
         Reply::Set { .. } => "set",
+        Reply::Batch { .. } => "batch",
+        Reply::Shipped { .. } => "shipped",
+        Reply::AllShipped => "allshipped",
         Reply::EpochAt { .. } => "epoch",
         Reply::ScopeFull => "scopefull",
         Reply::NotPinned => "notpinned",
@@ -63,6 +67,9 @@ fn word(reply: &Reply) -> &'static str
         Reply::NoSlot { .. } => "noslot",
         Reply::NoSpans { .. } => "nospans",
         Reply::NoNodes { .. } => "nonodes",
+        Reply::Leaving { .. } => "leaving",
+        Reply::NoNode => "nonode",
+        Reply::NoBatch => "nobatch",
         Reply::Whole { .. } => "whole",
         Reply::Down { .. } => "down",
         Reply::Up { .. } => "up",
@@ -80,10 +87,13 @@ fn number(reply: &Reply) -> Option<u64>
         Reply::Pinned { count } => Some(u64::from(*count)),
         Reply::Left { pins } => Some(u64::from(*pins)),
         Reply::Set { set } => Some(set.n),
+        Reply::Batch { set } => Some(set.n),
+        Reply::Shipped { position } => Some(u64::from(*position)),
         Reply::EpochAt { epoch } => Some(epoch.n),
         Reply::NoSlot { frames } => Some(u64::from(*frames)),
         Reply::NoSpans { loose } => Some(u64::from(*loose)),
         Reply::NoNodes { nodes } => Some(u64::from(*nodes)),
+        Reply::Leaving { set } => Some(set.n),
         Reply::Whole { gone } => Some(u64::from(*gone)),
         Reply::Down { node } => Some(u64::from(node.n)),
         Reply::Up { node } => Some(u64::from(node.n)),
@@ -146,5 +156,23 @@ fn push_loss(text: &mut Vec<u8>, loss: Loss) -> Result<(), NoMemory>
     push_number(text, u64::from(loss.node.n))?;
     text.push(b'@')?;
     text.extend_from_slice(Buffer::new().format(loss.epoch.n).as_bytes())?;
+    Ok(())
+}
+
+/// Adds that rows of a batch are not put or were lost, and the positions that show it.
+fn push_short(text: &mut Vec<u8>, positions: &[u8]) -> Result<(), NoMemory>
+    ensures { OnOk result (text.new.items ≡ text.old.items ++ reply_text (Reply.Short positions.now)) }
+{
+    push_word(text, b"short")?;
+    push_positions(text, positions)
+}
+
+/// Adds each position behind a space.
+fn push_positions(text: &mut Vec<u8>, positions: &[u8]) -> Result<(), NoMemory>
+    ensures { OnOk result (text.new.items ≡ text.old.items ++ flat_map position_text positions.now) }
+{
+    for position in positions {
+        push_number(text, u64::from(*position))?;
+    }
     Ok(())
 }

@@ -1,5 +1,5 @@
 use super::*;
-use cb_types::{Bytes, Handle, Lane, Name, NoMemory, NodeId, Reply, Request};
+use cb_types::{Bytes, Handle, Lane, Name, NoMemory, NodeId, Positions, Reply, Request};
 use std::alloc::Global;
 use std::test::Fail;
 
@@ -43,5 +43,15 @@ fn lines_are_exact(rt: HostRuntime) -> Result<(), Fail> {
     };
     let line = line_text(alloc, lane, &crash, &Reply::Worn)?;
     assert_eq!(rt; line.as_slice(), b"1 crash 5 worn\n".as_slice());
+    Ok(())
+}
+
+#[test]
+fn positions_are_in_order(rt: HostRuntime) -> Result<(), Fail> {
+    let short = Reply::Short {
+        positions: Positions::copy_of(&[0, 2, 13]),
+    };
+    let line = line_text(rt.alloc(), Lane { n: 1 }, &Request::Commit, &short)?;
+    assert_eq!(rt; line.as_slice(), b"1 commit short 0 2 13\n".as_slice());
     Ok(())
 }
