@@ -1,0 +1,72 @@
+ghost use Rattle.std.specs.Prelude.{◌≡◌, ◌≢◌, ℕ, ◌^◌, ◌<◌, All, IfOk, IsOk, IsSome, None, Option, Some, length};
+ghost use Rattle.std.specs.List.{AllPairs};
+ghost use Rattle.std.specs.FinMap as map;
+ghost use Rattle.cb_frame.specs.FreeFrames.{IsFree};
+ghost use Rattle.cb_member.specs.declared.names.Shard.{Shard};
+ghost use Rattle.cb_set.specs.SetState.{with_shard};
+ghost use Rattle.cb_span.specs.Contents.{Contents};
+ghost use Rattle.cb_world.specs.declared.shown.Shown.{Shown};
+ghost use Rattle.cb_world.specs.FarState.{span_in};
+ghost use Rattle.cb_world.specs.Performs.{Performs};
+ghost use Rattle.cb_world.specs.Reserved.{put_shards};
+ghost use Rattle.cb_world.specs.Sets.{Kept};
+ghost use Rattle.cb_world.specs.Sound.{Sound};
+ghost use Rattle.cb_world.specs.World.{IsConfigured};
+ghost use Rattle.cb_evict.specs.Candidates.{AreUnique};
+ghost use Rattle.cb_evict.specs.Closing.{HaveHomes, with_homes};
+ghost use Rattle.cb_evict.specs.CommitRule.{CommitEffect, CommitRule, with_batch};
+ghost use Rattle.cb_evict.specs.Committing.{IsKeptFor};
+
+use crate::closing::close_spans;
+use crate::sending::send;
+use crate::waiting::waiting_positions;
+use cb_member::Shard;
+use cb_types::{NoMemory, Reply, SetId};
+use cb_world::{Desk, Far, Leaving, Sets};
+
+/// Commits the batch that is leaving: its set is a committed one with the shards whose rows were put,
+/// its objects are far and have their homes there, and its frames are free. No batch is leaving then.
+///
+/// Refuses with NoBatch where none is leaving, and then with Short where rows were not put or were lost
+/// since; their positions are told in order, and the batch stays. Looks at the batch's objects and
+/// positions alone; takes no memory.
+pub fn commit<D: Desk>(desk: &mut D, far: &mut Far) -> Result<Reply, NoMemory>
+    requires configured { IsConfigured (D.settings desk.old) far.old }
+    requires sound { (s : Shown) × D.shows desk.old s × Sound s far.old }
+    ensures memory { IsOk result }
+    ensures commit { IfOk result (λ reply. Performs (λ es. D.run desk.old es desk.new)
+        (λ s. D.shows desk.old s × Sound s far.old)
+        (CommitRule far.old far.new reply)
+        (λ t. Sound t far.new)
+        (CommitEffect far.old far.new reply)) }
+{
+    let Some(batch) = far.leaving.take() else {
+        return Ok(Reply::NoBatch);
+    };
+    let positions = waiting_positions(&batch.shards, &far.members);
+    if !positions.as_slice().is_empty() {
+        far.leaving = Some(batch);
+        return Ok(Reply::Short { positions });
+    }
+    send(desk, &batch.words);
+    keep_batch(far, &batch);
+    Ok(Reply::Set {
+        set: SetId { n: batch.set },
+    })
+}
+
+/// Commits the set of a batch all of whose rows are put, gives the objects of its spans their homes
+/// there, and the frames back. Takes no memory.
+fn keep_batch(far: &mut Far, batch: &Leaving)
+    requires kept { IsKeptFor far.old.sets batch.now }
+    requires whole { (p : ℕ) (o : Option Shard) → p < length batch.now.shards → IsSome (slice_index_or batch.now.shards p None) }
+    requires there { All (λ f. (span : Contents) × (span_in far.old.spans f ≡ Some span))
+        batch.now.frames }
+    requires unique { AreUnique far.old.spans (length far.old.homes) }
+    requires apart { AllPairs (λ f g. f ≢ g) batch.now.frames }
+    requires within { All (λ f. (f < length far.old.frames) × (f < length far.old.spans))
+        batch.now.frames }
+    requires busy { All (λ f. ¬ (IsFree far.old.frames f)) batch.now.frames }
+    requires few { length batch.now.frames < 2 ^ 32 }
+{
+}
