@@ -56,7 +56,7 @@ impl KeptSet {
         self.set.set_shard(position, shard);
     }
 
-    /// Makes the set a committed one.
+    /// Marks the set as committed. Takes no memory.
     fn commit(&mut self)
         ensures { self.new ≡ record self.old { committed = true } }
     {
@@ -175,11 +175,11 @@ impl Sets {
         }
     }
 
-    /// Makes the set of that number a committed one, in place. Where there is no such set nothing
+    /// Marks the set of that number as committed, in place; where there is no such set nothing
     /// changes. Takes no memory.
     pub fn commit(&mut self, id: u64)
-        ensures committed { (kept : Kept) → map.get self.old id ≡ Some kept
-            → self.new ≡ map.insert self.old id (record kept { committed = true }) }
+        ensures committed { (kept : Kept) → map.get self.old id ≡ Some kept → self.new
+            ≡ map.insert self.old id (record kept { committed = true }) }
         ensures none { map.get self.old id ≡ None → self.new ≡ self.old }
     {
         if let Some(kept) = self.sets.get_mut(&id) {
