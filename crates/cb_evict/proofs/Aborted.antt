@@ -21,11 +21,12 @@ use Rattle.cb_world.specs.Sets.{set_in}
 use Rattle.cb_world.specs.SetAdded.{is_far}
 use Rattle.cb_world.specs.Sound.{Sound}
 use Rattle.cb_world.proofs.Added.{was_far}
+use Rattle.cb_world.proofs.BatchGone.{batch_given_up_whole, gone_sets}
 use Rattle.cb_world.proofs.NowKept.{now_kept}
 use Rattle.cb_evict.specs.Claims.{IsNone}
 use Rattle.cb_evict.specs.Restoring.{IsHereAt, AreRestored}
 use Rattle.cb_evict.proofs.Claims.{among, no_former}
-use Rattle.cb_evict.proofs.Noted.{claimed_all, none_claimed, stamp_of, sets_without}
+use Rattle.cb_evict.proofs.Noted.{claimed_all, none_claimed, stamp_of}
 
 none_some : {X : Type 0} (a : X) → None ≡ Some a → ⊥
 none_some a e = cc
@@ -149,9 +150,8 @@ module _ (s t : Shown) (far : FarState) (batch : LeavingState) (sound : Sound s 
   ]
 
   -- the world is sound then
-  pub sound_restored : LocalSound t far → FarSound s (without_batch far batch)
-      → Sound t (without_batch far batch)
-  sound_restored here away = record {
+  pub sound_restored : LocalSound t far → Sound t (without_batch far batch)
+  sound_restored here = record {
     here = here_without t far batch here;
     noted = λ b at. absurd (none_some b at);
     claimed = λ h len place v words e. elim (among batch.words h) [
@@ -160,7 +160,8 @@ module _ (s t : Shown) (far : FarState) (batch : LeavingState) (sound : Sound s 
       | inr none ↦ absurd (none_claimed s far batch sound there h len place v words none
           (sym (r.others h none) ∙ e))
     ];
-    away = quiet_away s t (without_batch far batch) refl all_quiet away;
+    away = quiet_away s t (without_batch far batch) refl all_quiet
+        (batch_given_up_whole s far batch sound.away there (sound.noted batch there).reserved);
   }
 
   gone_same : (h : ℕ) → is_gone (without_batch far batch) h ≡ is_gone far h
@@ -168,7 +169,7 @@ module _ (s t : Shown) (far : FarState) (batch : LeavingState) (sound : Sound s 
     where
       by : (o : Option Home) → broken_home (without_batch far batch) o ≡ broken_home far o
       by None = refl
-      by (Some home) = ap (broken_set far.members) (sets_without s far batch sound there home.set)
+      by (Some home) = ap (broken_set far.members) (gone_sets far batch (sound.noted batch there).reserved home.set)
 
   -- and the last complete contents of each object stay
   pub now_restored : (h : ℕ) → now t (without_batch far batch) h ≡ now s far h

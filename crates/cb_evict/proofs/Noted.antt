@@ -1,15 +1,10 @@
 -- What the notes of a leaving batch say of its objects.
-use Rattle.std.proofs.Common.{◌≡◌, ◌≢◌, ℕ, ◌^◌, ◌<◌, ◌≤◌, false, true, Bool, cond, List, [], ◌∷◌, length, get_or, All, Option, Some, None, sym, refl, ap, ◌∙◌, subst, arith, inl, inr}
+use Rattle.std.proofs.Common.{◌≡◌, ◌≢◌, ℕ, ◌^◌, ◌<◌, List, length, get_or, All, Option, Some, None, sym, refl, ap, ◌∙◌, subst, arith, inl, inr}
 use Rattle.std.specs.List.{Contains}
-use Rattle.std.specs.FinMap as map
-use Rattle.std.specs.Ordering.{nat_cmp, eq_by_cmp}
-use Rattle.std.specs.Cmp.{nat_cmp_total}
-use Rattle.std.proofs.lemmas.Bool.{cases_eq, cases_lt, cases_order}
-use Rattle.std.proofs.lemmas.Bool.Decides.{nat_tests}
+use Rattle.std.proofs.lemmas.Bool.{cases_lt, cases_order}
 use Rattle.std.proofs.lemmas.List.{get_or_default, get_or_past}
 use Rattle.std.proofs.lemmas.List.Elements.{All-contains}
 use Rattle.cb_ptr.specs.Word.{len_of, place_of}
-use Rattle.cb_set.specs.SetState.{SetState}
 use Rattle.cb_span.specs.Contents.{Contents}
 use Rattle.cb_world.specs.declared.leaving.Former.{Former}
 use Rattle.cb_world.specs.declared.object.Object.{Object}
@@ -21,8 +16,6 @@ use Rattle.cb_world.specs.Grasped.{IsFree}
 use Rattle.cb_world.specs.Leaving.{LeavingState}
 use Rattle.cb_world.specs.LocalSound.{IsStamped}
 use Rattle.cb_world.specs.Memory.{window, words_for}
-use Rattle.cb_world.specs.Reserved.{IsReserved, without_batch}
-use Rattle.cb_world.specs.Sets.{Kept, SetMap, set_in, if_committed}
 use Rattle.cb_world.specs.Sound.{AreNoted, IsNoted, Sound}
 use Rattle.cb_evict.specs.Claims.{IsNone}
 use Rattle.cb_evict.specs.Restoring.{IsClaimedFrom}
@@ -115,31 +108,3 @@ module _ (s : Shown) (far : FarState) (batch : LeavingState) (sound : Sound s fa
       → object_at s h ≡ is.Claimed len place v words → version_at s h ≡ v
   stamp_of h len place v words e =
       subst (λ (o : Object). IsStamped o (version_at s h)) e (sound.here.known.stamped h)
-
-  -- the set of the batch is not committed
-  pub reserved_open : set_in far.sets batch.set ≡ None
-  reserved_open = ap if_committed noted.reserved.kept
-
-  by_cmp-other : (q k : ℕ) → q ≢ k → eq_by_cmp nat_cmp q k ≡ false
-  by_cmp-other q k other = grind (arith, nat_tests)
-
-  -- so the committed sets are the same without it
-  pub sets_without : (j : ℕ) → set_in (map.remove far.sets batch.set) j ≡ set_in far.sets j
-  sets_without j = elim (cases_eq j batch.set) [
-    | inl e ↦ ap (set_in (map.remove far.sets batch.set)) e
-        ∙ ap if_committed (removed far.sets batch.set)
-        ∙ sym (ap (set_in far.sets) e ∙ reserved_open)
-    | inr off ↦ ap if_committed (removed_other far.sets batch.set j off)
-  ]
-    where
-      by_cmp-same : (k : ℕ) → eq_by_cmp nat_cmp k k ≡ true
-      by_cmp-same k = grind (arith, nat_tests)
-
-      removed : (sets : SetMap) (id : ℕ) → map.get (map.remove sets id) id ≡ None
-      removed sets id = map.get-remove nat_cmp_total sets id id
-          ∙ ap (λ (b : Bool). cond b None (map.get sets id)) (by_cmp-same id)
-
-      removed_other : (sets : SetMap) (id j : ℕ) → j ≢ id
-          → map.get (map.remove sets id) j ≡ map.get sets j
-      removed_other sets id j off = map.get-remove nat_cmp_total sets id j
-          ∙ ap (λ (b : Bool). cond b None (map.get sets j)) (by_cmp-other j id off)

@@ -1,34 +1,11 @@
 -- The shards of a batch whose rows were put.
 use Rattle.std.proofs.Common.{◌≡◌, ℕ, zero, suc, ◌+◌, ◌<◌, List, [], ◌∷◌, length, drop, get_or, Option, None, Some, sym, refl, ap, ◌∙◌, arith, drop-cons}
 use Rattle.std.specs.List.{slice_get}
-use Rattle.std.proofs.lemmas.Option.{slice_get-get_or}
 use Rattle.cb_member.specs.declared.names.Shard.{Shard}
 use Rattle.cb_node.specs.NodesState.{NodesState, with_dropped}
 use Rattle.cb_world.specs.Reserved.{put_shards}
 use Rattle.cb_world.specs.Stored.{AreThere, all_dropped}
-
-some_same : {X : Type 0} (a b : X) → Some a ≡ Some b → a ≡ b
-some_same a b e = cc
-
-none_some : {X : Type 0} (a : X) → None ≡ Some a → ⊥
-none_some a e = cc
-
--- a shard that was put is one of them
-pub put_at : (shards : List (Option Shard)) (i : ℕ) (shard : Shard)
-    → slice_get shards i ≡ Some (Some shard) → (p : ℕ) × (slice_get (put_shards shards) p ≡ Some shard)
-put_at [] i shard e = absurd (none_some (Some shard) e)
-put_at (None ∷ shards) zero shard e = absurd (none_some shard (some_same None (Some shard) e))
-put_at (None ∷ shards) (suc i) shard e = put_at shards i shard e
-put_at (Some x ∷ shards) zero shard e = (0, some_same (Some x) (Some shard) e)
-put_at (Some x ∷ shards) (suc i) shard e = let r = put_at shards i shard e in (suc r.0, r.1)
-
--- each of them was put for a position
-pub put_from : (shards : List (Option Shard)) (p : ℕ) (shard : Shard)
-    → slice_get (put_shards shards) p ≡ Some shard → (i : ℕ) × (slice_get shards i ≡ Some (Some shard))
-put_from [] p shard e = absurd (none_some shard e)
-put_from (None ∷ shards) p shard e = let r = put_from shards p shard e in (suc r.0, r.1)
-put_from (Some x ∷ shards) zero shard e = (0, ap (λ (o : Option Shard). Some o) e)
-put_from (Some x ∷ shards) (suc p) shard e = let r = put_from shards p shard e in (suc r.0, r.1)
+use Rattle.cb_world.proofs.BatchGone.{put_at}
 
 -- the loop's step: one position less
 drops_one : (nodes new : NodesState) (o : Option Shard) (rest : List (Option Shard))

@@ -1,4 +1,4 @@
-ghost use Rattle.std.specs.Prelude.{◌≡◌, ◌≢◌, ℕ, ◌^◌, ◌<◌, All, IfOk, IsOk, IsSome, None, Option, Some, length};
+ghost use Rattle.std.specs.Prelude.{◌≡◌, ◌≢◌, ℕ, ◌^◌, ◌<◌, All, IfOk, IsOk, None, Some, length};
 ghost use Rattle.std.specs.List.{AllPairs};
 ghost use Rattle.std.specs.FinMap as map;
 ghost use Rattle.cb_frame.specs.FreeFrames.{IsFree};
@@ -8,14 +8,14 @@ ghost use Rattle.cb_span.specs.Contents.{Contents};
 ghost use Rattle.cb_world.specs.declared.shown.Shown.{Shown};
 ghost use Rattle.cb_world.specs.FarState.{span_in};
 ghost use Rattle.cb_world.specs.Performs.{Performs};
-ghost use Rattle.cb_world.specs.Reserved.{put_shards};
+ghost use Rattle.cb_world.specs.Reserved.{put_shards, set_from};
 ghost use Rattle.cb_world.specs.Sets.{Kept};
 ghost use Rattle.cb_world.specs.Sound.{Sound};
 ghost use Rattle.cb_world.specs.World.{IsConfigured};
 ghost use Rattle.cb_evict.specs.Candidates.{AreUnique};
 ghost use Rattle.cb_evict.specs.Closing.{HaveHomes, with_homes};
 ghost use Rattle.cb_evict.specs.CommitRule.{CommitEffect, CommitRule, with_batch};
-ghost use Rattle.cb_evict.specs.Committing.{IsKeptFor};
+ghost use Rattle.cb_evict.specs.Committing.{AreAllPut, HasPlaces, with_shards};
 
 use crate::closing::close_spans;
 use crate::sending::send;
@@ -58,8 +58,9 @@ pub fn commit<D: Desk>(desk: &mut D, far: &mut Far) -> Result<Reply, NoMemory>
 /// Commits the set of a batch all of whose rows are put, gives the objects of its spans their homes
 /// there, and the frames back. Takes no memory.
 fn keep_batch(far: &mut Far, batch: &Leaving)
-    requires kept { IsKeptFor far.old.sets batch.now }
-    requires whole { (p : ℕ) (o : Option Shard) → p < length batch.now.shards → IsSome (slice_index_or batch.now.shards p None) }
+    requires kept { HasPlaces far.old.sets batch.now.set batch.now.shards }
+    requires whole { AreAllPut batch.now.shards }
+    requires numbered { length batch.now.shards < 2 ^ 32 }
     requires there { All (λ f. (span : Contents) × (span_in far.old.spans f ≡ Some span))
         batch.now.frames }
     requires unique { AreUnique far.old.spans (length far.old.homes) }
@@ -68,5 +69,42 @@ fn keep_batch(far: &mut Far, batch: &Leaving)
         batch.now.frames }
     requires busy { All (λ f. ¬ (IsFree far.old.frames f)) batch.now.frames }
     requires few { length batch.now.frames < 2 ^ 32 }
+    ensures state { (kept : Kept) → map.get far.old.sets batch.now.set ≡ Some kept
+        → far.new ≡ with_homes (record far.old {
+          sets = map.insert far.old.sets batch.now.set
+              (record (with_shards kept (put_shards batch.now.shards)) { committed = true });
+        }) batch.now.frames far.new.homes }
+    ensures homes { HaveHomes far.old.spans batch.now.frames batch.now.set far.old.homes
+        far.new.homes }
 {
+    commit_set(&mut far.sets, batch.set, &batch.shards);
+    close_spans(far, batch.set, &batch.frames);
+}
+
+/// Names the shards of a batch, all of whose rows are put, in the set that is kept for it, and makes it
+/// a committed one. Takes no memory.
+fn commit_set(sets: &mut Sets, id: u64, shards: &[Option<Shard>])
+    requires kept { HasPlaces sets.old id shards.now }
+    requires whole { AreAllPut shards.now }
+    requires numbered { length shards.now < 2 ^ 32 }
+    ensures committed { (kept : Kept) → map.get sets.old id ≡ Some kept → sets.new
+        ≡ map.insert sets.old id
+        (record (with_shards kept (put_shards shards.now)) { committed = true }) }
+{
+    for (p, shard) in shards.iter().enumerate() {
+        name_shard(sets, id, p as u32, *shard);
+    }
+    sets.commit(id);
+}
+
+/// Names the shard of a position, if its row was put, in a kept set.
+fn name_shard(sets: &mut Sets, id: u64, position: u32, shard: Option<Shard>)
+    requires kept { (kept : Kept) × (map.get sets.old id ≡ Some kept)
+        × (position < length kept.set.shards) }
+    ensures named { (kept : Kept) (s : Shard) → map.get sets.old id ≡ Some kept → shard ≡ Some s
+        → sets.new ≡ map.insert sets.old id (record kept { set = with_shard kept.set position s }) }
+{
+    if let Some(shard) = shard {
+        sets.set_shard(id, position, shard);
+    }
 }
