@@ -155,13 +155,12 @@ added_away s t far new id set rows sound x = record {
     | inr moved ↦ (record { set = id; position = moved.position; slot = moved.slot }, moved.home)
   ];
   home = λ h home at. elim (x.each h) [
-    | inl stays ↦ let y = sound.away.home h home (sym stays.home ∙ at) in
-        (
-          y.0,
-          ap if_committed (x.others home.set (old_number s t far new id set rows x home.set y.0 y.1))
-              ∙ y.1,
-          y.2,
-        )
+    | inl stays ↦ let y = sound.away.home h home (sym stays.home ∙ at) in (
+      y.0,
+      ap if_committed (x.others home.set (old_number s t far new id set rows x home.set y.0 y.1))
+          ∙ y.1,
+      y.2,
+    )
     | inr moved ↦ let e =
         home_same (record {
           set = id;
@@ -223,12 +222,11 @@ split_shard s t far new id set rows x (of_joining p) shard is =
 keep_shard : (s t : Shown) (far new : FarState) (id : ℕ) (set : SetState) (rows : List (List ℕ))
     → AwaySound s far → IsSetAdded s t far new id set rows → (o : Owner) (shard : Shard)
     → IsShardOf far o shard → IsShardOf new o shard
-keep_shard s t far new id set rows sound x (of_set j p) shard is =
-    (
-      is.0,
-      ap if_committed (x.others j (old_number s t far new id set rows x j is.0 is.1)) ∙ is.1,
-      is.2,
-    )
+keep_shard s t far new id set rows sound x (of_set j p) shard is = (
+  is.0,
+  ap if_committed (x.others j (old_number s t far new id set rows x j is.0 is.1)) ∙ is.1,
+  is.2,
+)
 keep_shard s t far new id set rows sound x (of_leaving p) shard is = (is.0, x.leaving ∙ is.1, is.2)
 keep_shard s t far new id set rows sound x (of_joining p) shard is = (is.0, x.joining ∙ is.1, is.2)
 

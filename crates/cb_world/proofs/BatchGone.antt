@@ -1,5 +1,5 @@
 -- The far part of the sound world once the batch that is leaving is given up.
-use Rattle.std.proofs.Common.{◌≡◌, ◌≢◌, ℕ, zero, suc, ◌<◌, ◌≤◌, Bool, true, false, cond, List, [], ◌∷◌, length, Option, Some, None, sym, refl, ap, ◌∙◌, subst, arith, inl, inr}
+use Rattle.std.proofs.Common.{◌≡◌, ℕ, zero, suc, Bool, true, false, cond, List, [], ◌∷◌, Option, Some, None, sym, refl, ap, ◌∙◌, arith, inl, inr}
 use Rattle.std.specs.List.{slice_get}
 use Rattle.std.specs.FinMap as map
 use Rattle.std.specs.Cmp.{nat_cmp_total}
@@ -17,8 +17,8 @@ use Rattle.cb_world.specs.Join.{IsFresh, IsJoin}
 use Rattle.cb_world.specs.Joining.{JoiningState}
 use Rattle.cb_world.specs.Leaving.{LeavingState}
 use Rattle.cb_world.specs.Reserved.{IsReserved, put_shards, without_batch}
-use Rattle.cb_world.specs.Sets.{Kept, set_in, if_committed}
-use Rattle.cb_world.specs.Stored.{AreThere, NoKey}
+use Rattle.cb_world.specs.Sets.{set_in, if_committed}
+use Rattle.cb_world.specs.Stored.{AreThere}
 use Rattle.cb_world.proofs.Joined.{pair_kept}
 use Rattle.cb_world.proofs.Reserving.{reserved_uncommitted}
 use Rattle.cb_world.proofs.SetsLeft.{drop_count, drop_fewer, drop_there}
@@ -128,8 +128,7 @@ gone_rows s far batch sound there x = record {
   counted = drop_count far.nodes (put_shards batch.shards) ∙ sound.rows.counted;
   owned = λ node key row at.
       let y = sound.rows.owned node key row (drop_fewer far.nodes (put_shards batch.shards) node key
-      row (put_there s far batch sound.rows there) at) in
-      (
+      row (put_there s far batch sound.rows there) at) in (
         y.0,
         y.1,
         still_shard far batch x y.0 y.1 (other y.0 y.1 node key row at y.2 y.3 y.4) y.2,

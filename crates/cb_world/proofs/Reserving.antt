@@ -1,16 +1,15 @@
 -- What a change of anything else leaves of the batch that is leaving and of the set kept for it.
-use Rattle.std.proofs.Common.{◌≡◌, ◌≢◌, ℕ, suc, ◌+◌, ◌<◌, ◌≤◌, Bool, true, false, All, List, [], ◌∷◌, Option, Some, None, Contains, length, get_or, map as mapped, sym, refl, ap, ◌∙◌, subst, arith}
+use Rattle.std.proofs.Common.{◌≡◌, ◌≢◌, ℕ, suc, ◌+◌, ◌≤◌, false, List, [], ◌∷◌, Option, Some, None, Contains, get_or, map as mapped, sym, refl, ap, ◌∙◌, arith}
 use Rattle.std.specs.FinMap as map
 use Rattle.cb_member.specs.declared.names.Shard.{Shard}
 use Rattle.cb_set.specs.SetState.{PositionState, SetState, set_of}
 use Rattle.cb_span.specs.Contents.{Contents, handle_at}
-use Rattle.cb_world.specs.declared.leaving.Former.{Former}
 use Rattle.cb_world.specs.declared.shown.Shown.{Shown}
-use Rattle.cb_world.specs.FarState.{FarState, span_in, handle_in, resident}
+use Rattle.cb_world.specs.FarState.{FarState, span_in, handle_in}
 use Rattle.cb_world.specs.Leaving.{LeavingState}
-use Rattle.cb_world.specs.Reserved.{IsReserved, IsUnpaired, position_for, set_from, table_of}
+use Rattle.cb_world.specs.Reserved.{IsReserved, IsUnpaired, position_for}
 use Rattle.cb_world.specs.Sets.{Kept, set_in, if_committed}
-use Rattle.cb_world.specs.Sound.{AreNoted, IsNoted, Leaves}
+use Rattle.cb_world.specs.Sound.{AreNoted, IsNoted}
 
 -- the spans of the frames that are leaving, the set that is kept for them and the numbers stay
 pub record KeepsReserved (far new : FarState) (batch : LeavingState) : Type 0 where

@@ -1,25 +1,22 @@
 -- Worked examples of a batch that is leaving: a state where its objects are noted and its set is
 -- kept, and for each fact one that breaks it.
-use Rattle.std.proofs.Common.{◌≡◌, ◌≢◌, ℕ, zero, suc, ◌<◌, ◌≤◌, true, false, All, List, [], ◌∷◌, Option, None, Some, Contains, length, replicate, get_or, refl, ap, subst, sym, ◌∙◌, lit<, lit≤, arith}
-use Rattle.std.specs.List.{AllPairs}
+use Rattle.std.proofs.Common.{◌≡◌, ℕ, zero, suc, ◌<◌, true, false, List, [], ◌∷◌, None, Some, Contains, length, get_or, refl, ap, subst, sym, ◌∙◌, lit<, lit≤, arith}
 use Rattle.std.specs.FinMap as map
 use Rattle.cb_gf256.specs.InRange.{IsInRange}
-use Rattle.cb_member.specs.declared.names.NodeId.{NodeId}
 use Rattle.cb_member.specs.declared.names.Shard.{Shard}
 use Rattle.cb_set.specs.SetState.{SetState}
-use Rattle.cb_span.specs.declared.temp.Temp.TheVariants.{Cold}
-use Rattle.cb_span.specs.Contents.{Contents, handle_at, span_of}
+use Rattle.cb_span.specs.Contents.{Contents, handle_at}
 use Rattle.cb_world.specs.declared.leaving.Former.{Former}
 use Rattle.cb_world.specs.declared.object.Object.TheVariants as is
 use Rattle.cb_world.specs.declared.shown.Shown.{Shown}
 use Rattle.cb_world.specs.FarState.{FarState, span_in, resident}
 use Rattle.cb_world.specs.Joining.{JoiningState}
 use Rattle.cb_world.specs.Leaving.{LeavingState}
-use Rattle.cb_world.specs.Reserved.{IsReserved, IsUnpaired, put_shards, set_from, without_batch}
+use Rattle.cb_world.specs.Reserved.{IsReserved, put_shards, set_from, without_batch}
 use Rattle.cb_world.specs.Sets.{Kept, SetMap}
 use Rattle.cb_world.specs.Sound.{AreNoted, IsNoted, Leaves}
 use Rattle.cb_world.proofs.Apart.{some_same}
-use Rattle.cb_world.proofs.WorkedWorld.{far, known as still, span, largest}
+use Rattle.cb_world.proofs.WorkedWorld.{far, known as still, span}
 
 abbrev at : ℕ → ℕ → Shard
 at n key = record { node = record { n = n }; incarnation = 0; key = key }
@@ -50,10 +47,13 @@ kept_as set = record { set = set; committed = false }
 abbrev set : SetState
 set = set_from 5 blank far.spans (0 ∷ [])
 
+abbrev one_set : ℕ → Kept → SetMap
+one_set id kept = map.insert map.empty id kept
+
 -- the far state that keeps this set under this number
 abbrev keeping : ℕ → Kept → LeavingState → FarState
 keeping id kept b = record far {
-  sets = map.insert map.empty id kept;
+  sets = one_set id kept;
   leaving = Some b;
   counts = record far.counts { sets = 6; keys = 4 };
 }
@@ -61,10 +61,10 @@ keeping id kept b = record far {
 abbrev leaving : FarState
 leaving = keeping 5 (kept_as set) batch
 
-there : (id : ℕ) (kept : Kept) → map.get (map.insert map.empty id kept) id ≡ Some kept
+there : (id : ℕ) (kept : Kept) → map.get (one_set id kept) id ≡ Some kept
 there id kept = grind (arith, map.gets)
 
-not_there : (kept : Kept) → map.get (map.insert map.empty 4 kept) 5 ≡ None
+not_there : (kept : Kept) → map.get (one_set 4 kept) 5 ≡ None
 not_there kept = grind (arith, map.gets)
 
 some_kept : (a b : Kept) → Some a ≡ Some b → a ≡ b
@@ -196,6 +196,5 @@ no_batch_then = refl
 no_set_then : map.get (without_batch leaving batch).sets 5 ≡ None
 no_set_then = gone 5 (kept_as set)
   where
-    gone : (id : ℕ) (kept : Kept)
-        → map.get (map.remove (map.insert map.empty id kept) id) id ≡ None
+    gone : (id : ℕ) (kept : Kept) → map.get (map.remove (one_set id kept) id) id ≡ None
     gone id kept = grind (arith, map.gets)
