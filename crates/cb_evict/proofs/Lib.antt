@@ -27,3 +27,11 @@ mod WorkedEvict
 mod WorkedEvictStep
 mod WorkedSetMade
 mod EmptyWorld
+mod Restores
+mod PutShards
+mod Noted
+mod Aborted
+mod SmallWords
+mod NamesShards
+mod BatchCommitted
+pub mod AbortStep

@@ -22,7 +22,7 @@ use Rattle.cb_evict.specs.Restoring.{IsClaimedFrom}
 use Rattle.cb_evict.proofs.Claims.{among, no_former}
 use Rattle.cb_evict.proofs.Standing.{named_at, names_span}
 
-same_batch : (a b : LeavingState) → Some a ≡ Some b → a ≡ b
+pub same_batch : (a b : LeavingState) → Some a ≡ Some b → a ≡ b
 same_batch a b e = cc
 
 never_claimed : (len place v : ℕ) (words : List ℕ) → never ≡ is.Claimed len place v words → ⊥

@@ -11,3 +11,10 @@ pub mod EvictRule
 pub mod EvictEffect
 pub mod EvictStep
 pub mod Evicting
+pub mod Waiting
+pub mod Restoring
+pub mod AbortRule
+pub mod AbortStep
+pub mod Committing
+pub mod CommitRule
+pub mod CommitStep
