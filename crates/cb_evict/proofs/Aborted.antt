@@ -1,8 +1,10 @@
 -- The sound world once its leaving batch is given up.
-use Rattle.std.proofs.Common.{◌≡◌, ◌⊎◌, ℕ, ◌<◌, Bool, List, length, get_or, Option, Some, None, sym, refl, ap, ◌∙◌, subst, arith, inl, inr}
+use Rattle.std.proofs.Common.{◌≡◌, ◌⊎◌, ℕ, ◌<◌, Bool, List, [], length, get_or, Option, Some, None, sym, refl, ap, ◌∙◌, subst, arith, inl, inr}
 use Rattle.std.proofs.lemmas.List.Elements.{All-contains}
 use Rattle.cb_ptr.specs.Word.{len_of, place_of}
 use Rattle.cb_set.specs.SetState.{SetState}
+use Rattle.cb_types.specs.declared.reply.Reply.TheVariants as answer
+use Rattle.cb_world.specs.declared.event.Event.{Event}
 use Rattle.cb_world.specs.declared.homes.Home.{Home}
 use Rattle.cb_world.specs.declared.leaving.Former.{Former}
 use Rattle.cb_world.specs.declared.object.Object.{Object}
@@ -15,6 +17,9 @@ use Rattle.cb_world.specs.Homes.{home_at}
 use Rattle.cb_world.specs.Leaving.{LeavingState}
 use Rattle.cb_world.specs.LocalSound.{LocalSound}
 use Rattle.cb_world.specs.Memory.{window, words_for, bytes_in}
+use Rattle.cb_world.specs.Performs.{Performs}
+use Rattle.cb_world.specs.Played.{played}
+use Rattle.cb_world.specs.Still.{IsStill}
 use Rattle.cb_world.specs.Now.{held, broken_set, broken_home, is_gone, now_as, now}
 use Rattle.cb_world.specs.Reserved.{without_batch}
 use Rattle.cb_world.specs.Sets.{set_in}
@@ -23,10 +28,13 @@ use Rattle.cb_world.specs.Sound.{Sound}
 use Rattle.cb_world.proofs.Added.{was_far}
 use Rattle.cb_world.proofs.BatchGone.{batch_given_up_whole, gone_sets}
 use Rattle.cb_world.proofs.NowKept.{now_kept}
+use Rattle.cb_evict.specs.AbortRule.{AbortRule, AbortEffect, IsAborted, IsOfBatch}
 use Rattle.cb_evict.specs.Claims.{IsNone}
-use Rattle.cb_evict.specs.Restoring.{IsHereAt, AreRestored}
+use Rattle.cb_evict.specs.Claiming.{IsOne}
+use Rattle.cb_evict.specs.Restoring.{IsHereAt, AreRestored, IsRestoring, Restores}
 use Rattle.cb_evict.proofs.Claims.{among, no_former}
-use Rattle.cb_evict.proofs.Noted.{claimed_all, none_claimed, stamp_of}
+use Rattle.cb_evict.proofs.Events.{touches_more}
+use Rattle.cb_evict.proofs.Noted.{claimed_all, none_claimed, same_batch, stamp_of}
 
 none_some : {X : Type 0} (a : X) → None ≡ Some a → ⊥
 none_some a e = cc
@@ -189,3 +197,79 @@ module _ (s t : Shown) (far : FarState) (batch : LeavingState) (sound : Sound s 
         (λ len place at. ap (λ (ms : List ℕ). window ms place (words_for len)) r.memory)
         (gone_same h)
   ]
+
+-- ---- the call
+-- the far state in which it ends
+pub given_up_state : (inside far new : FarState) (batch : LeavingState) (o : Option LeavingState)
+    → inside ≡ far → o ≡ None
+    → new ≡ record (without_batch inside batch) { leaving = o } → new ≡ without_batch far batch
+given_up_state inside far new batch o same none is =
+    is ∙ ap (λ (q : Option LeavingState). record (without_batch inside batch) { leaving = q }) none
+    ∙ ap (λ (f : FarState). without_batch f batch) same
+
+-- where none is leaving it is left
+pub untaken_state : (inside far : FarState) (o : Option LeavingState) → inside ≡ far
+    → far.leaving ≡ None → o ≡ None → record inside { leaving = o } ≡ far
+untaken_state inside far o same none gone =
+    ap (λ (q : Option LeavingState). record inside { leaving = q })
+    (gone ∙ sym (ap (λ (f : FarState). f.leaving) same ∙ none)) ∙ same
+
+-- nothing is done
+pub still_none : (s : Shown) → IsStill [] s s
+still_none s =
+    record { objects = refl; hots = refl; versions = refl; memory = refl; nothing = λ old. refl }
+
+pub not_aborted : (runs : List Event → Type 0) (shows : Shown → Type 0) (far new : FarState)
+    → runs [] → far.leaving ≡ None → new ≡ far
+    → Performs runs (λ s. shows s × Sound s far) (AbortRule far new answer.NoBatch)
+    (λ t. Sound t new) (AbortEffect far new)
+not_aborted runs shows far new ran none state = record {
+  events = [];
+  ran = ran;
+  looks_first = tt;
+  rule = record { answered = inl (record { none = none; reply = refl; state = state }); touches = tt };
+  allowed = λ s k. tt;
+  sound_after = λ s k. subst (λ (f : FarState). Sound s f) (sym state) k.1;
+  effect = λ s k. record {
+    aborted = λ b there. absurd (none_some b (sym none ∙ there));
+    left = λ e. still_none s;
+  };
+}
+
+-- the batch is given up
+pub aborts : (runs : List Event → Type 0) (shows : Shown → Type 0) (far new : FarState)
+    (batch : LeavingState) → far.leaving ≡ Some batch → new ≡ without_batch far batch
+    → ((s : Shown) → shows s → length s.hots ≡ length s.objects)
+    → Restores runs shows batch.words
+    → Performs runs (λ s. shows s × Sound s far) (AbortRule far new answer.Done)
+    (λ t. Sound t new) (AbortEffect far new)
+aborts runs shows far new batch there state warm r = record {
+  events = r.events;
+  ran = r.ran;
+  looks_first = r.first;
+  rule = record {
+    answered = inr (record { batch = batch; there = there; reply = refl; state = state });
+    touches = touches_more (IsOne batch.words) (IsOfBatch far) (λ p. ⊥) (λ p. ⊥) r.events
+        (λ h one. (batch, there, one)) (λ p x. x) r.touches;
+  };
+  allowed = λ s k. (restoring s k).allowed;
+  sound_after = λ s k. subst (λ (f : FarState). Sound (played r.events s) f) (sym state)
+      (sound_restored s (played r.events s) far batch k.1 there (warm s k.0) (restoring s k).restored
+      (restoring s k).sound);
+  effect = λ s k. record {
+    aborted = λ b at.
+        let z : IsAborted far (without_batch far batch) batch r.events s (played r.events s) = record {
+          back = (restoring s k).restored;
+          nothing = (restoring s k).nothing;
+          same_now = now_restored s (played r.events s) far batch k.1 there (warm s k.0)
+              (restoring s k).restored;
+        } in
+        subst (λ (c : LeavingState). IsAborted far new c r.events s (played r.events s))
+        (same_batch batch b (sym there ∙ at))
+        (subst (λ (f : FarState). IsAborted far f batch r.events s (played r.events s)) (sym state) z);
+    left = λ none. absurd (none_some batch (sym none ∙ there));
+  };
+}
+  where
+    restoring : (s : Shown) → shows s × Sound s far → IsRestoring far r.events s batch.words
+    restoring s k = r.restored s far k.0 k.1.here (claimed_all s far batch k.1 there (warm s k.0))

@@ -17,7 +17,11 @@ use Rattle.cb_world.specs.Leaving.{LeavingState}
 use Rattle.cb_world.specs.LocalSound.{IsStamped}
 use Rattle.cb_world.specs.Memory.{window, words_for}
 use Rattle.cb_world.specs.Sound.{AreNoted, IsNoted, Sound}
-use Rattle.cb_evict.specs.Claims.{IsNone}
+use Rattle.cb_world.specs.FarSound.{of_leaving}
+use Rattle.cb_world.specs.Reserved.{put_shards}
+use Rattle.cb_world.specs.Stored.{AreThere}
+use Rattle.cb_world.proofs.BatchGone.{put_from}
+use Rattle.cb_evict.specs.Claims.{AreApart, IsNone}
 use Rattle.cb_evict.specs.Restoring.{IsClaimedFrom}
 use Rattle.cb_evict.proofs.Claims.{among, no_former}
 use Rattle.cb_evict.proofs.Standing.{named_at, names_span}
@@ -108,3 +112,15 @@ module _ (s : Shown) (far : FarState) (batch : LeavingState) (sound : Sound s fa
       → object_at s h ≡ is.Claimed len place v words → version_at s h ≡ v
   stamp_of h len place v words e =
       subst (λ (o : Object). IsStamped o (version_at s h)) e (sound.here.known.stamped h)
+
+  -- no two notes are on one object
+  pub noted_apart : AreApart batch.words
+  noted_apart = noted.each_once
+
+  -- the nodes of the shards whose rows were put are there
+  pub nodes_there : AreThere far.nodes (put_shards batch.shards)
+  nodes_there p shard at =
+      let rows = sound.away.sound.rows in
+      let x = put_from batch.shards p shard at in
+      let c = (rows.current (of_leaving x.0) shard (batch, there, x.1)).0 in
+      omega (arith, c, rows.counted)

@@ -11,7 +11,6 @@ pub mod EvictRule
 pub mod EvictEffect
 pub mod EvictStep
 pub mod Evicting
-pub mod Waiting
 pub mod Restoring
 pub mod AbortRule
 pub mod AbortStep

@@ -15,7 +15,6 @@ mod sending;
 mod storing;
 #[cfg(test)]
 mod tests;
-mod waiting;
 
 pub use aborting::abort;
 pub use committing::commit;
