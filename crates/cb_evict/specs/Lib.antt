@@ -11,3 +11,4 @@ pub mod EvictRule
 pub mod EvictEffect
 pub mod EvictStep
 pub mod Evicting
+pub mod Waiting

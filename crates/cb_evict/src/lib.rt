@@ -12,5 +12,6 @@ mod sending;
 mod storing;
 #[cfg(test)]
 mod tests;
+mod waiting;
 
 pub use evicting::evict_now;
