@@ -27,7 +27,7 @@ use Rattle.cb_world.specs.Grasped.{IsFree}
 use Rattle.cb_world.specs.Homes.{home_at}
 use Rattle.cb_world.specs.Plain.{Words}
 use Rattle.cb_world.specs.Seats.{SeatState}
-use Rattle.cb_world.specs.Sets.{set_in}
+use Rattle.cb_world.specs.Sets.{set_in, if_committed}
 use Rattle.cb_world.specs.StillDesk.{bits_here}
 use Rattle.cb_world.specs.Stored.{all_put}
 use Rattle.cb_world.specs.World.{word_at, IsKnown, IsConfigured, ArePinned}
@@ -302,9 +302,9 @@ pub evict_old_set : (x y : Words) (far new : FarState) (r : Reply) (id : ℕ) (s
 evict_old_set x y far new r id set step below there =
     by_step (λ u f. set_in f.sets id ≡ Some set) x y far new r step there
     (λ m. ap (λ (f : FarState). set_in f.sets id) m.evicted.state
-    ∙ set_others far.sets far.counts.sets id
+    ∙ ap if_committed (set_others far.sets far.counts.sets id
     (set_for far m.evicted.shards (take x.settings.k (loose_frames x far)))
-    (λ e. omega (arith, below, e)) ∙ there)
+    (λ e. omega (arith, below, e))) ∙ there)
 
 -- the home of an object that was not here stays
 pub evict_home : (x y : Words) (far new : FarState) (r : Reply) (h : ℕ)

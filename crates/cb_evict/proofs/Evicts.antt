@@ -37,14 +37,17 @@ use Rattle.cb_world.specs.Leaving.{LeavingState}
 use Rattle.cb_world.specs.FarState.{FarState, span_in, resident, handle_in}
 use Rattle.cb_world.specs.LocalSound.{LocalSound, LiesAt, IsStamped}
 use Rattle.cb_world.specs.SetAdded.{is_far, IsMoved, IsSetAdded}
+use Rattle.cb_world.specs.Reserved.{table_of}
 use Rattle.cb_world.specs.FarSound.{HoldsObject, batch_rows}
 use Rattle.cb_world.specs.Sound.{Sound, AreNoted, IsLeaving}
+use Rattle.cb_world.specs.Sets.{Kept, if_committed}
 use Rattle.cb_world.specs.SetWord.{IsSpanWord}
 use Rattle.cb_world.proofs.Windows.{window_at, window_same}
 use Rattle.cb_world.proofs.Apart.{slot_inside, some_same}
 use Rattle.cb_world.proofs.Bridge.{put_only}
 use Rattle.cb_world.proofs.Freed.{one_slot}
 use Rattle.cb_world.proofs.Storing.{put_there, put_elsewhere}
+use Rattle.cb_world.proofs.Reserving.{noted_by}
 use Rattle.cb_world.proofs.Unmoved.{KeepsLeaving, batch_kept}
 use Rattle.cb_world.proofs.Whole.{added_whole}
 use Rattle.cb_world.specs.Placed.{leaving_frames}
@@ -55,13 +58,13 @@ use Rattle.cb_evict.specs.Closing.{HaveHomes, with_homes}
 use Rattle.cb_evict.specs.Evicting.{AreTaken}
 use Rattle.cb_evict.specs.Looking.{IsIn}
 use Rattle.cb_evict.specs.Sending.{IsTold, IsSent, AreSent}
-use Rattle.cb_evict.specs.Storing.{AreShards, set_for, with_set, slots_of as table_of}
+use Rattle.cb_evict.specs.Storing.{AreShards, set_for, with_set}
 use Rattle.cb_evict.proofs.Claims.{among, no_former}
 use Rattle.cb_evict.specs.EvictEffect.{HasLeft, IsEvicted}
 use Rattle.cb_evict.specs.EvictRule.{HasEvicted}
 use Rattle.cb_evict.proofs.Gone.{LeftMemory, sound_gone, closed_in, in_or_out}
 use Rattle.cb_evict.proofs.Homing.{closed_else}
-use Rattle.cb_evict.proofs.NewSet.{shards_within, shards_apart, keys_apart, shards_distinct, shards_up, shards_current, set_count, position_at, slot_is, slot_named, set_lives, set_live, set_added_in, set_others}
+use Rattle.cb_evict.proofs.NewSet.{shards_within, shards_apart, keys_apart, shards_distinct, shards_up, shards_current, set_count, position_at, slot_is, slot_named, set_lives, set_live, set_added_in, set_others, fresh_number}
 use Rattle.cb_evict.proofs.Owned.{row_slot, frame_stays}
 use Rattle.cb_evict.proofs.Putting.{put_count}
 use Rattle.cb_evict.proofs.Standing.{IsReadyFrame, ready_frame, are_unique, not_among, named_at, names_span}
@@ -305,23 +308,25 @@ module _ (c : Config) (far : FarState) (frames : List ℕ) (formers : List Forme
 
   pub noted : (b : LeavingState) → far.leaving ≡ Some b
       → AreNoted u (after_far far frames shards rows homes) b
-  noted b there = record {
-    held = λ f leaves. let x = (d.sound.noted b there).held f leaves in
-        (x.0, closed_else far.spans frames f (out_all f (leaving_out b there f leaves)) ∙ x.1);
-    each = λ f slot h span leaves at named.
-        let was : span_in far.spans f ≡ Some span =
-        sym (closed_else far.spans frames f (out_all f (leaving_out b there f leaves))) ∙ at in
-        let n = (d.sound.noted b there).each f slot h span leaves was named in record {
-          former = n.former;
-          noted = n.noted;
-          handle = n.handle;
-          free = n.free;
-          below = n.below;
-          version = n.version;
-          words = n.words;
-          claimed = stays_put h (leaving_none b there f slot h span leaves was named) ∙ n.claimed;
-        };
-  }
+  noted b there =
+    let was = d.sound.noted b there in
+    let drawn = was.reserved.drawn in
+    noted_by s u far (after_far far frames shards rows homes) b (record {
+      spans = λ f leaves. closed_else far.spans frames f (out_all f (leaving_out b there f leaves));
+      sets = set_others far.sets far.counts.sets b.set (set_for far shards frames)
+          (λ e. absurd (omega (arith, drawn, e)));
+      drawn = omega arith;
+      unpaired = λ apart. apart;
+    }) (λ f slot h span leaves at named n. record {
+      former = n.former;
+      noted = n.noted;
+      handle = n.handle;
+      free = n.free;
+      below = n.below;
+      version = n.version;
+      words = n.words;
+      claimed = stays_put h (leaving_none b there f slot h span leaves at named) ∙ n.claimed;
+    }) was
 
   -- a claimed object stands in a frame that is leaving, as before
   claimed_then : (h len place v : ℕ) (words : List ℕ) → object_at u h ≡ is.Claimed len place v words
@@ -427,10 +432,13 @@ module _ (c : Config) (far : FarState) (frames : List ℕ) (formers : List Forme
         some_live = (0, set_live far s shards frames head.span d.sound.here some head.there);
         added = set_added_in far.sets far.counts.sets (set_for far shards frames);
         others = λ j off. set_others far.sets far.counts.sets j (set_for far shards frames) off;
-        drawn = (omega arith, omega arith, omega arith);
+        fresh = fresh_number s far d.sound.away.sound;
+        drawn = (omega arith, omega arith);
         keys = λ p shard at. let e = (d.chosen.each p shard at).key in
-            let w = slice_get_within shards p shard at in
-            (omega (arith, e), omega (arith, e, w));
+            let w = slice_get_within shards p shard at in omega (arith, e, w);
+        fresh_keys = λ o a is p shard at same.
+            let e = (d.chosen.each p shard at).key in
+            let less = d.sound.away.sound.rows.drawn o a is in omega (arith, e, less, same);
         more_keys = omega arith;
         keys_apart = shards_apart far (c.k + c.r) shards d.chosen;
         up = shards_up far (c.k + c.r) shards d.chosen d.sound.away.sound.rows;
@@ -445,6 +453,8 @@ module _ (c : Config) (far : FarState) (frames : List ℕ) (formers : List Forme
         members = refl;
         leaving = refl;
         joining = refl;
+        unpaired = λ pair at. let j = (d.sound.away.join pair at).drawn in
+            ((λ e. omega (arith, j.0, e)), (λ e. omega (arith, j.1, e)));
         batch = batches;
         each = λ h. elim (among formers h) [
           | inl (i, l, e) ↦ inr (moved x near h
@@ -570,7 +580,7 @@ module _ (c : Config) (far : FarState) (frames : List ℕ) (formers : List Forme
   other_home h (Some home) e =
       let x = d.sound.away.sound.away.home h home e in
       let less = d.sound.away.sound.sets.numbered home.set x.0 x.1 in
-      ap (λ (o : Option SetState). broken_set far.members o)
+      ap (λ (o : Option Kept). broken_set far.members (if_committed o))
       (set_others far.sets far.counts.sets home.set (set_for far shards frames)
       (λ same. absurd (omega (arith, less, same))))
 

@@ -6,7 +6,7 @@ use Rattle.cb_set.specs.SetState.{SetState, PositionState, dead_position, with_p
 use Rattle.std.specs.Option.{option_map, IsSome}
 use Rattle.cb_span.specs.Contents.{Contents}
 use Rattle.cb_world.specs.FarState.{span_in}
-use Rattle.cb_evict.specs.Storing.{position_for}
+use Rattle.cb_world.specs.Reserved.{position_for}
 
 -- the first n positions have the slot tables of the spans in the first n frames
 pub record IsFilled (spans : List (Option Contents)) (frames : List ℕ) (n : ℕ) (old new : SetState)

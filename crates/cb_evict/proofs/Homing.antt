@@ -13,7 +13,7 @@ use Rattle.cb_world.specs.declared.homes.Home.{Home}
 use Rattle.cb_world.specs.Homes.{home_at}
 use Rattle.cb_world.specs.FarState.{FarState, span_in, resident, handle_in}
 use Rattle.cb_evict.specs.Candidates.{AreUnique}
-use Rattle.cb_evict.specs.Storing.{slots_of}
+use Rattle.cb_world.specs.Reserved.{table_of}
 use Rattle.cb_evict.specs.Closing.{all_given, all_closed, HasHomes, HaveHomes, with_homes, ClosesSpan}
 use Rattle.cb_evict.proofs.Putting.{taken_at}
 use Rattle.cb_evict.proofs.Sharing.{get_pushed}
@@ -168,7 +168,7 @@ none_before frames n apart within i d l e =
         default : get_or frames n 0 ≡ get_or frames n d
         default = get_or_from_slice_get frames n (get_or frames n d) 0 (slice_get-get_or frames n d within)
 
-slots_resident : (o : Option Contents) (slot : ℕ) → get_or (slots_of o) slot None ≡ handle_in o slot
+slots_resident : (o : Option Contents) (slot : ℕ) → get_or (table_of o) slot None ≡ handle_in o slot
 slots_resident None slot = refl
 slots_resident (Some span) slot = refl
 
@@ -237,7 +237,7 @@ closed_more far now new frames n id a x apart within unique =
     let next = next_frame far now frames n id a apart within unique in
     let count : length (take n frames) ≡ n = length-take-le n frames (omega (arith, within)) in
     let at : slice_get frames n ≡ Some f = slice_get-get_or frames n 0 within in
-    let named : (slot h : ℕ) → get_or (slots_of (span_in now.spans f)) slot None ≡ resident far.spans f slot =
+    let named : (slot h : ℕ) → get_or (table_of (span_in now.spans f)) slot None ≡ resident far.spans f slot =
     λ slot h. slots_resident (span_in now.spans f) slot
     ∙ ap (λ (o : Option Contents). handle_in o slot) next.span in
     subst (λ (l : List ℕ). AreClosed far new l id) (sym more) (record {
@@ -305,19 +305,19 @@ object_below slots n count now below same = step (get_or slots n None) refl
     step (Some h) e = let b = below n h e in omega (arith, b, same)
 
 slot_in : (spans : List (Option Contents)) (f : ℕ) (slots : List (Option ℕ)) (slot h : ℕ)
-    → slots ≡ slots_of (span_in spans f) → get_or slots slot None ≡ Some h
+    → slots ≡ table_of (span_in spans f) → get_or slots slot None ≡ Some h
     → resident spans f slot ≡ Some h
 slot_in spans f slots slot h same named = sym (slots_resident (span_in spans f) slot)
     ∙ ap (λ (l : List (Option ℕ)). get_or l slot None) (sym same) ∙ named
 
 pub slots_below : (spans : List (Option Contents)) (f n : ℕ) (slots : List (Option ℕ))
-    → AreUnique spans n → slots ≡ slots_of (span_in spans f)
+    → AreUnique spans n → slots ≡ table_of (span_in spans f)
     → (slot h : ℕ) → get_or slots slot None ≡ Some h → h < n
 slots_below spans f n slots u same slot h named =
     u.below f h (slot, slot_in spans f slots slot h same named)
 
 pub slots_apart : (spans : List (Option Contents)) (f n : ℕ) (slots : List (Option ℕ))
-    → AreUnique spans n → slots ≡ slots_of (span_in spans f)
+    → AreUnique spans n → slots ≡ table_of (span_in spans f)
     → (i j h : ℕ) → get_or slots i None ≡ Some h → get_or slots j None ≡ Some h → i ≡ j
 slots_apart spans f n slots u same i j h a b =
     u.one_slot f i j h (slot_in spans f slots i h same a) (slot_in spans f slots j h same b)

@@ -22,12 +22,13 @@ use Rattle.cb_set.specs.Nodes.{OnDistinctNodes}
 use Rattle.cb_span.specs.Contents.{Contents}
 use Rattle.cb_world.specs.declared.shown.Shown.{Shown}
 use Rattle.cb_world.specs.FarState.{FarState, span_in, resident, handle_in}
-use Rattle.cb_world.specs.FarSound.{AreRows}
+use Rattle.cb_world.specs.FarSound.{AreRows, AwaySound}
 use Rattle.cb_world.specs.LocalSound.{LocalSound}
 use Rattle.cb_world.specs.SetWord.{AreCurrent}
+use Rattle.cb_world.specs.Reserved.{table_of, position_for}
 use Rattle.cb_world.specs.Sets.{Kept, SetMap, set_in, if_committed}
 use Rattle.cb_world.proofs.Storing.{InRange, KeysApart}
-use Rattle.cb_evict.specs.Storing.{AreShards, CanPut, slots_of, position_for, set_for}
+use Rattle.cb_evict.specs.Storing.{AreShards, CanPut, set_for}
 
 some_same : {X : Type 0} (a b : X) → Some a ≡ Some b → a ≡ b
 some_same a b e = cc
@@ -142,7 +143,7 @@ position_past far shards frames p past =
     get_or_past (mapped (position_for far.spans) frames) p dead_position
     (let n = length-map frames (position_for far.spans) in omega (arith, n, past))
 
-slots_resident : (o : Option Contents) (slot : ℕ) → get_or (slots_of o) slot None ≡ handle_in o slot
+slots_resident : (o : Option Contents) (slot : ℕ) → get_or (table_of o) slot None ≡ handle_in o slot
 slots_resident None slot = refl
 slots_resident (Some span) slot = refl
 
@@ -191,7 +192,7 @@ set_live far s shards frames span sound some there =
     set_lives far shards frames 0
     ∙ ap (λ (c : PositionState). list_any (λ slot. is_some slot) c.slots)
     (position_at far shards frames 0 (omega (arith, some)))
-    ∙ ap (λ (o : Option Contents). list_any (λ slot. is_some slot) (slots_of o)) there
+    ∙ ap (λ (o : Option Contents). list_any (λ slot. is_some slot) (table_of o)) there
     ∙ any_taken span.slots (sound.frames.taken (get_or frames 0 0) span there)
 
 -- ---- the sets with the new one
@@ -209,8 +210,19 @@ set_added_in sets id set =
     ∙ ap (λ (b : Bool). cond b (Some kept) (map.get sets id)) (by_cmp-same id))
 
 pub set_others : (sets : SetMap) (id j : ℕ) (set : SetState) → j ≢ id
-    → set_in (map.insert sets id (record { set = set; committed = true })) j ≡ set_in sets j
+    → map.get (map.insert sets id (record { set = set; committed = true })) j ≡ map.get sets j
 set_others sets id j set off =
     let kept : Kept = record { set = set; committed = true } in
-    ap if_committed (map.get-insert nat_cmp_total sets id kept j
-    ∙ ap (λ (b : Bool). cond b (Some kept) (map.get sets j)) (by_cmp-other j id off))
+    map.get-insert nat_cmp_total sets id kept j
+    ∙ ap (λ (b : Bool). cond b (Some kept) (map.get sets j)) (by_cmp-other j id off)
+
+-- no set has the next number
+pub fresh_number : (s : Shown) (far : FarState) → AwaySound s far
+    → set_in far.sets far.counts.sets ≡ None
+fresh_number s far sound = by (set_in far.sets far.counts.sets) refl
+  where
+    by : (o : Option SetState) → set_in far.sets far.counts.sets ≡ o
+        → set_in far.sets far.counts.sets ≡ None
+    by None e = e
+    by (Some set) e = let less = sound.sets.numbered far.counts.sets set e in
+        absurd (omega (arith, less))

@@ -6,8 +6,8 @@ use Rattle.cb_span.specs.Contents.{Contents}
 use Rattle.cb_world.specs.declared.homes.Home.{Home}
 use Rattle.cb_world.specs.Homes.{home_at}
 use Rattle.cb_world.specs.FarState.{FarState, span_in, resident}
+use Rattle.cb_world.specs.Reserved.{table_of}
 use Rattle.cb_evict.specs.Candidates.{Names}
-use Rattle.cb_evict.specs.Storing.{slots_of}
 
 -- the frames that are free once these are given back
 abbrev pub all_given : List Bool → List ℕ → List Bool
@@ -54,4 +54,4 @@ pub record ClosesSpan (far new : FarState) (set position f : ℕ) : Type 0 where
     spans = slice_set far.spans f None;
     homes = new.homes;
   }
-  pub homes : HasHomes (slots_of (span_in far.spans f)) set position far.homes new.homes
+  pub homes : HasHomes (table_of (span_in far.spans f)) set position far.homes new.homes

@@ -1,15 +1,15 @@
 -- The rows of a new set, and the set.
-use Rattle.std.specs.Prelude.{◌≡◌, ℕ, ◌+◌, ◌<◌, ◌++◌, true, false, List, [], Option, None, Some, length, map as mapped, take, slice_get}
+use Rattle.std.specs.Prelude.{◌≡◌, ℕ, ◌+◌, ◌<◌, ◌++◌, true, false, List, Some, length, take, slice_get}
 use Rattle.std.specs.FinMap as map
 use Rattle.cb_gf256.specs.Rows.{HoldBytes}
 use Rattle.cb_gf256.specs.CodeWord.{IsCodeWord}
 use Rattle.cb_member.specs.declared.names.Shard.{Shard}
 use Rattle.cb_member.specs.Membership.{incarnation}
 use Rattle.cb_node.specs.NodesState.{NodesState, has}
-use Rattle.cb_set.specs.SetState.{SetState, PositionState, filled_position, set_of}
-use Rattle.cb_span.specs.Contents.{Contents}
+use Rattle.cb_set.specs.SetState.{SetState}
 use Rattle.cb_world.specs.Choices.{IsLeastNode}
-use Rattle.cb_world.specs.FarState.{FarState, span_in}
+use Rattle.cb_world.specs.FarState.{FarState}
+use Rattle.cb_world.specs.Reserved.{set_from}
 use Rattle.cb_world.specs.Stored.{all_put}
 
 -- the shard for a position: on the least node of those with room on which no earlier shard stands,
@@ -36,18 +36,9 @@ pub record CanPut (nodes : NodesState) (shards : List Shard) : Type 0 where
   pub fresh : (p : ℕ) (shard : Shard) → slice_get shards p ≡ Some shard
       → has nodes shard.node shard.key ≡ false
 
--- the slot table of a span
-abbrev pub slots_of : Option Contents → List (Option ℕ)
-slots_of None = []
-slots_of (Some span) = span.slots
-
--- the position of the span in a frame
-abbrev pub position_for : List (Option Contents) → ℕ → PositionState
-position_for spans f = filled_position (slots_of (span_in spans f))
-
--- the set of the spans in some frames, each at its place
+-- the set of the spans in some frames, with the next number
 abbrev pub set_for : FarState → List Shard → List ℕ → SetState
-set_for far shards frames = set_of far.counts.sets shards (mapped (position_for far.spans) frames)
+set_for far shards frames = set_from far.counts.sets shards far.spans frames
 
 -- the far state with that set, whose rows are put at its shards' nodes; its number and the keys of
 -- its rows are drawn

@@ -4,7 +4,7 @@ ghost use Rattle.cb_frame.specs.FreeFrames.{IsFree, with_given};
 ghost use Rattle.cb_span.specs.Contents.{Contents};
 ghost use Rattle.cb_world.specs.FarState.{span_in};
 ghost use Rattle.cb_evict.specs.Candidates.{AreUnique};
-ghost use Rattle.cb_evict.specs.Storing.{slots_of};
+ghost use Rattle.cb_world.specs.Reserved.{table_of};
 ghost use Rattle.cb_evict.specs.Closing.{HasHomes, HaveHomes, ClosesSpan, with_homes};
 
 use cb_frame::Frames;
@@ -57,7 +57,7 @@ fn take_out(
     requires unique { AreUnique spans.old (length homes.old) }
     requires busy { ¬ (IsFree free.old frame) }
     requires within { (frame < length free.old) × (frame < length spans.old) }
-    ensures homes { HasHomes (slots_of (span_in spans.old frame)) set position homes.old homes.new }
+    ensures homes { HasHomes (table_of (span_in spans.old frame)) set position homes.old homes.new }
     ensures spans { spans.new ≡ slice_set spans.old frame None }
     ensures free { free.new ≡ with_given free.old frame }
 {

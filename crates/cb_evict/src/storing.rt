@@ -3,12 +3,12 @@ ghost use Rattle.cb_gf256.specs.CodeWord.{IsCodeWord};
 ghost use Rattle.cb_gf256.specs.InRange.{IsInRange};
 ghost use Rattle.cb_gf256.specs.Rows.{row_at, HoldBytes};
 ghost use Rattle.cb_node.specs.NodesState.{NodesState, has, with_row};
-ghost use Rattle.cb_set.specs.SetState.{set_of};
 ghost use Rattle.cb_span.specs.Contents.{Contents};
 ghost use Rattle.cb_world.specs.Choices.{room_count};
 ghost use Rattle.cb_world.specs.FarState.{span_in};
+ghost use Rattle.cb_world.specs.Reserved.{position_for, set_from};
 ghost use Rattle.cb_world.specs.Stored.{all_put};
-ghost use Rattle.cb_evict.specs.Storing.{AreShards, CanPut, KeepsSet, position_for, set_for};
+ghost use Rattle.cb_evict.specs.Storing.{AreShards, CanPut, KeepsSet, set_for};
 
 use cb_code::{coefficients, encode};
 use cb_member::Shard;
@@ -127,8 +127,7 @@ fn make_set(
     requires there { All (λ f. (span : Contents) × (span_in spans.now f ≡ Some span)) frames.now }
     requires few { length shards.now < 2 ^ 32 }
     requires count { length frames.now ≤ length shards.now }
-    ensures set { IfOk result (λ set. set
-        ≡ set_of id shards.now (map (position_for spans.now) frames.now)) }
+    ensures set { IfOk result (λ set. set ≡ set_from id shards.now spans.now frames.now) }
 {
     let k = frames.len() as u32;
     let r = shards.len() as u32 - k;

@@ -35,6 +35,7 @@ use Rattle.cb_world.specs.Sound.{Sound}
 use Rattle.cb_world.proofs.Choices.{number}
 use Rattle.cb_world.proofs.Joined.{pair_kept}
 use Rattle.cb_world.proofs.NodeJoin.{local_stays, noted_stays, claimed_stay}
+use Rattle.cb_world.proofs.Reserving.{reserved_is_other}
 use Rattle.cb_world.proofs.Rebuilt.{rebuilt_word}
 use Rattle.cb_world.proofs.SetChanging.{set_there}
 use Rattle.cb_rebuild.specs.RebuildStep.{IsNewShard, IsRowOf, IsWeak, with_name, with_put}
@@ -146,16 +147,19 @@ module _ (s : Shown) (far : FarState) (id : ℕ) (set : SetState) (p : ℕ) (sha
   here_now : set_in new.sets id ≡ Some rest
   here_now = set_there far.sets id rest
 
-  pub others_stay : (j : ℕ) → j ≢ id → set_in new.sets j ≡ set_in far.sets j
-  others_stay j off =
-      ap if_committed (map.get-insert nat_cmp_total far.sets id kept j
-      ∙ ap (λ (b : Bool). cond b (Some kept) (map.get far.sets j)) other)
+  pub kept_stays : (j : ℕ) → j ≢ id → map.get new.sets j ≡ map.get far.sets j
+  kept_stays j off =
+      map.get-insert nat_cmp_total far.sets id kept j
+      ∙ ap (λ (b : Bool). cond b (Some kept) (map.get far.sets j)) other
     where
       kept : Kept
       kept = record { set = rest; committed = true }
 
       other : eq_by_cmp nat_cmp j id ≡ false
       other = grind (arith, nat_tests)
+
+  pub others_stay : (j : ℕ) → j ≢ id → set_in new.sets j ≡ set_in far.sets j
+  others_stay j off = ap if_committed (kept_stays j off)
 
   each_set : (P : ℕ → SetState → Type 0) → P id rest
       → ((j : ℕ) (c : SetState) → j ≢ id → set_in far.sets j ≡ Some c → P j c)
@@ -443,7 +447,9 @@ pub stood_sound : (s : Shown) (far : FarState) (id : ℕ) (set : SetState) (p : 
     → Sound s (stood far id set p shard row)
 stood_sound s far id set p shard row sound x = record {
   here = local_stays s far (stood far id set p shard row) refl refl refl refl sound.here;
-  noted = noted_stays s far (stood far id set p shard row) refl refl sound.noted;
+  noted = noted_stays s far (stood far id set p shard row) refl refl refl (omega arith)
+      (λ batch at. kept_stays s far id set p shard row x batch.set
+      (reserved_is_other far batch id set (sound.noted batch at).reserved x.there)) sound.noted;
   claimed = claimed_stay s far (stood far id set p shard row) refl refl sound.claimed;
   away = record {
     sound = stood_away s far id set p shard row x;

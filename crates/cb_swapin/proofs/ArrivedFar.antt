@@ -1,5 +1,6 @@
 -- A span has arrived in a free frame: the world is sound, and last complete contents stay.
 use Rattle.std.proofs.Common.{◌≡◌, ◌≢◌, ◌⊎◌, ℕ, false, ◌+◌, ◌*◌, ◌<◌, ◌≤◌, List, Option, Some, None, Contains, length, get_or, set, refl, sym, ap, ◌∙◌, subst, arith, inl, inr}
+use Rattle.std.specs.FinMap as map
 use Rattle.std.proofs.lemmas.Bool.{cases_order}
 use Rattle.std.proofs.lemmas.List.{get_or_past}
 use Rattle.cb_class.proofs.Laws.{object_fits, slot_within}
@@ -29,6 +30,7 @@ use Rattle.cb_world.proofs.Apart.{slot_inside}
 use Rattle.cb_world.proofs.NowKept.{brought_now, now_kept}
 use Rattle.cb_world.proofs.GivenUpNow.{left_gone}
 use Rattle.cb_world.proofs.SetsLeft.{left_count, left_others, left_over}
+use Rattle.cb_world.proofs.Reserving.{noted_by, reserved_is_other}
 use Rattle.cb_world.proofs.Unmoved.{KeepsLeaving, batch_kept}
 use Rattle.cb_world.proofs.Whole.{given_whole}
 use Rattle.cb_world.proofs.Windows.{put_else, window_same}
@@ -92,24 +94,28 @@ arrived_noted : (s t : Shown) (far new : FarState) (id p : ℕ) (set : SetState)
     → far.leaving ≡ Some batch → AreNoted t new batch
 arrived_noted s t far new id p set f n span row x y batch there =
     let k = keeps_leaving s t far new id p set f n span row x y batch there in
-    let noted = x.sound.noted batch there in record {
-      held = λ g leaves. let z = noted.held g leaves in (z.0, k.spans g leaves ∙ z.1);
-      each = λ g slot h other leaves at named.
-          let z = noted.each g slot h other leaves (sym (k.spans g leaves) ∙ at) named in record {
-            former = z.former;
-            noted = z.noted;
-            handle = z.handle;
-            free = z.free;
-            below = z.below;
-            version = z.version;
-            words = z.words;
-            claimed = elim (each_moved s t far new id p set f n span row x y h) [
-              | inl m ↦ absurd (far_claimed m.len m.version (place_of z.former.word)
-                  (len_of z.former.word) z.version m.words z.words (sym m.was ∙ z.claimed))
-              | inr same ↦ same.0 ∙ z.claimed
-            ];
-          };
-    }
+    let was = x.sound.noted batch there in
+    noted_by s t far new batch (record {
+      spans = k.spans;
+      sets = ap (λ m. map.get m batch.set) y.sets
+          ∙ left_others far.sets id batch.set (with_position set p dead_position)
+          (reserved_is_other far batch id set was.reserved x.there);
+      drawn = (let e = ap (λ c. c.sets) y.counts in omega (arith, e));
+      unpaired = λ apart pair at. apart pair (sym y.joining ∙ at);
+    }) (λ g slot h other leaves at named z. record {
+      former = z.former;
+      noted = z.noted;
+      handle = z.handle;
+      free = z.free;
+      below = z.below;
+      version = z.version;
+      words = z.words;
+      claimed = elim (each_moved s t far new id p set f n span row x y h) [
+        | inl m ↦ absurd (far_claimed m.len m.version (place_of z.former.word)
+            (len_of z.former.word) z.version m.words z.words (sym m.was ∙ z.claimed))
+        | inr same ↦ same.0 ∙ z.claimed
+      ];
+    }) was
 
 -- a claimed object stands in a frame that is leaving, and its words stay
 arrived_claimed : (s t : Shown) (far new : FarState) (id p : ℕ) (set : SetState) (f n : ℕ)
@@ -170,7 +176,7 @@ gives_up s t far new id p set f n span row x y = record {
   was = x.there;
   inside = live_within set p x.live;
   rest = dead_is_rest (position_of set p);
-  others = λ j off. ap (λ m. set_in m j) y.sets
+  others = λ j off. ap (λ m. map.get m j) y.sets
       ∙ left_others far.sets id j (with_position set p dead_position) off;
   after = left_over far new id n (with_position set p dead_position) y.sets y.nodes
       (there_of s far id set x.sound.away.sound x.there);

@@ -1,5 +1,5 @@
 -- A fresh set keeps the far part of the world sound.
-use Rattle.std.proofs.Common.{◌≡◌, ◌≢◌, ◌⊎◌, ℕ, ◌<◌, ◌≤◌, true, List, length, Some, is_some, sym, ap, ◌∙◌, subst, arith, inl, inr}
+use Rattle.std.proofs.Common.{◌≡◌, ◌≢◌, ◌⊎◌, ℕ, ◌<◌, ◌≤◌, true, List, length, Option, None, Some, is_some, sym, ap, ◌∙◌, subst, arith, inl, inr}
 use Rattle.std.specs.List.{slice_get, list_any}
 use Rattle.std.proofs.lemmas.Bool.{cases_eq}
 use Rattle.cb_gf256.specs.Rows.{row_at}
@@ -13,11 +13,12 @@ use Rattle.cb_world.specs.declared.shown.Shown.{Shown}
 use Rattle.cb_world.specs.Shown.{object_at}
 use Rattle.cb_world.specs.declared.homes.Home.{Home}
 use Rattle.cb_world.specs.FarState.{FarState}
-use Rattle.cb_world.specs.Sets.{set_in}
+use Rattle.cb_world.specs.Sets.{set_in, if_committed}
 use Rattle.cb_world.specs.Homes.{home_at}
 use Rattle.cb_world.specs.Leaving.{LeavingState}
 use Rattle.cb_world.specs.SetWord.{IsShaped, IsSpanWord}
 use Rattle.cb_world.specs.FarSound.{HoldsObject, IsSetWord, AreSets, AreAway, AreRows, Owner, of_set, of_leaving, of_joining, IsShardOf, IsBatch, batch_rows, AwaySound}
+use Rattle.cb_world.specs.Stored.{NoKey}
 use Rattle.cb_world.specs.SetAdded.{is_far, IsUntouched, IsSetAdded}
 
 pub set_same : (a b : SetState) → Some a ≡ Some b → a ≡ b
@@ -54,14 +55,13 @@ old_object s t far new id set rows row slots slot h x holds = elim (x.each h) [
 
 old_word : (s t : Shown) (far new : FarState) (id : ℕ) (set : SetState) (rows : List (List ℕ))
     (old : SetState) (word : List (List ℕ)) → IsSetAdded s t far new id set rows
-    → ((p : ℕ) (shard : Shard) → slice_get old.shards p ≡ Some shard → shard.key < far.counts.keys)
+    → ((p : ℕ) (shard : Shard) → slice_get old.shards p ≡ Some shard → NoKey set.shards shard.key)
     → IsSetWord s far.nodes far.members old word → IsSetWord t new.nodes new.members old word
 old_word s t far new id set rows old word x keys y = record {
   word = record {
     code = y.word.code;
     survive = λ p shard at kept.
-        x.stay shard.node shard.key (λ q other there same. let a = x.keys q other there in let b =
-        keys p shard at in absurd (omega (arith, a.0, b, same)))
+        x.stay shard.node shard.key (keys p shard at)
         ∙ y.word.survive p shard at (ap (λ (m : Membership). is_lost m shard) (sym x.members)
         ∙ kept);
   };
@@ -87,6 +87,16 @@ new_word s t far new id set rows x = record {
   ];
 }
 
+some_none : (o : Option SetState) (set : SetState) → o ≡ None → o ≡ Some set → ⊥
+some_none o set e f = cc
+
+-- a set that is there has another number than the fresh one
+old_number : (s t : Shown) (far new : FarState) (id : ℕ) (set : SetState) (rows : List (List ℕ))
+    → IsSetAdded s t far new id set rows → (j : ℕ) (other : SetState)
+    → set_in far.sets j ≡ Some other → j ≢ id
+old_number s t far new id set rows x j other at same =
+    some_none (set_in far.sets id) other x.fresh (ap (set_in far.sets) (sym same) ∙ at)
+
 pub added_sets : (s t : Shown) (far new : FarState) (id : ℕ) (set : SetState) (rows : List (List ℕ))
     → AwaySound s far → IsSetAdded s t far new id set rows → AreSets t new
 added_sets s t far new id set rows sound x = record {
@@ -105,7 +115,7 @@ added_sets s t far new id set rows sound x = record {
     | inr off ↦ let y = sound.sets.worded j other (old j other at off) in (
       y.0,
       old_word s t far new id set rows other y.0 x (λ p shard is.
-          sound.rows.drawn (of_set j p) shard (other, old j other at off, is)) y.1,
+          x.fresh_keys (of_set j p) shard (other, old j other at off, is)) y.1,
     )
   ];
   live = λ j p other at. elim (cases_eq j id) [
@@ -121,8 +131,8 @@ added_sets s t far new id set rows sound x = record {
     | inr off ↦ sound.sets.kept j other (old j other at off)
   ];
   numbered = λ j other at. elim (cases_eq j id) [
-    | inl here ↦ omega (arith, here, x.drawn.1)
-    | inr off ↦ omega (arith, sound.sets.numbered j other (old j other at off), x.drawn.2)
+    | inl here ↦ omega (arith, here, x.drawn.0)
+    | inr off ↦ omega (arith, sound.sets.numbered j other (old j other at off), x.drawn.1)
   ];
 }
   where
@@ -131,7 +141,7 @@ added_sets s t far new id set rows sound x = record {
 
     old : (j : ℕ) (other : SetState) → set_in new.sets j ≡ Some other → j ≢ id
         → set_in far.sets j ≡ Some other
-    old j other at off = sym (x.others j off) ∙ at
+    old j other at off = sym (ap if_committed (x.others j off)) ∙ at
 
 pub home_same : (a b : Home) → Some a ≡ Some b → a ≡ b
 home_same a b e = cc
@@ -145,9 +155,12 @@ added_away s t far new id set rows sound x = record {
     | inr moved ↦ (record { set = id; position = moved.position; slot = moved.slot }, moved.home)
   ];
   home = λ h home at. elim (x.each h) [
-    | inl stays ↦ let y = sound.away.home h home (sym stays.home ∙ at) in
-        let n = sound.sets.numbered home.set y.0 y.1 in
-        (y.0, x.others home.set (λ e. absurd (omega (arith, n, e, x.drawn.0))) ∙ y.1, y.2)
+    | inl stays ↦ let y = sound.away.home h home (sym stays.home ∙ at) in (
+      y.0,
+      ap if_committed (x.others home.set (old_number s t far new id set rows x home.set y.0 y.1))
+          ∙ y.1,
+      y.2,
+    )
     | inr moved ↦ let e =
         home_same (record {
           set = id;
@@ -165,7 +178,7 @@ added_away s t far new id set rows sound x = record {
         new_named j p slot h here (subst (λ (c : SetState).
         slot_at c p slot ≡ Some h) (sym e) named)
     | inr off ↦
-        let was = sym (x.others j off) ∙ at in
+        let was = sym (ap if_committed (x.others j off)) ∙ at in
         let y = sound.sets.worded j other was in
         let z = old_object s t far new id set rows (row_at y.0 p)
         (length (position_of other p).slots) slot h x (y.1.holds p slot h named) in
@@ -199,7 +212,7 @@ split_shard s t far new id set rows x (of_set j p) shard is = elim (cases_eq j i
         ap (λ (n : ℕ). of_set n p) here,
         subst (λ (c : SetState). slice_get c.shards p ≡ Some shard) (sym e) is.2,
       )
-  | inr off ↦ inl (is.0, sym (x.others j off) ∙ is.1, is.2)
+  | inr off ↦ inl (is.0, sym (ap if_committed (x.others j off)) ∙ is.1, is.2)
 ]
 split_shard s t far new id set rows x (of_leaving p) shard is =
     inl (is.0, sym x.leaving ∙ is.1, is.2)
@@ -209,9 +222,11 @@ split_shard s t far new id set rows x (of_joining p) shard is =
 keep_shard : (s t : Shown) (far new : FarState) (id : ℕ) (set : SetState) (rows : List (List ℕ))
     → AwaySound s far → IsSetAdded s t far new id set rows → (o : Owner) (shard : Shard)
     → IsShardOf far o shard → IsShardOf new o shard
-keep_shard s t far new id set rows sound x (of_set j p) shard is =
-    let n = sound.sets.numbered j is.0 is.1 in
-    (is.0, x.others j (λ e. absurd (omega (arith, n, e, x.drawn.0))) ∙ is.1, is.2)
+keep_shard s t far new id set rows sound x (of_set j p) shard is = (
+  is.0,
+  ap if_committed (x.others j (old_number s t far new id set rows x j is.0 is.1)) ∙ is.1,
+  is.2,
+)
 keep_shard s t far new id set rows sound x (of_leaving p) shard is = (is.0, x.leaving ∙ is.1, is.2)
 keep_shard s t far new id set rows sound x (of_joining p) shard is = (is.0, x.joining ∙ is.1, is.2)
 
@@ -243,7 +258,7 @@ added_rows s t far new id set rows sound x = record {
       (split_shard s t far new id set rows x q b js) same;
   drawn = λ o a is. elim (split_shard s t far new id set rows x o a is) [
     | inl old ↦ omega (arith, sound.rows.drawn o a old, x.more_keys)
-    | inr (p, e, at) ↦ (x.keys p a at).1
+    | inr (p, e, at) ↦ x.keys p a at
   ];
   current = λ o a is.
       subst (λ (m : Membership). (a.node.n < length m.nodes)
@@ -257,10 +272,8 @@ added_rows s t far new id set rows sound x = record {
     one : (o q : Owner) (a b : Shard) → IsShardOf far o a ⊎ IsNewShard set id o a
         → IsShardOf far q b ⊎ IsNewShard set id q b → a.key ≡ b.key → o ≡ q
     one o q a b (inl i) (inl j) same = sound.rows.one o q a b i j same
-    one o q a b (inl i) (inr (p, e, at)) same = let d = sound.rows.drawn o a i in let k =
-        x.keys p b at in absurd (omega (arith, d, k.0, same))
-    one o q a b (inr (p, e, at)) (inl j) same = let d = sound.rows.drawn q b j in let k =
-        x.keys p a at in absurd (omega (arith, d, k.0, same))
+    one o q a b (inl i) (inr (p, e, at)) same = absurd (x.fresh_keys o a i p b at (sym same))
+    one o q a b (inr (p, e, at)) (inl j) same = absurd (x.fresh_keys q b j p a at same)
     one o q a b (inr (p, e, at)) (inr (p', e', at')) same = e
         ∙ ap (of_set id) (x.keys_apart p p' a b at at' same) ∙ sym e'
 
@@ -274,9 +287,7 @@ added_batch s t far new id set rows sound x b at =
       word = subst (IsSpanWord (length b.frames) (length b.parities)) (sym same) y.word;
       count = y.count;
       put = λ p shard is kept.
-          let d = sound.rows.drawn (of_leaving p) shard (b, was, is) in
-          x.stay shard.node shard.key (λ q other there e. let a =
-          x.keys q other there in absurd (omega (arith, a.0, d, e)))
+          x.stay shard.node shard.key (x.fresh_keys (of_leaving p) shard (b, was, is))
           ∙ y.put p shard is (ap (λ (m : Membership). is_lost m shard) (sym x.members) ∙ kept)
           ∙ ap (λ (l : List (List ℕ)). Some (row_at l p)) (sym same);
       apart = y.apart;

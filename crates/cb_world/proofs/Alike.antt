@@ -92,7 +92,8 @@ pub recounted_sound : (s : Shown) (far : FarState) (turns : ℕ) (by_job : List 
     → Sound s far → Sound s (recounted far turns by_job given)
 recounted_sound s far turns by_job given x = record {
   here = local_stays s far (recounted far turns by_job given) refl refl refl refl x.here;
-  noted = noted_stays s far (recounted far turns by_job given) refl refl x.noted;
+  noted = noted_stays s far (recounted far turns by_job given) refl refl refl (omega arith)
+      (λ batch at. refl) x.noted;
   claimed = claimed_stay s far (recounted far turns by_job given) refl refl x.claimed;
   away = record {
     sound = away_alike s far turns by_job given x.away.sound;

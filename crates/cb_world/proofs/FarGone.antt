@@ -26,6 +26,7 @@ use Rattle.cb_world.specs.GivenUp.{GivesUp, IsGivenUp}
 use Rattle.cb_world.specs.Sound.{AreNoted, IsLeaving, Sound}
 use Rattle.cb_world.proofs.Gone.{IsFreed}
 use Rattle.cb_world.proofs.SetsLeft.{left_count, left_others, left_over}
+use Rattle.cb_world.proofs.Reserving.{noted_by, reserved_is_other}
 use Rattle.cb_world.proofs.Whole.{given_whole}
 
 none_some : {X : Type 0} (o : Option X) (x : X) → o ≡ None → o ≡ Some x → ⊥
@@ -173,24 +174,27 @@ claimed_other s t far h len v words home c x k l place u ws claimed same =
 freed_noted : (s t : Shown) (far : FarState) (h len v : ℕ) (words : List ℕ) (home : Home)
     (set : SetState) → IsFarFreed s t far h len v words home set → (batch : LeavingState)
     → far.leaving ≡ Some batch → AreNoted t (without_far far h home set) batch
-freed_noted s t far h len v words home c x batch there =
-    let noted = x.sound.noted batch there in record {
-      held = noted.held;
-      each = λ f slot k span leaves at named. let z = noted.each f slot k span leaves at named in
-          record {
-            former = z.former;
-            noted = z.noted;
-            handle = z.handle;
-            free = z.free;
-            below = z.below;
-            version = z.version;
-            words = z.words;
-            claimed = other_object s t far h len v words home c x k
-                (claimed_other s t far h len v words home c x k (len_of z.former.word)
-                (place_of z.former.word) z.version z.words z.claimed)
-                ∙ z.claimed;
-          };
-    }
+freed_noted s t far h len v words home set x batch there =
+    noted_by s t far (without_far far h home set) batch (record {
+      spans = λ f leaves. refl;
+      sets = left_others far.sets home.set batch.set (set_without set home)
+          (reserved_is_other far batch home.set set (x.sound.noted batch there).reserved
+          x.lies.there);
+      drawn = omega arith;
+      unpaired = λ apart. apart;
+    }) (λ f slot k span leaves at named z. record {
+      former = z.former;
+      noted = z.noted;
+      handle = z.handle;
+      free = z.free;
+      below = z.below;
+      version = z.version;
+      words = z.words;
+      claimed = other_object s t far h len v words home set x k
+          (claimed_other s t far h len v words home set x k (len_of z.former.word)
+          (place_of z.former.word) z.version z.words z.claimed)
+          ∙ z.claimed;
+    }) (x.sound.noted batch there)
 
 freed_claimed : (s t : Shown) (far : FarState) (h len v : ℕ) (words : List ℕ) (home : Home)
     (set : SetState) → IsFarFreed s t far h len v words home set → (k l place u : ℕ)

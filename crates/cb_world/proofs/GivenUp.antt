@@ -18,7 +18,7 @@ use Rattle.cb_world.specs.declared.shown.Shown.{Shown}
 use Rattle.cb_world.specs.Shown.{object_at}
 use Rattle.cb_world.specs.declared.homes.Home.{Home}
 use Rattle.cb_world.specs.FarState.{FarState}
-use Rattle.cb_world.specs.Sets.{set_in}
+use Rattle.cb_world.specs.Sets.{set_in, if_committed}
 use Rattle.cb_world.specs.Homes.{home_at}
 use Rattle.cb_world.specs.SetWord.{IsWordOf, IsSpanWord, IsShaped}
 use Rattle.cb_world.specs.FarSound.{HoldsObject, IsSetWord, AreSets, AreAway, AreRows, Owner, of_set, of_leaving, of_joining, IsShardOf, AwaySound}
@@ -154,7 +154,7 @@ new_set s t far new id set p left x j other at = elim (cases_eq j id) [
         absurd (some_none (set_in new.sets id) other dropped.gone (ap (set_in new.sets) (sym here)
         ∙ at))
   ]
-  | inr off ↦ inr (off, sym (x.others j off) ∙ at)
+  | inr off ↦ inr (off, sym (ap if_committed (x.others j off)) ∙ at)
 ]
 
 -- by the two cases of a new set
@@ -299,7 +299,7 @@ given_away s t far new id set p left sound x = record {
                     ∙ named_live (position_of (with_position set p left) home.position).slots
                     home.slot h named))
               ]
-          | inr off ↦ (y.0, x.others home.set off ∙ y.1, y.2)
+          | inr off ↦ (y.0, ap if_committed (x.others home.set off) ∙ y.1, y.2)
         ]
     | inr given ↦ absurd (some_none (home_at new.homes h) home given.home at)
   ];
@@ -339,7 +339,7 @@ still_shard s t far new id set p left x (of_set j q) shard row is there = elim (
         | inl on ↦ (with_position set p left, ap (set_in new.sets) here ∙ on.there, at)
         | inr dropped ↦ absurd (some_none _ row (dropped.rows_gone q shard at) there)
       ]
-  | inr off ↦ (is.0, x.others j off ∙ is.1, is.2)
+  | inr off ↦ (is.0, ap if_committed (x.others j off) ∙ is.1, is.2)
 ]
 still_shard s t far new id set p left x (of_leaving q) shard row is there =
     (is.0, x.leaving ∙ is.1, is.2)

@@ -8,7 +8,7 @@ use Rattle.cb_set.proofs.Laws.{parities-with_position}
 use Rattle.cb_world.specs.declared.homes.Home.{Home}
 use Rattle.cb_world.specs.declared.shown.Shown.{Shown}
 use Rattle.cb_world.specs.Homes.{home_at}
-use Rattle.cb_world.specs.Sets.{set_in}
+use Rattle.cb_world.specs.Sets.{set_in, if_committed}
 use Rattle.cb_world.specs.SetWord.{is_broken}
 use Rattle.cb_world.specs.FarState.{FarState}
 use Rattle.cb_world.specs.FarSound.{AwaySound}
@@ -41,7 +41,8 @@ left_broken s t far new id set p left sound after x h home was stays =
             | inr dropped ↦ absurd (some_none (set_in new.sets id) b.0 dropped.gone
                 (ap (set_in new.sets) (sym here) ∙ b.1))
           ]
-      | inr off ↦ ap (is_broken far.members) (set_same b.0 a.0 (sym b.1 ∙ x.others home.set off
+      | inr off ↦ ap (is_broken far.members) (set_same b.0 a.0 (sym b.1
+          ∙ ap if_committed (x.others home.set off)
           ∙ a.1))
     ] in
     ap (broken_home new) stays ∙ ap (broken_set new.members) b.1

@@ -16,7 +16,7 @@ use Rattle.cb_world.specs.declared.shown.Shown.{Shown}
 use Rattle.cb_world.specs.Shown.{object_at}
 use Rattle.cb_world.specs.declared.homes.Home.{Home}
 use Rattle.cb_world.specs.FarState.{FarState}
-use Rattle.cb_world.specs.Sets.{set_in, SetMap}
+use Rattle.cb_world.specs.Sets.{set_in, SetMap, if_committed}
 use Rattle.cb_world.specs.Homes.{home_at}
 use Rattle.cb_world.specs.Joining.{JoiningState}
 use Rattle.cb_world.specs.SetWord.{is_broken}
@@ -129,7 +129,7 @@ pub added_keeps_join : (s t : Shown) (far new : FarState) (id : ℕ) (set : SetS
     (rows : List (List ℕ)) (pair : JoiningState) → AwaySound s far → far.joining ≡ Some pair
     → IsSetAdded s t far new id set rows → IsJoin far pair → IsJoin new pair
 added_keeps_join s t far new id set rows pair sound was x j = pair_kept far new pair (record {
-  more_sets = x.drawn.2;
+  more_sets = x.drawn.1;
   more_keys = x.more_keys;
   fresh = λ c d f. (c, d, before c d f, λ k y. y);
   a_stay = λ c d f p shard at.
@@ -150,14 +150,13 @@ added_keeps_join s t far new id set rows pair sound was x j = pair_kept far new 
     stays : (o : Owner) (shard : Shard) → IsShardOf far o shard
         → row_under new.nodes shard.node shard.key ≡ row_under far.nodes shard.node shard.key
     stays o shard is =
-        x.stay shard.node shard.key (λ p other at e.
-        absurd (omega (arith, sound.rows.drawn o shard is, (x.keys p other at).0, e)))
+        x.stay shard.node shard.key (x.fresh_keys o shard is)
 
     before : (c d : SetState) → IsFresh new pair c d → IsFresh far pair c d
     before c d f = record {
-      a_there = sym (x.others pair.a (λ e. absurd (omega (arith, e, j.drawn.0, x.drawn.0))))
+      a_there = sym (ap if_committed (x.others pair.a (x.unpaired pair was).0))
           ∙ f.a_there;
-      b_there = sym (x.others pair.b (λ e. absurd (omega (arith, e, j.drawn.1, x.drawn.0))))
+      b_there = sym (ap if_committed (x.others pair.b (x.unpaired pair was).1))
           ∙ f.b_there;
       a_shards = f.a_shards;
       b_shards = f.b_shards;
@@ -209,7 +208,7 @@ was_set s t far new id set p left sound x q c at = elim (cases_eq q id) [
         absurd (some_none (set_in new.sets id) c dropped.gone (ap (set_in new.sets) (sym here)
         ∙ at))
   ]
-  | inr off ↦ (c, sym (x.others q off) ∙ at, refl, refl, λ z l. l)
+  | inr off ↦ (c, sym (ap if_committed (x.others q off)) ∙ at, refl, refl, λ z l. l)
 ]
 
 pub given_keeps_join : (s t : Shown) (far new : FarState) (id : ℕ) (set : SetState) (p : ℕ)

@@ -35,6 +35,8 @@ pub mod Apart
 pub mod Kept
 pub mod Freed
 pub mod Closed
+pub mod Reserving
+pub mod BatchGone
 pub mod Unmoved
 pub mod Claimed
 pub mod AfterClaim
@@ -61,6 +63,7 @@ pub mod Pins
 mod WorkedDesk
 mod WorkedWorld
 mod WorkedFar
+mod WorkedReserved
 mod WorkedOpen
 mod WorkedChoices
 mod WorkedLeft

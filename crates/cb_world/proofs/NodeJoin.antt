@@ -2,6 +2,8 @@
 use Rattle.std.proofs.Common.{◌≡◌, ℕ, ◌<◌, ◌≤◌, Bool, true, false, List, [], ◌∷◌, length, Option, Some, None, is_some, refl, sym, ap, ◌∙◌, arith, inl, inr}
 use Rattle.std.specs.List.{cons_option, slice_index_or}
 use Rattle.std.specs.Option.{option_map}
+use Rattle.std.specs.FinMap as map
+use Rattle.cb_span.specs.Contents.{Contents}
 use Rattle.cb_member.specs.declared.names.Loss.{Loss}
 use Rattle.cb_member.specs.declared.names.Epoch.{Epoch}
 use Rattle.cb_member.specs.declared.names.NodeId.{NodeId}
@@ -14,7 +16,7 @@ use Rattle.std.proofs.lemmas.Bool.{cases_eq}
 use Rattle.cb_world.specs.declared.object.Object.TheVariants as is
 use Rattle.cb_world.specs.declared.shown.Shown.{Shown}
 use Rattle.cb_world.specs.NodeChanges.{joined_far, crashed_far}
-use Rattle.cb_world.specs.FarState.{FarState}
+use Rattle.cb_world.specs.FarState.{FarState, span_in}
 use Rattle.cb_world.specs.FarSound.{AwaySound, AreRows, Owner, of_set, of_leaving, of_joining, IsShardOf}
 use Rattle.cb_world.specs.Join.{IsFresh, IsJoin}
 use Rattle.cb_world.specs.Joining.{JoiningState}
@@ -31,6 +33,7 @@ use Rattle.std.specs.Prelude.{nat_lt}
 use Rattle.cb_member.proofs.Laws.{crash_stays_valid}
 use Rattle.cb_world.proofs.Whole.{crash_whole}
 use Rattle.cb_world.proofs.Joined.{pair_kept}
+use Rattle.cb_world.proofs.Reserving.{noted_by}
 
 -- a shard is lost after a join exactly where it was
 join_keeps_loss : (m : Membership) (node : NodeId) (shard : Shard) → node.n < length m.nodes
@@ -184,12 +187,19 @@ local_stays s far new first made frames spans x = record {
 }
 
 pub noted_stays : (s : Shown) (far new : FarState) → new.spans ≡ far.spans → new.leaving ≡ far.leaving
+    → new.joining ≡ far.joining → far.counts.sets ≤ new.counts.sets
+    → ((batch : LeavingState) → far.leaving ≡ Some batch
+    → map.get new.sets batch.set ≡ map.get far.sets batch.set)
     → ((batch : LeavingState) → far.leaving ≡ Some batch → AreNoted s far batch)
     → (batch : LeavingState) → new.leaving ≡ Some batch → AreNoted s new batch
-noted_stays s far new spans leaving x batch at = record {
-  each = rw spans (x batch (sym leaving ∙ at)).each;
-  held = rw spans (x batch (sym leaving ∙ at)).held;
-}
+noted_stays s far new spans leaving joining drawn sets x batch at =
+    let was = sym leaving ∙ at in
+    noted_by s s far new batch (record {
+      spans = λ f leaves. ap (λ (l : List (Option Contents)). span_in l f) spans;
+      sets = sets batch was;
+      drawn = drawn;
+      unpaired = λ apart pair there. apart pair (sym joining ∙ there);
+    }) (λ f slot h span leaves there named n. n) (x batch was)
 
 pub claimed_stay : (s : Shown) (far new : FarState) → new.spans ≡ far.spans
     → new.leaving ≡ far.leaving
@@ -220,7 +230,8 @@ pub node_join_sound : (s : Shown) (far : FarState) (node : NodeId) → Sound s f
     → Sound s (joined_far far node)
 node_join_sound s far node x within down = record {
   here = local_stays s far (joined_far far node) refl refl refl refl x.here;
-  noted = noted_stays s far (joined_far far node) refl refl x.noted;
+  noted = noted_stays s far (joined_far far node) refl refl refl (omega arith)
+      (λ batch at. refl) x.noted;
   claimed = claimed_stay s far (joined_far far node) refl refl x.claimed;
   away = record {
     sound = away_stays s far node x.away.sound within down;
@@ -234,7 +245,8 @@ pub node_crash_sound : (s : Shown) (far : FarState) (node : NodeId) → Sound s 
     → Sound s (crashed_far far node)
 node_crash_sound s far node x within up = record {
   here = local_stays s far (crashed_far far node) refl refl refl refl x.here;
-  noted = noted_stays s far (crashed_far far node) refl refl x.noted;
+  noted = noted_stays s far (crashed_far far node) refl refl refl (omega arith)
+      (λ batch at. refl) x.noted;
   claimed = claimed_stay s far (crashed_far far node) refl refl x.claimed;
   away = crash_whole s far node x.away within up
       (crash_stays_valid far.members node x.away.sound.rows.members within up);

@@ -118,7 +118,7 @@ no_live set none q = by (live_at set q) refl
     ]
 
 pub left_others : (sets : SetMap) (id j : ℕ) (rest : SetState) → j ≢ id
-    → set_in (sets_left sets id rest) j ≡ set_in sets j
+    → map.get (sets_left sets id rest) j ≡ map.get sets j
 left_others sets id j rest off = by (is_live rest) refl
   where
     other : eq_by_cmp nat_cmp j id ≡ false
@@ -127,14 +127,14 @@ left_others sets id j rest off = by (is_live rest) refl
     kept : Kept
     kept = record { set = rest; committed = true }
 
-    by : (b : Bool) → is_live rest ≡ b → set_in (sets_left sets id rest) j ≡ set_in sets j
+    by : (b : Bool) → is_live rest ≡ b → map.get (sets_left sets id rest) j ≡ map.get sets j
     by true e = ap (λ (b : Bool).
-        set_in (if b then map.insert sets id kept else map.remove sets id) j) e
-        ∙ ap if_committed (map.get-insert nat_cmp_total sets id kept j
+        map.get (if b then map.insert sets id kept else map.remove sets id) j) e
+        ∙ (map.get-insert nat_cmp_total sets id kept j
         ∙ ap (λ (b : Bool). cond b (Some kept) (map.get sets j)) other)
     by false e = ap (λ (b : Bool).
-        set_in (if b then map.insert sets id kept else map.remove sets id) j) e
-        ∙ ap if_committed (map.get-remove nat_cmp_total sets id j
+        map.get (if b then map.insert sets id kept else map.remove sets id) j) e
+        ∙ (map.get-remove nat_cmp_total sets id j
         ∙ ap (λ (b : Bool). cond b None (map.get sets j)) other)
 
 left_gone : (sets : SetMap) (id : ℕ) → set_in (map.remove sets id) id ≡ None

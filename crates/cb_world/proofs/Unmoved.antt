@@ -1,5 +1,6 @@
 -- What a change of objects that are not far leaves of the far part of the sound world.
 use Rattle.std.proofs.Common.{◌≡◌, ◌⊎◌, ℕ, suc, ◌+◌, ◌-◌, ◌*◌, ◌<◌, ◌≤◌, List, [], ◌∷◌, ◌++◌, Some, Contains, length, get_or, map, sym, refl, ap, ◌∙◌, subst, arith, inl, inr}
+use Rattle.std.specs.FinMap as map
 use Rattle.cb_gf256.specs.Rows.{row_at}
 use Rattle.cb_member.specs.declared.names.Shard.{Shard}
 use Rattle.cb_set.specs.SetState.{SetState}
@@ -19,9 +20,13 @@ use Rattle.cb_world.specs.Memory.{window, words_for}
 use Rattle.cb_world.specs.RowWords.{row_of}
 use Rattle.cb_world.specs.LocalSound.{LocalSound}
 use Rattle.cb_world.specs.Sound.{IsNoted, AreNoted, IsLeaving, Sound}
+use Rattle.cb_world.specs.Reserved.{IsUnpaired}
+use Rattle.cb_world.specs.Sets.{SetMap}
+use Rattle.cb_world.specs.Counts.{CountsState}
 use Rattle.cb_world.specs.SetAdded.{is_far}
 use Rattle.cb_world.proofs.Added.{was_far}
 use Rattle.cb_world.proofs.Apart.{slot_inside}
+use Rattle.cb_world.proofs.Reserving.{noted_by}
 use Rattle.cb_world.proofs.Windows.{window_at, window_same}
 
 -- the object is empty, or here for others to change
@@ -239,16 +244,30 @@ batch_kept s t far new batch k =
     ap (λ (rows : List (List ℕ)). rows ++ batch.parities)
     (same_rows s.memory t.memory batch.frames k.words)
 
+-- and so do the set kept for it and the numbers
+pub record KeepsNumbers (far new : FarState) (batch : LeavingState) : Type 0 where
+  pub sets : map.get new.sets batch.set ≡ map.get far.sets batch.set
+  pub drawn : far.counts.sets ≤ new.counts.sets
+  pub unpaired : IsUnpaired far batch.set → IsUnpaired new batch.set
+
+pub away_numbers : (far new : FarState) (batch : LeavingState) → KeepsAway far new
+    → KeepsNumbers far new batch
+away_numbers far new batch k = record {
+  sets = ap (λ (m : SetMap). map.get m batch.set) k.sets;
+  drawn = (let e = ap (λ (c : CountsState). c.sets) k.counts in omega (arith, e));
+  unpaired = λ x pair at. x pair (sym k.joining ∙ at);
+}
+
 noted_kept : (s t : Shown) (far new : FarState) (batch : LeavingState)
-    → KeepsLeaving s t far new batch
+    → KeepsLeaving s t far new batch → KeepsNumbers far new batch
     → ((h : ℕ) → (object_at t h ≡ object_at s h) ⊎ IsNear s t h)
     → AreNoted s far batch → AreNoted t new batch
-noted_kept s t far new batch k objects noted = record {
-  held = λ f leaves. let x = noted.held f leaves in (x.0, k.spans f leaves ∙ x.1);
-  each = λ f slot h span leaves there named.
-      let n = noted.each f slot h span leaves (sym (k.spans f leaves) ∙ there) named in
-      stays n (objects h);
-}
+noted_kept s t far new batch k numbers objects noted = noted_by s t far new batch (record {
+  spans = k.spans;
+  sets = numbers.sets;
+  drawn = numbers.drawn;
+  unpaired = numbers.unpaired;
+}) (λ f slot h span leaves there named n. stays n (objects h)) noted
   where
     stays : {h : ℕ} → (n : IsNoted s batch h) → (object_at t h ≡ object_at s h) ⊎ IsNear s t h
         → IsNoted t batch h
@@ -316,7 +335,8 @@ pub sound_near : (s t : Shown) (far new : FarState) → Sound s far → LocalSou
 sound_near s t far new sound here keeps objects leaving = record {
   here = here;
   noted = λ batch there. let was = sym keeps.leaving ∙ there in
-      noted_kept s t far new batch (leaving batch was) objects (sound.noted batch was);
+      noted_kept s t far new batch (leaving batch was) (away_numbers far new batch keeps) objects
+      (sound.noted batch was);
   claimed = claimed_kept s t far new sound (sym keeps.leaving) objects leaving;
   away = away_kept s t far new keeps objects
       (λ batch there. batch_kept s t far new batch (leaving batch there)) sound.away;

@@ -10,7 +10,7 @@ use Rattle.cb_set.specs.SetState.{PositionState, SetState, dead_position, filled
 use Rattle.cb_world.specs.declared.homes.Home.{Home}
 use Rattle.cb_world.specs.declared.object.Object.TheVariants as is
 use Rattle.cb_world.specs.declared.shown.Shown.{Shown}
-use Rattle.cb_world.specs.Sets.{Kept, SetMap, set_in}
+use Rattle.cb_world.specs.Sets.{Kept, SetMap, set_in, if_committed}
 use Rattle.cb_world.specs.FarState.{FarState}
 use Rattle.cb_world.specs.GivenUp.{GivesUp, IsGivenUp, IsLeft}
 use Rattle.cb_world.specs.LeftOver.{LiesIn, nodes_left, set_without, sets_left, without_far}
@@ -190,7 +190,7 @@ draws_a_key x = let e : 11 ≡ 10 = ap (λ c. c.keys) x.counts in omega (arith, 
 
 takes_another_set : ¬ (GivesUp known freed (record away { sets = map.insert sets 6 (kept (with_this both)) })
     then_ 5 (with_this both) 0 one)
-takes_another_set x = none_some (with_this both) (sym none ∙ x.others 6 (omega arith) ∙ there)
+takes_another_set x = none_some (with_this both) (sym none ∙ ap if_committed (x.others 6 (omega arith)) ∙ there)
   where
     none : set_in then_.sets 6 ≡ None
     none = grind (arith, map.gets)

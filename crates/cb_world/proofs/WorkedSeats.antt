@@ -1,6 +1,6 @@
 -- Worked examples of seats, pins and counts: what meets each definition, and what breaks one
 -- part.
-use Rattle.std.proofs.Common.{◌≡◌, ℕ, zero, suc, ◌+◌, ◌*◌, ◌^◌, ◌<◌, ◌≤◌, true, false, List, [], ◌∷◌, ◌++◌, Option, None, Some, length, replicate, get_or, slice_get, refl, ap, lit<, lit≤, arith}
+use Rattle.std.proofs.Common.{◌≡◌, ℕ, zero, suc, ◌+◌, ◌^◌, ◌<◌, ◌≤◌, true, false, List, [], ◌∷◌, ◌++◌, Option, None, Some, length, replicate, get_or, slice_get, refl, ap, lit<, lit≤, arith}
 use Rattle.std.specs.List.{All}
 use Rattle.std.proofs.lemmas.Option.{slice_get_within}
 use Rattle.std.proofs.lemmas.List.Elements.{All-cons, All-replicate}
@@ -11,9 +11,9 @@ use Rattle.cb_types.specs.declared.order.Kept.{Kept}
 use Rattle.cb_types.specs.declared.order.Kept.TheVariants as kept
 use Rattle.cb_world.specs.declared.seats.Pin.{Pin}
 use Rattle.cb_world.specs.FarState.{FarState}
-use Rattle.cb_world.specs.Pinned.{IsPinned, IsUnpinned, with_word}
+use Rattle.cb_world.specs.Pinned.{IsPinned, IsUnpinned}
 use Rattle.cb_world.specs.Plain.{Words}
-use Rattle.cb_world.specs.Seats.{SeatState, idle_seat, seat_at, pins_of_seat, with_pins, IsNewest, NoneOn, pins_on, all_pins_on}
+use Rattle.cb_world.specs.Seats.{SeatState, idle_seat, with_pins, IsNewest, NoneOn, pins_on, all_pins_on}
 use Rattle.cb_world.specs.World.{ArePinned, AreCounted, IsConfigured, word_at}
 use Rattle.cb_world.proofs.WorkedWorld.{far}
 

@@ -1,10 +1,11 @@
 -- The set that a leaving batch will be.
-use Rattle.std.specs.Prelude.{◌≡◌, ℕ, ◌<◌, false, List, [], ◌∷◌, Option, None, Some, length, map as mapped}
+use Rattle.std.specs.Prelude.{◌≡◌, ◌≢◌, ℕ, ◌<◌, false, List, [], ◌∷◌, Option, None, Some, length, map as mapped}
 use Rattle.std.specs.FinMap as map
 use Rattle.cb_gf256.specs.InRange.{IsInRange}
 use Rattle.cb_member.specs.declared.names.Shard.{Shard}
 use Rattle.cb_set.specs.SetState.{PositionState, SetState, filled_position, set_of}
 use Rattle.cb_span.specs.Contents.{Contents}
+use Rattle.cb_world.specs.Joining.{JoiningState}
 use Rattle.cb_world.specs.Leaving.{LeavingState}
 use Rattle.cb_world.specs.FarState.{FarState, span_in}
 use Rattle.cb_world.specs.Stored.{all_dropped}
@@ -22,11 +23,16 @@ position_for spans f = filled_position (table_of (span_in spans f))
 abbrev pub set_from : ℕ → List Shard → List (Option Contents) → List ℕ → SetState
 set_from id shards spans frames = set_of id shards (mapped (position_for spans) frames)
 
+-- neither set of the pair that is joining has the number
+abbrev pub IsUnpaired : FarState → ℕ → Type 0
+IsUnpaired far id = (pair : JoiningState) → far.joining ≡ Some pair → (pair.a ≢ id) × (pair.b ≢ id)
+
 -- The batch's number is drawn, and under it the set is kept that the batch will be, so that a commit
 -- takes no memory: it has the slot tables of the spans and a place for each shard, and is not
--- committed.
+-- committed. No set that is joining has the number.
 pub record IsReserved (far : FarState) (batch : LeavingState) : Type 0 where
   pub drawn : batch.set < far.counts.sets
+  pub unpaired : IsUnpaired far batch.set
   pub range : IsInRange (length batch.frames) (length batch.parities)
   pub blank : List Shard
   pub places : length blank ≡ length batch.shards

@@ -18,6 +18,7 @@ use Rattle.cb_world.specs.Leaving.{LeavingState}
 use Rattle.cb_world.specs.FarState.{FarState}
 use Rattle.cb_world.specs.SetWord.{IsSpanWord, IsShaped}
 use Rattle.cb_set.specs.SetState.{parities}
+use Rattle.cb_world.specs.Reserved.{IsUnpaired}
 use Rattle.cb_world.specs.Stored.{NoKey}
 use Rattle.cb_world.specs.FarSound.{HoldsObject, Owner, IsShardOf, batch_rows}
 
@@ -44,8 +45,8 @@ pub record IsMoved (s t : Shown) (far new : FarState) (id : ℕ) (set : SetState
   pub before : is_far (object_at s h) → ⊥
   pub holds : HoldsObject t (row_at rows position) (length (position_of set position).slots) slot h
 
--- a fresh set is committed, with these rows: no set of its number was, and no shard has a key of
--- its shards
+-- a fresh set is committed, with these rows: no set of its number was, also none that is joining,
+-- and no shard has a key of its shards
 pub record IsSetAdded (s t : Shown) (far new : FarState) (id : ℕ) (set : SetState)
     (rows : List (List ℕ)) : Type 0 where
   pub shape : IsShaped far.members set
@@ -77,4 +78,5 @@ pub record IsSetAdded (s t : Shown) (far new : FarState) (id : ℕ) (set : SetSt
   pub leaving : new.leaving ≡ far.leaving
   pub joining : new.joining ≡ far.joining
   pub batch : (b : LeavingState) → far.leaving ≡ Some b → batch_rows t b ≡ batch_rows s b
+  pub unpaired : IsUnpaired far id
   pub each : (h : ℕ) → IsUntouched s t far new set h ⊎ IsMoved s t far new id set rows h

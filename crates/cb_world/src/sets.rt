@@ -55,6 +55,13 @@ impl KeptSet {
     {
         self.set.set_shard(position, shard);
     }
+
+    /// Marks the set as committed. Takes no memory.
+    fn commit(&mut self)
+        ensures { self.new ≡ record self.old { committed = true } }
+    {
+        self.committed = true;
+    }
 }
 
 /// The span-sets by their numbers. Each call costs the logarithm of their count.
@@ -165,6 +172,18 @@ impl Sets {
     {
         if let Some(kept) = self.sets.get_mut(&id) {
             kept.set_shard(position, shard);
+        }
+    }
+
+    /// Marks the set of that number as committed, in place; where there is no such set nothing
+    /// changes. Takes no memory.
+    pub fn commit(&mut self, id: u64)
+        ensures committed { (kept : Kept) → map.get self.old id ≡ Some kept → self.new
+            ≡ map.insert self.old id (record kept { committed = true }) }
+        ensures none { map.get self.old id ≡ None → self.new ≡ self.old }
+    {
+        if let Some(kept) = self.sets.get_mut(&id) {
+            kept.commit();
         }
     }
 
