@@ -2,7 +2,7 @@
 use Rattle.cb_types.specs.declared.request.Request.{Request}
 use Rattle.cb_types.specs.declared.request.Request.TheVariants as line
 use Rattle.cb_types.specs.declared.reply.Reply.{Reply}
-use Rattle.cb_types.specs.declared.reply.Reply.TheVariants.{Made, Version, Bytes, Done, Left, Moved, Same, Set, Rebuilt, EpochAt, Full, NoRoom, Unmade, Freed, Moving, Unavailable, Range, Pinned, Worn, ScopeFull, NotPinned, NotHere, NoSlot, NoSpans, NoNodes, Whole, Stuck, Down, Up}
+use Rattle.cb_types.specs.declared.reply.Reply.TheVariants.{Made, Version, Bytes, Done, Left, Moved, Same, Set, Batch, Shipped, AllShipped, Rebuilt, EpochAt, Full, NoRoom, Unmade, Freed, Moving, Unavailable, Range, Pinned, Worn, ScopeFull, NotPinned, NotHere, NoSlot, NoSpans, NoNodes, Leaving, NoNode, NoBatch, Short, Whole, Stuck, Down, Up}
 
 -- the table of replies by lines: the reply is one that the request's line may be answered
 abbrev pub IsReplyOf : Request → Reply → Type 0
@@ -59,6 +59,19 @@ IsReplyOf (line.Filter name) (NoSlot frames) = Unit {0}
 IsReplyOf line.Evict (Set set) = Unit {0}
 IsReplyOf line.Evict (NoSpans loose) = Unit {0}
 IsReplyOf line.Evict (NoNodes nodes) = Unit {0}
+IsReplyOf line.Begin (Batch set) = Unit {0}
+IsReplyOf line.Begin (NoSpans loose) = Unit {0}
+IsReplyOf line.Begin (NoNodes nodes) = Unit {0}
+IsReplyOf line.Begin (Leaving set) = Unit {0}
+IsReplyOf line.Ship (Shipped position) = Unit {0}
+IsReplyOf line.Ship AllShipped = Unit {0}
+IsReplyOf line.Ship NoNode = Unit {0}
+IsReplyOf line.Ship NoBatch = Unit {0}
+IsReplyOf line.Commit (Set set) = Unit {0}
+IsReplyOf line.Commit NoBatch = Unit {0}
+IsReplyOf line.Commit (Short positions) = Unit {0}
+IsReplyOf line.Abort Done = Unit {0}
+IsReplyOf line.Abort NoBatch = Unit {0}
 IsReplyOf line.Rebuild (Rebuilt set position node) = Unit {0}
 IsReplyOf line.Rebuild (Whole gone) = Unit {0}
 IsReplyOf line.Rebuild (Stuck set) = Unit {0}

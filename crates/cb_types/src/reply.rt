@@ -1,5 +1,6 @@
 use crate::bytes::Bytes;
 use crate::handle::{Handle, SetId};
+use crate::positions::Positions;
 use cb_member::{Epoch, Losses, NodeId};
 
 /// What a request is answered.
@@ -33,6 +34,16 @@ pub enum Reply {
     Set {
         set: SetId,
     },
+    /// The batch whose span-set will have this number is leaving from here.
+    Batch {
+        set: SetId,
+    },
+    /// The row at this position of the leaving batch was put on a node.
+    Shipped {
+        position: u32,
+    },
+    /// Every row of the leaving batch is put on a node that has not crashed since.
+    AllShipped,
     /// A lost row of the set stands again, at this position and on this node.
     Rebuilt {
         set: SetId,
@@ -93,6 +104,19 @@ pub enum Reply {
     /// Fewer nodes have room than a span-set has positions; how many.
     NoNodes {
         nodes: u32,
+    },
+    /// A batch is leaving already; the number that its span-set will have.
+    Leaving {
+        set: SetId,
+    },
+    /// No node with room can take the next row: each holds another row of the leaving batch.
+    NoNode,
+    /// No batch is leaving.
+    NoBatch,
+    /// Rows of the leaving batch were not put, or were put and lost since: their positions, in
+    /// order.
+    Short {
+        positions: Positions,
     },
     /// No set has lost a row that can be made again; how many sets have lost more.
     Whole {
