@@ -309,24 +309,24 @@ module _ (c : Config) (far : FarState) (frames : List ℕ) (formers : List Forme
   pub noted : (b : LeavingState) → far.leaving ≡ Some b
       → AreNoted u (after_far far frames shards rows homes) b
   noted b there =
-    let was = d.sound.noted b there in
-    let drawn = was.reserved.drawn in
-    noted_by s u far (after_far far frames shards rows homes) b (record {
-      spans = λ f leaves. closed_else far.spans frames f (out_all f (leaving_out b there f leaves));
-      sets = set_others far.sets far.counts.sets b.set (set_for far shards frames)
-          (λ e. absurd (omega (arith, drawn, e)));
-      drawn = omega arith;
-      unpaired = λ apart. apart;
-    }) (λ f slot h span leaves at named n. record {
-      former = n.former;
-      noted = n.noted;
-      handle = n.handle;
-      free = n.free;
-      below = n.below;
-      version = n.version;
-      words = n.words;
-      claimed = stays_put h (leaving_none b there f slot h span leaves at named) ∙ n.claimed;
-    }) was
+      let was = d.sound.noted b there in
+      let drawn = was.reserved.drawn in
+      noted_by s u far (after_far far frames shards rows homes) b (record {
+        spans = λ f leaves. closed_else far.spans frames f (out_all f (leaving_out b there f leaves));
+        sets = set_others far.sets far.counts.sets b.set (set_for far shards frames)
+            (λ e. absurd (omega (arith, drawn, e)));
+        drawn = omega arith;
+        unpaired = λ apart. apart;
+      }) (λ f slot h span leaves at named n. record {
+        former = n.former;
+        noted = n.noted;
+        handle = n.handle;
+        free = n.free;
+        below = n.below;
+        version = n.version;
+        words = n.words;
+        claimed = stays_put h (leaving_none b there f slot h span leaves at named) ∙ n.claimed;
+      }) was
 
   -- a claimed object stands in a frame that is leaving, as before
   claimed_then : (h len place v : ℕ) (words : List ℕ) → object_at u h ≡ is.Claimed len place v words

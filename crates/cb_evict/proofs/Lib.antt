@@ -27,3 +27,4 @@ mod WorkedEvict
 mod WorkedEvictStep
 mod WorkedSetMade
 mod EmptyWorld
+pub mod WhichWait
