@@ -35,3 +35,4 @@ mod SmallWords
 mod NamesShards
 mod BatchCommitted
 pub mod AbortStep
+pub mod WhichWait

@@ -17,3 +17,4 @@ pub mod AbortStep
 pub mod Committing
 pub mod CommitRule
 pub mod CommitStep
+pub mod Waiting

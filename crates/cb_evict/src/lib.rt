@@ -15,6 +15,7 @@ mod sending;
 mod storing;
 #[cfg(test)]
 mod tests;
+mod waiting;
 
 pub use aborting::abort;
 pub use committing::commit;

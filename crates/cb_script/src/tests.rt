@@ -178,6 +178,7 @@ fn prints_what_it_read(rt: HostRuntime) -> Result<(), Fail> {
             Some(7),
         ),
         ("15 crash 5\n15 join 0\n", None),
+        ("1 begin\n1 ship\n1 commit\n1 abort\n1 pair\n", Some(6)),
     ] {
         let text = format!(in rt.alloc(); "{header}{lines}")?;
         let script = read_script(rt.alloc(), text.as_bytes(), Mode::Seq)?;

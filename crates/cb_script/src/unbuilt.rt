@@ -35,6 +35,10 @@ fn is_built(request: &Request) -> bool
             | Request::Unpin { .. }
             | Request::Filter { .. }
             | Request::Evict
+            | Request::Begin
+            | Request::Ship
+            | Request::Commit
+            | Request::Abort
             | Request::Rebuild
             | Request::Crash { .. }
             | Request::Join { .. }
