@@ -58,7 +58,7 @@ use Rattle.cb_evict.proofs.Claims.{among, no_former}
 use Rattle.cb_evict.proofs.Gone.{LeftMemory, sound_gone}
 use Rattle.cb_evict.proofs.NamesShards.{put_count, put_place, removed_other}
 use Rattle.cb_evict.proofs.NewSet.{set_count, position_at, slot_is, slot_named, set_lives, set_live, set_added_in, set_others}
-use Rattle.cb_evict.proofs.Noted.{none_claimed, noted_one, same_batch, stamp_of}
+use Rattle.cb_evict.proofs.Noted.{none_claimed, same_batch, stamp_of}
 use Rattle.cb_evict.proofs.SmallWords.{row_window}
 use Rattle.cb_evict.proofs.Standing.{are_unique, named_at, names_span}
 
@@ -85,7 +85,7 @@ abbrev pub the_set : FarState → LeavingState → SetState
 the_set far batch = set_from batch.set (put_shards batch.shards) far.spans batch.frames
 
 -- ---- owners of rows
-owner_place : Owner → ℕ
+abbrev owner_place : Owner → ℕ
 owner_place (of_set id p) = 0
 owner_place (of_leaving p) = p
 owner_place (of_joining p) = 0

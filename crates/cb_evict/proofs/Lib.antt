@@ -36,3 +36,5 @@ mod NamesShards
 mod BatchCommitted
 pub mod AbortStep
 pub mod WhichWait
+mod BatchReady
+mod Commits

@@ -1,4 +1,4 @@
-ghost use Rattle.std.specs.Prelude.{◌≡◌, ◌≢◌, ℕ, ◌^◌, ◌<◌, All, IfOk, IsOk, None, Some, length};
+ghost use Rattle.std.specs.Prelude.{◌≡◌, ◌≢◌, ℕ, ◌^◌, ◌<◌, ◌≤◌, true, All, IfNone, IfOk, IfSome, IsOk, None, Some, length};
 ghost use Rattle.std.specs.List.{AllPairs};
 ghost use Rattle.std.specs.FinMap as map;
 ghost use Rattle.cb_frame.specs.FreeFrames.{IsFree};
@@ -7,6 +7,7 @@ ghost use Rattle.cb_set.specs.SetState.{with_shard};
 ghost use Rattle.cb_span.specs.Contents.{Contents};
 ghost use Rattle.cb_world.specs.declared.shown.Shown.{Shown};
 ghost use Rattle.cb_world.specs.FarState.{span_in};
+ghost use Rattle.cb_world.specs.Leaving.{LeavingState};
 ghost use Rattle.cb_world.specs.Performs.{Performs};
 ghost use Rattle.cb_world.specs.Reserved.{put_shards, set_from};
 ghost use Rattle.cb_world.specs.Sets.{Kept};
@@ -16,12 +17,13 @@ ghost use Rattle.cb_evict.specs.Candidates.{AreUnique};
 ghost use Rattle.cb_evict.specs.Closing.{HaveHomes, with_homes};
 ghost use Rattle.cb_evict.specs.CommitRule.{CommitEffect, CommitRule, with_batch};
 ghost use Rattle.cb_evict.specs.Committing.{AreAllPut, HasPlaces, with_shards};
+ghost use Rattle.cb_evict.specs.Waiting.{PutAtMembers, waiting};
 
 use crate::closing::close_spans;
 use crate::sending::send;
 use crate::waiting::waiting_positions;
 use cb_member::Shard;
-use cb_types::{NoMemory, Reply, SetId};
+use cb_types::{NoMemory, Positions, Reply, SetId};
 use cb_world::{Desk, Far, Leaving, Sets};
 
 /// Commits the batch that is leaving: its set is a committed one with the shards whose rows were put,
@@ -40,19 +42,34 @@ pub fn commit<D: Desk>(desk: &mut D, far: &mut Far) -> Result<Reply, NoMemory>
         (λ t. Sound t far.new)
         (CommitEffect far.old far.new reply)) }
 {
-    let Some(batch) = far.leaving.take() else {
+    let Some(positions) = waiting_in(far) else {
         return Ok(Reply::NoBatch);
     };
-    let positions = waiting_positions(&batch.shards, &far.members);
     if !positions.as_slice().is_empty() {
-        far.leaving = Some(batch);
         return Ok(Reply::Short { positions });
     }
+    let batch = far.leaving.take().unwrap();
     send(desk, &batch.words);
     keep_batch(far, &batch);
     Ok(Reply::Set {
         set: SetId { n: batch.set },
     })
+}
+
+/// The positions of the batch that is leaving whose rows are still to be put, in order, and None where
+/// none is leaving.
+fn waiting_in(far: &Far) -> Option<Positions>
+    requires put { (batch : LeavingState) → far.now.leaving ≡ Some batch
+        → PutAtMembers far.now.members batch.shards × (length batch.shards ≤ 20) }
+    ensures found { IfSome result (λ positions. (batch : LeavingState)
+        × (far.now.leaving ≡ Some batch)
+        × (positions ≡ waiting far.now.members batch.shards)) }
+    ensures none { IfNone result (far.now.leaving ≡ None) }
+{
+    match &far.leaving {
+        Some(batch) => Some(waiting_positions(&batch.shards, &far.members)),
+        None => None,
+    }
 }
 
 /// Commits the set of a batch all of whose rows are put, gives the objects of its spans their homes
