@@ -326,6 +326,7 @@ module _ (c : Config) (far : FarState) (frames : List ℕ) (formers : List Forme
         version = n.version;
         words = n.words;
         claimed = stays_put h (leaving_none b there f slot h span leaves at named) ∙ n.claimed;
+        small = n.small;
       }) was
 
   -- a claimed object stands in a frame that is leaving, as before

@@ -4,7 +4,7 @@ mod Filling
 mod Sharing
 pub mod Homing
 mod Events
-mod Claims
+pub mod Claims
 mod Gathers
 mod Slots
 pub mod Loose
@@ -32,3 +32,14 @@ mod BeginEnd
 pub mod BeginStep
 pub mod AfterBegin
 mod WorkedBegin
+mod Restores
+mod PutShards
+pub mod Noted
+mod Aborted
+mod SmallWords
+mod NamesShards
+mod BatchCommitted
+pub mod AbortStep
+pub mod WhichWait
+mod BatchReady
+mod Commits

@@ -15,3 +15,10 @@ pub mod BeginRule
 pub mod BeginEffect
 pub mod Beginning
 pub mod BeginStep
+pub mod Restoring
+pub mod AbortRule
+pub mod AbortStep
+pub mod Committing
+pub mod CommitRule
+pub mod CommitStep
+pub mod Waiting

@@ -2,15 +2,21 @@
 //! rows stand on memory nodes.
 #![tactic(auto)]
 
+mod aborting;
 mod beginning;
 mod candidates;
 mod claiming;
 mod closing;
+mod committing;
 mod evicting;
 mod loading;
 mod looking;
+mod restoring;
 mod sending;
 mod storing;
+mod waiting;
 
+pub use aborting::abort;
 pub use beginning::begin;
+pub use committing::commit;
 pub use evicting::evict_now;
