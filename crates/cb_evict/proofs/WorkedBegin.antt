@@ -34,7 +34,7 @@ use Rattle.cb_evict.specs.Claiming.{AreOf}
 use Rattle.cb_evict.specs.Looking.{IsIn}
 use Rattle.cb_evict.proofs.BeginParts.{leaving_batch, spans_batch}
 use Rattle.cb_evict.proofs.WorkedEvictStep.{settings, desk, calm, pinned, moving, pair, busy, lone, one_node, first_object, only_object}
-use Rattle.cb_evict.proofs.WorkedSetMade.{row, is_word, two_nodes}
+use Rattle.cb_evict.proofs.WorkedSetMade.{row, zero_row, is_word, two_nodes}
 
 -- ---- words of objects that are claimed
 -- the first object is here, the other one pinned; all memory words are 0
@@ -94,10 +94,6 @@ abbrev leaving_with : List Former → List (List ℕ) → FarState
 leaving_with words parities = with_batch settings pair (0 ∷ []) words parities
 
 -- its frame has zeros, and so has its parity
-zero_row : row_of (window [] 0 512) ≡ row
-unfolding row window
-zero_row = refl
-
 word_is : IsSpanWord 1 1 (frame_rows start (0 ∷ []) ++ row ∷ [])
 word_is = subst (λ (r : List ℕ). IsSpanWord 1 1 (r ∷ row ∷ [])) (sym zero_row) is_word
 

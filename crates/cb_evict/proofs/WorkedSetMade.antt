@@ -21,7 +21,7 @@ use Rattle.cb_world.specs.Choices.{numbered, room_count, stands_on, IsLeastNode}
 use Rattle.cb_world.specs.FarState.{FarState, span_in, resident, handle_in}
 use Rattle.cb_world.specs.Homes.{home_at}
 use Rattle.cb_world.specs.Memory.{window}
-use Rattle.cb_world.specs.RowWords.{words_from, words_in}
+use Rattle.cb_world.specs.RowWords.{words_from, words_in, row_of}
 use Rattle.cb_world.specs.Sets.{set_in}
 use Rattle.cb_world.specs.Stored.{all_put}
 use Rattle.cb_span.specs.declared.temp.Temp.TheVariants.{Cold}
@@ -39,6 +39,11 @@ row = replicate 4096 0
 
 abbrev rows : List (List ℕ)
 rows = row ∷ row ∷ []
+
+-- the bytes of a frame of zeros
+pub zero_row : row_of (window [] 0 512) ≡ row
+unfolding row window
+zero_row = refl
 
 row_length : length row ≡ 4096
 unfolding row
