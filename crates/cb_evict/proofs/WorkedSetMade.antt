@@ -57,7 +57,7 @@ row_bytes : All (λ (b : ℕ). b < 2 ^ 8) row
 unfolding row
 row_bytes = All-replicate (λ (b : ℕ). b < 2 ^ 8) 4096 0 (lit< tt)
 
-row_words : window (words_in row) (1 * words_of (record { index = 0 })) 1 ≡ 0 ∷ []
+pub row_words : window (words_in row) (1 * words_of (record { index = 0 })) 1 ≡ 0 ∷ []
 unfolding row words_of bytes_of window words_from
 row_words = refl
 
