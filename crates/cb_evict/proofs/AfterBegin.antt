@@ -1,5 +1,5 @@
 -- What a begin leaves as it was, from the step alone.
-use Rattle.std.proofs.Common.{◌≡◌, ◌≢◌, ◌⊎◌, ℕ, ◌+◌, ◌<◌, ◌≤◌, List, length, get_or, take, Option, Some, None, refl, sym, ap, ◌∙◌, subst, arith, inl, inr}
+use Rattle.std.proofs.Common.{◌≡◌, ℕ, ◌+◌, ◌<◌, ◌≤◌, List, length, get_or, take, Some, refl, sym, ap, ◌∙◌, subst, arith, inl, inr}
 use Rattle.cb_ptr.specs.declared.word.State.TheVariants as state
 use Rattle.cb_ptr.specs.Word.{state_of, pins_of}
 use Rattle.cb_set.specs.SetState.{SetState}
@@ -8,7 +8,6 @@ use Rattle.cb_types.specs.declared.handle.SetId.{SetId}
 use Rattle.cb_types.specs.declared.reply.Reply.{Reply}
 use Rattle.cb_types.specs.declared.reply.Reply.TheVariants as answer
 use Rattle.cb_world.specs.FarState.{FarState}
-use Rattle.cb_world.specs.Leaving.{LeavingState}
 use Rattle.cb_world.specs.Plain.{Words}
 use Rattle.cb_world.specs.Reserved.{set_from}
 use Rattle.cb_world.specs.Seats.{SeatState}
@@ -18,7 +17,6 @@ use Rattle.cb_world.proofs.Pins.{pinned_still}
 use Rattle.cb_evict.specs.BeginRule.{blank_shards, with_batch}
 use Rattle.cb_evict.specs.BeginStep.{IsBatchMade, IsBeginStep, is_leaving, few_spans, few_nodes, begins}
 use Rattle.cb_evict.specs.EvictStep.{loose_frames}
-use Rattle.cb_evict.specs.Looking.{IsIn}
 use Rattle.cb_evict.proofs.AfterEvict.{in_or_not, leaves_free}
 use Rattle.cb_evict.proofs.BeginParts.{leaving_batch, spans_batch, nodes_batch}
 use Rattle.cb_evict.proofs.Begun.{reserved_others}

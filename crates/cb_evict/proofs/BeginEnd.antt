@@ -1,5 +1,5 @@
 -- The end of a begin: rows are read, the set is reserved, and the batch is noted.
-use Rattle.std.proofs.Common.{◌≡◌, ℕ, ◌+◌, ◌*◌, ◌<◌, List, [], ◌++◌, length, get_or, All, replicate, Option, None, Some, sym, refl, ap, ◌∙◌, subst, arith}
+use Rattle.std.proofs.Common.{◌≡◌, ℕ, ◌+◌, List, ◌++◌, length, replicate, Option, None, Some, sym, refl, ap, ◌∙◌, subst, arith}
 use Rattle.std.specs.List.{slice_get}
 use Rattle.std.proofs.lemmas.List.{length-replicate}
 use Rattle.std.proofs.lemmas.Option.{slice_get_within, get_or_from_slice_get}
@@ -15,9 +15,8 @@ use Rattle.cb_world.specs.declared.leaving.Former.{Former}
 use Rattle.cb_world.specs.declared.shown.Shown.{Shown}
 use Rattle.cb_world.specs.FarState.{FarState}
 use Rattle.cb_world.specs.Played.{played}
-use Rattle.cb_world.specs.Looks.{NoLook, told_by}
 use Rattle.cb_world.specs.Sound.{Sound}
-use Rattle.cb_world.specs.Written.{Writes, written_by}
+use Rattle.cb_world.specs.Written.{written_by}
 use Rattle.cb_world.proofs.Tracing.{played_append, written_append}
 use Rattle.cb_evict.specs.Candidates.{candidates}
 use Rattle.cb_evict.specs.Events.{TouchesOnly, IsSteady}

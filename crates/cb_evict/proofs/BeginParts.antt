@@ -1,9 +1,8 @@
 -- The parts of a begin one after another.
-use Rattle.std.proofs.Common.{◌≡◌, ◌⊎◌, ℕ, ◌+◌, ◌<◌, ◌≤◌, List, [], ◌∷◌, ◌++◌, length, get_or, All, replicate, Option, Some, None, sym, refl, ap, ◌∙◌, subst, arith, inl, inr}
+use Rattle.std.proofs.Common.{◌≡◌, ◌⊎◌, ℕ, ◌+◌, ◌≤◌, List, [], ◌++◌, length, get_or, All, replicate, Option, Some, None, sym, refl, ap, ◌∙◌, subst, arith, inl, inr}
 use Rattle.std.specs.List.{Contains}
 use Rattle.std.specs.Option.{option_map}
 use Rattle.std.proofs.lemmas.List.{take_at, length-append}
-use Rattle.cb_span.specs.Contents.{Contents}
 use Rattle.cb_gf256.specs.Rows.{row_at}
 use Rattle.cb_member.specs.declared.names.Shard.{Shard}
 use Rattle.cb_types.specs.declared.config.Config.{Config}
@@ -17,12 +16,10 @@ use Rattle.cb_world.specs.Shown.{object_at}
 use Rattle.cb_world.specs.Choices.{room_count}
 use Rattle.cb_world.specs.FarState.{FarState}
 use Rattle.cb_world.specs.Leaving.{LeavingState}
-use Rattle.cb_world.specs.Looks.{told_by}
 use Rattle.cb_world.specs.Now.{now}
 use Rattle.cb_world.specs.Performs.{Performs}
 use Rattle.cb_world.specs.Played.{played}
 use Rattle.cb_world.specs.Sound.{Sound}
-use Rattle.cb_world.specs.Still.{IsStill}
 use Rattle.cb_world.proofs.AfterLook.{taken_before}
 use Rattle.cb_world.proofs.Tracing.{played_append}
 use Rattle.cb_world.proofs.Untouched.{allowed_append}
@@ -31,11 +28,11 @@ use Rattle.cb_evict.specs.Claiming.{ClaimsSpans}
 use Rattle.cb_evict.specs.Events.{OnlyLooks}
 use Rattle.cb_evict.specs.EvictEffect.{EvictEffect}
 use Rattle.cb_evict.specs.EvictRule.{HasFewSpans, HasFewNodes, HasBoth, EvictRule}
-use Rattle.cb_evict.specs.Evicting.{IsReady, RuleAfter}
+use Rattle.cb_evict.specs.Evicting.{RuleAfter}
 use Rattle.cb_evict.specs.Loading.{LiesInOne}
 use Rattle.cb_evict.specs.Looking.{IsIn, LooksOver}
-use Rattle.cb_evict.specs.BeginRule.{HasBegun, HasBatch, HasLooked, BeginRule}
-use Rattle.cb_evict.specs.BeginEffect.{IsClaimedNow, IsBegun, BeginEffect}
+use Rattle.cb_evict.specs.BeginRule.{HasBegun, HasBatch, BeginRule}
+use Rattle.cb_evict.specs.BeginEffect.{IsBegun, BeginEffect}
 use Rattle.cb_evict.specs.Beginning.{BeginsAfter, BeginsClaimed}
 use Rattle.cb_evict.proofs.Composed.{few_spans, few_nodes, row_before, told_next, nothing_before, left_before, looks_touch, claims_touch, wide_touch, loose_then, are_ready}
 use Rattle.cb_evict.proofs.Events.{touches_append, found_after, first_append, looks_before, looks_change, looks_steady}
@@ -95,12 +92,12 @@ nodes_refusal n r e = record {
 pub refused_rule : (c : Config) (far : FarState) (r : Reply) (es : List Event)
     → far.leaving ≡ None → IsRefusal r → EvictRule c far far r es → BeginRule c far far r es
 refused_rule c far r es none off x = inr (record {
-    none = none;
-    loose = x.loose;
-    found = x.found;
-    answered = by x.answered;
-    touches = x.touches;
-  })
+  none = none;
+  loose = x.loose;
+  found = x.found;
+  answered = by x.answered;
+  touches = x.touches;
+})
   where
     by : HasFewSpans c far far r x.loose ⊎ (HasFewNodes c far far r x.loose
         ⊎ HasBoth c far far r x.loose es)

@@ -1,22 +1,19 @@
 -- Over a still desk a begin is a step: what its rule and its effect say is exact there.
-use Rattle.std.proofs.Common.{◌≡◌, ◌⊎◌, ℕ, ◌+◌, ◌*◌, ◌^◌, ◌<◌, ◌≤◌, Bool, false, List, length, get_or, map, ◌++◌, take, Option, Some, None, refl, sym, ap, ◌∙◌, subst, arith, inl, inr}
+use Rattle.std.proofs.Common.{◌≡◌, ◌⊎◌, ℕ, ◌+◌, ◌*◌, ◌^◌, ◌<◌, ◌≤◌, Bool, false, List, length, get_or, map, ◌++◌, take, None, refl, sym, ap, ◌∙◌, subst, arith, inl, inr}
 use Rattle.std.proofs.lemmas.Bool.{cases_lt}
 use Rattle.std.proofs.lemmas.List.{get_or_past, length-take-le}
-use Rattle.cb_ptr.specs.declared.word.State.TheVariants as word
 use Rattle.cb_ptr.specs.Steps.{Claims}
 use Rattle.cb_ptr.specs.Word.{flag_number, hot_of, len_of, place_of}
 use Rattle.cb_ptr.proofs.Laws.{claims, claimed_below, same_but_hot}
 use Rattle.cb_types.specs.declared.reply.Reply.{Reply}
 use Rattle.cb_world.specs.declared.event.Event.{Event}
-use Rattle.cb_world.specs.declared.leaving.Former.{Former}
 use Rattle.cb_world.specs.declared.object.Object.{Object}
 use Rattle.cb_world.specs.declared.object.Object.TheVariants as is
 use Rattle.cb_world.specs.declared.shown.Shown.{Shown}
-use Rattle.cb_world.specs.Shown.{Fits, hot_at}
+use Rattle.cb_world.specs.Shown.{Fits}
 use Rattle.cb_world.specs.FarSound.{batch_rows}
 use Rattle.cb_world.specs.FarState.{FarState}
 use Rattle.cb_world.specs.Grasped.{IsFree}
-use Rattle.cb_world.specs.Leaving.{LeavingState}
 use Rattle.cb_world.specs.Memory.{window}
 use Rattle.cb_world.specs.Now.{now}
 use Rattle.cb_world.specs.Placed.{leaving_frames}
@@ -31,7 +28,7 @@ use Rattle.cb_world.proofs.Known.{AreSeen, seen_after, seen_known}
 use Rattle.cb_world.proofs.StillWords.{word_back}
 use Rattle.cb_world.proofs.StillPerforms.{PerformsStill, RunsStill, runs_still, known_then, stays_still}
 use Rattle.cb_evict.specs.BeginEffect.{IsLeavingNow, IsBegun, BeginEffect}
-use Rattle.cb_evict.specs.BeginRule.{with_batch, new_batch, HasBegun, HasBatch, HasLooked, IsLeavingAlready, BeginRule}
+use Rattle.cb_evict.specs.BeginRule.{new_batch, HasBegun, HasBatch, BeginRule}
 use Rattle.cb_evict.specs.BeginStep.{AreHeld, IsBegunTo, IsBeginStep, is_leaving, few_spans, few_nodes, begins}
 use Rattle.cb_evict.specs.EvictRule.{HasFewSpans, HasFewNodes}
 use Rattle.cb_evict.specs.EvictStep.{loose_frames}

@@ -1,15 +1,15 @@
 -- Claimed spans begin to leave.
-use Rattle.std.proofs.Common.{◌≡◌, ◌≢◌, ◌⊎◌, ℕ, zero, suc, ◌+◌, ◌*◌, ◌<◌, ◌≤◌, Bool, true, false, cond, List, [], ◌++◌, length, get_or, All, replicate, map as mapped, Option, None, Some, sym, refl, ap, ◌∙◌, subst, arith, inl, inr}
+use Rattle.std.proofs.Common.{◌≡◌, ◌≢◌, ◌⊎◌, ℕ, zero, suc, ◌+◌, ◌*◌, ◌<◌, ◌≤◌, Bool, true, false, cond, List, [], ◌++◌, length, get_or, replicate, map as mapped, Option, None, Some, sym, refl, ap, ◌∙◌, subst, arith, inl, inr}
 use Rattle.std.specs.List.{Contains, slice_get}
 use Rattle.std.specs.FinMap as map
 use Rattle.std.specs.Cmp.{nat_cmp_total}
 use Rattle.std.specs.Ordering.{nat_cmp, eq_by_cmp}
 use Rattle.std.proofs.lemmas.Bool.{cases_eq}
 use Rattle.std.proofs.lemmas.Bool.Decides.{nat_tests}
-use Rattle.std.proofs.lemmas.List.{get_or_default, get_or_append_left, get_or-map, length-map, length-replicate, get_or-replicate, ext_get_or}
+use Rattle.std.proofs.lemmas.List.{get_or_append_left, get_or-map, length-map, length-replicate, get_or-replicate, ext_get_or}
 use Rattle.std.proofs.lemmas.List.Elements.{All-contains}
 use Rattle.std.proofs.lemmas.Option.{slice_get-get_or, slice_get_within, get_or_from_slice_get}
-use Rattle.cb_class.specs.Class.{IsClassOf, words_of}
+use Rattle.cb_class.specs.Class.{words_of}
 use Rattle.cb_gf256.specs.CodeWord.{IsCodeWord}
 use Rattle.cb_gf256.specs.InRange.{IsInRange}
 use Rattle.cb_gf256.specs.Rows.{row_at, HoldBytes}
@@ -25,8 +25,8 @@ use Rattle.cb_world.specs.declared.leaving.Former.{Former}
 use Rattle.cb_world.specs.declared.object.Object.{Object}
 use Rattle.cb_world.specs.declared.object.Object.TheVariants as is
 use Rattle.cb_world.specs.declared.shown.Shown.{Shown}
-use Rattle.cb_world.specs.Shown.{object_at, version_at, hot_at, never}
-use Rattle.cb_world.specs.FarState.{FarState, span_in, resident, handle_in}
+use Rattle.cb_world.specs.Shown.{object_at, version_at, never}
+use Rattle.cb_world.specs.FarState.{FarState, span_in, handle_in}
 use Rattle.cb_world.specs.FarSound.{IsShardOf, Owner, of_set, of_leaving, of_joining, batch_rows, AwaySound, FarSound, IsBatch}
 use Rattle.cb_world.specs.Homes.{home_at}
 use Rattle.cb_world.specs.Join.{IsFresh}
@@ -41,19 +41,17 @@ use Rattle.cb_world.specs.RowWords.{words_in, row_of}
 use Rattle.cb_world.specs.SetAdded.{is_far}
 use Rattle.cb_world.specs.Sets.{Kept, SetMap, set_in, if_committed}
 use Rattle.cb_world.specs.SetWord.{IsSpanWord}
-use Rattle.cb_world.specs.Sound.{Sound, IsNoted, AreNoted, IsLeaving, Leaves}
+use Rattle.cb_world.specs.Sound.{Sound, IsNoted, AreNoted, IsLeaving}
 use Rattle.cb_world.specs.Written.{Writes}
 use Rattle.cb_world.proofs.Added.{was_far}
 use Rattle.cb_world.proofs.Apart.{slot_inside, some_same}
 use Rattle.cb_world.proofs.Freed.{one_slot}
 use Rattle.cb_world.proofs.Tracing.{found_more, taken_more}
-use Rattle.cb_evict.specs.Candidates.{Names, candidates, AreUnique}
+use Rattle.cb_evict.specs.Candidates.{candidates, AreUnique}
 use Rattle.cb_evict.specs.Claims.{IsHeldAt, IsClaimedBy, IsNone, WasHere, AreClaimed}
-use Rattle.cb_evict.specs.Claiming.{IsOne}
 use Rattle.cb_evict.specs.Evicting.{AreTaken}
-use Rattle.cb_evict.specs.EvictRule.{IsInRow}
 use Rattle.cb_evict.specs.BeginRule.{blank_shards, blank_shard, new_batch, with_batch, HasBegun}
-use Rattle.cb_evict.specs.BeginEffect.{IsLeavingNow, IsClaimedNow, IsBegun}
+use Rattle.cb_evict.specs.BeginEffect.{IsBegun}
 use Rattle.cb_evict.specs.Looking.{IsIn}
 use Rattle.cb_evict.proofs.Claims.{among, no_former}
 use Rattle.cb_evict.proofs.Evicts.{IsFrameRow, row_length}
@@ -357,7 +355,7 @@ module _ (c : Config) (far : FarState) (frames : List ℕ) (formers : List Forme
       let z : y.0.handle ≢ h = All-contains (λ f. f.handle ≢ h) formers y.0 none y.1 in z y.2
 
   out_none : (h : ℕ) → (IsIn far.spans frames h → ⊥) → IsNone formers h
-  out_none h out = elim (either h) [ | inl x ↦ absurd (out x) | inr none ↦ none ]
+  out_none h out = elim (either h) [ inl x ↦ absurd (out x) | inr none ↦ none ]
 
   near : (h : ℕ) → (object_at t h ≡ object_at s h) ⊎ IsHome s t h
   near h = elim (either h) [

@@ -1,11 +1,9 @@
 -- Worked examples of a begin: the loose one of two spans is leaving from here; and for each part of
 -- what is said of it a value that breaks that part alone.
-use Rattle.std.proofs.Common.{◌≡◌, ℕ, zero, suc, ◌+◌, ◌*◌, ◌^◌, ◌<◌, ◌≤◌, Bool, true, false, List, [], ◌∷◌, ◌++◌, length, map as mapped, All, Option, None, Some, refl, sym, ap, ◌∙◌, subst, lit<, lit≤, arith, inl, inr}
+use Rattle.std.proofs.Common.{◌≡◌, ℕ, zero, suc, ◌+◌, ◌≤◌, Bool, true, false, List, [], ◌∷◌, ◌++◌, length, All, None, Some, refl, sym, ap, ◌∙◌, subst, lit<, lit≤, arith, inl, inr}
 use Rattle.std.specs.FinMap as map
-use Rattle.std.specs.List.{Contains, AllPairs, slice_get}
 use Rattle.std.proofs.lemmas.Bool.{false≢true}
 use Rattle.std.proofs.lemmas.List.Elements.{All-nil, All-cons}
-use Rattle.cb_gf256.specs.Rows.{row_at}
 use Rattle.cb_ptr.specs.Steps.{Claims}
 use Rattle.cb_ptr.proofs.Laws.{claims}
 use Rattle.cb_types.specs.declared.config.Config.{Config}
@@ -15,26 +13,35 @@ use Rattle.cb_types.specs.declared.reply.Reply.TheVariants as answer
 use Rattle.cb_world.specs.declared.event.Event.{Event}
 use Rattle.cb_world.specs.declared.event.Event.TheVariants.{Looked, Claimed}
 use Rattle.cb_world.specs.declared.leaving.Former.{Former}
+use Rattle.cb_set.specs.SetState.{SetState}
+use Rattle.cb_span.specs.Contents.{Contents, handle_at}
+use Rattle.cb_span.specs.declared.temp.Temp.TheVariants.{Cold}
+use Rattle.cb_world.specs.declared.object.Object.{Object}
 use Rattle.cb_world.specs.declared.object.Object.TheVariants as is
 use Rattle.cb_world.specs.declared.shown.Shown.{Shown}
-use Rattle.cb_world.specs.FarState.{FarState}
+use Rattle.cb_world.specs.FarState.{FarState, span_in}
+use Rattle.cb_world.specs.Now.{now}
+use Rattle.cb_world.specs.Reserved.{set_from}
+use Rattle.cb_world.specs.Shown.{object_at, never}
 use Rattle.cb_world.specs.Leaving.{LeavingState}
-use Rattle.cb_world.specs.Looks.{IsFound, IsTaken}
-use Rattle.cb_world.specs.Memory.{window}
+use Rattle.cb_world.specs.Looks.{IsFound, IsTaken, told_by}
+use Rattle.cb_world.specs.Memory.{window, put}
 use Rattle.cb_world.specs.Plain.{Words}
-use Rattle.cb_world.specs.RowWords.{row_of}
-use Rattle.cb_world.specs.Sets.{Kept, set_in}
+use Rattle.cb_world.specs.Sets.{set_in, if_committed}
 use Rattle.cb_world.specs.SetWord.{IsSpanWord}
 use Rattle.cb_world.specs.World.{word_at}
-use Rattle.cb_evict.specs.BeginEffect.{IsClaimedNow, BeginEffect}
-use Rattle.cb_evict.specs.BeginRule.{new_batch, with_batch, IsLeavingAlready, BeginRule}
+use Rattle.cb_evict.specs.BeginEffect.{IsClaimedNow, IsBegun, BeginEffect}
+use Rattle.cb_evict.specs.BeginRule.{blank_shards, new_batch, with_batch, HasBegun, IsLeavingAlready}
+use Rattle.cb_evict.specs.EvictRule.{IsInRow, AreInRows}
+use Rattle.cb_evict.proofs.Begun.{reserved_kept}
+use Rattle.cb_evict.proofs.NewSet.{set_added_in}
 use Rattle.cb_evict.specs.BeginStep.{frame_rows, AreHeld, IsBegunTo, IsBatchMade, IsBeginStep, is_leaving, few_spans, few_nodes, begins}
 use Rattle.cb_evict.specs.Claims.{AreApart}
 use Rattle.cb_evict.specs.Claiming.{AreOf}
 use Rattle.cb_evict.specs.Looking.{IsIn}
 use Rattle.cb_evict.proofs.BeginParts.{leaving_batch, spans_batch}
-use Rattle.cb_evict.proofs.WorkedEvictStep.{settings, desk, calm, pinned, moving, pair, busy, lone, one_node, first_object, only_object}
-use Rattle.cb_evict.proofs.WorkedSetMade.{row, is_word, two_nodes}
+use Rattle.cb_evict.proofs.WorkedEvictStep.{settings, desk, calm, pinned, moving, pair, busy, lone, one_node, first_object, only_object, span_with, same_number, none_is}
+use Rattle.cb_evict.proofs.WorkedSetMade.{row, row_words, zero_row, is_word, two_nodes}
 
 -- ---- words of objects that are claimed
 -- the first object is here, the other one pinned; all memory words are 0
@@ -94,10 +101,6 @@ abbrev leaving_with : List Former → List (List ℕ) → FarState
 leaving_with words parities = with_batch settings pair (0 ∷ []) words parities
 
 -- its frame has zeros, and so has its parity
-zero_row : row_of (window [] 0 512) ≡ row
-unfolding row window
-zero_row = refl
-
 word_is : IsSpanWord 1 1 (frame_rows start (0 ∷ []) ++ row ∷ [])
 word_is = subst (λ (r : List ℕ). IsSpanWord 1 1 (r ∷ row ∷ [])) (sym zero_row) is_word
 
@@ -179,7 +182,6 @@ not_without a =
     let count = ap (λ (l : List (List ℕ)). length l) (same_batch (former ∷ []) [] claimed a).1 in
     let one = a.count in
     absurd (omega (arith, count, one))
-
 
 not_drawn : IsBegunTo start claimed pair (record (leaving_with (former ∷ []) (row ∷ [])) {
   counts = pair.counts;
@@ -348,3 +350,155 @@ not_before a = differ _ _ a.was
   where
     differ : (len place : ℕ) → is.Claimed 8 0 3 (7 ∷ []) ≡ is.Here len place → ⊥
     differ len place e = cc
+
+-- ---- the rule
+abbrev claim_zeros : List Event
+claim_zeros = Claimed 0 calm 3 (0 ∷ []) ∷ []
+
+same_span : (a b : Contents) → Some a ≡ Some b → a ≡ b
+same_span a b e = cc
+
+in_row : IsInRow claim_zeros (span_with Cold 0) row 1 0
+in_row = record {
+  word = calm;
+  version = 3;
+  words = 0 ∷ [];
+  found = inr ((refl, refl), tt);
+  told = inr (refl, refl, refl);
+  contents = sym row_words;
+}
+
+in_rows : AreInRows claim_zeros pair (0 ∷ []) (row ∷ [])
+in_rows zero f slot h span at there named =
+    let frame : 0 ≡ f = same_number 0 f at in
+    let same : span_with Cold 0 ≡ span = same_span (span_with Cold 0) span
+    (ap (span_in pair.spans) frame ∙ there) in
+    subst (λ (s : Contents). IsInRow claim_zeros s row slot h) same
+    (by slot (ap (λ (s : Contents). handle_at s slot) same ∙ named))
+  where
+    by : (slot : ℕ) → handle_at (span_with Cold 0) slot ≡ Some h
+        → IsInRow claim_zeros (span_with Cold 0) row slot h
+    by zero e = absurd (none_is h e)
+    by (suc zero) e = subst (λ (k : ℕ). IsInRow claim_zeros (span_with Cold 0) row 1 k)
+        (same_number 0 h e) in_row
+    by (suc (suc n)) e = absurd (none_is h e)
+in_rows (suc p) f slot h span at there named = absurd (none_is f at)
+
+has_begun : HasBegun settings pair second (0 ∷ []) claim_zeros
+has_begun = record {
+  words = former ∷ [];
+  rows = row ∷ [];
+  parities = row ∷ [];
+  of = of_first;
+  each_once = λ i j d less within. absurd (omega (arith, less, within));
+  found = All-cons (λ (f : Former). IsFound f.handle f.word claim_zeros) former []
+      (inr ((refl, refl), tt)) (All-nil (λ (f : Former). IsFound f.handle f.word claim_zeros));
+  contents = in_rows;
+  counts = (refl, refl);
+  word = is_word;
+  state = refl;
+}
+
+-- a word that no claim found is not noted
+not_without_claim : HasBegun settings pair second (0 ∷ []) [] → ⊥
+not_without_claim a =
+    let batch = some_batch (new_batch settings pair (0 ∷ []) (former ∷ []) (row ∷ []))
+    (new_batch settings pair (0 ∷ []) a.words a.parities) (ap (λ (f : FarState). f.leaving) a.state) in
+    let found = subst (λ (l : List Former). All (λ (f : Former). IsFound f.handle f.word []) l)
+    (sym (ap (λ (b : LeavingState). b.words) batch)) a.found in
+    found 0 former (lit< tt)
+
+-- the set that is kept is not committed
+not_committed : (set : SetState) → HasBegun settings pair (record second {
+  sets = map.insert pair.sets 0 (record { set = set; committed = true });
+}) (0 ∷ []) claim_zeros → ⊥
+not_committed set a = some_none set (sym (set_added_in pair.sets 0 set)
+    ∙ ap (λ (f : FarState). set_in f.sets 0) a.state
+    ∙ ap if_committed (reserved_kept pair.sets 0 (set_from 0 (blank_shards 2) pair.spans (0 ∷ []))))
+  where
+    some_none : (x : SetState) → Some x ≡ None → ⊥
+    some_none x e = cc
+
+-- ---- the effect
+abbrev both : List Object → Shown
+both objects = record here { objects = objects }
+
+abbrev held_object : Object
+held_object = is.Claimed 8 0 3 (7 ∷ [])
+
+abbrev effect_of : Shown → Type 0
+effect_of t = IsBegun pair second claim (both (is.Here 8 0 ∷ is.Here 8 1 ∷ [])) t
+
+is_begun : effect_of (both (held_object ∷ is.Here 8 1 ∷ []))
+unfolding put window
+is_begun = record {
+  claimed = λ h i. subst (IsClaimedNow claim (both (is.Here 8 0 ∷ is.Here 8 1 ∷ []))
+      (both (held_object ∷ is.Here 8 1 ∷ []))) (only_object h i) (record {
+        word = calm;
+        version = 3;
+        words = 7 ∷ [];
+        found = inr ((refl, refl), tt);
+        told = inr (refl, refl, refl);
+        was = refl;
+        object = refl;
+      });
+  others = λ h out. other h out;
+  hots = refl;
+  first = refl;
+  objects = refl;
+  versions = refl;
+  memory = refl;
+  nothing = λ old. refl;
+  same_now = λ h. now_of h;
+}
+  where
+    other : (h : ℕ) → ¬ (IsIn pair.spans (0 ∷ []) h)
+        → object_at (both (held_object ∷ is.Here 8 1 ∷ [])) h
+        ≡ object_at (both (is.Here 8 0 ∷ is.Here 8 1 ∷ [])) h
+    other zero out = absurd (out first_object)
+    other (suc h) out = refl
+
+    now_of : (h : ℕ) → now (both (held_object ∷ is.Here 8 1 ∷ [])) second h
+        ≡ now (told_by claim (both (is.Here 8 0 ∷ is.Here 8 1 ∷ []))) pair h
+    now_of zero = refl
+    now_of (suc zero) = refl
+    now_of (suc (suc h)) = refl
+
+here_claimed : (len place v : ℕ) (xs : List ℕ) → is.Here 8 0 ≡ is.Claimed len place v xs → ⊥
+here_claimed len place v xs e = cc
+
+-- the object is claimed, and another one stays
+not_left : effect_of (both (is.Here 8 0 ∷ is.Here 8 1 ∷ [])) → ⊥
+not_left a = let x = a.claimed 0 first_object in here_claimed _ _ _ _ x.object
+
+not_freed : effect_of (both (held_object ∷ is.Empty 4 ∷ [])) → ⊥
+not_freed a = differ (a.others 1 (λ i. let z = only_object 1 i in omega (arith, z)))
+  where
+    differ : is.Empty 4 ≡ is.Here 8 1 → ⊥
+    differ e = cc
+
+not_added : effect_of (both (held_object ∷ is.Here 8 1 ∷ never ∷ [])) → ⊥
+not_added a = let e : 3 ≡ 2 = a.objects in absurd (omega (arith, e))
+
+not_warmed : effect_of (record (both (held_object ∷ is.Here 8 1 ∷ [])) { hots = true ∷ [] }) → ⊥
+not_warmed a = false≢true (sym (first_bit true false a.hots))
+  where
+    first_bit : (x y : Bool) → x ∷ [] ≡ y ∷ [] → x ≡ y
+    first_bit x y e = cc
+
+not_later : effect_of (record (both (held_object ∷ is.Here 8 1 ∷ [])) { first = 2 }) → ⊥
+not_later a = let e : 2 ≡ 1 = a.first in absurd (omega (arith, e))
+
+not_stamped : effect_of (record (both (held_object ∷ is.Here 8 1 ∷ [])) { versions = [] }) → ⊥
+not_stamped a = let e : 0 ≡ 1 = ap (λ (l : List ℕ). length l) a.versions in absurd (omega (arith, e))
+
+not_stored : effect_of (record (both (held_object ∷ is.Here 8 1 ∷ [])) { memory = [] }) → ⊥
+unfolding put
+not_stored a = let e : 0 ≡ 1 = ap (λ (l : List ℕ). length l) a.memory in absurd (omega (arith, e))
+
+-- a refusal changes nothing
+not_refused : BeginEffect pair pair (answer.NoSpans 0) [] here (taken 3 7) → ⊥
+not_refused a = differ (a.left (λ id e. spans_batch 0 (answer.NoSpans 0) id refl e)).objects
+  where
+    differ : is.Claimed 8 0 3 (7 ∷ []) ∷ [] ≡ is.Here 8 0 ∷ [] → ⊥
+    differ e = cc

@@ -21,7 +21,7 @@ use Rattle.cb_world.specs.Choices.{numbered, room_count, stands_on, IsLeastNode}
 use Rattle.cb_world.specs.FarState.{FarState, span_in, resident, handle_in}
 use Rattle.cb_world.specs.Homes.{home_at}
 use Rattle.cb_world.specs.Memory.{window}
-use Rattle.cb_world.specs.RowWords.{words_from, words_in}
+use Rattle.cb_world.specs.RowWords.{words_from, words_in, row_of}
 use Rattle.cb_world.specs.Sets.{set_in}
 use Rattle.cb_world.specs.Stored.{all_put}
 use Rattle.cb_span.specs.declared.temp.Temp.TheVariants.{Cold}
@@ -40,6 +40,11 @@ row = replicate 4096 0
 abbrev rows : List (List ℕ)
 rows = row ∷ row ∷ []
 
+-- the bytes of a frame of zeros
+pub zero_row : row_of (window [] 0 512) ≡ row
+unfolding row window
+zero_row = refl
+
 row_length : length row ≡ 4096
 unfolding row
 row_length = length-replicate {A = ℕ} 4096 0
@@ -52,7 +57,7 @@ row_bytes : All (λ (b : ℕ). b < 2 ^ 8) row
 unfolding row
 row_bytes = All-replicate (λ (b : ℕ). b < 2 ^ 8) 4096 0 (lit< tt)
 
-row_words : window (words_in row) (1 * words_of (record { index = 0 })) 1 ≡ 0 ∷ []
+pub row_words : window (words_in row) (1 * words_of (record { index = 0 })) 1 ≡ 0 ∷ []
 unfolding row words_of bytes_of window words_from
 row_words = refl
 

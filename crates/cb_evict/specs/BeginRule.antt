@@ -1,5 +1,5 @@
 -- The rule of a begin.
-use Rattle.std.specs.Prelude.{◌≡◌, ◌⊎◌, ℕ, ◌+◌, ◌≤◌, ◌++◌, false, List, [], Option, None, Some, All, length, replicate, take}
+use Rattle.std.specs.Prelude.{◌≡◌, ◌⊎◌, ℕ, ◌+◌, ◌≤◌, ◌++◌, false, List, [], None, Some, All, length, replicate, take}
 use Rattle.std.specs.FinMap as map
 use Rattle.cb_member.specs.declared.names.Shard.{Shard}
 use Rattle.cb_types.specs.declared.config.Config.{Config}

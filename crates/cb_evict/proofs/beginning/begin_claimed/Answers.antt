@@ -1,4 +1,4 @@
-use Rattle.std.proofs.Common.{◌≡◌, ℕ, ◌+◌, ◌*◌, ◌<◌, ◌^◌, List, ◌++◌, length, get_or, All, Some, sym, ap, ◌∙◌, subst, arith}
+use Rattle.std.proofs.Common.{◌≡◌, ℕ, ◌+◌, ◌<◌, ◌^◌, List, ◌++◌, length, get_or, All, Some, sym, ap, ◌∙◌, subst, arith}
 use Rattle.cb_span.specs.Contents.{Contents}
 use Rattle.cb_types.specs.declared.config.Config.{Config}
 use Rattle.cb_types.specs.declared.config.Field.TheVariants.{K}
@@ -12,7 +12,6 @@ use Rattle.cb_world.specs.Allowed.{Allowed}
 use Rattle.cb_world.specs.FarState.{FarState, span_in}
 use Rattle.cb_world.proofs.Untouched.{allowed_append}
 use Rattle.cb_evict.specs.Claims.{AreApart, IsHeldAt}
-use Rattle.cb_evict.specs.Claiming.{GivesBack}
 use Rattle.cb_evict.specs.Evicting.{IsReady}
 use Rattle.cb_evict.specs.Loading.{LiesInOne}
 use Rattle.cb_evict.proofs.BeginEnd.{begins, starts, reads_in, batch_then, loads_as, parities_as, backs_as, blank_count}

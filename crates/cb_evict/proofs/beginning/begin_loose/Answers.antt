@@ -1,4 +1,4 @@
-use Rattle.std.proofs.Common.{◌≡◌, ℕ, ◌+◌, ◌<◌, List, length, get_or, All, refl, sym, ap, ◌∙◌, subst, arith}
+use Rattle.std.proofs.Common.{◌≡◌, ◌+◌, ◌<◌, List, length, get_or, All, refl, sym, ap, ◌∙◌, subst, arith}
 use Rattle.cb_types.specs.Config.{IsAccepted}
 use Rattle.cb_types.specs.declared.config.Config.{Config}
 use Rattle.cb_types.specs.declared.config.Field.TheVariants.{K, R}
@@ -11,7 +11,7 @@ use Rattle.cb_world.specs.Performs.{Performs}
 use Rattle.cb_evict.specs.Candidates.{AreUnique}
 use Rattle.cb_evict.specs.Claims.{AreApart, IsHeldAt}
 use Rattle.cb_evict.specs.Claiming.{GivesBack}
-use Rattle.cb_evict.specs.Evicting.{TouchesSpans, IsReady}
+use Rattle.cb_evict.specs.Evicting.{TouchesSpans}
 use Rattle.cb_world.specs.World.{IsConfigured}
 use Rattle.cb_world.specs.Still.{IsStill}
 use Rattle.cb_evict.specs.BeginRule.{blank_shards}

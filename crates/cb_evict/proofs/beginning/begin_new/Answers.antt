@@ -1,4 +1,4 @@
-use Rattle.std.proofs.Common.{◌≡◌, ◌≢◌, ℕ, ◌+◌, ◌≤◌, List, length, get_or, All, Some, refl, sym, ap, ◌∙◌, subst, arith, inl, inr}
+use Rattle.std.proofs.Common.{◌≡◌, ◌≢◌, ℕ, ◌≤◌, List, length, get_or, All, Some, refl, sym, ap, ◌∙◌, subst, arith, inl, inr}
 use Rattle.std.specs.List.{Contains, AllPairs}
 use Rattle.cb_types.specs.Config.{IsAccepted}
 use Rattle.cb_types.specs.declared.config.Config.{Config}
@@ -16,7 +16,7 @@ use Rattle.cb_evict.specs.Beginning.{BeginsAfter}
 use Rattle.cb_evict.proofs.BeginParts.{refuses, spans_refusal, nodes_refusal, looks_begin}
 use Rattle.cb_world.specs.World.{IsConfigured}
 use Rattle.cb_world.specs.Still.{IsStill}
-use Rattle.cb_evict.proofs.Composed.{if_map, on_err, any_err, both_err, nothing_done, loose_apart, looks_as, looks_fail, looks_alone, looks_refuse}
+use Rattle.cb_evict.proofs.Composed.{if_map, on_err, any_err, both_err, nothing_done, loose_apart, looks_as, looks_fail, looks_refuse}
 use Rattle.cb_evict.proofs.Loose.{loose_among}
 use Rattle.cb_evict.proofs.Ending.{place_in}
 use Rattle.cb_evict.proofs.Restored.{looked}
