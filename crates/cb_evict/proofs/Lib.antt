@@ -28,3 +28,6 @@ mod WorkedEvictStep
 mod WorkedSetMade
 mod EmptyWorld
 pub mod WhichWait
+pub mod PutShards
+pub mod ShippedFar
+pub mod ShipParts

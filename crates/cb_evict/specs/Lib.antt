@@ -12,3 +12,6 @@ pub mod EvictEffect
 pub mod EvictStep
 pub mod Evicting
 pub mod Waiting
+pub mod ShipRule
+pub mod ShipStep
+pub mod Shipping

@@ -8,10 +8,13 @@ mod closing;
 mod evicting;
 mod loading;
 mod looking;
+mod next_put;
 mod sending;
+mod shipping;
 mod storing;
 #[cfg(test)]
 mod tests;
 mod waiting;
 
 pub use evicting::evict_now;
+pub use shipping::ship;
