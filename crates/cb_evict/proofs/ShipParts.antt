@@ -73,6 +73,15 @@ batch_owned s far batch sound there f leaves =
 pub contains_at : (xs : List ℕ) (p x : ℕ) → slice_get xs p ≡ Some x → Contains xs x
 contains_at xs p x at = (p, slice_get_within xs p x at, get_or_from_slice_get xs p x x at)
 
+pub past_end : (xs : List ℕ) (p : ℕ) → slice_get xs p ≡ None → length xs ≤ p
+past_end xs p none = elim (cases_lt p (length xs)) [
+  | inl below ↦ absurd (none_some (get_or xs p 0) (sym none ∙ slice_get-get_or xs p 0 below))
+  | inr past ↦ past
+]
+  where
+    none_some : (x : ℕ) → None ≡ Some x → ⊥
+    none_some x e = cc
+
 abbrev frame_row : Shown → ℕ → List ℕ
 frame_row s f = row_of (window s.memory (512 * f) 512)
 

@@ -52,7 +52,7 @@ loss shard epoch = record { node = shard.node; epoch = epoch }
 shard_same : (a b : Shard) → Some (Some a) ≡ Some (Some b) → a ≡ b
 shard_same a b e = cc
 
-batch_same : (a b : LeavingState) → Some a ≡ Some b → a ≡ b
+pub batch_same : (a b : LeavingState) → Some a ≡ Some b → a ≡ b
 batch_same a b e = cc
 
 -- ---- shards by position
