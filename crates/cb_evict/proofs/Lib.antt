@@ -31,3 +31,4 @@ pub mod WhichWait
 pub mod PutShards
 pub mod ShippedFar
 pub mod ShipParts
+pub mod ShipStep
