@@ -43,3 +43,7 @@ pub mod AbortStep
 pub mod WhichWait
 mod BatchReady
 mod Commits
+pub mod OtherPuts
+pub mod ShippedFar
+pub mod ShipParts
+pub mod ShipStep

@@ -22,3 +22,6 @@ pub mod Committing
 pub mod CommitRule
 pub mod CommitStep
 pub mod Waiting
+pub mod ShipRule
+pub mod ShipStep
+pub mod Shipping

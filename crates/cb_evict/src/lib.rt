@@ -11,8 +11,10 @@ mod committing;
 mod evicting;
 mod loading;
 mod looking;
+mod next_put;
 mod restoring;
 mod sending;
+mod shipping;
 mod storing;
 mod waiting;
 
@@ -20,3 +22,4 @@ pub use aborting::abort;
 pub use beginning::begin;
 pub use committing::commit;
 pub use evicting::evict_now;
+pub use shipping::ship;
