@@ -22,7 +22,7 @@ use Rattle.cb_world.specs.Stored.{all_dropped}
 use Rattle.cb_world.specs.World.{IsKnown, word_at}
 use Rattle.cb_world.proofs.Pins.{pinned_still}
 use Rattle.cb_world.proofs.SetsLeft.{drop_count}
-use Rattle.cb_world.proofs.StillPerforms.{PerformsStill, runs_still, stays_still}
+use Rattle.cb_world.proofs.StillPerforms.{PerformsStill}
 use Rattle.cb_evict.specs.AbortRule.{HasGivenUp}
 use Rattle.cb_evict.specs.AbortStep.{ArePutBack, IsAbortStep, no_batch as none_to_abort, given_up}
 use Rattle.cb_evict.specs.BeginEffect.{BeginEffect}
@@ -32,8 +32,8 @@ use Rattle.cb_evict.specs.Claims.{IsNone}
 use Rattle.cb_evict.specs.CommitRule.{HasCommitted}
 use Rattle.cb_evict.specs.CommitStep.{ArePutAway, IsCommitStep, no_batch as none_to_commit, short, committed}
 use Rattle.cb_evict.specs.Restoring.{IsClaimedFrom}
-use Rattle.cb_evict.specs.ShipRule.{ReadsLeaving, Ships as ShipsRow}
-use Rattle.cb_evict.specs.ShipStep.{IsShipStep, rows_at_desk}
+use Rattle.cb_evict.specs.ShipRule.{ReadsLeaving}
+use Rattle.cb_evict.specs.ShipStep.{IsShipStep}
 use Rattle.cb_evict.proofs.AbortStep.{abort_step}
 use Rattle.cb_evict.proofs.AfterBegin.{begin_settings, begin_count, begin_versions, begin_pinned, begin_pins, begin_keeps as begin_parts, begin_sets}
 use Rattle.cb_evict.proofs.BeginStep.{begin_step}
@@ -42,7 +42,7 @@ use Rattle.cb_evict.proofs.CommitStep.{commit_step}
 use Rattle.cb_evict.proofs.EvictStep.{IsStepKnown}
 use Rattle.cb_evict.proofs.Homing.{length_closed}
 use Rattle.cb_evict.proofs.Noted.{claimed_all}
-use Rattle.cb_evict.proofs.ShipStep.{ship_step}
+use Rattle.cb_evict.proofs.ShipStep.{ships_leaves, ship_step, ship_stopped}
 use Rattle.cb_core.specs.Parts.{Holding}
 use Rattle.cb_core.specs.Step.{HoldOn, StillBegin, StillShip, StillCommit, StillAbort, StillShipLacks}
 use Rattle.cb_core.specs.Turned.{Begins, Ships, Commits, Aborts, ShipLacks}
@@ -122,37 +122,33 @@ begin_keeps x y far new r step =
     }
 
 -- ---- a ship
-ships_keep : (x y : Words) (far new : FarState) (r : Reply) (rows : LeavingState → List (List ℕ))
-    → y ≡ x → ShipsRow far new r rows → KeepsRest x y far new
-ships_keep x y far new r rows words (inl none) = keeps_same x y far new words none.same
-ships_keep x y far new r rows words (inr (inl all)) = keeps_same x y far new words all.same
-ships_keep x y far new r rows words (inr (inr (inl none))) = keeps_same x y far new words none.same
-ships_keep x y far new r rows words (inr (inr (inr z))) =
-    subst (λ (u : Words). KeepsRest x u far new) (sym words)
-    (subst (KeepsRest x x far) (sym z.state) (record {
+pub ship_keeps : (x y : Words) (far new : FarState) (r : Reply) → IsShipStep x y far new r
+    → KeepsRest x y far new
+ship_keeps x y far new r step =
+    let leaves = ships_leaves far new r _ step.ships in
+    let sets = leaves.set_numbers in
+    let epoch : new.members.epoch ≡ far.members.epoch = ap (λ (m : Membership). m.epoch) leaves.members in
+    let given = leaves.given in
+    subst (λ (u : Words). KeepsRest x u far new) (sym step.words) (record {
       settings = refl;
       count = refl;
       versions = refl;
       pins = λ h. refl;
       pinned = λ h some. refl;
-      spans = refl;
-      homes = refl;
-      nodes = length-set far.nodes.nodes z.shard.node.n _;
-      first = refl;
-      made = refl;
+      spans = ap (λ (l : List (Option Contents)). length l) leaves.spans;
+      homes = ap (λ (l : List (Option Home)). length l) leaves.homes;
+      nodes = leaves.nodes;
+      first = leaves.first;
+      made = leaves.made;
       rises = record {
-        turns = refl;
-        by_job = refl;
-        sets = omega arith;
-        keys = omega arith;
-        epoch = omega arith;
-        given = omega arith;
+        turns = leaves.turns;
+        by_job = leaves.by_job;
+        sets = omega (arith, sets);
+        keys = leaves.keys;
+        epoch = omega (arith, epoch);
+        given = omega (arith, given);
       };
-    }))
-
-pub ship_keeps : (x y : Words) (far new : FarState) (r : Reply) → IsShipStep x y far new r
-    → KeepsRest x y far new
-ship_keeps x y far new r step = ships_keep x y far new r (rows_at_desk x) step.words step.ships
+    })
 
 -- ---- the ends of a batch
 -- its objects had no pins; where they have none then, and other words stay, pins stay
@@ -314,11 +310,9 @@ ship_part c seats a b r good p =
 pub ship_lack : (c : Config) (seats : List SeatState)
     → CarriesLack c seats 1 Any (ShipLacks Ran Tells) StillShipLacks
 ship_lack c seats a b good any (same, p) =
-    let rules = ReadsLeaving a.far in
-    let q = subst (λ (f : FarState). PerformsStill a.desk b.desk a.far f rules IsStill) same p in
-    let e = both_same a b (stays_still a.desk b.desk a.far good.shown q.events
-    (runs_still a.desk b.desk a.far a.far rules IsStill good.shown good.known q)
-    (q.effect good.shown ((good.known.sized, good.known.shows), good.known.sound))) same in
+    let q = subst (λ (f : FarState). PerformsStill a.desk b.desk a.far f (ReadsLeaving a.far) IsStill)
+    same p in
+    let e = both_same a b (ship_stopped a.desk b.desk a.far good.shown q good.known) same in
     arrives_same c seats 1 a b (StillShipLacks a b) good e e
 
 pub commit_part : (c : Config) (seats : List SeatState)

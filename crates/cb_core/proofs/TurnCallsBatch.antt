@@ -12,7 +12,7 @@ use Rattle.cb_evict.specs.AbortStep.{IsAbortStep, no_batch as none_to_abort, giv
 use Rattle.cb_evict.specs.BeginStep.{IsBeginStep, is_leaving, few_spans, few_nodes, begins}
 use Rattle.cb_evict.specs.CommitStep.{IsCommitStep, no_batch as none_to_commit, short, committed}
 use Rattle.cb_evict.specs.ShipRule.{Ships as ShipsRow}
-use Rattle.cb_evict.specs.ShipStep.{IsShipStep, rows_at_desk}
+use Rattle.cb_evict.specs.ShipStep.{IsShipStep}
 use Rattle.cb_core.specs.Parts.{Holding}
 use Rattle.cb_core.specs.Step.{HoldOn, StillBegin, StillShip, StillCommit, StillAbort}
 use Rattle.cb_core.proofs.StillBatches.{KeepsRest, begin_keeps, ship_keeps, commit_keeps, abort_keeps}
@@ -62,16 +62,16 @@ begin_line x y far new r (few_spans none few same) = subst (IsReplyOf Begin) (sy
 begin_line x y far new r (few_nodes none few same) = subst (IsReplyOf Begin) (sym few.reply) tt
 begin_line x y far new r (begins m) = subst (IsReplyOf Begin) (sym m.reply) tt
 
-ships_line : (far new : FarState) (r : Reply) (rows : LeavingState → List (List ℕ))
-    → ShipsRow far new r rows → IsReplyOf Ship r
-ships_line far new r rows (inl none) = subst (IsReplyOf Ship) (sym none.reply) tt
-ships_line far new r rows (inr (inl all)) = subst (IsReplyOf Ship) (sym all.reply) tt
-ships_line far new r rows (inr (inr (inl none))) = subst (IsReplyOf Ship) (sym none.reply) tt
-ships_line far new r rows (inr (inr (inr z))) = subst (IsReplyOf Ship) (sym z.reply) tt
+ships_line : (far new : FarState) (r : Reply) (row : LeavingState → ℕ → List ℕ)
+    → ShipsRow far new r row → IsReplyOf Ship r
+ships_line far new r row (inl none) = subst (IsReplyOf Ship) (sym none.reply) tt
+ships_line far new r row (inr (inl all)) = subst (IsReplyOf Ship) (sym all.reply) tt
+ships_line far new r row (inr (inr (inl none))) = subst (IsReplyOf Ship) (sym none.reply) tt
+ships_line far new r row (inr (inr (inr z))) = subst (IsReplyOf Ship) (sym z.reply) tt
 
 pub ship_line : (x y : Words) (far new : FarState) (r : Reply) → IsShipStep x y far new r
     → IsReplyOf Ship r
-ship_line x y far new r step = ships_line far new r (rows_at_desk x) step.ships
+ship_line x y far new r step = ships_line far new r _ step.ships
 
 pub commit_line : (x y : Words) (far new : FarState) (r : Reply) → IsCommitStep x y far new r
     → IsReplyOf Commit r

@@ -34,7 +34,6 @@ use Rattle.cb_evict.specs.BeginStep.{is_leaving, few_spans as few_to_begin, few_
 use Rattle.cb_evict.specs.CommitStep.{no_batch as none_to_commit, short, committed}
 use Rattle.cb_evict.specs.EvictStep.{few_spans, few_nodes, made}
 use Rattle.cb_evict.specs.ShipRule.{Ships as ShipsRow}
-use Rattle.cb_evict.specs.ShipStep.{rows_at_desk}
 use Rattle.cb_evict.specs.Waiting.{waiting, least_waiting}
 use Rattle.cb_filter.specs.FilterStep.{refused, cools, without_slot, moves}
 use Rattle.cb_filter.specs.Seats.{Seat}
@@ -288,7 +287,7 @@ ships_all = (
 
 -- where positions wait
 ships_all_of_none : StillShip beside answer.AllShipped beside → ⊥
-ships_all_of_none (step, hold) = by step.ships
+ships_all_of_none (step, hold) = by _ step.ships
   where
     some_none : (p : ℕ) → Some p ≡ None → ⊥
     some_none p e = cc
@@ -299,13 +298,14 @@ ships_all_of_none (step, hold) = by step.ships
     all_shipped : (p : ℕ) → answer.AllShipped ≡ answer.Shipped p → ⊥
     all_shipped p e = cc
 
-    by : ShipsRow beside.far beside.far answer.AllShipped (rows_at_desk crowd.desk) → ⊥
-    by (inl n) = some_batch n.none
-    by (inr (inl all)) =
+    by : (row : LeavingState → ℕ → List ℕ) → ShipsRow beside.far beside.far answer.AllShipped row
+        → ⊥
+    by row (inl n) = some_batch n.none
+    by row (inr (inl all)) =
         some_none 0 (ap (λ (b : LeavingState). least_waiting crowd.far.members b.shards)
         (sym (batch_same all.batch all.there)) ∙ all.none)
-    by (inr (inr (inl n))) = all_no_node n.reply
-    by (inr (inr (inr z))) = all_shipped z.position z.reply
+    by row (inr (inr (inl n))) = all_no_node n.reply
+    by row (inr (inr (inr z))) = all_shipped z.position z.reply
 
 ships_all_and_warms : StillShip whole answer.AllShipped
     (record { desk = words_are hot pinned; far = whole.far }) → ⊥
