@@ -38,3 +38,4 @@ pub mod AbortStep
 pub mod WhichWait
 mod BatchReady
 mod Commits
+pub mod CommitStep
