@@ -33,10 +33,10 @@ use Rattle.cb_evict.proofs.Noted.{same_batch}
 use Rattle.cb_evict.proofs.WhichWait.{all_stand}
 
 -- ---- the refusals
-no_batch_set : (id : SetId) → answer.NoBatch ≡ answer.Set id → ⊥
+pub no_batch_set : (id : SetId) → answer.NoBatch ≡ answer.Set id → ⊥
 no_batch_set id e = cc
 
-short_set : (positions : List ℕ) (id : SetId) → answer.Short positions ≡ answer.Set id → ⊥
+pub short_set : (positions : List ℕ) (id : SetId) → answer.Short positions ≡ answer.Set id → ⊥
 short_set positions id e = cc
 
 pub not_committed : (runs : List Event → Type 0) (shows : Shown → Type 0) (far new : FarState)

@@ -47,3 +47,4 @@ pub mod OtherPuts
 pub mod ShippedFar
 pub mod ShipParts
 pub mod ShipStep
+pub mod CommitStep

@@ -86,10 +86,10 @@ is_word = record {
 }
 
 -- ---- the shards: both nodes are empty, and the one with the least number comes first
-abbrev shard : ℕ → Shard
+abbrev pub shard : ℕ → Shard
 shard n = record { node = numbered n; incarnation = 0; key = n }
 
-abbrev shards : List Shard
+abbrev pub shards : List Shard
 shards = shard 0 ∷ shard 1 ∷ []
 
 none_held : (n : ℕ) → held pair.nodes (numbered n) ≡ 0
@@ -141,10 +141,10 @@ pub two_nodes : room_count pair.nodes pair.members ≡ 2
 two_nodes = let a = none_held 0 in let b = none_held 1 in grind (arith, a, b)
 
 -- ---- the home of the object
-abbrev homes : List (Option Home)
+abbrev pub homes : List (Option Home)
 homes = Some (record { set = 0; position = 0; slot = 1 }) ∷ None ∷ None ∷ None ∷ []
 
-homed : HaveHomes pair.spans (0 ∷ []) 0 pair.homes homes
+pub homed : HaveHomes pair.spans (0 ∷ []) 0 pair.homes homes
 homed = record {
   count = refl;
   here = λ p f slot h at named. here p f slot h at named;
