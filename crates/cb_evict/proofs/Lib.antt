@@ -39,3 +39,4 @@ pub mod WhichWait
 mod BatchReady
 mod Commits
 pub mod CommitStep
+mod WorkedEnds
