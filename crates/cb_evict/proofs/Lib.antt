@@ -48,3 +48,4 @@ pub mod ShippedFar
 pub mod ShipParts
 pub mod ShipStep
 pub mod CommitStep
+mod WorkedEnds

@@ -33,8 +33,9 @@ use Rattle.cb_evict.specs.Closing.{with_homes}
 use Rattle.cb_evict.specs.CommitRule.{HasShort, HasCommitted, with_batch}
 use Rattle.cb_evict.specs.CommitStep.{ArePutAway, IsCommitStep, short, committed}
 use Rattle.cb_evict.specs.Committing.{AreAllPut, HasPlaces, with_shards}
-use Rattle.cb_evict.specs.Restoring.{IsClaimedFrom, AreRestored}
+use Rattle.cb_evict.specs.Restoring.{IsClaimedFrom, IsHereAt, AreRestored}
 use Rattle.cb_evict.specs.Waiting.{waiting}
+use Rattle.cb_evict.proofs.NamesShards.{insert_here}
 use Rattle.cb_evict.proofs.WorkedEvictStep.{calm, pinned, moving, away, desk, settings, pair}
 use Rattle.cb_evict.proofs.WorkedSetMade.{homes, homed, shard, shards}
 
@@ -199,7 +200,8 @@ the_second = All-cons (λ (f : Former). f.handle ≡ 1 → ⊥) hot [] (λ e. om
 
 are_restored : AreRestored claimed restored (hot ∷ [])
 are_restored = record {
-  here = All-cons _ hot [] (record { object = refl; hot = refl }) (All-nil _);
+  here = All-cons (IsHereAt restored) hot [] (record { object = refl; hot = refl })
+      (All-nil (IsHereAt restored));
   others = none_of_one (λ h. object_at restored h ≡ object_at claimed h) (λ h. refl);
   hots = none_of_one (λ h. hot_at restored h ≡ hot_at claimed h) (λ h. refl);
   objects = refl;
@@ -295,6 +297,7 @@ abort_refused : IsAbortStep back back pair pair answer.NoBatch
 abort_refused = no_batch not_leaving refl
 
 abort_done : IsAbortStep before back (leaving one_put) (without_batch (leaving one_put) (batch one_put)) answer.Done
+unfolding is_given_up
 abort_done = given_up is_given_up are_put_back
 
 -- ---- a commit
@@ -316,7 +319,7 @@ waits_no_more x =
     same : (a b : LeavingState) → Some a ≡ Some b → a ≡ b
     same a b e = cc
 
-positions_of : Reply → ℕ
+abbrev positions_of : Reply → ℕ
 positions_of (answer.Short positions) = length positions
 positions_of reply = 9
 
@@ -349,6 +352,7 @@ commit_short : IsCommitStep before before (leaving one_put) (leaving one_put) (a
 commit_short = short is_short refl
 
 commit_done : IsCommitStep before gone (leaving both_put) then (answer.Set (record { n = 0 }))
+unfolding is_committed
 commit_done = committed is_committed are_put_away
 
 commits_none : ¬ (HasCommitted pair pair (answer.Set (record { n = 0 })))
@@ -381,3 +385,25 @@ named : with_shards kept_set shards ≡ record {
   committed = false;
 }
 named = refl
+
+has_places : HasPlaces (leaving both_put).sets 0 both_put
+has_places = record {
+  kept = kept_set;
+  there = insert_here map.empty 0 kept_set;
+  places = refl;
+}
+
+same_kept : (a b : Kept) → Some a ≡ Some b → a ≡ b
+same_kept a b e = cc
+
+place_too_many : ¬ (HasPlaces (leaving both_put).sets 0 (None ∷ []))
+place_too_many x =
+    let e : kept_set ≡ x.kept = same_kept kept_set x.kept
+    (sym (insert_here map.empty 0 kept_set) ∙ x.there) in
+    absurd (let n : 2 ≡ 1 = ap (λ (k : Kept). length k.set.shards) e ∙ x.places in omega (arith, n))
+
+none_kept : ¬ (HasPlaces map.empty 0 both_put)
+none_kept x = absurd (some_none x.kept (sym x.there ∙ nothing map.empty 0 refl))
+  where
+    nothing : (sets : SetMap) (id : ℕ) → sets ≡ map.empty → map.get sets id ≡ None
+    nothing sets id e = grind (arith, map.gets, e)
