@@ -7,6 +7,7 @@ mod candidates;
 mod claiming;
 mod closing;
 mod evicting;
+mod finding;
 mod loading;
 mod looking;
 mod sending;
