@@ -40,3 +40,9 @@ mod BatchReady
 mod Commits
 pub mod CommitStep
 mod WorkedEnds
+pub mod Begun
+pub mod BeginParts
+mod BeginEnd
+pub mod BeginStep
+pub mod AfterBegin
+mod WorkedBegin

@@ -18,3 +18,8 @@ pub mod Committing
 pub mod CommitRule
 pub mod CommitStep
 pub mod Waiting
+pub mod Finding
+pub mod BeginRule
+pub mod BeginEffect
+pub mod Beginning
+pub mod BeginStep

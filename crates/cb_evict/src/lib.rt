@@ -3,11 +3,13 @@
 #![tactic(auto)]
 
 mod aborting;
+mod beginning;
 mod candidates;
 mod claiming;
 mod closing;
 mod committing;
 mod evicting;
+mod finding;
 mod loading;
 mod looking;
 mod restoring;
@@ -18,5 +20,7 @@ mod tests;
 mod waiting;
 
 pub use aborting::abort;
+pub use beginning::begin;
 pub use committing::commit;
+
 pub use evicting::evict_now;

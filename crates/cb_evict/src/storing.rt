@@ -144,7 +144,7 @@ pub(crate) fn next_number(far: &Far) -> u64
 }
 
 /// The set of the spans in these frames, with the next set number.
-fn next_set(far: &Far, shards: &[Shard], frames: &[u32]) -> Result<SpanSet, NoMemory>
+pub(crate) fn next_set(far: &Far, shards: &[Shard], frames: &[u32]) -> Result<SpanSet, NoMemory>
     requires there { All (λ f. (span : Contents) × (span_in far.now.spans f ≡ Some span)) frames.now }
     requires few { length shards.now < 2 ^ 32 }
     requires count { length frames.now ≤ length shards.now }
