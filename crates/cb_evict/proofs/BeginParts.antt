@@ -29,12 +29,13 @@ use Rattle.cb_evict.specs.Events.{OnlyLooks}
 use Rattle.cb_evict.specs.EvictEffect.{EvictEffect}
 use Rattle.cb_evict.specs.EvictRule.{HasFewSpans, HasFewNodes, HasBoth, EvictRule}
 use Rattle.cb_evict.specs.Evicting.{RuleAfter}
+use Rattle.cb_evict.specs.Finding.{FindsFew}
 use Rattle.cb_evict.specs.Loading.{LiesInOne}
 use Rattle.cb_evict.specs.Looking.{IsIn, LooksOver}
 use Rattle.cb_evict.specs.BeginRule.{HasBegun, HasBatch, BeginRule}
 use Rattle.cb_evict.specs.BeginEffect.{IsBegun, BeginEffect}
 use Rattle.cb_evict.specs.Beginning.{BeginsAfter, BeginsClaimed}
-use Rattle.cb_evict.proofs.Composed.{few_spans, few_nodes, row_before, told_next, nothing_before, left_before, looks_touch, claims_touch, wide_touch, loose_then, are_ready}
+use Rattle.cb_evict.proofs.Composed.{finds_few, few_spans, few_nodes, row_before, told_next, nothing_before, left_before, looks_touch, claims_touch, wide_touch, loose_then, are_ready}
 use Rattle.cb_evict.proofs.Events.{touches_append, found_after, first_append, looks_before, looks_change, looks_steady}
 use Rattle.cb_evict.proofs.Restored.{looked}
 
@@ -83,13 +84,13 @@ spans_refusal n r e = record {
   no_batch = λ id f. spans_batch n r id e f;
 }
 
-pub nodes_refusal : (n : ℕ) (r : Reply) → r ≡ answer.NoNodes n → IsRefusal r
+nodes_refusal : (n : ℕ) (r : Reply) → r ≡ answer.NoNodes n → IsRefusal r
 nodes_refusal n r e = record {
   no_set = λ id f. few_nodes n r id e f;
   no_batch = λ id f. nodes_batch n r id e f;
 }
 
-pub refused_rule : (c : Config) (far : FarState) (r : Reply) (es : List Event)
+refused_rule : (c : Config) (far : FarState) (r : Reply) (es : List Event)
     → far.leaving ≡ None → IsRefusal r → EvictRule c far far r es → BeginRule c far far r es
 refused_rule c far r es none off x = inr (record {
   none = none;
@@ -107,7 +108,7 @@ refused_rule c far r es none off x = inr (record {
     by (inr (inl a)) = inr (inl a)
     by (inr (inr a)) = absurd (off.no_set (record { n = far.counts.sets }) a.reply)
 
-pub refused_effect : (far : FarState) (r : Reply) (es : List Event) (s t : Shown) → IsRefusal r
+refused_effect : (far : FarState) (r : Reply) (es : List Event) (s t : Shown) → IsRefusal r
     → EvictEffect far far r es s t → BeginEffect far far r es s t
 refused_effect far r es s t off x = record {
   begun = λ id e. absurd (off.no_batch id e);
@@ -142,6 +143,19 @@ refuses_after c far r loose runs knows sound none off x = record {
   sound_after = x.sound_after;
   effect = λ s k. refused_effect far r x.events s (played x.events s) off (x.effect s k);
 }
+
+few_refusal : (c : Config) (far : FarState) (r : Reply) (loose : List ℕ)
+    → HasFewSpans c far far r loose ⊎ HasFewNodes c far far r loose → IsRefusal r
+few_refusal c far r loose (inl a) = spans_refusal (length loose) r a.reply
+few_refusal c far r loose (inr a) = nodes_refusal (room_count far.nodes far.members) r a.reply
+
+pub finds_few_of : (c d : Config) (far : FarState) (r : Reply) (runs : List Event → Type 0)
+    (shows : Shown → Type 0) → d ≡ c → far.leaving ≡ None → FindsFew runs d far r
+    → Performs runs (λ s. shows s × Sound s far) (BeginRule c far far r) (λ t. Sound t far)
+    (BeginEffect far far r)
+finds_few_of c d far r runs shows same none x =
+    refuses c far r runs (λ s. shows s × Sound s far) (λ t. Sound t far) none
+    (few_refusal d far r x.loose x.few) (finds_few c d far r runs shows same x)
 
 -- ---- a batch is leaving already
 pub begins_not : (c : Config) (far : FarState) (r : Reply) (id : SetId)

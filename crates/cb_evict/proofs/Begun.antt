@@ -1,5 +1,5 @@
 -- Claimed spans begin to leave.
-use Rattle.std.proofs.Common.{◌≡◌, ◌≢◌, ◌⊎◌, ℕ, zero, suc, ◌+◌, ◌*◌, ◌<◌, ◌≤◌, Bool, true, false, cond, List, [], ◌++◌, length, get_or, replicate, map as mapped, Option, None, Some, sym, refl, ap, ◌∙◌, subst, arith, inl, inr}
+use Rattle.std.proofs.Common.{◌≡◌, ◌≢◌, ◌⊎◌, ℕ, zero, suc, ◌+◌, ◌*◌, ◌^◌, ◌<◌, ◌≤◌, Bool, true, false, cond, List, [], ◌++◌, length, get_or, All, replicate, map as mapped, Option, None, Some, sym, refl, ap, ◌∙◌, subst, arith, inl, inr}
 use Rattle.std.specs.List.{Contains, slice_get}
 use Rattle.std.specs.FinMap as map
 use Rattle.std.specs.Cmp.{nat_cmp_total}
@@ -56,6 +56,7 @@ use Rattle.cb_evict.specs.Looking.{IsIn}
 use Rattle.cb_evict.proofs.Claims.{among, no_former}
 use Rattle.cb_evict.proofs.Evicts.{IsFrameRow, row_length}
 use Rattle.cb_evict.proofs.Owned.{row_slot}
+use Rattle.cb_evict.proofs.SmallWords.{small_part}
 use Rattle.cb_evict.proofs.Standing.{IsReadyFrame, ready_frame, are_unique}
 
 -- ---- a set that is not committed
@@ -452,6 +453,24 @@ module _ (c : Config) (far : FarState) (frames : List ℕ) (formers : List Forme
     kept = reserved_kept far.sets far.counts.sets (set_from far.counts.sets (blank_shards (c.k + c.r)) far.spans frames);
   }
 
+  -- its words are those of the memory that was read, so each is one of 64 bits
+  small_one : (h : ℕ) → IsIn far.spans frames h → (g : IsHeldOne h) → All (λ w. w < 2 ^ 64) g.at.words
+  small_one h (f, (p, within, at), named) g =
+      let len = len_of g.former.word in let place = place_of g.former.word in
+      let lies : LiesAt (object_at t h) len place =
+      subst (λ (o : Object). LiesAt o len place) (sym (ap (object_at t) (sym g.same) ∙ g.at.object))
+      (refl, refl) in
+      let seat = d.here.placed.placed h len place lies in
+      let frame : seat.frame ≡ f = unique.one_frame seat.frame f h
+      (seat.slot, ap (λ (o : Option Contents). handle_in o seat.slot) seat.there ∙ seat.named) named in
+      let inside = slot_inside far t h len place d.here seat in
+      let there : slice_get frames p ≡ Some f =
+      slice_get-get_or frames p f within ∙ ap (λ (n : ℕ). Some n) at in
+      let m = d.made p f there in
+      subst (λ (ws : List ℕ). All (λ w. w < 2 ^ 64) ws) g.at.contents
+      (small_part t.memory m.words (512 * f) place (words_for len) m.count m.small m.contents
+      (omega (arith, inside.0, frame)) (omega (arith, inside.1, frame)))
+
   noted_one : (h : ℕ) → IsIn far.spans frames h → IsNoted t (new_batch c far frames formers parities) h
   noted_one h x = let g = held_one h x in record {
     former = g.former;
@@ -462,6 +481,7 @@ module _ (c : Config) (far : FarState) (frames : List ℕ) (formers : List Forme
     version = g.at.version;
     words = g.at.words;
     claimed = ap (object_at t) (sym g.same) ∙ g.at.object;
+    small = small_one h x g;
   }
 
   noted : AreNoted t (with_batch c far frames formers parities) (new_batch c far frames formers parities)

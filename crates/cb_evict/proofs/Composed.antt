@@ -36,6 +36,7 @@ use Rattle.cb_evict.specs.Events.{TouchesOnly, OnlyLooks}
 use Rattle.cb_evict.specs.EvictEffect.{IsAway, IsEvicted, EvictEffect}
 use Rattle.cb_evict.specs.EvictRule.{IsInRow, HasEvicted, HasFewSpans, HasFewNodes, HasBoth, EvictRule}
 use Rattle.cb_evict.specs.Evicting.{TouchesSpans, RuleAfter, AreTaken, IsReady, EvictsClaimed, LeavesClaimed}
+use Rattle.cb_evict.specs.Finding.{FindsFew}
 use Rattle.cb_evict.specs.Loading.{LiesInOne}
 use Rattle.cb_evict.specs.Looking.{IsIn, LooksOver}
 use Rattle.cb_evict.proofs.Claims.{claims_back}
@@ -336,6 +337,14 @@ looks_refuse c far r loose runs shows x few =
         → r ≡ answer.Set id → ⊥
     no_set (inl a) id e = few_spans (length loose) r id a.reply e
     no_set (inr a) id e = few_nodes (room_count far.nodes far.members) r id a.reply e
+
+pub finds_few : (c d : Config) (far : FarState) (r : Reply) (runs : List Event → Type 0)
+    (shows : Shown → Type 0) → d ≡ c → FindsFew runs d far r
+    → Performs runs (λ s. shows s × Sound s far) (EvictRule c far far r) (λ t. Sound t far)
+    (EvictEffect far far r)
+finds_few c d far r runs shows same x =
+    let y = subst (λ (n : Config). FindsFew runs n far r) same x in
+    looks_refuse c far r y.loose runs shows y.looks y.few
 
 -- ---- the claims, and then the rest
 -- what was claimed are objects of candidates

@@ -21,15 +21,14 @@ ghost use Rattle.cb_evict.specs.BeginEffect.{BeginEffect};
 ghost use Rattle.cb_evict.specs.Beginning.{AreParities, BeginsAfter, BeginsClaimed, with_reserved};
 ghost use Rattle.cb_evict.specs.Evicting.{AreTaken, IsReady, LeavesClaimed, TouchesSpans};
 
-use crate::candidates::candidates;
 use crate::claiming::{claim_spans, give_back};
 use crate::evicting::MOST_OBJECTS;
+use crate::finding::{Found, find_spans};
 use crate::loading::load_frames;
-use crate::looking::find_loose;
 use crate::storing::{make_parities, next_set};
 use cb_member::{NodeId, Shard};
 use cb_types::{Config, NoMemory, Reply, Rows, SetId};
-use cb_world::{Desk, Far, Former, KeptSet, Leaving, nodes_with_room};
+use cb_world::{Desk, Far, Former, KeptSet, Leaving};
 use std::alloc::Global;
 
 /// The shard of a position whose row was not put yet.
@@ -102,19 +101,11 @@ fn begin_new<D: Desk>(desk: &mut D, far: &mut Far) -> Result<Reply, NoMemory>
     ensures unchanged { OnErr result (far.new ≡ far.old) }
 {
     let config = desk.config();
-    let frames = candidates(far)?;
-    let mut loose = Vec::with_capacity(far.alloc, frames.len())?;
-    find_loose(desk, &far.spans, &frames, &mut loose);
-    if loose.len() < config.k as usize {
-        return Ok(Reply::NoSpans {
-            loose: loose.len() as u32,
-        });
+    let found = find_spans(desk, far, config)?;
+    match found {
+        Found::Refused { reply } => Ok(reply),
+        Found::Loose { frames } => begin_loose(desk, far, config, &frames),
     }
-    let nodes = nodes_with_room(&far.nodes, &far.members);
-    if nodes < config.k + config.r {
-        return Ok(Reply::NoNodes { nodes });
-    }
-    begin_loose(desk, far, config, &loose)
 }
 
 /// Begins to evict the first k of these spans whose objects can all be claimed.
