@@ -11,6 +11,7 @@ pub mod EvictRule
 pub mod EvictEffect
 pub mod EvictStep
 pub mod Evicting
+pub mod Finding
 pub mod BeginRule
 pub mod BeginEffect
 pub mod Beginning

@@ -9,6 +9,7 @@ mod claiming;
 mod closing;
 mod committing;
 mod evicting;
+mod finding;
 mod loading;
 mod looking;
 mod next_put;
