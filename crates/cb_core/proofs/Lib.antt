@@ -9,6 +9,7 @@ pub mod KeptParts
 pub mod StillParts
 pub mod StillFilters
 pub mod StillRebuilds
+pub mod StillBatches
 pub mod StillTurns
 pub mod FarCalls
 pub mod WorldKept
@@ -35,6 +36,7 @@ pub mod TurnCallsMake
 pub mod TurnCallsSwap
 pub mod TurnCallsNodes
 pub mod TurnCallsFilter
+pub mod TurnCallsBatch
 pub mod TurnCallsFirst
 pub mod TurnCalls
 pub mod TurnCallsUnavailable

@@ -54,7 +54,7 @@ use Rattle.cb_core.specs.Run.{LeadsSoundly}
 use Rattle.cb_core.specs.Step.{Step, TurnStep, worn, done}
 use Rattle.cb_core.proofs.CallsBeside.{Comes, comes_none, call_comes, make_comes, on_read, on_write, on_free, on_pinned}
 use Rattle.cb_core.proofs.Settings.{step_settings}
-use Rattle.cb_core.proofs.TurnCalls.{read_turn, write_turn, free_turn, make_turn, evict_turn, swap_turn, crash_turn, join_turn, turn_first, filter_turn, rebuild_turn}
+use Rattle.cb_core.proofs.TurnCalls.{read_turn, write_turn, free_turn, make_turn, evict_turn, begin_turn, ship_turn, commit_turn, abort_turn, swap_turn, crash_turn, join_turn, turn_first, filter_turn, rebuild_turn}
 use Rattle.cb_core.proofs.TurnCallsKept.{known_same}
 use Rattle.cb_core.proofs.TurnCallsMap.{IsSameMap}
 use Rattle.cb_core.proofs.TurnCallsNodes.{IsMapLost}
@@ -157,6 +157,22 @@ done_goes before seat job.Evict r w new c ok few step =
     comes_none w.desk.settings.handles before c.after.shown w.far new.far
     (kept_beside before c.at_first.shown c.after.shown w.far new.far c.beside
     (evict_turn w new r c.at_first c.after few step).0)
+done_goes before seat job.Begin r w new c ok few step =
+    comes_none w.desk.settings.handles before c.after.shown w.far new.far
+    (kept_beside before c.at_first.shown c.after.shown w.far new.far c.beside
+    (begin_turn w new r c.at_first c.after few step).0)
+done_goes before seat job.Ship r w new c ok few step =
+    comes_none w.desk.settings.handles before c.after.shown w.far new.far
+    (kept_beside before c.at_first.shown c.after.shown w.far new.far c.beside
+    (ship_turn w new r c.at_first c.after few step).0)
+done_goes before seat job.Commit r w new c ok few step =
+    comes_none w.desk.settings.handles before c.after.shown w.far new.far
+    (kept_beside before c.at_first.shown c.after.shown w.far new.far c.beside
+    (commit_turn w new r c.at_first c.after few step).0)
+done_goes before seat job.Abort r w new c ok few step =
+    comes_none w.desk.settings.handles before c.after.shown w.far new.far
+    (kept_beside before c.at_first.shown c.after.shown w.far new.far c.beside
+    (abort_turn w new r c.at_first c.after few step).0)
 done_goes before seat job.Rebuild r w new c ok few step =
     comes_none w.desk.settings.handles before c.after.shown w.far new.far
     (kept_beside before c.at_first.shown c.after.shown w.far new.far c.beside

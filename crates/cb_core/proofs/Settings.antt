@@ -10,6 +10,9 @@ use Rattle.cb_world.specs.Plain.{Words}
 use Rattle.cb_world.specs.World.{WorldState}
 use Rattle.cb_mutate.specs.MakeStep.{IsMakeStep}
 use Rattle.cb_mutate.specs.Steps.{with_seen}
+use Rattle.cb_evict.specs.AbortStep.{no_batch as none_to_abort, given_up}
+use Rattle.cb_evict.specs.BeginStep.{is_leaving, few_spans, few_nodes, begins}
+use Rattle.cb_evict.specs.CommitStep.{no_batch as none_to_commit, short, committed}
 use Rattle.cb_evict.proofs.AfterEvict.{evict_settings}
 use Rattle.cb_filter.specs.FilterStep.{refused as refuses, cools, without_slot, moves}
 use Rattle.cb_swapin.proofs.SwapKeeps.{settings_stay}
@@ -19,7 +22,7 @@ use Rattle.cb_core.specs.declared.event.Event.{Event}
 use Rattle.cb_core.specs.declared.event.Event.TheVariants as event
 use Rattle.cb_core.specs.Parts.{Holding, NeverDeclined, NeverLacks, WithRoom, at_once, no_room, won, WhereItIs, near, declined, stays_far, brought, BringsIn, not_far, was_far, RoomStops, evicting, after, CallStops, far}
 use Rattle.cb_core.specs.Pinning.{PinStep, scope_full, refused, taken, UnpinStep, not_pinned, given}
-use Rattle.cb_core.specs.Step.{StillMake, StillRead, StillWrite, StillFree, StillFind, StillDecline, StillEvict, StillSwap, StillBring, StillFilter, StillWorks, StillMakeLacks, StillReadLacks, StillEvictLacks, StillSwapLacks, StillBringLacks, StillStops, TurnStep, worn, done, Step, Stops}
+use Rattle.cb_core.specs.Step.{StillMake, StillRead, StillWrite, StillFree, StillFind, StillDecline, StillEvict, StillSwap, StillBring, StillFilter, StillBegin, StillShip, StillCommit, StillAbort, StillWorks, StillMakeLacks, StillReadLacks, StillEvictLacks, StillSwapLacks, StillBringLacks, StillStops, TurnStep, worn, done, Step, Stops}
 use Rattle.cb_core.specs.Turned.{counted}
 use Rattle.cb_core.proofs.Changes.{read_leaves, write_leaves, free_leaves}
 
@@ -137,6 +140,24 @@ filter_same h a b r (cools seat is place same, hold) = ap (λ (x : Words). x.set
 filter_same h a b r (without_slot seat is none same, hold) = words_same a b same
 filter_same h a b r (moves seat slot is gets same, hold) = ap (λ (x : Words). x.settings) same
 
+begin_same : Stay StillBegin
+begin_same a b r (is_leaving batch there reply state same, hold) = words_same a b same
+begin_same a b r (few_spans none few same, hold) = words_same a b same
+begin_same a b r (few_nodes none few same, hold) = words_same a b same
+begin_same a b r (begins m, hold) = m.begun.held.settings
+
+ship_same : Stay StillShip
+ship_same a b r (step, hold) = words_same a b step.words
+
+commit_same : Stay StillCommit
+commit_same a b r (none_to_commit n same, hold) = words_same a b same
+commit_same a b r (short z same, hold) = words_same a b same
+commit_same a b r (committed c away, hold) = away.settings
+
+abort_same : Stay StillAbort
+abort_same a b r (none_to_abort n same, hold) = words_same a b same
+abort_same a b r (given_up g back, hold) = back.settings
+
 -- ---- a job, and one that found no memory
 works_settings : (job : Job) (a b : Holding Words) (r : Reply) → StillWorks job a r b → Same a b
 works_settings (Make bytes) a b r step =
@@ -150,14 +171,14 @@ works_settings (Free handle) a b r step = free_same handle.n a b r step
 works_settings (Swap handle) a b r step = brings_same (StillFind handle.n) (StillBring handle.n)
     (find_same handle.n) (bring_same handle.n) a b r step
 works_settings Evict a b r step = evict_same a b r step
+works_settings Begin a b r step = begin_same a b r step
+works_settings Ship a b r step = ship_same a b r step
+works_settings Commit a b r step = commit_same a b r step
+works_settings Abort a b r step = abort_same a b r step
 works_settings (Filter handle) a b r step = filter_same handle.n a b r step
 works_settings Rebuild a b r step = words_same a b step.0
 works_settings (Crash node) a b r step = words_same a b step.0
 works_settings (Join node) a b r step = words_same a b step.0
-works_settings Begin a b r step = absurd step
-works_settings Ship a b r step = absurd step
-works_settings Commit a b r step = absurd step
-works_settings Abort a b r step = absurd step
 works_settings Pair a b r step = absurd step
 works_settings Patch a b r step = absurd step
 works_settings Merge a b r step = absurd step
@@ -187,12 +208,12 @@ stops_settings (Write handle at bytes) a b stops = call_rest (StillWrite handle.
 stops_settings (Swap handle) a b (m, found, stops) =
     bring_rest handle.n m b stops ∙ find_same handle.n a m answer.NotHere found
 stops_settings Evict a b stops = same_as a b stops
+stops_settings Begin a b stops = same_as a b stops
+stops_settings Ship a b stops = same_as a b stops
 stops_settings (Filter handle) a b stops = same_as a b stops.0
 stops_settings Rebuild a b stops = words_same a b stops.0
 stops_settings (Crash node) a b stops = same_as a b stops.0
 stops_settings (Free handle) a b stops = absurd stops
-stops_settings Begin a b stops = absurd stops
-stops_settings Ship a b stops = absurd stops
 stops_settings Commit a b stops = absurd stops
 stops_settings Abort a b stops = absurd stops
 stops_settings Pair a b stops = absurd stops

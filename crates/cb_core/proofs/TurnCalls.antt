@@ -6,7 +6,7 @@ use Rattle.cb_types.specs.declared.handle.SetId.{SetId}
 use Rattle.cb_types.specs.declared.job.Job.{Job}
 use Rattle.cb_types.specs.declared.job.Job.TheVariants as job
 use Rattle.cb_types.specs.declared.request.Request.{Request}
-use Rattle.cb_types.specs.declared.request.Request.TheVariants.{Make, Read, Write, Free, Filter, Evict, Rebuild, Crash, Join}
+use Rattle.cb_types.specs.declared.request.Request.TheVariants.{Make, Read, Write, Free, Filter, Evict, Begin, Ship, Commit, Abort, Rebuild, Crash, Join}
 use Rattle.cb_types.specs.declared.reply.Reply.{Reply}
 use Rattle.cb_types.specs.declared.reply.Reply.TheVariants as answer
 use Rattle.cb_types.specs.Table.{IsReplyOf}
@@ -24,6 +24,7 @@ use Rattle.cb_core.specs.Step.{StillRead, StillWrite, StillDecline, StillWorks, 
 use Rattle.cb_core.specs.Turned.{counted}
 use Rattle.cb_core.proofs.TurnCallsKept.{HasKept, once_known, kept_evict}
 use Rattle.cb_core.proofs.TurnCallsFar.{IsLostFar}
+use Rattle.cb_core.proofs.TurnCallsBatch.{kept_begin, kept_ship, kept_commit, kept_abort, begin_line, ship_line, commit_line, abort_line}
 use Rattle.cb_core.proofs.TurnCallsFilter.{IsFilterAs, filter_line, filter_answered, kept_rebuild, rebuild_line}
 use Rattle.cb_core.proofs.TurnCallsFirst.{works_turn}
 use Rattle.cb_core.proofs.TurnCallsLost.{final_lost, where_lost, where_gone}
@@ -197,6 +198,59 @@ filter_turn w new h r before after few below step =
           after.shown w.far (counted w.far j) new.far new.far (Filter name) d.reply
           (counted_map before.shown w.far j) (map_stays after.shown new.far) h (z.call name);
     })
+
+-- The steps of a batch leave the map as it is.
+batch_turn : (j : Job) (line : Request) (w new : WorldState) (r : Reply) → (before : IsSoundWorld w)
+    → (after : IsSoundWorld new) → (d : IsDone j w r new)
+    → HasKept (held_at w j) (held_then new) before.shown → IsReplyOf line d.reply
+    → (IsReplyOf line answer.NoFrame → ⊥)
+    → IsSameMap before.shown after.shown w.far new.far × IsReplyOf line r
+batch_turn j line w new r before after d kept is never = (
+  map_then before.shown before.shown after.shown w.far (counted w.far j) new.far
+      (counted_map before.shown w.far j)
+      (kept_map (held_at w j) (held_then new) before.shown after.shown kept after.known),
+  subst (IsReplyOf line) (sym (d.is ∙ own_final line new d.reply is never)) is,
+)
+
+pub begin_turn : (w new : WorldState) (r : Reply) → (before : IsSoundWorld w)
+    → (after : IsSoundWorld new) → w.far.counts.turns < 2 ^ 40 → TurnStep job.Begin w r new
+    → IsSameMap before.shown after.shown w.far new.far × IsReplyOf Begin r
+begin_turn w new r before after few step =
+    let j = job.Begin in
+    let d = is_done j w new r few step in
+    batch_turn j Begin w new r before after d
+    (kept_begin (held_at w j) (held_then new) d.reply before.shown (known_at w j before) d.works)
+    (begin_line w.desk new.desk (counted w.far j) new.far d.reply d.works.0) (λ e. e)
+
+pub ship_turn : (w new : WorldState) (r : Reply) → (before : IsSoundWorld w)
+    → (after : IsSoundWorld new) → w.far.counts.turns < 2 ^ 40 → TurnStep job.Ship w r new
+    → IsSameMap before.shown after.shown w.far new.far × IsReplyOf Ship r
+ship_turn w new r before after few step =
+    let j = job.Ship in
+    let d = is_done j w new r few step in
+    batch_turn j Ship w new r before after d
+    (kept_ship (held_at w j) (held_then new) d.reply before.shown (known_at w j before) d.works)
+    (ship_line w.desk new.desk (counted w.far j) new.far d.reply d.works.0) (λ e. e)
+
+pub commit_turn : (w new : WorldState) (r : Reply) → (before : IsSoundWorld w)
+    → (after : IsSoundWorld new) → w.far.counts.turns < 2 ^ 40 → TurnStep job.Commit w r new
+    → IsSameMap before.shown after.shown w.far new.far × IsReplyOf Commit r
+commit_turn w new r before after few step =
+    let j = job.Commit in
+    let d = is_done j w new r few step in
+    batch_turn j Commit w new r before after d
+    (kept_commit (held_at w j) (held_then new) d.reply before.shown (known_at w j before) d.works)
+    (commit_line w.desk new.desk (counted w.far j) new.far d.reply d.works.0) (λ e. e)
+
+pub abort_turn : (w new : WorldState) (r : Reply) → (before : IsSoundWorld w)
+    → (after : IsSoundWorld new) → w.far.counts.turns < 2 ^ 40 → TurnStep job.Abort w r new
+    → IsSameMap before.shown after.shown w.far new.far × IsReplyOf Abort r
+abort_turn w new r before after few step =
+    let j = job.Abort in
+    let d = is_done j w new r few step in
+    batch_turn j Abort w new r before after d
+    (kept_abort (held_at w j) (held_then new) d.reply before.shown (known_at w j before) d.works)
+    (abort_line w.desk new.desk (counted w.far j) new.far d.reply d.works.0) (λ e. e)
 
 -- A rebuild leaves the map as it is.
 pub rebuild_turn : (w new : WorldState) (r : Reply) → (before : IsSoundWorld w)

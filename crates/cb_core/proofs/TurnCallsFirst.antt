@@ -34,6 +34,7 @@ use Rattle.cb_core.proofs.Changes.{free_leaves}
 use Rattle.cb_core.proofs.TurnCallsMake.{make_crammed}
 use Rattle.cb_core.proofs.TurnCallsParts.{read_part, write_part}
 use Rattle.cb_core.proofs.TurnCallsKept.{HasKept, same_holding, kept_evict, kept_bring}
+use Rattle.cb_core.proofs.TurnCallsBatch.{kept_begin, kept_ship, kept_commit, kept_abort}
 use Rattle.cb_core.proofs.TurnCallsFilter.{kept_filter, kept_rebuild}
 
 pub record IsTurnOf (far new : FarState) : Type 0 where
@@ -150,6 +151,10 @@ works_turn (job.Swap handle) a b s r k works = swap_turn_of a b s handle.n r k w
 works_turn (job.Filter handle) a b s r k works =
     turn_kept a b s (kept_filter a b handle.n r s k works)
 works_turn job.Evict a b s r k works = turn_kept a b s (kept_evict a b r s k works)
+works_turn job.Begin a b s r k works = turn_kept a b s (kept_begin a b r s k works)
+works_turn job.Ship a b s r k works = turn_kept a b s (kept_ship a b r s k works)
+works_turn job.Commit a b s r k works = turn_kept a b s (kept_commit a b r s k works)
+works_turn job.Abort a b s r k works = turn_kept a b s (kept_abort a b r s k works)
 works_turn job.Rebuild a b s r k works = turn_kept a b s (kept_rebuild a b r s k works)
 works_turn (job.Crash node) a b s r k works = crash_turn_of a.far b.far node r works.1
 works_turn (job.Join node) a b s r k works = join_turn_of a.far b.far node r works.1

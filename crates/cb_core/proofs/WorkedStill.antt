@@ -20,6 +20,7 @@ use Rattle.cb_world.specs.declared.homes.Home.{Home}
 use Rattle.cb_world.specs.declared.shown.Shown.{Shown}
 use Rattle.cb_world.specs.FarState.{FarState, span_in}
 use Rattle.cb_world.specs.Homes.{home_at}
+use Rattle.cb_world.specs.Leaving.{LeavingState}
 use Rattle.cb_world.specs.Memory.{bytes_in, window}
 use Rattle.cb_world.specs.Now.{now, is_gone, broken_set}
 use Rattle.cb_world.specs.Placed.{HasRoom}
@@ -28,14 +29,19 @@ use Rattle.cb_world.specs.Sets.{if_committed, set_in}
 use Rattle.cb_world.specs.World.{IsKnown, empty_world}
 use Rattle.cb_world.proofs.NowSame.{now_same}
 use Rattle.cb_world.proofs.Worlds.{empty_world_sound}
+use Rattle.cb_evict.specs.AbortStep.{no_batch as none_to_abort, given_up}
+use Rattle.cb_evict.specs.BeginStep.{is_leaving, few_spans as few_to_begin, few_nodes as few_to_take, begins}
+use Rattle.cb_evict.specs.CommitStep.{no_batch as none_to_commit, short, committed}
 use Rattle.cb_evict.specs.EvictStep.{few_spans, few_nodes, made}
+use Rattle.cb_evict.specs.ShipRule.{Ships as ShipsRow}
+use Rattle.cb_evict.specs.Waiting.{waiting, least_waiting}
 use Rattle.cb_filter.specs.FilterStep.{refused, cools, without_slot, moves}
 use Rattle.cb_filter.specs.Seats.{Seat}
 use Rattle.cb_rebuild.specs.RebuildStep.{IsFirstWeak, IsWeak, RebuildStep}
 use Rattle.cb_swapin.specs.Fetching.{far_given}
 use Rattle.cb_core.specs.Declining.{write_refusal}
 use Rattle.cb_core.specs.Parts.{Holding, no_room, declined, stays_far, not_far, was_far}
-use Rattle.cb_core.specs.Step.{StillRead, StillWrite, StillFind, StillDecline, HoldOn, StillEvict, StillSwap, StillBring, StillFilter, StillRebuild, StillWorks, StillMakeLacks, StillReadLacks, StillEvictLacks, StillSwapLacks, StillFilterLacks, StillRebuildLacks}
+use Rattle.cb_core.specs.Step.{StillRead, StillWrite, StillFind, StillDecline, HoldOn, StillEvict, StillBegin, StillShip, StillCommit, StillAbort, StillSwap, StillBring, StillFilter, StillRebuild, StillWorks, StillMakeLacks, StillReadLacks, StillEvictLacks, StillShipLacks, StillSwapLacks, StillFilterLacks, StillRebuildLacks}
 use Rattle.cb_core.specs.Turned.{IsWeakGiven, Rebuilds, RebuildLacks}
 use Rattle.cb_core.proofs.WorkedPins.{settings, desk, away, calm, hot, pinned, moving}
 use Rattle.cb_core.proofs.WorkedRoom.{counts, far_of, first_down, largest, span_with, words_are}
@@ -214,6 +220,159 @@ one_span (few_spans a e, hold) =
 one_span (few_nodes a e, hold) = let n : 1 ≤ 0 = a.enough in absurd (omega (arith, n))
 one_span (made m, hold) = let n : 1 ≤ 0 = m.enough in absurd (omega (arith, n))
 
+-- ---- the steps of a batch: where none is leaving, and where one is whose rows were not put
+abbrev batch : LeavingState
+batch = record { set = 4; frames = 1 ∷ []; words = []; parities = []; shards = None ∷ None ∷ [] }
+
+abbrev beside : Holding Words
+beside = record { desk = crowd.desk; far = record crowd.far { leaving = Some batch } }
+
+none_batch : (b : LeavingState) → None ≡ Some b → ⊥
+none_batch b e = cc
+
+some_batch : Some batch ≡ None → ⊥
+some_batch e = cc
+
+batch_same : (b : LeavingState) → Some batch ≡ Some b → b ≡ batch
+batch_same b e = cc
+
+-- ---- a begin
+begins_none : StillBegin crowd (answer.NoSpans 0) crowd
+begins_none = (
+  few_to_begin refl (record { few = lit< tt; reply = refl; state = refl }) refl,
+  same_holds crowd,
+)
+
+begins_one : StillBegin crowd (answer.NoSpans 1) crowd → ⊥
+begins_one (is_leaving b there reply state e, hold) = none_batch b there
+begins_one (few_to_begin none a e, hold) =
+    let z : 1 ≡ 0 = ap spans_of a.reply in absurd (omega (arith, z))
+begins_one (few_to_take none a e, hold) = let n : 1 ≤ 0 = a.enough in absurd (omega (arith, n))
+begins_one (begins m, hold) = let n : 1 ≤ 0 = m.enough in absurd (omega (arith, n))
+
+begins_again : StillBegin beside (answer.Leaving (record { n = 4 })) beside
+begins_again = (is_leaving batch refl refl refl refl, same_holds beside)
+
+-- where a batch is leaving nothing is looked at
+begins_beside : StillBegin beside (answer.NoSpans 0) beside → ⊥
+begins_beside (is_leaving b there reply state e, hold) = spans_leaving (record { n = b.set }) reply
+  where
+    spans_leaving : (id : SetId) → answer.NoSpans 0 ≡ answer.Leaving id → ⊥
+    spans_leaving id e = cc
+begins_beside (few_to_begin none a e, hold) = some_batch none
+begins_beside (few_to_take none a e, hold) = some_batch none
+begins_beside (begins m, hold) = some_batch m.none
+
+-- ---- a ship: the rows of both positions were put
+abbrev put : LeavingState
+put = record batch { shards = Some (shard 0) ∷ Some (shard 1) ∷ [] }
+
+abbrev whole : Holding Words
+whole = record { desk = crowd.desk; far = record crowd.far { leaving = Some put } }
+
+ships_none : StillShip crowd answer.NoBatch crowd
+ships_none = (
+  record { words = refl; ships = inl (record { none = refl; reply = refl; same = refl }) },
+  same_holds crowd,
+)
+
+ships_all : StillShip whole answer.AllShipped whole
+ships_all = (
+  record {
+    words = refl;
+    ships = inr (inl (record { batch = put; there = refl; none = refl; reply = refl; same = refl }));
+  },
+  same_holds whole,
+)
+
+-- where positions wait
+ships_all_of_none : StillShip beside answer.AllShipped beside → ⊥
+ships_all_of_none (step, hold) = by _ step.ships
+  where
+    some_none : (p : ℕ) → Some p ≡ None → ⊥
+    some_none p e = cc
+
+    all_no_node : answer.AllShipped ≡ answer.NoNode → ⊥
+    all_no_node e = cc
+
+    all_shipped : (p : ℕ) → answer.AllShipped ≡ answer.Shipped p → ⊥
+    all_shipped p e = cc
+
+    by : (row : LeavingState → ℕ → List ℕ) → ShipsRow beside.far beside.far answer.AllShipped row
+        → ⊥
+    by row (inl n) = some_batch n.none
+    by row (inr (inl all)) =
+        some_none 0 (ap (λ (b : LeavingState). least_waiting crowd.far.members b.shards)
+        (sym (batch_same all.batch all.there)) ∙ all.none)
+    by row (inr (inr (inl n))) = all_no_node n.reply
+    by row (inr (inr (inr z))) = all_shipped z.position z.reply
+
+ships_all_and_warms : StillShip whole answer.AllShipped
+    (record { desk = words_are hot pinned; far = whole.far }) → ⊥
+ships_all_and_warms (step, hold) = let w : 16390 ≡ 16398 =
+    ap (λ (x : Words). get_or x.words 0 0) step.words in omega (arith, w)
+
+-- ---- a commit
+commits_none : StillCommit crowd answer.NoBatch crowd
+commits_none = (
+  none_to_commit (record { none = refl; reply = refl; state = refl }) refl,
+  same_holds crowd,
+)
+
+commits_short : StillCommit beside (answer.Short (0 ∷ 1 ∷ [])) beside
+commits_short = (
+  short (record { batch = batch; there = refl; some = lit≤ tt; reply = refl; state = refl }) refl,
+  same_holds beside,
+)
+
+-- both positions wait
+commits_short_of_one : StillCommit beside (answer.Short (0 ∷ [])) beside → ⊥
+commits_short_of_one (none_to_commit n e, hold) = some_batch n.none
+commits_short_of_one (short z e, hold) =
+    let m = crowd.far.members in
+    let one : 1 ≡ length (waiting m z.batch.shards) =
+    ap (λ (r : Reply). length (positions_in r)) z.reply in
+    let two : length (waiting m z.batch.shards) ≡ 2 =
+    ap (λ (b : LeavingState). length (waiting m b.shards)) (batch_same z.batch z.there) in
+    omega (arith, one, two)
+  where
+    positions_in : Reply → List ℕ
+    positions_in (answer.Short positions) = positions
+    positions_in r = []
+commits_short_of_one (committed c away, hold) = short_set (record { n = c.batch.set }) c.reply
+  where
+    short_set : (id : SetId) → answer.Short (0 ∷ []) ≡ answer.Set id → ⊥
+    short_set id e = cc
+
+commits_short_and_warms : StillCommit beside (answer.Short (0 ∷ 1 ∷ []))
+    (record { desk = words_are hot pinned; far = beside.far }) → ⊥
+commits_short_and_warms (none_to_commit n e, hold) = some_batch n.none
+commits_short_and_warms (short z e, hold) = let w : 16390 ≡ 16398 =
+    ap (λ (x : Words). get_or x.words 0 0) e in omega (arith, w)
+commits_short_and_warms (committed c away, hold) = short_set (record { n = c.batch.set }) c.reply
+  where
+    short_set : (id : SetId) → answer.Short (0 ∷ 1 ∷ []) ≡ answer.Set id → ⊥
+    short_set id e = cc
+
+-- ---- an abort
+aborts_none : StillAbort crowd answer.NoBatch crowd
+aborts_none = (
+  none_to_abort (record { none = refl; reply = refl; state = refl }) refl,
+  same_holds crowd,
+)
+
+aborts_nothing : StillAbort crowd answer.Done crowd → ⊥
+aborts_nothing (none_to_abort n e, hold) = done_none n.reply
+  where
+    done_none : answer.Done ≡ answer.NoBatch → ⊥
+    done_none e = cc
+aborts_nothing (given_up g back, hold) = none_batch g.batch g.there
+
+-- the batch is not leaving any more
+aborts_and_keeps : StillAbort beside answer.Done beside → ⊥
+aborts_and_keeps (none_to_abort n e, hold) = some_batch n.none
+aborts_and_keeps (given_up g back, hold) = some_batch (ap (λ (f : FarState). f.leaving) g.state)
+
 -- ---- a swap-in: no frame is free
 no_frame : StillSwap 0 (holds away away_far) answer.NoFrame (holds away away_far)
 no_frame = (
@@ -333,6 +492,12 @@ evict_stops = refl
 
 evict_stops_and_warms : StillEvictLacks (holds calm near) (holds hot near) → ⊥
 evict_stops_and_warms stops = let e : 16390 ≡ 16386 = ap word_of stops in omega (arith, e)
+
+ship_stops : StillShipLacks crowd crowd
+ship_stops = refl
+
+ship_stops_and_warms : StillShipLacks (holds calm near) (holds hot near) → ⊥
+ship_stops_and_warms stops = let e : 16390 ≡ 16386 = ap word_of stops in omega (arith, e)
 
 -- one row was given out of the one data position, and not two
 set_same : (a b : SetState) → Some a ≡ Some b → a ≡ b

@@ -9,7 +9,7 @@ use Rattle.cb_node.specs.NodesState.{NodesState, empty_nodes, with_rows}
 use Rattle.cb_span.specs.declared.temp.Temp.TheVariants.{Hot}
 use Rattle.cb_types.specs.declared.handle.Handle.{Handle}
 use Rattle.cb_types.specs.declared.handle.SetId.{SetId}
-use Rattle.cb_types.specs.declared.job.Job.TheVariants.{Make, Read, Write, Free, Swap, Filter, Evict, Merge, Rebuild, Crash, Join}
+use Rattle.cb_types.specs.declared.job.Job.TheVariants.{Make, Read, Write, Free, Swap, Filter, Evict, Begin, Ship, Commit, Abort, Merge, Rebuild, Crash, Join}
 use Rattle.cb_types.specs.declared.reply.Reply.{Reply}
 use Rattle.cb_types.specs.declared.reply.Reply.TheVariants as answer
 use Rattle.cb_world.specs.Choices.{room_count}
@@ -353,6 +353,18 @@ none_to_swap job = omega (arith, job)
 
 an_eviction : IsJob settings Evict
 an_eviction = tt
+
+a_begin : IsJob settings Begin
+a_begin = tt
+
+a_ship : IsJob settings Ship
+a_ship = tt
+
+a_commit : IsJob settings Commit
+a_commit = tt
+
+an_abort : IsJob settings Abort
+an_abort = tt
 
 filtered : IsJob settings (Filter (handle 1))
 filtered = lit< tt

@@ -27,6 +27,7 @@ use Rattle.cb_core.proofs.Counting.{counted_sound}
 use Rattle.cb_core.proofs.FarCalls.{read_far, write_far, find_far, never_far, decline_far, swap_far, evict_far}
 use Rattle.cb_core.proofs.KeptParts.{IsGood, Rises, Arrives, Carries, CarriesLack, IsLike, like_same, rises_more, arrives_then, arrives_same, arrives_like, counted_rises}
 use Rattle.cb_core.proofs.StillParts.{Ran, Tells, Any, IsFar, both_same, make_part, read_part, write_part, free_part, find_part, never_part, decline_part, evict_part, swap_part, make_lack, read_lack, evict_lack, swap_lack}
+use Rattle.cb_core.proofs.StillBatches.{begin_part, ship_part, ship_lack, commit_part, abort_part}
 use Rattle.cb_core.proofs.StillFilters.{filter_part, filter_lack}
 use Rattle.cb_core.proofs.StillRebuilds.{rebuild_part, rebuild_lack}
 use Rattle.cb_core.proofs.StillTurns.{with_room, where_it_is, brings_in, room_stops, call_stops}
@@ -134,6 +135,18 @@ works_part c seats (Swap handle) a b r accepted ok good does =
 works_part c seats Evict a b r accepted ok good does =
     let z = evict_part c seats accepted a b r good does in
     record { is = z.is; good = z.good; rises = rises_more 24 64 a.far b.far (omega arith) z.rises }
+works_part c seats Begin a b r accepted ok good does =
+    let z = begin_part c seats a b r good does in
+    record { is = z.is; good = z.good; rises = rises_more 1 64 a.far b.far (omega arith) z.rises }
+works_part c seats Ship a b r accepted ok good does =
+    let z = ship_part c seats a b r good does in
+    record { is = z.is; good = z.good; rises = rises_more 1 64 a.far b.far (omega arith) z.rises }
+works_part c seats Commit a b r accepted ok good does =
+    let z = commit_part c seats a b r good does in
+    record { is = z.is; good = z.good; rises = rises_more 1 64 a.far b.far (omega arith) z.rises }
+works_part c seats Abort a b r accepted ok good does =
+    let z = abort_part c seats a b r good does in
+    record { is = z.is; good = z.good; rises = rises_more 1 64 a.far b.far (omega arith) z.rises }
 works_part c seats (Filter handle) a b r accepted ok good does =
     let z = filter_part c seats handle.n a b r good does in
     record { is = z.is; good = z.good; rises = rises_more 1 64 a.far b.far (omega arith) z.rises }
@@ -148,10 +161,6 @@ works_part c seats (Join node) a b r accepted ok good (ran, join) =
     let z = join_part c seats node a b r (StillWorks (Join node) a r b) good ok ran.0 join
     (ran.0, join) in
     record { is = z.is; good = z.good; rises = rises_more 1 64 a.far b.far (omega arith) z.rises }
-works_part c seats Begin a b r accepted ok good does = absurd ok
-works_part c seats Ship a b r accepted ok good does = absurd ok
-works_part c seats Commit a b r accepted ok good does = absurd ok
-works_part c seats Abort a b r accepted ok good does = absurd ok
 works_part c seats Pair a b r accepted ok good does = absurd ok
 works_part c seats Patch a b r accepted ok good does = absurd ok
 works_part c seats Merge a b r accepted ok good does = absurd ok
@@ -194,6 +203,12 @@ stops_part c seats (Swap handle) a b accepted good (m, found, stops) =
 stops_part c seats Evict a b accepted good stops =
     let z = evict_lack c seats a b good tt stops in
     record { is = z.is; good = z.good; rises = rises_more 24 64 a.far b.far (omega arith) z.rises }
+stops_part c seats Begin a b accepted good stops =
+    let z = evict_lack c seats a b good tt stops in
+    record { is = z.is; good = z.good; rises = rises_more 24 64 a.far b.far (omega arith) z.rises }
+stops_part c seats Ship a b accepted good stops =
+    let z = ship_lack c seats a b good tt stops in
+    record { is = z.is; good = z.good; rises = rises_more 1 64 a.far b.far (omega arith) z.rises }
 stops_part c seats (Filter handle) a b accepted good stops =
     let z = filter_lack c seats handle.n a b good tt stops in
     record { is = z.is; good = z.good; rises = rises_more 1 64 a.far b.far (omega arith) z.rises }
@@ -204,8 +219,6 @@ stops_part c seats (Crash node) a b accepted good (ran, far, up) =
     let same = both_same a b ran.0 far in
     arrives_same c seats 64 a b (StillStops (Crash node) a b) good same (same, up)
 stops_part c seats (Free handle) a b accepted good stops = absurd stops
-stops_part c seats Begin a b accepted good stops = absurd stops
-stops_part c seats Ship a b accepted good stops = absurd stops
 stops_part c seats Commit a b accepted good stops = absurd stops
 stops_part c seats Abort a b accepted good stops = absurd stops
 stops_part c seats Pair a b accepted good stops = absurd stops

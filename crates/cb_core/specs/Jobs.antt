@@ -2,7 +2,7 @@
 use Rattle.std.specs.Prelude.{◌<◌, ◌≤◌, length}
 use Rattle.cb_types.specs.declared.config.Config.{Config}
 use Rattle.cb_types.specs.declared.job.Job.{Job}
-use Rattle.cb_types.specs.declared.job.Job.TheVariants.{Make, Read, Write, Free, Swap, Filter, Evict, Rebuild, Crash, Join}
+use Rattle.cb_types.specs.declared.job.Job.TheVariants.{Make, Read, Write, Free, Swap, Filter, Evict, Begin, Ship, Commit, Abort, Rebuild, Crash, Join}
 
 -- an object has 1 to 1,024 bytes, handles and nodes are among those that there are
 abbrev pub IsJob : Config → Job → Type 0
@@ -13,6 +13,10 @@ IsJob c (Free handle) = handle.n < c.handles
 IsJob c (Swap handle) = handle.n < c.handles
 IsJob c (Filter handle) = handle.n < c.handles
 IsJob c Evict = Unit {0}
+IsJob c Begin = Unit {0}
+IsJob c Ship = Unit {0}
+IsJob c Commit = Unit {0}
+IsJob c Abort = Unit {0}
 IsJob c Rebuild = Unit {0}
 IsJob c (Crash node) = node.n < c.nodes
 IsJob c (Join node) = node.n < c.nodes

@@ -4,7 +4,7 @@ use Rattle.cb_member.specs.Membership.{alive}
 use Rattle.cb_ptr.specs.Word.{state_of, len_of}
 use Rattle.cb_set.specs.SetState.{SetState}
 use Rattle.cb_types.specs.declared.job.Job.{Job}
-use Rattle.cb_types.specs.declared.job.Job.TheVariants.{Make, Read, Write, Free, Swap, Filter, Evict, Rebuild, Crash, Join}
+use Rattle.cb_types.specs.declared.job.Job.TheVariants.{Make, Read, Write, Free, Swap, Filter, Evict, Begin, Ship, Commit, Abort, Rebuild, Crash, Join}
 use Rattle.cb_types.specs.declared.reply.Reply.{Reply}
 use Rattle.cb_types.specs.declared.reply.Reply.TheVariants as answer
 use Rattle.cb_world.specs.declared.homes.Home.{Home}
@@ -19,7 +19,11 @@ use Rattle.cb_mutate.specs.MakeRule.{NeedsNewSpan}
 use Rattle.cb_mutate.specs.MakeStep.{IsMakeStep}
 use Rattle.cb_mutate.specs.StillReplies.{reply_as}
 use Rattle.cb_mutate.specs.Steps.{IsReadStep, IsWriteStep, IsFreeStep}
+use Rattle.cb_evict.specs.AbortStep.{IsAbortStep}
+use Rattle.cb_evict.specs.BeginStep.{IsBeginStep}
+use Rattle.cb_evict.specs.CommitStep.{IsCommitStep}
 use Rattle.cb_evict.specs.EvictStep.{IsEvictStep}
+use Rattle.cb_evict.specs.ShipStep.{IsShipStep}
 use Rattle.cb_filter.specs.FilterStep.{IsFilterStep, IsFreeIn, temp_of}
 use Rattle.cb_filter.specs.Plans.{Wants}
 use Rattle.cb_filter.specs.Seats.{Seat}
@@ -69,6 +73,19 @@ HoldOn a b = (s : Shown) → IsKnown a.desk a.far s
 abbrev pub StillEvict : Holding Words → Reply → Holding Words → Type 0
 StillEvict a r b = IsEvictStep a.desk b.desk a.far b.far r × HoldOn a b
 
+-- an eviction in steps: its begin, a row that is put, its commit, and its end without one
+abbrev pub StillBegin : Holding Words → Reply → Holding Words → Type 0
+StillBegin a r b = IsBeginStep a.desk b.desk a.far b.far r × HoldOn a b
+
+abbrev pub StillShip : Holding Words → Reply → Holding Words → Type 0
+StillShip a r b = IsShipStep a.desk b.desk a.far b.far r × HoldOn a b
+
+abbrev pub StillCommit : Holding Words → Reply → Holding Words → Type 0
+StillCommit a r b = IsCommitStep a.desk b.desk a.far b.far r × HoldOn a b
+
+abbrev pub StillAbort : Holding Words → Reply → Holding Words → Type 0
+StillAbort a r b = IsAbortStep a.desk b.desk a.far b.far r × HoldOn a b
+
 -- a swap-in of the position at which a far object has its home
 abbrev pub StillSwap : ℕ → Holding Words → Reply → Holding Words → Type 0
 StillSwap h a r b = (home : Home) × (home_at a.far.homes h ≡ Some home)
@@ -97,6 +114,10 @@ StillWorks (Free handle) a r b = StillFree handle.n a r b
 StillWorks (Swap handle) a r b = BringsIn (StillFind handle.n) (StillBring handle.n) a r b
 StillWorks (Filter handle) a r b = StillFilter handle.n a r b
 StillWorks Evict a r b = StillEvict a r b
+StillWorks Begin a r b = StillBegin a r b
+StillWorks Ship a r b = StillShip a r b
+StillWorks Commit a r b = StillCommit a r b
+StillWorks Abort a r b = StillAbort a r b
 StillWorks Rebuild a r b = StillRebuild a r b
 StillWorks (Crash node) a r b = (b.desk ≡ a.desk) × CrashTurn node a.far r b.far
 StillWorks (Join node) a r b = (b.desk ≡ a.desk) × JoinTurn node a.far r b.far
@@ -147,6 +168,9 @@ StillReadLacks h a b =
 abbrev pub StillEvictLacks : Holding Words → Holding Words → Type 0
 StillEvictLacks a b = b ≡ a
 
+abbrev pub StillShipLacks : Holding Words → Holding Words → Type 0
+StillShipLacks a b = b ≡ a
+
 -- rows of the object's set were given out, and nothing else was done
 abbrev pub StillSwapLacks : ℕ → Holding Words → Holding Words → Type 0
 StillSwapLacks h a b = (b.desk ≡ a.desk) × IsGiven a.far b.far h
@@ -163,7 +187,7 @@ StillFilterLacks h a b =
 abbrev pub StillRebuildLacks : Holding Words → Holding Words → Type 0
 StillRebuildLacks a b = (b.desk ≡ a.desk) × IsWeakGiven a.far b.far
 
--- where a job that found no memory stopped
+-- where a job that found no memory stopped; a commit and an abort take no memory
 abbrev pub StillStops : Job → Holding Words → Holding Words → Type 0
 StillStops (Make bytes) a b =
     RoomStops (StillMake bytes) (StillMakeLacks bytes) StillEvict StillEvictLacks a b
@@ -175,6 +199,8 @@ StillStops (Swap handle) a b =
     (m : Holding Words) × StillFind handle.n a answer.NotHere m × StillBringLacks handle.n m b
 StillStops (Filter handle) a b = StillFilterLacks handle.n a b
 StillStops Evict a b = StillEvictLacks a b
+StillStops Begin a b = StillEvictLacks a b
+StillStops Ship a b = StillShipLacks a b
 StillStops Rebuild a b = StillRebuildLacks a b
 StillStops (Crash node) a b = (b ≡ a) × (alive a.far.members node ≡ true)
 StillStops job a b = ⊥

@@ -5,7 +5,7 @@ use Rattle.cb_ptr.specs.Word.{len_of}
 use Rattle.cb_set.specs.SetState.{SetState}
 use Rattle.cb_types.specs.declared.config.Config.{Config}
 use Rattle.cb_types.specs.declared.job.Job.{Job}
-use Rattle.cb_types.specs.declared.job.Job.TheVariants.{Make, Read, Write, Free, Swap, Filter, Evict, Rebuild, Crash, Join}
+use Rattle.cb_types.specs.declared.job.Job.TheVariants.{Make, Read, Write, Free, Swap, Filter, Evict, Begin, Ship, Commit, Abort, Rebuild, Crash, Join}
 use Rattle.cb_types.specs.declared.reply.Reply.{Reply}
 use Rattle.cb_types.specs.declared.reply.Reply.TheVariants as answer
 use Rattle.cb_types.specs.Jobs.{job_index}
@@ -27,9 +27,14 @@ use Rattle.cb_mutate.specs.MakeRule.{MakeRule, MakeEffect, NeedsNewSpan}
 use Rattle.cb_mutate.specs.ReadRule.{ReadRule, ReadEffect, HasSeen, IsShown}
 use Rattle.cb_mutate.specs.WriteRule.{WriteRule, WriteEffect}
 use Rattle.cb_mutate.specs.FreeRule.{FreeRule, FreeEffect}
+use Rattle.cb_evict.specs.AbortRule.{AbortRule, AbortEffect}
+use Rattle.cb_evict.specs.BeginEffect.{BeginEffect}
+use Rattle.cb_evict.specs.BeginRule.{BeginRule}
+use Rattle.cb_evict.specs.CommitRule.{CommitRule, CommitEffect}
 use Rattle.cb_evict.specs.EvictEffect.{EvictEffect}
 use Rattle.cb_evict.specs.EvictRule.{EvictRule}
 use Rattle.cb_evict.specs.Evicting.{TouchesSpans}
+use Rattle.cb_evict.specs.ShipRule.{ReadsLeaving, ShipRule, ShipEffect}
 use Rattle.cb_filter.specs.FilterEffect.{FilterEffect}
 use Rattle.cb_filter.specs.FilterRule.{FilterRule, NeedsMemory}
 use Rattle.cb_rebuild.specs.RebuildStep.{IsFirstWeak, RebuildStep}
@@ -99,6 +104,24 @@ abbrev pub Evicts : {D : Type 0} → (D → List Event → D → Type 0) → (D 
     → Holding D → Reply → Holding D → Type 0
 Evicts run shows c = Operates run shows (λ far new r. EvictRule c far new r) (λ far new r. EvictEffect far new r)
 
+-- an eviction in steps: some spans begin to leave, their rows are put one by one, and the batch is
+-- committed or given up
+abbrev pub Begins : {D : Type 0} → (D → List Event → D → Type 0) → (D → Shown → Type 0) → Config
+    → Holding D → Reply → Holding D → Type 0
+Begins run shows c = Operates run shows (λ far new r. BeginRule c far new r) (λ far new r. BeginEffect far new r)
+
+abbrev pub Ships : {D : Type 0} → (D → List Event → D → Type 0) → (D → Shown → Type 0)
+    → Holding D → Reply → Holding D → Type 0
+Ships run shows = Operates run shows (λ far new r. ShipRule far new r) (λ far new r. ShipEffect far new r)
+
+abbrev pub Commits : {D : Type 0} → (D → List Event → D → Type 0) → (D → Shown → Type 0)
+    → Holding D → Reply → Holding D → Type 0
+Commits run shows = Operates run shows (λ far new r. CommitRule far new r) (λ far new r. CommitEffect far new r)
+
+abbrev pub Aborts : {D : Type 0} → (D → List Event → D → Type 0) → (D → Shown → Type 0)
+    → Holding D → Reply → Holding D → Type 0
+Aborts run shows = Operates run shows (λ far new r. AbortRule far new r) (λ far new r. AbortEffect far new)
+
 -- a swap-in of the position at which a far object has its home
 abbrev pub Swaps : {D : Type 0} → (D → List Event → D → Type 0) → (D → Shown → Type 0) → ℕ
     → Holding D → Reply → Holding D → Type 0
@@ -135,6 +158,10 @@ Does run shows c (Swap handle) a r b =
     BringsIn (Finds run shows handle.n) (Brings run shows c handle.n) a r b
 Does run shows c (Filter handle) a r b = Filters run shows c handle.n a r b
 Does run shows c Evict a r b = Evicts run shows c a r b
+Does run shows c Begin a r b = Begins run shows c a r b
+Does run shows c Ship a r b = Ships run shows a r b
+Does run shows c Commit a r b = Commits run shows a r b
+Does run shows c Abort a r b = Aborts run shows a r b
 Does run shows c Rebuild a r b = Rebuilds run a r b
 Does run shows c (Crash node) a r b = run a.desk [] b.desk × CrashTurn node a.far r b.far
 Does run shows c (Join node) a r b = run a.desk [] b.desk × JoinTurn node a.far r b.far
@@ -168,7 +195,7 @@ abbrev pub ReadLacks : {D : Type 0} → (D → List Event → D → Type 0) → 
 ReadLacks run shows h a b = (b.far ≡ a.far) × Performs (λ es. run a.desk es b.desk)
     (λ s. shows a.desk s × Sound s a.far) (HasSeen h) (λ t. Sound t b.far) (IsShown h)
 
--- an eviction that lacks memory changes nothing
+-- an eviction that lacks memory changes nothing; nor does a begin
 abbrev pub EvictLacks : {D : Type 0} → (D → List Event → D → Type 0) → (D → Shown → Type 0)
     → Holding D → Holding D → Type 0
 EvictLacks run shows a b = (b.far ≡ a.far) × Performs (λ es. run a.desk es b.desk)
@@ -206,7 +233,13 @@ abbrev pub RebuildLacks : {D : Type 0} → (D → List Event → D → Type 0) �
     → Type 0
 RebuildLacks run a b = run a.desk [] b.desk × IsWeakGiven a.far b.far
 
--- Where a job that found no memory stopped.
+-- a ship that lacks memory changes nothing
+abbrev pub ShipLacks : {D : Type 0} → (D → List Event → D → Type 0) → (D → Shown → Type 0)
+    → Holding D → Holding D → Type 0
+ShipLacks run shows a b = (b.far ≡ a.far) × Performs (λ es. run a.desk es b.desk)
+    (λ s. shows a.desk s × Sound s a.far) (ReadsLeaving a.far) (λ t. Sound t b.far) IsStill
+
+-- Where a job that found no memory stopped. A commit and an abort take no memory.
 abbrev pub Stops : {D : Type 0} → (D → List Event → D → Type 0) → (D → Shown → Type 0) → Config → Job
     → Holding D → Holding D → Type 0
 Stops run shows c (Make bytes) a b = RoomStops (Makes run shows c bytes) (MakeLacks run c bytes)
@@ -222,6 +255,8 @@ Stops {D = D} run shows c (Swap handle) a b =
     (m : Holding D) × Finds run shows handle.n a answer.NotHere m × BringLacks run shows c handle.n m b
 Stops run shows c (Filter handle) a b = FilterLacks run shows handle.n a b
 Stops run shows c Evict a b = EvictLacks run shows a b
+Stops run shows c Begin a b = EvictLacks run shows a b
+Stops run shows c Ship a b = ShipLacks run shows a b
 Stops run shows c Rebuild a b = RebuildLacks run a b
 Stops run shows c (Crash node) a b =
     run a.desk [] b.desk × (b.far ≡ a.far) × (alive a.far.members node ≡ true)

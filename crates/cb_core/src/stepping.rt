@@ -15,7 +15,8 @@ use std::alloc::Global;
 
 /// One event: a seat takes an atomic step, or makes a turn. The world stays sound. Where there is
 /// no memory, the turn is counted, and what its parts did before stays: a span may have left or
-/// come in.
+/// come in. Between events a batch may be leaving, whose objects are Moving until it is committed or
+/// given up.
 pub fn step(alloc: Global, world: &mut World, event: &Event) -> Result<Reply, NoMemory>
     requires sound { IsSoundWorld world.old }
     requires event { IsEvent world.old.desk.settings event.now }

@@ -8,7 +8,7 @@ ghost use Rattle.cb_core.specs.Turned.{Does, Stops, Turned, Stopped, counted};
 
 use crate::bringing::{make_with_room, read_anywhere, swap_object, write_anywhere};
 use crate::membership::{crash, join};
-use cb_evict::evict_now;
+use cb_evict::{abort, begin, commit, evict_now, ship};
 use cb_filter::filter_one;
 use cb_mutate::free;
 use cb_rebuild::rebuild_next;
@@ -24,8 +24,9 @@ pub const MOST_TURNS: u64 = 1 << 40;
 ///
 /// Where there is no frame for a new object or for one that is brought in, an eviction makes room, and
 /// NoFrame is answered only where that is refused. A call on a far object brings it in first, and is
-/// answered as the bringing in where the object stays far. A filter and a rebuild win no room: each is
-/// one part alone. Where there is no memory, the turn is counted and what its parts did before stays.
+/// answered as the bringing in where the object stays far. A filter, a rebuild and the steps of an
+/// eviction in steps (begin, ship, commit, abort) win no room: each is one part alone. Where there is no
+/// memory, the turn is counted and what its parts did before stays; a commit and an abort take none.
 pub fn turn<D: Desk>(
     alloc: Global,
     desk: &mut D,
@@ -91,6 +92,10 @@ fn work<D: Desk>(alloc: Global, desk: &mut D, far: &mut Far, job: &Job) -> Resul
         Job::Swap { handle } => swap_object(desk, far, *handle),
         Job::Filter { handle } => filter_one(desk, far, *handle),
         Job::Evict => evict_now(desk, far),
+        Job::Begin => begin(desk, far),
+        Job::Ship => ship(desk, far),
+        Job::Commit => commit(desk, far),
+        Job::Abort => abort(desk, far),
         Job::Rebuild => rebuild_next(desk, far),
         Job::Crash { node } => crash(far, *node),
         Job::Join { node } => Ok(join(far, *node)),

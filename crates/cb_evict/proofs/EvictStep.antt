@@ -133,7 +133,7 @@ pub record IsStepKnown (y : Words) (far new : FarState) (s : Shown) : Type 0 whe
   pub known : IsKnown y new shown
   pub same_now : (h : ℕ) → now shown new h ≡ now s far h
 
-refused : (x y : Words) (far new : FarState) (s t : Shown) → IsKnown x far s → IsKnown y new t
+pub refused : (x y : Words) (far new : FarState) (s t : Shown) → IsKnown x far s → IsKnown y new t
     → y ≡ x → new ≡ far → IsStepKnown y far new s
 refused x y far new s t k l words state =
     let m : IsKnown x far t = subst (λ (f : FarState). IsKnown x f t) state

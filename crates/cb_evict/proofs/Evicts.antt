@@ -70,7 +70,7 @@ use Rattle.cb_evict.proofs.Putting.{put_count}
 use Rattle.cb_evict.proofs.Standing.{IsReadyFrame, ready_frame, are_unique, not_among, named_at, names_span}
 
 -- a word is eight bytes of a row
-row_length : (words : List ℕ) → length (row_of words) ≡ length words * 8
+pub row_length : (words : List ℕ) → length (row_of words) ≡ length words * 8
 row_length [] = refl
 row_length (w ∷ words) =
     let e = length-append (to_le_bytes w64 w) (row_of words) in
@@ -326,6 +326,7 @@ module _ (c : Config) (far : FarState) (frames : List ℕ) (formers : List Forme
         version = n.version;
         words = n.words;
         claimed = stays_put h (leaving_none b there f slot h span leaves at named) ∙ n.claimed;
+        small = n.small;
       }) was
 
   -- a claimed object stands in a frame that is leaving, as before

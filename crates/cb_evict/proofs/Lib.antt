@@ -4,7 +4,7 @@ mod Filling
 mod Sharing
 pub mod Homing
 mod Events
-mod Claims
+pub mod Claims
 mod Gathers
 mod Slots
 pub mod Loose
@@ -26,3 +26,26 @@ mod WorkedLoose
 mod WorkedEvict
 mod WorkedEvictStep
 mod WorkedSetMade
+pub mod Begun
+pub mod BeginParts
+mod BeginEnd
+pub mod BeginStep
+pub mod AfterBegin
+mod WorkedBegin
+mod Restores
+mod PutShards
+pub mod Noted
+mod Aborted
+mod SmallWords
+mod NamesShards
+mod BatchCommitted
+pub mod AbortStep
+pub mod WhichWait
+mod BatchReady
+mod Commits
+pub mod OtherPuts
+pub mod ShippedFar
+pub mod ShipParts
+pub mod ShipStep
+pub mod CommitStep
+mod WorkedEnds

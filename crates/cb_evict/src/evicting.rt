@@ -16,19 +16,18 @@ ghost use Rattle.cb_evict.specs.EvictRule.{EvictRule};
 ghost use Rattle.cb_evict.specs.EvictEffect.{EvictEffect};
 ghost use Rattle.cb_evict.specs.Evicting.{AreTaken, IsReady, EvictsClaimed, LeavesClaimed, TouchesSpans, RuleAfter};
 
-use crate::candidates::candidates;
 use crate::claiming::{claim_spans, give_back};
 use crate::closing::close_spans;
+use crate::finding::{Found, find_spans};
 use crate::loading::load_frames;
-use crate::looking::find_loose;
 use crate::sending::send;
 use crate::storing::{choose_shards, keep_set, next_number};
 use cb_member::Shard;
 use cb_types::{Config, NoMemory, Reply, Rows, SetId};
-use cb_world::{Desk, Far, Former, nodes_with_room};
+use cb_world::{Desk, Far, Former};
 
 /// How many objects a span has at the most.
-const MOST_OBJECTS: usize = 256;
+pub(crate) const MOST_OBJECTS: usize = 256;
 
 /// Evicts k spans at once. Of the spans none of whose objects is pinned or claimed, and which are not
 /// leaving, the first k go, the cold ones before the hot ones and then by frame number: they are coded
@@ -56,20 +55,14 @@ pub fn evict_now<D: Desk>(desk: &mut D, far: &mut Far) -> Result<Reply, NoMemory
     ensures unchanged { OnErr result (far.new ≡ far.old) }
 {
     let config = desk.config();
-    let frames = candidates(far)?;
-    let mut loose = Vec::with_capacity(far.alloc, frames.len())?;
-    find_loose(desk, &far.spans, &frames, &mut loose);
-    if loose.len() < config.k as usize {
-        return Ok(Reply::NoSpans {
-            loose: loose.len() as u32,
-        });
+    let found = find_spans(desk, far, config)?;
+    match found {
+        Found::Refused { reply } => Ok(reply),
+        Found::Loose { frames } => {
+            let shards = choose_shards(far, config.k + config.r)?;
+            evict_loose(desk, far, config, &frames, &shards)
+        }
     }
-    let nodes = nodes_with_room(&far.nodes, &far.members);
-    if nodes < config.k + config.r {
-        return Ok(Reply::NoNodes { nodes });
-    }
-    let shards = choose_shards(far, config.k + config.r)?;
-    evict_loose(desk, far, config, &loose, &shards)
 }
 
 /// Evicts the first k of these spans whose objects can all be claimed.

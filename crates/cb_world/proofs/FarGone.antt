@@ -194,6 +194,7 @@ freed_noted s t far h len v words home set x batch there =
           (claimed_other s t far h len v words home set x k (len_of z.former.word)
           (place_of z.former.word) z.version z.words z.claimed)
           ∙ z.claimed;
+      small = z.small;
     }) (x.sound.noted batch there)
 
 freed_claimed : (s t : Shown) (far : FarState) (h len v : ℕ) (words : List ℕ) (home : Home)

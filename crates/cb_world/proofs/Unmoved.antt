@@ -280,6 +280,7 @@ noted_kept s t far new batch k numbers objects noted = noted_by s t far new batc
       version = n.version;
       words = n.words;
       claimed = same ∙ n.claimed;
+      small = n.small;
     }
     stays {h} n (inr near) = absurd (not_claimed (object_at s h) (len_of n.former.word)
         (place_of n.former.word) n.version n.words near.before n.claimed)

@@ -1,6 +1,7 @@
 -- Worked examples of the far part of the sound world: for each fact a state that breaks it, and
 -- the last complete contents in each of their five forms.
-use Rattle.std.proofs.Common.{◌≡◌, ℕ, zero, suc, ◌<◌, ◌≤◌, true, false, List, [], ◌∷◌, Option, None, Some, refl, ap, sym, ◌∙◌, lit<, lit≤, arith}
+use Rattle.std.proofs.Common.{◌≡◌, ℕ, zero, suc, ◌^◌, ◌<◌, ◌≤◌, true, false, All, List, [], ◌∷◌, Option, None, Some, refl, ap, subst, sym, ◌∙◌, lit<, lit≤, arith}
+use Rattle.std.proofs.lemmas.List.Elements.{All-nil, All-cons}
 use Rattle.std.specs.FinMap as map
 use Rattle.cb_member.specs.declared.names.NodeId.{NodeId}
 use Rattle.cb_member.specs.declared.names.Shard.{Shard}
@@ -9,6 +10,7 @@ use Rattle.cb_node.specs.NodesState.{empty_nodes, with_row, row_at as row_under}
 use Rattle.cb_set.specs.SetState.{SetState, PositionState, dead_position, filled_position, live_at, set_of}
 use Rattle.cb_set.specs.Nodes.{OnDistinctNodes}
 use Rattle.cb_world.specs.declared.homes.Home.{Home}
+use Rattle.cb_world.specs.declared.object.Object.{Object}
 use Rattle.cb_world.specs.declared.object.Object.TheVariants as is
 use Rattle.cb_world.specs.declared.shown.Shown.{Shown}
 use Rattle.cb_world.specs.Memory.{window, bytes_in}
@@ -383,6 +385,7 @@ is_noted = record {
   version = 1;
   words = 2826 ∷ [];
   claimed = refl;
+  small = All-cons (λ w. w < 2 ^ 64) 2826 [] (lit< tt) (All-nil (λ w. w < 2 ^ 64));
 }
 
 -- a set is added under a number that no set has, and no pair that is joining, with fresh keys
@@ -398,3 +401,16 @@ key_of_a_set : (s t : Shown) (new : FarState) (rows : List (List ℕ))
     → ¬ (IsSetAdded s t (away set) new 6 set rows)
 key_of_a_set s t new rows x =
     absurd (x.fresh_keys (of_set 5 0) (at 0 0) (set, there set, refl) 0 (at 0 0) refl refl)
+
+-- no word has 65 bits
+too_wide : ¬ (IsNoted (record leaver { objects = is.Claimed 2 512 1 (2 ^ 64 ∷ []) ∷ [] }) (noting calm) 0)
+too_wide x =
+    let e : 2 ^ 64 ∷ [] ≡ x.words = ap words_of x.claimed in
+    absurd (let l = subst (λ (l : List ℕ). All (λ w. w < 2 ^ 64) l) (sym e) x.small 0 0 (lit< tt) in
+    omega (arith, l))
+  where
+    words_of : Object → List ℕ
+    words_of (is.Empty v) = []
+    words_of (is.Far len v words) = []
+    words_of (is.Here len place) = []
+    words_of (is.Claimed len place v words) = words

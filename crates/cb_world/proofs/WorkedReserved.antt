@@ -1,7 +1,8 @@
 -- Worked examples of a batch that is leaving: a state where its objects are noted and its set is
 -- kept, and for each fact one that breaks it.
-use Rattle.std.proofs.Common.{◌≡◌, ℕ, zero, suc, ◌<◌, true, false, List, [], ◌∷◌, None, Some, Contains, length, get_or, refl, ap, subst, sym, ◌∙◌, lit<, lit≤, arith}
+use Rattle.std.proofs.Common.{◌≡◌, ℕ, zero, suc, ◌^◌, ◌<◌, true, false, List, [], ◌∷◌, None, Some, Contains, length, get_or, refl, ap, subst, sym, ◌∙◌, lit<, lit≤, arith}
 use Rattle.std.specs.FinMap as map
+use Rattle.std.proofs.lemmas.List.Elements.{All-nil}
 use Rattle.cb_gf256.specs.InRange.{IsInRange}
 use Rattle.cb_member.specs.declared.names.Shard.{Shard}
 use Rattle.cb_set.specs.SetState.{SetState}
@@ -133,6 +134,7 @@ is_noted = record {
   version = 1;
   words = [];
   claimed = refl;
+  small = All-nil (λ w. w < 2 ^ 64);
 }
 
 alone : {X : Type 0} (x d : X) (k : ℕ) → k < length (x ∷ []) → get_or (x ∷ []) k d ≡ x

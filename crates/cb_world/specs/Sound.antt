@@ -15,7 +15,8 @@ use Rattle.cb_world.specs.LocalSound.{HasSlot, LocalSound}
 use Rattle.cb_world.specs.FarSound.{FarSound}
 use Rattle.cb_world.specs.Reserved.{IsReserved}
 
--- the object is claimed at the word that it had before the begin, which is noted
+-- the object is claimed at the word that it had before the begin, which is noted, and each of its
+-- words is one of 64 bits
 pub record IsNoted (s : Shown) (batch : LeavingState) (h : ℕ) : Type 0 where
   pub former : Former
   pub noted : Contains batch.words former
@@ -26,6 +27,7 @@ pub record IsNoted (s : Shown) (batch : LeavingState) (h : ℕ) : Type 0 where
   pub words : List ℕ
   pub claimed : object_at s h
       ≡ is.Claimed (len_of former.word) (place_of former.word) version words
+  pub small : All (λ w. w < 2 ^ 64) words
 
 -- a slot of a span that is leaving has the object
 abbrev pub Leaves : FarState → LeavingState → ℕ → Type 0

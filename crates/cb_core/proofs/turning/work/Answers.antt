@@ -83,3 +83,17 @@ returns-in-Rebuild-clause-error g c =
           (g.met.D.Desk.none _),
       given,
     )))
+
+pub returns-in-Begin-clause-error : goal.returns-in-Begin-clause-error
+returns-in-Begin-clause-error g c =
+    stops_is (λ d es e. g.D.Desk.run d es e) (λ d s. g.D.Desk.shows d s) (g.D.Desk.settings c.args.desk.now)
+    c.args.job.now (holding c.args.desk.now c.args.far.now) (holding c.begin.new.desk c.begin.new.far)
+    c.begin.result _ c.in-Begin.is (err_both _ _ _ c.begin.result c.begin.ensures.unchanged
+    c.begin.ensures.error (λ same x. (same, x)))
+
+pub returns-in-Ship-clause-error : goal.returns-in-Ship-clause-error
+returns-in-Ship-clause-error g c =
+    stops_is (λ d es e. g.D.Desk.run d es e) (λ d s. g.D.Desk.shows d s) (g.D.Desk.settings c.args.desk.now)
+    c.args.job.now (holding c.args.desk.now c.args.far.now) (holding c.ship.new.desk c.ship.new.far)
+    c.ship.result _ c.in-Ship.is (err_both _ _ _ c.ship.result c.ship.ensures.unchanged
+    c.ship.ensures.error (λ same x. (same, x)))

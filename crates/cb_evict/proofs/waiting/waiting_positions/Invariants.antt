@@ -1,0 +1,5 @@
+use Rattle.cb_evict.proofs.WhichWait.{Found}
+use Rattle.cb_evict.proofs.waiting.waiting_positions.Given as goal
+
+abbrev pub invariant-loop-p : goal.invariant-loop-p
+invariant-loop-p l = Found l.members l.shards l.p l.found l.count
