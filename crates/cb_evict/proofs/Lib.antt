@@ -26,6 +26,7 @@ mod WorkedLoose
 mod WorkedEvict
 mod WorkedEvictStep
 mod WorkedSetMade
+mod WorkedShip
 mod EmptyWorld
 pub mod WhichWait
 pub mod PutShards

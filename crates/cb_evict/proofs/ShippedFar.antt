@@ -180,8 +180,11 @@ module _ (s : Shown) (far : FarState) (batch : LeavingState) (p : ℕ) (shard : 
   place_was : (q : ℕ) (a : Shard) → slice_get rest.shards q ≡ Some (Some a)
       → ((q ≡ p) × (a ≡ shard)) ⊎ ((q ≢ p) × (slice_get batch.shards q ≡ Some (Some a)))
   place_was q a at = elim (cases_eq q p) [
-    | inl same ↦ inl (same, sym (shard_same shard a (sym here ∙ ap (slice_get rest.shards) (sym same)
-        ∙ at)))
+    | inl same ↦ inl (
+      same,
+      sym (shard_same shard a (sym here ∙ ap (slice_get rest.shards) (sym same)
+          ∙ at)),
+    )
     | inr off ↦ inr (off, place_back batch.shards p q shard a off at)
   ]
 

@@ -13,8 +13,11 @@ ship_data-requires-clause-frame g c =
     sym (c.frame_at.ensures x.0 x.1) ∙ c.in-Some.is in
     let n = c.requires.sound.1.noted x.0 x.1 in
     let h = n.held c.in-Some.frame (contains_at x.0.frames c.args.position c.in-Some.frame at) in
-    omega (arith, span_within c.args.far.now.spans c.in-Some.frame h.0 h.1,
-    c.requires.configured.frames)
+    omega (
+      arith,
+      span_within c.args.far.now.spans c.in-Some.frame h.0 h.1,
+      c.requires.configured.frames,
+    )
 
 pub ship_parity-requires-clause-there : goal.ship_parity-requires-clause-there
 ship_parity-requires-clause-there g c =
