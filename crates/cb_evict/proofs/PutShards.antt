@@ -1,6 +1,6 @@
 -- The shards put at some positions, in order.
 use Rattle.std.proofs.Common.{◌≡◌, ◌≢◌, ℕ, zero, suc, ◌+◌, ◌<◌, Bool, true, false, nat_eq, ◌||◌, List, [], ◌∷◌, ◌++◌, length, take, drop, get_or, Option, Some, None, refl, ap, sym, ◌∙◌, subst, arith, inl, inr, append_assoc, length-drop, ◌-◌, eq-eqb}
-use Rattle.std.specs.List.{slice_get, list_any}
+use Rattle.std.specs.List.{slice_get}
 use Rattle.std.proofs.lemmas.Bool.{false≢true, cases_lt}
 use Rattle.std.proofs.lemmas.List.{get_or-drop, get_or-take, length-take-le, take_more}
 use Rattle.std.proofs.lemmas.List.Folds.{list_any-append}

@@ -1,9 +1,8 @@
 -- Worked examples of a ship: values that meet a definition, and for each of its parts one that breaks
 -- that part alone.
-use Rattle.std.proofs.Common.{◌≡◌, ◌≢◌, ℕ, zero, suc, ◌+◌, ◌<◌, ◌≤◌, true, false, List, [], ◌∷◌, Option, None, Some, get_or, nat_lt, refl, sym, ap, ◌∙◌, subst, lit<, lit≤, arith, inl, inr}
+use Rattle.std.proofs.Common.{◌≡◌, ℕ, zero, suc, ◌<◌, ◌≤◌, true, false, List, [], ◌∷◌, Option, None, Some, get_or, nat_lt, refl, sym, ap, ◌∙◌, subst, lit<, lit≤, arith, inl, inr}
 use Rattle.std.specs.FinMap as map
 use Rattle.std.proofs.lemmas.Bool.{false≢true}
-use Rattle.cb_member.specs.declared.names.NodeId.{NodeId}
 use Rattle.cb_member.specs.declared.names.Shard.{Shard}
 use Rattle.cb_member.specs.Membership.{Membership, fresh_members, with_crash}
 use Rattle.cb_node.specs.NodesState.{NodesState, empty_nodes, held, row_at as row_under, with_row}
@@ -11,7 +10,7 @@ use Rattle.cb_node.proofs.Laws.{row_is_put}
 use Rattle.cb_types.specs.declared.reply.Reply.{Reply}
 use Rattle.cb_types.specs.declared.reply.Reply.TheVariants as answer
 use Rattle.cb_world.specs.declared.event.Event.TheVariants.{Looked, Loaded}
-use Rattle.cb_world.specs.Choices.{numbered, MayPut, IsBefore, IsLeastNode}
+use Rattle.cb_world.specs.Choices.{numbered, MayPut, IsBefore}
 use Rattle.cb_world.specs.FarState.{FarState}
 use Rattle.cb_world.specs.Leaving.{LeavingState}
 use Rattle.cb_world.specs.Plain.{Words}

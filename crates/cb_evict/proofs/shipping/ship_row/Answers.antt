@@ -1,7 +1,6 @@
-use Rattle.std.proofs.Common.{◌≡◌, ◌≢◌, ℕ, ◌+◌, ◌-◌, ◌<◌, ◌≤◌, List, length, Option, Some, None, ap, sym, ◌∙◌, subst, arith}
+use Rattle.std.proofs.Common.{◌≡◌, ◌<◌, length, Some, sym, ◌∙◌, arith}
 use Rattle.std.specs.List.{slice_get}
 use Rattle.std.proofs.lemmas.Result.{on_ok_weaker}
-use Rattle.cb_world.specs.Leaving.{LeavingState}
 use Rattle.cb_evict.proofs.WhichWait.{least_waits}
 use Rattle.cb_evict.proofs.ShipParts.{puts_parity, span_within, contains_at, past_end, few_positions}
 use Rattle.cb_evict.proofs.shipping.ship_row.Goals as goal
