@@ -164,8 +164,7 @@ fn ship_row<D: Desk>(
 ///
 /// Answers NoBatch exactly where no batch is leaving, AllShipped exactly where each position's row is
 /// put on a node that has not crashed since, NoNode where no node can take the row, and else Shipped.
-/// No object is looked at. Takes the memory for a row, before all else; where there is none, nothing
-/// has changed.
+/// No object is looked at, and nothing is settled. Where there is no memory, nothing has changed.
 pub fn ship<D: Desk>(desk: &mut D, far: &mut Far) -> Result<Reply, NoMemory>
     requires config { IsAccepted (D.settings desk.old) }
     requires configured { IsConfigured (D.settings desk.old) far.old }
