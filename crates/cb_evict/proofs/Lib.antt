@@ -40,6 +40,7 @@ mod SmallWords
 mod NamesShards
 mod BatchCommitted
 pub mod AbortStep
+mod WorkedShip
 pub mod WhichWait
 mod BatchReady
 mod Commits

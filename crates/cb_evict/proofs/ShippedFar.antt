@@ -1,5 +1,5 @@
 -- A row that is put for a leaving batch keeps the world sound.
-use Rattle.std.proofs.Common.{◌≡◌, ◌≢◌, ◌⊎◌, ℕ, ◌+◌, ◌<◌, ◌≤◌, Bool, true, false, cond, nat_lt, ◌&&◌, List, length, set as slice_set, Option, Some, None, is_some, if◌then◌else◌, refl, sym, ap, ◌∙◌, subst, arith, inl, inr, length-set, get_or-set_same, get_or-set_other}
+use Rattle.std.proofs.Common.{◌≡◌, ◌≢◌, ◌⊎◌, ℕ, ◌+◌, ◌<◌, ◌≤◌, Bool, true, false, nat_lt, ◌&&◌, List, length, set as slice_set, Option, Some, None, is_some, if◌then◌else◌, refl, sym, ap, ◌∙◌, subst, arith, inl, inr, length-set, get_or-set_same, get_or-set_other}
 use Rattle.std.specs.List.{slice_get, Contains}
 use Rattle.std.specs.Option.{option_map}
 use Rattle.std.proofs.lemmas.Bool.{cases_eq, false≢true}
@@ -9,14 +9,12 @@ use Rattle.cb_member.specs.declared.names.Epoch.{Epoch}
 use Rattle.cb_member.specs.declared.names.Loss.{Loss}
 use Rattle.cb_member.specs.declared.names.NodeId.{NodeId}
 use Rattle.cb_member.specs.declared.names.Shard.{Shard}
-use Rattle.cb_member.specs.Membership.{Membership, alive, ended_incarnations, fresh_node, incarnation, state_of}
+use Rattle.cb_member.specs.Membership.{alive, ended_incarnations, fresh_node, incarnation, state_of}
 use Rattle.cb_node.specs.NodesState.{has, held, row_at as row_under}
 use Rattle.cb_node.proofs.Laws.{row_is_put, put_keeps_other_rows}
 use Rattle.cb_set.specs.SetState.{SetState}
 use Rattle.cb_set.specs.Lost.{is_lost}
-use Rattle.cb_world.specs.declared.object.Object.TheVariants as is
 use Rattle.cb_world.specs.declared.shown.Shown.{Shown}
-use Rattle.cb_world.specs.Shown.{object_at}
 use Rattle.cb_world.specs.Join.{IsFresh, IsJoin}
 use Rattle.cb_world.specs.Joining.{JoiningState}
 use Rattle.cb_world.specs.Leaving.{LeavingState}
@@ -180,8 +178,11 @@ module _ (s : Shown) (far : FarState) (batch : LeavingState) (p : ℕ) (shard : 
   place_was : (q : ℕ) (a : Shard) → slice_get rest.shards q ≡ Some (Some a)
       → ((q ≡ p) × (a ≡ shard)) ⊎ ((q ≢ p) × (slice_get batch.shards q ≡ Some (Some a)))
   place_was q a at = elim (cases_eq q p) [
-    | inl same ↦ inl (same, sym (shard_same shard a (sym here ∙ ap (slice_get rest.shards) (sym same)
-        ∙ at)))
+    | inl same ↦ inl (
+      same,
+      sym (shard_same shard a (sym here ∙ ap (slice_get rest.shards) (sym same)
+          ∙ at)),
+    )
     | inr off ↦ inr (off, place_back batch.shards p q shard a off at)
   ]
 

@@ -15,7 +15,7 @@ use cb_world::{Far, Leaving, least_node};
 use std::alloc::Global;
 
 /// What is to be put next of the batch that is leaving.
-#[derive(Clone, Copy, Debug, PartialEq, Eq)]
+#[derive(Clone, Copy)]
 pub(crate) enum NextPut {
     /// No batch is leaving.
     NoBatch,

@@ -90,8 +90,10 @@ fn ship_parity(far: &mut Far, position: u32, shard: Shard) -> Result<(), NoMemor
     requires within { shard.node.n < length far.old.nodes.nodes }
     requires fresh { has far.old.nodes shard.node shard.key ≡ false }
     ensures ok { OnOk result ((batch : LeavingState) → far.old.leaving ≡ Some batch
-        → far.new ≡ with_noted (record far.old { nodes = with_row far.old.nodes shard.node shard.key
-          (row_at batch.parities (position - length batch.frames)) }) batch position shard) }
+        → far.new ≡ with_noted (record far.old {
+          nodes = with_row far.old.nodes shard.node shard.key
+              (row_at batch.parities (position - length batch.frames));
+        }) batch position shard) }
     ensures err { OnErr result (far.new ≡ far.old) }
 {
     let batch = far.leaving.as_ref().unwrap();
@@ -118,7 +120,7 @@ fn ship_data<D: Desk>(
     requires fresh { has far.old.nodes shard.node shard.key ≡ false }
     ensures ok { OnOk result ((batch : LeavingState) → far.old.leaving ≡ Some batch
         → PutsRow (λ es. D.run desk.old es desk.new) (λ s. D.shows desk.old s)
-          far.old far.new batch position shard) }
+        far.old far.new batch position shard) }
     ensures err { OnErr result (PutsNothing (λ es. D.run desk.old es desk.new) far.old) }
     ensures unchanged { OnErr result (far.new ≡ far.old) }
 {
@@ -144,7 +146,7 @@ fn ship_row<D: Desk>(
     requires next { IsNext far.old (next.Put position shard) }
     ensures ok { OnOk result ((batch : LeavingState) → far.old.leaving ≡ Some batch
         → PutsRow (λ es. D.run desk.old es desk.new) (λ s. D.shows desk.old s)
-          far.old far.new batch position shard) }
+        far.old far.new batch position shard) }
     ensures err { OnErr result (PutsNothing (λ es. D.run desk.old es desk.new) far.old) }
     ensures unchanged { OnErr result (far.new ≡ far.old) }
 {
@@ -162,8 +164,7 @@ fn ship_row<D: Desk>(
 ///
 /// Answers NoBatch exactly where no batch is leaving, AllShipped exactly where each position's row is
 /// put on a node that has not crashed since, NoNode where no node can take the row, and else Shipped.
-/// No object is looked at. Takes the memory for a row, before all else; where there is none, nothing
-/// has changed.
+/// No object is looked at, and nothing is settled. Where there is no memory, nothing has changed.
 pub fn ship<D: Desk>(desk: &mut D, far: &mut Far) -> Result<Reply, NoMemory>
     requires config { IsAccepted (D.settings desk.old) }
     requires configured { IsConfigured (D.settings desk.old) far.old }

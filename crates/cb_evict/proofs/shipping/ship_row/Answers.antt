@@ -1,7 +1,6 @@
-use Rattle.std.proofs.Common.{◌≡◌, ◌≢◌, ℕ, ◌+◌, ◌-◌, ◌<◌, ◌≤◌, List, length, Option, Some, None, ap, sym, ◌∙◌, subst, arith}
+use Rattle.std.proofs.Common.{◌≡◌, ◌<◌, length, Some, sym, ◌∙◌, arith}
 use Rattle.std.specs.List.{slice_get}
 use Rattle.std.proofs.lemmas.Result.{on_ok_weaker}
-use Rattle.cb_world.specs.Leaving.{LeavingState}
 use Rattle.cb_evict.proofs.WhichWait.{least_waits}
 use Rattle.cb_evict.proofs.ShipParts.{puts_parity, span_within, contains_at, past_end, few_positions}
 use Rattle.cb_evict.proofs.shipping.ship_row.Goals as goal
@@ -13,8 +12,11 @@ ship_data-requires-clause-frame g c =
     sym (c.frame_at.ensures x.0 x.1) ∙ c.in-Some.is in
     let n = c.requires.sound.1.noted x.0 x.1 in
     let h = n.held c.in-Some.frame (contains_at x.0.frames c.args.position c.in-Some.frame at) in
-    omega (arith, span_within c.args.far.now.spans c.in-Some.frame h.0 h.1,
-    c.requires.configured.frames)
+    omega (
+      arith,
+      span_within c.args.far.now.spans c.in-Some.frame h.0 h.1,
+      c.requires.configured.frames,
+    )
 
 pub ship_parity-requires-clause-there : goal.ship_parity-requires-clause-there
 ship_parity-requires-clause-there g c =
