@@ -12,6 +12,7 @@ mod loading;
 mod looking;
 mod sending;
 mod storing;
+mod taking;
 #[cfg(test)]
 mod tests;
 
