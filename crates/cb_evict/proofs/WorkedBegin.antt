@@ -543,23 +543,29 @@ looks = Looked 0 calm ∷ Looked 1 pinned ∷ []
 first_loose : IsLoose looks pair.spans 0
 first_loose h (slot, named) = by slot named
   where
+    one_zero : (n : ℕ) → suc n ≡ 0 → ⊥
+    one_zero n e = omega (arith, e)
+
     by : (slot : ℕ) → handle_in (span_in pair.spans 0) slot ≡ Some h
         → (w : ℕ) × IsFound h w looks × IsFree w
     by zero e = absurd (none_is h e)
     by (suc zero) e = (
       calm,
       subst (λ (k : ℕ). IsFound k calm looks) (same_number 0 h e)
-          (inr ((refl, refl), (λ w look. zero_one look.0), tt)),
+          (inr ((refl, refl), ((λ w look. one_zero 0 look.0), tt))),
       (refl, refl),
     )
     by (suc (suc n)) e = absurd (none_is h e)
 
-    zero_one : 1 ≡ 0 → ⊥
-    zero_one e = omega (arith, e)
-
 second_held : IsHeldUp looks pair.spans 1
-second_held = (1, pinned, (1, refl), inl (inr ((refl, refl), tt)), λ free. let e : 1 ≡ 0 = free.1 in
-    omega (arith, e))
+second_held = (
+  1,
+  pinned,
+  (1, refl),
+  inl (inr ((refl, refl), tt)),
+  λ free. let e : 1 ≡ 0 = free.1 in
+      omega (arith, e),
+)
 
 over_both : LooksOver (λ es. es ≡ looks) pair.spans (candidates pair) (0 ∷ [])
 over_both = record {
@@ -570,7 +576,7 @@ over_both = record {
     (0, (0, lit< tt, refl), (1, refl)),
     ((1, (1, lit< tt, refl), (1, refl)), tt),
   );
-  finds = inr (first_loose, refl, second_held, tt);
+  finds = inr (first_loose, refl, (second_held, tt));
 }
 
 finds : FindsLoose (λ es. es ≡ looks) settings pair (0 ∷ [])
