@@ -1,6 +1,6 @@
 -- Worked examples of a begin: the loose one of two spans is leaving from here; and for each part of
 -- what is said of it a value that breaks that part alone.
-use Rattle.std.proofs.Common.{◌≡◌, ℕ, zero, suc, ◌+◌, ◌≤◌, Bool, true, false, List, [], ◌∷◌, ◌++◌, length, All, None, Some, refl, sym, ap, ◌∙◌, subst, lit<, lit≤, arith, inl, inr}
+use Rattle.std.proofs.Common.{◌≡◌, ◌⊎◌, ℕ, zero, suc, ◌+◌, ◌≤◌, Bool, true, false, List, [], ◌∷◌, ◌++◌, length, All, None, Some, refl, sym, ap, ◌∙◌, subst, lit<, lit≤, arith, inl, inr}
 use Rattle.std.specs.FinMap as map
 use Rattle.std.proofs.lemmas.Bool.{false≢true}
 use Rattle.std.proofs.lemmas.List.Elements.{All-nil, All-cons}
@@ -19,10 +19,11 @@ use Rattle.cb_span.specs.declared.temp.Temp.TheVariants.{Cold}
 use Rattle.cb_world.specs.declared.object.Object.{Object}
 use Rattle.cb_world.specs.declared.object.Object.TheVariants as is
 use Rattle.cb_world.specs.declared.shown.Shown.{Shown}
-use Rattle.cb_world.specs.FarState.{FarState, span_in}
+use Rattle.cb_world.specs.FarState.{FarState, span_in, handle_in}
 use Rattle.cb_world.specs.Now.{now}
 use Rattle.cb_world.specs.Reserved.{set_from}
 use Rattle.cb_world.specs.Shown.{object_at, never}
+use Rattle.cb_world.specs.Grasped.{IsFree}
 use Rattle.cb_world.specs.Leaving.{LeavingState}
 use Rattle.cb_world.specs.Looks.{IsFound, IsTaken, told_by}
 use Rattle.cb_world.specs.Memory.{window, put}
@@ -31,14 +32,17 @@ use Rattle.cb_world.specs.Sets.{set_in, if_committed}
 use Rattle.cb_world.specs.SetWord.{IsSpanWord}
 use Rattle.cb_world.specs.World.{word_at}
 use Rattle.cb_evict.specs.BeginEffect.{IsClaimedNow, IsBegun, BeginEffect}
-use Rattle.cb_evict.specs.BeginRule.{blank_shards, new_batch, with_batch, HasBegun, IsLeavingAlready}
-use Rattle.cb_evict.specs.EvictRule.{IsInRow, AreInRows}
+use Rattle.cb_evict.specs.BeginRule.{blank_shards, new_batch, with_batch, HasBegun, IsLeavingAlready, HasBatch, HasLooked, BeginRule}
+use Rattle.cb_evict.specs.Beginning.{AreParities}
+use Rattle.cb_evict.specs.Candidates.{candidates, IsLoose, IsHeldUp}
+use Rattle.cb_evict.specs.Finding.{FindsFew, FindsLoose}
+use Rattle.cb_evict.specs.EvictRule.{IsInRow, AreInRows, HasFewSpans, HasFewNodes}
 use Rattle.cb_evict.proofs.Begun.{reserved_kept}
 use Rattle.cb_evict.proofs.NewSet.{set_added_in}
 use Rattle.cb_evict.specs.BeginStep.{frame_rows, AreHeld, IsBegunTo, IsBatchMade, IsBeginStep, is_leaving, few_spans, few_nodes, begins}
 use Rattle.cb_evict.specs.Claims.{AreApart}
 use Rattle.cb_evict.specs.Claiming.{AreOf}
-use Rattle.cb_evict.specs.Looking.{IsIn}
+use Rattle.cb_evict.specs.Looking.{IsIn, LooksOver}
 use Rattle.cb_evict.proofs.BeginParts.{leaving_batch, spans_batch}
 use Rattle.cb_evict.proofs.WorkedEvictStep.{settings, desk, calm, pinned, moving, pair, busy, lone, one_node, first_object, only_object, span_with, same_number, none_is}
 use Rattle.cb_evict.proofs.WorkedSetMade.{row, row_words, zero_row, is_word, two_nodes}
@@ -502,3 +506,120 @@ not_refused a = differ (a.left (λ id e. spans_batch 0 (answer.NoSpans 0) id ref
   where
     differ : is.Claimed 8 0 3 (7 ∷ []) ∷ [] ≡ is.Here 8 0 ∷ [] → ⊥
     differ e = cc
+
+-- ---- the parts
+-- one batch by the rule: enough spans, enough nodes, and the next number
+has_batch : HasBatch settings pair second (answer.Batch (record { n = 0 })) (0 ∷ []) claim_zeros
+has_batch = record {
+  enough = lit≤ tt;
+  room = omega (arith, two_nodes);
+  reply = refl;
+  begun = has_begun;
+}
+
+not_of_none : (new : FarState) (r : Reply) (es : List Event) → HasBatch settings pair new r [] es → ⊥
+not_of_none new r es a = let l = a.enough in absurd (omega (arith, l))
+
+not_on_one : (new : FarState) (r : Reply) (es : List Event)
+    → HasBatch settings lone new r (0 ∷ []) es → ⊥
+not_on_one new r es a = let l = a.room in absurd (omega (arith, l, one_node))
+
+not_number : (new : FarState) (es : List Event)
+    → HasBatch settings pair new (answer.Batch (record { n = 1 })) (0 ∷ []) es → ⊥
+not_number new es a =
+    let e : 1 ≡ 0 = ap (λ (id : SetId). id.n) (id_is _ _ a.reply) in absurd (omega (arith, e))
+
+by_rule : BeginRule settings second second (answer.Leaving (record { n = 0 })) []
+by_rule = inl told
+
+-- no span is looked at while a batch is leaving
+not_meanwhile : (new : FarState) (r : Reply) (es : List Event) → HasLooked settings second new r es → ⊥
+not_meanwhile new r es a = none_some _ (sym a.none)
+
+-- the looks at both spans find the first one loose
+abbrev looks : List Event
+looks = Looked 0 calm ∷ Looked 1 pinned ∷ []
+
+first_loose : IsLoose looks pair.spans 0
+first_loose h (slot, named) = by slot named
+  where
+    one_zero : (n : ℕ) → suc n ≡ 0 → ⊥
+    one_zero n e = omega (arith, e)
+
+    by : (slot : ℕ) → handle_in (span_in pair.spans 0) slot ≡ Some h
+        → (w : ℕ) × IsFound h w looks × IsFree w
+    by zero e = absurd (none_is h e)
+    by (suc zero) e = (
+      calm,
+      subst (λ (k : ℕ). IsFound k calm looks) (same_number 0 h e)
+          (inr ((refl, refl), ((λ w look. one_zero 0 look.0), tt))),
+      (refl, refl),
+    )
+    by (suc (suc n)) e = absurd (none_is h e)
+
+second_held : IsHeldUp looks pair.spans 1
+second_held = (
+  1,
+  pinned,
+  (1, refl),
+  inl (inr ((refl, refl), tt)),
+  λ free. let e : 1 ≡ 0 = free.1 in
+      omega (arith, e),
+)
+
+over_both : LooksOver (λ es. es ≡ looks) pair.spans (candidates pair) (0 ∷ [])
+over_both = record {
+  events = looks;
+  ran = refl;
+  looks = tt;
+  touches = (
+    (0, (0, lit< tt, refl), (1, refl)),
+    ((1, (1, lit< tt, refl), (1, refl)), tt),
+  );
+  finds = inr (first_loose, refl, (second_held, tt));
+}
+
+finds : FindsLoose (λ es. es ≡ looks) settings pair (0 ∷ [])
+finds = record { looks = over_both; enough = lit≤ tt; room = omega (arith, two_nodes) }
+
+-- too few spans, and then too few nodes, are a refusal
+not_enough : (runs : List Event → Type 0) → FindsLoose runs settings pair [] → ⊥
+not_enough runs a = let l = a.enough in absurd (omega (arith, l))
+
+not_with_room : (runs : List Event → Type 0) → FindsLoose runs settings lone (0 ∷ []) → ⊥
+not_with_room runs a = let l = a.room in absurd (omega (arith, l, one_node))
+
+few : FindsFew (λ es. es ≡ looks) (record settings { k = 2 }) pair (answer.NoSpans 1)
+few = record {
+  loose = 0 ∷ [];
+  looks = over_both;
+  few = inl (record { few = lit< tt; reply = refl; state = refl });
+}
+
+-- a refusal has its own count
+not_its_count : (runs : List Event → Type 0) → FindsFew runs settings pair (answer.NoSpans 1) → ⊥
+not_its_count runs a = by a.few
+  where
+    count_is : (n m : ℕ) → answer.NoSpans n ≡ answer.NoSpans m → n ≡ m
+    count_is n m e = cc
+
+    spans_nodes : (n m : ℕ) → answer.NoSpans n ≡ answer.NoNodes m → ⊥
+    spans_nodes n m e = cc
+
+    by : HasFewSpans settings pair pair (answer.NoSpans 1) a.loose
+        ⊎ HasFewNodes settings pair pair (answer.NoSpans 1) a.loose → ⊥
+    by (inl x) = let l = x.few in let e = count_is 1 (length a.loose) x.reply in
+        omega (arith, l, e)
+    by (inr x) = spans_nodes 1 _ x.reply
+
+-- the parities of the row of zeros
+parities_of : AreParities 1 2 (row ∷ []) (row ∷ [])
+parities_of = record { count = refl; word = is_word.is_word; bytes = is_word.bytes }
+
+not_too_many : AreParities 1 2 (row ∷ []) (row ∷ row ∷ []) → ⊥
+not_too_many a = let e : 3 ≡ 2 = a.count in absurd (omega (arith, e))
+
+not_short : AreParities 1 2 (row ∷ []) ([] ∷ []) → ⊥
+not_short a =
+    let same = a.word.equal_lengths 1 [] (lit< tt) in
+    let e : 0 ≡ 4096 = same ∙ is_word.wide in absurd (omega (arith, e))

@@ -12,6 +12,7 @@ pub mod EvictEffect
 pub mod EvictStep
 pub mod Evicting
 pub mod Finding
+pub mod Taking
 pub mod BeginRule
 pub mod BeginEffect
 pub mod Beginning

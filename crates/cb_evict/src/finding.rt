@@ -13,7 +13,8 @@ use cb_world::{Desk, Far, nodes_with_room};
 /// What was found of the spans that may leave.
 #[derive(Drop)]
 pub(crate) enum Found {
-    /// Fewer spans are loose, or fewer nodes have room, than a set has positions.
+    /// Fewer spans are loose than a set has data positions, or fewer nodes have room than it has
+    /// positions: the reply that tells so.
     Refused { reply: Reply },
     /// Enough nodes have room, and the spans in these frames are loose: k at least, in the order in
     /// which they are taken.
