@@ -1,5 +1,5 @@
 -- The steps of a batch over a still desk: what they leave as it was, and that all stays known.
-use Rattle.std.proofs.Common.{◌≡◌, ◌⊎◌, ℕ, ◌+◌, ◌<◌, ◌≤◌, List, [], ◌∷◌, length, get_or, All, Option, Some, refl, sym, ap, ◌∙◌, subst, arith, inl, inr, length-set}
+use Rattle.std.proofs.Common.{◌≡◌, ℕ, ◌<◌, ◌≤◌, List, [], ◌∷◌, length, get_or, All, Option, Some, refl, sym, ap, ◌∙◌, subst, arith, inl, inr}
 use Rattle.cb_member.specs.declared.names.Shard.{Shard}
 use Rattle.cb_member.specs.Membership.{Membership}
 use Rattle.cb_node.specs.NodesState.{NodesState, with_dropped}
@@ -16,7 +16,7 @@ use Rattle.cb_world.specs.Leaving.{LeavingState}
 use Rattle.cb_world.specs.Plain.{Words}
 use Rattle.cb_world.specs.Reserved.{put_shards}
 use Rattle.cb_world.specs.Seats.{SeatState}
-use Rattle.cb_world.specs.Shown.{Fits, object_at}
+use Rattle.cb_world.specs.Shown.{Fits}
 use Rattle.cb_world.specs.Still.{IsStill}
 use Rattle.cb_world.specs.Stored.{all_dropped}
 use Rattle.cb_world.specs.World.{IsKnown, word_at}

@@ -1,8 +1,6 @@
 -- Each turn is a call of the plain map, or leaves it as it is.
-use Rattle.std.proofs.Common.{◌≡◌, ◌≢◌, ◌⊎◌, ℕ, true, ◌+◌, ◌^◌, ◌<◌, List, [], length, Some, refl, sym, ap, ◌∙◌, subst, inl, inr, arith}
-use Rattle.cb_member.specs.declared.names.Loss.{Loss}
+use Rattle.std.proofs.Common.{◌≡◌, ℕ, ◌+◌, ◌^◌, ◌<◌, List, [], length, sym, ◌∙◌, subst, inl, inr, arith}
 use Rattle.cb_member.specs.declared.names.NodeId.{NodeId}
-use Rattle.cb_types.specs.declared.handle.SetId.{SetId}
 use Rattle.cb_types.specs.declared.job.Job.{Job}
 use Rattle.cb_types.specs.declared.job.Job.TheVariants as job
 use Rattle.cb_types.specs.declared.request.Request.{Request}
@@ -12,28 +10,24 @@ use Rattle.cb_types.specs.declared.reply.Reply.TheVariants as answer
 use Rattle.cb_types.specs.Table.{IsReplyOf}
 use Rattle.cb_world.specs.declared.shown.Shown.{Shown}
 use Rattle.cb_world.specs.FarState.{FarState}
-use Rattle.cb_world.specs.Now.{is_gone}
 use Rattle.cb_world.specs.Plain.{Words}
 use Rattle.cb_world.specs.StillWords.{stamp_at}
 use Rattle.cb_world.specs.World.{WorldState, IsKnown, IsSoundWorld, word_at}
-use Rattle.cb_mutate.specs.MapCalls.{IsCallOn, IsMakeCall}
 use Rattle.cb_mutate.proofs.FreeCall.{free_call}
 use Rattle.cb_core.specs.Parts.{Holding, NeverDeclined}
 use Rattle.cb_core.specs.Room.{final_reply}
 use Rattle.cb_core.specs.Step.{StillRead, StillWrite, StillDecline, StillWorks, TurnStep, worn, done}
 use Rattle.cb_core.specs.Turned.{counted}
 use Rattle.cb_core.proofs.TurnCallsKept.{HasKept, once_known, kept_evict}
-use Rattle.cb_core.proofs.TurnCallsFar.{IsLostFar}
 use Rattle.cb_core.proofs.TurnCallsBatch.{kept_begin, kept_ship, kept_commit, kept_abort, begin_line, ship_line, commit_line, abort_line}
 use Rattle.cb_core.proofs.TurnCallsFilter.{IsFilterAs, filter_line, filter_answered, kept_rebuild, rebuild_line}
 use Rattle.cb_core.proofs.TurnCallsFirst.{works_turn}
-use Rattle.cb_core.proofs.TurnCallsLost.{final_lost, where_lost, where_gone}
 use Rattle.cb_core.proofs.TurnCallsMake.{IsMadeAs, make_answered, evict_line}
 use Rattle.cb_core.proofs.TurnCallsMap.{IsSameMap, map_stays, map_then, counted_map, call_carried, make_carried}
 use Rattle.cb_core.proofs.TurnCallsNodes.{IsMapLost, crash_map, join_map, crash_line, join_line}
 use Rattle.cb_core.proofs.TurnCallsParts.{read_part, write_part, read_refusable, write_refusable}
 use Rattle.cb_core.proofs.TurnCallsReply.{own_final, free_line}
-use Rattle.cb_core.proofs.TurnCallsSwap.{IsSwapAs, swap_answered, swap_lost, swap_gone}
+use Rattle.cb_core.proofs.TurnCallsSwap.{IsSwapAs, swap_answered}
 use Rattle.cb_core.proofs.TurnCallsWhere.{IsAnswered, where_answered, kept_map, within}
 
 -- what is held once the turn is counted, and after it

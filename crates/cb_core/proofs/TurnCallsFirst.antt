@@ -1,34 +1,21 @@
 -- What each job keeps of the far state once the turn is counted.
-use Rattle.std.proofs.Common.{◌≡◌, ◌⊎◌, ℕ, ◌+◌, ◌<◌, List, [], length, Option, Some, None, refl, sym, ap, ◌∙◌, subst, inl, inr, arith}
+use Rattle.std.proofs.Common.{◌≡◌, ℕ, List, [], length, Option, Some, None, ap, ◌∙◌, subst, inl, inr}
 use Rattle.cb_member.specs.declared.names.NodeId.{NodeId}
 use Rattle.cb_ptr.specs.declared.word.State.{State}
 use Rattle.cb_ptr.specs.declared.word.State.TheVariants as state
-use Rattle.cb_ptr.specs.Word.{state_of}
-use Rattle.cb_types.specs.declared.handle.SetId.{SetId}
 use Rattle.cb_types.specs.declared.job.Job.{Job}
 use Rattle.cb_types.specs.declared.job.Job.TheVariants as job
-use Rattle.cb_types.specs.declared.request.Request.TheVariants.{Crash, Join}
 use Rattle.cb_types.specs.declared.reply.Reply.{Reply}
 use Rattle.cb_types.specs.declared.reply.Reply.TheVariants as answer
-use Rattle.cb_types.specs.Table.{IsReplyOf}
 use Rattle.cb_world.specs.declared.shown.Shown.{Shown}
 use Rattle.cb_world.specs.FarState.{FarState}
-use Rattle.cb_world.specs.Memory.{bytes_in}
-use Rattle.cb_world.specs.NodeChanges.{crashed_far, joined_far}
-use Rattle.cb_world.specs.Now.{Now, now, now_as, is_gone}
-use Rattle.cb_world.specs.Now.Now.{held, gone}
 use Rattle.cb_world.specs.Plain.{Words}
-use Rattle.cb_world.specs.Sound.{Sound}
-use Rattle.cb_world.specs.World.{WorldState, IsKnown}
-use Rattle.cb_world.proofs.CrashNow.{BecomesGone, crash_now}
-use Rattle.cb_world.proofs.NodeJoin.{node_crash_sound, node_join_sound, node_join_now}
-use Rattle.cb_world.proofs.NowSame.{now_same}
+use Rattle.cb_world.specs.World.{IsKnown}
 use Rattle.cb_mutate.specs.FreeRule.{LeavesPlace}
 use Rattle.cb_mutate.specs.MakeStep.{IsMakeStep}
 use Rattle.cb_mutate.specs.Steps.{IsFreeStep}
 use Rattle.cb_core.specs.Membership.{CrashTurn, crashed, is_down, JoinTurn, joined, is_up}
 use Rattle.cb_core.specs.Parts.{Holding, NeverDeclined, WithRoom, at_once, no_room, won, WhereItIs, near, declined, stays_far, brought, BringsIn, not_far, was_far}
-use Rattle.cb_core.specs.Room.{final_reply}
 use Rattle.cb_core.specs.Step.{StillMake, StillEvict, StillBring, StillFind, StillRead, StillWrite, StillDecline, StillWorks}
 use Rattle.cb_core.proofs.Changes.{free_leaves}
 use Rattle.cb_core.proofs.TurnCallsMake.{make_crammed}

@@ -1,38 +1,35 @@
 -- Worked examples of turns, steps and events: what meets them, and what breaks one part.
-use Rattle.std.proofs.Common.{◌≡◌, ◌⊎◌, ℕ, zero, suc, ◌+◌, ◌*◌, ◌^◌, ◌<◌, ◌≤◌, Bool, true, false, List, [], ◌∷◌, ◌++◌, Option, None, Some, length, replicate, get_or, unwrap_or, refl, ap, sym, ◌∙◌, subst, inl, inr, lit<, lit≤, arith}
+use Rattle.std.proofs.Common.{◌≡◌, ℕ, zero, suc, ◌^◌, ◌≤◌, List, [], ◌∷◌, ◌++◌, Option, None, Some, length, replicate, get_or, unwrap_or, refl, ap, sym, ◌∙◌, subst, inl, inr, lit<, lit≤, arith}
 use Rattle.std.specs.FinMap as map
-use Rattle.cb_class.specs.declared.class.Class.{Class}
 use Rattle.cb_class.specs.Class.{IsClassOf, bytes_of}
 use Rattle.cb_member.specs.declared.names.NodeId.{NodeId}
-use Rattle.cb_member.specs.Membership.{Membership, fresh_members}
-use Rattle.cb_node.specs.NodesState.{NodesState, empty_nodes, with_rows}
+use Rattle.cb_member.specs.Membership.{fresh_members}
+use Rattle.cb_node.specs.NodesState.{empty_nodes, with_rows}
 use Rattle.cb_span.specs.declared.temp.Temp.TheVariants.{Hot}
 use Rattle.cb_types.specs.declared.handle.Handle.{Handle}
 use Rattle.cb_types.specs.declared.handle.SetId.{SetId}
 use Rattle.cb_types.specs.declared.job.Job.TheVariants.{Make, Read, Write, Free, Swap, Filter, Evict, Begin, Ship, Commit, Abort, Merge, Rebuild, Crash, Join}
 use Rattle.cb_types.specs.declared.reply.Reply.{Reply}
 use Rattle.cb_types.specs.declared.reply.Reply.TheVariants as answer
-use Rattle.cb_world.specs.Choices.{room_count}
 use Rattle.cb_world.specs.Counts.{CountsState}
 use Rattle.cb_world.specs.FarState.{FarState}
-use Rattle.cb_world.specs.Placed.{HasRoom, IsCrammed}
+use Rattle.cb_world.specs.Placed.{HasRoom}
 use Rattle.cb_world.specs.Memory.{bytes_in, window}
 use Rattle.cb_world.specs.Plain.{Words}
 use Rattle.cb_world.specs.Seats.{SeatState}
 use Rattle.cb_world.specs.World.{WorldState, word_at}
 use Rattle.cb_mutate.specs.MakeRule.{HasNoPlace}
 use Rattle.cb_mutate.specs.MakeStep.{IsMakeStep}
-use Rattle.cb_evict.specs.EvictStep.{IsEvictStep, loose_frames, few_spans}
+use Rattle.cb_evict.specs.EvictStep.{loose_frames, few_spans}
 use Rattle.cb_evict.proofs.AfterEvict.{evict_made}
 use Rattle.cb_core.specs.declared.event.Atomic.TheVariants.{Load, Pin, Unpin}
 use Rattle.cb_core.specs.declared.event.Event.TheVariants as event
 use Rattle.cb_core.specs.Events.{IsEvent}
 use Rattle.cb_core.specs.Jobs.{IsJob}
-use Rattle.cb_core.specs.Membership.{CrashTurn, crashed, is_down}
+use Rattle.cb_core.specs.Membership.{crashed, is_down}
 use Rattle.cb_core.specs.Parts.{Holding, at_once, no_room as no_room_won, won, near, far as was_away, after as once_in}
 use Rattle.cb_core.specs.Room.{final_reply}
-use Rattle.cb_core.specs.Step.{StillEvict, TurnStep, worn, done, AtomicStep, Step, Leads, Stops, StillStops}
-use Rattle.cb_core.specs.Turned.{counted}
+use Rattle.cb_core.specs.Step.{StillEvict, TurnStep, worn, done, Step, Leads, Stops, StillStops}
 use Rattle.cb_core.proofs.WorkedPins.{settings, desk, calm, hot, pinned, pin_on, seat_with}
 use Rattle.cb_core.proofs.WorkedRoom.{counts, far_of, first_down, span_with, two_open, words_are}
 
