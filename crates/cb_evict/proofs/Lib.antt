@@ -28,7 +28,7 @@ mod WorkedEvictStep
 mod WorkedSetMade
 mod EmptyWorld
 mod Restores
-mod PutShards
+mod DropsPut
 mod Noted
 mod Aborted
 mod SmallWords
@@ -39,6 +39,7 @@ pub mod WhichWait
 mod BatchReady
 mod Commits
 pub mod CommitStep
+pub mod AfterEnds
 mod WorkedEnds
 pub mod Begun
 pub mod BeginParts

@@ -1,4 +1,4 @@
--- The shards of a batch whose rows were put.
+-- The rows that were put for a batch are dropped.
 use Rattle.std.proofs.Common.{◌≡◌, ℕ, zero, suc, ◌+◌, ◌<◌, List, [], ◌∷◌, length, drop, get_or, Option, None, Some, sym, refl, ap, ◌∙◌, arith, drop-cons}
 use Rattle.std.specs.List.{slice_get}
 use Rattle.cb_member.specs.declared.names.Shard.{Shard}
