@@ -26,6 +26,7 @@ mod WorkedLoose
 mod WorkedEvict
 mod WorkedEvictStep
 mod WorkedSetMade
+mod WorkedShip
 mod EmptyWorld
 mod Restores
 mod DropsPut
@@ -47,3 +48,7 @@ mod BeginEnd
 pub mod BeginStep
 pub mod AfterBegin
 mod WorkedBegin
+pub mod PutShards
+pub mod ShippedFar
+pub mod ShipParts
+pub mod ShipStep

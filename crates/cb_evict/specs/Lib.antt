@@ -23,3 +23,6 @@ pub mod BeginRule
 pub mod BeginEffect
 pub mod Beginning
 pub mod BeginStep
+pub mod ShipRule
+pub mod ShipStep
+pub mod Shipping

@@ -13,7 +13,9 @@ mod finding;
 mod loading;
 mod looking;
 mod restoring;
+mod next_put;
 mod sending;
+mod shipping;
 mod storing;
 #[cfg(test)]
 mod tests;
@@ -24,3 +26,4 @@ pub use beginning::begin;
 pub use committing::commit;
 
 pub use evicting::evict_now;
+pub use shipping::ship;

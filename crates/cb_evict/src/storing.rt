@@ -65,7 +65,7 @@ fn drop_rows(nodes: &mut Nodes, shards: &[Shard])
 }
 
 /// Puts a row at its shard's node, which has room.
-fn put_row(nodes: &mut Nodes, shard: Shard, row: &[u8]) -> Result<(), NoMemory>
+pub(crate) fn put_row(nodes: &mut Nodes, shard: Shard, row: &[u8]) -> Result<(), NoMemory>
     requires within { shard.node.n < length nodes.old.nodes }
     requires fresh { has nodes.old shard.node shard.key ≡ false }
     ensures ok { OnOk result (nodes.new ≡ with_row nodes.old shard.node shard.key row.now) }
