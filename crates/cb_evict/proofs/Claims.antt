@@ -2,7 +2,7 @@
 use Rattle.std.proofs.Common.{◌≡◌, ◌≢◌, ◌⊎◌, ◌↔◌, ℕ, zero, suc, Bool, false, ◌+◌, ◌^◌, ◌<◌, ◌≤◌, List, [], ◌∷◌, ◌++◌, length, take, get_or, set, All, sym, refl, ap, ◌∙◌, subst, arith, inl, inr, length-set, get_or-set_other, get_or-set_same}
 use native.Mathlib.Decide.{ℕ_discrete}
 use Rattle.std.proofs.lemmas.Bool.{cases_eq, cases_lt}
-use Rattle.std.proofs.lemmas.List.{set-get_or, take_more, length-take-le, get_or-take, get_or_default, length-append, get_or_append_left, get_or-append-add}
+use Rattle.std.proofs.lemmas.List.{length-take-le, get_or-take, get_or_default, length-append, get_or_append_left, get_or-append-add}
 use Rattle.std.proofs.lemmas.List.Elements.{All-nil, All-append, All-cons, All-head}
 use Rattle.cb_ptr.specs.Word.{len_of, place_of, hot_of}
 use Rattle.cb_span.specs.Places.{slot_place}
@@ -25,9 +25,9 @@ use Rattle.cb_world.proofs.AfterLook.{taken_before}
 use Rattle.cb_world.proofs.Kept.{lies_within, claimed_from, claim_played}
 use Rattle.cb_world.proofs.Tracing.{found_more, found_last, taken_more, taken_after_looks, played_append}
 use Rattle.cb_world.proofs.Windows.{window_same, put_else, length_put}
-use Rattle.cb_world.proofs.Claimed.{is_claimed_at, avoids, may_put_back, settled_here, back_written}
+use Rattle.cb_world.proofs.Claimed.{is_claimed_at, avoids}
 use Rattle.cb_evict.specs.Events.{OnlyLooks, IsSteady}
-use Rattle.cb_evict.specs.Claims.{Keeps, IsHeldAt, IsClaimedBy, WasHere, IsNone, AreClaimed, AreBack, AreApart}
+use Rattle.cb_evict.specs.Claims.{Keeps, IsClaimedBy, WasHere, IsNone, AreClaimed, AreBack, AreApart}
 use Rattle.cb_evict.proofs.Events.{found_after, looks_change, looks_steady, steady_append}
 
 -- both lie at one place, with one length

@@ -345,6 +345,7 @@ module _ (s : Shown) (far : FarState) (batch : LeavingState) (p : ℕ) (shard : 
     version = n.version;
     words = n.words;
     claimed = n.claimed;
+    small = n.small;
   }
 
   pub put_noted : AreNoted s far batch → AreNoted s new rest

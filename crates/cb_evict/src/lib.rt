@@ -12,8 +12,8 @@ mod evicting;
 mod finding;
 mod loading;
 mod looking;
-mod restoring;
 mod next_put;
+mod restoring;
 mod sending;
 mod shipping;
 mod storing;
@@ -24,6 +24,5 @@ mod waiting;
 pub use aborting::abort;
 pub use beginning::begin;
 pub use committing::commit;
-
 pub use evicting::evict_now;
 pub use shipping::ship;

@@ -1,4 +1,4 @@
-use Rattle.std.proofs.Common.{◌+◌, ◌∙◌, arith}
+use Rattle.std.proofs.Common.{◌∙◌, arith}
 use Rattle.cb_evict.proofs.DropsPut.{drops_more, node_there}
 use Rattle.cb_evict.proofs.aborting.drop_put.Goals as goal
 
