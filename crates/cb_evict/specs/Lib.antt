@@ -19,6 +19,7 @@ pub mod CommitRule
 pub mod CommitStep
 pub mod Waiting
 pub mod Finding
+pub mod Taking
 pub mod BeginRule
 pub mod BeginEffect
 pub mod Beginning

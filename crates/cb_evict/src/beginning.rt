@@ -21,11 +21,11 @@ ghost use Rattle.cb_evict.specs.BeginEffect.{BeginEffect};
 ghost use Rattle.cb_evict.specs.Beginning.{AreParities, BeginsAfter, BeginsClaimed, with_reserved};
 ghost use Rattle.cb_evict.specs.Evicting.{AreTaken, IsReady, LeavesClaimed, TouchesSpans};
 
-use crate::claiming::{claim_spans, give_back};
-use crate::evicting::MOST_OBJECTS;
+use crate::claiming::give_back;
 use crate::finding::{Found, find_spans};
 use crate::loading::load_frames;
 use crate::storing::{make_parities, next_set};
+use crate::taking::{Taken, take_spans};
 use cb_member::{NodeId, Shard};
 use cb_types::{Config, NoMemory, Reply, Rows, SetId};
 use cb_world::{Desk, Far, Former, KeptSet, Leaving};
@@ -136,23 +136,19 @@ fn begin_loose<D: Desk>(
         IsStill) }
     ensures unchanged { OnErr result (far.new ≡ far.old) }
 {
-    let k = config.k as usize;
     let mut rows = match Rows::new(far.alloc, config.k, 4096) {
         Ok(rows) => rows,
         Err(_) => return Err(NoMemory),
     };
     let positions = no_shards(far.alloc, config.k + config.r)?;
     let blank = blank_shards(far.alloc, config.k + config.r)?;
-    let mut frames = Vec::with_capacity(far.alloc, k)?;
-    let mut formers = Vec::with_capacity(far.alloc, MOST_OBJECTS * k)?;
-    claim_spans(desk, &far.spans, loose, k, &mut frames, &mut formers);
-    if frames.len() < k {
-        give_back(desk, &formers);
-        return Ok(Reply::NoSpans {
-            loose: frames.len() as u32,
-        });
+    let taken = take_spans(desk, far, config, loose)?;
+    match taken {
+        Taken::TooFew { spans } => Ok(Reply::NoSpans { loose: spans }),
+        Taken::Enough { frames, formers } => {
+            begin_claimed(desk, far, &blank, positions, frames, formers, &mut rows)
+        }
     }
-    begin_claimed(desk, far, &blank, positions, frames, formers, &mut rows)
 }
 
 /// A place for the shard of each of `n` positions, none of which has one yet.

@@ -17,6 +17,7 @@ mod restoring;
 mod sending;
 mod shipping;
 mod storing;
+mod taking;
 #[cfg(test)]
 mod tests;
 mod waiting;
