@@ -36,6 +36,7 @@ use Rattle.cb_evict.specs.Events.{TouchesOnly, OnlyLooks}
 use Rattle.cb_evict.specs.EvictEffect.{IsAway, IsEvicted, EvictEffect}
 use Rattle.cb_evict.specs.EvictRule.{IsInRow, HasEvicted, HasFewSpans, HasFewNodes, HasBoth, EvictRule}
 use Rattle.cb_evict.specs.Evicting.{TouchesSpans, RuleAfter, AreTaken, IsReady, EvictsClaimed, LeavesClaimed}
+use Rattle.cb_evict.specs.Finding.{FindsFew}
 use Rattle.cb_evict.specs.Loading.{LiesInOne}
 use Rattle.cb_evict.specs.Looking.{IsIn, LooksOver}
 use Rattle.cb_evict.proofs.Claims.{claims_back}
@@ -165,11 +166,11 @@ nothing_done far runs knows ran = record {
 looks_same : (es : List Event) (s : Shown) → OnlyLooks es → played es s ≡ told_by es s
 looks_same es s looks = let c = looks_change es s looks in c.2 ∙ sym c.3
 
-told_next : (es fs : List Event) (s : Shown) → OnlyLooks es
+pub told_next : (es fs : List Event) (s : Shown) → OnlyLooks es
     → told_by (es ++ fs) s ≡ told_by fs (played es s)
 told_next es fs s looks = told_append es fs s ∙ ap (told_by fs) (sym (looks_same es s looks))
 
-nothing_before : (es fs : List Event) (s : Shown) → OnlyLooks es → (old : List Entry)
+pub nothing_before : (es fs : List Event) (s : Shown) → OnlyLooks es → (old : List Entry)
     → written_by fs (played es s) old ≡ old → written_by (es ++ fs) s old ≡ old
 nothing_before es fs s looks old e = written_append es fs s old
     ∙ ap (written_by fs (played es s)) ((looks_steady es s looks).nothing old) ∙ e
@@ -222,7 +223,7 @@ effect_before far new r es fs s t looks a = record {
 }
 
 -- only objects of candidates were looked at
-looks_touch : (far : FarState) (es : List Event)
+pub looks_touch : (far : FarState) (es : List Event)
     → TouchesOnly (IsIn far.spans (candidates far)) (λ p. ⊥) es → TouchesSpans far es
 looks_touch far es t = touches_more (IsIn far.spans (candidates far)) (IsIn far.spans (candidates far))
     (λ p. ⊥) (LiesInOne (candidates far)) es (λ h x. x) (λ p x. absurd x) t
@@ -337,9 +338,17 @@ looks_refuse c far r loose runs shows x few =
     no_set (inl a) id e = few_spans (length loose) r id a.reply e
     no_set (inr a) id e = few_nodes (room_count far.nodes far.members) r id a.reply e
 
+pub finds_few : (c d : Config) (far : FarState) (r : Reply) (runs : List Event → Type 0)
+    (shows : Shown → Type 0) → d ≡ c → FindsFew runs d far r
+    → Performs runs (λ s. shows s × Sound s far) (EvictRule c far far r) (λ t. Sound t far)
+    (EvictEffect far far r)
+finds_few c d far r runs shows same x =
+    let y = subst (λ (n : Config). FindsFew runs n far r) same x in
+    looks_refuse c far r y.loose runs shows y.looks y.few
+
 -- ---- the claims, and then the rest
 -- what was claimed are objects of candidates
-claims_touch : (far : FarState) (loose : List ℕ) (es : List Event)
+pub claims_touch : (far : FarState) (loose : List ℕ) (es : List Event)
     → All (Contains (candidates far)) loose → TouchesOnly (IsIn far.spans loose) (λ p. ⊥) es
     → TouchesSpans far es
 claims_touch far loose es among t = touches_more (IsIn far.spans loose) (IsIn far.spans (candidates far))
@@ -368,7 +377,7 @@ one_touch far loose runs shows k frames formers es among x t =
     )
 
 -- the spans that are loose in the end
-loose_then : (far : FarState) (loose : List ℕ) (runs : List Event → Type 0) (shows : Shown → Type 0)
+pub loose_then : (far : FarState) (loose : List ℕ) (runs : List Event → Type 0) (shows : Shown → Type 0)
     (k : ℕ) (frames : List ℕ) (formers : List Former) (before fs : List Event)
     → (x : ClaimsSpans runs shows far.spans loose k frames formers)
     → ((h : ℕ) → NoLook h fs) → AreLoose before far.spans (candidates far) loose
@@ -380,7 +389,7 @@ loose_then far loose runs shows k frames formers before fs x quiet found =
     (λ f c h named. quiet h)
     (x.found before (candidates far) (candidates_apart far) found))
 
-wide_touch : (far : FarState) (loose : List ℕ) (runs : List Event → Type 0) (shows : Shown → Type 0)
+pub wide_touch : (far : FarState) (loose : List ℕ) (runs : List Event → Type 0) (shows : Shown → Type 0)
     (k : ℕ) (frames : List ℕ) (formers : List Former) (es : List Event)
     → All (Contains (candidates far)) loose
     → (x : ClaimsSpans runs shows far.spans loose k frames formers)

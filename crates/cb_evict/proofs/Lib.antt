@@ -26,9 +26,10 @@ mod WorkedLoose
 mod WorkedEvict
 mod WorkedEvictStep
 mod WorkedSetMade
+mod WorkedShip
 mod EmptyWorld
 mod Restores
-mod PutShards
+mod DropsPut
 mod Noted
 mod Aborted
 mod SmallWords
@@ -39,4 +40,15 @@ pub mod WhichWait
 mod BatchReady
 mod Commits
 pub mod CommitStep
+pub mod AfterEnds
 mod WorkedEnds
+pub mod Begun
+pub mod BeginParts
+mod BeginEnd
+pub mod BeginStep
+pub mod AfterBegin
+mod WorkedBegin
+pub mod PutShards
+pub mod ShippedFar
+pub mod ShipParts
+pub mod ShipStep

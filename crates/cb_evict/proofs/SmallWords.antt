@@ -1,8 +1,8 @@
 -- The words of an object in the row of its frame, where each is one of 64 bits.
-use Rattle.std.proofs.Common.{◌≡◌, ℕ, zero, suc, ◌+◌, ◌^◌, ◌<◌, ◌≤◌, List, [], ◌∷◌, ◌++◌, length, take, drop, get_or, All, sym, refl, ap, ◌∙◌, arith}
+use Rattle.std.proofs.Common.{◌≡◌, ℕ, zero, suc, ◌+◌, ◌-◌, ◌^◌, ◌<◌, ◌≤◌, List, [], ◌∷◌, length, get_or, All, sym, refl, ap, ◌∙◌, arith}
 use Rattle.std.specs.Int.{to_le_bytes, from_le_bytes, w64}
 use Rattle.std.proofs.lemmas.Nat.{from_le_bytes-to_le_bytes_8}
-use Rattle.std.proofs.lemmas.List.{take_at, drop_at}
+use Rattle.std.proofs.lemmas.List.{take_at, drop_at, get_or_default}
 use Rattle.cb_world.specs.Memory.{window}
 use Rattle.cb_world.specs.RowWords.{words_from, words_in, row_of}
 use Rattle.cb_world.specs.StillDesk.{window_length}
@@ -38,3 +38,18 @@ row_window ms base at n within small =
     let s = small i 0 (omega (arith, l, wide)) in omega (arith, s, there, here) in
     ap (λ (k : ℕ). get_or (words_from k (row_of (window ms base 512))) (at + i) 0) (sym count)
     ∙ word_of_row (window ms base 512) (at + i) (omega (arith, l, within, count)) less ∙ here)
+
+-- a part of a frame all of whose words are small
+pub small_part : (ms ws : List ℕ) (base place n : ℕ) → length ws ≡ 512
+    → All (λ w. w < 2 ^ 64) ws → ws ≡ window ms base 512 → base ≤ place
+    → place + n ≤ base + 512 → All (λ w. w < 2 ^ 64) (window ms place n)
+small_part ms ws base place n count small is start end i d l =
+    let wide = window_length ms place n in
+    let k = (place - base) + i in
+    let at : base + k ≡ place + i = omega (arith, start) in
+    let below : k < 512 = omega (arith, start, end, l, wide) in
+    let here : get_or (window ms place n) i d ≡ get_or ws k 0 =
+    get_or_default (window ms place n) i d 0 l ∙ window_at ms place n i (omega (arith, l, wide))
+    ∙ ap (λ (j : ℕ). get_or ms j 0) (sym at) ∙ sym (window_at ms base 512 k below)
+    ∙ ap (λ (ns : List ℕ). get_or ns k 0) (sym is) in
+    let s = small k 0 (omega (arith, below, count)) in omega (arith, here, s)

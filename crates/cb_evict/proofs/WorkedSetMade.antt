@@ -21,7 +21,7 @@ use Rattle.cb_world.specs.Choices.{numbered, room_count, stands_on, IsLeastNode}
 use Rattle.cb_world.specs.FarState.{FarState, span_in, resident, handle_in}
 use Rattle.cb_world.specs.Homes.{home_at}
 use Rattle.cb_world.specs.Memory.{window}
-use Rattle.cb_world.specs.RowWords.{words_from, words_in}
+use Rattle.cb_world.specs.RowWords.{words_from, words_in, row_of}
 use Rattle.cb_world.specs.Sets.{set_in}
 use Rattle.cb_world.specs.Stored.{all_put}
 use Rattle.cb_span.specs.declared.temp.Temp.TheVariants.{Cold}
@@ -34,11 +34,16 @@ use Rattle.cb_evict.proofs.NewSet.{set_added_in}
 use Rattle.cb_evict.proofs.WorkedEvictStep.{before, after, busy, pair, lone, one_node, none_is, same_number, sent_off, not_here, contents_in, first_word, heads, span_with}
 
 -- ---- the code word: a row of zeros and its parity
-row : List ℕ
+pub row : List ℕ
 row = replicate 4096 0
 
 abbrev rows : List (List ℕ)
 rows = row ∷ row ∷ []
+
+-- the bytes of a frame of zeros
+pub zero_row : row_of (window [] 0 512) ≡ row
+unfolding row window
+zero_row = refl
 
 row_length : length row ≡ 4096
 unfolding row
@@ -52,7 +57,7 @@ row_bytes : All (λ (b : ℕ). b < 2 ^ 8) row
 unfolding row
 row_bytes = All-replicate (λ (b : ℕ). b < 2 ^ 8) 4096 0 (lit< tt)
 
-row_words : window (words_in row) (1 * words_of (record { index = 0 })) 1 ≡ 0 ∷ []
+pub row_words : window (words_in row) (1 * words_of (record { index = 0 })) 1 ≡ 0 ∷ []
 unfolding row words_of bytes_of window words_from
 row_words = refl
 
@@ -61,7 +66,7 @@ bytes_zero column zero below = row_zeros column below
 bytes_zero column (suc zero) below = row_zeros column below
 bytes_zero column (suc (suc i)) below = refl
 
-is_word : IsSpanWord 1 1 rows
+pub is_word : IsSpanWord 1 1 rows
 is_word = record {
   is_word = record {
     count = refl;
@@ -132,7 +137,7 @@ chosen = record { count = refl; each = λ p s at. each p s at }
         (record { node = second_node; incarnation = refl; key = refl })
     each (suc (suc p)) s at = absurd (no_shard s at)
 
-two_nodes : room_count pair.nodes pair.members ≡ 2
+pub two_nodes : room_count pair.nodes pair.members ≡ 2
 two_nodes = let a = none_held 0 in let b = none_held 1 in grind (arith, a, b)
 
 -- ---- the home of the object

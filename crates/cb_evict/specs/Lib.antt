@@ -18,3 +18,12 @@ pub mod Committing
 pub mod CommitRule
 pub mod CommitStep
 pub mod Waiting
+pub mod Finding
+pub mod Taking
+pub mod BeginRule
+pub mod BeginEffect
+pub mod Beginning
+pub mod BeginStep
+pub mod ShipRule
+pub mod ShipStep
+pub mod Shipping

@@ -16,19 +16,16 @@ ghost use Rattle.cb_evict.specs.EvictRule.{EvictRule};
 ghost use Rattle.cb_evict.specs.EvictEffect.{EvictEffect};
 ghost use Rattle.cb_evict.specs.Evicting.{AreTaken, IsReady, EvictsClaimed, LeavesClaimed, TouchesSpans, RuleAfter};
 
-use crate::candidates::candidates;
-use crate::claiming::{claim_spans, give_back};
+use crate::claiming::give_back;
 use crate::closing::close_spans;
+use crate::finding::{Found, find_spans};
 use crate::loading::load_frames;
-use crate::looking::find_loose;
 use crate::sending::send;
 use crate::storing::{choose_shards, keep_set, next_number};
+use crate::taking::{Taken, take_spans};
 use cb_member::Shard;
 use cb_types::{Config, NoMemory, Reply, Rows, SetId};
-use cb_world::{Desk, Far, Former, nodes_with_room};
-
-/// How many objects a span has at the most.
-const MOST_OBJECTS: usize = 256;
+use cb_world::{Desk, Far, Former};
 
 /// Evicts k spans at once. Of the spans none of whose objects is pinned or claimed, and which are not
 /// leaving, the first k go, the cold ones before the hot ones and then by frame number: they are coded
@@ -56,20 +53,14 @@ pub fn evict_now<D: Desk>(desk: &mut D, far: &mut Far) -> Result<Reply, NoMemory
     ensures unchanged { OnErr result (far.new ≡ far.old) }
 {
     let config = desk.config();
-    let frames = candidates(far)?;
-    let mut loose = Vec::with_capacity(far.alloc, frames.len())?;
-    find_loose(desk, &far.spans, &frames, &mut loose);
-    if loose.len() < config.k as usize {
-        return Ok(Reply::NoSpans {
-            loose: loose.len() as u32,
-        });
+    let found = find_spans(desk, far, config)?;
+    match found {
+        Found::Refused { reply } => Ok(reply),
+        Found::Loose { frames } => {
+            let shards = choose_shards(far, config.k + config.r)?;
+            evict_loose(desk, far, config, &frames, &shards)
+        }
     }
-    let nodes = nodes_with_room(&far.nodes, &far.members);
-    if nodes < config.k + config.r {
-        return Ok(Reply::NoNodes { nodes });
-    }
-    let shards = choose_shards(far, config.k + config.r)?;
-    evict_loose(desk, far, config, &loose, &shards)
 }
 
 /// Evicts the first k of these spans whose objects can all be claimed.
@@ -101,21 +92,17 @@ fn evict_loose<D: Desk>(
         IsStill) }
     ensures unchanged { OnErr result (far.new ≡ far.old) }
 {
-    let k = config.k as usize;
     let mut rows = match Rows::new(far.alloc, config.k, 4096) {
         Ok(rows) => rows,
         Err(_) => return Err(NoMemory),
     };
-    let mut frames = Vec::with_capacity(far.alloc, k)?;
-    let mut formers = Vec::with_capacity(far.alloc, MOST_OBJECTS * k)?;
-    claim_spans(desk, &far.spans, loose, k, &mut frames, &mut formers);
-    if frames.len() < k {
-        give_back(desk, &formers);
-        return Ok(Reply::NoSpans {
-            loose: frames.len() as u32,
-        });
+    let taken = take_spans(desk, far, config, loose)?;
+    match taken {
+        Taken::TooFew { spans } => Ok(Reply::NoSpans { loose: spans }),
+        Taken::Enough { frames, formers } => {
+            evict_claimed(desk, far, shards, &frames, &formers, &mut rows)
+        }
     }
-    evict_claimed(desk, far, shards, &frames, &formers, &mut rows)
 }
 
 /// Evicts spans whose objects are claimed, and gives them back where there is no memory. The rows

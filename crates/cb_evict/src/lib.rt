@@ -3,20 +3,27 @@
 #![tactic(auto)]
 
 mod aborting;
+mod beginning;
 mod candidates;
 mod claiming;
 mod closing;
 mod committing;
 mod evicting;
+mod finding;
 mod loading;
 mod looking;
+mod next_put;
 mod restoring;
 mod sending;
+mod shipping;
 mod storing;
+mod taking;
 #[cfg(test)]
 mod tests;
 mod waiting;
 
 pub use aborting::abort;
+pub use beginning::begin;
 pub use committing::commit;
 pub use evicting::evict_now;
+pub use shipping::ship;

@@ -20,7 +20,7 @@ fn put_word(into: &mut [u8], i: usize, word: u64)
 }
 
 /// Reads the words of a frame into a row of 4,096 bytes, each word once.
-fn load_frame<D: Desk>(desk: &mut D, frame: u32, into: &mut [u8])
+pub(crate) fn load_frame<D: Desk>(desk: &mut D, frame: u32, into: &mut [u8])
     requires into { length into.old ≡ 4096 }
     requires config { IsAccepted (D.settings desk.old) }
     requires frame { frame < (D.settings desk.old).frames }

@@ -65,7 +65,7 @@ fn drop_rows(nodes: &mut Nodes, shards: &[Shard])
 }
 
 /// Puts a row at its shard's node, which has room.
-fn put_row(nodes: &mut Nodes, shard: Shard, row: &[u8]) -> Result<(), NoMemory>
+pub(crate) fn put_row(nodes: &mut Nodes, shard: Shard, row: &[u8]) -> Result<(), NoMemory>
     requires within { shard.node.n < length nodes.old.nodes }
     requires fresh { has nodes.old shard.node shard.key ≡ false }
     ensures ok { OnOk result (nodes.new ≡ with_row nodes.old shard.node shard.key row.now) }
@@ -144,7 +144,7 @@ pub(crate) fn next_number(far: &Far) -> u64
 }
 
 /// The set of the spans in these frames, with the next set number.
-fn next_set(far: &Far, shards: &[Shard], frames: &[u32]) -> Result<SpanSet, NoMemory>
+pub(crate) fn next_set(far: &Far, shards: &[Shard], frames: &[u32]) -> Result<SpanSet, NoMemory>
     requires there { All (λ f. (span : Contents) × (span_in far.now.spans f ≡ Some span)) frames.now }
     requires few { length shards.now < 2 ^ 32 }
     requires count { length frames.now ≤ length shards.now }

@@ -32,3 +32,50 @@ fn an_empty_world_has_no_span_to_evict(rt: HostRuntime) -> Result<(), Fail> {
     }
     Ok(())
 }
+
+/// What a ship in an empty world answers.
+fn ship_empty(alloc: Global) -> Result<Reply, Fail> {
+    let config = Config {
+        k: 2,
+        r: 1,
+        nodes: 5,
+        frames: 2,
+        room: 4,
+        handles: 9,
+        turns: 0,
+    };
+    let Ok(()) = config.check() else {
+        return Err(Fail::from("a field is out of range"));
+    };
+    let mut world = World::new(alloc, config)?;
+    Ok(ship(&mut world.desk, &mut world.far)?)
+}
+
+/// What the end of a batch in an empty world answers: a commit, or an abort.
+fn end_empty(alloc: Global, commits: bool) -> Result<Reply, Fail> {
+    let config = Config {
+        k: 2,
+        r: 1,
+        nodes: 5,
+        frames: 2,
+        room: 4,
+        handles: 9,
+        turns: 0,
+    };
+    let Ok(()) = config.check() else {
+        return Err(Fail::from("a field is out of range"));
+    };
+    let mut world = World::new(alloc, config)?;
+    if commits {
+        return Ok(commit(&mut world.desk, &mut world.far)?);
+    }
+    Ok(abort(&mut world.desk, &mut world.far)?)
+}
+
+#[test]
+fn no_batch_leaves_an_empty_world(rt: HostRuntime) -> Result<(), Fail> {
+    assert!(rt; matches!(ship_empty(rt.alloc())?, Reply::NoBatch));
+    assert!(rt; matches!(end_empty(rt.alloc(), true)?, Reply::NoBatch));
+    assert!(rt; matches!(end_empty(rt.alloc(), false)?, Reply::NoBatch));
+    Ok(())
+}

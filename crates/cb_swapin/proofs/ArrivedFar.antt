@@ -115,6 +115,7 @@ arrived_noted s t far new id p set f n span row x y batch there =
             (len_of z.former.word) z.version m.words z.words (sym m.was ∙ z.claimed))
         | inr same ↦ same.0 ∙ z.claimed
       ];
+      small = z.small;
     }) was
 
 -- a claimed object stands in a frame that is leaving, and its words stay

@@ -23,6 +23,7 @@ use Rattle.cb_world.specs.RowWords.{words_from, row_of}
 use Rattle.cb_world.specs.SetWord.{AreCurrent, IsShaped}
 use Rattle.cb_world.specs.FarSound.{AreSets, AreAway, AreRows, IsBatch, IsShardOf, Owner}
 use Rattle.cb_world.specs.FarSound.Owner.{of_set, of_leaving, of_joining}
+use Rattle.cb_world.specs.SetAdded.{IsSetAdded}
 use Rattle.cb_world.specs.Merged.{takes, AreTaken}
 use Rattle.cb_world.specs.Join.{IsFresh}
 use Rattle.cb_world.specs.Now.{now, now_as, broken_set}
@@ -399,3 +400,17 @@ too_wide x =
     words_of (is.Far len v words) = []
     words_of (is.Here len place) = []
     words_of (is.Claimed len place v words) = words
+
+-- a set is added under a number that no set has, and no pair that is joining, with fresh keys
+number_of_a_set : (s t : Shown) (new : FarState) (rows : List (List ℕ))
+    → ¬ (IsSetAdded s t (away set) new 5 set rows)
+number_of_a_set s t new rows x = absurd (let z = sym x.fresh ∙ there set in cc)
+
+number_of_a_pair : (s t : Shown) (new : FarState) (rows : List (List ℕ))
+    → ¬ (IsSetAdded s t (record (away set) { joining = Some pair }) new 5 set rows)
+number_of_a_pair s t new rows x = absurd ((x.unpaired pair refl).0 refl)
+
+key_of_a_set : (s t : Shown) (new : FarState) (rows : List (List ℕ))
+    → ¬ (IsSetAdded s t (away set) new 6 set rows)
+key_of_a_set s t new rows x =
+    absurd (x.fresh_keys (of_set 5 0) (at 0 0) (set, there set, refl) 0 (at 0 0) refl refl)

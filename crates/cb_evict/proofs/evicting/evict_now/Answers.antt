@@ -1,73 +1,47 @@
-use Rattle.std.proofs.Common.{◌≡◌, ◌≢◌, ℕ, ◌+◌, ◌≤◌, List, length, get_or, All, Some, refl, sym, ap, ◌∙◌, subst, arith, inl, inr}
+use Rattle.std.proofs.Common.{◌≢◌, ℕ, ◌+◌, List, length, All, sym, ap, ◌∙◌, subst, arith}
 use Rattle.std.specs.List.{Contains, AllPairs}
 use Rattle.cb_member.specs.declared.names.Shard.{Shard}
 use Rattle.cb_types.specs.Config.{IsAccepted}
 use Rattle.cb_types.specs.declared.config.Config.{Config}
 use Rattle.cb_types.specs.declared.config.Field.TheVariants.{K, R, Nodes}
-use Rattle.cb_types.specs.declared.reply.Reply.TheVariants as answer
-use Rattle.cb_world.specs.Choices.{room_count}
 use Rattle.cb_world.specs.Played.{played}
-use Rattle.cb_world.specs.FarState.{FarState, span_in}
+use Rattle.cb_world.specs.FarState.{FarState}
 use Rattle.cb_world.specs.Sound.{Sound}
 use Rattle.cb_world.specs.Performs.{Performs}
-use Rattle.cb_evict.specs.Candidates.{AreUnique, candidates}
+use Rattle.cb_evict.specs.Candidates.{candidates}
 use Rattle.cb_evict.specs.Evicting.{TouchesSpans, RuleAfter}
 use Rattle.cb_evict.specs.EvictEffect.{EvictEffect}
+use Rattle.cb_evict.specs.Finding.{Finds}
 use Rattle.cb_world.specs.World.{IsConfigured}
 use Rattle.cb_world.specs.Still.{IsStill}
 use Rattle.cb_evict.specs.Storing.{AreShards}
-use Rattle.cb_evict.proofs.Composed.{if_map, on_err, any_err, both_err, nothing_done, loose_apart, looks_as, looks_then, looks_fail, looks_alone, looks_refuse}
+use Rattle.cb_evict.proofs.Composed.{if_map, on_err, any_err, both_err, nothing_done, loose_apart, looks_then, looks_fail, looks_alone, finds_few}
 use Rattle.cb_evict.proofs.Loose.{loose_among}
 use Rattle.cb_evict.proofs.Ending.{place_in}
 use Rattle.cb_evict.proofs.Restored.{looked}
-use Rattle.cb_evict.proofs.Standing.{are_unique, is_standing, candidates_apart}
+use Rattle.cb_evict.proofs.Standing.{candidates_apart}
 use Rattle.cb_evict.proofs.evicting.evict_now.Goals as goal
 
-pub returns-in_err-frames-clause-error : goal.returns-in_err-frames-clause-error
-returns-in_err-frames-clause-error g c = any_err _ _ (nothing_done c.args.far.now
-    (λ es. g.D.Desk.run c.args.desk.now es c.args.desk.now) (λ s. g.D.Desk.shows c.args.desk.now s)
-    (g.met.D.Desk.none _))
+pub returns-in_err-found-clause-error : goal.returns-in_err-found-clause-error
+returns-in_err-found-clause-error g c = any_err _ _ (nothing_done c.args.far.now
+    (λ es. g.D.Desk.run c.args.desk.now es c.find_spans.new.desk)
+    (λ s. g.D.Desk.shows c.args.desk.now s) c.in_err-found.ensures.error)
 
-pub returns-in_err-loose-clause-error : goal.returns-in_err-loose-clause-error
-returns-in_err-loose-clause-error g c = any_err _ _ (nothing_done c.args.far.now
-    (λ es. g.D.Desk.run c.args.desk.now es c.args.desk.now) (λ s. g.D.Desk.shows c.args.desk.now s)
-    (g.met.D.Desk.none _))
+pub returns-in-Refused-clause-evict : goal.returns-in-Refused-clause-evict
+returns-in-Refused-clause-evict g c =
+    finds_few (g.D.Desk.settings c.args.desk.now) c.config-config.result c.args.far.now c.in-Refused.reply
+    (λ es. g.D.Desk.run c.args.desk.now es c.find_spans.new.desk) (λ s. g.D.Desk.shows c.args.desk.now s)
+    c.config-config.ensures
+    (subst (Finds (λ es. g.D.Desk.run c.args.desk.now es c.find_spans.new.desk)
+    c.config-config.result c.args.far.now) c.in-Refused.is c.in_ok-found.ensures.found)
 
-pub find_loose-requires-clause-there : goal.find_loose-requires-clause-there
-find_loose-requires-clause-there g c =
-    subst (λ (l : List ℕ). All (λ f. (span : _) × (span_in c.far.inside.spans f ≡ Some span)) l)
-    (sym (c.deref.ensures.value ∙ c.in_ok-frames.ensures.frames))
-    (λ k d l.
-    let x = is_standing c.args.far.now (get_or (candidates c.args.far.now) k d)
-    (place_in (candidates c.args.far.now) k d l) in (
-      x.span,
-      ap (λ (far : FarState). span_in far.spans (get_or (candidates c.args.far.now) k d)) c.far.view_is ∙ x.there,
-    ))
+pub find_spans-requires-clause-config : goal.find_spans-requires-clause-config
+find_spans-requires-clause-config g c =
+    (subst IsAccepted (sym c.config-config.ensures) c.requires.config, c.config-config.ensures)
 
-pub find_loose-requires-clause-unique : goal.find_loose-requires-clause-unique
-find_loose-requires-clause-unique g c =
-    let sized = g.met.D.Desk.sized _ c.requires.sound.0 c.requires.sound.1 in
-    subst (λ (far : FarState). AreUnique far.spans (g.D.Desk.settings c.args.desk.now).handles)
-    (sym c.far.view_is)
-    (are_unique c.args.far.now c.requires.sound.0 _ c.requires.sound.2.here sized.0)
-
-pub find_loose-requires-clause-apart : goal.find_loose-requires-clause-apart
-find_loose-requires-clause-apart g c =
-    subst (λ (l : List ℕ). AllPairs (λ f h. f ≢ h) l)
-    (sym (c.deref.ensures.value ∙ c.in_ok-frames.ensures.frames)) (candidates_apart c.args.far.now)
-
-pub returns-then-len-config-clause-evict : goal.returns-then-len-config-clause-evict
-returns-then-len-config-clause-evict g c =
-    let k = ap (λ (n : Config). n.k) c.config-config.ensures in
-    looks_refuse (g.D.Desk.settings c.args.desk.now) c.args.far.now _ c.find_loose.new.loose.items _
-    (λ s. g.D.Desk.shows c.args.desk.now s)
-    (looks_as _ _ _ _ _ _ _ (ap (λ (far : FarState). far.spans) c.far.view_is)
-    (c.deref.ensures.value ∙ c.in_ok-frames.ensures.frames) refl c.find_loose.ensures.looks)
-    (inl (record {
-      few = omega (arith, k, c.if-len-config.true, c.len-2.ensures, c.find_loose.new.loose.ok);
-      reply = ap answer.NoSpans (omega (arith, c.len-then-len-config.ensures, c.find_loose.new.loose.ok));
-      state = refl;
-    }))
+pub find_spans-requires-clause-configured : goal.find_spans-requires-clause-configured
+find_spans-requires-clause-configured g c =
+    subst (λ (n : Config). IsConfigured n c.args.far.now) (sym c.config-config.ensures) c.requires.configured
 
 pub overflow_add-config : goal.overflow_add-config
 overflow_add-config g c =
@@ -75,34 +49,6 @@ overflow_add-config g c =
     let r = ap (λ (n : Config). n.r) c.config-config.ensures in
     let most = c.requires.config K in let more = c.requires.config R in
     omega (arith, k, r, most.1, more.1)
-
-pub nodes_with_room-nodes-requires-clause-counted : goal.nodes_with_room-nodes-requires-clause-counted
-nodes_with_room-nodes-requires-clause-counted g c =
-    subst (λ (far : FarState). length far.nodes.nodes ≡ length far.members.nodes) (sym c.far.view_is)
-    c.requires.sound.2.away.sound.rows.counted
-
-pub nodes_with_room-nodes-requires-clause-few : goal.nodes_with_room-nodes-requires-clause-few
-nodes_with_room-nodes-requires-clause-few g c =
-    let n = c.requires.config Nodes in let nodes = c.requires.configured.nodes in
-    subst (λ (far : FarState). length far.nodes.nodes ≤ 256) (sym c.far.view_is)
-    (omega (arith, n.1, nodes))
-
-pub returns-then-nodes-config-clause-evict : goal.returns-then-nodes-config-clause-evict
-returns-then-nodes-config-clause-evict g c =
-    let k = ap (λ (n : Config). n.k) c.config-config.ensures in
-    let r = ap (λ (n : Config). n.r) c.config-config.ensures in
-    let nodes = c.nodes_with_room-nodes.ensures
-    ∙ ap (λ (far : FarState). room_count far.nodes far.members) c.far.view_is in
-    looks_refuse (g.D.Desk.settings c.args.desk.now) c.args.far.now _ c.find_loose.new.loose.items _
-    (λ s. g.D.Desk.shows c.args.desk.now s)
-    (looks_as _ _ _ _ _ _ _ (ap (λ (far : FarState). far.spans) c.far.view_is)
-    (c.deref.ensures.value ∙ c.in_ok-frames.ensures.frames) refl c.find_loose.ensures.looks)
-    (inr (record {
-      enough = omega (arith, k, c.if-len-config.false, c.len-2.ensures, c.find_loose.new.loose.ok);
-      few = omega (arith, k, r, nodes, c.if-nodes-config.true);
-      reply = ap answer.NoNodes nodes;
-      state = refl;
-    }))
 
 pub choose_shards-requires-clause-counted : goal.choose_shards-requires-clause-counted
 choose_shards-requires-clause-counted g c = c.requires.sound.2.away.sound.rows.counted
@@ -113,9 +59,9 @@ choose_shards-requires-clause-few g c =
 
 pub choose_shards-requires-clause-room : goal.choose_shards-requires-clause-room
 choose_shards-requires-clause-room g c =
-    let nodes = c.nodes_with_room-nodes.ensures
-    ∙ ap (λ (far : FarState). room_count far.nodes far.members) c.far.view_is in
-    omega (arith, nodes, c.if-nodes-config.false)
+    let found = subst (Finds (λ es. g.D.Desk.run c.args.desk.now es c.find_spans.new.desk)
+    c.config-config.result c.args.far.now) c.in-Loose.is c.in_ok-found.ensures.found in
+    found.room
 
 pub choose_shards-requires-clause-keys : goal.choose_shards-requires-clause-keys
 choose_shards-requires-clause-keys g c =
@@ -124,17 +70,20 @@ choose_shards-requires-clause-keys g c =
     let most = c.requires.config K in let more = c.requires.config R in let few = c.requires.counts.1 in
     omega (arith, k, r, most.1, more.1, few)
 
-pub returns-in_err-shards-clause-error : goal.returns-in_err-shards-clause-error
-returns-in_err-shards-clause-error g c = any_err _ _
-    (looks_alone c.args.far.now c.find_loose.new.loose.items
-    (λ es. g.D.Desk.run c.args.desk.now es c.find_loose.new.desk)
-    (λ s. g.D.Desk.shows c.args.desk.now s)
-    (looks_as _ _ _ _ _ _ _ (ap (λ (far : FarState). far.spans) c.far.view_is)
-    (c.deref.ensures.value ∙ c.in_ok-frames.ensures.frames) refl c.find_loose.ensures.looks))
+pub returns-in_err-shards-in-Loose-clause-error : goal.returns-in_err-shards-in-Loose-clause-error
+returns-in_err-shards-in-Loose-clause-error g c =
+    let found = subst (Finds (λ es. g.D.Desk.run c.args.desk.now es c.find_spans.new.desk)
+    c.config-config.result c.args.far.now) c.in-Loose.is c.in_ok-found.ensures.found in
+    any_err _ _
+    (looks_alone c.args.far.now c.in-Loose.frames.items
+    (λ es. g.D.Desk.run c.args.desk.now es c.find_spans.new.desk)
+    (λ s. g.D.Desk.shows c.args.desk.now s) found.looks)
 
 pub evict_loose-requires-clause-config : goal.evict_loose-requires-clause-config
 evict_loose-requires-clause-config g c =
-    let x = c.find_loose.ensures.looks in let stays = g.met.D.Desk.stays _ _ x.events x.ran in
+    let found = subst (Finds (λ es. g.D.Desk.run c.args.desk.now es c.find_spans.new.desk)
+    c.config-config.result c.args.far.now) c.in-Loose.is c.in_ok-found.ensures.found in
+    let x = found.looks in let stays = g.met.D.Desk.stays _ _ x.events x.ran in
     (subst IsAccepted (sym c.config-config.ensures) c.requires.config, c.config-config.ensures ∙ sym stays)
 
 pub evict_loose-requires-clause-configured : goal.evict_loose-requires-clause-configured
@@ -143,7 +92,9 @@ evict_loose-requires-clause-configured g c =
 
 pub evict_loose-requires-clause-sound : goal.evict_loose-requires-clause-sound
 evict_loose-requires-clause-sound g c =
-    let x = c.find_loose.ensures.looks in let s = c.requires.sound.0 in (
+    let found = subst (Finds (λ es. g.D.Desk.run c.args.desk.now es c.find_spans.new.desk)
+    c.config-config.result c.args.far.now) c.in-Loose.is c.in_ok-found.ensures.found in
+    let x = found.looks in let s = c.requires.sound.0 in (
       played x.events s,
       (g.met.D.Desk.follows _ _ x.events s x.ran c.requires.sound.1).1,
       (looked c.args.far.now x.events s c.requires.sound.2 x.looks).0,
@@ -151,61 +102,67 @@ evict_loose-requires-clause-sound g c =
 
 pub evict_loose-requires-clause-among : goal.evict_loose-requires-clause-among
 evict_loose-requires-clause-among g c =
-    let x = looks_as _ _ _ _ _ _ _ (ap (λ (far : FarState). far.spans) c.far.view_is)
-    (c.deref.ensures.value ∙ c.in_ok-frames.ensures.frames) refl c.find_loose.ensures.looks in
-    subst (λ (l : List ℕ). All (Contains (candidates c.args.far.now)) l) (sym c.deref-2.ensures.value)
+    let found = subst (Finds (λ es. g.D.Desk.run c.args.desk.now es c.find_spans.new.desk)
+    c.config-config.result c.args.far.now) c.in-Loose.is c.in_ok-found.ensures.found in
+    let x = found.looks in
+    subst (λ (l : List ℕ). All (Contains (candidates c.args.far.now)) l) (sym c.deref.ensures.value)
     (λ k d l. loose_among x.events c.args.far.now.spans (candidates c.args.far.now)
-    c.find_loose.new.loose.items _ x.finds (place_in c.find_loose.new.loose.items k d l))
+    c.in-Loose.frames.items _ x.finds (place_in c.in-Loose.frames.items k d l))
 
 pub evict_loose-requires-clause-apart : goal.evict_loose-requires-clause-apart
 evict_loose-requires-clause-apart g c =
-    let x = looks_as _ _ _ _ _ _ _ (ap (λ (far : FarState). far.spans) c.far.view_is)
-    (c.deref.ensures.value ∙ c.in_ok-frames.ensures.frames) refl c.find_loose.ensures.looks in
-    subst (λ (l : List ℕ). AllPairs (λ f h. f ≢ h) l) (sym c.deref-2.ensures.value)
-    (loose_apart x.events c.args.far.now (candidates c.args.far.now) c.find_loose.new.loose.items
+    let found = subst (Finds (λ es. g.D.Desk.run c.args.desk.now es c.find_spans.new.desk)
+    c.config-config.result c.args.far.now) c.in-Loose.is c.in_ok-found.ensures.found in
+    let x = found.looks in
+    subst (λ (l : List ℕ). AllPairs (λ f h. f ≢ h) l) (sym c.deref.ensures.value)
+    (loose_apart x.events c.args.far.now (candidates c.args.far.now) c.in-Loose.frames.items
     (candidates_apart c.args.far.now) x.finds)
 
 pub evict_loose-requires-clause-enough : goal.evict_loose-requires-clause-enough
 evict_loose-requires-clause-enough g c =
-    let same = ap (λ (l : List ℕ). length l) c.deref-2.ensures.value in
-    omega (arith, same, c.if-len-config.false, c.len-2.ensures, c.find_loose.new.loose.ok)
+    let same = ap (λ (l : List ℕ). length l) c.deref.ensures.value in
+    let found = subst (Finds (λ es. g.D.Desk.run c.args.desk.now es c.find_spans.new.desk)
+    c.config-config.result c.args.far.now) c.in-Loose.is c.in_ok-found.ensures.found in
+    omega (arith, same, found.enough)
 
 pub evict_loose-requires-clause-room : goal.evict_loose-requires-clause-room
 evict_loose-requires-clause-room g c =
-    let nodes = c.nodes_with_room-nodes.ensures
-    ∙ ap (λ (far : FarState). room_count far.nodes far.members) c.far.view_is in
-    omega (arith, nodes, c.if-nodes-config.false)
+    let found = subst (Finds (λ es. g.D.Desk.run c.args.desk.now es c.find_spans.new.desk)
+    c.config-config.result c.args.far.now) c.in-Loose.is c.in_ok-found.ensures.found in
+    found.room
 
 pub evict_loose-requires-clause-shards : goal.evict_loose-requires-clause-shards
 evict_loose-requires-clause-shards g c =
     subst (λ (l : List Shard). AreShards c.args.far.now
     (c.config-config.result.k + c.config-config.result.r) l)
-    (sym c.deref-3.ensures.value) c.in_ok-shards.ensures.shards
+    (sym c.deref-in-Loose.ensures.value) c.in_ok-shards-in-Loose.ensures.shards
 
-pub returns-clause-evict : goal.returns-clause-evict
-returns-clause-evict g c =
-    let x = looks_as _ _ _ _ _ _ _ (ap (λ (far : FarState). far.spans) c.far.view_is)
-    (c.deref.ensures.value ∙ c.in_ok-frames.ensures.frames) refl c.find_loose.ensures.looks in
+pub returns-in_ok-shards-in-Loose-clause-evict : goal.returns-in_ok-shards-in-Loose-clause-evict
+returns-in_ok-shards-in-Loose-clause-evict g c =
+    let found = subst (Finds (λ es. g.D.Desk.run c.args.desk.now es c.find_spans.new.desk)
+    c.config-config.result c.args.far.now) c.in-Loose.is c.in_ok-found.ensures.found in
+    let x = found.looks in
     if_map _ _ c.evict_loose.result c.evict_loose.ensures.evict (λ r y.
     looks_then (g.D.Desk.settings c.args.desk.now) c.config-config.result c.args.far.now
-    c.evict_loose.new.far r c.find_loose.new.loose.items
-    (λ es. g.D.Desk.run c.args.desk.now es c.find_loose.new.desk)
-    (λ es. g.D.Desk.run c.find_loose.new.desk es c.evict_loose.new.desk)
+    c.evict_loose.new.far r c.in-Loose.frames.items
+    (λ es. g.D.Desk.run c.args.desk.now es c.find_spans.new.desk)
+    (λ es. g.D.Desk.run c.find_spans.new.desk es c.evict_loose.new.desk)
     (λ es. g.D.Desk.run c.args.desk.now es c.evict_loose.new.desk)
-    (λ s. g.D.Desk.shows c.args.desk.now s) (λ s. g.D.Desk.shows c.find_loose.new.desk s)
+    (λ s. g.D.Desk.shows c.args.desk.now s) (λ s. g.D.Desk.shows c.find_spans.new.desk s)
     c.config-config.ensures x
-    (subst (λ (l : List ℕ). Performs (λ es. g.D.Desk.run c.find_loose.new.desk es c.evict_loose.new.desk)
-    (λ s. g.D.Desk.shows c.find_loose.new.desk s × Sound s c.args.far.now)
+    (subst (λ (l : List ℕ). Performs (λ es. g.D.Desk.run c.find_spans.new.desk es c.evict_loose.new.desk)
+    (λ s. g.D.Desk.shows c.find_spans.new.desk s × Sound s c.args.far.now)
     (RuleAfter c.config-config.result c.args.far.now c.evict_loose.new.far r l)
     (λ t. Sound t c.evict_loose.new.far) (EvictEffect c.args.far.now c.evict_loose.new.far r))
-    c.deref-2.ensures.value y)
+    c.deref.ensures.value y)
     (λ es fs a b. g.met.D.Desk.more _ _ _ _ _ a b)
     (λ es s ran a. (g.met.D.Desk.follows _ _ es s ran a).1))
 
-pub returns-clause-error : goal.returns-clause-error
-returns-clause-error g c =
-    let x = looks_as _ _ _ _ _ _ _ (ap (λ (far : FarState). far.spans) c.far.view_is)
-    (c.deref.ensures.value ∙ c.in_ok-frames.ensures.frames) refl c.find_loose.ensures.looks in
+pub returns-in_ok-shards-in-Loose-clause-error : goal.returns-in_ok-shards-in-Loose-clause-error
+returns-in_ok-shards-in-Loose-clause-error g c =
+    let found = subst (Finds (λ es. g.D.Desk.run c.args.desk.now es c.find_spans.new.desk)
+    c.config-config.result c.args.far.now) c.in-Loose.is c.in_ok-found.ensures.found in
+    let x = found.looks in
     on_err _ _ c.evict_loose.result
     (both_err _ _ c.evict_loose.result c.evict_loose.ensures.error c.evict_loose.ensures.unchanged)
     (λ (y, same).
@@ -213,14 +170,14 @@ returns-clause-error g c =
     (λ es. g.D.Desk.run c.args.desk.now es c.evict_loose.new.desk)
     (λ s. g.D.Desk.shows c.args.desk.now s × Sound s c.args.far.now) (TouchesSpans c.args.far.now)
     (λ t. Sound t far) IsStill) (sym same)
-    (looks_fail c.args.far.now c.find_loose.new.loose.items
-    (λ es. g.D.Desk.run c.args.desk.now es c.find_loose.new.desk)
-    (λ es. g.D.Desk.run c.find_loose.new.desk es c.evict_loose.new.desk)
+    (looks_fail c.args.far.now c.in-Loose.frames.items
+    (λ es. g.D.Desk.run c.args.desk.now es c.find_spans.new.desk)
+    (λ es. g.D.Desk.run c.find_spans.new.desk es c.evict_loose.new.desk)
     (λ es. g.D.Desk.run c.args.desk.now es c.evict_loose.new.desk)
-    (λ s. g.D.Desk.shows c.args.desk.now s) (λ s. g.D.Desk.shows c.find_loose.new.desk s) x
+    (λ s. g.D.Desk.shows c.args.desk.now s) (λ s. g.D.Desk.shows c.find_spans.new.desk s) x
     (subst (λ (far : FarState). Performs
-    (λ es. g.D.Desk.run c.find_loose.new.desk es c.evict_loose.new.desk)
-    (λ s. g.D.Desk.shows c.find_loose.new.desk s × Sound s c.args.far.now) (TouchesSpans c.args.far.now)
+    (λ es. g.D.Desk.run c.find_spans.new.desk es c.evict_loose.new.desk)
+    (λ s. g.D.Desk.shows c.find_spans.new.desk s × Sound s c.args.far.now) (TouchesSpans c.args.far.now)
     (λ t. Sound t far) IsStill) same y)
     (λ es fs a b. g.met.D.Desk.more _ _ _ _ _ a b)
     (λ es s ran a. (g.met.D.Desk.follows _ _ es s ran a).1)))

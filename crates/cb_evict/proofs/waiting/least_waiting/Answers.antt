@@ -1,4 +1,4 @@
-use Rattle.std.proofs.Common.{arith, sym, ◌∙◌}
+use Rattle.std.proofs.Common.{arith, sym}
 use Rattle.cb_evict.proofs.WhichWait.{least_is, least_none}
 use Rattle.cb_evict.proofs.waiting.least_waiting.Goals as goal
 

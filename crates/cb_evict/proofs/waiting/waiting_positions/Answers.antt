@@ -1,5 +1,5 @@
-use Rattle.std.proofs.Common.{ℕ, ◌+◌, ◌<◌, List, length, set, ap, sym, ◌∙◌, subst, arith}
-use Rattle.cb_evict.proofs.WhichWait.{Found, found_put, found_more, all_stand, least_waits}
+use Rattle.std.proofs.Common.{ℕ, ◌+◌, List, set, sym, ◌∙◌, subst, arith}
+use Rattle.cb_evict.proofs.WhichWait.{Found, found_put, found_more}
 use Rattle.cb_evict.proofs.waiting.waiting_positions.Goals as goal
 use Rattle.cb_evict.proofs.waiting.waiting_positions.Goals.{then-is_waiting, else-is_waiting}
 

@@ -1,0 +1,204 @@
+-- Over a still desk a begin is a step: what its rule and its effect say is exact there.
+use Rattle.std.proofs.Common.{◌≡◌, ◌⊎◌, ℕ, ◌+◌, ◌*◌, ◌^◌, ◌<◌, ◌≤◌, Bool, false, List, length, get_or, map, ◌++◌, take, None, refl, sym, ap, ◌∙◌, subst, arith, inl, inr}
+use Rattle.std.proofs.lemmas.Bool.{cases_lt}
+use Rattle.std.proofs.lemmas.List.{get_or_past, length-take-le}
+use Rattle.cb_ptr.specs.Steps.{Claims}
+use Rattle.cb_ptr.specs.Word.{flag_number, hot_of, len_of, place_of}
+use Rattle.cb_ptr.proofs.Laws.{claims, claimed_below, same_but_hot}
+use Rattle.cb_types.specs.declared.reply.Reply.{Reply}
+use Rattle.cb_world.specs.declared.event.Event.{Event}
+use Rattle.cb_world.specs.declared.object.Object.{Object}
+use Rattle.cb_world.specs.declared.object.Object.TheVariants as is
+use Rattle.cb_world.specs.declared.shown.Shown.{Shown}
+use Rattle.cb_world.specs.Shown.{Fits}
+use Rattle.cb_world.specs.FarSound.{batch_rows}
+use Rattle.cb_world.specs.FarState.{FarState}
+use Rattle.cb_world.specs.Grasped.{IsFree}
+use Rattle.cb_world.specs.Memory.{window}
+use Rattle.cb_world.specs.Now.{now}
+use Rattle.cb_world.specs.Placed.{leaving_frames}
+use Rattle.cb_world.specs.Plain.{Words, Shows}
+use Rattle.cb_world.specs.Played.{played}
+use Rattle.cb_world.specs.RowWords.{row_of}
+use Rattle.cb_world.specs.SetWord.{IsSpanWord}
+use Rattle.cb_world.specs.StillDesk.{plain_follows, plain_stays}
+use Rattle.cb_world.specs.World.{word_at, IsKnown}
+use Rattle.cb_world.proofs.Exact.{found_exact}
+use Rattle.cb_world.proofs.Known.{AreSeen, seen_after, seen_known}
+use Rattle.cb_world.proofs.StillWords.{word_back}
+use Rattle.cb_world.proofs.StillPerforms.{PerformsStill, RunsStill, runs_still, known_then, stays_still}
+use Rattle.cb_evict.specs.BeginEffect.{IsLeavingNow, IsBegun, BeginEffect}
+use Rattle.cb_evict.specs.BeginRule.{new_batch, HasBegun, HasBatch, BeginRule}
+use Rattle.cb_evict.specs.BeginStep.{AreHeld, IsBegunTo, IsBeginStep, is_leaving, few_spans, few_nodes, begins}
+use Rattle.cb_evict.specs.EvictRule.{HasFewSpans, HasFewNodes}
+use Rattle.cb_evict.specs.EvictStep.{loose_frames}
+use Rattle.cb_evict.specs.Looking.{IsIn}
+use Rattle.cb_evict.proofs.AfterEvict.{leaves_free}
+use Rattle.cb_evict.proofs.BeginParts.{leaving_batch, spans_batch, nodes_batch}
+use Rattle.cb_evict.proofs.EvictStep.{IsStepKnown, refused}
+use Rattle.cb_evict.proofs.LooseSpans.{loose_exact}
+use Rattle.cb_evict.proofs.Standing.{are_unique}
+
+-- ---- every word
+-- the word of an object that is claimed is the one that was there, as Moving
+claimed_word : (v w n : ℕ) (len place u : ℕ) (words : List ℕ) → v < 2 ^ 53 → IsFree v
+    → Fits (is.Claimed len place u words) w → len ≡ len_of v → place ≡ place_of v
+    → hot_of w ≡ hot_of v → Claims v w
+claimed_word v w n len place u words below free fit same_len same_place hot =
+    let c = claims v free.0 free.1 in
+    let near = same_but_hot w (v + 1) fit.0 (claimed_below v below free.0) (fit.4 ∙ sym c.state)
+    (fit.3 ∙ sym c.pins) (fit.1 ∙ same_len ∙ sym c.len) (fit.2 ∙ same_place ∙ sym c.place) in
+    let flags = ap flag_number (hot ∙ sym c.hot) in
+    let number : v + 1 ≡ w = omega (arith, near, flags) in
+    subst (Claims v) number c
+
+held_words : (x y : Words) (far new : FarState) (s : Shown) (es : List Event) (frames : List ℕ)
+    → RunsStill x y far s es → new.spans ≡ far.spans → leaving_frames new.leaving ≡ frames
+    → ((h : ℕ) → IsIn far.spans frames h → IsFree (word_at x h))
+    → IsBegun far new es s (played es s) → AreHeld x y far frames
+held_words x y far new s es frames r spans leaves free z = record {
+  claimed = λ h i.
+      let a = z.claimed h (into h i) in
+      let found : word_at x h ≡ a.word =
+      found_exact es x y h a.word r.ran r.looks_first a.found in
+      let below : h < length s.objects =
+      (are_unique far s (length s.objects) r.known.sound.here refl).below i.0 h i.2 in
+      let range : h < length x.words = omega (arith, below, r.known.shows.objects) in
+      let fit : Fits (is.Claimed (len_of a.word) (place_of a.word) a.version a.words) (word_at y h) =
+      subst (λ (o : Object). Fits o (word_at y h)) a.object
+      (shows.fit h (omega (arith, range, count))) in
+      let was : Fits (is.Here (len_of a.word) (place_of a.word)) (word_at x h) =
+      subst (λ (o : Object). Fits o (word_at x h)) a.was (r.known.shows.fit h range) in
+      claimed_word (word_at x h) (word_at y h) 0 (len_of a.word) (place_of a.word) a.version a.words
+      was.0 (free h i) fit (ap len_of (sym found)) (ap place_of (sym found))
+      (sym (seen_then.hot h (omega (arith, range, count)))
+      ∙ ap (λ (l : List Bool). get_or l h false) (z.hots ∙ ap (λ (t : Shown). t.hots) r.told)
+      ∙ seen.hot h range);
+  others = λ h out. other h out (cases_lt h (length x.words));
+  count = count;
+  settings = plain_stays x y es r.ran;
+  versions = sym shows.versions ∙ z.versions ∙ ap (λ (t : Shown). t.versions) r.told
+      ∙ r.known.shows.versions;
+  memory = sym shows.memory ∙ z.memory ∙ ap (λ (t : Shown). t.memory) r.told
+      ∙ r.known.shows.memory;
+}
+  where
+    shows : Shows y (played es s)
+    shows = (plain_follows es x y s r.ran r.known.shows).1
+
+    seen : AreSeen x s
+    seen = seen_known x far s r.known
+
+    seen_then : AreSeen y (played es s)
+    seen_then = seen_after es x y s r.ran seen
+
+    count : length y.words ≡ length x.words
+    count = sym shows.objects ∙ z.objects ∙ r.known.shows.objects
+
+    into : (h : ℕ) → IsIn far.spans frames h → IsLeavingNow new h
+    into h i = subst (λ (l : List ℕ). IsIn new.spans l h) (sym leaves)
+        (subst (λ (l : List _). IsIn l frames h) (sym spans) i)
+
+    out_of : (h : ℕ) → IsLeavingNow new h → IsIn far.spans frames h
+    out_of h i = subst (λ (l : List _). IsIn l frames h) spans
+        (subst (λ (l : List ℕ). IsIn new.spans l h) leaves i)
+
+    other : (h : ℕ) → ¬ (IsIn far.spans frames h) → (h < length x.words) ⊎ (length x.words ≤ h)
+        → word_at y h ≡ word_at x h
+    other h out (inl below) =
+        word_back x y far s es h r.known r.ran r.allowed below (omega (arith, below, count))
+        (z.others h (λ i. out (out_of h i)))
+        (ap (λ (l : List Bool). get_or l h false) (z.hots ∙ ap (λ (t : Shown). t.hots) r.told))
+    other h out (inr past) = get_or_past y.words h 0 (omega (arith, past, count))
+        ∙ sym (get_or_past x.words h 0 past)
+
+begun_to : (x y : Words) (far new : FarState) (s : Shown) (es : List Event)
+    → RunsStill x y far s es → IsKnown y new (played es s)
+    → x.settings.k ≤ length (loose_frames x far)
+    → HasBegun x.settings far new (take x.settings.k (loose_frames x far)) es
+    → IsBegun far new es s (played es s)
+    → IsBegunTo x y far new (take x.settings.k (loose_frames x far))
+begun_to x y far new s es r l enough b z =
+    let k = x.settings.k in let frames = take k (loose_frames x far) in
+    let batch = new_batch x.settings far frames b.words b.parities in
+    let held = held_words x y far new s es frames r
+    (ap (λ (f : FarState). f.spans) b.state) (ap (λ (f : FarState). leaving_frames f.leaving) b.state)
+    (λ h i. leaves_free x far k h i) z in
+    let word = (l.sound.away.sound.batch batch (ap (λ (f : FarState). f.leaving) b.state)).word in
+    let memory : (played es s).memory ≡ x.memory = l.shows.memory ∙ held.memory in
+    record {
+      words = b.words;
+      parities = b.parities;
+      of = b.of;
+      each_once = b.each_once;
+      noted = λ i e within. let f = get_or b.words i e in
+          sym (found_exact es x y f.handle f.word r.ran r.looks_first (b.found i e within));
+      count = b.counts.1;
+      word = subst (λ (ms : List ℕ). IsSpanWord k x.settings.r
+          (map (λ f. row_of (window ms (512 * f) 512)) frames ++ b.parities)) memory
+          (subst (λ (n : ℕ). IsSpanWord n x.settings.r (batch_rows (played es s) batch))
+          (length-take-le k (loose_frames x far) enough)
+          (subst (λ (n : ℕ). IsSpanWord (length frames) n (batch_rows (played es s) batch)) b.counts.1 word));
+      state = b.state;
+      held = held;
+    }
+
+-- ---- the step
+by_looks : (x y : Words) (far new : FarState) (r : Reply) (s : Shown) (es : List Event)
+    (loose : List ℕ) → RunsStill x y far s es → IsKnown y new (played es s) → far.leaving ≡ None
+    → loose ≡ loose_frames x far → BeginEffect far new r es s (played es s)
+    → HasFewSpans x.settings far new r loose ⊎ (HasFewNodes x.settings far new r loose
+    ⊎ HasBatch x.settings far new r loose es)
+    → IsBeginStep x y far new r × IsStepKnown y far new s
+by_looks x y far new r s es loose runs l none same effect (inl a) =
+    let words = stays_still x y far s es runs
+    (effect.left (λ id e. spans_batch (length loose) r id a.reply e)) in (
+      few_spans none (subst (HasFewSpans x.settings far new r) same a) words,
+      refused x y far new s (played es s) runs.known l words a.state,
+    )
+by_looks x y far new r s es loose runs l none same effect (inr (inl a)) =
+    let words = stays_still x y far s es runs
+    (effect.left (λ id e. nodes_batch _ r id a.reply e)) in (
+      few_nodes none (subst (HasFewNodes x.settings far new r) same a) words,
+      refused x y far new s (played es s) runs.known l words a.state,
+    )
+by_looks x y far new r s es loose runs l none same effect (inr (inr a)) =
+    let b = subst (λ (frames : List ℕ). HasBatch x.settings far new r frames es) same a in
+    let z = effect.begun (record { n = far.counts.sets }) a.reply in (
+      begins (record {
+        none = none;
+        enough = b.enough;
+        room = b.room;
+        reply = b.reply;
+        begun = begun_to x y far new s es runs l b.enough b.begun z;
+      }),
+      record {
+        shown = played es s;
+        known = l;
+        same_now = λ h. z.same_now h ∙ ap (λ (t : Shown). now t far h) runs.told;
+      },
+    )
+
+by_rule : (x y : Words) (far new : FarState) (r : Reply) (s : Shown) (es : List Event)
+    → RunsStill x y far s es → IsKnown y new (played es s)
+    → BeginEffect far new r es s (played es s) → BeginRule x.settings far new r es
+    → IsBeginStep x y far new r × IsStepKnown y far new s
+by_rule x y far new r s es runs l effect (inl a) =
+    let words = stays_still x y far s es runs
+    (effect.left (λ id e. leaving_batch _ id r a.reply e)) in (
+      is_leaving a.batch a.there a.reply a.state words,
+      refused x y far new s (played es s) runs.known l words a.state,
+    )
+by_rule x y far new r s es runs l effect (inr a) =
+    by_looks x y far new r s es a.loose runs l a.none
+    (loose_exact es x y far a.loose runs.ran runs.looks_first a.found) effect a.answered
+
+-- Over a still desk of which all is known a begin is a step, and all is known of it afterwards. A
+-- begin that found no memory changes no word, as an eviction does (`evict_stopped`).
+pub begin_step : (x y : Words) (far new : FarState) (r : Reply) (s : Shown)
+    → PerformsStill x y far new (BeginRule x.settings far new r) (BeginEffect far new r)
+    → IsKnown x far s → IsBeginStep x y far new r × IsStepKnown y far new s
+begin_step x y far new r s p k =
+    let rules = BeginRule x.settings far new r in let does = BeginEffect far new r in
+    by_rule x y far new r s p.events (runs_still x y far new rules does s k p)
+    (known_then x y far new rules does s k p) (p.effect s ((k.sized, k.shows), k.sound)) p.rule

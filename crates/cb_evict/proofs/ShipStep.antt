@@ -1,0 +1,136 @@
+-- Over a still desk a ship is a step, which leaves all but the row, the shard and a key.
+use Rattle.std.proofs.Common.{◌≡◌, ℕ, ◌+◌, ◌*◌, ◌≤◌, ◌++◌, List, length, map, refl, sym, ap, ◌∙◌, subst, arith, inl, inr, length-set}
+use Rattle.cb_gf256.specs.Rows.{row_at}
+use Rattle.cb_types.specs.declared.config.Config.{Config}
+use Rattle.cb_types.specs.declared.reply.Reply.{Reply}
+use Rattle.cb_world.specs.declared.shown.Shown.{Shown}
+use Rattle.cb_world.specs.FarSound.{batch_rows}
+use Rattle.cb_world.specs.FarState.{FarState}
+use Rattle.cb_world.specs.Leaving.{LeavingState}
+use Rattle.cb_world.specs.Memory.{window}
+use Rattle.cb_world.specs.Now.{now}
+use Rattle.cb_world.specs.Placed.{leaving_frames}
+use Rattle.cb_world.specs.Plain.{Words}
+use Rattle.cb_world.specs.Played.{played}
+use Rattle.cb_world.specs.RowWords.{row_of}
+use Rattle.cb_world.specs.Still.{IsStill}
+use Rattle.cb_world.specs.World.{IsConfigured, IsKnown}
+use Rattle.cb_world.proofs.StillPerforms.{PerformsStill, runs_still, known_then, stays_still}
+use Rattle.cb_evict.specs.Loading.{LiesInOne}
+use Rattle.cb_evict.specs.ShipRule.{ReadsLeaving, ShipEffect, ShipRule, Ships}
+use Rattle.cb_evict.specs.ShipStep.{IsShipStep}
+use Rattle.cb_evict.proofs.Events.{are_reads}
+use Rattle.cb_evict.proofs.EvictStep.{IsStepKnown}
+
+-- ---- what a ship leaves
+-- local memory, all sets, homes and nodes' lives stay, and the pair that is joining; no set number
+-- is drawn and at most one key, and no row is given out
+pub record ShipLeaves (far new : FarState) : Type 0 where
+  pub first : new.first ≡ far.first
+  pub made : new.made ≡ far.made
+  pub frames : new.frames ≡ far.frames
+  pub spans : new.spans ≡ far.spans
+  pub sets : new.sets ≡ far.sets
+  pub homes : new.homes ≡ far.homes
+  pub members : new.members ≡ far.members
+  pub joining : new.joining ≡ far.joining
+  pub nodes : length new.nodes.nodes ≡ length far.nodes.nodes
+  pub room : new.nodes.room ≡ far.nodes.room
+  pub given : new.nodes.given ≡ far.nodes.given
+  pub turns : new.counts.turns ≡ far.counts.turns
+  pub by_job : new.counts.by_job ≡ far.counts.by_job
+  pub set_numbers : new.counts.sets ≡ far.counts.sets
+  pub keys : new.counts.keys ≤ far.counts.keys + 1
+
+leaves_all : (far : FarState) → ShipLeaves far far
+leaves_all far = record {
+  first = refl;
+  made = refl;
+  frames = refl;
+  spans = refl;
+  sets = refl;
+  homes = refl;
+  members = refl;
+  joining = refl;
+  nodes = refl;
+  room = refl;
+  given = refl;
+  turns = refl;
+  by_job = refl;
+  set_numbers = refl;
+  keys = omega arith;
+}
+
+pub ships_leaves : (far new : FarState) (r : Reply) (row : LeavingState → ℕ → List ℕ)
+    → Ships far new r row → ShipLeaves far new
+ships_leaves far new r row (inl x) = subst (ShipLeaves far) (sym x.same) (leaves_all far)
+ships_leaves far new r row (inr (inl x)) = subst (ShipLeaves far) (sym x.same) (leaves_all far)
+ships_leaves far new r row (inr (inr (inl x))) = subst (ShipLeaves far) (sym x.same) (leaves_all far)
+ships_leaves far new r row (inr (inr (inr x))) = subst (ShipLeaves far) (sym x.state) (record {
+  first = refl;
+  made = refl;
+  frames = refl;
+  spans = refl;
+  sets = refl;
+  homes = refl;
+  members = refl;
+  joining = refl;
+  nodes = length-set far.nodes.nodes x.shard.node.n _;
+  room = refl;
+  given = refl;
+  turns = refl;
+  by_job = refl;
+  set_numbers = refl;
+  keys = omega arith;
+})
+
+pub ship_configured : (x y : Words) (far new : FarState) (r : Reply) (c : Config)
+    → IsShipStep x y far new r → IsConfigured c far → IsConfigured c new
+ship_configured x y far new r c step k =
+    let l = ships_leaves far new r _ step.ships in record {
+      frames = ap length l.spans ∙ k.frames;
+      homes = ap length l.homes ∙ k.homes;
+      nodes = l.nodes ∙ k.nodes;
+    }
+
+-- what every object has stays
+pub ships_now : (s : Shown) (far new : FarState) (r : Reply) (row : LeavingState → ℕ → List ℕ)
+    → Ships far new r row → (h : ℕ) → now s new h ≡ now s far h
+ships_now s far new r row (inl x) h = ap (λ (f : FarState). now s f h) x.same
+ships_now s far new r row (inr (inl x)) h = ap (λ (f : FarState). now s f h) x.same
+ships_now s far new r row (inr (inr (inl x))) h = ap (λ (f : FarState). now s f h) x.same
+ships_now s far new r row (inr (inr (inr x))) h = ap (λ (f : FarState). now s f h) x.state
+
+-- ---- the step
+-- the row of a position of a batch, where this is the memory
+abbrev row_in : List ℕ → LeavingState → ℕ → List ℕ
+row_in memory batch =
+    row_at (map (λ f. row_of (window memory (512 * f) 512)) batch.frames ++ batch.parities)
+
+-- Over a still desk of which all is known a ship is a step, and all is known of it afterwards.
+pub ship_step : (x y : Words) (far new : FarState) (r : Reply) (s : Shown)
+    → PerformsStill x y far new (ShipRule far new r) (ShipEffect far new r)
+    → IsKnown x far s → IsShipStep x y far new r × IsStepKnown y far new s
+ship_step x y far new r s p k =
+    let rules = ShipRule far new r in let does = ShipEffect far new r in
+    let effect = p.effect s ((k.sized, k.shows), k.sound) in
+    let reads = are_reads (LiesInOne (leaving_frames far.leaving)) p.events p.rule.reads in (
+      record {
+        words = stays_still x y far s p.events (runs_still x y far new rules does s k p) effect.still;
+        ships = subst (λ (memory : List ℕ). Ships far new r (row_in memory)) k.shows.memory
+            effect.ships;
+      },
+      record {
+        shown = played p.events s;
+        known = known_then x y far new rules does s k p;
+        same_now = λ h. ap (λ (t : Shown). now t new h) (reads.stays s)
+            ∙ ships_now s far new r (λ b. row_at (batch_rows s b)) effect.ships h;
+      },
+    )
+
+-- One that found no memory changes no word.
+pub ship_stopped : (x y : Words) (far : FarState) (s : Shown)
+    → PerformsStill x y far far (ReadsLeaving far) IsStill → IsKnown x far s → y ≡ x
+ship_stopped x y far s p k =
+    stays_still x y far s p.events (runs_still x y far far (ReadsLeaving far) IsStill s k p)
+    (p.effect s ((k.sized, k.shows), k.sound))

@@ -1,0 +1,93 @@
+use Rattle.std.proofs.Common.{◌≡◌, ◌≢◌, ℕ, ◌≤◌, List, length, get_or, All, Some, refl, sym, ap, ◌∙◌, subst, arith, inl, inr}
+use Rattle.std.specs.List.{AllPairs}
+use Rattle.cb_types.specs.declared.config.Field.TheVariants.{K, R, Nodes}
+use Rattle.cb_types.specs.declared.reply.Reply.TheVariants as answer
+use Rattle.cb_world.specs.Choices.{room_count}
+use Rattle.cb_world.specs.FarState.{FarState, span_in}
+use Rattle.cb_evict.specs.Candidates.{AreUnique, candidates}
+use Rattle.cb_evict.proofs.Composed.{any_err, looks_as}
+use Rattle.cb_evict.proofs.Ending.{place_in}
+use Rattle.cb_evict.proofs.Standing.{are_unique, is_standing, candidates_apart}
+use Rattle.cb_evict.proofs.finding.find_spans.Goals as goal
+
+pub returns-in_err-frames-clause-error : goal.returns-in_err-frames-clause-error
+returns-in_err-frames-clause-error g c = any_err _ _ (g.met.D.Desk.none _)
+
+pub returns-in_err-loose-clause-error : goal.returns-in_err-loose-clause-error
+returns-in_err-loose-clause-error g c = any_err _ _ (g.met.D.Desk.none _)
+
+pub find_loose-requires-clause-there : goal.find_loose-requires-clause-there
+find_loose-requires-clause-there g c =
+    subst (λ (l : List ℕ). All (λ f. (span : _) × (span_in c.far.inside.spans f ≡ Some span)) l)
+    (sym (c.deref.ensures.value ∙ c.in_ok-frames.ensures.frames))
+    (λ k d l.
+    let x = is_standing c.args.far.now (get_or (candidates c.args.far.now) k d)
+    (place_in (candidates c.args.far.now) k d l) in (
+      x.span,
+      ap (λ (far : FarState). span_in far.spans (get_or (candidates c.args.far.now) k d)) c.far.view_is ∙ x.there,
+    ))
+
+pub find_loose-requires-clause-unique : goal.find_loose-requires-clause-unique
+find_loose-requires-clause-unique g c =
+    let sized = g.met.D.Desk.sized _ c.requires.sound.0 c.requires.sound.1 in
+    subst (λ (far : FarState). AreUnique far.spans (g.D.Desk.settings c.args.desk.now).handles)
+    (sym c.far.view_is)
+    (are_unique c.args.far.now c.requires.sound.0 _ c.requires.sound.2.here sized.0)
+
+pub find_loose-requires-clause-apart : goal.find_loose-requires-clause-apart
+find_loose-requires-clause-apart g c =
+    subst (λ (l : List ℕ). AllPairs (λ f h. f ≢ h) l)
+    (sym (c.deref.ensures.value ∙ c.in_ok-frames.ensures.frames)) (candidates_apart c.args.far.now)
+
+pub returns-then-len-config-clause-found : goal.returns-then-len-config-clause-found
+returns-then-len-config-clause-found g c = record {
+  loose = c.find_loose.new.loose.items;
+  looks = looks_as _ _ _ _ _ _ _ (ap (λ (far : FarState). far.spans) c.far.view_is)
+      (c.deref.ensures.value ∙ c.in_ok-frames.ensures.frames) refl c.find_loose.ensures.looks;
+  few = inl (record {
+    few = omega (arith, c.if-len-config.true, c.len-2.ensures, c.find_loose.new.loose.ok);
+    reply = ap answer.NoSpans (omega (arith, c.len-then-len-config.ensures, c.find_loose.new.loose.ok));
+    state = refl;
+  });
+}
+
+pub overflow_add-config : goal.overflow_add-config
+overflow_add-config g c =
+    let most = c.requires.config.0 K in let more = c.requires.config.0 R in
+    omega (arith, most.1, more.1)
+
+pub nodes_with_room-nodes-requires-clause-counted : goal.nodes_with_room-nodes-requires-clause-counted
+nodes_with_room-nodes-requires-clause-counted g c =
+    subst (λ (far : FarState). length far.nodes.nodes ≡ length far.members.nodes) (sym c.far.view_is)
+    c.requires.sound.2.away.sound.rows.counted
+
+pub nodes_with_room-nodes-requires-clause-few : goal.nodes_with_room-nodes-requires-clause-few
+nodes_with_room-nodes-requires-clause-few g c =
+    let n = c.requires.config.0 Nodes in let nodes = c.requires.configured.nodes in
+    subst (λ (far : FarState). length far.nodes.nodes ≤ 256) (sym c.far.view_is)
+    (omega (arith, n.1, nodes))
+
+pub returns-then-nodes-config-clause-found : goal.returns-then-nodes-config-clause-found
+returns-then-nodes-config-clause-found g c =
+    let nodes = c.nodes_with_room-nodes.ensures
+    ∙ ap (λ (far : FarState). room_count far.nodes far.members) c.far.view_is in record {
+      loose = c.find_loose.new.loose.items;
+      looks = looks_as _ _ _ _ _ _ _ (ap (λ (far : FarState). far.spans) c.far.view_is)
+          (c.deref.ensures.value ∙ c.in_ok-frames.ensures.frames) refl c.find_loose.ensures.looks;
+      few = inr (record {
+        enough = omega (arith, c.if-len-config.false, c.len-2.ensures, c.find_loose.new.loose.ok);
+        few = omega (arith, nodes, c.if-nodes-config.true);
+        reply = ap answer.NoNodes nodes;
+        state = refl;
+      });
+    }
+
+pub returns-clause-found : goal.returns-clause-found
+returns-clause-found g c =
+    let nodes = c.nodes_with_room-nodes.ensures
+    ∙ ap (λ (far : FarState). room_count far.nodes far.members) c.far.view_is in record {
+      looks = looks_as _ _ _ _ _ _ _ (ap (λ (far : FarState). far.spans) c.far.view_is)
+          (c.deref.ensures.value ∙ c.in_ok-frames.ensures.frames) refl c.find_loose.ensures.looks;
+      enough = omega (arith, c.if-len-config.false, c.len-2.ensures, c.find_loose.new.loose.ok);
+      room = omega (arith, nodes, c.if-nodes-config.false);
+    }

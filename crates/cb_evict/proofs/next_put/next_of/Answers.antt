@@ -1,0 +1,24 @@
+use Rattle.std.proofs.Common.{◌≤◌, List, Option, length, ap, sym, ◌∙◌, subst}
+use Rattle.cb_member.specs.declared.names.Shard.{Shard}
+use Rattle.cb_member.specs.Membership.{Membership}
+use Rattle.cb_world.specs.FarState.{FarState}
+use Rattle.cb_world.specs.Leaving.{LeavingState}
+use Rattle.cb_evict.specs.Waiting.{PutAtMembers}
+use Rattle.cb_evict.proofs.ShipParts.{put_at_members, few_positions}
+use Rattle.cb_evict.proofs.next_put.next_of.Goals as goal
+
+pub least_waiting-requires-clause-nodes : goal.least_waiting-requires-clause-nodes
+least_waiting-requires-clause-nodes c =
+    let far = c.args.far.now in let batch = c.args.batch.now in
+    subst (λ (m : Membership). PutAtMembers m c.deref.result.now)
+    (sym (ap (λ (q : FarState). q.members) c.far.view_is))
+    (subst (λ (l : List (Option Shard)). PutAtMembers far.members l)
+    (sym (c.deref.ensures.value ∙ ap (λ (b : LeavingState). b.shards) c.batch.view_is))
+    (put_at_members far batch c.requires.sound.1.away.sound.rows c.requires.there))
+
+pub least_waiting-requires-clause-few : goal.least_waiting-requires-clause-few
+least_waiting-requires-clause-few c =
+    subst (λ (l : List (Option Shard)). length l ≤ 20)
+    (sym (c.deref.ensures.value ∙ ap (λ (b : LeavingState). b.shards) c.batch.view_is))
+    (few_positions c.requires.sound.0 c.args.far.now c.args.batch.now c.requires.sound.1
+    c.requires.there)

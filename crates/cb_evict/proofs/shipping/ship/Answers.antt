@@ -1,0 +1,68 @@
+use Rattle.std.proofs.Common.{[], refl, subst, arith, inl, inr}
+use Rattle.cb_types.specs.declared.config.Field.TheVariants.{Nodes}
+use Rattle.cb_evict.specs.Shipping.{IsNext}
+use Rattle.cb_evict.proofs.Composed.{any_err}
+use Rattle.cb_evict.proofs.ShipParts.{refused, shipped, reads_alone}
+use Rattle.cb_evict.proofs.shipping.ship.Goals as goal
+
+pub next_put-requires-clause-few : goal.next_put-requires-clause-few
+next_put-requires-clause-few g c =
+    let n = c.requires.config Nodes in let nodes = c.requires.configured.nodes in omega (arith, n.1, nodes)
+
+pub returns-in_err-next_put-clause-error : goal.returns-in_err-next_put-clause-error
+returns-in_err-next_put-clause-error g c =
+    any_err _ _ (reads_alone (λ es. g.D.Desk.run c.args.desk.now es c.args.desk.now)
+    (λ s. g.D.Desk.shows c.args.desk.now s) c.args.far.now c.args.far.now refl
+    (record { events = []; ran = g.met.D.Desk.none _; reads = tt }))
+
+pub returns-in_err-ship_row-in-Put-clause-error : goal.returns-in_err-ship_row-in-Put-clause-error
+returns-in_err-ship_row-in-Put-clause-error g c =
+    any_err _ _ (reads_alone (λ es. g.D.Desk.run c.args.desk.now es c.ship_row.new.desk)
+    (λ s. g.D.Desk.shows c.args.desk.now s) c.args.far.now c.ship_row.new.far
+    c.in_err-ship_row-in-Put.ensures.unchanged c.in_err-ship_row-in-Put.ensures.err)
+
+pub returns-in-NoBatch-clause-ship : goal.returns-in-NoBatch-clause-ship
+returns-in-NoBatch-clause-ship g c =
+    let far = c.args.far.now in
+    let x = subst (IsNext far) c.in-NoBatch.is c.in_ok-next_put.ensures.next in
+    refused (λ es. g.D.Desk.run c.args.desk.now es c.args.desk.now)
+    (λ s. g.D.Desk.shows c.args.desk.now s) far far _ (g.met.D.Desk.none _) refl
+    (λ row. inl (record { none = x; reply = refl; same = refl }))
+
+pub returns-in-AllShipped-clause-ship : goal.returns-in-AllShipped-clause-ship
+returns-in-AllShipped-clause-ship g c =
+    let far = c.args.far.now in
+    let x = subst (IsNext far) c.in-AllShipped.is c.in_ok-next_put.ensures.next in
+    refused (λ es. g.D.Desk.run c.args.desk.now es c.args.desk.now)
+    (λ s. g.D.Desk.shows c.args.desk.now s) far far _ (g.met.D.Desk.none _) refl
+    (λ row. inr (inl (record {
+      batch = x.0;
+      there = x.1;
+      none = x.2;
+      reply = refl;
+      same = refl;
+    })))
+
+pub returns-in-NoNode-clause-ship : goal.returns-in-NoNode-clause-ship
+returns-in-NoNode-clause-ship g c =
+    let far = c.args.far.now in
+    let x = subst (IsNext far) c.in-NoNode.is c.in_ok-next_put.ensures.next in
+    refused (λ es. g.D.Desk.run c.args.desk.now es c.args.desk.now)
+    (λ s. g.D.Desk.shows c.args.desk.now s) far far _ (g.met.D.Desk.none _) refl
+    (λ row. inr (inr (inl (record {
+      batch = x.0;
+      there = x.1;
+      position = x.2.0;
+      least = x.2.1;
+      none = x.2.2;
+      reply = refl;
+      same = refl;
+    }))))
+
+pub returns-in_ok-ship_row-in-Put-clause-ship : goal.returns-in_ok-ship_row-in-Put-clause-ship
+returns-in_ok-ship_row-in-Put-clause-ship g c =
+    let far = c.args.far.now in
+    let x = subst (IsNext far) c.in-Put.is c.in_ok-next_put.ensures.next in
+    shipped (λ es. g.D.Desk.run c.args.desk.now es c.ship_row.new.desk)
+    (λ s. g.D.Desk.shows c.args.desk.now s) far c.ship_row.new.far x.0 c.in-Put.position
+    c.in-Put.shard x.1 x.2.0 x.2.1 (c.in_ok-ship_row-in-Put.ensures.ok x.0 x.1)

@@ -1,0 +1,43 @@
+use Rattle.std.proofs.Common.{◌≡◌, ℕ, List, length, Some, ap, sym, ◌∙◌, subst}
+use Rattle.std.specs.List.{slice_get}
+use Rattle.std.proofs.lemmas.List.{with_items_is}
+use Rattle.cb_node.specs.NodesState.{NodesState}
+use Rattle.cb_world.specs.FarState.{FarState}
+use Rattle.cb_world.specs.Leaving.{LeavingState}
+use Rattle.cb_world.specs.contracts.far.Far.{the_view}
+use Rattle.cb_evict.specs.Loading.{LoadsFrame}
+use Rattle.cb_evict.specs.ShipRule.{with_noted, with_shipped}
+use Rattle.cb_evict.proofs.Composed.{any_err}
+use Rattle.cb_evict.proofs.ShippedFar.{batch_same}
+use Rattle.cb_evict.proofs.ShipParts.{puts_data, puts_nothing}
+use Rattle.cb_evict.proofs.shipping.ship_data.Goals as goal
+
+pub returns-in_err-put_row-clause-err : goal.returns-in_err-put_row-clause-err
+returns-in_err-put_row-clause-err g c =
+    let x = c.requires.there in
+    any_err _ _ (puts_nothing (λ es. g.D.Desk.run c.args.desk.now es c.load_frame.new.desk)
+    (λ s. g.D.Desk.shows c.args.desk.now s) c.args.far.now x.0 c.args.position c.args.frame _ x.1 x.2
+    c.load_frame.ensures.loads)
+
+pub returns-clause-ok : goal.returns-clause-ok
+returns-clause-ok g c = λ batch there.
+    let far = c.args.far.now in let p = c.args.position in let shard = c.args.shard in
+    let x = c.requires.there in
+    let view = the_view c.far.inside in
+    let row = c.deref.result.now in
+    let read = c.in_ok-row.row in
+    let same : row ≡ c.load_frame.new.into =
+    c.deref.ensures.value ∙ with_items_is read c.load_frame.new.into
+    (c.load_frame.auto.into ∙ ap length c.deref_mut.ensures.value ∙ sym read.ok.0) in
+    puts_data (λ es. g.D.Desk.run c.args.desk.now es c.load_frame.new.desk)
+    (λ s. g.D.Desk.shows c.args.desk.now s) (λ s. g.D.Desk.shows c.args.desk.now s) far
+    c.note_shard.new.far batch p c.args.frame shard row there
+    (subst (λ (b : LeavingState). slice_get b.frames p ≡ Some c.args.frame)
+    (batch_same x.0 batch (sym x.1 ∙ there)) x.2)
+    (subst (λ (l : List ℕ). LoadsFrame (λ es. g.D.Desk.run c.args.desk.now es c.load_frame.new.desk)
+    (λ s. g.D.Desk.shows c.args.desk.now s) c.args.frame l) (sym same) c.load_frame.ensures.loads)
+    (λ s k. k)
+    (c.note_shard.ensures batch (ap (λ (f : FarState). f.leaving) c.far.view_is ∙ there)
+    ∙ ap (λ (n : NodesState). with_noted (record view { nodes = n }) batch p shard)
+    c.in_ok-put_row.ensures.ok
+    ∙ ap (λ (f : FarState). with_shipped f batch p shard row) c.far.view_is)

@@ -1,0 +1,42 @@
+use Rattle.std.proofs.Common.{◌≡◌, ◌<◌, length, Some, sym, ◌∙◌, arith}
+use Rattle.std.specs.List.{slice_get}
+use Rattle.std.proofs.lemmas.Result.{on_ok_weaker}
+use Rattle.cb_evict.proofs.WhichWait.{least_waits}
+use Rattle.cb_evict.proofs.ShipParts.{puts_parity, span_within, contains_at, past_end, few_positions}
+use Rattle.cb_evict.proofs.shipping.ship_row.Goals as goal
+
+pub ship_data-requires-clause-frame : goal.ship_data-requires-clause-frame
+ship_data-requires-clause-frame g c =
+    let x = c.requires.next in
+    let at : slice_get x.0.frames c.args.position ≡ Some c.in-Some.frame =
+    sym (c.frame_at.ensures x.0 x.1) ∙ c.in-Some.is in
+    let n = c.requires.sound.1.noted x.0 x.1 in
+    let h = n.held c.in-Some.frame (contains_at x.0.frames c.args.position c.in-Some.frame at) in
+    omega (
+      arith,
+      span_within c.args.far.now.spans c.in-Some.frame h.0 h.1,
+      c.requires.configured.frames,
+    )
+
+pub ship_parity-requires-clause-there : goal.ship_parity-requires-clause-there
+ship_parity-requires-clause-there g c =
+    let far = c.args.far.now in let p = c.args.position in
+    let x = c.requires.next in let batch = x.0 in
+    let within : p < length batch.shards = (least_waits far.members batch.shards p x.2.0).0 in
+    let count = (c.requires.sound.1.away.sound.batch batch x.1).count in (
+      batch,
+      x.1,
+      past_end batch.frames p (sym (c.frame_at.ensures batch x.1) ∙ c.in-None.is),
+      omega (arith, within, count),
+      count,
+      few_positions c.requires.sound.0 far batch c.requires.sound.1 x.1,
+    )
+
+pub returns-in-None-clause-ok : goal.returns-in-None-clause-ok
+returns-in-None-clause-ok g c =
+    on_ok_weaker c.ship_parity.result (λ is batch there.
+    puts_parity (λ es. g.D.Desk.run c.args.desk.now es c.args.desk.now)
+    (λ s. g.D.Desk.shows c.args.desk.now s) c.args.far.now c.ship_parity.new.far batch
+    c.args.position c.args.shard
+    (past_end batch.frames c.args.position (sym (c.frame_at.ensures batch there) ∙ c.in-None.is))
+    (g.met.D.Desk.none _) (is batch there)) c.ship_parity.ensures.ok

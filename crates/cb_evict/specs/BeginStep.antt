@@ -1,0 +1,69 @@
+-- A begin as a step of the still desk: the reply, every word and the far state afterwards.
+use Rattle.std.specs.Prelude.{◌≡◌, ℕ, ◌+◌, ◌*◌, ◌≤◌, ◌++◌, List, None, Some, All, length, map, take}
+use Rattle.cb_ptr.specs.Steps.{Claims}
+use Rattle.cb_types.specs.declared.reply.Reply.{Reply}
+use Rattle.cb_types.specs.declared.reply.Reply.TheVariants as answer
+use Rattle.cb_world.specs.declared.leaving.Former.{Former}
+use Rattle.cb_world.specs.Choices.{room_count}
+use Rattle.cb_world.specs.FarState.{FarState}
+use Rattle.cb_world.specs.Leaving.{LeavingState}
+use Rattle.cb_world.specs.Memory.{window}
+use Rattle.cb_world.specs.Plain.{Words}
+use Rattle.cb_world.specs.RowWords.{row_of}
+use Rattle.cb_world.specs.SetWord.{IsSpanWord}
+use Rattle.cb_world.specs.World.{word_at}
+use Rattle.cb_evict.specs.Claims.{AreApart}
+use Rattle.cb_evict.specs.Claiming.{AreOf}
+use Rattle.cb_evict.specs.Looking.{IsIn}
+use Rattle.cb_evict.specs.EvictRule.{HasFewSpans, HasFewNodes}
+use Rattle.cb_evict.specs.EvictStep.{loose_frames}
+use Rattle.cb_evict.specs.BeginRule.{with_batch}
+
+-- the rows of some frames: the bytes of their memory words
+abbrev pub frame_rows : Words → List ℕ → List (List ℕ)
+frame_rows x frames = map (λ f. row_of (window x.memory (512 * f) 512)) frames
+
+-- The objects of the spans in these frames are claimed: each word is as it was, and Moving. Every
+-- other word is as it was, and so are all version words and memory words.
+pub record AreHeld (x y : Words) (far : FarState) (frames : List ℕ) : Type 0 where
+  pub claimed : (h : ℕ) → IsIn far.spans frames h → Claims (word_at x h) (word_at y h)
+  pub others : (h : ℕ) → ¬ (IsIn far.spans frames h) → word_at y h ≡ word_at x h
+  pub count : length y.words ≡ length x.words
+  pub settings : y.settings ≡ x.settings
+  pub versions : y.versions ≡ x.versions
+  pub memory : y.memory ≡ x.memory
+
+-- The spans in these frames are leaving from here: the words of their objects are noted, each once,
+-- and the parities are those of the memory of the frames. Nothing else of the far state changed, and
+-- of the words those of the objects alone.
+pub record IsBegunTo (x y : Words) (far new : FarState) (frames : List ℕ) : Type 0 where
+  pub words : List Former
+  pub parities : List (List ℕ)
+  pub of : AreOf (IsIn far.spans frames) words
+  pub each_once : AreApart words
+  pub noted : All (λ former. former.word ≡ word_at x former.handle) words
+  pub count : length parities ≡ x.settings.r
+  pub word : IsSpanWord x.settings.k x.settings.r (frame_rows x frames ++ parities)
+  pub state : new ≡ with_batch x.settings far frames words parities
+  pub held : AreHeld x y far frames
+
+-- enough spans are loose and enough nodes have room: the first k of the loose spans are leaving
+pub record IsBatchMade (x y : Words) (far new : FarState) (r : Reply) : Type 0 where
+  pub none : far.leaving ≡ None
+  pub enough : x.settings.k ≤ length (loose_frames x far)
+  pub room : x.settings.k + x.settings.r ≤ room_count far.nodes far.members
+  pub reply : r ≡ answer.Batch (record { n = far.counts.sets })
+  pub begun : IsBegunTo x y far new (take x.settings.k (loose_frames x far))
+
+-- A begin leads from the words x and a far state to the words y and another. It is refused where a
+-- batch is leaving, then where fewer than k spans are loose, then where fewer than k + r nodes have
+-- room; a refusal changes nothing. Else the first k loose spans are leaving.
+pub data IsBeginStep (x y : Words) (far new : FarState) (r : Reply) : Type 0 where
+  is_leaving : (batch : LeavingState) → far.leaving ≡ Some batch
+      → r ≡ answer.Leaving (record { n = batch.set }) → new ≡ far → y ≡ x
+      → IsBeginStep x y far new r
+  few_spans : far.leaving ≡ None → HasFewSpans x.settings far new r (loose_frames x far) → y ≡ x
+      → IsBeginStep x y far new r
+  few_nodes : far.leaving ≡ None → HasFewNodes x.settings far new r (loose_frames x far) → y ≡ x
+      → IsBeginStep x y far new r
+  begins : IsBatchMade x y far new r → IsBeginStep x y far new r

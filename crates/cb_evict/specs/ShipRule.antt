@@ -1,0 +1,109 @@
+-- The rule of a ship: which row of a leaving batch is put, and where.
+use Rattle.std.specs.Prelude.{◌≡◌, ◌⊎◌, ℕ, ◌+◌, ◌++◌, List, Option, None, Some, drop, slice_set, take}
+use Rattle.cb_gf256.specs.Rows.{row_at}
+use Rattle.cb_member.specs.declared.names.NodeId.{NodeId}
+use Rattle.cb_member.specs.declared.names.Shard.{Shard}
+use Rattle.cb_member.specs.Membership.{incarnation}
+use Rattle.cb_node.specs.NodesState.{with_row}
+use Rattle.cb_types.specs.declared.reply.Reply.{Reply}
+use Rattle.cb_types.specs.declared.reply.Reply.TheVariants as answer
+use Rattle.cb_world.specs.declared.event.Event.{Event}
+use Rattle.cb_world.specs.declared.shown.Shown.{Shown}
+use Rattle.cb_world.specs.Choices.{IsLeastNode, MayPut}
+use Rattle.cb_world.specs.FarSound.{batch_rows}
+use Rattle.cb_world.specs.FarState.{FarState}
+use Rattle.cb_world.specs.Leaving.{LeavingState}
+use Rattle.cb_world.specs.Placed.{leaving_frames}
+use Rattle.cb_world.specs.Reserved.{put_shards}
+use Rattle.cb_world.specs.Still.{IsStill}
+use Rattle.cb_evict.specs.Loading.{LiesInOne, OnlyLoads}
+use Rattle.cb_evict.specs.Waiting.{least_waiting}
+
+-- the shards put at all positions but one, lost ones included
+abbrev pub other_puts : List (Option Shard) → ℕ → List Shard
+other_puts shards p = put_shards (take p shards) ++ put_shards (drop (p + 1) shards)
+
+-- the shard for the row of a position: on the node with the fewest rows, and then the least number,
+-- of those with room on which no shard of another position stands; of its incarnation, and under the
+-- next key
+pub record IsShardFor (far : FarState) (batch : LeavingState) (p : ℕ) (shard : Shard) : Type 0 where
+  pub node : IsLeastNode far.nodes far.members (other_puts batch.shards p) shard.node
+  pub incarnation : shard.incarnation ≡ incarnation far.members shard.node
+  pub key : shard.key ≡ far.counts.keys
+
+-- the batch once its position has the shard
+abbrev pub with_shard_at : LeavingState → ℕ → Shard → LeavingState
+with_shard_at batch p shard = record batch { shards = slice_set batch.shards p (Some shard) }
+
+-- the far state once the position of the batch has the shard, whose key is drawn
+abbrev pub with_noted : FarState → LeavingState → ℕ → Shard → FarState
+with_noted far batch p shard = record far {
+  leaving = Some (with_shard_at batch p shard);
+  counts = record far.counts { keys = far.counts.keys + 1 };
+}
+
+-- and the row is put at the shard's node
+abbrev pub with_shipped : FarState → LeavingState → ℕ → Shard → List ℕ → FarState
+with_shipped far batch p shard row =
+    with_noted (record far { nodes = with_row far.nodes shard.node shard.key row }) batch p shard
+
+-- no batch is leaving
+pub record HasNoBatch (far new : FarState) (r : Reply) : Type 0 where
+  pub none : far.leaving ≡ None
+  pub reply : r ≡ answer.NoBatch
+  pub same : new ≡ far
+
+-- the row of each position is put, and its node has not crashed since
+pub record HasAllShipped (far new : FarState) (r : Reply) : Type 0 where
+  pub batch : LeavingState
+  pub there : far.leaving ≡ Some batch
+  pub none : least_waiting far.members batch.shards ≡ None
+  pub reply : r ≡ answer.AllShipped
+  pub same : new ≡ far
+
+-- no node can take the row of the least position that waits
+pub record HasNoNode (far new : FarState) (r : Reply) : Type 0 where
+  pub batch : LeavingState
+  pub there : far.leaving ≡ Some batch
+  pub position : ℕ
+  pub least : least_waiting far.members batch.shards ≡ Some position
+  pub none : (node : NodeId)
+      → ¬ (MayPut far.nodes far.members (other_puts batch.shards position) node)
+  pub reply : r ≡ answer.NoNode
+  pub same : new ≡ far
+
+-- the row of the least position that waits is put, which is that of its batch and its position; all
+-- else is as it was
+pub record HasShipped (far new : FarState) (r : Reply) (row : LeavingState → ℕ → List ℕ) : Type 0
+  where
+    pub batch : LeavingState
+    pub there : far.leaving ≡ Some batch
+    pub position : ℕ
+    pub shard : Shard
+    pub least : least_waiting far.members batch.shards ≡ Some position
+    pub named : IsShardFor far batch position shard
+    pub reply : r ≡ answer.Shipped position
+    pub state : new ≡ with_shipped far batch position shard (row batch position)
+
+-- the reply and the far state afterwards, where a position of a batch has this row
+abbrev pub Ships : FarState → FarState → Reply → (LeavingState → ℕ → List ℕ) → Type 0
+Ships far new r row =
+    HasNoBatch far new r ⊎ (HasAllShipped far new r ⊎ (HasNoNode far new r
+    ⊎ HasShipped far new r row))
+
+-- nothing is done but that words of frames that are leaving are read
+abbrev pub ReadsLeaving : FarState → List Event → Type 0
+ReadsLeaving far es = OnlyLoads (LiesInOne (leaving_frames far.leaving)) es
+
+-- so, whatever was read
+pub record ShipRule (far new : FarState) (r : Reply) (es : List Event) : Type 0 where
+  pub row : LeavingState → ℕ → List ℕ
+  pub ships : Ships far new r row
+  pub reads : ReadsLeaving far es
+
+-- no object and no word changes, and the row is that of the span as it stands in memory, or the
+-- parity
+pub record ShipEffect (far new : FarState) (r : Reply) (es : List Event) (s t : Shown) : Type 0
+  where
+    pub still : IsStill es s t
+    pub ships : Ships far new r (λ batch. row_at (batch_rows s batch))

@@ -1,0 +1,51 @@
+-- The parts of a ship.
+use Rattle.std.specs.Prelude.{◌≡◌, ℕ, List, None, Some}
+use Rattle.std.specs.List.{Contains}
+use Rattle.cb_gf256.specs.Rows.{row_at}
+use Rattle.cb_member.specs.declared.names.NodeId.{NodeId}
+use Rattle.cb_member.specs.declared.names.Shard.{Shard}
+use Rattle.cb_world.specs.declared.event.Event.{Event}
+use Rattle.cb_world.specs.declared.shown.Shown.{Shown}
+use Rattle.cb_world.specs.Choices.{MayPut}
+use Rattle.cb_world.specs.FarSound.{batch_rows}
+use Rattle.cb_world.specs.FarState.{FarState}
+use Rattle.cb_world.specs.Leaving.{LeavingState}
+use Rattle.cb_evict.specs.declared.next_put.NextPut.{NextPut}
+use Rattle.cb_evict.specs.declared.next_put.NextPut.TheVariants as next
+use Rattle.cb_evict.specs.Loading.{OwnsFrame}
+use Rattle.cb_evict.specs.ShipRule.{IsShardFor, ReadsLeaving, other_puts, with_shipped}
+use Rattle.cb_evict.specs.Waiting.{least_waiting}
+
+-- what is to be put next of a batch, and under which shard
+abbrev pub IsNextOf : FarState → LeavingState → NextPut → Type 0
+IsNextOf far batch next.NoBatch = ⊥
+IsNextOf far batch next.AllShipped = least_waiting far.members batch.shards ≡ None
+IsNextOf far batch next.NoNode = (p : ℕ) × (least_waiting far.members batch.shards ≡ Some p)
+    × ((node : NodeId) → ¬ (MayPut far.nodes far.members (other_puts batch.shards p) node))
+IsNextOf far batch (next.Put p shard) = (least_waiting far.members batch.shards ≡ Some p)
+    × IsShardFor far batch p shard
+
+-- so, where one is leaving
+abbrev pub IsNext : FarState → NextPut → Type 0
+IsNext far next.NoBatch = far.leaving ≡ None
+IsNext far x = (batch : LeavingState) × (far.leaving ≡ Some batch) × IsNextOf far batch x
+
+-- the caller owns all words of the frames of the batch
+abbrev pub OwnsBatch : Shown → LeavingState → Type 0
+OwnsBatch s batch = (f : ℕ) → Contains batch.frames f → OwnsFrame s f
+
+-- the row of a position of the batch is put under the shard
+pub record PutsRow (runs : List Event → Type 0) (shows : Shown → Type 0) (far new : FarState)
+    (batch : LeavingState) (p : ℕ) (shard : Shard) : Type 0 where
+  pub events : List Event
+  pub ran : runs events
+  pub reads : ReadsLeaving far events
+  pub row : List ℕ
+  pub state : new ≡ with_shipped far batch p shard row
+  pub of_batch : (s : Shown) → shows s → OwnsBatch s batch → row ≡ row_at (batch_rows s batch) p
+
+-- nothing is put
+pub record PutsNothing (runs : List Event → Type 0) (far : FarState) : Type 0 where
+  pub events : List Event
+  pub ran : runs events
+  pub reads : ReadsLeaving far events

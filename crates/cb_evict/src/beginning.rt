@@ -1,0 +1,265 @@
+ghost use Rattle.std.specs.Prelude.{◌≡◌, ℕ, ◌^◌, ◌+◌, ◌-◌, ◌<◌, ◌≤◌, ◌≢◌, All, IfOk, OnErr, OnOk, List, None, Some, length, replicate};
+ghost use Rattle.std.specs.List.{Contains, AllPairs};
+ghost use Rattle.std.specs.Option.{option_map};
+ghost use Rattle.cb_types.specs.Config.{IsAccepted};
+ghost use Rattle.cb_types.specs.declared.handle.SetId.{SetId};
+ghost use Rattle.cb_gf256.specs.InRange.{IsInRange};
+ghost use Rattle.cb_gf256.specs.Rows.{HaveLength};
+ghost use Rattle.cb_span.specs.Contents.{Contents};
+ghost use Rattle.cb_types.specs.declared.reply.Reply.TheVariants as answer;
+ghost use Rattle.cb_world.specs.declared.event.Event.{Event};
+ghost use Rattle.cb_world.specs.declared.shown.Shown.{Shown};
+ghost use Rattle.cb_world.specs.World.{IsConfigured};
+ghost use Rattle.cb_world.specs.Still.{IsStill};
+ghost use Rattle.cb_world.specs.Choices.{room_count};
+ghost use Rattle.cb_world.specs.FarState.{span_in};
+ghost use Rattle.cb_world.specs.Sound.{Sound};
+ghost use Rattle.cb_world.specs.Performs.{Performs};
+ghost use Rattle.cb_evict.specs.Candidates.{candidates};
+ghost use Rattle.cb_evict.specs.BeginRule.{BeginRule, blank_shard, blank_shards};
+ghost use Rattle.cb_evict.specs.BeginEffect.{BeginEffect};
+ghost use Rattle.cb_evict.specs.Beginning.{AreParities, BeginsAfter, BeginsClaimed, with_reserved};
+ghost use Rattle.cb_evict.specs.Evicting.{AreTaken, IsReady, LeavesClaimed, TouchesSpans};
+
+use crate::claiming::give_back;
+use crate::finding::{Found, find_spans};
+use crate::loading::load_frames;
+use crate::storing::{make_parities, next_set};
+use crate::taking::{Taken, take_spans};
+use cb_member::{NodeId, Shard};
+use cb_types::{Config, NoMemory, Reply, Rows, SetId};
+use cb_world::{Desk, Far, Former, KeptSet, Leaving};
+use std::alloc::Global;
+
+/// The shard of a position whose row was not put yet.
+const BLANK: Shard = Shard {
+    node: NodeId { n: 0 },
+    incarnation: 0,
+    key: 0,
+};
+
+/// Begins to evict k spans: they are leaving from here, as one batch, until a commit or an abort. Of the
+/// spans none of whose objects is pinned or claimed, the first k are taken, the cold ones before the hot
+/// ones and then by frame number. All their objects are claimed and stay in local memory, the parities of
+/// their frames are made, and the number of the set that they will be is drawn; the memory that its
+/// commit needs is taken. No row is put.
+///
+/// Answers Leaving where a batch is leaving already, and then looks at nothing; then NoSpans where fewer
+/// than k spans are loose, and then NoNodes where fewer than k + r nodes have room. Each object of a span
+/// that may leave is looked at once; nothing walks over all sets or homes. Where there is no memory,
+/// nothing has changed.
+pub fn begin<D: Desk>(desk: &mut D, far: &mut Far) -> Result<Reply, NoMemory>
+    requires config { IsAccepted (D.settings desk.old) }
+    requires configured { IsConfigured (D.settings desk.old) far.old }
+    requires counts { far.old.counts.sets < 2 ^ 62 }
+    requires sound { (s : Shown) × D.shows desk.old s × Sound s far.old }
+    ensures begun { IfOk result (λ reply. Performs (λ es. D.run desk.old es desk.new)
+        (λ s. D.shows desk.old s × Sound s far.old)
+        (BeginRule (D.settings desk.old) far.old far.new reply)
+        (λ t. Sound t far.new)
+        (BeginEffect far.old far.new reply)) }
+    ensures error { OnErr result (Performs (λ es. D.run desk.old es desk.new)
+        (λ s. D.shows desk.old s × Sound s far.old)
+        (TouchesSpans far.old)
+        (λ t. Sound t far.new)
+        IsStill) }
+    ensures unchanged { OnErr result (far.new ≡ far.old) }
+{
+    match leaving_set(&far.leaving) {
+        Some(set) => Ok(Reply::Leaving { set }),
+        None => begin_new(desk, far),
+    }
+}
+
+/// The number of the set that the batch which is leaving will be, where one is.
+fn leaving_set(leaving: &Option<Leaving>) -> Option<SetId>
+    ensures { result ≡ option_map (λ batch. record { n = batch.set }) leaving.now }
+{
+    match leaving {
+        Some(batch) => Some(SetId { n: batch.set }),
+        None => None,
+    }
+}
+
+/// Begins to evict k spans where no batch is leaving.
+fn begin_new<D: Desk>(desk: &mut D, far: &mut Far) -> Result<Reply, NoMemory>
+    requires config { IsAccepted (D.settings desk.old) }
+    requires configured { IsConfigured (D.settings desk.old) far.old }
+    requires counts { far.old.counts.sets < 2 ^ 62 }
+    requires none { far.old.leaving ≡ None }
+    requires sound { (s : Shown) × D.shows desk.old s × Sound s far.old }
+    ensures begun { IfOk result (λ reply. Performs (λ es. D.run desk.old es desk.new)
+        (λ s. D.shows desk.old s × Sound s far.old)
+        (BeginRule (D.settings desk.old) far.old far.new reply)
+        (λ t. Sound t far.new)
+        (BeginEffect far.old far.new reply)) }
+    ensures error { OnErr result (Performs (λ es. D.run desk.old es desk.new)
+        (λ s. D.shows desk.old s × Sound s far.old)
+        (TouchesSpans far.old)
+        (λ t. Sound t far.new)
+        IsStill) }
+    ensures unchanged { OnErr result (far.new ≡ far.old) }
+{
+    let config = desk.config();
+    let found = find_spans(desk, far, config)?;
+    match found {
+        Found::Refused { reply } => Ok(reply),
+        Found::Loose { frames } => begin_loose(desk, far, config, &frames),
+    }
+}
+
+/// Begins to evict the first k of these spans whose objects can all be claimed.
+fn begin_loose<D: Desk>(
+    desk: &mut D,
+    far: &mut Far,
+    config: Config,
+    loose: &[u32],
+) -> Result<Reply, NoMemory>
+    requires config { (IsAccepted config) × (config ≡ D.settings desk.old) }
+    requires configured { IsConfigured config far.old }
+    requires counts { far.old.counts.sets < 2 ^ 62 }
+    requires none { far.old.leaving ≡ None }
+    requires sound { (s : Shown) × D.shows desk.old s × Sound s far.old }
+    requires among { All (Contains (candidates far.old)) loose.now }
+    requires apart { AllPairs (λ f g. f ≢ g) loose.now }
+    requires enough { config.k ≤ length loose.now }
+    requires room { config.k + config.r ≤ room_count far.old.nodes far.old.members }
+    ensures begun { IfOk result (λ reply. Performs (λ es. D.run desk.old es desk.new)
+        (λ s. D.shows desk.old s × Sound s far.old)
+        (BeginsAfter config far.old far.new reply loose.now)
+        (λ t. Sound t far.new)
+        (BeginEffect far.old far.new reply)) }
+    ensures error { OnErr result (Performs (λ es. D.run desk.old es desk.new)
+        (λ s. D.shows desk.old s × Sound s far.old)
+        (TouchesSpans far.old)
+        (λ t. Sound t far.new)
+        IsStill) }
+    ensures unchanged { OnErr result (far.new ≡ far.old) }
+{
+    let mut rows = match Rows::new(far.alloc, config.k, 4096) {
+        Ok(rows) => rows,
+        Err(_) => return Err(NoMemory),
+    };
+    let positions = no_shards(far.alloc, config.k + config.r)?;
+    let blank = blank_shards(far.alloc, config.k + config.r)?;
+    let taken = take_spans(desk, far, config, loose)?;
+    match taken {
+        Taken::TooFew { spans } => Ok(Reply::NoSpans { loose: spans }),
+        Taken::Enough { frames, formers } => {
+            begin_claimed(desk, far, &blank, positions, frames, formers, &mut rows)
+        }
+    }
+}
+
+/// A place for the shard of each of `n` positions, none of which has one yet.
+fn no_shards(alloc: Global, n: u32) -> Result<Vec<Option<Shard>>, NoMemory>
+    ensures { IfOk result (λ shards. shards.items ≡ replicate n None) }
+{
+    Ok(vec![in alloc; None; n as usize]?)
+}
+
+/// `n` shards of positions whose rows were not put yet.
+fn blank_shards(alloc: Global, n: u32) -> Result<Vec<Shard>, NoMemory>
+    ensures { IfOk result (λ shards. shards.items ≡ blank_shards n) }
+{
+    Ok(vec![in alloc; BLANK; n as usize]?)
+}
+
+/// Lets spans whose objects are claimed leave from here, and gives them back where there is no memory.
+/// The rows have room for the spans; the shards are as many as a set has.
+fn begin_claimed<D: Desk>(
+    desk: &mut D,
+    far: &mut Far,
+    blank: &[Shard],
+    shards: Vec<Option<Shard>>,
+    frames: Vec<u32>,
+    formers: Vec<Former>,
+    rows: &mut Rows,
+) -> Result<Reply, NoMemory>
+    requires config { IsAccepted (D.settings desk.old) }
+    requires configured { IsConfigured (D.settings desk.old) far.old }
+    requires counts { far.old.counts.sets < 2 ^ 62 }
+    requires none { far.old.leaving ≡ None }
+    requires taken { AreTaken (D.settings desk.old) far.old frames.items formers.items }
+    requires blank { blank.now ≡ blank_shards ((D.settings desk.old).k + (D.settings desk.old).r) }
+    requires shards { shards.items ≡ replicate ((D.settings desk.old).k + (D.settings desk.old).r) None }
+    requires rows { (length rows.old ≡ length frames.items) × HaveLength 4096 rows.old }
+    requires ready { (before : List Event) × (s : Shown)
+        × IsReady (λ t. D.shows desk.old t) far.old formers.items before s }
+    ensures reply { IfOk result (λ reply. reply ≡ answer.Batch (record { n = far.old.counts.sets })) }
+    ensures begun { OnOk result (BeginsClaimed (λ es. D.run desk.old es desk.new)
+        (λ s. D.shows desk.old s) (D.settings desk.old) far.old far.new frames.items formers.items) }
+    ensures error { OnErr result (LeavesClaimed (λ es. D.run desk.old es desk.new)
+        (λ s. D.shows desk.old s) far.old frames.items formers.items) }
+    ensures unchanged { OnErr result (far.new ≡ far.old) }
+{
+    load_frames(desk, &frames, rows);
+    match reserve(far, blank, &frames, rows) {
+        Ok(parities) => {
+            let set = note_batch(far, frames, formers, parities, shards);
+            Ok(Reply::Batch { set })
+        }
+        Err(_) => {
+            give_back(desk, &formers);
+            Err(NoMemory)
+        }
+    }
+}
+
+/// Keeps the set that the spans in these frames will be under the next set number, with as many shards
+/// as there are blank ones. Answers the parities of their rows. Where there is no memory, nothing has
+/// changed.
+fn reserve(far: &mut Far, blank: &[Shard], frames: &[u32], rows: &Rows) -> Result<Rows, NoMemory>
+    requires there { All (λ f. (span : Contents) × (span_in far.old.spans f ≡ Some span)) frames.now }
+    requires data_rows { length rows.now ≡ length frames.now }
+    requires range { IsInRange (length frames.now) (length blank.now - length frames.now) }
+    ensures err { OnErr result (far.new ≡ far.old) }
+    ensures state { OnOk result (far.new ≡ with_reserved far.old blank.now frames.now) }
+    ensures parities { IfOk result (λ parities.
+        AreParities (length frames.now) (length blank.now) rows.now parities) }
+{
+    let r = blank.len() - frames.len();
+    let parities = make_parities(far.alloc, rows, r as u32)?;
+    let set = next_set(far, blank, frames)?;
+    far.sets.put(
+        far.counts.sets,
+        KeptSet {
+            set,
+            committed: false,
+        },
+    )?;
+    Ok(parities)
+}
+
+/// Notes the batch that is leaving from here, under the next set number, which is drawn.
+fn note_batch(
+    far: &mut Far,
+    frames: Vec<u32>,
+    words: Vec<Former>,
+    parities: Rows,
+    shards: Vec<Option<Shard>>,
+) -> SetId
+    requires counts { far.old.counts.sets < 2 ^ 62 }
+    ensures set { result ≡ record { n = far.old.counts.sets } }
+    ensures state { far.new ≡ record far.old {
+      leaving = Some (record {
+        set = far.old.counts.sets;
+        frames = frames.items;
+        words = words.items;
+        parities = parities;
+        shards = shards.items;
+      });
+      counts = record far.old.counts { sets = far.old.counts.sets + 1 };
+    } }
+{
+    let set = far.counts.sets;
+    far.counts.sets += 1;
+    far.leaving = Some(Leaving {
+        set,
+        frames,
+        words,
+        parities,
+        shards,
+    });
+    SetId { n: set }
+}

@@ -1,0 +1,195 @@
+ghost use Rattle.std.specs.Prelude.{◌≡◌, ℕ, ◌+◌, ◌-◌, ◌^◌, ◌<◌, ◌≤◌, false, IfOk, OnErr, OnOk, List, None, Some, length, slice_get};
+ghost use Rattle.cb_gf256.specs.Rows.{row_at};
+ghost use Rattle.cb_types.specs.Config.{IsAccepted};
+ghost use Rattle.cb_node.specs.NodesState.{has, with_row};
+ghost use Rattle.cb_world.specs.declared.event.Event.{Event};
+ghost use Rattle.cb_world.specs.declared.shown.Shown.{Shown};
+ghost use Rattle.cb_world.specs.FarState.{FarState};
+ghost use Rattle.cb_world.specs.Leaving.{LeavingState};
+ghost use Rattle.cb_world.specs.World.{IsConfigured};
+ghost use Rattle.cb_world.specs.Still.{IsStill};
+ghost use Rattle.cb_world.specs.Sound.{Sound};
+ghost use Rattle.cb_world.specs.Performs.{Performs};
+ghost use Rattle.cb_evict.specs.ShipRule.{ReadsLeaving, ShipEffect, ShipRule, with_noted, with_shard_at};
+ghost use Rattle.cb_evict.specs.declared.next_put.NextPut.TheVariants as next;
+ghost use Rattle.cb_evict.specs.Shipping.{IsNext, PutsNothing, PutsRow};
+
+use crate::loading::load_frame;
+use crate::next_put::{NextPut, next_put};
+use crate::storing::put_row;
+use cb_member::Shard;
+use cb_node::Nodes;
+use cb_types::{NoMemory, Reply};
+use cb_world::{Desk, Far, Leaving};
+
+/// How many bytes a row has.
+const ROW_BYTES: usize = 4096;
+
+/// Gives the position of the batch its shard.
+fn set_shard(batch: &mut Leaving, position: u32, shard: Shard)
+    requires { position < length batch.old.shards }
+    ensures { batch.new ≡ with_shard_at batch.old position shard }
+{
+    batch.shards[position as usize] = Some(shard);
+}
+
+/// Gives the position of the batch that is leaving its shard, whose key is drawn. Takes no memory.
+fn note_shard(far: &mut Far, position: u32, shard: Shard)
+    requires there { (batch : LeavingState) × (far.old.leaving ≡ Some batch)
+        × (position < length batch.shards) }
+    requires keys { far.old.counts.keys < 2 ^ 62 }
+    ensures { (batch : LeavingState) → far.old.leaving ≡ Some batch
+        → far.new ≡ with_noted far.old batch position shard }
+{
+    far.counts.keys += 1;
+    if let Some(batch) = &mut far.leaving {
+        set_shard(batch, position, shard);
+    }
+}
+
+/// The frame of a position of the batch that is leaving, and None where it is a parity's.
+fn frame_at(far: &Far, position: u32) -> Option<u32>
+    ensures { (batch : LeavingState) → far.now.leaving ≡ Some batch
+        → result ≡ slice_get batch.frames position }
+{
+    match &far.leaving {
+        Some(batch) => batch.frames.get(position as usize).copied(),
+        None => None,
+    }
+}
+
+/// Puts the parity of a position of a batch under the shard.
+fn put_parity(
+    nodes: &mut Nodes,
+    batch: &Leaving,
+    position: u32,
+    shard: Shard,
+) -> Result<(), NoMemory>
+    requires parity { (length batch.now.frames ≤ position)
+        × (position < length batch.now.frames + length batch.now.parities) }
+    requires few { length batch.now.frames < 2 ^ 32 }
+    requires within { shard.node.n < length nodes.old.nodes }
+    requires fresh { has nodes.old shard.node shard.key ≡ false }
+    ensures ok { OnOk result (nodes.new ≡ with_row nodes.old shard.node shard.key
+        (row_at batch.now.parities (position - length batch.now.frames))) }
+    ensures err { OnErr result (nodes.new ≡ nodes.old) }
+{
+    let k = batch.frames.len() as u32;
+    put_row(nodes, shard, batch.parities.row(position - k))
+}
+
+/// Puts the parity of a position of the batch that is leaving under the shard, which the position has
+/// then.
+fn ship_parity(far: &mut Far, position: u32, shard: Shard) -> Result<(), NoMemory>
+    requires there { (batch : LeavingState) × (far.old.leaving ≡ Some batch)
+        × (length batch.frames ≤ position)
+        × (position < length batch.frames + length batch.parities)
+        × (length batch.shards ≡ length batch.frames + length batch.parities)
+        × (length batch.shards ≤ 20) }
+    requires keys { far.old.counts.keys < 2 ^ 62 }
+    requires within { shard.node.n < length far.old.nodes.nodes }
+    requires fresh { has far.old.nodes shard.node shard.key ≡ false }
+    ensures ok { OnOk result ((batch : LeavingState) → far.old.leaving ≡ Some batch
+        → far.new ≡ with_noted (record far.old {
+          nodes = with_row far.old.nodes shard.node shard.key
+              (row_at batch.parities (position - length batch.frames));
+        }) batch position shard) }
+    ensures err { OnErr result (far.new ≡ far.old) }
+{
+    let batch = far.leaving.as_ref().unwrap();
+    put_parity(&mut far.nodes, batch, position, shard)?;
+    note_shard(far, position, shard);
+    Ok(())
+}
+
+/// Reads the words of the frame at a position of the batch that is leaving into a row, and puts that
+/// under the shard, which the position has then. The row is allocated before all else.
+fn ship_data<D: Desk>(
+    desk: &mut D,
+    far: &mut Far,
+    frame: u32,
+    position: u32,
+    shard: Shard,
+) -> Result<(), NoMemory>
+    requires config { IsAccepted (D.settings desk.old) }
+    requires frame { frame < (D.settings desk.old).frames }
+    requires there { (batch : LeavingState) × (far.old.leaving ≡ Some batch)
+        × (slice_get batch.frames position ≡ Some frame) × (position < length batch.shards) }
+    requires keys { far.old.counts.keys < 2 ^ 62 }
+    requires within { shard.node.n < length far.old.nodes.nodes }
+    requires fresh { has far.old.nodes shard.node shard.key ≡ false }
+    ensures ok { OnOk result ((batch : LeavingState) → far.old.leaving ≡ Some batch
+        → PutsRow (λ es. D.run desk.old es desk.new) (λ s. D.shows desk.old s)
+        far.old far.new batch position shard) }
+    ensures err { OnErr result (PutsNothing (λ es. D.run desk.old es desk.new) far.old) }
+    ensures unchanged { OnErr result (far.new ≡ far.old) }
+{
+    let mut row = vec![in far.alloc; 0; ROW_BYTES]?;
+    load_frame(desk, frame, &mut row);
+    put_row(&mut far.nodes, shard, &row)?;
+    note_shard(far, position, shard);
+    Ok(())
+}
+
+/// Puts the row of a position of the batch that is leaving under the shard, which the position has
+/// then. Where there is no memory, nothing has changed.
+fn ship_row<D: Desk>(
+    desk: &mut D,
+    far: &mut Far,
+    position: u32,
+    shard: Shard,
+) -> Result<(), NoMemory>
+    requires config { IsAccepted (D.settings desk.old) }
+    requires configured { IsConfigured (D.settings desk.old) far.old }
+    requires keys { far.old.counts.keys < 2 ^ 62 }
+    requires sound { (s : Shown) × Sound s far.old }
+    requires next { IsNext far.old (next.Put position shard) }
+    ensures ok { OnOk result ((batch : LeavingState) → far.old.leaving ≡ Some batch
+        → PutsRow (λ es. D.run desk.old es desk.new) (λ s. D.shows desk.old s)
+        far.old far.new batch position shard) }
+    ensures err { OnErr result (PutsNothing (λ es. D.run desk.old es desk.new) far.old) }
+    ensures unchanged { OnErr result (far.new ≡ far.old) }
+{
+    match frame_at(far, position) {
+        Some(frame) => ship_data(desk, far, frame, position, shard),
+        None => ship_parity(far, position, shard),
+    }
+}
+
+/// Puts one row of the batch that is leaving: that of the least position whose row was not put yet,
+/// or was put and is lost. It goes to the node with the fewest rows, and then the least number, of
+/// those that are up, have room and hold no row of another position, lost ones included; the position's
+/// own old node may be taken again. A data row is read from memory, whose words no one else changes
+/// while the batch leaves; a parity is the batch's.
+///
+/// Answers NoBatch exactly where no batch is leaving, AllShipped exactly where each position's row is
+/// put on a node that has not crashed since, NoNode where no node can take the row, and else Shipped.
+/// No object is looked at. Takes the memory for a row, before all else; where there is none, nothing
+/// has changed.
+pub fn ship<D: Desk>(desk: &mut D, far: &mut Far) -> Result<Reply, NoMemory>
+    requires config { IsAccepted (D.settings desk.old) }
+    requires configured { IsConfigured (D.settings desk.old) far.old }
+    requires keys { far.old.counts.keys < 2 ^ 62 }
+    requires sound { (s : Shown) × D.shows desk.old s × Sound s far.old }
+    ensures ship { IfOk result (λ reply. Performs (λ es. D.run desk.old es desk.new)
+        (λ s. D.shows desk.old s × Sound s far.old)
+        (ShipRule far.old far.new reply)
+        (λ t. Sound t far.new)
+        (ShipEffect far.old far.new reply)) }
+    ensures error { OnErr result (Performs (λ es. D.run desk.old es desk.new)
+        (λ s. D.shows desk.old s × Sound s far.old)
+        (ReadsLeaving far.old)
+        (λ t. Sound t far.new)
+        IsStill) }
+    ensures unchanged { OnErr result (far.new ≡ far.old) }
+{
+    match next_put(far)? {
+        NextPut::NoBatch => Ok(Reply::NoBatch),
+        NextPut::AllShipped => Ok(Reply::AllShipped),
+        NextPut::NoNode => Ok(Reply::NoNode),
+        NextPut::Put { position, shard } => {
+            ship_row(desk, far, position, shard)?;
+            Ok(Reply::Shipped { position })
+        }
+    }
+}
