@@ -1,16 +1,13 @@
 -- The sound world once its leaving batch is given up.
-use Rattle.std.proofs.Common.{◌≡◌, ◌⊎◌, ℕ, ◌<◌, Bool, List, [], length, get_or, Option, Some, None, sym, refl, ap, ◌∙◌, subst, arith, inl, inr}
-use Rattle.std.proofs.lemmas.List.Elements.{All-contains}
+use Rattle.std.proofs.Common.{◌≡◌, ◌⊎◌, ℕ, ◌<◌, List, [], length, get_or, Option, Some, None, sym, refl, ap, ◌∙◌, subst, inl, inr}
 use Rattle.cb_ptr.specs.Word.{len_of, place_of}
-use Rattle.cb_set.specs.SetState.{SetState}
 use Rattle.cb_types.specs.declared.reply.Reply.TheVariants as answer
 use Rattle.cb_world.specs.declared.event.Event.{Event}
 use Rattle.cb_world.specs.declared.homes.Home.{Home}
-use Rattle.cb_world.specs.declared.leaving.Former.{Former}
 use Rattle.cb_world.specs.declared.object.Object.{Object}
 use Rattle.cb_world.specs.declared.object.Object.TheVariants as is
 use Rattle.cb_world.specs.declared.shown.Shown.{Shown}
-use Rattle.cb_world.specs.Shown.{object_at, version_at}
+use Rattle.cb_world.specs.Shown.{object_at}
 use Rattle.cb_world.specs.FarSound.{AwaySound, FarSound}
 use Rattle.cb_world.specs.FarState.{FarState}
 use Rattle.cb_world.specs.Homes.{home_at}
@@ -22,16 +19,14 @@ use Rattle.cb_world.specs.Played.{played}
 use Rattle.cb_world.specs.Still.{IsStill}
 use Rattle.cb_world.specs.Now.{held, broken_set, broken_home, is_gone, now_as, now}
 use Rattle.cb_world.specs.Reserved.{without_batch}
-use Rattle.cb_world.specs.Sets.{set_in}
 use Rattle.cb_world.specs.SetAdded.{is_far}
 use Rattle.cb_world.specs.Sound.{Sound}
 use Rattle.cb_world.proofs.Added.{was_far}
 use Rattle.cb_world.proofs.BatchGone.{batch_given_up_whole, gone_sets}
 use Rattle.cb_world.proofs.NowKept.{now_kept}
 use Rattle.cb_evict.specs.AbortRule.{AbortRule, AbortEffect, IsAborted, IsOfBatch}
-use Rattle.cb_evict.specs.Claims.{IsNone}
 use Rattle.cb_evict.specs.Claiming.{IsOne}
-use Rattle.cb_evict.specs.Restoring.{IsHereAt, AreRestored, IsRestoring, Restores}
+use Rattle.cb_evict.specs.Restoring.{AreRestored, IsRestoring, Restores}
 use Rattle.cb_evict.proofs.Claims.{among, no_former}
 use Rattle.cb_evict.proofs.Events.{touches_more}
 use Rattle.cb_evict.proofs.Noted.{claimed_all, none_claimed, same_batch, stamp_of}

@@ -1,11 +1,11 @@
 -- The sound world once its leaving batch is committed.
-use Rattle.std.proofs.Common.{◌≡◌, ◌≢◌, ◌⊎◌, ℕ, ◌+◌, ◌-◌, ◌*◌, ◌^◌, ◌<◌, ◌≤◌, true, false, Bool, List, [], ◌++◌, length, get_or, All, Option, Some, None, map as mapped, sym, refl, ap, ◌∙◌, subst, arith, inl, inr}
+use Rattle.std.proofs.Common.{◌≡◌, ◌≢◌, ◌⊎◌, ℕ, ◌+◌, ◌*◌, ◌^◌, ◌<◌, ◌≤◌, false, List, [], length, get_or, All, Option, Some, None, map as mapped, sym, refl, ap, ◌∙◌, subst, arith, inl, inr}
 use Rattle.std.specs.List.{Contains, slice_get}
 use Rattle.std.specs.FinMap as map
-use Rattle.std.proofs.lemmas.Bool.{cases_order, cases_eq}
+use Rattle.std.proofs.lemmas.Bool.{cases_order}
 use Rattle.std.proofs.lemmas.List.{get_or_default, get_or-map, get_or_append_left, length-map}
 use Rattle.std.proofs.lemmas.List.Elements.{All-contains}
-use Rattle.std.proofs.lemmas.Option.{slice_get-get_or, slice_get_within}
+use Rattle.std.proofs.lemmas.Option.{slice_get-get_or}
 use Rattle.cb_class.specs.Class.{IsClassOf, words_of}
 use Rattle.cb_gf256.specs.InRange.{IsInRange}
 use Rattle.cb_gf256.specs.Rows.{row_at}
@@ -19,26 +19,25 @@ use Rattle.cb_set.specs.SetState.{SetState, PositionState, position_of, parities
 use Rattle.cb_span.specs.Contents.{Contents, handle_at}
 use Rattle.cb_span.specs.Places.{slot_place}
 use Rattle.cb_world.specs.declared.homes.Home.{Home}
-use Rattle.cb_world.specs.declared.leaving.Former.{Former}
 use Rattle.cb_world.specs.declared.object.Object.{Object}
 use Rattle.cb_world.specs.declared.object.Object.TheVariants as is
 use Rattle.cb_world.specs.declared.shown.Shown.{Shown}
 use Rattle.cb_world.specs.Shown.{object_at, version_at, never}
-use Rattle.cb_world.specs.FarSound.{HoldsObject, IsShardOf, Owner, of_joining, of_leaving, of_set, batch_rows, AwaySound, IsBatch}
-use Rattle.cb_world.specs.FarState.{FarState, span_in, resident, handle_in}
+use Rattle.cb_world.specs.FarSound.{HoldsObject, IsShardOf, Owner, of_joining, of_leaving, of_set, batch_rows, IsBatch}
+use Rattle.cb_world.specs.FarState.{FarState, span_in, resident}
 use Rattle.cb_world.specs.Homes.{home_at}
 use Rattle.cb_world.specs.Leaving.{LeavingState}
-use Rattle.cb_world.specs.LocalSound.{HasSlot, LocalSound, LiesAt, IsStamped}
-use Rattle.cb_world.specs.Memory.{window, words_for, bytes_in}
+use Rattle.cb_world.specs.LocalSound.{LocalSound, LiesAt, IsStamped}
+use Rattle.cb_world.specs.Memory.{window, words_for}
 use Rattle.cb_world.specs.Now.{broken_set, broken_home, is_gone, now_as, now}
-use Rattle.cb_world.specs.Reserved.{IsReserved, put_shards, set_from, table_of, without_batch}
+use Rattle.cb_world.specs.Reserved.{put_shards, set_from, table_of, without_batch}
 use Rattle.cb_world.specs.RowWords.{words_in, row_of}
 use Rattle.cb_world.specs.SetAdded.{is_far, IsMoved, IsSetAdded}
-use Rattle.cb_world.specs.SetWord.{AreCurrent, IsSpanWord}
-use Rattle.cb_world.specs.Sets.{Kept, SetMap, if_committed}
-use Rattle.cb_world.specs.Sound.{AreNoted, IsNoted, Leaves, Sound}
+use Rattle.cb_world.specs.SetWord.{IsSpanWord}
+use Rattle.cb_world.specs.Sets.{Kept, if_committed}
+use Rattle.cb_world.specs.Sound.{AreNoted, IsNoted, Sound}
 use Rattle.cb_world.proofs.Apart.{slot_inside, some_same}
-use Rattle.cb_world.proofs.BatchGone.{put_at, put_from, gone_sets, batch_given_up_whole}
+use Rattle.cb_world.proofs.BatchGone.{put_at, gone_sets, batch_given_up_whole}
 use Rattle.cb_world.proofs.Freed.{one_slot}
 use Rattle.cb_world.proofs.Kept.{frame_in_range}
 use Rattle.cb_world.proofs.NowKept.{put_away_now, now_kept}
@@ -46,9 +45,8 @@ use Rattle.cb_world.proofs.Reserving.{reserved_uncommitted}
 use Rattle.cb_world.proofs.SetsLeft.{drop_count}
 use Rattle.cb_world.proofs.Storing.{drop_elsewhere}
 use Rattle.cb_world.proofs.Whole.{added_whole}
-use Rattle.cb_evict.specs.Candidates.{Names, AreUnique}
+use Rattle.cb_evict.specs.Candidates.{AreUnique}
 use Rattle.cb_evict.specs.Claims.{IsNone}
-use Rattle.cb_evict.specs.Claiming.{IsOne}
 use Rattle.cb_evict.specs.Closing.{HaveHomes, with_homes}
 use Rattle.cb_evict.specs.CommitRule.{with_batch}
 use Rattle.cb_evict.specs.Committing.{AreAllPut}

@@ -2,7 +2,7 @@
 use Rattle.std.proofs.Common.{◌≡◌, ◌≢◌, ◌⊎◌, ◌↔◌, ℕ, zero, suc, Bool, false, ◌+◌, ◌^◌, ◌<◌, ◌≤◌, List, [], ◌∷◌, ◌++◌, length, take, get_or, set, All, sym, refl, ap, ◌∙◌, subst, arith, inl, inr, length-set, get_or-set_other, get_or-set_same}
 use native.Mathlib.Decide.{ℕ_discrete}
 use Rattle.std.proofs.lemmas.Bool.{cases_eq, cases_lt}
-use Rattle.std.proofs.lemmas.List.{set-get_or, take_more, length-take-le, get_or-take, get_or_default, length-append, get_or_append_left, get_or-append-add}
+use Rattle.std.proofs.lemmas.List.{length-take-le, get_or-take, get_or_default, length-append, get_or_append_left, get_or-append-add}
 use Rattle.std.proofs.lemmas.List.Elements.{All-nil, All-append, All-cons, All-head}
 use Rattle.cb_ptr.specs.Word.{len_of, place_of, hot_of}
 use Rattle.cb_span.specs.Places.{slot_place}
@@ -25,9 +25,9 @@ use Rattle.cb_world.proofs.AfterLook.{taken_before}
 use Rattle.cb_world.proofs.Kept.{lies_within, claimed_from, claim_played}
 use Rattle.cb_world.proofs.Tracing.{found_more, found_last, taken_more, taken_after_looks, played_append}
 use Rattle.cb_world.proofs.Windows.{window_same, put_else, length_put}
-use Rattle.cb_world.proofs.Claimed.{is_claimed_at, avoids, may_put_back, settled_here, back_written}
+use Rattle.cb_world.proofs.Claimed.{is_claimed_at, avoids}
 use Rattle.cb_evict.specs.Events.{OnlyLooks, IsSteady}
-use Rattle.cb_evict.specs.Claims.{Keeps, IsHeldAt, IsClaimedBy, WasHere, IsNone, AreClaimed, AreBack, AreApart}
+use Rattle.cb_evict.specs.Claims.{Keeps, IsClaimedBy, WasHere, IsNone, AreClaimed, AreBack, AreApart}
 use Rattle.cb_evict.proofs.Events.{found_after, looks_change, looks_steady, steady_append}
 
 -- both lie at one place, with one length
@@ -465,17 +465,6 @@ among (f ∷ fs) h = elim (cases_eq f.handle h) [
   ]
 ]
 
-pub back_none : (s : Shown) → AreBack s s []
-back_none s = record {
-  back = All-nil (WasHere s);
-  others = λ h none. refl;
-  objects = refl;
-  hots = refl;
-  versions = refl;
-  memory = refl;
-  first = refl;
-}
-
 -- the object at a place is none of those before it
 pub none_earlier : (fs : List Former) (i : ℕ) (d : Former) → AreApart fs → i < length fs
     → IsNone (take i fs) (get_or fs i d).handle
@@ -489,84 +478,6 @@ none_earlier fs i d apart within k e l =
     read [] k d e l = absurd (omega (arith, l))
     read (x ∷ xs) zero d e l = refl
     read (x ∷ xs) (suc k) d e l = read xs k d e (omega (arith, l))
-
--- the next object is claimed still
-pub next_held : (far : FarState) (s t : Shown) (fs : List Former) (i : ℕ) (d : Former)
-    → AreApart fs → i < length fs → LocalSound t far → All (IsHeldAt s) fs
-    → AreBack s t (take i fs) → (get_or fs i d).handle < length s.versions
-    → (x : IsHeldAt s (get_or fs i d))
-    × IsClaimedAt t (get_or fs i d).handle (get_or fs i d).word x.version x.words
-next_held far s t fs i d apart within sound held a stamp =
-    let f = get_or fs i d in let x = held i d within in
-    let same : object_at t f.handle ≡ object_at s f.handle =
-    a.others f.handle (none_earlier fs i d apart within) in (
-      x,
-      claimed_here far t f.handle f.word x.version x.words sound (same ∙ x.object) x.free x.below
-          (ap (λ (ms : List ℕ). window ms (place_of f.word) (words_for (len_of f.word))) a.memory
-          ∙ x.contents) (omega (arith, x.handle, a.objects))
-          (subst (λ (l : List ℕ). f.handle < length l) (sym a.versions) stamp),
-    )
-
--- one object more is given back
-pub back_more : (far : FarState) (s t : Shown) (fs : List Former) (i v : ℕ) (d : Former)
-    (words : List ℕ) → LocalSound t far → AreBack s t (take i fs)
-    → IsClaimedAt t (get_or fs i d).handle (get_or fs i d).word v words
-    → hot_at t (get_or fs i d).handle ≡ hot_of (get_or fs i d).word → AreApart fs → i < length fs
-    → AreBack s (after (Settled (get_or fs i d).handle (get_or fs i d).word) t) (take (i + 1) fs)
-    × LocalSound (after (Settled (get_or fs i d).handle (get_or fs i d).word) t) far
-    × IsSteady (Settled (get_or fs i d).handle (get_or fs i d).word ∷ []) t
-back_more far s t fs i v d words sound a c hot apart within =
-    let h = (get_or fs i d).handle in let w = (get_or fs i d).word in
-    let e = settled_here t h w c.free.0 in
-    let o = is.Here (len_of w) (place_of w) in
-    let u : Shown = record t { objects = set t.objects h o; hots = set t.hots h (hot_of w) } in
-    let warm : set t.hots h (hot_of w) ≡ t.hots =
-    ap (set t.hots h) (sym hot) ∙ set-get_or t.hots h false in
-    let there : object_at u h ≡ o = get_or-set_same t.objects h o never c.handle in
-    let other : (k : ℕ) → k ≢ h → object_at u k ≡ object_at t k =
-    λ k off. get_or-set_other t.objects h k o never off in
-    let first = none_earlier fs i d apart within in
-    let more = take_more fs i d within in (
-      subst (λ (q : Shown). AreBack s q (take (i + 1) fs)) (sym e)
-          (subst (AreBack s u) (sym more) (record {
-            back = All-append (WasHere u) (take i fs) (get_or fs i d ∷ [])
-                (λ k g l. other (get_or (take i fs) k g).handle (first k g l) ∙ a.back k g l)
-                (All-cons (WasHere u) (get_or fs i d) [] there (All-nil (WasHere u)));
-            others = λ k none.
-                other k (λ q. All-head (λ f. f.handle ≢ k) (get_or fs i d) []
-                (all_right (λ f. f.handle ≢ k) (take i fs) (get_or fs i d ∷ []) none) (sym q))
-                ∙ a.others k (all_left (λ f. f.handle ≢ k) (take i fs) (get_or fs i d ∷ []) none);
-            objects = length-set t.objects h o ∙ a.objects;
-            hots = warm ∙ a.hots;
-            versions = a.versions;
-            memory = a.memory;
-            first = a.first;
-          })),
-      subst (λ (q : Shown). LocalSound q far) (sym e)
-          (sound_lies far t u sound refl refl (length-set t.objects h o)
-          (λ k. elim (cases_eq k h) [
-            | inl q ↦ inr (
-              len_of w,
-              place_of w,
-              subst (λ (x : Object). LiesAt x (len_of w) (place_of w))
-                  (sym (ap (object_at t) q ∙ c.object)) (refl, refl),
-              subst (λ (x : Object). LiesAt x (len_of w) (place_of w))
-                  (sym (ap (object_at u) q ∙ there)) (refl, refl),
-            )
-            | inr n ↦ inl (other k n)
-          ])
-          (λ k. elim (cases_eq k h) [
-            | inl q ↦ subst (λ (x : Object). IsStamped x (version_at t k))
-                (sym (ap (object_at u) q ∙ there)) tt
-            | inr n ↦ subst (λ (x : Object). IsStamped x (version_at t k)) (sym (other k n))
-                (sound.known.stamped k)
-          ])),
-      record {
-        allowed = (may_put_back t h w v words c, tt);
-        nothing = back_written t h w v words c;
-        hots = ap (λ (q : Shown). q.hots) e ∙ warm;
-      },
-    )
 
 -- objects that were claimed and given back are what they were
 pub claims_back : (es fs : List Event) (s t u : Shown) (xs : List Former) → AreClaimed es s t xs
@@ -605,10 +516,3 @@ claims_back es fs s t u xs a b =
 pub former_at : (fs : List Former) (i : ℕ) → i < length fs
     → get_or fs i (get_or fs i no_former) ≡ get_or fs i no_former
 former_at fs i within = get_or_default fs i (get_or fs i no_former) no_former within
-
--- the hot bit is the one that was noted
-pub warm : (s t : Shown) (far : FarState) (fs : List Former) (i : ℕ) → AreBack s t (take i fs)
-    → IsHeldAt s (get_or fs i no_former)
-    → hot_at t (get_or fs i no_former).handle ≡ hot_of (get_or fs i no_former).word
-warm s t far fs i a x =
-    ap (λ (l : List Bool). get_or l (get_or fs i no_former).handle false) a.hots ∙ x.hot

@@ -252,3 +252,15 @@ are_reads q (Settled h w ∷ es) a = absurd a
 are_reads q (Told h v ∷ es) a = absurd a
 are_reads q (Stored p x ∷ es) a = absurd a
 are_reads q (Stamped h v ∷ es) a = absurd a
+
+-- events without a look tell nothing
+pub quiet_told : (o q : ℕ → Type 0) (es : List Event) (s : Shown) → TouchesOnly o q es
+    → ((k : ℕ) → NoLook k es) → told_by es s ≡ s
+quiet_told o q [] s a quiet = refl
+quiet_told o q (Looked h w ∷ es) s a quiet = absurd ((quiet h).0 w (refl, refl))
+quiet_told o q (Claimed h w v ws ∷ es) s a quiet = absurd ((quiet h).0 w (refl, refl))
+quiet_told o q (Settled h w ∷ es) s a quiet = quiet_told o q es s a.1 (λ k. (quiet k).1)
+quiet_told o q (Loaded p x ∷ es) s a quiet = quiet_told o q es s a.1 (λ k. (quiet k).1)
+quiet_told o q (Told h v ∷ es) s a quiet = absurd a
+quiet_told o q (Stored p x ∷ es) s a quiet = absurd a
+quiet_told o q (Stamped h v ∷ es) s a quiet = absurd a

@@ -17,7 +17,6 @@ use Rattle.cb_span.specs.Contents.{Contents, handle_at}
 use Rattle.cb_span.specs.Places.{slot_place}
 use Rattle.cb_types.specs.declared.config.Config.{Config}
 use Rattle.cb_world.specs.declared.event.Event.{Event}
-use Rattle.cb_world.specs.declared.event.Event.TheVariants.{Looked, Claimed, Told, Loaded, Stored, Stamped, Settled}
 use Rattle.cb_evict.specs.Events.{TouchesOnly}
 use Rattle.cb_world.specs.declared.homes.Home.{Home}
 use Rattle.cb_world.specs.declared.leaving.Former.{Former}
@@ -62,6 +61,7 @@ use Rattle.cb_evict.specs.Storing.{AreShards, set_for, with_set}
 use Rattle.cb_evict.proofs.Claims.{among, no_former}
 use Rattle.cb_evict.specs.EvictEffect.{HasLeft, IsEvicted}
 use Rattle.cb_evict.specs.EvictRule.{HasEvicted}
+use Rattle.cb_evict.proofs.Events.{quiet_told}
 use Rattle.cb_evict.proofs.Gone.{LeftMemory, sound_gone, closed_in, in_or_out}
 use Rattle.cb_evict.proofs.Homing.{closed_else}
 use Rattle.cb_evict.proofs.NewSet.{shards_within, shards_apart, keys_apart, shards_distinct, shards_up, shards_current, set_count, position_at, slot_is, slot_named, set_lives, set_live, set_added_in, set_others, fresh_number}
@@ -741,18 +741,6 @@ told_all far es s t formers a here count k e l = let x = (a.taken k e l).at in r
   handle = x.handle;
   warm = omega (arith, x.handle, count);
 }
-
--- what the events of a claimed batch tell no more
-quiet_told : (o q : ℕ → Type 0) (es : List Event) (s : Shown) → TouchesOnly o q es
-    → ((k : ℕ) → NoLook k es) → told_by es s ≡ s
-quiet_told o q [] s a quiet = refl
-quiet_told o q (Looked h w ∷ es) s a quiet = absurd ((quiet h).0 w (refl, refl))
-quiet_told o q (Claimed h w v ws ∷ es) s a quiet = absurd ((quiet h).0 w (refl, refl))
-quiet_told o q (Settled h w ∷ es) s a quiet = quiet_told o q es s a.1 (λ k. (quiet k).1)
-quiet_told o q (Loaded p x ∷ es) s a quiet = quiet_told o q es s a.1 (λ k. (quiet k).1)
-quiet_told o q (Told h v ∷ es) s a quiet = absurd a
-quiet_told o q (Stored p x ∷ es) s a quiet = absurd a
-quiet_told o q (Stamped h v ∷ es) s a quiet = absurd a
 
 pub told_before : (o q : ℕ → Type 0) (before es : List Event) (s : Shown) → TouchesOnly o q es
     → ((k : ℕ) → NoLook k es) → told_by (before ++ es) s ≡ told_by before s

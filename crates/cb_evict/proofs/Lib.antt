@@ -4,7 +4,7 @@ mod Filling
 mod Sharing
 pub mod Homing
 mod Events
-pub mod Claims
+mod Claims
 mod Gathers
 mod Slots
 pub mod Loose
@@ -26,27 +26,28 @@ mod WorkedLoose
 mod WorkedEvict
 mod WorkedEvictStep
 mod WorkedSetMade
+mod WorkedShip
+mod Restores
+mod DropsPut
+mod Noted
+mod Aborted
+mod SmallWords
+mod NamesShards
+mod BatchCommitted
+pub mod AbortStep
+pub mod WhichWait
+mod BatchReady
+mod Commits
+pub mod CommitStep
+pub mod AfterEnds
+mod WorkedEnds
 pub mod Begun
 pub mod BeginParts
 mod BeginEnd
 pub mod BeginStep
 pub mod AfterBegin
 mod WorkedBegin
-mod Restores
-mod PutShards
-pub mod Noted
-mod Aborted
-mod SmallWords
-mod NamesShards
-mod BatchCommitted
-pub mod AbortStep
-mod WorkedShip
-pub mod WhichWait
-mod BatchReady
-mod Commits
-pub mod OtherPuts
+pub mod PutShards
 pub mod ShippedFar
 pub mod ShipParts
 pub mod ShipStep
-pub mod CommitStep
-mod WorkedEnds

@@ -1,11 +1,10 @@
 -- What the notes of a leaving batch say of its objects.
-use Rattle.std.proofs.Common.{◌≡◌, ◌≢◌, ℕ, ◌^◌, ◌<◌, List, length, get_or, All, Option, Some, None, sym, refl, ap, ◌∙◌, subst, arith, inl, inr}
+use Rattle.std.proofs.Common.{◌≡◌, ◌≢◌, ℕ, ◌^◌, ◌<◌, List, length, get_or, All, Some, sym, ap, ◌∙◌, subst, arith, inl, inr}
 use Rattle.std.specs.List.{Contains}
 use Rattle.std.proofs.lemmas.Bool.{cases_lt, cases_order}
 use Rattle.std.proofs.lemmas.List.{get_or_default, get_or_past}
 use Rattle.std.proofs.lemmas.List.Elements.{All-contains}
 use Rattle.cb_ptr.specs.Word.{len_of, place_of}
-use Rattle.cb_span.specs.Contents.{Contents}
 use Rattle.cb_world.specs.declared.leaving.Former.{Former}
 use Rattle.cb_world.specs.declared.object.Object.{Object}
 use Rattle.cb_world.specs.declared.object.Object.TheVariants as is
@@ -15,7 +14,6 @@ use Rattle.cb_world.specs.FarState.{FarState, span_in, handle_in}
 use Rattle.cb_world.specs.Grasped.{IsFree}
 use Rattle.cb_world.specs.Leaving.{LeavingState}
 use Rattle.cb_world.specs.LocalSound.{IsStamped}
-use Rattle.cb_world.specs.Memory.{window, words_for}
 use Rattle.cb_world.specs.Sound.{AreNoted, IsNoted, Sound}
 use Rattle.cb_world.specs.FarSound.{of_leaving}
 use Rattle.cb_world.specs.Reserved.{put_shards}
@@ -23,7 +21,6 @@ use Rattle.cb_world.specs.Stored.{AreThere}
 use Rattle.cb_world.proofs.BatchGone.{put_from}
 use Rattle.cb_evict.specs.Claims.{AreApart, IsNone}
 use Rattle.cb_evict.specs.Restoring.{IsClaimedFrom}
-use Rattle.cb_evict.proofs.Claims.{among, no_former}
 use Rattle.cb_evict.proofs.Standing.{named_at, names_span}
 
 pub same_batch : (a b : LeavingState) → Some a ≡ Some b → a ≡ b

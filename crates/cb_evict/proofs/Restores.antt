@@ -1,7 +1,7 @@
 -- Claimed objects are settled at the words that are noted, one after another.
-use Rattle.std.proofs.Common.{◌≡◌, ◌≢◌, ℕ, Bool, false, ◌+◌, ◌<◌, List, [], ◌∷◌, ◌++◌, length, take, get_or, set, All, sym, refl, ap, ◌∙◌, subst, arith, inl, inr, length-set, get_or-set_other, get_or-set_same}
+use Rattle.std.proofs.Common.{◌≡◌, ◌≢◌, ℕ, false, ◌+◌, ◌<◌, List, [], ◌∷◌, ◌++◌, length, take, get_or, set, All, sym, refl, ap, ◌∙◌, subst, arith, inl, inr, length-set, get_or-set_other, get_or-set_same}
 use Rattle.std.proofs.lemmas.Bool.{cases_eq}
-use Rattle.std.proofs.lemmas.List.{take_more}
+use Rattle.std.proofs.lemmas.List.{ext_get_or, take_more}
 use Rattle.std.proofs.lemmas.List.Elements.{All-nil, All-append, All-cons, All-head}
 use Rattle.cb_ptr.specs.Word.{len_of, place_of, hot_of}
 use Rattle.cb_world.specs.declared.entry.Entry.{Entry}
@@ -21,9 +21,13 @@ use Rattle.cb_world.specs.Claimed.{IsClaimedAt}
 use Rattle.cb_world.proofs.Claimed.{may_put_back, settled_here, back_written}
 use Rattle.cb_world.proofs.Tracing.{played_append, written_append}
 use Rattle.cb_world.proofs.Untouched.{allowed_append}
-use Rattle.cb_evict.specs.Claims.{AreApart}
+use Rattle.cb_world.specs.Looks.{NoLook}
+use Rattle.cb_evict.specs.Claims.{AreApart, AreBack, IsHeldAt}
+use Rattle.cb_evict.specs.Claiming.{IsOne}
+use Rattle.cb_evict.specs.Events.{TouchesOnly, IsSteady}
 use Rattle.cb_evict.specs.Restoring.{IsClaimedFrom, IsHereAt, AreRestored, IsRestoring}
-use Rattle.cb_evict.proofs.Claims.{all_left, all_right, claimed_here, none_earlier, sound_lies}
+use Rattle.cb_evict.proofs.Claims.{all_left, all_right, among, claimed_here, no_former, none_earlier, sound_lies}
+use Rattle.cb_evict.proofs.Events.{quiet_told}
 
 pub restoring_none : (far : FarState) (s : Shown) → LocalSound s far → IsRestoring far [] s []
 restoring_none far s sound = record {
@@ -153,3 +157,50 @@ restoring_more far es s fs i d apart within claimed stamp r =
           ∙ ap (λ (l : List Entry). written_by last t l) (r.nothing old)
           ∙ back_written t f.handle f.word x.0.version x.0.words x.1 old;
     }
+
+-- ---- objects of which the hot bits are known
+pub claimed_from : (s : Shown) (fs : List Former) → length s.hots ≡ length s.objects
+    → All (IsHeldAt s) fs → All (IsClaimedFrom s) fs
+claimed_from s fs warm held i d within = let x = held i d within in record {
+  version = x.version;
+  words = x.words;
+  object = x.object;
+  free = x.free;
+  below = x.below;
+  contents = x.contents;
+  handle = x.handle;
+  warm = omega (arith, x.handle, warm);
+}
+
+-- are what they were, hot bits included
+pub back_from : (far : FarState) (es : List Event) (s : Shown) (fs : List Former)
+    → All (IsHeldAt s) fs → IsRestoring far es s fs → TouchesOnly (IsOne fs) (λ p. ⊥) es
+    → ((k : ℕ) → NoLook k es)
+    → AreBack s (played es s) fs × LocalSound (played es s) far × IsSteady es s
+back_from far es s fs held r touches quiet =
+    let t = played es s in let a = r.restored in
+    let hots : t.hots ≡ s.hots = ext_get_or false t.hots s.hots a.heat (λ h below. hot h) in (
+      record {
+        back = λ i d within. (a.here i d within).object;
+        others = a.others;
+        objects = a.objects;
+        hots = hots;
+        versions = a.versions;
+        memory = a.memory;
+        first = a.first;
+      },
+      r.sound,
+      record {
+        allowed = r.allowed;
+        nothing = r.nothing;
+        hots = hots ∙ sym (ap (λ (q : Shown). q.hots) (quiet_told (IsOne fs) (λ p. ⊥) es s touches quiet));
+      },
+    )
+  where
+    hot : (h : ℕ) → hot_at (played es s) h ≡ hot_at s h
+    hot h = elim (among fs h) [
+      | inl (i, l, e) ↦ ap (hot_at (played es s)) (sym (e no_former))
+          ∙ (r.restored.here i no_former l).hot ∙ sym (held i no_former l).hot
+          ∙ ap (hot_at s) (e no_former)
+      | inr none ↦ r.restored.hots h none
+    ]

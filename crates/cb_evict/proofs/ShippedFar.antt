@@ -27,7 +27,7 @@ use Rattle.cb_world.proofs.Joined.{pair_kept}
 use Rattle.cb_world.proofs.NodeJoin.{local_stays}
 use Rattle.cb_evict.specs.ShipRule.{IsShardFor, with_shard_at, with_shipped}
 use Rattle.cb_evict.specs.Waiting.{is_waiting, least_waiting}
-use Rattle.cb_evict.proofs.OtherPuts.{others_off}
+use Rattle.cb_evict.proofs.PutShards.{others_off}
 use Rattle.cb_evict.proofs.WhichWait.{least_waits}
 
 -- the row of the least position that waits of the batch that is leaving, and its shard

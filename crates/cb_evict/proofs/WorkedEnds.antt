@@ -1,6 +1,6 @@
 -- Worked examples of the two ends of a leaving batch: values that meet a definition, and for each of
 -- its parts one that breaks that part alone.
-use Rattle.std.proofs.Common.{◌≡◌, ℕ, zero, suc, ◌+◌, ◌*◌, ◌<◌, ◌≤◌, true, false, Bool, All, List, [], ◌∷◌, length, Option, None, Some, refl, sym, ap, ◌∙◌, subst, lit<, lit≤, arith}
+use Rattle.std.proofs.Common.{◌≡◌, ℕ, zero, suc, ◌+◌, ◌*◌, ◌≤◌, true, false, List, [], ◌∷◌, length, Option, None, Some, refl, sym, ap, ◌∙◌, subst, lit<, lit≤, arith}
 use Rattle.std.specs.FinMap as map
 use Rattle.std.proofs.lemmas.List.Elements.{All-nil, All-cons}
 use Rattle.cb_member.specs.declared.names.Shard.{Shard}
@@ -8,12 +8,9 @@ use Rattle.cb_node.specs.NodesState.{with_row}
 use Rattle.cb_ptr.specs.Steps.{IsFarWord}
 use Rattle.cb_ptr.specs.Word.{len_of}
 use Rattle.cb_ptr.proofs.Laws.{far_word_is}
-use Rattle.cb_set.specs.SetState.{SetState, set_of, dead_position}
-use Rattle.cb_span.specs.declared.temp.Temp.TheVariants.{Hot, Cold}
 use Rattle.cb_types.specs.declared.config.Config.{Config}
 use Rattle.cb_types.specs.declared.reply.Reply.{Reply}
 use Rattle.cb_types.specs.declared.reply.Reply.TheVariants as answer
-use Rattle.cb_world.specs.declared.homes.Home.{Home}
 use Rattle.cb_world.specs.declared.leaving.Former.{Former}
 use Rattle.cb_world.specs.declared.object.Object.{Object}
 use Rattle.cb_world.specs.declared.object.Object.TheVariants as is
@@ -23,10 +20,10 @@ use Rattle.cb_world.specs.FarState.{FarState}
 use Rattle.cb_world.specs.Leaving.{LeavingState}
 use Rattle.cb_world.specs.Memory.{window}
 use Rattle.cb_world.specs.Plain.{Words}
-use Rattle.cb_world.specs.Reserved.{put_shards, set_from, without_batch}
-use Rattle.cb_world.specs.Sets.{Kept, SetMap, set_in}
+use Rattle.cb_world.specs.Reserved.{set_from, without_batch}
+use Rattle.cb_world.specs.Sets.{Kept, SetMap}
 use Rattle.cb_world.specs.World.{word_at}
-use Rattle.cb_evict.specs.AbortRule.{HasNoBatch, HasGivenUp, IsOfBatch}
+use Rattle.cb_evict.specs.AbortRule.{HasNoBatch, HasGivenUp}
 use Rattle.cb_evict.specs.AbortStep.{ArePutBack, IsAbortStep, no_batch, given_up}
 use Rattle.cb_evict.specs.Claims.{IsNone}
 use Rattle.cb_evict.specs.Closing.{with_homes}

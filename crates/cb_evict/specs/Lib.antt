@@ -11,12 +11,6 @@ pub mod EvictRule
 pub mod EvictEffect
 pub mod EvictStep
 pub mod Evicting
-pub mod Finding
-pub mod Taking
-pub mod BeginRule
-pub mod BeginEffect
-pub mod Beginning
-pub mod BeginStep
 pub mod Restoring
 pub mod AbortRule
 pub mod AbortStep
@@ -24,6 +18,12 @@ pub mod Committing
 pub mod CommitRule
 pub mod CommitStep
 pub mod Waiting
+pub mod Finding
+pub mod Taking
+pub mod BeginRule
+pub mod BeginEffect
+pub mod Beginning
+pub mod BeginStep
 pub mod ShipRule
 pub mod ShipStep
 pub mod Shipping

@@ -9,6 +9,7 @@ ghost use Rattle.cb_evict.specs.Looking.{Has};
 ghost use Rattle.cb_evict.specs.Claims.{IsHeldAt, AreApart};
 ghost use Rattle.cb_evict.specs.Claiming.{GivesBack, ClaimsSlot, ClaimsSpan, ClaimsFrame, ClaimsSpans};
 
+use crate::restoring::restore;
 use cb_span::Span;
 use cb_types::Handle;
 use cb_world::{Desk, Former, Grasp, Spans, try_claim};
@@ -21,9 +22,7 @@ pub(crate) fn give_back<D: Desk>(desk: &mut D, formers: &[Former])
         × ((far : FarState) × LocalSound s far × All (IsHeldAt s) formers.now) }
     ensures { GivesBack (λ es. D.run desk.old es desk.new) (λ s. D.shows desk.old s) formers.now }
 {
-    for former in formers {
-        desk.settle(Handle { n: former.handle }, former.word);
-    }
+    restore(desk, formers);
 }
 
 /// Claims an object and notes its word. Answers whether it could.

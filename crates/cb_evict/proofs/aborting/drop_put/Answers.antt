@@ -1,5 +1,5 @@
-use Rattle.std.proofs.Common.{◌+◌, ◌∙◌, arith}
-use Rattle.cb_evict.proofs.PutShards.{drops_more, node_there}
+use Rattle.std.proofs.Common.{◌∙◌, arith}
+use Rattle.cb_evict.proofs.DropsPut.{drops_more, node_there}
 use Rattle.cb_evict.proofs.aborting.drop_put.Goals as goal
 
 pub drop_one-requires : goal.drop_one-requires

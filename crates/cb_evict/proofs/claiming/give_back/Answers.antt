@@ -1,93 +1,21 @@
-use Rattle.std.proofs.Common.{ℕ, ◌+◌, ◌<◌, List, [], ◌∷◌, ◌++◌, take, get_or, refl, sym, subst, rules}
-use Rattle.std.proofs.lemmas.List.{take_all}
-use Rattle.cb_types.specs.declared.config.Config.{Config}
-use Rattle.cb_world.specs.declared.leaving.Former.{Former}
-use Rattle.cb_world.specs.declared.event.Event.TheVariants.{Settled}
-use Rattle.cb_world.specs.declared.shown.Shown.{Shown}
-use Rattle.cb_world.specs.Played.{played}
-use Rattle.cb_world.specs.LocalSound.{LocalSound}
-use Rattle.cb_world.proofs.Tracing.{played_append}
-use Rattle.cb_world.proofs.Claimed.{may_put_back}
-use Rattle.cb_evict.specs.Events.{IsSteady}
-use Rattle.cb_evict.specs.Claims.{AreBack}
-use Rattle.cb_evict.specs.Claiming.{IsOne}
-use Rattle.cb_evict.proofs.Events.{touches_append, no_look_append, first_append, steady_append, steady_none}
-use Rattle.cb_evict.proofs.Claims.{back_none, back_more, next_held, no_former, former_at, warm}
+use Rattle.cb_evict.proofs.Restores.{claimed_from, back_from}
+use Rattle.std.proofs.Common.{sym, ◌∙◌}
 use Rattle.cb_evict.proofs.claiming.give_back.Goals as goal
 
-pub loop-former-init : goal.loop-former-init
-loop-former-init g c = (
-  [],
-  g.met.D.Desk.none _,
-  tt,
-  (λ k. tt),
-  tt,
-  λ s far a sound held.
-      (back_none s, sound, steady_none s),
-)
-
-pub settle-requires-clause-handle : goal.settle-requires-clause-handle
-settle-requires-clause-handle g c =
-    let inv = c.loop-former.invariant in
-    subst (λ (n : Config). (get_or c.args.formers.now c.loop-former.former-index no_former).handle < n.handles)
-    (sym (g.met.D.Desk.stays _ _ inv.0 inv.1))
-    (c.requires.handles c.loop-former.former-index no_former c.loop-former-test.true)
-
-pub settle-requires-clause-may : goal.settle-requires-clause-may
-settle-requires-clause-may g c =
-    let inv = c.loop-former.invariant in let had = c.requires.held in let s = had.0 in
-    let fs = c.args.formers.now in let i = c.loop-former.former-index in
-    let sized = g.met.D.Desk.sized _ s had.1 in
-    let far = had.2.0 in
-    let so = inv.5 s far had.1 had.2.1 had.2.2 in
-    let x = next_held far s (played inv.0 s) fs i no_former c.requires.apart c.loop-former-test.true
-    so.1 had.2.2 so.0
-    (subst (λ (n : ℕ). (get_or fs i no_former).handle < n) (sym sized.2)
-    (c.requires.handles i no_former c.loop-former-test.true)) in (
-      played inv.0 s,
-      (g.met.D.Desk.follows _ _ inv.0 s inv.1 had.1).1,
-      may_put_back (played inv.0 s) (get_or fs i no_former).handle (get_or fs i no_former).word
-          x.0.version x.0.words x.1,
-    )
-
-pub loop-former-preserved : goal.loop-former-preserved
-loop-former-preserved g c =
-    let inv = c.loop-former.invariant in let es = inv.0 in
-    let fs = c.args.formers.now in let i = c.loop-former.former-index in
-    let f = get_or fs i no_former in
-    let last = Settled f.handle f.word ∷ [] in
-    let one : IsOne fs f.handle = (f, (i, c.loop-former-test.true, former_at fs i c.loop-former-test.true), refl) in (
-      es ++ last,
-      g.met.D.Desk.more _ _ _ _ _ inv.1 c.settle.ensures,
-      touches_append (IsOne fs) (λ p. ⊥) es last inv.2 (one, tt),
-      λ k. no_look_append k es last (inv.3 k) ((λ w e. e), tt),
-      first_append (IsOne fs) (λ p. ⊥) es last inv.2 inv.4 (tt, tt) (λ h o. ((λ w e. e), tt)),
-      λ s far a sound held.
-          let sized = g.met.D.Desk.sized _ s a in
-          let so = inv.5 s far a sound held in
-          let t = played es s in
-          let x = next_held far s t fs i no_former c.requires.apart c.loop-former-test.true so.1 held so.0
-          (subst (λ (n : ℕ). f.handle < n) (sym sized.2)
-          (c.requires.handles i no_former c.loop-former-test.true)) in
-          let hot = warm s t far fs i so.0 x.0 in
-          let b = back_more far s t fs i x.0.version no_former x.0.words so.1 so.0 x.1 hot
-          c.requires.apart c.loop-former-test.true in (
-            subst (λ (q : Shown). AreBack s q (take (i + 1) fs)) (sym (played_append es last s)) b.0,
-            subst (λ (q : Shown). LocalSound q far) (sym (played_append es last s)) b.1,
-            steady_append es last s so.2 b.2,
-          ),
-    )
+pub restore-requires-clause-claimed : goal.restore-requires-clause-claimed
+restore-requires-clause-claimed g c =
+    let had = c.requires.held in let sized = g.met.D.Desk.sized _ had.0 had.1 in
+    (had.0, had.1, (had.2.0, had.2.1, claimed_from had.0 c.args.formers.now (sized.1 ∙ sym sized.0) had.2.2))
 
 pub returns : goal.returns
-returns g c =
-    let inv = c.loop-former.invariant in
-    let all = take_all c.loop-former.former-index c.args.formers.now (search rules) in
-    record {
-      events = inv.0;
-      ran = inv.1;
-      touches = inv.2;
-      quiet = inv.3;
-      first = inv.4;
-      back = λ s far a sound held. subst (λ (l : List Former). AreBack s (played inv.0 s) l
-          × LocalSound (played inv.0 s) far × IsSteady inv.0 s) all (inv.5 s far a sound held);
-    }
+returns g c = let r = c.restore.ensures in record {
+  events = r.events;
+  ran = r.ran;
+  touches = r.touches;
+  quiet = r.quiet;
+  first = r.first;
+  back = λ s far a sound held.
+      let sized = g.met.D.Desk.sized _ s a in
+      back_from far r.events s c.args.formers.now held (r.restored s far a sound
+      (claimed_from s c.args.formers.now (sized.1 ∙ sym sized.0) held)) r.touches r.quiet;
+}

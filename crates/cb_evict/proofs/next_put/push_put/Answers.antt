@@ -1,10 +1,8 @@
-use Rattle.std.proofs.Common.{List, [], ◌∷◌, ◌++◌, Option, Some, None, take, arith, ap, sym, ◌∙◌}
+use Rattle.std.proofs.Common.{List, [], ◌∷◌, ◌++◌, Option, take, ap, sym, ◌∙◌}
 use Rattle.cb_member.specs.declared.names.Shard.{Shard}
 use Rattle.cb_world.specs.Reserved.{put_shards}
 use Rattle.std.proofs.lemmas.List.{append-nil}
-use Rattle.cb_evict.proofs.OtherPuts.{puts_more, others_off}
-use Rattle.cb_evict.proofs.ShippedFar.{put_sound}
-use Rattle.cb_evict.proofs.ShipParts.{refused}
+use Rattle.cb_evict.proofs.PutShards.{puts_more}
 use Rattle.cb_evict.proofs.next_put.push_put.Goals as goal
 use Rattle.cb_evict.proofs.next_put.push_put.Goals.{in-Some+in_ok-push, in_default}
 
