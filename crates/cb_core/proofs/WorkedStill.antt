@@ -272,7 +272,7 @@ whole = record { desk = crowd.desk; far = record crowd.far { leaving = Some put 
 
 ships_none : StillShip crowd answer.NoBatch crowd
 ships_none = (
-  record { words = refl; ships = inl (record { none = refl; reply = refl; same = refl }) },
+  record { words = refl; ships = inl (record { none = refl; reply = refl; state = refl }) },
   same_holds crowd,
 )
 
@@ -280,7 +280,7 @@ ships_all : StillShip whole answer.AllShipped whole
 ships_all = (
   record {
     words = refl;
-    ships = inr (inl (record { batch = put; there = refl; none = refl; reply = refl; same = refl }));
+    ships = inr (inl (record { batch = put; there = refl; none = refl; reply = refl; state = refl }));
   },
   same_holds whole,
 )

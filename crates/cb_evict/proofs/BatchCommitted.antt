@@ -48,7 +48,7 @@ use Rattle.cb_world.proofs.Whole.{added_whole}
 use Rattle.cb_evict.specs.Candidates.{AreUnique}
 use Rattle.cb_evict.specs.Claims.{IsNone}
 use Rattle.cb_evict.specs.Closing.{HaveHomes, with_homes}
-use Rattle.cb_evict.specs.CommitRule.{with_batch}
+use Rattle.cb_evict.specs.CommitRule.{with_committed}
 use Rattle.cb_evict.specs.Committing.{AreAllPut}
 use Rattle.cb_evict.specs.Looking.{IsIn}
 use Rattle.cb_evict.specs.Sending.{IsSent, AreSent}
@@ -76,7 +76,7 @@ pub record Done (s t : Shown) (far : FarState) (batch : LeavingState) (homes : L
 
 -- the far state then
 abbrev pub committed_far : FarState → LeavingState → List (Option Home) → FarState
-committed_far far batch homes = with_homes (with_batch far batch) batch.frames homes
+committed_far far batch homes = with_homes (with_committed far batch) batch.frames homes
 
 -- the set then
 abbrev pub the_set : FarState → LeavingState → SetState
@@ -436,7 +436,7 @@ module _ (s t : Shown) (far : FarState) (batch : LeavingState) (homes : List (Op
       far_never : (len v : ℕ) (words : List ℕ) → is.Far len v words ≡ never → ⊥
       far_never len v words e = subst is_far e tt
 
-  here_with : LocalSound s (with_batch far batch)
+  here_with : LocalSound s (with_committed far batch)
   here_with = let x = d.sound.here in record {
     known = record {
       first = x.known.first;
@@ -467,7 +467,7 @@ module _ (s t : Shown) (far : FarState) (batch : LeavingState) (homes : List (Op
   -- the world is sound then
   pub sound_committed : Sound t (committed_far far batch homes)
   sound_committed = record {
-    here = sound_gone (with_batch far batch) s t batch.frames homes here_with frames_within left_memory;
+    here = sound_gone (with_committed far batch) s t batch.frames homes here_with frames_within left_memory;
     noted = λ b at. absurd (none_some b at);
     claimed = λ h len place v words e. elim (among batch.words h) [
       | inl (k, l, q) ↦

@@ -21,7 +21,7 @@ use Rattle.cb_world.specs.Sound.{Sound}
 use Rattle.cb_evict.specs.AbortRule.{IsOfBatch}
 use Rattle.cb_evict.specs.Claiming.{IsOne}
 use Rattle.cb_evict.specs.Closing.{HaveHomes, with_homes}
-use Rattle.cb_evict.specs.CommitRule.{CommitRule, CommitEffect, IsCommitted, with_batch}
+use Rattle.cb_evict.specs.CommitRule.{CommitRule, CommitEffect, IsCommitted, with_committed}
 use Rattle.cb_evict.specs.Committing.{AreAllPut, with_shards}
 use Rattle.cb_evict.specs.Sending.{Sends}
 use Rattle.cb_evict.specs.Waiting.{waiting}
@@ -101,7 +101,7 @@ pub committed_state : (inside far new : FarState) (batch : LeavingState) (o : Op
           (record (with_shards kept (put_shards batch.shards)) { committed = true });
       leaving = o;
     }) batch.frames new.homes)
-    → new ≡ with_homes (with_batch far batch) batch.frames new.homes
+    → new ≡ with_homes (with_committed far batch) batch.frames new.homes
 committed_state inside far new batch o same none reserved is =
     let set = set_from batch.set (put_shards batch.shards) far.spans batch.frames in
     let kept : Kept = record { set = set; committed = true } in
@@ -137,7 +137,7 @@ all_up far batch whole p shard at =
 pub commits : (runs : List Event → Type 0) (shows : Shown → Type 0) (far new : FarState)
     (batch : LeavingState) (id : ℕ) → id ≡ batch.set → far.leaving ≡ Some batch
     → waiting far.members batch.shards ≡ []
-    → new ≡ with_homes (with_batch far batch) batch.frames new.homes
+    → new ≡ with_homes (with_committed far batch) batch.frames new.homes
     → HaveHomes far.spans batch.frames batch.set far.homes new.homes
     → ((s : Shown) → shows s → length s.hots ≡ length s.objects)
     → Sends runs shows batch.words

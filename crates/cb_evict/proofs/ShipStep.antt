@@ -63,9 +63,9 @@ leaves_all far = record {
 
 pub ships_leaves : (far new : FarState) (r : Reply) (row : LeavingState → ℕ → List ℕ)
     → Ships far new r row → ShipLeaves far new
-ships_leaves far new r row (inl x) = subst (ShipLeaves far) (sym x.same) (leaves_all far)
-ships_leaves far new r row (inr (inl x)) = subst (ShipLeaves far) (sym x.same) (leaves_all far)
-ships_leaves far new r row (inr (inr (inl x))) = subst (ShipLeaves far) (sym x.same) (leaves_all far)
+ships_leaves far new r row (inl x) = subst (ShipLeaves far) (sym x.state) (leaves_all far)
+ships_leaves far new r row (inr (inl x)) = subst (ShipLeaves far) (sym x.state) (leaves_all far)
+ships_leaves far new r row (inr (inr (inl x))) = subst (ShipLeaves far) (sym x.state) (leaves_all far)
 ships_leaves far new r row (inr (inr (inr x))) = subst (ShipLeaves far) (sym x.state) (record {
   first = refl;
   made = refl;
@@ -96,9 +96,9 @@ ship_configured x y far new r c step k =
 -- what every object has stays
 pub ships_now : (s : Shown) (far new : FarState) (r : Reply) (row : LeavingState → ℕ → List ℕ)
     → Ships far new r row → (h : ℕ) → now s new h ≡ now s far h
-ships_now s far new r row (inl x) h = ap (λ (f : FarState). now s f h) x.same
-ships_now s far new r row (inr (inl x)) h = ap (λ (f : FarState). now s f h) x.same
-ships_now s far new r row (inr (inr (inl x))) h = ap (λ (f : FarState). now s f h) x.same
+ships_now s far new r row (inl x) h = ap (λ (f : FarState). now s f h) x.state
+ships_now s far new r row (inr (inl x)) h = ap (λ (f : FarState). now s f h) x.state
+ships_now s far new r row (inr (inr (inl x))) h = ap (λ (f : FarState). now s f h) x.state
 ships_now s far new r row (inr (inr (inr x))) h = ap (λ (f : FarState). now s f h) x.state
 
 -- ---- the step

@@ -27,7 +27,7 @@ use Rattle.cb_evict.specs.AbortRule.{HasNoBatch, HasGivenUp}
 use Rattle.cb_evict.specs.AbortStep.{ArePutBack, IsAbortStep, no_batch, given_up}
 use Rattle.cb_evict.specs.Claims.{IsNone}
 use Rattle.cb_evict.specs.Closing.{with_homes}
-use Rattle.cb_evict.specs.CommitRule.{HasShort, HasCommitted, with_batch}
+use Rattle.cb_evict.specs.CommitRule.{HasShort, HasCommitted, with_committed}
 use Rattle.cb_evict.specs.CommitStep.{ArePutAway, IsCommitStep, short, committed}
 use Rattle.cb_evict.specs.Committing.{AreAllPut, HasPlaces, with_shards}
 use Rattle.cb_evict.specs.Restoring.{IsClaimedFrom, IsHereAt, AreRestored}
@@ -333,7 +333,7 @@ short_drops_it : ¬ (HasShort (leaving one_put) (record (leaving one_put) { leav
 short_drops_it x = absurd (some_none (batch one_put) (sym (ap (λ (f : FarState). f.leaving) x.state)))
 
 abbrev then : FarState
-then = with_homes (with_batch (leaving both_put) (batch both_put)) (0 ∷ []) homes
+then = with_homes (with_committed (leaving both_put) (batch both_put)) (0 ∷ []) homes
 
 is_committed : HasCommitted (leaving both_put) then (answer.Set (record { n = 0 }))
 is_committed = record {
@@ -356,7 +356,7 @@ commits_none : ¬ (HasCommitted pair pair (answer.Set (record { n = 0 })))
 commits_none x = absurd (some_none x.batch (sym x.there))
 
 -- a row is missing
-commits_early : ¬ (HasCommitted (leaving one_put) (with_homes (with_batch (leaving one_put) (batch one_put)) (0 ∷ []) homes) (answer.Set (record { n = 0 })))
+commits_early : ¬ (HasCommitted (leaving one_put) (with_homes (with_committed (leaving one_put) (batch one_put)) (0 ∷ []) homes) (answer.Set (record { n = 0 })))
 commits_early x =
     let e : batch one_put ≡ x.batch = same (batch one_put) x.batch x.there in
     absurd (let n : 1 ≡ 0 = ap (λ (b : LeavingState). length (waiting pair.members b.shards)) e

@@ -14,7 +14,8 @@ use Rattle.cb_world.specs.Choices.{numbered, MayPut, IsBefore}
 use Rattle.cb_world.specs.FarState.{FarState}
 use Rattle.cb_world.specs.Leaving.{LeavingState}
 use Rattle.cb_world.specs.Plain.{Words}
-use Rattle.cb_evict.specs.ShipRule.{HasAllShipped, HasNoBatch, HasNoNode, HasShipped, IsShardFor, ReadsLeaving, Ships, other_puts, with_shipped}
+use Rattle.cb_evict.specs.AbortRule.{HasNoBatch}
+use Rattle.cb_evict.specs.ShipRule.{HasAllShipped, HasNoNode, HasShipped, IsShardFor, ReadsLeaving, Ships, other_puts, with_shipped}
 use Rattle.cb_evict.specs.ShipStep.{IsShipStep}
 use Rattle.cb_evict.specs.Waiting.{is_waiting, waits_at, waiting, least_waiting, PutAtMembers}
 use Rattle.cb_evict.proofs.ShippedFar.{batch_same}
@@ -260,7 +261,7 @@ other_row s =
 
 -- ---- refusals
 no_batch : HasNoBatch (far None) (far None) answer.NoBatch
-no_batch = record { none = refl; reply = refl; same = refl }
+no_batch = record { none = refl; reply = refl; state = refl }
 
 one_leaves : HasNoBatch leaving leaving answer.NoBatch → ⊥
 one_leaves a = some_batch (batch some_wait) a.none
@@ -273,7 +274,7 @@ not_done : HasNoBatch (far None) (far None) answer.Done → ⊥
 not_done a = batch_or_done a.reply
 
 none_made : HasNoBatch (far None) (record (far None) { made = 1 }) answer.NoBatch → ⊥
-none_made a = let e : 1 ≡ 0 = ap (λ (f : FarState). f.made) a.same in absurd (omega (arith, e))
+none_made a = let e : 1 ≡ 0 = ap (λ (f : FarState). f.made) a.state in absurd (omega (arith, e))
 
 abbrev done : FarState
 done = far (Some (batch all_put))
@@ -284,7 +285,7 @@ all_shipped = record {
   there = refl;
   none = refl;
   reply = refl;
-  same = refl;
+  state = refl;
 }
 
 done_is_not_all : answer.Done ≡ answer.AllShipped → ⊥
@@ -294,7 +295,7 @@ all_not_done : HasAllShipped done done answer.Done → ⊥
 all_not_done a = done_is_not_all a.reply
 
 all_none_made : HasAllShipped done (record done { made = 1 }) answer.AllShipped → ⊥
-all_none_made a = let e : 1 ≡ 0 = ap (λ (f : FarState). f.made) a.same in absurd (omega (arith, e))
+all_none_made a = let e : 1 ≡ 0 = ap (λ (f : FarState). f.made) a.state in absurd (omega (arith, e))
 
 some_position : (p : ℕ) → Some p ≡ None → ⊥
 some_position p e = cc
@@ -323,7 +324,7 @@ no_node = record {
   least = refl;
   none = λ node. nowhere node.n;
   reply = refl;
-  same = refl;
+  state = refl;
 }
 
 done_is_no_node : answer.Done ≡ answer.NoNode → ⊥
@@ -333,7 +334,7 @@ node_not_done : HasNoNode crowded crowded answer.Done → ⊥
 node_not_done a = done_is_no_node a.reply
 
 node_none_made : HasNoNode crowded (record crowded { made = 1 }) answer.NoNode → ⊥
-node_none_made a = let e : 1 ≡ 0 = ap (λ (f : FarState). f.made) a.same in absurd (omega (arith, e))
+node_none_made a = let e : 1 ≡ 0 = ap (λ (f : FarState). f.made) a.state in absurd (omega (arith, e))
 
 -- where a node can take the row it is no refusal
 a_node_is_left : HasNoNode leaving leaving answer.NoNode → ⊥

@@ -28,8 +28,8 @@ pub record HasShort (far new : FarState) (r : Reply) : Type 0 where
 
 -- the far state in which the set of the batch is committed, with the shards whose rows were put, and
 -- no batch is leaving
-abbrev pub with_batch : FarState → LeavingState → FarState
-with_batch far batch = record far {
+abbrev pub with_committed : FarState → LeavingState → FarState
+with_committed far batch = record far {
   sets = map.insert far.sets batch.set (record {
     set = set_from batch.set (put_shards batch.shards) far.spans batch.frames;
     committed = true;
@@ -45,7 +45,7 @@ pub record HasCommitted (far new : FarState) (r : Reply) : Type 0 where
   pub whole : waiting far.members batch.shards ≡ []
   pub reply : r ≡ answer.Set (record { n = batch.set })
   pub homes : HaveHomes far.spans batch.frames batch.set far.homes new.homes
-  pub state : new ≡ with_homes (with_batch far batch) batch.frames new.homes
+  pub state : new ≡ with_homes (with_committed far batch) batch.frames new.homes
 
 -- the reply of a commit and the far state after it; only objects of the batch are touched
 pub record CommitRule (far new : FarState) (r : Reply) (es : List Event) : Type 0 where

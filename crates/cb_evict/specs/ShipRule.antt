@@ -16,6 +16,7 @@ use Rattle.cb_world.specs.Leaving.{LeavingState}
 use Rattle.cb_world.specs.Placed.{leaving_frames}
 use Rattle.cb_world.specs.Reserved.{put_shards}
 use Rattle.cb_world.specs.Still.{IsStill}
+use Rattle.cb_evict.specs.AbortRule.{HasNoBatch}
 use Rattle.cb_evict.specs.Loading.{LiesInOne, OnlyLoads}
 use Rattle.cb_evict.specs.Waiting.{least_waiting}
 
@@ -47,19 +48,13 @@ abbrev pub with_shipped : FarState → LeavingState → ℕ → Shard → List �
 with_shipped far batch p shard row =
     with_noted (record far { nodes = with_row far.nodes shard.node shard.key row }) batch p shard
 
--- no batch is leaving
-pub record HasNoBatch (far new : FarState) (r : Reply) : Type 0 where
-  pub none : far.leaving ≡ None
-  pub reply : r ≡ answer.NoBatch
-  pub same : new ≡ far
-
 -- the row of each position is put, and its node has not crashed since
 pub record HasAllShipped (far new : FarState) (r : Reply) : Type 0 where
   pub batch : LeavingState
   pub there : far.leaving ≡ Some batch
   pub none : least_waiting far.members batch.shards ≡ None
   pub reply : r ≡ answer.AllShipped
-  pub same : new ≡ far
+  pub state : new ≡ far
 
 -- no node can take the row of the least position that waits
 pub record HasNoNode (far new : FarState) (r : Reply) : Type 0 where
@@ -70,7 +65,7 @@ pub record HasNoNode (far new : FarState) (r : Reply) : Type 0 where
   pub none : (node : NodeId)
       → ¬ (MayPut far.nodes far.members (other_puts batch.shards position) node)
   pub reply : r ≡ answer.NoNode
-  pub same : new ≡ far
+  pub state : new ≡ far
 
 -- the row of the least position that waits is put, which is that of its batch and its position; all
 -- else is as it was

@@ -15,7 +15,7 @@ ghost use Rattle.cb_world.specs.Sound.{Sound};
 ghost use Rattle.cb_world.specs.World.{IsConfigured};
 ghost use Rattle.cb_evict.specs.Candidates.{AreUnique};
 ghost use Rattle.cb_evict.specs.Closing.{HaveHomes, with_homes};
-ghost use Rattle.cb_evict.specs.CommitRule.{CommitEffect, CommitRule, with_batch};
+ghost use Rattle.cb_evict.specs.CommitRule.{CommitEffect, CommitRule, with_committed};
 ghost use Rattle.cb_evict.specs.Committing.{AreAllPut, HasPlaces, with_shards};
 ghost use Rattle.cb_evict.specs.Waiting.{PutAtMembers, waiting};
 

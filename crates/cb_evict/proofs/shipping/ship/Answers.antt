@@ -27,7 +27,7 @@ returns-in-NoBatch-clause-ship g c =
     let x = subst (IsNext far) c.in-NoBatch.is c.in_ok-next_put.ensures.next in
     refused (λ es. g.D.Desk.run c.args.desk.now es c.args.desk.now)
     (λ s. g.D.Desk.shows c.args.desk.now s) far far _ (g.met.D.Desk.none _) refl
-    (λ row. inl (record { none = x; reply = refl; same = refl }))
+    (λ row. inl (record { none = x; reply = refl; state = refl }))
 
 pub returns-in-AllShipped-clause-ship : goal.returns-in-AllShipped-clause-ship
 returns-in-AllShipped-clause-ship g c =
@@ -40,7 +40,7 @@ returns-in-AllShipped-clause-ship g c =
       there = x.1;
       none = x.2;
       reply = refl;
-      same = refl;
+      state = refl;
     })))
 
 pub returns-in-NoNode-clause-ship : goal.returns-in-NoNode-clause-ship
@@ -56,7 +56,7 @@ returns-in-NoNode-clause-ship g c =
       least = x.2.1;
       none = x.2.2;
       reply = refl;
-      same = refl;
+      state = refl;
     }))))
 
 pub returns-in_ok-ship_row-in-Put-clause-ship : goal.returns-in_ok-ship_row-in-Put-clause-ship
