@@ -4,7 +4,7 @@ mod Filling
 mod Sharing
 pub mod Homing
 mod Events
-mod Claims
+pub mod Claims
 mod Gathers
 mod Slots
 pub mod Loose
@@ -29,7 +29,7 @@ mod WorkedSetMade
 mod WorkedShip
 mod Restores
 mod DropsPut
-mod Noted
+pub mod Noted
 mod Aborted
 mod SmallWords
 mod NamesShards
