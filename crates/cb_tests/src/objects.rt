@@ -36,6 +36,7 @@ fn make_most(alloc: Global, world: &mut World) -> Result<Reply, Fail>
 /// Makes objects of the most bytes until one is refused, and answers how many were made. A node is
 /// down, so that too few are left for a span to leave.
 fn fill(alloc: Global, world: &mut World) -> Result<u32, Fail>
+    requires some_node { 1 ≤ world.old.desk.settings.nodes }
     requires sound { IsSoundWorld world.old }
     ensures sound { IsSoundWorld world.new }
     ensures settings { IfOk result (λ count. world.new.desk.settings ≡ world.old.desk.settings) }

@@ -1,9 +1,11 @@
+ghost use Rattle.std.specs.Prelude.{IfOk};
 ghost use Rattle.cb_core.specs.Jobs.{IsJob};
+ghost use Rattle.cb_tests.specs.Worlds.{IsSmall};
 
 use crate::worlds::{SMALL, empty_world, turn_of};
 use cb_core::{Atomic, Event, Replies, run};
-use cb_member::{Epoch, NodeId};
 use cb_types::{Config, Handle, Job, Reply};
+use cb_world::World;
 use std::alloc::Global;
 use std::test::Fail;
 
@@ -60,50 +62,17 @@ fn an_empty_world_is_whole(rt: HostRuntime) -> Result<(), Fail> {
     Ok(())
 }
 
-/// What two crashes and a join of the second node are answered.
-fn crashed_and_joined(alloc: Global) -> Result<(Reply, Reply, Reply), Fail> {
-    let node = NodeId { n: 1 };
-    let mut world = empty_world(alloc, SMALL)?;
-    let crashed = turn_of(alloc, &mut world, Job::Crash { node })?;
-    let down = turn_of(alloc, &mut world, Job::Crash { node })?;
-    let joined = turn_of(alloc, &mut world, Job::Join { node })?;
-    Ok((crashed, down, joined))
-}
-
-#[test]
-fn a_node_crashes_and_joins_again(rt: HostRuntime) -> Result<(), Fail> {
-    let (crashed, down, joined) = crashed_and_joined(rt.alloc())?;
-    assert!(rt;
-        matches!(
-            crashed,
-            Reply::EpochAt {
-                epoch: Epoch { n: 1 }
-            }
-        )
-    );
-    assert!(rt;
-        matches!(
-            down,
-            Reply::Down {
-                node: NodeId { n: 1 }
-            }
-        )
-    );
-    assert!(rt;
-        matches!(
-            joined,
-            Reply::EpochAt {
-                epoch: Epoch { n: 2 }
-            }
-        )
-    );
-    Ok(())
+/// A small world in which nothing was made.
+fn small_world(alloc: Global) -> Result<World, Fail>
+    ensures { IfOk result IsSmall }
+{
+    empty_world(alloc, SMALL)
 }
 
 /// What a run is answered whose events evict from the empty world, look at the first handle, pin it
 /// and give back a pin on it.
 fn run_on_nothing(alloc: Global) -> Result<Replies, Fail> {
-    let mut world = empty_world(alloc, SMALL)?;
+    let mut world = small_world(alloc)?;
     let handle = Handle { n: 0 };
     let events = [
         Event::Turn {
