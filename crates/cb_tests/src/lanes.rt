@@ -1,6 +1,7 @@
 use cb_lanes::{SeqEnd, run_seq};
 use cb_script::{Mode, first_unbuilt, read_script};
 use cb_types::Reply;
+use cb_world::{Far, World};
 use std::alloc::Global;
 use std::test::Fail;
 
@@ -28,10 +29,26 @@ fn end_of(alloc: Global, text: &[u8]) -> Result<SeqEnd, Fail> {
     Ok(run_seq(alloc, &script)?)
 }
 
+/// How many rows were given out.
+fn given_in(far: &Far) -> u64 {
+    far.nodes.given()
+}
+
+/// How many rows were given out in a world.
+fn given(world: &World) -> u64 {
+    given_in(&world.far)
+}
+
+/// How many rows were given out by the lines of a script.
+fn given_by(alloc: Global, text: &[u8]) -> Result<u64, Fail> {
+    let end = end_of(alloc, text)?;
+    Ok(given(&end.world))
+}
+
 #[test]
 fn a_swap_in_gives_one_row_or_k(rt: HostRuntime) -> Result<(), Fail> {
-    assert_eq!(rt; end_of(rt.alloc(), SOLVED)?.world.far.nodes.given(), 4);
-    assert_eq!(rt; end_of(rt.alloc(), STANDING)?.world.far.nodes.given(), 2);
+    assert_eq!(rt; given_by(rt.alloc(), SOLVED)?, 4);
+    assert_eq!(rt; given_by(rt.alloc(), STANDING)?, 2);
     Ok(())
 }
 
