@@ -1,4 +1,3 @@
-use Rattle.std.proofs.Common.{◌≡◌}
 use Rattle.cb_core.specs.declared.event.Event.TheVariants.{Turn}
 use Rattle.cb_core.proofs.Settings.{step_settings}
 use Rattle.cb_tests.proofs.worlds.turn_of.Goals as goal
