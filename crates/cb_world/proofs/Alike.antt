@@ -9,6 +9,7 @@ use Rattle.cb_world.specs.Join.{IsFresh, IsJoin}
 use Rattle.cb_world.specs.Joining.{JoiningState}
 use Rattle.cb_world.specs.Sound.{Sound}
 use Rattle.cb_world.proofs.Joined.{pair_kept}
+use Rattle.cb_world.proofs.Surveying.{survey_same}
 use Rattle.cb_world.proofs.NodeJoin.{local_stays, noted_stays, claimed_stay}
 
 -- the far state, where so many turns were counted, by job, and so many rows given out
@@ -98,5 +99,7 @@ recounted_sound s far turns by_job given x = record {
   away = record {
     sound = away_alike s far turns by_job given x.away.sound;
     join = λ pair at. pair_alike far turns by_job given pair (x.away.join pair at);
+    survey = survey_same far (recounted far turns by_job given) refl refl (omega arith)
+        (λ id. refl) x.away.survey;
   };
 }

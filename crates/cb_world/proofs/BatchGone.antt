@@ -20,6 +20,7 @@ use Rattle.cb_world.specs.Reserved.{IsReserved, put_shards, without_batch}
 use Rattle.cb_world.specs.Sets.{set_in, if_committed}
 use Rattle.cb_world.specs.Stored.{AreThere}
 use Rattle.cb_world.proofs.Joined.{pair_kept}
+use Rattle.cb_world.proofs.Surveying.{survey_same}
 use Rattle.cb_world.proofs.Reserving.{reserved_uncommitted}
 use Rattle.cb_world.proofs.SetsLeft.{drop_count, drop_fewer, drop_there}
 use Rattle.cb_world.proofs.Storing.{drop_elsewhere}
@@ -237,4 +238,6 @@ pub batch_given_up_whole : (s : Shown) (far : FarState) (batch : LeavingState) â
 batch_given_up_whole s far batch x there reserved = record {
   sound = batch_given_up s far batch x.sound there reserved;
   join = Î» pair at. gone_pair s far batch pair x.sound there reserved at (x.join pair at);
+  survey = survey_same far (without_batch far batch) refl refl (omega arith)
+      (gone_sets far batch reserved) x.survey;
 }

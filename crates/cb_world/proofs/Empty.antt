@@ -26,6 +26,7 @@ use Rattle.cb_world.specs.Sound.{Sound}
 use Rattle.cb_world.specs.Now.{now, now_as, is_gone}
 use Rattle.cb_world.specs.Now.Now.{never as made_never}
 use Rattle.cb_world.specs.Empty.{empty_far, empty_shown, empty_words}
+use Rattle.cb_world.proofs.Surveying.{unsurveyed}
 
 -- each read of a list of one value gives it
 pub reads_one : {A : Type 0} (n i : ℕ) (x : A) → get_or (replicate n x) i x ≡ x
@@ -127,6 +128,7 @@ away c few = record {
     batch = λ b e. absurd (cc);
   };
   join = λ pair e. absurd (cc);
+  survey = unsurveyed (empty_far c);
 }
 
 -- the empty world is sound

@@ -299,7 +299,7 @@ far_gives_up s t far h len v words home c x = record {
   others = λ j off. left_others far.sets home.set j (set_without c home) off;
   after = left_over far (without_far far h home c) home.set 0 (set_without c home) refl
       (ap (λ (n : ℕ). nodes_left (record far.nodes { given = n }) (set_without c home))
-      (let e : far.nodes.given ≡ far.nodes.given + 0 = omega arith in e))
+      (let e : far.nodes.given ≡ far.nodes.given + 0 = omega arith in e)) refl
       (shards_there s far home.set c sound x.lies.there);
   nodes = left_count far.nodes (set_without c home);
   members = refl;

@@ -180,6 +180,7 @@ sound_gone far s t h len place v c sound here range stamp x beside =
       leaving = refl;
       joining = refl;
       counts = refl;
+      survey = refl;
     })
     (λ k. each k (ℕ_discrete k h))
     (λ batch there. record {

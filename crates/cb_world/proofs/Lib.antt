@@ -29,6 +29,8 @@ pub mod Patching
 pub mod Committed
 pub mod JoinNow
 pub mod Beginning
+pub mod Counting
+pub mod Surveying
 pub mod Whole
 pub mod RowWords
 pub mod Apart

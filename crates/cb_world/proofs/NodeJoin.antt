@@ -34,6 +34,7 @@ use Rattle.cb_member.proofs.Laws.{crash_stays_valid}
 use Rattle.cb_world.proofs.Whole.{crash_whole}
 use Rattle.cb_world.proofs.Joined.{pair_kept}
 use Rattle.cb_world.proofs.Reserving.{noted_by}
+use Rattle.cb_world.proofs.Surveying.{stands_joined, survey_stays}
 
 -- a shard is lost after a join exactly where it was
 join_keeps_loss : (m : Membership) (node : NodeId) (shard : Shard) → node.n < length m.nodes
@@ -236,6 +237,8 @@ node_join_sound s far node x within down = record {
   away = record {
     sound = away_stays s far node x.away.sound within down;
     join = λ pair at. pair_stays far node pair within (x.away.join pair at);
+    survey = survey_stays far (joined_far far node) refl (omega arith)
+        (λ id l. stands_joined far.members node (set_in far.sets id) within) x.away.survey;
   };
 }
 

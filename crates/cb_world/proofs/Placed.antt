@@ -303,6 +303,7 @@ sound_brought far s t slot h len made v sound empty range free off_leaving fits 
       leaving = refl;
       joining = refl;
       counts = refl;
+      survey = refl;
     })
     (λ k. each k (ℕ_discrete k h))
     (λ batch there. record {

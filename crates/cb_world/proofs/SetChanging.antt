@@ -5,10 +5,13 @@ use Rattle.std.specs.Ordering.{nat_cmp, eq_by_cmp}
 use Rattle.std.specs.FinMap as map
 use Rattle.cb_set.specs.SetState.{SetState, is_live}
 use Rattle.cb_member.specs.declared.names.Shard.{Shard}
-use Rattle.cb_node.specs.NodesState.{NodesState, with_dropped}
+use Rattle.cb_node.specs.NodesState.{NodesState, with_dropped as row_dropped}
 use Rattle.cb_world.specs.Sets.{Kept, SetMap, set_in, if_committed}
 use Rattle.cb_world.specs.Stored.{all_dropped}
-use Rattle.cb_world.specs.LeftOver.{sets_left}
+use Rattle.cb_world.specs.LeftOver.{with_dropped, with_left}
+use Rattle.cb_world.specs.SetWord.{is_broken}
+use Rattle.cb_world.specs.Survey.{survey_without}
+use Rattle.cb_world.specs.FarState.{FarState}
 
 pub kept_same : (a b : Kept) → Some a ≡ Some b → a ≡ b
 kept_same a b e = cc
@@ -41,6 +44,11 @@ pub is_kept : (sets : SetMap) (id : ℕ) (set : SetState) → set_in sets id ≡
     → map.get sets id ≡ Some (record { set = set; committed = true })
 is_kept sets id set e = some_kept (map.get sets id) set e
 
+-- the far state with a committed set under a number
+abbrev with_kept : FarState → ℕ → SetState → FarState
+with_kept far id set =
+    record far { sets = map.insert far.sets id (record { set = set; committed = true }) }
+
 -- a set that was changed and is taken out
 pub taken_out : (sets : SetMap) (id : ℕ) (kept : Kept)
     → map.remove (map.insert sets id kept) id ≡ map.remove sets id
@@ -66,22 +74,39 @@ set_there sets id set =
 
 -- the loop's step: one row less
 pub drops_more : (nodes : NodesState) (shards : List Shard) (i : ℕ) (d : Shard) → i < length shards
-    → all_dropped (with_dropped nodes (get_or shards i d).node (get_or shards i d).key)
+    → all_dropped (row_dropped nodes (get_or shards i d).node (get_or shards i d).key)
     (drop (i + 1) shards) ≡ all_dropped nodes (drop i shards)
 drops_more nodes shards i d within =
     let next : suc i ≡ i + 1 = omega arith in
     sym (ap (all_dropped nodes) (drop-cons shards i d within
     ∙ ap (λ (n : ℕ). get_or shards i d ∷ drop n shards) next))
 
--- a set that was changed in its place goes where no position is live
-pub left_after : (sets new : SetMap) (id : ℕ) (rest : SetState)
-    → new ≡ map.insert sets id (record { set = rest; committed = true })
-    → (if is_live rest then new else map.remove new id) ≡ sets_left sets id rest
-left_after sets new id rest e =
-    ap (λ (m : SetMap). if is_live rest then m else map.remove m id) e
-    ∙ ap (λ (m : SetMap).
-    if is_live rest then map.insert sets id (record { set = rest; committed = true }) else m)
-    (taken_out sets id (record { set = rest; committed = true }))
+-- a set that was changed in its place is dropped where no position is live
+left_by : (far : FarState) (id : ℕ) (rest : SetState) (b : Bool)
+    → (if b then with_kept far id rest else with_dropped (with_kept far id rest) id rest)
+    ≡ record far {
+      sets = if b then map.insert far.sets id (record { set = rest; committed = true })
+          else map.remove far.sets id;
+      nodes = if b then far.nodes else all_dropped far.nodes rest.shards;
+      survey = if b then far.survey
+          else survey_without far.survey id (is_broken far.members rest);
+    }
+left_by far id rest true = refl
+left_by far id rest false =
+    ap (λ (m : SetMap). record far {
+      sets = m;
+      nodes = all_dropped far.nodes rest.shards;
+      survey = survey_without far.survey id (is_broken far.members rest);
+    }) (taken_out far.sets id (record { set = rest; committed = true }))
+
+pub left_after : (far : FarState) (new : SetMap) (id : ℕ) (rest : SetState)
+    → new ≡ map.insert far.sets id (record { set = rest; committed = true })
+    → (if is_live rest then record far { sets = new } else with_dropped (record far { sets = new }) id rest)
+    ≡ with_left far id rest
+left_after far new id rest e =
+    ap (λ (m : SetMap). if is_live rest then record far { sets = m }
+    else with_dropped (record far { sets = m }) id rest) e
+    ∙ left_by far id rest (is_live rest)
 
 pub there_after : (sets new : SetMap) (id : ℕ) (rest : SetState)
     → new ≡ map.insert sets id (record { set = rest; committed = true })

@@ -15,7 +15,10 @@ use Rattle.cb_node.proofs.Laws.{dropped_row_is_gone, drop_keeps_other_rows}
 use Rattle.cb_set.specs.SetState.{PositionState, SetState, dead_position, is_live, live_at}
 use Rattle.cb_world.specs.Sets.{Kept, SetMap, set_in, if_committed}
 use Rattle.cb_world.specs.Stored.{AreThere, all_dropped}
-use Rattle.cb_world.specs.LeftOver.{sets_left, nodes_left}
+use Rattle.cb_world.specs.LeftOver.{sets_left, nodes_left, survey_left}
+use Rattle.cb_world.specs.SetWord.{is_broken}
+use Rattle.cb_world.specs.declared.survey.Survey.{Survey}
+use Rattle.cb_world.specs.Survey.{survey_without}
 use Rattle.cb_world.specs.Fetched.{with_given}
 use Rattle.cb_world.specs.FarState.{FarState}
 use Rattle.cb_world.specs.GivenUp.{GoesOn, IsDropped}
@@ -171,15 +174,18 @@ left_given nodes rest = by (is_live rest) refl
 -- the set goes on, or is dropped with its rows
 pub left_over : (far new : FarState) (id n : ℕ) (rest : SetState)
     → new.sets ≡ sets_left far.sets id rest
-    → new.nodes ≡ nodes_left (with_given far.nodes n) rest → AreThere far.nodes rest.shards
-    → GoesOn far new id rest ⊎ IsDropped far new id rest
-left_over far new id n rest sets nodes there = by (is_live rest) refl
+    → new.nodes ≡ nodes_left (with_given far.nodes n) rest → new.survey ≡ survey_left far id rest
+    → AreThere far.nodes rest.shards → GoesOn far new id rest ⊎ IsDropped far new id rest
+left_over far new id n rest sets nodes survey there = by (is_live rest) refl
   where
     kept : Kept
     kept = record { set = rest; committed = true }
 
     given : NodesState
     given = with_given far.nodes n
+
+    dropped : Survey
+    dropped = survey_without far.survey id (is_broken far.members rest)
 
     by : (b : Bool) → is_live rest ≡ b → GoesOn far new id rest ⊎ IsDropped far new id rest
     by true e =
@@ -190,6 +196,7 @@ left_over far new id n rest sets nodes there = by (is_live rest) refl
         inl (record {
           there = ap (λ (m : SetMap). set_in m id) sets_e ∙ set_there far.sets id rest;
           some_live = some_live rest e;
+          survey = survey ∙ ap (λ (b : Bool). if b then far.survey else dropped) e;
           rows = λ node key. ap (λ (q : NodesState). row_under q node key) nodes_e;
         })
     by false e =
@@ -200,6 +207,7 @@ left_over far new id n rest sets nodes there = by (is_live rest) refl
         inr (record {
           gone = ap (λ (m : SetMap). set_in m id) sets_e ∙ left_gone far.sets id;
           no_live = no_live rest e;
+          survey = survey ∙ ap (λ (b : Bool). if b then far.survey else dropped) e;
           rows_gone = λ q shard at.
               ap (λ (x : NodesState). row_under x shard.node shard.key) nodes_e
               ∙ drop_there given rest.shards q shard there at;

@@ -27,6 +27,7 @@ use Rattle.cb_world.specs.SetAdded.{is_far}
 use Rattle.cb_world.proofs.Added.{was_far}
 use Rattle.cb_world.proofs.Apart.{slot_inside}
 use Rattle.cb_world.proofs.Reserving.{noted_by}
+use Rattle.cb_world.proofs.Surveying.{survey_same}
 use Rattle.cb_world.proofs.Windows.{window_at, window_same}
 
 -- the object is empty, or here for others to change
@@ -59,6 +60,7 @@ pub record KeepsAway (far new : FarState) : Type 0 where
   pub leaving : new.leaving ≡ far.leaving
   pub joining : new.joining ≡ far.joining
   pub counts : new.counts ≡ far.counts
+  pub survey : new.survey ≡ far.survey
 
 pub keeps_all : (far : FarState) → KeepsAway far far
 keeps_all far = record {
@@ -69,6 +71,7 @@ keeps_all far = record {
   leaving = refl;
   joining = refl;
   counts = refl;
+  survey = refl;
 }
 
 -- the far part of the state with other local parts
@@ -94,6 +97,7 @@ same_away far new k = λ i. record {
   leaving = k.leaving i;
   joining = k.joining i;
   counts = k.counts i;
+  survey = k.survey i;
 }
 
 shard_kept : (far new : FarState) (o : Owner) (a : Shard) → IsShardOf (with_local far new) o a
@@ -189,6 +193,7 @@ away_kept s t far new keeps objects batches sound =
           apart = y.apart;
         };
       };
+      survey = survey_same far (with_local far new) refl refl (omega arith) (λ id. refl) sound.survey;
       join = λ pair there. let j = sound.join pair there in record {
         k = j.k;
         r = j.r;

@@ -95,7 +95,7 @@ crash_survivor m node shard valid within up current kept =
     ∙ up) current) in
     (off, ap is_some (sym (crash_keeps_other_nodes m node shard off)) ∙ kept)
 
--- F3 over a crash: each set keeps its word
+-- each set keeps its word over a crash
 pub crash_keeps_word : (nodes : NodesState) (m : Membership) (node : NodeId) (set : SetState)
     (rows : List (List ℕ)) → IsMembership m → node.n < length m.nodes → alive m node ≡ true
     → AreCurrent m set.shards

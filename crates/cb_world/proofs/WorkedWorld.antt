@@ -21,6 +21,7 @@ use Rattle.cb_world.specs.Memory.{window}
 use Rattle.cb_world.specs.Leaving.{LeavingState}
 use Rattle.cb_world.specs.Placed.{leaving_frames}
 use Rattle.cb_world.specs.Sound.{IsLeaving}
+use Rattle.cb_world.specs.Survey.{no_survey}
 use Rattle.cb_world.proofs.Apart.{some_same}
 
 -- slots of 1,024 bytes, four a span
@@ -58,6 +59,7 @@ far = record {
   leaving = None;
   joining = None;
   counts = record { turns = 0; by_job = []; sets = 0; keys = 0 };
+  survey = no_survey;
 }
 
 class_of_1024 : IsClassOf 1024 largest

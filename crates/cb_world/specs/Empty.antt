@@ -8,6 +8,7 @@ use Rattle.cb_node.specs.NodesState.{empty_nodes}
 use Rattle.cb_world.specs.declared.shown.Shown.{Shown}
 use Rattle.cb_world.specs.Shown.{never}
 use Rattle.cb_world.specs.FarState.{FarState}
+use Rattle.cb_world.specs.Survey.{no_survey}
 use Rattle.cb_world.specs.Plain.{Words}
 
 -- all frames are free, no object was made and all nodes are up without rows
@@ -24,6 +25,7 @@ empty_far c = record {
   leaving = None;
   joining = None;
   counts = record { turns = 0; by_job = replicate 19 0; sets = 0; keys = 0 };
+  survey = no_survey;
 }
 
 -- no object was made, and every word is 0

@@ -22,6 +22,7 @@ use Rattle.cb_world.specs.Sets.{set_in}
 use Rattle.cb_world.specs.Homes.{home_at}
 use Rattle.cb_world.specs.Join.{IsJoin}
 use Rattle.cb_world.specs.FarState.{FarState}
+use Rattle.cb_world.specs.Surveyed.{IsSurvey}
 use Rattle.cb_world.specs.SetWord.{IsSpanWord, IsWordOf, IsShaped}
 
 -- an object that is away has its words in a slot of the row; the count of slots tells the class
@@ -106,7 +107,7 @@ pub record IsBatch (s : Shown) (far : FarState) (batch : LeavingState) : Type 0 
   pub apart : (p q : ℕ) (a b : Shard) → slice_get batch.shards p ≡ Some (Some a)
       → slice_get batch.shards q ≡ Some (Some b) → a.node.n ≡ b.node.n → p ≡ q
 
--- the far part but for the pair that is joining
+-- the far part but for the pair that is joining and the survey
 pub record AwaySound (s : Shown) (far : FarState) : Type 0 where
   pub sets : AreSets s far
   pub away : AreAway s far
@@ -117,3 +118,4 @@ pub record AwaySound (s : Shown) (far : FarState) : Type 0 where
 pub record FarSound (s : Shown) (far : FarState) : Type 0 where
   pub sound : AwaySound s far
   pub join : (pair : JoiningState) → far.joining ≡ Some pair → IsJoin far pair
+  pub survey : IsSurvey far far.survey

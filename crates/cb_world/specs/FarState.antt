@@ -9,10 +9,11 @@ use Rattle.cb_world.specs.Sets.{SetMap}
 use Rattle.cb_world.specs.Leaving.{LeavingState}
 use Rattle.cb_world.specs.Joining.{JoiningState}
 use Rattle.cb_world.specs.Counts.{CountsState}
+use Rattle.cb_world.specs.declared.survey.Survey.{Survey}
 
 -- the version that a make gives, and how many handles were made; free frames and the spans in the
 -- others; span-sets, homes of far objects, nodes and their membership; the batch that is leaving
--- and the pair that is joining; and what is counted
+-- and the pair that is joining; what is counted, and what is known of how the sets stand
 pub record FarState : Type 0 where
   pub first : ℕ
   pub made : ℕ
@@ -25,6 +26,7 @@ pub record FarState : Type 0 where
   pub leaving : Option LeavingState
   pub joining : Option JoiningState
   pub counts : CountsState
+  pub survey : Survey
 
 -- the span in a frame
 abbrev pub span_in : List (Option Contents) → ℕ → Option Contents

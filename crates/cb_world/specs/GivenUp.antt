@@ -10,6 +10,8 @@ use Rattle.cb_world.specs.Shown.{object_at}
 use Rattle.cb_world.specs.Sets.{set_in}
 use Rattle.cb_world.specs.Homes.{home_at}
 use Rattle.cb_world.specs.Leaving.{LeavingState}
+use Rattle.cb_world.specs.SetWord.{is_broken}
+use Rattle.cb_world.specs.Survey.{survey_without}
 use Rattle.cb_world.specs.FarState.{FarState}
 use Rattle.cb_world.specs.Stored.{NoKey}
 use Rattle.cb_world.specs.FarSound.{batch_rows}
@@ -36,12 +38,14 @@ pub record IsGivenUp (t : Shown) (new : FarState) (set : SetState) (p : ℕ) (le
 pub record GoesOn (far new : FarState) (id : ℕ) (rest : SetState) : Type 0 where
   pub there : set_in new.sets id ≡ Some rest
   pub some_live : (q : ℕ) × (live_at rest q ≡ true)
+  pub survey : new.survey ≡ far.survey
   pub rows : (node : NodeId) (key : ℕ) → row_under new.nodes node key ≡ row_under far.nodes node key
 
--- no position is live: the set is dropped with its rows
+-- no position is live: the set is dropped with its rows, and is counted no more
 pub record IsDropped (far new : FarState) (id : ℕ) (rest : SetState) : Type 0 where
   pub gone : set_in new.sets id ≡ None
   pub no_live : (q : ℕ) → live_at rest q ≡ false
+  pub survey : new.survey ≡ survey_without far.survey id (is_broken far.members rest)
   pub rows_gone : (q : ℕ) (shard : Shard) → slice_get rest.shards q ≡ Some shard
       → row_under new.nodes shard.node shard.key ≡ None
   pub rows_stay : (node : NodeId) (key : ℕ) → NoKey rest.shards key

@@ -23,6 +23,7 @@ pub record LeavesSets (far new : FarState) : Type 0 where
   pub homes : new.homes ≡ far.homes
   pub members : new.members ≡ far.members
   pub leaving : new.leaving ≡ far.leaving
+  pub survey : new.survey ≡ far.survey
   pub drawn : new.counts.sets ≡ far.counts.sets
   pub keys : far.counts.keys ≤ new.counts.keys
   pub nodes : length new.nodes.nodes ≡ length far.nodes.nodes
@@ -124,6 +125,7 @@ pub record IsCommitted (far new : FarState) (pair : JoiningState) (a b c : SetSt
   pub nodes : length new.nodes.nodes ≡ length far.nodes.nodes
   pub members : new.members ≡ far.members
   pub leaving : new.leaving ≡ far.leaving
+  pub survey : new.survey ≡ far.survey
   pub each : (h : ℕ) → IsUnnamed far new a b h ⊎ IsRehomed new id c h
 
 -- a pair of matched sets begins to join

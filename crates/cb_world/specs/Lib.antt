@@ -15,6 +15,7 @@ pub mod Homes
 pub mod Leaving
 pub mod Joining
 pub mod Counts
+pub mod Survey
 pub mod FarState
 pub mod NodeChanges
 pub mod RowWords
@@ -28,6 +29,7 @@ pub mod LocalSound
 pub mod FarSound
 pub mod Reserved
 pub mod Now
+pub mod Surveyed
 pub mod SetAdded
 pub mod GivenUp
 pub mod LeftOver

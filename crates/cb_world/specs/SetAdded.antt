@@ -77,6 +77,7 @@ pub record IsSetAdded (s t : Shown) (far new : FarState) (id : ℕ) (set : SetSt
   pub members : new.members ≡ far.members
   pub leaving : new.leaving ≡ far.leaving
   pub joining : new.joining ≡ far.joining
+  pub survey : new.survey ≡ far.survey
   pub batch : (b : LeavingState) → far.leaving ≡ Some b → batch_rows t b ≡ batch_rows s b
   pub unpaired : IsUnpaired far id
   pub each : (h : ℕ) → IsUntouched s t far new set h ⊎ IsMoved s t far new id set rows h

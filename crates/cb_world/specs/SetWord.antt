@@ -14,6 +14,11 @@ use Rattle.cb_set.specs.Nodes.{OnDistinctNodes}
 abbrev pub is_broken : Membership → SetState → Bool
 is_broken m set = nat_lt (parities set) (length (lost m set.shards))
 
+-- the set has lost shards, and no more than it has parities: what it lost can be made again
+pub record IsWeak (m : Membership) (set : SetState) : Type 0 where
+  pub some_lost : 1 ≤ length (lost m set.shards)
+  pub few_lost : length (lost m set.shards) ≤ parities set
+
 -- a code word of k + r rows, each of the bytes of a span
 pub record IsSpanWord (k r : ℕ) (rows : List (List ℕ)) : Type 0 where
   pub is_word : IsCodeWord k r rows

@@ -8,6 +8,7 @@ use crate::joining::Joining;
 use crate::leaving::Leaving;
 use crate::sets::Sets;
 use crate::spans::Spans;
+use crate::survey::Survey;
 use cb_frame::Frames;
 use cb_member::{Members, NoMemory};
 use cb_node::Nodes;
@@ -33,6 +34,8 @@ pub struct Far {
     pub leaving: Option<Leaving>,
     pub joining: Option<Joining>,
     pub counts: Counts,
+    /// What is known of how the committed sets stand.
+    pub survey: Survey,
 }
 
 impl Model for Far {
@@ -57,6 +60,7 @@ impl Model for Far {
       leaving = a.leaving;
       joining = a.joining;
       counts = a.counts;
+      survey = a.survey;
     } };
 }
 
@@ -81,6 +85,7 @@ impl Far {
             leaving: None,
             joining: None,
             counts: Counts::new(),
+            survey: Survey::new(),
         })
     }
 }

@@ -22,6 +22,7 @@ pub mod seats;
 pub mod sets;
 pub mod shown;
 pub mod spans;
+pub mod survey;
 pub mod world;
 
 pub use choosing::{least_node, nodes_with_room};
@@ -44,4 +45,5 @@ pub use seats::{MOST_PINS, Pin, SEATS, Seat, Seats};
 pub use sets::{KeptSet, Sets};
 pub use shown::Shown;
 pub use spans::Spans;
+pub use survey::Survey;
 pub use world::World;

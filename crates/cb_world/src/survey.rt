@@ -1,0 +1,33 @@
+ghost use Rattle.std.specs.Prelude.{◌≡◌};
+ghost use Rattle.cb_world.specs.Survey.{no_survey, survey_without};
+
+/// What is known since the last crash of how the committed sets stand: none with a number below
+/// `below` is weak, and `gone` of them have lost more shards than they have parities. A rebuild goes
+/// on from here, so that it looks at no set twice between two crashes but at the one that it mends.
+#[derive(Clone, Copy, Debug, PartialEq, Eq)]
+pub struct Survey {
+    pub below: u64,
+    pub gone: u32,
+}
+
+impl Survey {
+    /// Nothing is known.
+    pub fn new() -> Survey
+        ensures { result ≡ no_survey }
+    {
+        Survey { below: 0, gone: 0 }
+    }
+
+    /// What is known once the committed set of a number is dropped, which was broken or not.
+    pub fn without(self, id: u64, broken: bool) -> Survey
+        ensures { result ≡ survey_without self id broken }
+    {
+        if id < self.below && broken {
+            return Survey {
+                below: self.below,
+                gone: self.gone.saturating_sub(1),
+            };
+        }
+        self
+    }
+}
