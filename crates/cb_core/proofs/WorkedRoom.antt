@@ -15,6 +15,7 @@ use Rattle.cb_world.specs.FarState.{FarState}
 use Rattle.cb_world.specs.Leaving.{LeavingState}
 use Rattle.cb_world.specs.Plain.{Words}
 use Rattle.cb_world.specs.World.{WorldState}
+use Rattle.cb_world.specs.Survey.{no_survey}
 use Rattle.cb_core.specs.Room.{is_frame_loose, loose_count, final_reply}
 use Rattle.cb_core.proofs.WorkedPins.{settings, calm, hot, pinned, moving}
 
@@ -54,6 +55,7 @@ far_of first second leaving members c = record {
   leaving = leaving;
   joining = None;
   counts = c;
+  survey = no_survey;
 }
 
 abbrev pub first_down : Membership

@@ -84,6 +84,7 @@ quiet_away s t far none quiet sound = record {
     batch = λ b there. absurd (none_some b (sym none ∙ there));
   };
   join = sound.join;
+  survey = sound.survey;
 }
   where
     x : AwaySound s far

@@ -388,6 +388,7 @@ module _ (s t : Shown) (far : FarState) (batch : LeavingState) (homes : List (Op
         members = refl;
         leaving = refl;
         joining = refl;
+        survey = refl;
         batch = λ b at. absurd (none_some b at);
         unpaired = noted.reserved.unpaired;
         each = λ h. elim (among batch.words h) [

@@ -47,6 +47,7 @@ use Rattle.cb_world.proofs.Added.{was_far}
 use Rattle.cb_world.proofs.Apart.{slot_inside, some_same}
 use Rattle.cb_world.proofs.Freed.{one_slot}
 use Rattle.cb_world.proofs.Tracing.{found_more, taken_more}
+use Rattle.cb_world.proofs.Surveying.{stands_still, survey_stays}
 use Rattle.cb_evict.specs.Candidates.{candidates, AreUnique}
 use Rattle.cb_evict.specs.Claims.{IsHeldAt, IsClaimedBy, IsNone, WasHere, AreClaimed}
 use Rattle.cb_evict.specs.Evicting.{AreTaken}
@@ -181,6 +182,11 @@ module _ (s t : Shown) (far : FarState) (set : SetState) (batch : LeavingState)
       };
       batch = λ b there. subst (IsBatch t (begun_far far set batch)) (some_same batch b there) is_batch;
     };
+    survey = survey_stays far (begun_far far set batch) refl (omega arith)
+        (λ id l. stands_still far.members far.members (set_in far.sets id)
+        (set_in (begun_far far set batch).sets id) refl
+        (reserved_others far.sets far.counts.sets id set
+        (λ same. let d = sound.survey.drawn in omega (arith, l, d, same)))) sound.survey;
     join = λ pair there. let j = sound.join pair there in record {
       k = j.k;
       r = j.r;

@@ -454,6 +454,7 @@ module _ (c : Config) (far : FarState) (frames : List ℕ) (formers : List Forme
         members = refl;
         leaving = refl;
         joining = refl;
+        survey = refl;
         unpaired = λ pair at. let j = (d.sound.away.join pair at).drawn in
             ((λ e. omega (arith, j.0, e)), (λ e. omega (arith, j.1, e)));
         batch = batches;

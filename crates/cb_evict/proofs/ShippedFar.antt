@@ -25,6 +25,7 @@ use Rattle.cb_world.specs.FarSound.{AreSets, AreAway, AreRows, Owner, of_set, of
 use Rattle.cb_world.specs.Sound.{AreNoted, IsNoted, IsLeaving, Sound}
 use Rattle.cb_world.proofs.Joined.{pair_kept}
 use Rattle.cb_world.proofs.NodeJoin.{local_stays}
+use Rattle.cb_world.proofs.Surveying.{survey_same}
 use Rattle.cb_evict.specs.ShipRule.{IsShardFor, with_shard_at, with_shipped}
 use Rattle.cb_evict.specs.Waiting.{is_waiting, least_waiting}
 use Rattle.cb_evict.proofs.PutShards.{others_off}
@@ -390,5 +391,7 @@ put_sound s far batch p shard row sound x = record {
   away = record {
     sound = put_away s far batch p shard row x;
     join = λ pair at. put_join s far batch p shard row x pair at (sound.away.join pair at);
+    survey = survey_same far (with_shipped far batch p shard row) refl refl (omega arith)
+        (λ id. refl) sound.away.survey;
   };
 }

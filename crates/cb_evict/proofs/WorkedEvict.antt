@@ -22,6 +22,7 @@ use Rattle.cb_world.specs.FarState.{FarState}
 use Rattle.cb_world.specs.Looks.{IsFound, IsTaken}
 use Rattle.cb_world.specs.Memory.{window, words_for}
 use Rattle.cb_world.specs.RowWords.{words_from, words_in}
+use Rattle.cb_world.specs.Survey.{no_survey}
 use Rattle.cb_evict.specs.EvictRule.{IsInRow, HasFewSpans, HasFewNodes, HasBoth}
 use Rattle.cb_evict.specs.EvictEffect.{IsAway, EvictEffect}
 use Rattle.cb_evict.proofs.Composed.{few_spans}
@@ -40,6 +41,7 @@ far = record {
   leaving = None;
   joining = None;
   counts = record { turns = 0; by_job = []; sets = 0; keys = 0 };
+  survey = no_survey;
 }
 
 -- two data rows and a parity

@@ -22,6 +22,7 @@ use Rattle.cb_world.specs.Plain.{Words}
 use Rattle.cb_world.specs.RowWords.{words_from, words_in}
 use Rattle.cb_world.specs.StillWords.{contents_at}
 use Rattle.cb_world.specs.World.{word_at}
+use Rattle.cb_world.specs.Survey.{no_survey}
 use Rattle.cb_evict.specs.EvictStep.{is_slot_loose, is_loose, loose_frames, AreSentOff, HaveContents, IsEvictStep, few_spans, few_nodes, made}
 use Rattle.cb_evict.specs.Looking.{IsIn}
 
@@ -76,6 +77,7 @@ far_with spans leaving nodes = record {
   leaving = leaving;
   joining = None;
   counts = record { turns = 0; by_job = []; sets = 0; keys = 0 };
+  survey = no_survey;
 }
 
 abbrev far : FarState

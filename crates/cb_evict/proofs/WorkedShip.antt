@@ -14,6 +14,7 @@ use Rattle.cb_world.specs.Choices.{numbered, MayPut, IsBefore}
 use Rattle.cb_world.specs.FarState.{FarState}
 use Rattle.cb_world.specs.Leaving.{LeavingState}
 use Rattle.cb_world.specs.Plain.{Words}
+use Rattle.cb_world.specs.Survey.{no_survey}
 use Rattle.cb_evict.specs.AbortRule.{HasNoBatch}
 use Rattle.cb_evict.specs.ShipRule.{HasAllShipped, HasNoNode, HasShipped, IsShardFor, ReadsLeaving, Ships, other_puts, with_shipped}
 use Rattle.cb_evict.specs.ShipStep.{IsShipStep}
@@ -98,6 +99,7 @@ far leaving = record {
   leaving = leaving;
   joining = None;
   counts = record { turns = 0; by_job = []; sets = 4; keys = 5 };
+  survey = no_survey;
 }
 
 abbrev leaving : FarState

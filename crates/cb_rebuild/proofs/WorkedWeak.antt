@@ -16,6 +16,7 @@ use Rattle.cb_types.specs.declared.reply.Reply.TheVariants as answer
 use Rattle.cb_world.specs.Choices.{MayPut}
 use Rattle.cb_world.specs.Sets.{Kept, SetMap, if_committed, set_in}
 use Rattle.cb_world.specs.FarState.{FarState}
+use Rattle.cb_world.specs.Survey.{no_survey}
 use Rattle.cb_rebuild.specs.declared.finding.Found.TheVariants as found
 use Rattle.cb_rebuild.specs.declared.finding.Health.TheVariants as health
 use Rattle.cb_rebuild.specs.RebuildStep.{FindsNone, IsFirstWeak, IsStuck, IsWeak, gone_count}
@@ -67,6 +68,7 @@ far sets room = record {
   leaving = None;
   joining = None;
   counts = record { turns = 0; by_job = []; sets = 3; keys = 10 };
+  survey = no_survey;
 }
 
 pub second_of : (a b : SetState) → set_in (both a b) 1 ≡ Some b

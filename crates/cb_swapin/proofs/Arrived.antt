@@ -45,6 +45,7 @@ pub record HasArrived (s t : Shown) (far new : FarState) (id p : ℕ) (set : Set
   pub leaving : new.leaving ≡ far.leaving
   pub joining : new.joining ≡ far.joining
   pub counts : new.counts ≡ far.counts
+  pub survey : new.survey ≡ far.survey
 
 none_some : (span : Contents) → None ≡ Some span → ⊥
 none_some span e = cc

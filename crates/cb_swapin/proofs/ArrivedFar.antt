@@ -35,6 +35,7 @@ use Rattle.cb_world.proofs.Unmoved.{KeepsLeaving, batch_kept}
 use Rattle.cb_world.proofs.Whole.{given_whole}
 use Rattle.cb_world.proofs.Windows.{put_else, window_same}
 use Rattle.cb_world.proofs.RowWords.{length_words, row_put}
+use Rattle.cb_world.proofs.Surveying.{left_whole}
 use Rattle.cb_swapin.specs.Named.{Names, IsNamed}
 use Rattle.cb_swapin.proofs.Committed.{live_within}
 use Rattle.cb_swapin.proofs.SlotNames.{named_or_not, named_within}
@@ -180,6 +181,7 @@ gives_up s t far new id p set f n span row x y = record {
   others = λ j off. ap (λ m. map.get m j) y.sets
       ∙ left_others far.sets id j (with_position set p dead_position) off;
   after = left_over far new id n (with_position set p dead_position) y.sets y.nodes
+      (y.survey ∙ sym (left_whole far id set p dead_position x.whole))
       (there_of s far id set x.sound.away.sound x.there);
   nodes = ap (λ m. length m.nodes) y.nodes
       ∙ left_count _ (with_position set p dead_position);

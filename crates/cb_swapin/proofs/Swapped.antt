@@ -14,9 +14,11 @@ use Rattle.cb_world.specs.declared.shown.Shown.{Shown}
 use Rattle.cb_world.specs.SetWord.{is_broken}
 use Rattle.cb_world.specs.Fetched.{rows_needed}
 use Rattle.cb_world.specs.FarState.{FarState}
-use Rattle.cb_world.specs.LeftOver.{nodes_left, sets_left}
+use Rattle.cb_world.specs.LeftOver.{nodes_left, sets_left, survey_left}
 use Rattle.cb_world.specs.Written.{Writes}
 use Rattle.cb_swapin.specs.Named.{AreCleared}
+use Rattle.cb_world.specs.declared.survey.Survey.{Survey}
+use Rattle.cb_world.proofs.Surveying.{left_whole}
 use Rattle.cb_swapin.specs.BroughtIn.{IsSpanBrought}
 use Rattle.cb_swapin.specs.Fetching.{IsFetched, far_given, losses_of}
 use Rattle.cb_swapin.specs.SwapRule.{IsSwappedTo, frame_answer, swap_answer}
@@ -80,14 +82,15 @@ with_arrived far homes id rest f span = record far {
   sets = sets_left far.sets id rest;
   homes = homes;
   nodes = nodes_left far.nodes rest;
+  survey = survey_left far id rest;
 }
 
 pub has_arrived : (s t : Shown) (far new : FarState) (homes : List (Option Home)) (id p : ℕ)
     (set : SetState) (f n : ℕ) (span : Contents) (row : List ℕ)
     → new ≡ with_arrived (far_given far n) homes id (with_position set p dead_position) f span
-    → AreCleared span.slots far.homes homes → IsSpanBrought span.slots span.class f row s t
-    → HasArrived s t far new id p set f n span row
-has_arrived s t far new homes id p set f n span row e cleared brought =
+    → is_broken far.members set ≡ false → AreCleared span.slots far.homes homes
+    → IsSpanBrought span.slots span.class f row s t → HasArrived s t far new id p set f n span row
+has_arrived s t far new homes id p set f n span row e whole cleared brought =
     subst (λ (q : FarState). HasArrived s t far q id p set f n span row) (sym e) (record {
       brought = brought;
       homes = cleared;
@@ -101,6 +104,7 @@ has_arrived s t far new homes id p set f n span row e cleared brought =
       leaving = refl;
       joining = refl;
       counts = refl;
+      survey = left_whole far id set p dead_position whole;
     })
 
 -- a span that is hot and has the slots of the position
@@ -115,8 +119,9 @@ pub swapped_to : (far new : FarState) (homes : List (Option Home)) (id p : ℕ) 
     (f : ℕ) (span : Contents) (row : List ℕ) → IsFetched far set p span row
     → new ≡ with_arrived (far_given far (rows_needed far.members set p)) homes id
     (with_position set p dead_position) f span
-    → AreCleared span.slots far.homes homes → IsSwappedTo far new id p set f
-swapped_to far new homes id p set f span row x e cleared =
+    → is_broken far.members set ≡ false → AreCleared span.slots far.homes homes
+    → IsSwappedTo far new id p set f
+swapped_to far new homes id p set f span row x e whole cleared =
     subst (λ (q : FarState). IsSwappedTo far q id p set f) (sym e) (record {
       class = span.class;
       in_table = x.valid.in_table;
@@ -127,7 +132,9 @@ swapped_to far new homes id p set f span row x e cleared =
       homes = subst (λ (l : List (Option ℕ)). AreCleared l far.homes homes) x.slots cleared;
       sets = refl;
       nodes = refl;
-      rest = refl;
+      rest = ap (λ (v : Survey). record (with_arrived (far_given far (rows_needed far.members set p))
+          homes id (with_position set p dead_position) f span) { survey = v })
+          (left_whole far id set p dead_position whole);
     })
 
 -- ---- the effect

@@ -20,6 +20,7 @@ use Rattle.cb_world.specs.Fetched.{rows_needed, with_given}
 use Rattle.cb_world.specs.LeftOver.{nodes_left, sets_left}
 use Rattle.cb_world.specs.Sets.{SetMap, set_in}
 use Rattle.cb_world.specs.FarState.{FarState}
+use Rattle.cb_world.specs.Survey.{no_survey}
 use Rattle.cb_swapin.specs.Fetching.{far_given, losses_of}
 use Rattle.cb_swapin.specs.SwapRule.{IsSwappedTo, SwapFar, swap_answer}
 
@@ -70,6 +71,7 @@ far frames set = record {
   leaving = None;
   joining = None;
   counts = record { turns = 0; by_job = []; sets = 6; keys = 10 };
+  survey = no_survey;
 }
 
 -- frame 0 is taken

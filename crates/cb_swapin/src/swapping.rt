@@ -10,7 +10,8 @@ ghost use Rattle.cb_world.specs.FarSound.{AwaySound};
 ghost use Rattle.cb_world.specs.Sound.{Sound};
 ghost use Rattle.cb_world.specs.Fetched.{rows_needed};
 ghost use Rattle.cb_world.specs.Stored.{AreThere};
-ghost use Rattle.cb_world.specs.LeftOver.{nodes_left, sets_left};
+ghost use Rattle.cb_set.specs.Lost.{NodesAreMembers};
+ghost use Rattle.cb_world.specs.LeftOver.{with_left};
 ghost use Rattle.cb_world.specs.Performs.{Performs};
 ghost use Rattle.cb_swapin.specs.Fetching.{IsFetched, far_given, losses_of};
 ghost use Rattle.cb_swapin.specs.SwapRule.{SwapRule};
@@ -108,16 +109,15 @@ fn keep_span(far: &mut Far, id: SetId, position: u32, frame: u32, span: Span)
     requires frame { least_free far.old.frames ≡ Some frame }
     requires within { frame < length far.old.spans }
     requires set { (set : SetState) × (set_in far.old.sets id.n ≡ Some set)
-        × (position < length set.positions) × AreThere far.old.nodes set.shards }
+        × (position < length set.positions) × AreThere far.old.nodes set.shards
+        × NodesAreMembers far.old.members set.shards }
     ensures { (set : SetState) → set_in far.old.sets id.n ≡ Some set
-        → far.new ≡ record far.old {
+        → far.new ≡ record (with_left far.old id.n (with_position set position dead_position)) {
           frames = with_taken far.old.frames frame;
           spans = slice_set far.old.spans frame (Some span);
-          sets = sets_left far.old.sets id.n (with_position set position dead_position);
-          nodes = nodes_left far.old.nodes (with_position set position dead_position);
         } }
 {
     far.frames.take();
     far.spans.put(frame, span);
-    kill_position(&mut far.sets, &mut far.nodes, id.n, position);
+    kill_position(far, id.n, position);
 }

@@ -6,11 +6,12 @@ use Rattle.cb_member.specs.declared.names.NodeId.{NodeId}
 use Rattle.cb_member.specs.declared.names.Loss.{Loss}
 use Rattle.cb_member.specs.declared.names.Shard.{Shard}
 use Rattle.cb_member.specs.Membership.{Membership, with_join}
-use Rattle.cb_set.specs.SetState.{PositionState, SetState, parities, with_position}
+use Rattle.cb_set.specs.SetState.{PositionState, SetState, is_live, parities, with_position}
 use Rattle.cb_set.specs.Lost.{lost}
 use Rattle.cb_set.proofs.Laws.{join_keeps_lost, none_whole}
 use Rattle.cb_world.specs.declared.survey.Survey.{Survey}
 use Rattle.cb_world.specs.Survey.{no_survey, survey_without}
+use Rattle.cb_world.specs.LeftOver.{survey_left}
 use Rattle.cb_world.specs.Surveyed.{IsSurvey}
 use Rattle.cb_world.specs.Join.{NoneLost}
 use Rattle.cb_world.specs.Now.{broken_set}
@@ -153,6 +154,21 @@ without_gone : (survey : Survey) (id : ℕ) → id < survey.below
 without_gone survey id below =
     ap (λ (b : Bool). if b && true then record survey { gone = survey.gone - 1 } else survey)
     (lt-ltb id survey.below below)
+
+-- a set that is not broken was not counted
+pub left_whole : (far : FarState) (id : ℕ) (set : SetState) (p : ℕ) (left : PositionState)
+    → is_broken far.members set ≡ false → survey_left far id (with_position set p left) ≡ far.survey
+left_whole far id set p left whole = by (is_live (with_position set p left))
+  where
+    without : survey_without far.survey id (is_broken far.members (with_position set p left))
+        ≡ far.survey
+    without = ap (survey_without far.survey id) (rest_broken far.members set p left ∙ whole)
+        ∙ without_whole far.survey id
+
+    by : (b : Bool) → (if b then far.survey
+        else survey_without far.survey id (is_broken far.members (with_position set p left))) ≡ far.survey
+    by true = refl
+    by false = without
 
 -- a set of a number is dropped, and each other one stands as before
 pub record Drops (far new : FarState) (id : ℕ) (set : SetState) : Type 0 where

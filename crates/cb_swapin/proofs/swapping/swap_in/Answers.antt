@@ -1,6 +1,7 @@
 use Rattle.std.proofs.Common.{◌≡◌, ℕ, ◌<◌, List, [], Option, None, Some, length, refl, sym, ap, ◌∙◌, subst}
 use Rattle.cb_frame.specs.FreeFrames.{least_free}
 use Rattle.cb_set.specs.SetState.{dead_position, with_position}
+use Rattle.cb_set.specs.Lost.{NodesAreMembers}
 use Rattle.cb_world.specs.declared.homes.Home.{Home}
 use Rattle.cb_world.specs.declared.shown.Shown.{Shown}
 use Rattle.cb_world.specs.Fetched.{rows_needed}
@@ -12,7 +13,7 @@ use Rattle.cb_world.specs.FarState.{FarState}
 use Rattle.cb_swapin.specs.Brings.{Brings}
 use Rattle.cb_swapin.specs.Named.{AreCleared}
 use Rattle.cb_swapin.specs.Fetching.{far_given}
-use Rattle.cb_swapin.proofs.Committed.{live_within}
+use Rattle.cb_swapin.proofs.Committed.{are_members, live_within}
 use Rattle.cb_swapin.proofs.Waits.{Arrives, homes_within, names_apart, waiting}
 use Rattle.cb_swapin.proofs.ArrivedFar.{sound_arrived, there_of}
 use Rattle.cb_swapin.proofs.Swapped.{by_frame, has_arrived, is_whole, swapped_in, swapped_to, unavailable, with_arrived}
@@ -104,6 +105,8 @@ keep_span-requires-clause-set g c =
       live_within set c.args.position live.2,
       subst (λ (q : FarState). AreThere q.nodes set.shards) (sym now)
           (there_of had.0 far c.args.id.n set had.2.away.sound live.1),
+      subst (λ (q : FarState). NodesAreMembers q.members set.shards) (sym now)
+          (are_members far.members set (had.2.away.sound.sets.shaped c.args.id.n set live.1)),
     )
 
 pub returns-clause-swap : goal.returns-clause-swap
@@ -141,7 +144,7 @@ returns-clause-swap g c =
     let knows = λ (s : Shown) (a : g.D.Desk.shows c.args.desk.now s) (sound : Sound s far).
     waiting s far id p set f span row (arrives s a sound) in
     let arrived = λ (s : Shown) (a : g.D.Desk.shows c.args.desk.now s) (sound : Sound s far).
-    has_arrived s (played b.events s) far new homes id p set f n span row left cleared
+    has_arrived s (played b.events s) far new homes id p set f n span row left whole cleared
     (b.effect s (a, knows s a sound)) in record {
       events = b.events;
       ran = b.ran;
@@ -151,7 +154,7 @@ returns-clause-swap g c =
         there = live.1;
         reply = by_frame far id set (Some f) whole least;
         state = (
-          swapped_to far new homes id p set f span row fetched left cleared,
+          swapped_to far new homes id p set f span row fetched left whole cleared,
           subst (λ (l : List (Option ℕ)). Brings l f b.events) fetched.slots b.tells,
         );
       };
