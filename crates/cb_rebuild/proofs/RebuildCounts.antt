@@ -8,7 +8,7 @@ use Rattle.cb_world.specs.Sets.{set_in}
 use Rattle.cb_world.specs.FarState.{FarState}
 use Rattle.cb_world.specs.FarSound.{AwaySound}
 use Rattle.cb_world.specs.World.{IsConfigured}
-use Rattle.cb_rebuild.specs.RebuildStep.{IsFirstWeak, IsRebuilt, RebuildStep, far_given}
+use Rattle.cb_rebuild.specs.RebuildStep.{IsFirstWeak, IsRebuilt, RebuildStep, far_given, surveyed}
 
 -- local memory, the homes and the membership stay; no set number is drawn and at most one key, and
 -- at most 16 rows are given out
@@ -25,8 +25,8 @@ pub record LeavesCounts (far new : FarState) : Type 0 where
   pub keys : new.counts.keys ≤ far.counts.keys + 1
   pub given : new.nodes.given ≤ far.nodes.given + 16
 
-leaves_all : (far : FarState) → LeavesCounts far far
-leaves_all far = record {
+survey_leaves : (far : FarState) (n : ℕ) → LeavesCounts far (surveyed far n)
+survey_leaves far n = record {
   first = refl;
   made = refl;
   spans = refl;
@@ -42,8 +42,8 @@ leaves_all far = record {
 
 -- where there was no memory
 pub given_leaves : (s : Shown) (far new : FarState) (id n : ℕ) (set : SetState) → AwaySound s far
-    → set_in far.sets id ≡ Some set → n ≤ length set.positions → new ≡ far_given far n
-    → LeavesCounts far new
+    → set_in far.sets id ≡ Some set → n ≤ length set.positions
+    → new ≡ far_given (surveyed far id) n → LeavesCounts far new
 given_leaves s far new id n set sound there few e = subst (LeavesCounts far) (sym e) (record {
   first = refl;
   made = refl;
@@ -59,7 +59,7 @@ given_leaves s far new id n set sound there few e = subst (LeavesCounts far) (sy
 })
 
 rebuilt_leaves : (s : Shown) (far new : FarState) (id : ℕ) (set : SetState) (r : Reply)
-    → AwaySound s far → IsFirstWeak far id set → IsRebuilt far id set new r
+    → AwaySound s far → IsFirstWeak far id set → IsRebuilt (surveyed far id) id set new r
     → LeavesCounts far new
 rebuilt_leaves s far new id set r sound first x = subst (LeavesCounts far) (sym x.state) (record {
   first = refl;
@@ -77,9 +77,10 @@ rebuilt_leaves s far new id set r sound first x = subst (LeavesCounts far) (sym 
 
 pub step_leaves : (s : Shown) (far new : FarState) (r : Reply) → AwaySound s far
     → RebuildStep far new r → LeavesCounts far new
-step_leaves s far new r sound (inl x) = subst (LeavesCounts far) (sym x.same) (leaves_all far)
+step_leaves s far new r sound (inl x) =
+    subst (LeavesCounts far) (sym x.state) (survey_leaves far far.counts.sets)
 step_leaves s far new r sound (inr x) = elim x.restores [
-  | inl y ↦ subst (LeavesCounts far) (sym y.same) (leaves_all far)
+  | inl y ↦ subst (LeavesCounts far) (sym y.same) (survey_leaves far x.id)
   | inr y ↦ rebuilt_leaves s far new x.id x.set r sound x.first y
 ]
 

@@ -1,6 +1,6 @@
 -- A rebuild keeps the world sound, last complete contents and every set's word.
 use Rattle.std.specs.Prelude.{◌≡◌, ◌≤◌, ◌+◌, ℕ, length, Result, Ok, Err, IfOk, OnErr}
-use Rattle.std.proofs.Common.{refl, sym, subst, inl, inr}
+use Rattle.std.proofs.Common.{refl, sym, ◌∙◌, subst, arith, inl, inr}
 use Rattle.cb_member.specs.declared.no_memory.NoMemory.{NoMemory}
 use Rattle.cb_set.specs.SetState.{SetState}
 use Rattle.cb_types.specs.declared.reply.Reply.{Reply}
@@ -8,8 +8,9 @@ use Rattle.cb_world.specs.declared.shown.Shown.{Shown}
 use Rattle.cb_world.specs.Now.{now}
 use Rattle.cb_world.specs.FarState.{FarState}
 use Rattle.cb_world.specs.Sound.{Sound}
-use Rattle.cb_world.proofs.Alike.{recounted_sound}
-use Rattle.cb_rebuild.specs.RebuildStep.{IsFirstWeak, IsRebuilt, KeepWords, Restores, far_given}
+use Rattle.cb_world.specs.Surveyed.{IsSurvey, gone_below}
+use Rattle.cb_world.proofs.Alike.{recounted_sound, retold_sound}
+use Rattle.cb_rebuild.specs.RebuildStep.{FindsNone, IsFirstWeak, IsRebuilt, KeepWords, Restores, far_given, surveyed}
 use Rattle.cb_rebuild.proofs.RestoredFar.{Stands, stood_now, stood_sound, word_stays}
 
 -- what a change of the far state keeps
@@ -24,6 +25,55 @@ keeps_all s far sound = record {
   same_now = λ h. refl;
   words = λ id set rows there word. (set, there, word);
 }
+
+-- one change after another
+keeps_both : (s : Shown) (far mid new : FarState) → Keeps s far mid → Keeps s mid new
+    → Keeps s far new
+keeps_both s far mid new x y = record {
+  sound = y.sound;
+  same_now = λ h. y.same_now h ∙ x.same_now h;
+  words = λ id set rows there word. let a = x.words id set rows there word in
+      y.words id a.0 rows a.1 a.2;
+}
+
+-- ---- the survey
+survey_first : (s : Shown) (far : FarState) (id : ℕ) (set : SetState) → Sound s far
+    → IsFirstWeak far id set → IsSurvey far (record { below = id; gone = gone_below far id })
+survey_first s far id set sound first = record {
+  drawn = let l = sound.away.sound.sets.numbered id set first.there in omega (arith, l);
+  none = λ j other l there. first.least j other l there;
+  counted = refl;
+}
+
+keeps_survey : (s : Shown) (far : FarState) (n : ℕ) → Sound s far
+    → IsSurvey far (record { below = n; gone = gone_below far n }) → Keeps s far (surveyed far n)
+keeps_survey s far n sound holds = record {
+  sound = retold_sound s far far.counts.turns far.counts.by_job far.nodes.given
+      (record { below = n; gone = gone_below far n }) holds sound;
+  same_now = λ h. refl;
+  words = λ id set rows there word.
+      (set, there, record { code = word.code; survive = word.survive });
+}
+
+pub keeps_first : (s : Shown) (far : FarState) (id : ℕ) (set : SetState) → Sound s far
+    → IsFirstWeak far id set → Keeps s far (surveyed far id)
+keeps_first s far id set sound first =
+    keeps_survey s far id sound (survey_first s far id set sound first)
+
+pub keeps_none : (s : Shown) (far new : FarState) (r : Reply) → Sound s far → FindsNone far new r
+    → Keeps s far new
+keeps_none s far new r sound x = subst (Keeps s far) (sym x.state)
+    (keeps_survey s far far.counts.sets sound (record {
+      drawn = omega arith;
+      none = λ id set l there. x.none id set there;
+      counted = refl;
+    }))
+
+-- the set is the first that is weak also once those before it were looked at
+pub first_still : (far : FarState) (id n : ℕ) (set : SetState) → IsFirstWeak far id set
+    → IsFirstWeak (surveyed far n) id set
+first_still far id n set first =
+    record { there = first.there; weak = first.weak; least = first.least }
 
 pub keeps_given : (s : Shown) (far new : FarState) (n : ℕ) → Sound s far
     → new ≡ far_given far n → Keeps s far new
@@ -59,13 +109,28 @@ keeps_restored s far new id set r sound first (inl x) =
 keeps_restored s far new id set r sound first (inr x) =
     keeps_rebuilt s far new id set r sound first x
 
--- by the result
+-- by the result, once the sets before the first weak one were looked at
 pub keeps : (s : Shown) (far new : FarState) (id : ℕ) (r : Result Reply NoMemory) → Sound s far
     → ((set : SetState) × IsFirstWeak far id set)
-    → IfOk r (λ reply. (set : SetState) → IsFirstWeak far id set → Restores far id set new reply)
-    → OnErr r ((set : SetState) → IsFirstWeak far id set → (n : ℕ) × (n ≤ length set.positions)
-    × (new ≡ far_given far n)) → Keeps s far new
-keeps s far new id (Ok reply) sound first ok err =
-    keeps_restored s far new id first.0 reply sound first.1 (ok first.0 first.1)
-keeps s far new id (Err e) sound first ok err = let x = err first.0 first.1 in
-    keeps_given s far new x.0 sound x.2
+    → IfOk r (λ reply. (set : SetState) → IsFirstWeak (surveyed far id) id set
+    → Restores (surveyed far id) id set new reply)
+    → OnErr r ((set : SetState) → IsFirstWeak (surveyed far id) id set → (n : ℕ)
+    × (n ≤ length set.positions) × (new ≡ far_given (surveyed far id) n)) → Keeps s far new
+keeps s far new id r sound first ok err = keeps_both s far (surveyed far id) new before (after r ok err)
+  where
+    before : Keeps s far (surveyed far id)
+    before = keeps_first s far id first.0 sound first.1
+
+    still : IsFirstWeak (surveyed far id) id first.0
+    still = first_still far id id first.0 first.1
+
+    after : (r : Result Reply NoMemory)
+        → IfOk r (λ reply. (set : SetState) → IsFirstWeak (surveyed far id) id set
+        → Restores (surveyed far id) id set new reply)
+        → OnErr r ((set : SetState) → IsFirstWeak (surveyed far id) id set → (n : ℕ)
+        × (n ≤ length set.positions) × (new ≡ far_given (surveyed far id) n))
+        → Keeps s (surveyed far id) new
+    after (Ok reply) ok err =
+        keeps_restored s (surveyed far id) new id first.0 reply before.sound still (ok first.0 still)
+    after (Err e) ok err = let x = err first.0 still in
+        keeps_given s (surveyed far id) new x.0 before.sound x.2

@@ -28,7 +28,7 @@ use Rattle.cb_world.specs.Join.{IsFresh, IsJoin}
 use Rattle.cb_world.specs.Joining.{JoiningState}
 use Rattle.cb_world.specs.Now.{broken_home, broken_set, now, now_as}
 use Rattle.cb_world.specs.Sets.{Kept, set_in, if_committed}
-use Rattle.cb_world.specs.SetWord.{AreCurrent, IsShaped, IsWordOf, is_broken}
+use Rattle.cb_world.specs.SetWord.{AreCurrent, IsShaped, IsWeak, IsWordOf, is_broken}
 use Rattle.cb_world.specs.FarState.{FarState}
 use Rattle.cb_world.specs.FarSound.{IsSetWord, AreSets, AreAway, AreRows, Owner, of_set, of_leaving, of_joining, IsShardOf, AwaySound}
 use Rattle.cb_world.specs.Sound.{Sound}
@@ -38,7 +38,8 @@ use Rattle.cb_world.proofs.NodeJoin.{local_stays, noted_stays, claimed_stay}
 use Rattle.cb_world.proofs.Reserving.{reserved_is_other}
 use Rattle.cb_world.proofs.Rebuilt.{rebuilt_word}
 use Rattle.cb_world.proofs.SetChanging.{set_there}
-use Rattle.cb_rebuild.specs.RebuildStep.{IsNewShard, IsRowOf, IsWeak, with_name, with_put}
+use Rattle.cb_world.proofs.Surveying.{stands_still, survey_stays}
+use Rattle.cb_rebuild.specs.RebuildStep.{IsNewShard, IsRowOf, with_name, with_put}
 use Rattle.cb_rebuild.proofs.WeakSets.{least_is_lost, least_within, set_same, weak_not_broken}
 
 -- the row of the least lost position of a weak set was made again, and has a new shard
@@ -454,5 +455,11 @@ stood_sound s far id set p shard row sound x = record {
   away = record {
     sound = stood_away s far id set p shard row x;
     join = λ pair at. stood_join s far id set p shard row x pair at (sound.away.join pair at);
+    survey = survey_stays far (stood far id set p shard row) refl (omega arith)
+        (λ j l. stands_still far.members far.members (set_in far.sets j)
+        (set_in (stood far id set p shard row).sets j) refl
+        (others_stay s far id set p shard row x j
+        (λ here. sound.away.survey.none id set (omega (arith, l, here)) x.there x.weak)))
+        sound.away.survey;
   };
 }

@@ -1,7 +1,6 @@
 -- The walk over the sets.
 use Rattle.std.proofs.Common.{◌≡◌, ◌≢◌, ℕ, zero, suc, ◌+◌, ◌-◌, ◌<◌, ◌≤◌, Bool, true, false, nat_eq, Option, Some, None, length, map as mapped, refl, sym, ap, ◌∙◌, subst, arith, inl, inr}
 use Rattle.std.specs.FinMap as map
-use Rattle.std.specs.List.{count_by, range_with_len}
 use Rattle.std.proofs.lemmas.Bool.{cases_lt, cases_eq, false≢true, ltb-true, eq-eqb}
 use Rattle.std.proofs.lemmas.List.{get_or-map, get_or_past, length-map}
 use Rattle.std.proofs.lemmas.List.Folds.{list_any_at}
@@ -14,34 +13,18 @@ use Rattle.cb_world.specs.declared.shown.Shown.{Shown}
 use Rattle.cb_world.specs.Choices.{numbered, stands_on}
 use Rattle.cb_world.specs.Now.{broken_set}
 use Rattle.cb_world.specs.Sets.{set_in, if_committed}
-use Rattle.cb_world.specs.SetWord.{is_broken}
+use Rattle.cb_world.specs.SetWord.{IsWeak, is_broken}
+use Rattle.cb_world.specs.Surveyed.{IsSurvey, gone_below}
 use Rattle.cb_world.specs.FarState.{FarState}
 use Rattle.cb_world.specs.FarSound.{AwaySound}
-use Rattle.cb_world.proofs.Choices.{count_more, few_pass, number}
+use Rattle.cb_world.proofs.Choices.{few_pass, number}
+use Rattle.cb_world.proofs.Counting.{count_next}
 use Rattle.cb_world.proofs.GivenUp.{live_names}
 use Rattle.cb_rebuild.specs.declared.finding.Health.{Health}
 use Rattle.cb_rebuild.specs.declared.finding.Health.TheVariants as health
-use Rattle.cb_rebuild.specs.RebuildStep.{IsFirstWeak, IsWeak, gone_count}
+use Rattle.cb_rebuild.specs.RebuildStep.{IsFirstWeak, gone_count}
 use Rattle.cb_rebuild.specs.Finding.{HasHealth, HealthAt, gone_number}
 use Rattle.cb_rebuild.proofs.WeakSets.{weak_not_broken}
-
-abbrev pub gone_below : FarState → ℕ → ℕ
-gone_below far n =
-    count_by (λ id. broken_set far.members (set_in far.sets id)) (range_with_len 0 n)
-
--- the sets below a number were looked at: none is weak, and so many are gone
-pub record Walked (far : FarState) (from gone : ℕ) : Type 0 where
-  pub within : from ≤ far.counts.sets
-  pub none : (j : ℕ) (set : SetState) → j < from → set_in far.sets j ≡ Some set
-      → ¬ (IsWeak far.members set)
-  pub counted : gone ≡ gone_below far from
-
-pub starts : (far : FarState) → Walked far 0 0
-starts far = record {
-  within = omega arith;
-  none = λ j set l. absurd (omega (arith, l));
-  counted = refl;
-}
 
 none_some : (set : SetState) → None ≡ Some set → ⊥
 none_some set e = cc
@@ -53,20 +36,22 @@ skip_by : (far : FarState) (a d : ℕ)
 skip_by far a zero none = ap (gone_below far) (let e : a + 0 ≡ a = omega arith in e)
 skip_by far a (suc d) none =
     let e : a + suc d ≡ a + d + 1 = omega arith in
-    let more = count_more (λ id. broken_set far.members (set_in far.sets id)) 0 (a + d) in
-    let z : 0 + (a + d) ≡ a + d = omega arith in
-    let here : broken_set far.members (set_in far.sets (0 + (a + d))) ≡ false =
-    ap (λ (n : ℕ). broken_set far.members (set_in far.sets n)) z
-    ∙ ap (λ o. broken_set far.members (if_committed o)) (none (a + d) (omega arith) (omega arith)) in
+    let more = count_next (λ id. broken_set far.members (set_in far.sets id)) (a + d) in
+    let here : broken_set far.members (set_in far.sets (a + d)) ≡ false =
+    ap (λ o. broken_set far.members (if_committed o)) (none (a + d) (omega arith) (omega arith)) in
     let one = ap number here in
     let rest = skip_by far a d (λ j low high. none j low (omega (arith, high))) in
     ap (gone_below far) e ∙ omega (arith, more, one, rest)
+
+-- the sets below a number were looked at: none is weak, and so many are gone
+abbrev pub Walked : FarState → ℕ → ℕ → Type 0
+Walked far from gone = IsSurvey far (record { below = from; gone = gone })
 
 pub walked_to : (far : FarState) (from id gone : ℕ) → Walked far from gone → from ≤ id
     → id ≤ far.counts.sets → ((j : ℕ) → from ≤ j → j < id → map.get far.sets j ≡ None)
     → Walked far id gone
 walked_to far from id gone w low high none = record {
-  within = high;
+  drawn = high;
   none = λ j set l there. elim (cases_lt j from) [
     | inl before ↦ w.none j set before there
     | inr after ↦ absurd (none_some set (sym (ap if_committed (none j (omega (arith, after)) l)) ∙ there))
@@ -104,26 +89,24 @@ pub walked_over : (far : FarState) (id gone : ℕ) (x : Health) → Walked far i
     → id < far.counts.sets → HealthAt far.members (set_in far.sets id) x → x ≢ health.Weak
     → Walked far (id + 1) (gone + gone_number x)
 walked_over far id gone x w below has off = record {
-  within = omega (arith, below);
+  drawn = omega (arith, below);
   none = λ j set l there. elim (cases_eq j id) [
     | inl here ↦ not_weak far.members set x
         (subst (λ (o : Option SetState). HealthAt far.members o x)
         (ap (set_in far.sets) (sym here) ∙ there) has) off
     | inr other ↦ w.none j set (omega (arith, l, other)) there
   ];
-  counted = let more = count_more (λ n. broken_set far.members (set_in far.sets n)) 0 id in
-      let z : 0 + id ≡ id = omega arith in
-      let e = ap (λ (n : ℕ). number (broken_set far.members (set_in far.sets n))) z in
+  counted = let more = count_next (λ n. broken_set far.members (set_in far.sets n)) id in
       let c = here_counted far.members (set_in far.sets id) x has off in
       let d = w.counted in
-      omega (arith, more, e, c, d);
+      omega (arith, more, c, d);
 }
 
 -- ---- what is found
 pub found_first : (far : FarState) (id gone : ℕ) → Walked far id gone
-    → HealthAt far.members (set_in far.sets id) health.Weak → (set : SetState)
-    × IsFirstWeak far id set
-found_first far id gone w has = by (set_in far.sets id) refl has
+    → HealthAt far.members (set_in far.sets id) health.Weak → ((set : SetState)
+    × IsFirstWeak far id set) × (gone ≡ gone_below far id)
+found_first far id gone w has = (by (set_in far.sets id) refl has, w.counted)
   where
     whole_weak : health.Weak ≡ health.Whole → ⊥
     whole_weak e = cc
@@ -142,7 +125,7 @@ pub found_none : (s : Shown) (far : FarState) (from gone : ℕ) → AwaySound s 
     → ((id : ℕ) (set : SetState) → set_in far.sets id ≡ Some set → ¬ (IsWeak far.members set))
     × (gone ≡ gone_count far)
 found_none s far from gone sound w none =
-    let x = walked_to far from far.counts.sets gone w w.within (omega arith) none in (
+    let x = walked_to far from far.counts.sets gone w w.drawn (omega arith) none in (
       λ id set there. x.none id set (sound.sets.numbered id set there) there,
       x.counted,
     )

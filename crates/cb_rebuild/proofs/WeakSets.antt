@@ -13,10 +13,9 @@ use Rattle.cb_set.specs.Lost.{NodesAreMembers, is_lost, least_lost, lost}
 use Rattle.cb_set.proofs.Laws.{none_whole}
 use Rattle.cb_world.specs.declared.shown.Shown.{Shown}
 use Rattle.cb_world.specs.Sets.{set_in}
-use Rattle.cb_world.specs.SetWord.{is_broken}
+use Rattle.cb_world.specs.SetWord.{IsWeak, is_broken}
 use Rattle.cb_world.specs.FarState.{FarState}
 use Rattle.cb_world.specs.FarSound.{AwaySound}
-use Rattle.cb_rebuild.specs.RebuildStep.{IsWeak}
 
 pub set_same : (a b : SetState) → Some a ≡ Some b → a ≡ b
 set_same a b e = cc
@@ -30,13 +29,6 @@ found_set o b x set e f there =
 pub found_there : (o : Option (Bor SetState)) (b : Bor SetState) (x : Option SetState)
     → option_map (λ s. s.now) o ≡ x → o ≡ Some b → x ≡ Some b.now
 found_there o b x e f = sym e ∙ ap (λ q. option_map (λ s. s.now) q) f
-
--- the nodes of a committed set's shards are members
-pub are_members : (s : Shown) (far : FarState) (id : ℕ) (set : SetState) → AwaySound s far
-    → set_in far.sets id ≡ Some set → NodesAreMembers far.members set.shards
-are_members s far id set sound there k d l =
-    ((sound.sets.shaped id set there).current k (get_or set.shards k d)
-    (slice_get-get_or set.shards k d l)).0
 
 -- ---- the least lost position
 some_same : (a b : ℕ) → Some a ≡ Some b → a ≡ b

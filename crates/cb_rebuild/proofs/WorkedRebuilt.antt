@@ -181,6 +181,7 @@ first = record {
   least = λ j c l. absurd (omega (arith, l));
 }
 
+-- no set was looked at before the first one: the survey stays
 step : RebuildStep old after reply
 step = inr (record { id = 0; set = set; first = first; restores = inr rebuilt })
 

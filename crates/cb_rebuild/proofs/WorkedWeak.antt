@@ -16,10 +16,12 @@ use Rattle.cb_types.specs.declared.reply.Reply.TheVariants as answer
 use Rattle.cb_world.specs.Choices.{MayPut}
 use Rattle.cb_world.specs.Sets.{Kept, SetMap, if_committed, set_in}
 use Rattle.cb_world.specs.FarState.{FarState}
+use Rattle.cb_world.specs.Surveyed.{gone_below}
 use Rattle.cb_world.specs.Survey.{no_survey}
+use Rattle.cb_world.specs.SetWord.{IsWeak}
 use Rattle.cb_rebuild.specs.declared.finding.Found.TheVariants as found
 use Rattle.cb_rebuild.specs.declared.finding.Health.TheVariants as health
-use Rattle.cb_rebuild.specs.RebuildStep.{FindsNone, IsFirstWeak, IsStuck, IsWeak, gone_count}
+use Rattle.cb_rebuild.specs.RebuildStep.{FindsNone, IsFirstWeak, IsStuck, gone_count, surveyed}
 use Rattle.cb_rebuild.specs.Finding.{Finds, HasHealth, HealthAt, gone_number}
 use Rattle.cb_rebuild.proofs.WorkedWord.{at, members, node, none_some, on, some_same}
 
@@ -143,11 +145,11 @@ none_weak (suc j) c at x = none_some c (sym (none_else gone j) ∙ at)
 lone_count : gone_count lone ≡ 1
 lone_count = grind (arith, only_of gone, none_else gone 0, none_else gone 1)
 
-finds_none : FindsNone lone lone (answer.Whole 1)
+finds_none : FindsNone lone (surveyed lone 3) (answer.Whole 1)
 finds_none = record {
   none = none_weak;
   reply = ap (λ (n : ℕ). answer.Whole n) (sym lone_count);
-  same = refl;
+  state = refl;
 }
 
 -- the number in a reply
@@ -156,17 +158,31 @@ number_in (answer.Whole n) = n
 number_in (answer.Stuck set) = set.n
 number_in _ = 0
 
-tells_none_gone : FindsNone lone lone (answer.Whole 0) → ⊥
+tells_none_gone : FindsNone lone (surveyed lone 3) (answer.Whole 0) → ⊥
 tells_none_gone x = let e : 0 ≡ gone_count lone = ap number_in x.reply in
     let n = lone_count in omega (arith, e, n)
 
-changes_a_count : FindsNone lone (record lone { made = 3 }) (answer.Whole 1) → ⊥
-changes_a_count x = let e : 3 ≡ 2 = ap (λ (f : FarState). f.made) x.same in omega (arith, e)
+changes_a_count : FindsNone lone (record (surveyed lone 3) { made = 3 }) (answer.Whole 1) → ⊥
+changes_a_count x = let e : 3 ≡ 2 = ap (λ (f : FarState). f.made) x.state in omega (arith, e)
+
+-- what was found is kept
+forgets_what_it_found : FindsNone lone lone (answer.Whole 1) → ⊥
+forgets_what_it_found x =
+    let e : 0 ≡ 3 = ap (λ (f : FarState). f.survey.below) x.state in omega (arith, e)
+
+keeps_too_few_gone : FindsNone lone (record lone { survey = record { below = 3; gone = 0 } })
+    (answer.Whole 1) → ⊥
+keeps_too_few_gone x = let e : 0 ≡ gone_count lone = ap (λ (f : FarState). f.survey.gone) x.state in
+    let n = lone_count in omega (arith, e, n)
+
+surveyed_so : (surveyed lone 1).survey ≡ record { below = 1; gone = 1 }
+surveyed_so = ap (λ (n : ℕ). record { below = 1; gone = n })
+    (let e : gone_below lone 1 ≡ 1 = grind (arith, only_of gone) in e)
 
 abbrev pub lone_weak : FarState
 lone_weak = far (one 0 weak) 2
 
-passes_a_weak_one_over : FindsNone lone_weak lone_weak (answer.Whole 0) → ⊥
+passes_a_weak_one_over : FindsNone lone_weak (surveyed lone_weak 3) (answer.Whole 0) → ⊥
 passes_a_weak_one_over x = x.none 0 weak (only_of weak) weak_is
 
 -- ---- no node is spare: none has room
@@ -238,12 +254,18 @@ numbers : gone_number health.Whole ∷ gone_number health.Weak ∷ gone_number h
 numbers = refl
 
 -- ---- what a walk finds
-finds_weak : Finds (far (both whole weak) 2) (found.Weak 1)
-finds_weak = (weak, first_weak)
+none_before : gone_below (far (both whole weak) 2) 1 ≡ 0
+none_before = grind (arith, first_of whole weak)
 
-finds_whole_in_place : Finds (far (both whole weak) 2) (found.Weak 0) → ⊥
+finds_weak : Finds (far (both whole weak) 2) (found.Weak 1 0)
+finds_weak = ((weak, first_weak), sym none_before)
+
+finds_whole_in_place : Finds (far (both whole weak) 2) (found.Weak 0 0) → ⊥
 finds_whole_in_place x = whole_is_not_weak (subst (IsWeak members)
-    (some_same x.0 whole (sym x.1.there ∙ first_of whole weak)) x.1.weak)
+    (some_same x.0.0 whole (sym x.0.1.there ∙ first_of whole weak)) x.0.1.weak)
+
+finds_one_gone_before : Finds (far (both whole weak) 2) (found.Weak 1 1) → ⊥
+finds_one_gone_before x = let e = x.1 in let n = none_before in omega (arith, e, n)
 
 finds_gone : Finds lone (found.Whole 1)
 finds_gone = (none_weak, sym lone_count)

@@ -4,13 +4,14 @@ use Rattle.cb_member.specs.Membership.{Membership}
 use Rattle.cb_set.specs.SetState.{SetState}
 use Rattle.cb_set.specs.Lost.{lost}
 use Rattle.cb_world.specs.Sets.{set_in}
-use Rattle.cb_world.specs.SetWord.{is_broken}
+use Rattle.cb_world.specs.SetWord.{IsWeak, is_broken}
+use Rattle.cb_world.specs.Surveyed.{gone_below}
 use Rattle.cb_world.specs.FarState.{FarState}
 use Rattle.cb_rebuild.specs.declared.finding.Found.{Found}
 use Rattle.cb_rebuild.specs.declared.finding.Found.TheVariants as found
 use Rattle.cb_rebuild.specs.declared.finding.Health.{Health}
 use Rattle.cb_rebuild.specs.declared.finding.Health.TheVariants as health
-use Rattle.cb_rebuild.specs.RebuildStep.{IsFirstWeak, IsWeak, gone_count}
+use Rattle.cb_rebuild.specs.RebuildStep.{IsFirstWeak, gone_count}
 
 -- how a set stands: it lost nothing, or what can be made again, or more than that
 abbrev pub HasHealth : Membership → SetState → Health → Type 0
@@ -29,9 +30,11 @@ gone_number health.Whole = 0
 gone_number health.Weak = 0
 gone_number health.Gone = 1
 
--- the first set that is weak, or that none is and how many are gone
+-- the first set that is weak and how many before it are gone, or that none is weak and how many are
+-- gone
 abbrev pub Finds : FarState → Found → Type 0
-Finds far (found.Weak id) = (set : SetState) × IsFirstWeak far id set
+Finds far (found.Weak id gone) =
+    ((set : SetState) × IsFirstWeak far id set) × (gone ≡ gone_below far id)
 Finds far (found.Whole gone) =
     ((id : ℕ) (set : SetState) → set_in far.sets id ≡ Some set → ¬ (IsWeak far.members set))
     × (gone ≡ gone_count far)

@@ -1,28 +1,22 @@
 -- The rebuild of a lost row: which set and position, where its row is put, and the far state then.
-use Rattle.std.specs.Prelude.{◌≡◌, ◌⊎◌, ℕ, ◌+◌, ◌<◌, ◌≤◌, true, List, Some, length}
-use Rattle.std.specs.List.{count_by, range_with_len}
+use Rattle.std.specs.Prelude.{◌≡◌, ◌⊎◌, ℕ, ◌+◌, ◌<◌, true, List, Some, length}
 use Rattle.std.specs.FinMap as map
 use Rattle.cb_gf256.specs.Rows.{row_at}
 use Rattle.cb_member.specs.declared.names.NodeId.{NodeId}
 use Rattle.cb_member.specs.declared.names.Shard.{Shard}
-use Rattle.cb_member.specs.Membership.{Membership, incarnation}
+use Rattle.cb_member.specs.Membership.{incarnation}
 use Rattle.cb_node.specs.NodesState.{with_row}
-use Rattle.cb_set.specs.SetState.{SetState, parities, with_shard}
-use Rattle.cb_set.specs.Lost.{least_lost, lost}
+use Rattle.cb_set.specs.SetState.{SetState, with_shard}
+use Rattle.cb_set.specs.Lost.{least_lost}
 use Rattle.cb_set.specs.Nodes.{other_shards}
 use Rattle.cb_types.specs.declared.reply.Reply.{Reply}
 use Rattle.cb_types.specs.declared.reply.Reply.TheVariants as answer
 use Rattle.cb_world.specs.Choices.{IsLeastNode, MayPut}
 use Rattle.cb_world.specs.Fetched.{with_given}
-use Rattle.cb_world.specs.Now.{broken_set}
 use Rattle.cb_world.specs.Sets.{set_in}
-use Rattle.cb_world.specs.SetWord.{IsWordOf}
+use Rattle.cb_world.specs.SetWord.{IsWeak, IsWordOf}
+use Rattle.cb_world.specs.Surveyed.{gone_below}
 use Rattle.cb_world.specs.FarState.{FarState}
-
--- the set has lost shards, and no more than it has parities: what it lost can be made again
-pub record IsWeak (m : Membership) (set : SetState) : Type 0 where
-  pub some_lost : 1 ≤ length (lost m set.shards)
-  pub few_lost : length (lost m set.shards) ≤ parities set
 
 -- the set of this number is committed and weak, and none of a lesser number is
 pub record IsFirstWeak (far : FarState) (id : ℕ) (set : SetState) : Type 0 where
@@ -33,14 +27,18 @@ pub record IsFirstWeak (far : FarState) (id : ℕ) (set : SetState) : Type 0 whe
 
 -- how many committed sets have lost more shards than they have parities
 abbrev pub gone_count : FarState → ℕ
-gone_count far =
-    count_by (λ id. broken_set far.members (set_in far.sets id)) (range_with_len 0 far.counts.sets)
+gone_count far = gone_below far far.counts.sets
 
--- no committed set is weak: the answer tells how many have lost more, and nothing changes
+-- the far state once the sets with a number below this one were looked at
+abbrev pub surveyed : FarState → ℕ → FarState
+surveyed far n = record far { survey = record { below = n; gone = gone_below far n } }
+
+-- no committed set is weak: the answer tells how many have lost more, all sets were looked at, and
+-- nothing else changes
 pub record FindsNone (far new : FarState) (r : Reply) : Type 0 where
   pub none : (id : ℕ) (set : SetState) → set_in far.sets id ≡ Some set → ¬ (IsWeak far.members set)
   pub reply : r ≡ answer.Whole (gone_count far)
-  pub same : new ≡ far
+  pub state : new ≡ surveyed far far.counts.sets
 
 -- no node with room is one that no other position of the set names than the lost one: nothing
 -- changes
@@ -104,12 +102,12 @@ pub record IsRebuilt (far : FarState) (id : ℕ) (set : SetState) (new : FarStat
 abbrev pub Restores : FarState → ℕ → SetState → FarState → Reply → Type 0
 Restores far id set new r = IsStuck far id set new r ⊎ IsRebuilt far id set new r
 
--- what becomes of the first set that is weak
+-- what becomes of the first set that is weak, once the sets before it were looked at
 pub record RestoresFirst (far new : FarState) (r : Reply) : Type 0 where
   pub id : ℕ
   pub set : SetState
   pub first : IsFirstWeak far id set
-  pub restores : Restores far id set new r
+  pub restores : Restores (surveyed far id) id set new r
 
 -- a turn of the rebuild: the reply and the far state after it
 abbrev pub RebuildStep : FarState → FarState → Reply → Type 0

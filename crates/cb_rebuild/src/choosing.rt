@@ -8,7 +8,7 @@ ghost use Rattle.cb_world.specs.declared.shown.Shown.{Shown};
 ghost use Rattle.cb_world.specs.Sets.{set_in};
 ghost use Rattle.cb_world.specs.FarSound.{AwaySound};
 ghost use Rattle.cb_world.specs.Choices.{IsLeastNode, MayPut};
-ghost use Rattle.cb_rebuild.specs.RebuildStep.{IsWeak};
+ghost use Rattle.cb_world.specs.SetWord.{IsWeak};
 
 use cb_member::{NodeId, Shard};
 use cb_set::SpanSet;

@@ -5,6 +5,7 @@ ghost use Rattle.cb_set.specs.Lost.{NodesAreMembers};
 ghost use Rattle.cb_world.specs.declared.shown.Shown.{Shown};
 ghost use Rattle.cb_world.specs.Sets.{set_in};
 ghost use Rattle.cb_world.specs.FarSound.{AwaySound};
+ghost use Rattle.cb_world.specs.Surveyed.{IsSurvey};
 ghost use Rattle.cb_rebuild.specs.declared.finding.Health.TheVariants as Health;
 ghost use Rattle.cb_rebuild.specs.Finding.{Finds, HasHealth, HealthAt, gone_number};
 
@@ -23,8 +24,8 @@ pub(crate) enum Health {
 /// What the walk over the sets found.
 #[derive(Clone, Copy, Debug, PartialEq, Eq)]
 pub(crate) enum Found {
-    /// The first set that is weak.
-    Weak { id: u64 },
+    /// The first set that is weak; so many before it are gone.
+    Weak { id: u64, gone: u32 },
     /// No set is weak; so many are gone.
     Whole { gone: u32 },
 }
@@ -92,19 +93,21 @@ fn next_drawn(far: &Far, from: u64) -> Option<u64>
     None
 }
 
-/// The first set that is weak, by number; where none is, how many are gone. Looks at each set up to
-/// that one once, in order, and takes no memory.
+/// The first set that is weak, by number, and how many before it are gone; where none is weak, how
+/// many are gone. Goes on from the survey: looks once at each set from there up to that one, in order.
+/// Takes no memory.
 pub(crate) fn find_weak(far: &Far) -> Found
     requires sound { (s : Shown) × AwaySound s far.now }
+    requires survey { IsSurvey far.now far.now.survey }
     requires homes { length far.now.homes < 2 ^ 32 }
     ensures { Finds far.now result }
 {
-    let mut gone = 0;
-    let mut from = 0;
+    let mut gone = far.survey.gone;
+    let mut from = far.survey.below;
     while let Some(id) = next_drawn(far, from) {
         let health = health_at(far, id);
         if is_weak(health) {
-            return Found::Weak { id };
+            return Found::Weak { id, gone };
         }
         gone += gone_number(health);
         from = id + 1;

@@ -6,13 +6,13 @@ ghost use Rattle.cb_world.specs.World.{IsConfigured};
 ghost use Rattle.cb_world.specs.FarSound.{AwaySound};
 ghost use Rattle.cb_world.specs.Sound.{Sound};
 ghost use Rattle.cb_world.specs.Now.{now};
-ghost use Rattle.cb_rebuild.specs.RebuildStep.{IsFirstWeak, KeepWords, RebuildStep, Restores, far_given};
+ghost use Rattle.cb_rebuild.specs.RebuildStep.{IsFirstWeak, KeepWords, RebuildStep, Restores, far_given, surveyed};
 
 use crate::choosing::{lost_position, next_shard, spare_node};
 use crate::finding::{Found, find_weak};
 use crate::restoring::{name_shard, put_again};
 use cb_types::{NoMemory, Reply, SetId};
-use cb_world::{Desk, Far};
+use cb_world::{Desk, Far, Survey};
 
 /// Puts the least lost row of the first set that is weak on a spare node.
 fn restore(far: &mut Far, id: u64) -> Result<Reply, NoMemory>
@@ -50,9 +50,10 @@ fn restore(far: &mut Far, id: u64) -> Result<Reply, NoMemory>
 /// word of local memory is looked at.
 ///
 /// Answers Whole where no set is so, with the count of those that have lost more than they have
-/// parities; and Stuck where there is no such node. Looks at each committed set up to that one once,
-/// in order; nothing else walks over all sets. Where there is no memory, at most k rows were given
-/// out and nothing else has changed.
+/// parities; and Stuck where there is no such node. Goes on from what earlier calls found: between
+/// two crashes each set is looked at once, and the one that is weak again by each call. Where there
+/// is no memory, at most k rows were given out, the sets before that one were looked at, and nothing
+/// else has changed.
 pub fn rebuild_next<D: Desk>(desk: &mut D, far: &mut Far) -> Result<Reply, NoMemory>
     requires config { IsAccepted (D.settings desk.old) }
     requires configured { IsConfigured (D.settings desk.old) far.old }
@@ -63,13 +64,20 @@ pub fn rebuild_next<D: Desk>(desk: &mut D, far: &mut Far) -> Result<Reply, NoMem
     ensures step { IfOk result (λ reply. RebuildStep far.old far.new reply) }
     ensures error { OnErr result ((id : ℕ) × (set : SetState) × (n : ℕ)
         × IsFirstWeak far.old id set × (n ≤ length set.positions)
-        × (far.new ≡ far_given far.old n)) }
+        × (far.new ≡ far_given (surveyed far.old id) n)) }
     ensures sound { (s : Shown) → Sound s far.old → Sound s far.new }
     ensures now { (s : Shown) (h : ℕ) → Sound s far.old → now s far.new h ≡ now s far.old h }
     ensures words { (s : Shown) → Sound s far.old → KeepWords far.old far.new }
 {
     match find_weak(far) {
-        Found::Whole { gone } => Ok(Reply::Whole { gone }),
-        Found::Weak { id } => restore(far, id),
+        Found::Whole { gone } => {
+            let below = far.counts.sets;
+            far.survey = Survey { below, gone };
+            Ok(Reply::Whole { gone })
+        }
+        Found::Weak { id, gone } => {
+            far.survey = Survey { below: id, gone };
+            restore(far, id)
+        }
     }
 }

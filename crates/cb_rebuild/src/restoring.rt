@@ -5,7 +5,8 @@ ghost use Rattle.cb_set.specs.SetState.{SetState, with_shard};
 ghost use Rattle.cb_world.specs.declared.shown.Shown.{Shown};
 ghost use Rattle.cb_world.specs.Sets.{set_in};
 ghost use Rattle.cb_world.specs.FarSound.{AwaySound};
-ghost use Rattle.cb_rebuild.specs.RebuildStep.{IsRowOf, IsWeak, far_given, with_name, with_put};
+ghost use Rattle.cb_world.specs.SetWord.{IsWeak};
+ghost use Rattle.cb_rebuild.specs.RebuildStep.{IsRowOf, far_given, with_name, with_put};
 
 use cb_member::Shard;
 use cb_node::{Nodes, PutAnswer};

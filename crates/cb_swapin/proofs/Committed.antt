@@ -25,11 +25,6 @@ pub found_set : (o : Option (Bor SetState)) (b : Bor SetState) (x : Option SetSt
 found_set o b x set e f there =
     set_same b.now set (sym (ap (λ q. option_map (λ s. s.now) q) f) ∙ e ∙ there)
 
-pub are_members : (m : Membership) (set : SetState) → IsShaped m set
-    → NodesAreMembers m set.shards
-are_members m set shaped k d l =
-    (shaped.current k (get_or set.shards k d) (slice_get-get_or set.shards k d l)).0
-
 -- a live position names an object, whose words are in the set's row; its count of slots is that of
 -- a class
 pub record IsLivePosition (s : Shown) (far : FarState) (id p : ℕ) (set : SetState) : Type 0 where

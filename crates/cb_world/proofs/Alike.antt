@@ -1,39 +1,47 @@
--- Far states that differ in counts of turns and of rows given out alone are sound alike.
+-- Far states that differ alone in counts of turns and of rows given out, and in what is known of how
+-- the sets stand, are sound alike.
 use Rattle.std.proofs.Common.{ℕ, List, refl, arith}
 use Rattle.cb_member.specs.declared.names.Shard.{Shard}
 use Rattle.cb_set.specs.SetState.{SetState}
 use Rattle.cb_world.specs.declared.shown.Shown.{Shown}
+use Rattle.cb_world.specs.declared.survey.Survey.{Survey}
 use Rattle.cb_world.specs.FarState.{FarState}
+use Rattle.cb_world.specs.Surveyed.{IsSurvey}
 use Rattle.cb_world.specs.FarSound.{AwaySound, Owner, of_set, of_leaving, of_joining, IsShardOf}
 use Rattle.cb_world.specs.Join.{IsFresh, IsJoin}
 use Rattle.cb_world.specs.Joining.{JoiningState}
 use Rattle.cb_world.specs.Sound.{Sound}
 use Rattle.cb_world.proofs.Joined.{pair_kept}
-use Rattle.cb_world.proofs.Surveying.{survey_same}
 use Rattle.cb_world.proofs.NodeJoin.{local_stays, noted_stays, claimed_stay}
 
--- the far state, where so many turns were counted, by job, and so many rows given out
-abbrev pub recounted : FarState → ℕ → List ℕ → ℕ → FarState
-recounted far turns by_job given = record far {
+-- the far state, where so many turns were counted, by job, and so many rows given out, and this is
+-- known of the sets
+abbrev pub retold : FarState → ℕ → List ℕ → ℕ → Survey → FarState
+retold far turns by_job given survey = record far {
   nodes = record far.nodes { given = given };
   counts = record far.counts { turns = turns; by_job = by_job };
+  survey = survey;
 }
 
-there : (far : FarState) (turns : ℕ) (by_job : List ℕ) (given : ℕ) (o : Owner) (a : Shard)
-    → IsShardOf far o a → IsShardOf (recounted far turns by_job given) o a
-there far turns by_job given (of_set id p) a is = is
-there far turns by_job given (of_leaving p) a is = is
-there far turns by_job given (of_joining p) a is = is
+-- the far state where what is known of the sets stays
+abbrev pub recounted : FarState → ℕ → List ℕ → ℕ → FarState
+recounted far turns by_job given = retold far turns by_job given far.survey
 
-back : (far : FarState) (turns : ℕ) (by_job : List ℕ) (given : ℕ) (o : Owner) (a : Shard)
-    → IsShardOf (recounted far turns by_job given) o a → IsShardOf far o a
-back far turns by_job given (of_set id p) a is = is
-back far turns by_job given (of_leaving p) a is = is
-back far turns by_job given (of_joining p) a is = is
+there : (far : FarState) (turns : ℕ) (by_job : List ℕ) (given : ℕ) (survey : Survey) (o : Owner) (a : Shard)
+    → IsShardOf far o a → IsShardOf (retold far turns by_job given survey) o a
+there far turns by_job given survey (of_set id p) a is = is
+there far turns by_job given survey (of_leaving p) a is = is
+there far turns by_job given survey (of_joining p) a is = is
 
-away_alike : (s : Shown) (far : FarState) (turns : ℕ) (by_job : List ℕ) (given : ℕ)
-    → AwaySound s far → AwaySound s (recounted far turns by_job given)
-away_alike s far turns by_job given sound = record {
+back : (far : FarState) (turns : ℕ) (by_job : List ℕ) (given : ℕ) (survey : Survey) (o : Owner) (a : Shard)
+    → IsShardOf (retold far turns by_job given survey) o a → IsShardOf far o a
+back far turns by_job given survey (of_set id p) a is = is
+back far turns by_job given survey (of_leaving p) a is = is
+back far turns by_job given survey (of_joining p) a is = is
+
+away_alike : (s : Shown) (far : FarState) (turns : ℕ) (by_job : List ℕ) (given : ℕ) (survey : Survey)
+    → AwaySound s far → AwaySound s (retold far turns by_job given survey)
+away_alike s far turns by_job given survey sound = record {
   sets = record {
     shaped = sound.sets.shaped;
     worded = λ id set at. let x = sound.sets.worded id set at in (
@@ -52,11 +60,11 @@ away_alike s far turns by_job given sound = record {
     members = sound.rows.members;
     counted = sound.rows.counted;
     owned = λ q key row at. let x = sound.rows.owned q key row at in
-        (x.0, x.1, there far turns by_job given x.0 x.1 x.2, x.3, x.4, x.5);
-    one = λ o q a b x y same. sound.rows.one o q a b (back far turns by_job given o a x)
-        (back far turns by_job given q b y) same;
-    drawn = λ o a x. sound.rows.drawn o a (back far turns by_job given o a x);
-    current = λ o a x. sound.rows.current o a (back far turns by_job given o a x);
+        (x.0, x.1, there far turns by_job given survey x.0 x.1 x.2, x.3, x.4, x.5);
+    one = λ o q a b x y same. sound.rows.one o q a b (back far turns by_job given survey o a x)
+        (back far turns by_job given survey q b y) same;
+    drawn = λ o a x. sound.rows.drawn o a (back far turns by_job given survey o a x);
+    current = λ o a x. sound.rows.current o a (back far turns by_job given survey o a x);
   };
   batch = λ b at. let x = sound.batch b at in record {
     word = x.word;
@@ -66,9 +74,9 @@ away_alike s far turns by_job given sound = record {
   };
 }
 
-pair_alike : (far : FarState) (turns : ℕ) (by_job : List ℕ) (given : ℕ) (pair : JoiningState)
-    → IsJoin far pair → IsJoin (recounted far turns by_job given) pair
-pair_alike far turns by_job given pair j = pair_kept far (recounted far turns by_job given) pair
+pair_alike : (far : FarState) (turns : ℕ) (by_job : List ℕ) (given : ℕ) (survey : Survey) (pair : JoiningState)
+    → IsJoin far pair → IsJoin (retold far turns by_job given survey) pair
+pair_alike far turns by_job given survey pair j = pair_kept far (retold far turns by_job given survey) pair
     (record {
       more_sets = omega arith;
       more_keys = omega arith;
@@ -78,7 +86,7 @@ pair_alike far turns by_job given pair j = pair_kept far (recounted far turns by
       new_stay = λ c d f p shard at. refl;
     }) j
   where
-    before : (c d : SetState) → IsFresh (recounted far turns by_job given) pair c d
+    before : (c d : SetState) → IsFresh (retold far turns by_job given survey) pair c d
         → IsFresh far pair c d
     before c d f = record {
       a_there = f.a_there;
@@ -89,17 +97,23 @@ pair_alike far turns by_job given pair j = pair_kept far (recounted far turns by
       b_whole = f.b_whole;
     }
 
-pub recounted_sound : (s : Shown) (far : FarState) (turns : ℕ) (by_job : List ℕ) (given : ℕ)
-    → Sound s far → Sound s (recounted far turns by_job given)
-recounted_sound s far turns by_job given x = record {
-  here = local_stays s far (recounted far turns by_job given) refl refl refl refl x.here;
-  noted = noted_stays s far (recounted far turns by_job given) refl refl refl (omega arith)
+-- a survey that holds may take the place of another
+pub retold_sound : (s : Shown) (far : FarState) (turns : ℕ) (by_job : List ℕ) (given : ℕ)
+    (survey : Survey) → IsSurvey far survey → Sound s far
+    → Sound s (retold far turns by_job given survey)
+retold_sound s far turns by_job given survey holds x = record {
+  here = local_stays s far (retold far turns by_job given survey) refl refl refl refl x.here;
+  noted = noted_stays s far (retold far turns by_job given survey) refl refl refl (omega arith)
       (λ batch at. refl) x.noted;
-  claimed = claimed_stay s far (recounted far turns by_job given) refl refl x.claimed;
+  claimed = claimed_stay s far (retold far turns by_job given survey) refl refl x.claimed;
   away = record {
-    sound = away_alike s far turns by_job given x.away.sound;
-    join = λ pair at. pair_alike far turns by_job given pair (x.away.join pair at);
-    survey = survey_same far (recounted far turns by_job given) refl refl (omega arith)
-        (λ id. refl) x.away.survey;
+    sound = away_alike s far turns by_job given survey x.away.sound;
+    join = λ pair at. pair_alike far turns by_job given survey pair (x.away.join pair at);
+    survey = record { drawn = holds.drawn; none = holds.none; counted = holds.counted };
   };
 }
+
+pub recounted_sound : (s : Shown) (far : FarState) (turns : ℕ) (by_job : List ℕ) (given : ℕ)
+    → Sound s far → Sound s (recounted far turns by_job given)
+recounted_sound s far turns by_job given x =
+    retold_sound s far turns by_job given far.survey x.away.survey x

@@ -3,6 +3,9 @@ use Rattle.std.proofs.Common.{◌≡◌, ◌≢◌, ◌⊎◌, ◌↔◌, ℕ, B
 use Rattle.std.specs.List.{list_any}
 use Rattle.std.proofs.lemmas.Bool.{cases_eq, cases_lt}
 use Rattle.std.proofs.lemmas.List.{get_or_past}
+use Rattle.std.proofs.lemmas.Option.{slice_get-get_or}
+use Rattle.cb_member.specs.Membership.{Membership}
+use Rattle.cb_set.specs.Lost.{NodesAreMembers}
 use Rattle.cb_set.specs.SetState.{SetState, PositionState, dead_position, position_of, slot_at, with_cleared, without_object}
 use Rattle.cb_set.proofs.Laws.{named_live, rest_without}
 use Rattle.cb_span.specs.Places.{slot_place}
@@ -16,6 +19,7 @@ use Rattle.cb_world.specs.Shown.{object_at, version_at, never}
 use Rattle.cb_world.specs.Homes.{home_at}
 use Rattle.cb_world.specs.Sets.{set_in}
 use Rattle.cb_world.specs.SetAdded.{is_far}
+use Rattle.cb_world.specs.SetWord.{IsShaped}
 use Rattle.cb_world.specs.Stored.{AreThere}
 use Rattle.cb_world.specs.Leaving.{LeavingState}
 use Rattle.cb_world.specs.FarState.{FarState}
@@ -286,6 +290,11 @@ pub shards_there : (s : Shown) (far : FarState) (id : ℕ) (c : SetState) → Aw
 shards_there s far id c sound there q shard at =
     let y = ((sound.sets.shaped id c there).current q shard at).0 in
     let n = sound.rows.counted in omega (arith, y, n)
+
+-- the nodes of a set's shards are members
+pub are_members : (m : Membership) (c : SetState) → IsShaped m c → NodesAreMembers m c.shards
+are_members m c shaped k d within =
+    (shaped.current k (get_or c.shards k d) (slice_get-get_or c.shards k d within)).0
 
 pub far_gives_up : (s t : Shown) (far : FarState) (h len v : ℕ) (words : List ℕ) (home : Home)
     (set : SetState) → IsFarFreed s t far h len v words home set

@@ -1,6 +1,6 @@
 use Rattle.std.proofs.Common.{ℕ, ◌+◌, ◌<◌, [], ◌∷◌, sym, refl, subst, arith, inr}
 use Rattle.cb_world.specs.declared.event.Event.TheVariants.{Told, Stamped}
-use Rattle.cb_world.proofs.FarGone.{home_within, shards_there}
+use Rattle.cb_world.proofs.FarGone.{are_members, home_within, shards_there}
 use Rattle.cb_mutate.proofs.Emptied.{with_stamped}
 use Rattle.cb_mutate.proofs.FarFreed.{far_held, far_may_free, far_told, home_known, its_home}
 use Rattle.cb_mutate.proofs.freeing.free_far.Goals as goal
@@ -35,6 +35,8 @@ remove_far-requires-clause-home g c =
       k.lies,
       home_within s far h k.home k.set had.2.away.sound k.lies,
       shards_there s far k.home.set k.set had.2.away.sound k.lies.there,
+      are_members far.members k.set
+          (had.2.away.sound.sets.shaped k.home.set k.set k.lies.there),
     )
 
 pub remove_far-requires-clause-within : goal.remove_far-requires-clause-within

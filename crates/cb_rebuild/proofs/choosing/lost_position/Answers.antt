@@ -4,7 +4,8 @@ use Rattle.cb_set.specs.SetState.{SetState}
 use Rattle.cb_set.specs.Lost.{NodesAreMembers, least_lost}
 use Rattle.cb_world.specs.Sets.{set_in}
 use Rattle.cb_world.specs.FarState.{FarState}
-use Rattle.cb_rebuild.proofs.WeakSets.{are_members, found_set, some_least}
+use Rattle.cb_world.proofs.FarGone.{are_members}
+use Rattle.cb_rebuild.proofs.WeakSets.{found_set, some_least}
 use Rattle.cb_rebuild.proofs.choosing.lost_position.Goals as goal
 
 pub least_lost-requires : goal.least_lost-requires
@@ -16,7 +17,7 @@ least_lost-requires c =
     subst (λ (m : Membership). NodesAreMembers m c.unwrap-set.result.now.shards)
     (sym (ap (λ (q : FarState). q.members) c.far.view_is))
     (subst (λ (x : SetState). NodesAreMembers far.members x.shards) (sym same)
-    (are_members c.requires.sound.0 far c.args.id set c.requires.sound.1 weak.1))
+    (are_members far.members set (c.requires.sound.1.sets.shaped c.args.id set weak.1)))
 
 pub unwrap-requires : goal.unwrap-requires
 unwrap-requires c =

@@ -3,7 +3,8 @@ use Rattle.cb_member.specs.Membership.{Membership}
 use Rattle.cb_set.specs.Lost.{NodesAreMembers}
 use Rattle.cb_world.specs.Sets.{set_in}
 use Rattle.cb_world.specs.FarState.{FarState}
-use Rattle.cb_rebuild.proofs.WeakSets.{are_members, found_there}
+use Rattle.cb_world.proofs.FarGone.{are_members}
+use Rattle.cb_rebuild.proofs.WeakSets.{found_there}
 use Rattle.cb_rebuild.proofs.finding.health_at.Goals as goal
 
 pub health_of-requires : goal.health_of-requires
@@ -14,5 +15,5 @@ health_of-requires c =
     record {
       nodes = subst (λ (m : Membership). NodesAreMembers m set.shards)
           (sym (ap (λ (q : FarState). q.members) c.far.view_is))
-          (are_members c.requires.sound.0 far c.args.id set c.requires.sound.1 there);
+          (are_members far.members set (c.requires.sound.1.sets.shaped c.args.id set there));
     }
