@@ -1,6 +1,6 @@
 -- A rebuild keeps the world sound, last complete contents and every set's word.
 use Rattle.std.specs.Prelude.{◌≡◌, ◌≤◌, ◌+◌, ℕ, length, Result, Ok, Err, IfOk, OnErr}
-use Rattle.std.proofs.Common.{refl, sym, ◌∙◌, subst, arith, inl, inr}
+use Rattle.std.proofs.Common.{refl, sym, ap, ◌∙◌, subst, arith, inl, inr}
 use Rattle.cb_member.specs.declared.no_memory.NoMemory.{NoMemory}
 use Rattle.cb_set.specs.SetState.{SetState}
 use Rattle.cb_types.specs.declared.reply.Reply.{Reply}
@@ -10,7 +10,10 @@ use Rattle.cb_world.specs.FarState.{FarState}
 use Rattle.cb_world.specs.Sound.{Sound}
 use Rattle.cb_world.specs.Surveyed.{IsSurvey, gone_below}
 use Rattle.cb_world.proofs.Alike.{recounted_sound, retold_sound}
-use Rattle.cb_rebuild.specs.RebuildStep.{FindsNone, IsFirstWeak, IsRebuilt, KeepWords, Restores, far_given, surveyed}
+use Rattle.cb_rebuild.specs.declared.finding.Found.{Found}
+use Rattle.cb_rebuild.specs.declared.finding.Found.TheVariants as found
+use Rattle.cb_rebuild.specs.Finding.{with_found}
+use Rattle.cb_rebuild.specs.RebuildStep.{FindsNone, IsFirstWeak, IsRebuilt, KeepWords, RebuildStep, Restores, far_given, gone_count, surveyed}
 use Rattle.cb_rebuild.proofs.RestoredFar.{Stands, stood_now, stood_sound, word_stays}
 
 -- what a change of the far state keeps
@@ -109,28 +112,58 @@ keeps_restored s far new id set r sound first (inl x) =
 keeps_restored s far new id set r sound first (inr x) =
     keeps_rebuilt s far new id set r sound first x
 
--- by the result, once the sets before the first weak one were looked at
+-- what the restoring of the first weak set ends in
+pub record Ends (far new : FarState) (id : ℕ) (r : Result Reply NoMemory) : Type 0 where
+  pub step : IfOk r (λ reply. (set : SetState) → IsFirstWeak far id set
+      → Restores far id set new reply)
+  pub error : OnErr r ((set : SetState) → IsFirstWeak far id set → (n : ℕ)
+      × (n ≤ length set.positions) × (new ≡ far_given far n))
+
+keeps_ends : (s : Shown) (far new : FarState) (id : ℕ) (set : SetState)
+    (r : Result Reply NoMemory) → Sound s far → IsFirstWeak far id set → Ends far new id r
+    → Keeps s far new
+keeps_ends s far new id set (Ok reply) sound first x =
+    keeps_restored s far new id set reply sound first (x.step set first)
+keeps_ends s far new id set (Err e) sound first x = let y = x.error set first in
+    keeps_given s far new y.0 sound y.2
+
+-- once the sets before it were looked at
 pub keeps : (s : Shown) (far new : FarState) (id : ℕ) (r : Result Reply NoMemory) → Sound s far
-    → ((set : SetState) × IsFirstWeak far id set)
-    → IfOk r (λ reply. (set : SetState) → IsFirstWeak (surveyed far id) id set
-    → Restores (surveyed far id) id set new reply)
-    → OnErr r ((set : SetState) → IsFirstWeak (surveyed far id) id set → (n : ℕ)
-    × (n ≤ length set.positions) × (new ≡ far_given (surveyed far id) n)) → Keeps s far new
-keeps s far new id r sound first ok err = keeps_both s far (surveyed far id) new before (after r ok err)
-  where
-    before : Keeps s far (surveyed far id)
-    before = keeps_first s far id first.0 sound first.1
+    → ((set : SetState) × IsFirstWeak far id set) → Ends (surveyed far id) new id r
+    → Keeps s far new
+keeps s far new id r sound first x = let before = keeps_first s far id first.0 sound first.1 in
+    keeps_both s far (surveyed far id) new before
+    (keeps_ends s (surveyed far id) new id first.0 r before.sound
+    (first_still far id id first.0 first.1) x)
 
-    still : IsFirstWeak (surveyed far id) id first.0
-    still = first_still far id id first.0 first.1
+-- ---- what was found, as it is kept
+pub found_weak : (far new : FarState) (f : Found) (id gone : ℕ) → new ≡ with_found far f
+    → f ≡ found.Weak id gone → gone ≡ gone_below far id → new ≡ surveyed far id
+found_weak far new f id gone kept is counted = kept ∙ ap (with_found far) is
+    ∙ ap (λ (n : ℕ). record far { survey = record { below = id; gone = n } }) counted
 
-    after : (r : Result Reply NoMemory)
-        → IfOk r (λ reply. (set : SetState) → IsFirstWeak (surveyed far id) id set
-        → Restores (surveyed far id) id set new reply)
-        → OnErr r ((set : SetState) → IsFirstWeak (surveyed far id) id set → (n : ℕ)
-        × (n ≤ length set.positions) × (new ≡ far_given (surveyed far id) n))
-        → Keeps s (surveyed far id) new
-    after (Ok reply) ok err =
-        keeps_restored s (surveyed far id) new id first.0 reply before.sound still (ok first.0 still)
-    after (Err e) ok err = let x = err first.0 still in
-        keeps_given s (surveyed far id) new x.0 before.sound x.2
+pub found_whole : (far new : FarState) (f : Found) (gone : ℕ) → new ≡ with_found far f
+    → f ≡ found.Whole gone → gone ≡ gone_count far → new ≡ surveyed far far.counts.sets
+found_whole far new f gone kept is counted = kept ∙ ap (with_found far) is
+    ∙ ap (λ (n : ℕ). record far { survey = record { below = far.counts.sets; gone = n } }) counted
+
+-- ---- the step, and what an error leaves
+pub steps_first : (far new : FarState) (id : ℕ) (r : Result Reply NoMemory)
+    → ((set : SetState) × IsFirstWeak far id set) → Ends (surveyed far id) new id r
+    → IfOk r (λ reply. RebuildStep far new reply)
+steps_first far new id (Ok reply) first x = inr (record {
+  id = id;
+  set = first.0;
+  first = first.1;
+  restores = x.step first.0 (first_still far id id first.0 first.1);
+})
+steps_first far new id (Err e) first x = x.step
+
+pub error_first : (far new : FarState) (id : ℕ) (r : Result Reply NoMemory)
+    → ((set : SetState) × IsFirstWeak far id set) → Ends (surveyed far id) new id r
+    → OnErr r ((j : ℕ) × (set : SetState) × (n : ℕ) × IsFirstWeak far j set
+    × (n ≤ length set.positions) × (new ≡ far_given (surveyed far j) n))
+error_first far new id (Ok reply) first x = x.error
+error_first far new id (Err e) first x =
+    let y = x.error first.0 (first_still far id id first.0 first.1) in
+    (id, first.0, y.0, first.1, y.1, y.2)

@@ -38,3 +38,9 @@ Finds far (found.Weak id gone) =
 Finds far (found.Whole gone) =
     ((id : ℕ) (set : SetState) → set_in far.sets id ≡ Some set → ¬ (IsWeak far.members set))
     × (gone ≡ gone_count far)
+
+-- the far state once this is known of its sets
+abbrev pub with_found : FarState → Found → FarState
+with_found far (found.Weak id gone) = record far { survey = record { below = id; gone = gone } }
+with_found far (found.Whole gone) =
+    record far { survey = record { below = far.counts.sets; gone = gone } }

@@ -7,11 +7,11 @@ ghost use Rattle.cb_world.specs.Sets.{set_in};
 ghost use Rattle.cb_world.specs.FarSound.{AwaySound};
 ghost use Rattle.cb_world.specs.Surveyed.{IsSurvey};
 ghost use Rattle.cb_rebuild.specs.declared.finding.Health.TheVariants as Health;
-ghost use Rattle.cb_rebuild.specs.Finding.{Finds, HasHealth, HealthAt, gone_number};
+ghost use Rattle.cb_rebuild.specs.Finding.{Finds, HasHealth, HealthAt, gone_number, with_found};
 
 use cb_member::Members;
 use cb_set::SpanSet;
-use cb_world::Far;
+use cb_world::{Far, Survey};
 
 /// How a set stands: it has lost nothing, or what can be made again, or more than that.
 #[derive(Clone, Copy, Debug, PartialEq, Eq)]
@@ -113,4 +113,15 @@ pub(crate) fn find_weak(far: &Far) -> Found
         from = id + 1;
     }
     Found::Whole { gone }
+}
+
+/// Keeps what was found: the sets before the weak one were looked at, or all where none is weak.
+pub(crate) fn keep_found(far: &mut Far, found: Found)
+    ensures { far.new ≡ with_found far.old found }
+{
+    let drawn = far.counts.sets;
+    far.survey = match found {
+        Found::Weak { id, gone } => Survey { below: id, gone },
+        Found::Whole { gone } => Survey { below: drawn, gone },
+    };
 }

@@ -9,10 +9,10 @@ ghost use Rattle.cb_world.specs.Now.{now};
 ghost use Rattle.cb_rebuild.specs.RebuildStep.{IsFirstWeak, KeepWords, RebuildStep, Restores, far_given, surveyed};
 
 use crate::choosing::{lost_position, next_shard, spare_node};
-use crate::finding::{Found, find_weak};
+use crate::finding::{Found, find_weak, keep_found};
 use crate::restoring::{name_shard, put_again};
 use cb_types::{NoMemory, Reply, SetId};
-use cb_world::{Desk, Far, Survey};
+use cb_world::{Desk, Far};
 
 /// Puts the least lost row of the first set that is weak on a spare node.
 fn restore(far: &mut Far, id: u64) -> Result<Reply, NoMemory>
@@ -69,15 +69,10 @@ pub fn rebuild_next<D: Desk>(desk: &mut D, far: &mut Far) -> Result<Reply, NoMem
     ensures now { (s : Shown) (h : ℕ) → Sound s far.old → now s far.new h ≡ now s far.old h }
     ensures words { (s : Shown) → Sound s far.old → KeepWords far.old far.new }
 {
-    match find_weak(far) {
-        Found::Whole { gone } => {
-            let below = far.counts.sets;
-            far.survey = Survey { below, gone };
-            Ok(Reply::Whole { gone })
-        }
-        Found::Weak { id, gone } => {
-            far.survey = Survey { below: id, gone };
-            restore(far, id)
-        }
+    let found = find_weak(far);
+    keep_found(far, found);
+    match found {
+        Found::Whole { gone } => Ok(Reply::Whole { gone }),
+        Found::Weak { id, .. } => restore(far, id),
     }
 }
