@@ -10,8 +10,8 @@ use Rattle.cb_world.specs.Plain.{Words}
 use Rattle.cb_world.specs.Seats.{SeatState}
 use Rattle.cb_world.specs.Sound.{Sound}
 use Rattle.cb_world.specs.World.{ArePinned, IsKnown}
-use Rattle.cb_rebuild.specs.RebuildStep.{IsFirstWeak, RebuildStep, Restores}
-use Rattle.cb_rebuild.proofs.RebuildKeeps.{Keeps, keeps_all, keeps_restored}
+use Rattle.cb_rebuild.specs.RebuildStep.{IsFirstWeak, RebuildStep, Restores, surveyed}
+use Rattle.cb_rebuild.proofs.RebuildKeeps.{keeps_first, keeps_step}
 use Rattle.cb_swapin.specs.Fetching.{far_given}
 use Rattle.cb_swapin.proofs.FarHomes.{given_known, given_failed}
 use Rattle.cb_core.specs.Parts.{Holding}
@@ -29,8 +29,8 @@ pub record Grows (far new : FarState) : Type 0 where
   pub made : new.made ≡ far.made
   pub rises : Rises 16 far new
 
-grows_same : (far new : FarState) → new ≡ far → Grows far new
-grows_same far new same = subst (Grows far) (sym same) (record {
+grows_survey : (far : FarState) (n : ℕ) → Grows far (surveyed far n)
+grows_survey far n = record {
   spans = refl;
   homes = refl;
   nodes = refl;
@@ -44,11 +44,13 @@ grows_same far new same = subst (Grows far) (sym same) (record {
     epoch = omega arith;
     given = omega arith;
   };
-})
+}
 
 grows_restored : (x : Words) (far new : FarState) (s : Shown) (id : ℕ) (set : SetState) (r : Reply)
-    → IsKnown x far s → IsFirstWeak far id set → Restores far id set new r → Grows far new
-grows_restored x far new s id set r k first (inl stuck) = grows_same far new stuck.same
+    → IsKnown x far s → IsFirstWeak far id set → Restores (surveyed far id) id set new r
+    → Grows far new
+grows_restored x far new s id set r k first (inl stuck) =
+    subst (Grows far) (sym stuck.same) (grows_survey far id)
 grows_restored x far new s id set r k first (inr z) =
     let most : (far_given far (length set.positions)).nodes.given ≤ far.nodes.given + 16 =
     given_failed x far s id (length set.positions) set k first.there (omega arith) in
@@ -70,14 +72,10 @@ grows_restored x far new s id set r k first (inr z) =
 
 pub rebuild_grows : (x : Words) (far new : FarState) (s : Shown) (r : Reply) → IsKnown x far s
     → RebuildStep far new r → Grows far new
-rebuild_grows x far new s r k (inl none) = grows_same far new none.same
+rebuild_grows x far new s r k (inl none) =
+    subst (Grows far) (sym none.state) (grows_survey far far.counts.sets)
 rebuild_grows x far new s r k (inr z) =
     grows_restored x far new s z.id z.set r k z.first z.restores
-
-rebuild_keeps : (s : Shown) (far new : FarState) (r : Reply) → Sound s far → RebuildStep far new r
-    → Keeps s far new
-rebuild_keeps s far new r sound (inl none) = subst (Keeps s far) (sym none.same) (keeps_all s far sound)
-rebuild_keeps s far new r sound (inr z) = keeps_restored s far new z.id z.set r sound z.first z.restores
 
 -- all that was known is known
 rebuild_known : (a b : Holding Words) (r : Reply) (s : Shown) → b.desk ≡ a.desk
@@ -86,7 +84,7 @@ rebuild_known a b r s same step k = subst (λ (x : Words). IsKnown x b.far s) (s
   sized = k.sized;
   shows = k.shows;
   hots = k.hots;
-  sound = (rebuild_keeps s a.far b.far r k.sound step).sound;
+  sound = (keeps_step s a.far b.far r k.sound step).sound;
   here = k.here;
 })
 
@@ -98,7 +96,7 @@ rebuild_part c seats a b r good (ran, step) =
         ran.0,
         step,
         λ s k.
-            (s, rebuild_known a b r s ran.0 step k, (rebuild_keeps s a.far b.far r k.sound step).same_now),
+            (s, rebuild_known a b r s ran.0 step k, (keeps_step s a.far b.far r k.sound step).same_now),
       );
       good = record {
         settings = ap (λ (x : Words). x.settings) ran.0 ∙ good.settings;
@@ -115,12 +113,24 @@ rebuild_part c seats a b r good (ran, step) =
     }
 
 -- ---- want of memory
+-- all is known where the sets before the first weak one were looked at
+surveyed_known : (x : Words) (far : FarState) (s : Shown) (id : ℕ) (set : SetState)
+    → IsKnown x far s → IsFirstWeak far id set → IsKnown x (surveyed far id) s
+surveyed_known x far s id set k first = record {
+  sized = k.sized;
+  shows = k.shows;
+  hots = k.hots;
+  sound = (keeps_first s far id set k.sound first).sound;
+  here = k.here;
+}
+
 pub rebuild_lack : (c : Config) (seats : List SeatState)
     → CarriesLack c seats 16 Any (RebuildLacks Ran) StillRebuildLacks
 rebuild_lack c seats a b good any (ran, (id, set, n, first, few, state)) =
     let most : (far_given a.far n).nodes.given ≤ a.far.nodes.given + 16 =
     given_failed a.desk a.far good.shown id n set good.known first.there few in
-    let same : b ≡ record { desk = a.desk; far = far_given a.far n } = both_same _ b ran.0 state in
+    let then_far = far_given (surveyed a.far id) n in
+    let same : b ≡ record { desk = a.desk; far = then_far } = both_same _ b ran.0 state in
     record {
       is = (ran.0, (id, set, n, first, few, state));
       good = subst (IsGood c seats) (sym same) (record {
@@ -131,7 +141,8 @@ rebuild_lack c seats a b good any (ran, (id, set, n, first, few, state)) =
           nodes = good.configured.nodes;
         };
         shown = good.shown;
-        known = given_known a.desk a.far good.shown n good.known;
+        known = given_known a.desk (surveyed a.far id) good.shown n
+            (surveyed_known a.desk a.far good.shown id set good.known first);
         pinned = good.pinned;
       });
       rises = subst (Rises 16 a.far) (sym state) (record {

@@ -37,7 +37,8 @@ use Rattle.cb_evict.specs.ShipRule.{Ships as ShipsRow}
 use Rattle.cb_evict.specs.Waiting.{waiting, least_waiting}
 use Rattle.cb_filter.specs.FilterStep.{refused, cools, without_slot, moves}
 use Rattle.cb_filter.specs.Seats.{Seat}
-use Rattle.cb_rebuild.specs.RebuildStep.{IsFirstWeak, IsWeak, RebuildStep}
+use Rattle.cb_world.specs.SetWord.{IsWeak}
+use Rattle.cb_rebuild.specs.RebuildStep.{IsFirstWeak, RebuildStep}
 use Rattle.cb_swapin.specs.Fetching.{far_given}
 use Rattle.cb_core.specs.Declining.{write_refusal}
 use Rattle.cb_core.specs.Parts.{Holding, no_room, declined, stays_far, not_far, was_far}

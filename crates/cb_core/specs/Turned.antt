@@ -37,7 +37,7 @@ use Rattle.cb_evict.specs.Evicting.{TouchesSpans}
 use Rattle.cb_evict.specs.ShipRule.{ReadsLeaving, ShipRule, ShipEffect}
 use Rattle.cb_filter.specs.FilterEffect.{FilterEffect}
 use Rattle.cb_filter.specs.FilterRule.{FilterRule, NeedsMemory}
-use Rattle.cb_rebuild.specs.RebuildStep.{IsFirstWeak, RebuildStep}
+use Rattle.cb_rebuild.specs.RebuildStep.{IsFirstWeak, RebuildStep, surveyed}
 use Rattle.cb_swapin.specs.Fetching.{far_given}
 use Rattle.cb_swapin.specs.SwapEffect.{SwapEffect}
 use Rattle.cb_swapin.specs.SwapRule.{SwapRule}
@@ -223,10 +223,11 @@ abbrev pub FilterLacks : {D : Type 0} → (D → List Event → D → Type 0) �
 FilterLacks run shows h a b = Performs (λ es. run a.desk es b.desk)
     (λ s. shows a.desk s × Sound s a.far) (NeedsMemory h a.far b.far) (λ t. Sound t b.far) IsStill
 
--- rows of the first weak set were given out, at most as many as it has data positions
+-- the sets before the first weak one were looked at, and rows of that one were given out, at most as
+-- many as it has data positions
 abbrev pub IsWeakGiven : FarState → FarState → Type 0
 IsWeakGiven far new = (id : ℕ) × (set : SetState) × (n : ℕ) × IsFirstWeak far id set
-    × (n ≤ length set.positions) × (new ≡ far_given far n)
+    × (n ≤ length set.positions) × (new ≡ far_given (surveyed far id) n)
 
 -- a rebuild that lacks memory has given out rows, and nothing else was done
 abbrev pub RebuildLacks : {D : Type 0} → (D → List Event → D → Type 0) → Holding D → Holding D

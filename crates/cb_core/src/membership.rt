@@ -4,10 +4,10 @@ ghost use Rattle.cb_core.specs.Membership.{CrashTurn, JoinTurn};
 
 use cb_member::MemberAnswer;
 use cb_types::{NoMemory, NodeId, Reply};
-use cb_world::Far;
+use cb_world::{Far, Survey};
 
-/// A crash of a node: it is down, and its rows are lost. Answers Down where it is down, and else
-/// the epoch that the crash began. Want of memory changes nothing, and is answered only where the
+/// A crash of a node: it is down, its rows are lost, and nothing more is known of how the sets
+/// stand. Answers Down where it is down, and else the epoch that the crash began. Want of memory changes nothing, and is answered only where the
 /// node is up.
 pub(crate) fn crash(far: &mut Far, node: NodeId) -> Result<Reply, NoMemory>
     requires member { node.n < length far.old.members.nodes }
@@ -20,6 +20,7 @@ pub(crate) fn crash(far: &mut Far, node: NodeId) -> Result<Reply, NoMemory>
     match far.members.crash(node)? {
         MemberAnswer::Changed { epoch } => {
             far.nodes.wipe(node);
+            far.survey = Survey::new();
             Ok(Reply::EpochAt { epoch })
         }
         MemberAnswer::Down { node } => Ok(Reply::Down { node }),

@@ -44,6 +44,7 @@ released_away far new h r = subst (KeepsAway far) (sym r.left) (record {
   leaving = refl;
   joining = refl;
   counts = refl;
+  survey = refl;
 })
 
 -- A free over a still desk is the map's.

@@ -67,6 +67,7 @@ made_away x y far new bytes z = subst (KeepsAway far) (sym z.state) (record {
   leaving = refl;
   joining = refl;
   counts = refl;
+  survey = refl;
 })
 
 made_call : (x y : Words) (far new : FarState) (s t : Shown) (bytes name : List ℕ) (r : Reply)

@@ -22,7 +22,7 @@ pub record Keeps (s : Shown) (far new : FarState) : Type 0 where
   pub same_now : (h : ℕ) → now s new h ≡ now s far h
   pub words : KeepWords far new
 
-pub keeps_all : (s : Shown) (far : FarState) → Sound s far → Keeps s far far
+keeps_all : (s : Shown) (far : FarState) → Sound s far → Keeps s far far
 keeps_all s far sound = record {
   sound = sound;
   same_now = λ h. refl;
@@ -78,7 +78,7 @@ pub first_still : (far : FarState) (id n : ℕ) (set : SetState) → IsFirstWeak
 first_still far id n set first =
     record { there = first.there; weak = first.weak; least = first.least }
 
-pub keeps_given : (s : Shown) (far new : FarState) (n : ℕ) → Sound s far
+keeps_given : (s : Shown) (far new : FarState) (n : ℕ) → Sound s far
     → new ≡ far_given far n → Keeps s far new
 keeps_given s far new n sound e = subst (Keeps s far) (sym e) (record {
   sound = recounted_sound s far far.counts.turns far.counts.by_job (far.nodes.given + n) sound;
@@ -105,7 +105,7 @@ keeps_rebuilt s far new id set r sound first x =
           word_stays s far id set x.position x.shard x.row stands j c rows there word;
     })
 
-pub keeps_restored : (s : Shown) (far new : FarState) (id : ℕ) (set : SetState) (r : Reply)
+keeps_restored : (s : Shown) (far new : FarState) (id : ℕ) (set : SetState) (r : Reply)
     → Sound s far → IsFirstWeak far id set → Restores far id set new r → Keeps s far new
 keeps_restored s far new id set r sound first (inl x) =
     subst (Keeps s far) (sym x.same) (keeps_all s far sound)
@@ -135,6 +135,16 @@ keeps s far new id r sound first x = let before = keeps_first s far id first.0 s
     keeps_both s far (surveyed far id) new before
     (keeps_ends s (surveyed far id) new id first.0 r before.sound
     (first_still far id id first.0 first.1) x)
+
+-- whatever the step was
+pub keeps_step : (s : Shown) (far new : FarState) (r : Reply) → Sound s far
+    → RebuildStep far new r → Keeps s far new
+keeps_step s far new r sound (inl none) = keeps_none s far new r sound none
+keeps_step s far new r sound (inr z) =
+    let before = keeps_first s far z.id z.set sound z.first in
+    keeps_both s far (surveyed far z.id) new before
+    (keeps_restored s (surveyed far z.id) new z.id z.set r before.sound
+    (first_still far z.id z.id z.set z.first) z.restores)
 
 -- ---- what was found, as it is kept
 pub found_weak : (far new : FarState) (f : Found) (id gone : ℕ) → new ≡ with_found far f
