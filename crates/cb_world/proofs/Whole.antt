@@ -87,19 +87,19 @@ given_whole s t far new id set p left x c = record {
       ∙ at in given_keeps_join s t far new id set p left pair x.sound was c (x.join pair was);
   survey = elim c.after [
     | inl on ↦ survey_stays far new on.survey drawn (λ j l. elim (cases_eq j id) [
-        | inl here ↦ stands_rest far.members new.members (set_in far.sets j) (set_in new.sets j)
-            set p left c.members (ap (set_in far.sets) here ∙ c.was)
-            (ap (set_in new.sets) here ∙ on.there)
-        | inr off ↦ other j off
-      ]) x.survey
+      | inl here ↦ stands_rest far.members new.members (set_in far.sets j) (set_in new.sets j)
+          set p left c.members (ap (set_in far.sets) here ∙ c.was)
+          (ap (set_in new.sets) here ∙ on.there)
+      | inr off ↦ other j off
+    ]) x.survey
     | inr gone ↦ survey_dropped far new id set (record {
-        survey = gone.survey
-            ∙ ap (survey_without far.survey id) (rest_broken far.members set p left);
-        drawn = drawn;
-        was = c.was;
-        gone = gone.gone;
-        others = other;
-      }) x.survey
+      survey = gone.survey
+          ∙ ap (survey_without far.survey id) (rest_broken far.members set p left);
+      drawn = drawn;
+      was = c.was;
+      gone = gone.gone;
+      others = other;
+    }) x.survey
   ];
 }
   where
