@@ -149,11 +149,10 @@ filter_line x y far new h r (moves seat slot is gets same) name =
 
 pub rebuild_line : (far new : FarState) (r : Reply) → RebuildStep far new r → IsReplyOf Rebuild r
 rebuild_line far new r (inl none) = subst (IsReplyOf Rebuild) (sym none.reply) tt
-rebuild_line far new r (inr z) = by z.id z.set z.restores
-  where
-    by : (id : ℕ) (set : SetState) → Restores far id set new r → IsReplyOf Rebuild r
-    by id set (inl stuck) = subst (IsReplyOf Rebuild) (sym stuck.reply) tt
-    by id set (inr rebuilt) = subst (IsReplyOf Rebuild) (sym rebuilt.reply) tt
+rebuild_line far new r (inr z) = elim z.restores [
+  | inl stuck ↦ subst (IsReplyOf Rebuild) (sym stuck.reply) tt
+  | inr rebuilt ↦ subst (IsReplyOf Rebuild) (sym rebuilt.reply) tt
+]
 
 -- ---- a filter as a call
 -- there is an object, or there was one

@@ -9,6 +9,7 @@ use Rattle.cb_types.specs.declared.reply.Reply.{Reply}
 use Rattle.cb_types.specs.declared.reply.Reply.TheVariants as answer
 use Rattle.cb_world.specs.FarState.{FarState}
 use Rattle.cb_world.specs.NodeChanges.{crashed_far, joined_far}
+use Rattle.cb_world.specs.Survey.{no_survey}
 use Rattle.cb_core.specs.Membership.{CrashTurn, crashed, is_down, JoinTurn, joined, is_up}
 
 abbrev node : ℕ → NodeId
@@ -44,8 +45,12 @@ abbrev without_rows : NodesState
 without_rows = with_rows rows (node 0) map.empty
 
 -- ---- a crash
+-- the far state where nothing is known of how the sets stand
+abbrev forgetful : FarState → FarState
+forgetful far = record far { survey = no_survey }
+
 crashes : (far : FarState) → CrashTurn (node 0) (with_nodes far rows both_up)
-    (answer.EpochAt (record { n = 5 })) (with_nodes far without_rows first_down)
+    (answer.EpochAt (record { n = 5 })) (forgetful (with_nodes far without_rows first_down))
 crashes far = crashed refl refl refl
 
 -- a node that is up crashes
@@ -58,7 +63,7 @@ is_crashed n far new r up (is_down down reply same) = absurd (let e = sym up ∙
 abbrev up_crashed : (far new : FarState) (r : Reply)
     → CrashTurn (node 0) (with_nodes far rows both_up) r new
     → (r ≡ answer.EpochAt (record { n = 5 }))
-    × (new ≡ with_nodes far without_rows first_down)
+    × (new ≡ forgetful (with_nodes far without_rows first_down))
 up_crashed far new r step = is_crashed (node 0) (with_nodes far rows both_up) new r refl step
 
 abbrev epoch_of : Reply → ℕ
@@ -66,7 +71,7 @@ epoch_of (answer.EpochAt epoch) = epoch.n
 epoch_of r = 0
 
 crashes_at_the_same_epoch : (far : FarState) → CrashTurn (node 0) (with_nodes far rows both_up)
-    (answer.EpochAt (record { n = 4 })) (with_nodes far without_rows first_down) → ⊥
+    (answer.EpochAt (record { n = 4 })) (forgetful (with_nodes far without_rows first_down)) → ⊥
 crashes_at_the_same_epoch far step =
     let e : 4 ≡ 5 = ap epoch_of (up_crashed far _ _ step).0 in omega (arith, e)
 
@@ -83,14 +88,14 @@ second_row : row_at without_rows (node 1) 7 ≡ Some (2 ∷ [])
 second_row = grind (arith, map.gets)
 
 crashes_and_keeps_a_row : (far : FarState) → CrashTurn (node 0) (with_nodes far rows both_up)
-    (answer.EpochAt (record { n = 5 })) (with_nodes far rows first_down) → ⊥
+    (answer.EpochAt (record { n = 5 })) (forgetful (with_nodes far rows first_down)) → ⊥
 crashes_and_keeps_a_row far step = none_some (1 ∷ []) (sym (sym first_row
     ∙ ap (λ (f : FarState). row_at f.nodes (node 0) 7) (up_crashed far _ _ step).1 ∙ first_gone))
 
 -- the rows of the other node stay
 crashes_another : (far : FarState) → CrashTurn (node 0) (with_nodes far rows both_up)
     (answer.EpochAt (record { n = 5 }))
-    (with_nodes far (with_rows without_rows (node 1) map.empty) first_down) → ⊥
+    (forgetful (with_nodes far (with_rows without_rows (node 1) map.empty) first_down)) → ⊥
 crashes_another far step =
     let none : row_at (with_rows without_rows (node 1) map.empty) (node 1) 7 ≡ None =
     grind (arith, map.gets) in
@@ -98,15 +103,22 @@ crashes_another far step =
     ∙ ap (λ (f : FarState). row_at f.nodes (node 1) 7) (up_crashed far _ _ step).1 ∙ second_row)
 
 crashes_and_stays_up : (far : FarState) → CrashTurn (node 0) (with_nodes far rows both_up)
-    (answer.EpochAt (record { n = 5 })) (with_nodes far without_rows both_up) → ⊥
+    (answer.EpochAt (record { n = 5 })) (forgetful (with_nodes far without_rows both_up)) → ⊥
 crashes_and_stays_up far step = let e : 4 ≡ 5 =
     ap (λ (f : FarState). f.members.epoch) (up_crashed far _ _ step).1 in omega (arith, e)
 
 crashes_and_makes : (far : FarState) → CrashTurn (node 0) (with_nodes far rows both_up)
     (answer.EpochAt (record { n = 5 }))
-    (record (with_nodes far without_rows first_down) { made = far.made + 1 }) → ⊥
+    (record (forgetful (with_nodes far without_rows first_down)) { made = far.made + 1 }) → ⊥
 crashes_and_makes far step = let e : far.made + 1 ≡ far.made =
     ap (λ (f : FarState). f.made) (up_crashed far _ _ step).1 in omega (arith, e)
+
+crashes_and_keeps_the_survey : (far : FarState) → CrashTurn (node 0)
+    (record (with_nodes far rows both_up) { survey = record { below = 1; gone = 0 } })
+    (answer.EpochAt (record { n = 5 }))
+    (record (with_nodes far without_rows first_down) { survey = record { below = 1; gone = 0 } }) → ⊥
+crashes_and_keeps_the_survey far step = let e : 1 ≡ 0 = ap (λ (f : FarState). f.survey.below)
+    (is_crashed (node 0) _ _ _ refl step).1 in omega (arith, e)
 
 -- a node that is down
 down_already : (far : FarState) → CrashTurn (node 0) (with_nodes far without_rows first_down)

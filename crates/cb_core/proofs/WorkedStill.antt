@@ -558,7 +558,7 @@ no_set id s at = none_set s (sym (ap if_committed (map.get-empty nat_cmp id)) �
     none_set s e = cc
 
 none_weak : RebuildStep near near (answer.Whole 0)
-none_weak = inl (record { none = λ id s at weak. no_set id s at; reply = refl; same = refl })
+none_weak = inl (record { none = λ id s at weak. no_set id s at; reply = refl; state = refl })
 
 rebuilds : StillRebuild (holds calm near) (answer.Whole 0) (holds calm near)
 rebuilds = (refl, none_weak, same_holds (holds calm near))
