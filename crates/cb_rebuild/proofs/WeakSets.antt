@@ -5,17 +5,13 @@ use Rattle.std.specs.Option.{option_map}
 use Rattle.std.specs.List.{slice_get, position_or_len}
 use Rattle.std.proofs.lemmas.Bool.{cases_lt, false≢true, ltb-true, lt-ltb}
 use Rattle.std.proofs.lemmas.List.Sums.{fails_before_first, passes_at_first}
-use Rattle.std.proofs.lemmas.Option.{slice_get-get_or, slice_get_within, get_or_from_slice_get}
+use Rattle.std.proofs.lemmas.Option.{slice_get_within, get_or_from_slice_get}
 use Rattle.cb_member.specs.declared.names.Shard.{Shard}
 use Rattle.cb_member.specs.Membership.{Membership}
 use Rattle.cb_set.specs.SetState.{SetState, parities}
-use Rattle.cb_set.specs.Lost.{NodesAreMembers, is_lost, least_lost, lost}
+use Rattle.cb_set.specs.Lost.{is_lost, least_lost, lost}
 use Rattle.cb_set.proofs.Laws.{none_whole}
-use Rattle.cb_world.specs.declared.shown.Shown.{Shown}
-use Rattle.cb_world.specs.Sets.{set_in}
 use Rattle.cb_world.specs.SetWord.{IsWeak, is_broken}
-use Rattle.cb_world.specs.FarState.{FarState}
-use Rattle.cb_world.specs.FarSound.{AwaySound}
 
 pub set_same : (a b : SetState) → Some a ≡ Some b → a ≡ b
 set_same a b e = cc

@@ -1,17 +1,13 @@
 -- What is known of a committed set of a sound world.
-use Rattle.std.proofs.Common.{◌≡◌, ◌≢◌, ℕ, ◌<◌, refl, IfNone, IsSome, true, Option, Some, None, Bor, length, get_or, sym, ap, ◌∙◌, inl, inr}
+use Rattle.std.proofs.Common.{◌≡◌, ◌≢◌, ℕ, ◌<◌, refl, IfNone, IsSome, true, Option, Some, None, Bor, length, sym, ap, ◌∙◌, inl, inr}
 use Rattle.std.specs.Option.{option_map}
-use Rattle.std.proofs.lemmas.Option.{slice_get-get_or}
 use Rattle.std.proofs.lemmas.Bool.{cases_lt, false≢true}
 use Rattle.std.proofs.lemmas.List.{get_or_past}
 use Rattle.cb_class.specs.declared.class.Class.{Class}
 use Rattle.cb_class.specs.Class.{IsClass, slots_of}
-use Rattle.cb_member.specs.Membership.{Membership}
 use Rattle.cb_set.specs.SetState.{PositionState, SetState, dead_position, live_at, position_of}
-use Rattle.cb_set.specs.Lost.{NodesAreMembers}
 use Rattle.cb_world.specs.declared.shown.Shown.{Shown}
 use Rattle.cb_world.specs.Sets.{set_in}
-use Rattle.cb_world.specs.SetWord.{IsShaped}
 use Rattle.cb_world.specs.FarState.{FarState}
 use Rattle.cb_world.specs.FarSound.{AwaySound}
 use Rattle.cb_world.proofs.GivenUp.{live_names}
