@@ -13,6 +13,7 @@ use Rattle.cb_world.specs.declared.homes.Home.{Home}
 use Rattle.cb_world.specs.declared.object.Object.{Object}
 use Rattle.cb_world.specs.declared.object.Object.TheVariants as is
 use Rattle.cb_world.specs.declared.shown.Shown.{Shown}
+use Rattle.cb_world.specs.declared.survey.Survey.{Survey}
 use Rattle.cb_world.specs.Memory.{window, bytes_in}
 use Rattle.cb_world.specs.Sets.{Kept, set_in}
 use Rattle.cb_world.specs.Homes.{home_at}
@@ -29,6 +30,7 @@ use Rattle.cb_world.specs.Join.{IsFresh}
 use Rattle.cb_world.specs.Now.{now, now_as, broken_set}
 use Rattle.cb_world.specs.Now.Now.{never, freed, held, gone}
 use Rattle.cb_world.specs.Sound.{IsNoted}
+use Rattle.cb_world.specs.Survey.{no_survey}
 use Rattle.cb_world.proofs.Apart.{some_same}
 use Rattle.cb_world.proofs.WorkedWorld.{far}
 
@@ -401,6 +403,13 @@ key_of_a_set : (s t : Shown) (new : FarState) (rows : List (List ℕ))
     → ¬ (IsSetAdded s t (away set) new 6 set rows)
 key_of_a_set s t new rows x =
     absurd (x.fresh_keys (of_set 5 0) (at 0 0) (set, there set, refl) 0 (at 0 0) refl refl)
+
+-- and what is known of the sets stays
+forgets_the_survey : (s t : Shown) (new : FarState) (rows : List (List ℕ)) → ¬ (IsSetAdded s t
+    (record (away set) { survey = record { below = 6; gone = 0 } })
+    (record new { survey = no_survey }) 6 set rows)
+forgets_the_survey s t new rows x =
+    absurd (let z : 0 ≡ 6 = ap (λ (s : Survey). s.below) x.survey in omega (arith, z))
 
 -- no word has 65 bits
 too_wide : ¬ (IsNoted (record leaver { objects = is.Claimed 2 512 1 (2 ^ 64 ∷ []) ∷ [] }) (noting calm) 0)
