@@ -72,3 +72,4 @@ mod WorkedLeft
 mod WorkedPlaced
 mod WorkedSeats
 mod WorkedSurvey
+mod WorkedSteps
