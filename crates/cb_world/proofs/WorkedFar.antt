@@ -1,6 +1,6 @@
 -- Worked examples of the far part of the sound world: for each fact a state that breaks it, and
 -- the last complete contents in each of their five forms.
-use Rattle.std.proofs.Common.{◌≡◌, ℕ, zero, suc, ◌^◌, ◌<◌, ◌≤◌, true, false, All, List, [], ◌∷◌, Option, None, Some, refl, ap, subst, sym, ◌∙◌, lit<, lit≤, arith}
+use Rattle.std.proofs.Common.{◌≡◌, ℕ, zero, suc, ◌+◌, ◌^◌, ◌<◌, ◌≤◌, true, false, All, List, [], ◌∷◌, Option, None, Some, refl, ap, subst, sym, ◌∙◌, lit<, lit≤, arith}
 use Rattle.std.proofs.lemmas.List.Elements.{All-nil, All-cons}
 use Rattle.std.specs.FinMap as map
 use Rattle.cb_member.specs.declared.names.NodeId.{NodeId}
@@ -30,7 +30,6 @@ use Rattle.cb_world.specs.Join.{IsFresh}
 use Rattle.cb_world.specs.Now.{now, now_as, broken_set}
 use Rattle.cb_world.specs.Now.Now.{never, freed, held, gone}
 use Rattle.cb_world.specs.Sound.{IsNoted}
-use Rattle.cb_world.specs.Survey.{no_survey}
 use Rattle.cb_world.proofs.Apart.{some_same}
 use Rattle.cb_world.proofs.WorkedWorld.{far}
 
@@ -404,12 +403,12 @@ key_of_a_set : (s t : Shown) (new : FarState) (rows : List (List ℕ))
 key_of_a_set s t new rows x =
     absurd (x.fresh_keys (of_set 5 0) (at 0 0) (set, there set, refl) 0 (at 0 0) refl refl)
 
--- and what is known of the sets stays
-forgets_the_survey : (s t : Shown) (new : FarState) (rows : List (List ℕ)) → ¬ (IsSetAdded s t
-    (record (away set) { survey = record { below = 6; gone = 0 } })
-    (record new { survey = no_survey }) 6 set rows)
-forgets_the_survey s t new rows x =
-    absurd (let z : 0 ≡ 6 = ap (λ (s : Survey). s.below) x.survey in omega (arith, z))
+-- and what is known of the sets stays: a change that adds a set is none with another survey
+tells_more : (s t : Shown) (far new : FarState) (id : ℕ) (set : SetState) (rows : List (List ℕ))
+    → IsSetAdded s t far new id set rows → ¬ (IsSetAdded s t far
+    (record new { survey = record new.survey { below = new.survey.below + 1 } }) id set rows)
+tells_more s t far new id set rows added x = absurd (let a = ap (λ (s : Survey). s.below) added.survey in
+    let b = ap (λ (s : Survey). s.below) x.survey in omega (arith, a, b))
 
 -- no word has 65 bits
 too_wide : ¬ (IsNoted (record leaver { objects = is.Claimed 2 512 1 (2 ^ 64 ∷ []) ∷ [] }) (noting calm) 0)
