@@ -73,3 +73,4 @@ mod WorkedPlaced
 mod WorkedSeats
 mod WorkedSurvey
 mod WorkedSteps
+mod WorkedAdded

@@ -1,6 +1,6 @@
 -- Worked examples of the far part of the sound world: for each fact a state that breaks it, and
 -- the last complete contents in each of their five forms.
-use Rattle.std.proofs.Common.{◌≡◌, ℕ, zero, suc, ◌+◌, ◌^◌, ◌<◌, ◌≤◌, true, false, All, List, [], ◌∷◌, Option, None, Some, refl, ap, subst, sym, ◌∙◌, lit<, lit≤, arith}
+use Rattle.std.proofs.Common.{◌≡◌, ℕ, zero, suc, ◌^◌, ◌<◌, ◌≤◌, true, false, All, List, [], ◌∷◌, Option, None, Some, refl, ap, subst, sym, ◌∙◌, lit<, lit≤, arith}
 use Rattle.std.proofs.lemmas.List.Elements.{All-nil, All-cons}
 use Rattle.std.specs.FinMap as map
 use Rattle.cb_member.specs.declared.names.NodeId.{NodeId}
@@ -13,7 +13,6 @@ use Rattle.cb_world.specs.declared.homes.Home.{Home}
 use Rattle.cb_world.specs.declared.object.Object.{Object}
 use Rattle.cb_world.specs.declared.object.Object.TheVariants as is
 use Rattle.cb_world.specs.declared.shown.Shown.{Shown}
-use Rattle.cb_world.specs.declared.survey.Survey.{Survey}
 use Rattle.cb_world.specs.Memory.{window, bytes_in}
 use Rattle.cb_world.specs.Sets.{Kept, set_in}
 use Rattle.cb_world.specs.Homes.{home_at}
@@ -402,13 +401,6 @@ key_of_a_set : (s t : Shown) (new : FarState) (rows : List (List ℕ))
     → ¬ (IsSetAdded s t (away set) new 6 set rows)
 key_of_a_set s t new rows x =
     absurd (x.fresh_keys (of_set 5 0) (at 0 0) (set, there set, refl) 0 (at 0 0) refl refl)
-
--- and what is known of the sets stays: a change that adds a set is none with another survey
-tells_more : (s t : Shown) (far new : FarState) (id : ℕ) (set : SetState) (rows : List (List ℕ))
-    → IsSetAdded s t far new id set rows → ¬ (IsSetAdded s t far
-    (record new { survey = record new.survey { below = new.survey.below + 1 } }) id set rows)
-tells_more s t far new id set rows added x = absurd (let a = ap (λ (s : Survey). s.below) added.survey in
-    let b = ap (λ (s : Survey). s.below) x.survey in omega (arith, a, b))
 
 -- no word has 65 bits
 too_wide : ¬ (IsNoted (record leaver { objects = is.Claimed 2 512 1 (2 ^ 64 ∷ []) ∷ [] }) (noting calm) 0)
