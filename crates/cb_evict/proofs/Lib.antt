@@ -47,7 +47,7 @@ mod BeginEnd
 pub mod BeginStep
 pub mod AfterBegin
 mod WorkedBegin
-mod WorkedWide
+pub mod WorkedWide
 pub mod PutShards
 pub mod ShippedFar
 pub mod ShipParts
