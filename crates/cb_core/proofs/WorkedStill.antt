@@ -30,11 +30,12 @@ use Rattle.cb_world.specs.World.{IsKnown, empty_world}
 use Rattle.cb_world.proofs.NowSame.{now_same}
 use Rattle.cb_world.proofs.Worlds.{empty_world_sound}
 use Rattle.cb_evict.specs.AbortStep.{no_batch as none_to_abort, given_up}
-use Rattle.cb_evict.specs.BeginStep.{is_leaving, few_spans as few_to_begin, few_nodes as few_to_take, begins}
+use Rattle.cb_evict.specs.BeginStep.{IsBeginStep, is_leaving, few_spans as few_to_begin, few_nodes as few_to_take, begins}
 use Rattle.cb_evict.specs.CommitStep.{no_batch as none_to_commit, short, committed}
 use Rattle.cb_evict.specs.EvictStep.{few_spans, few_nodes, made}
 use Rattle.cb_evict.specs.ShipRule.{Ships as ShipsRow}
 use Rattle.cb_evict.specs.Waiting.{waiting, least_waiting}
+use Rattle.cb_evict.proofs.WorkedWide.{calm as wide_calm, desk as wide_desk, far as wide_far, known as wide_shown, after as wide_after, all_known as wide_known, step as wide_step, none_known}
 use Rattle.cb_filter.specs.FilterStep.{refused, cools, without_slot, moves}
 use Rattle.cb_filter.specs.Seats.{Seat}
 use Rattle.cb_world.specs.SetWord.{IsWeak}
@@ -263,6 +264,20 @@ begins_beside (is_leaving b there reply state e, hold) = spans_leaving (record {
 begins_beside (few_to_begin none a e, hold) = some_batch none
 begins_beside (few_to_take none a e, hold) = some_batch none
 begins_beside (begins m, hold) = some_batch m.none
+
+-- a step that is a begin: all is known before it, and nothing after it
+abbrev wide : Holding Words
+wide = record { desk = wide_desk wide_calm; far = wide_far }
+
+abbrev widened : Holding Words
+widened = record { desk = wide_desk (wide_calm + 1); far = wide_after }
+
+begins_as_it_is : IsBeginStep wide.desk widened.desk wide.far widened.far (answer.Batch (record { n = 0 }))
+begins_as_it_is = wide_step
+
+begins_and_loses : StillBegin wide (answer.Batch (record { n = 0 })) widened → ⊥
+begins_and_loses (step, hold) =
+    let after = hold wide_shown wide_known in none_known after.0 after.1
 
 -- ---- a ship: the rows of both positions were put
 abbrev put : LeavingState

@@ -1,6 +1,6 @@
 -- Worked examples of a begin: the loose one of two spans is leaving from here; and for each part of
 -- what is said of it a value that breaks that part alone.
-use Rattle.std.proofs.Common.{◌≡◌, ◌⊎◌, ℕ, zero, suc, ◌+◌, ◌≤◌, Bool, true, false, List, [], ◌∷◌, ◌++◌, length, All, None, Some, refl, sym, ap, ◌∙◌, subst, lit<, lit≤, arith, inl, inr}
+use Rattle.std.proofs.Common.{◌≡◌, ◌⊎◌, ℕ, zero, suc, ◌+◌, ◌≤◌, Bool, true, false, List, [], ◌∷◌, ◌++◌, length, All, get_or, Option, None, Some, refl, sym, ap, ◌∙◌, subst, lit<, lit≤, arith, inl, inr}
 use Rattle.std.specs.FinMap as map
 use Rattle.std.proofs.lemmas.Bool.{false≢true}
 use Rattle.std.proofs.lemmas.List.Elements.{All-nil, All-cons}
@@ -10,23 +10,27 @@ use Rattle.cb_types.specs.declared.config.Config.{Config}
 use Rattle.cb_types.specs.declared.handle.SetId.{SetId}
 use Rattle.cb_types.specs.declared.reply.Reply.{Reply}
 use Rattle.cb_types.specs.declared.reply.Reply.TheVariants as answer
+use Rattle.cb_world.specs.declared.entry.Entry.{Entry}
 use Rattle.cb_world.specs.declared.event.Event.{Event}
-use Rattle.cb_world.specs.declared.event.Event.TheVariants.{Looked, Claimed}
+use Rattle.cb_world.specs.declared.event.Event.TheVariants.{Looked, Claimed, Settled}
 use Rattle.cb_world.specs.declared.leaving.Former.{Former}
-use Rattle.cb_set.specs.SetState.{SetState}
+use Rattle.cb_member.specs.Membership.{with_crash}
+use Rattle.cb_set.specs.SetState.{SetState, filled_position, set_of}
 use Rattle.cb_span.specs.Contents.{Contents, handle_at}
 use Rattle.cb_span.specs.declared.temp.Temp.TheVariants.{Cold}
 use Rattle.cb_world.specs.declared.object.Object.{Object}
 use Rattle.cb_world.specs.declared.object.Object.TheVariants as is
 use Rattle.cb_world.specs.declared.shown.Shown.{Shown}
 use Rattle.cb_world.specs.FarState.{FarState, span_in, handle_in}
-use Rattle.cb_world.specs.Now.{now}
+use Rattle.cb_world.specs.Now.{broken_set, now, now_as}
+use Rattle.cb_world.specs.Now.Now.{held as has, gone as is_lost}
 use Rattle.cb_world.specs.Reserved.{set_from}
 use Rattle.cb_world.specs.Shown.{object_at, never}
 use Rattle.cb_world.specs.Grasped.{IsFree}
 use Rattle.cb_world.specs.Leaving.{LeavingState}
 use Rattle.cb_world.specs.Looks.{IsFound, IsTaken, told_by}
-use Rattle.cb_world.specs.Memory.{window, put}
+use Rattle.cb_world.specs.Choices.{numbered}
+use Rattle.cb_world.specs.Memory.{window, put, bytes_in}
 use Rattle.cb_world.specs.Plain.{Words}
 use Rattle.cb_world.specs.Sets.{set_in, if_committed}
 use Rattle.cb_world.specs.SetWord.{IsSpanWord}
@@ -499,6 +503,46 @@ not_stamped a = let e : 0 ≡ 1 = ap (λ (l : List ℕ). length l) a.versions in
 not_stored : effect_of (record (both (held_object ∷ is.Here 8 1 ∷ [])) { memory = [] }) → ⊥
 unfolding put
 not_stored a = let e : 0 ≡ 1 = ap (λ (l : List ℕ). length l) a.memory in absurd (omega (arith, e))
+
+-- a version is written: an empty object is settled here
+not_made : IsBegun pair second (Claimed 0 calm 3 (7 ∷ []) ∷ Settled 1 calm ∷ [])
+    (both (is.Here 8 0 ∷ is.Empty 4 ∷ [])) (both (held_object ∷ is.Empty 4 ∷ [])) → ⊥
+not_made a = let e : 1 ≡ 0 = ap (λ (l : List Entry). length l) (a.nothing []) in absurd (omega (arith, e))
+
+-- another claim told other words of the object's place, and so its last contents are not those that
+-- its own claim told
+bytes_are : (v w : ℕ) (xs ys : List ℕ) → has v xs ≡ has w ys → xs ≡ ys
+bytes_are v w xs ys e = cc
+
+not_told_anew : IsBegun pair second (Claimed 0 calm 3 (7 ∷ []) ∷ Claimed 1 calm 4 (8 ∷ []) ∷ [])
+    (both (is.Here 8 0 ∷ is.Here 8 1 ∷ []))
+    (record (both (held_object ∷ is.Here 8 1 ∷ [])) { memory = 8 ∷ [] }) → ⊥
+unfolding put window bytes_in
+not_told_anew a = let e : 7 ≡ 8 = ap (λ (l : List ℕ). get_or l 0 0) (bytes_are _ _ _ _ (a.same_now 0)) in
+    absurd (omega (arith, e))
+
+-- the set of a far object is gone: it lost its one shard, and has no parity
+abbrev lost_set : SetState
+lost_set = set_of 3 (record { node = numbered 0; incarnation = 0; key = 9 } ∷ [])
+    (filled_position (Some 1 ∷ []) ∷ [])
+
+abbrev with_loss : FarState
+with_loss = record second {
+  sets = map.insert pair.sets 3 (record { set = lost_set; committed = true });
+  homes = None ∷ Some (record { set = 3; position = 0; slot = 0 }) ∷ [];
+  members = with_crash pair.members (numbered 0);
+}
+
+not_lost : IsBegun pair with_loss claim (both (is.Here 8 0 ∷ is.Far 8 4 (9 ∷ []) ∷ []))
+    (both (held_object ∷ is.Far 8 4 (9 ∷ []) ∷ [])) → ⊥
+not_lost a = differ 4 4 _ (sym gone ∙ a.same_now 1)
+  where
+    differ : (v w : ℕ) (xs : List ℕ) → is_lost v ≡ has w xs → ⊥
+    differ v w xs e = cc
+
+    gone : now (both (held_object ∷ is.Far 8 4 (9 ∷ []) ∷ [])) with_loss 1 ≡ is_lost 4
+    gone = ap (λ (o : Option SetState). now_as (both (held_object ∷ is.Far 8 4 (9 ∷ []) ∷ [])) 1
+        (broken_set with_loss.members o) (is.Far 8 4 (9 ∷ []))) (set_added_in pair.sets 3 lost_set)
 
 -- a refusal changes nothing
 not_refused : BeginEffect pair pair (answer.NoSpans 0) [] here (taken 3 7) → ⊥

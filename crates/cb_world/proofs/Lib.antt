@@ -71,3 +71,6 @@ mod WorkedChoices
 mod WorkedLeft
 mod WorkedPlaced
 mod WorkedSeats
+mod WorkedSurvey
+mod WorkedSteps
+mod WorkedAdded
