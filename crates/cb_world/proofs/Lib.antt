@@ -24,6 +24,8 @@ pub mod NowKept
 pub mod Bridge
 pub mod Merging
 pub mod Joined
+pub mod FreshShard
+pub mod RowPut
 pub mod Stepping
 pub mod Patching
 pub mod Committed
