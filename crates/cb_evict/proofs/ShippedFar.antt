@@ -1,8 +1,8 @@
 -- A row that is put for a leaving batch keeps the world sound.
-use Rattle.std.proofs.Common.{◌≡◌, ◌≢◌, ◌⊎◌, ℕ, ◌+◌, ◌<◌, true, false, List, length, set as slice_set, Option, Some, None, refl, sym, ap, ◌∙◌, subst, arith, inl, inr, length-set, get_or-set_same, get_or-set_other}
+use Rattle.std.proofs.Common.{◌≡◌, ◌≢◌, ◌⊎◌, ℕ, ◌<◌, false, List, length, Some, None, refl, sym, ap, ◌∙◌, subst, inl, inr, length-set}
 use Rattle.std.specs.List.{slice_get, Contains}
 use Rattle.std.proofs.lemmas.Bool.{cases_eq, false≢true}
-use Rattle.std.proofs.lemmas.Option.{slice_get-get_or, slice_get_within, get_or_from_slice_get}
+use Rattle.std.proofs.lemmas.Option.{get_or_from_slice_get}
 use Rattle.cb_gf256.specs.Rows.{row_at}
 use Rattle.cb_member.specs.declared.names.Shard.{Shard}
 use Rattle.cb_set.specs.Lost.{is_lost}
@@ -13,8 +13,9 @@ use Rattle.cb_world.specs.Leaving.{LeavingState}
 use Rattle.cb_world.specs.FarState.{FarState}
 use Rattle.cb_world.specs.FarSound.{Owner, of_set, of_leaving, of_joining, IsShardOf, AwaySound, batch_rows}
 use Rattle.cb_world.specs.Sound.{AreNoted, IsNoted, IsLeaving, Sound}
-use Rattle.cb_world.proofs.FreshShard.{fresh_on_least}
+use Rattle.cb_world.proofs.FreshShard.{up_on_least}
 use Rattle.cb_world.proofs.NodeJoin.{local_stays}
+use Rattle.cb_world.proofs.PlaceSet.{place_back, place_here, place_on}
 use Rattle.cb_world.proofs.RowPut.{HasRowPut, IsNewOr, IsRefilled, row_put_away, row_put_join}
 use Rattle.cb_evict.specs.ShipRule.{IsShardFor, other_puts, with_shard_at, with_shipped}
 use Rattle.cb_evict.specs.Waiting.{is_waiting, least_waiting}
@@ -36,34 +37,6 @@ shard_same a b e = cc
 pub batch_same : (a b : LeavingState) → Some a ≡ Some b → a ≡ b
 batch_same a b e = cc
 
--- ---- shards by position
-place_here : (shards : List (Option Shard)) (p : ℕ) (shard : Shard) → p < length shards
-    → slice_get (slice_set shards p (Some shard)) p ≡ Some (Some shard)
-place_here shards p shard within =
-    let n = length-set shards p (Some shard) in
-    slice_get-get_or (slice_set shards p (Some shard)) p None (omega (arith, n, within))
-    ∙ ap Some (get_or-set_same shards p (Some shard) None within)
-
-place_on : (shards : List (Option Shard)) (p q : ℕ) (shard other : Shard) → q ≢ p
-    → slice_get shards q ≡ Some (Some other)
-    → slice_get (slice_set shards p (Some shard)) q ≡ Some (Some other)
-place_on shards p q shard other off at =
-    let n = length-set shards p (Some shard) in
-    let l = slice_get_within shards q (Some other) at in
-    slice_get-get_or (slice_set shards p (Some shard)) q None (omega (arith, n, l))
-    ∙ ap Some (get_or-set_other shards p q (Some shard) None off
-    ∙ get_or_from_slice_get shards q (Some other) None at)
-
-place_back : (shards : List (Option Shard)) (p q : ℕ) (shard other : Shard) → q ≢ p
-    → slice_get (slice_set shards p (Some shard)) q ≡ Some (Some other)
-    → slice_get shards q ≡ Some (Some other)
-place_back shards p q shard other off at =
-    let n = length-set shards p (Some shard) in
-    let l = slice_get_within (slice_set shards p (Some shard)) q (Some other) at in
-    slice_get-get_or shards q None (omega (arith, n, l))
-    ∙ ap Some (sym (get_or-set_other shards p q (Some shard) None off)
-    ∙ get_or_from_slice_get (slice_set shards p (Some shard)) q (Some other) None at)
-
 module _ (s : Shown) (far : FarState) (batch : LeavingState) (p : ℕ) (shard : Shard)
     (row : List ℕ) (x : IsPut s far batch p shard row) where
   abbrev new : FarState
@@ -76,7 +49,7 @@ module _ (s : Shown) (far : FarState) (batch : LeavingState) (p : ℕ) (shard : 
   within = (least_waits far.members batch.shards p x.least).0
 
   here : slice_get rest.shards p ≡ Some (Some shard)
-  here = place_here batch.shards p shard within
+  here = place_here batch.shards p (Some shard) within
 
   -- ---- who names a row
   place_was : (q : ℕ) (a : Shard) → slice_get rest.shards q ≡ Some (Some a)
@@ -87,7 +60,7 @@ module _ (s : Shown) (far : FarState) (batch : LeavingState) (p : ℕ) (shard : 
       sym (shard_same shard a (sym here ∙ ap (slice_get rest.shards) (sym same)
           ∙ at)),
     )
-    | inr off ↦ inr (off, place_back batch.shards p q shard a off at)
+    | inr off ↦ inr (off, place_back batch.shards p q (Some shard) (Some a) off at)
   ]
 
   back : (o : Owner) (a : Shard) → IsShardOf new o a → IsNewOr far (of_leaving p) shard o a
@@ -116,7 +89,7 @@ module _ (s : Shown) (far : FarState) (batch : LeavingState) (p : ℕ) (shard : 
             ∙ ap (is_waiting far.members) (sym (get_or_from_slice_get batch.shards p (Some a) None
             (ap (slice_get batch.shards) (sym same) ∙ at)))
             ∙ (least_waits far.members batch.shards p x.least).1))
-        | inr off ↦ (rest, refl, place_on batch.shards p q shard a off at)
+        | inr off ↦ (rest, refl, place_on batch.shards p q (Some shard) (Some a) off at)
       ]
 
   -- ---- the batch
@@ -145,8 +118,8 @@ module _ (s : Shown) (far : FarState) (batch : LeavingState) (p : ℕ) (shard : 
 
   puts : HasRowPut s far new (of_leaving p) shard row
   puts = record {
-    fresh = fresh_on_least far (other_puts batch.shards p) shard x.named.node x.named.incarnation
-        x.named.key;
+    up = up_on_least far (other_puts batch.shards p) shard x.named.node x.named.incarnation;
+    key = x.named.key;
     of_owner = λ b at. x.of_batch
         ∙ ap (λ (c : LeavingState). row_at (batch_rows s c) p)
         (batch_same batch b (sym x.there ∙ at));
@@ -164,10 +137,14 @@ module _ (s : Shown) (far : FarState) (batch : LeavingState) (p : ℕ) (shard : 
     set_is = λ j c at. (c, at, record { same = refl; count = refl });
     same_or_named = λ j c at. inl at;
     distinct = λ j c at. (x.sound.sets.shaped j c at).distinct;
-    batch_was = λ b at. (batch, x.there, subst (IsRefilled batch) (batch_same rest b at) (record {
-      same = refl;
-      count = length-set batch.shards p (Some shard);
-    }));
+    batch_was = λ b at. (
+      batch,
+      x.there,
+      subst (IsRefilled batch) (batch_same rest b at) (record {
+        same = refl;
+        count = length-set batch.shards p (Some shard);
+      }),
+    );
     apart = λ b q r a c there at is same.
         apart q r a c (at_place b q a there at) (at_place b r c there is) same;
   }

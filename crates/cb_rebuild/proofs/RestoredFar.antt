@@ -1,12 +1,11 @@
 -- A row that stands again keeps the world sound, every set's word, and last complete contents.
-use Rattle.std.proofs.Common.{◌≡◌, ◌≢◌, ◌⊎◌, ℕ, ◌+◌, ◌<◌, Bool, true, false, cond, List, length, set as slice_set, Option, Some, None, refl, sym, ap, ◌∙◌, subst, arith, inl, inr, length-set, get_or-set_other}
+use Rattle.std.proofs.Common.{◌≡◌, ◌≢◌, ◌⊎◌, ℕ, ◌+◌, ◌<◌, Bool, true, false, cond, List, length, Option, Some, None, refl, sym, ap, ◌∙◌, subst, arith, inl, inr, length-set}
 use Rattle.std.specs.FinMap as map
 use Rattle.std.specs.Cmp.{nat_cmp_total}
 use Rattle.std.specs.Ordering.{nat_cmp, eq_by_cmp}
 use Rattle.std.specs.List.{slice_get}
 use Rattle.std.proofs.lemmas.Bool.{cases_eq, false≢true, ltb-true}
 use Rattle.std.proofs.lemmas.Bool.Decides.{nat_tests}
-use Rattle.std.proofs.lemmas.Option.{slice_get-get_or, slice_get_within, get_or_from_slice_get}
 use Rattle.cb_member.specs.declared.names.Shard.{Shard}
 use Rattle.cb_set.specs.SetState.{SetState, parities, with_shard}
 use Rattle.cb_set.specs.Lost.{is_lost, least_lost, lost}
@@ -25,8 +24,9 @@ use Rattle.cb_world.specs.FarState.{FarState}
 use Rattle.cb_world.specs.FarSound.{Owner, of_set, of_leaving, of_joining, IsShardOf, AwaySound}
 use Rattle.cb_world.specs.Sound.{Sound}
 use Rattle.cb_world.proofs.Choices.{number}
-use Rattle.cb_world.proofs.FreshShard.{fresh_is_up, fresh_on_least}
+use Rattle.cb_world.proofs.FreshShard.{up_is_kept, up_on_least}
 use Rattle.cb_world.proofs.NodeJoin.{local_stays, noted_stays, claimed_stay}
+use Rattle.cb_world.proofs.PlaceSet.{place_on}
 use Rattle.cb_world.proofs.Reserving.{reserved_is_other}
 use Rattle.cb_world.proofs.RowPut.{HasRowPut, IsNewOr, IsRenamed, row_put_away, row_put_join, row_put_words}
 use Rattle.cb_world.proofs.SetChanging.{set_there}
@@ -49,16 +49,6 @@ stood far id set p shard row = with_name (with_put far set shard row) id set p s
 
 shard_same : (a b : Shard) → Some a ≡ Some b → a ≡ b
 shard_same a b e = cc
-
--- another position keeps its shard
-shard_stays : (shards : List Shard) (p q : ℕ) (shard other : Shard) → q ≢ p
-    → slice_get shards q ≡ Some other → slice_get (slice_set shards p shard) q ≡ Some other
-shard_stays shards p q shard other off at =
-    let n = length-set shards p shard in
-    let l = slice_get_within shards q other at in
-    slice_get-get_or (slice_set shards p shard) q other (omega (arith, n, l))
-    ∙ ap Some (get_or-set_other shards p q shard other off
-    ∙ get_or_from_slice_get shards q other other at)
 
 module _ (s : Shown) (far : FarState) (id : ℕ) (set : SetState) (p : ℕ) (shard : Shard)
     (row : List ℕ) (x : Stands s far id set p shard row) where
@@ -146,7 +136,7 @@ module _ (s : Shown) (far : FarState) (id : ℕ) (set : SetState) (p : ℕ) (sha
           | inr off ↦ (
             rest,
             ap (set_in new.sets) here ∙ here_now,
-            shard_stays set.shards p q shard a off at,
+            place_on set.shards p q shard a off at,
           )
         ]
     | inr off ↦ (is.0, others_stay j off ∙ is.1, is.2)
@@ -159,8 +149,8 @@ module _ (s : Shown) (far : FarState) (id : ℕ) (set : SetState) (p : ℕ) (sha
 
   puts : HasRowPut s far new (of_set id p) shard row
   puts = record {
-    fresh = fresh_on_least far (other_shards set.shards p) shard x.named.node x.named.incarnation
-        x.named.key;
+    up = up_on_least far (other_shards set.shards p) shard x.named.node x.named.incarnation;
+    key = x.named.key;
     of_owner = λ c rows there word. x.of_word rows
         (subst (λ (d : SetState). IsWordOf far.nodes far.members d rows)
         (set_same c set (sym there ∙ x.there)) word);
@@ -210,7 +200,7 @@ module _ (s : Shown) (far : FarState) (id : ℕ) (set : SetState) (p : ℕ) (sha
           let same = parities-with_shard set p shard in
           let few = x.weak.few_lost in
           let n = shard_replaced far.members set.shards p shard shard within in
-          let none = ap number (fresh_is_up far shard x.sound.rows puts.fresh) in
+          let none = ap number (up_is_kept far shard x.sound.rows puts.up) in
           absurd (omega (arith, l, same, few, n, none))
 
   pub stood_now : (h : ℕ) → now s new h ≡ now s far h

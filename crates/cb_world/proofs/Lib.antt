@@ -18,13 +18,13 @@ pub mod GivenUpNow
 pub mod FarGone
 pub mod FarGoneNow
 pub mod Gathering
-pub mod Rebuilt
 mod NextSet
 pub mod NowKept
 pub mod Bridge
 pub mod Merging
 pub mod Joined
 pub mod FreshShard
+pub mod PlaceSet
 pub mod RowPut
 pub mod Stepping
 pub mod Patching

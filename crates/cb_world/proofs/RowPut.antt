@@ -24,7 +24,7 @@ use Rattle.cb_world.specs.Sets.{set_in}
 use Rattle.cb_world.specs.SetWord.{IsShaped, IsSpanWord, IsWordOf}
 use Rattle.cb_world.specs.FarState.{FarState}
 use Rattle.cb_world.specs.FarSound.{HoldsObject, IsSetWord, AreSets, AreAway, AreRows, Owner, of_set, of_leaving, of_joining, IsShardOf, IsBatch, AwaySound, batch_rows}
-use Rattle.cb_world.proofs.FreshShard.{IsFreshShard, fresh_is_up}
+use Rattle.cb_world.proofs.FreshShard.{IsUpShard, up_is_current, up_is_kept}
 use Rattle.cb_world.proofs.Joined.{pair_kept}
 
 -- ---- what changes
@@ -61,7 +61,8 @@ IsNewOr far o shard q a = ((q ≡ o) × (a ≡ shard)) ⊎ IsShardOf far q a
 -- aside. A set that is not as it was names the new shard.
 pub record HasRowPut (s : Shown) (far new : FarState) (o : Owner) (shard : Shard) (row : List ℕ)
     : Type 0 where
-  pub fresh : IsFreshShard far shard
+  pub up : IsUpShard far shard
+  pub key : shard.key ≡ far.counts.keys
   pub of_owner : IsRowFor s far o row
   -- the row, and what else is counted or stays
   pub given : ℕ
@@ -98,25 +99,25 @@ module _ (s : Shown) (far new : FarState) (o : Owner) (shard : Shard) (row : Lis
   abbrev given : NodesState
   given = record far.nodes { given = x.given }
 
-  up : is_lost far.members shard ≡ false
-  up = fresh_is_up far shard sound.rows x.fresh
+  not_lost : is_lost far.members shard ≡ false
+  not_lost = up_is_kept far shard sound.rows x.up
 
   -- ---- the rows
   row_here : row_under new.nodes shard.node shard.key ≡ Some row
   row_here =
       ap (λ (n : NodesState). row_under n shard.node shard.key) x.nodes
-      ∙ row_is_put given shard.node shard.key row x.fresh.within
+      ∙ row_is_put given shard.node shard.key row x.up.within
 
   row_else : (node : NodeId) (key : ℕ) → ((node.n ≡ shard.node.n) × (key ≡ shard.key) → ⊥)
       → row_under new.nodes node key ≡ row_under far.nodes node key
   row_else node key off =
       ap (λ (n : NodesState). row_under n node key) x.nodes
-      ∙ put_keeps_other_rows given shard.node node shard.key key row x.fresh.within off
+      ∙ put_keeps_other_rows given shard.node node shard.key key row x.up.within off
 
   row_stays : (node : NodeId) (key : ℕ) → key < far.counts.keys
       → row_under new.nodes node key ≡ row_under far.nodes node key
   row_stays node key below = row_else node key
-      (λ same. let e = same.1 in let k = x.fresh.key in absurd (omega (arith, below, e, k)))
+      (λ same. let e = same.1 in let k = x.key in absurd (omega (arith, below, e, k)))
 
   owned_stays : (q : Owner) (a : Shard) → IsShardOf far q a
       → row_under new.nodes a.node a.key ≡ row_under far.nodes a.node a.key
@@ -146,7 +147,7 @@ module _ (s : Shown) (far new : FarState) (o : Owner) (shard : Shard) (row : Lis
       → IsOwned node key
   owned node key r at = elim (cases_eq key shard.key) [
     | inl same_key ↦ elim (cases_eq node.n shard.node.n) [
-      | inl same ↦ (o, shard, x.named, sym same, sym same_key, still_kept shard up)
+      | inl same ↦ (o, shard, x.named, sym same, sym same_key, still_kept shard not_lost)
       | inr off ↦ was_owned node key r (sym (row_else node key (λ same. off same.0)) ∙ at)
     ]
     | inr off ↦ was_owned node key r (sym (row_else node key (λ same. off same.1)) ∙ at)
@@ -157,16 +158,16 @@ module _ (s : Shown) (far new : FarState) (o : Owner) (shard : Shard) (row : Lis
   apart_keys q w a b (inl y) (inl z) same = y.0 ∙ sym z.0
   apart_keys q w a b (inl y) (inr z) same =
       let below = sound.rows.drawn w b z in
-      let k = x.fresh.key in let e = ap (λ (c : Shard). c.key) y.1 in
+      let k = x.key in let e = ap (λ (c : Shard). c.key) y.1 in
       absurd (omega (arith, below, k, e, same))
   apart_keys q w a b (inr y) (inl z) same =
       let below = sound.rows.drawn q a y in
-      let k = x.fresh.key in let e = ap (λ (c : Shard). c.key) z.1 in
+      let k = x.key in let e = ap (λ (c : Shard). c.key) z.1 in
       absurd (omega (arith, below, k, e, same))
   apart_keys q w a b (inr y) (inr z) same = sound.rows.one q w a b y z same
 
   drawn : (q : Owner) (a : Shard) → IsNewOr far o shard q a → a.key < new.counts.keys
-  drawn q a (inl y) = let k = x.fresh.key in let e = ap (λ (c : Shard). c.key) y.1 in
+  drawn q a (inl y) = let k = x.key in let e = ap (λ (c : Shard). c.key) y.1 in
       let more = x.keys in omega (arith, k, e, more)
   drawn q a (inr y) = let below = sound.rows.drawn q a y in let more = x.keys in
       omega (arith, below, more)
@@ -175,10 +176,8 @@ module _ (s : Shown) (far new : FarState) (o : Owner) (shard : Shard) (row : Lis
   IsCurrent m a = (a.node.n < length m.nodes) × (a.incarnation ≤ incarnation m a.node)
 
   was_current : (q : Owner) (a : Shard) → IsNewOr far o shard q a → IsCurrent far.members a
-  was_current q a (inl y) = subst (IsCurrent far.members) (sym y.1) (
-    let w = x.fresh.within in omega (arith, w, sound.rows.counted),
-    let e = x.fresh.incarnation in omega (arith, e),
-  )
+  was_current q a (inl y) =
+      subst (IsCurrent far.members) (sym y.1) (up_is_current far shard sound.rows x.up)
   was_current q a (inr y) = sound.rows.current q a y
 
   current : (q : Owner) (a : Shard) → IsShardOf new q a → IsCurrent new.members a
@@ -319,7 +318,7 @@ module _ (s : Shown) (far new : FarState) (o : Owner) (shard : Shard) (row : Lis
   drawn_before id shards set keys at same (inl was) = was
   drawn_before id shards set keys at same (inr y) =
       let below = keys y.0 shard (ap (λ (l : List Shard). slice_get l y.0) (sym same) ∙ y.1) in
-      let k = x.fresh.key in absurd (omega (arith, below, k))
+      let k = x.key in absurd (omega (arith, below, k))
 
   pub row_put_join : (pair : JoiningState) → far.joining ≡ Some pair → IsJoin far pair
       → IsJoin new pair
