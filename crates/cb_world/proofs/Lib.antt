@@ -71,3 +71,4 @@ mod WorkedChoices
 mod WorkedLeft
 mod WorkedPlaced
 mod WorkedSeats
+pub mod WorkedWord
