@@ -1,5 +1,5 @@
 -- The shards of a new set, the set and its rows.
-use Rattle.std.proofs.Common.{◌≡◌, ◌≢◌, ℕ, suc, ◌+◌, ◌<◌, ◌≤◌, Bool, true, false, cond, nat_eq, nat_lt, ◌&&◌, List, [], ◌∷◌, length, take, get_or, map as mapped, is_some, if◌then◌else◌, Option, None, Some, refl, sym, ap, ◌∙◌, arith, inl, inr}
+use Rattle.std.proofs.Common.{◌≡◌, ◌≢◌, ℕ, suc, ◌<◌, ◌≤◌, Bool, true, false, cond, nat_eq, List, [], ◌∷◌, length, take, get_or, map as mapped, is_some, Option, None, Some, refl, sym, ap, ◌∙◌, arith, inl, inr}
 use Rattle.std.specs.List.{slice_get, list_any, count_by}
 use Rattle.std.specs.FinMap as map
 use Rattle.std.specs.Cmp.{nat_cmp_total}
@@ -9,13 +9,8 @@ use Rattle.std.proofs.lemmas.Bool.Decides.{nat_tests}
 use Rattle.std.proofs.lemmas.List.{get_or_past, get_or-map, length-map, get_or-take, length-take-le}
 use Rattle.std.proofs.lemmas.List.Folds.{list_any_at}
 use Rattle.std.proofs.lemmas.List.Sums.{sum_by-cons}
-use Rattle.std.proofs.lemmas.Option.{slice_get-get_or, slice_get_past}
-use Rattle.std.specs.Option.{option_map}
-use Rattle.cb_member.specs.declared.names.Loss.{Loss}
+use Rattle.std.proofs.lemmas.Option.{slice_get-get_or}
 use Rattle.cb_member.specs.declared.names.Shard.{Shard}
-use Rattle.cb_member.specs.declared.names.Epoch.{Epoch}
-use Rattle.cb_member.specs.Membership.{state_of, alive, ended_incarnations, fresh_node}
-use Rattle.cb_node.specs.NodesState.{held, has, row_at as row_under}
 use Rattle.cb_set.specs.SetState.{SetState, PositionState, dead_position, position_of, live_at, slot_at}
 use Rattle.cb_set.specs.Lost.{is_lost}
 use Rattle.cb_set.specs.Nodes.{OnDistinctNodes}
@@ -27,6 +22,7 @@ use Rattle.cb_world.specs.LocalSound.{LocalSound}
 use Rattle.cb_world.specs.SetWord.{AreCurrent}
 use Rattle.cb_world.specs.Reserved.{table_of, position_for}
 use Rattle.cb_world.specs.Sets.{Kept, SetMap, set_in, if_committed}
+use Rattle.cb_world.proofs.FreshShard.{IsUpShard, undrawn_is_fresh, up_is_current, up_is_kept, up_on_least}
 use Rattle.cb_world.proofs.Storing.{InRange, KeysApart}
 use Rattle.cb_evict.specs.Storing.{AreShards, CanPut, set_for}
 
@@ -36,21 +32,15 @@ some_same a b e = cc
 none_some : {X : Type 0} (a : X) → None ≡ Some a → ⊥
 none_some a e = cc
 
-both : (a b : Bool) → a && b ≡ true → (a ≡ true) × (b ≡ true)
-both true true e = (refl, refl)
-both true false e = absurd (false≢true e)
-both false b e = absurd (false≢true e)
-
 -- ---- the shards
 pub shards_within : (far : FarState) (n : ℕ) (shards : List Shard) → AreShards far n shards
     → InRange far.nodes shards
 shards_within far n shards a p shard at = (a.each p shard at).node.may.within
 
-pub shards_alive : (far : FarState) (n : ℕ) (shards : List Shard) → AreShards far n shards
-    → (p : ℕ) (shard : Shard) → slice_get shards p ≡ Some shard → alive far.members shard.node ≡ true
-shards_alive far n shards a p shard at =
-    (both (alive far.members shard.node) (nat_lt (held far.nodes shard.node) far.nodes.room)
-    (a.each p shard at).node.may.room).0
+shard_up : (far : FarState) (n : ℕ) (shards : List Shard) → AreShards far n shards → (p : ℕ)
+    (shard : Shard) → slice_get shards p ≡ Some shard → IsUpShard far shard
+shard_up far n shards a p shard at = let x = a.each p shard at in
+    up_on_least far (take p shards) shard x.node x.incarnation
 
 pub shards_apart : (far : FarState) (n : ℕ) (shards : List Shard) → AreShards far n shards
     → (p q : ℕ) (a b : Shard) → slice_get shards p ≡ Some a → slice_get shards q ≡ Some b
@@ -88,43 +78,21 @@ pub can_put : (far : FarState) (n : ℕ) (shards : List Shard) → AreShards far
 can_put far n shards a rows = record {
   within = shards_within far n shards a;
   apart = shards_apart far n shards a;
-  fresh = λ p shard at. none p shard at (row_under far.nodes shard.node shard.key) refl;
+  fresh = λ p shard at. let key = (a.each p shard at).key in
+      undrawn_is_fresh far shard.node shard.key rows (omega (arith, key));
 }
-  where
-    none : (p : ℕ) (shard : Shard) → slice_get shards p ≡ Some shard → (o : Option (List ℕ))
-        → row_under far.nodes shard.node shard.key ≡ o → has far.nodes shard.node shard.key ≡ false
-    none p shard at None e = ap is_some e
-    none p shard at (Some row) e =
-        let x = rows.owned shard.node shard.key row e in
-        let less = rows.drawn x.0 x.1 x.2 in
-        let key = (a.each p shard at).key in
-        absurd (let same = x.4 in omega (arith, less, key, same))
-
-abbrev loss : Shard → Epoch → Loss
-loss shard epoch = record { node = shard.node; epoch = epoch }
 
 -- none of them is lost
 pub shards_up : (far : FarState) (n : ℕ) (shards : List Shard) → AreShards far n shards
     → AreRows far → (p : ℕ) (shard : Shard) → slice_get shards p ≡ Some shard
     → is_lost far.members shard ≡ false
 shards_up far n shards a rows p shard at =
-    let x = a.each p shard at in
-    let up = shards_alive far n shards a p shard at in
-    let state = state_of far.members shard.node in
-    let within : shard.node.n < length far.members.nodes =
-    let w = x.node.may.within in omega (arith, w, rows.counted) in
-    let ended : length state.crashes ≡ ended_incarnations state =
-    rows.members.ended shard.node.n fresh_node within in
-    let over : length state.crashes ≡ state.incarnation =
-    ended ∙ ap (λ (b : Bool). if b then state.incarnation else state.incarnation + 1) up in
-    ap (λ (o : Option Epoch). is_some (option_map (λ epoch. loss shard epoch) o))
-    (slice_get_past state.crashes shard.incarnation (let e = x.incarnation in omega (arith, over, e)))
+    up_is_kept far shard rows (shard_up far n shards a p shard at)
 
 pub shards_current : (far : FarState) (n : ℕ) (shards : List Shard) → AreShards far n shards
     → AreRows far → AreCurrent far.members shards
 shards_current far n shards a rows p shard at =
-    let x = a.each p shard at in let w = x.node.may.within in
-    (omega (arith, w, rows.counted), let e = x.incarnation in omega (arith, e))
+    up_is_current far shard rows (shard_up far n shards a p shard at)
 
 -- ---- the set
 pub set_count : (far : FarState) (shards : List Shard) (frames : List ℕ)

@@ -1,5 +1,4 @@
 ghost use Rattle.std.specs.Prelude.{◌≡◌, ℕ, ◌+◌, ◌<◌, ◌≤◌, ◌++◌, IfOk, List, OnOk, Some, length};
-ghost use Rattle.cb_member.specs.Membership.{incarnation};
 ghost use Rattle.cb_world.specs.declared.shown.Shown.{Shown};
 ghost use Rattle.cb_world.specs.FarState.{FarState};
 ghost use Rattle.cb_world.specs.Leaving.{LeavingState};
@@ -9,9 +8,9 @@ ghost use Rattle.cb_evict.specs.ShipRule.{other_puts};
 ghost use Rattle.cb_evict.specs.Shipping.{IsNext, IsNextOf};
 
 use crate::waiting::least_waiting;
-use cb_member::{NodeId, Shard};
+use cb_member::Shard;
 use cb_types::NoMemory;
-use cb_world::{Far, Leaving, least_node};
+use cb_world::{Far, Leaving, least_node, next_shard};
 use std::alloc::Global;
 
 /// What is to be put next of the batch that is leaving.
@@ -53,20 +52,6 @@ fn other_puts(
     push_put(&mut others, &shards[..place])?;
     push_put(&mut others, &shards[place + 1..])?;
     Ok(others)
-}
-
-/// The shard for the next row on the node: of its incarnation, under the next key.
-fn next_shard(far: &Far, node: NodeId) -> Shard
-    requires { node.n < length far.now.members.nodes }
-    ensures node { result.node ≡ node }
-    ensures incarnation { result.incarnation ≡ incarnation far.now.members node }
-    ensures key { result.key ≡ far.now.counts.keys }
-{
-    Shard {
-        node,
-        incarnation: far.members.incarnation(node),
-        key: far.counts.keys,
-    }
 }
 
 /// What is to be put next of this batch: the row of the least position that waits, at the node with

@@ -16,11 +16,10 @@ ghost use Rattle.cb_evict.specs.Shipping.{IsNext, PutsNothing, PutsRow};
 
 use crate::loading::load_frame;
 use crate::next_put::{NextPut, next_put};
-use crate::storing::put_row;
 use cb_member::Shard;
 use cb_node::Nodes;
 use cb_types::{NoMemory, Reply};
-use cb_world::{Desk, Far, Leaving};
+use cb_world::{Desk, Far, Leaving, put_row};
 
 /// How many bytes a row has.
 const ROW_BYTES: usize = 4096;

@@ -1,8 +1,8 @@
-ghost use Rattle.std.specs.Prelude.{◌≡◌, ℕ, ◌+◌, ◌-◌, ◌^◌, ◌<◌, ◌≤◌, ◌++◌, All, IfOk, List, OnErr, OnOk, Some, false, length, map};
+ghost use Rattle.std.specs.Prelude.{◌≡◌, ℕ, ◌+◌, ◌-◌, ◌^◌, ◌<◌, ◌≤◌, ◌++◌, All, IfOk, List, OnErr, OnOk, Some, length, map};
 ghost use Rattle.cb_gf256.specs.CodeWord.{IsCodeWord};
 ghost use Rattle.cb_gf256.specs.InRange.{IsInRange};
 ghost use Rattle.cb_gf256.specs.Rows.{row_at, HoldBytes};
-ghost use Rattle.cb_node.specs.NodesState.{NodesState, has, with_row};
+ghost use Rattle.cb_node.specs.NodesState.{NodesState};
 ghost use Rattle.cb_span.specs.Contents.{Contents};
 ghost use Rattle.cb_world.specs.Choices.{room_count};
 ghost use Rattle.cb_world.specs.FarState.{span_in};
@@ -12,10 +12,10 @@ ghost use Rattle.cb_evict.specs.Storing.{AreShards, CanPut, KeepsSet, set_for};
 
 use cb_code::{coefficients, encode};
 use cb_member::Shard;
-use cb_node::{Nodes, PutAnswer};
+use cb_node::Nodes;
 use cb_set::SpanSet;
 use cb_types::{NoMemory, Rows};
-use cb_world::{Far, KeptSet, Spans, least_node};
+use cb_world::{Far, KeptSet, Spans, least_node, put_row};
 use std::alloc::Global;
 
 /// The shards of a new set: for each of `n` positions, in order, the node with the fewest rows of those
@@ -61,19 +61,6 @@ fn drop_rows(nodes: &mut Nodes, shards: &[Shard])
 {
     for p in (0..shards.len()).rev() {
         nodes.drop_row(shards[p].node, shards[p].key);
-    }
-}
-
-/// Puts a row at its shard's node, which has room.
-pub(crate) fn put_row(nodes: &mut Nodes, shard: Shard, row: &[u8]) -> Result<(), NoMemory>
-    requires within { shard.node.n < length nodes.old.nodes }
-    requires fresh { has nodes.old shard.node shard.key ≡ false }
-    ensures ok { OnOk result (nodes.new ≡ with_row nodes.old shard.node shard.key row.now) }
-    ensures err { OnErr result (nodes.new ≡ nodes.old) }
-{
-    match nodes.put(shard.node, shard.key, row)? {
-        PutAnswer::Stored => Ok(()),
-        PutAnswer::Full { .. } => Err(NoMemory),
     }
 }
 

@@ -3,6 +3,7 @@
 use Rattle.std.proofs.Common.{◌≡◌, ℕ, zero, suc, List, Option, None, Some, get_or, nat_lt, refl, sym, ap, ◌∙◌, subst, arith, lit<, lit≤, inl, inr}
 use Rattle.std.specs.FinMap as map
 use Rattle.std.proofs.lemmas.Bool.{false≢true}
+use Rattle.std.proofs.lemmas.Option.{none-some, same_Some}
 use Rattle.cb_member.specs.declared.names.NodeId.{NodeId}
 use Rattle.cb_member.specs.declared.names.Shard.{Shard}
 use Rattle.cb_node.specs.NodesState.{held, row_at as row_under}
@@ -14,8 +15,9 @@ use Rattle.cb_world.specs.Choices.{IsBefore, IsLeastNode, MayPut}
 use Rattle.cb_world.specs.Sets.{set_in}
 use Rattle.cb_world.specs.FarState.{FarState}
 use Rattle.cb_world.proofs.SetChanging.{set_there}
+use Rattle.cb_world.proofs.WorkedWord.{at, node, row, row_byte, rows}
 use Rattle.cb_rebuild.specs.RebuildStep.{IsFirstWeak, IsNewShard, IsRebuilt, IsRowOf, KeepWords, RebuildStep, far_given, with_name, with_put}
-use Rattle.cb_rebuild.proofs.WorkedWord.{at, is_word, members, node, nodes, none_some, one_row, row, row_byte, rows, set, some_same}
+use Rattle.cb_rebuild.proofs.WorkedWord.{is_word, members, nodes, one_row, set}
 use Rattle.cb_rebuild.proofs.WorkedWeak.{far, one, only_of, weak_is}
 
 -- the world with the set of the worked word: its parity at position 2 is lost
@@ -141,12 +143,12 @@ position_in _ = 0
 
 tells_another_position : IsRebuilt old 0 set after (answer.Rebuilt (record { n = 0 }) 1 (node 4)) → ⊥
 tells_another_position x = let e : 1 ≡ x.position = ap position_in x.reply in
-    let l = some_same 2 x.position x.lost in omega (arith, e, l)
+    let l = same_Some 2 x.position x.lost in omega (arith, e, l)
 
 tells_a_greater_node : IsRebuilt old 0 set after (answer.Rebuilt (record { n = 0 }) 2 (node 5)) → ⊥
 tells_a_greater_node x = let e : 5 ≡ x.shard.node.n = ap node_in x.reply in
     go (x.shard.node) e (subst (λ (p : ℕ). IsLeastNode nodes members (other_shards set.shards p) x.shard.node)
-    (sym (some_same 2 x.position x.lost)) x.named.node)
+    (sym (same_Some 2 x.position x.lost)) x.named.node)
   where
     go : (n : NodeId) → 5 ≡ n.n → IsLeastNode nodes members others n → ⊥
     go n e least = not_a_greater_node (record {
@@ -171,7 +173,7 @@ leaves_the_name : IsRebuilt old 0 set (record after { sets = old.sets }) reply �
 leaves_the_name x = let e : 9 ≡ x.shard.key =
     ap (λ (o : Option SetState). parity_key o) (sym (only_of set)
     ∙ ap (λ (f : FarState). set_in f.sets 0) x.state ∙ set_there old.sets 0 (with_shard set x.position x.shard))
-    ∙ ap (λ (p : ℕ). parity_key (Some (with_shard set p x.shard))) (sym (some_same 2 x.position x.lost)) in
+    ∙ ap (λ (p : ℕ). parity_key (Some (with_shard set p x.shard))) (sym (same_Some 2 x.position x.lost)) in
     let k : x.shard.key ≡ 10 = x.named.key in omega (arith, e, k)
 
 first : IsFirstWeak old 0 set
@@ -188,7 +190,7 @@ step = inr (record { id = 0; set = set; first = first; restores = inr rebuilt })
 -- ---- words
 -- a set that is gone from the sets has no word there
 loses_the_set : KeepWords old (record old { sets = map.empty }) → ⊥
-loses_the_set x = let y = x 0 set rows (only_of set) is_word in none_some y.0 (sym gone ∙ y.1)
+loses_the_set x = let y = x 0 set rows (only_of set) is_word in none-some y.0 (sym gone ∙ y.1)
   where
     gone : set_in map.empty 0 ≡ None
     gone = grind (arith, map.gets)

@@ -6,6 +6,7 @@ use Rattle.std.specs.Cmp.{nat_cmp_total}
 use Rattle.std.specs.Ordering.{nat_cmp, eq_by_cmp}
 use Rattle.std.proofs.lemmas.Bool.Decides.{nat_tests}
 use Rattle.std.proofs.lemmas.Bool.{false≢true, ltb-true}
+use Rattle.std.proofs.lemmas.Option.{none-some, same_Some}
 use Rattle.cb_member.specs.declared.names.NodeId.{NodeId}
 use Rattle.cb_member.specs.Membership.{alive}
 use Rattle.cb_node.specs.NodesState.{empty_nodes, held}
@@ -19,11 +20,12 @@ use Rattle.cb_world.specs.FarState.{FarState}
 use Rattle.cb_world.specs.Surveyed.{gone_below}
 use Rattle.cb_world.specs.Survey.{no_survey}
 use Rattle.cb_world.specs.SetWord.{IsWeak}
+use Rattle.cb_world.proofs.WorkedWord.{at, node}
 use Rattle.cb_rebuild.specs.declared.finding.Found.TheVariants as found
 use Rattle.cb_rebuild.specs.declared.finding.Health.TheVariants as health
 use Rattle.cb_rebuild.specs.RebuildStep.{FindsNone, IsFirstWeak, IsStuck, gone_count, surveyed}
 use Rattle.cb_rebuild.specs.Finding.{Finds, HasHealth, HealthAt, gone_number}
-use Rattle.cb_rebuild.proofs.WorkedWord.{at, members, node, none_some, on, some_same}
+use Rattle.cb_rebuild.proofs.WorkedWord.{members, on}
 
 -- a whole set, two that are weak, and one that is gone: it lost two shards, and has one parity
 abbrev pub whole : SetState
@@ -109,7 +111,7 @@ first_weak = record {
   weak = weak_is;
   least = λ j c l at. below_one (λ j. set_in (both whole weak) j ≡ Some c → IsWeak members c → ⊥)
       (λ at x. whole_is_not_weak (subst (IsWeak members)
-      (some_same c whole (sym at ∙ first_of whole weak)) x)) j l at;
+      (same_Some c whole (sym at ∙ first_of whole weak)) x)) j l at;
 }
 
 -- the number of the node of the second shard
@@ -117,7 +119,7 @@ abbrev second_node : SetState → ℕ
 second_node s = (get_or s.shards 1 (at 0 0)).node.n
 
 not_that_set : IsFirstWeak (far (both whole weak) 2) 1 other_weak → ⊥
-not_that_set x = let e : 2 ≡ 3 = ap second_node (some_same other_weak weak (sym x.there
+not_that_set x = let e : 2 ≡ 3 = ap second_node (same_Some other_weak weak (sym x.there
     ∙ second_of whole weak)) in omega (arith, e)
 
 not_a_whole_one : IsFirstWeak (far (both whole weak) 2) 0 whole → ⊥
@@ -139,8 +141,8 @@ lone = far (one 0 gone) 2
 
 none_weak : (id : ℕ) (c : SetState) → set_in (one 0 gone) id ≡ Some c → IsWeak members c → ⊥
 none_weak zero c at x = gone_is_not_weak (subst (IsWeak members)
-    (some_same c gone (sym at ∙ only_of gone)) x)
-none_weak (suc j) c at x = none_some c (sym (none_else gone j) ∙ at)
+    (same_Some c gone (sym at ∙ only_of gone)) x)
+none_weak (suc j) c at x = none-some c (sym (none_else gone j) ∙ at)
 
 lone_count : gone_count lone ≡ 1
 lone_count = grind (arith, only_of gone, none_else gone 0, none_else gone 1)
@@ -202,12 +204,12 @@ is_stuck : IsStuck full 0 weak full (answer.Stuck (record { n = 0 }))
 is_stuck = record { position = 2; lost = refl; none = none_spare; reply = refl; same = refl }
 
 nothing_lost : IsStuck full 0 whole full (answer.Stuck (record { n = 0 })) → ⊥
-nothing_lost x = none_some x.position x.lost
+nothing_lost x = none-some x.position x.lost
 
 a_node_is_spare : IsStuck lone_weak 0 weak lone_weak (answer.Stuck (record { n = 0 })) → ⊥
 a_node_is_spare x = x.none (node 4) (subst (λ (p : ℕ).
     MayPut lone_weak.nodes members (other_shards weak.shards p) (node 4))
-    (some_same 2 x.position x.lost) may)
+    (same_Some 2 x.position x.lost) may)
   where
     none_held : held lone_weak.nodes (node 4) ≡ 0
     none_held = grind (arith, map.gets)
@@ -262,7 +264,7 @@ finds_weak = ((weak, first_weak), sym none_before)
 
 finds_whole_in_place : Finds (far (both whole weak) 2) (found.Weak 0 0) → ⊥
 finds_whole_in_place x = whole_is_not_weak (subst (IsWeak members)
-    (some_same x.0.0 whole (sym x.0.1.there ∙ first_of whole weak)) x.0.1.weak)
+    (same_Some x.0.0 whole (sym x.0.1.there ∙ first_of whole weak)) x.0.1.weak)
 
 finds_one_gone_before : Finds (far (both whole weak) 2) (found.Weak 1 1) → ⊥
 finds_one_gone_before x = let e = x.1 in let n = none_before in omega (arith, e, n)

@@ -1,7 +1,6 @@
 ghost use Rattle.std.specs.Prelude.{◌≡◌, ◌<◌, ◌≤◌, IfNone, IfOk, IfSome, Some, length};
 ghost use Rattle.cb_member.specs.declared.names.NodeId.{NodeId};
 ghost use Rattle.cb_set.specs.SetState.{SetState};
-ghost use Rattle.cb_member.specs.Membership.{incarnation};
 ghost use Rattle.cb_set.specs.Lost.{least_lost};
 ghost use Rattle.cb_set.specs.Nodes.{other_shards};
 ghost use Rattle.cb_world.specs.declared.shown.Shown.{Shown};
@@ -56,18 +55,4 @@ pub(crate) fn spare_node(far: &Far, id: u64, position: u32) -> Result<Option<Nod
     let set = far.sets.committed(id).unwrap();
     let others = others(far.alloc, set, position)?;
     Ok(least_node(&far.nodes, &far.members, &others))
-}
-
-/// The shard that names a new row on the node: of its incarnation, under the next key.
-pub(crate) fn next_shard(far: &Far, node: NodeId) -> Shard
-    requires { node.n < length far.now.members.nodes }
-    ensures node { result.node ≡ node }
-    ensures incarnation { result.incarnation ≡ incarnation far.now.members node }
-    ensures key { result.key ≡ far.now.counts.keys }
-{
-    Shard {
-        node,
-        incarnation: far.members.incarnation(node),
-        key: far.counts.keys,
-    }
 }

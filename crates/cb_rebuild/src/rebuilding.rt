@@ -8,11 +8,11 @@ ghost use Rattle.cb_world.specs.Sound.{Sound};
 ghost use Rattle.cb_world.specs.Now.{now};
 ghost use Rattle.cb_rebuild.specs.RebuildStep.{IsFirstWeak, KeepWords, RebuildStep, Restores, far_given, surveyed};
 
-use crate::choosing::{lost_position, next_shard, spare_node};
+use crate::choosing::{lost_position, spare_node};
 use crate::finding::{Found, find_weak, keep_found};
 use crate::restoring::{name_shard, put_again};
 use cb_types::{NoMemory, Reply, SetId};
-use cb_world::{Desk, Far};
+use cb_world::{Desk, Far, next_shard};
 
 /// Puts the least lost row of the first set that is weak on a spare node.
 fn restore(far: &mut Far, id: u64) -> Result<Reply, NoMemory>

@@ -1,6 +1,6 @@
 ghost use Rattle.std.specs.Prelude.{◌≡◌, ℕ, ◌+◌, ◌^◌, ◌<◌, ◌≤◌, false, true, List, OnErr, OnOk, Some, length};
 ghost use Rattle.std.specs.FinMap as map;
-ghost use Rattle.cb_node.specs.NodesState.{has, with_row};
+ghost use Rattle.cb_node.specs.NodesState.{has};
 ghost use Rattle.cb_set.specs.SetState.{SetState, with_shard};
 ghost use Rattle.cb_world.specs.declared.shown.Shown.{Shown};
 ghost use Rattle.cb_world.specs.Sets.{set_in};
@@ -9,22 +9,8 @@ ghost use Rattle.cb_world.specs.SetWord.{IsWeak};
 ghost use Rattle.cb_rebuild.specs.RebuildStep.{IsRowOf, far_given, with_name, with_put};
 
 use cb_member::Shard;
-use cb_node::{Nodes, PutAnswer};
 use cb_types::NoMemory;
-use cb_world::{Far, solved};
-
-/// Puts a row at its shard's node, which has room.
-fn put_row(nodes: &mut Nodes, shard: Shard, row: &[u8]) -> Result<(), NoMemory>
-    requires within { shard.node.n < length nodes.old.nodes }
-    requires fresh { has nodes.old shard.node shard.key ≡ false }
-    ensures ok { OnOk result (nodes.new ≡ with_row nodes.old shard.node shard.key row.now) }
-    ensures err { OnErr result (nodes.new ≡ nodes.old) }
-{
-    match nodes.put(shard.node, shard.key, row)? {
-        PutAnswer::Stored => Ok(()),
-        PutAnswer::Full { .. } => Err(NoMemory),
-    }
-}
+use cb_world::{Far, put_row, solved};
 
 /// Makes the row of a position of a committed set again, from k rows that are given out, and puts it
 /// under the shard. Takes all memory that a rebuild needs.

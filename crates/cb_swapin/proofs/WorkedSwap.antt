@@ -2,11 +2,10 @@
 -- part of that alone.
 use Rattle.std.proofs.Common.{◌≡◌, ℕ, zero, suc, Bool, true, false, ◌≤◌, List, [], ◌∷◌, Option, None, Some, length, get_or, refl, sym, ap, ◌∙◌, arith}
 use Rattle.std.specs.FinMap as map
+use Rattle.std.proofs.lemmas.Option.{none-some, same_Some}
 use Rattle.cb_class.specs.declared.class.Class.{Class}
 use Rattle.cb_class.specs.Class.{bytes_of, slots_of}
 use Rattle.cb_member.specs.declared.names.Loss.{Loss}
-use Rattle.cb_member.specs.declared.names.NodeId.{NodeId}
-use Rattle.cb_member.specs.declared.names.Shard.{Shard}
 use Rattle.cb_member.specs.Membership.{Membership}
 use Rattle.cb_node.specs.NodesState.{NodesState, empty_nodes}
 use Rattle.cb_set.specs.SetState.{SetState, PositionState, dead_position, filled_position, set_of}
@@ -21,14 +20,9 @@ use Rattle.cb_world.specs.LeftOver.{nodes_left, sets_left}
 use Rattle.cb_world.specs.Sets.{SetMap, set_in}
 use Rattle.cb_world.specs.FarState.{FarState}
 use Rattle.cb_world.specs.Survey.{no_survey}
+use Rattle.cb_world.proofs.WorkedWord.{at, node}
 use Rattle.cb_swapin.specs.Fetching.{far_given, losses_of}
 use Rattle.cb_swapin.specs.SwapRule.{IsSwappedTo, SwapFar, swap_answer}
-
-abbrev pub node : ℕ → NodeId
-node n = record { n = n }
-
-abbrev pub at : ℕ → ℕ → Shard
-at n key = record { node = node n; incarnation = 0; key = key }
 
 -- node 1 crashed at epoch 1 and node 2 at epoch 3
 abbrev pub members : Membership
@@ -48,7 +42,7 @@ loss n epoch = record { node = node n; epoch = record { n = epoch } }
 abbrev pub first : PositionState
 first = filled_position (None ∷ Some 0 ∷ None ∷ None ∷ [])
 
-abbrev second : PositionState
+abbrev pub second : PositionState
 second = filled_position (Some 1 ∷ None ∷ None ∷ None ∷ [])
 
 -- two data positions and a parity, by the nodes of their shards
@@ -161,19 +155,13 @@ new = record old {
   nodes = with_given old.nodes 1;
 }
 
-pub none_some : {X : Type 0} (x : X) → None ≡ Some x → ⊥
-none_some x e = cc
-
-pub some_same : {X : Type 0} (x y : X) → Some x ≡ Some y → x ≡ y
-some_same x y e = cc
-
 -- the one object of the position
 pub the_one : (slot h : ℕ) → get_or first.slots slot None ≡ Some h → (slot ≡ 1) × (h ≡ 0)
-the_one zero h e = absurd (none_some h e)
-the_one (suc zero) h e = (refl, sym (some_same 0 h e))
-the_one (suc (suc zero)) h e = absurd (none_some h e)
-the_one (suc (suc (suc zero))) h e = absurd (none_some h e)
-the_one (suc (suc (suc (suc slot)))) h e = absurd (none_some h e)
+the_one zero h e = absurd (none-some h e)
+the_one (suc zero) h e = (refl, sym (same_Some 0 h e))
+the_one (suc (suc zero)) h e = absurd (none-some h e)
+the_one (suc (suc (suc zero))) h e = absurd (none-some h e)
+the_one (suc (suc (suc (suc slot)))) h e = absurd (none-some h e)
 
 pub swapped : IsSwappedTo old new 5 0 set 1
 unfolding slots_of bytes_of
@@ -210,7 +198,7 @@ leaves_the_frame_free x = true_false (ap (λ (l : List Bool). get_or l 1 false) 
     true_false e = cc
 
 brings_no_span : Refuted (record new { spans = old.spans })
-brings_no_span x = none_some _ (ap (λ (l : List (Option Contents)). get_or l 1 None) x.spans)
+brings_no_span x = none-some _ (ap (λ (l : List (Option Contents)). get_or l 1 None) x.spans)
 
 abbrev temp_number : Temp → ℕ
 temp_number Hot = 0
@@ -235,10 +223,10 @@ brings_a_span_of_other_slots x = let e : 2 ≡ 4 =
     ap (λ (l : List (Option Contents)). slot_count (get_or l 1 None)) x.spans in omega (arith, e)
 
 keeps_the_home : Refuted (record new { homes = old.homes })
-keeps_the_home x = none_some (home 0 1) (sym (x.homes.named 0 (1, refl)))
+keeps_the_home x = none-some (home 0 1) (sym (x.homes.named 0 (1, refl)))
 
 takes_another_home : Refuted (record new { homes = None ∷ None ∷ [] })
-takes_another_home x = none_some (home 1 0) (x.homes.others 1 (λ n. not_zero 1 (omega arith)
+takes_another_home x = none-some (home 1 0) (x.homes.others 1 (λ n. not_zero 1 (omega arith)
     (the_one n.0 1 n.1).1))
   where
     not_zero : (h : ℕ) → 1 ≤ h → h ≡ 0 → ⊥
@@ -263,7 +251,7 @@ leaves_the_position_live x = true_false (sym (left set)
     true_false e = cc
 
 drops_a_live_set : Refuted (record new { sets = map.remove old.sets 5 })
-drops_a_live_set x = none_some rest (sym gone ∙ ap (λ (m : SetMap). set_in m 5) x.sets ∙ there)
+drops_a_live_set x = none-some rest (sym gone ∙ ap (λ (m : SetMap). set_in m 5) x.sets ∙ there)
   where
     gone : set_in (map.remove old.sets 5) 5 ≡ None
     gone = grind (arith, map.gets)

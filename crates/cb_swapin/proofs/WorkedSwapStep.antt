@@ -2,6 +2,7 @@
 -- breaks one of its parts alone.
 use Rattle.std.proofs.Common.{◌≡◌, ◌≢◌, ℕ, zero, suc, Bool, true, false, ◌+◌, ◌≤◌, List, [], ◌∷◌, None, Some, length, get_or, refl, sym, ap, ◌∙◌, subst, arith, inl, inr}
 use Rattle.std.specs.FinMap as map
+use Rattle.std.proofs.lemmas.Option.{none-some, same_Some}
 use Rattle.cb_class.specs.Class.{bytes_of, slots_of, words_of}
 use Rattle.cb_gf256.specs.Rows.{row_at}
 use Rattle.cb_node.specs.NodesState.{NodesState, row_at as row_under}
@@ -22,12 +23,13 @@ use Rattle.cb_world.specs.SetWord.{IsWordOf}
 use Rattle.cb_world.specs.World.{word_at}
 use Rattle.cb_world.proofs.RowWords.{length_words}
 use Rattle.cb_world.proofs.Windows.{length_put, put_at, put_else}
+use Rattle.cb_world.proofs.WorkedWord.{at, row, rows}
 use Rattle.cb_swapin.specs.Named.{IsNamed}
 use Rattle.cb_swapin.specs.Fetching.{far_given}
 use Rattle.cb_swapin.specs.SwapRule.{IsSwappedTo, swap_answer}
 use Rattle.cb_swapin.specs.SwapStep.{AreBroughtTo, IsSwapped, IsSwapStep, brought_word}
-use Rattle.cb_swapin.proofs.WorkedWord.{is_word, nodes, one_row, row, rows}
-use Rattle.cb_swapin.proofs.WorkedSwap.{at, members, first, on, refused, class, set, old, new, swapped, none_some, some_same, the_one}
+use Rattle.cb_swapin.proofs.WorkedWord.{is_word, nodes, one_row}
+use Rattle.cb_swapin.proofs.WorkedSwap.{members, first, on, refused, class, set, old, new, swapped, the_one}
 
 -- ---- words: of an object of two bytes that is far, of one that came to place 640, and of one that is
 -- here and hot with a pin
@@ -248,7 +250,7 @@ leaves_the_words c memory far new z = here_or_far (len_of away) _ (z.words.here 
 
 -- no row of the set stands at its nodes
 has_no_word : (x y : Words) → IsSwapped x y old new 5 0 set 1 → ⊥
-has_no_word x y z = none_some (row_at z.rows 0) (sym none ∙ z.word.survive 0 (at 0 7) refl refl)
+has_no_word x y z = none-some (row_at z.rows 0) (sym none ∙ z.word.survive 0 (at 0 7) refl refl)
   where
     none : row_under old.nodes (at 0 7).node 7 ≡ None
     none = grind (arith, map.gets)
@@ -263,7 +265,7 @@ has_two_rows x y held one other a b differ z =
 
 -- ---- a step: the set is there, the reply is the one, and the change is that of the reply
 of_no_set : (x y : Words) (far : FarState) (r : Reply) → IsSwapStep x y old far 6 0 r → ⊥
-of_no_set x y far r z = none_some z.set (sym none ∙ z.there)
+of_no_set x y far r z = none-some z.set (sym none ∙ z.there)
   where
     none : set_in old.sets 6 ≡ None
     none = grind (arith, map.gets)
@@ -274,14 +276,14 @@ frame_in r = 0
 
 into_another_frame : (x y : Words) (far : FarState) → IsSwapStep x y old far 5 0 (answer.Swapped 2)
     → ⊥
-into_another_frame x y far z = by z.set (some_same set z.set (sym there ∙ z.there)) z.reply
+into_another_frame x y far z = by z.set (same_Some set z.set (sym there ∙ z.there)) z.reply
   where
     by : (s : SetState) → set ≡ s → answer.Swapped 2 ≡ swap_answer old 5 s → ⊥
     by s e reply = let n : 2 ≡ 1 =
         ap frame_in (reply ∙ ap (swap_answer old 5) (sym e)) in omega (arith, n)
 
 into_the_frame_without_change : (x : Words) → IsSwapStep x x old old 5 0 (answer.Swapped 1) → ⊥
-into_the_frame_without_change x z = by z.set (some_same set z.set (sym there ∙ z.there)) z.change
+into_the_frame_without_change x z = by z.set (same_Some set z.set (sym there ∙ z.there)) z.change
   where
     by : (s : SetState) → set ≡ s → IsSwapped x x old old 5 0 s 1 → ⊥
     by s e change = leaves_the_far_state x x old.nodes

@@ -18,12 +18,14 @@ pub mod GivenUpNow
 pub mod FarGone
 pub mod FarGoneNow
 pub mod Gathering
-pub mod Rebuilt
 mod NextSet
 pub mod NowKept
 pub mod Bridge
 pub mod Merging
 pub mod Joined
+pub mod FreshShard
+pub mod PlaceSet
+pub mod RowPut
 pub mod Stepping
 pub mod Patching
 pub mod Committed
@@ -74,3 +76,4 @@ mod WorkedSeats
 mod WorkedSurvey
 mod WorkedSteps
 mod WorkedAdded
+pub mod WorkedWord
