@@ -27,9 +27,9 @@ use Rattle.cb_core.specs.Parts.BringsIn.{was_far}
 use Rattle.cb_core.specs.Parts.CallStops.{far as far_lacks, after as come_lacks}
 use Rattle.cb_core.specs.Parts.WhereItIs.{declined, stays_far, brought}
 use Rattle.cb_core.specs.Parts.WithRoom.{no_room, won}
-use Rattle.cb_core.specs.Parts.RoomStops.{evicting, after}
-use Rattle.cb_core.specs.Turned.{Brings, BringLacks, Evicts, EvictLacks, Finds, IsGiven, MakeLacks, Makes, Operates}
-use Rattle.cb_core.proofs.PartsFar.{HasWon, has_won, make_crammed, swap_crammed}
+use Rattle.cb_core.specs.Parts.RoomStops.{at_once, evicting, after}
+use Rattle.cb_core.specs.Turned.{Brings, BringLacks, Evicts, EvictLacks, Finds, IsGiven, MakeLacks, Makes, Operates, SwapLacks}
+use Rattle.cb_core.proofs.PartsFar.{HasWon, has_won, live_home, make_crammed, swap_crammed}
 
 -- ---- what a part leaves known
 -- a sound world that the desk shows
@@ -166,15 +166,31 @@ pub swaps_as : {D : Type 0} (run : D → List Event → D → Type 0) (shows : D
     → SwapsAt run shows id p a r b
 swaps_as run shows id p a b q r is x = subst (λ (e : Reply). SwapsAt run shows id p a e b) is x
 
--- rows of the one set were given out
-pub is_given : (far new : FarState) (h : ℕ) (home : Home) → home_at far.homes h ≡ Some home
+-- rows of its set were given out: the set of a home is there
+is_given : (s : Shown) (far new : FarState) (h : ℕ) (home : Home) → Sound s far
+    → home_at far.homes h ≡ Some home
     → ((set : SetState) → set_in far.sets home.set ≡ Some set → (n : ℕ) × (n ≤ length set.positions)
     × (new ≡ far_given far n)) → IsGiven far new h
-is_given far new h home at x other set there in_sets =
-    x set (ap (λ (o : Home). set_in far.sets o.set) (home_same home other (sym at ∙ there)) ∙ in_sets)
-  where
-    home_same : (p q : Home) → Some p ≡ Some q → p ≡ q
-    home_same p q e = cc
+is_given s far new h home sound at x =
+    let set = live_home s far h home sound at in
+    let z = x set.0 set.1 in (home, set.0, z.0, at, set.1, z.1, z.2)
+
+-- a swap-in that lacks memory, from a sound world
+module _ {D : Type 0} (run : D → List Event → D → Type 0) (shows : D → Shown → Type 0) (h : ℕ)
+    (home : Home) (a b : Holding D) (nothing : (x : D) → run x [] x)
+    (k : IsShown (λ s. shows a.desk s) a.far) (at : home_at a.far.homes h ≡ Some home) where
+  swap_lacks : b.desk ≡ a.desk → ((set : SetState) → set_in a.far.sets home.set ≡ Some set → (n : ℕ)
+      × (n ≤ length set.positions) × (b.far ≡ far_given a.far n)) → SwapLacks run h a b
+  swap_lacks desk far = (
+    subst (λ (u : D). run a.desk [] u) (sym desk) (nothing a.desk),
+    is_given k.0 a.far b.far h home k.2 at far,
+  )
+
+  pub swap_stops : (c : Config) (result : Result Reply NoMemory) → b.desk ≡ a.desk
+      → ((set : SetState) → set_in a.far.sets home.set ≡ Some set → (n : ℕ)
+      × (n ≤ length set.positions) × (b.far ≡ far_given a.far n))
+      → OnErr result (BringLacks run shows c h a b)
+  swap_stops c result desk far = any_err _ result (at_once (swap_lacks desk far))
 
 module _ {D : Type 0} (run : D → List Event → D → Type 0) (shows : D → Shown → Type 0) (c : Config)
     (h : ℕ) (home : Home) (a m : Holding D) (q : Reply) (at : home_at a.far.homes h ≡ Some home)
@@ -204,19 +220,17 @@ module _ {D : Type 0} (run : D → List Event → D → Type 0) (shows : D → S
       (home, at, swaps_as run shows home.set home.position a m q answer.NoFrame none x) lacks)
 
   pub swap_lacks_again : (n b : Holding D) (d : Config) (p : Reply) (id : SetId)
-      (result : Result Reply NoMemory) → ((x : D) → run x [] x) → q ≡ answer.NoFrame → d ≡ c
-      → Evicts run shows d m p n → p ≡ answer.Set id → HasWon c a.far n.far
-      → OnErr result (b.desk ≡ n.desk)
+      (result : Result Reply NoMemory) → q ≡ answer.NoFrame → d ≡ c → Evicts run shows d m p n
+      → p ≡ answer.Set id → ((x : D) → run x [] x) → IsShown (λ s. shows n.desk s) n.far
+      → HasWon c a.far n.far → OnErr result (b.desk ≡ n.desk)
       → OnErr result ((set : SetState) → set_in n.far.sets home.set ≡ Some set → (i : ℕ)
       × (i ≤ length set.positions) × (b.far ≡ far_given n.far i))
       → OnErr result (BringLacks run shows c h a b)
-  swap_lacks_again n b d p id result nothing none same y set left z w =
+  swap_lacks_again n b d p id result none same y set nothing k left z w =
       err_both _ (b.desk ≡ n.desk) _ result z w (λ desk far.
       after m n id (home, at, swaps_as run shows home.set home.position a m q answer.NoFrame none x)
-      (evicts_as run shows c d m n p (answer.Set id) same set y) (
-        subst (λ (u : D). run n.desk [] u) (sym desk) (nothing n.desk),
-        is_given n.far b.far h home (left.homes h home at) far,
-      ))
+      (evicts_as run shows c d m n p (answer.Set id) same set y)
+      (swap_lacks run shows h home n b nothing k (left.homes h home at) desk far))
 
 -- ---- a call on an object wherever it is
 -- a part that leaves the far state as it was

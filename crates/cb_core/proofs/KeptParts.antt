@@ -66,11 +66,11 @@ abbrev pub Carries : {A : Type 0} → Config → List SeatState → ℕ
 Carries {A = A} c seats n P Q =
     (a b : Holding Words) (r : A) → IsGood c seats a → P a r b → Arrives c seats n a b (Q a r b)
 
--- so does each that found no memory, where C holds
-abbrev pub CarriesLack : Config → List SeatState → ℕ → (Holding Words → Type 0)
+-- so does each that found no memory
+abbrev pub CarriesLack : Config → List SeatState → ℕ
     → (Holding Words → Holding Words → Type 0) → (Holding Words → Holding Words → Type 0) → Type 0
-CarriesLack c seats n C L M =
-    (a b : Holding Words) → IsGood c seats a → C a → L a b → Arrives c seats n a b (M a b)
+CarriesLack c seats n L M =
+    (a b : Holding Words) → IsGood c seats a → L a b → Arrives c seats n a b (M a b)
 
 -- one after another
 pub arrives_then : (c : Config) (seats : List SeatState) (n m k : ℕ) (a b d : Holding Words)

@@ -11,7 +11,6 @@ pub mod StillFilters
 pub mod StillRebuilds
 pub mod StillBatches
 pub mod StillTurns
-pub mod FarCalls
 pub mod WorldKept
 pub mod PinsKept
 pub mod Settings

@@ -47,7 +47,7 @@ use Rattle.cb_core.specs.Parts.{Holding}
 use Rattle.cb_core.specs.Step.{HoldOn, StillBegin, StillShip, StillCommit, StillAbort, StillShipLacks}
 use Rattle.cb_core.specs.Turned.{Begins, Ships, Commits, Aborts, ShipLacks}
 use Rattle.cb_core.proofs.KeptParts.{IsGood, Rises, Arrives, Carries, CarriesLack, arrives_same}
-use Rattle.cb_core.proofs.StillParts.{Ran, Tells, Any, both_same}
+use Rattle.cb_core.proofs.StillParts.{Ran, Tells, both_same}
 
 -- Frames, homes and nodes are as many as before, and no object was made. Each object has as many pins,
 -- with pins it has its word, and no version word changed. Each number rose by one at most.
@@ -308,8 +308,8 @@ ship_part c seats a b r good p =
 
 -- one that found no memory changed nothing
 pub ship_lack : (c : Config) (seats : List SeatState)
-    → CarriesLack c seats 1 Any (ShipLacks Ran Tells) StillShipLacks
-ship_lack c seats a b good any (same, p) =
+    → CarriesLack c seats 1 (ShipLacks Ran Tells) StillShipLacks
+ship_lack c seats a b good (same, p) =
     let q = subst (λ (f : FarState). PerformsStill a.desk b.desk a.far f (ReadsLeaving a.far) IsStill)
     same p in
     let e = both_same a b (ship_stopped a.desk b.desk a.far good.shown q good.known) same in

@@ -26,7 +26,7 @@ use Rattle.cb_core.specs.Step.{HoldOn, StillFilter, StillFilterLacks}
 use Rattle.cb_core.specs.Turned.{Filters, FilterLacks}
 use Rattle.cb_core.proofs.KeptParts.{IsGood, Arrives, Carries, CarriesLack, IsLike, like_same, arrives_same, arrives_like}
 use Rattle.cb_core.proofs.KeptPins.{cooled_pinned}
-use Rattle.cb_core.proofs.StillParts.{Ran, Tells, Any, both_same}
+use Rattle.cb_core.proofs.StillParts.{Ran, Tells, both_same}
 
 -- an object that moved changes frames and spans alone
 moved_like : (far new : FarState) (seat : Seat) (slot : Slot) (h : ℕ)
@@ -110,8 +110,8 @@ claim_free (Settled k u ∷ es) x y h v words run first taken =
     (t.0, inl t.1, t.2)
 
 pub filter_lack : (c : Config) (seats : List SeatState) (h : ℕ)
-    → CarriesLack c seats 1 Any (FilterLacks Ran Tells h) (StillFilterLacks h)
-filter_lack c seats h a b good any p =
+    → CarriesLack c seats 1 (FilterLacks Ran Tells h) (StillFilterLacks h)
+filter_lack c seats h a b good p =
     let e = filter_stopped a.desk b.desk a.far b.far good.shown h good.known p in
     let same = both_same a b e.0 e.1 in
     arrives_same c seats 1 a b (StillFilterLacks h a b) good same (same, (p.rule.seat, is, wants))

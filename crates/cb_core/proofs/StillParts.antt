@@ -55,7 +55,7 @@ use Rattle.cb_evict.proofs.EvictStep.{evict_step, evict_stopped}
 use Rattle.cb_swapin.specs.Fetching.{far_given}
 use Rattle.cb_swapin.specs.SwapEffect.{SwapEffect}
 use Rattle.cb_swapin.specs.SwapRule.{SwapRule}
-use Rattle.cb_swapin.proofs.FarHomes.{far_home, given_known}
+use Rattle.cb_swapin.proofs.FarHomes.{given_known, given_failed}
 use Rattle.cb_swapin.proofs.SwapKeeps.{keeps_far, given_most, settings_stay}
 use Rattle.cb_swapin.proofs.SwapStep.{swap_step}
 use Rattle.cb_swapin.proofs.SwapWorld.{configured_kept, pinned_kept}
@@ -362,46 +362,34 @@ swap_part c seats h a b r good (home, at, p) =
     }
 
 -- ---- want of memory
-abbrev pub Any : Holding Words → Type 0
-Any a = Unit {0}
-
-abbrev pub IsFar : ℕ → Holding Words → Type 0
-IsFar h a = state_of (word_at a.desk h) ≡ state.Far
-
 pub make_lack : (c : Config) (seats : List SeatState) (bytes : List ℕ)
-    → CarriesLack c seats 1 Any (MakeLacks Ran c bytes) (StillMakeLacks bytes)
-make_lack c seats bytes a b good any p =
+    → CarriesLack c seats 1 (MakeLacks Ran c bytes) (StillMakeLacks bytes)
+make_lack c seats bytes a b good p =
     let same = both_same a b p.0.0 p.1 in
     arrives_same c seats 1 a b (StillMakeLacks bytes a b) good same
     (same, subst (λ (d : Config). NeedsNewSpan d.handles (length bytes) a.far) (sym good.settings) p.2)
 
 pub read_lack : (c : Config) (seats : List SeatState) (h : ℕ)
-    → CarriesLack c seats 1 Any (ReadLacks Ran Tells h) (StillReadLacks h)
-read_lack c seats h a b good any (same, p) =
+    → CarriesLack c seats 1 (ReadLacks Ran Tells h) (StillReadLacks h)
+read_lack c seats h a b good (same, p) =
     let z = failed_step a.desk b.desk a.far b.far good.shown h good.known p in
     read_kept c seats h a b (answer.Bytes z.0.0 z.0.1) _ (StillReadLacks h a b) good same z.0.2 z.1
     (same, z.0)
 
 pub evict_lack : (c : Config) (seats : List SeatState)
-    → CarriesLack c seats 24 Any (EvictLacks Ran Tells) StillEvictLacks
-evict_lack c seats a b good any (same, p) =
+    → CarriesLack c seats 24 (EvictLacks Ran Tells) StillEvictLacks
+evict_lack c seats a b good (same, p) =
     let q = subst (λ (f : FarState). PerformsStill a.desk b.desk a.far f (TouchesSpans a.far) IsStill)
     same p in
     let e = both_same a b (evict_stopped a.desk b.desk a.far good.shown q good.known) same in
     arrives_same c seats 24 a b (StillEvictLacks a b) good e e
 
 pub swap_lack : (c : Config) (seats : List SeatState) (h : ℕ)
-    → CarriesLack c seats 16 (IsFar h) (SwapLacks Ran h) (StillSwapLacks h)
-swap_lack c seats h a b good away (ran, given) =
-    let home = far_home a.desk a.far good.shown h good.known away in
-    let set = home.2.0 in
-    let z = given home.0 set home.1 home.2.1 in
-    let most = (good.known.sound.away.sound.sets.shaped home.0.set set home.2.1).range.data_most in
-    let few = z.1 in
-    let nodes : (far_given a.far z.0).nodes.given ≤ a.far.nodes.given + 16 = omega (arith, few, most) in
-    let same : b ≡ record { desk = a.desk; far = far_given a.far z.0 } = both_same _ b ran.0 z.2 in
+    → CarriesLack c seats 16 (SwapLacks Ran h) (StillSwapLacks h)
+swap_lack c seats h a b good (ran, (home, set, n, at, there, few, state)) =
+    let same : b ≡ record { desk = a.desk; far = far_given a.far n } = both_same _ b ran.0 state in
     record {
-      is = (ran.0, given);
+      is = (ran.0, (home, set, n, at, there, few, state));
       good = subst (IsGood c seats) (sym same) (record {
         settings = good.settings;
         configured = record {
@@ -410,15 +398,15 @@ swap_lack c seats h a b good away (ran, given) =
           nodes = good.configured.nodes;
         };
         shown = good.shown;
-        known = given_known a.desk a.far good.shown z.0 good.known;
+        known = given_known a.desk a.far good.shown n good.known;
         pinned = good.pinned;
       });
-      rises = subst (Rises 16 a.far) (sym z.2) (record {
+      rises = subst (Rises 16 a.far) (sym state) (record {
         turns = refl;
         by_job = refl;
         sets = omega arith;
         keys = omega arith;
         epoch = omega arith;
-        given = nodes;
+        given = given_failed a.desk a.far good.shown home.set n set good.known there few;
       });
     }

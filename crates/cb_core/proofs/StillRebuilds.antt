@@ -18,7 +18,7 @@ use Rattle.cb_core.specs.Parts.{Holding}
 use Rattle.cb_core.specs.Step.{HoldOn, StillRebuild, StillRebuildLacks}
 use Rattle.cb_core.specs.Turned.{Rebuilds, RebuildLacks}
 use Rattle.cb_core.proofs.KeptParts.{IsGood, Rises, Carries, CarriesLack}
-use Rattle.cb_core.proofs.StillParts.{Ran, Any, both_same}
+use Rattle.cb_core.proofs.StillParts.{Ran, both_same}
 
 -- frames, homes and nodes are as many as before, no object was made, and the numbers rose by little
 pub record Grows (far new : FarState) : Type 0 where
@@ -125,8 +125,8 @@ surveyed_known x far s id set k first = record {
 }
 
 pub rebuild_lack : (c : Config) (seats : List SeatState)
-    → CarriesLack c seats 16 Any (RebuildLacks Ran) StillRebuildLacks
-rebuild_lack c seats a b good any (ran, (id, set, n, first, few, state)) =
+    → CarriesLack c seats 16 (RebuildLacks Ran) StillRebuildLacks
+rebuild_lack c seats a b good (ran, (id, set, n, first, few, state)) =
     let most : (far_given a.far n).nodes.given ≤ a.far.nodes.given + 16 =
     given_failed a.desk a.far good.shown id n set good.known first.there few in
     let then_far = far_given (surveyed a.far id) n in

@@ -31,25 +31,23 @@ with_room c seats n m k P Q E F most p e a b r good (won mid next id o v again o
     x (won mid next id z.is y.is x.is off)
 
 -- one that found no memory
-pub room_stops : (c : Config) (seats : List SeatState) (n m k : ℕ) (C : Holding Words → Type 0)
+pub room_stops : (c : Config) (seats : List SeatState) (n m k : ℕ)
     (P Q E F : Holding Words → Reply → Holding Words → Type 0)
     (L M I J : Holding Words → Holding Words → Type 0) → n + m + n ≤ k
-    → Carries c seats n P Q → CarriesLack c seats n C L M
-    → Carries c seats m E F → CarriesLack c seats m (λ _. Unit {0}) I J
-    → ((a b : Holding Words) → Q a answer.NoFrame b → C a → C b)
-    → ((a b : Holding Words) (id : SetId) → F a (answer.Set id) b → C a → C b)
-    → CarriesLack c seats k C (RoomStops P L E I) (RoomStops Q M F J)
-room_stops c seats n m k C P Q E F L M I J most p l e i stays goes a b good is (at_once o) =
-    let z = l a b good is o in
+    → Carries c seats n P Q → CarriesLack c seats n L M
+    → Carries c seats m E F → CarriesLack c seats m I J
+    → CarriesLack c seats k (RoomStops P L E I) (RoomStops Q M F J)
+room_stops c seats n m k P Q E F L M I J most p l e i a b good (at_once o) =
+    let z = l a b good o in
     arrives_more c seats n k a b (M a b) _ (omega (arith, most)) z (at_once z.is)
-room_stops c seats n m k C P Q E F L M I J most p l e i stays goes a b good is (evicting mid o v) =
+room_stops c seats n m k P Q E F L M I J most p l e i a b good (evicting mid o v) =
     let z = p a mid answer.NoFrame good o in
-    let y = i mid b z.good tt v in
+    let y = i mid b z.good v in
     arrives_then c seats n m k a mid b _ _ _ (omega (arith, most)) z y (evicting mid z.is y.is)
-room_stops c seats n m k C P Q E F L M I J most p l e i stays goes a b good is (after mid next id o v w) =
+room_stops c seats n m k P Q E F L M I J most p l e i a b good (after mid next id o v w) =
     let z = p a mid answer.NoFrame good o in
     let y = e mid next (answer.Set id) z.good v in
-    let x = l next b y.good (goes mid next id y.is (stays a mid z.is is)) w in
+    let x = l next b y.good w in
     arrives_then c seats (n + m) n k a next b _ _ _ most
     (arrives_then c seats n m (n + m) a mid next _ _ (F mid (answer.Set id) next) (omega arith) z y y.is)
     x (after mid next id z.is y.is x.is)
@@ -99,35 +97,32 @@ brings_in c seats n m k P Q E F most p e a b r good (was_far mid o v) =
     let y = e mid b r z.good v in
     arrives_then c seats n m k a mid b _ _ _ most z y (was_far mid z.is y.is)
 
--- a call on an object wherever it is that found no memory; one that is not here is C, and is so once it
--- was looked at
-pub call_stops : (c : Config) (seats : List SeatState) (n l m k : ℕ) (C : Holding Words → Type 0)
+-- a call on an object wherever it is that found no memory
+pub call_stops : (c : Config) (seats : List SeatState) (n l m k : ℕ)
     (P Q : Holding Words → Reply → Holding Words → Type 0) (L M : Holding Words → Holding Words → Type 0)
     (S T : Holding Words → Option Reply → Holding Words → Type 0)
     (E F : Holding Words → Reply → Holding Words → Type 0)
     (I J : Holding Words → Holding Words → Type 0) → n + l + m + n ≤ k
-    → Carries c seats n P Q → CarriesLack c seats n (λ _. Unit {0}) L M → Carries c seats l S T
-    → Carries c seats m E F → CarriesLack c seats m C I J
-    → ((a b : Holding Words) → Q a answer.NotHere b → C b)
-    → ((a b : Holding Words) → T a None b → C a → C b)
-    → CarriesLack c seats k (λ _. Unit {0}) (CallStops P L S E I) (CallStops Q M T F J)
-call_stops c seats n l m k C P Q L M S T E F I J most p lack look e i away kept a b good is (near o) =
-    let z = lack a b good tt o in
+    → Carries c seats n P Q → CarriesLack c seats n L M → Carries c seats l S T
+    → Carries c seats m E F → CarriesLack c seats m I J
+    → CarriesLack c seats k (CallStops P L S E I) (CallStops Q M T F J)
+call_stops c seats n l m k P Q L M S T E F I J most p lack look e i a b good (near o) =
+    let z = lack a b good o in
     arrives_more c seats n k a b (M a b) _ (omega (arith, most)) z (near z.is)
-call_stops c seats n l m k C P Q L M S T E F I J most p lack look e i away kept a b good is
+call_stops c seats n l m k P Q L M S T E F I J most p lack look e i a b good
     (far mid next o d v) =
     let z = p a mid answer.NotHere good o in
     let y = look mid next None z.good d in
-    let x = i next b y.good (kept mid next y.is (away a mid z.is)) v in
+    let x = i next b y.good v in
     arrives_then c seats (n + l) m k a next b _ _ _ (omega (arith, most))
     (arrives_then c seats n l (n + l) a mid next _ _ (T mid None next) (omega arith) z y y.is) x
     (far mid next z.is y.is x.is)
-call_stops c seats n l m k C P Q L M S T E F I J most p lack look e i away kept a b good is
+call_stops c seats n l m k P Q L M S T E F I J most p lack look e i a b good
     (after mid next last f o d v again) =
     let z = p a mid answer.NotHere good o in
     let y = look mid next None z.good d in
     let x = e next last (answer.Swapped f) y.good v in
-    let w = lack last b x.good tt again in
+    let w = lack last b x.good again in
     arrives_then c seats (n + l + m) n k a last b _ _ _ most
     (arrives_then c seats (n + l) m (n + l + m) a next last _ _ (F next (answer.Swapped f) last)
     (omega arith)

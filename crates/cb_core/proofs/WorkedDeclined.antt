@@ -1,6 +1,6 @@
 -- Worked examples of a look before a write, and of rows that were given out, over any desk: what meets
 -- the definitions, and what breaks one part alone.
-use Rattle.std.proofs.Common.{◌≡◌, ℕ, ◌≤◌, true, false, List, [], ◌∷◌, Option, None, Some, length, refl, sym, ap, ◌∙◌, subst, inl, inr, lit≤, arith}
+use Rattle.std.proofs.Common.{◌≡◌, ℕ, ◌+◌, ◌≤◌, true, false, List, [], ◌∷◌, Option, None, Some, length, refl, sym, ap, ◌∙◌, subst, inl, inr, lit≤, arith}
 use Rattle.std.specs.FinMap as map
 use Rattle.std.proofs.lemmas.Bool.{false≢true}
 use Rattle.cb_member.specs.declared.names.Shard.{Shard}
@@ -108,24 +108,39 @@ some_home p q e = cc
 some_set : (a b : SetState) → Some a ≡ Some b → a ≡ b
 some_set a b e = cc
 
-its_set : (h : Home) (s : SetState) → home_at whole.homes 0 ≡ Some h
-    → set_in whole.sets h.set ≡ Some s → s ≡ set
-its_set h s at in_sets = some_set s set (sym in_sets
-    ∙ ap (λ (x : Home). set_in whole.sets x.set) (sym (some_home home h at)) ∙ there (fresh_members 2))
-
 given_one : IsGiven whole (far_given whole 1) 0
-given_one h s at in_sets =
-    (1, subst (λ (x : SetState). 1 ≤ length x.positions) (sym (its_set h s at in_sets)) (lit≤ tt), refl)
+given_one = (home, set, 1, refl, there (fresh_members 2), lit≤ tt, refl)
 
--- more rows than the set has data positions
+-- object 1 has no home
+given_of_none : IsGiven whole (far_given whole 1) 1 → ⊥
+given_of_none (h, s, n, at, in_sets, few, state) = none_home h at
+  where
+    none_home : (h : Home) → None ≡ Some h → ⊥
+    none_home h e = cc
+
+-- its home is in another set, which is not there
+abbrev elsewhere : FarState
+elsewhere = record whole { homes = Some (record home { set = 6 }) ∷ None ∷ [] }
+
+given_of_other : IsGiven elsewhere (far_given elsewhere 1) 0 → ⊥
+given_of_other (h, s, n, at, in_sets, few, state) = none_set s (sym not_there
+    ∙ ap (λ (x : Home). set_in whole.sets x.set) (some_home (record home { set = 6 }) h at) ∙ in_sets)
+  where
+    not_there : set_in whole.sets 6 ≡ None
+    not_there = grind (arith, map.gets)
+
+    none_set : (s : SetState) → None ≡ Some s → ⊥
+    none_set s e = cc
+
+-- more rows than the set of its home has data positions
 given_two : IsGiven whole (far_given whole 2) 0 → ⊥
-given_two x =
-    let y = x home set refl (there (fresh_members 2)) in
-    let e = ap (λ (f : FarState). f.nodes.given) y.2 in
-    let most : y.0 ≤ 1 = y.1 in omega (arith, most, e)
+given_two (h, s, n, at, in_sets, few, state) =
+    let its_set = some_set s set (sym in_sets
+    ∙ ap (λ (x : Home). set_in whole.sets x.set) (sym (some_home home h at)) ∙ there (fresh_members 2)) in
+    let most : n ≤ 1 = subst (λ (x : SetState). n ≤ length x.positions) its_set few in
+    let e : 2 ≡ 0 + n = ap (λ (f : FarState). f.nodes.given) state in omega (arith, most, e)
 
 -- something else was done too
 given_and_made : IsGiven whole (record (far_given whole 1) { made = 7 }) 0 → ⊥
-given_and_made x =
-    let y = x home set refl (there (fresh_members 2)) in
-    let e : 7 ≡ 1 = ap (λ (f : FarState). f.made) y.2 in omega (arith, e)
+given_and_made (h, s, n, at, in_sets, few, state) =
+    let e : 7 ≡ 1 = ap (λ (f : FarState). f.made) state in omega (arith, e)

@@ -520,28 +520,21 @@ set_same : (a b : SetState) → Some a ≡ Some b → a ≡ b
 set_same a b e = cc
 
 swap_stops : StillSwapLacks 0 (holds away away_far) (holds away (far_given away_far 1))
-swap_stops = (refl, λ h s at there. (1, most h s at there, refl))
-  where
-    home_same : (a b : Home) → Some a ≡ Some b → a ≡ b
-    home_same a b e = cc
-
-    most : (h : Home) (s : SetState) → home_at away_far.homes 0 ≡ Some h
-        → set_in away_far.sets h.set ≡ Some s → 1 ≤ length s.positions
-    most h s at found =
-        let e : home ≡ h = home_same home h at in
-        let z : set ≡ s = set_same set s (sym there
-        ∙ subst (λ (k : Home). set_in away_far.sets k.set ≡ Some s) (sym e) found) in
-        subst (λ (t : SetState). 1 ≤ length t.positions) z (lit≤ tt)
+swap_stops = (refl, (home, set, 1, refl, there, lit≤ tt, refl))
 
 swap_stops_and_warms : StillSwapLacks 0 (holds away away_far) (holds hot (far_given away_far 1)) → ⊥
 swap_stops_and_warms stops = let e : 16390 ≡ 16385 =
     ap (λ (x : Words). get_or x.words 0 0) stops.0 in omega (arith, e)
 
 two_rows_too_many : StillSwapLacks 0 (holds away away_far) (holds away (far_given away_far 2)) → ⊥
-two_rows_too_many stops =
-    let z = stops.1 home set refl there in
-    let n = z.1 in
-    let e : 2 ≡ 0 + z.0 = ap (λ (f : FarState). f.nodes.given) z.2 in omega (arith, e, n)
+two_rows_too_many (same, (h, s, n, at, in_sets, few, state)) =
+    let its_set = set_same s set (sym in_sets
+    ∙ ap (λ (x : Home). set_in away_far.sets x.set) (sym (home_same home h at)) ∙ there) in
+    let most : n ≤ 1 = subst (λ (x : SetState). n ≤ length x.positions) its_set few in
+    let e : 2 ≡ 0 + n = ap (λ (f : FarState). f.nodes.given) state in omega (arith, e, most)
+  where
+    home_same : (p q : Home) → Some p ≡ Some q → p ≡ q
+    home_same p q e = cc
 
 -- ---- a filter: object 0 has a pin
 filters : StillFilter 0 (holds pinned near) (answer.Pinned 1) (holds pinned near)

@@ -24,9 +24,8 @@ use Rattle.cb_core.specs.Room.{final_reply}
 use Rattle.cb_core.specs.Step.{StillMake, StillMakeLacks, StillRead, StillReadLacks, StillWrite, StillFind, StillDecline, StillEvict, StillEvictLacks, StillSwap, StillSwapLacks, StillBring, StillBringLacks, StillWorks, StillStops, TurnStep, worn, done, Stops}
 use Rattle.cb_core.specs.Turned.{Does, Turned, worn as was_worn, done as was_done, Stopped, counted, once_counted, Makes, MakeLacks, Reads, ReadLacks, Writes, Finds, Declines, Evicts, EvictLacks, Swaps, SwapLacks, Brings, BringLacks, Stops as StopsOver}
 use Rattle.cb_core.proofs.Counting.{counted_sound}
-use Rattle.cb_core.proofs.FarCalls.{read_far, write_far, find_far, never_far, decline_far, swap_far, evict_far}
 use Rattle.cb_core.proofs.KeptParts.{IsGood, Arrives, Carries, CarriesLack, rises_more, arrives_then, arrives_same, arrives_like, counted_rises}
-use Rattle.cb_core.proofs.StillParts.{Ran, Tells, Any, IsFar, both_same, make_part, read_part, write_part, free_part, find_part, never_part, decline_part, evict_part, swap_part, make_lack, read_lack, evict_lack, swap_lack}
+use Rattle.cb_core.proofs.StillParts.{Ran, Tells, both_same, make_part, read_part, write_part, free_part, find_part, never_part, decline_part, evict_part, swap_part, make_lack, read_lack, evict_lack, swap_lack}
 use Rattle.cb_core.proofs.StillBatches.{begin_part, ship_part, ship_lack, commit_part, abort_part}
 use Rattle.cb_core.proofs.StillFilters.{filter_part, filter_lack}
 use Rattle.cb_core.proofs.StillRebuilds.{rebuild_part, rebuild_lack}
@@ -101,12 +100,11 @@ bring_part c seats h accepted =
     (omega arith) (swap_part c seats h) (evict_part c seats accepted)
 
 bring_lack : (c : Config) (seats : List SeatState) (h : ℕ) → IsAccepted c
-    → CarriesLack c seats 56 (IsFar h) (BringLacks Ran Tells c h) (StillBringLacks h)
+    → CarriesLack c seats 56 (BringLacks Ran Tells c h) (StillBringLacks h)
 bring_lack c seats h accepted =
-    room_stops c seats 16 24 56 (IsFar h) (Swaps Ran Tells h) (StillSwap h) (Evicts Ran Tells c)
+    room_stops c seats 16 24 56 (Swaps Ran Tells h) (StillSwap h) (Evicts Ran Tells c)
     StillEvict (SwapLacks Ran h) (StillSwapLacks h) (EvictLacks Ran Tells) StillEvictLacks (omega arith)
     (swap_part c seats h) (swap_lack c seats h) (evict_part c seats accepted) (evict_lack c seats)
-    (swap_far h) (evict_far h)
 
 works_part : (c : Config) (seats : List SeatState) (job : Job) (a b : Holding Words) (r : Reply)
     → IsAccepted c → IsJob c job → IsGood c seats a → Does Ran Tells c job a r b
@@ -168,52 +166,51 @@ works_part c seats Part a b r accepted ok good does = absurd ok
 works_part c seats Compact a b r accepted ok good does = absurd ok
 
 -- a job that found no memory
-never_lack : (c : Config) (seats : List SeatState) → CarriesLack c seats 1 Any NeverLacks NeverLacks
-never_lack c seats a b good any lacks = absurd lacks
+never_lack : (c : Config) (seats : List SeatState) → CarriesLack c seats 1 NeverLacks NeverLacks
+never_lack c seats a b good lacks = absurd lacks
 
 stops_part : (c : Config) (seats : List SeatState) (job : Job) (a b : Holding Words)
     → IsAccepted c → IsGood c seats a → StopsOver Ran Tells c job a b
     → Arrives c seats 64 a b (StillStops job a b)
 stops_part c seats (Make bytes) a b accepted good stops =
-    room_stops c seats 1 24 64 Any (Makes Ran Tells c bytes) (StillMake bytes) (Evicts Ran Tells c)
+    room_stops c seats 1 24 64 (Makes Ran Tells c bytes) (StillMake bytes) (Evicts Ran Tells c)
     StillEvict (MakeLacks Ran c bytes) (StillMakeLacks bytes) (EvictLacks Ran Tells) StillEvictLacks
     (omega arith) (make_part c seats bytes) (make_lack c seats bytes) (evict_part c seats accepted)
-    (evict_lack c seats) (λ d e z u. tt) (λ d e id z u. tt) a b good tt stops
+    (evict_lack c seats) a b good stops
 stops_part c seats (Read handle) a b accepted good stops =
     let h = handle.n in
-    call_stops c seats 1 1 56 64 (IsFar h) (Reads Ran Tells h) (StillRead h) (ReadLacks Ran Tells h)
+    call_stops c seats 1 1 56 64 (Reads Ran Tells h) (StillRead h) (ReadLacks Ran Tells h)
     (StillReadLacks h) NeverDeclined NeverDeclined (Brings Ran Tells c h) (StillBring h)
     (BringLacks Ran Tells c h) (StillBringLacks h) (omega arith) (read_part c seats h)
     (read_lack c seats h) (never_part c seats) (bring_part c seats h accepted)
-    (bring_lack c seats h accepted) (read_far h) (never_far h) a b good tt stops
+    (bring_lack c seats h accepted) a b good stops
 stops_part c seats (Write handle at bytes) a b accepted good stops =
     let h = handle.n in let count = length bytes in
-    call_stops c seats 1 1 56 64 (IsFar h) (Writes Ran Tells h at bytes) (StillWrite h at bytes)
+    call_stops c seats 1 1 56 64 (Writes Ran Tells h at bytes) (StillWrite h at bytes)
     NeverLacks NeverLacks (Declines Ran Tells h at count) (StillDecline h at count)
     (Brings Ran Tells c h) (StillBring h) (BringLacks Ran Tells c h) (StillBringLacks h) (omega arith)
     (write_part c seats h at bytes) (never_lack c seats) (decline_part c seats h at count)
-    (bring_part c seats h accepted) (bring_lack c seats h accepted) (write_far h at bytes)
-    (decline_far h at count) a b good tt stops
+    (bring_part c seats h accepted) (bring_lack c seats h accepted) a b good stops
 stops_part c seats (Swap handle) a b accepted good (m, found, stops) =
     let h = handle.n in
     let z = find_part c seats h a m answer.NotHere good found in
-    let y = bring_lack c seats h accepted m b z.good (find_far h a m z.is) stops in
+    let y = bring_lack c seats h accepted m b z.good stops in
     arrives_then c seats 1 56 64 a m b _ _ (StillStops (Swap handle) a b) (omega arith) z y
     (m, z.is, y.is)
 stops_part c seats Evict a b accepted good stops =
-    let z = evict_lack c seats a b good tt stops in
+    let z = evict_lack c seats a b good stops in
     record { is = z.is; good = z.good; rises = rises_more 24 64 a.far b.far (omega arith) z.rises }
 stops_part c seats Begin a b accepted good stops =
-    let z = evict_lack c seats a b good tt stops in
+    let z = evict_lack c seats a b good stops in
     record { is = z.is; good = z.good; rises = rises_more 24 64 a.far b.far (omega arith) z.rises }
 stops_part c seats Ship a b accepted good stops =
-    let z = ship_lack c seats a b good tt stops in
+    let z = ship_lack c seats a b good stops in
     record { is = z.is; good = z.good; rises = rises_more 1 64 a.far b.far (omega arith) z.rises }
 stops_part c seats (Filter handle) a b accepted good stops =
-    let z = filter_lack c seats handle.n a b good tt stops in
+    let z = filter_lack c seats handle.n a b good stops in
     record { is = z.is; good = z.good; rises = rises_more 1 64 a.far b.far (omega arith) z.rises }
 stops_part c seats Rebuild a b accepted good stops =
-    let z = rebuild_lack c seats a b good tt stops in
+    let z = rebuild_lack c seats a b good stops in
     record { is = z.is; good = z.good; rises = rises_more 16 64 a.far b.far (omega arith) z.rises }
 stops_part c seats (Crash node) a b accepted good (ran, far, up) =
     let same = both_same a b ran.0 far in

@@ -201,11 +201,11 @@ abbrev pub EvictLacks : {D : Type 0} → (D → List Event → D → Type 0) →
 EvictLacks run shows a b = (b.far ≡ a.far) × Performs (λ es. run a.desk es b.desk)
     (λ s. shows a.desk s × Sound s a.far) (TouchesSpans a.far) (λ t. Sound t b.far) IsStill
 
--- rows of the object's set were given out, at most as many as it has data positions
+-- the object has its home in a set, and rows of that set were given out, at most as many as it has
+-- data positions
 abbrev pub IsGiven : FarState → FarState → ℕ → Type 0
-IsGiven far new h = (home : Home) (set : SetState) → home_at far.homes h ≡ Some home
-    → set_in far.sets home.set ≡ Some set → (n : ℕ) × (n ≤ length set.positions)
-    × (new ≡ far_given far n)
+IsGiven far new h = (home : Home) × (set : SetState) × (n : ℕ) × (home_at far.homes h ≡ Some home)
+    × (set_in far.sets home.set ≡ Some set) × (n ≤ length set.positions) × (new ≡ far_given far n)
 
 -- a swap-in that lacks memory has given out rows, and nothing else was done
 abbrev pub SwapLacks : {D : Type 0} → (D → List Event → D → Type 0) → ℕ → Holding D → Holding D

@@ -1,7 +1,7 @@
 use Rattle.std.proofs.Common.{sym, ap, ◌∙◌, subst, ◌+◌, ◌<◌, ◌^◌, ℕ}
 use Rattle.cb_world.specs.FarState.{FarState}
 use Rattle.cb_world.specs.Homes.{home_at}
-use Rattle.cb_core.proofs.Composing.{holding, shown_after, shown_if, swap_again, swap_lacks_again, swap_refused, swap_without, won_between}
+use Rattle.cb_core.proofs.Composing.{holding, shown_after, shown_if, swap_again, swap_lacks_again, swap_refused, swap_stops, swap_without, won_between}
 use Rattle.cb_core.proofs.PartsFar.{live_home, swap_crammed}
 use Rattle.cb_core.proofs.bringing.bring.Goals as goal
 
@@ -20,6 +20,16 @@ pub evict_now-requires-clause-sound : goal.evict_now-requires-clause-sound
 evict_now-requires-clause-sound g c =
     shown_after _ _ _ _ _ _ _ c.in_ok-swapped.ensures.swap
     (λ es s ran a. (g.met.D.Desk.follows _ _ es s ran a).1) c.requires.sound
+
+pub returns-in_err-swapped-clause-error : goal.returns-in_err-swapped-clause-error
+returns-in_err-swapped-clause-error g c =
+    let at = ap (λ (q : FarState). home_at q.homes c.args.h.n) (sym c.far.view_is)
+    ∙ sym c.at.ensures.home ∙ c.unwrap-home.ensures in
+    swap_stops (λ d es e. g.D.Desk.run d es e) (λ d s. g.D.Desk.shows d s) c.args.h.n
+    c.unwrap-home.result (holding c.args.desk.now c.args.far.now)
+    (holding c.swap_in.new.desk c.swap_in.new.far) (λ d. g.met.D.Desk.none d) c.requires.sound at
+    (g.D.Desk.settings c.args.desk.now) c.from_residual.result
+    c.in_err-swapped.ensures.desk c.in_err-swapped.ensures.far
 
 pub returns-in_err-room-clause-error : goal.returns-in_err-room-clause-error
 returns-in_err-room-clause-error g c =
@@ -132,7 +142,8 @@ returns-clause-error g c =
     c.in_ok-swapped.swapped at x
     (holding c.evict_now.new.desk c.evict_now.new.far)
     (holding c.swap_in-2.new.desk c.swap_in-2.new.far) (g.D.Desk.settings c.swap_in.new.desk)
-    c.in_ok-room.room set.0 c.swap_in-2.result (λ d. g.met.D.Desk.none d) none same y set.1
+    c.in_ok-room.room set.0 c.swap_in-2.result none same y set.1 (λ d. g.met.D.Desk.none d)
+    (shown_after _ _ _ _ _ _ _ y (λ es s ran a. (g.met.D.Desk.follows _ _ es s ran a).1) known)
     (won_between (λ d es e. g.D.Desk.run d es e) (λ d s. g.D.Desk.shows d s) (g.D.Desk.settings c.args.desk.now) (g.D.Desk.settings c.swap_in.new.desk) c.args.far.now
     (holding c.swap_in.new.desk c.swap_in.new.far) (holding c.evict_now.new.desk c.evict_now.new.far)
     c.in_ok-room.room set.0 same c.requires.config c.requires.configured
