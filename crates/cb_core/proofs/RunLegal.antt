@@ -12,13 +12,14 @@ use Rattle.cb_types.specs.declared.config.Config.{Config}
 use Rattle.cb_types.specs.declared.config.Field.TheVariants.{Nodes}
 use Rattle.cb_types.specs.declared.job.Job.{Job}
 use Rattle.cb_types.specs.declared.job.Job.TheVariants as job
+use Rattle.cb_types.specs.declared.request.Request.{Request}
 use Rattle.cb_types.specs.declared.request.Request.TheVariants.{Pin as PinLine}
 use Rattle.cb_types.specs.declared.reply.Reply.{Reply}
 use Rattle.cb_types.specs.declared.reply.Reply.TheVariants as answer
 use Rattle.cb_model.specs.declared.object.Object.TheVariants.{Held, Freed}
 use Rattle.cb_model.specs.Event.{event_of}
 use Rattle.cb_model.specs.Event.Event.{Pins}
-use Rattle.cb_model.specs.Called.{Called, value}
+use Rattle.cb_model.specs.Called.{Called, makes, value}
 use Rattle.cb_model.specs.Legal.{Follow, AreLegal}
 use Rattle.cb_model.specs.Now.{Now as MapNow}
 use Rattle.cb_model.specs.Replies.{MapReplies}
@@ -46,13 +47,13 @@ use Rattle.cb_mutate.proofs.MapReplies.{IsOnContents, map_same, call_by_state, r
 use Rattle.cb_core.specs.declared.event.Atomic.TheVariants as atomic
 use Rattle.cb_core.specs.declared.event.Event.{Event}
 use Rattle.cb_core.specs.declared.event.Event.TheVariants as event
-use Rattle.cb_core.specs.Called.{called_as, calls_by, StandsBeside}
+use Rattle.cb_core.specs.Called.{called_as, calls_by, call_of, handle_on, StandsBeside}
 use Rattle.cb_core.specs.Events.{IsEvent}
 use Rattle.cb_core.specs.Jobs.{IsJob}
 use Rattle.cb_core.specs.Pinning.{PinStep, scope_full, refused, taken, pin_refusal, UnpinStep, not_pinned, given}
 use Rattle.cb_core.specs.Run.{LeadsSoundly}
 use Rattle.cb_core.specs.Step.{Step, TurnStep, worn, done}
-use Rattle.cb_core.proofs.CallsBeside.{Comes, comes_none, call_comes, make_comes, on_read, on_write, on_free, on_pinned}
+use Rattle.cb_core.proofs.CallsBeside.{Comes, IsObjectCall, comes_none, call_comes, make_comes, on_read, on_write, on_free, on_pinned}
 use Rattle.cb_core.proofs.Settings.{step_settings}
 use Rattle.cb_core.proofs.TurnCalls.{read_turn, write_turn, free_turn, make_turn, evict_turn, begin_turn, ship_turn, commit_turn, abort_turn, swap_turn, crash_turn, join_turn, turn_first, filter_turn, rebuild_turn}
 use Rattle.cb_core.proofs.TurnCallsKept.{known_same}
@@ -110,6 +111,12 @@ lost_beside before s t far new map lost = record {
   ];
 }
 
+-- an event that changes nothing is no call
+same_goes : (before : List Called) (w new : WorldState) → (c : Around before w new) → new ≡ w
+    → Comes w.desk.settings.handles before [] c.after.shown w.far new.far
+same_goes before w new c same = comes_none w.desk.settings.handles before c.after.shown w.far new.far
+    (same_beside before w new c same)
+
 -- ---- turns
 
 -- a turn that was refused for their number is no call
@@ -124,7 +131,24 @@ worn_goes : (before : List Called) (seat : ℕ) (j : Job) (r : Reply) (w new : W
 worn_goes before seat j r w new c is same =
     subst (λ (cs : List Called). Comes w.desk.settings.handles before cs c.after.shown w.far new.far)
     (sym (ap (called_as before (event.Turn seat j)) is ∙ worn_none before seat j))
-    (comes_none w.desk.settings.handles before c.after.shown w.far new.far (same_beside before w new c same))
+    (same_goes before w new c same)
+
+-- a turn that keeps the map is no call
+quiet_goes : (before : List Called) (w new : WorldState) → (c : Around before w new)
+    → IsSameMap c.at_first.shown c.after.shown w.far new.far
+    → Comes w.desk.settings.handles before [] c.after.shown w.far new.far
+quiet_goes before w new c same = comes_none w.desk.settings.handles before c.after.shown w.far new.far
+    (kept_beside before c.at_first.shown c.after.shown w.far new.far c.beside same)
+
+-- a call on an object
+call_goes : (before : List Called) (seat h : ℕ) (q : Request) (r : Reply) (w new : WorldState)
+    → (c : Around before w new)
+    → IsCallOn w.desk.settings.handles c.at_first.shown c.after.shown w.far new.far h q r → IsObjectCall q
+    → Comes w.desk.settings.handles before (call_of seat (handle_on (makes before) h) q r) c.after.shown
+    w.far new.far
+call_goes before seat h q r w new c call on =
+    call_comes w.desk.settings.handles seat before c.at_first.shown c.after.shown w.far new.far h q r
+    c.at_first.known.sound c.beside call on
 
 done_goes : (before : List Called) (seat : ℕ) (j : Job) (r : Reply) (w new : WorldState)
     → (c : Around before w new) → IsJob w.desk.settings j → w.far.counts.turns < 2 ^ 40
@@ -134,57 +158,36 @@ done_goes before seat (job.Make bytes) r w new c ok few step =
     make_comes w.desk.settings.handles seat before c.at_first.shown c.after.shown w.far new.far bytes [] r
     c.beside z.call z.line
 done_goes before seat (job.Read handle) r w new c ok few step =
-    call_comes w.desk.settings.handles seat before c.at_first.shown c.after.shown w.far new.far handle.n _ r
-    c.at_first.known.sound c.beside
+    call_goes before seat handle.n _ r w new c
     (read_turn w new handle.n [] r c.at_first c.after few ok step).call (on_read [])
 done_goes before seat (job.Write handle at bytes) r w new c ok few step =
-    call_comes w.desk.settings.handles seat before c.at_first.shown c.after.shown w.far new.far handle.n _ r
-    c.at_first.known.sound c.beside
+    call_goes before seat handle.n _ r w new c
     (write_turn w new handle.n at bytes [] r c.at_first c.after few ok step).call (on_write [] at bytes)
 done_goes before seat (job.Free handle) r w new c ok few step =
-    call_comes w.desk.settings.handles seat before c.at_first.shown c.after.shown w.far new.far handle.n _ r
-    c.at_first.known.sound c.beside
+    call_goes before seat handle.n _ r w new c
     (free_turn w new handle.n [] r c.at_first c.after few ok step).call (on_free [])
 done_goes before seat (job.Swap handle) r w new c ok few step =
-    comes_none w.desk.settings.handles before c.after.shown w.far new.far
-    (kept_beside before c.at_first.shown c.after.shown w.far new.far c.beside
-    (swap_turn w new handle.n r c.at_first c.after few ok step).same)
+    quiet_goes before w new c (swap_turn w new handle.n r c.at_first c.after few ok step).same
 done_goes before seat (job.Filter handle) r w new c ok few step =
-    comes_none w.desk.settings.handles before c.after.shown w.far new.far
-    (kept_beside before c.at_first.shown c.after.shown w.far new.far c.beside
-    (filter_turn w new handle.n r c.at_first c.after few ok step).same)
+    quiet_goes before w new c (filter_turn w new handle.n r c.at_first c.after few ok step).same
 done_goes before seat job.Evict r w new c ok few step =
-    comes_none w.desk.settings.handles before c.after.shown w.far new.far
-    (kept_beside before c.at_first.shown c.after.shown w.far new.far c.beside
-    (evict_turn w new r c.at_first c.after few step).0)
+    quiet_goes before w new c (evict_turn w new r c.at_first c.after few step).0
 done_goes before seat job.Begin r w new c ok few step =
-    comes_none w.desk.settings.handles before c.after.shown w.far new.far
-    (kept_beside before c.at_first.shown c.after.shown w.far new.far c.beside
-    (begin_turn w new r c.at_first c.after few step).0)
+    quiet_goes before w new c (begin_turn w new r c.at_first c.after few step).0
 done_goes before seat job.Ship r w new c ok few step =
-    comes_none w.desk.settings.handles before c.after.shown w.far new.far
-    (kept_beside before c.at_first.shown c.after.shown w.far new.far c.beside
-    (ship_turn w new r c.at_first c.after few step).0)
+    quiet_goes before w new c (ship_turn w new r c.at_first c.after few step).0
 done_goes before seat job.Commit r w new c ok few step =
-    comes_none w.desk.settings.handles before c.after.shown w.far new.far
-    (kept_beside before c.at_first.shown c.after.shown w.far new.far c.beside
-    (commit_turn w new r c.at_first c.after few step).0)
+    quiet_goes before w new c (commit_turn w new r c.at_first c.after few step).0
 done_goes before seat job.Abort r w new c ok few step =
-    comes_none w.desk.settings.handles before c.after.shown w.far new.far
-    (kept_beside before c.at_first.shown c.after.shown w.far new.far c.beside
-    (abort_turn w new r c.at_first c.after few step).0)
+    quiet_goes before w new c (abort_turn w new r c.at_first c.after few step).0
 done_goes before seat job.Rebuild r w new c ok few step =
-    comes_none w.desk.settings.handles before c.after.shown w.far new.far
-    (kept_beside before c.at_first.shown c.after.shown w.far new.far c.beside
-    (rebuild_turn w new r c.at_first c.after few step).0)
+    quiet_goes before w new c (rebuild_turn w new r c.at_first c.after few step).0
 done_goes before seat (job.Crash node) r w new c ok few step =
     comes_none w.desk.settings.handles before c.after.shown w.far new.far
     (lost_beside before c.at_first.shown c.after.shown w.far new.far c.beside
     (crash_turn w new node r c.at_first c.after few ok step).0)
 done_goes before seat (job.Join node) r w new c ok few step =
-    comes_none w.desk.settings.handles before c.after.shown w.far new.far
-    (kept_beside before c.at_first.shown c.after.shown w.far new.far c.beside
-    (join_turn w new node r c.at_first c.after few ok step).0)
+    quiet_goes before w new c (join_turn w new node r c.at_first c.after few ok step).0
 done_goes before seat j r w new c ok few step = absurd ok
 
 turn_goes : (before : List Called) (seat : ℕ) (j : Job) (r : Reply) (w new : WorldState)
@@ -281,15 +284,13 @@ pin_goes : (before : List Called) (seat h : ℕ) (r : Reply) (w new : WorldState
 pin_goes before seat h r w new c below (scope_full full is same) =
     subst (λ (q : Reply). Goes before (event.Step seat (atomic.Pin (record { n = h }))) q w new c.after.shown)
     (sym is)
-    (comes_none w.desk.settings.handles before c.after.shown w.far new.far (same_beside before w new c same))
+    (same_goes before w new c same)
 pin_goes before seat h r w new c below (refused room never_may is same) =
-    call_comes w.desk.settings.handles seat before c.at_first.shown c.after.shown w.far new.far h
-    (PinLine []) r c.at_first.known.sound c.beside
+    call_goes before seat h (PinLine []) r w new c
     (refused_pin before h r w new c
     (let n = c.at_first.known.sized.words in omega (arith, below, n)) is same) (on_pinned [])
 pin_goes before seat h r w new c below (taken room may is t) =
-    call_comes w.desk.settings.handles seat before c.at_first.shown c.after.shown w.far new.far h
-    (PinLine []) r c.at_first.known.sound c.beside
+    call_goes before seat h (PinLine []) r w new c
     (subst (IsCallOn w.desk.settings.handles c.at_first.shown c.after.shown w.far new.far h (PinLine []))
     (sym is)
     (taken_pin before h (stamp_at w.desk h)
@@ -321,8 +322,7 @@ event_goes : (before : List Called) (e : Event) (r : Reply) (w new : WorldState)
     → Goes before e r w new c.after.shown
 event_goes before (event.Turn seat j) r w new c ok step = turn_goes before seat j r w new c ok.1 step
 event_goes before (event.Step seat (atomic.Load handle)) r w new c ok step =
-    comes_none w.desk.settings.handles before c.after.shown w.far new.far
-    (same_beside before w new c step.1)
+    same_goes before w new c step.1
 event_goes before (event.Step seat (atomic.Pin handle)) r w new c ok step =
     pin_goes before seat handle.n r w new c ok.1 step
 event_goes before (event.Step seat (atomic.Unpin handle)) r w new c ok step =

@@ -133,20 +133,26 @@ make_turn w new bytes name r before after few step =
     })
 
 -- ---- turns that are no calls
--- An eviction leaves the map as it is.
-pub evict_turn : (w new : WorldState) (r : Reply) → (before : IsSoundWorld w)
-    → (after : IsSoundWorld new) → w.far.counts.turns < 2 ^ 40 → TurnStep job.Evict w r new
-    → IsSameMap before.shown after.shown w.far new.far × IsReplyOf Evict r
-evict_turn w new r before after few step =
-    let j = job.Evict in
+-- Each turn of the job leaves the map as it is, and is answered as a line of that request is.
+abbrev pub IsQuiet : Job → Request → Type 0
+IsQuiet j line = (w new : WorldState) (r : Reply) → (before : IsSoundWorld w)
+    → (after : IsSoundWorld new) → w.far.counts.turns < 2 ^ 40 → TurnStep j w r new
+    → IsSameMap before.shown after.shown w.far new.far × IsReplyOf line r
+
+-- by what each of its steps keeps, and how each is answered
+quiet_turn : (j : Job) (line : Request)
+    → ((a b : Holding Words) (q : Reply) (s : Shown) → IsKnown a.desk a.far s → StillWorks j a q b
+    → HasKept a b s)
+    → ((a b : Holding Words) (q : Reply) → StillWorks j a q b → IsReplyOf line q)
+    → (IsReplyOf line answer.NoFrame → ⊥) → IsQuiet j line
+quiet_turn j line keeps answered never w new r before after few step =
     let d = is_done j w new r few step in
-    let kept = kept_evict (held_at w j) (held_then new) d.reply before.shown (known_at w j before)
-    d.works in
-    let line = evict_line w.desk new.desk (counted w.far j) new.far d.reply d.works.0 in (
+    let kept = keeps (held_at w j) (held_then new) d.reply before.shown (known_at w j before) d.works in
+    let is = answered (held_at w j) (held_then new) d.reply d.works in (
       map_then before.shown before.shown after.shown w.far (counted w.far j) new.far
           (counted_map before.shown w.far j)
           (kept_map (held_at w j) (held_then new) before.shown after.shown kept after.known),
-      subst (IsReplyOf Evict) (sym (d.is ∙ own_final Evict new d.reply line (λ e. e))) line,
+      subst (IsReplyOf line) (sym (d.is ∙ own_final line new d.reply is never)) is,
     )
 
 -- A swap leaves the map as it is, and answers as a pin of the object may be refused, or that the object
@@ -193,74 +199,30 @@ filter_turn w new h r before after few below step =
           (counted_map before.shown w.far j) (map_stays after.shown new.far) h (z.call name);
     })
 
--- The steps of a batch leave the map as it is.
-batch_turn : (j : Job) (line : Request) (w new : WorldState) (r : Reply) → (before : IsSoundWorld w)
-    → (after : IsSoundWorld new) → (d : IsDone j w r new)
-    → HasKept (held_at w j) (held_then new) before.shown → IsReplyOf line d.reply
-    → (IsReplyOf line answer.NoFrame → ⊥)
-    → IsSameMap before.shown after.shown w.far new.far × IsReplyOf line r
-batch_turn j line w new r before after d kept is never = (
-  map_then before.shown before.shown after.shown w.far (counted w.far j) new.far
-      (counted_map before.shown w.far j)
-      (kept_map (held_at w j) (held_then new) before.shown after.shown kept after.known),
-  subst (IsReplyOf line) (sym (d.is ∙ own_final line new d.reply is never)) is,
-)
+-- An eviction, the steps of a batch, and a rebuild leave the map as it is.
+pub evict_turn : IsQuiet job.Evict Evict
+evict_turn = quiet_turn job.Evict Evict kept_evict
+    (λ a b q x. evict_line a.desk b.desk a.far b.far q x.0) (λ e. e)
 
-pub begin_turn : (w new : WorldState) (r : Reply) → (before : IsSoundWorld w)
-    → (after : IsSoundWorld new) → w.far.counts.turns < 2 ^ 40 → TurnStep job.Begin w r new
-    → IsSameMap before.shown after.shown w.far new.far × IsReplyOf Begin r
-begin_turn w new r before after few step =
-    let j = job.Begin in
-    let d = is_done j w new r few step in
-    batch_turn j Begin w new r before after d
-    (kept_begin (held_at w j) (held_then new) d.reply before.shown (known_at w j before) d.works)
-    (begin_line w.desk new.desk (counted w.far j) new.far d.reply d.works.0) (λ e. e)
+pub begin_turn : IsQuiet job.Begin Begin
+begin_turn = quiet_turn job.Begin Begin kept_begin
+    (λ a b q x. begin_line a.desk b.desk a.far b.far q x.0) (λ e. e)
 
-pub ship_turn : (w new : WorldState) (r : Reply) → (before : IsSoundWorld w)
-    → (after : IsSoundWorld new) → w.far.counts.turns < 2 ^ 40 → TurnStep job.Ship w r new
-    → IsSameMap before.shown after.shown w.far new.far × IsReplyOf Ship r
-ship_turn w new r before after few step =
-    let j = job.Ship in
-    let d = is_done j w new r few step in
-    batch_turn j Ship w new r before after d
-    (kept_ship (held_at w j) (held_then new) d.reply before.shown (known_at w j before) d.works)
-    (ship_line w.desk new.desk (counted w.far j) new.far d.reply d.works.0) (λ e. e)
+pub ship_turn : IsQuiet job.Ship Ship
+ship_turn = quiet_turn job.Ship Ship kept_ship
+    (λ a b q x. ship_line a.desk b.desk a.far b.far q x.0) (λ e. e)
 
-pub commit_turn : (w new : WorldState) (r : Reply) → (before : IsSoundWorld w)
-    → (after : IsSoundWorld new) → w.far.counts.turns < 2 ^ 40 → TurnStep job.Commit w r new
-    → IsSameMap before.shown after.shown w.far new.far × IsReplyOf Commit r
-commit_turn w new r before after few step =
-    let j = job.Commit in
-    let d = is_done j w new r few step in
-    batch_turn j Commit w new r before after d
-    (kept_commit (held_at w j) (held_then new) d.reply before.shown (known_at w j before) d.works)
-    (commit_line w.desk new.desk (counted w.far j) new.far d.reply d.works.0) (λ e. e)
+pub commit_turn : IsQuiet job.Commit Commit
+commit_turn = quiet_turn job.Commit Commit kept_commit
+    (λ a b q x. commit_line a.desk b.desk a.far b.far q x.0) (λ e. e)
 
-pub abort_turn : (w new : WorldState) (r : Reply) → (before : IsSoundWorld w)
-    → (after : IsSoundWorld new) → w.far.counts.turns < 2 ^ 40 → TurnStep job.Abort w r new
-    → IsSameMap before.shown after.shown w.far new.far × IsReplyOf Abort r
-abort_turn w new r before after few step =
-    let j = job.Abort in
-    let d = is_done j w new r few step in
-    batch_turn j Abort w new r before after d
-    (kept_abort (held_at w j) (held_then new) d.reply before.shown (known_at w j before) d.works)
-    (abort_line w.desk new.desk (counted w.far j) new.far d.reply d.works.0) (λ e. e)
+pub abort_turn : IsQuiet job.Abort Abort
+abort_turn = quiet_turn job.Abort Abort kept_abort
+    (λ a b q x. abort_line a.desk b.desk a.far b.far q x.0) (λ e. e)
 
--- A rebuild leaves the map as it is.
-pub rebuild_turn : (w new : WorldState) (r : Reply) → (before : IsSoundWorld w)
-    → (after : IsSoundWorld new) → w.far.counts.turns < 2 ^ 40 → TurnStep job.Rebuild w r new
-    → IsSameMap before.shown after.shown w.far new.far × IsReplyOf Rebuild r
-rebuild_turn w new r before after few step =
-    let j = job.Rebuild in
-    let d = is_done j w new r few step in
-    let kept = kept_rebuild (held_at w j) (held_then new) d.reply before.shown (known_at w j before)
-    d.works in
-    let line = rebuild_line (counted w.far j) new.far d.reply d.works.1 in (
-      map_then before.shown before.shown after.shown w.far (counted w.far j) new.far
-          (counted_map before.shown w.far j)
-          (kept_map (held_at w j) (held_then new) before.shown after.shown kept after.known),
-      subst (IsReplyOf Rebuild) (sym (d.is ∙ own_final Rebuild new d.reply line (λ e. e))) line,
-    )
+pub rebuild_turn : IsQuiet job.Rebuild Rebuild
+rebuild_turn = quiet_turn job.Rebuild Rebuild kept_rebuild
+    (λ a b q x. rebuild_line a.far b.far q x.1) (λ e. e)
 
 member : (w : WorldState) (node : NodeId) → IsSoundWorld w → node.n < w.desk.settings.nodes
     → node.n < length w.far.members.nodes
