@@ -1,18 +1,17 @@
 -- A filter over a still desk is a step, and leaves all known.
-use Rattle.std.proofs.Common.{◌≡◌, ◌⊎◌, ℕ, ◌+◌, ◌≤◌, List, [], ◌∷◌, length, get_or, set, refl, sym, ap, ◌∙◌, subst, arith, inl, inr, length-set}
-use Rattle.cb_ptr.specs.Word.{hot_of, place_of, pins_of}
+use Rattle.std.proofs.Common.{◌≡◌, ℕ, ◌+◌, List, [], ◌∷◌, set, refl, sym, ap, ◌∙◌, subst, arith, inl, inr, length-set}
+use Rattle.cb_ptr.specs.Word.{hot_of, place_of}
 use Rattle.cb_types.specs.declared.config.Config.{Config}
 use Rattle.cb_types.specs.declared.reply.Reply.{Reply}
 use Rattle.cb_world.specs.declared.event.Event.{Event}
 use Rattle.cb_world.specs.declared.event.Event.TheVariants.{Looked, Claimed, Told, Loaded, Stored, Stamped, Settled}
-use Rattle.cb_world.specs.declared.shown.Shown.{Shown}
 use Rattle.cb_world.specs.FarState.{FarState}
 use Rattle.cb_world.specs.Grasped.{IsFree}
 use Rattle.cb_world.specs.Looks.{NoLook, IsFound, IsTaken, LooksFirst}
 use Rattle.cb_world.specs.Placed.{Slot, with_object, place_in}
 use Rattle.cb_world.specs.Plain.{Words, Plain}
 use Rattle.cb_world.specs.Seats.{SeatState}
-use Rattle.cb_world.specs.World.{IsKnown, word_at}
+use Rattle.cb_world.specs.World.{word_at}
 use Rattle.cb_world.proofs.Exact.{found_exact}
 use Rattle.cb_world.proofs.StillPerforms.{PerformsStill}
 use Rattle.cb_filter.specs.FilterEffect.{FilterEffect}

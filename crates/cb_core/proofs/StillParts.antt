@@ -1,43 +1,36 @@
 -- Each part of a turn over a still desk is a step, and leaves all known.
-use Rattle.std.proofs.Common.{◌≡◌, ◌⊎◌, ℕ, zero, suc, Bool, true, false, ◌+◌, ◌^◌, ◌<◌, ◌≤◌, List, [], length, Option, None, Some, refl, sym, ap, ◌∙◌, subst, arith, inl, inr, length-set}
-use Rattle.std.proofs.lemmas.Bool.{cases_Bool}
+use Rattle.std.proofs.Common.{◌≡◌, ◌⊎◌, ℕ, Bool, false, ◌<◌, List, length, Option, refl, sym, ap, ◌∙◌, subst, arith, inl, inr, length-set}
 use Rattle.cb_ptr.specs.declared.word.State.{State}
 use Rattle.cb_ptr.specs.declared.word.State.TheVariants as state
 use Rattle.cb_ptr.specs.Word.{state_of, len_of, pins_of}
-use Rattle.cb_set.specs.SetState.{SetState}
 use Rattle.cb_types.specs.declared.config.Config.{Config}
 use Rattle.cb_types.specs.Config.{IsAccepted}
-use Rattle.cb_types.specs.declared.handle.SetId.{SetId}
 use Rattle.cb_types.specs.declared.reply.Reply.{Reply}
 use Rattle.cb_types.specs.declared.reply.Reply.TheVariants as answer
 use Rattle.cb_world.specs.declared.event.Event.{Event}
 use Rattle.cb_member.specs.Membership.{Membership}
-use Rattle.cb_world.specs.declared.homes.Home.{Home}
 use Rattle.cb_world.specs.declared.object.Object.{Object}
 use Rattle.cb_world.specs.declared.shown.Shown.{Shown}
 use Rattle.cb_world.specs.Counts.{CountsState}
 use Rattle.cb_world.specs.FarState.{FarState}
-use Rattle.cb_world.specs.Homes.{home_at}
 use Rattle.cb_world.specs.LeftOver.{set_without}
-use Rattle.cb_world.specs.Looks.{IsFound, IsTold}
-use Rattle.cb_world.specs.Now.{now, is_gone}
+use Rattle.cb_world.specs.Now.{is_gone}
 use Rattle.cb_world.specs.Placed.{place_in}
 use Rattle.cb_world.specs.Plain.{Words, Plain, Shows, IsSized}
 use Rattle.cb_world.specs.Seats.{SeatState}
-use Rattle.cb_world.specs.Sets.{set_in}
 use Rattle.cb_world.specs.Shown.{Fits, object_at, never}
 use Rattle.cb_world.specs.Still.{IsStill}
 use Rattle.cb_world.specs.StillWords.{stamp_at}
-use Rattle.cb_world.specs.World.{IsKnown, ArePinned, AreCounted, IsConfigured, word_at}
+use Rattle.cb_world.specs.World.{IsKnown, ArePinned, IsConfigured, word_at}
 use Rattle.cb_world.proofs.Exact.{found_exact}
 use Rattle.cb_world.proofs.SetsLeft.{left_count, left_given}
-use Rattle.cb_world.proofs.StillPerforms.{PerformsStill, RunsStill, runs_still, known_then, stays_still}
+use Rattle.cb_world.proofs.StillPerforms.{PerformsStill, RunsStill, runs_still, stays_still}
 use Rattle.cb_world.proofs.StillWords.{told_exact}
 use Rattle.cb_mutate.specs.Answered.{Answered}
-use Rattle.cb_mutate.specs.FreeRule.{IsReleased, IsRemoved, LeavesPlace, FreeRule, FreeEffect}
+use Rattle.cb_mutate.specs.FreeRule.{IsReleased, IsRemoved, LeavesPlace}
 use Rattle.cb_mutate.specs.MakeRule.{MakeRule, MakeEffect, NeedsNewSpan, new_word}
-use Rattle.cb_mutate.specs.MakeStep.{IsMakeStep, with_new}
-use Rattle.cb_mutate.specs.ReadRule.{ReadRule, ReadEffect, HasSeen, IsShown}
+use Rattle.cb_mutate.specs.MakeStep.{IsMakeStep}
+use Rattle.cb_mutate.specs.ReadRule.{ReadRule, ReadEffect}
 use Rattle.cb_mutate.specs.Steps.{IsReadStep, with_seen, IsWriteStep, IsOverwritten, IsFreeStep, IsTakenOut}
 use Rattle.cb_mutate.specs.StillReplies.{reply_as}
 use Rattle.cb_mutate.specs.WriteRule.{WriteRule, WriteEffect}
@@ -49,12 +42,9 @@ use Rattle.cb_mutate.proofs.WriteStep.{write_step}
 use Rattle.cb_evict.specs.Evicting.{TouchesSpans}
 use Rattle.cb_evict.specs.EvictEffect.{EvictEffect}
 use Rattle.cb_evict.specs.EvictRule.{EvictRule}
-use Rattle.cb_evict.specs.EvictStep.{IsEvictStep}
 use Rattle.cb_evict.proofs.AfterEvict.{evict_settings, evict_configured, evict_seats, evict_keeps, evict_sets, evict_keys, evict_given}
 use Rattle.cb_evict.proofs.EvictStep.{evict_step, evict_stopped}
 use Rattle.cb_swapin.specs.Fetching.{far_given}
-use Rattle.cb_swapin.specs.SwapEffect.{SwapEffect}
-use Rattle.cb_swapin.specs.SwapRule.{SwapRule}
 use Rattle.cb_swapin.proofs.FarHomes.{given_known, given_failed}
 use Rattle.cb_swapin.proofs.SwapKeeps.{keeps_far, given_most, settings_stay}
 use Rattle.cb_swapin.proofs.SwapStep.{swap_step}
@@ -62,7 +52,7 @@ use Rattle.cb_swapin.proofs.SwapWorld.{configured_kept, pinned_kept}
 use Rattle.cb_core.specs.Declining.{write_refusal}
 use Rattle.cb_core.specs.Parts.{Holding, NeverDeclined}
 use Rattle.cb_core.specs.Step.{StillMake, StillRead, StillWrite, StillFree, StillFind, StillDecline, StillEvict, StillSwap, StillMakeLacks, StillReadLacks, StillEvictLacks, StillSwapLacks}
-use Rattle.cb_core.specs.Turned.{Makes, Reads, Writes, Frees, Finds, Declines, Evicts, Swaps, MakeLacks, ReadLacks, EvictLacks, SwapLacks, IsDeclined, IsGiven}
+use Rattle.cb_core.specs.Turned.{Makes, Reads, Writes, Frees, Finds, Declines, Evicts, Swaps, MakeLacks, ReadLacks, EvictLacks, SwapLacks, IsDeclined}
 use Rattle.cb_core.proofs.Changes.{MayGo, read_leaves, write_leaves, free_leaves}
 use Rattle.cb_core.proofs.KeptParts.{IsGood, Rises, Arrives, Carries, CarriesLack, arrives_same, arrives_like, IsLike, like_same}
 use Rattle.cb_core.proofs.KeptPins.{seen_pinned, written_pinned, freed_pinned, new_pinned, no_pins}

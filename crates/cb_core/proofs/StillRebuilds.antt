@@ -1,21 +1,19 @@
 -- A rebuild over a still desk changes no word, and leaves all known.
-use Rattle.std.proofs.Common.{◌≡◌, ◌⊎◌, ℕ, ◌+◌, ◌≤◌, List, length, refl, sym, ap, ◌∙◌, subst, arith, inl, inr, length-set}
+use Rattle.std.proofs.Common.{◌≡◌, ℕ, ◌+◌, ◌≤◌, List, length, refl, sym, ap, ◌∙◌, subst, arith, inl, inr, length-set}
 use Rattle.cb_set.specs.SetState.{SetState}
 use Rattle.cb_types.specs.declared.config.Config.{Config}
 use Rattle.cb_types.specs.declared.reply.Reply.{Reply}
 use Rattle.cb_world.specs.declared.shown.Shown.{Shown}
 use Rattle.cb_world.specs.FarState.{FarState}
-use Rattle.cb_world.specs.Now.{now}
 use Rattle.cb_world.specs.Plain.{Words}
 use Rattle.cb_world.specs.Seats.{SeatState}
-use Rattle.cb_world.specs.Sound.{Sound}
 use Rattle.cb_world.specs.World.{ArePinned, IsKnown}
 use Rattle.cb_rebuild.specs.RebuildStep.{IsFirstWeak, RebuildStep, Restores, surveyed}
 use Rattle.cb_rebuild.proofs.RebuildKeeps.{keeps_first, keeps_step}
 use Rattle.cb_swapin.specs.Fetching.{far_given}
 use Rattle.cb_swapin.proofs.FarHomes.{given_known, given_failed}
 use Rattle.cb_core.specs.Parts.{Holding}
-use Rattle.cb_core.specs.Step.{HoldOn, StillRebuild, StillRebuildLacks}
+use Rattle.cb_core.specs.Step.{StillRebuild, StillRebuildLacks}
 use Rattle.cb_core.specs.Turned.{Rebuilds, RebuildLacks}
 use Rattle.cb_core.proofs.KeptParts.{IsGood, Rises, Carries, CarriesLack}
 use Rattle.cb_core.proofs.StillParts.{Ran, both_same}

@@ -1,13 +1,12 @@
 -- The parts of a turn one after another, each a step of the still desk.
-use Rattle.std.proofs.Common.{◌≡◌, ℕ, ◌+◌, ◌≤◌, List, Option, None, Some, refl, sym, subst, arith}
+use Rattle.std.proofs.Common.{ℕ, ◌+◌, ◌≤◌, List, Option, None, Some, arith}
 use Rattle.cb_types.specs.declared.config.Config.{Config}
-use Rattle.cb_types.specs.declared.handle.SetId.{SetId}
 use Rattle.cb_types.specs.declared.reply.Reply.{Reply}
 use Rattle.cb_types.specs.declared.reply.Reply.TheVariants as answer
 use Rattle.cb_world.specs.Plain.{Words}
 use Rattle.cb_world.specs.Seats.{SeatState}
 use Rattle.cb_core.specs.Parts.{Holding, WithRoom, at_once, no_room, won, WhereItIs, near, declined, stays_far, brought, BringsIn, not_far, was_far, RoomStops, evicting, after, CallStops, far}
-use Rattle.cb_core.proofs.KeptParts.{Arrives, Carries, CarriesLack, arrives_then, arrives_more}
+use Rattle.cb_core.proofs.KeptParts.{Carries, CarriesLack, arrives_then, arrives_more}
 
 -- an operation for which room is won
 pub with_room : (c : Config) (seats : List SeatState) (n m k : ℕ)

@@ -1,10 +1,9 @@
 -- A filter and a rebuild, as parts of a turn: what each keeps, and how each is answered.
-use Rattle.std.proofs.Common.{◌≡◌, ◌⊎◌, ℕ, zero, suc, ◌%◌, ◌<◌, ◌≤◌, arith, List, [], length, get_or, set, Option, Some, None, refl, sym, ap, ◌∙◌, subst, inl, inr, get_or-set_same, get_or-set_other}
+use Rattle.std.proofs.Common.{◌≡◌, ◌⊎◌, ℕ, zero, suc, ◌%◌, ◌<◌, ◌≤◌, arith, List, length, get_or, set, Option, Some, None, refl, sym, ap, ◌∙◌, subst, inl, inr, get_or-set_same, get_or-set_other}
 use native.Mathlib.Decide.{ℕ_discrete}
 use Rattle.cb_ptr.specs.declared.word.State.{State}
 use Rattle.cb_ptr.specs.declared.word.State.TheVariants as state
 use Rattle.cb_ptr.specs.Word.{state_of, place_of, pins_of}
-use Rattle.cb_set.specs.SetState.{SetState}
 use Rattle.cb_types.specs.declared.request.Request.TheVariants.{Filter, Rebuild}
 use Rattle.cb_types.specs.declared.reply.Reply.{Reply}
 use Rattle.cb_types.specs.declared.reply.Reply.TheVariants as answer
@@ -26,10 +25,10 @@ use Rattle.cb_world.specs.StillWords.{stamp_at}
 use Rattle.cb_world.specs.World.{IsKnown, word_at}
 use Rattle.cb_world.proofs.NowSame.{bits, empty_value, empty_now}
 use Rattle.cb_mutate.specs.MapCalls.{IsValue, IsCallOn}
-use Rattle.cb_mutate.proofs.MapReplies.{AreKnownBoth, IsThere, map_same, stays_call, far_there, near_held, here_near, in_range}
+use Rattle.cb_mutate.proofs.MapReplies.{IsThere, map_same, stays_call, far_there, near_held, here_near, in_range}
 use Rattle.cb_filter.specs.FilterRule.{EmptyAnswer}
 use Rattle.cb_filter.specs.FilterStep.{IsFilterStep, refused, cools, without_slot, moves, RefusesAs, cool_word}
-use Rattle.cb_rebuild.specs.RebuildStep.{RebuildStep, Restores}
+use Rattle.cb_rebuild.specs.RebuildStep.{RebuildStep}
 use Rattle.cb_core.specs.Parts.{Holding}
 use Rattle.cb_core.specs.Step.{StillFilter, StillRebuild}
 use Rattle.cb_core.proofs.KeptPins.{cool_pins}

@@ -1,21 +1,14 @@
 -- A crash and a join as parts of a turn.
-use Rattle.std.proofs.Common.{◌≡◌, ◌⊎◌, ℕ, ◌+◌, ◌<◌, List, length, refl, sym, ap, ◌∙◌, subst, inl, inr, arith}
+use Rattle.std.proofs.Common.{◌≡◌, ◌⊎◌, ℕ, ◌<◌, List, length, sym, ap, ◌∙◌, subst, inl, inr}
 use Rattle.cb_member.specs.declared.names.NodeId.{NodeId}
-use Rattle.cb_ptr.specs.declared.word.State.{State}
-use Rattle.cb_ptr.specs.declared.word.State.TheVariants as state
-use Rattle.cb_ptr.specs.Word.{state_of}
-use Rattle.cb_types.specs.declared.handle.SetId.{SetId}
-use Rattle.cb_types.specs.declared.job.Job.{Job}
-use Rattle.cb_types.specs.declared.job.Job.TheVariants as job
 use Rattle.cb_types.specs.declared.request.Request.TheVariants.{Crash, Join}
 use Rattle.cb_types.specs.declared.reply.Reply.{Reply}
-use Rattle.cb_types.specs.declared.reply.Reply.TheVariants as answer
 use Rattle.cb_types.specs.Table.{IsReplyOf}
 use Rattle.cb_world.specs.declared.shown.Shown.{Shown}
 use Rattle.cb_world.specs.FarState.{FarState}
 use Rattle.cb_world.specs.Memory.{bytes_in}
 use Rattle.cb_world.specs.NodeChanges.{crashed_far, joined_far}
-use Rattle.cb_world.specs.Now.{Now, now, now_as, is_gone}
+use Rattle.cb_world.specs.Now.{now, now_as}
 use Rattle.cb_world.specs.Now.Now.{held, gone}
 use Rattle.cb_world.specs.Plain.{Words}
 use Rattle.cb_world.specs.Sound.{Sound}
@@ -23,16 +16,9 @@ use Rattle.cb_world.specs.World.{WorldState, IsKnown}
 use Rattle.cb_world.proofs.CrashNow.{BecomesGone, crash_now}
 use Rattle.cb_world.proofs.NodeJoin.{node_crash_sound, node_join_sound, node_join_now}
 use Rattle.cb_world.proofs.NowSame.{now_same}
-use Rattle.cb_mutate.specs.FreeRule.{LeavesPlace}
-use Rattle.cb_mutate.specs.MakeStep.{IsMakeStep}
-use Rattle.cb_mutate.specs.Steps.{IsFreeStep}
 use Rattle.cb_core.specs.Membership.{CrashTurn, crashed, is_down, JoinTurn, joined, is_up}
-use Rattle.cb_core.specs.Parts.{Holding, WithRoom, at_once, no_room, won, WhereItIs, near, declined, stays_far, brought, BringsIn, not_far, was_far}
 use Rattle.cb_core.proofs.TurnCallsMap.{IsSameMap}
 use Rattle.cb_core.specs.Room.{final_reply}
-use Rattle.cb_core.specs.Step.{StillMake, StillEvict, StillBring, StillFind, StillWorks}
-use Rattle.cb_core.proofs.Changes.{free_leaves}
-use Rattle.cb_core.proofs.TurnCallsKept.{HasKept, same_holding, kept_evict, kept_bring}
 
 -- each object holds what it held, or was held and is gone; as many were made
 pub record IsMapLost (s t : Shown) (far new : FarState) : Type 0 where

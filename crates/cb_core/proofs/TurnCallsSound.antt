@@ -1,5 +1,5 @@
 -- A swap that is a turn leaves the world sound.
-use Rattle.std.proofs.Common.{◌≡◌, ℕ, ◌+◌, ◌^◌, ◌<◌, ◌≤◌, List, refl, sym, ap, ◌∙◌, subst, arith}
+use Rattle.std.proofs.Common.{◌≡◌, ℕ, ◌^◌, List, refl, sym, ap, ◌∙◌, subst, arith}
 use Rattle.cb_member.specs.Membership.{Membership}
 use Rattle.cb_types.specs.declared.config.Config.{Config}
 use Rattle.cb_types.specs.declared.job.Job.TheVariants as job
@@ -8,14 +8,13 @@ use Rattle.cb_types.specs.declared.reply.Reply.TheVariants as answer
 use Rattle.cb_types.specs.Config.{IsAccepted}
 use Rattle.cb_types.specs.Jobs.{job_index}
 use Rattle.cb_world.specs.Counts.{CountsState}
-use Rattle.cb_world.specs.FarState.{FarState}
 use Rattle.cb_world.specs.Plain.{Words}
 use Rattle.cb_world.specs.Seats.{SeatState}
 use Rattle.cb_world.specs.World.{WorldState, ArePinned, IsConfigured, IsSoundWorld}
 use Rattle.cb_evict.proofs.AfterEvict.{evict_configured, evict_given, evict_keeps, evict_keys, evict_seats, evict_sets, evict_settings}
 use Rattle.cb_swapin.proofs.SwapKeeps.{given_most, keeps_far, settings_stay}
 use Rattle.cb_swapin.proofs.SwapWorld.{configured_kept, pinned_kept}
-use Rattle.cb_core.specs.Parts.{Holding, WithRoom, at_once, no_room, won, BringsIn, not_far, was_far}
+use Rattle.cb_core.specs.Parts.{Holding, at_once, no_room, won, BringsIn, not_far, was_far}
 use Rattle.cb_core.specs.Step.{StillEvict, StillSwap, StillBring, StillFind, TurnStep, worn, done}
 use Rattle.cb_core.specs.Turned.{counted}
 use Rattle.cb_core.proofs.KeptParts.{IsGood, Arrives, arrives_then, arrives_more, arrives_same, rises_more, counted_rises}

@@ -12,7 +12,6 @@ use Rattle.cb_world.specs.declared.event.Event.{Event}
 use Rattle.cb_world.specs.declared.event.Event.TheVariants.{Looked, Told, Settled}
 use Rattle.cb_world.specs.declared.homes.Home.{Home}
 use Rattle.cb_world.specs.FarState.{FarState}
-use Rattle.cb_world.specs.Homes.{home_at}
 use Rattle.cb_world.specs.Now.{is_gone, broken_set}
 use Rattle.cb_world.specs.Sets.{set_in}
 use Rattle.cb_swapin.specs.Fetching.{far_given}

@@ -3,7 +3,7 @@ use Rattle.std.proofs.Common.{◌≡◌, ℕ, ◌+◌, true, false, List, [], �
 use Rattle.std.specs.Prelude.{slice_index_or}
 use Rattle.std.specs.FinMap as map
 use Rattle.cb_member.specs.declared.names.NodeId.{NodeId}
-use Rattle.cb_member.specs.Membership.{Membership, NodeState, alive, fresh_node, fresh_members, with_crash, with_join}
+use Rattle.cb_member.specs.Membership.{Membership, alive, fresh_node}
 use Rattle.cb_node.specs.NodesState.{NodesState, empty_nodes, with_row, with_rows, row_at}
 use Rattle.cb_types.specs.declared.reply.Reply.{Reply}
 use Rattle.cb_types.specs.declared.reply.Reply.TheVariants as answer

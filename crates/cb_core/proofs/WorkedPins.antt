@@ -1,16 +1,14 @@
 -- Worked examples of a pin and its end: steps, and steps with one part broken.
-use Rattle.std.proofs.Common.{◌≡◌, ◌≢◌, ℕ, zero, suc, ◌+◌, ◌<◌, false, List, [], ◌∷◌, Option, None, Some, length, replicate, get_or, slice_get, refl, ap, sym, ◌∙◌, lit<, arith}
+use Rattle.std.proofs.Common.{◌≡◌, ◌≢◌, ℕ, zero, suc, ◌+◌, ◌<◌, false, List, [], ◌∷◌, Option, None, Some, length, replicate, get_or, slice_get, refl, ap, sym, lit<, arith}
 use Rattle.std.specs.List.{remove}
 use Rattle.std.proofs.lemmas.Option.{slice_get_within}
 use Rattle.std.proofs.lemmas.List.Edits.{length-remove}
-use Rattle.cb_ptr.specs.Steps.{TakesPin, GivesPin}
 use Rattle.cb_ptr.specs.Word.{state_of, pins_of}
 use Rattle.cb_types.specs.declared.config.Config.{Config}
 use Rattle.cb_types.specs.declared.reply.Reply.{Reply}
 use Rattle.cb_types.specs.declared.reply.Reply.TheVariants as answer
 use Rattle.cb_world.specs.declared.seats.Pin.{Pin}
 use Rattle.cb_world.specs.FarState.{FarState}
-use Rattle.cb_world.specs.Pinned.{IsPinned, IsUnpinned}
 use Rattle.cb_world.specs.Plain.{Words}
 use Rattle.cb_world.specs.Seats.{IsNewest, NoneOn, SeatState, pins_of_seat, with_pins}
 use Rattle.cb_world.specs.StillWords.{stamp_at}

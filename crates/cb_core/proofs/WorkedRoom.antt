@@ -1,8 +1,7 @@
 -- Worked examples of loose spans, and of the reply of a turn that found no frame.
-use Rattle.std.proofs.Common.{◌≡◌, ℕ, ◌+◌, true, false, List, [], ◌∷◌, Option, None, Some, refl, ap, ◌∙◌, arith}
+use Rattle.std.proofs.Common.{◌≡◌, ℕ, true, false, List, [], ◌∷◌, Option, None, Some, refl, ap, arith}
 use Rattle.std.specs.FinMap as map
 use Rattle.cb_class.specs.declared.class.Class.{Class}
-use Rattle.cb_member.specs.declared.names.NodeId.{NodeId}
 use Rattle.cb_member.specs.Membership.{Membership, fresh_node, fresh_members}
 use Rattle.cb_node.specs.NodesState.{empty_nodes}
 use Rattle.cb_span.specs.declared.temp.Temp.TheVariants.{Hot}

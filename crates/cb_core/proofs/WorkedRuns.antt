@@ -1,5 +1,5 @@
 -- Worked examples of runs: what meets each definition, and what breaks one part.
-use Rattle.std.proofs.Common.{◌≡◌, ℕ, List, [], ◌∷◌, refl, ap, sym, ◌∙◌, subst, inl, inr}
+use Rattle.std.proofs.Common.{◌≡◌, ℕ, [], ◌∷◌, refl, ap, ◌∙◌, subst, inl}
 use Rattle.cb_types.specs.Config.{IsAccepted}
 use Rattle.cb_types.specs.declared.config.Config.{Config}
 use Rattle.cb_types.specs.declared.reply.Reply.{Reply}
@@ -10,7 +10,7 @@ use Rattle.cb_core.specs.declared.event.Atomic.TheVariants.{Load}
 use Rattle.cb_core.specs.declared.event.Event.{Event}
 use Rattle.cb_core.specs.declared.event.Event.TheVariants as event
 use Rattle.cb_core.specs.Run.{LeadsSoundly, RunStops}
-use Rattle.cb_core.specs.Step.{Leads, Stops}
+use Rattle.cb_core.specs.Step.{Stops}
 
 abbrev c : Config
 c = record { k = 1; r = 1; nodes = 2; frames = 2; room = 4; handles = 2; turns = 0 }
