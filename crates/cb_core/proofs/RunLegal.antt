@@ -89,8 +89,8 @@ same_beside before w new c same =
     ∙ known_same w.desk w.far c.at_first.shown c.after.shown k c.at_first.known
     (subst (λ (v : WorldState). IsKnown v.desk v.far c.after.shown) same c.after.known))
 
--- what holds the same
-kept_beside : (before : List Called) (s t : Shown) (far new : FarState) → IsMapBeside before s far
+-- the map stays beside a world that holds the same
+pub kept_beside : (before : List Called) (s t : Shown) (far new : FarState) → IsMapBeside before s far
     → IsSameMap s t far new → IsMapBeside before t new
 kept_beside before s t far new map same = beside_kept before s t far new map same.made same.now
 
@@ -100,7 +100,8 @@ lost_value None v bytes i = absurd i
 lost_value (Some (Freed u)) v bytes i = absurd i
 lost_value (Some (Held u b)) v bytes i = i.0
 
-lost_beside : (before : List Called) (s t : Shown) (far new : FarState) → IsMapBeside before s far
+-- and beside one in which some objects are gone
+pub lost_beside : (before : List Called) (s t : Shown) (far new : FarState) → IsMapBeside before s far
     → IsMapLost s t far new → IsMapBeside before t new
 lost_beside before s t far new map lost = record {
   made = map.made ∙ sym lost.made;

@@ -1,5 +1,5 @@
 -- A turn over the still desk is a step of the world, part by part, and the world stays sound.
-use Rattle.std.proofs.Common.{◌≡◌, ℕ, ◌^◌, ◌<◌, List, length, refl, sym, ap, subst, arith, length-set}
+use Rattle.std.proofs.Common.{◌≡◌, ℕ, ◌^◌, ◌<◌, ◌≤◌, List, length, refl, sym, ap, subst, arith, length-set}
 use Rattle.cb_member.specs.declared.names.NodeId.{NodeId}
 use Rattle.cb_types.specs.declared.config.Config.{Config}
 use Rattle.cb_types.specs.declared.job.Job.{Job}
@@ -24,7 +24,7 @@ use Rattle.cb_core.specs.Room.{final_reply}
 use Rattle.cb_core.specs.Step.{StillMake, StillMakeLacks, StillRead, StillReadLacks, StillWrite, StillFind, StillDecline, StillEvict, StillEvictLacks, StillSwap, StillSwapLacks, StillBring, StillBringLacks, StillWorks, StillStops, TurnStep, worn, done, Stops}
 use Rattle.cb_core.specs.Turned.{Does, Turned, worn as was_worn, done as was_done, Stopped, counted, once_counted, Makes, MakeLacks, Reads, ReadLacks, Writes, Finds, Declines, Evicts, EvictLacks, Swaps, SwapLacks, Brings, BringLacks, Stops as StopsOver}
 use Rattle.cb_core.proofs.Counting.{counted_sound}
-use Rattle.cb_core.proofs.KeptParts.{IsGood, Arrives, Carries, CarriesLack, rises_more, arrives_then, arrives_same, arrives_like, counted_rises}
+use Rattle.cb_core.proofs.KeptParts.{IsGood, Arrives, Carries, CarriesLack, rises_more, arrives_then, arrives_more, arrives_same, arrives_like, counted_rises}
 use Rattle.cb_core.proofs.StillParts.{Ran, Tells, both_same, make_part, read_part, write_part, free_part, find_part, never_part, decline_part, evict_part, swap_part, make_lack, read_lack, evict_lack, swap_lack}
 use Rattle.cb_core.proofs.StillBatches.{begin_part, ship_part, ship_lack, commit_part, abort_part}
 use Rattle.cb_core.proofs.StillFilters.{filter_part, filter_lack}
@@ -106,6 +106,11 @@ bring_lack c seats h accepted =
     StillEvict (SwapLacks Ran h) (StillSwapLacks h) (EvictLacks Ran Tells) StillEvictLacks (omega arith)
     (swap_part c seats h) (swap_lack c seats h) (evict_part c seats accepted) (evict_lack c seats)
 
+-- a part whose numbers rise by no more than those of a job may
+in_job : (c : Config) (seats : List SeatState) (n : ℕ) (a b : Holding Words) (Z : Type 0) → n ≤ 64
+    → Arrives c seats n a b Z → Arrives c seats 64 a b Z
+in_job c seats n a b Z most z = arrives_more c seats n 64 a b Z Z most z z.is
+
 works_part : (c : Config) (seats : List SeatState) (job : Job) (a b : Holding Words) (r : Reply)
     → IsAccepted c → IsJob c job → IsGood c seats a → Does Ran Tells c job a r b
     → Arrives c seats 64 a b (StillWorks job a r b)
@@ -124,41 +129,33 @@ works_part c seats (Write handle at bytes) a b r accepted ok good does =
     (omega arith) (write_part c seats h at bytes) (decline_part c seats h at count)
     (bring_part c seats h accepted) a b r good does
 works_part c seats (Free handle) a b r accepted ok good does =
-    let z = free_part c seats handle.n a b r good does in
-    record { is = z.is; good = z.good; rises = rises_more 1 64 a.far b.far (omega arith) z.rises }
+    in_job c seats 1 a b _ (omega arith) (free_part c seats handle.n a b r good does)
 works_part c seats (Swap handle) a b r accepted ok good does =
     let h = handle.n in
     brings_in c seats 1 56 64 (Finds Ran Tells h) (StillFind h) (Brings Ran Tells c h) (StillBring h)
     (omega arith) (find_part c seats h) (bring_part c seats h accepted) a b r good does
 works_part c seats Evict a b r accepted ok good does =
-    let z = evict_part c seats accepted a b r good does in
-    record { is = z.is; good = z.good; rises = rises_more 24 64 a.far b.far (omega arith) z.rises }
+    in_job c seats 24 a b _ (omega arith) (evict_part c seats accepted a b r good does)
 works_part c seats Begin a b r accepted ok good does =
-    let z = begin_part c seats a b r good does in
-    record { is = z.is; good = z.good; rises = rises_more 1 64 a.far b.far (omega arith) z.rises }
+    in_job c seats 1 a b _ (omega arith) (begin_part c seats a b r good does)
 works_part c seats Ship a b r accepted ok good does =
-    let z = ship_part c seats a b r good does in
-    record { is = z.is; good = z.good; rises = rises_more 1 64 a.far b.far (omega arith) z.rises }
+    in_job c seats 1 a b _ (omega arith) (ship_part c seats a b r good does)
 works_part c seats Commit a b r accepted ok good does =
-    let z = commit_part c seats a b r good does in
-    record { is = z.is; good = z.good; rises = rises_more 1 64 a.far b.far (omega arith) z.rises }
+    in_job c seats 1 a b _ (omega arith) (commit_part c seats a b r good does)
 works_part c seats Abort a b r accepted ok good does =
-    let z = abort_part c seats a b r good does in
-    record { is = z.is; good = z.good; rises = rises_more 1 64 a.far b.far (omega arith) z.rises }
+    in_job c seats 1 a b _ (omega arith) (abort_part c seats a b r good does)
 works_part c seats (Filter handle) a b r accepted ok good does =
-    let z = filter_part c seats handle.n a b r good does in
-    record { is = z.is; good = z.good; rises = rises_more 1 64 a.far b.far (omega arith) z.rises }
+    in_job c seats 1 a b _ (omega arith) (filter_part c seats handle.n a b r good does)
 works_part c seats Rebuild a b r accepted ok good does =
-    let z = rebuild_part c seats a b r good does in
-    record { is = z.is; good = z.good; rises = rises_more 16 64 a.far b.far (omega arith) z.rises }
+    in_job c seats 16 a b _ (omega arith) (rebuild_part c seats a b r good does)
 works_part c seats (Crash node) a b r accepted ok good (ran, crash) =
-    let z = crash_part c seats node a b r (StillWorks (Crash node) a r b) good ok ran.0 crash
-    (ran.0, crash) in
-    record { is = z.is; good = z.good; rises = rises_more 1 64 a.far b.far (omega arith) z.rises }
+    in_job c seats 1 a b _ (omega arith)
+    (crash_part c seats node a b r (StillWorks (Crash node) a r b) good ok ran.0 crash
+    (ran.0, crash))
 works_part c seats (Join node) a b r accepted ok good (ran, join) =
-    let z = join_part c seats node a b r (StillWorks (Join node) a r b) good ok ran.0 join
-    (ran.0, join) in
-    record { is = z.is; good = z.good; rises = rises_more 1 64 a.far b.far (omega arith) z.rises }
+    in_job c seats 1 a b _ (omega arith)
+    (join_part c seats node a b r (StillWorks (Join node) a r b) good ok ran.0 join
+    (ran.0, join))
 works_part c seats Pair a b r accepted ok good does = absurd ok
 works_part c seats Patch a b r accepted ok good does = absurd ok
 works_part c seats Merge a b r accepted ok good does = absurd ok
@@ -198,20 +195,15 @@ stops_part c seats (Swap handle) a b accepted good (m, found, stops) =
     arrives_then c seats 1 56 64 a m b _ _ (StillStops (Swap handle) a b) (omega arith) z y
     (m, z.is, y.is)
 stops_part c seats Evict a b accepted good stops =
-    let z = evict_lack c seats a b good stops in
-    record { is = z.is; good = z.good; rises = rises_more 24 64 a.far b.far (omega arith) z.rises }
+    in_job c seats 24 a b _ (omega arith) (evict_lack c seats a b good stops)
 stops_part c seats Begin a b accepted good stops =
-    let z = evict_lack c seats a b good stops in
-    record { is = z.is; good = z.good; rises = rises_more 24 64 a.far b.far (omega arith) z.rises }
+    in_job c seats 24 a b _ (omega arith) (evict_lack c seats a b good stops)
 stops_part c seats Ship a b accepted good stops =
-    let z = ship_lack c seats a b good stops in
-    record { is = z.is; good = z.good; rises = rises_more 1 64 a.far b.far (omega arith) z.rises }
+    in_job c seats 1 a b _ (omega arith) (ship_lack c seats a b good stops)
 stops_part c seats (Filter handle) a b accepted good stops =
-    let z = filter_lack c seats handle.n a b good stops in
-    record { is = z.is; good = z.good; rises = rises_more 1 64 a.far b.far (omega arith) z.rises }
+    in_job c seats 1 a b _ (omega arith) (filter_lack c seats handle.n a b good stops)
 stops_part c seats Rebuild a b accepted good stops =
-    let z = rebuild_lack c seats a b good stops in
-    record { is = z.is; good = z.good; rises = rises_more 16 64 a.far b.far (omega arith) z.rises }
+    in_job c seats 16 a b _ (omega arith) (rebuild_lack c seats a b good stops)
 stops_part c seats (Crash node) a b accepted good (ran, far, up) =
     let same = both_same a b ran.0 far in
     arrives_same c seats 64 a b (StillStops (Crash node) a b) good same (same, up)
