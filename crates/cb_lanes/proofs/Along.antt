@@ -46,10 +46,10 @@ use Rattle.cb_lanes.specs.Names.{Names, kept_number, handle_at, handle_in, numbe
 use Rattle.cb_lanes.specs.Scopes.{KeepScopes, ScopeSays, scope_of}
 use Rattle.cb_lanes.proofs.GivingBack.{unpin_stands, gives_all}
 use Rattle.cb_lanes.proofs.LineGoes.{read_goes, write_goes, free_goes, filter_goes, make_goes}
-use Rattle.cb_lanes.proofs.Pinning.{pin_goes, pin_settings, peek_goes, unpin_goes, leave_goes, unmade_pins}
+use Rattle.cb_lanes.proofs.Pinning.{pin_goes, pin_settings, peek_goes, unpin_goes, leave_goes}
 use Rattle.cb_lanes.proofs.Scoping.{Scoped, line_scoped}
 use Rattle.cb_lanes.proofs.ScopesKept.{AreScopes, scopes_none, scopes_push, keep_push, Rested, rests, LeadsOn, leads_push, IsFresh, grown, apart_after, lines_own}
-use Rattle.cb_lanes.proofs.Silent.{unmade_read, unmade_write, unmade_free, evict_goes, begin_goes, ship_goes, commit_goes, abort_goes, rebuild_goes, crash_goes, join_goes}
+use Rattle.cb_lanes.proofs.Silent.{unmade_line, evict_goes, begin_goes, ship_goes, commit_goes, abort_goes, rebuild_goes, crash_goes, join_goes}
 use Rattle.cb_lanes.proofs.Turning.{answer_to, Turning, around, Goes}
 
 -- The answers so far are the map's, the map is beside the world that they led to, the names are what
@@ -100,33 +100,33 @@ line_goes answers l (Crash node) r w new handle c built is named ready lt made f
 line_goes answers l (Join node) r w new handle c built is named ready lt made few step =
     join_goes answers l node r w new c is step
 line_goes answers l (Read name) r w new None c built is named ready lt made few step =
-    unmade_read answers l name r w new (around answers w new c) named step
+    unmade_line answers l (Read name) name r w new (around answers w new c) named refl refl tt step
 line_goes answers l (Read name) r w new (Some h) c built is named ready lt made few step =
     read_goes answers l name h r w new c (ready h refl) named step
 line_goes answers l (Write name at bytes) r w new None c built is named ready lt made few step =
-    unmade_write answers l name at bytes r w new (around answers w new c) named step
+    unmade_line answers l (Write name at bytes) name r w new (around answers w new c) named refl refl tt step
 line_goes answers l (Write name at bytes) r w new (Some h) c built is named ready lt made few step =
     write_goes answers l name at bytes h r w new c (ready h refl) named step
 line_goes answers l (Free name) r w new None c built is named ready lt made few step =
-    unmade_free answers l name r w new (around answers w new c) named step
+    unmade_line answers l (Free name) name r w new (around answers w new c) named refl refl tt step
 line_goes answers l (Free name) r w new (Some h) c built is named ready lt made few step =
     free_goes answers l name h r w new c (ready h refl) named step
 line_goes answers l (Filter name) r w new None c built is named ready lt made few step =
-    unmade_pins answers l (Filter name) name r w new (around answers w new c) named refl refl tt step
+    unmade_line answers l (Filter name) name r w new (around answers w new c) named refl refl tt step
 line_goes answers l (Filter name) r w new (Some h) c built is named ready lt made few step =
     filter_goes answers l name h r w new c (ready h refl) named step
 line_goes answers l Leave r w new handle c built is named ready lt made few step =
     leave_goes answers l (length (pins_of_seat w.seats l.lane.n)) r w new (around answers w new c) lt step.0 step.1
 line_goes answers l (Pin name) r w new None c built is named ready lt made few step =
-    unmade_pins answers l (Pin name) name r w new (around answers w new c) named refl refl tt step
+    unmade_line answers l (Pin name) name r w new (around answers w new c) named refl refl tt step
 line_goes answers l (Pin name) r w new (Some h) c built is named ready lt made few step =
     pin_goes answers l name h r w new c lt (ready h refl) (made h refl) few named step
 line_goes answers l (Peek name) r w new None c built is named ready lt made few step =
-    unmade_pins answers l (Peek name) name r w new (around answers w new c) named refl refl tt step
+    unmade_line answers l (Peek name) name r w new (around answers w new c) named refl refl tt step
 line_goes answers l (Peek name) r w new (Some h) c built is named ready lt made few step =
     peek_goes answers l name h r w new (around answers w new c) lt (made h refl) named step
 line_goes answers l (Unpin name) r w new None c built is named ready lt made few step =
-    unmade_pins answers l (Unpin name) name r w new (around answers w new c) named refl refl tt step
+    unmade_line answers l (Unpin name) name r w new (around answers w new c) named refl refl tt step
 line_goes answers l (Unpin name) r w new (Some h) c built is named ready lt made few step =
     unpin_goes answers l name h r w new (around answers w new c) lt (ready h refl) (made h refl) named step
 line_goes answers l request r w new handle c built is named ready lt made few step = absurd built

@@ -50,7 +50,7 @@ use Rattle.cb_lanes.specs.Asked.{HasLineReply}
 use Rattle.cb_lanes.specs.GivingBack.{GivesAll}
 use Rattle.cb_lanes.specs.LineStep.{PeekStep, not_pinned, shown, IsInReply, PinLine, at_once, stays_far, swapped_in}
 use Rattle.cb_lanes.proofs.GivingBack.{Stands, pin_stands, unpin_stands, stands_same, gives_all, pinned_here, pin_below}
-use Rattle.cb_lanes.proofs.Silent.{silent_follows, unmade_goes}
+use Rattle.cb_lanes.proofs.Silent.{silent_follows}
 use Rattle.cb_lanes.proofs.Turning.{answer_to, Around, Turning, around, within, Goes, call_goes}
 
 -- a world that changed in pins alone goes on by what it answers
@@ -449,12 +449,3 @@ leave_goes answers l n r w new c lt is leads =
     gave = (gives_all l.lane.n w new c.before lt leads).0
 
 -- ---- a name that has no handle
-
-pub unmade_pins : (answers : List Answer) (l : Line) (request : Request) (name : List ℕ) (r : Reply)
-    (w new : WorldState) → (c : Around answers w new) → handle_of answers name ≡ None
-    → handle_for answers request answer.Unmade ≡ handle_of answers name
-    → event_of request answer.Unmade ≡ FindsUnmade → IsReplyOf request answer.Unmade
-    → (r ≡ answer.Unmade) × (new ≡ w) → Goes answers (answer_to l request r) w new c.then.shown
-unmade_pins answers l request name r w new c none about event line is =
-    subst (λ (q : Reply). Goes answers (answer_to l request q) w new c.then.shown) (sym is.0)
-    (unmade_goes answers l request w new c is.1 (about ∙ none) event line)

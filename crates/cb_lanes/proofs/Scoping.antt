@@ -5,6 +5,7 @@ use Rattle.cb_ptr.specs.declared.word.State.{State}
 use Rattle.cb_ptr.specs.declared.word.State.TheVariants as state
 use Rattle.cb_ptr.specs.Word.{pins_of}
 use Rattle.cb_types.specs.declared.answer.Answer.{Answer}
+use Rattle.cb_types.specs.declared.job.Job.{Job}
 use Rattle.cb_types.specs.declared.job.Job.TheVariants as job
 use Rattle.cb_types.specs.declared.request.Request.{Request}
 use Rattle.cb_types.specs.declared.request.Request.TheVariants.{Make, Read, Write, Free, Pin, Peek, Unpin, Filter, Evict, Begin, Ship, Commit, Abort, Rebuild, Crash, Join, Leave}
@@ -18,12 +19,12 @@ use Rattle.cb_world.specs.World.{WorldState, IsSoundWorld, word_at}
 use Rattle.cb_core.specs.Pinning.{PinStep, scope_full, refused, taken, pin_refusal, UnpinStep, not_pinned as unpin_refused, given}
 use Rattle.cb_core.specs.Step.{TurnStep}
 use Rattle.cb_core.proofs.TurnCalls.{swap_turn}
-use Rattle.cb_core.proofs.TurnCallsPinned.{write_counts, free_counts}
+use Rattle.cb_core.proofs.TurnCallsPinned.{IsPinCount, write_counts, free_counts}
 use Rattle.cb_core.proofs.TurnCallsSound.{swap_sound}
 use Rattle.cb_core.proofs.TurnCallsSwap.{IsSwapRefusal}
 use Rattle.cb_lanes.specs.GivingBack.{GivesAll}
 use Rattle.cb_lanes.specs.LineStep.{LineStep, PeekStep, not_pinned, shown, PinLine, at_once, stays_far, swapped_in}
-use Rattle.cb_lanes.specs.Scopes.{Scope, without_newest, scope_after, PeekSays, UnpinSays, ScopeSays}
+use Rattle.cb_lanes.specs.Scopes.{Scope, without_newest, named_on, scope_after, PinnedSays, PeekSays, UnpinSays, ScopeSays}
 use Rattle.cb_lanes.proofs.GivingBack.{gives_all, pins_own, pins_other, given_pins}
 use Rattle.cb_lanes.proofs.Filtering.{filter_counts}
 use Rattle.cb_lanes.proofs.PinLists.{AreApart, ArePinsOf, pins_length, scope_none, scope_newest, scope_without, scope_count}
@@ -49,11 +50,26 @@ still_scoped number handle scope request r seat w new same are still says = reco
   others = λ k off. ap (λ (xs : List SeatState). pins_of_seat xs k) same;
 }
 
--- a turn for a line of which the scope says nothing
-quiet : (handle : Option ℕ) (scope : Scope) (request : Request) (r : Reply) → ScopeSays None scope request r
-    → ((h : ℕ) → ScopeSays (Some h) scope request r) → ScopeSays handle scope request r
-quiet None scope request r none some = none
-quiet (Some h) scope request r none some = some h
+-- a turn changes no pins
+turn_scoped : (number : List ℕ → Option ℕ) (handle : Option ℕ) (scope : Scope) (request : Request)
+    (r : Reply) (seat : ℕ) (w new : WorldState) (j : Job) → TurnStep j w r new
+    → ArePinsOf number scope (pins_of_seat w.seats seat) → scope_after scope request r ≡ scope
+    → ScopeSays handle scope request r → Scoped number handle scope request r seat w new
+turn_scoped number handle scope request r seat w new j step are still says =
+    still_scoped number handle scope request r seat w new (turn_seats j w new r step) are still says
+
+-- one for a line of which the scope says nothing
+quiet_scoped : (number : List ℕ → Option ℕ) (handle : Option ℕ) (scope : Scope) (request : Request)
+    (r : Reply) (seat : ℕ) (w new : WorldState) (j : Job) → TurnStep j w r new
+    → ArePinsOf number scope (pins_of_seat w.seats seat) → scope_after scope request r ≡ scope
+    → ScopeSays None scope request r → ((h : ℕ) → ScopeSays (Some h) scope request r)
+    → Scoped number handle scope request r seat w new
+quiet_scoped number handle scope request r seat w new j step are still none some =
+    turn_scoped number handle scope request r seat w new j step are still (says handle)
+  where
+    says : (o : Option ℕ) → ScopeSays o scope request r
+    says None = none
+    says (Some h) = some h
 
 -- ---- an answer that counts pins
 
@@ -65,6 +81,19 @@ own_pins w seat h sound lt below =
     (omega (arith, lt, sound.pinned.count)) in
     let all = sound.pinned.counted h below in
     omega (arith, one, all)
+
+-- so a lane's own pins on the object are among those that are answered
+pinned_says : (number : List ℕ → Option ℕ) → AreApart number → (scope : Scope) (name : List ℕ)
+    (h seat : ℕ) (r : Reply) (w : WorldState) → number name ≡ Some h
+    → ArePinsOf number scope (pins_of_seat w.seats seat) → IsSoundWorld w → seat < 64
+    → h < w.desk.settings.handles
+    → ((count : ℕ) → r ≡ answer.Pinned count → IsPinCount (word_at w.desk h) count)
+    → PinnedSays (named_on name scope) r
+pinned_says number apart scope name h seat r w at_name are sound lt below counts count is =
+    let x = counts count is in
+    let all = own_pins w seat h sound lt (within w h sound below) in
+    let same = scope_count number apart name h at_name scope (pins_of_seat w.seats seat) are in
+    (x.some, omega (arith, same, all, x.is))
 
 -- ---- what pins and their ends leave
 
@@ -227,73 +256,53 @@ pub line_scoped : (answers : List Answer) (request : Request) (r : Reply) (w new
     → ArePinsOf number scope (pins_of_seat w.seats seat) → LineStep seat handle request w r new
     → Scoped number handle scope request r seat w new
 line_scoped answers (Make name bytes) r w new handle number scope seat c built lt apart named ready are step =
-    still_scoped number handle scope (Make name bytes) r seat w new
-    (turn_seats (job.Make bytes) w new r step) are refl
-    (quiet handle scope (Make name bytes) r tt (λ h. tt))
+    quiet_scoped number handle scope (Make name bytes) r seat w new (job.Make bytes) step are refl tt (λ h. tt)
 line_scoped answers Evict r w new handle number scope seat c built lt apart named ready are step =
-    still_scoped number handle scope Evict r seat w new
-    (turn_seats job.Evict w new r step) are refl (quiet handle scope Evict r tt (λ h. tt))
+    quiet_scoped number handle scope Evict r seat w new job.Evict step are refl tt (λ h. tt)
 line_scoped answers Begin r w new handle number scope seat c built lt apart named ready are step =
-    still_scoped number handle scope Begin r seat w new
-    (turn_seats job.Begin w new r step) are refl (quiet handle scope Begin r tt (λ h. tt))
+    quiet_scoped number handle scope Begin r seat w new job.Begin step are refl tt (λ h. tt)
 line_scoped answers Ship r w new handle number scope seat c built lt apart named ready are step =
-    still_scoped number handle scope Ship r seat w new
-    (turn_seats job.Ship w new r step) are refl (quiet handle scope Ship r tt (λ h. tt))
+    quiet_scoped number handle scope Ship r seat w new job.Ship step are refl tt (λ h. tt)
 line_scoped answers Commit r w new handle number scope seat c built lt apart named ready are step =
-    still_scoped number handle scope Commit r seat w new
-    (turn_seats job.Commit w new r step) are refl (quiet handle scope Commit r tt (λ h. tt))
+    quiet_scoped number handle scope Commit r seat w new job.Commit step are refl tt (λ h. tt)
 line_scoped answers Abort r w new handle number scope seat c built lt apart named ready are step =
-    still_scoped number handle scope Abort r seat w new
-    (turn_seats job.Abort w new r step) are refl (quiet handle scope Abort r tt (λ h. tt))
+    quiet_scoped number handle scope Abort r seat w new job.Abort step are refl tt (λ h. tt)
 line_scoped answers Rebuild r w new handle number scope seat c built lt apart named ready are step =
-    still_scoped number handle scope Rebuild r seat w new
-    (turn_seats job.Rebuild w new r step) are refl (quiet handle scope Rebuild r tt (λ h. tt))
+    quiet_scoped number handle scope Rebuild r seat w new job.Rebuild step are refl tt (λ h. tt)
 line_scoped answers (Crash node) r w new handle number scope seat c built lt apart named ready are step =
-    still_scoped number handle scope (Crash node) r seat w new
-    (turn_seats (job.Crash node) w new r step) are refl (quiet handle scope (Crash node) r tt (λ h. tt))
+    quiet_scoped number handle scope (Crash node) r seat w new (job.Crash node) step are refl tt (λ h. tt)
 line_scoped answers (Join node) r w new handle number scope seat c built lt apart named ready are step =
-    still_scoped number handle scope (Join node) r seat w new
-    (turn_seats (job.Join node) w new r step) are refl (quiet handle scope (Join node) r tt (λ h. tt))
+    quiet_scoped number handle scope (Join node) r seat w new (job.Join node) step are refl tt (λ h. tt)
 line_scoped answers Leave r w new handle number scope seat c built lt apart named ready are step =
     leave_scoped number handle scope seat r w new c.before lt are step.0 step.1
 line_scoped answers (Read name) r w new None number scope seat c built lt apart named ready are step =
     unmade_scoped number scope (Read name) seat r w new are step.1 refl tt
 line_scoped answers (Read name) r w new (Some h) number scope seat c built lt apart named ready are step =
-    still_scoped number (Some h) scope (Read name) r seat w new
-    (turn_seats (job.Read (record { n = h })) w new r step) are refl tt
+    turn_scoped number (Some h) scope (Read name) r seat w new (job.Read (record { n = h })) step are refl tt
 line_scoped answers (Write name at bytes) r w new None number scope seat c built lt apart named ready are step =
     unmade_scoped number scope (Write name at bytes) seat r w new are step.1 refl tt
 line_scoped answers (Write name at bytes) r w new (Some h) number scope seat c built lt apart named ready are step =
-    still_scoped number (Some h) scope (Write name at bytes) r seat w new
-    (turn_seats (job.Write (record { n = h }) at bytes) w new r step) are refl (λ count is.
-    let below = within w h c.before (ready h refl) in
-    let counts = write_counts w new h at bytes count c.before c.few
-    (subst (λ (q : Reply). TurnStep (job.Write (record { n = h }) at bytes) w q new) is step) in
-    let all = own_pins w seat h c.before lt below in
-    let same = scope_count number apart name h (named name refl) scope (pins_of_seat w.seats seat) are in
-    (counts.some, omega (arith, same, all, counts.is)))
+    let j = job.Write (record { n = h }) at bytes in
+    turn_scoped number (Some h) scope (Write name at bytes) r seat w new j step are refl
+    (pinned_says number apart scope name h seat r w (named name refl) are c.before lt (ready h refl)
+    (λ count is. write_counts w new h at bytes count c.before c.few
+    (subst (λ (q : Reply). TurnStep j w q new) is step)))
 line_scoped answers (Free name) r w new None number scope seat c built lt apart named ready are step =
     unmade_scoped number scope (Free name) seat r w new are step.1 refl tt
 line_scoped answers (Free name) r w new (Some h) number scope seat c built lt apart named ready are step =
-    still_scoped number (Some h) scope (Free name) r seat w new
-    (turn_seats (job.Free (record { n = h })) w new r step) are refl (λ count is.
-    let below = within w h c.before (ready h refl) in
-    let counts = free_counts w new h count c.before c.few
-    (subst (λ (q : Reply). TurnStep (job.Free (record { n = h })) w q new) is step) in
-    let all = own_pins w seat h c.before lt below in
-    let same = scope_count number apart name h (named name refl) scope (pins_of_seat w.seats seat) are in
-    (counts.some, omega (arith, same, all, counts.is)))
+    let j = job.Free (record { n = h }) in
+    turn_scoped number (Some h) scope (Free name) r seat w new j step are refl
+    (pinned_says number apart scope name h seat r w (named name refl) are c.before lt (ready h refl)
+    (λ count is. free_counts w new h count c.before c.few
+    (subst (λ (q : Reply). TurnStep j w q new) is step)))
 line_scoped answers (Filter name) r w new None number scope seat c built lt apart named ready are step =
     unmade_scoped number scope (Filter name) seat r w new are step.1 refl tt
 line_scoped answers (Filter name) r w new (Some h) number scope seat c built lt apart named ready are step =
-    still_scoped number (Some h) scope (Filter name) r seat w new
-    (turn_seats (job.Filter (record { n = h })) w new r step) are refl (λ count is.
-    let below = within w h c.before (ready h refl) in
-    let counts = filter_counts w new h count c.few
-    (subst (λ (q : Reply). TurnStep (job.Filter (record { n = h })) w q new) is step) in
-    let all = own_pins w seat h c.before lt below in
-    let same = scope_count number apart name h (named name refl) scope (pins_of_seat w.seats seat) are in
-    (counts.some, omega (arith, same, all, counts.is)))
+    let j = job.Filter (record { n = h }) in
+    turn_scoped number (Some h) scope (Filter name) r seat w new j step are refl
+    (pinned_says number apart scope name h seat r w (named name refl) are c.before lt (ready h refl)
+    (λ count is. filter_counts w new h count c.few
+    (subst (λ (q : Reply). TurnStep j w q new) is step)))
 line_scoped answers (Pin name) r w new None number scope seat c built lt apart named ready are step =
     unmade_scoped number scope (Pin name) seat r w new are step.1 (ap (scope_after scope (Pin name)) step.0)
     step.0

@@ -27,7 +27,8 @@ use Rattle.cb_mutate.specs.MapCalls.{IsValue}
 use Rattle.cb_mutate.specs.MapBeside.{IsMapBeside}
 use Rattle.cb_mutate.proofs.MapBeside.{Follows, beside_kept}
 use Rattle.cb_core.specs.Step.{TurnStep}
-use Rattle.cb_core.proofs.TurnCalls.{evict_turn, begin_turn, ship_turn, commit_turn, abort_turn, rebuild_turn, crash_turn, join_turn}
+use Rattle.cb_core.proofs.RunLegal.{kept_beside, lost_beside}
+use Rattle.cb_core.proofs.TurnCalls.{IsQuiet, evict_turn, begin_turn, ship_turn, commit_turn, abort_turn, rebuild_turn, crash_turn, join_turn}
 use Rattle.cb_core.proofs.TurnCallsKept.{known_same}
 use Rattle.cb_core.proofs.TurnCallsMap.{IsSameMap}
 use Rattle.cb_core.proofs.TurnCallsNodes.{IsMapLost}
@@ -59,7 +60,7 @@ silent_follows handles calls c t far new map about none reply = record {
 
 -- ---- a name that has no handle
 
-pub unmade_goes : (answers : List Answer) (l : Line) (request : Request) (w new : WorldState)
+unmade_goes : (answers : List Answer) (l : Line) (request : Request) (w new : WorldState)
     → (c : Around answers w new) → new ≡ w → handle_for answers request answer.Unmade ≡ None
     → event_of request answer.Unmade ≡ FindsUnmade → IsReplyOf request answer.Unmade
     → Goes answers (answer_to l request answer.Unmade) w new c.then.shown
@@ -79,27 +80,14 @@ unmade_goes answers l request w new c same about event line = record {
   turns = omega (arith, ap (λ (v : WorldState). v.far.counts.turns) same);
 }
 
-pub unmade_read : (answers : List Answer) (l : Line) (name : List ℕ) (r : Reply) (w new : WorldState)
-    → (c : Around answers w new) → handle_of answers name ≡ None → (r ≡ answer.Unmade) × (new ≡ w)
-    → Goes answers (answer_to l (Read name) r) w new c.then.shown
-unmade_read answers l name r w new c none is =
-    subst (λ (q : Reply). Goes answers (answer_to l (Read name) q) w new c.then.shown) (sym is.0)
-    (unmade_goes answers l (Read name) w new c is.1 none refl tt)
-
-pub unmade_write : (answers : List Answer) (l : Line) (name : List ℕ) (at : ℕ) (bytes : List ℕ)
-    (r : Reply) (w new : WorldState) → (c : Around answers w new) → handle_of answers name ≡ None
-    → (r ≡ answer.Unmade) × (new ≡ w)
-    → Goes answers (answer_to l (Write name at bytes) r) w new c.then.shown
-unmade_write answers l name at bytes r w new c none is =
-    subst (λ (q : Reply). Goes answers (answer_to l (Write name at bytes) q) w new c.then.shown) (sym is.0)
-    (unmade_goes answers l (Write name at bytes) w new c is.1 none refl tt)
-
-pub unmade_free : (answers : List Answer) (l : Line) (name : List ℕ) (r : Reply) (w new : WorldState)
-    → (c : Around answers w new) → handle_of answers name ≡ None → (r ≡ answer.Unmade) × (new ≡ w)
-    → Goes answers (answer_to l (Free name) r) w new c.then.shown
-unmade_free answers l name r w new c none is =
-    subst (λ (q : Reply). Goes answers (answer_to l (Free name) q) w new c.then.shown) (sym is.0)
-    (unmade_goes answers l (Free name) w new c is.1 none refl tt)
+pub unmade_line : (answers : List Answer) (l : Line) (request : Request) (name : List ℕ) (r : Reply)
+    (w new : WorldState) → (c : Around answers w new) → handle_of answers name ≡ None
+    → handle_for answers request answer.Unmade ≡ handle_of answers name
+    → event_of request answer.Unmade ≡ FindsUnmade → IsReplyOf request answer.Unmade
+    → (r ≡ answer.Unmade) × (new ≡ w) → Goes answers (answer_to l request r) w new c.then.shown
+unmade_line answers l request name r w new c none about event line is =
+    subst (λ (q : Reply). Goes answers (answer_to l request q) w new c.then.shown) (sym is.0)
+    (unmade_goes answers l request w new c is.1 (about ∙ none) event line)
 
 -- ---- turns about no object
 
@@ -114,30 +102,6 @@ quiet_goes answers a w new j r c step map about event reply =
     map about (ap made_by event)
     (subst (MapReplies w.far.first w.desk.settings.handles (makes (calls_of answers)) None None) (sym event)
     tt)) reply
-
--- the map stays beside a world that has the same
-beside_same : (answers : List Answer) (s t : Shown) (far new : FarState) → IsMapBeside (calls_of answers) s far
-    → IsSameMap s t far new → IsMapBeside (calls_of answers) t new
-beside_same answers s t far new map same = beside_kept (calls_of answers) s t far new map same.made same.now
-
--- of an object that was held the version alone is known once it is gone
-lost_value : (m : MapNow) (v : ℕ) (bytes : List ℕ) → IsValue m (held v bytes) → IsValue m (gone v)
-lost_value None v bytes i = absurd i
-lost_value (Some (Freed u)) v bytes i = absurd i
-lost_value (Some (Held u b)) v bytes i = i.0
-
--- and it stays beside one in which some objects are gone
-beside_gone : (answers : List Answer) (s t : Shown) (far new : FarState) → IsMapBeside (calls_of answers) s far
-    → IsMapLost s t far new → IsMapBeside (calls_of answers) t new
-beside_gone answers s t far new map lost = record {
-  made = map.made ∙ sym lost.made;
-  values = λ k. elim (lost.now k) [
-    | inl same ↦ subst (IsValue (value (calls_of answers) k)) (sym same) (map.values k)
-    | inr (v, bytes, before, after) ↦ subst (IsValue (value (calls_of answers) k)) (sym after)
-        (lost_value (value (calls_of answers) k) v bytes
-        (subst (IsValue (value (calls_of answers) k)) before (map.values k)))
-  ];
-}
 
 -- these lines tell nothing of an object
 evict_event : (r : Reply) → IsReplyOf Evict r → event_of Evict r ≡ Refused Nothing
@@ -204,52 +168,39 @@ same_goes : (answers : List Answer) (a : Answer) (w new : WorldState) (j : Job) 
     → event_of a.request a.reply ≡ Refused Nothing → HasLineReply a → Goes answers a w new c.then.shown
 same_goes answers a w new j r c step same about event reply =
     quiet_goes answers a w new j r c step
-    (beside_same answers c.before.shown c.then.shown w.far new.far c.beside same) about event reply
+    (kept_beside (calls_of answers) c.before.shown c.then.shown w.far new.far c.beside same) about event
+    reply
 
-pub evict_goes : (answers : List Answer) (l : Line) (r : Reply) (w new : WorldState)
-    → (c : Turning answers w new) → TurnStep job.Evict w r new
-    → Goes answers (answer_to l Evict r) w new c.then.shown
-evict_goes answers l r w new c step =
-    let z = evict_turn w new r c.before c.then c.few step in
-    quiet_goes answers (answer_to l Evict r) w new job.Evict r c step
-    (beside_same answers c.before.shown c.then.shown w.far new.far c.beside z.0) refl (evict_event r z.1) z.1
+-- each turn of the job answers a line of that request as the map does
+abbrev pub JobGoes : Job → Request → Type 0
+JobGoes j request = (answers : List Answer) (l : Line) (r : Reply) (w new : WorldState)
+    → (c : Turning answers w new) → TurnStep j w r new
+    → Goes answers (answer_to l request r) w new c.then.shown
 
-pub begin_goes : (answers : List Answer) (l : Line) (r : Reply) (w new : WorldState)
-    → (c : Turning answers w new) → TurnStep job.Begin w r new
-    → Goes answers (answer_to l Begin r) w new c.then.shown
-begin_goes answers l r w new c step =
-    let z = begin_turn w new r c.before c.then c.few step in
-    same_goes answers (answer_to l Begin r) w new job.Begin r c step z.0 refl (begin_event r z.1) z.1
+job_goes : (j : Job) (request : Request) → IsQuiet j request
+    → ((r : Reply) → IsReplyOf request r → event_of request r ≡ Refused Nothing)
+    → ((answers : List Answer) (r : Reply) → handle_for answers request r ≡ None) → JobGoes j request
+job_goes j request turns event about answers l r w new c step =
+    let z = turns w new r c.before c.then c.few step in
+    same_goes answers (answer_to l request r) w new j r c step z.0 (about answers r) (event r z.1) z.1
 
-pub ship_goes : (answers : List Answer) (l : Line) (r : Reply) (w new : WorldState)
-    → (c : Turning answers w new) → TurnStep job.Ship w r new
-    → Goes answers (answer_to l Ship r) w new c.then.shown
-ship_goes answers l r w new c step =
-    let z = ship_turn w new r c.before c.then c.few step in
-    same_goes answers (answer_to l Ship r) w new job.Ship r c step z.0 refl (ship_event r z.1) z.1
+pub evict_goes : JobGoes job.Evict Evict
+evict_goes = job_goes job.Evict Evict evict_turn evict_event (λ answers r. refl)
 
-pub commit_goes : (answers : List Answer) (l : Line) (r : Reply) (w new : WorldState)
-    → (c : Turning answers w new) → TurnStep job.Commit w r new
-    → Goes answers (answer_to l Commit r) w new c.then.shown
-commit_goes answers l r w new c step =
-    let z = commit_turn w new r c.before c.then c.few step in
-    same_goes answers (answer_to l Commit r) w new job.Commit r c step z.0 refl (commit_event r z.1) z.1
+pub begin_goes : JobGoes job.Begin Begin
+begin_goes = job_goes job.Begin Begin begin_turn begin_event (λ answers r. refl)
 
-pub abort_goes : (answers : List Answer) (l : Line) (r : Reply) (w new : WorldState)
-    → (c : Turning answers w new) → TurnStep job.Abort w r new
-    → Goes answers (answer_to l Abort r) w new c.then.shown
-abort_goes answers l r w new c step =
-    let z = abort_turn w new r c.before c.then c.few step in
-    same_goes answers (answer_to l Abort r) w new job.Abort r c step z.0 refl (abort_event r z.1) z.1
+pub ship_goes : JobGoes job.Ship Ship
+ship_goes = job_goes job.Ship Ship ship_turn ship_event (λ answers r. refl)
 
-pub rebuild_goes : (answers : List Answer) (l : Line) (r : Reply) (w new : WorldState)
-    → (c : Turning answers w new) → TurnStep job.Rebuild w r new
-    → Goes answers (answer_to l Rebuild r) w new c.then.shown
-rebuild_goes answers l r w new c step =
-    let z = rebuild_turn w new r c.before c.then c.few step in
-    quiet_goes answers (answer_to l Rebuild r) w new job.Rebuild r c step
-    (beside_same answers c.before.shown c.then.shown w.far new.far c.beside z.0) refl (rebuild_event r z.1)
-    z.1
+pub commit_goes : JobGoes job.Commit Commit
+commit_goes = job_goes job.Commit Commit commit_turn commit_event (λ answers r. refl)
+
+pub abort_goes : JobGoes job.Abort Abort
+abort_goes = job_goes job.Abort Abort abort_turn abort_event (λ answers r. refl)
+
+pub rebuild_goes : JobGoes job.Rebuild Rebuild
+rebuild_goes = job_goes job.Rebuild Rebuild rebuild_turn rebuild_event (λ answers r. refl)
 
 pub crash_goes : (answers : List Answer) (l : Line) (node : NodeId) (r : Reply) (w new : WorldState)
     → (c : Turning answers w new) → node.n < w.desk.settings.nodes
@@ -257,7 +208,7 @@ pub crash_goes : (answers : List Answer) (l : Line) (node : NodeId) (r : Reply) 
 crash_goes answers l node r w new c below step =
     let z = crash_turn w new node r c.before c.then c.few below step in
     quiet_goes answers (answer_to l (Crash node) r) w new (job.Crash node) r c step
-    (beside_gone answers c.before.shown c.then.shown w.far new.far c.beside z.0) refl
+    (lost_beside (calls_of answers) c.before.shown c.then.shown w.far new.far c.beside z.0) refl
     (crash_event node r z.1) z.1
 
 pub join_goes : (answers : List Answer) (l : Line) (node : NodeId) (r : Reply) (w new : WorldState)
@@ -265,6 +216,5 @@ pub join_goes : (answers : List Answer) (l : Line) (node : NodeId) (r : Reply) (
     → TurnStep (job.Join node) w r new → Goes answers (answer_to l (Join node) r) w new c.then.shown
 join_goes answers l node r w new c below step =
     let z = join_turn w new node r c.before c.then c.few below step in
-    quiet_goes answers (answer_to l (Join node) r) w new (job.Join node) r c step
-    (beside_same answers c.before.shown c.then.shown w.far new.far c.beside z.0) refl
+    same_goes answers (answer_to l (Join node) r) w new (job.Join node) r c step z.0 refl
     (join_event node r z.1) z.1
