@@ -10,7 +10,6 @@ use Rattle.cb_ptr.specs.Word.{state_of, len_of, pins_of}
 use Rattle.cb_types.specs.declared.answer.Answer.{Answer}
 use Rattle.cb_types.specs.declared.job.Job.{Job}
 use Rattle.cb_types.specs.declared.job.Job.TheVariants as job
-use Rattle.cb_types.specs.declared.request.Request.{Request}
 use Rattle.cb_types.specs.declared.request.Request.TheVariants.{Pin, Peek, Unpin, Leave}
 use Rattle.cb_types.specs.declared.reply.Reply.{Reply}
 use Rattle.cb_types.specs.declared.reply.Reply.TheVariants as answer
@@ -19,7 +18,7 @@ use Rattle.cb_model.specs.declared.object.Object.TheVariants.{Held, Freed}
 use Rattle.cb_model.specs.Now.{Now as MapNow}
 use Rattle.cb_model.specs.Event.{Event, event_of, change_of}
 use Rattle.cb_model.specs.Event.Subject.{Other}
-use Rattle.cb_model.specs.Event.Event.{Shows, Pins, FindsUnmade, Refused}
+use Rattle.cb_model.specs.Event.Event.{Shows, Pins, Refused}
 use Rattle.cb_model.specs.Called.{handle_of, handle_for, called, calls_of, made_by, makes, value_at}
 use Rattle.cb_model.specs.Replies.{MapReplies}
 use Rattle.cb_script.specs.declared.script.Line.{Line}

@@ -1,15 +1,14 @@
 -- Lines about no object: names without a handle, evictions, whole and in steps, rebuilds, crashes and joins.
-use Rattle.std.proofs.Common.{◌≡◌, ℕ, ◌<◌, List, [], ◌∷◌, ◌++◌, Option, None, Some, refl, sym, ap, ◌∙◌, subst, arith, inl, inr, fold, if◌then◌else◌}
+use Rattle.std.proofs.Common.{◌≡◌, ℕ, ◌<◌, List, [], ◌∷◌, ◌++◌, Option, None, refl, sym, ap, ◌∙◌, subst, arith, fold, if◌then◌else◌}
 use Rattle.cb_member.specs.declared.names.NodeId.{NodeId}
 use Rattle.cb_types.specs.declared.answer.Answer.{Answer}
 use Rattle.cb_types.specs.declared.job.Job.{Job}
 use Rattle.cb_types.specs.declared.job.Job.TheVariants as job
 use Rattle.cb_types.specs.declared.request.Request.{Request}
-use Rattle.cb_types.specs.declared.request.Request.TheVariants.{Read, Write, Free, Evict, Begin, Ship, Commit, Abort, Rebuild, Crash, Join}
+use Rattle.cb_types.specs.declared.request.Request.TheVariants.{Evict, Begin, Ship, Commit, Abort, Rebuild, Crash, Join}
 use Rattle.cb_types.specs.declared.reply.Reply.{Reply}
 use Rattle.cb_types.specs.declared.reply.Reply.TheVariants as answer
 use Rattle.cb_types.specs.Table.{IsReplyOf}
-use Rattle.cb_model.specs.declared.object.Object.TheVariants.{Held, Freed}
 use Rattle.cb_model.specs.Event.{event_of, change_of}
 use Rattle.cb_model.specs.Event.Subject.{Nothing}
 use Rattle.cb_model.specs.Event.Event.{FindsUnmade, Refused}
@@ -21,7 +20,6 @@ use Rattle.cb_script.specs.declared.script.Line.{Line}
 use Rattle.cb_world.specs.declared.shown.Shown.{Shown}
 use Rattle.cb_world.specs.FarState.{FarState}
 use Rattle.cb_world.specs.Now.{now}
-use Rattle.cb_world.specs.Now.Now.{held, gone}
 use Rattle.cb_world.specs.World.{WorldState, IsKnown}
 use Rattle.cb_mutate.specs.MapCalls.{IsValue}
 use Rattle.cb_mutate.specs.MapBeside.{IsMapBeside}
@@ -31,7 +29,6 @@ use Rattle.cb_core.proofs.RunLegal.{kept_beside, lost_beside}
 use Rattle.cb_core.proofs.TurnCalls.{IsQuiet, evict_turn, begin_turn, ship_turn, commit_turn, abort_turn, rebuild_turn, crash_turn, join_turn}
 use Rattle.cb_core.proofs.TurnCallsKept.{known_same}
 use Rattle.cb_core.proofs.TurnCallsMap.{IsSameMap}
-use Rattle.cb_core.proofs.TurnCallsNodes.{IsMapLost}
 use Rattle.cb_lanes.specs.Asked.{HasLineReply}
 use Rattle.cb_lanes.proofs.Turning.{answer_to, Around, Turning, Goes, goes_by}
 
