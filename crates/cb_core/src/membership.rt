@@ -6,9 +6,9 @@ use cb_member::MemberAnswer;
 use cb_types::{NoMemory, NodeId, Reply};
 use cb_world::{Far, Survey};
 
-/// A crash of a node: it is down, its rows are lost, and nothing more is known of how the sets
-/// stand. Answers Down where it is down, and else the epoch that the crash began. Want of memory changes nothing, and is answered only where the
-/// node is up.
+/// A crash of a node: it is down, its rows are lost, and nothing more is known of how the sets stand.
+/// Answers Down where it is down, and else the epoch that the crash began. Want of memory changes
+/// nothing, and is answered only where the node is up.
 pub(crate) fn crash(far: &mut Far, node: NodeId) -> Result<Reply, NoMemory>
     requires member { node.n < length far.old.members.nodes }
     requires node { node.n < length far.old.nodes.nodes }
