@@ -13,7 +13,7 @@ pub enum Atomic {
 
 /// What happens next: a seat takes an atomic step, or makes a turn with a job. Seats are numbered
 /// from 0, below 64.
-#[derive(Debug, Drop)]
+#[derive(Drop)]
 pub enum Event {
     Step { seat: u32, atomic: Atomic },
     Turn { seat: u32, job: Job },

@@ -1,7 +1,7 @@
 use cb_types::{Bytes, Handle, Reply};
 
 /// A call on the map.
-#[derive(Debug, Drop)]
+#[derive(Drop)]
 pub enum Call {
     /// A new object with these bytes.
     Make {
@@ -24,7 +24,7 @@ pub enum Call {
 }
 
 /// What the map replies.
-#[derive(Debug, Drop)]
+#[derive(Drop)]
 pub enum MapReply {
     /// The object was made: its handle, and its first version.
     Made { handle: Handle, version: u64 },

@@ -15,7 +15,7 @@ pub enum Mode {
 }
 
 /// A line of a script behind its header, which is line 1.
-#[derive(Debug, Drop)]
+#[derive(Drop)]
 pub struct Line {
     pub lane: Lane,
     pub line: u32,
@@ -23,14 +23,14 @@ pub struct Line {
 }
 
 /// A script that was read: the header's configuration, and the lines behind the header.
-#[derive(Debug, Drop)]
+#[derive(Drop)]
 pub struct Script {
     pub config: Config,
     pub lines: Lines,
 }
 
 /// Lines, in order. Contracts see them as a list.
-#[derive(Debug, Drop)]
+#[derive(Drop)]
 pub struct Lines {
     items: Vec<Line>,
 }

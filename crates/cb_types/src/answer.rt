@@ -3,7 +3,7 @@ use crate::reply::Reply;
 use crate::request::Request;
 
 /// A line of a script with its reply. The header is line 1.
-#[derive(Debug, Drop)]
+#[derive(Drop)]
 pub struct Answer {
     pub lane: Lane,
     pub line: u32,

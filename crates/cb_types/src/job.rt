@@ -6,7 +6,7 @@ use crate::handle::Handle;
 use cb_member::NodeId;
 
 /// What a turn of the holder of the far lock does.
-#[derive(Debug, Drop)]
+#[derive(Drop)]
 pub enum Job {
     /// A new object with these bytes, 1 to 1,024 of them.
     Make {

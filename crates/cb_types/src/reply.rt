@@ -4,7 +4,7 @@ use crate::positions::Positions;
 use cb_member::{Epoch, Losses, NodeId};
 
 /// What a request is answered.
-#[derive(Debug, Drop)]
+#[derive(Drop)]
 pub enum Reply {
     /// The object was made: its handle, and its first version.
     Made {

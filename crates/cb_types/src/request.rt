@@ -8,7 +8,7 @@ use cb_member::{NoMemory, NodeId};
 use std::alloc::Global;
 
 /// What a line of a script asks for.
-#[derive(Debug, Drop)]
+#[derive(Drop)]
 pub enum Request {
     /// A new object with these bytes, 1 to 1,024 of them, under a new name.
     Make { name: Name, bytes: Bytes },

@@ -40,10 +40,10 @@ impl World {
         requires { IsAccepted config }
         ensures empty { IfOk result (λ world. world ≡ empty_world config) }
     {
-        Ok(World {
-            desk: PlainDesk::new(alloc, config)?,
-            far: Far::new(alloc, config)?,
-            seats: Seats::new(alloc)?,
-        })
+        // (the largest last: each `?` drops what was made before it)
+        let seats = Seats::new(alloc)?;
+        let desk = PlainDesk::new(alloc, config)?;
+        let far = Far::new(alloc, config)?;
+        Ok(World { desk, far, seats })
     }
 }
