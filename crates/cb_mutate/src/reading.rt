@@ -27,7 +27,7 @@ use std::alloc::Global;
 
 /// What a read saw: an object of `len` bytes at a version, whose bytes stand in the buffer, or why
 /// there is none to be seen.
-#[derive(Debug, Drop)]
+#[derive(Drop)]
 pub(crate) enum Seen {
     Shown { version: u64, len: u32 },
     Refused { reply: Reply },
