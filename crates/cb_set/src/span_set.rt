@@ -249,6 +249,3 @@ fn names_a_handle(slots: &[Option<u32>]) -> bool
 {
     slots.iter().any(|slot| slot.is_some())
 }
-
-#[cfg(test)]
-mod tests;

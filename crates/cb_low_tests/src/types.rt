@@ -1,7 +1,8 @@
 use cb_types::{
-    Answer, Answers, Bytes, Config, Field, Lane, MemSink, MemSource, Name, PlainSink, PlainSource,
-    Positions, Reply, Request, Sent, Sink, Source, StdSink, StdSource, Took,
+    Answer, Answers, Bytes, Config, Field, Lane, MemSink, MemSource, Name, NoMemory, PlainSink,
+    PlainSource, Positions, Reply, Request, Sent, Sink, Source, StdSink, StdSource, Took,
 };
+use std::alloc::Global;
 use std::test::Fail;
 
 const FIRST: Config = Config {
@@ -16,7 +17,6 @@ const FIRST: Config = Config {
 
 #[test]
 fn the_first_field_out_of_range_is_named(rt: HostRuntime) {
-    assert_eq!(rt; FIRST.check(), Ok(()));
     let widest = Config {
         k: 16,
         r: 4,
@@ -26,74 +26,89 @@ fn the_first_field_out_of_range_is_named(rt: HostRuntime) {
         handles: 65536,
         turns: 2500,
     };
-    assert_eq!(rt; widest.check(), Ok(()));
-    assert_eq!(rt;
-        Config {
-            nodes: 3,
-            frames: 0,
-            ..FIRST
-        }
-        .check(),
-        Err(Field::Nodes)
-    );
-    assert_eq!(rt;
-        Config {
-            k: 17,
-            turns: 2501,
-            ..FIRST
-        }
-        .check(),
-        Err(Field::K)
-    );
-    assert_eq!(rt;
-        Config {
-            r: 0,
-            room: 0,
-            ..FIRST
-        }
-        .check(),
-        Err(Field::R)
-    );
+    for (config, answer) in [
+        (FIRST, Ok(())),
+        (widest, Ok(())),
+        (
+            Config {
+                nodes: 3,
+                frames: 0,
+                ..FIRST
+            },
+            Err(Field::Nodes),
+        ),
+        (
+            Config {
+                k: 17,
+                turns: 2501,
+                ..FIRST
+            },
+            Err(Field::K),
+        ),
+        (
+            Config {
+                r: 0,
+                room: 0,
+                ..FIRST
+            },
+            Err(Field::R),
+        ),
+    ] {
+        assert_eq!(rt; config.check(), answer);
+    }
+}
+
+/// A copy of a request to make an object.
+fn copied(alloc: Global) -> Result<Request, NoMemory> {
+    let request = Request::Make {
+        name: Name::copy_of(alloc, b"a")?,
+        bytes: Bytes::copy_of(alloc, &[10, 11])?,
+    };
+    request.copy(alloc)
 }
 
 #[test]
 fn copies_have_the_same_bytes(rt: HostRuntime) -> Result<(), Fail> {
-    let bytes = Bytes::copy_of(rt.alloc(), &[10, 11])?;
-    assert_eq!(rt; bytes.as_slice(), [10, 11].as_slice());
-    let name = Name::copy_of(rt.alloc(), b"a")?;
-    assert_eq!(rt; name.as_slice(), b"a".as_slice());
-    let request = Request::Make { name, bytes };
-    let Request::Make { name, bytes } = request.copy(rt.alloc())? else {
+    let Request::Make { name, bytes } = copied(rt.alloc())? else {
         return Err(Fail::from("another verb"));
     };
     assert_eq!(rt; name.as_slice(), b"a".as_slice());
     assert_eq!(rt; bytes.into_vec().as_slice(), [10, 11].as_slice());
+    let positions = Positions::copy_of(&[3, 0, 19]);
+    assert_eq!(rt; positions.as_slice(), [3, 0, 19].as_slice());
+    assert_eq!(rt; Positions::copy_of(&[]).as_slice().len(), 0);
     Ok(())
+}
+
+/// The answer of a line that reads.
+fn answer_at(alloc: Global, line: u32) -> Result<Answer, NoMemory> {
+    let name = Name::copy_of(alloc, b"a")?;
+    let bytes = Bytes::copy_of(alloc, &[10])?;
+    Ok(Answer {
+        lane: Lane { n: 1 },
+        line,
+        request: Request::Read { name },
+        reply: Reply::Bytes { version: 1, bytes },
+    })
+}
+
+/// The answers of two lines.
+fn two_answers(alloc: Global) -> Result<Answers, NoMemory> {
+    let mut answers = Answers::new(alloc);
+    for line in 2..4 {
+        answers.push(answer_at(alloc, line)?)?;
+    }
+    Ok(answers)
 }
 
 #[test]
 fn answers_keep_their_order(rt: HostRuntime) -> Result<(), Fail> {
-    let mut answers = Answers::new(rt.alloc());
-    assert_eq!(rt; answers.as_slice().len(), 0);
-    for line in 2..4 {
-        let request = Request::Read {
-            name: Name::copy_of(rt.alloc(), b"a")?,
-        };
-        let reply = Reply::Bytes {
-            version: 1,
-            bytes: Bytes::from(vec![in rt.alloc(); 10]?),
-        };
-        answers.push(Answer {
-            lane: Lane { n: 1 },
-            line,
-            request,
-            reply,
-        })?;
+    assert_eq!(rt; Answers::new(rt.alloc()).as_slice().len(), 0);
+    let answers = two_answers(rt.alloc())?;
+    assert_eq!(rt; answers.as_slice().len(), 2);
+    for (i, answer) in answers.as_slice().iter().enumerate() {
+        assert_eq!(rt; answer.line as usize, i + 2);
     }
-    let [first, second] = answers.as_slice() else {
-        return Err(Fail::from("not two answers"));
-    };
-    assert_eq!(rt; (first.line, second.line), (2, 3));
     Ok(())
 }
 
@@ -141,13 +156,5 @@ fn plain_and_standard_streams_pass_bytes_on(rt: HostRuntime) -> Result<(), Fail>
     let mut writer = StdSink::new(Vec::new(rt.alloc()));
     assert_eq!(rt; writer.put(&[7, 8, 9]), Sent::Sent(3));
     assert_eq!(rt; writer.into_writer().as_slice(), [7, 8, 9].as_slice());
-    Ok(())
-}
-
-#[test]
-fn positions_are_copied_in_order(rt: HostRuntime) -> Result<(), Fail> {
-    let positions = Positions::copy_of(&[3, 0, 19]);
-    assert_eq!(rt; positions.as_slice(), [3, 0, 19].as_slice());
-    assert_eq!(rt; Positions::copy_of(&[]).as_slice().len(), 0);
     Ok(())
 }

@@ -1,7 +1,7 @@
 use cb_script::{
     Line, Lines, Mode, Reason, ScriptFault, first_unbuilt, print_script, read_script, script_laws,
 };
-use cb_types::{Config, Lane, NoMemory, Request};
+use cb_types::{Bytes, Config, Lane, NoMemory, Request};
 use std::alloc::Global;
 use std::test::Fail;
 
@@ -170,28 +170,22 @@ fn meets_the_limits(rt: HostRuntime) -> Result<(), Fail> {
     Ok(())
 }
 
+/// What is printed of the script that the text is.
+fn printed(alloc: Global, text: &str) -> Result<Bytes, Fail> {
+    let script = read_script(alloc, text.as_bytes(), Mode::Seq)?;
+    Ok(print_script(alloc, &script)?)
+}
+
+/// The script's first line with a verb that is not answered yet, its sizes and its count of lines.
+fn shape_of(alloc: Global, text: &str) -> Result<(Option<u32>, Config, usize), Fail> {
+    let script = read_script(alloc, text.as_bytes(), Mode::Seq)?;
+    let count = script.lines.as_slice().len();
+    Ok((first_unbuilt(&script), script.config, count))
+}
+
 #[test]
 fn prints_what_it_read(rt: HostRuntime) -> Result<(), Fail> {
     let header = HEADER;
-    for (lines, unbuilt) in [
-        ("1 make a 0a0b\n1 read a\n", None),
-        (
-            "0 make a 00\n2 write a 7 -\n2 write a 0 ff\n2 free a\n3 pin a\n3 compact\n",
-            Some(7),
-        ),
-        ("15 crash 5\n15 join 0\n", None),
-        ("1 begin\n1 ship\n1 commit\n1 abort\n1 pair\n", Some(6)),
-    ] {
-        let text = format!(in rt.alloc(); "{header}{lines}")?;
-        let script = read_script(rt.alloc(), text.as_bytes(), Mode::Seq)?;
-        let printed = print_script(rt.alloc(), &script)?;
-        assert_eq!(rt; printed.as_slice(), text.as_bytes(), "{lines:?}");
-        assert_eq!(rt; first_unbuilt(&script), unbuilt, "{lines:?}");
-    }
-    let text = format!(in rt.alloc(); "{header}1 make a 0a0b\n1 read a")?;
-    assert_eq!(rt; text.len(), 84);
-    let script = read_script(rt.alloc(), text.as_bytes(), Mode::Seq)?;
-    assert_eq!(rt; print_script(rt.alloc(), &script)?.as_slice().len(), 85);
     let config = Config {
         k: 2,
         r: 2,
@@ -201,8 +195,37 @@ fn prints_what_it_read(rt: HostRuntime) -> Result<(), Fail> {
         handles: 16,
         turns: 0,
     };
-    assert_eq!(rt; script.config, config);
-    assert_eq!(rt; script.lines.as_slice().len(), 2);
+    for (lines, feed, unbuilt, count) in [
+        ("1 make a 0a0b\n1 read a", "", None, 2),
+        ("1 make a 0a0b\n1 read a", "\n", None, 2),
+        (
+            "0 make a 00\n2 write a 7 -\n2 write a 0 ff\n2 free a\n3 pin a\n3 compact",
+            "\n",
+            Some(7),
+            6,
+        ),
+        ("15 crash 5\n15 join 0", "\n", None, 2),
+        (
+            "1 begin\n1 ship\n1 commit\n1 abort\n1 pair",
+            "\n",
+            Some(6),
+            5,
+        ),
+    ] {
+        let text = format!(in rt.alloc(); "{header}{lines}{feed}")?;
+        assert_eq!(rt;
+            shape_of(rt.alloc(), text.as_str())?,
+            (unbuilt, config, count),
+            "{lines:?}"
+        );
+        // Each line is printed with a feed at its end, also where the last one was read without.
+        let whole = format!(in rt.alloc(); "{header}{lines}\n")?;
+        assert_eq!(rt;
+            printed(rt.alloc(), text.as_str())?.as_slice(),
+            whole.as_bytes(),
+            "{lines:?}"
+        );
+    }
     Ok(())
 }
 

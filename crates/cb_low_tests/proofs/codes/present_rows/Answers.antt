@@ -1,6 +1,6 @@
 use Rattle.std.proofs.Common.{◌≡◌, ◌<◌, [], length, ap, ◌∙◌, rules, arith}
 use Rattle.cb_gf256.proofs.PublicLaws.{written_count, written_lengths}
-use Rattle.cb_erase.proofs.block_tests.present_rows.Goals as goal
+use Rattle.cb_low_tests.proofs.codes.present_rows.Goals as goal
 
 pub loop-p-preserved : goal.loop-p-preserved
 loop-p-preserved g c =

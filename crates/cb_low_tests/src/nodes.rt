@@ -1,9 +1,43 @@
 ghost use Rattle.std.specs.Prelude.{◌≡◌, ◌-◌, ◌^◌, ◌<◌, length, false};
 ghost use Rattle.cb_node.specs.NodesState.{has};
 
-use super::*;
+use cb_member::{Epoch, Loss, Losses, MemberAnswer, Members, NodeId};
+use cb_node::{Nodes, PutAnswer};
 use std::process::Abort;
 use std::test::Fail;
+
+fn changed(n: u64) -> MemberAnswer {
+    MemberAnswer::Changed { epoch: Epoch { n } }
+}
+
+#[test]
+fn crashes_and_joins_are_counted_and_kept(rt: HostRuntime) -> Result<(), Fail> {
+    let mut members = Members::new(rt.alloc(), 6)?;
+    let node = NodeId { n: 5 };
+    assert_eq!(rt; members.join(node), MemberAnswer::Up { node });
+    assert_eq!(rt; members.crash(node)?, changed(1));
+    assert_eq!(rt; members.crash(node)?, MemberAnswer::Down { node });
+    assert!(rt; !members.alive(node));
+    assert_eq!(rt; members.join(node), changed(2));
+    assert_eq!(rt; (members.epoch(), members.count()), (Epoch { n: 2 }, 6));
+    assert_eq!(rt; members.incarnation(node), 1);
+    assert_eq!(rt; members.crashed_at(node, 0), Some(Epoch { n: 1 }));
+    assert_eq!(rt; members.crashed_at(node, 1), None);
+    Ok(())
+}
+
+#[test]
+fn a_copy_has_the_losses(rt: HostRuntime) -> Result<(), Fail> {
+    let loss = Loss {
+        node: NodeId { n: 3 },
+        epoch: Epoch { n: 7 },
+    };
+    let losses = Losses::copy_of(rt.alloc(), &[loss, loss])?;
+    assert_eq!(rt; losses.as_slice(), [loss, loss].as_slice());
+    let again = Losses::from(losses.into_vec());
+    assert!(rt; again == Losses::copy_of(rt.alloc(), &[loss, loss])?);
+    Ok(())
+}
 
 /// Puts a row at a node that has room and gives it out again.
 fn puts_and_gives(rt: &impl Abort, nodes: &mut Nodes, node: NodeId, key: u64) -> Result<(), Fail>

@@ -3,7 +3,7 @@ use Rattle.std.proofs.lemmas.List.{length-replicate}
 use Rattle.std.proofs.lemmas.List.Elements.{All-replicate}
 use Rattle.cb_gf256.specs.Rows.{HaveLength}
 use Rattle.cb_gf256.proofs.PublicLaws.{written_count, written_lengths}
-use Rattle.cb_code.proofs.tests.column_of.Goals as goal
+use Rattle.cb_low_tests.proofs.codes.column_of.Goals as goal
 
 pub loop-i-init : goal.loop-i-init
 loop-i-init c =

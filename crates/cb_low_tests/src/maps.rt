@@ -1,4 +1,4 @@
-use super::*;
+use cb_model::{Call, MapReply, MapState};
 use cb_types::{Bytes, Handle};
 use std::test::Fail;
 

@@ -1,8 +1,9 @@
 ghost use Rattle.std.specs.Prelude.{◌≡◌, length};
 ghost use Rattle.cb_set.specs.Lost.{NodesAreMembers};
 
-use super::*;
-use cb_member::{Epoch, Loss, Members};
+use cb_member::{Epoch, Loss, Members, NodeId, Shard};
+use cb_set::SpanSet;
+use std::alloc::Global;
 use std::process::Abort;
 use std::test::Fail;
 

@@ -4,7 +4,7 @@ use Rattle.cb_node.specs.declared.nodes.PutAnswer.{PutAnswer}
 use Rattle.cb_node.specs.NodesState.{row_at}
 use Rattle.cb_node.specs.Answer.{PutGives}
 use Rattle.cb_node.proofs.Put.{row_at-with_row_here}
-use Rattle.cb_node.proofs.nodes.tests.puts_and_gives.Goals as goal
+use Rattle.cb_low_tests.proofs.nodes.puts_and_gives.Goals as goal
 
 pub give_row-requires-clause-length : goal.give_row-requires-clause-length
 give_row-requires-clause-length g c =
