@@ -9,7 +9,7 @@ use std::marker::Model;
 
 /// Which of a count of frames are free: the set of those, and a counter. Frames are numbered
 /// from 0.
-#[derive(Debug, Drop)]
+#[derive(Drop)]
 pub struct Frames {
     set: FrameSet,
     // The count of free frames.

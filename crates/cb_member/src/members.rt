@@ -21,7 +21,7 @@ pub enum MemberAnswer {
 
 /// Which nodes are up, each node's incarnation, and the epoch of the crash that ended each
 /// incarnation. The epoch counts crashes and joins.
-#[derive(Debug, Drop)]
+#[derive(Drop)]
 pub struct Members {
     epoch: u64,
     nodes: Vec<Node>,

@@ -9,7 +9,7 @@ use std::alloc::Global;
 use std::marker::Model;
 
 /// A span of one size class: each slot is empty or has the handle of the object that lies there.
-#[derive(Debug, Drop)]
+#[derive(Drop)]
 pub struct Span {
     class: Class,
     temp: Temp,
