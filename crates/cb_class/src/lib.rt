@@ -3,8 +3,6 @@
 #![tactic(auto)]
 
 mod class;
-#[cfg(test)]
-mod tests;
 
 pub use class::{
     CLASS_BYTES, CLASSES, Class, FRAME_WORDS, SPAN_BYTES, WORD_BYTES, class_bytes, class_of,

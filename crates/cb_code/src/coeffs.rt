@@ -10,7 +10,7 @@ use std::marker::Model;
 
 /// The coefficients of a code: parity j is the sum over the data positions i of `at(j, i)` times
 /// data row i.
-#[derive(Debug, Drop)]
+#[derive(Drop)]
 pub struct Coeffs {
     factors: Factors,
 }

@@ -6,8 +6,6 @@ mod coeffs;
 mod encoding;
 mod laws;
 mod syndromes;
-#[cfg(test)]
-mod tests;
 
 pub use coeffs::{Coeffs, coefficients};
 pub use encoding::encode;

@@ -3,8 +3,6 @@
 
 mod deltas;
 mod laws;
-#[cfg(test)]
-mod tests;
 
 pub use deltas::{delta, patch};
 pub use laws::parity_laws;

@@ -6,7 +6,7 @@ use std::marker::Model;
 
 /// The factors of a word's present rows: the row at position p is the sum over i of `at(p, i)`
 /// times the present row i.
-#[derive(Debug, Drop)]
+#[derive(Drop)]
 pub struct Weights {
     table: [[u8; 16]; 20],
     k: u32,

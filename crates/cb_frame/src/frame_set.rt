@@ -7,7 +7,7 @@ use std::alloc::Global;
 use std::marker::Model;
 
 /// A set of frames, of those numbered from 0 to a count: one bit a frame, 64 frames a word.
-#[derive(Debug, Drop)]
+#[derive(Drop)]
 pub struct FrameSet {
     words: Vec<u64>,
     count: u32,

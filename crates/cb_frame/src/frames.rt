@@ -9,7 +9,7 @@ use std::marker::Model;
 
 /// Which of a count of frames are free: the set of those, and a counter. Frames are numbered
 /// from 0.
-#[derive(Debug, Drop)]
+#[derive(Drop)]
 pub struct Frames {
     set: FrameSet,
     // The count of free frames.
@@ -89,47 +89,5 @@ impl Frames {
         ensures { result.now ≡ self.now }
     {
         &self.set
-    }
-}
-
-#[cfg(test)]
-mod tests {
-    use super::*;
-    use std::test::Fail;
-
-    #[test]
-    fn the_least_free_frame_is_taken(rt: HostRuntime) -> Result<(), Fail> {
-        let mut frames = Frames::new(rt.alloc(), 2)?;
-        assert_eq!(rt; frames.free(), 2);
-        assert_eq!(rt; frames.take(), Some(0));
-        assert_eq!(rt; frames.take(), Some(1));
-        assert_eq!(rt; frames.take(), None);
-        frames.give(0);
-        assert_eq!(rt; (frames.free(), frames.count()), (1, 2));
-        assert!(rt; frames.is_free(0) && !frames.is_free(1) && !frames.is_free(2));
-        assert_eq!(rt; frames.take(), Some(0));
-        Ok(())
-    }
-
-    #[test]
-    fn frames_past_the_first_word_are_found(rt: HostRuntime) -> Result<(), Fail> {
-        let mut frames = FrameSet::empty(rt.alloc(), 4096)?;
-        frames.insert(63);
-        frames.insert(64);
-        frames.insert(700);
-        frames.insert(4095);
-        frames.remove(64);
-        for (start, found) in [
-            (0, Some(63)),
-            (64, Some(700)),
-            (700, Some(700)),
-            (701, Some(4095)),
-            (4096, None),
-        ] {
-            assert_eq!(rt; frames.least_from(start), found, "from {start}");
-        }
-        assert_eq!(rt; frames.least(), Some(63));
-        assert!(rt; frames.contains(63) && !frames.contains(64) && !frames.contains(9999));
-        Ok(())
     }
 }

@@ -7,7 +7,7 @@ use crate::products::Products;
 use std::marker::Model;
 
 /// Up to four rows of up to sixteen factors each, 2 KB in place.
-#[derive(Debug, Drop)]
+#[derive(Drop)]
 pub struct Factors {
     products: [[Products; 16]; 4],
     width: u32,

@@ -15,8 +15,6 @@ mod row;
 mod rows;
 mod sums;
 mod tables;
-#[cfg(test)]
-mod tests;
 
 pub use erasures::{code_laws, corner_laws, polynomial_laws, restoring_laws, split_laws};
 pub use factors::Factors;

@@ -8,7 +8,7 @@ use std::alloc::Global;
 use std::marker::Model;
 
 /// A list of rows of bytes of equal length. The rows lie one after another in one block.
-#[derive(Debug, Drop)]
+#[derive(Drop)]
 pub struct Rows {
     block: Vec<u8>,
     count: u32,

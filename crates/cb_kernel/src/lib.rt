@@ -3,7 +3,5 @@
 #![tactic(auto)]
 
 mod kernel;
-#[cfg(test)]
-mod tests;
 
 pub use kernel::{axpy, xor};

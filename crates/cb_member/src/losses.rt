@@ -10,7 +10,7 @@ use std::alloc::Global;
 use std::marker::Model;
 
 /// A list of crashed nodes, each with the epoch of its crash. Contracts see it as that list.
-#[derive(Debug, Drop)]
+#[derive(Drop)]
 pub struct Losses {
     items: Vec<Loss>,
 }
@@ -69,24 +69,4 @@ impl PartialEq for Losses {
 
 impl Eq for Losses {
     ghost laws = { lists_equiv loss_equiv };
-}
-
-#[cfg(test)]
-mod tests {
-    use super::*;
-    use crate::names::{Epoch, NodeId};
-    use std::test::Fail;
-
-    #[test]
-    fn a_copy_has_the_items(rt: HostRuntime) -> Result<(), Fail> {
-        let loss = Loss {
-            node: NodeId { n: 3 },
-            epoch: Epoch { n: 7 },
-        };
-        let losses = Losses::copy_of(rt.alloc(), &[loss, loss])?;
-        assert_eq!(rt; losses.as_slice(), [loss, loss].as_slice());
-        let again = Losses::from(losses.into_vec());
-        assert!(rt; again == Losses::copy_of(rt.alloc(), &[loss, loss])?);
-        Ok(())
-    }
 }

@@ -21,7 +21,7 @@ pub enum MemberAnswer {
 
 /// Which nodes are up, each node's incarnation, and the epoch of the crash that ended each
 /// incarnation. The epoch counts crashes and joins.
-#[derive(Debug, Drop)]
+#[derive(Drop)]
 pub struct Members {
     epoch: u64,
     nodes: Vec<Node>,
@@ -145,31 +145,5 @@ impl Members {
         let state = &self.nodes[usize::from(node.n)];
         let which = usize::try_from(incarnation).ok()?;
         state.crashes.get(which).copied()
-    }
-}
-
-#[cfg(test)]
-mod tests {
-    use super::*;
-    use std::test::Fail;
-
-    fn changed(n: u64) -> MemberAnswer {
-        MemberAnswer::Changed { epoch: Epoch { n } }
-    }
-
-    #[test]
-    fn crashes_and_joins_are_counted_and_kept(rt: HostRuntime) -> Result<(), Fail> {
-        let mut members = Members::new(rt.alloc(), 6)?;
-        let node = NodeId { n: 5 };
-        assert_eq!(rt; members.join(node), MemberAnswer::Up { node });
-        assert_eq!(rt; members.crash(node)?, changed(1));
-        assert_eq!(rt; members.crash(node)?, MemberAnswer::Down { node });
-        assert!(rt; !members.alive(node));
-        assert_eq!(rt; members.join(node), changed(2));
-        assert_eq!(rt; (members.epoch(), members.count()), (Epoch { n: 2 }, 6));
-        assert_eq!(rt; members.incarnation(node), 1);
-        assert_eq!(rt; members.crashed_at(node, 0), Some(Epoch { n: 1 }));
-        assert_eq!(rt; members.crashed_at(node, 1), None);
-        Ok(())
     }
 }

@@ -3,7 +3,7 @@ use std::marker::Model;
 
 /// One node: whether it is up, how often it has joined, and the epochs of its crashes, the one
 /// that ended incarnation 0 first.
-#[derive(Debug, Drop)]
+#[derive(Drop)]
 pub struct Node {
     pub up: bool,
     pub incarnation: u64,

@@ -9,6 +9,3 @@ pub mod object;
 pub use call::{Call, MapReply};
 pub use map::MapState;
 pub use object::Object;
-
-#[cfg(test)]
-mod tests;

@@ -9,7 +9,7 @@ use std::marker::Model;
 
 /// The map, with the number of handles that it can give. Handles count up from 0, so the object of
 /// a handle stands at that place.
-#[derive(Debug, Drop)]
+#[derive(Drop)]
 pub struct MapState {
     handles: u32,
     objects: Vec<Object>,

@@ -7,7 +7,7 @@ use cb_types::{Bytes, NoMemory};
 use std::alloc::Global;
 
 /// What the map has at a handle that was made.
-#[derive(Debug, Drop)]
+#[derive(Drop)]
 pub enum Object {
     /// The object has these bytes at this version.
     Held { version: u64, bytes: Bytes },

@@ -306,6 +306,3 @@ fn is_row(shard: Shard, node: NodeId, key: u64) -> bool
 {
     shard.node.n == node.n && shard.key == key
 }
-
-#[cfg(test)]
-mod tests;

@@ -3,8 +3,6 @@
 #![tactic(auto)]
 
 mod steps;
-#[cfg(test)]
-mod tests;
 mod word;
 
 pub use steps::{claimed, far_word, pinned, settled, unpinned};

@@ -24,24 +24,8 @@ pub fn first_unbuilt(script: &Script) -> Option<u32>
 fn is_built(request: &Request) -> bool
     ensures { IsTrue result ↔ IsBuilt request.now }
 {
-    matches!(
+    !matches!(
         request,
-        Request::Make { .. }
-            | Request::Read { .. }
-            | Request::Write { .. }
-            | Request::Free { .. }
-            | Request::Pin { .. }
-            | Request::Peek { .. }
-            | Request::Unpin { .. }
-            | Request::Filter { .. }
-            | Request::Evict
-            | Request::Begin
-            | Request::Ship
-            | Request::Commit
-            | Request::Abort
-            | Request::Rebuild
-            | Request::Crash { .. }
-            | Request::Join { .. }
-            | Request::Leave
+        Request::Pair | Request::Patch | Request::Merge | Request::Part | Request::Compact
     )
 }

@@ -79,21 +79,43 @@ pub(crate) fn node_verb_of(word: &[u8]) -> Option<NodeVerb>
 pub(crate) fn bare_verb_of(word: &[u8]) -> Option<BareVerb>
     ensures { Finds result (λ verb. word.now ≡ bare_verb verb) }
 {
-    match word {
-        b"leave" => Some(BareVerb::Leave),
-        b"evict" => Some(BareVerb::Evict),
-        b"begin" => Some(BareVerb::Begin),
-        b"ship" => Some(BareVerb::Ship),
-        b"commit" => Some(BareVerb::Commit),
-        b"abort" => Some(BareVerb::Abort),
-        b"pair" => Some(BareVerb::Pair),
-        b"patch" => Some(BareVerb::Patch),
-        b"merge" => Some(BareVerb::Merge),
-        b"part" => Some(BareVerb::Part),
-        b"compact" => Some(BareVerb::Compact),
-        b"rebuild" => Some(BareVerb::Rebuild),
-        _ => None,
+    if is_word(word, b"leave") {
+        return Some(BareVerb::Leave);
     }
+    if is_word(word, b"evict") {
+        return Some(BareVerb::Evict);
+    }
+    if is_word(word, b"begin") {
+        return Some(BareVerb::Begin);
+    }
+    if is_word(word, b"ship") {
+        return Some(BareVerb::Ship);
+    }
+    if is_word(word, b"commit") {
+        return Some(BareVerb::Commit);
+    }
+    if is_word(word, b"abort") {
+        return Some(BareVerb::Abort);
+    }
+    if is_word(word, b"pair") {
+        return Some(BareVerb::Pair);
+    }
+    if is_word(word, b"patch") {
+        return Some(BareVerb::Patch);
+    }
+    if is_word(word, b"merge") {
+        return Some(BareVerb::Merge);
+    }
+    if is_word(word, b"part") {
+        return Some(BareVerb::Part);
+    }
+    if is_word(word, b"compact") {
+        return Some(BareVerb::Compact);
+    }
+    if is_word(word, b"rebuild") {
+        return Some(BareVerb::Rebuild);
+    }
+    None
 }
 
 /// Whether the word is this one.

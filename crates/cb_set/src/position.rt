@@ -1,7 +1,7 @@
 use std::marker::Model;
 
 /// A data position: whether it is live, and the slot table of its span.
-#[derive(Debug, Drop)]
+#[derive(Drop)]
 pub struct Position {
     pub live: bool,
     pub slots: Vec<Option<u32>>,

@@ -11,7 +11,7 @@ use std::marker::Model;
 
 /// A span-set of k data positions and r parities: a shard for each position, data first, and for
 /// each data position a live flag and the slot table of its span.
-#[derive(Debug, Drop)]
+#[derive(Drop)]
 pub struct SpanSet {
     id: u64,
     shards: Vec<Shard>,
@@ -249,6 +249,3 @@ fn names_a_handle(slots: &[Option<u32>]) -> bool
 {
     slots.iter().any(|slot| slot.is_some())
 }
-
-#[cfg(test)]
-mod tests;

@@ -31,18 +31,3 @@ pub fn place_slot(class: Class, place: u32) -> u32
 {
     place % FRAME_WORDS / slot_words(class)
 }
-
-#[cfg(test)]
-mod tests {
-    use super::*;
-
-    #[test]
-    #[tactic(auto, unfolding(cb_class::specs::Class::slots_of, cb_class::specs::Class::bytes_of))]
-    fn a_slot_has_its_place(rt: HostRuntime) {
-        // Frame 3 begins at memory word 1536; a slot of 48 bytes has 6 words.
-        let class = Class { index: 2 };
-        assert_eq!(rt; slot_place(class, 3, 84), 2040);
-        assert_eq!(rt; (place_frame(2040), place_slot(class, 2040)), (3, 84));
-        assert_eq!(rt; (place_frame(2047), place_slot(class, 1541)), (3, 0));
-    }
-}

@@ -9,7 +9,7 @@ use std::alloc::Global;
 use std::marker::Model;
 
 /// A span of one size class: each slot is empty or has the handle of the object that lies there.
-#[derive(Debug, Drop)]
+#[derive(Drop)]
 pub struct Span {
     class: Class,
     temp: Temp,
@@ -179,62 +179,4 @@ fn least_none(slots: &[Option<u32>], from: usize) -> Option<usize>
         }
     }
     None
-}
-
-#[cfg(test)]
-mod tests {
-    use super::*;
-    use cb_class::class_of;
-    use std::test::Fail;
-
-    #[test]
-    fn the_least_empty_slot_is_taken(rt: HostRuntime) -> Result<(), Fail> {
-        let mut span = Span::new(rt.alloc(), class_of(1024), Temp::Cold)?;
-        assert_eq!(rt; span.class(), class_of(1000));
-        assert_eq!(rt; span.temp(), Temp::Cold);
-        assert!(rt; span.is_empty());
-        for (handle, slot) in [
-            (7, Some(0)),
-            (8, Some(1)),
-            (9, Some(2)),
-            (10, Some(3)),
-            (11, None),
-        ] {
-            assert_eq!(rt; span.place(handle), slot, "at {handle}");
-        }
-        assert_eq!(rt; span.live(), 4);
-        assert!(rt; !span.is_empty());
-        Ok(())
-    }
-
-    #[test]
-    #[tactic(auto, unfolding(cb_class::specs::Class::slots_of, cb_class::specs::Class::bytes_of))]
-    fn a_slot_table_with_holes_is_kept(rt: HostRuntime) -> Result<(), Fail> {
-        let table = [None, Some(8), None, Some(9)];
-        let mut span = Span::from_slots(rt.alloc(), Class { index: 11 }, Temp::Hot, &table)?;
-        assert_eq!(rt; span.slots(), table.as_slice());
-        assert!(rt; span.live() == 2 && !span.is_full());
-        assert_eq!(rt;
-            (span.place(7), span.place(6), span.place(5)),
-            (Some(0), Some(2), None)
-        );
-        assert!(rt; span.is_full());
-        assert_eq!(rt; span.at(2), Some(6));
-        Ok(())
-    }
-
-    #[test]
-    fn a_cleared_slot_is_taken_again(rt: HostRuntime) -> Result<(), Fail> {
-        let mut span = Span::new(rt.alloc(), Class { index: 11 }, Temp::Hot)?;
-        assert_eq!(rt; span.place(7), Some(0));
-        assert_eq!(rt; span.place(8), Some(1));
-        span.clear(0);
-        span.clear(0);
-        assert_eq!(rt; span.live(), 1);
-        assert_eq!(rt; span.at(0), None);
-        assert_eq!(rt; span.at(1), Some(8));
-        assert_eq!(rt; span.place(9), Some(0));
-        assert_eq!(rt; span.place(10), Some(2));
-        Ok(())
-    }
 }

@@ -1,6 +1,6 @@
-//! Tests that cross crates: calls of the lower crates with ample memory, and worked rows of what no
+//! Tests of the world and of what stands on it: calls with ample memory, and worked rows of what no
 //! clause says. They stand in a crate of their own, so that the crates which they call are proved
-//! once.
+//! once. The parts below the world are tested in `cb_low_tests`.
 #![tactic(auto)]
 
 #[cfg(test)]
@@ -8,10 +8,6 @@ mod lanes;
 #[cfg(test)]
 mod objects;
 #[cfg(test)]
-mod scripts;
-#[cfg(test)]
 mod turns;
-#[cfg(test)]
-mod types;
 #[cfg(test)]
 mod worlds;

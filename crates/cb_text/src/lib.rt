@@ -7,6 +7,3 @@ mod verb;
 mod word;
 
 pub use line::{line_text, push_line};
-
-#[cfg(test)]
-mod tests;

@@ -11,7 +11,7 @@ use std::marker::Model;
 
 /// A source over bytes in memory. It gives at the most `piece` bytes a call, and fails at the calls
 /// that it is told, numbered from 0.
-#[derive(Debug, Drop)]
+#[derive(Drop)]
 pub struct MemSource {
     bytes: Vec<u8>,
     at: usize,
@@ -93,7 +93,7 @@ impl Source for MemSource {
 
 /// A sink that keeps its bytes in memory. It takes at the most `piece` bytes a call, and fails at
 /// the calls that it is told, numbered from 0, and where there is no memory to keep the bytes.
-#[derive(Debug, Drop)]
+#[derive(Drop)]
 pub struct MemSink {
     bytes: Vec<u8>,
     piece: usize,

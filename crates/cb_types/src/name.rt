@@ -6,7 +6,7 @@ use std::marker::Model;
 
 /// The name that a script gives an object: 1 to 16 lower-case letters and digits, where a script
 /// was read. Contracts see it as the list of its bytes.
-#[derive(Debug, Drop)]
+#[derive(Drop)]
 pub struct Name {
     items: Vec<u8>,
 }

@@ -9,7 +9,7 @@ use crate::source::{Source, Took};
 use std::marker::Model;
 
 /// A source over borrowed bytes. It never fails.
-#[derive(Debug, Drop)]
+#[derive(Drop)]
 pub struct PlainSource<'a> {
     rest: &'a [u8],
 }

@@ -7,7 +7,7 @@ use std::marker::Model;
 const MOST_POSITIONS: usize = 20;
 
 /// Positions of a span-set, at most 20. Contracts see them as a list.
-#[derive(Debug, Drop)]
+#[derive(Drop)]
 pub struct Positions {
     items: ArrayVec<u8, MOST_POSITIONS>,
 }
