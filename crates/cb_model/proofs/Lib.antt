@@ -5,3 +5,4 @@ pub mod Order
 pub mod Naming
 pub mod WorkedAnswers
 pub mod WorkedCalls
+pub mod WorkedHistories

@@ -12,10 +12,10 @@ use Rattle.cb_model.specs.Legal.{Follow, IsLegal, IsLegalInOrder}
 use Rattle.cb_model.proofs.Order.{legal_in_order}
 
 -- an answer to a lane
-abbrev told : ℕ → Request → Reply → Answer
+abbrev pub told : ℕ → Request → Reply → Answer
 told lane request reply = record { lane = record { n = lane }; line = 0; request = request; reply = reply }
 
-abbrev a : List ℕ
+abbrev pub a : List ℕ
 a = 97 ∷ []
 
 abbrev b : List ℕ
