@@ -1,6 +1,7 @@
-/* ISA-L's SSE encoder and memcpy, timed beside the program of crates/cb_bench by bench/encode. The
- * words are k, r and how many slices of four calls are timed. It prints the least time of a call in
- * nanoseconds: of the encoder, of the whole word from its last k rows, and of a copy of the data. */
+/* ISA-L's encoders and memcpy, timed beside the program of crates/cb_bench by bench/encode. The words
+ * are the encoder (sse, avx2, or own for the one that ISA-L picks by itself), k, r and how many slices
+ * of four calls are timed. It prints the least time of a call in nanoseconds: of the encoder, of the
+ * whole word from its last k rows, and of a copy of the data. */
 #include <isa-l/erasure_code.h>
 #include <stdint.h>
 #include <stdio.h>
@@ -10,7 +11,9 @@
 
 enum { BYTES = 4096, MOST_DATA = 16, MOST_PARITIES = 4, CALLS = 4 };
 
-extern void ec_encode_data_sse(int len, int k, int rows, unsigned char *tables, unsigned char **data, unsigned char **coding);
+typedef void encoder(int len, int k, int rows, unsigned char *tables, unsigned char **data, unsigned char **coding);
+
+extern encoder ec_encode_data_sse, ec_encode_data_avx2;
 
 static uint64_t now(void) {
     struct timespec t;
@@ -19,18 +22,21 @@ static uint64_t now(void) {
 }
 
 /* The work of `solve`: the matrix of the lost rows, its tables, the lost rows, and the present rows. */
-static void solve(int k, int r, unsigned char *matrix, unsigned char **present, unsigned char **lost, unsigned char *word) {
+static void solve(encoder *encode, int k, int r, unsigned char *matrix, unsigned char **present, unsigned char **lost, unsigned char *word) {
     unsigned char rows[MOST_DATA * MOST_DATA], inverse[MOST_DATA * MOST_DATA], tables[32 * MOST_DATA * MOST_PARITIES];
     memcpy(rows, matrix + r * k, (size_t)k * (size_t)k);
     gf_invert_matrix(rows, inverse, k);
     ec_init_tables(k, r, inverse, tables);
-    ec_encode_data_sse(BYTES, k, r, tables, present, lost);
+    encode(BYTES, k, r, tables, present, lost);
     memcpy(word + r * BYTES, present[0], (size_t)k * BYTES);
 }
 
 int main(int argc, char **argv) {
-    if (argc != 4) return 1;
-    int k = atoi(argv[1]), r = atoi(argv[2]), slices = atoi(argv[3]);
+    if (argc != 5) return 1;
+    int k = atoi(argv[2]), r = atoi(argv[3]), slices = atoi(argv[4]);
+    encoder *encode = ec_encode_data;
+    if (strcmp(argv[1], "sse") == 0) encode = ec_encode_data_sse;
+    if (strcmp(argv[1], "avx2") == 0) encode = ec_encode_data_avx2;
     unsigned char *block = malloc(MOST_DATA * BYTES), *parities = malloc(MOST_PARITIES * BYTES);
     unsigned char *copy = malloc(MOST_DATA * BYTES), *word = malloc((MOST_DATA + MOST_PARITIES) * BYTES);
     unsigned char *data[MOST_DATA], *coding[MOST_PARITIES], *lost[MOST_PARITIES];
@@ -47,11 +53,11 @@ int main(int argc, char **argv) {
     ec_init_tables(k, r, matrix + k * k, tables);
     for (int s = 0; s < slices; s++) {
         uint64_t start = now();
-        for (int n = 0; n < CALLS; n++) ec_encode_data_sse(BYTES, k, r, tables, data, coding);
+        for (int n = 0; n < CALLS; n++) encode(BYTES, k, r, tables, data, coding);
         uint64_t taken = (now() - start) / CALLS;
         if (taken < encoded) encoded = taken;
         start = now();
-        for (int n = 0; n < CALLS; n++) solve(k, r, matrix, data, lost, word);
+        for (int n = 0; n < CALLS; n++) solve(encode, k, r, matrix, data, lost, word);
         taken = (now() - start) / CALLS;
         if (taken < solved) solved = taken;
         start = now();

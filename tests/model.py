@@ -355,7 +355,9 @@ class World:
         return "whole %d" % sum(self.is_broken(s) for s in self.sets.values())
 
 
-def run(text):
+def run(text, watch=None):
+    """The answers of a script, and the world at its end. After each line watch(line number, words, reply, world, names)
+    is called, where it is given, with the handles by their names."""
     lines = text.rstrip("\n").split("\n")
     head = dict(w.split("=") for w in lines[0].split()[2:])
     w = World(*(int(head[f]) for f in ("k", "r", "nodes", "frames", "room", "handles")))
@@ -419,6 +421,8 @@ def run(text):
         out.append(" ".join(words + [reply]))
         if last[lane] == i:
             give_back(lane)
+        if watch:
+            watch(i + 2, words, reply, w, names)
     return "".join(line + "\n" for line in out), w
 
 

@@ -1,0 +1,195 @@
+# What the launcher says on standard error of a status but 0: which line is bad and what is wrong with it, what
+# failed, how the program is called. It is read in where a call ends so, by `finish`, with the status and the words;
+# $printed is what was printed at status 2, $why is why reading or writing failed, where that is known, and
+# `input_again` gives the input.
+
+# So many bytes of a text are quoted, whatever is in it.
+quoted_bytes=80
+
+# Reads bytes and gives them in printable characters, at most so many: a byte that has no such character is told by
+# its number, and \ by itself.
+printable() {
+    local byte shown next
+    shown=
+    for byte in $(head -c "$quoted_bytes" | od -An -v -tu1); do
+        case $byte in
+        9) next='\t' ;;
+        13) next='\r' ;;
+        *) if [ "$byte" -ge 32 ] && [ "$byte" -le 126 ]; then
+            printf -v next '\\%03o' "$byte"
+            printf -v next '%b' "$next"
+        else
+            printf -v next '\\x%02x' "$byte"
+        fi ;;
+        esac
+        [ $((${#shown} + ${#next})) -le "$quoted_bytes" ] || break
+        shown+=$next
+    done
+    printf '%s' "$shown"
+}
+
+# The line $1 of the input, without its line feed; of a long one, its begin. Bytes 0 are told as bytes 1.
+line_of() { input_again | LC_ALL=C sed -n "$1{p;q}" | head -c 4096 | tr '\000' '\001'; }
+
+# What a verb is followed by; nothing where there is no such verb.
+form_of() {
+    case $1 in
+    make) echo "NAME HEX" ;;
+    write) echo "NAME AT HEX" ;;
+    read | free | pin | peek | unpin | filter) echo "NAME" ;;
+    crash | join) echo "NODE" ;;
+    leave | evict | begin | ship | commit | abort | compact | pair | patch | merge | part | rebuild) echo "nothing" ;;
+    esac
+}
+
+# The bytes in a line that look like nothing and are of no script.
+stray_bytes() {
+    case $1 in
+    $'\xef\xbb\xbf'*) echo "the line begins with a byte order mark: save the script as plain ASCII" ;;
+    *$'\r') echo "the line ends with a carriage return: lines end with a line feed alone" ;;
+    *$'\t'*) echo "the line has a tab: words have exactly one space between them" ;;
+    *[![:print:]]*) echo "the line has a byte that is no letter, digit or sign of ASCII" ;;
+    \#* | //* | \;*) echo "the line is a comment, and a script has none" ;;
+    esac
+}
+
+is_number() { [[ $1 =~ ^(0|[1-9][0-9]{0,8})$ ]]; }
+
+setting_out_of_range() {
+    local word name value low high k=0 r=0 nodes=64
+    for word in $1; do
+        case $word in k=*) k=${word#k=} ;; r=*) r=${word#r=} ;; esac
+    done
+    for word in ${1#carbink 1 }; do
+        name=${word%%=*}
+        value=${word#*=}
+        case $name in
+        k) low=1 high=16 ;;
+        r) low=1 high=4 ;;
+        nodes) low=$((k + r)) high=64 ;;
+        frames | room) low=1 high=4096 ;;
+        handles) low=1 high=65536 ;;
+        turns) low=0 high=2500 ;;
+        *) continue ;;
+        esac
+        is_number "$value" || continue
+        if [ "$value" -lt "$low" ] || [ "$value" -gt "$high" ]; then
+            [ "$name" != nodes ] || low="$low (k + r)"
+            echo "$name=$value is out of its range, $low to $high"
+            return
+        fi
+    done
+    echo "a setting is out of its range"
+}
+
+wrong_header() {
+    local form="line 1 is carbink 1 k=N r=N nodes=N frames=N room=N handles=N turns=N"
+    if [ -z "$1" ]; then
+        echo "the header is missing: $form"
+    else
+        local stray
+        stray=$(stray_bytes "$1")
+        echo "${stray:+$stray; }$form, each N a number without leading zeros"
+    fi
+}
+
+wrong_shape() {
+    local stray lane verb rest form
+    stray=$(stray_bytes "$1")
+    read -r lane verb rest <<<"$1"
+    if [ -z "$1" ]; then
+        echo "the line is blank: each line behind the header is a request"
+    elif [ -n "$stray" ]; then
+        echo "$stray"
+    elif [[ $1 = ' '* || $1 = *' ' || $1 = *'  '* ]]; then
+        echo "words have exactly one space between them, and none stands before the first or behind the last"
+    elif [ -z "$verb" ]; then
+        echo "a line is a lane, a verb, and what the verb is about"
+    elif form=$(form_of "$verb") && [ -z "$form" ]; then
+        echo "'$(printf '%s' "$verb" | head -c 20 | printable)' is no verb; docs/FORMATS.md lists them"
+    else
+        echo "behind $verb stands $form, and no more"
+    fi
+}
+
+# What is wrong with the line $2 for the reason $1.
+reason_text() {
+    local lane verb name rest
+    read -r lane verb name rest <<<"$2"
+    case $1 in
+    1) echo "the input has more than 1,048,576 bytes" ;;
+    2) wrong_header "$2" ;;
+    3) setting_out_of_range "$2" ;;
+    4) echo "a script has at most 20,000 lines behind the header" ;;
+    5) wrong_shape "$2" ;;
+    6) echo "the lane, the first word, is a number 0 to 15, and no line of lane 0 stands behind one of another lane" ;;
+    7) echo "a name is 1 to 16 lower-case letters and digits" ;;
+    8) if [ "$verb" = make ]; then
+        echo "an earlier line made this name"
+    else
+        echo "no earlier line of this lane or of lane 0 made this name"
+    fi ;;
+    9) if [ "$verb" = write ]; then
+        echo "the place is a number up to 1,024"
+    else
+        echo "the node is a number below the nodes of the header"
+    fi ;;
+    10) echo "bytes are two lower-case hexadecimal digits each; - stands for none, in a write alone" ;;
+    11) echo "an object has at most 1,024 bytes" ;;
+    12) echo "steps are for scripts whose lanes take turns on one thread" ;;
+    13) echo "the program does not answer this verb yet" ;;
+    *) echo "docs/FORMATS.md has the reasons" ;;
+    esac
+}
+
+hint_at_2() {
+    local line text
+    [[ $printed =~ ^script\ line\ ([0-9]+)\ reason\ ([0-9]+)\ [a-z]+$ ]] || return
+    line=${BASH_REMATCH[1]}
+    local reason=${BASH_REMATCH[2]}
+    if [ "$line" = 0 ]; then
+        say "$(reason_text "$reason" '')"
+        return
+    fi
+    text=$(line_of "$line"; echo .)
+    text=${text%.}
+    text=${text%$'\n'}
+    say "line $line, '$(printf '%s' "$text" | printable)': $(reason_text "$reason" "$text")"
+}
+
+hint_at_1() {
+    if [ $# = 2 ] && takes_input "$1" && [ -f "$2" ]; then
+        say "the script is taken from standard input: carbink $1 < $(printf '%s' "$2" | printable)"
+    fi
+    [ -n "${usage_said-}" ] || usage
+}
+
+hint_at_3() {
+    if [ -z "$why" ] && [ -d /dev/stdin ]; then why="Is a directory"; fi
+    [ -n "$why" ] || [ -e /dev/stdin ] || why="it is closed"
+    say "reading standard input failed${why:+: $why}"
+}
+
+hint_at_4() {
+    say "writing to standard output failed${why:+: $why}; what was written is a front of the answer"
+}
+
+hint_at_5() {
+    local bound limits=
+    for bound in d v m; do
+        [ "$(ulimit -S -$bound)" = unlimited ] || limits+=", ulimit -$bound is $(ulimit -S -$bound) KiB"
+    done
+    say "there was not enough memory for the answer$limits"
+}
+
+hint_status=$1
+shift
+LC_ALL=C
+case $hint_status in
+1) hint_at_1 "$@" ;;
+2) hint_at_2 ;;
+3) hint_at_3 ;;
+4) hint_at_4 ;;
+5) hint_at_5 ;;
+esac
+set -- "$hint_status" "$@"
