@@ -4,6 +4,7 @@ use Rattle.std.specs.List.{AllByRecursion, cons_option}
 use Rattle.std.specs.Str.{bytes_eq}
 use Rattle.std.proofs.lemmas.List.Elements.{filter_map-append}
 use Rattle.std.proofs.lemmas.List.{map_push, take_more, length_push}
+use Rattle.cb_member.specs.declared.names.Loss.{Loss}
 use Rattle.cb_types.specs.declared.answer.Answer.{Answer}
 use Rattle.cb_types.specs.declared.config.Config.{Config}
 use Rattle.cb_types.specs.Config.{IsAccepted}
@@ -36,9 +37,10 @@ use Rattle.cb_world.specs.Empty.{empty_words, empty_far, empty_shown}
 use Rattle.cb_world.proofs.Empty.{empty_shows, empty_sound}
 use Rattle.cb_world.proofs.NowSame.{now_same}
 use Rattle.cb_world.proofs.Worlds.{empty_world_sound}
-use Rattle.cb_lanes.specs.Asked.{asked, HasLineReply}
+use Rattle.cb_lanes.specs.Asked.{answer_to, asked, HasLineReply}
 use Rattle.cb_lanes.specs.Held.{HoldsAnswers}
 use Rattle.cb_lanes.specs.GivingBack.{Rests, lines_of}
+use Rattle.cb_lanes.specs.LineAnswered.{LineAnswered}
 use Rattle.cb_lanes.specs.LineStep.{LineStep, ObjectStep, PeekStep, not_pinned, shown}
 use Rattle.cb_lanes.specs.LinesLeft.{AreLanes}
 use Rattle.cb_lanes.specs.Lost.{loss_of, losses_of}
@@ -46,11 +48,12 @@ use Rattle.cb_lanes.specs.Names.{Names, kept_number, handle_at, handle_in, numbe
 use Rattle.cb_lanes.specs.Scopes.{KeepScopes, ScopeSays, scope_of}
 use Rattle.cb_lanes.proofs.GivingBack.{unpin_stands, gives_all}
 use Rattle.cb_lanes.proofs.LineGoes.{read_goes, write_goes, free_goes, filter_goes, make_goes}
+use Rattle.cb_lanes.proofs.NamesKept.{name_within}
 use Rattle.cb_lanes.proofs.Pinning.{pin_goes, pin_settings, peek_goes, unpin_goes, leave_goes}
 use Rattle.cb_lanes.proofs.Scoping.{Scoped, line_scoped}
 use Rattle.cb_lanes.proofs.ScopesKept.{AreScopes, scopes_none, scopes_push, keep_push, Rested, rests, LeadsOn, leads_push, IsFresh, grown, apart_after, lines_own}
 use Rattle.cb_lanes.proofs.Silent.{unmade_line, evict_goes, begin_goes, ship_goes, commit_goes, abort_goes, rebuild_goes, crash_goes, join_goes}
-use Rattle.cb_lanes.proofs.Turning.{answer_to, Turning, around, Goes}
+use Rattle.cb_lanes.proofs.Turning.{Turning, around, Goes}
 
 -- The answers so far are the map's, the map is beside the world that they led to, the names are what
 -- these answers made of them, and each lane that has lines to come has the pins of its scope.
@@ -138,12 +141,6 @@ pub same_name : (answers : List Answer) (names : Names) (name : Option (List ℕ
     → handle_named answers name ≡ handle_at names name
 same_name answers names None kept = refl
 same_name answers names (Some q) kept = kept q
-
-name_within : (names : Names) (made : ℕ) (name : Option (List ℕ)) (h : ℕ)
-    → ((q : List ℕ) (k : ℕ) → kept_number names q ≡ Some k → k < made)
-    → handle_at names name ≡ Some h → h < made
-name_within names made None h within e = absurd cc
-name_within names made (Some q) h within e = within q h e
 
 -- an answer that found its name unmade is about no object that was made
 pub about_made : (answers : List Answer) (request : Request) (r : Reply) (h made : ℕ) → IsBuilt request
@@ -291,7 +288,7 @@ line_settings seat handle request w new r sound lt ready step =
     object_settings seat handle request w new r sound lt ready step
 
 -- what the lines after this one need
-pub along_push : (c : Config) (later : List ℕ) (answers : List Answer) (l : Line) (request : Request) (r : Reply)
+along_push : (c : Config) (later : List ℕ) (answers : List Answer) (l : Line) (request : Request) (r : Reply)
     (w new rested : WorldState) (names kept : Names) → Along c (l.lane.n ∷ later) answers w names
     → length answers < 20000 → l.lane.n < 64 → IsSoundWorld new → IsBuilt request → IsRequest c.nodes request
     → IsFresh (kept_number names) request
@@ -393,6 +390,16 @@ along_push c later answers l request r w new rested names kept along few lt then
     made = sym goes.follows.beside.made ∙ makes-push (calls_of answers) (called answers a)
         ∙ ap (λ (n : ℕ). n + made_by (event_of request r)) along.beside.made
 
+pub along_answered : (c : Config) (later : List ℕ) (answers all : List Answer) (l : Line) (w rested : WorldState)
+    (names kept : Names) → Along c (l.lane.n ∷ later) answers w names → length answers < 20000
+    → l.lane.n < 64 → IsBuilt l.request → IsRequest c.nodes l.request
+    → IsFresh (kept_number names) l.request
+    → LineAnswered l later w names answers rested kept all → Along c later all rested kept
+along_answered c later answers all l w rested names kept along few lt built is fresh done =
+    subst (λ (xs : List Answer). Along c later xs rested kept) (sym done.answer)
+    (along_push c later answers l l.request done.reply w done.between rested names kept along few lt done.sound
+    built is fresh done.step done.holds done.rests)
+
 -- the names of the next request have handles
 pub along_ready : (c : Config) (later : List ℕ) (answers : List Answer) (w : WorldState) (names : Names)
     → Along c later answers w names → AreReady w.desk.settings.handles names
@@ -441,19 +448,22 @@ along_holds c later answers w names along = record {
 }
 
 -- the lines that were answered
-pub lines_push : (lines : List Line) (i : ℕ) (answers : List Answer) (l : Line) (request : Request)
-    (r : Reply) → i < length lines → l ≡ get_or lines i l → map asked answers ≡ take i lines
-    → request ≡ l.request → map asked (answers ++ answer_to l request r ∷ []) ≡ take (i + 1) lines
-lines_push lines i answers l request r lt at so_far copied =
-    rw copied (map_push asked answers (answer_to l l.request r)
+pub lines_push : (lines : List Line) (i : ℕ) (answers all : List Answer) (l : Line) (r : Reply)
+    → i < length lines → l ≡ get_or lines i l → map asked answers ≡ take i lines
+    → all ≡ answers ++ answer_to l l.request r ∷ [] → map asked all ≡ take (i + 1) lines
+lines_push lines i answers all l r lt at so_far one =
+    ap (map asked) one ∙ map_push asked answers (answer_to l l.request r)
     ∙ ap (λ (ls : List Line). ls ++ l ∷ []) so_far
-    ∙ ap (λ (x : Line). take i lines ++ x ∷ []) at ∙ sym (take_more lines i l lt))
+    ∙ ap (λ (x : Line). take i lines ++ x ∷ []) at ∙ sym (take_more lines i l lt)
 
 -- the losses of one more answer
-pub losses_push : (answers : List Answer) (a : Answer)
-    → losses_of (answers ++ a ∷ []) ≡ losses_of answers ++ cons_option (loss_of a.request a.reply) []
-losses_push answers a =
-    filter_map-append (λ (b : Answer). loss_of b.request b.reply) answers (a ∷ [])
+pub losses_push : (answers all : List Answer) (a : Answer) (losses more : List Loss)
+    → losses ≡ losses_of answers → more ≡ losses ++ cons_option (loss_of a.request a.reply) []
+    → all ≡ answers ++ a ∷ [] → more ≡ losses_of all
+losses_push answers all a losses more so_far added one =
+    added ∙ ap (λ (xs : List Loss). xs ++ cons_option (loss_of a.request a.reply) []) so_far
+    ∙ sym (ap losses_of one
+    ∙ filter_map-append (λ (b : Answer). loss_of b.request b.reply) answers (a ∷ []))
 
 -- every line has a lane and a request of their forms
 pub line_form : (nodes : ℕ) (before lines : List Line) (i : ℕ) (l : Line) → AreLines nodes before lines

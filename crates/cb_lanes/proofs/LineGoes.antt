@@ -15,7 +15,8 @@ use Rattle.cb_world.specs.World.{WorldState}
 use Rattle.cb_mutate.specs.MapCalls.{IsMakeCall}
 use Rattle.cb_core.specs.Step.{TurnStep}
 use Rattle.cb_core.proofs.TurnCalls.{read_turn, write_turn, free_turn, make_turn, filter_turn}
-use Rattle.cb_lanes.proofs.Turning.{answer_to, Turning, Goes, call_goes, refused_goes}
+use Rattle.cb_lanes.specs.Asked.{answer_to}
+use Rattle.cb_lanes.proofs.Turning.{Turning, Goes, call_goes, refused_goes}
 
 -- ---- calls on objects
 

@@ -1,5 +1,5 @@
--- The names after a make.
-use Rattle.std.proofs.Common.{◌≡◌, ℕ, Bool, true, false, cond, List, Option, Some, refl, ap}
+-- The names that are kept.
+use Rattle.std.proofs.Common.{◌≡◌, ℕ, ◌<◌, Bool, true, false, cond, List, Option, Some, None, refl, ap}
 use Rattle.std.specs.Option.{option_map}
 use Rattle.std.specs.BTreeMap.{UpdatesBy}
 use Rattle.std.specs.Cmp.Lexicographic.{slice_cmp}
@@ -13,7 +13,7 @@ use Rattle.cb_types.specs.declared.reply.Reply.{Reply}
 use Rattle.cb_types.specs.declared.reply.Reply.TheVariants as reply
 use Rattle.cb_world.specs.World.{WorldState}
 use Rattle.cb_core.specs.Step.{TurnStep}
-use Rattle.cb_lanes.specs.Names.{Names, kept_handle, AreKept}
+use Rattle.cb_lanes.specs.Names.{Names, kept_handle, kept_number, handle_at, AreKept}
 
 mapped : (test : Bool) (here other : Option Handle) (found : Option Handle)
     → found ≡ cond test here other
@@ -39,3 +39,10 @@ pub refused_names : (w new : WorldState) (names : Names) (name bytes : List ℕ)
     → AreKept names (Make name bytes) r names
 refused_names w new names name bytes (reply.Made handle version) step never = absurd (never handle version refl)
 refused_names w new names name bytes r step never = λ q. refl
+
+-- the handle of a name is within the bound of all
+pub name_within : (names : Names) (made : ℕ) (name : Option (List ℕ)) (h : ℕ)
+    → ((q : List ℕ) (k : ℕ) → kept_number names q ≡ Some k → k < made)
+    → handle_at names name ≡ Some h → h < made
+name_within names made None h within e = absurd cc
+name_within names made (Some q) h within e = within q h e

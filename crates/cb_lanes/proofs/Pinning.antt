@@ -45,12 +45,12 @@ use Rattle.cb_core.proofs.TurnCalls.{swap_turn, turn_turns}
 use Rattle.cb_core.proofs.TurnCallsMap.{IsSameMap}
 use Rattle.cb_core.proofs.TurnCallsSound.{swap_sound}
 use Rattle.cb_core.proofs.TurnCallsSwap.{IsSwapRefusal, SwapEnds, refused as swap_refused, stays, swapped, refusal_line}
-use Rattle.cb_lanes.specs.Asked.{HasLineReply}
+use Rattle.cb_lanes.specs.Asked.{answer_to, HasLineReply}
 use Rattle.cb_lanes.specs.GivingBack.{GivesAll}
 use Rattle.cb_lanes.specs.LineStep.{PeekStep, not_pinned, shown, IsInReply, PinLine, at_once, stays_far, swapped_in}
 use Rattle.cb_lanes.proofs.GivingBack.{Stands, pin_stands, unpin_stands, stands_same, gives_all, pinned_here, pin_below}
 use Rattle.cb_lanes.proofs.Silent.{silent_follows}
-use Rattle.cb_lanes.proofs.Turning.{answer_to, Around, Turning, around, within, Goes, call_goes}
+use Rattle.cb_lanes.proofs.Turning.{Around, Turning, around, within, Goes, call_goes}
 
 -- a world that changed in pins alone goes on by what it answers
 step_goes : (answers : List Answer) (a : Answer) (w new : WorldState) (h : ℕ) → (c : Around answers w new)

@@ -29,8 +29,8 @@ use Rattle.cb_core.proofs.RunLegal.{kept_beside, lost_beside}
 use Rattle.cb_core.proofs.TurnCalls.{IsQuiet, evict_turn, begin_turn, ship_turn, commit_turn, abort_turn, rebuild_turn, crash_turn, join_turn}
 use Rattle.cb_core.proofs.TurnCallsKept.{known_same}
 use Rattle.cb_core.proofs.TurnCallsMap.{IsSameMap}
-use Rattle.cb_lanes.specs.Asked.{HasLineReply}
-use Rattle.cb_lanes.proofs.Turning.{answer_to, Around, Turning, Goes, goes_by}
+use Rattle.cb_lanes.specs.Asked.{answer_to, HasLineReply}
+use Rattle.cb_lanes.proofs.Turning.{Around, Turning, Goes, goes_by}
 
 change_none : (c : Called) (k : ℕ) → c.handle ≡ None → change_to k c ≡ []
 change_none c k about = ap (λ (o : Option ℕ). if is_about k o then change_of c.event else []) about

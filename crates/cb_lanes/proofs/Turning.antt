@@ -2,10 +2,8 @@
 use Rattle.std.proofs.Common.{◌≡◌, ℕ, ◌+◌, ◌^◌, ◌<◌, ◌≤◌, List, length, None, Some, refl, arith}
 use Rattle.cb_types.specs.declared.answer.Answer.{Answer}
 use Rattle.cb_types.specs.declared.job.Job.{Job}
-use Rattle.cb_types.specs.declared.request.Request.{Request}
 use Rattle.cb_types.specs.declared.reply.Reply.{Reply}
 use Rattle.cb_model.specs.Called.{handle_for, called, calls_of}
-use Rattle.cb_script.specs.declared.script.Line.{Line}
 use Rattle.cb_world.specs.declared.shown.Shown.{Shown}
 use Rattle.cb_world.specs.World.{WorldState, IsSoundWorld}
 use Rattle.cb_mutate.specs.MapCalls.{IsCallOn, IsRefusedMake}
@@ -14,10 +12,6 @@ use Rattle.cb_mutate.proofs.MapBeside.{Follows, call_follows, refused_follows}
 use Rattle.cb_core.specs.Step.{TurnStep}
 use Rattle.cb_core.proofs.TurnCalls.{turn_first, turn_turns}
 use Rattle.cb_lanes.specs.Asked.{HasLineReply}
-
--- the answer to a line
-abbrev pub answer_to : Line → Request → Reply → Answer
-answer_to l request reply = record { lane = l.lane; line = l.line; request = request; reply = reply }
 
 -- before a line and after it the world is sound, and the plain map is beside it before
 pub record Around (answers : List Answer) (w new : WorldState) : Type 0 where

@@ -1,5 +1,5 @@
 -- Worked examples: the losses of answers, the replies that lines may have, and the steps of lines.
-use Rattle.std.proofs.Common.{◌≡◌, ℕ, ◌+◌, [], ◌∷◌, Some, None, refl, ap, arith}
+use Rattle.std.proofs.Common.{◌≡◌, ℕ, ◌+◌, List, [], ◌∷◌, Option, Some, None, refl, sym, ap, ◌∙◌, subst, arith}
 use Rattle.cb_types.specs.declared.answer.Answer.{Answer}
 use Rattle.cb_types.specs.declared.config.Config.{Config}
 use Rattle.cb_types.specs.declared.job.Job.TheVariants as job
@@ -7,14 +7,17 @@ use Rattle.cb_types.specs.declared.request.Request.{Request}
 use Rattle.cb_types.specs.declared.request.Request.TheVariants.{Read, Write, Filter, Crash, Join, Evict, Begin, Ship, Commit, Abort}
 use Rattle.cb_types.specs.declared.reply.Reply.{Reply}
 use Rattle.cb_types.specs.declared.reply.Reply.TheVariants.{Bytes, Done, Batch, Shipped, NoBatch, Short, EpochAt, Down, Up, Range, Unmade, Freed}
-use Rattle.cb_world.specs.World.{WorldState, empty_world}
+use Rattle.cb_script.specs.declared.script.Line.{Line}
+use Rattle.cb_world.specs.World.{WorldState, IsSoundWorld, empty_world}
 use Rattle.cb_core.specs.Membership.{is_up}
 use Rattle.cb_core.specs.declared.event.Event.TheVariants.{Turn}
 use Rattle.cb_core.specs.Step.{Step, done}
 use Rattle.cb_core.specs.Turned.{counted}
 use Rattle.cb_lanes.specs.Asked.{HasLineReply}
-use Rattle.cb_lanes.specs.LineStep.{job_on, LineStep, LinesLead}
+use Rattle.cb_lanes.specs.LineStep.{job_on, LineStep, LinesLead, ObjectStep}
+use Rattle.cb_lanes.specs.LineAnswered.{LineAnswered}
 use Rattle.cb_lanes.specs.Lost.{loss_of, losses_of}
+use Rattle.cb_lanes.specs.Names.{Names, kept_number}
 
 abbrev answer : Request → Reply → Answer
 answer request reply = record { lane = record { n = 1 }; line = 2; request = request; reply = reply }
@@ -121,3 +124,55 @@ leads = (joined, joined, a_join, refl, refl)
 -- without lines the world stays
 no_line : LinesLead [] (empty_world small) [] joined → ⊥
 no_line is = omega (arith, ap (λ (v : WorldState). v.far.counts.turns) is)
+
+-- ---- a line that was answered
+
+abbrev reading : Line
+reading = record { lane = record { n = 1 }; line = 2; request = Read (97 ∷ []) }
+
+abbrev read_as : Reply → List Answer
+read_as reply = answer (Read (97 ∷ [])) reply ∷ []
+
+-- a name that has no handle, in a lane that has one more line
+module _ (w : WorldState) (names : Names) (none : kept_number names (97 ∷ []) ≡ None) where
+  is_unmade : (new : WorldState) (other : Names) (all : List Answer)
+      → (done : LineAnswered reading (1 ∷ []) w names [] new other all)
+      → (done.reply ≡ Unmade) × (new ≡ w) × (done.between ≡ w)
+  is_unmade new other all done =
+      let step = subst (λ (o : Option ℕ). ObjectStep 1 o (Read (97 ∷ [])) w done.reply done.between) none
+      done.step in (step.0, done.rests ∙ step.1, step.1)
+
+  is_answered : IsSoundWorld w → LineAnswered reading (1 ∷ []) w names [] w names (read_as Unmade)
+  is_answered sound = record {
+    reply = Unmade;
+    between = w;
+    step = subst (λ (o : Option ℕ). ObjectStep 1 o (Read (97 ∷ [])) w Unmade w) (sym none) (refl, refl);
+    sound = sound;
+    rests = refl;
+    holds = λ q. refl;
+    answer = refl;
+  }
+
+  answered_freed : LineAnswered reading (1 ∷ []) w names [] w names (read_as Freed) → ⊥
+  answered_freed done =
+      let is = (is_unmade w names (read_as Freed) done).0 in
+      let told = done.answer in absurd cc
+
+  not_answered : LineAnswered reading (1 ∷ []) w names [] w names [] → ⊥
+  not_answered done = let told = done.answer in absurd cc
+
+  in_an_unsound_world : (IsSoundWorld w → ⊥)
+      → LineAnswered reading (1 ∷ []) w names [] w names (read_as Unmade) → ⊥
+  in_an_unsound_world unsound done =
+      unsound (subst IsSoundWorld (is_unmade w names (read_as Unmade) done).2 done.sound)
+
+  in_another_world : (new : WorldState) → new.far.made ≡ w.far.made + 1
+      → LineAnswered reading (1 ∷ []) w names [] new names (read_as Unmade) → ⊥
+  in_another_world new more done =
+      let same = (is_unmade new names (read_as Unmade) done).1 in
+      omega (arith, more, ap (λ (v : WorldState). v.far.made) same)
+
+  with_another_name : (other : Names) → kept_number other (97 ∷ []) ≡ Some 4
+      → LineAnswered reading (1 ∷ []) w names [] w other (read_as Unmade) → ⊥
+  with_another_name other four done = absurd (let kept = done.holds (97 ∷ []) in
+      let both : Some 4 ≡ None = sym four ∙ kept ∙ none in cc)

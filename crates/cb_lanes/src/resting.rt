@@ -11,7 +11,7 @@ use cb_world::World;
 use std::alloc::Global;
 
 /// How many lanes there may be.
-const LANES: usize = 16;
+pub(crate) const LANES: usize = 16;
 
 /// Gives all pins of a seat back, the newest one first, and answers how many there were. Takes no
 /// memory, and at most 16 steps.

@@ -1,20 +1,23 @@
-ghost use Rattle.std.specs.Prelude.{◌≡◌, ℕ, [], ◌++◌, map, IfOk};
+ghost use Rattle.std.specs.Prelude.{◌≡◌, ◌<◌, ◌≤◌, ℕ, List, [], ◌∷◌, ◌++◌, map, slice_index, IfOk};
 ghost use Rattle.std.specs.List.{AllByRecursion, cons_option};
 ghost use Rattle.cb_model.specs.Legal.{IsLegalInOrder};
-ghost use Rattle.cb_script.specs.Form.{IsScript};
+ghost use Rattle.cb_script.specs.Form.{IsRequest, IsScript};
 ghost use Rattle.cb_script.specs.Unbuilt.{IsBuilt};
 ghost use Rattle.cb_world.specs.Seats.{pins_of_seat};
 ghost use Rattle.cb_world.specs.World.{IsSoundWorld, empty_world};
-ghost use Rattle.cb_lanes.specs.Asked.{asked, HasLineReply};
+ghost use Rattle.cb_lanes.specs.Asked.{answer_to, asked, HasLineReply};
 ghost use Rattle.cb_lanes.specs.Held.{HoldsAnswers};
+ghost use Rattle.cb_lanes.specs.LineAnswered.{LineAnswered};
 ghost use Rattle.cb_lanes.specs.LineStep.{LinesLead};
+ghost use Rattle.cb_lanes.specs.LinesLeft.{AreLeft};
 ghost use Rattle.cb_lanes.specs.Lost.{loss_of, losses_of};
+ghost use Rattle.cb_lanes.specs.Names.{AreReady};
 ghost use Rattle.cb_lanes.specs.Scopes.{KeepScopes};
 
 use crate::answering::reply_to;
-use crate::resting::{lines_by_lane, rest, take_line};
-use cb_script::Script;
-use cb_types::{Answer, Answers, Loss, Losses, NoMemory, Reply, Request};
+use crate::resting::{LANES, lines_by_lane, rest, take_line};
+use cb_script::{Line, Script};
+use cb_types::{Answer, Answers, Handle, Loss, Losses, NoMemory, Reply, Request};
 use cb_world::World;
 use std::alloc::Global;
 use std::collections::BTreeMap;
@@ -52,21 +55,69 @@ pub fn run_seq(alloc: Global, s: &Script) -> Result<SeqEnd, NoMemory>
     let mut losses = Vec::new(alloc);
     let mut left = lines_by_lane(s.lines.as_slice());
     for line in s.lines.as_slice() {
-        let seat = u32::from(line.lane.n);
-        let reply = reply_to(alloc, &mut world, &mut names, seat, &line.request)?;
-        rest(alloc, &mut world, seat, take_line(&mut left, line.lane.n))?;
-        note_loss(&mut losses, &line.request, &reply)?;
-        answers.push(Answer {
-            lane: line.lane,
-            line: line.line,
-            request: line.request.copy(alloc)?,
-            reply,
-        })?;
+        answer_line(
+            alloc,
+            &mut world,
+            &mut names,
+            &mut answers,
+            &mut losses,
+            &mut left,
+            line,
+        )?;
     }
     Ok(SeqEnd {
         answers,
         losses: Losses::from(losses),
         world,
+    })
+}
+
+/// Answers a line in the world, and gives its lane's pins back where it is the last one that the lane
+/// has left.
+fn answer_line<'a>(
+    alloc: Global,
+    world: &mut World,
+    names: &mut BTreeMap<&'a [u8], Handle>,
+    answers: &mut Answers,
+    losses: &mut Vec<Loss>,
+    left: &mut [u32; LANES],
+    line: &'a Line,
+) -> Result<(), NoMemory>
+    requires lane { line.now.lane.n < 16 }
+    requires some { 1 ≤ slice_index left.old line.now.lane.n }
+    requires built { IsBuilt line.now.request }
+    requires request { IsRequest world.old.desk.settings.nodes line.now.request }
+    requires ready { AreReady world.old.desk.settings.handles names.old }
+    requires sound { IsSoundWorld world.old }
+    ensures line { (later : List ℕ) → AreLeft (line.now.lane.n ∷ later) left.old → IfOk result (λ done. LineAnswered line.now later world.old names.old answers.old world.new names.new answers.new) }
+    ensures losses { losses.old.items ≡ losses_of answers.old → IfOk result (λ done. losses.new.items ≡ losses_of answers.new) }
+    ensures left { (later : List ℕ) → AreLeft (line.now.lane.n ∷ later) left.old → AreLeft later left.new }
+    ensures sound { IsSoundWorld world.new }
+{
+    let seat = u32::from(line.lane.n);
+    let behind = take_line(left, line.lane.n);
+    let reply = reply_to(alloc, world, names, seat, &line.request)?;
+    rest(alloc, world, seat, behind)?;
+    note_answer(alloc, answers, losses, line, reply)
+}
+
+/// Adds the answer of a line, and its loss, where it has one.
+fn note_answer(
+    alloc: Global,
+    answers: &mut Answers,
+    losses: &mut Vec<Loss>,
+    line: &Line,
+    reply: Reply,
+) -> Result<(), NoMemory>
+    ensures answer { IfOk result (λ done. answers.new ≡ answers.old ++ answer_to line.now line.now.request reply ∷ []) }
+    ensures losses { losses.old.items ≡ losses_of answers.old → IfOk result (λ done. losses.new.items ≡ losses_of answers.new) }
+{
+    note_loss(losses, &line.request, &reply)?;
+    answers.push(Answer {
+        lane: line.lane,
+        line: line.line,
+        request: line.request.copy(alloc)?,
+        reply,
     })
 }
 

@@ -1,24 +1,60 @@
-use Rattle.std.proofs.Common.{sym, ◌∙◌, subst}
+use Rattle.std.proofs.Common.{◌<◌, sym, ◌∙◌, subst}
 use Rattle.std.proofs.lemmas.Bool.{false≢true}
+use Rattle.cb_types.specs.declared.config.Config.{Config}
+use Rattle.cb_types.specs.declared.job.Job.TheVariants as job
 use Rattle.cb_types.specs.declared.reply.Reply.{Reply}
 use Rattle.cb_types.specs.declared.reply.Reply.TheVariants as answer
-use Rattle.cb_lanes.specs.LineStep.{PinEvent, stays_far, swapped_in}
+use Rattle.cb_core.specs.declared.event.Atomic.TheVariants as atomic
+use Rattle.cb_core.specs.declared.event.Event.TheVariants as event
+use Rattle.cb_core.proofs.Settings.{step_settings}
+use Rattle.cb_lanes.specs.LineStep.{PinEvent, at_once, stays_far, swapped_in}
 use Rattle.cb_lanes.proofs.Shown.{ok_then}
 use Rattle.cb_lanes.proofs.answering.pin.Goals as goal
 
-pub returns-then-is_in-clause-pin : goal.returns-then-is_in-clause-pin
-returns-then-is_in-clause-pin c =
-    let first : PinEvent c.args.seat c.args.handle.n c.args.world.now answer.NotHere c.step_of.new.world =
-    subst (λ (q : Reply). PinEvent c.args.seat c.args.handle.n c.args.world.now q c.step_of.new.world)
-    c.in-NotHere.is c.in_ok-reply.ensures.step in
-    ok_then c.step_of-then-is_in.result (λ r again. swapped_in c.step_of.new.world c.turn_of.new.world
-    c.in_ok-reply-in-NotHere.reply first c.in_ok-reply-in-NotHere.ensures.step
-    (c.is_in.ensures.0 c.if-is_in.true) again) c.step_of-then-is_in.ensures.step
+pub turn_of-requires-clause-job : goal.turn_of-requires-clause-job
+turn_of-requires-clause-job c = subst (λ (d : Config). c.args.handle.n < d.handles)
+    (sym (step_settings c.args.world.now c.step_of.new.world
+    (event.Step c.args.seat (atomic.Pin c.args.handle)) c.in_ok-reply.reply c.in_ok-reply.ensures.step))
+    c.requires.within
 
-pub returns-else-is_in-clause-pin : goal.returns-else-is_in-clause-pin
-returns-else-is_in-clause-pin c =
+pub turn_of-requires-clause-sound : goal.turn_of-requires-clause-sound
+turn_of-requires-clause-sound c = c.step_of.ensures.sound
+
+pub step_of-requires-then-is_in-clause-handle : goal.step_of-requires-then-is_in-clause-handle
+step_of-requires-then-is_in-clause-handle c = subst (λ (d : Config). c.args.handle.n < d.handles)
+    (sym (step_settings c.step_of.new.world c.turn_of.new.world
+    (event.Turn c.args.seat (job.Swap c.args.handle)) c.in_ok-reply-in-NotHere.reply
+    c.in_ok-reply-in-NotHere.ensures.step
+    ∙ step_settings c.args.world.now c.step_of.new.world
+    (event.Step c.args.seat (atomic.Pin c.args.handle)) c.in_ok-reply.reply c.in_ok-reply.ensures.step))
+    c.requires.within
+
+pub step_of-requires-then-is_in-clause-sound : goal.step_of-requires-then-is_in-clause-sound
+step_of-requires-then-is_in-clause-sound c = c.turn_of.ensures.sound
+
+pub returns-then-is_in : goal.returns-then-is_in
+returns-then-is_in c =
     let first : PinEvent c.args.seat c.args.handle.n c.args.world.now answer.NotHere c.step_of.new.world =
     subst (λ (q : Reply). PinEvent c.args.seat c.args.handle.n c.args.world.now q c.step_of.new.world)
-    c.in-NotHere.is c.in_ok-reply.ensures.step in
-    stays_far c.step_of.new.world first c.in_ok-reply-in-NotHere.ensures.step
-    (λ is. false≢true (sym c.if-is_in.false ∙ c.is_in.ensures.1 is))
+    c.in-NotHere.is c.in_ok-reply.ensures.step in record {
+      pin = ok_then c.step_of-then-is_in.result (λ r again. swapped_in c.step_of.new.world
+          c.turn_of.new.world c.in_ok-reply-in-NotHere.reply first c.in_ok-reply-in-NotHere.ensures.step
+          (c.is_in.ensures.0 c.if-is_in.true) again) c.step_of-then-is_in.ensures.step;
+      sound = c.step_of-then-is_in.ensures.sound;
+    }
+
+pub returns-else-is_in : goal.returns-else-is_in
+returns-else-is_in c =
+    let first : PinEvent c.args.seat c.args.handle.n c.args.world.now answer.NotHere c.step_of.new.world =
+    subst (λ (q : Reply). PinEvent c.args.seat c.args.handle.n c.args.world.now q c.step_of.new.world)
+    c.in-NotHere.is c.in_ok-reply.ensures.step in record {
+      pin = stays_far c.step_of.new.world first c.in_ok-reply-in-NotHere.ensures.step
+          (λ is. false≢true (sym c.if-is_in.false ∙ c.is_in.ensures.1 is));
+      sound = c.turn_of.ensures.sound;
+    }
+
+pub returns-in_default : goal.returns-in_default
+returns-in_default c = record {
+  pin = at_once c.in_ok-reply.ensures.step c.in_default.not-NotHere;
+  sound = c.step_of.ensures.sound;
+}
