@@ -1,12 +1,26 @@
 ghost use Rattle.cb_member.specs.Membership.{alive};
 ghost use Rattle.std.specs.Prelude.{◌≡◌, true, ℕ, ◌^◌, ◌-◌, ◌<◌, length, IfOk, OnErr};
+ghost use Rattle.cb_node.specs.NodesState.{held};
+ghost use Rattle.cb_world.specs.Survey.{survey_after_crash};
 ghost use Rattle.cb_core.specs.Membership.{CrashTurn, JoinTurn};
 
 use cb_member::MemberAnswer;
 use cb_types::{NoMemory, NodeId, Reply};
 use cb_world::{Far, Survey};
 
-/// A crash of a node: it is down, its rows are lost, and nothing more is known of how the sets stand.
+/// What is known of how the sets stand behind a crash of the node: where it held no row, no set had a
+/// shard there, and each stands as it did. Else nothing more is known.
+fn survey_after_crash(far: &Far, node: NodeId) -> Survey
+    requires node { node.n < length far.now.nodes.nodes }
+    ensures { result ≡ survey_after_crash far.now.survey (held far.now.nodes node) }
+{
+    if far.nodes.held(node) == 0 {
+        return far.survey;
+    }
+    Survey::new()
+}
+
+/// A crash of a node: it is down, and its rows are lost.
 /// Answers Down where it is down, and else the epoch that the crash began. Want of memory changes
 /// nothing, and is answered only where the node is up.
 pub(crate) fn crash(far: &mut Far, node: NodeId) -> Result<Reply, NoMemory>
@@ -17,10 +31,11 @@ pub(crate) fn crash(far: &mut Far, node: NodeId) -> Result<Reply, NoMemory>
     ensures error { OnErr result (far.new ≡ far.old) }
     ensures up { OnErr result (alive far.old.members node ≡ true) }
 {
+    let survey = survey_after_crash(far, node);
     match far.members.crash(node)? {
         MemberAnswer::Changed { epoch } => {
             far.nodes.wipe(node);
-            far.survey = Survey::new();
+            far.survey = survey;
             Ok(Reply::EpochAt { epoch })
         }
         MemberAnswer::Down { node } => Ok(Reply::Down { node }),

@@ -10,6 +10,7 @@ pub mod Storing
 pub mod Words
 pub mod Crash
 pub mod CrashNow
+pub mod CrashSurvey
 pub mod Added
 pub mod GivenUp
 pub mod SetChanging

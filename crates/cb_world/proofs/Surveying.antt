@@ -93,23 +93,30 @@ stands_rest m n was is set p left members before after = record {
       ∙ rest_broken m set p left ∙ sym (ap (broken_set m) before);
 }
 
--- the same set after a join of a node
-pub stands_joined : (m : Membership) (node : NodeId) (o : Option SetState)
-    → node.n < length m.nodes → StandsAlike m (with_join m node) o o
-stands_joined m node o within = record {
-  weak = λ set at weak. let e = ap (λ (l : List Loss). length l) (join_keeps_lost m node set.shards within) in
+-- the same set, of which as many shards are lost
+pub stands_as_many : (m n : Membership) (o : Option SetState)
+    → ((set : SetState) → o ≡ Some set → length (lost n set.shards) ≡ length (lost m set.shards))
+    → StandsAlike m n o o
+stands_as_many m n o many = record {
+  weak = λ set at weak. let e = many set at in
       let some = weak.some_lost in let few = weak.few_lost in (
         set,
         at,
         record { some_lost = omega (arith, some, e); few_lost = omega (arith, few, e) },
       );
-  broken = by o;
+  broken = by o many;
 }
   where
-    by : (o : Option SetState) → broken_set (with_join m node) o ≡ broken_set m o
-    by None = refl
-    by (Some set) = ap (λ (l : List Loss). nat_lt (parities set) (length l))
-        (join_keeps_lost m node set.shards within)
+    by : (o : Option SetState) → ((set : SetState) → o ≡ Some set
+        → length (lost n set.shards) ≡ length (lost m set.shards)) → broken_set n o ≡ broken_set m o
+    by None many = refl
+    by (Some set) many = ap (nat_lt (parities set)) (many set refl)
+
+-- the same set after a join of a node
+pub stands_joined : (m : Membership) (node : NodeId) (o : Option SetState)
+    → node.n < length m.nodes → StandsAlike m (with_join m node) o o
+stands_joined m node o within = stands_as_many m (with_join m node) o (λ set at.
+    ap (λ (l : List Loss). length l) (join_keeps_lost m node set.shards within))
 
 -- ---- the survey stays where each set that it speaks of stands as before
 pub survey_stays : (far new : FarState) → new.survey ≡ far.survey

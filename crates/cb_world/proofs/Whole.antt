@@ -21,6 +21,7 @@ use Rattle.cb_world.proofs.Added.{set_added}
 use Rattle.cb_world.proofs.GivenUp.{given_up}
 use Rattle.cb_world.specs.NodeChanges.{crashed_far}
 use Rattle.cb_world.proofs.Crash.{crash_keeps}
+use Rattle.cb_world.proofs.CrashSurvey.{crash_surveyed}
 use Rattle.cb_world.proofs.Joined.{crash_keeps_join}
 use Rattle.cb_world.proofs.Stepping.{step_keeps, step_keeps_join, part_keeps}
 use Rattle.cb_world.proofs.Beginning.{begin_keeps, begun_join}
@@ -30,7 +31,7 @@ use Rattle.cb_world.specs.Counts.{CountsState}
 use Rattle.cb_world.specs.Sets.{SetMap, if_committed, set_in}
 use Rattle.cb_world.specs.Survey.{survey_without}
 use Rattle.cb_world.specs.Surveyed.{IsSurvey}
-use Rattle.cb_world.proofs.Surveying.{StandsAlike, rest_broken, stands_gone, stands_rest, stands_still, stands_whole, survey_dropped, survey_same, survey_stays, unsurveyed}
+use Rattle.cb_world.proofs.Surveying.{StandsAlike, rest_broken, stands_gone, stands_rest, stands_still, stands_whole, survey_dropped, survey_same, survey_stays}
 
 pair_same : (x y : JoiningState) → Some x ≡ Some y → x ≡ y
 pair_same x y e = cc
@@ -57,7 +58,7 @@ pub crash_whole : (s : Shown) (far : FarState) (node : NodeId) → FarSound s fa
 crash_whole s far node x within up valid = record {
   sound = crash_keeps s far node x.sound within up valid;
   join = λ pair at. crash_keeps_join s far node pair x.sound within up (x.join pair at);
-  survey = unsurveyed (crashed_far far node);
+  survey = crash_surveyed s far node x.sound within up x.survey;
 }
 
 pub added_whole : (s t : Shown) (far new : FarState) (id : ℕ) (set : SetState)

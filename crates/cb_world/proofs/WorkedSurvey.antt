@@ -5,7 +5,7 @@ use Rattle.std.specs.FinMap as map
 use Rattle.cb_member.specs.declared.names.NodeId.{NodeId}
 use Rattle.cb_member.specs.declared.names.Shard.{Shard}
 use Rattle.cb_member.specs.Membership.{Membership, NodeState, with_crash, with_join}
-use Rattle.cb_node.specs.NodesState.{NodesState, empty_nodes, with_rows, with_dropped as with_row_dropped}
+use Rattle.cb_node.specs.NodesState.{NodesState, empty_nodes, held, with_row, with_rows, with_dropped as with_row_dropped}
 use Rattle.cb_set.specs.SetState.{SetState, PositionState, dead_position, filled_position, set_of}
 use Rattle.cb_world.specs.declared.survey.Survey.{Survey}
 use Rattle.cb_world.specs.FarState.{FarState}
@@ -13,7 +13,7 @@ use Rattle.cb_world.specs.LeftOver.{survey_left, with_dropped, with_left}
 use Rattle.cb_world.specs.NodeChanges.{crashed_far, joined_far}
 use Rattle.cb_world.specs.Sets.{Kept, SetMap, set_in}
 use Rattle.cb_world.specs.SetWord.{IsWeak}
-use Rattle.cb_world.specs.Survey.{no_survey, survey_without}
+use Rattle.cb_world.specs.Survey.{no_survey, survey_after_crash, survey_without}
 use Rattle.cb_world.specs.Surveyed.{IsSurvey, gone_below}
 use Rattle.cb_world.proofs.Apart.{some_same}
 use Rattle.cb_world.proofs.WorkedWorld.{far}
@@ -224,15 +224,40 @@ dropped_whole : (with_dropped counted 0 whole).survey ≡ survey 2 1
 dropped_whole = refl
 
 -- ---- a crash and a join
-crash_forgets : crashed_far surveyed (node 3) ≡ record surveyed {
-  nodes = with_rows surveyed.nodes (node 3) map.empty;
-  members = with_crash members (node 3);
-  survey = no_survey;
+-- what is known behind a crash of a node that held no row, and of one that held some
+keeps_behind_none : survey_after_crash (survey 3 2) 0 ≡ survey 3 2
+keeps_behind_none = refl
+
+forgets_behind_one : survey_after_crash (survey 3 2) 1 ≡ no_survey
+forgets_behind_one = refl
+
+-- node 3 holds a row
+abbrev with_a_row : FarState
+with_a_row = record surveyed { nodes = with_row (empty_nodes 4 1) (node 3) 9 (1 ∷ []) }
+
+one_row : held with_a_row.nodes (node 3) ≡ 1
+one_row = grind (arith, map.gets)
+
+no_row : held with_a_row.nodes (node 2) ≡ 0
+no_row = grind (arith, map.gets)
+
+abbrev crashed_with : NodeId → Survey → FarState
+crashed_with n known = record with_a_row {
+  nodes = with_rows with_a_row.nodes n map.empty;
+  members = with_crash members n;
+  survey = known;
 }
-crash_forgets = refl
+
+crash_forgets : crashed_far with_a_row (node 3) ≡ crashed_with (node 3) no_survey
+crash_forgets =
+    ap (λ (n : ℕ). crashed_with (node 3) (survey_after_crash with_a_row.survey n)) one_row
+
+crash_without_rows_keeps : crashed_far with_a_row (node 2) ≡ crashed_with (node 2) (survey 2 1)
+crash_without_rows_keeps =
+    ap (λ (n : ℕ). crashed_with (node 2) (survey_after_crash with_a_row.survey n)) no_row
 
 -- the first set is weak then
-not_after_the_crash : ¬ (IsSurvey (crashed_far surveyed (node 3)) surveyed.survey)
+not_after_the_crash : ¬ (IsSurvey (crashed_far with_a_row (node 3)) surveyed.survey)
 not_after_the_crash x = x.none 0 whole (lit< tt) (first_of whole gone weak)
     (record { some_lost = lit≤ tt; few_lost = lit≤ tt })
 

@@ -2,17 +2,17 @@
 use Rattle.std.specs.FinMap as map
 use Rattle.cb_member.specs.declared.names.NodeId.{NodeId}
 use Rattle.cb_member.specs.Membership.{with_crash, with_join}
-use Rattle.cb_node.specs.NodesState.{with_rows}
+use Rattle.cb_node.specs.NodesState.{held, with_rows}
 use Rattle.cb_world.specs.FarState.{FarState}
-use Rattle.cb_world.specs.Survey.{no_survey}
+use Rattle.cb_world.specs.Survey.{survey_after_crash}
 
--- the node is down, and has no row; nothing more is known of how the sets stand
+-- the node is down, and has no row; where it had one, nothing more is known of how the sets stand
 abbrev pub crashed_far : FarState → NodeId → FarState
 crashed_far far node =
     record far {
       nodes = with_rows far.nodes node map.empty;
       members = with_crash far.members node;
-      survey = no_survey;
+      survey = survey_after_crash far.survey (held far.nodes node);
     }
 
 -- the node is up again

@@ -1,9 +1,10 @@
 ghost use Rattle.std.specs.Prelude.{◌≡◌};
 ghost use Rattle.cb_world.specs.Survey.{no_survey, survey_without};
 
-/// What is known since the last crash of how the committed sets stand: none with a number below
-/// `below` is weak, and `gone` of them have lost more shards than they have parities. A rebuild goes
-/// on from here, so that it looks at no set twice between two crashes but at the one that it mends.
+/// What is known since the last crash that lost a row of how the committed sets stand: none with a
+/// number below `below` is weak, and `gone` of them have lost more shards than they have parities. A
+/// rebuild goes on from here, so that it looks at no set twice between two such crashes but at the one
+/// that it mends.
 #[derive(Clone, Copy, Debug, PartialEq, Eq)]
 pub struct Survey {
     pub below: u64,
