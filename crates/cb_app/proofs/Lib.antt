@@ -1,9 +1,5 @@
-pub mod Streams
-pub mod CommandWords
-pub mod LaneCounts
-pub mod Refusals
-pub mod Statuses
-pub mod WorkedRuns
+pub mod Modes
+pub mod Runs
+pub mod Tops
 pub mod WorkedCommands
 pub mod WorkedAnswered
-mod OneWord

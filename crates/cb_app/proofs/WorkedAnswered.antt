@@ -20,10 +20,13 @@ use Rattle.cb_lanes.specs.Lost.{losses_of}
 use Rattle.cb_world.specs.Seats.{pins_of_seat}
 use Rattle.cb_world.specs.World.{WorldState, IsSoundWorld, empty_world}
 use Rattle.cb_app.specs.declared.ending.Ending.{Ending}
-use Rattle.cb_app.specs.declared.words.Command.{Command}
-use Rattle.cb_app.specs.declared.words.Command.TheVariants.{Seq, Check}
-use Rattle.cb_app.specs.Outcome.{IsTaken, IsAnswered, Yields, IsDone, TellsScript}
-use Rattle.cb_app.proofs.WorkedCommands.{seq_named, no_word}
+use Rattle.cb_cli.specs.Taken.{IsTaken}
+use Rattle.cb_cli.specs.declared.words.Command.{Command}
+use Rattle.cb_cli.specs.declared.words.Command.TheVariants.{Seq, Check}
+use Rattle.cb_cli.proofs.WorkedWords.{seq_named, no_word}
+use Rattle.cb_app.specs.Modes.{Yields}
+use Rattle.cb_app.specs.Outcome.{IsDone, TellsScript}
+use Rattle.cb_app.specs.Scripts.{IsAnswered}
 
 -- ---- the answers
 
@@ -52,9 +55,8 @@ record IsLeft (world : WorldState) : Type 0 where
   holds : HoldsAnswers world answers
   idle : (seat : ℕ) → pins_of_seat world.seats seat ≡ []
 
-answered : (world : WorldState) → IsLeft world → IsAnswered input script (ending_of world answers)
+answered : (world : WorldState) → IsLeft world → IsAnswered script (ending_of world answers)
 answered world there = record {
-  spelled = spelled;
   config = refl;
   lines = refl;
   legal = legal;
@@ -69,7 +71,7 @@ answered world there = record {
   idle = there.idle;
 }
 
-no_world : (end : Ending) → end.world ≡ None → IsAnswered input script end → ⊥
+no_world : (end : Ending) → end.world ≡ None → IsAnswered script end → ⊥
 no_world end none is = absurd (let e : None ≡ Some is.world = sym none ∙ is.left in cc)
 
 -- without lines the world is the empty one
@@ -78,16 +80,11 @@ no_turn_counted : (world : WorldState) → LinesLead [] (empty_world small) [] w
 no_turn_counted world leads one =
     omega (arith, sym one ∙ ap (λ (w : WorldState). w.far.counts.turns) leads)
 
--- another script is spelled
-another_script : (world : WorldState)
-    → IsAnswered input (record { config = small; lines = [] }) (ending_of world []) → ⊥
-another_script world is = absurd (let e = is.spelled.text in cc)
-
-no_config : (world : WorldState) → IsAnswered input script
+no_config : (world : WorldState) → IsAnswered script
     (record { config = None; answers = answers; losses = []; world = Some world }) → ⊥
 no_config world is = absurd (let e : None ≡ Some small = is.config in cc)
 
-a_line_left_out : (world : WorldState) → IsAnswered input script (ending_of world (made ∷ [])) → ⊥
+a_line_left_out : (world : WorldState) → IsAnswered script (ending_of world (made ∷ [])) → ⊥
 a_line_left_out world is = absurd (omega (arith, ap (λ (lines : List Line). length lines) is.lines))
 
 -- the read is numbered as the make is
@@ -95,22 +92,22 @@ abbrev first_number : List Line → ℕ
 first_number [] = 0
 first_number (l ∷ lines) = l.line
 
-another_number : (world : WorldState) → IsAnswered input script (ending_of world (answer 3 make_a (replies.Made (record { n = 0 }) 1) ∷ answer 3 read_a (replies.Bytes 1 (10 ∷ 11 ∷ [])) ∷ []))
+another_number : (world : WorldState) → IsAnswered script (ending_of world (answer 3 make_a (replies.Made (record { n = 0 }) 1) ∷ answer 3 read_a (replies.Bytes 1 (10 ∷ 11 ∷ [])) ∷ []))
     → ⊥
 another_number world is = absurd (let e : 3 ≡ 2 = ap first_number is.lines in omega (arith, e))
 
-other_bytes : (world : WorldState) → IsAnswered input script (ending_of world (made ∷ answer 3 read_a (replies.Bytes 1 (10 ∷ 12 ∷ [])) ∷ []))
+other_bytes : (world : WorldState) → IsAnswered script (ending_of world (made ∷ answer 3 read_a (replies.Bytes 1 (10 ∷ 12 ∷ [])) ∷ []))
     → ⊥
 other_bytes world is = absurd (let e = is.legal.in_order.1.0.reply in cc)
 
 -- no read is answered that a node is down
-another_refusal : (world : WorldState) → IsAnswered input script
+another_refusal : (world : WorldState) → IsAnswered script
     (ending_of world (made ∷ answer 3 read_a (replies.Down (record { n = 0 })) ∷ [])) → ⊥
 another_refusal world is = is.replies.1.0
 
 -- no crash took place, and one is told
 a_loss : (end : Ending) → losses_of end.answers ≡ [] → length end.losses ≡ 1
-    → IsAnswered input script end → ⊥
+    → IsAnswered script end → ⊥
 a_loss end none one is = omega (arith, sym one ∙ ap length (is.losses ∙ none))
 
 -- ---- the text, and the run
@@ -121,54 +118,58 @@ text = codes "1 make a v1\n1 read a v1 0a0b\n"
 pub text_is : text_of answers ≡ text
 text_is = made_and_read_text
 
-yielded : (world : WorldState) → IsLeft world → Yields Seq input script (ending_of world answers) text
-yielded world there = (answered world there, sym text_is)
+yielded : (old : Ending) (world : WorldState) → IsLeft world → Yields Seq input old (ending_of world answers) text
+yielded old world there = (script, spelled, answered world there, sym text_is)
 
 -- a line feed is left out
-no_line_feed : (world : WorldState) → Yields Seq input script (ending_of world answers) (codes "1 make a v1\n1 read a v1 0a0b") → ⊥
-no_line_feed world is = differ (codes "1 make a v1\n1 read a v1 0a0b") text (is.1 ∙ text_is) refl
+no_line_feed : (old : Ending) (world : WorldState) → Yields Seq input old (ending_of world answers) (codes "1 make a v1\n1 read a v1 0a0b") → ⊥
+no_line_feed old world is = differ (codes "1 make a v1\n1 read a v1 0a0b") text (is.3 ∙ text_is) refl
 
 all_taken : IsTaken (Some input) (Some []) input
-all_taken = record { front = refl; whole = inl refl }
+all_taken = record { front = refl; few = omega arith; whole = inl refl }
 
-done : (w : String Global) (world : WorldState) → IsLeft world → string_bytes w ≡ codes "seq"
-    → IsDone (w ∷ []) (Some input) (Some []) (ending_of world answers) text
-done w world there is = record {
+done : (w : String Global) (old : Ending) (world : WorldState) → IsLeft world
+    → string_bytes w ≡ codes "seq"
+    → IsDone (w ∷ []) (Some input) (Some []) old (ending_of world answers) text
+done w old world there is = record {
   command = Seq;
   words_are = seq_named w is;
-  yields = (input, script, all_taken, yielded world there);
+  bytes = input;
+  taken = all_taken;
+  yields = yielded old world there;
 }
 
 -- the sink held a byte before, and has the text behind it
-tells : (w : String Global) (world : WorldState) → IsLeft world → string_bytes w ≡ codes "seq"
-    → TellsScript (w ∷ []) (Some input) (Some []) (Some (7 ∷ [])) (Some (7 ∷ text))
+tells : (w : String Global) (old : Ending) (world : WorldState) → IsLeft world
+    → string_bytes w ≡ codes "seq"
+    → TellsScript (w ∷ []) (Some input) (Some []) (Some (7 ∷ [])) (Some (7 ∷ text)) old
     (ending_of world answers)
-tells w world there is = (text, done w world there is, refl)
+tells w old world there is = (text, done w old world there is, refl)
 
-tells_without_words : (world : WorldState)
-    → TellsScript [] (Some input) (Some []) (Some []) (Some text) (ending_of world answers) → ⊥
-tells_without_words world (due, is, put) = no_word is.command is.words_are
+tells_without_words : (old : Ending) (world : WorldState)
+    → TellsScript [] (Some input) (Some []) (Some []) (Some text) old (ending_of world answers) → ⊥
+tells_without_words old world (due, is, put) = no_word is.command is.words_are
 
 -- nothing is put
-not_empty : (world : WorldState) (command : Command) (bytes : List ℕ) (s : Script) (due : List ℕ)
-    → Yields command bytes s (ending_of world answers) due
+not_empty : (old : Ending) (world : WorldState) (command : Command) (bytes due : List ℕ)
+    → Yields command bytes old (ending_of world answers) due
     → due ≡ [] → ⊥
-not_empty world Seq bytes s due is none = differ text [] (sym text_is ∙ sym is.1 ∙ none) refl
-not_empty world Check bytes s due is none = absurd (let e : answers ≡ [] = is.0.no_answers in cc)
+not_empty old world Seq bytes due is none = differ text [] (sym text_is ∙ sym is.3 ∙ none) refl
+not_empty old world Check bytes due is none = absurd (let e : answers ≡ [] = is.2.no_answers in cc)
 
-tells_nothing : (words : List (String Global)) (world : WorldState)
-    → TellsScript words (Some input) (Some []) (Some []) (Some []) (ending_of world answers) → ⊥
-tells_nothing words world (due, told, put) =
-    not_empty world told.command told.yields.0 told.yields.1 due told.yields.3 (sym put)
+tells_nothing : (words : List (String Global)) (old : Ending) (world : WorldState)
+    → TellsScript words (Some input) (Some []) (Some []) (Some []) old (ending_of world answers) → ⊥
+tells_nothing words old world (due, told, put) =
+    not_empty old world told.command told.bytes due told.yields (sym put)
 
 -- no lane has a pin, and a leave is told of one
-a_pin_too_many : (bytes : List ℕ) (other : Script) (world : WorldState)
-    → IsAnswered bytes other (ending_of world (answer 2 Leave (replies.Left 1) ∷ [])) → ⊥
-a_pin_too_many bytes other world is = absurd (let e : replies.Left 1 ≡ replies.Left 0 = is.scopes.0 in cc)
+a_pin_too_many : (other : Script) (world : WorldState)
+    → IsAnswered other (ending_of world (answer 2 Leave (replies.Left 1) ∷ [])) → ⊥
+a_pin_too_many other world is = absurd (let e : replies.Left 1 ≡ replies.Left 0 = is.scopes.0 in cc)
 
 -- a lane has a pin at the end
 a_pin_is_left : (world : WorldState) → length (pins_of_seat world.seats 1) ≡ 1
-    → IsAnswered input script (ending_of world answers) → ⊥
+    → IsAnswered script (ending_of world answers) → ⊥
 a_pin_is_left world one is =
     let same : world ≡ is.world = let e : Some world ≡ Some is.world = is.left in cc in
     omega (arith, one, ap (λ (w : WorldState). length (pins_of_seat w.seats 1)) same, ap length (is.idle 1))

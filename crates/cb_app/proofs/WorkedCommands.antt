@@ -1,86 +1,36 @@
--- Worked examples: which words name a command, how lanes are counted, and what `check` yields.
-use Rattle.std.proofs.Common.{◌≡◌, ℕ, List, [], ◌∷◌, length, Some, None, refl, sym, ap, ◌∙◌, arith, inl, String, Global}
+-- Worked examples: what `check` yields, what `seq` refuses, and runs of both.
+use Rattle.std.proofs.Common.{◌≡◌, ℕ, List, [], ◌∷◌, length, Some, None, Ok, Err, refl, sym, ap, ◌∙◌, arith, inl, inr, String, Global}
 use Rattle.std.specs.Prelude.{codes, string_bytes}
 use Rattle.std.specs.Fmt.{digits}
 use Rattle.cb_types.specs.Config.{IsAccepted}
 use Rattle.cb_types.specs.declared.answer.Answer.{Answer}
 use Rattle.cb_types.specs.declared.config.Config.{Config}
 use Rattle.cb_types.specs.declared.config.Field.TheVariants.{K, R, Nodes, Frames, Room, Handles, Turns}
-use Rattle.cb_types.specs.declared.request.Request.{Request}
 use Rattle.cb_types.specs.declared.request.Request.TheVariants.{Compact, Leave}
 use Rattle.cb_script.specs.declared.fault.Reason.{Reason}
 use Rattle.cb_script.specs.declared.fault.Reason.TheVariants.{Unbuilt}
-use Rattle.cb_script.specs.declared.script.Line.{Line}
 use Rattle.cb_script.specs.declared.script.Mode.TheVariants as modes
 use Rattle.cb_script.specs.declared.script.Script.{Script}
 use Rattle.cb_script.specs.Form.{Spells}
 use Rattle.cb_script.specs.Spelling.{header_line}
 use Rattle.cb_script.specs.Unbuilt.{IsFirstUnbuilt}
-use Rattle.cb_script.proofs.OneReading.{spells_no_fault}
+use Rattle.cb_script.proofs.OneReading.{spells_no_fault, script_unique}
 use Rattle.cb_script.proofs.Phrases.{differ}
+use Rattle.cb_cli.specs.Taken.{IsTaken}
+use Rattle.cb_cli.specs.Texts.{check_text, fault_text}
+use Rattle.cb_cli.specs.declared.outcome.Due.TheVariants as dues
+use Rattle.cb_cli.specs.declared.outcome.Failure.TheVariants.{Read}
+use Rattle.cb_cli.specs.declared.words.Command.TheVariants.{Seq, Check}
+use Rattle.cb_cli.proofs.WorkedTexts.{lane_line}
+use Rattle.cb_cli.proofs.WorkedWords.{seq_named, check_named, no_word}
+use Rattle.cb_app.specs.declared.commands.Verdict.TheVariants.{Done, Refused}
 use Rattle.cb_app.specs.declared.ending.Ending.{Ending}
-use Rattle.cb_app.specs.declared.words.Command.TheVariants.{Seq, Check}
-use Rattle.cb_app.specs.Lanes.{lane_count}
-use Rattle.cb_app.specs.Outcome.{IsChecked, Yields, Accepts, IsTaken, IsDone, AreWordsRefused, IsRefusal, IsScriptRefused}
-use Rattle.cb_app.specs.Outcome.IsRefusal.{NoScript, NotBuilt}
-use Rattle.cb_app.specs.Texts.{check_text}
-use Rattle.cb_app.specs.Words.{Name, NameNone}
+use Rattle.cb_app.specs.Modes.{Yields, Refuses, Accepts, IsVerdict}
+use Rattle.cb_app.specs.Outcome.{IsDone, AreWordsRefused, IsScriptRefused, IsDecided, RoseOnRead, RoseOnWrite}
+use Rattle.cb_app.specs.Scripts.{IsChecked, IsUnanswered}
+use Rattle.cb_app.specs.Scripts.IsUnanswered.{NoScript, NotBuilt}
+use Rattle.cb_app.proofs.Modes.{not_both}
 use Rattle.cb_world.specs.World.{WorldState}
-
--- ---- the words
-
-pub seq_named : (w : String Global) → string_bytes w ≡ codes "seq" → Name (w ∷ []) Seq
-seq_named w is = ap (λ (b : List ℕ). b ∷ []) is
-
-check_named : (w : String Global) → string_bytes w ≡ codes "check" → Name (w ∷ []) Check
-check_named w is = ap (λ (b : List ℕ). b ∷ []) is
-
--- no word, a second word, and a word of neither command name none
-pub no_word : NameNone []
-no_word command is = absurd cc
-
-second_word : (v w : String Global) → NameNone (v ∷ w ∷ [])
-second_word v w command is = absurd cc
-
-another_word : (w : String Global) (text : List ℕ) → string_bytes w ≡ text
-    → (text ≡ codes "seq" → ⊥) → (text ≡ codes "check" → ⊥) → NameNone (w ∷ [])
-another_word w text is seq check Seq named =
-    let same : string_bytes w ≡ codes "seq" = (let e : string_bytes w ∷ [] ≡ codes "seq" ∷ [] = named in cc) in
-    seq (sym is ∙ same)
-another_word w text is seq check Check named =
-    let same : string_bytes w ≡ codes "check" = (let e : string_bytes w ∷ [] ≡ codes "check" ∷ [] = named in cc) in
-    check (sym is ∙ same)
-
-two_dashes : (w : String Global) → string_bytes w ≡ codes "--" → NameNone (w ∷ [])
-two_dashes w is = another_word w (codes "--") is (λ e. differ (codes "--") (codes "seq") e refl) (λ e. differ (codes "--") (codes "check") e refl)
-
-not_yet_threads : (w : String Global) → string_bytes w ≡ codes "threads" → NameNone (w ∷ [])
-not_yet_threads w is = another_word w (codes "threads") is (λ e. differ (codes "threads") (codes "seq") e refl) (λ e. differ (codes "threads") (codes "check") e refl)
-
-not_yet_gen : (w : String Global) → string_bytes w ≡ codes "gen" → NameNone (w ∷ [])
-not_yet_gen w is = another_word w (codes "gen") is (λ e. differ (codes "gen") (codes "seq") e refl) (λ e. differ (codes "gen") (codes "check") e refl)
-
-longer_word : (w : String Global) → string_bytes w ≡ codes "checks" → NameNone (w ∷ [])
-longer_word w is = another_word w (codes "checks") is (λ e. differ (codes "checks") (codes "seq") e refl) (λ e. differ (codes "checks") (codes "check") e refl)
-
--- ---- lanes
-
-abbrev lane_line : ℕ → ℕ → Request → Line
-lane_line lane line r = record { lane = record { n = lane }; line = line; request = r }
-
-no_lane : lane_count [] ≡ 0
-no_lane = refl
-
--- a lane that stands twice counts once, also where others stand between
-lane_twice : lane_count (lane_line 1 2 Compact ∷ lane_line 1 3 Leave ∷ []) ≡ 1
-lane_twice = refl
-
-lanes_in_turn : lane_count (lane_line 1 2 Compact ∷ lane_line 2 3 Compact ∷ lane_line 1 4 Compact ∷ lane_line 2 5 Compact ∷ []) ≡ 2
-lanes_in_turn = refl
-
--- lane 0 counts
-first_and_last : lane_count (lane_line 0 2 Compact ∷ lane_line 15 3 Compact ∷ lane_line 15 4 Compact ∷ []) ≡ 2
-first_and_last = refl
 
 -- ---- a script of two lines, whose first verb is not built
 
@@ -126,51 +76,95 @@ text_of_it = refl
 abbrev ending : Ending
 ending = record { config = Some small; answers = []; losses = []; world = None }
 
-checked : IsChecked input script ending
-checked = record { spelled = spelled; config = refl; no_answers = refl; no_losses = refl; no_world = refl }
+checked : IsChecked script ending
+checked = record { config = refl; no_answers = refl; no_losses = refl; no_world = refl }
 
--- another script is spelled
-another_script : IsChecked input (record { config = small; lines = [] }) ending → ⊥
-another_script is = absurd (let e = is.spelled.text in cc)
-
-no_config : IsChecked input script (record { config = None; answers = []; losses = []; world = None }) → ⊥
+no_config : IsChecked script (record { config = None; answers = []; losses = []; world = None }) → ⊥
 no_config is = absurd (let e : None ≡ Some small = is.config in cc)
 
-an_answer : (a : Answer) → IsChecked input script (record { config = Some small; answers = a ∷ []; losses = []; world = None }) → ⊥
+an_answer : (a : Answer) → IsChecked script (record { config = Some small; answers = a ∷ []; losses = []; world = None }) → ⊥
 an_answer a is = absurd (let e : a ∷ [] ≡ [] = is.no_answers in cc)
 
-a_loss : (end : Ending) → length end.losses ≡ 1 → IsChecked input script end → ⊥
+a_loss : (end : Ending) → length end.losses ≡ 1 → IsChecked script end → ⊥
 a_loss end one is = omega (arith, sym one ∙ ap length is.no_losses)
 
-yielded : Yields Check input script ending (codes "script ok lines 2 lanes 1\n")
-yielded = (checked, sym text_of_it)
+-- a world is left
+a_world : (end : Ending) → (w : WorldState) → end.world ≡ Some w → IsChecked script end → ⊥
+a_world end w there is = absurd (let both : None ≡ Some w = sym is.no_world ∙ there in cc)
+
+-- ---- what the commands do
+
+yielded : (old : Ending) → Yields Check input old ending (codes "script ok lines 2 lanes 1\n")
+yielded old = (script, spelled, checked, sym text_of_it)
 
 -- the header is counted
-header_counted : Yields Check input script ending (codes "script ok lines 3 lanes 1\n") → ⊥
-header_counted is = differ (codes "script ok lines 3 lanes 1\n") (codes "script ok lines 2 lanes 1\n") (is.1 ∙ text_of_it) refl
+header_counted : (old : Ending)
+    → Yields Check input old ending (codes "script ok lines 3 lanes 1\n") → ⊥
+header_counted old is =
+    let same : is.0 ≡ script = script_unique input modes.Seq is.0 script is.1 spelled in
+    differ (codes "script ok lines 3 lanes 1\n") (codes "script ok lines 2 lanes 1\n") (is.3 ∙ ap check_text same ∙ text_of_it) refl
+
+-- another script is spelled
+another_script : Spells input modes.Seq (record { config = small; lines = [] }) → ⊥
+another_script is = absurd (let e = is.text in cc)
 
 -- `seq` wants its lines answered
-nothing_answered : Yields Seq input script ending (codes "script ok lines 2 lanes 1\n") → ⊥
-nothing_answered is = absurd (let e = is.0.lines in cc)
+nothing_answered : (old : Ending) (text : List ℕ) → Yields Seq input old ending text → ⊥
+nothing_answered old text is =
+    let same : is.0 ≡ script = script_unique input modes.Seq is.0 script is.1 spelled in
+    absurd (let e = rw same at is.2.lines in cc)
+
+check_accepts : Accepts Check input
+check_accepts = (script, spelled)
+
+first_line : IsFirstUnbuilt script.lines 2
+first_line = record { before = []; here = lane_line 3 2 Compact; after = lane_line 3 3 Leave ∷ []; are = refl; built = tt; unbuilt = λ no. no; number_is = refl }
+
+-- `seq` refuses the script at line 2, and `check` nowhere
+seq_refuses : Refuses Seq input (codes "script line 2 reason 13 unbuilt\n")
+unfolding digits
+seq_refuses = (2, Unbuilt, NotBuilt script spelled first_line refl, refl)
+
+another_line : (text : List ℕ) → text ≡ codes "script line 3 reason 13 unbuilt\n"
+    → text ≡ fault_text 2 Unbuilt → ⊥
+unfolding digits
+another_line text is told =
+    differ (codes "script line 3 reason 13 unbuilt\n") (codes "script line 2 reason 13 unbuilt\n") (sym is ∙ told) refl
+
+check_refuses_not : (text : List ℕ) → Refuses Check input text → ⊥
+check_refuses_not text is = not_both Check input text check_accepts is
 
 -- a verb that is not built is accepted by `check` alone
-check_accepts : Accepts Check script.lines
-check_accepts = tt
+seq_accepts_not : Accepts Seq input → ⊥
+seq_accepts_not is = not_both Seq input (codes "script line 2 reason 13 unbuilt\n") is seq_refuses
 
-seq_accepts_not : Accepts Seq script.lines → ⊥
-seq_accepts_not is = is.0
+-- what is done with leaves its ending, and what is refused the one before
+verdict_of_check : (old : Ending) → IsVerdict Check input old ending (Done (codes "script ok lines 2 lanes 1\n"))
+verdict_of_check old = (check_accepts, yielded old)
+
+verdict_of_seq : (old : Ending) → IsVerdict Seq input old old (Refused (codes "script line 2 reason 13 unbuilt\n"))
+verdict_of_seq old = (seq_refuses, refl)
+
+seq_is_not_done : (old new : Ending) (text : List ℕ) → IsVerdict Seq input old new (Done text) → ⊥
+seq_is_not_done old new text is = seq_accepts_not is.0
+
+ending_left : (text : List ℕ)
+    → IsVerdict Seq input (record { config = None; answers = []; losses = []; world = None }) ending (Refused text) → ⊥
+ending_left text is =
+    absurd (let e : Some small ≡ None = ap (λ (end : Ending). end.config) is.1 in cc)
 
 -- ---- the run
 
 all_taken : IsTaken (Some input) (Some []) input
-all_taken = record { front = refl; whole = inl refl }
+all_taken = record { front = refl; few = omega arith; whole = inl refl }
 
-done : (w : String Global) → string_bytes w ≡ codes "check"
-    → IsDone (w ∷ []) (Some input) (Some []) ending (codes "script ok lines 2 lanes 1\n")
-done w is = record { command = Check; words_are = check_named w is; yields = (input, script, all_taken, yielded) }
+done : (w : String Global) (old : Ending) → string_bytes w ≡ codes "check"
+    → IsDone (w ∷ []) (Some input) (Some []) old ending (codes "script ok lines 2 lanes 1\n")
+done w old is = record { command = Check; words_are = check_named w is; bytes = input; taken = all_taken; yields = yielded old }
 
-done_without_words : IsDone [] (Some input) (Some []) ending (codes "script ok lines 2 lanes 1\n") → ⊥
-done_without_words is = no_word is.command is.words_are
+done_without_words : (old : Ending)
+    → IsDone [] (Some input) (Some []) old ending (codes "script ok lines 2 lanes 1\n") → ⊥
+done_without_words old is = no_word is.command is.words_are
 
 words_refused : AreWordsRefused [] (Some input) (Some input)
 words_refused = record { words_are_not = no_word; nothing_taken = refl }
@@ -182,24 +176,47 @@ named_words w is refused = refused.words_are_not Check (check_named w is)
 input_taken : AreWordsRefused [] (Some (1 ∷ [])) (Some []) → ⊥
 input_taken refused = absurd (let e : Some [] ≡ Some (1 ∷ []) = refused.nothing_taken in cc)
 
-first_line : IsFirstUnbuilt script.lines 2
-first_line = record { before = []; here = lane_line 3 2 Compact; after = lane_line 3 3 Leave ∷ []; are = refl; built = tt; unbuilt = λ no. no; number_is = refl }
-
--- `seq` refuses the script at line 2, and `check` nowhere
-seq_refuses : IsRefusal Seq input 2 Unbuilt
-seq_refuses = NotBuilt refl script spelled first_line refl
-
-check_refuses_not : (line : ℕ) (reason : Reason) → IsRefusal Check input line reason → ⊥
-check_refuses_not line reason (NoScript fault) = spells_no_fault input modes.Seq script line reason spelled fault
-check_refuses_not line reason (NotBuilt seq s p first is) = absurd (let e : Check ≡ Seq = seq in cc)
-
 refused_by_seq : (w : String Global) → string_bytes w ≡ codes "seq"
-    → IsScriptRefused (w ∷ []) (Some input) (Some []) 2 Unbuilt
-refused_by_seq w is = record { command = Seq; words_are = seq_named w is; refused = (input, all_taken, seq_refuses) }
+    → IsScriptRefused (w ∷ []) (Some input) (Some []) (codes "script line 2 reason 13 unbuilt\n")
+refused_by_seq w is = record { command = Seq; words_are = seq_named w is; bytes = input; taken = all_taken; refused = seq_refuses }
 
-refused_without_words : IsScriptRefused [] (Some input) (Some []) 2 Unbuilt → ⊥
-refused_without_words is = no_word is.command is.words_are
+refused_without_words : (text : List ℕ) → IsScriptRefused [] (Some input) (Some []) text → ⊥
+refused_without_words text is = no_word is.command is.words_are
 
--- a world is left
-a_world : (end : Ending) → (w : WorldState) → end.world ≡ Some w → IsChecked input script end → ⊥
-a_world end w there is = absurd (let both : None ≡ Some w = sym is.no_world ∙ there in cc)
+-- ---- what is decided
+
+decided : IsDecided Check (Some input) (Ok dues.Done)
+decided = record {
+  accepted = λ all told accepts. inl refl;
+  refused = λ all text told refuses.
+      let same : input ≡ all = (let e : Some input ≡ Some all = told in cc) in
+      absurd (check_refuses_not text (rw (← same) at refuses));
+}
+
+-- what is accepted is refused
+accepted_and_refused : IsDecided Check (Some input) (Ok dues.ScriptRefused) → ⊥
+accepted_and_refused is = elim (is.accepted input refl check_accepts) [
+  | inl e ↦ absurd cc
+  | inr e ↦ e
+]
+
+-- what is refused is done with
+refused_and_done : IsDecided Seq (Some input) (Ok dues.Done) → ⊥
+refused_and_done is = elim (is.refused input (codes "script line 2 reason 13 unbuilt\n") refl seq_refuses) [
+  | inl e ↦ absurd cc
+  | inr e ↦ e
+]
+
+-- a count of faults rises where reading or writing failed, and there alone
+read_fault : RoseOnRead (Err Read) 1 2
+read_fault = inl (omega arith)
+
+no_fault_after_all : RoseOnRead (Err Read) 1 1 → ⊥
+no_fault_after_all (inl e) = omega (arith, e)
+no_fault_after_all (inr e) = omega (arith, e.1)
+
+fault_of_writing : RoseOnRead (Ok dues.Done) 1 2 → ⊥
+fault_of_writing e = omega (arith, e)
+
+written : RoseOnWrite (Err Read) 1 2 → ⊥
+written e = omega (arith, e)

@@ -1,6 +1,3 @@
-pub mod Words
-pub mod Lanes
-pub mod Texts
+pub mod Scripts
+pub mod Modes
 pub mod Outcome
-pub mod Failing
-pub mod Status

@@ -1,128 +1,100 @@
 -- What a run took, what it leaves, and the text that is due. Each is a fact about the words, the
--- bytes taken, the ending and the text alone.
-use Rattle.std.specs.Prelude.{◌≡◌, ℕ, ◌<◌, ◌⊎◌, List, [], length, take, map, Option, None, Some, String}
-use Rattle.std.specs.List.{AllByRecursion}
-use Rattle.std.specs.Io.KnownBytes.{Appends, Consumes, IsAtEnd}
+-- bytes taken, the endings before and after, and the text alone.
+use Rattle.std.specs.Prelude.{◌≡◌, ℕ, ◌⊎◌, List, Option, Some, String, Result, Ok, Err, IsErr}
+use Rattle.std.specs.Io.KnownBytes.{Appends}
 use Rattle.std.specs.declared.alloc.Global.{Global}
-use Rattle.cb_script.specs.declared.script.Script.{Script}
-use Rattle.cb_script.specs.declared.script.Mode.TheVariants.{Seq}
-use Rattle.cb_script.specs.declared.fault.Reason.{Reason}
-use Rattle.cb_script.specs.declared.fault.Reason.TheVariants.{Unbuilt}
-use Rattle.cb_script.specs.First.{First}
-use Rattle.cb_script.specs.declared.script.Line.{Line}
-use Rattle.cb_script.specs.Unbuilt.{IsBuilt, IsFirstUnbuilt}
-use Rattle.cb_script.specs.Form.{Spells}
-use Rattle.cb_model.specs.Legal.{IsLegalInOrder}
-use Rattle.cb_text.specs.Line.{text_of}
+use Rattle.cb_types.specs.Faults.{Rose}
+use Rattle.cb_cli.specs.declared.outcome.Due.{Due}
+use Rattle.cb_cli.specs.declared.outcome.Due.TheVariants.{Done, WordsRefused, ScriptRefused}
+use Rattle.cb_cli.specs.declared.outcome.Failure.{Failure}
+use Rattle.cb_cli.specs.declared.outcome.Failure.TheVariants.{Read, Write, NoMemory}
+use Rattle.cb_cli.specs.declared.words.Command.{Command}
+use Rattle.cb_cli.specs.Words.{Name, NameNone}
+use Rattle.cb_cli.specs.Taken.{IsTaken, taken_of}
+use Rattle.cb_cli.specs.Fronts.{GetsFront}
+use Rattle.cb_cli.specs.Texts.{words_refused}
 use Rattle.cb_app.specs.declared.ending.Ending.{Ending}
-use Rattle.cb_lanes.specs.Asked.{asked, HasLineReply}
-use Rattle.cb_lanes.specs.Held.{HoldsAnswers}
-use Rattle.cb_lanes.specs.LineStep.{LinesLead}
-use Rattle.cb_lanes.specs.Lost.{losses_of}
-use Rattle.cb_lanes.specs.Scopes.{KeepScopes}
-use Rattle.cb_world.specs.Seats.{pins_of_seat}
-use Rattle.cb_world.specs.World.{WorldState, IsSoundWorld, empty_world}
-use Rattle.cb_app.specs.Texts.{words_refused, fault_text, check_text}
-use Rattle.cb_app.specs.declared.words.Command.{Command}
-use Rattle.cb_app.specs.declared.words.Command.TheVariants as commands
-use Rattle.cb_app.specs.Words.{Name, NameNone}
+use Rattle.cb_app.specs.Modes.{Yields, Refuses, Accepts}
 
--- The bytes that were taken, all there were or as many as may be taken. The two options are what the
--- source had and has left, where it tells.
-pub record IsTaken (before after : Option (List ℕ)) (bytes : List ℕ) : Type 0 where
-  pub front : Consumes before after bytes
-  pub whole : IsAtEnd after ⊎ (length bytes ≡ 1048577)
-
--- The ending of a script that was answered.
-pub record IsAnswered (bytes : List ℕ) (script : Script) (end : Ending) : Type 0 where
-  -- the bytes taken spell the script
-  pub spelled : Spells bytes Seq script
-  pub config : end.config ≡ Some script.config
-  -- one answer a line, in order, each with the line's lane, number and request
-  pub lines : map asked end.answers ≡ script.lines
-  -- the answers are legal, each of them the plain map's after all before it
-  pub legal : IsLegalInOrder 1 script.config.handles end.answers
-  -- each of them is one that its line may have
-  pub replies : AllByRecursion HasLineReply end.answers
-  -- by these answers the lines lead from the empty world to the one that is left
-  pub world : WorldState
-  pub left : end.world ≡ Some world
-  pub leads : LinesLead [] (empty_world script.config) end.answers world
-  -- which is sound, and holds at each handle what the plain map has
-  pub sound : IsSoundWorld world
-  pub holds : HoldsAnswers world end.answers
-  -- the crashes that took place
-  pub losses : end.losses ≡ losses_of end.answers
-  -- each answer is as its lane's pins say, and at the end no lane has one
-  pub scopes : KeepScopes [] end.answers
-  pub idle : (seat : ℕ) → pins_of_seat world.seats seat ≡ []
-
--- The ending of a script that was checked: its configuration, and nothing else.
-pub record IsChecked (bytes : List ℕ) (script : Script) (end : Ending) : Type 0 where
-  -- the bytes taken spell the script
-  pub spelled : Spells bytes Seq script
-  pub config : end.config ≡ Some script.config
-  pub no_answers : end.answers ≡ []
-  pub no_losses : end.losses ≡ []
-  pub no_world : end.world ≡ None
-
--- the ending and the text that a command yields for a script
-abbrev pub Yields : Command → List ℕ → Script → Ending → List ℕ → Type 0
-Yields commands.Seq bytes script end text = IsAnswered bytes script end × (text ≡ text_of end.answers)
-Yields commands.Check bytes script end text = IsChecked bytes script end × (text ≡ check_text script)
-
--- a script of these lines is accepted: `seq` wants verbs that are built, and `check` any
-abbrev pub Accepts : Command → List Line → Type 0
-Accepts commands.Seq lines = AllByRecursion (λ l. IsBuilt l.request) lines
-Accepts commands.Check lines = Unit {0}
-
--- The words name a command, and this is what it yields for the script that was taken.
-pub record IsDone (words : List (String Global)) (before after : Option (List ℕ)) (end : Ending) (text : List ℕ) : Type 0 where
+-- The words name a command, and this is what it yields for the bytes that were taken.
+pub record IsDone (words : List (String Global)) (before after : Option (List ℕ)) (old new : Ending) (text : List ℕ) : Type 0 where
   pub command : Command
   pub words_are : Name words command
-  pub yields : (bytes : List ℕ) × (script : Script)
-      × IsTaken before after bytes × Yields command bytes script end text
+  pub bytes : List ℕ
+  pub taken : IsTaken before after bytes
+  pub yields : Yields command bytes old new text
 
 -- The words name no command, and nothing was taken.
 pub record AreWordsRefused (words : List (String Global)) (before after : Option (List ℕ)) : Type 0 where
   pub words_are_not : NameNone words
   pub nothing_taken : after ≡ before
 
--- Why a command refuses bytes: they have a first fault, or a line of a script that `seq` is to answer
--- has a verb that is not built yet.
-pub data IsRefusal (command : Command) (bytes : List ℕ) (line : ℕ) (reason : Reason) : Type 0 where
-  NoScript : First bytes Seq line reason → IsRefusal command bytes line reason
-  NotBuilt : command ≡ commands.Seq → (script : Script) → Spells bytes Seq script
-      → IsFirstUnbuilt script.lines line → reason ≡ Unbuilt → IsRefusal command bytes line reason
-
--- The words name a command, and it refuses the bytes taken at this line, for this reason.
-pub record IsScriptRefused (words : List (String Global)) (before after : Option (List ℕ)) (line : ℕ) (reason : Reason) : Type 0 where
+-- The words name a command, and it refuses the bytes that were taken, by this text.
+pub record IsScriptRefused (words : List (String Global)) (before after : Option (List ℕ)) (text : List ℕ) : Type 0 where
   pub command : Command
   pub words_are : Name words command
-  pub refused : (bytes : List ℕ) × IsTaken before after bytes × IsRefusal command bytes line reason
+  pub bytes : List ℕ
+  pub taken : IsTaken before after bytes
+  pub refused : Refuses command bytes text
 
 -- The text that is due, and the ending with it. `old` and `new` are the ending before and after.
 pub data IsDue (words : List (String Global)) (before after : Option (List ℕ)) (old new : Ending) (text : List ℕ) : Type 0 where
-  WhereDone : IsDone words before after new text → IsDue words before after old new text
+  WhereDone : IsDone words before after old new text → IsDue words before after old new text
   WhereWordsRefused : AreWordsRefused words before after → new ≡ old → text ≡ words_refused
       → IsDue words before after old new text
-  WhereScriptRefused : (line : ℕ) (reason : Reason) → IsScriptRefused words before after line reason
-      → new ≡ old → text ≡ fault_text line reason → IsDue words before after old new text
-
--- A sink got a front of the text, and not all of it.
-abbrev pub GetsFront : Option (List ℕ) → Option (List ℕ) → List ℕ → Type 0
-GetsFront before after text = (n : ℕ) × (n < length text) × Appends before after (take n text)
+  WhereScriptRefused : IsScriptRefused words before after text → new ≡ old
+      → IsDue words before after old new text
 
 -- The bytes taken are refused, and the text that tells it is put.
 abbrev pub RefusesScript : List (String Global)
     → (before after held_before held_after : Option (List ℕ))
     → Type 0
 RefusesScript words before after held_before held_after =
-    (line : ℕ) × (reason : Reason) × IsScriptRefused words before after line reason
-    × Appends held_before held_after (fault_text line reason)
+    (text : List ℕ) × IsScriptRefused words before after text × Appends held_before held_after text
 
--- The script is done with, and the text that is due is put.
+-- The bytes taken are done with, and the text that is due is put.
 abbrev pub TellsScript : List (String Global) → (before after held_before held_after : Option (List ℕ))
-    → Ending → Type 0
-TellsScript words before after held_before held_after end =
-    (text : List ℕ) × IsDone words before after end text × Appends held_before held_after text
+    → (old new : Ending)
+    → Type 0
+TellsScript words before after held_before held_after old new =
+    (text : List ℕ) × IsDone words before after old new text × Appends held_before held_after text
+
+-- what was due was cut short
+abbrev pub IsCut : List (String Global) → (before after held_before held_after : Option (List ℕ))
+    → (old new : Ending)
+    → Type 0
+IsCut words before after held_before held_after old new =
+    (text : List ℕ) × IsDue words before after old new text × GetsFront held_before held_after text
+
+-- What holds of a run that ends so: what it took and put, and the ending that it leaves.
+abbrev pub Ends : List (String Global) → (before after held_before held_after : Option (List ℕ))
+    → (old new : Ending) → Result Due Failure
+    → Type 0
+Ends words before after held_before held_after old new (Ok Done) =
+    TellsScript words before after held_before held_after old new
+Ends words before after held_before held_after old new (Ok WordsRefused) =
+    AreWordsRefused words before after × Appends held_before held_after words_refused × (new ≡ old)
+Ends words before after held_before held_after old new (Ok ScriptRefused) =
+    RefusesScript words before after held_before held_after × (new ≡ old)
+Ends words before after held_before held_after old new (Err Read) = new ≡ old
+Ends words before after held_before held_after old new (Err Write) =
+    IsCut words before after held_before held_after old new
+Ends words before after held_before held_after old new (Err NoMemory) = new ≡ old
+
+-- the count of faults of reading rose exactly where the run failed so
+abbrev pub RoseOnRead : Result Due Failure → (before after : ℕ) → Type 0
+RoseOnRead (Err Read) before after = Rose before after
+RoseOnRead _ before after = after ≡ before
+
+-- and so for writing
+abbrev pub RoseOnWrite : Result Due Failure → (before after : ℕ) → Type 0
+RoseOnWrite (Err Write) before after = Rose before after
+RoseOnWrite _ before after = after ≡ before
+
+-- Of an input that the source tells, what the command accepts is done with, and what it refuses is
+-- refused, unless the run fails.
+pub record IsDecided (command : Command) (before : Option (List ℕ)) (outcome : Result Due Failure) : Type 0 where
+  pub accepted : (all : List ℕ) → before ≡ Some all → Accepts command (taken_of all)
+      → (outcome ≡ Ok Done) ⊎ IsErr outcome
+  pub refused : (all text : List ℕ) → before ≡ Some all → Refuses command (taken_of all) text
+      → (outcome ≡ Ok ScriptRefused) ⊎ IsErr outcome

@@ -1,74 +1,119 @@
-ghost use Rattle.std.specs.Prelude.{◌≡◌, IfOk, IfErr};
+ghost use Rattle.std.specs.Prelude.{◌≡◌, ℕ, IfOk, OnErr};
 ghost use Rattle.std.specs.List.{AllByRecursion};
-ghost use Rattle.cb_script.specs.declared.script.Script.{Script};
-ghost use Rattle.cb_script.specs.declared.script.Mode.TheVariants.{Seq};
-ghost use Rattle.cb_script.specs.Form.{Spells};
-ghost use Rattle.cb_script.specs.First.{First};
-ghost use Rattle.cb_script.specs.Reading.{FaultIs};
-ghost use Rattle.cb_app.specs.Outcome.{IsAnswered, IsChecked, IsRefusal, Yields, Accepts};
-ghost use Rattle.cb_app.specs.Texts.{check_text};
+ghost use Rattle.cb_script.specs.declared.fault.Reason.{Reason};
+ghost use Rattle.cb_script.specs.Form.{IsScript};
+ghost use Rattle.cb_script.specs.Unbuilt.{IsBuilt};
+ghost use Rattle.cb_cli.specs.Texts.{fault_text, check_text};
+ghost use Rattle.cb_cli.specs.declared.words.Command.TheVariants as commands;
 ghost use Rattle.cb_text.specs.Line.{text_of};
-ghost use Rattle.cb_app.specs.declared.words.Command.TheVariants as commands;
+ghost use Rattle.cb_app.specs.Modes.{IsVerdict};
+ghost use Rattle.cb_app.specs.Scripts.{IsAnswered, IsChecked};
 
 use crate::ending::Ending;
-use crate::texts::{answers_text, script_ok_text};
-use crate::words::Command;
+use cb_cli::{Command, answers_text, script_fault_text, script_ok_text};
 use cb_lanes::run_seq;
-use cb_script::{Mode, Reason, ScriptFault, first_unbuilt, read_script};
-use cb_types::Bytes;
+use cb_script::{Mode, Reason, Script, ScriptFault, first_unbuilt, read_script};
+use cb_types::{Answers, Bytes, Losses, NoMemory};
 use std::alloc::Global;
 
-/// The ending and the text that a command makes of the bytes of a script.
-pub fn obey(alloc: Global, command: Command, bytes: &[u8]) -> Result<(Ending, Bytes), ScriptFault>
-    ensures yields { IfOk result (λ due. (script : Script)
-        × Yields command bytes.now script due.0 due.1) }
-    ensures refused { IfErr result (λ e. FaultIs e (IsRefusal command bytes.now)) }
-    ensures complete { (script : Script) → Spells bytes.now Seq script
-        → Accepts command script.lines → IfErr result (λ e. e ≡ ScriptFault.NoMemory) }
+/// What a command makes of the bytes that were taken.
+#[derive(Drop)]
+pub enum Verdict {
+    /// They are done with, and this text is due.
+    Done(Bytes),
+    /// They are refused, and this text tells where and why.
+    Refused(Bytes),
+}
+
+/// What a command makes of bytes. The ending is set where they are done with, and else it stays.
+pub fn obey(
+    alloc: Global,
+    command: Command,
+    bytes: &[u8],
+    end: &mut Ending,
+) -> Result<Verdict, NoMemory>
+    ensures verdict { IfOk result (IsVerdict command bytes.now end.old end.new) }
+    ensures kept { OnErr result (end.new ≡ end.old) }
 {
     match command {
-        Command::Seq => answer_bytes(alloc, bytes),
-        Command::Check => check_bytes(alloc, bytes),
+        Command::Seq => answer_bytes(alloc, bytes, end),
+        Command::Check => check_bytes(alloc, bytes, end),
     }
 }
 
-/// The ending and the text that are due for the bytes of a script that is answered.
-fn answer_bytes(alloc: Global, bytes: &[u8]) -> Result<(Ending, Bytes), ScriptFault>
-    ensures answered { IfOk result (λ due. (script : Script) × IsAnswered bytes.now script due.0
-        × (due.1 ≡ text_of due.0.answers)) }
-    ensures refused { IfErr result (λ e. FaultIs e (IsRefusal commands.Seq bytes.now)) }
-    ensures complete { (script : Script) → Spells bytes.now Seq script
-        → Accepts commands.Seq script.lines → IfErr result (λ e. e ≡ ScriptFault.NoMemory) }
+/// What `seq` makes of bytes.
+fn answer_bytes(alloc: Global, bytes: &[u8], end: &mut Ending) -> Result<Verdict, NoMemory>
+    ensures verdict { IfOk result (IsVerdict commands.Seq bytes.now end.old end.new) }
+    ensures kept { OnErr result (end.new ≡ end.old) }
 {
-    let script = read_script(alloc, bytes, Mode::Seq)?;
-    if let Some(line) = first_unbuilt(&script) {
-        return Err(ScriptFault::Bad {
-            line,
-            reason: Reason::Unbuilt,
-        });
+    match read_script(alloc, bytes, Mode::Seq) {
+        Ok(script) => match first_unbuilt(&script) {
+            Some(line) => {
+                let reason = Reason::Unbuilt;
+                refusal(alloc, ScriptFault::Bad { line, reason })
+            }
+            None => Ok(Verdict::Done(answer_script(alloc, &script, end)?)),
+        },
+        Err(fault) => refusal(alloc, fault),
     }
-    let end = run_seq(alloc, &script)?;
-    let text = answers_text(alloc, &end.answers)?;
-    let ending = Ending {
+}
+
+/// The text of the answers to a script. The answers and what they led to are left in the ending.
+fn answer_script(alloc: Global, script: &Script, end: &mut Ending) -> Result<Bytes, NoMemory>
+    requires script { IsScript script.now }
+    requires built { AllByRecursion (λ l. IsBuilt l.request) script.now.lines }
+    ensures answered { IfOk result (λ text. IsAnswered script.now end.new
+        × (text ≡ text_of end.new.answers)) }
+    ensures kept { OnErr result (end.new ≡ end.old) }
+{
+    let told = run_seq(alloc, script)?;
+    let text = answers_text(alloc, &told.answers)?;
+    *end = Ending {
         config: Some(script.config),
-        answers: end.answers,
-        losses: end.losses,
-        world: Some(end.world),
+        answers: told.answers,
+        losses: told.losses,
+        world: Some(told.world),
     };
-    Ok((ending, text))
+    Ok(text)
 }
 
-/// The ending and the text that are due for the bytes of a script that is checked.
-fn check_bytes(alloc: Global, bytes: &[u8]) -> Result<(Ending, Bytes), ScriptFault>
-    ensures checked { IfOk result (λ due. (script : Script) × IsChecked bytes.now script due.0
-        × (due.1 ≡ check_text script)) }
-    ensures refused { IfErr result (λ e. FaultIs e (IsRefusal commands.Check bytes.now)) }
-    ensures complete { (script : Script) → Spells bytes.now Seq script
-        → IfErr result (λ e. e ≡ ScriptFault.NoMemory) }
+/// What `check` makes of bytes.
+fn check_bytes(alloc: Global, bytes: &[u8], end: &mut Ending) -> Result<Verdict, NoMemory>
+    ensures verdict { IfOk result (IsVerdict commands.Check bytes.now end.old end.new) }
+    ensures kept { OnErr result (end.new ≡ end.old) }
 {
-    let script = read_script(alloc, bytes, Mode::Seq)?;
-    let text = script_ok_text(alloc, &script)?;
-    let mut ending = Ending::new(alloc);
-    ending.config = Some(script.config);
-    Ok((ending, text))
+    match read_script(alloc, bytes, Mode::Seq) {
+        Ok(script) => Ok(Verdict::Done(check_script(alloc, &script, end)?)),
+        Err(fault) => refusal(alloc, fault),
+    }
+}
+
+/// The text about a script that was read. Its configuration is left in the ending.
+fn check_script(alloc: Global, script: &Script, end: &mut Ending) -> Result<Bytes, NoMemory>
+    ensures checked { IfOk result (λ text. IsChecked script.now end.new
+        × (text ≡ check_text script.now)) }
+    ensures kept { OnErr result (end.new ≡ end.old) }
+{
+    let text = script_ok_text(alloc, script)?;
+    *end = Ending {
+        config: Some(script.config),
+        answers: Answers::new(alloc),
+        losses: Losses::from(Vec::new(alloc)),
+        world: None,
+    };
+    Ok(text)
+}
+
+/// The refusal of bytes for a fault of the script, unless memory was wanting.
+fn refusal(alloc: Global, fault: ScriptFault) -> Result<Verdict, NoMemory>
+    ensures told { IfOk result (λ verdict. (line : ℕ) × (reason : Reason)
+        × (fault ≡ ScriptFault.Bad line reason)
+        × (verdict ≡ Verdict.Refused (fault_text line reason))) }
+{
+    match fault {
+        ScriptFault::Bad { line, reason } => {
+            Ok(Verdict::Refused(script_fault_text(alloc, line, reason)?))
+        }
+        ScriptFault::NoMemory => Err(NoMemory),
+    }
 }

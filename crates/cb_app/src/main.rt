@@ -3,16 +3,10 @@
 
 pub mod commands;
 pub mod ending;
-pub mod input;
-pub mod lanes;
-pub mod outcome;
-pub mod output;
 pub mod run;
 #[cfg(test)]
 mod tests;
-pub mod texts;
 pub mod top;
-pub mod words;
 
 use cb_types::{StdSink, StdSource};
 use ending::Ending;

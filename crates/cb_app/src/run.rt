@@ -1,22 +1,16 @@
-ghost use Rattle.std.specs.Prelude.{◌≡◌, ◌≢◌, ◌≤◌, ◌⊎◌, ℕ, List, length, Some, Ok, Err, IsErr};
-ghost use Rattle.std.specs.Io.KnownBytes.{Appends, Consumes};
+ghost use Rattle.std.specs.Prelude.{◌≡◌, ◌≢◌, ◌≤◌, ◌⊎◌, ℕ, List, length, String, Ok, Err, IfOk, OnErr};
+ghost use Rattle.std.specs.Io.KnownBytes.{Consumes};
+ghost use Rattle.std.specs.declared.alloc.Global.{Global};
 ghost use Rattle.cb_types.specs.Faults.{Rose};
-ghost use Rattle.cb_script.specs.declared.script.Script.{Script};
-ghost use Rattle.cb_script.specs.declared.script.Mode.TheVariants.{Seq};
-ghost use Rattle.cb_script.specs.Form.{Spells};
-ghost use Rattle.cb_app.specs.Words.{Name, NameNone};
-ghost use Rattle.cb_app.specs.declared.words.Command.{Command};
-ghost use Rattle.cb_app.specs.Outcome.{TellsScript, AreWordsRefused, RefusesScript, Accepts, IsDue, GetsFront};
-ghost use Rattle.cb_app.specs.Texts.{words_refused};
+ghost use Rattle.cb_cli.specs.Taken.{IsTaken};
+ghost use Rattle.cb_cli.specs.Words.{Name, NameNone};
+ghost use Rattle.cb_cli.specs.declared.words.Command.{Command};
+ghost use Rattle.cb_app.specs.Modes.{IsVerdict};
+ghost use Rattle.cb_app.specs.Outcome.{Ends, RoseOnRead, RoseOnWrite, IsDecided};
 
-use crate::commands::obey;
+use crate::commands::{Verdict, obey};
 use crate::ending::Ending;
-use crate::input::take_all;
-use crate::outcome::{Due, Failure};
-use crate::output::put_all;
-use crate::texts::{WORDS_REFUSED, script_fault_text};
-use crate::words::command_of;
-use cb_script::ScriptFault;
+use cb_cli::{Command, Due, Failure, WORDS_REFUSED, command_of, put_all, take_all};
 use cb_types::{Sink, Source};
 use std::alloc::Global;
 
@@ -28,65 +22,78 @@ pub fn run<S: Source, K: Sink>(
     sink: &mut K,
     end: &mut Ending,
 ) -> Result<Due, Failure>
-    ensures done { result ≡ Ok Due.Done
-        → TellsScript words.now (S.left source.old) (S.left source.new)
-        (K.held sink.old) (K.held sink.new) end.new }
-
-    ensures words_refused { result ≡ Ok Due.WordsRefused
-        → AreWordsRefused words.now (S.left source.old) (S.left source.new) }
-    ensures words_text { result ≡ Ok Due.WordsRefused
-        → Appends (K.held sink.old) (K.held sink.new) words_refused }
-    ensures words_end { result ≡ Ok Due.WordsRefused → (source.new ≡ source.old)
-        × (end.new ≡ end.old) }
-
-    ensures script_refused { result ≡ Ok Due.ScriptRefused
-        → RefusesScript words.now (S.left source.old) (S.left source.new)
-        (K.held sink.old) (K.held sink.new) }
-    ensures script_end { result ≡ Ok Due.ScriptRefused → end.new ≡ end.old }
-
-    ensures read_fault { result ≡ Err Failure.Read
-        → Rose (S.faults source.old) (S.faults source.new) }
-    ensures no_read_fault { result ≢ Err Failure.Read → S.faults source.new ≡ S.faults source.old }
-    ensures read_end { result ≡ Err Failure.Read → (sink.new ≡ sink.old) × (end.new ≡ end.old) }
-
-    ensures write_fault { result ≡ Err Failure.Write
-        → Rose (K.faults sink.old) (K.faults sink.new) }
-    ensures no_write_fault { result ≢ Err Failure.Write → K.faults sink.new ≡ K.faults sink.old }
-    // What was due is cut short.
-    ensures cut { result ≡ Err Failure.Write → (text : List ℕ)
-        × IsDue words.now (S.left source.old) (S.left source.new) end.old end.new text
-        × GetsFront (K.held sink.old) (K.held sink.new) text }
-
-    ensures memory_end { result ≡ Err Failure.NoMemory → (sink.new ≡ sink.old)
-        × (end.new ≡ end.old) }
-
+    ensures ends { Ends words.now (S.left source.old) (S.left source.new)
+        (K.held sink.old) (K.held sink.new) end.old end.new result }
+    ensures reads { RoseOnRead result (S.faults source.old) (S.faults source.new) }
+    ensures writes { RoseOnWrite result (K.faults sink.old) (K.faults sink.new) }
+    ensures untaken { result ≡ Ok Due.WordsRefused → source.new ≡ source.old }
+    ensures read_puts { result ≡ Err Failure.Read → sink.new ≡ sink.old }
+    ensures memory_puts { result ≡ Err Failure.NoMemory → sink.new ≡ sink.old }
     ensures refuses { NameNone words.now → (result ≡ Ok Due.WordsRefused)
         ⊎ ((result ≡ Err Failure.Write) ⊎ (result ≡ Err Failure.NoMemory)) }
     ensures most { (bytes : List ℕ) × Consumes (S.left source.old) (S.left source.new) bytes
         × (length bytes ≤ 1048577) }
-    // What spells a script that the command accepts is not refused.
-    ensures complete { (command : Command) → Name words.now command
-        → (bytes : List ℕ) (script : Script)
-        → S.left source.old ≡ Some bytes → Spells bytes Seq script
-        → Accepts command script.lines
-        → (result ≡ Ok Due.Done) ⊎ IsErr result }
+    ensures decided { (command : Command) → Name words.now command
+        → IsDecided command (S.left source.old) result }
 {
-    let Some(command) = command_of(alloc, words)? else {
-        put_all(sink, WORDS_REFUSED)?;
-        return Ok(Due::WordsRefused);
-    };
-    let bytes = take_all(alloc, source)?;
-    match obey(alloc, command, bytes.as_slice()) {
-        Ok((ending, text)) => {
-            *end = ending;
+    match command_of(alloc, words)? {
+        Some(command) => run_command(alloc, command, source, sink, end),
+        None => {
+            put_all(sink, WORDS_REFUSED)?;
+            Ok(Due::WordsRefused)
+        }
+    }
+}
+
+/// One run of a command.
+fn run_command<S: Source, K: Sink>(
+    alloc: Global,
+    command: Command,
+    source: &mut S,
+    sink: &mut K,
+    end: &mut Ending,
+) -> Result<Due, Failure>
+    ensures ends { (words : List (String Global)) → Name words command
+        → Ends words (S.left source.old) (S.left source.new)
+        (K.held sink.old) (K.held sink.new) end.old end.new result }
+    ensures reads { RoseOnRead result (S.faults source.old) (S.faults source.new) }
+    ensures writes { RoseOnWrite result (K.faults sink.old) (K.faults sink.new) }
+    ensures named { result ≢ Ok Due.WordsRefused }
+    ensures read_puts { result ≡ Err Failure.Read → sink.new ≡ sink.old }
+    ensures memory_puts { result ≡ Err Failure.NoMemory → sink.new ≡ sink.old }
+    ensures most { (bytes : List ℕ) × Consumes (S.left source.old) (S.left source.new) bytes
+        × (length bytes ≤ 1048577) }
+    ensures decided { IsDecided command (S.left source.old) result }
+{
+    match judge(alloc, command, source, end)? {
+        Verdict::Done(text) => {
             put_all(sink, text.as_slice())?;
             Ok(Due::Done)
         }
-        Err(ScriptFault::Bad { line, reason }) => {
-            let text = script_fault_text(alloc, line, reason)?;
+        Verdict::Refused(text) => {
             put_all(sink, text.as_slice())?;
             Ok(Due::ScriptRefused)
         }
-        Err(ScriptFault::NoMemory) => Err(Failure::NoMemory),
     }
+}
+
+/// Takes the bytes of a source, and gives what the command makes of them.
+fn judge<S: Source>(
+    alloc: Global,
+    command: Command,
+    source: &mut S,
+    end: &mut Ending,
+) -> Result<Verdict, Failure>
+    ensures verdict { IfOk result (λ verdict. (bytes : List ℕ)
+        × IsTaken (S.left source.old) (S.left source.new) bytes
+        × IsVerdict command bytes end.old end.new verdict) }
+    ensures kept { OnErr result (end.new ≡ end.old) }
+    ensures fault { result ≡ Err Failure.Read → Rose (S.faults source.old) (S.faults source.new) }
+    ensures no_fault { result ≢ Err Failure.Read → S.faults source.new ≡ S.faults source.old }
+    ensures no_write { result ≢ Err Failure.Write }
+    ensures most { (bytes : List ℕ) × Consumes (S.left source.old) (S.left source.new) bytes
+        × (length bytes ≤ 1048577) }
+{
+    let bytes = take_all(alloc, source)?;
+    Ok(obey(alloc, command, bytes.as_slice(), end)?)
 }

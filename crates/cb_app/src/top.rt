@@ -1,36 +1,21 @@
 ghost use Rattle.std.specs.Prelude.{◌≡◌, ◌≢◌, ◌≤◌, ◌⊎◌, ℕ, List, length, Some};
 ghost use Rattle.std.specs.Io.KnownBytes.{Appends, Consumes};
 ghost use Rattle.cb_types.specs.Faults.{Rose};
-ghost use Rattle.cb_script.specs.declared.script.Script.{Script};
-ghost use Rattle.cb_script.specs.declared.script.Mode.TheVariants.{Seq};
-ghost use Rattle.cb_script.specs.Form.{Spells};
-ghost use Rattle.cb_app.specs.Words.{Name, NameNone};
-ghost use Rattle.cb_app.specs.declared.words.Command.{Command};
-ghost use Rattle.cb_app.specs.Outcome.{TellsScript, AreWordsRefused, RefusesScript, Accepts, IsDue, GetsFront};
-ghost use Rattle.cb_app.specs.Texts.{words_refused};
-ghost use Rattle.cb_app.specs.Status.{status_of};
+ghost use Rattle.cb_cli.specs.Fronts.{GetsFront};
+ghost use Rattle.cb_cli.specs.Taken.{taken_of};
+ghost use Rattle.cb_cli.specs.Texts.{words_refused};
+ghost use Rattle.cb_cli.specs.Words.{Name, NameNone};
+ghost use Rattle.cb_cli.specs.declared.words.Command.{Command};
+ghost use Rattle.cb_app.specs.Modes.{Accepts, Refuses};
+ghost use Rattle.cb_app.specs.Outcome.{TellsScript, AreWordsRefused, RefusesScript, IsDue};
 
 use crate::ending::Ending;
-use crate::outcome::{Due, Failure};
 use crate::run::run;
+use cb_cli::status;
 use cb_types::{Sink, Source};
 use std::alloc::Global;
 use std::sync::Wait;
 use std::thread::Threads;
-
-/// The exit status of an outcome.
-fn status(outcome: Result<Due, Failure>) -> u8
-    ensures { result ≡ status_of outcome }
-{
-    match outcome {
-        Ok(Due::Done) => 0,
-        Ok(Due::WordsRefused) => 1,
-        Ok(Due::ScriptRefused) => 2,
-        Err(Failure::Read) => 3,
-        Err(Failure::Write) => 4,
-        Err(Failure::NoMemory) => 5,
-    }
-}
 
 /// Runs the command that the words give, which come after the program's name. It takes bytes from
 /// the source, puts text into the sink, leaves in `end` what the run was beside its text, and
@@ -46,11 +31,11 @@ pub fn carbink_run<R: Threads + Wait + Sync, S: Source, K: Sink>(
 ) -> u8
     ensures statuses { result ≤ 5 }
 
-    // 0: the words name a command, and the bytes taken spell a script. `seq` answered its lines as the
-    // plain map answers them, and puts the answers; `check` puts how many lines and lanes it has.
+    // 0: the words name a command, and what is put is what it yields for the bytes taken. Of a script
+    // `seq` puts the answers that the plain map gives, and `check` how many lines and lanes it has.
     ensures done { result ≡ 0
         → TellsScript words.now (S.left src.old) (S.left src.new)
-        (K.held out.old) (K.held out.new) end.new }
+        (K.held out.old) (K.held out.new) end.old end.new }
 
     // 1: the words name no command, and nothing was taken.
     ensures words_refused { result ≡ 1
@@ -59,8 +44,8 @@ pub fn carbink_run<R: Threads + Wait + Sync, S: Source, K: Sink>(
     ensures words_end { result ≡ 1 → (src.new ≡ src.old) × (end.new ≡ end.old) }
     ensures refuses { NameNone words.now → (result ≡ 1) ⊎ (4 ≤ result) }
 
-    // 2: the bytes taken spell no script, or one with a verb that is not built and that `seq` would
-    // have to answer; what is put tells where and why.
+    // 2: the command refuses the bytes taken: they spell no script, or one with a verb that is not
+    // built and that `seq` would have to answer; what is put tells where and why.
     ensures script_refused { result ≡ 2
         → RefusesScript words.now (S.left src.old) (S.left src.new)
         (K.held out.old) (K.held out.new) }
@@ -84,12 +69,14 @@ pub fn carbink_run<R: Threads + Wait + Sync, S: Source, K: Sink>(
     // At each status so many bytes are taken at the most.
     ensures most { (bytes : List ℕ) × Consumes (S.left src.old) (S.left src.new) bytes
         × (length bytes ≤ 1048577) }
-    // What spells a script that the command accepts is done with, where neither reading nor writing
-    // fails and there is memory.
+    // Of the bytes taken, what the command accepts is done with, and what it refuses is refused, where
+    // neither reading nor writing fails and there is memory.
     ensures complete { (command : Command) → Name words.now command
-        → (bytes : List ℕ) (script : Script)
-        → S.left src.old ≡ Some bytes → Spells bytes Seq script
-        → Accepts command script.lines → (result ≡ 0) ⊎ (3 ≤ result) }
+        → (bytes : List ℕ) → S.left src.old ≡ Some bytes → Accepts command (taken_of bytes)
+        → (result ≡ 0) ⊎ (3 ≤ result) }
+    ensures refused { (command : Command) → Name words.now command
+        → (bytes text : List ℕ) → S.left src.old ≡ Some bytes
+        → Refuses command (taken_of bytes) text → (result ≡ 2) ⊎ (3 ≤ result) }
 {
     status(run(alloc, words, src, out, end))
 }

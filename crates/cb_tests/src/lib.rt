@@ -4,6 +4,8 @@
 #![tactic(auto)]
 
 #[cfg(test)]
+mod cli;
+#[cfg(test)]
 mod lanes;
 #[cfg(test)]
 mod objects;

@@ -1,0 +1,44 @@
+-- What each command does with the bytes that were taken, a row for each command. The two endings are
+-- the one before and the one that is left.
+use Rattle.std.specs.Prelude.{◌≡◌, ℕ, List}
+use Rattle.std.specs.List.{AllByRecursion}
+use Rattle.cb_script.specs.declared.script.Script.{Script}
+use Rattle.cb_script.specs.declared.script.Mode.TheVariants as scripts
+use Rattle.cb_script.specs.First.{First}
+use Rattle.cb_script.specs.Form.{Spells}
+use Rattle.cb_script.specs.Unbuilt.{IsBuilt}
+use Rattle.cb_text.specs.Line.{text_of}
+use Rattle.cb_cli.specs.Texts.{check_text}
+use Rattle.cb_cli.specs.declared.words.Command.{Command}
+use Rattle.cb_cli.specs.declared.words.Command.TheVariants.{Seq, Check}
+use Rattle.cb_app.specs.declared.commands.Verdict.{Verdict}
+use Rattle.cb_app.specs.declared.commands.Verdict.TheVariants.{Done, Refused}
+use Rattle.cb_app.specs.declared.ending.Ending.{Ending}
+use Rattle.cb_app.specs.Scripts.{IsAnswered, IsChecked, IsUnanswered, TellsFault}
+
+-- the ending and the text that a command yields for bytes
+abbrev pub Yields : Command → List ℕ → (old new : Ending) → List ℕ → Type 0
+Yields Seq bytes old new text =
+    (script : Script) × Spells bytes scripts.Seq script
+    × IsAnswered script new × (text ≡ text_of new.answers)
+Yields Check bytes old new text =
+    (script : Script) × Spells bytes scripts.Seq script
+    × IsChecked script new × (text ≡ check_text script)
+
+-- the command refuses the bytes, and this text tells where and why
+abbrev pub Refuses : Command → List ℕ → List ℕ → Type 0
+Refuses Seq bytes text = TellsFault (IsUnanswered bytes) text
+Refuses Check bytes text = TellsFault (First bytes scripts.Seq) text
+
+-- the bytes have the form that the command wants; `seq` wants verbs that are built, and `check` any
+abbrev pub Accepts : Command → List ℕ → Type 0
+Accepts Seq bytes =
+    (script : Script) × Spells bytes scripts.Seq script
+    × AllByRecursion (λ l. IsBuilt l.request) script.lines
+Accepts Check bytes = (script : Script) × Spells bytes scripts.Seq script
+
+-- The verdict on bytes is right: they are accepted and done with, or refused, and the ending stays.
+abbrev pub IsVerdict : Command → List ℕ → (old new : Ending) → Verdict → Type 0
+IsVerdict command bytes old new (Done text) =
+    Accepts command bytes × Yields command bytes old new text
+IsVerdict command bytes old new (Refused text) = Refuses command bytes text × (new ≡ old)

@@ -1,0 +1,60 @@
+-- What a script is answered, what the check of one leaves, and why `seq` does not answer one.
+use Rattle.std.specs.Prelude.{◌≡◌, ℕ, List, [], map, None, Some}
+use Rattle.std.specs.List.{AllByRecursion}
+use Rattle.cb_script.specs.declared.script.Script.{Script}
+use Rattle.cb_script.specs.declared.script.Mode.TheVariants.{Seq}
+use Rattle.cb_script.specs.declared.fault.Reason.{Reason}
+use Rattle.cb_script.specs.declared.fault.Reason.TheVariants.{Unbuilt}
+use Rattle.cb_script.specs.First.{First}
+use Rattle.cb_script.specs.Unbuilt.{IsFirstUnbuilt}
+use Rattle.cb_script.specs.Form.{Spells}
+use Rattle.cb_model.specs.Legal.{IsLegalInOrder}
+use Rattle.cb_lanes.specs.Asked.{asked, HasLineReply}
+use Rattle.cb_lanes.specs.Held.{HoldsAnswers}
+use Rattle.cb_lanes.specs.LineStep.{LinesLead}
+use Rattle.cb_lanes.specs.Lost.{losses_of}
+use Rattle.cb_lanes.specs.Scopes.{KeepScopes}
+use Rattle.cb_world.specs.Seats.{pins_of_seat}
+use Rattle.cb_world.specs.World.{WorldState, IsSoundWorld, empty_world}
+use Rattle.cb_cli.specs.Texts.{fault_text}
+use Rattle.cb_app.specs.declared.ending.Ending.{Ending}
+
+-- The ending of a script that was answered.
+pub record IsAnswered (script : Script) (end : Ending) : Type 0 where
+  pub config : end.config ≡ Some script.config
+  -- one answer a line, in order, each with the line's lane, number and request
+  pub lines : map asked end.answers ≡ script.lines
+  -- the answers are legal, each of them the plain map's after all before it
+  pub legal : IsLegalInOrder 1 script.config.handles end.answers
+  -- each of them is one that its line may have
+  pub replies : AllByRecursion HasLineReply end.answers
+  -- by these answers the lines lead from the empty world to the one that is left
+  pub world : WorldState
+  pub left : end.world ≡ Some world
+  pub leads : LinesLead [] (empty_world script.config) end.answers world
+  -- which is sound, and holds at each handle what the plain map has
+  pub sound : IsSoundWorld world
+  pub holds : HoldsAnswers world end.answers
+  -- the crashes that took place
+  pub losses : end.losses ≡ losses_of end.answers
+  -- each answer is as its lane's pins say, and at the end no lane has one
+  pub scopes : KeepScopes [] end.answers
+  pub idle : (seat : ℕ) → pins_of_seat world.seats seat ≡ []
+
+-- The ending of a script that was checked: its configuration, and nothing else.
+pub record IsChecked (script : Script) (end : Ending) : Type 0 where
+  pub config : end.config ≡ Some script.config
+  pub no_answers : end.answers ≡ []
+  pub no_losses : end.losses ≡ []
+  pub no_world : end.world ≡ None
+
+-- Why `seq` does not answer bytes: they have a first fault, or a line of the script that they spell
+-- has a verb that is not built yet.
+pub data IsUnanswered (bytes : List ℕ) (line : ℕ) (reason : Reason) : Type 0 where
+  NoScript : First bytes Seq line reason → IsUnanswered bytes line reason
+  NotBuilt : (script : Script) → Spells bytes Seq script → IsFirstUnbuilt script.lines line
+      → reason ≡ Unbuilt → IsUnanswered bytes line reason
+
+-- the text tells a line and a reason for which this holds
+abbrev pub TellsFault : (ℕ → Reason → Type 0) → List ℕ → Type 0
+TellsFault holds text = (line : ℕ) × (reason : Reason) × holds line reason × (text ≡ fault_text line reason)

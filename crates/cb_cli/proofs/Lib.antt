@@ -1,0 +1,11 @@
+pub mod Streams
+pub mod CommandWords
+pub mod LaneCounts
+pub mod AnswerTexts
+pub mod TextParts
+pub mod Statuses
+pub mod Whole
+pub mod WorkedTaken
+pub mod WorkedTexts
+pub mod WorkedWords
+mod OneWord

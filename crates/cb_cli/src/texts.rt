@@ -1,0 +1,47 @@
+ghost use Rattle.std.specs.Prelude.{◌≡◌, IfOk};
+ghost use Rattle.std.specs.List.{AllByRecursion};
+ghost use Rattle.cb_types.specs.Table.{IsReplyOf};
+ghost use Rattle.cb_text.specs.Line.{text_of};
+ghost use Rattle.cb_cli.specs.Texts.{fault_text, check_text};
+
+use crate::lanes::different_lanes;
+use cb_script::{Reason, Script};
+use cb_text::push_line;
+use cb_types::{Answers, Bytes, NoMemory};
+use std::alloc::Global;
+
+/// What is put where the words of the command line are refused.
+pub const WORDS_REFUSED: &[u8] = b"words refused\n";
+
+/// The text of answers, a line each. Each reply is one that its line may have.
+pub fn answers_text(alloc: Global, answers: &Answers) -> Result<Bytes, NoMemory>
+    requires { AllByRecursion (λ a. IsReplyOf a.request a.reply) answers.now }
+    ensures { IfOk result (λ text. text ≡ text_of answers.now) }
+{
+    let mut text = Vec::new(alloc);
+    for answer in answers.as_slice() {
+        push_line(&mut text, answer.lane, &answer.request, &answer.reply)?;
+    }
+    Ok(Bytes::from(text))
+}
+
+/// The text that tells what is wrong with a script.
+pub fn script_fault_text(alloc: Global, line: u32, reason: Reason) -> Result<Bytes, NoMemory>
+    ensures { IfOk result (λ text. text ≡ fault_text line reason) }
+{
+    let number = reason.number();
+    let word = reason.word();
+    let text = format!(in alloc; "script line {line} reason {number} {word}\n")?;
+    Ok(Bytes::from(text.into_bytes()))
+}
+
+/// The text that tells that a script was read, and how many lines and lanes it has.
+pub fn script_ok_text(alloc: Global, script: &Script) -> Result<Bytes, NoMemory>
+    ensures { IfOk result (λ text. text ≡ check_text script.now) }
+{
+    let lines = script.lines.as_slice();
+    let count = lines.len();
+    let lanes = different_lanes(lines);
+    let text = format!(in alloc; "script ok lines {count} lanes {lanes}\n")?;
+    Ok(Bytes::from(text.into_bytes()))
+}
