@@ -9,3 +9,4 @@ pub mod FilterStep
 pub mod WorkedSeats
 mod WorkedFilter
 mod WorkedFilterStep
+mod WorkedMemory

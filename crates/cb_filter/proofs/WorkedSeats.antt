@@ -18,7 +18,7 @@ use Rattle.cb_filter.specs.FilterRule.{EmptyAnswer, AbsentAs, IsInPlace, HasNoSl
 use Rattle.cb_filter.specs.Refused.{RefusedAs}
 
 -- the class of 1,024 bytes, with four slots a span
-abbrev largest : Class
+abbrev pub largest : Class
 largest = record { index = 11 }
 
 abbrev pub config : Config
@@ -102,7 +102,7 @@ left_another : with_moved far (record seat { span = shared_span }) slot 0 ≡ re
 left_another = refl
 
 -- ---- which slot
-no_frame : (f : ℕ) → Contains [] f → ⊥
+pub no_frame : (f : ℕ) → Contains [] f → ⊥
 no_frame f c = omega (arith, c.1)
 
 pub hot_cold : Hot ≢ Cold
@@ -201,7 +201,7 @@ word = 2 + 1024 * 8192 + 512 * 536870912
 abbrev pinned_word : ℕ
 pinned_word = word + 4 + 2 * 8
 
-abbrev claim : List Event
+abbrev pub claim : List Event
 claim = Claimed 0 word 7 [] ∷ Settled 0 word ∷ []
 
 was_claimed : WasClaimed 0 word claim

@@ -6,3 +6,4 @@ pub mod RebuildCounts
 mod WorkedWord
 mod WorkedWeak
 mod WorkedRebuilt
+mod WorkedKept

@@ -21,7 +21,7 @@ use Rattle.cb_rebuild.proofs.WorkedWord.{is_word, members, nodes, one_row, set}
 use Rattle.cb_rebuild.proofs.WorkedWeak.{far, one, only_of, weak_is}
 
 -- the world with the set of the worked word: its parity at position 2 is lost
-abbrev old : FarState
+abbrev pub old : FarState
 old = record (far (one 0 set) 2) { nodes = nodes }
 
 -- the shard of the parity's row: on node 4, since nodes 0 and 3 are named, and 1 and 2 are down

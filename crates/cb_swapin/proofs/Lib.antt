@@ -20,3 +20,4 @@ mod WorkedNamed
 mod WorkedSwap
 mod WorkedWord
 mod WorkedSwapStep
+mod WorkedEvents
