@@ -66,10 +66,15 @@ processor_here() {
 }
 
 # Whether the program runs on this processor. One that was built by default runs on each, and is not
-# built again for the processor's sake.
+# built again for the processor's sake. The processor is looked at once in each boot of a machine, since
+# that takes some milliseconds.
 fits_here() {
-    local built_for
-    built_for=$(<"$processor") && { [ "$built_for" = default ] || [ "$built_for" = "$(processor_here)" ]; }
+    local built_for seen boot=
+    read -r built_for seen <"$processor" || return
+    [ "$built_for" != default ] || return 0
+    read -r boot </proc/sys/kernel/random/boot_id
+    [ -z "$boot" ] || [ "$seen" != "$boot" ] || return 0
+    [ "$built_for" = "$(processor_here)" ] && { keep "$built_for $boot" "$processor"; true; }
 } 2>/dev/null
 
 has_these_times() { [ -x "$program" ] && [ -f "$times" ] && [ "$(times_now)" = "$(<"$times")" ] && fits_here; }
