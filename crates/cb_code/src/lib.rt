@@ -10,4 +10,6 @@ mod syndromes;
 pub use coeffs::{Coeffs, coefficients};
 pub use encoding::encode;
 pub use laws::coefficient_laws;
-pub use syndromes::syndromes_zero;
+pub use syndromes::{
+    block_is_zero, block_syndrome, column_is_zero, powers_of_two, syndrome_at, syndromes_zero,
+};

@@ -38,7 +38,7 @@ fn blocks_are_zero(r: u32, rows: &Rows, len: usize) -> bool
 }
 
 /// The powers of 2 of which a syndrome is taken.
-fn powers_of_two() -> [Products; 4]
+pub fn powers_of_two() -> [Products; 4]
     ensures count { length result ≡ 4 }
     ensures powers { (j : ℕ) → j < 4 → slice_index result j ≡ power 2 j }
 {
@@ -51,7 +51,7 @@ fn powers_of_two() -> [Products; 4]
 }
 
 /// Whether the syndromes of the powers below `r` are 0 in the block at a place.
-fn block_is_zero(r: u32, powers: &[Products; 4], rows: &Rows, at: usize, len: usize) -> bool
+pub fn block_is_zero(r: u32, powers: &[Products; 4], rows: &Rows, at: usize, len: usize) -> bool
     requires few { r ≤ 4 }
     requires powers { (j : ℕ) → j < 4 → slice_index powers.now j ≡ power 2 j }
     requires positions { length rows.now ≤ 20 }
@@ -71,7 +71,7 @@ fn block_is_zero(r: u32, powers: &[Products; 4], rows: &Rows, at: usize, len: us
 /// The syndrome of a power in a block, by Horner: the sum so far times the power, and the next
 /// row, from the last row to the first.
 #[inline(always)]
-fn block_syndrome(factor: &Products, rows: &Rows, at: usize, len: usize) -> u8x32
+pub fn block_syndrome(factor: &Products, rows: &Rows, at: usize, len: usize) -> u8x32
     requires byte { factor.now < 256 }
     requires positions { length rows.now ≤ 20 }
     requires lengths { HaveLength len rows.now }
@@ -107,7 +107,7 @@ fn columns_are_zero(r: u32, rows: &Rows, from: usize, len: usize) -> bool
 }
 
 /// Whether the syndromes of the powers below `r` are 0 at this column.
-fn column_is_zero(r: u32, rows: &Rows, column: usize, len: usize) -> bool
+pub fn column_is_zero(r: u32, rows: &Rows, column: usize, len: usize) -> bool
     requires few { r ≤ 4 }
     requires positions { length rows.now ≤ 20 }
     requires lengths { HaveLength len rows.now }
@@ -123,7 +123,7 @@ fn column_is_zero(r: u32, rows: &Rows, column: usize, len: usize) -> bool
 }
 
 /// The sum over the positions i of 2^(i*j) times the byte of row i at this column.
-fn syndrome_at(j: u32, rows: &Rows, column: usize, len: usize) -> u8
+pub fn syndrome_at(j: u32, rows: &Rows, column: usize, len: usize) -> u8
     requires few { j ≤ 4 }
     requires positions { length rows.now ≤ 20 }
     requires lengths { HaveLength len rows.now }

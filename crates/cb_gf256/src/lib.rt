@@ -26,3 +26,4 @@ pub use no_memory::NoMemory;
 pub use products::Products;
 pub use row::{axpy_row, xor_row};
 pub use rows::Rows;
+pub use tables::logarithm;

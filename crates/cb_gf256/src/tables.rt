@@ -86,7 +86,7 @@ pub(crate) fn power_of_two(i: usize) -> u8
 }
 
 /// The power of 2, below 255, that gives `a`.
-pub(crate) fn logarithm(a: u8) -> usize
+pub fn logarithm(a: u8) -> usize
     requires { 0 < a }
     ensures power { power 2 result ≡ a }
     ensures least { result < 255 }
