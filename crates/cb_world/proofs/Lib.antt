@@ -76,4 +76,7 @@ mod WorkedSeats
 mod WorkedSurvey
 mod WorkedSteps
 mod WorkedAdded
+mod WorkedJoin
+mod WorkedPairs
+mod WorkedBatch
 pub mod WorkedWord
