@@ -47,6 +47,7 @@ mod BeginEnd
 pub mod BeginStep
 pub mod AfterBegin
 mod WorkedBegin
+mod WorkedRules
 pub mod WorkedWide
 pub mod PutShards
 pub mod ShippedFar

@@ -101,7 +101,7 @@ not_other_memory a =
     let e : 1 ≡ 0 = ap (λ (l : List ℕ). length l) a.memory in absurd (omega (arith, e))
 
 -- ---- the batch
-abbrev former : Former
+abbrev pub former : Former
 former = record { handle = 0; word = calm }
 
 -- the far state where the first span is leaving, with these words and these parities
@@ -112,7 +112,7 @@ leaving_with words parities = with_batch settings pair (0 ∷ []) words parities
 word_is : IsSpanWord 1 1 (frame_rows start (0 ∷ []) ++ row ∷ [])
 word_is = subst (λ (r : List ℕ). IsSpanWord 1 1 (r ∷ row ∷ [])) (sym zero_row) is_word
 
-of_first : AreOf (IsIn pair.spans (0 ∷ [])) (former ∷ [])
+pub of_first : AreOf (IsIn pair.spans (0 ∷ [])) (former ∷ [])
 of_first = record {
   all = λ h i. (former, (0, lit< tt, refl), only_object h i);
   only = All-cons (λ (f : Former). IsIn pair.spans (0 ∷ []) f.handle) former [] first_object
@@ -133,7 +133,7 @@ begun = record {
   held = held;
 }
 
-some_batch : (a b : LeavingState) → Some a ≡ Some b → a ≡ b
+pub some_batch : (a b : LeavingState) → Some a ≡ Some b → a ≡ b
 some_batch a b e = cc
 
 -- the far state says which words and parities are noted
@@ -217,7 +217,7 @@ step : IsBeginStep start claimed pair (leaving_with (former ∷ []) (row ∷ [])
 step = begins batch_made
 
 -- a second batch waits for the first one
-abbrev second : FarState
+abbrev pub second : FarState
 second = leaving_with (former ∷ []) (row ∷ [])
 
 waits : IsBeginStep claimed claimed second second (answer.Leaving (record { n = 0 }))
@@ -307,7 +307,7 @@ here = record {
 abbrev taken : ℕ → ℕ → Shown
 taken version content = record here { objects = is.Claimed 8 0 version (content ∷ []) ∷ [] }
 
-abbrev claim : List Event
+abbrev pub claim : List Event
 claim = Claimed 0 calm 3 (7 ∷ []) ∷ []
 
 claimed_now : IsClaimedNow claim here (taken 3 7) 0
@@ -328,7 +328,7 @@ claimed_is : (n m p q v w : ℕ) (xs ys : List ℕ) → is.Claimed n p v xs ≡ 
     → (v ≡ w) × (xs ≡ ys)
 claimed_is n m p q v w xs ys e = (cc, cc)
 
-told_is : (v : ℕ) (xs : List ℕ) → IsTaken 0 v xs claim → (3 ≡ v) × (7 ∷ [] ≡ xs)
+pub told_is : (v : ℕ) (xs : List ℕ) → IsTaken 0 v xs claim → (3 ≡ v) × (7 ∷ [] ≡ xs)
 told_is v xs (inl f) = absurd f
 told_is v xs (inr f) = (f.1, f.2)
 
@@ -360,7 +360,7 @@ not_before a = differ _ _ a.was
     differ len place e = cc
 
 -- ---- the rule
-abbrev claim_zeros : List Event
+abbrev pub claim_zeros : List Event
 claim_zeros = Claimed 0 calm 3 (0 ∷ []) ∷ []
 
 same_span : (a b : Contents) → Some a ≡ Some b → a ≡ b
@@ -392,7 +392,7 @@ in_rows zero f slot h span at there named =
     by (suc (suc n)) e = absurd (none_is h e)
 in_rows (suc p) f slot h span at there named = absurd (none_is f at)
 
-has_begun : HasBegun settings pair second (0 ∷ []) claim_zeros
+pub has_begun : HasBegun settings pair second (0 ∷ []) claim_zeros
 has_begun = record {
   words = former ∷ [];
   rows = row ∷ [];

@@ -37,7 +37,7 @@ use Rattle.cb_evict.proofs.WorkedEvictStep.{calm, pinned, moving, away, desk, se
 use Rattle.cb_evict.proofs.WorkedSetMade.{homes, homed, shard, shards}
 
 -- ---- the words: object 0 leaves, and object 1 is pinned
-abbrev noted : List Former
+abbrev pub noted : List Former
 noted = record { handle = 0; word = calm } ∷ []
 
 abbrev before : Words
@@ -131,10 +131,10 @@ away_stored : ¬ (ArePutAway before (record gone { memory = [] }) noted)
 away_stored a = absurd (let e : 0 ≡ 2 = ap (λ (l : List ℕ). length l) a.memory in omega (arith, e))
 
 -- ---- what is known: object 0 is claimed at a hot word, and object 1 is here
-abbrev hot : Former
+abbrev pub hot : Former
 hot = record { handle = 0; word = 65542 }
 
-abbrev claimed : Shown
+abbrev pub claimed : Shown
 claimed = record {
   first = 1;
   objects = is.Claimed 8 0 3 (5 ∷ []) ∷ is.Here 8 1 ∷ [];
@@ -143,7 +143,7 @@ claimed = record {
   memory = 5 ∷ 7 ∷ [];
 }
 
-abbrev restored : Shown
+abbrev pub restored : Shown
 restored = record claimed { objects = is.Here 8 0 ∷ is.Here 8 1 ∷ []; hots = true ∷ true ∷ [] }
 
 is_claimed : IsClaimedFrom claimed hot
@@ -187,7 +187,7 @@ other_words x =
 unknown_heat : ¬ (IsClaimedFrom (record claimed { hots = [] }) hot)
 unknown_heat x = absurd (omega (arith, x.warm))
 
-none_of_one : (P : ℕ → Type 0) → ((h : ℕ) → P (suc h)) → (h : ℕ) → IsNone (hot ∷ []) h → P h
+pub none_of_one : (P : ℕ → Type 0) → ((h : ℕ) → P (suc h)) → (h : ℕ) → IsNone (hot ∷ []) h → P h
 none_of_one P more zero none = absurd (none 0 hot (lit< tt) refl)
 none_of_one P more (suc h) none = more h
 
@@ -195,7 +195,7 @@ the_second : IsNone (hot ∷ []) 1
 the_second = All-cons (λ (f : Former). f.handle ≡ 1 → ⊥) hot [] (λ e. omega (arith, e))
     (All-nil (λ (f : Former). f.handle ≡ 1 → ⊥))
 
-are_restored : AreRestored claimed restored (hot ∷ [])
+pub are_restored : AreRestored claimed restored (hot ∷ [])
 are_restored = record {
   here = All-cons (IsHereAt restored) hot [] (record { object = refl; hot = refl })
       (All-nil (IsHereAt restored));
@@ -238,23 +238,23 @@ writes_a_version x = absurd (let e : 4 ≡ 3 = ap first_of x.versions in omega (
     first_of (n ∷ ns) = n
 
 -- ---- the far state: a batch of the first span is leaving
-abbrev batch : List (Option Shard) → LeavingState
+abbrev pub batch : List (Option Shard) → LeavingState
 batch shards = record { set = 0; frames = 0 ∷ []; words = noted; parities = [] ∷ []; shards = shards }
 
 abbrev kept_set : Kept
 kept_set = record { set = set_from 0 (shard 0 ∷ shard 0 ∷ []) pair.spans (0 ∷ []); committed = false }
 
-abbrev leaving : List (Option Shard) → FarState
+abbrev pub leaving : List (Option Shard) → FarState
 leaving shards = record pair {
   sets = map.insert map.empty 0 kept_set;
   nodes = with_row pair.nodes (shard 0).node 0 (1 ∷ []);
   leaving = Some (batch shards);
 }
 
-abbrev one_put : List (Option Shard)
+abbrev pub one_put : List (Option Shard)
 one_put = Some (shard 0) ∷ None ∷ []
 
-abbrev both_put : List (Option Shard)
+abbrev pub both_put : List (Option Shard)
 both_put = Some (shard 0) ∷ Some (shard 1) ∷ []
 
 not_leaving : HasNoBatch pair pair answer.NoBatch
@@ -275,7 +275,7 @@ answers_done x = absurd (done_none x.reply)
 changes_the_state : ¬ (HasNoBatch pair (record pair { made = 5 }) answer.NoBatch)
 changes_the_state x = absurd (let e : 5 ≡ 4 = ap (λ (f : FarState). f.made) x.state in omega (arith, e))
 
-is_given_up : HasGivenUp (leaving one_put) (without_batch (leaving one_put) (batch one_put)) answer.Done
+pub is_given_up : HasGivenUp (leaving one_put) (without_batch (leaving one_put) (batch one_put)) answer.Done
 is_given_up = record { batch = batch one_put; there = refl; reply = refl; state = refl }
 
 gives_none_up : ¬ (HasGivenUp pair pair answer.Done)
@@ -335,7 +335,7 @@ short_drops_it x = absurd (some_none (batch one_put) (sym (ap (λ (f : FarState)
 abbrev then : FarState
 then = with_homes (with_committed (leaving both_put) (batch both_put)) (0 ∷ []) homes
 
-is_committed : HasCommitted (leaving both_put) then (answer.Set (record { n = 0 }))
+pub is_committed : HasCommitted (leaving both_put) then (answer.Set (record { n = 0 }))
 is_committed = record {
   batch = batch both_put;
   there = refl;

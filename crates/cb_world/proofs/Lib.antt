@@ -77,4 +77,7 @@ mod WorkedSeats
 mod WorkedSurvey
 mod WorkedSteps
 mod WorkedAdded
+mod WorkedJoin
+mod WorkedPairs
+mod WorkedBatch
 pub mod WorkedWord

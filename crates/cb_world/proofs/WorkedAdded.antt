@@ -30,7 +30,7 @@ use Rattle.cb_world.specs.Homes.{home_at}
 use Rattle.cb_world.specs.Joining.{JoiningState}
 use Rattle.cb_world.specs.Leaving.{LeavingState}
 use Rattle.cb_world.specs.Memory.{window}
-use Rattle.cb_world.specs.RowWords.{words_in}
+use Rattle.cb_world.specs.RowWords.{row_of, words_in}
 use Rattle.cb_world.specs.SetAdded.{IsMoved, IsSetAdded, IsUntouched}
 use Rattle.cb_world.specs.SetWord.{IsShaped, IsSpanWord}
 use Rattle.cb_world.specs.Sets.{Kept, SetMap, set_in, if_committed}
@@ -45,8 +45,13 @@ none_some : {X : Type 0} (x : X) → None ≡ Some x → ⊥
 none_some x e = cc
 
 -- ---- the code word: a row of zeros and its parity
-row : List ℕ
+pub row : List ℕ
 row = replicate 4096 0
+
+-- the bytes of a frame of zeros
+pub zero_row : row_of (window [] 0 512) ≡ row
+unfolding row window
+zero_row = refl
 
 row_length : length row ≡ 4096
 unfolding row
@@ -68,7 +73,7 @@ bytes_zero column zero below = row_zeros column below
 bytes_zero column (suc zero) below = row_zeros column below
 bytes_zero column (suc (suc i)) below = refl
 
-is_word : IsSpanWord 1 1 rows
+pub is_word : IsSpanWord 1 1 rows
 is_word = record {
   is_word = record {
     count = refl;

@@ -56,7 +56,7 @@ abbrev committed : SetState → Kept
 committed x = record { set = x; committed = true }
 
 -- object 0 is away, object 1 was freed, and object 2 was never made
-abbrev known : Shown
+abbrev pub known : Shown
 known = record {
   first = 1;
   objects = is.Far 2 1 (2826 ∷ []) ∷ is.Empty 2 ∷ is.Empty 0 ∷ [];
@@ -66,7 +66,7 @@ known = record {
 }
 
 -- the set is committed under its number; no node has a row
-abbrev away : SetState → FarState
+abbrev pub away : SetState → FarState
 away x = record far {
   spans = [];
   frames = [];

@@ -137,7 +137,7 @@ is_noted = record {
   small = All-nil (λ w. w < 2 ^ 64);
 }
 
-alone : {X : Type 0} (x d : X) (k : ℕ) → k < length (x ∷ []) → get_or (x ∷ []) k d ≡ x
+pub alone : {X : Type 0} (x d : X) (k : ℕ) → k < length (x ∷ []) → get_or (x ∷ []) k d ≡ x
 alone x d zero below = refl
 alone x d (suc k) below = absurd (omega (arith, below))
 

@@ -25,24 +25,24 @@ use Rattle.cb_world.proofs.SetsLeft.{drop_count, drop_fewer, drop_there}
 use Rattle.cb_world.proofs.Storing.{drop_elsewhere}
 use Rattle.cb_world.proofs.WorkedWorld.{far}
 
-abbrev at : ℕ → ℕ → Shard
+abbrev pub at : ℕ → ℕ → Shard
 at n key = record { node = record { n = n }; incarnation = 0; key = key }
 
-none_some : {X : Type 0} (x : X) → None ≡ Some x → ⊥
+pub none_some : {X : Type 0} (x : X) → None ≡ Some x → ⊥
 none_some x e = cc
 
 -- ---- two sets of two positions and a parity on the nodes 0, 1 and 2, each with one object
-abbrev of : ℕ → PositionState
+abbrev pub of : ℕ → PositionState
 of h = filled_position (Some h ∷ [])
 
-abbrev a : SetState
+abbrev pub a : SetState
 a = set_of 4 (at 0 0 ∷ at 1 1 ∷ at 2 2 ∷ []) (of 0 ∷ dead_position ∷ [])
 
-abbrev b : SetState
+abbrev pub b : SetState
 b = set_of 5 (at 0 3 ∷ at 1 4 ∷ at 2 5 ∷ []) (dead_position ∷ of 1 ∷ [])
 
 -- both new rows were put: that of b's position, and the parity's
-abbrev pair : JoiningState
+abbrev pub pair : JoiningState
 pair = record {
   a = 4;
   b = 5;
@@ -56,7 +56,7 @@ pair = record {
 abbrev c : SetState
 c = set_of 6 (at 0 0 ∷ at 1 6 ∷ at 2 7 ∷ []) (of 0 ∷ of 1 ∷ [])
 
-abbrev kept : SetState → Kept
+abbrev pub kept : SetState → Kept
 kept set = record { set = set; committed = true }
 
 abbrev home : ℕ → ℕ → Home
@@ -70,7 +70,7 @@ nodes = with_row (with_row (with_row (empty_nodes 3 4) (record { n = 1 }) 1 (1 �
 abbrev sets : SetMap
 sets = map.insert (map.insert map.empty 4 (kept a)) 5 (kept b)
 
-abbrev joining : FarState
+abbrev pub joining : FarState
 joining = record far {
   sets = sets;
   homes = Some (home 4 0) ∷ Some (home 5 1) ∷ None ∷ [];
@@ -99,10 +99,10 @@ leaves_sets = record {
   nodes = refl;
 }
 
-four_there : set_in sets 4 ≡ Some a
+pub four_there : set_in sets 4 ≡ Some a
 four_there = grind (arith, map.gets)
 
-five_there : set_in sets 5 ≡ Some b
+pub five_there : set_in sets 5 ≡ Some b
 five_there = grind (arith, map.gets)
 
 none_in : (id : ℕ) → set_in map.empty id ≡ None
@@ -120,7 +120,7 @@ changes_the_members : ¬ (LeavesSets joining (record drawn { members = fresh_mem
 changes_the_members x = absurd (let e : 4 ≡ 3 = ap (λ (m : Membership). length m.nodes) x.members in
     omega (arith, e))
 
-abbrev batch : LeavingState
+abbrev pub batch : LeavingState
 batch = record { set = 5; frames = []; words = []; parities = []; shards = [] }
 
 begins_to_leave : ¬ (LeavesSets joining (record drawn { leaving = Some batch }))
@@ -168,7 +168,7 @@ their_nodes p shard e = by p shard e
     by (suc (suc (suc (suc zero)))) shard e = at_node (at 2 2) shard e (lit< tt)
     by (suc (suc (suc (suc (suc p))))) shard e = absurd (none_some shard e)
 
-none_lost : (x y z : ℕ) → NoneLost (fresh_members 3) (at 0 x ∷ at 1 y ∷ at 2 z ∷ [])
+pub none_lost : (x y z : ℕ) → NoneLost (fresh_members 3) (at 0 x ∷ at 1 y ∷ at 2 z ∷ [])
 none_lost x y z zero shard e =
     subst (λ (s : Shard). is_lost (fresh_members 3) s ≡ false) (some_same (at 0 x) shard e) refl
 none_lost x y z (suc zero) shard e =
@@ -177,7 +177,7 @@ none_lost x y z (suc (suc zero)) shard e =
     subst (λ (s : Shard). is_lost (fresh_members 3) s ≡ false) (some_same (at 2 z) shard e) refl
 none_lost x y z (suc (suc (suc p))) shard e = absurd (none_some shard e)
 
-is_fresh : IsFresh joining pair a b
+pub is_fresh : IsFresh joining pair a b
 is_fresh = record {
   a_there = four_there;
   b_there = five_there;
@@ -187,7 +187,7 @@ is_fresh = record {
   b_whole = none_lost 3 4 5;
 }
 
-false_true : false ≡ true → ⊥
+pub false_true : false ≡ true → ⊥
 false_true e = cc
 
 merged : IsMergedSet pair a b c

@@ -37,7 +37,7 @@ shards = at 0 7 ∷ at 3 8 ∷ at 1 9 ∷ []
 pub row : ℕ → List ℕ
 row n = replicate 4096 n
 
-row_long : (n : ℕ) → length (row n) ≡ 4096
+pub row_long : (n : ℕ) → length (row n) ≡ 4096
 unfolding row
 row_long n = length-replicate 4096 n
 
@@ -59,7 +59,7 @@ lengths (suc zero) d within = row_long 0 ∙ sym (row_long 7)
 lengths (suc (suc zero)) d within = refl
 lengths (suc (suc (suc p))) d within = absurd (omega (arith, within))
 
-bytes : HoldBytes rows
+pub bytes : HoldBytes rows
 bytes zero d within = row_bytes 7 (lit< tt)
 bytes (suc zero) d within = row_bytes 0 (lit< tt)
 bytes (suc (suc zero)) d within = row_bytes 7 (lit< tt)
@@ -79,7 +79,7 @@ syndromes j column power_zero within =
     p 0))
     ∙ adds_up
 
-is_code_word : IsCodeWord 2 1 rows
+pub is_code_word : IsCodeWord 2 1 rows
 is_code_word =
     record { count = refl; equal_lengths = lengths; syndromes_zero = syndromes }
 
