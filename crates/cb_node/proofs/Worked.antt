@@ -1,13 +1,14 @@
 -- Worked nodes: what meets each definition, and what breaks one of its parts alone.
-use Rattle.std.proofs.Common.{◌≡◌, ℕ, ◌^◌, ◌<◌, ◌≤◌, zero, suc, true, false, List, [], ◌∷◌, None, Some, get_or, lit<, ap, ◌∙◌, refl, arith}
+use Rattle.std.proofs.Common.{◌≡◌, ℕ, ◌^◌, ◌<◌, ◌≤◌, zero, suc, true, false, List, [], ◌∷◌, None, Some, get_or, set, unwrap_or, lit<, ap, ◌∙◌, refl, arith}
 use Rattle.std.specs.FinMap as map
 use Rattle.std.specs.Ordering.{nat_cmp}
+use Rattle.cb_gf256.specs.Sum.{◌⊕◌}
 use Rattle.cb_gf256.specs.Product.{◌⊗◌}
 use Rattle.cb_gf256.specs.Row.{row_sum, scaled_row}
 use Rattle.cb_member.specs.declared.names.NodeId.{NodeId}
 use Rattle.cb_member.specs.declared.names.Shard.{Shard}
 use Rattle.cb_node.specs.declared.nodes.PutAnswer.TheVariants.{Stored, Full}
-use Rattle.cb_node.specs.NodesState.{IsNodes, NodesState, RowsAreBytes, empty_nodes, has, held, known_row, row_at, with_dropped, with_row, with_wiped}
+use Rattle.cb_node.specs.NodesState.{IsNodes, NodesState, RowsAreBytes, empty_nodes, has, held, known_row, row_at, with_dropped, with_row, with_spoiled, with_wiped}
 use Rattle.cb_node.specs.Answer.{PutGives}
 use Rattle.cb_node.specs.Delta.{Names, with_delta}
 use Rattle.cb_node.proofs.Put.{row_at-with_row_here}
@@ -150,3 +151,9 @@ delta = row_at-with_row_here three (node 1) 9 _ (lit< tt) ∙ ap Some sum
 delta_keeps_the_others :
     row_at (with_delta three (node 1) 9 2 (shard 0 5) (shard 0 6)) (node 0) 6 ≡ Some (0x81 ∷ [])
 delta_keeps_the_others = grind (arith, map.gets)
+
+-- byte 1 of the row of node 0 is changed, and nothing else
+spoiled : row_at (with_spoiled one (node 0) 7 1 5) (node 0) 7 ≡ Some (1 ∷ 7 ∷ [])
+spoiled =
+    row_at-with_row_here one (node 0) 7 _ (omega arith)
+    ∙ ap (λ row. Some (set row 1 (get_or row 1 0 ⊕ 5))) (ap (λ o. unwrap_or o []) there)

@@ -1,7 +1,8 @@
 -- The rows at all nodes.
-use Rattle.std.specs.Prelude.{◌≡◌, ℕ, ◌^◌, ◌<◌, ◌≤◌, Bool, List, [], Option, Some, All, length, replicate, refl, unwrap_or, slice_index_or, slice_set}
+use Rattle.std.specs.Prelude.{◌≡◌, ℕ, ◌^◌, ◌<◌, ◌≤◌, Bool, List, [], Option, Some, All, length, replicate, refl, unwrap_or, slice_index, slice_index_or, slice_set}
 use Rattle.std.specs.Coded.{Coded, code_by, coded×, coded_ℕ, coded_list}
 use Rattle.std.specs.FinMap as map
+use Rattle.cb_gf256.specs.Sum.{◌⊕◌}
 use Rattle.cb_member.specs.declared.names.NodeId.{NodeId}
 use Rattle.cb_node.specs.Rows.{RowsByKey, rows_code}
 
@@ -54,6 +55,13 @@ with_rows state node rows = record state { nodes = slice_set state.nodes node.n 
 -- one row put under the key at the node; every other key and every other node are as they were
 abbrev pub with_row : NodesState → NodeId → ℕ → List ℕ → NodesState
 with_row state node key row = with_rows state node (map.insert (rows_at state node) key row)
+
+-- one byte of the row under the key at the node changed by adding this; every other byte, key and
+-- node are as they were
+abbrev pub with_spoiled : NodesState → NodeId → ℕ → ℕ → ℕ → NodesState
+with_spoiled state node key at with =
+    let row = known_row state node key in
+    with_row state node key (slice_set row at (slice_index row at ⊕ with))
 
 -- no row under the key at the node; every other key and every other node are as they were
 abbrev pub with_dropped : NodesState → NodeId → ℕ → NodesState

@@ -1,6 +1,6 @@
 ghost use Rattle.std.specs.Prelude.{◌≡◌, ◌-◌, ◌+◌, ◌^◌, ◌<◌, ◌≤◌, ◌↔◌, IsTrue, length, true, false, if◌then◌else◌, IfOk, IfSome, IfNone, OnOk, OnErr};
 ghost use Rattle.cb_gf256.specs.Row.{row_sum, scaled_row};
-ghost use Rattle.cb_node.specs.NodesState.{IsNodes, empty_nodes, row_at, known_row, held, has, with_dropped, with_row, with_wiped};
+ghost use Rattle.cb_node.specs.NodesState.{IsNodes, empty_nodes, row_at, known_row, held, has, with_dropped, with_row, with_spoiled, with_wiped};
 ghost use Rattle.cb_node.specs.Answer.{PutGives};
 ghost use Rattle.cb_node.specs.Delta.{with_delta, Names};
 
@@ -200,6 +200,37 @@ impl Nodes {
             (false, true) => self.add_own_change(to, key, c, old),
             (false, false) => self.add_change(to, key, c, old, new),
         }
+    }
+
+    /// Adds `with` to one byte of the row under the key, as memory that goes bad does. No event
+    /// calls it. Takes no memory.
+    pub fn spoil(&mut self, node: NodeId, key: u64, at: u32, with: u8)
+        requires node { node.n < length self.old.nodes }
+        requires there { has self.old node key ≡ true }
+        requires inside { at < length (known_row self.old node key) }
+        ensures after { self.new ≡ with_spoiled self.old node key at with }
+        ensures count { length self.new.nodes ≡ length self.old.nodes }
+        ensures valid { IsNodes self.new }
+    {
+        let mut row = Row::empty(*self.nodes.allocator());
+        self.swap_row(node, key, &mut row);
+        row.add_at(at as usize, with);
+        self.swap_row(node, key, &mut row);
+    }
+
+    /// Replaces the row under the key by another of its length. No row is given; takes no memory.
+    pub fn set_row(&mut self, node: NodeId, key: u64, row: &[u8])
+        requires node { node.n < length self.old.nodes }
+        requires there { has self.old node key ≡ true }
+        requires length { length row.now ≡ length (known_row self.old node key) }
+        ensures after { self.new ≡ with_row self.old node key row.now }
+        ensures count { length self.new.nodes ≡ length self.old.nodes }
+        ensures valid { IsNodes self.new }
+    {
+        let mut kept = Row::empty(*self.nodes.allocator());
+        self.swap_row(node, key, &mut kept);
+        kept.replace(row);
+        self.swap_row(node, key, &mut kept);
     }
 
     /// Drops the row under the key at the node, if it is there. Takes no memory.

@@ -1,4 +1,5 @@
-ghost use Rattle.std.specs.Prelude.{◌≡◌, [], length, IfOk};
+ghost use Rattle.std.specs.Prelude.{◌≡◌, ◌<◌, [], length, slice_index, slice_set, IfOk};
+ghost use Rattle.cb_gf256.specs.Sum.{◌⊕◌};
 ghost use Rattle.cb_gf256.specs.Row.{row_sum, scaled_row};
 
 use cb_gf256::{add, axpy_row, mul};
@@ -54,6 +55,22 @@ impl Row {
         add_change(self.bytes.as_mut_slice(), c, other);
     }
 
+    /// Adds `with` to the byte at a place.
+    pub fn add_at(&mut self, at: usize, with: u8)
+        requires { at < length self.old }
+        ensures { self.new ≡ slice_set self.old at (slice_index self.old at ⊕ with) }
+    {
+        add_byte(self.bytes.as_mut_slice(), at, with);
+    }
+
+    /// Replaces the bytes by as many others.
+    pub fn replace(&mut self, bytes: &[u8])
+        requires { length self.old ≡ length bytes.now }
+        ensures { self.new ≡ bytes.now }
+    {
+        self.bytes.as_mut_slice().copy_from_slice(bytes);
+    }
+
     /// The bytes of the row, in order.
     pub fn bytes(&self) -> &[u8]
         ensures { result.now ≡ self.now }
@@ -71,4 +88,12 @@ fn add_change(row: &mut [u8], c: u8, other: &[u8])
         let byte = row[i];
         row[i] = add(byte, mul(c, add(byte, *x)));
     }
+}
+
+/// Adds `with` to the byte at a place.
+fn add_byte(row: &mut [u8], at: usize, with: u8)
+    requires { at < length row.old }
+    ensures { row.new ≡ slice_set row.old at (slice_index row.old at ⊕ with) }
+{
+    row[at] = add(row[at], with);
 }

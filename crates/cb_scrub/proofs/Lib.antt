@@ -1,0 +1,7 @@
+pub mod Differing
+pub mod Words
+pub mod Findings
+pub mod Telling
+pub mod WorkedScrub
+pub mod FittingLaws
+pub mod MendingLaws

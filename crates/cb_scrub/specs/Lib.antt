@@ -1,0 +1,4 @@
+pub mod Wrong
+pub mod Fitting
+pub mod Mended
+pub mod Finds
