@@ -161,7 +161,7 @@ hint_at_1() {
     if [ $# = 2 ] && takes_input "$1" && [ -f "$2" ]; then
         say "the script is taken from standard input: carbink $1 < $(printf '%s' "$2" | printable)"
     fi
-    [ -n "${usage_said-}" ] || usage
+    usage
 }
 
 hint_at_3() {
@@ -186,7 +186,7 @@ hint_status=$1
 shift
 LC_ALL=C
 case $hint_status in
-1) hint_at_1 "$@" ;;
+1) [ -n "${hint_said-}" ] || hint_at_1 "$@" ;;
 2) hint_at_2 ;;
 3) hint_at_3 ;;
 4) hint_at_4 ;;
