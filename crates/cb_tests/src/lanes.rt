@@ -1,6 +1,6 @@
+use crate::worlds::{Seen, seen_answers};
 use cb_lanes::{SeqEnd, run_seq};
 use cb_script::{Mode, first_unbuilt, read_script};
-use cb_types::Reply;
 use cb_world::{Far, World};
 use std::alloc::Global;
 use std::test::Fail;
@@ -52,18 +52,36 @@ fn a_swap_in_gives_one_row_or_k(rt: HostRuntime) -> Result<(), Fail> {
     Ok(())
 }
 
+/// What the lines of a script are answered.
+fn seen_by(alloc: Global, text: &[u8]) -> Result<Vec<Seen>, Fail> {
+    let end = end_of(alloc, text)?;
+    seen_answers(alloc, end.answers.as_slice())
+}
+
+/// How many nodes were lost by the lines of a script.
+fn losses_by(alloc: Global, text: &[u8]) -> Result<usize, Fail> {
+    let end = end_of(alloc, text)?;
+    Ok(end.losses.as_slice().len())
+}
+
 #[test]
 fn lines_are_answered_in_order(rt: HostRuntime) -> Result<(), Fail> {
-    let end = end_of(rt.alloc(), SCRIPT)?;
-    let [made, written, read, freed, full, unmade] = end.answers.as_slice() else {
-        return Err(Fail::from("not six answers"));
+    let made = Seen::Made {
+        handle: 0,
+        version: 1,
     };
-    assert!(rt; matches!(made.reply, Reply::Made { version: 1, .. }));
-    assert!(rt; matches!(written.reply, Reply::Version { version: 2 }));
-    assert!(rt; matches!(read.reply, Reply::Bytes { version: 2, .. }));
-    assert!(rt; matches!(freed.reply, Reply::Version { version: 3 }));
-    assert!(rt; matches!(full.reply, Reply::Full { handles: 1 }));
-    assert!(rt; matches!(unmade.reply, Reply::Unmade));
-    assert_eq!(rt; end.losses.as_slice().len(), 0);
+    assert_eq!(rt;
+        seen_by(rt.alloc(), SCRIPT)?.as_slice(),
+        [
+            made,
+            Seen::Version { version: 2 },
+            Seen::Bytes { version: 2 },
+            Seen::Version { version: 3 },
+            Seen::Full { handles: 1 },
+            Seen::Unmade,
+        ]
+        .as_slice()
+    );
+    assert_eq!(rt; losses_by(rt.alloc(), SCRIPT)?, 0);
     Ok(())
 }

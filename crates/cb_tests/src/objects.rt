@@ -1,7 +1,7 @@
 ghost use Rattle.std.specs.Prelude.{◌≡◌, ◌<◌, ◌≤◌, length, IfOk};
 ghost use Rattle.cb_world.specs.World.{IsSoundWorld};
 
-use crate::worlds::{SMALL, empty_world, turn_of};
+use crate::worlds::{SMALL, Seen, empty_world, seen_turn, turn_of};
 use cb_member::NodeId;
 use cb_ptr::unpack;
 use cb_types::{Bytes, Handle, Job, Reply};
@@ -13,22 +13,22 @@ use std::test::Fail;
 const MOST: usize = 1024;
 
 /// Makes an object.
-fn make(alloc: Global, world: &mut World, bytes: &[u8]) -> Result<Reply, Fail>
+fn make(alloc: Global, world: &mut World, bytes: &[u8]) -> Result<Seen, Fail>
     requires some_byte { 1 ≤ length bytes.now }
     requires fits { length bytes.now ≤ 1024 }
     requires sound { IsSoundWorld world.old }
     ensures sound { IsSoundWorld world.new }
-    ensures settings { IfOk result (λ reply. world.new.desk.settings ≡ world.old.desk.settings) }
+    ensures settings { IfOk result (λ seen. world.new.desk.settings ≡ world.old.desk.settings) }
 {
     let bytes = Bytes::copy_of(alloc, bytes)?;
-    turn_of(alloc, world, Job::Make { bytes })
+    seen_turn(alloc, world, Job::Make { bytes })
 }
 
 /// Makes an object of the most bytes.
-fn make_most(alloc: Global, world: &mut World) -> Result<Reply, Fail>
+fn make_most(alloc: Global, world: &mut World) -> Result<Seen, Fail>
     requires sound { IsSoundWorld world.old }
     ensures sound { IsSoundWorld world.new }
-    ensures settings { IfOk result (λ reply. world.new.desk.settings ≡ world.old.desk.settings) }
+    ensures settings { IfOk result (λ seen. world.new.desk.settings ≡ world.old.desk.settings) }
 {
     make(alloc, world, &[7; MOST])
 }
@@ -42,9 +42,9 @@ fn fill(alloc: Global, world: &mut World) -> Result<u32, Fail>
     ensures settings { IfOk result (λ count. world.new.desk.settings ≡ world.old.desk.settings) }
 {
     let node = NodeId { n: 0 };
-    turn_of(alloc, world, Job::Crash { node })?;
+    seen_turn(alloc, world, Job::Crash { node })?;
     for count in 0..20 {
-        let Reply::Made { .. } = make_most(alloc, world)? else {
+        let Seen::Made { .. } = make_most(alloc, world)? else {
             return Ok(count);
         };
     }
@@ -75,7 +75,7 @@ fn place_after_free(alloc: Global) -> Result<u32, Fail> {
     let mut world = empty_world(alloc, SMALL)?;
     fill(alloc, &mut world)?;
     let handle = Handle { n: 5 };
-    turn_of(alloc, &mut world, Job::Free { handle })?;
+    seen_turn(alloc, &mut world, Job::Free { handle })?;
     make_most(alloc, &mut world)?;
     Ok(place_of(&mut world.desk, Handle { n: 8 }))
 }
@@ -95,14 +95,19 @@ fn second_is_at(alloc: Global, len: usize, place: u32) -> Result<bool, Fail> {
     make(alloc, &mut world, bytes)?;
     let handle = Handle { n: 1 };
     let word = unpack(world.desk.word(handle));
-    let Reply::Bytes {
-        version,
-        bytes: had,
-    } = turn_of(alloc, &mut world, Job::Read { handle })?
-    else {
-        return Ok(false);
-    };
-    Ok(word.place == place && !word.hot && version == 1 && had.as_slice() == bytes)
+    let reply = turn_of(alloc, &mut world, Job::Read { handle })?;
+    Ok(word.place == place && !word.hot && shows(&reply, 1, bytes))
+}
+
+/// Whether a reply shows these bytes at this version.
+fn shows(reply: &Reply, wanted: u64, bytes: &[u8]) -> bool {
+    match reply {
+        Reply::Bytes {
+            version,
+            bytes: had,
+        } => *version == wanted && had.as_slice() == bytes,
+        _ => false,
+    }
 }
 
 #[test]
@@ -145,15 +150,11 @@ fn each_length_has_a_slot_of_its_class_and_reads_back(rt: HostRuntime) -> Result
 fn the_words_of_an_object_hold_its_bytes_and_then_zeros(rt: HostRuntime) -> Result<(), Fail> {
     let mut world = empty_world(rt.alloc(), SMALL)?;
     let made = make(rt.alloc(), &mut world, &[1, 2, 3, 4, 5, 6, 7, 8, 9])?;
-    assert!(rt;
-        matches!(
-            made,
-            Reply::Made {
-                handle: Handle { n: 0 },
-                version: 1
-            }
-        )
-    );
+    let wanted = Seen::Made {
+        handle: 0,
+        version: 1,
+    };
+    assert_eq!(rt; made, wanted);
     // Here, not hot, no pins, nine bytes, at place 0.
     let pointer = 2 + 9 * 8192;
     assert_eq!(rt;

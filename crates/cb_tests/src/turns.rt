@@ -2,23 +2,23 @@ ghost use Rattle.std.specs.Prelude.{IfOk};
 ghost use Rattle.cb_core.specs.Jobs.{IsJob};
 ghost use Rattle.cb_tests.specs.Worlds.{IsSmall};
 
-use crate::worlds::{SMALL, empty_world, turn_of};
-use cb_core::{Atomic, Event, Replies, run};
-use cb_types::{Config, Handle, Job, Reply};
+use crate::worlds::{SMALL, Seen, empty_world, seen_replies, seen_turn};
+use cb_core::{Atomic, Event, run};
+use cb_types::{Config, Handle, Job};
 use cb_world::World;
 use std::alloc::Global;
 use std::test::Fail;
 
 /// What a job is answered in a world in which nothing was made.
-fn first_reply(alloc: Global, config: Config, job: Job) -> Result<Reply, Fail>
+fn first_seen(alloc: Global, config: Config, job: Job) -> Result<Seen, Fail>
     requires { IsJob config job }
 {
     let mut world = empty_world(alloc, config)?;
-    turn_of(alloc, &mut world, job)
+    seen_turn(alloc, &mut world, job)
 }
 
 #[test]
-fn an_empty_world_has_no_span_to_evict(rt: HostRuntime) -> Result<(), Fail> {
+fn an_empty_world_has_nothing_to_evict_to_move_or_to_rebuild(rt: HostRuntime) -> Result<(), Fail> {
     for (k, r) in [(1, 1), (2, 2), (16, 4)] {
         let config = Config {
             k,
@@ -26,38 +26,23 @@ fn an_empty_world_has_no_span_to_evict(rt: HostRuntime) -> Result<(), Fail> {
             nodes: 20,
             ..SMALL
         };
-        assert!(rt;
-            matches!(
-                first_reply(rt.alloc(), config, Job::Evict)?,
-                Reply::NoSpans { loose: 0 }
-            ),
+        assert_eq!(rt;
+            first_seen(rt.alloc(), config, Job::Evict)?,
+            Seen::NoSpans { loose: 0 },
             "{k} and {r}"
         );
     }
-    Ok(())
-}
-
-#[test]
-fn an_object_that_was_never_made_is_unmade(rt: HostRuntime) -> Result<(), Fail> {
     for n in 0..9 {
-        let job = Job::Filter {
-            handle: Handle { n },
-        };
-        assert!(rt;
-            matches!(first_reply(rt.alloc(), SMALL, job)?, Reply::Unmade),
+        let handle = Handle { n };
+        assert_eq!(rt;
+            first_seen(rt.alloc(), SMALL, Job::Filter { handle })?,
+            Seen::Unmade,
             "{n}"
         );
     }
-    Ok(())
-}
-
-#[test]
-fn an_empty_world_is_whole(rt: HostRuntime) -> Result<(), Fail> {
-    assert!(rt;
-        matches!(
-            first_reply(rt.alloc(), SMALL, Job::Rebuild)?,
-            Reply::Whole { gone: 0 }
-        )
+    assert_eq!(rt;
+        first_seen(rt.alloc(), SMALL, Job::Rebuild)?,
+        Seen::Whole { gone: 0 }
     );
     Ok(())
 }
@@ -71,7 +56,7 @@ fn small_world(alloc: Global) -> Result<World, Fail>
 
 /// What a run is answered whose events evict from the empty world, look at the first handle, pin it
 /// and give back a pin on it.
-fn run_on_nothing(alloc: Global) -> Result<Replies, Fail> {
+fn run_on_nothing(alloc: Global) -> Result<Vec<Seen>, Fail> {
     let mut world = small_world(alloc)?;
     let handle = Handle { n: 0 };
     let events = [
@@ -92,22 +77,21 @@ fn run_on_nothing(alloc: Global) -> Result<Replies, Fail> {
             atomic: Atomic::Unpin { handle },
         },
     ];
-    Ok(run(alloc, &mut world, &events)?)
+    let replies = run(alloc, &mut world, &events)?;
+    seen_replies(alloc, replies.as_slice())
 }
 
 #[test]
 fn a_run_replies_to_each_event_in_order(rt: HostRuntime) -> Result<(), Fail> {
-    let replies = run_on_nothing(rt.alloc())?;
-    assert!(rt;
-        matches!(
-            replies.as_slice(),
-            [
-                Reply::NoSpans { loose: 0 },
-                Reply::Word { word: 0 },
-                Reply::Unmade,
-                Reply::NotPinned,
-            ]
-        )
+    assert_eq!(rt;
+        run_on_nothing(rt.alloc())?.as_slice(),
+        [
+            Seen::NoSpans { loose: 0 },
+            Seen::Word { word: 0 },
+            Seen::Unmade,
+            Seen::NotPinned,
+        ]
+        .as_slice()
     );
     Ok(())
 }
