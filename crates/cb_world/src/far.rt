@@ -72,16 +72,22 @@ impl Far {
         requires { IsAccepted config }
         ensures empty { IfOk result (λ far. far ≡ empty_far config) }
     {
+        // (the largest last: each `?` drops what was made before it)
+        let frames = Frames::new(alloc, config.frames)?;
+        let members = Members::new(alloc, config.nodes)?;
+        let homes = Homes::new(alloc, config.handles)?;
+        let nodes = Nodes::new(alloc, config.nodes, config.room)?;
+        let spans = Spans::new(alloc, config.frames)?;
         Ok(Far {
             alloc,
             first: 1,
             made: 0,
-            frames: Frames::new(alloc, config.frames)?,
-            spans: Spans::new(alloc, config.frames)?,
+            frames,
+            spans,
             sets: Sets::new(alloc),
-            homes: Homes::new(alloc, config.handles)?,
-            nodes: Nodes::new(alloc, config.nodes, config.room)?,
-            members: Members::new(alloc, config.nodes)?,
+            homes,
+            nodes,
+            members,
             leaving: None,
             joining: None,
             counts: Counts::new(),
