@@ -1,6 +1,7 @@
 pub mod Counting
 pub mod PartsFar
 pub mod Composing
+pub mod Exits
 pub mod DeclinedLooks
 pub mod Changes
 pub mod KeptPins

@@ -1,7 +1,9 @@
 use Rattle.std.proofs.Common.{sym, ap, ◌∙◌, subst, ◌+◌, ◌<◌, ◌^◌, ℕ}
+use Rattle.cb_types.specs.Config.{IsAccepted}
 use Rattle.cb_world.specs.FarState.{FarState}
 use Rattle.cb_world.specs.Homes.{home_at}
 use Rattle.cb_core.proofs.Composing.{holding, shown_after, shown_if, swap_again, swap_lacks_again, swap_refused, swap_stops, swap_without, won_between}
+use Rattle.cb_core.proofs.Exits.{configured_as, settings_kept, swap_at_once}
 use Rattle.cb_core.proofs.PartsFar.{live_home, swap_crammed}
 use Rattle.cb_core.proofs.bringing.bring.Goals as goal
 
@@ -160,3 +162,65 @@ returns-clause-sound g c =
     (λ es s ran a. (g.met.D.Desk.follows _ _ es s ran a).1)
     (shown_after _ _ _ _ _ _ _ y (λ es s ran a. (g.met.D.Desk.follows _ _ es s ran a).1)
     (shown_after _ _ _ _ _ _ _ x (λ es s ran a. (g.met.D.Desk.follows _ _ es s ran a).1) c.requires.sound))
+
+pub returns-in_err-swapped-clause-settings : goal.returns-in_err-swapped-clause-settings
+returns-in_err-swapped-clause-settings g c =
+    ap (λ d. g.D.Desk.settings d) c.in_err-swapped.ensures.desk
+
+pub returns-then-not-is_no_frame-clause-brings : goal.returns-then-not-is_no_frame-clause-brings
+returns-then-not-is_no_frame-clause-brings g c =
+    let at = ap (λ (q : FarState). home_at q.homes c.args.h.n) (sym c.far.view_is)
+    ∙ sym c.at.ensures.home ∙ c.unwrap-home.ensures in
+    swap_at_once (λ d es e. g.D.Desk.run d es e) (λ d s. g.D.Desk.shows d s) (g.D.Desk.settings c.args.desk.now) c.args.h.n
+    c.unwrap-home.result (holding c.args.desk.now c.args.far.now)
+    (holding c.swap_in.new.desk c.swap_in.new.far) c.in_ok-swapped.swapped at
+    c.in_ok-swapped.ensures.swap (c.is_no_frame.ensures.other c.if-not-is_no_frame.true)
+
+pub returns-then-not-is_no_frame-clause-settings : goal.returns-then-not-is_no_frame-clause-settings
+returns-then-not-is_no_frame-clause-settings g c =
+    let x = c.in_ok-swapped.ensures.swap in g.met.D.Desk.stays _ _ x.events x.ran
+
+pub evict_now-requires-clause-config : goal.evict_now-requires-clause-config
+evict_now-requires-clause-config g c =
+    let x = c.in_ok-swapped.ensures.swap in
+    subst IsAccepted (sym (g.met.D.Desk.stays _ _ x.events x.ran)) c.requires.config
+
+pub evict_now-requires-clause-configured : goal.evict_now-requires-clause-configured
+evict_now-requires-clause-configured g c =
+    let x = c.in_ok-swapped.ensures.swap in
+    let none = c.is_no_frame.ensures.yes c.if-not-is_no_frame.false in
+    configured_as _ _ c.args.far.now c.swap_in.new.far (g.met.D.Desk.stays _ _ x.events x.ran)
+    (swap_crammed _ _ c.args.far.now c.swap_in.new.far c.in_ok-swapped.swapped x.events x.rule none).0
+    c.requires.configured
+
+pub evict_now-requires-clause-counts : goal.evict_now-requires-clause-counts
+evict_now-requires-clause-counts g c =
+    let x = c.in_ok-swapped.ensures.swap in
+    let none = c.is_no_frame.ensures.yes c.if-not-is_no_frame.false in
+    subst (λ (f : FarState). (f.counts.sets < 2 ^ 62) × (f.counts.keys < 2 ^ 62))
+    (sym (swap_crammed _ _ c.args.far.now c.swap_in.new.far c.in_ok-swapped.swapped x.events x.rule none).0)
+    c.requires.counts
+
+pub returns-in_err-room-clause-settings : goal.returns-in_err-room-clause-settings
+returns-in_err-room-clause-settings g c =
+    let x = c.in_ok-swapped.ensures.swap in let y = c.in_err-room.ensures.error in
+    g.met.D.Desk.stays _ _ y.events y.ran ∙ g.met.D.Desk.stays _ _ x.events x.ran
+
+pub returns-then-not-is_set-clause-settings : goal.returns-then-not-is_set-clause-settings
+returns-then-not-is_set-clause-settings g c =
+    let x = c.in_ok-swapped.ensures.swap in let y = c.in_ok-room.ensures.evict in
+    g.met.D.Desk.stays _ _ y.events y.ran ∙ g.met.D.Desk.stays _ _ x.events x.ran
+
+pub swap_in-requires-2-clause-config : goal.swap_in-requires-2-clause-config
+swap_in-requires-2-clause-config g c =
+    let x = c.in_ok-swapped.ensures.swap in let y = c.in_ok-room.ensures.evict in
+    subst IsAccepted (sym (g.met.D.Desk.stays _ _ y.events y.ran ∙ g.met.D.Desk.stays _ _ x.events x.ran))
+    c.requires.config
+
+pub returns-clause-settings : goal.returns-clause-settings
+returns-clause-settings g c =
+    let x = c.in_ok-swapped.ensures.swap in let y = c.in_ok-room.ensures.evict in
+    settings_kept (λ d es e. g.D.Desk.run d es e) (λ d. g.D.Desk.settings d) c.evict_now.new.desk
+    c.swap_in-2.new.desk _ _ _ _ c.swap_in-2.result (λ d e es ran. g.met.D.Desk.stays d e es ran)
+    c.swap_in-2.ensures.swap c.swap_in-2.ensures.desk
+    ∙ (g.met.D.Desk.stays _ _ y.events y.ran ∙ g.met.D.Desk.stays _ _ x.events x.ran)

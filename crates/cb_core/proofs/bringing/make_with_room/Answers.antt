@@ -1,5 +1,8 @@
-use Rattle.std.proofs.Common.{◌∙◌}
+use Rattle.std.proofs.Common.{◌∙◌, ◌<◌, ◌^◌, subst, sym}
+use Rattle.cb_types.specs.Config.{IsAccepted}
+use Rattle.cb_world.specs.FarState.{FarState}
 use Rattle.cb_core.proofs.Composing.{holding, make_again, make_lacks_again, make_refused, make_without, shown_after, won_between}
+use Rattle.cb_core.proofs.Exits.{configured_as, make_at_once, make_stops}
 use Rattle.cb_core.proofs.PartsFar.{make_crammed}
 use Rattle.cb_core.proofs.bringing.make_with_room.Goals as goal
 
@@ -76,3 +79,44 @@ returns-clause-error g c =
     set.0 c.make-2.result (λ d. g.met.D.Desk.none d) x
     (c.is_no_frame.ensures.yes c.if-not-is_no_frame.false) same
     (g.met.D.Desk.stays _ _ y.events y.ran ∙ same) y set.1 c.make-2.ensures.error
+
+pub returns-in_err-reply-clause-error : goal.returns-in_err-reply-clause-error
+returns-in_err-reply-clause-error g c =
+    make_stops (λ d es e. g.D.Desk.run d es e) (λ d s. g.D.Desk.shows d s)
+    (g.D.Desk.settings c.args.desk.now) c.args.bytes.now (holding c.args.desk.now c.args.far.now)
+    (holding c.make.new.desk c.make.new.far) c.from_residual.result (λ d. g.met.D.Desk.none d)
+    c.in_err-reply.ensures.error
+
+pub returns-then-not-is_no_frame-clause-makes : goal.returns-then-not-is_no_frame-clause-makes
+returns-then-not-is_no_frame-clause-makes g c =
+    make_at_once (λ d es e. g.D.Desk.run d es e) (λ d s. g.D.Desk.shows d s)
+    (g.D.Desk.settings c.args.desk.now) c.args.bytes.now (holding c.args.desk.now c.args.far.now)
+    (holding c.make.new.desk c.make.new.far) c.in_ok-reply.reply c.in_ok-reply.ensures.make
+    (c.is_no_frame.ensures.other c.if-not-is_no_frame.true)
+
+pub evict_now-requires-clause-config : goal.evict_now-requires-clause-config
+evict_now-requires-clause-config g c =
+    let x = c.in_ok-reply.ensures.make in
+    subst IsAccepted (sym (g.met.D.Desk.stays _ _ x.events x.ran)) c.requires.config
+
+pub evict_now-requires-clause-configured : goal.evict_now-requires-clause-configured
+evict_now-requires-clause-configured g c =
+    let x = c.in_ok-reply.ensures.make in
+    let none = c.is_no_frame.ensures.yes c.if-not-is_no_frame.false in
+    configured_as _ _ c.args.far.now c.make.new.far (g.met.D.Desk.stays _ _ x.events x.ran)
+    (make_crammed _ _ c.args.far.now c.make.new.far c.in_ok-reply.reply x.events x.rule none).0
+    c.requires.configured
+
+pub evict_now-requires-clause-counts : goal.evict_now-requires-clause-counts
+evict_now-requires-clause-counts g c =
+    let x = c.in_ok-reply.ensures.make in
+    let none = c.is_no_frame.ensures.yes c.if-not-is_no_frame.false in
+    subst (λ (f : FarState). (f.counts.sets < 2 ^ 62) × (f.counts.keys < 2 ^ 62))
+    (sym (make_crammed _ _ c.args.far.now c.make.new.far c.in_ok-reply.reply x.events x.rule none).0)
+    c.requires.counts
+
+pub make-requires-2-clause-config : goal.make-requires-2-clause-config
+make-requires-2-clause-config g c =
+    let x = c.in_ok-reply.ensures.make in let y = c.in_ok-room.ensures.evict in
+    subst IsAccepted (sym (g.met.D.Desk.stays _ _ y.events y.ran ∙ g.met.D.Desk.stays _ _ x.events x.ran))
+    c.requires.config

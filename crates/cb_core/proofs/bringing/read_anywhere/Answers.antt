@@ -6,6 +6,7 @@ use Rattle.cb_world.specs.Homes.{home_at}
 use Rattle.cb_core.specs.Parts.{NeverDeclined}
 use Rattle.cb_core.specs.Turned.{BringLacks, Brings, ReadLacks, Reads}
 use Rattle.cb_core.proofs.Composing.{bring_lacks_as, brings_as, come_stops, far_comes, far_kept, far_kept_if, far_stays, far_stops, holding, shown_after, err_map}
+use Rattle.cb_core.proofs.Exits.{is_near}
 use Rattle.cb_core.proofs.PartsFar.{far_has_home}
 use Rattle.cb_core.proofs.bringing.read_anywhere.Goals as goal
 
@@ -89,3 +90,11 @@ returns-clause-error g c =
     (holding c.read.new.desk c.read.new.far) (holding c.bring.new.desk c.bring.new.far)
     c.in_ok-brought.brought (g.met.D.Desk.stays _ _ x.events x.ran) c.in_ok-brought.ensures.brings)
     is.1 (err_map _ _ c.read-2.result c.read-2.ensures.error (λ y. (c.read-2.ensures.far, y)))
+
+pub returns-then-not-is_not_here-clause-reads : goal.returns-then-not-is_not_here-clause-reads
+returns-then-not-is_not_here-clause-reads g c =
+    is_near (Reads (λ d es e. g.D.Desk.run d es e) (λ d s. g.D.Desk.shows d s) c.args.h.n) NeverDeclined
+    (Brings (λ d es e. g.D.Desk.run d es e) (λ d s. g.D.Desk.shows d s) (g.D.Desk.settings c.args.desk.now) c.args.h.n)
+    (holding c.args.desk.now c.args.far.now) (holding c.read.new.desk c.read.new.far)
+    c.in_ok-reply.reply (far_kept _ _ _ _ _ _ _ c.in_ok-reply.ensures.read c.in_ok-reply.ensures.far)
+    (c.is_not_here.ensures.other c.if-not-is_not_here.true)
