@@ -6,6 +6,7 @@ use Rattle.cb_world.specs.Homes.{home_at}
 use Rattle.cb_core.specs.Parts.{NeverLacks}
 use Rattle.cb_core.specs.Turned.{BringLacks, Brings, Declines, Writes}
 use Rattle.cb_core.proofs.Composing.{bring_lacks_as, brings_as, far_comes, far_kept, far_kept_if, far_stays, far_stops, holding, is_declined, shown_after}
+use Rattle.cb_core.proofs.Exits.{is_near}
 use Rattle.cb_core.proofs.PartsFar.{far_has_home}
 use Rattle.cb_core.proofs.bringing.write_anywhere.Goals as goal
 
@@ -90,3 +91,12 @@ returns-clause-writes g c =
     (holding c.decline.new.desk c.write.new.far) (holding c.bring.new.desk c.bring.new.far)
     c.in_ok-came.came (g.met.D.Desk.stays _ _ d.events d.ran ∙ g.met.D.Desk.stays _ _ x.events x.ran) c.in_ok-came.ensures.brings)
     is.1 (far_kept_if _ _ _ _ _ _ _ c.write-2.result c.write-2.ensures.write c.write-2.ensures.far)
+
+pub returns-then-not-is_not_here-clause-writes : goal.returns-then-not-is_not_here-clause-writes
+returns-then-not-is_not_here-clause-writes g c =
+    is_near (Writes (λ d es e. g.D.Desk.run d es e) (λ d s. g.D.Desk.shows d s) c.args.h.n c.args.at c.args.bytes.now) (Declines (λ d es e. g.D.Desk.run d es e) (λ d s. g.D.Desk.shows d s) c.args.h.n c.args.at
+    (length c.args.bytes.now))
+    (Brings (λ d es e. g.D.Desk.run d es e) (λ d s. g.D.Desk.shows d s) (g.D.Desk.settings c.args.desk.now) c.args.h.n)
+    (holding c.args.desk.now c.args.far.now) (holding c.write.new.desk c.write.new.far)
+    c.in_ok-reply.reply (far_kept _ _ _ _ _ _ _ c.in_ok-reply.ensures.write c.in_ok-reply.ensures.far)
+    (c.is_not_here.ensures.other c.if-not-is_not_here.true)
