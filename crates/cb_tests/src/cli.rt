@@ -1,6 +1,6 @@
 use cb_cli::{
-    Command, Due, Failure, PutFailed, TakeError, answers_text, command_of, different_lanes, put_all,
-    script_fault_text, script_ok_text, status, take_all,
+    Command, Due, Failure, PutFailed, TakeError, answers_text, command_of, different_lanes,
+    put_all, script_fault_text, script_ok_text, status, take_all,
 };
 use cb_script::{Line, Lines, Reason, Script};
 use cb_types::{Answer, Answers, Config, Lane, MemSink, MemSource, PlainSource, Reply, Request};
@@ -26,7 +26,10 @@ fn one_word_names_a_command(rt: HostRuntime) -> Result<(), Fail> {
 #[test]
 fn no_word_and_two_words_name_none(rt: HostRuntime) -> Result<(), Fail> {
     let alloc = rt.alloc();
-    let two = vec![in alloc; String::from_str(alloc, "seq")?, String::from_str(alloc, "seq")?]?;
+    let two = vec![in alloc;
+        String::from_str(alloc, "seq")?,
+        String::from_str(alloc, "seq")?,
+    ]?;
     assert_eq!(rt; command_of(alloc, two.as_slice())?, None);
     assert_eq!(rt; command_of(alloc, &[])?, None);
     Ok(())
@@ -45,7 +48,10 @@ fn outcomes_have_statuses(rt: HostRuntime) {
 #[test]
 fn a_fault_is_told_by_line_and_reason(rt: HostRuntime) -> Result<(), Fail> {
     let text = script_fault_text(rt.alloc(), 8, Reason::Hex)?;
-    assert_eq!(rt; text.as_slice(), b"script line 8 reason 10 hex\n".as_slice());
+    assert_eq!(rt;
+        text.as_slice(),
+        b"script line 8 reason 10 hex\n".as_slice()
+    );
     Ok(())
 }
 
@@ -91,7 +97,10 @@ fn answers_are_told_line_by_line(rt: HostRuntime) -> Result<(), Fail> {
         reply: Reply::NoSpans { loose: 2 },
     })?;
     let text = answers_text(alloc, &answers)?;
-    assert_eq!(rt; text.as_slice(), b"1 leave left 0\n3 evict nospans 2\n".as_slice());
+    assert_eq!(rt;
+        text.as_slice(),
+        b"1 leave left 0\n3 evict nospans 2\n".as_slice()
+    );
     Ok(())
 }
 
@@ -99,8 +108,14 @@ fn answers_are_told_line_by_line(rt: HostRuntime) -> Result<(), Fail> {
 fn a_source_is_taken_piece_by_piece(rt: HostRuntime) -> Result<(), Fail> {
     let alloc = rt.alloc();
     let mut source = MemSource::new(Vec::from_slice(alloc, b"0123456789")?, 3, Vec::new(alloc));
-    assert_eq!(rt; take_all(alloc, &mut source), Ok(Vec::from_slice(alloc, b"0123456789")?));
-    assert_eq!(rt; take_all(alloc, &mut PlainSource::new(b"")), Ok(Vec::new(alloc)));
+    assert_eq!(rt;
+        take_all(alloc, &mut source),
+        Ok(Vec::from_slice(alloc, b"0123456789")?)
+    );
+    assert_eq!(rt;
+        take_all(alloc, &mut PlainSource::new(b"")),
+        Ok(Vec::new(alloc))
+    );
     Ok(())
 }
 
