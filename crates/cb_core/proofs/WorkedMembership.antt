@@ -4,12 +4,12 @@ use Rattle.std.specs.Prelude.{slice_index_or}
 use Rattle.std.specs.FinMap as map
 use Rattle.cb_member.specs.declared.names.NodeId.{NodeId}
 use Rattle.cb_member.specs.Membership.{Membership, alive, fresh_node}
-use Rattle.cb_node.specs.NodesState.{NodesState, empty_nodes, with_row, with_rows, row_at}
+use Rattle.cb_node.specs.NodesState.{NodesState, empty_nodes, held, with_row, with_rows, row_at}
 use Rattle.cb_types.specs.declared.reply.Reply.{Reply}
 use Rattle.cb_types.specs.declared.reply.Reply.TheVariants as answer
 use Rattle.cb_world.specs.FarState.{FarState}
 use Rattle.cb_world.specs.NodeChanges.{crashed_far, joined_far}
-use Rattle.cb_world.specs.Survey.{no_survey}
+use Rattle.cb_world.specs.Survey.{no_survey, survey_after_crash}
 use Rattle.cb_core.specs.Membership.{CrashTurn, crashed, is_down, JoinTurn, joined, is_up}
 
 abbrev node : ℕ → NodeId
@@ -49,9 +49,18 @@ without_rows = with_rows rows (node 0) map.empty
 abbrev forgetful : FarState → FarState
 forgetful far = record far { survey = no_survey }
 
+one_row : held rows (node 0) ≡ 1
+one_row = grind (arith, map.gets)
+
+crash_of_a_row : (far : FarState) → crashed_far (with_nodes far rows both_up) (node 0)
+    ≡ forgetful (with_nodes far without_rows first_down)
+crash_of_a_row far = ap (λ (n : ℕ). record (with_nodes far without_rows first_down) {
+  survey = survey_after_crash far.survey n;
+}) one_row
+
 crashes : (far : FarState) → CrashTurn (node 0) (with_nodes far rows both_up)
     (answer.EpochAt (record { n = 5 })) (forgetful (with_nodes far without_rows first_down))
-crashes far = crashed refl refl refl
+crashes far = crashed refl refl (sym (crash_of_a_row far))
 
 -- a node that is up crashes
 is_crashed : (n : NodeId) (far new : FarState) (r : Reply) → alive far.members n ≡ true
@@ -64,7 +73,9 @@ abbrev up_crashed : (far new : FarState) (r : Reply)
     → CrashTurn (node 0) (with_nodes far rows both_up) r new
     → (r ≡ answer.EpochAt (record { n = 5 }))
     × (new ≡ forgetful (with_nodes far without_rows first_down))
-up_crashed far new r step = is_crashed (node 0) (with_nodes far rows both_up) new r refl step
+up_crashed far new r step =
+    let x = is_crashed (node 0) (with_nodes far rows both_up) new r refl step in
+    (x.0, x.1 ∙ crash_of_a_row far)
 
 abbrev epoch_of : Reply → ℕ
 epoch_of (answer.EpochAt epoch) = epoch.n
@@ -113,12 +124,39 @@ crashes_and_makes : (far : FarState) → CrashTurn (node 0) (with_nodes far rows
 crashes_and_makes far step = let e : far.made + 1 ≡ far.made =
     ap (λ (f : FarState). f.made) (up_crashed far _ _ step).1 in omega (arith, e)
 
-crashes_and_keeps_the_survey : (far : FarState) → CrashTurn (node 0)
-    (record (with_nodes far rows both_up) { survey = record { below = 1; gone = 0 } })
-    (answer.EpochAt (record { n = 5 }))
-    (record (with_nodes far without_rows first_down) { survey = record { below = 1; gone = 0 } }) → ⊥
-crashes_and_keeps_the_survey far step = let e : 1 ≡ 0 = ap (λ (f : FarState). f.survey.below)
-    (is_crashed (node 0) _ _ _ refl step).1 in omega (arith, e)
+abbrev surveyed : FarState → FarState
+surveyed far = record far { survey = record { below = 1; gone = 0 } }
+
+crashes_and_keeps_the_survey : (far : FarState)
+    → CrashTurn (node 0) (with_nodes (surveyed far) rows both_up) (answer.EpochAt (record { n = 5 }))
+    (with_nodes (surveyed far) without_rows first_down) → ⊥
+crashes_and_keeps_the_survey far step = let e : 1 ≡ 0 =
+    ap (λ (f : FarState). f.survey.below) (up_crashed (surveyed far) _ _ step).1 in omega (arith, e)
+
+-- a node that has no row crashes, and what was known stays known
+abbrev bare : NodesState
+bare = with_row (empty_nodes 2 4) (node 1) 7 (2 ∷ [])
+
+abbrev bare_down : FarState → FarState
+bare_down far = with_nodes far (with_rows bare (node 0) map.empty) first_down
+
+none_held : held bare (node 0) ≡ 0
+none_held = grind (arith, map.gets)
+
+crash_of_no_row : (far : FarState)
+    → crashed_far (with_nodes far bare both_up) (node 0) ≡ bare_down far
+crash_of_no_row far = ap (λ (n : ℕ). record (bare_down far) {
+  survey = survey_after_crash far.survey n;
+}) none_held
+
+crashes_without_rows : (far : FarState) → CrashTurn (node 0) (with_nodes far bare both_up)
+    (answer.EpochAt (record { n = 5 })) (bare_down far)
+crashes_without_rows far = crashed refl refl (sym (crash_of_no_row far))
+
+forgets_for_nothing : (far : FarState) → CrashTurn (node 0) (with_nodes (surveyed far) bare both_up)
+    (answer.EpochAt (record { n = 5 })) (forgetful (bare_down (surveyed far))) → ⊥
+forgets_for_nothing far step = let e : 0 ≡ 1 = ap (λ (f : FarState). f.survey.below)
+    ((is_crashed (node 0) _ _ _ refl step).1 ∙ crash_of_no_row (surveyed far)) in omega (arith, e)
 
 -- a node that is down
 down_already : (far : FarState) → CrashTurn (node 0) (with_nodes far without_rows first_down)

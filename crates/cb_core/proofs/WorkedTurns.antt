@@ -4,7 +4,7 @@ use Rattle.std.specs.FinMap as map
 use Rattle.cb_class.specs.Class.{IsClassOf, bytes_of}
 use Rattle.cb_member.specs.declared.names.NodeId.{NodeId}
 use Rattle.cb_member.specs.Membership.{fresh_members}
-use Rattle.cb_node.specs.NodesState.{empty_nodes, with_rows}
+use Rattle.cb_node.specs.NodesState.{empty_nodes, held, with_rows}
 use Rattle.cb_span.specs.declared.temp.Temp.TheVariants.{Hot}
 use Rattle.cb_types.specs.declared.handle.Handle.{Handle}
 use Rattle.cb_types.specs.declared.handle.SetId.{SetId}
@@ -15,6 +15,8 @@ use Rattle.cb_world.specs.Counts.{CountsState}
 use Rattle.cb_world.specs.FarState.{FarState}
 use Rattle.cb_world.specs.Placed.{HasRoom}
 use Rattle.cb_world.specs.Memory.{bytes_in, window}
+use Rattle.cb_world.specs.NodeChanges.{crashed_far}
+use Rattle.cb_world.specs.Survey.{survey_after_crash}
 use Rattle.cb_world.specs.Plain.{Words}
 use Rattle.cb_world.specs.Seats.{SeatState}
 use Rattle.cb_world.specs.World.{WorldState, word_at}
@@ -72,10 +74,17 @@ abbrev old : WorldState
 old = world (far three) calm idle
 
 -- ---- a turn
+no_row : held (empty_nodes 2 4) (node 0) ≡ 0
+no_row = grind (arith, map.gets)
+
+crashed_down : crashed_far (far four) (node 0) ≡ far_down four
+crashed_down =
+    ap (λ (n : ℕ). record (far_down four) { survey = survey_after_crash (far four).survey n }) no_row
+
 crash_turn : TurnStep (Crash (node 0)) old (answer.EpochAt (record { n = 1 }))
     (world (far_down four) calm idle)
-crash_turn = done (answer.EpochAt (record { n = 1 })) (lit< tt) (refl, crashed refl refl refl) refl
-    refl
+crash_turn = done (answer.EpochAt (record { n = 1 })) (lit< tt)
+    (refl, crashed refl refl (sym crashed_down)) refl refl
 
 -- what a crash's turn leaves below the last turn
 record Counted (new : WorldState) : Type 0 where
