@@ -136,11 +136,11 @@ read_as reply = answer (Read (97 ∷ [])) reply ∷ []
 -- a name that has no handle, in a lane that has one more line
 module _ (w : WorldState) (names : Names) (none : kept_number names (97 ∷ []) ≡ None) where
   is_unmade : (new : WorldState) (other : Names) (all : List Answer)
-      → (done : LineAnswered reading (1 ∷ []) w names [] new other all)
-      → (done.reply ≡ Unmade) × (new ≡ w) × (done.between ≡ w)
-  is_unmade new other all done =
-      let step = subst (λ (o : Option ℕ). ObjectStep 1 o (Read (97 ∷ [])) w done.reply done.between) none
-      done.step in (step.0, done.rests ∙ step.1, step.1)
+      → (line : LineAnswered reading (1 ∷ []) w names [] new other all)
+      → (line.reply ≡ Unmade) × (new ≡ w) × (line.between ≡ w)
+  is_unmade new other all line =
+      let step = subst (λ (o : Option ℕ). ObjectStep 1 o (Read (97 ∷ [])) w line.reply line.between) none
+      line.step in (step.0, line.rests ∙ step.1, step.1)
 
   is_answered : IsSoundWorld w → LineAnswered reading (1 ∷ []) w names [] w names (read_as Unmade)
   is_answered sound = record {
@@ -154,25 +154,25 @@ module _ (w : WorldState) (names : Names) (none : kept_number names (97 ∷ []) 
   }
 
   answered_freed : LineAnswered reading (1 ∷ []) w names [] w names (read_as Freed) → ⊥
-  answered_freed done =
-      let is = (is_unmade w names (read_as Freed) done).0 in
-      let told = done.answer in absurd cc
+  answered_freed line =
+      let is = (is_unmade w names (read_as Freed) line).0 in
+      let told = line.answer in absurd cc
 
   not_answered : LineAnswered reading (1 ∷ []) w names [] w names [] → ⊥
-  not_answered done = let told = done.answer in absurd cc
+  not_answered line = let told = line.answer in absurd cc
 
   in_an_unsound_world : (IsSoundWorld w → ⊥)
       → LineAnswered reading (1 ∷ []) w names [] w names (read_as Unmade) → ⊥
-  in_an_unsound_world unsound done =
-      unsound (subst IsSoundWorld (is_unmade w names (read_as Unmade) done).2 done.sound)
+  in_an_unsound_world unsound line =
+      unsound (subst IsSoundWorld (is_unmade w names (read_as Unmade) line).2 line.sound)
 
   in_another_world : (new : WorldState) → new.far.made ≡ w.far.made + 1
       → LineAnswered reading (1 ∷ []) w names [] new names (read_as Unmade) → ⊥
-  in_another_world new more done =
-      let same = (is_unmade new names (read_as Unmade) done).1 in
+  in_another_world new more line =
+      let same = (is_unmade new names (read_as Unmade) line).1 in
       omega (arith, more, ap (λ (v : WorldState). v.far.made) same)
 
   with_another_name : (other : Names) → kept_number other (97 ∷ []) ≡ Some 4
       → LineAnswered reading (1 ∷ []) w names [] w other (read_as Unmade) → ⊥
-  with_another_name other four done = absurd (let kept = done.holds (97 ∷ []) in
+  with_another_name other four line = absurd (let kept = line.holds (97 ∷ []) in
       let both : Some 4 ≡ None = sym four ∙ kept ∙ none in cc)

@@ -20,8 +20,8 @@ returns-in-Peek-clause-step c =
     object_is c.args.seat c.args.handle.n c.args.request.now _ c.args.world.now c.peek.new.world
     c.peek.result c.in-Peek.is c.peek.ensures.peek
 
-pub returns-in-Write-clause-step : goal.returns-in-Write-clause-step
-returns-in-Write-clause-step c =
+pub returns-in_ok-copy-in-Write-clause-step : goal.returns-in_ok-copy-in-Write-clause-step
+returns-in_ok-copy-in-Write-clause-step c =
     object_is c.args.seat c.args.handle.n c.args.request.now _ c.args.world.now c.turn_of.new.world
     c.turn_of.result c.in-Write.is (subst (λ (b : List ℕ). IfOk c.turn_of.result (λ r. Step c.args.world.now
     (Turn c.args.seat (job.Write c.args.handle c.in-Write.at b)) r c.turn_of.new.world))
