@@ -56,7 +56,7 @@ pub make_stops : {D : Type 0} (run : D → List Event → D → Type 0) (shows :
     → (b.desk ≡ a.desk) × (b.far ≡ a.far) × NeedsNewSpan c.handles (length bytes) a.far
     → OnErr result (RoomStops (Makes run shows c bytes) (MakeLacks run c bytes) (Evicts run shows c)
     (EvictLacks run shows) a b)
-make_stops run shows c bytes a b result nothing lacked = any_err _ result (lacks_at_once (
+make_stops {D = D} run shows c bytes a b result nothing lacked = any_err _ result (lacks_at_once (
   subst (λ (u : D). run a.desk [] u) (sym lacked.0) (nothing a.desk),
   lacked.1,
   lacked.2,
