@@ -133,6 +133,10 @@ reading = record { lane = record { n = 1 }; line = 2; request = Read (97 ∷ [])
 abbrev read_as : Reply → List Answer
 read_as reply = answer (Read (97 ∷ [])) reply ∷ []
 
+abbrev first_reply : List Answer → Reply
+first_reply [] = Unmade
+first_reply (x ∷ xs) = x.reply
+
 -- a name that has no handle, in a lane that has one more line
 module _ (w : WorldState) (names : Names) (none : kept_number names (97 ∷ []) ≡ None) where
   is_unmade : (new : WorldState) (other : Names) (all : List Answer)
@@ -154,9 +158,8 @@ module _ (w : WorldState) (names : Names) (none : kept_number names (97 ∷ []) 
   }
 
   answered_freed : LineAnswered reading (1 ∷ []) w names [] w names (read_as Freed) → ⊥
-  answered_freed line =
-      let is = (is_unmade w names (read_as Freed) line).0 in
-      let told = line.answer in absurd cc
+  answered_freed line = absurd (let e : Freed ≡ Unmade =
+      ap first_reply line.answer ∙ (is_unmade w names (read_as Freed) line).0 in cc)
 
   not_answered : LineAnswered reading (1 ∷ []) w names [] w names [] → ⊥
   not_answered line = let told = line.answer in absurd cc

@@ -25,7 +25,7 @@ returns-in_ok-copy-in-Write-clause-step c =
     object_is c.args.seat c.args.handle.n c.args.request.now _ c.args.world.now c.turn_of.new.world
     c.turn_of.result c.in-Write.is (subst (λ (b : List ℕ). IfOk c.turn_of.result (λ r. Step c.args.world.now
     (Turn c.args.seat (job.Write c.args.handle c.in-Write.at b)) r c.turn_of.new.world))
-    c.in_ok-copy.ensures.items c.turn_of.ensures.step)
+    c.in_ok-copy-in-Write.ensures.items c.turn_of.ensures.step)
 
 pub returns-in-Free-clause-step : goal.returns-in-Free-clause-step
 returns-in-Free-clause-step c =

@@ -83,16 +83,6 @@ returns-in-Join c = record {
   sound = c.turn_of-in-Join.ensures.sound;
 }
 
-pub returns-in-Leave : goal.returns-in-Leave
-returns-in-Leave c = record {
-  line = line_is c.args.names.now c.args.seat c.args.request.now _ c.args.world.now c.give_back.new.world
-      (Ok (answer.Left c.in_ok-pins.field-0)) c.in-Leave.is
-      (ap answer.Left c.in_ok-pins.ensures.pins, c.in_ok-pins.ensures.gives);
-  names = names_stay c.args.names.now c.args.request.now _ (Ok (answer.Left c.in_ok-pins.field-0))
-      c.in-Leave.is (λ r name. refl);
-  sound = c.give_back.ensures.sound;
-}
-
 pub turn_of-requires-in-Crash-clause-job : goal.turn_of-requires-in-Crash-clause-job
 turn_of-requires-in-Crash-clause-job c =
     subst (λ (q : Request). IsRequest c.args.world.now.desk.settings.nodes q) c.in-Crash.is c.requires.request

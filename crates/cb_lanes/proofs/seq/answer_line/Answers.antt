@@ -14,3 +14,12 @@ returns-clause-line c = λ later are. ok_then c.note_answer.result (λ done adde
   holds = c.in_ok-reply.ensures.names;
   answer = added;
 }) c.note_answer.ensures.answer
+
+pub returns-clause-left : goal.returns-clause-left
+returns-clause-left c = λ later are. (c.take_line-behind.ensures.left later are).0
+
+pub returns-in_err-reply-clause-left : goal.returns-in_err-reply-clause-left
+returns-in_err-reply-clause-left c = λ later are. (c.take_line-behind.ensures.left later are).0
+
+pub returns-in_err-rest-clause-left : goal.returns-in_err-rest-clause-left
+returns-in_err-rest-clause-left c = λ later are. (c.take_line-behind.ensures.left later are).0
