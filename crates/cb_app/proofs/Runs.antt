@@ -98,7 +98,7 @@ module _ (command : Command) (before after : Option (List ℕ)) (old new : Endin
 pub decided_failed : (command : Command) (before : Option (List ℕ)) (failure : Failure)
     → IsDecided command before (Err failure)
 decided_failed command before failure =
-    record { accepted = λ all told accepts. inr tt; refused = λ all text told refuses. inr tt }
+    record { accepted = λ all told accepts. inr refl; refused = λ all text told refuses. inr refl }
 
 -- the words are refused, and the text that tells it is put, or cut short
 pub words_cut : (words : List (String Global)) (before held holds : Option (List ℕ)) (end : Ending)

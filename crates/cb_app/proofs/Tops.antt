@@ -1,5 +1,5 @@
 -- What holds of an outcome, said of its status.
-use Rattle.std.proofs.Common.{◌≡◌, ℕ, ◌≤◌, ◌⊎◌, List, Option, Result, Ok, Err, refl, sym, ap, subst, ◌∙◌, inl, inr, arith, String, Global}
+use Rattle.std.proofs.Common.{◌≡◌, ℕ, ◌≤◌, ◌⊎◌, List, Option, Result, Ok, Err, refl, sym, ap, subst, ◌∙◌, inl, inr, arith, String, Global, true≢false}
 use Rattle.std.specs.Prelude.{◌≢◌, IsErr}
 use Rattle.cb_types.specs.Faults.{Rose}
 use Rattle.cb_cli.specs.declared.outcome.Due.{Due}
@@ -56,7 +56,7 @@ words_status outcome status is (inr (inr e)) =
     let same : status ≡ 5 = is ∙ ap status_of e in inr (omega (arith, same))
 
 failed_status : (outcome : Result Due Failure) → IsErr outcome → 3 ≤ status_of outcome
-failed_status (Ok due) failed = absurd failed
+failed_status (Ok due) failed = absurd (true≢false (sym failed))
 failed_status (Err Read) failed = omega arith
 failed_status (Err Write) failed = omega arith
 failed_status (Err NoMemory) failed = omega arith

@@ -1,5 +1,5 @@
 -- Worked examples: what `check` yields, what `seq` refuses, and runs of both.
-use Rattle.std.proofs.Common.{◌≡◌, ℕ, List, [], ◌∷◌, length, Some, None, Ok, Err, refl, sym, ap, ◌∙◌, arith, inl, inr, String, Global}
+use Rattle.std.proofs.Common.{◌≡◌, ℕ, List, [], ◌∷◌, length, Some, None, Ok, Err, refl, sym, ap, ◌∙◌, arith, inl, inr, String, Global, true≢false}
 use Rattle.std.specs.Prelude.{codes, string_bytes}
 use Rattle.std.specs.Fmt.{digits}
 use Rattle.cb_types.specs.Config.{IsAccepted}
@@ -197,14 +197,14 @@ decided = record {
 accepted_and_refused : IsDecided Check (Some input) (Ok dues.ScriptRefused) → ⊥
 accepted_and_refused is = elim (is.accepted input refl check_accepts) [
   | inl e ↦ absurd cc
-  | inr e ↦ e
+  | inr e ↦ absurd (true≢false (sym e))
 ]
 
 -- what is refused is done with
 refused_and_done : IsDecided Seq (Some input) (Ok dues.Done) → ⊥
 refused_and_done is = elim (is.refused input (codes "script line 2 reason 13 unbuilt\n") refl seq_refuses) [
   | inl e ↦ absurd cc
-  | inr e ↦ e
+  | inr e ↦ absurd (true≢false (sym e))
 ]
 
 -- a count of faults rises where reading or writing failed, and there alone
