@@ -44,20 +44,30 @@ fn expect_positions(rt: &impl Abort, n: u32, k: u32, positions: &[u8])
     }
 }
 
+/// The data, which come first, encode to these parities.
+fn expect_parities(
+    rt: &impl Abort,
+    alloc: Global,
+    k: u32,
+    r: u32,
+    first: &[u8],
+    parities: &[u8],
+) -> Result<(), Fail>
+    requires in_range { IsInRange k r }
+    requires first { length first.now ≡ k }
+{
+    let rows = column_of(alloc, first)?;
+    let encoded = encode(alloc, &coefficients(k, r), &rows)?;
+    expect_word_of(rt, &encoded, parities);
+    Ok(())
+}
+
 /// The data of the word encode to its parities, and the whole has no syndrome.
 fn expect_word(rt: &impl Abort, alloc: Global, k: u32, r: u32, word: &[u8]) -> Result<(), Fail> {
     expect_range(rt, k, r);
     assert_eq!(rt; word.len(), (k + r) as usize);
-    let rows = column_of(alloc, &word[..k as usize])?;
-    let parities = encode(alloc, &coefficients(k, r), &rows)?;
-    assert_eq!(rt; parities.count(), r);
-    for j in 0..r {
-        assert_eq!(rt;
-            parities.row(j),
-            [word[(k + j) as usize]; 33].as_slice(),
-            "parity {j} of {word:?}"
-        );
-    }
+    let (first, parities) = word.split_at(k as usize);
+    expect_parities(rt, alloc, k, r, first, parities)?;
     assert!(rt; has_no_syndrome(rt, alloc, k, r, word)?, "{word:?}");
     Ok(())
 }
@@ -75,6 +85,37 @@ fn has_no_syndrome(
     Ok(syndromes_zero(r, &rows))
 }
 
+/// The rows of a word are these bytes, each 33 times.
+fn expect_word_of(rt: &impl Abort, word: &Rows, solution: &[u8]) {
+    assert_eq!(rt; word.count() as usize, solution.len());
+    for (p, byte) in solution.iter().enumerate() {
+        assert_eq!(rt;
+            word.row(p as u32),
+            [*byte; 33].as_slice(),
+            "position {p} of {solution:?}"
+        );
+    }
+}
+
+/// The rows at the present positions have this solution.
+fn expect_solved(
+    rt: &impl Abort,
+    alloc: Global,
+    k: u32,
+    r: u32,
+    present: &[u8],
+    rows: &Rows,
+    solution: &[u8],
+) -> Result<(), NoMemory>
+    requires in_range { IsInRange k r }
+    requires positions { ArePositions (k + r) k present.now }
+    requires count { length rows.now ≡ k + r }
+{
+    let word = solve(alloc, k, r, rows, present)?;
+    expect_word_of(rt, &word, solution);
+    Ok(())
+}
+
 /// The rows at the present positions have this solution, whatever stands in the others.
 fn expect_solution(
     rt: &impl Abort,
@@ -89,16 +130,8 @@ fn expect_solution(
     expect_positions(rt, k + r, k, present);
     assert_eq!(rt; rows.len(), (k + r) as usize);
     assert_eq!(rt; solution.len(), (k + r) as usize);
-    let word = solve(alloc, k, r, &column_of(alloc, rows)?, present)?;
-    assert_eq!(rt; word.count(), k + r);
-    for p in 0..k + r {
-        assert_eq!(rt;
-            word.row(p),
-            [solution[p as usize]; 33].as_slice(),
-            "position {p} of {solution:?}"
-        );
-    }
-    Ok(())
+    let rows = column_of(alloc, rows)?;
+    Ok(expect_solved(rt, alloc, k, r, present, &rows, solution)?)
 }
 
 /// The rows of a word at the present positions, and zeros at the others.
@@ -123,20 +156,21 @@ fn present_rows(
     Ok(rows)
 }
 
+/// The rows of a word are those of several blocks.
+fn expect_block_rows(rt: &impl Abort, word: &Rows, present: &[u8]) {
+    assert_eq!(rt; word.count(), 6);
+    for (p, row) in BLOCKS.iter().enumerate() {
+        assert_eq!(rt; word.row(p as u32), *row, "position {p} from {present:?}");
+    }
+}
+
 /// The rows at the present positions give back the word of several blocks.
 fn expect_blocks(rt: &impl Abort, alloc: Global, present: &[u8]) -> Result<(), Fail> {
     expect_range(rt, 4, 2);
     expect_positions(rt, 6, 4, present);
     let rows = present_rows(rt, alloc, &BLOCKS, present)?;
     let word = solve(alloc, 4, 2, &rows, present)?;
-    assert_eq!(rt; word.count(), 6);
-    for p in 0..6u32 {
-        assert_eq!(rt;
-            word.row(p),
-            BLOCKS[p as usize],
-            "position {p} from {present:?}"
-        );
-    }
+    expect_block_rows(rt, &word, present);
     Ok(())
 }
 

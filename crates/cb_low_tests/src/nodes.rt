@@ -1,8 +1,9 @@
 ghost use Rattle.std.specs.Prelude.{◌≡◌, ◌-◌, ◌^◌, ◌<◌, length, false};
 ghost use Rattle.cb_node.specs.NodesState.{has};
 
-use cb_member::{Epoch, Loss, Losses, MemberAnswer, Members, NodeId};
+use cb_member::{Epoch, Loss, Losses, MemberAnswer, Members, NoMemory, NodeId};
 use cb_node::{Nodes, PutAnswer};
+use std::alloc::Global;
 use std::process::Abort;
 use std::test::Fail;
 
@@ -26,16 +27,39 @@ fn crashes_and_joins_are_counted_and_kept(rt: HostRuntime) -> Result<(), Fail> {
     Ok(())
 }
 
+const LOSS: Loss = Loss {
+    node: NodeId { n: 3 },
+    epoch: Epoch { n: 7 },
+};
+
+/// Whether a copy of two losses has both.
+fn copy_has_them(alloc: Global) -> Result<bool, NoMemory> {
+    let losses = Losses::copy_of(alloc, &[LOSS, LOSS])?;
+    Ok(losses.as_slice() == [LOSS, LOSS].as_slice())
+}
+
+/// A copy of two losses that was a vector in between.
+fn copy_by_a_vector(alloc: Global) -> Result<Losses, NoMemory> {
+    let losses = Losses::copy_of(alloc, &[LOSS, LOSS])?;
+    Ok(Losses::from(losses.into_vec()))
+}
+
+/// Whether these losses are a copy of the two.
+fn equals_a_copy(alloc: Global, losses: &Losses) -> Result<bool, NoMemory> {
+    let other = Losses::copy_of(alloc, &[LOSS, LOSS])?;
+    Ok(*losses == other)
+}
+
+/// Whether a copy that was a vector in between has both losses.
+fn copy_has_them_again(alloc: Global) -> Result<bool, NoMemory> {
+    let losses = copy_by_a_vector(alloc)?;
+    equals_a_copy(alloc, &losses)
+}
+
 #[test]
 fn a_copy_has_the_losses(rt: HostRuntime) -> Result<(), Fail> {
-    let loss = Loss {
-        node: NodeId { n: 3 },
-        epoch: Epoch { n: 7 },
-    };
-    let losses = Losses::copy_of(rt.alloc(), &[loss, loss])?;
-    assert_eq!(rt; losses.as_slice(), [loss, loss].as_slice());
-    let again = Losses::from(losses.into_vec());
-    assert!(rt; again == Losses::copy_of(rt.alloc(), &[loss, loss])?);
+    assert!(rt; copy_has_them(rt.alloc())?);
+    assert!(rt; copy_has_them_again(rt.alloc())?);
     Ok(())
 }
 

@@ -1,7 +1,8 @@
 use cb_script::{
-    Line, Lines, Mode, Reason, ScriptFault, first_unbuilt, print_script, read_script, script_laws,
+    Line, Lines, Mode, Reason, Script, ScriptFault, first_unbuilt, print_script, read_script,
+    script_laws,
 };
-use cb_types::{Bytes, Config, Lane, NoMemory, Request};
+use cb_types::{Config, Lane, NoMemory, Request};
 use std::alloc::Global;
 use std::test::Fail;
 
@@ -79,57 +80,69 @@ fn tells_the_first_bad_line_and_its_least_reason(rt: HostRuntime) -> Result<(), 
     Ok(())
 }
 
+const HEADERS: [(&str, (u32, u32)); 9] = [
+    ("", (1, 2)),
+    ("\n", (1, 2)),
+    (
+        "carbink 1 k=02 r=2 nodes=6 frames=8 room=64 handles=16 turns=0\n",
+        (1, 2),
+    ),
+    (
+        "carbink 1 r=2 k=2 nodes=6 frames=8 room=64 handles=16 turns=0\n",
+        (1, 2),
+    ),
+    (
+        "carbink 1 k=2 r=2 nodes=6 frames=8 room=64 handles=16\n",
+        (1, 2),
+    ),
+    (
+        "carbink 1 k=2 r=2 nodes=6 frames=8 room=64 handles=16 turns=1000000000\n",
+        (1, 2),
+    ),
+    (
+        "carbink 1 k=0 r=2 nodes=6 frames=8 room=64 handles=16 turns=0\n1\n",
+        (1, 3),
+    ),
+    (
+        "carbink 1 k=2 r=2 nodes=3 frames=8 room=64 handles=16 turns=0",
+        (1, 3),
+    ),
+    (
+        "carbink 1 k=2 r=2 nodes=4 frames=8 room=64 handles=16 turns=0",
+        (0, 0),
+    ),
+];
+
 #[test]
-fn tells_faults_of_headers_and_modes(rt: HostRuntime) -> Result<(), Fail> {
-    for (text, fault) in [
-        ("", (1, 2)),
-        ("\n", (1, 2)),
-        (
-            "carbink 1 k=02 r=2 nodes=6 frames=8 room=64 handles=16 turns=0\n",
-            (1, 2),
-        ),
-        (
-            "carbink 1 r=2 k=2 nodes=6 frames=8 room=64 handles=16 turns=0\n",
-            (1, 2),
-        ),
-        (
-            "carbink 1 k=2 r=2 nodes=6 frames=8 room=64 handles=16\n",
-            (1, 2),
-        ),
-        (
-            "carbink 1 k=2 r=2 nodes=6 frames=8 room=64 handles=16 turns=1000000000\n",
-            (1, 2),
-        ),
-        (
-            "carbink 1 k=0 r=2 nodes=6 frames=8 room=64 handles=16 turns=0\n1\n",
-            (1, 3),
-        ),
-        (
-            "carbink 1 k=2 r=2 nodes=3 frames=8 room=64 handles=16 turns=0",
-            (1, 3),
-        ),
-        (
-            "carbink 1 k=2 r=2 nodes=4 frames=8 room=64 handles=16 turns=0",
-            (0, 0),
-        ),
-    ] {
+fn tells_faults_of_headers(rt: HostRuntime) -> Result<(), Fail> {
+    for (text, fault) in HEADERS {
         assert_eq!(rt;
             fault_of_bytes(rt.alloc(), text.as_bytes(), Mode::Seq)?,
             fault,
             "{text:?}"
         );
     }
+    Ok(())
+}
+
+/// The fault of a script with this verb on its third line.
+fn fault_of_verb(alloc: Global, verb: &str, mode: Mode) -> Result<(u32, u32), Fail> {
+    let lines = format!(in alloc; "1 evict\n1 {verb}\n")?;
+    fault_of(alloc, lines.as_str(), mode)
+}
+
+#[test]
+fn tells_verbs_that_threads_have_not(rt: HostRuntime) -> Result<(), Fail> {
     for verb in [
         "begin", "ship", "commit", "abort", "pair", "patch", "merge", "part",
     ] {
-        let lines = format!(in rt.alloc(); "1 evict\n1 {verb}\n")?;
         assert_eq!(rt;
-            fault_of(rt.alloc(), lines.as_str(), Mode::Threads)?,
+            fault_of_verb(rt.alloc(), verb, Mode::Threads)?,
             (3, 12),
             "{verb}"
         );
         assert_eq!(rt;
-            fault_of(rt.alloc(), lines.as_str(), Mode::Seq)?,
+            fault_of_verb(rt.alloc(), verb, Mode::Seq)?,
             (0, 0),
             "{verb}"
         );
@@ -170,61 +183,93 @@ fn meets_the_limits(rt: HostRuntime) -> Result<(), Fail> {
     Ok(())
 }
 
-/// What is printed of the script that the text is.
-fn printed(alloc: Global, text: &str) -> Result<Bytes, Fail> {
+/// The script of the header and these lines, with this at its end.
+fn text_of(alloc: Global, lines: &str, end: &str) -> Result<String, Fail> {
+    let header = HEADER;
+    Ok(format!(in alloc; "{header}{lines}{end}")?)
+}
+
+/// Whether the script is printed as these bytes.
+fn script_prints(alloc: Global, script: &Script, wanted: &[u8]) -> Result<bool, NoMemory> {
+    let printed = print_script(alloc, script)?;
+    Ok(printed.as_slice() == wanted)
+}
+
+/// Whether the script that the text is has these bytes when it is printed.
+fn text_prints(alloc: Global, text: &str, wanted: &[u8]) -> Result<bool, Fail> {
     let script = read_script(alloc, text.as_bytes(), Mode::Seq)?;
-    Ok(print_script(alloc, &script)?)
+    Ok(script_prints(alloc, &script, wanted)?)
+}
+
+/// Whether the script that the text is has the header and each line, with a feed at its end, when
+/// it is printed: also where the last one was read without.
+fn prints_lines(alloc: Global, text: &str, lines: &str) -> Result<bool, Fail> {
+    let whole = text_of(alloc, lines, "\n")?;
+    text_prints(alloc, text, whole.as_bytes())
 }
 
 /// The script's first line with a verb that is not answered yet, its sizes and its count of lines.
-fn shape_of(alloc: Global, text: &str) -> Result<(Option<u32>, Config, usize), Fail> {
-    let script = read_script(alloc, text.as_bytes(), Mode::Seq)?;
-    let count = script.lines.as_slice().len();
-    Ok((first_unbuilt(&script), script.config, count))
+fn shape_of(script: &Script) -> (Option<u32>, Config, usize) {
+    (
+        first_unbuilt(script),
+        script.config,
+        script.lines.as_slice().len(),
+    )
 }
+
+/// The shape of the script that the text is.
+fn shape_of_text(alloc: Global, text: &str) -> Result<(Option<u32>, Config, usize), Fail> {
+    let script = read_script(alloc, text.as_bytes(), Mode::Seq)?;
+    Ok(shape_of(&script))
+}
+
+/// The shape of the script of the header and these lines, and whether it is printed so.
+fn shape_and_print(
+    alloc: Global,
+    lines: &str,
+    end: &str,
+) -> Result<((Option<u32>, Config, usize), bool), Fail> {
+    let text = text_of(alloc, lines, end)?;
+    let shape = shape_of_text(alloc, text.as_str())?;
+    Ok((shape, prints_lines(alloc, text.as_str(), lines)?))
+}
+
+const CONFIG: Config = Config {
+    k: 2,
+    r: 2,
+    nodes: 6,
+    frames: 8,
+    room: 64,
+    handles: 16,
+    turns: 0,
+};
+
+/// Lines, what stands behind them, the first line with a verb that is not answered yet, and how many
+/// lines there are.
+const PRINTED: [(&str, &str, Option<u32>, usize); 5] = [
+    ("1 make a 0a0b\n1 read a", "", None, 2),
+    ("1 make a 0a0b\n1 read a", "\n", None, 2),
+    (
+        "0 make a 00\n2 write a 7 -\n2 write a 0 ff\n2 free a\n3 pin a\n3 compact",
+        "\n",
+        Some(7),
+        6,
+    ),
+    ("15 crash 5\n15 join 0", "\n", None, 2),
+    (
+        "1 begin\n1 ship\n1 commit\n1 abort\n1 pair",
+        "\n",
+        Some(6),
+        5,
+    ),
+];
 
 #[test]
 fn prints_what_it_read(rt: HostRuntime) -> Result<(), Fail> {
-    let header = HEADER;
-    let config = Config {
-        k: 2,
-        r: 2,
-        nodes: 6,
-        frames: 8,
-        room: 64,
-        handles: 16,
-        turns: 0,
-    };
-    for (lines, feed, unbuilt, count) in [
-        ("1 make a 0a0b\n1 read a", "", None, 2),
-        ("1 make a 0a0b\n1 read a", "\n", None, 2),
-        (
-            "0 make a 00\n2 write a 7 -\n2 write a 0 ff\n2 free a\n3 pin a\n3 compact",
-            "\n",
-            Some(7),
-            6,
-        ),
-        ("15 crash 5\n15 join 0", "\n", None, 2),
-        (
-            "1 begin\n1 ship\n1 commit\n1 abort\n1 pair",
-            "\n",
-            Some(6),
-            5,
-        ),
-    ] {
-        let text = format!(in rt.alloc(); "{header}{lines}{feed}")?;
-        assert_eq!(rt;
-            shape_of(rt.alloc(), text.as_str())?,
-            (unbuilt, config, count),
-            "{lines:?}"
-        );
-        // Each line is printed with a feed at its end, also where the last one was read without.
-        let whole = format!(in rt.alloc(); "{header}{lines}\n")?;
-        assert_eq!(rt;
-            printed(rt.alloc(), text.as_str())?.as_slice(),
-            whole.as_bytes(),
-            "{lines:?}"
-        );
+    for (lines, end, unbuilt, count) in PRINTED {
+        let (shape, printed) = shape_and_print(rt.alloc(), lines, end)?;
+        assert_eq!(rt; shape, (unbuilt, CONFIG, count), "{lines:?}");
+        assert!(rt; printed, "{lines:?}");
     }
     Ok(())
 }
