@@ -3,10 +3,10 @@
 //! are run on both.
 #![tactic(auto)]
 
-pub mod course;
+mod course;
 pub mod keeper;
 pub mod order;
-pub mod rows;
+mod rows;
 pub mod schedule;
 pub mod sender;
 pub mod step;
