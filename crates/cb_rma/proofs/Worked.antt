@@ -1,5 +1,5 @@
 -- Worked rows, windows and schedules: what the definitions say of them, and what breaks one part.
-use Rattle.std.proofs.Common.{◌≡◌, ◌+◌, ◌^◌, ◌≤◌, List, [], ◌∷◌, Some, None, refl, ap, ◌∙◌, arith, lit≤}
+use Rattle.std.proofs.Common.{◌≡◌, ℕ, ◌+◌, ◌^◌, ◌≤◌, List, [], ◌∷◌, Some, None, refl, ap, ◌∙◌, arith, lit≤}
 use Rattle.std.specs.FinMap as map
 use Rattle.std.specs.Ordering.{nat_cmp}
 use Rattle.cb_gf256.specs.Product.{◌⊗◌}
@@ -10,10 +10,13 @@ use Rattle.cb_rma.specs.declared.sender.Heard.TheVariants as heard
 use Rattle.cb_rma.specs.declared.keeper.Handled.TheVariants as handled
 use Rattle.cb_rma.specs.declared.step.Step.{Step}
 use Rattle.cb_rma.specs.declared.step.Step.TheVariants as step
+use Rattle.cb_rma.specs.declared.step.Said.{Said}
 use Rattle.cb_rma.specs.declared.step.Said.TheVariants as said
 use Rattle.cb_rma.specs.Rows.{with_order, with_sum, rows_after}
 use Rattle.cb_rma.specs.Sending.{SenderState, IsSender, sender_of, ask_of, hears}
-use Rattle.cb_rma.specs.Keeping.{ack_of}
+use Rattle.cb_rma.specs.Keeping.{KeeperState, ack_of, keeper_of}
+use Rattle.cb_rma.specs.Ends.{Ends}
+use Rattle.cb_rma.specs.declared.schedule.Ended.{Ended}
 use Rattle.cb_rma.specs.Schedule.{Standing, start, reply, replies, behind, reply_to_show}
 
 -- what orders do to rows
@@ -121,3 +124,51 @@ said_behind_a_restart = refl
 
 no_row_is_shown : reply (behind there (step.Restart ∷ step.Ask 1 ∷ [])) (step.Show 1) ≡ said.NoRow
 no_row_is_shown = ap reply_to_show (map.get-empty nat_cmp 1)
+
+-- where a schedule of one order ends, and what breaks one part
+abbrev one_order : List Step
+one_order = step.Submit (Put 1 (10 ∷ [])) ∷ step.Send 0 ∷ step.Ask 0 ∷ step.Ack 0 ∷ []
+
+abbrev said_to_one : List Said
+said_to_one =
+    said.Submitted (submitted.Taken 0) ∷ said.Sent 0
+    ∷ said.Handled (handled.Applied (ack_of 0 1)) ∷ said.Heard (heard.Fresh 1) ∷ []
+
+abbrev ended : Ended
+ended = record { sender = sender_of 0 1 1 []; keeper = keeper_of 0 1 ten; said = said_to_one }
+
+ends_so : Ends 1 one_order ended
+ends_so = record {
+  said = refl;
+  sender = refl;
+  keeper = refl;
+  taken = lit≤ tt;
+  rows = refl;
+  heard = lit≤ tt;
+}
+
+with_a_reply_left_out : ¬ (Ends 1 one_order (record ended { said = [] }))
+with_a_reply_left_out h = cc (h.said)
+
+with_another_sender : ¬ (Ends 1 one_order (record ended { sender = sender_of 0 1 0 [] }))
+with_another_sender h =
+    let e : 0 ≡ 1 = ap (λ (s : SenderState). s.acknowledged) h.sender in absurd (omega (arith, e))
+
+with_another_incarnation : ¬ (Ends 1 one_order (record ended { keeper = keeper_of 1 1 ten }))
+with_another_incarnation h =
+    let e : 1 ≡ 0 = ap (λ (k : KeeperState). k.incarnation) h.keeper in absurd (omega (arith, e))
+
+with_a_count_past_the_orders : ¬ (Ends 1 one_order (record ended { keeper = keeper_of 0 2 ten }))
+with_a_count_past_the_orders h =
+    let e : 2 ≤ 1 = h.taken in absurd (omega (arith, e))
+
+with_rows_of_no_order : ¬ (Ends 1 one_order (record ended { keeper = keeper_of 0 1 map.empty }))
+with_rows_of_no_order h =
+    let none : map.get (map.empty {X = List ℕ} {R = nat_cmp}) 1 ≡ None = map.get-empty nat_cmp 1 in
+    let e : map.get (map.empty {X = List ℕ} {R = nat_cmp}) 1 ≡ Some (10 ∷ []) =
+    ap (λ (rows : RowsByKey). map.get rows 1) h.rows ∙ put_is_there in
+    cc (none, e)
+
+with_more_acknowledged_than_applied : ¬ (Ends 1 one_order (record ended { sender = sender_of 0 1 2 [] }))
+with_more_acknowledged_than_applied h =
+    let e : 2 ≤ 1 = h.heard in absurd (omega (arith, e))
