@@ -5,7 +5,7 @@ use cb_types::Bytes;
 use std::alloc::Global;
 
 /// A change of the rows that a keeper has by their keys.
-#[derive(Debug, Drop)]
+#[derive(Drop)]
 pub enum Order {
     /// The row replaces the one at the key, if there is one.
     Put { key: u64, row: Bytes },
@@ -17,7 +17,7 @@ pub enum Order {
 }
 
 /// An order on its way to the keeper: the order of this number in this incarnation of the sender.
-#[derive(Debug, Drop)]
+#[derive(Drop)]
 pub struct Ask {
     pub incarnation: u64,
     pub number: u64,

@@ -10,7 +10,7 @@ use std::marker::Model;
 
 /// An event of a schedule. Asks and acknowledgements are numbered from 0 each, in the order in which
 /// they were sent, across restarts.
-#[derive(Debug, Drop)]
+#[derive(Drop)]
 pub enum Step {
     /// An order is submitted.
     Submit { order: Order },
@@ -27,7 +27,7 @@ pub enum Step {
 }
 
 /// What is said to an event.
-#[derive(Debug, Drop)]
+#[derive(Drop)]
 pub enum Said {
     /// To an order that was submitted.
     Submitted(Submitted),
