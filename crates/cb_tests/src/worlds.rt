@@ -56,7 +56,7 @@ pub(crate) enum Seen {
 }
 
 /// What a test looks at of this reply.
-pub(crate) fn seen(reply: &Reply) -> Seen {
+pub(crate) fn looked_at(reply: &Reply) -> Seen {
     match reply {
         Reply::Made { handle, version } => Seen::Made {
             handle: handle.n,
@@ -78,7 +78,7 @@ pub(crate) fn seen(reply: &Reply) -> Seen {
 pub(crate) fn seen_replies(alloc: Global, replies: &[Reply]) -> Result<Vec<Seen>, Fail> {
     let mut all = Vec::new(alloc);
     for reply in replies {
-        all.push(seen(reply))?;
+        all.push(looked_at(reply))?;
     }
     Ok(all)
 }
@@ -87,7 +87,7 @@ pub(crate) fn seen_replies(alloc: Global, replies: &[Reply]) -> Result<Vec<Seen>
 pub(crate) fn seen_answers(alloc: Global, answers: &[Answer]) -> Result<Vec<Seen>, Fail> {
     let mut all = Vec::new(alloc);
     for answer in answers {
-        all.push(seen(&answer.reply))?;
+        all.push(looked_at(&answer.reply))?;
     }
     Ok(all)
 }
@@ -100,5 +100,5 @@ pub(crate) fn seen_turn(alloc: Global, world: &mut World, job: Job) -> Result<Se
     ensures settings { IfOk result (λ seen. world.new.desk.settings ≡ world.old.desk.settings) }
 {
     let reply = turn_of(alloc, world, job)?;
-    Ok(seen(&reply))
+    Ok(looked_at(&reply))
 }
