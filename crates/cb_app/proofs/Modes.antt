@@ -15,8 +15,8 @@ use Rattle.cb_script.proofs.OneReading.{script_unique, spells_no_fault}
 use Rattle.cb_cli.specs.declared.words.Command.{Command}
 use Rattle.cb_cli.specs.declared.words.Command.TheVariants.{Seq, Check}
 use Rattle.cb_cli.specs.Texts.{fault_text}
-use Rattle.cb_app.specs.declared.commands.Verdict.{Verdict}
-use Rattle.cb_app.specs.declared.commands.Verdict.TheVariants.{Refused}
+use Rattle.cb_cli.specs.declared.verdict.Verdict.{Verdict}
+use Rattle.cb_cli.specs.declared.verdict.Verdict.TheVariants.{Refused}
 use Rattle.cb_app.specs.declared.ending.Ending.{Ending}
 use Rattle.cb_app.specs.Modes.{Accepts, Refuses, IsVerdict}
 use Rattle.cb_app.specs.Scripts.{IsUnanswered}

@@ -13,8 +13,8 @@ use Rattle.cb_cli.specs.Fronts.{GetsFront}
 use Rattle.cb_cli.specs.Texts.{words_refused}
 use Rattle.cb_cli.proofs.CommandWords.{one_command}
 use Rattle.cb_cli.proofs.Whole.{taken_is}
-use Rattle.cb_app.specs.declared.commands.Verdict.{Verdict}
-use Rattle.cb_app.specs.declared.commands.Verdict.TheVariants.{Done, Refused}
+use Rattle.cb_cli.specs.declared.verdict.Verdict.{Verdict}
+use Rattle.cb_cli.specs.declared.verdict.Verdict.TheVariants.{Done, Refused}
 use Rattle.cb_app.specs.declared.ending.Ending.{Ending}
 use Rattle.cb_app.specs.Modes.{Accepts, Refuses, IsVerdict}
 use Rattle.cb_app.specs.Outcome.{IsScriptRefused, IsDone, AreWordsRefused, IsDecided, Ends}

@@ -23,7 +23,7 @@ use Rattle.cb_cli.specs.declared.outcome.Failure.TheVariants.{Read}
 use Rattle.cb_cli.specs.declared.words.Command.TheVariants.{Seq, Check}
 use Rattle.cb_cli.proofs.WorkedTexts.{lane_line}
 use Rattle.cb_cli.proofs.WorkedWords.{seq_named, check_named, no_word}
-use Rattle.cb_app.specs.declared.commands.Verdict.TheVariants.{Done, Refused}
+use Rattle.cb_cli.specs.declared.verdict.Verdict.TheVariants.{Done, Refused}
 use Rattle.cb_app.specs.declared.ending.Ending.{Ending}
 use Rattle.cb_app.specs.Modes.{Yields, Refuses, Accepts, IsVerdict}
 use Rattle.cb_app.specs.Outcome.{IsDone, AreWordsRefused, IsScriptRefused, IsDecided, RoseOnRead, RoseOnWrite}

@@ -11,8 +11,8 @@ use Rattle.cb_text.specs.Line.{text_of}
 use Rattle.cb_cli.specs.Texts.{check_text}
 use Rattle.cb_cli.specs.declared.words.Command.{Command}
 use Rattle.cb_cli.specs.declared.words.Command.TheVariants.{Seq, Check}
-use Rattle.cb_app.specs.declared.commands.Verdict.{Verdict}
-use Rattle.cb_app.specs.declared.commands.Verdict.TheVariants.{Done, Refused}
+use Rattle.cb_cli.specs.declared.verdict.Verdict.{Verdict}
+use Rattle.cb_cli.specs.declared.verdict.Verdict.TheVariants.{Done, Refused}
 use Rattle.cb_app.specs.declared.ending.Ending.{Ending}
 use Rattle.cb_app.specs.Scripts.{IsAnswered, IsChecked, IsUnanswered, TellsFault}
 

@@ -10,20 +10,11 @@ ghost use Rattle.cb_app.specs.Modes.{IsVerdict};
 ghost use Rattle.cb_app.specs.Scripts.{IsAnswered, IsChecked};
 
 use crate::ending::Ending;
-use cb_cli::{Command, answers_text, script_fault_text, script_ok_text};
+use cb_cli::{Command, Verdict, answers_text, script_fault_text, script_ok_text};
 use cb_lanes::run_seq;
 use cb_script::{Mode, Reason, Script, ScriptFault, first_unbuilt, read_script};
 use cb_types::{Answers, Bytes, Losses, NoMemory};
 use std::alloc::Global;
-
-/// What a command makes of the bytes that were taken.
-#[derive(Drop)]
-pub enum Verdict {
-    /// They are done with, and this text is due.
-    Done(Bytes),
-    /// They are refused, and this text tells where and why.
-    Refused(Bytes),
-}
 
 /// What a command makes of bytes. The ending is set where they are done with, and else it stays.
 pub fn obey(

@@ -8,9 +8,9 @@ ghost use Rattle.cb_cli.specs.declared.words.Command.{Command};
 ghost use Rattle.cb_app.specs.Modes.{IsVerdict};
 ghost use Rattle.cb_app.specs.Outcome.{Ends, RoseOnRead, RoseOnWrite, IsDecided};
 
-use crate::commands::{Verdict, obey};
+use crate::commands::obey;
 use crate::ending::Ending;
-use cb_cli::{Command, Due, Failure, WORDS_REFUSED, command_of, put_all, take_all};
+use cb_cli::{Command, Due, Failure, Verdict, WORDS_REFUSED, command_of, put_all, take_all};
 use cb_types::{Sink, Source};
 use std::alloc::Global;
 

@@ -8,6 +8,7 @@ pub mod lanes;
 pub mod outcome;
 pub mod output;
 pub mod texts;
+pub mod verdict;
 pub mod words;
 
 pub use input::{TakeError, take_all};
@@ -15,4 +16,5 @@ pub use lanes::different_lanes;
 pub use outcome::{Due, Failure, status};
 pub use output::{PutFailed, put_all};
 pub use texts::{WORDS_REFUSED, answers_text, script_fault_text, script_ok_text};
+pub use verdict::Verdict;
 pub use words::{Command, command_of};

@@ -1,0 +1,10 @@
+use cb_types::Bytes;
+
+/// What a command makes of the bytes that were taken.
+#[derive(Drop)]
+pub enum Verdict {
+    /// They are done with, and this text is due.
+    Done(Bytes),
+    /// They are refused, and this text tells where and why.
+    Refused(Bytes),
+}
