@@ -1,5 +1,5 @@
 -- An operation that begins with a claim: what its whole list of events tells and leaves.
-use Rattle.std.proofs.Common.{◌≡◌, ℕ, Bool, ◌<◌, List, [], ◌∷◌, ◌++◌, length, set, refl, ap, ◌∙◌}
+use Rattle.std.proofs.Common.{◌≡◌, ◌≤◌, ℕ, Bool, ◌<◌, List, [], ◌∷◌, ◌++◌, length, set, refl, ap, ◌∙◌}
 use Rattle.cb_ptr.specs.Word.{hot_of, len_of, place_of}
 use Rattle.cb_world.specs.declared.object.Object.TheVariants as is
 use Rattle.cb_world.specs.declared.event.Event.{Event}
@@ -7,7 +7,7 @@ use Rattle.cb_world.specs.declared.event.Event.TheVariants.{Looked, Claimed}
 use Rattle.cb_world.specs.declared.entry.Entry.{Entry}
 use Rattle.cb_world.specs.declared.shown.Shown.{Shown}
 use Rattle.cb_world.specs.Memory.{put}
-use Rattle.cb_world.specs.Shown.{object_at}
+use Rattle.cb_world.specs.Shown.{object_at, version_at}
 use Rattle.cb_world.specs.Played.{after, played, Agree}
 use Rattle.cb_world.specs.Looks.{IsFound, IsTaken, NoLook, AreLooks, LooksFirst, told_by}
 use Rattle.cb_world.specs.Allowed.{Allowed}
@@ -58,6 +58,7 @@ pub record IsAfterClaim (s : Shown) (h w v : ℕ) (words : List ℕ) (first done
   pub at_claim : played first s ≡ claimed_from s hots h w v words
   pub at_end : played (first ++ done) s ≡ played done (played first s)
   pub here : object_at s h ≡ is.Here (len_of w) (place_of w)
+  pub newer : version_at s h ≤ v
   pub claimed : IsClaimedAt (played first s) h w v words
   pub told_hots : (told_by (first ++ done) s).hots ≡ set hots h (hot_of w)
   pub versions : (told_by (first ++ done) s).versions ≡ set s.versions h v
@@ -84,6 +85,7 @@ after_claim far s before done h w v words sound range stamp looks free agree qui
       at_claim = p.1;
       at_end = played_append first done s;
       here = p.2;
+      newer = p.5;
       claimed = is_claimed_at far s before h w v words sound range stamp looks agree free;
       told_hots = ap (λ (t : Shown). t.hots) (told_append first done s ∙ quiet (told_by first s))
           ∙ claim_hots h w v words before s looks ∙ ap (λ (t : Shown). t.hots) p.1;

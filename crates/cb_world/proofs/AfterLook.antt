@@ -95,9 +95,11 @@ sound_hots : (far : FarState) (s : Shown) (hots : List Bool) → LocalSound s fa
 sound_hots far s hots x = record {
   known = record {
     first = x.known.first;
+    least = x.known.least;
     bounded = x.known.bounded;
     made = x.known.made;
     stamped = x.known.stamped;
+    versioned = x.known.versioned;
   };
   frames = x.frames;
   placed = record {

@@ -71,11 +71,11 @@ leaving_beside far s t h len place batch sound here beside there = record {
 pub sound_beside : (far : FarState) (s t : Shown) (h len place : ℕ) → Sound s far
     → object_at s h ≡ is.Here len place → t.first ≡ s.first → t.objects ≡ s.objects
     → length t.memory ≡ length s.memory
-    → ((k : ℕ) → k ≢ h → version_at t k ≡ version_at s k)
+    → ((k : ℕ) → k ≢ h → version_at t k ≡ version_at s k) → version_at s h ≤ version_at t h
     → KeepsBeside s.memory t.memory place len → Sound t far
-sound_beside far s t h len place sound here first objects memory versions beside =
+sound_beside far s t h len place sound here first objects memory versions rises beside =
     sound_near s t far far sound
-    (sound_kept far s t h len place sound.here here first objects memory versions)
+    (sound_kept far s t h len place sound.here here first objects memory versions rises)
     (keeps_all far)
     (λ k. inl (ap (λ (l : List Object). get_or l k (is.Empty 0)) objects))
     (λ batch there. leaving_beside far s t h len place batch sound here beside there)

@@ -28,6 +28,7 @@ pub record IsSentOff (s t : Shown) (span : Contents) : Type 0 where
   pub memory : length t.memory ≡ length s.memory
   pub objects : length t.objects ≡ length s.objects
   pub stamped : (h : ℕ) → IsStamped (object_at t h) (version_at t h)
+  pub risen : (h : ℕ) → version_at s h ≤ version_at t h
   pub each : (h : ℕ) → IsSpared s t span h ⊎ IsSentAway t span h
 
 -- the far state whose frame is given back
@@ -51,6 +52,7 @@ sound_closed far s t f span sound there within x =
     record {
       known = record {
         first = x.first ∙ sound.known.first;
+        least = sound.known.least;
         bounded = omega (arith, sound.known.bounded, x.objects);
         made = λ h below. elim (x.each h) [
           | inl spared ↦
@@ -69,6 +71,7 @@ sound_closed far s t f span sound there within x =
           )
         ];
         stamped = x.stamped;
+        versioned = λ h below. omega (arith, sound.known.versioned h below, x.risen h);
       };
       frames = record {
         sized = length-set far.spans f None ∙ sound.frames.sized

@@ -1,5 +1,5 @@
 -- The empty world is sound.
-use Rattle.std.proofs.Common.{◌≡◌, ℕ, ◌*◌, ◌<◌, true, false, List, Option, None, Some, get_or, replicate, refl, sym, ap, ◌∙◌, subst, arith, inl, inr}
+use Rattle.std.proofs.Common.{◌≡◌, ℕ, ◌*◌, ◌<◌, true, false, List, Option, None, Some, get_or, replicate, refl, sym, ap, ◌∙◌, subst, arith, inl, inr, lit≤}
 use Rattle.std.proofs.lemmas.Bool.{cases_lt}
 use Rattle.std.proofs.lemmas.List.{get_or-replicate, get_or_past, length-replicate}
 use Rattle.std.specs.FinMap as map
@@ -68,10 +68,12 @@ local : (c : Config) → LocalSound (empty_shown c) (empty_far c)
 local c = record {
   known = record {
     first = refl;
+    least = lit≤ tt;
     bounded = omega arith;
     made = λ h below. (λ least. no_object c h, λ e. omega arith);
     stamped = λ h. subst (λ (o : Object). IsStamped o (version_at (empty_shown c) h))
         (sym (no_object c h)) (reads_one c.handles h 0);
+    versioned = λ h below. omega (arith, below);
   };
   frames = record {
     sized = length-replicate c.frames no_contents ∙ sym (length-replicate c.frames true);

@@ -94,6 +94,7 @@ freed_here : (s t : Shown) (far : FarState) (h len v : ℕ) (words : List ℕ) (
 freed_here s t far h len v words home c x = record {
   known = record {
     first = x.freed.first ∙ x.sound.here.known.first;
+    least = x.sound.here.known.least;
     bounded = (let n = ap length x.freed.objects in
         let m = length-set s.objects h (is.Empty (v + 1)) in
         omega (arith, n, m, x.sound.here.known.bounded));
@@ -101,6 +102,7 @@ freed_here s t far h len v words home c x = record {
         let m = length-set s.objects h (is.Empty (v + 1)) in omega (arith, n, m, below))
         (cases_eq k h);
     stamped = λ k. stamped k (cases_eq k h);
+    versioned = λ k below. versioned k below (cases_eq k h);
   };
   frames = record {
     sized = x.sound.here.frames.sized;
@@ -155,6 +157,19 @@ freed_here s t far h len v words home c x = record {
         (subst (IsStamped (object_at s k))
         (sym (other_version s t far h len v words home c x k off))
         (x.sound.here.known.stamped k))
+
+    was : version_at s h ≡ v
+    was = subst (λ (o : Object). IsStamped o (version_at s h)) x.away
+        (x.sound.here.known.stamped h)
+
+    versioned : (k : ℕ) → k < far.made → (k ≡ h) ⊎ (k ≢ h) → far.first ≤ version_at t k
+    versioned k below (inl same) = let now : version_at t k ≡ v + 1 = ap (version_at t) same
+        ∙ ap (λ (l : List ℕ). get_or l h 0) x.freed.versions
+        ∙ get_or-set_same s.versions h (v + 1) 0 x.stamp in
+        let before = x.sound.here.known.versioned k below in
+        omega (arith, now, before, was, ap (version_at s) same)
+    versioned k below (inr off) = let stays = other_version s t far h len v words home c x k off in
+        omega (arith, stays, x.sound.here.known.versioned k below)
 
     before : (k n place : ℕ) → LiesAt (object_at t k) n place → (k ≡ h) ⊎ (k ≢ h)
         → LiesAt (object_at s k) n place

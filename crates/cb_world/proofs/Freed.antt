@@ -88,14 +88,16 @@ with_span far f span = record far { spans = set far.spans f (Some span) }
 pub sound_freed : (far : FarState) (s : Shown) (h len place v : ℕ) → LocalSound s far
     → LiesAt (object_at s h) len place → (c : HasSlot far.spans h len place) → h < length s.objects
     → h < length s.versions → c.frame < length far.spans
-    → 1 ≤ live_count (with_cleared c.span c.slot)
+    → 1 ≤ live_count (with_cleared c.span c.slot) → version_at s h ≤ v + 1
     → LocalSound (freed s h v) (with_span far c.frame (with_cleared c.span c.slot))
-sound_freed far s h len place v sound lies c range stamp frame live = record {
+sound_freed far s h len place v sound lies c range stamp frame live rises = record {
   known = record {
     first = sound.known.first;
+    least = sound.known.least;
     bounded = omega (arith, sound.known.bounded, length-set s.objects h (is.Empty (v + 1)));
     made = λ k below. made k below (ℕ_discrete k h);
     stamped = λ k. stamped k (ℕ_discrete k h);
+    versioned = λ k below. versioned k below (ℕ_discrete k h);
   };
   frames = record {
     sized = length-set far.spans c.frame (Some left) ∙ sound.frames.sized;
@@ -111,6 +113,14 @@ sound_freed far s h len place v sound lies c range stamp frame live = record {
   };
 }
   where
+    versioned : (k : ℕ) → k < far.made → Dec (k ≡ h) → far.first ≤ version_at (freed s h v) k
+    versioned k below (yes e) = let now : version_at (freed s h v) k ≡ v + 1 =
+        ap (version_at (freed s h v)) e ∙ get_or-set_same s.versions h (v + 1) 0 stamp in
+        let before = sound.known.versioned k below in let same = ap (version_at s) e in
+        omega (arith, now, before, same, rises)
+    versioned k below (no off) = subst (λ (n : ℕ). far.first ≤ n)
+        (sym (get_or-set_other s.versions h k (v + 1) 0 off)) (sound.known.versioned k below)
+
     left : Contents
     left = with_cleared c.span c.slot
 

@@ -33,12 +33,15 @@ local_fields s t far first objects versions memory x =
     record {
       known = record {
         first = first ∙ x.known.first;
+        least = x.known.least;
         bounded = omega (arith, x.known.bounded, ap length objects);
         made = λ h below. subst (λ (o : Object). far.made ≤ h ↔ (o ≡ never)) (sym (at h))
             (x.known.made h (omega (arith, below, ap length objects)));
         stamped = λ h. subst (λ (o : Object). IsStamped o (version_at t h)) (sym (at h))
             (subst (λ (l : List ℕ). IsStamped (object_at s h) (get_or l h 0)) (sym versions)
             (x.known.stamped h));
+        versioned = λ h below. subst (λ (l : List ℕ). far.first ≤ get_or l h 0) (sym versions)
+            (x.known.versioned h below);
       };
       frames = x.frames;
       placed = record {
@@ -70,12 +73,13 @@ freed_fields s t far h v x sound =
 last_sent : (far : FarState) (s : Shown) (h len place v : ℕ) (c : HasSlot far.spans h len place)
     → LocalSound s far → LiesAt (object_at s h) len place → h < length s.objects
     → h < length s.versions → live_count (with_cleared c.span c.slot) ≡ 0
-    → IsSentOff s (freed s h v) c.span
-last_sent far s h len place v c sound there range stamp none = record {
+    → version_at s h ≤ v + 1 → IsSentOff s (freed s h v) c.span
+last_sent far s h len place v c sound there range stamp none up = record {
   first = refl;
   memory = refl;
   objects = length-set s.objects h (is.Empty (v + 1));
   stamped = λ k. stamped k (ℕ_discrete k h);
+  risen = λ k. risen k (ℕ_discrete k h);
   each = λ k. each k (ℕ_discrete k h);
 }
   where
@@ -95,6 +99,12 @@ last_sent far s h len place v c sound there range stamp none = record {
         (sym (other k off))
         (subst (IsStamped (object_at s k)) (sym (get_or-set_other s.versions h k (v + 1) 0 off))
         (sound.known.stamped k))
+
+    risen : (k : ℕ) → Dec (k ≡ h) → version_at s k ≤ version_at (freed s h v) k
+    risen k (yes e) = let now : version_at (freed s h v) k ≡ v + 1 =
+        ap (version_at (freed s h v)) e ∙ get_or-set_same s.versions h (v + 1) 0 stamp in
+        omega (arith, now, ap (version_at s) e, up)
+    risen k (no off) = omega (arith, get_or-set_other s.versions h k (v + 1) 0 off)
 
     version_of : Object → ℕ
     version_of (is.Empty n) = n
@@ -142,9 +152,9 @@ released_as far f slot span b = record far {
 
 local_released : (far : FarState) (s : Shown) (h len place v : ℕ)
     (c : HasSlot far.spans h len place) → LocalSound s far → LiesAt (object_at s h) len place
-    → h < length s.objects → h < length s.versions
+    → h < length s.objects → h < length s.versions → version_at s h ≤ v + 1
     → LocalSound (freed s h v) (with_released far c.frame c.slot c.span)
-local_released far s h len place v c sound there range stamp =
+local_released far s h len place v c sound there range stamp up =
     by (is_last c.span c.slot) refl
   where
     within : c.frame < length far.spans
@@ -156,22 +166,22 @@ local_released far s h len place v c sound there range stamp =
         subst (λ (b : Bool).
         LocalSound (freed s h v) (released_as far c.frame c.slot c.span b)) (sym e)
         (sound_closed far s (freed s h v) c.frame c.span sound c.there within
-        (last_sent far s h len place v c sound there range stamp (none_left _ e)))
+        (last_sent far s h len place v c sound there range stamp (none_left _ e) up))
     by false e =
         subst (λ (b : Bool).
         LocalSound (freed s h v) (released_as far c.frame c.slot c.span b)) (sym e)
-        (sound_freed far s h len place v sound there c range stamp within (some_left _ e))
+        (sound_freed far s h len place v sound there c range stamp within (some_left _ e) up)
 
 -- the world stays sound where an object that is here is freed and its slot emptied
 pub sound_gone : (far : FarState) (s t : Shown) (h len place v : ℕ)
     (c : HasSlot far.spans h len place) → Sound s far → object_at s h ≡ is.Here len place
-    → h < length s.objects → h < length s.versions → IsFreed s t h v
+    → h < length s.objects → h < length s.versions → version_at s h ≤ v + 1 → IsFreed s t h v
     → KeepsBeside s.memory t.memory place len
     → Sound t (with_released far c.frame c.slot c.span)
-sound_gone far s t h len place v c sound here range stamp x beside =
+sound_gone far s t h len place v c sound here range stamp up x beside =
     sound_near s t far (with_released far c.frame c.slot c.span) sound
     (freed_fields s t (with_released far c.frame c.slot c.span) h v x
-    (local_released far s h len place v c sound.here (lies s h len place here) range stamp))
+    (local_released far s h len place v c sound.here (lies s h len place here) range stamp up))
     (record {
       sets = refl;
       homes = refl;

@@ -79,12 +79,14 @@ owns_claimed far s t h len place v words sound here range objects memory p cover
 pub sound_kept : (far : FarState) (s t : Shown) (h len place : ℕ) → LocalSound s far
     → object_at s h ≡ is.Here len place → t.first ≡ s.first → t.objects ≡ s.objects
     → length t.memory ≡ length s.memory
-    → ((k : ℕ) → k ≢ h → version_at t k ≡ version_at s k) → LocalSound t far
-sound_kept far s t h len place sound here first objects memory versions =
+    → ((k : ℕ) → k ≢ h → version_at t k ≡ version_at s k) → version_at s h ≤ version_at t h
+    → LocalSound t far
+sound_kept far s t h len place sound here first objects memory versions rises =
     let at : (k : ℕ) → object_at t k ≡ object_at s k =
     λ k. ap (λ (l : List Object). get_or l k never) objects in record {
       known = record {
         first = first ∙ sound.known.first;
+        least = sound.known.least;
         bounded = omega (arith, sound.known.bounded, ap length objects);
         made = λ k below.
             subst (λ (o : Object).
@@ -96,6 +98,11 @@ sound_kept far s t h len place sound here first objects memory versions =
         stamped = λ k.
             subst (λ (o : Object).
             IsStamped o (version_at t k)) (sym (at k)) (stamp k (ℕ_discrete k h));
+        versioned = λ k below. elim (ℕ_discrete k h) [
+          | yes e ↦ omega (arith, sound.known.versioned k below, ap (version_at s) e,
+              ap (version_at t) e, rises)
+          | no off ↦ omega (arith, sound.known.versioned k below, versions k off)
+        ];
       };
       frames = sound.frames;
       placed = record {
@@ -134,7 +141,7 @@ pub claim_played : (s : Shown) (before : List Event) (h w v : ℕ) (words : List
     → (hots : List Bool)
     × (played (before ++ Claimed h w v words ∷ []) s ≡ claimed_from s hots h w v words)
     × (object_at s h ≡ is.Here (len_of w) (place_of w)) × (w < 2 ^ 53)
-    × (length words ≡ words_for (len_of w))
+    × (length words ≡ words_for (len_of w)) × (version_at s h ≤ v)
 claim_played s before h w v words looks agree =
     let x = looks_played h before s looks in
     let a : Agrees (record s { hots = x.0 }) (Claimed h w v words) =
@@ -147,6 +154,7 @@ claim_played s before h w v words looks agree =
       a.0,
       a.2,
       a.3,
+      a.4,
     )
 
 -- an object that was claimed and settled where it was is what it was

@@ -170,6 +170,8 @@ pub local_stays : (s : Shown) (far new : FarState) → new.first ≡ far.first �
 local_stays s far new first made frames spans x = record {
   known = record {
     first = x.known.first ∙ sym first;
+    least = rw first x.known.least;
+    versioned = rw (first, made) x.known.versioned;
     made = rw made x.known.made;
     stamped = x.known.stamped;
     bounded = rw made x.known.bounded;

@@ -1,6 +1,7 @@
 -- The world once an object that lay nowhere is here, in the slot that it got.
 use Rattle.std.proofs.Common.{◌≡◌, ◌≢◌, ◌⊎◌, ◌↔◌, ℕ, true, false, ◌+◌, ◌*◌, ◌<◌, ◌≤◌, List, Option, Some, None, Contains, length, get_or, set, sym, refl, ap, ◌∙◌, subst, arith, inl, inr, length-set, get_or-set_other, get_or-set_same}
 use native.Mathlib.Decide.{ℕ_discrete}
+use Rattle.std.proofs.lemmas.Bool.{cases_order}
 use Rattle.cb_class.specs.Class.{IsClassOf, slots_of}
 use Rattle.cb_class.proofs.Laws.{object_fits, slot_within}
 use Rattle.cb_frame.specs.FrameSet.{contains}
@@ -51,6 +52,7 @@ pub record IsBrought (s t : Shown) (h len place : ℕ) : Type 0 where
   pub first : t.first ≡ s.first
   pub objects : t.objects ≡ set s.objects h (is.Here len place)
   pub versions : (k : ℕ) → k ≢ h → version_at t k ≡ version_at s k
+  pub version : t.first ≤ version_at t h
   pub memory : length t.memory ≡ length s.memory
 
 -- the far state with the object in the slot, and so many handles made
@@ -78,10 +80,12 @@ pub local_brought : (far : FarState) (s t : Shown) (slot : Slot) (h len made : �
 local_brought far s t slot h len made sound nowhere range free fits count x = record {
   known = record {
     first = x.first ∙ sound.known.first;
+    least = sound.known.least;
     bounded = count.top (length t.objects)
         (omega (arith, sound.known.bounded, same_length)) (omega (arith, range, same_length));
     made = λ k below. makes k below (ℕ_discrete k h);
     stamped = λ k. stamped k (ℕ_discrete k h);
+    versioned = λ k below. versioned k below (ℕ_discrete k h);
   };
   frames = record {
     sized = length-set far.spans slot.frame (Some span) ∙ sound.frames.sized ∙ sym free.sized;
@@ -145,6 +149,19 @@ local_brought far s t slot h len made sound nowhere range free fits count x = re
         (sym (ap (object_at t) e ∙ mine)) tt
     stamped k (no off) = subst (λ (o : Object). IsStamped o (version_at t k)) (sym (other k off))
         (subst (IsStamped (object_at s k)) (sym (x.versions k off)) (sound.known.stamped k))
+
+    versioned : (k : ℕ) → k < made → Dec (k ≡ h) → far.first ≤ version_at t k
+    versioned k below (yes e) = let first = x.first ∙ sound.known.first in
+        omega (arith, first, x.version, ap (version_at t) e)
+    versioned k below (no off) = let old : far.made ≤ k → k < far.made =
+        λ most. absurd (let n = (count.others k off).1 most in omega (arith, n, below)) in
+        let was : k < far.made = elim (cases_order k far.made) [
+          | inl e ↦ old (omega (arith, e))
+          | inr apart ↦ elim apart [
+            | inl less ↦ less
+            | inr more ↦ old (omega (arith, more))
+          ]
+        ] in omega (arith, x.versions k off, sound.known.versioned k was)
 
     frees : (f : ℕ) → f < length slot.free → Dec (f ≡ slot.frame)
         → IsFree slot.free f ↔ (span_in spans f ≡ None)
@@ -333,10 +350,10 @@ sound_brought far s t slot h len made v sound empty range free off_leaving fits 
 
 -- The object may lie in the slot, where no other one lies.
 pub may_lie : (far : FarState) (s : Shown) (slot : Slot) (h len made v p : ℕ) → LocalSound s far
-    → object_at s h ≡ is.Empty v → h < length s.objects → IsEmptySlot far slot
-    → IsClassOf len slot.span.class → IsCounted far.made made h → Covers (place_in slot) len p
-    → MayLie s h p
-may_lie far s slot h len made v p sound empty range free fits count covers =
+    → object_at s h ≡ is.Empty v → h < length s.objects → h < length s.versions
+    → IsEmptySlot far slot → IsClassOf len slot.span.class → IsCounted far.made made h
+    → Covers (place_in slot) len p → MayLie s h p
+may_lie far s slot h len made v p sound empty range stamp free fits count covers =
     let ends = slot_bounds far slot len free fits in (
       omega (arith, covers.1, ends.1, free.within, sound.placed.memory),
       λ k off. avoids (object_at s k) p (λ n q there over. clear k n q off there over),
@@ -344,7 +361,10 @@ may_lie far s slot h len made v p sound empty range free fits count covers =
   where
     -- what would be known if the object were there
     t : Shown
-    t = record s { objects = set s.objects h (is.Here len (place_in slot)) }
+    t = record s {
+      objects = set s.objects h (is.Here len (place_in slot));
+      versions = set s.versions h s.first;
+    }
 
     clear : (k n q : ℕ) → k ≢ h → LiesAt (object_at s k) n q → Covers q n p → ⊥
     clear k n q off there over =
@@ -353,7 +373,8 @@ may_lie far s slot h len made v p sound empty range free fits count covers =
         (λ i j l. subst (λ (o : Object). LiesAt o i j) empty l) range free fits count (record {
           first = refl;
           objects = refl;
-          versions = λ i apart. refl;
+          versions = λ i apart. get_or-set_other s.versions h i s.first 0 apart;
+          version = (let now = get_or-set_same s.versions h s.first 0 stamp in omega (arith, now));
           memory = refl;
         }))
         (lies t h len (place_in slot)

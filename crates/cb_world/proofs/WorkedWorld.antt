@@ -78,7 +78,14 @@ unfolding words_of bytes_of
 second_slot = refl
 
 are_known : AreKnown known far
-are_known = record { first = refl; bounded = lit≤ tt; made = made; stamped = stamped }
+are_known = record {
+  first = refl;
+  least = lit≤ tt;
+  bounded = lit≤ tt;
+  made = made;
+  stamped = stamped;
+  versioned = versioned;
+}
   where
     made : (h : ℕ) → h < 3 → 2 ≤ h ↔ (object_at known h ≡ never)
     made zero below = (λ most. absurd (omega (arith, most)), λ e. absurd (cc))
@@ -91,6 +98,11 @@ are_known = record { first = refl; bounded = lit≤ tt; made = made; stamped = s
     stamped (suc zero) = refl
     stamped (suc (suc zero)) = refl
     stamped (suc (suc (suc h))) = refl
+
+    versioned : (h : ℕ) → h < 2 → 1 ≤ version_at known h
+    versioned zero below = lit≤ tt
+    versioned (suc zero) below = lit≤ tt
+    versioned (suc (suc h)) below = absurd (omega (arith, below))
 
 is_span : IsSpan span
 unfolding slots_of bytes_of

@@ -39,12 +39,15 @@ pub record NamesObject (s : Shown) (f slot h : ℕ) (span : Contents) : Type 0 w
   pub len : ℕ
   pub lies : LiesAt (object_at s h) len (slot_place span.class f slot)
 
--- the objects and the words that others may not change
+-- The objects and the words that others may not change. Version 0 is that of an object that was
+-- never made: each one that was made has a version from the first one on.
 pub record AreKnown (s : Shown) (far : FarState) : Type 0 where
   pub first : s.first ≡ far.first
+  pub least : 1 ≤ far.first
   pub bounded : far.made ≤ length s.objects
   pub made : (h : ℕ) → h < length s.objects → far.made ≤ h ↔ (object_at s h ≡ never)
   pub stamped : (h : ℕ) → IsStamped (object_at s h) (version_at s h)
+  pub versioned : (h : ℕ) → h < far.made → far.first ≤ version_at s h
 
 -- each frame is free or holds one span that is not empty
 pub record AreFrames (far : FarState) : Type 0 where

@@ -1,5 +1,5 @@
 -- What is known after events, and which events agree with what is known.
-use Rattle.std.specs.Prelude.{◌≡◌, ℕ, true, ◌^◌, ◌<◌, List, [], ◌∷◌, length, slice_index, slice_set}
+use Rattle.std.specs.Prelude.{◌≡◌, ℕ, true, ◌^◌, ◌<◌, ◌≤◌, List, [], ◌∷◌, length, slice_index, slice_set}
 use Rattle.cb_ptr.specs.declared.word.State.{State}
 use Rattle.cb_ptr.specs.declared.word.State.TheVariants as word
 use Rattle.cb_ptr.specs.Word.{state_of, hot_of, len_of, place_of}
@@ -52,6 +52,7 @@ abbrev pub Agrees : Shown → Event → Type 0
 Agrees s (Looked h w) = Fits (object_at s h) w × StaysHot s h w
 Agrees s (Claimed h w v words) = (object_at s h ≡ is.Here (len_of w) (place_of w))
     × StaysHot s h w × (w < 2 ^ 53) × (length words ≡ words_for (len_of w))
+    × (version_at s h ≤ v)
 Agrees s (Told h v) = IsHeld (object_at s h) → v ≡ version_at s h
 Agrees s (Loaded p x) = Owns s p → x ≡ slice_index s.memory p
 Agrees s _ = Unit {0}

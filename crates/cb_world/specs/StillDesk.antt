@@ -196,6 +196,8 @@ plain_follows (Claimed h w v xs ∷ es) x y s a r = let b = a.0 in
           (λ e. ap hot_of (sym b.found) ∙ r.hot h b.within e),
           wide,
           ap length b.contents ∙ window_length x.memory (place_of w) (words_for (len_of w)),
+          (let told = ap (λ (l : List ℕ). get_or l h 0) r.versions in
+              omega (arith, told, b.version)),
         ),
         next.0,
       ),
