@@ -424,9 +424,9 @@ empty_stands c ok =
     let sound = empty_world_sound c ok in record {
       shown = sound.shown;
       known = sound.known;
-      beside = beside_kept [] (empty_shown c) sound.shown (empty_far c) (empty_far c) (empty_beside c) refl
-          (λ k. now_same (empty_words c) (empty_shown c) sound.shown (empty_far c) k (empty_shows c)
-          (empty_sound c (let n = (ok Nodes).1 in omega (arith, n))) sound.known.shows sound.known.sound);
+      beside = beside_kept [] (empty_shown 1 c) sound.shown (empty_far 1 c) (empty_far 1 c) (empty_beside c) refl
+          (λ k. now_same (empty_words c) (empty_shown 1 c) sound.shown (empty_far 1 c) k (empty_shows 1 c)
+          (empty_sound 1 c (lit≤ tt) (let n = (ok Nodes).1 in omega (arith, n))) sound.known.shows sound.known.sound);
     }
 
 -- The calls of a run from a world beside which the empty map stands are legal.

@@ -96,6 +96,8 @@ pub here_without : (s : Shown) (far : FarState) (batch : LeavingState) → Local
 here_without s far batch x = record {
   known = record {
     first = x.known.first;
+    least = x.known.least;
+    versioned = x.known.versioned;
     bounded = x.known.bounded;
     made = x.known.made;
     stamped = x.known.stamped;

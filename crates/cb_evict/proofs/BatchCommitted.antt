@@ -421,6 +421,7 @@ module _ (s t : Shown) (far : FarState) (batch : LeavingState) (homes : List (Op
       | inr none ↦ subst (λ (x : Object). IsStamped x (version_at t h)) (sym (d.sent.others h none))
           (subst (IsStamped (object_at s h)) (sym (version_same h)) (d.sound.here.known.stamped h))
     ];
+    risen = λ h. omega (arith, version_same h);
     each = λ h. elim (among batch.words h) [
       | inl (k, l, e) ↦
           let x = subst (IsIn far.spans batch.frames) (e no_former) (in_frames k l) in
@@ -441,6 +442,8 @@ module _ (s t : Shown) (far : FarState) (batch : LeavingState) (homes : List (Op
   here_with = let x = d.sound.here in record {
     known = record {
       first = x.known.first;
+      least = x.known.least;
+      versioned = x.known.versioned;
       bounded = x.known.bounded;
       made = x.known.made;
       stamped = x.known.stamped;

@@ -427,6 +427,8 @@ module _ (c : Config) (far : FarState) (frames : List ℕ) (formers : List Forme
   local = let x = d.here in record {
     known = record {
       first = x.known.first;
+      least = x.known.least;
+      versioned = x.known.versioned;
       bounded = x.known.bounded;
       made = x.known.made;
       stamped = x.known.stamped;

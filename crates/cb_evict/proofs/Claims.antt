@@ -53,10 +53,13 @@ not_never o len place lies e = subst (λ (q : Object). LiesAt q len place) e lie
 pub sound_lies : (far : FarState) (s t : Shown) → LocalSound s far → t.first ≡ s.first
     → length t.memory ≡ length s.memory → length t.objects ≡ length s.objects
     → ((k : ℕ) → SameLies (object_at s k) (object_at t k))
-    → ((k : ℕ) → IsStamped (object_at t k) (version_at t k)) → LocalSound t far
-sound_lies far s t sound first memory objects same stamped = record {
+    → ((k : ℕ) → IsStamped (object_at t k) (version_at t k))
+    → ((k : ℕ) → version_at s k ≤ version_at t k) → LocalSound t far
+sound_lies far s t sound first memory objects same stamped risen = record {
   known = record {
     first = first ∙ sound.known.first;
+    least = sound.known.least;
+    versioned = λ k below. omega (arith, sound.known.versioned k below, risen k);
     bounded = omega (arith, sound.known.bounded, objects);
     made = λ k below. elim (same k) [
       | inl e ↦ subst (λ (o : Object). far.made ≤ k ↔ (o ≡ never)) (sym e)
@@ -158,6 +161,7 @@ keeps_all s t u a b = record {
   held = λ h x. b.held h (a.held h x);
   owns = λ p x. b.owns p (a.owns p x);
   stamps = λ h x. b.stamps h (a.held h x) ∙ a.stamps h x;
+  risen = λ h. omega (arith, a.risen h, b.risen h);
   words = λ p x. b.words p (a.owns p x) ∙ a.words p x;
 }
 
@@ -172,6 +176,7 @@ keeps_hots s hots same = record {
   held = λ h x. x;
   owns = λ p x. x;
   stamps = λ h x. refl;
+  risen = λ h. omega arith;
   words = λ p x. refl;
 }
 
@@ -179,6 +184,7 @@ pub sound_hots : (far : FarState) (s : Shown) (hots : List Bool) → LocalSound 
     → LocalSound (record s { hots = hots }) far
 sound_hots far s hots x =
     sound_lies far s (record s { hots = hots }) x refl refl refl (λ k. inl refl) x.known.stamped
+    (λ k. omega arith)
 
 -- an object that was claimed before stays claimed
 pub claimed_stays : (far : FarState) (es fs : List Event) (t u : Shown) (f : Former)
@@ -273,6 +279,7 @@ claim_one far s before h w v words sound range stamp warm looks agree free =
         λ k. still_spares q k (owns.1 k) (ℕ_discrete k h) here,
       );
       stamps = λ k held. stays k held (ℕ_discrete k h) p.2;
+      risen = λ k. risen k (ℕ_discrete k h) p.5;
       words = λ q owns. put_else s.memory (place_of w) words q
           (apart_from q (subst (Spares q) p.2 (owns.1 h)) p.4);
     } in (
@@ -305,7 +312,8 @@ claim_one far s before h w v words sound range stamp warm looks agree free =
           (sound_lies far s t sound refl keeps.memory keeps.objects
           (λ k. same k (ℕ_discrete k h) p.2 here)
           (λ k. stamped k (ℕ_discrete k h) here
-          (get_or-set_same s.versions h v 0 stamp) (sound.known.stamped k))),
+          (get_or-set_same s.versions h v 0 stamp) (sound.known.stamped k))
+          keeps.risen),
       steady_append before (Claimed h w v words ∷ []) s
           (looks_steady before s (only_looks h before looks))
           (record { allowed = (tt, tt); nothing = λ old. refl; hots = refl }),
@@ -332,6 +340,13 @@ claim_one far s before h w v words sound range stamp warm looks agree free =
         → get_or (set s.versions h v) k 0 ≡ get_or s.versions k 0
     stays k held (yes e) here = absurd (subst IsHeld (ap (object_at s) e ∙ here) held)
     stays k held (no n) here = get_or-set_other s.versions h k v 0 n
+
+    risen : (k : ℕ) → Dec (k ≡ h) → version_at s h ≤ v
+        → version_at s k ≤ get_or (set s.versions h v) k 0
+    risen k (yes e) newer = let now = get_or-set_same s.versions h v 0 stamp in
+        omega (arith, ap (version_at s) e, ap (λ (j : ℕ). get_or (set s.versions h v) j 0) e, now,
+        newer)
+    risen k (no n) newer = omega (arith, get_or-set_other s.versions h k v 0 n)
 
     apart_from : (q : ℕ) → (Covers (place_of w) (len_of w) q → ⊥)
         → length words ≡ words_for (len_of w)
@@ -503,6 +518,8 @@ claims_back es fs s t u xs a b =
         held = λ h x. subst IsHeld (sym (same h)) x;
         owns = λ p x. (omega (arith, x.0, memory), λ k. subst (Spares p) (sym (same k)) (x.1 k));
         stamps = λ h x. ap (λ (l : List ℕ). get_or l h 0) b.versions ∙ a.keeps.stamps h x;
+        risen = λ h. let now = ap (λ (l : List ℕ). get_or l h 0) b.versions in
+            omega (arith, now, a.keeps.risen h);
         words = λ p x. ap (λ (l : List ℕ). get_or l p 0) b.memory ∙ a.keeps.words p x;
       };
     }

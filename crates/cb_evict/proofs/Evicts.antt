@@ -523,6 +523,7 @@ module _ (c : Config) (far : FarState) (frames : List ℕ) (formers : List Forme
       | inr none ↦ subst (λ (x : Object). IsStamped x (version_at u h)) (sym (d.sent.others h none))
           (subst (IsStamped (object_at t h)) (sym (version_same h)) (d.here.known.stamped h))
     ];
+    risen = λ h. omega (arith, d.claimed.keeps.risen h, version_same h);
     each = λ h. elim (among formers h) [
       | inl (k, l, e) ↦
           let x = subst (IsIn far.spans frames) (e no_former) (in_frames k l) in
@@ -545,6 +546,8 @@ module _ (c : Config) (far : FarState) (frames : List ℕ) (formers : List Forme
   with_the_set = let x = d.sound.here in record {
     known = record {
       first = x.known.first;
+      least = x.known.least;
+      versioned = x.known.versioned;
       bounded = x.known.bounded;
       made = x.known.made;
       stamped = x.known.stamped;

@@ -103,6 +103,7 @@ pub record LeftMemory (s t : Shown) (spans : List (Option Contents)) (frames : L
   pub memory : length t.memory ≡ length s.memory
   pub objects : length t.objects ≡ length s.objects
   pub stamped : (h : ℕ) → IsStamped (object_at t h) (version_at t h)
+  pub risen : (h : ℕ) → version_at s h ≤ version_at t h
   pub each : (h : ℕ) → IsSpared s t spans frames h ⊎ IsSentAway t spans frames h
 
 lies_never : (o : Object) (len place : ℕ) → LiesAt o len place → o ≡ never → ⊥
@@ -135,6 +136,8 @@ pub sound_gone : (far : FarState) (s t : Shown) (frames : List ℕ) (homes : Lis
 sound_gone far s t frames homes sound within x = record {
   known = record {
     first = x.first ∙ sound.known.first;
+    least = sound.known.least;
+    versioned = λ h below. omega (arith, sound.known.versioned h below, x.risen h);
     bounded = omega (arith, sound.known.bounded, x.objects);
     made = λ h below. elim (x.each h) [
       | inl spared ↦ subst (λ (o : Object). far.made ≤ h ↔ (o ≡ never)) (sym spared.object)

@@ -134,7 +134,8 @@ restored_sound far t h w v words sound c =
           (sym (ap (object_at u) q ∙ there)) tt
       | inr n ↦ subst (λ (x : Object). IsStamped x (version_at t k)) (sym (other k n))
           (sound.known.stamped k)
-    ]))
+    ])
+    (λ k. omega arith))
 
 pub restoring_more : (far : FarState) (es : List Event) (s : Shown) (fs : List Former) (i : ℕ)
     (d : Former) → AreApart fs → i < length fs → All (IsClaimedFrom s) fs

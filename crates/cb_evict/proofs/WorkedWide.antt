@@ -114,7 +114,15 @@ unfolding words_of bytes_of
 first_slot = refl
 
 are_known : AreKnown known far
-are_known = record { first = refl; bounded = lit≤ tt; made = made; stamped = stamped }
+are_known = record {
+  first = refl;
+  least = lit≤ tt;
+  bounded = lit≤ tt;
+  made = made;
+  stamped = stamped;
+  versioned = λ h below. let least : h ≡ 0 = omega (arith, below) in
+      subst (λ (i : ℕ). 1 ≤ version_at known i) (sym least) (lit≤ tt);
+}
   where
     made : (h : ℕ) → h < 1 → 1 ≤ h ↔ (object_at known h ≡ never)
     made zero below = (λ most. absurd (omega (arith, most)), λ e. absurd (cc))

@@ -1,5 +1,5 @@
 -- Objects that are claimed one after another, and given back.
-use Rattle.std.specs.Prelude.{◌≡◌, ◌≢◌, ℕ, ◌^◌, ◌<◌, List, length, slice_index, All}
+use Rattle.std.specs.Prelude.{◌≡◌, ◌≢◌, ℕ, ◌^◌, ◌<◌, ◌≤◌, List, length, slice_index, All}
 use Rattle.std.specs.List.{AllPairs}
 use Rattle.cb_ptr.specs.Word.{hot_of, len_of, place_of}
 use Rattle.cb_world.specs.declared.leaving.Former.{Former}
@@ -11,7 +11,8 @@ use Rattle.cb_world.specs.Memory.{window, words_for}
 use Rattle.cb_world.specs.Grasped.{IsFree}
 use Rattle.cb_world.specs.Looks.{NoLook, IsFound, IsTaken}
 
--- the version words and the memory words that the caller may read are as they were
+-- the version words and the memory words that the caller may read are as they were, and no version
+-- falls
 pub record Keeps (s t : Shown) : Type 0 where
   pub first : t.first ≡ s.first
   pub objects : length t.objects ≡ length s.objects
@@ -21,6 +22,7 @@ pub record Keeps (s t : Shown) : Type 0 where
   pub held : (h : ℕ) → IsHeld (object_at s h) → IsHeld (object_at t h)
   pub owns : (p : ℕ) → Owns s p → Owns t p
   pub stamps : (h : ℕ) → IsHeld (object_at s h) → version_at t h ≡ version_at s h
+  pub risen : (h : ℕ) → version_at s h ≤ version_at t h
   pub words : (p : ℕ) → Owns s p → slice_index t.memory p ≡ slice_index s.memory p
 
 -- the object is claimed, and this was its word

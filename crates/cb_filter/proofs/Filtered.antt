@@ -98,7 +98,7 @@ module _ (far : FarState) (s : Shown) (first done : List Event) (h w v : ℕ) (w
       let objects : u.objects ≡ set s.objects h (is.Here (len_of w) to) =
       set-set s.objects h (is.Claimed (len_of w) (place_of w) v words) (is.Here (len_of w) to) in
       let vacant = vacant_at s far h (len_of w) (place_of w) temp slot go v words s count
-      (λ k off. refl) refl in
+      b.claim.newer (λ k off. refl) refl in
       let within = vacant.0 in
       let memory = b.claim.memory in
       let place_within = b.claim.claimed.within in
@@ -106,8 +106,8 @@ module _ (far : FarState) (s : Shown) (first done : List Event) (h w v : ℕ) (w
       let q = told_by es s in
       subst (λ (z : Shown). IsFilterDone frames far new s z es h w r) (sym all) (record {
         sound = subst (Sound u) (sym x.state)
-            (sound_moved s far h (len_of w) (place_of w) temp slot go u v words count refl objects
-            refl refl);
+            (sound_moved s far h (len_of w) (place_of w) temp slot go u v words count
+            b.claim.newer refl objects refl refl);
         effect = subst (λ (z : Reply). FilterEffect h far new z es s u) (sym x.reply) (record {
           change = record {
             word = w;
@@ -214,7 +214,7 @@ known_at far s first done h w v words b = record {
         chosen = subst (λ (y : Contents). IsChosen far y.class temp slot) same chosen;
       } in
       let x = vacant_at s far h (len_of w) (place_of w) temp slot go v words t
-      (claimed_words (played first s) h w v words b.claim.claimed)
+      (claimed_words (played first s) h w v words b.claim.claimed) b.claim.newer
       (λ k off. get_or-set_other s.objects h k (is.Claimed (len_of w) (place_of w) v words) never
       off) (length_put s.memory (place_of w) words) in
       subst (λ (q : Shown). IsVacant q h w (place_in slot)) (sym b.claim.at_claim)

@@ -14,7 +14,7 @@ use Rattle.cb_world.specs.declared.object.Object.{Object}
 use Rattle.cb_world.specs.declared.object.Object.TheVariants as is
 use Rattle.cb_world.specs.declared.shown.Shown.{Shown}
 use Rattle.cb_world.specs.Memory.{put, words_for}
-use Rattle.cb_world.specs.Shown.{Covers, Avoids, MayLie, object_at, never}
+use Rattle.cb_world.specs.Shown.{Covers, Avoids, MayLie, object_at, version_at, never}
 use Rattle.cb_world.specs.FarState.{FarState, span_in}
 use Rattle.cb_world.specs.LocalSound.{HasSlot}
 use Rattle.cb_world.specs.Sound.{Sound}
@@ -164,10 +164,10 @@ module _ (s : Shown) (far : FarState) (h len place : ℕ) (temp : Temp) (slot : 
     memory = put s.memory place words;
   }
 
-  sound_between : (v : ℕ) (words : List ℕ) → length words ≡ words_for len
+  sound_between : (v : ℕ) (words : List ℕ) → length words ≡ words_for len → version_at s h ≤ v
       → Sound (freed_at v words) between
-  sound_between v words count = sound_gone far s (freed_at v words) h len place v x.c x.sound x.here
-      x.range x.stamp (record {
+  sound_between v words count newer = sound_gone far s (freed_at v words) h len place v x.c x.sound
+      x.here x.range x.stamp (omega (arith, newer)) (record {
         first = refl;
         objects = refl;
         versions = refl;
@@ -196,18 +196,22 @@ module _ (s : Shown) (far : FarState) (h len place : ℕ) (temp : Temp) (slot : 
   range_at v = subst (λ (n : ℕ). h < n) (sym (length-set s.objects h (is.Empty (v + 1)))) x.range
 
   -- the object may lie in its new slot, whose words it has not
+  stamp_at : (v : ℕ) → h < length (set s.versions h (v + 1))
+  stamp_at v = subst (λ (n : ℕ). h < n) (sym (length-set s.versions h (v + 1))) x.stamp
+
   pub vacant_at : (v : ℕ) (words : List ℕ) (t : Shown) → length words ≡ words_for len
+      → version_at s h ≤ v
       → ((k : ℕ) → k ≢ h → object_at t k ≡ object_at s k) → length t.memory ≡ length s.memory
       → (place_in slot + words_for len ≤ length t.memory)
       × ((p : ℕ) → Covers (place_in slot) len p → MayLie t h p)
       × ((p : ℕ) → Covers (place_in slot) len p → Covers place len p → ⊥)
-  vacant_at v words t count others memory =
+  vacant_at v words t count newer others memory =
       let ends = slot_bounds far slot len free fits in
       let old = slot_inside far s h len place x.sound.here x.c in (
         omega (arith, ends.1, free.within, x.sound.here.placed.memory, memory),
         λ p covers. let may = may_lie between (freed_at v words) again h len far.made (v + 1) p
-            (sound_between v words count).here (empty_at v words) (range_at v) free_again fits
-            counted covers in (
+            (sound_between v words count newer).here (empty_at v words) (range_at v) (stamp_at v)
+            free_again fits counted covers in (
               omega (arith, may.0, memory, length_put s.memory place words),
               λ k off. subst (Avoids p)
                   (get_or-set_other s.objects h k (is.Empty (v + 1)) never off
@@ -230,14 +234,14 @@ module _ (s : Shown) (far : FarState) (h len place : ℕ) (temp : Temp) (slot : 
 
   -- the world stays sound where the object is in its new slot
   pub sound_moved : (t : Shown) (v : ℕ) (words : List ℕ) → length words ≡ words_for len
-      → t.first ≡ s.first → t.objects ≡ set s.objects h (is.Here len (place_in slot))
+      → version_at s h ≤ v → t.first ≡ s.first → t.objects ≡ set s.objects h (is.Here len (place_in slot))
       → t.versions ≡ set s.versions h v
       → t.memory ≡ put (put s.memory place words) (place_in slot) words
       → Sound t (with_moved far (seat_of far.spans h len place x.c) slot h)
-  sound_moved t v words count first objects versions memory =
+  sound_moved t v words count newer first objects versions memory =
       subst (Sound t) same_far
       (sound_brought between (freed_at v words) t again h len far.made (v + 1)
-      (sound_between v words count) (empty_at v words) (range_at v) free_again
+      (sound_between v words count newer) (empty_at v words) (range_at v) free_again
       (λ batch there leaves. chosen_stays s far x.c.span.class temp slot batch x.sound x.chosen
       there leaves) fits counted
       (record {
@@ -247,6 +251,10 @@ module _ (s : Shown) (far : FarState) (h len place : ℕ) (temp : Temp) (slot : 
         versions = λ k off. ap (λ (l : List ℕ). get_or l k 0) versions
             ∙ get_or-set_other s.versions h k v 0 off
             ∙ sym (get_or-set_other s.versions h k (v + 1) 0 off);
+        version = (let now = ap (λ (l : List ℕ). get_or l h 0) versions
+            ∙ get_or-set_same s.versions h v 0 x.stamp in let known = x.sound.here.known in
+            let made : h < far.made = counted.mine in
+            omega (arith, now, first, known.first, known.versioned h made, newer));
         memory = ap length memory ∙ length_put (put s.memory place words) (place_in slot) words;
       })
       (λ p beside. ap (λ (l : List ℕ). get_or l p 0) memory

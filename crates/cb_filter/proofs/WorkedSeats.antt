@@ -40,7 +40,7 @@ abbrev pub cold_span : Contents
 cold_span = record { class = largest; temp = Cold; slots = None ∷ Some 1 ∷ None ∷ None ∷ [] }
 
 abbrev pub far : FarState
-far = record (empty_far config) {
+far = record (empty_far 1 config) {
   made = 2;
   frames = false ∷ false ∷ true ∷ [];
   spans = Some cold_span ∷ Some hot_span ∷ None ∷ [];

@@ -411,11 +411,11 @@ along_ready c later answers w names along = λ name h e.
 
 -- at first no object was made
 empty_map : (c : Config) → IsAccepted c → (sound : IsSoundWorld (empty_world c))
-    → IsMapBeside [] sound.shown (empty_far c)
+    → IsMapBeside [] sound.shown (empty_far 1 c)
 empty_map c ok sound =
-    beside_kept [] (empty_shown c) sound.shown (empty_far c) (empty_far c) (empty_beside c) refl
-    (λ k. now_same (empty_words c) (empty_shown c) sound.shown (empty_far c) k (empty_shows c)
-    (empty_sound c (let n = (ok Nodes).1 in omega (arith, n))) sound.known.shows sound.known.sound)
+    beside_kept [] (empty_shown 1 c) sound.shown (empty_far 1 c) (empty_far 1 c) (empty_beside c) refl
+    (λ k. now_same (empty_words c) (empty_shown 1 c) sound.shown (empty_far 1 c) k (empty_shows 1 c)
+    (empty_sound 1 c (lit≤ tt) (let n = (ok Nodes).1 in omega (arith, n))) sound.known.shows sound.known.sound)
 
 -- nothing was answered yet
 pub along_none : (c : Config) (later : List ℕ) (w : WorldState) (names : Names) → IsAccepted c

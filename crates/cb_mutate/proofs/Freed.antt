@@ -1,5 +1,5 @@
 -- The world after a free.
-use Rattle.std.proofs.Common.{◌≡◌, ◌≢◌, ℕ, zero, suc, Bool, false, ◌+◌, ◌<◌, List, ◌++◌, Some, None, length, set, sym, refl, ap, ◌∙◌, subst, inl, inr}
+use Rattle.std.proofs.Common.{◌≡◌, ◌≢◌, ℕ, zero, suc, Bool, false, ◌+◌, ◌<◌, List, ◌++◌, Some, None, length, set, sym, refl, ap, ◌∙◌, subst, arith, inl, inr}
 use Rattle.std.proofs.lemmas.List.{set-set}
 use Rattle.cb_ptr.specs.declared.word.State.{State}
 use Rattle.cb_ptr.specs.declared.word.State.TheVariants as state
@@ -82,7 +82,7 @@ emptied_well far new s t first done h w v words sound c a taken range stamp x le
     let versions : u.versions ≡ set s.versions h (v + 1) = set-set s.versions h v (v + 1) in
     subst (λ (q : Shown). Sound q new × IsGone h (v + 1) (first ++ done) s q) (sym all) (
       subst (Sound u) (sym left)
-          (sound_gone far s u h (len_of w) (place_of w) v c sound a.here range stamp
+          (sound_gone far s u h (len_of w) (place_of w) v c sound a.here range stamp (omega (arith, a.newer))
           (record {
             first = refl;
             objects = objects;

@@ -1,5 +1,5 @@
 -- The world after a make.
-use Rattle.std.proofs.Common.{◌≡◌, ◌≢◌, ℕ, ◌+◌, ◌^◌, ◌<◌, ◌≤◌, List, length, sym, refl, ap, ◌∙◌, subst, arith, get_or-set_other}
+use Rattle.std.proofs.Common.{◌≡◌, ◌≢◌, ℕ, ◌+◌, ◌^◌, ◌<◌, ◌≤◌, List, length, sym, refl, ap, ◌∙◌, subst, arith, get_or-set_other, get_or-set_same}
 use Rattle.cb_class.specs.declared.class.Class.{Class}
 use Rattle.cb_class.specs.Class.{IsClassOf}
 use Rattle.cb_span.specs.declared.temp.Temp.TheVariants.{Hot}
@@ -67,7 +67,7 @@ new_at s far class slot h version len x =
       stamp = x.stamp;
       within = omega (arith, ends.1, free.within, x.sound.here.placed.memory);
       alone = λ p covers. may_lie far s slot h len (far.made + 1) 0 p x.sound.here
-          (never_was s far class slot h version len x) x.range free fits
+          (never_was s far class slot h version len x) x.range x.stamp free fits
           (subst (IsCounted far.made (far.made + 1)) (sym x.next) (next_counted far.made)) covers;
     }
 
@@ -106,6 +106,8 @@ make_done s far new class slot h version bytes words x packed left =
             first = refl;
             objects = refl;
             versions = λ k off. get_or-set_other s.versions h k version 0 off;
+            version = (let now = get_or-set_same s.versions h version 0 x.stamp in
+                let first = x.sound.here.known.first in omega (arith, now, x.first, first));
             memory = length_put s.memory place words;
           })
           (put_beside s.memory words place len packed.count))));

@@ -119,7 +119,7 @@ beside_kept calls s t far new map made same = record {
 }
 
 -- at first no object was made
-pub empty_beside : (c : Config) → IsMapBeside [] (empty_shown c) (empty_far c)
+pub empty_beside : (c : Config) → IsMapBeside [] (empty_shown 1 c) (empty_far 1 c)
 empty_beside c = record {
   made = refl;
   values = λ h. subst (IsValue None) (sym (empty_never c h)) tt;

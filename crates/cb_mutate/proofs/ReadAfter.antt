@@ -29,7 +29,7 @@ use Rattle.cb_world.proofs.Beside.{sound_beside, put_beside}
 use Rattle.cb_mutate.specs.Answered.{EmptyAnswer, AnsweredAs}
 use Rattle.cb_mutate.specs.ReadRule.{IsLoaded, ReadHere, ReadEffect, IsShown}
 use Rattle.cb_mutate.specs.ReadEnds.{ReadEnds, IsWithin}
-use Rattle.cb_mutate.proofs.Written.{objects_back, claimed_words, absent_before}
+use Rattle.cb_mutate.proofs.Written.{objects_back, claimed_words, claimed_version, absent_before}
 
 -- a claimed object that is settled hot is what it was
 hot_well : (far : FarState) (s t : Shown) (first done : List Event) (h w v version : ℕ)
@@ -46,6 +46,7 @@ hot_well far s t first done h w v version words into sound a free found x =
       sound_beside far s u h (len_of w) (place_of w) sound a.here refl objects
           (length_put s.memory (place_of w) words)
           (λ k other. get_or-set_other s.versions h k v 0 other)
+          (claimed_version s (played first s) a.hots h w v words a.newer a.at_claim a.claimed)
           (put_beside s.memory words (place_of w) (len_of w) count),
       record {
         word = w;

@@ -86,7 +86,7 @@ config = record {
 
 -- two of three handles were made, and of two frames the second is free
 abbrev far : FarState
-far = record (empty_far config) { made = 2; frames = false ∷ true ∷ [] }
+far = record (empty_far 1 config) { made = 2; frames = false ∷ true ∷ [] }
 
 abbrev slot : Slot
 slot = record {

@@ -1,5 +1,5 @@
 -- The world after a write.
-use Rattle.std.proofs.Common.{◌≡◌, ◌⊎◌, ℕ, zero, suc, Bool, true, ◌+◌, ◌-◌, ◌^◌, ◌<◌, ◌≤◌, List, [], ◌∷◌, ◌++◌, length, set, sym, refl, ap, ◌∙◌, subst, inl, inr, get_or-set_other}
+use Rattle.std.proofs.Common.{◌≡◌, ◌⊎◌, ℕ, zero, suc, Bool, true, ◌+◌, ◌-◌, ◌^◌, ◌<◌, ◌≤◌, List, [], ◌∷◌, ◌++◌, length, get_or, set, sym, refl, ap, ◌∙◌, subst, arith, inl, inr, get_or-set_other, get_or-set_same}
 use Rattle.std.proofs.lemmas.List.{set-set}
 use Rattle.cb_ptr.specs.declared.word.State.{State}
 use Rattle.cb_ptr.specs.declared.word.State.TheVariants as state
@@ -12,7 +12,7 @@ use Rattle.cb_world.specs.declared.event.Event.TheVariants.{Told, Loaded}
 use Rattle.cb_world.specs.Reads.{AreReads}
 use Rattle.cb_world.specs.declared.shown.Shown.{Shown}
 use Rattle.cb_world.specs.Memory.{put, words_for}
-use Rattle.cb_world.specs.Shown.{object_at}
+use Rattle.cb_world.specs.Shown.{object_at, version_at}
 use Rattle.cb_world.specs.Played.{played}
 use Rattle.cb_world.specs.Looks.{IsFound, IsTaken}
 use Rattle.cb_world.specs.Grasped.{IsFree}
@@ -43,6 +43,22 @@ pub claimed_words : (t : Shown) (h w v : ℕ) (words : List ℕ) → IsClaimedAt
 claimed_words t h w v words c =
     ap length (sym c.contents) ∙ window_length _ (place_of w) (words_for (len_of w))
 
+-- the version that a claim told is none below the one that was known
+pub claimed_version : (s t : Shown) (hots : List Bool) (h w v : ℕ) (words : List ℕ)
+    → version_at s h ≤ v → t ≡ claimed_from s hots h w v words → IsClaimedAt t h w v words
+    → version_at s h ≤ version_at (claimed_from s hots h w v words) h
+claimed_version s t hots h w v words newer same c =
+    let told = sym (ap (λ (q : Shown). version_at q h) same) ∙ c.version in
+    omega (arith, newer, told)
+
+next_version : (s t : Shown) (hots : List Bool) (h w v : ℕ) (words : List ℕ)
+    → version_at s h ≤ v → t ≡ claimed_from s hots h w v words → IsClaimedAt t h w v words
+    → version_at s h ≤ get_or (set (set s.versions h v) h (v + 1)) h 0
+next_version s t hots h w v words newer same c =
+    let stamp : h < length (set s.versions h v) =
+    subst (λ (q : Shown). h < length q.versions) same c.stamp in
+    let now = get_or-set_same (set s.versions h v) h (v + 1) 0 stamp in omega (arith, newer, now)
+
 -- a claim that is given back changes nothing
 pub back_well : (far : FarState) (s t : Shown) (first done : List Event) (h w v : ℕ)
     (words : List ℕ) → Sound s far → IsAfterClaim s h w v words first done
@@ -56,6 +72,7 @@ back_well far s t first done h w v words sound a back =
       sound_beside far s u h (len_of w) (place_of w) sound a.here refl objects
           (length_put s.memory (place_of w) words)
           (λ k other. get_or-set_other s.versions h k v 0 other)
+          (claimed_version s (played first s) a.hots h w v words a.newer a.at_claim a.claimed)
           (put_beside s.memory words (place_of w) (len_of w) count),
       record {
         objects = objects;
@@ -82,6 +99,7 @@ rewritten_well far s t first done h w v at words bytes sound a found taken x =
           ∙ length_put s.memory (place_of w) words)
           (λ k other. get_or-set_other (set s.versions h v) h k (v + 1) 0 other
           ∙ get_or-set_other s.versions h k v 0 other)
+          (next_version s (played first s) a.hots h w v words a.newer a.at_claim a.claimed)
           (put_twice_beside s.memory words x.new (place_of w) (len_of w) count
           (x.write.sized ∙ count)),
       record {

@@ -1,5 +1,5 @@
 -- The empty world is sound.
-use Rattle.std.proofs.Common.{◌≡◌, ℕ, ◌*◌, ◌<◌, true, false, List, Option, None, Some, get_or, replicate, refl, sym, ap, ◌∙◌, subst, arith, inl, inr, lit≤}
+use Rattle.std.proofs.Common.{◌≡◌, ℕ, ◌*◌, ◌<◌, true, false, List, Option, None, Some, get_or, replicate, refl, sym, ap, ◌∙◌, subst, arith, inl, inr}
 use Rattle.std.proofs.lemmas.Bool.{cases_lt}
 use Rattle.std.proofs.lemmas.List.{get_or-replicate, get_or_past, length-replicate}
 use Rattle.std.specs.FinMap as map
@@ -35,61 +35,61 @@ reads_one n i x = elim (cases_lt i n) [
   | inr past ↦ get_or_past (replicate n x) i x (omega (arith, past, length-replicate n x))
 ]
 
-pub no_object : (c : Config) (h : ℕ) → object_at (empty_shown c) h ≡ never
-no_object c h = reads_one c.handles h never
+pub no_object : (first : ℕ) (c : Config) (h : ℕ) → object_at (empty_shown first c) h ≡ never
+no_object first c h = reads_one c.handles h never
 
-no_span : (c : Config) (f : ℕ) → span_in (empty_far c).spans f ≡ None
-no_span c f = reads_one c.frames f None
+no_span : (first : ℕ) (c : Config) (f : ℕ) → span_in (empty_far first c).spans f ≡ None
+no_span first c f = reads_one c.frames f None
 
-no_home : (c : Config) (h : ℕ) → home_at (empty_far c).homes h ≡ None
-no_home c h = reads_one c.handles h None
+no_home : (first : ℕ) (c : Config) (h : ℕ) → home_at (empty_far first c).homes h ≡ None
+no_home first c h = reads_one c.handles h None
 
-no_set : (c : Config) (id : ℕ) → set_in (empty_far c).sets id ≡ None
-no_set c id = grind (arith, map.gets)
+no_set : (first : ℕ) (c : Config) (id : ℕ) → set_in (empty_far first c).sets id ≡ None
+no_set first c id = grind (arith, map.gets)
 
-no_row : (c : Config) (node : NodeId) (key : ℕ) → row_under (empty_far c).nodes node key ≡ None
-no_row c node key =
+no_row : (first : ℕ) (c : Config) (node : NodeId) (key : ℕ) → row_under (empty_far first c).nodes node key ≡ None
+no_row first c node key =
     ap (λ (rows : RowsByKey). map.get rows key) (reads_one c.nodes node.n map.empty)
     ∙ map.get-empty nat_cmp key
 
 none_some : {A : Type 0} (o : Option A) (x : A) → o ≡ None → o ≡ Some x → ⊥
 none_some o x none some = cc
 
-lies_nowhere : (c : Config) (h len place : ℕ) → LiesAt (object_at (empty_shown c) h) len place → ⊥
-lies_nowhere c h len place lies =
-    subst (λ (o : Object). LiesAt o len place) (no_object c h) lies
+lies_nowhere : (first : ℕ) (c : Config) (h len place : ℕ) → LiesAt (object_at (empty_shown first c) h) len place → ⊥
+lies_nowhere first c h len place lies =
+    subst (λ (o : Object). LiesAt o len place) (no_object first c h) lies
 
-nobody : (c : Config) (o : Owner) (shard : Shard) → IsShardOf (empty_far c) o shard → ⊥
-nobody c (of_set id p) shard (x, e, y) = none_some _ x (no_set c id) e
-nobody c (of_leaving p) shard (x, e, y) = cc
-nobody c (of_joining p) shard (x, e, y) = cc
+nobody : (first : ℕ) (c : Config) (o : Owner) (shard : Shard) → IsShardOf (empty_far first c) o shard → ⊥
+nobody first c (of_set id p) shard (x, e, y) = none_some _ x (no_set first c id) e
+nobody first c (of_leaving p) shard (x, e, y) = cc
+nobody first c (of_joining p) shard (x, e, y) = cc
 
-local : (c : Config) → LocalSound (empty_shown c) (empty_far c)
-local c = record {
+local : (first : ℕ) (c : Config) → 1 ≤ first → LocalSound (empty_shown first c) (empty_far first c)
+local first c some = record {
   known = record {
     first = refl;
-    least = lit≤ tt;
+    least = some;
     bounded = omega arith;
-    made = λ h below. (λ least. no_object c h, λ e. omega arith);
-    stamped = λ h. subst (λ (o : Object). IsStamped o (version_at (empty_shown c) h))
-        (sym (no_object c h)) (reads_one c.handles h 0);
+    made = λ h below. (λ least. no_object first c h, λ e. omega arith);
+    stamped = λ h. subst (λ (o : Object). IsStamped o (version_at (empty_shown first c) h))
+        (sym (no_object first c h)) (reads_one c.handles h 0);
     versioned = λ h below. omega (arith, below);
   };
   frames = record {
     sized = length-replicate c.frames no_contents ∙ sym (length-replicate c.frames true);
     free = λ f below. (
-      λ free. no_span c f,
+      λ free. no_span first c f,
       λ e. get_or-replicate c.frames f true false
           (omega (arith, below, length-replicate c.frames true)),
     );
-    valid = λ f span e. absurd (none_some _ span (no_span c f) e);
-    taken = λ f span e. absurd (none_some _ span (no_span c f) e);
+    valid = λ f span e. absurd (none_some _ span (no_span first c f) e);
+    taken = λ f span e. absurd (none_some _ span (no_span first c f) e);
   };
   placed = record {
     memory = length-replicate (512 * c.frames) 0
         ∙ ap (λ (n : ℕ). 512 * n) (sym (length-replicate c.frames no_contents));
-    placed = λ h len place lies. absurd (lies_nowhere c h len place lies);
-    named = λ f slot h span e named. absurd (none_some _ span (no_span c f) e);
+    placed = λ h len place lies. absurd (lies_nowhere first c h len place lies);
+    named = λ f slot h span e named. absurd (none_some _ span (no_span first c f) e);
   };
 }
   where
@@ -103,61 +103,61 @@ claimed_never : (o : Object) (len place v : ℕ) (words : List ℕ) → o ≡ ne
     → o ≡ is.Claimed len place v words → ⊥
 claimed_never o len place v words e q = cc
 
-away : (c : Config) → c.nodes < 4294967296 → FarSound (empty_shown c) (empty_far c)
-away c few = record {
+away : (first : ℕ) (c : Config) → c.nodes < 4294967296 → FarSound (empty_shown first c) (empty_far first c)
+away first c few = record {
   sound = record {
     sets = record {
-      shaped = λ id set e. absurd (none_some _ set (no_set c id) e);
-      worded = λ id set e. absurd (none_some _ set (no_set c id) e);
-      live = λ id p set e. absurd (none_some _ set (no_set c id) e);
-      kept = λ id set e. absurd (none_some _ set (no_set c id) e);
-      numbered = λ id set e. absurd (none_some _ set (no_set c id) e);
+      shaped = λ id set e. absurd (none_some _ set (no_set first c id) e);
+      worded = λ id set e. absurd (none_some _ set (no_set first c id) e);
+      live = λ id p set e. absurd (none_some _ set (no_set first c id) e);
+      kept = λ id set e. absurd (none_some _ set (no_set first c id) e);
+      numbered = λ id set e. absurd (none_some _ set (no_set first c id) e);
     };
     away = record {
       away = λ h len v words e.
-          absurd (far_never (object_at (empty_shown c) h) len v words (no_object c h) e);
-      home = λ h home e. absurd (none_some _ home (no_home c h) e);
-      named = λ id p slot h set e named. absurd (none_some _ set (no_set c id) e);
+          absurd (far_never (object_at (empty_shown first c) h) len v words (no_object first c h) e);
+      home = λ h home e. absurd (none_some _ home (no_home first c h) e);
+      named = λ id p slot h set e named. absurd (none_some _ set (no_set first c id) e);
     };
     rows = record {
       members = fresh-IsMembership c.nodes few;
       counted = length-replicate c.nodes map.empty ∙ sym (length-replicate c.nodes fresh_node);
-      owned = λ node key row e. absurd (none_some _ row (no_row c node key) e);
-      one = λ o q a b x y same. absurd (nobody c o a x);
-      drawn = λ o a x. absurd (nobody c o a x);
-      current = λ o a x. absurd (nobody c o a x);
+      owned = λ node key row e. absurd (none_some _ row (no_row first c node key) e);
+      one = λ o q a b x y same. absurd (nobody first c o a x);
+      drawn = λ o a x. absurd (nobody first c o a x);
+      current = λ o a x. absurd (nobody first c o a x);
     };
     batch = λ b e. absurd (cc);
   };
   join = λ pair e. absurd (cc);
-  survey = unsurveyed (empty_far c);
+  survey = unsurveyed (empty_far first c);
 }
 
 -- the empty world is sound
-pub empty_sound : (c : Config) → c.nodes < 4294967296 → Sound (empty_shown c) (empty_far c)
-empty_sound c few = record {
-  here = local c;
+pub empty_sound : (first : ℕ) (c : Config) → 1 ≤ first → c.nodes < 4294967296 → Sound (empty_shown first c) (empty_far first c)
+empty_sound first c some few = record {
+  here = local first c some;
   noted = λ batch e. absurd (cc);
   claimed = λ h len place v words e.
-      absurd (claimed_never (object_at (empty_shown c) h) len place v words (no_object c h) e);
-  away = away c few;
+      absurd (claimed_never (object_at (empty_shown first c) h) len place v words (no_object first c h) e);
+  away = away first c few;
 }
 
 -- and no object was ever made
-pub empty_never : (c : Config) (h : ℕ) → now (empty_shown c) (empty_far c) h ≡ made_never
-empty_never c h =
-    ap (now_as (empty_shown c) h (is_gone (empty_far c) h)) (no_object c h)
+pub empty_never : (first : ℕ) (c : Config) (h : ℕ) → now (empty_shown first c) (empty_far first c) h ≡ made_never
+empty_never first c h =
+    ap (now_as (empty_shown first c) h (is_gone (empty_far first c) h)) (no_object first c h)
 
 -- the words of the empty desk are as the empty world says
-pub empty_shows : (c : Config) → Shows (empty_words c) (empty_shown c)
-empty_shows c = record {
+pub empty_shows : (first : ℕ) (c : Config) → Shows (empty_words c) (empty_shown first c)
+empty_shows first c = record {
   objects = length-replicate c.handles never ∙ sym (length-replicate c.handles 0);
   versions = refl;
   hots = length-replicate c.handles false ∙ sym (length-replicate c.handles 0);
   hot = λ h below e. absurd (never_hot h e);
   memory = refl;
   fit = λ h below. subst (λ (o : Object). Fits o (get_or (replicate c.handles 0) h 0))
-      (sym (no_object c h)) (reads_one c.handles h 0);
+      (sym (no_object first c h)) (reads_one c.handles h 0);
 }
   where
     never_hot : (h : ℕ) → get_or (replicate c.handles false) h false ≡ true → ⊥

@@ -254,7 +254,7 @@ given_too_many c = let n = c.given in omega (arith, n)
 
 -- ---- two frames, three homes, one node
 is_configured : IsConfigured settings far
-is_configured = record { frames = refl; homes = refl; nodes = refl }
+is_configured = record { frames = refl; homes = refl; nodes = refl; room = refl }
 
 frame_too_few : IsConfigured settings (record far { spans = None ∷ [] }) → ⊥
 frame_too_few c = let n : 1 ≡ 2 = c.frames in omega (arith, n)
@@ -264,3 +264,6 @@ home_too_few c = let n : 0 ≡ 3 = c.homes in omega (arith, n)
 
 node_too_few : IsConfigured (record settings { nodes = 2 }) far → ⊥
 node_too_few c = let n : 1 ≡ 2 = c.nodes in omega (arith, n)
+
+row_too_few : IsConfigured (record settings { room = 9 }) far → ⊥
+row_too_few c = let n : 1 ≡ 9 = c.room in omega (arith, n)

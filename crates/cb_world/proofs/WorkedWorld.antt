@@ -168,6 +168,12 @@ sound_here = record { known = are_known; frames = are_frames; placed = are_place
 another_first : ¬ (AreKnown (record known { first = 2 }) far)
 another_first x = absurd (let z : 2 ≡ 1 = x.first in omega (arith, z))
 
+first_of_zero : ¬ (AreKnown (record known { first = 0 }) (record far { first = 0 }))
+first_of_zero x = absurd (let z : 1 ≤ 0 = x.least in omega (arith, z))
+
+here_at_zero : ¬ (AreKnown (record known { versions = 0 ∷ 2 ∷ 0 ∷ [] }) far)
+here_at_zero x = absurd (let z : 1 ≤ 0 = x.versioned 0 (lit< tt) in omega (arith, z))
+
 -- more handles were made than there are
 more_than_there_are : ¬ (AreKnown known (record far { made = 4 }))
 more_than_there_are x = absurd (let z : 4 ≤ 3 = x.bounded in omega (arith, z))

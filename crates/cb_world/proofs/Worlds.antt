@@ -1,5 +1,5 @@
 -- The empty world is sound.
-use Rattle.std.proofs.Common.{sum_by, ap, ◌∙◌, sym, get_or, length, ◌≤◌, length-set, ◌^◌, ◌+◌, ◌≡◌, ℕ, ◌*◌, ◌<◌, false, [], replicate, arith}
+use Rattle.std.proofs.Common.{sum_by, ap, ◌∙◌, sym, get_or, length, ◌≤◌, length-set, ◌^◌, ◌+◌, ◌≡◌, ℕ, ◌*◌, ◌<◌, false, [], replicate, refl, arith, lit≤}
 use Rattle.std.specs.List.{All}
 use Rattle.std.proofs.lemmas.List.{length-replicate}
 use Rattle.std.proofs.lemmas.List.Elements.{All-replicate}
@@ -24,18 +24,18 @@ use Rattle.cb_world.proofs.Empty.{empty_sound, empty_shows, no_object, reads_one
 not_here : (o : Object) (len place : ℕ) → o ≡ never → o ≡ is.Here len place → ⊥
 not_here o len place e q = cc
 
-known : (c : Config) → IsAccepted c → IsKnown (empty_words c) (empty_far c) (empty_shown c)
+known : (c : Config) → IsAccepted c → IsKnown (empty_words c) (empty_far 1 c) (empty_shown 1 c)
 known c ok = record {
   sized = record {
     words = length-replicate c.handles 0;
     versions = length-replicate c.handles 0;
     memory = length-replicate (512 * c.frames) 0;
   };
-  shows = empty_shows c;
+  shows = empty_shows 1 c;
   hots = λ h below. reads_one c.handles h false ∙ ap hot_of (sym (reads_one c.handles h 0));
-  sound = empty_sound c (let n = (ok Nodes).1 in omega (arith, n));
+  sound = empty_sound 1 c (lit≤ tt) (let n = (ok Nodes).1 in omega (arith, n));
   here = λ h len place below e.
-      absurd (not_here (object_at (empty_shown c) h) len place (no_object c h) e);
+      absurd (not_here (object_at (empty_shown 1 c) h) len place (no_object 1 c h) e);
 }
 
 none_on : (h : ℕ) → all_pins_on h (replicate 64 idle_seat) ≡ 0
@@ -71,8 +71,9 @@ empty_world_sound c ok = record {
     frames = length-replicate c.frames _;
     homes = length-replicate c.handles _;
     nodes = length-replicate c.nodes (map.empty {K = ℕ});
+    room = refl;
   };
-  shown = empty_shown c;
+  shown = empty_shown 1 c;
   known = known c ok;
   pinned = pinned c;
   counted = record {

@@ -1,5 +1,5 @@
 -- The empty world of a configuration.
-use Rattle.std.specs.Prelude.{◌*◌, false, None, replicate}
+use Rattle.std.specs.Prelude.{ℕ, ◌*◌, false, None, replicate}
 use Rattle.std.specs.FinMap as map
 use Rattle.cb_types.specs.declared.config.Config.{Config}
 use Rattle.cb_frame.specs.FreeFrames.{all_free}
@@ -11,10 +11,10 @@ use Rattle.cb_world.specs.FarState.{FarState}
 use Rattle.cb_world.specs.Survey.{no_survey}
 use Rattle.cb_world.specs.Plain.{Words}
 
--- all frames are free, no object was made and all nodes are up without rows
-abbrev pub empty_far : Config → FarState
-empty_far c = record {
-  first = 1;
+-- all frames are free, no object was made and all nodes are up without rows; makes give this version
+abbrev pub empty_far : ℕ → Config → FarState
+empty_far first c = record {
+  first = first;
   made = 0;
   frames = all_free c.frames;
   spans = replicate c.frames None;
@@ -29,9 +29,9 @@ empty_far c = record {
 }
 
 -- no object was made, and every word is 0
-abbrev pub empty_shown : Config → Shown
-empty_shown c = record {
-  first = 1;
+abbrev pub empty_shown : ℕ → Config → Shown
+empty_shown first c = record {
+  first = first;
   objects = replicate c.handles never;
   hots = replicate c.handles false;
   versions = replicate c.handles 0;

@@ -25,7 +25,7 @@ pub record WorldState : Type 0 where
 abbrev pub empty_world : Config → WorldState
 empty_world c = record {
   desk = empty_words c;
-  far = empty_far c;
+  far = empty_far 1 c;
   seats = replicate 64 idle_seat;
 }
 
@@ -67,11 +67,13 @@ pub record AreCounted (far : FarState) : Type 0 where
   pub epoch : far.members.epoch ≤ 2 ^ 20 * far.counts.turns
   pub given : far.nodes.given ≤ 2 ^ 20 * far.counts.turns
 
--- The far state has as many frames, homes and nodes as the configuration says.
+-- The far state has as many frames, homes and nodes as the configuration says, and a node has room
+-- for as many rows.
 pub record IsConfigured (c : Config) (far : FarState) : Type 0 where
   pub frames : length far.spans ≡ c.frames
   pub homes : length far.homes ≡ c.handles
   pub nodes : length far.nodes.nodes ≡ c.nodes
+  pub room : far.nodes.room ≡ c.room
 
 -- The world is sound.
 pub record IsSoundWorld (w : WorldState) : Type 0 where

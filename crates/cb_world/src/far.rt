@@ -1,4 +1,4 @@
-ghost use Rattle.std.specs.Prelude.{◌≡◌, IfOk};
+ghost use Rattle.std.specs.Prelude.{◌≡◌, ◌≤◌, IfOk};
 ghost use Rattle.cb_types.specs.Config.{IsAccepted};
 ghost use Rattle.cb_world.specs.Empty.{empty_far};
 
@@ -66,11 +66,13 @@ impl Model for Far {
 
 impl Far {
     /// The far state of a configuration at the start: all frames are free, no object was made, and
-    /// all nodes are up without rows. Takes the memory of all frames' spans,
+    /// all nodes are up without rows. Each make gives the version `first`, which is at least 1, since
+    /// 0 is the version of an object that was never made. Takes the memory of all frames' spans,
     /// their index and all homes.
-    pub fn new(alloc: Global, config: Config) -> Result<Far, NoMemory>
-        requires { IsAccepted config }
-        ensures empty { IfOk result (λ far. far ≡ empty_far config) }
+    pub fn new(alloc: Global, first: u64, config: Config) -> Result<Far, NoMemory>
+        requires config { IsAccepted config }
+        requires first { 1 ≤ first }
+        ensures empty { IfOk result (λ far. far ≡ empty_far first config) }
     {
         // (the largest last: each `?` drops what was made before it)
         let members = Members::new(alloc, config.nodes)?;
@@ -80,7 +82,7 @@ impl Far {
         let spans = Spans::new(alloc, config.frames)?;
         Ok(Far {
             alloc,
-            first: 1,
+            first,
             made: 0,
             frames,
             spans,

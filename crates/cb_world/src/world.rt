@@ -43,7 +43,7 @@ impl World {
         // (the largest last: each `?` drops what was made before it)
         let seats = Seats::new(alloc)?;
         let desk = PlainDesk::new(alloc, config)?;
-        let far = Far::new(alloc, config)?;
+        let far = Far::new(alloc, 1, config)?;
         Ok(World { desk, far, seats })
     }
 }
