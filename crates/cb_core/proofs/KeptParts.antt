@@ -111,6 +111,7 @@ pub record IsLike (far new : FarState) : Type 0 where
   pub spans : length new.spans ≡ length far.spans
   pub homes : length new.homes ≡ length far.homes
   pub nodes : length new.nodes.nodes ≡ length far.nodes.nodes
+  pub room : new.nodes.room ≡ far.nodes.room
   pub counts : new.counts ≡ far.counts
   pub epoch : new.members.epoch ≤ far.members.epoch + 1
   pub given : new.nodes.given ≡ far.nodes.given
@@ -120,6 +121,7 @@ like_same far = record {
   spans = refl;
   homes = refl;
   nodes = refl;
+  room = refl;
   counts = refl;
   epoch = omega arith;
   given = refl;
@@ -150,6 +152,7 @@ arrives_like c seats a b t Z good like known settings pinned z = record {
       frames = like.spans ∙ good.configured.frames;
       homes = like.homes ∙ good.configured.homes;
       nodes = like.nodes ∙ good.configured.nodes;
+      room = like.room ∙ good.configured.room;
     };
     shown = t;
     known = known;

@@ -40,7 +40,7 @@ use Rattle.cb_evict.proofs.Composed.{few_spans, few_nodes}
 use Rattle.cb_evict.proofs.Gone.{given_in}
 use Rattle.cb_evict.proofs.Homing.{length_closed}
 use Rattle.cb_evict.proofs.Loose.{loose_among}
-use Rattle.cb_evict.proofs.Putting.{put_count}
+use Rattle.cb_evict.proofs.Putting.{put_count, put_room}
 use Rattle.cb_evict.proofs.Standing.{names_span, named_at, ready_frame}
 use Rattle.cb_evict.proofs.Trying.{taken_of}
 use Rattle.cb_swapin.specs.SwapRule.{SwapFar, SwapRule, frame_answer, swap_answer}
@@ -132,6 +132,8 @@ has_won c s far new r id es accepted configured sound rule set =
         homes = e.homes.count ∙ configured.homes;
         nodes = ap (λ (q : FarState). length q.nodes.nodes) e.state ∙ put_count far.nodes e.shards e.rows
             ∙ configured.nodes;
+        room = ap (λ (q : FarState). q.nodes.room) e.state ∙ put_room far.nodes e.shards e.rows
+            ∙ configured.room;
       };
       given = ap (λ (q : FarState). q.nodes.given) e.state ∙ put_given far.nodes e.shards e.rows;
       free = λ none. least_free-None (all_given far.frames x.frames)

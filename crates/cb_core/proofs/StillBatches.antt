@@ -21,7 +21,7 @@ use Rattle.cb_world.specs.Still.{IsStill}
 use Rattle.cb_world.specs.Stored.{all_dropped}
 use Rattle.cb_world.specs.World.{IsKnown, word_at}
 use Rattle.cb_world.proofs.Pins.{pinned_still}
-use Rattle.cb_world.proofs.SetsLeft.{drop_count}
+use Rattle.cb_world.proofs.SetsLeft.{drop_count, drop_room}
 use Rattle.cb_world.proofs.StillPerforms.{PerformsStill}
 use Rattle.cb_evict.specs.AbortRule.{HasGivenUp}
 use Rattle.cb_evict.specs.AbortStep.{ArePutBack, IsAbortStep, no_batch as none_to_abort, given_up}
@@ -60,6 +60,7 @@ pub record KeepsRest (x y : Words) (far new : FarState) : Type 0 where
   pub spans : length new.spans ≡ length far.spans
   pub homes : length new.homes ≡ length far.homes
   pub nodes : length new.nodes.nodes ≡ length far.nodes.nodes
+  pub room : new.nodes.room ≡ far.nodes.room
   pub first : new.first ≡ far.first
   pub made : new.made ≡ far.made
   pub rises : Rises 1 far new
@@ -86,6 +87,7 @@ keeps_same x y far new words state = subst (λ (u : Words). KeepsRest x u far ne
       spans = refl;
       homes = refl;
       nodes = refl;
+      room = refl;
       first = refl;
       made = refl;
       rises = rises_none far;
@@ -109,6 +111,7 @@ begin_keeps x y far new r step =
       spans = ap (λ (l : List (Option Contents)). length l) parts.spans;
       homes = ap (λ (l : List (Option Home)). length l) parts.homes;
       nodes = ap (λ (n : NodesState). length n.nodes) parts.nodes;
+      room = ap (λ (n : NodesState). n.room) parts.nodes;
       first = parts.first;
       made = parts.made;
       rises = record {
@@ -138,6 +141,7 @@ ship_keeps x y far new r step =
       spans = ap (λ (l : List (Option Contents)). length l) leaves.spans;
       homes = ap (λ (l : List (Option Home)). length l) leaves.homes;
       nodes = leaves.nodes;
+      room = leaves.room;
       first = leaves.first;
       made = leaves.made;
       rises = record {
@@ -197,6 +201,7 @@ commit_done x y far new r s k c away =
       spans = ap (λ (f : FarState). length f.spans) c.state ∙ length_closed far.spans c.batch.frames;
       homes = c.homes.count;
       nodes = ap (λ (f : FarState). length f.nodes.nodes) c.state;
+      room = ap (λ (f : FarState). f.nodes.room) c.state;
       first = ap (λ (f : FarState). f.first) c.state;
       made = ap (λ (f : FarState). f.made) c.state;
       rises = subst (Rises 1 far) (sym c.state) (record {
@@ -238,6 +243,8 @@ abort_done x y far new r s k g back =
       homes = ap (λ (f : FarState). length f.homes) g.state;
       nodes = ap (λ (f : FarState). length f.nodes.nodes) g.state
           ∙ drop_count far.nodes (put_shards batch.shards);
+      room = ap (λ (f : FarState). f.nodes.room) g.state
+          ∙ drop_room far.nodes (put_shards batch.shards);
       first = ap (λ (f : FarState). f.first) g.state;
       made = ap (λ (f : FarState). f.made) g.state;
       rises = subst (Rises 1 far) (sym g.state) (record {
@@ -268,6 +275,7 @@ batch_arrives c seats a b t Z good known keeps z = record {
       frames = keeps.spans ∙ good.configured.frames;
       homes = keeps.homes ∙ good.configured.homes;
       nodes = keeps.nodes ∙ good.configured.nodes;
+      room = keeps.room ∙ good.configured.room;
     };
     shown = t;
     known = known;

@@ -35,6 +35,7 @@ moved_like far new seat slot h state = subst (IsLike far) (sym state) (record {
       ∙ length-set far.spans slot.frame _;
   homes = refl;
   nodes = refl;
+  room = refl;
   counts = refl;
   epoch = omega arith;
   given = refl;

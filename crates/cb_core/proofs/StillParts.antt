@@ -23,7 +23,7 @@ use Rattle.cb_world.specs.Still.{IsStill}
 use Rattle.cb_world.specs.StillWords.{stamp_at}
 use Rattle.cb_world.specs.World.{IsKnown, ArePinned, IsConfigured, word_at}
 use Rattle.cb_world.proofs.Exact.{found_exact}
-use Rattle.cb_world.proofs.SetsLeft.{left_count, left_given}
+use Rattle.cb_world.proofs.SetsLeft.{left_count, left_given, left_room}
 use Rattle.cb_world.proofs.StillPerforms.{PerformsStill, RunsStill, runs_still, stays_still}
 use Rattle.cb_world.proofs.StillWords.{told_exact}
 use Rattle.cb_mutate.specs.Answered.{Answered}
@@ -141,6 +141,7 @@ free_part c seats h a b r good p =
       spans = length-set a.far.spans z.frame _;
       homes = refl;
       nodes = refl;
+      room = refl;
       counts = refl;
       epoch = omega arith;
       given = refl;
@@ -151,6 +152,7 @@ free_part c seats h a b r good p =
       spans = refl;
       homes = length-set a.far.homes h _;
       nodes = left_count a.far.nodes (set_without z.set z.home);
+      room = left_room a.far.nodes (set_without z.set z.home);
       counts = refl;
       epoch = omega arith;
       given = left_given a.far.nodes (set_without z.set z.home);
@@ -207,6 +209,7 @@ make_part c seats bytes a b r good p =
           spans = length-set a.far.spans z.slot.frame _;
           homes = refl;
           nodes = refl;
+          room = refl;
           counts = refl;
           epoch = omega arith;
           given = refl;
@@ -386,6 +389,7 @@ swap_lack c seats h a b good (ran, (home, set, n, at, there, few, state)) =
           frames = good.configured.frames;
           homes = good.configured.homes;
           nodes = good.configured.nodes;
+          room = good.configured.room;
         };
         shown = good.shown;
         known = given_known a.desk a.far good.shown n good.known;

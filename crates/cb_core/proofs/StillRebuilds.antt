@@ -23,6 +23,7 @@ pub record Grows (far new : FarState) : Type 0 where
   pub spans : length new.spans ≡ length far.spans
   pub homes : length new.homes ≡ length far.homes
   pub nodes : length new.nodes.nodes ≡ length far.nodes.nodes
+  pub room : new.nodes.room ≡ far.nodes.room
   pub first : new.first ≡ far.first
   pub made : new.made ≡ far.made
   pub rises : Rises 16 far new
@@ -32,6 +33,7 @@ grows_survey far n = record {
   spans = refl;
   homes = refl;
   nodes = refl;
+  room = refl;
   first = refl;
   made = refl;
   rises = record {
@@ -56,6 +58,7 @@ grows_restored x far new s id set r k first (inr z) =
       spans = refl;
       homes = refl;
       nodes = length-set far.nodes.nodes z.shard.node.n _;
+      room = refl;
       first = refl;
       made = refl;
       rises = record {
@@ -102,6 +105,7 @@ rebuild_part c seats a b r good (ran, step) =
           frames = grows.spans ∙ good.configured.frames;
           homes = grows.homes ∙ good.configured.homes;
           nodes = grows.nodes ∙ good.configured.nodes;
+          room = grows.room ∙ good.configured.room;
         };
         shown = good.shown;
         known = rebuild_known a b r good.shown ran.0 step good.known;
@@ -137,6 +141,7 @@ rebuild_lack c seats a b good (ran, (id, set, n, first, few, state)) =
           frames = good.configured.frames;
           homes = good.configured.homes;
           nodes = good.configured.nodes;
+          room = good.configured.room;
         };
         shown = good.shown;
         known = given_known a.desk (surveyed a.far id) good.shown n

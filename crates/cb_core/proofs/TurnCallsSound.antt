@@ -119,6 +119,7 @@ swap_sound w new h r sound (done q few works is seats) =
         frames = sound.configured.frames;
         homes = sound.configured.homes;
         nodes = sound.configured.nodes;
+        room = sound.configured.room;
       };
       shown = sound.shown;
       known = known_at w j sound;

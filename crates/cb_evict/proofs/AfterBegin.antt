@@ -156,6 +156,7 @@ begin_configured x y far new r c step is = let k = begin_keeps x y far new r ste
   frames = ap length k.spans ∙ is.frames;
   homes = ap length k.homes ∙ is.homes;
   nodes = ap (λ n. length n.nodes) k.nodes ∙ is.nodes;
+  room = ap (λ n. n.room) k.nodes ∙ is.room;
 }
 
 -- one set number at most is drawn

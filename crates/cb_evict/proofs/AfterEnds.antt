@@ -21,7 +21,7 @@ use Rattle.cb_world.specs.World.{word_at, IsKnown, IsConfigured, ArePinned}
 use Rattle.cb_world.proofs.BatchGone.{gone_sets}
 use Rattle.cb_world.proofs.Pins.{pinned_still}
 use Rattle.cb_world.proofs.Reserving.{reserved_is_other}
-use Rattle.cb_world.proofs.SetsLeft.{drop_count}
+use Rattle.cb_world.proofs.SetsLeft.{drop_count, drop_room}
 use Rattle.cb_evict.specs.AbortRule.{HasGivenUp}
 use Rattle.cb_evict.specs.AbortStep.{ArePutBack, IsAbortStep, no_batch, given_up}
 use Rattle.cb_evict.specs.Claims.{IsNone}
@@ -159,6 +159,7 @@ abort_configured x y far new r c step is =
       frames = is.frames;
       homes = is.homes;
       nodes = drop_count far.nodes (put_shards g.batch.shards) ∙ is.nodes;
+      room = drop_room far.nodes (put_shards g.batch.shards) ∙ is.room;
     }))
 
 -- no committed set comes or goes
@@ -236,6 +237,7 @@ commit_configured x y far new r c step is =
           ∙ length_closed far.spans m.batch.frames ∙ is.frames;
       homes = m.homes.count ∙ is.homes;
       nodes = ap (λ (f : FarState). length f.nodes.nodes) m.state ∙ is.nodes;
+      room = ap (λ (f : FarState). f.nodes.room) m.state ∙ is.room;
     })
 
 -- each committed set that there was stays as it was

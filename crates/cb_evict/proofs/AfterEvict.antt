@@ -44,7 +44,7 @@ use Rattle.cb_evict.proofs.Homing.{length_closed}
 use Rattle.cb_evict.proofs.Loose.{names_has, contains_head, contains_tail}
 use Rattle.cb_evict.proofs.LooseSpans.{loose_free}
 use Rattle.cb_evict.proofs.NewSet.{set_others}
-use Rattle.cb_evict.proofs.Putting.{put_count}
+use Rattle.cb_evict.proofs.Putting.{put_count, put_room}
 use Rattle.cb_evict.proofs.Standing.{names_span}
 use Rattle.cb_evict.proofs.Trying.{taken_of}
 
@@ -217,12 +217,20 @@ evict_nodes x y far new r step =
     (λ m. ap (λ (f : FarState). length f.nodes.nodes) m.evicted.state
     ∙ put_count far.nodes m.evicted.shards m.evicted.rows)
 
+evict_room : (x y : Words) (far new : FarState) (r : Reply) → IsEvictStep x y far new r
+    → new.nodes.room ≡ far.nodes.room
+evict_room x y far new r step =
+    by_step (λ u f. f.nodes.room ≡ far.nodes.room) x y far new r step refl
+    (λ m. ap (λ (f : FarState). f.nodes.room) m.evicted.state
+    ∙ put_room far.nodes m.evicted.shards m.evicted.rows)
+
 pub evict_configured : (x y : Words) (far new : FarState) (r : Reply) (c : Config)
     → IsEvictStep x y far new r → IsConfigured c far → IsConfigured c new
 evict_configured x y far new r c step is = record {
   frames = evict_spans x y far new r step ∙ is.frames;
   homes = evict_homes x y far new r step ∙ is.homes;
   nodes = evict_nodes x y far new r step ∙ is.nodes;
+  room = evict_room x y far new r step ∙ is.room;
 }
 
 put_given : (nodes : NodesState) (shards : List Shard) (rows : List (List ℕ))

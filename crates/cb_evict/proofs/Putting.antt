@@ -68,6 +68,13 @@ put_count nodes (x ∷ xs) [] = refl
 put_count nodes (x ∷ xs) (row ∷ rows) =
     put_count (with_row nodes x.node x.key row) xs rows ∙ length-set nodes.nodes x.node.n _
 
+-- each with as much room
+pub put_room : (nodes : NodesState) (shards : List Shard) (rows : List (List ℕ))
+    → (all_put nodes shards rows).room ≡ nodes.room
+put_room nodes [] rows = refl
+put_room nodes (x ∷ xs) [] = refl
+put_room nodes (x ∷ xs) (row ∷ rows) = put_room (with_row nodes x.node x.key row) xs rows
+
 pub put_next : (nodes : NodesState) (shards : List Shard) (rows : List (List ℕ)) (i : ℕ)
     (shard : Shard) → i < length rows → slice_get shards i ≡ Some shard
     → all_put nodes (take (i + 1) shards) rows

@@ -91,6 +91,7 @@ ship_configured x y far new r c step k =
       frames = ap length l.spans ∙ k.frames;
       homes = ap length l.homes ∙ k.homes;
       nodes = l.nodes ∙ k.nodes;
+      room = l.room ∙ k.room;
     }
 
 -- what every object has stays

@@ -19,6 +19,7 @@ pub record LeavesCounts (far new : FarState) : Type 0 where
   pub homes : new.homes ≡ far.homes
   pub members : new.members ≡ far.members
   pub nodes : length new.nodes.nodes ≡ length far.nodes.nodes
+  pub room : new.nodes.room ≡ far.nodes.room
   pub turns : new.counts.turns ≡ far.counts.turns
   pub by_job : new.counts.by_job ≡ far.counts.by_job
   pub sets : new.counts.sets ≡ far.counts.sets
@@ -33,6 +34,7 @@ survey_leaves far n = record {
   homes = refl;
   members = refl;
   nodes = refl;
+  room = refl;
   turns = refl;
   by_job = refl;
   sets = refl;
@@ -51,6 +53,7 @@ given_leaves s far new id n set sound there few e = subst (LeavesCounts far) (sy
   homes = refl;
   members = refl;
   nodes = refl;
+  room = refl;
   turns = refl;
   by_job = refl;
   sets = refl;
@@ -68,6 +71,7 @@ rebuilt_leaves s far new id set r sound first x = subst (LeavesCounts far) (sym 
   homes = refl;
   members = refl;
   nodes = length-set far.nodes.nodes x.shard.node.n _;
+  room = refl;
   turns = refl;
   by_job = refl;
   sets = refl;
@@ -91,4 +95,5 @@ configured_kept c far new x a = record {
   frames = ap (λ l. length l) x.spans ∙ a.frames;
   homes = ap (λ l. length l) x.homes ∙ a.homes;
   nodes = x.nodes ∙ a.nodes;
+  room = x.room ∙ a.room;
 }

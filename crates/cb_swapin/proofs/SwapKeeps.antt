@@ -17,7 +17,7 @@ use Rattle.cb_world.specs.Sets.{set_in}
 use Rattle.cb_world.specs.SetWord.{is_broken}
 use Rattle.cb_world.specs.FarState.{FarState}
 use Rattle.cb_world.specs.World.{IsKnown}
-use Rattle.cb_world.proofs.SetsLeft.{left_count, left_given}
+use Rattle.cb_world.proofs.SetsLeft.{left_count, left_given, left_room}
 use Rattle.cb_swapin.specs.SwapRule.{IsSwappedTo}
 use Rattle.cb_swapin.specs.SwapStep.{IsSwapped, SwapChange, IsSwapStep}
 use Rattle.cb_swapin.proofs.SwapAnswers.{by_answer, broken_answer, no_frame_answer, swapped_answer, unavailable_answer, only_broken, only_no_frame, only_swapped}
@@ -84,6 +84,7 @@ pub record KeepsFar (far new : FarState) : Type 0 where
   pub spans : length new.spans ≡ length far.spans
   pub homes : length new.homes ≡ length far.homes
   pub nodes : length new.nodes.nodes ≡ length far.nodes.nodes
+  pub room : new.nodes.room ≡ far.nodes.room
 
 same_kept : (far new : FarState) → new ≡ far → KeepsFar far new
 same_kept far new e = subst (KeepsFar far) (sym e) (record {
@@ -96,6 +97,7 @@ same_kept far new e = subst (KeepsFar far) (sym e) (record {
   spans = refl;
   homes = refl;
   nodes = refl;
+  room = refl;
 })
 
 swapped_kept : (far new : FarState) (id p : ℕ) (set : SetState) (f : ℕ)
@@ -112,6 +114,9 @@ swapped_kept far new id p set f z = record {
   homes = z.homes.count;
   nodes = ap (λ (q : NodesState). length q.nodes) z.nodes
       ∙ left_count (with_given far.nodes (rows_needed far.members set p))
+      (with_position set p dead_position);
+  room = ap (λ (q : NodesState). q.room) z.nodes
+      ∙ left_room (with_given far.nodes (rows_needed far.members set p))
       (with_position set p dead_position);
 }
 

@@ -24,6 +24,7 @@ configured_kept x y far new id p r z c =
       frames = k.spans ∙ c.frames;
       homes = k.homes ∙ c.homes;
       nodes = k.nodes ∙ c.nodes;
+      room = k.room ∙ c.room;
     })
 
 -- the pins are those that the seats have

@@ -95,6 +95,11 @@ drop_count nodes [] = refl
 drop_count nodes (x ∷ xs) = drop_count (with_dropped nodes x.node x.key) xs
     ∙ length-set nodes.nodes x.node.n _
 
+pub drop_room : (nodes : NodesState) (shards : List Shard)
+    → (all_dropped nodes shards).room ≡ nodes.room
+drop_room nodes [] = refl
+drop_room nodes (x ∷ xs) = drop_room (with_dropped nodes x.node x.key) xs
+
 -- ---- the sets
 -- a set with a live position, or with none
 some_live : (set : SetState) → is_live set ≡ true → (q : ℕ) × (live_at set q ≡ true)
@@ -157,6 +162,14 @@ left_count nodes rest = by (is_live rest) refl
     by false e =
         ap (λ (b : Bool). length (if b then nodes else all_dropped nodes rest.shards).nodes) e
         ∙ drop_count nodes rest.shards
+
+pub left_room : (nodes : NodesState) (rest : SetState) → (nodes_left nodes rest).room ≡ nodes.room
+left_room nodes rest = by (is_live rest) refl
+  where
+    by : (b : Bool) → is_live rest ≡ b → (nodes_left nodes rest).room ≡ nodes.room
+    by true e = ap (λ (b : Bool). (if b then nodes else all_dropped nodes rest.shards).room) e
+    by false e = ap (λ (b : Bool). (if b then nodes else all_dropped nodes rest.shards).room) e
+        ∙ drop_room nodes rest.shards
 
 -- no row is given out
 drop_given : (nodes : NodesState) (shards : List Shard) → (all_dropped nodes shards).given ≡ nodes.given

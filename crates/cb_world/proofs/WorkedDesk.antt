@@ -1,5 +1,5 @@
 -- Worked examples of what is known at a desk: what meets each definition, and what breaks one part.
-use Rattle.std.proofs.Common.{◌≡◌, ℕ, zero, suc, true, false, [], ◌∷◌, refl, inl, inr, lit<, lit≤, arith}
+use Rattle.std.proofs.Common.{◌≡◌, ◌≤◌, ℕ, zero, suc, true, false, [], ◌∷◌, refl, inl, inr, lit<, lit≤, arith}
 use Rattle.cb_world.specs.declared.object.Object.TheVariants as is
 use Rattle.cb_world.specs.declared.event.Event.TheVariants.{Looked, Claimed, Told, Loaded, Stored, Stamped, Settled}
 use Rattle.cb_world.specs.declared.shown.Shown.{Shown}
@@ -246,6 +246,9 @@ known_empty = refl
 
 cools : Agrees known (Looked 0 16386) → ⊥
 cools a = let z : false ≡ true = a.1 refl in cc
+
+older : Agrees known (Claimed 0 calm 0 (2826 ∷ [])) → ⊥
+older a = let z : 1 ≤ 0 = a.4 in omega (arith, z)
 
 store_of_another : IsAllowed known (Stored 0 1) → ⊥
 store_of_another o = not_owned o

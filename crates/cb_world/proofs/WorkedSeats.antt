@@ -72,7 +72,7 @@ one_seat = refl
 -- ---- words and pins
 abbrev settings : Config
 settings =
-    record { k = 1; r = 1; nodes = 1; frames = 2; room = 4; handles = 3; turns = 0 }
+    record { k = 1; r = 1; nodes = 1; frames = 2; room = 1; handles = 3; turns = 0 }
 
 abbrev desk : ℕ → Words
 desk word =
