@@ -1,8 +1,8 @@
-ghost use Rattle.std.specs.Prelude.{◌++◌, List, IfOk, OnErr};
+ghost use Rattle.std.specs.Prelude.{◌≡◌, ◌++◌, List, [], IfOk, OnErr};
 ghost use Rattle.std.specs.List.{AllByRecursion};
 ghost use Rattle.cb_model.specs.Called.{Called};
-ghost use Rattle.cb_model.specs.Legal.{Follow};
-ghost use Rattle.cb_world.specs.World.{IsSoundWorld};
+ghost use Rattle.cb_model.specs.Legal.{Follow, AreLegal};
+ghost use Rattle.cb_world.specs.World.{IsSoundWorld, empty_world};
 ghost use Rattle.cb_core.specs.Called.{calls_by, StandsBeside};
 ghost use Rattle.cb_core.specs.Events.{IsEvent};
 ghost use Rattle.cb_core.specs.Run.{LeadsSoundly, RunStops};
@@ -22,9 +22,8 @@ use std::alloc::Global;
 /// The completed calls among the events are legal in their order: makes, turns on objects and pins,
 /// but for those that are answered Worn or ScopeFull, which say nothing of any object. Wherever the
 /// plain map stands beside the world, each call is answered as the map answers it after the calls
-/// before it, and the map goes on standing beside the world. The empty map stands beside the empty
-/// world, and calls that follow it from there are legal: each object has a history, each answer is true
-/// of it, and no version falls.
+/// before it, and the map goes on standing beside the world. From the empty world the calls are legal
+/// by themselves: each object has a history, each answer is true of it, and no version falls.
 pub fn run(alloc: Global, world: &mut World, events: &[Event]) -> Result<Replies, NoMemory>
     requires sound { IsSoundWorld world.old }
     requires events { AllByRecursion (IsEvent world.old.desk.settings) events.now }
@@ -34,6 +33,9 @@ pub fn run(alloc: Global, world: &mut World, events: &[Event]) -> Result<Replies
         → Follow world.old.far.first world.old.desk.settings.handles before
         (calls_by before events.now replies)
         × StandsBeside (before ++ calls_by before events.now replies) world.new) }
+    ensures from_empty { IfOk result (λ replies. world.old ≡ empty_world world.old.desk.settings
+        → AreLegal world.old.far.first world.old.desk.settings.handles
+        (calls_by [] events.now replies)) }
     ensures sound { IsSoundWorld world.new }
     ensures error { OnErr result (RunStops world.old events.now world.new) }
 {

@@ -38,7 +38,8 @@ use Rattle.cb_evict.specs.Sending.{AreSent}
 use Rattle.cb_evict.specs.Storing.{AreShards, KeepsSet, with_set}
 use Rattle.cb_evict.proofs.Events.{AreReads, touches_append, touches_more, no_look_append, told_words, told_objects}
 use Rattle.cb_evict.proofs.Evicts.{Done, after_far, rule_then, sound_then, effect_then, told_before}
-use Rattle.cb_evict.proofs.Owned.{frame_owned, claimed_held}
+use Rattle.cb_world.proofs.Seen.{frame_owned}
+use Rattle.cb_evict.proofs.Owned.{claimed_held}
 use Rattle.cb_evict.proofs.Standing.{IsReadyFrame, ready_frame}
 
 -- ---- the frames that were taken

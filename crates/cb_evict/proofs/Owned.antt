@@ -14,38 +14,11 @@ use Rattle.cb_world.specs.Memory.{window}
 use Rattle.cb_world.specs.RowWords.{words_in, words_from, row_of}
 use Rattle.cb_world.specs.FarState.{FarState, span_in}
 use Rattle.cb_world.specs.LocalSound.{LocalSound, LiesAt}
-use Rattle.cb_world.proofs.Apart.{slot_inside}
 use Rattle.cb_world.proofs.RowWords.{words_of_row, windows_agree}
 use Rattle.cb_world.proofs.Windows.{window_same, window_at}
+use Rattle.cb_world.proofs.Seen.{frame_spares}
 use Rattle.cb_evict.specs.Claims.{Keeps, AreClaimed, IsClaimedBy}
 use Rattle.cb_evict.specs.Claiming.{IsOne}
-use Rattle.cb_evict.specs.Loading.{LiesIn, OwnsFrame}
-
--- no object that others may change lies in a frame whose objects are all held
-frame_spares : (far : FarState) (s : Shown) (f p : ℕ) → LocalSound s far
-    → ((slot h : ℕ) (span : Contents) → span_in far.spans f ≡ Some span
-    → handle_at span slot ≡ Some h → IsHeld (object_at s h))
-    → LiesIn f p → (k : ℕ) → Spares p (object_at s k)
-frame_spares far s f p sound held (from, to) k = spare (object_at s k) refl
-  where
-    spare : (o : Object) → object_at s k ≡ o → Spares p o
-    spare (is.Empty v) e = tt
-    spare (is.Far len v words) e = tt
-    spare (is.Claimed len place v words) e = tt
-    spare (is.Here len place) e = λ covers.
-        let lies : LiesAt (object_at s k) len place =
-        subst (λ (o : Object). LiesAt o len place) (sym e) (refl, refl) in
-        let c = sound.placed.placed k len place lies in
-        let x = slot_inside far s k len place sound c in
-        let here : c.frame ≡ f = omega (arith, x.0, x.1, covers.0, covers.1, from, to) in
-        subst IsHeld e (held c.slot k c.span (ap (span_in far.spans) (sym here) ∙ c.there) c.named)
-
--- the caller owns every word of a frame whose objects are all held
-pub frame_owned : (far : FarState) (s : Shown) (f : ℕ) → LocalSound s far → f < length far.spans
-    → ((slot h : ℕ) (span : Contents) → span_in far.spans f ≡ Some span
-    → handle_at span slot ≡ Some h → IsHeld (object_at s h)) → OwnsFrame s f
-frame_owned far s f sound range held p lies =
-    (omega (arith, lies.1, range, sound.placed.memory), frame_spares far s f p sound held lies)
 
 -- its words stay while others are claimed
 pub frame_stays : (far : FarState) (s t : Shown) (f : ℕ) → LocalSound s far

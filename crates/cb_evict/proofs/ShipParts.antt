@@ -21,13 +21,13 @@ use Rattle.cb_world.specs.Placed.{leaving_frames}
 use Rattle.cb_world.specs.Played.{played}
 use Rattle.cb_world.specs.RowWords.{row_of}
 use Rattle.cb_world.specs.Sound.{Sound}
+use Rattle.cb_world.proofs.Seen.{batch_owned}
 use Rattle.cb_world.specs.Still.{IsStill}
 use Rattle.cb_evict.specs.Loading.{LiesIn, LiesInOne, OnlyLoads, LoadsFrame}
 use Rattle.cb_evict.specs.ShipRule.{IsShardFor, ReadsLeaving, ShipEffect, ShipRule, Ships, with_shipped}
 use Rattle.cb_evict.specs.Shipping.{OwnsBatch, PutsNothing, PutsRow}
 use Rattle.cb_evict.specs.Waiting.{PutAtMembers, least_waiting}
 use Rattle.cb_evict.proofs.Events.{are_reads, loads_more, told_words}
-use Rattle.cb_evict.proofs.Owned.{frame_owned}
 use Rattle.cb_evict.proofs.ShippedFar.{put_sound}
 
 -- ---- the batch
@@ -59,15 +59,6 @@ span_within spans f span e = elim (cases_lt f (length spans)) [
   where
     none_some : None ≡ Some span → ⊥
     none_some e = cc
-
--- the caller owns the words of its frames
-pub batch_owned : (s : Shown) (far : FarState) (batch : LeavingState) → Sound s far
-    → far.leaving ≡ Some batch → OwnsBatch s batch
-batch_owned s far batch sound there f leaves =
-    let n = sound.noted batch there in let h = n.held f leaves in
-    frame_owned far s f sound.here (span_within far.spans f h.0 h.1)
-    (λ slot h span at named.
-    subst IsHeld (sym (n.each f slot h span leaves at named).claimed) tt)
 
 -- ---- its rows
 pub contains_at : (xs : List ℕ) (p x : ℕ) → slice_get xs p ≡ Some x → Contains xs x

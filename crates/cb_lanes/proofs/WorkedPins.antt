@@ -6,7 +6,7 @@ use Rattle.std.proofs.lemmas.Option.{slice_get_within}
 use Rattle.cb_types.specs.declared.answer.Answer.{Answer}
 use Rattle.cb_types.specs.declared.config.Config.{Config}
 use Rattle.cb_types.specs.declared.request.Request.{Request}
-use Rattle.cb_types.specs.declared.request.Request.TheVariants.{Make, Pin, Peek, Unpin, Filter, Leave}
+use Rattle.cb_types.specs.declared.request.Request.TheVariants.{Make, Write, Free, Pin, Peek, Unpin, Filter, Leave}
 use Rattle.cb_types.specs.declared.reply.Reply.{Reply}
 use Rattle.cb_types.specs.declared.reply.Reply.TheVariants.{Made, Version, Bytes, Done, Left, Same, Unmade, Freed, Pinned, ScopeFull, NotPinned, NotHere, NoRoom, Stays, Swapped}
 use Rattle.cb_ptr.specs.Word.{len_of}
@@ -162,6 +162,18 @@ a_filter_that_is_done = λ count e. absurd cc
 
 a_filter_tells_fewer : ScopeSays (Some 0) three (Filter a) (Pinned 1) → ⊥
 a_filter_tells_fewer says = omega (arith, (says 1 refl).1)
+
+a_write_is_held_up : ScopeSays (Some 0) three (Write a 0 (7 ∷ [])) (Pinned 2)
+a_write_is_held_up = λ count e. let same : 2 ≡ count = cc in (omega (arith, same), omega (arith, same))
+
+a_write_tells_fewer : ScopeSays (Some 0) three (Write a 0 (7 ∷ [])) (Pinned 1) → ⊥
+a_write_tells_fewer says = omega (arith, (says 1 refl).1)
+
+a_free_is_held_up : ScopeSays (Some 0) three (Free a) (Pinned 2)
+a_free_is_held_up = λ count e. let same : 2 ≡ count = cc in (omega (arith, same), omega (arith, same))
+
+a_free_tells_fewer : ScopeSays (Some 0) three (Free a) (Pinned 1) → ⊥
+a_free_tells_fewer says = omega (arith, (says 1 refl).1)
 
 a_filter_tells_none : ScopeSays (Some 0) three (Filter c) (Pinned 0) → ⊥
 a_filter_tells_none says = omega (arith, (says 0 refl).0)

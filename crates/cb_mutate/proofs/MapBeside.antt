@@ -122,7 +122,7 @@ beside_kept calls s t far new map made same = record {
 pub empty_beside : (c : Config) → IsMapBeside [] (empty_shown 1 c) (empty_far 1 c)
 empty_beside c = record {
   made = refl;
-  values = λ h. subst (IsValue None) (sym (empty_never c h)) tt;
+  values = λ h. subst (IsValue None) (sym (empty_never 1 c h)) tt;
 }
 
 -- of an object that was held the version alone is known once it is gone

@@ -112,7 +112,7 @@ impl SpanSet {
         }
     }
 
-    /// The slot table of the data position, empty where it is dead.
+    /// The slot table of the data position: the handle at each slot that is taken.
     pub fn slots(&self, position: u32) -> &[Option<u32>]
         requires { position < length self.now.positions }
         ensures { result.now ≡ (position_of self.now position).slots }

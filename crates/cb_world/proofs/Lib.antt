@@ -4,6 +4,7 @@ pub mod Tracing
 pub mod Exact
 pub mod Untouched
 pub mod Packed
+pub mod Seen
 pub mod SecondDesk
 pub mod Surviving
 pub mod Storing

@@ -1,6 +1,7 @@
-use Rattle.std.proofs.Common.{rules, ◌+◌, [], ◌∷◌, ◌++◌}
+use Rattle.std.proofs.Common.{rules, sym, subst, ◌+◌, [], ◌∷◌, ◌++◌}
 use Rattle.cb_core.specs.Run.{RunStops}
-use Rattle.cb_core.proofs.RunLegal.{run_legal}
+use Rattle.cb_core.specs.Called.{StandsBeside}
+use Rattle.cb_core.proofs.RunLegal.{run_legal, run_from_empty, empty_stands}
 use Rattle.cb_core.proofs.Runs.{going_more, going_all, going_stops, going_ends, only_leads, of_error}
 use Rattle.cb_core.proofs.running.run.Goals as goal
 
@@ -24,6 +25,14 @@ returns-clause-legal c before stands = run_legal c.args.events.now c.loop-event.
     c.loop-event.world (going_all c.args.world.now c.args.events.now c.loop-event.event-index
     c.loop-event.replies c.loop-event.world c.loop-event.invariant c.loop-event-test.false)
     c.requires.events c.requires.sound before stands
+
+pub returns-clause-from_empty : goal.returns-clause-from_empty
+returns-clause-from_empty c empty = run_from_empty c.args.events.now c.loop-event.replies
+    c.args.world.now c.loop-event.world (going_all c.args.world.now c.args.events.now
+    c.loop-event.event-index c.loop-event.replies c.loop-event.world c.loop-event.invariant
+    c.loop-event-test.false) c.requires.events c.requires.sound
+    (subst (StandsBeside []) (sym empty) (empty_stands c.args.world.now.desk.settings
+    c.requires.sound.config))
 
 pub returns-in_err-reply-clause-error : goal.returns-in_err-reply-clause-error
 returns-in_err-reply-clause-error c =
