@@ -15,10 +15,6 @@ use Rattle.cb_evict.proofs.BeginParts.{refuses_after, spans_refusal, begins_as, 
 use Rattle.cb_evict.proofs.Composed.{if_ok, on_err, any_err, both_err, rows_made, nothing_done, are_ready, are_taken, taken_as, claims_fail}
 use Rattle.cb_evict.proofs.beginning.begin_loose.Goals as goal
 
-pub overflow_add-config : goal.overflow_add-config
-overflow_add-config g c =
-    let most = c.requires.config.0 K in let more = c.requires.config.0 R in
-    omega (arith, most.1, more.1)
 
 pub returns-in-TooFew-clause-begun : goal.returns-in-TooFew-clause-begun
 returns-in-TooFew-clause-begun g c =
@@ -30,21 +26,17 @@ returns-in-TooFew-clause-begun g c =
     (λ s. g.D.Desk.shows c.args.desk.now s) c.args.config c.args.far.now c.args.loose.now)
     c.in-TooFew.is c.in_ok-taken.ensures.taken)
 
-pub overflow_add-config-2 : goal.overflow_add-config-2
-overflow_add-config-2 g c =
+
+
+
+
+pub room_for-requires : goal.room_for-requires
+room_for-requires g c =
     let most = c.requires.config.0 K in let more = c.requires.config.0 R in
     omega (arith, most.1, more.1)
 
-pub returns-in-Err-clause-error : goal.returns-in-Err-clause-error
-returns-in-Err-clause-error g c = nothing_done _ _ _ (g.met.D.Desk.none _)
-
-pub returns-in_err-positions-clause-error : goal.returns-in_err-positions-clause-error
-returns-in_err-positions-clause-error g c = any_err _ _ (nothing_done c.args.far.now
-    (λ es. g.D.Desk.run c.args.desk.now es c.args.desk.now) (λ s. g.D.Desk.shows c.args.desk.now s)
-    (g.met.D.Desk.none _))
-
-pub returns-in_err-blank-clause-error : goal.returns-in_err-blank-clause-error
-returns-in_err-blank-clause-error g c = any_err _ _ (nothing_done c.args.far.now
+pub returns-in_err-room-clause-error : goal.returns-in_err-room-clause-error
+returns-in_err-room-clause-error g c = any_err _ _ (nothing_done c.args.far.now
     (λ es. g.D.Desk.run c.args.desk.now es c.args.desk.now) (λ s. g.D.Desk.shows c.args.desk.now s)
     (g.met.D.Desk.none _))
 
@@ -90,7 +82,7 @@ begin_claimed-requires-clause-blank g c =
     c.in-Enough.is c.in_ok-taken.ensures.taken in
     let x = taken.claims in
     let stays = g.met.D.Desk.stays _ _ x.events x.ran in
-    c.deref.ensures.value ∙ c.in_ok-blank.ensures
+    c.deref.ensures.value ∙ c.in_ok-room.ensures.blank
     ∙ ap (λ (n : Config). blank_shards (n.k + n.r)) (c.requires.config.1 ∙ sym stays)
 
 pub begin_claimed-requires-clause-shards : goal.begin_claimed-requires-clause-shards
@@ -100,7 +92,7 @@ begin_claimed-requires-clause-shards g c =
     c.in-Enough.is c.in_ok-taken.ensures.taken in
     let x = taken.claims in
     let stays = g.met.D.Desk.stays _ _ x.events x.ran in
-    c.in_ok-positions.ensures
+    c.in_ok-room.ensures.shards
     ∙ ap (λ (n : Config). no_names (n.k + n.r)) (c.requires.config.1 ∙ sym stays)
 
 pub begin_claimed-requires-clause-rows : goal.begin_claimed-requires-clause-rows
@@ -109,7 +101,8 @@ begin_claimed-requires-clause-rows g c =
     (λ s. g.D.Desk.shows c.args.desk.now s) c.args.config c.args.far.now c.args.loose.now)
     c.in-Enough.is c.in_ok-taken.ensures.taken in
     let x = taken.claims in
-    rows_made c.in-Ok.rows c.args.config.k (length c.in-Enough.frames.items) c.in-Ok.ensures
+    rows_made c.in_ok-room.room.rows c.args.config.k (length c.in-Enough.frames.items)
+    c.in_ok-room.ensures.rows
     taken.count
 
 pub begin_claimed-requires-clause-ready : goal.begin_claimed-requires-clause-ready
@@ -128,8 +121,8 @@ begin_claimed-requires-clause-ready g c =
           c.requires.sound.1 c.requires.sound.2,
     )
 
-pub returns-clause-begun : goal.returns-clause-begun
-returns-clause-begun g c =
+pub returns-in-Enough-clause-begun : goal.returns-in-Enough-clause-begun
+returns-in-Enough-clause-begun g c =
     let taken = subst (Takes (λ es. g.D.Desk.run c.args.desk.now es c.take_spans.new.desk)
     (λ s. g.D.Desk.shows c.args.desk.now s) c.args.config c.args.far.now c.args.loose.now)
     c.in-Enough.is c.in_ok-taken.ensures.taken in
@@ -151,8 +144,8 @@ returns-clause-begun g c =
     c.requires.among taken.count c.requires.room
     c.requires.none is c.requires.sound)
 
-pub returns-clause-error : goal.returns-clause-error
-returns-clause-error g c =
+pub returns-in-Enough-clause-error : goal.returns-in-Enough-clause-error
+returns-in-Enough-clause-error g c =
     let taken = subst (Takes (λ es. g.D.Desk.run c.args.desk.now es c.take_spans.new.desk)
     (λ s. g.D.Desk.shows c.args.desk.now s) c.args.config c.args.far.now c.args.loose.now)
     c.in-Enough.is c.in_ok-taken.ensures.taken in
