@@ -22,3 +22,6 @@ least_waiting-requires-clause-few c =
     (sym (c.deref.ensures.value ∙ ap (λ (b : LeavingState). b.shards) c.batch.view_is))
     (few_positions c.requires.sound.0 c.args.far.now c.args.batch.now c.requires.sound.1
     c.requires.there)
+
+pub least_node-requires-clause-few : goal.least_node-requires-clause-few
+least_node-requires-clause-few c = subst (λ (q : FarState). length q.nodes.nodes ≤ 256) (sym c.far.view_is) c.requires.few
