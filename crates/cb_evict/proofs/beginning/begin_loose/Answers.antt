@@ -1,3 +1,4 @@
+use Rattle.std.proofs.lemmas.Result.{IfOk-from_err}
 use Rattle.std.proofs.Common.{◌+◌, length, refl, sym, ap, ◌∙◌, subst, arith}
 use Rattle.cb_types.specs.Config.{IsAccepted}
 use Rattle.cb_types.specs.declared.config.Config.{Config}
@@ -15,7 +16,6 @@ use Rattle.cb_evict.proofs.BeginParts.{refuses_after, spans_refusal, begins_as, 
 use Rattle.cb_evict.proofs.Composed.{if_ok, on_err, any_err, both_err, rows_made, nothing_done, are_ready, are_taken, taken_as, claims_fail}
 use Rattle.cb_evict.proofs.beginning.begin_loose.Goals as goal
 
-
 pub returns-in-TooFew-clause-begun : goal.returns-in-TooFew-clause-begun
 returns-in-TooFew-clause-begun g c =
     refuses_after c.args.config c.args.far.now (answer.NoSpans c.in-TooFew.spans) c.args.loose.now
@@ -25,10 +25,6 @@ returns-in-TooFew-clause-begun g c =
     (subst (Takes (λ es. g.D.Desk.run c.args.desk.now es c.take_spans.new.desk)
     (λ s. g.D.Desk.shows c.args.desk.now s) c.args.config c.args.far.now c.args.loose.now)
     c.in-TooFew.is c.in_ok-taken.ensures.taken)
-
-
-
-
 
 pub room_for-requires : goal.room_for-requires
 room_for-requires g c =
@@ -167,3 +163,48 @@ returns-in-Enough-clause-error g c =
     (λ es fs a b. g.met.D.Desk.more _ _ _ _ _ a b)
     (λ s a. (g.met.D.Desk.follows _ _ x.events s x.ran a).1)
     c.requires.among))
+
+pub same-far : goal.same-far
+same-far g c = refl
+
+pub same-far-2 : goal.same-far-2
+same-far-2 g c = refl
+
+pub take_spans-requires-clause-config : goal.take_spans-requires-clause-config
+take_spans-requires-clause-config g c = c.requires.config
+
+pub take_spans-requires-clause-sound : goal.take_spans-requires-clause-sound
+take_spans-requires-clause-sound g c = c.requires.sound
+
+pub take_spans-requires-clause-among : goal.take_spans-requires-clause-among
+take_spans-requires-clause-among g c = c.requires.among
+
+pub take_spans-requires-clause-apart : goal.take_spans-requires-clause-apart
+take_spans-requires-clause-apart g c = c.requires.apart
+
+pub returns-in_err-taken-clause-unchanged : goal.returns-in_err-taken-clause-unchanged
+returns-in_err-taken-clause-unchanged g c = any_err _ _ refl
+
+pub returns-in-TooFew-clause-error : goal.returns-in-TooFew-clause-error
+returns-in-TooFew-clause-error g c = tt
+
+pub returns-in-TooFew-clause-unchanged : goal.returns-in-TooFew-clause-unchanged
+returns-in-TooFew-clause-unchanged g c = tt
+
+pub returns-in_err-room-clause-begun : goal.returns-in_err-room-clause-begun
+returns-in_err-room-clause-begun g c = IfOk-from_err _ _ c.from_residual.ensures.0
+
+pub returns-in_err-room-clause-unchanged : goal.returns-in_err-room-clause-unchanged
+returns-in_err-room-clause-unchanged g c = any_err _ _ refl
+
+pub returns-in_err-taken-clause-begun : goal.returns-in_err-taken-clause-begun
+returns-in_err-taken-clause-begun g c = IfOk-from_err _ _ c.from_residual-in_err-taken.ensures.0
+
+pub begin_claimed-requires-clause-counts : goal.begin_claimed-requires-clause-counts
+begin_claimed-requires-clause-counts g c = c.requires.counts
+
+pub begin_claimed-requires-clause-none : goal.begin_claimed-requires-clause-none
+begin_claimed-requires-clause-none g c = c.requires.none
+
+pub returns-in-Enough-clause-unchanged : goal.returns-in-Enough-clause-unchanged
+returns-in-Enough-clause-unchanged g c = c.begin_claimed.ensures.unchanged

@@ -26,14 +26,14 @@ pub slice_bounds-give_back-count : goal.slice_bounds-give_back-count
 slice_bounds-give_back-count g c = omega (arith, c.requires.within, ap (λ (l : List Former). length l) c.deref.ensures.value)
 
 pub give_back-requires-clause-handles : goal.give_back-requires-clause-handles
-give_back-requires-clause-handles g c = 
+give_back-requires-clause-handles g c =
     let part = take_rest c.deref.result.now c.args.start
     ∙ ap (λ (l : List Former). drop c.args.start l) c.deref.ensures.value in
     subst (λ (l : List Former). All (λ former. former.handle < (g.D.Desk.settings c.args.desk.now).handles) l)
     (sym part) c.requires.handles
 
 pub give_back-requires-clause-apart : goal.give_back-requires-clause-apart
-give_back-requires-clause-apart g c = 
+give_back-requires-clause-apart g c =
     let part = take_rest c.deref.result.now c.args.start
     ∙ ap (λ (l : List Former). drop c.args.start l) c.deref.ensures.value in
     subst (λ (l : List Former). AreApart l) (sym part) c.requires.apart

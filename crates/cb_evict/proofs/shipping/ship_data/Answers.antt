@@ -50,7 +50,7 @@ pub returns-in_err-row-clause-unchanged : goal.returns-in_err-row-clause-unchang
 returns-in_err-row-clause-unchanged g c = any_err _ _ refl
 
 pub returns-in_err-row-clause-err : goal.returns-in_err-row-clause-err
-returns-in_err-row-clause-err g c = 
+returns-in_err-row-clause-err g c =
     let nothing : PutsNothing (λ es. g.D.Desk.run c.args.desk.now es c.args.desk.now) c.args.far.now =
     record { events = []; ran = g.met.D.Desk.none _; reads = tt } in any_err _ _ nothing
 

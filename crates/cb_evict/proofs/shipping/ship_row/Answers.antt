@@ -54,11 +54,11 @@ ship_parity-requires-clause-keys g c = c.requires.keys
 
 pub ship_data-requires-clause-there : goal.ship_data-requires-clause-there
 ship_data-requires-clause-there g c = let x = c.requires.next in (
-      x.0,
-      x.1,
-      sym (c.frame_at.ensures x.0 x.1) ∙ c.in-Some.is,
-      (least_waits c.args.far.now.members x.0.shards c.args.position x.2.0).0,
-    )
+  x.0,
+  x.1,
+  sym (c.frame_at.ensures x.0 x.1) ∙ c.in-Some.is,
+  (least_waits c.args.far.now.members x.0.shards c.args.position x.2.0).0,
+)
 
 pub returns-in-Some-clause-ok : goal.returns-in-Some-clause-ok
 returns-in-Some-clause-ok g c = c.ship_data.ensures.ok
@@ -73,6 +73,6 @@ pub returns-in-None-clause-unchanged : goal.returns-in-None-clause-unchanged
 returns-in-None-clause-unchanged g c = c.ship_parity.ensures.err
 
 pub returns-in-None-clause-err : goal.returns-in-None-clause-err
-returns-in-None-clause-err g c = 
+returns-in-None-clause-err g c =
     let nothing : PutsNothing (λ es. g.D.Desk.run c.args.desk.now es c.args.desk.now) c.args.far.now =
     record { events = []; ran = g.met.D.Desk.none _; reads = tt } in any_err _ _ nothing
