@@ -40,7 +40,14 @@ pub record CanPut (nodes : NodesState) (shards : List Shard) : Type 0 where
 abbrev pub set_for : FarState → List Shard → List ℕ → SetState
 set_for far shards frames = set_from far.counts.sets shards far.spans frames
 
--- the far state with that set, whose rows are put at its shards' nodes; its number and the keys of
+-- the far state with a committed set of the next number; that and the keys of its rows are drawn
+abbrev pub with_kept : FarState → SetState → ℕ → FarState
+with_kept far set rows = record far {
+  sets = map.insert far.sets far.counts.sets (record { set = set; committed = true });
+  counts = record far.counts { sets = far.counts.sets + 1; keys = far.counts.keys + rows };
+}
+
+-- the far state with the set of the spans in some frames, whose rows are put at its shards' nodes; its number and the keys of
 -- its rows are drawn
 abbrev pub with_set : FarState → List Shard → List ℕ → List (List ℕ) → FarState
 with_set far shards frames rows = record far {

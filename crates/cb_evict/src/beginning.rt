@@ -38,6 +38,17 @@ const BLANK: Shard = Shard {
     key: 0,
 };
 
+/// The memory that a batch takes before its objects are claimed.
+#[derive(Drop)]
+struct Room {
+    /// A row for each of its spans.
+    rows: Rows,
+    /// A place for the shard of each of its positions, none of which has one yet.
+    shards: Vec<Option<Shard>>,
+    /// A blank shard for each position.
+    blank: Vec<Shard>,
+}
+
 /// Begins to evict k spans: they are leaving from here, as one batch, until a commit or an abort. Of the
 /// spans none of whose objects is pinned or claimed, the first k are taken, the cold ones before the hot
 /// ones and then by frame number. All their objects are claimed and stay in local memory, the parities of
@@ -136,18 +147,37 @@ fn begin_loose<D: Desk>(
         IsStill) }
     ensures unchanged { OnErr result (far.new ≡ far.old) }
 {
-    let mut rows = match Rows::new(far.alloc, config.k, 4096) {
-        Ok(rows) => rows,
-        Err(_) => return Err(NoMemory),
-    };
-    let positions = no_shards(far.alloc, config.k + config.r)?;
-    let blank = blank_shards(far.alloc, config.k + config.r)?;
+    let room = room_for(far.alloc, config.k, config.r)?;
     let taken = take_spans(desk, far, config, loose)?;
     match taken {
         Taken::TooFew { spans } => Ok(Reply::NoSpans { loose: spans }),
         Taken::Enough { frames, formers } => {
-            begin_claimed(desk, far, &blank, positions, frames, formers, &mut rows)
+            let Room {
+                mut rows,
+                shards,
+                blank,
+            } = room;
+            begin_claimed(desk, far, &blank, shards, frames, formers, &mut rows)
         }
+    }
+}
+
+/// Takes the memory of a batch of `k` spans with `r` parities.
+fn room_for(alloc: Global, k: u32, r: u32) -> Result<Room, NoMemory>
+    requires { k + r < 2 ^ 32 }
+    ensures rows { IfOk result (λ room. room.rows ≡ replicate k (replicate 4096 0)) }
+    ensures shards { IfOk result (λ room. room.shards.items ≡ replicate (k + r) None) }
+    ensures blank { IfOk result (λ room. room.blank.items ≡ blank_shards (k + r)) }
+{
+    let shards = no_shards(alloc, k + r)?;
+    let blank = blank_shards(alloc, k + r)?;
+    match Rows::new(alloc, k, 4096) {
+        Ok(rows) => Ok(Room {
+            rows,
+            shards,
+            blank,
+        }),
+        Err(_) => Err(NoMemory),
     }
 }
 

@@ -8,7 +8,7 @@ ghost use Rattle.cb_world.specs.Choices.{room_count};
 ghost use Rattle.cb_world.specs.FarState.{span_in};
 ghost use Rattle.cb_world.specs.Reserved.{position_for, set_from};
 ghost use Rattle.cb_world.specs.Stored.{all_put};
-ghost use Rattle.cb_evict.specs.Storing.{AreShards, CanPut, KeepsSet, set_for};
+ghost use Rattle.cb_evict.specs.Storing.{AreShards, CanPut, KeepsSet, set_for, with_kept};
 
 use cb_code::{coefficients, encode};
 use cb_member::Shard;
@@ -154,6 +154,53 @@ pub(crate) fn make_parities(alloc: Global, rows: &Rows, r: u32) -> Result<Rows, 
     }
 }
 
+/// Keeps the set as committed under the next set number, and draws that number and the keys of as
+/// many rows. Where there is no memory, nothing has changed.
+fn keep_committed(far: &mut Far, set: SpanSet, rows: u32) -> Result<(), NoMemory>
+    requires counts { (far.old.counts.sets < 2 ^ 62) × (far.old.counts.keys < 2 ^ 62) }
+    ensures err { OnErr result (far.new ≡ far.old) }
+    ensures kept { OnOk result (far.new ≡ with_kept far.old set rows) }
+{
+    far.sets.put(
+        far.counts.sets,
+        KeptSet {
+            set,
+            committed: true,
+        },
+    )?;
+    far.counts.sets += 1;
+    far.counts.keys += u64::from(rows);
+    Ok(())
+}
+
+/// Puts the rows at the shards' nodes, and keeps the set as committed under the next set number. That
+/// and the row keys are drawn. Where there is no memory, nothing has changed.
+fn store_set(
+    far: &mut Far,
+    set: SpanSet,
+    shards: &[Shard],
+    rows: &Rows,
+    parities: &Rows,
+) -> Result<(), NoMemory>
+    requires count { length shards.now ≡ length rows.now + length parities.now }
+    requires few { length shards.now < 2 ^ 32 }
+    requires can { CanPut far.old.nodes shards.now }
+    requires counts { (far.old.counts.sets < 2 ^ 62) × (far.old.counts.keys < 2 ^ 62) }
+    ensures err { OnErr result (far.new ≡ far.old) }
+    ensures kept { OnOk result (far.new ≡ with_kept (record far.old {
+      nodes = all_put far.old.nodes shards.now (rows.now ++ parities.now);
+    }) set (length shards.now)) }
+{
+    put_rows(&mut far.nodes, shards, rows, parities)?;
+    match keep_committed(far, set, shards.len() as u32) {
+        Ok(()) => Ok(()),
+        Err(_) => {
+            drop_rows(&mut far.nodes, shards);
+            Err(NoMemory)
+        }
+    }
+}
+
 /// Codes the rows of the spans in these frames, puts data and parities at the shards' nodes and keeps
 /// the set as committed. Its number and the row keys are drawn. Where there is no memory, nothing has
 /// changed.
@@ -174,23 +221,5 @@ pub(crate) fn keep_set(
     let r = shards.len() - frames.len();
     let parities = make_parities(far.alloc, rows, r as u32)?;
     let set = next_set(far, shards, frames)?;
-    put_rows(&mut far.nodes, shards, rows, &parities)?;
-    let id = far.counts.sets;
-    if far
-        .sets
-        .put(
-            id,
-            KeptSet {
-                set,
-                committed: true,
-            },
-        )
-        .is_err()
-    {
-        drop_rows(&mut far.nodes, shards);
-        return Err(NoMemory);
-    }
-    far.counts.sets += 1;
-    far.counts.keys += shards.len() as u64;
-    Ok(())
+    store_set(far, set, shards, rows, &parities)
 }

@@ -1,3 +1,4 @@
+use Rattle.std.proofs.lemmas.Result.{IfOk-from_err}
 use Rattle.std.proofs.Common.{◌+◌, length, refl, sym, ap, ◌∙◌, subst, arith}
 use Rattle.cb_types.specs.Config.{IsAccepted}
 use Rattle.cb_types.specs.declared.config.Config.{Config}
@@ -15,11 +16,6 @@ use Rattle.cb_evict.proofs.BeginParts.{refuses_after, spans_refusal, begins_as, 
 use Rattle.cb_evict.proofs.Composed.{if_ok, on_err, any_err, both_err, rows_made, nothing_done, are_ready, are_taken, taken_as, claims_fail}
 use Rattle.cb_evict.proofs.beginning.begin_loose.Goals as goal
 
-pub overflow_add-config : goal.overflow_add-config
-overflow_add-config g c =
-    let most = c.requires.config.0 K in let more = c.requires.config.0 R in
-    omega (arith, most.1, more.1)
-
 pub returns-in-TooFew-clause-begun : goal.returns-in-TooFew-clause-begun
 returns-in-TooFew-clause-begun g c =
     refuses_after c.args.config c.args.far.now (answer.NoSpans c.in-TooFew.spans) c.args.loose.now
@@ -30,21 +26,13 @@ returns-in-TooFew-clause-begun g c =
     (λ s. g.D.Desk.shows c.args.desk.now s) c.args.config c.args.far.now c.args.loose.now)
     c.in-TooFew.is c.in_ok-taken.ensures.taken)
 
-pub overflow_add-config-2 : goal.overflow_add-config-2
-overflow_add-config-2 g c =
+pub room_for-requires : goal.room_for-requires
+room_for-requires g c =
     let most = c.requires.config.0 K in let more = c.requires.config.0 R in
     omega (arith, most.1, more.1)
 
-pub returns-in-Err-clause-error : goal.returns-in-Err-clause-error
-returns-in-Err-clause-error g c = nothing_done _ _ _ (g.met.D.Desk.none _)
-
-pub returns-in_err-positions-clause-error : goal.returns-in_err-positions-clause-error
-returns-in_err-positions-clause-error g c = any_err _ _ (nothing_done c.args.far.now
-    (λ es. g.D.Desk.run c.args.desk.now es c.args.desk.now) (λ s. g.D.Desk.shows c.args.desk.now s)
-    (g.met.D.Desk.none _))
-
-pub returns-in_err-blank-clause-error : goal.returns-in_err-blank-clause-error
-returns-in_err-blank-clause-error g c = any_err _ _ (nothing_done c.args.far.now
+pub returns-in_err-room-clause-error : goal.returns-in_err-room-clause-error
+returns-in_err-room-clause-error g c = any_err _ _ (nothing_done c.args.far.now
     (λ es. g.D.Desk.run c.args.desk.now es c.args.desk.now) (λ s. g.D.Desk.shows c.args.desk.now s)
     (g.met.D.Desk.none _))
 
@@ -90,7 +78,7 @@ begin_claimed-requires-clause-blank g c =
     c.in-Enough.is c.in_ok-taken.ensures.taken in
     let x = taken.claims in
     let stays = g.met.D.Desk.stays _ _ x.events x.ran in
-    c.deref.ensures.value ∙ c.in_ok-blank.ensures
+    c.deref.ensures.value ∙ c.in_ok-room.ensures.blank
     ∙ ap (λ (n : Config). blank_shards (n.k + n.r)) (c.requires.config.1 ∙ sym stays)
 
 pub begin_claimed-requires-clause-shards : goal.begin_claimed-requires-clause-shards
@@ -100,7 +88,7 @@ begin_claimed-requires-clause-shards g c =
     c.in-Enough.is c.in_ok-taken.ensures.taken in
     let x = taken.claims in
     let stays = g.met.D.Desk.stays _ _ x.events x.ran in
-    c.in_ok-positions.ensures
+    c.in_ok-room.ensures.shards
     ∙ ap (λ (n : Config). no_names (n.k + n.r)) (c.requires.config.1 ∙ sym stays)
 
 pub begin_claimed-requires-clause-rows : goal.begin_claimed-requires-clause-rows
@@ -109,7 +97,8 @@ begin_claimed-requires-clause-rows g c =
     (λ s. g.D.Desk.shows c.args.desk.now s) c.args.config c.args.far.now c.args.loose.now)
     c.in-Enough.is c.in_ok-taken.ensures.taken in
     let x = taken.claims in
-    rows_made c.in-Ok.rows c.args.config.k (length c.in-Enough.frames.items) c.in-Ok.ensures
+    rows_made c.in_ok-room.room.rows c.args.config.k (length c.in-Enough.frames.items)
+    c.in_ok-room.ensures.rows
     taken.count
 
 pub begin_claimed-requires-clause-ready : goal.begin_claimed-requires-clause-ready
@@ -128,8 +117,8 @@ begin_claimed-requires-clause-ready g c =
           c.requires.sound.1 c.requires.sound.2,
     )
 
-pub returns-clause-begun : goal.returns-clause-begun
-returns-clause-begun g c =
+pub returns-in-Enough-clause-begun : goal.returns-in-Enough-clause-begun
+returns-in-Enough-clause-begun g c =
     let taken = subst (Takes (λ es. g.D.Desk.run c.args.desk.now es c.take_spans.new.desk)
     (λ s. g.D.Desk.shows c.args.desk.now s) c.args.config c.args.far.now c.args.loose.now)
     c.in-Enough.is c.in_ok-taken.ensures.taken in
@@ -151,8 +140,8 @@ returns-clause-begun g c =
     c.requires.among taken.count c.requires.room
     c.requires.none is c.requires.sound)
 
-pub returns-clause-error : goal.returns-clause-error
-returns-clause-error g c =
+pub returns-in-Enough-clause-error : goal.returns-in-Enough-clause-error
+returns-in-Enough-clause-error g c =
     let taken = subst (Takes (λ es. g.D.Desk.run c.args.desk.now es c.take_spans.new.desk)
     (λ s. g.D.Desk.shows c.args.desk.now s) c.args.config c.args.far.now c.args.loose.now)
     c.in-Enough.is c.in_ok-taken.ensures.taken in
@@ -174,3 +163,48 @@ returns-clause-error g c =
     (λ es fs a b. g.met.D.Desk.more _ _ _ _ _ a b)
     (λ s a. (g.met.D.Desk.follows _ _ x.events s x.ran a).1)
     c.requires.among))
+
+pub same-far : goal.same-far
+same-far g c = refl
+
+pub same-far-2 : goal.same-far-2
+same-far-2 g c = refl
+
+pub take_spans-requires-clause-config : goal.take_spans-requires-clause-config
+take_spans-requires-clause-config g c = c.requires.config
+
+pub take_spans-requires-clause-sound : goal.take_spans-requires-clause-sound
+take_spans-requires-clause-sound g c = c.requires.sound
+
+pub take_spans-requires-clause-among : goal.take_spans-requires-clause-among
+take_spans-requires-clause-among g c = c.requires.among
+
+pub take_spans-requires-clause-apart : goal.take_spans-requires-clause-apart
+take_spans-requires-clause-apart g c = c.requires.apart
+
+pub returns-in_err-taken-clause-unchanged : goal.returns-in_err-taken-clause-unchanged
+returns-in_err-taken-clause-unchanged g c = any_err _ _ refl
+
+pub returns-in-TooFew-clause-error : goal.returns-in-TooFew-clause-error
+returns-in-TooFew-clause-error g c = tt
+
+pub returns-in-TooFew-clause-unchanged : goal.returns-in-TooFew-clause-unchanged
+returns-in-TooFew-clause-unchanged g c = tt
+
+pub returns-in_err-room-clause-begun : goal.returns-in_err-room-clause-begun
+returns-in_err-room-clause-begun g c = IfOk-from_err _ _ c.from_residual.ensures.0
+
+pub returns-in_err-room-clause-unchanged : goal.returns-in_err-room-clause-unchanged
+returns-in_err-room-clause-unchanged g c = any_err _ _ refl
+
+pub returns-in_err-taken-clause-begun : goal.returns-in_err-taken-clause-begun
+returns-in_err-taken-clause-begun g c = IfOk-from_err _ _ c.from_residual-in_err-taken.ensures.0
+
+pub begin_claimed-requires-clause-counts : goal.begin_claimed-requires-clause-counts
+begin_claimed-requires-clause-counts g c = c.requires.counts
+
+pub begin_claimed-requires-clause-none : goal.begin_claimed-requires-clause-none
+begin_claimed-requires-clause-none g c = c.requires.none
+
+pub returns-in-Enough-clause-unchanged : goal.returns-in-Enough-clause-unchanged
+returns-in-Enough-clause-unchanged g c = c.begin_claimed.ensures.unchanged

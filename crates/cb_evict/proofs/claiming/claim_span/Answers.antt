@@ -1,4 +1,4 @@
-use Rattle.std.proofs.Common.{◌≡◌, ℕ, ◌+◌, ◌<◌, List, [], ◌++◌, length, take, drop, get_or, All, Option, None, refl, sym, ap, ◌∙◌, subst, arith, rules}
+use Rattle.std.proofs.Common.{◌≡◌, ℕ, ◌+◌, ◌<◌, List, [], ◌++◌, length, take, drop, get_or, All, Option, None, refl, sym, ap, ◌∙◌, subst, arith, rules, length-append}
 use Rattle.std.specs.Option.{IfSome}
 use Rattle.std.proofs.lemmas.List.{append-nil, append_assoc, drop_at, take_at}
 use Rattle.cb_types.specs.declared.config.Config.{Config}
@@ -205,3 +205,14 @@ returns-clause-claims g c =
       each_once = inv.2.each_once;
       claims = inv.2.claims;
     }
+
+pub undo-requires-clause-within : goal.undo-requires-clause-within
+undo-requires-clause-within g c =
+    let more = c.claim_slot.ensures.claims in let inv = c.loop-slot.invariant in omega (
+      arith,
+      c.len-start.ensures,
+      ap (λ (l : List Former). length l) more.noted,
+      length-append c.loop-slot.formers.items more.more,
+      ap (λ (l : List Former). length l) inv.3,
+      length-append c.args.formers.now.items inv.1,
+    )

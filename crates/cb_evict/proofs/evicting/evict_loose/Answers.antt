@@ -1,3 +1,4 @@
+use Rattle.std.proofs.lemmas.Result.{IfOk-from_err}
 use Rattle.std.proofs.Common.{ℕ, ◌+◌, List, length, refl, sym, ap, ◌∙◌, subst}
 use Rattle.cb_types.specs.Config.{IsAccepted}
 use Rattle.cb_types.specs.declared.config.Config.{Config}
@@ -142,3 +143,48 @@ returns-clause-error g c =
     (λ es fs a b. g.met.D.Desk.more _ _ _ _ _ a b)
     (λ s a. (g.met.D.Desk.follows _ _ x.events s x.ran a).1)
     c.requires.among))
+
+pub same-far : goal.same-far
+same-far g c = refl
+
+pub same-far-2 : goal.same-far-2
+same-far-2 g c = refl
+
+pub same-rows : goal.same-rows
+same-rows g c = refl
+
+pub take_spans-requires-clause-config : goal.take_spans-requires-clause-config
+take_spans-requires-clause-config g c = c.requires.config
+
+pub take_spans-requires-clause-sound : goal.take_spans-requires-clause-sound
+take_spans-requires-clause-sound g c = c.requires.sound
+
+pub take_spans-requires-clause-among : goal.take_spans-requires-clause-among
+take_spans-requires-clause-among g c = c.requires.among
+
+pub take_spans-requires-clause-apart : goal.take_spans-requires-clause-apart
+take_spans-requires-clause-apart g c = c.requires.apart
+
+pub returns-in_err-taken-clause-unchanged : goal.returns-in_err-taken-clause-unchanged
+returns-in_err-taken-clause-unchanged g c = any_err _ _ refl
+
+pub returns-in-TooFew-clause-error : goal.returns-in-TooFew-clause-error
+returns-in-TooFew-clause-error g c = tt
+
+pub returns-in-TooFew-clause-unchanged : goal.returns-in-TooFew-clause-unchanged
+returns-in-TooFew-clause-unchanged g c = tt
+
+pub returns-in-Err-clause-evict : goal.returns-in-Err-clause-evict
+returns-in-Err-clause-evict g c = tt
+
+pub returns-in-Err-clause-unchanged : goal.returns-in-Err-clause-unchanged
+returns-in-Err-clause-unchanged g c = refl
+
+pub returns-in_err-taken-clause-evict : goal.returns-in_err-taken-clause-evict
+returns-in_err-taken-clause-evict g c = IfOk-from_err _ _ c.from_residual.ensures.0
+
+pub evict_claimed-requires-clause-counts : goal.evict_claimed-requires-clause-counts
+evict_claimed-requires-clause-counts g c = c.requires.counts
+
+pub returns-clause-unchanged : goal.returns-clause-unchanged
+returns-clause-unchanged g c = c.evict_claimed.ensures.unchanged

@@ -1,4 +1,5 @@
-use Rattle.std.proofs.Common.{◌≢◌, ℕ, ◌+◌, List, length, All, sym, ap, ◌∙◌, subst, arith}
+use Rattle.std.proofs.lemmas.Result.{IfOk-from_err}
+use Rattle.std.proofs.Common.{◌≢◌, ℕ, ◌+◌, List, length, All, sym, ap, ◌∙◌, subst, arith, refl}
 use Rattle.std.specs.List.{Contains, AllPairs}
 use Rattle.cb_member.specs.declared.names.Shard.{Shard}
 use Rattle.cb_types.specs.Config.{IsAccepted}
@@ -181,3 +182,27 @@ returns-in_ok-shards-in-Loose-clause-error g c =
     (λ t. Sound t far) IsStill) same y)
     (λ es fs a b. g.met.D.Desk.more _ _ _ _ _ a b)
     (λ es s ran a. (g.met.D.Desk.follows _ _ es s ran a).1)))
+
+pub find_spans-requires-clause-sound : goal.find_spans-requires-clause-sound
+find_spans-requires-clause-sound g c = c.requires.sound
+
+pub returns-in_err-found-clause-evict : goal.returns-in_err-found-clause-evict
+returns-in_err-found-clause-evict g c = IfOk-from_err _ _ c.from_residual.ensures.0
+
+pub returns-in_err-found-clause-unchanged : goal.returns-in_err-found-clause-unchanged
+returns-in_err-found-clause-unchanged g c = any_err _ _ refl
+
+pub returns-in_err-shards-in-Loose-clause-unchanged : goal.returns-in_err-shards-in-Loose-clause-unchanged
+returns-in_err-shards-in-Loose-clause-unchanged g c = any_err _ _ refl
+
+pub returns-in-Refused-clause-error : goal.returns-in-Refused-clause-error
+returns-in-Refused-clause-error g c = tt
+
+pub returns-in-Refused-clause-unchanged : goal.returns-in-Refused-clause-unchanged
+returns-in-Refused-clause-unchanged g c = tt
+
+pub evict_loose-requires-clause-counts : goal.evict_loose-requires-clause-counts
+evict_loose-requires-clause-counts g c = c.requires.counts
+
+pub returns-in_ok-shards-in-Loose-clause-unchanged : goal.returns-in_ok-shards-in-Loose-clause-unchanged
+returns-in_ok-shards-in-Loose-clause-unchanged g c = c.evict_loose.ensures.unchanged

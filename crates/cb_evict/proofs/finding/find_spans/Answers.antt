@@ -1,3 +1,4 @@
+use Rattle.std.proofs.lemmas.Result.{IfOk-from_err}
 use Rattle.std.proofs.Common.{◌≡◌, ◌≢◌, ℕ, ◌≤◌, List, length, get_or, All, Some, refl, sym, ap, ◌∙◌, subst, arith, inl, inr}
 use Rattle.std.specs.List.{AllPairs}
 use Rattle.cb_types.specs.declared.config.Field.TheVariants.{K, R, Nodes}
@@ -91,3 +92,18 @@ returns-clause-found g c =
       enough = omega (arith, c.if-len-config.false, c.len-2.ensures, c.find_loose.new.loose.ok);
       room = omega (arith, nodes, c.if-nodes-config.false);
     }
+
+pub returns-in_err-frames-clause-found : goal.returns-in_err-frames-clause-found
+returns-in_err-frames-clause-found g c = IfOk-from_err _ _ c.from_residual.ensures.0
+
+pub returns-in_err-loose-clause-found : goal.returns-in_err-loose-clause-found
+returns-in_err-loose-clause-found g c = IfOk-from_err _ _ c.from_residual-in_err-loose.ensures.0
+
+pub returns-then-len-config-clause-error : goal.returns-then-len-config-clause-error
+returns-then-len-config-clause-error g c = tt
+
+pub returns-then-nodes-config-clause-error : goal.returns-then-nodes-config-clause-error
+returns-then-nodes-config-clause-error g c = tt
+
+pub returns-clause-error : goal.returns-clause-error
+returns-clause-error g c = tt

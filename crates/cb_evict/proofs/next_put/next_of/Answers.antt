@@ -1,3 +1,4 @@
+use Rattle.std.proofs.lemmas.Result.{IfOk-from_err}
 use Rattle.std.proofs.Common.{◌≤◌, List, Option, length, ap, sym, ◌∙◌, subst}
 use Rattle.cb_member.specs.declared.names.Shard.{Shard}
 use Rattle.cb_member.specs.Membership.{Membership}
@@ -22,3 +23,9 @@ least_waiting-requires-clause-few c =
     (sym (c.deref.ensures.value ∙ ap (λ (b : LeavingState). b.shards) c.batch.view_is))
     (few_positions c.requires.sound.0 c.args.far.now c.args.batch.now c.requires.sound.1
     c.requires.there)
+
+pub least_node-requires-clause-few : goal.least_node-requires-clause-few
+least_node-requires-clause-few c = subst (λ (q : FarState). length q.nodes.nodes ≤ 256) (sym c.far.view_is) c.requires.few
+
+pub returns-in_err-others : goal.returns-in_err-others
+returns-in_err-others c = record { next = IfOk-from_err _ _ c.from_residual.ensures.0 }

@@ -1,3 +1,4 @@
+use Rattle.std.proofs.lemmas.Result.{IfOk-from_err}
 use Rattle.std.proofs.Common.{[], refl, subst, arith, inl, inr}
 use Rattle.cb_types.specs.declared.config.Field.TheVariants.{Nodes}
 use Rattle.cb_evict.specs.Shipping.{IsNext}
@@ -66,3 +67,48 @@ returns-in_ok-ship_row-in-Put-clause-ship g c =
     shipped (λ es. g.D.Desk.run c.args.desk.now es c.ship_row.new.desk)
     (λ s. g.D.Desk.shows c.args.desk.now s) far c.ship_row.new.far x.0 c.in-Put.position
     c.in-Put.shard x.1 x.2.0 x.2.1 (c.in_ok-ship_row-in-Put.ensures.ok x.0 x.1)
+
+pub next_put-requires-clause-sound : goal.next_put-requires-clause-sound
+next_put-requires-clause-sound g c = (c.requires.sound.0, c.requires.sound.2)
+
+pub returns-in_err-next_put-clause-ship : goal.returns-in_err-next_put-clause-ship
+returns-in_err-next_put-clause-ship g c = IfOk-from_err _ _ c.from_residual.ensures.0
+
+pub returns-in_err-next_put-clause-unchanged : goal.returns-in_err-next_put-clause-unchanged
+returns-in_err-next_put-clause-unchanged g c = any_err _ _ refl
+
+pub ship_row-requires-clause-config : goal.ship_row-requires-clause-config
+ship_row-requires-clause-config g c = c.requires.config
+
+pub ship_row-requires-clause-configured : goal.ship_row-requires-clause-configured
+ship_row-requires-clause-configured g c = c.requires.configured
+
+pub ship_row-requires-clause-keys : goal.ship_row-requires-clause-keys
+ship_row-requires-clause-keys g c = c.requires.keys
+
+pub ship_row-requires-clause-sound : goal.ship_row-requires-clause-sound
+ship_row-requires-clause-sound g c = (c.requires.sound.0, c.requires.sound.2)
+
+pub returns-in-NoBatch-clause-error : goal.returns-in-NoBatch-clause-error
+returns-in-NoBatch-clause-error g c = tt
+
+pub returns-in-NoBatch-clause-unchanged : goal.returns-in-NoBatch-clause-unchanged
+returns-in-NoBatch-clause-unchanged g c = tt
+
+pub returns-in-AllShipped-clause-error : goal.returns-in-AllShipped-clause-error
+returns-in-AllShipped-clause-error g c = tt
+
+pub returns-in-AllShipped-clause-unchanged : goal.returns-in-AllShipped-clause-unchanged
+returns-in-AllShipped-clause-unchanged g c = tt
+
+pub returns-in-NoNode-clause-error : goal.returns-in-NoNode-clause-error
+returns-in-NoNode-clause-error g c = tt
+
+pub returns-in-NoNode-clause-unchanged : goal.returns-in-NoNode-clause-unchanged
+returns-in-NoNode-clause-unchanged g c = tt
+
+pub returns-in_ok-ship_row-in-Put-clause-error : goal.returns-in_ok-ship_row-in-Put-clause-error
+returns-in_ok-ship_row-in-Put-clause-error g c = tt
+
+pub returns-in_ok-ship_row-in-Put-clause-unchanged : goal.returns-in_ok-ship_row-in-Put-clause-unchanged
+returns-in_ok-ship_row-in-Put-clause-unchanged g c = tt

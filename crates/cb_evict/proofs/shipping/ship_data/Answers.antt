@@ -1,12 +1,13 @@
-use Rattle.std.proofs.Common.{◌≡◌, ℕ, List, length, Some, ap, sym, ◌∙◌, subst}
+use Rattle.std.proofs.Common.{◌≡◌, ℕ, List, length, Some, ap, sym, ◌∙◌, subst, refl, [], ◌<◌, ◌^◌}
 use Rattle.std.specs.List.{slice_get}
 use Rattle.std.proofs.lemmas.List.{with_items_is}
-use Rattle.cb_node.specs.NodesState.{NodesState}
+use Rattle.cb_node.specs.NodesState.{NodesState, has}
 use Rattle.cb_world.specs.FarState.{FarState}
 use Rattle.cb_world.specs.Leaving.{LeavingState}
 use Rattle.cb_world.specs.contracts.far.Far.{the_view}
 use Rattle.cb_evict.specs.Loading.{LoadsFrame}
 use Rattle.cb_evict.specs.ShipRule.{with_noted, with_shipped}
+use Rattle.cb_evict.specs.Shipping.{PutsNothing}
 use Rattle.cb_evict.proofs.Composed.{any_err}
 use Rattle.cb_evict.proofs.ShippedFar.{batch_same}
 use Rattle.cb_evict.proofs.ShipParts.{puts_data, puts_nothing}
@@ -41,3 +42,38 @@ returns-clause-ok g c = λ batch there.
     ∙ ap (λ (n : NodesState). with_noted (record view { nodes = n }) batch p shard)
     c.in_ok-put_row.ensures.ok
     ∙ ap (λ (f : FarState). with_shipped f batch p shard row) c.far.view_is)
+
+pub same-far : goal.same-far
+same-far g c = refl
+
+pub returns-in_err-row-clause-unchanged : goal.returns-in_err-row-clause-unchanged
+returns-in_err-row-clause-unchanged g c = any_err _ _ refl
+
+pub returns-in_err-row-clause-err : goal.returns-in_err-row-clause-err
+returns-in_err-row-clause-err g c =
+    let nothing : PutsNothing (λ es. g.D.Desk.run c.args.desk.now es c.args.desk.now) c.args.far.now =
+    record { events = []; ran = g.met.D.Desk.none _; reads = tt } in any_err _ _ nothing
+
+pub load_frame-requires-clause-config : goal.load_frame-requires-clause-config
+load_frame-requires-clause-config g c = c.requires.config
+
+pub load_frame-requires-clause-frame : goal.load_frame-requires-clause-frame
+load_frame-requires-clause-frame g c = c.requires.frame
+
+pub put_row-requires-clause-within : goal.put_row-requires-clause-within
+put_row-requires-clause-within g c = subst (λ (q : FarState). c.args.shard.node.n < length q.nodes.nodes) (sym c.far.view_is) c.requires.within
+
+pub put_row-requires-clause-fresh : goal.put_row-requires-clause-fresh
+put_row-requires-clause-fresh g c = ap (λ (q : FarState). has q.nodes c.args.shard.node c.args.shard.key) c.far.view_is ∙ c.requires.fresh
+
+pub note_shard-requires-clause-keys : goal.note_shard-requires-clause-keys
+note_shard-requires-clause-keys g c = subst (λ (q : FarState). q.counts.keys < 2 ^ 62) (sym c.far.view_is) c.requires.keys
+
+pub note_shard-requires-clause-there : goal.note_shard-requires-clause-there
+note_shard-requires-clause-there g c = let x = c.requires.there in (x.0, ap (λ (q : FarState). q.leaving) c.far.view_is ∙ x.1, x.3)
+
+pub returns-clause-err : goal.returns-clause-err
+returns-clause-err g c = tt
+
+pub returns-clause-unchanged : goal.returns-clause-unchanged
+returns-clause-unchanged g c = tt

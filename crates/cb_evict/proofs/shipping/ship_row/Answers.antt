@@ -1,4 +1,6 @@
-use Rattle.std.proofs.Common.{◌≡◌, ◌<◌, length, Some, sym, ◌∙◌, arith}
+use Rattle.cb_evict.specs.Shipping.{PutsNothing}
+use Rattle.cb_evict.proofs.Composed.{any_err}
+use Rattle.std.proofs.Common.{◌≡◌, ◌<◌, length, Some, sym, ◌∙◌, arith, []}
 use Rattle.std.specs.List.{slice_get}
 use Rattle.std.proofs.lemmas.Result.{on_ok_weaker}
 use Rattle.cb_evict.proofs.WhichWait.{least_waits}
@@ -40,3 +42,37 @@ returns-in-None-clause-ok g c =
     c.args.position c.args.shard
     (past_end batch.frames c.args.position (sym (c.frame_at.ensures batch there) ∙ c.in-None.is))
     (g.met.D.Desk.none _) (is batch there)) c.ship_parity.ensures.ok
+
+pub ship_data-requires-clause-config : goal.ship_data-requires-clause-config
+ship_data-requires-clause-config g c = c.requires.config
+
+pub ship_data-requires-clause-keys : goal.ship_data-requires-clause-keys
+ship_data-requires-clause-keys g c = c.requires.keys
+
+pub ship_parity-requires-clause-keys : goal.ship_parity-requires-clause-keys
+ship_parity-requires-clause-keys g c = c.requires.keys
+
+pub ship_data-requires-clause-there : goal.ship_data-requires-clause-there
+ship_data-requires-clause-there g c = let x = c.requires.next in (
+  x.0,
+  x.1,
+  sym (c.frame_at.ensures x.0 x.1) ∙ c.in-Some.is,
+  (least_waits c.args.far.now.members x.0.shards c.args.position x.2.0).0,
+)
+
+pub returns-in-Some-clause-ok : goal.returns-in-Some-clause-ok
+returns-in-Some-clause-ok g c = c.ship_data.ensures.ok
+
+pub returns-in-Some-clause-err : goal.returns-in-Some-clause-err
+returns-in-Some-clause-err g c = c.ship_data.ensures.err
+
+pub returns-in-Some-clause-unchanged : goal.returns-in-Some-clause-unchanged
+returns-in-Some-clause-unchanged g c = c.ship_data.ensures.unchanged
+
+pub returns-in-None-clause-unchanged : goal.returns-in-None-clause-unchanged
+returns-in-None-clause-unchanged g c = c.ship_parity.ensures.err
+
+pub returns-in-None-clause-err : goal.returns-in-None-clause-err
+returns-in-None-clause-err g c =
+    let nothing : PutsNothing (λ es. g.D.Desk.run c.args.desk.now es c.args.desk.now) c.args.far.now =
+    record { events = []; ran = g.met.D.Desk.none _; reads = tt } in any_err _ _ nothing

@@ -1,3 +1,4 @@
+use Rattle.std.proofs.lemmas.Result.{IfOk-from_err}
 use Rattle.std.proofs.Common.{◌<◌, List, get_or, All, sym, ap, ◌∙◌, subst, arith}
 use Rattle.cb_types.specs.declared.reply.Reply.TheVariants as answer
 use Rattle.cb_world.specs.declared.leaving.Former.{Former}
@@ -90,3 +91,18 @@ returns-clause-taken g c =
       claims = x;
       count = omega (arith, c.if-len-k.false, c.len.ensures, x.few, c.claim_spans.new.frames.ok);
     }
+
+pub returns-in_err-frames-clause-taken : goal.returns-in_err-frames-clause-taken
+returns-in_err-frames-clause-taken g c = IfOk-from_err _ _ c.from_residual.ensures.0
+
+pub returns-in_err-formers-clause-taken : goal.returns-in_err-formers-clause-taken
+returns-in_err-formers-clause-taken g c = IfOk-from_err _ _ c.from_residual-in_err-formers.ensures.0
+
+pub claim_spans-requires-clause-apart : goal.claim_spans-requires-clause-apart
+claim_spans-requires-clause-apart g c = c.requires.apart
+
+pub returns-then-len-k-clause-error : goal.returns-then-len-k-clause-error
+returns-then-len-k-clause-error g c = tt
+
+pub returns-clause-error : goal.returns-clause-error
+returns-clause-error g c = tt

@@ -153,3 +153,39 @@ returns-clause-make g c =
       sound_after = λ s k. (done s k.0 k.1).sound;
       effect = λ s k. (done s k.0 k.1).effect;
     }
+
+pub same-far : goal.same-far
+same-far g c = refl
+
+pub returns-then-far-handles-clause-error : goal.returns-then-far-handles-clause-error
+returns-then-far-handles-clause-error g c = tt
+
+pub overflow_cast-bytes : goal.overflow_cast-bytes
+overflow_cast-bytes g c = omega (arith, c.requires.fits)
+
+pub class_of-class-requires-clause-some_byte : goal.class_of-class-requires-clause-some_byte
+class_of-class-requires-clause-some_byte g c = c.requires.some_byte
+
+pub class_of-class-requires-clause-fits_largest : goal.class_of-class-requires-clause-fits_largest
+class_of-class-requires-clause-fits_largest g c = c.requires.fits
+
+pub same-far-2 : goal.same-far-2
+same-far-2 g c = refl
+
+pub place_object-requires-clause-frames : goal.place_object-requires-clause-frames
+place_object-requires-clause-frames g c = c.requires.sound.2.here.frames
+
+pub returns-in_default-clause-error : goal.returns-in_default-clause-error
+returns-in_default-clause-error g c = tt
+
+pub write_new-requires-clause-some_byte : goal.write_new-requires-clause-some_byte
+write_new-requires-clause-some_byte g c = c.requires.some_byte
+
+pub write_new-requires-clause-fits : goal.write_new-requires-clause-fits
+write_new-requires-clause-fits g c = c.requires.fits
+
+pub write_new-requires-clause-config : goal.write_new-requires-clause-config
+write_new-requires-clause-config g c = c.requires.config
+
+pub returns-clause-error : goal.returns-clause-error
+returns-clause-error g c = tt

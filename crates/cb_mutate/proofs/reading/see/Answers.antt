@@ -159,3 +159,12 @@ returns-in-Left-clause-away g c = λ e s shown.
     let rest = c.see_left.ensures.left in
     found_far s before h w tried.2 (g.met.D.Desk.follows _ _ (look_after before h w) s ran shown).0
     (read_far (state_of w) w h rest.0 (reply_of c.see_left.result c.see_left.new.into) rest.4 e)
+
+pub try_claim-requires-clause-handle : goal.try_claim-requires-clause-handle
+try_claim-requires-clause-handle g c = c.requires.handle
+
+pub try_claim-requires-clause-shown : goal.try_claim-requires-clause-shown
+try_claim-requires-clause-shown g c = (c.requires.sound.0, c.requires.sound.1)
+
+pub returns-in-Left-clause-short : goal.returns-in-Left-clause-short
+returns-in-Left-clause-short g c = c.see_left.ensures.short

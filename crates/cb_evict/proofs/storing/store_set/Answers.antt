@@ -1,0 +1,41 @@
+use Rattle.cb_evict.specs.Storing.{CanPut}
+use Rattle.std.proofs.lemmas.Result.{IfOk-from_err}
+use Rattle.std.proofs.Common.{◌++◌, ap, ◌∙◌, subst, sym, ◌<◌, ◌^◌}
+use Rattle.cb_world.specs.FarState.{FarState}
+use Rattle.cb_world.specs.Stored.{all_put}
+use Rattle.cb_evict.proofs.Putting.{within_all}
+use Rattle.cb_evict.proofs.storing.store_set.Goals as goal
+
+pub drop_rows-requires : goal.drop_rows-requires
+drop_rows-requires c = record {
+  within = within_all c.args.far.now.nodes c.far-2.inside.nodes c.args.shards.now
+      (c.args.rows.now ++ c.args.parities.now) c.requires.can
+      (ap (λ (q : FarState). q.nodes) (c.far-2.view_is ∙ c.in-Err.ensures.err)
+      ∙ c.in_ok-put_rows.ensures.ok
+      ∙ ap (λ (q : FarState). all_put q.nodes c.args.shards.now
+      (c.args.rows.now ++ c.args.parities.now)) c.far.view_is);
+}
+
+pub put_rows-requires-clause-count : goal.put_rows-requires-clause-count
+put_rows-requires-clause-count c = c.requires.count
+
+pub put_rows-requires-clause-few : goal.put_rows-requires-clause-few
+put_rows-requires-clause-few c = c.requires.few
+
+pub put_rows-requires-clause-can : goal.put_rows-requires-clause-can
+put_rows-requires-clause-can c = subst (λ (q : FarState). CanPut q.nodes c.args.shards.now) (sym c.far.view_is) c.requires.can
+
+pub keep_committed-requires : goal.keep_committed-requires
+keep_committed-requires c = record {
+  counts = subst (λ (q : FarState). (q.counts.sets < 2 ^ 62) × (q.counts.keys < 2 ^ 62))
+      (sym c.far.view_is) c.requires.counts;
+}
+
+pub returns-in-Ok-clause-err : goal.returns-in-Ok-clause-err
+returns-in-Ok-clause-err c = tt
+
+pub returns-in-Err-clause-kept : goal.returns-in-Err-clause-kept
+returns-in-Err-clause-kept c = tt
+
+pub returns-in_err-put_rows-clause-kept : goal.returns-in_err-put_rows-clause-kept
+returns-in_err-put_rows-clause-kept c = IfOk-from_err _ _ c.from_residual.ensures.0
