@@ -1,8 +1,8 @@
 ghost use Rattle.std.specs.Prelude.{◌≡◌, ◌≤◌, length, IfOk};
 ghost use Rattle.cb_world.specs.World.{IsSoundWorld};
-ghost use Rattle.cb_tests.specs.Worlds.{small};
+ghost use Rattle.cb_tests.specs.Worlds.{IsSmall, small};
 
-use crate::worlds::{SMALL, empty_world, turn_of};
+use crate::worlds::{Look, holds, turn_of};
 use cb_ptr::unpack;
 use cb_types::{Bytes, Handle, Job, Reply};
 use cb_world::{Desk, PlainDesk, World};
@@ -64,9 +64,15 @@ fn second_is_at(alloc: Global, world: &mut World, bytes: &[u8], place: u32) -> R
     Ok(reads_back && second_lies_at(&mut world.desk, place))
 }
 
-/// Whether the second of two objects of so many bytes in an empty world lies at the place, and
-/// reads back.
-fn second_of_length_is_at(alloc: Global, len: usize, place: u32) -> Result<bool, Fail> {
+/// Whether the second of two objects of so many bytes lies at the place, and reads back.
+pub(crate) fn second_of_length_is_at(
+    alloc: Global,
+    world: &mut World,
+    len: usize,
+    place: u32,
+) -> Result<bool, Fail>
+    requires { IsSmall world.old }
+{
     if len == 0 || len > MOST {
         return Ok(false);
     }
@@ -74,8 +80,7 @@ fn second_of_length_is_at(alloc: Global, len: usize, place: u32) -> Result<bool,
     for i in 0..len {
         bytes[i] = (i % 255) as u8 + 1;
     }
-    let mut world = empty_world(alloc, SMALL)?;
-    second_is_at(alloc, &mut world, &bytes[..len], place)
+    second_is_at(alloc, world, &bytes[..len], place)
 }
 
 #[test]
@@ -106,7 +111,7 @@ fn each_length_has_a_slot_of_its_class_and_reads_back(rt: HostRuntime) -> Result
         (769, 128),
         (1024, 128),
     ] {
-        let is_there = second_of_length_is_at(rt.alloc(), len, place)?;
+        let is_there = holds(rt.alloc(), Look::Second { len, place })?;
         assert!(rt; is_there, "{len} bytes at {place}");
     }
     Ok(())
@@ -123,18 +128,18 @@ fn first_words(desk: &mut PlainDesk) -> (u64, u64, u64, u64)
     (word, version, first, desk.load(1))
 }
 
-/// The words of an object of nine bytes in an empty world.
-fn words_of_nine_bytes(alloc: Global) -> Result<(u64, u64, u64, u64), Fail> {
-    let mut world = empty_world(alloc, SMALL)?;
-    make(alloc, &mut world, &[1, 2, 3, 4, 5, 6, 7, 8, 9])?;
-    Ok(first_words(&mut world.desk))
+/// Whether an object of nine bytes has its words.
+pub(crate) fn words_are_of_nine_bytes(alloc: Global, world: &mut World) -> Result<bool, Fail>
+    requires { IsSmall world.old }
+{
+    make(alloc, world, &[1, 2, 3, 4, 5, 6, 7, 8, 9])?;
+    // Here, not hot, no pins, nine bytes, at place 0.
+    let pointer = 2 + 9 * 8192;
+    Ok(first_words(&mut world.desk) == (pointer, 1, 0x0807_0605_0403_0201, 9))
 }
 
 #[test]
 fn the_words_of_an_object_hold_its_bytes_and_then_zeros(rt: HostRuntime) -> Result<(), Fail> {
-    let (pointer, version, first, second) = words_of_nine_bytes(rt.alloc())?;
-    // Here, not hot, no pins, nine bytes, at place 0.
-    assert!(rt; pointer == 2 + 9 * 8192 && version == 1);
-    assert!(rt; first == 0x0807_0605_0403_0201 && second == 9);
+    assert!(rt; holds(rt.alloc(), Look::Words)?);
     Ok(())
 }
