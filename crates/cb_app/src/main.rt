@@ -4,8 +4,6 @@
 pub mod commands;
 pub mod ending;
 pub mod run;
-#[cfg(test)]
-mod tests;
 pub mod top;
 
 use cb_types::{StdSink, StdSource};

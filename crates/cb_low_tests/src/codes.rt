@@ -9,7 +9,6 @@ use cb_erase::solve;
 use cb_gf256::{NoMemory, Rows, xor_row};
 use std::alloc::Global;
 use std::process::Abort;
-use std::test::Fail;
 
 /// Rows of 33 bytes each, all the same: a block and a rest.
 #[tactic(auto, using(cb_gf256::proofs::PublicLaws::written_rows))]
@@ -37,101 +36,152 @@ fn expect_range(rt: &impl Abort, k: u32, r: u32)
 fn expect_positions(rt: &impl Abort, n: u32, k: u32, positions: &[u8])
     ensures { ArePositions n k positions.now }
 {
-    assert_eq!(rt; positions.len(), k as usize);
+    assert!(rt; positions.len() == k as usize);
     for (i, p) in positions.iter().enumerate() {
         assert!(rt; u32::from(*p) < n);
         assert!(rt; i == 0 || positions[i - 1] < *p);
     }
 }
 
-/// The data, which come first, encode to these parities.
-fn expect_parities(
-    rt: &impl Abort,
+/// Whether the rows are these bytes, each 33 times.
+fn are_rows_of(rows: &Rows, bytes: &[u8]) -> bool {
+    if rows.count() as usize != bytes.len() {
+        return false;
+    }
+    for (p, byte) in bytes.iter().enumerate() {
+        if rows.row(p as u32) != [*byte; 33].as_slice() {
+            return false;
+        }
+    }
+    true
+}
+
+/// Whether these data encode to these parities.
+fn encodes_to(
     alloc: Global,
     k: u32,
     r: u32,
     first: &[u8],
     parities: &[u8],
-) -> Result<(), Fail>
+) -> Result<bool, NoMemory>
     requires in_range { IsInRange k r }
     requires first { length first.now ≡ k }
 {
     let rows = column_of(alloc, first)?;
     let encoded = encode(alloc, &coefficients(k, r), &rows)?;
-    expect_word_of(rt, &encoded, parities);
-    Ok(())
+    Ok(are_rows_of(&encoded, parities))
 }
 
-/// The data of the word encode to its parities, and the whole has no syndrome.
-fn expect_word(rt: &impl Abort, alloc: Global, k: u32, r: u32, word: &[u8]) -> Result<(), Fail> {
-    expect_range(rt, k, r);
-    assert_eq!(rt; word.len(), (k + r) as usize);
-    let (first, parities) = word.split_at(k as usize);
-    expect_parities(rt, alloc, k, r, first, parities)?;
-    assert!(rt; has_no_syndrome(rt, alloc, k, r, word)?, "{word:?}");
-    Ok(())
-}
-
-fn has_no_syndrome(
-    rt: &impl Abort,
-    alloc: Global,
-    k: u32,
-    r: u32,
-    word: &[u8],
-) -> Result<bool, Fail> {
-    expect_range(rt, k, r);
-    assert_eq!(rt; word.len(), (k + r) as usize);
+/// Whether the whole has no syndrome.
+fn has_no_syndrome(alloc: Global, k: u32, r: u32, word: &[u8]) -> Result<bool, NoMemory>
+    requires in_range { IsInRange k r }
+    requires whole { length word.now ≡ k + r }
+{
     let rows = column_of(alloc, word)?;
     Ok(syndromes_zero(r, &rows))
 }
 
-/// The rows of a word are these bytes, each 33 times.
-fn expect_word_of(rt: &impl Abort, word: &Rows, solution: &[u8]) {
-    assert_eq!(rt; word.count() as usize, solution.len());
-    for (p, byte) in solution.iter().enumerate() {
-        assert_eq!(rt;
-            word.row(p as u32),
-            [*byte; 33].as_slice(),
-            "position {p} of {solution:?}"
+/// Whether the data of the word encode to its parities and the whole has no syndrome, or, where it
+/// is no word, whether the whole has one.
+fn is_as_told(alloc: Global, k: u32, r: u32, word: &[u8], is_word: bool) -> Result<bool, NoMemory>
+    requires in_range { IsInRange k r }
+    requires whole { length word.now ≡ k + r }
+{
+    let (first, parities) = word.split_at(k as usize);
+    Ok(
+        has_no_syndrome(alloc, k, r, word)? == is_word
+            && (!is_word || encodes_to(alloc, k, r, first, parities)?),
+    )
+}
+
+/// How many records of a table of words are words, or are none, as told.
+fn expect_words(rt: &impl Abort, alloc: Global, table: &[u8], is_word: bool) -> u32 {
+    let mut rest = table;
+    for count in 0..1000 {
+        if rest.len() < 2 {
+            return count;
+        }
+        let (k, r) = (u32::from(rest[0]), u32::from(rest[1]));
+        expect_range(rt, k, r);
+        let end = 2 + (k + r) as usize;
+        assert!(rt; end <= rest.len());
+        let word = &rest[2..end];
+        assert!(rt;
+            matches!(is_as_told(alloc, k, r, word, is_word), Ok(true)),
+            "{word:?}"
+        );
+        rest = &rest[end..];
+    }
+    1000
+}
+
+#[test]
+fn words_are_those_of_others(rt: HostRuntime) {
+    assert!(rt; expect_words(&rt, rt.alloc(), WORDS, true) == 28);
+    assert!(rt; expect_words(&rt, rt.alloc(), CHANGED, false) == 18);
+}
+
+#[test]
+fn coefficients_are_those_of_others(rt: HostRuntime) {
+    for (k, r, parity, position, value) in COEFFICIENTS {
+        assert!(rt;
+            coefficients(k, r).at(parity, position) == value,
+            "k={k} r={r}"
         );
     }
 }
 
-/// The rows at the present positions have this solution.
-fn expect_solved(
-    rt: &impl Abort,
-    alloc: Global,
-    k: u32,
-    r: u32,
-    present: &[u8],
-    rows: &Rows,
-    solution: &[u8],
-) -> Result<(), NoMemory>
-    requires in_range { IsInRange k r }
-    requires positions { ArePositions (k + r) k present.now }
-    requires count { length rows.now ≡ k + r }
-{
-    let word = solve(alloc, k, r, rows, present)?;
-    expect_word_of(rt, &word, solution);
-    Ok(())
+/// The bytes of a word at the present positions, and wrong ones at the others.
+fn with_wrong_bytes(word: &[u8], present: &[u8]) -> [u8; 20] {
+    let mut bytes = [0; 20];
+    for (p, byte) in word.iter().take(20).enumerate() {
+        bytes[p] = if present.contains(&(p as u8)) {
+            *byte
+        } else {
+            !*byte
+        };
+    }
+    bytes
 }
 
-/// The rows at the present positions have this solution, whatever stands in the others.
-fn expect_solution(
-    rt: &impl Abort,
-    alloc: Global,
-    k: u32,
-    r: u32,
-    present: &[u8],
-    rows: &[u8],
-    solution: &[u8],
-) -> Result<(), Fail> {
-    expect_range(rt, k, r);
-    expect_positions(rt, k + r, k, present);
-    assert_eq!(rt; rows.len(), (k + r) as usize);
-    assert_eq!(rt; solution.len(), (k + r) as usize);
-    let rows = column_of(alloc, rows)?;
-    Ok(expect_solved(rt, alloc, k, r, present, &rows, solution)?)
+/// Whether the rows at the present positions give back the word, whatever stands at the others.
+fn gives_word(alloc: Global, k: u32, r: u32, present: &[u8], word: &[u8]) -> Result<bool, NoMemory>
+    requires in_range { IsInRange k r }
+    requires positions { ArePositions (k + r) k present.now }
+    requires count { length word.now ≡ k + r }
+{
+    let rows = column_of(alloc, &with_wrong_bytes(word, present)[..word.len()])?;
+    let solved = solve(alloc, k, r, &rows, present)?;
+    Ok(are_rows_of(&solved, word))
+}
+
+/// How many records of a table of solutions there are; the present positions of each give back its
+/// word.
+fn expect_solutions(rt: &impl Abort, alloc: Global, table: &[u8]) -> u32 {
+    let mut rest = table;
+    for count in 0..1000 {
+        if rest.len() < 2 {
+            return count;
+        }
+        let (k, r) = (u32::from(rest[0]), u32::from(rest[1]));
+        expect_range(rt, k, r);
+        let begin = 2 + k as usize;
+        let end = begin + (k + r) as usize;
+        assert!(rt; end <= rest.len());
+        let (present, word) = (&rest[2..begin], &rest[begin..end]);
+        expect_positions(rt, k + r, k, present);
+        assert!(rt;
+            matches!(gives_word(alloc, k, r, present, word), Ok(true)),
+            "{word:?}"
+        );
+        rest = &rest[end..];
+    }
+    1000
+}
+
+#[test]
+fn solutions_are_those_of_others(rt: HostRuntime) {
+    assert!(rt; expect_solutions(&rt, rt.alloc(), SOLUTIONS) == 40);
 }
 
 /// The rows of a word at the present positions, and zeros at the others.
@@ -150,63 +200,48 @@ fn present_rows(
     let mut rows = Rows::new(alloc, word.len() as u32, 94)?;
     for p in present {
         let row = word[*p as usize];
-        assert_eq!(rt; row.len(), 94);
+        assert!(rt; row.len() == 94);
         xor_row(rows.row_mut(u32::from(*p)), row);
     }
     Ok(rows)
 }
 
-/// The rows of a word are those of several blocks.
-fn expect_block_rows(rt: &impl Abort, word: &Rows, present: &[u8]) {
-    assert_eq!(rt; word.count(), 6);
-    for (p, row) in BLOCKS.iter().enumerate() {
-        assert_eq!(rt; word.row(p as u32), *row, "position {p} from {present:?}");
+/// Whether the rows of a word are those of several blocks.
+fn are_block_rows(word: &Rows) -> bool {
+    if word.count() != 6 {
+        return false;
     }
+    for (p, row) in BLOCKS.iter().enumerate() {
+        if word.row(p as u32) != *row {
+            return false;
+        }
+    }
+    true
 }
 
-/// The rows at the present positions give back the word of several blocks.
-fn expect_blocks(rt: &impl Abort, alloc: Global, present: &[u8]) -> Result<(), Fail> {
+/// Whether the rows at the present positions give back the word of several blocks.
+fn gives_blocks(rt: &impl Abort, alloc: Global, present: &[u8]) -> Result<bool, NoMemory> {
     expect_range(rt, 4, 2);
     expect_positions(rt, 6, 4, present);
     let rows = present_rows(rt, alloc, &BLOCKS, present)?;
     let word = solve(alloc, 4, 2, &rows, present)?;
-    expect_block_rows(rt, &word, present);
-    Ok(())
+    Ok(are_block_rows(&word))
 }
 
-#[test]
-fn words_are_those_of_others(rt: HostRuntime) -> Result<(), Fail> {
-    for (k, r, word) in WORDS {
-        expect_word(&rt, rt.alloc(), k, r, word)?;
-    }
-    for (k, r, word) in CHANGED {
-        assert!(rt; !has_no_syndrome(&rt, rt.alloc(), k, r, word)?, "{word:?}");
-    }
-    for (k, r, parity, position, value) in COEFFICIENTS {
-        assert_eq!(rt;
-            coefficients(k, r).at(parity, position),
-            value,
-            "k={k} r={r}"
-        );
-    }
-    Ok(())
-}
+/// Positions that are present of the six of the word of several blocks.
+static PRESENT: [[u8; 4]; 6] = [
+    [0, 1, 2, 3],
+    [0, 2, 3, 4],
+    [0, 3, 4, 5],
+    [1, 2, 4, 5],
+    [2, 3, 4, 5],
+    [0, 1, 3, 5],
+];
 
 #[test]
-fn solutions_are_those_of_others(rt: HostRuntime) -> Result<(), Fail> {
-    for (k, r, present, rows, solution) in SOLUTIONS {
-        expect_solution(&rt, rt.alloc(), k, r, present, rows, solution)?;
+fn several_blocks_are_given_back(rt: HostRuntime) {
+    for present in PRESENT.iter() {
+        let given = gives_blocks(&rt, rt.alloc(), present);
+        assert!(rt; matches!(given, Ok(true)), "{present:?}");
     }
-    let cases: [&[u8]; 6] = [
-        &[0, 1, 2, 3],
-        &[0, 2, 3, 4],
-        &[0, 3, 4, 5],
-        &[1, 2, 4, 5],
-        &[2, 3, 4, 5],
-        &[0, 1, 3, 5],
-    ];
-    for present in cases {
-        expect_blocks(&rt, rt.alloc(), present)?;
-    }
-    Ok(())
 }

@@ -1,8 +1,8 @@
-ghost use Rattle.std.specs.Prelude.{◌≡◌, ◌<◌, ◌≤◌, length, IfOk};
+ghost use Rattle.std.specs.Prelude.{◌≡◌, ◌≤◌, length, IfOk};
 ghost use Rattle.cb_world.specs.World.{IsSoundWorld};
+ghost use Rattle.cb_tests.specs.Worlds.{IsSmall, small};
 
-use crate::worlds::{SMALL, Seen, empty_world, seen_turn, turn_of};
-use cb_member::NodeId;
+use crate::worlds::{Look, holds, turn_of};
 use cb_ptr::unpack;
 use cb_types::{Bytes, Handle, Job, Reply};
 use cb_world::{Desk, PlainDesk, World};
@@ -13,101 +13,74 @@ use std::test::Fail;
 const MOST: usize = 1024;
 
 /// Makes an object.
-fn make(alloc: Global, world: &mut World, bytes: &[u8]) -> Result<Seen, Fail>
+fn make(alloc: Global, world: &mut World, bytes: &[u8]) -> Result<(), Fail>
     requires some_byte { 1 ≤ length bytes.now }
     requires fits { length bytes.now ≤ 1024 }
     requires sound { IsSoundWorld world.old }
     ensures sound { IsSoundWorld world.new }
-    ensures settings { IfOk result (λ seen. world.new.desk.settings ≡ world.old.desk.settings) }
+    ensures settings { IfOk result (λ _. world.new.desk.settings ≡ world.old.desk.settings) }
 {
     let bytes = Bytes::copy_of(alloc, bytes)?;
-    seen_turn(alloc, world, Job::Make { bytes })
+    turn_of(alloc, world, Job::Make { bytes })?;
+    Ok(())
 }
 
-/// Makes an object of the most bytes.
-fn make_most(alloc: Global, world: &mut World) -> Result<Seen, Fail>
-    requires sound { IsSoundWorld world.old }
-    ensures sound { IsSoundWorld world.new }
-    ensures settings { IfOk result (λ seen. world.new.desk.settings ≡ world.old.desk.settings) }
-{
-    make(alloc, world, &[7; MOST])
-}
-
-/// Makes objects of the most bytes until one is refused, and answers how many were made. A node is
-/// down, so that too few are left for a span to leave.
-fn fill(alloc: Global, world: &mut World) -> Result<u32, Fail>
-    requires some_node { 1 ≤ world.old.desk.settings.nodes }
-    requires sound { IsSoundWorld world.old }
-    ensures sound { IsSoundWorld world.new }
-    ensures settings { IfOk result (λ count. world.new.desk.settings ≡ world.old.desk.settings) }
-{
-    let node = NodeId { n: 0 };
-    seen_turn(alloc, world, Job::Crash { node })?;
-    for count in 0..20 {
-        let Seen::Made { .. } = make_most(alloc, world)? else {
-            return Ok(count);
-        };
+/// Whether a reply shows these bytes at the first version.
+fn shows(reply: &Reply, wanted: &[u8]) -> bool {
+    match reply {
+        Reply::Bytes { version, bytes } => *version == 1 && bytes.as_slice() == wanted,
+        _ => false,
     }
-    Err(Fail::from("no make was refused"))
 }
 
-/// The place of an object in local memory.
-fn place_of(desk: &mut PlainDesk, h: Handle) -> u32
-    requires { h.n < desk.old.settings.handles }
-    ensures { desk.new ≡ desk.old }
+/// Whether a read of the second object shows these bytes.
+fn second_reads(alloc: Global, world: &mut World, wanted: &[u8]) -> Result<bool, Fail>
+    requires sound { IsSoundWorld world.old }
+    requires settings { world.old.desk.settings ≡ small }
+    ensures settings { IfOk result (λ _. world.new.desk.settings ≡ world.old.desk.settings) }
 {
-    unpack(desk.word(h)).place
+    let handle = Handle { n: 1 };
+    let reply = turn_of(alloc, world, Job::Read { handle })?;
+    Ok(shows(&reply, wanted))
 }
 
-/// The pointer word and the version word of an object, and the first two memory words.
-fn words_of(desk: &mut PlainDesk, h: Handle) -> (u64, u64, u64, u64)
-    requires handle { h.n < desk.old.settings.handles }
-    requires some_frame { 1 ≤ desk.old.settings.frames }
+/// Whether the second object lies at the place.
+fn second_lies_at(desk: &mut PlainDesk, place: u32) -> bool
+    requires { desk.old.settings ≡ small }
 {
-    let word = desk.word(h);
-    let version = desk.version(h);
-    let first = desk.load(0);
-    (word, version, first, desk.load(1))
+    unpack(desk.word(Handle { n: 1 })).place == place
 }
 
-/// The place of the object that is made once the sixth of those that fill the memory was freed.
-fn place_after_free(alloc: Global) -> Result<u32, Fail> {
-    let mut world = empty_world(alloc, SMALL)?;
-    fill(alloc, &mut world)?;
-    let handle = Handle { n: 5 };
-    seen_turn(alloc, &mut world, Job::Free { handle })?;
-    make_most(alloc, &mut world)?;
-    Ok(place_of(&mut world.desk, Handle { n: 8 }))
+/// Whether the second of two objects of these bytes lies at the place, and reads back.
+fn second_is_at(alloc: Global, world: &mut World, bytes: &[u8], place: u32) -> Result<bool, Fail>
+    requires some_byte { 1 ≤ length bytes.now }
+    requires fits { length bytes.now ≤ 1024 }
+    requires sound { IsSoundWorld world.old }
+    requires settings { world.old.desk.settings ≡ small }
+{
+    make(alloc, world, bytes)?;
+    make(alloc, world, bytes)?;
+    let reads_back = second_reads(alloc, world, bytes)?;
+    Ok(reads_back && second_lies_at(&mut world.desk, place))
 }
 
-/// Whether the second of two objects of so many bytes lies at the place, and has its bytes.
-fn second_is_at(alloc: Global, len: usize, place: u32) -> Result<bool, Fail> {
+/// Whether the second of two objects of so many bytes lies at the place, and reads back.
+pub(crate) fn second_of_length_is_at(
+    alloc: Global,
+    world: &mut World,
+    len: usize,
+    place: u32,
+) -> Result<bool, Fail>
+    requires { IsSmall world.old }
+{
     if len == 0 || len > MOST {
-        return Err(Fail::from("no such length"));
+        return Ok(false);
     }
     let mut bytes = [0; MOST];
     for i in 0..len {
         bytes[i] = (i % 255) as u8 + 1;
     }
-    let bytes = &bytes[..len];
-    let mut world = empty_world(alloc, SMALL)?;
-    make(alloc, &mut world, bytes)?;
-    make(alloc, &mut world, bytes)?;
-    let handle = Handle { n: 1 };
-    let word = unpack(world.desk.word(handle));
-    let reply = turn_of(alloc, &mut world, Job::Read { handle })?;
-    Ok(word.place == place && !word.hot && shows(&reply, 1, bytes))
-}
-
-/// Whether a reply shows these bytes at this version.
-fn shows(reply: &Reply, wanted: u64, bytes: &[u8]) -> bool {
-    match reply {
-        Reply::Bytes {
-            version,
-            bytes: had,
-        } => *version == wanted && had.as_slice() == bytes,
-        _ => false,
-    }
+    second_is_at(alloc, world, &bytes[..len], place)
 }
 
 #[test]
@@ -138,42 +111,35 @@ fn each_length_has_a_slot_of_its_class_and_reads_back(rt: HostRuntime) -> Result
         (769, 128),
         (1024, 128),
     ] {
-        assert!(rt;
-            second_is_at(rt.alloc(), len, place)?,
-            "{len} bytes at {place}"
-        );
+        let is_there = holds(rt.alloc(), Look::Second { len, place })?;
+        assert!(rt; is_there, "{len} bytes at {place}");
     }
     Ok(())
 }
 
-#[test]
-fn the_words_of_an_object_hold_its_bytes_and_then_zeros(rt: HostRuntime) -> Result<(), Fail> {
-    let mut world = empty_world(rt.alloc(), SMALL)?;
-    let made = make(rt.alloc(), &mut world, &[1, 2, 3, 4, 5, 6, 7, 8, 9])?;
-    let wanted = Seen::Made {
-        handle: 0,
-        version: 1,
-    };
-    assert_eq!(rt; made, wanted);
+/// The pointer word and the version word of the first object, and the first two memory words.
+fn first_words(desk: &mut PlainDesk) -> (u64, u64, u64, u64)
+    requires { desk.old.settings ≡ small }
+{
+    let handle = Handle { n: 0 };
+    let word = desk.word(handle);
+    let version = desk.version(handle);
+    let first = desk.load(0);
+    (word, version, first, desk.load(1))
+}
+
+/// Whether an object of nine bytes has its words.
+pub(crate) fn words_are_of_nine_bytes(alloc: Global, world: &mut World) -> Result<bool, Fail>
+    requires { IsSmall world.old }
+{
+    make(alloc, world, &[1, 2, 3, 4, 5, 6, 7, 8, 9])?;
     // Here, not hot, no pins, nine bytes, at place 0.
     let pointer = 2 + 9 * 8192;
-    assert_eq!(rt;
-        words_of(&mut world.desk, Handle { n: 0 }),
-        (pointer, 1, 0x0807_0605_0403_0201, 9)
-    );
-    Ok(())
+    Ok(first_words(&mut world.desk) == (pointer, 1, 0x0807_0605_0403_0201, 9))
 }
 
 #[test]
-fn eight_objects_of_the_most_bytes_fill_two_frames(rt: HostRuntime) -> Result<(), Fail> {
-    let mut world = empty_world(rt.alloc(), SMALL)?;
-    assert_eq!(rt; fill(rt.alloc(), &mut world)?, 8);
-    Ok(())
-}
-
-#[test]
-fn a_freed_slot_is_taken_again(rt: HostRuntime) -> Result<(), Fail> {
-    // Frame 1 begins at word 512, and its slot 1 at 640.
-    assert_eq!(rt; place_after_free(rt.alloc())?, 640);
+fn the_words_of_an_object_hold_its_bytes_and_then_zeros(rt: HostRuntime) -> Result<(), Fail> {
+    assert!(rt; holds(rt.alloc(), Look::Words)?);
     Ok(())
 }
