@@ -93,10 +93,10 @@ shown_key_too_great is = omega (arith, is)
 
 -- ---- a schedule of each event
 
-abbrev input : List ℕ
+abbrev pub input : List ℕ
 input = codes "rma 1 window=2\nput 1 0a\nadd 1 02 ff\ndrop 7\nsend 1\nask 0\nack 0\nrestart\nshow 30"
 
-abbrev events : List Step
+abbrev pub events : List Step
 events =
     Submit (Put 1 (10 ∷ [])) ∷ Submit (Add 1 2 (255 ∷ [])) ∷ Submit (Drop 7) ∷ Send 1 ∷ Ask 0 ∷ Ack 0
     ∷ Restart ∷ Show 30 ∷ []
@@ -110,7 +110,7 @@ in_form = (
   ),
 )
 
-spelled : Spells input 2 events
+pub spelled : Spells input 2 events
 unfolding window_line digits encode_with
 spelled = record {
   short = lit≤ tt;
@@ -169,7 +169,7 @@ one_word (Show key) is = omega (arith, ap length is)
 no_key : (event : Step) → IsInForm event → codes "show" ≡ step_line event → ⊥
 no_key event form is = one_word event (ap words_of is ∙ step_splits event form)
 
-abbrev bad_input : List ℕ
+abbrev pub bad_input : List ℕ
 bad_input = codes "rma 1 window=1\nrestart\nshow\nrestart\n"
 
 bad_line_3 : IsBadLine bad_input 3
@@ -187,7 +187,7 @@ bad_line_3 = record {
   bad = inr no_key;
 }
 
-at_line_3 : First bad_input 3
+pub at_line_3 : First bad_input 3
 at_line_3 = AtLine (lit≤ tt) bad_line_3
 
 -- an event is no bad line
@@ -198,6 +198,9 @@ spelled_has_no_fault : (line : ℕ) → First input line → ⊥
 spelled_has_no_fault line first = spells_no_fault input 2 line events spelled first
 
 -- ---- what is printed
+
+abbrev pub due : List ℕ
+due = said_text (replies (start 2) events)
 
 printed : said_text (replies (start 2) (Submit (Put 1 (10 ∷ [])) ∷ Submit (Drop 1) ∷ Submit (Drop 7) ∷ Send 1 ∷ Ask 0 ∷ Ack 0 ∷ Restart ∷ []))
     ≡ codes "taken 0\ntaken 1\nwindow 2\nsent 0\nahead 0\nold 0\nincarnation 1\n"
