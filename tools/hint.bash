@@ -42,6 +42,17 @@ form_of() {
     esac
 }
 
+# What stands behind the verb of an event of `rma`.
+event_form_of() {
+    case $1 in
+    put) echo "KEY HEX" ;;
+    add) echo "KEY C HEX" ;;
+    drop | show) echo "KEY" ;;
+    send | ask | ack) echo "a number" ;;
+    restart) echo "nothing" ;;
+    esac
+}
+
 # The bytes in a line that look like nothing and are of no script.
 stray_bytes() {
     case $1 in
@@ -142,19 +153,47 @@ reason_text() {
     esac
 }
 
+# What is wrong with the line $2 of a schedule, which has the number $1.
+event_text() {
+    local stray verb form
+    stray=$(stray_bytes "$2")
+    read -r verb _ <<<"$2"
+    if [ "$1" = 0 ]; then
+        echo "the input has more than 1,048,576 bytes"
+    elif [ "$1" = 1 ]; then
+        echo "${stray:+$stray; }line 1 is rma 1 window=N, N a number 1 to 64 without leading zeros"
+    elif [ "$1" = 20002 ]; then
+        echo "a schedule has at most 20,000 lines behind the header"
+    elif [ -z "$2" ]; then
+        echo "the line is blank: each line behind the header is an event"
+    elif [ -n "$stray" ]; then
+        echo "$stray"
+    elif form=$(event_form_of "$verb") && [ -z "$form" ]; then
+        echo "'$(printf '%s' "$verb" | head -c 20 | printable)' is no verb; docs/FORMATS.md lists them"
+    else
+        echo "behind $verb stands $form, with one space between words: a number has at most nine digits, C two lower-case hexadecimal digits, and HEX two for each of 1 to 4,096 bytes"
+    fi
+}
+
 hint_at_2() {
-    local line text
-    [[ $printed =~ ^script\ line\ ([0-9]+)\ reason\ ([0-9]+)\ [a-z]+$ ]] || return
-    line=${BASH_REMATCH[1]}
-    local reason=${BASH_REMATCH[2]}
+    local line text wrong
+    if [[ $printed =~ ^script\ line\ ([0-9]+)\ reason\ ([0-9]+)\ [a-z]+$ ]]; then
+        line=${BASH_REMATCH[1]}
+        wrong=(reason_text "${BASH_REMATCH[2]}")
+    elif [[ $printed =~ ^rma\ line\ ([0-9]+)\ refused$ ]]; then
+        line=${BASH_REMATCH[1]}
+        wrong=(event_text "$line")
+    else
+        return
+    fi
     if [ "$line" = 0 ]; then
-        say "$(reason_text "$reason" '')"
+        say "$("${wrong[@]}" '')"
         return
     fi
     text=$(line_of "$line"; echo .)
     text=${text%.}
     text=${text%$'\n'}
-    say "line $line, '$(printf '%s' "$text" | printable)': $(reason_text "$reason" "$text")"
+    say "line $line, '$(printf '%s' "$text" | printable)': $("${wrong[@]}" "$text")"
 }
 
 hint_at_1() {

@@ -3,3 +3,4 @@ pub mod Runs
 pub mod Tops
 pub mod WorkedCommands
 pub mod WorkedAnswered
+pub mod WorkedSchedules

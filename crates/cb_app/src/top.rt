@@ -32,7 +32,8 @@ pub fn carbink_run<R: Threads + Wait + Sync, S: Source, K: Sink>(
     ensures statuses { result ≤ 5 }
 
     // 0: the words name a command, and what is put is what it yields for the bytes taken. Of a script
-    // `seq` puts the answers that the plain map gives, and `check` how many lines and lanes it has.
+    // `seq` puts the answers that the plain map gives, and `check` how many lines and lanes it has; of
+    // a schedule `rma` puts what is said to each event.
     ensures done { result ≡ 0
         → TellsScript words.now (S.left src.old) (S.left src.new)
         (K.held out.old) (K.held out.new) end.old end.new }
@@ -45,7 +46,8 @@ pub fn carbink_run<R: Threads + Wait + Sync, S: Source, K: Sink>(
     ensures refuses { NameNone words.now → (result ≡ 1) ⊎ (4 ≤ result) }
 
     // 2: the command refuses the bytes taken: they spell no script, or one with a verb that is not
-    // built and that `seq` would have to answer; what is put tells where and why.
+    // built and that `seq` would have to answer, or, with `rma`, no schedule; what is put tells where
+    // and why.
     ensures script_refused { result ≡ 2
         → RefusesScript words.now (S.left src.old) (S.left src.new)
         (K.held out.old) (K.held out.new) }

@@ -51,11 +51,15 @@ abbrev pub after_order : SenderState → Order → Submitted → SenderState
 after_order s order (Taken number) = record s { waiting = s.waiting ++ order ∷ [] }
 after_order s order (Window waiting) = s
 
--- the message with an order
+-- the message with this order
+abbrev pub message : ℕ → ℕ → Order → Ask
+message incarnation number order =
+    record { incarnation = incarnation; number = number; order = order }
+
+-- the same, where there is one
 abbrev pub asking : SenderState → ℕ → Option Order → Option Ask
 asking s number None = None
-asking s number (Some order) =
-    Some (record { incarnation = s.incarnation; number = number; order = order })
+asking s number (Some order) = Some (message s.incarnation number order)
 
 -- the message with the order of this number, where it waits for an acknowledgement
 abbrev pub ask_of : SenderState → ℕ → Option Ask

@@ -1,4 +1,4 @@
-ghost use Rattle.std.specs.Prelude.{◌≡◌, ◌++◌, ◌<◌, ◌^◌, ◌-◌, IfOk, OnOk};
+ghost use Rattle.std.specs.Prelude.{◌≡◌, ◌∷◌, [], ◌++◌, ◌<◌, ◌^◌, ◌-◌, length, IfOk, OnOk};
 ghost use Rattle.cb_rma.specs.Sending.{submitted};
 ghost use Rattle.cb_rma.specs.Keeping.{acks_of};
 ghost use Rattle.cb_rma.specs.Course.{Moves, IsReady};
@@ -49,12 +49,10 @@ impl Course {
     fn send(&mut self, number: u64) -> Result<Said, NoMemory>
         ensures { IfOk result (λ said. Moves self.old (event.Send number) said self.new) }
     {
-        let Some(ask) = self.sender.ask(self.alloc, number)? else {
-            return Ok(Said::Nothing);
-        };
-        let packet = self.asks.len() as u64;
-        self.asks.push(ask)?;
-        Ok(Said::Sent { packet })
+        match self.sender.ask(self.alloc, number)? {
+            Some(ask) => send_ask(&mut self.asks, ask),
+            None => Ok(Said::Nothing),
+        }
     }
 
     fn bring_ask(&mut self, packet: u64) -> Result<Said, NoMemory>
@@ -99,6 +97,16 @@ impl Course {
             None => Ok(Said::NoRow),
         }
     }
+}
+
+/// Sends the message, under the next number.
+fn send_ask(asks: &mut Vec<Ask>, ask: Ask) -> Result<Said, NoMemory>
+    ensures said { IfOk result (λ said. said ≡ Said.Sent (length asks.old.items)) }
+    ensures sent { OnOk result (asks.new.items ≡ asks.old.items ++ ask ∷ []) }
+{
+    let packet = asks.len() as u64;
+    asks.push(ask)?;
+    Ok(Said::Sent { packet })
 }
 
 /// Sends the acknowledgement of an answer, where it has one.

@@ -37,19 +37,25 @@ impl Order {
         ensures { IfOk result (λ copy. copy ≡ self.now) }
     {
         match self {
-            Order::Put { key, row } => {
-                let row = row.copy(alloc)?;
-                Ok(Order::Put { key: *key, row })
-            }
-            Order::Add { key, c, row } => {
-                let row = row.copy(alloc)?;
-                Ok(Order::Add {
-                    key: *key,
-                    c: *c,
-                    row,
-                })
-            }
+            Order::Put { key, row } => put(alloc, *key, row),
+            Order::Add { key, c, row } => add(alloc, *key, *c, row),
             Order::Drop { key } => Ok(Order::Drop { key: *key }),
         }
     }
+}
+
+/// The order that puts a copy of the row at the key.
+fn put(alloc: Global, key: u64, row: &Bytes) -> Result<Order, NoMemory>
+    ensures { IfOk result (λ order. order ≡ Order.Put key row.now) }
+{
+    let row = row.copy(alloc)?;
+    Ok(Order::Put { key, row })
+}
+
+/// The order that adds `c` times a copy of the row at the key.
+fn add(alloc: Global, key: u64, c: u8, row: &Bytes) -> Result<Order, NoMemory>
+    ensures { IfOk result (λ order. order ≡ Order.Add key c row.now) }
+{
+    let row = row.copy(alloc)?;
+    Ok(Order::Add { key, c, row })
 }

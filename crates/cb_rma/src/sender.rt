@@ -1,5 +1,5 @@
-ghost use Rattle.std.specs.Prelude.{◌≡◌, ◌+◌, ◌-◌, ◌<◌, ◌≤◌, ◌^◌, drop, length, IfOk, OnErr};
-ghost use Rattle.cb_rma.specs.Sending.{IsSender, new_sender, submitted, answer_to_order, after_order, ask_of, hears, after_heard};
+ghost use Rattle.std.specs.Prelude.{◌≡◌, ◌+◌, ◌-◌, ◌<◌, ◌≤◌, ◌^◌, drop, length, Some, IfOk, OnErr};
+ghost use Rattle.cb_rma.specs.Sending.{IsSender, new_sender, submitted, answer_to_order, after_order, ask_of, hears, after_heard, message};
 
 use crate::order::{Ack, Ask, Order};
 use cb_member::NoMemory;
@@ -105,15 +105,10 @@ impl Sender {
             return Ok(None);
         }
         let place = (number - self.acknowledged) as usize;
-        let Some(order) = self.waiting.get(place) else {
-            return Ok(None);
-        };
-        let order = order.copy(alloc)?;
-        Ok(Some(Ask {
-            incarnation: self.incarnation,
-            number,
-            order,
-        }))
+        match self.waiting.get(place) {
+            Some(order) => message(alloc, self.incarnation, number, order),
+            None => Ok(None),
+        }
     }
 
     /// Hears what a keeper tells: the orders that it applied need not be kept any more. Takes no
@@ -138,6 +133,23 @@ impl Sender {
         self.acknowledged = count;
         Heard::Fresh { count }
     }
+}
+
+/// The message with a copy of the order, which is of this number.
+fn message(
+    alloc: Global,
+    incarnation: u64,
+    number: u64,
+    order: &Order,
+) -> Result<Option<Ask>, NoMemory>
+    ensures { IfOk result (λ ask. ask ≡ Some (message incarnation number order.now)) }
+{
+    let order = order.copy(alloc)?;
+    Ok(Some(Ask {
+        incarnation,
+        number,
+        order,
+    }))
 }
 
 /// Drops so many orders from the front of the queue, which has them.

@@ -4,6 +4,6 @@
 pub mod line;
 mod reply;
 mod verb;
-mod word;
+pub mod word;
 
 pub use line::{line_text, push_line};

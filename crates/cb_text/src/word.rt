@@ -15,7 +15,7 @@ pub(crate) fn push_word(text: &mut Vec<u8>, word: &[u8]) -> Result<(), NoMemory>
 }
 
 /// Adds a space and a number at the end.
-pub(crate) fn push_number(text: &mut Vec<u8>, number: u64) -> Result<(), NoMemory>
+pub fn push_number(text: &mut Vec<u8>, number: u64) -> Result<(), NoMemory>
     ensures { OnOk result (text.new.items ≡ text.old.items ++ spaced (decimal number)) }
 {
     push_word(text, Buffer::new().format(number).as_bytes())
@@ -39,7 +39,7 @@ pub(crate) fn push_version(text: &mut Vec<u8>, version: u64) -> Result<(), NoMem
 }
 
 /// Adds a space and bytes in lower-case hexadecimal at the end.
-pub(crate) fn push_hexadecimal(text: &mut Vec<u8>, bytes: &[u8]) -> Result<(), NoMemory>
+pub fn push_hexadecimal(text: &mut Vec<u8>, bytes: &[u8]) -> Result<(), NoMemory>
     ensures { OnOk result (text.new.items ≡ text.old.items ++ spaced (encode_lower bytes.now)) }
 {
     text.push(b' ')?;

@@ -1,0 +1,11 @@
+use Rattle.std.proofs.lemmas.Result.{IfOk-weaker}
+use Rattle.cb_cli.specs.declared.words.Command.TheVariants.{Rma}
+use Rattle.cb_app.specs.Modes.{IsVerdict}
+use Rattle.cb_app.proofs.Modes.{rma_verdict}
+use Rattle.cb_app.proofs.commands.obey.Goals as goal
+
+pub returns-in-Rma-clause-verdict : goal.returns-in-Rma-clause-verdict
+returns-in-Rma-clause-verdict c =
+    let bytes = c.args.bytes.now in
+    let end = c.args.end.now in
+    rw c.in-Rma.is (IfOk-weaker c.rma_bytes.result _ (IsVerdict Rma bytes end end) (rma_verdict bytes end) c.rma_bytes.ensures)
