@@ -1,4 +1,7 @@
-use cb_rma::{Ack, Handled, Heard, Order, Said, Step, Submitted, run_schedule};
+ghost use Rattle.std.specs.Prelude.{◌<◌, ◌^◌};
+ghost use Rattle.cb_rma.specs.Sending.{submitted};
+
+use cb_rma::{Ack, Handled, Heard, Order, Said, Sender, Step, Submitted, run_schedule};
 use cb_types::{Bytes, NoMemory};
 use std::alloc::Global;
 
@@ -43,4 +46,28 @@ fn is_applied_once(alloc: Global) -> Result<bool, NoMemory> {
 #[test]
 fn an_order_that_comes_twice_is_applied_once(rt: HostRuntime) {
     assert!(rt; matches!(is_applied_once(rt.alloc()), Ok(true)));
+}
+
+/// Whether a sender of one order hears of five as of more than it submitted.
+fn is_beyond(sender: &mut Sender, order: &Order) -> Result<bool, NoMemory>
+    requires { submitted sender.old < 2 ^ 40 }
+{
+    let ack = Ack {
+        incarnation: 0,
+        count: 5,
+    };
+    let taken = sender.submit(order)?;
+    let heard = sender.heard(&ack);
+    Ok(matches!(taken, Submitted::Taken { number: 0 }) && matches!(heard, Heard::Beyond { count: 5 }))
+}
+
+/// So of a new sender.
+fn more_is_beyond(alloc: Global) -> Result<bool, NoMemory> {
+    let mut sender = Sender::new(alloc, 0, 2);
+    is_beyond(&mut sender, &Order::Drop { key: 1 })
+}
+
+#[test]
+fn more_than_was_submitted_is_beyond(rt: HostRuntime) {
+    assert!(rt; matches!(more_is_beyond(rt.alloc()), Ok(true)));
 }
