@@ -43,10 +43,6 @@ pub record Going (start : WorldState) (events : List Event) (i : ℕ) (replies :
   pub sound : IsSoundWorld w
   pub settings : w.desk.settings ≡ start.desk.settings
 
-pub going_first : (start : WorldState) (events : List Event) → IsSoundWorld start
-    → Going start events 0 [] start
-going_first start events sound = record { leads = refl; sound = sound; settings = refl }
-
 pub going_more : (start : WorldState) (events : List Event) (i : ℕ) (replies : List Reply)
     (w new : WorldState) (e : Event) (r : Reply) → Going start events i replies w
     → i < length events → e ≡ get_or events i e → Step w e r new → IsSoundWorld new

@@ -16,9 +16,9 @@ use Rattle.cb_swapin.proofs.SwapKeeps.{settings_stay}
 use Rattle.cb_core.specs.declared.event.Atomic.TheVariants.{Load, Pin, Unpin}
 use Rattle.cb_core.specs.declared.event.Event.{Event}
 use Rattle.cb_core.specs.declared.event.Event.TheVariants as event
-use Rattle.cb_core.specs.Parts.{Holding, NeverDeclined, NeverLacks, WithRoom, at_once, no_room, won, WhereItIs, near, declined, stays_far, brought, BringsIn, not_far, was_far, RoomStops, evicting, after, CallStops, far}
+use Rattle.cb_core.specs.Parts.{Holding, NeverDeclined, WithRoom, at_once, no_room, won, WhereItIs, near, declined, stays_far, brought, BringsIn, not_far, was_far, after, far}
 use Rattle.cb_core.specs.Pinning.{PinStep, scope_full, refused, taken, UnpinStep, not_pinned, given}
-use Rattle.cb_core.specs.Step.{StillMake, StillRead, StillWrite, StillFree, StillFind, StillDecline, StillEvict, StillSwap, StillBring, StillFilter, StillBegin, StillShip, StillCommit, StillAbort, StillWorks, StillMakeLacks, StillReadLacks, StillEvictLacks, StillSwapLacks, StillBringLacks, StillStops, TurnStep, worn, done, Step, Stops}
+use Rattle.cb_core.specs.Step.{StillMake, StillRead, StillWrite, StillFree, StillFind, StillDecline, StillEvict, StillSwap, StillBring, StillFilter, StillBegin, StillShip, StillCommit, StillAbort, StillWorks, TurnStep, worn, done, Step}
 use Rattle.cb_core.specs.Turned.{counted}
 use Rattle.cb_core.proofs.Changes.{read_leaves, write_leaves, free_leaves}
 
@@ -29,9 +29,6 @@ Same a b = b.desk.settings ≡ a.desk.settings
 -- so it is with all that is done by P
 abbrev Stay : {A : Type 0} → (Holding Words → A → Holding Words → Type 0) → Type 0
 Stay {A = A} P = (a b : Holding Words) (r : A) → P a r b → Same a b
-
-abbrev Rest : (Holding Words → Holding Words → Type 0) → Type 0
-Rest L = (a b : Holding Words) → L a b → Same a b
 
 same_as : (a b : Holding Words) → b ≡ a → Same a b
 same_as a b e = ap (λ (d : Holding Words). d.desk.settings) e
@@ -62,27 +59,6 @@ brings_same : (P E : Holding Words → Reply → Holding Words → Type 0) → S
     → Stay (BringsIn P E)
 brings_same P E p e a b r (not_far o off) = p a b r o
 brings_same P E p e a b r (was_far m o v) = e m b r v ∙ p a m answer.NotHere o
-
-room_rest : (P : Holding Words → Reply → Holding Words → Type 0)
-    (L : Holding Words → Holding Words → Type 0)
-    (E : Holding Words → Reply → Holding Words → Type 0)
-    (M : Holding Words → Holding Words → Type 0) → Stay P → Rest L → Stay E → Rest M
-    → Rest (RoomStops P L E M)
-room_rest P L E M p l e k a b (at_once o) = l a b o
-room_rest P L E M p l e k a b (evicting m o v) = k m b v ∙ p a m answer.NoFrame o
-room_rest P L E M p l e k a b (after m n id o v w) =
-    l n b w ∙ e m n (answer.Set id) v ∙ p a m answer.NoFrame o
-
-call_rest : (P : Holding Words → Reply → Holding Words → Type 0)
-    (L : Holding Words → Holding Words → Type 0)
-    (S : Holding Words → Option Reply → Holding Words → Type 0)
-    (E : Holding Words → Reply → Holding Words → Type 0)
-    (M : Holding Words → Holding Words → Type 0) → Stay P → Rest L → Stay S → Stay E → Rest M
-    → Rest (CallStops P L S E M)
-call_rest P L S E M p l s e k a b (near o) = l a b o
-call_rest P L S E M p l s e k a b (far m n o d v) = k n b v ∙ s m n None d ∙ p a m answer.NotHere o
-call_rest P L S E M p l s e k a b (after m n q f o d v w) =
-    l q b w ∙ e n q (answer.Swapped f) v ∙ s m n None d ∙ p a m answer.NotHere o
 
 -- ---- each part
 make_same : (bytes : List ℕ) → Stay (StillMake bytes)
@@ -181,44 +157,6 @@ works_settings Merge a b r step = absurd step
 works_settings Part a b r step = absurd step
 works_settings Compact a b r step = absurd step
 
-read_rest : (h : ℕ) → Rest (StillReadLacks h)
-read_rest h a b (same, (v, bytes, step)) = elim (read_leaves a.desk b.desk h (answer.Bytes v bytes) step) [
-  | inl e ↦ words_same a b e
-  | inr e ↦ ap (λ (x : Words). x.settings) e
-]
-
-bring_rest : (h : ℕ) → Rest (StillBringLacks h)
-bring_rest h = room_rest (StillSwap h) (StillSwapLacks h) StillEvict StillEvictLacks (swap_same h)
-    (λ a b step. words_same a b step.0) evict_same same_as
-
-stops_settings : (job : Job) (a b : Holding Words) → StillStops job a b → Same a b
-stops_settings (Make bytes) a b stops = room_rest (StillMake bytes) (StillMakeLacks bytes) StillEvict
-    StillEvictLacks (make_same bytes) (λ d e step. same_as d e step.0) evict_same same_as a b stops
-stops_settings (Read handle) a b stops = call_rest (StillRead handle.n) (StillReadLacks handle.n)
-    NeverDeclined (StillBring handle.n) (StillBringLacks handle.n) (read_same handle.n)
-    (read_rest handle.n) never_same (bring_same handle.n) (bring_rest handle.n) a b stops
-stops_settings (Write handle at bytes) a b stops = call_rest (StillWrite handle.n at bytes) NeverLacks
-    (StillDecline handle.n at (length bytes)) (StillBring handle.n) (StillBringLacks handle.n)
-    (write_same handle.n at bytes) (λ d e none. absurd none)
-    (decline_same handle.n at (length bytes)) (bring_same handle.n) (bring_rest handle.n) a b stops
-stops_settings (Swap handle) a b (m, found, stops) =
-    bring_rest handle.n m b stops ∙ find_same handle.n a m answer.NotHere found
-stops_settings Evict a b stops = same_as a b stops
-stops_settings Begin a b stops = same_as a b stops
-stops_settings Ship a b stops = same_as a b stops
-stops_settings (Filter handle) a b stops = same_as a b stops.0
-stops_settings Rebuild a b stops = words_same a b stops.0
-stops_settings (Crash node) a b stops = same_as a b stops.0
-stops_settings (Free handle) a b stops = absurd stops
-stops_settings Commit a b stops = absurd stops
-stops_settings Abort a b stops = absurd stops
-stops_settings Pair a b stops = absurd stops
-stops_settings Patch a b stops = absurd stops
-stops_settings Merge a b stops = absurd stops
-stops_settings Part a b stops = absurd stops
-stops_settings Compact a b stops = absurd stops
-stops_settings (Join node) a b stops = absurd stops
-
 -- ---- events
 turn_settings : (w new : WorldState) (job : Job) (r : Reply) → TurnStep job w r new
     → new.desk.settings ≡ w.desk.settings
@@ -247,10 +185,3 @@ step_settings w new (event.Step seat (Load handle)) r step =
     ap (λ (v : WorldState). v.desk.settings) step.1
 step_settings w new (event.Step seat (Pin handle)) r step = pin_settings w new seat handle.n r step
 step_settings w new (event.Step seat (Unpin handle)) r step = unpin_settings w new seat handle.n r step
-
-pub stop_settings : (w new : WorldState) (e : Event) → Stops w e new
-    → new.desk.settings ≡ w.desk.settings
-stop_settings w new (event.Step seat atomic) stops = absurd stops
-stop_settings w new (event.Turn seat job) stops =
-    stops_settings job (record { desk = w.desk; far = counted w.far job })
-    (record { desk = new.desk; far = new.far }) stops.2

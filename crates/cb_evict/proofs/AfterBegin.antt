@@ -1,25 +1,15 @@
 -- What a begin leaves as it was, from the step alone.
-use Rattle.std.proofs.Common.{◌≡◌, ℕ, ◌+◌, ◌<◌, ◌≤◌, List, length, get_or, take, Some, refl, sym, ap, ◌∙◌, subst, arith, inl, inr}
+use Rattle.std.proofs.Common.{◌≡◌, ℕ, ◌+◌, ◌<◌, ◌≤◌, length, take, refl, sym, ap, ◌∙◌, subst, arith, inl, inr}
 use Rattle.cb_ptr.specs.declared.word.State.TheVariants as state
-use Rattle.cb_ptr.specs.Word.{state_of, pins_of}
-use Rattle.cb_set.specs.SetState.{SetState}
-use Rattle.cb_types.specs.declared.config.Config.{Config}
-use Rattle.cb_types.specs.declared.handle.SetId.{SetId}
+use Rattle.cb_ptr.specs.Word.{pins_of}
 use Rattle.cb_types.specs.declared.reply.Reply.{Reply}
-use Rattle.cb_types.specs.declared.reply.Reply.TheVariants as answer
 use Rattle.cb_world.specs.FarState.{FarState}
 use Rattle.cb_world.specs.Plain.{Words}
-use Rattle.cb_world.specs.Reserved.{set_from}
-use Rattle.cb_world.specs.Seats.{SeatState}
-use Rattle.cb_world.specs.Sets.{set_in}
-use Rattle.cb_world.specs.World.{word_at, IsConfigured, ArePinned}
-use Rattle.cb_world.proofs.Pins.{pinned_still}
-use Rattle.cb_evict.specs.BeginRule.{blank_shards, with_batch}
+use Rattle.cb_world.specs.World.{word_at}
+use Rattle.cb_evict.specs.BeginRule.{with_batch}
 use Rattle.cb_evict.specs.BeginStep.{IsBatchMade, IsBeginStep, is_leaving, few_spans, few_nodes, begins}
 use Rattle.cb_evict.specs.EvictStep.{loose_frames}
 use Rattle.cb_evict.proofs.AfterEvict.{in_or_not, leaves_free}
-use Rattle.cb_evict.proofs.BeginParts.{leaving_batch, spans_batch, nodes_batch}
-use Rattle.cb_evict.proofs.Begun.{reserved_others}
 
 -- what a step that begins no batch leaves holds of it, and what the other leaves
 by_step : (P : Words → FarState → Type 0) (x y : Words) (far new : FarState) (r : Reply)
@@ -31,15 +21,6 @@ by_step P x y far new r (few_spans none a e) same go =
 by_step P x y far new r (few_nodes none a e) same go =
     subst (λ (f : FarState). P y f) (sym a.state) (subst (λ (u : Words). P u far) (sym e) same)
 by_step P x y far new r (begins m) same go = go m
-
--- a batch is leaving where one is answered
-pub begin_made : (x y : Words) (far new : FarState) (r : Reply) (id : SetId)
-    → IsBeginStep x y far new r → r ≡ answer.Batch id → IsBatchMade x y far new r
-begin_made x y far new r id (is_leaving b there a state e) is =
-    absurd (leaving_batch _ id r a is)
-begin_made x y far new r id (few_spans none a e) is = absurd (spans_batch _ r id a.reply is)
-begin_made x y far new r id (few_nodes none a e) is = absurd (nodes_batch _ r id a.reply is)
-begin_made x y far new r id (begins m) is = m
 
 -- ---- the words
 pub begin_settings : (x y : Words) (far new : FarState) (r : Reply) → IsBeginStep x y far new r
@@ -57,11 +38,6 @@ pub begin_versions : (x y : Words) (far new : FarState) (r : Reply) → IsBeginS
 begin_versions x y far new r step = by_step (λ u f. u.versions ≡ x.versions) x y far new r step refl
     (λ m. m.begun.held.versions)
 
-pub begin_memory : (x y : Words) (far new : FarState) (r : Reply) → IsBeginStep x y far new r
-    → y.memory ≡ x.memory
-begin_memory x y far new r step = by_step (λ u f. u.memory ≡ x.memory) x y far new r step refl
-    (λ m. m.begun.held.memory)
-
 -- each word with pins is as it was, and pins stay
 pub begin_pinned : (x y : Words) (far new : FarState) (r : Reply) (h : ℕ)
     → IsBeginStep x y far new r → 1 ≤ pins_of (word_at x h) → word_at y h ≡ word_at x h
@@ -78,25 +54,6 @@ begin_pins x y far new r h step =
       | inl i ↦ (m.begun.held.claimed h i).pins ∙ sym (leaves_free x far x.settings.k h i).1
       | inr out ↦ ap pins_of (m.begun.held.others h out)
     ])
-
--- the pins of the seats stay as they are
-pub begin_seats : (x y : Words) (far new : FarState) (r : Reply) (seats : List SeatState)
-    → IsBeginStep x y far new r → ArePinned x seats → ArePinned y seats
-begin_seats x y far new r seats step p =
-    pinned_still x y seats p (begin_count x y far new r step)
-    (λ h below some. (
-      begin_pinned x y far new r h step some,
-      ap (λ (l : List ℕ). get_or l h 0) (begin_versions x y far new r step),
-    ))
-    (λ h below none. begin_pins x y far new r h step ∙ none)
-
--- a word that is not here stays
-pub begin_absent : (x y : Words) (far new : FarState) (r : Reply) (h : ℕ)
-    → IsBeginStep x y far new r → (state_of (word_at x h) ≡ state.Here → ⊥)
-    → word_at y h ≡ word_at x h
-begin_absent x y far new r h step absent =
-    by_step (λ u f. word_at u h ≡ word_at x h) x y far new r step refl
-    (λ m. m.begun.held.others h (λ i. absent (leaves_free x far x.settings.k h i).0))
 
 -- ---- the parts of the far state
 -- what a begin never changes
@@ -150,15 +107,6 @@ begin_keeps x y far new r step =
       by_job = refl;
     }
 
-pub begin_configured : (x y : Words) (far new : FarState) (r : Reply) (c : Config)
-    → IsBeginStep x y far new r → IsConfigured c far → IsConfigured c new
-begin_configured x y far new r c step is = let k = begin_keeps x y far new r step in record {
-  frames = ap length k.spans ∙ is.frames;
-  homes = ap length k.homes ∙ is.homes;
-  nodes = ap (λ n. length n.nodes) k.nodes ∙ is.nodes;
-  room = ap (λ n. n.room) k.nodes ∙ is.room;
-}
-
 -- one set number at most is drawn
 pub begin_sets : (x y : Words) (far new : FarState) (r : Reply) → IsBeginStep x y far new r
     → (far.counts.sets ≤ new.counts.sets) × (new.counts.sets ≤ far.counts.sets + 1)
@@ -168,15 +116,3 @@ begin_sets x y far new r step =
     (λ m. let e : new.counts.sets ≡ far.counts.sets + 1 =
     ap (λ (f : FarState). f.counts.sets) m.begun.state in
     (omega (arith, e), omega (arith, e)))
-
--- each committed set stays as it was
-pub begin_old_set : (x y : Words) (far new : FarState) (r : Reply) (id : ℕ) (set : SetState)
-    → IsBeginStep x y far new r → id < far.counts.sets → set_in far.sets id ≡ Some set
-    → set_in new.sets id ≡ Some set
-begin_old_set x y far new r id set step below there =
-    by_step (λ u f. set_in f.sets id ≡ Some set) x y far new r step there
-    (λ m. ap (λ (f : FarState). set_in f.sets id) m.begun.state
-    ∙ reserved_others far.sets far.counts.sets id
-    (set_from far.counts.sets (blank_shards (x.settings.k + x.settings.r)) far.spans
-    (take x.settings.k (loose_frames x far)))
-    (λ e. omega (arith, below, e)) ∙ there)

@@ -1,16 +1,14 @@
 -- What an eviction leaves as it was, from the step alone.
-use Rattle.std.proofs.Common.{◌≡◌, ◌⊎◌, ℕ, zero, suc, Bool, true, false, ◌+◌, ◌<◌, ◌≤◌, List, [], ◌∷◌, length, get_or, take, Option, Some, None, refl, sym, ap, ◌∙◌, subst, arith, inl, inr}
+use Rattle.std.proofs.Common.{◌≡◌, ◌⊎◌, ℕ, zero, suc, Bool, true, ◌+◌, ◌<◌, ◌≤◌, List, [], ◌∷◌, length, get_or, take, Option, Some, None, refl, sym, ap, ◌∙◌, subst, arith, inl, inr}
 use Rattle.std.specs.List.{Contains}
-use Rattle.std.proofs.lemmas.Bool.{cases_eq, cases_lt, false≢true}
-use Rattle.std.proofs.lemmas.List.{length-take-le, get_or_past}
+use Rattle.std.proofs.lemmas.Bool.{cases_eq}
 use Rattle.std.proofs.lemmas.List.Elements.{All-contains, filter_passes}
 use Rattle.cb_frame.specs.FreeFrames.{IsFree as IsFreeFrame, least_free}
 use Rattle.cb_frame.proofs.Laws.{least_free-None}
 use Rattle.cb_member.specs.declared.names.Shard.{Shard}
 use Rattle.cb_node.specs.NodesState.{NodesState, with_row}
 use Rattle.cb_ptr.specs.declared.word.State.TheVariants as state
-use Rattle.cb_ptr.specs.Word.{state_of, pins_of}
-use Rattle.cb_set.specs.SetState.{SetState}
+use Rattle.cb_ptr.specs.Word.{pins_of}
 use Rattle.cb_span.specs.Contents.{Contents}
 use Rattle.cb_types.specs.declared.config.Config.{Config}
 use Rattle.cb_types.specs.declared.config.Field.TheVariants.{K, R}
@@ -18,32 +16,21 @@ use Rattle.cb_types.specs.Config.{IsAccepted}
 use Rattle.cb_types.specs.declared.handle.SetId.{SetId}
 use Rattle.cb_types.specs.declared.reply.Reply.{Reply}
 use Rattle.cb_types.specs.declared.reply.Reply.TheVariants as answer
-use Rattle.cb_world.specs.declared.object.Object.{Object}
 use Rattle.cb_world.specs.declared.object.Object.TheVariants as is
-use Rattle.cb_world.specs.declared.shown.Shown.{Shown}
-use Rattle.cb_world.specs.Shown.{Fits, object_at}
 use Rattle.cb_world.specs.FarState.{FarState, span_in, handle_in}
 use Rattle.cb_world.specs.Grasped.{IsFree}
-use Rattle.cb_world.specs.Homes.{home_at}
 use Rattle.cb_world.specs.Plain.{Words}
 use Rattle.cb_world.specs.Seats.{SeatState}
-use Rattle.cb_world.specs.Sets.{set_in, if_committed}
-use Rattle.cb_world.specs.StillDesk.{bits_here}
 use Rattle.cb_world.specs.Stored.{all_put}
-use Rattle.cb_world.specs.World.{word_at, IsKnown, IsConfigured, ArePinned}
-use Rattle.cb_world.proofs.Kept.{frame_in_range}
+use Rattle.cb_world.specs.World.{word_at, IsConfigured, ArePinned}
 use Rattle.cb_world.proofs.Pins.{pinned_still}
 use Rattle.cb_evict.specs.Candidates.{candidates}
 use Rattle.cb_evict.specs.EvictStep.{is_loose, loose_frames, IsSetMade, IsEvictStep, few_spans, few_nodes, made}
 use Rattle.cb_evict.specs.Looking.{IsIn}
-use Rattle.cb_evict.specs.Storing.{set_for}
 use Rattle.cb_evict.proofs.Composed.{few_spans as not_few_spans, few_nodes as not_few_nodes}
-use Rattle.cb_evict.proofs.Ending.{place_in}
-use Rattle.cb_evict.proofs.Gone.{given_in}
 use Rattle.cb_evict.proofs.Homing.{length_closed}
 use Rattle.cb_evict.proofs.Loose.{names_has, contains_head, contains_tail}
 use Rattle.cb_evict.proofs.LooseSpans.{loose_free}
-use Rattle.cb_evict.proofs.NewSet.{set_others}
 use Rattle.cb_evict.proofs.Putting.{put_count, put_room}
 use Rattle.cb_evict.proofs.Standing.{names_span}
 use Rattle.cb_evict.proofs.Trying.{taken_of}
@@ -80,11 +67,6 @@ pub evict_versions : (x y : Words) (far new : FarState) (r : Reply) → IsEvictS
     → y.versions ≡ x.versions
 evict_versions x y far new r step = by_step (λ u f. u.versions ≡ x.versions) x y far new r step refl
     (λ m. m.evicted.sent.versions)
-
-pub evict_memory : (x y : Words) (far new : FarState) (r : Reply) → IsEvictStep x y far new r
-    → y.memory ≡ x.memory
-evict_memory x y far new r step = by_step (λ u f. u.memory ≡ x.memory) x y far new r step refl
-    (λ m. m.evicted.sent.memory)
 
 -- ---- the objects that leave
 none_some : (h : ℕ) → None ≡ Some h → ⊥
@@ -187,14 +169,6 @@ evict_seats x y far new r seats step p =
       ap (λ (l : List ℕ). get_or l h 0) (evict_versions x y far new r step),
     ))
     (λ h below none. evict_pins x y far new r h step ∙ none)
-
--- a word that is not here stays
-pub evict_absent : (x y : Words) (far new : FarState) (r : Reply) (h : ℕ)
-    → IsEvictStep x y far new r → (state_of (word_at x h) ≡ state.Here → ⊥)
-    → word_at y h ≡ word_at x h
-evict_absent x y far new r h step absent =
-    by_step (λ u f. word_at u h ≡ word_at x h) x y far new r step refl
-    (λ m. m.evicted.sent.others h (λ i. absent (leaves_free x far x.settings.k h i).0))
 
 -- ---- the parts of the far state
 pub evict_spans : (x y : Words) (far new : FarState) (r : Reply) → IsEvictStep x y far new r
@@ -303,67 +277,10 @@ evict_keys x y far new r step accepted =
     (omega (arith, e), omega (arith, e, m.evicted.chosen.count, k.1, n.1)))
 
 -- ---- sets and homes
--- each set that there was stays as it was
-pub evict_old_set : (x y : Words) (far new : FarState) (r : Reply) (id : ℕ) (set : SetState)
-    → IsEvictStep x y far new r → id < far.counts.sets → set_in far.sets id ≡ Some set
-    → set_in new.sets id ≡ Some set
-evict_old_set x y far new r id set step below there =
-    by_step (λ u f. set_in f.sets id ≡ Some set) x y far new r step there
-    (λ m. ap (λ (f : FarState). set_in f.sets id) m.evicted.state
-    ∙ ap if_committed (set_others far.sets far.counts.sets id
-    (set_for far m.evicted.shards (take x.settings.k (loose_frames x far)))
-    (λ e. omega (arith, below, e))) ∙ there)
-
--- the home of an object that was not here stays
-pub evict_home : (x y : Words) (far new : FarState) (r : Reply) (h : ℕ)
-    → IsEvictStep x y far new r → (state_of (word_at x h) ≡ state.Here → ⊥)
-    → home_at new.homes h ≡ home_at far.homes h
-evict_home x y far new r h step absent =
-    by_step (λ u f. home_at f.homes h ≡ home_at far.homes h) x y far new r step refl
-    (λ m. m.evicted.homes.others h
-    (λ f c named. absent (leaves_free x far x.settings.k h (f, c, named)).0))
-
--- so that of an object that was far
-pub evict_far_home : (x y : Words) (far new : FarState) (r : Reply) (s : Shown) (h len v : ℕ)
-    (words : List ℕ) → IsEvictStep x y far new r → IsKnown x far s
-    → object_at s h ≡ is.Far len v words → home_at new.homes h ≡ home_at far.homes h
-evict_far_home x y far new r s h len v words step k away =
-    evict_home x y far new r h step (λ here. absent here (cases_lt h (length x.words)))
-  where
-    absent : state_of (word_at x h) ≡ state.Here → (h < length x.words) ⊎ (length x.words ≤ h) → ⊥
-    absent here (inl below) =
-        let bits = bits_here (word_at x h) here in
-        let fit : Fits (is.Far len v words) (word_at x h) =
-        subst (λ (o : Object). Fits o (word_at x h)) away (k.shows.fit h below) in
-        omega (arith, bits, fit.0)
-    absent here (inr past) =
-        let bits = bits_here (word_at x h) here in
-        let none = get_or_past x.words h 0 past in omega (arith, bits, none)
-
 -- ---- frames
-loose_span : (x : Words) (o : Option Contents) → is_loose x o ≡ true
-    → (span : Contents) × (o ≡ Some span)
-loose_span x None e = absurd (false≢true e)
-loose_span x (Some span) e = (span, refl)
-
 some_free : (free : List Bool) (f : ℕ) → IsFreeFrame free f → (g : ℕ) × (least_free free ≡ Some g)
 some_free free f is = go (least_free free) refl
   where
     go : (o : Option ℕ) → least_free free ≡ o → (g : ℕ) × (least_free free ≡ Some g)
     go None e = absurd (least_free-None free e f is)
     go (Some g) e = (g, e)
-
--- once a set was made, some frame is free
-pub evict_frees : (x y : Words) (far new : FarState) (r : Reply) → IsSetMade x y far new r
-    → IsAccepted x.settings → length far.spans ≡ length far.frames
-    → (f : ℕ) × (least_free new.frames ≡ Some f)
-evict_frees x y far new r m accepted sized =
-    let k = accepted K in
-    let frames = take x.settings.k (loose_frames x far) in
-    let f = get_or frames 0 0 in
-    let c : Contains frames f = place_in frames 0 0
-    (let n = length-take-le x.settings.k (loose_frames x far) m.enough in omega (arith, k.0, n)) in
-    let span = loose_span x (span_in far.spans f) (frame_loose x far x.settings.k f c) in
-    let below = frame_in_range far.spans f span.0 span.1 in
-    some_free new.frames f (ap (λ (s : FarState). get_or s.frames f false) m.evicted.state
-    ∙ given_in far.frames frames f (omega (arith, below, sized)) c)

@@ -1,8 +1,7 @@
 -- A set is filled position by position.
-use Rattle.std.proofs.Common.{◌≡◌, ℕ, ◌+◌, ◌<◌, List, length, map, set, get_or, Option, Some, None, sym, refl, ap, ◌∙◌, subst, arith, inl, inr, length-set, get_or-set_same, get_or-set_other}
-use Rattle.std.proofs.lemmas.Bool.{cases_eq}
+use Rattle.std.proofs.Common.{◌≡◌, ℕ, ◌+◌, ◌<◌, List, length, map, set, get_or, Option, Some, None, sym, refl, ap, ◌∙◌, arith}
 use Rattle.std.proofs.lemmas.List.{ext_get_or, get_or-map, length-map}
-use Rattle.cb_set.specs.SetState.{SetState, PositionState, dead_position, with_position}
+use Rattle.cb_set.specs.SetState.{SetState, dead_position}
 use Rattle.std.specs.Option.{option_map, IsSome}
 use Rattle.cb_span.specs.Contents.{Contents}
 use Rattle.cb_world.specs.FarState.{span_in}
@@ -16,24 +15,6 @@ pub record IsFilled (spans : List (Option Contents)) (frames : List ℕ) (n : �
   pub count : length new.positions ≡ length old.positions
   pub filled : (q : ℕ) → q < n → get_or new.positions q dead_position ≡ position_for spans (get_or frames q 0)
 
-pub fill_more : (spans : List (Option Contents)) (frames : List ℕ) (n : ℕ) (old now new : SetState)
-    (content : PositionState) → IsFilled spans frames n old now → n < length old.positions
-    → new ≡ with_position now n content → content ≡ position_for spans (get_or frames n 0)
-    → IsFilled spans frames (n + 1) old new
-fill_more spans frames n old now new content a within is same =
-    subst (IsFilled spans frames (n + 1) old) (sym is) (record {
-      id = a.id;
-      shards = a.shards;
-      count = length-set now.positions n content ∙ a.count;
-      filled = λ q below. elim (cases_eq q n) [
-        | inl e ↦ ap (λ (k : ℕ). get_or (set now.positions n content) k dead_position) e
-            ∙ get_or-set_same now.positions n content dead_position (omega (arith, within, a.count))
-            ∙ same ∙ ap (λ (k : ℕ). position_for spans (get_or frames k 0)) (sym e)
-        | inr off ↦ get_or-set_other now.positions n q content dead_position off
-            ∙ a.filled q (omega (arith, below, off))
-      ];
-    })
-
 pub all_filled : (spans : List (Option Contents)) (frames : List ℕ) (n : ℕ) (old new : SetState)
     → IsFilled spans frames n old new → n ≡ length frames → length old.positions ≡ length frames
     → new ≡ record old { positions = map (position_for spans) frames }
@@ -45,11 +26,6 @@ all_filled spans frames n old new a all count =
     a.filled i (omega (arith, within, all))
     ∙ sym (get_or-map (position_for spans) frames i 0 dead_position within)) in
     λ i. record { id = a.id i; shards = a.shards i; positions = positions i }
-
-pub none_filled : (spans : List (Option Contents)) (frames : List ℕ) (old : SetState)
-    → IsFilled spans frames 0 old old
-none_filled spans frames old =
-    record { id = refl; shards = refl; count = refl; filled = λ q below. absurd (omega (arith, below)) }
 
 -- a frame that holds a span gives it
 pub span_got : {A : Type 0} (v : A → Contents) (spans : List (Option Contents)) (f : ℕ)

@@ -29,6 +29,3 @@ frame_passed p before now n a e = a
     ∙ ap (λ (xs : List ℕ). before ++ xs) (sym (append-nil (filter p (range_with_len 0 n))))
     ∙ ap (λ (t : Bool). before ++ (filter p (range_with_len 0 n) ++ cond t (n ∷ []) [])) (sym e)
     ∙ ap (λ (xs : List ℕ). before ++ xs) (sym (filter_more p n))
-
-pub frames_begun : (p : ℕ → Bool) (before : List ℕ) → before ≡ before ++ filter p (range_with_len 0 0)
-frames_begun p before = sym (append-nil before)

@@ -27,14 +27,6 @@ pub record HasSome (slots : List (Option ℕ)) (n id position : ℕ) (old new : 
   pub others : (h : ℕ) → ((slot : ℕ) → slot < n → get_or slots slot None ≡ Some h → ⊥)
       → home_at new h ≡ home_at old h
 
-pub homes_none : (slots : List (Option ℕ)) (id position : ℕ) (homes : List (Option Home))
-    → HasSome slots 0 id position homes homes
-homes_none slots id position homes = record {
-  count = refl;
-  here = λ slot h below named. absurd (omega (arith, below));
-  others = λ h none. refl;
-}
-
 -- an empty slot gives no home
 pub home_skipped : (slots : List (Option ℕ)) (n id position : ℕ) (old now : List (Option Home))
     → HasSome slots n id position old now → get_or slots n None ≡ None

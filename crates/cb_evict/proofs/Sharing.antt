@@ -37,9 +37,6 @@ take_pushed [] x (suc p) l = absurd (omega (arith, l))
 take_pushed (z ∷ xs) x zero l = refl
 take_pushed {X = X} (z ∷ xs) x (suc p) l = ap (λ (ys : List X). z ∷ ys) (take_pushed xs x p (omega (arith, l)))
 
-pub shards_none : (far : FarState) → AreShards far 0 []
-shards_none far = record { count = refl; each = λ p shard at. absurd (none_some shard at) }
-
 -- one shard more
 pub shards_more : (far : FarState) (shards : List Shard) (p : ℕ) (shard : Shard)
     → AreShards far p shards → IsLeastNode far.nodes far.members shards shard.node

@@ -1,7 +1,6 @@
 -- Over a still desk a ship is a step, which leaves all but the row, the shard and a key.
 use Rattle.std.proofs.Common.{◌≡◌, ℕ, ◌+◌, ◌*◌, ◌≤◌, ◌++◌, List, length, map, refl, sym, ap, ◌∙◌, subst, arith, inl, inr, length-set}
 use Rattle.cb_gf256.specs.Rows.{row_at}
-use Rattle.cb_types.specs.declared.config.Config.{Config}
 use Rattle.cb_types.specs.declared.reply.Reply.{Reply}
 use Rattle.cb_world.specs.declared.shown.Shown.{Shown}
 use Rattle.cb_world.specs.FarSound.{batch_rows}
@@ -14,7 +13,7 @@ use Rattle.cb_world.specs.Plain.{Words}
 use Rattle.cb_world.specs.Played.{played}
 use Rattle.cb_world.specs.RowWords.{row_of}
 use Rattle.cb_world.specs.Still.{IsStill}
-use Rattle.cb_world.specs.World.{IsConfigured, IsKnown}
+use Rattle.cb_world.specs.World.{IsKnown}
 use Rattle.cb_world.proofs.StillPerforms.{PerformsStill, runs_still, known_then, stays_still}
 use Rattle.cb_evict.specs.Loading.{LiesInOne}
 use Rattle.cb_evict.specs.ShipRule.{ReadsLeaving, ShipEffect, ShipRule, Ships}
@@ -83,16 +82,6 @@ ships_leaves far new r row (inr (inr (inr x))) = subst (ShipLeaves far) (sym x.s
   set_numbers = refl;
   keys = omega arith;
 })
-
-pub ship_configured : (x y : Words) (far new : FarState) (r : Reply) (c : Config)
-    → IsShipStep x y far new r → IsConfigured c far → IsConfigured c new
-ship_configured x y far new r c step k =
-    let l = ships_leaves far new r _ step.ships in record {
-      frames = ap length l.spans ∙ k.frames;
-      homes = ap length l.homes ∙ k.homes;
-      nodes = l.nodes ∙ k.nodes;
-      room = l.room ∙ k.room;
-    }
 
 -- what every object has stays
 pub ships_now : (s : Shown) (far new : FarState) (r : Reply) (row : LeavingState → ℕ → List ℕ)

@@ -3,7 +3,6 @@ use Rattle.std.proofs.Common.{◌≡◌, ◌≢◌, ℕ, Bool, ◌<◌, List, Op
 use Rattle.cb_class.specs.declared.class.Class.{Class}
 use Rattle.cb_frame.specs.FreeFrames.{IsFree}
 use Rattle.cb_frame.proofs.Laws.{least_free-Some}
-use Rattle.cb_ptr.specs.declared.word.PtrWord.{PtrWord}
 use Rattle.cb_span.specs.declared.temp.Temp.{Temp}
 use Rattle.cb_span.specs.Contents.{Contents, with_placed}
 use Rattle.cb_span.specs.Places.{frame_of}
@@ -51,11 +50,6 @@ lies_beside far temp slot h place seat frames chosen lies other =
       counted = subst (λ (n : ℕ). seat.frame < n) (sym free.sized) lies.counted;
       busy = λ z. lies.busy (sym (free.others seat.frame off) ∙ z);
     }
-
--- the slot lies at the place of the word's fields, whatever the fields are read from
-pub lies_at_fields : (far : FarState) (w place : ℕ) (f : PtrWord) (seat : Seat) → f.place ≡ place
-    → LiesIn far place seat → LiesIn far f.place seat
-lies_at_fields far w place f seat e lies = subst (λ (p : ℕ). LiesIn far p seat) (sym e) lies
 
 -- the far state once the old slot is empty too
 pub moved_far : (far before : FarState) (frames : List Bool) (spans : List (Option Contents))

@@ -174,13 +174,6 @@ gives_all seat w new sound lt leads =
     let fewer = gave.fewer in let same = length-reverse pins in
     (gave.stands, nil_from_length (pins_of_seat new.seats seat) (omega (arith, fewer, same)))
 
--- where the seat has no pin, all are given back
-pub gives_none : (seat : ℕ) (w : WorldState) → length (pins_of_seat w.seats seat) ≡ 0
-    → GivesAll seat w w
-gives_none seat w none = subst (λ (pins : List Pin).
-    Leads w (map (end_of seat) (reverse pins)) (replicate (length pins) answer.Done) w)
-    (sym (nil_from_length (pins_of_seat w.seats seat) none)) refl
-
 -- ---- the newest pin first
 
 -- the newest pin was given back: whoever gives all back then gives all back from before

@@ -3,7 +3,7 @@ use Rattle.std.proofs.Common.{◌≡◌, ◌≢◌, ◌⊎◌, ℕ, zero, suc, �
 use Rattle.std.specs.Str.{bytes_eq}
 use native.Mathlib.Decide.{ℕ_discrete}
 use Rattle.std.proofs.lemmas.Bool.{cases_lt}
-use Rattle.std.proofs.lemmas.List.{append-nil, map_push, take_more, drop_more, get_or_past, length-replicate, length-set, get_or-set_same, get_or-set_other, get_or-replicate}
+use Rattle.std.proofs.lemmas.List.{append-nil, map_push, drop_more, get_or_past, length-replicate, length-set, get_or-set_same, get_or-set_other, get_or-replicate}
 use Rattle.std.proofs.lemmas.List.Sums.{fold_push, sum_by-cons, sum_by_push}
 use Rattle.cb_types.specs.declared.answer.Answer.{Answer}
 use Rattle.cb_types.specs.declared.request.Request.{Request}
@@ -398,16 +398,3 @@ pub lane_below : (lines : List Line) (i : ℕ) (l : Line) → AreLanes (lanes_of
 lane_below [] i l are lt at = absurd (omega (arith, lt))
 lane_below (x ∷ lines) zero l are lt at = subst (λ (y : Line). y.lane.n < 16) (sym at) are.0
 lane_below (x ∷ lines) (suc i) l are lt at = lane_below lines i l are.1 (omega (arith, lt)) at
-
--- one line was counted
-pub left_line : (lines : List Line) (left : List ℕ) (i lane : ℕ) (l : Line) → AreLanes (lanes_of lines)
-    → i < length lines → l ≡ get_or lines i l → lane ≡ l.lane.n → AreLeft (lanes_of (take i lines)) left
-    → AreLeft (lanes_of (take (i + 1) lines)) (set left lane (get_or left lane 0 + 1))
-left_line lines left i lane l are lt at same counted =
-    subst (λ (ls : List Line). AreLeft (lanes_of ls) (set left lane (get_or left lane 0 + 1)))
-    (sym (take_more lines i l lt ∙ ap (λ (x : Line). take i lines ++ x ∷ []) (sym at)))
-    (subst (λ (lanes : List ℕ). AreLeft lanes (set left lane (get_or left lane 0 + 1)))
-    (ap (λ (n : ℕ). lanes_of (take i lines) ++ n ∷ []) same
-    ∙ sym (map_push (λ (x : Line). x.lane.n) (take i lines) l))
-    (left_more (lanes_of (take i lines)) left lane (get_or left lane 0 + 1)
-    (subst (λ (n : ℕ). n < 16) (sym same) (lane_below lines i l are lt at)) refl counted))

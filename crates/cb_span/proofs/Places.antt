@@ -1,9 +1,9 @@
 -- Where slots lie in memory: the laws that the crates above cite.
 use Rattle.std.proofs.Common.{◌≡◌, ℕ, ◌+◌, ◌*◌, ◌/◌, ◌%◌, ◌^◌, ◌<◌, ◌≤◌, ap, sym, ◌∙◌, arith}
-use Rattle.std.proofs.Math.Nat.{div-add-mod, mul-div_right}
+use Rattle.std.proofs.Math.Nat.{mul-div_right}
 use Rattle.cb_class.specs.declared.class.Class.{Class}
 use Rattle.cb_class.specs.Class.{IsClass, slots_of, words_of}
-use Rattle.cb_class.proofs.Laws.{slot_within, slots_apart, words_at_least}
+use Rattle.cb_class.proofs.Laws.{slot_within, words_at_least}
 use Rattle.cb_span.specs.Places.{frame_of, slot_of, slot_place}
 
 -- a slot lies within the 512 words of its frame
@@ -22,22 +22,11 @@ pub frames_apart : (a b : Class) (f g s t : ℕ) → IsClass a → s < slots_of 
     → slot_place a f s + words_of a ≤ slot_place b g t
 frames_apart a b f g s t known within below = omega (arith, slot_within a s known within)
 
--- two slots of one frame do not overlap
-pub slot_places_apart : (class : Class) (frame s t : ℕ) → s < t
-    → slot_place class frame s + words_of class ≤ slot_place class frame t
-slot_places_apart class frame s t below = omega (arith, slots_apart class s t below)
-
 -- the frame of a slot's place, and of every word of the slot
 pub frame_of-slot_place : (class : Class) (frame slot : ℕ) → IsClass class → slot < slots_of class
     → frame_of (slot_place class frame slot) ≡ frame
 frame_of-slot_place class frame slot known within =
     omega (arith, slot_within class slot known within, words_at_least class known)
-
-pub frame_of-word : (class : Class) (frame slot word : ℕ) → IsClass class
-    → slot < slots_of class → word < words_of class
-    → frame_of (slot_place class frame slot + word) ≡ frame
-frame_of-word class frame slot word known within inside =
-    omega (arith, slot_within class slot known within)
 
 -- the slot of a slot's place
 pub slot_of-slot_place : (class : Class) (frame slot : ℕ) → IsClass class → slot < slots_of class
@@ -47,15 +36,6 @@ slot_of-slot_place class frame slot known within =
     let low : slot_place class frame slot % 512 ≡ words_of class * slot =
     omega (arith, slot_within class slot known within, words_at_least class known) in
     ap (λ n. n / words_of class) low ∙ mul-div_right slot some
-
--- a place that is a whole number of slots into its frame is the place of that slot
-pub slot_place-of_place : (class : Class) (place : ℕ) → IsClass class
-    → place % 512 % words_of class ≡ 0
-    → slot_place class (frame_of place) (slot_of class place) ≡ place
-slot_place-of_place class place known whole =
-    let some : 0 < words_of class = omega (arith, words_at_least class known) in
-    let split = div-add-mod (place % 512) (words_of class) in
-    omega (arith, split, whole)
 
 -- slots at one place are one slot
 pub same_slot : (class : Class) (f g s t : ℕ) → IsClass class → s < slots_of class

@@ -71,14 +71,6 @@ swapped_no_frame f e = cc
 same_frame : (f g : ℕ) → answer.Swapped f ≡ answer.Swapped g → f ≡ g
 same_frame f g e = cc
 
--- an unavailable set is broken
-pub only_broken : (far : FarState) (id : ℕ) (set : SetState) (i : SetId) (l : List Loss)
-    → swap_answer far id set ≡ answer.Unavailable i l → is_broken far.members set ≡ true
-only_broken far id set i l = by_answer
-    (λ (r : Reply). r ≡ answer.Unavailable i l → is_broken far.members set ≡ true) far id set
-    (λ broken e. broken) (λ whole none e. absurd (no_frame_unavailable i l e))
-    (λ f whole least e. absurd (swapped_unavailable f i l e))
-
 -- where no frame is found, the set is not broken and none is free
 pub only_no_frame : (far : FarState) (id : ℕ) (set : SetState)
     → swap_answer far id set ≡ answer.NoFrame

@@ -6,9 +6,7 @@ use Rattle.cb_set.specs.SetState.{SetState, dead_position, position_of, with_pos
 use Rattle.cb_set.specs.Lost.{lost_at}
 use Rattle.cb_span.specs.declared.temp.Temp.TheVariants.{Hot}
 use Rattle.cb_span.specs.Contents.{Contents, span_of}
-use Rattle.cb_types.specs.declared.handle.SetId.{SetId}
 use Rattle.cb_types.specs.declared.reply.Reply.{Reply}
-use Rattle.cb_member.specs.declared.names.Loss.{Loss}
 use Rattle.cb_types.specs.declared.reply.Reply.TheVariants as answer
 use Rattle.cb_world.specs.declared.shown.Shown.{Shown}
 use Rattle.cb_world.specs.Plain.{Words}
@@ -20,7 +18,7 @@ use Rattle.cb_world.specs.World.{IsKnown}
 use Rattle.cb_world.proofs.SetsLeft.{left_count, left_given, left_room}
 use Rattle.cb_swapin.specs.SwapRule.{IsSwappedTo}
 use Rattle.cb_swapin.specs.SwapStep.{IsSwapped, SwapChange, IsSwapStep}
-use Rattle.cb_swapin.proofs.SwapAnswers.{by_answer, broken_answer, no_frame_answer, swapped_answer, unavailable_answer, only_broken, only_no_frame, only_swapped}
+use Rattle.cb_swapin.proofs.SwapAnswers.{by_answer, only_no_frame}
 
 -- a swap-in changes nothing, or brings the position into the least free frame
 pub step_cases : (P : Type 0) (x y : Words) (far new : FarState) (id p : ℕ) (r : Reply)
@@ -35,41 +33,10 @@ step_cases P x y far new id p r z stays comes =
     (subst (SwapChange x y far new id p z.set) z.reply z.change)
 
 -- ---- the reply
--- a set that has lost more shards than it has parities is unavailable
-pub step_broken : (x y : Words) (far new : FarState) (id p : ℕ) (r : Reply)
-    → (z : IsSwapStep x y far new id p r) → is_broken far.members z.set ≡ true
-    → r ≡ unavailable_answer far id z.set
-step_broken x y far new id p r z broken = z.reply ∙ broken_answer far id z.set broken
-
--- else a frame is wanting where none is free
-pub step_no_frame : (x y : Words) (far new : FarState) (id p : ℕ) (r : Reply)
-    → (z : IsSwapStep x y far new id p r) → is_broken far.members z.set ≡ false
-    → least_free far.frames ≡ None → r ≡ answer.NoFrame
-step_no_frame x y far new id p r z whole none =
-    z.reply ∙ no_frame_answer far id z.set whole none
-
--- else the position comes into the least free frame
-pub step_swapped : (x y : Words) (far new : FarState) (id p : ℕ) (r : Reply) (f : ℕ)
-    → (z : IsSwapStep x y far new id p r) → is_broken far.members z.set ≡ false
-    → least_free far.frames ≡ Some f → r ≡ answer.Swapped f
-step_swapped x y far new id p r f z whole least =
-    z.reply ∙ swapped_answer far id z.set f whole least
-
--- and no other set is unavailable
-pub step_only_broken : (x y : Words) (far new : FarState) (id p : ℕ) (i : SetId) (l : List Loss)
-    → (z : IsSwapStep x y far new id p (answer.Unavailable i l))
-    → is_broken far.members z.set ≡ true
-step_only_broken x y far new id p i l z = only_broken far id z.set i l (sym z.reply)
-
 pub step_only_no_frame : (x y : Words) (far new : FarState) (id p : ℕ)
     → (z : IsSwapStep x y far new id p answer.NoFrame)
     → (is_broken far.members z.set ≡ false) × (least_free far.frames ≡ None)
 step_only_no_frame x y far new id p z = only_no_frame far id z.set (sym z.reply)
-
-pub step_only_swapped : (x y : Words) (far new : FarState) (id p f : ℕ)
-    → (z : IsSwapStep x y far new id p (answer.Swapped f))
-    → (is_broken far.members z.set ≡ false) × (least_free far.frames ≡ Some f)
-step_only_swapped x y far new id p f z = only_swapped far id z.set f (sym z.reply)
 
 -- ---- the far state
 -- The far state has as many frames, homes and nodes as it had, and the same counts, members, handles

@@ -3,7 +3,6 @@
 use Rattle.std.proofs.Common.{◌≡◌, ◌≢◌, ℕ, false, nat_eq, ◌+◌, ◌*◌, ◌/◌, ◌%◌, ◌^◌, ◌<◌, ◌≤◌, List, Option, Some, None, length, refl, sym, ap, ◌∙◌, subst, arith, inl, inr, get_or-set_same}
 use Rattle.cb_class.specs.declared.class.Class.{Class}
 use Rattle.cb_frame.specs.FreeFrames.{least_free}
-use Rattle.cb_gf256.specs.Rows.{row_at}
 use Rattle.cb_ptr.specs.declared.word.State.TheVariants as pointer
 use Rattle.cb_ptr.specs.Word.{numbered_state, state_of, hot_of, len_of, place_of, pins_of}
 use Rattle.cb_ptr.proofs.Laws.{len_of-below}
@@ -16,24 +15,19 @@ use Rattle.cb_types.specs.declared.reply.Reply.TheVariants as answer
 use Rattle.cb_world.specs.declared.object.Object.{Object}
 use Rattle.cb_world.specs.declared.object.Object.TheVariants as is
 use Rattle.cb_world.specs.declared.shown.Shown.{Shown}
-use Rattle.cb_world.specs.Memory.{window, words_for}
 use Rattle.cb_world.specs.Shown.{Fits, object_at}
 use Rattle.cb_world.specs.Plain.{Words}
 use Rattle.cb_world.specs.StillDesk.{here_is}
-use Rattle.cb_world.specs.StillWords.{contents_at}
 use Rattle.cb_world.specs.Sets.{set_in}
 use Rattle.cb_world.specs.declared.homes.Home.{Home}
 use Rattle.cb_world.specs.Homes.{home_at}
 use Rattle.cb_world.specs.FarState.{FarState, span_in}
 use Rattle.cb_world.specs.LocalSound.{LiesAt}
 use Rattle.cb_world.specs.World.{word_at, IsKnown}
-use Rattle.cb_world.proofs.Apart.{slot_inside}
-use Rattle.cb_world.proofs.NowSame.{IsNearAt, bits, near_object}
 use Rattle.cb_swapin.specs.Named.{Names}
 use Rattle.cb_swapin.specs.SwapStep.{IsSwapped, IsSwapStep, brought_word}
 use Rattle.cb_swapin.proofs.SlotNames.{named_or_not}
 use Rattle.cb_swapin.proofs.Waits.{free_frame}
-use Rattle.cb_swapin.proofs.ArrivedFar.{other_words}
 use Rattle.cb_swapin.proofs.SwapAnswers.{only_swapped}
 use Rattle.cb_swapin.proofs.SwapWords.{far_within}
 use Rattle.cb_swapin.proofs.SwapKeeps.{step_cases}
@@ -117,27 +111,6 @@ come_in x y far new s t id p set f k l there least w slot h named =
     }
 
 -- ---- every other object
--- the word of an object that is not far stays
-pub near_stays : (x y : Words) (far new : FarState) (id p : ℕ) (r : Reply) (s : Shown)
-    → IsKnown x far s → IsSwapStep x y far new id p r → (h : ℕ)
-    → (state_of (word_at x h) ≡ pointer.Far → ⊥) → word_at y h ≡ word_at x h
-near_stays x y far new id p r s k z h near =
-    step_cases (word_at y h ≡ word_at x h) x y far new id p r z
-    (λ same. ap (λ (q : Words). word_at q h) same.0)
-    (λ f whole least e w. elim (named_or_not (position_of z.set p).slots h) [
-      | inl named ↦
-          absurd (near (named_far x far s id p z.set k z.there named.0 h named.1).far)
-      | inr off ↦ w.words.others h off
-    ])
-
--- and so that of one that is here
-pub here_stays : (x y : Words) (far new : FarState) (id p : ℕ) (r : Reply) (s : Shown)
-    → IsKnown x far s → IsSwapStep x y far new id p r → (h : ℕ)
-    → state_of (word_at x h) ≡ pointer.Here → word_at y h ≡ word_at x h
-here_stays x y far new id p r s k z h here = near_stays x y far new id p r s k z h
-    (λ away. let a = bits (word_at x h) pointer.Here here in
-    let b = bits (word_at x h) pointer.Far away in omega (arith, a, b))
-
 -- the pins of each word stay
 pub pins_stay : (x y : Words) (far new : FarState) (id p : ℕ) (r : Reply) (s : Shown)
     → IsKnown x far s → IsSwapStep x y far new id p r → (h : ℕ)
@@ -167,38 +140,6 @@ pinned_stays x y far new id p r s k z h pinned =
 
 some_none : {X : Type 0} (o : Option X) (a : X) → o ≡ None → o ≡ Some a → ⊥
 some_none o a e f = cc
-
--- the memory words of an object that is here stay, as those of one that is moving do
-pub contents_stay : (x y : Words) (far new : FarState) (id p : ℕ) (r : Reply) (s : Shown)
-    → IsKnown x far s → IsSwapStep x y far new id p r → (h : ℕ) → h < length x.words
-    → 2 ≤ word_at x h % 4 → contents_at y h ≡ contents_at x h
-contents_stay x y far new id p r s k z h below near =
-    step_cases (contents_at y h ≡ contents_at x h) x y far new id p r z
-    (λ same. ap (λ (q : Words). contents_at q h) same.0)
-    (λ f whole least e w. moved f (free_frame s far f k.sound.here least) w
-    (near_stays x y far new id p r s k z h (λ away. let b = bits (word_at x h) pointer.Far away in
-    omega (arith, b, near))))
-  where
-    v : ℕ
-    v = word_at x h
-
-    lies : IsNearAt (object_at s h) v → LiesAt (object_at s h) (len_of v) (place_of v)
-    lies (inl o) = subst (λ (q : Object). LiesAt q (len_of v) (place_of v)) (sym o) (refl, refl)
-    lies (inr (n, words, o)) =
-        subst (λ (q : Object). LiesAt q (len_of v) (place_of v)) (sym o) (refl, refl)
-
-    moved : (f : ℕ) → (f < length far.spans) × (span_in far.spans f ≡ None)
-        → IsSwapped x y far new id p z.set f → word_at y h ≡ v → contents_at y h ≡ contents_at x h
-    moved f free w same =
-        let c = k.sound.here.placed.placed h (len_of v) (place_of v)
-        (lies (near_object (object_at s h) v (k.shows.fit h below) near)) in
-        let inside = slot_inside far s h (len_of v) (place_of v) k.sound.here c in
-        let off : c.frame ≢ f = λ at. some_none (span_in far.spans f) c.span free.1
-        (ap (span_in far.spans) (sym at) ∙ c.there) in
-        ap (λ (n : ℕ). window y.memory (place_of n) (words_for (len_of n))) same
-        ∙ ap (λ (l : List ℕ). window l (place_of v) (words_for (len_of v))) w.words.memory
-        ∙ other_words x.memory f c.frame (row_at w.rows p) off (place_of v) (words_for (len_of v))
-        inside.0 inside.1
 
 -- ---- a step that came into a frame
 -- each object that the position names came in
