@@ -50,7 +50,7 @@ abbrev pub AreWords : List (List ℕ) → Type 0
 AreWords [] = Unit {0}
 AreWords (word ∷ words) = IsWord word × AreWords words
 
-abbrev is_word : List ℕ → Bool
+abbrev pub is_word : List ℕ → Bool
 is_word [] = true
 is_word (b ∷ bytes) = leb 33 b && is_word bytes
 
@@ -62,7 +62,7 @@ above_from_test (b ∷ bytes) h =
     All-cons (λ b. 32 < b) b bytes (omega arith) (above_from_test bytes parts.1)
 
 -- a word that is written out
-word_from_test : (b : ℕ) (bytes : List ℕ) → is_word (b ∷ bytes) ≡ true → IsWord (b ∷ bytes)
+pub word_from_test : (b : ℕ) (bytes : List ℕ) → is_word (b ∷ bytes) ≡ true → IsWord (b ∷ bytes)
 word_from_test b bytes h = record { some = omega arith; each = above_from_test (b ∷ bytes) h }
 
 above_digits : (word : List ℕ) → AllDigits 10 word → All (λ b. 32 < b) word
@@ -85,14 +85,14 @@ above_lower b (inr letter) = omega arith
 IsWord-name : (name : List ℕ) → IsName name → IsWord name
 IsWord-name name is = record { some = omega (arith, is.some); each = All-weaker IsNameByte (λ b. 32 < b) above_name name is.each }
 
-IsWord-encoded : (bytes : List ℕ) → 1 ≤ length bytes → All (λ b. b < 256) bytes → IsWord (encode_lower bytes)
+pub IsWord-encoded : (bytes : List ℕ) → 1 ≤ length bytes → All (λ b. b < 256) bytes → IsWord (encode_lower bytes)
 IsWord-encoded bytes some each = record { some = omega (arith, some, length-encode_with lower_digits bytes); each = All-weaker IsLowerDigit (λ b. 32 < b) above_lower (encode_lower bytes) (lower_encoded bytes each) }
 
 IsWord-change : (bytes : List ℕ) → IsChange bytes → IsWord (change_text bytes)
 IsWord-change [] change = word_from_test 45 [] refl
 IsWord-change (b ∷ bytes) change = IsWord-encoded (b ∷ bytes) (omega arith) change.each
 
-IsWord-setting : (b : ℕ) (name : List ℕ) (n : ℕ) → is_word (b ∷ name) ≡ true → n < 10 ^ 9 → IsWord (setting (b ∷ name) n)
+pub IsWord-setting : (b : ℕ) (name : List ℕ) (n : ℕ) → is_word (b ∷ name) ≡ true → n < 10 ^ 9 → IsWord (setting (b ∷ name) n)
 IsWord-setting b name n is small = record {
   some = omega arith;
   each = All-append (λ b. 32 < b) (b ∷ name) (61 ∷ decimal n) (above_from_test (b ∷ name) is) (All-cons (λ b. 32 < b) 61 (decimal n) (omega arith) (IsWord-decimal n small).each);

@@ -29,7 +29,7 @@ pub(crate) fn cut_at(bytes: &[u8], separator: u8) -> Option<(&[u8], &[u8])>
 }
 
 /// The first line of a text that is not empty, and the text behind its line feed.
-pub(crate) fn first_line(text: &[u8]) -> (&[u8], &[u8])
+pub fn first_line(text: &[u8]) -> (&[u8], &[u8])
     requires { 0 < length text.now }
     ensures lines { lines_of text.now ≡ result.0.now ∷ lines_of result.1.now }
     ensures shorter { length result.1.now < length text.now }
@@ -42,7 +42,7 @@ pub(crate) fn first_line(text: &[u8]) -> (&[u8], &[u8])
 
 /// Puts the words of a line into these places. Answers how many there are, and None where there
 /// are more than places.
-pub(crate) fn words_into<'a>(text: &'a [u8], words: &mut [&'a [u8]]) -> Option<usize>
+pub fn words_into<'a>(text: &'a [u8], words: &mut [&'a [u8]]) -> Option<usize>
     ensures cut { MatchOption result
         (length words.old < length (words_of text.entry.now))
         (λ count. texts (take count words.new) ≡ words_of text.entry.now) }

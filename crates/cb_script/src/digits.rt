@@ -23,7 +23,7 @@ static VALUES: [u8; 256] = [
 
 /// The bytes that an even number of lower-case hexadecimal digits spell, and None where one of the
 /// bytes of the text is no such digit.
-pub(crate) fn spelled_bytes(alloc: Global, text: &[u8]) -> Result<Option<Bytes>, NoMemory>
+pub fn spelled_bytes(alloc: Global, text: &[u8]) -> Result<Option<Bytes>, NoMemory>
     requires even { length text.now % 2 ≡ 0 }
     ensures { IfOk result (λ found. MatchOption found (All IsLowerDigit text.now → ⊥)
         (λ bytes. All (λ b. b < 256) bytes × (text.now ≡ encode_lower bytes))) }

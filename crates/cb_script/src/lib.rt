@@ -4,26 +4,30 @@
 #![tactic(auto)]
 
 mod contents;
-mod cut;
-mod digits;
+pub mod cut;
+pub mod digits;
 pub mod fault;
 mod header;
 mod known;
 pub mod laws;
 mod line;
 mod name;
-mod number;
+pub mod number;
 mod phrase;
 pub mod print;
 pub mod read;
 mod request;
 pub mod script;
 pub mod unbuilt;
-mod verb;
+pub mod verb;
 
+pub use cut::{first_line, words_into};
+pub use digits::spelled_bytes;
 pub use fault::{Reason, ScriptFault};
 pub use laws::script_laws;
+pub use number::{number_of, setting_of};
 pub use print::print_script;
 pub use read::read_script;
 pub use script::{Line, Lines, Mode, Script};
 pub use unbuilt::first_unbuilt;
+pub use verb::is_word;

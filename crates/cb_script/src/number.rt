@@ -13,7 +13,7 @@ const LAST_LANE: u32 = 15;
 const LAST_START: u32 = 1024;
 
 /// The number that the word spells: 0, or a digit 1 to 9 and at the most eight digits behind it.
-pub(crate) fn number_of(word: &[u8]) -> Option<u32>
+pub fn number_of(word: &[u8]) -> Option<u32>
     ensures { Finds result (λ n. IsNumber word.now n) }
 {
     if word.is_empty() {
@@ -26,7 +26,7 @@ pub(crate) fn number_of(word: &[u8]) -> Option<u32>
 }
 
 /// The number that is set under this name, as in `name=7`.
-pub(crate) fn setting_of(word: &[u8], name: &[u8]) -> Option<u32>
+pub fn setting_of(word: &[u8], name: &[u8]) -> Option<u32>
     ensures { Finds result (λ n. (n < 10 ^ 9) × (word.now ≡ setting name.now n)) }
 {
     let value = word.strip_prefix(name)?;

@@ -119,7 +119,7 @@ pub(crate) fn bare_verb_of(word: &[u8]) -> Option<BareVerb>
 }
 
 /// Whether the word is this one.
-pub(crate) fn is_word(word: &[u8], wanted: &[u8]) -> bool
+pub fn is_word(word: &[u8], wanted: &[u8]) -> bool
     ensures { IsTrue result ↔ (word.now ≡ wanted.now) }
 {
     word == wanted
