@@ -1,0 +1,5 @@
+pub mod RowTexts
+pub mod HeaderText
+pub mod RowsRead
+pub mod Fronts
+pub mod OneReading
