@@ -16,6 +16,8 @@ pub enum Command {
     Seq,
     /// Read a script, and tell how many lines and lanes it has.
     Check,
+    /// Examine the rows of a span-set, and make one wrong row right.
+    Scrub,
 }
 
 /// The command that the words name, and None exactly where they name none.
@@ -69,6 +71,7 @@ fn named(word: &str) -> Option<Command>
     match word {
         "seq" => Some(Command::Seq),
         "check" => Some(Command::Check),
+        "scrub" => Some(Command::Scrub),
         _ => None,
     }
 }

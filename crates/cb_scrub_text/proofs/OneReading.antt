@@ -18,7 +18,7 @@ use Rattle.cb_cli.specs.declared.verdict.Verdict.TheVariants.{Done, Refused}
 use Rattle.cb_scrub_text.specs.declared.asked.Asked.{Asked}
 use Rattle.cb_scrub_text.specs.Form.{IsAsked, Spells, header_line, asked_lines}
 use Rattle.cb_scrub_text.specs.FirstBad.{Begin, StopBefore, IsBadLine, IsFirstBad}
-use Rattle.cb_scrub_text.specs.Told.{TellsFound, FindsAndTells, Tells, Refuses, IsVerdict, mended_text, refusal_text}
+use Rattle.cb_scrub_text.specs.Verdicts.{TellsFound, FindsAndTells, Yields, Refuses, Accepts, IsVerdict, mended_text, refusal_text}
 use Rattle.cb_scrub_text.proofs.HeaderText.{one_header}
 use Rattle.cb_scrub_text.proofs.RowTexts.{one_row}
 
@@ -123,22 +123,25 @@ finds_one a form t u x y =
     let same : x.found ≡ y.found = one_finding a.r a.rows (have_parities a form) x.found y.found x.is_found y.is_found in
     one_told a form y.found y.is_found t u (subst (λ (f : Found). TellsFound a f t) same x.told) y.told
 
-pub one_text : (bytes t u : List ℕ) → Tells bytes t → Tells bytes u → t ≡ u
+pub one_text : (bytes t u : List ℕ) → Yields bytes t → Yields bytes u → t ≡ u
 one_text bytes t u x y =
     let same : x.asked ≡ y.asked = one_asked bytes x.asked y.asked x.spelled y.spelled in
     finds_one y.asked y.spelled.form t u (subst (λ (a : Asked). FindsAndTells a t) same x.tells) y.tells
 
 pub one_refusal : (bytes t u : List ℕ) → Refuses bytes t → Refuses bytes u → t ≡ u
-one_refusal bytes t u (m, bad, is) (n, worse, are) = is ∙ ap refusal_text (one_first_bad bytes m n bad worse) ∙ sym are
+one_refusal bytes t u x y = x.text_is ∙ ap refusal_text (one_first_bad bytes x.line y.line x.first y.first) ∙ sym y.text_is
 
--- no bytes are told of and refused
-pub not_both : (bytes t u : List ℕ) → Tells bytes t → Refuses bytes u → ⊥
-not_both bytes t u x (line, bad, is) = spelled_not_bad bytes x.asked line x.spelled bad
+-- bytes that spell rows are not refused
+pub accepted_not_refused : (bytes text : List ℕ) → Accepts bytes → Refuses bytes text → ⊥
+accepted_not_refused bytes text accepted refused = spelled_not_bad bytes accepted.asked refused.line accepted.spelled refused.first
+
+not_both : (bytes t u : List ℕ) → Yields bytes t → Refuses bytes u → ⊥
+not_both bytes t u yields refused = accepted_not_refused bytes u (record { asked = yields.asked; spelled = yields.spelled }) refused
 
 -- ---- what is answered is the only answer
 
 module _ (bytes : List ℕ) where
-  pub only_told : (result : Result Verdict NoMemory) (text : List ℕ) → IfOk result (IsVerdict bytes) → Tells bytes text → (result ≡ Ok (Done text)) ⊎ IsErr result
+  pub only_told : (result : Result Verdict NoMemory) (text : List ℕ) → IfOk result (IsVerdict bytes) → Yields bytes text → (result ≡ Ok (Done text)) ⊎ IsErr result
   only_told (Ok (Done t)) text right told = inl (ap (λ (u : List ℕ). Ok (Done u)) (one_text bytes t text right told))
   only_told (Ok (Refused t)) text right told = absurd (not_both bytes text t told right)
   only_told (Err e) text right told = inr refl

@@ -1,4 +1,4 @@
 pub mod Form
 pub mod FirstBad
-pub mod Told
+pub mod Verdicts
 pub mod Reading

@@ -1,5 +1,5 @@
 ghost use Rattle.std.specs.Prelude.{◌≡◌, ◌⊎◌, ℕ, List, Ok, IsErr, IfOk};
-ghost use Rattle.cb_scrub_text.specs.Told.{IsVerdict, Tells, Refuses};
+ghost use Rattle.cb_scrub_text.specs.Verdicts.{IsVerdict, Yields, Refuses};
 
 use crate::reading::{Reading, reading_of};
 use crate::telling::{refusal_text, told_of};
@@ -13,7 +13,7 @@ use std::alloc::Global;
 /// memory.
 pub fn scrub_bytes(alloc: Global, bytes: &[u8]) -> Result<Verdict, NoMemory>
     ensures verdict { IfOk result (IsVerdict bytes.now) }
-    ensures told { (text : List ℕ) → Tells bytes.now text
+    ensures yields { (text : List ℕ) → Yields bytes.now text
         → (result ≡ Ok (Verdict.Done text)) ⊎ IsErr result }
     ensures refused { (text : List ℕ) → Refuses bytes.now text
         → (result ≡ Ok (Verdict.Refused text)) ⊎ IsErr result }

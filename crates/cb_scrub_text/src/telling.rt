@@ -2,7 +2,7 @@
 ghost use Rattle.std.specs.Prelude.{◌≡◌, ◌∷◌, ◌++◌, [], IfOk, OnOk};
 ghost use Rattle.hex.specs.Hex.{encode_lower};
 ghost use Rattle.cb_scrub_text.specs.Form.{IsAsked};
-ghost use Rattle.cb_scrub_text.specs.Told.{FindsAndTells, mended_text, many_text, refusal_text};
+ghost use Rattle.cb_scrub_text.specs.Verdicts.{FindsAndTells, mended_text, many_text, refusal_text};
 
 use crate::asked::Asked;
 use cb_gf256::Rows;

@@ -1,6 +1,6 @@
 use Rattle.std.proofs.Common.{◌≡◌, ◌++◌, take}
 use Rattle.std.specs.List.{flat_map}
-use Rattle.cb_scrub_text.specs.Told.{row_text}
+use Rattle.cb_scrub_text.specs.Verdicts.{row_text}
 use Rattle.cb_scrub_text.proofs.telling.mended_text.Given as goal
 
 -- the rows so far are told

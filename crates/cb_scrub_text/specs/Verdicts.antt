@@ -1,4 +1,4 @@
--- What is told of bytes.
+-- What is made of bytes.
 use Rattle.std.specs.Prelude.{◌≡◌, ℕ, List, [], ◌∷◌, ◌++◌, codes}
 use Rattle.std.specs.List.{flat_map}
 use Rattle.std.specs.Fmt.{decimal}
@@ -47,16 +47,23 @@ pub record FindsAndTells (a : Asked) (text : List ℕ) : Type 0 where
   pub told : TellsFound a found text
 
 -- the bytes spell rows, and the text tells what these are
-pub record Tells (bytes text : List ℕ) : Type 0 where
+pub record Yields (bytes text : List ℕ) : Type 0 where
   pub asked : Asked
   pub spelled : Spells bytes asked
   pub tells : FindsAndTells asked text
 
 -- the bytes are outside the form, and the text tells the first line that is
-abbrev pub Refuses : List ℕ → List ℕ → Type 0
-Refuses bytes text = (line : ℕ) × IsFirstBad bytes line × (text ≡ refusal_text line)
+pub record Refuses (bytes text : List ℕ) : Type 0 where
+  pub line : ℕ
+  pub first : IsFirstBad bytes line
+  pub text_is : text ≡ refusal_text line
 
--- the verdict on bytes
+-- the bytes spell rows
+pub record Accepts (bytes : List ℕ) : Type 0 where
+  pub asked : Asked
+  pub spelled : Spells bytes asked
+
+-- rows are examined, and other bytes are refused
 abbrev pub IsVerdict : List ℕ → Verdict → Type 0
-IsVerdict bytes (Done text) = Tells bytes text
+IsVerdict bytes (Done text) = Yields bytes text
 IsVerdict bytes (Refused text) = Refuses bytes text
