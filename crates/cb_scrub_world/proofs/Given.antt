@@ -1,7 +1,7 @@
 -- The rows of a set that are given out one after the other.
-use Rattle.std.proofs.Common.{◌≡◌, ◌≢◌, ℕ, zero, suc, ◌+◌, ◌<◌, true, Bool, List, [], ◌∷◌, length, get_or, set, Option, None, Some, is_some, All, refl, sym, ap, ◌∙◌, subst, ext_get_or, arith, inl, inr}
+use Rattle.std.proofs.Common.{◌≡◌, ℕ, zero, suc, ◌+◌, ◌<◌, true, List, [], ◌∷◌, length, set, Option, None, Some, is_some, All, refl, sym, ap, ◌∙◌, subst, ext_get_or, arith, inl, inr}
 use Rattle.std.specs.List.{slice_get}
-use Rattle.std.specs.Option.{IfSome, unwrap_or}
+use Rattle.std.specs.Option.{unwrap_or}
 use Rattle.std.proofs.lemmas.Bool.{cases_eq}
 use Rattle.std.proofs.lemmas.List.{get_or-set_same, get_or-set_other, length-map}
 use Rattle.std.proofs.lemmas.List.Elements.{All-head, All-tail}
@@ -9,7 +9,7 @@ use Rattle.cb_gf256.specs.Rows.{row_at, HaveLength}
 use Rattle.cb_gf256.specs.Block.{with_row}
 use Rattle.cb_gf256.proofs.PublicLaws.{written_count, written_row, written_lengths}
 use Rattle.cb_member.specs.declared.names.Shard.{Shard}
-use Rattle.cb_node.specs.NodesState.{NodesState, has, known_row, row_at as row_under}
+use Rattle.cb_node.specs.NodesState.{NodesState, known_row, row_at as row_under}
 use Rattle.cb_world.specs.Fetched.{with_given}
 use Rattle.cb_scrub_world.specs.Standing.{Stands, rows_of}
 

@@ -1,3 +1,4 @@
 pub mod Walked
 pub mod Given
 pub mod After
+pub mod Scrubs

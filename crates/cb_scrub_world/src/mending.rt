@@ -1,6 +1,7 @@
-ghost use Rattle.std.specs.Prelude.{◌≡◌, ◌+◌, ◌^◌, ◌<◌, All, length, IfOk, OnErr};
+ghost use Rattle.std.specs.Prelude.{◌≡◌, ◌+◌, ◌^◌, ◌<◌, All, length, IfOk, OnErr, OnOk};
 ghost use Rattle.cb_set.specs.Nodes.{OnDistinctNodes};
 ghost use Rattle.cb_set.specs.SetState.{parities};
+ghost use Rattle.cb_gf256.specs.Rows.{AreRows};
 ghost use Rattle.cb_gf256.specs.InRange.{IsInRange};
 ghost use Rattle.cb_scrub_world.specs.Standing.{Stands, rows_of};
 ghost use Rattle.cb_scrub_world.specs.Scrub.{IsExamined, MakesRight, Replaces};
@@ -30,6 +31,17 @@ pub(crate) fn examine_set(
     ensures right { OnDistinctNodes set.now.shards → IfOk result (λ found.
         MakesRight (parities set.now) (rows_of nodes.old set.now.shards) found
         (rows_of nodes.new set.now.shards)) }
+    ensures error { OnErr result (nodes.new ≡ nodes.old) }
+{
+    examine_rows(alloc, nodes, set)
+}
+
+fn examine_rows(alloc: Global, nodes: &mut Nodes, set: &SpanSet) -> Result<Found, NoMemory>
+    requires range { IsInRange (length set.now.positions) (parities set.now) }
+    requires stand { All (Stands nodes.old) set.now.shards }
+    requires given { nodes.old.given + length set.now.shards < 2 ^ 64 }
+    ensures examined { IfOk result (λ found. IsExamined nodes.old set.now found nodes.new) }
+    ensures bytes { OnOk result (AreRows (rows_of nodes.old set.now.shards)) }
     ensures error { OnErr result (nodes.new ≡ nodes.old) }
 {
     let Ok(mut rows) = Rows::new(alloc, set.k() + set.r(), ROW_BYTES) else {

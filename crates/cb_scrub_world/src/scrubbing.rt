@@ -20,11 +20,7 @@ use std::alloc::Global;
 /// it is skipped; else all its rows are given out and examined, and where one row alone is wrong,
 /// that row is made right at its node. The world need not be sound: rows may be wrong. Want of
 /// memory changes nothing.
-pub fn scrub_next(
-    alloc: Global,
-    far: &mut Far,
-    after: Option<SetId>,
-) -> Result<Scrubbed, NoMemory>
+pub fn scrub_next(alloc: Global, far: &mut Far, after: Option<SetId>) -> Result<Scrubbed, NoMemory>
     requires { MayScrub far.old }
     ensures scrubs { IfOk result (λ scrubbed. Scrubs after far.old scrubbed far.new) }
     ensures word { IfOk result (λ scrubbed. KeepsWord far.old scrubbed far.new) }
