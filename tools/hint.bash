@@ -142,8 +142,34 @@ reason_text() {
     esac
 }
 
+# What a line of an input that is no script is: the line $2 of the mode $1.
+line_form() {
+    case $1:$2 in
+    *:0) echo "the input has more than 1,048,576 bytes" ;;
+    scrub:1) echo "line 1 is scrub 1 k=K r=R, K from 1 to 16 and R from 1 to 4" ;;
+    scrub:*) echo "behind line 1 stand K + R rows and no more, each of as many bytes, 1 to 4,096, in lower-case hexadecimal" ;;
+    esac
+}
+
+# Says what is wrong with the line $2 of an input of the mode $1.
+hint_of_line() {
+    local text
+    if [ "$2" = 0 ]; then
+        say "$(line_form "$1" 0)"
+        return
+    fi
+    text=$(line_of "$2"; echo .)
+    text=${text%.}
+    text=${text%$'\n'}
+    say "line $2, '$(printf '%s' "$text" | printable)': $(line_form "$1" "$2")"
+}
+
 hint_at_2() {
     local line text
+    if [[ $printed =~ ^([a-z]+)\ line\ ([0-9]+)\ refused$ ]]; then
+        hint_of_line "${BASH_REMATCH[1]}" "${BASH_REMATCH[2]}"
+        return
+    fi
     [[ $printed =~ ^script\ line\ ([0-9]+)\ reason\ ([0-9]+)\ [a-z]+$ ]] || return
     line=${BASH_REMATCH[1]}
     local reason=${BASH_REMATCH[2]}

@@ -1,0 +1,12 @@
+use Rattle.std.proofs.lemmas.Result.{IfOk-weaker}
+use Rattle.cb_cli.specs.declared.words.Command.TheVariants.{Scrub}
+use Rattle.cb_scrub_text.specs.Verdicts as scrubs
+use Rattle.cb_app.specs.Modes.{IsVerdict}
+use Rattle.cb_app.proofs.Modes.{scrub_verdict}
+use Rattle.cb_app.proofs.commands.obey.Goals as goal
+
+pub returns-in-Scrub-clause-verdict : goal.returns-in-Scrub-clause-verdict
+returns-in-Scrub-clause-verdict c =
+    let bytes = c.args.bytes.now in
+    let end = c.args.end.now in
+    IfOk-weaker c.scrub_bytes.result (scrubs.IsVerdict bytes) (IsVerdict Scrub bytes end end) (λ verdict is. scrub_verdict bytes end verdict is) c.scrub_bytes.ensures.verdict
