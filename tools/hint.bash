@@ -142,45 +142,40 @@ reason_text() {
     esac
 }
 
-# What a line of an input that is no script is: the line $2 of the mode $1.
-line_form() {
-    case $1:$2 in
-    *:0) echo "the input has more than 1,048,576 bytes" ;;
-    scrub:1) echo "line 1 is scrub 1 k=K r=R, K from 1 to 16 and R from 1 to 4" ;;
-    scrub:*) echo "behind line 1 stand K + R rows and no more, each of as many bytes, 1 to 4,096, in lower-case hexadecimal" ;;
-    esac
-}
-
-# Says what is wrong with the line $2 of an input of the mode $1.
-hint_of_line() {
-    local text
-    if [ "$2" = 0 ]; then
-        say "$(line_form "$1" 0)"
-        return
+# What is wrong with the line $2 of rows, which has the number $1.
+row_text() {
+    local stray
+    stray=$(stray_bytes "$2")
+    if [ "$1" = 0 ]; then
+        echo "the input has more than 1,048,576 bytes"
+    elif [ "$1" = 1 ]; then
+        echo "${stray:+$stray; }line 1 is scrub 1 k=K r=R, K a number 1 to 16 and R 1 to 4, without leading zeros"
+    elif [ -n "$stray" ]; then
+        echo "$stray"
+    else
+        echo "behind line 1 stand k + r rows and no more, each of as many bytes, 1 to 4,096, in lower-case hexadecimal"
     fi
-    text=$(line_of "$2"; echo .)
-    text=${text%.}
-    text=${text%$'\n'}
-    say "line $2, '$(printf '%s' "$text" | printable)': $(line_form "$1" "$2")"
 }
 
 hint_at_2() {
-    local line text
-    if [[ $printed =~ ^([a-z]+)\ line\ ([0-9]+)\ refused$ ]]; then
-        hint_of_line "${BASH_REMATCH[1]}" "${BASH_REMATCH[2]}"
+    local line text wrong
+    if [[ $printed =~ ^script\ line\ ([0-9]+)\ reason\ ([0-9]+)\ [a-z]+$ ]]; then
+        line=${BASH_REMATCH[1]}
+        wrong=(reason_text "${BASH_REMATCH[2]}")
+    elif [[ $printed =~ ^scrub\ line\ ([0-9]+)\ refused$ ]]; then
+        line=${BASH_REMATCH[1]}
+        wrong=(row_text "$line")
+    else
         return
     fi
-    [[ $printed =~ ^script\ line\ ([0-9]+)\ reason\ ([0-9]+)\ [a-z]+$ ]] || return
-    line=${BASH_REMATCH[1]}
-    local reason=${BASH_REMATCH[2]}
     if [ "$line" = 0 ]; then
-        say "$(reason_text "$reason" '')"
+        say "$("${wrong[@]}" '')"
         return
     fi
     text=$(line_of "$line"; echo .)
     text=${text%.}
     text=${text%$'\n'}
-    say "line $line, '$(printf '%s' "$text" | printable)': $(reason_text "$reason" "$text")"
+    say "line $line, '$(printf '%s' "$text" | printable)': $("${wrong[@]}" "$text")"
 }
 
 hint_at_1() {

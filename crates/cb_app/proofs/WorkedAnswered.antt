@@ -22,7 +22,7 @@ use Rattle.cb_world.specs.World.{WorldState, IsSoundWorld, empty_world}
 use Rattle.cb_app.specs.declared.ending.Ending.{Ending}
 use Rattle.cb_cli.specs.Taken.{IsTaken}
 use Rattle.cb_cli.specs.declared.words.Command.{Command}
-use Rattle.cb_cli.specs.declared.words.Command.TheVariants.{Seq, Check}
+use Rattle.cb_cli.specs.declared.words.Command.TheVariants.{Seq, Check, Scrub}
 use Rattle.cb_cli.proofs.WorkedWords.{seq_named, no_word}
 use Rattle.cb_app.specs.Modes.{Yields}
 use Rattle.cb_app.specs.Outcome.{IsDone, TellsScript}
@@ -150,17 +150,22 @@ tells_without_words : (old : Ending) (world : WorldState)
     → TellsScript [] (Some input) (Some []) (Some []) (Some text) old (ending_of world answers) → ⊥
 tells_without_words old world (due, is, put) = no_word is.command is.words_are
 
--- nothing is put
+-- nothing is put, and no command before left answers
 not_empty : (old : Ending) (world : WorldState) (command : Command) (bytes due : List ℕ)
-    → Yields command bytes old (ending_of world answers) due
+    → old.answers ≡ [] → Yields command bytes old (ending_of world answers) due
     → due ≡ [] → ⊥
-not_empty old world Seq bytes due is none = differ text [] (sym text_is ∙ sym is.3 ∙ none) refl
-not_empty old world Check bytes due is none = absurd (let e : answers ≡ [] = is.2.no_answers in cc)
+not_empty old world Seq bytes due before is none =
+    differ text [] (sym text_is ∙ sym is.3 ∙ none) refl
+not_empty old world Check bytes due before is none =
+    absurd (let e : answers ≡ [] = is.2.no_answers in cc)
+not_empty old world Scrub bytes due before is none =
+    absurd (let e : answers ≡ [] = ap (λ (end : Ending). end.answers) is.1 ∙ before in cc)
 
 tells_nothing : (words : List (String Global)) (old : Ending) (world : WorldState)
+    → old.answers ≡ []
     → TellsScript words (Some input) (Some []) (Some []) (Some []) old (ending_of world answers) → ⊥
-tells_nothing words old world (due, told, put) =
-    not_empty old world told.command told.bytes due told.yields (sym put)
+tells_nothing words old world before (due, told, put) =
+    not_empty old world told.command told.bytes due before told.yields (sym put)
 
 -- no lane has a pin, and a leave is told of one
 a_pin_too_many : (other : Script) (world : WorldState)

@@ -3,3 +3,4 @@ pub mod HeaderText
 pub mod RowsRead
 pub mod Fronts
 pub mod OneReading
+pub mod WorkedRows

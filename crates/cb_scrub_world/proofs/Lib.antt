@@ -2,3 +2,4 @@ pub mod Walked
 pub mod Given
 pub mod After
 pub mod Scrubs
+pub mod WorkedScrubs

@@ -9,4 +9,4 @@ pub returns-in-Scrub-clause-verdict : goal.returns-in-Scrub-clause-verdict
 returns-in-Scrub-clause-verdict c =
     let bytes = c.args.bytes.now in
     let end = c.args.end.now in
-    IfOk-weaker c.scrub_bytes.result (scrubs.IsVerdict bytes) (IsVerdict Scrub bytes end end) (λ verdict is. scrub_verdict bytes end verdict is) c.scrub_bytes.ensures.verdict
+    rw c.in-Scrub.is (IfOk-weaker c.scrub_bytes.result (scrubs.IsVerdict bytes) (IsVerdict Scrub bytes end end) (scrub_verdict bytes end) c.scrub_bytes.ensures.verdict)
