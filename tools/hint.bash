@@ -175,6 +175,21 @@ event_text() {
     fi
 }
 
+# What is wrong with the line $2 of rows, which has the number $1.
+row_text() {
+    local stray
+    stray=$(stray_bytes "$2")
+    if [ "$1" = 0 ]; then
+        echo "the input has more than 1,048,576 bytes"
+    elif [ "$1" = 1 ]; then
+        echo "${stray:+$stray; }line 1 is scrub 1 k=K r=R, K a number 1 to 16 and R 1 to 4, without leading zeros"
+    elif [ -n "$stray" ]; then
+        echo "$stray"
+    else
+        echo "behind line 1 stand k + r rows and no more, each of as many bytes, 1 to 4,096, in lower-case hexadecimal"
+    fi
+}
+
 hint_at_2() {
     local line text wrong
     if [[ $printed =~ ^script\ line\ ([0-9]+)\ reason\ ([0-9]+)\ [a-z]+$ ]]; then
@@ -183,6 +198,9 @@ hint_at_2() {
     elif [[ $printed =~ ^rma\ line\ ([0-9]+)\ refused$ ]]; then
         line=${BASH_REMATCH[1]}
         wrong=(event_text "$line")
+    elif [[ $printed =~ ^scrub\ line\ ([0-9]+)\ refused$ ]]; then
+        line=${BASH_REMATCH[1]}
+        wrong=(row_text "$line")
     else
         return
     fi

@@ -13,12 +13,14 @@ use Rattle.cb_script.specs.Reading.{FaultIs}
 use Rattle.cb_script.specs.Unbuilt.{IsBuilt, IsFirstUnbuilt}
 use Rattle.cb_script.proofs.OneReading.{script_unique, spells_no_fault}
 use Rattle.cb_cli.specs.declared.words.Command.{Command}
-use Rattle.cb_cli.specs.declared.words.Command.TheVariants.{Seq, Check, Rma}
+use Rattle.cb_cli.specs.declared.words.Command.TheVariants.{Seq, Check, Rma, Scrub}
 use Rattle.cb_cli.specs.Texts.{fault_text}
 use Rattle.cb_cli.specs.declared.verdict.Verdict.{Verdict}
 use Rattle.cb_cli.specs.declared.verdict.Verdict.TheVariants.{Done, Refused}
 use Rattle.cb_rma_text.specs.Verdicts as schedules
-use Rattle.cb_rma_text.proofs.OneReading.{accepted_not_refused}
+use Rattle.cb_rma_text.proofs.OneReading.{accepted_not_refused as schedule_not_refused}
+use Rattle.cb_scrub_text.specs.Verdicts as scrubs
+use Rattle.cb_scrub_text.proofs.OneReading.{accepted_not_refused as rows_not_refused}
 use Rattle.cb_app.specs.declared.ending.Ending.{Ending}
 use Rattle.cb_app.specs.Modes.{Accepts, Refuses, IsVerdict}
 use Rattle.cb_app.specs.Scripts.{IsUnanswered}
@@ -50,7 +52,8 @@ not_both Seq bytes text accepted refused =
     answered_or_not bytes accepted.0 refused.0 refused.1 accepted.1 accepted.2 refused.2
 not_both Check bytes text accepted refused =
     spells_no_fault bytes scripts.Seq accepted.0 refused.0 refused.1 accepted.1 refused.2
-not_both Rma bytes text accepted refused = accepted_not_refused bytes text accepted refused
+not_both Rma bytes text accepted refused = schedule_not_refused bytes text accepted refused
+not_both Scrub bytes text accepted refused = rows_not_refused bytes text accepted refused
 
 -- a fault of the script that is told is a refusal of the command, where it holds what it tells of
 pub seq_refuses : (bytes : List ℕ) (old new : Ending) (fault : ScriptFault) (verdict : Verdict)
@@ -81,3 +84,12 @@ rma_verdict bytes end (Done text) yields = (
   (yields, refl),
 )
 rma_verdict bytes end (Refused text) refuses = (refuses, refl)
+
+-- the verdict on rows, which leaves the ending
+pub scrub_verdict : (bytes : List ℕ) (end : Ending) (verdict : Verdict) → scrubs.IsVerdict bytes verdict
+    → IsVerdict Scrub bytes end end verdict
+scrub_verdict bytes end (Done text) yields = (
+  record { asked = yields.asked; spelled = yields.spelled },
+  (yields, refl),
+)
+scrub_verdict bytes end (Refused text) refuses = (refuses, refl)

@@ -22,7 +22,7 @@ use Rattle.cb_world.specs.World.{WorldState, IsSoundWorld, empty_world}
 use Rattle.cb_app.specs.declared.ending.Ending.{Ending}
 use Rattle.cb_cli.specs.Taken.{IsTaken}
 use Rattle.cb_cli.specs.declared.words.Command.{Command}
-use Rattle.cb_cli.specs.declared.words.Command.TheVariants.{Seq, Check, Rma}
+use Rattle.cb_cli.specs.declared.words.Command.TheVariants.{Seq, Check, Rma, Scrub}
 use Rattle.cb_cli.proofs.WorkedWords.{seq_named, no_word}
 use Rattle.cb_app.specs.Modes.{Yields}
 use Rattle.cb_app.specs.Outcome.{IsDone, TellsScript}
@@ -159,6 +159,8 @@ not_empty old world Seq bytes due before is none =
 not_empty old world Check bytes due before is none =
     absurd (let e : answers ≡ [] = is.2.no_answers in cc)
 not_empty old world Rma bytes due before is none =
+    absurd (let e : answers ≡ [] = ap (λ (end : Ending). end.answers) is.1 ∙ before in cc)
+not_empty old world Scrub bytes due before is none =
     absurd (let e : answers ≡ [] = ap (λ (end : Ending). end.answers) is.1 ∙ before in cc)
 
 tells_nothing : (words : List (String Global)) (old : Ending) (world : WorldState)

@@ -10,10 +10,11 @@ use Rattle.cb_script.specs.Unbuilt.{IsBuilt}
 use Rattle.cb_text.specs.Line.{text_of}
 use Rattle.cb_cli.specs.Texts.{check_text}
 use Rattle.cb_cli.specs.declared.words.Command.{Command}
-use Rattle.cb_cli.specs.declared.words.Command.TheVariants.{Seq, Check, Rma}
+use Rattle.cb_cli.specs.declared.words.Command.TheVariants.{Seq, Check, Rma, Scrub}
 use Rattle.cb_cli.specs.declared.verdict.Verdict.{Verdict}
 use Rattle.cb_cli.specs.declared.verdict.Verdict.TheVariants.{Done, Refused}
 use Rattle.cb_rma_text.specs.Verdicts as schedules
+use Rattle.cb_scrub_text.specs.Verdicts as scrubs
 use Rattle.cb_app.specs.declared.ending.Ending.{Ending}
 use Rattle.cb_app.specs.Scripts.{IsAnswered, IsChecked, IsUnanswered, TellsFault}
 
@@ -26,21 +27,24 @@ Yields Check bytes old new text =
     (script : Script) × Spells bytes scripts.Seq script
     × IsChecked script new × (text ≡ check_text script)
 Yields Rma bytes old new text = schedules.Yields bytes text × (new ≡ old)
+Yields Scrub bytes old new text = scrubs.Yields bytes text × (new ≡ old)
 
 -- the command refuses the bytes, and this text tells where and why
 abbrev pub Refuses : Command → List ℕ → List ℕ → Type 0
 Refuses Seq bytes text = TellsFault (IsUnanswered bytes) text
 Refuses Check bytes text = TellsFault (First bytes scripts.Seq) text
 Refuses Rma bytes text = schedules.Refuses bytes text
+Refuses Scrub bytes text = scrubs.Refuses bytes text
 
 -- the bytes have the form that the command wants; `seq` wants verbs that are built, and `check` any;
--- `rma` wants a schedule
+-- `rma` wants a schedule, and `scrub` rows
 abbrev pub Accepts : Command → List ℕ → Type 0
 Accepts Seq bytes =
     (script : Script) × Spells bytes scripts.Seq script
     × AllByRecursion (λ l. IsBuilt l.request) script.lines
 Accepts Check bytes = (script : Script) × Spells bytes scripts.Seq script
 Accepts Rma bytes = schedules.Accepts bytes
+Accepts Scrub bytes = scrubs.Accepts bytes
 
 -- The verdict on bytes is right: they are accepted and done with, or refused, and the ending stays.
 abbrev pub IsVerdict : Command → List ℕ → (old new : Ending) → Verdict → Type 0

@@ -13,6 +13,7 @@ use crate::ending::Ending;
 use cb_cli::{Command, Verdict, answers_text, script_fault_text, script_ok_text};
 use cb_lanes::run_seq;
 use cb_rma_text::rma_bytes;
+use cb_scrub_text::scrub_bytes;
 use cb_script::{Mode, Reason, Script, ScriptFault, first_unbuilt, read_script};
 use cb_types::{Answers, Bytes, Losses, NoMemory};
 use std::alloc::Global;
@@ -31,6 +32,7 @@ pub fn obey(
         Command::Seq => answer_bytes(alloc, bytes, end),
         Command::Check => check_bytes(alloc, bytes, end),
         Command::Rma => rma_bytes(alloc, bytes),
+        Command::Scrub => scrub_bytes(alloc, bytes),
     }
 }
 

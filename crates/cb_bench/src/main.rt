@@ -1,6 +1,5 @@
 //! Times one operation of the code for `bench/encode`. The words are the operation (`encode`,
-//! `solve`
-//! or `check`), k, r and how many slices are timed. It prints the least time of a call in
+//! `solve`, `check` or `examine`), k, r and how many slices are timed. It prints the least time of a call in
 //! nanoseconds, over that many slices of four calls each, or 0 where no slice is asked for.
 #![tactic(auto)]
 
@@ -12,6 +11,7 @@ ghost use Rattle.cb_gf256.specs.Rows.{HaveLength};
 use cb_code::{coefficients, encode, syndromes_zero};
 use cb_erase::solve;
 use cb_gf256::{NoMemory, Rows};
+use cb_scrub::{Found, examine};
 use std::alloc::Global;
 use std::process::ExitCode;
 use std::rt::Env;
@@ -31,6 +31,8 @@ enum Operation {
     Solve,
     /// The test of a code word.
     Check,
+    /// The examination of a code word.
+    Examine,
 }
 
 /// The next number of a sequence that looks random (Marsaglia 2003).
@@ -108,6 +110,7 @@ fn least_time(
                 Operation::Encode => encode(alloc, &code, &given).is_ok(),
                 Operation::Solve => solve(alloc, k, r, &broken, present).is_ok(),
                 Operation::Check => syndromes_zero(r, &word),
+                Operation::Examine => matches!(examine(r, &word), Found::Clean),
             };
             answers = answers.wrapping_add(u64::from(answered));
         }
@@ -126,6 +129,7 @@ fn operation_of(word: &str) -> Option<Operation> {
         "encode" => Some(Operation::Encode),
         "solve" => Some(Operation::Solve),
         "check" => Some(Operation::Check),
+        "examine" => Some(Operation::Examine),
         _ => None,
     }
 }

@@ -4,12 +4,12 @@ use Rattle.std.specs.Prelude.{codes}
 use Rattle.std.specs.List.{list_any}
 use Rattle.std.specs.Str.{bytes_eq}
 use Rattle.cb_cli.specs.declared.words.Command.{Command}
-use Rattle.cb_cli.specs.declared.words.Command.TheVariants.{Seq, Check, Rma}
+use Rattle.cb_cli.specs.declared.words.Command.TheVariants.{Seq, Check, Rma, Scrub}
 use Rattle.cb_cli.specs.Words.{word_of, Name, NameNone}
 
 -- the commands
 abbrev commands : List Command
-commands = Seq ∷ Check ∷ Rma ∷ []
+commands = Seq ∷ Check ∷ Rma ∷ Scrub ∷ []
 
 -- the command of a text among these, Seq where it is the word of none
 abbrev command_among : List Command → List ℕ → Command
@@ -26,11 +26,13 @@ back : (c : Command) → command_among commands (word_of c) ≡ c
 back Seq = refl
 back Check = refl
 back Rma = refl
+back Scrub = refl
 
 its_word : (c : Command) → is_word (word_of c) ≡ true
 its_word Seq = refl
 its_word Check = refl
 its_word Rma = refl
+its_word Scrub = refl
 
 -- another text is no command's word
 pub no_word_of : (text : List ℕ) → is_word text ≡ false → (c : Command) → text ≡ word_of c → ⊥

@@ -17,7 +17,7 @@ use Rattle.clap.specs.declared.parser.matches.ArgMatches.{ArgMatches}
 use Rattle.clap.proofs.WalkLemmas.{first_value-rows}
 use Rattle.cb_cli.specs.Words.{word_of, NameNone}
 use Rattle.cb_cli.specs.declared.words.Command.{Command as CliCommand}
-use Rattle.cb_cli.specs.declared.words.Command.TheVariants.{Seq, Check, Rma}
+use Rattle.cb_cli.specs.declared.words.Command.TheVariants.{Seq, Check, Rma, Scrub}
 use Rattle.clap.specs.declared.builder.command.Command.TheViews.{out-Command}
 use Rattle.clap.specs.declared.builder.command.Command.{Command}
 use Rattle.clap.specs.declared.builder.command.Command.TheOpen.{Command-F}
@@ -75,12 +75,14 @@ unfolding clap_on_literals
 takes_word Seq = refl
 takes_word Check = refl
 takes_word Rma = refl
+takes_word Scrub = refl
 
 -- and is not two dashes
 word_is_not_dashes : (c : CliCommand) → bytes_eq (word_of c) dashes ≡ false
 word_is_not_dashes Seq = refl
 word_is_not_dashes Check = refl
 word_is_not_dashes Rma = refl
+word_is_not_dashes Scrub = refl
 
 a_kind : (k : ErrorKind) (ks : Kinds) → k ∷ ks ≡ [] → ⊥
 a_kind k ks e = absurd cc

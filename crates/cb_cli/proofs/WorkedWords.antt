@@ -1,7 +1,7 @@
 -- Worked examples: which words name a command.
 use Rattle.std.proofs.Common.{◌≡◌, ℕ, false, List, [], ◌∷◌, refl, sym, ap, ◌∙◌, String, Global}
 use Rattle.std.specs.Prelude.{codes, string_bytes}
-use Rattle.cb_cli.specs.declared.words.Command.TheVariants.{Seq, Check, Rma}
+use Rattle.cb_cli.specs.declared.words.Command.TheVariants.{Seq, Check, Rma, Scrub}
 use Rattle.cb_cli.specs.Words.{word_of, Name, NameNone}
 use Rattle.cb_cli.proofs.CommandWords.{is_word, no_word_of}
 
@@ -13,6 +13,9 @@ check_named w is = ap (λ (b : List ℕ). b ∷ []) is
 
 pub rma_named : (w : String Global) → string_bytes w ≡ codes "rma" → Name (w ∷ []) Rma
 rma_named w is = ap (λ (b : List ℕ). b ∷ []) is
+
+pub scrub_named : (w : String Global) → string_bytes w ≡ codes "scrub" → Name (w ∷ []) Scrub
+scrub_named w is = ap (λ (b : List ℕ). b ∷ []) is
 
 -- no word, a second word, and a word of no command name none
 pub no_word : NameNone []

@@ -18,6 +18,8 @@ pub enum Command {
     Check,
     /// Run a schedule of remote orders, and tell what is said to each event.
     Rma,
+    /// Examine the rows of a span-set, and make one wrong row right.
+    Scrub,
 }
 
 /// The command that the words name, and None exactly where they name none.
@@ -72,6 +74,7 @@ fn named(word: &str) -> Option<Command>
         "seq" => Some(Command::Seq),
         "check" => Some(Command::Check),
         "rma" => Some(Command::Rma),
+        "scrub" => Some(Command::Scrub),
         _ => None,
     }
 }

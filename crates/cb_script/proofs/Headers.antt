@@ -28,7 +28,7 @@ header_lacks_feed c numbers = lacks_feed (header_words c) (header_is_words c num
 
 -- ---- one reading
 
-setting_injective : (name : List ℕ) (m n : ℕ) → m < 10 ^ 9 → n < 10 ^ 9 → setting name m ≡ setting name n → m ≡ n
+pub setting_injective : (name : List ℕ) (m n : ℕ) → m < 10 ^ 9 → n < 10 ^ 9 → setting name m ≡ setting name n → m ≡ n
 setting_injective name m n m_small n_small e =
     let behind = append_cancel_left name (61 ∷ decimal m) (61 ∷ decimal n) e in
     let digits : decimal m ≡ decimal n = cc in

@@ -1,5 +1,5 @@
 -- Two data rows and two parities of one byte, by hand: 01, 00, C8, C9 are a code word; with 05 in place of 00 the syndromes are 05 and 2 * 05; with C8 for C9 too they are 04 and 02.
-use Rattle.std.proofs.Common.{◌≡◌, ◌≢◌, ℕ, zero, suc, ◌*◌, ◌<◌, List, [], ◌∷◌, get_or, All, refl, sym, ap, ◌∙◌, arith}
+use Rattle.std.proofs.Common.{◌≡◌, ◌≢◌, ℕ, zero, suc, ◌*◌, ◌<◌, List, [], ◌∷◌, get_or, length, All, refl, sym, ap, ◌∙◌, arith}
 use Rattle.cb_gf256.specs.Product.{◌⊗◌}
 use Rattle.cb_gf256.specs.Power.{power}
 use Rattle.cb_gf256.specs.Rows.{row_at, HaveLength, HoldBytes}
@@ -11,19 +11,19 @@ use Rattle.cb_scrub.specs.Mended.{mended}
 use Rattle.cb_scrub.specs.Finds.{IsFirstSum, IsFound, IsMended}
 use Rattle.cb_scrub.proofs.Words.{word_fits}
 
-abbrev four : (a b c d : ℕ) → List (List ℕ)
+abbrev pub four : (a b c d : ℕ) → List (List ℕ)
 four a b c d = (a ∷ []) ∷ (b ∷ []) ∷ (c ∷ []) ∷ (d ∷ []) ∷ []
 
-abbrev word : List (List ℕ)
+abbrev pub word : List (List ℕ)
 word = four 0x01 0x00 0xC8 0xC9
 
-abbrev one : List (List ℕ)
+abbrev pub one : List (List ℕ)
 one = four 0x01 0x05 0xC8 0xC9
 
-abbrev many : List (List ℕ)
+abbrev pub many : List (List ℕ)
 many = four 0x01 0x05 0xC8 0xC8
 
-lengths : (a b c d : ℕ) → HaveLength 1 (four a b c d)
+pub lengths : (a b c d : ℕ) → HaveLength 1 (four a b c d)
 lengths a b c d zero e l = refl
 lengths a b c d (suc zero) e l = refl
 lengths a b c d (suc (suc zero)) e l = refl
@@ -34,14 +34,14 @@ one_byte : (a : ℕ) → a < 256 → All (λ x. x < 256) (a ∷ [])
 one_byte a h zero e l = h
 one_byte a h (suc i) e l = absurd (omega arith)
 
-bytes : (a b c d : ℕ) → a < 256 → b < 256 → c < 256 → d < 256 → HoldBytes (four a b c d)
+pub bytes : (a b c d : ℕ) → a < 256 → b < 256 → c < 256 → d < 256 → HoldBytes (four a b c d)
 bytes a b c d p q r s zero e l = one_byte a p
 bytes a b c d p q r s (suc zero) e l = one_byte b q
 bytes a b c d p q r s (suc (suc zero)) e l = one_byte c r
 bytes a b c d p q r s (suc (suc (suc zero))) e l = one_byte d s
 bytes a b c d p q r s (suc (suc (suc (suc i)))) e l = absurd (omega arith)
 
-parities : (a b c d : ℕ) → a < 256 → b < 256 → c < 256 → d < 256 → HaveParities 2 (four a b c d)
+pub parities : (a b c d : ℕ) → a < 256 → b < 256 → c < 256 → d < 256 → HaveParities 2 (four a b c d)
 parities a b c d p q r s = record {
   are_rows = record { equal_lengths = lengths a b c d; bytes = bytes a b c d p q r s };
   some = omega arith;
@@ -49,6 +49,21 @@ parities a b c d p q r s = record {
   more = omega arith;
   few = omega arith;
 }
+
+pub without_parities : HaveParities 0 word → ⊥
+without_parities h = absurd (omega (arith, h.some))
+
+pub with_five_parities : (rows : List (List ℕ)) → HaveParities 5 rows → ⊥
+with_five_parities rows h = absurd (omega (arith, h.most))
+
+pub without_data : HaveParities 4 word → ⊥
+without_data h = absurd (omega (arith, h.more))
+
+pub with_twenty_one : (rows : List (List ℕ)) → length rows ≡ 21 → HaveParities 1 rows → ⊥
+with_twenty_one rows e h = absurd (omega (arith, e, h.few))
+
+pub of_two_lengths : HaveParities 1 ([] ∷ (0x01 ∷ []) ∷ []) → ⊥
+of_two_lengths h = absurd (omega (arith, h.are_rows.equal_lengths 1 [] (omega arith)))
 
 -- ---- the syndromes
 of_word : (syndrome 0 word 0 ≡ 0) × (syndrome 1 word 0 ≡ 0)

@@ -1,0 +1,4 @@
+pub mod Form
+pub mod FirstBad
+pub mod Verdicts
+pub mod Reading

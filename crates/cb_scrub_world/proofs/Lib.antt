@@ -1,0 +1,5 @@
+pub mod Walked
+pub mod Given
+pub mod After
+pub mod Scrubs
+pub mod WorkedScrubs

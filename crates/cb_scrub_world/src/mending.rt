@@ -1,0 +1,68 @@
+ghost use Rattle.std.specs.Prelude.{◌≡◌, ◌+◌, ◌^◌, ◌<◌, All, length, IfOk, OnErr, OnOk};
+ghost use Rattle.cb_set.specs.Nodes.{OnDistinctNodes};
+ghost use Rattle.cb_set.specs.SetState.{parities};
+ghost use Rattle.cb_gf256.specs.Rows.{AreRows};
+ghost use Rattle.cb_gf256.specs.InRange.{IsInRange};
+ghost use Rattle.cb_scrub_world.specs.Standing.{Stands, rows_of};
+ghost use Rattle.cb_scrub_world.specs.Scrub.{IsExamined, MakesRight, Replaces};
+
+use crate::giving::give_all;
+use cb_gf256::Rows;
+use cb_node::Nodes;
+use cb_scrub::{Found, examine, mend};
+use cb_set::SpanSet;
+use cb_types::NoMemory;
+use std::alloc::Global;
+
+/// A row has so many bytes, those of a span.
+const ROW_BYTES: u32 = 4096;
+
+/// Gives all rows of a set out and examines them; one wrong row is made right at its node. Takes the
+/// memory of all rows first; its want leaves the nodes as they were.
+pub(crate) fn examine_set(
+    alloc: Global,
+    nodes: &mut Nodes,
+    set: &SpanSet,
+) -> Result<Found, NoMemory>
+    requires range { IsInRange (length set.now.positions) (parities set.now) }
+    requires stand { All (Stands nodes.old) set.now.shards }
+    requires given { nodes.old.given + length set.now.shards < 2 ^ 64 }
+    ensures examined { IfOk result (λ found. IsExamined nodes.old set.now found nodes.new) }
+    ensures right { OnDistinctNodes set.now.shards → IfOk result (λ found.
+        MakesRight (parities set.now) (rows_of nodes.old set.now.shards) found
+        (rows_of nodes.new set.now.shards)) }
+    ensures error { OnErr result (nodes.new ≡ nodes.old) }
+{
+    examine_rows(alloc, nodes, set)
+}
+
+fn examine_rows(alloc: Global, nodes: &mut Nodes, set: &SpanSet) -> Result<Found, NoMemory>
+    requires range { IsInRange (length set.now.positions) (parities set.now) }
+    requires stand { All (Stands nodes.old) set.now.shards }
+    requires given { nodes.old.given + length set.now.shards < 2 ^ 64 }
+    ensures examined { IfOk result (λ found. IsExamined nodes.old set.now found nodes.new) }
+    ensures bytes { OnOk result (AreRows (rows_of nodes.old set.now.shards)) }
+    ensures error { OnErr result (nodes.new ≡ nodes.old) }
+{
+    let Ok(mut rows) = Rows::new(alloc, set.k() + set.r(), ROW_BYTES) else {
+        return Err(NoMemory);
+    };
+    give_all(nodes, set, &mut rows);
+    let found = examine(set.r(), &rows);
+    if let Found::One { position } = found {
+        mend_at_node(nodes, set, &mut rows, position);
+    }
+    Ok(found)
+}
+
+/// Makes one row right, and puts it at its node in place of the wrong one.
+fn mend_at_node(nodes: &mut Nodes, set: &SpanSet, rows: &mut Rows, position: u32)
+    requires position { position < length set.now.shards }
+    requires rows { rows.old ≡ rows_of nodes.old set.now.shards }
+    requires stand { All (Stands nodes.old) set.now.shards }
+    ensures { Replaces nodes.old set.now (rows_of nodes.old set.now.shards) position nodes.new }
+{
+    mend(rows, position);
+    let shard = set.shard(position);
+    nodes.set_row(shard.node, shard.key, rows.row(position));
+}
