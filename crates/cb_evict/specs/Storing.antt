@@ -47,8 +47,8 @@ with_kept far set rows = record far {
   counts = record far.counts { sets = far.counts.sets + 1; keys = far.counts.keys + rows };
 }
 
--- the far state with the set of the spans in some frames, whose rows are put at its shards' nodes; its number and the keys of
--- its rows are drawn
+-- the far state with the set of the spans in some frames, whose rows are put at its shards' nodes;
+-- its number and the keys of its rows are drawn
 abbrev pub with_set : FarState → List Shard → List ℕ → List (List ℕ) → FarState
 with_set far shards frames rows = record far {
   sets = map.insert far.sets far.counts.sets

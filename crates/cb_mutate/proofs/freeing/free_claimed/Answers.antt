@@ -1,4 +1,5 @@
-use Rattle.std.proofs.Common.{ℕ, ◌+◌, [], ◌∷◌, sym, refl, ap, ◌∙◌, arith, inl, inr}
+use Rattle.cb_types.specs.declared.config.Config.{Config}
+use Rattle.std.proofs.Common.{ℕ, ◌+◌, [], ◌∷◌, sym, refl, ap, ◌∙◌, arith, inl, inr, subst, ◌<◌}
 use Rattle.cb_types.specs.declared.reply.Reply.TheVariants as answer
 use Rattle.cb_world.specs.declared.event.Event.TheVariants.{Told, Stamped, Settled}
 use Rattle.cb_world.proofs.Claimed.{held, may_put_back, settled_here, back_written}
@@ -83,3 +84,21 @@ returns-clause-ends g c =
             },
           );
     }
+
+pub version-version-requires : goal.version-version-requires
+version-version-requires g c = c.requires.handle
+
+pub settle-requires-clause-handle : goal.settle-requires-clause-handle
+settle-requires-clause-handle g c =
+    subst (λ (q : Config). c.args.h.n < q.handles)
+    (sym (g.met.D.Desk.stays _ _ _ c.version-version.ensures)) c.requires.handle
+
+pub store_version-requires-clause-handle : goal.store_version-requires-clause-handle
+store_version-requires-clause-handle g c =
+    subst (λ (q : Config). c.args.h.n < q.handles)
+    (sym (g.met.D.Desk.stays _ _ _ c.version-version.ensures)) c.requires.handle
+
+pub settle-requires-2-clause-handle : goal.settle-requires-2-clause-handle
+settle-requires-2-clause-handle g c =
+    subst (λ (q : Config). c.args.h.n < q.handles)
+    (sym (g.met.D.Desk.stays _ _ _ c.store_version.ensures ∙ g.met.D.Desk.stays _ _ _ c.version-version.ensures)) c.requires.handle

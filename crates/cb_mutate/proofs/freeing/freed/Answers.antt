@@ -1,3 +1,4 @@
+use Rattle.cb_types.specs.declared.config.Config.{Config}
 use Rattle.std.proofs.Common.{ℕ, ◌+◌, ◌<◌, List, [], ◌∷◌, ◌++◌, sym, refl, ap, ◌∙◌, subst, inl, inr}
 use Rattle.cb_ptr.specs.declared.word.State.{State}
 use Rattle.cb_ptr.specs.Word.{state_of, len_of, place_of}
@@ -248,3 +249,27 @@ returns-else-is_far g c =
         effect = λ s k. (refused s).effect;
       };
     }
+
+pub try_claim-requires-clause-handle : goal.try_claim-requires-clause-handle
+try_claim-requires-clause-handle g c = c.requires.handle
+
+pub try_claim-requires-clause-shown : goal.try_claim-requires-clause-shown
+try_claim-requires-clause-shown g c = (c.requires.sound.0, c.requires.sound.1)
+
+pub free_claimed-requires-clause-handle : goal.free_claimed-requires-clause-handle
+free_claimed-requires-clause-handle g c =
+    subst (λ (q : Config). c.args.h.n < q.handles)
+    (sym (g.met.D.Desk.stays _ _ _ c.in-Claimed.ensures.1)) c.requires.handle
+
+pub refuse_free-requires-clause-handle : goal.refuse_free-requires-clause-handle
+refuse_free-requires-clause-handle g c =
+    subst (λ (q : Config). c.args.h.n < q.handles)
+    (sym (g.met.D.Desk.stays _ _ _ c.in-Left.ensures.1)) c.requires.handle
+
+pub refuse_free-requires-clause-left : goal.refuse_free-requires-clause-left
+refuse_free-requires-clause-left g c = c.in-Left.ensures.2.3
+
+pub free_far-requires-clause-handle : goal.free_far-requires-clause-handle
+free_far-requires-clause-handle g c =
+    subst (λ (q : Config). c.args.h.n < q.handles)
+    (sym (g.met.D.Desk.stays _ _ _ c.in-Left.ensures.1)) c.requires.handle

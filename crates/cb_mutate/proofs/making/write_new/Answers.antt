@@ -1,4 +1,5 @@
-use Rattle.std.proofs.Common.{ℕ, [], ◌∷◌, ◌++◌, length, sym, subst, arith}
+use Rattle.cb_types.specs.declared.config.Config.{Config}
+use Rattle.std.proofs.Common.{ℕ, [], ◌∷◌, ◌++◌, length, sym, subst, arith, ◌<◌, ◌∙◌}
 use Rattle.cb_types.specs.declared.config.Field.TheVariants.{Frames}
 use Rattle.cb_world.specs.declared.event.Event.TheVariants.{Stamped, Settled}
 use Rattle.cb_world.specs.declared.shown.Shown.{Shown}
@@ -66,3 +67,19 @@ returns g c = let r = c.store_bytes.ensures in let h = c.args.h.n in record {
       c.settle.new.self) c.pack-word.ensures.word
       c.settle.ensures));
 }
+
+pub store_bytes-requires-clause-fits : goal.store_bytes-requires-clause-fits
+store_bytes-requires-clause-fits g c = c.requires.fits
+
+pub store_bytes-requires-clause-config : goal.store_bytes-requires-clause-config
+store_bytes-requires-clause-config g c = c.requires.config
+
+pub store_version-requires-clause-handle : goal.store_version-requires-clause-handle
+store_version-requires-clause-handle g c =
+    subst (λ (q : Config). c.args.h.n < q.handles)
+    (sym (g.met.D.Desk.stays _ _ _ c.store_bytes.ensures.2)) c.requires.handle
+
+pub settle-requires-clause-handle : goal.settle-requires-clause-handle
+settle-requires-clause-handle g c =
+    subst (λ (q : Config). c.args.h.n < q.handles)
+    (sym (g.met.D.Desk.stays _ _ _ c.store_version.ensures ∙ g.met.D.Desk.stays _ _ _ c.store_bytes.ensures.2)) c.requires.handle

@@ -1,4 +1,6 @@
-use Rattle.std.proofs.Common.{[], ◌∷◌, ◌++◌, refl, sym, ap, ◌∙◌, subst}
+use Rattle.cb_types.specs.Config.{IsAccepted}
+use Rattle.cb_types.specs.declared.config.Config.{Config}
+use Rattle.std.proofs.Common.{[], ◌∷◌, ◌++◌, refl, sym, ap, ◌∙◌, subst, ◌<◌}
 use Rattle.cb_ptr.specs.declared.word.PtrWord.{PtrWord}
 use Rattle.cb_world.specs.declared.event.Event.TheVariants.{Told, Settled}
 use Rattle.cb_world.specs.declared.shown.Shown.{Shown}
@@ -70,3 +72,14 @@ returns g c =
             nothing = hot_writes_none s l.events h w v x n words l.loads k.1 slot;
           };
     }
+
+pub version-version-requires : goal.version-version-requires
+version-version-requires g c = c.requires.handle
+
+pub load_bytes-requires-clause-config : goal.load_bytes-requires-clause-config
+load_bytes-requires-clause-config g c = subst IsAccepted (sym (g.met.D.Desk.stays _ _ _ c.version-version.ensures)) c.requires.config
+
+pub settle-requires-clause-handle : goal.settle-requires-clause-handle
+settle-requires-clause-handle g c =
+    subst (λ (q : Config). c.args.h.n < q.handles)
+    (sym (g.met.D.Desk.stays _ _ _ c.load_bytes.ensures.ran ∙ g.met.D.Desk.stays _ _ _ c.version-version.ensures)) c.requires.handle

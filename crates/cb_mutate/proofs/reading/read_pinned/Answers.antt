@@ -1,4 +1,5 @@
-use Rattle.std.proofs.Common.{◌≡◌, ◌∷◌, take, refl, subst, ◌∙◌, ap, inr}
+use Rattle.cb_types.specs.Config.{IsAccepted}
+use Rattle.std.proofs.Common.{◌≡◌, ◌∷◌, take, refl, subst, ◌∙◌, ap, inr, sym}
 use Rattle.cb_ptr.specs.declared.word.PtrWord.{PtrWord}
 use Rattle.cb_world.specs.declared.event.Event.TheVariants.{Told}
 use Rattle.cb_world.specs.Memory.{words_for, bytes_in}
@@ -22,3 +23,9 @@ returns g c =
       bytes = subst (λ (p : PtrWord). take p.len c.load_bytes.new.into ≡ bytes_in l.words p.len) f
           l.bytes;
     }
+
+pub version-version-requires : goal.version-version-requires
+version-version-requires g c = c.requires.handle
+
+pub load_bytes-requires-clause-config : goal.load_bytes-requires-clause-config
+load_bytes-requires-clause-config g c = subst IsAccepted (sym (g.met.D.Desk.stays _ _ _ c.version-version.ensures)) c.requires.config

@@ -1,3 +1,4 @@
+use Rattle.cb_types.specs.Config.{IsAccepted}
 use Rattle.std.proofs.Common.{ℕ, ◌*◌, ◌<◌, ◌≤◌, List, [], ◌++◌, take, sym, refl, ap, subst}
 use Rattle.cb_types.specs.declared.config.Config.{Config}
 use Rattle.cb_types.specs.declared.reply.Reply.TheVariants as answer
@@ -168,3 +169,22 @@ try_claim-requires-clause-shown g c = (c.requires.sound.0, c.requires.sound.1)
 
 pub returns-in-Left-clause-short : goal.returns-in-Left-clause-short
 returns-in-Left-clause-short g c = c.see_left.ensures.short
+
+pub read_claimed-version-requires-clause-handle : goal.read_claimed-version-requires-clause-handle
+read_claimed-version-requires-clause-handle g c =
+    subst (λ (q : Config). c.args.h.n < q.handles)
+    (sym (g.met.D.Desk.stays _ _ _ c.in-Claimed.ensures.1)) c.requires.handle
+
+pub read_claimed-version-requires-clause-config : goal.read_claimed-version-requires-clause-config
+read_claimed-version-requires-clause-config g c = subst IsAccepted (sym (g.met.D.Desk.stays _ _ _ c.in-Claimed.ensures.1)) c.requires.config
+
+pub see_left-requires-clause-handle : goal.see_left-requires-clause-handle
+see_left-requires-clause-handle g c =
+    subst (λ (q : Config). c.args.h.n < q.handles)
+    (sym (g.met.D.Desk.stays _ _ _ c.in-Left.ensures.1)) c.requires.handle
+
+pub see_left-requires-clause-config : goal.see_left-requires-clause-config
+see_left-requires-clause-config g c = subst IsAccepted (sym (g.met.D.Desk.stays _ _ _ c.in-Left.ensures.1)) c.requires.config
+
+pub see_left-requires-clause-left : goal.see_left-requires-clause-left
+see_left-requires-clause-left g c = c.in-Left.ensures.2.3

@@ -1,4 +1,6 @@
-use Rattle.std.proofs.Common.{ℕ, ◌+◌, ◌≤◌, List, [], ◌∷◌, ◌++◌, length, refl, sym, ap, ◌∙◌, subst, arith, inl, inr}
+use Rattle.cb_types.specs.Config.{IsAccepted}
+use Rattle.cb_types.specs.declared.config.Config.{Config}
+use Rattle.std.proofs.Common.{ℕ, ◌+◌, ◌≤◌, List, [], ◌∷◌, ◌++◌, length, refl, sym, ap, ◌∙◌, subst, arith, inl, inr, ◌<◌}
 use Rattle.cb_types.specs.declared.reply.Reply.TheVariants as answer
 use Rattle.cb_ptr.specs.declared.word.PtrWord.{PtrWord}
 use Rattle.cb_ptr.specs.Word.{len_of, place_of}
@@ -189,3 +191,32 @@ returns-clause-ends g c =
             ),
           );
     }
+
+pub settle-requires-clause-handle : goal.settle-requires-clause-handle
+settle-requires-clause-handle g c = c.requires.handle
+
+pub settle-requires-clause-may : goal.settle-requires-clause-may
+settle-requires-clause-may g c =
+    let had = c.requires.claimed in
+    (had.0, had.1, may_put_back had.0 c.args.h.n c.args.word had.2.0 had.2.1 had.2.2)
+
+pub version-version-requires : goal.version-version-requires
+version-version-requires g c = c.requires.handle
+
+pub settle-requires-then-version-clause-handle : goal.settle-requires-then-version-clause-handle
+settle-requires-then-version-clause-handle g c =
+    subst (λ (q : Config). c.args.h.n < q.handles)
+    (sym (g.met.D.Desk.stays _ _ _ c.version-version.ensures)) c.requires.handle
+
+pub overwrite-requires-clause-config : goal.overwrite-requires-clause-config
+overwrite-requires-clause-config g c = subst IsAccepted (sym (g.met.D.Desk.stays _ _ _ c.version-version.ensures)) c.requires.config
+
+pub store_version-requires-clause-handle : goal.store_version-requires-clause-handle
+store_version-requires-clause-handle g c =
+    subst (λ (q : Config). c.args.h.n < q.handles)
+    (sym (g.met.D.Desk.stays _ _ _ c.overwrite.ensures.ran ∙ g.met.D.Desk.stays _ _ _ c.version-version.ensures)) c.requires.handle
+
+pub settle-requires-2-clause-handle : goal.settle-requires-2-clause-handle
+settle-requires-2-clause-handle g c =
+    subst (λ (q : Config). c.args.h.n < q.handles)
+    (sym (g.met.D.Desk.stays _ _ _ c.store_version.ensures ∙ g.met.D.Desk.stays _ _ _ c.overwrite.ensures.ran ∙ g.met.D.Desk.stays _ _ _ c.version-version.ensures)) c.requires.handle

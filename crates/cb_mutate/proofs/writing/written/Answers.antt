@@ -1,3 +1,5 @@
+use Rattle.cb_types.specs.Config.{IsAccepted}
+use Rattle.cb_types.specs.declared.config.Config.{Config}
 use Rattle.std.proofs.Common.{ℕ, ◌<◌, List, [], ◌++◌, sym, refl, subst}
 use Rattle.cb_ptr.specs.declared.word.State.{State}
 use Rattle.cb_ptr.specs.Word.{state_of, len_of, place_of}
@@ -122,3 +124,25 @@ returns-in-Left-clause-away g c = λ e s shown.
     let rest = c.refuse_write.ensures in
     found_far s before h w tried.2 (g.met.D.Desk.follows _ _ (look_after before h w) s ran shown).0
     (write_far (state_of w) w h c.args.at c.args.bytes.now rest.0 c.refuse_write.result rest.4 e)
+
+pub try_claim-requires-clause-handle : goal.try_claim-requires-clause-handle
+try_claim-requires-clause-handle g c = c.requires.handle
+
+pub try_claim-requires-clause-shown : goal.try_claim-requires-clause-shown
+try_claim-requires-clause-shown g c = (c.requires.sound.0, c.requires.sound.1)
+
+pub write_claimed-requires-clause-handle : goal.write_claimed-requires-clause-handle
+write_claimed-requires-clause-handle g c =
+    subst (λ (q : Config). c.args.h.n < q.handles)
+    (sym (g.met.D.Desk.stays _ _ _ c.in-Claimed.ensures.1)) c.requires.handle
+
+pub write_claimed-requires-clause-config : goal.write_claimed-requires-clause-config
+write_claimed-requires-clause-config g c = subst IsAccepted (sym (g.met.D.Desk.stays _ _ _ c.in-Claimed.ensures.1)) c.requires.config
+
+pub refuse_write-requires-clause-handle : goal.refuse_write-requires-clause-handle
+refuse_write-requires-clause-handle g c =
+    subst (λ (q : Config). c.args.h.n < q.handles)
+    (sym (g.met.D.Desk.stays _ _ _ c.in-Left.ensures.1)) c.requires.handle
+
+pub refuse_write-requires-clause-left : goal.refuse_write-requires-clause-left
+refuse_write-requires-clause-left g c = c.in-Left.ensures.2.3
