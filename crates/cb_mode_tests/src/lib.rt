@@ -1,5 +1,4 @@
-//! Tests of the crates that single modes of the program stand on: their calls with ample memory, and
-//! worked rows.
+//! Tests of the crates that single modes of the program stand on: their calls with ample memory.
 #![tactic(auto)]
 
 #[cfg(test)]

@@ -64,8 +64,8 @@ fn is_seen(alloc: Global, world: &mut World, look: Look) -> Result<bool, Fail>
     }
 }
 
-/// Whether what is looked at in a small world is as it should be. No other function of the tests owns
-/// a world, since each that does is proved to drop it.
+/// Whether what is looked at in a small world is as it should be. No other function of the tests
+/// owns a world, since each that does is proved to drop it.
 pub(crate) fn holds(alloc: Global, look: Look) -> Result<bool, Fail> {
     let mut world = small_world(alloc)?;
     is_seen(alloc, &mut world, look)
