@@ -15,7 +15,7 @@ use cb_lanes::run_seq;
 use cb_rma_text::rma_bytes;
 use cb_scrub_text::scrub_bytes;
 use cb_script::{Mode, Reason, Script, ScriptFault, first_unbuilt, read_script};
-use cb_types::{Answers, Bytes, Losses, NoMemory};
+use cb_types::{Bytes, NoMemory};
 use std::alloc::Global;
 
 /// What a command makes of bytes. The ending is set where they are done with, and else it stays.
@@ -63,12 +63,7 @@ fn answer_script(alloc: Global, script: &Script, end: &mut Ending) -> Result<Byt
 {
     let told = run_seq(alloc, script)?;
     let text = answers_text(alloc, &told.answers)?;
-    *end = Ending {
-        config: Some(script.config),
-        answers: told.answers,
-        losses: told.losses,
-        world: Some(told.world),
-    };
+    end.set(Ending::answered(script.config, told));
     Ok(text)
 }
 
@@ -90,12 +85,7 @@ fn check_script(alloc: Global, script: &Script, end: &mut Ending) -> Result<Byte
     ensures kept { OnErr result (end.new ≡ end.old) }
 {
     let text = script_ok_text(alloc, script)?;
-    *end = Ending {
-        config: Some(script.config),
-        answers: Answers::new(alloc),
-        losses: Losses::from(Vec::new(alloc)),
-        world: None,
-    };
+    end.set(Ending::checked(alloc, script.config));
     Ok(text)
 }
 

@@ -1,5 +1,6 @@
-ghost use Rattle.std.specs.Prelude.{◌≡◌, [], None};
+ghost use Rattle.std.specs.Prelude.{◌≡◌, [], None, Some};
 
+use cb_lanes::SeqEnd;
 use cb_types::{Answers, Config, Losses};
 use cb_world::World;
 use std::alloc::Global;
@@ -28,5 +29,41 @@ impl Ending {
             losses: Losses::from(Vec::new(alloc)),
             world: None,
         }
+    }
+
+    /// The ending of a script of this configuration that was answered.
+    pub(crate) fn answered(config: Config, told: SeqEnd) -> Ending
+        ensures { result ≡ record {
+          config = Some config;
+          answers = told.answers;
+          losses = told.losses;
+          world = Some told.world;
+        } }
+    {
+        Ending {
+            config: Some(config),
+            answers: told.answers,
+            losses: told.losses,
+            world: Some(told.world),
+        }
+    }
+
+    /// The ending of a script of this configuration that was checked. Takes no memory.
+    pub(crate) fn checked(alloc: Global, config: Config) -> Ending
+        ensures { result ≡ record { config = Some config; answers = []; losses = []; world = None } }
+    {
+        Ending {
+            config: Some(config),
+            answers: Answers::new(alloc),
+            losses: Losses::from(Vec::new(alloc)),
+            world: None,
+        }
+    }
+
+    /// Puts another ending in the place of this one.
+    pub(crate) fn set(&mut self, ending: Ending)
+        ensures { self.new ≡ ending }
+    {
+        *self = ending;
     }
 }

@@ -23,14 +23,22 @@ fn words_of<R: Env + AllocGlobal>(rt: &R) -> io::Result<Vec<String>> {
     Ok(words)
 }
 
+/// The words after the program's name, or the exit status where there is no memory for them.
+/// A word that is not UTF-8 makes the words be of no form, as an empty list is.
+fn words_or_status<R: Env + AllocGlobal>(rt: &R) -> Result<Vec<String>, u8> {
+    match words_of(rt) {
+        Ok(words) => Ok(words),
+        Err(error) if error.kind() == ErrorKind::OutOfMemory => Err(5),
+        Err(_) => Ok(Vec::new(rt.alloc())),
+    }
+}
+
 fn main(rt: HostRuntime) -> ExitCode {
-    let alloc = rt.alloc();
-    let words = match words_of(&rt) {
+    let words = match words_or_status(&rt) {
         Ok(words) => words,
-        Err(error) if error.kind() == ErrorKind::OutOfMemory => return ExitCode::from(5),
-        // A word that is not UTF-8 makes the words be of no form, as an empty list is.
-        Err(_) => Vec::new(alloc),
+        Err(status) => return ExitCode::from(status),
     };
+    let alloc = rt.alloc();
     let mut source = StdSource::new(rt.stdin());
     let mut sink = StdSink::new(rt.stdout());
     let mut end = Ending::new(alloc);

@@ -1,11 +1,10 @@
 -- The words of the commands, and the command that words name.
 use Rattle.std.proofs.Common.{◌≡◌, ℕ, Bool, true, false, if◌then◌else◌, List, [], ◌∷◌, refl, sym, ap, ◌∙◌, true≢false, String, Global}
-use Rattle.std.specs.Prelude.{codes}
 use Rattle.std.specs.List.{list_any}
 use Rattle.std.specs.Str.{bytes_eq}
 use Rattle.cb_cli.specs.declared.words.Command.{Command}
 use Rattle.cb_cli.specs.declared.words.Command.TheVariants.{Seq, Check, Rma, Scrub}
-use Rattle.cb_cli.specs.Words.{word_of, Name, NameNone}
+use Rattle.cb_cli.specs.Words.{word_of, Name}
 
 -- the commands
 abbrev commands : List Command

@@ -9,12 +9,13 @@ use Rattle.std.specs.Str.{bytes_eq, chars}
 use Rattle.clap.specs.Lexer.{long_of, short_of}
 use Rattle.clap.specs.Kinds.{Kinds, or_else}
 use Rattle.clap.specs.Walk.{Held, Row, Rule, Text, Walk, idle, value, plain, trailing, word_met, long_or_other, short_or_plain, after_flag, after_step, bundle_met, bundle_step, walk_from, walked, nothing_held, finished, first_of, rows_of, Step}
-use Rattle.clap.specs.Simple.{App, Shape, app_of, app_of_fields, built, new_app, new_rule, with_rule, matches_of, is_simple, HasMatchesOf}
+use Rattle.clap.specs.Simple.{App, Shape, app_of, app_of_fields, built, new_app, with_rule, matches_of, is_simple, HasMatchesOf}
 use Rattle.clap.specs.Matches.{found_of, first_value}
 use Rattle.clap.specs.declared.error.kind.ErrorKind.{ErrorKind}
 use Rattle.clap.specs.declared.error.kind.ErrorKind.TheVariants.{UnknownArgument, OutOfMemory}
 use Rattle.clap.specs.declared.parser.matches.ArgMatches.{ArgMatches}
 use Rattle.clap.proofs.WalkLemmas.{first_value-rows}
+use Rattle.cb_cli.specs.Reader.{word_rule, quieted, reader}
 use Rattle.cb_cli.specs.Words.{word_of, NameNone}
 use Rattle.cb_cli.specs.declared.words.Command.{Command as CliCommand}
 use Rattle.cb_cli.specs.declared.words.Command.TheVariants.{Seq, Check, Rma, Scrub}
@@ -23,20 +24,7 @@ use Rattle.clap.specs.declared.builder.command.Command.{Command}
 use Rattle.clap.specs.declared.builder.command.Command.TheOpen.{Command-F}
 use Rattle.clap.specs.Takes.{takes}
 use Rattle.clap.specs.Faults.{fault_of, is_simple_and_free, flag_word_fault, bundle_fault, flags_fault, bundle_step_fault, step_fault, turn_fault, walk_fault}
-use Rattle.clap.specs.declared.builder.action.ArgAction.TheVariants.{Set}
 use Rattle.clap.proofs.OnLiterals.{clap_on_literals}
-
--- the command of one word, as it is made
-abbrev pub word_rule : Rule
-word_rule = record (new_rule (codes "command")) { required = true; action = Some Set }
-
-abbrev quieted : App → App
-quieted a = record a {
-  top = record a.top { no_binary_name = true; disable_help_flag = true; disable_version_flag = true };
-}
-
-abbrev pub reader : App
-reader = with_rule (quieted (new_app (codes "carbink"))) word_rule
 
 -- what the calls that make it leave
 pub reader_made : (new named helpless quiet made : Command) → app_of new ≡ new_app (codes "carbink")

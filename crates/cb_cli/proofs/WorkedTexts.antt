@@ -7,7 +7,6 @@ use Rattle.cb_types.specs.declared.request.Request.{Request}
 use Rattle.cb_types.specs.declared.request.Request.TheVariants.{Compact, Leave}
 use Rattle.cb_script.specs.declared.fault.Reason.TheVariants as reasons
 use Rattle.cb_script.specs.declared.script.Line.{Line}
-use Rattle.cb_script.specs.declared.script.Script.{Script}
 use Rattle.cb_cli.specs.Lanes.{lane_count}
 use Rattle.cb_cli.specs.Texts.{fault_text, words_refused, check_text}
 

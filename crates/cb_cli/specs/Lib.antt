@@ -5,3 +5,4 @@ pub mod Failing
 pub mod Status
 pub mod Taken
 pub mod Fronts
+pub mod Reader

@@ -6,7 +6,7 @@ use crate::output::PutFailed;
 use cb_types::NoMemory;
 
 /// What a run that did not fail was due to end with.
-#[derive(Clone, Copy, Debug, PartialEq, Eq)]
+#[derive(Clone, Copy)]
 pub enum Due {
     /// The script was answered.
     Done,
@@ -17,7 +17,7 @@ pub enum Due {
 }
 
 /// Why a run did not end as it was due to.
-#[derive(Clone, Copy, Debug, PartialEq, Eq)]
+#[derive(Clone, Copy)]
 pub enum Failure {
     /// Reading failed.
     Read,

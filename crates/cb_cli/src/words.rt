@@ -1,6 +1,8 @@
 ghost use Rattle.std.specs.Prelude.{◌≡◌, List, ℕ, [], ◌∷◌, map, codes, string_bytes, IfOk, MatchOption};
 ghost use Rattle.std.specs.List.{list_any};
 ghost use Rattle.std.specs.Str.{bytes_eq};
+ghost use Rattle.clap.specs.Simple.{app_of};
+ghost use Rattle.cb_cli.specs.Reader.{reader};
 ghost use Rattle.cb_cli.specs.Words.{word_of, Name, NameNone};
 ghost use Rattle.cb_cli.specs.declared.words.Command.{Command};
 
@@ -42,6 +44,18 @@ fn lone_word<'a>(alloc: Global, words: &'a [String]) -> Result<Option<&'a str>, 
     if has_two_dashes(words) {
         return Ok(None);
     }
+    let reader = reader(alloc)?;
+    match reader.try_get_matches_from(words) {
+        Ok(matches) => Ok(matches.get_str("command")),
+        Err(error) if error.kind() == ErrorKind::OutOfMemory => Err(NoMemory),
+        Err(_) => Ok(None),
+    }
+}
+
+/// The reader of one word that has to be there, and of no option.
+fn reader<'a>(alloc: Global) -> Result<clap::Command<'a>, NoMemory>
+    ensures { IfOk result (λ made. app_of made ≡ reader) }
+{
     let word = Arg::new(alloc, "command")
         .required(true)
         .action(ArgAction::Set);
@@ -50,11 +64,7 @@ fn lone_word<'a>(alloc: Global, words: &'a [String]) -> Result<Option<&'a str>, 
         .disable_help_flag(true)
         .disable_version_flag(true)
         .arg(word)?;
-    match reader.try_get_matches_from(words) {
-        Ok(matches) => Ok(matches.get_str("command")),
-        Err(error) if error.kind() == ErrorKind::OutOfMemory => Err(NoMemory),
-        Err(_) => Ok(None),
-    }
+    Ok(reader)
 }
 
 /// Whether one of the words is two dashes.

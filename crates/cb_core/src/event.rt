@@ -1,7 +1,7 @@
 use cb_types::{Handle, Job};
 
 /// One atomic step on one word.
-#[derive(Clone, Copy, Debug, PartialEq, Eq)]
+#[derive(Clone, Copy)]
 pub enum Atomic {
     /// The pointer word of an object is read.
     Load { handle: Handle },

@@ -11,7 +11,7 @@ use cb_types::NoMemory;
 use cb_world::{Far, place_object};
 
 /// What becomes of a claimed object.
-#[derive(Clone, Copy, Debug, PartialEq, Eq)]
+#[derive(Clone, Copy)]
 pub(crate) enum Plan {
     /// Its span has its temperature.
     Same,

@@ -14,7 +14,7 @@ use cb_set::SpanSet;
 use cb_world::{Far, Survey};
 
 /// How a set stands: it has lost nothing, or what can be made again, or more than that.
-#[derive(Clone, Copy, Debug, PartialEq, Eq)]
+#[derive(Clone, Copy)]
 pub(crate) enum Health {
     Whole,
     Weak,
@@ -22,7 +22,7 @@ pub(crate) enum Health {
 }
 
 /// What the walk over the sets found.
-#[derive(Clone, Copy, Debug, PartialEq, Eq)]
+#[derive(Clone, Copy)]
 pub(crate) enum Found {
     /// The first set that is weak; so many before it are gone.
     Weak { id: u64, gone: u32 },

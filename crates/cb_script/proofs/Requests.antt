@@ -59,6 +59,16 @@ module _ (place : Place) (lane : ℕ) where
     making_hex_fault reasons.Length is new fault = least_length (Rule place lane (Phrase.Making name hex)) tt tt tt tt tt tt is new tt fault.0 fault.1
     making_hex_fault _ is new fault = absurd fault
 
+    pub making_name_refused : (e : Refusal) → Refuses e (NameFault (IsName name) (IsNew place.before name))
+        → Refuses e (IsLeast (Rule place lane (Phrase.Making name hex)))
+    making_name_refused (Broken reason) fault = making_name_fault reason fault
+    making_name_refused NoMemory fault = tt
+
+    pub making_hex_refused : (e : Refusal) → IsName name → IsNew place.before name → Refuses e (HexFault (IsHexadecimal hex) (length hex ≤ 2048))
+        → Refuses e (IsLeast (Rule place lane (Phrase.Making name hex)))
+    making_hex_refused (Broken reason) is new fault = making_hex_fault reason is new fault
+    making_hex_refused NoMemory is new fault = tt
+
   -- ---- a write
 
   module _ (name at hex : List ℕ) where

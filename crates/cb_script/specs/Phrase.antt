@@ -1,5 +1,5 @@
 -- The words behind LANE, by what they are for.
-use Rattle.std.specs.Prelude.{ℕ, List, [], ◌∷◌, codes}
+use Rattle.std.specs.Prelude.{ℕ, List, [], ◌∷◌, ◌++◌, Option, None, Some, codes}
 use Rattle.std.specs.Fmt.{decimal}
 use Rattle.hex.specs.Hex.{encode_lower}
 use Rattle.cb_types.specs.declared.request.Request.{Request}
@@ -86,3 +86,17 @@ phrase_of request.Merge = Phrase.Alone bare.Merge
 phrase_of request.Part = Phrase.Alone bare.Part
 phrase_of request.Compact = Phrase.Alone bare.Compact
 phrase_of request.Rebuild = Phrase.Alone bare.Rebuild
+
+-- the first of some words
+abbrev pub first_word : List (List ℕ) → List ℕ
+first_word [] = []
+first_word (word ∷ words) = word
+
+-- the verb of a request
+abbrev pub verb_of : Request → List ℕ
+verb_of r = first_word (phrase_words (phrase_of r))
+
+-- a verb, and a space and a name behind it where there is one
+abbrev pub with_name : List ℕ → Option (List ℕ) → List ℕ
+with_name verb None = verb
+with_name verb (Some name) = verb ++ 32 ∷ name

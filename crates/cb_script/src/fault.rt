@@ -101,7 +101,7 @@ impl From<NoMemory> for ScriptFault {
 }
 
 /// Why a line was not read.
-#[derive(Clone, Copy, Debug)]
+#[derive(Clone, Copy)]
 pub(crate) enum Refusal {
     /// The line breaks the rule behind this reason.
     Broken(Reason),

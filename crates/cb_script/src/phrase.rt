@@ -7,7 +7,7 @@ use crate::verb::{
 };
 
 /// The words behind the lane of a line, by what they are for, each as it stands in the input.
-#[derive(Clone, Copy, Debug)]
+#[derive(Clone, Copy)]
 pub(crate) enum Words<'a> {
     /// `make NAME HEX`
     Making {

@@ -2,11 +2,12 @@ ghost use Rattle.std.specs.Prelude.{◌≡◌, ◌<◌, ◌≤◌, ◌∷◌, �
 ghost use Rattle.std.specs.Fmt.{decimal};
 ghost use Rattle.std.specs.List.{join_with_byte};
 ghost use Rattle.hex.specs.Hex.{encode_lower};
+ghost use Rattle.cb_types.specs.Requests.{name_of};
 ghost use Rattle.cb_script.specs.declared.fault.Reason.TheVariants.{TooLong};
 ghost use Rattle.cb_script.specs.declared.script.Mode.{Mode};
 ghost use Rattle.cb_script.specs.First.{First};
 ghost use Rattle.cb_script.specs.Form.{IsScript, AreInMode, Spells};
-ghost use Rattle.cb_script.specs.Phrase.{change_text, phrase_of, phrase_words};
+ghost use Rattle.cb_script.specs.Phrase.{change_text, phrase_of, phrase_words, verb_of, with_name};
 ghost use Rattle.cb_script.specs.Spelling.{header_line, script_line, script_text, setting, with_feed};
 
 use crate::script::{Line, Script};
@@ -73,42 +74,58 @@ fn push_request(alloc: Global, text: &mut Vec<u8>, request: &Request) -> Result<
     ensures { OnOk result (text.new.items
         ≡ text.old.items ++ 32 ∷ join_with_byte 32 (phrase_words (phrase_of request.now))) }
 {
+    push_verb(text, request)?;
     match request {
-        Request::Make { name, bytes } => {
-            push_two(text, b"make", name.as_slice())?;
-            push_hex(alloc, text, bytes.as_slice())
-        }
-        Request::Write { name, at, bytes } => {
-            push_two(text, b"write", name.as_slice())?;
+        Request::Make { bytes, .. } => push_hex(alloc, text, bytes.as_slice()),
+        Request::Write { at, bytes, .. } => {
             push_number(text, *at)?;
             push_change(alloc, text, bytes.as_slice())
         }
-        Request::Read { name } => push_two(text, b"read", name.as_slice()),
-        Request::Free { name } => push_two(text, b"free", name.as_slice()),
-        Request::Pin { name } => push_two(text, b"pin", name.as_slice()),
-        Request::Peek { name } => push_two(text, b"peek", name.as_slice()),
-        Request::Unpin { name } => push_two(text, b"unpin", name.as_slice()),
-        Request::Filter { name } => push_two(text, b"filter", name.as_slice()),
-        Request::Crash { node } => {
-            push_word(text, b"crash")?;
-            push_number(text, u32::from(node.n))
-        }
-        Request::Join { node } => {
-            push_word(text, b"join")?;
-            push_number(text, u32::from(node.n))
-        }
-        Request::Leave => push_word(text, b"leave"),
-        Request::Evict => push_word(text, b"evict"),
-        Request::Begin => push_word(text, b"begin"),
-        Request::Ship => push_word(text, b"ship"),
-        Request::Commit => push_word(text, b"commit"),
-        Request::Abort => push_word(text, b"abort"),
-        Request::Pair => push_word(text, b"pair"),
-        Request::Patch => push_word(text, b"patch"),
-        Request::Merge => push_word(text, b"merge"),
-        Request::Part => push_word(text, b"part"),
-        Request::Compact => push_word(text, b"compact"),
-        Request::Rebuild => push_word(text, b"rebuild"),
+        Request::Crash { node } => push_number(text, u32::from(node.n)),
+        Request::Join { node } => push_number(text, u32::from(node.n)),
+        _ => Ok(()),
+    }
+}
+
+/// Adds the verb of a request at the end, and the name behind it, with a space before each.
+fn push_verb(text: &mut Vec<u8>, request: &Request) -> Result<(), NoMemory>
+    ensures { OnOk result (text.new.items
+        ≡ text.old.items ++ 32 ∷ with_name (verb_of request.now) (name_of request.now)) }
+{
+    push_word(text, verb(request))?;
+    match request.name() {
+        Some(name) => push_word(text, name.as_slice()),
+        None => Ok(()),
+    }
+}
+
+/// The verb of a request.
+fn verb(request: &Request) -> &'static [u8]
+    ensures { result.now ≡ verb_of request.now }
+{
+    match request {
+        Request::Make { .. } => b"make",
+        Request::Write { .. } => b"write",
+        Request::Read { .. } => b"read",
+        Request::Free { .. } => b"free",
+        Request::Pin { .. } => b"pin",
+        Request::Peek { .. } => b"peek",
+        Request::Unpin { .. } => b"unpin",
+        Request::Filter { .. } => b"filter",
+        Request::Crash { .. } => b"crash",
+        Request::Join { .. } => b"join",
+        Request::Leave => b"leave",
+        Request::Evict => b"evict",
+        Request::Begin => b"begin",
+        Request::Ship => b"ship",
+        Request::Commit => b"commit",
+        Request::Abort => b"abort",
+        Request::Pair => b"pair",
+        Request::Patch => b"patch",
+        Request::Merge => b"merge",
+        Request::Part => b"part",
+        Request::Compact => b"compact",
+        Request::Rebuild => b"rebuild",
     }
 }
 
@@ -119,15 +136,6 @@ fn push_word(text: &mut Vec<u8>, word: &[u8]) -> Result<(), NoMemory>
     text.push(b' ')?;
     text.extend_from_slice(word)?;
     Ok(())
-}
-
-/// Adds two words at the end, with a space before each.
-fn push_two(text: &mut Vec<u8>, first: &[u8], second: &[u8]) -> Result<(), NoMemory>
-    ensures { OnOk result (text.new.items
-        ≡ text.old.items ++ 32 ∷ (first.now ++ 32 ∷ second.now)) }
-{
-    push_word(text, first)?;
-    push_word(text, second)
 }
 
 /// Adds a space and a number at the end.

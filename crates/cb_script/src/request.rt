@@ -17,7 +17,7 @@ use cb_types::{Lane, Name, NodeId, Request};
 use std::alloc::Global;
 
 /// What the lines of a script keep to, beside the names: the mode, and how many nodes there are.
-#[derive(Clone, Copy, Debug)]
+#[derive(Clone, Copy)]
 pub(crate) struct Limits {
     pub(crate) mode: Mode,
     pub(crate) nodes: u8,

@@ -5,7 +5,7 @@ use std::alloc::Global;
 use std::marker::Model;
 
 /// How a script is run, and so which lines it may have.
-#[derive(Clone, Copy, Debug, PartialEq, Eq)]
+#[derive(Clone, Copy, PartialEq, Eq)]
 pub enum Mode {
     /// On one thread, line after line.
     Seq,

@@ -3,7 +3,7 @@ ghost use Rattle.cb_script.specs.Found.{Finds};
 ghost use Rattle.cb_script.specs.Phrase.{name_verb, node_verb, bare_verb};
 
 /// A verb in front of a name.
-#[derive(Clone, Copy, Debug)]
+#[derive(Clone, Copy)]
 pub(crate) enum NameVerb {
     Read,
     Free,
@@ -14,14 +14,14 @@ pub(crate) enum NameVerb {
 }
 
 /// A verb in front of a node.
-#[derive(Clone, Copy, Debug)]
+#[derive(Clone, Copy)]
 pub(crate) enum NodeVerb {
     Crash,
     Join,
 }
 
 /// A verb that stands alone.
-#[derive(Clone, Copy, Debug)]
+#[derive(Clone, Copy)]
 pub(crate) enum BareVerb {
     Leave,
     Evict,

@@ -13,7 +13,7 @@ ghost use Rattle.cb_world.specs.Played.{Agree, played};
 use cb_types::{Config, Handle};
 
 /// What a claim answers.
-#[derive(Clone, Copy, Debug, PartialEq, Eq)]
+#[derive(Clone, Copy)]
 pub enum Claim {
     /// The object is the caller's to change, until it settles its word.
     Claimed,

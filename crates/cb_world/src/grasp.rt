@@ -8,7 +8,7 @@ use cb_ptr::{State, unpack};
 use cb_types::Handle;
 
 /// What a try to claim an object comes to.
-#[derive(Clone, Copy, Debug, PartialEq, Eq)]
+#[derive(Clone, Copy)]
 pub enum Grasp {
     /// It is claimed; this was its word.
     Claimed { word: u64 },

@@ -6,7 +6,7 @@ use std::alloc::Global;
 use std::marker::Model;
 
 /// Where a far object lies: in a span-set, at a position, in a slot of the position's span.
-#[derive(Clone, Copy, Debug, PartialEq, Eq)]
+#[derive(Clone, Copy)]
 pub struct Home {
     pub set: u64,
     pub position: u32,

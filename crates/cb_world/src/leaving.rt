@@ -3,7 +3,7 @@ use cb_member::Shard;
 use std::marker::Model;
 
 /// The pointer word of an object before its batch began to leave.
-#[derive(Clone, Copy, Debug, PartialEq, Eq)]
+#[derive(Clone, Copy)]
 pub struct Former {
     pub handle: u32,
     pub word: u64,

@@ -14,7 +14,7 @@ use std::marker::Model;
 const FRAME_WORDS: usize = 512;
 
 /// The still desk: pointer words, version words and memory words that no one else changes.
-#[derive(Debug, Drop)]
+#[derive(Drop)]
 pub struct PlainDesk {
     config: Config,
     words: Vec<u64>,

@@ -16,7 +16,7 @@ pub const SEATS: usize = 64;
 pub const MOST_PINS: usize = 16;
 
 /// A pin: the object stays where it is, at this version, until the pin is given back.
-#[derive(Clone, Copy, Debug, Default, PartialEq, Eq)]
+#[derive(Clone, Copy, Default)]
 pub struct Pin {
     pub handle: u32,
     pub version: u64,

@@ -5,7 +5,7 @@ ghost use Rattle.cb_world.specs.Survey.{no_survey, survey_without};
 /// number below `below` is weak, and `gone` of them have lost more shards than they have parities. A
 /// rebuild goes on from here, so that it looks at no set twice between two such crashes but at the one
 /// that it mends.
-#[derive(Clone, Copy, Debug, PartialEq, Eq)]
+#[derive(Clone, Copy)]
 pub struct Survey {
     pub below: u64,
     pub gone: u32,

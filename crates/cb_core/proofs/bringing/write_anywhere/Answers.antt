@@ -1,14 +1,24 @@
-use Rattle.std.proofs.Common.{sym, ◌∙◌, subst, ◌≡◌, Some, length}
+use Rattle.std.proofs.Common.{sym, ◌∙◌, subst, ◌≡◌, ◌+◌, ◌<◌, ◌^◌, true≢false, Result, Ok, Err, Some, length}
+use Rattle.std.specs.Result.{IsOk, OnErr}
+use Rattle.std.proofs.lemmas.Result.{IfOk-from_err}
+use Rattle.cb_types.specs.declared.config.Config.{Config}
+use Rattle.cb_member.specs.declared.no_memory.NoMemory.{NoMemory}
 use Rattle.cb_types.specs.Config.{IsAccepted}
+use Rattle.cb_types.specs.declared.reply.Reply.{Reply}
 use Rattle.cb_world.specs.declared.homes.Home.{Home}
 use Rattle.cb_world.specs.FarState.{FarState}
 use Rattle.cb_world.specs.Homes.{home_at}
 use Rattle.cb_core.specs.Parts.{NeverLacks}
 use Rattle.cb_core.specs.Turned.{BringLacks, Brings, Declines, Writes}
 use Rattle.cb_core.proofs.Composing.{bring_lacks_as, brings_as, far_comes, far_kept, far_kept_if, far_stays, far_stops, holding, is_declined, shown_after}
-use Rattle.cb_core.proofs.Exits.{is_near}
+use Rattle.cb_core.proofs.Exits.{configured_as, is_near}
 use Rattle.cb_core.proofs.PartsFar.{far_has_home}
 use Rattle.cb_core.proofs.bringing.write_anywhere.Goals as goal
+
+-- a call that always finds memory
+never : (P : Type 0) (r : Result Reply NoMemory) → IsOk r → OnErr r P
+never P (Ok q) ok = tt
+never P (Err e) ok = absurd (true≢false (sym ok))
 
 pub decline-requires-clause-sound : goal.decline-requires-clause-sound
 decline-requires-clause-sound g c =
@@ -100,3 +110,66 @@ returns-then-not-is_not_here-clause-writes g c =
     (holding c.args.desk.now c.args.far.now) (holding c.write.new.desk c.write.new.far)
     c.in_ok-reply.reply (far_kept _ _ _ _ _ _ _ c.in_ok-reply.ensures.write c.in_ok-reply.ensures.far)
     (c.is_not_here.ensures.other c.if-not-is_not_here.true)
+
+pub returns-in_err-reply-clause-writes : goal.returns-in_err-reply-clause-writes
+returns-in_err-reply-clause-writes g c =
+    IfOk-from_err c.from_residual.result _ c.from_residual.ensures.0
+
+pub decline-requires-clause-handle : goal.decline-requires-clause-handle
+decline-requires-clause-handle g c =
+    let x = c.in_ok-reply.ensures.write in
+    subst (λ (k : Config). c.args.h.n < k.handles) (sym (g.met.D.Desk.stays _ _ x.events x.ran))
+    c.requires.handle
+
+pub bring-requires-clause-handle : goal.bring-requires-clause-handle
+bring-requires-clause-handle g c =
+    let x = c.in_ok-reply.ensures.write in let d = c.in_default.ensures.declines.1 in
+    subst (λ (k : Config). c.args.h.n < k.handles)
+    (sym (g.met.D.Desk.stays _ _ d.events d.ran ∙ g.met.D.Desk.stays _ _ x.events x.ran))
+    c.requires.handle
+
+pub bring-requires-clause-config : goal.bring-requires-clause-config
+bring-requires-clause-config g c =
+    let x = c.in_ok-reply.ensures.write in let d = c.in_default.ensures.declines.1 in
+    subst IsAccepted
+    (sym (g.met.D.Desk.stays _ _ d.events d.ran ∙ g.met.D.Desk.stays _ _ x.events x.ran))
+    c.requires.config
+
+pub bring-requires-clause-configured : goal.bring-requires-clause-configured
+bring-requires-clause-configured g c =
+    let x = c.in_ok-reply.ensures.write in let d = c.in_default.ensures.declines.1 in
+    configured_as _ _ c.args.far.now c.write.new.far
+    (g.met.D.Desk.stays _ _ d.events d.ran ∙ g.met.D.Desk.stays _ _ x.events x.ran)
+    c.in_ok-reply.ensures.far c.requires.configured
+
+pub bring-requires-clause-counts : goal.bring-requires-clause-counts
+bring-requires-clause-counts g c =
+    subst (λ (f : FarState). (f.counts.sets < 2 ^ 62) × (f.counts.keys < 2 ^ 62))
+    (sym c.in_ok-reply.ensures.far) c.requires.counts
+
+pub bring-requires-clause-given : goal.bring-requires-clause-given
+bring-requires-clause-given g c =
+    subst (λ (f : FarState). f.nodes.given + 16 < 2 ^ 64) (sym c.in_ok-reply.ensures.far)
+    c.requires.given
+
+pub returns-in_err-came-clause-writes : goal.returns-in_err-came-clause-writes
+returns-in_err-came-clause-writes g c =
+    IfOk-from_err c.from_residual-in_err-came.result _ c.from_residual-in_err-came.ensures.0
+
+pub write-requires-2-clause-handle : goal.write-requires-2-clause-handle
+write-requires-2-clause-handle g c =
+    let x = c.in_ok-reply.ensures.write in let d = c.in_default.ensures.declines.1 in
+    subst (λ (k : Config). c.args.h.n < k.handles)
+    (sym (c.in_ok-came.ensures.settings
+    ∙ (g.met.D.Desk.stays _ _ d.events d.ran ∙ g.met.D.Desk.stays _ _ x.events x.ran)))
+    c.requires.handle
+
+pub write-requires-2-clause-sound : goal.write-requires-2-clause-sound
+write-requires-2-clause-sound g c = c.in_ok-came.ensures.sound
+
+pub returns-in_err-reply-clause-error : goal.returns-in_err-reply-clause-error
+returns-in_err-reply-clause-error g c =
+    absurd (true≢false (sym c.in_err-reply.ensures.memory))
+
+pub returns-clause-error : goal.returns-clause-error
+returns-clause-error g c = never _ c.write-2.result c.write-2.ensures.memory
