@@ -25,6 +25,7 @@ pub mod AfterEvict
 mod WorkedLoose
 mod WorkedEvict
 mod WorkedEvictStep
+mod WorkedEvicted
 mod WorkedSetMade
 mod WorkedShip
 mod Restores
