@@ -2,4 +2,8 @@ pub mod Writes
 pub mod Walking
 pub mod Tables
 pub mod Words
+pub mod Halves
+pub mod PairSums
+pub mod Closings
 pub mod WorkedWeights
+pub mod WorkedClosing

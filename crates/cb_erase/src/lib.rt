@@ -3,6 +3,8 @@
 
 mod laws;
 mod lost;
+mod pair;
+mod restoring;
 mod solving;
 mod table;
 mod weighing;

@@ -7,8 +7,9 @@ ghost use Rattle.cb_gf256.specs.Lagrange.{AreFactors};
 ghost use Rattle.cb_erase.specs.Weights.{IsSolution};
 
 use crate::lost::lost_positions;
+use crate::restoring::restore;
 use crate::weighing::factor_row;
-use cb_gf256::{Factors, NoMemory, Rows};
+use cb_gf256::{NoMemory, Rows};
 use std::alloc::Global;
 
 /// The code word that agrees with the rows at the `k` positions `present`; what the other rows
@@ -24,21 +25,21 @@ pub fn solve(alloc: Global, k: u32, r: u32, rows: &Rows, present: &[u8]) -> Resu
 {
     let positions = lost_positions(k, r, present);
     let lost = &positions[..r as usize];
-    let factors = lost_factors(k, r, present, lost);
+    let table = lost_factors(k, r, present, lost);
     let mut word = Rows::new(alloc, k + r, rows.row_len())?;
-    word.restore(lost, &factors, rows, present);
+    restore(&mut word, lost, &table, rows, present);
     Ok(word)
 }
 
 /// The factors of the present rows in the lost ones: row e is for the row at `lost[e]`.
-fn lost_factors(k: u32, r: u32, present: &[u8], lost: &[u8]) -> Factors
+fn lost_factors(k: u32, r: u32, present: &[u8], lost: &[u8]) -> [[u8; 16]; 4]
     requires in_range { IsInRange k r }
     requires present { length present.now ≡ k }
     requires lost { length lost.now ≡ r }
     requires ascending { IsStrictlyIncreasing lost.now }
     requires below { All (λ m. m < 255) lost.now }
-    ensures height { length result ≡ r }
-    ensures width { HaveLength k result }
+    ensures height { length result ≡ 4 }
+    ensures width { HaveLength 16 result }
     ensures factors { AreFactors k r (λ i. slice_index present.now i)
         (λ e. slice_index lost.now e) (byte_at result) }
 {
@@ -46,5 +47,5 @@ fn lost_factors(k: u32, r: u32, present: &[u8], lost: &[u8]) -> Factors
     for e in 0..lost.len() {
         table[e] = factor_row(present, lost, e);
     }
-    Factors::of_table(&table, k, r)
+    table
 }
