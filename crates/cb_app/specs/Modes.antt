@@ -33,8 +33,8 @@ Refuses Seq bytes text = TellsFault (IsUnanswered bytes) text
 Refuses Check bytes text = TellsFault (First bytes scripts.Seq) text
 Refuses Scrub bytes text = scrubs.Refuses bytes text
 
--- the bytes have the form that the command wants; `seq` wants verbs that are built, and `check` any;
--- `scrub` wants rows
+-- the bytes have the form that the command wants; `seq` wants verbs that are built, and `check`
+-- any; `scrub` wants rows
 abbrev pub Accepts : Command → List ℕ → Type 0
 Accepts Seq bytes =
     (script : Script) × Spells bytes scripts.Seq script

@@ -4,3 +4,5 @@
 
 #[cfg(test)]
 mod rma;
+#[cfg(test)]
+mod scrub_text;

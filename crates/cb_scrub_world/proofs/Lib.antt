@@ -3,3 +3,4 @@ pub mod Given
 pub mod After
 pub mod Scrubs
 pub mod WorkedScrubs
+pub mod SoundScrub
