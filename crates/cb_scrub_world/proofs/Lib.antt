@@ -4,3 +4,4 @@ pub mod After
 pub mod Scrubs
 pub mod WorkedScrubs
 pub mod SoundScrub
+pub mod Again

@@ -1,5 +1,5 @@
 -- A sound world may be scrubbed, and so may one with a byte of a row spoilt.
-use Rattle.std.proofs.Common.{◌≡◌, ℕ, ◌+◌, ◌^◌, ◌<◌, ◌≤◌, true, false, List, [], length, get_or, set, Option, Some, All, is_some, sym, ap, ◌∙◌, arith, inl, inr}
+use Rattle.std.proofs.Common.{◌≡◌, ℕ, ◌^◌, ◌<◌, List, [], length, get_or, set, Option, Some, is_some, sym, ap, ◌∙◌, arith, inl, inr}
 use Rattle.std.specs.List.{slice_get}
 use Rattle.std.specs.Option.{unwrap_or}
 use Rattle.std.specs.FinMap as map
@@ -10,13 +10,11 @@ use Rattle.cb_gf256.specs.Rows.{row_at}
 use Rattle.cb_gf256.specs.Sum.{◌⊕◌}
 use Rattle.cb_member.specs.declared.names.NodeId.{NodeId}
 use Rattle.cb_member.specs.declared.names.Shard.{Shard}
-use Rattle.cb_node.specs.NodesState.{NodesState, has, known_row, with_row, with_spoiled, row_at as row_under}
+use Rattle.cb_node.specs.NodesState.{NodesState, known_row, with_row, with_spoiled, row_at as row_under}
 use Rattle.cb_node.proofs.Laws.{row_is_put, put_keeps_other_rows}
-use Rattle.cb_set.specs.Lost.{is_lost}
-use Rattle.cb_set.specs.SetState.{SetState, parities}
+use Rattle.cb_set.specs.SetState.{SetState}
 use Rattle.cb_world.specs.FarSound.{AwaySound}
 use Rattle.cb_world.specs.FarState.{FarState}
-use Rattle.cb_world.specs.Sets.{set_in}
 use Rattle.cb_world.specs.SetWord.{IsShaped, IsWordOf}
 use Rattle.cb_world.specs.declared.shown.Shown.{Shown}
 use Rattle.cb_scrub_world.specs.Scrub.{MayScrub, MayScrubSet, with_nodes}
@@ -48,7 +46,7 @@ sound_may_scrub s far sound given = record {
 -- ---- a byte that is spoilt
 
 -- a row that is replaced by one of its length, and each other row, stands
-stands_with : (nodes : NodesState) (node : NodeId) (key : ℕ) (row : List ℕ) (shard : Shard) → node.n < length nodes.nodes → length row ≡ length (known_row nodes node key) → Stands nodes shard → Stands (with_row nodes node key row) shard
+pub stands_with : (nodes : NodesState) (node : NodeId) (key : ℕ) (row : List ℕ) (shard : Shard) → node.n < length nodes.nodes → length row ≡ length (known_row nodes node key) → Stands nodes shard → Stands (with_row nodes node key row) shard
 stands_with nodes node key row shard within long stands =
     let count : length (with_row nodes node key row).nodes ≡ length nodes.nodes = length-set nodes.nodes node.n (map.insert (get_or nodes.nodes node.n map.empty) key row) in
     let inside : shard.node.n < length (with_row nodes node key row).nodes = omega (arith, count, stands.node) in

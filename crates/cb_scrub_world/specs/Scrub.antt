@@ -51,7 +51,7 @@ Leaves old set (Many power column sum) new = new ≡ with_given old (length set.
 
 -- the rows of the set are examined
 pub record IsExamined (old : NodesState) (set : SetState) (found : Found) (new : NodesState)
-  : Type 0
+    : Type 0
   where
     pub is_found : IsFound (parities set) (rows_of old set.shards) found
     pub leaves : Leaves old set found new
