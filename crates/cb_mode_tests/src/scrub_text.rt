@@ -23,10 +23,7 @@ fn refused(verdict: Verdict) -> Option<Bytes> {
 fn one_wrong_row_is_made_right_and_told(rt: HostRuntime) -> Result<(), Fail> {
     let bytes = b"scrub 1 k=2 r=2\n01\n05\nc8\nc9\n";
     let text = done(scrub_bytes(rt.alloc(), bytes)?).ok_or("refused")?;
-    assert_eq!(rt;
-        text.as_slice(),
-        b"mended 1\n01\n00\nc8\nc9\n".as_slice()
-    );
+    assert_eq!(rt; text.as_slice(), b"mended 1\n01\n00\nc8\nc9\n".as_slice());
     Ok(())
 }
 

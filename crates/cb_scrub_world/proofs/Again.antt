@@ -23,7 +23,7 @@ use Rattle.cb_scrub_world.proofs.Given.{stands_at}
 use Rattle.cb_scrub_world.proofs.Scrubs.{all_stand}
 use Rattle.cb_scrub_world.proofs.SoundScrub.{stands_with}
 
-given_stands : (old : NodesState) (n : ℕ) (shard : Shard) → Stands old shard → Stands (with_given old n) shard
+pub given_stands : (old : NodesState) (n : ℕ) (shard : Shard) → Stands old shard → Stands (with_given old n) shard
 given_stands old n shard stands = record { node = stands.node; there = stands.there; wide = stands.wide }
 
 -- each row still stands behind an examination
