@@ -13,8 +13,8 @@ use crate::ending::Ending;
 use cb_cli::{Command, Verdict, answers_text, script_fault_text, script_ok_text};
 use cb_lanes::run_seq;
 use cb_rma_text::rma_bytes;
-use cb_scrub_text::scrub_bytes;
 use cb_script::{Mode, Reason, Script, ScriptFault, first_unbuilt, read_script};
+use cb_scrub_text::scrub_bytes;
 use cb_types::{Bytes, NoMemory};
 use std::alloc::Global;
 

@@ -53,8 +53,8 @@ IsFilled len count texts rows (Some i) = StopsAt len count texts i
 abbrev pub IsNoRow : List ℕ → Type 0
 IsNoRow text = (len : ℕ) → 1 ≤ len → len ≤ 4096 → (row : List ℕ) → SpellsRow len text row → ⊥
 
--- why the lines behind a header are none that may be asked, and the number of the bad line: the first
--- row is missing or none, or the rows have the length of the first and stop
+-- why the lines behind a header are none that may be asked, and the number of the bad line: the
+-- first row is missing or none, or the rows have the length of the first and stop
 pub data BadRows (count : ℕ) (texts : List (List ℕ)) (line : ℕ) : Type 0 where
   NoLine : texts ≡ [] → line ≡ 2 → BadRows count texts line
   NoRow : (text : List ℕ) (behind : List (List ℕ)) → texts ≡ text ∷ behind → IsNoRow text

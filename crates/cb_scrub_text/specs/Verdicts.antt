@@ -25,7 +25,8 @@ mended_text position rows =
 -- the power and the column of a syndrome, and its value in two hexadecimal digits
 abbrev pub many_text : ℕ → ℕ → ℕ → List ℕ
 many_text power column sum =
-    codes "many " ++ (decimal power ++ (codes " " ++ (decimal column ++ (codes " " ++ row_text (sum ∷ [])))))
+    codes "many "
+    ++ (decimal power ++ (codes " " ++ (decimal column ++ (codes " " ++ row_text (sum ∷ [])))))
 
 -- the refusal, with a line's number
 abbrev pub refusal_text : ℕ → List ℕ

@@ -8,9 +8,9 @@ use cb_types::NoMemory;
 use std::alloc::Global;
 
 /// Examines the rows that the bytes spell, and tells what was found: that they are a code word, the
-/// one row that was wrong and all rows with that one made right, or the first syndrome that is not 0.
-/// Other bytes are refused, with the first line that is outside the form. The only error is want of
-/// memory.
+/// one row that was wrong and all rows with that one made right, or the first syndrome that is not
+/// 0. Other bytes are refused, with the first line that is outside the form. The only error is want
+/// of memory.
 pub fn scrub_bytes(alloc: Global, bytes: &[u8]) -> Result<Verdict, NoMemory>
     ensures verdict { IfOk result (IsVerdict bytes.now) }
     ensures yields { (text : List ℕ) → Yields bytes.now text

@@ -1,5 +1,5 @@
 -- Worked examples: which set comes next, what a set has to be, and what a scrub leaves.
-use Rattle.std.proofs.Common.{◌≡◌, ◌≢◌, ℕ, zero, suc, ◌+◌, ◌<◌, ◌≤◌, true, false, List, [], ◌∷◌, length, Option, None, Some, is_some, refl, sym, ap, ◌∙◌, subst, arith}
+use Rattle.std.proofs.Common.{◌≡◌, ℕ, ◌<◌, ◌≤◌, true, false, length, Option, None, Some, is_some, refl, sym, ap, ◌∙◌, subst, arith}
 use Rattle.std.specs.FinMap as map
 use Rattle.std.specs.Ordering.{nat_cmp}
 use Rattle.cb_member.specs.declared.names.Shard.{Shard}
@@ -12,7 +12,7 @@ use Rattle.cb_types.specs.declared.handle.SetId.{SetId}
 use Rattle.cb_world.specs.FarState.{FarState}
 use Rattle.cb_world.specs.Sets.{SetMap, if_committed, set_in}
 use Rattle.cb_scrub_world.specs.Next.{Above, IsNext, AreNone}
-use Rattle.cb_scrub_world.specs.Standing.{Stands, rows_of}
+use Rattle.cb_scrub_world.specs.Standing.{Stands}
 use Rattle.cb_scrub_world.specs.Scrub.{AreRight, MakesRight, MayScrub, Skips}
 
 -- ---- which set comes next

@@ -50,7 +50,8 @@ Leaves old set (One position) new =
 Leaves old set (Many power column sum) new = new ≡ with_given old (length set.shards)
 
 -- the rows of the set are examined
-pub record IsExamined (old : NodesState) (set : SetState) (found : Found) (new : NodesState) : Type 0
+pub record IsExamined (old : NodesState) (set : SetState) (found : Found) (new : NodesState)
+    : Type 0
   where
     pub is_found : IsFound (parities set) (rows_of old set.shards) found
     pub leaves : Leaves old set found new
@@ -62,8 +63,8 @@ AreRight r before Clean after = IsWord r after × (after ≡ before)
 AreRight r before (One position) after = IsWordBut r before position after
 AreRight r before (Many power column sum) after = after ≡ before
 
--- the rows are right afterwards, and where they differed from some word in one row at the most, they
--- are that word
+-- the rows are right afterwards, and where they differed from some word in one row at the most,
+-- they are that word
 pub record MakesRight (r : ℕ) (before : List (List ℕ)) (found : Found) (after : List (List ℕ))
     : Type 0 where
   pub right : AreRight r before found after

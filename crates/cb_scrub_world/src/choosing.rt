@@ -8,7 +8,8 @@ use cb_world::Far;
 
 /// The least number above a set's, or of all; None where none is above.
 fn least_above(after: Option<SetId>) -> Option<u64>
-    ensures some { IfSome result (λ from. (j : ℕ) → (Above after j → from ≤ j) × (from ≤ j → Above after j)) }
+    ensures some { IfSome result (λ from. (j : ℕ) →
+        (Above after j → from ≤ j) × (from ≤ j → Above after j)) }
     ensures none { IfNone result ((j : ℕ) → Above after j → 2 ^ 64 ≤ j) }
 {
     match after {

@@ -17,8 +17,8 @@ use std::alloc::Global;
 /// A row has so many bytes, those of a span.
 const ROW_BYTES: u32 = 4096;
 
-/// Gives all rows of a set out and examines them; one wrong row is made right at its node. Takes the
-/// memory of all rows first; its want leaves the nodes as they were.
+/// Gives all rows of a set out and examines them; one wrong row is made right at its node. Takes
+/// the memory of all rows first; its want leaves the nodes as they were.
 pub(crate) fn examine_set(
     alloc: Global,
     nodes: &mut Nodes,

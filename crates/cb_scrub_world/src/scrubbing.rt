@@ -1,4 +1,4 @@
-ghost use Rattle.std.specs.Prelude.{◌≡◌, ◌^◌, ◌<◌, All, IfOk, IsSome, OnErr, Some, length};
+ghost use Rattle.std.specs.Prelude.{◌≡◌, ◌+◌, ◌^◌, ◌<◌, ◌≤◌, All, IfOk, IsSome, OnErr, Some, length};
 ghost use Rattle.cb_gf256.specs.InRange.{IsInRange};
 ghost use Rattle.cb_set.specs.Lost.{NodesAreMembers, lost};
 ghost use Rattle.cb_set.specs.Nodes.{OnDistinctNodes};
@@ -21,6 +21,18 @@ use std::alloc::Global;
 /// that row is made right at its node. The world need not be sound: rows may be wrong. Want of
 /// memory changes nothing.
 pub fn scrub_next(alloc: Global, far: &mut Far, after: Option<SetId>) -> Result<Scrubbed, NoMemory>
+    requires { MayScrub far.old }
+    ensures scrubs { IfOk result (λ scrubbed. Scrubs after far.old scrubbed far.new) }
+    ensures word { IfOk result (λ scrubbed. KeepsWord far.old scrubbed far.new) }
+    ensures error { OnErr result (far.new ≡ far.old) }
+    // What a caller needs for the next scrub, whatever the answer.
+    ensures again { far.new.nodes.given < 2 ^ 62 → MayScrub far.new }
+    ensures given { far.new.nodes.given ≤ far.old.nodes.given + 20 }
+{
+    scrub_least(alloc, far, after)
+}
+
+fn scrub_least(alloc: Global, far: &mut Far, after: Option<SetId>) -> Result<Scrubbed, NoMemory>
     requires { MayScrub far.old }
     ensures scrubs { IfOk result (λ scrubbed. Scrubs after far.old scrubbed far.new) }
     ensures word { IfOk result (λ scrubbed. KeepsWord far.old scrubbed far.new) }
