@@ -344,8 +344,13 @@ claim_one far s before h w v words sound range stamp warm looks agree free =
     risen : (k : ℕ) → Dec (k ≡ h) → version_at s h ≤ v
         → version_at s k ≤ get_or (set s.versions h v) k 0
     risen k (yes e) newer = let now = get_or-set_same s.versions h v 0 stamp in
-        omega (arith, ap (version_at s) e, ap (λ (j : ℕ). get_or (set s.versions h v) j 0) e, now,
-        newer)
+        omega (
+          arith,
+          ap (version_at s) e,
+          ap (λ (j : ℕ). get_or (set s.versions h v) j 0) e,
+          now,
+          newer,
+        )
     risen k (no n) newer = omega (arith, get_or-set_other s.versions h k v 0 n)
 
     apart_from : (q : ℕ) → (Covers (place_of w) (len_of w) q → ⊥)

@@ -75,7 +75,7 @@ settled_well far s t first done h w v words hot sound a back =
           (length_put s.memory (place_of w) words)
           (λ k other. get_or-set_other s.versions h k v 0 other)
           (let told = sym (ap (λ (q : Shown). version_at q h) a.at_claim) ∙ a.claimed.version in
-              omega (arith, a.newer, told))
+          omega (arith, a.newer, told))
           (put_beside s.memory words (place_of w) (len_of w) count);
       objects = objects;
       hot = ap (λ (l : List Bool). set l h hot) (sym a.told_hots);

@@ -58,7 +58,10 @@ fn is_beyond(sender: &mut Sender, order: &Order) -> Result<bool, NoMemory>
     };
     let taken = sender.submit(order)?;
     let heard = sender.heard(&ack);
-    Ok(matches!(taken, Submitted::Taken { number: 0 }) && matches!(heard, Heard::Beyond { count: 5 }))
+    Ok(
+        matches!(taken, Submitted::Taken { number: 0 })
+            && matches!(heard, Heard::Beyond { count: 5 }),
+    )
 }
 
 /// So of a new sender.

@@ -114,8 +114,12 @@ arrived_known s t far new id p set f n span row x y = record {
   first = y.brought.first ∙ x.sound.here.known.first ∙ sym y.first;
   least = omega (arith, y.first, x.sound.here.known.least);
   versioned = λ h below. let stays = ap (λ (l : List ℕ). get_or l h 0) y.brought.versions in
-      omega (arith, y.first, stays,
-      x.sound.here.known.versioned h (let k = y.made in omega (arith, below, k)));
+      omega (
+        arith,
+        y.first,
+        stays,
+        x.sound.here.known.versioned h (let k = y.made in omega (arith, below, k)),
+      );
   bounded = (let k = y.brought.objects in
       omega (arith, y.made, k, x.sound.here.known.bounded));
   made = λ h below. subst (λ (m : ℕ). m ≤ h ↔ (object_at t h ≡ never)) (sym y.made)

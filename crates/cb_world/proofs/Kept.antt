@@ -99,8 +99,13 @@ sound_kept far s t h len place sound here first objects memory versions rises =
             subst (λ (o : Object).
             IsStamped o (version_at t k)) (sym (at k)) (stamp k (ℕ_discrete k h));
         versioned = λ k below. elim (ℕ_discrete k h) [
-          | yes e ↦ omega (arith, sound.known.versioned k below, ap (version_at s) e,
-              ap (version_at t) e, rises)
+          | yes e ↦ omega (
+            arith,
+            sound.known.versioned k below,
+            ap (version_at s) e,
+            ap (version_at t) e,
+            rises,
+          )
           | no off ↦ omega (arith, sound.known.versioned k below, versions k off)
         ];
       };
