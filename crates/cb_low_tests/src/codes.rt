@@ -10,16 +10,16 @@ use cb_gf256::{NoMemory, Rows, xor_row};
 use std::alloc::Global;
 use std::process::Abort;
 
-/// Rows of 33 bytes each, all the same: a block and a rest.
+/// Rows of 64 bytes each, all the same: a pair of blocks, and no rest.
 #[tactic(auto, using(cb_gf256::proofs::PublicLaws::written_rows))]
 fn column_of(alloc: Global, bytes: &[u8]) -> Result<Rows, NoMemory>
     requires { length bytes.now < 2 ^ 32 }
     ensures count { IfOk result (λ rows. length rows ≡ length bytes.now) }
-    ensures lengths { IfOk result (λ rows. HaveLength 33 rows) }
+    ensures lengths { IfOk result (λ rows. HaveLength 64 rows) }
 {
-    let mut rows = Rows::new(alloc, bytes.len() as u32, 33)?;
+    let mut rows = Rows::new(alloc, bytes.len() as u32, 64)?;
     for (i, byte) in bytes.iter().enumerate() {
-        xor_row(rows.row_mut(i as u32), &[*byte; 33]);
+        xor_row(rows.row_mut(i as u32), &[*byte; 64]);
     }
     Ok(rows)
 }
@@ -43,13 +43,13 @@ fn expect_positions(rt: &impl Abort, n: u32, k: u32, positions: &[u8])
     }
 }
 
-/// Whether the rows are these bytes, each 33 times.
+/// Whether the rows are these bytes, each 64 times.
 fn are_rows_of(rows: &Rows, bytes: &[u8]) -> bool {
     if rows.count() as usize != bytes.len() {
         return false;
     }
     for (p, byte) in bytes.iter().enumerate() {
-        if rows.row(p as u32) != [*byte; 33].as_slice() {
+        if rows.row(p as u32) != [*byte; 64].as_slice() {
             return false;
         }
     }
