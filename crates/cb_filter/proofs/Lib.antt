@@ -6,6 +6,8 @@ pub mod Moved
 pub mod Settled
 pub mod Filtered
 pub mod FilterStep
+pub mod Stays
+pub mod Unwritten
 pub mod WorkedSeats
 mod WorkedFilter
 mod WorkedFilterStep

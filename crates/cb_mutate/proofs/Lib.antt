@@ -24,6 +24,8 @@ pub mod WriteCall
 pub mod FarCall
 pub mod FreeCall
 pub mod MakeStep
+pub mod Stays
+pub mod Unwritten
 pub mod MakeCall
 mod WorkedSteps
 pub mod MapBeside

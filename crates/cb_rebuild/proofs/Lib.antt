@@ -2,7 +2,7 @@ pub mod WeakSets
 mod Walking
 pub mod RestoredFar
 pub mod RebuildKeeps
-pub mod RebuildCounts
+pub mod Stays
 mod WorkedWord
 mod WorkedWeak
 mod WorkedRebuilt

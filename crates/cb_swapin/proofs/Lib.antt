@@ -13,6 +13,8 @@ pub mod SwapAnswers
 pub mod SwapWords
 pub mod SwapStep
 pub mod SwapKeeps
+pub mod Stays
+pub mod Unwritten
 pub mod SwapPins
 pub mod FarHomes
 pub mod SwapWorld
