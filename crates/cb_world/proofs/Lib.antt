@@ -16,6 +16,7 @@ pub mod Added
 pub mod GivenUp
 pub mod SetChanging
 pub mod SetsLeft
+pub mod Rooms
 pub mod GivenUpNow
 pub mod FarGone
 pub mod FarGoneNow
@@ -62,6 +63,8 @@ pub mod Choices
 pub mod Slots
 pub mod Placed
 pub mod Empty
+pub mod Codes
+pub mod Staying
 pub mod Worlds
 pub mod NodeJoin
 pub mod Alike
@@ -81,4 +84,5 @@ mod WorkedAdded
 mod WorkedJoin
 mod WorkedPairs
 mod WorkedBatch
+mod WorkedRooms
 pub mod WorkedWord

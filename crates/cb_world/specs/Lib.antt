@@ -17,6 +17,8 @@ pub mod Joining
 pub mod Counts
 pub mod Survey
 pub mod FarState
+pub mod Rooms
+pub mod Codes
 pub mod NodeChanges
 pub mod RowWords
 pub mod SetWord
