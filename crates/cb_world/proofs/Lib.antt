@@ -1,3 +1,4 @@
+mod Padded
 pub mod Grasping
 pub mod Windows
 pub mod Tracing
