@@ -24,6 +24,7 @@ pub mod WriteCall
 pub mod FarCall
 pub mod FreeCall
 pub mod MakeStep
+pub mod StepsFixed
 pub mod MakeCall
 mod WorkedSteps
 pub mod MapBeside

@@ -1,5 +1,6 @@
 pub mod Merged
 pub mod Stores
+pub mod Wordwise
 pub mod Answered
 pub mod WriteRule
 pub mod WriteEnds

@@ -3,6 +3,7 @@ mod Walking
 pub mod RestoredFar
 pub mod RebuildKeeps
 pub mod RebuildCounts
+pub mod StepFixed
 mod WorkedWord
 mod WorkedWeak
 mod WorkedRebuilt

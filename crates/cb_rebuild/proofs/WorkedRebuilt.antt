@@ -127,6 +127,7 @@ rebuilt = record {
   row = row 7;
   lost = refl;
   named = new_shard;
+  some_word = (rows, is_word);
   of_word = row_of_parity;
   state = refl;
   reply = refl;

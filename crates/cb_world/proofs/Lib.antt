@@ -70,6 +70,7 @@ pub mod Worlds
 pub mod NodeJoin
 pub mod Alike
 pub mod Pins
+pub mod Fixed
 mod WorkedDesk
 mod WorkedWorld
 mod WorkedFar
