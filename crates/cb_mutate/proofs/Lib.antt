@@ -25,6 +25,8 @@ pub mod FarCall
 pub mod FreeCall
 pub mod MakeStep
 pub mod StepsFixed
+pub mod Stays
+pub mod Unwritten
 pub mod MakeCall
 mod WorkedSteps
 pub mod MapBeside

@@ -1,19 +1,22 @@
 -- What changes of the nodes' rows leave of their room.
-use Rattle.std.proofs.Common.{◌≡◌, ◌⊎◌, ℕ, ◌+◌, ◌<◌, ◌≤◌, Bool, true, false, cond, if◌then◌else◌, List, [], ◌∷◌, length, refl, ap, sym, subst, ◌∙◌, arith, inl, inr, length-set}
+use Rattle.std.proofs.Common.{◌≡◌, ◌≢◌, ◌⊎◌, ℕ, suc, ◌+◌, ◌<◌, ◌≤◌, Bool, true, false, cond, if◌then◌else◌, List, [], ◌∷◌, length, get_or, Some, refl, ap, sym, subst, ◌∙◌, arith, inl, inr, length-set}
 use Rattle.std.specs.Cmp.{nat_cmp_total}
 use Rattle.std.specs.Ordering.{nat_cmp}
 use Rattle.std.specs.FinMap as map
 use Rattle.std.proofs.lemmas.Bool.{cases_eq, cases_lt}
+use Rattle.std.specs.List.{slice_get}
+use Rattle.std.proofs.lemmas.Option.{slice_get_within, slice_get-get_or}
 use Rattle.std.proofs.lemmas.List.{get_or-replicate, get_or_past, length-replicate}
 use Rattle.cb_member.specs.declared.names.NodeId.{NodeId}
 use Rattle.cb_member.specs.declared.names.Shard.{Shard}
 use Rattle.cb_node.specs.Rows.{RowsByKey}
 use Rattle.cb_node.specs.NodesState.{NodesState, empty_nodes, held, rows_at, with_dropped, with_row, with_rows}
 use Rattle.cb_node.proofs.Laws.{change_is_at_its_node, other_nodes_hold_as_many}
+use Rattle.cb_set.specs.Nodes.{OnDistinctNodes}
 use Rattle.cb_set.specs.SetState.{SetState, is_live}
 use Rattle.cb_world.specs.LeftOver.{nodes_left}
 use Rattle.cb_world.specs.Rooms.{HaveRoom, KeepRoom}
-use Rattle.cb_world.specs.Stored.{all_dropped}
+use Rattle.cb_world.specs.Stored.{all_dropped, all_put}
 
 -- how many rows a node past the last holds
 none_past : (nodes : NodesState) (node : NodeId) → length nodes.nodes ≤ node.n → held nodes node ≡ 0
@@ -63,6 +66,33 @@ pub room_dropped : (nodes : NodesState) (shards : List Shard)
 room_dropped nodes [] room = room
 room_dropped nodes (x ∷ xs) room =
     room_dropped (with_dropped nodes x.node x.key) xs (room_drop nodes x.node x.key room)
+
+-- many rows more, each at another node with room
+pub room_puts : (nodes : NodesState) (shards : List Shard) (rows : List (List ℕ))
+    → ((p : ℕ) (shard : Shard) → slice_get shards p ≡ Some shard
+    → held nodes shard.node < nodes.room)
+    → OnDistinctNodes shards → KeepRoom nodes (all_put nodes shards rows)
+room_puts nodes [] rows fits apart room = room
+room_puts nodes (x ∷ xs) [] fits apart room = room
+room_puts nodes (x ∷ xs) (row ∷ rows) fits apart room =
+    room_puts (with_row nodes x.node x.key row) xs rows later
+    (λ i j d less within. apart (suc i) (suc j) d (omega (arith, less)) (omega (arith, within)))
+    (room_put nodes x.node x.key row (fits 0 x refl) room)
+  where
+    some_same : (a b : Shard) → Some a ≡ Some b → a ≡ b
+    some_same a b e = cc
+
+    later : (p : ℕ) (shard : Shard) → slice_get xs p ≡ Some shard
+        → held (with_row nodes x.node x.key row) shard.node < nodes.room
+    later p shard at =
+        let within = slice_get_within xs p shard at in
+        let same = some_same (get_or xs p shard) shard (sym (slice_get-get_or xs p shard within) ∙ at) in
+        let off : shard.node.n ≢ x.node.n =
+        λ e. apart 0 (suc p) shard (omega arith) (omega (arith, within))
+        (sym e ∙ ap (λ (s : Shard). s.node.n) (sym same)) in
+        let e = other_nodes_hold_as_many nodes x.node shard.node
+        (map.insert (rows_at nodes x.node) x.key row) off in
+        let f = fits (suc p) shard at in omega (arith, e, f)
 
 -- no row at one node
 pub room_wiped : (nodes : NodesState) (node : NodeId) → KeepRoom nodes (with_rows nodes node map.empty)

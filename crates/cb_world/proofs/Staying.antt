@@ -100,3 +100,14 @@ pub stays_same : (c : Config) (n : ℕ) (far new : FarState) → 1 ≤ n → new
     → StaysIf c n far new
 stays_same c n far new some same =
     stays_like c n far new some (subst (IsLike far) (sym same) (like_same far))
+
+-- other counts
+pub recounted : (c : Config) (far : FarState) (counts : CountsState) → IsConfigured c far
+    → IsConfigured c (record far { counts = counts })
+recounted c far counts is = record {
+  frames = is.frames;
+  homes = is.homes;
+  nodes = is.nodes;
+  room = is.room;
+  codes = record { sets = is.codes.sets; batch = is.codes.batch };
+}
