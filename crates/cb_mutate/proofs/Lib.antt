@@ -12,6 +12,7 @@ pub mod FarSeen
 pub mod Loaded
 pub mod SettledHot
 pub mod ReadAfter
+pub mod Rooms
 pub mod Stepping
 pub mod WriteStep
 pub mod FreeStep
@@ -26,4 +27,5 @@ pub mod FreeCall
 pub mod MakeStep
 pub mod MakeCall
 mod WorkedSteps
+mod WorkedReads
 pub mod MapBeside
