@@ -311,8 +311,8 @@ pub read_lack : (c : Config) (seats : List SeatState) (h : ℕ)
     → CarriesLack c seats 1 (ReadLacks Ran Tells h) (StillReadLacks h)
 read_lack c seats h a b good (same, p) =
     let z = failed_step a.desk b.desk a.far b.far good.shown h good.known p in
-    read_kept c seats h a b (answer.Bytes z.0.0 z.0.1) _ (StillReadLacks h a b) good same z.0.2 z.1
-    (same, z.0)
+    let e = both_same a b z.1 same in
+    arrives_same c seats 1 a b (StillReadLacks h a b) good e (e, z.0)
 
 pub evict_lack : (c : Config) (seats : List SeatState)
     → CarriesLack c seats 24 (EvictLacks Ran Tells) StillEvictLacks

@@ -601,6 +601,7 @@ module _ (c : Config) (far : FarState) (frames : List ℕ) (formers : List Forme
     rows = rows;
     parities = parities;
     of = d.taken.of;
+    order = d.taken.order;
     each_once = d.taken.each_once;
     found = λ k e l. let f = get_or formers k e in
         found_more f.handle f.word before events (d.claimed.taken k e l).found (quiet f.handle);

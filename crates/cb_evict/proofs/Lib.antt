@@ -20,6 +20,7 @@ mod Ending
 mod Restored
 pub mod Composed
 mod LooseSpans
+pub mod FrameRows
 pub mod EvictStep
 pub mod AfterEvict
 mod WorkedLoose
@@ -49,6 +50,10 @@ pub mod BeginParts
 mod BeginEnd
 pub mod BeginStep
 pub mod AfterBegin
+pub mod EvictFixed
+pub mod BeginFixed
+pub mod CommitFixed
+pub mod AbortFixed
 mod WorkedBegin
 mod WorkedRules
 pub mod WorkedWide
@@ -56,3 +61,4 @@ pub mod PutShards
 pub mod ShippedFar
 pub mod ShipParts
 pub mod ShipStep
+pub mod ShipFixed

@@ -16,8 +16,8 @@ use Rattle.cb_world.specs.declared.event.Event.TheVariants.{Looked, Claimed, Set
 use Rattle.cb_world.specs.declared.leaving.Former.{Former}
 use Rattle.cb_member.specs.Membership.{with_crash}
 use Rattle.cb_set.specs.SetState.{SetState, filled_position, set_of}
-use Rattle.cb_span.specs.Contents.{Contents, handle_at}
-use Rattle.cb_span.specs.declared.temp.Temp.TheVariants.{Cold}
+use Rattle.cb_span.specs.Contents.{Contents, handle_at, span_of}
+use Rattle.cb_span.specs.declared.temp.Temp.TheVariants.{Cold, Hot}
 use Rattle.cb_world.specs.declared.object.Object.{Object}
 use Rattle.cb_world.specs.declared.object.Object.TheVariants as is
 use Rattle.cb_world.specs.declared.shown.Shown.{Shown}
@@ -39,16 +39,20 @@ use Rattle.cb_evict.specs.BeginEffect.{IsClaimedNow, IsBegun, BeginEffect}
 use Rattle.cb_evict.specs.BeginRule.{blank_shards, new_batch, with_batch, HasBegun, IsLeavingAlready, HasBatch, HasLooked, BeginRule}
 use Rattle.cb_evict.specs.Beginning.{AreParities}
 use Rattle.cb_evict.specs.Candidates.{candidates, IsLoose, IsHeldUp}
+use Rattle.cb_evict.specs.declared.eviction.Eviction.TheVariants.{Refused}
+use Rattle.cb_evict.specs.declared.eviction.Lack.TheVariants.{Spans}
 use Rattle.cb_evict.specs.Finding.{FindsFew, FindsLoose}
+use Rattle.cb_evict.proofs.Loose.{held_alone}
 use Rattle.cb_evict.specs.EvictRule.{IsInRow, AreInRows, HasFewSpans, HasFewNodes}
 use Rattle.cb_evict.proofs.Begun.{reserved_kept}
 use Rattle.cb_evict.proofs.NewSet.{set_added_in}
 use Rattle.cb_evict.specs.BeginStep.{frame_rows, AreHeld, IsBegunTo, IsBatchMade, IsBeginStep, is_leaving, few_spans, few_nodes, begins}
 use Rattle.cb_evict.specs.Claims.{AreApart}
+use Rattle.cb_evict.specs.Order.{noted_of, objects_of}
 use Rattle.cb_evict.specs.Claiming.{AreOf}
 use Rattle.cb_evict.specs.Looking.{IsIn, LooksOver}
 use Rattle.cb_evict.proofs.BeginParts.{leaving_batch, spans_batch}
-use Rattle.cb_evict.proofs.WorkedEvictStep.{settings, desk, calm, pinned, moving, pair, busy, lone, one_node, first_object, only_object, span_with, same_number, none_is}
+use Rattle.cb_evict.proofs.WorkedEvictStep.{settings, desk, calm, pinned, moving, pair, busy, lone, one_node, first_object, only_object, only_second, span_with, same_number, none_is}
 use Rattle.cb_evict.proofs.WorkedSetMade.{row, row_words, zero_row, is_word, two_nodes}
 
 -- ---- words of objects that are claimed
@@ -124,6 +128,7 @@ begun = record {
   words = former ∷ [];
   parities = row ∷ [];
   of = of_first;
+  order = refl;
   each_once = λ i j d less within. absurd (omega (arith, less, within));
   noted = All-cons (λ (f : Former). f.word ≡ word_at start f.handle) former [] refl
       (All-nil (λ (f : Former). f.word ≡ word_at start f.handle));
@@ -144,6 +149,31 @@ same_batch words parities y a =
     let e = some_batch (new_batch settings pair (0 ∷ []) words parities)
     (new_batch settings pair (0 ∷ []) a.words a.parities) (ap (λ (f : FarState). f.leaving) a.state) in
     (ap (λ (b : LeavingState). b.words) e, ap (λ (b : LeavingState). b.parities) e)
+
+-- ---- the order in which objects are noted
+-- a span with two objects, and one with another
+abbrev two : FarState
+two = record pair {
+  spans = Some (span_of (record { index = 0 }) Cold (Some 3 ∷ None ∷ Some 1 ∷ []))
+      ∷ Some (span_with Hot 2) ∷ [];
+}
+
+by_frame_and_slot : objects_of two.spans (1 ∷ 0 ∷ []) ≡ 2 ∷ 3 ∷ 1 ∷ []
+by_frame_and_slot = refl
+
+abbrev noted_at : ℕ → Former
+noted_at h = record { handle = h; word = calm }
+
+-- the object of a later slot is not noted first
+not_the_other_way : (x y : Words)
+    → IsBegunTo x y two (with_batch settings two (0 ∷ []) (noted_at 1 ∷ noted_at 3 ∷ []) (row ∷ []))
+    (0 ∷ []) → ⊥
+not_the_other_way x y a =
+    let e = some_batch (new_batch settings two (0 ∷ []) (noted_at 1 ∷ noted_at 3 ∷ []) (row ∷ []))
+    (new_batch x.settings two (0 ∷ []) a.words a.parities) (ap (λ (f : FarState). f.leaving) a.state) in
+    let first : 1 ≡ 3 = ap (λ (l : List ℕ). get_or l 0 0)
+    (ap (λ (b : LeavingState). noted_of b.words) e ∙ a.order) in
+    omega (arith, first)
 
 -- the object's word is noted
 not_forgotten : IsBegunTo start claimed pair (leaving_with [] (row ∷ [])) (0 ∷ []) → ⊥
@@ -398,6 +428,7 @@ has_begun = record {
   rows = row ∷ [];
   parities = row ∷ [];
   of = of_first;
+  order = refl;
   each_once = λ i j d less within. absurd (omega (arith, less, within));
   found = All-cons (λ (f : Former). IsFound f.handle f.word claim_zeros) former []
       (inr ((refl, refl), tt)) (All-nil (λ (f : Former). IsFound f.handle f.word claim_zeros));
@@ -602,14 +633,8 @@ first_loose h (slot, named) = by slot named
     by (suc (suc n)) e = absurd (none_is h e)
 
 second_held : IsHeldUp looks pair.spans 1
-second_held = (
-  1,
-  pinned,
-  (1, refl),
-  inl (inr ((refl, refl), tt)),
-  λ free. let e : 1 ≡ 0 = free.1 in
-      omega (arith, e),
-)
+second_held = held_alone pair.spans 1 looks 1 pinned only_second (1, refl)
+    (inl (inr ((refl, refl), tt))) (λ free. let e : 1 ≡ 0 = free.1 in omega (arith, e))
 
 over_both : LooksOver (λ es. es ≡ looks) pair.spans (candidates pair) (0 ∷ [])
 over_both = record {
@@ -623,25 +648,35 @@ over_both = record {
   finds = inr (first_loose, refl, (second_held, tt));
 }
 
-finds : FindsLoose (λ es. es ≡ looks) settings pair (0 ∷ [])
-finds = record { looks = over_both; enough = lit≤ tt; room = omega (arith, two_nodes) }
+finds : FindsLoose (λ es. es ≡ looks) settings pair (0 ∷ []) 2
+finds = record {
+  looks = over_both;
+  enough = lit≤ tt;
+  room = omega (arith, two_nodes);
+  nodes = sym two_nodes;
+}
+
+-- the nodes are counted
+not_other_nodes : (runs : List Event → Type 0) → FindsLoose runs settings pair (0 ∷ []) 3 → ⊥
+not_other_nodes runs a = let e = a.nodes in absurd (omega (arith, e, two_nodes))
 
 -- too few spans, and then too few nodes, are a refusal
-not_enough : (runs : List Event → Type 0) → FindsLoose runs settings pair [] → ⊥
-not_enough runs a = let l = a.enough in absurd (omega (arith, l))
+not_enough : (runs : List Event → Type 0) (n : ℕ) → FindsLoose runs settings pair [] n → ⊥
+not_enough runs n a = let l = a.enough in absurd (omega (arith, l))
 
-not_with_room : (runs : List Event → Type 0) → FindsLoose runs settings lone (0 ∷ []) → ⊥
-not_with_room runs a = let l = a.room in absurd (omega (arith, l, one_node))
+not_with_room : (runs : List Event → Type 0) (n : ℕ) → FindsLoose runs settings lone (0 ∷ []) n → ⊥
+not_with_room runs n a = let l = a.room in absurd (omega (arith, l, one_node))
 
-few : FindsFew (λ es. es ≡ looks) (record settings { k = 2 }) pair (answer.NoSpans 1)
+few : FindsFew (λ es. es ≡ looks) (record settings { k = 2 }) pair (Refused Spans 1 2)
 few = record {
   loose = 0 ∷ [];
   looks = over_both;
   few = inl (record { few = lit< tt; reply = refl; state = refl });
+  counts = (refl, sym two_nodes);
 }
 
 -- a refusal has its own count
-not_its_count : (runs : List Event → Type 0) → FindsFew runs settings pair (answer.NoSpans 1) → ⊥
+not_its_count : (runs : List Event → Type 0) → FindsFew runs settings pair (Refused Spans 1 2) → ⊥
 not_its_count runs a = by a.few
   where
     count_is : (n m : ℕ) → answer.NoSpans n ≡ answer.NoSpans m → n ≡ m
@@ -655,6 +690,11 @@ not_its_count runs a = by a.few
     by (inl x) = let l = x.few in let e = count_is 1 (length a.loose) x.reply in
         omega (arith, l, e)
     by (inr x) = spans_nodes 1 _ x.reply
+
+-- and the other one beside it, as it is and not another
+not_other_count : (runs : List Event → Type 0)
+    → FindsFew runs (record settings { k = 2 }) pair (Refused Spans 1 1) → ⊥
+not_other_count runs a = let e = a.counts.1 in absurd (omega (arith, e, two_nodes))
 
 -- the parities of the row of zeros
 parities_of : AreParities 1 2 (row ∷ []) (row ∷ [])

@@ -23,6 +23,7 @@ use Rattle.cb_world.specs.RowWords.{words_from, words_in}
 use Rattle.cb_world.specs.StillWords.{contents_at}
 use Rattle.cb_world.specs.World.{word_at}
 use Rattle.cb_world.specs.Survey.{no_survey}
+use Rattle.cb_evict.specs.Candidates.{Names}
 use Rattle.cb_evict.specs.EvictStep.{is_slot_loose, is_loose, loose_frames, AreSentOff, HaveContents, IsEvictStep, few_spans, few_nodes, made}
 use Rattle.cb_evict.specs.Looking.{IsIn}
 
@@ -51,7 +52,7 @@ desk words = record {
   settings = settings;
   words = words;
   versions = 3 ∷ 3 ∷ 3 ∷ 3 ∷ [];
-  memory = 0 ∷ 7 ∷ [];
+  memory = 0 ∷ 0 ∷ [];
 }
 
 -- a span with two slots, of which the second has an object
@@ -220,7 +221,11 @@ pub first_word : contents_at before 0 ≡ 0 ∷ []
 unfolding window
 first_word = refl
 
-second_word : contents_at (desk (further ∷ [])) 0 ≡ 7 ∷ []
+-- the object that lies further, and its word is 7
+abbrev seven : Words
+seven = record (desk (further ∷ [])) { memory = 0 ∷ 7 ∷ [] }
+
+second_word : contents_at seven 0 ≡ 7 ∷ []
 unfolding window
 second_word = refl
 
@@ -252,16 +257,27 @@ pub heads : (a b : ℕ) → a ∷ [] ≡ b ∷ [] → a ≡ b
 heads a b e = cc
 
 -- an object whose word is 7 is not in a row of zeros
-not_contents : HaveContents (desk (further ∷ [])) pair (0 ∷ []) ([] ∷ []) → ⊥
+not_contents : HaveContents seven pair (0 ∷ []) ([] ∷ []) → ⊥
 not_contents a =
     let e = heads 7 0 (sym second_word ∙ a 0 0 1 0 (span_with Cold 0) refl refl refl ∙ zeros) in
     absurd (omega (arith, e))
+
+-- each of the two spans has one object
+pub only_first : (h : ℕ) → Names pair.spans 0 h → 0 ≡ h
+only_first h (zero, e) = absurd (none_is h e)
+only_first h (suc zero, e) = same_number 0 h e
+only_first h (suc (suc n), e) = absurd (none_is h e)
+
+pub only_second : (h : ℕ) → Names pair.spans 1 h → 1 ≡ h
+only_second h (zero, e) = absurd (none_is h e)
+only_second h (suc zero, e) = same_number 1 h e
+only_second h (suc (suc n), e) = absurd (none_is h e)
 
 -- ---- the refusals
 abbrev pub busy : Words
 busy = desk (pinned ∷ pinned ∷ [])
 
-no_spans : IsEvictStep busy busy pair pair (answer.NoSpans 0)
+pub no_spans : IsEvictStep busy busy pair pair (answer.NoSpans 0)
 no_spans = few_spans (record { few = lit< tt; reply = refl; state = refl }) refl
 
 -- one node where two are needed: the one has room
@@ -271,7 +287,7 @@ lone = far_with pair.spans None 1
 pub one_node : room_count lone.nodes lone.members ≡ 1
 one_node = grind (arith, map.gets)
 
-no_nodes : IsEvictStep before before lone lone (answer.NoNodes 1)
+pub no_nodes : IsEvictStep before before lone lone (answer.NoNodes 1)
 no_nodes = few_nodes (record {
   enough = lit≤ tt;
   few = omega (arith, one_node);

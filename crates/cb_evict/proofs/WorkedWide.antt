@@ -345,6 +345,7 @@ begun = record {
     only = All-cons (λ (f : Former). IsIn far.spans (0 ∷ []) f.handle) former [] first_object
         (All-nil (λ (f : Former). IsIn far.spans (0 ∷ []) f.handle));
   };
+  order = refl;
   each_once = λ i j d less within. absurd (omega (arith, less, within));
   noted = All-cons (λ (f : Former). f.word ≡ word_at (desk calm) f.handle) former [] refl
       (All-nil (λ (f : Former). f.word ≡ word_at (desk calm) f.handle));

@@ -2,12 +2,14 @@ pub mod Candidates
 pub mod Events
 pub mod Claims
 pub mod Looking
+pub mod Order
 pub mod Claiming
 pub mod Loading
 pub mod Storing
 pub mod Sending
 pub mod Closing
 pub mod EvictRule
+pub mod Eviction
 pub mod EvictEffect
 pub mod EvictStep
 pub mod Evicting

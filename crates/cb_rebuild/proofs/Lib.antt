@@ -2,6 +2,8 @@ pub mod WeakSets
 mod Walking
 pub mod RestoredFar
 pub mod RebuildKeeps
+pub mod RebuildCounts
+pub mod StepFixed
 pub mod Stays
 mod WorkedWord
 mod WorkedWeak

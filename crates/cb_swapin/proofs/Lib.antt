@@ -12,6 +12,7 @@ pub mod Swapped
 pub mod SwapAnswers
 pub mod SwapWords
 pub mod SwapStep
+pub mod StepFixed
 pub mod SwapKeeps
 pub mod Stays
 pub mod Unwritten

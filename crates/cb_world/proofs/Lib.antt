@@ -1,3 +1,4 @@
+mod Padded
 pub mod Grasping
 pub mod Windows
 pub mod Tracing
@@ -69,6 +70,7 @@ pub mod Worlds
 pub mod NodeJoin
 pub mod Alike
 pub mod Pins
+pub mod Fixed
 mod WorkedDesk
 mod WorkedWorld
 mod WorkedFar

@@ -1,4 +1,5 @@
 pub mod Memory
+pub mod LocalMemory
 pub mod Write
 pub mod Shown
 pub mod Settling
