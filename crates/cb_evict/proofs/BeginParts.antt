@@ -29,13 +29,15 @@ use Rattle.cb_evict.specs.Events.{OnlyLooks}
 use Rattle.cb_evict.specs.EvictEffect.{EvictEffect}
 use Rattle.cb_evict.specs.EvictRule.{HasFewSpans, HasFewNodes, HasBoth, EvictRule}
 use Rattle.cb_evict.specs.Evicting.{RuleAfter}
+use Rattle.cb_evict.specs.declared.eviction.Eviction.{Eviction}
+use Rattle.cb_evict.specs.Eviction.{reply_of}
 use Rattle.cb_evict.specs.Finding.{FindsFew}
 use Rattle.cb_evict.specs.Loading.{LiesInOne}
 use Rattle.cb_evict.specs.Looking.{IsIn, LooksOver}
 use Rattle.cb_evict.specs.BeginRule.{HasBegun, HasBatch, BeginRule}
 use Rattle.cb_evict.specs.BeginEffect.{IsBegun, BeginEffect}
 use Rattle.cb_evict.specs.Beginning.{BeginsAfter, BeginsClaimed}
-use Rattle.cb_evict.proofs.Composed.{finds_few, few_spans, few_nodes, row_before, told_next, nothing_before, left_before, looks_touch, claims_touch, wide_touch, loose_then, are_ready}
+use Rattle.cb_evict.proofs.Composed.{finds_few, replied, few_spans, few_nodes, row_before, told_next, nothing_before, left_before, looks_touch, claims_touch, wide_touch, loose_then, are_ready}
 use Rattle.cb_evict.proofs.Events.{touches_append, found_after, first_append, looks_before, looks_change, looks_steady}
 use Rattle.cb_evict.proofs.Restored.{looked}
 
@@ -149,13 +151,16 @@ few_refusal : (c : Config) (far : FarState) (r : Reply) (loose : List ℕ)
 few_refusal c far r loose (inl a) = spans_refusal (length loose) r a.reply
 few_refusal c far r loose (inr a) = nodes_refusal (room_count far.nodes far.members) r a.reply
 
-pub finds_few_of : (c d : Config) (far : FarState) (r : Reply) (runs : List Event → Type 0)
-    (shows : Shown → Type 0) → d ≡ c → far.leaving ≡ None → FindsFew runs d far r
+pub finds_few_of : (c d : Config) (far : FarState) (r : Reply) (e : Eviction)
+    (runs : List Event → Type 0) (shows : Shown → Type 0) → d ≡ c → far.leaving ≡ None
+    → r ≡ reply_of e → FindsFew runs d far e
     → Performs runs (λ s. shows s × Sound s far) (BeginRule c far far r) (λ t. Sound t far)
     (BeginEffect far far r)
-finds_few_of c d far r runs shows same none x =
+finds_few_of c d far r e runs shows same none is x =
     refuses c far r runs (λ s. shows s × Sound s far) (λ t. Sound t far) none
-    (few_refusal d far r x.loose x.few) (finds_few c d far r runs shows same x)
+    (subst IsRefusal (sym is) (few_refusal d far (reply_of e) x.loose x.few))
+    (replied c far far e r runs (λ s. shows s × Sound s far) (λ t. Sound t far) is
+    (finds_few c d far e runs shows same x))
 
 -- ---- a batch is leaving already
 pub begins_not : (c : Config) (far : FarState) (r : Reply) (id : SetId)

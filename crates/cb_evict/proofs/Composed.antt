@@ -35,7 +35,11 @@ use Rattle.cb_evict.specs.Claiming.{IsOne, GivesBack, ClaimsSpans}
 use Rattle.cb_evict.specs.Events.{TouchesOnly, OnlyLooks}
 use Rattle.cb_evict.specs.EvictEffect.{IsAway, IsEvicted, EvictEffect}
 use Rattle.cb_evict.specs.EvictRule.{IsInRow, HasEvicted, HasFewSpans, HasFewNodes, HasBoth, EvictRule}
-use Rattle.cb_evict.specs.Evicting.{TouchesSpans, RuleAfter, AreTaken, IsReady, EvictsClaimed, LeavesClaimed}
+use Rattle.cb_evict.specs.Evicting.{TouchesSpans, RuleAfter, CountsAfter, AreTaken, IsReady, EvictsClaimed, LeavesClaimed}
+use Rattle.cb_evict.specs.declared.eviction.Eviction.{Eviction}
+use Rattle.cb_evict.specs.declared.eviction.Eviction.TheVariants as eviction
+use Rattle.cb_evict.specs.declared.eviction.Lack.TheVariants as lack
+use Rattle.cb_evict.specs.Eviction.{CountsRule, TellsCounts, reply_of}
 use Rattle.cb_evict.specs.Finding.{FindsFew}
 use Rattle.cb_evict.specs.Loading.{LiesInOne}
 use Rattle.cb_evict.specs.Looking.{IsIn, LooksOver}
@@ -238,30 +242,30 @@ looks_as runs spans ys frames gs loose hs e f h x =
     (subst (λ (l : List ℕ). LooksOver runs ys gs l) h x))
 
 -- the looks, and then the rest
-pub looks_then : (c d : Config) (far new : FarState) (r : Reply) (loose : List ℕ)
+pub looks_then : (c d : Config) (far new : FarState) (e : Eviction) (loose : List ℕ)
     (runsA runsB runsC : List Event → Type 0) (showsA showsB : Shown → Type 0)
     → d ≡ c → (x : LooksOver runsA far.spans (candidates far) loose)
-    → Performs runsB (λ s. showsB s × Sound s far) (RuleAfter d far new r loose) (λ t. Sound t new)
-    (EvictEffect far new r)
+    → Performs runsB (λ s. showsB s × Sound s far) (CountsAfter d far new e loose) (λ t. Sound t new)
+    (EvictEffect far new (reply_of e))
     → ((es fs : List Event) → runsA es → runsB fs → runsC (es ++ fs))
     → ((es : List Event) (s : Shown) → runsA es → showsA s → showsB (played es s))
-    → Performs runsC (λ s. showsA s × Sound s far) (EvictRule c far new r) (λ t. Sound t new)
-    (EvictEffect far new r)
-looks_then c d far new r loose runsA runsB runsC showsA showsB same x y more shown =
+    → Performs runsC (λ s. showsA s × Sound s far) (CountsRule c far new e) (λ t. Sound t new)
+    (EvictEffect far new (reply_of e))
+looks_then c d far new e loose runsA runsB runsC showsA showsB same x y more shown =
     let es = x.events in let fs = y.events in
     let known : (s : Shown) → showsA s × Sound s far → showsB (played es s) × Sound (played es s) far =
     λ s k. (shown es s x.ran k.0, (looked far es s k.1 x.looks).0) in record {
       events = es ++ fs;
       ran = more es fs x.ran y.ran;
       looks_first = looks_before es fs x.looks y.looks_first;
-      rule = subst (λ (n : Config). EvictRule n far new r (es ++ fs)) same
+      rule = subst (λ (n : Config). CountsRule n far new e (es ++ fs)) same
           (y.rule es x.finds (looks_touch far es x.touches));
       allowed = λ s k. allowed_append es fs s (looks_steady es s x.looks).allowed
           (y.allowed (played es s) (known s k));
       sound_after = λ s k. subst (λ (v : Shown). Sound v new) (sym (played_append es fs s))
           (y.sound_after (played es s) (known s k));
-      effect = λ s k. subst (λ (v : Shown). EvictEffect far new r (es ++ fs) s v)
-          (sym (played_append es fs s)) (effect_before far new r es fs s (played fs (played es s)) x.looks
+      effect = λ s k. subst (λ (v : Shown). EvictEffect far new (reply_of e) (es ++ fs) s v)
+          (sym (played_append es fs s)) (effect_before far new (reply_of e) es fs s (played fs (played es s)) x.looks
           (y.effect (played es s) (known s k)));
     }
 
@@ -304,48 +308,108 @@ looks_alone far loose runs shows x = record {
   effect = λ s k. (looked far x.events s k.1 x.looks).1;
 }
 
+-- ---- by the rule
+pub rule_weaker : (runs : List Event → Type 0) (knows sound : Shown → Type 0)
+    (rule other : List Event → Type 0) (does : List Event → Shown → Shown → Type 0)
+    → ((es : List Event) → rule es → other es) → Performs runs knows rule sound does
+    → Performs runs knows other sound does
+rule_weaker runs knows sound rule other does f x = record {
+  events = x.events;
+  ran = x.ran;
+  looks_first = x.looks_first;
+  rule = f x.events x.rule;
+  allowed = x.allowed;
+  sound_after = x.sound_after;
+  effect = x.effect;
+}
+
+-- the reply of an eviction that tells both counts
+pub replied : (c : Config) (far new : FarState) (e : Eviction) (r : Reply)
+    (runs : List Event → Type 0) (knows sound : Shown → Type 0) → r ≡ reply_of e
+    → Performs runs knows (CountsRule c far new e) sound (EvictEffect far new (reply_of e))
+    → Performs runs knows (EvictRule c far new r) sound (EvictEffect far new r)
+replied c far new e r runs knows sound is x =
+    subst (λ (q : Reply). Performs runs knows (EvictRule c far new q) sound (EvictEffect far new q))
+    (sym is) (rule_weaker runs knows sound (CountsRule c far new e) (EvictRule c far new (reply_of e))
+    (EvictEffect far new (reply_of e)) (λ es y. y.rule) x)
+
+-- a set has no counts to tell
+pub set_counted : (c : Config) (far new : FarState) (id : SetId) (e : Eviction) (es : List Event)
+    → e ≡ eviction.Set id → EvictRule c far new (reply_of e) es → CountsRule c far new e es
+set_counted c far new id e es is x = record {
+  rule = x;
+  counts = subst (TellsCounts far x.loose) (sym is) tt;
+}
+
+spans_count : (n m : ℕ) → answer.NoSpans n ≡ answer.NoSpans m → n ≡ m
+spans_count n m e = cc
+
+spans_nodes : (n m : ℕ) → answer.NoSpans n ≡ answer.NoNodes m → ⊥
+spans_nodes n m e = cc
+
+spans_set : (n : ℕ) (id : SetId) → answer.NoSpans n ≡ answer.Set id → ⊥
+spans_set n id e = cc
+
+-- a refusal for want of spans has their count
+pub spans_counted : (c : Config) (far new : FarState) (n m : ℕ) (es : List Event)
+    → m ≡ room_count far.nodes far.members → EvictRule c far new (answer.NoSpans n) es
+    → CountsRule c far new (eviction.Refused lack.Spans n m) es
+spans_counted c far new n m es room x = record { rule = x; counts = (by x.answered, room) }
+  where
+    by : HasFewSpans c far new (answer.NoSpans n) x.loose
+        ⊎ (HasFewNodes c far new (answer.NoSpans n) x.loose
+        ⊎ HasBoth c far new (answer.NoSpans n) x.loose es) → n ≡ length x.loose
+    by (inl a) = spans_count n (length x.loose) a.reply
+    by (inr (inl a)) = absurd (spans_nodes n _ a.reply)
+    by (inr (inr a)) = absurd (spans_set n _ a.reply)
+
 -- a refusal after the looks
-pub looks_refuse : (c : Config) (far : FarState) (r : Reply) (loose : List ℕ)
+looks_refuse : (c : Config) (far : FarState) (e : Eviction) (loose : List ℕ)
     (runs : List Event → Type 0) (shows : Shown → Type 0)
     → (x : LooksOver runs far.spans (candidates far) loose)
-    → HasFewSpans c far far r loose ⊎ HasFewNodes c far far r loose
-    → Performs runs (λ s. shows s × Sound s far) (EvictRule c far far r) (λ t. Sound t far)
-    (EvictEffect far far r)
-looks_refuse c far r loose runs shows x few =
+    → HasFewSpans c far far (reply_of e) loose ⊎ HasFewNodes c far far (reply_of e) loose
+    → TellsCounts far loose e
+    → Performs runs (λ s. shows s × Sound s far) (CountsRule c far far e) (λ t. Sound t far)
+    (EvictEffect far far (reply_of e))
+looks_refuse c far e loose runs shows x few counts =
     record {
       events = x.events;
       ran = x.ran;
       looks_first = subst LooksFirst (append-nil x.events) (looks_before x.events [] x.looks tt);
       rule = record {
-        loose = loose;
-        found = x.finds;
-        answered = answer_of few;
-        touches = looks_touch far x.events x.touches;
+        rule = record {
+          loose = loose;
+          found = x.finds;
+          answered = answer_of few;
+          touches = looks_touch far x.events x.touches;
+        };
+        counts = counts;
       };
       allowed = λ s k. (looks_steady x.events s x.looks).allowed;
       sound_after = λ s k. (looked far x.events s k.1 x.looks).0;
-      effect = λ s k. left_effect far far r x.events s (played x.events s) (no_set few)
+      effect = λ s k. left_effect far far (reply_of e) x.events s (played x.events s) (no_set few)
           (looked far x.events s k.1 x.looks).1;
     }
   where
-    answer_of : HasFewSpans c far far r loose ⊎ HasFewNodes c far far r loose
-        → HasFewSpans c far far r loose ⊎ (HasFewNodes c far far r loose
-        ⊎ HasBoth c far far r loose x.events)
+    answer_of : HasFewSpans c far far (reply_of e) loose ⊎ HasFewNodes c far far (reply_of e) loose
+        → HasFewSpans c far far (reply_of e) loose ⊎ (HasFewNodes c far far (reply_of e) loose
+        ⊎ HasBoth c far far (reply_of e) loose x.events)
     answer_of (inl a) = inl a
     answer_of (inr a) = inr (inl a)
 
-    no_set : HasFewSpans c far far r loose ⊎ HasFewNodes c far far r loose → (id : SetId)
-        → r ≡ answer.Set id → ⊥
-    no_set (inl a) id e = few_spans (length loose) r id a.reply e
-    no_set (inr a) id e = few_nodes (room_count far.nodes far.members) r id a.reply e
+    no_set : HasFewSpans c far far (reply_of e) loose ⊎ HasFewNodes c far far (reply_of e) loose
+        → (id : SetId) → reply_of e ≡ answer.Set id → ⊥
+    no_set (inl a) id is = few_spans (length loose) (reply_of e) id a.reply is
+    no_set (inr a) id is =
+        few_nodes (room_count far.nodes far.members) (reply_of e) id a.reply is
 
-pub finds_few : (c d : Config) (far : FarState) (r : Reply) (runs : List Event → Type 0)
-    (shows : Shown → Type 0) → d ≡ c → FindsFew runs d far r
-    → Performs runs (λ s. shows s × Sound s far) (EvictRule c far far r) (λ t. Sound t far)
-    (EvictEffect far far r)
-finds_few c d far r runs shows same x =
-    let y = subst (λ (n : Config). FindsFew runs n far r) same x in
-    looks_refuse c far r y.loose runs shows y.looks y.few
+pub finds_few : (c d : Config) (far : FarState) (e : Eviction) (runs : List Event → Type 0)
+    (shows : Shown → Type 0) → d ≡ c → FindsFew runs d far e
+    → Performs runs (λ s. shows s × Sound s far) (CountsRule c far far e) (λ t. Sound t far)
+    (EvictEffect far far (reply_of e))
+finds_few c d far e runs shows same x =
+    let y = subst (λ (n : Config). FindsFew runs n far e) same x in
+    looks_refuse c far e y.loose runs shows y.looks y.few y.counts
 
 -- ---- the claims, and then the rest
 -- what was claimed are objects of candidates

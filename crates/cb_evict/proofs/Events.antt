@@ -1,5 +1,6 @@
 -- What lists of events tell, and what they leave, one after another.
-use Rattle.std.proofs.Common.{◌≡◌, ℕ, Bool, List, [], ◌∷◌, ◌++◌, length, set, sym, refl, ap, ◌∙◌, subst, inl, length-set}
+use Rattle.std.proofs.Common.{◌≡◌, ◌⊎◌, ℕ, Bool, List, [], ◌∷◌, ◌++◌, length, set, sym, refl, ap, ◌∙◌, subst, inl, inr, length-set}
+use Rattle.std.proofs.lemmas.Bool.{cases_eq}
 use Rattle.cb_ptr.specs.Word.{hot_of, place_of}
 use Rattle.cb_world.specs.declared.entry.Entry.{Entry}
 use Rattle.cb_world.specs.declared.event.Event.{Event}
@@ -7,10 +8,10 @@ use Rattle.cb_world.specs.declared.event.Event.TheVariants.{Looked, Claimed, Tol
 use Rattle.cb_world.specs.declared.shown.Shown.{Shown}
 use Rattle.cb_world.specs.Memory.{put}
 use Rattle.cb_world.specs.Played.{after, played}
-use Rattle.cb_world.specs.Looks.{NoLook, IsFound, LooksFirst, told_by}
+use Rattle.cb_world.specs.Looks.{IsLook, NoLook, IsFound, LooksFirst, told_by}
 use Rattle.cb_world.specs.Allowed.{Allowed}
 use Rattle.cb_world.specs.Written.{written_by}
-use Rattle.cb_world.proofs.Tracing.{played_append, told_append, written_append}
+use Rattle.cb_world.proofs.Tracing.{found_more, played_append, told_append, written_append}
 use Rattle.cb_world.proofs.Untouched.{allowed_append}
 use Rattle.cb_evict.specs.Events.{TouchesOnly, OnlyLooks, IsSteady}
 use Rattle.cb_evict.specs.Loading.{OnlyLoads}
@@ -59,6 +60,41 @@ no_look_append k (e ∷ es) fs a b = (a.0, no_look_append k es fs a.1 b)
 pub found_after : (h w : ℕ) (es fs : List Event) → IsFound h w fs → IsFound h w (es ++ fs)
 found_after h w [] fs a = a
 found_after h w (e ∷ es) fs a = inl (found_after h w es fs a)
+
+-- an event is a look at the object, or it is none
+look_of : (h : ℕ) (e : Event) → ((w : ℕ) → IsLook h w e → ⊥) ⊎ ((w : ℕ) × IsLook h w e)
+look_of h (Looked k x) = elim (cases_eq k h) [
+  | inl same ↦ inr (x, (same, refl))
+  | inr off ↦ inl (λ w is. off is.0)
+]
+look_of h (Claimed k x v words) = elim (cases_eq k h) [
+  | inl same ↦ inr (x, (same, refl))
+  | inr off ↦ inl (λ w is. off is.0)
+]
+look_of h (Settled k x) = inl (λ w is. is)
+look_of h (Loaded p x) = inl (λ w is. is)
+look_of h (Told k v) = inl (λ w is. is)
+look_of h (Stored p x) = inl (λ w is. is)
+look_of h (Stamped k v) = inl (λ w is. is)
+
+-- an object is not looked at, or there is a last look at it
+last_look : (h : ℕ) (es : List Event) → NoLook h es ⊎ ((w : ℕ) × IsFound h w es)
+last_look h [] = inl tt
+last_look h (e ∷ es) = elim (last_look h es) [
+  | inr (w, found) ↦ inr (w, inl found)
+  | inl none ↦ elim (look_of h e) [
+    | inl off ↦ inl (off, none)
+    | inr (w, is) ↦ inr (w, inr (is, none))
+  ]
+]
+
+-- an object that was looked at was so once more is told
+pub found_on : (h w : ℕ) (es fs : List Event) → IsFound h w es
+    → (v : ℕ) × IsFound h v (es ++ fs)
+found_on h w es fs found = elim (last_look h fs) [
+  | inl none ↦ (w, found_more h w es fs found none)
+  | inr (v, late) ↦ (v, found_after h v es fs late)
+]
 
 -- objects are looked at before they are changed, where those of the first events are not looked at
 -- by the later ones

@@ -32,10 +32,12 @@ use Rattle.cb_evict.specs.Closing.{all_closed}
 use Rattle.cb_evict.specs.Candidates.{candidates}
 use Rattle.cb_evict.specs.EvictEffect.{HasLeft, HaveFrameRows, IsEvicted, EvictEffect}
 use Rattle.cb_evict.specs.EvictRule.{AreInRows, HasEvicted, HasFewSpans, HasFewNodes, HasBoth, EvictRule}
-use Rattle.cb_evict.specs.EvictStep.{is_loose, loose_frames, AreSentOff, HaveContents, IsEvictedTo, IsEvictStep, few_spans, few_nodes, made}
+use Rattle.cb_evict.specs.EvictStep.{is_loose, loose_frames, AreSentOff, HaveContents, IsEvictedTo, IsEvictStep, few_spans, few_nodes, made, IsCountedStep}
 use Rattle.cb_evict.specs.Evicting.{TouchesSpans}
+use Rattle.cb_evict.specs.declared.eviction.Eviction.{Eviction}
+use Rattle.cb_evict.specs.Eviction.{CountsRule, TellsCounts, reply_of}
 use Rattle.cb_evict.specs.Looking.{IsIn}
-use Rattle.cb_evict.proofs.Composed.{few_spans as not_few_spans, few_nodes as not_few_nodes}
+use Rattle.cb_evict.proofs.Composed.{few_spans as not_few_spans, few_nodes as not_few_nodes, rule_weaker}
 use Rattle.cb_evict.proofs.FrameRows.{rows_of_frames}
 use Rattle.cb_evict.proofs.Gone.{in_or_out, closed_in}
 use Rattle.cb_evict.proofs.Homing.{closed_else}
@@ -225,6 +227,18 @@ evict_step x y far new r s p k =
     (known_then x y far new rules does s k p)
     (loose_exact p.events x y far p.rule.loose p.ran.0 p.looks_first p.rule.found)
     (p.effect s ((k.sized, k.shows), k.sound)) p.rule.answered
+
+-- So is one that tells both counts, of the spans that are loose at the desk.
+pub counted_step : (x y : Words) (far new : FarState) (e : Eviction) (s : Shown)
+    → PerformsStill x y far new (CountsRule x.settings far new e) (EvictEffect far new (reply_of e))
+    → IsKnown x far s → IsCountedStep x y far new e
+counted_step x y far new e s p k = record {
+  step = (evict_step x y far new (reply_of e) s
+      (rule_weaker _ _ _ _ (EvictRule x.settings far new (reply_of e)) _ (λ es r. r.rule) p) k).0;
+  counts = subst (λ (l : List ℕ). TellsCounts far l e)
+      (loose_exact p.events x y far p.rule.rule.loose p.ran.0 p.looks_first p.rule.rule.found)
+      p.rule.counts;
+}
 
 -- One that found no memory changes no word.
 pub evict_stopped : (x y : Words) (far : FarState) (s : Shown)

@@ -12,11 +12,11 @@ use Rattle.cb_world.specs.Looks.{NoLook, IsFound}
 use Rattle.cb_world.specs.Grasped.{IsFree}
 use Rattle.cb_world.specs.FarState.{span_in, handle_in}
 use Rattle.cb_world.proofs.Tracing.{found_more}
-use Rattle.cb_evict.specs.Candidates.{Names, IsLoose, IsHeldUp, AreLoose, AreUnique}
+use Rattle.cb_evict.specs.Candidates.{Names, IsLoose, IsSeen, IsBarred, IsHeldUp, AreLoose, AreUnique}
 use Rattle.cb_evict.specs.Events.{TouchesOnly}
 use Rattle.cb_evict.specs.Looking.{Has, IsIn}
 use Rattle.cb_evict.proofs.Homing.{none_before, span_slots}
-use Rattle.cb_evict.proofs.Events.{touches_quiet, found_after}
+use Rattle.cb_evict.proofs.Events.{touches_quiet, found_after, found_on}
 
 -- ---- the names of a span
 pub has_names : (spans : List (Option Contents)) (f h : ℕ) (span : Contents)
@@ -37,16 +37,39 @@ loose_more spans f es fs quiet a h named =
 
 pub held_more : (spans : List (Option Contents)) (f : ℕ) (es fs : List Event)
     → ((h : ℕ) → Names spans f h → NoLook h fs) → IsHeldUp es spans f → IsHeldUp (es ++ fs) spans f
-held_more spans f es fs quiet (h, w, named, found, not) =
-    (h, w, named, found_more h w es fs found (quiet h named), not)
+held_more spans f es fs quiet a = let b = a.barred in record {
+  seen = λ h named. let x = a.seen h named in (x.0, found_more h x.0 es fs x.1 (quiet h named));
+  barred = (b.0, b.1, b.2, found_more b.0 b.1 es fs b.3 (quiet b.0 b.2), b.4);
+}
 
 pub loose_after : (spans : List (Option Contents)) (f : ℕ) (es fs : List Event)
     → IsLoose fs spans f → IsLoose (es ++ fs) spans f
 loose_after spans f es fs a h named = let x = a h named in (x.0, found_after h x.0 es fs x.1, x.2)
 
+pub barred_after : (spans : List (Option Contents)) (f : ℕ) (es fs : List Event)
+    → IsBarred fs spans f → IsBarred (es ++ fs) spans f
+barred_after spans f es fs (h, w, named, found, not) = (h, w, named, found_after h w es fs found, not)
+
 pub held_after : (spans : List (Option Contents)) (f : ℕ) (es fs : List Event)
     → IsHeldUp fs spans f → IsHeldUp (es ++ fs) spans f
-held_after spans f es fs (h, w, named, found, not) = (h, w, named, found_after h w es fs found, not)
+held_after spans f es fs a = record {
+  seen = λ h named. let x = a.seen h named in (x.0, found_after h x.0 es fs x.1);
+  barred = barred_after spans f es fs a.barred;
+}
+
+-- a span with one object, which can't be claimed
+pub held_alone : (spans : List (Option Contents)) (f : ℕ) (es : List Event) (h w : ℕ)
+    → ((k : ℕ) → Names spans f k → h ≡ k) → Names spans f h → IsFound h w es → ¬ (IsFree w)
+    → IsHeldUp es spans f
+held_alone spans f es h w only named found held = record {
+  seen = λ k n. (w, subst (λ (j : ℕ). IsFound j w es) (only k n) found);
+  barred = (h, w, named, found, held);
+}
+
+-- each object of a loose span was looked at, and so it is once more is told
+loose_seen : (spans : List (Option Contents)) (f : ℕ) (es fs : List Event) → IsLoose es spans f
+    → IsSeen (es ++ fs) spans f
+loose_seen spans f es fs a h named = let x = a h named in found_on h x.0 es fs x.1
 
 -- ---- many spans
 pub held_cons : (es : List Event) (spans : List (Option Contents)) (f : ℕ) (frames loose : List ℕ)
@@ -173,10 +196,10 @@ pub middle : (chosen : List ℕ) (x : ℕ) (rest : List ℕ) → Contains (chose
 middle [] x rest = contains_head x rest
 middle (c ∷ chosen) x rest = contains_tail c x (chosen ++ x ∷ rest) (middle chosen x rest)
 
--- it is held up
+-- an object of it can't be claimed
 pub loose_lost : (es fs : List Event) (spans : List (Option Contents)) (n x : ℕ)
     (frames chosen rest : List ℕ) → AreUnique spans n → TouchesOnly (Names spans x) (λ p. ⊥) fs
-    → AllPairs (λ f g. f ≢ g) frames → IsHeldUp (es ++ fs) spans x
+    → AllPairs (λ f g. f ≢ g) frames → IsBarred (es ++ fs) spans x
     → AreLoose es spans frames (chosen ++ x ∷ rest)
     → AreLoose (es ++ fs) spans frames (chosen ++ rest)
 loose_lost es fs spans n x [] [] rest unique touches apart now a = absurd a
@@ -188,7 +211,10 @@ loose_lost es fs spans n x (f ∷ frames) [] rest unique touches apart now (inl 
     fresh_head f frames apart (subst (Contains frames) (sym e) c))) a.0)
     (loose_lost es fs spans n x frames [] rest unique touches (apart_tail f frames apart) now a.1)
 loose_lost es fs spans n x (f ∷ frames) [] rest unique touches apart now (inr a) =
-    held_cons (es ++ fs) spans f frames rest (subst (IsHeldUp (es ++ fs) spans) a.1 now)
+    held_cons (es ++ fs) spans f frames rest (record {
+      seen = loose_seen spans f es fs a.0;
+      barred = subst (IsBarred (es ++ fs) spans) a.1 now;
+    })
     (all_quiet es fs spans frames rest (tail_quiet spans n x fs frames unique touches (λ c.
     fresh_head f frames apart (subst (Contains frames) a.1 c))) a.2)
 loose_lost es fs spans n x (f ∷ frames) (g ∷ chosen) rest unique touches apart now (inl a) =

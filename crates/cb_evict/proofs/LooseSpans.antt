@@ -97,9 +97,10 @@ frame_passes es x y spans f span run first there loose =
 frame_fails : (es : List Event) (x y : Words) (spans : List (Option Contents)) (f : ℕ)
     (span : Contents) → Plain x es y → LooksFirst es → span_in spans f ≡ Some span
     → IsHeldUp es spans f → is_loose x (span_in spans f) ≡ false
-frame_fails es x y spans f span run first there (h, w, named, found, held) =
-    ap (is_loose x) there ∙ span_fails x span h (names_has spans f h span there named)
-    (λ free. held (subst IsFree (found_exact es x y h w run first found) free))
+frame_fails es x y spans f span run first there a =
+    let b = a.barred in
+    ap (is_loose x) there ∙ span_fails x span b.0 (names_has spans f b.0 span there b.2)
+    (λ free. b.4 (subst IsFree (found_exact es x y b.0 b.1 run first b.3) free))
 
 -- of frames with spans those that were found loose are those that are loose
 exact : (es : List Event) (x y : Words) (spans : List (Option Contents)) (frames loose : List ℕ)

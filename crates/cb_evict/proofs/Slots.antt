@@ -1,5 +1,5 @@
 -- The events of a look or a claim.
-use Rattle.std.proofs.Common.{◌≡◌, ◌⊎◌, ℕ, ◌+◌, ◌<◌, ◌≤◌, true, false, List, [], ◌∷◌, ◌++◌, length, get_or, take, All, Option, None, Some, refl, ap, sym, ◌∙◌, subst, arith, inl, inr}
+use Rattle.std.proofs.Common.{◌≡◌, ◌⊎◌, ℕ, ◌+◌, ◌<◌, ◌≤◌, true, false, List, [], ◌∷◌, ◌++◌, length, get_or, take, All, Option, None, Some, refl, ap, sym, ◌∙◌, subst, arith, inl, inr, Bool, ◌&&◌}
 use Rattle.std.specs.Option.{IfSome}
 use Rattle.std.proofs.lemmas.Bool.{cases_eq}
 use Rattle.std.proofs.lemmas.List.{flat_map_more, map-append, take_more}
@@ -10,10 +10,10 @@ use Rattle.cb_world.specs.declared.leaving.Former.{Former}
 use Rattle.cb_world.specs.declared.shown.Shown.{Shown}
 use Rattle.cb_world.specs.declared.event.Event.{Event}
 use Rattle.cb_world.specs.declared.event.Event.TheVariants.{Looked, Claimed, Told, Loaded, Stored, Stamped, Settled}
-use Rattle.cb_world.specs.Looks.{AreLooks, IsFound, LooksFirst}
+use Rattle.cb_world.specs.Looks.{AreLooks, IsFound, LooksFirst, NoLook}
 use Rattle.cb_world.specs.Grasped.{IsFree}
 use Rattle.cb_world.proofs.Tracing.{found_more}
-use Rattle.cb_evict.specs.Looking.{IsSlotLoose}
+use Rattle.cb_evict.specs.Looking.{IsSlotLoose, IsSlotHeldUp, SlotFinds, SpanFinds}
 use Rattle.cb_evict.proofs.Events.{touches_quiet, found_after}
 use Rattle.cb_world.specs.FarState.{FarState}
 use Rattle.cb_evict.specs.Events.{TouchesOnly}
@@ -228,19 +228,72 @@ slot_succeeded runsA runsB runsC showsA showsB span i slot old new es more a x e
     (below_more span i) (slot_more span i slot e) (below_more span i) (slot_more span i slot e)
     (below_split span i slot e)
 
+-- ---- looks at the slots of a span
+-- each object in the first i slots was looked at
+abbrev pub SeesBelow : Contents → ℕ → List Event → Type 0
+SeesBelow span i es = (h : ℕ) → HasBelow span i h → (w : ℕ) × IsFound h w es
+
+-- and by the answer each of them can be claimed, or one can't
+abbrev pub FindsBelow : Bool → Contents → ℕ → List Event → Type 0
+FindsBelow true span i es = (h : ℕ) → HasBelow span i h → (w : ℕ) × IsFound h w es × IsFree w
+FindsBelow false span i es = (h w : ℕ) × HasBelow span i h × IsFound h w es × ¬ (IsFree w)
+
+same_handle : (k h : ℕ) → Some k ≡ Some h → k ≡ h
+same_handle k h e = cc
+
 -- one slot more was looked at
-pub slot_looks : (span : Contents) (i : ℕ) (slot : Option ℕ) (es fs : List Event)
-    → slot ≡ handle_at span i
-    → ((i j h : ℕ) → handle_at span i ≡ Some h → handle_at span j ≡ Some h → i ≡ j)
-    → ((h : ℕ) → HasBelow span i h → (w : ℕ) × IsFound h w es × IsFree w)
-    → TouchesOnly (λ h. slot ≡ Some h) (λ p. ⊥) fs → IsSlotLoose fs slot
-    → (h : ℕ) → HasBelow span (i + 1) h → (w : ℕ) × IsFound h w (es ++ fs) × IsFree w
-slot_looks span i slot es fs e apart a touches b h below = elim (below_split span i slot e h below) [
-  | inl old ↦ let x = a h old in (
-    x.0,
-    found_more h x.0 es fs x.1
-        (touches_quiet (λ k. slot ≡ Some k) (λ p. ⊥) h fs (slot_apart span i slot e apart h old) touches),
-    x.2,
+module _ (span : Contents) (i : ℕ) (slot : Option ℕ) (es fs : List Event)
+    (e : slot ≡ handle_at span i)
+    (apart : (i j h : ℕ) → handle_at span i ≡ Some h → handle_at span j ≡ Some h → i ≡ j)
+    (touches : TouchesOnly (λ h. slot ≡ Some h) (λ p. ⊥) fs) where
+  quiet_below : (h : ℕ) → HasBelow span i h → NoLook h fs
+  quiet_below h old =
+      touches_quiet (λ k. slot ≡ Some k) (λ p. ⊥) h fs (slot_apart span i slot e apart h old) touches
+
+  slot_looks : ((h : ℕ) → HasBelow span i h → (w : ℕ) × IsFound h w es × IsFree w)
+      → IsSlotLoose fs slot
+      → (h : ℕ) → HasBelow span (i + 1) h → (w : ℕ) × IsFound h w (es ++ fs) × IsFree w
+  slot_looks a b h below = elim (below_split span i slot e h below) [
+    | inl old ↦ let x = a h old in
+        (x.0, found_more h x.0 es fs x.1 (quiet_below h old), x.2)
+    | inr new ↦ let x = b h new in (x.0, found_after h x.0 es fs x.1, x.2)
+  ]
+
+  sees : (found : Bool) → SlotFinds found fs slot → (h : ℕ) → slot ≡ Some h
+      → (w : ℕ) × IsFound h w fs
+  sees true b h is = let x = b h is in (x.0, x.1)
+  sees false (k, w, named, found, held) h is =
+      (w, subst (λ (n : ℕ). IsFound n w fs) (same_handle k h (sym named ∙ is)) found)
+
+  pub slot_seen : (found : Bool) → SeesBelow span i es → SlotFinds found fs slot
+      → SeesBelow span (i + 1) (es ++ fs)
+  slot_seen found a b h below = elim (below_split span i slot e h below) [
+    | inl old ↦ let x = a h old in (x.0, found_more h x.0 es fs x.1 (quiet_below h old))
+    | inr new ↦ let x = sees found b h new in (x.0, found_after h x.0 es fs x.1)
+  ]
+
+  held_still : FindsBelow false span i es → FindsBelow false span (i + 1) (es ++ fs)
+  held_still (h, w, below, found, held) = (
+    h,
+    w,
+    below_more span i h below,
+    found_more h w es fs found (quiet_below h below),
+    held,
   )
-  | inr new ↦ let x = b h new in (x.0, found_after h x.0 es fs x.1, x.2)
-]
+
+  held_now : IsSlotHeldUp fs slot → FindsBelow false span (i + 1) (es ++ fs)
+  held_now (h, w, is, found, held) =
+      (h, w, slot_more span i slot e h is, found_after h w es fs found, held)
+
+  pub slot_found : (was now : Bool) → FindsBelow was span i es → SlotFinds now fs slot
+      → FindsBelow (was && now) span (i + 1) (es ++ fs)
+  slot_found true true a b = slot_looks a b
+  slot_found true false a b = held_now b
+  slot_found false now a b = held_still a
+
+-- all slots were looked at
+pub all_found : (span : Contents) (n : ℕ) (es : List Event) (loose : Bool) → length span.slots ≤ n
+    → FindsBelow loose span n es → SpanFinds loose es span
+all_found span n es true all a = λ h has. a h (below_all span n h all has)
+all_found span n es false all (h, w, below, found, held) =
+    (h, w, below_has span n h below, found, held)

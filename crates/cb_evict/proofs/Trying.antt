@@ -11,13 +11,13 @@ use Rattle.cb_world.specs.declared.shown.Shown.{Shown}
 use Rattle.cb_world.specs.Played.{played}
 use Rattle.cb_world.specs.FarState.{FarState, span_in}
 use Rattle.cb_world.specs.Reserved.{table_of}
-use Rattle.cb_evict.specs.Candidates.{Names, AreLoose, AreUnique, IsLoose, IsHeldUp}
+use Rattle.cb_evict.specs.Candidates.{Names, AreLoose, AreUnique, IsLoose, IsBarred}
 use Rattle.cb_evict.specs.Looking.{IsIn}
 use Rattle.cb_evict.specs.Claiming.{AreOf, Claims, ClaimsFrame, ClaimsSpans}
 use Rattle.cb_evict.specs.Order.{noted_of, objects_in, objects_of}
 use Rattle.cb_evict.proofs.Events.{touches_more}
 use Rattle.cb_evict.proofs.Gathers.{Gathers, gathers_more}
-use Rattle.cb_evict.proofs.Loose.{loose_kept, loose_lost, loose_after, held_after, in_more, in_last, not_before, middle}
+use Rattle.cb_evict.proofs.Loose.{loose_kept, loose_lost, loose_after, barred_after, in_more, in_last, not_before, middle}
 
 -- the spans in the first i frames were tried
 pub record Tried (runs : List Event → Type 0) (shows : Shown → Type 0)
@@ -159,7 +159,7 @@ tried_left : (runsA runsB runsC : List Event → Type 0) (showsA showsB : Shown 
     (frames new : List ℕ) (formers after : List Former)
     → Tried runsA showsA spans loose i es frames formers
     → (x : ClaimsFrame runsB showsB spans (get_or loose i 0) frames new formers after)
-    → x.more ≡ [] → IsHeldUp x.events spans (get_or loose i 0)
+    → x.more ≡ [] → IsBarred x.events spans (get_or loose i 0)
     → AreUnique spans n → AllPairs (λ f g. f ≢ g) loose → i < length loose
     → (runsA es → runsB x.events → runsC (es ++ x.events))
     → ((s : Shown) → runsA es → showsA s → showsB (played es s))
@@ -184,7 +184,7 @@ tried_left runsA runsB runsC showsA showsB spans n loose i es frames new formers
           subst (λ (l : List Event). AreLoose l spans all (frames ++ drop (i + 1) loose))
           (append_assoc before es x.events)
           (loose_lost (before ++ es) x.events spans n f all frames (drop (i + 1) loose)
-          unique x.touches apart_all (held_after spans f (before ++ es) x.events now) c);
+          unique x.touches apart_all (barred_after spans f (before ++ es) x.events now) c);
       among = subst (λ (l : List ℕ). All (Contains l) frames) (sym more)
           (λ k d l. Contains-append_left (take i loose) (f ∷ []) (get_or frames k d) (a.among k d l));
       apart = a.apart;

@@ -39,7 +39,10 @@ use Rattle.cb_evict.specs.BeginEffect.{IsClaimedNow, IsBegun, BeginEffect}
 use Rattle.cb_evict.specs.BeginRule.{blank_shards, new_batch, with_batch, HasBegun, IsLeavingAlready, HasBatch, HasLooked, BeginRule}
 use Rattle.cb_evict.specs.Beginning.{AreParities}
 use Rattle.cb_evict.specs.Candidates.{candidates, IsLoose, IsHeldUp}
+use Rattle.cb_evict.specs.declared.eviction.Eviction.TheVariants.{Refused}
+use Rattle.cb_evict.specs.declared.eviction.Lack.TheVariants.{Spans}
 use Rattle.cb_evict.specs.Finding.{FindsFew, FindsLoose}
+use Rattle.cb_evict.proofs.Loose.{held_alone}
 use Rattle.cb_evict.specs.EvictRule.{IsInRow, AreInRows, HasFewSpans, HasFewNodes}
 use Rattle.cb_evict.proofs.Begun.{reserved_kept}
 use Rattle.cb_evict.proofs.NewSet.{set_added_in}
@@ -49,7 +52,7 @@ use Rattle.cb_evict.specs.Order.{noted_of, objects_of}
 use Rattle.cb_evict.specs.Claiming.{AreOf}
 use Rattle.cb_evict.specs.Looking.{IsIn, LooksOver}
 use Rattle.cb_evict.proofs.BeginParts.{leaving_batch, spans_batch}
-use Rattle.cb_evict.proofs.WorkedEvictStep.{settings, desk, calm, pinned, moving, pair, busy, lone, one_node, first_object, only_object, span_with, same_number, none_is}
+use Rattle.cb_evict.proofs.WorkedEvictStep.{settings, desk, calm, pinned, moving, pair, busy, lone, one_node, first_object, only_object, only_second, span_with, same_number, none_is}
 use Rattle.cb_evict.proofs.WorkedSetMade.{row, row_words, zero_row, is_word, two_nodes}
 
 -- ---- words of objects that are claimed
@@ -630,14 +633,8 @@ first_loose h (slot, named) = by slot named
     by (suc (suc n)) e = absurd (none_is h e)
 
 second_held : IsHeldUp looks pair.spans 1
-second_held = (
-  1,
-  pinned,
-  (1, refl),
-  inl (inr ((refl, refl), tt)),
-  λ free. let e : 1 ≡ 0 = free.1 in
-      omega (arith, e),
-)
+second_held = held_alone pair.spans 1 looks 1 pinned only_second (1, refl)
+    (inl (inr ((refl, refl), tt))) (λ free. let e : 1 ≡ 0 = free.1 in omega (arith, e))
 
 over_both : LooksOver (λ es. es ≡ looks) pair.spans (candidates pair) (0 ∷ [])
 over_both = record {
@@ -651,25 +648,35 @@ over_both = record {
   finds = inr (first_loose, refl, (second_held, tt));
 }
 
-finds : FindsLoose (λ es. es ≡ looks) settings pair (0 ∷ [])
-finds = record { looks = over_both; enough = lit≤ tt; room = omega (arith, two_nodes) }
+finds : FindsLoose (λ es. es ≡ looks) settings pair (0 ∷ []) 2
+finds = record {
+  looks = over_both;
+  enough = lit≤ tt;
+  room = omega (arith, two_nodes);
+  nodes = sym two_nodes;
+}
+
+-- the nodes are counted
+not_other_nodes : (runs : List Event → Type 0) → FindsLoose runs settings pair (0 ∷ []) 3 → ⊥
+not_other_nodes runs a = let e = a.nodes in absurd (omega (arith, e, two_nodes))
 
 -- too few spans, and then too few nodes, are a refusal
-not_enough : (runs : List Event → Type 0) → FindsLoose runs settings pair [] → ⊥
-not_enough runs a = let l = a.enough in absurd (omega (arith, l))
+not_enough : (runs : List Event → Type 0) (n : ℕ) → FindsLoose runs settings pair [] n → ⊥
+not_enough runs n a = let l = a.enough in absurd (omega (arith, l))
 
-not_with_room : (runs : List Event → Type 0) → FindsLoose runs settings lone (0 ∷ []) → ⊥
-not_with_room runs a = let l = a.room in absurd (omega (arith, l, one_node))
+not_with_room : (runs : List Event → Type 0) (n : ℕ) → FindsLoose runs settings lone (0 ∷ []) n → ⊥
+not_with_room runs n a = let l = a.room in absurd (omega (arith, l, one_node))
 
-few : FindsFew (λ es. es ≡ looks) (record settings { k = 2 }) pair (answer.NoSpans 1)
+few : FindsFew (λ es. es ≡ looks) (record settings { k = 2 }) pair (Refused Spans 1 2)
 few = record {
   loose = 0 ∷ [];
   looks = over_both;
   few = inl (record { few = lit< tt; reply = refl; state = refl });
+  counts = (refl, sym two_nodes);
 }
 
 -- a refusal has its own count
-not_its_count : (runs : List Event → Type 0) → FindsFew runs settings pair (answer.NoSpans 1) → ⊥
+not_its_count : (runs : List Event → Type 0) → FindsFew runs settings pair (Refused Spans 1 2) → ⊥
 not_its_count runs a = by a.few
   where
     count_is : (n m : ℕ) → answer.NoSpans n ≡ answer.NoSpans m → n ≡ m
@@ -683,6 +690,11 @@ not_its_count runs a = by a.few
     by (inl x) = let l = x.few in let e = count_is 1 (length a.loose) x.reply in
         omega (arith, l, e)
     by (inr x) = spans_nodes 1 _ x.reply
+
+-- and the other one beside it, as it is and not another
+not_other_count : (runs : List Event → Type 0)
+    → FindsFew runs (record settings { k = 2 }) pair (Refused Spans 1 1) → ⊥
+not_other_count runs a = let e = a.counts.1 in absurd (omega (arith, e, two_nodes))
 
 -- the parities of the row of zeros
 parities_of : AreParities 1 2 (row ∷ []) (row ∷ [])

@@ -1,11 +1,12 @@
 -- Worked examples of the rule and of the effect of an eviction: values that meet a definition, and for
 -- each of its parts one that breaks that part alone.
-use Rattle.std.proofs.Common.{◌≡◌, ℕ, ◌*◌, Bool, true, false, List, [], ◌∷◌, None, Some, refl, sym, ap, ◌∙◌, lit<, lit≤, arith, inl, inr}
+use Rattle.std.proofs.Common.{◌≡◌, ℕ, ◌*◌, Bool, true, false, List, [], ◌∷◌, Option, None, Some, refl, sym, ap, ◌∙◌, lit<, lit≤, arith, inl, inr}
 use Rattle.std.proofs.lemmas.Bool.{false≢true}
 use Rattle.std.specs.FinMap as map
 use Rattle.cb_class.specs.Class.{words_of, bytes_of}
 use Rattle.cb_member.specs.Membership.{fresh_members}
 use Rattle.cb_node.specs.NodesState.{empty_nodes}
+use Rattle.cb_set.specs.SetState.{SetState}
 use Rattle.cb_span.specs.declared.temp.Temp.TheVariants.{Cold}
 use Rattle.cb_ptr.specs.Word.{len_of}
 use Rattle.cb_span.specs.Contents.{Contents, span_of}
@@ -17,6 +18,7 @@ use Rattle.cb_world.specs.declared.event.Event.TheVariants.{Claimed}
 use Rattle.cb_world.specs.declared.object.Object.TheVariants as is
 use Rattle.cb_world.specs.declared.shown.Shown.{Shown}
 use Rattle.cb_world.specs.Choices.{room_count}
+use Rattle.cb_world.specs.Sets.{Kept}
 use Rattle.cb_world.specs.Still.{IsStill}
 use Rattle.cb_world.specs.FarState.{FarState}
 use Rattle.cb_world.specs.Looks.{IsFound, IsTaken}
@@ -25,6 +27,7 @@ use Rattle.cb_world.specs.RowWords.{words_from, words_in}
 use Rattle.cb_world.specs.Survey.{no_survey}
 use Rattle.cb_evict.specs.EvictRule.{IsInRow, HasFewSpans, HasFewNodes, HasBoth}
 use Rattle.cb_evict.specs.EvictEffect.{IsAway, EvictEffect}
+use Rattle.cb_evict.specs.Storing.{with_kept}
 use Rattle.cb_evict.proofs.Composed.{few_spans}
 
 -- one node, with room for one row
@@ -220,3 +223,29 @@ refused = record { evicted = λ id e. absurd (few_spans 1 _ id refl e); left = �
 -- a refusal changes nothing
 not_refused : EvictEffect far far (answer.NoSpans 1) [] known (record known { hots = true ∷ [] }) → ⊥
 not_refused a = not_warmed (a.left (λ id e. few_spans 1 _ id refl e))
+
+-- ---- a set is kept as a committed one under the next number; that and the keys of its rows are drawn
+kept_there : (s : SetState) → map.get (with_kept far s 3).sets 0 ≡ Some (record { set = s; committed = true })
+kept_there s = grind (arith, map.gets)
+
+-- it is not another set, nor one that is still to be committed
+kept_alone : (s : SetState) → map.get (with_kept far s 3).sets 1 ≡ None
+kept_alone s = grind (arith, map.gets)
+
+not_uncommitted : (s : SetState)
+    → map.get (with_kept far s 3).sets 0 ≡ Some (record { set = s; committed = false }) → ⊥
+not_uncommitted s e = false≢true (ap is_committed (sym e ∙ kept_there s))
+  where
+    is_committed : Option Kept → Bool
+    is_committed None = true
+    is_committed (Some kept) = kept.committed
+
+number_drawn : (s : SetState) → (with_kept far s 3).counts.sets ≡ 1
+number_drawn s = refl
+
+keys_drawn : (s : SetState) → (with_kept far s 3).counts.keys ≡ 3
+keys_drawn s = refl
+
+-- the rest stays
+nodes_stay : (s : SetState) → (with_kept far s 3).nodes ≡ far.nodes
+nodes_stay s = refl

@@ -23,6 +23,7 @@ use Rattle.cb_world.specs.RowWords.{words_from, words_in}
 use Rattle.cb_world.specs.StillWords.{contents_at}
 use Rattle.cb_world.specs.World.{word_at}
 use Rattle.cb_world.specs.Survey.{no_survey}
+use Rattle.cb_evict.specs.Candidates.{Names}
 use Rattle.cb_evict.specs.EvictStep.{is_slot_loose, is_loose, loose_frames, AreSentOff, HaveContents, IsEvictStep, few_spans, few_nodes, made}
 use Rattle.cb_evict.specs.Looking.{IsIn}
 
@@ -261,11 +262,22 @@ not_contents a =
     let e = heads 7 0 (sym second_word ∙ a 0 0 1 0 (span_with Cold 0) refl refl refl ∙ zeros) in
     absurd (omega (arith, e))
 
+-- each of the two spans has one object
+pub only_first : (h : ℕ) → Names pair.spans 0 h → 0 ≡ h
+only_first h (zero, e) = absurd (none_is h e)
+only_first h (suc zero, e) = same_number 0 h e
+only_first h (suc (suc n), e) = absurd (none_is h e)
+
+pub only_second : (h : ℕ) → Names pair.spans 1 h → 1 ≡ h
+only_second h (zero, e) = absurd (none_is h e)
+only_second h (suc zero, e) = same_number 1 h e
+only_second h (suc (suc n), e) = absurd (none_is h e)
+
 -- ---- the refusals
 abbrev pub busy : Words
 busy = desk (pinned ∷ pinned ∷ [])
 
-no_spans : IsEvictStep busy busy pair pair (answer.NoSpans 0)
+pub no_spans : IsEvictStep busy busy pair pair (answer.NoSpans 0)
 no_spans = few_spans (record { few = lit< tt; reply = refl; state = refl }) refl
 
 -- one node where two are needed: the one has room
@@ -275,7 +287,7 @@ lone = far_with pair.spans None 1
 pub one_node : room_count lone.nodes lone.members ≡ 1
 one_node = grind (arith, map.gets)
 
-no_nodes : IsEvictStep before before lone lone (answer.NoNodes 1)
+pub no_nodes : IsEvictStep before before lone lone (answer.NoNodes 1)
 no_nodes = few_nodes (record {
   enough = lit≤ tt;
   few = omega (arith, one_node);

@@ -72,14 +72,41 @@ word_is w (inl (inr f)) = let k = f.0.0 in absurd (omega (arith, k))
 word_is w (inr f) = f.0.1
 
 not_held : IsHeldUp looks spans 1 → ⊥
-not_held (h, w, named, found, held) = held (subst IsFree
-    (word_is w (subst (λ (k : ℕ). IsFound k w looks) (only_one h named) found)) free_word)
+not_held a = let b = a.barred in b.4 (subst IsFree
+    (word_is b.1 (subst (λ (k : ℕ). IsFound k b.1 looks) (only_one b.0 b.2) b.3)) free_word)
 
 is_loose : IsLoose looks spans 1
 is_loose h named = (2, subst (λ (k : ℕ). IsFound k 2 looks) (sym (only_one h named)) found_free, free_word)
 
+zero_is : (h : ℕ) → Some 0 ≡ Some h → h ≡ 0
+zero_is h e = cc
+
+only_zero : (h : ℕ) → Names spans 0 h → h ≡ 0
+only_zero h (zero, e) = absurd (none_is h e)
+only_zero h (suc zero, e) = zero_is h e
+only_zero h (suc (suc zero), e) = absurd (none_is h e)
+only_zero h (suc (suc (suc zero)), e) = absurd (none_is h e)
+only_zero h (suc (suc (suc (suc n))), e) = absurd (none_is h e)
+
+found_pinned : IsFound 0 14 looks
+found_pinned = inl (inr ((refl, refl), tt))
+
 is_held_up : IsHeldUp looks spans 0
-is_held_up = (0, 14, (1, refl), inl (inr ((refl, refl), tt)), pinned_word)
+is_held_up = record {
+  seen = λ h named. (14, subst (λ (k : ℕ). IsFound k 14 looks) (sym (only_zero h named)) found_pinned);
+  barred = (0, 14, (1, refl), found_pinned, pinned_word);
+}
+
+-- a span that is left at its first object that can't be claimed is not held up: each is looked at
+abbrev two_objects : List (Option Contents)
+two_objects = Some (span_of (record { index = 11 }) Cold (Some 0 ∷ Some 1 ∷ None ∷ None ∷ [])) ∷ []
+
+not_left_at_the_first : IsHeldUp (Looked 0 14 ∷ []) two_objects 0 → ⊥
+not_left_at_the_first a = let x = a.seen 1 (1, refl) in unseen x.0 x.1
+  where
+    unseen : (w : ℕ) → IsFound 1 w (Looked 0 14 ∷ []) → ⊥
+    unseen w (inl f) = f
+    unseen w (inr f) = let k : 0 ≡ 1 = f.0.0 in absurd (omega (arith, k))
 
 are_loose : AreLoose looks spans (1 ∷ 0 ∷ []) (1 ∷ [])
 are_loose = inr (is_loose, refl, (is_held_up, tt))

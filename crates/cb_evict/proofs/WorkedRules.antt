@@ -39,10 +39,11 @@ use Rattle.cb_evict.specs.EvictRule.{EvictRule, IsInRow}
 use Rattle.cb_evict.specs.Loading.{LiesInOne}
 use Rattle.cb_evict.specs.Looking.{IsIn}
 use Rattle.cb_evict.specs.Sending.{AreSent, IsSent}
+use Rattle.cb_evict.proofs.Loose.{held_alone}
 use Rattle.cb_evict.proofs.NewSet.{set_added_in}
 use Rattle.cb_evict.proofs.WorkedBegin.{former, second, some_batch}
 use Rattle.cb_evict.proofs.WorkedEnds.{are_restored, batch, both_put, claimed, hot, is_committed, is_given_up, leaving, none_of_one, noted, one_put, restored}
-use Rattle.cb_evict.proofs.WorkedEvictStep.{away, calm, far_with, first_object, heads, none_is, only_object, pair, pinned, same_number, settings, span_with}
+use Rattle.cb_evict.proofs.WorkedEvictStep.{away, calm, far_with, first_object, heads, none_is, only_first, only_object, only_second, pair, pinned, same_number, settings, span_with}
 use Rattle.cb_evict.proofs.WorkedSetMade.{homes, is_word, row, row_words}
 
 -- ---- objects of the batch alone are settled by a commit and by an abort
@@ -199,7 +200,10 @@ not_free free = let e : 1 ≡ 0 = free.1 in omega (arith, e)
 no_spans : EvictRule settings hot_leaves hot_leaves (answer.NoSpans 0) of_one
 no_spans = record {
   loose = [];
-  found = ((0, pinned, (1, refl), inr ((refl, refl), tt), not_free), tt);
+  found = (
+    held_alone pair.spans 0 of_one 0 pinned only_first (1, refl) (inr ((refl, refl), tt)) not_free,
+    tt,
+  );
   answered = inl (record { few = lit< tt; reply = refl; state = refl });
   touches = (first_object, tt);
 }
@@ -227,8 +231,13 @@ none_begins = record {
   none = refl;
   loose = [];
   found = (
-    (0, pinned, (1, refl), inr ((refl, refl), ((λ w l. one_zero 0 l.0), tt)), not_free),
-    ((1, pinned, (1, refl), inl (inr ((refl, refl), tt)), not_free), tt),
+    held_alone pair.spans 0 of_both 0 pinned only_first (1, refl)
+        (inr ((refl, refl), ((λ w l. one_zero 0 l.0), tt))) not_free,
+    (
+      held_alone pair.spans 1 of_both 1 pinned only_second (1, refl) (inl (inr ((refl, refl), tt)))
+          not_free,
+      tt,
+    ),
   );
   answered = inl (record { few = lit< tt; reply = refl; state = refl });
   touches = (

@@ -28,10 +28,12 @@ use Rattle.cb_span.specs.declared.temp.Temp.TheVariants.{Cold}
 use Rattle.cb_world.specs.SetWord.{IsSpanWord}
 use Rattle.cb_evict.specs.Candidates.{Names}
 use Rattle.cb_evict.specs.Closing.{HaveHomes, with_homes}
-use Rattle.cb_evict.specs.EvictStep.{AreFrameRows, IsEvictedTo, IsSetMade, IsEvictStep, made}
+use Rattle.cb_evict.specs.EvictStep.{AreFrameRows, IsEvictedTo, IsSetMade, IsEvictStep, made, IsCountedStep}
+use Rattle.cb_evict.specs.declared.eviction.Eviction.TheVariants.{Refused}
+use Rattle.cb_evict.specs.declared.eviction.Lack.TheVariants.{Spans, Nodes}
 use Rattle.cb_evict.specs.Storing.{IsShardAt, AreShards, set_for, with_set}
 use Rattle.cb_evict.proofs.NewSet.{set_added_in}
-use Rattle.cb_evict.proofs.WorkedEvictStep.{before, after, busy, pair, lone, one_node, none_is, same_number, sent_off, not_here, contents_in, first_word, heads, span_with}
+use Rattle.cb_evict.proofs.WorkedEvictStep.{before, after, busy, no_nodes, no_spans, pair, lone, one_node, none_is, same_number, sent_off, not_here, contents_in, first_word, heads, span_with}
 
 -- ---- the code word: a row of zeros and its parity
 pub row : List ℕ
@@ -350,3 +352,22 @@ not_another_number a =
 -- a set that was to be made is no refusal
 not_refused : IsSetMade before before pair pair (answer.Set (record { n = 0 })) → ⊥
 not_refused a = not_here a.evicted.sent
+
+-- ---- the refusals with both counts: no span is loose and two nodes have room, and one is and one has
+no_spans_told : IsCountedStep busy busy pair pair (Refused Spans 0 2)
+no_spans_told = record { step = no_spans; counts = (refl, sym two_nodes) }
+
+no_nodes_told : IsCountedStep before before lone lone (Refused Nodes 1 1)
+no_nodes_told = record { step = no_nodes; counts = (refl, sym one_node) }
+
+-- the counts are not told one in the other's place
+not_swapped : IsCountedStep busy busy pair pair (Refused Spans 2 0) → ⊥
+not_swapped a = let e : 2 ≡ 0 = a.counts.0 in absurd (omega (arith, e))
+
+-- nor those of another moment: the nodes are as they are at the refusal
+not_of_another_moment : IsCountedStep busy busy pair pair (Refused Spans 0 1) → ⊥
+not_of_another_moment a = let e = a.counts.1 in absurd (omega (arith, e, two_nodes))
+
+-- and the one that the reply leaves out is told too
+not_left_out : IsCountedStep before before lone lone (Refused Nodes 0 1) → ⊥
+not_left_out a = let e : 0 ≡ 1 = a.counts.0 in absurd (omega (arith, e))

@@ -1,5 +1,5 @@
 -- The spans that may leave, and which of them are loose.
-use Rattle.std.specs.Prelude.{◌≡◌, ◌⊎◌, ℕ, ◌<◌, Bool, true, false, nat_eq, not, ◌&&◌, ◌++◌, List, [], ◌∷◌, Option, None, Some, filter, length}
+use Rattle.std.specs.Prelude.{◌≡◌, ◌⊎◌, ℕ, ◌<◌, Bool, true, false, nat_eq, not, ◌&&◌, ◌++◌, List, [], ◌∷◌, Option, None, Some, filter, length, slice_index_or}
 use Rattle.std.specs.List.{list_any, range_with_len}
 use Rattle.cb_span.specs.declared.temp.Temp.{Temp}
 use Rattle.cb_span.specs.declared.temp.Temp.TheVariants.{Hot, Cold}
@@ -29,6 +29,15 @@ has_temp temp (Some span) = same_temp temp span.temp
 abbrev pub may_leave : List (Option Contents) → List ℕ → Temp → ℕ → Bool
 may_leave spans leaving temp f = has_temp temp (span_in spans f) && not (is_among leaving f)
 
+-- for each of so many frames whether it is one of these
+pub record AreFlags (frames : List ℕ) (count : ℕ) (flags : List Bool) : Type 0 where
+  pub counted : length flags ≡ count
+  pub each : (f : ℕ) → f < count → slice_index_or flags f false ≡ is_among frames f
+
+-- so by flags of the frames that are leaving
+abbrev pub may_leave_by : List (Option Contents) → List Bool → Temp → ℕ → Bool
+may_leave_by spans leaving temp f = has_temp temp (span_in spans f) && not (slice_index_or leaving f false)
+
 -- the frames that do, by number
 abbrev pub frames_with : List (Option Contents) → List ℕ → Temp → List ℕ
 frames_with spans leaving temp =
@@ -51,9 +60,19 @@ Names spans f h = (slot : ℕ) × (resident spans f slot ≡ Some h)
 abbrev pub IsLoose : List Event → List (Option Contents) → ℕ → Type 0
 IsLoose es spans f = (h : ℕ) → Names spans f h → (w : ℕ) × IsFound h w es × IsFree w
 
+-- each of its objects was looked at
+abbrev pub IsSeen : List Event → List (Option Contents) → ℕ → Type 0
+IsSeen es spans f = (h : ℕ) → Names spans f h → (w : ℕ) × IsFound h w es
+
 -- one of its objects was found at a word at which it can't be claimed
-abbrev pub IsHeldUp : List Event → List (Option Contents) → ℕ → Type 0
-IsHeldUp es spans f = (h w : ℕ) × Names spans f h × IsFound h w es × ¬ (IsFree w)
+abbrev pub IsBarred : List Event → List (Option Contents) → ℕ → Type 0
+IsBarred es spans f = (h w : ℕ) × Names spans f h × IsFound h w es × ¬ (IsFree w)
+
+-- the span in the frame is held up by the last looks: each of its objects was looked at, and one of
+-- them can't be claimed
+pub record IsHeldUp (es : List Event) (spans : List (Option Contents)) (f : ℕ) : Type 0 where
+  pub seen : IsSeen es spans f
+  pub barred : IsBarred es spans f
 
 -- of some frames in order these are the loose ones; each other one is held up
 abbrev pub AreLoose : List Event → List (Option Contents) → List ℕ → List ℕ → Type 0

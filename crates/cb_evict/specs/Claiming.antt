@@ -10,7 +10,7 @@ use Rattle.cb_world.specs.Looks.{NoLook, LooksFirst}
 use Rattle.cb_world.specs.FarState.{FarState, span_in}
 use Rattle.cb_world.specs.LocalSound.{LocalSound}
 use Rattle.cb_world.specs.Reserved.{table_of}
-use Rattle.cb_evict.specs.Candidates.{Names, IsLoose, IsHeldUp, AreLoose}
+use Rattle.cb_evict.specs.Candidates.{Names, IsLoose, IsBarred, AreLoose}
 use Rattle.cb_evict.specs.Looking.{Has, IsIn, IsSlotHeldUp, SpanFinds}
 use Rattle.cb_evict.specs.Events.{TouchesOnly, IsSteady}
 use Rattle.cb_evict.specs.Claims.{AreClaimed, AreBack, AreApart, IsHeldAt}
@@ -91,7 +91,7 @@ pub record ClaimsFrame (runs : List Event → Type 0) (shows : Shown → Type 0)
   pub noted : after ≡ before ++ more
   pub notes : (AreOf (Names spans f) more × (new ≡ old ++ f ∷ []) × IsLoose events spans f
       × (noted_of more ≡ objects_in (table_of (span_in spans f))))
-      ⊎ ((more ≡ []) × (new ≡ old) × IsHeldUp events spans f)
+      ⊎ ((more ≡ []) × (new ≡ old) × IsBarred events spans f)
   pub each_once : AreApart more
   pub claims : (far : FarState) → Claims shows far events more
 

@@ -19,7 +19,9 @@ use Rattle.cb_world.specs.RowWords.{row_of, words_in}
 use Rattle.cb_world.specs.SetWord.{IsSpanWord}
 use Rattle.cb_world.specs.StillWords.{contents_at}
 use Rattle.cb_world.specs.World.{word_at}
+use Rattle.cb_evict.specs.declared.eviction.Eviction.{Eviction}
 use Rattle.cb_evict.specs.Candidates.{candidates}
+use Rattle.cb_evict.specs.Eviction.{reply_of, TellsCounts}
 use Rattle.cb_evict.specs.Looking.{IsIn}
 use Rattle.cb_evict.specs.Storing.{AreShards, with_set}
 use Rattle.cb_evict.specs.Closing.{HaveHomes, with_homes}
@@ -99,3 +101,9 @@ pub data IsEvictStep (x y : Words) (far new : FarState) (r : Reply) : Type 0 whe
   few_nodes : HasFewNodes x.settings far new r (loose_frames x far) → y ≡ x
       → IsEvictStep x y far new r
   made : IsSetMade x y far new r → IsEvictStep x y far new r
+
+-- An eviction that tells both counts where it is refused: of the spans that are loose, and of the
+-- nodes with room.
+pub record IsCountedStep (x y : Words) (far new : FarState) (e : Eviction) : Type 0 where
+  pub step : IsEvictStep x y far new (reply_of e)
+  pub counts : TellsCounts far (loose_frames x far) e

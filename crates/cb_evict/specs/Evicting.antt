@@ -20,6 +20,8 @@ use Rattle.cb_evict.specs.Claiming.{AreOf}
 use Rattle.cb_evict.specs.Looking.{IsIn}
 use Rattle.cb_evict.specs.Order.{noted_of, objects_of}
 use Rattle.cb_evict.specs.Loading.{LiesInOne}
+use Rattle.cb_evict.specs.declared.eviction.Eviction.{Eviction}
+use Rattle.cb_evict.specs.Eviction.{CountsRule}
 use Rattle.cb_evict.specs.EvictRule.{EvictRule, HasEvicted}
 use Rattle.cb_evict.specs.EvictEffect.{IsEvicted}
 
@@ -28,10 +30,15 @@ abbrev pub TouchesSpans : FarState → List Event → Type 0
 TouchesSpans far es = TouchesOnly (IsIn far.spans (candidates far)) (LiesInOne (candidates far)) es
 
 -- the rule of the part behind the looks that found these spans loose
+abbrev pub After : (List Event → Type 0) → FarState → List ℕ → List Event → Type 0
+After rule far loose es = (before : List Event) → AreLoose before far.spans (candidates far) loose
+    → TouchesSpans far before → rule (before ++ es)
+
 abbrev pub RuleAfter : Config → FarState → FarState → Reply → List ℕ → List Event → Type 0
-RuleAfter c far new r loose es = (before : List Event)
-    → AreLoose before far.spans (candidates far) loose → TouchesSpans far before
-    → EvictRule c far new r (before ++ es)
+RuleAfter c far new r loose es = After (EvictRule c far new r) far loose es
+
+abbrev pub CountsAfter : Config → FarState → FarState → Eviction → List ℕ → List Event → Type 0
+CountsAfter c far new e loose es = After (CountsRule c far new e) far loose es
 
 -- k different spans may leave, and these are their objects, in order
 pub record AreTaken (c : Config) (far : FarState) (frames : List ℕ) (formers : List Former)

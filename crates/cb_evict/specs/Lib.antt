@@ -9,6 +9,7 @@ pub mod Storing
 pub mod Sending
 pub mod Closing
 pub mod EvictRule
+pub mod Eviction
 pub mod EvictEffect
 pub mod EvictStep
 pub mod Evicting

@@ -33,19 +33,21 @@ pub record LooksAtSlot (runs : List Event → Type 0) (slot : Option ℕ) (loose
 abbrev pub Has : Contents → ℕ → Type 0
 Has span h = (slot : ℕ) × (handle_at span slot ≡ Some h)
 
+-- by the answer: each object of the span was found at a word at which it can be claimed, or one was not
 abbrev pub SpanFinds : Bool → List Event → Contents → Type 0
 SpanFinds true es span = (h : ℕ) → Has span h → (w : ℕ) × IsFound h w es × IsFree w
 SpanFinds false es span = (h w : ℕ) × Has span h × IsFound h w es × ¬ (IsFree w)
 
--- looks at objects of a span, until one is found that can't be claimed
+-- looks at each object of a span
 pub record LooksAtSpan (runs : List Event → Type 0) (span : Contents) (loose : Bool) : Type 0 where
   pub events : List Event
   pub ran : runs events
   pub looks : OnlyLooks events
   pub touches : TouchesOnly (Has span) (λ p. ⊥) events
+  pub seen : (h : ℕ) → Has span h → (w : ℕ) × IsFound h w events
   pub finds : SpanFinds loose events span
 
--- looks at objects of the span in a frame, which is added to the loose ones if it is one
+-- looks at each object of the span in a frame, which is added to the loose ones if it is one
 pub record LooksAtFrame (runs : List Event → Type 0) (spans : List (Option Contents)) (f : ℕ)
     (old new : List ℕ) : Type 0 where
   pub events : List Event
@@ -59,7 +61,7 @@ pub record LooksAtFrame (runs : List Event → Type 0) (spans : List (Option Con
 abbrev pub IsIn : List (Option Contents) → List ℕ → ℕ → Type 0
 IsIn spans frames h = (f : ℕ) × Contains frames f × Names spans f h
 
--- looks at objects of the spans in some frames, of which these are loose
+-- looks at each object of the spans in some frames, of which these are loose
 pub record LooksOver (runs : List Event → Type 0) (spans : List (Option Contents))
     (frames loose : List ℕ) : Type 0 where
   pub events : List Event

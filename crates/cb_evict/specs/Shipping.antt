@@ -30,6 +30,11 @@ abbrev pub IsNext : FarState → NextPut → Type 0
 IsNext far next.NoBatch = far.leaving ≡ None
 IsNext far x = (batch : LeavingState) × (far.leaving ≡ Some batch) × IsNextOf far batch x
 
+-- a position of the batch that is leaving waits for its row to be put
+abbrev pub Waits : FarState → Type 0
+Waits far = (batch : LeavingState) × (p : ℕ) × (far.leaving ≡ Some batch)
+    × (least_waiting far.members batch.shards ≡ Some p)
+
 -- the caller owns all words of the frames of the batch
 abbrev pub OwnsBatch : Shown → LeavingState → Type 0
 OwnsBatch s batch = (f : ℕ) → Contains batch.frames f → OwnsFrame s f

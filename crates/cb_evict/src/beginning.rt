@@ -22,6 +22,7 @@ ghost use Rattle.cb_evict.specs.Beginning.{AreParities, BeginsAfter, BeginsClaim
 ghost use Rattle.cb_evict.specs.Evicting.{AreTaken, IsReady, LeavesClaimed, TouchesSpans};
 
 use crate::claiming::give_back;
+use crate::eviction::refusal;
 use crate::finding::{Found, find_spans};
 use crate::loading::load_frames;
 use crate::storing::{make_parities, next_set};
@@ -56,9 +57,9 @@ struct Room {
 /// commit needs is taken. No row is put.
 ///
 /// Answers Leaving where a batch is leaving already, and then looks at nothing; then NoSpans where fewer
-/// than k spans are loose, and then NoNodes where fewer than k + r nodes have room. Each object of a span
-/// that may leave is looked at once; nothing walks over all sets or homes. Where there is no memory,
-/// nothing has changed.
+/// than k spans are loose, and then NoNodes where fewer than k + r nodes have room. Every object of every
+/// span that may leave is looked at, once and in one pass; nothing walks over all sets or homes. Where
+/// there is no memory, which may be only where no batch is leaving, nothing has changed.
 pub fn begin<D: Desk>(desk: &mut D, far: &mut Far) -> Result<Reply, NoMemory>
     requires config { IsAccepted (D.settings desk.old) }
     requires configured { IsConfigured (D.settings desk.old) far.old }
@@ -75,6 +76,7 @@ pub fn begin<D: Desk>(desk: &mut D, far: &mut Far) -> Result<Reply, NoMemory>
         (λ t. Sound t far.new)
         IsStill) }
     ensures unchanged { OnErr result (far.new ≡ far.old) }
+    ensures none { OnErr result (far.old.leaving ≡ None) }
 {
     match leaving_set(&far.leaving) {
         Some(set) => Ok(Reply::Leaving { set }),
@@ -114,8 +116,8 @@ fn begin_new<D: Desk>(desk: &mut D, far: &mut Far) -> Result<Reply, NoMemory>
     let config = desk.config();
     let found = find_spans(desk, far, config)?;
     match found {
-        Found::Refused { reply } => Ok(reply),
-        Found::Loose { frames } => begin_loose(desk, far, config, &frames),
+        Found::Few { lack, loose, nodes } => Ok(refusal(lack, loose, nodes)),
+        Found::Loose { frames, .. } => begin_loose(desk, far, config, &frames),
     }
 }
 

@@ -1,16 +1,30 @@
-ghost use Rattle.std.specs.Prelude.{◌≡◌, ◌^◌, ◌<◌, ◌++◌, IfOk, OnOk, filter, length};
+ghost use Rattle.std.specs.Prelude.{◌≡◌, ◌^◌, ◌<◌, ◌++◌, true, IfOk, OnOk, filter, length, slice_set};
 ghost use Rattle.std.specs.List.{range_with_len};
-ghost use Rattle.cb_evict.specs.Candidates.{is_among, same_temp, has_temp, may_leave, frames_with, candidates};
+ghost use Rattle.cb_evict.specs.Candidates.{AreFlags, same_temp, has_temp, may_leave_by, candidates};
 
 use cb_span::{Span, Temp};
 use cb_types::NoMemory;
 use cb_world::{Far, Spans, leaving_frames};
+use std::alloc::Global;
 
-/// Whether the frame is one of these.
-fn is_among(frames: &[u32], frame: u32) -> bool
-    ensures { result ≡ is_among frames.now frame }
+/// Sets the flag of a frame, if it has one.
+fn set_flag(flags: &mut Vec<bool>, frame: u32)
+    ensures { flags.new.items ≡ slice_set flags.old.items frame true }
 {
-    frames.iter().any(|other| *other == frame)
+    if (frame as usize) < flags.len() {
+        flags[frame as usize] = true;
+    }
+}
+
+/// For each of so many frames whether it is one of these.
+fn flag_frames(alloc: Global, count: u32, frames: &[u32]) -> Result<Vec<bool>, NoMemory>
+    ensures flags { IfOk result (λ flags. AreFlags frames.now count flags.items) }
+{
+    let mut flags = vec![in alloc; false; count as usize]?;
+    for frame in frames {
+        set_flag(&mut flags, *frame);
+    }
+    Ok(flags)
 }
 
 /// Whether both are hot or both are cold.
@@ -20,12 +34,13 @@ fn same_temp(a: Temp, b: Temp) -> bool
     matches!((a, b), (Temp::Hot, Temp::Hot) | (Temp::Cold, Temp::Cold))
 }
 
-/// Whether the frame holds a span of this temperature and is not leaving.
-fn may_leave(spans: &Spans, leaving: &[u32], temp: Temp, frame: u32) -> bool
-    ensures { result ≡ may_leave spans.now leaving.now temp frame }
+/// Whether the frame holds a span of this temperature and has no flag that it is leaving.
+fn may_leave(spans: &Spans, leaving: &[bool], temp: Temp, frame: u32) -> bool
+    requires within { frame < length leaving.now }
+    ensures { result ≡ may_leave_by spans.now leaving.now temp frame }
 {
     match spans.get(frame) {
-        Some(span) => same_temp(temp, span.temp()) && !is_among(leaving, frame),
+        Some(span) => same_temp(temp, span.temp()) && !leaving[frame as usize],
         None => false,
     }
 }
@@ -33,13 +48,14 @@ fn may_leave(spans: &Spans, leaving: &[u32], temp: Temp, frame: u32) -> bool
 /// Adds the frames whose spans have this temperature and are not leaving, by number.
 fn push_frames(
     spans: &Spans,
-    leaving: &[u32],
+    leaving: &[bool],
     temp: Temp,
     into: &mut Vec<u32>,
 ) -> Result<(), NoMemory>
     requires count { length spans.now < 2 ^ 32 }
-    ensures ok { OnOk result
-        (into.new.items ≡ into.old.items ++ frames_with spans.now leaving.now temp) }
+    requires flags { length leaving.now ≡ length spans.now }
+    ensures ok { OnOk result (into.new.items ≡ into.old.items
+        ++ filter (may_leave_by spans.now leaving.now temp) (range_with_len 0 (length spans.now))) }
 {
     for frame in 0..spans.count() {
         if may_leave(spans, leaving, temp, frame) {
@@ -55,9 +71,9 @@ pub(crate) fn candidates(far: &Far) -> Result<Vec<u32>, NoMemory>
     requires count { length far.now.spans < 2 ^ 32 }
     ensures frames { IfOk result (λ frames. frames.items ≡ candidates far.now) }
 {
-    let leaving = leaving_frames(&far.leaving);
+    let leaving = flag_frames(far.alloc, far.spans.count(), leaving_frames(&far.leaving))?;
     let mut frames = Vec::new(far.alloc);
-    push_frames(&far.spans, leaving, Temp::Cold, &mut frames)?;
-    push_frames(&far.spans, leaving, Temp::Hot, &mut frames)?;
+    push_frames(&far.spans, &leaving, Temp::Cold, &mut frames)?;
+    push_frames(&far.spans, &leaving, Temp::Hot, &mut frames)?;
     Ok(frames)
 }

@@ -2,7 +2,6 @@ ghost use Rattle.std.specs.Prelude.{◌≡◌, ℕ, ◌^◌, ◌+◌, ◌<◌, �
 ghost use Rattle.std.specs.List.{Contains, AllPairs};
 ghost use Rattle.cb_types.specs.Config.{IsAccepted};
 ghost use Rattle.cb_gf256.specs.Rows.{HaveLength};
-ghost use Rattle.cb_types.specs.declared.reply.Reply.TheVariants as answer;
 ghost use Rattle.cb_world.specs.declared.event.Event.{Event};
 ghost use Rattle.cb_world.specs.declared.shown.Shown.{Shown};
 ghost use Rattle.cb_world.specs.World.{IsConfigured};
@@ -14,10 +13,12 @@ ghost use Rattle.cb_evict.specs.Candidates.{candidates};
 ghost use Rattle.cb_evict.specs.Storing.{AreShards};
 ghost use Rattle.cb_evict.specs.EvictRule.{EvictRule};
 ghost use Rattle.cb_evict.specs.EvictEffect.{EvictEffect};
-ghost use Rattle.cb_evict.specs.Evicting.{AreTaken, IsReady, EvictsClaimed, LeavesClaimed, TouchesSpans, RuleAfter};
+ghost use Rattle.cb_evict.specs.Evicting.{AreTaken, CountsAfter, IsReady, EvictsClaimed, LeavesClaimed, TouchesSpans};
+ghost use Rattle.cb_evict.specs.Eviction.{CountsRule, reply_of};
 
 use crate::claiming::give_back;
 use crate::closing::close_spans;
+use crate::eviction::{Eviction, Lack, reply_of};
 use crate::finding::{Found, find_spans};
 use crate::loading::load_frames;
 use crate::sending::send;
@@ -32,9 +33,9 @@ use cb_world::{Desk, Far, Former};
 /// together, their rows are put at k + r nodes, and the objects are far.
 ///
 /// Refuses with NoSpans where fewer than k spans are so, and then with NoNodes where fewer than k + r
-/// nodes have room. A batch that is leaving does not hinder it and stays as it is. Each object of a span
-/// that may leave is looked at once; nothing walks over all sets or homes. Where there is no memory,
-/// nothing has changed.
+/// nodes have room. A batch that is leaving does not hinder it and stays as it is. Every object of every
+/// span that may leave is looked at, once and in one pass; nothing walks over all sets or homes. Where
+/// there is no memory, nothing has changed.
 pub fn evict_now<D: Desk>(desk: &mut D, far: &mut Far) -> Result<Reply, NoMemory>
     requires config { IsAccepted (D.settings desk.old) }
     requires configured { IsConfigured (D.settings desk.old) far.old }
@@ -52,25 +53,52 @@ pub fn evict_now<D: Desk>(desk: &mut D, far: &mut Far) -> Result<Reply, NoMemory
         IsStill) }
     ensures unchanged { OnErr result (far.new ≡ far.old) }
 {
+    match evict_counted(desk, far) {
+        Ok(eviction) => Ok(reply_of(eviction)),
+        Err(no_memory) => Err(no_memory),
+    }
+}
+
+/// Evicts k spans at once, as `evict_now` does. A refusal tells which of the two is lacking, and both
+/// counts as they were found: how many spans were loose by the last looks at their objects, and how many
+/// nodes have room.
+pub fn evict_counted<D: Desk>(desk: &mut D, far: &mut Far) -> Result<Eviction, NoMemory>
+    requires config { IsAccepted (D.settings desk.old) }
+    requires configured { IsConfigured (D.settings desk.old) far.old }
+    requires counts { (far.old.counts.sets < 2 ^ 62) × (far.old.counts.keys < 2 ^ 62) }
+    requires sound { (s : Shown) × D.shows desk.old s × Sound s far.old }
+    ensures evict { IfOk result (λ eviction. Performs (λ es. D.run desk.old es desk.new)
+        (λ s. D.shows desk.old s × Sound s far.old)
+        (CountsRule (D.settings desk.old) far.old far.new eviction)
+        (λ t. Sound t far.new)
+        (EvictEffect far.old far.new (reply_of eviction))) }
+    ensures error { OnErr result (Performs (λ es. D.run desk.old es desk.new)
+        (λ s. D.shows desk.old s × Sound s far.old)
+        (TouchesSpans far.old)
+        (λ t. Sound t far.new)
+        IsStill) }
+    ensures unchanged { OnErr result (far.new ≡ far.old) }
+{
     let config = desk.config();
     let found = find_spans(desk, far, config)?;
     match found {
-        Found::Refused { reply } => Ok(reply),
-        Found::Loose { frames } => {
+        Found::Few { lack, loose, nodes } => Ok(Eviction::Refused { lack, loose, nodes }),
+        Found::Loose { frames, nodes } => {
             let shards = choose_shards(far, config.k + config.r)?;
-            evict_loose(desk, far, config, &frames, &shards)
+            evict_loose(desk, far, config, nodes, &frames, &shards)
         }
     }
 }
 
-/// Evicts the first k of these spans whose objects can all be claimed.
+/// Evicts the first k of these spans whose objects can all be claimed. So many nodes have room.
 fn evict_loose<D: Desk>(
     desk: &mut D,
     far: &mut Far,
     config: Config,
+    nodes: u32,
     loose: &[u32],
     shards: &[Shard],
-) -> Result<Reply, NoMemory>
+) -> Result<Eviction, NoMemory>
     requires config { (IsAccepted config) × (config ≡ D.settings desk.old) }
     requires configured { IsConfigured config far.old }
     requires counts { (far.old.counts.sets < 2 ^ 62) × (far.old.counts.keys < 2 ^ 62) }
@@ -79,12 +107,13 @@ fn evict_loose<D: Desk>(
     requires apart { AllPairs (λ f g. f ≢ g) loose.now }
     requires enough { config.k ≤ length loose.now }
     requires room { config.k + config.r ≤ room_count far.old.nodes far.old.members }
+    requires nodes { nodes ≡ room_count far.old.nodes far.old.members }
     requires shards { AreShards far.old (config.k + config.r) shards.now }
-    ensures evict { IfOk result (λ reply. Performs (λ es. D.run desk.old es desk.new)
+    ensures evict { IfOk result (λ eviction. Performs (λ es. D.run desk.old es desk.new)
         (λ s. D.shows desk.old s × Sound s far.old)
-        (RuleAfter config far.old far.new reply loose.now)
+        (CountsAfter config far.old far.new eviction loose.now)
         (λ t. Sound t far.new)
-        (EvictEffect far.old far.new reply)) }
+        (EvictEffect far.old far.new (reply_of eviction))) }
     ensures error { OnErr result (Performs (λ es. D.run desk.old es desk.new)
         (λ s. D.shows desk.old s × Sound s far.old)
         (TouchesSpans far.old)
@@ -98,7 +127,11 @@ fn evict_loose<D: Desk>(
     };
     let taken = take_spans(desk, far, config, loose)?;
     match taken {
-        Taken::TooFew { spans } => Ok(Reply::NoSpans { loose: spans }),
+        Taken::TooFew { spans } => Ok(Eviction::Refused {
+            lack: Lack::Spans,
+            loose: spans,
+            nodes,
+        }),
         Taken::Enough { frames, formers } => {
             evict_claimed(desk, far, shards, &frames, &formers, &mut rows)
         }
@@ -114,7 +147,7 @@ fn evict_claimed<D: Desk>(
     frames: &[u32],
     formers: &[Former],
     rows: &mut Rows,
-) -> Result<Reply, NoMemory>
+) -> Result<Eviction, NoMemory>
     requires config { IsAccepted (D.settings desk.old) }
     requires configured { IsConfigured (D.settings desk.old) far.old }
     requires counts { (far.old.counts.sets < 2 ^ 62) × (far.old.counts.keys < 2 ^ 62) }
@@ -123,7 +156,8 @@ fn evict_claimed<D: Desk>(
     requires rows { (length rows.old ≡ length frames.now) × HaveLength 4096 rows.old }
     requires ready { (before : List Event) × (s : Shown)
         × IsReady (λ t. D.shows desk.old t) far.old formers.now before s }
-    ensures reply { IfOk result (λ reply. reply ≡ answer.Set (record { n = far.old.counts.sets })) }
+    ensures set { IfOk result (λ eviction.
+        eviction ≡ Eviction.Set (record { n = far.old.counts.sets })) }
     ensures evict { OnOk result (EvictsClaimed (λ es. D.run desk.old es desk.new)
         (λ s. D.shows desk.old s) (D.settings desk.old) far.old far.new frames.now formers.now) }
     ensures error { OnErr result (LeavesClaimed (λ es. D.run desk.old es desk.new)
@@ -136,7 +170,7 @@ fn evict_claimed<D: Desk>(
         Ok(()) => {
             send(desk, formers);
             close_spans(far, set, frames);
-            Ok(Reply::Set {
+            Ok(Eviction::Set {
                 set: SetId { n: set },
             })
         }

@@ -6,27 +6,27 @@ ghost use Rattle.cb_world.specs.Sound.{Sound};
 ghost use Rattle.cb_evict.specs.Finding.{Finds};
 
 use crate::candidates::candidates;
+use crate::eviction::Lack;
 use crate::looking::find_loose;
-use cb_types::{Config, NoMemory, Reply};
+use cb_types::{Config, NoMemory};
 use cb_world::{Desk, Far, nodes_with_room};
 
 /// What was found of the spans that may leave.
 #[derive(Drop)]
 pub(crate) enum Found {
     /// Fewer spans are loose than a set has data positions, or fewer nodes have room than it has
-    /// positions: the reply that tells so.
-    Refused { reply: Reply },
-    /// Enough nodes have room, and the spans in these frames are loose: k at least, in the order in
-    /// which they are taken.
-    Loose { frames: Vec<u32> },
+    /// positions. So many spans are loose, and so many nodes have room.
+    Few { lack: Lack, loose: u32, nodes: u32 },
+    /// The spans in these frames are loose: k at least, in the order in which they are taken. So many
+    /// nodes have room, which are enough.
+    Loose { frames: Vec<u32>, nodes: u32 },
 }
 
 /// Finds the spans that can leave now: of the spans that may leave, those none of whose objects is
 /// pinned or claimed, the cold ones before the hot ones and then by frame number.
 ///
-/// Refuses with NoSpans where fewer than k spans are so, and then with NoNodes where fewer than k + r
-/// nodes have room. Each object is looked at once, until one of its span can't be claimed. Where there
-/// is no memory, nothing was looked at.
+/// Each object of each span that may leave is looked at once, and the nodes are counted behind that.
+/// Where there is no memory, nothing was looked at.
 pub(crate) fn find_spans<D: Desk>(
     desk: &mut D,
     far: &Far,
@@ -41,18 +41,23 @@ pub(crate) fn find_spans<D: Desk>(
     let frames = candidates(far)?;
     let mut loose = Vec::with_capacity(far.alloc, frames.len())?;
     find_loose(desk, &far.spans, &frames, &mut loose);
-    if loose.len() < config.k as usize {
-        return Ok(Found::Refused {
-            reply: Reply::NoSpans {
-                loose: loose.len() as u32,
-            },
-        });
-    }
     let nodes = nodes_with_room(&far.nodes, &far.members);
-    if nodes < config.k + config.r {
-        return Ok(Found::Refused {
-            reply: Reply::NoNodes { nodes },
+    if loose.len() < config.k as usize {
+        return Ok(Found::Few {
+            lack: Lack::Spans,
+            loose: loose.len() as u32,
+            nodes,
         });
     }
-    Ok(Found::Loose { frames: loose })
+    if nodes < config.k + config.r {
+        return Ok(Found::Few {
+            lack: Lack::Nodes,
+            loose: loose.len() as u32,
+            nodes,
+        });
+    }
+    Ok(Found::Loose {
+        frames: loose,
+        nodes,
+    })
 }

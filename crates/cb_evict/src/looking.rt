@@ -21,21 +21,20 @@ fn is_slot_loose<D: Desk>(desk: &mut D, slot: Option<u32>) -> bool
     }
 }
 
-/// Whether each object of the span can be claimed, by one look at each until one can't.
+/// Whether each object of the span can be claimed, by one look at each.
 fn is_loose<D: Desk>(desk: &mut D, span: &Span) -> bool
     requires handles { (h : ℕ) → Has span.now h → h < (D.settings desk.old).handles }
     requires apart { (i j h : ℕ) → handle_at span.now i ≡ Some h → handle_at span.now j ≡ Some h → i ≡ j }
     ensures { LooksAtSpan (λ es. D.run desk.old es desk.new) span.now result }
 {
+    let mut loose = true;
     for slot in span.slots() {
-        if !is_slot_loose(desk, *slot) {
-            return false;
-        }
+        loose &= is_slot_loose(desk, *slot);
     }
-    true
+    loose
 }
 
-/// Looks at the objects of the span in a frame, and adds the frame to the loose ones if each of them
+/// Looks at each object of the span in a frame, and adds the frame to the loose ones if each of them
 /// can be claimed.
 fn look_at<D: Desk>(desk: &mut D, spans: &Spans, frame: u32, loose: &mut Vec<u32>)
     requires there { (span : Contents) × (span_in spans.now frame ≡ Some span) }
@@ -52,8 +51,8 @@ fn look_at<D: Desk>(desk: &mut D, spans: &Spans, frame: u32, loose: &mut Vec<u32
     }
 }
 
-/// Finds which of the spans in these frames are loose, in order: each object is looked at once, until
-/// one of its span can't be claimed. `loose` is empty before, and has room for as many frames.
+/// Finds which of the spans in these frames are loose, in order: each of their objects is looked at
+/// once. `loose` is empty before, and has room for as many frames.
 pub(crate) fn find_loose<D: Desk>(desk: &mut D, spans: &Spans, frames: &[u32], loose: &mut Vec<u32>)
     requires there { All (λ f. (span : Contents) × (span_in spans.now f ≡ Some span)) frames.now }
     requires unique { AreUnique spans.now (D.settings desk.old).handles }
@@ -62,6 +61,7 @@ pub(crate) fn find_loose<D: Desk>(desk: &mut D, spans: &Spans, frames: &[u32], l
     requires room { length frames.now ≤ vec_capacity loose.old }
     ensures looks { LooksOver (λ es. D.run desk.old es desk.new) spans.now frames.now
         loose.new.items }
+    ensures few { length loose.new.items ≤ length frames.now }
 {
     for frame in frames {
         look_at(desk, spans, *frame, loose);

@@ -1,11 +1,12 @@
-ghost use Rattle.std.specs.Prelude.{◌≡◌, ℕ, ◌+◌, ◌<◌, ◌≤◌, ◌++◌, IfOk, List, OnOk, Some, length};
+ghost use Rattle.std.specs.Prelude.{◌≡◌, ℕ, ◌+◌, ◌<◌, ◌≤◌, ◌++◌, IfOk, List, OnErr, OnOk, Some, length};
 ghost use Rattle.cb_world.specs.declared.shown.Shown.{Shown};
 ghost use Rattle.cb_world.specs.FarState.{FarState};
 ghost use Rattle.cb_world.specs.Leaving.{LeavingState};
 ghost use Rattle.cb_world.specs.Reserved.{put_shards};
 ghost use Rattle.cb_world.specs.Sound.{Sound};
 ghost use Rattle.cb_evict.specs.ShipRule.{other_puts};
-ghost use Rattle.cb_evict.specs.Shipping.{IsNext, IsNextOf};
+ghost use Rattle.cb_evict.specs.Shipping.{IsNext, IsNextOf, Waits};
+ghost use Rattle.cb_evict.specs.Waiting.{least_waiting};
 
 use crate::waiting::least_waiting;
 use cb_member::Shard;
@@ -61,6 +62,7 @@ fn next_of(far: &Far, batch: &Leaving) -> Result<NextPut, NoMemory>
     requires sound { (s : Shown) × Sound s far.now }
     requires few { length far.now.nodes.nodes ≤ 256 }
     ensures next { IfOk result (λ next. IsNextOf far.now batch.now next) }
+    ensures waits { OnErr result ((p : ℕ) × (least_waiting far.now.members batch.now.shards ≡ Some p)) }
 {
     let Some(position) = least_waiting(&batch.shards, &far.members) else {
         return Ok(NextPut::AllShipped);
@@ -81,6 +83,7 @@ pub(crate) fn next_put(far: &Far) -> Result<NextPut, NoMemory>
     requires sound { (s : Shown) × Sound s far.now }
     requires few { length far.now.nodes.nodes ≤ 256 }
     ensures next { IfOk result (λ next. IsNext far.now next) }
+    ensures waits { OnErr result (Waits far.now) }
 {
     match &far.leaving {
         Some(batch) => next_of(far, batch),

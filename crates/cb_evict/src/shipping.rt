@@ -12,7 +12,7 @@ ghost use Rattle.cb_world.specs.Sound.{Sound};
 ghost use Rattle.cb_world.specs.Performs.{Performs};
 ghost use Rattle.cb_evict.specs.ShipRule.{ReadsLeaving, ShipEffect, ShipRule, with_noted, with_shard_at};
 ghost use Rattle.cb_evict.specs.declared.next_put.NextPut.TheVariants as next;
-ghost use Rattle.cb_evict.specs.Shipping.{IsNext, PutsNothing, PutsRow};
+ghost use Rattle.cb_evict.specs.Shipping.{IsNext, PutsNothing, PutsRow, Waits};
 
 use crate::loading::load_frame;
 use crate::next_put::{NextPut, next_put};
@@ -163,7 +163,8 @@ fn ship_row<D: Desk>(
 ///
 /// Answers NoBatch exactly where no batch is leaving, AllShipped exactly where each position's row is
 /// put on a node that has not crashed since, NoNode where no node can take the row, and else Shipped.
-/// No object is looked at, and nothing is settled. Where there is no memory, nothing has changed.
+/// No object is looked at, and nothing is settled. Where there is no memory, which may be only where a
+/// position waits for its row, nothing has changed.
 pub fn ship<D: Desk>(desk: &mut D, far: &mut Far) -> Result<Reply, NoMemory>
     requires config { IsAccepted (D.settings desk.old) }
     requires configured { IsConfigured (D.settings desk.old) far.old }
@@ -180,6 +181,7 @@ pub fn ship<D: Desk>(desk: &mut D, far: &mut Far) -> Result<Reply, NoMemory>
         (λ t. Sound t far.new)
         IsStill) }
     ensures unchanged { OnErr result (far.new ≡ far.old) }
+    ensures waits { OnErr result (Waits far.old) }
 {
     match next_put(far)? {
         NextPut::NoBatch => Ok(Reply::NoBatch),

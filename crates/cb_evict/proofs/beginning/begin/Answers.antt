@@ -1,6 +1,7 @@
 use Rattle.std.proofs.Common.{sym, ap, ◌∙◌, refl}
 use Rattle.std.specs.Option.{option_map}
 use Rattle.cb_world.specs.FarState.{FarState}
+use Rattle.cb_evict.proofs.Composed.{any_err}
 use Rattle.cb_evict.proofs.BeginParts.{number_of, none_leaving, begins_not}
 use Rattle.cb_evict.proofs.beginning.begin.Goals as goal
 
@@ -16,3 +17,8 @@ pub begin_new-requires-clause-none : goal.begin_new-requires-clause-none
 begin_new-requires-clause-none g c = none_leaving c.args.far.now.leaving
     (sym (sym c.in-None.is ∙ c.leaving_set.ensures
     ∙ ap (λ (far : FarState). option_map number_of far.leaving) c.far.view_is))
+
+pub returns-in-None-clause-none : goal.returns-in-None-clause-none
+returns-in-None-clause-none g c = any_err _ _ (none_leaving c.args.far.now.leaving
+    (sym (sym c.in-None.is ∙ c.leaving_set.ensures
+    ∙ ap (λ (far : FarState). option_map number_of far.leaving) c.far.view_is)))

@@ -12,6 +12,7 @@ use Rattle.cb_evict.specs.Evicting.{TouchesSpans}
 use Rattle.cb_evict.specs.BeginEffect.{BeginEffect}
 use Rattle.cb_evict.specs.Beginning.{BeginsAfter}
 use Rattle.cb_evict.proofs.BeginParts.{finds_few_of, looks_begin}
+use Rattle.cb_evict.specs.declared.eviction.Eviction.TheVariants.{Refused}
 use Rattle.cb_evict.specs.Finding.{Finds}
 use Rattle.cb_world.specs.World.{IsConfigured}
 use Rattle.cb_world.specs.Still.{IsStill}
@@ -27,13 +28,14 @@ returns-in_err-found-clause-error g c = any_err _ _ (nothing_done c.args.far.now
     (λ es. g.D.Desk.run c.args.desk.now es c.find_spans.new.desk)
     (λ s. g.D.Desk.shows c.args.desk.now s) c.in_err-found.ensures.error)
 
-pub returns-in-Refused-clause-begun : goal.returns-in-Refused-clause-begun
-returns-in-Refused-clause-begun g c =
-    finds_few_of (g.D.Desk.settings c.args.desk.now) c.config-config.result c.args.far.now c.in-Refused.reply
+pub returns-in-Few-clause-begun : goal.returns-in-Few-clause-begun
+returns-in-Few-clause-begun g c =
+    finds_few_of (g.D.Desk.settings c.args.desk.now) c.config-config.result c.args.far.now
+    c.refusal.result (Refused c.in-Few.lack c.in-Few.loose c.in-Few.nodes)
     (λ es. g.D.Desk.run c.args.desk.now es c.find_spans.new.desk) (λ s. g.D.Desk.shows c.args.desk.now s)
-    c.config-config.ensures c.requires.none
+    c.config-config.ensures c.requires.none c.refusal.ensures
     (subst (Finds (λ es. g.D.Desk.run c.args.desk.now es c.find_spans.new.desk)
-    c.config-config.result c.args.far.now) c.in-Refused.is c.in_ok-found.ensures.found)
+    c.config-config.result c.args.far.now) c.in-Few.is c.in_ok-found.ensures.found)
 
 pub find_spans-requires-clause-config : goal.find_spans-requires-clause-config
 find_spans-requires-clause-config g c =
@@ -155,11 +157,11 @@ begin_loose-requires-clause-counts g c = c.requires.counts
 pub begin_loose-requires-clause-none : goal.begin_loose-requires-clause-none
 begin_loose-requires-clause-none g c = c.requires.none
 
-pub returns-in-Refused-clause-error : goal.returns-in-Refused-clause-error
-returns-in-Refused-clause-error g c = tt
+pub returns-in-Few-clause-error : goal.returns-in-Few-clause-error
+returns-in-Few-clause-error g c = tt
 
-pub returns-in-Refused-clause-unchanged : goal.returns-in-Refused-clause-unchanged
-returns-in-Refused-clause-unchanged g c = tt
+pub returns-in-Few-clause-unchanged : goal.returns-in-Few-clause-unchanged
+returns-in-Few-clause-unchanged g c = tt
 
 pub returns-in-Loose-clause-unchanged : goal.returns-in-Loose-clause-unchanged
 returns-in-Loose-clause-unchanged g c = c.begin_loose.ensures.unchanged

@@ -1,12 +1,12 @@
 use Rattle.std.proofs.Common.{◌∙◌, sym, rules}
-use Rattle.cb_evict.specs.Candidates.{may_leave}
+use Rattle.cb_evict.specs.Candidates.{may_leave_by}
 use Rattle.cb_evict.proofs.Framing.{frame_added, frame_passed}
 use Rattle.cb_evict.proofs.candidates.push_frames.Goals.{then-may_leave+in_ok-push, else-may_leave}
 use Rattle.cb_evict.proofs.candidates.push_frames.Goals as goal
 
 pub loop-frame-preserved : goal.loop-frame-preserved
 loop-frame-preserved c =
-    let test = may_leave c.args.spans.now c.args.leaving.now c.args.temp in
+    let test = may_leave_by c.args.spans.now c.args.leaving.now c.args.temp in
     let old = c.args.into.now.items in let now = c.loop-frame.into.items in let n = c.loop-frame.frame in
     elim c.if-may_leave.branch [
       | then-may_leave+in_ok-push w ↦

@@ -1,17 +1,23 @@
 use Rattle.std.proofs.lemmas.Result.{IfOk-from_err}
-use Rattle.std.proofs.Common.{ℕ, ◌+◌, List, length, refl, sym, ap, ◌∙◌, subst}
+use Rattle.std.proofs.Common.{ℕ, ◌+◌, ◌++◌, List, length, refl, sym, ap, ◌∙◌, subst}
 use Rattle.cb_types.specs.Config.{IsAccepted}
 use Rattle.cb_types.specs.declared.config.Config.{Config}
 use Rattle.cb_world.specs.declared.leaving.Former.{Former}
 use Rattle.cb_world.specs.FarState.{FarState}
 use Rattle.cb_world.specs.Sound.{Sound}
 use Rattle.cb_world.specs.Performs.{Performs}
-use Rattle.cb_evict.specs.Evicting.{TouchesSpans, IsReady}
+use Rattle.cb_types.specs.declared.handle.SetId.{SetId}
+use Rattle.cb_types.specs.declared.reply.Reply.TheVariants as answer
+use Rattle.cb_evict.specs.declared.eviction.Eviction.TheVariants as eviction
+use Rattle.cb_evict.specs.declared.eviction.Lack.TheVariants as lack
+use Rattle.cb_evict.specs.EvictEffect.{EvictEffect}
+use Rattle.cb_evict.specs.Evicting.{CountsAfter, IsReady, RuleAfter, TouchesSpans}
+use Rattle.cb_evict.specs.Eviction.{reply_of}
 use Rattle.cb_evict.specs.Taking.{Takes}
 use Rattle.cb_world.specs.World.{IsConfigured}
 use Rattle.cb_world.specs.Still.{IsStill}
 use Rattle.cb_evict.specs.Storing.{AreShards}
-use Rattle.cb_evict.proofs.Composed.{if_ok, on_err, any_err, both_err, rows_made, nothing_done, are_ready, are_taken, taken_as, evicts_as, leaves_as, claims_then, claims_fail}
+use Rattle.cb_evict.proofs.Composed.{if_ok, on_err, any_err, both_err, rows_made, nothing_done, are_ready, are_taken, taken_as, evicts_as, leaves_as, claims_then, claims_fail, rule_weaker, set_counted, spans_counted}
 use Rattle.cb_evict.proofs.evicting.evict_loose.Goals as goal
 
 pub returns-in-Err-clause-error : goal.returns-in-Err-clause-error
@@ -19,9 +25,17 @@ returns-in-Err-clause-error g c = nothing_done _ _ _ (g.met.D.Desk.none _)
 
 pub returns-in-TooFew-clause-evict : goal.returns-in-TooFew-clause-evict
 returns-in-TooFew-clause-evict g c =
-    subst (Takes (λ es. g.D.Desk.run c.args.desk.now es c.take_spans.new.desk)
+    let n = c.in-TooFew.spans in let far = c.args.far.now in
+    rule_weaker (λ es. g.D.Desk.run c.args.desk.now es c.take_spans.new.desk)
+    (λ s. g.D.Desk.shows c.args.desk.now s × Sound s far) (λ t. Sound t far)
+    (RuleAfter c.args.config far far (answer.NoSpans n) c.args.loose.now)
+    (CountsAfter c.args.config far far (eviction.Refused lack.Spans n c.args.nodes) c.args.loose.now)
+    (EvictEffect far far (answer.NoSpans n))
+    (λ es x before found touches. spans_counted c.args.config far far n c.args.nodes (before ++ es)
+    c.requires.nodes (x before found touches))
+    (subst (Takes (λ es. g.D.Desk.run c.args.desk.now es c.take_spans.new.desk)
     (λ s. g.D.Desk.shows c.args.desk.now s) c.args.config c.args.far.now c.args.loose.now)
-    c.in-TooFew.is c.in_ok-taken.ensures.taken
+    c.in-TooFew.is c.in_ok-taken.ensures.taken)
 
 pub returns-in_err-taken-clause-error : goal.returns-in_err-taken-clause-error
 returns-in_err-taken-clause-error g c = any_err _ _ (nothing_done c.args.far.now
@@ -104,9 +118,17 @@ returns-clause-evict g c =
     c.in-Enough.is c.in_ok-taken.ensures.taken in
     let x = taken.claims in
     let stays = g.met.D.Desk.stays _ _ x.events x.ran in
-    if_ok _ _ _ c.evict_claimed.result c.evict_claimed.ensures.reply c.evict_claimed.ensures.evict
-    (λ r is y.
-    claims_then c.args.config c.args.far.now c.evict_claimed.new.far _ r c.args.loose.now
+    if_ok _ _ _ c.evict_claimed.result c.evict_claimed.ensures.set c.evict_claimed.ensures.evict
+    (λ e is y.
+    let far = c.args.far.now in let new = c.evict_claimed.new.far in
+    let id : SetId = record { n = far.counts.sets } in
+    rule_weaker (λ es. g.D.Desk.run c.args.desk.now es c.evict_claimed.new.desk)
+    (λ s. g.D.Desk.shows c.args.desk.now s × Sound s far) (λ t. Sound t new)
+    (RuleAfter c.args.config far new (reply_of e) c.args.loose.now)
+    (CountsAfter c.args.config far new e c.args.loose.now) (EvictEffect far new (reply_of e))
+    (λ es x before found touches.
+    set_counted c.args.config far new id e (before ++ es) is (x before found touches))
+    (claims_then c.args.config far new id (reply_of e) c.args.loose.now
     c.in-Enough.frames.items c.in-Enough.formers.items
     (λ es. g.D.Desk.run c.args.desk.now es c.take_spans.new.desk)
     (λ es. g.D.Desk.run c.take_spans.new.desk es c.evict_claimed.new.desk)
@@ -118,7 +140,7 @@ returns-clause-evict g c =
     (λ es fs a b. g.met.D.Desk.more _ _ _ _ _ a b)
     (λ s a. (g.met.D.Desk.follows _ _ x.events s x.ran a).1)
     c.requires.among taken.count c.requires.room
-    refl is c.requires.sound)
+    refl (ap reply_of is) c.requires.sound))
 
 pub returns-clause-error : goal.returns-clause-error
 returns-clause-error g c =

@@ -1,13 +1,14 @@
 use Rattle.std.proofs.lemmas.Result.{IfOk-from_err}
 use Rattle.std.proofs.Common.{◌≡◌, ◌≢◌, ℕ, ◌≤◌, List, length, get_or, All, Some, refl, sym, ap, ◌∙◌, subst, arith, inl, inr}
 use Rattle.std.specs.List.{AllPairs}
-use Rattle.cb_types.specs.declared.config.Field.TheVariants.{K, R, Nodes}
+use Rattle.cb_types.specs.declared.config.Field.TheVariants.{Frames, K, R, Nodes}
 use Rattle.cb_types.specs.declared.reply.Reply.TheVariants as answer
 use Rattle.cb_world.specs.Choices.{room_count}
 use Rattle.cb_world.specs.FarState.{FarState, span_in}
 use Rattle.cb_evict.specs.Candidates.{AreUnique, candidates}
 use Rattle.cb_evict.proofs.Composed.{any_err, looks_as}
 use Rattle.cb_evict.proofs.Ending.{place_in}
+use Rattle.cb_evict.proofs.Framing.{candidates_few}
 use Rattle.cb_evict.proofs.Standing.{are_unique, is_standing, candidates_apart}
 use Rattle.cb_evict.proofs.finding.find_spans.Goals as goal
 
@@ -41,16 +42,19 @@ find_loose-requires-clause-apart g c =
     (sym (c.deref.ensures.value ∙ c.in_ok-frames.ensures.frames)) (candidates_apart c.args.far.now)
 
 pub returns-then-len-config-clause-found : goal.returns-then-len-config-clause-found
-returns-then-len-config-clause-found g c = record {
-  loose = c.find_loose.new.loose.items;
-  looks = looks_as _ _ _ _ _ _ _ (ap (λ (far : FarState). far.spans) c.far.view_is)
-      (c.deref.ensures.value ∙ c.in_ok-frames.ensures.frames) refl c.find_loose.ensures.looks;
-  few = inl (record {
-    few = omega (arith, c.if-len-config.true, c.len-2.ensures, c.find_loose.new.loose.ok);
-    reply = ap answer.NoSpans (omega (arith, c.len-then-len-config.ensures, c.find_loose.new.loose.ok));
-    state = refl;
-  });
-}
+returns-then-len-config-clause-found g c =
+    let nodes = c.nodes_with_room-nodes.ensures
+    ∙ ap (λ (far : FarState). room_count far.nodes far.members) c.far.view_is in record {
+      loose = c.find_loose.new.loose.items;
+      looks = looks_as _ _ _ _ _ _ _ (ap (λ (far : FarState). far.spans) c.far.view_is)
+          (c.deref.ensures.value ∙ c.in_ok-frames.ensures.frames) refl c.find_loose.ensures.looks;
+      few = inl (record {
+        few = omega (arith, c.if-len-config.true, c.len-2.ensures, c.find_loose.new.loose.ok);
+        reply = ap answer.NoSpans (omega (arith, c.len-then-len-config.ensures, c.find_loose.new.loose.ok));
+        state = refl;
+      });
+      counts = (omega (arith, c.len-then-len-config.ensures, c.find_loose.new.loose.ok), nodes);
+    }
 
 pub overflow_add-config : goal.overflow_add-config
 overflow_add-config g c =
@@ -81,6 +85,7 @@ returns-then-nodes-config-clause-found g c =
         reply = ap answer.NoNodes nodes;
         state = refl;
       });
+      counts = (omega (arith, c.len-then-nodes-config.ensures, c.find_loose.new.loose.ok), nodes);
     }
 
 pub returns-clause-found : goal.returns-clause-found
@@ -91,6 +96,7 @@ returns-clause-found g c =
           (c.deref.ensures.value ∙ c.in_ok-frames.ensures.frames) refl c.find_loose.ensures.looks;
       enough = omega (arith, c.if-len-config.false, c.len-2.ensures, c.find_loose.new.loose.ok);
       room = omega (arith, nodes, c.if-nodes-config.false);
+      nodes = nodes;
     }
 
 pub returns-in_err-frames-clause-found : goal.returns-in_err-frames-clause-found
@@ -107,3 +113,10 @@ returns-then-nodes-config-clause-error g c = tt
 
 pub returns-clause-error : goal.returns-clause-error
 returns-clause-error g c = tt
+
+pub overflow_cast-result-then-nodes-config : goal.overflow_cast-result-then-nodes-config
+overflow_cast-result-then-nodes-config g c =
+    let few = candidates_few c.args.far.now in let n = c.requires.config.0 Frames in
+    let frames = c.requires.configured.frames in
+    let found = ap (λ (l : List ℕ). length l) (c.deref.ensures.value ∙ c.in_ok-frames.ensures.frames) in
+    omega (arith, few, n.1, frames, found, c.find_loose.ensures.few, c.len-then-nodes-config.ensures, c.find_loose.new.loose.ok)

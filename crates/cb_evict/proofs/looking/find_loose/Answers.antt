@@ -59,4 +59,5 @@ returns g c =
         touches = subst (λ (l : List ℕ). TouchesOnly (IsIn c.args.spans.now l) (λ p. ⊥) inv.0) all inv.3;
         finds = subst (λ (l : List ℕ). AreLoose inv.0 c.args.spans.now l c.loop-frame.loose.items) all inv.4;
       };
+      few = search rules;
     }

@@ -1,7 +1,7 @@
 use Rattle.std.proofs.lemmas.Result.{IfOk-from_err}
 use Rattle.std.proofs.Common.{[], refl, subst, arith, inl, inr}
 use Rattle.cb_types.specs.declared.config.Field.TheVariants.{Nodes}
-use Rattle.cb_evict.specs.Shipping.{IsNext}
+use Rattle.cb_evict.specs.Shipping.{IsNext, Waits}
 use Rattle.cb_evict.proofs.Composed.{any_err}
 use Rattle.cb_evict.proofs.ShipParts.{refused, shipped, reads_alone}
 use Rattle.cb_evict.proofs.shipping.ship.Goals as goal
@@ -88,6 +88,14 @@ ship_row-requires-clause-keys g c = c.requires.keys
 
 pub ship_row-requires-clause-sound : goal.ship_row-requires-clause-sound
 ship_row-requires-clause-sound g c = (c.requires.sound.0, c.requires.sound.2)
+
+pub returns-in_err-next_put-clause-waits : goal.returns-in_err-next_put-clause-waits
+returns-in_err-next_put-clause-waits g c = any_err _ _ c.in_err-next_put.ensures.waits
+
+pub returns-in_err-ship_row-in-Put-clause-waits : goal.returns-in_err-ship_row-in-Put-clause-waits
+returns-in_err-ship_row-in-Put-clause-waits g c =
+    let x = subst (IsNext c.args.far.now) c.in-Put.is c.in_ok-next_put.ensures.next in
+    let waits : Waits c.args.far.now = (x.0, c.in-Put.position, x.1, x.2.0) in any_err _ _ waits
 
 pub returns-in-NoBatch-clause-error : goal.returns-in-NoBatch-clause-error
 returns-in-NoBatch-clause-error g c = tt

@@ -1,0 +1,32 @@
+-- An eviction that tells both counts where it is refused.
+use Rattle.std.specs.Prelude.{◌≡◌, ℕ, List, length}
+use Rattle.cb_types.specs.declared.config.Config.{Config}
+use Rattle.cb_types.specs.declared.reply.Reply.{Reply}
+use Rattle.cb_types.specs.declared.reply.Reply.TheVariants as answer
+use Rattle.cb_world.specs.declared.event.Event.{Event}
+use Rattle.cb_world.specs.Choices.{room_count}
+use Rattle.cb_world.specs.FarState.{FarState}
+use Rattle.cb_evict.specs.declared.eviction.Eviction.{Eviction}
+use Rattle.cb_evict.specs.declared.eviction.Eviction.TheVariants as eviction
+use Rattle.cb_evict.specs.declared.eviction.Lack.{Lack}
+use Rattle.cb_evict.specs.declared.eviction.Lack.TheVariants as lack
+use Rattle.cb_evict.specs.EvictRule.{EvictRule}
+
+-- its reply: the set, or the number of which there is too little
+abbrev pub reply_of : Eviction → Reply
+reply_of (eviction.Set id) = answer.Set id
+reply_of (eviction.Refused lack.Spans loose nodes) = answer.NoSpans loose
+reply_of (eviction.Refused lack.Nodes loose nodes) = answer.NoNodes nodes
+
+-- a refusal tells how many spans are loose and how many nodes have room
+abbrev pub TellsCounts : FarState → List ℕ → Eviction → Type 0
+TellsCounts far loose (eviction.Set id) = Unit {0}
+TellsCounts far loose (eviction.Refused why n m) =
+    (n ≡ length loose) × (m ≡ room_count far.nodes far.members)
+
+-- The rule of an eviction, by its reply; a refusal tells both counts, of the spans that were found
+-- loose and of the nodes as they are.
+pub record CountsRule (c : Config) (far new : FarState) (e : Eviction) (es : List Event) : Type 0
+  where
+    pub rule : EvictRule c far new (reply_of e) es
+    pub counts : TellsCounts far rule.loose e
