@@ -1,5 +1,5 @@
 -- Claimed spans are put away as a new set.
-use Rattle.std.proofs.Common.{◌≡◌, ◌≢◌, ℕ, zero, suc, ◌+◌, ◌-◌, ◌*◌, ◌^◌, ◌<◌, ◌≤◌, Bool, false, List, [], ◌∷◌, ◌++◌, length, get_or, All, Option, None, Some, sym, refl, ap, ◌∙◌, subst, arith, inl, inr}
+use Rattle.std.proofs.Common.{◌≡◌, ◌≢◌, ℕ, zero, suc, ◌+◌, ◌-◌, ◌*◌, ◌^◌, ◌<◌, ◌≤◌, Bool, false, List, [], ◌∷◌, ◌++◌, length, get_or, take, All, Option, None, Some, sym, refl, ap, ◌∙◌, subst, arith, inl, inr}
 use Rattle.std.specs.List.{Contains, slice_get}
 use Rattle.std.proofs.lemmas.Bool.{cases_order}
 use Rattle.std.specs.Int.{to_le_bytes, w64}
@@ -45,6 +45,8 @@ use Rattle.cb_world.proofs.Windows.{window_at, window_same}
 use Rattle.cb_world.proofs.Apart.{slot_inside, some_same}
 use Rattle.cb_world.proofs.Bridge.{put_only}
 use Rattle.cb_world.proofs.Freed.{one_slot}
+use Rattle.cb_world.proofs.FreshShard.{fits_on_least}
+use Rattle.cb_world.proofs.Rooms.{room_puts}
 use Rattle.cb_world.proofs.Storing.{put_there, put_elsewhere}
 use Rattle.cb_world.proofs.Reserving.{noted_by}
 use Rattle.cb_world.proofs.Unmoved.{KeepsLeaving, batch_kept}
@@ -451,6 +453,9 @@ module _ (c : Config) (far : FarState) (frames : List ℕ) (formers : List Forme
         only = λ node key row at. put_only far.nodes shards rows node key row
             (shards_within far (c.k + c.r) shards d.chosen) at;
         nodes = put_count far.nodes shards rows;
+        room = room_puts far.nodes shards rows
+            (λ p shard at. fits_on_least far (take p shards) shard.node (d.chosen.each p shard at).node)
+            (shards_distinct far (c.k + c.r) shards d.chosen);
         members = refl;
         leaving = refl;
         joining = refl;

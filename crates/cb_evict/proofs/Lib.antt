@@ -42,6 +42,8 @@ mod BatchReady
 mod Commits
 pub mod CommitStep
 pub mod AfterEnds
+pub mod Stays
+pub mod Unwritten
 mod WorkedEnds
 pub mod Begun
 pub mod BeginParts

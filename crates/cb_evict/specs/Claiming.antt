@@ -10,7 +10,7 @@ use Rattle.cb_world.specs.Looks.{NoLook, LooksFirst}
 use Rattle.cb_world.specs.FarState.{FarState, span_in}
 use Rattle.cb_world.specs.LocalSound.{LocalSound}
 use Rattle.cb_world.specs.Reserved.{table_of}
-use Rattle.cb_evict.specs.Candidates.{Names, IsLoose, IsBarred, AreLoose}
+use Rattle.cb_evict.specs.Candidates.{Names, IsLoose, AreLoose, IsBarred}
 use Rattle.cb_evict.specs.Looking.{Has, IsIn, IsSlotHeldUp, SpanFinds}
 use Rattle.cb_evict.specs.Events.{TouchesOnly, IsSteady}
 use Rattle.cb_evict.specs.Claims.{AreClaimed, AreBack, AreApart, IsHeldAt}

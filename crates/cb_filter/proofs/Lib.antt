@@ -7,6 +7,8 @@ pub mod Settled
 pub mod Filtered
 pub mod FilterStep
 pub mod StepFixed
+pub mod Stays
+pub mod Unwritten
 pub mod WorkedSeats
 mod WorkedFilter
 mod WorkedFilterStep

@@ -9,6 +9,7 @@ pub mod FreeEnds
 pub mod ReadRule
 pub mod Loads
 pub mod ReadEnds
+pub mod Reaches
 pub mod StillReplies
 pub mod Steps
 pub mod WordsOf

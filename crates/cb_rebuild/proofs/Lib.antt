@@ -4,6 +4,7 @@ pub mod RestoredFar
 pub mod RebuildKeeps
 pub mod RebuildCounts
 pub mod StepFixed
+pub mod Stays
 mod WorkedWord
 mod WorkedWeak
 mod WorkedRebuilt

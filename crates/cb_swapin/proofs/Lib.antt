@@ -14,6 +14,8 @@ pub mod SwapWords
 pub mod SwapStep
 pub mod StepFixed
 pub mod SwapKeeps
+pub mod Stays
+pub mod Unwritten
 pub mod SwapPins
 pub mod FarHomes
 pub mod SwapWorld
