@@ -2,10 +2,10 @@ pub mod Counting
 pub mod PartsFar
 pub mod Composing
 pub mod Exits
+pub mod NoFrames
 pub mod DeclinedLooks
 pub mod Changes
 pub mod KeptPins
-pub mod Loose
 pub mod KeptParts
 pub mod StillParts
 pub mod StillFilters

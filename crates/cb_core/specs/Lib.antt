@@ -4,7 +4,6 @@ pub mod Jobs
 pub mod Parts
 pub mod Declining
 pub mod Turned
-pub mod Room
 pub mod Step
 pub mod Events
 pub mod Run
