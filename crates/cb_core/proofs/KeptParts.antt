@@ -9,6 +9,8 @@ use Rattle.cb_world.specs.FarState.{FarState}
 use Rattle.cb_world.specs.Plain.{Words}
 use Rattle.cb_world.specs.Seats.{SeatState}
 use Rattle.cb_world.specs.World.{IsKnown, ArePinned, AreCounted, IsConfigured}
+pub use Rattle.cb_world.proofs.Staying.{Rises, rises_more, rises_then}
+use Rattle.cb_world.proofs.Staying.{StaysIf}
 use Rattle.cb_core.specs.Parts.{Holding}
 
 -- all is known of a holding with this configuration, and its pins are those of these seats
@@ -18,39 +20,6 @@ pub record IsGood (c : Config) (seats : List SeatState) (a : Holding Words) : Ty
   pub shown : Shown
   pub known : IsKnown a.desk a.far shown
   pub pinned : ArePinned a.desk seats
-
--- the turns stay, and each number that is drawn or rises did so by at most n
-pub record Rises (n : ℕ) (far new : FarState) : Type 0 where
-  pub turns : new.counts.turns ≡ far.counts.turns
-  pub by_job : new.counts.by_job ≡ far.counts.by_job
-  pub sets : new.counts.sets ≤ far.counts.sets + n
-  pub keys : new.counts.keys ≤ far.counts.keys + n
-  pub epoch : new.members.epoch ≤ far.members.epoch + n
-  pub given : new.nodes.given ≤ far.nodes.given + n
-
-rises_then : (n m k : ℕ) (far mid new : FarState) → n + m ≤ k → Rises n far mid → Rises m mid new
-    → Rises k far new
-rises_then n m k far mid new most p q =
-    let a = p.sets in let b = q.sets in let c = p.keys in let d = q.keys in
-    let e = p.epoch in let f = q.epoch in let g = p.given in let h = q.given in record {
-      turns = q.turns ∙ p.turns;
-      by_job = q.by_job ∙ p.by_job;
-      sets = omega (arith, a, b, most);
-      keys = omega (arith, c, d, most);
-      epoch = omega (arith, e, f, most);
-      given = omega (arith, g, h, most);
-    }
-
-pub rises_more : (n k : ℕ) (far new : FarState) → n ≤ k → Rises n far new → Rises k far new
-rises_more n k far new most p =
-    let a = p.sets in let c = p.keys in let e = p.epoch in let g = p.given in record {
-      turns = p.turns;
-      by_job = p.by_job;
-      sets = omega (arith, a, most);
-      keys = omega (arith, c, most);
-      epoch = omega (arith, e, most);
-      given = omega (arith, g, most);
-    }
 
 -- what a part comes to: this holds of it, all is known, and the numbers rose by at most n
 pub record Arrives (c : Config) (seats : List SeatState) (n : ℕ) (a b : Holding Words) (Z : Type 0)
@@ -106,60 +75,22 @@ arrives_same c seats n a b Z good same z = record {
   });
 }
 
--- a far state that differs in frames, spans, homes, sets and rows, and in the epoch by one at most
-pub record IsLike (far new : FarState) : Type 0 where
-  pub spans : length new.spans ≡ length far.spans
-  pub homes : length new.homes ≡ length far.homes
-  pub nodes : length new.nodes.nodes ≡ length far.nodes.nodes
-  pub room : new.nodes.room ≡ far.nodes.room
-  pub counts : new.counts ≡ far.counts
-  pub epoch : new.members.epoch ≤ far.members.epoch + 1
-  pub given : new.nodes.given ≡ far.nodes.given
-
-pub like_same : (far : FarState) → IsLike far far
-like_same far = record {
-  spans = refl;
-  homes = refl;
-  nodes = refl;
-  room = refl;
-  counts = refl;
-  epoch = omega arith;
-  given = refl;
-}
-
-like_rises : (far new : FarState) → IsLike far new → Rises 1 far new
-like_rises far new like =
-    let sets : new.counts.sets ≡ far.counts.sets = ap (λ (x : CountsState). x.sets) like.counts in
-    let keys : new.counts.keys ≡ far.counts.keys = ap (λ (x : CountsState). x.keys) like.counts in
-    let given = like.given in record {
-      turns = ap (λ (x : CountsState). x.turns) like.counts;
-      by_job = ap (λ (x : CountsState). x.by_job) like.counts;
-      sets = omega (arith, sets);
-      keys = omega (arith, keys);
-      epoch = like.epoch;
-      given = omega (arith, given);
+-- a part after which all is known, that keeps the pins, and leaves the far state as it is configured
+pub arrives_stays : (c : Config) (seats : List SeatState) (n : ℕ) (a b : Holding Words) (t : Shown)
+    (Z : Type 0) → IsGood c seats a → StaysIf c n a.far b.far → IsKnown b.desk b.far t
+    → b.desk.settings ≡ a.desk.settings → ArePinned b.desk seats → Z → Arrives c seats n a b Z
+arrives_stays c seats n a b t Z good stays known settings pinned z =
+    let x = stays good.configured in record {
+      is = z;
+      good = record {
+        settings = settings ∙ good.settings;
+        configured = x.configured;
+        shown = t;
+        known = known;
+        pinned = pinned;
+      };
+      rises = x.rises;
     }
-
--- a part that keeps the pins and changes the far state little
-pub arrives_like : (c : Config) (seats : List SeatState) (a b : Holding Words) (t : Shown)
-    (Z : Type 0) → IsGood c seats a → IsLike a.far b.far → IsKnown b.desk b.far t
-    → b.desk.settings ≡ a.desk.settings → ArePinned b.desk seats → Z → Arrives c seats 1 a b Z
-arrives_like c seats a b t Z good like known settings pinned z = record {
-  is = z;
-  good = record {
-    settings = settings ∙ good.settings;
-    configured = record {
-      frames = like.spans ∙ good.configured.frames;
-      homes = like.homes ∙ good.configured.homes;
-      nodes = like.nodes ∙ good.configured.nodes;
-      room = like.room ∙ good.configured.room;
-    };
-    shown = t;
-    known = known;
-    pinned = pinned;
-  };
-  rises = like_rises a.far b.far like;
-}
 
 -- what was counted, after a turn in which the numbers rose by little
 pub counted_rises : (far mid new : FarState) (kind : ℕ) → AreCounted far → far.counts.turns < 2 ^ 40

@@ -7,11 +7,16 @@ pub mod DeclinedLooks
 pub mod Changes
 pub mod KeptPins
 pub mod KeptParts
+pub mod NodesStay
 pub mod StillParts
 pub mod StillFilters
 pub mod StillRebuilds
 pub mod StillBatches
 pub mod StillTurns
+pub mod TurnComes
+pub mod TurnCarries
+pub mod TurnLeft
+pub mod Mapped
 pub mod WorldKept
 pub mod PinsKept
 pub mod Settings

@@ -38,9 +38,8 @@ use Rattle.cb_evict.specs.Closing.{all_given}
 use Rattle.cb_evict.specs.EvictRule.{HasEvicted, EvictRule}
 use Rattle.cb_evict.proofs.Composed.{few_spans, few_nodes}
 use Rattle.cb_evict.proofs.Gone.{given_in}
-use Rattle.cb_evict.proofs.Homing.{length_closed}
 use Rattle.cb_evict.proofs.Loose.{loose_among}
-use Rattle.cb_evict.proofs.Putting.{put_count, put_room}
+use Rattle.cb_evict.proofs.Stays.{evict_stays}
 use Rattle.cb_evict.proofs.Standing.{names_span, named_at, ready_frame}
 use Rattle.cb_evict.proofs.Trying.{taken_of}
 use Rattle.cb_swapin.specs.SwapRule.{SwapFar, SwapRule, frame_answer, swap_answer}
@@ -126,15 +125,7 @@ has_won c s far new r id es accepted configured sound rule set =
     let f = get_or x.frames 0 0 in
     let inside = Contains-get_or x.frames 0 0 some in
     let ready = ready_frame far s f sound.here (x.among f inside) in record {
-      configured = record {
-        frames = ap (λ (q : FarState). length q.spans) e.state ∙ length_closed far.spans x.frames
-            ∙ configured.frames;
-        homes = e.homes.count ∙ configured.homes;
-        nodes = ap (λ (q : FarState). length q.nodes.nodes) e.state ∙ put_count far.nodes e.shards e.rows
-            ∙ configured.nodes;
-        room = ap (λ (q : FarState). q.nodes.room) e.state ∙ put_room far.nodes e.shards e.rows
-            ∙ configured.room;
-      };
+      configured = (evict_stays c far new r es accepted rule configured).configured;
       given = ap (λ (q : FarState). q.nodes.given) e.state ∙ put_given far.nodes e.shards e.rows;
       free = λ none. least_free-None (all_given far.frames x.frames)
           (sym (ap (λ (q : FarState). least_free q.frames) e.state) ∙ none) f

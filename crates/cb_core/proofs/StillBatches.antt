@@ -21,7 +21,7 @@ use Rattle.cb_world.specs.Still.{IsStill}
 use Rattle.cb_world.specs.Stored.{all_dropped}
 use Rattle.cb_world.specs.World.{IsKnown, word_at}
 use Rattle.cb_world.proofs.Pins.{pinned_still}
-use Rattle.cb_world.proofs.SetsLeft.{drop_count, drop_room}
+use Rattle.cb_world.proofs.Staying.{StaysIf}
 use Rattle.cb_world.proofs.StillPerforms.{PerformsStill}
 use Rattle.cb_evict.specs.AbortRule.{HasGivenUp}
 use Rattle.cb_evict.specs.AbortStep.{ArePutBack, IsAbortStep, no_batch as none_to_abort, given_up}
@@ -35,45 +35,31 @@ use Rattle.cb_evict.specs.Restoring.{IsClaimedFrom}
 use Rattle.cb_evict.specs.ShipRule.{ReadsLeaving}
 use Rattle.cb_evict.specs.ShipStep.{IsShipStep}
 use Rattle.cb_evict.proofs.AbortStep.{abort_step}
-use Rattle.cb_evict.proofs.AfterBegin.{begin_settings, begin_count, begin_versions, begin_pinned, begin_pins, begin_keeps as begin_parts, begin_sets}
+use Rattle.cb_evict.proofs.AfterBegin.{begin_settings, begin_count, begin_versions, begin_pinned, begin_pins, begin_keeps as begin_parts}
 use Rattle.cb_evict.proofs.BeginStep.{begin_step}
 use Rattle.cb_evict.proofs.Claims.{among, no_former}
 use Rattle.cb_evict.proofs.CommitStep.{commit_step}
 use Rattle.cb_evict.proofs.EvictStep.{IsStepKnown}
-use Rattle.cb_evict.proofs.Homing.{length_closed}
+use Rattle.cb_evict.proofs.Stays.{abort_stays, begin_stays, commit_stays, ship_stays}
 use Rattle.cb_evict.proofs.Noted.{claimed_all}
 use Rattle.cb_evict.proofs.ShipStep.{ships_leaves, ship_step, ship_stopped}
 use Rattle.cb_core.specs.Parts.{Holding}
 use Rattle.cb_core.specs.Step.{HoldOn, StillBegin, StillShip, StillCommit, StillAbort, StillShipLacks}
 use Rattle.cb_core.specs.Turned.{Begins, Ships, Commits, Aborts, ShipLacks}
-use Rattle.cb_core.proofs.KeptParts.{IsGood, Rises, Arrives, Carries, CarriesLack, arrives_same}
+use Rattle.cb_core.proofs.KeptParts.{IsGood, Arrives, Carries, CarriesLack, arrives_same, arrives_stays}
 use Rattle.cb_core.proofs.StillParts.{Ran, Tells, both_same}
 
--- Frames, homes and nodes are as many as before, and no object was made. Each object has as many pins,
--- with pins it has its word, and no version word changed. Each number rose by one at most.
+-- No object was made and no turn was counted. Each object has as many pins, with pins it has its word,
+-- and no version word changed.
 pub record KeepsRest (x y : Words) (far new : FarState) : Type 0 where
   pub settings : y.settings ≡ x.settings
   pub count : length y.words ≡ length x.words
   pub versions : y.versions ≡ x.versions
   pub pins : (h : ℕ) → pins_of (word_at y h) ≡ pins_of (word_at x h)
   pub pinned : (h : ℕ) → 1 ≤ pins_of (word_at x h) → word_at y h ≡ word_at x h
-  pub spans : length new.spans ≡ length far.spans
-  pub homes : length new.homes ≡ length far.homes
-  pub nodes : length new.nodes.nodes ≡ length far.nodes.nodes
-  pub room : new.nodes.room ≡ far.nodes.room
   pub first : new.first ≡ far.first
   pub made : new.made ≡ far.made
-  pub rises : Rises 1 far new
-
-rises_none : (far : FarState) → Rises 1 far far
-rises_none far = record {
-  turns = refl;
-  by_job = refl;
-  sets = omega arith;
-  keys = omega arith;
-  epoch = omega arith;
-  given = omega arith;
-}
+  pub turns : new.counts.turns ≡ far.counts.turns
 
 -- nothing changed
 keeps_same : (x y : Words) (far new : FarState) → y ≡ x → new ≡ far → KeepsRest x y far new
@@ -84,13 +70,9 @@ keeps_same x y far new words state = subst (λ (u : Words). KeepsRest x u far ne
       versions = refl;
       pins = λ h. refl;
       pinned = λ h some. refl;
-      spans = refl;
-      homes = refl;
-      nodes = refl;
-      room = refl;
       first = refl;
       made = refl;
-      rises = rises_none far;
+      turns = refl;
     }))
 
 -- ---- a begin
@@ -98,30 +80,15 @@ pub begin_keeps : (x y : Words) (far new : FarState) (r : Reply) → IsBeginStep
     → KeepsRest x y far new
 begin_keeps x y far new r step =
     let parts = begin_parts x y far new r step in
-    let sets = (begin_sets x y far new r step).1 in
-    let keys = parts.keys in
-    let epoch : new.members.epoch ≡ far.members.epoch = ap (λ (m : Membership). m.epoch) parts.members in
-    let given : new.nodes.given ≡ far.nodes.given = ap (λ (n : NodesState). n.given) parts.nodes in
     record {
       settings = begin_settings x y far new r step;
       count = begin_count x y far new r step;
       versions = begin_versions x y far new r step;
       pins = λ h. begin_pins x y far new r h step;
       pinned = λ h. begin_pinned x y far new r h step;
-      spans = ap (λ (l : List (Option Contents)). length l) parts.spans;
-      homes = ap (λ (l : List (Option Home)). length l) parts.homes;
-      nodes = ap (λ (n : NodesState). length n.nodes) parts.nodes;
-      room = ap (λ (n : NodesState). n.room) parts.nodes;
       first = parts.first;
       made = parts.made;
-      rises = record {
-        turns = parts.turns;
-        by_job = parts.by_job;
-        sets = sets;
-        keys = omega (arith, keys);
-        epoch = omega (arith, epoch);
-        given = omega (arith, given);
-      };
+      turns = parts.turns;
     }
 
 -- ---- a ship
@@ -129,29 +96,15 @@ pub ship_keeps : (x y : Words) (far new : FarState) (r : Reply) → IsShipStep x
     → KeepsRest x y far new
 ship_keeps x y far new r step =
     let leaves = ships_leaves far new r _ step.ships in
-    let sets = leaves.set_numbers in
-    let epoch : new.members.epoch ≡ far.members.epoch = ap (λ (m : Membership). m.epoch) leaves.members in
-    let given = leaves.given in
     subst (λ (u : Words). KeepsRest x u far new) (sym step.words) (record {
       settings = refl;
       count = refl;
       versions = refl;
       pins = λ h. refl;
       pinned = λ h some. refl;
-      spans = ap (λ (l : List (Option Contents)). length l) leaves.spans;
-      homes = ap (λ (l : List (Option Home)). length l) leaves.homes;
-      nodes = leaves.nodes;
-      room = leaves.room;
       first = leaves.first;
       made = leaves.made;
-      rises = record {
-        turns = leaves.turns;
-        by_job = leaves.by_job;
-        sets = omega (arith, sets);
-        keys = leaves.keys;
-        epoch = omega (arith, epoch);
-        given = omega (arith, given);
-      };
+      turns = leaves.turns;
     })
 
 -- ---- the ends of a batch
@@ -198,20 +151,9 @@ commit_done x y far new r s k c away =
       versions = away.versions;
       pins = pins_stay x y far s c.batch k c.there away.others none;
       pinned = pinned_stay x y far s c.batch k c.there away.others none;
-      spans = ap (λ (f : FarState). length f.spans) c.state ∙ length_closed far.spans c.batch.frames;
-      homes = c.homes.count;
-      nodes = ap (λ (f : FarState). length f.nodes.nodes) c.state;
-      room = ap (λ (f : FarState). f.nodes.room) c.state;
       first = ap (λ (f : FarState). f.first) c.state;
       made = ap (λ (f : FarState). f.made) c.state;
-      rises = subst (Rises 1 far) (sym c.state) (record {
-        turns = refl;
-        by_job = refl;
-        sets = omega arith;
-        keys = omega arith;
-        epoch = omega arith;
-        given = omega arith;
-      });
+      turns = ap (λ (f : FarState). f.counts.turns) c.state;
     }
 
 pub commit_keeps : (x y : Words) (far new : FarState) (r : Reply) (s : Shown) → IsKnown x far s
@@ -219,11 +161,6 @@ pub commit_keeps : (x y : Words) (far new : FarState) (r : Reply) (s : Shown) �
 commit_keeps x y far new r s k (none_to_commit n same) = keeps_same x y far new same n.state
 commit_keeps x y far new r s k (short z same) = keeps_same x y far new same z.state
 commit_keeps x y far new r s k (committed c away) = commit_done x y far new r s k c away
-
-dropped_given : (nodes : NodesState) (shards : List Shard)
-    → (all_dropped nodes shards).given ≡ nodes.given
-dropped_given nodes [] = refl
-dropped_given nodes (x ∷ xs) = dropped_given (with_dropped nodes x.node x.key) xs
 
 abort_done : (x y : Words) (far new : FarState) (r : Reply) (s : Shown) → IsKnown x far s
     → (g : HasGivenUp far new r) → ArePutBack x y g.batch.words → KeepsRest x y far new
@@ -233,28 +170,15 @@ abort_done x y far new r s k g back =
     claimed_all s far batch k.sound g.there (k.shows.hots ∙ sym k.shows.objects) in
     let none : All (λ former. pins_of (word_at y former.handle) ≡ 0) batch.words =
     λ i d l. ap pins_of (back.back i d l) ∙ (claims i d l).free.1 in
-    let given = dropped_given far.nodes (put_shards batch.shards) in record {
+    record {
       settings = back.settings;
       count = back.count;
       versions = back.versions;
       pins = pins_stay x y far s batch k g.there back.others none;
       pinned = pinned_stay x y far s batch k g.there back.others none;
-      spans = ap (λ (f : FarState). length f.spans) g.state;
-      homes = ap (λ (f : FarState). length f.homes) g.state;
-      nodes = ap (λ (f : FarState). length f.nodes.nodes) g.state
-          ∙ drop_count far.nodes (put_shards batch.shards);
-      room = ap (λ (f : FarState). f.nodes.room) g.state
-          ∙ drop_room far.nodes (put_shards batch.shards);
       first = ap (λ (f : FarState). f.first) g.state;
       made = ap (λ (f : FarState). f.made) g.state;
-      rises = subst (Rises 1 far) (sym g.state) (record {
-        turns = refl;
-        by_job = refl;
-        sets = omega arith;
-        keys = omega arith;
-        epoch = omega arith;
-        given = omega (arith, given);
-      });
+      turns = ap (λ (f : FarState). f.counts.turns) g.state;
     }
 
 pub abort_keeps : (x y : Words) (far new : FarState) (r : Reply) (s : Shown) → IsKnown x far s
@@ -265,29 +189,16 @@ abort_keeps x y far new r s k (given_up g back) = abort_done x y far new r s k g
 -- ---- the parts of a turn
 -- a step of a batch after which all is known
 batch_arrives : (c : Config) (seats : List SeatState) (a b : Holding Words) (t : Shown) (Z : Type 0)
-    → IsGood c seats a → IsKnown b.desk b.far t → KeepsRest a.desk b.desk a.far b.far → Z
-    → Arrives c seats 1 a b Z
-batch_arrives c seats a b t Z good known keeps z = record {
-  is = z;
-  good = record {
-    settings = keeps.settings ∙ good.settings;
-    configured = record {
-      frames = keeps.spans ∙ good.configured.frames;
-      homes = keeps.homes ∙ good.configured.homes;
-      nodes = keeps.nodes ∙ good.configured.nodes;
-      room = keeps.room ∙ good.configured.room;
-    };
-    shown = t;
-    known = known;
-    pinned = pinned_still a.desk b.desk seats good.pinned keeps.count
-        (λ h below some. (
-          keeps.pinned h some,
-          ap (λ (l : List ℕ). get_or l h 0) keeps.versions,
-        ))
-        (λ h below none. keeps.pins h ∙ none);
-  };
-  rises = keeps.rises;
-}
+    → IsGood c seats a → StaysIf c 1 a.far b.far → IsKnown b.desk b.far t
+    → KeepsRest a.desk b.desk a.far b.far → Z → Arrives c seats 1 a b Z
+batch_arrives c seats a b t Z good stays known keeps z =
+    arrives_stays c seats 1 a b t Z good stays known keeps.settings
+    (pinned_still a.desk b.desk seats good.pinned keeps.count
+    (λ h below some. (
+      keeps.pinned h some,
+      ap (λ (l : List ℕ). get_or l h 0) keeps.versions,
+    ))
+    (λ h below none. keeps.pins h ∙ none)) z
 
 -- what each object holds stays
 holds_on : (a b : Holding Words)
@@ -301,7 +212,8 @@ begin_part c seats a b r good p =
     let q = subst (λ (d : Config). PerformsStill x y far new (BeginRule d far new r)
     (BeginEffect far new r)) (sym good.settings) p in
     let z = begin_step x y far new r good.shown q good.known in
-    batch_arrives c seats a b z.1.shown (StillBegin a r b) good z.1.known
+    batch_arrives c seats a b z.1.shown (StillBegin a r b) good
+    (begin_stays c far new r p.events p.rule) z.1.known
     (begin_keeps x y far new r z.0)
     (z.0, holds_on a b (λ s k. (begin_step x y far new r s q k).1))
 
@@ -310,7 +222,8 @@ pub ship_part : (c : Config) (seats : List SeatState)
 ship_part c seats a b r good p =
     let x = a.desk in let y = b.desk in let far = a.far in let new = b.far in
     let z = ship_step x y far new r good.shown p good.known in
-    batch_arrives c seats a b z.1.shown (StillShip a r b) good z.1.known
+    batch_arrives c seats a b z.1.shown (StillShip a r b) good
+    (ship_stays c far new r p.events p.rule) z.1.known
     (ship_keeps x y far new r z.0)
     (z.0, holds_on a b (λ s k. (ship_step x y far new r s p k).1))
 
@@ -328,7 +241,8 @@ pub commit_part : (c : Config) (seats : List SeatState)
 commit_part c seats a b r good p =
     let x = a.desk in let y = b.desk in let far = a.far in let new = b.far in
     let z = commit_step x y far new r good.shown p good.known in
-    batch_arrives c seats a b z.1.shown (StillCommit a r b) good z.1.known
+    batch_arrives c seats a b z.1.shown (StillCommit a r b) good
+    (commit_stays c good.shown far new r p.events good.known.sound p.rule) z.1.known
     (commit_keeps x y far new r good.shown good.known z.0)
     (z.0, holds_on a b (λ s k. (commit_step x y far new r s p k).1))
 
@@ -337,6 +251,7 @@ pub abort_part : (c : Config) (seats : List SeatState)
 abort_part c seats a b r good p =
     let x = a.desk in let y = b.desk in let far = a.far in let new = b.far in
     let z = abort_step x y far new r good.shown p good.known in
-    batch_arrives c seats a b z.1.shown (StillAbort a r b) good z.1.known
+    batch_arrives c seats a b z.1.shown (StillAbort a r b) good
+    (abort_stays c far new r p.events p.rule) z.1.known
     (abort_keeps x y far new r good.shown good.known z.0)
     (z.0, holds_on a b (λ s k. (abort_step x y far new r s p k).1))

@@ -23,26 +23,14 @@ use Rattle.cb_filter.proofs.FilterStep.{IsStepKnown, filter_step, filter_stopped
 use Rattle.cb_core.specs.Parts.{Holding}
 use Rattle.cb_core.specs.Step.{HoldOn, StillFilter, StillFilterLacks}
 use Rattle.cb_core.specs.Turned.{Filters, FilterLacks}
-use Rattle.cb_core.proofs.KeptParts.{IsGood, Arrives, Carries, CarriesLack, IsLike, like_same, arrives_same, arrives_like}
+use Rattle.cb_core.proofs.KeptParts.{IsGood, Arrives, Carries, CarriesLack, arrives_same, arrives_stays}
+use Rattle.cb_filter.proofs.Stays.{filter_stays}
+use Rattle.cb_world.proofs.Staying.{StaysIf}
 use Rattle.cb_core.proofs.KeptPins.{cooled_pinned}
 use Rattle.cb_core.proofs.StillParts.{Ran, Tells, both_same}
 
--- an object that moved changes frames and spans alone
-moved_like : (far new : FarState) (seat : Seat) (slot : Slot) (h : ℕ)
-    → new ≡ with_moved far seat slot h → IsLike far new
-moved_like far new seat slot h state = subst (IsLike far) (sym state) (record {
-  spans = length-set (with_object far slot h).spans seat.frame _
-      ∙ length-set far.spans slot.frame _;
-  homes = refl;
-  nodes = refl;
-  room = refl;
-  counts = refl;
-  epoch = omega arith;
-  given = refl;
-})
-
 module _ (c : Config) (seats : List SeatState) (h : ℕ) (a b : Holding Words) (r : Reply)
-    (good : IsGood c seats a) (hold : HoldOn a b) (z : IsStepKnown b.desk a.far b.far good.shown)
+    (good : IsGood c seats a) (hold : HoldOn a b) (stays : StaysIf c 1 a.far b.far) (z : IsStepKnown b.desk a.far b.far good.shown)
   where
     -- by the step
     filtered : IsFilterStep a.desk b.desk a.far b.far h r → Arrives c seats 1 a b (StillFilter h a r b)
@@ -50,8 +38,7 @@ module _ (c : Config) (seats : List SeatState) (h : ℕ) (a b : Holding Words) (
         arrives_same c seats 1 a b (StillFilter h a r b) good (both_same a b same state)
         (refused why same state, hold)
     filtered (cools seat is place same) =
-        arrives_like c seats a b z.shown (StillFilter h a r b) good
-        (subst (IsLike a.far) (sym place.state) (like_same a.far)) z.known
+        arrives_stays c seats 1 a b z.shown (StillFilter h a r b) good stays z.known
         (ap (λ (x : Words). x.settings) same)
         (cooled_pinned a.desk b.desk seats h (place_of (word_at a.desk h)) good.pinned is.free
         (ap (λ (x : Words). x.words) same) (ap (λ (x : Words). x.versions) same))
@@ -60,8 +47,7 @@ module _ (c : Config) (seats : List SeatState) (h : ℕ) (a b : Holding Words) (
         arrives_same c seats 1 a b (StillFilter h a r b) good (both_same a b same none.state)
         (without_slot seat is none same, hold)
     filtered (moves seat slot is gets same) =
-        arrives_like c seats a b z.shown (StillFilter h a r b) good
-        (moved_like a.far b.far seat slot h gets.state) z.known
+        arrives_stays c seats 1 a b z.shown (StillFilter h a r b) good stays z.known
         (ap (λ (x : Words). x.settings) same)
         (cooled_pinned a.desk b.desk seats h (place_in slot) good.pinned is.free
         (ap (λ (x : Words). x.words) same) (ap (λ (x : Words). x.versions) same))
@@ -78,7 +64,7 @@ filter_part c seats h a b r good p =
     (λ s k.
     let after = (filter_step x y far new s h r k q).1 in
     (after.shown, after.known, after.same_now))
-    z.1 z.0
+    (filter_stays c c.frames h far new r p.events p.rule) z.1 z.0
 
 -- ---- want of memory
 -- an object that was claimed was found free

@@ -23,7 +23,7 @@ use Rattle.cb_world.specs.Still.{IsStill}
 use Rattle.cb_world.specs.StillWords.{stamp_at}
 use Rattle.cb_world.specs.World.{IsKnown, ArePinned, IsConfigured, word_at}
 use Rattle.cb_world.proofs.Exact.{found_exact}
-use Rattle.cb_world.proofs.SetsLeft.{left_count, left_given, left_room}
+use Rattle.cb_world.proofs.Staying.{StaysIf, stays_same}
 use Rattle.cb_world.proofs.StillPerforms.{PerformsStill, RunsStill, runs_still, stays_still}
 use Rattle.cb_world.proofs.StillWords.{told_exact}
 use Rattle.cb_mutate.specs.Answered.{Answered}
@@ -36,6 +36,7 @@ use Rattle.cb_mutate.specs.StillReplies.{reply_as}
 use Rattle.cb_mutate.specs.WriteRule.{WriteRule, WriteEffect}
 use Rattle.cb_mutate.proofs.FreeStep.{free_step}
 use Rattle.cb_mutate.proofs.MakeStep.{make_step}
+use Rattle.cb_mutate.proofs.Stays.{free_stays, make_stays}
 use Rattle.cb_mutate.proofs.ReadStep.{read_step, failed_step}
 use Rattle.cb_mutate.proofs.Stepping.{is_exact, Comes, comes, reply_comes}
 use Rattle.cb_mutate.proofs.WriteStep.{write_step}
@@ -43,20 +44,22 @@ use Rattle.cb_evict.specs.Evicting.{TouchesSpans}
 use Rattle.cb_evict.specs.EvictEffect.{EvictEffect}
 use Rattle.cb_evict.specs.EvictRule.{EvictRule}
 use Rattle.cb_evict.specs.Eviction.{CountsRule, reply_of}
-use Rattle.cb_evict.proofs.AfterEvict.{evict_settings, evict_configured, evict_seats, evict_keeps, evict_sets, evict_keys, evict_given}
+use Rattle.cb_evict.proofs.AfterEvict.{evict_settings, evict_seats}
 use Rattle.cb_evict.proofs.Composed.{rule_weaker}
 use Rattle.cb_evict.proofs.EvictStep.{counted_step, evict_step, evict_stopped}
+use Rattle.cb_evict.proofs.Stays.{evict_stays}
 use Rattle.cb_swapin.specs.Fetching.{far_given}
-use Rattle.cb_swapin.proofs.FarHomes.{given_known, given_failed}
-use Rattle.cb_swapin.proofs.SwapKeeps.{keeps_far, given_most, settings_stay}
+use Rattle.cb_swapin.proofs.FarHomes.{given_known}
+use Rattle.cb_swapin.proofs.Stays.{given_stays, swap_stays}
+use Rattle.cb_swapin.proofs.SwapKeeps.{settings_stay}
 use Rattle.cb_swapin.proofs.SwapStep.{swap_step}
-use Rattle.cb_swapin.proofs.SwapWorld.{configured_kept, pinned_kept}
+use Rattle.cb_swapin.proofs.SwapWorld.{pinned_kept}
 use Rattle.cb_core.specs.Declining.{write_refusal}
 use Rattle.cb_core.specs.Parts.{Holding, NeverDeclined}
 use Rattle.cb_core.specs.Step.{StillMake, StillRead, StillWrite, StillFree, StillFind, StillDecline, StillEvict, StillRoom, StillSwap, StillMakeLacks, StillReadLacks, StillEvictLacks, StillSwapLacks}
 use Rattle.cb_core.specs.Turned.{Makes, Reads, Writes, Frees, Finds, Declines, Evicts, WinsRoom, Swaps, MakeLacks, ReadLacks, EvictLacks, SwapLacks, IsDeclined}
 use Rattle.cb_core.proofs.Changes.{MayGo, read_leaves, write_leaves, free_leaves}
-use Rattle.cb_core.proofs.KeptParts.{IsGood, Rises, Arrives, Carries, CarriesLack, arrives_same, arrives_like, IsLike, like_same}
+use Rattle.cb_core.proofs.KeptParts.{IsGood, Rises, Arrives, Carries, CarriesLack, arrives_same, arrives_stays}
 use Rattle.cb_core.proofs.KeptPins.{seen_pinned, written_pinned, freed_pinned, new_pinned, no_pins}
 
 -- what the still desk runs and shows
@@ -92,13 +95,13 @@ read_kept : (c : Config) (seats : List SeatState) (h : ℕ) (a b : Holding Words
 read_kept c seats h a b r t Z good same step known z =
     go (read_leaves a.desk b.desk h r step)
   where
-    like : IsLike a.far b.far
-    like = subst (IsLike a.far) (sym same) (like_same a.far)
+    stays : StaysIf c 1 a.far b.far
+    stays = stays_same c 1 a.far b.far (omega arith) same
 
     go : (b.desk ≡ a.desk) ⊎ (b.desk ≡ with_seen a.desk h) → Arrives c seats 1 a b Z
-    go (inl e) = arrives_like c seats a b t Z good like known (ap (λ (x : Words). x.settings) e)
+    go (inl e) = arrives_stays c seats 1 a b t Z good stays known (ap (λ (x : Words). x.settings) e)
         (subst (λ (x : Words). ArePinned x seats) (sym e) good.pinned) z
-    go (inr e) = arrives_like c seats a b t Z good like known (ap (λ (x : Words). x.settings) e)
+    go (inr e) = arrives_stays c seats 1 a b t Z good stays known (ap (λ (x : Words). x.settings) e)
         (subst (λ (x : Words). ArePinned x seats) (sym e) (seen_pinned a.desk seats h good.pinned)) z
 
 pub read_part : (c : Config) (seats : List SeatState) (h : ℕ)
@@ -115,19 +118,19 @@ write_part c seats h at bytes a b r good p =
     let z = write_step a.desk b.desk a.far b.far good.shown h at bytes r good.known q in
     go _ z.0 z.1 (write_leaves a.desk b.desk h at bytes r z.0)
   where
-    like : IsLike a.far b.far
-    like = subst (IsLike a.far) (sym p.rule.0) (like_same a.far)
+    stays : StaysIf c 1 a.far b.far
+    stays = stays_same c 1 a.far b.far (omega arith) p.rule.0
 
     go : (t : Shown) → IsWriteStep a.desk b.desk h at bytes r → IsKnown b.desk b.far t
         → (b.desk ≡ a.desk) ⊎ ((pins_of (word_at a.desk h) ≡ 0)
         × ((n : ℕ) × IsOverwritten a.desk b.desk h n at bytes))
         → Arrives c seats 1 a b (StillWrite h at bytes a r b)
     go t step known (inl e) =
-        arrives_like c seats a b t (StillWrite h at bytes a r b) good like known
+        arrives_stays c seats 1 a b t (StillWrite h at bytes a r b) good stays known
         (ap (λ (x : Words). x.settings) e)
         (subst (λ (x : Words). ArePinned x seats) (sym e) good.pinned) (step, p.rule.0)
     go t step known (inr (free, (n, o))) =
-        arrives_like c seats a b t (StillWrite h at bytes a r b) good like known
+        arrives_stays c seats 1 a b t (StillWrite h at bytes a r b) good stays known
         (ap (λ (x : Words). x.settings) o.left)
         (subst (λ (x : Words). ArePinned x seats) (sym o.left)
         (written_pinned a.desk seats h n o.words good.pinned free)) (step, p.rule.0)
@@ -138,34 +141,6 @@ free_part c seats h a b r good p =
     let z = free_step a.desk b.desk a.far b.far good.shown h r good.known p in
     go _ z.0 z.1 (free_leaves a.desk b.desk a.far b.far h r z.0)
   where
-    released : IsReleased a.far b.far h → IsLike a.far b.far
-    released z = subst (IsLike a.far) (sym z.left) (record {
-      spans = length-set a.far.spans z.frame _;
-      homes = refl;
-      nodes = refl;
-      room = refl;
-      counts = refl;
-      epoch = omega arith;
-      given = refl;
-    })
-
-    removed : IsRemoved a.far b.far h → IsLike a.far b.far
-    removed z = subst (IsLike a.far) (sym z.left) (record {
-      spans = refl;
-      homes = length-set a.far.homes h _;
-      nodes = left_count a.far.nodes (set_without z.set z.home);
-      room = left_room a.far.nodes (set_without z.set z.home);
-      counts = refl;
-      epoch = omega arith;
-      given = left_given a.far.nodes (set_without z.set z.home);
-    })
-
-    leaves : (q : State) → LeavesPlace q a.far b.far h → IsLike a.far b.far
-    leaves state.Here z = released z
-    leaves state.Far z = removed z
-    leaves state.Empty z = absurd z
-    leaves state.Moving z = absurd z
-
     go : (t : Shown) → IsFreeStep a.desk b.desk a.far b.far h r → IsKnown b.desk b.far t
         → ((b.desk ≡ a.desk) × (b.far ≡ a.far)) ⊎ (MayGo (word_at a.desk h)
         × ((n : ℕ) × IsTakenOut a.desk b.desk a.far b.far h n))
@@ -173,8 +148,8 @@ free_part c seats h a b r good p =
     go t step known (inl (e, same)) =
         arrives_same c seats 1 a b (StillFree h a r b) good (both_same a b e same) step
     go t step known (inr (may, (n, o))) =
-        arrives_like c seats a b t (StillFree h a r b) good
-        (leaves (state_of (word_at a.desk h)) o.leaves) known (ap (λ (x : Words). x.settings) o.left)
+        arrives_stays c seats 1 a b t (StillFree h a r b) good
+        (free_stays c h a.far b.far r p.events p.rule) known (ap (λ (x : Words). x.settings) o.left)
         (subst (λ (x : Words). ArePinned x seats) (sym o.left)
         (freed_pinned a.desk seats h n good.pinned (no_pins a.desk seats h good.pinned may))) step
 
@@ -206,16 +181,8 @@ make_part c seats bytes a b r good p =
     go t step known (inr (more, inl (crammed, reply, e, same))) =
         arrives_same c seats 1 a b (StillMake bytes a r b) good (both_same a b e same) step
     go t step known (inr (more, inr (reply, z))) =
-        arrives_like c seats a b t (StillMake bytes a r b) good
-        (subst (IsLike a.far) (sym z.state) (record {
-          spans = length-set a.far.spans z.slot.frame _;
-          homes = refl;
-          nodes = refl;
-          room = refl;
-          counts = refl;
-          epoch = omega arith;
-          given = refl;
-        })) known (ap (λ (x : Words). x.settings) z.left)
+        arrives_stays c seats 1 a b t (StillMake bytes a r b) good
+        (make_stays c c.handles bytes a.far b.far r p.events p.rule) known (ap (λ (x : Words). x.settings) z.left)
         (subst (λ (x : Words). ArePinned x seats) (sym z.left)
         (new_pinned a.desk seats a.far.made a.far.first (length bytes) (place_in z.slot) z.words
         good.pinned (next_free a.desk a.far good.shown good.known more)
@@ -290,11 +257,7 @@ evict_part c seats accepted a b r good p =
     let q = subst (λ (d : Config). PerformsStill x y far new (EvictRule d far new r)
     (EvictEffect far new r)) (sym good.settings) p in
     let z = evict_step x y far new r good.shown q good.known in
-    let keeps = evict_keeps x y far new r z.0 in
-    let sets = (evict_sets x y far new r z.0).1 in
-    let keys = (evict_keys x y far new r z.0 (subst IsAccepted (sym good.settings) accepted)).1 in
-    let epoch : new.members.epoch ≡ far.members.epoch = ap (λ (m : Membership). m.epoch) keeps.members in
-    let given = evict_given x y far new r z.0 in record {
+    let stays = evict_stays c far new r p.events accepted p.rule good.configured in record {
       is = (
         z.0,
         λ s k. let after = (evict_step x y far new r s q k).1 in
@@ -302,19 +265,12 @@ evict_part c seats accepted a b r good p =
       );
       good = record {
         settings = evict_settings x y far new r z.0 ∙ good.settings;
-        configured = evict_configured x y far new r c z.0 good.configured;
+        configured = stays.configured;
         shown = z.1.shown;
         known = z.1.known;
         pinned = evict_seats x y far new r seats z.0 good.pinned;
       };
-      rises = record {
-        turns = keeps.turns;
-        by_job = keeps.by_job;
-        sets = omega (arith, sets);
-        keys = keys;
-        epoch = omega (arith, epoch);
-        given = omega (arith, given);
-      };
+      rises = stays.rises;
     }
 
 -- so is one that tells both counts
@@ -337,10 +293,8 @@ pub swap_part : (c : Config) (seats : List SeatState) (h : ℕ)
 swap_part c seats h a b r good (home, at, p) =
     let x = a.desk in let y = b.desk in let far = a.far in let new = b.far in
     let z = swap_step x y far new home.set home.position r good.shown p good.known in
-    let keeps = keeps_far x y far new home.set home.position r z.0 in
-    let sets : new.counts.sets ≡ far.counts.sets = ap (λ (n : CountsState). n.sets) keeps.counts in
-    let keys : new.counts.keys ≡ far.counts.keys = ap (λ (n : CountsState). n.keys) keeps.counts in
-    let epoch : new.members.epoch ≡ far.members.epoch = ap (λ (m : Membership). m.epoch) keeps.members in
+    let stays = swap_stays c home.set home.position good.shown far new r p.events good.known.sound p.rule
+    good.configured in
     let settings : y.settings ≡ c = settings_stay x y far new home.set home.position r z.0 ∙ good.settings in
     record {
       is = (
@@ -353,22 +307,13 @@ swap_part c seats h a b r good (home, at, p) =
       );
       good = record {
         settings = settings;
-        configured = subst (λ (d : Config). IsConfigured d new) settings
-            (configured_kept x y far new home.set home.position r z.0
-            (subst (λ (d : Config). IsConfigured d far) (sym good.settings) good.configured));
+        configured = stays.configured;
         shown = z.1.shown;
         known = z.1.known;
         pinned = pinned_kept x y far new home.set home.position r good.shown seats good.known z.0
             good.pinned;
       };
-      rises = record {
-        turns = ap (λ (n : CountsState). n.turns) keeps.counts;
-        by_job = ap (λ (n : CountsState). n.by_job) keeps.counts;
-        sets = omega (arith, sets);
-        keys = omega (arith, keys);
-        epoch = omega (arith, epoch);
-        given = given_most x y far new home.set home.position r good.shown good.known z.0;
-      };
+      rises = stays.rises;
     }
 
 -- ---- want of memory
@@ -383,8 +328,8 @@ pub read_lack : (c : Config) (seats : List SeatState) (h : ℕ)
     → CarriesLack c seats 1 (ReadLacks Ran Tells h) (StillReadLacks h)
 read_lack c seats h a b good (same, p) =
     let z = failed_step a.desk b.desk a.far b.far good.shown h good.known p in
-    read_kept c seats h a b (answer.Bytes z.0.0 z.0.1) _ (StillReadLacks h a b) good same z.0.2 z.1
-    (same, z.0)
+    let e = both_same a b z.1 same in
+    arrives_same c seats 1 a b (StillReadLacks h a b) good e (e, z.0)
 
 pub evict_lack : (c : Config) (seats : List SeatState)
     → CarriesLack c seats 24 (EvictLacks Ran Tells) StillEvictLacks
@@ -398,26 +343,15 @@ pub swap_lack : (c : Config) (seats : List SeatState) (h : ℕ)
     → CarriesLack c seats 16 (SwapLacks Ran h) (StillSwapLacks h)
 swap_lack c seats h a b good (ran, (home, set, n, at, there, few, state)) =
     let same : b ≡ record { desk = a.desk; far = far_given a.far n } = both_same _ b ran.0 state in
+    let stays = given_stays c good.shown a.far home.set n set good.known.sound there few good.configured in
     record {
       is = (ran.0, (home, set, n, at, there, few, state));
       good = subst (IsGood c seats) (sym same) (record {
         settings = good.settings;
-        configured = record {
-          frames = good.configured.frames;
-          homes = good.configured.homes;
-          nodes = good.configured.nodes;
-          room = good.configured.room;
-        };
+        configured = stays.configured;
         shown = good.shown;
         known = given_known a.desk a.far good.shown n good.known;
         pinned = good.pinned;
       });
-      rises = subst (Rises 16 a.far) (sym state) (record {
-        turns = refl;
-        by_job = refl;
-        sets = omega arith;
-        keys = omega arith;
-        epoch = omega arith;
-        given = given_failed a.desk a.far good.shown home.set n set good.known there few;
-      });
+      rises = subst (Rises 16 a.far) (sym state) stays.rises;
     }

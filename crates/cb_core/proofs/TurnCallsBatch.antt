@@ -28,7 +28,7 @@ kept_rest a b s k hold keeps =
       same_now = then.2;
       first = keeps.first;
       made = keeps.made;
-      turns = keeps.rises.turns;
+      turns = keeps.turns;
       settings = keeps.settings;
       pins = keeps.pins;
     }

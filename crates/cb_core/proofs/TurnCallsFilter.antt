@@ -32,7 +32,7 @@ use Rattle.cb_rebuild.specs.RebuildStep.{RebuildStep}
 use Rattle.cb_core.specs.Parts.{Holding}
 use Rattle.cb_core.specs.Step.{StillFilter, StillRebuild}
 use Rattle.cb_core.proofs.KeptPins.{cool_pins}
-use Rattle.cb_core.proofs.StillRebuilds.{rebuild_grows}
+use Rattle.cb_core.proofs.StillRebuilds.{rebuild_none}
 use Rattle.cb_core.proofs.TurnCallsKept.{HasKept}
 use Rattle.cb_core.proofs.TurnCallsMap.{IsSameMap, map_stays, call_carried}
 use Rattle.cb_core.proofs.TurnCallsWhere.{kept_map, within}
@@ -111,14 +111,14 @@ kept_filter a b h r s k (step, hold) =
 pub kept_rebuild : (a b : Holding Words) (r : Reply) (s : Shown) → IsKnown a.desk a.far s
     → StillRebuild a r b → HasKept a b s
 kept_rebuild a b r s k (same, step, hold) =
-    let grows = rebuild_grows a.desk a.far b.far s r k step in
+    let none = rebuild_none a.far b.far r step in
     let then = hold s k in record {
       shown = then.0;
       known = then.1;
       same_now = then.2;
-      first = grows.first;
-      made = grows.made;
-      turns = grows.rises.turns;
+      first = none.first;
+      made = none.made;
+      turns = none.turns;
       settings = ap (λ (x : Words). x.settings) same;
       pins = λ h. ap (λ (x : Words). pins_of (word_at x h)) same;
     }

@@ -10,12 +10,15 @@ use Rattle.cb_types.specs.Jobs.{job_index}
 use Rattle.cb_world.specs.Counts.{CountsState}
 use Rattle.cb_world.specs.Plain.{Words}
 use Rattle.cb_world.specs.Seats.{SeatState}
+use Rattle.cb_world.proofs.Staying.{recounted}
 use Rattle.cb_world.specs.World.{WorldState, ArePinned, IsConfigured, IsSoundWorld}
-use Rattle.cb_evict.proofs.AfterEvict.{evict_configured, evict_given, evict_keeps, evict_keys, evict_seats, evict_sets, evict_settings}
-use Rattle.cb_swapin.proofs.SwapKeeps.{given_most, keeps_far, settings_stay}
-use Rattle.cb_swapin.proofs.SwapWorld.{configured_kept, pinned_kept}
+use Rattle.cb_evict.proofs.AfterEvict.{evict_seats, evict_settings}
+use Rattle.cb_swapin.proofs.SwapKeeps.{settings_stay}
+use Rattle.cb_swapin.proofs.SwapWorld.{pinned_kept}
 use Rattle.cb_evict.specs.declared.eviction.Eviction.TheVariants.{Refused}
 use Rattle.cb_evict.specs.Eviction.{reply_of}
+use Rattle.cb_evict.proofs.Stays.{evict_step_stays}
+use Rattle.cb_swapin.proofs.Stays.{swap_step_stays}
 use Rattle.cb_core.specs.Parts.{Holding, at_once, no_room, won, BringsIn, not_far, was_far}
 use Rattle.cb_core.specs.Step.{StillEvict, StillSwap, StillBring, StillFind, TurnStep, worn, done}
 use Rattle.cb_core.specs.Turned.{counted}
@@ -29,60 +32,39 @@ Comes c seats n a b = Arrives c seats n a b (Unit {0})
 evict_comes : (c : Config) (seats : List SeatState) (a b : Holding Words) (r : Reply) → IsAccepted c
     → IsGood c seats a → StillEvict a r b → Comes c seats 24 a b
 evict_comes c seats a b r accepted good (step, hold) =
-    let keeps = evict_keeps a.desk b.desk a.far b.far r step in
-    let sets = (evict_sets a.desk b.desk a.far b.far r step).1 in
-    let keys = (evict_keys a.desk b.desk a.far b.far r step
-    (subst IsAccepted (sym good.settings) accepted)).1 in
-    let epoch : b.far.members.epoch ≡ a.far.members.epoch = ap (λ (m : Membership). m.epoch) keeps.members in
-    let given = evict_given a.desk b.desk a.far b.far r step in
+    let e = good.settings in
+    let stays = evict_step_stays a.desk b.desk a.far b.far r (subst IsAccepted (sym e) accepted) step
+    (subst (λ (d : Config). IsConfigured d a.far) (sym e) good.configured) in
     let known = hold good.shown good.known in record {
       is = tt;
       good = record {
         settings = evict_settings a.desk b.desk a.far b.far r step ∙ good.settings;
-        configured = evict_configured a.desk b.desk a.far b.far r c step good.configured;
+        configured = subst (λ (d : Config). IsConfigured d b.far) e stays.configured;
         shown = known.0;
         known = known.1;
         pinned = evict_seats a.desk b.desk a.far b.far r seats step good.pinned;
       };
-      rises = record {
-        turns = keeps.turns;
-        by_job = keeps.by_job;
-        sets = omega (arith, sets);
-        keys = keys;
-        epoch = omega (arith, epoch);
-        given = omega (arith, given);
-      };
+      rises = stays.rises;
     }
 
 swap_comes : (c : Config) (seats : List SeatState) (h : ℕ) (a b : Holding Words) (r : Reply)
     → IsGood c seats a → StillSwap h a r b → Comes c seats 16 a b
 swap_comes c seats h a b r good (home, at, step, hold) =
-    let keeps = keeps_far a.desk b.desk a.far b.far home.set home.position r step in
-    let sets : b.far.counts.sets ≡ a.far.counts.sets = ap (λ (n : CountsState). n.sets) keeps.counts in
-    let keys : b.far.counts.keys ≡ a.far.counts.keys = ap (λ (n : CountsState). n.keys) keeps.counts in
-    let epoch : b.far.members.epoch ≡ a.far.members.epoch = ap (λ (m : Membership). m.epoch) keeps.members in
+    let stays = swap_step_stays c a.desk b.desk a.far b.far home.set home.position r good.shown
+    good.known.sound step good.configured in
     let settings : b.desk.settings ≡ c =
     settings_stay a.desk b.desk a.far b.far home.set home.position r step ∙ good.settings in
     let known = hold good.shown good.known in record {
       is = tt;
       good = record {
         settings = settings;
-        configured = subst (λ (d : Config). IsConfigured d b.far) settings
-            (configured_kept a.desk b.desk a.far b.far home.set home.position r step
-            (subst (λ (d : Config). IsConfigured d a.far) (sym good.settings) good.configured));
+        configured = stays.configured;
         shown = known.0;
         known = known.1;
         pinned = pinned_kept a.desk b.desk a.far b.far home.set home.position r good.shown seats good.known
             step good.pinned;
       };
-      rises = record {
-        turns = ap (λ (n : CountsState). n.turns) keeps.counts;
-        by_job = ap (λ (n : CountsState). n.by_job) keeps.counts;
-        sets = omega (arith, sets);
-        keys = omega (arith, keys);
-        epoch = omega (arith, epoch);
-        given = given_most a.desk b.desk a.far b.far home.set home.position r good.shown good.known step;
-      };
+      rises = stays.rises;
     }
 
 bring_comes : (c : Config) (seats : List SeatState) (h : ℕ) (a b : Holding Words) (r : Reply)
@@ -117,12 +99,7 @@ swap_sound w new h r sound (done few works seats) =
     let j = job.Swap (record { n = h }) in
     let z = swap_arrives w.desk.settings w.seats h (held_at w j) (held_then new) r sound.config (record {
       settings = refl;
-      configured = record {
-        frames = sound.configured.frames;
-        homes = sound.configured.homes;
-        nodes = sound.configured.nodes;
-        room = sound.configured.room;
-      };
+      configured = recounted w.desk.settings w.far (counted w.far j).counts sound.configured;
       shown = sound.shown;
       known = known_at w j sound;
       pinned = sound.pinned;

@@ -6,6 +6,7 @@ use Rattle.std.specs.Ordering.{nat_cmp}
 use Rattle.cb_class.specs.Class.{IsClassOf, bytes_of}
 use Rattle.cb_member.specs.declared.names.Shard.{Shard}
 use Rattle.cb_member.specs.Membership.{fresh_members}
+use Rattle.cb_ptr.specs.Word.{state_number}
 use Rattle.cb_set.specs.SetState.{SetState, set_of}
 use Rattle.cb_span.specs.Contents.{Contents}
 use Rattle.cb_span.specs.declared.temp.Temp.TheVariants.{Hot, Cold}
@@ -496,18 +497,19 @@ make_stops_and_warms stops = let e : 16390 ≡ 16386 = ap word_of stops.0 in ome
 full_stops : StillMakeLacks (7 ∷ []) (holds calm (more open_far)) (holds calm (more open_far)) → ⊥
 full_stops stops = let e = stops.1.0 in omega (arith, e)
 
-read_stops : StillReadLacks 0 (holds calm near) (holds hot near)
-unfolding bytes_in window
-read_stops = (refl, (3, 10 ∷ 11 ∷ [], record { reply = refl; change = refl }))
+read_stops : StillReadLacks 0 (holds calm near) (holds calm near)
+read_stops = (refl, refl)
 
-read_stops_and_makes : StillReadLacks 0 (holds calm near) (holds hot (more near)) → ⊥
-read_stops_and_makes stops = let e : 2 ≡ 1 = ap made_of stops.0 in omega (arith, e)
+read_stops_and_makes : StillReadLacks 0 (holds calm near) (holds calm (more near)) → ⊥
+read_stops_and_makes stops = let e : 2 ≡ 1 = ap (λ (a : Holding Words). a.far.made) stops.0 in
+    omega (arith, e)
+
+-- a read whose bytes find no memory leaves the hot bit as it was
+read_stops_and_warms : StillReadLacks 0 (holds calm near) (holds hot near) → ⊥
+read_stops_and_warms stops = let e : 16390 ≡ 16386 = ap word_of stops.0 in omega (arith, e)
 
 read_stops_at_a_far_one : StillReadLacks 0 (holds away near) (holds away near) → ⊥
-read_stops_at_a_far_one stops = not_bytes stops.1.0 stops.1.1 stops.1.2.reply
-  where
-    not_bytes : (v : ℕ) (bytes : List ℕ) → answer.Bytes v bytes ≡ answer.NotHere → ⊥
-    not_bytes v bytes e = cc
+read_stops_at_a_far_one stops = let e : 1 ≡ 2 = ap state_number stops.1 in omega (arith, e)
 
 evict_stops : StillEvictLacks crowd crowd
 evict_stops = refl

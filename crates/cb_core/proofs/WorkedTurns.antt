@@ -345,13 +345,12 @@ write_stops new (few, seats, once_in m n last f o d v lacks) = lacks
 stops_at_a_step : (new : WorldState) → Stops old (event.Step 0 (Load (handle 0))) new → ⊥
 stops_at_a_step new stopped = stopped
 
--- a read that found no memory for its reply was done all the same
+-- a read that found no memory for its reply leaves the hot bit as it was
 abbrev holds : ℕ → ℕ → Holding Words
 holds word version = record { desk = desk word version; far = far three }
 
-stopped_read : StillStops (Read (handle 0)) (holds calm 3) (holds hot 3)
-unfolding bytes_in window
-stopped_read = near (refl, (3, 10 ∷ 11 ∷ [], record { reply = refl; change = refl }))
+stopped_read : StillStops (Read (handle 0)) (holds calm 3) (holds calm 3)
+stopped_read = near (refl, refl)
 
 -- ---- which events may come
 last_seat : IsEvent settings (event.Step 63 (Pin (handle 1)))

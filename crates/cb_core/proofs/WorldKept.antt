@@ -1,5 +1,5 @@
 -- A turn over the still desk is a step of the world, part by part, and the world stays sound.
-use Rattle.std.proofs.Common.{◌≡◌, ℕ, ◌^◌, ◌<◌, ◌≤◌, List, length, refl, sym, ap, subst, arith, length-set}
+use Rattle.std.proofs.Common.{◌≡◌, ℕ, ◌^◌, ◌<◌, ◌≤◌, List, length, refl, sym, ap, subst, arith}
 use Rattle.cb_member.specs.declared.names.NodeId.{NodeId}
 use Rattle.cb_types.specs.declared.config.Config.{Config}
 use Rattle.cb_types.specs.declared.job.Job.{Job}
@@ -23,8 +23,10 @@ use Rattle.cb_core.specs.Parts.{Holding, NeverDeclined, NeverLacks, WithRoom}
 use Rattle.cb_core.specs.Step.{StillMake, StillMakeLacks, StillRead, StillReadLacks, StillWrite, StillFind, StillDecline, StillEvict, StillRoom, StillEvictLacks, StillSwap, StillSwapLacks, StillBring, StillBringLacks, StillWorks, StillStops, TurnStep, worn, done, Stops}
 use Rattle.cb_core.specs.Turned.{Does, Turned, worn as was_worn, done as was_done, Stopped, counted, once_counted, Makes, MakeLacks, Reads, ReadLacks, Writes, Finds, Declines, Evicts, WinsRoom, EvictLacks, Swaps, SwapLacks, Brings, BringLacks, Stops as StopsOver}
 use Rattle.cb_core.proofs.Counting.{counted_sound}
-use Rattle.cb_core.proofs.KeptParts.{IsGood, Arrives, Carries, CarriesLack, rises_more, arrives_then, arrives_more, arrives_same, arrives_like, counted_rises}
+use Rattle.cb_core.proofs.KeptParts.{IsGood, Arrives, Carries, CarriesLack, rises_more, arrives_then, arrives_more, arrives_same, counted_rises, arrives_stays}
 use Rattle.cb_core.proofs.StillParts.{Ran, Tells, both_same, make_part, read_part, write_part, free_part, find_part, never_part, decline_part, evict_part, room_part, swap_part, make_lack, read_lack, evict_lack, swap_lack}
+use Rattle.cb_core.proofs.NodesStay.{crash_stays, join_stays}
+use Rattle.cb_world.proofs.Staying.{recounted}
 use Rattle.cb_core.proofs.StillBatches.{begin_part, ship_part, ship_lack, commit_part, abort_part}
 use Rattle.cb_core.proofs.StillFilters.{filter_part, filter_lack}
 use Rattle.cb_core.proofs.StillRebuilds.{rebuild_part, rebuild_lack}
@@ -56,15 +58,8 @@ crash_part c seats node a b r Z good below words (crashed up reply far) z =
     let new = crashed_far a.far node in
     subst (λ (d : Holding Words). Arrives c seats 1 a d Z)
     (sym (both_same (record { desk = a.desk; far = new }) b words far))
-    (arrives_like c seats a (record { desk = a.desk; far = new }) good.shown Z good (record {
-      spans = refl;
-      homes = refl;
-      nodes = length-set a.far.nodes.nodes node.n _;
-      room = refl;
-      counts = refl;
-      epoch = omega arith;
-      given = refl;
-    })
+    (arrives_stays c seats 1 a (record { desk = a.desk; far = new }) good.shown Z good
+    (crash_stays c node a.far new r (crashed up reply refl))
     (known_far a.desk a.far new good.shown good.known
     (node_crash_sound good.shown a.far node good.known.sound (member_of c seats a node good below) up))
     refl good.pinned z)
@@ -78,15 +73,8 @@ join_part c seats node a b r Z good below words (joined is reply far) z =
     let new = joined_far a.far node in
     subst (λ (d : Holding Words). Arrives c seats 1 a d Z)
     (sym (both_same (record { desk = a.desk; far = new }) b words far))
-    (arrives_like c seats a (record { desk = a.desk; far = new }) good.shown Z good (record {
-      spans = refl;
-      homes = refl;
-      nodes = refl;
-      room = refl;
-      counts = refl;
-      epoch = omega arith;
-      given = refl;
-    })
+    (arrives_stays c seats 1 a (record { desk = a.desk; far = new }) good.shown Z good
+    (join_stays c node a.far new r (joined is reply refl))
     (known_far a.desk a.far new good.shown good.known
     (node_join_sound good.shown a.far node good.known.sound (member_of c seats a node good below) is))
     refl good.pinned z)
@@ -247,12 +235,7 @@ counted_good : (w : WorldState) (job : Job) → IsSoundWorld w
     → IsGood w.desk.settings w.seats (once_counted (held w) job)
 counted_good w job sound = record {
   settings = refl;
-  configured = record {
-    frames = sound.configured.frames;
-    homes = sound.configured.homes;
-    nodes = sound.configured.nodes;
-    room = sound.configured.room;
-  };
+  configured = recounted w.desk.settings w.far (counted w.far job).counts sound.configured;
   shown = sound.shown;
   known = known_counted w job sound.shown sound.known;
   pinned = sound.pinned;

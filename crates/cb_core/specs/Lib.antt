@@ -4,6 +4,8 @@ pub mod Jobs
 pub mod Parts
 pub mod Declining
 pub mod Turned
+pub mod TurnLeaves
+pub mod Room
 pub mod Step
 pub mod Events
 pub mod Run

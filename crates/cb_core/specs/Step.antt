@@ -1,6 +1,7 @@
 -- One event of the core, at the still desk: its reply, and every part of the world after it.
 use Rattle.std.specs.Prelude.{◌≡◌, ℕ, ◌^◌, ◌<◌, true, List, [], ◌∷◌, Option, Some, length}
 use Rattle.cb_member.specs.Membership.{alive}
+use Rattle.cb_ptr.specs.declared.word.State.TheVariants as state
 use Rattle.cb_ptr.specs.Word.{state_of, len_of}
 use Rattle.cb_types.specs.declared.job.Job.{Job}
 use Rattle.cb_types.specs.declared.job.Job.TheVariants.{Make, Read, Write, Free, Swap, Filter, Evict, Begin, Ship, Commit, Abort, Rebuild, Crash, Join}
@@ -163,10 +164,9 @@ Leads w es rs new = ⊥
 abbrev pub StillMakeLacks : List ℕ → Holding Words → Holding Words → Type 0
 StillMakeLacks bytes a b = (b ≡ a) × NeedsNewSpan a.desk.settings.handles (length bytes) a.far
 
--- a read is as if it had been answered
+-- nothing changed, and the object is here
 abbrev pub StillReadLacks : ℕ → Holding Words → Holding Words → Type 0
-StillReadLacks h a b =
-    (b.far ≡ a.far) × ((v : ℕ) × (bytes : List ℕ) × IsReadStep a.desk b.desk h (answer.Bytes v bytes))
+StillReadLacks h a b = (b ≡ a) × (state_of (word_at a.desk h) ≡ state.Here)
 
 abbrev pub StillEvictLacks : Holding Words → Holding Words → Type 0
 StillEvictLacks a b = b ≡ a

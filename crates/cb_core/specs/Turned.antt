@@ -24,7 +24,7 @@ use Rattle.cb_world.specs.Still.{IsStill}
 use Rattle.cb_world.specs.Touches.{SettlesLast}
 use Rattle.cb_mutate.specs.Answered.{Answered}
 use Rattle.cb_mutate.specs.MakeRule.{MakeRule, MakeEffect, NeedsNewSpan}
-use Rattle.cb_mutate.specs.ReadRule.{ReadRule, ReadEffect, HasSeen, IsShown}
+use Rattle.cb_mutate.specs.ReadRule.{ReadRule, ReadEffect, IsSeenHere}
 use Rattle.cb_mutate.specs.WriteRule.{WriteRule, WriteEffect}
 use Rattle.cb_mutate.specs.FreeRule.{FreeRule, FreeEffect}
 use Rattle.cb_evict.specs.AbortRule.{AbortRule, AbortEffect}
@@ -198,11 +198,11 @@ abbrev pub MakeLacks : {D : Type 0} → (D → List Event → D → Type 0) → 
 MakeLacks run c bytes a b =
     run a.desk [] b.desk × (b.far ≡ a.far) × NeedsNewSpan c.handles (length bytes) a.far
 
--- a read that lacks memory for the bytes has seen the object
+-- a read that lacks memory for the bytes has looked at an object that is here, and changes nothing
 abbrev pub ReadLacks : {D : Type 0} → (D → List Event → D → Type 0) → (D → Shown → Type 0) → ℕ
     → Holding D → Holding D → Type 0
 ReadLacks run shows h a b = (b.far ≡ a.far) × Performs (λ es. run a.desk es b.desk)
-    (λ s. shows a.desk s × Sound s a.far) (HasSeen h) (λ t. Sound t b.far) (IsShown h)
+    (λ s. shows a.desk s × Sound s a.far) (IsSeenHere h) (λ t. Sound t b.far) IsStill
 
 -- an eviction that lacks memory changes nothing; nor does a begin
 abbrev pub EvictLacks : {D : Type 0} → (D → List Event → D → Type 0) → (D → Shown → Type 0)

@@ -171,56 +171,6 @@ evict_seats x y far new r seats step p =
     (λ h below none. evict_pins x y far new r h step ∙ none)
 
 -- ---- the parts of the far state
-pub evict_spans : (x y : Words) (far new : FarState) (r : Reply) → IsEvictStep x y far new r
-    → length new.spans ≡ length far.spans
-evict_spans x y far new r step =
-    by_step (λ u f. length f.spans ≡ length far.spans) x y far new r step refl
-    (λ m. ap (λ (f : FarState). length f.spans) m.evicted.state
-    ∙ length_closed far.spans (take x.settings.k (loose_frames x far)))
-
-pub evict_homes : (x y : Words) (far new : FarState) (r : Reply) → IsEvictStep x y far new r
-    → length new.homes ≡ length far.homes
-evict_homes x y far new r step =
-    by_step (λ u f. length f.homes ≡ length far.homes) x y far new r step refl
-    (λ m. m.evicted.homes.count)
-
-pub evict_nodes : (x y : Words) (far new : FarState) (r : Reply) → IsEvictStep x y far new r
-    → length new.nodes.nodes ≡ length far.nodes.nodes
-evict_nodes x y far new r step =
-    by_step (λ u f. length f.nodes.nodes ≡ length far.nodes.nodes) x y far new r step refl
-    (λ m. ap (λ (f : FarState). length f.nodes.nodes) m.evicted.state
-    ∙ put_count far.nodes m.evicted.shards m.evicted.rows)
-
-evict_room : (x y : Words) (far new : FarState) (r : Reply) → IsEvictStep x y far new r
-    → new.nodes.room ≡ far.nodes.room
-evict_room x y far new r step =
-    by_step (λ u f. f.nodes.room ≡ far.nodes.room) x y far new r step refl
-    (λ m. ap (λ (f : FarState). f.nodes.room) m.evicted.state
-    ∙ put_room far.nodes m.evicted.shards m.evicted.rows)
-
-pub evict_configured : (x y : Words) (far new : FarState) (r : Reply) (c : Config)
-    → IsEvictStep x y far new r → IsConfigured c far → IsConfigured c new
-evict_configured x y far new r c step is = record {
-  frames = evict_spans x y far new r step ∙ is.frames;
-  homes = evict_homes x y far new r step ∙ is.homes;
-  nodes = evict_nodes x y far new r step ∙ is.nodes;
-  room = evict_room x y far new r step ∙ is.room;
-}
-
-put_given : (nodes : NodesState) (shards : List Shard) (rows : List (List ℕ))
-    → (all_put nodes shards rows).given ≡ nodes.given
-put_given nodes [] rows = refl
-put_given nodes (shard ∷ shards) [] = refl
-put_given nodes (shard ∷ shards) (row ∷ rows) =
-    put_given (with_row nodes shard.node shard.key row) shards rows
-
-pub evict_given : (x y : Words) (far new : FarState) (r : Reply) → IsEvictStep x y far new r
-    → new.nodes.given ≡ far.nodes.given
-evict_given x y far new r step =
-    by_step (λ u f. f.nodes.given ≡ far.nodes.given) x y far new r step refl
-    (λ m. ap (λ (f : FarState). f.nodes.given) m.evicted.state
-    ∙ put_given far.nodes m.evicted.shards m.evicted.rows)
-
 -- what an eviction never changes
 pub record KeepsRest (far new : FarState) : Type 0 where
   pub first : new.first ≡ far.first
@@ -254,29 +204,6 @@ evict_keeps x y far new r step =
       by_job = ap (λ (f : FarState). f.counts.by_job) m.evicted.state;
     })
 
--- one set number at most is drawn
-pub evict_sets : (x y : Words) (far new : FarState) (r : Reply) → IsEvictStep x y far new r
-    → (far.counts.sets ≤ new.counts.sets) × (new.counts.sets ≤ far.counts.sets + 1)
-evict_sets x y far new r step =
-    by_step (λ u f. (far.counts.sets ≤ f.counts.sets) × (f.counts.sets ≤ far.counts.sets + 1))
-    x y far new r step (omega arith, omega arith)
-    (λ m. let e : new.counts.sets ≡ far.counts.sets + 1 =
-    ap (λ (f : FarState). f.counts.sets) m.evicted.state in
-    (omega (arith, e), omega (arith, e)))
-
--- and as many keys as a set has rows
-pub evict_keys : (x y : Words) (far new : FarState) (r : Reply) → IsEvictStep x y far new r
-    → IsAccepted x.settings
-    → (far.counts.keys ≤ new.counts.keys) × (new.counts.keys ≤ far.counts.keys + 24)
-evict_keys x y far new r step accepted =
-    let k = accepted K in let n = accepted R in
-    by_step (λ u f. (far.counts.keys ≤ f.counts.keys) × (f.counts.keys ≤ far.counts.keys + 24))
-    x y far new r step (omega arith, omega arith)
-    (λ m. let e : new.counts.keys ≡ far.counts.keys + length m.evicted.shards =
-    ap (λ (f : FarState). f.counts.keys) m.evicted.state in
-    (omega (arith, e), omega (arith, e, m.evicted.chosen.count, k.1, n.1)))
-
--- ---- sets and homes
 -- ---- frames
 some_free : (free : List Bool) (f : ℕ) → IsFreeFrame free f → (g : ℕ) × (least_free free ≡ Some g)
 some_free free f is = go (least_free free) refl

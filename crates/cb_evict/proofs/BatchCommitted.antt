@@ -385,6 +385,7 @@ module _ (s t : Shown) (far : FarState) (batch : LeavingState) (homes : List (Op
         only = λ node key row at. let o = rows.owned node key row at in
             row_of_whom node key row o.0 o.1 at o.2 o.3 o.4;
         nodes = sym (drop_count far.nodes (put_shards batch.shards));
+        room = λ dropped. rows.room;
         members = refl;
         leaving = refl;
         joining = refl;

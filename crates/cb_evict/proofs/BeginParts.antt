@@ -202,6 +202,7 @@ begun_before c far new frames before es a = record {
   rows = a.rows;
   parities = a.parities;
   of = a.of;
+  order = a.order;
   each_once = a.each_once;
   found = λ k e l. let f = get_or a.words k e in
       found_after f.handle f.word before es (a.found k e l);

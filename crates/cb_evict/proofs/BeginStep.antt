@@ -130,6 +130,7 @@ begun_to x y far new s es r l enough b z =
       words = b.words;
       parities = b.parities;
       of = b.of;
+      order = b.order;
       each_once = b.each_once;
       noted = λ i e within. let f = get_or b.words i e in
           sym (found_exact es x y f.handle f.word r.ran r.looks_first (b.found i e within));

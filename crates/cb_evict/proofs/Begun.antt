@@ -174,6 +174,7 @@ module _ (s t : Shown) (far : FarState) (set : SetState) (batch : LeavingState)
       rows = record {
         members = x.rows.members;
         counted = x.rows.counted;
+        room = x.rows.room;
         owned = λ node key row e. let o = x.rows.owned node key row e in
             (o.0, o.1, shard_forth o.0 o.1 o.2, o.3, o.4, o.5);
         one = λ o q a b p r. x.rows.one o q a b (shard_back o a p) (shard_back q b r);
@@ -600,6 +601,7 @@ module _ (c : Config) (far : FarState) (frames : List ℕ) (formers : List Forme
     rows = rows;
     parities = parities;
     of = d.taken.of;
+    order = d.taken.order;
     each_once = d.taken.each_once;
     found = λ k e l. let f = get_or formers k e in
         found_more f.handle f.word before events (d.claimed.taken k e l).found (quiet f.handle);

@@ -215,6 +215,7 @@ gone_before far new es fs s t looks a =
       objects = a.objects ∙ ap (λ (x : Shown). length x.objects) c.2;
       versions = a.versions ∙ sym (ap (λ (x : Shown). x.versions) told);
       memory = a.memory ∙ sym (ap (λ (x : Shown). x.memory) told);
+      rows = a.rows;
       nothing = λ old. nothing_before es fs s looks old (a.nothing old);
       same_now = λ h. a.same_now h ∙ sym (ap (λ (x : Shown). now x far h) told);
     }
@@ -493,6 +494,7 @@ are_taken c far loose frames formers runs shows k x among count = record {
   among = λ i d l. All-contains (Contains (candidates far)) loose (get_or frames i d) among (x.among i d l);
   apart = x.apart;
   of = x.of;
+  order = x.order;
   each_once = x.each_once;
 }
 

@@ -1,7 +1,9 @@
 -- Over a still desk an eviction is a step: what its rule and its effect say is exact there.
-use Rattle.std.proofs.Common.{◌≡◌, ◌⊎◌, ℕ, ◌+◌, ◌*◌, ◌<◌, ◌≤◌, List, length, take, Option, Some, None, refl, sym, ap, ◌∙◌, subst, arith, inl, inr}
-use Rattle.std.proofs.lemmas.Bool.{cases_lt}
-use Rattle.std.proofs.lemmas.List.{get_or_past}
+use Rattle.std.proofs.Common.{◌≡◌, ◌⊎◌, ℕ, true, ◌+◌, ◌*◌, ◌<◌, ◌≤◌, List, length, take, Option, Some, None, refl, sym, ap, ◌∙◌, subst, arith, inl, inr}
+use Rattle.std.specs.List.{Contains}
+use Rattle.std.proofs.lemmas.Bool.{cases_lt, false≢true}
+use Rattle.std.proofs.lemmas.List.{get_or_past, length-take-le}
+use Rattle.std.proofs.lemmas.List.Elements.{All-contains, filter_passes}
 use Rattle.cb_class.specs.Class.{words_of}
 use Rattle.cb_gf256.specs.Rows.{row_at}
 use Rattle.cb_ptr.specs.Word.{len_of, place_of}
@@ -27,18 +29,21 @@ use Rattle.cb_world.proofs.NowSame.{now_same}
 use Rattle.cb_world.proofs.StillWords.{word_back}
 use Rattle.cb_world.proofs.StillPerforms.{PerformsStill, RunsStill, runs_still, known_then, stays_still}
 use Rattle.cb_evict.specs.Closing.{all_closed}
-use Rattle.cb_evict.specs.EvictEffect.{HasLeft, IsEvicted, EvictEffect}
+use Rattle.cb_evict.specs.Candidates.{candidates}
+use Rattle.cb_evict.specs.EvictEffect.{HasLeft, HaveFrameRows, IsEvicted, EvictEffect}
 use Rattle.cb_evict.specs.EvictRule.{AreInRows, HasEvicted, HasFewSpans, HasFewNodes, HasBoth, EvictRule}
-use Rattle.cb_evict.specs.EvictStep.{IsCountedStep, loose_frames, AreSentOff, HaveContents, IsEvictedTo, IsEvictStep, few_spans, few_nodes, made}
+use Rattle.cb_evict.specs.EvictStep.{is_loose, loose_frames, AreSentOff, HaveContents, IsEvictedTo, IsEvictStep, few_spans, few_nodes, made, IsCountedStep}
 use Rattle.cb_evict.specs.Evicting.{TouchesSpans}
 use Rattle.cb_evict.specs.declared.eviction.Eviction.{Eviction}
 use Rattle.cb_evict.specs.Eviction.{CountsRule, TellsCounts, reply_of}
 use Rattle.cb_evict.specs.Looking.{IsIn}
 use Rattle.cb_evict.proofs.Composed.{few_spans as not_few_spans, few_nodes as not_few_nodes, rule_weaker}
+use Rattle.cb_evict.proofs.FrameRows.{rows_of_frames}
 use Rattle.cb_evict.proofs.Gone.{in_or_out, closed_in}
 use Rattle.cb_evict.proofs.Homing.{closed_else}
 use Rattle.cb_evict.proofs.LooseSpans.{loose_exact}
 use Rattle.cb_evict.proofs.Standing.{names_span, are_unique}
+use Rattle.cb_evict.proofs.Trying.{taken_of}
 
 -- ---- which objects left
 some_none : (span : Contents) → Some span ≡ None → ⊥
@@ -114,19 +119,47 @@ have_contents x y far s es frames rows r are p f slot h span at there named =
     ∙ ap (λ (w : ℕ). window (words_in (row_at rows p)) (slot * words_of span.class)
     (words_for (len_of w))) (sym (found_exact es x y h c.word r.ran r.looks_first c.found))
 
+-- a frame of those that leave holds a span
+is_span : (x : Words) (far : FarState) (f : ℕ) → is_loose x (span_in far.spans f) ≡ true
+    → (span : Contents) × (span_in far.spans f ≡ Some span)
+is_span x far f loose = by (span_in far.spans f) refl
+  where
+    by : (o : Option Contents) → span_in far.spans f ≡ o
+        → (span : Contents) × (span_in far.spans f ≡ Some span)
+    by None e = absurd (false≢true (sym (ap (is_loose x) e) ∙ loose))
+    by (Some span) e = (span, e)
+
+loose_spans : (x : Words) (far : FarState) (k f : ℕ) → Contains (take k (loose_frames x far)) f
+    → (span : Contents) × (span_in far.spans f ≡ Some span)
+loose_spans x far k f c =
+    is_span x far f (All-contains (λ (g : ℕ). is_loose x (span_in far.spans g) ≡ true)
+    (loose_frames x far) f
+    (filter_passes (λ (g : ℕ). is_loose x (span_in far.spans g)) (candidates far))
+    (taken_of (loose_frames x far) k f c))
+
 evicted_to : (x y : Words) (far new : FarState) (s : Shown) (es : List Event) (frames : List ℕ)
     → RunsStill x y far s es → HasEvicted x.settings far new frames es
-    → IsEvicted far new es s (played es s) → IsEvictedTo x y far new frames
-evicted_to x y far new s es frames r e z = record {
+    → IsEvicted far new es s (played es s)
+    → ((f : ℕ) → Contains frames f → (span : Contents) × (span_in far.spans f ≡ Some span))
+    → length frames ≤ x.settings.k + x.settings.r → IsEvictedTo x y far new frames
+evicted_to x y far new s es frames r e z holds few = record {
   shards = e.shards;
   rows = e.rows;
   chosen = e.chosen;
   word = e.word;
   contents = have_contents x y far s es frames e.rows r e.contents;
+  of_frames = rows_of_frames x.settings far new s frames es x.memory r.known.sound.here e
+      (subst (HaveFrameRows far new) memory z.rows) holds few;
   homes = e.homes;
   state = e.state;
-  sent = sent_off x y far new s es frames r (ap (λ (f : FarState). f.spans) e.state) z;
+  sent = sent;
 }
+  where
+    sent : AreSentOff x y far frames
+    sent = sent_off x y far new s es frames r (ap (λ (f : FarState). f.spans) e.state) z
+
+    memory : (played es s).memory ≡ x.memory
+    memory = (plain_follows es x y s r.ran r.known.shows).1.memory ∙ sent.memory
 
 -- ---- the step
 -- All is known of the desk after the step, and the last complete contents of each handle stay.
@@ -173,7 +206,8 @@ by_rule x y far new r s es loose runs l same effect (inr (inr a)) =
         room = b.room;
         reply = b.reply;
         evicted = evicted_to x y far new s es (take x.settings.k (loose_frames x far)) runs
-            b.evicted z;
+            b.evicted z (loose_spans x far x.settings.k)
+            (let n = length-take-le x.settings.k (loose_frames x far) b.enough in omega (arith, n));
       }),
       record {
         shown = played es s;

@@ -1,5 +1,5 @@
 -- Claimed spans are put away as a new set.
-use Rattle.std.proofs.Common.{◌≡◌, ◌≢◌, ℕ, zero, suc, ◌+◌, ◌-◌, ◌*◌, ◌^◌, ◌<◌, ◌≤◌, Bool, false, List, [], ◌∷◌, ◌++◌, length, get_or, All, Option, None, Some, sym, refl, ap, ◌∙◌, subst, arith, inl, inr}
+use Rattle.std.proofs.Common.{◌≡◌, ◌≢◌, ℕ, zero, suc, ◌+◌, ◌-◌, ◌*◌, ◌^◌, ◌<◌, ◌≤◌, Bool, false, List, [], ◌∷◌, ◌++◌, length, get_or, take, All, Option, None, Some, sym, refl, ap, ◌∙◌, subst, arith, inl, inr}
 use Rattle.std.specs.List.{Contains, slice_get}
 use Rattle.std.proofs.lemmas.Bool.{cases_order}
 use Rattle.std.specs.Int.{to_le_bytes, w64}
@@ -39,12 +39,14 @@ use Rattle.cb_world.specs.SetAdded.{is_far, IsMoved, IsSetAdded}
 use Rattle.cb_world.specs.Reserved.{table_of}
 use Rattle.cb_world.specs.FarSound.{HoldsObject, batch_rows}
 use Rattle.cb_world.specs.Sound.{Sound, AreNoted, IsLeaving}
-use Rattle.cb_world.specs.Sets.{Kept, if_committed}
+use Rattle.cb_world.specs.Sets.{Kept, if_committed, set_in}
 use Rattle.cb_world.specs.SetWord.{IsSpanWord}
 use Rattle.cb_world.proofs.Windows.{window_at, window_same}
 use Rattle.cb_world.proofs.Apart.{slot_inside, some_same}
 use Rattle.cb_world.proofs.Bridge.{put_only}
 use Rattle.cb_world.proofs.Freed.{one_slot}
+use Rattle.cb_world.proofs.FreshShard.{fits_on_least}
+use Rattle.cb_world.proofs.Rooms.{room_puts}
 use Rattle.cb_world.proofs.Storing.{put_there, put_elsewhere}
 use Rattle.cb_world.proofs.Reserving.{noted_by}
 use Rattle.cb_world.proofs.Unmoved.{KeepsLeaving, batch_kept}
@@ -59,7 +61,7 @@ use Rattle.cb_evict.specs.Looking.{IsIn}
 use Rattle.cb_evict.specs.Sending.{IsTold, IsSent, AreSent}
 use Rattle.cb_evict.specs.Storing.{AreShards, set_for, with_set}
 use Rattle.cb_evict.proofs.Claims.{among, no_former}
-use Rattle.cb_evict.specs.EvictEffect.{HasLeft, IsEvicted}
+use Rattle.cb_evict.specs.EvictEffect.{HasLeft, HaveFrameRows, IsEvicted}
 use Rattle.cb_evict.specs.EvictRule.{HasEvicted}
 use Rattle.cb_evict.proofs.Events.{quiet_told}
 use Rattle.cb_evict.proofs.Gone.{LeftMemory, sound_gone, closed_in, in_or_out}
@@ -451,6 +453,9 @@ module _ (c : Config) (far : FarState) (frames : List ℕ) (formers : List Forme
         only = λ node key row at. put_only far.nodes shards rows node key row
             (shards_within far (c.k + c.r) shards d.chosen) at;
         nodes = put_count far.nodes shards rows;
+        room = room_puts far.nodes shards rows
+            (λ p shard at. fits_on_least far (take p shards) shard.node (d.chosen.each p shard at).node)
+            (shards_distinct far (c.k + c.r) shards d.chosen);
         members = refl;
         leaving = refl;
         joining = refl;
@@ -703,6 +708,39 @@ module _ (c : Config) (far : FarState) (frames : List ℕ) (formers : List Forme
     | inr none ↦ none
   ]
 
+  in_gone : (h f : ℕ) → Names far.spans f h
+      → span_in (after_far far frames shards rows homes).spans f ≡ None → Contains frames f
+  in_gone h f named gone = elim (in_or_out frames f) [
+    | inl x ↦ x
+    | inr none ↦ let y = names_span far.spans f h named in
+        absurd (some_none y.0 (sym y.1 ∙ sym (closed_else far.spans frames f none) ∙ gone))
+  ]
+    where
+      some_none : (x : Contents) → Some x ≡ None → ⊥
+      some_none x e = cc
+
+  -- the row of an object is that of the frame that it left
+  frame_rows : HaveFrameRows far (after_far far frames shards rows homes) u.memory
+  frame_rows h f home set shard named gone at there is =
+      let x = in_gone h f named gone in
+      let same : get_or frames x.0 0 ≡ f = get_or_default frames x.0 0 f x.1 ∙ x.2 in
+      let place : slice_get frames x.0 ≡ Some f =
+      slice_get-get_or frames x.0 0 x.1 ∙ ap (λ (n : ℕ). Some n) same in
+      let wanted : Home = record { set = far.counts.sets; position = x.0; slot = named.0 } in
+      let home_is : home ≡ wanted =
+      some_same home wanted (sym at ∙ d.homed.here x.0 f named.0 h place named.1) in
+      let set_is : set ≡ set_for far shards frames =
+      some_same set (set_for far shards frames)
+      (sym there
+      ∙ ap (λ (q : Home). set_in (after_far far frames shards rows homes).sets q.set) home_is
+      ∙ set_added_in far.sets far.counts.sets (set_for far shards frames)) in
+      let shard_is : slice_get shards x.0 ≡ Some shard =
+      (λ i. slice_get (sym set_is i).shards (sym home_is i).position) ∙ is in
+      let m = d.made x.0 f place in
+      added_start.put x.0 shard shard_is
+      ∙ ap (λ (l : List ℕ). Some l) (m.made ∙ ap row_of m.contents
+      ∙ ap (λ (ms : List ℕ). row_of (window ms (512 * f) 512)) (sym d.sent.memory))
+
   pub effect_then : (events : List Event) → ((k : ℕ) → NoLook k events)
       → ((h : ℕ) → IsNone formers h → hot_at u h ≡ hot_at (told_by (before ++ events) s) h)
       → (told_by (before ++ events) s).objects ≡ s.objects
@@ -728,6 +766,7 @@ module _ (c : Config) (far : FarState) (frames : List ℕ) (formers : List Forme
     objects = d.sent.objects ∙ d.claimed.keeps.objects;
     versions = versions;
     memory = memory;
+    rows = frame_rows;
     nothing = nothing;
     same_now = λ h. now_then (told_by (before ++ events) s) h objects versions memory;
   }

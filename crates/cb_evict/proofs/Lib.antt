@@ -20,6 +20,7 @@ mod Ending
 mod Restored
 pub mod Composed
 mod LooseSpans
+pub mod FrameRows
 pub mod EvictStep
 pub mod AfterEvict
 mod WorkedLoose
@@ -41,12 +42,18 @@ mod BatchReady
 mod Commits
 pub mod CommitStep
 pub mod AfterEnds
+pub mod Stays
+pub mod Unwritten
 mod WorkedEnds
 pub mod Begun
 pub mod BeginParts
 mod BeginEnd
 pub mod BeginStep
 pub mod AfterBegin
+pub mod EvictFixed
+pub mod BeginFixed
+pub mod CommitFixed
+pub mod AbortFixed
 mod WorkedBegin
 mod WorkedRules
 pub mod WorkedWide
@@ -54,3 +61,4 @@ pub mod PutShards
 pub mod ShippedFar
 pub mod ShipParts
 pub mod ShipStep
+pub mod ShipFixed

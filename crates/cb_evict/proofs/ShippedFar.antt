@@ -13,7 +13,7 @@ use Rattle.cb_world.specs.Leaving.{LeavingState}
 use Rattle.cb_world.specs.FarState.{FarState}
 use Rattle.cb_world.specs.FarSound.{Owner, of_set, of_leaving, of_joining, IsShardOf, AwaySound, batch_rows}
 use Rattle.cb_world.specs.Sound.{AreNoted, IsNoted, IsLeaving, Sound}
-use Rattle.cb_world.proofs.FreshShard.{up_on_least}
+use Rattle.cb_world.proofs.FreshShard.{fits_on_least, up_on_least}
 use Rattle.cb_world.proofs.NodeJoin.{local_stays}
 use Rattle.cb_world.proofs.PlaceSet.{place_back, place_here, place_on}
 use Rattle.cb_world.proofs.RowPut.{HasRowPut, IsNewOr, IsRefilled, row_put_away, row_put_join}
@@ -120,6 +120,7 @@ module _ (s : Shown) (far : FarState) (batch : LeavingState) (p : ℕ) (shard : 
   puts : HasRowPut s far new (of_leaving p) shard row
   puts = record {
     up = up_on_least far (other_puts batch.shards p) shard x.named.node x.named.incarnation;
+    fits = fits_on_least far (other_puts batch.shards p) shard.node x.named.node;
     key = x.named.key;
     of_owner = λ b at. x.of_batch
         ∙ ap (λ (c : LeavingState). row_at (batch_rows s c) p)

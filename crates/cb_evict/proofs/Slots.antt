@@ -1,7 +1,8 @@
 -- The events of a look or a claim.
-use Rattle.std.proofs.Common.{◌≡◌, ◌⊎◌, ℕ, ◌+◌, ◌<◌, ◌≤◌, Bool, true, false, ◌&&◌, List, [], ◌∷◌, ◌++◌, length, All, Option, None, Some, refl, ap, sym, ◌∙◌, subst, arith, inl, inr}
+use Rattle.std.proofs.Common.{◌≡◌, ◌⊎◌, ℕ, ◌+◌, ◌<◌, ◌≤◌, true, false, List, [], ◌∷◌, ◌++◌, length, get_or, take, All, Option, None, Some, refl, ap, sym, ◌∙◌, subst, arith, inl, inr, Bool, ◌&&◌}
 use Rattle.std.specs.Option.{IfSome}
 use Rattle.std.proofs.lemmas.Bool.{cases_eq}
+use Rattle.std.proofs.lemmas.List.{flat_map_more, map-append, take_more}
 use Rattle.std.proofs.lemmas.List.Elements.{All-nil, All-cons}
 use Rattle.cb_span.specs.Contents.{Contents, handle_at}
 use Rattle.cb_span.proofs.Laws.{slot_in_range}
@@ -19,6 +20,7 @@ use Rattle.cb_evict.specs.Events.{TouchesOnly}
 use Rattle.cb_evict.specs.Claims.{AreApart}
 use Rattle.cb_evict.specs.Looking.{Has}
 use Rattle.cb_evict.specs.Claiming.{AreOf, Claims, ClaimsSlot, SlotNotes}
+use Rattle.cb_evict.specs.Order.{noted_of, objects_in, one_of}
 use Rattle.cb_evict.proofs.Claims.{claim_of}
 use Rattle.cb_world.specs.Played.{played}
 use Rattle.cb_evict.proofs.Gathers.{Gathers, gathers_more}
@@ -94,6 +96,24 @@ slot_of (Some h) es more (w, e) =
   where
     some_same : (k : ℕ) → Some h ≡ Some k → h ≡ k
     some_same k e = cc
+
+-- the claimed objects are in order of slot
+slot_noted : (slot : Option ℕ) (es : List Event) (more : List Former) → SlotNotes true es slot more
+    → noted_of more ≡ one_of slot
+slot_noted None es more e = ap noted_of e
+slot_noted (Some h) es more (w, e) = ap noted_of e
+
+pub noted_more : (slots : List (Option ℕ)) (i : ℕ) (slot : Option ℕ) (es : List Event)
+    (xs more : List Former) → noted_of xs ≡ objects_in (take i slots) → SlotNotes true es slot more
+    → slot ≡ get_or slots i None → i < length slots
+    → noted_of (xs ++ more) ≡ objects_in (take (i + 1) slots)
+noted_more slots i slot es xs more was now at within =
+    map-append (λ (former : Former). former.handle) xs more
+    ∙ ap (λ (l : List ℕ). l ++ noted_of more) was
+    ∙ ap (λ (l : List ℕ). objects_in (take i slots) ++ l)
+    (slot_noted slot es more now ∙ ap one_of at)
+    ∙ flat_map_more one_of [] (take i slots) (get_or slots i None)
+    ∙ ap objects_in (sym (take_more slots i None within))
 
 pub slot_claimed : (runs : List Event → Type 0) (shows : Shown → Type 0) (slot : Option ℕ)
     (old new : List Former) → (c : ClaimsSlot runs shows slot true old new)

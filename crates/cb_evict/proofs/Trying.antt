@@ -1,7 +1,7 @@
 -- Spans that are claimed one after another.
-use Rattle.std.proofs.Common.{◌≡◌, ◌≢◌, ◌⊎◌, ℕ, zero, suc, ◌+◌, ◌<◌, ◌≤◌, List, [], ◌∷◌, ◌++◌, length, take, drop, get_or, min, All, Option, sym, ◌∙◌, subst, arith, inl, inr}
+use Rattle.std.proofs.Common.{◌≡◌, ◌≢◌, ◌⊎◌, ℕ, zero, suc, ◌+◌, ◌<◌, ◌≤◌, List, [], ◌∷◌, ◌++◌, length, take, drop, get_or, min, All, Option, refl, sym, ap, ◌∙◌, subst, arith, inl, inr}
 use Rattle.std.specs.List.{Contains, AllPairs}
-use Rattle.std.proofs.lemmas.List.{append-nil, append_assoc, take_more, drop_more, length-take, get_or-take}
+use Rattle.std.proofs.lemmas.List.{append-nil, append_assoc, flat_map_more, map-append, take_more, drop_more, length-take, get_or-take}
 use Rattle.std.proofs.lemmas.List.Elements.{All-nil, All-append, All-cons, Contains-append_left, Contains-append_cases, Contains-push}
 use Rattle.std.proofs.lemmas.List.Quantifiers.{all_pairs_push}
 use Rattle.cb_span.specs.Contents.{Contents}
@@ -9,10 +9,12 @@ use Rattle.cb_world.specs.declared.leaving.Former.{Former}
 use Rattle.cb_world.specs.declared.event.Event.{Event}
 use Rattle.cb_world.specs.declared.shown.Shown.{Shown}
 use Rattle.cb_world.specs.Played.{played}
-use Rattle.cb_world.specs.FarState.{FarState}
+use Rattle.cb_world.specs.FarState.{FarState, span_in}
+use Rattle.cb_world.specs.Reserved.{table_of}
 use Rattle.cb_evict.specs.Candidates.{Names, AreLoose, AreUnique, IsLoose, IsBarred}
 use Rattle.cb_evict.specs.Looking.{IsIn}
 use Rattle.cb_evict.specs.Claiming.{AreOf, Claims, ClaimsFrame, ClaimsSpans}
+use Rattle.cb_evict.specs.Order.{noted_of, objects_in, objects_of}
 use Rattle.cb_evict.proofs.Events.{touches_more}
 use Rattle.cb_evict.proofs.Gathers.{Gathers, gathers_more}
 use Rattle.cb_evict.proofs.Loose.{loose_kept, loose_lost, loose_after, barred_after, in_more, in_last, not_before, middle}
@@ -26,6 +28,7 @@ pub record Tried (runs : List Event → Type 0) (shows : Shown → Type 0)
       → AreLoose before spans all loose → AreLoose (before ++ es) spans all (frames ++ drop i loose)
   pub among : All (Contains (take i loose)) frames
   pub apart : AllPairs (λ f g. f ≢ g) frames
+  pub order : noted_of formers ≡ objects_of spans frames
 
 pub tried_none : (runs : List Event → Type 0) (shows : Shown → Type 0)
     (spans : List (Option Contents)) (loose : List ℕ) → runs []
@@ -46,6 +49,7 @@ tried_none runs shows spans loose ran claims = record {
   found = λ before all apart a. subst (λ (l : List Event). AreLoose l spans all loose) (sym (append-nil before)) a;
   among = All-nil (Contains []);
   apart = λ i j d less within. absurd (omega (arith, within));
+  order = refl;
 }
 
 -- what the claim of one frame gathers
@@ -106,13 +110,14 @@ tried_claimed : (runsA runsB runsC : List Event → Type 0) (showsA showsB : Sho
     → Tried runsA showsA spans loose i es frames formers
     → (x : ClaimsFrame runsB showsB spans (get_or loose i 0) frames new formers after)
     → AreOf (Names spans (get_or loose i 0)) x.more → IsLoose x.events spans (get_or loose i 0)
+    → noted_of x.more ≡ objects_in (table_of (span_in spans (get_or loose i 0)))
     → AreUnique spans n → AllPairs (λ f g. f ≢ g) loose → i < length loose
     → (runsA es → runsB x.events → runsC (es ++ x.events))
     → ((s : Shown) → runsA es → showsA s → showsB (played es s))
     → Tried runsC showsA spans loose (i + 1) (es ++ x.events) (frames ++ get_or loose i 0 ∷ [])
     (formers ++ x.more)
 tried_claimed runsA runsB runsC showsA showsB spans n loose i es frames new formers after a x of now
-    unique apart within run shown =
+    order unique apart within run shown =
     let f = get_or loose i 0 in
     let more = take_more loose i 0 within in
     let rest = drop_more loose i 0 within in record {
@@ -142,6 +147,10 @@ tried_claimed runsA runsB runsC showsA showsB spans n loose i es frames new form
           (All-nil (Contains (take i loose ++ f ∷ [])))));
       apart = all_pairs_push (λ g h. g ≢ h) frames f a.apart (λ k d l same.
           not_before loose i apart within (subst (Contains (take i loose)) same (a.among k d l)));
+      order = map-append (λ (former : Former). former.handle) formers x.more
+          ∙ ap (λ (l : List ℕ). l ++ noted_of x.more) a.order
+          ∙ ap (λ (l : List ℕ). objects_of spans frames ++ l) order
+          ∙ flat_map_more (λ (g : ℕ). objects_in (table_of (span_in spans g))) [] frames f;
     }
 
 -- one frame more, of which an object could not be claimed
@@ -179,6 +188,8 @@ tried_left runsA runsB runsC showsA showsB spans n loose i es frames new formers
       among = subst (λ (l : List ℕ). All (Contains l) frames) (sym more)
           (λ k d l. Contains-append_left (take i loose) (f ∷ []) (get_or frames k d) (a.among k d l));
       apart = a.apart;
+      order = ap (λ (l : List Former). noted_of (formers ++ l)) none
+          ∙ ap noted_of (append-nil formers) ∙ a.order;
     }
 
 -- one frame more
@@ -195,10 +206,10 @@ tried_more runsA runsB runsC showsA showsB spans n loose i es frames new formers
     unique apart within run shown =
     subst (λ (l : List Former). Tried runsC showsA spans loose (i + 1) (es ++ x.events) new l)
     (sym x.noted) (elim x.notes [
-      | inl (of, is, now) ↦
+      | inl (of, is, now, order) ↦
           subst (λ (l : List ℕ). Tried runsC showsA spans loose (i + 1) (es ++ x.events) l (formers ++ x.more))
           (sym is) (tried_claimed runsA runsB runsC showsA showsB spans n loose i es frames new formers
-          after a x of now unique apart within run shown)
+          after a x of now order unique apart within run shown)
       | inr (none, is, now) ↦
           subst (λ (l : List ℕ). Tried runsC showsA spans loose (i + 1) (es ++ x.events) l (formers ++ x.more))
           (sym is) (tried_left runsA runsB runsC showsA showsB spans n loose i es frames new formers
@@ -233,6 +244,7 @@ all_tried runs shows spans loose k i es frames formers a few stops = record {
   among = λ n d l. taken_of loose i (get_or frames n d) (a.among n d l);
   apart = a.apart;
   of = a.gathers.of;
+  order = a.order;
   each_once = a.gathers.each_once;
   claims = a.gathers.claims;
 }

@@ -16,8 +16,8 @@ use Rattle.cb_world.specs.declared.event.Event.TheVariants.{Looked, Claimed, Set
 use Rattle.cb_world.specs.declared.leaving.Former.{Former}
 use Rattle.cb_member.specs.Membership.{with_crash}
 use Rattle.cb_set.specs.SetState.{SetState, filled_position, set_of}
-use Rattle.cb_span.specs.Contents.{Contents, handle_at}
-use Rattle.cb_span.specs.declared.temp.Temp.TheVariants.{Cold}
+use Rattle.cb_span.specs.Contents.{Contents, handle_at, span_of}
+use Rattle.cb_span.specs.declared.temp.Temp.TheVariants.{Cold, Hot}
 use Rattle.cb_world.specs.declared.object.Object.{Object}
 use Rattle.cb_world.specs.declared.object.Object.TheVariants as is
 use Rattle.cb_world.specs.declared.shown.Shown.{Shown}
@@ -48,6 +48,7 @@ use Rattle.cb_evict.proofs.Begun.{reserved_kept}
 use Rattle.cb_evict.proofs.NewSet.{set_added_in}
 use Rattle.cb_evict.specs.BeginStep.{frame_rows, AreHeld, IsBegunTo, IsBatchMade, IsBeginStep, is_leaving, few_spans, few_nodes, begins}
 use Rattle.cb_evict.specs.Claims.{AreApart}
+use Rattle.cb_evict.specs.Order.{noted_of, objects_of}
 use Rattle.cb_evict.specs.Claiming.{AreOf}
 use Rattle.cb_evict.specs.Looking.{IsIn, LooksOver}
 use Rattle.cb_evict.proofs.BeginParts.{leaving_batch, spans_batch}
@@ -127,6 +128,7 @@ begun = record {
   words = former ∷ [];
   parities = row ∷ [];
   of = of_first;
+  order = refl;
   each_once = λ i j d less within. absurd (omega (arith, less, within));
   noted = All-cons (λ (f : Former). f.word ≡ word_at start f.handle) former [] refl
       (All-nil (λ (f : Former). f.word ≡ word_at start f.handle));
@@ -147,6 +149,31 @@ same_batch words parities y a =
     let e = some_batch (new_batch settings pair (0 ∷ []) words parities)
     (new_batch settings pair (0 ∷ []) a.words a.parities) (ap (λ (f : FarState). f.leaving) a.state) in
     (ap (λ (b : LeavingState). b.words) e, ap (λ (b : LeavingState). b.parities) e)
+
+-- ---- the order in which objects are noted
+-- a span with two objects, and one with another
+abbrev two : FarState
+two = record pair {
+  spans = Some (span_of (record { index = 0 }) Cold (Some 3 ∷ None ∷ Some 1 ∷ []))
+      ∷ Some (span_with Hot 2) ∷ [];
+}
+
+by_frame_and_slot : objects_of two.spans (1 ∷ 0 ∷ []) ≡ 2 ∷ 3 ∷ 1 ∷ []
+by_frame_and_slot = refl
+
+abbrev noted_at : ℕ → Former
+noted_at h = record { handle = h; word = calm }
+
+-- the object of a later slot is not noted first
+not_the_other_way : (x y : Words)
+    → IsBegunTo x y two (with_batch settings two (0 ∷ []) (noted_at 1 ∷ noted_at 3 ∷ []) (row ∷ []))
+    (0 ∷ []) → ⊥
+not_the_other_way x y a =
+    let e = some_batch (new_batch settings two (0 ∷ []) (noted_at 1 ∷ noted_at 3 ∷ []) (row ∷ []))
+    (new_batch x.settings two (0 ∷ []) a.words a.parities) (ap (λ (f : FarState). f.leaving) a.state) in
+    let first : 1 ≡ 3 = ap (λ (l : List ℕ). get_or l 0 0)
+    (ap (λ (b : LeavingState). noted_of b.words) e ∙ a.order) in
+    omega (arith, first)
 
 -- the object's word is noted
 not_forgotten : IsBegunTo start claimed pair (leaving_with [] (row ∷ [])) (0 ∷ []) → ⊥
@@ -401,6 +428,7 @@ has_begun = record {
   rows = row ∷ [];
   parities = row ∷ [];
   of = of_first;
+  order = refl;
   each_once = λ i j d less within. absurd (omega (arith, less, within));
   found = All-cons (λ (f : Former). IsFound f.handle f.word claim_zeros) former []
       (inr ((refl, refl), tt)) (All-nil (λ (f : Former). IsFound f.handle f.word claim_zeros));

@@ -52,7 +52,7 @@ desk words = record {
   settings = settings;
   words = words;
   versions = 3 ∷ 3 ∷ 3 ∷ 3 ∷ [];
-  memory = 0 ∷ 7 ∷ [];
+  memory = 0 ∷ 0 ∷ [];
 }
 
 -- a span with two slots, of which the second has an object
@@ -221,7 +221,11 @@ pub first_word : contents_at before 0 ≡ 0 ∷ []
 unfolding window
 first_word = refl
 
-second_word : contents_at (desk (further ∷ [])) 0 ≡ 7 ∷ []
+-- the object that lies further, and its word is 7
+abbrev seven : Words
+seven = record (desk (further ∷ [])) { memory = 0 ∷ 7 ∷ [] }
+
+second_word : contents_at seven 0 ≡ 7 ∷ []
 unfolding window
 second_word = refl
 
@@ -253,7 +257,7 @@ pub heads : (a b : ℕ) → a ∷ [] ≡ b ∷ [] → a ≡ b
 heads a b e = cc
 
 -- an object whose word is 7 is not in a row of zeros
-not_contents : HaveContents (desk (further ∷ [])) pair (0 ∷ []) ([] ∷ []) → ⊥
+not_contents : HaveContents seven pair (0 ∷ []) ([] ∷ []) → ⊥
 not_contents a =
     let e = heads 7 0 (sym second_word ∙ a 0 0 1 0 (span_with Cold 0) refl refl refl ∙ zeros) in
     absurd (omega (arith, e))

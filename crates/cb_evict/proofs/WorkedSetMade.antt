@@ -1,6 +1,6 @@
 -- A worked example of a whole step: the loose one of two spans is evicted; and for each part of
 -- what is said of it a value that breaks that part alone.
-use Rattle.std.proofs.Common.{◌≡◌, ℕ, zero, suc, ◌*◌, ◌^◌, ◌<◌, ◌≤◌, false, nat_lt, List, [], ◌∷◌, length, get_or, All, Option, None, Some, replicate, refl, sym, ap, ◌∙◌, subst, lit<, lit≤, arith, inr}
+use Rattle.std.proofs.Common.{◌≡◌, ℕ, zero, suc, ◌*◌, ◌^◌, ◌<◌, ◌≤◌, false, nat_lt, List, [], ◌∷◌, ◌++◌, length, get_or, All, Option, None, Some, replicate, refl, sym, ap, ◌∙◌, subst, lit<, lit≤, arith, inr}
 use Rattle.std.specs.FinMap as map
 use Rattle.std.specs.List.{Contains, slice_get}
 use Rattle.std.proofs.lemmas.Bool.{false≢true}
@@ -28,9 +28,9 @@ use Rattle.cb_span.specs.declared.temp.Temp.TheVariants.{Cold}
 use Rattle.cb_world.specs.SetWord.{IsSpanWord}
 use Rattle.cb_evict.specs.Candidates.{Names}
 use Rattle.cb_evict.specs.Closing.{HaveHomes, with_homes}
+use Rattle.cb_evict.specs.EvictStep.{AreFrameRows, IsEvictedTo, IsSetMade, IsEvictStep, made, IsCountedStep}
 use Rattle.cb_evict.specs.declared.eviction.Eviction.TheVariants.{Refused}
 use Rattle.cb_evict.specs.declared.eviction.Lack.TheVariants.{Spans, Nodes}
-use Rattle.cb_evict.specs.EvictStep.{IsCountedStep, IsEvictedTo, IsSetMade, IsEvictStep, made}
 use Rattle.cb_evict.specs.Storing.{IsShardAt, AreShards, set_for, with_set}
 use Rattle.cb_evict.proofs.NewSet.{set_added_in}
 use Rattle.cb_evict.proofs.WorkedEvictStep.{before, after, busy, no_nodes, no_spans, pair, lone, one_node, none_is, same_number, sent_off, not_here, contents_in, first_word, heads, span_with}
@@ -46,6 +46,11 @@ rows = row ∷ row ∷ []
 pub zero_row : row_of (window [] 0 512) ≡ row
 unfolding row window
 zero_row = refl
+
+-- and those of a frame where there are words, which are 0
+memory_row : row_of (window before.memory 0 512) ≡ row
+unfolding row window
+memory_row = refl
 
 row_length : length row ≡ 4096
 unfolding row
@@ -170,6 +175,13 @@ homed = record {
     others zero none = absurd (none 0 (0, lit< tt, refl) (1, refl))
     others (suc h) none = refl
 
+-- the row of the one frame stands first
+data_in : (first : List ℕ) (rest : List (List ℕ)) → first ≡ row_of (window before.memory 0 512)
+    → AreFrameRows before (0 ∷ []) (first ∷ rest)
+data_in first rest is zero f at =
+    is ∙ ap (λ (n : ℕ). row_of (window before.memory (512 * n) 512)) (same_number 0 f at)
+data_in first rest is (suc p) f at = absurd (none_is f at)
+
 -- ---- the step
 -- the far state once these rows are put at these shards' nodes
 abbrev with_word : List Shard → List (List ℕ) → FarState
@@ -185,6 +197,7 @@ evicted = record {
   chosen = chosen;
   word = is_word;
   contents = contents_in row (row ∷ []) row_words;
+  of_frames = data_in row (row ∷ []) (sym memory_row);
   homes = homed;
   state = refl;
   sent = sent_off;
@@ -286,6 +299,23 @@ not_its_words a =
     (same_rows ones ones a).0
     ∙ sym (a.contents 0 0 1 0 (span_with Cold 0) refl refl refl) ∙ first_word) in
     absurd (omega (arith, e))
+
+-- a row that is 1 behind the words of the object, in a slot that has none
+abbrev past : List ℕ
+past = replicate 4095 0 ++ 1 ∷ []
+
+past_last : get_or past 4095 0 ≡ 1
+past_last = refl
+
+zero_last : get_or row 4095 0 ≡ 0
+unfolding row
+zero_last = refl
+
+not_the_frame : IsEvictedTo before after pair (with_word shards (past ∷ past ∷ [])) (0 ∷ []) → ⊥
+not_the_frame a =
+    let e : get_or past 4095 0 ≡ get_or row 4095 0 =
+    ap (λ (l : List ℕ). get_or l 4095 0) ((same_rows past past a).0 ∙ a.of_frames 0 0 refl ∙ memory_row) in
+    absurd (let f = past_last in let g = zero_last in omega (arith, e, f, g))
 
 -- another part of the far state changed
 not_made : IsEvictedTo before after pair (record new { made = 5 }) (0 ∷ []) → ⊥

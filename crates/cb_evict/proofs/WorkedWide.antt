@@ -41,6 +41,7 @@ use Rattle.cb_world.specs.Sound.{Sound}
 use Rattle.cb_world.specs.Survey.{no_survey}
 use Rattle.cb_world.specs.World.{IsKnown, word_at}
 use Rattle.cb_world.proofs.Apart.{some_same}
+use Rattle.cb_world.proofs.Rooms.{room_empty}
 use Rattle.cb_world.proofs.Surveying.{unsurveyed}
 use Rattle.cb_evict.specs.BeginRule.{with_batch, new_batch}
 use Rattle.cb_evict.specs.BeginStep.{AreHeld, IsBegunTo, IsBeginStep, begins}
@@ -217,6 +218,7 @@ are_rows : AreRows far
 are_rows = record {
   members = fresh-IsMembership 2 (lit< tt);
   counted = refl;
+  room = room_empty 2 2;
   owned = λ node key row e. absurd (none_some row (sym (no_row node.n key) ∙ e));
   one = λ o q a b x y same. absurd (nobody o a x);
   drawn = λ o a x. absurd (nobody o a x);
@@ -343,6 +345,7 @@ begun = record {
     only = All-cons (λ (f : Former). IsIn far.spans (0 ∷ []) f.handle) former [] first_object
         (All-nil (λ (f : Former). IsIn far.spans (0 ∷ []) f.handle));
   };
+  order = refl;
   each_once = λ i j d less within. absurd (omega (arith, less, within));
   noted = All-cons (λ (f : Former). f.word ≡ word_at (desk calm) f.handle) former [] refl
       (All-nil (λ (f : Former). f.word ≡ word_at (desk calm) f.handle));

@@ -18,6 +18,7 @@ use Rattle.cb_evict.specs.Claims.{AreApart}
 use Rattle.cb_evict.specs.Claiming.{AreOf}
 use Rattle.cb_evict.specs.Events.{TouchesOnly}
 use Rattle.cb_evict.specs.Looking.{IsIn}
+use Rattle.cb_evict.specs.Order.{noted_of, objects_of}
 use Rattle.cb_evict.specs.Loading.{LiesInOne}
 use Rattle.cb_evict.specs.EvictRule.{AreInRows, HasFewSpans, HasFewNodes}
 
@@ -51,7 +52,8 @@ with_batch c far frames words parities = record far {
 }
 
 -- The spans in these frames are leaving from here: the words that the claims of their objects found
--- are noted, each once, and the parities are those of the rows with the words of their objects.
+-- are noted, each once, in order of frame and slot, and the parities are those of the rows with the
+-- words of their objects.
 -- Nothing else of the far state changed.
 pub record HasBegun (c : Config) (far new : FarState) (frames : List ℕ) (es : List Event)
     : Type 0 where
@@ -59,6 +61,7 @@ pub record HasBegun (c : Config) (far new : FarState) (frames : List ℕ) (es : 
   pub rows : List (List ℕ)
   pub parities : List (List ℕ)
   pub of : AreOf (IsIn far.spans frames) words
+  pub order : noted_of words ≡ objects_of far.spans frames
   pub each_once : AreApart words
   pub found : All (λ former. IsFound former.handle former.word es) words
   pub contents : AreInRows es far frames rows

@@ -15,6 +15,7 @@ use Rattle.cb_world.specs.World.{word_at}
 use Rattle.cb_evict.specs.Claims.{AreApart}
 use Rattle.cb_evict.specs.Claiming.{AreOf}
 use Rattle.cb_evict.specs.Looking.{IsIn}
+use Rattle.cb_evict.specs.Order.{noted_of, objects_of}
 use Rattle.cb_evict.specs.EvictRule.{HasFewSpans, HasFewNodes}
 use Rattle.cb_evict.specs.EvictStep.{loose_frames}
 use Rattle.cb_evict.specs.BeginRule.{with_batch}
@@ -33,13 +34,14 @@ pub record AreHeld (x y : Words) (far : FarState) (frames : List ℕ) : Type 0 w
   pub versions : y.versions ≡ x.versions
   pub memory : y.memory ≡ x.memory
 
--- The spans in these frames are leaving from here: the words of their objects are noted, each once,
--- and the parities are those of the memory of the frames. Nothing else of the far state changed, and
+-- The spans in these frames are leaving from here: the words of their objects are noted, each once, in
+-- order of frame and slot, and the parities are those of the memory of the frames. Nothing else of the far state changed, and
 -- of the words those of the objects alone.
 pub record IsBegunTo (x y : Words) (far new : FarState) (frames : List ℕ) : Type 0 where
   pub words : List Former
   pub parities : List (List ℕ)
   pub of : AreOf (IsIn far.spans frames) words
+  pub order : noted_of words ≡ objects_of far.spans frames
   pub each_once : AreApart words
   pub noted : All (λ former. former.word ≡ word_at x former.handle) words
   pub count : length parities ≡ x.settings.r

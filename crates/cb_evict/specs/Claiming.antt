@@ -7,12 +7,14 @@ use Rattle.cb_world.specs.declared.leaving.Former.{Former}
 use Rattle.cb_world.specs.declared.shown.Shown.{Shown}
 use Rattle.cb_world.specs.Played.{played}
 use Rattle.cb_world.specs.Looks.{NoLook, LooksFirst}
-use Rattle.cb_world.specs.FarState.{FarState}
+use Rattle.cb_world.specs.FarState.{FarState, span_in}
 use Rattle.cb_world.specs.LocalSound.{LocalSound}
-use Rattle.cb_evict.specs.Candidates.{Names, IsLoose, IsBarred, AreLoose}
+use Rattle.cb_world.specs.Reserved.{table_of}
+use Rattle.cb_evict.specs.Candidates.{Names, IsLoose, AreLoose, IsBarred}
 use Rattle.cb_evict.specs.Looking.{Has, IsIn, IsSlotHeldUp, SpanFinds}
 use Rattle.cb_evict.specs.Events.{TouchesOnly, IsSteady}
 use Rattle.cb_evict.specs.Claims.{AreClaimed, AreBack, AreApart, IsHeldAt}
+use Rattle.cb_evict.specs.Order.{noted_of, objects_in, objects_of}
 
 -- one of these objects
 abbrev pub IsOne : List Former → ℕ → Type 0
@@ -61,7 +63,7 @@ pub record AreOf (has : ℕ → Type 0) (formers : List Former) : Type 0 where
   pub only : All (λ former. has former.handle) formers
 
 abbrev pub SpanNotes : Bool → List Event → Contents → List Former → Type 0
-SpanNotes true es span more = AreOf (Has span) more
+SpanNotes true es span more = AreOf (Has span) more × (noted_of more ≡ objects_in span.slots)
 SpanNotes false es span more = (more ≡ []) × SpanFinds false es span
 
 -- the claim of all objects of a span, or of none
@@ -87,13 +89,14 @@ pub record ClaimsFrame (runs : List Event → Type 0) (shows : Shown → Type 0)
   pub first : LooksFirst events
   pub more : List Former
   pub noted : after ≡ before ++ more
-  pub notes : (AreOf (Names spans f) more × (new ≡ old ++ f ∷ []) × IsLoose events spans f)
+  pub notes : (AreOf (Names spans f) more × (new ≡ old ++ f ∷ []) × IsLoose events spans f
+      × (noted_of more ≡ objects_in (table_of (span_in spans f))))
       ⊎ ((more ≡ []) × (new ≡ old) × IsBarred events spans f)
   pub each_once : AreApart more
   pub claims : (far : FarState) → Claims shows far events more
 
 -- the claims of the spans in some frames, one after another, until k of them are claimed: the spans
--- in these frames are, and the objects that are noted are theirs
+-- in these frames are, and the objects that are noted are theirs, in order of frame and slot
 pub record ClaimsSpans (runs : List Event → Type 0) (shows : Shown → Type 0)
     (spans : List (Option Contents)) (loose : List ℕ) (k : ℕ) (frames : List ℕ)
     (formers : List Former) : Type 0 where
@@ -109,5 +112,6 @@ pub record ClaimsSpans (runs : List Event → Type 0) (shows : Shown → Type 0)
   pub among : All (Contains loose) frames
   pub apart : AllPairs (λ f g. f ≢ g) frames
   pub of : AreOf (IsIn spans frames) formers
+  pub order : noted_of formers ≡ objects_of spans frames
   pub each_once : AreApart formers
   pub claims : (far : FarState) → Claims shows far events formers

@@ -15,7 +15,7 @@ use Rattle.cb_world.specs.Choices.{room_count}
 use Rattle.cb_world.specs.FarState.{FarState, span_in}
 use Rattle.cb_world.specs.Memory.{window, words_for}
 use Rattle.cb_world.specs.Plain.{Words}
-use Rattle.cb_world.specs.RowWords.{words_in}
+use Rattle.cb_world.specs.RowWords.{row_of, words_in}
 use Rattle.cb_world.specs.SetWord.{IsSpanWord}
 use Rattle.cb_world.specs.StillWords.{contents_at}
 use Rattle.cb_world.specs.World.{word_at}
@@ -65,16 +65,22 @@ HaveContents x far frames rows = (p f slot h : ℕ) (span : Contents) → slice_
     → contents_at x h ≡ window (words_in (row_at rows p)) (slot * words_of span.class)
     (words_for (len_of (word_at x h)))
 
--- The spans in these frames left as a new set: a code word whose rows have the memory words of
--- their objects stands at the nodes of the set's shards, the objects' homes are in the set, and the
--- frames are free. Nothing else of the far state changed, and of the words those of the objects
--- alone.
+-- the rows of the places of these frames are those of the frames: the bytes of their memory words
+abbrev pub AreFrameRows : Words → List ℕ → List (List ℕ) → Type 0
+AreFrameRows x frames rows = (p f : ℕ) → slice_get frames p ≡ Some f
+    → row_at rows p ≡ row_of (window x.memory (512 * f) 512)
+
+-- The spans in these frames left as a new set: a code word whose data rows are those of the frames,
+-- with the memory words of the objects, stands at the nodes of the set's shards, the objects' homes
+-- are in the set, and the frames are free. Nothing else of the far state changed, and of the words
+-- those of the objects alone.
 pub record IsEvictedTo (x y : Words) (far new : FarState) (frames : List ℕ) : Type 0 where
   pub shards : List Shard
   pub rows : List (List ℕ)
   pub chosen : AreShards far (x.settings.k + x.settings.r) shards
   pub word : IsSpanWord x.settings.k x.settings.r rows
   pub contents : HaveContents x far frames rows
+  pub of_frames : AreFrameRows x frames rows
   pub homes : HaveHomes far.spans frames far.counts.sets far.homes new.homes
   pub state : new ≡ with_homes (with_set far shards frames rows) frames new.homes
   pub sent : AreSentOff x y far frames

@@ -18,6 +18,7 @@ use Rattle.cb_evict.specs.Events.{TouchesOnly, IsSteady}
 use Rattle.cb_evict.specs.Claims.{AreApart, AreClaimed}
 use Rattle.cb_evict.specs.Claiming.{AreOf}
 use Rattle.cb_evict.specs.Looking.{IsIn}
+use Rattle.cb_evict.specs.Order.{noted_of, objects_of}
 use Rattle.cb_evict.specs.Loading.{LiesInOne}
 use Rattle.cb_evict.specs.declared.eviction.Eviction.{Eviction}
 use Rattle.cb_evict.specs.Eviction.{CountsRule}
@@ -39,13 +40,14 @@ RuleAfter c far new r loose es = After (EvictRule c far new r) far loose es
 abbrev pub CountsAfter : Config → FarState → FarState → Eviction → List ℕ → List Event → Type 0
 CountsAfter c far new e loose es = After (CountsRule c far new e) far loose es
 
--- k different spans may leave, and these are their objects
+-- k different spans may leave, and these are their objects, in order
 pub record AreTaken (c : Config) (far : FarState) (frames : List ℕ) (formers : List Former)
     : Type 0 where
   pub count : length frames ≡ c.k
   pub among : All (Contains (candidates far)) frames
   pub apart : AllPairs (λ f g. f ≢ g) frames
   pub of : AreOf (IsIn far.spans frames) formers
+  pub order : noted_of formers ≡ objects_of far.spans frames
   pub each_once : AreApart formers
 
 -- the desk shows what is known after these events, by which these objects were claimed in a sound

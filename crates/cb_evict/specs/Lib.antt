@@ -2,6 +2,7 @@ pub mod Candidates
 pub mod Events
 pub mod Claims
 pub mod Looking
+pub mod Order
 pub mod Claiming
 pub mod Loading
 pub mod Storing

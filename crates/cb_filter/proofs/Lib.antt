@@ -6,6 +6,9 @@ pub mod Moved
 pub mod Settled
 pub mod Filtered
 pub mod FilterStep
+pub mod StepFixed
+pub mod Stays
+pub mod Unwritten
 pub mod WorkedSeats
 mod WorkedFilter
 mod WorkedFilterStep

@@ -10,11 +10,12 @@ use Rattle.cb_world.specs.Memory.{bytes_in}
 use Rattle.cb_world.specs.Pinned.{with_word}
 use Rattle.cb_world.specs.Plain.{Words}
 use Rattle.cb_world.specs.Seats.{IsNewest, pins_of_seat}
+use Rattle.cb_world.specs.Still.{IsStill}
 use Rattle.cb_world.specs.StillWords.{stamp_at, contents_at, with_hot}
 use Rattle.cb_world.specs.World.{WorldState, IsSoundWorld, word_at}
 use Rattle.cb_world.proofs.Pins.{pin_counts}
 use Rattle.cb_world.proofs.StillPerforms.{PerformsStill}
-use Rattle.cb_mutate.specs.ReadRule.{ReadRule, ReadEffect, HasSeen, IsShown}
+use Rattle.cb_mutate.specs.ReadRule.{ReadRule, ReadEffect, IsSeenHere}
 use Rattle.cb_mutate.specs.StillReplies.{reply_as}
 use Rattle.cb_mutate.specs.Steps.{IsReadStep, with_seen}
 use Rattle.cb_mutate.proofs.ReadStep.{read_step, failed_step}
@@ -94,9 +95,8 @@ peek_sound w seat h at y far r p performs =
 
 pub peek_stopped : (w : WorldState) (seat h at : ℕ) (y : Words) (far : FarState)
     → PeekedAt w seat h at y far
-    → PerformsStill w.desk y w.far far (HasSeen h) (IsShown h)
+    → PerformsStill w.desk y w.far far (IsSeenHere h) IsStill
     → IsSoundWorld (peeked w y far)
 peek_stopped w seat h at y far p performs =
-    let z = (failed_step w.desk y w.far far p.sound.shown h p.sound.known performs).0 in
-    subst IsSoundWorld (sym (peeked_same w y far
-    (left_same w seat h at y far (answer.Bytes z.0 z.1) p z.2) p.same)) p.sound
+    let same = (failed_step w.desk y w.far far p.sound.shown h p.sound.known performs).1 in
+    subst IsSoundWorld (sym (peeked_same w y far same p.same)) p.sound

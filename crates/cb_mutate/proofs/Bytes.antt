@@ -1,5 +1,5 @@
 -- One word after another is written.
-use Rattle.std.proofs.Common.{◌≡◌, ◌≢◌, ◌⊎◌, ℕ, ◌+◌, ◌-◌, ◌*◌, ◌/◌, ◌%◌, ◌<◌, ◌≤◌, List, [], ◌∷◌, ◌++◌, length, get_or, set, sym, refl, ap, ◌∙◌, subst, arith, inl, inr, length-set, get_or-set_other, get_or-set_same}
+use Rattle.std.proofs.Common.{◌≡◌, ◌≢◌, ◌⊎◌, ℕ, ◌+◌, ◌-◌, ◌*◌, ◌/◌, ◌%◌, ◌<◌, ◌≤◌, List, [], ◌∷◌, ◌++◌, length, get_or, set, sym, refl, ap, ◌∙◌, ◌^◌, subst, arith, inl, inr, length-set, get_or-set_other, get_or-set_same}
 use native.Mathlib.Decide.{ℕ_discrete}
 use Rattle.std.specs.Int.{to_le_bytes, w64}
 use Rattle.cb_world.specs.declared.event.Event.{Event}
@@ -13,6 +13,7 @@ use Rattle.cb_world.proofs.Windows.{put_at, set_put, length_put}
 use Rattle.cb_world.specs.StillDesk.{window_length}
 use Rattle.cb_world.proofs.Tracing.{played_append, agree_last}
 use Rattle.cb_mutate.specs.Merged.{IsMerged, IsMixed}
+use Rattle.cb_mutate.specs.Wordwise.{IsReached, IsWordwise}
 use Rattle.cb_mutate.specs.Stores.{AreStores}
 use Rattle.cb_world.specs.Claimed.{OwnsAll}
 
@@ -23,6 +24,51 @@ pub record IsWriteBelow (n : ℕ) (old : List ℕ) (at : ℕ) (bytes : List ℕ)
   pub inside : (i : ℕ) → i < length bytes → at + i < n → byte_at new (at + i) ≡ get_or bytes i 0
   pub outside : (p : ℕ) → p < 8 * length old → (n ≤ p) ⊎ ((p < at) ⊎ (at + length bytes ≤ p))
       → byte_at new p ≡ byte_at old p
+
+-- the words that were stored so far are those below the word n that the bytes reach
+pub record IsWordwiseBelow (n : ℕ) (old : List ℕ) (at count : ℕ) (new : List ℕ) : Type 0 where
+  pub from : at < 8 * n + 8
+  pub small : (i : ℕ) → i < n → IsReached i at count → get_or new i 0 < 2 ^ 64
+  pub others : (i : ℕ) → ¬ ((i < n) × IsReached i at count) → get_or new i 0 ≡ get_or old i 0
+
+pub wordwise_none : (old : List ℕ) (at count : ℕ) → IsWordwiseBelow (at / 8) old at count old
+wordwise_none old at count = record {
+  from = omega arith;
+  small = λ i below reached. absurd (let l = reached.1 in omega (arith, below, l));
+  others = λ i off. refl;
+}
+
+pub wordwise_more : (old new : List ℕ) (n at count y : ℕ) → IsWordwiseBelow n old at count new
+    → n < length new → 8 * n < at + count → y < 2 ^ 64
+    → IsWordwiseBelow (n + 1) old at count (set new n y)
+wordwise_more old new n at count y w within reaches low = record {
+  from = let l = w.from in omega (arith, l);
+  small = λ i below reached. small i below reached (ℕ_discrete i n);
+  others = λ i off. others i off (ℕ_discrete i n);
+}
+  where
+    small : (i : ℕ) → i < n + 1 → IsReached i at count → Dec (i ≡ n)
+        → get_or (set new n y) i 0 < 2 ^ 64
+    small i below reached (yes here) =
+        subst (λ (x : ℕ). x < 2 ^ 64) (sym (ap (λ (j : ℕ). get_or (set new n y) j 0) here
+        ∙ get_or-set_same new n y 0 within)) low
+    small i below reached (no other) =
+        subst (λ (x : ℕ). x < 2 ^ 64) (sym (get_or-set_other new n i y 0 other))
+        (w.small i (omega (arith, below, other)) reached)
+
+    others : (i : ℕ) → ¬ ((i < n + 1) × IsReached i at count) → Dec (i ≡ n)
+        → get_or (set new n y) i 0 ≡ get_or old i 0
+    others i off (yes here) = absurd (let l = w.from in
+        off (omega (arith, here), (omega (arith, here, reaches), omega (arith, here, l))))
+    others i off (no other) = get_or-set_other new n i y 0 other
+        ∙ w.others i (λ x. off (let l = x.0 in omega (arith, l), x.1))
+
+pub wordwise_all : (n : ℕ) (old : List ℕ) (at count : ℕ) (new : List ℕ) → at + count ≤ 8 * n
+    → IsWordwiseBelow n old at count new → IsWordwise old at count new
+wordwise_all n old at count new enough w = record {
+  small = λ i reached. w.small i (let l = reached.0 in omega (arith, l, enough)) reached;
+  others = λ i off. w.others i (λ x. off x.1);
+}
 
 -- the byte at a position of the word that was set, and of another
 byte_here : (xs : List ℕ) (i y p : ℕ) → i < length xs → p / 8 ≡ i
@@ -137,14 +183,17 @@ pub store_one : (es : List Event) (s : Shown) (place len i at x y : ℕ) (bytes 
     → Agree s (es ++ Loaded (place + i) x ∷ Stored (place + i) y ∷ []) → OwnsAll s place len
     → i < words_for len
     → (new : List ℕ) → IsWriteBelow (8 * i) (window s.memory place (words_for len)) at bytes new
+    → IsWordwiseBelow i (window s.memory place (words_for len)) at (length bytes) new
+    → 8 * i < at + length bytes → y < 2 ^ 64
     → played es s ≡ record s { memory = put s.memory place new } → IsMerged x (8 * i) at bytes y
     → (next : List ℕ)
     × IsWriteBelow (8 * (i + 1)) (window s.memory place (words_for len)) at bytes next
+    × IsWordwiseBelow (i + 1) (window s.memory place (words_for len)) at (length bytes) next
     × (played (es ++ Loaded (place + i) x ∷ Stored (place + i) y ∷ []) s ≡ record s {
       memory =
           put s.memory place next;
     })
-store_one es s place len i at x y bytes agree o below new w e m =
+store_one es s place len i at x y bytes agree o below new w b reaches low e m =
     let length_new : length new ≡ words_for len = w.sized
     ∙ window_length s.memory place (words_for len) in
     let last = o (place + (words_for len - 1)) (omega arith, omega (arith, below)) in
@@ -165,6 +214,11 @@ store_one es s place len i at x y bytes agree o below new w e m =
         window_length s.memory place (words_for len),
       )) (subst (λ (z : ℕ).
           IsMerged z (8 * i) at bytes y) read m),
+      wordwise_more (window s.memory place (words_for len)) new i at (length bytes) y b (omega (
+        arith,
+        below,
+        length_new,
+      )) reaches low,
       played_append es (Loaded (place + i) x ∷ Stored (place + i) y ∷ []) s
           ∙ ap (λ (t : Shown). let q : Shown = record t { memory = set t.memory (place + i) y } in q) e
           ∙ ap (λ (l : List ℕ). let q : Shown =

@@ -24,7 +24,7 @@ far_answered state.Far by w h es r a none e = refl
 far_answered state.Here by w h es r a none e = absurd (none a e)
 far_answered state.Moving by w h es r a none e = absurd (moving_not r a e)
 
-bytes_not : (r : Reply) (v : ℕ) (bytes : List ℕ) → r ≡ answer.Bytes v bytes → r ≡ answer.NotHere → ⊥
+pub bytes_not : (r : Reply) (v : ℕ) (bytes : List ℕ) → r ≡ answer.Bytes v bytes → r ≡ answer.NotHere → ⊥
 bytes_not r v bytes a e = cc
 
 read_not : (h : ℕ) (es : List Event) (r : Reply) (w : ℕ) → ReadHere h es r w → r ≡ answer.NotHere → ⊥

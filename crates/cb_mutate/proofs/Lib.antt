@@ -12,6 +12,7 @@ pub mod FarSeen
 pub mod Loaded
 pub mod SettledHot
 pub mod ReadAfter
+pub mod Rooms
 pub mod Stepping
 pub mod WriteStep
 pub mod FreeStep
@@ -24,6 +25,10 @@ pub mod WriteCall
 pub mod FarCall
 pub mod FreeCall
 pub mod MakeStep
+pub mod StepsFixed
+pub mod Stays
+pub mod Unwritten
 pub mod MakeCall
 mod WorkedSteps
+mod WorkedReads
 pub mod MapBeside

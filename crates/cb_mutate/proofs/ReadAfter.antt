@@ -32,12 +32,11 @@ use Rattle.cb_mutate.specs.ReadEnds.{ReadEnds, IsWithin}
 use Rattle.cb_mutate.proofs.Written.{objects_back, claimed_words, claimed_version, absent_before}
 
 -- a claimed object that is settled hot is what it was
-hot_well : (far : FarState) (s t : Shown) (first done : List Event) (h w v version : ℕ)
-    (words into : List ℕ) → Sound s far → IsAfterClaim s h w v words first done
-    → IsFree w → IsFound h w (first ++ done)
-    → ReadEnds h w version into done (played first s) v words t
+hot_well : (far : FarState) (s t : Shown) (first done : List Event) (h w v : ℕ) (words : List ℕ)
+    (r : Reply) → Sound s far → IsAfterClaim s h w v words first done
+    → IsFree w → IsFound h w (first ++ done) → ReadEnds h w r done (played first s) v words t
     → Sound t far × IsShown h (first ++ done) s t
-hot_well far s t first done h w v version words into sound a free found x =
+hot_well far s t first done h w v words r sound a free found x =
     let u = with_settled (claimed_from s a.hots h w v words) h w true in
     let all : t ≡ u = x.settled ∙ ap (λ (q : Shown). with_settled q h w true) a.at_claim in
     let objects = objects_back s a.hots h w v words true a.here in
@@ -61,31 +60,22 @@ hot_well far s t first done h w v version words into sound a free found x =
     )
 
 -- What holds after a read that began with a claim.
-pub record IsReadDone (far : FarState) (s t : Shown) (es : List Event) (h w version len : ℕ)
-    (into : List ℕ) : Type 0 where
+pub record IsReadDone (far : FarState) (s t : Shown) (es : List Event) (h w : ℕ) (r : Reply)
+    : Type 0 where
   pub sound : Sound t far
-  pub effect : IsShown h es s t
-  pub rule : ReadHere h es (answer.Bytes version (take len into)) w
+  pub effect : ReadEffect h r es s t
+  pub rule : ReadHere h es r w
 
-pub read_done : (far : FarState) (s t : Shown) (first done : List Event) (h w v version len : ℕ)
-    (words into : List ℕ) → Sound s far → IsAfterClaim s h w v words first done → IsFree w
-    → IsFound h w (first ++ done) → IsTaken h v words (first ++ done) → len ≡ len_of w
-    → ReadEnds h w version into done (played first s) v words t
-    → IsReadDone far s t (first ++ done) h w version len into
-read_done far s t first done h w v version len words into sound a free found taken e x =
-    let y = hot_well far s t first done h w v version words into sound a free found x in record {
+pub read_done : (far : FarState) (s t : Shown) (first done : List Event) (h w v : ℕ)
+    (words : List ℕ) (r : Reply) → Sound s far → IsAfterClaim s h w v words first done → IsFree w
+    → IsFound h w (first ++ done) → IsTaken h v words (first ++ done)
+    → ReadEnds h w r done (played first s) v words t
+    → IsReadDone far s t (first ++ done) h w r
+read_done far s t first done h w v words r sound a free found taken x =
+    let y = hot_well far s t first done h w v words r sound a free found x in record {
       sound = y.0;
-      effect = y.1;
-      rule = inl (
-        free.1,
-        (
-          v,
-          words,
-          taken,
-          ap (λ (n : ℕ). answer.Bytes version (take n into)) e
-              ∙ (λ i. answer.Bytes (x.version_is i) (x.bytes i)),
-        ),
-      );
+      effect = subst (λ (q : Reply). ReadEffect h q (first ++ done) s t) (sym x.shown) y.1;
+      rule = inl (free.1, (v, words, taken, x.shown));
     }
 
 loaded_later : (p x : ℕ) (es fs : List Event) → IsLoaded p x fs → IsLoaded p x (es ++ fs)
@@ -148,7 +138,7 @@ moving_here : state.Moving ≡ state.Here → ⊥
 moving_here e = cc
 
 -- an object whose word was found here is here
-fits_here : (o : Object) (w : ℕ) → Fits o w → state_of w ≡ state.Here
+pub fits_here : (o : Object) (w : ℕ) → Fits o w → state_of w ≡ state.Here
     → o ≡ is.Here (len_of w) (place_of w)
 fits_here (is.Empty v) w f e = absurd (empty_here (ap state_of (sym f) ∙ e))
 fits_here (is.Far len v words) w f e =

@@ -24,7 +24,7 @@ use Rattle.cb_world.specs.StillDesk.{here_is, window_length, plain_follows, plai
 use Rattle.cb_world.proofs.Windows.{window_at}
 use Rattle.cb_world.proofs.StillWords.{settles_other, busy_leaves, hot_exact}
 use Rattle.cb_world.proofs.StillPerforms.{PerformsStill, RunsStill, runs_still, known_then, stays_still}
-use Rattle.cb_mutate.specs.ReadRule.{IsLoaded, AreLoaded, ReadHere, ReadRule, ReadEffect, IsShown, HasSeen}
+use Rattle.cb_mutate.specs.ReadRule.{IsLoaded, AreLoaded, ReadHere, ReadRule, ReadEffect, IsShown, IsSeenHere}
 use Rattle.cb_mutate.specs.StillReplies.{read_reply}
 use Rattle.cb_mutate.specs.Steps.{ReadChange, IsReadStep, with_seen}
 use Rattle.cb_mutate.proofs.Stepping.{IsExact, is_exact, Comes, comes, reply_comes}
@@ -189,18 +189,21 @@ read_step x y far new s h r k p =
       known_then x y far new (ReadRule h r) (ReadEffect h r) s k p,
     )
 
--- And one that found no memory for its reply is the step that it would have been.
+-- the word that one look found is the object's
+looked_word : (x y : Words) (h w : ℕ) (es : List Event) → Plain x es y → es ≡ Looked h w ∷ []
+    → w ≡ word_at x h
+looked_word x y h w es run e =
+    let only : Plain x (Looked h w ∷ []) y = subst (λ (l : List Event). Plain x l y) e run in
+    sym only.0.0
+
+-- And one that found no memory for the bytes has looked at an object that is here, and left every
+-- word.
 pub failed_step : (x y : Words) (far new : FarState) (s : Shown) (h : ℕ) → IsKnown x far s
-    → (p : PerformsStill x y far new (HasSeen h) (IsShown h))
-    → ((v : ℕ) × (bytes : List ℕ) × IsReadStep x y h (answer.Bytes v bytes))
-    × IsKnown y new (played p.events s)
+    → (p : PerformsStill x y far new (IsSeenHere h) IsStill)
+    → (state_of (word_at x h) ≡ state.Here) × (y ≡ x) × IsKnown y new (played p.events s)
 failed_step x y far new s h k p =
-    let z = read_step x y far new s h (answer.Bytes p.rule.0 p.rule.1) k (record {
-      events = p.events;
-      ran = p.ran;
-      looks_first = p.looks_first;
-      rule = p.rule.2;
-      allowed = p.allowed;
-      sound_after = p.sound_after;
-      effect = p.effect;
-    }) in ((p.rule.0, p.rule.1, z.0), z.1)
+    let runs = runs_still x y far new (IsSeenHere h) IsStill s k p in (
+      ap state_of (sym (looked_word x y h p.rule.0 p.events p.ran.0 p.rule.1)) ∙ p.rule.2,
+      stays_still x y far s p.events runs (p.effect s ((k.sized, k.shows), k.sound)),
+      known_then x y far new (IsSeenHere h) IsStill s k p,
+    )

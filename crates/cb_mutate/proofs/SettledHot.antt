@@ -1,9 +1,10 @@
 -- A claimed object that was read is settled hot.
-use Rattle.std.proofs.Common.{◌≡◌, ℕ, Bool, true, ◌^◌, ◌<◌, List, [], ◌∷◌, ◌++◌, take, set, sym, ap, ◌∙◌, subst, inl, cond, eq-eqb}
+use Rattle.std.proofs.Common.{◌≡◌, ℕ, Bool, true, ◌^◌, ◌<◌, List, [], ◌∷◌, ◌++◌, set, sym, ap, ◌∙◌, subst, inl, cond, eq-eqb}
 use Rattle.cb_ptr.specs.declared.word.State.{State}
 use Rattle.cb_ptr.specs.declared.word.State.TheVariants as word
 use Rattle.cb_ptr.specs.declared.word.PtrWord.{PtrWord}
 use Rattle.cb_ptr.specs.Word.{fields_of, state_of, hot_of, len_of, place_of, pins_of}
+use Rattle.cb_types.specs.declared.reply.Reply.TheVariants as answer
 use Rattle.cb_world.specs.declared.object.Object.{Object}
 use Rattle.cb_world.specs.declared.object.Object.TheVariants as is
 use Rattle.cb_world.specs.declared.event.Event.{Event}
@@ -96,10 +97,14 @@ hot_writes_none s es h w v x n words loads c k old =
 
 -- the words that were read are those that the claim told
 pub read_bytes : (s : Shown) (h w v : ℕ) (words loaded into : List ℕ) (f : PtrWord)
-    → f ≡ fields_of w → IsClaimedAt s h w v words → take f.len into ≡ bytes_in loaded f.len
+    → f ≡ fields_of w → IsClaimedAt s h w v words → into ≡ bytes_in loaded f.len
     → loaded ≡ window s.memory f.place (words_for f.len)
-    → take (len_of w) into ≡ bytes_in words (len_of w)
+    → into ≡ bytes_in words (len_of w)
 read_bytes s h w v words loaded into f e c bytes same =
-    subst (λ (g : PtrWord). take g.len into ≡ bytes_in loaded g.len) e bytes
+    subst (λ (g : PtrWord). into ≡ bytes_in loaded g.len) e bytes
     ∙ ap (λ (l : List ℕ). bytes_in l (len_of w))
     (subst (λ (g : PtrWord). loaded ≡ window s.memory g.place (words_for g.len)) e same ∙ c.contents)
+
+-- the reply of a version and bytes is one of each
+pub bytes_are : {v u : ℕ} {xs ys : List ℕ} → v ≡ u → xs ≡ ys → answer.Bytes v xs ≡ answer.Bytes u ys
+bytes_are e b = λ i. answer.Bytes (e i) (b i)

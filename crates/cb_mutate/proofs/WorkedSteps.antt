@@ -1,6 +1,6 @@
 -- Worked examples of calls over a still desk: replies, steps, and what the map has, with what
 -- breaks one part of each.
-use Rattle.std.proofs.Common.{◌≡◌, ◌⊎◌, ℕ, zero, suc, ◌+◌, ◌-◌, ◌^◌, ◌<◌, ◌≤◌, List, [], ◌∷◌, Some, None, length, get_or, refl, sym, ap, ◌∙◌, inl, inr, arith, get_or-set_same}
+use Rattle.std.proofs.Common.{◌≡◌, ◌⊎◌, ℕ, zero, suc, ◌+◌, ◌-◌, ◌^◌, ◌<◌, ◌≤◌, List, [], ◌∷◌, Some, None, length, get_or, lit<, refl, sym, ap, ◌∙◌, inl, inr, arith, get_or-set_same}
 use Rattle.cb_types.specs.declared.config.Config.{Config}
 use Rattle.cb_types.specs.declared.reply.Reply.{Reply}
 use Rattle.cb_types.specs.declared.reply.Reply.TheVariants as answer
@@ -18,7 +18,8 @@ use Rattle.cb_world.specs.FarState.{FarState}
 use Rattle.cb_world.specs.Now.Now.{freed, held, gone}
 use Rattle.cb_world.specs.StillWords.{with_hot}
 use Rattle.cb_world.specs.StillDesk.{window_length}
-use Rattle.cb_world.proofs.Windows.{put_else}
+use Rattle.cb_world.proofs.Windows.{put_at, put_else}
+use Rattle.cb_mutate.specs.Wordwise.{IsReached, IsWordwise}
 use Rattle.cb_mutate.specs.FreeRule.{IsRemoved}
 use Rattle.cb_mutate.proofs.FarFreed.{home_known}
 use Rattle.cb_mutate.specs.StillReplies.{read_reply, write_reply, free_reply}
@@ -129,12 +130,40 @@ write_it = record { sized = refl; inside = inside; outside = outside }
     outside (suc (suc (suc (suc (suc (suc (suc (suc p)))))))) below side = absurd (omega
         (arith, below))
 
+-- that word alone is stored
+abbrev was : List ℕ
+was = 2826 ∷ []
+
+abbrev wrote : List ℕ
+wrote = 3082 ∷ []
+
+write_words : IsWordwise was 1 1 wrote
+write_words = record { small = small; others = others }
+  where
+    small : (i : ℕ) → IsReached i 1 1 → get_or wrote i 0 < 2 ^ 64
+    small zero reached = lit< tt
+    small (suc i) reached = absurd (let l = reached.0 in omega (arith, l))
+
+    others : (i : ℕ) → ¬ (IsReached i 1 1) → get_or wrote i 0 ≡ get_or was i 0
+    others zero off = absurd (off (omega arith, omega arith))
+    others (suc i) off = refl
+
+-- a word that the bytes do not reach stays, also where one of the same bytes could be stored
+stores_beside : IsWordwise (2826 ∷ 7 ∷ []) 1 1 (3082 ∷ (2 ^ 64 + 7) ∷ []) → ⊥
+stores_beside x = let e : 2 ^ 64 + 7 ≡ 7 = x.others 1 (λ r. let l = r.0 in omega (arith, l)) in
+    omega (arith, e)
+
 writes : (c : Config) → IsWriteStep (old c) (desk c hot 2 (3082 ∷ 7 ∷ [])) 0 1 (12 ∷ [])
     (answer.Version 2)
 unfolding put window
 writes c = record {
   reply = refl;
-  change = record { words = 3082 ∷ []; write = write_it; left = refl };
+  change = record {
+    words = 3082 ∷ [];
+    write = write_it;
+    wordwise = write_words;
+    left = refl;
+  };
 }
 
 writes_and_stays_cold : (c : Config) → IsWriteStep (old c) (desk c calm 2 (3082 ∷ 7 ∷ [])) 0 1
@@ -153,6 +182,15 @@ writes_behind c x = let z = x.change in
     let n : length z.words ≡ 1 = z.write.sized ∙ window_length (2826 ∷ 7 ∷ []) 0 1 in
     let e : 8 ≡ 7 = ap (λ (y : Words). get_or y.memory 1 0) z.left
     ∙ put_else (2826 ∷ 7 ∷ []) 0 z.words 1 (inr (omega (arith, n))) in omega (arith, e)
+
+-- a word with the same bytes that has more than 64 bits
+writes_a_wide_word : (c : Config) → IsWriteStep (old c) (desk c hot 2 ((2 ^ 64 + 3082) ∷ 7 ∷ [])) 0 1
+    (12 ∷ []) (answer.Version 2) → ⊥
+writes_a_wide_word c x = let z = x.change in
+    let n : length z.words ≡ 1 = z.write.sized ∙ window_length (2826 ∷ 7 ∷ []) 0 1 in
+    let e : 2 ^ 64 + 3082 ≡ get_or z.words 0 0 = ap (λ (y : Words). get_or y.memory 0 0) z.left
+    ∙ put_at (2826 ∷ 7 ∷ []) 0 z.words 0 (omega (arith, n)) (omega (arith, n)) in
+    let l = z.wordwise.small 0 (omega arith, omega arith) in omega (arith, e, l)
 
 answers_too_high : (c : Config) → IsWriteStep (old c) (desk c hot 3 (3082 ∷ 7 ∷ [])) 0 1
     (12 ∷ []) (answer.Version 3) → ⊥

@@ -22,6 +22,7 @@ use Rattle.cb_world.proofs.StillPerforms.{PerformsStill, RunsStill, runs_still, 
 use Rattle.cb_mutate.specs.WriteRule.{NextVersion, WriteHere, WriteRule, IsWritten, WriteEffect}
 use Rattle.cb_mutate.specs.StillReplies.{next_reply, change_reply, write_reply}
 use Rattle.cb_mutate.specs.Steps.{WriteChange, IsOverwritten, IsWriteStep}
+use Rattle.cb_mutate.specs.Wordwise.{IsWordwise}
 use Rattle.cb_mutate.proofs.Stepping.{IsExact, is_exact, Comes, comes, reply_comes, next_comes, change_comes}
 
 -- every word after a write that was answered a version
@@ -44,6 +45,8 @@ overwritten x y far s es h n at bytes r exact free z =
       words = z.new;
       write = subst (λ (l : List ℕ). IsWrite l at bytes z.new)
           (exact.taken z.version z.words z.taken).1 z.write;
+      wordwise = subst (λ (l : List ℕ). IsWordwise l at (length bytes) z.new)
+          (exact.taken z.version z.words z.taken).1 z.wordwise;
       left = λ i. record {
         settings = settings i;
         words = words i;

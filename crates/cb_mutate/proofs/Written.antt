@@ -111,6 +111,7 @@ rewritten_well far s t first done h w v at words bytes sound a found taken x =
         taken = taken;
         next = refl;
         write = x.write;
+        wordwise = x.wordwise;
         objects = objects;
         hots = ap (λ (l : List Bool). set l h true) (sym a.told_hots);
         versions = ap (λ (l : List ℕ). set l h (v + 1)) (sym a.versions);

@@ -12,7 +12,7 @@ pub bytes_length : (words : List ℕ) (len : ℕ) → length (bytes_in words len
 unfolding bytes_in
 bytes_length words len = length-map-range_with_len (byte_at words) 0 len
 
-bytes_at : (words : List ℕ) (len k : ℕ) → k < len → get_or (bytes_in words len) k 0
+pub bytes_at : (words : List ℕ) (len k : ℕ) → k < len → get_or (bytes_in words len) k 0
     ≡ byte_at words k
 unfolding bytes_in
 bytes_at words len k below = get_or-map-range_with_len (byte_at words) 0 len k k 0 below

@@ -1,5 +1,6 @@
 pub mod Merged
 pub mod Stores
+pub mod Wordwise
 pub mod Answered
 pub mod WriteRule
 pub mod WriteEnds
@@ -8,6 +9,7 @@ pub mod FreeEnds
 pub mod ReadRule
 pub mod Loads
 pub mod ReadEnds
+pub mod Reaches
 pub mod StillReplies
 pub mod Steps
 pub mod WordsOf

@@ -1,5 +1,5 @@
 -- A part of an object is written over.
-use Rattle.std.specs.Prelude.{◌≡◌, ℕ, List}
+use Rattle.std.specs.Prelude.{◌≡◌, ℕ, List, length}
 use Rattle.cb_world.specs.declared.event.Event.{Event}
 use Rattle.cb_world.specs.declared.shown.Shown.{Shown}
 use Rattle.cb_world.specs.Memory.{window, put, words_for}
@@ -8,12 +8,14 @@ use Rattle.cb_world.specs.Played.{played}
 use Rattle.cb_world.specs.Touches.{Touches}
 use Rattle.cb_world.specs.Allowed.{Allowed}
 use Rattle.cb_mutate.specs.Stores.{AreStores}
+use Rattle.cb_mutate.specs.Wordwise.{IsWordwise}
 
 -- the events leave the words of the object with one write, and all else as it was
 pub record Rewrites (s : Shown) (place len at : ℕ) (bytes : List ℕ) (es : List Event)
     : Type 0 where
   pub new : List ℕ
   pub write : IsWrite (window s.memory place (words_for len)) at bytes new
+  pub wordwise : IsWordwise (window s.memory place (words_for len)) at (length bytes) new
   pub left : played es s ≡ record s { memory = put s.memory place new }
   pub allowed : Allowed s es
 

@@ -1,10 +1,11 @@
 -- The rule of a read, and what it does.
 use Rattle.std.specs.Prelude.{◌≡◌, ◌⊎◌, ℕ, true, ◌+◌, ◌<◌, ◌≤◌, List, [], ◌∷◌, length, slice_index, slice_set}
-use Rattle.cb_ptr.specs.Word.{len_of, place_of, pins_of}
+use Rattle.cb_ptr.specs.declared.word.State.TheVariants as state
+use Rattle.cb_ptr.specs.Word.{state_of, len_of, place_of, pins_of}
 use Rattle.cb_types.specs.declared.reply.Reply.{Reply}
 use Rattle.cb_types.specs.declared.reply.Reply.TheVariants as answer
 use Rattle.cb_world.specs.declared.event.Event.{Event}
-use Rattle.cb_world.specs.declared.event.Event.TheVariants.{Loaded}
+use Rattle.cb_world.specs.declared.event.Event.TheVariants.{Looked, Loaded}
 use Rattle.cb_world.specs.declared.shown.Shown.{Shown}
 use Rattle.cb_world.specs.Memory.{words_for, bytes_in}
 use Rattle.cb_world.specs.Looks.{IsFound, IsTaken, IsTold, told_by}
@@ -54,9 +55,9 @@ pub record IsShown (h : ℕ) (es : List Event) (s t : Shown) : Type 0 where
   pub memory : t.memory ≡ (told_by es s).memory
   pub nothing : Writes es s []
 
--- so many bytes of the object were seen, which would have been the reply
-abbrev pub HasSeen : ℕ → List Event → Type 0
-HasSeen h es = (v : ℕ) × (bytes : List ℕ) × ReadRule h (answer.Bytes v bytes) es
+-- the object was looked at and found here, and nothing else was done
+abbrev pub IsSeenHere : ℕ → List Event → Type 0
+IsSeenHere h es = (w : ℕ) × (es ≡ Looked h w ∷ []) × (state_of w ≡ state.Here)
 
 -- what a read with this reply does; a refusal changes nothing
 abbrev pub ReadEffect : ℕ → Reply → List Event → Shown → Shown → Type 0

@@ -12,6 +12,7 @@ use Rattle.cb_world.specs.Pinned.{with_word}
 use Rattle.cb_world.specs.FarState.{FarState}
 use Rattle.cb_mutate.specs.FreeRule.{LeavesPlace}
 use Rattle.cb_mutate.specs.StillReplies.{read_reply, write_reply, free_reply}
+use Rattle.cb_mutate.specs.Wordwise.{IsWordwise}
 
 -- what a read leaves: an object without pins is hot
 abbrev pub with_seen : Words → ℕ → Words
@@ -34,10 +35,12 @@ with_contents x h n words = record (with_word x h (with_hot (word_at x h))) {
   memory = put x.memory (place_of (word_at x h)) words;
 }
 
--- the object has the version n, and its memory words with one write
+-- the object has the version n, and its memory words with one write, which stores those that it
+-- reaches as words of 64 bits and leaves the others
 pub record IsOverwritten (x y : Words) (h n at : ℕ) (bytes : List ℕ) : Type 0 where
   pub words : List ℕ
   pub write : IsWrite (contents_at x h) at bytes words
+  pub wordwise : IsWordwise (contents_at x h) at (length bytes) words
   pub left : y ≡ with_contents x h n words
 
 abbrev pub WriteChange : Reply → Words → Words → ℕ → ℕ → List ℕ → Type 0

@@ -9,6 +9,7 @@ use Rattle.cb_world.specs.Memory.{put}
 use Rattle.cb_world.specs.Write.{IsWrite}
 use Rattle.cb_world.specs.Written.{Writes, entry}
 use Rattle.cb_world.specs.Claimed.{with_settled}
+use Rattle.cb_mutate.specs.Wordwise.{IsWordwise}
 
 -- the object is settled as it was
 pub record IsBack (s : Shown) (h word : ℕ) (es : List Event) (t : Shown) : Type 0 where
@@ -26,6 +27,7 @@ pub record IsRewritten (s : Shown) (h word v at : ℕ) (words bytes : List ℕ) 
     (t : Shown) : Type 0 where
   pub new : List ℕ
   pub write : IsWrite words at bytes new
+  pub wordwise : IsWordwise words at (length bytes) new
   pub settled : t ≡ with_rewritten s h word v new
   pub one : Writes es s (entry h (v + 1) (len_of word) words new ∷ [])
 

@@ -11,6 +11,7 @@ use Rattle.cb_world.specs.Looks.{IsFound, IsTaken, told_by}
 use Rattle.cb_world.specs.Written.{Writes, entry}
 use Rattle.cb_world.specs.Still.{IsStill}
 use Rattle.cb_mutate.specs.Answered.{Answered}
+use Rattle.cb_mutate.specs.Wordwise.{IsWordwise}
 
 -- the object was claimed with this version, which has no next one, or has
 abbrev pub NextVersion : ℕ → Reply → Type 0
@@ -30,7 +31,8 @@ WriteHere h at bytes es r w =
 abbrev pub WriteRule : ℕ → ℕ → List ℕ → Reply → List Event → Type 0
 WriteRule h at bytes r es = Answered (WriteHere h at bytes es r) h es r
 
--- the object has its next version, and the words of its contents with the write, and is hot
+-- the object has its next version, and the words of its contents with the write, of which those that
+-- it reaches alone are stored, and is hot
 pub record IsWritten (h n at : ℕ) (bytes : List ℕ) (es : List Event) (s t : Shown) : Type 0 where
   pub word : ℕ
   pub version : ℕ
@@ -40,6 +42,7 @@ pub record IsWritten (h n at : ℕ) (bytes : List ℕ) (es : List Event) (s t : 
   pub taken : IsTaken h version words es
   pub next : n ≡ version + 1
   pub write : IsWrite words at bytes new
+  pub wordwise : IsWordwise words at (length bytes) new
   pub objects : t.objects ≡ s.objects
   pub hots : t.hots ≡ slice_set (told_by es s).hots h true
   pub versions : t.versions ≡ slice_set (told_by es s).versions h n

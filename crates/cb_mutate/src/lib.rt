@@ -6,6 +6,7 @@ mod loading;
 mod making;
 mod merge;
 mod overwriting;
+mod reaching;
 mod reading;
 mod refusing;
 mod writing;

@@ -6,10 +6,11 @@ ghost use Rattle.cb_world.specs.Claimed.{OwnsAll};
 ghost use Rattle.cb_mutate.specs.Loads.{Loads};
 
 use byteorder::{ByteOrder, LittleEndian};
+use cb_types::Bytes;
 use cb_world::Desk;
 
 /// The most bytes that an object has.
-pub(crate) const MOST_BYTES: usize = 1024;
+const MOST_BYTES: usize = 1024;
 
 /// Puts the eight bytes of a word into the buffer, as word `i` of it.
 fn put_word(into: &mut [u8; MOST_BYTES], i: usize, word: u64)
@@ -24,7 +25,7 @@ fn put_word(into: &mut [u8; MOST_BYTES], i: usize, word: u64)
 }
 
 /// Reads the words of an object of `len` bytes at this place into the front of the buffer.
-pub(crate) fn load_bytes<D: Desk>(desk: &mut D, place: u32, len: u32, into: &mut [u8; MOST_BYTES])
+fn load_bytes<D: Desk>(desk: &mut D, place: u32, len: u32, into: &mut [u8; MOST_BYTES])
     requires size { len ≤ 1024 }
     requires memory { place + words_for len ≤ 512 * (D.settings desk.old).frames }
     requires config { IsAccepted (D.settings desk.old) }
@@ -34,4 +35,19 @@ pub(crate) fn load_bytes<D: Desk>(desk: &mut D, place: u32, len: u32, into: &mut
     for i in 0..len.div_ceil(8) {
         put_word(into, i as usize, desk.load(place + i));
     }
+}
+
+/// Reads the words of an object of `len` bytes at this place into the room for its bytes.
+pub(crate) fn load_into<D: Desk>(desk: &mut D, place: u32, len: u32, room: &mut Bytes)
+    requires size { len ≤ 1024 }
+    requires memory { place + words_for len ≤ 512 * (D.settings desk.old).frames }
+    requires config { IsAccepted (D.settings desk.old) }
+    requires room { length room.old ≡ len }
+    ensures loads { Loads (λ es. D.run desk.old es desk.new)
+        (λ s. D.shows desk.old s × OwnsAll s place len) place len room.new }
+    ensures sized { length room.new ≡ len }
+{
+    let mut bytes = [0; MOST_BYTES];
+    load_bytes(desk, place, len, &mut bytes);
+    room.overwrite(0, &bytes[..len as usize]);
 }

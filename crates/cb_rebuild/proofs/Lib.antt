@@ -3,6 +3,8 @@ mod Walking
 pub mod RestoredFar
 pub mod RebuildKeeps
 pub mod RebuildCounts
+pub mod StepFixed
+pub mod Stays
 mod WorkedWord
 mod WorkedWeak
 mod WorkedRebuilt

@@ -24,7 +24,7 @@ use Rattle.cb_world.specs.FarState.{FarState}
 use Rattle.cb_world.specs.FarSound.{Owner, of_set, of_leaving, of_joining, IsShardOf, AwaySound}
 use Rattle.cb_world.specs.Sound.{Sound}
 use Rattle.cb_world.proofs.Choices.{number}
-use Rattle.cb_world.proofs.FreshShard.{up_is_kept, up_on_least}
+use Rattle.cb_world.proofs.FreshShard.{fits_on_least, up_is_kept, up_on_least}
 use Rattle.cb_world.proofs.NodeJoin.{local_stays, noted_stays, claimed_stay}
 use Rattle.cb_world.proofs.PlaceSet.{place_on}
 use Rattle.cb_world.proofs.Reserving.{reserved_is_other}
@@ -151,6 +151,7 @@ module _ (s : Shown) (far : FarState) (id : ℕ) (set : SetState) (p : ℕ) (sha
   puts : HasRowPut s far new (of_set id p) shard row
   puts = record {
     up = up_on_least far (other_shards set.shards p) shard x.named.node x.named.incarnation;
+    fits = fits_on_least far (other_shards set.shards p) shard.node x.named.node;
     key = x.named.key;
     of_owner = λ c rows there word. x.of_word rows
         (subst (λ (d : SetState). IsWordOf far.nodes far.members d rows)

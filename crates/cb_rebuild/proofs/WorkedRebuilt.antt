@@ -1,12 +1,13 @@
 -- Worked examples of a row that stands again: the shard that it gets, the row, and the far state then,
 -- with what breaks one part of that alone.
-use Rattle.std.proofs.Common.{◌≡◌, ℕ, zero, suc, List, Option, None, Some, get_or, nat_lt, refl, sym, ap, ◌∙◌, subst, arith, lit<, lit≤, inl, inr}
+use Rattle.std.proofs.Common.{◌≡◌, ℕ, zero, suc, List, [], length, Option, None, Some, get_or, nat_lt, refl, sym, ap, ◌∙◌, subst, arith, lit<, lit≤, inl, inr}
 use Rattle.std.specs.FinMap as map
 use Rattle.std.proofs.lemmas.Bool.{false≢true}
 use Rattle.std.proofs.lemmas.Option.{none-some, same_Some}
 use Rattle.cb_member.specs.declared.names.NodeId.{NodeId}
 use Rattle.cb_member.specs.declared.names.Shard.{Shard}
-use Rattle.cb_node.specs.NodesState.{held, row_at as row_under}
+use Rattle.cb_gf256.specs.Rows.{row_at}
+use Rattle.cb_node.specs.NodesState.{held, with_row, row_at as row_under}
 use Rattle.cb_set.specs.SetState.{SetState, with_shard}
 use Rattle.cb_set.specs.Nodes.{other_shards}
 use Rattle.cb_types.specs.declared.reply.Reply.{Reply}
@@ -127,10 +128,26 @@ rebuilt = record {
   row = row 7;
   lost = refl;
   named = new_shard;
+  some_word = (rows, is_word);
   of_word = row_of_parity;
   state = refl;
   reply = refl;
 }
+
+-- a set with a row of no bytes has no word: no row of it stands again
+abbrev blank : FarState
+blank = record old { nodes = with_row nodes (node 0) 7 [] }
+
+blank_row : row_under blank.nodes (node 0) 7 ≡ Some []
+blank_row = grind (arith, map.gets)
+
+not_without_a_word : (new : FarState) (r : Reply) → IsRebuilt blank 0 set new r → ⊥
+not_without_a_word new r x =
+    let word = x.some_word in
+    let none : [] ≡ row_at word.0 0 = same_Some [] (row_at word.0 0)
+    (sym blank_row ∙ word.1.survive 0 (at 0 7) refl refl) in
+    let e : 0 ≡ length (row_at word.0 0) = ap (λ (l : List ℕ). length l) none in
+    let wide = word.1.code.wide in omega (arith, e, wide)
 
 -- the node and the position in a reply
 abbrev node_in : Reply → ℕ

@@ -85,8 +85,9 @@ with_name far id set position shard = record far {
   counts = record far.counts { keys = far.counts.keys + 1 };
 }
 
--- The row of the set's least lost position stands again: k rows were given out, it was put under a
--- new shard, and the position names that one. All else is as it was.
+-- The row of the set's least lost position stands again: the set has a word, k rows were given out,
+-- the row of each such word at the position was put under a new shard, and the position names that
+-- one. All else is as it was.
 pub record IsRebuilt (far : FarState) (id : ℕ) (set : SetState) (new : FarState) (r : Reply) : Type 0
   where
     pub position : ℕ
@@ -94,6 +95,7 @@ pub record IsRebuilt (far : FarState) (id : ℕ) (set : SetState) (new : FarStat
     pub row : List ℕ
     pub lost : least_lost far.members set.shards ≡ Some position
     pub named : IsNewShard far set position shard
+    pub some_word : (rows : List (List ℕ)) × IsWordOf far.nodes far.members set rows
     pub of_word : IsRowOf far set position row
     pub state : new ≡ with_name (with_put far set shard row) id set position shard
     pub reply : r ≡ answer.Rebuilt (record { n = id }) position shard.node

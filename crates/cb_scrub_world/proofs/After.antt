@@ -30,7 +30,7 @@ use Rattle.cb_scrub_world.specs.Standing.{Stands, rows_of}
 use Rattle.cb_scrub_world.proofs.Given.{row_of_shard, stands_at}
 
 -- shards at two positions stand on two nodes
-apart : (shards : List Shard) (i j : ℕ) (a b : Shard) → OnDistinctNodes shards → slice_get shards i ≡ Some a → slice_get shards j ≡ Some b → i ≢ j → a.node.n ≢ b.node.n
+pub apart : (shards : List Shard) (i j : ℕ) (a b : Shard) → OnDistinctNodes shards → slice_get shards i ≡ Some a → slice_get shards j ≡ Some b → i ≢ j → a.node.n ≢ b.node.n
 apart shards i j a b distinct x y other same =
     let at_a = get_or_from_slice_get shards i a a x in
     let at_b = get_or_from_slice_get shards j b a y in
@@ -39,7 +39,7 @@ apart shards i j a b distinct x y other same =
       | inr more ↦ distinct j i a (omega (arith, more, other)) (slice_get_within shards i a x) (ap (λ (s : Shard). s.node.n) at_b ∙ sym same ∙ sym (ap (λ (s : Shard). s.node.n) at_a))
     ]
 
-count_of : (nodes : NodesState) (shards : List Shard) → length (rows_of nodes shards) ≡ length shards
+pub count_of : (nodes : NodesState) (shards : List Shard) → length (rows_of nodes shards) ≡ length shards
 count_of nodes shards = length-map shards (λ (s : Shard). known_row nodes s.node s.key)
 
 known_as : (nodes : NodesState) (node : NodeId) (key : ℕ) (o : Option (List ℕ)) → row_under nodes node key ≡ o → known_row nodes node key ≡ unwrap_or o []

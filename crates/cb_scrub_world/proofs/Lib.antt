@@ -5,3 +5,5 @@ pub mod Scrubs
 pub mod WorkedScrubs
 pub mod SoundScrub
 pub mod Again
+pub mod Restored
+pub mod WorkedSpoilt

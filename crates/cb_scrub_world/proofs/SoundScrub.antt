@@ -24,7 +24,7 @@ use Rattle.cb_scrub_world.specs.Standing.{Stands}
 row_stands : (nodes : NodesState) (shard : Shard) (row : List ℕ) → shard.node.n < length nodes.nodes → row_under nodes shard.node shard.key ≡ Some row → length row ≡ 4096 → Stands nodes shard
 row_stands nodes shard row within is wide = record { node = within; there = ap is_some is; wide = ap (λ (o : Option (List ℕ)). length (unwrap_or o [])) is ∙ wide }
 
-sound_set : (nodes : NodesState) (far : FarState) (set : SetState) (rows : List (List ℕ)) → length far.nodes.nodes ≡ length far.members.nodes → IsShaped far.members set → IsWordOf far.nodes far.members set rows → MayScrubSet far.nodes far.members set
+pub sound_set : (nodes : NodesState) (far : FarState) (set : SetState) (rows : List (List ℕ)) → length far.nodes.nodes ≡ length far.members.nodes → IsShaped far.members set → IsWordOf far.nodes far.members set rows → MayScrubSet far.nodes far.members set
 sound_set nodes far set rows counted shaped word = record {
   range = shaped.range;
   members = λ k d l. (shaped.current k (get_or set.shards k d) (slice_get-get_or set.shards k d l)).0;

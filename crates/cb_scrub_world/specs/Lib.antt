@@ -1,3 +1,4 @@
 pub mod Next
 pub mod Standing
 pub mod Scrub
+pub mod Spoilt

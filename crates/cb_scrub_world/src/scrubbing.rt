@@ -4,9 +4,12 @@ ghost use Rattle.cb_set.specs.Lost.{NodesAreMembers, lost};
 ghost use Rattle.cb_set.specs.Nodes.{OnDistinctNodes};
 ghost use Rattle.cb_set.specs.SetState.{SetState, parities};
 ghost use Rattle.cb_world.specs.Sets.{set_in};
+ghost use Rattle.cb_world.specs.Sound.{Sound};
+ghost use Rattle.cb_world.specs.declared.shown.Shown.{Shown};
 ghost use Rattle.cb_scrub_world.specs.Standing.{Stands, rows_of};
 ghost use Rattle.cb_scrub_world.specs.Scrub.{IsExamined, MakesRight, MayScrub, Scrubs, KeepsWord};
 ghost use Rattle.cb_scrub_world.specs.Scrub.{with_nodes};
+ghost use Rattle.cb_scrub_world.specs.Spoilt.{IsSoundAgain, Restores};
 
 use crate::choosing::next_committed;
 use crate::mending::examine_set;
@@ -28,6 +31,9 @@ pub fn scrub_next(alloc: Global, far: &mut Far, after: Option<SetId>) -> Result<
     // What a caller needs for the next scrub, whatever the answer.
     ensures again { far.new.nodes.given < 2 ^ 62 → MayScrub far.new }
     ensures given { far.new.nodes.given ≤ far.old.nodes.given + 20 }
+    // A sound world stays so, and is so again where one row of the set that was examined was wrong.
+    ensures sound { (s : Shown) → Sound s far.old → IsSoundAgain s far.old far.new }
+    ensures restored { IfOk result (λ scrubbed. Restores far.old scrubbed far.new) }
 {
     scrub_least(alloc, far, after)
 }

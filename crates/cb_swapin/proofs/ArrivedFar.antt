@@ -29,6 +29,9 @@ use Rattle.cb_world.specs.Sound.{AreNoted, IsLeaving, Sound}
 use Rattle.cb_world.proofs.Apart.{slot_inside}
 use Rattle.cb_world.proofs.NowKept.{brought_now, now_kept}
 use Rattle.cb_world.proofs.GivenUpNow.{left_gone}
+use Rattle.cb_world.specs.Fetched.{with_given}
+use Rattle.cb_world.specs.Rooms.{HaveRoom}
+use Rattle.cb_world.proofs.Rooms.{room_left}
 use Rattle.cb_world.proofs.SetsLeft.{left_count, left_others, left_over}
 use Rattle.cb_world.proofs.Reserving.{noted_by, reserved_is_other}
 use Rattle.cb_world.proofs.Unmoved.{KeepsLeaving, batch_kept}
@@ -185,6 +188,8 @@ gives_up s t far new id p set f n span row x y = record {
       (there_of s far id set x.sound.away.sound x.there);
   nodes = ap (λ m. length m.nodes) y.nodes
       ∙ left_count _ (with_position set p dead_position);
+  room = λ room. subst HaveRoom (sym y.nodes)
+      (room_left (with_given far.nodes n) (with_position set p dead_position) room);
   members = y.members;
   leaving = y.leaving;
   joining = y.joining;

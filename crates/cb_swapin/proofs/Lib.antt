@@ -12,7 +12,10 @@ pub mod Swapped
 pub mod SwapAnswers
 pub mod SwapWords
 pub mod SwapStep
+pub mod StepFixed
 pub mod SwapKeeps
+pub mod Stays
+pub mod Unwritten
 pub mod SwapPins
 pub mod FarHomes
 pub mod SwapWorld

@@ -67,7 +67,7 @@ same_kept far new e = subst (KeepsFar far) (sym e) (record {
   room = refl;
 })
 
-swapped_kept : (far new : FarState) (id p : ℕ) (set : SetState) (f : ℕ)
+pub swapped_kept : (far new : FarState) (id p : ℕ) (set : SetState) (f : ℕ)
     → IsSwappedTo far new id p set f → KeepsFar far new
 swapped_kept far new id p set f z = record {
   first = ap (λ (q : FarState). q.first) z.rest;
@@ -92,35 +92,6 @@ pub keeps_far : (x y : Words) (far new : FarState) (id p : ℕ) (r : Reply)
 keeps_far x y far new id p r z = step_cases (KeepsFar far new) x y far new id p r z
     (λ same. same_kept far new same.1)
     (λ f whole least e w. swapped_kept far new id p z.set f w.state)
-
--- the rows that were needed are given out, and no others
-pub given_exact : (x y : Words) (far new : FarState) (id p : ℕ) (set : SetState) (f : ℕ)
-    → IsSwapped x y far new id p set f
-    → new.nodes.given ≡ far.nodes.given + rows_needed far.members set p
-given_exact x y far new id p set f w =
-    ap (λ (q : NodesState). q.given) w.state.nodes
-    ∙ left_given (with_given far.nodes (rows_needed far.members set p))
-    (with_position set p dead_position)
-
--- at most 16 rows are needed, and so at most 16 are given out
-pub needed_most : (far : FarState) (s : Shown) (id p : ℕ) (set : SetState) (x : Words)
-    → IsKnown x far s → set_in far.sets id ≡ Some set → rows_needed far.members set p ≤ 16
-needed_most far s id p set x k there = by (lost_at far.members set.shards p) refl
-  where
-    by : (b : Bool) → lost_at far.members set.shards p ≡ b → rows_needed far.members set p ≤ 16
-    by true e = subst (λ (b : Bool). (if b then length set.positions else 1) ≤ 16) (sym e)
-        (k.sound.away.sound.sets.shaped id set there).range.data_most
-    by false e = subst (λ (b : Bool). (if b then length set.positions else 1) ≤ 16) (sym e)
-        (omega arith)
-
-pub given_most : (x y : Words) (far new : FarState) (id p : ℕ) (r : Reply) (s : Shown)
-    → IsKnown x far s → IsSwapStep x y far new id p r → new.nodes.given ≤ far.nodes.given + 16
-given_most x y far new id p r s k z =
-    step_cases (new.nodes.given ≤ far.nodes.given + 16) x y far new id p r z
-    (λ same. let e : new.nodes.given ≡ far.nodes.given =
-    ap (λ (q : FarState). q.nodes.given) same.1 in omega (arith, e))
-    (λ f whole least e w. let n = given_exact x y far new id p z.set f w in
-    let most = needed_most far s id p z.set x k z.there in omega (arith, n, most))
 
 -- ---- the words
 pub settings_stay : (x y : Words) (far new : FarState) (id p : ℕ) (r : Reply)

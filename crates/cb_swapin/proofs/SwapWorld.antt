@@ -15,18 +15,6 @@ use Rattle.cb_swapin.specs.SwapStep.{IsSwapStep}
 use Rattle.cb_swapin.proofs.SwapKeeps.{count_stays, keeps_far, settings_stay, versions_stay}
 use Rattle.cb_swapin.proofs.SwapPins.{pinned_stays, pins_stay}
 
--- the far state has as many frames, homes and nodes as the configuration says
-pub configured_kept : (x y : Words) (far new : FarState) (id p : ℕ) (r : Reply)
-    → IsSwapStep x y far new id p r → IsConfigured x.settings far → IsConfigured y.settings new
-configured_kept x y far new id p r z c =
-    let k = keeps_far x y far new id p r z in
-    subst (λ (q : Config). IsConfigured q new) (sym (settings_stay x y far new id p r z)) (record {
-      frames = k.spans ∙ c.frames;
-      homes = k.homes ∙ c.homes;
-      nodes = k.nodes ∙ c.nodes;
-      room = k.room ∙ c.room;
-    })
-
 -- the pins are those that the seats have
 pub pinned_kept : (x y : Words) (far new : FarState) (id p : ℕ) (r : Reply) (s : Shown)
     (seats : List SeatState) → IsKnown x far s → IsSwapStep x y far new id p r → ArePinned x seats

@@ -235,6 +235,7 @@ pub added_rows : (s t : Shown) (far new : FarState) (id : ℕ) (set : SetState) 
 added_rows s t far new id set rows sound x = record {
   members = subst IsMembership (sym x.members) sound.rows.members;
   counted = x.nodes ∙ sound.rows.counted ∙ ap (λ (m : Membership). length m.nodes) (sym x.members);
+  room = x.room sound.rows.room;
   owned = λ node key row at. elim (x.only node key row at) [
     | inl old ↦ let y = sound.rows.owned node key row old in (
       y.0,

@@ -59,6 +59,7 @@ away_alike s far turns by_job given survey sound = record {
   rows = record {
     members = sound.rows.members;
     counted = sound.rows.counted;
+    room = sound.rows.room;
     owned = λ q key row at. let x = sound.rows.owned q key row at in
         (x.0, x.1, there far turns by_job given survey x.0 x.1 x.2, x.3, x.4, x.5);
     one = λ o q a b x y same. sound.rows.one o q a b (back far turns by_job given survey o a x)

@@ -22,6 +22,7 @@ use Rattle.cb_world.specs.Stored.{AreThere}
 use Rattle.cb_world.proofs.Joined.{pair_kept}
 use Rattle.cb_world.proofs.Surveying.{survey_same}
 use Rattle.cb_world.proofs.Reserving.{reserved_uncommitted}
+use Rattle.cb_world.proofs.Rooms.{room_dropped}
 use Rattle.cb_world.proofs.SetsLeft.{drop_count, drop_fewer, drop_there}
 use Rattle.cb_world.proofs.Storing.{drop_elsewhere}
 
@@ -127,6 +128,7 @@ gone_rows : (s : Shown) (far : FarState) (batch : LeavingState) → AwaySound s 
 gone_rows s far batch sound there x = record {
   members = sound.rows.members;
   counted = drop_count far.nodes (put_shards batch.shards) ∙ sound.rows.counted;
+  room = room_dropped far.nodes (put_shards batch.shards) sound.rows.room;
   owned = λ node key row at.
       let y = sound.rows.owned node key row (drop_fewer far.nodes (put_shards batch.shards) node key
       row (put_there s far batch sound.rows there) at) in (

@@ -50,6 +50,7 @@ begun_rows s far new pair a b sound x = record {
   members = subst IsMembership (sym x.left.members) sound.rows.members;
   counted = x.left.nodes ∙ sound.rows.counted
       ∙ ap (λ (m : Membership). length m.nodes) (sym x.left.members);
+  room = x.left.room sound.rows.room;
   owned = λ node key row at. let y =
       sound.rows.owned node key row (ap (λ (n : NodesState). row_under n node key) (sym x.nodes)
       ∙ at) in (

@@ -564,6 +564,7 @@ commit_rows : (s : Shown) (far new : FarState) (pair : JoiningState) (a b c : Se
 commit_rows s far new pair a b c id sound j x = record {
   members = subst IsMembership (sym x.members) sound.rows.members;
   counted = x.nodes ∙ sound.rows.counted ∙ ap (λ (m : Membership). length m.nodes) (sym x.members);
+  room = x.room sound.rows.room;
   owned = λ node key row at. let y = sound.rows.owned node key row (x.fewer node key row at) in
       let n : y.1.node ≡ node = same_node y.1.node node y.3 in
       let z = still y.0 y.1 row y.2 (ap (λ (q : NodeId). row_under new.nodes q y.1.key) n

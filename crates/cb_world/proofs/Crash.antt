@@ -10,6 +10,7 @@ use Rattle.cb_node.proofs.Laws.{change_keeps_other_nodes as rows_elsewhere}
 use Rattle.cb_set.proofs.Laws.{crash_keeps_other_nodes}
 use Rattle.cb_world.specs.FarState.{FarState}
 use Rattle.cb_world.specs.NodeChanges.{crashed_far}
+use Rattle.cb_world.proofs.Rooms.{room_wiped}
 use Rattle.cb_world.proofs.Storing.{wiped_node_is_empty}
 use Rattle.cb_world.specs.FarSound.{AreRows, Owner, of_set, of_leaving, of_joining, IsShardOf, AwaySound}
 use Rattle.cb_world.proofs.Words.{crash_keeps_word, crash_keeps_current, crash_survivor, crash_keeps_incarnations}
@@ -44,6 +45,7 @@ crash_keeps_rows : (far : FarState) (node : NodeId) → AreRows far
 crash_keeps_rows far node rows within up valid = record {
   members = valid;
   counted = omega (arith, counts);
+  room = room_wiped far.nodes node rows.room;
   owned = λ q key row at. let x =
       left_elsewhere far.nodes node q key row (omega (arith, rows.counted, within)) at in
       let y = rows.owned q key row x.1 in (

@@ -26,6 +26,7 @@ use Rattle.cb_world.specs.Sound.{Sound}
 use Rattle.cb_world.specs.Now.{now, now_as, is_gone}
 use Rattle.cb_world.specs.Now.Now.{never as made_never}
 use Rattle.cb_world.specs.Empty.{empty_far, empty_shown, empty_words}
+use Rattle.cb_world.proofs.Rooms.{room_empty}
 use Rattle.cb_world.proofs.Surveying.{unsurveyed}
 
 -- each read of a list of one value gives it
@@ -44,7 +45,7 @@ no_span first c f = reads_one c.frames f None
 no_home : (first : ℕ) (c : Config) (h : ℕ) → home_at (empty_far first c).homes h ≡ None
 no_home first c h = reads_one c.handles h None
 
-no_set : (first : ℕ) (c : Config) (id : ℕ) → set_in (empty_far first c).sets id ≡ None
+pub no_set : (first : ℕ) (c : Config) (id : ℕ) → set_in (empty_far first c).sets id ≡ None
 no_set first c id = grind (arith, map.gets)
 
 no_row : (first : ℕ) (c : Config) (node : NodeId) (key : ℕ) → row_under (empty_far first c).nodes node key ≡ None
@@ -122,6 +123,7 @@ away first c few = record {
     rows = record {
       members = fresh-IsMembership c.nodes few;
       counted = length-replicate c.nodes map.empty ∙ sym (length-replicate c.nodes fresh_node);
+      room = room_empty c.nodes c.room;
       owned = λ node key row e. absurd (none_some _ row (no_row first c node key) e);
       one = λ o q a b x y same. absurd (nobody first c o a x);
       drawn = λ o a x. absurd (nobody first c o a x);

@@ -29,6 +29,7 @@ use Rattle.cb_world.specs.LocalSound.{LocalSound, IsStamped, LiesAt}
 use Rattle.cb_world.specs.GivenUp.{GivesUp, IsGivenUp}
 use Rattle.cb_world.specs.Sound.{AreNoted, IsLeaving, Sound}
 use Rattle.cb_world.proofs.Gone.{IsFreed}
+use Rattle.cb_world.proofs.Rooms.{room_left}
 use Rattle.cb_world.proofs.SetsLeft.{left_count, left_others, left_over}
 use Rattle.cb_world.proofs.Reserving.{noted_by, reserved_is_other}
 use Rattle.cb_world.proofs.Whole.{given_whole}
@@ -326,6 +327,7 @@ far_gives_up s t far h len v words home c x = record {
       (let e : far.nodes.given ≡ far.nodes.given + 0 = omega arith in e)) refl
       (shards_there s far home.set c sound x.lies.there);
   nodes = left_count far.nodes (set_without c home);
+  room = room_left far.nodes (set_without c home);
   members = refl;
   leaving = refl;
   joining = refl;

@@ -1,7 +1,7 @@
 -- The shard for a new row: it is not lost, and no row stands under its key.
 use Rattle.std.proofs.Common.{◌≡◌, ℕ, ◌+◌, ◌<◌, ◌≤◌, Bool, true, false, nat_lt, ◌&&◌, List, length, Option, Some, None, is_some, if◌then◌else◌, refl, ap, ◌∙◌, arith}
 use Rattle.std.specs.Option.{option_map}
-use Rattle.std.proofs.lemmas.Bool.{false≢true}
+use Rattle.std.proofs.lemmas.Bool.{false≢true, ltb-true}
 use Rattle.std.proofs.lemmas.Option.{slice_get_past}
 use Rattle.cb_member.specs.declared.names.Epoch.{Epoch}
 use Rattle.cb_member.specs.declared.names.Loss.{Loss}
@@ -35,6 +35,12 @@ up_on_least far others shard node current = record {
       node.may.room).0;
   incarnation = current;
 }
+
+-- and there is room for a row
+pub fits_on_least : (far : FarState) (others : List Shard) (node : NodeId)
+    → IsLeastNode far.nodes far.members others node → held far.nodes node < far.nodes.room
+fits_on_least far others node x = ltb-true (held far.nodes node) far.nodes.room
+    (both (alive far.members node) (nat_lt (held far.nodes node) far.nodes.room) x.may.room).1
 
 abbrev loss : Shard → Epoch → Loss
 loss shard epoch = record { node = shard.node; epoch = epoch }

@@ -360,6 +360,7 @@ pub given_rows : (s t : Shown) (far new : FarState) (id : ℕ) (set : SetState) 
 given_rows s t far new id set p left sound x = record {
   members = subst IsMembership (sym x.members) sound.rows.members;
   counted = x.nodes ∙ sound.rows.counted ∙ ap (λ (m : Membership). length m.nodes) (sym x.members);
+  room = x.room sound.rows.room;
   owned = λ node key row at. let y =
       sound.rows.owned node key row (still_row s t far new id set p left x node key row at) in
       let n : y.1.node ≡ node = same_node y.1.node node y.3 in (

@@ -1,3 +1,4 @@
+mod Padded
 pub mod Grasping
 pub mod Windows
 pub mod Tracing
@@ -16,6 +17,7 @@ pub mod Added
 pub mod GivenUp
 pub mod SetChanging
 pub mod SetsLeft
+pub mod Rooms
 pub mod GivenUpNow
 pub mod FarGone
 pub mod FarGoneNow
@@ -62,10 +64,13 @@ pub mod Choices
 pub mod Slots
 pub mod Placed
 pub mod Empty
+pub mod Codes
+pub mod Staying
 pub mod Worlds
 pub mod NodeJoin
 pub mod Alike
 pub mod Pins
+pub mod Fixed
 mod WorkedDesk
 mod WorkedWorld
 mod WorkedFar
@@ -81,4 +86,5 @@ mod WorkedAdded
 mod WorkedJoin
 mod WorkedPairs
 mod WorkedBatch
+mod WorkedRooms
 pub mod WorkedWord

@@ -84,6 +84,7 @@ rows_stay : (far : FarState) (node : NodeId) → AreRows far → node.n < length
 rows_stay far node rows within down = record {
   members = join_stays_valid far.members node rows.members within down;
   counted = rows.counted ∙ sym (join_keeps_count far.members node);
+  room = rows.room;
   owned = λ q key row at. let x = rows.owned q key row at in (
     x.0,
     x.1,

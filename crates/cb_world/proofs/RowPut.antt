@@ -9,7 +9,7 @@ use Rattle.cb_gf256.specs.Rows.{row_at}
 use Rattle.cb_member.specs.declared.names.NodeId.{NodeId}
 use Rattle.cb_member.specs.declared.names.Shard.{Shard}
 use Rattle.cb_member.specs.Membership.{Membership, IsMembership, incarnation}
-use Rattle.cb_node.specs.NodesState.{NodesState, with_row, row_at as row_under}
+use Rattle.cb_node.specs.NodesState.{NodesState, held, with_row, row_at as row_under}
 use Rattle.cb_node.proofs.Laws.{row_is_put, put_keeps_other_rows}
 use Rattle.cb_set.specs.SetState.{SetState, live_at, parities, position_of, slot_at}
 use Rattle.cb_set.specs.Lost.{is_lost}
@@ -25,7 +25,9 @@ use Rattle.cb_world.specs.SetWord.{IsShaped, IsSpanWord, IsWordOf}
 use Rattle.cb_world.specs.FarState.{FarState}
 use Rattle.cb_world.specs.FarSound.{HoldsObject, IsSetWord, AreSets, AreAway, AreRows, Owner, of_set, of_leaving, of_joining, IsShardOf, IsBatch, AwaySound, batch_rows}
 use Rattle.cb_world.proofs.FreshShard.{IsUpShard, up_is_current, up_is_kept}
+use Rattle.cb_world.specs.Rooms.{HaveRoom}
 use Rattle.cb_world.proofs.Joined.{pair_kept}
+use Rattle.cb_world.proofs.Rooms.{room_put}
 
 -- ---- what changes
 abbrev pub with_shards : SetState → List Shard → SetState
@@ -62,6 +64,7 @@ IsNewOr far o shard q a = ((q ≡ o) × (a ≡ shard)) ⊎ IsShardOf far q a
 pub record HasRowPut (s : Shown) (far new : FarState) (o : Owner) (shard : Shard) (row : List ℕ)
     : Type 0 where
   pub up : IsUpShard far shard
+  pub fits : held far.nodes shard.node < far.nodes.room
   pub key : shard.key ≡ far.counts.keys
   pub of_owner : IsRowFor s far o row
   -- the row, and what else is counted or stays
@@ -190,6 +193,8 @@ module _ (s : Shown) (far new : FarState) (o : Owner) (shard : Shard) (row : Lis
     counted = ap (λ (n : NodesState). length n.nodes) x.nodes
         ∙ length-set far.nodes.nodes shard.node.n _ ∙ sound.rows.counted
         ∙ ap (λ (m : Membership). length m.nodes) (sym x.members);
+    room = subst HaveRoom (sym x.nodes)
+        (room_put given shard.node shard.key row x.fits sound.rows.room);
     owned = owned;
     one = λ q w a b is js same. apart_keys q w a b (x.back q a is) (x.back w b js) same;
     drawn = λ q a is. drawn q a (x.back q a is);

@@ -127,6 +127,7 @@ stepped_rows s far new pair a b p old shard row sound st = record {
   members = subst IsMembership (sym st.left.members) sound.rows.members;
   counted = st.left.nodes ∙ sound.rows.counted
       ∙ ap (λ (m : Membership). length m.nodes) (sym st.left.members);
+  room = st.left.room sound.rows.room;
   owned = λ node key other at. elim (st.only node key other at) [
     | inl before ↦ let y = sound.rows.owned node key other before in (
       y.0,
@@ -270,6 +271,7 @@ parted_rows s far new pair sound x = record {
   members = subst IsMembership (sym x.left.members) sound.rows.members;
   counted = x.left.nodes ∙ sound.rows.counted
       ∙ ap (λ (m : Membership). length m.nodes) (sym x.left.members);
+  room = x.left.room sound.rows.room;
   owned = λ node key row at. let y = sound.rows.owned node key row (x.fewer node key row at) in
       let n : y.1.node ≡ node = same_node y.1.node node y.3 in (
         y.0,

@@ -177,6 +177,7 @@ away_kept s t far new keeps objects batches sound =
         rows = record {
           members = x.rows.members;
           counted = x.rows.counted;
+          room = x.rows.room;
           owned = λ node key row e. let o = x.rows.owned node key row e in
               (o.0, o.1, shard_back far new o.0 o.1 o.2, o.3, o.4, o.5);
           one = λ o q a b p r. x.rows.one o q a b (shard_kept far new o a p)

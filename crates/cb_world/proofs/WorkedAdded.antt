@@ -16,7 +16,7 @@ use Rattle.cb_gf256.specs.Rows.{byte_at, row_at}
 use Rattle.cb_gf256.proofs.PublicLaws.{product_with_zero, sum_over_zeros}
 use Rattle.cb_member.specs.declared.names.Shard.{Shard}
 use Rattle.cb_member.specs.Membership.{Membership, fresh_members, incarnation, with_crash}
-use Rattle.cb_node.specs.NodesState.{NodesState, empty_nodes, with_row, row_at as row_under}
+use Rattle.cb_node.specs.NodesState.{NodesState, empty_nodes, held, with_row, row_at as row_under}
 use Rattle.cb_set.specs.SetState.{PositionState, SetState, filled_position, live_at, position_of, set_of, slot_at}
 use Rattle.cb_set.specs.Lost.{is_lost}
 use Rattle.cb_set.specs.Nodes.{OnDistinctNodes}
@@ -38,6 +38,8 @@ use Rattle.cb_world.specs.Shown.{object_at}
 use Rattle.cb_world.specs.Stored.{AreThere, NoKey, all_put}
 use Rattle.cb_world.proofs.Apart.{some_same}
 use Rattle.cb_world.proofs.Bridge.{put_only}
+use Rattle.cb_world.specs.Rooms.{HaveRoom, KeepRoom}
+use Rattle.cb_world.proofs.Rooms.{room_empty, room_put}
 use Rattle.cb_world.proofs.Storing.{put_elsewhere, put_there}
 use Rattle.cb_world.proofs.WorkedWorld.{far as local, largest}
 
@@ -271,6 +273,29 @@ keys_apart p q a b is es same =
     shard_by' (suc zero) a e = key_of (at 1 3) a e
     shard_by' (suc (suc p)) a e = absurd (none_some a e)
 
+one_at_first : held nodes (record { n = 0 }) ≡ 1
+one_at_first = grind (arith, map.gets)
+
+two_at_first : held new.nodes (record { n = 0 }) ≡ 2
+two_at_first = grind (arith, map.gets)
+
+have_room : HaveRoom nodes
+have_room = room_put (empty_nodes 2 2) (record { n = 0 }) 0 (7 ∷ []) (omega (arith, none))
+    (room_empty 2 2)
+  where
+    none : held (empty_nodes 2 2) (record { n = 0 }) ≡ 0
+    none = grind (arith, map.gets)
+
+abbrev one_more : NodesState
+one_more = with_row nodes (record { n = 0 }) 2 row
+
+keep_room : KeepRoom nodes new.nodes
+keep_room room = room_put one_more (record { n = 1 }) 3 row (omega (arith, none))
+    (room_put nodes (record { n = 0 }) 2 row (omega (arith, one_at_first)) room)
+  where
+    none : held (with_row nodes (record { n = 0 }) 2 row) (record { n = 1 }) ≡ 0
+    none = grind (arith, map.gets)
+
 is_added : IsSetAdded before after far new 6 set rows
 is_added = record {
   shape = is_shaped;
@@ -290,6 +315,7 @@ is_added = record {
   stay = λ node key none. put_elsewhere nodes shards rows node key their_nodes none;
   only = λ node key row e. put_only nodes shards rows node key row their_nodes e;
   nodes = refl;
+  room = keep_room;
   members = refl;
   leaving = refl;
   joining = refl;
@@ -467,6 +493,9 @@ adds_a_node : is_no_addition far (record new {
       (record { n = 0 }) 0 (7 ∷ [])) shards rows;
 }) set rows
 adds_a_node x = absurd (let e : 3 ≡ 2 = x.nodes in omega (arith, e))
+
+adds_past_the_room : is_no_addition far (record new { nodes = record new.nodes { room = 1 } }) set rows
+adds_past_the_room x = let l = x.room have_room (record { n = 0 }) in omega (arith, l, two_at_first)
 
 adds_a_member : is_no_addition far (record new { members = fresh_members 3 }) set rows
 adds_a_member x =

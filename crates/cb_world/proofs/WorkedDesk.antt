@@ -4,6 +4,7 @@ use Rattle.cb_world.specs.declared.object.Object.TheVariants as is
 use Rattle.cb_world.specs.declared.event.Event.TheVariants.{Looked, Claimed, Told, Loaded, Stored, Stamped, Settled}
 use Rattle.cb_world.specs.declared.shown.Shown.{Shown}
 use Rattle.cb_world.specs.Memory.{window, put, words_for, byte_at, bytes_in, IsPacked}
+use Rattle.cb_world.specs.LocalMemory.{padded}
 use Rattle.cb_world.specs.Write.{IsWrite}
 use Rattle.cb_world.specs.Shown.{Spares, Owns, MayLie, IsHeld, Fits, object_at}
 use Rattle.cb_world.specs.Settling.{MaySettle}
@@ -13,6 +14,10 @@ use Rattle.cb_world.specs.Touches.{Touches, SettlesLast}
 use Rattle.cb_world.specs.Still.{IsStill}
 use Rattle.cb_world.specs.Allowed.{IsAllowed}
 use Rattle.cb_world.specs.Written.{written_by, entry, gone}
+
+-- words of which the last two were not stored yet
+zeros_behind : padded (7 ∷ 8 ∷ []) 4 ≡ 7 ∷ 8 ∷ 0 ∷ 0 ∷ []
+zeros_behind = refl
 
 -- words of memory
 three_words : window (7 ∷ 8 ∷ 9 ∷ 10 ∷ []) 1 2 ≡ 8 ∷ 9 ∷ []

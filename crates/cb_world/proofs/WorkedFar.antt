@@ -32,27 +32,27 @@ use Rattle.cb_world.specs.Sound.{IsNoted}
 use Rattle.cb_world.proofs.Apart.{some_same}
 use Rattle.cb_world.proofs.WorkedWorld.{far}
 
-abbrev node : ℕ → NodeId
+abbrev pub node : ℕ → NodeId
 node n = record { n = n }
 
-abbrev at : ℕ → ℕ → Shard
+abbrev pub at : ℕ → ℕ → Shard
 at n key = record { node = node n; incarnation = 0; key = key }
 
 -- a data position whose second slot has object 0
-abbrev filled : PositionState
+abbrev pub filled : PositionState
 filled = filled_position (None ∷ Some 0 ∷ None ∷ None ∷ [])
 
 -- one data position on node 0, and its parity on node 1
-abbrev shards : List Shard
+abbrev pub shards : List Shard
 shards = at 0 0 ∷ at 1 1 ∷ []
 
-abbrev set : SetState
+abbrev pub set : SetState
 set = set_of 5 shards (filled ∷ [])
 
 abbrev home : Home
 home = record { set = 5; position = 0; slot = 1 }
 
-abbrev committed : SetState → Kept
+abbrev pub committed : SetState → Kept
 committed x = record { set = x; committed = true }
 
 -- object 0 is away, object 1 was freed, and object 2 was never made
@@ -77,7 +77,7 @@ away x = record far {
   counts = record { turns = 0; by_job = []; sets = 6; keys = 2 };
 }
 
-there : (x : SetState) → set_in (away x).sets 5 ≡ Some x
+pub there : (x : SetState) → set_in (away x).sets 5 ≡ Some x
 there x = grind (arith, map.gets)
 
 not_there : (x : SetState) → set_in (away x).sets 6 ≡ None
@@ -290,7 +290,7 @@ unfolding bytes_in
 held_by_the_claim = refl
 
 -- the batch that is leaving
-abbrev batch : LeavingState
+abbrev pub batch : LeavingState
 batch = record { set = 5; frames = []; words = []; parities = []; shards = [] }
 
 no_frames_leave : ¬ (IsBatch known (away set) batch)

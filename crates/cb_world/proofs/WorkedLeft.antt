@@ -6,7 +6,7 @@ use Rattle.std.specs.List.{slice_get}
 use Rattle.cb_member.specs.declared.names.NodeId.{NodeId}
 use Rattle.cb_member.specs.declared.names.Shard.{Shard}
 use Rattle.cb_member.specs.Membership.{fresh_members, with_crash}
-use Rattle.cb_node.specs.NodesState.{NodesState, empty_nodes, with_row, with_dropped, row_at as row_under}
+use Rattle.cb_node.specs.NodesState.{NodesState, empty_nodes, held, with_row, with_dropped, row_at as row_under}
 use Rattle.cb_set.specs.SetState.{PositionState, SetState, dead_position, filled_position, set_of}
 use Rattle.cb_world.specs.declared.homes.Home.{Home}
 use Rattle.cb_world.specs.declared.object.Object.TheVariants as is
@@ -18,6 +18,8 @@ use Rattle.cb_world.specs.GivenUp.{GivesUp, GoesOn, IsDropped, IsGivenUp, IsLeft
 use Rattle.cb_world.specs.LeftOver.{LiesIn, nodes_left, set_without, sets_left, with_left, without_far}
 use Rattle.cb_world.specs.Stored.{AreThere, NoKey}
 use Rattle.cb_world.proofs.Apart.{some_same}
+use Rattle.cb_world.specs.Rooms.{HaveRoom}
+use Rattle.cb_world.proofs.Rooms.{room_empty, room_put}
 use Rattle.cb_world.proofs.SetsLeft.{drop_fewer, drop_there}
 use Rattle.cb_world.proofs.Storing.{drop_elsewhere}
 use Rattle.cb_world.proofs.WorkedWorld.{far}
@@ -193,6 +195,32 @@ draws_a_key : ¬ (GivesUp known freed away (record then_ {
   counts = record away.counts { keys = 11 };
 }) 5 (with_this both) 0 one)
 draws_a_key x = let e : 11 ≡ 10 = ap (λ c. c.keys) x.counts in omega (arith, e)
+
+-- a row and another at node 0, one at node 1
+abbrev one_row : NodesState
+one_row = with_row (empty_nodes 2 2) (node 0) 7 (1 ∷ [])
+
+have_room : HaveRoom nodes
+have_room = room_put (with_row one_row (node 1) 8 (2 ∷ [])) (node 0) 9 (3 ∷ [])
+    (omega (arith, one_there))
+    (room_put one_row (node 1) 8 (2 ∷ []) (omega (arith, none_beside))
+    (room_put (empty_nodes 2 2) (node 0) 7 (1 ∷ []) (omega (arith, none)) (room_empty 2 2)))
+  where
+    none : held (empty_nodes 2 2) (node 0) ≡ 0
+    none = grind (arith, map.gets)
+
+    none_beside : held one_row (node 1) ≡ 0
+    none_beside = grind (arith, map.gets)
+
+    one_there : held (with_row one_row (node 1) 8 (2 ∷ [])) (node 0) ≡ 1
+    one_there = grind (arith, map.gets)
+
+two_there : held nodes (node 0) ≡ 2
+two_there = grind (arith, map.gets)
+
+takes_room_away : ¬ (GivesUp known freed away
+    (record then_ { nodes = record nodes { room = 1 } }) 5 (with_this both) 0 one)
+takes_room_away x = let l = x.room have_room (node 0) in omega (arith, l, two_there)
 
 takes_another_set : ¬ (GivesUp known freed (record away { sets = map.insert sets 6 (kept (with_this both)) })
     then_ 5 (with_this both) 0 one)

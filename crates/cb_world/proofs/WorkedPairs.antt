@@ -9,7 +9,7 @@ use Rattle.cb_gf256.specs.Rows.{row_at}
 use Rattle.cb_member.specs.declared.names.NodeId.{NodeId}
 use Rattle.cb_member.specs.declared.names.Shard.{Shard}
 use Rattle.cb_member.specs.Membership.{Membership, fresh_members, with_crash}
-use Rattle.cb_node.specs.NodesState.{NodesState, nodes_of, row_at as row_under}
+use Rattle.cb_node.specs.NodesState.{NodesState, held, nodes_of, row_at as row_under}
 use Rattle.cb_node.specs.Rows.{RowsByKey}
 use Rattle.cb_set.specs.SetState.{SetState, dead_position, live_at}
 use Rattle.cb_set.specs.Matched.{IsMatched}
@@ -20,6 +20,8 @@ use Rattle.cb_world.specs.JoinSteps.{IsBegun, IsParted, IsStepped, LeavesSets, N
 use Rattle.cb_world.specs.Merged.{takes}
 use Rattle.cb_world.specs.Sets.{set_in}
 use Rattle.cb_world.proofs.Apart.{some_same}
+use Rattle.cb_world.specs.Rooms.{KeepRoom}
+use Rattle.cb_world.proofs.Rooms.{room_put, room_rows}
 use Rattle.cb_world.proofs.WorkedJoin.{differ, got, got_first, got_second, is_span_word, longer_b, one_row, two_rows}
 use Rattle.cb_world.proofs.WorkedSteps.{a, at, b, batch, false_true, five_there, four_there, joining, kept, none_lost, none_some, of, pair}
 use Rattle.cb_world.proofs.WorkedWord.{row, rows}
@@ -49,6 +51,18 @@ after = record joining {
   counts = record joining.counts { keys = 7 };
 }
 
+row_more : KeepRoom before.nodes after.nodes
+row_more = room_put before.nodes (record { n = 1 }) 6 (row 0) (omega (arith, one_there))
+  where
+    one_there : held before.nodes (record { n = 1 }) ≡ 1
+    one_there = grind (arith, map.gets)
+
+row_less : KeepRoom after.nodes before.nodes
+row_less = room_rows after.nodes (record { n = 1 }) (one_row 4 (row 0)) (omega (arith, one))
+  where
+    one : map.len (one_row 4 (row 0)) ≡ 1
+    one = grind (arith, map.gets)
+
 leaves : LeavesSets before after
 leaves = record {
   sets = refl;
@@ -59,6 +73,7 @@ leaves = record {
   drawn = refl;
   keys = lit≤ tt;
   nodes = refl;
+  room = row_more;
 }
 
 is_fresh : IsFresh before none_done a b
@@ -264,6 +279,7 @@ left_by_parting = record {
   drawn = refl;
   keys = lit≤ tt;
   nodes = refl;
+  room = row_less;
 }
 
 -- the one step
@@ -362,6 +378,7 @@ left_by_begin = record {
   drawn = refl;
   keys = lit≤ tt;
   nodes = refl;
+  room = λ room. room;
 }
 
 is_matched : IsMatched (fresh_members 3) a b

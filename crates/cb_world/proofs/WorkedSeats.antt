@@ -1,6 +1,7 @@
 -- Worked examples of seats, pins and counts: what meets each definition, and what breaks one
 -- part.
-use Rattle.std.proofs.Common.{◌≡◌, ℕ, zero, suc, ◌+◌, ◌^◌, ◌<◌, ◌≤◌, true, false, List, [], ◌∷◌, ◌++◌, Option, None, Some, length, replicate, get_or, slice_get, refl, ap, lit<, lit≤, arith}
+use Rattle.std.proofs.Common.{◌≡◌, ℕ, zero, suc, ◌+◌, ◌^◌, ◌<◌, ◌≤◌, true, false, List, [], ◌∷◌, ◌++◌, Option, None, Some, length, replicate, get_or, slice_get, refl, ap, sym, ◌∙◌, lit<, lit≤, arith}
+use Rattle.std.specs.FinMap as map
 use Rattle.std.specs.List.{All}
 use Rattle.std.proofs.lemmas.Option.{slice_get_within}
 use Rattle.std.proofs.lemmas.List.Elements.{All-cons, All-replicate}
@@ -10,10 +11,14 @@ use Rattle.cb_types.specs.declared.config.Config.{Config}
 use Rattle.cb_types.specs.declared.order.Kept.{Kept}
 use Rattle.cb_types.specs.declared.order.Kept.TheVariants as kept
 use Rattle.cb_world.specs.declared.seats.Pin.{Pin}
+use Rattle.cb_set.specs.SetState.{SetState}
+use Rattle.cb_world.specs.Codes.{HaveCodes}
 use Rattle.cb_world.specs.FarState.{FarState}
+use Rattle.cb_world.specs.Leaving.{LeavingState}
 use Rattle.cb_world.specs.Pinned.{IsPinned, IsUnpinned}
 use Rattle.cb_world.specs.Plain.{Words}
 use Rattle.cb_world.specs.Seats.{SeatState, idle_seat, with_pins, IsNewest, NoneOn, pins_on, all_pins_on}
+use Rattle.cb_world.specs.Sets.{set_in}
 use Rattle.cb_world.specs.World.{ArePinned, AreCounted, IsConfigured, word_at}
 use Rattle.cb_world.proofs.WorkedWorld.{far}
 
@@ -252,9 +257,24 @@ given_too_many : AreCounted (record after_four {
 }) → ⊥
 given_too_many c = let n = c.given in omega (arith, n)
 
--- ---- two frames, three homes, one node
+-- ---- two frames, three homes, one node with room for one row, and no set
 is_configured : IsConfigured settings far
-is_configured = record { frames = refl; homes = refl; nodes = refl; room = refl }
+is_configured = record { frames = refl; homes = refl; nodes = refl; room = refl; codes = no_sets }
+  where
+    nothing : (id : ℕ) → set_in map.empty id ≡ None
+    nothing id = grind (arith, map.gets)
+
+    none_set : (x : SetState) → None ≡ Some x → ⊥
+    none_set x e = cc
+
+    none_batch : (x : LeavingState) → None ≡ Some x → ⊥
+    none_batch x e = cc
+
+    no_sets : HaveCodes settings far
+    no_sets = record {
+      sets = λ id x e. absurd (none_set x (sym (nothing id) ∙ e));
+      batch = λ b e. absurd (none_batch b e);
+    }
 
 frame_too_few : IsConfigured settings (record far { spans = None ∷ [] }) → ⊥
 frame_too_few c = let n : 1 ≡ 2 = c.frames in omega (arith, n)
@@ -267,3 +287,10 @@ node_too_few c = let n : 1 ≡ 2 = c.nodes in omega (arith, n)
 
 row_too_few : IsConfigured (record settings { room = 9 }) far → ⊥
 row_too_few c = let n : 1 ≡ 9 = c.room in omega (arith, n)
+
+-- a batch of two data positions, where a set has one
+abbrev wide : LeavingState
+wide = record { set = 0; frames = 0 ∷ 1 ∷ []; words = []; parities = [] ∷ []; shards = [] }
+
+code_of_another_k : IsConfigured settings (record far { leaving = Some wide }) → ⊥
+code_of_another_k c = let e : 2 ≡ 1 = (c.codes.batch wide refl).0 in omega (arith, e)

@@ -6,7 +6,7 @@ use Rattle.std.specs.List.{slice_get}
 use Rattle.std.proofs.lemmas.Bool.Decides.{nat_tests}
 use Rattle.cb_member.specs.declared.names.Shard.{Shard}
 use Rattle.cb_member.specs.Membership.{Membership, fresh_members, with_crash}
-use Rattle.cb_node.specs.NodesState.{NodesState, empty_nodes, with_row, row_at as row_under}
+use Rattle.cb_node.specs.NodesState.{NodesState, empty_nodes, held, with_row, row_at as row_under}
 use Rattle.cb_set.specs.SetState.{PositionState, SetState, dead_position, filled_position, live_at, position_of, set_of, slot_at}
 use Rattle.cb_set.specs.Lost.{is_lost}
 use Rattle.cb_world.specs.declared.homes.Home.{Home}
@@ -21,6 +21,8 @@ use Rattle.cb_world.specs.Merged.{takes}
 use Rattle.cb_world.specs.Sets.{Kept, SetMap, set_in}
 use Rattle.cb_world.specs.Stored.{AreThere, all_dropped}
 use Rattle.cb_world.proofs.Apart.{some_same}
+use Rattle.cb_world.specs.Rooms.{HaveRoom}
+use Rattle.cb_world.proofs.Rooms.{room_dropped, room_empty, room_put}
 use Rattle.cb_world.proofs.SetsLeft.{drop_count, drop_fewer, drop_there}
 use Rattle.cb_world.proofs.Storing.{drop_elsewhere}
 use Rattle.cb_world.proofs.WorkedWorld.{far}
@@ -97,6 +99,7 @@ leaves_sets = record {
   drawn = refl;
   keys = lit≤ tt;
   nodes = refl;
+  room = λ room. room;
 }
 
 pub four_there : set_in sets 4 ≡ Some a
@@ -140,6 +143,33 @@ takes_a_key_back x = absurd (let l : 10 ≤ 9 = x.keys in omega (arith, l))
 
 adds_a_node : ¬ (LeavesSets joining (record drawn { nodes = empty_nodes 4 4 }))
 adds_a_node x = absurd (let e : 4 ≡ 3 = x.nodes in omega (arith, e))
+
+-- the nodes hold two rows, none and one
+abbrev one_row : NodesState
+one_row = with_row (empty_nodes 3 4) (record { n = 1 }) 1 (1 ∷ [])
+
+have_room : HaveRoom nodes
+have_room = room_put (with_row one_row (record { n = 1 }) 6 (6 ∷ [])) (record { n = 2 }) 9 (9 ∷ [])
+    (omega (arith, none_at_last))
+    (room_put one_row (record { n = 1 }) 6 (6 ∷ []) (omega (arith, one_at_second))
+    (room_put (empty_nodes 3 4) (record { n = 1 }) 1 (1 ∷ []) (omega (arith, none_at_second))
+    (room_empty 3 4)))
+  where
+    none_at_second : held (empty_nodes 3 4) (record { n = 1 }) ≡ 0
+    none_at_second = grind (arith, map.gets)
+
+    one_at_second : held one_row (record { n = 1 }) ≡ 1
+    one_at_second = grind (arith, map.gets)
+
+    none_at_last : held (with_row one_row (record { n = 1 }) 6 (6 ∷ [])) (record { n = 2 }) ≡ 0
+    none_at_last = grind (arith, map.gets)
+
+two_at_second : held nodes (record { n = 1 }) ≡ 2
+two_at_second = grind (arith, map.gets)
+
+-- no row comes, and there is room for one
+takes_room_away : ¬ (LeavesSets joining (record drawn { nodes = record nodes { room = 1 } }))
+takes_room_away x = let l = x.room have_room (record { n = 1 }) in omega (arith, l, two_at_second)
 
 -- ---- the commit: b's rows are dropped, and a's beside new ones
 abbrev replaced : List Shard
@@ -315,6 +345,7 @@ is_committed = record {
       off shard (of_list q shard e) k);
   fewer = λ node key row e. drop_fewer nodes replaced node key row their_nodes e;
   nodes = drop_count nodes replaced;
+  room = room_dropped nodes replaced;
   members = refl;
   leaving = refl;
   survey = refl;
@@ -322,6 +353,14 @@ is_committed = record {
 }
 
 -- ---- what is no commit
+-- at the last node the other set's row stays
+one_stays : held joined.nodes (record { n = 2 }) ≡ 1
+one_stays = grind (arith, map.gets)
+
+committed_without_room : ¬ (IsCommitted joining
+    (record joined { nodes = record joined.nodes { room = 0 } }) pair a b c 6)
+committed_without_room x = let l = x.room have_room (record { n = 2 }) in omega (arith, l, one_stays)
+
 committed_unpaired : ¬ (IsCommitted (record joining { joining = None }) joined pair a b c 6)
 committed_unpaired x = none_some pair x.was
 

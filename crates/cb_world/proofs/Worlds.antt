@@ -19,6 +19,7 @@ use Rattle.cb_world.specs.Shown.{object_at, never}
 use Rattle.cb_world.specs.Empty.{empty_words, empty_shown, empty_far}
 use Rattle.cb_world.specs.Seats.{SeatState, idle_seat, pins_on, all_pins_on}
 use Rattle.cb_world.specs.World.{AreCounted, IsKnown, ArePinned, IsSoundWorld, empty_world, word_at}
+use Rattle.cb_world.proofs.Codes.{empty_codes}
 use Rattle.cb_world.proofs.Empty.{empty_sound, empty_shows, no_object, reads_one}
 
 not_here : (o : Object) (len place : ℕ) → o ≡ never → o ≡ is.Here len place → ⊥
@@ -72,6 +73,7 @@ empty_world_sound c ok = record {
     homes = length-replicate c.handles _;
     nodes = length-replicate c.nodes (map.empty {K = ℕ});
     room = refl;
+    codes = empty_codes 1 c;
   };
   shown = empty_shown 1 c;
   known = known c ok;

@@ -22,6 +22,7 @@ use Rattle.cb_world.specs.Sets.{set_in}
 use Rattle.cb_world.specs.Homes.{home_at}
 use Rattle.cb_world.specs.Join.{IsJoin}
 use Rattle.cb_world.specs.FarState.{FarState}
+use Rattle.cb_world.specs.Rooms.{HaveRoom}
 use Rattle.cb_world.specs.Surveyed.{IsSurvey}
 use Rattle.cb_world.specs.SetWord.{IsSpanWord, IsWordOf, IsShaped}
 
@@ -78,10 +79,11 @@ IsShardOf far (of_leaving p) shard = (batch : LeavingState) × (far.leaving ≡ 
 IsShardOf far (of_joining p) shard = (pair : JoiningState) × (far.joining ≡ Some pair)
     × (slice_get pair.steps p ≡ Some (Some shard))
 
--- each row at a node belongs to one shard
+-- each row at a node belongs to one shard, and the nodes have room for their rows
 pub record AreRows (far : FarState) : Type 0 where
   pub members : IsMembership far.members
   pub counted : length far.nodes.nodes ≡ length far.members.nodes
+  pub room : HaveRoom far.nodes
   pub owned : (node : NodeId) (key : ℕ) (row : List ℕ) → row_under far.nodes node key ≡ Some row
       → (o : Owner) × (shard : Shard) × IsShardOf far o shard × (shard.node.n ≡ node.n)
       × (shard.key ≡ key) × (is_lost far.members shard ≡ false)

@@ -13,6 +13,7 @@ use Rattle.cb_world.specs.Leaving.{LeavingState}
 use Rattle.cb_world.specs.SetWord.{is_broken}
 use Rattle.cb_world.specs.Survey.{survey_without}
 use Rattle.cb_world.specs.FarState.{FarState}
+use Rattle.cb_world.specs.Rooms.{KeepRoom}
 use Rattle.cb_world.specs.Stored.{NoKey}
 use Rattle.cb_world.specs.FarSound.{batch_rows}
 use Rattle.cb_world.specs.SetAdded.{is_far}
@@ -63,6 +64,7 @@ pub record GivesUp (s t : Shown) (far new : FarState) (id : ℕ) (set : SetState
   pub after : GoesOn far new id (with_position set p left)
       ⊎ IsDropped far new id (with_position set p left)
   pub nodes : length new.nodes.nodes ≡ length far.nodes.nodes
+  pub room : KeepRoom far.nodes new.nodes
   pub members : new.members ≡ far.members
   pub leaving : new.leaving ≡ far.leaving
   pub joining : new.joining ≡ far.joining

@@ -11,6 +11,7 @@ use Rattle.cb_world.specs.Sets.{set_in}
 use Rattle.cb_world.specs.Homes.{home_at}
 use Rattle.cb_world.specs.Join.{IsFresh, IsJoinWord, IsBeside}
 use Rattle.cb_world.specs.FarState.{FarState}
+use Rattle.cb_world.specs.Rooms.{KeepRoom}
 use Rattle.cb_world.specs.Merged.{takes, AreTaken}
 
 -- the pair with one step more
@@ -27,6 +28,7 @@ pub record LeavesSets (far new : FarState) : Type 0 where
   pub drawn : new.counts.sets ≡ far.counts.sets
   pub keys : far.counts.keys ≤ new.counts.keys
   pub nodes : length new.nodes.nodes ≡ length far.nodes.nodes
+  pub room : KeepRoom far.nodes new.nodes
 
 -- a step is done: the row is put beside a's row of the position, and is the merged word's
 pub record IsStepped (far new : FarState) (pair : JoiningState) (a b : SetState) (p : ℕ)
@@ -123,6 +125,7 @@ pub record IsCommitted (far new : FarState) (pair : JoiningState) (a b c : SetSt
   pub fewer : (node : NodeId) (key : ℕ) (row : List ℕ) → row_under new.nodes node key ≡ Some row
       → row_under far.nodes node key ≡ Some row
   pub nodes : length new.nodes.nodes ≡ length far.nodes.nodes
+  pub room : KeepRoom far.nodes new.nodes
   pub members : new.members ≡ far.members
   pub leaving : new.leaving ≡ far.leaving
   pub survey : new.survey ≡ far.survey

@@ -1,4 +1,5 @@
 pub mod Memory
+pub mod LocalMemory
 pub mod Write
 pub mod Shown
 pub mod Settling
@@ -17,6 +18,8 @@ pub mod Joining
 pub mod Counts
 pub mod Survey
 pub mod FarState
+pub mod Rooms
+pub mod Codes
 pub mod NodeChanges
 pub mod RowWords
 pub mod SetWord

@@ -19,6 +19,7 @@ use Rattle.cb_world.specs.FarState.{FarState}
 use Rattle.cb_world.specs.SetWord.{IsSpanWord, IsShaped}
 use Rattle.cb_set.specs.SetState.{parities}
 use Rattle.cb_world.specs.Reserved.{IsUnpaired}
+use Rattle.cb_world.specs.Rooms.{KeepRoom}
 use Rattle.cb_world.specs.Stored.{NoKey}
 use Rattle.cb_world.specs.FarSound.{HoldsObject, Owner, IsShardOf, batch_rows}
 
@@ -74,6 +75,7 @@ pub record IsSetAdded (s t : Shown) (far new : FarState) (id : ℕ) (set : SetSt
       ⊎ ((p : ℕ) × (shard : Shard) × (slice_get set.shards p ≡ Some shard)
       × (shard.node.n ≡ node.n) × (shard.key ≡ key))
   pub nodes : length new.nodes.nodes ≡ length far.nodes.nodes
+  pub room : KeepRoom far.nodes new.nodes
   pub members : new.members ≡ far.members
   pub leaving : new.leaving ≡ far.leaving
   pub joining : new.joining ≡ far.joining

@@ -11,6 +11,7 @@ use Rattle.cb_world.specs.declared.shown.Shown.{Shown}
 use Rattle.cb_world.specs.Shown.{object_at, hot_at}
 use Rattle.cb_world.specs.Plain.{Words, Shows, IsSized}
 use Rattle.cb_world.specs.Empty.{empty_words, empty_far}
+use Rattle.cb_world.specs.Codes.{HaveCodes}
 use Rattle.cb_world.specs.FarState.{FarState}
 use Rattle.cb_world.specs.Seats.{SeatState, idle_seat, all_pins_on}
 use Rattle.cb_world.specs.Sound.{Sound}
@@ -67,13 +68,14 @@ pub record AreCounted (far : FarState) : Type 0 where
   pub epoch : far.members.epoch ≤ 2 ^ 20 * far.counts.turns
   pub given : far.nodes.given ≤ 2 ^ 20 * far.counts.turns
 
--- The far state has as many frames, homes and nodes as the configuration says, and a node has room
--- for as many rows.
+-- The far state has as many frames, homes and nodes as the configuration says, a node has room for as
+-- many rows, and the sets have the configured code.
 pub record IsConfigured (c : Config) (far : FarState) : Type 0 where
   pub frames : length far.spans ≡ c.frames
   pub homes : length far.homes ≡ c.handles
   pub nodes : length far.nodes.nodes ≡ c.nodes
   pub room : far.nodes.room ≡ c.room
+  pub codes : HaveCodes c far
 
 -- The world is sound.
 pub record IsSoundWorld (w : WorldState) : Type 0 where

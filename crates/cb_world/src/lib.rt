@@ -13,6 +13,7 @@ pub mod homes;
 pub mod joining;
 pub mod leaving;
 pub mod leftover;
+mod local_memory;
 pub mod object;
 mod open_frames;
 pub mod placing;

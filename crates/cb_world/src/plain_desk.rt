@@ -5,6 +5,7 @@ ghost use Rattle.cb_ptr.specs.Word.{pins_of, state_of};
 ghost use Rattle.cb_world.specs.Pinned.{IsPinned, IsUnpinned};
 
 use crate::desk::{Claim, Desk};
+use crate::local_memory::LocalMemory;
 use cb_ptr::{claimed, pinned, unpinned};
 use cb_types::{Config, Handle, NoMemory};
 use std::alloc::Global;
@@ -19,7 +20,7 @@ pub struct PlainDesk {
     config: Config,
     words: Vec<u64>,
     versions: Vec<u64>,
-    memory: Vec<u64>,
+    memory: LocalMemory,
 }
 
 impl Model for PlainDesk {
@@ -31,14 +32,14 @@ impl Model for PlainDesk {
       settings = d.config;
       words = d.words.items;
       versions = d.versions.items;
-      memory = d.memory.items;
+      memory = d.memory;
     } };
 
     ghost invariant = { λ d. IsSized (record {
       settings = d.config;
       words = d.words.items;
       versions = d.versions.items;
-      memory = d.memory.items;
+      memory = d.memory;
     }) };
 }
 
@@ -58,7 +59,7 @@ impl PlainDesk {
             config,
             words: vec![in alloc; 0; config.handles as usize]?,
             versions: vec![in alloc; 0; config.handles as usize]?,
-            memory: vec![in alloc; 0; FRAME_WORDS * config.frames as usize]?,
+            memory: LocalMemory::new(alloc, FRAME_WORDS * config.frames as usize)?,
         })
     }
 
@@ -124,7 +125,7 @@ impl Desk for PlainDesk {
     }
 
     fn load(&mut self, place: u32) -> u64 {
-        self.memory[place as usize]
+        self.memory.load(place)
     }
 
     fn claim(&mut self, h: Handle, saw: u64) -> Claim {
@@ -138,7 +139,7 @@ impl Desk for PlainDesk {
     }
 
     fn store(&mut self, place: u32, word: u64) {
-        self.memory[place as usize] = word;
+        self.memory.store(place, word);
     }
 
     fn store_version(&mut self, h: Handle, version: u64) {

@@ -1,8 +1,11 @@
-use Rattle.std.proofs.Common.{◌≡◌, ◌+◌, ◌≤◌, List, length, refl, ap, arith, rules, inl, inr}
+use Rattle.std.proofs.Common.{◌≡◌, ◌+◌, ◌≤◌, List, Option, length, refl, sym, ap, ◌∙◌, arith, rules, inl, inr}
 use Rattle.std.proofs.lemmas.List.{length-append}
+use Rattle.cb_span.specs.Contents.{Contents}
 use Rattle.cb_world.specs.declared.leaving.Former.{Former}
+use Rattle.cb_world.specs.Reserved.{table_of}
 use Rattle.cb_evict.specs.Candidates.{Names}
 use Rattle.cb_evict.specs.Looking.{Has}
+use Rattle.cb_evict.specs.Order.{objects_in}
 use Rattle.cb_evict.proofs.Events.{touches_more}
 use Rattle.cb_evict.proofs.Filling.{got_span}
 use Rattle.cb_evict.proofs.Loose.{has_names, names_has, span_below, span_once, claimed_loose, span_few_slots}
@@ -43,12 +46,13 @@ returns-then-claim_span-clause-claims g c =
       noted = x.noted;
       notes = inl (
         record {
-          all = λ h named. x.notes.all h (names_has spans f h span there named);
-          only = λ k d l. has_names spans f _ span there (x.notes.only k d l);
+          all = λ h named. x.notes.0.all h (names_has spans f h span there named);
+          only = λ k d l. has_names spans f _ span there (x.notes.0.only k d l);
         },
         search rules,
         λ h named. claimed_loose x.events had.0 _ x.more so.0 h
-            (x.notes.all h (names_has spans f h span there named)),
+            (x.notes.0.all h (names_has spans f h span there named)),
+        x.notes.1 ∙ ap (λ (o : Option Contents). objects_in (table_of o)) (sym there),
       );
       each_once = x.each_once;
       claims = x.claims;

@@ -1,6 +1,6 @@
 use Rattle.std.proofs.Common.{◌≡◌, ℕ, ◌+◌, ◌<◌, List, [], ◌++◌, length, take, drop, get_or, All, Option, None, refl, sym, ap, ◌∙◌, subst, arith, rules, length-append}
 use Rattle.std.specs.Option.{IfSome}
-use Rattle.std.proofs.lemmas.List.{append-nil, append_assoc, drop_at, take_at}
+use Rattle.std.proofs.lemmas.List.{append-nil, append_assoc, drop_at, take_all, take_at}
 use Rattle.cb_types.specs.declared.config.Config.{Config}
 use Rattle.cb_world.specs.declared.leaving.Former.{Former}
 use Rattle.cb_world.specs.Played.{played}
@@ -11,7 +11,8 @@ use Rattle.cb_evict.specs.Looking.{Has}
 use Rattle.cb_evict.proofs.Events.{touches_more, found_after}
 use Rattle.cb_evict.proofs.Claims.{claims_nothing}
 use Rattle.cb_evict.proofs.Gathers.{Gathers, gathers_back}
-use Rattle.cb_evict.proofs.Slots.{HasBelow, nothing_yet, slot_handle, slot_failed, slot_succeeded, below_all, below_has}
+use Rattle.cb_evict.specs.Order.{objects_in}
+use Rattle.cb_evict.proofs.Slots.{HasBelow, nothing_yet, noted_more, slot_handle, slot_failed, slot_succeeded, below_all, below_has}
 use Rattle.cb_evict.proofs.claiming.claim_span.Goals as goal
 
 pub loop-slot-init : goal.loop-slot-init
@@ -23,6 +24,7 @@ loop-slot-init g c = (
   sym (append-nil c.args.formers.now.items),
   omega arith,
   omega arith,
+  refl,
 )
 
 pub claim_slot-requires-clause-handle : goal.claim_slot-requires-clause-handle
@@ -184,6 +186,9 @@ loop-slot-preserved g c =
           ∙ append_assoc c.args.formers.now.items inv.1 x.more,
       omega (arith, inv.4, c.claim_slot.ensures.capacity),
       omega (arith, inv.5, c.claim_slot.ensures.more),
+      noted_more span.slots i slot x.events inv.1 x.more inv.6 x.notes e
+          (let n = ap (λ (l : List (Option ℕ)). length l) c.slots-slot-items.ensures.slots in
+          omega (arith, c.loop-slot-test.true, n)),
     )
 
 pub returns-clause-claims : goal.returns-clause-claims
@@ -198,10 +203,13 @@ returns-clause-claims g c =
       first = inv.2.first;
       more = inv.1;
       noted = inv.3;
-      notes = record {
-        all = λ h has. inv.2.of.all h (below_all span i h (search rules) has);
-        only = λ k d l. below_has span i (get_or inv.1 k d).handle (inv.2.of.only k d l);
-      };
+      notes = (
+        record {
+          all = λ h has. inv.2.of.all h (below_all span i h (search rules) has);
+          only = λ k d l. below_has span i (get_or inv.1 k d).handle (inv.2.of.only k d l);
+        },
+        inv.6 ∙ ap objects_in (take_all i span.slots (search rules)),
+      );
       each_once = inv.2.each_once;
       claims = inv.2.claims;
     }

@@ -1,7 +1,8 @@
-use Rattle.std.proofs.Common.{◌≡◌, ◌+◌, ◌≤◌, ◌++◌, List}
+use Rattle.std.proofs.Common.{◌≡◌, ◌+◌, ◌≤◌, ◌++◌, List, take}
 use Rattle.std.specs.Prelude.{vec_len, vec_capacity}
 use Rattle.cb_world.specs.declared.leaving.Former.{Former}
 use Rattle.cb_world.specs.declared.event.Event.{Event}
+use Rattle.cb_evict.specs.Order.{noted_of, objects_in}
 use Rattle.cb_evict.proofs.Gathers.{Gathers}
 use Rattle.cb_evict.proofs.Slots.{HasBelow}
 use Rattle.cb_evict.proofs.claiming.claim_span.Given as goal
@@ -14,3 +15,4 @@ invariant-loop-slot g l = (es : List Event) × (more : List Former)
     × (l.formers.items ≡ l.fn.formers.items ++ more)
     × (vec_capacity l.fn.formers ≤ vec_capacity l.formers)
     × (vec_len l.formers ≤ vec_len l.fn.formers + l.slot-index)
+    × (noted_of more ≡ objects_in (take l.slot-index l.span.slots))

@@ -1,4 +1,4 @@
-use Rattle.std.proofs.Common.{ℕ, ◌+◌, ◌*◌, ◌<◌, List, [], ◌∷◌, ◌++◌, sym, ap, ◌∙◌, subst, arith}
+use Rattle.std.proofs.Common.{ℕ, ◌+◌, ◌*◌, ◌<◌, List, [], ◌∷◌, ◌++◌, length, sym, ap, ◌∙◌, subst, arith}
 use Rattle.cb_types.specs.declared.config.Config.{Config}
 use Rattle.cb_types.specs.declared.config.Field.TheVariants.{Frames}
 use Rattle.cb_world.specs.declared.event.Event.TheVariants.{Loaded, Stored}
@@ -10,7 +10,7 @@ use Rattle.cb_world.proofs.Tracing.{played_append}
 use Rattle.cb_world.specs.Shown.{Covers}
 use Rattle.cb_world.proofs.Untouched.{allowed_append}
 use Rattle.cb_world.proofs.Touching.{touches_append}
-use Rattle.cb_mutate.proofs.Bytes.{write_none, write_all, store_one, stores_more, owns_here}
+use Rattle.cb_mutate.proofs.Bytes.{write_none, write_all, wordwise_none, wordwise_all, store_one, stores_more, owns_here}
 use Rattle.cb_mutate.proofs.overwriting.overwrite.Goals as goal
 
 pub loop-i-init : goal.loop-i-init
@@ -22,6 +22,7 @@ loop-i-init g c = (
   λ s a o. (
     window s.memory c.args.place (words_for c.args.len),
     write_none _ c.args.at c.args.bytes.now,
+    wordwise_none _ c.args.at (length c.args.bytes.now),
     ap (λ (l : List ℕ). let q : Shown =
         record s { memory = l } in
         q) (sym (put_window s.memory c.args.place (words_for c.args.len))),
@@ -67,7 +68,7 @@ store-requires-clause-owned g c = let inv = c.loop-i.invariant in let had = c.re
       follows.1,
       owns_here had.0 (played es had.0) c.args.place c.args.len c.loop-i.i now.0
           (played_append inv.0 (Loaded (c.args.place + c.loop-i.i) c.load-old.result ∷ []) had.0
-          ∙ now.2) had.2 below,
+          ∙ now.3) had.2 below,
     )
 
 pub loop-i-preserved : goal.loop-i-preserved
@@ -85,14 +86,17 @@ loop-i-preserved g c = let inv = c.loop-i.invariant in
           (here, (here, tt)),
       λ s a o. let now = inv.4 s a o in let z =
           store_one inv.0 s c.args.place c.args.len c.loop-i.i c.args.at x y c.args.bytes.now
-          (g.met.D.Desk.follows _ _ _ s ran a).0 o below now.0 now.1 now.2 c.merged.ensures in (
+          (g.met.D.Desk.follows _ _ _ s ran a).0 o below now.0 now.1 now.2
+          (omega (arith, c.loop-i-test.true, c.div_ceil-i-end.ensures)) c.merged.type_inv now.3
+          c.merged.ensures in (
             z.0,
             z.1,
             z.2,
-            allowed_append inv.0 (Loaded p x ∷ Stored p y ∷ []) s now.3 (
+            z.3,
+            allowed_append inv.0 (Loaded p x ∷ Stored p y ∷ []) s now.4 (
               tt,
               (
-                owns_here s (played inv.0 s) c.args.place c.args.len c.loop-i.i now.0 now.2 o below,
+                owns_here s (played inv.0 s) c.args.place c.args.len c.loop-i.i now.0 now.3 o below,
                 tt,
               ),
             ),
@@ -109,8 +113,10 @@ returns g c = let inv = c.loop-i.invariant in record {
     new = now.0;
     write = write_all (8 * c.loop-i.i) _ c.args.at c.args.bytes.now now.0
         (omega (arith, c.loop-i-test.false, c.div_ceil-i-end.ensures)) now.1;
-    left = now.2;
-    allowed = now.3;
+    wordwise = wordwise_all c.loop-i.i _ c.args.at (length c.args.bytes.now) now.0
+        (omega (arith, c.loop-i-test.false, c.div_ceil-i-end.ensures)) now.2;
+    left = now.3;
+    allowed = now.4;
   };
 }
 

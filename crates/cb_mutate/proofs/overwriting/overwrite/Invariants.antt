@@ -1,4 +1,4 @@
-use Rattle.std.proofs.Common.{◌≡◌, ℕ, ◌*◌, List}
+use Rattle.std.proofs.Common.{◌≡◌, ℕ, ◌*◌, List, length}
 use Rattle.cb_world.specs.declared.event.Event.{Event}
 use Rattle.cb_world.specs.Memory.{window, put, words_for}
 use Rattle.cb_world.specs.declared.shown.Shown.{Shown}
@@ -7,7 +7,7 @@ use Rattle.cb_world.specs.Touches.{Touches}
 use Rattle.cb_world.specs.Allowed.{Allowed}
 use Rattle.cb_mutate.specs.Stores.{AreStores}
 use Rattle.cb_world.specs.Claimed.{OwnsAll}
-use Rattle.cb_mutate.proofs.Bytes.{IsWriteBelow}
+use Rattle.cb_mutate.proofs.Bytes.{IsWriteBelow, IsWordwiseBelow}
 use Rattle.cb_mutate.proofs.overwriting.overwrite.Given as goal
 
 abbrev pub invariant-loop-i : goal.invariant-loop-i
@@ -15,4 +15,5 @@ invariant-loop-i g l = (es : List Event) × g.D.Desk.run l.fn.desk es l.desk × 
     × ((h : ℕ) → Touches h l.place l.len es)
     × ((s : Shown) → g.D.Desk.shows l.fn.desk s → OwnsAll s l.place l.len → (new : List ℕ)
     × IsWriteBelow (8 * l.i) (window s.memory l.place (words_for l.len)) l.at l.bytes new
+    × IsWordwiseBelow l.i (window s.memory l.place (words_for l.len)) l.at (length l.bytes) new
     × (played es s ≡ record s { memory = put s.memory l.place new }) × Allowed s es)

@@ -1,6 +1,7 @@
 use Rattle.cb_types.specs.Config.{IsAccepted}
 use Rattle.cb_types.specs.declared.config.Config.{Config}
-use Rattle.std.proofs.Common.{[], ◌∷◌, ◌++◌, refl, sym, ap, ◌∙◌, subst, ◌<◌}
+use Rattle.std.proofs.Common.{[], ◌∷◌, ◌++◌, refl, sym, ap, ◌∙◌, subst, ◌<◌, ◌≤◌, ◌+◌, arith}
+use Rattle.std.proofs.lemmas.List.{take_all}
 use Rattle.cb_ptr.specs.declared.word.PtrWord.{PtrWord}
 use Rattle.cb_world.specs.declared.event.Event.TheVariants.{Told, Settled}
 use Rattle.cb_world.specs.declared.shown.Shown.{Shown}
@@ -12,13 +13,13 @@ use Rattle.cb_world.proofs.Untouched.{allowed_append}
 use Rattle.cb_world.proofs.Claimed.{held}
 use Rattle.cb_mutate.proofs.Loaded.{loads_keep}
 use Rattle.cb_mutate.proofs.Settling.{same_slot, stores_no_look, stores_told, stores_first, owned_at, touches_at, stores_settle_last}
-use Rattle.cb_mutate.proofs.SettledHot.{may_settle_hot, loads_are_stores, loads_allowed, hot_at_end, hot_writes_none, read_bytes}
+use Rattle.cb_mutate.proofs.SettledHot.{may_settle_hot, loads_are_stores, loads_allowed, hot_at_end, hot_writes_none, read_bytes, bytes_are}
 use Rattle.cb_mutate.proofs.reading.read_claimed.Goals as goal
 
 pub settle-requires-clause-may : goal.settle-requires-clause-may
 settle-requires-clause-may g c =
     let had = c.requires.claimed in let h = c.args.h.n in let w = c.args.word in
-    let l = c.load_bytes.ensures in let s = had.0 in let k = had.2.2 in
+    let l = c.load_into.ensures.loads in let s = had.0 in let k = had.2.2 in
     let told = g.met.D.Desk.follows _ _ (Told h c.version-version.result ∷ []) s
     c.version-version.ensures had.1 in (
       played l.events s,
@@ -30,10 +31,10 @@ settle-requires-clause-may g c =
           c.settled.ensures)),
     )
 
-pub returns : goal.returns
-returns g c =
+pub returns-clause-ends : goal.returns-clause-ends
+returns-clause-ends g c =
     let h = c.args.h.n in let w = c.args.word in let x = c.version-version.result in
-    let l = c.load_bytes.ensures in let n = c.settled.result in
+    let l = c.load_into.ensures.loads in let n = c.settled.result in
     let f = c.unpack-fields.ensures.fields in
     let tail = Settled h n ∷ [] in let stores = loads_are_stores l.events l.loads in record {
       events = Told h x ∷ (l.events ++ tail);
@@ -62,12 +63,14 @@ returns g c =
           let told = g.met.D.Desk.follows _ _ (Told h x ∷ []) s c.version-version.ensures k.0 in
           let slot = same_slot w c.claimed.result n c.unpack-fields.result.place k.1.free
           c.claimed.ensures (ap (λ (p : PtrWord). p.place) f) c.settled.ensures in record {
-            version_is = told.0.0 (held s h w v words k.1) ∙ k.1.version;
-            bytes = read_bytes s h w v words l.words _ c.unpack-fields.result f k.1 l.bytes
+            shown = bytes_are (told.0.0 (held s h w v words k.1) ∙ k.1.version)
+                (read_bytes s h w v words l.words _ c.unpack-fields.result f k.1
+                (sym (take_all _ c.load_into.new.room (omega (arith, c.load_into.ensures.sized)))
+                ∙ l.bytes)
                 (l.contents s (
                   told.1,
                   owned_at s h w v words c.unpack-fields.result f k.1,
-                ));
+                )));
             settled = hot_at_end s l.events h w n l.loads slot;
             nothing = hot_writes_none s l.events h w v x n words l.loads k.1 slot;
           };
@@ -76,10 +79,10 @@ returns g c =
 pub version-version-requires : goal.version-version-requires
 version-version-requires g c = c.requires.handle
 
-pub load_bytes-requires-clause-config : goal.load_bytes-requires-clause-config
-load_bytes-requires-clause-config g c = subst IsAccepted (sym (g.met.D.Desk.stays _ _ _ c.version-version.ensures)) c.requires.config
+pub load_into-requires-clause-config : goal.load_into-requires-clause-config
+load_into-requires-clause-config g c = subst IsAccepted (sym (g.met.D.Desk.stays _ _ _ c.version-version.ensures)) c.requires.config
 
 pub settle-requires-clause-handle : goal.settle-requires-clause-handle
 settle-requires-clause-handle g c =
     subst (λ (q : Config). c.args.h.n < q.handles)
-    (sym (g.met.D.Desk.stays _ _ _ c.load_bytes.ensures.ran ∙ g.met.D.Desk.stays _ _ _ c.version-version.ensures)) c.requires.handle
+    (sym (g.met.D.Desk.stays _ _ _ c.load_into.ensures.loads.ran ∙ g.met.D.Desk.stays _ _ _ c.version-version.ensures)) c.requires.handle

@@ -7,6 +7,7 @@ use Rattle.cb_ptr.specs.Word.{len_of, place_of}
 use Rattle.cb_world.specs.declared.event.Event.TheVariants.{Told, Stamped, Settled}
 use Rattle.cb_world.specs.declared.shown.Shown.{Shown}
 use Rattle.cb_world.specs.Write.{IsWrite}
+use Rattle.cb_mutate.specs.Wordwise.{IsWordwise}
 use Rattle.cb_world.specs.Shown.{IsHeld, object_at}
 use Rattle.cb_world.specs.Played.{after, played}
 use Rattle.cb_world.proofs.Tracing.{played_append}
@@ -184,6 +185,8 @@ returns-clause-ends g c =
               record {
                 new = now.new;
                 write = wrote;
+                wordwise = subst (λ (l : List ℕ).
+                    IsWordwise l c.args.at (length c.args.bytes.now) now.new) k.1.contents now.wordwise;
                 settled = settled_at_end s ow.events h w v x n now.new now.left same slot;
                 one = wrote_one s ow.events h w v x n c.args.at words c.args.bytes.now now.new ow.stores k.1
                     wrote now.left same slot;

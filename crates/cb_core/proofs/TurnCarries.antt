@@ -1,0 +1,361 @@
+-- What each part of a turn leaves over any desk, each job, and the turn.
+use Rattle.std.proofs.Common.{◌≡◌, ℕ, Bool, true, false, ◌+◌, ◌-◌, ◌^◌, ◌<◌, ◌≤◌, if◌then◌else◌, ◌==◌, nat_lt, List, [], ◌++◌, length, Option, None, Some, refl, sym, ap, subst, arith, inl, inr}
+use Rattle.cb_member.specs.declared.names.Loss.{Loss}
+use Rattle.cb_member.specs.declared.names.NodeId.{NodeId}
+use Rattle.cb_types.specs.declared.config.Config.{Config}
+use Rattle.cb_types.specs.Config.{IsAccepted}
+use Rattle.cb_types.specs.declared.handle.Handle.{Handle}
+use Rattle.cb_types.specs.declared.handle.SetId.{SetId}
+use Rattle.cb_types.specs.declared.job.Job.{Job}
+use Rattle.cb_types.specs.declared.job.Job.TheVariants.{Make, Read, Write, Free, Swap, Filter, Evict, Begin, Ship, Commit, Abort, Pair, Patch, Merge, Part, Compact, Rebuild, Crash, Join}
+use Rattle.cb_types.specs.Jobs.{job_index}
+use Rattle.cb_types.specs.declared.reply.Reply.{Reply}
+use Rattle.cb_types.specs.declared.reply.Reply.TheVariants as answer
+use Rattle.cb_ptr.specs.Word.{len_of}
+use Rattle.cb_world.specs.declared.entry.Entry.{Entry}
+use Rattle.cb_world.specs.declared.event.Event.{Event}
+use Rattle.cb_world.specs.declared.shown.Shown.{Shown}
+use Rattle.cb_world.specs.FarState.{FarState}
+use Rattle.cb_world.specs.Played.{played}
+use Rattle.cb_world.specs.Sound.{Sound}
+use Rattle.cb_world.specs.World.{AreCounted, IsConfigured}
+use Rattle.cb_world.specs.Written.{Writes}
+use Rattle.cb_world.proofs.Alike.{recounted_sound}
+use Rattle.cb_world.proofs.NodeJoin.{node_crash_sound, node_join_sound}
+use Rattle.cb_world.proofs.Staying.{StaysIf, stays_same}
+use Rattle.cb_mutate.specs.FreeRule.{FreeEffect}
+use Rattle.cb_mutate.specs.MakeRule.{MakeEffect}
+use Rattle.cb_mutate.specs.WriteRule.{WriteEffect}
+use Rattle.cb_mutate.proofs.Stays.{free_stays, make_stays}
+use Rattle.cb_mutate.proofs.Unwritten.{read_unwritten}
+use Rattle.cb_evict.specs.Eviction.{reply_of}
+use Rattle.cb_evict.proofs.Stays.{abort_stays, begin_stays, commit_stays, evict_stays, ship_stays}
+use Rattle.cb_evict.proofs.Unwritten.{abort_unwritten, begin_unwritten, commit_unwritten, evict_unwritten}
+use Rattle.cb_filter.proofs.Stays.{filter_stays}
+use Rattle.cb_filter.proofs.Unwritten.{filter_unwritten}
+use Rattle.cb_rebuild.specs.RebuildStep.{RebuildStep, surveyed}
+use Rattle.cb_rebuild.proofs.RebuildKeeps.{keeps_first, keeps_step}
+use Rattle.cb_rebuild.proofs.Stays.{failed_stays, rebuild_stays}
+use Rattle.cb_set.specs.SetState.{SetState}
+use Rattle.cb_swapin.specs.Fetching.{far_given}
+use Rattle.cb_swapin.specs.SwapRule.{SwapRule, swap_answer}
+use Rattle.cb_swapin.proofs.Stays.{given_stays, swap_stays}
+use Rattle.cb_swapin.proofs.SwapAnswers.{by_answer}
+use Rattle.cb_swapin.proofs.Unwritten.{swap_unwritten}
+use Rattle.cb_core.specs.Declining.{far_refusal}
+use Rattle.cb_core.specs.Jobs.{IsJob}
+use Rattle.cb_core.specs.Membership.{CrashTurn, crashed, is_down, JoinTurn, joined, is_up}
+use Rattle.cb_core.specs.Parts.{Holding, NeverDeclined, NeverLacks, at_once, no_room, won}
+use Rattle.cb_core.specs.Turned.{Swaps, SwapLacks, Brings, BringLacks, Evicts, WinsRoom, EvictLacks, Makes, MakeLacks, Reads, ReadLacks, Writes as WritesAt, Declines, Finds, Does, Stops, IsDeclined, once_counted, counted}
+use Rattle.cb_core.specs.TurnLeaves.{MakeWrites, WriteWrites, FreeWrites, TurnWrites}
+use Rattle.cb_core.proofs.Counting.{counted_sound}
+use Rattle.cb_core.proofs.NodesStay.{crash_stays, join_stays}
+use Rattle.cb_core.proofs.TurnComes.{AreLaws, Carries, CarriesLack, Comes, Good, IsNone, IsQuiet, Nil, comes_by, comes_far, comes_more, comes_none, then_none, good_then, with_room, room_stops, where_it_is, brings_in, call_stops}
+
+-- ---- what the calls write
+make_writes : (bytes : List ℕ) (far new : FarState) (r : Reply) (es : List Event) (s t : Shown)
+    → MakeEffect bytes far new r es s t → (more : List Entry) × MakeWrites bytes r more
+    × Writes es s more
+make_writes bytes far new (answer.Made h v) es s t x =
+    (_, (x.make.words, x.make.packed, refl), x.one)
+make_writes bytes far new r es s t x = ([], refl, x.nothing)
+
+write_writes : (h at : ℕ) (bytes : List ℕ) (r : Reply) (es : List Event) (s t : Shown)
+    → WriteEffect h at bytes r es s t → (more : List Entry) × WriteWrites h at bytes r more
+    × Writes es s more
+write_writes h at bytes (answer.Version n) es s t x =
+    (_, (len_of x.word, x.words, x.new, x.write, refl), x.one)
+write_writes h at bytes r es s t x = ([], refl, x.nothing)
+
+free_writes : (h : ℕ) (r : Reply) (es : List Event) (s t : Shown) → FreeEffect h r es s t
+    → (more : List Entry) × FreeWrites h r more × Writes es s more
+free_writes h (answer.Version n) es s t x = (_, (x.words, refl), x.one)
+free_writes h r es s t x = ([], refl, x.nothing)
+
+-- a write that is declined, and one whose object stays far, is answered no version
+refused_none : (h at : ℕ) (bytes : List ℕ) (len version count : ℕ) (r : Reply)
+    → Some r ≡ far_refusal len version at count → WriteWrites h at bytes r []
+refused_none h at bytes len version count r e =
+    by (nat_lt len (at + count)) (version == 2 ^ 64 - 1) e
+  where
+    same : (q p : Reply) → Some q ≡ Some p → q ≡ p
+    same q p f = cc
+
+    none_some : (q : Reply) → Some q ≡ None → ⊥
+    none_some q f = cc
+
+    by : (past last : Bool)
+        → Some r ≡ (if past then Some (answer.Range len) else if last then Some answer.Worn else None)
+        → WriteWrites h at bytes r []
+    by true last f = subst (λ (q : Reply). WriteWrites h at bytes q []) (sym (same r _ f)) refl
+    by false true f = subst (λ (q : Reply). WriteWrites h at bytes q []) (sym (same r _ f)) refl
+    by false false f = absurd (none_some r f)
+
+declined_none : (h at : ℕ) (bytes : List ℕ) (count : ℕ) (far : FarState) (r : Reply)
+    (es : List Event) → IsDeclined h at count far (Some r) es → WriteWrites h at bytes r []
+declined_none h at bytes count far r es (inl (gone, none, nothing)) = absurd (some_none none)
+  where
+    some_none : Some r ≡ None → ⊥
+    some_none e = cc
+declined_none h at bytes count far r es (inr (stays, (w, v, found, told, last, is))) =
+    refused_none h at bytes (len_of w) v count r is
+
+swap_none : (h at : ℕ) (bytes : List ℕ) (id p : ℕ) (far new : FarState) (r : Reply)
+    (es : List Event) → SwapRule id p far new r es → WriteWrites h at bytes r []
+swap_none h at bytes id p far new r es rule =
+    subst (λ (q : Reply). WriteWrites h at bytes q []) (sym rule.reply)
+    (by_answer (λ (q : Reply). WriteWrites h at bytes q []) far id rule.set (λ e. refl)
+    (λ e f. refl) (λ f e g. refl))
+
+nil_quiet : (r : Reply) → IsQuiet Nil r
+nil_quiet r = record { none = λ more e. e; some = refl }
+
+make_quiet : (bytes : List ℕ) → IsQuiet (MakeWrites bytes) answer.NoFrame
+make_quiet bytes = record { none = λ more e. e; some = refl }
+
+write_quiet : (h at : ℕ) (bytes : List ℕ) → IsQuiet (WriteWrites h at bytes) answer.NotHere
+write_quiet h at bytes = record { none = λ more e. e; some = refl }
+
+module _ {D : Type 0} (run : D → List Event → D → Type 0) (shows : D → Shown → Type 0)
+    (laws : AreLaws run shows) (c : Config) (accepted : IsAccepted c) where
+  abbrev Hold : Type 0
+  Hold = Holding D
+
+  abbrev Leads : {A : Type 0} → ℕ → (A → List Entry → Type 0) → (Hold → A → Hold → Type 0) → Type 0
+  Leads n W P = Carries run shows laws c n W P
+
+  abbrev Lacks : ℕ → (Hold → Hold → Type 0) → Type 0
+  Lacks n L = CarriesLack run shows laws c n L
+
+  -- ---- the parts
+  makes : (bytes : List ℕ) → Leads 1 (MakeWrites bytes) (Makes run shows c bytes)
+  makes bytes a b r good p = comes_by run shows laws c (MakeWrites bytes r) 1 a b _ _ good
+      (λ s sound. make_stays c c.handles bytes a.far b.far r p.events p.rule) p
+      (λ s e. make_writes bytes a.far b.far r p.events s (played p.events s) e)
+
+  make_lacks : (bytes : List ℕ) → Lacks 1 (MakeLacks run c bytes)
+  make_lacks bytes a b good p = comes_far run shows laws c 1 a b good p.0
+      (λ s sound. (stays_same c 1 a.far b.far (omega arith) p.1, subst (Sound s) (sym p.1) sound))
+
+  reads : (h : ℕ) → Leads 1 Nil (Reads run shows h)
+  reads h a b r good p = comes_none run shows laws c 1 a b _ _ good
+      (λ s sound. stays_same c 1 a.far b.far (omega arith) p.rule.0) p
+      (λ s e. read_unwritten h r p.events s (played p.events s) e)
+
+  read_lacks : (h : ℕ) → Lacks 1 (ReadLacks run shows h)
+  read_lacks h a b good (same, p) = comes_none run shows laws c 1 a b _ _ good
+      (λ s sound. stays_same c 1 a.far b.far (omega arith) same) p (λ s e. e.nothing)
+
+  writes : (h at : ℕ) (bytes : List ℕ) → Leads 1 (WriteWrites h at bytes) (WritesAt run shows h at bytes)
+  writes h at bytes a b r good p = comes_by run shows laws c (WriteWrites h at bytes r) 1 a b _ _ good
+      (λ s sound. stays_same c 1 a.far b.far (omega arith) p.rule.0) p
+      (λ s e. write_writes h at bytes r p.events s (played p.events s) e)
+
+  finds : (h : ℕ) → Leads 1 Nil (Finds run shows h)
+  finds h a b r good p = comes_none run shows laws c 1 a b _ _ good
+      (λ s sound. stays_same c 1 a.far b.far (omega arith) p.rule.0) p (λ s e. e.nothing)
+
+  declines : (h at count : ℕ) → Leads 1 Nil (Declines run shows h at count)
+  declines h at count a b r good (same, p) = comes_none run shows laws c 1 a b _ _ good
+      (λ s sound. stays_same c 1 a.far b.far (omega arith) same) p (λ s e. e.nothing)
+
+  never : Leads 1 Nil NeverDeclined
+  never a b r good (nothing, same) =
+      subst (λ (d : Hold). Comes run shows c 1 IsNone a d) (sym same)
+      (comes_far run shows laws c 1 a a good (laws.none a.desk)
+      (λ s sound. (stays_same c 1 a.far a.far (omega arith) refl, sound)))
+
+  evicts : Leads 24 Nil (Evicts run shows c)
+  evicts a b r good p = comes_none run shows laws c 24 a b _ _ good
+      (λ s sound. evict_stays c a.far b.far r p.events accepted p.rule) p
+      (λ s e. evict_unwritten c a.far b.far r p.events s (played p.events s) p.rule e)
+
+  wins : Leads 24 Nil (WinsRoom run shows c)
+  wins a b e good p = comes_none run shows laws c 24 a b _ _ good
+      (λ s sound. evict_stays c a.far b.far (reply_of e) p.events accepted p.rule.rule) p
+      (λ s x. evict_unwritten c a.far b.far (reply_of e) p.events s (played p.events s) p.rule.rule x)
+
+  evict_lacks : Lacks 24 (EvictLacks run shows)
+  evict_lacks a b good (same, p) = comes_none run shows laws c 24 a b _ _ good
+      (λ s sound. stays_same c 24 a.far b.far (omega arith) same) p (λ s e. e.nothing)
+
+  swaps : (h : ℕ) → Leads 16 Nil (Swaps run shows h)
+  swaps h a b r good (home, at, p) = comes_none run shows laws c 16 a b _ _ good
+      (λ s sound. swap_stays c home.set home.position s a.far b.far r p.events sound p.rule) p
+      (λ s e. swap_unwritten home.set home.position a.far b.far r p.events s (played p.events s) p.rule e)
+
+  swap_lacks : (h : ℕ) → Lacks 16 (SwapLacks run h)
+  swap_lacks h a b good (ran, (home, set, n, at, there, few, state)) =
+      comes_far run shows laws c 16 a b good ran (λ s sound. (
+        subst (StaysIf c 16 a.far) (sym state) (given_stays c s a.far home.set n set sound there few),
+        subst (Sound s) (sym state) (recounted_sound s a.far a.far.counts.turns a.far.counts.by_job
+            (a.far.nodes.given + n) sound),
+      ))
+
+  brings : (h : ℕ) → Leads 56 Nil (Brings run shows c h)
+  brings h = with_room run shows laws c Nil (nil_quiet answer.NoFrame) c.frames (λ loose nodes. refl)
+      16 24 56 (Swaps run shows h) (WinsRoom run shows c) (omega arith) (swaps h) wins
+
+  bring_lacks : (h : ℕ) → Lacks 56 (BringLacks run shows c h)
+  bring_lacks h = room_stops run shows laws c Nil (nil_quiet answer.NoFrame) 16 24 56
+      (Swaps run shows h) (WinsRoom run shows c) (SwapLacks run h) (EvictLacks run shows) (omega arith)
+      (swaps h) (swap_lacks h) wins evict_lacks
+
+  -- a write whose object can't be brought in is answered no version
+  brings_no_version : (h at : ℕ) (bytes : List ℕ) (k : ℕ) (x y : Hold) (r : Reply)
+      → Brings run shows c k x r y → WriteWrites h at bytes r []
+  brings_no_version h at bytes k x y r (at_once (home, there, p) off) =
+      swap_none h at bytes home.set home.position x.far y.far r p.events p.rule
+  brings_no_version h at bytes k x y r (no_room m why loose nodes o v is) =
+      subst (λ (q : Reply). WriteWrites h at bytes q []) (sym is) refl
+  brings_no_version h at bytes k x y r (won m n id o v (home, there, p) off) =
+      swap_none h at bytes home.set home.position n.far y.far r p.events p.rule
+
+  never_lacks : Lacks 1 NeverLacks
+  never_lacks a b good x = absurd x
+
+  -- ---- the nodes
+  member : (a : Hold) (s : Shown) (node : NodeId) → IsConfigured c a.far → Sound s a.far
+      → node.n < c.nodes → node.n < length a.far.members.nodes
+  member a s node is sound below =
+      let rows = sound.away.sound.rows.counted in let nodes = is.nodes in
+      omega (arith, below, rows, nodes)
+
+  crash_sound : (node : NodeId) (a b : Hold) (r : Reply) (s : Shown) → IsConfigured c a.far
+      → node.n < c.nodes → CrashTurn node a.far r b.far → Sound s a.far → Sound s b.far
+  crash_sound node a b r s is below (crashed up reply same) sound =
+      subst (Sound s) (sym same) (node_crash_sound s a.far node sound (member a s node is sound below) up)
+  crash_sound node a b r s is below (is_down down reply same) sound = subst (Sound s) (sym same) sound
+
+  join_sound : (node : NodeId) (a b : Hold) (r : Reply) (s : Shown) → IsConfigured c a.far
+      → node.n < c.nodes → JoinTurn node a.far r b.far → Sound s a.far → Sound s b.far
+  join_sound node a b r s is below (joined down reply same) sound =
+      subst (Sound s) (sym same) (node_join_sound s a.far node sound (member a s node is sound below) down)
+  join_sound node a b r s is below (is_up up reply same) sound = subst (Sound s) (sym same) sound
+
+  -- ---- the jobs
+  -- a part whose numbers rise by no more than those of a job may
+  in_job : (W : List Entry → Type 0) (n : ℕ) (a b : Hold) → n ≤ 64 → Comes run shows c n W a b
+      → Comes run shows c 64 W a b
+  in_job W n a b most z = comes_more run shows laws c W n 64 a b most z
+
+  pub does_comes : (job : Job) (a b : Hold) (r : Reply) → IsJob c job → Good shows c a
+      → Does run shows c job a r b → Comes run shows c 64 (TurnWrites job r) a b
+  does_comes (Make bytes) a b r ok good x =
+      with_room run shows laws c (MakeWrites bytes) (make_quiet bytes) c.frames
+      (λ loose nodes. refl) 1 24 64 (Makes run shows c bytes) (WinsRoom run shows c) (omega arith)
+      (makes bytes) wins a b r good x
+  does_comes (Read handle) a b r ok good x = let h = handle.n in
+      where_it_is run shows laws c Nil (nil_quiet answer.NotHere) 1 1 56 64 (Reads run shows h)
+      (Brings run shows c h) NeverDeclined (λ m n q e. refl) (λ m n q e. refl) (omega arith) (reads h)
+      never (brings h) a b r good x
+  does_comes (Write handle at bytes) a b r ok good x =
+      let h = handle.n in let count = length bytes in
+      where_it_is run shows laws c (WriteWrites h at bytes) (write_quiet h at bytes) 1 1 56 64
+      (WritesAt run shows h at bytes) (Brings run shows c h) (Declines run shows h at count)
+      (λ m n q (same, p). declined_none h at bytes count m.far q p.events p.rule)
+      (λ m n q e. brings_no_version h at bytes h m n q e) (omega arith) (writes h at bytes)
+      (declines h at count) (brings h) a b r good x
+  does_comes (Free handle) a b r ok good p = let h = handle.n in
+      in_job (FreeWrites h r) 1 a b (omega arith) (comes_by run shows laws c (FreeWrites h r) 1 a b _ _ good
+      (λ s sound. free_stays c h a.far b.far r p.events p.rule) p
+      (λ s e. free_writes h r p.events s (played p.events s) e))
+  does_comes (Swap handle) a b r ok good x = let h = handle.n in
+      brings_in run shows laws c 1 56 64 (Finds run shows h) (Brings run shows c h) (omega arith)
+      (finds h) (brings h) a b r good x
+  does_comes (Filter handle) a b r ok good p = let h = handle.n in
+      in_job IsNone 1 a b (omega arith) (comes_none run shows laws c 1 a b _ _ good
+      (λ s sound. filter_stays c c.frames h a.far b.far r p.events p.rule) p
+      (λ s e. filter_unwritten h a.far b.far r p.events s (played p.events s) e))
+  does_comes Evict a b r ok good x = in_job IsNone 24 a b (omega arith) (evicts a b r good x)
+  does_comes Begin a b r ok good p =
+      in_job IsNone 1 a b (omega arith) (comes_none run shows laws c 1 a b _ _ good
+      (λ s sound. begin_stays c a.far b.far r p.events p.rule) p
+      (λ s e. begin_unwritten c a.far b.far r p.events s (played p.events s) p.rule e))
+  does_comes Ship a b r ok good p =
+      in_job IsNone 1 a b (omega arith) (comes_none run shows laws c 1 a b _ _ good
+      (λ s sound. ship_stays c a.far b.far r p.events p.rule) p (λ s e. e.still.nothing))
+  does_comes Commit a b r ok good p =
+      in_job IsNone 1 a b (omega arith) (comes_none run shows laws c 1 a b _ _ good
+      (λ s sound. commit_stays c s a.far b.far r p.events sound p.rule) p
+      (λ s e. commit_unwritten a.far b.far r p.events s (played p.events s) p.rule e))
+  does_comes Abort a b r ok good p =
+      in_job IsNone 1 a b (omega arith) (comes_none run shows laws c 1 a b _ _ good
+      (λ s sound. abort_stays c a.far b.far r p.events p.rule) p
+      (λ s e. abort_unwritten a.far b.far r p.events s (played p.events s) p.rule e))
+  does_comes Rebuild a b r ok good (ran, step) =
+      in_job IsNone 16 a b (omega arith) (comes_far run shows laws c 16 a b good ran
+      (λ s sound. (
+        rebuild_stays c s a.far b.far r sound step,
+        (keeps_step s a.far b.far r sound step).sound,
+      )))
+  does_comes (Crash node) a b r ok good (ran, turn) =
+      in_job IsNone 1 a b (omega arith) (comes_far run shows laws c 1 a b good ran
+      (λ s sound. (
+        crash_stays c node a.far b.far r turn,
+        crash_sound node a b r s good.configured ok turn sound,
+      )))
+  does_comes (Join node) a b r ok good (ran, turn) =
+      in_job IsNone 1 a b (omega arith) (comes_far run shows laws c 1 a b good ran
+      (λ s sound. (
+        join_stays c node a.far b.far r turn,
+        join_sound node a b r s good.configured ok turn sound,
+      )))
+  does_comes Pair a b r ok good x = absurd ok
+  does_comes Patch a b r ok good x = absurd ok
+  does_comes Merge a b r ok good x = absurd ok
+  does_comes Part a b r ok good x = absurd ok
+  does_comes Compact a b r ok good x = absurd ok
+
+  -- ---- want of memory
+  pub stops_comes : (job : Job) (a b : Hold) → Good shows c a → Stops run shows c job a b
+      → Comes run shows c 64 IsNone a b
+  stops_comes (Make bytes) a b good x =
+      room_stops run shows laws c (MakeWrites bytes) (make_quiet bytes) 1 24 64
+      (Makes run shows c bytes) (WinsRoom run shows c) (MakeLacks run c bytes) (EvictLacks run shows)
+      (omega arith) (makes bytes) (make_lacks bytes) wins evict_lacks a b good x
+  stops_comes (Read handle) a b good x = let h = handle.n in
+      call_stops run shows laws c Nil (nil_quiet answer.NotHere) 1 1 56 64 (Reads run shows h)
+      (Brings run shows c h) NeverDeclined (ReadLacks run shows h) (BringLacks run shows c h)
+      (omega arith) (reads h) (read_lacks h) never (brings h) (bring_lacks h) a b good x
+  stops_comes (Write handle at bytes) a b good x =
+      let h = handle.n in let count = length bytes in
+      call_stops run shows laws c (WriteWrites h at bytes) (write_quiet h at bytes) 1 1 56 64
+      (WritesAt run shows h at bytes) (Brings run shows c h) (Declines run shows h at count) NeverLacks
+      (BringLacks run shows c h) (omega arith) (writes h at bytes) never_lacks (declines h at count)
+      (brings h) (bring_lacks h) a b good x
+  stops_comes (Swap handle) a b good (m, find, lacks) =
+      let h = handle.n in let z = finds h a m answer.NotHere good find in
+      then_none run shows laws c 1 56 64 a m b (omega arith) z
+      (bring_lacks h m b (good_then run shows laws c 1 IsNone a m good z) lacks)
+  stops_comes (Filter handle) a b good p =
+      in_job IsNone 1 a b (omega arith) (comes_none run shows laws c 1 a b _ _ good
+      (λ s sound. stays_same c 1 a.far b.far (omega arith) p.rule.state) p (λ s e. e.nothing))
+  stops_comes Evict a b good x = in_job IsNone 24 a b (omega arith) (evict_lacks a b good x)
+  stops_comes Begin a b good x = in_job IsNone 24 a b (omega arith) (evict_lacks a b good x)
+  stops_comes Ship a b good (same, p) =
+      in_job IsNone 1 a b (omega arith) (comes_none run shows laws c 1 a b _ _ good
+      (λ s sound. stays_same c 1 a.far b.far (omega arith) same) p (λ s e. e.nothing))
+  stops_comes Rebuild a b good (ran, (id, set, n, first, few, state)) =
+      in_job IsNone 16 a b (omega arith) (comes_far run shows laws c 16 a b good ran
+      (λ s sound. (
+        failed_stays c s a.far b.far id n set sound first.there few state,
+        subst (Sound s) (sym state) (given_sound s (surveyed a.far id) n
+            (keeps_first s a.far id set sound first).sound),
+      )))
+    where
+      given_sound : (s : Shown) (far : FarState) (n : ℕ) → Sound s far → Sound s (far_given far n)
+      given_sound s far n sound =
+          recounted_sound s far far.counts.turns far.counts.by_job (far.nodes.given + n) sound
+  stops_comes (Crash node) a b good (ran, same, up) =
+      in_job IsNone 1 a b (omega arith) (comes_far run shows laws c 1 a b good ran
+      (λ s sound. (stays_same c 1 a.far b.far (omega arith) same, subst (Sound s) (sym same) sound)))
+  stops_comes (Free handle) a b good x = absurd x
+  stops_comes Commit a b good x = absurd x
+  stops_comes Abort a b good x = absurd x
+  stops_comes Pair a b good x = absurd x
+  stops_comes Patch a b good x = absurd x
+  stops_comes Merge a b good x = absurd x
+  stops_comes Part a b good x = absurd x
+  stops_comes Compact a b good x = absurd x
+  stops_comes (Join node) a b good x = absurd x

@@ -1,0 +1,131 @@
+-- A turn over any desk leaves what its contract says, and a turn at a desk of one kind is one at a desk
+-- of another kind.
+use Rattle.std.proofs.Common.{◌≡◌, ℕ, ◌+◌, ◌^◌, ◌<◌, ◌≤◌, List, [], refl, sym, subst, arith, inl, inr}
+use Rattle.std.specs.Prelude.{Result, Ok, Err, IfOk, OnErr}
+use Rattle.cb_member.specs.declared.no_memory.NoMemory.{NoMemory}
+use Rattle.cb_types.specs.declared.config.Config.{Config}
+use Rattle.cb_types.specs.Config.{IsAccepted}
+use Rattle.cb_types.specs.declared.job.Job.{Job}
+use Rattle.cb_types.specs.Jobs.{job_index}
+use Rattle.cb_types.specs.declared.job.Job.TheVariants.{Make, Read, Write, Free, Swap, Filter, Evict, Begin, Ship, Commit, Abort, Pair, Patch, Merge, Part, Compact, Rebuild, Crash, Join}
+use Rattle.cb_types.specs.declared.reply.Reply.{Reply}
+use Rattle.cb_types.specs.declared.reply.Reply.TheVariants as answer
+use Rattle.cb_world.specs.declared.entry.Entry.{Entry}
+use Rattle.cb_world.specs.declared.event.Event.{Event}
+use Rattle.cb_world.specs.declared.shown.Shown.{Shown}
+use Rattle.cb_world.specs.FarState.{FarState}
+use Rattle.cb_world.specs.Played.{played}
+use Rattle.cb_world.specs.Sound.{Sound}
+use Rattle.cb_world.specs.World.{AreCounted, IsConfigured}
+use Rattle.cb_world.proofs.Staying.{recounted, rises_more}
+use Rattle.cb_core.specs.Jobs.{IsJob}
+use Rattle.cb_core.specs.Parts.{Holding}
+use Rattle.cb_core.specs.Turned.{Turned, Stopped, counted, once_counted, worn, done}
+use Rattle.cb_core.specs.TurnLeaves.{OutcomeWrites, TurnLeaves, TurnWrites}
+use Rattle.cb_core.proofs.Counting.{counted_sound}
+use Rattle.cb_core.proofs.KeptParts.{counted_rises}
+use Rattle.cb_core.proofs.TurnCarries.{does_comes, stops_comes}
+use Rattle.cb_core.proofs.TurnComes.{AreLaws, Comes, Good, IsNone}
+
+job_below : (job : Job) → job_index job < 19
+job_below (Make bytes) = omega arith
+job_below (Read handle) = omega arith
+job_below (Write handle at bytes) = omega arith
+job_below (Free handle) = omega arith
+job_below (Swap handle) = omega arith
+job_below (Filter handle) = omega arith
+job_below Evict = omega arith
+job_below Begin = omega arith
+job_below Ship = omega arith
+job_below Commit = omega arith
+job_below Abort = omega arith
+job_below Pair = omega arith
+job_below Patch = omega arith
+job_below Merge = omega arith
+job_below Part = omega arith
+job_below Compact = omega arith
+job_below Rebuild = omega arith
+job_below (Crash node) = omega arith
+job_below (Join node) = omega arith
+
+-- a turn that is refused writes nothing
+worn_none : (job : Job) → TurnWrites job answer.Worn []
+worn_none (Make bytes) = refl
+worn_none (Read handle) = refl
+worn_none (Write handle at bytes) = refl
+worn_none (Free handle) = refl
+worn_none (Swap handle) = refl
+worn_none (Filter handle) = refl
+worn_none Evict = refl
+worn_none Begin = refl
+worn_none Ship = refl
+worn_none Commit = refl
+worn_none Abort = refl
+worn_none Pair = refl
+worn_none Patch = refl
+worn_none Merge = refl
+worn_none Part = refl
+worn_none Compact = refl
+worn_none Rebuild = refl
+worn_none (Crash node) = refl
+worn_none (Join node) = refl
+
+module _ {D : Type 0} (run : D → List Event → D → Type 0) (shows : D → Shown → Type 0)
+    (laws : AreLaws run shows) (c : Config) (accepted : IsAccepted c) where
+  abbrev Hold : Type 0
+  Hold = Holding D
+
+  counted_good : (job : Job) (a : Hold) → Good shows c a → Good shows c (once_counted a job)
+  counted_good job a good = let k = good.shown in record {
+    configured = recounted c a.far (counted a.far job).counts good.configured;
+    shown = (k.0, k.1, counted_sound k.0 a.far (counted a.far job) job refl k.2);
+  }
+
+  -- a counted turn
+  counted_leaves : (W : List Entry → Type 0) (job : Job) (a b : Hold) → AreCounted a.far
+      → a.far.counts.turns < 2 ^ 40 → Comes run shows c 64 W (once_counted a job) b
+      → TurnLeaves run shows c a b W
+  counted_leaves W job a b counts few z = record {
+    events = z.events;
+    ran = z.ran;
+    configured = z.configured;
+    counted = counted_rises a.far (counted a.far job) b.far (job_index job) counts few (job_below job)
+        refl (rises_more 64 (2 ^ 20) (counted a.far job) b.far (omega arith) z.rises);
+    next = inl (few, z.rises.turns);
+    after = λ s shown sound. z.after s shown (counted_sound s a.far (counted a.far job) job refl sound);
+  }
+
+  pub turn_leaves : (job : Job) (a b : Hold) (r : Reply) → IsJob c job → Good shows c a
+      → AreCounted a.far → Turned run shows c job a r b → TurnLeaves run shows c a b (TurnWrites job r)
+  turn_leaves job a b r ok good counts (worn end reply same ran) = record {
+    events = [];
+    ran = ran;
+    configured = subst (IsConfigured c) (sym same) good.configured;
+    counted = subst AreCounted (sym same) counts;
+    next = inr (end, same);
+    after = λ s shown sound. record {
+      sound = subst (Sound s) (sym same) sound;
+      more = [];
+      wrote = subst (λ (q : Reply). TurnWrites job q []) (sym reply) (worn_none job);
+      writes_them = λ old. refl;
+    };
+  }
+  turn_leaves job a b r ok good counts (done few x) =
+      counted_leaves (TurnWrites job r) job a b counts few
+      (does_comes run shows laws c accepted job (once_counted a job) b r ok (counted_good job a good) x)
+
+  pub stop_leaves : (job : Job) (a b : Hold) → Good shows c a → AreCounted a.far
+      → Stopped run shows c job a b → TurnLeaves run shows c a b IsNone
+  stop_leaves job a b good counts x =
+      counted_leaves IsNone job a b counts x.few
+      (stops_comes run shows laws c accepted job (once_counted a job) b (counted_good job a good) x.stops)
+
+  -- whatever its outcome
+  pub outcome_leaves : (job : Job) (a b : Hold) (result : Result Reply NoMemory) → IsJob c job
+      → Good shows c a → AreCounted a.far → IfOk result (λ r. Turned run shows c job a r b)
+      → OnErr result (Stopped run shows c job a b)
+      → TurnLeaves run shows c a b (OutcomeWrites job result)
+  outcome_leaves job a b (Ok r) ok good counts turned stopped =
+      turn_leaves job a b r ok good counts turned
+  outcome_leaves job a b (Err e) ok good counts turned stopped =
+      stop_leaves job a b good counts stopped

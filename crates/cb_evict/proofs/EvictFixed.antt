@@ -1,0 +1,145 @@
+-- An eviction is fixed: one reply, one set of words and one far state.
+use Rattle.std.proofs.Common.{◌≡◌, ℕ, zero, suc, ◌+◌, ◌<◌, ◌≤◌, List, [], ◌∷◌, ◌++◌, length, get_or, take, Option, None, Some, refl, sym, ap, ◌∙◌, subst, arith, inl, inr}
+use Rattle.std.specs.List.{slice_get}
+use Rattle.std.proofs.lemmas.List.{ext_get_or, get_or_default, length-take-le, take_all, take_more}
+use Rattle.std.proofs.lemmas.Option.{slice_get-get_or}
+use Rattle.cb_gf256.specs.InRange.{IsInRange}
+use Rattle.cb_gf256.specs.Rows.{row_at}
+use Rattle.cb_member.specs.declared.names.Shard.{Shard}
+use Rattle.cb_member.specs.Membership.{incarnation}
+use Rattle.cb_types.specs.declared.reply.Reply.{Reply}
+use Rattle.cb_types.specs.Config.{IsAccepted}
+use Rattle.cb_world.specs.declared.homes.Home.{Home}
+use Rattle.cb_world.specs.Choices.{IsLeastNode}
+use Rattle.cb_world.specs.FarState.{FarState}
+use Rattle.cb_world.specs.Plain.{Words}
+use Rattle.cb_world.proofs.Fixed.{IsOneEnd, least_node_fixed, refused_alike}
+use Rattle.cb_world.proofs.Merging.{same_data}
+use Rattle.cb_evict.specs.BeginRule.{blank_shard}
+use Rattle.cb_evict.specs.Closing.{HaveHomes, with_homes}
+use Rattle.cb_evict.specs.EvictStep.{AreFrameRows, AreSentOff, IsEvictedTo, IsEvictStep, IsSetMade, loose_frames, few_spans, few_nodes, made}
+use Rattle.cb_evict.specs.Storing.{AreShards, with_set}
+use Rattle.cb_evict.proofs.AfterEvict.{in_or_not}
+use Rattle.cb_evict.proofs.Ending.{code_range}
+
+-- ---- the shards of a set
+shard_same : (far : FarState) (n : ℕ) (a b : List Shard) → AreShards far n a → AreShards far n b
+    → (p : ℕ) → p < n → take p a ≡ take p b → get_or a p blank_shard ≡ get_or b p blank_shard
+shard_same far n a b x y p within same =
+    let s = get_or a p blank_shard in let t = get_or b p blank_shard in
+    let u = x.each p s (slice_get-get_or a p blank_shard (let m = x.count in omega (arith, within, m))) in
+    let v = y.each p t (slice_get-get_or b p blank_shard (let m = y.count in omega (arith, within, m))) in
+    let nodes : s.node ≡ t.node = least_node_fixed far.nodes far.members (take p b) s.node t.node
+    (subst (λ (l : List Shard). IsLeastNode far.nodes far.members l s.node) same u.node) v.node in
+    let incarnations : s.incarnation ≡ t.incarnation = u.incarnation
+    ∙ ap (incarnation far.members) nodes ∙ sym v.incarnation in
+    let keys : s.key ≡ t.key = u.key ∙ sym v.key in
+    λ i. record { node = nodes i; incarnation = incarnations i; key = keys i }
+
+first_shards : (far : FarState) (n : ℕ) (a b : List Shard) → AreShards far n a → AreShards far n b
+    → (p : ℕ) → p ≤ n → take p a ≡ take p b
+first_shards far n a b x y zero within = refl
+first_shards far n a b x y (suc p) within =
+    let before = first_shards far n a b x y p (omega (arith, within)) in
+    let next = shard_same far n a b x y p (omega (arith, within)) before in
+    let more : suc p ≡ p + 1 = omega arith in
+    ap (λ (i : ℕ). take i a) more
+    ∙ take_more a p blank_shard (let m = x.count in omega (arith, within, m))
+    ∙ (λ i. before i ++ next i ∷ [])
+    ∙ sym (take_more b p blank_shard (let m = y.count in omega (arith, within, m)))
+    ∙ ap (λ (i : ℕ). take i b) (sym more)
+
+pub shards_fixed : (far : FarState) (n : ℕ) (a b : List Shard) → AreShards far n a
+    → AreShards far n b → a ≡ b
+shards_fixed far n a b x y =
+    sym (take_all n a (let m = x.count in omega (arith, m)))
+    ∙ first_shards far n a b x y n (omega arith)
+    ∙ take_all n b (let m = y.count in omega (arith, m))
+
+-- ---- the homes of objects that left
+pub homes_fixed : (far : FarState) (frames : List ℕ) (set : ℕ) (a b : List (Option Home))
+    → HaveHomes far.spans frames set far.homes a → HaveHomes far.spans frames set far.homes b → a ≡ b
+homes_fixed far frames set a b x y =
+    ext_get_or None a b (x.count ∙ sym y.count) (λ h within. elim (in_or_not far.spans frames h) [
+      | inl (f, (p, below, at), (slot, named)) ↦
+          let place : slice_get frames p ≡ Some f = slice_get-get_or frames p 0 below
+          ∙ ap (λ (n : ℕ). Some n) (get_or_default frames p 0 f below ∙ at) in
+          x.here p f slot h place named ∙ sym (y.here p f slot h place named)
+      | inr out ↦ x.others h (λ f c named. out (f, c, named))
+          ∙ sym (y.others h (λ f c named. out (f, c, named)))
+    ])
+
+-- ---- the words of objects that left
+sent_fixed : (x y z : Words) (far : FarState) (frames : List ℕ) → AreSentOff x y far frames
+    → AreSentOff x z far frames → y ≡ z
+sent_fixed x y z far frames a b =
+    let words : y.words ≡ z.words =
+    ext_get_or 0 y.words z.words (a.count ∙ sym b.count) (λ h within.
+    elim (in_or_not far.spans frames h) [
+      | inl in_span ↦ (a.sent h in_span).number ∙ sym (b.sent h in_span).number
+      | inr out ↦ a.others h out ∙ sym (b.others h out)
+    ]) in
+    λ i. record {
+      settings = (a.settings ∙ sym b.settings) i;
+      words = words i;
+      versions = (a.versions ∙ sym b.versions) i;
+      memory = (a.memory ∙ sym b.memory) i;
+    }
+
+-- ---- a set that was made
+module _ (x y z : Words) (far new other : FarState) (frames : List ℕ)
+    (range : IsInRange x.settings.k x.settings.r) (count : length frames ≡ x.settings.k) where
+  data_same : (a b : List (List ℕ)) → AreFrameRows x frames a → AreFrameRows x frames b → (i : ℕ)
+      → i < x.settings.k → row_at a i ≡ row_at b i
+  data_same a b c d i within =
+      let f = get_or frames i 0 in
+      let at : slice_get frames i ≡ Some f = slice_get-get_or frames i 0 (omega (arith, within, count)) in
+      c i f at ∙ sym (d i f at)
+
+  pub evicted_fixed : IsEvictedTo x y far new frames → IsEvictedTo x z far other frames
+      → (y ≡ z) × (new ≡ other)
+  evicted_fixed a b =
+      let shards = shards_fixed far (x.settings.k + x.settings.r) a.shards b.shards a.chosen b.chosen in
+      let rows = same_data x.settings.k x.settings.r a.rows b.rows range a.word.is_word a.word.bytes
+      b.word.is_word b.word.bytes (data_same a.rows b.rows a.of_frames b.of_frames) in
+      let homes = homes_fixed far frames far.counts.sets new.homes other.homes a.homes b.homes in (
+        sent_fixed x y z far frames a.sent b.sent,
+        a.state
+            ∙ (λ i. with_homes (with_set far (shards i) frames (rows i)) frames (homes i))
+            ∙ sym b.state,
+      )
+
+-- k of enough spans
+pub first_loose : (x : Words) (far : FarState) → x.settings.k ≤ length (loose_frames x far)
+    → length (take x.settings.k (loose_frames x far)) ≡ x.settings.k
+first_loose x far enough = length-take-le x.settings.k (loose_frames x far) enough
+
+set_fixed : (x y z : Words) (far new other : FarState) (r q : Reply)
+    → IsInRange x.settings.k x.settings.r → IsSetMade x y far new r → IsSetMade x z far other q
+    → IsOneEnd r q y z new other
+set_fixed x y z far new other r q range a b =
+    let ends = evicted_fixed x y z far new other (take x.settings.k (loose_frames x far)) range
+    (first_loose x far a.enough) a.evicted b.evicted in
+    record { reply = a.reply ∙ sym b.reply; words = ends.0; far = ends.1 }
+
+pub evict_step_fixes : (x y z : Words) (far new other : FarState) (r q : Reply)
+    → IsAccepted x.settings → IsEvictStep x y far new r → IsEvictStep x z far other q
+    → IsOneEnd r q y z new other
+evict_step_fixes x y z far new other r q ok (few_spans a e) (few_spans b f) =
+    refused_alike r q _ x y z far new other a.reply b.reply e f a.state b.state
+evict_step_fixes x y z far new other r q ok (few_spans a e) (few_nodes b f) =
+    absurd (let l = a.few in let m = b.enough in omega (arith, l, m))
+evict_step_fixes x y z far new other r q ok (few_spans a e) (made b) =
+    absurd (let l = a.few in let m = b.enough in omega (arith, l, m))
+evict_step_fixes x y z far new other r q ok (few_nodes a e) (few_spans b f) =
+    absurd (let l = b.few in let m = a.enough in omega (arith, l, m))
+evict_step_fixes x y z far new other r q ok (few_nodes a e) (few_nodes b f) =
+    refused_alike r q _ x y z far new other a.reply b.reply e f a.state b.state
+evict_step_fixes x y z far new other r q ok (few_nodes a e) (made b) =
+    absurd (let l = a.few in let m = b.room in omega (arith, l, m))
+evict_step_fixes x y z far new other r q ok (made a) (few_spans b f) =
+    absurd (let l = b.few in let m = a.enough in omega (arith, l, m))
+evict_step_fixes x y z far new other r q ok (made a) (few_nodes b f) =
+    absurd (let l = b.few in let m = a.room in omega (arith, l, m))
+evict_step_fixes x y z far new other r q ok (made a) (made b) =
+    set_fixed x y z far new other r q (code_range x.settings ok) a b

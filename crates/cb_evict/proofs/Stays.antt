@@ -1,0 +1,276 @@
+-- What an eviction and the steps of a batch leave of the configured sizes and codes, and of what is
+-- counted.
+use Rattle.std.proofs.Common.{◌≡◌, ℕ, ◌+◌, ◌≤◌, true, false, List, [], ◌∷◌, length, Some, None, inl, inr, refl, sym, ap, ◌∙◌, subst, arith, length-set, take}
+use Rattle.std.proofs.lemmas.List.{length-map, length-take-le}
+use Rattle.cb_member.specs.declared.names.Shard.{Shard}
+use Rattle.cb_node.specs.NodesState.{NodesState, with_dropped, with_row}
+use Rattle.cb_types.specs.declared.config.Config.{Config}
+use Rattle.cb_types.specs.declared.config.Field.TheVariants.{K, R}
+use Rattle.cb_types.specs.Config.{IsAccepted}
+use Rattle.cb_types.specs.declared.reply.Reply.{Reply}
+use Rattle.cb_world.specs.Codes.{HaveCodes, IsCode}
+use Rattle.cb_world.specs.declared.event.Event.{Event}
+use Rattle.cb_world.specs.declared.leaving.Former.{Former}
+use Rattle.cb_world.specs.declared.shown.Shown.{Shown}
+use Rattle.cb_world.specs.FarState.{FarState}
+use Rattle.cb_world.specs.Leaving.{LeavingState}
+use Rattle.cb_world.specs.Plain.{Words}
+use Rattle.cb_world.specs.Reserved.{position_for, put_shards, set_from}
+use Rattle.cb_world.specs.Sound.{Sound}
+use Rattle.cb_world.specs.Stored.{all_dropped, all_put}
+use Rattle.cb_world.proofs.Codes.{HasCode, codes_put, codes_removed}
+use Rattle.cb_world.proofs.SetsLeft.{drop_count, drop_room}
+use Rattle.cb_world.proofs.Staying.{IsLike, Rises, StaysIf, stays_like, stays_same}
+use Rattle.cb_evict.specs.AbortRule.{AbortRule, HasGivenUp}
+use Rattle.cb_evict.specs.BeginRule.{BeginRule, new_batch, with_batch}
+use Rattle.cb_evict.specs.Closing.{with_homes}
+use Rattle.cb_evict.specs.CommitRule.{CommitRule, HasCommitted}
+use Rattle.cb_evict.specs.EvictRule.{EvictRule}
+use Rattle.cb_evict.specs.EvictStep.{IsEvictStep, few_nodes, few_spans, loose_frames, made}
+use Rattle.cb_evict.specs.ShipRule.{HasShipped, ShipRule, Ships, with_shard_at}
+use Rattle.cb_evict.specs.Storing.{set_for, with_set}
+use Rattle.cb_evict.proofs.Commits.{all_put as all_shards_put}
+use Rattle.cb_evict.proofs.Homing.{length_closed}
+use Rattle.cb_evict.proofs.NamesShards.{put_count as shards_count}
+use Rattle.cb_evict.proofs.Putting.{put_count, put_room}
+
+batch_same : (a b : LeavingState) → Some a ≡ Some b → a ≡ b
+batch_same a b e = cc
+
+no_batch : (b : LeavingState) → None ≡ Some b → ⊥
+no_batch b e = cc
+
+-- the set of spans in k frames, with k + r shards, has the code
+code_of : (c : Config) (id : ℕ) (shards : List Shard) (far : FarState) (frames : List ℕ)
+    → length frames ≡ c.k → length shards ≡ c.k + c.r
+    → HasCode c (set_from id shards far.spans frames)
+code_of c id shards far frames k count =
+    let n : length (set_from id shards far.spans frames).positions ≡ c.k =
+    length-map frames (position_for far.spans) ∙ k in (n, omega (arith, n, count))
+
+-- ---- an eviction
+put_given : (nodes : NodesState) (shards : List Shard) (rows : List (List ℕ))
+    → (all_put nodes shards rows).given ≡ nodes.given
+put_given nodes [] rows = refl
+put_given nodes (shard ∷ shards) [] = refl
+put_given nodes (shard ∷ shards) (row ∷ rows) =
+    put_given (with_row nodes shard.node shard.key row) shards rows
+
+-- a set was made of the spans in some frames
+pub made_stays : (c : Config) (far new : FarState) (frames : List ℕ) (shards : List Shard)
+    (rows : List (List ℕ)) → IsAccepted c → length frames ≡ c.k → length shards ≡ c.k + c.r
+    → length new.homes ≡ length far.homes
+    → new ≡ with_homes (with_set far shards frames rows) frames new.homes → StaysIf c 24 far new
+made_stays c far new frames shards rows accepted k count homes state is =
+    let most = accepted K in let few = accepted R in
+    let set = set_for far shards frames in
+    let sets : new.counts.sets ≡ far.counts.sets + 1 = ap (λ (f : FarState). f.counts.sets) state in
+    let keys : new.counts.keys ≡ far.counts.keys + length shards =
+    ap (λ (f : FarState). f.counts.keys) state in
+    let epoch : new.members.epoch ≡ far.members.epoch = ap (λ (f : FarState). f.members.epoch) state in
+    let given : new.nodes.given ≡ far.nodes.given =
+    ap (λ (f : FarState). f.nodes.given) state ∙ put_given far.nodes shards rows in record {
+      configured = record {
+        frames = ap (λ (f : FarState). length f.spans) state ∙ length_closed far.spans frames
+            ∙ is.frames;
+        homes = homes ∙ is.homes;
+        nodes = ap (λ (f : FarState). length f.nodes.nodes) state ∙ put_count far.nodes shards rows
+            ∙ is.nodes;
+        room = ap (λ (f : FarState). f.nodes.room) state ∙ put_room far.nodes shards rows ∙ is.room;
+        codes = subst (HaveCodes c) (sym state) (record {
+          sets = codes_put c far.sets far.counts.sets (record { set = set; committed = true })
+              (λ committed. code_of c far.counts.sets shards far frames k count) is.codes.sets;
+          batch = is.codes.batch;
+        });
+      };
+      rises = record {
+        turns = ap (λ (f : FarState). f.counts.turns) state;
+        by_job = ap (λ (f : FarState). f.counts.by_job) state;
+        sets = omega (arith, sets);
+        keys = omega (arith, keys, count, most.1, few.1);
+        epoch = omega (arith, epoch);
+        given = omega (arith, given);
+      };
+    }
+
+pub evict_stays : (c : Config) (far new : FarState) (r : Reply) (es : List Event) → IsAccepted c
+    → EvictRule c far new r es → StaysIf c 24 far new
+evict_stays c far new r es accepted x = elim x.answered [
+  | inl few ↦ stays_same c 24 far new (omega arith) few.state
+  | inr (inl few) ↦ stays_same c 24 far new (omega arith) few.state
+  | inr (inr both) ↦ let e = both.evicted in
+      made_stays c far new _ e.shards e.rows accepted (length-take-le c.k x.loose both.enough)
+      e.chosen.count e.homes.count e.state
+]
+
+-- ---- a begin
+-- the spans in some frames are leaving
+pub batch_stays : (c : Config) (far new : FarState) (frames : List ℕ) (words : List Former)
+    (parities : List (List ℕ)) → length frames ≡ c.k → length parities ≡ c.r
+    → new ≡ with_batch c far frames words parities → StaysIf c 1 far new
+batch_stays c far new frames words parities k r state is =
+    let sets : new.counts.sets ≡ far.counts.sets + 1 = ap (λ (f : FarState). f.counts.sets) state in
+    let keys : new.counts.keys ≡ far.counts.keys = ap (λ (f : FarState). f.counts.keys) state in
+    let epoch : new.members.epoch ≡ far.members.epoch = ap (λ (f : FarState). f.members.epoch) state in
+    let given : new.nodes.given ≡ far.nodes.given = ap (λ (f : FarState). f.nodes.given) state in
+    record {
+      configured = record {
+        frames = ap (λ (f : FarState). length f.spans) state ∙ is.frames;
+        homes = ap (λ (f : FarState). length f.homes) state ∙ is.homes;
+        nodes = ap (λ (f : FarState). length f.nodes.nodes) state ∙ is.nodes;
+        room = ap (λ (f : FarState). f.nodes.room) state ∙ is.room;
+        codes = subst (HaveCodes c) (sym state) (record {
+          sets = codes_put c far.sets far.counts.sets _ (λ committed. absurd (false_true committed))
+              is.codes.sets;
+          batch = λ b at. let same = batch_same (new_batch c far frames words parities) b at in
+              subst (λ (l : LeavingState). IsCode c (length l.frames) (length l.parities)) same (k, r);
+        });
+      };
+      rises = record {
+        turns = ap (λ (f : FarState). f.counts.turns) state;
+        by_job = ap (λ (f : FarState). f.counts.by_job) state;
+        sets = omega (arith, sets);
+        keys = omega (arith, keys);
+        epoch = omega (arith, epoch);
+        given = omega (arith, given);
+      };
+    }
+  where
+    false_true : false ≡ true → ⊥
+    false_true e = cc
+
+pub begin_stays : (c : Config) (far new : FarState) (r : Reply) (es : List Event)
+    → BeginRule c far new r es → StaysIf c 1 far new
+begin_stays c far new r es (inl z) = stays_same c 1 far new (omega arith) z.state
+begin_stays c far new r es (inr x) = elim x.answered [
+  | inl few ↦ stays_same c 1 far new (omega arith) few.state
+  | inr (inl few) ↦ stays_same c 1 far new (omega arith) few.state
+  | inr (inr both) ↦ let e = both.begun in
+      batch_stays c far new _ e.words e.parities (length-take-le c.k x.loose both.enough) e.counts.1
+      e.state
+]
+
+-- ---- a ship
+shipped_stays : (c : Config) (far new : FarState) (r : Reply) (row : LeavingState → ℕ → List ℕ)
+    → HasShipped far new r row → StaysIf c 1 far new
+shipped_stays c far new r row z is =
+    let e = z.state in
+    let sets : new.counts.sets ≡ far.counts.sets = ap (λ (f : FarState). f.counts.sets) e in
+    let keys : new.counts.keys ≡ far.counts.keys + 1 = ap (λ (f : FarState). f.counts.keys) e in
+    let epoch : new.members.epoch ≡ far.members.epoch = ap (λ (f : FarState). f.members.epoch) e in
+    let given : new.nodes.given ≡ far.nodes.given = ap (λ (f : FarState). f.nodes.given) e in record {
+      configured = record {
+        frames = ap (λ (f : FarState). length f.spans) e ∙ is.frames;
+        homes = ap (λ (f : FarState). length f.homes) e ∙ is.homes;
+        nodes = ap (λ (f : FarState). length f.nodes.nodes) e
+            ∙ length-set far.nodes.nodes z.shard.node.n _ ∙ is.nodes;
+        room = ap (λ (f : FarState). f.nodes.room) e ∙ is.room;
+        codes = subst (HaveCodes c) (sym e) (record {
+          sets = is.codes.sets;
+          batch = λ b at. let same = batch_same (with_shard_at z.batch z.position z.shard) b at in
+              subst (λ (l : LeavingState). IsCode c (length l.frames) (length l.parities)) same
+              (is.codes.batch z.batch z.there);
+        });
+      };
+      rises = record {
+        turns = ap (λ (f : FarState). f.counts.turns) e;
+        by_job = ap (λ (f : FarState). f.counts.by_job) e;
+        sets = omega (arith, sets);
+        keys = omega (arith, keys);
+        epoch = omega (arith, epoch);
+        given = omega (arith, given);
+      };
+    }
+
+pub ships_stays : (c : Config) (far new : FarState) (r : Reply) (row : LeavingState → ℕ → List ℕ)
+    → Ships far new r row → StaysIf c 1 far new
+ships_stays c far new r row (inl z) = stays_same c 1 far new (omega arith) z.state
+ships_stays c far new r row (inr (inl z)) = stays_same c 1 far new (omega arith) z.state
+ships_stays c far new r row (inr (inr (inl z))) = stays_same c 1 far new (omega arith) z.state
+ships_stays c far new r row (inr (inr (inr z))) = shipped_stays c far new r row z
+
+pub ship_stays : (c : Config) (far new : FarState) (r : Reply) (es : List Event)
+    → ShipRule far new r es → StaysIf c 1 far new
+ship_stays c far new r es x = ships_stays c far new r x.row x.ships
+
+-- ---- a commit: the set has the code that its batch had
+pub committed_stays : (c : Config) (s : Shown) (far new : FarState) (r : Reply) → Sound s far
+    → HasCommitted far new r → StaysIf c 1 far new
+committed_stays c s far new r sound z is =
+    let e = z.state in let batch = z.batch in
+    let code = is.codes.batch batch z.there in
+    let shards = shards_count batch.shards (all_shards_put far batch z.whole) in
+    let places = (sound.away.sound.batch batch z.there).count in
+    let set = set_from batch.set (put_shards batch.shards) far.spans batch.frames in record {
+      configured = record {
+        frames = ap (λ (f : FarState). length f.spans) e ∙ length_closed far.spans batch.frames
+            ∙ is.frames;
+        homes = z.homes.count ∙ is.homes;
+        nodes = ap (λ (f : FarState). length f.nodes.nodes) e ∙ is.nodes;
+        room = ap (λ (f : FarState). f.nodes.room) e ∙ is.room;
+        codes = subst (HaveCodes c) (sym e) (record {
+          sets = codes_put c far.sets batch.set (record { set = set; committed = true })
+              (λ committed. code_of c batch.set (put_shards batch.shards) far batch.frames code.0
+              (omega (arith, shards, places, code.0, code.1))) is.codes.sets;
+          batch = λ b at. absurd (no_batch b at);
+        });
+      };
+      rises = subst (Rises 1 far) (sym e) (record {
+        turns = refl;
+        by_job = refl;
+        sets = omega arith;
+        keys = omega arith;
+        epoch = omega arith;
+        given = omega arith;
+      });
+    }
+
+pub commit_stays : (c : Config) (s : Shown) (far new : FarState) (r : Reply) (es : List Event)
+    → Sound s far → CommitRule far new r es → StaysIf c 1 far new
+commit_stays c s far new r es sound x = elim x.answered [
+  | inl z ↦ stays_same c 1 far new (omega arith) z.state
+  | inr (inl z) ↦ stays_same c 1 far new (omega arith) z.state
+  | inr (inr z) ↦ committed_stays c s far new r sound z
+]
+
+-- ---- an abort
+dropped_given : (nodes : NodesState) (shards : List Shard)
+    → (all_dropped nodes shards).given ≡ nodes.given
+dropped_given nodes [] = refl
+dropped_given nodes (x ∷ xs) = dropped_given (with_dropped nodes x.node x.key) xs
+
+given_up_stays : (c : Config) (far new : FarState) (r : Reply) → HasGivenUp far new r
+    → StaysIf c 1 far new
+given_up_stays c far new r z =
+    stays_like c 1 far new (omega arith) (subst (IsLike far) (sym z.state) (record {
+      spans = refl;
+      homes = refl;
+      nodes = drop_count far.nodes (put_shards z.batch.shards);
+      room = drop_room far.nodes (put_shards z.batch.shards);
+      codes = λ d x. record {
+        sets = codes_removed d far.sets z.batch.set x.sets;
+        batch = λ b at. absurd (no_batch b at);
+      };
+      counts = refl;
+      epoch = omega arith;
+      given = dropped_given far.nodes (put_shards z.batch.shards);
+    }))
+
+pub abort_stays : (c : Config) (far new : FarState) (r : Reply) (es : List Event)
+    → AbortRule far new r es → StaysIf c 1 far new
+abort_stays c far new r es x = elim x.answered [
+  | inl z ↦ stays_same c 1 far new (omega arith) z.state
+  | inr z ↦ given_up_stays c far new r z
+]
+
+-- ---- the steps of a still desk
+pub evict_step_stays : (x y : Words) (far new : FarState) (r : Reply) → IsAccepted x.settings
+    → IsEvictStep x y far new r → StaysIf x.settings 24 far new
+evict_step_stays x y far new r accepted (few_spans few same) =
+    stays_same x.settings 24 far new (omega arith) few.state
+evict_step_stays x y far new r accepted (few_nodes few same) =
+    stays_same x.settings 24 far new (omega arith) few.state
+evict_step_stays x y far new r accepted (made m) =
+    let e = m.evicted in
+    made_stays x.settings far new (take x.settings.k (loose_frames x far)) e.shards e.rows accepted
+    (length-take-le x.settings.k (loose_frames x far) m.enough) e.chosen.count e.homes.count e.state

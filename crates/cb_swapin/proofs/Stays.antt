@@ -1,0 +1,109 @@
+-- What a swap-in leaves of the configured sizes and codes, and of what is counted.
+use Rattle.std.proofs.Common.{◌≡◌, ℕ, Bool, true, false, ◌+◌, ◌≤◌, if◌then◌else◌, List, Some, length, refl, sym, ap, ◌∙◌, subst, arith}
+use Rattle.cb_member.specs.Membership.{Membership}
+use Rattle.cb_node.specs.NodesState.{NodesState}
+use Rattle.cb_set.specs.Lost.{lost_at}
+use Rattle.cb_set.specs.SetState.{SetState, dead_position, with_position}
+use Rattle.cb_types.specs.declared.config.Config.{Config}
+use Rattle.cb_types.specs.declared.reply.Reply.{Reply}
+use Rattle.cb_types.specs.declared.reply.Reply.TheVariants as answer
+use Rattle.cb_world.specs.Codes.{HaveCodes}
+use Rattle.cb_world.specs.Counts.{CountsState}
+use Rattle.cb_world.specs.declared.event.Event.{Event}
+use Rattle.cb_world.specs.declared.shown.Shown.{Shown}
+use Rattle.cb_world.specs.FarState.{FarState}
+use Rattle.cb_world.specs.Fetched.{rows_needed, with_given}
+use Rattle.cb_world.specs.Plain.{Words}
+use Rattle.cb_world.specs.Sets.{SetMap, set_in}
+use Rattle.cb_world.specs.Sound.{Sound}
+use Rattle.cb_world.proofs.Codes.{SetCodes, codes_left}
+use Rattle.cb_world.proofs.SetsLeft.{left_given}
+use Rattle.cb_world.proofs.Staying.{Stays, StaysIf, stays_same}
+use Rattle.cb_swapin.specs.Fetching.{far_given}
+use Rattle.cb_swapin.specs.SwapRule.{IsSwappedTo, SwapFar, SwapRule}
+use Rattle.cb_swapin.specs.SwapStep.{IsSwapStep}
+use Rattle.cb_swapin.proofs.SwapKeeps.{step_cases, swapped_kept}
+
+-- at most 16 rows are needed, and so at most 16 are given out
+rows_most : (s : Shown) (far : FarState) (id p : ℕ) (set : SetState) → Sound s far
+    → set_in far.sets id ≡ Some set → rows_needed far.members set p ≤ 16
+rows_most s far id p set sound there = by (lost_at far.members set.shards p) refl
+  where
+    by : (b : Bool) → lost_at far.members set.shards p ≡ b → rows_needed far.members set p ≤ 16
+    by true e = subst (λ (b : Bool). (if b then length set.positions else 1) ≤ 16) (sym e)
+        (sound.away.sound.sets.shaped id set there).range.data_most
+    by false e = subst (λ (b : Bool). (if b then length set.positions else 1) ≤ 16) (sym e)
+        (omega arith)
+
+-- a position was brought in
+pub swapped_stays : (c : Config) (s : Shown) (far new : FarState) (id p : ℕ) (set : SetState) (f : ℕ)
+    → Sound s far → set_in far.sets id ≡ Some set → IsSwappedTo far new id p set f
+    → StaysIf c 16 far new
+swapped_stays c s far new id p set f sound there z is =
+    let keeps = swapped_kept far new id p set f z in
+    let sets : new.counts.sets ≡ far.counts.sets = ap (λ (q : CountsState). q.sets) keeps.counts in
+    let keys : new.counts.keys ≡ far.counts.keys = ap (λ (q : CountsState). q.keys) keeps.counts in
+    let epoch : new.members.epoch ≡ far.members.epoch = ap (λ (m : Membership). m.epoch) keeps.members in
+    let given : new.nodes.given ≡ far.nodes.given + rows_needed far.members set p =
+    ap (λ (q : NodesState). q.given) z.nodes
+    ∙ left_given (with_given far.nodes (rows_needed far.members set p))
+    (with_position set p dead_position) in
+    let most = rows_most s far id p set sound there in record {
+      configured = record {
+        frames = keeps.spans ∙ is.frames;
+        homes = keeps.homes ∙ is.homes;
+        nodes = keeps.nodes ∙ is.nodes;
+        room = keeps.room ∙ is.room;
+        codes = record {
+          sets = subst (SetCodes c) (sym z.sets)
+              (codes_left c far.sets id p set dead_position there is.codes.sets);
+          batch = λ b at. is.codes.batch b (sym keeps.leaving ∙ at);
+        };
+      };
+      rises = record {
+        turns = ap (λ (q : CountsState). q.turns) keeps.counts;
+        by_job = ap (λ (q : CountsState). q.by_job) keeps.counts;
+        sets = omega (arith, sets);
+        keys = omega (arith, keys);
+        epoch = omega (arith, epoch);
+        given = omega (arith, given, most);
+      };
+    }
+
+pub swap_stays : (c : Config) (id p : ℕ) (s : Shown) (far new : FarState) (r : Reply)
+    (es : List Event) → Sound s far → SwapRule id p far new r es → StaysIf c 16 far new
+swap_stays c id p s far new r es sound x = by r x.state
+  where
+    by : (q : Reply) → SwapFar far new id p x.set es q → StaysIf c 16 far new
+    by (answer.Swapped f) z = swapped_stays c s far new id p x.set f sound x.there z.0
+    by q z = stays_same c 16 far new (omega arith) z.0
+
+-- by the step of a still desk
+pub swap_step_stays : (c : Config) (x y : Words) (far new : FarState) (id p : ℕ) (r : Reply) (s : Shown)
+    → Sound s far → IsSwapStep x y far new id p r → StaysIf c 16 far new
+swap_step_stays c x y far new id p r s sound z =
+    step_cases (StaysIf c 16 far new) x y far new id p r z
+    (λ same. stays_same c 16 far new (omega arith) same.1)
+    (λ f whole least e w. swapped_stays c s far new id p z.set f sound z.there w.state)
+
+-- a swap-in that found no memory may have given rows out
+pub given_stays : (c : Config) (s : Shown) (far : FarState) (id n : ℕ) (set : SetState) → Sound s far
+    → set_in far.sets id ≡ Some set → n ≤ length set.positions → StaysIf c 16 far (far_given far n)
+given_stays c s far id n set sound there few is =
+    let most = (sound.away.sound.sets.shaped id set there).range.data_most in record {
+      configured = record {
+        frames = is.frames;
+        homes = is.homes;
+        nodes = is.nodes;
+        room = is.room;
+        codes = record { sets = is.codes.sets; batch = is.codes.batch };
+      };
+      rises = record {
+        turns = refl;
+        by_job = refl;
+        sets = omega arith;
+        keys = omega arith;
+        epoch = omega arith;
+        given = omega (arith, most, few);
+      };
+    }

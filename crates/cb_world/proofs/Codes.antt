@@ -1,0 +1,112 @@
+-- What changes of the sets leave of their codes.
+use Rattle.std.proofs.Common.{◌≡◌, ℕ, ◌-◌, Bool, true, false, cond, if◌then◌else◌, List, length, Option, Some, None, refl, ap, sym, subst, ◌∙◌, arith, inl, inr, length-set}
+use Rattle.std.specs.Cmp.{nat_cmp_total}
+use Rattle.std.specs.Ordering.{nat_cmp, eq_by_cmp}
+use Rattle.std.specs.FinMap as map
+use Rattle.std.proofs.lemmas.Bool.{cases_eq}
+use Rattle.std.proofs.lemmas.Bool.Decides.{nat_tests}
+use Rattle.cb_set.specs.SetState.{PositionState, SetState, is_live, parities, with_position}
+use Rattle.cb_types.specs.declared.config.Config.{Config}
+use Rattle.cb_world.specs.Codes.{HaveCodes, IsCode}
+use Rattle.cb_world.specs.Empty.{empty_far}
+use Rattle.cb_world.specs.FarState.{FarState}
+use Rattle.cb_world.specs.Leaving.{LeavingState}
+use Rattle.cb_world.specs.LeftOver.{sets_left}
+use Rattle.cb_world.specs.Sets.{Kept, SetMap, set_in, if_committed}
+use Rattle.cb_world.proofs.Empty.{no_set}
+use Rattle.cb_world.proofs.SetChanging.{is_kept, kept_same}
+
+-- the code of a set is the configured one
+abbrev pub HasCode : Config → SetState → Type 0
+HasCode c set = IsCode c (length set.positions) (parities set)
+
+-- and that of each committed set
+abbrev pub SetCodes : Config → SetMap → Type 0
+SetCodes c sets = (id : ℕ) (set : SetState) → set_in sets id ≡ Some set → HasCode c set
+
+-- the sets keep their codes, whatever the configuration
+abbrev pub KeepCodes : FarState → FarState → Type 0
+KeepCodes far new = (c : Config) → HaveCodes c far → HaveCodes c new
+
+-- they do where the sets and the batch stay
+pub codes_stay : (far new : FarState) → new.sets ≡ far.sets → new.leaving ≡ far.leaving
+    → KeepCodes far new
+codes_stay far new sets leaving c x = record {
+  sets = subst (SetCodes c) (sym sets) x.sets;
+  batch = λ b at. x.batch b (sym leaving ∙ at);
+}
+
+-- a set is kept under a number; with the code, where it is committed
+pub codes_put : (c : Config) (sets : SetMap) (id : ℕ) (kept : Kept)
+    → (kept.committed ≡ true → HasCode c kept.set) → SetCodes c sets
+    → SetCodes c (map.insert sets id kept)
+codes_put c sets id kept code all q set at = elim (cases_eq q id) [
+  | inl same ↦
+      let here : eq_by_cmp nat_cmp q id ≡ true = grind (arith, nat_tests) in
+      let e = kept_same kept (record { set = set; committed = true })
+      (sym (read ∙ ap (λ (b : Bool). cond b (Some kept) (map.get sets q)) here)
+      ∙ is_kept (map.insert sets id kept) q set at) in
+      subst (HasCode c) (ap (λ (x : Kept). x.set) e) (code (ap (λ (x : Kept). x.committed) e))
+  | inr off ↦
+      let other : eq_by_cmp nat_cmp q id ≡ false = grind (arith, nat_tests) in
+      all q set (sym (ap if_committed
+      (read ∙ ap (λ (b : Bool). cond b (Some kept) (map.get sets q)) other)) ∙ at)
+]
+  where
+    read : map.get (map.insert sets id kept) q ≡ cond (eq_by_cmp nat_cmp q id) (Some kept) (map.get sets q)
+    read = map.get-insert nat_cmp_total sets id kept q
+
+-- no set is kept under a number
+pub codes_removed : (c : Config) (sets : SetMap) (id : ℕ) → SetCodes c sets
+    → SetCodes c (map.remove sets id)
+codes_removed c sets id all q set at = elim (cases_eq q id) [
+  | inl same ↦
+      let here : eq_by_cmp nat_cmp q id ≡ true = grind (arith, nat_tests) in
+      absurd (none_some set (sym (ap if_committed
+      (read ∙ ap (λ (b : Bool). cond b None (map.get sets q)) here)) ∙ at))
+  | inr off ↦
+      let other : eq_by_cmp nat_cmp q id ≡ false = grind (arith, nat_tests) in
+      all q set (sym (ap if_committed
+      (read ∙ ap (λ (b : Bool). cond b None (map.get sets q)) other)) ∙ at)
+]
+  where
+    read : map.get (map.remove sets id) q ≡ cond (eq_by_cmp nat_cmp q id) None (map.get sets q)
+    read = map.get-remove nat_cmp_total sets id q
+
+    none_some : (x : SetState) → None ≡ Some x → ⊥
+    none_some x e = cc
+
+-- other contents of a position, or of the places of the shards
+pub code_as : (c : Config) (set other : SetState) → length other.positions ≡ length set.positions
+    → length other.shards ≡ length set.shards → HasCode c set → HasCode c other
+code_as c set other positions shards x =
+    subst (λ (n : ℕ). IsCode c n (length other.shards - n)) (sym positions)
+    (subst (λ (n : ℕ). IsCode c (length set.positions) (n - length set.positions)) (sym shards) x)
+
+-- a position of a set gave objects up
+pub codes_left : (c : Config) (sets : SetMap) (id p : ℕ) (set : SetState) (left : PositionState)
+    → set_in sets id ≡ Some set → SetCodes c sets
+    → SetCodes c (sets_left sets id (with_position set p left))
+codes_left c sets id p set left there all = by (is_live rest)
+  where
+    rest : SetState
+    rest = with_position set p left
+
+    by : (b : Bool)
+        → SetCodes c (if b then map.insert sets id (record { set = rest; committed = true }) else map.remove sets id)
+    by true = codes_put c sets id (record { set = rest; committed = true })
+        (λ committed. code_as c set rest (length-set set.positions p left) refl (all id set there)) all
+    by false = codes_removed c sets id all
+
+-- no set was committed yet
+pub empty_codes : (first : ℕ) (c : Config) → HaveCodes c (empty_far first c)
+empty_codes first c = record {
+  sets = λ id set at. absurd (none_some set (sym (no_set first c id) ∙ at));
+  batch = λ b at. absurd (no_batch b at);
+}
+  where
+    none_some : (x : SetState) → None ≡ Some x → ⊥
+    none_some x e = cc
+
+    no_batch : (x : LeavingState) → None ≡ Some x → ⊥
+    no_batch x e = cc

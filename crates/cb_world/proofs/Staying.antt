@@ -1,0 +1,113 @@
+-- What a change of the far state leaves of the configured sizes and codes, and how far the numbers that
+-- are counted rise by it.
+use Rattle.std.proofs.Common.{◌≡◌, ℕ, ◌+◌, ◌≤◌, length, refl, sym, ap, ◌∙◌, subst, arith}
+use Rattle.cb_types.specs.declared.config.Config.{Config}
+use Rattle.cb_world.specs.Counts.{CountsState}
+use Rattle.cb_world.specs.FarState.{FarState}
+use Rattle.cb_world.specs.World.{IsConfigured}
+use Rattle.cb_world.proofs.Codes.{KeepCodes}
+
+-- the turns stay, and each number that is drawn or rises did so by at most n
+pub record Rises (n : ℕ) (far new : FarState) : Type 0 where
+  pub turns : new.counts.turns ≡ far.counts.turns
+  pub by_job : new.counts.by_job ≡ far.counts.by_job
+  pub sets : new.counts.sets ≤ far.counts.sets + n
+  pub keys : new.counts.keys ≤ far.counts.keys + n
+  pub epoch : new.members.epoch ≤ far.members.epoch + n
+  pub given : new.nodes.given ≤ far.nodes.given + n
+
+pub rises_then : (n m k : ℕ) (far mid new : FarState) → n + m ≤ k → Rises n far mid
+    → Rises m mid new → Rises k far new
+rises_then n m k far mid new most p q =
+    let a = p.sets in let b = q.sets in let c = p.keys in let d = q.keys in
+    let e = p.epoch in let f = q.epoch in let g = p.given in let h = q.given in record {
+      turns = q.turns ∙ p.turns;
+      by_job = q.by_job ∙ p.by_job;
+      sets = omega (arith, a, b, most);
+      keys = omega (arith, c, d, most);
+      epoch = omega (arith, e, f, most);
+      given = omega (arith, g, h, most);
+    }
+
+pub rises_more : (n k : ℕ) (far new : FarState) → n ≤ k → Rises n far new → Rises k far new
+rises_more n k far new most p =
+    let a = p.sets in let c = p.keys in let e = p.epoch in let g = p.given in record {
+      turns = p.turns;
+      by_job = p.by_job;
+      sets = omega (arith, a, most);
+      keys = omega (arith, c, most);
+      epoch = omega (arith, e, most);
+      given = omega (arith, g, most);
+    }
+
+-- a far state that differs in frames, spans, homes, sets and rows, and in the epoch by one at most
+pub record IsLike (far new : FarState) : Type 0 where
+  pub spans : length new.spans ≡ length far.spans
+  pub homes : length new.homes ≡ length far.homes
+  pub nodes : length new.nodes.nodes ≡ length far.nodes.nodes
+  pub room : new.nodes.room ≡ far.nodes.room
+  pub codes : KeepCodes far new
+  pub counts : new.counts ≡ far.counts
+  pub epoch : new.members.epoch ≤ far.members.epoch + 1
+  pub given : new.nodes.given ≡ far.nodes.given
+
+pub like_same : (far : FarState) → IsLike far far
+like_same far = record {
+  spans = refl;
+  homes = refl;
+  nodes = refl;
+  room = refl;
+  codes = λ c x. x;
+  counts = refl;
+  epoch = omega arith;
+  given = refl;
+}
+
+-- the far state is as it is configured, and its numbers rose by n at the most
+pub record Stays (c : Config) (n : ℕ) (far new : FarState) : Type 0 where
+  pub configured : IsConfigured c new
+  pub rises : Rises n far new
+
+-- where it was so before
+abbrev pub StaysIf : Config → ℕ → FarState → FarState → Type 0
+StaysIf c n far new = IsConfigured c far → Stays c n far new
+
+pub stays_like : (c : Config) (n : ℕ) (far new : FarState) → 1 ≤ n → IsLike far new
+    → StaysIf c n far new
+stays_like c n far new some like is =
+    let counts = like.counts in
+    let sets : new.counts.sets ≡ far.counts.sets = ap (λ (x : CountsState). x.sets) counts in
+    let keys : new.counts.keys ≡ far.counts.keys = ap (λ (x : CountsState). x.keys) counts in
+    let epoch = like.epoch in let given = like.given in record {
+      configured = record {
+        frames = like.spans ∙ is.frames;
+        homes = like.homes ∙ is.homes;
+        nodes = like.nodes ∙ is.nodes;
+        room = like.room ∙ is.room;
+        codes = like.codes c is.codes;
+      };
+      rises = record {
+        turns = ap (λ (x : CountsState). x.turns) counts;
+        by_job = ap (λ (x : CountsState). x.by_job) counts;
+        sets = omega (arith, sets);
+        keys = omega (arith, keys);
+        epoch = omega (arith, epoch, some);
+        given = omega (arith, given);
+      };
+    }
+
+pub stays_same : (c : Config) (n : ℕ) (far new : FarState) → 1 ≤ n → new ≡ far
+    → StaysIf c n far new
+stays_same c n far new some same =
+    stays_like c n far new some (subst (IsLike far) (sym same) (like_same far))
+
+-- other counts
+pub recounted : (c : Config) (far : FarState) (counts : CountsState) → IsConfigured c far
+    → IsConfigured c (record far { counts = counts })
+recounted c far counts is = record {
+  frames = is.frames;
+  homes = is.homes;
+  nodes = is.nodes;
+  room = is.room;
+  codes = record { sets = is.codes.sets; batch = is.codes.batch };
+}
