@@ -1,4 +1,5 @@
-use Rattle.cb_core.proofs.Composing.{holding}
+use Rattle.cb_core.proofs.Composing.{holding, if_map}
+use Rattle.cb_core.proofs.NoFrames.{Never, does_never}
 use Rattle.cb_core.proofs.Counting.{counted_sound, stopped, turned}
 use Rattle.cb_core.proofs.turning.turn.Goals as goal
 
@@ -21,3 +22,10 @@ returns-clause-error g c =
     stopped (λ d es e. g.D.Desk.run d es e) (λ d s. g.D.Desk.shows d s) (g.D.Desk.settings c.args.desk.now)
     c.args.job.now (holding c.args.desk.now c.args.far.now) (holding c.work.new.desk c.work.new.far)
     c.work.result c.count_turn.new.far d.0 d.1 c.work.ensures.error
+
+pub returns-clause-no_frame : goal.returns-clause-no_frame
+returns-clause-no_frame g c =
+    if_map (λ r. Never r) _ c.work.result c.work.ensures.does (λ r does.
+    does_never (λ d es e. g.D.Desk.run d es e) (λ d s. g.D.Desk.shows d s)
+    (g.D.Desk.settings c.args.desk.now) c.args.job.now
+    (holding c.args.desk.now c.count_turn.new.far) (holding c.work.new.desk c.work.new.far) r does)
