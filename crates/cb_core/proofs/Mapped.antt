@@ -12,13 +12,15 @@ use Rattle.cb_world.specs.declared.shown.Shown.{Shown}
 use Rattle.cb_world.specs.FarState.{FarState}
 use Rattle.cb_world.specs.Performs.{Performs}
 use Rattle.cb_world.specs.Sound.{Sound}
+use Rattle.cb_evict.specs.declared.eviction.Eviction.{Eviction}
+use Rattle.cb_evict.specs.declared.eviction.Eviction.TheVariants.{Refused, Set}
 use Rattle.cb_core.specs.Parts.{Holding, WithRoom, WhereItIs, NeverDeclined, BringsIn, RoomStops, CallStops, NeverLacks}
 use Rattle.cb_core.specs.Parts.WithRoom.{at_once, no_room, won}
 use Rattle.cb_core.specs.Parts.WhereItIs.{near, declined, stays_far, brought}
 use Rattle.cb_core.specs.Parts.BringsIn.{not_far, was_far}
 use Rattle.cb_core.specs.Parts.RoomStops.{at_once as lacks_now, evicting, after}
 use Rattle.cb_core.specs.Parts.CallStops.{near as lacks_near, far as lacks_far, after as lacks_after}
-use Rattle.cb_core.specs.Turned.{Operates, Swaps, SwapLacks, Brings, BringLacks, Evicts, EvictLacks, Makes, MakeLacks, Reads, ReadLacks, Writes, Declines, Finds, Does, Stops, Turned, Stopped, once_counted, worn, done}
+use Rattle.cb_core.specs.Turned.{Operates, Swaps, SwapLacks, Brings, BringLacks, Evicts, WinsRoom, EvictLacks, Makes, MakeLacks, Reads, ReadLacks, Writes, Declines, Finds, Does, Stops, Turned, Stopped, once_counted, worn, done}
 
 module _ {D E : Type 0} (run : D → List Event → D → Type 0) (shows : D → Shown → Type 0) (other_run : E → List Event → E → Type 0) (other_shows : E → Shown → Type 0)
     (f : D → E) (back : (d e : D) (es : List Event) → run d es e → other_run (f d) es (f e)) (told : (d : D) (s : Shown) → other_shows (f d) s → shows d s) where
@@ -47,10 +49,11 @@ module _ {D E : Type 0} (run : D → List Event → D → Type 0) (shows : D →
       → Maps (Operates run shows rule effect) (Operates other_run other_shows rule effect)
   operates rule effect a b r p = performs a.desk b.desk a.far (rule a.far b.far r) (λ t. Sound t b.far) (effect a.far b.far r) p
 
-  with_room : (P F : Holding D → Reply → Holding D → Type 0) (Q G : Holding E → Reply → Holding E → Type 0) → Maps P Q → Maps F G → Maps (WithRoom P F) (WithRoom Q G)
-  with_room P F Q G p e a b r (at_once o off) = at_once (p a b r o) off
-  with_room P F Q G p e a b r (no_room m refusal o v none is) = no_room (on m) refusal (p a m answer.NoFrame o) (e m b refusal v) none is
-  with_room P F Q G p e a b r (won m n id o v again off) = won (on m) (on n) id (p a m answer.NoFrame o) (e m n (answer.Set id) v) (p n b r again) off
+  with_room : (k : ℕ) (P : Holding D → Reply → Holding D → Type 0) (F : Holding D → Eviction → Holding D → Type 0) (Q : Holding E → Reply → Holding E → Type 0) (G : Holding E → Eviction → Holding E → Type 0)
+      → Maps P Q → Maps F G → Maps (WithRoom k P F) (WithRoom k Q G)
+  with_room k P F Q G p e a b r (at_once o off) = at_once (p a b r o) off
+  with_room k P F Q G p e a b r (no_room m why loose nodes o v is) = no_room (on m) why loose nodes (p a m answer.NoFrame o) (e m b (Refused why loose nodes) v) is
+  with_room k P F Q G p e a b r (won m n id o v again off) = won (on m) (on n) id (p a m answer.NoFrame o) (e m n (Set id) v) (p n b r again) off
 
   where_it_is : (P F : Holding D → Reply → Holding D → Type 0) (L : Holding D → Option Reply → Holding D → Type 0) (Q G : Holding E → Reply → Holding E → Type 0) (M : Holding E → Option Reply → Holding E → Type 0)
       → Maps P Q → Maps L M → Maps F G → Maps (WhereItIs P L F) (WhereItIs Q M G)
@@ -63,11 +66,11 @@ module _ {D E : Type 0} (run : D → List Event → D → Type 0) (shows : D →
   brings_in P F Q G p e a b r (not_far o off) = not_far (p a b r o) off
   brings_in P F Q G p e a b r (was_far m o v) = was_far (on m) (p a m answer.NotHere o) (e m b r v)
 
-  room_stops : (P F : Holding D → Reply → Holding D → Type 0) (L I : Holding D → Holding D → Type 0) (Q G : Holding E → Reply → Holding E → Type 0) (M J : Holding E → Holding E → Type 0)
+  room_stops : (P : Holding D → Reply → Holding D → Type 0) (F : Holding D → Eviction → Holding D → Type 0) (L I : Holding D → Holding D → Type 0) (Q : Holding E → Reply → Holding E → Type 0) (G : Holding E → Eviction → Holding E → Type 0) (M J : Holding E → Holding E → Type 0)
       → Maps P Q → MapsLack L M → Maps F G → MapsLack I J → MapsLack (RoomStops P L F I) (RoomStops Q M G J)
   room_stops P F L I Q G M J p l e i a b (lacks_now o) = lacks_now (l a b o)
   room_stops P F L I Q G M J p l e i a b (evicting m o v) = evicting (on m) (p a m answer.NoFrame o) (i m b v)
-  room_stops P F L I Q G M J p l e i a b (after m n id o v w) = after (on m) (on n) id (p a m answer.NoFrame o) (e m n (answer.Set id) v) (l n b w)
+  room_stops P F L I Q G M J p l e i a b (after m n id o v w) = after (on m) (on n) id (p a m answer.NoFrame o) (e m n (Set id) v) (l n b w)
 
   call_stops : (P F : Holding D → Reply → Holding D → Type 0) (S : Holding D → Option Reply → Holding D → Type 0) (L I : Holding D → Holding D → Type 0)
       (Q G : Holding E → Reply → Holding E → Type 0) (T : Holding E → Option Reply → Holding E → Type 0) (M J : Holding E → Holding E → Type 0)
@@ -88,15 +91,18 @@ module _ {D E : Type 0} (run : D → List Event → D → Type 0) (shows : D →
   evicts : (c : Config) → Maps (Evicts run shows c) (Evicts other_run other_shows c)
   evicts c a b r p = performs a.desk b.desk a.far _ _ _ p
 
+  wins : (c : Config) → Maps (WinsRoom run shows c) (WinsRoom other_run other_shows c)
+  wins c a b e p = performs a.desk b.desk a.far _ _ _ p
+
   evict_lacks : MapsLack (EvictLacks run shows) (EvictLacks other_run other_shows)
   evict_lacks a b (same, p) = (same, performs a.desk b.desk a.far _ _ _ p)
 
   brings : (c : Config) (h : ℕ) → Maps (Brings run shows c h) (Brings other_run other_shows c h)
-  brings c h = with_room (Swaps run shows h) (Evicts run shows c) (Swaps other_run other_shows h) (Evicts other_run other_shows c) (swaps h) (evicts c)
+  brings c h = with_room c.frames (Swaps run shows h) (WinsRoom run shows c) (Swaps other_run other_shows h) (WinsRoom other_run other_shows c) (swaps h) (wins c)
 
   bring_lacks : (c : Config) (h : ℕ) → MapsLack (BringLacks run shows c h) (BringLacks other_run other_shows c h)
-  bring_lacks c h = room_stops (Swaps run shows h) (Evicts run shows c) (SwapLacks run h) (EvictLacks run shows) (Swaps other_run other_shows h) (Evicts other_run other_shows c) (SwapLacks other_run h) (EvictLacks other_run other_shows)
-      (swaps h) (swap_lacks h) (evicts c) evict_lacks
+  bring_lacks c h = room_stops (Swaps run shows h) (WinsRoom run shows c) (SwapLacks run h) (EvictLacks run shows) (Swaps other_run other_shows h) (WinsRoom other_run other_shows c) (SwapLacks other_run h) (EvictLacks other_run other_shows)
+      (swaps h) (swap_lacks h) (wins c) evict_lacks
 
   makes : (c : Config) (bytes : List ℕ) → Maps (Makes run shows c bytes) (Makes other_run other_shows c bytes)
   makes c bytes a b r p = performs a.desk b.desk a.far _ _ _ p
@@ -123,7 +129,7 @@ module _ {D E : Type 0} (run : D → List Event → D → Type 0) (shows : D →
   declines h at count a b r (same, p) = (same, performs a.desk b.desk a.far _ _ _ p)
 
   pub does : (c : Config) (job : Job) → Maps (Does run shows c job) (Does other_run other_shows c job)
-  does c (Make bytes) a b r x = with_room (Makes run shows c bytes) (Evicts run shows c) (Makes other_run other_shows c bytes) (Evicts other_run other_shows c) (makes c bytes) (evicts c) a b r x
+  does c (Make bytes) a b r x = with_room c.frames (Makes run shows c bytes) (WinsRoom run shows c) (Makes other_run other_shows c bytes) (WinsRoom other_run other_shows c) (makes c bytes) (wins c) a b r x
   does c (Read handle) a b r x = where_it_is (Reads run shows handle.n) (Brings run shows c handle.n) NeverDeclined (Reads other_run other_shows handle.n) (Brings other_run other_shows c handle.n) NeverDeclined (reads handle.n) never (brings c handle.n) a b r x
   does c (Write handle at bytes) a b r x = where_it_is (Writes run shows handle.n at bytes) (Brings run shows c handle.n) _ (Writes other_run other_shows handle.n at bytes) (Brings other_run other_shows c handle.n) _ (writes handle.n at bytes) (declines handle.n at _) (brings c handle.n) a b r x
   does c (Free handle) a b r p = performs a.desk b.desk a.far _ _ _ p
@@ -140,8 +146,8 @@ module _ {D E : Type 0} (run : D → List Event → D → Type 0) (shows : D →
   does c job a b r x = absurd x
 
   pub stops : (c : Config) (job : Job) → MapsLack (Stops run shows c job) (Stops other_run other_shows c job)
-  stops c (Make bytes) a b x = room_stops (Makes run shows c bytes) (Evicts run shows c) (MakeLacks run c bytes) (EvictLacks run shows) (Makes other_run other_shows c bytes) (Evicts other_run other_shows c) (MakeLacks other_run c bytes) (EvictLacks other_run other_shows)
-      (makes c bytes) (make_lacks c bytes) (evicts c) evict_lacks a b x
+  stops c (Make bytes) a b x = room_stops (Makes run shows c bytes) (WinsRoom run shows c) (MakeLacks run c bytes) (EvictLacks run shows) (Makes other_run other_shows c bytes) (WinsRoom other_run other_shows c) (MakeLacks other_run c bytes) (EvictLacks other_run other_shows)
+      (makes c bytes) (make_lacks c bytes) (wins c) evict_lacks a b x
   stops c (Read handle) a b x = call_stops (Reads run shows handle.n) (Brings run shows c handle.n) NeverDeclined (ReadLacks run shows handle.n) (BringLacks run shows c handle.n)
       (Reads other_run other_shows handle.n) (Brings other_run other_shows c handle.n) NeverDeclined (ReadLacks other_run other_shows handle.n) (BringLacks other_run other_shows c handle.n)
       (reads handle.n) (read_lacks handle.n) never (brings c handle.n) (bring_lacks c handle.n) a b x

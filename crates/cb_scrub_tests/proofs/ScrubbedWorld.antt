@@ -49,6 +49,7 @@ module _ (w : WorldState) (new : FarState) (sound : IsSoundWorld w)
       homes = sound.configured.homes;
       nodes = sound.configured.nodes;
       room = sound.configured.room;
+      codes = sound.configured.codes;
     };
     shown = sound.shown;
     known = record {
