@@ -18,7 +18,7 @@ use Rattle.cb_core.specs.Parts.{Holding, RoomStops, WhereItIs, WithRoom}
 use Rattle.cb_core.specs.Parts.WhereItIs.{near}
 use Rattle.cb_core.specs.Parts.RoomStops.{at_once as lacks_at_once}
 use Rattle.cb_core.specs.Parts.WithRoom.{at_once}
-use Rattle.cb_core.specs.Turned.{Brings, Evicts, EvictLacks, MakeLacks, Makes}
+use Rattle.cb_core.specs.Turned.{Brings, EvictLacks, MakeLacks, Makes, WinsRoom}
 use Rattle.cb_core.proofs.Composing.{SwapsAt, any_err}
 
 -- the configuration after a part, whether it was answered or left the desk as it was
@@ -40,7 +40,7 @@ configured_as c d far new same is x = subst (λ (e : Config). IsConfigured e new
 -- a make or a swap-in that found room
 pub make_at_once : {D : Type 0} (run : D → List Event → D → Type 0) (shows : D → Shown → Type 0)
     (c : Config) (bytes : List ℕ) (a b : Holding D) (q : Reply) → Makes run shows c bytes a q b
-    → (q ≡ answer.NoFrame → ⊥) → WithRoom (Makes run shows c bytes) (Evicts run shows c) a q b
+    → (q ≡ answer.NoFrame → ⊥) → WithRoom c.frames (Makes run shows c bytes) (WinsRoom run shows c) a q b
 make_at_once run shows c bytes a b q x left = at_once x left
 
 pub swap_at_once : {D : Type 0} (run : D → List Event → D → Type 0) (shows : D → Shown → Type 0)
@@ -54,7 +54,7 @@ pub make_stops : {D : Type 0} (run : D → List Event → D → Type 0) (shows :
     (c : Config) (bytes : List ℕ) (a b : Holding D) (result : Result Reply NoMemory)
     → ((x : D) → run x [] x)
     → (b.desk ≡ a.desk) × (b.far ≡ a.far) × NeedsNewSpan c.handles (length bytes) a.far
-    → OnErr result (RoomStops (Makes run shows c bytes) (MakeLacks run c bytes) (Evicts run shows c)
+    → OnErr result (RoomStops (Makes run shows c bytes) (MakeLacks run c bytes) (WinsRoom run shows c)
     (EvictLacks run shows) a b)
 make_stops {D = D} run shows c bytes a b result nothing lacked = any_err _ result (lacks_at_once (
   subst (λ (u : D). run a.desk [] u) (sym lacked.0) (nothing a.desk),

@@ -2,10 +2,10 @@ pub mod Counting
 pub mod PartsFar
 pub mod Composing
 pub mod Exits
+pub mod NoFrames
 pub mod DeclinedLooks
 pub mod Changes
 pub mod KeptPins
-pub mod Loose
 pub mod KeptParts
 pub mod NodesStay
 pub mod StillParts
@@ -50,3 +50,5 @@ pub mod TurnCallsPinned
 pub mod TurnCallsSound
 pub mod CallsBeside
 pub mod RunLegal
+pub mod PartsFixed
+pub mod StepFixed

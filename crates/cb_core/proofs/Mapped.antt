@@ -12,13 +12,15 @@ use Rattle.cb_world.specs.declared.shown.Shown.{Shown}
 use Rattle.cb_world.specs.FarState.{FarState}
 use Rattle.cb_world.specs.Performs.{Performs}
 use Rattle.cb_world.specs.Sound.{Sound}
+use Rattle.cb_evict.specs.declared.eviction.Eviction.{Eviction}
+use Rattle.cb_evict.specs.declared.eviction.Eviction.TheVariants.{Refused, Set}
 use Rattle.cb_core.specs.Parts.{Holding, WithRoom, WhereItIs, NeverDeclined, BringsIn, RoomStops, CallStops, NeverLacks}
 use Rattle.cb_core.specs.Parts.WithRoom.{at_once, no_room, won}
 use Rattle.cb_core.specs.Parts.WhereItIs.{near, declined, stays_far, brought}
 use Rattle.cb_core.specs.Parts.BringsIn.{not_far, was_far}
 use Rattle.cb_core.specs.Parts.RoomStops.{at_once as lacks_now, evicting, after}
 use Rattle.cb_core.specs.Parts.CallStops.{near as lacks_near, far as lacks_far, after as lacks_after}
-use Rattle.cb_core.specs.Turned.{Operates, Swaps, SwapLacks, Brings, BringLacks, Evicts, EvictLacks, Makes, MakeLacks, Reads, ReadLacks, Writes, Declines, Finds, Does, Stops, Turned, Stopped, once_counted, worn, done}
+use Rattle.cb_core.specs.Turned.{Operates, Swaps, SwapLacks, Brings, BringLacks, Evicts, EvictLacks, WinsRoom, Makes, MakeLacks, Reads, ReadLacks, Writes, Declines, Finds, Does, Stops, Turned, Stopped, once_counted, worn, done}
 
 -- a relation of holdings, and one of where a part stopped
 abbrev Part : Type 0 → Type 0 → Type 1
@@ -56,13 +58,13 @@ module _ {D E : Type 0} (run : D → List Event → D → Type 0) (shows : D →
   }
 
   -- ---- the combinators
-  with_room : (P F : Part D Reply) (Q G : Part E Reply) → Maps P Q → Maps F G
-      → Maps (WithRoom P F) (WithRoom Q G)
-  with_room P F Q G p e a b r (at_once o off) = at_once (p a b r o) off
-  with_room P F Q G p e a b r (no_room m refusal o v none is) =
-      no_room (on m) refusal (p a m answer.NoFrame o) (e m b refusal v) none is
-  with_room P F Q G p e a b r (won m n id o v again off) =
-      won (on m) (on n) id (p a m answer.NoFrame o) (e m n (answer.Set id) v) (p n b r again) off
+  with_room : (frames : ℕ) (P : Part D Reply) (F : Part D Eviction) (Q : Part E Reply)
+      (G : Part E Eviction) → Maps P Q → Maps F G → Maps (WithRoom frames P F) (WithRoom frames Q G)
+  with_room frames P F Q G p e a b r (at_once o off) = at_once (p a b r o) off
+  with_room frames P F Q G p e a b r (no_room m why loose nodes o v is) =
+      no_room (on m) why loose nodes (p a m answer.NoFrame o) (e m b (Refused why loose nodes) v) is
+  with_room frames P F Q G p e a b r (won m n id o v again off) =
+      won (on m) (on n) id (p a m answer.NoFrame o) (e m n (Set id) v) (p n b r again) off
 
   where_it_is : (P F : Part D Reply) (L : Part D (Option Reply)) (Q G : Part E Reply)
       (M : Part E (Option Reply)) → Maps P Q → Maps L M → Maps F G
@@ -81,13 +83,14 @@ module _ {D E : Type 0} (run : D → List Event → D → Type 0) (shows : D →
   brings_in P F Q G p e a b r (not_far o off) = not_far (p a b r o) off
   brings_in P F Q G p e a b r (was_far m o v) = was_far (on m) (p a m answer.NotHere o) (e m b r v)
 
-  room_stops : (P F : Part D Reply) (L I : Lack D) (Q G : Part E Reply) (M J : Lack E) → Maps P Q
-      → MapsLack L M → Maps F G → MapsLack I J → MapsLack (RoomStops P L F I) (RoomStops Q M G J)
+  room_stops : (P : Part D Reply) (F : Part D Eviction) (L I : Lack D) (Q : Part E Reply)
+      (G : Part E Eviction) (M J : Lack E) → Maps P Q → MapsLack L M → Maps F G → MapsLack I J
+      → MapsLack (RoomStops P L F I) (RoomStops Q M G J)
   room_stops P F L I Q G M J p l e i a b (lacks_now o) = lacks_now (l a b o)
   room_stops P F L I Q G M J p l e i a b (evicting m o v) =
       evicting (on m) (p a m answer.NoFrame o) (i m b v)
   room_stops P F L I Q G M J p l e i a b (after m n id o v w) =
-      after (on m) (on n) id (p a m answer.NoFrame o) (e m n (answer.Set id) v) (l n b w)
+      after (on m) (on n) id (p a m answer.NoFrame o) (e m n (Set id) v) (l n b w)
 
   call_stops : (P F : Part D Reply) (S : Part D (Option Reply)) (L I : Lack D) (Q G : Part E Reply)
       (T : Part E (Option Reply)) (M J : Lack E) → Maps P Q → MapsLack L M → Maps S T → Maps F G
@@ -137,6 +140,9 @@ module _ {D E : Type 0} (run : D → List Event → D → Type 0) (shows : D →
   swap_lacks : (h : ℕ) → MapsLack (SwapLacks run h) (SwapLacks other_run h)
   swap_lacks h a b (ran, given) = (back a.desk b.desk [] ran, given)
 
+  wins : (c : Config) → Maps (WinsRoom run shows c) (WinsRoom other_run other_shows c)
+  wins c a b v p = performs a.desk b.desk a.far _ _ _ p
+
   evicts : (c : Config) → Maps (Evicts run shows c) (Evicts other_run other_shows c)
   evicts c a b r p = performs a.desk b.desk a.far _ _ _ p
 
@@ -144,21 +150,22 @@ module _ {D E : Type 0} (run : D → List Event → D → Type 0) (shows : D →
   evict_lacks a b (same, p) = (same, performs a.desk b.desk a.far _ _ _ p)
 
   brings : (c : Config) (h : ℕ) → Maps (Brings run shows c h) (Brings other_run other_shows c h)
-  brings c h = with_room (Swaps run shows h) (Evicts run shows c) (Swaps other_run other_shows h)
-      (Evicts other_run other_shows c) (swaps h) (evicts c)
+  brings c h = with_room c.frames (Swaps run shows h) (WinsRoom run shows c)
+      (Swaps other_run other_shows h) (WinsRoom other_run other_shows c) (swaps h) (wins c)
 
   bring_lacks : (c : Config) (h : ℕ)
       → MapsLack (BringLacks run shows c h) (BringLacks other_run other_shows c h)
-  bring_lacks c h = room_stops (Swaps run shows h) (Evicts run shows c) (SwapLacks run h)
-      (EvictLacks run shows) (Swaps other_run other_shows h) (Evicts other_run other_shows c)
-      (SwapLacks other_run h) (EvictLacks other_run other_shows) (swaps h) (swap_lacks h) (evicts c)
+  bring_lacks c h = room_stops (Swaps run shows h) (WinsRoom run shows c) (SwapLacks run h)
+      (EvictLacks run shows) (Swaps other_run other_shows h) (WinsRoom other_run other_shows c)
+      (SwapLacks other_run h) (EvictLacks other_run other_shows) (swaps h) (swap_lacks h) (wins c)
       evict_lacks
 
   -- ---- the jobs
   pub does : (c : Config) (job : Job) → Maps (Does run shows c job) (Does other_run other_shows c job)
   does c (Make bytes) a b r x =
-      with_room (Makes run shows c bytes) (Evicts run shows c) (Makes other_run other_shows c bytes)
-      (Evicts other_run other_shows c) (makes c bytes) (evicts c) a b r x
+      with_room c.frames (Makes run shows c bytes) (WinsRoom run shows c)
+      (Makes other_run other_shows c bytes) (WinsRoom other_run other_shows c) (makes c bytes) (wins c)
+      a b r x
   does c (Read handle) a b r x = let h = handle.n in
       where_it_is (Reads run shows h) (Brings run shows c h) NeverDeclined
       (Reads other_run other_shows h) (Brings other_run other_shows c h) NeverDeclined (reads h) never
@@ -186,10 +193,10 @@ module _ {D E : Type 0} (run : D → List Event → D → Type 0) (shows : D →
   pub stops : (c : Config) (job : Job)
       → MapsLack (Stops run shows c job) (Stops other_run other_shows c job)
   stops c (Make bytes) a b x =
-      room_stops (Makes run shows c bytes) (Evicts run shows c) (MakeLacks run c bytes)
-      (EvictLacks run shows) (Makes other_run other_shows c bytes) (Evicts other_run other_shows c)
+      room_stops (Makes run shows c bytes) (WinsRoom run shows c) (MakeLacks run c bytes)
+      (EvictLacks run shows) (Makes other_run other_shows c bytes) (WinsRoom other_run other_shows c)
       (MakeLacks other_run c bytes) (EvictLacks other_run other_shows) (makes c bytes)
-      (make_lacks c bytes) (evicts c) evict_lacks a b x
+      (make_lacks c bytes) (wins c) evict_lacks a b x
   stops c (Read handle) a b x = let h = handle.n in
       call_stops (Reads run shows h) (Brings run shows c h) NeverDeclined (ReadLacks run shows h)
       (BringLacks run shows c h) (Reads other_run other_shows h) (Brings other_run other_shows c h)

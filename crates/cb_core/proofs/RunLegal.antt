@@ -195,8 +195,8 @@ turn_goes : (before : List Called) (seat : ℕ) (j : Job) (r : Reply) (w new : W
     → (c : Around before w new) → IsJob w.desk.settings j → TurnStep j w r new
     → Goes before (event.Turn seat j) r w new c.after.shown
 turn_goes before seat j r w new c ok (worn end is same) = worn_goes before seat j r w new c is same
-turn_goes before seat j r w new c ok (done q few works is seats) =
-    done_goes before seat j r w new c ok few (done q few works is seats)
+turn_goes before seat j r w new c ok (done few works seats) =
+    done_goes before seat j r w new c ok few (done few works seats)
 
 -- ---- pins
 
@@ -335,8 +335,8 @@ event_first : (e : Event) (r : Reply) (w new : WorldState) → IsSoundWorld w �
     → new.far.first ≡ w.far.first
 event_first (event.Turn seat j) r w new sound (worn end is same) =
     ap (λ (v : WorldState). v.far.first) same
-event_first (event.Turn seat j) r w new sound (done q few works is seats) =
-    turn_first j w new r sound few (done q few works is seats)
+event_first (event.Turn seat j) r w new sound (done few works seats) =
+    turn_first j w new r sound few (done few works seats)
 event_first (event.Step seat (atomic.Load handle)) r w new sound step =
     ap (λ (v : WorldState). v.far.first) step.1
 event_first (event.Step seat (atomic.Pin handle)) r w new sound (scope_full full is same) =

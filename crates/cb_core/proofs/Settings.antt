@@ -7,6 +7,9 @@ use Rattle.cb_types.specs.declared.reply.Reply.TheVariants as answer
 use Rattle.cb_world.specs.Plain.{Words}
 use Rattle.cb_world.specs.World.{WorldState}
 use Rattle.cb_mutate.specs.MakeStep.{IsMakeStep}
+use Rattle.cb_evict.specs.declared.eviction.Eviction.{Eviction}
+use Rattle.cb_evict.specs.declared.eviction.Eviction.TheVariants.{Refused, Set}
+use Rattle.cb_evict.specs.Eviction.{reply_of}
 use Rattle.cb_evict.specs.AbortStep.{no_batch as none_to_abort, given_up}
 use Rattle.cb_evict.specs.BeginStep.{is_leaving, few_spans, few_nodes, begins}
 use Rattle.cb_evict.specs.CommitStep.{no_batch as none_to_commit, short, committed}
@@ -18,7 +21,7 @@ use Rattle.cb_core.specs.declared.event.Event.{Event}
 use Rattle.cb_core.specs.declared.event.Event.TheVariants as event
 use Rattle.cb_core.specs.Parts.{Holding, NeverDeclined, WithRoom, at_once, no_room, won, WhereItIs, near, declined, stays_far, brought, BringsIn, not_far, was_far, after, far}
 use Rattle.cb_core.specs.Pinning.{PinStep, scope_full, refused, taken, UnpinStep, not_pinned, given}
-use Rattle.cb_core.specs.Step.{StillMake, StillRead, StillWrite, StillFree, StillFind, StillDecline, StillEvict, StillSwap, StillBring, StillFilter, StillBegin, StillShip, StillCommit, StillAbort, StillWorks, TurnStep, worn, done, Step}
+use Rattle.cb_core.specs.Step.{StillMake, StillRead, StillWrite, StillFree, StillFind, StillDecline, StillEvict, StillRoom, StillSwap, StillBring, StillFilter, StillBegin, StillShip, StillCommit, StillAbort, StillWorks, TurnStep, worn, done, Step}
 use Rattle.cb_core.specs.Turned.{counted}
 use Rattle.cb_core.proofs.Changes.{read_leaves, write_leaves, free_leaves}
 
@@ -37,12 +40,13 @@ words_same : (a b : Holding Words) → b.desk ≡ a.desk → Same a b
 words_same a b e = ap (λ (x : Words). x.settings) e
 
 -- ---- the parts one after another
-room_same : (P E : Holding Words → Reply → Holding Words → Type 0) → Stay P → Stay E
-    → Stay (WithRoom P E)
-room_same P E p e a b r (at_once o off) = p a b r o
-room_same P E p e a b r (no_room m refusal o v none is) = e m b refusal v ∙ p a m answer.NoFrame o
-room_same P E p e a b r (won m n id o v again off) =
-    p n b r again ∙ e m n (answer.Set id) v ∙ p a m answer.NoFrame o
+room_same : (n : ℕ) (P : Holding Words → Reply → Holding Words → Type 0)
+    (E : Holding Words → Eviction → Holding Words → Type 0) → Stay P → Stay E → Stay (WithRoom n P E)
+room_same n P E p e a b r (at_once o off) = p a b r o
+room_same n P E p e a b r (no_room m why loose nodes o v is) =
+    e m b (Refused why loose nodes) v ∙ p a m answer.NoFrame o
+room_same n P E p e a b r (won m k id o v again off) =
+    p k b r again ∙ e m k (Set id) v ∙ p a m answer.NoFrame o
 
 where_same : (P : Holding Words → Reply → Holding Words → Type 0)
     (L : Holding Words → Option Reply → Holding Words → Type 0)
@@ -99,12 +103,17 @@ decline_same h at count a b r step = same_as a b step.1
 evict_same : Stay StillEvict
 evict_same a b r step = evict_settings a.desk b.desk a.far b.far r step.0
 
+room_won_same : Stay StillRoom
+room_won_same a b e step =
+    evict_settings a.desk b.desk a.far b.far (reply_of e) step.0.step
+
 swap_same : (h : ℕ) → Stay (StillSwap h)
 swap_same h a b r (home, at, step, hold) =
     settings_stay a.desk b.desk a.far b.far home.set home.position r step
 
 bring_same : (h : ℕ) → Stay (StillBring h)
-bring_same h = room_same (StillSwap h) StillEvict (swap_same h) evict_same
+bring_same h a b r step = room_same a.desk.settings.frames (StillSwap h) StillRoom (swap_same h)
+    room_won_same a b r step
 
 filter_same : (h : ℕ) → Stay (StillFilter h)
 filter_same h a b r (refuses why same state, hold) = words_same a b same
@@ -133,7 +142,7 @@ abort_same a b r (given_up g back, hold) = back.settings
 -- ---- a job, and one that found no memory
 works_settings : (job : Job) (a b : Holding Words) (r : Reply) → StillWorks job a r b → Same a b
 works_settings (Make bytes) a b r step =
-    room_same (StillMake bytes) StillEvict (make_same bytes) evict_same a b r step
+    room_same a.desk.settings.frames (StillMake bytes) StillRoom (make_same bytes) room_won_same a b r step
 works_settings (Read handle) a b r step = where_same (StillRead handle.n) NeverDeclined
     (StillBring handle.n) (read_same handle.n) never_same (bring_same handle.n) a b r step
 works_settings (Write handle at bytes) a b r step = where_same (StillWrite handle.n at bytes)
@@ -161,9 +170,9 @@ works_settings Compact a b r step = absurd step
 turn_settings : (w new : WorldState) (job : Job) (r : Reply) → TurnStep job w r new
     → new.desk.settings ≡ w.desk.settings
 turn_settings w new job r (worn end reply same) = ap (λ (v : WorldState). v.desk.settings) same
-turn_settings w new job r (done q few works reply seats) =
+turn_settings w new job r (done few works seats) =
     works_settings job (record { desk = w.desk; far = counted w.far job })
-    (record { desk = new.desk; far = new.far }) q works
+    (record { desk = new.desk; far = new.far }) r works
 
 pin_settings : (w new : WorldState) (seat h : ℕ) (r : Reply) → PinStep seat h w r new
     → new.desk.settings ≡ w.desk.settings

@@ -43,8 +43,10 @@ use Rattle.cb_mutate.proofs.WriteStep.{write_step}
 use Rattle.cb_evict.specs.Evicting.{TouchesSpans}
 use Rattle.cb_evict.specs.EvictEffect.{EvictEffect}
 use Rattle.cb_evict.specs.EvictRule.{EvictRule}
+use Rattle.cb_evict.specs.Eviction.{CountsRule, reply_of}
 use Rattle.cb_evict.proofs.AfterEvict.{evict_settings, evict_seats}
-use Rattle.cb_evict.proofs.EvictStep.{evict_step, evict_stopped}
+use Rattle.cb_evict.proofs.Composed.{rule_weaker}
+use Rattle.cb_evict.proofs.EvictStep.{counted_step, evict_step, evict_stopped}
 use Rattle.cb_evict.proofs.Stays.{evict_stays}
 use Rattle.cb_swapin.specs.Fetching.{far_given}
 use Rattle.cb_swapin.proofs.FarHomes.{given_known}
@@ -54,8 +56,8 @@ use Rattle.cb_swapin.proofs.SwapStep.{swap_step}
 use Rattle.cb_swapin.proofs.SwapWorld.{pinned_kept}
 use Rattle.cb_core.specs.Declining.{write_refusal}
 use Rattle.cb_core.specs.Parts.{Holding, NeverDeclined}
-use Rattle.cb_core.specs.Step.{StillMake, StillRead, StillWrite, StillFree, StillFind, StillDecline, StillEvict, StillSwap, StillMakeLacks, StillReadLacks, StillEvictLacks, StillSwapLacks}
-use Rattle.cb_core.specs.Turned.{Makes, Reads, Writes, Frees, Finds, Declines, Evicts, Swaps, MakeLacks, ReadLacks, EvictLacks, SwapLacks, IsDeclined}
+use Rattle.cb_core.specs.Step.{StillMake, StillRead, StillWrite, StillFree, StillFind, StillDecline, StillEvict, StillRoom, StillSwap, StillMakeLacks, StillReadLacks, StillEvictLacks, StillSwapLacks}
+use Rattle.cb_core.specs.Turned.{Makes, Reads, Writes, Frees, Finds, Declines, Evicts, WinsRoom, Swaps, MakeLacks, ReadLacks, EvictLacks, SwapLacks, IsDeclined}
 use Rattle.cb_core.proofs.Changes.{MayGo, read_leaves, write_leaves, free_leaves}
 use Rattle.cb_core.proofs.KeptParts.{IsGood, Rises, Arrives, Carries, CarriesLack, arrives_same, arrives_stays}
 use Rattle.cb_core.proofs.KeptPins.{seen_pinned, written_pinned, freed_pinned, new_pinned, no_pins}
@@ -269,6 +271,21 @@ evict_part c seats accepted a b r good p =
         pinned = evict_seats x y far new r seats z.0 good.pinned;
       };
       rises = stays.rises;
+    }
+
+-- so is one that tells both counts
+pub room_part : (c : Config) (seats : List SeatState) → IsAccepted c
+    → Carries c seats 24 (WinsRoom Ran Tells c) StillRoom
+room_part c seats accepted a b e good p =
+    let x = a.desk in let y = b.desk in let far = a.far in let new = b.far in
+    let q = subst (λ (d : Config). PerformsStill x y far new (CountsRule d far new e)
+    (EvictEffect far new (reply_of e))) (sym good.settings) p in
+    let z = evict_part c seats accepted a b (reply_of e) good (rule_weaker _ _ _ (CountsRule c far new e)
+    (EvictRule c far new (reply_of e)) (EvictEffect far new (reply_of e)) (λ es r. r.rule) p) in
+    record {
+      is = (counted_step x y far new e good.shown q good.known, z.is.1);
+      good = z.good;
+      rises = z.rises;
     }
 
 pub swap_part : (c : Config) (seats : List SeatState) (h : ℕ)

@@ -5,33 +5,37 @@ use Rattle.cb_types.specs.declared.reply.Reply.{Reply}
 use Rattle.cb_types.specs.declared.reply.Reply.TheVariants as answer
 use Rattle.cb_world.specs.Plain.{Words}
 use Rattle.cb_world.specs.Seats.{SeatState}
+use Rattle.cb_evict.specs.declared.eviction.Eviction.{Eviction}
+use Rattle.cb_evict.specs.declared.eviction.Eviction.TheVariants.{Refused, Set}
 use Rattle.cb_core.specs.Parts.{Holding, WithRoom, at_once, no_room, won, WhereItIs, near, declined, stays_far, brought, BringsIn, not_far, was_far, RoomStops, evicting, after, CallStops, far}
 use Rattle.cb_core.proofs.KeptParts.{Carries, CarriesLack, arrives_then, arrives_more}
 
 -- an operation for which room is won
-pub with_room : (c : Config) (seats : List SeatState) (n m k : ℕ)
-    (P Q E F : Holding Words → Reply → Holding Words → Type 0) → n + m + n ≤ k
+pub with_room : (c : Config) (seats : List SeatState) (frames n m k : ℕ)
+    (P Q : Holding Words → Reply → Holding Words → Type 0)
+    (E F : Holding Words → Eviction → Holding Words → Type 0) → n + m + n ≤ k
     → Carries c seats n P Q → Carries c seats m E F
-    → Carries c seats k (WithRoom P E) (WithRoom Q F)
-with_room c seats n m k P Q E F most p e a b r good (at_once o off) =
+    → Carries c seats k (WithRoom frames P E) (WithRoom frames Q F)
+with_room c seats frames n m k P Q E F most p e a b r good (at_once o off) =
     let z = p a b r good o in
     arrives_more c seats n k a b (Q a r b) _ (omega (arith, most)) z (at_once z.is off)
-with_room c seats n m k P Q E F most p e a b r good (no_room mid refusal o v none is) =
+with_room c seats frames n m k P Q E F most p e a b r good (no_room mid why loose nodes o v is) =
     let z = p a mid answer.NoFrame good o in
-    let y = e mid b refusal z.good v in
+    let y = e mid b (Refused why loose nodes) z.good v in
     arrives_then c seats n m k a mid b _ _ _ (omega (arith, most)) z y
-    (no_room mid refusal z.is y.is none is)
-with_room c seats n m k P Q E F most p e a b r good (won mid next id o v again off) =
+    (no_room mid why loose nodes z.is y.is is)
+with_room c seats frames n m k P Q E F most p e a b r good (won mid next id o v again off) =
     let z = p a mid answer.NoFrame good o in
-    let y = e mid next (answer.Set id) z.good v in
+    let y = e mid next (Set id) z.good v in
     let x = p next b r y.good again in
     arrives_then c seats (n + m) n k a next b _ _ _ most
-    (arrives_then c seats n m (n + m) a mid next _ _ (F mid (answer.Set id) next) (omega arith) z y y.is)
+    (arrives_then c seats n m (n + m) a mid next _ _ (F mid (Set id) next) (omega arith) z y y.is)
     x (won mid next id z.is y.is x.is off)
 
 -- one that found no memory
 pub room_stops : (c : Config) (seats : List SeatState) (n m k : ℕ)
-    (P Q E F : Holding Words → Reply → Holding Words → Type 0)
+    (P Q : Holding Words → Reply → Holding Words → Type 0)
+    (E F : Holding Words → Eviction → Holding Words → Type 0)
     (L M I J : Holding Words → Holding Words → Type 0) → n + m + n ≤ k
     → Carries c seats n P Q → CarriesLack c seats n L M
     → Carries c seats m E F → CarriesLack c seats m I J
@@ -45,10 +49,10 @@ room_stops c seats n m k P Q E F L M I J most p l e i a b good (evicting mid o v
     arrives_then c seats n m k a mid b _ _ _ (omega (arith, most)) z y (evicting mid z.is y.is)
 room_stops c seats n m k P Q E F L M I J most p l e i a b good (after mid next id o v w) =
     let z = p a mid answer.NoFrame good o in
-    let y = e mid next (answer.Set id) z.good v in
+    let y = e mid next (Set id) z.good v in
     let x = l next b y.good w in
     arrives_then c seats (n + m) n k a next b _ _ _ most
-    (arrives_then c seats n m (n + m) a mid next _ _ (F mid (answer.Set id) next) (omega arith) z y y.is)
+    (arrives_then c seats n m (n + m) a mid next _ _ (F mid (Set id) next) (omega arith) z y y.is)
     x (after mid next id z.is y.is x.is)
 
 -- a call on an object wherever it is

@@ -15,7 +15,6 @@ use Rattle.cb_world.specs.StillWords.{stamp_at}
 use Rattle.cb_world.specs.World.{WorldState, IsKnown, IsSoundWorld, word_at}
 use Rattle.cb_mutate.proofs.FreeCall.{free_call}
 use Rattle.cb_core.specs.Parts.{Holding, NeverDeclined}
-use Rattle.cb_core.specs.Room.{final_reply}
 use Rattle.cb_core.specs.Step.{StillRead, StillWrite, StillDecline, StillWorks, TurnStep, worn, done}
 use Rattle.cb_core.specs.Turned.{counted}
 use Rattle.cb_core.proofs.TurnCallsKept.{HasKept, once_known, kept_evict}
@@ -26,7 +25,7 @@ use Rattle.cb_core.proofs.TurnCallsMake.{IsMadeAs, make_answered, evict_line}
 use Rattle.cb_core.proofs.TurnCallsMap.{IsSameMap, map_stays, map_then, counted_map, call_carried, make_carried}
 use Rattle.cb_core.proofs.TurnCallsNodes.{IsMapLost, crash_map, join_map, crash_line, join_line}
 use Rattle.cb_core.proofs.TurnCallsParts.{read_part, write_part, read_refusable, write_refusable}
-use Rattle.cb_core.proofs.TurnCallsReply.{own_final, free_line}
+use Rattle.cb_core.proofs.TurnCallsReply.{free_line}
 use Rattle.cb_core.proofs.TurnCallsSwap.{IsSwapAs, swap_answered}
 use Rattle.cb_core.proofs.TurnCallsWhere.{IsAnswered, where_answered, kept_map, within}
 
@@ -37,16 +36,11 @@ held_at w j = record { desk = w.desk; far = counted w.far j }
 abbrev pub held_then : WorldState → Holding Words
 held_then new = record { desk = new.desk; far = new.far }
 
--- a turn that was made: its parts, and their reply
-pub record IsDone (j : Job) (w : WorldState) (r : Reply) (new : WorldState) : Type 0 where
-  pub reply : Reply
-  pub works : StillWorks j (held_at w j) reply (held_then new)
-  pub is : r ≡ final_reply new reply
-
+-- a turn that was made: its parts
 pub is_done : (j : Job) (w new : WorldState) (r : Reply) → w.far.counts.turns < 2 ^ 40
-    → TurnStep j w r new → IsDone j w r new
+    → TurnStep j w r new → StillWorks j (held_at w j) r (held_then new)
 is_done j w new r few (worn end is same) = absurd (omega (arith, few, end))
-is_done j w new r few (done q more works is seats) = record { reply = q; works = works; is = is }
+is_done j w new r few (done more works seats) = works
 
 -- what is known once the turn is counted
 pub known_at : (w : WorldState) (j : Job) → (before : IsSoundWorld w)
@@ -72,12 +66,10 @@ pub read_turn : (w new : WorldState) (h : ℕ) (name : List ℕ) (r : Reply) →
 read_turn w new h name r before after few below step =
     let j = job.Read (record { n = h }) in
     let d = is_done j w new r few step in
-    subst (IsAnswered w.desk.settings.handles before.shown after.shown w.far new.far h (Read name))
-    (sym d.is) (answered_at w.desk.settings.handles w j before.shown after.shown new.far h (Read name)
-    (final_reply new d.reply)
+    answered_at w.desk.settings.handles w j before.shown after.shown new.far h (Read name) r
     (where_answered (StillRead h) NeverDeclined h (Read name) (read_part h name) (held_at w j)
-    (held_then new) before.shown after.shown d.reply new (read_refusable name) (known_at w j before)
-    after.known below d.works))
+    (held_then new) before.shown after.shown r (read_refusable name) (known_at w j before)
+    after.known below d)
 
 -- A write, wherever the object is.
 pub write_turn : (w new : WorldState) (h at : ℕ) (bytes name : List ℕ) (r : Reply)
@@ -87,13 +79,10 @@ pub write_turn : (w new : WorldState) (h at : ℕ) (bytes name : List ℕ) (r : 
 write_turn w new h at bytes name r before after few below step =
     let j = job.Write (record { n = h }) at bytes in
     let d = is_done j w new r few step in
-    subst (IsAnswered w.desk.settings.handles before.shown after.shown w.far new.far h
-    (Write name at bytes)) (sym d.is)
-    (answered_at w.desk.settings.handles w j before.shown after.shown new.far h (Write name at bytes)
-    (final_reply new d.reply)
+    answered_at w.desk.settings.handles w j before.shown after.shown new.far h (Write name at bytes) r
     (where_answered (StillWrite h at bytes) (StillDecline h at (length bytes)) h (Write name at bytes)
-    (write_part h at bytes name) (held_at w j) (held_then new) before.shown after.shown d.reply new
-    (write_refusable name at bytes) (known_at w j before) after.known below d.works))
+    (write_part h at bytes name) (held_at w j) (held_then new) before.shown after.shown r
+    (write_refusable name at bytes) (known_at w j before) after.known below d)
 
 -- A free: a far object is freed where it is.
 pub free_turn : (w new : WorldState) (h : ℕ) (name : List ℕ) (r : Reply) → (before : IsSoundWorld w)
@@ -103,17 +92,13 @@ pub free_turn : (w new : WorldState) (h : ℕ) (name : List ℕ) (r : Reply) →
 free_turn w new h name r before after few below step =
     let j = job.Free (record { n = h }) in
     let d = is_done j w new r few step in
-    let line = free_line (word_at w.desk h) (stamp_at w.desk h) name d.reply d.works.reply in
-    let own = d.is ∙ own_final (Free name) new d.reply line (λ e. e) in
-    subst (IsAnswered w.desk.settings.handles before.shown after.shown w.far new.far h (Free name))
-    (sym own) (answered_at w.desk.settings.handles w j before.shown after.shown new.far h (Free name)
-    d.reply (record {
+    answered_at w.desk.settings.handles w j before.shown after.shown new.far h (Free name) r (record {
       call = free_call w.desk new.desk (counted w.far j) new.far before.shown after.shown h
-          w.desk.settings.handles name d.reply
+          w.desk.settings.handles name r
           (record { before = known_at w j before; afterwards = after.known })
-          (within (held_at w j) before.shown h (known_at w j before) below) d.works;
-      line = line;
-    }))
+          (within (held_at w j) before.shown h (known_at w j before) below) d;
+      line = free_line (word_at w.desk h) (stamp_at w.desk h) name r d.reply;
+    })
 
 -- A make, for which room is won.
 pub make_turn : (w new : WorldState) (bytes name : List ℕ) (r : Reply) → (before : IsSoundWorld w)
@@ -122,15 +107,14 @@ pub make_turn : (w new : WorldState) (bytes name : List ℕ) (r : Reply) → (be
 make_turn w new bytes name r before after few step =
     let j = job.Make bytes in
     let d = is_done j w new r few step in
-    let z = make_answered (held_at w j) (held_then new) before.shown after.shown bytes name d.reply new
-    (known_at w j before) after.known d.works in
-    subst (IsMadeAs w.desk.settings.handles before.shown after.shown w.far new.far (Make name bytes))
-    (sym d.is) (record {
+    let z = make_answered (held_at w j) (held_then new) before.shown after.shown bytes name r
+    (known_at w j before) after.known d in
+    record {
       call = make_carried w.desk.settings.handles before.shown before.shown after.shown after.shown w.far
-          (counted w.far j) new.far new.far (Make name bytes) (final_reply new d.reply)
+          (counted w.far j) new.far new.far (Make name bytes) r
           (counted_map before.shown w.far j) (map_stays after.shown new.far) z.call;
       line = z.line;
-    })
+    }
 
 -- ---- turns that are no calls
 -- Each turn of the job leaves the map as it is, and is answered as a line of that request is.
@@ -144,15 +128,14 @@ quiet_turn : (j : Job) (line : Request)
     → ((a b : Holding Words) (q : Reply) (s : Shown) → IsKnown a.desk a.far s → StillWorks j a q b
     → HasKept a b s)
     → ((a b : Holding Words) (q : Reply) → StillWorks j a q b → IsReplyOf line q)
-    → (IsReplyOf line answer.NoFrame → ⊥) → IsQuiet j line
-quiet_turn j line keeps answered never w new r before after few step =
+    → IsQuiet j line
+quiet_turn j line keeps answered w new r before after few step =
     let d = is_done j w new r few step in
-    let kept = keeps (held_at w j) (held_then new) d.reply before.shown (known_at w j before) d.works in
-    let is = answered (held_at w j) (held_then new) d.reply d.works in (
+    let kept = keeps (held_at w j) (held_then new) r before.shown (known_at w j before) d in (
       map_then before.shown before.shown after.shown w.far (counted w.far j) new.far
           (counted_map before.shown w.far j)
           (kept_map (held_at w j) (held_then new) before.shown after.shown kept after.known),
-      subst (IsReplyOf line) (sym (d.is ∙ own_final line new d.reply is never)) is,
+      answered (held_at w j) (held_then new) r d,
     )
 
 -- A swap leaves the map as it is, and answers as a pin of the object may be refused, or that the object
@@ -164,17 +147,16 @@ pub swap_turn : (w new : WorldState) (h : ℕ) (r : Reply) → (before : IsSound
 swap_turn w new h r before after few below step =
     let j = job.Swap (record { n = h }) in
     let d = is_done j w new r few step in
-    let z = swap_answered (held_at w j) (held_then new) before.shown after.shown h d.reply new
-    (known_at w j before) after.known below d.works in
-    subst (IsSwapAs w.desk.settings.handles new.desk before.shown after.shown w.far new.far h) (sym d.is)
-    (record {
+    let z = swap_answered (held_at w j) (held_then new) before.shown after.shown h r
+    (known_at w j before) after.known below d in
+    record {
       same = map_then before.shown before.shown after.shown w.far (counted w.far j) new.far
           (counted_map before.shown w.far j) z.same;
       ends = z.ends;
       call = λ name. call_carried w.desk.settings.handles before.shown before.shown after.shown
-          after.shown w.far (counted w.far j) new.far new.far _ (final_reply new d.reply)
+          after.shown w.far (counted w.far j) new.far new.far _ r
           (counted_map before.shown w.far j) (map_stays after.shown new.far) h (z.call name);
-    })
+    }
 
 -- A filter leaves the map as it is, and answers as it is written of a line about an object in another
 -- way than by its contents.
@@ -185,44 +167,41 @@ pub filter_turn : (w new : WorldState) (h : ℕ) (r : Reply) → (before : IsSou
 filter_turn w new h r before after few below step =
     let j = job.Filter (record { n = h }) in
     let d = is_done j w new r few step in
-    let line = filter_line w.desk new.desk (counted w.far j) new.far h d.reply d.works.0 in
-    let z = filter_answered (held_at w j) (held_then new) before.shown after.shown h d.reply
-    (known_at w j before) after.known below d.works in
-    subst (IsFilterAs w.desk.settings.handles before.shown after.shown w.far new.far h)
-    (sym (d.is ∙ own_final (Filter []) new d.reply (line []) (λ e. e)))
-    (record {
+    let z = filter_answered (held_at w j) (held_then new) before.shown after.shown h r
+    (known_at w j before) after.known below d in
+    record {
       same = map_then before.shown before.shown after.shown w.far (counted w.far j) new.far
           (counted_map before.shown w.far j) z.same;
-      line = line;
+      line = filter_line w.desk new.desk (counted w.far j) new.far h r d.0;
       call = λ name. call_carried w.desk.settings.handles before.shown before.shown after.shown
-          after.shown w.far (counted w.far j) new.far new.far (Filter name) d.reply
+          after.shown w.far (counted w.far j) new.far new.far (Filter name) r
           (counted_map before.shown w.far j) (map_stays after.shown new.far) h (z.call name);
-    })
+    }
 
 -- An eviction, the steps of a batch, and a rebuild leave the map as it is.
 pub evict_turn : IsQuiet job.Evict Evict
 evict_turn = quiet_turn job.Evict Evict kept_evict
-    (λ a b q x. evict_line a.desk b.desk a.far b.far q x.0) (λ e. e)
+    (λ a b q x. evict_line a.desk b.desk a.far b.far q x.0)
 
 pub begin_turn : IsQuiet job.Begin Begin
 begin_turn = quiet_turn job.Begin Begin kept_begin
-    (λ a b q x. begin_line a.desk b.desk a.far b.far q x.0) (λ e. e)
+    (λ a b q x. begin_line a.desk b.desk a.far b.far q x.0)
 
 pub ship_turn : IsQuiet job.Ship Ship
 ship_turn = quiet_turn job.Ship Ship kept_ship
-    (λ a b q x. ship_line a.desk b.desk a.far b.far q x.0) (λ e. e)
+    (λ a b q x. ship_line a.desk b.desk a.far b.far q x.0)
 
 pub commit_turn : IsQuiet job.Commit Commit
 commit_turn = quiet_turn job.Commit Commit kept_commit
-    (λ a b q x. commit_line a.desk b.desk a.far b.far q x.0) (λ e. e)
+    (λ a b q x. commit_line a.desk b.desk a.far b.far q x.0)
 
 pub abort_turn : IsQuiet job.Abort Abort
 abort_turn = quiet_turn job.Abort Abort kept_abort
-    (λ a b q x. abort_line a.desk b.desk a.far b.far q x.0) (λ e. e)
+    (λ a b q x. abort_line a.desk b.desk a.far b.far q x.0)
 
 pub rebuild_turn : IsQuiet job.Rebuild Rebuild
 rebuild_turn = quiet_turn job.Rebuild Rebuild kept_rebuild
-    (λ a b q x. rebuild_line a.far b.far q x.1) (λ e. e)
+    (λ a b q x. rebuild_line a.far b.far q x.1)
 
 member : (w : WorldState) (node : NodeId) → IsSoundWorld w → node.n < w.desk.settings.nodes
     → node.n < length w.far.members.nodes
@@ -239,10 +218,10 @@ pub crash_turn : (w new : WorldState) (node : NodeId) (r : Reply) → (before : 
 crash_turn w new node r before after few below step =
     let j = job.Crash node in
     let d = is_done j w new r few step in
-    let lost = crash_map w.desk before.shown after.shown (counted w.far j) new.far node d.reply
+    let lost = crash_map w.desk before.shown after.shown (counted w.far j) new.far node r
     (known_at w j before)
-    (subst (λ (x : Words). IsKnown x new.far after.shown) d.works.0 after.known)
-    (member w node before below) d.works.1 in
+    (subst (λ (x : Words). IsKnown x new.far after.shown) d.0 after.known)
+    (member w node before below) d.1 in
     let same = counted_map before.shown w.far j in (
       record {
         now = λ h. elim (lost.now h) [
@@ -253,8 +232,7 @@ crash_turn w new node r before after few below step =
         first = lost.first;
         made = lost.made;
       },
-      subst (IsReplyOf (Crash node)) (sym d.is)
-          (crash_line (counted w.far j) new.far new node d.reply d.works.1),
+      crash_line (counted w.far j) new.far node r d.1,
     )
 
 -- A join leaves the map as it is.
@@ -267,12 +245,11 @@ join_turn w new node r before after few below step =
     let d = is_done j w new r few step in (
       map_then before.shown before.shown after.shown w.far (counted w.far j) new.far
           (counted_map before.shown w.far j)
-          (join_map w.desk before.shown after.shown (counted w.far j) new.far node d.reply
+          (join_map w.desk before.shown after.shown (counted w.far j) new.far node r
           (known_at w j before)
-          (subst (λ (x : Words). IsKnown x new.far after.shown) d.works.0 after.known)
-          (member w node before below) d.works.1),
-      subst (IsReplyOf (Join node)) (sym d.is)
-          (join_line (counted w.far j) new.far new node d.reply d.works.1),
+          (subst (λ (x : Words). IsKnown x new.far after.shown) d.0 after.known)
+          (member w node before below) d.1),
+      join_line (counted w.far j) new.far node r d.1,
     )
 
 -- ---- every turn
@@ -280,11 +257,11 @@ pub turn_first : (j : Job) (w new : WorldState) (r : Reply) → IsSoundWorld w
     → w.far.counts.turns < 2 ^ 40 → TurnStep j w r new → new.far.first ≡ w.far.first
 turn_first j w new r before few step =
     let d = is_done j w new r few step in
-    (works_turn j (held_at w j) (held_then new) before.shown d.reply (known_at w j before) d.works).first
+    (works_turn j (held_at w j) (held_then new) before.shown r (known_at w j before) d).first
 
 pub turn_turns : (j : Job) (w new : WorldState) (r : Reply) → IsSoundWorld w
     → w.far.counts.turns < 2 ^ 40 → TurnStep j w r new
     → new.far.counts.turns ≡ w.far.counts.turns + 1
 turn_turns j w new r before few step =
     let d = is_done j w new r few step in
-    (works_turn j (held_at w j) (held_then new) before.shown d.reply (known_at w j before) d.works).turns
+    (works_turn j (held_at w j) (held_then new) before.shown r (known_at w j before) d).turns

@@ -26,9 +26,10 @@ use Rattle.cb_swapin.proofs.FarHomes.{gone_is_broken}
 use Rattle.cb_swapin.proofs.SwapAnswers.{by_answer, unavailable_answer}
 use Rattle.cb_swapin.proofs.SwapKeeps.{step_only_no_frame}
 use Rattle.cb_swapin.proofs.SwapPins.{home_comes_in}
+use Rattle.cb_evict.specs.declared.eviction.Eviction.TheVariants.{Set}
 use Rattle.cb_core.specs.Parts.{Holding, at_once, no_room, won}
 use Rattle.cb_core.specs.Step.{StillSwap, StillBring}
-use Rattle.cb_core.proofs.TurnCallsKept.{HasKept, kept_swap, kept_evict, kept_then}
+use Rattle.cb_core.proofs.TurnCallsKept.{HasKept, kept_swap, kept_room, kept_then}
 
 -- The object's set has lost more shards than it has parities: its number, and what it lost.
 pub record IsLostFar (far : FarState) (h : ℕ) (id : SetId) (losses : List Loss) : Type 0 where
@@ -45,28 +46,31 @@ pub lost_gone : (far : FarState) (h : ℕ) (id : SetId) (losses : List Loss)
     → IsLostFar far h id losses → is_gone far h ≡ true
 lost_gone far h id losses z = gone_is_broken far h z.home z.set z.at z.there ∙ z.broken
 
--- A far object came in; or its set is broken, which the reply tells; or there was no frame for it.
+-- A far object came in; or its set is broken, which the reply tells; or there was no room for it.
 pub data BringEnds (a b : Holding Words) (h : ℕ) (r : Reply) : Type 0 where
   came : (f : ℕ) → r ≡ answer.Swapped f → is_gone a.far h ≡ false
       → state_of (word_at b.desk h) ≡ state.Here → BringEnds a b h r
   broke : (id : SetId) (losses : List Loss) → r ≡ answer.Unavailable id losses
       → IsLostFar a.far h id losses → BringEnds a b h r
-  crammed : r ≡ answer.NoFrame → is_gone a.far h ≡ false → BringEnds a b h r
+  crammed : (frames loose nodes : ℕ) → r ≡ answer.NoRoom frames loose nodes → is_gone a.far h ≡ false
+      → BringEnds a b h r
 
 swap_ends : (a b : Holding Words) (h : ℕ) (r : Reply) (s : Shown) → IsKnown a.desk a.far s
-    → StillSwap h a r b → BringEnds a b h r
-swap_ends a b h r s k (home, at, z, hold) =
+    → StillSwap h a r b → (r ≡ answer.NoFrame → ⊥) → BringEnds a b h r
+swap_ends a b h r s k (home, at, z, hold) never =
     subst (BringEnds a b h) (sym z.reply) (by_answer C a.far home.set z.set broken none some
-    (subst (IsSwapStep a.desk b.desk a.far b.far home.set home.position) z.reply z))
+    (subst (IsSwapStep a.desk b.desk a.far b.far home.set home.position) z.reply z)
+    (λ e. never (z.reply ∙ e)))
   where
     C : Reply → Type 0
-    C q = IsSwapStep a.desk b.desk a.far b.far home.set home.position q → BringEnds a b h q
+    C q = IsSwapStep a.desk b.desk a.far b.far home.set home.position q → (q ≡ answer.NoFrame → ⊥)
+        → BringEnds a b h q
 
     whole : is_broken a.far.members z.set ≡ false → is_gone a.far h ≡ false
     whole e = gone_is_broken a.far h home z.set at z.there ∙ e
 
     broken : is_broken a.far.members z.set ≡ true → C (unavailable_answer a.far home.set z.set)
-    broken e y = broke (record { n = home.set }) (lost a.far.members z.set.shards) refl (record {
+    broken e y never = broke (record { n = home.set }) (lost a.far.members z.set.shards) refl (record {
       home = home;
       set = z.set;
       at = at;
@@ -77,11 +81,11 @@ swap_ends a b h r s k (home, at, z, hold) =
     })
 
     none : is_broken a.far.members z.set ≡ false → least_free a.far.frames ≡ None → C answer.NoFrame
-    none e free y = crammed refl (whole e)
+    none e free y never = absurd (never refl)
 
     some : (f : ℕ) → is_broken a.far.members z.set ≡ false → least_free a.far.frames ≡ Some f
         → C (answer.Swapped f)
-    some f e free y = let then = hold s k in
+    some f e free y never = let then = hold s k in
         came f refl (whole e) (home_comes_in a.desk b.desk a.far b.far s then.0 h home f k then.1 at y).reads.here
 
 -- an object whose set is broken is gone, and no other is
@@ -104,14 +108,14 @@ lost_now x far s h id losses k z =
 
 pub bring_ends : (a b : Holding Words) (h : ℕ) (r : Reply) (s : Shown) → IsKnown a.desk a.far s
     → StillBring h a r b → BringEnds a b h r
-bring_ends a b h r s k (at_once swap some) = swap_ends a b h r s k swap
-bring_ends a b h r s k (no_room m refusal (home, at, z, hold) evict other e) =
-    crammed e (gone_is_broken a.far h home z.set at z.there
+bring_ends a b h r s k (at_once swap some) = swap_ends a b h r s k swap some
+bring_ends a b h r s k (no_room m why loose nodes (home, at, z, hold) evict e) =
+    crammed a.desk.settings.frames loose nodes e (gone_is_broken a.far h home z.set at z.there
     ∙ (step_only_no_frame a.desk m.desk a.far m.far home.set home.position z).0)
 bring_ends a b h r s k (won m n id (home, at, z, hold) evict again some) =
     let one = kept_swap a m h answer.NoFrame s k (home, at, z, hold) in
-    let two = kept_then a m n s one (kept_evict m n (answer.Set id) one.shown one.known evict) in
-    by two (swap_ends n b h r two.shown two.known again)
+    let two = kept_then a m n s one (kept_room m n (Set id) one.shown one.known evict) in
+    by two (swap_ends n b h r two.shown two.known again some)
   where
     whole : is_gone a.far h ≡ false
     whole = gone_is_broken a.far h home z.set at z.there
@@ -119,7 +123,7 @@ bring_ends a b h r s k (won m n id (home, at, z, hold) evict again some) =
 
     by : HasKept a n s → BringEnds n b h r → BringEnds a b h r
     by two (came f e kept here) = came f e whole here
-    by two (crammed e kept) = crammed e whole
+    by two (crammed frames loose nodes e kept) = crammed frames loose nodes e whole
     by two (broke i l e z) =
         let then = lost_now n.desk n.far two.shown h i l two.known z in
         absurd (never_gone s h then.0 (object_at s h)

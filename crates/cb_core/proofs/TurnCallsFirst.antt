@@ -15,12 +15,13 @@ use Rattle.cb_mutate.specs.FreeRule.{LeavesPlace}
 use Rattle.cb_mutate.specs.MakeStep.{IsMakeStep}
 use Rattle.cb_mutate.specs.Steps.{IsFreeStep}
 use Rattle.cb_core.specs.Membership.{CrashTurn, crashed, is_down, JoinTurn, joined, is_up}
+use Rattle.cb_evict.specs.declared.eviction.Eviction.TheVariants.{Refused, Set}
 use Rattle.cb_core.specs.Parts.{Holding, NeverDeclined, WithRoom, at_once, no_room, won, WhereItIs, near, declined, stays_far, brought, BringsIn, not_far, was_far}
-use Rattle.cb_core.specs.Step.{StillMake, StillEvict, StillBring, StillFind, StillRead, StillWrite, StillDecline, StillWorks}
+use Rattle.cb_core.specs.Step.{StillMake, StillRoom, StillBring, StillFind, StillRead, StillWrite, StillDecline, StillWorks}
 use Rattle.cb_core.proofs.Changes.{free_leaves}
 use Rattle.cb_core.proofs.TurnCallsMake.{make_crammed}
 use Rattle.cb_core.proofs.TurnCallsParts.{read_part, write_part}
-use Rattle.cb_core.proofs.TurnCallsKept.{HasKept, same_holding, kept_evict, kept_bring}
+use Rattle.cb_core.proofs.TurnCallsKept.{HasKept, same_holding, kept_evict, kept_room, kept_bring}
 use Rattle.cb_core.proofs.TurnCallsBatch.{kept_begin, kept_ship, kept_commit, kept_abort}
 use Rattle.cb_core.proofs.TurnCallsFilter.{kept_filter, kept_rebuild}
 
@@ -69,16 +70,16 @@ freed_turn x y far new h r step = elim (free_leaves x y far new h r step) [
 ]
 
 room_turn : (a b : Holding Words) (s : Shown) (bytes : List ℕ) (r : Reply) → IsKnown a.desk a.far s
-    → WithRoom (StillMake bytes) StillEvict a r b → IsTurnOf a.far b.far
+    → WithRoom a.desk.settings.frames (StillMake bytes) StillRoom a r b → IsTurnOf a.far b.far
 room_turn a b s bytes r k (at_once c never) = made_turn a.desk b.desk a.far b.far bytes r c
-room_turn a b s bytes r k (no_room m refusal c evict other e) =
+room_turn a b s bytes r k (no_room m why loose nodes c evict e) =
     let none = make_crammed a.desk m.desk a.far m.far bytes c in
-    turn_kept a b s (kept_evict a b refusal s k
-    (subst (λ (x : Holding Words). StillEvict x refusal b) (same_holding a m none.1 none.2) evict))
+    turn_kept a b s (kept_room a b (Refused why loose nodes) s k
+    (subst (λ (x : Holding Words). StillRoom x (Refused why loose nodes) b) (same_holding a m none.1 none.2) evict))
 room_turn a b s bytes r k (won m n id c evict again never) =
     let none = make_crammed a.desk m.desk a.far m.far bytes c in
-    turn_then a.far n.far b.far (turn_kept a n s (kept_evict a n (answer.Set id) s k
-    (subst (λ (x : Holding Words). StillEvict x (answer.Set id) n) (same_holding a m none.1 none.2) evict)))
+    turn_then a.far n.far b.far (turn_kept a n s (kept_room a n (Set id) s k
+    (subst (λ (x : Holding Words). StillRoom x (Set id) n) (same_holding a m none.1 none.2) evict)))
     (made_turn n.desk b.desk n.far b.far bytes r again)
 
 where_turn : (call : Holding Words → Reply → Holding Words → Type 0)

@@ -16,8 +16,11 @@ use Rattle.cb_world.proofs.NowSame.{now_same}
 use Rattle.cb_evict.proofs.AfterEvict.{evict_keeps, evict_pins, evict_settings}
 use Rattle.cb_swapin.proofs.SwapKeeps.{keeps_far, settings_stay}
 use Rattle.cb_swapin.proofs.SwapPins.{pins_stay}
+use Rattle.cb_evict.specs.declared.eviction.Eviction.{Eviction}
+use Rattle.cb_evict.specs.declared.eviction.Eviction.TheVariants.{Refused, Set}
+use Rattle.cb_evict.specs.Eviction.{reply_of}
 use Rattle.cb_core.specs.Parts.{Holding, at_once, no_room, won}
-use Rattle.cb_core.specs.Step.{StillEvict, StillSwap, StillBring}
+use Rattle.cb_core.specs.Step.{StillEvict, StillRoom, StillSwap, StillBring}
 use Rattle.cb_core.specs.Turned.{counted}
 
 -- All is known after, each object holds what it held, with its pins, no object was made, and no turn
@@ -91,16 +94,21 @@ kept_swap a b h r s k (home, at, step, hold) =
       pins = λ h. pins_stay a.desk b.desk a.far b.far home.set home.position r s k step h;
     }
 
+-- so does one that tells both counts
+pub kept_room : (a b : Holding Words) (e : Eviction) (s : Shown) → IsKnown a.desk a.far s
+    → StillRoom a e b → HasKept a b s
+kept_room a b e s k (step, hold) = kept_evict a b (reply_of e) s k (step.step, hold)
+
 -- what is done with room won keeps what its parts keep
 pub kept_bring : (a b : Holding Words) (h : ℕ) (r : Reply) (s : Shown) → IsKnown a.desk a.far s
     → StillBring h a r b → HasKept a b s
 kept_bring a b h r s k (at_once swap some) = kept_swap a b h r s k swap
-kept_bring a b h r s k (no_room m refusal swap evict other e) =
+kept_bring a b h r s k (no_room m why loose nodes swap evict e) =
     let one = kept_swap a m h answer.NoFrame s k swap in
-    kept_then a m b s one (kept_evict m b refusal one.shown one.known evict)
+    kept_then a m b s one (kept_room m b (Refused why loose nodes) one.shown one.known evict)
 kept_bring a b h r s k (won m n id swap evict again some) =
     let one = kept_swap a m h answer.NoFrame s k swap in
-    let two = kept_then a m n s one (kept_evict m n (answer.Set id) one.shown one.known evict) in
+    let two = kept_then a m n s one (kept_room m n (Set id) one.shown one.known evict) in
     kept_then a n b s two (kept_swap n b h r two.shown two.known again)
 
 -- what is known of the same words and far state is the same

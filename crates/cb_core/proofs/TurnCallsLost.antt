@@ -20,7 +20,6 @@ use Rattle.cb_world.specs.Sets.{set_in}
 use Rattle.cb_world.specs.World.{WorldState, IsKnown, word_at}
 use Rattle.cb_swapin.proofs.SwapPins.{named_far}
 use Rattle.cb_core.specs.Parts.{Holding, WhereItIs, near, declined, stays_far, brought}
-use Rattle.cb_core.specs.Room.{final_reply}
 use Rattle.cb_core.specs.Step.{StillBring}
 use Rattle.cb_core.proofs.TurnCallsFar.{IsLostFar, BringEnds, came, broke, crammed, bring_ends}
 use Rattle.cb_core.proofs.TurnCallsWhere.{IsPart}
@@ -87,26 +86,17 @@ brings_lost a b h id l (came f e whole here) = absurd (swapped_lost f e)
 brings_lost a b h id l (broke i m e lost) = let same = same_lost id i l m e in
     subst (λ (j : SetId). IsLostFar a.far h j l) (sym same.0)
     (subst (λ (n : List Loss). IsLostFar a.far h i n) (sym same.1) lost)
-brings_lost a b h id l (crammed e whole) = absurd (no_frame_lost e)
+brings_lost a b h id l (crammed frames loose nodes e whole) = absurd (no_room_lost e)
   where
-    no_frame_lost : answer.Unavailable id l ≡ answer.NoFrame → ⊥
-    no_frame_lost e = cc
+    no_room_lost : answer.Unavailable id l ≡ answer.NoRoom frames loose nodes → ⊥
+    no_room_lost e = cc
 
 -- and of an object that is gone it answers nothing else
 pub brings_gone : (a b : Holding Words) (h : ℕ) (r : Reply) → is_gone a.far h ≡ true → BringEnds a b h r
     → (id : SetId) × (l : List Loss) × (r ≡ answer.Unavailable id l) × IsLostFar a.far h id l
 brings_gone a b h r gone (came f e whole here) = absurd (false≢true (sym whole ∙ gone))
 brings_gone a b h r gone (broke i m e lost) = (i, m, e, lost)
-brings_gone a b h r gone (crammed e whole) = absurd (false≢true (sym whole ∙ gone))
-
--- the reply of the parts is that of the turn
-pub final_lost : (new : WorldState) (q : Reply) (id : SetId) (l : List Loss)
-    → final_reply new q ≡ answer.Unavailable id l → q ≡ answer.Unavailable id l
-final_lost new answer.NoFrame id l e = absurd (room_lost e)
-  where
-    room_lost : final_reply new answer.NoFrame ≡ answer.Unavailable id l → ⊥
-    room_lost e = cc
-final_lost new q id l e = e
+brings_gone a b h r gone (crammed frames loose nodes e whole) = absurd (false≢true (sym whole ∙ gone))
 
 module _ (call : Holding Words → Reply → Holding Words → Type 0)
     (look : Holding Words → Option Reply → Holding Words → Type 0) (h : ℕ) (q : Request)

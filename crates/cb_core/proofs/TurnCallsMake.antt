@@ -8,18 +8,17 @@ use Rattle.cb_types.specs.Table.{IsReplyOf}
 use Rattle.cb_world.specs.declared.shown.Shown.{Shown}
 use Rattle.cb_world.specs.FarState.{FarState}
 use Rattle.cb_world.specs.Plain.{Words}
-use Rattle.cb_world.specs.World.{WorldState, IsKnown}
+use Rattle.cb_world.specs.World.{IsKnown}
+use Rattle.cb_evict.specs.declared.eviction.Eviction.TheVariants.{Refused, Set}
 use Rattle.cb_evict.specs.EvictStep.{IsEvictStep, few_spans, few_nodes, made}
 use Rattle.cb_mutate.specs.MakeStep.{IsMakeStep}
 use Rattle.cb_mutate.specs.MapCalls.{IsMakeCall}
 use Rattle.cb_mutate.proofs.MakeCall.{make_call}
 use Rattle.cb_core.specs.Parts.{Holding, WithRoom, at_once, no_room, won}
-use Rattle.cb_core.specs.Room.{final_reply}
-use Rattle.cb_core.specs.Step.{StillMake, StillEvict}
-use Rattle.cb_core.proofs.TurnCallsKept.{same_holding, kept_evict}
+use Rattle.cb_core.specs.Step.{StillMake, StillRoom}
+use Rattle.cb_core.proofs.TurnCallsKept.{same_holding, kept_room}
 use Rattle.cb_core.proofs.TurnCallsMap.{map_stays, make_carried}
-use Rattle.cb_core.proofs.TurnCallsReply.{final_same}
-use Rattle.cb_core.proofs.TurnCallsWhere.{kept_map, no_frame}
+use Rattle.cb_core.proofs.TurnCallsWhere.{kept_map}
 
 -- the make is the map's, and the reply is one of the line's
 pub record IsMadeAs (handles : ℕ) (s t : Shown) (far new : FarState) (q : Request) (r : Reply)
@@ -50,23 +49,23 @@ make_line x y far new bytes name r (inr (more, inr (is, z))) never =
     subst (IsReplyOf (Make name bytes)) (sym is) tt
 
 pub make_answered : (a b : Holding Words) (s t : Shown) (bytes name : List ℕ) (r : Reply)
-    (new : WorldState) → IsKnown a.desk a.far s → IsKnown b.desk b.far t
-    → WithRoom (StillMake bytes) StillEvict a r b
-    → IsMadeAs a.desk.settings.handles s t a.far b.far (Make name bytes) (final_reply new r)
-make_answered a b s t bytes name r new before after (at_once c never) =
-    subst (IsMadeAs a.desk.settings.handles s t a.far b.far (Make name bytes))
-    (sym (final_same new r never)) (record {
+    → IsKnown a.desk a.far s → IsKnown b.desk b.far t
+    → WithRoom a.desk.settings.frames (StillMake bytes) StillRoom a r b
+    → IsMadeAs a.desk.settings.handles s t a.far b.far (Make name bytes) r
+make_answered a b s t bytes name r before after (at_once c never) =
+    record {
       call = make_call a.desk b.desk a.far b.far s t bytes name r
           (record { before = before; afterwards = after }) c;
       line = make_line a.desk b.desk a.far b.far bytes name r c never;
-    })
-make_answered a b s t bytes name r new before after (no_room m refusal c evict other e) =
+    }
+make_answered a b s t bytes name r before after (no_room m why loose nodes c evict e) =
     let none = make_crammed a.desk m.desk a.far m.far bytes c in
-    let kept = kept_evict a b refusal s before (subst (λ (x : Holding Words). StillEvict x refusal b)
+    let kept = kept_room a b (Refused why loose nodes) s before
+    (subst (λ (x : Holding Words). StillRoom x (Refused why loose nodes) b)
     (same_holding a m none.1 none.2) evict) in
     let same = kept_map a b s t kept after in
-    no_frame new r e (IsMadeAs a.desk.settings.handles s t a.far b.far (Make name bytes))
-    (λ frames loose nodes. record {
+    subst (IsMadeAs a.desk.settings.handles s t a.far b.far (Make name bytes)) (sym e)
+    (record {
       call = inr (record {
         reply = λ m. none.0;
         silent = refl;
@@ -75,13 +74,11 @@ make_answered a b s t bytes name r new before after (no_room m refusal c evict o
       });
       line = tt;
     })
-make_answered a b s t bytes name r new before after (won m n id c evict again never) =
+make_answered a b s t bytes name r before after (won m n id c evict again never) =
     let none = make_crammed a.desk m.desk a.far m.far bytes c in
-    let kept = kept_evict a n (answer.Set id) s before
-    (subst (λ (x : Holding Words). StillEvict x (answer.Set id) n) (same_holding a m none.1 none.2) evict)
-    in
-    subst (IsMadeAs a.desk.settings.handles s t a.far b.far (Make name bytes))
-    (sym (final_same new r never)) (record {
+    let kept = kept_room a n (Set id) s before
+    (subst (λ (x : Holding Words). StillRoom x (Set id) n) (same_holding a m none.1 none.2) evict) in
+    record {
       call = make_carried a.desk.settings.handles s kept.shown t t a.far n.far b.far b.far
           (Make name bytes) r
           (record { now = kept.same_now; first = kept.first; made = kept.made }) (map_stays t b.far)
@@ -89,7 +86,7 @@ make_answered a b s t bytes name r new before after (won m n id c evict again ne
           (make_call n.desk b.desk n.far b.far kept.shown t bytes name r
           (record { before = kept.known; afterwards = after }) again));
       line = make_line n.desk b.desk n.far b.far bytes name r again never;
-    })
+    }
 
 -- an eviction is answered the set that it made, or why it made none
 pub evict_line : (x y : Words) (far new : FarState) (r : Reply) → IsEvictStep x y far new r

@@ -18,7 +18,6 @@ use Rattle.cb_world.proofs.NodeJoin.{node_crash_sound, node_join_sound, node_joi
 use Rattle.cb_world.proofs.NowSame.{now_same}
 use Rattle.cb_core.specs.Membership.{CrashTurn, crashed, is_down, JoinTurn, joined, is_up}
 use Rattle.cb_core.proofs.TurnCallsMap.{IsSameMap}
-use Rattle.cb_core.specs.Room.{final_reply}
 
 -- each object holds what it held, or was held and is gone; as many were made
 pub record IsMapLost (s t : Shown) (far new : FarState) : Type 0 where
@@ -84,16 +83,12 @@ join_map x s t far new node r k l within (joined down reply same) = record {
   made = ap (λ (f : FarState). f.made) same;
 }
 
-pub crash_line : (far to : FarState) (new : WorldState) (node : NodeId) (q : Reply)
-    → CrashTurn node far q to → IsReplyOf (Crash node) (final_reply new q)
-crash_line far to new node q (crashed up is same) =
-    subst (IsReplyOf (Crash node)) (sym (ap (final_reply new) is)) tt
-crash_line far to new node q (is_down down is same) =
-    subst (IsReplyOf (Crash node)) (sym (ap (final_reply new) is)) tt
+pub crash_line : (far to : FarState) (node : NodeId) (q : Reply) → CrashTurn node far q to
+    → IsReplyOf (Crash node) q
+crash_line far to node q (crashed up is same) = subst (IsReplyOf (Crash node)) (sym is) tt
+crash_line far to node q (is_down down is same) = subst (IsReplyOf (Crash node)) (sym is) tt
 
-pub join_line : (far to : FarState) (new : WorldState) (node : NodeId) (q : Reply)
-    → JoinTurn node far q to → IsReplyOf (Join node) (final_reply new q)
-join_line far to new node q (joined down is same) =
-    subst (IsReplyOf (Join node)) (sym (ap (final_reply new) is)) tt
-join_line far to new node q (is_up up is same) =
-    subst (IsReplyOf (Join node)) (sym (ap (final_reply new) is)) tt
+pub join_line : (far to : FarState) (node : NodeId) (q : Reply) → JoinTurn node far q to
+    → IsReplyOf (Join node) q
+join_line far to node q (joined down is same) = subst (IsReplyOf (Join node)) (sym is) tt
+join_line far to node q (is_up up is same) = subst (IsReplyOf (Join node)) (sym is) tt

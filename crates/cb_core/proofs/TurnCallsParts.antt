@@ -45,7 +45,6 @@ read_refusable name = record {
   unavailable = λ id l. refl;
   room_line = λ frames loose nodes. tt;
   lost_line = λ id l. tt;
-  never = λ e. e;
 }
 
 pub write_refusable : (name : List ℕ) (at : ℕ) (bytes : List ℕ) → IsRefusable (Write name at bytes)
@@ -54,7 +53,6 @@ write_refusable name at bytes = record {
   unavailable = λ id l. refl;
   room_line = λ frames loose nodes. tt;
   lost_line = λ id l. tt;
-  never = λ e. e;
 }
 
 -- ---- no call on local memory is answered that a set is broken

@@ -13,7 +13,6 @@ use Rattle.cb_world.specs.StillWords.{stamp_at}
 use Rattle.cb_world.specs.World.{WorldState, IsKnown, IsSoundWorld, word_at}
 use Rattle.cb_mutate.specs.StillReplies.{reply_as, next_reply, change_reply, write_reply, free_as, free_reply}
 use Rattle.cb_core.specs.Parts.{Holding, WhereItIs, near, declined, stays_far, brought}
-use Rattle.cb_core.specs.Room.{final_reply}
 use Rattle.cb_core.specs.Step.{StillWrite, StillDecline, StillBring, StillWorks, TurnStep}
 use Rattle.cb_core.proofs.TurnCalls.{held_at, held_then, is_done, known_at}
 use Rattle.cb_core.proofs.TurnCallsFar.{BringEnds, came, broke, crammed, bring_ends}
@@ -92,19 +91,10 @@ free_pinned w v count e = by (state_of w) e
         moving e = cc
     by state.Here f = change_pinned w v count f
 
--- the reply of the parts is that of the turn
-final_pinned : (new : WorldState) (q : Reply) (count : ℕ) → final_reply new q ≡ answer.Pinned count
-    → q ≡ answer.Pinned count
-final_pinned new answer.NoFrame count e = absurd (room_pinned e)
-  where
-    room_pinned : final_reply new answer.NoFrame ≡ answer.Pinned count → ⊥
-    room_pinned e = cc
-final_pinned new q count e = e
-
 brings_pinned : (a b : Holding Words) (h count : ℕ) → BringEnds a b h (answer.Pinned count) → ⊥
 brings_pinned a b h count (came f e whole here) = cc
 brings_pinned a b h count (broke id l e lost) = cc
-brings_pinned a b h count (crammed e whole) = cc
+brings_pinned a b h count (crammed frames loose nodes e whole) = cc
 
 where_pinned : (a b : Holding Words) (s : Shown) (h at : ℕ) (bytes : List ℕ) (count : ℕ)
     → IsKnown a.desk a.far s
@@ -136,16 +126,13 @@ pub write_counts : (w new : WorldState) (h at : ℕ) (bytes : List ℕ) (count :
     → IsPinCount (word_at w.desk h) count
 write_counts w new h at bytes count before few step =
     let j = job.Write (record { n = h }) at bytes in
-    let d = is_done j w new (answer.Pinned count) few step in
     where_pinned (held_at w j) (held_then new) before.shown h at bytes count (known_at w j before)
-    (subst (λ (q : Reply). StillWorks j (held_at w j) q (held_then new))
-    (final_pinned new d.reply count (sym d.is)) d.works)
+    (is_done j w new (answer.Pinned count) few step)
 
 -- a free
 pub free_counts : (w new : WorldState) (h count : ℕ) → IsSoundWorld w → w.far.counts.turns < 2 ^ 40
     → TurnStep (job.Free (record { n = h })) w (answer.Pinned count) new
     → IsPinCount (word_at w.desk h) count
 free_counts w new h count before few step =
-    let d = is_done (job.Free (record { n = h })) w new (answer.Pinned count) few step in
     free_pinned (word_at w.desk h) (stamp_at w.desk h) count
-    (sym d.works.reply ∙ final_pinned new d.reply count (sym d.is))
+    (sym (is_done (job.Free (record { n = h })) w new (answer.Pinned count) few step).reply)

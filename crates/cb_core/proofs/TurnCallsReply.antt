@@ -9,19 +9,7 @@ use Rattle.cb_types.specs.declared.request.Request.TheVariants.{Read, Write, Fre
 use Rattle.cb_types.specs.declared.reply.Reply.{Reply}
 use Rattle.cb_types.specs.declared.reply.Reply.TheVariants as answer
 use Rattle.cb_types.specs.Table.{IsReplyOf}
-use Rattle.cb_world.specs.World.{WorldState}
 use Rattle.cb_mutate.specs.StillReplies.{reply_as, next_reply, change_reply, free_as, read_reply, write_reply, free_reply}
-use Rattle.cb_core.specs.Room.{final_reply}
-
--- ---- only where there was no frame is the reply of a turn another than that of its parts
-pub final_same : (new : WorldState) (q : Reply) → (q ≡ answer.NoFrame → ⊥) → final_reply new q ≡ q
-final_same new answer.NoFrame never = absurd (never refl)
-final_same new q never = refl
-
-pub own_final : (request : Request) (new : WorldState) (q : Reply) → IsReplyOf request q
-    → (IsReplyOf request answer.NoFrame → ⊥) → final_reply new q ≡ q
-own_final request new q is never =
-    final_same new q (λ e. never (subst (IsReplyOf request) e is))
 
 -- ---- one of the line's
 line_by_state : (request : Request) (q : State) (v : ℕ) (here : Reply)

@@ -13,10 +13,12 @@ use Rattle.cb_world.specs.Seats.{SeatState}
 use Rattle.cb_world.proofs.Staying.{recounted}
 use Rattle.cb_world.specs.World.{WorldState, ArePinned, IsConfigured, IsSoundWorld}
 use Rattle.cb_evict.proofs.AfterEvict.{evict_seats, evict_settings}
-use Rattle.cb_evict.proofs.Stays.{evict_step_stays}
-use Rattle.cb_swapin.proofs.Stays.{swap_step_stays}
 use Rattle.cb_swapin.proofs.SwapKeeps.{settings_stay}
 use Rattle.cb_swapin.proofs.SwapWorld.{pinned_kept}
+use Rattle.cb_evict.specs.declared.eviction.Eviction.TheVariants.{Refused}
+use Rattle.cb_evict.specs.Eviction.{reply_of}
+use Rattle.cb_evict.proofs.Stays.{evict_step_stays}
+use Rattle.cb_swapin.proofs.Stays.{swap_step_stays}
 use Rattle.cb_core.specs.Parts.{Holding, at_once, no_room, won, BringsIn, not_far, was_far}
 use Rattle.cb_core.specs.Step.{StillEvict, StillSwap, StillBring, StillFind, TurnStep, worn, done}
 use Rattle.cb_core.specs.Turned.{counted}
@@ -70,14 +72,14 @@ bring_comes : (c : Config) (seats : List SeatState) (h : ℕ) (a b : Holding Wor
 bring_comes c seats h a b r accepted good (at_once swap some) =
     arrives_more c seats 16 56 a b (Unit {0}) (Unit {0}) (omega arith) (swap_comes c seats h a b r good swap)
     tt
-bring_comes c seats h a b r accepted good (no_room m refusal swap evict other e) =
+bring_comes c seats h a b r accepted good (no_room m why loose nodes swap (step, hold) e) =
     let one = swap_comes c seats h a m answer.NoFrame good swap in
     arrives_then c seats 16 24 56 a m b (Unit {0}) (Unit {0}) (Unit {0}) (omega arith) one
-    (evict_comes c seats m b refusal accepted one.good evict) tt
-bring_comes c seats h a b r accepted good (won m n id swap evict again some) =
+    (evict_comes c seats m b (reply_of (Refused why loose nodes)) accepted one.good (step.step, hold)) tt
+bring_comes c seats h a b r accepted good (won m n id swap (step, hold) again some) =
     let one = swap_comes c seats h a m answer.NoFrame good swap in
     let two = arrives_then c seats 16 24 40 a m n (Unit {0}) (Unit {0}) (Unit {0}) (omega arith) one
-    (evict_comes c seats m n (answer.Set id) accepted one.good evict) tt in
+    (evict_comes c seats m n (answer.Set id) accepted one.good (step.step, hold)) tt in
     arrives_then c seats 40 16 56 a n b (Unit {0}) (Unit {0}) (Unit {0}) (omega arith) two
     (swap_comes c seats h n b r two.good again) tt
 
@@ -93,9 +95,9 @@ swap_arrives c seats h a b r accepted good (was_far m find bring) =
 pub swap_sound : (w new : WorldState) (h : ℕ) (r : Reply) → IsSoundWorld w
     → TurnStep (job.Swap (record { n = h })) w r new → IsSoundWorld new
 swap_sound w new h r sound (worn end is same) = subst IsSoundWorld (sym same) sound
-swap_sound w new h r sound (done q few works is seats) =
+swap_sound w new h r sound (done few works seats) =
     let j = job.Swap (record { n = h }) in
-    let z = swap_arrives w.desk.settings w.seats h (held_at w j) (held_then new) q sound.config (record {
+    let z = swap_arrives w.desk.settings w.seats h (held_at w j) (held_then new) r sound.config (record {
       settings = refl;
       configured = recounted w.desk.settings w.far (counted w.far j).counts sound.configured;
       shown = sound.shown;

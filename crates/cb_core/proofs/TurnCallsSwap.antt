@@ -22,14 +22,13 @@ use Rattle.cb_mutate.specs.MapCalls.{IsCallOn}
 use Rattle.cb_mutate.specs.StillReplies.{reply_as}
 use Rattle.cb_mutate.proofs.MapReplies.{AreKnownBoth, IsThere, IsOnContents, refused_call, call_by_state, near_held, here_near}
 use Rattle.cb_core.specs.Parts.{Holding, BringsIn, not_far, was_far}
-use Rattle.cb_core.specs.Room.{final_reply}
 use Rattle.cb_core.specs.Step.{StillBring, StillFind}
 use Rattle.cb_core.proofs.TurnCallsKept.{HasKept, kept_all, kept_bring}
 use Rattle.cb_core.proofs.TurnCallsFar.{IsLostFar, BringEnds, came, broke, crammed, bring_ends}
 use Rattle.cb_core.proofs.TurnCallsLost.{lost_far, gone_lost, brings_lost, brings_gone}
 use Rattle.cb_core.proofs.TurnCallsMap.{IsSameMap, map_stays, call_carried, far_refused}
 use Rattle.cb_core.proofs.TurnCallsReply.{as_not_here}
-use Rattle.cb_core.proofs.TurnCallsWhere.{kept_map, within, no_frame, lost_same}
+use Rattle.cb_core.proofs.TurnCallsWhere.{kept_map, within}
 
 -- why an object could not be swapped in
 abbrev pub IsSwapRefusal : Reply → Type 0
@@ -90,17 +89,6 @@ find_ends state.Moving v y h r e never here = refused (subst IsSwapRefusal (sym 
 find_ends state.Far v y h r e never here = absurd (never e)
 find_ends state.Here v y h r e never here = stays e (here refl)
 
-find_final : (new : WorldState) (q : State) (v : ℕ) (r : Reply) → r ≡ reply_as q v answer.Stays
-    → final_reply new r ≡ r
-find_final new q v r e = ap (final_reply new) e ∙ by q v ∙ sym e
-  where
-    by : (q : State) (v : ℕ) → final_reply new (reply_as q v answer.Stays) ≡ reply_as q v answer.Stays
-    by state.Empty zero = refl
-    by state.Empty (suc v) = refl
-    by state.Far v = refl
-    by state.Moving v = refl
-    by state.Here v = refl
-
 -- a look at an object as a pin's refusal
 find_call : (a : Holding Words) (s : Shown) (h : ℕ) (r : Reply) (name : List ℕ)
     → IsKnown a.desk a.far s → h < a.desk.settings.handles
@@ -115,22 +103,21 @@ find_call a s h r name k below e =
     (refl, refl) (subst IsThere (sym (near_held a.desk a.far s h k (within a s h k below)
     (here_near (word_at a.desk h) here))) tt) (ap (event_of (Pin name)) is))
 
-pub swap_answered : (a b : Holding Words) (s t : Shown) (h : ℕ) (r : Reply) (new : WorldState)
+pub swap_answered : (a b : Holding Words) (s t : Shown) (h : ℕ) (r : Reply)
     → IsKnown a.desk a.far s → IsKnown b.desk b.far t → h < a.desk.settings.handles
     → BringsIn (StillFind h) (StillBring h) a r b
-    → IsSwapAs a.desk.settings.handles b.desk s t a.far b.far h (final_reply new r)
-swap_answered a b s t h r new before after below (not_far c never) =
+    → IsSwapAs a.desk.settings.handles b.desk s t a.far b.far h r
+swap_answered a b s t h r before after below (not_far c never) =
     let kept = subst (λ (x : Holding Words). HasKept a x s) (sym c.1) (kept_all a s before) in
     let same = kept_map a b s t kept after in
-    subst (IsSwapAs a.desk.settings.handles b.desk s t a.far b.far h)
-    (sym (find_final new (state_of (word_at a.desk h)) (stamp_at a.desk h) r c.0)) (record {
+    record {
       same = same;
       ends = find_ends (state_of (word_at a.desk h)) (stamp_at a.desk h) b.desk h r c.0 never
           (λ here. ap (λ (x : Holding Words). state_of (word_at x.desk h)) c.1 ∙ here);
       call = λ name. call_carried a.desk.settings.handles s s s t a.far a.far a.far b.far (Pin name) r
           (map_stays s a.far) same h (find_call a s h r name before below c.0);
-    })
-swap_answered a b s t h r new before after below (was_far m c bring) =
+    }
+swap_answered a b s t h r before after below (was_far m c bring) =
     by (bring_ends a b h r s before there)
   where
     there : StillBring h a r b
@@ -151,13 +138,13 @@ swap_answered a b s t h r new before after below (was_far m c bring) =
           (within a s h before below) (find_far a m h c) (event name) same;
     }
 
-    by : BringEnds a b h r → C (final_reply new r)
-    by (came f e whole here) = subst C (sym (ap (final_reply new) e))
+    by : BringEnds a b h r → C r
+    by (came f e whole here) = subst C (sym e)
         (ends_as (answer.Swapped f) (swapped f refl here) (λ name. refl))
-    by (broke id l e lost) = lost_same new r id l e C
+    by (broke id l e lost) = subst C (sym e)
         (ends_as (answer.Unavailable id l) (refused tt) (λ name. refl))
-    by (crammed e whole) = no_frame new r e C (λ frames loose nodes.
-        ends_as (answer.NoRoom frames loose nodes) (refused tt) (λ name. refl))
+    by (crammed frames loose nodes e whole) = subst C (sym e)
+        (ends_as (answer.NoRoom frames loose nodes) (refused tt) (λ name. refl))
 
 -- a swap that is answered so is of an object whose set is broken, and tells its number and its losses
 pub swap_lost : (a b : Holding Words) (s : Shown) (h : ℕ) (id : SetId) (l : List Loss)

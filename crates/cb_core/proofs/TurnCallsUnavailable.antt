@@ -11,12 +11,11 @@ use Rattle.cb_world.specs.FarState.{FarState}
 use Rattle.cb_world.specs.Now.{is_gone}
 use Rattle.cb_world.specs.World.{WorldState, IsSoundWorld}
 use Rattle.cb_core.specs.Parts.{NeverDeclined}
-use Rattle.cb_core.specs.Room.{final_reply}
 use Rattle.cb_core.specs.Step.{StillRead, StillWrite, StillDecline, StillWorks, TurnStep}
 use Rattle.cb_core.specs.Turned.{counted}
 use Rattle.cb_core.proofs.TurnCalls.{held_at, held_then, is_done, known_at}
 use Rattle.cb_core.proofs.TurnCallsFar.{IsLostFar}
-use Rattle.cb_core.proofs.TurnCallsLost.{final_lost, where_lost, where_gone}
+use Rattle.cb_core.proofs.TurnCallsLost.{where_lost, where_gone}
 use Rattle.cb_core.proofs.TurnCallsParts.{read_part, write_part}
 use Rattle.cb_core.proofs.TurnCallsSwap.{swap_lost, swap_gone}
 
@@ -43,24 +42,15 @@ lost_at w j h id l z = record {
 gone_at : (w : WorldState) (j : Job) (h : ℕ) → is_gone w.far h ≡ true → is_gone (counted w.far j) h ≡ true
 gone_at w j h e = e
 
-told_at : (w new : WorldState) (j : Job) (h : ℕ) (q r : Reply) → r ≡ final_reply new q
-    → (id : SetId) × (l : List Loss) × (q ≡ answer.Unavailable id l) × IsLostFar (counted w.far j) h id l
+told_at : (w : WorldState) (j : Job) (h : ℕ) (r : Reply)
+    → (id : SetId) × (l : List Loss) × (r ≡ answer.Unavailable id l) × IsLostFar (counted w.far j) h id l
     → IsUnavailable w.far h r
-told_at w new j h q r is (id, l, e, lost) = record {
+told_at w j h r (id, l, e, lost) = record {
   id = id;
   losses = l;
-  is = is ∙ ap (final_reply new) e;
+  is = e;
   lost = lost_at w j h id l lost;
 }
-
--- the parts of a turn that is answered so
-works_lost : (j : Job) (w new : WorldState) (id : SetId) (l : List Loss) → w.far.counts.turns < 2 ^ 40
-    → TurnStep j w (answer.Unavailable id l) new
-    → StillWorks j (held_at w j) (answer.Unavailable id l) (held_then new)
-works_lost j w new id l few step =
-    let d = is_done j w new (answer.Unavailable id l) few step in
-    subst (λ (q : Reply). StillWorks j (held_at w j) q (held_then new))
-    (final_lost new d.reply id l (sym d.is)) d.works
 
 -- ---- a read
 pub read_unavailable : (w new : WorldState) (h : ℕ) (id : SetId) (l : List Loss)
@@ -69,16 +59,15 @@ pub read_unavailable : (w new : WorldState) (h : ℕ) (id : SetId) (l : List Los
 read_unavailable w new h id l before few step =
     let j = job.Read (record { n = h }) in
     lost_at w j h id l (where_lost (StillRead h) NeverDeclined h (Read []) (read_part h []) (held_at w j)
-    (held_then new) before.shown id l (known_at w j before) (works_lost j w new id l few step))
+    (held_then new) before.shown id l (known_at w j before) (is_done j w new (answer.Unavailable id l) few step))
 
 pub read_gone : (w new : WorldState) (h : ℕ) (r : Reply) → (before : IsSoundWorld w)
     → w.far.counts.turns < 2 ^ 40 → is_gone w.far h ≡ true
     → TurnStep (job.Read (record { n = h })) w r new → IsUnavailable w.far h r
 read_gone w new h r before few gone step =
     let j = job.Read (record { n = h }) in
-    let d = is_done j w new r few step in
-    told_at w new j h d.reply r d.is (where_gone (StillRead h) NeverDeclined h (Read []) (read_part h [])
-    (held_at w j) (held_then new) before.shown d.reply (known_at w j before) (gone_at w j h gone) d.works)
+    told_at w j h r (where_gone (StillRead h) NeverDeclined h (Read []) (read_part h [])
+    (held_at w j) (held_then new) before.shown r (known_at w j before) (gone_at w j h gone) (is_done j w new r few step))
 
 -- ---- a write
 pub write_unavailable : (w new : WorldState) (h at : ℕ) (bytes : List ℕ) (id : SetId) (l : List Loss)
@@ -89,17 +78,16 @@ write_unavailable w new h at bytes id l before few step =
     let j = job.Write (record { n = h }) at bytes in
     lost_at w j h id l (where_lost (StillWrite h at bytes) (StillDecline h at (length bytes)) h
     (Write [] at bytes) (write_part h at bytes []) (held_at w j) (held_then new) before.shown id l
-    (known_at w j before) (works_lost j w new id l few step))
+    (known_at w j before) (is_done j w new (answer.Unavailable id l) few step))
 
 pub write_gone : (w new : WorldState) (h at : ℕ) (bytes : List ℕ) (r : Reply) → (before : IsSoundWorld w)
     → w.far.counts.turns < 2 ^ 40 → is_gone w.far h ≡ true
     → TurnStep (job.Write (record { n = h }) at bytes) w r new → IsUnavailable w.far h r
 write_gone w new h at bytes r before few gone step =
     let j = job.Write (record { n = h }) at bytes in
-    let d = is_done j w new r few step in
-    told_at w new j h d.reply r d.is (where_gone (StillWrite h at bytes) (StillDecline h at (length bytes))
-    h (Write [] at bytes) (write_part h at bytes []) (held_at w j) (held_then new) before.shown d.reply
-    (known_at w j before) (gone_at w j h gone) d.works)
+    told_at w j h r (where_gone (StillWrite h at bytes) (StillDecline h at (length bytes))
+    h (Write [] at bytes) (write_part h at bytes []) (held_at w j) (held_then new) before.shown r
+    (known_at w j before) (gone_at w j h gone) (is_done j w new r few step))
 
 -- ---- a swap
 pub swap_unavailable : (w new : WorldState) (h : ℕ) (id : SetId) (l : List Loss)
@@ -108,13 +96,12 @@ pub swap_unavailable : (w new : WorldState) (h : ℕ) (id : SetId) (l : List Los
 swap_unavailable w new h id l before few step =
     let j = job.Swap (record { n = h }) in
     lost_at w j h id l (swap_lost (held_at w j) (held_then new) before.shown h id l (known_at w j before)
-    (works_lost j w new id l few step))
+    (is_done j w new (answer.Unavailable id l) few step))
 
 pub swap_is_gone : (w new : WorldState) (h : ℕ) (r : Reply) → (before : IsSoundWorld w)
     → w.far.counts.turns < 2 ^ 40 → is_gone w.far h ≡ true
     → TurnStep (job.Swap (record { n = h })) w r new → IsUnavailable w.far h r
 swap_is_gone w new h r before few gone step =
     let j = job.Swap (record { n = h }) in
-    let d = is_done j w new r few step in
-    told_at w new j h d.reply r d.is (swap_gone (held_at w j) (held_then new) before.shown h d.reply
-    (known_at w j before) (gone_at w j h gone) d.works)
+    told_at w j h r (swap_gone (held_at w j) (held_then new) before.shown h r
+    (known_at w j before) (gone_at w j h gone) (is_done j w new r few step))

@@ -15,15 +15,13 @@ use Rattle.cb_world.specs.declared.shown.Shown.{Shown}
 use Rattle.cb_world.specs.FarState.{FarState}
 use Rattle.cb_world.specs.Now.{is_gone}
 use Rattle.cb_world.specs.Plain.{Words}
-use Rattle.cb_world.specs.World.{WorldState, IsKnown, word_at}
+use Rattle.cb_world.specs.World.{IsKnown, word_at}
 use Rattle.cb_mutate.specs.MapCalls.{IsCallOn}
 use Rattle.cb_core.specs.Parts.{Holding, WhereItIs, near, declined, stays_far, brought}
-use Rattle.cb_core.specs.Room.{final_reply}
 use Rattle.cb_core.specs.Step.{StillBring}
 use Rattle.cb_core.proofs.TurnCallsKept.{HasKept, kept_all, kept_bring, known_same}
 use Rattle.cb_core.proofs.TurnCallsFar.{BringEnds, came, broke, crammed, bring_ends}
 use Rattle.cb_core.proofs.TurnCallsMap.{IsSameMap, map_stays, call_carried, far_refused}
-use Rattle.cb_core.proofs.TurnCallsReply.{own_final}
 
 -- the call is the map's, and the reply is one of the line's
 pub record IsAnswered (handles : ℕ) (s t : Shown) (far new : FarState) (h : ℕ) (q : Request) (r : Reply)
@@ -37,7 +35,6 @@ pub record IsRefusable (q : Request) : Type 0 where
   pub unavailable : (id : SetId) (l : List Loss) → event_of q (answer.Unavailable id l) ≡ Refused Contents
   pub room_line : (frames loose nodes : ℕ) → IsReplyOf q (answer.NoRoom frames loose nodes)
   pub lost_line : (id : SetId) (l : List Loss) → IsReplyOf q (answer.Unavailable id l)
-  pub never : IsReplyOf q answer.NoFrame → ⊥
 
 -- A call on an object and the look at one that is far, as the parts of a turn for a request.
 pub record IsPart (call : Holding Words → Reply → Holding Words → Type 0)
@@ -77,31 +74,22 @@ pub within : (a : Holding Words) (s : Shown) (h : ℕ) → IsKnown a.desk a.far 
     → h < a.desk.settings.handles → h < length a.desk.words
 within a s h k below = let n = k.sized.words in omega (arith, below, n)
 
--- where there was no frame the turn is answered that there is no room
-pub no_frame : (new : WorldState) (r : Reply) → r ≡ answer.NoFrame → (C : Reply → Type 0)
-    → ((frames loose nodes : ℕ) → C (answer.NoRoom frames loose nodes)) → C (final_reply new r)
-no_frame new r e C room = subst C (sym (ap (final_reply new) e)) (room _ _ _)
-
-pub lost_same : (new : WorldState) (r : Reply) (id : SetId) (l : List Loss) → r ≡ answer.Unavailable id l
-    → (C : Reply → Type 0) → C (answer.Unavailable id l) → C (final_reply new r)
-lost_same new r id l e C c = subst C (sym (ap (final_reply new) e)) c
-
 swapped_lost : (f : ℕ) (id : SetId) (l : List Loss) → answer.Swapped f ≡ answer.Unavailable id l → ⊥
 swapped_lost f id l e = cc
 
-swapped_crammed : (f : ℕ) → answer.Swapped f ≡ answer.NoFrame → ⊥
-swapped_crammed f e = cc
+swapped_crammed : (f a b c : ℕ) → answer.Swapped f ≡ answer.NoRoom a b c → ⊥
+swapped_crammed f a b c e = cc
 
 module _ (call : Holding Words → Reply → Holding Words → Type 0)
     (look : Holding Words → Option Reply → Holding Words → Type 0) (h : ℕ) (q : Request)
     (part : IsPart call look h q) where
   -- a far object that could not be brought in
-  far_stays : (a b : Holding Words) (s t : Shown) (r : Reply) (new : WorldState) → IsRefusable q
+  far_stays : (a b : Holding Words) (s t : Shown) (r : Reply) → IsRefusable q
       → IsKnown a.desk a.far s → IsKnown b.desk b.far t → h < a.desk.settings.handles
       → state_of (word_at a.desk h) ≡ state.Far → StillBring h a r b
       → ((f : ℕ) → r ≡ answer.Swapped f → ⊥)
-      → IsAnswered a.desk.settings.handles s t a.far b.far h q (final_reply new r)
-  far_stays a b s t r new refusable before then below away bring never =
+      → IsAnswered a.desk.settings.handles s t a.far b.far h q r
+  far_stays a b s t r refusable before then below away bring never =
       by (bring_ends a b h r s before bring)
     where
       same : IsSameMap s t a.far b.far
@@ -117,12 +105,12 @@ module _ (call : Holding Words → Reply → Holding Words → Type 0)
         line = line;
       }
 
-      by : BringEnds a b h r → C (final_reply new r)
+      by : BringEnds a b h r → C r
       by (came f e whole here) = absurd (never f e)
-      by (broke id l e lost) = lost_same new r id l e C
+      by (broke id l e lost) = subst C (sym e)
           (refused (answer.Unavailable id l) (refusable.unavailable id l) (refusable.lost_line id l))
-      by (crammed e whole) = no_frame new r e C (λ frames loose nodes.
-          refused (answer.NoRoom frames loose nodes) (refusable.no_room frames loose nodes)
+      by (crammed frames loose nodes e whole) = subst C (sym e)
+          (refused (answer.NoRoom frames loose nodes) (refusable.no_room frames loose nodes)
           (refusable.room_line frames loose nodes))
 
   -- what came in is here
@@ -135,37 +123,34 @@ module _ (call : Holding Words → Reply → Holding Words → Type 0)
           → (state_of (word_at o.desk h) ≡ state.Here) × (is_gone a.far h ≡ false)
       by (came g e whole here) = (here, whole)
       by (broke id l e lost) = absurd (swapped_lost f id l e)
-      by (crammed e whole) = absurd (swapped_crammed f e)
+      by (crammed frames loose nodes e whole) = absurd (swapped_crammed f frames loose nodes e)
 
   -- Wherever the object is, the call is the map's, and its reply is one of the line's.
-  pub where_answered : (a b : Holding Words) (s t : Shown) (r : Reply) (new : WorldState)
-      → IsRefusable q → IsKnown a.desk a.far s → IsKnown b.desk b.far t
+  pub where_answered : (a b : Holding Words) (s t : Shown) (r : Reply) → IsRefusable q
+      → IsKnown a.desk a.far s → IsKnown b.desk b.far t
       → h < a.desk.settings.handles → WhereItIs call look (StillBring h) a r b
-      → IsAnswered a.desk.settings.handles s t a.far b.far h q (final_reply new r)
-  where_answered a b s t r new refusable before then below (near c never) =
-      let line = part.line a b r c never in
-      subst (IsAnswered a.desk.settings.handles s t a.far b.far h q)
-      (sym (own_final q new r line refusable.never)) (record {
+      → IsAnswered a.desk.settings.handles s t a.far b.far h q r
+  where_answered a b s t r refusable before then below (near c never) =
+      record {
         call = part.is a b s t r before then (within a s h before below) c;
-        line = line;
-      })
-  where_answered a b s t r new refusable before then below (declined m c l) =
+        line = part.line a b r c never;
+      }
+  where_answered a b s t r refusable before then below (declined m c l) =
       let back = part.nothing a m c in
       let look_a = subst (λ (x : Holding Words). look x (Some r) b) back l in
       let same = part.looks a b (Some r) look_a in
       let d = part.declines a b s r before (within a s h before below) (part.away a m c) look_a in
       let kept = subst (λ (x : Holding Words). HasKept a x s) (sym same) (kept_all a s before) in
-      subst (IsAnswered a.desk.settings.handles s t a.far b.far h q)
-      (sym (own_final q new r d.line refusable.never)) (record {
+      record {
         call = call_carried a.desk.settings.handles s s s t a.far a.far a.far b.far q r
             (map_stays s a.far) (kept_map a b s t kept then) h d.call;
         line = d.line;
-      })
-  where_answered a b s t r new refusable before then below (stays_far m n c l bring never) =
+      }
+  where_answered a b s t r refusable before then below (stays_far m n c l bring never) =
       let back = part.looks m n None l ∙ part.nothing a m c in
-      far_stays a b s t r new refusable before then below (part.away a m c)
+      far_stays a b s t r refusable before then below (part.away a m c)
       (subst (λ (x : Holding Words). StillBring h x r b) back bring) never
-  where_answered a b s t r new refusable before then below (brought m n o f c l bring again) =
+  where_answered a b s t r refusable before then below (brought m n o f c l bring again) =
       let back = part.looks m n None l ∙ part.nothing a m c in
       let came_in = subst (λ (x : Holding Words). StillBring h x (answer.Swapped f) o) back bring in
       let kept = kept_bring a o h (answer.Swapped f) s before came_in in
@@ -173,10 +158,9 @@ module _ (call : Holding Words → Reply → Holding Words → Type 0)
       let line = part.line o b r again (part.here o b r again here) in
       let below_o : h < o.desk.settings.handles = subst (λ c. h < c.handles) (sym kept.settings) below in
       let one = part.is o b kept.shown t r kept.known then (within o kept.shown h kept.known below_o) again in
-      subst (IsAnswered a.desk.settings.handles s t a.far b.far h q)
-      (sym (own_final q new r line refusable.never)) (record {
+      record {
         call = call_carried a.desk.settings.handles s kept.shown t t a.far o.far b.far b.far q r
             (record { now = kept.same_now; first = kept.first; made = kept.made }) (map_stays t b.far) h
             (subst (λ c. IsCallOn c.handles kept.shown t o.far b.far h q r) kept.settings one);
         line = line;
-      })
+      }

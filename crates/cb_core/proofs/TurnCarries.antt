@@ -28,6 +28,7 @@ use Rattle.cb_mutate.specs.MakeRule.{MakeEffect}
 use Rattle.cb_mutate.specs.WriteRule.{WriteEffect}
 use Rattle.cb_mutate.proofs.Stays.{free_stays, make_stays}
 use Rattle.cb_mutate.proofs.Unwritten.{read_unwritten}
+use Rattle.cb_evict.specs.Eviction.{reply_of}
 use Rattle.cb_evict.proofs.Stays.{abort_stays, begin_stays, commit_stays, evict_stays, ship_stays}
 use Rattle.cb_evict.proofs.Unwritten.{abort_unwritten, begin_unwritten, commit_unwritten, evict_unwritten}
 use Rattle.cb_filter.proofs.Stays.{filter_stays}
@@ -45,7 +46,7 @@ use Rattle.cb_core.specs.Declining.{far_refusal}
 use Rattle.cb_core.specs.Jobs.{IsJob}
 use Rattle.cb_core.specs.Membership.{CrashTurn, crashed, is_down, JoinTurn, joined, is_up}
 use Rattle.cb_core.specs.Parts.{Holding, NeverDeclined, NeverLacks, at_once, no_room, won}
-use Rattle.cb_core.specs.Turned.{Swaps, SwapLacks, Brings, BringLacks, Evicts, EvictLacks, Makes, MakeLacks, Reads, ReadLacks, Writes as WritesAt, Declines, Finds, Does, Stops, IsDeclined, once_counted, counted}
+use Rattle.cb_core.specs.Turned.{Swaps, SwapLacks, Brings, BringLacks, Evicts, WinsRoom, EvictLacks, Makes, MakeLacks, Reads, ReadLacks, Writes as WritesAt, Declines, Finds, Does, Stops, IsDeclined, once_counted, counted}
 use Rattle.cb_core.specs.TurnLeaves.{MakeWrites, WriteWrites, FreeWrites, TurnWrites}
 use Rattle.cb_core.proofs.Counting.{counted_sound}
 use Rattle.cb_core.proofs.NodesStay.{crash_stays, join_stays}
@@ -172,6 +173,11 @@ module _ {D : Type 0} (run : D → List Event → D → Type 0) (shows : D → S
       (λ s sound. evict_stays c a.far b.far r p.events accepted p.rule) p
       (λ s e. evict_unwritten c a.far b.far r p.events s (played p.events s) p.rule e)
 
+  wins : Leads 24 Nil (WinsRoom run shows c)
+  wins a b e good p = comes_none run shows laws c 24 a b _ _ good
+      (λ s sound. evict_stays c a.far b.far (reply_of e) p.events accepted p.rule.rule) p
+      (λ s x. evict_unwritten c a.far b.far (reply_of e) p.events s (played p.events s) p.rule.rule x)
+
   evict_lacks : Lacks 24 (EvictLacks run shows)
   evict_lacks a b good (same, p) = comes_none run shows laws c 24 a b _ _ good
       (λ s sound. stays_same c 24 a.far b.far (omega arith) same) p (λ s e. e.nothing)
@@ -190,20 +196,20 @@ module _ {D : Type 0} (run : D → List Event → D → Type 0) (shows : D → S
       ))
 
   brings : (h : ℕ) → Leads 56 Nil (Brings run shows c h)
-  brings h = with_room run shows laws c Nil (nil_quiet answer.NoFrame) 16 24 56 (Swaps run shows h)
-      (Evicts run shows c) (omega arith) (swaps h) evicts
+  brings h = with_room run shows laws c Nil (nil_quiet answer.NoFrame) c.frames (λ loose nodes. refl)
+      16 24 56 (Swaps run shows h) (WinsRoom run shows c) (omega arith) (swaps h) wins
 
   bring_lacks : (h : ℕ) → Lacks 56 (BringLacks run shows c h)
   bring_lacks h = room_stops run shows laws c Nil (nil_quiet answer.NoFrame) 16 24 56
-      (Swaps run shows h) (Evicts run shows c) (SwapLacks run h) (EvictLacks run shows) (omega arith)
-      (swaps h) (swap_lacks h) evicts evict_lacks
+      (Swaps run shows h) (WinsRoom run shows c) (SwapLacks run h) (EvictLacks run shows) (omega arith)
+      (swaps h) (swap_lacks h) wins evict_lacks
 
   -- a write whose object can't be brought in is answered no version
   brings_no_version : (h at : ℕ) (bytes : List ℕ) (k : ℕ) (x y : Hold) (r : Reply)
       → Brings run shows c k x r y → WriteWrites h at bytes r []
   brings_no_version h at bytes k x y r (at_once (home, there, p) off) =
       swap_none h at bytes home.set home.position x.far y.far r p.events p.rule
-  brings_no_version h at bytes k x y r (no_room m refusal o v none is) =
+  brings_no_version h at bytes k x y r (no_room m why loose nodes o v is) =
       subst (λ (q : Reply). WriteWrites h at bytes q []) (sym is) refl
   brings_no_version h at bytes k x y r (won m n id o v (home, there, p) off) =
       swap_none h at bytes home.set home.position n.far y.far r p.events p.rule
@@ -239,8 +245,9 @@ module _ {D : Type 0} (run : D → List Event → D → Type 0) (shows : D → S
   pub does_comes : (job : Job) (a b : Hold) (r : Reply) → IsJob c job → Good shows c a
       → Does run shows c job a r b → Comes run shows c 64 (TurnWrites job r) a b
   does_comes (Make bytes) a b r ok good x =
-      with_room run shows laws c (MakeWrites bytes) (make_quiet bytes) 1 24 64
-      (Makes run shows c bytes) (Evicts run shows c) (omega arith) (makes bytes) evicts a b r good x
+      with_room run shows laws c (MakeWrites bytes) (make_quiet bytes) c.frames
+      (λ loose nodes. refl) 1 24 64 (Makes run shows c bytes) (WinsRoom run shows c) (omega arith)
+      (makes bytes) wins a b r good x
   does_comes (Read handle) a b r ok good x = let h = handle.n in
       where_it_is run shows laws c Nil (nil_quiet answer.NotHere) 1 1 56 64 (Reads run shows h)
       (Brings run shows c h) NeverDeclined (λ m n q e. refl) (λ m n q e. refl) (omega arith) (reads h)
@@ -308,8 +315,8 @@ module _ {D : Type 0} (run : D → List Event → D → Type 0) (shows : D → S
       → Comes run shows c 64 IsNone a b
   stops_comes (Make bytes) a b good x =
       room_stops run shows laws c (MakeWrites bytes) (make_quiet bytes) 1 24 64
-      (Makes run shows c bytes) (Evicts run shows c) (MakeLacks run c bytes) (EvictLacks run shows)
-      (omega arith) (makes bytes) (make_lacks bytes) evicts evict_lacks a b good x
+      (Makes run shows c bytes) (WinsRoom run shows c) (MakeLacks run c bytes) (EvictLacks run shows)
+      (omega arith) (makes bytes) (make_lacks bytes) wins evict_lacks a b good x
   stops_comes (Read handle) a b good x = let h = handle.n in
       call_stops run shows laws c Nil (nil_quiet answer.NotHere) 1 1 56 64 (Reads run shows h)
       (Brings run shows c h) NeverDeclined (ReadLacks run shows h) (BringLacks run shows c h)

@@ -14,6 +14,8 @@ use Rattle.cb_world.specs.World.{IsConfigured}
 use Rattle.cb_world.specs.Written.{Writes, written_by}
 use Rattle.cb_world.proofs.Staying.{Rises, StaysIf, rises_more, rises_then}
 use Rattle.cb_world.proofs.Tracing.{played_append, written_append}
+use Rattle.cb_evict.specs.declared.eviction.Eviction.{Eviction}
+use Rattle.cb_evict.specs.declared.eviction.Eviction.TheVariants.{Refused, Set}
 use Rattle.cb_core.specs.Parts.{Holding, WithRoom, WhereItIs, NeverDeclined, BringsIn, RoomStops, CallStops}
 use Rattle.cb_core.specs.Parts.WithRoom.{at_once, no_room, won}
 use Rattle.cb_core.specs.Parts.WhereItIs.{near, declined, stays_far, brought}
@@ -202,26 +204,29 @@ module _ {D : Type 0} (run : D → List Event → D → Type 0) (shows : D → S
   first W n P r a m quiet p good x =
       comes_as (W r) IsNone quiet.none n n a m (omega arith) (p a m r good x)
 
-  pub with_room : (W : Reply → List Entry → Type 0) → IsQuiet W answer.NoFrame → (n m k : ℕ)
-      (P E : Hold → Reply → Hold → Type 0) → n + m + n ≤ k → Carries n W P → Carries m Nil E
-      → Carries k W (WithRoom P E)
-  with_room W quiet n m k P E most p e a b r good (at_once o off) =
+  pub with_room : (W : Reply → List Entry → Type 0) → IsQuiet W answer.NoFrame → (frames : ℕ)
+      → ((loose nodes : ℕ) → W (answer.NoRoom frames loose nodes) []) → (n m k : ℕ)
+      (P : Hold → Reply → Hold → Type 0) (E : Hold → Eviction → Hold → Type 0) → n + m + n ≤ k
+      → Carries n W P → Carries m Nil E → Carries k W (WithRoom frames P E)
+  with_room W quiet frames off_room n m k P E most p e a b r good (at_once o off) =
       comes_more (W r) n k a b (omega (arith, most)) (p a b r good o)
-  with_room W quiet n m k P E most p e a b r good (no_room mid refusal o v none is) =
+  with_room W quiet frames off_room n m k P E most p e a b r good (no_room mid why loose nodes o v is) =
       let z = first W n P answer.NoFrame a mid quiet p good o in
-      let y = e mid b refusal (good_then n IsNone a mid good z) v in
+      let y = e mid b (Refused why loose nodes) (good_then n IsNone a mid good z) v in
       comes_as IsNone (W r) (λ more none. subst (λ (q : Reply). W q more) (sym is)
-      (subst (W answer.NoFrame) (sym none) quiet.some)) (n + m) k a b (omega (arith, most))
+      (subst (W (answer.NoRoom frames loose nodes)) (sym none) (off_room loose nodes))) (n + m) k a b
+      (omega (arith, most))
       (then_none n m (n + m) a mid b (omega arith) z y)
-  with_room W quiet n m k P E most p e a b r good (won mid next id o v again off) =
+  with_room W quiet frames off_room n m k P E most p e a b r good (won mid next id o v again off) =
       let z = first W n P answer.NoFrame a mid quiet p good o in
       let y = then_none n m (n + m) a mid next (omega arith) z
-      (e mid next (answer.Set id) (good_then n IsNone a mid good z) v) in
+      (e mid next (Set id) (good_then n IsNone a mid good z) v) in
       then_last (W r) (n + m) n k a next b most y
       (p next b r (good_then (n + m) IsNone a next good y) again)
 
   pub room_stops : (W : Reply → List Entry → Type 0) → IsQuiet W answer.NoFrame → (n m k : ℕ)
-      (P E : Hold → Reply → Hold → Type 0) (L I : Hold → Hold → Type 0) → n + m + n ≤ k
+      (P : Hold → Reply → Hold → Type 0) (E : Hold → Eviction → Hold → Type 0)
+      (L I : Hold → Hold → Type 0) → n + m + n ≤ k
       → Carries n W P → CarriesLack n L → Carries m Nil E → CarriesLack m I
       → CarriesLack k (RoomStops P L E I)
   room_stops W quiet n m k P E L I most p l e i a b good (lacks_now o) =
@@ -232,7 +237,7 @@ module _ {D : Type 0} (run : D → List Event → D → Type 0) (shows : D → S
   room_stops W quiet n m k P E L I most p l e i a b good (lacks_last mid next id o v u) =
       let z = first W n P answer.NoFrame a mid quiet p good o in
       let y = then_none n m (n + m) a mid next (omega arith) z
-      (e mid next (answer.Set id) (good_then n IsNone a mid good z) v) in
+      (e mid next (Set id) (good_then n IsNone a mid good z) v) in
       then_none (n + m) n k a next b most y
       (l next b (good_then (n + m) IsNone a next good y) u)
 

@@ -1,11 +1,15 @@
 -- Worked examples of the parts of a turn, over a desk that is a number: what meets each definition,
 -- and what breaks one of its parts alone.
-use Rattle.std.proofs.Common.{◌≡◌, ℕ, zero, suc, ◌+◌, ◌-◌, ◌^◌, true, false, Option, None, Some, refl, ap, ◌∙◌, arith}
+use Rattle.std.proofs.Common.{◌≡◌, ℕ, zero, suc, ◌+◌, ◌-◌, ◌^◌, true, false, Option, None, Some, refl, sym, ap, ◌∙◌, arith}
 use Rattle.cb_types.specs.declared.handle.SetId.{SetId}
 use Rattle.cb_types.specs.declared.reply.Reply.{Reply}
 use Rattle.cb_types.specs.declared.reply.Reply.TheVariants as answer
 use Rattle.cb_world.specs.FarState.{FarState}
 use Rattle.cb_core.specs.Declining.{far_refusal, write_refusal}
+use Rattle.cb_evict.specs.declared.eviction.Eviction.{Eviction}
+use Rattle.cb_evict.specs.declared.eviction.Eviction.TheVariants.{Refused, Set}
+use Rattle.cb_evict.specs.declared.eviction.Lack.{Lack}
+use Rattle.cb_evict.specs.declared.eviction.Lack.TheVariants.{Spans}
 use Rattle.cb_core.specs.Parts.{Holding, WithRoom, WhereItIs, NeverDeclined, BringsIn, RoomStops, CallStops, NeverLacks}
 use Rattle.cb_core.specs.Parts.WithRoom.{at_once, no_room, won}
 use Rattle.cb_core.specs.Parts.WhereItIs.{near, declined, stays_far, brought}
@@ -20,14 +24,38 @@ set_five = record { n = 5 }
 frames_done : (r : Reply) → r ≡ answer.Done → r ≡ answer.NoFrame → ⊥
 frames_done r a b = cc
 
-frames_unmade : (r : Reply) → r ≡ answer.Unmade → r ≡ answer.NoFrame → ⊥
-frames_unmade r a b = cc
+rooms_done : (r : Reply) (a b c : ℕ) → r ≡ answer.Done → r ≡ answer.NoRoom a b c → ⊥
+rooms_done r a b c e f = cc
+
+rooms_frames : (r : Reply) (a b c : ℕ) → r ≡ answer.NoFrame → r ≡ answer.NoRoom a b c → ⊥
+rooms_frames r a b c e f = cc
 
 done_unmade : (r : Reply) → r ≡ answer.Done → r ≡ answer.Unmade → ⊥
 done_unmade r a b = cc
 
-spans_set : (r : Reply) (id : SetId) → r ≡ answer.NoSpans 1 → r ≡ answer.Set id → ⊥
-spans_set r id a b = cc
+refused_set : (e : Eviction) (id : SetId) (why : Lack) (n m : ℕ) → Refused why n m ≡ e → e ≡ Set id → ⊥
+refused_set e id why n m a b = cc
+
+-- the numbers of a reply, and of a refusal
+abbrev frames_of : Reply → ℕ
+frames_of (answer.NoRoom frames loose nodes) = frames
+frames_of r = 0
+
+abbrev loose_of : Reply → ℕ
+loose_of (answer.NoRoom frames loose nodes) = loose
+loose_of r = 0
+
+abbrev nodes_of : Reply → ℕ
+nodes_of (answer.NoRoom frames loose nodes) = nodes
+nodes_of r = 0
+
+abbrev loose_in : Eviction → ℕ
+loose_in (Set id) = 0
+loose_in (Refused why loose nodes) = loose
+
+abbrev nodes_in : Eviction → ℕ
+nodes_in (Set id) = 0
+nodes_in (Refused why loose nodes) = nodes
 
 here_done : (r : Reply) → r ≡ answer.Done → r ≡ answer.NotHere → ⊥
 here_done r a b = cc
@@ -75,46 +103,74 @@ module _ (far : FarState) where
   abbrev works : Holding ℕ → Reply → Holding ℕ → Type 0
   works a r b = (r ≡ told a.desk) × (b ≡ a)
 
-  -- an eviction that makes a set, and leads to the next desk; and one that is refused
-  abbrev evicts : Holding ℕ → Reply → Holding ℕ → Type 0
-  evicts a r b = (r ≡ answer.Set set_five) × (b ≡ at (a.desk + 1))
+  -- an eviction that makes a set, and leads to the next desk; and one that is refused for want of spans:
+  -- one is loose, and four nodes have room
+  abbrev evicts : Holding ℕ → Eviction → Holding ℕ → Type 0
+  evicts a e b = (e ≡ Set set_five) × (b ≡ at (a.desk + 1))
 
-  abbrev refuses : Holding ℕ → Reply → Holding ℕ → Type 0
-  refuses a r b = (r ≡ answer.NoSpans 1) × (b ≡ a)
+  abbrev refuses : Holding ℕ → Eviction → Holding ℕ → Type 0
+  refuses a e b = (e ≡ Refused Spans 1 4) × (b ≡ a)
 
-  done_at_once : WithRoom works evicts (at 1) answer.Done (at 1)
+  -- of nine frames
+  done_at_once : WithRoom 9 works evicts (at 1) answer.Done (at 1)
   done_at_once = at_once (refl, refl) (frames_done answer.Done refl)
 
-  refused : WithRoom works refuses (at 0) answer.NoFrame (at 0)
-  refused = no_room (at 0) (answer.NoSpans 1) (refl, refl) (refl, refl)
-      (λ id e. spans_set (answer.NoSpans 1) id refl e) refl
+  refused : WithRoom 9 works refuses (at 0) (answer.NoRoom 9 1 4) (at 0)
+  refused = no_room (at 0) Spans 1 4 (refl, refl) (refl, refl) refl
 
-  done_after : WithRoom works evicts (at 0) answer.Done (at 1)
+  done_after : WithRoom 9 works evicts (at 0) answer.Done (at 1)
   done_after = won (at 0) (at 1) set_five (refl, refl) (refl, refl) (refl, refl)
       (frames_done answer.Done refl)
 
   -- a reply that is not the operation's
-  not_told : WithRoom works evicts (at 1) answer.Unmade (at 1) → ⊥
+  not_told : WithRoom 9 works evicts (at 1) answer.Unmade (at 1) → ⊥
   not_told (at_once x none) = done_unmade answer.Unmade x.0 refl
-  not_told (no_room m refusal x y left none) = frames_unmade answer.Unmade refl none
+  not_told (no_room m why loose nodes x y is) = frames_done answer.NoFrame (x.0) refl
   not_told (won m n id x y z none) = frames_done answer.NoFrame (x.0) refl
 
-  -- no frame, and no eviction was tried though one makes a set
-  not_tried : WithRoom works evicts (at 0) answer.NoFrame (at 0) → ⊥
-  not_tried (at_once x none) = none refl
-  not_tried (no_room m refusal x y left none) = left set_five y.0
-  not_tried (won m n id x y z none) = none refl
+  -- no room, and no eviction was tried though one makes a set
+  not_tried : WithRoom 9 works evicts (at 0) (answer.NoRoom 9 1 4) (at 0) → ⊥
+  not_tried (at_once x none) = none x.0
+  not_tried (no_room m why loose nodes x y is) = refused_set _ set_five why loose nodes refl y.0
+  not_tried (won m n id x y z none) =
+      let e = ap (λ (h : Holding ℕ). h.desk) (z.1 ∙ y.1) in omega (arith, e)
 
   -- the eviction was refused, and the operation is said to be done
-  not_refused : WithRoom works refuses (at 0) answer.Done (at 0) → ⊥
+  not_refused : WithRoom 9 works refuses (at 0) answer.Done (at 0) → ⊥
   not_refused (at_once x none) = frames_done answer.Done refl x.0
-  not_refused (no_room m refusal x y left none) = frames_done answer.Done refl none
-  not_refused (won m n id x y z none) = spans_set (answer.Set id) id y.0 refl
+  not_refused (no_room m why loose nodes x y is) = rooms_done answer.Done 9 loose nodes refl is
+  not_refused (won m n id x y z none) = refused_set _ id Spans 1 4 refl (sym y.0)
+
+  -- the eviction was refused, and there is said to be no frame
+  not_no_frame : WithRoom 9 works refuses (at 0) answer.NoFrame (at 0) → ⊥
+  not_no_frame (at_once x none) = none refl
+  not_no_frame (no_room m why loose nodes x y is) = rooms_frames answer.NoFrame 9 loose nodes refl is
+  not_no_frame (won m n id x y z none) = none refl
+
+  -- the numbers are not those of the refusal: the loose spans and the nodes stand in each other's place
+  not_swapped : WithRoom 9 works refuses (at 0) (answer.NoRoom 9 4 1) (at 0) → ⊥
+  not_swapped (at_once x none) = none x.0
+  not_swapped (no_room m why loose nodes x y is) =
+      let e : 4 ≡ loose = ap loose_of is in let f : loose ≡ 1 = ap loose_in y.0 in omega (arith, e, f)
+  not_swapped (won m n id x y z none) = refused_set _ id Spans 1 4 refl (sym y.0)
+
+  -- nor another count of nodes, or of frames
+  not_other_nodes : WithRoom 9 works refuses (at 0) (answer.NoRoom 9 1 3) (at 0) → ⊥
+  not_other_nodes (at_once x none) = none x.0
+  not_other_nodes (no_room m why loose nodes x y is) =
+      let e : 3 ≡ nodes = ap nodes_of is in let f : nodes ≡ 4 = ap nodes_in y.0 in omega (arith, e, f)
+  not_other_nodes (won m n id x y z none) = refused_set _ id Spans 1 4 refl (sym y.0)
+
+  not_other_frames : WithRoom 9 works refuses (at 0) (answer.NoRoom 8 1 4) (at 0) → ⊥
+  not_other_frames (at_once x none) = none x.0
+  not_other_frames (no_room m why loose nodes x y is) =
+      let e : 8 ≡ 9 = ap frames_of is in omega (arith, e)
+  not_other_frames (won m n id x y z none) = refused_set _ id Spans 1 4 refl (sym y.0)
 
   -- the desk is not that which the eviction left
-  not_after : WithRoom works evicts (at 0) answer.Done (at 0) → ⊥
+  not_after : WithRoom 9 works evicts (at 0) answer.Done (at 0) → ⊥
   not_after (at_once x none) = frames_done answer.Done refl x.0
-  not_after (no_room m refusal x y left none) = frames_done answer.Done refl none
+  not_after (no_room m why loose nodes x y is) = rooms_done answer.Done 9 loose nodes refl is
   not_after (won m n id x y z none) =
       let e = ap (λ (h : Holding ℕ). h.desk) (z.1 ∙ y.1) in omega (arith, e)
 
@@ -149,7 +205,7 @@ module _ (far : FarState) where
   not_again (evicting m x y) =
       let e = ap (λ (h : Holding ℕ). h.desk) (y ∙ ap (λ (h : Holding ℕ). at (h.desk + 20)) x.1) in
       omega (arith, e)
-  not_again (lacks_after m n id x y z) = spans_set (answer.Set id) id y.0 refl
+  not_again (lacks_after m n id x y z) = refused_set _ id Spans 1 4 refl (sym y.0)
 
   -- ---- where an object is: at desk 0 it is far, at every other it is here
   abbrev found : ℕ → Reply

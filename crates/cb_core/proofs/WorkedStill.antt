@@ -42,11 +42,13 @@ use Rattle.cb_world.specs.SetWord.{IsWeak}
 use Rattle.cb_rebuild.specs.RebuildStep.{IsFirstWeak, RebuildStep}
 use Rattle.cb_swapin.specs.Fetching.{far_given}
 use Rattle.cb_core.specs.Declining.{write_refusal}
+use Rattle.cb_evict.specs.declared.eviction.Eviction.TheVariants.{Refused}
+use Rattle.cb_evict.specs.declared.eviction.Lack.TheVariants.{Spans}
 use Rattle.cb_core.specs.Parts.{Holding, no_room, declined, stays_far, not_far, was_far}
-use Rattle.cb_core.specs.Step.{StillRead, StillWrite, StillFind, StillDecline, HoldOn, StillEvict, StillBegin, StillShip, StillCommit, StillAbort, StillSwap, StillBring, StillFilter, StillRebuild, StillWorks, StillMakeLacks, StillReadLacks, StillEvictLacks, StillShipLacks, StillSwapLacks, StillFilterLacks, StillRebuildLacks}
+use Rattle.cb_core.specs.Step.{StillRead, StillWrite, StillFind, StillDecline, HoldOn, StillEvict, StillRoom, StillBegin, StillShip, StillCommit, StillAbort, StillSwap, StillBring, StillFilter, StillRebuild, StillWorks, StillMakeLacks, StillReadLacks, StillEvictLacks, StillShipLacks, StillSwapLacks, StillFilterLacks, StillRebuildLacks}
 use Rattle.cb_core.specs.Turned.{IsWeakGiven, Rebuilds, RebuildLacks}
 use Rattle.cb_core.proofs.WorkedPins.{settings, desk, away, calm, hot, pinned, moving}
-use Rattle.cb_core.proofs.WorkedRoom.{counts, far_of, first_down, largest, span_with, words_are}
+use Rattle.cb_core.proofs.WorkedRoom.{counts, far_of, first_down, largest, span_with, two_open, words_are}
 
 -- ---- two frames, of which none is free, and whose spans have object 1; object 0 has its home in set
 -- 5, which has a live position
@@ -427,24 +429,29 @@ none_loose = (
   same_holds start,
 )
 
-spans_set : (n : ℕ) (id : SetId) → answer.NoSpans n ≡ answer.Set id → ⊥
-spans_set n id e = cc
+-- and two nodes have room
+none_told : StillRoom start (Refused Spans 0 2) start
+none_told = (record { step = none_loose.0; counts = (refl, sym two_open) }, none_loose.1)
 
-frame_swapped : (f : ℕ) → answer.NoFrame ≡ answer.Swapped f → ⊥
-frame_swapped f e = cc
+-- another number of nodes
+other_told : StillRoom start (Refused Spans 0 1) start → ⊥
+other_told a = let e = a.0.counts.1 in absurd (omega (arith, e, two_open))
 
-stays_out : StillBring 0 start answer.NoFrame start
-stays_out = no_room start (answer.NoSpans 0) no_frame none_loose (spans_set 0) refl
+room_swapped : (f : ℕ) → answer.NoRoom 2 0 2 ≡ answer.Swapped f → ⊥
+room_swapped f e = cc
 
-swaps : StillWorks (Swap (record { n = 0 })) start answer.NoFrame start
+stays_out : StillBring 0 start (answer.NoRoom 2 0 2) start
+stays_out = no_room start Spans 0 2 no_frame none_told refl
+
+swaps : StillWorks (Swap (record { n = 0 })) start (answer.NoRoom 2 0 2) start
 swaps = was_far start is_far_away stays_out
   where
     is_far_away : StillFind 0 start answer.NotHere start
     is_far_away = (refl, refl)
 
-reads_in : StillWorks (Read (record { n = 0 })) start answer.NoFrame start
+reads_in : StillWorks (Read (record { n = 0 })) start (answer.NoRoom 2 0 2) start
 reads_in = stays_far start start (record { reply = refl; change = refl }, refl) (refl, refl) stays_out
-    frame_swapped
+    room_swapped
 
 -- an object that is here is not brought in
 swaps_none : StillWorks (Swap (record { n = 0 })) (holds calm near) answer.Stays (holds calm near)

@@ -29,9 +29,12 @@ use Rattle.cb_core.specs.declared.event.Event.TheVariants as event
 use Rattle.cb_core.specs.Events.{IsEvent}
 use Rattle.cb_core.specs.Jobs.{IsJob}
 use Rattle.cb_core.specs.Membership.{crashed, is_down}
+use Rattle.cb_world.specs.Choices.{room_count}
+use Rattle.cb_evict.specs.declared.eviction.Eviction.TheVariants.{Refused, Set}
+use Rattle.cb_evict.specs.declared.eviction.Lack.{Lack}
+use Rattle.cb_evict.specs.declared.eviction.Lack.TheVariants.{Spans}
 use Rattle.cb_core.specs.Parts.{Holding, at_once, no_room as no_room_won, won, near, far as was_away, after as once_in}
-use Rattle.cb_core.specs.Room.{final_reply}
-use Rattle.cb_core.specs.Step.{StillEvict, TurnStep, worn, done, Step, Leads, Stops, StillStops}
+use Rattle.cb_core.specs.Step.{StillEvict, StillRoom, TurnStep, worn, done, Step, Leads, Stops, StillStops}
 use Rattle.cb_core.proofs.WorkedPins.{settings, desk, calm, hot, pinned, pin_on, seat_with}
 use Rattle.cb_core.proofs.WorkedRoom.{counts, far_of, first_down, span_with, two_open, words_are}
 
@@ -83,8 +86,8 @@ crashed_down =
 
 crash_turn : TurnStep (Crash (node 0)) old (answer.EpochAt (record { n = 1 }))
     (world (far_down four) calm idle)
-crash_turn = done (answer.EpochAt (record { n = 1 })) (lit< tt)
-    (refl, crashed refl refl (sym crashed_down)) refl refl
+crash_turn = done (lit< tt)
+    (refl, crashed refl refl (sym crashed_down)) refl
 
 -- what a crash's turn leaves below the last turn
 record Counted (new : WorldState) : Type 0 where
@@ -94,9 +97,9 @@ record Counted (new : WorldState) : Type 0 where
 
 is_counted : (r : Reply) (new : WorldState) → TurnStep (Crash (node 0)) old r new → Counted new
 is_counted r new (worn end reply same) = absurd (omega (arith, end))
-is_counted r new (done q few (words, crashed up reply state) is seats) =
+is_counted r new (done few (words, crashed up reply state) seats) =
     record { far = ap (λ (f : FarState). f.counts) state; desk = words; seats = seats }
-is_counted r new (done q few (words, is_down down reply same) is seats) =
+is_counted r new (done few (words, is_down down reply same) seats) =
     record { far = ap (λ (f : FarState). f.counts) same; desk = words; seats = seats }
 
 not_counted : TurnStep (Crash (node 0)) old (answer.EpochAt (record { n = 1 }))
@@ -138,7 +141,7 @@ is_worn = worn refl refl refl
 is_refused : (r : Reply) (new : WorldState) → TurnStep (Crash (node 0)) worn_out r new
     → (r ≡ answer.Worn) × (new ≡ worn_out)
 is_refused r new (worn end reply same) = (reply, same)
-is_refused r new (done q few works is seats) = absurd (omega (arith, few))
+is_refused r new (done few works seats) = absurd (omega (arith, few))
 
 worn_and_crashes : TurnStep (Crash (node 0)) worn_out answer.Worn
     (world (far_down worn_counts) calm idle) → ⊥
@@ -189,29 +192,29 @@ no_spans = (
   λ s k. (s, k, λ h. refl),
 )
 
-spans_set : (n : ℕ) (id : SetId) → answer.NoSpans n ≡ answer.Set id → ⊥
-spans_set n id e = cc
+-- none of them is loose, and two nodes have room
+none_told : StillRoom start (Refused Spans 0 2) start
+none_told = (record { step = no_spans.0; counts = (refl, sym two_open) }, no_spans.1)
 
 no_room : TurnStep (Make (7 ∷ [])) (crowded three) (answer.NoRoom 2 0 2) (crowded four_with_a_make)
-no_room = done answer.NoFrame (lit< tt) (no_room_won start (answer.NoSpans 0)
-    (inr (lit< tt, inl (no_place four_with_a_make, refl, refl, refl))) no_spans (spans_set 0) refl)
-    (ap (answer.NoRoom 2 0) (sym two_open)) refl
+no_room = done (lit< tt) (no_room_won start Spans 0 2
+    (inr (lit< tt, inl (no_place four_with_a_make, refl, refl, refl))) none_told refl) refl
 
 no_frame_made : (h : Handle) (v : ℕ) → answer.NoFrame ≡ answer.Made h v → ⊥
 no_frame_made h v e = cc
 
 -- no set is made of spans that can't leave
 no_set : (m n : Holding Words) (id : SetId) → m.desk ≡ start.desk → m.far ≡ start.far
-    → StillEvict m (answer.Set id) n → ⊥
+    → StillRoom m (Set id) n → ⊥
 no_set m n id words state (step, hold) =
-    let made = evict_made m.desk n.desk m.far n.far (answer.Set id) id step refl in
+    let made = evict_made m.desk n.desk m.far n.far (answer.Set id) id step.step refl in
     let few : 1 ≤ 0 = subst (λ (f : FarState). 1 ≤ length (loose_frames (words_are pinned pinned) f))
     state (subst (λ (x : Words). x.settings.k ≤ length (loose_frames x m.far)) words made.enough) in
     omega (arith, few)
 
 not_after_a_set : (m n : Holding Words) (id : SetId)
     → IsMakeStep start.desk m.desk start.far m.far (7 ∷ []) answer.NoFrame
-    → StillEvict m (answer.Set id) n → ⊥
+    → StillRoom m (Set id) n → ⊥
 not_after_a_set m n id (inl (all, reply, words, state)) v = absurd (omega (arith, all))
 not_after_a_set m n id (inr (more, inl (crammed, reply, words, state))) v =
     no_set m n id words state v
@@ -224,18 +227,34 @@ not_made q (inr (more, inl (crammed, reply, words, state))) off = off reply
 not_made q (inr (more, inr (reply, z))) off = absurd (let e : 1 ≡ 2 =
     ap (λ (f : FarState). f.made) z.state in omega (arith, e))
 
+-- a refusal tells that no span is loose and that two nodes have room
+none_counted : (m n : Holding Words) (why : Lack) (loose nodes : ℕ)
+    → IsMakeStep start.desk m.desk start.far m.far (7 ∷ []) answer.NoFrame
+    → StillRoom m (Refused why loose nodes) n → (loose ≡ 0) × (nodes ≡ 2)
+none_counted m n why loose nodes (inl (all, reply, words, state)) v = absurd (omega (arith, all))
+none_counted m n why loose nodes (inr (more, inl (crammed, reply, words, state))) (step, hold) = (
+  step.counts.0 ∙ ap (λ (x : Words). length (loose_frames x m.far)) words
+      ∙ ap (λ (f : FarState). length (loose_frames (words_are pinned pinned) f)) state,
+  step.counts.1 ∙ ap (λ (f : FarState). room_count f.nodes f.members) state ∙ two_open,
+)
+none_counted m n why loose nodes (inr (more, inr (reply, z))) v = absurd (no_frame_made _ _ reply)
+
 -- where nothing was made, the reply is no room, with what the world counts
 told_no_room : (r : Reply) → TurnStep (Make (7 ∷ [])) (crowded three) r (crowded four_with_a_make)
     → r ≡ answer.NoRoom 2 0 2
 told_no_room r (worn end reply same) = absurd (omega (arith, end))
-told_no_room r (done q few (at_once o off) is seats) = absurd (not_made q o off)
-told_no_room r (done q few (no_room_won m refusal o v none none_is) is seats) =
-    is ∙ ap (final_reply (crowded four_with_a_make)) none_is ∙ ap (answer.NoRoom 2 0) two_open
-told_no_room r (done q few (won m n id o v again off) is seats) = absurd (not_after_a_set m n id o v)
+told_no_room r (done few (at_once o off) seats) = absurd (not_made r o off)
+told_no_room r (done few (no_room_won m why loose nodes o v is) seats) =
+    let z = none_counted m start why loose nodes o v in is ∙ (λ i. answer.NoRoom 2 (z.0 i) (z.1 i))
+told_no_room r (done few (won m n id o v again off) seats) = absurd (not_after_a_set m n id o v)
 
 abbrev loose_of : Reply → ℕ
 loose_of (answer.NoRoom frames loose nodes) = loose
 loose_of r = 7
+
+abbrev nodes_of : Reply → ℕ
+nodes_of (answer.NoRoom frames loose nodes) = nodes
+nodes_of r = 7
 
 answers_no_frame : TurnStep (Make (7 ∷ [])) (crowded three) answer.NoFrame (crowded four_with_a_make)
     → ⊥
@@ -244,6 +263,11 @@ answers_no_frame step = let e : 7 ≡ 0 = ap loose_of (told_no_room _ step) in o
 counts_too_many :
     TurnStep (Make (7 ∷ [])) (crowded three) (answer.NoRoom 2 1 2) (crowded four_with_a_make) → ⊥
 counts_too_many step = let e : 1 ≡ 0 = ap loose_of (told_no_room _ step) in omega (arith, e)
+
+-- the nodes of another moment
+counts_other_nodes :
+    TurnStep (Make (7 ∷ [])) (crowded three) (answer.NoRoom 2 0 1) (crowded four_with_a_make) → ⊥
+counts_other_nodes step = let e : 1 ≡ 2 = ap nodes_of (told_no_room _ step) in omega (arith, e)
 
 -- ---- atomic steps
 loads : Step old (event.Step 1 (Load (handle 0))) (answer.Word calm) old

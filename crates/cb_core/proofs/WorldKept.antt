@@ -19,15 +19,14 @@ use Rattle.cb_world.proofs.NodeJoin.{node_crash_sound, node_join_sound}
 use Rattle.cb_core.specs.declared.event.Event.TheVariants as event
 use Rattle.cb_core.specs.Jobs.{IsJob}
 use Rattle.cb_core.specs.Membership.{CrashTurn, crashed, is_down, JoinTurn, joined, is_up}
-use Rattle.cb_core.specs.Parts.{Holding, NeverDeclined, NeverLacks}
-use Rattle.cb_core.specs.Room.{final_reply}
-use Rattle.cb_core.specs.Step.{StillMake, StillMakeLacks, StillRead, StillReadLacks, StillWrite, StillFind, StillDecline, StillEvict, StillEvictLacks, StillSwap, StillSwapLacks, StillBring, StillBringLacks, StillWorks, StillStops, TurnStep, worn, done, Stops}
-use Rattle.cb_core.specs.Turned.{Does, Turned, worn as was_worn, done as was_done, Stopped, counted, once_counted, Makes, MakeLacks, Reads, ReadLacks, Writes, Finds, Declines, Evicts, EvictLacks, Swaps, SwapLacks, Brings, BringLacks, Stops as StopsOver}
+use Rattle.cb_core.specs.Parts.{Holding, NeverDeclined, NeverLacks, WithRoom}
+use Rattle.cb_core.specs.Step.{StillMake, StillMakeLacks, StillRead, StillReadLacks, StillWrite, StillFind, StillDecline, StillEvict, StillRoom, StillEvictLacks, StillSwap, StillSwapLacks, StillBring, StillBringLacks, StillWorks, StillStops, TurnStep, worn, done, Stops}
+use Rattle.cb_core.specs.Turned.{Does, Turned, worn as was_worn, done as was_done, Stopped, counted, once_counted, Makes, MakeLacks, Reads, ReadLacks, Writes, Finds, Declines, Evicts, WinsRoom, EvictLacks, Swaps, SwapLacks, Brings, BringLacks, Stops as StopsOver}
 use Rattle.cb_core.proofs.Counting.{counted_sound}
-use Rattle.cb_core.proofs.KeptParts.{IsGood, Arrives, Carries, CarriesLack, rises_more, arrives_then, arrives_more, arrives_same, arrives_stays, counted_rises}
+use Rattle.cb_core.proofs.KeptParts.{IsGood, Arrives, Carries, CarriesLack, rises_more, arrives_then, arrives_more, arrives_same, counted_rises, arrives_stays}
+use Rattle.cb_core.proofs.StillParts.{Ran, Tells, both_same, make_part, read_part, write_part, free_part, find_part, never_part, decline_part, evict_part, room_part, swap_part, make_lack, read_lack, evict_lack, swap_lack}
 use Rattle.cb_core.proofs.NodesStay.{crash_stays, join_stays}
 use Rattle.cb_world.proofs.Staying.{recounted}
-use Rattle.cb_core.proofs.StillParts.{Ran, Tells, both_same, make_part, read_part, write_part, free_part, find_part, never_part, decline_part, evict_part, swap_part, make_lack, read_lack, evict_lack, swap_lack}
 use Rattle.cb_core.proofs.StillBatches.{begin_part, ship_part, ship_lack, commit_part, abort_part}
 use Rattle.cb_core.proofs.StillFilters.{filter_part, filter_lack}
 use Rattle.cb_core.proofs.StillRebuilds.{rebuild_part, rebuild_lack}
@@ -85,16 +84,18 @@ join_part c seats node a b r Z good below words (is_up is reply far) z =
 -- ---- jobs
 bring_part : (c : Config) (seats : List SeatState) (h : ℕ) → IsAccepted c
     → Carries c seats 56 (Brings Ran Tells c h) (StillBring h)
-bring_part c seats h accepted =
-    with_room c seats 16 24 56 (Swaps Ran Tells h) (StillSwap h) (Evicts Ran Tells c) StillEvict
-    (omega arith) (swap_part c seats h) (evict_part c seats accepted)
+bring_part c seats h accepted a b r good does =
+    let z = with_room c seats c.frames 16 24 56 (Swaps Ran Tells h) (StillSwap h) (WinsRoom Ran Tells c)
+    StillRoom (omega arith) (swap_part c seats h) (room_part c seats accepted) a b r good does in
+    arrives_more c seats 56 56 a b _ (StillBring h a r b) (omega arith) z
+    (subst (λ (d : Config). WithRoom d.frames (StillSwap h) StillRoom a r b) (sym good.settings) z.is)
 
 bring_lack : (c : Config) (seats : List SeatState) (h : ℕ) → IsAccepted c
     → CarriesLack c seats 56 (BringLacks Ran Tells c h) (StillBringLacks h)
 bring_lack c seats h accepted =
-    room_stops c seats 16 24 56 (Swaps Ran Tells h) (StillSwap h) (Evicts Ran Tells c)
-    StillEvict (SwapLacks Ran h) (StillSwapLacks h) (EvictLacks Ran Tells) StillEvictLacks (omega arith)
-    (swap_part c seats h) (swap_lack c seats h) (evict_part c seats accepted) (evict_lack c seats)
+    room_stops c seats 16 24 56 (Swaps Ran Tells h) (StillSwap h) (WinsRoom Ran Tells c)
+    StillRoom (SwapLacks Ran h) (StillSwapLacks h) (EvictLacks Ran Tells) StillEvictLacks (omega arith)
+    (swap_part c seats h) (swap_lack c seats h) (room_part c seats accepted) (evict_lack c seats)
 
 -- a part whose numbers rise by no more than those of a job may
 in_job : (c : Config) (seats : List SeatState) (n : ℕ) (a b : Holding Words) (Z : Type 0) → n ≤ 64
@@ -105,8 +106,11 @@ works_part : (c : Config) (seats : List SeatState) (job : Job) (a b : Holding Wo
     → IsAccepted c → IsJob c job → IsGood c seats a → Does Ran Tells c job a r b
     → Arrives c seats 64 a b (StillWorks job a r b)
 works_part c seats (Make bytes) a b r accepted ok good does =
-    with_room c seats 1 24 64 (Makes Ran Tells c bytes) (StillMake bytes) (Evicts Ran Tells c)
-    StillEvict (omega arith) (make_part c seats bytes) (evict_part c seats accepted) a b r good does
+    let z = with_room c seats c.frames 1 24 64 (Makes Ran Tells c bytes) (StillMake bytes)
+    (WinsRoom Ran Tells c) StillRoom (omega arith) (make_part c seats bytes) (room_part c seats accepted)
+    a b r good does in
+    arrives_more c seats 64 64 a b _ (StillWorks (Make bytes) a r b) (omega arith) z
+    (subst (λ (d : Config). WithRoom d.frames (StillMake bytes) StillRoom a r b) (sym good.settings) z.is)
 works_part c seats (Read handle) a b r accepted ok good does =
     let h = handle.n in
     where_it_is c seats 1 1 56 64 (Reads Ran Tells h) (StillRead h) NeverDeclined NeverDeclined
@@ -160,9 +164,9 @@ stops_part : (c : Config) (seats : List SeatState) (job : Job) (a b : Holding Wo
     → IsAccepted c → IsGood c seats a → StopsOver Ran Tells c job a b
     → Arrives c seats 64 a b (StillStops job a b)
 stops_part c seats (Make bytes) a b accepted good stops =
-    room_stops c seats 1 24 64 (Makes Ran Tells c bytes) (StillMake bytes) (Evicts Ran Tells c)
-    StillEvict (MakeLacks Ran c bytes) (StillMakeLacks bytes) (EvictLacks Ran Tells) StillEvictLacks
-    (omega arith) (make_part c seats bytes) (make_lack c seats bytes) (evict_part c seats accepted)
+    room_stops c seats 1 24 64 (Makes Ran Tells c bytes) (StillMake bytes) (WinsRoom Ran Tells c)
+    StillRoom (MakeLacks Ran c bytes) (StillMakeLacks bytes) (EvictLacks Ran Tells) StillEvictLacks
+    (omega arith) (make_part c seats bytes) (make_lack c seats bytes) (room_part c seats accepted)
     (evict_lack c seats) a b good stops
 stops_part c seats (Read handle) a b accepted good stops =
     let h = handle.n in
@@ -276,7 +280,7 @@ arrived_sound w job b Z sound few z = record {
 pub record IsTurned (w : WorldState) (job : Job) (q : Reply) (y : Words) (new : FarState) : Type 0
   where
     pub sound : IsSoundWorld (with_job w y new)
-    pub step : TurnStep job w (final_reply (with_job w y new) q) (with_job w y new)
+    pub step : TurnStep job w q (with_job w y new)
 
 pub turn_works : (w : WorldState) (job : Job) (q : Reply) (y : Words) (new : FarState)
     → IsSoundWorld w → IsJob w.desk.settings job
@@ -286,13 +290,13 @@ turn_works w job q y new sound ok (was_worn end reply state ran) =
     let same : with_job w y new ≡ w = (λ i. record { desk = ran.0 i; far = state i; seats = w.seats }) in
     record {
       sound = subst IsSoundWorld (sym same) sound;
-      step = worn end (ap (final_reply (with_job w y new)) reply) same;
+      step = worn end reply same;
     }
 turn_works w job q y new sound ok (was_done few does) =
     let b : Holding Words = record { desk = y; far = new } in
     let z = works_part w.desk.settings w.seats job (once_counted (held w) job) b q sound.config ok
     (counted_good w job sound) does in
-    record { sound = arrived_sound w job b _ sound few z; step = done q few z.is refl refl }
+    record { sound = arrived_sound w job b _ sound few z; step = done few z.is refl }
 
 -- ---- a turn that found no memory
 pub record IsStopped (w : WorldState) (job : Job) (y : Words) (new : FarState) : Type 0 where

@@ -4,6 +4,9 @@ use Rattle.cb_types.specs.declared.handle.SetId.{SetId}
 use Rattle.cb_types.specs.declared.reply.Reply.{Reply}
 use Rattle.cb_types.specs.declared.reply.Reply.TheVariants as answer
 use Rattle.cb_world.specs.FarState.{FarState}
+use Rattle.cb_evict.specs.declared.eviction.Eviction.{Eviction}
+use Rattle.cb_evict.specs.declared.eviction.Eviction.TheVariants.{Refused, Set}
+use Rattle.cb_evict.specs.declared.eviction.Lack.{Lack}
 
 -- what the holder of the far lock works at: a desk, and the far state beside it
 pub record Holding (D : Type 0) : Type 0 where
@@ -11,15 +14,17 @@ pub record Holding (D : Type 0) : Type 0 where
   pub far : FarState
 
 -- An operation for which room is won: where it finds no frame, an eviction makes some and the
--- operation is done once more; where the eviction is refused too, there is no frame for it.
-pub data WithRoom {D : Type 0} (operation eviction : Holding D → Reply → Holding D → Type 0)
-    (a : Holding D) (r : Reply) (b : Holding D) : Type 0 where
-  at_once : operation a r b → (r ≡ answer.NoFrame → ⊥) → WithRoom operation eviction a r b
-  no_room : (m : Holding D) (refusal : Reply) → operation a answer.NoFrame m
-      → eviction m refusal b → ((id : SetId) → refusal ≡ answer.Set id → ⊥) → r ≡ answer.NoFrame
-      → WithRoom operation eviction a r b
-  won : (m n : Holding D) (id : SetId) → operation a answer.NoFrame m → eviction m (answer.Set id) n
-      → operation n r b → (r ≡ answer.NoFrame → ⊥) → WithRoom operation eviction a r b
+-- operation is done once more; where the eviction is refused too, there is no room, with the frames that
+-- there are and what was found lacking: so many loose spans, and so many nodes with room.
+pub data WithRoom {D : Type 0} (frames : ℕ) (operation : Holding D → Reply → Holding D → Type 0)
+    (eviction : Holding D → Eviction → Holding D → Type 0) (a : Holding D) (r : Reply)
+    (b : Holding D) : Type 0 where
+  at_once : operation a r b → (r ≡ answer.NoFrame → ⊥) → WithRoom frames operation eviction a r b
+  no_room : (m : Holding D) (why : Lack) (loose nodes : ℕ) → operation a answer.NoFrame m
+      → eviction m (Refused why loose nodes) b → r ≡ answer.NoRoom frames loose nodes
+      → WithRoom frames operation eviction a r b
+  won : (m n : Holding D) (id : SetId) → operation a answer.NoFrame m → eviction m (Set id) n
+      → operation n r b → (r ≡ answer.NoFrame → ⊥) → WithRoom frames operation eviction a r b
 
 -- A call on an object wherever it is. One that is far is first looked at, which may decline the call;
 -- then it is brought in, and the call is made once more. Where it can't be brought in the call is
@@ -49,13 +54,13 @@ pub data BringsIn {D : Type 0} (call bringing : Holding D → Reply → Holding 
 -- An operation for which room is won, and which found no memory at the one part or at the other. The
 -- eviction stays, where there was one.
 pub data RoomStops {D : Type 0} (operation : Holding D → Reply → Holding D → Type 0)
-    (lacks : Holding D → Holding D → Type 0) (eviction : Holding D → Reply → Holding D → Type 0)
+    (lacks : Holding D → Holding D → Type 0) (eviction : Holding D → Eviction → Holding D → Type 0)
     (eviction_lacks : Holding D → Holding D → Type 0) (a b : Holding D) : Type 0 where
   at_once : lacks a b → RoomStops operation lacks eviction eviction_lacks a b
   evicting : (m : Holding D) → operation a answer.NoFrame m → eviction_lacks m b
       → RoomStops operation lacks eviction eviction_lacks a b
   after : (m n : Holding D) (id : SetId) → operation a answer.NoFrame m
-      → eviction m (answer.Set id) n → lacks n b
+      → eviction m (Set id) n → lacks n b
       → RoomStops operation lacks eviction eviction_lacks a b
 
 -- A call on an object wherever it is that found no memory: itself, where the object is brought in, or

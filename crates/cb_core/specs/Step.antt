@@ -22,7 +22,8 @@ use Rattle.cb_mutate.specs.Steps.{IsReadStep, IsWriteStep, IsFreeStep}
 use Rattle.cb_evict.specs.AbortStep.{IsAbortStep}
 use Rattle.cb_evict.specs.BeginStep.{IsBeginStep}
 use Rattle.cb_evict.specs.CommitStep.{IsCommitStep}
-use Rattle.cb_evict.specs.EvictStep.{IsEvictStep}
+use Rattle.cb_evict.specs.declared.eviction.Eviction.{Eviction}
+use Rattle.cb_evict.specs.EvictStep.{IsCountedStep, IsEvictStep}
 use Rattle.cb_evict.specs.ShipStep.{IsShipStep}
 use Rattle.cb_filter.specs.FilterStep.{IsFilterStep, IsFreeIn, temp_of}
 use Rattle.cb_filter.specs.Plans.{Wants}
@@ -37,7 +38,6 @@ use Rattle.cb_core.specs.Declining.{write_refusal}
 use Rattle.cb_core.specs.Membership.{CrashTurn, JoinTurn}
 use Rattle.cb_core.specs.Parts.{Holding, WithRoom, WhereItIs, NeverDeclined, BringsIn, RoomStops, CallStops, NeverLacks}
 use Rattle.cb_core.specs.Pinning.{PinStep, UnpinStep}
-use Rattle.cb_core.specs.Room.{final_reply}
 use Rattle.cb_core.specs.Turned.{IsGiven, IsWeakGiven, counted}
 
 -- the parts of a turn, each a step from words and a far state to others
@@ -73,6 +73,10 @@ HoldOn a b = (s : Shown) → IsKnown a.desk a.far s
 abbrev pub StillEvict : Holding Words → Reply → Holding Words → Type 0
 StillEvict a r b = IsEvictStep a.desk b.desk a.far b.far r × HoldOn a b
 
+-- one that makes room, and tells both counts where it is refused
+abbrev pub StillRoom : Holding Words → Eviction → Holding Words → Type 0
+StillRoom a e b = IsCountedStep a.desk b.desk a.far b.far e × HoldOn a b
+
 -- an eviction in steps: its begin, a row that is put, its commit, and its end without one
 abbrev pub StillBegin : Holding Words → Reply → Holding Words → Type 0
 StillBegin a r b = IsBeginStep a.desk b.desk a.far b.far r × HoldOn a b
@@ -93,7 +97,7 @@ StillSwap h a r b = (home : Home) × (home_at a.far.homes h ≡ Some home)
 
 -- a far object is brought in, and room is won for it
 abbrev pub StillBring : ℕ → Holding Words → Reply → Holding Words → Type 0
-StillBring h = WithRoom (StillSwap h) StillEvict
+StillBring h a r b = WithRoom a.desk.settings.frames (StillSwap h) StillRoom a r b
 
 -- a filter of an object in local memory
 abbrev pub StillFilter : ℕ → Holding Words → Reply → Holding Words → Type 0
@@ -105,7 +109,8 @@ StillRebuild a r b = (b.desk ≡ a.desk) × RebuildStep a.far b.far r × HoldOn 
 
 -- a job once the turn is counted, part by part
 abbrev pub StillWorks : Job → Holding Words → Reply → Holding Words → Type 0
-StillWorks (Make bytes) a r b = WithRoom (StillMake bytes) StillEvict a r b
+StillWorks (Make bytes) a r b =
+    WithRoom a.desk.settings.frames (StillMake bytes) StillRoom a r b
 StillWorks (Read handle) a r b =
     WhereItIs (StillRead handle.n) NeverDeclined (StillBring handle.n) a r b
 StillWorks (Write handle at bytes) a r b = WhereItIs (StillWrite handle.n at bytes)
@@ -134,8 +139,7 @@ Works x far job r y new =
 -- seats stay as they are.
 pub data TurnStep (job : Job) (w : WorldState) (r : Reply) (new : WorldState) : Type 0 where
   worn : w.far.counts.turns ≡ 2 ^ 40 → r ≡ answer.Worn → new ≡ w → TurnStep job w r new
-  done : (q : Reply) → w.far.counts.turns < 2 ^ 40
-      → Works w.desk (counted w.far job) job q new.desk new.far → r ≡ final_reply new q
+  done : w.far.counts.turns < 2 ^ 40 → Works w.desk (counted w.far job) job r new.desk new.far
       → new.seats ≡ w.seats → TurnStep job w r new
 
 -- an atomic step of a seat
@@ -175,7 +179,7 @@ abbrev pub StillSwapLacks : ℕ → Holding Words → Holding Words → Type 0
 StillSwapLacks h a b = (b.desk ≡ a.desk) × IsGiven a.far b.far h
 
 abbrev pub StillBringLacks : ℕ → Holding Words → Holding Words → Type 0
-StillBringLacks h = RoomStops (StillSwap h) (StillSwapLacks h) StillEvict StillEvictLacks
+StillBringLacks h = RoomStops (StillSwap h) (StillSwapLacks h) StillRoom StillEvictLacks
 
 -- nothing changed, and the object needs a slot in a new span
 abbrev pub StillFilterLacks : ℕ → Holding Words → Holding Words → Type 0
@@ -189,7 +193,7 @@ StillRebuildLacks a b = (b.desk ≡ a.desk) × IsWeakGiven a.far b.far
 -- where a job that found no memory stopped; a commit and an abort take no memory
 abbrev pub StillStops : Job → Holding Words → Holding Words → Type 0
 StillStops (Make bytes) a b =
-    RoomStops (StillMake bytes) (StillMakeLacks bytes) StillEvict StillEvictLacks a b
+    RoomStops (StillMake bytes) (StillMakeLacks bytes) StillRoom StillEvictLacks a b
 StillStops (Read handle) a b = CallStops (StillRead handle.n) (StillReadLacks handle.n) NeverDeclined
     (StillBring handle.n) (StillBringLacks handle.n) a b
 StillStops (Write handle at bytes) a b = CallStops (StillWrite handle.n at bytes) NeverLacks

@@ -31,6 +31,8 @@ use Rattle.cb_evict.specs.AbortRule.{AbortRule, AbortEffect}
 use Rattle.cb_evict.specs.BeginEffect.{BeginEffect}
 use Rattle.cb_evict.specs.BeginRule.{BeginRule}
 use Rattle.cb_evict.specs.CommitRule.{CommitRule, CommitEffect}
+use Rattle.cb_evict.specs.declared.eviction.Eviction.{Eviction}
+use Rattle.cb_evict.specs.Eviction.{CountsRule, reply_of}
 use Rattle.cb_evict.specs.EvictEffect.{EvictEffect}
 use Rattle.cb_evict.specs.EvictRule.{EvictRule}
 use Rattle.cb_evict.specs.Evicting.{TouchesSpans}
@@ -104,6 +106,12 @@ abbrev pub Evicts : {D : Type 0} → (D → List Event → D → Type 0) → (D 
     → Holding D → Reply → Holding D → Type 0
 Evicts run shows c = Operates run shows (λ far new r. EvictRule c far new r) (λ far new r. EvictEffect far new r)
 
+-- one that makes room, and tells both counts where it is refused
+abbrev pub WinsRoom : {D : Type 0} → (D → List Event → D → Type 0) → (D → Shown → Type 0) → Config
+    → Holding D → Eviction → Holding D → Type 0
+WinsRoom run shows c a e b = Performs (λ es. run a.desk es b.desk) (λ s. shows a.desk s × Sound s a.far)
+    (CountsRule c a.far b.far e) (λ t. Sound t b.far) (EvictEffect a.far b.far (reply_of e))
+
 -- an eviction in steps: some spans begin to leave, their rows are put one by one, and the batch is
 -- committed or given up
 abbrev pub Begins : {D : Type 0} → (D → List Event → D → Type 0) → (D → Shown → Type 0) → Config
@@ -132,7 +140,7 @@ Swaps run shows h a r b = (home : Home) × (home_at a.far.homes h ≡ Some home)
 -- a far object is brought in, and room is won for it
 abbrev pub Brings : {D : Type 0} → (D → List Event → D → Type 0) → (D → Shown → Type 0) → Config → ℕ
     → Holding D → Reply → Holding D → Type 0
-Brings run shows c h = WithRoom (Swaps run shows h) (Evicts run shows c)
+Brings run shows c h = WithRoom c.frames (Swaps run shows h) (WinsRoom run shows c)
 
 -- a filter of an object in local memory
 abbrev pub Filters : {D : Type 0} → (D → List Event → D → Type 0) → (D → Shown → Type 0) → Config → ℕ
@@ -148,7 +156,8 @@ Rebuilds run a r b = run a.desk [] b.desk × RebuildStep a.far b.far r
 -- What a job does once the turn is counted, part by part.
 abbrev pub Does : {D : Type 0} → (D → List Event → D → Type 0) → (D → Shown → Type 0) → Config → Job
     → Holding D → Reply → Holding D → Type 0
-Does run shows c (Make bytes) a r b = WithRoom (Makes run shows c bytes) (Evicts run shows c) a r b
+Does run shows c (Make bytes) a r b =
+    WithRoom c.frames (Makes run shows c bytes) (WinsRoom run shows c) a r b
 Does run shows c (Read handle) a r b =
     WhereItIs (Reads run shows handle.n) NeverDeclined (Brings run shows c handle.n) a r b
 Does run shows c (Write handle at bytes) a r b = WhereItIs (Writes run shows handle.n at bytes)
@@ -214,7 +223,7 @@ SwapLacks run h a b = run a.desk [] b.desk × IsGiven a.far b.far h
 
 abbrev pub BringLacks : {D : Type 0} → (D → List Event → D → Type 0) → (D → Shown → Type 0) → Config
     → ℕ → Holding D → Holding D → Type 0
-BringLacks run shows c h = RoomStops (Swaps run shows h) (SwapLacks run h) (Evicts run shows c)
+BringLacks run shows c h = RoomStops (Swaps run shows h) (SwapLacks run h) (WinsRoom run shows c)
     (EvictLacks run shows)
 
 -- a filter that lacks memory for a new span changes nothing
@@ -244,7 +253,7 @@ ShipLacks run shows a b = (b.far ≡ a.far) × Performs (λ es. run a.desk es b.
 abbrev pub Stops : {D : Type 0} → (D → List Event → D → Type 0) → (D → Shown → Type 0) → Config → Job
     → Holding D → Holding D → Type 0
 Stops run shows c (Make bytes) a b = RoomStops (Makes run shows c bytes) (MakeLacks run c bytes)
-    (Evicts run shows c) (EvictLacks run shows) a b
+    (WinsRoom run shows c) (EvictLacks run shows) a b
 Stops run shows c (Read handle) a b =
     CallStops (Reads run shows handle.n) (ReadLacks run shows handle.n) NeverDeclined
     (Brings run shows c handle.n) (BringLacks run shows c handle.n) a b

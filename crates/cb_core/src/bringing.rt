@@ -1,6 +1,5 @@
 ghost use Rattle.std.specs.Prelude.{◌≡◌, ℕ, ◌^◌, ◌+◌, ◌<◌, ◌≤◌, length, true, false, Some, IfOk, OnErr};
 ghost use Rattle.cb_types.specs.Config.{IsAccepted};
-ghost use Rattle.cb_types.specs.declared.handle.SetId.{SetId};
 ghost use Rattle.cb_types.specs.declared.reply.Reply.TheVariants as answer;
 ghost use Rattle.cb_world.specs.declared.homes.Home.{Home};
 ghost use Rattle.cb_world.specs.declared.shown.Shown.{Shown};
@@ -8,18 +7,19 @@ ghost use Rattle.cb_world.specs.Homes.{home_at};
 ghost use Rattle.cb_world.specs.Sound.{Sound};
 ghost use Rattle.cb_world.specs.World.{IsConfigured};
 ghost use Rattle.cb_core.specs.Parts.{BringsIn, CallStops, Holding, NeverDeclined, NeverLacks, RoomStops, WhereItIs, WithRoom};
-ghost use Rattle.cb_core.specs.Turned.{BringLacks, Brings, Declines, Evicts, EvictLacks, Finds, MakeLacks, Makes, ReadLacks, Reads, Writes};
+ghost use Rattle.cb_core.specs.Turned.{BringLacks, Brings, Declines, EvictLacks, Finds, MakeLacks, Makes, ReadLacks, Reads, WinsRoom, Writes};
 
 use crate::declining::{decline, find};
-use cb_evict::evict_now;
+use cb_evict::{Eviction, evict_counted};
 use cb_mutate::{make, read, write};
 use cb_swapin::swap_in;
-use cb_types::{Handle, NoMemory, Reply, SetId};
+use cb_types::{Config, Handle, NoMemory, Reply, SetId};
 use cb_world::{Desk, Far};
 use std::alloc::Global;
 
 /// Makes an object of these bytes, 1 to 1,024. Where there is no frame for it, an eviction makes room,
-/// and it is made then; NoFrame is answered only where the eviction is refused.
+/// and it is made then. Where the eviction is refused there is no room: NoRoom tells how many frames there
+/// are, and how many spans are loose and how many nodes have room, as the eviction found them.
 pub(crate) fn make_with_room<D: Desk>(
     desk: &mut D,
     far: &mut Far,
@@ -31,14 +31,14 @@ pub(crate) fn make_with_room<D: Desk>(
     requires configured { IsConfigured (D.settings desk.old) far.old }
     requires counts { (far.old.counts.sets < 2 ^ 62) × (far.old.counts.keys < 2 ^ 62) }
     requires sound { (s : Shown) × D.shows desk.old s × Sound s far.old }
-    ensures makes { IfOk result (λ reply. WithRoom
+    ensures makes { IfOk result (λ reply. WithRoom (D.settings desk.old).frames
         (Makes (λ d es e. D.run d es e) (λ d s. D.shows d s) (D.settings desk.old) bytes.now)
-        (Evicts (λ d es e. D.run d es e) (λ d s. D.shows d s) (D.settings desk.old))
+        (WinsRoom (λ d es e. D.run d es e) (λ d s. D.shows d s) (D.settings desk.old))
         (record { desk = desk.old; far = far.old }) reply (record { desk = desk.new; far = far.new })) }
     ensures error { OnErr result (RoomStops
         (Makes (λ d es e. D.run d es e) (λ d s. D.shows d s) (D.settings desk.old) bytes.now)
         (MakeLacks (λ d es e. D.run d es e) (D.settings desk.old) bytes.now)
-        (Evicts (λ d es e. D.run d es e) (λ d s. D.shows d s) (D.settings desk.old))
+        (WinsRoom (λ d es e. D.run d es e) (λ d s. D.shows d s) (D.settings desk.old))
         (EvictLacks (λ d es e. D.run d es e) (λ d s. D.shows d s))
         (record { desk = desk.old; far = far.old }) (record { desk = desk.new; far = far.new })) }
 {
@@ -46,16 +46,15 @@ pub(crate) fn make_with_room<D: Desk>(
     if !is_no_frame(&reply) {
         return Ok(reply);
     }
-    let room = evict_now(desk, far)?;
-    if !is_set(&room) {
-        return Ok(Reply::NoFrame);
+    let room = evict_counted(desk, far)?;
+    match room {
+        Eviction::Refused { loose, nodes, .. } => Ok(no_room(desk.config(), loose, nodes)),
+        Eviction::Set { .. } => make(desk, far, bytes),
     }
-    make(desk, far, bytes)
 }
 
 /// Brings a far object in, with the span in which it left. Where no frame is free, an eviction makes
-/// room, and the span is swapped in then; NoFrame is answered only where the eviction is refused.
-/// Answers Unavailable where its set has lost more shards than it has parities.
+/// room, and the span is swapped in then; NoRoom is answered only where the eviction is refused. Answers Unavailable where its set has lost more shards than it has parities.
 fn bring<D: Desk>(desk: &mut D, far: &mut Far, h: Handle) -> Result<Reply, NoMemory>
     requires handle { h.n < (D.settings desk.old).handles }
     requires config { IsAccepted (D.settings desk.old) }
@@ -79,11 +78,11 @@ fn bring<D: Desk>(desk: &mut D, far: &mut Far, h: Handle) -> Result<Reply, NoMem
     if !is_no_frame(&swapped) {
         return Ok(swapped);
     }
-    let room = evict_now(desk, far)?;
-    if !is_set(&room) {
-        return Ok(Reply::NoFrame);
+    let room = evict_counted(desk, far)?;
+    match room {
+        Eviction::Refused { loose, nodes, .. } => Ok(no_room(desk.config(), loose, nodes)),
+        Eviction::Set { .. } => swap_in(desk, far, id, home.position),
     }
-    swap_in(desk, far, id, home.position)
 }
 
 /// Reads an object wherever it is: a far one is brought in first. Where it can't be brought in the
@@ -205,12 +204,15 @@ fn is_no_frame(reply: &Reply) -> bool
     matches!(reply, Reply::NoFrame)
 }
 
-/// Whether a reply is that a set was made.
-fn is_set(reply: &Reply) -> bool
-    ensures yes { result ≡ true → (id : SetId) × (reply.now ≡ answer.Set id) }
-    ensures other { result ≡ false → (id : SetId) → reply.now ≡ answer.Set id → ⊥ }
+/// There is no room: so many spans are loose, and so many nodes have room.
+fn no_room(config: Config, loose: u32, nodes: u32) -> Reply
+    ensures { result ≡ answer.NoRoom config.frames loose nodes }
 {
-    matches!(reply, Reply::Set { .. })
+    Reply::NoRoom {
+        frames: config.frames,
+        loose,
+        nodes,
+    }
 }
 
 /// Whether a reply is that the object is far.

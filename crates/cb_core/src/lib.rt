@@ -8,7 +8,6 @@ pub mod event;
 mod membership;
 mod pinning;
 pub mod replies;
-mod room;
 pub mod running;
 pub mod stepping;
 pub mod turning;

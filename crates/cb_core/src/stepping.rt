@@ -2,15 +2,13 @@ ghost use Rattle.std.specs.Prelude.{◌≡◌, ◌<◌, IfOk, OnErr};
 ghost use Rattle.cb_world.specs.World.{IsSoundWorld};
 ghost use Rattle.cb_core.specs.Events.{IsEvent, handle_of};
 ghost use Rattle.cb_core.specs.Jobs.{IsJob};
-ghost use Rattle.cb_core.specs.Room.{final_reply};
 ghost use Rattle.cb_core.specs.Step.{AtomicStep, Step, Stops, TurnStep};
 
 use crate::event::{Atomic, Event};
 use crate::pinning::{pin, unpin};
-use crate::room::{loose_spans, open_nodes};
 use crate::turning::turn;
 use cb_types::{Job, NoMemory, Reply};
-use cb_world::{Desk, World};
+use cb_world::World;
 use std::alloc::Global;
 
 /// One event: a seat takes an atomic step, or makes a turn. The world stays sound. Where there is
@@ -55,23 +53,5 @@ fn turn_step(alloc: Global, world: &mut World, job: &Job) -> Result<Reply, NoMem
     ensures sound { IsSoundWorld world.new }
     ensures error { OnErr result (Stops world.old (Event.Turn 0 job.now) world.new) }
 {
-    match turn(alloc, &mut world.desk, &mut world.far, job) {
-        Ok(reply) => Ok(with_room(world, reply)),
-        Err(no_memory) => Err(no_memory),
-    }
-}
-
-/// The final reply of a turn: one that found no frame tells what would make room.
-fn with_room(world: &World, reply: Reply) -> Reply
-    requires sound { IsSoundWorld world.now }
-    ensures { result ≡ final_reply world.now reply }
-{
-    match reply {
-        Reply::NoFrame => Reply::NoRoom {
-            frames: world.desk.config().frames,
-            loose: loose_spans(&world.desk, &world.far),
-            nodes: open_nodes(&world.far),
-        },
-        reply => reply,
-    }
+    turn(alloc, &mut world.desk, &mut world.far, job)
 }

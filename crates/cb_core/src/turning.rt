@@ -1,5 +1,6 @@
 ghost use Rattle.std.specs.Prelude.{◌≡◌, ◌+◌, ◌^◌, ◌<◌, true, false, IfOk, OnErr};
 ghost use Rattle.cb_types.specs.Config.{IsAccepted};
+ghost use Rattle.cb_types.specs.declared.reply.Reply.TheVariants as answer;
 ghost use Rattle.cb_world.specs.declared.shown.Shown.{Shown};
 ghost use Rattle.cb_world.specs.Sound.{Sound};
 ghost use Rattle.cb_world.specs.World.{AreCounted, IsConfigured};
@@ -23,8 +24,9 @@ pub const MOST_TURNS: u64 = 1 << 40;
 /// A turn of the holder of the far lock: it is counted, and does its job. Where 2^40 turns were
 /// counted it answers Worn, and neither counts nor does anything.
 ///
-/// Where there is no frame for a new object or for one that is brought in, an eviction makes room, and
-/// NoFrame is answered only where that is refused. A call on a far object brings it in first, and is
+/// Where there is no frame for a new object or for one that is brought in, an eviction makes room. Where
+/// that is refused the answer is NoRoom: how many frames there are, and how many spans are loose and how
+/// many nodes have room, as the eviction found them; NoFrame is the answer of no turn. A call on a far object brings it in first, and is
 /// answered as the bringing in where the object stays far. A filter, a rebuild and the steps of an
 /// eviction in steps (begin, ship, commit, abort) win no room: each is one part alone. Where there is no
 /// memory, the turn is counted and what its parts did before stays; a commit and an abort take none.
@@ -42,6 +44,7 @@ pub fn turn<D: Desk>(
     ensures turned { IfOk result (λ reply. Turned (λ d es e. D.run d es e) (λ d s. D.shows d s)
         (D.settings desk.old) job.now (record { desk = desk.old; far = far.old }) reply
         (record { desk = desk.new; far = far.new })) }
+    ensures no_frame { IfOk result (λ reply. reply ≡ answer.NoFrame → ⊥) }
     ensures error { OnErr result (Stopped (λ d es e. D.run d es e) (λ d s. D.shows d s)
         (D.settings desk.old) job.now (record { desk = desk.old; far = far.old })
         (record { desk = desk.new; far = far.new })) }

@@ -1,5 +1,5 @@
 -- The rows of a new set, and the set.
-use Rattle.std.specs.Prelude.{◌≡◌, ℕ, ◌+◌, ◌<◌, ◌++◌, true, false, List, Some, length, take, slice_get}
+use Rattle.std.specs.Prelude.{◌≡◌, ℕ, ◌+◌, ◌^◌, ◌<◌, ◌≤◌, ◌++◌, true, false, All, List, Option, Some, length, take, slice_get}
 use Rattle.std.specs.FinMap as map
 use Rattle.cb_gf256.specs.Rows.{HoldBytes}
 use Rattle.cb_gf256.specs.CodeWord.{IsCodeWord}
@@ -8,7 +8,8 @@ use Rattle.cb_member.specs.Membership.{incarnation}
 use Rattle.cb_node.specs.NodesState.{NodesState, has}
 use Rattle.cb_set.specs.SetState.{SetState}
 use Rattle.cb_world.specs.Choices.{IsLeastNode}
-use Rattle.cb_world.specs.FarState.{FarState}
+use Rattle.cb_span.specs.Contents.{Contents}
+use Rattle.cb_world.specs.FarState.{FarState, span_in}
 use Rattle.cb_world.specs.Reserved.{set_from}
 use Rattle.cb_world.specs.Stored.{all_put}
 
@@ -35,6 +36,20 @@ pub record CanPut (nodes : NodesState) (shards : List Shard) : Type 0 where
       → a.key ≡ b.key → p ≡ q
   pub fresh : (p : ℕ) (shard : Shard) → slice_get shards p ≡ Some shard
       → has nodes shard.node shard.key ≡ false
+
+-- the data rows and the parities of a set can be put under these shards, one for each
+pub record CanStore (nodes : NodesState) (shards : List Shard) (rows parities : List (List ℕ))
+    : Type 0 where
+  pub count : length shards ≡ length rows + length parities
+  pub few : length shards < 2 ^ 32
+  pub can : CanPut nodes shards
+
+-- the spans in these frames are there, no more than a set with these shards has positions
+pub record HasSpans (spans : List (Option Contents)) (shards : List Shard) (frames : List ℕ)
+    : Type 0 where
+  pub there : All (λ f. (span : Contents) × (span_in spans f ≡ Some span)) frames
+  pub few : length shards < 2 ^ 32
+  pub count : length frames ≤ length shards
 
 -- the set of the spans in some frames, with the next number
 abbrev pub set_for : FarState → List Shard → List ℕ → SetState

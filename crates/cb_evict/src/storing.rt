@@ -8,7 +8,7 @@ ghost use Rattle.cb_world.specs.Choices.{room_count};
 ghost use Rattle.cb_world.specs.FarState.{span_in};
 ghost use Rattle.cb_world.specs.Reserved.{position_for, set_from};
 ghost use Rattle.cb_world.specs.Stored.{all_put};
-ghost use Rattle.cb_evict.specs.Storing.{AreShards, CanPut, KeepsSet, set_for, with_kept};
+ghost use Rattle.cb_evict.specs.Storing.{AreShards, CanPut, CanStore, HasSpans, KeepsSet, set_for, with_kept};
 
 use cb_code::{coefficients, encode};
 use cb_member::Shard;
@@ -72,9 +72,7 @@ fn put_rows(
     rows: &Rows,
     parities: &Rows,
 ) -> Result<(), NoMemory>
-    requires count { length shards.now ≡ length rows.now + length parities.now }
-    requires few { length shards.now < 2 ^ 32 }
-    requires can { CanPut nodes.old shards.now }
+    requires stores { CanStore nodes.old shards.now rows.now parities.now }
     ensures ok { OnOk result
         (nodes.new ≡ all_put nodes.old shards.now (rows.now ++ parities.now)) }
     ensures err { OnErr result (nodes.new ≡ nodes.old) }
@@ -111,9 +109,7 @@ fn make_set(
     spans: &Spans,
     frames: &[u32],
 ) -> Result<SpanSet, NoMemory>
-    requires there { All (λ f. (span : Contents) × (span_in spans.now f ≡ Some span)) frames.now }
-    requires few { length shards.now < 2 ^ 32 }
-    requires count { length frames.now ≤ length shards.now }
+    requires spans { HasSpans spans.now shards.now frames.now }
     ensures set { IfOk result (λ set. set ≡ set_from id shards.now spans.now frames.now) }
 {
     let k = frames.len() as u32;
@@ -132,9 +128,7 @@ pub(crate) fn next_number(far: &Far) -> u64
 
 /// The set of the spans in these frames, with the next set number.
 pub(crate) fn next_set(far: &Far, shards: &[Shard], frames: &[u32]) -> Result<SpanSet, NoMemory>
-    requires there { All (λ f. (span : Contents) × (span_in far.now.spans f ≡ Some span)) frames.now }
-    requires few { length shards.now < 2 ^ 32 }
-    requires count { length frames.now ≤ length shards.now }
+    requires spans { HasSpans far.now.spans shards.now frames.now }
     ensures set { IfOk result (λ set. set ≡ set_for far.now shards.now frames.now) }
 {
     make_set(far.alloc, next_number(far), shards, &far.spans, frames)
@@ -182,9 +176,7 @@ fn store_set(
     rows: &Rows,
     parities: &Rows,
 ) -> Result<(), NoMemory>
-    requires count { length shards.now ≡ length rows.now + length parities.now }
-    requires few { length shards.now < 2 ^ 32 }
-    requires can { CanPut far.old.nodes shards.now }
+    requires stores { CanStore far.old.nodes shards.now rows.now parities.now }
     requires counts { (far.old.counts.sets < 2 ^ 62) × (far.old.counts.keys < 2 ^ 62) }
     ensures err { OnErr result (far.new ≡ far.old) }
     ensures kept { OnOk result (far.new ≡ with_kept (record far.old {

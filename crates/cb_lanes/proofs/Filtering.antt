@@ -1,10 +1,9 @@
 -- A filter that is answered Pinned tells the pins of the object's word.
-use Rattle.std.proofs.Common.{◌≡◌, ℕ, zero, suc, ◌^◌, ◌<◌, sym, subst, arith}
+use Rattle.std.proofs.Common.{◌≡◌, ℕ, zero, suc, ◌^◌, ◌<◌, arith}
 use Rattle.cb_ptr.specs.declared.word.State.{State}
 use Rattle.cb_ptr.specs.declared.word.State.TheVariants as state
 use Rattle.cb_ptr.specs.Word.{state_of, pins_of}
 use Rattle.cb_types.specs.declared.job.Job.TheVariants as job
-use Rattle.cb_types.specs.declared.reply.Reply.{Reply}
 use Rattle.cb_types.specs.declared.reply.Reply.TheVariants as answer
 use Rattle.cb_world.specs.FarState.{FarState}
 use Rattle.cb_world.specs.Plain.{Words}
@@ -12,7 +11,6 @@ use Rattle.cb_world.specs.StillWords.{stamp_at}
 use Rattle.cb_world.specs.World.{WorldState, word_at}
 use Rattle.cb_filter.specs.FilterRule.{EmptyAnswer}
 use Rattle.cb_filter.specs.FilterStep.{RefusesAs, IsFilterStep, refused, cools, without_slot, moves}
-use Rattle.cb_core.specs.Room.{final_reply}
 use Rattle.cb_core.specs.Step.{TurnStep}
 use Rattle.cb_core.specs.Turned.{counted}
 use Rattle.cb_core.proofs.TurnCalls.{is_done}
@@ -42,21 +40,10 @@ step_pinned x y far new h count (cools seat free z is) = absurd (let e = z.reply
 step_pinned x y far new h count (without_slot seat free z is) = absurd (let e = z.reply in cc)
 step_pinned x y far new h count (moves seat slot free z is) = absurd (let e = z.reply in cc)
 
--- the reply of the part is that of the turn
-final_pinned : (new : WorldState) (q : Reply) (count : ℕ) → final_reply new q ≡ answer.Pinned count
-    → q ≡ answer.Pinned count
-final_pinned new answer.NoFrame count e = absurd (room_pinned e)
-  where
-    room_pinned : final_reply new answer.NoFrame ≡ answer.Pinned count → ⊥
-    room_pinned e = cc
-final_pinned new q count e = e
-
 pub filter_counts : (w new : WorldState) (h count : ℕ) → w.far.counts.turns < 2 ^ 40
     → TurnStep (job.Filter (record { n = h })) w (answer.Pinned count) new
     → IsPinCount (word_at w.desk h) count
 filter_counts w new h count few step =
     let j = job.Filter (record { n = h }) in
-    let d = is_done j w new (answer.Pinned count) few step in
     step_pinned w.desk new.desk (counted w.far j) new.far h count
-    (subst (λ (q : Reply). IsFilterStep w.desk new.desk (counted w.far j) new.far h q)
-    (final_pinned new d.reply count (sym d.is)) d.works.0)
+    (is_done j w new (answer.Pinned count) few step).0

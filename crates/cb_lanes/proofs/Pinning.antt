@@ -281,7 +281,7 @@ pub record SwappedIn (w n : WorldState) (h : ℕ) (s t : Shown) : Type 0 where
 
 pub turn_seats : (j : Job) (w new : WorldState) (r : Reply) → TurnStep j w r new → new.seats ≡ w.seats
 turn_seats j w new r (worn end is same) = ap (λ (v : WorldState). v.seats) same
-turn_seats j w new r (done q few works is seats) = seats
+turn_seats j w new r (done few works seats) = seats
 
 pub swapped_here : (w n : WorldState) (h seat : ℕ) (q : Reply) → (before : IsSoundWorld w)
     → (after : IsSoundWorld n) → w.far.counts.turns < 2 ^ 40 → h < w.desk.settings.handles

@@ -1,7 +1,8 @@
 use Rattle.std.proofs.Common.{refl}
 use Rattle.cb_types.specs.declared.reply.Reply.TheVariants as answer
 use Rattle.cb_core.specs.Turned.{worn}
-use Rattle.cb_core.proofs.Composing.{holding}
+use Rattle.cb_core.proofs.Composing.{holding, if_map}
+use Rattle.cb_core.proofs.NoFrames.{Never, does_never}
 use Rattle.cb_core.proofs.Counting.{counted_sound, stopped, turned}
 use Rattle.cb_core.proofs.TurnLeft.{laws_of, outcome_leaves, turn_leaves}
 use Rattle.cb_core.proofs.turning.turn.Goals as goal
@@ -46,3 +47,10 @@ returns-clause-leaves g c =
     (holding c.work.new.desk c.work.new.far) c.work.result c.requires.job
     (record { configured = c.requires.configured; shown = c.requires.sound }) c.requires.counted
     (returns-clause-turned g c) (returns-clause-error g c)
+
+pub returns-clause-no_frame : goal.returns-clause-no_frame
+returns-clause-no_frame g c =
+    if_map (λ r. Never r) _ c.work.result c.work.ensures.does (λ r does.
+    does_never (λ d es e. g.D.Desk.run d es e) (λ d s. g.D.Desk.shows d s)
+    (g.D.Desk.settings c.args.desk.now) c.args.job.now
+    (holding c.args.desk.now c.count_turn.new.far) (holding c.work.new.desk c.work.new.far) r does)

@@ -18,14 +18,17 @@ returns-in_err-parities-clause-state c = IfOk-from_err _ _ c.from_residual.ensur
 pub returns-in_err-parities-clause-parities : goal.returns-in_err-parities-clause-parities
 returns-in_err-parities-clause-parities c = IfOk-from_err _ _ c.from_residual.ensures.0
 
-pub next_set-requires-clause-there : goal.next_set-requires-clause-there
-next_set-requires-clause-there c = c.requires.there
-
-pub next_set-requires-clause-few : goal.next_set-requires-clause-few
-next_set-requires-clause-few c = omega (arith, c.requires.range.data_most, c.requires.range.parities_most, c.requires.range.parities_least)
-
-pub next_set-requires-clause-count : goal.next_set-requires-clause-count
-next_set-requires-clause-count c = omega (arith, c.requires.range.data_most, c.requires.range.parities_most, c.requires.range.parities_least)
+pub next_set-requires : goal.next_set-requires
+next_set-requires c =
+    let k = c.requires.range.data_most in let r = c.requires.range.parities_most in
+    let some = c.requires.range.parities_least in
+    record {
+      spans = record {
+        there = c.requires.there;
+        few = omega (arith, k, r, some);
+        count = omega (arith, k, r, some);
+      };
+    }
 
 pub same-far-inside-in-Break-branch-2 : goal.same-far-inside-in-Break-branch-2
 same-far-inside-in-Break-branch-2 c = refl

@@ -43,8 +43,11 @@ returns-else-is_loose-clause-looks g c =
       looks = x.looks;
       touches = touches_more (Has span) (Names spans f) (λ p. ⊥) (λ p. ⊥) x.events
           (λ h. has_names spans f h span there) (λ p y. y) x.touches;
-      finds = inr (record {
-        seen = λ h named. x.seen h (names_has spans f h span there named);
-        barred = (held.0, held.1, has_names spans f held.0 span there held.2, held.3, held.4);
-      }, refl);
+      finds = inr (
+        record {
+          seen = λ h named. x.seen h (names_has spans f h span there named);
+          barred = (held.0, held.1, has_names spans f held.0 span there held.2, held.3, held.4);
+        },
+        refl,
+      );
     }

@@ -9,7 +9,7 @@ pub put_row-requires-clause-within : goal.put_row-requires-clause-within
 put_row-requires-clause-within c =
     let shards = c.args.shards.now in let p = c.loop-p.p in
     let at = slice_get-get_or shards p no_shard c.loop-p-test.true in
-    let w = c.requires.can.within p (get_or shards p no_shard) at in
+    let w = c.requires.stores.can.within p (get_or shards p no_shard) at in
     let n = put_count c.args.nodes.now (take p shards) (c.args.rows.now ++ c.args.parities.now) in
     let m = ap (λ (x : NodesState). length x.nodes) c.loop-p.invariant in omega (arith, w, n, m)
 
@@ -20,11 +20,11 @@ put_row-requires-clause-fresh c =
     let at = slice_get-get_or shards p no_shard c.loop-p-test.true in
     subst (λ (n : NodesState). has n shard.node shard.key ≡ false) (sym c.loop-p.invariant)
     (next_fresh c.args.nodes.now shards (c.args.rows.now ++ c.args.parities.now) p shard
-    c.requires.can at)
+    c.requires.stores.can at)
 
 pub drop_rows-requires : goal.drop_rows-requires
 drop_rows-requires c = record {
-  within = within_first c.args.nodes.now c.put_row.new.nodes c.args.shards.now c.loop-p.p c.requires.can
+  within = within_first c.args.nodes.now c.put_row.new.nodes c.args.shards.now c.loop-p.p c.requires.stores.can
       (ap (λ (x : NodesState). length x.nodes) (c.in_default.ensures.err ∙ c.loop-p.invariant)
       ∙ put_count c.args.nodes.now (take c.loop-p.p c.args.shards.now) (c.args.rows.now ++ c.args.parities.now));
 }
@@ -34,8 +34,8 @@ returns-in_default-clause-err c =
     let all = length-append c.args.rows.now c.args.parities.now in
     let t = length-take-le c.loop-p.p c.args.shards.now (omega (arith, c.loop-p-test.true)) in
     c.drop_rows.ensures.dropped c.args.nodes.now (c.args.rows.now ++ c.args.parities.now)
-    (can_first c.args.nodes.now c.args.shards.now c.loop-p.p c.requires.can)
-    (omega (arith, all, t, c.requires.count, c.loop-p-test.true))
+    (can_first c.args.nodes.now c.args.shards.now c.loop-p.p c.requires.stores.can)
+    (omega (arith, all, t, c.requires.stores.count, c.loop-p-test.true))
     (c.in_default.ensures.err ∙ c.loop-p.invariant)
 
 pub loop-p-preserved : goal.loop-p-preserved
@@ -49,4 +49,4 @@ loop-p-preserved c =
     ∙ ap (λ row. with_row c.loop-p.nodes shard.node shard.key row) c.row_at-row.ensures
     ∙ ap (λ (n : NodesState). with_row n shard.node shard.key (get_or rows p [])) c.loop-p.invariant
     ∙ sym (put_next c.args.nodes.now shards rows p shard
-    (omega (arith, all, c.requires.count, c.loop-p-test.true)) at)
+    (omega (arith, all, c.requires.stores.count, c.loop-p-test.true)) at)

@@ -1,4 +1,4 @@
-use Rattle.cb_evict.specs.Storing.{CanPut}
+use Rattle.cb_evict.specs.Storing.{CanStore}
 use Rattle.std.proofs.lemmas.Result.{IfOk-from_err}
 use Rattle.std.proofs.Common.{◌++◌, ap, ◌∙◌, subst, sym, ◌<◌, ◌^◌}
 use Rattle.cb_world.specs.FarState.{FarState}
@@ -9,21 +9,18 @@ use Rattle.cb_evict.proofs.storing.store_set.Goals as goal
 pub drop_rows-requires : goal.drop_rows-requires
 drop_rows-requires c = record {
   within = within_all c.args.far.now.nodes c.far-2.inside.nodes c.args.shards.now
-      (c.args.rows.now ++ c.args.parities.now) c.requires.can
+      (c.args.rows.now ++ c.args.parities.now) c.requires.stores.can
       (ap (λ (q : FarState). q.nodes) (c.far-2.view_is ∙ c.in-Err.ensures.err)
       ∙ c.in_ok-put_rows.ensures.ok
       ∙ ap (λ (q : FarState). all_put q.nodes c.args.shards.now
       (c.args.rows.now ++ c.args.parities.now)) c.far.view_is);
 }
 
-pub put_rows-requires-clause-count : goal.put_rows-requires-clause-count
-put_rows-requires-clause-count c = c.requires.count
-
-pub put_rows-requires-clause-few : goal.put_rows-requires-clause-few
-put_rows-requires-clause-few c = c.requires.few
-
-pub put_rows-requires-clause-can : goal.put_rows-requires-clause-can
-put_rows-requires-clause-can c = subst (λ (q : FarState). CanPut q.nodes c.args.shards.now) (sym c.far.view_is) c.requires.can
+pub put_rows-requires : goal.put_rows-requires
+put_rows-requires c = record {
+  stores = subst (λ (q : FarState). CanStore q.nodes c.args.shards.now c.args.rows.now c.args.parities.now)
+      (sym c.far.view_is) c.requires.stores;
+}
 
 pub keep_committed-requires : goal.keep_committed-requires
 keep_committed-requires c = record {

@@ -1,0 +1,254 @@
+-- No turn answers that there is no frame: where an operation finds none, room is won, or the answer is
+-- that there is no room.
+use Rattle.std.proofs.Common.{◌≡◌, ◌⊎◌, ℕ, zero, suc, ◌+◌, ◌-◌, ◌^◌, ◌==◌, nat_lt, if◌then◌else◌, Bool, true, false, List, length, Option, None, Some, refl, sym, ap, ◌∙◌, inl, inr}
+use Rattle.std.proofs.lemmas.Bool.{false≢true}
+use Rattle.cb_member.specs.declared.names.NodeId.{NodeId}
+use Rattle.cb_ptr.specs.declared.word.State.{State}
+use Rattle.cb_ptr.specs.declared.word.State.TheVariants as word
+use Rattle.cb_ptr.specs.Word.{state_of, len_of}
+use Rattle.cb_types.specs.declared.config.Config.{Config}
+use Rattle.cb_types.specs.declared.job.Job.{Job}
+use Rattle.cb_types.specs.declared.job.Job.TheVariants.{Make, Read, Write, Free, Swap, Filter, Evict, Begin, Ship, Commit, Abort, Pair, Patch, Merge, Part, Compact, Rebuild, Crash, Join}
+use Rattle.cb_types.specs.declared.reply.Reply.{Reply}
+use Rattle.cb_types.specs.declared.reply.Reply.TheVariants as answer
+use Rattle.cb_world.specs.declared.event.Event.{Event}
+use Rattle.cb_world.specs.declared.shown.Shown.{Shown}
+use Rattle.cb_world.specs.FarState.{FarState}
+use Rattle.cb_mutate.specs.Answered.{AbsentAs, AnsweredAs, EmptyAnswer}
+use Rattle.cb_mutate.specs.FreeRule.{FreeAs, FreeHere, FreeRule}
+use Rattle.cb_mutate.specs.ReadRule.{ReadHere, ReadRule}
+use Rattle.cb_mutate.specs.WriteRule.{NextVersion, WriteHere, WriteRule}
+use Rattle.cb_evict.specs.AbortRule.{AbortRule, HasNoBatch, HasGivenUp}
+use Rattle.cb_evict.specs.BeginRule.{BeginRule, HasBatch}
+use Rattle.cb_evict.specs.CommitRule.{CommitRule, HasShort, HasCommitted}
+use Rattle.cb_evict.specs.EvictRule.{EvictRule, HasBoth, HasFewNodes, HasFewSpans}
+use Rattle.cb_evict.specs.ShipRule.{ShipRule}
+use Rattle.cb_evict.specs.declared.eviction.Eviction.{Eviction}
+use Rattle.cb_filter.specs.FilterRule.{AbsentAs as AbsentFilter, EmptyAnswer as EmptyFilter, FilterAs, FilterHere, FilterRule}
+use Rattle.cb_rebuild.specs.RebuildStep.{RebuildStep}
+use Rattle.cb_core.specs.Membership.{CrashTurn, crashed, is_down, JoinTurn, joined, is_up}
+use Rattle.cb_core.specs.Parts.{Holding, WithRoom, at_once, no_room, won, WhereItIs, near, declined, stays_far, brought, BringsIn, not_far, was_far}
+use Rattle.cb_core.specs.Turned.{Does, IsDeclined}
+
+-- whether a reply is that there is no frame
+abbrev says_no_frame : Reply → Bool
+says_no_frame answer.NoFrame = true
+says_no_frame r = false
+
+-- the reply is another
+abbrev pub Never : Reply → Type 0
+Never r = r ≡ answer.NoFrame → ⊥
+
+off : (r q : Reply) → says_no_frame q ≡ false → r ≡ q → Never r
+off r q other is e = false≢true (sym other ∙ ap says_no_frame (sym is ∙ e))
+
+-- ---- calls on objects
+absent : (q : State) (h : ℕ) (es : List Event) (r : Reply) → AbsentAs q h es r → Never r
+absent word.Empty h es r (v, told, e) = by v e
+  where
+    by : (v : ℕ) → EmptyAnswer v r → Never r
+    by zero e = off r answer.Unmade refl e
+    by (suc n) e = off r answer.Freed refl e
+absent word.Far h es r e = off r answer.NotHere refl e
+absent word.Here h es r e = absurd e
+absent word.Moving h es r e = off r answer.Moving refl e
+
+answered : (here : ℕ → Type 0) (q : State) (w h : ℕ) (es : List Event) (r : Reply)
+    → (here w → Never r) → AnsweredAs q here w h es r → Never r
+answered here word.Here w h es r f a = f a
+answered here word.Empty w h es r f a = absent word.Empty h es r a
+answered here word.Far w h es r f a = absent word.Far h es r a
+answered here word.Moving w h es r f a = absent word.Moving h es r a
+
+next_never : (v : ℕ) (r : Reply) → NextVersion v r → Never r
+next_never v r (inl (e, is)) = off r answer.Worn refl is
+next_never v r (inr (l, is)) = off r (answer.Version (v + 1)) refl is
+
+read_never : (h : ℕ) (r : Reply) (es : List Event) → ReadRule h r es → Never r
+read_never h r es a =
+    answered (ReadHere h es r) (state_of a.word) a.word h es r (by a.word) a.answer
+  where
+    by : (w : ℕ) → ReadHere h es r w → Never r
+    by w (inl (none, (v, words, taken, is))) = off r _ refl is
+    by w (inr (some, (v, words, told, count, loaded, is))) = off r _ refl is
+
+write_never : (h at : ℕ) (bytes : List ℕ) (r : Reply) (es : List Event) → WriteRule h at bytes r es
+    → Never r
+write_never h at bytes r es a =
+    answered (WriteHere h at bytes es r) (state_of a.word) a.word h es r (by a.word) a.answer
+  where
+    by : (w : ℕ) → WriteHere h at bytes es r w → Never r
+    by w (inl (past, is)) = off r (answer.Range (len_of w)) refl is
+    by w (inr (fits, inl (some, is))) = off r _ refl is
+    by w (inr (fits, inr (none, (v, words, taken, next)))) = next_never v r next
+
+free_never : (h : ℕ) (far new : FarState) (r : Reply) (es : List Event) → FreeRule h far new r es
+    → Never r
+free_never h far new r es a = by (state_of a.reply.word) a.reply.word a.reply.answer
+  where
+    here : (w : ℕ) → FreeHere h es r w → Never r
+    here w (inl (some, is)) = off r _ refl is
+    here w (inr (none, (v, words, taken, next))) = next_never v r next
+
+    by : (q : State) (w : ℕ) → FreeAs q w h es r → Never r
+    by word.Far w (v, told, next) = next_never v r next
+    by word.Here w x = here w x
+    by word.Empty w x = absent word.Empty h es r x
+    by word.Moving w x = absent word.Moving h es r x
+
+filter_never : (frames h : ℕ) (far new : FarState) (r : Reply) (es : List Event)
+    → FilterRule frames h far new r es → Never r
+filter_never frames h far new r es a = by (state_of a.word) a.word a.answer
+  where
+    empty : (v : ℕ) → EmptyFilter v r → Never r
+    empty zero e = off r answer.Unmade refl e
+    empty (suc n) e = off r answer.NotHere refl e
+
+    here : (w : ℕ) → FilterHere frames h w far new r es → Never r
+    here w (inl (some, is, same)) = off r _ refl is
+    here w (inr (claimed, (seat, at, inl x))) = off r _ refl x.reply
+    here w (inr (claimed, (seat, at, inr (inl x)))) = off r _ refl x.reply
+    here w (inr (claimed, (seat, at, inr (inr (slot, x))))) = off r _ refl x.reply
+
+    by : (q : State) (w : ℕ) → FilterAs q frames h w far new r es → Never r
+    by word.Here w x = here w x
+    by word.Empty w ((v, told, e), same) = empty v e
+    by word.Far w (e, same) = off r answer.NotHere refl e
+    by word.Moving w (e, same) = off r answer.Moving refl e
+
+-- ---- evictions
+evict_never : (c : Config) (far new : FarState) (r : Reply) (es : List Event)
+    → EvictRule c far new r es → Never r
+evict_never c far new r es a = by a.answered
+  where
+    by : HasFewSpans c far new r a.loose ⊎ (HasFewNodes c far new r a.loose
+        ⊎ HasBoth c far new r a.loose es) → Never r
+    by (inl x) = off r _ refl x.reply
+    by (inr (inl x)) = off r _ refl x.reply
+    by (inr (inr x)) = off r _ refl x.reply
+
+begin_never : (c : Config) (far new : FarState) (r : Reply) (es : List Event)
+    → BeginRule c far new r es → Never r
+begin_never c far new r es (inl a) = off r _ refl a.reply
+begin_never c far new r es (inr a) = by a.answered
+  where
+    by : HasFewSpans c far new r a.loose ⊎ (HasFewNodes c far new r a.loose
+        ⊎ HasBatch c far new r a.loose es) → Never r
+    by (inl x) = off r _ refl x.reply
+    by (inr (inl x)) = off r _ refl x.reply
+    by (inr (inr x)) = off r _ refl x.reply
+
+ship_never : (far new : FarState) (r : Reply) (es : List Event) → ShipRule far new r es → Never r
+ship_never far new r es a = elim a.ships [
+  | inl x ↦ off r _ refl x.reply
+  | inr (inl x) ↦ off r _ refl x.reply
+  | inr (inr (inl x)) ↦ off r _ refl x.reply
+  | inr (inr (inr x)) ↦ off r _ refl x.reply
+]
+
+commit_never : (far new : FarState) (r : Reply) (es : List Event) → CommitRule far new r es → Never r
+commit_never far new r es a = by a.answered
+  where
+    by : HasNoBatch far new r ⊎ (HasShort far new r ⊎ HasCommitted far new r) → Never r
+    by (inl x) = off r _ refl x.reply
+    by (inr (inl x)) = off r _ refl x.reply
+    by (inr (inr x)) = off r _ refl x.reply
+
+abort_never : (far new : FarState) (r : Reply) (es : List Event) → AbortRule far new r es → Never r
+abort_never far new r es a = by a.answered
+  where
+    by : HasNoBatch far new r ⊎ HasGivenUp far new r → Never r
+    by (inl x) = off r _ refl x.reply
+    by (inr x) = off r _ refl x.reply
+
+-- ---- nodes
+crash_never : (far new : FarState) (r : Reply) (node : NodeId) → CrashTurn node far r new → Never r
+crash_never far new r node (crashed up is same) = off r _ refl is
+crash_never far new r node (is_down down is same) = off r _ refl is
+
+join_never : (far new : FarState) (r : Reply) (node : NodeId) → JoinTurn node far r new → Never r
+join_never far new r node (joined down is same) = off r _ refl is
+join_never far new r node (is_up up is same) = off r _ refl is
+
+rebuild_never : (far new : FarState) (r : Reply) → RebuildStep far new r → Never r
+rebuild_never far new r (inl x) = off r _ refl x.reply
+rebuild_never far new r (inr x) = elim x.restores [
+  | inl y ↦ off r _ refl y.reply
+  | inr y ↦ off r _ refl y.reply
+]
+
+-- ---- a write that is declined
+some_none : (r : Reply) → Some r ≡ None → ⊥
+some_none r e = cc
+
+some_same : (a b : Reply) → Some a ≡ Some b → a ≡ b
+some_same a b e = cc
+
+declined_never : (h at count : ℕ) (far : FarState) (r : Reply) (es : List Event)
+    → IsDeclined h at count far (Some r) es → Never r
+declined_never h at count far r es (inl (gone, none, nothing)) = absurd (some_none r none)
+declined_never h at count far r es (inr (stays, (w, v, found, told, last, is))) =
+    by (nat_lt (len_of w) (at + count)) (v == 2 ^ 64 - 1) is
+  where
+    by : (past worn : Bool) → Some r ≡ (if past then Some (answer.Range (len_of w))
+        else if worn then Some answer.Worn else None) → Never r
+    by true worn e = off r (answer.Range (len_of w)) refl (some_same _ _ e)
+    by false true e = off r answer.Worn refl (some_same _ _ e)
+    by false false e = absurd (some_none r e)
+
+-- ---- the parts one after another
+-- no reply of a part is so
+abbrev AllNever : {D : Type 0} → (Holding D → Reply → Holding D → Type 0) → Type 0
+AllNever {D = D} P = (a b : Holding D) (r : Reply) → P a r b → Never r
+
+room_never : {D : Type 0} (frames : ℕ) (P : Holding D → Reply → Holding D → Type 0)
+    (E : Holding D → Eviction → Holding D → Type 0) → AllNever (WithRoom frames P E)
+room_never frames P E a b r (at_once o never) = never
+room_never frames P E a b r (no_room m why loose nodes o v is) = off r _ refl is
+room_never frames P E a b r (won m n id o v again never) = never
+
+where_never : {D : Type 0} (P : Holding D → Reply → Holding D → Type 0)
+    (L : Holding D → Option Reply → Holding D → Type 0) (E : Holding D → Reply → Holding D → Type 0)
+    → AllNever P → ((a b : Holding D) (r : Reply) → L a (Some r) b → Never r) → AllNever E
+    → AllNever (WhereItIs P L E)
+where_never P L E p l e a b r (near o never) = p a b r o
+where_never P L E p l e a b r (declined m o d) = l m b r d
+where_never P L E p l e a b r (stays_far m n o d v never) = e n b r v
+where_never P L E p l e a b r (brought m n q f o d v again) = p q b r again
+
+brings_never : {D : Type 0} (P E : Holding D → Reply → Holding D → Type 0) → AllNever P
+    → AllNever E → AllNever (BringsIn P E)
+brings_never P E p e a b r (not_far o never) = p a b r o
+brings_never P E p e a b r (was_far m o v) = e m b r v
+
+-- ---- a job, and a turn
+module _ {D : Type 0} (run : D → List Event → D → Type 0) (shows : D → Shown → Type 0) (c : Config)
+  where
+    pub does_never : (job : Job) (a b : Holding D) (r : Reply) → Does run shows c job a r b → Never r
+    does_never (Make bytes) a b r does = room_never _ _ _ a b r does
+    does_never (Read handle) a b r does = where_never _ _ _
+        (λ a b r x. read_never handle.n r x.events x.rule.1) (λ a b r x. absurd (some_none r x.0))
+        (room_never _ _ _) a b r does
+    does_never (Write handle at bytes) a b r does = where_never _ _ _
+        (λ a b r x. write_never handle.n at bytes r x.events x.rule.1)
+        (λ a b r x. declined_never handle.n at (length bytes) a.far r x.1.events x.1.rule)
+        (room_never _ _ _) a b r does
+    does_never (Free handle) a b r does = free_never handle.n a.far b.far r does.events does.rule
+    does_never (Swap handle) a b r does = brings_never _ _
+        (λ a b r x. answered _ (state_of x.rule.1.word) x.rule.1.word handle.n x.events r
+        (λ is. off r answer.Stays refl is) x.rule.1.answer) (room_never _ _ _) a b r does
+    does_never (Filter handle) a b r does =
+        filter_never c.frames handle.n a.far b.far r does.events does.rule
+    does_never Evict a b r does = evict_never c a.far b.far r does.events does.rule
+    does_never Begin a b r does = begin_never c a.far b.far r does.events does.rule
+    does_never Ship a b r does = ship_never a.far b.far r does.events does.rule
+    does_never Commit a b r does = commit_never a.far b.far r does.events does.rule
+    does_never Abort a b r does = abort_never a.far b.far r does.events does.rule
+    does_never Rebuild a b r does = rebuild_never a.far b.far r does.1
+    does_never (Crash node) a b r does = crash_never a.far b.far r node does.1
+    does_never (Join node) a b r does = join_never a.far b.far r node does.1
+    does_never Pair a b r does = absurd does
+    does_never Patch a b r does = absurd does
+    does_never Merge a b r does = absurd does
+    does_never Part a b r does = absurd does
+    does_never Compact a b r does = absurd does
