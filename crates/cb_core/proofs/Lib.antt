@@ -30,6 +30,7 @@ pub mod WorkedRuns
 pub mod WorkedCalled
 pub mod WorkedParts
 pub mod WorkedDeclined
+pub mod WorkedLeaves
 pub mod TurnCallsKept
 pub mod TurnCallsFar
 pub mod TurnCallsMap
@@ -49,3 +50,5 @@ pub mod TurnCallsPinned
 pub mod TurnCallsSound
 pub mod CallsBeside
 pub mod RunLegal
+pub mod PartsFixed
+pub mod StepFixed

@@ -51,6 +51,7 @@ mod BeginEnd
 pub mod BeginStep
 pub mod AfterBegin
 pub mod EvictFixed
+pub mod EvictionFixed
 pub mod BeginFixed
 pub mod CommitFixed
 pub mod AbortFixed

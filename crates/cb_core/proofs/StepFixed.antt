@@ -1,0 +1,300 @@
+-- An event leads from a sound world to one reply and one world; and so do events one after another.
+use Rattle.std.proofs.Common.{◌≡◌, ℕ, ◌+◌, ◌^◌, ◌<◌, ◌≤◌, List, [], ◌∷◌, ◌++◌, length, Option, None, Some, true, false, refl, sym, ap, ◌∙◌, subst, arith, inl, inr}
+use Rattle.std.specs.List.{remove}
+use Rattle.std.proofs.lemmas.Bool.{cases_order, false≢true}
+use Rattle.cb_member.specs.declared.names.NodeId.{NodeId}
+use Rattle.cb_ptr.specs.Word.{flag_number, hot_of}
+use Rattle.cb_types.specs.declared.handle.Handle.{Handle}
+use Rattle.cb_types.specs.declared.job.Job.{Job}
+use Rattle.cb_types.specs.declared.job.Job.TheVariants.{Make, Read, Write, Free, Swap, Filter, Evict, Begin, Ship, Commit, Abort, Pair, Patch, Merge, Part, Compact, Rebuild, Crash, Join}
+use Rattle.cb_types.specs.declared.reply.Reply.{Reply}
+use Rattle.cb_types.specs.declared.reply.Reply.TheVariants as answer
+use Rattle.cb_types.specs.Config.{IsAccepted}
+use Rattle.cb_world.specs.declared.homes.Home.{Home}
+use Rattle.cb_world.specs.declared.seats.Pin.{Pin}
+use Rattle.cb_world.specs.declared.shown.Shown.{Shown}
+use Rattle.cb_world.specs.FarState.{FarState}
+use Rattle.cb_world.specs.LocalSound.{LocalSound}
+use Rattle.cb_world.specs.Pinned.{IsPinned, IsUnpinned, with_word}
+use Rattle.cb_world.specs.Plain.{Words}
+use Rattle.cb_world.specs.Seats.{IsNewest, NoneOn, pins_of_seat, with_pins}
+use Rattle.cb_world.specs.World.{WorldState, IsSoundWorld, word_at}
+use Rattle.cb_world.proofs.Added.{home_same}
+use Rattle.cb_world.proofs.Apart.{some_same}
+use Rattle.cb_world.proofs.Fixed.{IsOneEnd}
+use Rattle.cb_world.proofs.NodeJoin.{local_stays}
+use Rattle.cb_mutate.proofs.StepsFixed.{free_step_fixes, make_step_fixes, read_step_fixes, write_step_fixes}
+use Rattle.cb_evict.proofs.AbortFixed.{abort_step_fixes}
+use Rattle.cb_evict.proofs.BeginFixed.{begin_step_fixes}
+use Rattle.cb_evict.proofs.CommitFixed.{commit_step_fixes}
+use Rattle.cb_evict.proofs.EvictFixed.{evict_step_fixes}
+use Rattle.cb_evict.proofs.EvictionFixed.{counted_step_fixes}
+use Rattle.cb_evict.proofs.ShipFixed.{ship_step_fixes}
+use Rattle.cb_filter.proofs.StepFixed.{filter_step_fixes}
+use Rattle.cb_rebuild.proofs.StepFixed.{rebuild_step_fixes}
+use Rattle.cb_swapin.specs.SwapStep.{IsSwapStep}
+use Rattle.cb_swapin.proofs.StepFixed.{swap_step_fixes}
+use Rattle.cb_core.specs.declared.event.Atomic.{Atomic}
+use Rattle.cb_core.specs.declared.event.Atomic.TheVariants.{Load, Pin as PinOn, Unpin}
+use Rattle.cb_core.specs.declared.event.Event.{Event}
+use Rattle.cb_core.specs.declared.event.Event.TheVariants as event
+use Rattle.cb_core.specs.Membership.{CrashTurn, crashed, is_down, JoinTurn, joined, is_up}
+use Rattle.cb_core.specs.Parts.{Holding, NeverDeclined}
+use Rattle.cb_core.specs.Pinning.{IsPinGiven, IsPinTaken, PinStep, scope_full, refused, taken, UnpinStep, not_pinned, given}
+use Rattle.cb_core.specs.Run.{LeadsSoundly}
+use Rattle.cb_core.specs.Step.{AtomicStep, Leads, Step, StillBring, StillDecline, StillEvict, StillFind, StillFree, StillMake, StillRead, StillRoom, StillSwap, StillWorks, StillWrite, TurnStep, worn, done}
+use Rattle.cb_core.specs.Turned.{counted}
+use Rattle.cb_core.proofs.PartsFixed.{AreOne, IsFixed, LeavesAll, brings_in_fixed, where_it_is_fixed, with_room_fixed}
+
+-- where the words and the far state stay, all does
+both_same : (a b : Holding Words) → b.desk ≡ a.desk → b.far ≡ a.far → b ≡ a
+both_same a b words far = λ i. record { desk = words i; far = far i }
+
+-- the ends of an operation, as those of a part
+both : (r q : Reply) (b c : Holding Words) → IsOneEnd r q b.desk c.desk b.far c.far → AreOne r q b c
+both r q b c e = (e.reply, λ i. record { desk = e.words i; far = e.far i })
+
+-- ---- calls on objects
+make_fixed : (bytes : List ℕ) (a : Holding Words) → IsFixed (StillMake bytes) a
+make_fixed bytes a r q b c x y =
+    both r q b c (make_step_fixes a.desk b.desk c.desk a.far b.far c.far bytes r q x y)
+
+not_made : (h : Handle) (v : ℕ) → answer.NoFrame ≡ answer.Made h v → ⊥
+not_made h v e = cc
+
+make_refuses : (bytes : List ℕ) → LeavesAll (StillMake bytes) answer.NoFrame
+make_refuses bytes a b (inl x) = both_same a b x.2 x.3
+make_refuses bytes a b (inr x) = elim x.1 [
+  | inl y ↦ both_same a b y.2 y.3
+  | inr y ↦ absurd (not_made (record { n = a.far.made }) a.far.first y.0)
+]
+
+read_fixed : (h : ℕ) (a : Holding Words) → IsFixed (StillRead h) a
+read_fixed h a r q b c x y = both r q b c
+    (read_step_fixes a.desk b.desk c.desk a.far b.far c.far h r q x.0 x.1 y.0 y.1)
+
+read_refuses : (h : ℕ) → LeavesAll (StillRead h) answer.NotHere
+read_refuses h a b x = both_same a b x.0.change x.1
+
+write_fixed : (h at : ℕ) (bytes : List ℕ) (a : Holding Words) → IsFixed (StillWrite h at bytes) a
+write_fixed h at bytes a r q b c x y = both r q b c
+    (write_step_fixes a.desk b.desk c.desk a.far b.far c.far h at bytes r q x.0 x.1 y.0 y.1)
+
+write_refuses : (h at : ℕ) (bytes : List ℕ) → LeavesAll (StillWrite h at bytes) answer.NotHere
+write_refuses h at bytes a b x = both_same a b x.0.change x.1
+
+find_fixed : (h : ℕ) (a : Holding Words) → IsFixed (StillFind h) a
+find_fixed h a r q b c x y = (x.0 ∙ sym y.0, x.1 ∙ sym y.1)
+
+find_refuses : (h : ℕ) → LeavesAll (StillFind h) answer.NotHere
+find_refuses h a b x = x.1
+
+decline_fixed : (h at count : ℕ) (a : Holding Words) → IsFixed (StillDecline h at count) a
+decline_fixed h at count a r q b c x y = (x.0 ∙ sym y.0, x.1 ∙ sym y.1)
+
+decline_stays : (h at count : ℕ) → LeavesAll (StillDecline h at count) None
+decline_stays h at count a b x = x.1
+
+never_fixed : (a : Holding Words) → IsFixed (NeverDeclined {D = Words}) a
+never_fixed a r q b c x y = (x.0 ∙ sym y.0, x.1 ∙ sym y.1)
+
+never_stays : LeavesAll (NeverDeclined {D = Words}) None
+never_stays a b x = x.1
+
+-- ---- far objects
+swap_fixed : (h : ℕ) (a : Holding Words) → IsFixed (StillSwap h) a
+swap_fixed h a r q b c x y =
+    let homes : x.0 ≡ y.0 = home_same x.0 y.0 (sym x.1 ∙ y.1) in
+    both r q b c (swap_step_fixes a.desk b.desk c.desk a.far b.far c.far y.0.set y.0.position r q
+    (subst (λ (home : Home). IsSwapStep a.desk b.desk a.far b.far home.set home.position r) homes x.2)
+    y.2)
+
+swap_refuses : (h : ℕ) → LeavesAll (StillSwap h) answer.NoFrame
+swap_refuses h a b x = both_same a b x.2.change.0 x.2.change.1
+
+room_fixed : (a : Holding Words) → IsAccepted a.desk.settings → IsFixed StillRoom a
+room_fixed a ok e f b c x y =
+    let ends = counted_step_fixes a.desk b.desk c.desk a.far b.far c.far e f ok x.0 y.0 in
+    (ends.answer, λ i. record { desk = ends.words i; far = ends.far i })
+
+bring_fixed : (h : ℕ) (a : Holding Words) → IsAccepted a.desk.settings → IsFixed (StillBring h) a
+bring_fixed h a ok = with_room_fixed a.desk.settings.frames (StillSwap h) StillRoom (swap_fixed h)
+    (swap_refuses h) a (room_fixed a ok)
+
+-- ---- membership
+crash_fixed : (node : NodeId) (r q : Reply) (far new other : FarState) → CrashTurn node far r new
+    → CrashTurn node far q other → (r ≡ q) × (new ≡ other)
+crash_fixed node r q far new other (crashed up a e) (crashed up' b f) = (a ∙ sym b, e ∙ sym f)
+crash_fixed node r q far new other (crashed up a e) (is_down down b f) =
+    absurd (false≢true (sym down ∙ up))
+crash_fixed node r q far new other (is_down down a e) (crashed up b f) =
+    absurd (false≢true (sym down ∙ up))
+crash_fixed node r q far new other (is_down down a e) (is_down down' b f) = (a ∙ sym b, e ∙ sym f)
+
+join_fixed : (node : NodeId) (r q : Reply) (far new other : FarState) → JoinTurn node far r new
+    → JoinTurn node far q other → (r ≡ q) × (new ≡ other)
+join_fixed node r q far new other (joined down a e) (joined down' b f) = (a ∙ sym b, e ∙ sym f)
+join_fixed node r q far new other (joined down a e) (is_up up b f) =
+    absurd (false≢true (sym down ∙ up))
+join_fixed node r q far new other (is_up up a e) (joined down b f) =
+    absurd (false≢true (sym down ∙ up))
+join_fixed node r q far new other (is_up up a e) (is_up up' b f) = (a ∙ sym b, e ∙ sym f)
+
+-- where the words stay and the far state is one, the ends are one
+still : (r q : Reply) (a b c : Holding Words) → b.desk ≡ a.desk → c.desk ≡ a.desk
+    → (r ≡ q) × (b.far ≡ c.far) → AreOne r q b c
+still r q a b c e f same =
+    both r q b c (record { reply = same.0; words = e ∙ sym f; far = same.1 })
+
+-- ---- a job
+-- what its part rests on: an accepted configuration, and a sound far state
+pub record IsReady (a : Holding Words) : Type 0 where
+  pub accepted : IsAccepted a.desk.settings
+  pub shown : Shown
+  pub sound : LocalSound shown a.far
+
+pub works_fixed : (job : Job) (a : Holding Words) → IsReady a → IsFixed (StillWorks job) a
+works_fixed (Make bytes) a ready r q b c x y =
+    with_room_fixed a.desk.settings.frames (StillMake bytes) StillRoom (make_fixed bytes)
+    (make_refuses bytes) a (room_fixed a ready.accepted) r q b c x y
+works_fixed (Read handle) a ready r q b c x y = where_it_is_fixed (StillRead handle.n) NeverDeclined
+    (StillBring handle.n) (read_fixed handle.n) (read_refuses handle.n) never_fixed never_stays a
+    (bring_fixed handle.n a ready.accepted) r q b c x y
+works_fixed (Write handle at bytes) a ready r q b c x y = where_it_is_fixed (StillWrite handle.n at bytes)
+    (StillDecline handle.n at (length bytes)) (StillBring handle.n) (write_fixed handle.n at bytes)
+    (write_refuses handle.n at bytes) (decline_fixed handle.n at (length bytes))
+    (decline_stays handle.n at (length bytes)) a (bring_fixed handle.n a ready.accepted) r q b c x y
+works_fixed (Free handle) a ready r q b c x y = both r q b c
+    (free_step_fixes ready.shown a.desk b.desk c.desk a.far b.far c.far handle.n ready.sound r q x y)
+works_fixed (Swap handle) a ready r q b c x y = brings_in_fixed (StillFind handle.n) (StillBring handle.n) a
+    (find_fixed handle.n a) (find_refuses handle.n) (bring_fixed handle.n a ready.accepted) r q b c x y
+works_fixed (Filter handle) a ready r q b c x y = both r q b c
+    (filter_step_fixes ready.shown a.desk b.desk c.desk a.far b.far c.far handle.n r q ready.sound
+    x.0 y.0)
+works_fixed Evict a ready r q b c x y = both r q b c
+    (evict_step_fixes a.desk b.desk c.desk a.far b.far c.far r q ready.accepted x.0 y.0)
+works_fixed Begin a ready r q b c x y = both r q b c
+    (begin_step_fixes a.desk b.desk c.desk a.far b.far c.far r q ready.accepted x.0 y.0)
+works_fixed Ship a ready r q b c x y =
+    both r q b c (ship_step_fixes a.desk b.desk c.desk a.far b.far c.far r q x.0 y.0)
+works_fixed Commit a ready r q b c x y =
+    both r q b c (commit_step_fixes a.desk b.desk c.desk a.far b.far c.far r q x.0 y.0)
+works_fixed Abort a ready r q b c x y =
+    both r q b c (abort_step_fixes a.desk b.desk c.desk a.far b.far c.far r q x.0 y.0)
+works_fixed Rebuild a ready r q b c x y =
+    still r q a b c x.0 y.0 (rebuild_step_fixes a.far b.far c.far r q x.1 y.1)
+works_fixed (Crash node) a ready r q b c x y =
+    still r q a b c x.0 y.0 (crash_fixed node r q a.far b.far c.far x.1 y.1)
+works_fixed (Join node) a ready r q b c x y =
+    still r q a b c x.0 y.0 (join_fixed node r q a.far b.far c.far x.1 y.1)
+works_fixed Pair a ready r q b c x y = absurd x
+works_fixed Patch a ready r q b c x y = absurd x
+works_fixed Merge a ready r q b c x y = absurd x
+works_fixed Part a ready r q b c x y = absurd x
+works_fixed Compact a ready r q b c x y = absurd x
+
+-- ---- a turn
+-- the world that the words and the far state of a job are part of
+turned : (a b : WorldState) → a.desk ≡ b.desk → a.far ≡ b.far → a.seats ≡ b.seats → a ≡ b
+turned a b desks fars seats = λ i. record { desk = desks i; far = fars i; seats = seats i }
+
+turn_ready : (w : WorldState) (job : Job) → IsSoundWorld w
+    → IsReady (record { desk = w.desk; far = counted w.far job })
+turn_ready w job sound = record {
+  accepted = sound.config;
+  shown = sound.shown;
+  sound = local_stays sound.shown w.far (counted w.far job) refl refl refl refl sound.known.sound.here;
+}
+
+turn_fixed : (job : Job) (w a b : WorldState) (r q : Reply) → IsSoundWorld w → TurnStep job w r a
+    → TurnStep job w q b → (r ≡ q) × (a ≡ b)
+turn_fixed job w a b r q sound (worn end e s) (worn end' f t) = (e ∙ sym f, s ∙ sym t)
+turn_fixed job w a b r q sound (worn end e s) (done few works seats) =
+    absurd (omega (arith, end, few))
+turn_fixed job w a b r q sound (done few works seats) (worn end f t) =
+    absurd (omega (arith, end, few))
+turn_fixed job w a b r q sound (done few x s) (done few' y t) =
+    let same = works_fixed job (record { desk = w.desk; far = counted w.far job })
+    (turn_ready w job sound) r q (record { desk = a.desk; far = a.far })
+    (record { desk = b.desk; far = b.far }) x y in (
+      same.0,
+      turned a b (ap (λ (h : Holding Words). h.desk) same.1) (ap (λ (h : Holding Words). h.far) same.1)
+          (s ∙ sym t),
+    )
+
+-- ---- a pin and its end
+module _ (seat h : ℕ) (w a b : WorldState) where
+  pinned_fixed : IsPinTaken seat h w a → IsPinTaken seat h w b → a ≡ b
+  pinned_fixed x y =
+      let p = x.word.takes.number in let q = y.word.takes.number in
+      let words : x.word.word ≡ y.word.word = omega (arith, p, q) in
+      turned a b (x.word.words ∙ ap (with_word w.desk h) words ∙ sym y.word.words) (x.far ∙ sym y.far)
+      (x.pins ∙ sym y.pins)
+
+  pin_fixed : (r q : Reply) → PinStep seat h w r a → PinStep seat h w q b → (r ≡ q) × (a ≡ b)
+  pin_fixed r q (scope_full m e s) (scope_full n f t) = (e ∙ sym f, s ∙ sym t)
+  pin_fixed r q (scope_full m e s) (refused n off f t) = absurd (omega (arith, m, n))
+  pin_fixed r q (scope_full m e s) (taken n may f t) = absurd (omega (arith, m, n))
+  pin_fixed r q (refused m off e s) (scope_full n f t) = absurd (omega (arith, m, n))
+  pin_fixed r q (taken m may e s) (scope_full n f t) = absurd (omega (arith, m, n))
+  pin_fixed r q (refused m gone e s) (refused n off f t) = (e ∙ sym f, s ∙ sym t)
+  pin_fixed r q (refused m off e s) (taken n may f t) = absurd (off may)
+  pin_fixed r q (taken m may e s) (refused n off f t) = absurd (off may)
+  pin_fixed r q (taken m may e s) (taken n can f t) = (e ∙ sym f, pinned_fixed s t)
+
+  -- the newest pin on an object is one
+  newest_fixed : (pins : List Pin) (i j : ℕ) → IsNewest pins h i → IsNewest pins h j → i ≡ j
+  newest_fixed pins i j x y = elim (cases_order i j) [
+    | inl e ↦ e
+    | inr apart ↦ elim apart [
+      | inl less ↦ absurd (x.newest j y.pin less y.there y.on)
+      | inr more ↦ absurd (y.newest i x.pin more x.there x.on)
+    ]
+  ]
+
+  given_fixed : IsPinGiven seat h w a → IsPinGiven seat h w b → a ≡ b
+  given_fixed x y =
+      let at = newest_fixed (pins_of_seat w.seats seat) x.at y.at x.newest y.newest in
+      let p = x.word.gives.number in let q = y.word.gives.number in
+      let words : x.word.word ≡ y.word.word = omega (arith, p, q) in
+      turned a b (x.word.words ∙ ap (with_word w.desk h) words ∙ sym y.word.words) (x.far ∙ sym y.far)
+      (x.pins
+      ∙ ap (λ (i : ℕ). with_pins w.seats seat (remove (pins_of_seat w.seats seat) i)) at
+      ∙ sym y.pins)
+
+  unpin_fixed : (r q : Reply) → UnpinStep seat h w r a → UnpinStep seat h w q b → (r ≡ q) × (a ≡ b)
+  unpin_fixed r q (not_pinned n e s) (not_pinned m f t) = (e ∙ sym f, s ∙ sym t)
+  unpin_fixed r q (not_pinned n e s) (given f t) =
+      absurd (n t.at t.newest.pin t.newest.there t.newest.on)
+  unpin_fixed r q (given e s) (not_pinned n f t) =
+      absurd (n s.at s.newest.pin s.newest.there s.newest.on)
+  unpin_fixed r q (given e s) (given f t) = (e ∙ sym f, given_fixed s t)
+
+-- ---- an event
+atomic_fixed : (seat : ℕ) (atomic : Atomic) (w a b : WorldState) (r q : Reply)
+    → AtomicStep seat atomic w r a → AtomicStep seat atomic w q b → (r ≡ q) × (a ≡ b)
+atomic_fixed seat (Load handle) w a b r q x y = (x.0 ∙ sym y.0, x.1 ∙ sym y.1)
+atomic_fixed seat (PinOn handle) w a b r q x y = pin_fixed seat handle.n w a b r q x y
+atomic_fixed seat (Unpin handle) w a b r q x y = unpin_fixed seat handle.n w a b r q x y
+
+-- An event has one reply, and leads from a sound world to one world: every word of local memory, every
+-- row at the nodes and all else of it.
+pub step_fixes : (w a b : WorldState) (e : Event) (r q : Reply) → IsSoundWorld w → Step w e r a
+    → Step w e q b → (r ≡ q) × (a ≡ b)
+step_fixes w a b (event.Step seat atomic) r q sound x y = atomic_fixed seat atomic w a b r q x y
+step_fixes w a b (event.Turn seat job) r q sound x y = turn_fixed job w a b r q sound x y
+
+-- ---- events one after another
+-- Where a run is sound all along, whatever leads by its events has its replies and ends in its world.
+pub run_fixes : (w a b : WorldState) (events : List Event) (rs qs : List Reply) → IsSoundWorld w
+    → LeadsSoundly w events rs a → Leads w events qs b → (rs ≡ qs) × (a ≡ b)
+run_fixes w a b [] [] [] sound x y = (refl, x ∙ sym y)
+run_fixes w a b [] [] (q ∷ qs) sound x y = absurd y
+run_fixes w a b [] (r ∷ rs) qs sound x y = absurd x
+run_fixes w a b (e ∷ es) [] qs sound x y = absurd x
+run_fixes w a b (e ∷ es) (r ∷ rs) [] sound x y = absurd y
+run_fixes w a b (e ∷ es) (r ∷ rs) (q ∷ qs) sound x y =
+    let same = step_fixes w x.0 y.0 e r q sound x.1 y.1 in
+    let rest = run_fixes x.0 a b es rs qs x.2 x.3
+    (subst (λ (v : WorldState). Leads v es qs b) (sym same.1) y.2) in
+    ((λ i. same.0 i ∷ rest.0 i), rest.1)
