@@ -30,6 +30,7 @@ pub mod WorkedRuns
 pub mod WorkedCalled
 pub mod WorkedParts
 pub mod WorkedDeclined
+pub mod WorkedLeaves
 pub mod TurnCallsKept
 pub mod TurnCallsFar
 pub mod TurnCallsMap

@@ -1,6 +1,6 @@
 -- A turn over any desk leaves what its contract says, and a turn at a desk of one kind is one at a desk
 -- of another kind.
-use Rattle.std.proofs.Common.{◌≡◌, ℕ, ◌+◌, ◌^◌, ◌<◌, ◌≤◌, List, [], refl, sym, subst, arith, inl, inr}
+use Rattle.std.proofs.Common.{◌≡◌, ℕ, ◌+◌, ◌^◌, ◌<◌, ◌≤◌, List, [], ◌++◌, refl, sym, subst, arith, inl, inr}
 use Rattle.std.specs.Prelude.{Result, Ok, Err, IfOk, OnErr}
 use Rattle.cb_member.specs.declared.no_memory.NoMemory.{NoMemory}
 use Rattle.cb_types.specs.declared.config.Config.{Config}
@@ -14,7 +14,7 @@ use Rattle.cb_world.specs.declared.entry.Entry.{Entry}
 use Rattle.cb_world.specs.declared.event.Event.{Event}
 use Rattle.cb_world.specs.declared.shown.Shown.{Shown}
 use Rattle.cb_world.specs.FarState.{FarState}
-use Rattle.cb_world.specs.Played.{played}
+use Rattle.cb_world.specs.Played.{Agree, played}
 use Rattle.cb_world.specs.Sound.{Sound}
 use Rattle.cb_world.specs.World.{AreCounted, IsConfigured}
 use Rattle.cb_world.proofs.Staying.{recounted, rises_more}
@@ -47,6 +47,19 @@ job_below Compact = omega arith
 job_below Rebuild = omega arith
 job_below (Crash node) = omega arith
 job_below (Join node) = omega arith
+
+-- those of a desk
+pub laws_of : {D : Type 0} → (run : D → List Event → D → Type 0) → (shows : D → Shown → Type 0)
+    → ((d : D) → run d [] d)
+    → ((d e f : D) (es fs : List Event) → run d es e → run e fs f → run d (es ++ fs) f)
+    → ((d e : D) (es : List Event) (s : Shown) → run d es e → shows d s
+    → Agree s es × shows e (played es s))
+    → AreLaws run shows
+laws_of run shows none more follows = record {
+  none = none;
+  more = more;
+  follows = λ d e es s ran shown. (follows d e es s ran shown).1;
+}
 
 -- a turn that is refused writes nothing
 worn_none : (job : Job) → TurnWrites job answer.Worn []

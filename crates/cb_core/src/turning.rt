@@ -5,6 +5,7 @@ ghost use Rattle.cb_world.specs.declared.shown.Shown.{Shown};
 ghost use Rattle.cb_world.specs.Sound.{Sound};
 ghost use Rattle.cb_world.specs.World.{AreCounted, IsConfigured};
 ghost use Rattle.cb_core.specs.Jobs.{IsJob};
+ghost use Rattle.cb_core.specs.TurnLeaves.{OutcomeWrites, TurnLeaves};
 ghost use Rattle.cb_core.specs.Turned.{Does, Stops, Turned, Stopped, counted};
 
 use crate::bringing::{make_with_room, read_anywhere, swap_object, write_anywhere};
@@ -47,6 +48,9 @@ pub fn turn<D: Desk>(
     ensures error { OnErr result (Stopped (λ d es e. D.run d es e) (λ d s. D.shows d s)
         (D.settings desk.old) job.now (record { desk = desk.old; far = far.old })
         (record { desk = desk.new; far = far.new })) }
+    ensures leaves { TurnLeaves (λ d es e. D.run d es e) (λ d s. D.shows d s) (D.settings desk.old)
+        (record { desk = desk.old; far = far.old }) (record { desk = desk.new; far = far.new })
+        (OutcomeWrites job.now result) }
 {
     if !count_turn(far, job) {
         return Ok(Reply::Worn);

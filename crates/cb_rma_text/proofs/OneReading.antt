@@ -1,15 +1,21 @@
 -- The same bytes spell one schedule or have one first line outside the form, and never both.
-use Rattle.std.proofs.Common.{◌≡◌, ℕ, ◌+◌, ◌<◌, ◌≤◌, ◌⊎◌, List, [], ◌∷◌, ◌++◌, length, map, inl, inr, refl, sym, ap, ◌∙◌, arith}
+use Rattle.std.proofs.Common.{◌≡◌, ℕ, ◌+◌, ◌<◌, ◌≤◌, ◌⊎◌, List, [], ◌∷◌, ◌++◌, length, map, Result, Ok, Err, inl, inr, refl, sym, ap, ◌∙◌, arith}
+use Rattle.std.specs.Prelude.{IfOk, IsErr}
 use Rattle.std.specs.List.{AllByRecursion}
 use Rattle.std.proofs.lemmas.Bool.{cases_lt}
 use Rattle.std.proofs.lemmas.List.{append-nil, length-append, length-map}
+use Rattle.cb_cli.specs.declared.verdict.Verdict.{Verdict}
+use Rattle.cb_cli.specs.declared.verdict.Verdict.TheVariants.{Done, Refused}
 use Rattle.cb_script.specs.Spelling.{lines_of}
+use Rattle.cb_types.specs.declared.NoMemory.{NoMemory}
+use Rattle.cb_rma.specs.Schedule.{start, replies}
 use Rattle.cb_rma.specs.declared.step.Step.{Step}
 use Rattle.cb_rma_text.specs.First.{First, HasWindow, IsBadLine, IsNoEvent}
 use Rattle.cb_rma_text.specs.First.First.{TooLong, NoHeader, AtLine}
 use Rattle.cb_rma_text.specs.Form.{IsInForm, Spells}
 use Rattle.cb_rma_text.specs.Spelling.{step_line, window_line}
-use Rattle.cb_rma_text.specs.Verdicts.{Accepts, Refuses}
+use Rattle.cb_rma_text.specs.Texts.{said_text, refusal_text}
+use Rattle.cb_rma_text.specs.Verdicts.{Accepts, IsVerdict, Refuses, Yields}
 use Rattle.cb_rma_text.proofs.Events.{step_unique}
 use Rattle.cb_rma_text.proofs.Windows.{window_unique}
 
@@ -131,3 +137,27 @@ schedule_unique bytes window other events others a b =
       window_unique window other a.window_is b.window_is (heads_same (window_line window) (window_line other) (map step_line events) (map step_line others) texts),
       events_unique events others a.form b.form (tails_same (window_line window) (window_line other) (map step_line events) (map step_line others) texts),
     )
+
+-- ---- what is answered is the only answer
+
+module _ (bytes : List ℕ) where
+  one_text : (t u : List ℕ) → Yields bytes t → Yields bytes u → t ≡ u
+  one_text t u x y =
+      let same = schedule_unique bytes x.window y.window x.events y.events x.spelled y.spelled in
+      x.text_is ∙ (λ i. said_text (replies (start (same.0 i)) (same.1 i))) ∙ sym y.text_is
+
+  one_refusal : (t u : List ℕ) → Refuses bytes t → Refuses bytes u → t ≡ u
+  one_refusal t u x y = x.text_is ∙ ap refusal_text (first_unique bytes x.line y.line x.first y.first) ∙ sym y.text_is
+
+  not_both : (t u : List ℕ) → Yields bytes t → Refuses bytes u → ⊥
+  not_both t u yields refused = spells_no_fault bytes yields.window refused.line yields.events yields.spelled refused.first
+
+  pub only_told : (result : Result Verdict NoMemory) (text : List ℕ) → IfOk result (IsVerdict bytes) → Yields bytes text → (result ≡ Ok (Done text)) ⊎ IsErr result
+  only_told (Ok (Done t)) text right told = inl (ap (λ (u : List ℕ). Ok (Done u)) (one_text t text right told))
+  only_told (Ok (Refused t)) text right told = absurd (not_both text t told right)
+  only_told (Err e) text right told = inr refl
+
+  pub only_refused : (result : Result Verdict NoMemory) (text : List ℕ) → IfOk result (IsVerdict bytes) → Refuses bytes text → (result ≡ Ok (Refused text)) ⊎ IsErr result
+  only_refused (Ok (Done t)) text right refused = absurd (not_both t text right refused)
+  only_refused (Ok (Refused t)) text right refused = inl (ap (λ (u : List ℕ). Ok (Refused u)) (one_refusal t text right refused))
+  only_refused (Err e) text right refused = inr refl

@@ -1,8 +1,8 @@
-ghost use Rattle.std.specs.Prelude.{◌≡◌, ◌≤◌, length, IfOk};
+ghost use Rattle.std.specs.Prelude.{◌≡◌, ◌≤◌, ◌⊎◌, ℕ, List, length, Ok, IfOk, IsErr};
 ghost use Rattle.cb_rma.specs.Schedule.{start, replies};
 ghost use Rattle.cb_rma_text.specs.Form.{IsWindow};
 ghost use Rattle.cb_rma_text.specs.Texts.{said_text};
-ghost use Rattle.cb_rma_text.specs.Verdicts.{IsVerdict};
+ghost use Rattle.cb_rma_text.specs.Verdicts.{IsVerdict, Refuses, Yields};
 
 use crate::read::{Fault, Schedule, schedule_of};
 use crate::said::{line_refused_text, saids_text};
@@ -13,8 +13,18 @@ use std::alloc::Global;
 
 /// What is made of bytes: the text of all that is said to the schedule that they spell, or the text
 /// that tells the first line outside the form. It takes memory for the schedule, for its messages
-/// and rows, and for the text.
+/// and rows, and for the text. The only error is want of memory.
 pub fn rma_bytes(alloc: Global, bytes: &[u8]) -> Result<Verdict, NoMemory>
+    ensures verdict { IfOk result (IsVerdict bytes.now) }
+    ensures yields { (text : List ℕ) → Yields bytes.now text
+        → (result ≡ Ok (Verdict.Done text)) ⊎ IsErr result }
+    ensures refused { (text : List ℕ) → Refuses bytes.now text
+        → (result ≡ Ok (Verdict.Refused text)) ⊎ IsErr result }
+{
+    judge(alloc, bytes)
+}
+
+fn judge(alloc: Global, bytes: &[u8]) -> Result<Verdict, NoMemory>
     ensures { IfOk result (IsVerdict bytes.now) }
 {
     match schedule_of(alloc, bytes) {

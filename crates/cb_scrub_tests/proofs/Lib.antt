@@ -1,1 +1,2 @@
-pub mod MayBeScrubbed
+pub mod ScrubbedWorld
+mod WorkedShards

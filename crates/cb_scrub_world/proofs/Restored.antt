@@ -1,5 +1,5 @@
 -- A world is sound behind a scrub where it was, and where one row of the set was spoilt.
-use Rattle.std.proofs.Common.{◌≡◌, ◌≢◌, ℕ, ◌+◌, ◌-◌, ◌<◌, ◌≤◌, List, [], length, get_or, set as with_item, ◌∷◌, All, Option, Some, Result, Ok, Err, sym, ap, ◌∙◌, subst, ext_get_or, arith, inl, inr}
+use Rattle.std.proofs.Common.{◌≡◌, ◌≢◌, ℕ, ◌+◌, ◌-◌, ◌<◌, ◌≤◌, List, [], length, get_or, set as with_item, ◌∷◌, All, Option, Some, Result, Ok, Err, refl, sym, ap, ◌∙◌, subst, ext_get_or, arith, inl, inr}
 use Rattle.std.specs.List.{slice_get}
 use Rattle.std.specs.Option.{unwrap_or}
 use Rattle.std.specs.Prelude.{IfOk, OnErr}
@@ -9,9 +9,10 @@ use Rattle.std.proofs.lemmas.List.{get_or-set_other, length-set}
 use Rattle.std.proofs.lemmas.Option.{same_Some, slice_get-get_or, slice_get_within}
 use Rattle.cb_gf256.specs.CodeWord.{IsCodeWord}
 use Rattle.cb_gf256.specs.Rows.{row_at}
+use Rattle.cb_gf256.specs.Sum.{◌⊕◌}
 use Rattle.cb_member.specs.Membership.{Membership}
 use Rattle.cb_member.specs.declared.names.Shard.{Shard}
-use Rattle.cb_node.specs.NodesState.{NodesState, known_row, rows_at, with_row}
+use Rattle.cb_node.specs.NodesState.{NodesState, known_row, rows_at, with_row, with_spoiled}
 use Rattle.cb_node.proofs.Laws.{row_is_put, put_keeps_other_rows, later_row_stays, same_row_changes_nothing}
 use Rattle.cb_scrub.specs.declared.found.Found.{Found}
 use Rattle.cb_scrub.specs.declared.found.Found.TheVariants.{Clean, One, Many}
@@ -292,6 +293,24 @@ spoilt_again s right id after far new found sound is examines keeps =
     ∙ ap (with_nodes right)
     (examined_again s right sound id is.set is.committed whole is.position is.shard is.row
     new.nodes found is.two is.at leaves (kept is.set is.committed)))
+
+-- a row of the set is spoilt where something is added to one of its bytes
+pub byte_is_spoilt : (far : FarState) (id : ℕ) (set : SetState) (position : ℕ) (shard : Shard)
+    (at with : ℕ) → set_in far.sets id ≡ Some set → 2 ≤ parities set
+    → slice_get set.shards position ≡ Some shard
+    → IsSpoilt far id (with_nodes far (with_spoiled far.nodes shard.node shard.key at with))
+byte_is_spoilt far id set position shard at with committed two there =
+    let row : List ℕ = known_row far.nodes shard.node shard.key in
+    record {
+      set = set;
+      committed = committed;
+      two = two;
+      position = position;
+      shard = shard;
+      at = there;
+      row = with_item row at (get_or row at 0 ⊕ with);
+      spoilt = refl;
+    }
 
 -- where a row of the set was spoilt in a sound world, the world is sound again
 pub restores : (after : Option SetId) (far new : FarState) (result : Result Scrubbed NoMemory)

@@ -9,7 +9,7 @@ pub returns-in-Rma-clause-verdict : goal.returns-in-Rma-clause-verdict
 returns-in-Rma-clause-verdict c =
     let bytes = c.args.bytes.now in
     let end = c.args.end.now in
-    rw c.in-Rma.is (IfOk-weaker c.rma_bytes.result _ (IsVerdict Rma bytes end end) (rma_verdict bytes end) c.rma_bytes.ensures)
+    rw c.in-Rma.is (IfOk-weaker c.rma_bytes.result _ (IsVerdict Rma bytes end end) (rma_verdict bytes end) c.rma_bytes.ensures.verdict)
 
 pub returns-in-Scrub-clause-verdict : goal.returns-in-Scrub-clause-verdict
 returns-in-Scrub-clause-verdict c =
