@@ -5,7 +5,6 @@ pub mod Parts
 pub mod Declining
 pub mod Turned
 pub mod TurnLeaves
-pub mod Room
 pub mod Step
 pub mod Events
 pub mod Run

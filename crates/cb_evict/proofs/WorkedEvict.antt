@@ -1,9 +1,10 @@
 -- Worked examples of the rule and of the effect of an eviction: values that meet a definition, and for
 -- each of its parts one that breaks that part alone.
-use Rattle.std.proofs.Common.{◌≡◌, ℕ, ◌*◌, Bool, true, false, List, [], ◌∷◌, Option, None, Some, refl, sym, ap, ◌∙◌, lit<, lit≤, arith, inl, inr}
+use Rattle.std.proofs.Common.{◌≡◌, ℕ, ◌*◌, ◌<◌, ◌≤◌, Bool, true, false, List, [], ◌∷◌, length, Option, None, Some, refl, sym, ap, ◌∙◌, lit<, lit≤, arith, inl, inr}
 use Rattle.std.proofs.lemmas.Bool.{false≢true}
 use Rattle.std.specs.FinMap as map
 use Rattle.cb_class.specs.Class.{words_of, bytes_of}
+use Rattle.cb_member.specs.declared.names.Shard.{Shard}
 use Rattle.cb_member.specs.Membership.{fresh_members}
 use Rattle.cb_node.specs.NodesState.{empty_nodes}
 use Rattle.cb_set.specs.SetState.{SetState}
@@ -27,7 +28,7 @@ use Rattle.cb_world.specs.RowWords.{words_from, words_in}
 use Rattle.cb_world.specs.Survey.{no_survey}
 use Rattle.cb_evict.specs.EvictRule.{IsInRow, HasFewSpans, HasFewNodes, HasBoth}
 use Rattle.cb_evict.specs.EvictEffect.{IsAway, EvictEffect}
-use Rattle.cb_evict.specs.Storing.{with_kept}
+use Rattle.cb_evict.specs.Storing.{CanStore, HasSpans, with_kept}
 use Rattle.cb_evict.proofs.Composed.{few_spans}
 
 -- one node, with room for one row
@@ -249,3 +250,48 @@ keys_drawn s = refl
 -- the rest stays
 nodes_stay : (s : SetState) → (with_kept far s 3).nodes ≡ far.nodes
 nodes_stay s = refl
+
+-- ---- rows that can be put, one under each shard
+none_shard : (shard : Shard) → None ≡ Some shard → ⊥
+none_shard shard e = cc
+
+can_store : CanStore far.nodes [] [] []
+can_store = record {
+  count = refl;
+  few = lit< tt;
+  can = record {
+    within = λ p shard e. absurd (none_shard shard e);
+    apart = λ p q a b e f same. absurd (none_shard a e);
+    fresh = λ p shard e. absurd (none_shard shard e);
+  };
+}
+
+not_one_more : CanStore far.nodes [] ([] ∷ []) [] → ⊥
+not_one_more a = let e : 0 ≡ 1 = a.count in absurd (omega (arith, e))
+
+not_so_many : (shards : List Shard) (rows : List (List ℕ)) → length shards ≡ 4294967296
+    → CanStore far.nodes shards rows [] → ⊥
+not_so_many shards rows n a = let few = a.few in absurd (omega (arith, few, n))
+
+-- there is one node
+abbrev elsewhere : Shard
+elsewhere = record { node = record { n = 1 }; incarnation = 0; key = 0 }
+
+not_elsewhere : CanStore far.nodes (elsewhere ∷ []) ([] ∷ []) [] → ⊥
+not_elsewhere a = let l : 1 < 1 = a.can.within 0 elsewhere refl in absurd (omega (arith, l))
+
+-- ---- spans that a set with some shards can have
+has_none : HasSpans far.spans (elsewhere ∷ []) []
+has_none = record { there = λ k d l. absurd (omega (arith, l)); few = lit< tt; count = lit≤ tt }
+
+not_more_spans : HasSpans far.spans [] (0 ∷ []) → ⊥
+not_more_spans a = let l : 1 ≤ 0 = a.count in absurd (omega (arith, l))
+
+not_a_free_frame : HasSpans far.spans (elsewhere ∷ []) (0 ∷ []) → ⊥
+not_a_free_frame a = let x = a.there 0 0 (lit< tt) in none_span x.0 x.1
+  where
+    none_span : (span : Contents) → None ≡ Some span → ⊥
+    none_span span e = cc
+
+not_of_so_many : (shards : List Shard) → length shards ≡ 4294967296 → HasSpans far.spans shards [] → ⊥
+not_of_so_many shards n a = let few = a.few in absurd (omega (arith, few, n))

@@ -18,6 +18,7 @@ use Rattle.cb_world.specs.Survey.{no_survey}
 use Rattle.cb_evict.specs.AbortRule.{HasNoBatch}
 use Rattle.cb_evict.specs.ShipRule.{HasAllShipped, HasNoNode, HasShipped, IsShardFor, ReadsLeaving, Ships, other_puts, with_shipped}
 use Rattle.cb_evict.specs.ShipStep.{IsShipStep}
+use Rattle.cb_evict.specs.Shipping.{Waits}
 use Rattle.cb_evict.specs.Waiting.{is_waiting, waits_at, waiting, least_waiting, PutAtMembers}
 use Rattle.cb_evict.proofs.ShippedFar.{batch_same}
 
@@ -382,3 +383,18 @@ step = record {
 a_word_changes : IsShipStep (desk (0 ∷ [])) (desk (1 ∷ [])) leaving after (answer.Shipped 1) → ⊥
 a_word_changes s = let e : 1 ≡ 0 = ap (λ (w : Words). get_or w.words 0 0) s.words in
     absurd (omega (arith, e))
+
+-- ---- a position that waits
+waits_at_one : Waits leaving
+waits_at_one = (batch some_wait, 1, refl, refl)
+
+no_one_waits : Waits done → ⊥
+no_one_waits (b, p, there, least) = some_position p (sym least
+    ∙ sym (ap (λ (x : LeavingState). least_waiting members x.shards)
+    (batch_same (batch all_put) b there)) ∙ no_least)
+
+none_leaves : Waits (far None) → ⊥
+none_leaves (b, p, there, least) = none_some b there
+  where
+    none_some : (x : LeavingState) → None ≡ Some x → ⊥
+    none_some x e = cc

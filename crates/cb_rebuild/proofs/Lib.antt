@@ -2,7 +2,6 @@ pub mod WeakSets
 mod Walking
 pub mod RestoredFar
 pub mod RebuildKeeps
-pub mod RebuildCounts
 pub mod StepFixed
 pub mod Stays
 mod WorkedWord
