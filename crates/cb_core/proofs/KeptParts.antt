@@ -75,7 +75,8 @@ arrives_same c seats n a b Z good same z = record {
   });
 }
 
--- a part after which all is known, that keeps the pins, and leaves the far state as it is configured
+-- a part after which all is known, that keeps the pins and leaves the far state as it is
+-- configured
 pub arrives_stays : (c : Config) (seats : List SeatState) (n : ℕ) (a b : Holding Words) (t : Shown)
     (Z : Type 0) → IsGood c seats a → StaysIf c n a.far b.far → IsKnown b.desk b.far t
     → b.desk.settings ≡ a.desk.settings → ArePinned b.desk seats → Z → Arrives c seats n a b Z

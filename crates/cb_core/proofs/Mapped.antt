@@ -1,6 +1,6 @@
--- A turn at a desk of one kind is one at a desk of another kind, where its events and what it shows go
--- along.
-use Rattle.std.proofs.Common.{◌≡◌, ℕ, List, [], Option, None, Some}
+-- A turn at a desk of one kind is one at a desk of another kind, where its events and what it shows
+-- go along.
+use Rattle.std.proofs.Common.{◌≡◌, ℕ, List, [], length, Option, None, Some}
 use Rattle.cb_types.specs.declared.config.Config.{Config}
 use Rattle.cb_types.specs.declared.handle.SetId.{SetId}
 use Rattle.cb_types.specs.declared.job.Job.{Job}
@@ -20,21 +20,33 @@ use Rattle.cb_core.specs.Parts.WhereItIs.{near, declined, stays_far, brought}
 use Rattle.cb_core.specs.Parts.BringsIn.{not_far, was_far}
 use Rattle.cb_core.specs.Parts.RoomStops.{at_once as lacks_now, evicting, after}
 use Rattle.cb_core.specs.Parts.CallStops.{near as lacks_near, far as lacks_far, after as lacks_after}
-use Rattle.cb_core.specs.Turned.{Operates, Swaps, SwapLacks, Brings, BringLacks, Evicts, WinsRoom, EvictLacks, Makes, MakeLacks, Reads, ReadLacks, Writes, Declines, Finds, Does, Stops, Turned, Stopped, once_counted, worn, done}
+use Rattle.cb_core.specs.Turned.{Operates, Swaps, SwapLacks, Brings, BringLacks, Evicts, EvictLacks, WinsRoom, Makes, MakeLacks, Reads, ReadLacks, Writes, Declines, Finds, Does, Stops, Turned, Stopped, once_counted, worn, done}
 
-module _ {D E : Type 0} (run : D → List Event → D → Type 0) (shows : D → Shown → Type 0) (other_run : E → List Event → E → Type 0) (other_shows : E → Shown → Type 0)
-    (f : D → E) (back : (d e : D) (es : List Event) → run d es e → other_run (f d) es (f e)) (told : (d : D) (s : Shown) → other_shows (f d) s → shows d s) where
+-- a relation of holdings, and one of where a part stopped
+abbrev Part : Type 0 → Type 0 → Type 1
+Part D A = Holding D → A → Holding D → Type 0
+
+abbrev Lack : Type 0 → Type 1
+Lack D = Holding D → Holding D → Type 0
+
+module _ {D E : Type 0} (run : D → List Event → D → Type 0) (shows : D → Shown → Type 0)
+    (other_run : E → List Event → E → Type 0) (other_shows : E → Shown → Type 0) (f : D → E)
+    (back : (d e : D) (es : List Event) → run d es e → other_run (f d) es (f e))
+    (told : (d : D) (s : Shown) → other_shows (f d) s → shows d s) where
   abbrev pub on : Holding D → Holding E
   on a = record { desk = f a.desk; far = a.far }
 
-  abbrev Maps : {A : Type 0} → (Holding D → A → Holding D → Type 0) → (Holding E → A → Holding E → Type 0) → Type 0
+  abbrev Maps : {A : Type 0} → Part D A → Part E A → Type 0
   Maps {A = A} P Q = (a b : Holding D) (r : A) → P a r b → Q (on a) r (on b)
 
-  abbrev MapsLack : (Holding D → Holding D → Type 0) → (Holding E → Holding E → Type 0) → Type 0
+  abbrev MapsLack : Lack D → Lack E → Type 0
   MapsLack L M = (a b : Holding D) → L a b → M (on a) (on b)
 
-  performs : (a b : D) (far : FarState) (rules : List Event → Type 0) (sound : Shown → Type 0) (does : List Event → Shown → Shown → Type 0)
-      → Performs (λ es. run a es b) (λ s. shows a s × Sound s far) rules sound does → Performs (λ es. other_run (f a) es (f b)) (λ s. other_shows (f a) s × Sound s far) rules sound does
+  performs : (a b : D) (far : FarState) (rules : List Event → Type 0) (sound : Shown → Type 0)
+      (does : List Event → Shown → Shown → Type 0)
+      → Performs (λ es. run a es b) (λ s. shows a s × Sound s far) rules sound does
+      → Performs (λ es. other_run (f a) es (f b)) (λ s. other_shows (f a) s × Sound s far) rules sound
+      does
   performs a b far rules sound does p = record {
     events = p.events;
     ran = back a b p.events p.ran;
@@ -45,69 +57,64 @@ module _ {D E : Type 0} (run : D → List Event → D → Type 0) (shows : D →
     effect = λ s k. p.effect s (told a s k.0, k.1);
   }
 
-  operates : (rule : FarState → FarState → Reply → List Event → Type 0) (effect : FarState → FarState → Reply → List Event → Shown → Shown → Type 0)
-      → Maps (Operates run shows rule effect) (Operates other_run other_shows rule effect)
-  operates rule effect a b r p = performs a.desk b.desk a.far (rule a.far b.far r) (λ t. Sound t b.far) (effect a.far b.far r) p
+  -- ---- the combinators
+  with_room : (frames : ℕ) (P : Part D Reply) (F : Part D Eviction) (Q : Part E Reply)
+      (G : Part E Eviction) → Maps P Q → Maps F G → Maps (WithRoom frames P F) (WithRoom frames Q G)
+  with_room frames P F Q G p e a b r (at_once o off) = at_once (p a b r o) off
+  with_room frames P F Q G p e a b r (no_room m why loose nodes o v is) =
+      no_room (on m) why loose nodes (p a m answer.NoFrame o) (e m b (Refused why loose nodes) v) is
+  with_room frames P F Q G p e a b r (won m n id o v again off) =
+      won (on m) (on n) id (p a m answer.NoFrame o) (e m n (Set id) v) (p n b r again) off
 
-  with_room : (k : ℕ) (P : Holding D → Reply → Holding D → Type 0) (F : Holding D → Eviction → Holding D → Type 0) (Q : Holding E → Reply → Holding E → Type 0) (G : Holding E → Eviction → Holding E → Type 0)
-      → Maps P Q → Maps F G → Maps (WithRoom k P F) (WithRoom k Q G)
-  with_room k P F Q G p e a b r (at_once o off) = at_once (p a b r o) off
-  with_room k P F Q G p e a b r (no_room m why loose nodes o v is) = no_room (on m) why loose nodes (p a m answer.NoFrame o) (e m b (Refused why loose nodes) v) is
-  with_room k P F Q G p e a b r (won m n id o v again off) = won (on m) (on n) id (p a m answer.NoFrame o) (e m n (Set id) v) (p n b r again) off
-
-  where_it_is : (P F : Holding D → Reply → Holding D → Type 0) (L : Holding D → Option Reply → Holding D → Type 0) (Q G : Holding E → Reply → Holding E → Type 0) (M : Holding E → Option Reply → Holding E → Type 0)
-      → Maps P Q → Maps L M → Maps F G → Maps (WhereItIs P L F) (WhereItIs Q M G)
+  where_it_is : (P F : Part D Reply) (L : Part D (Option Reply)) (Q G : Part E Reply)
+      (M : Part E (Option Reply)) → Maps P Q → Maps L M → Maps F G
+      → Maps (WhereItIs P L F) (WhereItIs Q M G)
   where_it_is P F L Q G M p l e a b r (near o off) = near (p a b r o) off
-  where_it_is P F L Q G M p l e a b r (declined m o d) = declined (on m) (p a m answer.NotHere o) (l m b (Some r) d)
-  where_it_is P F L Q G M p l e a b r (stays_far m n o d v off) = stays_far (on m) (on n) (p a m answer.NotHere o) (l m n None d) (e n b r v) off
-  where_it_is P F L Q G M p l e a b r (brought m n last g o d v again) = brought (on m) (on n) (on last) g (p a m answer.NotHere o) (l m n None d) (e n last (answer.Swapped g) v) (p last b r again)
+  where_it_is P F L Q G M p l e a b r (declined m o d) =
+      declined (on m) (p a m answer.NotHere o) (l m b (Some r) d)
+  where_it_is P F L Q G M p l e a b r (stays_far m n o d v off) =
+      stays_far (on m) (on n) (p a m answer.NotHere o) (l m n None d) (e n b r v) off
+  where_it_is P F L Q G M p l e a b r (brought m n last g o d v again) =
+      brought (on m) (on n) (on last) g (p a m answer.NotHere o) (l m n None d)
+      (e n last (answer.Swapped g) v) (p last b r again)
 
-  brings_in : (P F : Holding D → Reply → Holding D → Type 0) (Q G : Holding E → Reply → Holding E → Type 0) → Maps P Q → Maps F G → Maps (BringsIn P F) (BringsIn Q G)
+  brings_in : (P F : Part D Reply) (Q G : Part E Reply) → Maps P Q → Maps F G
+      → Maps (BringsIn P F) (BringsIn Q G)
   brings_in P F Q G p e a b r (not_far o off) = not_far (p a b r o) off
   brings_in P F Q G p e a b r (was_far m o v) = was_far (on m) (p a m answer.NotHere o) (e m b r v)
 
-  room_stops : (P : Holding D → Reply → Holding D → Type 0) (F : Holding D → Eviction → Holding D → Type 0) (L I : Holding D → Holding D → Type 0) (Q : Holding E → Reply → Holding E → Type 0) (G : Holding E → Eviction → Holding E → Type 0) (M J : Holding E → Holding E → Type 0)
-      → Maps P Q → MapsLack L M → Maps F G → MapsLack I J → MapsLack (RoomStops P L F I) (RoomStops Q M G J)
+  room_stops : (P : Part D Reply) (F : Part D Eviction) (L I : Lack D) (Q : Part E Reply)
+      (G : Part E Eviction) (M J : Lack E) → Maps P Q → MapsLack L M → Maps F G → MapsLack I J
+      → MapsLack (RoomStops P L F I) (RoomStops Q M G J)
   room_stops P F L I Q G M J p l e i a b (lacks_now o) = lacks_now (l a b o)
-  room_stops P F L I Q G M J p l e i a b (evicting m o v) = evicting (on m) (p a m answer.NoFrame o) (i m b v)
-  room_stops P F L I Q G M J p l e i a b (after m n id o v w) = after (on m) (on n) id (p a m answer.NoFrame o) (e m n (Set id) v) (l n b w)
+  room_stops P F L I Q G M J p l e i a b (evicting m o v) =
+      evicting (on m) (p a m answer.NoFrame o) (i m b v)
+  room_stops P F L I Q G M J p l e i a b (after m n id o v w) =
+      after (on m) (on n) id (p a m answer.NoFrame o) (e m n (Set id) v) (l n b w)
 
-  call_stops : (P F : Holding D → Reply → Holding D → Type 0) (S : Holding D → Option Reply → Holding D → Type 0) (L I : Holding D → Holding D → Type 0)
-      (Q G : Holding E → Reply → Holding E → Type 0) (T : Holding E → Option Reply → Holding E → Type 0) (M J : Holding E → Holding E → Type 0)
-      → Maps P Q → MapsLack L M → Maps S T → Maps F G → MapsLack I J → MapsLack (CallStops P L S F I) (CallStops Q M T G J)
+  call_stops : (P F : Part D Reply) (S : Part D (Option Reply)) (L I : Lack D) (Q G : Part E Reply)
+      (T : Part E (Option Reply)) (M J : Lack E) → Maps P Q → MapsLack L M → Maps S T → Maps F G
+      → MapsLack I J → MapsLack (CallStops P L S F I) (CallStops Q M T G J)
   call_stops P F S L I Q G T M J p l s e i a b (lacks_near o) = lacks_near (l a b o)
-  call_stops P F S L I Q G T M J p l s e i a b (lacks_far m n o d v) = lacks_far (on m) (on n) (p a m answer.NotHere o) (s m n None d) (i n b v)
-  call_stops P F S L I Q G T M J p l s e i a b (lacks_after m n last g o d v again) = lacks_after (on m) (on n) (on last) g (p a m answer.NotHere o) (s m n None d) (e n last (answer.Swapped g) v) (l last b again)
+  call_stops P F S L I Q G T M J p l s e i a b (lacks_far m n o d v) =
+      lacks_far (on m) (on n) (p a m answer.NotHere o) (s m n None d) (i n b v)
+  call_stops P F S L I Q G T M J p l s e i a b (lacks_after m n last g o d v again) =
+      lacks_after (on m) (on n) (on last) g (p a m answer.NotHere o) (s m n None d)
+      (e n last (answer.Swapped g) v) (l last b again)
 
+  -- ---- the parts
   never : Maps NeverDeclined NeverDeclined
   never a b r (none, same) = (none, λ i. on (same i))
 
-  swaps : (h : ℕ) → Maps (Swaps run shows h) (Swaps other_run other_shows h)
-  swaps h a b r (home, at, p) = (home, at, performs a.desk b.desk a.far _ _ _ p)
+  never_lacks : MapsLack NeverLacks NeverLacks
+  never_lacks a b x = x
 
-  swap_lacks : (h : ℕ) → MapsLack (SwapLacks run h) (SwapLacks other_run h)
-  swap_lacks h a b (ran, given) = (back a.desk b.desk [] ran, given)
-
-  evicts : (c : Config) → Maps (Evicts run shows c) (Evicts other_run other_shows c)
-  evicts c a b r p = performs a.desk b.desk a.far _ _ _ p
-
-  wins : (c : Config) → Maps (WinsRoom run shows c) (WinsRoom other_run other_shows c)
-  wins c a b e p = performs a.desk b.desk a.far _ _ _ p
-
-  evict_lacks : MapsLack (EvictLacks run shows) (EvictLacks other_run other_shows)
-  evict_lacks a b (same, p) = (same, performs a.desk b.desk a.far _ _ _ p)
-
-  brings : (c : Config) (h : ℕ) → Maps (Brings run shows c h) (Brings other_run other_shows c h)
-  brings c h = with_room c.frames (Swaps run shows h) (WinsRoom run shows c) (Swaps other_run other_shows h) (WinsRoom other_run other_shows c) (swaps h) (wins c)
-
-  bring_lacks : (c : Config) (h : ℕ) → MapsLack (BringLacks run shows c h) (BringLacks other_run other_shows c h)
-  bring_lacks c h = room_stops (Swaps run shows h) (WinsRoom run shows c) (SwapLacks run h) (EvictLacks run shows) (Swaps other_run other_shows h) (WinsRoom other_run other_shows c) (SwapLacks other_run h) (EvictLacks other_run other_shows)
-      (swaps h) (swap_lacks h) (wins c) evict_lacks
-
-  makes : (c : Config) (bytes : List ℕ) → Maps (Makes run shows c bytes) (Makes other_run other_shows c bytes)
+  makes : (c : Config) (bytes : List ℕ)
+      → Maps (Makes run shows c bytes) (Makes other_run other_shows c bytes)
   makes c bytes a b r p = performs a.desk b.desk a.far _ _ _ p
 
-  make_lacks : (c : Config) (bytes : List ℕ) → MapsLack (MakeLacks run c bytes) (MakeLacks other_run c bytes)
+  make_lacks : (c : Config) (bytes : List ℕ)
+      → MapsLack (MakeLacks run c bytes) (MakeLacks other_run c bytes)
   make_lacks c bytes a b (ran, same, needs) = (back a.desk b.desk [] ran, same, needs)
 
   reads : (h : ℕ) → Maps (Reads run shows h) (Reads other_run other_shows h)
@@ -116,24 +123,62 @@ module _ {D E : Type 0} (run : D → List Event → D → Type 0) (shows : D →
   read_lacks : (h : ℕ) → MapsLack (ReadLacks run shows h) (ReadLacks other_run other_shows h)
   read_lacks h a b (same, p) = (same, performs a.desk b.desk a.far _ _ _ p)
 
-  writes : (h at : ℕ) (bytes : List ℕ) → Maps (Writes run shows h at bytes) (Writes other_run other_shows h at bytes)
+  writes : (h at : ℕ) (bytes : List ℕ)
+      → Maps (Writes run shows h at bytes) (Writes other_run other_shows h at bytes)
   writes h at bytes a b r p = performs a.desk b.desk a.far _ _ _ p
-
-  never_lacks : MapsLack NeverLacks NeverLacks
-  never_lacks a b x = x
 
   finds : (h : ℕ) → Maps (Finds run shows h) (Finds other_run other_shows h)
   finds h a b r p = performs a.desk b.desk a.far _ _ _ p
 
-  declines : (h at count : ℕ) → Maps (Declines run shows h at count) (Declines other_run other_shows h at count)
+  declines : (h at count : ℕ)
+      → Maps (Declines run shows h at count) (Declines other_run other_shows h at count)
   declines h at count a b r (same, p) = (same, performs a.desk b.desk a.far _ _ _ p)
 
+  swaps : (h : ℕ) → Maps (Swaps run shows h) (Swaps other_run other_shows h)
+  swaps h a b r (home, at, p) = (home, at, performs a.desk b.desk a.far _ _ _ p)
+
+  swap_lacks : (h : ℕ) → MapsLack (SwapLacks run h) (SwapLacks other_run h)
+  swap_lacks h a b (ran, given) = (back a.desk b.desk [] ran, given)
+
+  wins : (c : Config) → Maps (WinsRoom run shows c) (WinsRoom other_run other_shows c)
+  wins c a b v p = performs a.desk b.desk a.far _ _ _ p
+
+  evicts : (c : Config) → Maps (Evicts run shows c) (Evicts other_run other_shows c)
+  evicts c a b r p = performs a.desk b.desk a.far _ _ _ p
+
+  evict_lacks : MapsLack (EvictLacks run shows) (EvictLacks other_run other_shows)
+  evict_lacks a b (same, p) = (same, performs a.desk b.desk a.far _ _ _ p)
+
+  brings : (c : Config) (h : ℕ) → Maps (Brings run shows c h) (Brings other_run other_shows c h)
+  brings c h = with_room c.frames (Swaps run shows h) (WinsRoom run shows c)
+      (Swaps other_run other_shows h) (WinsRoom other_run other_shows c) (swaps h) (wins c)
+
+  bring_lacks : (c : Config) (h : ℕ)
+      → MapsLack (BringLacks run shows c h) (BringLacks other_run other_shows c h)
+  bring_lacks c h = room_stops (Swaps run shows h) (WinsRoom run shows c) (SwapLacks run h)
+      (EvictLacks run shows) (Swaps other_run other_shows h) (WinsRoom other_run other_shows c)
+      (SwapLacks other_run h) (EvictLacks other_run other_shows) (swaps h) (swap_lacks h) (wins c)
+      evict_lacks
+
+  -- ---- the jobs
   pub does : (c : Config) (job : Job) → Maps (Does run shows c job) (Does other_run other_shows c job)
-  does c (Make bytes) a b r x = with_room c.frames (Makes run shows c bytes) (WinsRoom run shows c) (Makes other_run other_shows c bytes) (WinsRoom other_run other_shows c) (makes c bytes) (wins c) a b r x
-  does c (Read handle) a b r x = where_it_is (Reads run shows handle.n) (Brings run shows c handle.n) NeverDeclined (Reads other_run other_shows handle.n) (Brings other_run other_shows c handle.n) NeverDeclined (reads handle.n) never (brings c handle.n) a b r x
-  does c (Write handle at bytes) a b r x = where_it_is (Writes run shows handle.n at bytes) (Brings run shows c handle.n) _ (Writes other_run other_shows handle.n at bytes) (Brings other_run other_shows c handle.n) _ (writes handle.n at bytes) (declines handle.n at _) (brings c handle.n) a b r x
+  does c (Make bytes) a b r x =
+      with_room c.frames (Makes run shows c bytes) (WinsRoom run shows c)
+      (Makes other_run other_shows c bytes) (WinsRoom other_run other_shows c) (makes c bytes) (wins c)
+      a b r x
+  does c (Read handle) a b r x = let h = handle.n in
+      where_it_is (Reads run shows h) (Brings run shows c h) NeverDeclined
+      (Reads other_run other_shows h) (Brings other_run other_shows c h) NeverDeclined (reads h) never
+      (brings c h) a b r x
+  does c (Write handle at bytes) a b r x = let h = handle.n in let count = length bytes in
+      where_it_is (Writes run shows h at bytes) (Brings run shows c h) (Declines run shows h at count)
+      (Writes other_run other_shows h at bytes) (Brings other_run other_shows c h)
+      (Declines other_run other_shows h at count) (writes h at bytes) (declines h at count) (brings c h)
+      a b r x
   does c (Free handle) a b r p = performs a.desk b.desk a.far _ _ _ p
-  does c (Swap handle) a b r x = brings_in (Finds run shows handle.n) (Brings run shows c handle.n) (Finds other_run other_shows handle.n) (Brings other_run other_shows c handle.n) (finds handle.n) (brings c handle.n) a b r x
+  does c (Swap handle) a b r x = let h = handle.n in
+      brings_in (Finds run shows h) (Brings run shows c h) (Finds other_run other_shows h)
+      (Brings other_run other_shows c h) (finds h) (brings c h) a b r x
   does c (Filter handle) a b r p = performs a.desk b.desk a.far _ _ _ p
   does c Evict a b r p = performs a.desk b.desk a.far _ _ _ p
   does c Begin a b r p = performs a.desk b.desk a.far _ _ _ p
@@ -145,16 +190,26 @@ module _ {D E : Type 0} (run : D → List Event → D → Type 0) (shows : D →
   does c (Join node) a b r (ran, step) = (back a.desk b.desk [] ran, step)
   does c job a b r x = absurd x
 
-  pub stops : (c : Config) (job : Job) → MapsLack (Stops run shows c job) (Stops other_run other_shows c job)
-  stops c (Make bytes) a b x = room_stops (Makes run shows c bytes) (WinsRoom run shows c) (MakeLacks run c bytes) (EvictLacks run shows) (Makes other_run other_shows c bytes) (WinsRoom other_run other_shows c) (MakeLacks other_run c bytes) (EvictLacks other_run other_shows)
-      (makes c bytes) (make_lacks c bytes) (wins c) evict_lacks a b x
-  stops c (Read handle) a b x = call_stops (Reads run shows handle.n) (Brings run shows c handle.n) NeverDeclined (ReadLacks run shows handle.n) (BringLacks run shows c handle.n)
-      (Reads other_run other_shows handle.n) (Brings other_run other_shows c handle.n) NeverDeclined (ReadLacks other_run other_shows handle.n) (BringLacks other_run other_shows c handle.n)
-      (reads handle.n) (read_lacks handle.n) never (brings c handle.n) (bring_lacks c handle.n) a b x
-  stops c (Write handle at bytes) a b x = call_stops (Writes run shows handle.n at bytes) (Brings run shows c handle.n) _ NeverLacks (BringLacks run shows c handle.n)
-      (Writes other_run other_shows handle.n at bytes) (Brings other_run other_shows c handle.n) _ NeverLacks (BringLacks other_run other_shows c handle.n)
-      (writes handle.n at bytes) never_lacks (declines handle.n at _) (brings c handle.n) (bring_lacks c handle.n) a b x
-  stops c (Swap handle) a b (m, find, lacks) = (on m, finds handle.n a m answer.NotHere find, bring_lacks c handle.n m b lacks)
+  pub stops : (c : Config) (job : Job)
+      → MapsLack (Stops run shows c job) (Stops other_run other_shows c job)
+  stops c (Make bytes) a b x =
+      room_stops (Makes run shows c bytes) (WinsRoom run shows c) (MakeLacks run c bytes)
+      (EvictLacks run shows) (Makes other_run other_shows c bytes) (WinsRoom other_run other_shows c)
+      (MakeLacks other_run c bytes) (EvictLacks other_run other_shows) (makes c bytes)
+      (make_lacks c bytes) (wins c) evict_lacks a b x
+  stops c (Read handle) a b x = let h = handle.n in
+      call_stops (Reads run shows h) (Brings run shows c h) NeverDeclined (ReadLacks run shows h)
+      (BringLacks run shows c h) (Reads other_run other_shows h) (Brings other_run other_shows c h)
+      NeverDeclined (ReadLacks other_run other_shows h) (BringLacks other_run other_shows c h) (reads h)
+      (read_lacks h) never (brings c h) (bring_lacks c h) a b x
+  stops c (Write handle at bytes) a b x = let h = handle.n in let count = length bytes in
+      call_stops (Writes run shows h at bytes) (Brings run shows c h) (Declines run shows h at count)
+      NeverLacks (BringLacks run shows c h) (Writes other_run other_shows h at bytes)
+      (Brings other_run other_shows c h) (Declines other_run other_shows h at count) NeverLacks
+      (BringLacks other_run other_shows c h) (writes h at bytes) never_lacks (declines h at count)
+      (brings c h) (bring_lacks c h) a b x
+  stops c (Swap handle) a b (m, find, lacks) = let h = handle.n in
+      (on m, finds h a m answer.NotHere find, bring_lacks c h m b lacks)
   stops c (Filter handle) a b p = performs a.desk b.desk a.far _ _ _ p
   stops c Evict a b x = evict_lacks a b x
   stops c Begin a b x = evict_lacks a b x
@@ -163,9 +218,11 @@ module _ {D E : Type 0} (run : D → List Event → D → Type 0) (shows : D →
   stops c (Crash node) a b (ran, same, up) = (back a.desk b.desk [] ran, same, up)
   stops c job a b x = absurd x
 
-  pub turned : (c : Config) (job : Job) → Maps (Turned run shows c job) (Turned other_run other_shows c job)
+  pub turned : (c : Config) (job : Job)
+      → Maps (Turned run shows c job) (Turned other_run other_shows c job)
   turned c job a b r (worn end reply state ran) = worn end reply state (back a.desk b.desk [] ran)
-  turned c job a b r (done few x) = done few (does c job _ b r x)
+  turned c job a b r (done few x) = done few (does c job (once_counted a job) b r x)
 
-  pub stopped : (c : Config) (job : Job) → MapsLack (Stopped run shows c job) (Stopped other_run other_shows c job)
-  stopped c job a b x = record { few = x.few; stops = stops c job _ b x.stops }
+  pub stopped : (c : Config) (job : Job)
+      → MapsLack (Stopped run shows c job) (Stopped other_run other_shows c job)
+  stopped c job a b x = record { few = x.few; stops = stops c job (once_counted a job) b x.stops }

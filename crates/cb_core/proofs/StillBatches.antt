@@ -49,8 +49,8 @@ use Rattle.cb_core.specs.Turned.{Begins, Ships, Commits, Aborts, ShipLacks}
 use Rattle.cb_core.proofs.KeptParts.{IsGood, Arrives, Carries, CarriesLack, arrives_same, arrives_stays}
 use Rattle.cb_core.proofs.StillParts.{Ran, Tells, both_same}
 
--- No object was made and no turn was counted. Each object has as many pins, with pins it has its word,
--- and no version word changed.
+-- No object was made and no turn was counted. Each object has as many pins, with pins it has its
+-- word, and no version word changed.
 pub record KeepsRest (x y : Words) (far new : FarState) : Type 0 where
   pub settings : y.settings ≡ x.settings
   pub count : length y.words ≡ length x.words

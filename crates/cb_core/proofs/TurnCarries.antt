@@ -1,5 +1,5 @@
 -- What each part of a turn leaves over any desk, each job, and the turn.
-use Rattle.std.proofs.Common.{◌≡◌, ℕ, Bool, true, false, ◌+◌, ◌-◌, ◌^◌, ◌<◌, ◌≤◌, if◌then◌else◌, ◌==◌, nat_lt, List, [], ◌++◌, length, Option, None, Some, refl, sym, ap, subst, arith, inl, inr}
+use Rattle.std.proofs.Common.{◌≡◌, ℕ, Bool, true, false, ◌+◌, ◌-◌, ◌^◌, ◌<◌, ◌≤◌, if◌then◌else◌, ◌==◌, nat_lt, List, [], ◌∷◌, ◌++◌, length, Option, None, Some, refl, sym, ap, subst, arith, inl, inr}
 use Rattle.cb_member.specs.declared.names.Loss.{Loss}
 use Rattle.cb_member.specs.declared.names.NodeId.{NodeId}
 use Rattle.cb_types.specs.declared.config.Config.{Config}
@@ -19,7 +19,7 @@ use Rattle.cb_world.specs.FarState.{FarState}
 use Rattle.cb_world.specs.Played.{played}
 use Rattle.cb_world.specs.Sound.{Sound}
 use Rattle.cb_world.specs.World.{AreCounted, IsConfigured}
-use Rattle.cb_world.specs.Written.{Writes}
+use Rattle.cb_world.specs.Written.{Writes, entry, gone}
 use Rattle.cb_world.proofs.Alike.{recounted_sound}
 use Rattle.cb_world.proofs.NodeJoin.{node_crash_sound, node_join_sound}
 use Rattle.cb_world.proofs.Staying.{StaysIf, stays_same}
@@ -57,19 +57,22 @@ make_writes : (bytes : List ℕ) (far new : FarState) (r : Reply) (es : List Eve
     → MakeEffect bytes far new r es s t → (more : List Entry) × MakeWrites bytes r more
     × Writes es s more
 make_writes bytes far new (answer.Made h v) es s t x =
-    (_, (x.make.words, x.make.packed, refl), x.one)
+    (entry h.n v (length bytes) [] x.make.words ∷ [], (x.make.words, x.make.packed, refl), x.one)
 make_writes bytes far new r es s t x = ([], refl, x.nothing)
 
 write_writes : (h at : ℕ) (bytes : List ℕ) (r : Reply) (es : List Event) (s t : Shown)
     → WriteEffect h at bytes r es s t → (more : List Entry) × WriteWrites h at bytes r more
     × Writes es s more
-write_writes h at bytes (answer.Version n) es s t x =
-    (_, (len_of x.word, x.words, x.new, x.write, refl), x.one)
+write_writes h at bytes (answer.Version n) es s t x = (
+  entry h n (len_of x.word) x.words x.new ∷ [],
+  (len_of x.word, x.words, x.new, x.write, refl),
+  x.one,
+)
 write_writes h at bytes r es s t x = ([], refl, x.nothing)
 
 free_writes : (h : ℕ) (r : Reply) (es : List Event) (s t : Shown) → FreeEffect h r es s t
     → (more : List Entry) × FreeWrites h r more × Writes es s more
-free_writes h (answer.Version n) es s t x = (_, (x.words, refl), x.one)
+free_writes h (answer.Version n) es s t x = (gone h n x.words ∷ [], (x.words, refl), x.one)
 free_writes h r es s t x = ([], refl, x.nothing)
 
 -- a write that is declined, and one whose object stays far, is answered no version

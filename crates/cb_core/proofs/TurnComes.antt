@@ -38,12 +38,13 @@ pub record IsQuiet (W : Reply → List Entry → Type 0) (r : Reply) : Type 0 wh
   pub some : W r []
 
 -- the far state is as it is configured, and the desk shows a sound world
-pub record Good {D : Type 0} (shows : D → Shown → Type 0) (c : Config) (a : Holding D) : Type 0 where
+pub record Good {D : Type 0} (shows : D → Shown → Type 0) (c : Config) (a : Holding D)
+    : Type 0 where
   pub configured : IsConfigured c a.far
   pub shown : (s : Shown) × shows a.desk s × Sound s a.far
 
--- what a part comes to: events of the desk, a far state that is configured and whose numbers rose by
--- at most n, sound where it was, and these versions
+-- what a part comes to: events of the desk, a far state that is configured and whose numbers rose
+-- by at most n, sound where it was, and these versions
 pub record Comes {D : Type 0} (run : D → List Event → D → Type 0) (shows : D → Shown → Type 0)
     (c : Config) (n : ℕ) (W : List Entry → Type 0) (a b : Holding D) : Type 0 where
   pub events : List Event
@@ -254,14 +255,16 @@ module _ {D : Type 0} (run : D → List Event → D → Type 0) (shows : D → S
       let y = look mid b (Some r) (good_then n IsNone a mid good z) d in
       comes_as IsNone (W r) (λ more none. subst (W r) (sym none) (off mid b r d)) (n + l) k a b
       (omega (arith, most)) (then_none n l (n + l) a mid b (omega arith) z y)
-  where_it_is W quiet n l m k P E L off stays most p look e a b r good (stays_far mid next o d v never) =
+  where_it_is W quiet n l m k P E L off stays most p look e a b r good
+      (stays_far mid next o d v never) =
       let z = first W n P answer.NotHere a mid quiet p good o in
       let y = then_none n l (n + l) a mid next (omega arith) z
       (look mid next None (good_then n IsNone a mid good z) d) in
       let x = e next b r (good_then (n + l) IsNone a next good y) v in
       comes_as IsNone (W r) (λ more none. subst (W r) (sym none) (stays next b r v)) (n + l + m) k a b
       (omega (arith, most)) (then_none (n + l) m (n + l + m) a next b (omega arith) y x)
-  where_it_is W quiet n l m k P E L off stays most p look e a b r good (brought mid next last f o d v again) =
+  where_it_is W quiet n l m k P E L off stays most p look e a b r good
+      (brought mid next last f o d v again) =
       let z = first W n P answer.NotHere a mid quiet p good o in
       let y = then_none n l (n + l) a mid next (omega arith) z
       (look mid next None (good_then n IsNone a mid good z) d) in
@@ -290,7 +293,8 @@ module _ {D : Type 0} (run : D → List Event → D → Type 0) (shows : D → S
       (look mid next None (good_then n IsNone a mid good z) d) in
       then_none (n + l) m k a next b (omega (arith, most)) y
       (i next b (good_then (n + l) IsNone a next good y) v)
-  call_stops W quiet n l m k P E S L I most p lack look e i a b good (lacks_after mid next last f o d v again) =
+  call_stops W quiet n l m k P E S L I most p lack look e i a b good
+      (lacks_after mid next last f o d v again) =
       let z = first W n P answer.NotHere a mid quiet p good o in
       let y = then_none n l (n + l) a mid next (omega arith) z
       (look mid next None (good_then n IsNone a mid good z) d) in

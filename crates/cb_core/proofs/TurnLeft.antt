@@ -1,5 +1,4 @@
--- A turn over any desk leaves what its contract says, and a turn at a desk of one kind is one at a desk
--- of another kind.
+-- A turn over any desk leaves what its contract says.
 use Rattle.std.proofs.Common.{◌≡◌, ℕ, ◌+◌, ◌^◌, ◌<◌, ◌≤◌, List, [], ◌++◌, refl, sym, subst, arith, inl, inr}
 use Rattle.std.specs.Prelude.{Result, Ok, Err, IfOk, OnErr}
 use Rattle.cb_member.specs.declared.no_memory.NoMemory.{NoMemory}

@@ -35,8 +35,8 @@ abbrev pub FreeWrites : ℕ → Reply → List Entry → Type 0
 FreeWrites h (answer.Version n) more = (words : List ℕ) × (more ≡ gone h n words ∷ [])
 FreeWrites h r more = more ≡ []
 
--- the versions that a turn with this reply writes: that which a make, a write or a free answered, and
--- no others
+-- the versions that a turn with this reply writes: that which a make, a write or a free answered,
+-- and no others
 abbrev pub TurnWrites : Job → Reply → List Entry → Type 0
 TurnWrites (Make bytes) r more = MakeWrites bytes r more
 TurnWrites (Write handle at bytes) r more = WriteWrites handle.n at bytes r more
@@ -63,8 +63,8 @@ pub record SoundAfter (es : List Event) (s : Shown) (new : FarState) (writes : L
   pub writes_them : Writes es s more
 
 -- A turn leads from one holding to another by events of its desk. The far state is as it is
--- configured and counted, and at most one turn further. And for all that the desk showed and that was
--- sound: it is sound afterwards, and these versions are written.
+-- configured and counted, and at most one turn further. And for all that the desk showed and that
+-- was sound: it is sound afterwards, and these versions are written.
 pub record TurnLeaves {D : Type 0} (run : D → List Event → D → Type 0) (shows : D → Shown → Type 0)
     (c : Config) (a b : Holding D) (writes : List Entry → Type 0) : Type 0 where
   pub events : List Event

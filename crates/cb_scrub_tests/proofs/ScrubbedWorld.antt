@@ -49,7 +49,10 @@ module _ (w : WorldState) (new : FarState) (sound : IsSoundWorld w)
       homes = sound.configured.homes;
       nodes = sound.configured.nodes;
       room = sound.configured.room;
-      codes = sound.configured.codes;
+      codes = record {
+        sets = sound.configured.codes.sets;
+        batch = sound.configured.codes.batch;
+      };
     };
     shown = sound.shown;
     known = record {

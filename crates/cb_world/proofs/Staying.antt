@@ -1,5 +1,5 @@
--- What a change of the far state leaves of the configured sizes and codes, and how far the numbers that
--- are counted rise by it.
+-- What a change of the far state leaves of the configured sizes and codes, and how far the numbers
+-- that are counted rise by it.
 use Rattle.std.proofs.Common.{◌≡◌, ℕ, ◌+◌, ◌≤◌, length, refl, sym, ap, ◌∙◌, subst, arith}
 use Rattle.cb_types.specs.declared.config.Config.{Config}
 use Rattle.cb_world.specs.Counts.{CountsState}
