@@ -223,6 +223,16 @@ turn_fixed job w a b r q sound (done few x s) (done few' y t) =
     )
 
 -- ---- a pin and its end
+-- the newest pin on an object is one
+pub newest_fixed : (pins : List Pin) (h i j : ℕ) → IsNewest pins h i → IsNewest pins h j → i ≡ j
+newest_fixed pins h i j x y = elim (cases_order i j) [
+  | inl e ↦ e
+  | inr apart ↦ elim apart [
+    | inl less ↦ absurd (x.newest j y.pin less y.there y.on)
+    | inr more ↦ absurd (y.newest i x.pin more x.there x.on)
+  ]
+]
+
 module _ (seat h : ℕ) (w a b : WorldState) where
   pinned_fixed : IsPinTaken seat h w a → IsPinTaken seat h w b → a ≡ b
   pinned_fixed x y =
@@ -242,19 +252,9 @@ module _ (seat h : ℕ) (w a b : WorldState) where
   pin_fixed r q (taken m may e s) (refused n off f t) = absurd (off may)
   pin_fixed r q (taken m may e s) (taken n can f t) = (e ∙ sym f, pinned_fixed s t)
 
-  -- the newest pin on an object is one
-  newest_fixed : (pins : List Pin) (i j : ℕ) → IsNewest pins h i → IsNewest pins h j → i ≡ j
-  newest_fixed pins i j x y = elim (cases_order i j) [
-    | inl e ↦ e
-    | inr apart ↦ elim apart [
-      | inl less ↦ absurd (x.newest j y.pin less y.there y.on)
-      | inr more ↦ absurd (y.newest i x.pin more x.there x.on)
-    ]
-  ]
-
   given_fixed : IsPinGiven seat h w a → IsPinGiven seat h w b → a ≡ b
   given_fixed x y =
-      let at = newest_fixed (pins_of_seat w.seats seat) x.at y.at x.newest y.newest in
+      let at = newest_fixed (pins_of_seat w.seats seat) h x.at y.at x.newest y.newest in
       let p = x.word.gives.number in let q = y.word.gives.number in
       let words : x.word.word ≡ y.word.word = omega (arith, p, q) in
       turned a b (x.word.words ∙ ap (with_word w.desk h) words ∙ sym y.word.words) (x.far ∙ sym y.far)
@@ -271,7 +271,8 @@ module _ (seat h : ℕ) (w a b : WorldState) where
   unpin_fixed r q (given e s) (given f t) = (e ∙ sym f, given_fixed s t)
 
 -- ---- an event
-atomic_fixed : (seat : ℕ) (atomic : Atomic) (w a b : WorldState) (r q : Reply)
+-- an atomic step asks nothing of the world
+pub atomic_fixed : (seat : ℕ) (atomic : Atomic) (w a b : WorldState) (r q : Reply)
     → AtomicStep seat atomic w r a → AtomicStep seat atomic w q b → (r ≡ q) × (a ≡ b)
 atomic_fixed seat (Load handle) w a b r q x y = (x.0 ∙ sym y.0, x.1 ∙ sym y.1)
 atomic_fixed seat (PinOn handle) w a b r q x y = pin_fixed seat handle.n w a b r q x y

@@ -310,7 +310,8 @@ along_push c later answers l request r w new rested names kept along few lt then
       turns = let turns = goes.turns in let before = along.turns in
           let same = ap (λ (f : FarState). f.counts.turns) behind.stands.far in
           omega (arith, turns, before, same, length_push answers a);
-      leads = leads_push later [] answers (empty_world c) w new rested a along.leads step_by_answers rest;
+      leads = leads_push later [] answers (empty_world c) w new rested a along.leads step_by_answers rest
+          behind.stands.sound;
       follow = rw more (Follow-push 1 c.handles [] (calls_of answers) (called answers a) along.follow reply);
       answered = all_push answers a along.answered goes.reply;
       kept = λ name. handle_of-push name answers a

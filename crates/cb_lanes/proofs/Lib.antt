@@ -11,5 +11,6 @@ pub mod Filtering
 pub mod Scoping
 pub mod ScopesKept
 pub mod Along
+pub mod LinesFixed
 pub mod WorkedLines
 pub mod WorkedPins

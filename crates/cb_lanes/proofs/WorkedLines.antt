@@ -15,6 +15,7 @@ use Rattle.cb_core.specs.Step.{Step, done}
 use Rattle.cb_core.specs.Turned.{counted}
 use Rattle.cb_lanes.specs.Asked.{HasLineReply}
 use Rattle.cb_lanes.specs.LineStep.{job_on, LineStep, LinesLead, ObjectStep}
+use Rattle.cb_lanes.specs.LinesSoundly.{LinesLeadSoundly}
 use Rattle.cb_lanes.specs.LineAnswered.{LineAnswered}
 use Rattle.cb_lanes.specs.Lost.{loss_of, losses_of}
 use Rattle.cb_lanes.specs.Names.{Names, kept_number}
@@ -124,6 +125,11 @@ leads = (joined, joined, a_join, refl, refl)
 -- without lines the world stays
 no_line : LinesLead [] (empty_world small) [] joined → ⊥
 no_line is = omega (arith, ap (λ (v : WorldState). v.far.counts.turns) is)
+
+-- a line behind which the world is not sound does not lead soundly
+not_through_an_unsound_world : (before : List Answer) (a : Answer) (w new : WorldState)
+    → (IsSoundWorld new → ⊥) → LinesLeadSoundly before w (a ∷ []) new → ⊥
+not_through_an_unsound_world before a w new unsound x = unsound (subst IsSoundWorld (sym x.5) x.4)
 
 -- ---- a line that was answered
 

@@ -3,6 +3,7 @@ pub mod Names
 pub mod GivingBack
 pub mod LinesLeft
 pub mod LineStep
+pub mod LinesSoundly
 pub mod LineAnswered
 pub mod Scopes
 pub mod Held

@@ -9,6 +9,7 @@ ghost use Rattle.cb_lanes.specs.Asked.{answer_to, asked, HasLineReply};
 ghost use Rattle.cb_lanes.specs.Held.{HoldsAnswers};
 ghost use Rattle.cb_lanes.specs.LineAnswered.{LineAnswered};
 ghost use Rattle.cb_lanes.specs.LineStep.{LinesLead};
+ghost use Rattle.cb_lanes.specs.LinesSoundly.{LinesLeadSoundly};
 ghost use Rattle.cb_lanes.specs.LinesLeft.{AreLeft};
 ghost use Rattle.cb_lanes.specs.Lost.{loss_of, losses_of};
 ghost use Rattle.cb_lanes.specs.Names.{AreReady};
@@ -43,6 +44,8 @@ pub fn run_seq(alloc: Global, s: &Script) -> Result<SeqEnd, NoMemory>
     ensures legal { IfOk result (λ end. IsLegalInOrder 1 s.now.config.handles end.answers) }
     ensures answered { IfOk result (λ end. AllByRecursion HasLineReply end.answers) }
     ensures leads { IfOk result (λ end. LinesLead [] (empty_world s.now.config) end.answers end.world) }
+    ensures along { IfOk result (λ end.
+        LinesLeadSoundly [] (empty_world s.now.config) end.answers end.world) }
     ensures sound { IfOk result (λ end. IsSoundWorld end.world) }
     ensures holds { IfOk result (λ end. HoldsAnswers end.world end.answers) }
     ensures losses { IfOk result (λ end. end.losses ≡ losses_of end.answers) }

@@ -7,7 +7,7 @@ use Rattle.cb_model.proofs.Order.{legal_in_order}
 use Rattle.cb_lanes.specs.Asked.{asked}
 use Rattle.cb_lanes.proofs.Along.{Along, along_answered, along_ready, along_none, along_holds, lines_push, line_form, line_built}
 use Rattle.cb_lanes.specs.LinesLeft.{AreLeft, lanes_of}
-use Rattle.cb_lanes.proofs.ScopesKept.{line_known, fresh_by, lines_lanes, lines_own, leads_end, split_line, LeadsOn}
+use Rattle.cb_lanes.proofs.ScopesKept.{line_known, fresh_by, lines_lanes, lines_own, leads_end, split_line, LeadsOn, soundly_end}
 use Rattle.cb_world.specs.World.{empty_world}
 use Rattle.cb_lanes.specs.GivingBack.{lines_of}
 use Rattle.cb_lanes.specs.Names.{kept_number}
@@ -118,6 +118,14 @@ pub returns-clause-leads : goal.returns-clause-leads
 returns-clause-leads c =
     let past : length c.args.s.now.lines ≤ c.loop-line.line-index = search rules in
     leads_end [] c.loop-line.answers (empty_world c.args.s.now.config) c.loop-line.world
+    (subst (λ (ls : List Line). LeadsOn (lanes_of ls) [] (empty_world c.args.s.now.config) c.loop-line.answers
+    c.loop-line.world) (drop_all c.loop-line.line-index c.args.s.now.lines past)
+    c.loop-line.invariant.along.leads)
+
+pub returns-clause-along : goal.returns-clause-along
+returns-clause-along c =
+    let past : length c.args.s.now.lines ≤ c.loop-line.line-index = search rules in
+    soundly_end [] c.loop-line.answers (empty_world c.args.s.now.config) c.loop-line.world
     (subst (λ (ls : List Line). LeadsOn (lanes_of ls) [] (empty_world c.args.s.now.config) c.loop-line.answers
     c.loop-line.world) (drop_all c.loop-line.line-index c.args.s.now.lines past)
     c.loop-line.invariant.along.leads)

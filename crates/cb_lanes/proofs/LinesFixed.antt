@@ -1,0 +1,225 @@
+-- The lines of a script are answered in one way, and lead to one world.
+use Rattle.std.proofs.Common.{◌≡◌, ℕ, zero, suc, List, [], ◌∷◌, ◌++◌, length, map, reverse, Option, None, Some, refl, sym, ap, ◌∙◌, subst, arith}
+use Rattle.std.specs.List.{slice_get}
+use Rattle.cb_ptr.specs.Word.{len_of}
+use Rattle.cb_types.specs.declared.answer.Answer.{Answer}
+use Rattle.cb_types.specs.declared.job.Job.{Job}
+use Rattle.cb_types.specs.declared.job.Job.TheVariants as job
+use Rattle.cb_types.specs.declared.reply.Reply.{Reply}
+use Rattle.cb_types.specs.declared.reply.Reply.TheVariants as answer
+use Rattle.cb_types.specs.declared.request.Request.{Request}
+use Rattle.cb_types.specs.declared.request.Request.TheVariants.{Make, Read, Write, Free, Pin, Peek, Unpin, Filter, Evict, Begin, Ship, Commit, Abort, Rebuild, Crash, Join, Leave}
+use Rattle.cb_types.specs.Requests.{name_of}
+use Rattle.cb_script.specs.declared.script.Line.{Line}
+use Rattle.cb_model.specs.Called.{handle_named}
+use Rattle.cb_world.specs.declared.seats.Pin.{Pin as Held}
+use Rattle.cb_world.specs.Memory.{bytes_in}
+use Rattle.cb_world.specs.Seats.{IsNewest, pins_of_seat}
+use Rattle.cb_world.specs.StillWords.{contents_at}
+use Rattle.cb_world.specs.World.{WorldState, IsSoundWorld, word_at}
+use Rattle.cb_world.proofs.Apart.{some_same}
+use Rattle.cb_core.specs.declared.event.Atomic.TheVariants as atomic
+use Rattle.cb_core.specs.declared.event.Event.TheVariants as event
+use Rattle.cb_core.specs.declared.event.Event.TheVariants.{Turn}
+use Rattle.cb_core.specs.Pinning.{PinStep, scope_full, refused, taken}
+use Rattle.cb_core.specs.Step.{Leads}
+use Rattle.cb_core.proofs.StepFixed.{atomic_fixed, newest_fixed, step_fixes}
+use Rattle.cb_lanes.specs.Asked.{asked}
+use Rattle.cb_lanes.specs.GivingBack.{GivesAll, Rests, end_of, lines_of}
+use Rattle.cb_lanes.specs.LineStep.{CallStep, IsInReply, LinesLead, LineStep, ObjectStep, PeekStep, not_pinned, shown, PinEvent, PinLine, at_once, stays_far, swapped_in, SwapEvent, TurnStep, job_on}
+use Rattle.cb_lanes.specs.LinesSoundly.{LinesLeadSoundly}
+
+-- two replies and two worlds are one
+abbrev AreOne : Reply → Reply → WorldState → WorldState → Type 0
+AreOne r q a b = (r ≡ q) × (a ≡ b)
+
+-- ---- pins that are given back
+ends_fixed : (seat : ℕ) (pins : List Held) (rs qs : List Reply) (w a b : WorldState)
+    → Leads w (map (end_of seat) pins) rs a → Leads w (map (end_of seat) pins) qs b → a ≡ b
+ends_fixed seat [] [] [] w a b x y = x ∙ sym y
+ends_fixed seat [] [] (q ∷ qs) w a b x y = absurd y
+ends_fixed seat [] (r ∷ rs) qs w a b x y = absurd x
+ends_fixed seat (pin ∷ pins) [] qs w a b x y = absurd x
+ends_fixed seat (pin ∷ pins) (r ∷ rs) [] w a b x y = absurd y
+ends_fixed seat (pin ∷ pins) (r ∷ rs) (q ∷ qs) w a b x y =
+    let same = atomic_fixed seat (atomic.Unpin (record { n = pin.handle })) w x.0 y.0 r q x.1 y.1 in
+    ends_fixed seat pins rs qs y.0 a b
+    (subst (λ (v : WorldState). Leads v (map (end_of seat) pins) rs a) same.1 x.2) y.2
+
+all_fixed : (seat : ℕ) (w a b : WorldState) → GivesAll seat w a → GivesAll seat w b → a ≡ b
+all_fixed seat w a b x y = ends_fixed seat (reverse (pins_of_seat w.seats seat)) _ _ w a b x y
+
+rests_fixed : (left seat : ℕ) (w a b : WorldState) → Rests left seat w a → Rests left seat w b → a ≡ b
+rests_fixed zero seat w a b x y = all_fixed seat w a b x y
+rests_fixed (suc left) seat w a b x y = x ∙ sym y
+
+-- ---- a line on an object
+peek_fixed : (seat h : ℕ) (w a b : WorldState) (r q : Reply) → PeekStep seat h w r a
+    → PeekStep seat h w q b → AreOne r q a b
+peek_fixed seat h w a b r q (not_pinned n e s) (not_pinned m f t) = (e ∙ sym f, s ∙ sym t)
+peek_fixed seat h w a b r q (not_pinned n e s) (shown at x f t) =
+    absurd (n at x.pin x.there x.on)
+peek_fixed seat h w a b r q (shown at x e s) (not_pinned n f t) =
+    absurd (n at x.pin x.there x.on)
+peek_fixed seat h w a b r q (shown at x e s) (shown to y f t) =
+    let pins = pins_of_seat w.seats seat in
+    let same : x.pin ≡ y.pin = some_same x.pin y.pin
+    (sym x.there ∙ ap (λ (i : ℕ). slice_get pins i) (newest_fixed pins h at to x y) ∙ y.there) in (
+      e
+          ∙ ap (λ (pin : Held). answer.Bytes pin.version
+          (bytes_in (contents_at w.desk h) (len_of (word_at w.desk h)))) same
+          ∙ sym f,
+      s ∙ sym t,
+    )
+
+-- a pin of an object that is not here leaves the world
+full_not : answer.NotHere ≡ answer.ScopeFull → ⊥
+full_not e = cc
+
+version_not : (n : ℕ) → answer.NotHere ≡ answer.Version n → ⊥
+version_not n e = cc
+
+not_pinned_here : (seat h : ℕ) (w m : WorldState) → PinStep seat h w answer.NotHere m → m ≡ w
+not_pinned_here seat h w m (scope_full n e s) = absurd (full_not e)
+not_pinned_here seat h w m (refused n off e s) = s
+not_pinned_here seat h w m (taken n may e s) = absurd (version_not _ e)
+
+pin_event : (seat h : ℕ) (w a b : WorldState) (r q : Reply) → PinEvent seat h w r a
+    → PinEvent seat h w q b → AreOne r q a b
+pin_event seat h w a b r q x y = atomic_fixed seat (atomic.Pin (record { n = h })) w a b r q x y
+
+module _ (seat h : ℕ) (w a b : WorldState) (r q : Reply) (sound : IsSoundWorld w) where
+  -- a swap-in behind a pin of an object that is not here is one in this world
+  swap_event : (m n : WorldState) (p o : Reply) (c d : WorldState) → PinEvent seat h w answer.NotHere m
+      → PinEvent seat h w answer.NotHere n → SwapEvent seat h m p c → SwapEvent seat h n o d
+      → AreOne p o c d
+  swap_event m n p o c d e f x y =
+      step_fixes w c d (Turn seat (job.Swap (record { n = h }))) p o sound
+      (subst (λ (v : WorldState). SwapEvent seat h v p c) (not_pinned_here seat h w m e) x)
+      (subst (λ (v : WorldState). SwapEvent seat h v o d) (not_pinned_here seat h w n f) y)
+
+  pin_fixed : PinLine seat h w r a → PinLine seat h w q b → AreOne r q a b
+  pin_fixed (at_once e off) (at_once f on) = pin_event seat h w a b r q e f
+  pin_fixed (at_once e off) (stays_far n f y on) =
+      absurd (off (pin_event seat h w a n r answer.NotHere e f).0)
+  pin_fixed (at_once e off) (swapped_in n d o f y is z) =
+      absurd (off (pin_event seat h w a n r answer.NotHere e f).0)
+  pin_fixed (stays_far m e x off) (at_once f on) =
+      absurd (on (pin_event seat h w b m q answer.NotHere f e).0)
+  pin_fixed (swapped_in m c p e x is u) (at_once f on) =
+      absurd (on (pin_event seat h w b m q answer.NotHere f e).0)
+  pin_fixed (stays_far m e x off) (stays_far n f y on) = swap_event m n r q a b e f x y
+  pin_fixed (stays_far m e x off) (swapped_in n d o f y is z) =
+      absurd (off (subst IsInReply (sym (swap_event m n r o a d e f x y).0) is))
+  pin_fixed (swapped_in m c p e x is u) (stays_far n f y on) =
+      absurd (on (subst IsInReply (swap_event m n p q c b e f x y).0 is))
+  pin_fixed (swapped_in m c p e x is u) (swapped_in n d o f y also z) =
+      let same = swap_event m n p o c d e f x y in
+      pin_event seat h d a b r q (subst (λ (v : WorldState). PinEvent seat h v r a) same.1 u) z
+
+  turn_fixed : (j : Job) → TurnStep seat (Some j) w r a → TurnStep seat (Some j) w q b → AreOne r q a b
+  turn_fixed j x y = step_fixes w a b (Turn seat j) r q sound x y
+
+object_fixed : (seat : ℕ) (handle : Option ℕ) (request : Request) (w a b : WorldState) (r q : Reply)
+    → IsSoundWorld w → ObjectStep seat handle request w r a → ObjectStep seat handle request w q b
+    → AreOne r q a b
+object_fixed seat None request w a b r q sound x y = (x.0 ∙ sym y.0, x.1 ∙ sym y.1)
+object_fixed seat (Some h) (Pin name) w a b r q sound x y = pin_fixed seat h w a b r q sound x y
+object_fixed seat (Some h) (Peek name) w a b r q sound x y = peek_fixed seat h w a b r q x y
+object_fixed seat (Some h) (Unpin name) w a b r q sound x y =
+    atomic_fixed seat (atomic.Unpin (record { n = h })) w a b r q x y
+object_fixed seat (Some h) (Read name) w a b r q sound x y =
+    turn_fixed seat h w a b r q sound (job.Read (record { n = h })) x y
+object_fixed seat (Some h) (Write name at bytes) w a b r q sound x y =
+    turn_fixed seat h w a b r q sound (job.Write (record { n = h }) at bytes) x y
+object_fixed seat (Some h) (Free name) w a b r q sound x y =
+    turn_fixed seat h w a b r q sound (job.Free (record { n = h })) x y
+object_fixed seat (Some h) (Filter name) w a b r q sound x y =
+    turn_fixed seat h w a b r q sound (job.Filter (record { n = h })) x y
+object_fixed seat (Some h) request w a b r q sound x y = absurd x
+
+-- ---- a line
+-- A line has one reply, and leads from a sound world to one world.
+pub line_fixes : (seat : ℕ) (handle : Option ℕ) (request : Request) (w a b : WorldState) (r q : Reply)
+    → IsSoundWorld w → LineStep seat handle request w r a → LineStep seat handle request w q b
+    → AreOne r q a b
+line_fixes seat handle (Make name bytes) w a b r q sound x y =
+    step_fixes w a b (Turn seat (job.Make bytes)) r q sound x y
+line_fixes seat handle Evict w a b r q sound x y =
+    step_fixes w a b (Turn seat job.Evict) r q sound x y
+line_fixes seat handle Begin w a b r q sound x y =
+    step_fixes w a b (Turn seat job.Begin) r q sound x y
+line_fixes seat handle Ship w a b r q sound x y =
+    step_fixes w a b (Turn seat job.Ship) r q sound x y
+line_fixes seat handle Commit w a b r q sound x y =
+    step_fixes w a b (Turn seat job.Commit) r q sound x y
+line_fixes seat handle Abort w a b r q sound x y =
+    step_fixes w a b (Turn seat job.Abort) r q sound x y
+line_fixes seat handle Rebuild w a b r q sound x y =
+    step_fixes w a b (Turn seat job.Rebuild) r q sound x y
+line_fixes seat handle (Crash node) w a b r q sound x y =
+    step_fixes w a b (Turn seat (job.Crash node)) r q sound x y
+line_fixes seat handle (Join node) w a b r q sound x y =
+    step_fixes w a b (Turn seat (job.Join node)) r q sound x y
+line_fixes seat handle Leave w a b r q sound x y =
+    (x.0 ∙ sym y.0, all_fixed seat w a b x.1 y.1)
+line_fixes seat handle request w a b r q sound x y =
+    object_fixed seat handle request w a b r q sound x y
+
+-- ---- lines one after another
+-- a line as it was asked
+abbrev AskedStep : List Answer → Line → WorldState → Reply → WorldState → Type 0
+AskedStep before l w r new =
+    LineStep l.lane.n (handle_named before (name_of l.request)) l.request w r new
+
+lanes_asked : (answers : List Answer) → map (λ (a : Answer). a.lane.n) answers
+    ≡ map (λ (l : Line). l.lane.n) (map asked answers)
+lanes_asked [] = refl
+lanes_asked (a ∷ answers) = ap (λ (l : List ℕ). a.lane.n ∷ l) (lanes_asked answers)
+
+-- what remains once both lists begin with one answer
+heads_same : (l m : Line) (ls ms : List Line) → l ∷ ls ≡ m ∷ ms → (l ≡ m) × (ls ≡ ms)
+heads_same l m ls ms e = (ap (λ (xs : List Line). first xs) e, ap (λ (xs : List Line). later xs) e)
+  where
+    first : List Line → Line
+    first [] = l
+    first (x ∷ xs) = x
+
+    later : List Line → List Line
+    later [] = []
+    later (x ∷ xs) = xs
+
+pub lines_fix : (before : List Answer) (w a b : WorldState) (xs ys : List Answer) → IsSoundWorld w
+    → LinesLeadSoundly before w xs a → LinesLead before w ys b → map asked xs ≡ map asked ys
+    → (xs ≡ ys) × (a ≡ b)
+lines_fix before w a b [] [] sound x y lines = (refl, x ∙ sym y)
+lines_fix before w a b [] (d ∷ ys) sound x y lines =
+    absurd (let n : 0 ≡ suc (length (map asked ys)) = ap (λ (l : List Line). length l) lines in omega (arith, n))
+lines_fix before w a b (c ∷ xs) [] sound x y lines =
+    absurd (let n : suc (length (map asked xs)) ≡ 0 = ap (λ (l : List Line). length l) lines in omega (arith, n))
+lines_fix before w a b (c ∷ xs) (d ∷ ys) sound x y lines =
+    let split = heads_same (asked c) (asked d) (map asked xs) (map asked ys) lines in
+    let line = split.0 in
+    let done = line_fixes d.lane.n (handle_named before (name_of d.request)) d.request w x.0 y.0 c.reply
+    d.reply sound (subst (λ (l : Line). AskedStep before l w c.reply x.0) line x.2) y.2 in
+    let same : c ≡ d = λ i. record {
+      lane = (line i).lane;
+      line = (line i).line;
+      request = (line i).request;
+      reply = done.0 i;
+    } in
+    let lanes : map (λ (e : Answer). e.lane.n) xs ≡ map (λ (e : Answer). e.lane.n) ys = lanes_asked xs
+    ∙ ap (map (λ (l : Line). l.lane.n)) split.1 ∙ sym (lanes_asked ys) in
+    let left : lines_of c.lane.n (map (λ (e : Answer). e.lane.n) xs)
+    ≡ lines_of d.lane.n (map (λ (e : Answer). e.lane.n) ys) =
+    λ i. lines_of (same i).lane.n (lanes i) in
+    let rested = rests_fixed (lines_of d.lane.n (map (λ (e : Answer). e.lane.n) ys)) d.lane.n y.0 x.1 y.1
+    (subst (λ (v : WorldState). Rests (lines_of d.lane.n (map (λ (e : Answer). e.lane.n) ys)) d.lane.n v x.1)
+    done.1
+    (subst (λ (n : ℕ). Rests n d.lane.n x.0 x.1) left
+    (subst (λ (e : Answer). Rests (lines_of c.lane.n (map (λ (f : Answer). f.lane.n) xs)) e.lane.n x.0 x.1)
+    same x.3))) y.3 in
+    let rest = lines_fix (before ++ c ∷ []) x.1 a b xs ys x.4 x.5
+    (subst (λ (v : WorldState). LinesLead (before ++ c ∷ []) v ys b) (sym rested)
+    (subst (λ (e : Answer). LinesLead (before ++ e ∷ []) y.1 ys b) (sym same) y.4)) split.1 in
+    ((λ i. same i ∷ rest.0 i), rest.1)

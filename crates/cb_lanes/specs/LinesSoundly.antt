@@ -1,0 +1,16 @@
+-- The lines of a script lead from world to world, and each world between them is sound.
+use Rattle.std.specs.Prelude.{◌≡◌, List, [], ◌∷◌, ◌++◌, map}
+use Rattle.cb_types.specs.declared.answer.Answer.{Answer}
+use Rattle.cb_types.specs.Requests.{name_of}
+use Rattle.cb_model.specs.Called.{handle_named}
+use Rattle.cb_world.specs.World.{WorldState, IsSoundWorld}
+use Rattle.cb_lanes.specs.GivingBack.{Rests, lines_of}
+use Rattle.cb_lanes.specs.LineStep.{LineStep}
+
+-- as LinesLead, and the world behind each line is sound
+abbrev pub LinesLeadSoundly : List Answer → WorldState → List Answer → WorldState → Type 0
+LinesLeadSoundly before w [] new = new ≡ w
+LinesLeadSoundly before w (a ∷ after) new = (between : WorldState) × (rested : WorldState)
+    × LineStep a.lane.n (handle_named before (name_of a.request)) a.request w a.reply between
+    × Rests (lines_of a.lane.n (map (λ later. later.lane.n) after)) a.lane.n between rested
+    × IsSoundWorld rested × LinesLeadSoundly (before ++ a ∷ []) rested after new
