@@ -20,6 +20,7 @@ pub mod Survey
 pub mod FarState
 pub mod NodeChanges
 pub mod RowWords
+pub mod FrameWords
 pub mod SetWord
 pub mod Stored
 pub mod Fetched
