@@ -1,23 +1,10 @@
-ghost use Rattle.std.specs.Prelude.{◌≡◌, ◌+◌, ◌*◌, ◌^◌, ◌<◌, ◌≤◌, ◌++◌, All, length, take};
-ghost use Rattle.std.specs.Int.{to_le_bytes, w64};
+ghost use Rattle.std.specs.Prelude.{◌≡◌, ◌^◌, ◌<◌, All, length};
 ghost use Rattle.cb_gf256.specs.Rows.{HaveLength};
 ghost use Rattle.cb_types.specs.Config.{IsAccepted};
 ghost use Rattle.cb_evict.specs.Loading.{LoadsFrame, LoadsFrames};
 
 use cb_types::Rows;
 use cb_world::Desk;
-
-/// How many words of memory a frame has.
-const FRAME_WORDS: u32 = 512;
-
-/// Puts the eight bytes of a word into the row, as word `i` of it.
-fn put_word(into: &mut [u8], i: usize, word: u64)
-    requires within { 8 * i + 8 ≤ length into.old }
-    ensures word { take (8 * i + 8) into.new ≡ take (8 * i) into.old ++ to_le_bytes w64 word }
-    ensures sized { length into.new ≡ length into.old }
-{
-    into[8 * i..8 * i + 8].copy_from_slice(&word.to_le_bytes());
-}
 
 /// Reads the words of a frame into a row of 4,096 bytes, each word once.
 pub(crate) fn load_frame<D: Desk>(desk: &mut D, frame: u32, into: &mut [u8])
@@ -28,9 +15,7 @@ pub(crate) fn load_frame<D: Desk>(desk: &mut D, frame: u32, into: &mut [u8])
         into.new }
     ensures sized { length into.new ≡ 4096 }
 {
-    for i in 0..FRAME_WORDS {
-        put_word(into, i as usize, desk.load(FRAME_WORDS * frame + i));
-    }
+    desk.load_frame(frame, into);
 }
 
 /// Reads the words of the frames, each into the row at its place; rows have 4,096 bytes.

@@ -5,5 +5,6 @@
 mod node;
 mod nodes;
 mod row;
+mod spare;
 
 pub use nodes::{Nodes, PutAnswer};

@@ -66,11 +66,11 @@ impl Node {
         Ok(())
     }
 
-    /// Takes out the row under the key, if there is one.
-    pub fn remove(&mut self, key: u64)
+    /// Takes out the row under the key, and answers it, if there is one.
+    pub fn remove(&mut self, key: u64) -> Option<Row>
         ensures { self.new ≡ map.remove self.old key }
     {
-        self.rows.remove(&key);
+        self.rows.remove(&key)
     }
 
     /// Drops all rows.

@@ -6,6 +6,7 @@ ghost use Rattle.cb_node.specs.Delta.{with_delta, Names};
 
 use crate::node::Node;
 use crate::row::Row;
+use crate::spare::Spare;
 use cb_member::{NoMemory, NodeId, Shard};
 use std::alloc::Global;
 use std::marker::Model;
@@ -25,6 +26,8 @@ pub struct Nodes {
     room: u32,
     given: u64,
     nodes: Vec<Node>,
+    // No contract speaks of it: blocks that are used again.
+    spare: Spare,
 }
 
 impl Model for Nodes {
@@ -49,10 +52,12 @@ impl Nodes {
         for _ in 0..nodes {
             all.push(Node::new(alloc))?;
         }
+        let spare = Spare::new(alloc)?;
         Ok(Nodes {
             room,
             given: 0,
             nodes: all,
+            spare,
         })
     }
 
@@ -115,7 +120,7 @@ impl Nodes {
         if held == self.room {
             return Ok(PutAnswer::Full { held });
         }
-        let row = Row::copy_of(*self.nodes.allocator(), row)?;
+        let row = self.spare.copy_of(row)?;
         self.store(node, key, row)?;
         Ok(PutAnswer::Stored)
     }
@@ -240,7 +245,8 @@ impl Nodes {
         ensures count { length self.new.nodes ≡ length self.old.nodes }
         ensures valid { IsNodes self.new }
     {
-        self.nodes[usize::from(node.n)].remove(key);
+        let row = self.nodes[usize::from(node.n)].remove(key);
+        self.spare.keep(row);
     }
 
     /// Drops all rows at the node. Takes no memory.

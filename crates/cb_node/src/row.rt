@@ -71,6 +71,11 @@ impl Row {
         self.bytes.as_mut_slice().copy_from_slice(bytes);
     }
 
+    /// From where the block was taken.
+    pub fn allocator(&self) -> Global {
+        *self.bytes.allocator()
+    }
+
     /// The bytes of the row, in order.
     pub fn bytes(&self) -> &[u8]
         ensures { result.now ≡ self.now }

@@ -1,4 +1,3 @@
-pub mod RowReading
 pub mod RowStored
 pub mod OneBrought
 pub mod SlotNames

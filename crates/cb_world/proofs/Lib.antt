@@ -1,4 +1,6 @@
 mod Padded
+pub mod FrameCopied
+mod FrameRuns
 pub mod Grasping
 pub mod Windows
 pub mod Tracing

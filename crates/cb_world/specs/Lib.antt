@@ -22,6 +22,7 @@ pub mod Rooms
 pub mod Codes
 pub mod NodeChanges
 pub mod RowWords
+pub mod FrameWords
 pub mod SetWord
 pub mod Stored
 pub mod Fetched

@@ -9,6 +9,8 @@ ghost use Rattle.cb_world.specs.declared.shown.Shown.{Shown};
 ghost use Rattle.cb_world.specs.Shown.{Owns, IsHeld, object_at};
 ghost use Rattle.cb_world.specs.Settling.{MaySettle};
 ghost use Rattle.cb_world.specs.Played.{Agree, played};
+ghost use Rattle.cb_world.specs.RowWords.{words_in};
+ghost use Rattle.cb_world.specs.FrameWords.{OwnsWords, ReadsFrame, stores_from};
 
 use cb_types::{Config, Handle};
 
@@ -55,6 +57,13 @@ pub trait Desk {
         requires { place < 512 * (settings self.old).frames }
         ensures { run self.old (Loaded place result ∷ []) self.new };
 
+    /// Loads the words of a frame into a row of 4,096 bytes, each once and in order: eight bytes a word,
+    /// the first one lowest.
+    fn load_frame(&mut self, frame: u32, row: &mut [u8])
+        requires frame { frame < (settings self.old).frames }
+        requires row { length row.old ≡ 4096 }
+        ensures { ReadsFrame (λ es. run self.old es self.new) frame row.new };
+
     /// Claims the object, Raced exactly where its word is another than `saw`. The word `saw` is here
     /// and has no pins.
     fn claim(&mut self, h: Handle, saw: u64) -> Claim
@@ -71,6 +80,14 @@ pub trait Desk {
         requires place { place < 512 * (settings self.old).frames }
         requires owned { (s : Shown) × shows self.old s × Owns s place }
         ensures { run self.old (Stored place word ∷ []) self.new };
+
+    /// Stores the words of a row of 4,096 bytes in a frame whose words the caller owns, each once and in
+    /// order.
+    fn store_frame(&mut self, frame: u32, row: &[u8])
+        requires frame { frame < (settings self.old).frames }
+        requires row { length row.now ≡ 4096 }
+        requires owned { (s : Shown) × shows self.old s × OwnsWords s frame }
+        ensures { run self.old (stores_from (512 * frame) (words_in row.now)) self.new };
 
     /// Stores the version word of an object that the caller claims, or that is empty or far.
     fn store_version(&mut self, h: Handle, version: u64)

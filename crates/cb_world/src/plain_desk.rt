@@ -128,6 +128,10 @@ impl Desk for PlainDesk {
         self.memory.load(place)
     }
 
+    fn load_frame(&mut self, frame: u32, row: &mut [u8]) {
+        self.memory.load_frame(frame, row);
+    }
+
     fn claim(&mut self, h: Handle, saw: u64) -> Claim {
         let found = self.look(h);
         if found == saw {
@@ -140,6 +144,10 @@ impl Desk for PlainDesk {
 
     fn store(&mut self, place: u32, word: u64) {
         self.memory.store(place, word);
+    }
+
+    fn store_frame(&mut self, frame: u32, row: &[u8]) {
+        self.memory.store_frame(frame, row);
     }
 
     fn store_version(&mut self, h: Handle, version: u64) {

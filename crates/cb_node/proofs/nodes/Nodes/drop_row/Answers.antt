@@ -10,9 +10,9 @@ invariant_of-self c =
     let node = c.args.node in
     let read = rows_at-read old c.self.inside.nodes.items node c.from.result c.index_mut.result.now
     (ap (λ s. s.nodes) c.self.view_is) c.from.ensures c.requires c.index_mut.ensures.value in
-    kept_after_write _ old c.from.result node c.remove.new.self
+    kept_after_write _ old c.from.result node c.remove-row.new.self
     (map.remove (rows_at old node) c.args.key) c.self.view_is c.from.ensures
-    (c.remove.ensures ∙ ap (λ rows. map.remove rows c.args.key) read)
+    (c.remove-row.ensures ∙ ap (λ rows. map.remove rows c.args.key) read)
     (IsNodes-with_dropped old node c.args.key c.requires
     (subst IsNodes c.self.view_is c.self.invariant))
 
@@ -22,8 +22,8 @@ returns-clause-valid c =
     let node = c.args.node in
     let read = rows_at-read old c.self.inside.nodes.items node c.from.result c.index_mut.result.now
     (ap (λ s. s.nodes) c.self.view_is) c.from.ensures c.requires c.index_mut.ensures.value in
-    kept_after_write _ old c.from.result node c.remove.new.self
+    kept_after_write _ old c.from.result node c.remove-row.new.self
     (map.remove (rows_at old node) c.args.key) c.self.view_is c.from.ensures
-    (c.remove.ensures ∙ ap (λ rows. map.remove rows c.args.key) read)
+    (c.remove-row.ensures ∙ ap (λ rows. map.remove rows c.args.key) read)
     (IsNodes-with_dropped old node c.args.key c.requires
     (subst IsNodes c.self.view_is c.self.invariant))

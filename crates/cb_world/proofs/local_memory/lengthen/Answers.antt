@@ -1,7 +1,7 @@
 use Rattle.std.proofs.Common.{ℕ, ◌-◌, ◌++◌, take, replicate, ap, ◌∙◌, arith}
 use Rattle.cb_world.specs.LocalMemory.{padded}
 use Rattle.cb_world.proofs.Padded.{padded_longer}
-use Rattle.cb_world.proofs.local_memory.reach.Goals as goal
+use Rattle.cb_world.proofs.local_memory.lengthen.Goals as goal
 
 pub returns-clause-words : goal.returns-clause-words
 returns-clause-words c =

@@ -1,0 +1,29 @@
+-- The words of a frame, read or stored one after another.
+use Rattle.std.specs.Prelude.{◌≡◌, ℕ, ◌+◌, ◌*◌, ◌^◌, ◌<◌, ◌≤◌, List, [], ◌∷◌, length, All}
+use Rattle.cb_world.specs.declared.event.Event.{Event}
+use Rattle.cb_world.specs.declared.event.Event.TheVariants.{Loaded, Stored}
+use Rattle.cb_world.specs.declared.shown.Shown.{Shown}
+use Rattle.cb_world.specs.Shown.{Owns}
+use Rattle.cb_world.specs.RowWords.{row_of}
+
+-- these words were read, at the place p and those behind it
+abbrev pub loads_from : ℕ → List ℕ → List Event
+loads_from p [] = []
+loads_from p (w ∷ ws) = Loaded p w ∷ loads_from (p + 1) ws
+
+-- these words were stored, at the place p and those behind it
+abbrev pub stores_from : ℕ → List ℕ → List Event
+stores_from p [] = []
+stores_from p (w ∷ ws) = Stored p w ∷ stores_from (p + 1) ws
+
+-- the caller owns all words of the frame
+abbrev pub OwnsWords : Shown → ℕ → Type 0
+OwnsWords s f = (p : ℕ) → 512 * f ≤ p → p < 512 * f + 512 → Owns s p
+
+-- the words of the frame were read, each once, and make the row
+pub record ReadsFrame (runs : List Event → Type 0) (f : ℕ) (row : List ℕ) : Type 0 where
+  pub words : List ℕ
+  pub count : length words ≡ 512
+  pub small : All (λ w. w < 2 ^ 64) words
+  pub made : row ≡ row_of words
+  pub ran : runs (loads_from (512 * f) words)
