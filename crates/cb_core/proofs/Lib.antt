@@ -11,6 +11,8 @@ pub mod StillParts
 pub mod StillFilters
 pub mod StillRebuilds
 pub mod StillBatches
+pub mod StillReads
+pub mod ReadTurns
 pub mod StillTurns
 pub mod WorldKept
 pub mod PinsKept
@@ -44,3 +46,4 @@ pub mod TurnCallsPinned
 pub mod TurnCallsSound
 pub mod CallsBeside
 pub mod RunLegal
+pub mod WorkedReadTurns

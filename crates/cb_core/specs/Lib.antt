@@ -3,7 +3,9 @@ pub mod Pinning
 pub mod Jobs
 pub mod Parts
 pub mod Declining
+pub mod OnceHere
 pub mod Turned
+pub mod ReadTurn
 pub mod Room
 pub mod Step
 pub mod Events

@@ -7,6 +7,7 @@ mod declining;
 pub mod event;
 mod membership;
 mod pinning;
+pub mod reading;
 pub mod replies;
 mod room;
 pub mod running;
@@ -15,6 +16,7 @@ pub mod turning;
 
 pub use cb_types::Job;
 pub use event::{Atomic, Event};
+pub use reading::bring_to_read;
 pub use replies::Replies;
 pub use running::run;
 pub use stepping::step;
