@@ -46,4 +46,6 @@ pub mod TurnCallsPinned
 pub mod TurnCallsSound
 pub mod CallsBeside
 pub mod RunLegal
+pub mod PinnedStays
+pub mod WorkedUnmoved
 pub mod WorkedReadTurns

@@ -9,5 +9,6 @@ pub mod ReadTurn
 pub mod Room
 pub mod Step
 pub mod Events
+pub mod Unmoved
 pub mod Run
 pub mod Called
