@@ -48,4 +48,3 @@ pub mod CallsBeside
 pub mod RunLegal
 pub mod PinnedStays
 pub mod WorkedUnmoved
-pub mod WorkedReadTurns
