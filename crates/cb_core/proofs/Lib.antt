@@ -56,3 +56,4 @@ pub mod PartsFixed
 pub mod StepFixed
 pub mod PinnedStays
 pub mod WorkedUnmoved
+pub mod WorkedReadTurns
