@@ -16,7 +16,7 @@ use Rattle.cb_model.proofs.Order.{legal_in_order}
 use Rattle.cb_text.specs.Line.{text_of}
 use Rattle.cb_lanes.specs.Held.{HoldsAnswers}
 use Rattle.cb_lanes.specs.LineStep.{LinesLead}
-use Rattle.cb_lanes.specs.Lost.{losses_of}
+use Rattle.cb_lanes.specs.Lost.{AreInOrder, losses_of}
 use Rattle.cb_world.specs.Seats.{pins_of_seat}
 use Rattle.cb_world.specs.World.{WorldState, IsSoundWorld, empty_world}
 use Rattle.cb_app.specs.declared.ending.Ending.{Ending}
@@ -67,6 +67,7 @@ answered world there = record {
   sound = there.sound;
   holds = there.holds;
   losses = refl;
+  in_order = tt;
   scopes = (tt, (tt, tt));
   idle = there.idle;
 }
@@ -109,6 +110,10 @@ another_refusal world is = is.replies.1.0
 a_loss : (end : Ending) → losses_of end.answers ≡ [] → length end.losses ≡ 1
     → IsAnswered script end → ⊥
 a_loss end none one is = omega (arith, sym one ∙ ap length (is.losses ∙ none))
+
+-- the losses are not in the order of their epochs
+out_of_order : (end : Ending) → (AreInOrder end.losses → ⊥) → IsAnswered script end → ⊥
+out_of_order end off is = off is.in_order
 
 -- ---- the text, and the run
 

@@ -12,7 +12,7 @@ use Rattle.cb_model.specs.Legal.{IsLegalInOrder}
 use Rattle.cb_lanes.specs.Asked.{asked, HasLineReply}
 use Rattle.cb_lanes.specs.Held.{HoldsAnswers}
 use Rattle.cb_lanes.specs.LineStep.{LinesLead}
-use Rattle.cb_lanes.specs.Lost.{losses_of}
+use Rattle.cb_lanes.specs.Lost.{AreInOrder, losses_of}
 use Rattle.cb_lanes.specs.Scopes.{KeepScopes}
 use Rattle.cb_world.specs.Seats.{pins_of_seat}
 use Rattle.cb_world.specs.World.{WorldState, IsSoundWorld, empty_world}
@@ -35,8 +35,9 @@ pub record IsAnswered (script : Script) (end : Ending) : Type 0 where
   -- which is sound, and holds at each handle what the plain map has
   pub sound : IsSoundWorld world
   pub holds : HoldsAnswers world end.answers
-  -- the crashes that took place
+  -- the crashes that took place, in the order of their epochs
   pub losses : end.losses ≡ losses_of end.answers
+  pub in_order : AreInOrder end.losses
   -- each answer is as its lane's pins say, and at the end no lane has one
   pub scopes : KeepScopes [] end.answers
   pub idle : (seat : ℕ) → pins_of_seat world.seats seat ≡ []

@@ -21,7 +21,9 @@ pub mod TurnLeft
 pub mod Mapped
 pub mod WorldKept
 pub mod PinsKept
+pub mod PartsStay
 pub mod Settings
+pub mod Epochs
 pub mod WorkedPins
 pub mod WorkedMembership
 pub mod WorkedRoom

@@ -1,14 +1,12 @@
 -- No event changes the configuration.
-use Rattle.std.proofs.Common.{◌≡◌, ℕ, List, Option, None, Some, length, ap, ◌∙◌, inl, inr}
+use Rattle.std.proofs.Common.{◌≡◌, ℕ, List, length, ap, inl, inr}
+use Rattle.cb_types.specs.declared.config.Config.{Config}
 use Rattle.cb_types.specs.declared.job.Job.{Job}
 use Rattle.cb_types.specs.declared.job.Job.TheVariants.{Make, Read, Write, Free, Swap, Filter, Evict, Begin, Ship, Commit, Abort, Pair, Patch, Merge, Part, Compact, Rebuild, Crash, Join}
 use Rattle.cb_types.specs.declared.reply.Reply.{Reply}
-use Rattle.cb_types.specs.declared.reply.Reply.TheVariants as answer
 use Rattle.cb_world.specs.Plain.{Words}
 use Rattle.cb_world.specs.World.{WorldState}
 use Rattle.cb_mutate.specs.MakeStep.{IsMakeStep}
-use Rattle.cb_evict.specs.declared.eviction.Eviction.{Eviction}
-use Rattle.cb_evict.specs.declared.eviction.Eviction.TheVariants.{Refused, Set}
 use Rattle.cb_evict.specs.Eviction.{reply_of}
 use Rattle.cb_evict.specs.AbortStep.{no_batch as none_to_abort, given_up}
 use Rattle.cb_evict.specs.BeginStep.{is_leaving, few_spans, few_nodes, begins}
@@ -19,50 +17,29 @@ use Rattle.cb_swapin.proofs.SwapKeeps.{settings_stay}
 use Rattle.cb_core.specs.declared.event.Atomic.TheVariants.{Load, Pin, Unpin}
 use Rattle.cb_core.specs.declared.event.Event.{Event}
 use Rattle.cb_core.specs.declared.event.Event.TheVariants as event
-use Rattle.cb_core.specs.Parts.{Holding, NeverDeclined, WithRoom, at_once, no_room, won, WhereItIs, near, declined, stays_far, brought, BringsIn, not_far, was_far, after, far}
+use Rattle.cb_core.specs.Parts.{Holding, NeverDeclined}
 use Rattle.cb_core.specs.Pinning.{PinStep, scope_full, refused, taken, UnpinStep, not_pinned, given}
 use Rattle.cb_core.specs.Step.{StillMake, StillRead, StillWrite, StillFree, StillFind, StillDecline, StillEvict, StillRoom, StillSwap, StillBring, StillFilter, StillBegin, StillShip, StillCommit, StillAbort, StillWorks, TurnStep, worn, done, Step}
 use Rattle.cb_core.specs.Turned.{counted}
 use Rattle.cb_core.proofs.Changes.{read_leaves, write_leaves, free_leaves}
+use Rattle.cb_core.proofs.PartsStay.{Leaves, room_same, where_same, brings_same}
 
 -- the two have the same configuration
 abbrev Same : Holding Words → Holding Words → Type 0
 Same a b = b.desk.settings ≡ a.desk.settings
 
+abbrev settings_of : Holding Words → Config
+settings_of a = a.desk.settings
+
 -- so it is with all that is done by P
 abbrev Stay : {A : Type 0} → (Holding Words → A → Holding Words → Type 0) → Type 0
-Stay {A = A} P = (a b : Holding Words) (r : A) → P a r b → Same a b
+Stay P = Leaves settings_of P
 
 same_as : (a b : Holding Words) → b ≡ a → Same a b
 same_as a b e = ap (λ (d : Holding Words). d.desk.settings) e
 
 words_same : (a b : Holding Words) → b.desk ≡ a.desk → Same a b
 words_same a b e = ap (λ (x : Words). x.settings) e
-
--- ---- the parts one after another
-room_same : (n : ℕ) (P : Holding Words → Reply → Holding Words → Type 0)
-    (E : Holding Words → Eviction → Holding Words → Type 0) → Stay P → Stay E → Stay (WithRoom n P E)
-room_same n P E p e a b r (at_once o off) = p a b r o
-room_same n P E p e a b r (no_room m why loose nodes o v is) =
-    e m b (Refused why loose nodes) v ∙ p a m answer.NoFrame o
-room_same n P E p e a b r (won m k id o v again off) =
-    p k b r again ∙ e m k (Set id) v ∙ p a m answer.NoFrame o
-
-where_same : (P : Holding Words → Reply → Holding Words → Type 0)
-    (L : Holding Words → Option Reply → Holding Words → Type 0)
-    (E : Holding Words → Reply → Holding Words → Type 0) → Stay P → Stay L → Stay E
-    → Stay (WhereItIs P L E)
-where_same P L E p l e a b r (near o off) = p a b r o
-where_same P L E p l e a b r (declined m o d) = l m b (Some r) d ∙ p a m answer.NotHere o
-where_same P L E p l e a b r (stays_far m n o d v off) =
-    e n b r v ∙ l m n None d ∙ p a m answer.NotHere o
-where_same P L E p l e a b r (brought m n q f o d v again) =
-    p q b r again ∙ e n q (answer.Swapped f) v ∙ l m n None d ∙ p a m answer.NotHere o
-
-brings_same : (P E : Holding Words → Reply → Holding Words → Type 0) → Stay P → Stay E
-    → Stay (BringsIn P E)
-brings_same P E p e a b r (not_far o off) = p a b r o
-brings_same P E p e a b r (was_far m o v) = e m b r v ∙ p a m answer.NotHere o
 
 -- ---- each part
 make_same : (bytes : List ℕ) → Stay (StillMake bytes)
@@ -112,7 +89,7 @@ swap_same h a b r (home, at, step, hold) =
     settings_stay a.desk b.desk a.far b.far home.set home.position r step
 
 bring_same : (h : ℕ) → Stay (StillBring h)
-bring_same h a b r step = room_same a.desk.settings.frames (StillSwap h) StillRoom (swap_same h)
+bring_same h a b r step = room_same settings_of a.desk.settings.frames (StillSwap h) StillRoom (swap_same h)
     room_won_same a b r step
 
 filter_same : (h : ℕ) → Stay (StillFilter h)
@@ -142,14 +119,14 @@ abort_same a b r (given_up g back, hold) = back.settings
 -- ---- a job, and one that found no memory
 works_settings : (job : Job) (a b : Holding Words) (r : Reply) → StillWorks job a r b → Same a b
 works_settings (Make bytes) a b r step =
-    room_same a.desk.settings.frames (StillMake bytes) StillRoom (make_same bytes) room_won_same a b r step
-works_settings (Read handle) a b r step = where_same (StillRead handle.n) NeverDeclined
+    room_same settings_of a.desk.settings.frames (StillMake bytes) StillRoom (make_same bytes) room_won_same a b r step
+works_settings (Read handle) a b r step = where_same settings_of (StillRead handle.n) NeverDeclined
     (StillBring handle.n) (read_same handle.n) never_same (bring_same handle.n) a b r step
-works_settings (Write handle at bytes) a b r step = where_same (StillWrite handle.n at bytes)
+works_settings (Write handle at bytes) a b r step = where_same settings_of (StillWrite handle.n at bytes)
     (StillDecline handle.n at (length bytes)) (StillBring handle.n) (write_same handle.n at bytes)
     (decline_same handle.n at (length bytes)) (bring_same handle.n) a b r step
 works_settings (Free handle) a b r step = free_same handle.n a b r step
-works_settings (Swap handle) a b r step = brings_same (StillFind handle.n) (StillBring handle.n)
+works_settings (Swap handle) a b r step = brings_same settings_of (StillFind handle.n) (StillBring handle.n)
     (find_same handle.n) (bring_same handle.n) a b r step
 works_settings Evict a b r step = evict_same a b r step
 works_settings Begin a b r step = begin_same a b r step

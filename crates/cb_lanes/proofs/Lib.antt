@@ -13,5 +13,6 @@ pub mod Scoping
 pub mod ScopesKept
 pub mod Along
 pub mod LinesFixed
+pub mod LossOrder
 pub mod WorkedLines
 pub mod WorkedPins

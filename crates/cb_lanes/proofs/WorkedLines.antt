@@ -1,5 +1,6 @@
 -- Worked examples: the losses of answers, the replies that lines may have, and the steps of lines.
 use Rattle.std.proofs.Common.{◌≡◌, ℕ, ◌+◌, List, [], ◌∷◌, Option, Some, None, refl, sym, ap, ◌∙◌, subst, arith}
+use Rattle.cb_member.specs.declared.names.Loss.{Loss}
 use Rattle.cb_types.specs.declared.answer.Answer.{Answer}
 use Rattle.cb_types.specs.declared.config.Config.{Config}
 use Rattle.cb_types.specs.declared.job.Job.TheVariants as job
@@ -17,7 +18,7 @@ use Rattle.cb_lanes.specs.Asked.{HasLineReply}
 use Rattle.cb_lanes.specs.LineStep.{job_on, LineStep, LinesLead, ObjectStep}
 use Rattle.cb_lanes.specs.LinesSoundly.{LinesLeadSoundly}
 use Rattle.cb_lanes.specs.LineAnswered.{LineAnswered}
-use Rattle.cb_lanes.specs.Lost.{loss_of, losses_of}
+use Rattle.cb_lanes.specs.Lost.{AreInOrder, loss_of, losses_of}
 use Rattle.cb_lanes.specs.Names.{Names, kept_number}
 
 abbrev answer : Request → Reply → Answer
@@ -36,6 +37,23 @@ pub two_crashes : losses_of (crash 3 (epoch 1) ∷ answer (Join (record { n = 3 
     ≡ record { node = record { n = 3 }; epoch = record { n = 1 } }
     ∷ record { node = record { n = 3 }; epoch = record { n = 3 } } ∷ []
 two_crashes = refl
+
+abbrev loss : ℕ → Loss
+loss n = record { node = record { n = 3 }; epoch = record { n = n } }
+
+ascending : AreInOrder (loss 1 ∷ loss 3 ∷ [])
+ascending = ((omega arith, tt), (tt, tt))
+
+-- the later of them first, and one epoch twice
+falling : AreInOrder (loss 3 ∷ loss 1 ∷ []) → ⊥
+falling is = let e = is.0.0 in omega (arith, e)
+
+twice : AreInOrder (loss 3 ∷ loss 3 ∷ []) → ⊥
+twice is = let e = is.0.0 in omega (arith, e)
+
+-- the last two, behind one that is before both
+falling_last : AreInOrder (loss 1 ∷ loss 3 ∷ loss 2 ∷ []) → ⊥
+falling_last is = let e = is.1.0.0 in omega (arith, e)
 
 a_join_loses_nothing : loss_of (Join (record { n = 3 })) (epoch 2) ≡ None
 a_join_loses_nothing = refl

@@ -1,6 +1,6 @@
 -- The losses of a run.
-use Rattle.std.specs.Prelude.{List, Option, None, Some}
-use Rattle.std.specs.List.{filter_map}
+use Rattle.std.specs.Prelude.{◌<◌, List, [], ◌∷◌, Option, None, Some}
+use Rattle.std.specs.List.{AllByRecursion, filter_map}
 use Rattle.cb_member.specs.declared.names.Loss.{Loss}
 use Rattle.cb_types.specs.declared.answer.Answer.{Answer}
 use Rattle.cb_types.specs.declared.request.Request.{Request}
@@ -16,3 +16,9 @@ loss_of request reply = None
 -- the crashes that took place, in the order of the answers
 abbrev pub losses_of : List Answer → List Loss
 losses_of answers = filter_map (λ a. loss_of a.request a.reply) answers
+
+-- each loss has an earlier epoch than all behind it
+abbrev pub AreInOrder : List Loss → Type 0
+AreInOrder [] = Unit {0}
+AreInOrder (loss ∷ later) =
+    AllByRecursion (λ next. loss.epoch.n < next.epoch.n) later × AreInOrder later

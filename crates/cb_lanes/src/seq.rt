@@ -11,7 +11,7 @@ ghost use Rattle.cb_lanes.specs.LineAnswered.{LineAnswered};
 ghost use Rattle.cb_lanes.specs.LineStep.{LinesLead};
 ghost use Rattle.cb_lanes.specs.LinesSoundly.{LinesLeadSoundly};
 ghost use Rattle.cb_lanes.specs.LinesLeft.{AreLeft};
-ghost use Rattle.cb_lanes.specs.Lost.{loss_of, losses_of};
+ghost use Rattle.cb_lanes.specs.Lost.{AreInOrder, loss_of, losses_of};
 ghost use Rattle.cb_lanes.specs.Names.{AreReady};
 ghost use Rattle.cb_lanes.specs.Scopes.{KeepScopes};
 
@@ -28,7 +28,7 @@ use std::collections::BTreeMap;
 pub struct SeqEnd {
     /// The answers, one for each line behind the header, in order.
     pub answers: Answers,
-    /// The crashes that took place.
+    /// The crashes that took place, in the order of their epochs.
     pub losses: Losses,
     /// The world that the lines led to.
     pub world: World,
@@ -49,6 +49,7 @@ pub fn run_seq(alloc: Global, s: &Script) -> Result<SeqEnd, NoMemory>
     ensures sound { IfOk result (λ end. IsSoundWorld end.world) }
     ensures holds { IfOk result (λ end. HoldsAnswers end.world end.answers) }
     ensures losses { IfOk result (λ end. end.losses ≡ losses_of end.answers) }
+    ensures in_order { IfOk result (λ end. AreInOrder end.losses) }
     ensures scopes { IfOk result (λ end. KeepScopes [] end.answers) }
     ensures idle { IfOk result (λ end. (seat : ℕ) → pins_of_seat end.world.seats seat ≡ []) }
 {

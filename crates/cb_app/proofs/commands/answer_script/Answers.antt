@@ -20,6 +20,7 @@ returns-clause-answered c =
         sound = told.sound;
         holds = told.holds;
         losses = told.losses;
+        in_order = told.in_order;
         scopes = told.scopes;
         idle = told.idle;
       },

@@ -10,6 +10,8 @@ use Rattle.cb_lanes.specs.LinesLeft.{AreLeft, lanes_of}
 use Rattle.cb_lanes.proofs.ScopesKept.{line_known, fresh_by, lines_lanes, lines_own, leads_end, split_line, LeadsOn, soundly_end}
 use Rattle.cb_world.specs.World.{empty_world}
 use Rattle.cb_lanes.specs.GivingBack.{lines_of}
+use Rattle.cb_lanes.specs.Lost.{AreInOrder}
+use Rattle.cb_lanes.proofs.LossOrder.{losses_in_order}
 use Rattle.cb_lanes.specs.Names.{kept_number}
 use Rattle.cb_lanes.proofs.seq.run_seq.Goals as goal
 
@@ -139,6 +141,11 @@ returns-clause-holds c = along_holds c.args.s.now.config _ c.loop-line.answers c
 
 pub returns-clause-losses : goal.returns-clause-losses
 returns-clause-losses c = c.from.ensures ∙ c.loop-line.invariant.losses
+
+pub returns-clause-in_order : goal.returns-clause-in_order
+returns-clause-in_order c = subst AreInOrder (sym (returns-clause-losses c))
+    (losses_in_order c.loop-line.answers (empty_world c.args.s.now.config) c.loop-line.world
+    (returns-clause-leads c))
 
 pub returns-clause-scopes : goal.returns-clause-scopes
 returns-clause-scopes c = c.loop-line.invariant.along.keep

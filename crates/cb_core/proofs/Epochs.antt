@@ -1,0 +1,242 @@
+-- No event makes the epoch fall: a crash and a join that take place begin the next one, and all else
+-- leaves the members as they are.
+use Rattle.std.proofs.Common.{◌≡◌, ℕ, ◌+◌, ◌≤◌, List, [], ◌∷◌, length, ap, arith, inl, inr}
+use Rattle.cb_member.specs.declared.names.NodeId.{NodeId}
+use Rattle.cb_member.specs.Membership.{Membership}
+use Rattle.cb_ptr.specs.declared.word.State.{State}
+use Rattle.cb_ptr.specs.declared.word.State.TheVariants as state
+use Rattle.cb_ptr.specs.Word.{state_of}
+use Rattle.cb_types.specs.declared.job.Job.{Job}
+use Rattle.cb_types.specs.declared.job.Job.TheVariants.{Make, Read, Write, Free, Swap, Filter, Evict, Begin, Ship, Commit, Abort, Pair, Patch, Merge, Part, Compact, Rebuild, Crash, Join}
+use Rattle.cb_types.specs.declared.reply.Reply.{Reply}
+use Rattle.cb_world.specs.FarState.{FarState}
+use Rattle.cb_world.specs.Plain.{Words}
+use Rattle.cb_world.specs.World.{WorldState, word_at}
+use Rattle.cb_mutate.specs.FreeRule.{LeavesPlace}
+use Rattle.cb_mutate.specs.MakeStep.{IsMakeStep}
+use Rattle.cb_evict.specs.Eviction.{reply_of}
+use Rattle.cb_evict.specs.AbortStep.{no_batch as none_to_abort, given_up}
+use Rattle.cb_evict.specs.BeginStep.{is_leaving, few_spans, few_nodes, begins}
+use Rattle.cb_evict.specs.CommitStep.{no_batch as none_to_commit, short, committed}
+use Rattle.cb_evict.specs.EvictStep.{IsEvictStep, few_spans as few_loose, few_nodes as few_roomy, made}
+use Rattle.cb_filter.specs.FilterStep.{refused as refuses, cools, without_slot, moves}
+use Rattle.cb_rebuild.specs.RebuildStep.{RebuildStep, Restores, surveyed}
+use Rattle.cb_set.specs.SetState.{SetState}
+use Rattle.cb_swapin.proofs.SwapKeeps.{step_cases, swapped_kept}
+use Rattle.cb_core.specs.declared.event.Atomic.TheVariants.{Load, Pin, Unpin}
+use Rattle.cb_core.specs.declared.event.Event.{Event}
+use Rattle.cb_core.specs.declared.event.Event.TheVariants as event
+use Rattle.cb_core.specs.Membership.{CrashTurn, crashed, is_down, JoinTurn, joined, is_up}
+use Rattle.cb_core.specs.Parts.{Holding, NeverDeclined}
+use Rattle.cb_core.specs.Pinning.{PinStep, scope_full, refused, taken, UnpinStep, not_pinned, given}
+use Rattle.cb_core.specs.Step.{Leads, StillMake, StillRead, StillWrite, StillFree, StillFind, StillDecline, StillEvict, StillRoom, StillSwap, StillBring, StillFilter, StillBegin, StillShip, StillCommit, StillAbort, StillRebuild, StillWorks, TurnStep, worn, done, Step}
+use Rattle.cb_core.specs.Turned.{counted}
+use Rattle.cb_core.proofs.Changes.{free_leaves}
+use Rattle.cb_core.proofs.PartsStay.{Leaves, room_same, where_same, brings_same}
+
+abbrev members_of : Holding Words → Membership
+members_of a = a.far.members
+
+-- all that is done by P leaves the members
+abbrev Stay : {A : Type 0} → (Holding Words → A → Holding Words → Type 0) → Type 0
+Stay P = Leaves members_of P
+
+far_same : (a b : Holding Words) → b.far ≡ a.far → members_of b ≡ members_of a
+far_same a b e = ap (λ (f : FarState). f.members) e
+
+same_as : (a b : Holding Words) → b ≡ a → members_of b ≡ members_of a
+same_as a b e = ap members_of e
+
+-- ---- each part
+make_same : (bytes : List ℕ) → Stay (StillMake bytes)
+make_same bytes a b r step = go step
+  where
+    go : IsMakeStep a.desk b.desk a.far b.far bytes r → members_of b ≡ members_of a
+    go (inl (all, reply, e, same)) = far_same a b same
+    go (inr (more, inl (crammed, reply, e, same))) = far_same a b same
+    go (inr (more, inr (reply, z))) = ap (λ (f : FarState). f.members) z.state
+
+read_same : (h : ℕ) → Stay (StillRead h)
+read_same h a b r step = far_same a b step.1
+
+write_same : (h at : ℕ) (bytes : List ℕ) → Stay (StillWrite h at bytes)
+write_same h at bytes a b r step = far_same a b step.1
+
+place_same : (q : State) (far new : FarState) (h : ℕ) → LeavesPlace q far new h
+    → new.members ≡ far.members
+place_same state.Here far new h z = ap (λ (f : FarState). f.members) z.left
+place_same state.Far far new h z = ap (λ (f : FarState). f.members) z.left
+place_same state.Empty far new h z = absurd z
+place_same state.Moving far new h z = absurd z
+
+free_same : (h : ℕ) → Stay (StillFree h)
+free_same h a b r step = elim (free_leaves a.desk b.desk a.far b.far h r step) [
+  | inl e ↦ far_same a b e.1
+  | inr e ↦ place_same (state_of (word_at a.desk h)) a.far b.far h e.1.1.leaves
+]
+
+find_same : (h : ℕ) → Stay (StillFind h)
+find_same h a b r step = same_as a b step.1
+
+never_same : Stay NeverDeclined
+never_same a b r step = same_as a b step.1
+
+decline_same : (h at count : ℕ) → Stay (StillDecline h at count)
+decline_same h at count a b r step = same_as a b step.1
+
+evicted_same : (a b : Holding Words) (r : Reply) → IsEvictStep a.desk b.desk a.far b.far r
+    → members_of b ≡ members_of a
+evicted_same a b r (few_loose few same) = far_same a b few.state
+evicted_same a b r (few_roomy few same) = far_same a b few.state
+evicted_same a b r (made m) = ap (λ (f : FarState). f.members) m.evicted.state
+
+evict_same : Stay StillEvict
+evict_same a b r step = evicted_same a b r step.0
+
+room_won_same : Stay StillRoom
+room_won_same a b e step = evicted_same a b (reply_of e) step.0.step
+
+swap_same : (h : ℕ) → Stay (StillSwap h)
+swap_same h a b r (home, at, step, hold) =
+    step_cases (members_of b ≡ members_of a) a.desk b.desk a.far b.far home.set home.position r step
+    (λ same. far_same a b same.1)
+    (λ f whole least e w.
+    (swapped_kept a.far b.far home.set home.position step.set f w.state).members)
+
+bring_same : (h : ℕ) → Stay (StillBring h)
+bring_same h a b r step = room_same members_of a.desk.settings.frames (StillSwap h) StillRoom
+    (swap_same h) room_won_same a b r step
+
+filter_same : (h : ℕ) → Stay (StillFilter h)
+filter_same h a b r (refuses why same state, hold) = far_same a b state
+filter_same h a b r (cools seat is place same, hold) = far_same a b place.state
+filter_same h a b r (without_slot seat is none same, hold) = far_same a b none.state
+filter_same h a b r (moves seat slot is gets same, hold) = ap (λ (f : FarState). f.members) gets.state
+
+begin_same : Stay StillBegin
+begin_same a b r (is_leaving batch there reply state same, hold) = far_same a b state
+begin_same a b r (few_spans none few same, hold) = far_same a b few.state
+begin_same a b r (few_nodes none few same, hold) = far_same a b few.state
+begin_same a b r (begins m, hold) = ap (λ (f : FarState). f.members) m.begun.state
+
+ship_same : Stay StillShip
+ship_same a b r (step, hold) = elim step.ships [
+  | inl z ↦ far_same a b z.state
+  | inr (inl z) ↦ far_same a b z.state
+  | inr (inr (inl z)) ↦ far_same a b z.state
+  | inr (inr (inr z)) ↦ ap (λ (f : FarState). f.members) z.state
+]
+
+commit_same : Stay StillCommit
+commit_same a b r (none_to_commit n same, hold) = far_same a b n.state
+commit_same a b r (short z same, hold) = far_same a b z.state
+commit_same a b r (committed c away, hold) = ap (λ (f : FarState). f.members) c.state
+
+abort_same : Stay StillAbort
+abort_same a b r (none_to_abort n same, hold) = far_same a b n.state
+abort_same a b r (given_up g back, hold) = ap (λ (f : FarState). f.members) g.state
+
+rebuild_same : Stay StillRebuild
+rebuild_same a b r (same, step, hold) = by step
+  where
+    restored : (id : ℕ) → (set : SetState) → Restores (surveyed a.far id) id set b.far r
+        → members_of b ≡ members_of a
+    restored id set (inl z) = ap (λ (f : FarState). f.members) z.same
+    restored id set (inr z) = ap (λ (f : FarState). f.members) z.state
+
+    by : RebuildStep a.far b.far r → members_of b ≡ members_of a
+    by (inl none) = ap (λ (f : FarState). f.members) none.state
+    by (inr z) = restored z.id z.set z.restores
+
+-- ---- a job
+-- the epoch did not fall
+abbrev Rises : FarState → FarState → Type 0
+Rises far new = far.members.epoch ≤ new.members.epoch
+
+rises_by : (far new : FarState) → new.members ≡ far.members → Rises far new
+rises_by far new same = let e = ap (λ (m : Membership). m.epoch) same in omega (arith, e)
+
+rises_one : (far new : FarState) → new.members.epoch ≡ far.members.epoch + 1 → Rises far new
+rises_one far new e = omega (arith, e)
+
+crash_rises : (a b : Holding Words) (r : Reply) (node : NodeId) → CrashTurn node a.far r b.far
+    → Rises a.far b.far
+crash_rises a b r node (crashed up reply state) =
+    rises_one a.far b.far (ap (λ (f : FarState). f.members.epoch) state)
+crash_rises a b r node (is_down down reply state) = rises_by a.far b.far (far_same a b state)
+
+join_rises : (a b : Holding Words) (r : Reply) (node : NodeId) → JoinTurn node a.far r b.far
+    → Rises a.far b.far
+join_rises a b r node (joined down reply state) =
+    rises_one a.far b.far (ap (λ (f : FarState). f.members.epoch) state)
+join_rises a b r node (is_up up reply state) = rises_by a.far b.far (far_same a b state)
+
+works_rises : (job : Job) (a b : Holding Words) (r : Reply) → StillWorks job a r b
+    → Rises a.far b.far
+works_rises (Make bytes) a b r step = rises_by a.far b.far (room_same members_of a.desk.settings.frames
+    (StillMake bytes) StillRoom (make_same bytes) room_won_same a b r step)
+works_rises (Read handle) a b r step = rises_by a.far b.far (where_same members_of (StillRead handle.n)
+    NeverDeclined (StillBring handle.n) (read_same handle.n) never_same (bring_same handle.n) a b r step)
+works_rises (Write handle at bytes) a b r step = rises_by a.far b.far (where_same members_of
+    (StillWrite handle.n at bytes) (StillDecline handle.n at (length bytes)) (StillBring handle.n)
+    (write_same handle.n at bytes) (decline_same handle.n at (length bytes)) (bring_same handle.n) a b r
+    step)
+works_rises (Free handle) a b r step = rises_by a.far b.far (free_same handle.n a b r step)
+works_rises (Swap handle) a b r step = rises_by a.far b.far (brings_same members_of (StillFind handle.n)
+    (StillBring handle.n) (find_same handle.n) (bring_same handle.n) a b r step)
+works_rises (Filter handle) a b r step = rises_by a.far b.far (filter_same handle.n a b r step)
+works_rises Evict a b r step = rises_by a.far b.far (evict_same a b r step)
+works_rises Begin a b r step = rises_by a.far b.far (begin_same a b r step)
+works_rises Ship a b r step = rises_by a.far b.far (ship_same a b r step)
+works_rises Commit a b r step = rises_by a.far b.far (commit_same a b r step)
+works_rises Abort a b r step = rises_by a.far b.far (abort_same a b r step)
+works_rises Rebuild a b r step = rises_by a.far b.far (rebuild_same a b r step)
+works_rises (Crash node) a b r step = crash_rises a b r node step.1
+works_rises (Join node) a b r step = join_rises a b r node step.1
+works_rises Pair a b r step = absurd step
+works_rises Patch a b r step = absurd step
+works_rises Merge a b r step = absurd step
+works_rises Part a b r step = absurd step
+works_rises Compact a b r step = absurd step
+
+-- ---- events
+turn_rises : (w new : WorldState) (job : Job) (r : Reply) → TurnStep job w r new
+    → Rises w.far new.far
+turn_rises w new job r (worn end reply same) =
+    rises_by w.far new.far (ap (λ (v : WorldState). v.far.members) same)
+turn_rises w new job r (done few works seats) =
+    works_rises job (record { desk = w.desk; far = counted w.far job })
+    (record { desk = new.desk; far = new.far }) r works
+
+pin_far : (w new : WorldState) (seat h : ℕ) (r : Reply) → PinStep seat h w r new → new.far ≡ w.far
+pin_far w new seat h r (scope_full full reply same) = ap (λ (v : WorldState). v.far) same
+pin_far w new seat h r (refused room not reply same) = ap (λ (v : WorldState). v.far) same
+pin_far w new seat h r (taken room may reply t) = t.far
+
+unpin_far : (w new : WorldState) (seat h : ℕ) (r : Reply) → UnpinStep seat h w r new
+    → new.far ≡ w.far
+unpin_far w new seat h r (not_pinned none reply same) = ap (λ (v : WorldState). v.far) same
+unpin_far w new seat h r (given reply t) = t.far
+
+same_rises : (w new : WorldState) → new.far ≡ w.far → Rises w.far new.far
+same_rises w new e = rises_by w.far new.far (ap (λ (f : FarState). f.members) e)
+
+pub step_rises : (w new : WorldState) (e : Event) (r : Reply) → Step w e r new
+    → w.far.members.epoch ≤ new.far.members.epoch
+step_rises w new (event.Turn seat job) r step = turn_rises w new job r step
+step_rises w new (event.Step seat (Load handle)) r step =
+    same_rises w new (ap (λ (v : WorldState). v.far) step.1)
+step_rises w new (event.Step seat (Pin handle)) r step =
+    same_rises w new (pin_far w new seat handle.n r step)
+step_rises w new (event.Step seat (Unpin handle)) r step =
+    same_rises w new (unpin_far w new seat handle.n r step)
+
+-- events one after another
+pub lead_rises : (w new : WorldState) (events : List Event) (replies : List Reply)
+    → Leads w events replies new → w.far.members.epoch ≤ new.far.members.epoch
+lead_rises w new [] [] leads = same_rises w new (ap (λ (v : WorldState). v.far) leads)
+lead_rises w new [] (r ∷ rs) leads = absurd leads
+lead_rises w new (e ∷ es) [] leads = absurd leads
+lead_rises w new (e ∷ es) (r ∷ rs) (between, step, rest) =
+    let one = step_rises w between e r step in let more = lead_rises between new es rs rest in
+    omega (arith, one, more)

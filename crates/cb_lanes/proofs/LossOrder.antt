@@ -1,0 +1,165 @@
+-- The losses of a script are in the order of their epochs: no line makes the epoch fall, and a crash that
+-- took place began a new one.
+use Rattle.std.proofs.Common.{◌≡◌, ℕ, zero, suc, ◌+◌, ◌<◌, ◌≤◌, List, [], ◌∷◌, ◌++◌, map, reverse, length, Option, None, Some, refl, sym, ap, ◌∙◌, arith}
+use Rattle.std.specs.List.{AllByRecursion, cons_option}
+use Rattle.cb_member.specs.declared.names.Epoch.{Epoch}
+use Rattle.cb_member.specs.declared.names.Loss.{Loss}
+use Rattle.cb_member.specs.declared.names.NodeId.{NodeId}
+use Rattle.cb_types.specs.declared.answer.Answer.{Answer}
+use Rattle.cb_types.specs.declared.job.Job.TheVariants as job
+use Rattle.cb_types.specs.declared.reply.Reply.{Reply}
+use Rattle.cb_types.specs.declared.reply.Reply.TheVariants as answer
+use Rattle.cb_types.specs.declared.request.Request.{Request}
+use Rattle.cb_types.specs.declared.request.Request.TheVariants.{Make, Read, Write, Free, Pin, Peek, Unpin, Filter, Evict, Begin, Ship, Commit, Abort, Rebuild, Crash, Join, Leave}
+use Rattle.cb_types.specs.Requests.{name_of}
+use Rattle.cb_model.specs.Called.{handle_named}
+use Rattle.cb_world.specs.FarState.{FarState}
+use Rattle.cb_world.specs.Seats.{pins_of_seat}
+use Rattle.cb_world.specs.World.{WorldState}
+use Rattle.cb_core.specs.declared.event.Atomic.TheVariants as atomic
+use Rattle.cb_core.specs.declared.event.Event.TheVariants as event
+use Rattle.cb_core.specs.declared.event.Event.TheVariants.{Turn}
+use Rattle.cb_core.specs.Membership.{crashed, is_down}
+use Rattle.cb_core.specs.Step.{TurnStep, worn, done}
+use Rattle.cb_core.proofs.Epochs.{lead_rises, step_rises}
+use Rattle.cb_lanes.specs.GivingBack.{GivesAll, Rests, lines_of}
+use Rattle.cb_lanes.specs.LineStep.{LinesLead, LineStep, ObjectStep, PeekStep, not_pinned, shown, PinLine, at_once, stays_far, swapped_in}
+use Rattle.cb_lanes.specs.Lost.{AreInOrder, loss_of, losses_of}
+
+abbrev Rises : WorldState → WorldState → Type 0
+Rises w new = w.far.members.epoch ≤ new.far.members.epoch
+
+-- ---- a line
+stays : (w new : WorldState) → new ≡ w → Rises w new
+stays w new same = let e = ap (λ (v : WorldState). v.far.members.epoch) same in omega (arith, e)
+
+pin_rises : (seat h : ℕ) (w new : WorldState) (r : Reply) → PinLine seat h w r new → Rises w new
+pin_rises seat h w new r (at_once e off) =
+    step_rises w new (event.Step seat (atomic.Pin (record { n = h }))) r e
+pin_rises seat h w new r (stays_far away x off) =
+    step_rises w new (Turn seat (job.Swap (record { n = h }))) r x
+pin_rises seat h w new r (swapped_in m q away x is z) =
+    let one = step_rises w m (Turn seat (job.Swap (record { n = h }))) q x in
+    let two = step_rises m new (event.Step seat (atomic.Pin (record { n = h }))) r z in
+    omega (arith, one, two)
+
+peek_rises : (seat h : ℕ) (w new : WorldState) (r : Reply) → PeekStep seat h w r new → Rises w new
+peek_rises seat h w new r (not_pinned n e same) = stays w new same
+peek_rises seat h w new r (shown at x e same) = stays w new same
+
+object_rises : (seat : ℕ) (handle : Option ℕ) (request : Request) (w new : WorldState) (r : Reply)
+    → ObjectStep seat handle request w r new → Rises w new
+object_rises seat None request w new r x = stays w new x.1
+object_rises seat (Some h) (Pin name) w new r x = pin_rises seat h w new r x
+object_rises seat (Some h) (Peek name) w new r x = peek_rises seat h w new r x
+object_rises seat (Some h) (Unpin name) w new r x =
+    step_rises w new (event.Step seat (atomic.Unpin (record { n = h }))) r x
+object_rises seat (Some h) (Read name) w new r x =
+    step_rises w new (Turn seat (job.Read (record { n = h }))) r x
+object_rises seat (Some h) (Write name at bytes) w new r x =
+    step_rises w new (Turn seat (job.Write (record { n = h }) at bytes)) r x
+object_rises seat (Some h) (Free name) w new r x =
+    step_rises w new (Turn seat (job.Free (record { n = h }))) r x
+object_rises seat (Some h) (Filter name) w new r x =
+    step_rises w new (Turn seat (job.Filter (record { n = h }))) r x
+object_rises seat (Some h) request w new r x = absurd x
+
+gives_rise : (seat : ℕ) (w new : WorldState) → GivesAll seat w new → Rises w new
+gives_rise seat w new x = lead_rises w new _ _ x
+
+rests_rise : (left seat : ℕ) (w new : WorldState) → Rests left seat w new → Rises w new
+rests_rise zero seat w new x = gives_rise seat w new x
+rests_rise (suc left) seat w new x = stays w new x
+
+line_rises : (seat : ℕ) (handle : Option ℕ) (request : Request) (w new : WorldState) (r : Reply)
+    → LineStep seat handle request w r new → Rises w new
+line_rises seat handle (Make name bytes) w new r x =
+    step_rises w new (Turn seat (job.Make bytes)) r x
+line_rises seat handle Evict w new r x = step_rises w new (Turn seat job.Evict) r x
+line_rises seat handle Begin w new r x = step_rises w new (Turn seat job.Begin) r x
+line_rises seat handle Ship w new r x = step_rises w new (Turn seat job.Ship) r x
+line_rises seat handle Commit w new r x = step_rises w new (Turn seat job.Commit) r x
+line_rises seat handle Abort w new r x = step_rises w new (Turn seat job.Abort) r x
+line_rises seat handle Rebuild w new r x = step_rises w new (Turn seat job.Rebuild) r x
+line_rises seat handle (Crash node) w new r x = step_rises w new (Turn seat (job.Crash node)) r x
+line_rises seat handle (Join node) w new r x = step_rises w new (Turn seat (job.Join node)) r x
+line_rises seat handle Leave w new r x = gives_rise seat w new x.1
+line_rises seat handle (Read name) w new r x = object_rises seat handle (Read name) w new r x
+line_rises seat handle (Write name at bytes) w new r x =
+    object_rises seat handle (Write name at bytes) w new r x
+line_rises seat handle (Free name) w new r x = object_rises seat handle (Free name) w new r x
+line_rises seat handle (Pin name) w new r x = object_rises seat handle (Pin name) w new r x
+line_rises seat handle (Peek name) w new r x = object_rises seat handle (Peek name) w new r x
+line_rises seat handle (Unpin name) w new r x = object_rises seat handle (Unpin name) w new r x
+line_rises seat handle (Filter name) w new r x = object_rises seat handle (Filter name) w new r x
+line_rises seat handle request w new r x = absurd x
+
+-- ---- a crash that took place
+none_some : {A : Type 0} (x : A) → None ≡ Some x → ⊥
+none_some x e = cc
+
+abbrev epoch_in : Option Loss → ℕ
+epoch_in (Some loss) = loss.epoch.n
+epoch_in None = 0
+
+-- the epoch of a loss is later than that before its line
+record IsNew (loss : Loss) (w new : WorldState) : Type 0 where
+  later : w.far.members.epoch < loss.epoch.n
+  reached : loss.epoch.n ≤ new.far.members.epoch
+
+crash_new : (node : NodeId) (w new : WorldState) (r : Reply) (loss : Loss)
+    → TurnStep (job.Crash node) w r new → loss_of (Crash node) r ≡ Some loss → IsNew loss w new
+crash_new node w new r loss (worn end reply same) e =
+    absurd (none_some loss (sym (ap (loss_of (Crash node)) reply) ∙ e))
+crash_new node w new r loss (done few (words, is_down down reply state) seats) e =
+    absurd (none_some loss (sym (ap (loss_of (Crash node)) reply) ∙ e))
+crash_new node w new r loss (done few (words, crashed up reply state) seats) e =
+    let at : w.far.members.epoch + 1 ≡ loss.epoch.n =
+    ap epoch_in (sym (ap (loss_of (Crash node)) reply) ∙ e) in
+    let now : new.far.members.epoch ≡ w.far.members.epoch + 1 =
+    ap (λ (f : FarState). f.members.epoch) state in
+    record { later = omega (arith, at); reached = omega (arith, at, now) }
+
+line_new : (seat : ℕ) (handle : Option ℕ) (request : Request) (w new : WorldState) (r : Reply)
+    (loss : Loss) → LineStep seat handle request w r new → loss_of request r ≡ Some loss
+    → IsNew loss w new
+line_new seat handle (Crash node) w new r loss x e = crash_new node w new r loss x e
+line_new seat handle request w new r loss x e = absurd (none_some loss e)
+
+-- ---- the lines one after another
+-- all have a later epoch
+abbrev Behind : ℕ → List Loss → Type 0
+Behind n losses = AllByRecursion (λ (next : Loss). n < next.epoch.n) losses
+
+behind_less : (n m : ℕ) (losses : List Loss) → n ≤ m → Behind m losses → Behind n losses
+behind_less n m [] less x = x
+behind_less n m (loss ∷ later) less x =
+    let first = x.0 in (omega (arith, less, first), behind_less n m later less x.1)
+
+one_more : (n m : ℕ) (o : Option Loss) (losses : List Loss) → n ≤ m
+    → ((loss : Loss) → o ≡ Some loss → (n < loss.epoch.n) × (loss.epoch.n ≤ m)) → Behind m losses
+    → AreInOrder losses → Behind n (cons_option o losses) × AreInOrder (cons_option o losses)
+one_more n m None losses less new x order = (behind_less n m losses less x, order)
+one_more n m (Some loss) losses less new x order =
+    let at = new loss refl in let first = at.0 in (
+      (first, behind_less n m losses less x),
+      (behind_less loss.epoch.n m losses at.1 x, order),
+    )
+
+losses_ascend : (before answers : List Answer) (w new : WorldState) → LinesLead before w answers new
+    → Behind w.far.members.epoch (losses_of answers) × AreInOrder (losses_of answers)
+losses_ascend before [] w new x = (tt, tt)
+losses_ascend before (a ∷ after) w new (between, rested, step, rests, rest) =
+    let named = handle_named before (name_of a.request) in
+    let line = line_rises a.lane.n named a.request w between a.reply step in
+    let back = rests_rise (lines_of a.lane.n (map (λ (later : Answer). later.lane.n) after)) a.lane.n
+    between rested rests in
+    let more = losses_ascend (before ++ a ∷ []) after rested new rest in
+    one_more w.far.members.epoch rested.far.members.epoch (loss_of a.request a.reply) (losses_of after)
+    (omega (arith, line, back))
+    (λ loss e. let z = line_new a.lane.n named a.request w between a.reply loss step e in
+    let reached = z.reached in (z.later, omega (arith, reached, back))) more.0 more.1
+
+pub losses_in_order : (answers : List Answer) (w new : WorldState) → LinesLead [] w answers new
+    → AreInOrder (losses_of answers)
+losses_in_order answers w new x = (losses_ascend [] answers w new x).1
