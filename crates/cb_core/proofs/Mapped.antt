@@ -1,8 +1,7 @@
 -- A turn at a desk of one kind is one at a desk of another kind, where its events and what it shows
 -- go along.
-use Rattle.std.proofs.Common.{◌≡◌, ℕ, List, [], length, Option, None, Some}
+use Rattle.std.proofs.Common.{ℕ, List, [], length, Option, None, Some}
 use Rattle.cb_types.specs.declared.config.Config.{Config}
-use Rattle.cb_types.specs.declared.handle.SetId.{SetId}
 use Rattle.cb_types.specs.declared.job.Job.{Job}
 use Rattle.cb_types.specs.declared.job.Job.TheVariants.{Make, Read, Write, Free, Swap, Filter, Evict, Begin, Ship, Commit, Abort, Rebuild, Crash, Join}
 use Rattle.cb_types.specs.declared.reply.Reply.{Reply}
@@ -21,7 +20,7 @@ use Rattle.cb_core.specs.Parts.WhereItIs.{near, declined, stays_far, brought}
 use Rattle.cb_core.specs.Parts.BringsIn.{not_far, was_far}
 use Rattle.cb_core.specs.Parts.RoomStops.{at_once as lacks_now, evicting, after}
 use Rattle.cb_core.specs.Parts.CallStops.{near as lacks_near, far as lacks_far, after as lacks_after}
-use Rattle.cb_core.specs.Turned.{ComesIn, ComeLacks, Operates, Swaps, SwapLacks, Brings, BringLacks, Evicts, EvictLacks, WinsRoom, Makes, MakeLacks, Reads, ReadLacks, Writes, Declines, Finds, Does, Stops, Turned, Stopped, once_counted, worn, done}
+use Rattle.cb_core.specs.Turned.{ComesIn, ComeLacks, Swaps, SwapLacks, Brings, BringLacks, Evicts, EvictLacks, WinsRoom, Makes, MakeLacks, Reads, ReadLacks, Writes, Declines, Finds, Does, Stops, Turned, Stopped, once_counted, worn, done}
 
 -- a relation of holdings, and one of where a part stopped
 abbrev pub Part : Type 0 → Type 0 → Type 1

@@ -24,7 +24,7 @@ use Rattle.cb_evict.specs.CommitRule.{CommitRule, HasShort, HasCommitted}
 use Rattle.cb_evict.specs.EvictRule.{EvictRule, HasBoth, HasFewNodes, HasFewSpans}
 use Rattle.cb_evict.specs.ShipRule.{ShipRule}
 use Rattle.cb_evict.specs.declared.eviction.Eviction.{Eviction}
-use Rattle.cb_filter.specs.FilterRule.{AbsentAs as AbsentFilter, EmptyAnswer as EmptyFilter, FilterAs, FilterHere, FilterRule}
+use Rattle.cb_filter.specs.FilterRule.{EmptyAnswer as EmptyFilter, FilterAs, FilterHere, FilterRule}
 use Rattle.cb_rebuild.specs.RebuildStep.{RebuildStep}
 use Rattle.cb_core.specs.Membership.{CrashTurn, crashed, is_down, JoinTurn, joined, is_up}
 use Rattle.cb_core.specs.Parts.{Holding, WithRoom, at_once, no_room, won, WhereItIs, near, declined, stays_far, brought, BringsIn, not_far, was_far}
@@ -242,29 +242,29 @@ module _ {D : Type 0} (run : D → List Event → D → Type 0) (shows : D → S
 module _ {D : Type 0} (run : D → List Event → D → Type 0) (shows : D → Shown → Type 0)
     (reads : ℕ → Holding D → Reply → Holding D → Type 0) (read : (h : ℕ) → AllNever (reads h))
     (c : Config) where
-    pub does_never : (job : Job) (a b : Holding D) (r : Reply) → Does run shows reads c job a r b
-        → Never r
-    does_never (Make bytes) a b r does = room_never _ _ _ a b r does
-    does_never (Read handle) a b r does = once_never (ComesIn run shows c handle.n) (reads handle.n)
-        (comes_never run shows c handle.n) (read handle.n) a b r does
-    does_never (Write handle at bytes) a b r does = where_never _ _ _
-        (λ a b r x. write_never handle.n at bytes r x.events x.rule.1)
-        (λ a b r x. declined_never handle.n at (length bytes) a.far r x.1.events x.1.rule)
-        (room_never _ _ _) a b r does
-    does_never (Free handle) a b r does = free_never handle.n a.far b.far r does.events does.rule
-    does_never (Swap handle) a b r does = comes_never run shows c handle.n a b r does
-    does_never (Filter handle) a b r does =
-        filter_never c.frames handle.n a.far b.far r does.events does.rule
-    does_never Evict a b r does = evict_never c a.far b.far r does.events does.rule
-    does_never Begin a b r does = begin_never c a.far b.far r does.events does.rule
-    does_never Ship a b r does = ship_never a.far b.far r does.events does.rule
-    does_never Commit a b r does = commit_never a.far b.far r does.events does.rule
-    does_never Abort a b r does = abort_never a.far b.far r does.events does.rule
-    does_never Rebuild a b r does = rebuild_never a.far b.far r does.1
-    does_never (Crash node) a b r does = crash_never a.far b.far r node does.1
-    does_never (Join node) a b r does = join_never a.far b.far r node does.1
-    does_never Pair a b r does = absurd does
-    does_never Patch a b r does = absurd does
-    does_never Merge a b r does = absurd does
-    does_never Part a b r does = absurd does
-    does_never Compact a b r does = absurd does
+  pub does_never : (job : Job) (a b : Holding D) (r : Reply) → Does run shows reads c job a r b
+      → Never r
+  does_never (Make bytes) a b r does = room_never _ _ _ a b r does
+  does_never (Read handle) a b r does = once_never (ComesIn run shows c handle.n) (reads handle.n)
+      (comes_never run shows c handle.n) (read handle.n) a b r does
+  does_never (Write handle at bytes) a b r does = where_never _ _ _
+      (λ a b r x. write_never handle.n at bytes r x.events x.rule.1)
+      (λ a b r x. declined_never handle.n at (length bytes) a.far r x.1.events x.1.rule)
+      (room_never _ _ _) a b r does
+  does_never (Free handle) a b r does = free_never handle.n a.far b.far r does.events does.rule
+  does_never (Swap handle) a b r does = comes_never run shows c handle.n a b r does
+  does_never (Filter handle) a b r does =
+      filter_never c.frames handle.n a.far b.far r does.events does.rule
+  does_never Evict a b r does = evict_never c a.far b.far r does.events does.rule
+  does_never Begin a b r does = begin_never c a.far b.far r does.events does.rule
+  does_never Ship a b r does = ship_never a.far b.far r does.events does.rule
+  does_never Commit a b r does = commit_never a.far b.far r does.events does.rule
+  does_never Abort a b r does = abort_never a.far b.far r does.events does.rule
+  does_never Rebuild a b r does = rebuild_never a.far b.far r does.1
+  does_never (Crash node) a b r does = crash_never a.far b.far r node does.1
+  does_never (Join node) a b r does = join_never a.far b.far r node does.1
+  does_never Pair a b r does = absurd does
+  does_never Patch a b r does = absurd does
+  does_never Merge a b r does = absurd does
+  does_never Part a b r does = absurd does
+  does_never Compact a b r does = absurd does

@@ -1,5 +1,5 @@
 -- What a crash and a join leave of the configured sizes and codes, and of what is counted.
-use Rattle.std.proofs.Common.{◌≡◌, ℕ, ◌≤◌, length, refl, sym, subst, arith, length-set}
+use Rattle.std.proofs.Common.{refl, sym, subst, arith, length-set}
 use Rattle.cb_member.specs.declared.names.NodeId.{NodeId}
 use Rattle.cb_types.specs.declared.config.Config.{Config}
 use Rattle.cb_types.specs.declared.reply.Reply.{Reply}

@@ -145,13 +145,13 @@ module _ {D : Type 0} (call : Holding D → Reply → Holding D → Type 0)
 -- ---- an object that is far is brought in
 module _ {D : Type 0} (call bringing : Holding D → Reply → Holding D → Type 0) (a : Holding D)
     (calls : IsFixed call a) (refuses : LeavesAll call answer.NotHere) (brings : IsFixed bringing a)
-    where
-  pub brings_in_fixed : IsFixed (BringsIn call bringing) a
-  brings_in_fixed r q b c (not_far o off) (not_far p on) = calls r q b c o p
-  brings_in_fixed r q b c (not_far o off) (was_far m p v) =
-      absurd (off (calls r answer.NotHere b m o p).0)
-  brings_in_fixed r q b c (was_far m o v) (not_far p on) =
-      absurd (on (calls q answer.NotHere c m p o).0)
-  brings_in_fixed r q b c (was_far m o v) (was_far n p w) = brings r q b c
-      (subst (λ (x : Holding D). bringing x r b) (refuses a m o) v)
-      (subst (λ (x : Holding D). bringing x q c) (refuses a n p) w)
+  where
+    pub brings_in_fixed : IsFixed (BringsIn call bringing) a
+    brings_in_fixed r q b c (not_far o off) (not_far p on) = calls r q b c o p
+    brings_in_fixed r q b c (not_far o off) (was_far m p v) =
+        absurd (off (calls r answer.NotHere b m o p).0)
+    brings_in_fixed r q b c (was_far m o v) (not_far p on) =
+        absurd (on (calls q answer.NotHere c m p o).0)
+    brings_in_fixed r q b c (was_far m o v) (was_far n p w) = brings r q b c
+        (subst (λ (x : Holding D). bringing x r b) (refuses a m o) v)
+        (subst (λ (x : Holding D). bringing x q c) (refuses a n p) w)

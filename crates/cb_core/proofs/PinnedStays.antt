@@ -1,5 +1,5 @@
 -- A pinned object is unmoved by each event.
-use Rattle.std.proofs.Common.{◌≡◌, ◌≢◌, ◌⊎◌, ℕ, ◌+◌, ◌<◌, ◌≤◌, ◌==◌, ◌^◌, Bool, List, [], ◌∷◌, length, get_or, set, Option, Some, None, refl, sym, ap, ◌∙◌, subst, arith, inl, inr, if◌then◌else◌, ne_eqb, get_or-set_same, get_or-set_other}
+use Rattle.std.proofs.Common.{◌≡◌, ◌≢◌, ◌⊎◌, ℕ, ◌<◌, ◌≤◌, ◌==◌, Bool, List, [], ◌∷◌, length, Option, Some, None, refl, sym, ap, ◌∙◌, subst, arith, inl, inr, if◌then◌else◌, ne_eqb, get_or-set_same, get_or-set_other}
 use native.Mathlib.Decide.{ℕ_discrete}
 use Rattle.std.specs.List.{AllByRecursion}
 use Rattle.std.proofs.lemmas.Bool.{cases_lt}
@@ -8,9 +8,8 @@ use Rattle.cb_ptr.specs.declared.word.State.TheVariants as state
 use Rattle.cb_ptr.specs.Word.{state_of, len_of, place_of, pins_of}
 use Rattle.cb_types.specs.declared.config.Config.{Config}
 use Rattle.cb_types.specs.declared.handle.Handle.{Handle}
-use Rattle.cb_types.specs.declared.handle.SetId.{SetId}
 use Rattle.cb_types.specs.declared.job.Job.{Job}
-use Rattle.cb_types.specs.declared.job.Job.TheVariants.{Make, Read, Write, Free, Swap, Filter, Evict, Begin, Ship, Commit, Abort, Rebuild, Crash, Join, Pair, Patch, Merge, Part, Compact}
+use Rattle.cb_types.specs.declared.job.Job.TheVariants.{Make, Read, Write, Free, Swap, Filter, Evict, Begin, Ship, Commit, Abort, Rebuild, Crash, Join}
 use Rattle.cb_types.specs.declared.request.Request.{Request}
 use Rattle.cb_types.specs.declared.request.Request.TheVariants as line
 use Rattle.cb_types.specs.declared.reply.Reply.{Reply}
@@ -21,10 +20,9 @@ use Rattle.cb_world.specs.Memory.{bytes_in, window, words_for}
 use Rattle.cb_world.specs.Now.{Now, now}
 use Rattle.cb_world.specs.Now.Now.{held}
 use Rattle.cb_world.specs.Pinned.{with_word}
-use Rattle.cb_world.specs.Placed.{place_in}
 use Rattle.cb_world.specs.Plain.{Words}
 use Rattle.cb_world.specs.StillWords.{stamp_at, contents_at, with_hot}
-use Rattle.cb_world.specs.World.{WorldState, IsKnown, IsSoundWorld, ArePinned, word_at}
+use Rattle.cb_world.specs.World.{WorldState, IsKnown, IsSoundWorld, word_at}
 use Rattle.cb_mutate.specs.Steps.{with_seen}
 use Rattle.cb_mutate.specs.MapCalls.{IsCallOn, IsRefusedMake}
 use Rattle.cb_mutate.proofs.MapReplies.{near_held, here_near}
@@ -42,10 +40,10 @@ use Rattle.cb_core.specs.declared.event.Event.{Event}
 use Rattle.cb_core.specs.declared.event.Event.TheVariants as event
 use Rattle.cb_core.specs.Events.{IsEvent, handle_of}
 use Rattle.cb_core.specs.Jobs.{IsJob}
-use Rattle.cb_core.specs.Parts.{Holding, NeverDeclined, WithRoom, at_once, no_room, won, WhereItIs, near, declined, stays_far, brought, BringsIn, not_far, was_far}
+use Rattle.cb_core.specs.Parts.{Holding, NeverDeclined, WithRoom, at_once, no_room, won, WhereItIs, near, declined, stays_far, brought, not_far, was_far}
 use Rattle.cb_core.specs.Pinning.{scope_full, refused as pin_refused, taken, not_pinned, given}
 use Rattle.cb_core.specs.Run.{LeadsSoundly}
-use Rattle.cb_core.specs.Step.{Step, StillMake, StillRead, StillWrite, StillFree, StillFind, StillFilter, StillDecline, StillEvict, StillRoom, StillSwap, StillBring, StillWorks, AtomicStep, TurnStep, worn, done}
+use Rattle.cb_core.specs.Step.{Step, StillMake, StillRead, StillWrite, StillFree, StillFilter, StillDecline, StillEvict, StillRoom, StillSwap, StillBring, StillWorks, AtomicStep, TurnStep, worn, done}
 use Rattle.cb_core.specs.Unmoved.{IsUnmoved, HasPin, KeepsPinned, LeadsPinned, StaysPinned}
 use Rattle.cb_core.proofs.Changes.{read_leaves, write_leaves, free_leaves}
 use Rattle.cb_core.proofs.Settings.{step_settings}
@@ -54,7 +52,7 @@ use Rattle.cb_core.proofs.StillParts.{next_free}
 use Rattle.cb_core.proofs.TurnCalls.{held_at, held_then}
 use Rattle.cb_core.proofs.TurnCallsBatch.{kept_begin, kept_ship, kept_commit, kept_abort}
 use Rattle.cb_core.proofs.TurnCallsFilter.{kept_filter}
-use Rattle.cb_core.proofs.TurnCallsKept.{HasKept, kept_then, kept_evict, kept_room, kept_swap, kept_bring, known_same, once_known, same_holding}
+use Rattle.cb_core.proofs.TurnCallsKept.{HasKept, kept_evict, kept_room, kept_swap, kept_bring, once_known, same_holding}
 use Rattle.cb_core.proofs.TurnCallsMake.{make_crammed}
 use Rattle.cb_core.proofs.TurnCallsParts.{read_part, write_part}
 use Rattle.cb_core.proofs.TurnCallsWhere.{IsPart, kept_map, within}

@@ -1,9 +1,8 @@
 -- An event leads from a sound world to one reply and one world; and so do events one after another.
-use Rattle.std.proofs.Common.{◌≡◌, ℕ, ◌+◌, ◌^◌, ◌<◌, ◌≤◌, List, [], ◌∷◌, ◌++◌, length, Option, None, Some, true, false, refl, sym, ap, ◌∙◌, subst, arith, inl, inr}
+use Rattle.std.proofs.Common.{◌≡◌, ℕ, List, [], ◌∷◌, length, None, refl, sym, ap, ◌∙◌, subst, arith, inl, inr}
 use Rattle.std.specs.List.{remove}
 use Rattle.std.proofs.lemmas.Bool.{cases_order, false≢true}
 use Rattle.cb_member.specs.declared.names.NodeId.{NodeId}
-use Rattle.cb_ptr.specs.Word.{flag_number, hot_of}
 use Rattle.cb_types.specs.declared.handle.Handle.{Handle}
 use Rattle.cb_types.specs.declared.job.Job.{Job}
 use Rattle.cb_types.specs.declared.job.Job.TheVariants.{Make, Read, Write, Free, Swap, Filter, Evict, Begin, Ship, Commit, Abort, Pair, Patch, Merge, Part, Compact, Rebuild, Crash, Join}
@@ -15,12 +14,11 @@ use Rattle.cb_world.specs.declared.seats.Pin.{Pin}
 use Rattle.cb_world.specs.declared.shown.Shown.{Shown}
 use Rattle.cb_world.specs.FarState.{FarState}
 use Rattle.cb_world.specs.LocalSound.{LocalSound}
-use Rattle.cb_world.specs.Pinned.{IsPinned, IsUnpinned, with_word}
+use Rattle.cb_world.specs.Pinned.{with_word}
 use Rattle.cb_world.specs.Plain.{Words}
-use Rattle.cb_world.specs.Seats.{IsNewest, NoneOn, pins_of_seat, with_pins}
-use Rattle.cb_world.specs.World.{WorldState, IsSoundWorld, word_at}
+use Rattle.cb_world.specs.Seats.{IsNewest, pins_of_seat, with_pins}
+use Rattle.cb_world.specs.World.{WorldState, IsSoundWorld}
 use Rattle.cb_world.proofs.Added.{home_same}
-use Rattle.cb_world.proofs.Apart.{some_same}
 use Rattle.cb_world.proofs.Fixed.{IsOneEnd}
 use Rattle.cb_world.proofs.NodeJoin.{local_stays}
 use Rattle.cb_mutate.proofs.StepsFixed.{free_step_fixes, make_step_fixes, read_step_fixes, write_step_fixes}
@@ -42,7 +40,7 @@ use Rattle.cb_core.specs.Membership.{CrashTurn, crashed, is_down, JoinTurn, join
 use Rattle.cb_core.specs.Parts.{Holding, NeverDeclined}
 use Rattle.cb_core.specs.Pinning.{IsPinGiven, IsPinTaken, PinStep, scope_full, refused, taken, UnpinStep, not_pinned, given}
 use Rattle.cb_core.specs.Run.{LeadsSoundly}
-use Rattle.cb_core.specs.Step.{AtomicStep, Leads, Step, StillBring, StillDecline, StillEvict, StillFind, StillFree, StillMake, StillRead, StillRoom, StillSwap, StillWorks, StillWrite, TurnStep, worn, done}
+use Rattle.cb_core.specs.Step.{AtomicStep, Leads, Step, StillBring, StillDecline, StillFind, StillMake, StillRead, StillRoom, StillSwap, StillWorks, StillWrite, TurnStep, worn, done}
 use Rattle.cb_core.specs.Turned.{counted}
 use Rattle.cb_core.proofs.PartsFixed.{AreOne, IsFixed, LeavesAll, brings_in_fixed, where_it_is_fixed, with_room_fixed}
 

@@ -1,14 +1,13 @@
 -- A filter over a still desk is a step, and leaves all known.
-use Rattle.std.proofs.Common.{◌≡◌, ℕ, ◌+◌, List, [], ◌∷◌, set, refl, sym, ap, ◌∙◌, subst, arith, inl, inr, length-set}
+use Rattle.std.proofs.Common.{ℕ, ◌+◌, List, [], ◌∷◌, set, refl, sym, ap, subst, inl, inr}
 use Rattle.cb_ptr.specs.Word.{hot_of, place_of}
 use Rattle.cb_types.specs.declared.config.Config.{Config}
 use Rattle.cb_types.specs.declared.reply.Reply.{Reply}
 use Rattle.cb_world.specs.declared.event.Event.{Event}
 use Rattle.cb_world.specs.declared.event.Event.TheVariants.{Looked, Claimed, Told, Loaded, Stored, Stamped, Settled}
-use Rattle.cb_world.specs.FarState.{FarState}
 use Rattle.cb_world.specs.Grasped.{IsFree}
 use Rattle.cb_world.specs.Looks.{NoLook, IsFound, IsTaken, LooksFirst}
-use Rattle.cb_world.specs.Placed.{Slot, with_object, place_in}
+use Rattle.cb_world.specs.Placed.{place_in}
 use Rattle.cb_world.specs.Plain.{Words, Plain}
 use Rattle.cb_world.specs.Seats.{SeatState}
 use Rattle.cb_world.specs.World.{word_at}
@@ -18,7 +17,7 @@ use Rattle.cb_filter.specs.FilterEffect.{FilterEffect}
 use Rattle.cb_filter.specs.FilterRule.{FilterRule}
 use Rattle.cb_filter.specs.FilterStep.{IsFilterStep, refused, cools, without_slot, moves, IsFreeIn, temp_of}
 use Rattle.cb_filter.specs.Plans.{Wants}
-use Rattle.cb_filter.specs.Seats.{Seat, temp_for, with_moved}
+use Rattle.cb_filter.specs.Seats.{temp_for}
 use Rattle.cb_filter.proofs.FilterStep.{IsStepKnown, filter_step, filter_stopped}
 use Rattle.cb_core.specs.Parts.{Holding}
 use Rattle.cb_core.specs.Step.{HoldOn, StillFilter, StillFilterLacks}

@@ -1,19 +1,14 @@
 -- Each part of a turn over a still desk is a step, and leaves all known.
-use Rattle.std.proofs.Common.{◌≡◌, ◌⊎◌, ℕ, Bool, false, ◌<◌, List, length, Option, refl, sym, ap, ◌∙◌, subst, arith, inl, inr, length-set}
-use Rattle.cb_ptr.specs.declared.word.State.{State}
-use Rattle.cb_ptr.specs.declared.word.State.TheVariants as state
+use Rattle.std.proofs.Common.{◌≡◌, ◌⊎◌, ℕ, Bool, false, ◌<◌, List, length, Option, sym, ap, ◌∙◌, subst, arith, inl, inr}
 use Rattle.cb_ptr.specs.Word.{state_of, len_of, pins_of}
 use Rattle.cb_types.specs.declared.config.Config.{Config}
 use Rattle.cb_types.specs.Config.{IsAccepted}
 use Rattle.cb_types.specs.declared.reply.Reply.{Reply}
 use Rattle.cb_types.specs.declared.reply.Reply.TheVariants as answer
 use Rattle.cb_world.specs.declared.event.Event.{Event}
-use Rattle.cb_member.specs.Membership.{Membership}
 use Rattle.cb_world.specs.declared.object.Object.{Object}
 use Rattle.cb_world.specs.declared.shown.Shown.{Shown}
-use Rattle.cb_world.specs.Counts.{CountsState}
 use Rattle.cb_world.specs.FarState.{FarState}
-use Rattle.cb_world.specs.LeftOver.{set_without}
 use Rattle.cb_world.specs.Now.{is_gone}
 use Rattle.cb_world.specs.Placed.{place_in}
 use Rattle.cb_world.specs.Plain.{Words, Plain, Shows, IsSized}
@@ -21,13 +16,12 @@ use Rattle.cb_world.specs.Seats.{SeatState}
 use Rattle.cb_world.specs.Shown.{Fits, object_at, never}
 use Rattle.cb_world.specs.Still.{IsStill}
 use Rattle.cb_world.specs.StillWords.{stamp_at}
-use Rattle.cb_world.specs.World.{IsKnown, ArePinned, IsConfigured, word_at}
+use Rattle.cb_world.specs.World.{IsKnown, ArePinned, word_at}
 use Rattle.cb_world.proofs.Exact.{found_exact}
 use Rattle.cb_world.proofs.Staying.{StaysIf, stays_same}
 use Rattle.cb_world.proofs.StillPerforms.{PerformsStill, RunsStill, runs_still, stays_still}
 use Rattle.cb_world.proofs.StillWords.{told_exact}
 use Rattle.cb_mutate.specs.Answered.{Answered}
-use Rattle.cb_mutate.specs.FreeRule.{IsReleased, IsRemoved, LeavesPlace}
 use Rattle.cb_mutate.specs.MakeRule.{MakeRule, MakeEffect, NeedsNewSpan, new_word}
 use Rattle.cb_mutate.specs.MakeStep.{IsMakeStep}
 use Rattle.cb_mutate.specs.ReadRule.{ReadRule, ReadEffect}

@@ -1,5 +1,5 @@
 -- At the still desk a read that is first brought in is the read of an object wherever it is.
-use Rattle.std.proofs.Common.{◌≡◌, ℕ, zero, suc, Bool, true, false, List, Option, None, Some, refl, sym, ap, ◌∙◌, subst, inl, inr, if◌then◌else◌}
+use Rattle.std.proofs.Common.{◌≡◌, ℕ, zero, suc, Bool, true, false, Option, None, Some, refl, sym, ap, ◌∙◌, subst, inl, inr, if◌then◌else◌}
 use Rattle.std.proofs.lemmas.Bool.{false≢true}
 use Rattle.cb_ptr.specs.declared.word.State.{State}
 use Rattle.cb_ptr.specs.declared.word.State.TheVariants as state
@@ -16,13 +16,13 @@ use Rattle.cb_world.specs.SetWord.{is_broken}
 use Rattle.cb_world.specs.StillWords.{stamp_at, contents_at}
 use Rattle.cb_world.specs.World.{word_at}
 use Rattle.cb_mutate.specs.StillReplies.{reply_as}
-use Rattle.cb_mutate.specs.Steps.{ReadChange, IsReadStep}
+use Rattle.cb_mutate.specs.Steps.{ReadChange}
 use Rattle.cb_swapin.specs.SwapRule.{swap_answer, frame_answer}
 use Rattle.cb_core.specs.OnceHere.{IsThere, OnceHere, away, here, OnceHereStops, bringing_stops, call_stops}
-use Rattle.cb_core.specs.Parts.{Holding, NeverDeclined, WithRoom, at_once, no_room, won, WhereItIs, near, stays_far, brought, BringsIn, not_far, was_far, CallStops}
+use Rattle.cb_core.specs.Parts.{Holding, NeverDeclined, at_once, no_room, won, WhereItIs, near, stays_far, brought, BringsIn, not_far, was_far, CallStops}
 use Rattle.cb_core.specs.Parts.CallStops.{near as lacks_near, far as lacks_far, after as lacks_after}
 use Rattle.cb_core.specs.Step.{StillRead, StillFind, StillSwap, StillBring, StillBringLacks, StillReadLacks}
-use Rattle.cb_core.proofs.TurnCallsReply.{as_not_here, read_is_here}
+use Rattle.cb_core.proofs.TurnCallsReply.{read_is_here}
 
 -- an object comes in at the still desk; and where that lacked memory
 abbrev pub StillComes : ℕ → Holding Words → Reply → Holding Words → Type 0

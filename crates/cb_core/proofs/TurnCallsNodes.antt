@@ -12,7 +12,7 @@ use Rattle.cb_world.specs.Now.{now, now_as}
 use Rattle.cb_world.specs.Now.Now.{held, gone}
 use Rattle.cb_world.specs.Plain.{Words}
 use Rattle.cb_world.specs.Sound.{Sound}
-use Rattle.cb_world.specs.World.{WorldState, IsKnown}
+use Rattle.cb_world.specs.World.{IsKnown}
 use Rattle.cb_world.proofs.CrashNow.{BecomesGone, crash_now}
 use Rattle.cb_world.proofs.NodeJoin.{node_crash_sound, node_join_sound, node_join_now}
 use Rattle.cb_world.proofs.NowSame.{now_same}

@@ -13,7 +13,7 @@ use Rattle.cb_world.specs.StillWords.{stamp_at}
 use Rattle.cb_world.specs.World.{WorldState, IsKnown, IsSoundWorld, word_at}
 use Rattle.cb_mutate.specs.StillReplies.{reply_as, next_reply, change_reply, write_reply, free_as, free_reply}
 use Rattle.cb_core.specs.Parts.{Holding, WhereItIs, near, declined, stays_far, brought}
-use Rattle.cb_core.specs.Step.{StillWrite, StillDecline, StillBring, StillWorks, TurnStep}
+use Rattle.cb_core.specs.Step.{StillWrite, StillDecline, StillBring, TurnStep}
 use Rattle.cb_core.proofs.TurnCalls.{held_at, held_then, is_done, known_at}
 use Rattle.cb_core.proofs.TurnCallsFar.{BringEnds, came, broke, crammed, bring_ends}
 use Rattle.cb_core.proofs.TurnCallsKept.{kept_bring}

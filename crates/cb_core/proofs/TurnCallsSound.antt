@@ -1,13 +1,11 @@
 -- A swap that is a turn leaves the world sound.
-use Rattle.std.proofs.Common.{◌≡◌, ℕ, ◌^◌, List, refl, sym, ap, ◌∙◌, subst, arith}
-use Rattle.cb_member.specs.Membership.{Membership}
+use Rattle.std.proofs.Common.{◌≡◌, ℕ, ◌^◌, List, refl, sym, ◌∙◌, subst, arith}
 use Rattle.cb_types.specs.declared.config.Config.{Config}
 use Rattle.cb_types.specs.declared.job.Job.TheVariants as job
 use Rattle.cb_types.specs.declared.reply.Reply.{Reply}
 use Rattle.cb_types.specs.declared.reply.Reply.TheVariants as answer
 use Rattle.cb_types.specs.Config.{IsAccepted}
 use Rattle.cb_types.specs.Jobs.{job_index}
-use Rattle.cb_world.specs.Counts.{CountsState}
 use Rattle.cb_world.specs.Plain.{Words}
 use Rattle.cb_world.specs.Seats.{SeatState}
 use Rattle.cb_world.proofs.Staying.{recounted}

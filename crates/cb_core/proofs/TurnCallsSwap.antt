@@ -17,7 +17,7 @@ use Rattle.cb_world.specs.FarState.{FarState}
 use Rattle.cb_world.specs.Now.{is_gone}
 use Rattle.cb_world.specs.Plain.{Words}
 use Rattle.cb_world.specs.StillWords.{stamp_at}
-use Rattle.cb_world.specs.World.{WorldState, IsKnown, word_at}
+use Rattle.cb_world.specs.World.{IsKnown, word_at}
 use Rattle.cb_mutate.specs.MapCalls.{IsCallOn}
 use Rattle.cb_mutate.specs.StillReplies.{reply_as}
 use Rattle.cb_mutate.proofs.MapReplies.{AreKnownBoth, IsThere, IsOnContents, refused_call, call_by_state, near_held, here_near}

@@ -1,5 +1,5 @@
 -- A turn is answered Unavailable exactly where its object's set has lost more shards than it has parities.
-use Rattle.std.proofs.Common.{◌≡◌, ℕ, true, ◌^◌, ◌<◌, List, [], length, sym, ap, ◌∙◌, subst}
+use Rattle.std.proofs.Common.{◌≡◌, ℕ, true, ◌^◌, ◌<◌, List, [], length}
 use Rattle.cb_member.specs.declared.names.Loss.{Loss}
 use Rattle.cb_types.specs.declared.handle.SetId.{SetId}
 use Rattle.cb_types.specs.declared.job.Job.{Job}
@@ -11,7 +11,7 @@ use Rattle.cb_world.specs.FarState.{FarState}
 use Rattle.cb_world.specs.Now.{is_gone}
 use Rattle.cb_world.specs.World.{WorldState, IsSoundWorld}
 use Rattle.cb_core.specs.Parts.{NeverDeclined}
-use Rattle.cb_core.specs.Step.{StillRead, StillWrite, StillDecline, StillWorks, TurnStep}
+use Rattle.cb_core.specs.Step.{StillRead, StillWrite, StillDecline, TurnStep}
 use Rattle.cb_core.specs.Turned.{counted}
 use Rattle.cb_core.proofs.TurnCalls.{held_at, held_then, is_done, known_at}
 use Rattle.cb_core.proofs.TurnCallsFar.{IsLostFar}

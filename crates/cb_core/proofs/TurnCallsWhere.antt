@@ -1,5 +1,5 @@
 -- A call on an object wherever it is.
-use Rattle.std.proofs.Common.{◌≡◌, ℕ, true, false, ◌<◌, List, length, Option, Some, None, sym, ap, ◌∙◌, subst, arith}
+use Rattle.std.proofs.Common.{◌≡◌, ℕ, true, false, ◌<◌, List, length, Option, Some, None, sym, ◌∙◌, subst, arith}
 use Rattle.cb_member.specs.declared.names.Loss.{Loss}
 use Rattle.cb_ptr.specs.declared.word.State.TheVariants as state
 use Rattle.cb_ptr.specs.Word.{state_of}

@@ -1,14 +1,10 @@
 -- What each part of a turn leaves over any desk, each job, and the turn.
-use Rattle.std.proofs.Common.{◌≡◌, ℕ, Bool, true, false, ◌+◌, ◌-◌, ◌^◌, ◌<◌, ◌≤◌, if◌then◌else◌, ◌==◌, nat_lt, List, [], ◌∷◌, ◌++◌, length, Option, None, Some, refl, sym, ap, subst, arith, inl, inr}
-use Rattle.cb_member.specs.declared.names.Loss.{Loss}
+use Rattle.std.proofs.Common.{◌≡◌, ℕ, Bool, true, false, ◌+◌, ◌-◌, ◌^◌, ◌<◌, ◌≤◌, if◌then◌else◌, ◌==◌, nat_lt, List, [], ◌∷◌, length, None, Some, refl, sym, subst, arith, inl, inr}
 use Rattle.cb_member.specs.declared.names.NodeId.{NodeId}
 use Rattle.cb_types.specs.declared.config.Config.{Config}
 use Rattle.cb_types.specs.Config.{IsAccepted}
-use Rattle.cb_types.specs.declared.handle.Handle.{Handle}
-use Rattle.cb_types.specs.declared.handle.SetId.{SetId}
 use Rattle.cb_types.specs.declared.job.Job.{Job}
 use Rattle.cb_types.specs.declared.job.Job.TheVariants.{Make, Read, Write, Free, Swap, Filter, Evict, Begin, Ship, Commit, Abort, Pair, Patch, Merge, Part, Compact, Rebuild, Crash, Join}
-use Rattle.cb_types.specs.Jobs.{job_index}
 use Rattle.cb_types.specs.declared.reply.Reply.{Reply}
 use Rattle.cb_types.specs.declared.reply.Reply.TheVariants as answer
 use Rattle.cb_ptr.specs.Word.{len_of}
@@ -18,7 +14,7 @@ use Rattle.cb_world.specs.declared.shown.Shown.{Shown}
 use Rattle.cb_world.specs.FarState.{FarState}
 use Rattle.cb_world.specs.Played.{played}
 use Rattle.cb_world.specs.Sound.{Sound}
-use Rattle.cb_world.specs.World.{AreCounted, IsConfigured}
+use Rattle.cb_world.specs.World.{IsConfigured}
 use Rattle.cb_world.specs.Written.{Writes, entry, gone}
 use Rattle.cb_world.proofs.Alike.{recounted_sound}
 use Rattle.cb_world.proofs.NodeJoin.{node_crash_sound, node_join_sound}
@@ -33,12 +29,11 @@ use Rattle.cb_evict.proofs.Stays.{abort_stays, begin_stays, commit_stays, evict_
 use Rattle.cb_evict.proofs.Unwritten.{abort_unwritten, begin_unwritten, commit_unwritten, evict_unwritten}
 use Rattle.cb_filter.proofs.Stays.{filter_stays}
 use Rattle.cb_filter.proofs.Unwritten.{filter_unwritten}
-use Rattle.cb_rebuild.specs.RebuildStep.{RebuildStep, surveyed}
+use Rattle.cb_rebuild.specs.RebuildStep.{surveyed}
 use Rattle.cb_rebuild.proofs.RebuildKeeps.{keeps_first, keeps_step}
 use Rattle.cb_rebuild.proofs.Stays.{failed_stays, rebuild_stays}
-use Rattle.cb_set.specs.SetState.{SetState}
 use Rattle.cb_swapin.specs.Fetching.{far_given}
-use Rattle.cb_swapin.specs.SwapRule.{SwapRule, swap_answer}
+use Rattle.cb_swapin.specs.SwapRule.{SwapRule}
 use Rattle.cb_swapin.proofs.Stays.{given_stays, swap_stays}
 use Rattle.cb_swapin.proofs.SwapAnswers.{by_answer}
 use Rattle.cb_swapin.proofs.Unwritten.{swap_unwritten}
@@ -46,9 +41,8 @@ use Rattle.cb_core.specs.Declining.{far_refusal}
 use Rattle.cb_core.specs.Jobs.{IsJob}
 use Rattle.cb_core.specs.Membership.{CrashTurn, crashed, is_down, JoinTurn, joined, is_up}
 use Rattle.cb_core.specs.Parts.{Holding, NeverDeclined, NeverLacks, at_once, no_room, won}
-use Rattle.cb_core.specs.Turned.{Swaps, SwapLacks, Brings, BringLacks, ComesIn, ComeLacks, Evicts, WinsRoom, EvictLacks, Makes, MakeLacks, Reads, ReadLacks, Writes as WritesAt, Declines, Finds, Does, Stops, IsDeclined, once_counted, counted}
+use Rattle.cb_core.specs.Turned.{Swaps, SwapLacks, Brings, BringLacks, ComesIn, ComeLacks, Evicts, WinsRoom, EvictLacks, Makes, MakeLacks, Reads, ReadLacks, Writes as WritesAt, Declines, Finds, Does, Stops, IsDeclined}
 use Rattle.cb_core.specs.TurnLeaves.{MakeWrites, WriteWrites, FreeWrites, TurnWrites}
-use Rattle.cb_core.proofs.Counting.{counted_sound}
 use Rattle.cb_core.proofs.NodesStay.{crash_stays, join_stays}
 use Rattle.cb_core.proofs.TurnComes.{AreLaws, Carries, CarriesLack, Comes, Good, IsNone, IsQuiet, Nil, comes_by, comes_far, comes_more, comes_none, then_none, good_then, with_room, room_stops, where_it_is, brings_in, call_stops, once_here, once_here_stops}
 

@@ -1,6 +1,6 @@
 -- Worked examples of a call on an object that is first brought in, over a desk that is a number, and of
 -- the first call of a read: what meets each, and what breaks one part alone.
-use Rattle.std.proofs.Common.{◌≡◌, ◌⊎◌, ℕ, ◌+◌, ◌^◌, ◌<◌, List, [], ◌∷◌, None, Some, refl, sym, ap, ◌∙◌, arith, inl, inr}
+use Rattle.std.proofs.Common.{◌≡◌, ◌⊎◌, ℕ, ◌+◌, List, [], ◌∷◌, None, Some, refl, sym, ap, ◌∙◌, arith, inl, inr}
 use Rattle.cb_types.specs.declared.config.Config.{Config}
 use Rattle.cb_types.specs.declared.handle.Handle.{Handle}
 use Rattle.cb_types.specs.declared.job.Job.TheVariants.{Read}
@@ -143,13 +143,16 @@ found_here = not_far (record {
   events = Looked 0 here_word ∷ [];
   ran = refl;
   looks_first = tt;
-  rule = (refl, record {
-    word = here_word;
-    found = inr ((refl, refl), tt);
-    touches = (refl, tt);
-    settles_last = tt;
-    answer = refl;
-  });
+  rule = (
+    refl,
+    record {
+      word = here_word;
+      found = inr ((refl, refl), tt);
+      touches = (refl, tt);
+      settles_last = tt;
+      answer = refl;
+    },
+  );
   allowed = λ s k. absurd k.0;
   sound_after = λ s k. absurd k.0;
   effect = λ s k. absurd k.0;

@@ -14,7 +14,6 @@ use Rattle.cb_types.specs.declared.reply.Reply.TheVariants as answer
 use Rattle.cb_world.specs.Counts.{CountsState}
 use Rattle.cb_world.specs.FarState.{FarState}
 use Rattle.cb_world.specs.Placed.{HasRoom}
-use Rattle.cb_world.specs.Memory.{bytes_in, window}
 use Rattle.cb_world.specs.NodeChanges.{crashed_far}
 use Rattle.cb_world.specs.Survey.{survey_after_crash}
 use Rattle.cb_world.specs.Plain.{Words}

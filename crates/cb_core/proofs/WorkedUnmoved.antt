@@ -1,6 +1,5 @@
 -- Worked examples of a pinned object that stays where it is, and of each part alone that breaks.
-use Rattle.std.proofs.Common.{◌≡◌, ℕ, ◌+◌, List, [], ◌∷◌, replicate, refl, ap, arith, lit≤}
-use Rattle.cb_ptr.specs.Word.{len_of, place_of}
+use Rattle.std.proofs.Common.{◌≡◌, ℕ, List, [], ◌∷◌, refl, ap, arith, lit≤}
 use Rattle.cb_types.specs.declared.config.Config.{Config}
 use Rattle.cb_world.specs.Memory.{bytes_in, window}
 use Rattle.cb_world.specs.Plain.{Words}

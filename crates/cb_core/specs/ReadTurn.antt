@@ -1,5 +1,5 @@
 -- A read in two calls: the first one counts the turn and brings the object in, and the second one reads.
-use Rattle.std.specs.Prelude.{◌≡◌, ℕ, ◌^◌, ◌<◌, List, []}
+use Rattle.std.specs.Prelude.{◌≡◌, ◌^◌, ◌<◌, List, []}
 use Rattle.cb_types.specs.declared.config.Config.{Config}
 use Rattle.cb_types.specs.declared.handle.Handle.{Handle}
 use Rattle.cb_types.specs.declared.job.Job.TheVariants.{Read}

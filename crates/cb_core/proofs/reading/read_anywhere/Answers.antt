@@ -1,8 +1,7 @@
 use Rattle.std.proofs.Common.{sym, subst, ◌<◌}
 use Rattle.cb_types.specs.declared.config.Config.{Config}
 use Rattle.cb_types.specs.Config.{IsAccepted}
-use Rattle.cb_core.specs.OnceHere.{OnceHere, away, here, bringing_stops, call_stops}
-use Rattle.cb_core.specs.Turned.{ComesIn, Reads}
+use Rattle.cb_core.specs.OnceHere.{away, here, bringing_stops, call_stops}
 use Rattle.cb_core.proofs.Composing.{any_err, err_both, far_kept, holding, if_map}
 use Rattle.cb_core.proofs.reading.read_anywhere.Goals as goal
 
