@@ -1,5 +1,5 @@
 -- A turn is counted, and then does its job.
-use Rattle.std.proofs.Common.{◌≡◌, ◌^◌, ◌<◌, List, Result, sym, subst}
+use Rattle.std.proofs.Common.{◌≡◌, ℕ, ◌^◌, ◌<◌, List, Result, sym, subst}
 use Rattle.std.specs.Prelude.{IfOk, OnErr}
 use Rattle.cb_member.specs.declared.no_memory.NoMemory.{NoMemory}
 use Rattle.cb_types.specs.declared.config.Config.{Config}
@@ -22,30 +22,31 @@ counted_sound s far mid job is sound = subst (Sound s) (sym is)
     (recounted_sound s far (with_turn far.counts (job_index job)).turns
     (with_turn far.counts (job_index job)).by_job far.nodes.given sound)
 
-module _ {D : Type 0} (run : D → List Event → D → Type 0) (shows : D → Shown → Type 0) (c : Config)
-    (job : Job) (a b : Holding D) (result : Result Reply NoMemory) where
-  pub does_is : (j : Job) → job ≡ j → IfOk result (λ r. Does run shows c j a r b)
-      → IfOk result (λ r. Does run shows c job a r b)
-  does_is j is does = subst (λ (x : Job). IfOk result (λ r. Does run shows c x a r b)) (sym is) does
+module _ {D : Type 0} (run : D → List Event → D → Type 0) (shows : D → Shown → Type 0)
+    (reads : ℕ → Holding D → Reply → Holding D → Type 0) (lacks : ℕ → Holding D → Holding D → Type 0)
+    (c : Config) (job : Job) (a b : Holding D) (result : Result Reply NoMemory) where
+  pub does_is : (j : Job) → job ≡ j → IfOk result (λ r. Does run shows reads c j a r b)
+      → IfOk result (λ r. Does run shows reads c job a r b)
+  does_is j is does = subst (λ (x : Job). IfOk result (λ r. Does run shows reads c x a r b)) (sym is) does
 
-  pub stops_is : (j : Job) → job ≡ j → OnErr result (Stops run shows c j a b)
-      → OnErr result (Stops run shows c job a b)
-  stops_is j is stops = subst (λ (x : Job). OnErr result (Stops run shows c x a b)) (sym is) stops
+  pub stops_is : (j : Job) → job ≡ j → OnErr result (Stops run shows lacks c j a b)
+      → OnErr result (Stops run shows lacks c job a b)
+  stops_is j is stops = subst (λ (x : Job). OnErr result (Stops run shows lacks c x a b)) (sym is) stops
 
   pub turned : (mid : FarState) → a.far.counts.turns < 2 ^ 40 → mid ≡ counted a.far job
-      → IfOk result (λ r. Does run shows c job (record { desk = a.desk; far = mid }) r b)
-      → IfOk result (λ r. Turned run shows c job a r b)
-  turned mid few is does = if_map (λ r. Turned run shows c job a r b)
-      (λ r. Does run shows c job (record { desk = a.desk; far = mid }) r b) result does
+      → IfOk result (λ r. Does run shows reads c job (record { desk = a.desk; far = mid }) r b)
+      → IfOk result (λ r. Turned run shows reads c job a r b)
+  turned mid few is does = if_map (λ r. Turned run shows reads c job a r b)
+      (λ r. Does run shows reads c job (record { desk = a.desk; far = mid }) r b) result does
       (λ r x. done few (subst (λ (f : FarState).
-      Does run shows c job (record { desk = a.desk; far = f }) r b) is x))
+      Does run shows reads c job (record { desk = a.desk; far = f }) r b) is x))
 
   pub stopped : (mid : FarState) → a.far.counts.turns < 2 ^ 40 → mid ≡ counted a.far job
-      → OnErr result (Stops run shows c job (record { desk = a.desk; far = mid }) b)
-      → OnErr result (Stopped run shows c job a b)
-  stopped mid few is stops = err_map (Stopped run shows c job a b)
-      (Stops run shows c job (record { desk = a.desk; far = mid }) b) result stops (λ x. record {
+      → OnErr result (Stops run shows lacks c job (record { desk = a.desk; far = mid }) b)
+      → OnErr result (Stopped run shows lacks c job a b)
+  stopped mid few is stops = err_map (Stopped run shows lacks c job a b)
+      (Stops run shows lacks c job (record { desk = a.desk; far = mid }) b) result stops (λ x. record {
         few = few;
         stops = subst (λ (f : FarState).
-            Stops run shows c job (record { desk = a.desk; far = f }) b) is x;
+            Stops run shows lacks c job (record { desk = a.desk; far = f }) b) is x;
       })

@@ -12,6 +12,8 @@ pub mod StillParts
 pub mod StillFilters
 pub mod StillRebuilds
 pub mod StillBatches
+pub mod StillReads
+pub mod ReadTurns
 pub mod StillTurns
 pub mod TurnComes
 pub mod TurnCarries
@@ -52,3 +54,5 @@ pub mod CallsBeside
 pub mod RunLegal
 pub mod PartsFixed
 pub mod StepFixed
+pub mod PinnedStays
+pub mod WorkedUnmoved

@@ -14,19 +14,20 @@ use Rattle.cb_world.specs.Performs.{Performs}
 use Rattle.cb_world.specs.Sound.{Sound}
 use Rattle.cb_evict.specs.declared.eviction.Eviction.{Eviction}
 use Rattle.cb_evict.specs.declared.eviction.Eviction.TheVariants.{Refused, Set}
-use Rattle.cb_core.specs.Parts.{Holding, WithRoom, WhereItIs, NeverDeclined, BringsIn, RoomStops, CallStops, NeverLacks}
+use Rattle.cb_core.specs.OnceHere.{OnceHere, away, here, OnceHereStops, bringing_stops, call_stops as lacks_here}
+use Rattle.cb_core.specs.Parts.{Holding, WithRoom, WhereItIs, BringsIn, RoomStops, CallStops, NeverLacks}
 use Rattle.cb_core.specs.Parts.WithRoom.{at_once, no_room, won}
 use Rattle.cb_core.specs.Parts.WhereItIs.{near, declined, stays_far, brought}
 use Rattle.cb_core.specs.Parts.BringsIn.{not_far, was_far}
 use Rattle.cb_core.specs.Parts.RoomStops.{at_once as lacks_now, evicting, after}
 use Rattle.cb_core.specs.Parts.CallStops.{near as lacks_near, far as lacks_far, after as lacks_after}
-use Rattle.cb_core.specs.Turned.{Operates, Swaps, SwapLacks, Brings, BringLacks, Evicts, EvictLacks, WinsRoom, Makes, MakeLacks, Reads, ReadLacks, Writes, Declines, Finds, Does, Stops, Turned, Stopped, once_counted, worn, done}
+use Rattle.cb_core.specs.Turned.{ComesIn, ComeLacks, Operates, Swaps, SwapLacks, Brings, BringLacks, Evicts, EvictLacks, WinsRoom, Makes, MakeLacks, Reads, ReadLacks, Writes, Declines, Finds, Does, Stops, Turned, Stopped, once_counted, worn, done}
 
 -- a relation of holdings, and one of where a part stopped
-abbrev Part : Type 0 → Type 0 → Type 1
+abbrev pub Part : Type 0 → Type 0 → Type 1
 Part D A = Holding D → A → Holding D → Type 0
 
-abbrev Lack : Type 0 → Type 1
+abbrev pub Lack : Type 0 → Type 1
 Lack D = Holding D → Holding D → Type 0
 
 module _ {D E : Type 0} (run : D → List Event → D → Type 0) (shows : D → Shown → Type 0)
@@ -36,10 +37,10 @@ module _ {D E : Type 0} (run : D → List Event → D → Type 0) (shows : D →
   abbrev pub on : Holding D → Holding E
   on a = record { desk = f a.desk; far = a.far }
 
-  abbrev Maps : {A : Type 0} → Part D A → Part E A → Type 0
+  abbrev pub Maps : {A : Type 0} → Part D A → Part E A → Type 0
   Maps {A = A} P Q = (a b : Holding D) (r : A) → P a r b → Q (on a) r (on b)
 
-  abbrev MapsLack : Lack D → Lack E → Type 0
+  abbrev pub MapsLack : Lack D → Lack E → Type 0
   MapsLack L M = (a b : Holding D) → L a b → M (on a) (on b)
 
   performs : (a b : D) (far : FarState) (rules : List Event → Type 0) (sound : Shown → Type 0)
@@ -102,10 +103,19 @@ module _ {D E : Type 0} (run : D → List Event → D → Type 0) (shows : D →
       lacks_after (on m) (on n) (on last) g (p a m answer.NotHere o) (s m n None d)
       (e n last (answer.Swapped g) v) (l last b again)
 
-  -- ---- the parts
-  never : Maps NeverDeclined NeverDeclined
-  never a b r (none, same) = (none, λ i. on (same i))
+  once_here : (F P : Part D Reply) (G Q : Part E Reply) → Maps F G → Maps P Q
+      → Maps (OnceHere F P) (OnceHere G Q)
+  once_here F P G Q e p a b r (away v off) = away (e a b r v) off
+  once_here F P G Q e p a b r (here m place v there o) = here (on m) place (e a m place v) there
+      (p m b r o)
 
+  once_here_stops : (F : Part D Reply) (I L : Lack D) (G : Part E Reply) (J M : Lack E) → Maps F G
+      → MapsLack I J → MapsLack L M → MapsLack (OnceHereStops F I L) (OnceHereStops G J M)
+  once_here_stops F I L G J M e i l a b (bringing_stops v) = bringing_stops (i a b v)
+  once_here_stops F I L G J M e i l a b (lacks_here m place v there o) =
+      lacks_here (on m) place (e a m place v) there (l m b o)
+
+  -- ---- the parts
   never_lacks : MapsLack NeverLacks NeverLacks
   never_lacks a b x = x
 
@@ -117,10 +127,10 @@ module _ {D E : Type 0} (run : D → List Event → D → Type 0) (shows : D →
       → MapsLack (MakeLacks run c bytes) (MakeLacks other_run c bytes)
   make_lacks c bytes a b (ran, same, needs) = (back a.desk b.desk [] ran, same, needs)
 
-  reads : (h : ℕ) → Maps (Reads run shows h) (Reads other_run other_shows h)
+  pub reads : (h : ℕ) → Maps (Reads run shows h) (Reads other_run other_shows h)
   reads h a b r p = performs a.desk b.desk a.far _ _ _ p
 
-  read_lacks : (h : ℕ) → MapsLack (ReadLacks run shows h) (ReadLacks other_run other_shows h)
+  pub read_lacks : (h : ℕ) → MapsLack (ReadLacks run shows h) (ReadLacks other_run other_shows h)
   read_lacks h a b (same, p) = (same, performs a.desk b.desk a.far _ _ _ p)
 
   writes : (h at : ℕ) (bytes : List ℕ)
@@ -160,69 +170,83 @@ module _ {D E : Type 0} (run : D → List Event → D → Type 0) (shows : D →
       (SwapLacks other_run h) (EvictLacks other_run other_shows) (swaps h) (swap_lacks h) (wins c)
       evict_lacks
 
-  -- ---- the jobs
-  pub does : (c : Config) (job : Job) → Maps (Does run shows c job) (Does other_run other_shows c job)
-  does c (Make bytes) a b r x =
+  comes_in : (c : Config) (h : ℕ) → Maps (ComesIn run shows c h) (ComesIn other_run other_shows c h)
+  comes_in c h = brings_in (Finds run shows h) (Brings run shows c h) (Finds other_run other_shows h)
+      (Brings other_run other_shows c h) (finds h) (brings c h)
+
+  come_lacks : (c : Config) (h : ℕ)
+      → MapsLack (ComeLacks run shows c h) (ComeLacks other_run other_shows c h)
+  come_lacks c h a b (m, find, lacks) =
+      (on m, finds h a m answer.NotHere find, bring_lacks c h m b lacks)
+
+  -- ---- the jobs, where a read goes along
+  pub does : (reading : ℕ → Part D Reply) (other : ℕ → Part E Reply)
+      → ((h : ℕ) → Maps (reading h) (other h)) → (c : Config) (job : Job)
+      → Maps (Does run shows reading c job) (Does other_run other_shows other c job)
+  does reading other read c (Make bytes) a b r x =
       with_room c.frames (Makes run shows c bytes) (WinsRoom run shows c)
       (Makes other_run other_shows c bytes) (WinsRoom other_run other_shows c) (makes c bytes) (wins c)
       a b r x
-  does c (Read handle) a b r x = let h = handle.n in
-      where_it_is (Reads run shows h) (Brings run shows c h) NeverDeclined
-      (Reads other_run other_shows h) (Brings other_run other_shows c h) NeverDeclined (reads h) never
-      (brings c h) a b r x
-  does c (Write handle at bytes) a b r x = let h = handle.n in let count = length bytes in
+  does reading other read c (Read handle) a b r x = let h = handle.n in
+      once_here (ComesIn run shows c h) (reading h) (ComesIn other_run other_shows c h) (other h)
+      (comes_in c h) (read h) a b r x
+  does reading other read c (Write handle at bytes) a b r x = let h = handle.n in let count = length bytes in
       where_it_is (Writes run shows h at bytes) (Brings run shows c h) (Declines run shows h at count)
       (Writes other_run other_shows h at bytes) (Brings other_run other_shows c h)
       (Declines other_run other_shows h at count) (writes h at bytes) (declines h at count) (brings c h)
       a b r x
-  does c (Free handle) a b r p = performs a.desk b.desk a.far _ _ _ p
-  does c (Swap handle) a b r x = let h = handle.n in
-      brings_in (Finds run shows h) (Brings run shows c h) (Finds other_run other_shows h)
-      (Brings other_run other_shows c h) (finds h) (brings c h) a b r x
-  does c (Filter handle) a b r p = performs a.desk b.desk a.far _ _ _ p
-  does c Evict a b r p = performs a.desk b.desk a.far _ _ _ p
-  does c Begin a b r p = performs a.desk b.desk a.far _ _ _ p
-  does c Ship a b r p = performs a.desk b.desk a.far _ _ _ p
-  does c Commit a b r p = performs a.desk b.desk a.far _ _ _ p
-  does c Abort a b r p = performs a.desk b.desk a.far _ _ _ p
-  does c Rebuild a b r (ran, step) = (back a.desk b.desk [] ran, step)
-  does c (Crash node) a b r (ran, step) = (back a.desk b.desk [] ran, step)
-  does c (Join node) a b r (ran, step) = (back a.desk b.desk [] ran, step)
-  does c job a b r x = absurd x
+  does reading other read c (Free handle) a b r p = performs a.desk b.desk a.far _ _ _ p
+  does reading other read c (Swap handle) a b r x = comes_in c handle.n a b r x
+  does reading other read c (Filter handle) a b r p = performs a.desk b.desk a.far _ _ _ p
+  does reading other read c Evict a b r p = performs a.desk b.desk a.far _ _ _ p
+  does reading other read c Begin a b r p = performs a.desk b.desk a.far _ _ _ p
+  does reading other read c Ship a b r p = performs a.desk b.desk a.far _ _ _ p
+  does reading other read c Commit a b r p = performs a.desk b.desk a.far _ _ _ p
+  does reading other read c Abort a b r p = performs a.desk b.desk a.far _ _ _ p
+  does reading other read c Rebuild a b r (ran, step) = (back a.desk b.desk [] ran, step)
+  does reading other read c (Crash node) a b r (ran, step) = (back a.desk b.desk [] ran, step)
+  does reading other read c (Join node) a b r (ran, step) = (back a.desk b.desk [] ran, step)
+  does reading other read c job a b r x = absurd x
 
-  pub stops : (c : Config) (job : Job)
-      → MapsLack (Stops run shows c job) (Stops other_run other_shows c job)
-  stops c (Make bytes) a b x =
+  pub stops : (lacking : ℕ → Lack D) (other : ℕ → Lack E)
+      → ((h : ℕ) → MapsLack (lacking h) (other h)) → (c : Config) (job : Job)
+      → MapsLack (Stops run shows lacking c job) (Stops other_run other_shows other c job)
+  stops lacking other lack c (Make bytes) a b x =
       room_stops (Makes run shows c bytes) (WinsRoom run shows c) (MakeLacks run c bytes)
       (EvictLacks run shows) (Makes other_run other_shows c bytes) (WinsRoom other_run other_shows c)
       (MakeLacks other_run c bytes) (EvictLacks other_run other_shows) (makes c bytes)
       (make_lacks c bytes) (wins c) evict_lacks a b x
-  stops c (Read handle) a b x = let h = handle.n in
-      call_stops (Reads run shows h) (Brings run shows c h) NeverDeclined (ReadLacks run shows h)
-      (BringLacks run shows c h) (Reads other_run other_shows h) (Brings other_run other_shows c h)
-      NeverDeclined (ReadLacks other_run other_shows h) (BringLacks other_run other_shows c h) (reads h)
-      (read_lacks h) never (brings c h) (bring_lacks c h) a b x
-  stops c (Write handle at bytes) a b x = let h = handle.n in let count = length bytes in
+  stops lacking other lack c (Read handle) a b x = let h = handle.n in
+      once_here_stops (ComesIn run shows c h) (ComeLacks run shows c h) (lacking h)
+      (ComesIn other_run other_shows c h) (ComeLacks other_run other_shows c h) (other h) (comes_in c h)
+      (come_lacks c h) (lack h) a b x
+  stops lacking other lack c (Write handle at bytes) a b x = let h = handle.n in let count = length bytes in
       call_stops (Writes run shows h at bytes) (Brings run shows c h) (Declines run shows h at count)
       NeverLacks (BringLacks run shows c h) (Writes other_run other_shows h at bytes)
       (Brings other_run other_shows c h) (Declines other_run other_shows h at count) NeverLacks
       (BringLacks other_run other_shows c h) (writes h at bytes) never_lacks (declines h at count)
       (brings c h) (bring_lacks c h) a b x
-  stops c (Swap handle) a b (m, find, lacks) = let h = handle.n in
-      (on m, finds h a m answer.NotHere find, bring_lacks c h m b lacks)
-  stops c (Filter handle) a b p = performs a.desk b.desk a.far _ _ _ p
-  stops c Evict a b x = evict_lacks a b x
-  stops c Begin a b x = evict_lacks a b x
-  stops c Ship a b (same, p) = (same, performs a.desk b.desk a.far _ _ _ p)
-  stops c Rebuild a b (ran, given) = (back a.desk b.desk [] ran, given)
-  stops c (Crash node) a b (ran, same, up) = (back a.desk b.desk [] ran, same, up)
-  stops c job a b x = absurd x
+  stops lacking other lack c (Swap handle) a b x = come_lacks c handle.n a b x
+  stops lacking other lack c (Filter handle) a b p = performs a.desk b.desk a.far _ _ _ p
+  stops lacking other lack c Evict a b x = evict_lacks a b x
+  stops lacking other lack c Begin a b x = evict_lacks a b x
+  stops lacking other lack c Ship a b (same, p) = (same, performs a.desk b.desk a.far _ _ _ p)
+  stops lacking other lack c Rebuild a b (ran, given) = (back a.desk b.desk [] ran, given)
+  stops lacking other lack c (Crash node) a b (ran, same, up) = (back a.desk b.desk [] ran, same, up)
+  stops lacking other lack c job a b x = absurd x
 
-  pub turned : (c : Config) (job : Job)
-      → Maps (Turned run shows c job) (Turned other_run other_shows c job)
-  turned c job a b r (worn end reply state ran) = worn end reply state (back a.desk b.desk [] ran)
-  turned c job a b r (done few x) = done few (does c job (once_counted a job) b r x)
+  pub turned : (reading : ℕ → Part D Reply) (other : ℕ → Part E Reply)
+      → ((h : ℕ) → Maps (reading h) (other h)) → (c : Config) (job : Job)
+      → Maps (Turned run shows reading c job) (Turned other_run other_shows other c job)
+  turned reading other read c job a b r (worn end reply state ran) =
+      worn end reply state (back a.desk b.desk [] ran)
+  turned reading other read c job a b r (done few x) =
+      done few (does reading other read c job (once_counted a job) b r x)
 
-  pub stopped : (c : Config) (job : Job)
-      → MapsLack (Stopped run shows c job) (Stopped other_run other_shows c job)
-  stopped c job a b x = record { few = x.few; stops = stops c job (once_counted a job) b x.stops }
+  pub stopped : (lacking : ℕ → Lack D) (other : ℕ → Lack E)
+      → ((h : ℕ) → MapsLack (lacking h) (other h)) → (c : Config) (job : Job)
+      → MapsLack (Stopped run shows lacking c job) (Stopped other_run other_shows other c job)
+  stopped lacking other lack c job a b x = record {
+    few = x.few;
+    stops = stops lacking other lack c job (once_counted a job) b x.stops;
+  }

@@ -28,7 +28,8 @@ use Rattle.cb_filter.specs.FilterRule.{AbsentAs as AbsentFilter, EmptyAnswer as 
 use Rattle.cb_rebuild.specs.RebuildStep.{RebuildStep}
 use Rattle.cb_core.specs.Membership.{CrashTurn, crashed, is_down, JoinTurn, joined, is_up}
 use Rattle.cb_core.specs.Parts.{Holding, WithRoom, at_once, no_room, won, WhereItIs, near, declined, stays_far, brought, BringsIn, not_far, was_far}
-use Rattle.cb_core.specs.Turned.{Does, IsDeclined}
+use Rattle.cb_core.specs.OnceHere.{OnceHere, away, here as once_in}
+use Rattle.cb_core.specs.Turned.{ComesIn, Does, IsDeclined, Reads}
 
 -- whether a reply is that there is no frame
 abbrev says_no_frame : Reply → Bool
@@ -198,7 +199,7 @@ declined_never h at count far r es (inr (stays, (w, v, found, told, last, is))) 
 
 -- ---- the parts one after another
 -- no reply of a part is so
-abbrev AllNever : {D : Type 0} → (Holding D → Reply → Holding D → Type 0) → Type 0
+abbrev pub AllNever : {D : Type 0} → (Holding D → Reply → Holding D → Type 0) → Type 0
 AllNever {D = D} P = (a b : Holding D) (r : Reply) → P a r b → Never r
 
 room_never : {D : Type 0} (frames : ℕ) (P : Holding D → Reply → Holding D → Type 0)
@@ -221,22 +222,37 @@ brings_never : {D : Type 0} (P E : Holding D → Reply → Holding D → Type 0)
 brings_never P E p e a b r (not_far o never) = p a b r o
 brings_never P E p e a b r (was_far m o v) = e m b r v
 
+once_never : {D : Type 0} (P E : Holding D → Reply → Holding D → Type 0) → AllNever P → AllNever E
+    → AllNever (OnceHere P E)
+once_never P E p e a b r (away o off) = p a b r o
+once_never P E p e a b r (once_in m place o there call) = e m b r call
+
 -- ---- a job, and a turn
+-- a bringing in, and a read at the desk
 module _ {D : Type 0} (run : D → List Event → D → Type 0) (shows : D → Shown → Type 0) (c : Config)
   where
-    pub does_never : (job : Job) (a b : Holding D) (r : Reply) → Does run shows c job a r b → Never r
+    pub comes_never : (h : ℕ) → AllNever (ComesIn run shows c h)
+    comes_never h a b r come = brings_never _ _
+        (λ a b r x. answered _ (state_of x.rule.1.word) x.rule.1.word h x.events r
+        (λ is. off r answer.Stays refl is) x.rule.1.answer) (room_never _ _ _) a b r come
+
+    pub reads_never : (h : ℕ) → AllNever (Reads run shows h)
+    reads_never h a b r x = read_never h r x.events x.rule.1
+
+module _ {D : Type 0} (run : D → List Event → D → Type 0) (shows : D → Shown → Type 0)
+    (reads : ℕ → Holding D → Reply → Holding D → Type 0) (read : (h : ℕ) → AllNever (reads h))
+    (c : Config) where
+    pub does_never : (job : Job) (a b : Holding D) (r : Reply) → Does run shows reads c job a r b
+        → Never r
     does_never (Make bytes) a b r does = room_never _ _ _ a b r does
-    does_never (Read handle) a b r does = where_never _ _ _
-        (λ a b r x. read_never handle.n r x.events x.rule.1) (λ a b r x. absurd (some_none r x.0))
-        (room_never _ _ _) a b r does
+    does_never (Read handle) a b r does = once_never (ComesIn run shows c handle.n) (reads handle.n)
+        (comes_never run shows c handle.n) (read handle.n) a b r does
     does_never (Write handle at bytes) a b r does = where_never _ _ _
         (λ a b r x. write_never handle.n at bytes r x.events x.rule.1)
         (λ a b r x. declined_never handle.n at (length bytes) a.far r x.1.events x.1.rule)
         (room_never _ _ _) a b r does
     does_never (Free handle) a b r does = free_never handle.n a.far b.far r does.events does.rule
-    does_never (Swap handle) a b r does = brings_never _ _
-        (λ a b r x. answered _ (state_of x.rule.1.word) x.rule.1.word handle.n x.events r
-        (λ is. off r answer.Stays refl is) x.rule.1.answer) (room_never _ _ _) a b r does
+    does_never (Swap handle) a b r does = comes_never run shows c handle.n a b r does
     does_never (Filter handle) a b r does =
         filter_never c.frames handle.n a.far b.far r does.events does.rule
     does_never Evict a b r does = evict_never c a.far b.far r does.events does.rule

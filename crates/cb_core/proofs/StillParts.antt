@@ -154,7 +154,7 @@ free_part c seats h a b r good p =
         (freed_pinned a.desk seats h n good.pinned (no_pins a.desk seats h good.pinned may))) step
 
 -- the next handle has an empty word, without pins
-next_free : (x : Words) (far : FarState) (s : Shown) → IsKnown x far s
+pub next_free : (x : Words) (far : FarState) (s : Shown) → IsKnown x far s
     → far.made < x.settings.handles → pins_of (word_at x far.made) ≡ 0
 next_free x far s k more =
     let h = far.made in

@@ -8,6 +8,7 @@ use Rattle.cb_world.specs.Seats.{SeatState}
 use Rattle.cb_evict.specs.declared.eviction.Eviction.{Eviction}
 use Rattle.cb_evict.specs.declared.eviction.Eviction.TheVariants.{Refused, Set}
 use Rattle.cb_core.specs.Parts.{Holding, WithRoom, at_once, no_room, won, WhereItIs, near, declined, stays_far, brought, BringsIn, not_far, was_far, RoomStops, evicting, after, CallStops, far}
+use Rattle.cb_core.specs.OnceHere.{OnceHere, away, here, OnceHereStops, bringing_stops, call_stops as calling_stops}
 use Rattle.cb_core.proofs.KeptParts.{Carries, CarriesLack, arrives_then, arrives_more}
 
 -- an operation for which room is won
@@ -131,3 +132,30 @@ call_stops c seats n l m k P Q L M S T E F I J most p lack look e i a b good
     (omega arith)
     (arrives_then c seats n l (n + l) a mid next _ _ (T mid None next) (omega arith) z y y.is) x x.is) w
     (after mid next last f z.is y.is x.is w.is)
+
+-- a call on an object that is first brought in
+pub once_here : (c : Config) (seats : List SeatState) (n m k : ℕ)
+    (B C P Q : Holding Words → Reply → Holding Words → Type 0) → n + m ≤ k
+    → Carries c seats n B C → Carries c seats m P Q
+    → Carries c seats k (OnceHere B P) (OnceHere C Q)
+once_here c seats n m k B C P Q most come p a b r good (away o off) =
+    let z = come a b r good o in
+    arrives_more c seats n k a b (C a r b) _ (omega (arith, most)) z (away z.is off)
+once_here c seats n m k B C P Q most come p a b r good (here mid place o there x) =
+    let z = come a mid place good o in
+    let y = p mid b r z.good x in
+    arrives_then c seats n m k a mid b _ _ _ most z y (here mid place z.is there y.is)
+
+-- and one that found no memory
+pub once_here_stops : (c : Config) (seats : List SeatState) (n m k : ℕ)
+    (B C : Holding Words → Reply → Holding Words → Type 0)
+    (I J L M : Holding Words → Holding Words → Type 0) → n + m ≤ k
+    → Carries c seats n B C → CarriesLack c seats n I J → CarriesLack c seats m L M
+    → CarriesLack c seats k (OnceHereStops B I L) (OnceHereStops C J M)
+once_here_stops c seats n m k B C I J L M most come i l a b good (bringing_stops o) =
+    let z = i a b good o in
+    arrives_more c seats n k a b (J a b) _ (omega (arith, most)) z (bringing_stops z.is)
+once_here_stops c seats n m k B C I J L M most come i l a b good (calling_stops mid place o there x) =
+    let z = come a mid place good o in
+    let y = l mid b z.good x in
+    arrives_then c seats n m k a mid b _ _ _ most z y (calling_stops mid place z.is there y.is)

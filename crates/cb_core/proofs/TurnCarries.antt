@@ -46,11 +46,11 @@ use Rattle.cb_core.specs.Declining.{far_refusal}
 use Rattle.cb_core.specs.Jobs.{IsJob}
 use Rattle.cb_core.specs.Membership.{CrashTurn, crashed, is_down, JoinTurn, joined, is_up}
 use Rattle.cb_core.specs.Parts.{Holding, NeverDeclined, NeverLacks, at_once, no_room, won}
-use Rattle.cb_core.specs.Turned.{Swaps, SwapLacks, Brings, BringLacks, Evicts, WinsRoom, EvictLacks, Makes, MakeLacks, Reads, ReadLacks, Writes as WritesAt, Declines, Finds, Does, Stops, IsDeclined, once_counted, counted}
+use Rattle.cb_core.specs.Turned.{Swaps, SwapLacks, Brings, BringLacks, ComesIn, ComeLacks, Evicts, WinsRoom, EvictLacks, Makes, MakeLacks, Reads, ReadLacks, Writes as WritesAt, Declines, Finds, Does, Stops, IsDeclined, once_counted, counted}
 use Rattle.cb_core.specs.TurnLeaves.{MakeWrites, WriteWrites, FreeWrites, TurnWrites}
 use Rattle.cb_core.proofs.Counting.{counted_sound}
 use Rattle.cb_core.proofs.NodesStay.{crash_stays, join_stays}
-use Rattle.cb_core.proofs.TurnComes.{AreLaws, Carries, CarriesLack, Comes, Good, IsNone, IsQuiet, Nil, comes_by, comes_far, comes_more, comes_none, then_none, good_then, with_room, room_stops, where_it_is, brings_in, call_stops}
+use Rattle.cb_core.proofs.TurnComes.{AreLaws, Carries, CarriesLack, Comes, Good, IsNone, IsQuiet, Nil, comes_by, comes_far, comes_more, comes_none, then_none, good_then, with_room, room_stops, where_it_is, brings_in, call_stops, once_here, once_here_stops}
 
 -- ---- what the calls write
 make_writes : (bytes : List ℕ) (far new : FarState) (r : Reply) (es : List Event) (s t : Shown)
@@ -140,12 +140,12 @@ module _ {D : Type 0} (run : D → List Event → D → Type 0) (shows : D → S
   make_lacks bytes a b good p = comes_far run shows laws c 1 a b good p.0
       (λ s sound. (stays_same c 1 a.far b.far (omega arith) p.1, subst (Sound s) (sym p.1) sound))
 
-  reads : (h : ℕ) → Leads 1 Nil (Reads run shows h)
+  pub reads : (h : ℕ) → Leads 1 Nil (Reads run shows h)
   reads h a b r good p = comes_none run shows laws c 1 a b _ _ good
       (λ s sound. stays_same c 1 a.far b.far (omega arith) p.rule.0) p
       (λ s e. read_unwritten h r p.events s (played p.events s) e)
 
-  read_lacks : (h : ℕ) → Lacks 1 (ReadLacks run shows h)
+  pub read_lacks : (h : ℕ) → Lacks 1 (ReadLacks run shows h)
   read_lacks h a b good (same, p) = comes_none run shows laws c 1 a b _ _ good
       (λ s sound. stays_same c 1 a.far b.far (omega arith) same) p (λ s e. e.nothing)
 
@@ -204,6 +204,16 @@ module _ {D : Type 0} (run : D → List Event → D → Type 0) (shows : D → S
       (Swaps run shows h) (WinsRoom run shows c) (SwapLacks run h) (EvictLacks run shows) (omega arith)
       (swaps h) (swap_lacks h) wins evict_lacks
 
+  -- an object comes in, or there is no memory for that
+  pub comes_in : (h : ℕ) → Leads 57 Nil (ComesIn run shows c h)
+  comes_in h = brings_in run shows laws c 1 56 57 (Finds run shows h) (Brings run shows c h)
+      (omega arith) (finds h) (brings h)
+
+  pub come_lacks : (h : ℕ) → Lacks 57 (ComeLacks run shows c h)
+  come_lacks h a b good (m, find, lacks) = let z = finds h a m answer.NotHere good find in
+      then_none run shows laws c 1 56 57 a m b (omega arith) z
+      (bring_lacks h m b (good_then run shows laws c 1 IsNone a m good z) lacks)
+
   -- a write whose object can't be brought in is answered no version
   brings_no_version : (h at : ℕ) (bytes : List ℕ) (k : ℕ) (x y : Hold) (r : Reply)
       → Brings run shows c k x r y → WriteWrites h at bytes r []
@@ -238,108 +248,106 @@ module _ {D : Type 0} (run : D → List Event → D → Type 0) (shows : D → S
 
   -- ---- the jobs
   -- a part whose numbers rise by no more than those of a job may
-  in_job : (W : List Entry → Type 0) (n : ℕ) (a b : Hold) → n ≤ 64 → Comes run shows c n W a b
+  pub in_job : (W : List Entry → Type 0) (n : ℕ) (a b : Hold) → n ≤ 64 → Comes run shows c n W a b
       → Comes run shows c 64 W a b
   in_job W n a b most z = comes_more run shows laws c W n 64 a b most z
 
-  pub does_comes : (job : Job) (a b : Hold) (r : Reply) → IsJob c job → Good shows c a
-      → Does run shows c job a r b → Comes run shows c 64 (TurnWrites job r) a b
-  does_comes (Make bytes) a b r ok good x =
+  -- however an object is read
+  pub does_comes : (reading : ℕ → Hold → Reply → Hold → Type 0) → ((h : ℕ) → Leads 1 Nil (reading h))
+      → (job : Job) (a b : Hold) (r : Reply) → IsJob c job → Good shows c a
+      → Does run shows reading c job a r b → Comes run shows c 64 (TurnWrites job r) a b
+  does_comes reading read (Make bytes) a b r ok good x =
       with_room run shows laws c (MakeWrites bytes) (make_quiet bytes) c.frames
       (λ loose nodes. refl) 1 24 64 (Makes run shows c bytes) (WinsRoom run shows c) (omega arith)
       (makes bytes) wins a b r good x
-  does_comes (Read handle) a b r ok good x = let h = handle.n in
-      where_it_is run shows laws c Nil (nil_quiet answer.NotHere) 1 1 56 64 (Reads run shows h)
-      (Brings run shows c h) NeverDeclined (λ m n q e. refl) (λ m n q e. refl) (omega arith) (reads h)
-      never (brings h) a b r good x
-  does_comes (Write handle at bytes) a b r ok good x =
+  does_comes reading read (Read handle) a b r ok good x = let h = handle.n in
+      once_here run shows laws c 57 1 64 (ComesIn run shows c h) (reading h) (omega arith) (comes_in h)
+      (read h) a b r good x
+  does_comes reading read (Write handle at bytes) a b r ok good x =
       let h = handle.n in let count = length bytes in
       where_it_is run shows laws c (WriteWrites h at bytes) (write_quiet h at bytes) 1 1 56 64
       (WritesAt run shows h at bytes) (Brings run shows c h) (Declines run shows h at count)
       (λ m n q (same, p). declined_none h at bytes count m.far q p.events p.rule)
       (λ m n q e. brings_no_version h at bytes h m n q e) (omega arith) (writes h at bytes)
       (declines h at count) (brings h) a b r good x
-  does_comes (Free handle) a b r ok good p = let h = handle.n in
+  does_comes reading read (Free handle) a b r ok good p = let h = handle.n in
       in_job (FreeWrites h r) 1 a b (omega arith) (comes_by run shows laws c (FreeWrites h r) 1 a b _ _ good
       (λ s sound. free_stays c h a.far b.far r p.events p.rule) p
       (λ s e. free_writes h r p.events s (played p.events s) e))
-  does_comes (Swap handle) a b r ok good x = let h = handle.n in
-      brings_in run shows laws c 1 56 64 (Finds run shows h) (Brings run shows c h) (omega arith)
-      (finds h) (brings h) a b r good x
-  does_comes (Filter handle) a b r ok good p = let h = handle.n in
+  does_comes reading read (Swap handle) a b r ok good x =
+      in_job IsNone 57 a b (omega arith) (comes_in handle.n a b r good x)
+  does_comes reading read (Filter handle) a b r ok good p = let h = handle.n in
       in_job IsNone 1 a b (omega arith) (comes_none run shows laws c 1 a b _ _ good
       (λ s sound. filter_stays c c.frames h a.far b.far r p.events p.rule) p
       (λ s e. filter_unwritten h a.far b.far r p.events s (played p.events s) e))
-  does_comes Evict a b r ok good x = in_job IsNone 24 a b (omega arith) (evicts a b r good x)
-  does_comes Begin a b r ok good p =
+  does_comes reading read Evict a b r ok good x = in_job IsNone 24 a b (omega arith) (evicts a b r good x)
+  does_comes reading read Begin a b r ok good p =
       in_job IsNone 1 a b (omega arith) (comes_none run shows laws c 1 a b _ _ good
       (λ s sound. begin_stays c a.far b.far r p.events p.rule) p
       (λ s e. begin_unwritten c a.far b.far r p.events s (played p.events s) p.rule e))
-  does_comes Ship a b r ok good p =
+  does_comes reading read Ship a b r ok good p =
       in_job IsNone 1 a b (omega arith) (comes_none run shows laws c 1 a b _ _ good
       (λ s sound. ship_stays c a.far b.far r p.events p.rule) p (λ s e. e.still.nothing))
-  does_comes Commit a b r ok good p =
+  does_comes reading read Commit a b r ok good p =
       in_job IsNone 1 a b (omega arith) (comes_none run shows laws c 1 a b _ _ good
       (λ s sound. commit_stays c s a.far b.far r p.events sound p.rule) p
       (λ s e. commit_unwritten a.far b.far r p.events s (played p.events s) p.rule e))
-  does_comes Abort a b r ok good p =
+  does_comes reading read Abort a b r ok good p =
       in_job IsNone 1 a b (omega arith) (comes_none run shows laws c 1 a b _ _ good
       (λ s sound. abort_stays c a.far b.far r p.events p.rule) p
       (λ s e. abort_unwritten a.far b.far r p.events s (played p.events s) p.rule e))
-  does_comes Rebuild a b r ok good (ran, step) =
+  does_comes reading read Rebuild a b r ok good (ran, step) =
       in_job IsNone 16 a b (omega arith) (comes_far run shows laws c 16 a b good ran
       (λ s sound. (
         rebuild_stays c s a.far b.far r sound step,
         (keeps_step s a.far b.far r sound step).sound,
       )))
-  does_comes (Crash node) a b r ok good (ran, turn) =
+  does_comes reading read (Crash node) a b r ok good (ran, turn) =
       in_job IsNone 1 a b (omega arith) (comes_far run shows laws c 1 a b good ran
       (λ s sound. (
         crash_stays c node a.far b.far r turn,
         crash_sound node a b r s good.configured ok turn sound,
       )))
-  does_comes (Join node) a b r ok good (ran, turn) =
+  does_comes reading read (Join node) a b r ok good (ran, turn) =
       in_job IsNone 1 a b (omega arith) (comes_far run shows laws c 1 a b good ran
       (λ s sound. (
         join_stays c node a.far b.far r turn,
         join_sound node a b r s good.configured ok turn sound,
       )))
-  does_comes Pair a b r ok good x = absurd ok
-  does_comes Patch a b r ok good x = absurd ok
-  does_comes Merge a b r ok good x = absurd ok
-  does_comes Part a b r ok good x = absurd ok
-  does_comes Compact a b r ok good x = absurd ok
+  does_comes reading read Pair a b r ok good x = absurd ok
+  does_comes reading read Patch a b r ok good x = absurd ok
+  does_comes reading read Merge a b r ok good x = absurd ok
+  does_comes reading read Part a b r ok good x = absurd ok
+  does_comes reading read Compact a b r ok good x = absurd ok
 
   -- ---- want of memory
-  pub stops_comes : (job : Job) (a b : Hold) → Good shows c a → Stops run shows c job a b
+  pub stops_comes : (lacking : ℕ → Hold → Hold → Type 0) → ((h : ℕ) → Lacks 1 (lacking h))
+      → (job : Job) (a b : Hold) → Good shows c a → Stops run shows lacking c job a b
       → Comes run shows c 64 IsNone a b
-  stops_comes (Make bytes) a b good x =
+  stops_comes lacking lack (Make bytes) a b good x =
       room_stops run shows laws c (MakeWrites bytes) (make_quiet bytes) 1 24 64
       (Makes run shows c bytes) (WinsRoom run shows c) (MakeLacks run c bytes) (EvictLacks run shows)
       (omega arith) (makes bytes) (make_lacks bytes) wins evict_lacks a b good x
-  stops_comes (Read handle) a b good x = let h = handle.n in
-      call_stops run shows laws c Nil (nil_quiet answer.NotHere) 1 1 56 64 (Reads run shows h)
-      (Brings run shows c h) NeverDeclined (ReadLacks run shows h) (BringLacks run shows c h)
-      (omega arith) (reads h) (read_lacks h) never (brings h) (bring_lacks h) a b good x
-  stops_comes (Write handle at bytes) a b good x =
+  stops_comes lacking lack (Read handle) a b good x = let h = handle.n in
+      once_here_stops run shows laws c 57 1 64 (ComesIn run shows c h) (ComeLacks run shows c h)
+      (lacking h) (omega arith) (comes_in h) (come_lacks h) (lack h) a b good x
+  stops_comes lacking lack (Write handle at bytes) a b good x =
       let h = handle.n in let count = length bytes in
       call_stops run shows laws c (WriteWrites h at bytes) (write_quiet h at bytes) 1 1 56 64
       (WritesAt run shows h at bytes) (Brings run shows c h) (Declines run shows h at count) NeverLacks
       (BringLacks run shows c h) (omega arith) (writes h at bytes) never_lacks (declines h at count)
       (brings h) (bring_lacks h) a b good x
-  stops_comes (Swap handle) a b good (m, find, lacks) =
-      let h = handle.n in let z = finds h a m answer.NotHere good find in
-      then_none run shows laws c 1 56 64 a m b (omega arith) z
-      (bring_lacks h m b (good_then run shows laws c 1 IsNone a m good z) lacks)
-  stops_comes (Filter handle) a b good p =
+  stops_comes lacking lack (Swap handle) a b good x =
+      in_job IsNone 57 a b (omega arith) (come_lacks handle.n a b good x)
+  stops_comes lacking lack (Filter handle) a b good p =
       in_job IsNone 1 a b (omega arith) (comes_none run shows laws c 1 a b _ _ good
       (λ s sound. stays_same c 1 a.far b.far (omega arith) p.rule.state) p (λ s e. e.nothing))
-  stops_comes Evict a b good x = in_job IsNone 24 a b (omega arith) (evict_lacks a b good x)
-  stops_comes Begin a b good x = in_job IsNone 24 a b (omega arith) (evict_lacks a b good x)
-  stops_comes Ship a b good (same, p) =
+  stops_comes lacking lack Evict a b good x = in_job IsNone 24 a b (omega arith) (evict_lacks a b good x)
+  stops_comes lacking lack Begin a b good x = in_job IsNone 24 a b (omega arith) (evict_lacks a b good x)
+  stops_comes lacking lack Ship a b good (same, p) =
       in_job IsNone 1 a b (omega arith) (comes_none run shows laws c 1 a b _ _ good
       (λ s sound. stays_same c 1 a.far b.far (omega arith) same) p (λ s e. e.nothing))
-  stops_comes Rebuild a b good (ran, (id, set, n, first, few, state)) =
+  stops_comes lacking lack Rebuild a b good (ran, (id, set, n, first, few, state)) =
       in_job IsNone 16 a b (omega arith) (comes_far run shows laws c 16 a b good ran
       (λ s sound. (
         failed_stays c s a.far b.far id n set sound first.there few state,
@@ -350,15 +358,15 @@ module _ {D : Type 0} (run : D → List Event → D → Type 0) (shows : D → S
       given_sound : (s : Shown) (far : FarState) (n : ℕ) → Sound s far → Sound s (far_given far n)
       given_sound s far n sound =
           recounted_sound s far far.counts.turns far.counts.by_job (far.nodes.given + n) sound
-  stops_comes (Crash node) a b good (ran, same, up) =
+  stops_comes lacking lack (Crash node) a b good (ran, same, up) =
       in_job IsNone 1 a b (omega arith) (comes_far run shows laws c 1 a b good ran
       (λ s sound. (stays_same c 1 a.far b.far (omega arith) same, subst (Sound s) (sym same) sound)))
-  stops_comes (Free handle) a b good x = absurd x
-  stops_comes Commit a b good x = absurd x
-  stops_comes Abort a b good x = absurd x
-  stops_comes Pair a b good x = absurd x
-  stops_comes Patch a b good x = absurd x
-  stops_comes Merge a b good x = absurd x
-  stops_comes Part a b good x = absurd x
-  stops_comes Compact a b good x = absurd x
-  stops_comes (Join node) a b good x = absurd x
+  stops_comes lacking lack (Free handle) a b good x = absurd x
+  stops_comes lacking lack Commit a b good x = absurd x
+  stops_comes lacking lack Abort a b good x = absurd x
+  stops_comes lacking lack Pair a b good x = absurd x
+  stops_comes lacking lack Patch a b good x = absurd x
+  stops_comes lacking lack Merge a b good x = absurd x
+  stops_comes lacking lack Part a b good x = absurd x
+  stops_comes lacking lack Compact a b good x = absurd x
+  stops_comes lacking lack (Join node) a b good x = absurd x

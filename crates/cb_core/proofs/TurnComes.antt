@@ -16,6 +16,7 @@ use Rattle.cb_world.proofs.Staying.{Rises, StaysIf, rises_more, rises_then}
 use Rattle.cb_world.proofs.Tracing.{played_append, written_append}
 use Rattle.cb_evict.specs.declared.eviction.Eviction.{Eviction}
 use Rattle.cb_evict.specs.declared.eviction.Eviction.TheVariants.{Refused, Set}
+use Rattle.cb_core.specs.OnceHere.{OnceHere, away, here, OnceHereStops, bringing_stops, call_stops as lacks_here}
 use Rattle.cb_core.specs.Parts.{Holding, WithRoom, WhereItIs, NeverDeclined, BringsIn, RoomStops, CallStops}
 use Rattle.cb_core.specs.Parts.WithRoom.{at_once, no_room, won}
 use Rattle.cb_core.specs.Parts.WhereItIs.{near, declined, stays_far, brought}
@@ -302,3 +303,21 @@ module _ {D : Type 0} (run : D → List Event → D → Type 0) (shows : D → S
       (e next last (answer.Swapped f) (good_then (n + l) IsNone a next good y) v) in
       then_none (n + l + m) n k a last b most x
       (lack last b (good_then (n + l + m) IsNone a last good x) again)
+
+  -- an object is brought in, and the call is made where it is here
+  pub once_here : (n m k : ℕ) (E P : Hold → Reply → Hold → Type 0) → n + m ≤ k → Carries n Nil E
+      → Carries m Nil P → Carries k Nil (OnceHere E P)
+  once_here n m k E P most e p a b r good (away o off) =
+      comes_more IsNone n k a b (omega (arith, most)) (e a b r good o)
+  once_here n m k E P most e p a b r good (here mid place o there call) =
+      let z = e a mid place good o in
+      then_none n m k a mid b most z (p mid b r (good_then n IsNone a mid good z) call)
+
+  pub once_here_stops : (n m k : ℕ) (E : Hold → Reply → Hold → Type 0) (I L : Hold → Hold → Type 0)
+      → n + m ≤ k → Carries n Nil E → CarriesLack n I → CarriesLack m L
+      → CarriesLack k (OnceHereStops E I L)
+  once_here_stops n m k E I L most e i l a b good (bringing_stops o) =
+      comes_more IsNone n k a b (omega (arith, most)) (i a b good o)
+  once_here_stops n m k E I L most e i l a b good (lacks_here mid place o there lack) =
+      let z = e a mid place good o in
+      then_none n m k a mid b most z (l mid b (good_then n IsNone a mid good z) lack)

@@ -4,6 +4,7 @@ use Rattle.std.specs.Prelude.{Result, Ok, Err, IfOk, OnErr}
 use Rattle.cb_member.specs.declared.no_memory.NoMemory.{NoMemory}
 use Rattle.cb_types.specs.declared.config.Config.{Config}
 use Rattle.cb_types.specs.Config.{IsAccepted}
+use Rattle.cb_types.specs.declared.handle.Handle.{Handle}
 use Rattle.cb_types.specs.declared.job.Job.{Job}
 use Rattle.cb_types.specs.Jobs.{job_index}
 use Rattle.cb_types.specs.declared.job.Job.TheVariants.{Make, Read, Write, Free, Swap, Filter, Evict, Begin, Ship, Commit, Abort, Pair, Patch, Merge, Part, Compact, Rebuild, Crash, Join}
@@ -19,12 +20,14 @@ use Rattle.cb_world.specs.World.{AreCounted, IsConfigured}
 use Rattle.cb_world.proofs.Staying.{recounted, rises_more}
 use Rattle.cb_core.specs.Jobs.{IsJob}
 use Rattle.cb_core.specs.Parts.{Holding}
-use Rattle.cb_core.specs.Turned.{Turned, Stopped, counted, once_counted, worn, done}
+use Rattle.cb_core.specs.ReadTurn.{BroughtToRead, StoppedToRead}
+use Rattle.cb_core.specs.ReadTurn.BroughtToRead.{worn as first_worn, done as first_done}
+use Rattle.cb_core.specs.Turned.{Reads, ReadLacks, Turned, Stopped, counted, once_counted, worn, done}
 use Rattle.cb_core.specs.TurnLeaves.{OutcomeWrites, TurnLeaves, TurnWrites}
 use Rattle.cb_core.proofs.Counting.{counted_sound}
 use Rattle.cb_core.proofs.KeptParts.{counted_rises}
-use Rattle.cb_core.proofs.TurnCarries.{does_comes, stops_comes}
-use Rattle.cb_core.proofs.TurnComes.{AreLaws, Comes, Good, IsNone}
+use Rattle.cb_core.proofs.TurnCarries.{come_lacks, comes_in, does_comes, in_job, reads, read_lacks, stops_comes}
+use Rattle.cb_core.proofs.TurnComes.{AreLaws, Carries, CarriesLack, Comes, Good, IsNone, Nil}
 
 job_below : (job : Job) → job_index job < 19
 job_below (Make bytes) = omega arith
@@ -107,9 +110,11 @@ module _ {D : Type 0} (run : D → List Event → D → Type 0) (shows : D → S
     after = λ s shown sound. z.after s shown (counted_sound s a.far (counted a.far job) job refl sound);
   }
 
-  pub turn_leaves : (job : Job) (a b : Hold) (r : Reply) → IsJob c job → Good shows c a
-      → AreCounted a.far → Turned run shows c job a r b → TurnLeaves run shows c a b (TurnWrites job r)
-  turn_leaves job a b r ok good counts (worn end reply same ran) = record {
+  -- one that is refused
+  refused_leaves : (job : Job) (a b : Hold) (r : Reply) → Good shows c a → AreCounted a.far
+      → a.far.counts.turns ≡ 2 ^ 40 → r ≡ answer.Worn → b.far ≡ a.far → run a.desk [] b.desk
+      → TurnLeaves run shows c a b (TurnWrites job r)
+  refused_leaves job a b r good counts end reply same ran = record {
     events = [];
     ran = ran;
     configured = subst (IsConfigured c) (sym same) good.configured;
@@ -122,22 +127,54 @@ module _ {D : Type 0} (run : D → List Event → D → Type 0) (shows : D → S
       writes_them = λ old. refl;
     };
   }
-  turn_leaves job a b r ok good counts (done few x) =
+
+  -- however an object is read, by a part that writes nothing
+  pub turn_leaves : (reading : ℕ → Hold → Reply → Hold → Type 0)
+      → ((h : ℕ) → Carries run shows laws c 1 Nil (reading h)) → (job : Job) (a b : Hold) (r : Reply)
+      → IsJob c job → Good shows c a → AreCounted a.far → Turned run shows reading c job a r b
+      → TurnLeaves run shows c a b (TurnWrites job r)
+  turn_leaves reading read job a b r ok good counts (worn end reply same ran) =
+      refused_leaves job a b r good counts end reply same ran
+  turn_leaves reading read job a b r ok good counts (done few x) =
       counted_leaves (TurnWrites job r) job a b counts few
-      (does_comes run shows laws c accepted job (once_counted a job) b r ok (counted_good job a good) x)
+      (does_comes run shows laws c accepted reading read job (once_counted a job) b r ok
+      (counted_good job a good) x)
 
-  pub stop_leaves : (job : Job) (a b : Hold) → Good shows c a → AreCounted a.far
-      → Stopped run shows c job a b → TurnLeaves run shows c a b IsNone
-  stop_leaves job a b good counts x =
+  pub stop_leaves : (lacking : ℕ → Hold → Hold → Type 0)
+      → ((h : ℕ) → CarriesLack run shows laws c 1 (lacking h)) → (job : Job) (a b : Hold)
+      → Good shows c a → AreCounted a.far → Stopped run shows lacking c job a b
+      → TurnLeaves run shows c a b IsNone
+  stop_leaves lacking lack job a b good counts x =
       counted_leaves IsNone job a b counts x.few
-      (stops_comes run shows laws c accepted job (once_counted a job) b (counted_good job a good) x.stops)
+      (stops_comes run shows laws c accepted lacking lack job (once_counted a job) b
+      (counted_good job a good) x.stops)
 
-  -- whatever its outcome
+  -- whatever its outcome, where the desk reads
   pub outcome_leaves : (job : Job) (a b : Hold) (result : Result Reply NoMemory) → IsJob c job
-      → Good shows c a → AreCounted a.far → IfOk result (λ r. Turned run shows c job a r b)
-      → OnErr result (Stopped run shows c job a b)
+      → Good shows c a → AreCounted a.far
+      → IfOk result (λ r. Turned run shows (Reads run shows) c job a r b)
+      → OnErr result (Stopped run shows (ReadLacks run shows) c job a b)
       → TurnLeaves run shows c a b (OutcomeWrites job result)
   outcome_leaves job a b (Ok r) ok good counts turned stopped =
-      turn_leaves job a b r ok good counts turned
+      turn_leaves (Reads run shows) (reads run shows laws c accepted) job a b r ok good counts turned
   outcome_leaves job a b (Err e) ok good counts turned stopped =
-      stop_leaves job a b good counts stopped
+      stop_leaves (ReadLacks run shows) (read_lacks run shows laws c accepted) job a b good counts
+      stopped
+
+  -- the first call of a read
+  pub first_leaves : (h : Handle) (a b : Hold) (r : Reply) → Good shows c a → AreCounted a.far
+      → BroughtToRead run shows c h a r b → TurnLeaves run shows c a b IsNone
+  first_leaves h a b r good counts (first_worn end reply same ran) =
+      refused_leaves (Read h) a b r good counts end reply same ran
+  first_leaves h a b r good counts (first_done few x) = let a' = once_counted a (Read h) in
+      counted_leaves IsNone (Read h) a b counts few (in_job run shows laws c accepted IsNone 57 a' b
+      (omega arith) (comes_in run shows laws c accepted h.n a' b r (counted_good (Read h) a good) x))
+
+  pub brought_leaves : (h : Handle) (a b : Hold) (result : Result Reply NoMemory) → Good shows c a
+      → AreCounted a.far → IfOk result (λ r. BroughtToRead run shows c h a r b)
+      → OnErr result (StoppedToRead run shows c h a b) → TurnLeaves run shows c a b IsNone
+  brought_leaves h a b (Ok r) good counts brought stopped = first_leaves h a b r good counts brought
+  brought_leaves h a b (Err e) good counts brought stopped = let a' = once_counted a (Read h) in
+      counted_leaves IsNone (Read h) a b counts stopped.few (in_job run shows laws c accepted IsNone 57 a'
+      b (omega arith) (come_lacks run shows laws c accepted h.n a' b (counted_good (Read h) a good)
+      stopped.stops))

@@ -21,7 +21,7 @@ use Rattle.cb_core.specs.Jobs.{IsJob}
 use Rattle.cb_core.specs.Membership.{CrashTurn, crashed, is_down, JoinTurn, joined, is_up}
 use Rattle.cb_core.specs.Parts.{Holding, NeverDeclined, NeverLacks, WithRoom}
 use Rattle.cb_core.specs.Step.{StillMake, StillMakeLacks, StillRead, StillReadLacks, StillWrite, StillFind, StillDecline, StillEvict, StillRoom, StillEvictLacks, StillSwap, StillSwapLacks, StillBring, StillBringLacks, StillWorks, StillStops, TurnStep, worn, done, Stops}
-use Rattle.cb_core.specs.Turned.{Does, Turned, worn as was_worn, done as was_done, Stopped, counted, once_counted, Makes, MakeLacks, Reads, ReadLacks, Writes, Finds, Declines, Evicts, WinsRoom, EvictLacks, Swaps, SwapLacks, Brings, BringLacks, Stops as StopsOver}
+use Rattle.cb_core.specs.Turned.{Does, Turned, worn as was_worn, done as was_done, Stopped, counted, once_counted, Makes, MakeLacks, Reads, ReadLacks, Writes, Finds, Declines, Evicts, WinsRoom, EvictLacks, Swaps, SwapLacks, Brings, BringLacks, Stops as StopsOver, ComesIn, ComeLacks}
 use Rattle.cb_core.proofs.Counting.{counted_sound}
 use Rattle.cb_core.proofs.KeptParts.{IsGood, Arrives, Carries, CarriesLack, rises_more, arrives_then, arrives_more, arrives_same, counted_rises, arrives_stays}
 use Rattle.cb_core.proofs.StillParts.{Ran, Tells, both_same, make_part, read_part, write_part, free_part, find_part, never_part, decline_part, evict_part, room_part, swap_part, make_lack, read_lack, evict_lack, swap_lack}
@@ -30,7 +30,8 @@ use Rattle.cb_world.proofs.Staying.{recounted}
 use Rattle.cb_core.proofs.StillBatches.{begin_part, ship_part, ship_lack, commit_part, abort_part}
 use Rattle.cb_core.proofs.StillFilters.{filter_part, filter_lack}
 use Rattle.cb_core.proofs.StillRebuilds.{rebuild_part, rebuild_lack}
-use Rattle.cb_core.proofs.StillTurns.{with_room, where_it_is, brings_in, room_stops, call_stops}
+use Rattle.cb_core.proofs.StillReads.{StillComes, StillComeLacks, reads_where, read_stops_where}
+use Rattle.cb_core.proofs.StillTurns.{with_room, where_it_is, brings_in, room_stops, call_stops, once_here, once_here_stops}
 
 -- ---- membership
 -- the node is one of the members
@@ -97,13 +98,27 @@ bring_lack c seats h accepted =
     StillRoom (SwapLacks Ran h) (StillSwapLacks h) (EvictLacks Ran Tells) StillEvictLacks (omega arith)
     (swap_part c seats h) (swap_lack c seats h) (room_part c seats accepted) (evict_lack c seats)
 
+-- an object that comes in
+come_part : (c : Config) (seats : List SeatState) (h : ℕ) → IsAccepted c
+    → Carries c seats 57 (ComesIn Ran Tells c h) (StillComes h)
+come_part c seats h accepted =
+    brings_in c seats 1 56 57 (Finds Ran Tells h) (StillFind h) (Brings Ran Tells c h) (StillBring h)
+    (omega arith) (find_part c seats h) (bring_part c seats h accepted)
+
+come_lack : (c : Config) (seats : List SeatState) (h : ℕ) → IsAccepted c
+    → CarriesLack c seats 57 (ComeLacks Ran Tells c h) (StillComeLacks h)
+come_lack c seats h accepted a b good (m, found, stops) =
+    let z = find_part c seats h a m answer.NotHere good found in
+    let y = bring_lack c seats h accepted m b z.good stops in
+    arrives_then c seats 1 56 57 a m b _ _ (StillComeLacks h a b) (omega arith) z y (m, z.is, y.is)
+
 -- a part whose numbers rise by no more than those of a job may
 in_job : (c : Config) (seats : List SeatState) (n : ℕ) (a b : Holding Words) (Z : Type 0) → n ≤ 64
     → Arrives c seats n a b Z → Arrives c seats 64 a b Z
 in_job c seats n a b Z most z = arrives_more c seats n 64 a b Z Z most z z.is
 
 works_part : (c : Config) (seats : List SeatState) (job : Job) (a b : Holding Words) (r : Reply)
-    → IsAccepted c → IsJob c job → IsGood c seats a → Does Ran Tells c job a r b
+    → IsAccepted c → IsJob c job → IsGood c seats a → Does Ran Tells (Reads Ran Tells) c job a r b
     → Arrives c seats 64 a b (StillWorks job a r b)
 works_part c seats (Make bytes) a b r accepted ok good does =
     let z = with_room c seats c.frames 1 24 64 (Makes Ran Tells c bytes) (StillMake bytes)
@@ -113,9 +128,10 @@ works_part c seats (Make bytes) a b r accepted ok good does =
     (subst (λ (d : Config). WithRoom d.frames (StillMake bytes) StillRoom a r b) (sym good.settings) z.is)
 works_part c seats (Read handle) a b r accepted ok good does =
     let h = handle.n in
-    where_it_is c seats 1 1 56 64 (Reads Ran Tells h) (StillRead h) NeverDeclined NeverDeclined
-    (Brings Ran Tells c h) (StillBring h) (omega arith) (read_part c seats h) (never_part c seats)
-    (bring_part c seats h accepted) a b r good does
+    let z = once_here c seats 57 1 64 (ComesIn Ran Tells c h) (StillComes h) (Reads Ran Tells h)
+    (StillRead h) (omega arith) (come_part c seats h accepted) (read_part c seats h) a b r good does in
+    arrives_more c seats 64 64 a b _ (StillWorks (Read handle) a r b) (omega arith) z
+    (reads_where h a b r z.is)
 works_part c seats (Write handle at bytes) a b r accepted ok good does =
     let h = handle.n in let count = length bytes in
     where_it_is c seats 1 1 56 64 (Writes Ran Tells h at bytes) (StillWrite h at bytes)
@@ -125,9 +141,7 @@ works_part c seats (Write handle at bytes) a b r accepted ok good does =
 works_part c seats (Free handle) a b r accepted ok good does =
     in_job c seats 1 a b _ (omega arith) (free_part c seats handle.n a b r good does)
 works_part c seats (Swap handle) a b r accepted ok good does =
-    let h = handle.n in
-    brings_in c seats 1 56 64 (Finds Ran Tells h) (StillFind h) (Brings Ran Tells c h) (StillBring h)
-    (omega arith) (find_part c seats h) (bring_part c seats h accepted) a b r good does
+    in_job c seats 57 a b _ (omega arith) (come_part c seats handle.n accepted a b r good does)
 works_part c seats Evict a b r accepted ok good does =
     in_job c seats 24 a b _ (omega arith) (evict_part c seats accepted a b r good does)
 works_part c seats Begin a b r accepted ok good does =
@@ -161,7 +175,7 @@ never_lack : (c : Config) (seats : List SeatState) → CarriesLack c seats 1 Nev
 never_lack c seats a b good lacks = absurd lacks
 
 stops_part : (c : Config) (seats : List SeatState) (job : Job) (a b : Holding Words)
-    → IsAccepted c → IsGood c seats a → StopsOver Ran Tells c job a b
+    → IsAccepted c → IsGood c seats a → StopsOver Ran Tells (ReadLacks Ran Tells) c job a b
     → Arrives c seats 64 a b (StillStops job a b)
 stops_part c seats (Make bytes) a b accepted good stops =
     room_stops c seats 1 24 64 (Makes Ran Tells c bytes) (StillMake bytes) (WinsRoom Ran Tells c)
@@ -170,11 +184,11 @@ stops_part c seats (Make bytes) a b accepted good stops =
     (evict_lack c seats) a b good stops
 stops_part c seats (Read handle) a b accepted good stops =
     let h = handle.n in
-    call_stops c seats 1 1 56 64 (Reads Ran Tells h) (StillRead h) (ReadLacks Ran Tells h)
-    (StillReadLacks h) NeverDeclined NeverDeclined (Brings Ran Tells c h) (StillBring h)
-    (BringLacks Ran Tells c h) (StillBringLacks h) (omega arith) (read_part c seats h)
-    (read_lack c seats h) (never_part c seats) (bring_part c seats h accepted)
-    (bring_lack c seats h accepted) a b good stops
+    let z = once_here_stops c seats 57 1 64 (ComesIn Ran Tells c h) (StillComes h)
+    (ComeLacks Ran Tells c h) (StillComeLacks h) (ReadLacks Ran Tells h) (StillReadLacks h) (omega arith)
+    (come_part c seats h accepted) (come_lack c seats h accepted) (read_lack c seats h) a b good stops in
+    arrives_more c seats 64 64 a b _ (StillStops (Read handle) a b) (omega arith) z
+    (read_stops_where h a b z.is)
 stops_part c seats (Write handle at bytes) a b accepted good stops =
     let h = handle.n in let count = length bytes in
     call_stops c seats 1 1 56 64 (Writes Ran Tells h at bytes) (StillWrite h at bytes)
@@ -182,12 +196,8 @@ stops_part c seats (Write handle at bytes) a b accepted good stops =
     (Brings Ran Tells c h) (StillBring h) (BringLacks Ran Tells c h) (StillBringLacks h) (omega arith)
     (write_part c seats h at bytes) (never_lack c seats) (decline_part c seats h at count)
     (bring_part c seats h accepted) (bring_lack c seats h accepted) a b good stops
-stops_part c seats (Swap handle) a b accepted good (m, found, stops) =
-    let h = handle.n in
-    let z = find_part c seats h a m answer.NotHere good found in
-    let y = bring_lack c seats h accepted m b z.good stops in
-    arrives_then c seats 1 56 64 a m b _ _ (StillStops (Swap handle) a b) (omega arith) z y
-    (m, z.is, y.is)
+stops_part c seats (Swap handle) a b accepted good stops =
+    in_job c seats 57 a b _ (omega arith) (come_lack c seats handle.n accepted a b good stops)
 stops_part c seats Evict a b accepted good stops =
     in_job c seats 24 a b _ (omega arith) (evict_lack c seats a b good stops)
 stops_part c seats Begin a b accepted good stops =
@@ -284,7 +294,7 @@ pub record IsTurned (w : WorldState) (job : Job) (q : Reply) (y : Words) (new : 
 
 pub turn_works : (w : WorldState) (job : Job) (q : Reply) (y : Words) (new : FarState)
     → IsSoundWorld w → IsJob w.desk.settings job
-    → Turned Ran Tells w.desk.settings job (held w) q (record { desk = y; far = new })
+    → Turned Ran Tells (Reads Ran Tells) w.desk.settings job (held w) q (record { desk = y; far = new })
     → IsTurned w job q y new
 turn_works w job q y new sound ok (was_worn end reply state ran) =
     let same : with_job w y new ≡ w = (λ i. record { desk = ran.0 i; far = state i; seats = w.seats }) in
@@ -304,7 +314,7 @@ pub record IsStopped (w : WorldState) (job : Job) (y : Words) (new : FarState) :
   pub stops : Stops w (event.Turn 0 job) (with_job w y new)
 
 pub turn_stops : (w : WorldState) (job : Job) (y : Words) (new : FarState) → IsSoundWorld w
-    → Stopped Ran Tells w.desk.settings job (held w) (record { desk = y; far = new })
+    → Stopped Ran Tells (ReadLacks Ran Tells) w.desk.settings job (held w) (record { desk = y; far = new })
     → IsStopped w job y new
 turn_stops w job y new sound stopped =
     let b : Holding Words = record { desk = y; far = new } in

@@ -3,9 +3,12 @@ pub mod Pinning
 pub mod Jobs
 pub mod Parts
 pub mod Declining
+pub mod OnceHere
 pub mod Turned
 pub mod TurnLeaves
+pub mod ReadTurn
 pub mod Step
 pub mod Events
+pub mod Unmoved
 pub mod Run
 pub mod Called

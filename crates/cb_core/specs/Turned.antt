@@ -45,7 +45,8 @@ use Rattle.cb_swapin.specs.SwapEffect.{SwapEffect}
 use Rattle.cb_swapin.specs.SwapRule.{SwapRule}
 use Rattle.cb_core.specs.Declining.{write_refusal}
 use Rattle.cb_core.specs.Membership.{CrashTurn, JoinTurn}
-use Rattle.cb_core.specs.Parts.{Holding, WithRoom, WhereItIs, NeverDeclined, BringsIn, RoomStops, CallStops, NeverLacks}
+use Rattle.cb_core.specs.OnceHere.{OnceHere, OnceHereStops}
+use Rattle.cb_core.specs.Parts.{Holding, WithRoom, WhereItIs, BringsIn, RoomStops, CallStops, NeverLacks}
 
 -- the far state with one turn more of the job's kind
 abbrev pub counted : FarState → Job → FarState
@@ -153,29 +154,35 @@ abbrev pub Rebuilds : {D : Type 0} → (D → List Event → D → Type 0) → H
     → Type 0
 Rebuilds run a r b = run a.desk [] b.desk × RebuildStep a.far b.far r
 
--- What a job does once the turn is counted, part by part.
-abbrev pub Does : {D : Type 0} → (D → List Event → D → Type 0) → (D → Shown → Type 0) → Config → Job
+-- an object is brought in where it is far; the reply tells where it is: Stays where it is here
+abbrev pub ComesIn : {D : Type 0} → (D → List Event → D → Type 0) → (D → Shown → Type 0) → Config → ℕ
     → Holding D → Reply → Holding D → Type 0
-Does run shows c (Make bytes) a r b =
+ComesIn run shows c h = BringsIn (Finds run shows h) (Brings run shows c h)
+
+-- What a job does once the turn is counted, part by part. An object that is to be read is first brought
+-- in; `reads` says how it is read then.
+abbrev pub Does : {D : Type 0} → (D → List Event → D → Type 0) → (D → Shown → Type 0)
+    → (ℕ → Holding D → Reply → Holding D → Type 0) → Config → Job
+    → Holding D → Reply → Holding D → Type 0
+Does run shows reads c (Make bytes) a r b =
     WithRoom c.frames (Makes run shows c bytes) (WinsRoom run shows c) a r b
-Does run shows c (Read handle) a r b =
-    WhereItIs (Reads run shows handle.n) NeverDeclined (Brings run shows c handle.n) a r b
-Does run shows c (Write handle at bytes) a r b = WhereItIs (Writes run shows handle.n at bytes)
+Does run shows reads c (Read handle) a r b =
+    OnceHere (ComesIn run shows c handle.n) (reads handle.n) a r b
+Does run shows reads c (Write handle at bytes) a r b = WhereItIs (Writes run shows handle.n at bytes)
     (Declines run shows handle.n at (length bytes)) (Brings run shows c handle.n) a r b
-Does run shows c (Free handle) a r b = Frees run shows handle.n a r b
-Does run shows c (Swap handle) a r b =
-    BringsIn (Finds run shows handle.n) (Brings run shows c handle.n) a r b
-Does run shows c (Filter handle) a r b = Filters run shows c handle.n a r b
-Does run shows c Evict a r b = Evicts run shows c a r b
-Does run shows c Begin a r b = Begins run shows c a r b
-Does run shows c Ship a r b = Ships run shows a r b
-Does run shows c Commit a r b = Commits run shows a r b
-Does run shows c Abort a r b = Aborts run shows a r b
-Does run shows c Rebuild a r b = Rebuilds run a r b
-Does run shows c (Crash node) a r b = run a.desk [] b.desk × CrashTurn node a.far r b.far
-Does run shows c (Join node) a r b = run a.desk [] b.desk × JoinTurn node a.far r b.far
+Does run shows reads c (Free handle) a r b = Frees run shows handle.n a r b
+Does run shows reads c (Swap handle) a r b = ComesIn run shows c handle.n a r b
+Does run shows reads c (Filter handle) a r b = Filters run shows c handle.n a r b
+Does run shows reads c Evict a r b = Evicts run shows c a r b
+Does run shows reads c Begin a r b = Begins run shows c a r b
+Does run shows reads c Ship a r b = Ships run shows a r b
+Does run shows reads c Commit a r b = Commits run shows a r b
+Does run shows reads c Abort a r b = Aborts run shows a r b
+Does run shows reads c Rebuild a r b = Rebuilds run a r b
+Does run shows reads c (Crash node) a r b = run a.desk [] b.desk × CrashTurn node a.far r b.far
+Does run shows reads c (Join node) a r b = run a.desk [] b.desk × JoinTurn node a.far r b.far
 -- every other job is not built
-Does run shows c job a r b = ⊥
+Does run shows reads c job a r b = ⊥
 
 -- the holding, where one turn more of the job's kind is counted
 abbrev pub once_counted : {D : Type 0} → Holding D → Job → Holding D
@@ -184,11 +191,12 @@ once_counted a job = record { desk = a.desk; far = counted a.far job }
 -- A turn: where 2^40 turns were counted it is refused and nothing is done; else it is counted
 -- first, and then does its job.
 pub data Turned {D : Type 0} (run : D → List Event → D → Type 0) (shows : D → Shown → Type 0)
-    (c : Config) (job : Job) (a : Holding D) (r : Reply) (b : Holding D) : Type 0 where
+    (reads : ℕ → Holding D → Reply → Holding D → Type 0) (c : Config) (job : Job) (a : Holding D)
+    (r : Reply) (b : Holding D) : Type 0 where
   worn : a.far.counts.turns ≡ 2 ^ 40 → r ≡ answer.Worn → b.far ≡ a.far → run a.desk [] b.desk
-      → Turned run shows c job a r b
-  done : a.far.counts.turns < 2 ^ 40 → Does run shows c job (once_counted a job) r b
-      → Turned run shows c job a r b
+      → Turned run shows reads c job a r b
+  done : a.far.counts.turns < 2 ^ 40 → Does run shows reads c job (once_counted a job) r b
+      → Turned run shows reads c job a r b
 
 -- ---- want of memory
 
@@ -249,31 +257,37 @@ abbrev pub ShipLacks : {D : Type 0} → (D → List Event → D → Type 0) → 
 ShipLacks run shows a b = (b.far ≡ a.far) × Performs (λ es. run a.desk es b.desk)
     (λ s. shows a.desk s × Sound s a.far) (ReadsLeaving a.far) (λ t. Sound t b.far) IsStill
 
--- Where a job that found no memory stopped. A commit and an abort take no memory.
-abbrev pub Stops : {D : Type 0} → (D → List Event → D → Type 0) → (D → Shown → Type 0) → Config → Job
-    → Holding D → Holding D → Type 0
-Stops run shows c (Make bytes) a b = RoomStops (Makes run shows c bytes) (MakeLacks run c bytes)
+-- an object that was far was found so, and its bringing in lacked memory
+abbrev pub ComeLacks : {D : Type 0} → (D → List Event → D → Type 0) → (D → Shown → Type 0) → Config
+    → ℕ → Holding D → Holding D → Type 0
+ComeLacks {D = D} run shows c h a b =
+    (m : Holding D) × Finds run shows h a answer.NotHere m × BringLacks run shows c h m b
+
+-- Where a job that found no memory stopped. A commit and an abort take no memory. `lacks` says what a
+-- read that lacks it leaves.
+abbrev pub Stops : {D : Type 0} → (D → List Event → D → Type 0) → (D → Shown → Type 0)
+    → (ℕ → Holding D → Holding D → Type 0) → Config → Job → Holding D → Holding D → Type 0
+Stops run shows lacks c (Make bytes) a b = RoomStops (Makes run shows c bytes) (MakeLacks run c bytes)
     (WinsRoom run shows c) (EvictLacks run shows) a b
-Stops run shows c (Read handle) a b =
-    CallStops (Reads run shows handle.n) (ReadLacks run shows handle.n) NeverDeclined
-    (Brings run shows c handle.n) (BringLacks run shows c handle.n) a b
-Stops run shows c (Write handle at bytes) a b =
+Stops run shows lacks c (Read handle) a b = OnceHereStops (ComesIn run shows c handle.n)
+    (ComeLacks run shows c handle.n) (lacks handle.n) a b
+Stops run shows lacks c (Write handle at bytes) a b =
     CallStops (Writes run shows handle.n at bytes) NeverLacks
     (Declines run shows handle.n at (length bytes)) (Brings run shows c handle.n)
     (BringLacks run shows c handle.n) a b
-Stops {D = D} run shows c (Swap handle) a b =
-    (m : Holding D) × Finds run shows handle.n a answer.NotHere m × BringLacks run shows c handle.n m b
-Stops run shows c (Filter handle) a b = FilterLacks run shows handle.n a b
-Stops run shows c Evict a b = EvictLacks run shows a b
-Stops run shows c Begin a b = EvictLacks run shows a b
-Stops run shows c Ship a b = ShipLacks run shows a b
-Stops run shows c Rebuild a b = RebuildLacks run a b
-Stops run shows c (Crash node) a b =
+Stops run shows lacks c (Swap handle) a b = ComeLacks run shows c handle.n a b
+Stops run shows lacks c (Filter handle) a b = FilterLacks run shows handle.n a b
+Stops run shows lacks c Evict a b = EvictLacks run shows a b
+Stops run shows lacks c Begin a b = EvictLacks run shows a b
+Stops run shows lacks c Ship a b = ShipLacks run shows a b
+Stops run shows lacks c Rebuild a b = RebuildLacks run a b
+Stops run shows lacks c (Crash node) a b =
     run a.desk [] b.desk × (b.far ≡ a.far) × (alive a.far.members node ≡ true)
-Stops run shows c job a b = ⊥
+Stops run shows lacks c job a b = ⊥
 
 -- a turn that found no memory is counted
 pub record Stopped {D : Type 0} (run : D → List Event → D → Type 0) (shows : D → Shown → Type 0)
-    (c : Config) (job : Job) (a b : Holding D) : Type 0 where
-  pub few : a.far.counts.turns < 2 ^ 40
-  pub stops : Stops run shows c job (once_counted a job) b
+    (lacks : ℕ → Holding D → Holding D → Type 0) (c : Config) (job : Job) (a b : Holding D) : Type 0
+  where
+    pub few : a.far.counts.turns < 2 ^ 40
+    pub stops : Stops run shows lacks c job (once_counted a job) b

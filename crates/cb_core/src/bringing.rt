@@ -6,16 +6,15 @@ ghost use Rattle.cb_world.specs.declared.shown.Shown.{Shown};
 ghost use Rattle.cb_world.specs.Homes.{home_at};
 ghost use Rattle.cb_world.specs.Sound.{Sound};
 ghost use Rattle.cb_world.specs.World.{IsConfigured};
-ghost use Rattle.cb_core.specs.Parts.{BringsIn, CallStops, Holding, NeverDeclined, NeverLacks, RoomStops, WhereItIs, WithRoom};
-ghost use Rattle.cb_core.specs.Turned.{BringLacks, Brings, Declines, EvictLacks, Finds, MakeLacks, Makes, ReadLacks, Reads, WinsRoom, Writes};
+ghost use Rattle.cb_core.specs.Parts.{CallStops, NeverLacks, RoomStops, WhereItIs, WithRoom};
+ghost use Rattle.cb_core.specs.Turned.{BringLacks, Brings, Declines, EvictLacks, MakeLacks, Makes, WinsRoom, Writes, ComeLacks, ComesIn};
 
 use crate::declining::{decline, find};
 use cb_evict::{Eviction, evict_counted};
-use cb_mutate::{make, read, write};
+use cb_mutate::{make, write};
 use cb_swapin::swap_in;
 use cb_types::{Config, Handle, NoMemory, Reply, SetId};
 use cb_world::{Desk, Far};
-use std::alloc::Global;
 
 /// Makes an object of these bytes, 1 to 1,024. Where there is no frame for it, an eviction makes room,
 /// and it is made then. Where the eviction is refused there is no room: NoRoom tells how many frames there
@@ -54,7 +53,8 @@ pub(crate) fn make_with_room<D: Desk>(
 }
 
 /// Brings a far object in, with the span in which it left. Where no frame is free, an eviction makes
-/// room, and the span is swapped in then; NoRoom is answered only where the eviction is refused. Answers Unavailable where its set has lost more shards than it has parities.
+/// room, and the span is swapped in then; NoRoom is answered only where the eviction is refused.
+/// Answers Unavailable where its set has lost more shards than it has parities.
 fn bring<D: Desk>(desk: &mut D, far: &mut Far, h: Handle) -> Result<Reply, NoMemory>
     requires handle { h.n < (D.settings desk.old).handles }
     requires config { IsAccepted (D.settings desk.old) }
@@ -83,44 +83,6 @@ fn bring<D: Desk>(desk: &mut D, far: &mut Far, h: Handle) -> Result<Reply, NoMem
         Eviction::Refused { loose, nodes, .. } => Ok(no_room(desk.config(), loose, nodes)),
         Eviction::Set { .. } => swap_in(desk, far, id, home.position),
     }
-}
-
-/// Reads an object wherever it is: a far one is brought in first. Where it can't be brought in the
-/// answer is why.
-pub(crate) fn read_anywhere<D: Desk>(
-    alloc: Global,
-    desk: &mut D,
-    far: &mut Far,
-    h: Handle,
-) -> Result<Reply, NoMemory>
-    requires handle { h.n < (D.settings desk.old).handles }
-    requires config { IsAccepted (D.settings desk.old) }
-    requires configured { IsConfigured (D.settings desk.old) far.old }
-    requires counts { (far.old.counts.sets < 2 ^ 62) × (far.old.counts.keys < 2 ^ 62) }
-    requires given { far.old.nodes.given + 16 < 2 ^ 64 }
-    requires sound { (s : Shown) × D.shows desk.old s × Sound s far.old }
-    ensures reads { IfOk result (λ reply. WhereItIs
-        (Reads (λ d es e. D.run d es e) (λ d s. D.shows d s) h.n)
-        NeverDeclined
-        (Brings (λ d es e. D.run d es e) (λ d s. D.shows d s) (D.settings desk.old) h.n)
-        (record { desk = desk.old; far = far.old }) reply (record { desk = desk.new; far = far.new })) }
-    ensures error { OnErr result (CallStops
-        (Reads (λ d es e. D.run d es e) (λ d s. D.shows d s) h.n)
-        (ReadLacks (λ d es e. D.run d es e) (λ d s. D.shows d s) h.n)
-        NeverDeclined
-        (Brings (λ d es e. D.run d es e) (λ d s. D.shows d s) (D.settings desk.old) h.n)
-        (BringLacks (λ d es e. D.run d es e) (λ d s. D.shows d s) (D.settings desk.old) h.n)
-        (record { desk = desk.old; far = far.old }) (record { desk = desk.new; far = far.new })) }
-{
-    let reply = read(alloc, desk, far, h)?;
-    if !is_not_here(&reply) {
-        return Ok(reply);
-    }
-    let brought = bring(desk, far, h)?;
-    if !is_swapped(&brought) {
-        return Ok(brought);
-    }
-    read(alloc, desk, far, h)
 }
 
 /// Writes over a part of an object wherever it is: a far one is brought in first, but where the write
@@ -179,15 +141,14 @@ pub(crate) fn swap_object<D: Desk>(
     requires counts { (far.old.counts.sets < 2 ^ 62) × (far.old.counts.keys < 2 ^ 62) }
     requires given { far.old.nodes.given + 16 < 2 ^ 64 }
     requires sound { (s : Shown) × D.shows desk.old s × Sound s far.old }
-    ensures swaps { IfOk result (λ reply. BringsIn
-        (Finds (λ d es e. D.run d es e) (λ d s. D.shows d s) h.n)
-        (Brings (λ d es e. D.run d es e) (λ d s. D.shows d s) (D.settings desk.old) h.n)
-        (record { desk = desk.old; far = far.old }) reply (record { desk = desk.new; far = far.new })) }
-    ensures error { OnErr result ((m : Holding D)
-        × Finds (λ d es e. D.run d es e) (λ d s. D.shows d s) h.n
-        (record { desk = desk.old; far = far.old }) answer.NotHere m
-        × BringLacks (λ d es e. D.run d es e) (λ d s. D.shows d s) (D.settings desk.old) h.n m
+    ensures comes { IfOk result (λ reply. ComesIn (λ d es e. D.run d es e) (λ d s. D.shows d s)
+        (D.settings desk.old) h.n (record { desk = desk.old; far = far.old }) reply
         (record { desk = desk.new; far = far.new })) }
+    ensures error { OnErr result (ComeLacks (λ d es e. D.run d es e) (λ d s. D.shows d s)
+        (D.settings desk.old) h.n (record { desk = desk.old; far = far.old })
+        (record { desk = desk.new; far = far.new })) }
+    ensures settings { D.settings desk.new ≡ D.settings desk.old }
+    ensures sound { IfOk result (λ reply. (s : Shown) × D.shows desk.new s × Sound s far.new) }
 {
     let place = find(desk, far, h);
     if !is_not_here(&place) {

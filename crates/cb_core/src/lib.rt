@@ -7,6 +7,7 @@ mod declining;
 pub mod event;
 mod membership;
 mod pinning;
+pub mod reading;
 pub mod replies;
 pub mod running;
 pub mod stepping;
@@ -14,6 +15,7 @@ pub mod turning;
 
 pub use cb_types::Job;
 pub use event::{Atomic, Event};
+pub use reading::bring_to_read;
 pub use replies::Replies;
 pub use running::run;
 pub use stepping::step;

@@ -7,6 +7,7 @@ ghost use Rattle.cb_core.specs.Called.{calls_by, StandsBeside};
 ghost use Rattle.cb_core.specs.Events.{IsEvent};
 ghost use Rattle.cb_core.specs.Run.{LeadsSoundly, RunStops};
 ghost use Rattle.cb_core.specs.Step.{Leads};
+ghost use Rattle.cb_core.specs.Unmoved.{LeadsPinned};
 
 use crate::event::Event;
 use crate::replies::Replies;
@@ -24,6 +25,9 @@ use std::alloc::Global;
 /// plain map stands beside the world, each call is answered as the map answers it after the calls
 /// before it, and the map goes on standing beside the world. From the empty world the calls are legal
 /// by themselves: each object has a history, each answer is true of it, and no version falls.
+///
+/// Each event leaves an object that has a pin before and after at its place, with its length, its
+/// version and its bytes. So whatever happens between a pin and its end, the object is unmoved.
 pub fn run(alloc: Global, world: &mut World, events: &[Event]) -> Result<Replies, NoMemory>
     requires sound { IsSoundWorld world.old }
     requires events { AllByRecursion (IsEvent world.old.desk.settings) events.now }
@@ -36,6 +40,7 @@ pub fn run(alloc: Global, world: &mut World, events: &[Event]) -> Result<Replies
     ensures from_empty { IfOk result (λ replies. world.old ≡ empty_world world.old.desk.settings
         → AreLegal world.old.far.first world.old.desk.settings.handles
         (calls_by [] events.now replies)) }
+    ensures pinned { IfOk result (λ replies. LeadsPinned world.old events.now replies world.new) }
     ensures sound { IsSoundWorld world.new }
     ensures error { OnErr result (RunStops world.old events.now world.new) }
 {

@@ -6,10 +6,11 @@ ghost use Rattle.cb_world.specs.Sound.{Sound};
 ghost use Rattle.cb_world.specs.World.{AreCounted, IsConfigured};
 ghost use Rattle.cb_core.specs.Jobs.{IsJob};
 ghost use Rattle.cb_core.specs.TurnLeaves.{OutcomeWrites, TurnLeaves};
-ghost use Rattle.cb_core.specs.Turned.{Does, Stops, Turned, Stopped, counted};
+ghost use Rattle.cb_core.specs.Turned.{Does, Stops, Turned, Stopped, counted, ReadLacks, Reads};
 
-use crate::bringing::{make_with_room, read_anywhere, swap_object, write_anywhere};
+use crate::bringing::{make_with_room, swap_object, write_anywhere};
 use crate::membership::{crash, join};
+use crate::reading::read_anywhere;
 use cb_evict::{abort, begin, commit, evict_now, ship};
 use cb_filter::filter_one;
 use cb_mutate::free;
@@ -26,8 +27,9 @@ pub const MOST_TURNS: u64 = 1 << 40;
 ///
 /// Where there is no frame for a new object or for one that is brought in, an eviction makes room. Where
 /// that is refused the answer is NoRoom: how many frames there are, and how many spans are loose and how
-/// many nodes have room, as the eviction found them; NoFrame is the answer of no turn. A call on a far object brings it in first, and is
-/// answered as the bringing in where the object stays far. A filter, a rebuild and the steps of an
+/// many nodes have room, as the eviction found them; NoFrame is the answer of no turn. A call on a far
+/// object brings it in first, and is answered as the bringing in where the object stays far. A read is
+/// `bring_to_read` and then a read of the object, where it is here. A filter, a rebuild and the steps of an
 /// eviction in steps (begin, ship, commit, abort) win no room: each is one part alone. Where there is no
 /// memory, the turn is counted and what its parts did before stays; a commit and an abort take none.
 pub fn turn<D: Desk>(
@@ -42,12 +44,13 @@ pub fn turn<D: Desk>(
     requires counted { AreCounted far.old }
     requires sound { (s : Shown) × D.shows desk.old s × Sound s far.old }
     ensures turned { IfOk result (λ reply. Turned (λ d es e. D.run d es e) (λ d s. D.shows d s)
-        (D.settings desk.old) job.now (record { desk = desk.old; far = far.old }) reply
+        (Reads (λ d es e. D.run d es e) (λ d s. D.shows d s)) (D.settings desk.old) job.now
+        (record { desk = desk.old; far = far.old }) reply
         (record { desk = desk.new; far = far.new })) }
     ensures no_frame { IfOk result (λ reply. reply ≡ answer.NoFrame → ⊥) }
     ensures error { OnErr result (Stopped (λ d es e. D.run d es e) (λ d s. D.shows d s)
-        (D.settings desk.old) job.now (record { desk = desk.old; far = far.old })
-        (record { desk = desk.new; far = far.new })) }
+        (ReadLacks (λ d es e. D.run d es e) (λ d s. D.shows d s)) (D.settings desk.old) job.now
+        (record { desk = desk.old; far = far.old }) (record { desk = desk.new; far = far.new })) }
     ensures leaves { TurnLeaves (λ d es e. D.run d es e) (λ d s. D.shows d s) (D.settings desk.old)
         (record { desk = desk.old; far = far.old }) (record { desk = desk.new; far = far.new })
         (OutcomeWrites job.now result) }
@@ -60,7 +63,7 @@ pub fn turn<D: Desk>(
 
 /// Counts one turn more, of the job's kind, unless 2^40 turns were counted. Answers whether it
 /// did.
-fn count_turn(far: &mut Far, job: &Job) -> bool
+pub(crate) fn count_turn(far: &mut Far, job: &Job) -> bool
     requires counted { AreCounted far.old }
     ensures done { result ≡ true
         → (far.old.counts.turns < 2 ^ 40) × (far.new ≡ counted far.old job.now) }
@@ -83,11 +86,12 @@ fn work<D: Desk>(alloc: Global, desk: &mut D, far: &mut Far, job: &Job) -> Resul
     requires epoch { far.old.members.epoch < 2 ^ 62 }
     requires sound { (s : Shown) × D.shows desk.old s × Sound s far.old }
     ensures does { IfOk result (λ reply. Does (λ d es e. D.run d es e) (λ d s. D.shows d s)
-        (D.settings desk.old) job.now (record { desk = desk.old; far = far.old }) reply
+        (Reads (λ d es e. D.run d es e) (λ d s. D.shows d s)) (D.settings desk.old) job.now
+        (record { desk = desk.old; far = far.old }) reply
         (record { desk = desk.new; far = far.new })) }
     ensures error { OnErr result (Stops (λ d es e. D.run d es e) (λ d s. D.shows d s)
-        (D.settings desk.old) job.now (record { desk = desk.old; far = far.old })
-        (record { desk = desk.new; far = far.new })) }
+        (ReadLacks (λ d es e. D.run d es e) (λ d s. D.shows d s)) (D.settings desk.old) job.now
+        (record { desk = desk.old; far = far.old }) (record { desk = desk.new; far = far.new })) }
 {
     match job {
         Job::Make { bytes } => make_with_room(desk, far, bytes.as_slice()),

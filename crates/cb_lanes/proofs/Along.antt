@@ -284,8 +284,21 @@ line_settings seat handle (Join node) w new r sound lt ready step =
     step_settings w new (Turn seat (job.Join node)) r step
 line_settings seat handle Leave w new r sound lt ready step =
     (gives_all seat w new sound lt step.1).0.settings
-line_settings seat handle request w new r sound lt ready step =
-    object_settings seat handle request w new r sound lt ready step
+line_settings seat handle (Read name) w new r sound lt ready step =
+    object_settings seat handle (Read name) w new r sound lt ready step
+line_settings seat handle (Write name at bytes) w new r sound lt ready step =
+    object_settings seat handle (Write name at bytes) w new r sound lt ready step
+line_settings seat handle (Free name) w new r sound lt ready step =
+    object_settings seat handle (Free name) w new r sound lt ready step
+line_settings seat handle (Pin name) w new r sound lt ready step =
+    object_settings seat handle (Pin name) w new r sound lt ready step
+line_settings seat handle (Peek name) w new r sound lt ready step =
+    object_settings seat handle (Peek name) w new r sound lt ready step
+line_settings seat handle (Unpin name) w new r sound lt ready step =
+    object_settings seat handle (Unpin name) w new r sound lt ready step
+line_settings seat handle (Filter name) w new r sound lt ready step =
+    object_settings seat handle (Filter name) w new r sound lt ready step
+line_settings seat handle request w new r sound lt ready step = absurd step
 
 -- what the lines after this one need
 along_push : (c : Config) (later : List ℕ) (answers : List Answer) (l : Line) (request : Request) (r : Reply)

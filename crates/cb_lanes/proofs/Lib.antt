@@ -5,6 +5,7 @@ pub mod PinLists
 pub mod GivingBack
 pub mod LineGoes
 pub mod Silent
+pub mod FarPins
 pub mod Pinning
 pub mod Shown
 pub mod Filtering

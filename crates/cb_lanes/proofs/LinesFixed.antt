@@ -21,13 +21,13 @@ use Rattle.cb_world.proofs.Apart.{some_same}
 use Rattle.cb_core.specs.declared.event.Atomic.TheVariants as atomic
 use Rattle.cb_core.specs.declared.event.Event.TheVariants as event
 use Rattle.cb_core.specs.declared.event.Event.TheVariants.{Turn}
-use Rattle.cb_core.specs.Pinning.{PinStep, scope_full, refused, taken}
 use Rattle.cb_core.specs.Step.{Leads}
 use Rattle.cb_core.proofs.StepFixed.{atomic_fixed, newest_fixed, step_fixes}
 use Rattle.cb_lanes.specs.Asked.{asked}
 use Rattle.cb_lanes.specs.GivingBack.{GivesAll, Rests, end_of, lines_of}
 use Rattle.cb_lanes.specs.LineStep.{CallStep, IsInReply, LinesLead, LineStep, ObjectStep, PeekStep, not_pinned, shown, PinEvent, PinLine, at_once, stays_far, swapped_in, SwapEvent, TurnStep, job_on}
 use Rattle.cb_lanes.specs.LinesSoundly.{LinesLeadSoundly}
+use Rattle.cb_lanes.proofs.FarPins.{far_not_here}
 
 -- two replies and two worlds are one
 abbrev AreOne : Reply → Reply → WorldState → WorldState → Type 0
@@ -72,50 +72,31 @@ peek_fixed seat h w a b r q (shown at x e s) (shown to y f t) =
       s ∙ sym t,
     )
 
--- a pin of an object that is not here leaves the world
-full_not : answer.NotHere ≡ answer.ScopeFull → ⊥
-full_not e = cc
-
-version_not : (n : ℕ) → answer.NotHere ≡ answer.Version n → ⊥
-version_not n e = cc
-
-not_pinned_here : (seat h : ℕ) (w m : WorldState) → PinStep seat h w answer.NotHere m → m ≡ w
-not_pinned_here seat h w m (scope_full n e s) = absurd (full_not e)
-not_pinned_here seat h w m (refused n off e s) = s
-not_pinned_here seat h w m (taken n may e s) = absurd (version_not _ e)
-
 pin_event : (seat h : ℕ) (w a b : WorldState) (r q : Reply) → PinEvent seat h w r a
     → PinEvent seat h w q b → AreOne r q a b
 pin_event seat h w a b r q x y = atomic_fixed seat (atomic.Pin (record { n = h })) w a b r q x y
 
 module _ (seat h : ℕ) (w a b : WorldState) (r q : Reply) (sound : IsSoundWorld w) where
-  -- a swap-in behind a pin of an object that is not here is one in this world
-  swap_event : (m n : WorldState) (p o : Reply) (c d : WorldState) → PinEvent seat h w answer.NotHere m
-      → PinEvent seat h w answer.NotHere n → SwapEvent seat h m p c → SwapEvent seat h n o d
-      → AreOne p o c d
-  swap_event m n p o c d e f x y =
-      step_fixes w c d (Turn seat (job.Swap (record { n = h }))) p o sound
-      (subst (λ (v : WorldState). SwapEvent seat h v p c) (not_pinned_here seat h w m e) x)
-      (subst (λ (v : WorldState). SwapEvent seat h v o d) (not_pinned_here seat h w n f) y)
+  swap_event : (m n : WorldState) (p o : Reply) → SwapEvent seat h w p m → SwapEvent seat h w o n
+      → AreOne p o m n
+  swap_event m n p o x y = step_fixes w m n (Turn seat (job.Swap (record { n = h }))) p o sound x y
 
   pin_fixed : PinLine seat h w r a → PinLine seat h w q b → AreOne r q a b
   pin_fixed (at_once e off) (at_once f on) = pin_event seat h w a b r q e f
-  pin_fixed (at_once e off) (stays_far n f y on) =
-      absurd (off (pin_event seat h w a n r answer.NotHere e f).0)
-  pin_fixed (at_once e off) (swapped_in n d o f y is z) =
-      absurd (off (pin_event seat h w a n r answer.NotHere e f).0)
-  pin_fixed (stays_far m e x off) (at_once f on) =
-      absurd (on (pin_event seat h w b m q answer.NotHere f e).0)
-  pin_fixed (swapped_in m c p e x is u) (at_once f on) =
-      absurd (on (pin_event seat h w b m q answer.NotHere f e).0)
-  pin_fixed (stays_far m e x off) (stays_far n f y on) = swap_event m n r q a b e f x y
-  pin_fixed (stays_far m e x off) (swapped_in n d o f y is z) =
-      absurd (off (subst IsInReply (sym (swap_event m n r o a d e f x y).0) is))
-  pin_fixed (swapped_in m c p e x is u) (stays_far n f y on) =
-      absurd (on (subst IsInReply (swap_event m n p q c b e f x y).0 is))
-  pin_fixed (swapped_in m c p e x is u) (swapped_in n d o f y also z) =
-      let same = swap_event m n p o c d e f x y in
-      pin_event seat h d a b r q (subst (λ (v : WorldState). PinEvent seat h v r a) same.1 u) z
+  pin_fixed (at_once e off) (stays_far away y on) = absurd (off (far_not_here seat h w a r away e))
+  pin_fixed (at_once e off) (swapped_in n o away y is z) =
+      absurd (off (far_not_here seat h w a r away e))
+  pin_fixed (stays_far away x off) (at_once f on) = absurd (on (far_not_here seat h w b q away f))
+  pin_fixed (swapped_in m p away x is u) (at_once f on) =
+      absurd (on (far_not_here seat h w b q away f))
+  pin_fixed (stays_far away x off) (stays_far still y on) = swap_event a b r q x y
+  pin_fixed (stays_far away x off) (swapped_in n o still y is z) =
+      absurd (off (subst IsInReply (sym (swap_event a n r o x y).0) is))
+  pin_fixed (swapped_in m p away x is u) (stays_far still y on) =
+      absurd (on (subst IsInReply (swap_event m b p q x y).0 is))
+  pin_fixed (swapped_in m p away x is u) (swapped_in n o still y also z) =
+      let same = swap_event m n p o x y in
+      pin_event seat h n a b r q (subst (λ (v : WorldState). PinEvent seat h v r a) same.1 u) z
 
   turn_fixed : (j : Job) → TurnStep seat (Some j) w r a → TurnStep seat (Some j) w q b → AreOne r q a b
   turn_fixed j x y = step_fixes w a b (Turn seat j) r q sound x y
@@ -163,8 +144,21 @@ line_fixes seat handle (Join node) w a b r q sound x y =
     step_fixes w a b (Turn seat (job.Join node)) r q sound x y
 line_fixes seat handle Leave w a b r q sound x y =
     (x.0 ∙ sym y.0, all_fixed seat w a b x.1 y.1)
-line_fixes seat handle request w a b r q sound x y =
-    object_fixed seat handle request w a b r q sound x y
+line_fixes seat handle (Read name) w a b r q sound x y =
+    object_fixed seat handle (Read name) w a b r q sound x y
+line_fixes seat handle (Write name at bytes) w a b r q sound x y =
+    object_fixed seat handle (Write name at bytes) w a b r q sound x y
+line_fixes seat handle (Free name) w a b r q sound x y =
+    object_fixed seat handle (Free name) w a b r q sound x y
+line_fixes seat handle (Pin name) w a b r q sound x y =
+    object_fixed seat handle (Pin name) w a b r q sound x y
+line_fixes seat handle (Peek name) w a b r q sound x y =
+    object_fixed seat handle (Peek name) w a b r q sound x y
+line_fixes seat handle (Unpin name) w a b r q sound x y =
+    object_fixed seat handle (Unpin name) w a b r q sound x y
+line_fixes seat handle (Filter name) w a b r q sound x y =
+    object_fixed seat handle (Filter name) w a b r q sound x y
+line_fixes seat handle request w a b r q sound x y = absurd x
 
 -- ---- lines one after another
 -- a line as it was asked

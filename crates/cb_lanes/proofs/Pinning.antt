@@ -226,15 +226,6 @@ pin_here_goes answers l name h r w new c lt below made few named (taken room may
 
 -- ---- a pin of an object wherever it is
 
--- what is not here is left as it is
-pub pin_nothing : (seat h : ℕ) (w m : WorldState) → PinStep seat h w answer.NotHere m → m ≡ w
-pin_nothing seat h w m (scope_full full is same) = same
-pin_nothing seat h w m (refused room unless is same) = same
-pin_nothing seat h w m (taken room may is t) = absurd (not_here is)
-  where
-    not_here : answer.NotHere ≡ answer.Version (stamp_at w.desk h) → ⊥
-    not_here e = cc
-
 pub in_or_refused : (y : Words) (h : ℕ) (r : Reply) → SwapEnds y h r → (IsInReply r → ⊥) → IsSwapRefusal r
 in_or_refused y h r (swap_refused z) off = z
 in_or_refused y h r (stays e here) off = absurd (off (subst IsInReply (sym e) tt))
@@ -349,27 +340,21 @@ pub pin_goes : (answers : List Answer) (l : Line) (name : List ℕ) (h : ℕ) (r
     → Goes answers (answer_to l (Pin name) r) w new c.then.shown
 pin_goes answers l name h r w new c lt below made few named (at_once pin unless) =
     pin_here_goes answers l name h r w new (around answers w new c) lt below made few named pin unless
-pin_goes answers l name h r w new c lt below made few named (stays_far m pin swap off) =
-    stays_goes answers l name h r w new c below named
-    (subst (λ (x : WorldState). TurnStep (job.Swap (record { n = h })) x r new)
-    (pin_nothing l.lane.n h w m pin) swap) off
-pin_goes answers l name h r w new c lt below made few named (swapped_in m n q pin swap is again) =
-    swapped_goes answers l name h q r w n new c lt below made few named
-    (subst (λ (x : WorldState). TurnStep (job.Swap (record { n = h })) x q n)
-    (pin_nothing l.lane.n h w m pin) swap) is again
+pin_goes answers l name h r w new c lt below made few named (stays_far away swap off) =
+    stays_goes answers l name h r w new c below named swap off
+pin_goes answers l name h r w new c lt below made few named (swapped_in m q away swap is again) =
+    swapped_goes answers l name h q r w m new c lt below made few named swap is again
 
 -- no pin changes the configuration
 pub pin_settings : (seat h : ℕ) (w new : WorldState) (r : Reply) → PinLine seat h w r new
     → new.desk.settings ≡ w.desk.settings
 pin_settings seat h w new r (at_once pin unless) =
     step_settings w new (event.Step seat (atomic.Pin (record { n = h }))) r pin
-pin_settings seat h w new r (stays_far m pin swap off) =
-    step_settings m new (event.Turn seat (job.Swap (record { n = h }))) r swap
-    ∙ step_settings w m (event.Step seat (atomic.Pin (record { n = h }))) answer.NotHere pin
-pin_settings seat h w new r (swapped_in m n q pin swap is again) =
-    step_settings n new (event.Step seat (atomic.Pin (record { n = h }))) r again
-    ∙ step_settings m n (event.Turn seat (job.Swap (record { n = h }))) q swap
-    ∙ step_settings w m (event.Step seat (atomic.Pin (record { n = h }))) answer.NotHere pin
+pin_settings seat h w new r (stays_far away swap off) =
+    step_settings w new (event.Turn seat (job.Swap (record { n = h }))) r swap
+pin_settings seat h w new r (swapped_in m q away swap is again) =
+    step_settings m new (event.Step seat (atomic.Pin (record { n = h }))) r again
+    ∙ step_settings w m (event.Turn seat (job.Swap (record { n = h }))) q swap
 
 -- ---- a peek
 

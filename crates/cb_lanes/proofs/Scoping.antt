@@ -28,7 +28,7 @@ use Rattle.cb_lanes.specs.Scopes.{Scope, without_newest, named_on, scope_after, 
 use Rattle.cb_lanes.proofs.GivingBack.{gives_all, pins_own, pins_other, given_pins}
 use Rattle.cb_lanes.proofs.Filtering.{filter_counts}
 use Rattle.cb_lanes.proofs.PinLists.{AreApart, ArePinsOf, pins_length, scope_none, scope_newest, scope_without, scope_count}
-use Rattle.cb_lanes.proofs.Pinning.{pin_nothing, in_or_refused, turn_seats}
+use Rattle.cb_lanes.proofs.Pinning.{in_or_refused, turn_seats}
 use Rattle.cb_lanes.proofs.Turning.{Turning, within}
 
 -- The line is answered as its lane's scope says, the seat's pins are then those of the scope after it, and
@@ -208,16 +208,6 @@ refusal_still scope name r z = absurd z
 swap_not_full : (r : Reply) → IsSwapRefusal r → r ≡ answer.ScopeFull → ⊥
 swap_not_full r z e = absurd (subst IsSwapRefusal e z)
 
--- what is not here is told so in a lane that has room for a pin
-pin_room : (seat h : ℕ) (w m : WorldState) → PinStep seat h w answer.NotHere m
-    → length (pins_of_seat w.seats seat) < 16
-pin_room seat h w m (scope_full full is same) = absurd (full_not_here is)
-  where
-    full_not_here : answer.NotHere ≡ answer.ScopeFull → ⊥
-    full_not_here e = cc
-pin_room seat h w m (refused room never is same) = room
-pin_room seat h w m (taken room may is t) = room
-
 pin_line_scoped : (answers : List Answer) (number : List ℕ → Option ℕ) (apart : AreApart number)
     (scope : Scope) (name : List ℕ) (h seat : ℕ) (r : Reply) (w new : WorldState)
     → (c : Turning answers w new) → seat < 64 → h < w.desk.settings.handles → number name ≡ Some h
@@ -226,21 +216,19 @@ pin_line_scoped : (answers : List Answer) (number : List ℕ → Option ℕ) (ap
 pin_line_scoped answers number apart scope name h seat r w new c lt below at_name are (at_once pin never) =
     pin_scoped number apart scope name h seat r w new c.before lt at_name are pin
 pin_line_scoped answers number apart scope name h seat r w new c lt below at_name are
-    (stays_far m pin swap off) =
+    (stays_far away swap off) =
     let j = job.Swap (record { n = h }) in
-    let step = subst (λ (x : WorldState). TurnStep j x r new) (pin_nothing seat h w m pin) swap in
-    let refusal = in_or_refused new.desk h r (swap_turn w new h r c.before c.then c.few below step).ends off in
-    let room = pin_room seat h w m pin in
+    let refusal = in_or_refused new.desk h r (swap_turn w new h r c.before c.then c.few below swap).ends off in
+    let room = away.room in
     let long = pins_length number scope (pins_of_seat w.seats seat) are in
-    still_scoped number (Some h) scope (Pin name) r seat w new (turn_seats j w new r step) are
+    still_scoped number (Some h) scope (Pin name) r seat w new (turn_seats j w new r swap) are
     (refusal_still scope name r refusal)
     (λ e. absurd (swap_not_full r refusal e), λ e. absurd (omega (arith, room, long, e)))
 pin_line_scoped answers number apart scope name h seat r w new c lt below at_name are
-    (swapped_in m n q pin swap is again) =
+    (swapped_in m q away swap is again) =
     let j = job.Swap (record { n = h }) in
-    let step = subst (λ (x : WorldState). TurnStep j x q n) (pin_nothing seat h w m pin) swap in
-    let seats = turn_seats j w n q step in
-    let z = pin_scoped number apart scope name h seat r n new (swap_sound w n h q c.before step) lt at_name
+    let seats = turn_seats j w m q swap in
+    let z = pin_scoped number apart scope name h seat r m new (swap_sound w m h q c.before swap) lt at_name
     (subst (λ (xs : List SeatState). ArePinsOf number scope (pins_of_seat xs seat)) (sym seats) are) again in
     record {
       says = z.says;

@@ -4,7 +4,7 @@ use Rattle.cb_types.specs.declared.answer.Answer.{Answer}
 use Rattle.cb_types.specs.declared.config.Config.{Config}
 use Rattle.cb_types.specs.declared.job.Job.TheVariants as job
 use Rattle.cb_types.specs.declared.request.Request.{Request}
-use Rattle.cb_types.specs.declared.request.Request.TheVariants.{Read, Write, Filter, Crash, Join, Evict, Begin, Ship, Commit, Abort}
+use Rattle.cb_types.specs.declared.request.Request.TheVariants.{Read, Write, Filter, Compact, Crash, Join, Evict, Begin, Ship, Commit, Abort}
 use Rattle.cb_types.specs.declared.reply.Reply.{Reply}
 use Rattle.cb_types.specs.declared.reply.Reply.TheVariants.{Bytes, Done, Batch, Shipped, NoBatch, Short, EpochAt, Down, Up, Range, Unmade, Freed}
 use Rattle.cb_script.specs.declared.script.Line.{Line}
@@ -92,6 +92,10 @@ a_filter_is_a_filter = refl
 not_built : job_on 4 Evict ≡ None
 not_built = refl
 
+-- a verb that is not built is no line, and none that is answered unmade
+not_a_line : (w : WorldState) → LineStep 1 None Compact w Unmade w → ⊥
+not_a_line w step = step
+
 -- a name that has no handle is unmade, and nothing happens
 unmade : (w : WorldState) → LineStep 1 None (Read (97 ∷ [])) w Unmade w
 unmade w = (refl, refl)
@@ -116,7 +120,7 @@ joined = record (empty_world small) {
 }
 
 a_join : LineStep 1 None (Join (record { n = node })) (empty_world small) (Up (record { n = node })) joined
-a_join = done (Up (record { n = node })) (omega arith) (refl, is_up refl refl refl) refl refl
+a_join = done (omega arith) (refl, is_up refl refl refl) refl
 
 leads : LinesLead [] (empty_world small) (answer (Join (record { n = node })) (Up (record { n = node })) ∷ [])
     joined

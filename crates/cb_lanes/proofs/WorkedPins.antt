@@ -1,5 +1,5 @@
 -- Worked examples: scopes of lanes, what they say of answers, and pins that are given back.
-use Rattle.std.proofs.Common.{◌≡◌, ℕ, zero, suc, List, [], ◌∷◌, length, replicate, Some, None, refl, ap, arith}
+use Rattle.std.proofs.Common.{◌≡◌, ℕ, zero, suc, List, [], ◌∷◌, length, replicate, Some, None, refl, ap, lit<, arith}
 use Rattle.std.specs.Prelude.{slice_get}
 use Rattle.std.proofs.lemmas.List.Edits.{length-remove}
 use Rattle.std.proofs.lemmas.Option.{slice_get_within}
@@ -9,7 +9,7 @@ use Rattle.cb_types.specs.declared.request.Request.{Request}
 use Rattle.cb_types.specs.declared.request.Request.TheVariants.{Make, Write, Free, Pin, Peek, Unpin, Filter, Leave}
 use Rattle.cb_types.specs.declared.reply.Reply.{Reply}
 use Rattle.cb_types.specs.declared.reply.Reply.TheVariants.{Made, Version, Bytes, Done, Left, Same, Unmade, Freed, Pinned, ScopeFull, NotPinned, NotHere, NoRoom, Stays, Swapped}
-use Rattle.cb_ptr.specs.Word.{len_of}
+use Rattle.cb_ptr.specs.Word.{len_of, state_number}
 use Rattle.cb_world.specs.declared.seats.Pin.{Pin as SeatPin}
 use Rattle.cb_world.specs.Memory.{bytes_in}
 use Rattle.cb_world.specs.Seats.{SeatState, IsNewest, pins_of_seat, with_pins}
@@ -19,7 +19,7 @@ use Rattle.cb_core.specs.declared.event.Atomic.TheVariants as atomic
 use Rattle.cb_core.specs.declared.event.Event.TheVariants as event
 use Rattle.cb_core.specs.Pinning.{not_pinned as unpin_refused, given}
 use Rattle.cb_lanes.specs.GivingBack.{end_of, GivesAll, lines_of, Rests}
-use Rattle.cb_lanes.specs.LineStep.{not_pinned, shown, CallStep, LineStep, IsInReply, PinEvent, SwapEvent, PinLine, at_once, stays_far, swapped_in}
+use Rattle.cb_lanes.specs.LineStep.{not_pinned, shown, CallStep, LineStep, IsInReply, PinEvent, SwapEvent, IsFarToPin, PinLine, at_once, stays_far, swapped_in}
 use Rattle.cb_lanes.specs.LinesLeft.{AreLanes, AreLeft}
 use Rattle.cb_lanes.specs.Scopes.{NamedPin, Scope, newest_on, without_newest, named_on, scope_after, scope_of, PinnedSays, ScopeSays, KeepScopes}
 
@@ -287,16 +287,40 @@ it_came_in = tt
 without_room_it_is_not_in : IsInReply (NoRoom 8 1 4) → ⊥
 without_room_it_is_not_in is = is
 
+-- a far object, and one that is here, and a lane with as many pins as it may have
+abbrev with_word : ℕ → WorldState
+with_word word = record (empty_world small) {
+  desk = record (empty_world small).desk { words = word ∷ 0 ∷ [] };
+}
+
+abbrev with_all_pins : WorldState
+with_all_pins = record (with_word 16385) { seats = with_pins (empty_world small).seats 1 (replicate 16 pin) }
+
+far_to_be_pinned : IsFarToPin 1 0 (with_word 16385)
+far_to_be_pinned = record { room = lit< tt; away = refl }
+
+here_to_be_pinned : IsFarToPin 1 0 (with_word 16386) → ⊥
+here_to_be_pinned is = let e : 2 ≡ 1 = ap state_number is.away in omega (arith, e)
+
+no_more_to_be_pinned : IsFarToPin 1 0 with_all_pins → ⊥
+no_more_to_be_pinned is = omega (arith, is.room)
+
 -- an object that is here is pinned by the one step
 pinned_at_once : (w new : WorldState) → PinEvent 1 4 w (Version 2) new → PinLine 1 4 w (Version 2) new
 pinned_at_once w new pin = at_once pin (λ e. cc)
 
 -- one that can't be swapped in is answered as the swap was
-not_swapped_in : (w m new : WorldState) → PinEvent 1 4 w NotHere m → SwapEvent 1 4 m (NoRoom 8 1 4) new
+not_swapped_in : (w new : WorldState) → IsFarToPin 1 4 w → SwapEvent 1 4 w (NoRoom 8 1 4) new
     → PinLine 1 4 w (NoRoom 8 1 4) new
-not_swapped_in w m new pin swap = stays_far m pin swap (λ is. is)
+not_swapped_in w new away swap = stays_far away swap (λ is. is)
 
 -- and one that came in is pinned then
-pinned_once_here : (w m n new : WorldState) → PinEvent 1 4 w NotHere m → SwapEvent 1 4 m (Swapped 3) n
-    → PinEvent 1 4 n (Version 2) new → PinLine 1 4 w (Version 2) new
-pinned_once_here w m n new pin swap again = swapped_in m n (Swapped 3) pin swap tt again
+pinned_once_here : (w m new : WorldState) → IsFarToPin 1 4 w → SwapEvent 1 4 w (Swapped 3) m
+    → PinEvent 1 4 m (Version 2) new → PinLine 1 4 w (Version 2) new
+pinned_once_here w m new away swap again = swapped_in m (Swapped 3) away swap tt again
+
+-- the refused pin of a far object is no line
+a_line_of_no_event : (w : WorldState) → PinLine 1 4 w NotHere w → (IsFarToPin 1 4 w → ⊥) → ⊥
+a_line_of_no_event w (at_once pin never) near = never refl
+a_line_of_no_event w (stays_far away swap off) near = near away
+a_line_of_no_event w (swapped_in m q away swap is again) near = near away

@@ -1,6 +1,7 @@
 -- A line of a script as a step of the world.
-use Rattle.std.specs.Prelude.{◌≡◌, ℕ, List, [], ◌∷◌, ◌++◌, length, map, Option, None, Some}
-use Rattle.cb_ptr.specs.Word.{len_of}
+use Rattle.std.specs.Prelude.{◌≡◌, ℕ, ◌<◌, List, [], ◌∷◌, ◌++◌, length, map, Option, None, Some}
+use Rattle.cb_ptr.specs.declared.word.State.TheVariants as state
+use Rattle.cb_ptr.specs.Word.{len_of, state_of}
 use Rattle.cb_types.specs.declared.answer.Answer.{Answer}
 use Rattle.cb_types.specs.declared.job.Job.{Job}
 use Rattle.cb_types.specs.declared.job.Job.TheVariants as job
@@ -57,14 +58,20 @@ PinEvent seat h w r new = Step w (event.Step seat (atomic.Pin (record { n = h })
 abbrev pub SwapEvent : ℕ → ℕ → WorldState → Reply → WorldState → Type 0
 SwapEvent seat h w r new = Step w (Turn seat (job.Swap (record { n = h }))) r new
 
--- A pin. An object that is not here is swapped in by a turn, and pinned then; where it can't be swapped
--- in, the line is answered so.
+-- the seat may have one pin more, and the object is far
+pub record IsFarToPin (seat h : ℕ) (w : WorldState) : Type 0 where
+  pub room : length (pins_of_seat w.seats seat) < 16
+  pub away : state_of (word_at w.desk h) ≡ state.Far
+
+-- A pin: one event where the object is not far, or the seat has as many pins as it may have. A far
+-- object is pinned in two events, a turn that swaps it in and the pin; where it can't be swapped in, that
+-- turn is the line's only event, and the line is answered so.
 pub data PinLine (seat h : ℕ) (w : WorldState) (r : Reply) (new : WorldState) : Type 0 where
   at_once : PinEvent seat h w r new → (r ≡ answer.NotHere → ⊥) → PinLine seat h w r new
-  stays_far : (m : WorldState) → PinEvent seat h w answer.NotHere m → SwapEvent seat h m r new
-      → (IsInReply r → ⊥) → PinLine seat h w r new
-  swapped_in : (m n : WorldState) (q : Reply) → PinEvent seat h w answer.NotHere m
-      → SwapEvent seat h m q n → IsInReply q → PinEvent seat h n r new → PinLine seat h w r new
+  stays_far : IsFarToPin seat h w → SwapEvent seat h w r new → (IsInReply r → ⊥)
+      → PinLine seat h w r new
+  swapped_in : (m : WorldState) (q : Reply) → IsFarToPin seat h w → SwapEvent seat h w q m → IsInReply q
+      → PinEvent seat h m r new → PinLine seat h w r new
 
 -- a line on the object of this handle: the end of a pin is one step, a peek is no event, and every other
 -- but a pin is a turn
@@ -94,7 +101,15 @@ LineStep seat handle (Crash node) w r new = Step w (Turn seat (job.Crash node)) 
 LineStep seat handle (Join node) w r new = Step w (Turn seat (job.Join node)) r new
 LineStep seat handle Leave w r new =
     (r ≡ answer.Left (length (pins_of_seat w.seats seat))) × GivesAll seat w new
-LineStep seat handle request w r new = ObjectStep seat handle request w r new
+LineStep seat handle (Read name) w r new = ObjectStep seat handle (Read name) w r new
+LineStep seat handle (Write name at bytes) w r new = ObjectStep seat handle (Write name at bytes) w r new
+LineStep seat handle (Free name) w r new = ObjectStep seat handle (Free name) w r new
+LineStep seat handle (Pin name) w r new = ObjectStep seat handle (Pin name) w r new
+LineStep seat handle (Peek name) w r new = ObjectStep seat handle (Peek name) w r new
+LineStep seat handle (Unpin name) w r new = ObjectStep seat handle (Unpin name) w r new
+LineStep seat handle (Filter name) w r new = ObjectStep seat handle (Filter name) w r new
+-- every other verb is not built
+LineStep seat handle request w r new = ⊥
 
 -- The answers behind those before them lead from one world to another, line by line. Behind its last
 -- line a lane's pins are given back, before the next line.

@@ -74,6 +74,7 @@ pub mod Alike
 pub mod Pins
 pub mod Fixed
 mod WorkedDesk
+mod WorkedFrames
 mod WorkedWorld
 mod WorkedFar
 mod WorkedReserved

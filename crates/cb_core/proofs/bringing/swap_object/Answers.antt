@@ -1,3 +1,4 @@
+use Rattle.std.proofs.Common.{◌∙◌}
 use Rattle.cb_core.specs.Turned.{Brings, Finds}
 use Rattle.cb_core.proofs.Composing.{bring_lacks_as, brings_as_if, comes_in, err_map, finds_as, holding, shown_after}
 use Rattle.cb_core.proofs.PartsFar.{far_has_home}
@@ -13,8 +14,8 @@ bring-requires-clause-sound g c =
     shown_after _ _ _ _ _ _ _ c.find-place.ensures.finds
     (λ es s ran a. (g.met.D.Desk.follows _ _ es s ran a).1) c.requires.sound
 
-pub returns-clause-swaps : goal.returns-clause-swaps
-returns-clause-swaps g c =
+pub returns-clause-comes : goal.returns-clause-comes
+returns-clause-comes g c =
     let x = c.find-place.ensures.finds in
     comes_in (Finds (λ d es e. g.D.Desk.run d es e) (λ d s. g.D.Desk.shows d s) c.args.h.n) (Brings (λ d es e. g.D.Desk.run d es e) (λ d s. g.D.Desk.shows d s) (g.D.Desk.settings c.args.desk.now) c.args.h.n)
     (holding c.args.desk.now c.args.far.now) (holding c.find-place.new.desk c.args.far.now)
@@ -36,3 +37,13 @@ returns-clause-error g c =
           (holding c.find-place.new.desk c.args.far.now) (holding c.bring.new.desk c.bring.new.far)
           (g.met.D.Desk.stays _ _ x.events x.ran) y,
     ))
+
+pub returns-then-not-is_not_here-clause-sound : goal.returns-then-not-is_not_here-clause-sound
+returns-then-not-is_not_here-clause-sound g c =
+    shown_after _ _ _ _ _ _ _ c.find-place.ensures.finds
+    (λ es s ran a. (g.met.D.Desk.follows _ _ es s ran a).1) c.requires.sound
+
+pub returns-clause-settings : goal.returns-clause-settings
+returns-clause-settings g c =
+    let x = c.find-place.ensures.finds in
+    c.bring.ensures.settings ∙ g.met.D.Desk.stays _ _ x.events x.ran

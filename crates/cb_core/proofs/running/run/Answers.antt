@@ -1,6 +1,7 @@
 use Rattle.std.proofs.Common.{rules, sym, subst, ◌+◌, [], ◌∷◌, ◌++◌}
 use Rattle.cb_core.specs.Run.{RunStops}
 use Rattle.cb_core.specs.Called.{StandsBeside}
+use Rattle.cb_core.proofs.PinnedStays.{leads_pinned}
 use Rattle.cb_core.proofs.RunLegal.{run_legal, run_from_empty, empty_stands}
 use Rattle.cb_core.proofs.Runs.{going_more, going_all, going_stops, going_ends, only_leads, of_error}
 use Rattle.cb_core.proofs.running.run.Goals as goal
@@ -19,6 +20,12 @@ pub returns-clause-leads : goal.returns-clause-leads
 returns-clause-leads c = only_leads c.args.world.now c.loop-event.world c.args.events.now
     c.loop-event.replies (going_all c.args.world.now c.args.events.now c.loop-event.event-index
     c.loop-event.replies c.loop-event.world c.loop-event.invariant c.loop-event-test.false)
+
+pub returns-clause-pinned : goal.returns-clause-pinned
+returns-clause-pinned c = leads_pinned c.args.events.now c.loop-event.replies c.args.world.now
+    c.loop-event.world (going_all c.args.world.now c.args.events.now c.loop-event.event-index
+    c.loop-event.replies c.loop-event.world c.loop-event.invariant c.loop-event-test.false)
+    c.requires.events c.requires.sound
 
 pub returns-clause-legal : goal.returns-clause-legal
 returns-clause-legal c before stands = run_legal c.args.events.now c.loop-event.replies c.args.world.now

@@ -1,9 +1,10 @@
 use Rattle.std.proofs.Common.{refl}
 use Rattle.cb_types.specs.declared.reply.Reply.TheVariants as answer
-use Rattle.cb_core.specs.Turned.{worn}
+use Rattle.cb_core.specs.Turned.{worn, Reads, ReadLacks}
 use Rattle.cb_core.proofs.Composing.{holding, if_map}
-use Rattle.cb_core.proofs.NoFrames.{Never, does_never}
+use Rattle.cb_core.proofs.NoFrames.{Never, does_never, reads_never}
 use Rattle.cb_core.proofs.Counting.{counted_sound, stopped, turned}
+use Rattle.cb_core.proofs.TurnCarries.{reads}
 use Rattle.cb_core.proofs.TurnLeft.{laws_of, outcome_leaves, turn_leaves}
 use Rattle.cb_core.proofs.turning.turn.Goals as goal
 
@@ -16,24 +17,31 @@ work-requires-clause-sound g c =
 pub returns-clause-turned : goal.returns-clause-turned
 returns-clause-turned g c =
     let d = c.count_turn.ensures.done c.if-not-count_turn.false in
-    turned (λ d es e. g.D.Desk.run d es e) (λ d s. g.D.Desk.shows d s) (g.D.Desk.settings c.args.desk.now)
-    c.args.job.now (holding c.args.desk.now c.args.far.now) (holding c.work.new.desk c.work.new.far)
+    turned (λ d es e. g.D.Desk.run d es e) (λ d s. g.D.Desk.shows d s)
+    (Reads (λ d es e. g.D.Desk.run d es e) (λ d s. g.D.Desk.shows d s))
+    (ReadLacks (λ d es e. g.D.Desk.run d es e) (λ d s. g.D.Desk.shows d s))
+    (g.D.Desk.settings c.args.desk.now) c.args.job.now (holding c.args.desk.now c.args.far.now) (holding c.work.new.desk c.work.new.far)
     c.work.result c.count_turn.new.far d.0 d.1 c.work.ensures.does
 
 pub returns-clause-error : goal.returns-clause-error
 returns-clause-error g c =
     let d = c.count_turn.ensures.done c.if-not-count_turn.false in
-    stopped (λ d es e. g.D.Desk.run d es e) (λ d s. g.D.Desk.shows d s) (g.D.Desk.settings c.args.desk.now)
-    c.args.job.now (holding c.args.desk.now c.args.far.now) (holding c.work.new.desk c.work.new.far)
+    stopped (λ d es e. g.D.Desk.run d es e) (λ d s. g.D.Desk.shows d s)
+    (Reads (λ d es e. g.D.Desk.run d es e) (λ d s. g.D.Desk.shows d s))
+    (ReadLacks (λ d es e. g.D.Desk.run d es e) (λ d s. g.D.Desk.shows d s))
+    (g.D.Desk.settings c.args.desk.now) c.args.job.now (holding c.args.desk.now c.args.far.now) (holding c.work.new.desk c.work.new.far)
     c.work.result c.count_turn.new.far d.0 d.1 c.work.ensures.error
 
 pub returns-then-not-count_turn-clause-leaves : goal.returns-then-not-count_turn-clause-leaves
 returns-then-not-count_turn-clause-leaves g c =
     let d = c.count_turn.ensures.worn c.if-not-count_turn.true in
-    turn_leaves (λ d es e. g.D.Desk.run d es e) (λ d s. g.D.Desk.shows d s)
-    (laws_of (λ d es e. g.D.Desk.run d es e) (λ d s. g.D.Desk.shows d s) g.met.D.Desk.none
-    g.met.D.Desk.more g.met.D.Desk.follows) (g.D.Desk.settings c.args.desk.now) c.requires.config
-    c.args.job.now (holding c.args.desk.now c.args.far.now)
+    let laws = laws_of (λ d es e. g.D.Desk.run d es e) (λ d s. g.D.Desk.shows d s) g.met.D.Desk.none
+    g.met.D.Desk.more g.met.D.Desk.follows in
+    turn_leaves (λ d es e. g.D.Desk.run d es e) (λ d s. g.D.Desk.shows d s) laws
+    (g.D.Desk.settings c.args.desk.now) c.requires.config
+    (Reads (λ d es e. g.D.Desk.run d es e) (λ d s. g.D.Desk.shows d s))
+    (reads (λ d es e. g.D.Desk.run d es e) (λ d s. g.D.Desk.shows d s) laws
+    (g.D.Desk.settings c.args.desk.now) c.requires.config) c.args.job.now (holding c.args.desk.now c.args.far.now)
     (holding c.args.desk.now c.count_turn.new.far) answer.Worn c.requires.job
     (record { configured = c.requires.configured; shown = c.requires.sound }) c.requires.counted
     (worn d.0 refl d.1 (g.met.D.Desk.none c.args.desk.now))
@@ -52,5 +60,7 @@ pub returns-clause-no_frame : goal.returns-clause-no_frame
 returns-clause-no_frame g c =
     if_map (λ r. Never r) _ c.work.result c.work.ensures.does (λ r does.
     does_never (λ d es e. g.D.Desk.run d es e) (λ d s. g.D.Desk.shows d s)
-    (g.D.Desk.settings c.args.desk.now) c.args.job.now
+    (Reads (λ d es e. g.D.Desk.run d es e) (λ d s. g.D.Desk.shows d s))
+    (reads_never (λ d es e. g.D.Desk.run d es e) (λ d s. g.D.Desk.shows d s)
+    (g.D.Desk.settings c.args.desk.now)) (g.D.Desk.settings c.args.desk.now) c.args.job.now
     (holding c.args.desk.now c.count_turn.new.far) (holding c.work.new.desk c.work.new.far) r does)

@@ -7,7 +7,9 @@ use Rattle.cb_types.specs.declared.reply.Reply.TheVariants as answer
 use Rattle.cb_core.specs.declared.event.Atomic.TheVariants as atomic
 use Rattle.cb_core.specs.declared.event.Event.TheVariants as event
 use Rattle.cb_core.proofs.Settings.{step_settings}
-use Rattle.cb_lanes.specs.LineStep.{PinEvent, at_once, stays_far, swapped_in}
+use Rattle.cb_world.specs.World.{WorldState}
+use Rattle.cb_lanes.specs.LineStep.{PinEvent, SwapEvent, at_once, stays_far, swapped_in}
+use Rattle.cb_lanes.proofs.FarPins.{far_to_pin}
 use Rattle.cb_lanes.proofs.Shown.{ok_then}
 use Rattle.cb_lanes.proofs.answering.pin.Goals as goal
 
@@ -37,8 +39,11 @@ returns-then-is_in c =
     let first : PinEvent c.args.seat c.args.handle.n c.args.world.now answer.NotHere c.step_of.new.world =
     subst (λ (q : Reply). PinEvent c.args.seat c.args.handle.n c.args.world.now q c.step_of.new.world)
     c.in-NotHere.is c.in_ok-reply.ensures.step in record {
-      pin = ok_then c.step_of-then-is_in.result (λ r again. swapped_in c.step_of.new.world
-          c.turn_of.new.world c.in_ok-reply-in-NotHere.reply first c.in_ok-reply-in-NotHere.ensures.step
+      pin = ok_then c.step_of-then-is_in.result (λ r again.
+          let z = far_to_pin c.args.seat c.args.handle.n c.args.world.now c.step_of.new.world first in
+          swapped_in c.turn_of.new.world c.in_ok-reply-in-NotHere.reply z.0
+          (subst (λ (v : WorldState). SwapEvent c.args.seat c.args.handle.n v
+          c.in_ok-reply-in-NotHere.reply c.turn_of.new.world) z.1 c.in_ok-reply-in-NotHere.ensures.step)
           (c.is_in.ensures.0 c.if-is_in.true) again) c.step_of-then-is_in.ensures.step;
       sound = c.step_of-then-is_in.ensures.sound;
     }
@@ -48,7 +53,9 @@ returns-else-is_in c =
     let first : PinEvent c.args.seat c.args.handle.n c.args.world.now answer.NotHere c.step_of.new.world =
     subst (λ (q : Reply). PinEvent c.args.seat c.args.handle.n c.args.world.now q c.step_of.new.world)
     c.in-NotHere.is c.in_ok-reply.ensures.step in record {
-      pin = stays_far c.step_of.new.world first c.in_ok-reply-in-NotHere.ensures.step
+      pin = let z = far_to_pin c.args.seat c.args.handle.n c.args.world.now c.step_of.new.world first in
+          stays_far z.0 (subst (λ (v : WorldState). SwapEvent c.args.seat c.args.handle.n v
+          c.in_ok-reply-in-NotHere.reply c.turn_of.new.world) z.1 c.in_ok-reply-in-NotHere.ensures.step)
           (λ is. false≢true (sym c.if-is_in.false ∙ c.is_in.ensures.1 is));
       sound = c.turn_of.ensures.sound;
     }
