@@ -1,4 +1,5 @@
-ghost use Rattle.std.specs.Prelude.{◌≡◌, ◌++◌, OnOk, IfOk};
+ghost use Rattle.std.specs.Prelude.{◌≡◌, ◌++◌, OnOk, OnErr, IfOk};
+ghost use Rattle.std.specs.Io.{StartsWith};
 ghost use Rattle.cb_types.specs.Table.{IsReplyOf};
 ghost use Rattle.cb_text.specs.Line.{answer_line, spaced, subject_text};
 
@@ -25,7 +26,8 @@ pub fn line_text(
     Ok(Bytes::from(text))
 }
 
-/// Adds the line of output that tells a request of a lane and its reply at the end of a text.
+/// Adds the line of output that tells a request of a lane and its reply at the end of a text. Where
+/// memory lacks the text is as it was.
 pub fn push_line(
     text: &mut Vec<u8>,
     lane: Lane,
@@ -33,7 +35,28 @@ pub fn push_line(
     reply: &Reply,
 ) -> Result<(), NoMemory>
     requires { IsReplyOf request.now reply.now }
-    ensures text { OnOk result (text.new.items ≡ text.old.items ++ answer_line lane request.now reply.now) }
+    ensures text { OnOk result (text.new.items
+        ≡ text.old.items ++ answer_line lane request.now reply.now) }
+    ensures error { OnErr result (text.new.items ≡ text.old.items) }
+{
+    let before = text.len();
+    let pushed = push_parts(text, lane, request, reply);
+    if pushed.is_err() {
+        text.truncate(before);
+    }
+    pushed
+}
+
+/// Adds the parts of a line one after the other, as far as there is memory.
+fn push_parts(
+    text: &mut Vec<u8>,
+    lane: Lane,
+    request: &Request,
+    reply: &Reply,
+) -> Result<(), NoMemory>
+    ensures text { OnOk result (text.new.items
+        ≡ text.old.items ++ answer_line lane request.now reply.now) }
+    ensures kept { StartsWith text.new.items text.old.items }
 {
     text.extend_from_slice(Buffer::new().format(lane.n).as_bytes())?;
     push_word(text, verb(request).as_bytes())?;
@@ -45,16 +68,15 @@ pub fn push_line(
 
 /// Adds the node or the name of a request, where it has one.
 fn push_subject(text: &mut Vec<u8>, request: &Request) -> Result<(), NoMemory>
-    ensures { OnOk result (text.new.items ≡ text.old.items ++ subject_text request.now) }
+    ensures text { OnOk result (text.new.items ≡ text.old.items ++ subject_text request.now) }
+    ensures kept { StartsWith text.new.items text.old.items }
 {
     match request {
-        Request::Crash { node } => push_number(text, u64::from(node.n))?,
-        Request::Join { node } => push_number(text, u64::from(node.n))?,
-        _ => {
-            if let Some(name) = request.name() {
-                push_word(text, name.as_slice())?;
-            }
-        }
+        Request::Crash { node } => push_number(text, u64::from(node.n)),
+        Request::Join { node } => push_number(text, u64::from(node.n)),
+        _ => match request.name() {
+            Some(name) => push_word(text, name.as_slice()),
+            None => Ok(()),
+        },
     }
-    Ok(())
 }

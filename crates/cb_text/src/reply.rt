@@ -1,6 +1,7 @@
 ghost use Rattle.std.specs.Prelude.{◌≡◌, ◌++◌, OnOk, codes};
+ghost use Rattle.std.specs.Io.{StartsWith};
 ghost use Rattle.std.specs.List.{flat_map};
-ghost use Rattle.cb_text.specs.Line.{counted, loss_text, number_of, position_text, reply_text, spaced, word_of};
+ghost use Rattle.cb_text.specs.Line.{counted, loss_text, number_of, number_text, position_text, reply_text, spaced, word_of};
 
 use crate::word::{push_counted, push_hexadecimal, push_number, push_version, push_word};
 use cb_types::{Loss, NoMemory, NodeId, Reply, SetId};
@@ -8,7 +9,8 @@ use itoa::Buffer;
 
 /// Adds the words of a reply at the end, each behind a space.
 pub(crate) fn push_reply(text: &mut Vec<u8>, reply: &Reply) -> Result<(), NoMemory>
-    ensures { OnOk result (text.new.items ≡ text.old.items ++ reply_text reply.now) }
+    ensures text { OnOk result (text.new.items ≡ text.old.items ++ reply_text reply.now) }
+    ensures kept { StartsWith text.new.items text.old.items }
 {
     match reply {
         Reply::Made { version, .. } => push_version(text, *version),
@@ -30,13 +32,20 @@ pub(crate) fn push_reply(text: &mut Vec<u8>, reply: &Reply) -> Result<(), NoMemo
         } => push_rebuilt(text, *set, *position, *node),
         Reply::Stuck { set } => push_set(text, b"stuck", *set),
         Reply::Short { positions } => push_short(text, positions.as_slice()),
-        _ => {
-            push_word(text, word(reply).as_bytes())?;
-            match number(reply) {
-                Some(number) => push_number(text, number),
-                None => Ok(()),
-            }
-        }
+        _ => push_plain(text, reply),
+    }
+}
+
+/// Adds the word of a reply, and its number where it has one.
+fn push_plain(text: &mut Vec<u8>, reply: &Reply) -> Result<(), NoMemory>
+    ensures text { OnOk result (text.new.items
+        ≡ text.old.items ++ (spaced (word_of reply.now) ++ number_text (number_of reply.now))) }
+    ensures kept { StartsWith text.new.items text.old.items }
+{
+    push_word(text, word(reply).as_bytes())?;
+    match number(reply) {
+        Some(number) => push_number(text, number),
+        None => Ok(()),
     }
 }
 
@@ -103,7 +112,9 @@ fn number(reply: &Reply) -> Option<u64>
 
 /// Adds a word, and the number of a set.
 fn push_set(text: &mut Vec<u8>, word: &[u8], set: SetId) -> Result<(), NoMemory>
-    ensures { OnOk result (text.new.items ≡ text.old.items ++ (spaced word.now ++ counted (codes "set") set.n)) }
+    ensures text { OnOk result (text.new.items
+        ≡ text.old.items ++ (spaced word.now ++ counted (codes "set") set.n)) }
+    ensures kept { StartsWith text.new.items text.old.items }
 {
     push_word(text, word)?;
     push_counted(text, b"set", set.n)
@@ -111,7 +122,9 @@ fn push_set(text: &mut Vec<u8>, word: &[u8], set: SetId) -> Result<(), NoMemory>
 
 /// Adds that a lost row stands again: its set, its position and its node.
 fn push_rebuilt(text: &mut Vec<u8>, set: SetId, position: u32, node: NodeId) -> Result<(), NoMemory>
-    ensures { OnOk result (text.new.items ≡ text.old.items ++ reply_text (Reply.Rebuilt set position node)) }
+    ensures text { OnOk result (text.new.items
+        ≡ text.old.items ++ reply_text (Reply.Rebuilt set position node)) }
+    ensures kept { StartsWith text.new.items text.old.items }
 {
     push_set(text, b"rebuilt", set)?;
     push_counted(text, b"position", position as u64)?;
@@ -121,7 +134,9 @@ fn push_rebuilt(text: &mut Vec<u8>, set: SetId, position: u32, node: NodeId) -> 
 
 /// Adds that there is no room, and the three numbers that show it.
 fn push_no_room(text: &mut Vec<u8>, frames: u32, loose: u32, nodes: u32) -> Result<(), NoMemory>
-    ensures { OnOk result (text.new.items ≡ text.old.items ++ reply_text (Reply.NoRoom frames loose nodes)) }
+    ensures text { OnOk result (text.new.items
+        ≡ text.old.items ++ reply_text (Reply.NoRoom frames loose nodes)) }
+    ensures kept { StartsWith text.new.items text.old.items }
 {
     push_word(text, b"noroom")?;
     push_counted(text, b"frames", frames as u64)?;
@@ -132,7 +147,9 @@ fn push_no_room(text: &mut Vec<u8>, frames: u32, loose: u32, nodes: u32) -> Resu
 
 /// Adds that a set has lost too much, and the lost shards that show it.
 fn push_unavailable(text: &mut Vec<u8>, set: SetId, lost: &[Loss]) -> Result<(), NoMemory>
-    ensures { OnOk result (text.new.items ≡ text.old.items ++ reply_text (Reply.Unavailable set lost.now)) }
+    ensures text { OnOk result (text.new.items
+        ≡ text.old.items ++ reply_text (Reply.Unavailable set lost.now)) }
+    ensures kept { StartsWith text.new.items text.old.items }
 {
     push_set(text, b"unavailable", set)?;
     push_word(text, b"lost")?;
@@ -141,7 +158,8 @@ fn push_unavailable(text: &mut Vec<u8>, set: SetId, lost: &[Loss]) -> Result<(),
 
 /// Adds each lost shard behind a space: its node, `@` and the epoch of its crash.
 fn push_losses(text: &mut Vec<u8>, lost: &[Loss]) -> Result<(), NoMemory>
-    ensures { OnOk result (text.new.items ≡ text.old.items ++ flat_map loss_text lost.now) }
+    ensures text { OnOk result (text.new.items ≡ text.old.items ++ flat_map loss_text lost.now) }
+    ensures kept { StartsWith text.new.items text.old.items }
 {
     for loss in lost {
         push_loss(text, *loss)?;
@@ -151,7 +169,8 @@ fn push_losses(text: &mut Vec<u8>, lost: &[Loss]) -> Result<(), NoMemory>
 
 /// Adds one lost shard.
 fn push_loss(text: &mut Vec<u8>, loss: Loss) -> Result<(), NoMemory>
-    ensures { OnOk result (text.new.items ≡ text.old.items ++ loss_text loss) }
+    ensures text { OnOk result (text.new.items ≡ text.old.items ++ loss_text loss) }
+    ensures kept { StartsWith text.new.items text.old.items }
 {
     push_number(text, u64::from(loss.node.n))?;
     text.push(b'@')?;
@@ -161,7 +180,9 @@ fn push_loss(text: &mut Vec<u8>, loss: Loss) -> Result<(), NoMemory>
 
 /// Adds that rows of a batch are not put or were lost, and the positions that show it.
 fn push_short(text: &mut Vec<u8>, positions: &[u8]) -> Result<(), NoMemory>
-    ensures { OnOk result (text.new.items ≡ text.old.items ++ reply_text (Reply.Short positions.now)) }
+    ensures text { OnOk result (text.new.items
+        ≡ text.old.items ++ reply_text (Reply.Short positions.now)) }
+    ensures kept { StartsWith text.new.items text.old.items }
 {
     push_word(text, b"short")?;
     push_positions(text, positions)
@@ -169,7 +190,9 @@ fn push_short(text: &mut Vec<u8>, positions: &[u8]) -> Result<(), NoMemory>
 
 /// Adds each position behind a space.
 fn push_positions(text: &mut Vec<u8>, positions: &[u8]) -> Result<(), NoMemory>
-    ensures { OnOk result (text.new.items ≡ text.old.items ++ flat_map position_text positions.now) }
+    ensures text { OnOk result (text.new.items
+        ≡ text.old.items ++ flat_map position_text positions.now) }
+    ensures kept { StartsWith text.new.items text.old.items }
 {
     for position in positions {
         push_number(text, u64::from(*position))?;
