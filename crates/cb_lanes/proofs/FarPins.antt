@@ -8,7 +8,7 @@ use Rattle.cb_types.specs.declared.reply.Reply.TheVariants as answer
 use Rattle.cb_mutate.specs.StillReplies.{empty_reply}
 use Rattle.cb_world.specs.StillWords.{stamp_at}
 use Rattle.cb_world.specs.World.{WorldState, word_at}
-use Rattle.cb_core.specs.Pinning.{PinStep, scope_full, refused, taken, pin_refusal}
+use Rattle.cb_core.specs.Pinning.{scope_full, refused, taken, pin_refusal}
 use Rattle.cb_lanes.specs.LineStep.{IsFarToPin, PinEvent}
 
 empty_not_here : (v : ℕ) → answer.NotHere ≡ empty_reply v → ⊥
