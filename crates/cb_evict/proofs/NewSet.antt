@@ -22,8 +22,8 @@ use Rattle.cb_world.specs.LocalSound.{LocalSound}
 use Rattle.cb_world.specs.SetWord.{AreCurrent}
 use Rattle.cb_world.specs.Reserved.{table_of, position_for}
 use Rattle.cb_world.specs.Sets.{Kept, SetMap, set_in, if_committed}
-use Rattle.cb_world.proofs.Laws.{IsUpShard, undrawn_is_fresh, up_is_current, up_is_kept, up_on_least, InRange, KeysApart}
-use Rattle.cb_evict.specs.Storing.{AreShards, CanPut, set_for}
+use Rattle.cb_world.proofs.Laws.{IsUpShard, fits_on_least, undrawn_is_fresh, up_is_current, up_is_kept, up_on_least, InRange, KeysApart}
+use Rattle.cb_evict.specs.Storing.{AreShards, CanPut, HasRoomFor, set_for}
 
 some_same : {X : Type 0} (a b : X) → Some a ≡ Some b → a ≡ b
 some_same a b e = cc
@@ -79,6 +79,14 @@ can_put far n shards a rows = record {
   apart = shards_apart far n shards a;
   fresh = λ p shard at. let key = (a.each p shard at).key in
       undrawn_is_fresh far shard.node shard.key rows (omega (arith, key));
+}
+
+-- and there is room for a row of each
+pub have_room : (far : FarState) (n : ℕ) (shards : List Shard) → AreShards far n shards
+    → HasRoomFor far.nodes shards
+have_room far n shards a = record {
+  room = λ p shard at. fits_on_least far (take p shards) shard.node (a.each p shard at).node;
+  distinct = shards_distinct far n shards a;
 }
 
 -- none of them is lost

@@ -1,14 +1,16 @@
 -- Rows that are put at nodes, and dropped again.
-use Rattle.std.proofs.Common.{◌≡◌, ℕ, zero, suc, ◌+◌, ◌<◌, false, List, [], ◌∷◌, ◌++◌, length, take, get_or, All, Some, None, is_some, refl, sym, ap, ◌∙◌, arith, length-set}
+use Rattle.std.proofs.Common.{◌≡◌, ◌≢◌, ℕ, zero, suc, ◌+◌, ◌<◌, false, List, [], ◌∷◌, ◌++◌, length, take, get_or, All, Some, None, is_some, refl, sym, ap, ◌∙◌, arith, length-set}
 use Rattle.std.specs.List.{slice_get}
+use Rattle.std.specs.FinMap as map
 use Rattle.std.proofs.lemmas.List.{take_more, length-take-le}
-use Rattle.std.proofs.lemmas.Option.{slice_get_within, slice_get-get_or}
+use Rattle.std.proofs.lemmas.Option.{slice_get_within, slice_get-get_or, get_or_from_slice_get}
+use Rattle.cb_member.specs.declared.names.NodeId.{NodeId}
 use Rattle.cb_member.specs.declared.names.Shard.{Shard}
-use Rattle.cb_node.specs.NodesState.{NodesState, has, with_row, with_dropped}
-use Rattle.cb_node.proofs.Laws.{put_then_dropped}
+use Rattle.cb_node.specs.NodesState.{NodesState, has, held, rows_at, with_row, with_dropped}
+use Rattle.cb_node.proofs.Laws.{other_nodes_hold_as_many, put_then_dropped}
 use Rattle.cb_world.specs.Stored.{all_put}
 use Rattle.cb_world.proofs.Laws.{put_elsewhere}
-use Rattle.cb_evict.specs.Storing.{CanPut}
+use Rattle.cb_evict.specs.Storing.{CanPut, HasRoomFor}
 
 -- one row more is put
 pub put_last : (nodes : NodesState) (xs : List Shard) (x : Shard) (rows : List (List ℕ))
@@ -74,6 +76,40 @@ pub put_room : (nodes : NodesState) (shards : List Shard) (rows : List (List ℕ
 put_room nodes [] rows = refl
 put_room nodes (x ∷ xs) [] = refl
 put_room nodes (x ∷ xs) (row ∷ rows) = put_room (with_row nodes x.node x.key row) xs rows
+
+-- rows put at other nodes are not counted at this one
+held_elsewhere : (nodes : NodesState) (shards : List Shard) (rows : List (List ℕ)) (node : NodeId)
+    → ((p : ℕ) (other : Shard) → slice_get shards p ≡ Some other → node.n ≢ other.node.n)
+    → held (all_put nodes shards rows) node ≡ held nodes node
+held_elsewhere nodes [] rows node off = refl
+held_elsewhere nodes (x ∷ xs) [] node off = refl
+held_elsewhere nodes (x ∷ xs) (row ∷ rows) node off =
+    held_elsewhere (with_row nodes x.node x.key row) xs rows node
+    (λ p other at. off (suc p) other at)
+    ∙ other_nodes_hold_as_many nodes x.node node (map.insert (rows_at nodes x.node) x.key row)
+    (off 0 x refl)
+
+-- the node of the next row has room still
+pub next_room : (nodes : NodesState) (shards : List Shard) (rows : List (List ℕ)) (i : ℕ)
+    (shard : Shard) → HasRoomFor nodes shards → slice_get shards i ≡ Some shard
+    → held (all_put nodes (take i shards) rows) shard.node
+    < (all_put nodes (take i shards) rows).room
+next_room nodes shards rows i shard fits at =
+    let same = held_elsewhere nodes (take i shards) rows shard.node off in
+    let room = put_room nodes (take i shards) rows in
+    let f = fits.room i shard at in omega (arith, same, room, f)
+  where
+    node_at : (p : ℕ) (x : Shard) → slice_get shards p ≡ Some x
+        → (get_or shards p shard).node.n ≡ x.node.n
+    node_at p x there =
+        ap (λ (s : Shard). s.node.n) (get_or_from_slice_get shards p x shard there)
+
+    off : (p : ℕ) (other : Shard) → slice_get (take i shards) p ≡ Some other
+        → shard.node.n ≢ other.node.n
+    off p other there same =
+        let t = taken_at shards i p other there in
+        fits.distinct p i shard t.1 (slice_get_within shards i shard at)
+        (node_at p other t.0 ∙ sym same ∙ sym (node_at i shard at))
 
 pub put_next : (nodes : NodesState) (shards : List Shard) (rows : List (List ℕ)) (i : ℕ)
     (shard : Shard) → i < length rows → slice_get shards i ≡ Some shard

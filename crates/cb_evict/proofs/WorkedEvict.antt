@@ -1,12 +1,13 @@
 -- Worked examples of the rule and of the effect of an eviction: values that meet a definition, and for
 -- each of its parts one that breaks that part alone.
-use Rattle.std.proofs.Common.{◌≡◌, ℕ, ◌*◌, ◌<◌, ◌≤◌, Bool, true, false, List, [], ◌∷◌, length, Option, None, Some, refl, sym, ap, ◌∙◌, lit<, lit≤, arith, inl, inr}
+use Rattle.std.proofs.Common.{◌≡◌, ℕ, zero, suc, ◌*◌, ◌<◌, ◌≤◌, Bool, true, false, List, [], ◌∷◌, length, Option, None, Some, refl, sym, ap, ◌∙◌, subst, lit<, lit≤, arith, inl, inr}
 use Rattle.std.proofs.lemmas.Bool.{false≢true}
 use Rattle.std.specs.FinMap as map
+use Rattle.std.specs.List.{slice_get}
 use Rattle.cb_class.specs.Class.{words_of, bytes_of}
 use Rattle.cb_member.specs.declared.names.Shard.{Shard}
 use Rattle.cb_member.specs.Membership.{fresh_members}
-use Rattle.cb_node.specs.NodesState.{empty_nodes}
+use Rattle.cb_node.specs.NodesState.{empty_nodes, held}
 use Rattle.cb_set.specs.SetState.{SetState}
 use Rattle.cb_span.specs.declared.temp.Temp.TheVariants.{Cold}
 use Rattle.cb_ptr.specs.Word.{len_of}
@@ -28,7 +29,7 @@ use Rattle.cb_world.specs.RowWords.{words_from, words_in}
 use Rattle.cb_world.specs.Survey.{no_survey}
 use Rattle.cb_evict.specs.EvictRule.{IsInRow, HasFewSpans, HasFewNodes, HasBoth}
 use Rattle.cb_evict.specs.EvictEffect.{IsAway, EvictEffect}
-use Rattle.cb_evict.specs.Storing.{CanStore, HasSpans, with_kept}
+use Rattle.cb_evict.specs.Storing.{CanStore, HasRoomFor, HasSpans, with_kept}
 use Rattle.cb_evict.proofs.Composed.{few_spans}
 
 -- one node, with room for one row
@@ -251,9 +252,42 @@ keys_drawn s = refl
 nodes_stay : (s : SetState) → (with_kept far s 3).nodes ≡ far.nodes
 nodes_stay s = refl
 
--- ---- rows that can be put, one under each shard
+-- ---- room for a row at each shard's node
 none_shard : (shard : Shard) → None ≡ Some shard → ⊥
 none_shard shard e = cc
+
+-- on the one node
+abbrev here : Shard
+here = record { node = record { n = 0 }; incarnation = 0; key = 0 }
+
+none_held : held far.nodes here.node ≡ 0
+none_held = grind (arith, map.gets)
+
+has_room_for : HasRoomFor far.nodes (here ∷ [])
+has_room_for = record {
+  room = λ p shard at. by p shard at;
+  distinct = λ i j d less within. absurd (omega (arith, less, within));
+}
+  where
+    same : (a b : Shard) → Some a ≡ Some b → a ≡ b
+    same a b e = cc
+
+    by : (p : ℕ) (shard : Shard) → slice_get (here ∷ []) p ≡ Some shard
+        → held far.nodes shard.node < far.nodes.room
+    by zero shard at =
+        subst (λ (s : Shard). held far.nodes s.node < far.nodes.room) (same here shard at)
+        (let e = none_held in omega (arith, e))
+    by (suc p) shard at = absurd (none_shard shard at)
+
+not_at_a_full_node : HasRoomFor (empty_nodes 1 0) (here ∷ []) → ⊥
+not_at_a_full_node a =
+    let l : held (empty_nodes 1 0) here.node < 0 = a.room 0 here refl in absurd (omega (arith, l))
+
+-- not even at a node with room for two
+not_two_on_one_node : HasRoomFor (empty_nodes 1 2) (here ∷ here ∷ []) → ⊥
+not_two_on_one_node a = a.distinct 0 1 here (lit< tt) (lit< tt) refl
+
+-- ---- rows that can be put, one under each shard
 
 can_store : CanStore far.nodes [] [] []
 can_store = record {
@@ -263,6 +297,10 @@ can_store = record {
     within = λ p shard e. absurd (none_shard shard e);
     apart = λ p q a b e f same. absurd (none_shard a e);
     fresh = λ p shard e. absurd (none_shard shard e);
+  };
+  fits = record {
+    room = λ p shard e. absurd (none_shard shard e);
+    distinct = λ i j d less within. absurd (omega (arith, within));
   };
 }
 
@@ -279,6 +317,9 @@ elsewhere = record { node = record { n = 1 }; incarnation = 0; key = 0 }
 
 not_elsewhere : CanStore far.nodes (elsewhere ∷ []) ([] ∷ []) [] → ⊥
 not_elsewhere a = let l : 1 < 1 = a.can.within 0 elsewhere refl in absurd (omega (arith, l))
+
+not_stored_at_a_full_node : CanStore (empty_nodes 1 0) (here ∷ []) ([] ∷ []) [] → ⊥
+not_stored_at_a_full_node a = not_at_a_full_node a.fits
 
 -- ---- spans that a set with some shards can have
 has_none : HasSpans far.spans (elsewhere ∷ []) []

@@ -5,7 +5,8 @@ use Rattle.cb_gf256.specs.Rows.{HoldBytes}
 use Rattle.cb_gf256.specs.CodeWord.{IsCodeWord}
 use Rattle.cb_member.specs.declared.names.Shard.{Shard}
 use Rattle.cb_member.specs.Membership.{incarnation}
-use Rattle.cb_node.specs.NodesState.{NodesState, has}
+use Rattle.cb_node.specs.NodesState.{NodesState, has, held}
+use Rattle.cb_set.specs.Nodes.{OnDistinctNodes}
 use Rattle.cb_set.specs.SetState.{SetState}
 use Rattle.cb_world.specs.Choices.{IsLeastNode}
 use Rattle.cb_span.specs.Contents.{Contents}
@@ -37,12 +38,19 @@ pub record CanPut (nodes : NodesState) (shards : List Shard) : Type 0 where
   pub fresh : (p : ℕ) (shard : Shard) → slice_get shards p ≡ Some shard
       → has nodes shard.node shard.key ≡ false
 
+-- there is room for a row at the node of each shard, and no two shards stand on one node
+pub record HasRoomFor (nodes : NodesState) (shards : List Shard) : Type 0 where
+  pub room : (p : ℕ) (shard : Shard) → slice_get shards p ≡ Some shard
+      → held nodes shard.node < nodes.room
+  pub distinct : OnDistinctNodes shards
+
 -- the data rows and the parities of a set can be put under these shards, one for each
 pub record CanStore (nodes : NodesState) (shards : List Shard) (rows parities : List (List ℕ))
     : Type 0 where
   pub count : length shards ≡ length rows + length parities
   pub few : length shards < 2 ^ 32
   pub can : CanPut nodes shards
+  pub fits : HasRoomFor nodes shards
 
 -- the spans in these frames are there, no more than a set with these shards has positions
 pub record HasSpans (spans : List (Option Contents)) (shards : List Shard) (frames : List ℕ)

@@ -1,7 +1,7 @@
 ghost use Rattle.std.specs.Prelude.{◌≡◌, ℕ, ◌+◌, ◌-◌, ◌^◌, ◌<◌, ◌≤◌, false, IfOk, OnErr, OnOk, List, None, Some, length, slice_get};
 ghost use Rattle.cb_gf256.specs.Rows.{row_at};
 ghost use Rattle.cb_types.specs.Config.{IsAccepted};
-ghost use Rattle.cb_node.specs.NodesState.{has, with_row};
+ghost use Rattle.cb_node.specs.NodesState.{has, held, with_row};
 ghost use Rattle.cb_world.specs.declared.event.Event.{Event};
 ghost use Rattle.cb_world.specs.declared.shown.Shown.{Shown};
 ghost use Rattle.cb_world.specs.FarState.{FarState};
@@ -69,6 +69,7 @@ fn put_parity(
     requires few { length batch.now.frames < 2 ^ 32 }
     requires within { shard.node.n < length nodes.old.nodes }
     requires fresh { has nodes.old shard.node shard.key ≡ false }
+    requires room { held nodes.old shard.node < nodes.old.room }
     ensures ok { OnOk result (nodes.new ≡ with_row nodes.old shard.node shard.key
         (row_at batch.now.parities (position - length batch.now.frames))) }
     ensures err { OnErr result (nodes.new ≡ nodes.old) }
@@ -88,6 +89,7 @@ fn ship_parity(far: &mut Far, position: u32, shard: Shard) -> Result<(), NoMemor
     requires keys { far.old.counts.keys < 2 ^ 62 }
     requires within { shard.node.n < length far.old.nodes.nodes }
     requires fresh { has far.old.nodes shard.node shard.key ≡ false }
+    requires room { held far.old.nodes shard.node < far.old.nodes.room }
     ensures ok { OnOk result ((batch : LeavingState) → far.old.leaving ≡ Some batch
         → far.new ≡ with_noted (record far.old {
           nodes = with_row far.old.nodes shard.node shard.key
@@ -117,6 +119,7 @@ fn ship_data<D: Desk>(
     requires keys { far.old.counts.keys < 2 ^ 62 }
     requires within { shard.node.n < length far.old.nodes.nodes }
     requires fresh { has far.old.nodes shard.node shard.key ≡ false }
+    requires room { held far.old.nodes shard.node < far.old.nodes.room }
     ensures ok { OnOk result ((batch : LeavingState) → far.old.leaving ≡ Some batch
         → PutsRow (λ es. D.run desk.old es desk.new) (λ s. D.shows desk.old s)
         far.old far.new batch position shard) }

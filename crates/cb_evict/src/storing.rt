@@ -8,7 +8,7 @@ ghost use Rattle.cb_world.specs.Choices.{room_count};
 ghost use Rattle.cb_world.specs.FarState.{span_in};
 ghost use Rattle.cb_world.specs.Reserved.{position_for, set_from};
 ghost use Rattle.cb_world.specs.Stored.{all_put};
-ghost use Rattle.cb_evict.specs.Storing.{AreShards, CanPut, CanStore, HasSpans, KeepsSet, set_for, with_kept};
+ghost use Rattle.cb_evict.specs.Storing.{AreShards, CanPut, CanStore, HasRoomFor, HasSpans, KeepsSet, set_for, with_kept};
 
 use cb_code::{coefficients, encode};
 use cb_member::Shard;
@@ -206,6 +206,7 @@ pub(crate) fn keep_set(
     requires data_rows { length rows.now ≡ length frames.now }
     requires range { IsInRange (length frames.now) (length shards.now - length frames.now) }
     requires can { CanPut far.old.nodes shards.now }
+    requires fits { HasRoomFor far.old.nodes shards.now }
     requires counts { (far.old.counts.sets < 2 ^ 62) × (far.old.counts.keys < 2 ^ 62) }
     ensures err { OnErr result (far.new ≡ far.old) }
     ensures kept { OnOk result (KeepsSet far.old far.new shards.now frames.now rows.now) }

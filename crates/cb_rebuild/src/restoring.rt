@@ -1,6 +1,6 @@
 ghost use Rattle.std.specs.Prelude.{◌≡◌, ℕ, ◌+◌, ◌^◌, ◌<◌, ◌≤◌, false, true, List, OnErr, OnOk, Some, length};
 ghost use Rattle.std.specs.FinMap as map;
-ghost use Rattle.cb_node.specs.NodesState.{has};
+ghost use Rattle.cb_node.specs.NodesState.{has, held};
 ghost use Rattle.cb_set.specs.SetState.{SetState, with_shard};
 ghost use Rattle.cb_world.specs.declared.shown.Shown.{Shown};
 ghost use Rattle.cb_world.specs.Sets.{set_in};
@@ -21,6 +21,7 @@ pub(crate) fn put_again(far: &mut Far, id: u64, position: u32, shard: Shard) -> 
     requires given { far.old.nodes.given + 16 < 2 ^ 64 }
     requires within { shard.node.n < length far.old.nodes.nodes }
     requires fresh { has far.old.nodes shard.node shard.key ≡ false }
+    requires room { held far.old.nodes shard.node < far.old.nodes.room }
     ensures put { OnOk result ((set : SetState) → set_in far.old.sets id ≡ Some set
         → (row : List ℕ) × IsRowOf far.old set position row
         × (far.new ≡ with_put far.old set shard row)) }

@@ -1,6 +1,6 @@
 ghost use Rattle.std.specs.Prelude.{◌≡◌, ◌<◌, false, length, OnErr, OnOk};
 ghost use Rattle.cb_member.specs.Membership.{incarnation};
-ghost use Rattle.cb_node.specs.NodesState.{has, with_row};
+ghost use Rattle.cb_node.specs.NodesState.{has, held, with_row};
 
 use crate::far::Far;
 use cb_member::{NoMemory, NodeId, Shard};
@@ -20,15 +20,16 @@ pub fn next_shard(far: &Far, node: NodeId) -> Shard
     }
 }
 
-/// Puts a row at its shard's node, which has room.
+/// Puts a row at its shard's node, which has room: so want of memory is the only error.
 pub fn put_row(nodes: &mut Nodes, shard: Shard, row: &[u8]) -> Result<(), NoMemory>
     requires within { shard.node.n < length nodes.old.nodes }
     requires fresh { has nodes.old shard.node shard.key ≡ false }
+    requires room { held nodes.old shard.node < nodes.old.room }
     ensures ok { OnOk result (nodes.new ≡ with_row nodes.old shard.node shard.key row.now) }
     ensures err { OnErr result (nodes.new ≡ nodes.old) }
 {
     match nodes.put(shard.node, shard.key, row)? {
         PutAnswer::Stored => Ok(()),
-        PutAnswer::Full { .. } => Err(NoMemory),
+        PutAnswer::Full { .. } => unreachable!(),
     }
 }

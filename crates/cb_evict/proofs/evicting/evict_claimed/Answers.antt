@@ -14,7 +14,7 @@ use Rattle.cb_evict.specs.Loading.{LiesInOne}
 use Rattle.cb_evict.proofs.Events.{are_reads, first_append}
 use Rattle.cb_evict.proofs.Evicts.{told_all}
 use Rattle.cb_evict.proofs.Ending.{taken_ready, place_in, handles_all, code_range, done, IsEnd, end_quiet, ended, state_then, homes_then, taken_in, spans_touched, frames_below}
-use Rattle.cb_evict.proofs.NewSet.{can_put}
+use Rattle.cb_evict.proofs.NewSet.{can_put, have_room}
 use Rattle.cb_evict.proofs.Restored.{batch_back}
 use Rattle.cb_evict.proofs.Standing.{are_unique}
 use Rattle.cb_evict.proofs.evicting.evict_claimed.Goals as goal
@@ -49,6 +49,9 @@ pub keep_set-requires-clause-can : goal.keep_set-requires-clause-can
 keep_set-requires-clause-can g c =
     can_put c.args.far.now _ c.args.shards.now c.requires.shards
     c.requires.ready.2.sound.away.sound.rows
+
+pub keep_set-requires-clause-fits : goal.keep_set-requires-clause-fits
+keep_set-requires-clause-fits g c = have_room c.args.far.now _ c.args.shards.now c.requires.shards
 
 pub send-requires-clause-handles : goal.send-requires-clause-handles
 send-requires-clause-handles g c =

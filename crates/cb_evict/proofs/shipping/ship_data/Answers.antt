@@ -1,7 +1,7 @@
 use Rattle.std.proofs.Common.{◌≡◌, ℕ, List, length, Some, ap, sym, ◌∙◌, subst, refl, [], ◌<◌, ◌^◌}
 use Rattle.std.specs.List.{slice_get}
 use Rattle.std.proofs.lemmas.List.{with_items_is}
-use Rattle.cb_node.specs.NodesState.{NodesState, has}
+use Rattle.cb_node.specs.NodesState.{NodesState, has, held}
 use Rattle.cb_world.specs.FarState.{FarState}
 use Rattle.cb_world.specs.Leaving.{LeavingState}
 use Rattle.cb_world.specs.contracts.far.Far.{the_view}
@@ -65,6 +65,11 @@ put_row-requires-clause-within g c = subst (λ (q : FarState). c.args.shard.node
 
 pub put_row-requires-clause-fresh : goal.put_row-requires-clause-fresh
 put_row-requires-clause-fresh g c = ap (λ (q : FarState). has q.nodes c.args.shard.node c.args.shard.key) c.far.view_is ∙ c.requires.fresh
+
+pub put_row-requires-clause-room : goal.put_row-requires-clause-room
+put_row-requires-clause-room g c =
+    subst (λ (q : FarState). held q.nodes c.args.shard.node < q.nodes.room)
+    (sym c.far.view_is) c.requires.room
 
 pub note_shard-requires-clause-keys : goal.note_shard-requires-clause-keys
 note_shard-requires-clause-keys g c = subst (λ (q : FarState). q.counts.keys < 2 ^ 62) (sym c.far.view_is) c.requires.keys

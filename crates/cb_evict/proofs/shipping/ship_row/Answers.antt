@@ -3,6 +3,8 @@ use Rattle.cb_evict.proofs.Composed.{any_err}
 use Rattle.std.proofs.Common.{◌≡◌, ◌<◌, length, Some, sym, ◌∙◌, arith, []}
 use Rattle.std.specs.List.{slice_get}
 use Rattle.std.proofs.lemmas.Result.{on_ok_weaker}
+use Rattle.cb_world.proofs.Laws.{fits_on_least}
+use Rattle.cb_evict.specs.ShipRule.{other_puts}
 use Rattle.cb_evict.proofs.WhichWait.{least_waits}
 use Rattle.cb_evict.proofs.ShipParts.{puts_parity, span_within, contains_at, past_end, few_positions}
 use Rattle.cb_evict.proofs.shipping.ship_row.Goals as goal
@@ -59,6 +61,14 @@ ship_data-requires-clause-there g c = let x = c.requires.next in (
   sym (c.frame_at.ensures x.0 x.1) ∙ c.in-Some.is,
   (least_waits c.args.far.now.members x.0.shards c.args.position x.2.0).0,
 )
+
+pub ship_data-requires-clause-room : goal.ship_data-requires-clause-room
+ship_data-requires-clause-room g c = let x = c.requires.next in
+    fits_on_least c.args.far.now (other_puts x.0.shards c.args.position) c.args.shard.node x.2.1.node
+
+pub ship_parity-requires-clause-room : goal.ship_parity-requires-clause-room
+ship_parity-requires-clause-room g c = let x = c.requires.next in
+    fits_on_least c.args.far.now (other_puts x.0.shards c.args.position) c.args.shard.node x.2.1.node
 
 pub returns-in-Some-clause-ok : goal.returns-in-Some-clause-ok
 returns-in-Some-clause-ok g c = c.ship_data.ensures.ok

@@ -37,6 +37,7 @@ store_set-requires-clause-stores c =
       count = search rules;
       few = omega (arith, k, r, some);
       can = c.requires.can;
+      fits = c.requires.fits;
     }
 
 pub store_set-requires-clause-counts : goal.store_set-requires-clause-counts

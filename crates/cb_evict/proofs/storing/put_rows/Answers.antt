@@ -1,8 +1,8 @@
-use Rattle.std.proofs.Common.{◌≡◌, ◌++◌, false, ap, sym, subst, ◌∙◌, arith, take, length, get_or, []}
+use Rattle.std.proofs.Common.{◌≡◌, ◌<◌, ◌++◌, false, ap, sym, subst, ◌∙◌, arith, take, length, get_or, []}
 use Rattle.std.proofs.lemmas.Option.{slice_get-get_or}
 use Rattle.std.proofs.lemmas.List.{length-append, length-take-le}
-use Rattle.cb_node.specs.NodesState.{NodesState, has, with_row}
-use Rattle.cb_evict.proofs.Putting.{put_next, next_fresh, put_count, can_first, within_first, no_shard}
+use Rattle.cb_node.specs.NodesState.{NodesState, has, held, with_row}
+use Rattle.cb_evict.proofs.Putting.{put_next, next_fresh, next_room, put_count, can_first, within_first, no_shard}
 use Rattle.cb_evict.proofs.storing.put_rows.Goals as goal
 
 pub put_row-requires-clause-within : goal.put_row-requires-clause-within
@@ -21,6 +21,15 @@ put_row-requires-clause-fresh c =
     subst (λ (n : NodesState). has n shard.node shard.key ≡ false) (sym c.loop-p.invariant)
     (next_fresh c.args.nodes.now shards (c.args.rows.now ++ c.args.parities.now) p shard
     c.requires.stores.can at)
+
+pub put_row-requires-clause-room : goal.put_row-requires-clause-room
+put_row-requires-clause-room c =
+    let shards = c.args.shards.now in let p = c.loop-p.p in
+    let shard = get_or shards p no_shard in
+    let at = slice_get-get_or shards p no_shard c.loop-p-test.true in
+    subst (λ (n : NodesState). held n shard.node < n.room) (sym c.loop-p.invariant)
+    (next_room c.args.nodes.now shards (c.args.rows.now ++ c.args.parities.now) p shard
+    c.requires.stores.fits at)
 
 pub drop_rows-requires : goal.drop_rows-requires
 drop_rows-requires c = record {

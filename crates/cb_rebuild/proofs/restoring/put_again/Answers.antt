@@ -1,6 +1,6 @@
-use Rattle.std.proofs.Common.{length, ap, ◌∙◌, arith}
+use Rattle.std.proofs.Common.{◌<◌, length, ap, sym, subst, ◌∙◌, arith}
 use Rattle.std.proofs.lemmas.Result.{on_err_weaker}
-use Rattle.cb_node.specs.NodesState.{NodesState}
+use Rattle.cb_node.specs.NodesState.{NodesState, held}
 use Rattle.cb_set.specs.SetState.{SetState}
 use Rattle.cb_world.specs.FarState.{FarState}
 use Rattle.cb_world.specs.Sets.{set_in}
@@ -8,6 +8,12 @@ use Rattle.cb_world.specs.contracts.far.Far.{the_view}
 use Rattle.cb_rebuild.specs.RebuildStep.{far_given}
 use Rattle.cb_rebuild.proofs.WeakSets.{found_set}
 use Rattle.cb_rebuild.proofs.restoring.put_again.Goals as goal
+
+pub put_row-requires-clause-room : goal.put_row-requires-clause-room
+put_row-requires-clause-room c =
+    subst (λ (q : NodesState). held q c.args.shard.node < q.room) (sym c.in_ok-word.ensures.nodes)
+    (subst (λ (f : FarState). held f.nodes c.args.shard.node < f.nodes.room) (sym c.far.view_is)
+    c.requires.room)
 
 pub returns-clause-error : goal.returns-clause-error
 returns-clause-error c =
