@@ -11,16 +11,16 @@ use Rattle.cb_script.specs.First.{First}
 use Rattle.cb_script.specs.Form.{Spells}
 use Rattle.cb_script.specs.Reading.{FaultIs}
 use Rattle.cb_script.specs.Unbuilt.{IsBuilt, IsFirstUnbuilt}
-use Rattle.cb_script.proofs.OneReading.{script_unique, spells_no_fault}
+use Rattle.cb_script.proofs.PublicLaws.{script_unique, spells_no_fault}
 use Rattle.cb_cli.specs.declared.words.Command.{Command}
 use Rattle.cb_cli.specs.declared.words.Command.TheVariants.{Seq, Check, Rma, Scrub}
 use Rattle.cb_cli.specs.Texts.{fault_text}
 use Rattle.cb_cli.specs.declared.verdict.Verdict.{Verdict}
 use Rattle.cb_cli.specs.declared.verdict.Verdict.TheVariants.{Done, Refused}
 use Rattle.cb_rma_text.specs.Verdicts as schedules
-use Rattle.cb_rma_text.proofs.OneReading.{accepted_not_refused as schedule_not_refused}
+use Rattle.cb_rma_text.proofs.PublicLaws.{accepted_not_refused as schedule_not_refused}
 use Rattle.cb_scrub_text.specs.Verdicts as scrubs
-use Rattle.cb_scrub_text.proofs.OneReading.{accepted_not_refused as rows_not_refused}
+use Rattle.cb_scrub_text.proofs.Laws.{accepted_not_refused as rows_not_refused}
 use Rattle.cb_app.specs.declared.ending.Ending.{Ending}
 use Rattle.cb_app.specs.Modes.{Accepts, Refuses, IsVerdict}
 use Rattle.cb_app.specs.Scripts.{IsUnanswered}

@@ -11,8 +11,7 @@ use Rattle.cb_cli.specs.Words.{Name, NameNone}
 use Rattle.cb_cli.specs.Taken.{IsTaken, taken_of}
 use Rattle.cb_cli.specs.Fronts.{GetsFront}
 use Rattle.cb_cli.specs.Texts.{words_refused}
-use Rattle.cb_cli.proofs.CommandWords.{one_command}
-use Rattle.cb_cli.proofs.Whole.{taken_is}
+use Rattle.cb_cli.proofs.Laws.{one_command, taken_is}
 use Rattle.cb_cli.specs.declared.verdict.Verdict.{Verdict}
 use Rattle.cb_cli.specs.declared.verdict.Verdict.TheVariants.{Done, Refused}
 use Rattle.cb_app.specs.declared.ending.Ending.{Ending}

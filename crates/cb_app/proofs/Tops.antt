@@ -7,7 +7,7 @@ use Rattle.cb_cli.specs.declared.outcome.Due.TheVariants.{Done, WordsRefused, Sc
 use Rattle.cb_cli.specs.declared.outcome.Failure.{Failure}
 use Rattle.cb_cli.specs.declared.outcome.Failure.TheVariants.{Read, Write, NoMemory}
 use Rattle.cb_cli.specs.Status.{status_of}
-use Rattle.cb_cli.proofs.Statuses.{same_outcome}
+use Rattle.cb_cli.proofs.Laws.{same_outcome}
 use Rattle.cb_app.specs.declared.ending.Ending.{Ending}
 use Rattle.cb_app.specs.Outcome.{Ends, RoseOnRead, RoseOnWrite}
 

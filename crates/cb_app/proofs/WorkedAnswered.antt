@@ -8,11 +8,10 @@ use Rattle.cb_types.specs.declared.request.Request.{Request}
 use Rattle.cb_types.specs.declared.request.Request.TheVariants.{Leave}
 use Rattle.cb_script.specs.declared.script.Line.{Line}
 use Rattle.cb_script.specs.declared.script.Script.{Script}
-use Rattle.cb_script.proofs.Phrases.{differ}
-use Rattle.cb_script.proofs.WorkedScript.{small, made_and_read as input, make_a, read_a, script, spelled}
-use Rattle.cb_text.proofs.WorkedLines.{made_and_read_text}
+use Rattle.cb_script.proofs.PublicLaws.{differ, small, made_and_read as input, make_a, read_a, script, spelled}
+use Rattle.cb_text.proofs.Laws.{made_and_read_text}
 use Rattle.cb_model.specs.Legal.{IsLegalInOrder}
-use Rattle.cb_model.proofs.Order.{legal_in_order}
+use Rattle.cb_model.proofs.Laws.{legal_in_order}
 use Rattle.cb_text.specs.Line.{text_of}
 use Rattle.cb_lanes.specs.Held.{HoldsAnswers}
 use Rattle.cb_lanes.specs.LineStep.{LinesLead}
@@ -23,7 +22,7 @@ use Rattle.cb_app.specs.declared.ending.Ending.{Ending}
 use Rattle.cb_cli.specs.Taken.{IsTaken}
 use Rattle.cb_cli.specs.declared.words.Command.{Command}
 use Rattle.cb_cli.specs.declared.words.Command.TheVariants.{Seq, Check, Rma, Scrub}
-use Rattle.cb_cli.proofs.WorkedWords.{seq_named, no_word}
+use Rattle.cb_cli.proofs.Laws.{seq_named, no_word}
 use Rattle.cb_app.specs.Modes.{Yields}
 use Rattle.cb_app.specs.Outcome.{IsDone, TellsScript}
 use Rattle.cb_app.specs.Scripts.{IsAnswered}

@@ -14,15 +14,13 @@ use Rattle.cb_script.specs.declared.script.Script.{Script}
 use Rattle.cb_script.specs.Form.{Spells}
 use Rattle.cb_script.specs.Spelling.{header_line}
 use Rattle.cb_script.specs.Unbuilt.{IsFirstUnbuilt}
-use Rattle.cb_script.proofs.OneReading.{spells_no_fault, script_unique}
-use Rattle.cb_script.proofs.Phrases.{differ}
+use Rattle.cb_script.proofs.PublicLaws.{spells_no_fault, script_unique, differ}
 use Rattle.cb_cli.specs.Taken.{IsTaken}
 use Rattle.cb_cli.specs.Texts.{check_text, fault_text}
 use Rattle.cb_cli.specs.declared.outcome.Due.TheVariants as dues
 use Rattle.cb_cli.specs.declared.outcome.Failure.TheVariants.{Read}
 use Rattle.cb_cli.specs.declared.words.Command.TheVariants.{Seq, Check}
-use Rattle.cb_cli.proofs.WorkedTexts.{lane_line}
-use Rattle.cb_cli.proofs.WorkedWords.{seq_named, check_named, no_word}
+use Rattle.cb_cli.proofs.Laws.{lane_line, seq_named, check_named, no_word}
 use Rattle.cb_cli.specs.declared.verdict.Verdict.TheVariants.{Done, Refused}
 use Rattle.cb_app.specs.declared.ending.Ending.{Ending}
 use Rattle.cb_app.specs.Modes.{Yields, Refuses, Accepts, IsVerdict}

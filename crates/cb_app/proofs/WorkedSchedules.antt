@@ -4,8 +4,7 @@ use Rattle.std.specs.Prelude.{codes}
 use Rattle.std.specs.Fmt.{digits}
 use Rattle.cb_cli.specs.declared.words.Command.TheVariants.{Rma}
 use Rattle.cb_cli.specs.declared.verdict.Verdict.TheVariants.{Done, Refused}
-use Rattle.cb_rma_text.proofs.OneReading.{accepted_not_refused, spells_no_fault}
-use Rattle.cb_rma_text.proofs.WorkedSchedule.{input, events, spelled, due, bad_input, at_line_3}
+use Rattle.cb_rma_text.proofs.PublicLaws.{accepted_not_refused, spells_no_fault, input, events, spelled, due, bad_input, at_line_3}
 use Rattle.cb_app.specs.declared.ending.Ending.{Ending}
 use Rattle.cb_app.specs.Modes.{Yields, Refuses, Accepts, IsVerdict}
 

@@ -9,3 +9,4 @@ pub mod WorkedTaken
 pub mod WorkedTexts
 pub mod WorkedWords
 mod OneWord
+pub mod Laws

@@ -10,9 +10,8 @@ use Rattle.cb_gf256.specs.Corner.{corner}
 use Rattle.cb_gf256.specs.InRange.{IsInRange}
 use Rattle.cb_gf256.specs.Combination.{AreCombinations}
 use Rattle.cb_gf256.specs.Lagrange.{IsLagrangeFactor, AreFactors}
-use Rattle.cb_gf256.proofs.PublicLaws.{sum_over_same, split_of_same, parities_split, sums_make_a_word, sums_are_bytes, words_that_agree, corner_count, corner_byte, corner_lengths, corner_bytes, unit_rows, column_rows, unit_rows_count, unit_rows_are_rows, unit_combinations, column_rows_are_bytes, same_columns}
+use Rattle.cb_gf256.proofs.PublicLaws.{sum_over_same, split_of_same, parities_split, sums_make_a_word, sums_are_bytes, words_that_agree, corner_count, corner_byte, corner_lengths, corner_bytes, unit_rows, column_rows, unit_rows_count, unit_rows_are_rows, unit_combinations, column_rows_are_bytes, same_columns, all_rows}
 use Rattle.cb_gf256.specs.Rows.{rows_at}
-use Rattle.cb_gf256.proofs.PublicLaws.{all_rows}
 use Rattle.cb_code.specs.Coefficients.{AreCoefficients, IsCode}
 
 -- ---- a code word of data rows and parities

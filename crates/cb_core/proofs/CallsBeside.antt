@@ -17,7 +17,7 @@ use Rattle.cb_model.specs.Legal.{Follow, IsMapReply}
 use Rattle.cb_model.specs.Now.{Now as MapNow, Change, changed}
 use Rattle.cb_model.specs.Now.Change.{Create}
 use Rattle.cb_model.specs.Replies.{MapReplies}
-use Rattle.cb_model.proofs.Order.{value-push, makes-push}
+use Rattle.cb_model.proofs.Laws.{value-push, makes-push}
 use Rattle.cb_world.specs.declared.shown.Shown.{Shown}
 use Rattle.cb_world.specs.FarState.{FarState}
 use Rattle.cb_world.specs.Now.{now, now_as, is_gone}
@@ -26,7 +26,7 @@ use Rattle.cb_world.specs.Shown.{object_at, never as no_object}
 use Rattle.cb_world.specs.Sound.{Sound}
 use Rattle.cb_mutate.specs.MapCalls.{IsValue, IsCallOn, IsMakeCall}
 use Rattle.cb_mutate.specs.MapBeside.{IsMapBeside}
-use Rattle.cb_mutate.proofs.MapBeside.{Follows, call_follows, refused_follows, is_map_reply, is_map_make}
+use Rattle.cb_mutate.proofs.Laws.{Follows, call_follows, refused_follows, is_map_reply, is_map_make}
 use Rattle.cb_core.specs.Called.{handle_on, handle_given, says_nothing, call_of}
 
 -- ---- what comes of an event: its calls are the map's, and the map stands beside the world after it

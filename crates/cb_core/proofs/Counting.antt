@@ -9,7 +9,7 @@ use Rattle.cb_world.specs.declared.event.Event.{Event}
 use Rattle.cb_world.specs.declared.shown.Shown.{Shown}
 use Rattle.cb_world.specs.FarState.{FarState}
 use Rattle.cb_world.specs.Sound.{Sound}
-use Rattle.cb_world.proofs.Alike.{recounted_sound}
+use Rattle.cb_world.proofs.Laws.{recounted_sound}
 use Rattle.cb_types.specs.Jobs.{job_index}
 use Rattle.cb_world.specs.Counts.{with_turn}
 use Rattle.cb_core.specs.Parts.{Holding}

@@ -12,8 +12,7 @@ use Rattle.cb_world.specs.FarState.{FarState}
 use Rattle.cb_world.specs.Now.{is_gone}
 use Rattle.cb_world.specs.Reads.{AreReads}
 use Rattle.cb_world.specs.Touches.{Touches}
-use Rattle.cb_world.proofs.AfterLook.{look_allowed, look_first, look_found, look_sound, look_still}
-use Rattle.cb_world.proofs.Touching.{look_settles_last, look_touches}
+use Rattle.cb_world.proofs.Laws.{look_allowed, look_first, look_found, look_sound, look_still, look_settles_last, look_touches}
 use Rattle.cb_mutate.specs.Answered.{AnsweredAs, EmptyAnswer}
 use Rattle.cb_core.specs.Declining.{write_refusal}
 use Rattle.cb_core.specs.Turned.{Declines, Finds}

@@ -22,7 +22,7 @@ use Rattle.cb_evict.specs.EvictStep.{IsEvictStep, few_spans as few_loose, few_no
 use Rattle.cb_filter.specs.FilterStep.{refused as refuses, cools, without_slot, moves}
 use Rattle.cb_rebuild.specs.RebuildStep.{RebuildStep, Restores, surveyed}
 use Rattle.cb_set.specs.SetState.{SetState}
-use Rattle.cb_swapin.proofs.SwapKeeps.{step_cases, swapped_kept}
+use Rattle.cb_swapin.proofs.Laws.{step_cases, swapped_kept}
 use Rattle.cb_core.specs.declared.event.Atomic.TheVariants.{Load, Pin, Unpin}
 use Rattle.cb_core.specs.declared.event.Event.{Event}
 use Rattle.cb_core.specs.declared.event.Event.TheVariants as event

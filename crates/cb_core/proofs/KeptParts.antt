@@ -9,8 +9,7 @@ use Rattle.cb_world.specs.FarState.{FarState}
 use Rattle.cb_world.specs.Plain.{Words}
 use Rattle.cb_world.specs.Seats.{SeatState}
 use Rattle.cb_world.specs.World.{IsKnown, ArePinned, AreCounted, IsConfigured}
-pub use Rattle.cb_world.proofs.Staying.{Rises, rises_more, rises_then}
-use Rattle.cb_world.proofs.Staying.{StaysIf}
+pub use Rattle.cb_world.proofs.Laws.{Rises, rises_more, rises_then, StaysIf}
 use Rattle.cb_core.specs.Parts.{Holding}
 
 -- all is known of a holding with this configuration, and its pins are those of these seats

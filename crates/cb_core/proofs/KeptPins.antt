@@ -14,11 +14,11 @@ use Rattle.cb_world.specs.Grasped.{IsFree}
 use Rattle.cb_world.specs.Pinned.{with_word}
 use Rattle.cb_world.specs.StillWords.{stamp_at, with_hot}
 use Rattle.cb_world.specs.World.{ArePinned, word_at}
-use Rattle.cb_world.proofs.Pins.{pinned_still}
+use Rattle.cb_world.proofs.Laws.{pinned_still}
 use Rattle.cb_mutate.specs.MakeRule.{new_word}
 use Rattle.cb_mutate.specs.MakeStep.{with_new}
 use Rattle.cb_mutate.specs.Steps.{with_seen, with_contents, with_freed}
-use Rattle.cb_mutate.proofs.ChangedObject.{hot_fields}
+use Rattle.cb_mutate.proofs.Laws.{hot_fields}
 use Rattle.cb_core.proofs.Changes.{MayGo}
 
 -- one pointer word and one version word are changed, where the object has no pins, or keeps them and

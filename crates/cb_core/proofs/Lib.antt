@@ -59,3 +59,4 @@ pub mod StepFixed
 pub mod PinnedStays
 pub mod WorkedUnmoved
 pub mod WorkedReadTurns
+pub mod Laws

@@ -5,8 +5,7 @@ use Rattle.cb_types.specs.declared.config.Config.{Config}
 use Rattle.cb_types.specs.declared.reply.Reply.{Reply}
 use Rattle.cb_world.specs.FarState.{FarState}
 use Rattle.cb_world.specs.NodeChanges.{crashed_far, joined_far}
-use Rattle.cb_world.proofs.Codes.{codes_stay}
-use Rattle.cb_world.proofs.Staying.{IsLike, StaysIf, stays_like, stays_same}
+use Rattle.cb_world.proofs.Laws.{codes_stay, IsLike, StaysIf, stays_like, stays_same}
 use Rattle.cb_core.specs.Membership.{CrashTurn, crashed, is_down, JoinTurn, joined, is_up}
 
 pub crash_stays : (c : Config) (node : NodeId) (far new : FarState) (r : Reply)

@@ -36,14 +36,9 @@ use Rattle.cb_mutate.specs.MakeRule.{MakeRule}
 use Rattle.cb_evict.specs.Candidates.{candidates, Names}
 use Rattle.cb_evict.specs.Closing.{all_given}
 use Rattle.cb_evict.specs.EvictRule.{HasEvicted, EvictRule}
-use Rattle.cb_evict.proofs.Composed.{few_spans, few_nodes}
-use Rattle.cb_evict.proofs.Gone.{given_in}
-use Rattle.cb_evict.proofs.Loose.{loose_among}
-use Rattle.cb_evict.proofs.Stays.{evict_stays}
-use Rattle.cb_evict.proofs.Standing.{names_span, named_at, ready_frame}
-use Rattle.cb_evict.proofs.Trying.{taken_of}
+use Rattle.cb_evict.proofs.Laws.{few_spans, few_nodes, given_in, loose_among, evict_stays, names_span, named_at, ready_frame, taken_of}
 use Rattle.cb_swapin.specs.SwapRule.{SwapFar, SwapRule, frame_answer, swap_answer}
-use Rattle.cb_swapin.proofs.SlotNames.{named_within}
+use Rattle.cb_swapin.proofs.Laws.{named_within}
 
 -- ---- the home of a far object
 -- a home is at a live position of a set that is there

@@ -25,15 +25,13 @@ use Rattle.cb_world.specs.StillWords.{stamp_at, contents_at, with_hot}
 use Rattle.cb_world.specs.World.{WorldState, IsKnown, IsSoundWorld, word_at}
 use Rattle.cb_mutate.specs.Steps.{with_seen}
 use Rattle.cb_mutate.specs.MapCalls.{IsCallOn, IsRefusedMake}
-use Rattle.cb_mutate.proofs.MapReplies.{near_held, here_near}
-use Rattle.cb_mutate.proofs.FreeCall.{free_call}
-use Rattle.cb_mutate.proofs.MakeCall.{make_call}
+use Rattle.cb_mutate.proofs.Laws.{near_held, here_near, free_call, make_call}
 use Rattle.cb_evict.specs.declared.eviction.Eviction.{Eviction}
 use Rattle.cb_evict.specs.declared.eviction.Eviction.TheVariants.{Refused, Set}
 use Rattle.cb_evict.specs.Eviction.{reply_of}
-use Rattle.cb_evict.proofs.AfterEvict.{evict_pinned}
+use Rattle.cb_evict.proofs.Laws.{evict_pinned}
 use Rattle.cb_filter.specs.FilterStep.{refused, cools, without_slot, moves}
-use Rattle.cb_swapin.proofs.SwapPins.{pinned_stays}
+use Rattle.cb_swapin.proofs.Laws.{pinned_stays}
 use Rattle.cb_core.specs.declared.event.Atomic.{Atomic}
 use Rattle.cb_core.specs.declared.event.Atomic.TheVariants.{Load, Pin, Unpin}
 use Rattle.cb_core.specs.declared.event.Event.{Event}

@@ -13,7 +13,7 @@ use Rattle.cb_world.specs.FarState.{span_in}
 use Rattle.cb_world.specs.LocalSound.{LiesAt, NamesObject}
 use Rattle.cb_world.specs.StillWords.{stamp_at}
 use Rattle.cb_world.specs.World.{WorldState, IsSoundWorld, IsKnown}
-use Rattle.cb_world.proofs.Pins.{pin_sound, unpin_sound, pin_counts}
+use Rattle.cb_world.proofs.Laws.{pin_sound, unpin_sound, pin_counts}
 use Rattle.cb_core.specs.Pinning.{PinStep, scope_full, refused, taken, UnpinStep, not_pinned, given}
 
 -- a handle that has an object in local memory is one of those that there are

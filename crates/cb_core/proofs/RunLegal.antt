@@ -23,7 +23,7 @@ use Rattle.cb_model.specs.Called.{Called, makes, value}
 use Rattle.cb_model.specs.Legal.{Follow, AreLegal}
 use Rattle.cb_model.specs.Now.{Now as MapNow}
 use Rattle.cb_model.specs.Replies.{MapReplies}
-use Rattle.cb_model.proofs.Order.{Follow-AreLegal}
+use Rattle.cb_model.proofs.Laws.{Follow-AreLegal}
 use Rattle.cb_world.specs.declared.seats.Pin.{Pin}
 use Rattle.cb_world.specs.declared.shown.Shown.{Shown}
 use Rattle.cb_world.specs.Empty.{empty_words, empty_far, empty_shown}
@@ -34,16 +34,11 @@ use Rattle.cb_world.specs.Now.Now.{held, gone}
 use Rattle.cb_world.specs.Seats.{IsNewest, SeatState, idle_seat, pins_of_seat}
 use Rattle.cb_world.specs.StillWords.{stamp_at, contents_at}
 use Rattle.cb_world.specs.World.{WorldState, IsKnown, IsSoundWorld, empty_world, word_at}
-use Rattle.cb_world.proofs.Empty.{empty_shows, empty_sound}
-use Rattle.cb_world.proofs.NowSame.{now_same}
-use Rattle.cb_world.proofs.PinNow.{pinned_now, unpinned_now}
-use Rattle.cb_world.proofs.Pins.{pin_counts}
-use Rattle.cb_world.proofs.Worlds.{empty_world_sound}
+use Rattle.cb_world.proofs.Laws.{empty_shows, empty_sound, now_same, pinned_now, unpinned_now, pin_counts, empty_world_sound}
 use Rattle.cb_mutate.specs.MapCalls.{IsValue, IsMapCall, IsCallOn}
 use Rattle.cb_mutate.specs.MapBeside.{IsMapBeside}
 use Rattle.cb_mutate.specs.StillReplies.{reply_as}
-use Rattle.cb_mutate.proofs.MapBeside.{beside_kept, empty_beside}
-use Rattle.cb_mutate.proofs.MapReplies.{IsOnContents, map_same, call_by_state, refused_call, near_held, here_near, IsThere}
+use Rattle.cb_mutate.proofs.Laws.{beside_kept, empty_beside, IsOnContents, map_same, call_by_state, refused_call, near_held, here_near, IsThere}
 use Rattle.cb_core.specs.declared.event.Atomic.TheVariants as atomic
 use Rattle.cb_core.specs.declared.event.Event.{Event}
 use Rattle.cb_core.specs.declared.event.Event.TheVariants as event

@@ -11,9 +11,9 @@ use Rattle.cb_evict.specs.Eviction.{reply_of}
 use Rattle.cb_evict.specs.AbortStep.{no_batch as none_to_abort, given_up}
 use Rattle.cb_evict.specs.BeginStep.{is_leaving, few_spans, few_nodes, begins}
 use Rattle.cb_evict.specs.CommitStep.{no_batch as none_to_commit, short, committed}
-use Rattle.cb_evict.proofs.AfterEvict.{evict_settings}
+use Rattle.cb_evict.proofs.Laws.{evict_settings}
 use Rattle.cb_filter.specs.FilterStep.{refused as refuses, cools, without_slot, moves}
-use Rattle.cb_swapin.proofs.SwapKeeps.{settings_stay}
+use Rattle.cb_swapin.proofs.Laws.{settings_stay}
 use Rattle.cb_core.specs.declared.event.Atomic.TheVariants.{Load, Pin, Unpin}
 use Rattle.cb_core.specs.declared.event.Event.{Event}
 use Rattle.cb_core.specs.declared.event.Event.TheVariants as event

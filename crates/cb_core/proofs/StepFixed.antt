@@ -18,20 +18,13 @@ use Rattle.cb_world.specs.Pinned.{with_word}
 use Rattle.cb_world.specs.Plain.{Words}
 use Rattle.cb_world.specs.Seats.{IsNewest, pins_of_seat, with_pins}
 use Rattle.cb_world.specs.World.{WorldState, IsSoundWorld}
-use Rattle.cb_world.proofs.Added.{home_same}
-use Rattle.cb_world.proofs.Fixed.{IsOneEnd}
-use Rattle.cb_world.proofs.NodeJoin.{local_stays}
-use Rattle.cb_mutate.proofs.StepsFixed.{free_step_fixes, make_step_fixes, read_step_fixes, write_step_fixes}
-use Rattle.cb_evict.proofs.AbortFixed.{abort_step_fixes}
-use Rattle.cb_evict.proofs.BeginFixed.{begin_step_fixes}
-use Rattle.cb_evict.proofs.CommitFixed.{commit_step_fixes}
-use Rattle.cb_evict.proofs.EvictFixed.{evict_step_fixes}
-use Rattle.cb_evict.proofs.EvictionFixed.{counted_step_fixes}
-use Rattle.cb_evict.proofs.ShipFixed.{ship_step_fixes}
-use Rattle.cb_filter.proofs.StepFixed.{filter_step_fixes}
-use Rattle.cb_rebuild.proofs.StepFixed.{rebuild_step_fixes}
+use Rattle.cb_world.proofs.Laws.{home_same, IsOneEnd, local_stays}
+use Rattle.cb_mutate.proofs.Laws.{free_step_fixes, make_step_fixes, read_step_fixes, write_step_fixes}
+use Rattle.cb_evict.proofs.Laws.{abort_step_fixes, begin_step_fixes, commit_step_fixes, evict_step_fixes, counted_step_fixes, ship_step_fixes}
+use Rattle.cb_filter.proofs.Laws.{filter_step_fixes}
+use Rattle.cb_rebuild.proofs.Laws.{rebuild_step_fixes}
 use Rattle.cb_swapin.specs.SwapStep.{IsSwapStep}
-use Rattle.cb_swapin.proofs.StepFixed.{swap_step_fixes}
+use Rattle.cb_swapin.proofs.Laws.{swap_step_fixes}
 use Rattle.cb_core.specs.declared.event.Atomic.{Atomic}
 use Rattle.cb_core.specs.declared.event.Atomic.TheVariants.{Load, Pin as PinOn, Unpin}
 use Rattle.cb_core.specs.declared.event.Event.{Event}

@@ -13,9 +13,7 @@ use Rattle.cb_world.specs.Seats.{SeatState}
 use Rattle.cb_world.specs.Shown.{Fits}
 use Rattle.cb_world.specs.Still.{IsStill}
 use Rattle.cb_world.specs.World.{IsKnown, word_at}
-use Rattle.cb_world.proofs.Pins.{pinned_still}
-use Rattle.cb_world.proofs.Staying.{StaysIf}
-use Rattle.cb_world.proofs.StillPerforms.{PerformsStill}
+use Rattle.cb_world.proofs.Laws.{pinned_still, StaysIf, PerformsStill}
 use Rattle.cb_evict.specs.AbortRule.{HasGivenUp}
 use Rattle.cb_evict.specs.AbortStep.{ArePutBack, IsAbortStep, no_batch as none_to_abort, given_up}
 use Rattle.cb_evict.specs.BeginEffect.{BeginEffect}
@@ -27,15 +25,7 @@ use Rattle.cb_evict.specs.CommitStep.{ArePutAway, IsCommitStep, no_batch as none
 use Rattle.cb_evict.specs.Restoring.{IsClaimedFrom}
 use Rattle.cb_evict.specs.ShipRule.{ReadsLeaving}
 use Rattle.cb_evict.specs.ShipStep.{IsShipStep}
-use Rattle.cb_evict.proofs.AbortStep.{abort_step}
-use Rattle.cb_evict.proofs.AfterBegin.{begin_settings, begin_count, begin_versions, begin_pinned, begin_pins, begin_keeps as begin_parts}
-use Rattle.cb_evict.proofs.BeginStep.{begin_step}
-use Rattle.cb_evict.proofs.Claims.{among, no_former}
-use Rattle.cb_evict.proofs.CommitStep.{commit_step}
-use Rattle.cb_evict.proofs.EvictStep.{IsStepKnown}
-use Rattle.cb_evict.proofs.Stays.{abort_stays, begin_stays, commit_stays, ship_stays}
-use Rattle.cb_evict.proofs.Noted.{claimed_all}
-use Rattle.cb_evict.proofs.ShipStep.{ships_leaves, ship_step, ship_stopped}
+use Rattle.cb_evict.proofs.Laws.{abort_step, begin_settings, begin_count, begin_versions, begin_pinned, begin_pins, begin_keeps as begin_parts, begin_step, among, no_former, commit_step, IsStepKnown, abort_stays, begin_stays, commit_stays, ship_stays, claimed_all, ships_leaves, ship_step, ship_stopped}
 use Rattle.cb_core.specs.Parts.{Holding}
 use Rattle.cb_core.specs.Step.{HoldOn, StillBegin, StillShip, StillCommit, StillAbort, StillShipLacks}
 use Rattle.cb_core.specs.Turned.{Begins, Ships, Commits, Aborts, ShipLacks}

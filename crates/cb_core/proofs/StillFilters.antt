@@ -11,20 +11,17 @@ use Rattle.cb_world.specs.Placed.{place_in}
 use Rattle.cb_world.specs.Plain.{Words, Plain}
 use Rattle.cb_world.specs.Seats.{SeatState}
 use Rattle.cb_world.specs.World.{word_at}
-use Rattle.cb_world.proofs.Exact.{found_exact}
-use Rattle.cb_world.proofs.StillPerforms.{PerformsStill}
+use Rattle.cb_world.proofs.Laws.{found_exact, PerformsStill, StaysIf}
 use Rattle.cb_filter.specs.FilterEffect.{FilterEffect}
 use Rattle.cb_filter.specs.FilterRule.{FilterRule}
 use Rattle.cb_filter.specs.FilterStep.{IsFilterStep, refused, cools, without_slot, moves, IsFreeIn, temp_of}
 use Rattle.cb_filter.specs.Plans.{Wants}
 use Rattle.cb_filter.specs.Seats.{temp_for}
-use Rattle.cb_filter.proofs.FilterStep.{IsStepKnown, filter_step, filter_stopped}
+use Rattle.cb_filter.proofs.Laws.{IsStepKnown, filter_step, filter_stopped, filter_stays}
 use Rattle.cb_core.specs.Parts.{Holding}
 use Rattle.cb_core.specs.Step.{HoldOn, StillFilter, StillFilterLacks}
 use Rattle.cb_core.specs.Turned.{Filters, FilterLacks}
 use Rattle.cb_core.proofs.KeptParts.{IsGood, Arrives, Carries, CarriesLack, arrives_same, arrives_stays}
-use Rattle.cb_filter.proofs.Stays.{filter_stays}
-use Rattle.cb_world.proofs.Staying.{StaysIf}
 use Rattle.cb_core.proofs.KeptPins.{cooled_pinned}
 use Rattle.cb_core.proofs.StillParts.{Ran, Tells, both_same}
 

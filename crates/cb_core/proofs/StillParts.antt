@@ -17,10 +17,7 @@ use Rattle.cb_world.specs.Shown.{Fits, object_at, never}
 use Rattle.cb_world.specs.Still.{IsStill}
 use Rattle.cb_world.specs.StillWords.{stamp_at}
 use Rattle.cb_world.specs.World.{IsKnown, ArePinned, word_at}
-use Rattle.cb_world.proofs.Exact.{found_exact}
-use Rattle.cb_world.proofs.Staying.{StaysIf, stays_same}
-use Rattle.cb_world.proofs.StillPerforms.{PerformsStill, RunsStill, runs_still, stays_still}
-use Rattle.cb_world.proofs.StillWords.{told_exact}
+use Rattle.cb_world.proofs.Laws.{found_exact, StaysIf, stays_same, PerformsStill, RunsStill, runs_still, stays_still, told_exact}
 use Rattle.cb_mutate.specs.Answered.{Answered}
 use Rattle.cb_mutate.specs.MakeRule.{MakeRule, MakeEffect, NeedsNewSpan, new_word}
 use Rattle.cb_mutate.specs.MakeStep.{IsMakeStep}
@@ -28,26 +25,14 @@ use Rattle.cb_mutate.specs.ReadRule.{ReadRule, ReadEffect}
 use Rattle.cb_mutate.specs.Steps.{IsReadStep, with_seen, IsWriteStep, IsOverwritten, IsFreeStep, IsTakenOut}
 use Rattle.cb_mutate.specs.StillReplies.{reply_as}
 use Rattle.cb_mutate.specs.WriteRule.{WriteRule, WriteEffect}
-use Rattle.cb_mutate.proofs.FreeStep.{free_step}
-use Rattle.cb_mutate.proofs.MakeStep.{make_step}
-use Rattle.cb_mutate.proofs.Stays.{free_stays, make_stays}
-use Rattle.cb_mutate.proofs.ReadStep.{read_step, failed_step}
-use Rattle.cb_mutate.proofs.Stepping.{is_exact, Comes, comes, reply_comes}
-use Rattle.cb_mutate.proofs.WriteStep.{write_step}
+use Rattle.cb_mutate.proofs.Laws.{free_step, make_step, free_stays, make_stays, read_step, failed_step, is_exact, Comes, comes, reply_comes, write_step}
 use Rattle.cb_evict.specs.Evicting.{TouchesSpans}
 use Rattle.cb_evict.specs.EvictEffect.{EvictEffect}
 use Rattle.cb_evict.specs.EvictRule.{EvictRule}
 use Rattle.cb_evict.specs.Eviction.{CountsRule, reply_of}
-use Rattle.cb_evict.proofs.AfterEvict.{evict_settings, evict_seats}
-use Rattle.cb_evict.proofs.Composed.{rule_weaker}
-use Rattle.cb_evict.proofs.EvictStep.{counted_step, evict_step, evict_stopped}
-use Rattle.cb_evict.proofs.Stays.{evict_stays}
+use Rattle.cb_evict.proofs.Laws.{evict_settings, evict_seats, rule_weaker, counted_step, evict_step, evict_stopped, evict_stays}
 use Rattle.cb_swapin.specs.Fetching.{far_given}
-use Rattle.cb_swapin.proofs.FarHomes.{given_known}
-use Rattle.cb_swapin.proofs.Stays.{given_stays, swap_stays}
-use Rattle.cb_swapin.proofs.SwapKeeps.{settings_stay}
-use Rattle.cb_swapin.proofs.SwapStep.{swap_step}
-use Rattle.cb_swapin.proofs.SwapWorld.{pinned_kept}
+use Rattle.cb_swapin.proofs.Laws.{given_known, given_stays, swap_stays, settings_stay, swap_step, pinned_kept}
 use Rattle.cb_core.specs.Declining.{write_refusal}
 use Rattle.cb_core.specs.Parts.{Holding, NeverDeclined}
 use Rattle.cb_core.specs.Step.{StillMake, StillRead, StillWrite, StillFree, StillFind, StillDecline, StillEvict, StillRoom, StillSwap, StillMakeLacks, StillReadLacks, StillEvictLacks, StillSwapLacks}

@@ -9,10 +9,9 @@ use Rattle.cb_world.specs.Plain.{Words}
 use Rattle.cb_world.specs.Seats.{SeatState}
 use Rattle.cb_world.specs.World.{ArePinned, IsConfigured, IsKnown}
 use Rattle.cb_rebuild.specs.RebuildStep.{IsFirstWeak, RebuildStep, Restores, surveyed}
-use Rattle.cb_rebuild.proofs.RebuildKeeps.{keeps_first, keeps_step}
+use Rattle.cb_rebuild.proofs.Laws.{keeps_first, keeps_step, failed_stays, rebuild_stays}
 use Rattle.cb_swapin.specs.Fetching.{far_given}
-use Rattle.cb_rebuild.proofs.Stays.{failed_stays, rebuild_stays}
-use Rattle.cb_swapin.proofs.FarHomes.{given_known}
+use Rattle.cb_swapin.proofs.Laws.{given_known}
 use Rattle.cb_core.specs.Parts.{Holding}
 use Rattle.cb_core.specs.Step.{StillRebuild, StillRebuildLacks}
 use Rattle.cb_core.specs.Turned.{Rebuilds, RebuildLacks}

@@ -12,7 +12,7 @@ use Rattle.cb_world.specs.FarState.{FarState}
 use Rattle.cb_world.specs.Plain.{Words}
 use Rattle.cb_world.specs.StillWords.{stamp_at}
 use Rattle.cb_world.specs.World.{WorldState, IsKnown, IsSoundWorld, word_at}
-use Rattle.cb_mutate.proofs.FreeCall.{free_call}
+use Rattle.cb_mutate.proofs.Laws.{free_call}
 use Rattle.cb_core.specs.Parts.{Holding, NeverDeclined}
 use Rattle.cb_core.specs.Step.{StillRead, StillWrite, StillDecline, StillWorks, TurnStep, worn, done}
 use Rattle.cb_core.specs.Turned.{counted}

@@ -22,10 +22,7 @@ use Rattle.cb_world.specs.SetWord.{is_broken}
 use Rattle.cb_world.specs.Shown.{object_at}
 use Rattle.cb_world.specs.World.{IsKnown, word_at}
 use Rattle.cb_swapin.specs.SwapStep.{IsSwapStep}
-use Rattle.cb_swapin.proofs.FarHomes.{gone_is_broken}
-use Rattle.cb_swapin.proofs.SwapAnswers.{by_answer, unavailable_answer}
-use Rattle.cb_swapin.proofs.SwapKeeps.{step_only_no_frame}
-use Rattle.cb_swapin.proofs.SwapPins.{home_comes_in}
+use Rattle.cb_swapin.proofs.Laws.{gone_is_broken, by_answer, unavailable_answer, step_only_no_frame, home_comes_in}
 use Rattle.cb_evict.specs.declared.eviction.Eviction.TheVariants.{Set}
 use Rattle.cb_core.specs.Parts.{Holding, at_once, no_room, won}
 use Rattle.cb_core.specs.Step.{StillSwap, StillBring}

@@ -23,9 +23,9 @@ use Rattle.cb_world.specs.Placed.{place_in}
 use Rattle.cb_world.specs.Plain.{Words}
 use Rattle.cb_world.specs.StillWords.{stamp_at}
 use Rattle.cb_world.specs.World.{IsKnown, word_at}
-use Rattle.cb_world.proofs.NowSame.{bits, empty_value, empty_now}
+use Rattle.cb_world.proofs.Laws.{bits, empty_value, empty_now}
 use Rattle.cb_mutate.specs.MapCalls.{IsValue, IsCallOn}
-use Rattle.cb_mutate.proofs.MapReplies.{IsThere, map_same, stays_call, far_there, near_held, here_near, in_range}
+use Rattle.cb_mutate.proofs.Laws.{IsThere, map_same, stays_call, far_there, near_held, here_near, in_range}
 use Rattle.cb_filter.specs.FilterRule.{EmptyAnswer}
 use Rattle.cb_filter.specs.FilterStep.{IsFilterStep, refused, cools, without_slot, moves, RefusesAs, cool_word}
 use Rattle.cb_rebuild.specs.RebuildStep.{RebuildStep}

@@ -11,11 +11,9 @@ use Rattle.cb_world.specs.FarState.{FarState}
 use Rattle.cb_world.specs.Now.{now}
 use Rattle.cb_world.specs.Plain.{Words}
 use Rattle.cb_world.specs.World.{WorldState, IsKnown, word_at}
-use Rattle.cb_world.proofs.Alike.{recounted_sound}
-use Rattle.cb_world.proofs.NowSame.{now_same}
-use Rattle.cb_evict.proofs.AfterEvict.{evict_keeps, evict_pins, evict_settings}
-use Rattle.cb_swapin.proofs.SwapKeeps.{keeps_far, settings_stay}
-use Rattle.cb_swapin.proofs.SwapPins.{pins_stay}
+use Rattle.cb_world.proofs.Laws.{recounted_sound, now_same}
+use Rattle.cb_evict.proofs.Laws.{evict_keeps, evict_pins, evict_settings}
+use Rattle.cb_swapin.proofs.Laws.{keeps_far, settings_stay, pins_stay}
 use Rattle.cb_evict.specs.declared.eviction.Eviction.{Eviction}
 use Rattle.cb_evict.specs.declared.eviction.Eviction.TheVariants.{Refused, Set}
 use Rattle.cb_evict.specs.Eviction.{reply_of}

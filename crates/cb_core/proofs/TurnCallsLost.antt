@@ -18,7 +18,7 @@ use Rattle.cb_world.specs.Now.{broken_home, broken_set, is_gone}
 use Rattle.cb_world.specs.Plain.{Words}
 use Rattle.cb_world.specs.Sets.{set_in}
 use Rattle.cb_world.specs.World.{IsKnown, word_at}
-use Rattle.cb_swapin.proofs.SwapPins.{named_far}
+use Rattle.cb_swapin.proofs.Laws.{named_far}
 use Rattle.cb_core.specs.Parts.{Holding, WhereItIs, near, declined, stays_far, brought}
 use Rattle.cb_core.specs.Step.{StillBring}
 use Rattle.cb_core.proofs.TurnCallsFar.{IsLostFar, BringEnds, came, broke, crammed, bring_ends}

@@ -13,7 +13,7 @@ use Rattle.cb_evict.specs.declared.eviction.Eviction.TheVariants.{Refused, Set}
 use Rattle.cb_evict.specs.EvictStep.{IsEvictStep, few_spans, few_nodes, made}
 use Rattle.cb_mutate.specs.MakeStep.{IsMakeStep}
 use Rattle.cb_mutate.specs.MapCalls.{IsMakeCall}
-use Rattle.cb_mutate.proofs.MakeCall.{make_call}
+use Rattle.cb_mutate.proofs.Laws.{make_call}
 use Rattle.cb_core.specs.Parts.{Holding, WithRoom, at_once, no_room, won}
 use Rattle.cb_core.specs.Step.{StillMake, StillRoom}
 use Rattle.cb_core.proofs.TurnCallsKept.{same_holding, kept_room}

@@ -19,7 +19,7 @@ use Rattle.cb_world.specs.Plain.{Words}
 use Rattle.cb_world.specs.Shown.{object_at}
 use Rattle.cb_world.specs.World.{IsKnown, word_at}
 use Rattle.cb_mutate.specs.MapCalls.{IsMapCall, IsCallOn, IsRefusedMake, IsMakeCall}
-use Rattle.cb_mutate.proofs.MapReplies.{far_there, refused_call}
+use Rattle.cb_mutate.proofs.Laws.{far_there, refused_call}
 use Rattle.cb_core.specs.Turned.{counted}
 
 -- the map of the one is that of the other: each object holds the same, and as many were made

@@ -13,9 +13,7 @@ use Rattle.cb_world.specs.Now.Now.{held, gone}
 use Rattle.cb_world.specs.Plain.{Words}
 use Rattle.cb_world.specs.Sound.{Sound}
 use Rattle.cb_world.specs.World.{IsKnown}
-use Rattle.cb_world.proofs.CrashNow.{BecomesGone, crash_now}
-use Rattle.cb_world.proofs.NodeJoin.{node_crash_sound, node_join_sound, node_join_now}
-use Rattle.cb_world.proofs.NowSame.{now_same}
+use Rattle.cb_world.proofs.Laws.{BecomesGone, crash_now, node_crash_sound, node_join_sound, node_join_now, now_same}
 use Rattle.cb_core.specs.Membership.{CrashTurn, crashed, is_down, JoinTurn, joined, is_up}
 use Rattle.cb_core.proofs.TurnCallsMap.{IsSameMap}
 

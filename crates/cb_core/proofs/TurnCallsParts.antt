@@ -24,13 +24,10 @@ use Rattle.cb_world.specs.Plain.{Words}
 use Rattle.cb_world.specs.Shown.{object_at}
 use Rattle.cb_world.specs.StillWords.{stamp_at, contents_at}
 use Rattle.cb_world.specs.World.{IsKnown, word_at}
-use Rattle.cb_world.proofs.NowSame.{far_object}
+use Rattle.cb_world.proofs.Laws.{far_object}
 use Rattle.cb_mutate.specs.MapCalls.{IsValue, IsMapCall, IsCallOn}
 use Rattle.cb_mutate.specs.StillReplies.{reply_as, write_reply, next_reply, change_reply}
-use Rattle.cb_mutate.proofs.MapReplies.{map_same, stays_call}
-use Rattle.cb_mutate.proofs.ReadCall.{read_call}
-use Rattle.cb_mutate.proofs.WriteCall.{write_call}
-use Rattle.cb_mutate.proofs.WrittenBytes.{bytes_length}
+use Rattle.cb_mutate.proofs.Laws.{map_same, stays_call, read_call, write_call, bytes_length}
 use Rattle.cb_core.specs.Declining.{write_refusal}
 use Rattle.cb_core.specs.Parts.{Holding, NeverDeclined}
 use Rattle.cb_core.specs.Step.{StillRead, StillWrite, StillDecline}

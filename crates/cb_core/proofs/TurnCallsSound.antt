@@ -8,15 +8,12 @@ use Rattle.cb_types.specs.Config.{IsAccepted}
 use Rattle.cb_types.specs.Jobs.{job_index}
 use Rattle.cb_world.specs.Plain.{Words}
 use Rattle.cb_world.specs.Seats.{SeatState}
-use Rattle.cb_world.proofs.Staying.{recounted}
+use Rattle.cb_world.proofs.Laws.{recounted}
 use Rattle.cb_world.specs.World.{WorldState, ArePinned, IsConfigured, IsSoundWorld}
-use Rattle.cb_evict.proofs.AfterEvict.{evict_seats, evict_settings}
-use Rattle.cb_swapin.proofs.SwapKeeps.{settings_stay}
-use Rattle.cb_swapin.proofs.SwapWorld.{pinned_kept}
+use Rattle.cb_evict.proofs.Laws.{evict_seats, evict_settings, evict_step_stays}
+use Rattle.cb_swapin.proofs.Laws.{settings_stay, pinned_kept, swap_step_stays}
 use Rattle.cb_evict.specs.declared.eviction.Eviction.TheVariants.{Refused}
 use Rattle.cb_evict.specs.Eviction.{reply_of}
-use Rattle.cb_evict.proofs.Stays.{evict_step_stays}
-use Rattle.cb_swapin.proofs.Stays.{swap_step_stays}
 use Rattle.cb_core.specs.Parts.{Holding, at_once, no_room, won, BringsIn, not_far, was_far}
 use Rattle.cb_core.specs.Step.{StillEvict, StillSwap, StillBring, StillFind, TurnStep, worn, done}
 use Rattle.cb_core.specs.Turned.{counted}

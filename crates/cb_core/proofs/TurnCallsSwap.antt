@@ -20,7 +20,7 @@ use Rattle.cb_world.specs.StillWords.{stamp_at}
 use Rattle.cb_world.specs.World.{IsKnown, word_at}
 use Rattle.cb_mutate.specs.MapCalls.{IsCallOn}
 use Rattle.cb_mutate.specs.StillReplies.{reply_as}
-use Rattle.cb_mutate.proofs.MapReplies.{AreKnownBoth, IsThere, IsOnContents, refused_call, call_by_state, near_held, here_near}
+use Rattle.cb_mutate.proofs.Laws.{AreKnownBoth, IsThere, IsOnContents, refused_call, call_by_state, near_held, here_near}
 use Rattle.cb_core.specs.Parts.{Holding, BringsIn, not_far, was_far}
 use Rattle.cb_core.specs.Step.{StillBring, StillFind}
 use Rattle.cb_core.proofs.TurnCallsKept.{HasKept, kept_all, kept_bring}

@@ -16,27 +16,19 @@ use Rattle.cb_world.specs.Played.{played}
 use Rattle.cb_world.specs.Sound.{Sound}
 use Rattle.cb_world.specs.World.{IsConfigured}
 use Rattle.cb_world.specs.Written.{Writes, entry, gone}
-use Rattle.cb_world.proofs.Alike.{recounted_sound}
-use Rattle.cb_world.proofs.NodeJoin.{node_crash_sound, node_join_sound}
-use Rattle.cb_world.proofs.Staying.{StaysIf, stays_same}
+use Rattle.cb_world.proofs.Laws.{recounted_sound, node_crash_sound, node_join_sound, StaysIf, stays_same}
 use Rattle.cb_mutate.specs.FreeRule.{FreeEffect}
 use Rattle.cb_mutate.specs.MakeRule.{MakeEffect}
 use Rattle.cb_mutate.specs.WriteRule.{WriteEffect}
-use Rattle.cb_mutate.proofs.Stays.{free_stays, make_stays}
-use Rattle.cb_mutate.proofs.Unwritten.{read_unwritten}
+use Rattle.cb_mutate.proofs.Laws.{free_stays, make_stays, read_unwritten}
 use Rattle.cb_evict.specs.Eviction.{reply_of}
-use Rattle.cb_evict.proofs.Stays.{abort_stays, begin_stays, commit_stays, evict_stays, ship_stays}
-use Rattle.cb_evict.proofs.Unwritten.{abort_unwritten, begin_unwritten, commit_unwritten, evict_unwritten}
-use Rattle.cb_filter.proofs.Stays.{filter_stays}
-use Rattle.cb_filter.proofs.Unwritten.{filter_unwritten}
+use Rattle.cb_evict.proofs.Laws.{abort_stays, begin_stays, commit_stays, evict_stays, ship_stays, abort_unwritten, begin_unwritten, commit_unwritten, evict_unwritten}
+use Rattle.cb_filter.proofs.Laws.{filter_stays, filter_unwritten}
 use Rattle.cb_rebuild.specs.RebuildStep.{surveyed}
-use Rattle.cb_rebuild.proofs.RebuildKeeps.{keeps_first, keeps_step}
-use Rattle.cb_rebuild.proofs.Stays.{failed_stays, rebuild_stays}
+use Rattle.cb_rebuild.proofs.Laws.{keeps_first, keeps_step, failed_stays, rebuild_stays}
 use Rattle.cb_swapin.specs.Fetching.{far_given}
 use Rattle.cb_swapin.specs.SwapRule.{SwapRule}
-use Rattle.cb_swapin.proofs.Stays.{given_stays, swap_stays}
-use Rattle.cb_swapin.proofs.SwapAnswers.{by_answer}
-use Rattle.cb_swapin.proofs.Unwritten.{swap_unwritten}
+use Rattle.cb_swapin.proofs.Laws.{given_stays, swap_stays, by_answer, swap_unwritten}
 use Rattle.cb_core.specs.Declining.{far_refusal}
 use Rattle.cb_core.specs.Jobs.{IsJob}
 use Rattle.cb_core.specs.Membership.{CrashTurn, crashed, is_down, JoinTurn, joined, is_up}

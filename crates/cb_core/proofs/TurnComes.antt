@@ -12,8 +12,7 @@ use Rattle.cb_world.specs.Played.{played}
 use Rattle.cb_world.specs.Sound.{Sound}
 use Rattle.cb_world.specs.World.{IsConfigured}
 use Rattle.cb_world.specs.Written.{Writes, written_by}
-use Rattle.cb_world.proofs.Staying.{Rises, StaysIf, rises_more, rises_then}
-use Rattle.cb_world.proofs.Tracing.{played_append, written_append}
+use Rattle.cb_world.proofs.Laws.{Rises, StaysIf, rises_more, rises_then, played_append, written_append}
 use Rattle.cb_evict.specs.declared.eviction.Eviction.{Eviction}
 use Rattle.cb_evict.specs.declared.eviction.Eviction.TheVariants.{Refused, Set}
 use Rattle.cb_core.specs.OnceHere.{OnceHere, away, here, OnceHereStops, bringing_stops, call_stops as lacks_here}

@@ -18,12 +18,11 @@ use Rattle.cb_world.specs.Sound.{Sound}
 use Rattle.cb_core.specs.Turned.{counted}
 use Rattle.cb_world.specs.declared.homes.Home.{Home}
 use Rattle.cb_world.specs.Written.{Writes, entry, gone}
-use Rattle.cb_world.proofs.Worlds.{empty_world_sound}
+use Rattle.cb_world.proofs.Laws.{empty_world_sound, recounted}
 use Rattle.cb_core.specs.Parts.{Holding}
 use Rattle.cb_core.specs.TurnLeaves.{IsNext, TurnLeaves, TurnWrites}
 use Rattle.cb_core.proofs.Counting.{counted_sound}
 use Rattle.cb_core.proofs.KeptParts.{counted_rises}
-use Rattle.cb_world.proofs.Staying.{recounted}
 
 abbrev handle : ℕ → Handle
 handle n = record { n = n }

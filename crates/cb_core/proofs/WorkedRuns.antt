@@ -5,7 +5,7 @@ use Rattle.cb_types.specs.declared.config.Config.{Config}
 use Rattle.cb_types.specs.declared.reply.Reply.{Reply}
 use Rattle.cb_types.specs.declared.reply.Reply.TheVariants as answer
 use Rattle.cb_world.specs.World.{WorldState, IsSoundWorld, empty_world}
-use Rattle.cb_world.proofs.Worlds.{empty_world_sound}
+use Rattle.cb_world.proofs.Laws.{empty_world_sound}
 use Rattle.cb_core.specs.declared.event.Atomic.TheVariants.{Load}
 use Rattle.cb_core.specs.declared.event.Event.{Event}
 use Rattle.cb_core.specs.declared.event.Event.TheVariants as event

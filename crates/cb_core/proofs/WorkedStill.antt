@@ -27,15 +27,14 @@ use Rattle.cb_world.specs.Placed.{HasRoom}
 use Rattle.cb_world.specs.Plain.{Words}
 use Rattle.cb_world.specs.Sets.{if_committed, set_in}
 use Rattle.cb_world.specs.World.{IsKnown, empty_world}
-use Rattle.cb_world.proofs.NowSame.{now_same}
-use Rattle.cb_world.proofs.Worlds.{empty_world_sound}
+use Rattle.cb_world.proofs.Laws.{now_same, empty_world_sound}
 use Rattle.cb_evict.specs.AbortStep.{no_batch as none_to_abort, given_up}
 use Rattle.cb_evict.specs.BeginStep.{IsBeginStep, is_leaving, few_spans as few_to_begin, few_nodes as few_to_take, begins}
 use Rattle.cb_evict.specs.CommitStep.{no_batch as none_to_commit, short, committed}
 use Rattle.cb_evict.specs.EvictStep.{few_spans, few_nodes, made}
 use Rattle.cb_evict.specs.ShipRule.{Ships as ShipsRow}
 use Rattle.cb_evict.specs.Waiting.{waiting, least_waiting}
-use Rattle.cb_evict.proofs.WorkedWide.{calm as wide_calm, desk as wide_desk, far as wide_far, known as wide_shown, after as wide_after, all_known as wide_known, step as wide_step, none_known}
+use Rattle.cb_evict.proofs.Laws.{calm as wide_calm, desk as wide_desk, far as wide_far, known as wide_shown, after as wide_after, all_known as wide_known, step as wide_step, none_known}
 use Rattle.cb_filter.specs.FilterStep.{refused, cools, without_slot, moves}
 use Rattle.cb_filter.specs.Seats.{Seat}
 use Rattle.cb_world.specs.SetWord.{IsWeak}

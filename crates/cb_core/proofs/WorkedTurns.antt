@@ -22,7 +22,7 @@ use Rattle.cb_world.specs.World.{WorldState, word_at}
 use Rattle.cb_mutate.specs.MakeRule.{HasNoPlace}
 use Rattle.cb_mutate.specs.MakeStep.{IsMakeStep}
 use Rattle.cb_evict.specs.EvictStep.{loose_frames, few_spans}
-use Rattle.cb_evict.proofs.AfterEvict.{evict_made}
+use Rattle.cb_evict.proofs.Laws.{evict_made}
 use Rattle.cb_core.specs.declared.event.Atomic.TheVariants.{Load, Pin, Unpin}
 use Rattle.cb_core.specs.declared.event.Event.TheVariants as event
 use Rattle.cb_core.specs.Events.{IsEvent}

@@ -15,7 +15,7 @@ use Rattle.cb_world.specs.Plain.{Words}
 use Rattle.cb_world.specs.Seats.{SeatState}
 use Rattle.cb_world.specs.Sound.{Sound}
 use Rattle.cb_world.specs.World.{WorldState, IsKnown, IsConfigured, IsSoundWorld}
-use Rattle.cb_world.proofs.NodeJoin.{node_crash_sound, node_join_sound}
+use Rattle.cb_world.proofs.Laws.{node_crash_sound, node_join_sound, recounted}
 use Rattle.cb_core.specs.declared.event.Event.TheVariants as event
 use Rattle.cb_core.specs.Jobs.{IsJob}
 use Rattle.cb_core.specs.Membership.{CrashTurn, crashed, is_down, JoinTurn, joined, is_up}
@@ -26,7 +26,6 @@ use Rattle.cb_core.proofs.Counting.{counted_sound}
 use Rattle.cb_core.proofs.KeptParts.{IsGood, Arrives, Carries, CarriesLack, rises_more, arrives_then, arrives_more, arrives_same, counted_rises, arrives_stays}
 use Rattle.cb_core.proofs.StillParts.{Ran, Tells, both_same, make_part, read_part, write_part, free_part, find_part, decline_part, evict_part, room_part, swap_part, make_lack, read_lack, evict_lack, swap_lack}
 use Rattle.cb_core.proofs.NodesStay.{crash_stays, join_stays}
-use Rattle.cb_world.proofs.Staying.{recounted}
 use Rattle.cb_core.proofs.StillBatches.{begin_part, ship_part, ship_lack, commit_part, abort_part}
 use Rattle.cb_core.proofs.StillFilters.{filter_part, filter_lack}
 use Rattle.cb_core.proofs.StillRebuilds.{rebuild_part, rebuild_lack}

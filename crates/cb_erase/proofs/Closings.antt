@@ -9,8 +9,7 @@ use Rattle.cb_gf256.specs.Corner.{corner}
 use Rattle.cb_gf256.specs.InRange.{IsInRange}
 use Rattle.cb_gf256.specs.Lagrange.{points, AreFactors}
 use Rattle.cb_gf256.specs.Split.{Splits}
-use Rattle.cb_gf256.proofs.PublicLaws.{sum_commutes, sum_associates, sum_with_zero, sum_with_itself, sum_over_same, sum_over_swaps, sum_over_with_product, one_with_product, power_is_byte, power_of_none, powers_of_two_differ, corner_count, corner_byte, corner_lengths}
-use Rattle.cb_gf256.proofs.LagrangeLemmas.{basis_of, interpolates}
+use Rattle.cb_gf256.proofs.PublicLaws.{sum_commutes, sum_associates, sum_with_zero, sum_with_itself, sum_over_same, sum_over_swaps, sum_over_with_product, one_with_product, power_is_byte, power_of_none, powers_of_two_differ, corner_count, corner_byte, corner_lengths, basis_of, interpolates}
 use Rattle.cb_erase.specs.Closing.{sum_by, Closes}
 
 power_byte : (m : ℕ) → power 2 m < 256

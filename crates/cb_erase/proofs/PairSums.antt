@@ -4,8 +4,7 @@ use Rattle.std.proofs.lemmas.Simd.{get_or-replicate, length-replicate, length-pu
 use Rattle.cb_gf256.specs.Sum.{◌⊕◌, sum_over}
 use Rattle.cb_gf256.specs.Product.{◌⊗◌}
 use Rattle.cb_gf256.specs.Rows.{row_at, rows_at, byte_at}
-use Rattle.cb_gf256.proofs.PublicLaws.{row_at_positions, sum_associates, sum_with_zero, sum_over_same, written_lengths}
-use Rattle.cb_gf256.proofs.Placing.{block_placed}
+use Rattle.cb_gf256.proofs.PublicLaws.{row_at_positions, sum_associates, sum_with_zero, sum_over_same, written_lengths, block_placed}
 use Rattle.std.specs.List.Sorted.{IsStrictlyIncreasing}
 use Rattle.std.specs.Simd.Lanes.{put_chunk}
 use Rattle.cb_gf256.specs.Rows.{HaveLength}

@@ -7,7 +7,7 @@ use Rattle.cb_gf256.specs.CodeWord.{IsCodeWord, syndrome}
 use Rattle.cb_gf256.specs.Combination.{combination}
 use Rattle.cb_gf256.specs.Positions.{ArePositions}
 use Rattle.cb_gf256.specs.Lagrange.{differences, points}
-use Rattle.cb_gf256.proofs.WorkedPlacing.{present, lost, splits}
+use Rattle.cb_gf256.proofs.PublicLaws.{present, lost, splits}
 use Rattle.cb_erase.specs.Weights.{IsSolution, AreWeights}
 use Rattle.cb_erase.proofs.Words.{weights_of}
 

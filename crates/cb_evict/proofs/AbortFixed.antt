@@ -9,10 +9,9 @@ use Rattle.cb_world.specs.Leaving.{LeavingState}
 use Rattle.cb_world.specs.Plain.{Words}
 use Rattle.cb_world.specs.Reserved.{without_batch}
 use Rattle.cb_world.specs.World.{word_at}
-use Rattle.cb_world.proofs.Fixed.{IsOneEnd, refused_alike}
+use Rattle.cb_world.proofs.Laws.{IsOneEnd, refused_alike, some_same}
 use Rattle.cb_evict.specs.AbortStep.{ArePutBack, IsAbortStep, no_batch, given_up}
 use Rattle.cb_evict.proofs.Claims.{among, no_former}
-use Rattle.cb_world.proofs.Apart.{some_same}
 use Rattle.cb_evict.proofs.BeginFixed.{leaving_or_not}
 
 back_fixed : (x y z : Words) (formers : List Former) → ArePutBack x y formers

@@ -19,9 +19,7 @@ use Rattle.cb_world.specs.Plain.{Words, Shows}
 use Rattle.cb_world.specs.Played.{played}
 use Rattle.cb_world.specs.StillDesk.{plain_follows, plain_stays}
 use Rattle.cb_world.specs.World.{word_at, IsKnown}
-use Rattle.cb_world.proofs.Known.{HereIs, AreSeen, seen_after, seen_known}
-use Rattle.cb_world.proofs.StillWords.{FreeIs, free_after, word_back}
-use Rattle.cb_world.proofs.StillPerforms.{PerformsStill, RunsStill, runs_still, known_then, stays_still}
+use Rattle.cb_world.proofs.Laws.{HereIs, AreSeen, seen_after, seen_known, FreeIs, free_after, word_back, PerformsStill, RunsStill, runs_still, known_then, stays_still}
 use Rattle.cb_evict.specs.AbortRule.{HasNoBatch, HasGivenUp, AbortRule, AbortEffect}
 use Rattle.cb_evict.specs.AbortStep.{ArePutBack, IsAbortStep, no_batch, given_up}
 use Rattle.cb_evict.specs.Claims.{IsNone}

@@ -21,9 +21,7 @@ use Rattle.cb_world.specs.Now.{held, broken_set, broken_home, is_gone, now_as, n
 use Rattle.cb_world.specs.Reserved.{without_batch}
 use Rattle.cb_world.specs.SetAdded.{is_far}
 use Rattle.cb_world.specs.Sound.{Sound}
-use Rattle.cb_world.proofs.Added.{was_far}
-use Rattle.cb_world.proofs.BatchGone.{batch_given_up_whole, gone_sets}
-use Rattle.cb_world.proofs.NowKept.{now_kept}
+use Rattle.cb_world.proofs.Laws.{was_far, batch_given_up_whole, gone_sets, now_kept}
 use Rattle.cb_evict.specs.AbortRule.{AbortRule, AbortEffect, IsAborted, IsOfBatch}
 use Rattle.cb_evict.specs.Claiming.{IsOne}
 use Rattle.cb_evict.specs.Restoring.{AreRestored, IsRestoring, Restores}

@@ -23,7 +23,7 @@ use Rattle.cb_world.specs.Plain.{Words}
 use Rattle.cb_world.specs.Seats.{SeatState}
 use Rattle.cb_world.specs.Stored.{all_put}
 use Rattle.cb_world.specs.World.{word_at, IsConfigured, ArePinned}
-use Rattle.cb_world.proofs.Pins.{pinned_still}
+use Rattle.cb_world.proofs.Laws.{pinned_still}
 use Rattle.cb_evict.specs.Candidates.{candidates}
 use Rattle.cb_evict.specs.EvictStep.{is_loose, loose_frames, IsSetMade, IsEvictStep, few_spans, few_nodes, made}
 use Rattle.cb_evict.specs.Looking.{IsIn}

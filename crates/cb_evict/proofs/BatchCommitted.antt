@@ -36,15 +36,7 @@ use Rattle.cb_world.specs.SetAdded.{is_far, IsMoved, IsSetAdded}
 use Rattle.cb_world.specs.SetWord.{IsSpanWord}
 use Rattle.cb_world.specs.Sets.{Kept, if_committed}
 use Rattle.cb_world.specs.Sound.{AreNoted, IsNoted, Sound}
-use Rattle.cb_world.proofs.Apart.{slot_inside, some_same}
-use Rattle.cb_world.proofs.BatchGone.{put_at, gone_sets, batch_given_up_whole}
-use Rattle.cb_world.proofs.Freed.{one_slot}
-use Rattle.cb_world.proofs.Kept.{frame_in_range}
-use Rattle.cb_world.proofs.NowKept.{put_away_now, now_kept}
-use Rattle.cb_world.proofs.Reserving.{reserved_uncommitted}
-use Rattle.cb_world.proofs.SetsLeft.{drop_count}
-use Rattle.cb_world.proofs.Storing.{drop_elsewhere}
-use Rattle.cb_world.proofs.Whole.{added_whole}
+use Rattle.cb_world.proofs.Laws.{slot_inside, some_same, put_at, gone_sets, batch_given_up_whole, one_slot, frame_in_range, put_away_now, now_kept, reserved_uncommitted, drop_count, drop_elsewhere, added_whole}
 use Rattle.cb_evict.specs.Candidates.{AreUnique}
 use Rattle.cb_evict.specs.Claims.{IsNone}
 use Rattle.cb_evict.specs.Closing.{HaveHomes, with_homes}

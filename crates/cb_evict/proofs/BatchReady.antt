@@ -12,7 +12,7 @@ use Rattle.cb_world.specs.FarSound.{of_leaving}
 use Rattle.cb_world.specs.FarState.{FarState, span_in}
 use Rattle.cb_world.specs.Leaving.{LeavingState}
 use Rattle.cb_world.specs.Sound.{AreNoted, Sound}
-use Rattle.cb_world.proofs.Kept.{frame_in_range}
+use Rattle.cb_world.proofs.Laws.{frame_in_range}
 use Rattle.cb_evict.specs.Candidates.{AreUnique}
 use Rattle.cb_evict.specs.Committing.{HasPlaces}
 use Rattle.cb_evict.specs.Sending.{IsTold}

@@ -17,7 +17,7 @@ use Rattle.cb_world.specs.FarState.{FarState}
 use Rattle.cb_world.specs.Played.{played}
 use Rattle.cb_world.specs.Sound.{Sound}
 use Rattle.cb_world.specs.Written.{written_by}
-use Rattle.cb_world.proofs.Tracing.{played_append, written_append}
+use Rattle.cb_world.proofs.Laws.{played_append, written_append}
 use Rattle.cb_evict.specs.Candidates.{candidates}
 use Rattle.cb_evict.specs.Events.{TouchesOnly, IsSteady}
 use Rattle.cb_evict.specs.Evicting.{AreTaken, IsReady, TouchesSpans}

@@ -13,15 +13,13 @@ use Rattle.cb_world.specs.Plain.{Words}
 use Rattle.cb_world.specs.RowWords.{row_of}
 use Rattle.cb_world.specs.SetWord.{IsSpanWord}
 use Rattle.cb_world.specs.World.{word_at}
-use Rattle.cb_world.proofs.Fixed.{IsOneEnd, refused_alike}
-use Rattle.cb_world.proofs.Merging.{same_data}
+use Rattle.cb_world.proofs.Laws.{IsOneEnd, refused_alike, same_data, some_same}
 use Rattle.cb_evict.specs.BeginRule.{with_batch}
 use Rattle.cb_evict.specs.BeginStep.{AreHeld, IsBatchMade, IsBeginStep, IsBegunTo, frame_rows, is_leaving, few_spans, few_nodes, begins}
 use Rattle.cb_evict.specs.EvictStep.{loose_frames}
 use Rattle.cb_evict.specs.Order.{noted_of}
 use Rattle.cb_evict.proofs.AfterEvict.{in_or_not}
 use Rattle.cb_evict.proofs.Ending.{code_range}
-use Rattle.cb_world.proofs.Apart.{some_same}
 use Rattle.cb_evict.proofs.EvictFixed.{first_loose}
 
 -- ---- the words that are noted

@@ -20,9 +20,7 @@ use Rattle.cb_world.specs.Now.{now}
 use Rattle.cb_world.specs.Performs.{Performs}
 use Rattle.cb_world.specs.Played.{played}
 use Rattle.cb_world.specs.Sound.{Sound}
-use Rattle.cb_world.proofs.AfterLook.{taken_before}
-use Rattle.cb_world.proofs.Tracing.{played_append}
-use Rattle.cb_world.proofs.Untouched.{allowed_append}
+use Rattle.cb_world.proofs.Laws.{taken_before, played_append, allowed_append}
 use Rattle.cb_evict.specs.Candidates.{candidates}
 use Rattle.cb_evict.specs.Claiming.{ClaimsSpans}
 use Rattle.cb_evict.specs.Events.{OnlyLooks}

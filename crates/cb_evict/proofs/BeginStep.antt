@@ -23,10 +23,7 @@ use Rattle.cb_world.specs.RowWords.{row_of}
 use Rattle.cb_world.specs.SetWord.{IsSpanWord}
 use Rattle.cb_world.specs.StillDesk.{plain_follows, plain_stays}
 use Rattle.cb_world.specs.World.{word_at, IsKnown}
-use Rattle.cb_world.proofs.Exact.{found_exact}
-use Rattle.cb_world.proofs.Known.{AreSeen, seen_after, seen_known}
-use Rattle.cb_world.proofs.StillWords.{word_back}
-use Rattle.cb_world.proofs.StillPerforms.{PerformsStill, RunsStill, runs_still, known_then, stays_still}
+use Rattle.cb_world.proofs.Laws.{found_exact, AreSeen, seen_after, seen_known, word_back, PerformsStill, RunsStill, runs_still, known_then, stays_still}
 use Rattle.cb_evict.specs.BeginEffect.{IsLeavingNow, IsBegun, BeginEffect}
 use Rattle.cb_evict.specs.BeginRule.{new_batch, HasBegun, HasBatch, BeginRule}
 use Rattle.cb_evict.specs.BeginStep.{AreHeld, IsBegunTo, IsBeginStep, is_leaving, few_spans, few_nodes, begins}

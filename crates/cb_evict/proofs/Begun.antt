@@ -43,11 +43,7 @@ use Rattle.cb_world.specs.Sets.{Kept, SetMap, set_in, if_committed}
 use Rattle.cb_world.specs.SetWord.{IsSpanWord}
 use Rattle.cb_world.specs.Sound.{Sound, IsNoted, AreNoted, IsLeaving}
 use Rattle.cb_world.specs.Written.{Writes}
-use Rattle.cb_world.proofs.Added.{was_far}
-use Rattle.cb_world.proofs.Apart.{slot_inside, some_same}
-use Rattle.cb_world.proofs.Freed.{one_slot}
-use Rattle.cb_world.proofs.Tracing.{found_more, taken_more}
-use Rattle.cb_world.proofs.Surveying.{stands_still, survey_stays}
+use Rattle.cb_world.proofs.Laws.{was_far, slot_inside, some_same, one_slot, found_more, taken_more, stands_still, survey_stays}
 use Rattle.cb_evict.specs.Candidates.{candidates, AreUnique}
 use Rattle.cb_evict.specs.Claims.{IsHeldAt, IsClaimedBy, IsNone, WasHere, AreClaimed}
 use Rattle.cb_evict.specs.Evicting.{AreTaken}

@@ -20,12 +20,7 @@ use Rattle.cb_world.specs.Grasped.{IsFree}
 use Rattle.cb_world.specs.FarState.{FarState}
 use Rattle.cb_world.specs.LocalSound.{LocalSound, LiesAt, IsStamped}
 use Rattle.cb_world.specs.Claimed.{IsClaimedAt}
-use Rattle.cb_world.proofs.Apart.{apart}
-use Rattle.cb_world.proofs.AfterLook.{taken_before}
-use Rattle.cb_world.proofs.Kept.{lies_within, claimed_from, claim_played}
-use Rattle.cb_world.proofs.Tracing.{found_more, found_last, taken_more, taken_after_looks, played_append}
-use Rattle.cb_world.proofs.Windows.{window_same, put_else, length_put}
-use Rattle.cb_world.proofs.Claimed.{is_claimed_at, avoids}
+use Rattle.cb_world.proofs.Laws.{apart, taken_before, lies_within, claimed_from, claim_played, found_more, found_last, taken_more, taken_after_looks, played_append, window_same, put_else, length_put, is_claimed_at, avoids}
 use Rattle.cb_evict.specs.Events.{OnlyLooks, IsSteady}
 use Rattle.cb_evict.specs.Claims.{Keeps, IsClaimedBy, WasHere, IsNone, AreClaimed, AreBack, AreApart}
 use Rattle.cb_evict.proofs.Events.{found_after, looks_change, looks_steady, steady_append}

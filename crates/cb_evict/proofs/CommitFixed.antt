@@ -8,13 +8,12 @@ use Rattle.cb_world.specs.FarState.{FarState}
 use Rattle.cb_world.specs.Leaving.{LeavingState}
 use Rattle.cb_world.specs.Plain.{Words}
 use Rattle.cb_world.specs.World.{word_at}
-use Rattle.cb_world.proofs.Fixed.{IsOneEnd, refused_alike}
+use Rattle.cb_world.proofs.Laws.{IsOneEnd, refused_alike, some_same}
 use Rattle.cb_evict.specs.Closing.{HaveHomes, with_homes}
 use Rattle.cb_evict.specs.CommitRule.{with_committed}
 use Rattle.cb_evict.specs.CommitStep.{ArePutAway, IsCommitStep, no_batch, short, committed}
 use Rattle.cb_evict.specs.Waiting.{waiting}
 use Rattle.cb_evict.proofs.Claims.{among, no_former}
-use Rattle.cb_world.proofs.Apart.{some_same}
 use Rattle.cb_evict.proofs.BeginFixed.{leaving_or_not}
 use Rattle.cb_evict.proofs.EvictFixed.{homes_fixed}
 

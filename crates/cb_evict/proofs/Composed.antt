@@ -26,9 +26,7 @@ use Rattle.cb_world.specs.Now.{now}
 use Rattle.cb_world.specs.LocalSound.{LocalSound}
 use Rattle.cb_world.specs.Sound.{Sound}
 use Rattle.cb_world.specs.Performs.{Performs}
-use Rattle.cb_world.proofs.AfterLook.{taken_before}
-use Rattle.cb_world.proofs.Tracing.{played_append, told_append, written_append}
-use Rattle.cb_world.proofs.Untouched.{allowed_append}
+use Rattle.cb_world.proofs.Laws.{taken_before, played_append, told_append, written_append, allowed_append}
 use Rattle.cb_evict.specs.Candidates.{candidates, AreLoose}
 use Rattle.cb_evict.specs.Claims.{AreClaimed}
 use Rattle.cb_evict.specs.Claiming.{IsOne, GivesBack, ClaimsSpans}

@@ -5,7 +5,7 @@ use Rattle.cb_member.specs.declared.names.Shard.{Shard}
 use Rattle.cb_node.specs.NodesState.{NodesState, with_dropped}
 use Rattle.cb_world.specs.Reserved.{put_shards}
 use Rattle.cb_world.specs.Stored.{AreThere, all_dropped}
-use Rattle.cb_world.proofs.BatchGone.{put_at}
+use Rattle.cb_world.proofs.Laws.{put_at}
 
 -- the loop's step: one position less
 drops_one : (nodes new : NodesState) (o : Option Shard) (rest : List (Option Shard))

@@ -23,7 +23,7 @@ use Rattle.cb_world.specs.Written.{Writes, written_by}
 use Rattle.cb_world.specs.FarState.{FarState, handle_in}
 use Rattle.cb_world.specs.LocalSound.{LocalSound}
 use Rattle.cb_world.specs.Sound.{Sound}
-use Rattle.cb_world.proofs.Tracing.{played_append, written_append}
+use Rattle.cb_world.proofs.Laws.{played_append, written_append, frame_owned}
 use Rattle.cb_evict.specs.Candidates.{candidates}
 use Rattle.cb_evict.specs.Claims.{AreClaimed}
 use Rattle.cb_evict.specs.Claiming.{IsOne}
@@ -38,7 +38,6 @@ use Rattle.cb_evict.specs.Sending.{AreSent}
 use Rattle.cb_evict.specs.Storing.{AreShards, KeepsSet, with_set}
 use Rattle.cb_evict.proofs.Events.{AreReads, touches_append, touches_more, no_look_append, told_words, told_objects}
 use Rattle.cb_evict.proofs.Evicts.{Done, after_far, rule_then, sound_then, effect_then, told_before}
-use Rattle.cb_world.proofs.Seen.{frame_owned}
 use Rattle.cb_evict.proofs.Owned.{claimed_held}
 use Rattle.cb_evict.proofs.Standing.{IsReadyFrame, ready_frame}
 

@@ -11,8 +11,7 @@ use Rattle.cb_world.specs.Played.{after, played}
 use Rattle.cb_world.specs.Looks.{IsLook, NoLook, IsFound, LooksFirst, told_by}
 use Rattle.cb_world.specs.Allowed.{Allowed}
 use Rattle.cb_world.specs.Written.{written_by}
-use Rattle.cb_world.proofs.Tracing.{found_more, played_append, told_append, written_append}
-use Rattle.cb_world.proofs.Untouched.{allowed_append}
+use Rattle.cb_world.proofs.Laws.{found_more, played_append, told_append, written_append, allowed_append}
 use Rattle.cb_evict.specs.Events.{TouchesOnly, OnlyLooks, IsSteady}
 use Rattle.cb_evict.specs.Loading.{OnlyLoads}
 

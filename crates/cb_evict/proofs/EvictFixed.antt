@@ -13,8 +13,7 @@ use Rattle.cb_world.specs.declared.homes.Home.{Home}
 use Rattle.cb_world.specs.Choices.{IsLeastNode}
 use Rattle.cb_world.specs.FarState.{FarState}
 use Rattle.cb_world.specs.Plain.{Words}
-use Rattle.cb_world.proofs.Fixed.{IsOneEnd, least_node_fixed, refused_alike}
-use Rattle.cb_world.proofs.Merging.{same_data}
+use Rattle.cb_world.proofs.Laws.{IsOneEnd, least_node_fixed, refused_alike, same_data}
 use Rattle.cb_evict.specs.BeginRule.{blank_shard}
 use Rattle.cb_evict.specs.Closing.{HaveHomes, with_homes}
 use Rattle.cb_evict.specs.EvictStep.{AreFrameRows, AreSentOff, IsEvictedTo, IsEvictStep, IsSetMade, loose_frames, few_spans, few_nodes, made}

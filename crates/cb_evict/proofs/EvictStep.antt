@@ -24,10 +24,7 @@ use Rattle.cb_world.specs.RowWords.{words_in}
 use Rattle.cb_world.specs.Still.{IsStill}
 use Rattle.cb_world.specs.StillDesk.{plain_follows, plain_stays}
 use Rattle.cb_world.specs.World.{word_at, IsKnown}
-use Rattle.cb_world.proofs.Exact.{found_exact, taken_exact}
-use Rattle.cb_world.proofs.NowSame.{now_same}
-use Rattle.cb_world.proofs.StillWords.{word_back}
-use Rattle.cb_world.proofs.StillPerforms.{PerformsStill, RunsStill, runs_still, known_then, stays_still}
+use Rattle.cb_world.proofs.Laws.{found_exact, taken_exact, now_same, word_back, PerformsStill, RunsStill, runs_still, known_then, stays_still}
 use Rattle.cb_evict.specs.Closing.{all_closed}
 use Rattle.cb_evict.specs.Candidates.{candidates}
 use Rattle.cb_evict.specs.EvictEffect.{HasLeft, HaveFrameRows, IsEvicted, EvictEffect}

@@ -26,10 +26,9 @@ use Rattle.cb_world.specs.declared.shown.Shown.{Shown}
 use Rattle.cb_world.specs.Shown.{IsHeld, object_at, version_at, hot_at, never}
 use Rattle.cb_world.specs.Looks.{NoLook, IsFound, IsTaken, told_by}
 use Rattle.cb_world.specs.Written.{Writes}
-use Rattle.cb_world.proofs.Tracing.{found_more, taken_more, told_append}
+use Rattle.cb_world.proofs.Laws.{found_more, taken_more, told_append, put_away_now, window_at, window_same, slot_inside, some_same, put_only, one_slot, fits_on_least, room_puts, put_there, put_elsewhere, noted_by, KeepsLeaving, batch_kept, added_whole}
 use Rattle.cb_world.specs.Memory.{window, words_for, bytes_in}
 use Rattle.cb_world.specs.Now.{held, broken_set, broken_home, is_gone, now_as, now}
-use Rattle.cb_world.proofs.NowKept.{put_away_now}
 use Rattle.cb_world.specs.RowWords.{words_in, row_of}
 use Rattle.cb_world.specs.Homes.{home_at}
 use Rattle.cb_world.specs.Leaving.{LeavingState}
@@ -41,16 +40,6 @@ use Rattle.cb_world.specs.FarSound.{HoldsObject, batch_rows}
 use Rattle.cb_world.specs.Sound.{Sound, AreNoted, IsLeaving}
 use Rattle.cb_world.specs.Sets.{Kept, if_committed, set_in}
 use Rattle.cb_world.specs.SetWord.{IsSpanWord}
-use Rattle.cb_world.proofs.Windows.{window_at, window_same}
-use Rattle.cb_world.proofs.Apart.{slot_inside, some_same}
-use Rattle.cb_world.proofs.Bridge.{put_only}
-use Rattle.cb_world.proofs.Freed.{one_slot}
-use Rattle.cb_world.proofs.FreshShard.{fits_on_least}
-use Rattle.cb_world.proofs.Rooms.{room_puts}
-use Rattle.cb_world.proofs.Storing.{put_there, put_elsewhere}
-use Rattle.cb_world.proofs.Reserving.{noted_by}
-use Rattle.cb_world.proofs.Unmoved.{KeepsLeaving, batch_kept}
-use Rattle.cb_world.proofs.Whole.{added_whole}
 use Rattle.cb_world.specs.Placed.{leaving_frames}
 use Rattle.cb_evict.specs.Candidates.{Names, candidates, AreUnique}
 use Rattle.cb_evict.specs.Claims.{IsHeldAt, IsClaimedBy, IsNone, WasHere, AreClaimed}

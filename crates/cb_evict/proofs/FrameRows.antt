@@ -15,8 +15,7 @@ use Rattle.cb_world.specs.LocalSound.{LocalSound}
 use Rattle.cb_world.specs.Memory.{window}
 use Rattle.cb_world.specs.RowWords.{row_of}
 use Rattle.cb_world.specs.Sets.{set_in}
-use Rattle.cb_world.proofs.Apart.{some_same}
-use Rattle.cb_world.proofs.Storing.{put_there}
+use Rattle.cb_world.proofs.Laws.{some_same, put_there}
 use Rattle.cb_evict.specs.BeginRule.{blank_shard}
 use Rattle.cb_evict.specs.Candidates.{Names}
 use Rattle.cb_evict.specs.EvictEffect.{HaveFrameRows}

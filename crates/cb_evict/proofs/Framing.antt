@@ -11,7 +11,7 @@ use Rattle.cb_span.specs.declared.temp.Temp.{Temp}
 use Rattle.cb_span.specs.declared.temp.Temp.TheVariants.{Hot, Cold}
 use Rattle.cb_world.specs.FarState.{FarState, span_in}
 use Rattle.cb_world.specs.Placed.{leaving_frames}
-use Rattle.cb_world.proofs.Choices.{range_more}
+use Rattle.cb_world.proofs.Laws.{range_more}
 use Rattle.cb_evict.specs.Candidates.{AreFlags, candidates, candidates_of, frames_with, has_temp, is_among, may_leave, may_leave_by}
 
 -- one number more

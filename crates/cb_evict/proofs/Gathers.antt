@@ -10,7 +10,7 @@ use Rattle.cb_world.specs.Played.{played}
 use Rattle.cb_world.specs.Looks.{LooksFirst}
 use Rattle.cb_world.specs.FarState.{FarState}
 use Rattle.cb_world.specs.LocalSound.{LocalSound}
-use Rattle.cb_world.proofs.Tracing.{played_append}
+use Rattle.cb_world.proofs.Laws.{played_append}
 use Rattle.cb_evict.specs.Events.{TouchesOnly}
 use Rattle.cb_evict.specs.Claims.{AreClaimed, AreApart, IsNone}
 use Rattle.cb_evict.specs.Claiming.{IsOne, Claims, AreOf, GivesBack}

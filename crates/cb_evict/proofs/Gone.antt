@@ -14,7 +14,7 @@ use Rattle.cb_world.specs.declared.shown.Shown.{Shown}
 use Rattle.cb_world.specs.Shown.{object_at, version_at, never}
 use Rattle.cb_world.specs.FarState.{FarState, span_in, resident, handle_in}
 use Rattle.cb_world.specs.LocalSound.{LocalSound, LiesAt, IsStamped}
-use Rattle.cb_world.proofs.Freed.{one_slot}
+use Rattle.cb_world.proofs.Laws.{one_slot}
 use Rattle.cb_evict.specs.Looking.{IsIn}
 use Rattle.cb_evict.specs.Closing.{all_given, all_closed, with_homes}
 use Rattle.cb_evict.proofs.Homing.{closed_else, given_else, length_closed, length_given}

@@ -63,3 +63,4 @@ pub mod ShippedFar
 pub mod ShipParts
 pub mod ShipStep
 pub mod ShipFixed
+pub mod Laws

@@ -11,7 +11,7 @@ use Rattle.cb_world.specs.declared.event.Event.{Event}
 use Rattle.cb_world.specs.Looks.{NoLook, IsFound}
 use Rattle.cb_world.specs.Grasped.{IsFree}
 use Rattle.cb_world.specs.FarState.{span_in, handle_in}
-use Rattle.cb_world.proofs.Tracing.{found_more}
+use Rattle.cb_world.proofs.Laws.{found_more}
 use Rattle.cb_evict.specs.Candidates.{Names, IsLoose, IsSeen, IsBarred, IsHeldUp, AreLoose, AreUnique}
 use Rattle.cb_evict.specs.Events.{TouchesOnly}
 use Rattle.cb_evict.specs.Looking.{Has, IsIn}

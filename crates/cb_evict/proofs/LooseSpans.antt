@@ -15,7 +15,7 @@ use Rattle.cb_world.specs.Grasped.{IsFree}
 use Rattle.cb_world.specs.Looks.{LooksFirst}
 use Rattle.cb_world.specs.Plain.{Words, Plain}
 use Rattle.cb_world.specs.World.{word_at}
-use Rattle.cb_world.proofs.Exact.{found_exact}
+use Rattle.cb_world.proofs.Laws.{found_exact}
 use Rattle.cb_evict.specs.Candidates.{candidates, IsLoose, IsHeldUp, AreLoose}
 use Rattle.cb_evict.specs.Looking.{Has}
 use Rattle.cb_evict.specs.EvictStep.{is_here, is_slot_loose, is_loose, loose_frames}

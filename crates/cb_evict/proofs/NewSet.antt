@@ -22,8 +22,7 @@ use Rattle.cb_world.specs.LocalSound.{LocalSound}
 use Rattle.cb_world.specs.SetWord.{AreCurrent}
 use Rattle.cb_world.specs.Reserved.{table_of, position_for}
 use Rattle.cb_world.specs.Sets.{Kept, SetMap, set_in, if_committed}
-use Rattle.cb_world.proofs.FreshShard.{IsUpShard, undrawn_is_fresh, up_is_current, up_is_kept, up_on_least}
-use Rattle.cb_world.proofs.Storing.{InRange, KeysApart}
+use Rattle.cb_world.proofs.Laws.{IsUpShard, undrawn_is_fresh, up_is_current, up_is_kept, up_on_least, InRange, KeysApart}
 use Rattle.cb_evict.specs.Storing.{AreShards, CanPut, set_for}
 
 some_same : {X : Type 0} (a b : X) → Some a ≡ Some b → a ≡ b

@@ -18,7 +18,7 @@ use Rattle.cb_world.specs.Sound.{AreNoted, IsNoted, Sound}
 use Rattle.cb_world.specs.FarSound.{of_leaving}
 use Rattle.cb_world.specs.Reserved.{put_shards}
 use Rattle.cb_world.specs.Stored.{AreThere}
-use Rattle.cb_world.proofs.BatchGone.{put_from}
+use Rattle.cb_world.proofs.Laws.{put_from}
 use Rattle.cb_evict.specs.Claims.{AreApart, IsNone}
 use Rattle.cb_evict.specs.Restoring.{IsClaimedFrom}
 use Rattle.cb_evict.proofs.Standing.{named_at, names_span}

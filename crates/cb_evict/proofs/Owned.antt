@@ -14,9 +14,7 @@ use Rattle.cb_world.specs.Memory.{window}
 use Rattle.cb_world.specs.RowWords.{words_in, words_from, row_of}
 use Rattle.cb_world.specs.FarState.{FarState, span_in}
 use Rattle.cb_world.specs.LocalSound.{LocalSound, LiesAt}
-use Rattle.cb_world.proofs.RowWords.{words_of_row, windows_agree}
-use Rattle.cb_world.proofs.Windows.{window_same, window_at}
-use Rattle.cb_world.proofs.Seen.{frame_spares}
+use Rattle.cb_world.proofs.Laws.{words_of_row, windows_agree, window_same, window_at, frame_spares}
 use Rattle.cb_evict.specs.Claims.{Keeps, AreClaimed, IsClaimedBy}
 use Rattle.cb_evict.specs.Claiming.{IsOne}
 

@@ -7,7 +7,7 @@ use Rattle.cb_member.specs.declared.names.Shard.{Shard}
 use Rattle.cb_node.specs.NodesState.{NodesState, has, with_row, with_dropped}
 use Rattle.cb_node.proofs.Laws.{put_then_dropped}
 use Rattle.cb_world.specs.Stored.{all_put}
-use Rattle.cb_world.proofs.Storing.{put_elsewhere}
+use Rattle.cb_world.proofs.Laws.{put_elsewhere}
 use Rattle.cb_evict.specs.Storing.{CanPut}
 
 -- one row more is put

@@ -10,7 +10,7 @@ use Rattle.cb_world.specs.Played.{played}
 use Rattle.cb_world.specs.FarState.{FarState}
 use Rattle.cb_world.specs.LocalSound.{LocalSound}
 use Rattle.cb_world.specs.Sound.{Sound}
-use Rattle.cb_world.proofs.Unmoved.{keeps_all, sound_near}
+use Rattle.cb_world.proofs.Laws.{keeps_all, sound_near}
 use Rattle.cb_evict.specs.Claims.{AreClaimed, AreBack}
 use Rattle.cb_evict.specs.Events.{TouchesOnly, OnlyLooks, IsSteady}
 use Rattle.cb_world.specs.Still.{IsStill}

@@ -18,9 +18,7 @@ use Rattle.cb_world.specs.Written.{written_by}
 use Rattle.cb_world.specs.FarState.{FarState}
 use Rattle.cb_world.specs.LocalSound.{LocalSound, LiesAt, IsStamped}
 use Rattle.cb_world.specs.Claimed.{IsClaimedAt}
-use Rattle.cb_world.proofs.Claimed.{may_put_back, settled_here, back_written}
-use Rattle.cb_world.proofs.Tracing.{played_append, written_append}
-use Rattle.cb_world.proofs.Untouched.{allowed_append}
+use Rattle.cb_world.proofs.Laws.{may_put_back, settled_here, back_written, played_append, written_append, allowed_append}
 use Rattle.cb_world.specs.Looks.{NoLook}
 use Rattle.cb_evict.specs.Claims.{AreApart, AreBack, IsHeldAt}
 use Rattle.cb_evict.specs.Claiming.{IsOne}

@@ -9,11 +9,10 @@ use Rattle.cb_world.specs.Choices.{IsLeastNode}
 use Rattle.cb_world.specs.FarState.{FarState}
 use Rattle.cb_world.specs.Leaving.{LeavingState}
 use Rattle.cb_world.specs.Plain.{Words}
-use Rattle.cb_world.proofs.Fixed.{IsOneEnd, least_node_fixed, refused_alike}
+use Rattle.cb_world.proofs.Laws.{IsOneEnd, least_node_fixed, refused_alike, some_same}
 use Rattle.cb_evict.specs.ShipRule.{HasNoNode, HasShipped, Ships, other_puts, with_shipped}
 use Rattle.cb_evict.specs.ShipStep.{IsShipStep, rows_at_desk}
 use Rattle.cb_evict.specs.Waiting.{least_waiting}
-use Rattle.cb_world.proofs.Apart.{some_same}
 use Rattle.cb_evict.proofs.BeginFixed.{leaving_or_not}
 
 none_some : {A : Type 0} (a : A) → None ≡ Some a → ⊥

@@ -21,7 +21,7 @@ use Rattle.cb_world.specs.Placed.{leaving_frames}
 use Rattle.cb_world.specs.Played.{played}
 use Rattle.cb_world.specs.RowWords.{row_of}
 use Rattle.cb_world.specs.Sound.{Sound}
-use Rattle.cb_world.proofs.Seen.{batch_owned}
+use Rattle.cb_world.proofs.Laws.{batch_owned}
 use Rattle.cb_world.specs.Still.{IsStill}
 use Rattle.cb_evict.specs.Loading.{LiesIn, LiesInOne, OnlyLoads, LoadsFrame}
 use Rattle.cb_evict.specs.ShipRule.{IsShardFor, ReadsLeaving, ShipEffect, ShipRule, Ships, with_shipped}

@@ -14,7 +14,7 @@ use Rattle.cb_world.specs.Played.{played}
 use Rattle.cb_world.specs.RowWords.{row_of}
 use Rattle.cb_world.specs.Still.{IsStill}
 use Rattle.cb_world.specs.World.{IsKnown}
-use Rattle.cb_world.proofs.StillPerforms.{PerformsStill, runs_still, known_then, stays_still}
+use Rattle.cb_world.proofs.Laws.{PerformsStill, runs_still, known_then, stays_still}
 use Rattle.cb_evict.specs.Loading.{LiesInOne}
 use Rattle.cb_evict.specs.ShipRule.{ReadsLeaving, ShipEffect, ShipRule, Ships}
 use Rattle.cb_evict.specs.ShipStep.{IsShipStep}

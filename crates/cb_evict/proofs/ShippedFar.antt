@@ -13,11 +13,7 @@ use Rattle.cb_world.specs.Leaving.{LeavingState}
 use Rattle.cb_world.specs.FarState.{FarState}
 use Rattle.cb_world.specs.FarSound.{Owner, of_set, of_leaving, of_joining, IsShardOf, AwaySound, batch_rows}
 use Rattle.cb_world.specs.Sound.{AreNoted, IsNoted, IsLeaving, Sound}
-use Rattle.cb_world.proofs.FreshShard.{fits_on_least, up_on_least}
-use Rattle.cb_world.proofs.NodeJoin.{local_stays}
-use Rattle.cb_world.proofs.PlaceSet.{place_back, place_here, place_on}
-use Rattle.cb_world.proofs.RowPut.{HasRowPut, IsNewOr, IsRefilled, row_put_away, row_put_join}
-use Rattle.cb_world.proofs.Surveying.{survey_same}
+use Rattle.cb_world.proofs.Laws.{fits_on_least, up_on_least, local_stays, place_back, place_here, place_on, HasRowPut, IsNewOr, IsRefilled, row_put_away, row_put_join, survey_same}
 use Rattle.cb_evict.specs.ShipRule.{IsShardFor, other_puts, with_shard_at, with_shipped}
 use Rattle.cb_evict.specs.Waiting.{is_waiting, least_waiting}
 use Rattle.cb_evict.proofs.PutShards.{others_off}

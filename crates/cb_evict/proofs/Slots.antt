@@ -12,7 +12,7 @@ use Rattle.cb_world.specs.declared.event.Event.{Event}
 use Rattle.cb_world.specs.declared.event.Event.TheVariants.{Looked, Claimed, Told, Loaded, Stored, Stamped, Settled}
 use Rattle.cb_world.specs.Looks.{AreLooks, IsFound, LooksFirst, NoLook}
 use Rattle.cb_world.specs.Grasped.{IsFree}
-use Rattle.cb_world.proofs.Tracing.{found_more}
+use Rattle.cb_world.proofs.Laws.{found_more}
 use Rattle.cb_evict.specs.Looking.{IsSlotLoose, IsSlotHeldUp, SlotFinds, SpanFinds}
 use Rattle.cb_evict.proofs.Events.{touches_quiet, found_after}
 use Rattle.cb_world.specs.FarState.{FarState}

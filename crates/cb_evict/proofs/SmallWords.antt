@@ -6,8 +6,7 @@ use Rattle.std.proofs.lemmas.List.{take_at, drop_at, get_or_default}
 use Rattle.cb_world.specs.Memory.{window}
 use Rattle.cb_world.specs.RowWords.{words_from, words_in, row_of}
 use Rattle.cb_world.specs.StillDesk.{window_length}
-use Rattle.cb_world.proofs.RowWords.{windows_agree}
-use Rattle.cb_world.proofs.Windows.{window_at}
+use Rattle.cb_world.proofs.Laws.{windows_agree, window_at}
 
 -- a small word of a row is that of which it was made
 word_of_row : (ws : List ℕ) (i : ℕ) → i < length ws → get_or ws i 0 < 2 ^ 64

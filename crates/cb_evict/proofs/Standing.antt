@@ -17,8 +17,7 @@ use Rattle.cb_world.specs.declared.shown.Shown.{Shown}
 use Rattle.cb_world.specs.Shown.{object_at, never}
 use Rattle.cb_world.specs.FarState.{FarState, span_in, resident, handle_in}
 use Rattle.cb_world.specs.LocalSound.{LocalSound, LiesAt}
-use Rattle.cb_world.proofs.Freed.{one_slot}
-use Rattle.cb_world.proofs.Kept.{frame_in_range}
+use Rattle.cb_world.proofs.Laws.{one_slot, frame_in_range}
 use Rattle.cb_world.specs.Placed.{leaving_frames}
 use Rattle.cb_evict.specs.Candidates.{is_among, same_temp, has_temp, may_leave, frames_with, candidates, Names, AreUnique}
 

@@ -18,9 +18,7 @@ use Rattle.cb_world.specs.Plain.{Words}
 use Rattle.cb_world.specs.Reserved.{position_for, put_shards, set_from}
 use Rattle.cb_world.specs.Sound.{Sound}
 use Rattle.cb_world.specs.Stored.{all_dropped, all_put}
-use Rattle.cb_world.proofs.Codes.{HasCode, codes_put, codes_removed}
-use Rattle.cb_world.proofs.SetsLeft.{drop_count, drop_room}
-use Rattle.cb_world.proofs.Staying.{IsLike, Rises, StaysIf, stays_like, stays_same}
+use Rattle.cb_world.proofs.Laws.{HasCode, codes_put, codes_removed, drop_count, drop_room, IsLike, Rises, StaysIf, stays_like, stays_same}
 use Rattle.cb_evict.specs.AbortRule.{AbortRule, HasGivenUp}
 use Rattle.cb_evict.specs.BeginRule.{BeginRule, new_batch, with_batch}
 use Rattle.cb_evict.specs.Closing.{with_homes}

@@ -10,7 +10,7 @@ use Rattle.std.proofs.lemmas.Option.{slice_get-get_or}
 use Rattle.cb_member.specs.declared.names.Shard.{Shard}
 use Rattle.cb_member.specs.Membership.{Membership}
 use Rattle.cb_set.specs.Lost.{is_lost}
-use Rattle.cb_world.proofs.Choices.{range_more}
+use Rattle.cb_world.proofs.Laws.{range_more}
 use Rattle.cb_evict.specs.Waiting.{is_waiting, waits_at, waiting, least_waiting}
 
 -- those of the first n positions that wait

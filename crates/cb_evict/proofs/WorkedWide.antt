@@ -10,7 +10,7 @@ use Rattle.cb_class.specs.Class.{IsClassOf, bytes_of, slots_of, words_of}
 use Rattle.cb_frame.specs.FreeFrames.{IsFree}
 use Rattle.cb_member.specs.declared.names.Shard.{Shard}
 use Rattle.cb_member.specs.Membership.{fresh_members}
-use Rattle.cb_member.proofs.Fresh.{fresh-IsMembership}
+use Rattle.cb_member.proofs.Laws.{fresh-IsMembership}
 use Rattle.cb_node.specs.NodesState.{empty_nodes, row_at as row_under}
 use Rattle.cb_ptr.specs.declared.word.State.TheVariants as word
 use Rattle.cb_ptr.specs.Steps.{Claims}
@@ -40,9 +40,7 @@ use Rattle.cb_world.specs.Shown.{Fits, object_at, version_at, never}
 use Rattle.cb_world.specs.Sound.{Sound}
 use Rattle.cb_world.specs.Survey.{no_survey}
 use Rattle.cb_world.specs.World.{IsKnown, word_at}
-use Rattle.cb_world.proofs.Apart.{some_same}
-use Rattle.cb_world.proofs.Rooms.{room_empty}
-use Rattle.cb_world.proofs.Surveying.{unsurveyed}
+use Rattle.cb_world.proofs.Laws.{some_same, room_empty, unsurveyed}
 use Rattle.cb_evict.specs.BeginRule.{with_batch, new_batch}
 use Rattle.cb_evict.specs.BeginStep.{AreHeld, IsBegunTo, IsBeginStep, begins}
 use Rattle.cb_evict.specs.Looking.{IsIn}

@@ -10,8 +10,7 @@ use Rattle.cb_world.specs.FarState.{FarState, span_in}
 use Rattle.cb_world.specs.LocalSound.{AreFrames}
 use Rattle.cb_world.specs.Placed.{Slot, IsChosen, with_object}
 use Rattle.cb_world.specs.Released.{spans_without, frames_without, with_released}
-use Rattle.cb_world.proofs.Apart.{some_same}
-use Rattle.cb_world.proofs.Slots.{chosen_empty}
+use Rattle.cb_world.proofs.Laws.{some_same, chosen_empty}
 use Rattle.cb_filter.specs.Seats.{Seat, with_moved}
 use Rattle.cb_filter.specs.Plans.{LiesIn}
 use Rattle.cb_filter.proofs.Seated.{seat_there}

@@ -16,10 +16,7 @@ use Rattle.cb_world.specs.Played.{Agree, after, played}
 use Rattle.cb_world.specs.Allowed.{Allowed}
 use Rattle.cb_world.specs.Written.{Writes, written_by, adds_as, entry}
 use Rattle.cb_world.specs.Claimed.{IsClaimedAt}
-use Rattle.cb_world.proofs.Windows.{window_put, length_put}
-use Rattle.cb_world.proofs.Claimed.{held, settled_here}
-use Rattle.cb_world.proofs.Tracing.{played_append}
-use Rattle.cb_world.proofs.Untouched.{allowed_append}
+use Rattle.cb_world.proofs.Laws.{window_put, length_put, held, settled_here, played_append, allowed_append}
 use Rattle.cb_filter.specs.Copies.{IsCoolWord, IsVacant, copied_from}
 use Rattle.cb_filter.specs.ClaimEnds.{IsCarried, IsSettledBack}
 use Rattle.cb_filter.proofs.Copied.{copied_played, copied_allowed, copied_words, copied_written, owns_lie}

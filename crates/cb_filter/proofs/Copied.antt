@@ -14,7 +14,7 @@ use Rattle.cb_world.specs.Looks.{NoLook, NoClaim, LooksFirst, told_by}
 use Rattle.cb_world.specs.Touches.{SettlesLast}
 use Rattle.cb_world.specs.Allowed.{Allowed}
 use Rattle.cb_world.specs.Written.{written_by}
-use Rattle.cb_world.proofs.Windows.{window_same, length_put}
+use Rattle.cb_world.proofs.Laws.{window_same, length_put}
 use Rattle.cb_filter.specs.Copies.{copied_from}
 
 -- one word more is copied

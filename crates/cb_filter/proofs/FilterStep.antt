@@ -28,10 +28,7 @@ use Rattle.cb_world.specs.Still.{IsStill}
 use Rattle.cb_world.specs.StillDesk.{here_is as fits_here, plain_follows, plain_stays}
 use Rattle.cb_world.specs.StillWords.{stamp_at, contents_at}
 use Rattle.cb_world.specs.World.{word_at, IsKnown}
-use Rattle.cb_world.proofs.Exact.{found_exact, taken_exact}
-use Rattle.cb_world.proofs.Known.{HereIs, AreSeen, seen_after, seen_known}
-use Rattle.cb_world.proofs.StillWords.{told_exact, FreeIs, free_after, one_exact}
-use Rattle.cb_world.proofs.StillPerforms.{PerformsStill, RunsStill, runs_still, known_then, stays_still}
+use Rattle.cb_world.proofs.Laws.{found_exact, taken_exact, HereIs, AreSeen, seen_after, seen_known, told_exact, FreeIs, free_after, one_exact, PerformsStill, RunsStill, runs_still, known_then, stays_still}
 use Rattle.cb_filter.specs.Seats.{Seat, temp_for}
 use Rattle.cb_filter.specs.FilterRule.{EmptyAnswer, AbsentAs, IsInPlace, HasNoSlot, GetsSlot, FilterSeated, FilterHere, FilterAs, FilterRule, NeedsMemory}
 use Rattle.cb_filter.specs.FilterEffect.{IsCooled, IsMoved, FilterEffect}

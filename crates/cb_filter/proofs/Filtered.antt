@@ -22,10 +22,7 @@ use Rattle.cb_world.specs.LocalSound.{HasSlot}
 use Rattle.cb_world.specs.Now.{is_gone, now}
 use Rattle.cb_world.specs.Sound.{Sound}
 use Rattle.cb_world.specs.Placed.{Slot, IsChosen, place_in}
-use Rattle.cb_world.proofs.Windows.{window_put, length_put}
-use Rattle.cb_world.proofs.Kept.{claimed_from}
-use Rattle.cb_world.proofs.AfterClaim.{IsAfterClaim}
-use Rattle.cb_world.proofs.AfterLook.{told_before}
+use Rattle.cb_world.proofs.Laws.{window_put, length_put, claimed_from, IsAfterClaim, told_before}
 use Rattle.cb_filter.specs.Seats.{Seat, IsSeatOf, temp_for}
 use Rattle.cb_filter.specs.FilterRule.{EmptyAnswer, GetsSlot, FilterHere, FilterAs, NeedsMemory}
 use Rattle.cb_filter.specs.FilterEffect.{FilterEffect}

@@ -13,3 +13,4 @@ pub mod WorkedSeats
 mod WorkedFilter
 mod WorkedFilterStep
 mod WorkedMemory
+pub mod Laws

@@ -20,14 +20,7 @@ use Rattle.cb_world.specs.LocalSound.{HasSlot}
 use Rattle.cb_world.specs.Sound.{Sound}
 use Rattle.cb_world.specs.Placed.{Slot, IsChosen, place_in}
 use Rattle.cb_world.specs.Released.{is_last, frames_without, with_released}
-use Rattle.cb_world.proofs.Apart.{slot_inside}
-use Rattle.cb_world.proofs.Windows.{length_put}
-use Rattle.cb_world.proofs.Kept.{frame_in_range}
-use Rattle.cb_world.proofs.Claimed.{lies}
-use Rattle.cb_world.proofs.Beside.{put_beside}
-use Rattle.cb_world.proofs.Gone.{sound_gone}
-use Rattle.cb_world.proofs.Slots.{IsEmptySlot, chosen_empty, chosen_class, chosen_stays}
-use Rattle.cb_world.proofs.Placed.{IsCounted, made_counted, slot_bounds, may_lie, sound_brought, with_made}
+use Rattle.cb_world.proofs.Laws.{slot_inside, length_put, frame_in_range, lies, put_beside, sound_gone, IsEmptySlot, chosen_empty, chosen_class, chosen_stays, IsCounted, made_counted, slot_bounds, may_lie, sound_brought, with_made}
 use Rattle.cb_filter.specs.Seats.{Seat, with_moved}
 use Rattle.cb_filter.specs.Plans.{LiesIn}
 use Rattle.cb_filter.proofs.Berths.{apart_frame}

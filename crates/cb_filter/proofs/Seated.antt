@@ -3,8 +3,7 @@ use Rattle.std.proofs.Common.{◌≡◌, ℕ, ap, ◌∙◌, Some, None}
 use Rattle.cb_span.specs.Contents.{Contents}
 use Rattle.cb_span.specs.Places.{frame_of}
 use Rattle.cb_world.specs.FarState.{FarState, span_in}
-use Rattle.cb_world.proofs.Apart.{some_same}
-use Rattle.cb_world.proofs.SlotFinding.{frame_is}
+use Rattle.cb_world.proofs.Laws.{some_same, frame_is}
 use Rattle.cb_filter.specs.Seats.{Seat}
 use Rattle.cb_filter.specs.Plans.{LiesIn}
 

@@ -20,11 +20,7 @@ use Rattle.cb_world.specs.FarState.{FarState}
 use Rattle.cb_world.specs.Sound.{Sound}
 use Rattle.cb_world.specs.Now.{held, is_gone, now_as, now}
 use Rattle.cb_world.specs.StillDesk.{window_length}
-use Rattle.cb_world.proofs.Windows.{window_put, window_same, length_put, put_else}
-use Rattle.cb_world.proofs.Kept.{claimed_from, set_back}
-use Rattle.cb_world.proofs.AfterClaim.{IsAfterClaim}
-use Rattle.cb_world.proofs.Beside.{sound_beside, put_beside}
-use Rattle.cb_world.proofs.NowKept.{now_kept}
+use Rattle.cb_world.proofs.Laws.{window_put, window_same, length_put, put_else, claimed_from, set_back, IsAfterClaim, sound_beside, put_beside, now_kept}
 use Rattle.cb_filter.specs.ClaimEnds.{IsSettledBack}
 use Rattle.cb_filter.specs.FilterEffect.{IsCooled}
 

@@ -8,8 +8,7 @@ use Rattle.cb_types.specs.declared.reply.Reply.{Reply}
 use Rattle.cb_world.specs.declared.event.Event.{Event}
 use Rattle.cb_world.specs.FarState.{FarState}
 use Rattle.cb_world.specs.Placed.{with_object}
-use Rattle.cb_world.proofs.Codes.{codes_stay}
-use Rattle.cb_world.proofs.Staying.{IsLike, StaysIf, stays_like, stays_same}
+use Rattle.cb_world.proofs.Laws.{codes_stay, IsLike, StaysIf, stays_like, stays_same}
 use Rattle.cb_filter.specs.FilterRule.{FilterAs, FilterRule, FilterSeated}
 use Rattle.cb_filter.specs.Seats.{Seat, temp_for, with_moved}
 

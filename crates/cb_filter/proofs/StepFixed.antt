@@ -14,7 +14,7 @@ use Rattle.cb_world.specs.Placed.{Slot, IsChosen, IsCrammed, place_in}
 use Rattle.cb_world.specs.Plain.{Words}
 use Rattle.cb_world.specs.StillWords.{stamp_at}
 use Rattle.cb_world.specs.World.{word_at}
-use Rattle.cb_world.proofs.Fixed.{IsOneEnd, refused_alike, chosen_fixed, not_crammed, seat_fixed}
+use Rattle.cb_world.proofs.Laws.{IsOneEnd, refused_alike, chosen_fixed, not_crammed, seat_fixed}
 use Rattle.cb_filter.specs.Seats.{Seat, IsSeatOf, with_moved}
 use Rattle.cb_filter.specs.FilterRule.{EmptyAnswer, GetsSlot, HasNoSlot, IsInPlace}
 use Rattle.cb_filter.specs.FilterStep.{IsFilterStep, IsFreeIn, RefusesAs, temp_of, with_carried_to, with_cooled, refused, cools, without_slot, moves}

@@ -19,7 +19,7 @@ use Rattle.cb_world.specs.Looks.{NoLook}
 use Rattle.cb_world.specs.Touches.{SettlesLast}
 use Rattle.cb_world.specs.Allowed.{Allowed}
 use Rattle.cb_world.specs.Settling.{MaySettle}
-use Rattle.cb_world.proofs.Windows.{length_put}
+use Rattle.cb_world.proofs.Laws.{length_put}
 use Rattle.cb_filter.specs.declared.planning.Plan.TheVariants as plan
 use Rattle.cb_filter.specs.FilterEffect.{IsCooled, IsMoved, FilterEffect}
 use Rattle.cb_filter.specs.Copies.{copied_from, IsCoolWord, IsVacant}

@@ -7,7 +7,7 @@ use Rattle.cb_world.specs.FarState.{FarState}
 use Rattle.cb_world.specs.Memory.{put, window}
 use Rattle.cb_world.specs.Placed.{place_in}
 use Rattle.cb_world.specs.Plain.{Words}
-use Rattle.cb_world.proofs.Apart.{some_same}
+use Rattle.cb_world.proofs.Laws.{some_same}
 use Rattle.cb_filter.specs.FilterStep.{cool_word, with_cooled, with_carried_to, RefusesAs, IsFreeIn, IsFilterStep, refused, cools, without_slot, moves}
 use Rattle.cb_filter.proofs.WorkedSeats.{config, far, moved, full, seat, slot, stands, gets, in_place, no_slot, hot_cold, word}
 

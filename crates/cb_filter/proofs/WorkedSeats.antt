@@ -12,7 +12,7 @@ use Rattle.cb_world.specs.declared.event.Event.TheVariants.{Looked, Claimed, Tol
 use Rattle.cb_world.specs.Empty.{empty_far}
 use Rattle.cb_world.specs.FarState.{FarState}
 use Rattle.cb_world.specs.Placed.{HasRoom, Slot, IsChosen}
-use Rattle.cb_world.proofs.Apart.{some_same}
+use Rattle.cb_world.proofs.Laws.{some_same}
 use Rattle.cb_filter.specs.Seats.{Seat, IsSeatOf, temp_for, with_moved}
 use Rattle.cb_filter.specs.FilterRule.{EmptyAnswer, AbsentAs, IsInPlace, HasNoSlot, GetsSlot, WasClaimed, FilterHere, FilterAs, FilterRule, NeedsMemory}
 use Rattle.cb_filter.specs.Refused.{RefusedAs}

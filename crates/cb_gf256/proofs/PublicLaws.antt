@@ -16,6 +16,10 @@ pub use Rattle.cb_gf256.proofs.LagrangeLemmas.{ascending_apart}
 pub use Rattle.cb_gf256.proofs.Writes.{below_more_set}
 pub use Rattle.cb_gf256.proofs.Summing.{row_at-rows_at as row_at_positions, all_rows}
 pub use Rattle.cb_gf256.proofs.Units.{unit_rows, column_rows, length-unit_rows as unit_rows_count, AreRows-unit_rows as unit_rows_are_rows, unit_combinations, HoldBytes-column_rows as column_rows_are_bytes, same_columns}
+pub use Rattle.cb_gf256.proofs.LagrangeLemmas.{basis_of, interpolates}
+pub use Rattle.cb_gf256.proofs.Placing.{block_placed, kept_lengths, placed_none, placed_same, restored_before, restored_combinations, restored_kept, restored_none, source_rows}
+pub use Rattle.cb_gf256.proofs.Words.{HoldBytes-from_byte_at, same_rows}
+pub use Rattle.cb_gf256.proofs.WorkedPlacing.{lost, present, splits}
 
 -- what a caller of `row_mut` lists to read the rows that it has written
 pub ruleset written_rows = (written_count, written_row)

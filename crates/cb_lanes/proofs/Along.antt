@@ -21,8 +21,7 @@ use Rattle.cb_model.specs.Called.{first_of, handle_of, handle_made, handle_named
 use Rattle.cb_model.specs.Now.{Now as MapNow}
 use Rattle.cb_model.specs.Replies.{MapReplies}
 use Rattle.cb_model.specs.Legal.{Follow, IsMapReply}
-use Rattle.cb_model.proofs.Naming.{calls_of-push, handle_of-push, Follow-push}
-use Rattle.cb_model.proofs.Order.{makes-le, makes-push}
+use Rattle.cb_model.proofs.Laws.{calls_of-push, handle_of-push, Follow-push, makes-le, makes-push}
 use Rattle.cb_script.specs.declared.script.Line.{Line}
 use Rattle.cb_script.specs.Form.{IsRequest, AreLines}
 use Rattle.cb_script.specs.Unbuilt.{IsBuilt}
@@ -30,13 +29,11 @@ use Rattle.cb_world.specs.FarState.{FarState}
 use Rattle.cb_world.specs.Seats.{pins_of_seat}
 use Rattle.cb_world.specs.World.{WorldState, IsSoundWorld, empty_world}
 use Rattle.cb_mutate.specs.MapBeside.{IsMapBeside}
-use Rattle.cb_mutate.proofs.MapBeside.{is_map_reply, is_map_make, beside_kept, empty_beside}
+use Rattle.cb_mutate.proofs.Laws.{is_map_reply, is_map_make, beside_kept, empty_beside}
 use Rattle.cb_core.specs.declared.event.Event.TheVariants.{Turn}
-use Rattle.cb_core.proofs.Settings.{step_settings}
+use Rattle.cb_core.proofs.Laws.{step_settings}
 use Rattle.cb_world.specs.Empty.{empty_words, empty_far, empty_shown}
-use Rattle.cb_world.proofs.Empty.{empty_shows, empty_sound}
-use Rattle.cb_world.proofs.NowSame.{now_same}
-use Rattle.cb_world.proofs.Worlds.{empty_world_sound}
+use Rattle.cb_world.proofs.Laws.{empty_shows, empty_sound, now_same, empty_world_sound}
 use Rattle.cb_lanes.specs.Asked.{answer_to, asked, HasLineReply}
 use Rattle.cb_lanes.specs.Held.{HoldsAnswers}
 use Rattle.cb_lanes.specs.GivingBack.{Rests, lines_of}

@@ -13,8 +13,7 @@ use Rattle.cb_filter.specs.FilterRule.{EmptyAnswer}
 use Rattle.cb_filter.specs.FilterStep.{RefusesAs, IsFilterStep, refused, cools, without_slot, moves}
 use Rattle.cb_core.specs.Step.{TurnStep}
 use Rattle.cb_core.specs.Turned.{counted}
-use Rattle.cb_core.proofs.TurnCalls.{is_done}
-use Rattle.cb_core.proofs.TurnCallsPinned.{IsPinCount}
+use Rattle.cb_core.proofs.Laws.{is_done, IsPinCount}
 
 empty_pinned : (version count : ℕ) → EmptyAnswer version (answer.Pinned count) → ⊥
 empty_pinned zero count e = cc

@@ -16,15 +16,13 @@ use Rattle.cb_world.specs.Now.{now}
 use Rattle.cb_world.specs.Plain.{Words}
 use Rattle.cb_world.specs.Seats.{IsNewest, NoneOn, SeatState, idle_seat, pins_of_seat, with_pins}
 use Rattle.cb_world.specs.World.{WorldState, IsKnown, IsSoundWorld, word_at}
-use Rattle.cb_world.proofs.PinNow.{pinned_now, unpinned_now}
-use Rattle.cb_world.proofs.Pins.{pin_counts}
+use Rattle.cb_world.proofs.Laws.{pinned_now, unpinned_now, pin_counts}
 use Rattle.cb_core.specs.declared.event.Event.{Event}
 use Rattle.cb_core.specs.Pinning.{PinStep, scope_full, refused, taken, UnpinStep, not_pinned, given, IsPinGiven}
 use Rattle.cb_core.specs.Step.{Leads}
-use Rattle.cb_core.proofs.PinsKept.{pin_step_sound, unpin_step_sound}
+use Rattle.cb_core.proofs.Laws.{pin_step_sound, unpin_step_sound, known_same}
 use Rattle.cb_lanes.specs.GivingBack.{end_of, GivesAll}
 use Rattle.cb_lanes.proofs.PinLists.{newest_last, none_last, remove_last}
-use Rattle.cb_core.proofs.TurnCallsKept.{known_same}
 
 -- ---- what stays
 

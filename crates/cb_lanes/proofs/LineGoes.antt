@@ -14,7 +14,7 @@ use Rattle.cb_script.specs.declared.script.Line.{Line}
 use Rattle.cb_world.specs.World.{WorldState}
 use Rattle.cb_mutate.specs.MapCalls.{IsMakeCall}
 use Rattle.cb_core.specs.Step.{TurnStep}
-use Rattle.cb_core.proofs.TurnCalls.{read_turn, write_turn, free_turn, make_turn, filter_turn}
+use Rattle.cb_core.proofs.Laws.{read_turn, write_turn, free_turn, make_turn, filter_turn}
 use Rattle.cb_lanes.specs.Asked.{answer_to}
 use Rattle.cb_lanes.proofs.Turning.{Turning, Goes, call_goes, refused_goes}
 

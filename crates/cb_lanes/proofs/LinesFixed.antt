@@ -17,11 +17,11 @@ use Rattle.cb_world.specs.Memory.{bytes_in}
 use Rattle.cb_world.specs.Seats.{pins_of_seat}
 use Rattle.cb_world.specs.StillWords.{contents_at}
 use Rattle.cb_world.specs.World.{WorldState, IsSoundWorld, word_at}
-use Rattle.cb_world.proofs.Apart.{some_same}
+use Rattle.cb_world.proofs.Laws.{some_same}
 use Rattle.cb_core.specs.declared.event.Atomic.TheVariants as atomic
 use Rattle.cb_core.specs.declared.event.Event.TheVariants.{Turn}
 use Rattle.cb_core.specs.Step.{Leads}
-use Rattle.cb_core.proofs.StepFixed.{atomic_fixed, newest_fixed, step_fixes}
+use Rattle.cb_core.proofs.Laws.{atomic_fixed, newest_fixed, step_fixes}
 use Rattle.cb_lanes.specs.Asked.{asked}
 use Rattle.cb_lanes.specs.GivingBack.{GivesAll, Rests, end_of, lines_of}
 use Rattle.cb_lanes.specs.LineStep.{IsInReply, LinesLead, LineStep, ObjectStep, PeekStep, not_pinned, shown, PinEvent, PinLine, at_once, stays_far, swapped_in, SwapEvent, TurnStep}

@@ -18,7 +18,7 @@ use Rattle.cb_core.specs.declared.event.Event.TheVariants as event
 use Rattle.cb_core.specs.declared.event.Event.TheVariants.{Turn}
 use Rattle.cb_core.specs.Membership.{crashed, is_down}
 use Rattle.cb_core.specs.Step.{TurnStep, worn, done}
-use Rattle.cb_core.proofs.Epochs.{lead_rises, step_rises}
+use Rattle.cb_core.proofs.Laws.{lead_rises, step_rises}
 use Rattle.cb_lanes.specs.GivingBack.{GivesAll, Rests, lines_of}
 use Rattle.cb_lanes.specs.LineStep.{LinesLead, LineStep, ObjectStep, PeekStep, not_pinned, shown, PinLine, at_once, stays_far, swapped_in}
 use Rattle.cb_lanes.specs.Lost.{AreInOrder, loss_of, losses_of}

@@ -34,17 +34,12 @@ use Rattle.cb_world.specs.StillWords.{stamp_at, contents_at}
 use Rattle.cb_world.specs.World.{WorldState, IsSoundWorld, word_at}
 use Rattle.cb_mutate.specs.MapCalls.{IsValue, IsMapCall, IsCallOn}
 use Rattle.cb_mutate.specs.StillReplies.{reply_as}
-use Rattle.cb_mutate.proofs.MapBeside.{call_follows, beside_kept, was_made}
-use Rattle.cb_mutate.proofs.MapReplies.{IsOnContents, map_same, call_by_state, near_held, here_near}
+use Rattle.cb_mutate.proofs.Laws.{call_follows, beside_kept, was_made, IsOnContents, map_same, call_by_state, near_held, here_near}
 use Rattle.cb_core.specs.Pinning.{PinStep, scope_full, refused, taken, pin_refusal, UnpinStep, not_pinned as unpin_refused, given}
 use Rattle.cb_core.specs.declared.event.Atomic.TheVariants as atomic
 use Rattle.cb_core.specs.declared.event.Event.TheVariants as event
 use Rattle.cb_core.specs.Step.{TurnStep, worn, done}
-use Rattle.cb_core.proofs.Settings.{step_settings}
-use Rattle.cb_core.proofs.TurnCalls.{swap_turn, turn_turns}
-use Rattle.cb_core.proofs.TurnCallsMap.{IsSameMap}
-use Rattle.cb_core.proofs.TurnCallsSound.{swap_sound}
-use Rattle.cb_core.proofs.TurnCallsSwap.{IsSwapRefusal, SwapEnds, refused as swap_refused, stays, swapped, refusal_line}
+use Rattle.cb_core.proofs.Laws.{step_settings, swap_turn, turn_turns, IsSameMap, swap_sound, IsSwapRefusal, SwapEnds, refused as swap_refused, stays, swapped, refusal_line}
 use Rattle.cb_lanes.specs.Asked.{answer_to, HasLineReply}
 use Rattle.cb_lanes.specs.GivingBack.{GivesAll}
 use Rattle.cb_lanes.specs.LineStep.{PeekStep, not_pinned, shown, IsInReply, PinLine, at_once, stays_far, swapped_in}

@@ -18,10 +18,7 @@ use Rattle.cb_world.specs.StillWords.{stamp_at}
 use Rattle.cb_world.specs.World.{WorldState, IsSoundWorld, word_at}
 use Rattle.cb_core.specs.Pinning.{PinStep, scope_full, refused, taken, pin_refusal, UnpinStep, not_pinned as unpin_refused, given}
 use Rattle.cb_core.specs.Step.{TurnStep}
-use Rattle.cb_core.proofs.TurnCalls.{swap_turn}
-use Rattle.cb_core.proofs.TurnCallsPinned.{IsPinCount, write_counts, free_counts}
-use Rattle.cb_core.proofs.TurnCallsSound.{swap_sound}
-use Rattle.cb_core.proofs.TurnCallsSwap.{IsSwapRefusal}
+use Rattle.cb_core.proofs.Laws.{swap_turn, IsPinCount, write_counts, free_counts, swap_sound, IsSwapRefusal}
 use Rattle.cb_lanes.specs.GivingBack.{GivesAll}
 use Rattle.cb_lanes.specs.LineStep.{LineStep, PeekStep, not_pinned, shown, PinLine, at_once, stays_far, swapped_in}
 use Rattle.cb_lanes.specs.Scopes.{Scope, without_newest, named_on, scope_after, PinnedSays, PeekSays, UnpinSays, ScopeSays}

@@ -13,13 +13,12 @@ use Rattle.cb_world.specs.Seats.{IsNewest, pins_of_seat}
 use Rattle.cb_world.specs.Still.{IsStill}
 use Rattle.cb_world.specs.StillWords.{stamp_at, contents_at, with_hot}
 use Rattle.cb_world.specs.World.{WorldState, IsSoundWorld, word_at}
-use Rattle.cb_world.proofs.Pins.{pin_counts}
-use Rattle.cb_world.proofs.StillPerforms.{PerformsStill}
+use Rattle.cb_world.proofs.Laws.{pin_counts, PerformsStill}
 use Rattle.cb_mutate.specs.ReadRule.{ReadRule, ReadEffect, IsSeenHere}
 use Rattle.cb_mutate.specs.StillReplies.{reply_as}
 use Rattle.cb_mutate.specs.Steps.{IsReadStep, with_seen}
-use Rattle.cb_mutate.proofs.ReadStep.{read_step, failed_step}
-use Rattle.cb_core.proofs.Changes.{read_leaves}
+use Rattle.cb_mutate.proofs.Laws.{read_step, failed_step}
+use Rattle.cb_core.proofs.Laws.{read_leaves}
 use Rattle.cb_lanes.specs.LineStep.{PeekStep, shown}
 use Rattle.cb_lanes.proofs.GivingBack.{pin_below, pinned_here}
 use Rattle.cb_lanes.proofs.Pinning.{pin_version}

@@ -15,7 +15,7 @@ use Rattle.cb_model.specs.Event.Event.{FindsUnmade, Refused}
 use Rattle.cb_model.specs.Called.{Called, handle_of, handle_for, called, calls_of, makes, made_by, value, change_to, is_about}
 use Rattle.cb_model.specs.Now.{Now as MapNow, Change, changed}
 use Rattle.cb_model.specs.Replies.{MapReplies}
-use Rattle.cb_model.proofs.Order.{value-push, makes-push}
+use Rattle.cb_model.proofs.Laws.{value-push, makes-push}
 use Rattle.cb_script.specs.declared.script.Line.{Line}
 use Rattle.cb_world.specs.declared.shown.Shown.{Shown}
 use Rattle.cb_world.specs.FarState.{FarState}
@@ -23,12 +23,9 @@ use Rattle.cb_world.specs.Now.{now}
 use Rattle.cb_world.specs.World.{WorldState, IsKnown}
 use Rattle.cb_mutate.specs.MapCalls.{IsValue}
 use Rattle.cb_mutate.specs.MapBeside.{IsMapBeside}
-use Rattle.cb_mutate.proofs.MapBeside.{Follows, beside_kept}
+use Rattle.cb_mutate.proofs.Laws.{Follows, beside_kept}
 use Rattle.cb_core.specs.Step.{TurnStep}
-use Rattle.cb_core.proofs.RunLegal.{kept_beside, lost_beside}
-use Rattle.cb_core.proofs.TurnCalls.{IsQuiet, evict_turn, begin_turn, ship_turn, commit_turn, abort_turn, rebuild_turn, crash_turn, join_turn}
-use Rattle.cb_core.proofs.TurnCallsKept.{known_same}
-use Rattle.cb_core.proofs.TurnCallsMap.{IsSameMap}
+use Rattle.cb_core.proofs.Laws.{kept_beside, lost_beside, IsQuiet, evict_turn, begin_turn, ship_turn, commit_turn, abort_turn, rebuild_turn, crash_turn, join_turn, known_same, IsSameMap}
 use Rattle.cb_lanes.specs.Asked.{answer_to, HasLineReply}
 use Rattle.cb_lanes.proofs.Turning.{Around, Turning, Goes, goes_by}
 

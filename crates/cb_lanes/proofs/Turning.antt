@@ -8,9 +8,9 @@ use Rattle.cb_world.specs.declared.shown.Shown.{Shown}
 use Rattle.cb_world.specs.World.{WorldState, IsSoundWorld}
 use Rattle.cb_mutate.specs.MapCalls.{IsCallOn, IsRefusedMake}
 use Rattle.cb_mutate.specs.MapBeside.{IsMapBeside}
-use Rattle.cb_mutate.proofs.MapBeside.{Follows, call_follows, refused_follows}
+use Rattle.cb_mutate.proofs.Laws.{Follows, call_follows, refused_follows}
 use Rattle.cb_core.specs.Step.{TurnStep}
-use Rattle.cb_core.proofs.TurnCalls.{turn_first, turn_turns}
+use Rattle.cb_core.proofs.Laws.{turn_first, turn_turns}
 use Rattle.cb_lanes.specs.Asked.{HasLineReply}
 
 -- before a line and after it the world is sound, and the plain map is beside it before

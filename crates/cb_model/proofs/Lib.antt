@@ -6,3 +6,4 @@ pub mod Naming
 pub mod WorkedAnswers
 pub mod WorkedCalls
 pub mod WorkedHistories
+pub mod Laws

@@ -9,9 +9,8 @@ use Rattle.cb_world.specs.declared.shown.Shown.{Shown}
 use Rattle.cb_world.specs.Played.{Agree, played}
 use Rattle.cb_world.specs.Write.{IsWrite}
 use Rattle.cb_world.specs.Shown.{Owns, Covers}
-use Rattle.cb_world.proofs.Windows.{put_at, set_put, length_put}
+use Rattle.cb_world.proofs.Laws.{put_at-windows as put_at, set_put, length_put, played_append, agree_last}
 use Rattle.cb_world.specs.StillDesk.{window_length}
-use Rattle.cb_world.proofs.Tracing.{played_append, agree_last}
 use Rattle.cb_mutate.specs.Merged.{IsMerged, IsMixed}
 use Rattle.cb_mutate.specs.Wordwise.{IsReached, IsWordwise}
 use Rattle.cb_mutate.specs.Stores.{AreStores}

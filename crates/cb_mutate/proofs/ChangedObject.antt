@@ -16,8 +16,7 @@ use Rattle.cb_world.specs.Now.Now.{held}
 use Rattle.cb_world.specs.World.{word_at, IsKnown}
 use Rattle.cb_world.specs.StillWords.{stamp_at, contents_at, with_hot}
 use Rattle.cb_world.specs.StillDesk.{here_is}
-use Rattle.cb_world.proofs.Unmoved.{KeepsAway, keeps_all}
-use Rattle.cb_world.proofs.NowSame.{near_now}
+use Rattle.cb_world.proofs.Laws.{KeepsAway, keeps_all, near_now}
 use Rattle.cb_mutate.proofs.MapReplies.{AreKnownBoth, ChangesAt, here_near}
 
 -- the fields of a word that was made hot

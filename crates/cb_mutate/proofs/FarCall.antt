@@ -24,9 +24,7 @@ use Rattle.cb_world.specs.Now.{Now, is_gone, now_as, now}
 use Rattle.cb_world.specs.Now.Now.{freed, held, gone}
 use Rattle.cb_world.specs.World.{word_at, IsKnown}
 use Rattle.cb_world.specs.StillWords.{stamp_at}
-use Rattle.cb_world.proofs.FarGone.{IsFarFreed, sound_far_gone}
-use Rattle.cb_world.proofs.FarGoneNow.{now_far_gone}
-use Rattle.cb_world.proofs.NowSame.{empty_value, empty_now, far_object, now_same}
+use Rattle.cb_world.proofs.Laws.{IsFarFreed, sound_far_gone, now_far_gone, empty_value, empty_now, far_object, now_same}
 use Rattle.cb_mutate.specs.FreeRule.{IsRemoved, LeavesPlace}
 use Rattle.cb_mutate.specs.FreeEnds.{with_emptied}
 use Rattle.cb_mutate.specs.StillReplies.{next_reply, change_reply, free_as}

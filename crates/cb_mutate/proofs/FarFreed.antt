@@ -27,12 +27,7 @@ use Rattle.cb_world.specs.FarState.{FarState}
 use Rattle.cb_world.specs.LeftOver.{LiesIn, without_far}
 use Rattle.cb_world.specs.LocalSound.{IsStamped}
 use Rattle.cb_world.specs.Sound.{Sound}
-use Rattle.cb_world.proofs.AfterLook.{look_after, look_allowed, look_first, look_found, look_sound, look_still, told_before}
-use Rattle.cb_world.proofs.FarGone.{sound_far_gone}
-use Rattle.cb_world.proofs.NowSame.{far_object}
-use Rattle.cb_world.proofs.Touching.{look_settles_last, look_touches}
-use Rattle.cb_world.proofs.Tracing.{agree_last, found_last, found_more, looks_played, looks_written, played_append, told_append, written_append}
-use Rattle.cb_world.proofs.Untouched.{allowed_append}
+use Rattle.cb_world.proofs.Laws.{look_after, look_allowed, look_first, look_found, look_sound, look_still, told_before, sound_far_gone, far_object, look_settles_last, look_touches, agree_last, found_last, found_more, looks_played, looks_written, played_append, told_append, written_append, allowed_append}
 use Rattle.cb_mutate.specs.FreeRule.{FreeAs, FreeEffect, FreeFar, LeavesPlace}
 use Rattle.cb_mutate.specs.FreeEnds.{with_emptied}
 use Rattle.cb_mutate.proofs.Emptied.{with_stamped}

@@ -16,7 +16,7 @@ use Rattle.cb_world.specs.Now.{Now, now}
 use Rattle.cb_world.specs.Now.Now.{held}
 use Rattle.cb_world.specs.World.{word_at}
 use Rattle.cb_world.specs.StillWords.{stamp_at, contents_at}
-use Rattle.cb_world.proofs.Unmoved.{KeepsAway}
+use Rattle.cb_world.proofs.Laws.{KeepsAway}
 use Rattle.cb_mutate.specs.FreeRule.{IsReleased, LeavesPlace}
 use Rattle.cb_mutate.specs.StillReplies.{change_reply, free_as, reply_as}
 use Rattle.cb_mutate.specs.Steps.{FreeChange, IsTakenOut, IsFreeStep}

@@ -14,8 +14,7 @@ use Rattle.cb_world.specs.FarState.{FarState}
 use Rattle.cb_world.specs.World.{word_at, IsKnown}
 use Rattle.cb_world.specs.StillWords.{stamp_at}
 use Rattle.cb_world.specs.StillDesk.{plain_follows, plain_stays}
-use Rattle.cb_world.proofs.StillWords.{empty_exact}
-use Rattle.cb_world.proofs.StillPerforms.{PerformsStill, RunsStill, runs_still, known_then, stays_still}
+use Rattle.cb_world.proofs.Laws.{empty_exact, PerformsStill, RunsStill, runs_still, known_then, stays_still}
 use Rattle.cb_mutate.specs.Answered.{AnsweredAs}
 use Rattle.cb_mutate.specs.FreeRule.{FreeAs, FreeHere, FreeRule, FreeFar, FreeEffect, IsGone, LeavesPlace}
 use Rattle.cb_mutate.specs.StillReplies.{next_reply, change_reply, free_as, free_reply, reply_as}

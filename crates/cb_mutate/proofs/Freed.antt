@@ -21,13 +21,7 @@ use Rattle.cb_world.specs.FarState.{FarState}
 use Rattle.cb_world.specs.LocalSound.{HasSlot}
 use Rattle.cb_world.specs.Sound.{Sound}
 use Rattle.cb_world.specs.Released.{IsSlotAt, with_released}
-use Rattle.cb_world.proofs.Windows.{length_put}
-use Rattle.cb_world.proofs.Kept.{claimed_from, frame_in_range}
-use Rattle.cb_world.proofs.Claimed.{lies}
-use Rattle.cb_world.proofs.AfterClaim.{IsAfterClaim}
-use Rattle.cb_world.proofs.AfterLook.{taken_before}
-use Rattle.cb_world.proofs.Beside.{put_beside}
-use Rattle.cb_world.proofs.Gone.{sound_gone}
+use Rattle.cb_world.proofs.Laws.{length_put, claimed_from, frame_in_range, lies, IsAfterClaim, taken_before, put_beside, sound_gone}
 use Rattle.cb_mutate.specs.Answered.{EmptyAnswer, AnsweredAs}
 use Rattle.cb_mutate.specs.FreeRule.{FreeAs, FreeHere, FreeFar, FreeEffect, IsGone, LeavesPlace}
 use Rattle.cb_mutate.specs.FreeEnds.{with_emptied, IsEmptied, FreeEnds}

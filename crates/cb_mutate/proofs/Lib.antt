@@ -32,3 +32,4 @@ pub mod MakeCall
 mod WorkedSteps
 mod WorkedReads
 pub mod MapBeside
+pub mod Laws

@@ -14,9 +14,7 @@ use Rattle.cb_world.specs.Shown.{Covers, Owns}
 use Rattle.cb_world.specs.Touches.{Touches}
 use Rattle.cb_world.specs.Played.{played, Agree}
 use Rattle.cb_world.specs.StillDesk.{window_length}
-use Rattle.cb_world.proofs.Tracing.{agree_last}
-use Rattle.cb_world.proofs.Touching.{touches_append}
-use Rattle.cb_world.proofs.Windows.{window_at}
+use Rattle.cb_world.proofs.Laws.{agree_last, touches_append, window_at}
 use Rattle.cb_mutate.specs.Stores.{AreLoads}
 use Rattle.cb_mutate.specs.ReadRule.{IsLoaded, AreLoaded}
 use Rattle.cb_mutate.specs.Loads.{Loads}

@@ -11,10 +11,7 @@ use Rattle.cb_world.specs.Allowed.{Allowed}
 use Rattle.cb_world.specs.FarState.{FarState}
 use Rattle.cb_world.specs.Sound.{Sound}
 use Rattle.cb_world.specs.Placed.{Slot, IsChosen, place_in, with_object}
-use Rattle.cb_world.proofs.Windows.{length_put}
-use Rattle.cb_world.proofs.Slots.{IsEmptySlot, chosen_empty, chosen_class, chosen_stays}
-use Rattle.cb_world.proofs.Placed.{IsCounted, next_counted, slot_bounds, may_lie, sound_brought}
-use Rattle.cb_world.proofs.Beside.{put_beside}
+use Rattle.cb_world.proofs.Laws.{length_put, IsEmptySlot, chosen_empty, chosen_class, chosen_stays, IsCounted, next_counted, slot_bounds, may_lie, sound_brought, put_beside}
 use Rattle.cb_mutate.specs.WordsOf.{AreWordsOf}
 use Rattle.cb_mutate.specs.MakeRule.{IsMade, made_by, with_made}
 use Rattle.cb_mutate.specs.MakeEnds.{IsNewAt}

@@ -21,11 +21,7 @@ use Rattle.cb_world.specs.Now.{Now, is_gone, now_as, now}
 use Rattle.cb_world.specs.Now.Now.{never, held}
 use Rattle.cb_world.specs.World.{word_at}
 use Rattle.cb_world.specs.StillWords.{stamp_at, contents_at}
-use Rattle.cb_world.proofs.Windows.{window_put}
-use Rattle.cb_world.proofs.Beside.{KeepsBeside, put_beside}
-use Rattle.cb_world.proofs.Unmoved.{KeepsAway}
-use Rattle.cb_world.proofs.NowSame.{near_object, near_now, now_by_words}
-use Rattle.cb_world.proofs.NowOthers.{near_lies, contents_beside}
+use Rattle.cb_world.proofs.Laws.{window_put, KeepsBeside, put_beside, KeepsAway, near_object, near_now, now_by_words, near_lies, contents_beside}
 use Rattle.cb_mutate.specs.MakeRule.{new_word}
 use Rattle.cb_mutate.specs.MakeStep.{IsMakeStep, IsNewObject}
 use Rattle.cb_mutate.specs.MapCalls.{IsValue, value_after, IsMapCall, IsCallOn, IsMakeCall}

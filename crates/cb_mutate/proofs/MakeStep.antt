@@ -14,10 +14,7 @@ use Rattle.cb_world.specs.declared.object.Object.{Object}
 use Rattle.cb_world.specs.declared.object.Object.TheVariants as is
 use Rattle.cb_world.specs.Shown.{Fits, object_at, never}
 use Rattle.cb_world.specs.World.{word_at, IsKnown}
-use Rattle.cb_world.proofs.Windows.{length_put}
-use Rattle.cb_world.proofs.Kept.{lies_within}
-use Rattle.cb_world.proofs.Claimed.{lies}
-use Rattle.cb_world.proofs.StillPerforms.{PerformsStill, known_then}
+use Rattle.cb_world.proofs.Laws.{length_put, lies_within, lies, PerformsStill, known_then}
 use Rattle.cb_mutate.specs.Stores.{stores_from}
 use Rattle.cb_mutate.specs.MakeRule.{MakeRule, MakeEffect, IsMade, new_word}
 use Rattle.cb_mutate.specs.MakeStep.{IsMakeStep, IsNewObject, with_new}

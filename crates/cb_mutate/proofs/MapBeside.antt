@@ -8,7 +8,7 @@ use Rattle.cb_model.specs.Now.{Now as MapNow, Change, changed}
 use Rattle.cb_model.specs.Event.{Event, event_of, change_of}
 use Rattle.cb_model.specs.Replies.{MapReplies}
 use Rattle.cb_model.specs.Called.{Called, change_to, is_about, value, value_at, made_by, makes}
-use Rattle.cb_model.proofs.Order.{value-push, makes-push}
+use Rattle.cb_model.proofs.Laws.{value-push, makes-push}
 use Rattle.cb_world.specs.declared.shown.Shown.{Shown}
 use Rattle.cb_world.specs.FarState.{FarState}
 use Rattle.cb_world.specs.Now.{is_gone, now_as, now, Now}
@@ -18,8 +18,7 @@ use Rattle.cb_world.specs.declared.object.Object.TheVariants as is
 use Rattle.cb_types.specs.declared.config.Config.{Config}
 use Rattle.cb_model.specs.declared.object.Object.TheVariants.{Held, Freed}
 use Rattle.cb_world.specs.Empty.{empty_far, empty_shown}
-use Rattle.cb_world.proofs.Empty.{empty_never}
-use Rattle.cb_world.proofs.CrashNow.{BecomesGone}
+use Rattle.cb_world.proofs.Laws.{empty_never, BecomesGone}
 use Rattle.cb_world.specs.declared.object.Object.{Object}
 use Rattle.cb_world.specs.Shown.{object_at}
 use Rattle.cb_world.specs.Sound.{Sound}

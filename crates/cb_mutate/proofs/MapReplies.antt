@@ -27,10 +27,7 @@ use Rattle.cb_world.specs.Now.{Now, is_gone, now_as, now}
 use Rattle.cb_world.specs.Now.Now.{never, freed, held, gone}
 use Rattle.cb_world.specs.World.{word_at, IsKnown}
 use Rattle.cb_world.specs.StillWords.{stamp_at, contents_at}
-use Rattle.cb_world.proofs.Beside.{KeepsBeside}
-use Rattle.cb_world.proofs.Unmoved.{KeepsAway}
-use Rattle.cb_world.proofs.NowSame.{bits, far_object, empty_value, empty_now, near_now, now_by_words, now_same}
-use Rattle.cb_world.proofs.NowOthers.{contents_beside}
+use Rattle.cb_world.proofs.Laws.{KeepsBeside, KeepsAway, bits, far_object, empty_value, empty_now, near_now, now_by_words, now_same, contents_beside}
 use Rattle.cb_mutate.specs.StillReplies.{empty_reply, reply_as, next_reply, change_reply}
 use Rattle.cb_mutate.specs.MapCalls.{IsValue, value_after, IsMapCall, IsCallOn}
 

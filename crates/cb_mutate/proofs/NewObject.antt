@@ -19,10 +19,7 @@ use Rattle.cb_world.specs.Looks.{LooksFirst}
 use Rattle.cb_world.specs.Allowed.{Allowed}
 use Rattle.cb_world.specs.Written.{Writes, written_by, adds_as, entry}
 use Rattle.cb_world.specs.Claimed.{OwnsAll}
-use Rattle.cb_world.proofs.Windows.{window_put, length_put}
-use Rattle.cb_world.proofs.Claimed.{settled_here}
-use Rattle.cb_world.proofs.Tracing.{played_append}
-use Rattle.cb_world.proofs.Untouched.{allowed_append}
+use Rattle.cb_world.proofs.Laws.{window_put, length_put, settled_here, played_append, allowed_append}
 use Rattle.cb_mutate.specs.Stores.{AreStores, stores_from}
 use Rattle.cb_mutate.specs.MakeRule.{new_word, made_by}
 use Rattle.cb_mutate.specs.MakeEnds.{IsNewAt}

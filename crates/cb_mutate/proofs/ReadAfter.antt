@@ -19,13 +19,7 @@ use Rattle.cb_world.specs.Still.{IsStill}
 use Rattle.cb_world.specs.FarState.{FarState}
 use Rattle.cb_world.specs.Sound.{Sound}
 use Rattle.cb_world.specs.Claimed.{with_settled}
-use Rattle.cb_world.proofs.Windows.{length_put}
-use Rattle.cb_world.proofs.Tracing.{agree_last, looks_played}
-use Rattle.cb_world.proofs.Kept.{claimed_from, lies_within}
-use Rattle.cb_world.proofs.Claimed.{lies}
-use Rattle.cb_world.proofs.AfterClaim.{IsAfterClaim}
-use Rattle.cb_world.proofs.AfterLook.{look_after, told_before, taken_before}
-use Rattle.cb_world.proofs.Beside.{sound_beside, put_beside}
+use Rattle.cb_world.proofs.Laws.{length_put, agree_last, looks_played, claimed_from, lies_within, lies, IsAfterClaim, look_after, told_before, taken_before, sound_beside, put_beside}
 use Rattle.cb_mutate.specs.Answered.{EmptyAnswer, AnsweredAs}
 use Rattle.cb_mutate.specs.ReadRule.{IsLoaded, ReadHere, ReadEffect, IsShown}
 use Rattle.cb_mutate.specs.ReadEnds.{ReadEnds, IsWithin}

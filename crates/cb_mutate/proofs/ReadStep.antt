@@ -21,9 +21,7 @@ use Rattle.cb_world.specs.World.{word_at, IsKnown}
 use Rattle.cb_world.specs.StillWords.{stamp_at, contents_at, with_hot}
 use Rattle.cb_world.specs.Pinned.{with_word}
 use Rattle.cb_world.specs.StillDesk.{here_is, window_length, plain_follows, plain_stays}
-use Rattle.cb_world.proofs.Windows.{window_at}
-use Rattle.cb_world.proofs.StillWords.{settles_other, busy_leaves, hot_exact}
-use Rattle.cb_world.proofs.StillPerforms.{PerformsStill, RunsStill, runs_still, known_then, stays_still}
+use Rattle.cb_world.proofs.Laws.{window_at, settles_other, busy_leaves, hot_exact, PerformsStill, RunsStill, runs_still, known_then, stays_still}
 use Rattle.cb_mutate.specs.ReadRule.{IsLoaded, AreLoaded, ReadHere, ReadRule, ReadEffect, IsShown, IsSeenHere}
 use Rattle.cb_mutate.specs.StillReplies.{read_reply}
 use Rattle.cb_mutate.specs.Steps.{ReadChange, IsReadStep, with_seen}

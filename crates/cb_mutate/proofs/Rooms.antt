@@ -16,7 +16,7 @@ use Rattle.cb_world.specs.Shown.{Fits, object_at}
 use Rattle.cb_world.specs.Looks.{AreLooks}
 use Rattle.cb_world.specs.Played.{Agree, Agrees, played}
 use Rattle.cb_world.specs.Grasped.{Grasps}
-use Rattle.cb_world.proofs.Tracing.{agree_last, looks_played}
+use Rattle.cb_world.proofs.Laws.{agree_last, looks_played}
 use Rattle.cb_mutate.specs.Reaches.{HasRoom}
 use Rattle.cb_mutate.proofs.ReadAfter.{fits_here}
 

@@ -18,8 +18,7 @@ use Rattle.cb_world.specs.Allowed.{Allowed}
 use Rattle.cb_world.specs.Reads.{AreReads}
 use Rattle.cb_world.specs.Claimed.{IsClaimedAt, with_settled}
 use Rattle.cb_world.specs.Written.{Writes, written_by, adds_as, entry}
-use Rattle.cb_world.proofs.Tracing.{played_append}
-use Rattle.cb_world.proofs.Claimed.{settled_here}
+use Rattle.cb_world.proofs.Laws.{played_append, settled_here}
 use Rattle.cb_mutate.specs.Stores.{AreStores, AreLoads}
 use Rattle.cb_mutate.proofs.Loaded.{loads_keep}
 use Rattle.cb_mutate.proofs.Settling.{stores_written}

@@ -16,18 +16,16 @@ use Rattle.cb_world.specs.Write.{IsWrite}
 use Rattle.cb_world.specs.Shown.{MayLie, Covers, object_at, version_at}
 use Rattle.cb_world.specs.Settling.{MaySettle, MaySettleAs, MayBring}
 use Rattle.cb_world.specs.Played.{after, played}
-use Rattle.cb_world.proofs.Tracing.{played_append}
+use Rattle.cb_world.proofs.Laws.{played_append, window_put, length_put, settled_here}
 use Rattle.cb_world.specs.declared.entry.Entry.{Entry}
 use Rattle.cb_world.specs.Written.{Writes, written_by, adds_as, entry}
 use Rattle.cb_world.specs.Settling.{settled_words}
 use Rattle.cb_world.specs.Looks.{NoLook, NoClaim, LooksFirst, told_by}
 use Rattle.cb_world.specs.Touches.{Touches, SettlesLast}
 use Rattle.cb_world.specs.Grasped.{IsFree}
-use Rattle.cb_world.proofs.Windows.{window_put, length_put}
 use Rattle.cb_mutate.specs.Stores.{AreStores}
 use Rattle.cb_mutate.specs.Overwrites.{Rewrites}
 use Rattle.cb_world.specs.Claimed.{OwnsAll, IsClaimedAt}
-use Rattle.cb_world.proofs.Claimed.{settled_here}
 use Rattle.cb_mutate.specs.WriteEnds.{with_rewritten}
 
 -- how the word at which a written object is settled stands to the word at which it was claimed

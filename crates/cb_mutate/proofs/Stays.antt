@@ -10,9 +10,7 @@ use Rattle.cb_types.specs.declared.reply.Reply.TheVariants as answer
 use Rattle.cb_world.specs.declared.event.Event.{Event}
 use Rattle.cb_world.specs.FarState.{FarState}
 use Rattle.cb_world.specs.LeftOver.{set_without}
-use Rattle.cb_world.proofs.Codes.{codes_left, codes_stay}
-use Rattle.cb_world.proofs.SetsLeft.{left_count, left_given, left_room}
-use Rattle.cb_world.proofs.Staying.{IsLike, StaysIf, stays_like, stays_same}
+use Rattle.cb_world.proofs.Laws.{codes_left, codes_stay, left_count, left_given, left_room, IsLike, StaysIf, stays_like, stays_same}
 use Rattle.cb_mutate.specs.FreeRule.{FreeFar, FreeRule, IsReleased, IsRemoved, LeavesPlace}
 use Rattle.cb_mutate.specs.MakeRule.{MakeRule, with_made}
 

@@ -13,8 +13,7 @@ use Rattle.cb_world.specs.Looks.{IsFound, IsTaken, IsTold, LooksFirst}
 use Rattle.cb_world.specs.Touches.{SettlesLast}
 use Rattle.cb_world.specs.World.{word_at}
 use Rattle.cb_world.specs.StillWords.{stamp_at, contents_at}
-use Rattle.cb_world.proofs.Exact.{found_exact, taken_exact}
-use Rattle.cb_world.proofs.StillWords.{told_exact}
+use Rattle.cb_world.proofs.Laws.{found_exact, taken_exact, told_exact}
 use Rattle.cb_mutate.specs.Answered.{EmptyAnswer, AnsweredAs}
 use Rattle.cb_mutate.specs.WriteRule.{NextVersion}
 use Rattle.cb_mutate.specs.StillReplies.{empty_reply, reply_as, next_reply, change_reply}

@@ -25,7 +25,7 @@ use Rattle.cb_world.specs.Released.{with_released}
 use Rattle.cb_world.specs.StillWords.{contents_at}
 use Rattle.cb_world.specs.World.{word_at}
 use Rattle.cb_world.specs.Write.{IsWrite}
-use Rattle.cb_world.proofs.Fixed.{IsOneEnd, refused_alike, chosen_fixed, not_crammed, seat_fixed, home_fixed, place_fixed}
+use Rattle.cb_world.proofs.Laws.{IsOneEnd, refused_alike, chosen_fixed, not_crammed, seat_fixed, home_fixed, place_fixed}
 use Rattle.cb_mutate.specs.FreeRule.{IsReleased, IsRemoved, LeavesPlace}
 use Rattle.cb_mutate.specs.MakeRule.{HasNoPlace, with_made}
 use Rattle.cb_mutate.specs.MakeStep.{IsMakeStep, IsNewObject, with_new}

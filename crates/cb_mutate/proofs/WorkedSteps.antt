@@ -18,7 +18,7 @@ use Rattle.cb_world.specs.FarState.{FarState}
 use Rattle.cb_world.specs.Now.Now.{freed, held, gone}
 use Rattle.cb_world.specs.StillWords.{with_hot}
 use Rattle.cb_world.specs.StillDesk.{window_length}
-use Rattle.cb_world.proofs.Windows.{put_at, put_else}
+use Rattle.cb_world.proofs.Laws.{put_at-windows as put_at, put_else}
 use Rattle.cb_mutate.specs.Wordwise.{IsReached, IsWordwise}
 use Rattle.cb_mutate.specs.FreeRule.{IsRemoved}
 use Rattle.cb_mutate.proofs.FarFreed.{home_known}

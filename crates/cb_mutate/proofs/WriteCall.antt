@@ -21,9 +21,7 @@ use Rattle.cb_world.specs.Now.Now.{held}
 use Rattle.cb_world.specs.World.{word_at}
 use Rattle.cb_world.specs.StillWords.{stamp_at, contents_at, with_hot}
 use Rattle.cb_world.specs.StillDesk.{window_length}
-use Rattle.cb_world.proofs.Windows.{window_put}
-use Rattle.cb_world.proofs.Kept.{lies_within}
-use Rattle.cb_world.proofs.Beside.{put_beside}
+use Rattle.cb_world.proofs.Laws.{window_put, lies_within, put_beside}
 use Rattle.cb_mutate.specs.StillReplies.{change_reply}
 use Rattle.cb_mutate.specs.Steps.{WriteChange, IsOverwritten, IsWriteStep}
 use Rattle.cb_mutate.specs.MapCalls.{IsValue, value_after, IsMapCall, IsCallOn}

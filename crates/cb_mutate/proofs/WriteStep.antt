@@ -17,8 +17,7 @@ use Rattle.cb_world.specs.FarState.{FarState}
 use Rattle.cb_world.specs.World.{word_at, IsKnown}
 use Rattle.cb_world.specs.StillWords.{stamp_at}
 use Rattle.cb_world.specs.StillDesk.{plain_follows, plain_stays}
-use Rattle.cb_world.proofs.StillWords.{hot_exact}
-use Rattle.cb_world.proofs.StillPerforms.{PerformsStill, RunsStill, runs_still, known_then, stays_still}
+use Rattle.cb_world.proofs.Laws.{hot_exact, PerformsStill, RunsStill, runs_still, known_then, stays_still}
 use Rattle.cb_mutate.specs.WriteRule.{NextVersion, WriteHere, WriteRule, IsWritten, WriteEffect}
 use Rattle.cb_mutate.specs.StillReplies.{next_reply, change_reply, write_reply}
 use Rattle.cb_mutate.specs.Steps.{WriteChange, IsOverwritten, IsWriteStep}

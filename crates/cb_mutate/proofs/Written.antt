@@ -20,12 +20,8 @@ use Rattle.cb_world.specs.Still.{IsStill}
 use Rattle.cb_world.specs.FarState.{FarState}
 use Rattle.cb_world.specs.Sound.{Sound}
 use Rattle.cb_world.specs.Claimed.{IsClaimedAt, with_settled}
-use Rattle.cb_world.proofs.Windows.{length_put}
+use Rattle.cb_world.proofs.Laws.{length_put, claimed_from, set_back, IsAfterClaim, told_before, taken_before, sound_beside, put_beside, put_twice_beside}
 use Rattle.cb_world.specs.StillDesk.{window_length}
-use Rattle.cb_world.proofs.Kept.{claimed_from, set_back}
-use Rattle.cb_world.proofs.AfterClaim.{IsAfterClaim}
-use Rattle.cb_world.proofs.AfterLook.{told_before, taken_before}
-use Rattle.cb_world.proofs.Beside.{sound_beside, put_beside, put_twice_beside}
 use Rattle.cb_mutate.specs.Answered.{EmptyAnswer, AbsentAs, AnsweredAs}
 use Rattle.cb_mutate.specs.WriteRule.{NextVersion, WriteHere, IsWritten, WriteEffect}
 use Rattle.cb_mutate.specs.WriteEnds.{IsBack, IsRewritten, with_rewritten, WriteEnds}

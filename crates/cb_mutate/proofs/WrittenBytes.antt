@@ -4,7 +4,7 @@ use Rattle.std.proofs.lemmas.Bool.{cases_lt}
 use Rattle.std.proofs.lemmas.List.{ext_get_or, get_or_append_left, get_or-append_right, get_or-take, get_or-drop, length-append, length-take-le}
 use Rattle.std.proofs.lemmas.List.FromFn.{get_or-map-range_with_len, length-map-range_with_len}
 use Rattle.cb_model.specs.Now.{overwritten}
-use Rattle.cb_model.proofs.Growing.{length-overwritten}
+use Rattle.cb_model.proofs.Laws.{length-overwritten}
 use Rattle.cb_world.specs.Memory.{byte_at, bytes_in}
 use Rattle.cb_world.specs.Write.{IsWrite}
 

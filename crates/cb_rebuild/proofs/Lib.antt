@@ -8,3 +8,4 @@ mod WorkedWord
 mod WorkedWeak
 mod WorkedRebuilt
 mod WorkedKept
+pub mod Laws

@@ -9,7 +9,7 @@ use Rattle.cb_world.specs.Now.{now}
 use Rattle.cb_world.specs.FarState.{FarState}
 use Rattle.cb_world.specs.Sound.{Sound}
 use Rattle.cb_world.specs.Surveyed.{IsSurvey, gone_below}
-use Rattle.cb_world.proofs.Alike.{recounted_sound, retold_sound}
+use Rattle.cb_world.proofs.Laws.{recounted_sound, retold_sound}
 use Rattle.cb_rebuild.specs.declared.finding.Found.{Found}
 use Rattle.cb_rebuild.specs.declared.finding.Found.TheVariants as found
 use Rattle.cb_rebuild.specs.Finding.{with_found}

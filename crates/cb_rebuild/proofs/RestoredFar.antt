@@ -23,14 +23,7 @@ use Rattle.cb_world.specs.SetWord.{IsWeak, IsWordOf, is_broken}
 use Rattle.cb_world.specs.FarState.{FarState}
 use Rattle.cb_world.specs.FarSound.{Owner, of_set, of_leaving, of_joining, IsShardOf, AwaySound}
 use Rattle.cb_world.specs.Sound.{Sound}
-use Rattle.cb_world.proofs.Choices.{number}
-use Rattle.cb_world.proofs.FreshShard.{fits_on_least, up_is_kept, up_on_least}
-use Rattle.cb_world.proofs.NodeJoin.{local_stays, noted_stays, claimed_stay}
-use Rattle.cb_world.proofs.PlaceSet.{place_on}
-use Rattle.cb_world.proofs.Reserving.{reserved_is_other}
-use Rattle.cb_world.proofs.RowPut.{HasRowPut, IsNewOr, IsRenamed, row_put_away, row_put_join, row_put_words}
-use Rattle.cb_world.proofs.SetChanging.{set_there}
-use Rattle.cb_world.proofs.Surveying.{stands_still, survey_stays}
+use Rattle.cb_world.proofs.Laws.{number, fits_on_least, up_is_kept, up_on_least, local_stays, noted_stays, claimed_stay, place_on, reserved_is_other, HasRowPut, IsNewOr, IsRenamed, row_put_away, row_put_join, row_put_words, set_there, stands_still, survey_stays}
 use Rattle.cb_rebuild.specs.RebuildStep.{IsNewShard, IsRowOf, with_name, with_put}
 use Rattle.cb_rebuild.proofs.WeakSets.{least_is_lost, least_within, set_same, weak_not_broken}
 

@@ -7,8 +7,7 @@ use Rattle.cb_world.specs.declared.shown.Shown.{Shown}
 use Rattle.cb_world.specs.FarState.{FarState}
 use Rattle.cb_world.specs.Sets.{set_in}
 use Rattle.cb_world.specs.Sound.{Sound}
-use Rattle.cb_world.proofs.Codes.{code_as, codes_put}
-use Rattle.cb_world.proofs.Staying.{Stays, StaysIf}
+use Rattle.cb_world.proofs.Laws.{code_as, codes_put, Stays, StaysIf}
 use Rattle.cb_rebuild.specs.RebuildStep.{IsRebuilt, RebuildStep, Restores, far_given, surveyed}
 
 -- the sets were looked at

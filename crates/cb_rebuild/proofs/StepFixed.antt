@@ -13,7 +13,7 @@ use Rattle.cb_types.specs.declared.reply.Reply.TheVariants as answer
 use Rattle.cb_world.specs.Choices.{IsLeastNode}
 use Rattle.cb_world.specs.FarState.{FarState}
 use Rattle.cb_world.specs.Sets.{set_in}
-use Rattle.cb_world.proofs.Fixed.{least_node_fixed}
+use Rattle.cb_world.proofs.Laws.{least_node_fixed}
 use Rattle.cb_rebuild.specs.RebuildStep.{FindsNone, IsFirstWeak, IsNewShard, IsRebuilt, IsRowOf, IsStuck, RebuildStep, Restores, RestoresFirst, surveyed, with_name, with_put}
 use Rattle.cb_rebuild.proofs.WeakSets.{set_same}
 

@@ -17,9 +17,7 @@ use Rattle.cb_world.specs.SetWord.{IsWeak, is_broken}
 use Rattle.cb_world.specs.Surveyed.{IsSurvey, gone_below}
 use Rattle.cb_world.specs.FarState.{FarState}
 use Rattle.cb_world.specs.FarSound.{AwaySound}
-use Rattle.cb_world.proofs.Choices.{few_pass, number}
-use Rattle.cb_world.proofs.Counting.{count_next}
-use Rattle.cb_world.proofs.GivenUp.{live_names}
+use Rattle.cb_world.proofs.Laws.{few_pass, number, count_next, live_names}
 use Rattle.cb_rebuild.specs.declared.finding.Health.{Health}
 use Rattle.cb_rebuild.specs.declared.finding.Health.TheVariants as health
 use Rattle.cb_rebuild.specs.RebuildStep.{IsFirstWeak, gone_count}

@@ -8,7 +8,7 @@ use Rattle.cb_node.specs.NodesState.{empty_nodes, row_at as row_under}
 use Rattle.cb_set.specs.SetState.{SetState}
 use Rattle.cb_world.specs.FarState.{FarState}
 use Rattle.cb_world.specs.SetWord.{IsWordOf}
-use Rattle.cb_world.proofs.WorkedWord.{at, node, rows}
+use Rattle.cb_world.proofs.Laws.{at, node, rows}
 use Rattle.cb_rebuild.specs.RebuildStep.{KeepWords}
 use Rattle.cb_rebuild.proofs.WorkedRebuilt.{old}
 use Rattle.cb_rebuild.proofs.WorkedWeak.{only_of}

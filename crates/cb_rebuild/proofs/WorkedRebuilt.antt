@@ -15,8 +15,7 @@ use Rattle.cb_types.specs.declared.reply.Reply.TheVariants as answer
 use Rattle.cb_world.specs.Choices.{IsBefore, IsLeastNode, MayPut}
 use Rattle.cb_world.specs.Sets.{set_in}
 use Rattle.cb_world.specs.FarState.{FarState}
-use Rattle.cb_world.proofs.SetChanging.{set_there}
-use Rattle.cb_world.proofs.WorkedWord.{at, node, row, row_byte, rows}
+use Rattle.cb_world.proofs.Laws.{set_there, at, node, row, row_byte, rows}
 use Rattle.cb_rebuild.specs.RebuildStep.{IsFirstWeak, IsNewShard, IsRebuilt, IsRowOf, KeepWords, RebuildStep, far_given, with_name, with_put}
 use Rattle.cb_rebuild.proofs.WorkedWord.{is_word, members, nodes, one_row, set}
 use Rattle.cb_rebuild.proofs.WorkedWeak.{far, one, only_of, weak_is}

@@ -20,7 +20,7 @@ use Rattle.cb_world.specs.FarState.{FarState}
 use Rattle.cb_world.specs.Surveyed.{gone_below}
 use Rattle.cb_world.specs.Survey.{no_survey}
 use Rattle.cb_world.specs.SetWord.{IsWeak}
-use Rattle.cb_world.proofs.WorkedWord.{at, node}
+use Rattle.cb_world.proofs.Laws.{at, node}
 use Rattle.cb_rebuild.specs.declared.finding.Found.TheVariants as found
 use Rattle.cb_rebuild.specs.declared.finding.Health.TheVariants as health
 use Rattle.cb_rebuild.specs.RebuildStep.{FindsNone, IsFirstWeak, IsStuck, gone_count, surveyed}

@@ -6,7 +6,7 @@ use Rattle.cb_member.specs.Membership.{Membership, NodeState}
 use Rattle.cb_node.specs.NodesState.{NodesState, empty_nodes}
 use Rattle.cb_set.specs.SetState.{PositionState, SetState, filled_position, set_of}
 use Rattle.cb_world.specs.SetWord.{IsWordOf}
-use Rattle.cb_world.proofs.WorkedWord.{at, only_word, rows, with_two_rows, is_word as is_worked_word}
+use Rattle.cb_world.proofs.Laws.{at, only_word, rows, with_two_rows, is_word as is_worked_word}
 
 abbrev pub up : NodeState
 up = record { up = true; incarnation = 0; crashes = [] }

@@ -10,8 +10,7 @@ use Rattle.hex.specs.Hex.{encode_lower}
 use Rattle.cb_script.specs.Found.{Finds}
 use Rattle.cb_script.specs.Rules.{IsNumber}
 use Rattle.cb_script.specs.Spelling.{words_of}
-use Rattle.cb_script.proofs.Decimals.{decimal_value}
-use Rattle.cb_script.proofs.Words.{AreWords, IsWord-decimal, IsWord-encoded, word_from_test, words_split}
+use Rattle.cb_script.proofs.PublicLaws.{decimal_value, AreWords, IsWord-decimal, IsWord-encoded, word_from_test, words_split}
 use Rattle.cb_rma.specs.declared.order.Order.TheVariants.{Put, Add, Drop}
 use Rattle.cb_rma.specs.declared.step.Step.{Step}
 use Rattle.cb_rma.specs.declared.step.Step.TheVariants.{Submit, Send, Ask, Ack, Restart, Show}

@@ -4,3 +4,4 @@ pub mod Windows
 pub mod Front
 pub mod OneReading
 pub mod WorkedSchedule
+pub mod PublicLaws

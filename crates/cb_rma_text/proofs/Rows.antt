@@ -6,7 +6,7 @@ use Rattle.hex.specs.Hex.{encode_lower, decode_of, lower_digits}
 use Rattle.hex.proofs.HexLemmas.{length-encode_with, decode_of-encode_lower}
 use Rattle.cb_script.specs.Found.{Finds}
 use Rattle.cb_script.specs.Hexadecimal.{IsLowerDigit}
-use Rattle.cb_script.proofs.HexText.{bytes_at, lower_encoded}
+use Rattle.cb_script.proofs.PublicLaws.{bytes_at, lower_encoded}
 use Rattle.cb_rma_text.specs.Form.{IsRow}
 use Rattle.cb_rma_text.specs.Reading.{HasRowLength}
 

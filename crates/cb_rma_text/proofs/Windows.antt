@@ -8,7 +8,7 @@ use Rattle.std.proofs.lemmas.List.{append_cancel_left}
 use Rattle.std.proofs.lemmas.List.Splits.{join_with_byte-slice_split}
 use Rattle.cb_script.specs.Found.{Finds}
 use Rattle.cb_script.specs.Spelling.{words_of, setting}
-use Rattle.cb_script.proofs.Words.{AreWords, IsWord-setting, word_from_test, words_split}
+use Rattle.cb_script.proofs.PublicLaws.{AreWords, IsWord-setting, word_from_test, words_split}
 use Rattle.cb_rma_text.specs.Form.{IsWindow}
 use Rattle.cb_rma_text.specs.Spelling.{window_words, window_line}
 

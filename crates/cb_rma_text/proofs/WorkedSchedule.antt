@@ -8,7 +8,7 @@ use Rattle.std.proofs.lemmas.List.Elements.{All-cons, All-nil, All-head}
 use Rattle.hex.specs.Hex.{encode_with}
 use Rattle.cb_cli.specs.declared.verdict.Verdict.TheVariants.{Done, Refused}
 use Rattle.cb_script.specs.Spelling.{words_of}
-use Rattle.cb_script.proofs.Phrases.{differ}
+use Rattle.cb_script.proofs.PublicLaws.{differ}
 use Rattle.cb_rma.specs.declared.order.Order.TheVariants.{Put, Add, Drop}
 use Rattle.cb_rma.specs.declared.sender.Heard.TheVariants as heard
 use Rattle.cb_rma.specs.declared.step.Said.TheVariants as said

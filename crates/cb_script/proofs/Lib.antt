@@ -20,3 +20,4 @@ pub mod WorkedScript
 pub mod WorkedForms
 pub mod WorkedRules
 pub mod WorkedFaults
+pub mod PublicLaws

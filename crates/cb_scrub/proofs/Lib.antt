@@ -5,3 +5,4 @@ pub mod Telling
 pub mod WorkedScrub
 pub mod FittingLaws
 pub mod MendingLaws
+pub mod Laws

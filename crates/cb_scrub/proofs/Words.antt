@@ -8,8 +8,7 @@ use Rattle.cb_gf256.specs.Product.{◌⊗◌}
 use Rattle.cb_gf256.specs.Power.{power}
 use Rattle.cb_gf256.specs.Rows.{row_at, byte_at}
 use Rattle.cb_gf256.specs.CodeWord.{syndrome}
-use Rattle.cb_gf256.proofs.PublicLaws.{sum_commutes, sum_with_zero, sum_is_byte, product_commutes, product_with_zero, factor_cancels, power_is_byte, powers_of_two_differ}
-use Rattle.cb_gf256.proofs.Words.{same_rows, HoldBytes-from_byte_at}
+use Rattle.cb_gf256.proofs.PublicLaws.{sum_commutes, sum_with_zero, sum_is_byte, product_commutes, product_with_zero, factor_cancels, power_is_byte, powers_of_two_differ, same_rows, HoldBytes-from_byte_at}
 use Rattle.cb_scrub.specs.Wrong.{HaveParities, IsWord, IsWordBut, IsOneWrong}
 use Rattle.cb_scrub.specs.Fitting.{Fits}
 use Rattle.cb_scrub.specs.Mended.{sum_of_others, mended}

@@ -9,8 +9,7 @@ use Rattle.cb_world.specs.World.{WorldState, IsSoundWorld}
 use Rattle.cb_world.specs.declared.shown.Shown.{Shown}
 use Rattle.cb_scrub_world.specs.Scrub.{MayScrub, with_nodes}
 use Rattle.cb_scrub_world.specs.Spoilt.{IsSoundAgain, IsSpoilt}
-use Rattle.cb_scrub_world.proofs.Restored.{byte_is_spoilt}
-use Rattle.cb_scrub_world.proofs.SoundScrub.{sound_may_scrub}
+use Rattle.cb_scrub_world.proofs.Laws.{byte_is_spoilt, sound_may_scrub}
 use Rattle.cb_scrub_tests.specs.Shards.{IsFirstSets}
 
 few_given : (w : WorldState) → IsSoundWorld w → w.far.nodes.given < 2 ^ 61

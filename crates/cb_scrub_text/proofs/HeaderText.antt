@@ -7,9 +7,7 @@ use Rattle.std.proofs.lemmas.List.Splits.{join_with_byte-slice_split}
 use Rattle.cb_script.specs.Cut.{texts}
 use Rattle.cb_script.specs.Found.{Finds}
 use Rattle.cb_script.specs.Spelling.{words_of, setting}
-use Rattle.cb_script.proofs.HeaderWords.{text_at, text_at_is}
-use Rattle.cb_script.proofs.Headers.{setting_injective}
-use Rattle.cb_script.proofs.Words.{AreWords, IsWord-setting, word_from_test, words_split}
+use Rattle.cb_script.proofs.PublicLaws.{text_at, text_at_is, setting_injective, AreWords, IsWord-setting, word_from_test, words_split}
 use Rattle.cb_scrub_text.specs.declared.header.Sizes.{Sizes}
 use Rattle.cb_scrub_text.specs.Form.{AreSizes, header_words, header_line}
 

@@ -4,3 +4,4 @@ pub mod RowsRead
 pub mod Fronts
 pub mod OneReading
 pub mod WorkedRows
+pub mod Laws

@@ -11,8 +11,7 @@ use Rattle.cb_scrub.specs.declared.found.Found.{Found}
 use Rattle.cb_scrub.specs.declared.found.Found.TheVariants.{Clean, One, Many}
 use Rattle.cb_scrub.specs.Finds.{IsFound}
 use Rattle.cb_scrub.specs.Wrong.{HaveParities}
-use Rattle.cb_scrub.proofs.Findings.{one_finding}
-use Rattle.cb_scrub.proofs.Words.{one_word}
+use Rattle.cb_scrub.proofs.Laws.{one_finding, one_word}
 use Rattle.cb_cli.specs.declared.verdict.Verdict.{Verdict}
 use Rattle.cb_cli.specs.declared.verdict.Verdict.TheVariants.{Done, Refused}
 use Rattle.cb_scrub_text.specs.declared.asked.Asked.{Asked}

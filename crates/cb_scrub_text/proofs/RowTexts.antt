@@ -4,7 +4,7 @@ use Rattle.hex.specs.Hex.{lower_digits, encode_lower, decode_of}
 use Rattle.hex.proofs.HexLemmas.{length-encode_with, decode_of-encode_lower}
 use Rattle.cb_gf256.specs.Rows.{HaveLength}
 use Rattle.cb_script.specs.Hexadecimal.{IsLowerDigit}
-use Rattle.cb_script.proofs.HexText.{bytes_at, lower_encoded}
+use Rattle.cb_script.proofs.PublicLaws.{bytes_at, lower_encoded}
 use Rattle.cb_scrub_text.specs.Reading.{SpellsRow, IsNoRow}
 
 pub encoded_length : (row : List ℕ) → length (encode_lower row) ≡ 2 * length row

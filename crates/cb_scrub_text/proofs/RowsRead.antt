@@ -6,7 +6,7 @@ use Rattle.std.proofs.lemmas.List.{append-nil, length-set, length-take-le, map-a
 use Rattle.hex.specs.Hex.{encode_lower}
 use Rattle.cb_gf256.specs.Rows.{HaveLength, HoldBytes}
 use Rattle.cb_script.specs.Spelling.{without_empty_end, lines_of}
-use Rattle.cb_script.proofs.Cuts.{HasFirst, split_has, without_empty_end-more}
+use Rattle.cb_script.proofs.PublicLaws.{HasFirst, split_has, without_empty_end-more}
 use Rattle.cb_scrub_text.specs.Reading.{IsReadInto, StopsBehind, StopsAt, AreRowsOf}
 
 -- ---- a text that is not empty has a line

@@ -17,10 +17,7 @@ use Rattle.cb_scrub.specs.declared.found.Found.TheVariants.{Clean, One, Many}
 use Rattle.cb_scrub.specs.Finds.{IsFound}
 use Rattle.cb_scrub.specs.Mended.{mended, row_of_others}
 use Rattle.cb_scrub.specs.Wrong.{HaveParities, IsWord, IsWordBut}
-use Rattle.cb_scrub.proofs.Differing.{length-others, mended_row}
-use Rattle.cb_scrub.proofs.Findings.{have_parities, near_word}
-use Rattle.cb_scrub.proofs.MendingLaws.{mended_word}
-use Rattle.cb_scrub.proofs.Words.{one_word}
+use Rattle.cb_scrub.proofs.Laws.{length-others, mended_row, have_parities, near_word, mended_word, one_word}
 use Rattle.cb_types.specs.declared.NoMemory.{NoMemory}
 use Rattle.cb_set.specs.Nodes.{OnDistinctNodes}
 use Rattle.cb_set.specs.SetState.{SetState, parities}

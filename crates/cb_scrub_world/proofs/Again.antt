@@ -8,7 +8,7 @@ use Rattle.cb_node.specs.NodesState.{NodesState, known_row}
 use Rattle.cb_scrub.specs.declared.found.Found.{Found}
 use Rattle.cb_scrub.specs.declared.found.Found.TheVariants.{Clean, One, Many}
 use Rattle.cb_scrub.specs.Mended.{row_of_others}
-use Rattle.cb_scrub.proofs.Differing.{mended_row}
+use Rattle.cb_scrub.proofs.Laws.{mended_row}
 use Rattle.cb_set.specs.SetState.{SetState}
 use Rattle.cb_types.specs.declared.NoMemory.{NoMemory}
 use Rattle.cb_types.specs.declared.handle.SetId.{SetId}

@@ -7,3 +7,4 @@ pub mod SoundScrub
 pub mod Again
 pub mod Restored
 pub mod WorkedSpoilt
+pub mod Laws

@@ -31,7 +31,7 @@ use Rattle.cb_world.specs.SetWord.{IsShaped, IsWordOf}
 use Rattle.cb_world.specs.Sets.{set_in}
 use Rattle.cb_world.specs.Sound.{Sound}
 use Rattle.cb_world.specs.declared.shown.Shown.{Shown}
-use Rattle.cb_world.proofs.Alike.{recounted_sound}
+use Rattle.cb_world.proofs.Laws.{recounted_sound}
 use Rattle.cb_scrub_world.specs.declared.scrubbed.Scrubbed.{Scrubbed}
 use Rattle.cb_scrub_world.specs.declared.scrubbed.Scrubbed.TheVariants.{Done, Skipped, Set}
 use Rattle.cb_scrub_world.specs.Scrub.{Examines, KeepsWord, Leaves, MakesRight, Scrubs, with_nodes}

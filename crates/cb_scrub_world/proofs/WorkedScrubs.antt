@@ -5,8 +5,7 @@ use Rattle.std.specs.Ordering.{nat_cmp}
 use Rattle.cb_member.specs.declared.names.Shard.{Shard}
 use Rattle.cb_node.specs.NodesState.{NodesState, has, known_row}
 use Rattle.cb_scrub.specs.declared.found.Found.TheVariants.{Clean, One, Many}
-use Rattle.cb_scrub.proofs.WorkedScrub.{word, one, many, word_but, is_word, no_word, but_no_word, parities}
-use Rattle.cb_scrub.proofs.Words.{one_word}
+use Rattle.cb_scrub.proofs.Laws.{word, one, many, word_but, is_word, no_word, but_no_word, parities, one_word}
 use Rattle.cb_scrub.specs.Wrong.{IsWord}
 use Rattle.cb_types.specs.declared.handle.SetId.{SetId}
 use Rattle.cb_world.specs.FarState.{FarState}

@@ -15,7 +15,7 @@ use Rattle.cb_world.specs.FarState.{FarState}
 use Rattle.cb_world.specs.Fetched.{with_given}
 use Rattle.cb_world.specs.Sets.{SetMap, set_in}
 use Rattle.cb_world.specs.declared.shown.Shown.{Shown}
-use Rattle.cb_world.proofs.Empty.{empty_sound}
+use Rattle.cb_world.proofs.Laws.{empty_sound}
 use Rattle.cb_scrub_world.specs.Scrub.{with_nodes}
 use Rattle.cb_scrub_world.specs.Spoilt.{IsSoundAgain, IsSpoilt}
 use Rattle.cb_scrub_world.proofs.Restored.{as_sound}

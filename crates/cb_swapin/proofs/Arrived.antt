@@ -18,8 +18,7 @@ use Rattle.cb_world.specs.Fetched.{with_given}
 use Rattle.cb_world.specs.LeftOver.{nodes_left, sets_left}
 use Rattle.cb_world.specs.FarState.{FarState, span_in}
 use Rattle.cb_world.specs.LocalSound.{LocalSound, AreFrames, AreKnown, ArePlaced, HasSlot, IsStamped, LiesAt, NamesObject}
-use Rattle.cb_world.proofs.GivenUp.{live_names}
-use Rattle.cb_world.proofs.Windows.{length_put}
+use Rattle.cb_world.proofs.Laws.{live_names, length_put}
 use Rattle.cb_swapin.specs.Named.{AreCleared, Names, IsNamed}
 use Rattle.cb_swapin.specs.BroughtIn.{IsSpanBrought}
 use Rattle.cb_swapin.proofs.SlotNames.{named_or_not}

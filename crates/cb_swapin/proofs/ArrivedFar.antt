@@ -26,19 +26,9 @@ use Rattle.cb_world.specs.FarSound.{AwaySound}
 use Rattle.cb_world.specs.GivenUp.{GivesUp}
 use Rattle.cb_world.specs.LocalSound.{LiesAt}
 use Rattle.cb_world.specs.Sound.{AreNoted, IsLeaving, Sound}
-use Rattle.cb_world.proofs.Apart.{slot_inside}
-use Rattle.cb_world.proofs.NowKept.{brought_now, now_kept}
-use Rattle.cb_world.proofs.GivenUpNow.{left_gone}
+use Rattle.cb_world.proofs.Laws.{slot_inside, brought_now, now_kept, left_gone, room_left, left_count, left_others, left_over, noted_by, reserved_is_other, KeepsLeaving, batch_kept, given_whole, put_else, window_same, length_words, row_put, left_whole}
 use Rattle.cb_world.specs.Fetched.{with_given}
 use Rattle.cb_world.specs.Rooms.{HaveRoom}
-use Rattle.cb_world.proofs.Rooms.{room_left}
-use Rattle.cb_world.proofs.SetsLeft.{left_count, left_others, left_over}
-use Rattle.cb_world.proofs.Reserving.{noted_by, reserved_is_other}
-use Rattle.cb_world.proofs.Unmoved.{KeepsLeaving, batch_kept}
-use Rattle.cb_world.proofs.Whole.{given_whole}
-use Rattle.cb_world.proofs.Windows.{put_else, window_same}
-use Rattle.cb_world.proofs.RowWords.{length_words, row_put}
-use Rattle.cb_world.proofs.Surveying.{left_whole}
 use Rattle.cb_swapin.specs.Named.{Names, IsNamed}
 use Rattle.cb_swapin.proofs.Committed.{live_within}
 use Rattle.cb_swapin.proofs.SlotNames.{named_or_not, named_within}

@@ -10,7 +10,7 @@ use Rattle.cb_world.specs.declared.shown.Shown.{Shown}
 use Rattle.cb_world.specs.Sets.{set_in}
 use Rattle.cb_world.specs.FarState.{FarState}
 use Rattle.cb_world.specs.FarSound.{AwaySound}
-use Rattle.cb_world.proofs.GivenUp.{live_names}
+use Rattle.cb_world.proofs.Laws.{live_names}
 
 pub set_same : (a b : SetState) → Some a ≡ Some b → a ≡ b
 set_same a b e = cc

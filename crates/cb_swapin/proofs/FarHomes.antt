@@ -10,7 +10,7 @@ use Rattle.cb_world.specs.Sets.{set_in}
 use Rattle.cb_world.specs.SetWord.{is_broken}
 use Rattle.cb_world.specs.FarState.{FarState}
 use Rattle.cb_world.specs.World.{IsKnown}
-use Rattle.cb_world.proofs.Alike.{recounted_sound}
+use Rattle.cb_world.proofs.Laws.{recounted_sound}
 use Rattle.cb_swapin.specs.Fetching.{far_given}
 
 -- the object of a home is gone where the set of its home is broken

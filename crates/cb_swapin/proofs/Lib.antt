@@ -23,3 +23,4 @@ mod WorkedSwap
 mod WorkedWord
 mod WorkedSwapStep
 mod WorkedEvents
+pub mod Laws

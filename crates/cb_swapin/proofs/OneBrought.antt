@@ -14,7 +14,7 @@ use Rattle.cb_world.specs.Shown.{Covers, Fits, object_at, version_at}
 use Rattle.cb_world.specs.Settling.{MaySettle, MaySettleAs, MayBring, settled_words}
 use Rattle.cb_world.specs.Played.{Agrees, after, played}
 use Rattle.cb_world.specs.Written.{Writes, adds_as, entry}
-use Rattle.cb_world.proofs.Claimed.{settled_here}
+use Rattle.cb_world.proofs.Laws.{settled_here}
 use Rattle.cb_swapin.specs.Waiting.{IsReady}
 use Rattle.cb_swapin.specs.BroughtIn.{BringsOne, with_here}
 

@@ -13,7 +13,7 @@ use Rattle.cb_world.specs.FrameWords.{OwnsWords, stores_from}
 use Rattle.cb_world.specs.Looks.{LooksFirst, NoClaim}
 use Rattle.cb_world.specs.Written.{Writes}
 use Rattle.cb_world.specs.RowWords.{words_in}
-use Rattle.cb_world.proofs.RowWords.{length_words}
+use Rattle.cb_world.proofs.Laws.{length_words}
 use Rattle.cb_swapin.specs.Brings.{StoresIn}
 use Rattle.cb_swapin.specs.Waiting.{IsVacant}
 use Rattle.cb_swapin.specs.BroughtIn.{Brought}

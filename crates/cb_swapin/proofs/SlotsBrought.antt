@@ -19,8 +19,7 @@ use Rattle.cb_world.specs.Played.{played}
 use Rattle.cb_world.specs.Looks.{LooksFirst}
 use Rattle.cb_world.specs.Allowed.{Allowed}
 use Rattle.cb_world.specs.Written.{Writes, written_by}
-use Rattle.cb_world.proofs.Tracing.{played_append, written_append}
-use Rattle.cb_world.proofs.Untouched.{allowed_append}
+use Rattle.cb_world.proofs.Laws.{played_append, written_append, allowed_append}
 use Rattle.cb_swapin.specs.Named.{Names, NamesApart}
 use Rattle.cb_swapin.specs.Brings.{Brings}
 use Rattle.cb_swapin.specs.Waiting.{AreStored, IsReady, IsStored}

@@ -12,10 +12,7 @@ use Rattle.cb_world.specs.Played.{played}
 use Rattle.cb_world.specs.Looks.{LooksFirst, NoClaim}
 use Rattle.cb_world.specs.Written.{written_by}
 use Rattle.cb_world.specs.RowWords.{words_in}
-use Rattle.cb_world.proofs.Tracing.{played_append, written_append}
-use Rattle.cb_world.proofs.Untouched.{allowed_append}
-use Rattle.cb_world.proofs.Windows.{length_put}
-use Rattle.cb_world.proofs.RowWords.{row_put}
+use Rattle.cb_world.proofs.Laws.{played_append, written_append, allowed_append, length_put, row_put}
 use Rattle.cb_swapin.specs.Brings.{Brings, StoresIn}
 use Rattle.cb_swapin.specs.Waiting.{AreStored, AreWaiting}
 use Rattle.cb_swapin.specs.BroughtIn.{AreBrought, Brought, IsSpanBrought}

@@ -16,9 +16,7 @@ use Rattle.cb_world.specs.Fetched.{rows_needed, with_given}
 use Rattle.cb_world.specs.Plain.{Words}
 use Rattle.cb_world.specs.Sets.{SetMap, set_in}
 use Rattle.cb_world.specs.Sound.{Sound}
-use Rattle.cb_world.proofs.Codes.{SetCodes, codes_left}
-use Rattle.cb_world.proofs.SetsLeft.{left_given}
-use Rattle.cb_world.proofs.Staying.{Stays, StaysIf, stays_same}
+use Rattle.cb_world.proofs.Laws.{SetCodes, codes_left, left_given, Stays, StaysIf, stays_same}
 use Rattle.cb_swapin.specs.Fetching.{far_given}
 use Rattle.cb_swapin.specs.SwapRule.{IsSwappedTo, SwapFar, SwapRule}
 use Rattle.cb_swapin.specs.SwapStep.{IsSwapStep}

@@ -17,8 +17,7 @@ use Rattle.cb_world.specs.Memory.{put}
 use Rattle.cb_world.specs.Plain.{Words}
 use Rattle.cb_world.specs.RowWords.{words_in}
 use Rattle.cb_world.specs.World.{word_at}
-use Rattle.cb_world.proofs.Added.{set_same}
-use Rattle.cb_world.proofs.Fixed.{IsOneEnd}
+use Rattle.cb_world.proofs.Laws.{set_same, IsOneEnd}
 use Rattle.cb_swapin.specs.Named.{AreCleared, IsNamed}
 use Rattle.cb_swapin.specs.SwapRule.{IsSwappedTo, swap_answer}
 use Rattle.cb_swapin.specs.SwapStep.{AreBroughtTo, IsSwapped, IsSwapStep, SwapChange, brought_word}

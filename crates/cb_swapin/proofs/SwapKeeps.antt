@@ -15,7 +15,7 @@ use Rattle.cb_world.specs.Sets.{set_in}
 use Rattle.cb_world.specs.SetWord.{is_broken}
 use Rattle.cb_world.specs.FarState.{FarState}
 use Rattle.cb_world.specs.World.{IsKnown}
-use Rattle.cb_world.proofs.SetsLeft.{left_count, left_given, left_room}
+use Rattle.cb_world.proofs.Laws.{left_count, left_given, left_room}
 use Rattle.cb_swapin.specs.SwapRule.{IsSwappedTo}
 use Rattle.cb_swapin.specs.SwapStep.{IsSwapped, SwapChange, IsSwapStep}
 use Rattle.cb_swapin.proofs.SwapAnswers.{by_answer, only_no_frame}

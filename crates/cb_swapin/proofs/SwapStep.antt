@@ -15,7 +15,7 @@ use Rattle.cb_world.specs.FarState.{FarState}
 use Rattle.cb_world.specs.FarSound.{IsSetWord}
 use Rattle.cb_world.specs.Now.{now}
 use Rattle.cb_world.specs.World.{IsKnown}
-use Rattle.cb_world.proofs.StillPerforms.{PerformsStill, RunsStill, runs_still, known_then}
+use Rattle.cb_world.proofs.Laws.{PerformsStill, RunsStill, runs_still, known_then}
 use Rattle.cb_swapin.specs.SwapRule.{IsSwappedTo, SwapFar, SwapRule}
 use Rattle.cb_swapin.specs.SwapEffect.{IsSwappedIn, SwapEffect}
 use Rattle.cb_swapin.specs.SwapStep.{AreBroughtTo, IsSwapped, SwapChange, IsSwapStep}

@@ -20,9 +20,7 @@ use Rattle.cb_world.specs.Plain.{Words, Shows}
 use Rattle.cb_world.specs.StillDesk.{plain_follows, plain_stays}
 use Rattle.cb_world.specs.FarState.{FarState}
 use Rattle.cb_world.specs.World.{word_at}
-use Rattle.cb_world.proofs.Known.{HereIs, AreSeen, seen_after, seen_known}
-use Rattle.cb_world.proofs.StillWords.{FreeIs, free_after, word_back}
-use Rattle.cb_world.proofs.StillPerforms.{RunsStill}
+use Rattle.cb_world.proofs.Laws.{HereIs, AreSeen, seen_after, seen_known, FreeIs, free_after, word_back, RunsStill}
 use Rattle.cb_swapin.specs.BroughtIn.{IsBrought, IsAsBefore, IsSpanBrought}
 use Rattle.cb_swapin.specs.SwapStep.{AreBroughtTo, brought_word}
 

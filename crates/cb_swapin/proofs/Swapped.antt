@@ -18,7 +18,7 @@ use Rattle.cb_world.specs.LeftOver.{nodes_left, sets_left, survey_left}
 use Rattle.cb_world.specs.Written.{Writes}
 use Rattle.cb_swapin.specs.Named.{AreCleared}
 use Rattle.cb_world.specs.declared.survey.Survey.{Survey}
-use Rattle.cb_world.proofs.Surveying.{left_whole}
+use Rattle.cb_world.proofs.Laws.{left_whole}
 use Rattle.cb_swapin.specs.BroughtIn.{IsSpanBrought}
 use Rattle.cb_swapin.specs.Fetching.{IsFetched, far_given, losses_of}
 use Rattle.cb_swapin.specs.SwapRule.{IsSwappedTo, frame_answer, swap_answer}

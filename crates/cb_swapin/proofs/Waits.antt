@@ -24,8 +24,7 @@ use Rattle.cb_world.specs.FarState.{FarState, span_in}
 use Rattle.cb_world.specs.LocalSound.{LocalSound, IsStamped}
 use Rattle.cb_world.specs.FarSound.{AwaySound}
 use Rattle.cb_world.specs.Sound.{Sound}
-use Rattle.cb_world.proofs.Apart.{slot_inside}
-use Rattle.cb_world.proofs.Claimed.{avoids}
+use Rattle.cb_world.proofs.Laws.{slot_inside, avoids}
 use Rattle.cb_swapin.specs.Named.{Names, IsNamed, NamesApart}
 use Rattle.cb_swapin.specs.Brings.{IsInFrame}
 use Rattle.cb_swapin.specs.Waiting.{AreWaiting, IsInRow, IsVacant}

@@ -18,8 +18,7 @@ use Rattle.cb_world.specs.Now.{broken_set, now, now_as}
 use Rattle.cb_world.specs.Now.Now.{held}
 use Rattle.cb_world.specs.RowWords.{words_in}
 use Rattle.cb_world.specs.Sets.{set_in}
-use Rattle.cb_world.proofs.RowWords.{row_put}
-use Rattle.cb_world.proofs.WorkedWord.{row}
+use Rattle.cb_world.proofs.Laws.{row_put, row}
 use Rattle.cb_swapin.specs.BroughtIn.{IsAsBefore, IsSpanBrought}
 use Rattle.cb_swapin.specs.Named.{IsNamed}
 use Rattle.cb_swapin.specs.SwapEffect.{IsSwappedIn}

@@ -11,8 +11,7 @@ use Rattle.cb_world.specs.declared.object.Object.TheVariants as is
 use Rattle.cb_world.specs.declared.shown.Shown.{Shown}
 use Rattle.cb_world.specs.Memory.{put}
 use Rattle.cb_world.specs.RowWords.{words_in}
-use Rattle.cb_world.proofs.RowWords.{length_words}
-use Rattle.cb_world.proofs.Windows.{length_put, put_else}
+use Rattle.cb_world.proofs.Laws.{length_words, length_put, put_else}
 use Rattle.cb_swapin.specs.Named.{AreCleared, IsNamed, Names, NamesApart}
 use Rattle.cb_swapin.specs.Brings.{Brings, StoresIn}
 use Rattle.cb_swapin.specs.BroughtIn.{IsAsBefore, IsSpanBrought}

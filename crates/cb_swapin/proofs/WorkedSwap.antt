@@ -20,7 +20,7 @@ use Rattle.cb_world.specs.LeftOver.{nodes_left, sets_left}
 use Rattle.cb_world.specs.Sets.{SetMap, set_in}
 use Rattle.cb_world.specs.FarState.{FarState}
 use Rattle.cb_world.specs.Survey.{no_survey}
-use Rattle.cb_world.proofs.WorkedWord.{at, node}
+use Rattle.cb_world.proofs.Laws.{at, node}
 use Rattle.cb_swapin.specs.Fetching.{far_given, losses_of}
 use Rattle.cb_swapin.specs.SwapRule.{IsSwappedTo, SwapFar, swap_answer}
 

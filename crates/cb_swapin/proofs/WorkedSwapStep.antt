@@ -21,9 +21,7 @@ use Rattle.cb_world.specs.RowWords.{words_in}
 use Rattle.cb_world.specs.Sets.{set_in}
 use Rattle.cb_world.specs.SetWord.{IsWordOf}
 use Rattle.cb_world.specs.World.{word_at}
-use Rattle.cb_world.proofs.RowWords.{length_words}
-use Rattle.cb_world.proofs.Windows.{length_put, put_at, put_else}
-use Rattle.cb_world.proofs.WorkedWord.{at, row, rows}
+use Rattle.cb_world.proofs.Laws.{length_words, length_put, put_at-windows as put_at, put_else, at, row, rows}
 use Rattle.cb_swapin.specs.Named.{IsNamed}
 use Rattle.cb_swapin.specs.Fetching.{far_given}
 use Rattle.cb_swapin.specs.SwapRule.{IsSwappedTo, swap_answer}

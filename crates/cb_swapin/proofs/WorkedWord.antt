@@ -3,7 +3,7 @@ use Rattle.std.proofs.Common.{◌≡◌, ℕ, List, refl, ap, lit≤}
 use Rattle.cb_gf256.specs.Rows.{row_at}
 use Rattle.cb_node.specs.NodesState.{NodesState, empty_nodes}
 use Rattle.cb_world.specs.SetWord.{IsWordOf}
-use Rattle.cb_world.proofs.WorkedWord.{only_word, rows, with_two_rows, is_word as is_worked_word}
+use Rattle.cb_world.proofs.Laws.{only_word, rows, with_two_rows, is_word as is_worked_word}
 use Rattle.cb_swapin.proofs.WorkedSwap.{first, members, second, set}
 
 abbrev pub nodes : NodesState

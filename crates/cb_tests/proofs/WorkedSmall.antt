@@ -5,7 +5,7 @@ use Rattle.cb_types.specs.declared.config.Config.{Config}
 use Rattle.cb_types.specs.declared.config.Field.TheVariants.{K, R, Nodes, Frames, Room, Handles, Turns}
 use Rattle.cb_types.specs.Config.{IsAccepted}
 use Rattle.cb_world.specs.World.{IsSoundWorld, empty_world}
-use Rattle.cb_world.proofs.Worlds.{empty_world_sound}
+use Rattle.cb_world.proofs.Laws.{empty_world_sound}
 use Rattle.cb_tests.specs.Worlds.{IsSmall, small}
 
 accepted : IsAccepted small

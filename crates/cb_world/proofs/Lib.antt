@@ -91,3 +91,4 @@ mod WorkedPairs
 mod WorkedBatch
 mod WorkedRooms
 pub mod WorkedWord
+pub mod Laws

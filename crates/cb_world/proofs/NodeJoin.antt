@@ -9,7 +9,7 @@ use Rattle.cb_member.specs.declared.names.Epoch.{Epoch}
 use Rattle.cb_member.specs.declared.names.NodeId.{NodeId}
 use Rattle.cb_member.specs.declared.names.Shard.{Shard}
 use Rattle.cb_member.specs.Membership.{Membership, alive, incarnation, fresh_node, with_join}
-use Rattle.cb_member.proofs.Laws.{join_keeps_crashes, join_keeps_count, join_stays_valid, join_raises_incarnation, join_keeps_others}
+use Rattle.cb_member.proofs.Laws.{join_keeps_crashes, join_keeps_count, join_stays_valid, join_raises_incarnation, join_keeps_others, crash_stays_valid}
 use Rattle.cb_set.specs.Lost.{loss_of, is_lost, lost}
 use Rattle.cb_set.specs.SetState.{SetState, parities}
 use Rattle.std.proofs.lemmas.Bool.{cases_eq}
@@ -30,7 +30,6 @@ use Rattle.cb_world.specs.Sets.{set_in}
 use Rattle.cb_world.specs.Leaving.{LeavingState}
 use Rattle.cb_world.specs.Sound.{AreNoted, IsLeaving}
 use Rattle.std.specs.Prelude.{nat_lt}
-use Rattle.cb_member.proofs.Laws.{crash_stays_valid}
 use Rattle.cb_world.proofs.Whole.{crash_whole}
 use Rattle.cb_world.proofs.Joined.{pair_kept}
 use Rattle.cb_world.proofs.Reserving.{noted_by}

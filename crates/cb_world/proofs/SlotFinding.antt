@@ -6,7 +6,7 @@ use Rattle.cb_class.specs.Class.{IsClass}
 use Rattle.cb_frame.specs.FreeFrames.{with_given}
 use Rattle.cb_span.specs.Contents.{Contents, with_cleared}
 use Rattle.cb_span.specs.Places.{frame_of, slot_of}
-use Rattle.cb_span.proofs.Places.{frame_of-slot_place, slot_of-slot_place}
+use Rattle.cb_span.proofs.Laws.{frame_of-slot_place, slot_of-slot_place}
 use Rattle.cb_world.specs.FarState.{class_of, class_in}
 use Rattle.cb_world.specs.Released.{is_last, spans_without, frames_without, IsSlotAt}
 

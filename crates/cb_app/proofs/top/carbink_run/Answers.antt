@@ -1,7 +1,7 @@
 use Rattle.std.proofs.Common.{Ok, Err, refl, sym, ◌∙◌}
 use Rattle.cb_cli.specs.declared.outcome.Due.TheVariants.{Done, WordsRefused, ScriptRefused}
 use Rattle.cb_cli.specs.declared.outcome.Failure.TheVariants.{Read, Write, NoMemory}
-use Rattle.cb_cli.proofs.Statuses.{same_outcome, status_of-le}
+use Rattle.cb_cli.proofs.Laws.{same_outcome, status_of-le}
 use Rattle.cb_app.proofs.Tops.{ends_at, rose_at_read, rose_at_write, stays_but_read, stays_but_write, words_status, due_status}
 use Rattle.cb_app.proofs.top.carbink_run.Goals as goal
 

@@ -3,7 +3,7 @@ use Rattle.cb_member.specs.Membership.{Membership}
 use Rattle.cb_set.specs.Lost.{NodesAreMembers}
 use Rattle.cb_world.specs.Sets.{set_in}
 use Rattle.cb_world.specs.FarState.{FarState}
-use Rattle.cb_world.proofs.FarGone.{are_members}
+use Rattle.cb_world.proofs.Laws.{are_members}
 use Rattle.cb_core.proofs.declining.is_gone.Goals as goal
 
 pub lost_count-requires : goal.lost_count-requires

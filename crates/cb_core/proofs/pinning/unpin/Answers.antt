@@ -1,6 +1,6 @@
 use Rattle.std.proofs.Common.{◌<◌, length, sym, subst}
 use Rattle.cb_world.specs.World.{WorldState, ArePinned}
-use Rattle.cb_world.proofs.Pins.{pin_counts}
+use Rattle.cb_world.proofs.Laws.{pin_counts}
 use Rattle.cb_core.proofs.pinning.unpin.Goals as goal
 
 pub unpin-requires-clause-pinned : goal.unpin-requires-clause-pinned

@@ -1,7 +1,7 @@
 use Rattle.std.proofs.Common.{◌≡◌, ◌+◌, ℕ, length, ap, subst, ◌∙◌, arith}
 use Rattle.cb_gf256.specs.Rows.{row_at, rows_at, byte_at}
 use Rattle.cb_gf256.specs.Placing.{Placed}
-use Rattle.cb_gf256.proofs.Placing.{placed_none}
+use Rattle.cb_gf256.proofs.PublicLaws.{placed_none}
 use Rattle.cb_erase.specs.TwoBlocks.{HasBytes}
 use Rattle.cb_erase.specs.Closing.{sum_by, plain_sum}
 use Rattle.cb_erase.proofs.PairSums.{no_sums, sums_more, shown_pair, pair_put}

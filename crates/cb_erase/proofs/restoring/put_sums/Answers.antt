@@ -2,8 +2,7 @@ use Rattle.std.proofs.Common.{◌≡◌, ◌<◌, [], length, get_or, ap, subst,
 use Rattle.cb_gf256.specs.Rows.{row_at, byte_at}
 use Rattle.cb_gf256.specs.Placing.{Placed}
 use Rattle.std.specs.Simd.Lanes.{put_chunk}
-use Rattle.cb_gf256.proofs.PublicLaws.{written_count, at_default}
-use Rattle.cb_gf256.proofs.Placing.{placed_same, kept_lengths}
+use Rattle.cb_gf256.proofs.PublicLaws.{written_count, at_default, placed_same, kept_lengths}
 use Rattle.cb_erase.proofs.PairSums.{pair_put, pair_lengths}
 use Rattle.cb_erase.proofs.restoring.put_sums.Goals as goal
 

@@ -2,8 +2,7 @@ use Rattle.std.proofs.Common.{◌≡◌, ◌*◌, ◌/◌, length, sym, subst, a
 use Rattle.cb_gf256.specs.Rows.{row_at, rows_at, HaveLength}
 use Rattle.cb_gf256.specs.Corner.{corner}
 use Rattle.cb_gf256.specs.Placing.{Restored}
-use Rattle.cb_gf256.proofs.PublicLaws.{corner_count, corner_lengths}
-use Rattle.cb_gf256.proofs.Placing.{kept_lengths, restored_combinations, restored_kept, source_rows}
+use Rattle.cb_gf256.proofs.PublicLaws.{corner_count, corner_lengths, kept_lengths, restored_combinations, restored_kept, source_rows}
 use Rattle.cb_erase.proofs.restoring.restore.Goals as goal
 
 pub restore-requires-clause-width : goal.restore-requires-clause-width

@@ -2,7 +2,7 @@ use Rattle.std.proofs.Common.{◌≡◌, ◌+◌, ◌-◌, ◌*◌, ◌/◌, ◌
 use Rattle.cb_gf256.specs.Rows.{row_at, rows_at}
 use Rattle.cb_gf256.specs.Combination.{combination}
 use Rattle.cb_gf256.specs.Placing.{Restored}
-use Rattle.cb_gf256.proofs.Placing.{restored_before, restored_none, kept_lengths}
+use Rattle.cb_gf256.proofs.PublicLaws.{restored_before, restored_none, kept_lengths}
 use Rattle.cb_erase.proofs.PairSums.{by_whole, closed_by_whole}
 use Rattle.cb_erase.proofs.restoring.restore_pairs.Goals as goal
 

@@ -10,7 +10,7 @@ use Rattle.cb_world.specs.declared.shown.Shown.{Shown}
 use Rattle.cb_world.specs.Played.{played}
 use Rattle.cb_world.specs.Allowed.{Allowed}
 use Rattle.cb_world.specs.FarState.{FarState, span_in}
-use Rattle.cb_world.proofs.Untouched.{allowed_append}
+use Rattle.cb_world.proofs.Laws.{allowed_append}
 use Rattle.cb_evict.specs.Claims.{AreApart, IsHeldAt}
 use Rattle.cb_evict.specs.Evicting.{IsReady}
 use Rattle.cb_evict.specs.Loading.{LiesInOne}

@@ -4,7 +4,7 @@ use Rattle.cb_world.specs.declared.event.Event.{Event}
 use Rattle.cb_world.specs.declared.event.Event.TheVariants.{Looked}
 use Rattle.cb_evict.proofs.Claims.{claim_of, claim_one, left_one}
 use Rattle.cb_evict.proofs.Slots.{claim_touches, claim_looks_first, look_touches, looks_first}
-use Rattle.cb_world.proofs.Tracing.{found_last}
+use Rattle.cb_world.proofs.Laws.{found_last}
 use Rattle.cb_evict.proofs.claiming.claim_object.Goals as goal
 
 pub returns-in-Claimed-clause-claims : goal.returns-in-Claimed-clause-claims

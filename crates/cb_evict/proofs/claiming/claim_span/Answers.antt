@@ -4,7 +4,7 @@ use Rattle.std.proofs.lemmas.List.{append-nil, append_assoc, drop_at, take_all, 
 use Rattle.cb_types.specs.declared.config.Config.{Config}
 use Rattle.cb_world.specs.declared.leaving.Former.{Former}
 use Rattle.cb_world.specs.Played.{played}
-use Rattle.cb_world.proofs.Tracing.{found_more}
+use Rattle.cb_world.proofs.Laws.{found_more}
 use Rattle.cb_evict.specs.Claims.{IsHeldAt, AreApart}
 use Rattle.cb_evict.specs.Claiming.{GivesBack}
 use Rattle.cb_evict.specs.Looking.{Has}

@@ -3,7 +3,7 @@ use Rattle.std.specs.FinMap as map
 use Rattle.cb_member.specs.declared.names.Shard.{Shard}
 use Rattle.cb_world.specs.Reserved.{put_shards}
 use Rattle.cb_world.specs.Sets.{Kept}
-use Rattle.cb_world.proofs.SetChanging.{kept_same}
+use Rattle.cb_world.proofs.Laws.{kept_same}
 use Rattle.cb_evict.specs.Committing.{with_shards}
 use Rattle.cb_evict.proofs.NamesShards.{insert_over, named_none, named_more, named_all}
 use Rattle.cb_evict.proofs.committing.commit_set.Goals as goal

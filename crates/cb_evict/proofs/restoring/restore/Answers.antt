@@ -4,7 +4,7 @@ use Rattle.cb_types.specs.declared.config.Config.{Config}
 use Rattle.cb_world.specs.declared.leaving.Former.{Former}
 use Rattle.cb_world.specs.declared.event.Event.TheVariants.{Settled}
 use Rattle.cb_world.specs.Played.{played}
-use Rattle.cb_world.proofs.Claimed.{may_put_back}
+use Rattle.cb_world.proofs.Laws.{may_put_back}
 use Rattle.cb_evict.specs.Claiming.{IsOne}
 use Rattle.cb_evict.specs.Restoring.{IsRestoring}
 use Rattle.cb_evict.proofs.Events.{touches_append, no_look_append, first_append}

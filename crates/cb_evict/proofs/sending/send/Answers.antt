@@ -9,8 +9,7 @@ use Rattle.cb_world.specs.declared.event.Event.TheVariants.{Settled}
 use Rattle.cb_world.specs.declared.shown.Shown.{Shown}
 use Rattle.cb_world.specs.Played.{played}
 use Rattle.cb_world.specs.Written.{written_by}
-use Rattle.cb_world.proofs.Tracing.{played_append, written_append}
-use Rattle.cb_world.proofs.Untouched.{allowed_append}
+use Rattle.cb_world.proofs.Laws.{played_append, written_append, allowed_append}
 use Rattle.cb_evict.specs.Claiming.{IsOne}
 use Rattle.cb_evict.specs.Sending.{AreSent}
 use Rattle.cb_evict.proofs.Events.{touches_append, no_look_append, first_append}

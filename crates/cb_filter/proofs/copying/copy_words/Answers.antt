@@ -5,7 +5,7 @@ use Rattle.cb_world.specs.declared.event.Event.TheVariants.{Loaded, Stored}
 use Rattle.cb_world.specs.declared.shown.Shown.{Shown}
 use Rattle.cb_world.specs.Shown.{Owns}
 use Rattle.cb_world.specs.Played.{played}
-use Rattle.cb_world.proofs.Tracing.{played_append}
+use Rattle.cb_world.proofs.Laws.{played_append}
 use Rattle.cb_filter.specs.Copies.{copied_from}
 use Rattle.cb_filter.proofs.Copied.{copied_then, copied_played, owns_put, length_then}
 use Rattle.cb_filter.proofs.copying.copy_words.Goals as goal

@@ -8,7 +8,7 @@ use Rattle.cb_world.specs.declared.shown.Shown.{Shown}
 use Rattle.cb_world.specs.FarState.{FarState}
 use Rattle.cb_world.specs.Played.{played}
 use Rattle.cb_world.specs.Released.{IsSlotAt}
-use Rattle.cb_world.proofs.Claimed.{may_put_back, settled_here, back_written}
+use Rattle.cb_world.proofs.Laws.{may_put_back, settled_here, back_written}
 use Rattle.cb_filter.specs.Seats.{Seat, temp_for}
 use Rattle.cb_filter.specs.Copies.{IsVacant, copied_from}
 use Rattle.cb_filter.specs.Plans.{LiesIn, Plans}

@@ -10,10 +10,7 @@ use Rattle.cb_world.specs.declared.event.Event.TheVariants.{Settled}
 use Rattle.cb_world.specs.declared.shown.Shown.{Shown}
 use Rattle.cb_world.specs.Played.{played}
 use Rattle.cb_world.specs.Sound.{Sound}
-use Rattle.cb_world.proofs.AfterClaim.{claim_after, after_claim, claim_found, claim_taken, claim_first, claim_all_allowed}
-use Rattle.cb_world.proofs.AfterLook.{look_after, look_found, look_first, look_allowed, look_sound, look_still}
-use Rattle.cb_world.proofs.Claimed.{may_put_back, settled_here, back_written}
-use Rattle.cb_world.proofs.Touching.{claim_settles_last, look_settles_last}
+use Rattle.cb_world.proofs.Laws.{claim_after, after_claim, claim_found, claim_taken, claim_first, claim_all_allowed, look_after, look_found, look_first, look_allowed, look_sound, look_still, may_put_back, settled_here, back_written, claim_settles_last, look_settles_last}
 use Rattle.cb_filter.specs.Seats.{Seat, temp_for}
 use Rattle.cb_filter.specs.FilterRule.{FilterAs}
 use Rattle.cb_filter.specs.Plans.{LiesIn, Wants}

@@ -6,7 +6,7 @@ use Rattle.cb_types.specs.declared.reply.Reply.{Reply}
 use Rattle.cb_types.specs.declared.reply.Reply.TheVariants as answer
 use Rattle.cb_core.specs.declared.event.Atomic.TheVariants as atomic
 use Rattle.cb_core.specs.declared.event.Event.TheVariants as event
-use Rattle.cb_core.proofs.Settings.{step_settings}
+use Rattle.cb_core.proofs.Laws.{step_settings}
 use Rattle.cb_world.specs.World.{WorldState}
 use Rattle.cb_lanes.specs.LineStep.{PinEvent, SwapEvent, at_once, stays_far, swapped_in}
 use Rattle.cb_lanes.proofs.FarPins.{far_to_pin}

@@ -3,7 +3,7 @@ use Rattle.std.proofs.lemmas.List.{length-map, take_all, drop_all}
 use Rattle.cb_types.specs.declared.config.Config.{Config}
 use Rattle.cb_script.specs.declared.script.Line.{Line}
 use Rattle.cb_script.specs.Form.{IsRequest}
-use Rattle.cb_model.proofs.Order.{legal_in_order}
+use Rattle.cb_model.proofs.Laws.{legal_in_order}
 use Rattle.cb_lanes.specs.Asked.{asked}
 use Rattle.cb_lanes.proofs.Along.{Along, along_answered, along_ready, along_none, along_holds, lines_push, line_form, line_built}
 use Rattle.cb_lanes.specs.LinesLeft.{AreLeft, lanes_of}

@@ -7,10 +7,7 @@ use Rattle.cb_world.specs.declared.event.Event.TheVariants.{Told}
 use Rattle.cb_world.specs.declared.shown.Shown.{Shown}
 use Rattle.cb_world.specs.Played.{played}
 use Rattle.cb_world.specs.Sound.{Sound}
-use Rattle.cb_world.proofs.AfterClaim.{claim_after, after_claim, claim_found, claim_taken, claim_first, claim_all_allowed}
-use Rattle.cb_world.proofs.AfterLook.{look_after, look_found, look_first, look_allowed, look_sound, look_still}
-use Rattle.cb_world.proofs.Touching.{claim_touches, claim_settles_last, look_touches, look_settles_last}
-use Rattle.cb_world.proofs.Tracing.{looks_played}
+use Rattle.cb_world.proofs.Laws.{claim_after, after_claim, claim_found, claim_taken, claim_first, claim_all_allowed, look_after, look_found, look_first, look_allowed, look_sound, look_still, claim_touches, claim_settles_last, look_touches, look_settles_last, looks_played}
 use Rattle.cb_mutate.specs.FreeRule.{FreeAs}
 use Rattle.cb_mutate.specs.FreeEnds.{FreeEnds}
 use Rattle.cb_mutate.proofs.Freed.{slot_here, slot_at, free_done, free_before, free_refused}

@@ -6,10 +6,8 @@ use Rattle.cb_world.specs.Memory.{window, words_for}
 use Rattle.cb_world.specs.StillDesk.{put_window}
 use Rattle.cb_world.specs.declared.shown.Shown.{Shown}
 use Rattle.cb_world.specs.Played.{played}
-use Rattle.cb_world.proofs.Tracing.{played_append}
+use Rattle.cb_world.proofs.Laws.{played_append, allowed_append, touches_append}
 use Rattle.cb_world.specs.Shown.{Covers}
-use Rattle.cb_world.proofs.Untouched.{allowed_append}
-use Rattle.cb_world.proofs.Touching.{touches_append}
 use Rattle.cb_mutate.proofs.Bytes.{write_none, write_all, wordwise_none, wordwise_all, store_one, stores_more, owns_here}
 use Rattle.cb_mutate.proofs.overwriting.overwrite.Goals as goal
 

@@ -15,9 +15,7 @@ use Rattle.cb_world.specs.Performs.{Performs}
 use Rattle.cb_world.specs.Sound.{Sound}
 use Rattle.cb_world.specs.Still.{IsStill}
 use Rattle.cb_world.specs.Grasped.{Grasps}
-use Rattle.cb_world.proofs.AfterClaim.{claim_after, after_claim, claim_found, claim_taken, claim_first, claim_all_allowed}
-use Rattle.cb_world.proofs.AfterLook.{look_after, look_found, look_first, look_allowed, look_sound, look_still}
-use Rattle.cb_world.proofs.Touching.{claim_touches, claim_settles_last, look_touches, look_settles_last}
+use Rattle.cb_world.proofs.Laws.{claim_after, after_claim, claim_found, claim_taken, claim_first, claim_all_allowed, look_after, look_found, look_first, look_allowed, look_sound, look_still, claim_touches, claim_settles_last, look_touches, look_settles_last}
 use Rattle.cb_mutate.specs.Answered.{AnsweredAs}
 use Rattle.cb_mutate.specs.Reaches.{grasp_of, room_of, HasRoom}
 use Rattle.cb_mutate.specs.ReadRule.{ReadHere, ReadRule, ReadEffect, IsSeenHere}

@@ -7,10 +7,8 @@ use Rattle.cb_world.specs.declared.event.Event.TheVariants.{Told, Settled}
 use Rattle.cb_world.specs.declared.shown.Shown.{Shown}
 use Rattle.cb_ptr.specs.Word.{len_of, place_of}
 use Rattle.cb_world.specs.Settling.{MaySettle}
-use Rattle.cb_world.proofs.Touching.{touches_append}
+use Rattle.cb_world.proofs.Laws.{touches_append, allowed_append, held}
 use Rattle.cb_world.specs.Played.{played}
-use Rattle.cb_world.proofs.Untouched.{allowed_append}
-use Rattle.cb_world.proofs.Claimed.{held}
 use Rattle.cb_mutate.proofs.Loaded.{loads_keep}
 use Rattle.cb_mutate.proofs.Settling.{same_slot, stores_no_look, stores_told, stores_first, owned_at, touches_at, stores_settle_last}
 use Rattle.cb_mutate.proofs.SettledHot.{may_settle_hot, loads_are_stores, loads_allowed, hot_at_end, hot_writes_none, read_bytes, bytes_are}

@@ -10,10 +10,7 @@ use Rattle.cb_world.specs.Write.{IsWrite}
 use Rattle.cb_mutate.specs.Wordwise.{IsWordwise}
 use Rattle.cb_world.specs.Shown.{IsHeld, object_at}
 use Rattle.cb_world.specs.Played.{after, played}
-use Rattle.cb_world.proofs.Tracing.{played_append}
-use Rattle.cb_world.proofs.Untouched.{allowed_append}
-use Rattle.cb_world.proofs.Touching.{touches_append}
-use Rattle.cb_world.proofs.Claimed.{held, may_put_back, settled_here, back_written}
+use Rattle.cb_world.proofs.Laws.{played_append, allowed_append, touches_append, held, may_put_back, settled_here, back_written}
 use Rattle.cb_mutate.proofs.Settling.{same_slot, may_settle_written, stores_no_look, stores_told, stores_first, overwrote, owned_at, stamped, settled_at_end, wrote_one, touches_at, stores_settle_last}
 use Rattle.cb_mutate.proofs.writing.write_claimed.Goals as goal
 

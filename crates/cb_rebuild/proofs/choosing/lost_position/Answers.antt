@@ -4,7 +4,7 @@ use Rattle.cb_set.specs.SetState.{SetState}
 use Rattle.cb_set.specs.Lost.{NodesAreMembers, least_lost}
 use Rattle.cb_world.specs.Sets.{set_in}
 use Rattle.cb_world.specs.FarState.{FarState}
-use Rattle.cb_world.proofs.FarGone.{are_members}
+use Rattle.cb_world.proofs.Laws.{are_members}
 use Rattle.cb_rebuild.proofs.WeakSets.{found_set, some_least}
 use Rattle.cb_rebuild.proofs.choosing.lost_position.Goals as goal
 

@@ -4,7 +4,7 @@ use Rattle.cb_world.specs.FarState.{FarState}
 use Rattle.cb_world.specs.contracts.far.Far.{the_view}
 use Rattle.cb_scrub_world.specs.Scrub.{MayScrub, with_nodes}
 use Rattle.cb_scrub_world.specs.Spoilt.{IsSpoilt}
-use Rattle.cb_scrub_world.proofs.SoundScrub.{spoilt_may_scrub}
+use Rattle.cb_scrub_world.proofs.Laws.{spoilt_may_scrub}
 use Rattle.cb_scrub_tests.specs.Shards.{IsFirstSets}
 use Rattle.cb_scrub_tests.proofs.ScrubbedWorld.{row_is_spoilt}
 use Rattle.cb_scrub_tests.proofs.worlds.spoil.Goals as goal

@@ -13,7 +13,7 @@ use Rattle.cb_world.specs.FarState.{FarState}
 use Rattle.cb_swapin.specs.Brings.{Brings}
 use Rattle.cb_swapin.specs.Named.{AreCleared}
 use Rattle.cb_swapin.specs.Fetching.{far_given}
-use Rattle.cb_world.proofs.FarGone.{are_members}
+use Rattle.cb_world.proofs.Laws.{are_members}
 use Rattle.cb_swapin.proofs.Committed.{live_within}
 use Rattle.cb_swapin.proofs.Waits.{Arrives, homes_within, names_apart, waiting}
 use Rattle.cb_swapin.proofs.ArrivedFar.{sound_arrived, there_of}

@@ -1,6 +1,6 @@
 use Rattle.std.proofs.Common.{ap, subst, sym}
 use Rattle.cb_world.specs.World.{WorldState, IsSoundWorld}
-use Rattle.cb_world.proofs.Worlds.{empty_world_sound}
+use Rattle.cb_world.proofs.Laws.{empty_world_sound}
 use Rattle.cb_tests.proofs.worlds.empty_world.Goals as goal
 
 pub returns-clause-sound : goal.returns-clause-sound

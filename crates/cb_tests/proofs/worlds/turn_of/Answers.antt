@@ -2,7 +2,7 @@ use Rattle.std.proofs.Common.{◌≡◌}
 use Rattle.std.proofs.lemmas.Result.{IfOk-weaker}
 use Rattle.cb_core.specs.declared.event.Event.TheVariants.{Turn}
 use Rattle.cb_core.specs.Step.{Step}
-use Rattle.cb_core.proofs.Settings.{step_settings}
+use Rattle.cb_core.proofs.Laws.{step_settings}
 use Rattle.cb_tests.proofs.worlds.turn_of.Goals as goal
 
 pub returns-clause-settings : goal.returns-clause-settings

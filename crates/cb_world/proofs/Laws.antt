@@ -1,0 +1,57 @@
+-- The lemmas of this crate that other crates cite.
+pub use Rattle.cb_world.proofs.Added.{home_same, set_same, was_far}
+pub use Rattle.cb_world.proofs.AfterClaim.{IsAfterClaim, after_claim, claim_after, claim_all_allowed, claim_first, claim_found, claim_taken}
+pub use Rattle.cb_world.proofs.AfterLook.{look_after, look_allowed, look_first, look_found, look_sound, look_still, taken_before, told_before}
+pub use Rattle.cb_world.proofs.Alike.{recounted_sound, retold_sound}
+pub use Rattle.cb_world.proofs.Apart.{apart, slot_inside, some_same}
+pub use Rattle.cb_world.proofs.BatchGone.{batch_given_up_whole, gone_sets, put_at, put_from}
+pub use Rattle.cb_world.proofs.Beside.{KeepsBeside, put_beside, put_twice_beside, sound_beside}
+pub use Rattle.cb_world.proofs.Bridge.{put_only}
+pub use Rattle.cb_world.proofs.Choices.{few_pass, number, range_more}
+pub use Rattle.cb_world.proofs.Claimed.{avoids, back_written, held, is_claimed_at, lies, may_put_back, settled_here}
+pub use Rattle.cb_world.proofs.Codes.{HasCode, SetCodes, code_as, codes_left, codes_put, codes_removed, codes_stay}
+pub use Rattle.cb_world.proofs.Counting.{count_next}
+pub use Rattle.cb_world.proofs.CrashNow.{BecomesGone, crash_now}
+pub use Rattle.cb_world.proofs.Empty.{empty_never, empty_shows, empty_sound}
+pub use Rattle.cb_world.proofs.Exact.{found_exact, taken_exact}
+pub use Rattle.cb_world.proofs.FarGone.{IsFarFreed, are_members, home_within, shards_there, sound_far_gone}
+pub use Rattle.cb_world.proofs.FarGoneNow.{now_far_gone}
+pub use Rattle.cb_world.proofs.Fixed.{IsOneEnd, chosen_fixed, home_fixed, least_node_fixed, not_crammed, place_fixed, refused_alike, seat_fixed}
+pub use Rattle.cb_world.proofs.Freed.{one_slot}
+pub use Rattle.cb_world.proofs.FreshShard.{IsUpShard, fits_on_least, undrawn_is_fresh, up_is_current, up_is_kept, up_on_least}
+pub use Rattle.cb_world.proofs.GivenUp.{live_names}
+pub use Rattle.cb_world.proofs.GivenUpNow.{left_gone}
+pub use Rattle.cb_world.proofs.Gone.{sound_gone}
+pub use Rattle.cb_world.proofs.Kept.{claim_played, claimed_from, frame_in_range, lies_within, set_back}
+pub use Rattle.cb_world.proofs.Known.{AreSeen, HereIs, seen_after, seen_known}
+pub use Rattle.cb_world.proofs.Merging.{same_data}
+pub use Rattle.cb_world.proofs.NodeJoin.{claimed_stay, local_stays, node_crash_sound, node_join_now, node_join_sound, noted_stays}
+pub use Rattle.cb_world.proofs.NowKept.{brought_now, now_kept, put_away_now}
+pub use Rattle.cb_world.proofs.NowOthers.{contents_beside, near_lies}
+pub use Rattle.cb_world.proofs.NowSame.{bits, empty_now, empty_value, far_object, near_now, near_object, now_by_words, now_same}
+pub use Rattle.cb_world.proofs.PinNow.{pinned_now, unpinned_now}
+pub use Rattle.cb_world.proofs.Pins.{pin_counts, pin_sound, pinned_still, unpin_sound}
+pub use Rattle.cb_world.proofs.PlaceSet.{place_back, place_here, place_on}
+pub use Rattle.cb_world.proofs.Placed.{IsCounted, made_counted, may_lie, next_counted, slot_bounds, sound_brought, with_made}
+pub use Rattle.cb_world.proofs.Reserving.{noted_by, reserved_is_other, reserved_uncommitted}
+pub use Rattle.cb_world.proofs.Rooms.{room_empty, room_left, room_puts}
+pub use Rattle.cb_world.proofs.RowPut.{HasRowPut, IsNewOr, IsRefilled, IsRenamed, row_put_away, row_put_join, row_put_words}
+pub use Rattle.cb_world.proofs.RowWords.{length_words, row_put, windows_agree, words_of_row}
+pub use Rattle.cb_world.proofs.Seen.{batch_owned, frame_owned, frame_spares}
+pub use Rattle.cb_world.proofs.SetChanging.{kept_same, set_there}
+pub use Rattle.cb_world.proofs.SetsLeft.{drop_count, drop_room, left_count, left_given, left_others, left_over, left_room}
+pub use Rattle.cb_world.proofs.SlotFinding.{frame_is}
+pub use Rattle.cb_world.proofs.Slots.{IsEmptySlot, chosen_class, chosen_empty, chosen_stays}
+pub use Rattle.cb_world.proofs.Staying.{IsLike, Rises, Stays, StaysIf, recounted, rises_more, rises_then, stays_like, stays_same}
+pub use Rattle.cb_world.proofs.StillPerforms.{PerformsStill, RunsStill, known_then, runs_still, stays_still}
+pub use Rattle.cb_world.proofs.StillWords.{FreeIs, busy_leaves, empty_exact, free_after, hot_exact, one_exact, settles_other, told_exact, word_back}
+pub use Rattle.cb_world.proofs.Storing.{InRange, KeysApart, drop_elsewhere, put_elsewhere, put_there}
+pub use Rattle.cb_world.proofs.Surveying.{left_whole, stands_still, survey_same, survey_stays, unsurveyed}
+pub use Rattle.cb_world.proofs.Touching.{claim_settles_last, claim_touches, look_settles_last, look_touches, touches_append}
+pub use Rattle.cb_world.proofs.Tracing.{agree_last, found_last, found_more, looks_played, looks_written, played_append, taken_after_looks, taken_more, told_append, written_append}
+pub use Rattle.cb_world.proofs.Unmoved.{KeepsAway, KeepsLeaving, batch_kept, keeps_all, sound_near}
+pub use Rattle.cb_world.proofs.Untouched.{allowed_append}
+pub use Rattle.cb_world.proofs.Whole.{added_whole, given_whole}
+pub use Rattle.cb_world.proofs.Windows.{length_put, put_at as put_at-windows, put_else, set_put, window_at, window_put, window_same}
+pub use Rattle.cb_world.proofs.WorkedWord.{at, is_word, node, only_word, row, row_byte, rows, with_two_rows}
+pub use Rattle.cb_world.proofs.Worlds.{empty_world_sound}
