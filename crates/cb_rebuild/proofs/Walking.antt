@@ -1,5 +1,5 @@
 -- The walk over the sets.
-use Rattle.std.proofs.Common.{◌≡◌, ◌≢◌, ℕ, zero, suc, ◌+◌, ◌-◌, ◌<◌, ◌≤◌, Bool, true, false, nat_eq, Option, Some, None, length, map as mapped, refl, sym, ap, ◌∙◌, subst, arith, inl, inr}
+use Rattle.std.proofs.Common.{◌≡◌, ◌≢◌, ℕ, zero, suc, ◌+◌, ◌-◌, ◌<◌, ◌≤◌, Bool, true, false, nat_eq, List, [], Option, Some, None, length, map as mapped, refl, sym, ap, ◌∙◌, subst, arith, inl, inr}
 use Rattle.std.specs.FinMap as map
 use Rattle.std.proofs.lemmas.Bool.{cases_lt, cases_eq, false≢true, ltb-true, eq-eqb}
 use Rattle.std.proofs.lemmas.List.{get_or-map, get_or_past, length-map}
@@ -7,17 +7,18 @@ use Rattle.std.proofs.lemmas.List.Folds.{list_any_at}
 use Rattle.cb_member.specs.declared.names.Shard.{Shard}
 use Rattle.cb_member.specs.Membership.{Membership}
 use Rattle.cb_set.specs.SetState.{SetState, parities, position_of}
-use Rattle.cb_set.specs.Lost.{lost}
+use Rattle.cb_set.specs.Lost.{NodesAreMembers, lost}
 use Rattle.cb_world.specs.declared.homes.Home.{Home}
 use Rattle.cb_world.specs.declared.shown.Shown.{Shown}
 use Rattle.cb_world.specs.Choices.{numbered, stands_on}
 use Rattle.cb_world.specs.Now.{broken_set}
-use Rattle.cb_world.specs.Sets.{set_in, if_committed}
+use Rattle.cb_world.specs.Sets.{Kept, set_in, if_committed}
+use Rattle.cb_world.specs.SetsFrom.{AreFrom}
 use Rattle.cb_world.specs.SetWord.{IsWeak, is_broken}
 use Rattle.cb_world.specs.Surveyed.{IsSurvey, gone_below}
 use Rattle.cb_world.specs.FarState.{FarState}
 use Rattle.cb_world.specs.FarSound.{AwaySound}
-use Rattle.cb_world.proofs.Laws.{few_pass, number, count_next, live_names}
+use Rattle.cb_world.proofs.Laws.{few_pass, number, count_next, live_names, are_members, IsFirst}
 use Rattle.cb_rebuild.specs.declared.finding.Health.{Health}
 use Rattle.cb_rebuild.specs.declared.finding.Health.TheVariants as health
 use Rattle.cb_rebuild.specs.RebuildStep.{IsFirstWeak, gone_count}
@@ -52,7 +53,8 @@ walked_to far from id gone w low high none = record {
   drawn = high;
   none = λ j set l there. elim (cases_lt j from) [
     | inl before ↦ w.none j set before there
-    | inr after ↦ absurd (none_some set (sym (ap if_committed (none j (omega (arith, after)) l)) ∙ there))
+    | inr after ↦ absurd (none_some set (sym (ap if_committed (none j (omega (arith, after)) l)) ∙
+        there))
   ];
   counted = w.counted ∙ sym (to (id - from) (omega (arith, low)));
 }
@@ -63,7 +65,8 @@ walked_to far from id gone w low high none = record {
 -- ---- one set more
 not_weak : (m : Membership) (set : SetState) (x : Health) → HasHealth m set x → x ≢ health.Weak
     → ¬ (IsWeak m set)
-not_weak m set health.Whole e off weak = let some = weak.some_lost in absurd (omega (arith, some, e))
+not_weak m set health.Whole e off weak = let some = weak.some_lost in absurd
+    (omega (arith, some, e))
 not_weak m set health.Weak e off weak = absurd (off refl)
 not_weak m set health.Gone e off weak = false≢true (sym (weak_not_broken m set weak) ∙ e)
 
@@ -128,6 +131,45 @@ found_none s far from gone sound w none =
       x.counted,
     )
 
+-- ---- the sets, one after another
+pub kept_members : (s : Shown) (far : FarState) (id : ℕ) (kept : Kept) → AwaySound s far
+    → map.get far.sets id ≡ Some kept → (set : SetState) → if_committed (Some kept) ≡ Some set
+    → NodesAreMembers far.members set.shards
+kept_members s far id kept sound there set is =
+    are_members far.members set (sound.sets.shaped id set (ap if_committed there ∙ is))
+
+-- what the walk knows at the next kept set
+module _ (far : FarState) (from id gone : ℕ) (kept : Kept) (rest : List (ℕ × Kept))
+    (w : Walked far from gone) (f : IsFirst far.sets from (id, kept) rest) where
+  up_to : id < far.counts.sets → Walked far id gone
+  up_to below = walked_to far from id gone w f.above (omega (arith, below)) f.none
+
+  health_there : (x : Health) → HealthAt far.members (if_committed (Some kept)) x
+      → HealthAt far.members (set_in far.sets id) x
+  health_there x has = subst (λ (o : Option Kept). HealthAt far.members (if_committed o) x)
+      (sym f.there) has
+
+  pub passed : (x : Health) → id < far.counts.sets → HealthAt far.members
+      (if_committed (Some kept)) x
+      → x ≢ health.Weak → Walked far (id + 1) (gone + gone_number x)
+  passed x below has off = walked_over far id gone x (up_to below) below (health_there x has) off
+
+  pub weak_here : id < far.counts.sets → HealthAt far.members (if_committed (Some kept)) health.Weak
+      → ((set : SetState) × IsFirstWeak far id set) × (gone ≡ gone_below far id)
+  weak_here below has = found_first far id gone (up_to below) (health_there health.Weak has)
+
+  pub past_drawn : (s : Shown) → AwaySound s far → far.counts.sets ≤ id
+      → ((n : ℕ) (set : SetState) → set_in far.sets n ≡ Some set → ¬ (IsWeak far.members set))
+      × (gone ≡ gone_count far)
+  past_drawn s sound past =
+      found_none s far from gone sound w (λ j low below. f.none j low (omega (arith, below, past)))
+
+pub no_more : (s : Shown) (far : FarState) (from gone : ℕ) → AwaySound s far → Walked far from gone
+    → AreFrom far.sets from []
+    → ((id : ℕ) (set : SetState) → set_in far.sets id ≡ Some set → ¬ (IsWeak far.members set))
+    × (gone ≡ gone_count far)
+no_more s far from gone sound w a = found_none s far from gone sound w (λ j low below. a.each j low)
+
 -- ---- no more sets are gone than there are homes
 -- a shard in place of a home, which stands on the node of the set's number
 abbrev home_set : Option Home → ℕ
@@ -143,7 +185,8 @@ no_home home e = cc
 pub few_gone : (s : Shown) (far : FarState) (n : ℕ) → AwaySound s far
     → gone_below far n ≤ length far.homes
 few_gone s far n sound =
-    let most = few_pass (mapped stand_in far.homes) (λ id. broken_set far.members (set_in far.sets id))
+    let most = few_pass (mapped stand_in far.homes)
+    (λ id. broken_set far.members (set_in far.sets id))
     n (λ id l gone. stands id (set_in far.sets id) refl gone) in
     let len = length-map far.homes stand_in in omega (arith, most, len)
   where
@@ -162,7 +205,8 @@ few_gone s far n sound =
               let len = length-map far.homes stand_in in
               list_any_at (λ (shard : Shard). nat_eq shard.node.n id) (mapped stand_in far.homes) h
               (stand_in None) (omega (arith, within, len))
-              (ap (λ (a : Shard). nat_eq a.node.n id) (get_or-map stand_in far.homes h None (stand_in None) within
+              (ap (λ (a : Shard). nat_eq a.node.n id)
+              (get_or-map stand_in far.homes h None (stand_in None) within
               ∙ ap stand_in home) ∙ eq-eqb id id refl)
           | inr past ↦ absurd (no_home _ (sym (get_or_past far.homes h None past) ∙ home))
         ]

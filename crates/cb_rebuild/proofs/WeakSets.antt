@@ -22,10 +22,6 @@ pub found_set : (o : Option (Bor SetState)) (b : Bor SetState) (x : Option SetSt
 found_set o b x set e f there =
     set_same b.now set (sym (ap (λ q. option_map (λ s. s.now) q) f) ∙ e ∙ there)
 
-pub found_there : (o : Option (Bor SetState)) (b : Bor SetState) (x : Option SetState)
-    → option_map (λ s. s.now) o ≡ x → o ≡ Some b → x ≡ Some b.now
-found_there o b x e f = sym e ∙ ap (λ q. option_map (λ s. s.now) q) f
-
 -- ---- the least lost position
 some_same : (a b : ℕ) → Some a ≡ Some b → a ≡ b
 some_same a b e = cc

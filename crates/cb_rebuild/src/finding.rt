@@ -1,9 +1,8 @@
-ghost use Rattle.std.specs.Prelude.{◌≡◌, ◌≢◌, ℕ, ◌+◌, ◌^◌, ◌<◌, ◌≤◌, true, false, IfNone, IfSome, None, Some, length};
-ghost use Rattle.std.specs.FinMap as map;
+ghost use Rattle.std.specs.Prelude.{◌≡◌, ◌≢◌, ℕ, ◌+◌, ◌^◌, ◌<◌, ◌≤◌, true, false, Some, length};
 ghost use Rattle.cb_set.specs.SetState.{SetState};
 ghost use Rattle.cb_set.specs.Lost.{NodesAreMembers};
 ghost use Rattle.cb_world.specs.declared.shown.Shown.{Shown};
-ghost use Rattle.cb_world.specs.Sets.{set_in};
+ghost use Rattle.cb_world.specs.Sets.{if_committed};
 ghost use Rattle.cb_world.specs.FarSound.{AwaySound};
 ghost use Rattle.cb_world.specs.Surveyed.{IsSurvey};
 ghost use Rattle.cb_rebuild.specs.declared.finding.Health.TheVariants as Health;
@@ -11,7 +10,7 @@ ghost use Rattle.cb_rebuild.specs.Finding.{Finds, HasHealth, HealthAt, gone_numb
 
 use cb_member::Members;
 use cb_set::SpanSet;
-use cb_world::{Far, Survey};
+use cb_world::{Far, KeptSet, Survey};
 
 /// How a set stands: it has lost nothing, or what can be made again, or more than that.
 #[derive(Clone, Copy)]
@@ -45,15 +44,24 @@ fn health_of(set: &SpanSet, members: &Members) -> Health
     Health::Gone
 }
 
-/// How the committed set of a number stands. Where there is none, nothing is lost.
-fn health_at(far: &Far, id: u64) -> Health
-    requires sound { (s : Shown) × AwaySound s far.now }
-    ensures { HealthAt far.now.members (set_in far.now.sets id) result }
+/// How a kept set stands. Of one that is not committed nothing is lost.
+fn kept_health(far: &Far, kept: &KeptSet) -> Health
+    requires nodes { (set : SetState) → if_committed (Some kept.now) ≡ Some set
+        → NodesAreMembers far.now.members set.shards }
+    ensures { HealthAt far.now.members (if_committed (Some kept.now)) result }
 {
-    match far.sets.committed(id) {
-        Some(set) => health_of(set, &far.members),
-        None => Health::Whole,
+    if kept.committed {
+        return health_of(&kept.set, &far.members);
     }
+    Health::Whole
+}
+
+/// Whether the number is one that was drawn for a set.
+fn is_drawn(far: &Far, id: u64) -> bool
+    ensures drawn { result ≡ true → id < far.now.counts.sets }
+    ensures other { result ≡ false → far.now.counts.sets ≤ id }
+{
+    id < far.counts.sets
 }
 
 /// 1 for a set that is gone.
@@ -77,25 +85,9 @@ fn is_weak(health: Health) -> bool
     }
 }
 
-/// The least number of a set from this one on, of those that were drawn.
-fn next_drawn(far: &Far, from: u64) -> Option<u64>
-    ensures found { IfSome result (λ id. (from ≤ id) × (id < far.now.counts.sets)) }
-    ensures least { IfSome result (λ id. (j : ℕ) → from ≤ j → j < id
-        → map.get far.now.sets j ≡ None) }
-    ensures none { IfNone result ((j : ℕ) → from ≤ j → j < far.now.counts.sets
-        → map.get far.now.sets j ≡ None) }
-    ensures few { IfSome result (λ id. id + 1 < 2 ^ 64) }
-{
-    let id = far.sets.next(from)?;
-    if id < far.counts.sets {
-        return Some(id);
-    }
-    None
-}
-
 /// The first set that is weak, by number, and how many before it are gone; where none is weak, how
-/// many are gone. Goes on from the survey: looks once at each set from there up to that one, in order.
-/// Takes no memory.
+/// many are gone. Goes on from the survey, in one pass over the sets from there up to that one, and
+/// looks at each of their shards once. Takes no memory.
 pub(crate) fn find_weak(far: &Far) -> Found
     requires sound { (s : Shown) × AwaySound s far.now }
     requires survey { IsSurvey far.now far.now.survey }
@@ -103,14 +95,16 @@ pub(crate) fn find_weak(far: &Far) -> Found
     ensures { Finds far.now result }
 {
     let mut gone = far.survey.gone;
-    let mut from = far.survey.below;
-    while let Some(id) = next_drawn(far, from) {
-        let health = health_at(far, id);
+    let mut sets = far.sets.range_from(far.survey.below);
+    while let Some((id, kept)) = sets.next() {
+        if !is_drawn(far, *id) {
+            return Found::Whole { gone };
+        }
+        let health = kept_health(far, kept);
         if is_weak(health) {
-            return Found::Weak { id, gone };
+            return Found::Weak { id: *id, gone };
         }
         gone += gone_number(health);
-        from = id + 1;
     }
     Found::Whole { gone }
 }

@@ -57,7 +57,8 @@ pub part_put : (ms now dst : List ℕ) (p len : ℕ) → now ≡ ms → len ≡ 
     ++ drop (length (take p now ++ (dst ++ drop (p + 512 - p) (drop p now)))) ms) ≡ put ms p dst
 part_put ms now dst p len same count fits wide =
     ap (λ (l : List ℕ). take len (whole l ++ drop (length (whole l)) ms)) same
-    ∙ ap (λ (l : List ℕ). take len (whole ms ++ l)) (drop_all (length (whole ms)) ms (omega (arith, long)))
+    ∙ ap (λ (l : List ℕ). take len (whole ms ++ l))
+    (drop_all (length (whole ms)) ms (omega (arith, long)))
     ∙ ap (take len) (append-nil (whole ms))
     ∙ take_all len (whole ms) (omega (arith, long, count))
     ∙ ap (λ (l : List ℕ). take p ms ++ (dst ++ l)) rest
@@ -102,7 +103,8 @@ pub window_small : (ms : List ℕ) (p n : ℕ) → All (λ w. w < 2 ^ 64) ms →
 unfolding window
 window_small ms p zero small fits = All-nil (λ w. w < 2 ^ 64)
 window_small ms p (suc n) small fits =
-    All-cons (λ w. w < 2 ^ 64) (get_or ms p 0) (window ms (p + 1) n) (small p 0 (omega (arith, fits)))
+    All-cons (λ w. w < 2 ^ 64) (get_or ms p 0) (window ms (p + 1) n)
+    (small p 0 (omega (arith, fits)))
     (window_small ms (p + 1) n small (omega (arith, fits)))
 
 -- ---- with zeros behind them

@@ -43,6 +43,7 @@ pub use Rattle.cb_world.proofs.RowPut.{HasRowPut, IsNewOr, IsRefilled, IsRenamed
 pub use Rattle.cb_world.proofs.RowWords.{length_words, row_put, windows_agree, words_of_row}
 pub use Rattle.cb_world.proofs.Seen.{batch_owned, frame_owned, frame_spares}
 pub use Rattle.cb_world.proofs.SetChanging.{drops_more, kept_same, set_there}
+pub use Rattle.cb_world.proofs.SetWalk.{IsFirst, first_from}
 pub use Rattle.cb_world.proofs.SetsLeft.{drop_count, drop_fewer, drop_room, drop_there, left_count, left_given, left_others, left_over, left_room}
 pub use Rattle.cb_world.proofs.SlotFinding.{frame_is}
 pub use Rattle.cb_world.proofs.Slots.{IsEmptySlot, chosen_class, chosen_empty, chosen_stays}

@@ -25,6 +25,7 @@ pub mod FarGone
 pub mod FarGoneNow
 pub mod Gathering
 mod NextSet
+pub mod SetWalk
 pub mod NowKept
 pub mod Bridge
 pub mod Merging
@@ -75,6 +76,7 @@ pub mod Pins
 pub mod Fixed
 mod WorkedDesk
 mod WorkedFrames
+mod WorkedWalk
 mod WorkedWorld
 mod WorkedFar
 mod WorkedReserved

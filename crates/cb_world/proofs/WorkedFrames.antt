@@ -26,7 +26,8 @@ count_words = let none : ℕ = 0 in length-replicate 512 none
 all_small : All (λ w. w < 2 ^ 64) no_words
 unfolding no_words
 all_small k d below = let n = count_words in
-    subst (λ (x : ℕ). x < 2 ^ 64) (sym (get_or-replicate 512 k 0 d (omega (arith, below, n)))) (lit< tt)
+    subst (λ (x : ℕ). x < 2 ^ 64) (sym (get_or-replicate 512 k 0 d (omega (arith, below, n))))
+    (lit< tt)
 
 zeros_read : ReadsFrame (λ es. es ≡ loads_from (512 * 1) no_words) 1 (row_of no_words)
 unfolding no_words

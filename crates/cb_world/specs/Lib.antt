@@ -12,6 +12,7 @@ pub mod StillDesk
 pub mod Grasped
 pub mod Written
 pub mod Sets
+pub mod SetsFrom
 pub mod Homes
 pub mod Leaving
 pub mod Joining

@@ -3,11 +3,13 @@ ghost use Rattle.std.specs.Option.{option_map};
 ghost use Rattle.std.specs.FinMap as map;
 ghost use Rattle.cb_set.specs.SetState.{dead_position, position_of, with_position, with_shard, without_object};
 ghost use Rattle.cb_world.specs.Sets.{Kept, set_in};
+ghost use Rattle.cb_world.specs.SetsFrom.{AreFrom};
 
 use cb_member::{NoMemory, Shard};
 use cb_set::SpanSet;
 use std::alloc::Global;
 use std::collections::BTreeMap;
+use std::collections::btree_map::Range;
 use std::marker::Model;
 
 /// A set, and whether it is committed. The set of a batch that is leaving is kept before its commit.
@@ -117,6 +119,14 @@ impl Sets {
     {
         let (id, _) = self.sets.range(from..).next()?;
         Some(*id)
+    }
+
+    /// The sets with a number from this one on, in the order of their numbers: the first one costs the
+    /// logarithm of their count, and each further one a step.
+    pub fn range_from(&self, from: u64) -> Range<'_, u64, KeptSet>
+        ensures { AreFrom self.now from result }
+    {
+        self.sets.range(from..)
     }
 
     /// Keeps the set under its number.

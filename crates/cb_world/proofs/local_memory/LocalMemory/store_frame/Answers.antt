@@ -15,9 +15,11 @@ invariant_of-self c = let e = c.put_words.ensures.room in let r = c.reach.ensure
     (omega (arith, n, len, within), omega (arith, e, room))
 
 pub returns : goal.returns
-returns c = let ws = c.reach.new.front.items in let r = c.reach.ensures in let count = c.self.inside.count in
+returns c = let ws = c.reach.new.front.items in let r = c.reach.ensures in let count =
+    c.self.inside.count in
     let reached = r.reached in let len = c.reach.new.front.ok.0 in
     let first = 512 * c.args.frame in let words = words_in c.args.row.now in
     ap (λ (l : List ℕ). padded l count) c.put_words.ensures.words
-    ∙ padded_put ws count first words (let w = length_words 512 c.args.row.now in omega (arith, w, reached, len))
+    ∙ padded_put ws count first words (let w = length_words 512 c.args.row.now in omega
+    (arith, w, reached, len))
     ∙ ap (λ (l : List ℕ). put l first words) (r.words ∙ c.self.view_is)

@@ -8,7 +8,8 @@ use Rattle.cb_world.proofs.plain_desk.PlainDeskDesk.load_frame.Goals as goal
 pub load_frame-requires : goal.load_frame-requires
 load_frame-requires c = record {
   frame = let sized = c.self.invariant.memory in
-      let f = subst (λ (d : Words). c.args.frame < d.settings.frames) (sym c.self.view_is) c.requires.frame in
+      let f = subst (λ (d : Words). c.args.frame < d.settings.frames) (sym c.self.view_is)
+      c.requires.frame in
       omega (arith, sized, f);
   row = c.requires.row;
 }
