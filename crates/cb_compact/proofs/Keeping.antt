@@ -1,0 +1,142 @@
+-- What the steps of a pair keep: the world is sound, last complete contents stay, and no row is
+-- given.
+use Rattle.std.proofs.Common.{◌≡◌, ℕ, ◌≤◌, List, [], ◌∷◌, Option, Some, None, refl, sym, ap, ◌∙◌, arith}
+use Rattle.std.specs.List.{slice_get}
+use Rattle.std.specs.FinMap as map
+use Rattle.cb_member.specs.declared.names.Shard.{Shard}
+use Rattle.cb_node.specs.NodesState.{NodesState, with_dropped}
+use Rattle.cb_set.specs.SetState.{SetState}
+use Rattle.cb_world.specs.declared.shown.Shown.{Shown}
+use Rattle.cb_world.specs.FarState.{FarState, span_in}
+use Rattle.cb_world.specs.FarSound.{AreRows, FarSound, of_joining}
+use Rattle.cb_world.specs.Join.{IsFresh}
+use Rattle.cb_world.specs.Joining.{JoiningState}
+use Rattle.cb_world.specs.JoinSteps.{IsParted}
+use Rattle.cb_world.specs.Leaving.{LeavingState}
+use Rattle.cb_world.specs.Now.{now}
+use Rattle.cb_span.specs.Contents.{Contents}
+use Rattle.cb_world.specs.Reserved.{IsReserved, IsUnpaired, put_shards}
+use Rattle.cb_world.specs.Sound.{Sound}
+use Rattle.cb_world.specs.Stored.{AreThere, all_dropped}
+use Rattle.cb_world.proofs.Laws.{claimed_stay, drop_count, drop_elsewhere, drop_fewer, drop_there, local_stays, noted_by, pair_now, parted_whole, put_at, put_from, room_dropped, whole_none}
+use Rattle.cb_compact.specs.Standing.{IsFreshPair, with_parted}
+
+-- what a change of the far state keeps
+pub record Keeps (s : Shown) (far new : FarState) : Type 0 where
+  pub sound : Sound s new
+  pub same_now : (h : ℕ) → now s new h ≡ now s far h
+
+pub keeps_all : (s : Shown) (far : FarState) → Sound s far → Keeps s far far
+keeps_all s far sound = record { sound = sound; same_now = λ h. refl }
+
+-- one change after another
+pub keeps_both : (s : Shown) (far mid new : FarState) → Keeps s far mid → Keeps s mid new
+    → Keeps s far new
+keeps_both s far mid new x y = record {
+  sound = y.sound;
+  same_now = λ h. y.same_now h ∙ x.same_now h;
+}
+
+-- local memory and the batch that is leaving stay
+pub record KeepsLocal (far new : FarState) : Type 0 where
+  pub first : new.first ≡ far.first
+  pub made : new.made ≡ far.made
+  pub frames : new.frames ≡ far.frames
+  pub spans : new.spans ≡ far.spans
+  pub leaving : new.leaving ≡ far.leaving
+  pub drawn : far.counts.sets ≤ new.counts.sets
+  pub kept : (batch : LeavingState) → far.leaving ≡ Some batch → IsReserved far batch
+      → map.get new.sets batch.set ≡ map.get far.sets batch.set
+  pub unpaired : (batch : LeavingState) → far.leaving ≡ Some batch → IsReserved far batch
+      → IsUnpaired new batch.set
+
+pub local_sound : (s : Shown) (far new : FarState) → Sound s far → KeepsLocal far new
+    → FarSound s new → Sound s new
+local_sound s far new sound x away = record {
+  here = local_stays s far new x.first x.made x.frames x.spans sound.here;
+  noted = λ batch at. let was = sym x.leaving ∙ at in let n = sound.noted batch was in
+      noted_by s s far new batch (record {
+        spans = λ f leaves. ap (λ (l : List (Option Contents)). span_in l f) x.spans;
+        sets = x.kept batch was n.reserved;
+        drawn = x.drawn;
+        unpaired = λ apart. x.unpaired batch was n.reserved;
+      }) (λ f slot h span leaves there named m. m) n;
+  claimed = claimed_stay s far new x.spans x.leaving sound.claimed;
+  away = away;
+}
+
+-- a pair whose sets stand is fresh
+pub fresh_is : (far : FarState) (pair : JoiningState) (a b : SetState) → IsFreshPair far pair a b
+    → IsFresh far pair a b
+fresh_is far pair a b x = record {
+  a_there = x.a_stands.there;
+  b_there = x.b_stands.there;
+  a_shards = x.a_stands.same;
+  b_shards = x.b_stands.same;
+  a_whole = λ p shard at. whole_none far.members a.shards x.a_stands.whole p shard
+      (ap (λ (l : List Shard). slice_get l p) x.a_stands.same ∙ at);
+  b_whole = λ p shard at. whole_none far.members b.shards x.b_stands.whole p shard
+      (ap (λ (l : List Shard). slice_get l p) x.b_stands.same ∙ at);
+}
+
+-- ---- the pair is given up
+pub steps_there : (far : FarState) (pair : JoiningState) → AreRows far → far.joining ≡ Some pair
+    → AreThere far.nodes (put_shards pair.steps)
+steps_there far pair rows there q shard at =
+    let x = put_from pair.steps q shard at in
+    let y = (rows.current (of_joining x.0) shard (pair, there, x.1)).0 in
+    let n = rows.counted in
+    omega (arith, y, n)
+
+no_pair : (q : JoiningState) → None ≡ Some q → ⊥
+no_pair q e = cc
+
+parted_is : (s : Shown) (far : FarState) (pair : JoiningState) → Sound s far
+    → far.joining ≡ Some pair → IsParted far (with_parted far pair) pair
+parted_is s far pair sound there = record {
+  was = there;
+  now = refl;
+  gone = λ p shard at. let x = put_at pair.steps p shard at in
+      drop_there far.nodes (put_shards pair.steps) x.0 shard rows x.1;
+  stay = λ node key none. drop_elsewhere far.nodes (put_shards pair.steps) node key rows
+      (λ q shard at same. let x = put_from pair.steps q shard at in none x.0 shard x.1 same);
+  fewer = λ node key row at. drop_fewer far.nodes (put_shards pair.steps) node key row rows at;
+  left = record {
+    sets = refl;
+    homes = refl;
+    members = refl;
+    leaving = refl;
+    survey = refl;
+    drawn = refl;
+    keys = omega arith;
+    nodes = drop_count far.nodes (put_shards pair.steps);
+    room = room_dropped far.nodes (put_shards pair.steps);
+  };
+}
+  where
+    rows : AreThere far.nodes (put_shards pair.steps)
+    rows = steps_there far pair sound.away.sound.rows there
+
+pub parted_keeps : (s : Shown) (far : FarState) (pair : JoiningState) → Sound s far
+    → far.joining ≡ Some pair → Keeps s far (with_parted far pair)
+parted_keeps s far pair sound there =
+    let x = parted_is s far pair sound there in
+    record {
+      sound = local_sound s far (with_parted far pair) sound (record {
+        first = refl;
+        made = refl;
+        frames = refl;
+        spans = refl;
+        leaving = refl;
+        drawn = omega arith;
+        kept = λ batch at r. refl;
+        unpaired = λ batch at r q e. absurd (no_pair q e);
+      }) (parted_whole s far (with_parted far pair) pair sound.away x);
+      same_now = λ h. pair_now s far (with_parted far pair) h x.left;
+    }
+
+-- rows that are dropped are not given
+pub dropped_given : (nodes : NodesState) (shards : List Shard)
+    → (all_dropped nodes shards).given ≡ nodes.given
+dropped_given nodes [] = refl
+dropped_given nodes (x ∷ xs) = dropped_given (with_dropped nodes x.node x.key) xs

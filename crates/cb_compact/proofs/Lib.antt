@@ -1,0 +1,12 @@
+mod Adding
+mod Dropping
+mod Finding
+mod Looked
+mod Keeping
+mod Choosing
+mod Begins
+mod OneStep
+mod Parity
+mod Ready
+mod Taken
+mod WorkedPair

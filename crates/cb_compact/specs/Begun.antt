@@ -1,0 +1,12 @@
+-- What the begin of a pair ends in.
+use Rattle.cb_compact.specs.declared.beginning.Begun.{Begun}
+use Rattle.cb_compact.specs.declared.beginning.Begun.TheVariants as begun
+use Rattle.cb_compact.specs.declared.reply.Reply.{Reply}
+use Rattle.cb_compact.specs.declared.reply.Reply.TheVariants as answer
+use Rattle.cb_compact.specs.Pairing.{numbered}
+
+-- what is answered then
+abbrev pub reply_of : Begun → Reply
+reply_of (begun.Joining a b) = answer.Joining (numbered a) (numbered b)
+reply_of begun.NoPair = answer.NoPair
+reply_of (begun.Pair a b) = answer.Pair (numbered a) (numbered b)

@@ -1,0 +1,159 @@
+ghost use Rattle.std.specs.Prelude.{◌≡◌, ℕ, List, IfOk, OnErr, None, Some, length, replicate};
+ghost use Rattle.cb_code.specs.Coefficients.{AreCoefficients};
+ghost use Rattle.cb_gf256.specs.InRange.{IsInRange};
+ghost use Rattle.cb_set.specs.SetState.{SetState, parities};
+ghost use Rattle.cb_world.specs.declared.shown.Shown.{Shown};
+ghost use Rattle.cb_world.specs.Now.{now};
+ghost use Rattle.cb_world.specs.Sets.{set_in};
+ghost use Rattle.cb_world.specs.Sound.{Sound};
+ghost use Rattle.cb_compact.specs.Begun.{reply_of};
+ghost use Rattle.cb_compact.specs.Pairing.{BeginStep, begun_pair, live_positions, with_pair};
+
+use crate::candidates::find_pair;
+use crate::reply::Reply;
+use cb_code::coefficients;
+use cb_member::Shard;
+use cb_set::SpanSet;
+use cb_types::{NoMemory, SetId};
+use cb_world::{Desk, Far, Joining};
+use std::alloc::Global;
+
+/// What the begin of a pair ends in; sets by their numbers.
+#[derive(Clone, Copy)]
+pub(crate) enum Begun {
+    /// A pair is joining already.
+    Joining { a: u64, b: u64 },
+    /// No two sets can be joined.
+    NoPair,
+    /// These two are joining from here.
+    Pair { a: u64, b: u64 },
+}
+
+/// The live positions of a set, in order.
+fn live_positions(alloc: Global, set: &SpanSet) -> Result<Vec<u32>, NoMemory>
+    ensures { IfOk result (λ live. live.items ≡ live_positions set.now) }
+{
+    let mut live = Vec::new(alloc);
+    for position in 0..set.k() {
+        if set.live_at(position) {
+            live.push(position)?;
+        }
+    }
+    Ok(live)
+}
+
+/// So many steps, none of which is done.
+fn no_steps(alloc: Global, count: usize) -> Result<Vec<Option<Shard>>, NoMemory>
+    ensures { IfOk result (λ steps. steps.items ≡ replicate count None) }
+{
+    let mut steps = Vec::with_capacity(alloc, count)?;
+    for _ in 0..count {
+        steps.push(None)?;
+    }
+    Ok(steps)
+}
+
+/// The pair of two sets at its begin.
+fn pair_of(alloc: Global, x: u64, y: u64, a: &SpanSet, b: &SpanSet) -> Result<Joining, NoMemory>
+    ensures { IfOk result (λ pair. pair ≡ begun_pair x y a.now b.now) }
+{
+    let taken = live_positions(alloc, b)?;
+    let steps = no_steps(alloc, a.shards().len())?;
+    let shards_a = Vec::from_slice(alloc, a.shards())?;
+    let shards_b = Vec::from_slice(alloc, b.shards())?;
+    Ok(Joining {
+        a: x,
+        b: y,
+        shards_a,
+        shards_b,
+        taken,
+        steps,
+    })
+}
+
+/// The pair of the committed sets of two numbers at its begin. The table of their code shows that
+/// there is a word that it leads to.
+fn new_pair(far: &Far, x: u64, y: u64) -> Result<Joining, NoMemory>
+    requires there { (a : SetState) × (b : SetState) × (set_in far.now.sets x ≡ Some a)
+        × (set_in far.now.sets y ≡ Some b) × IsInRange (length a.positions) (parities a) }
+    ensures pair { IfOk result (λ pair. (a b : SetState) → set_in far.now.sets x ≡ Some a
+        → set_in far.now.sets y ≡ Some b → pair ≡ begun_pair x y a b) }
+    ensures code { (a : SetState) → set_in far.now.sets x ≡ Some a → (table : List (List ℕ))
+        × AreCoefficients (length a.positions) (parities a) table }
+{
+    let a = far.sets.committed(x).unwrap();
+    let b = far.sets.committed(y).unwrap();
+    let _ = coefficients(a.k(), a.r());
+    pair_of(far.alloc, x, y, a, b)
+}
+
+/// Lets a pair join.
+fn put_pair(far: &mut Far, pair: Joining)
+    requires { far.old.joining ≡ None }
+    ensures { far.new ≡ with_pair far.old pair }
+{
+    far.joining = Some(pair);
+}
+
+/// Begins to join the first two sets that can be.
+pub(crate) fn begin(far: &mut Far) -> Result<Begun, NoMemory>
+    requires { (s : Shown) × Sound s far.old }
+    ensures step { IfOk result (λ begun. BeginStep far.old far.new (reply_of begun)) }
+    ensures error { OnErr result (far.new ≡ far.old) }
+    ensures sound { (s : Shown) → Sound s far.old → Sound s far.new }
+{
+    if let Some(pair) = &far.joining {
+        return Ok(Begun::Joining {
+            a: pair.a,
+            b: pair.b,
+        });
+    }
+    let Some(found) = find_pair(far)? else {
+        return Ok(Begun::NoPair);
+    };
+    let pair = new_pair(far, found.a.id, found.b.id)?;
+    put_pair(far, pair);
+    Ok(Begun::Pair {
+        a: found.a.id,
+        b: found.b.id,
+    })
+}
+
+/// What is answered.
+pub(crate) fn reply_of(begun: Begun) -> Reply
+    ensures { result ≡ reply_of begun }
+{
+    match begun {
+        Begun::Joining { a, b } => Reply::Joining {
+            a: SetId { n: a },
+            b: SetId { n: b },
+        },
+        Begun::NoPair => Reply::NoPair,
+        Begun::Pair { a, b } => Reply::Pair {
+            a: SetId { n: a },
+            b: SetId { n: b },
+        },
+    }
+}
+
+/// Begins to join two committed sets of one code, both whole, of which no position is live in both:
+/// the least a that can be joined with one of a greater number, and then the least such b. Both
+/// stay as they are. The positions that are live in b are taken from it, and have steps, as all
+/// parities have.
+///
+/// Answers Joining where a pair is joining already, whether its sets have changed or not; NoPair
+/// where no two sets can be joined; and else Pair. Looks at each set once, and then at pairs of
+/// sets, one of each code and live positions. No row is given out. Where there is no memory,
+/// nothing has changed.
+pub fn compact_begin<D: Desk>(desk: &mut D, far: &mut Far) -> Result<Reply, NoMemory>
+    requires sound { (s : Shown) × D.shows desk.old s × Sound s far.old }
+    ensures desk { desk.new ≡ desk.old }
+    ensures step { IfOk result (λ reply. BeginStep far.old far.new reply) }
+    ensures error { OnErr result (far.new ≡ far.old) }
+    ensures sound { (s : Shown) → Sound s far.old → Sound s far.new }
+    ensures now { (s : Shown) (h : ℕ) → Sound s far.old → now s far.new h ≡ now s far.old h }
+    ensures given { far.new.nodes.given ≡ far.old.nodes.given }
+{
+    let begun = begin(far)?;
+    Ok(reply_of(begun))
+}

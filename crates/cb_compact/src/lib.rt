@@ -1,0 +1,17 @@
+//! Compaction: two span-sets that are live at different positions become one, in steps. Rows travel
+//! from node to node, and the nodes make the new parities from deltas: no row is given out.
+#![tactic(auto)]
+
+mod beginning;
+mod candidates;
+mod deltas;
+mod looking;
+mod parting;
+mod reply;
+mod stepping;
+mod steps;
+
+pub use beginning::compact_begin;
+pub use parting::compact_part;
+pub use reply::Reply;
+pub use stepping::compact_step;

@@ -1,0 +1,186 @@
+ghost use Rattle.std.specs.Prelude.{◌≡◌, ℕ, ◌+◌, ◌^◌, ◌<◌, ◌≤◌, IfNone, IfOk, IfSome, OnErr, Some, length, slice_get};
+ghost use Rattle.cb_member.specs.declared.names.Shard.{Shard};
+ghost use Rattle.cb_set.specs.SetState.{SetState, parities};
+ghost use Rattle.cb_world.specs.declared.shown.Shown.{Shown};
+ghost use Rattle.cb_world.specs.Joining.{JoiningState};
+ghost use Rattle.cb_world.specs.JoinSteps.{with_step};
+ghost use Rattle.cb_world.specs.Now.{now};
+ghost use Rattle.cb_world.specs.FarSound.{FarSound};
+ghost use Rattle.cb_world.specs.Sound.{Sound};
+ghost use Rattle.cb_compact.specs.Standing.{IsFreshPair};
+ghost use Rattle.cb_compact.specs.Deltas.{IsReady, PutsMerged};
+ghost use Rattle.cb_compact.specs.Stepping.{TakesOne, step_reply};
+ghost use Rattle.cb_compact.specs.Steps.{AreDone, IsNext, PatchStep, TakesStep, shard_beside};
+
+use crate::deltas::put_merged;
+use crate::looking::{Look, how_it_stands};
+use crate::parting::give_up;
+use crate::reply::Reply;
+use crate::steps::{next_step, set_step};
+use cb_member::{NodeId, Shard};
+use cb_node::PutAnswer;
+use cb_types::{NoMemory, SetId};
+use cb_world::{Desk, Far};
+
+/// How many data positions the sets of the joining pair have.
+fn data_count(far: &Far) -> u32
+    requires fresh { (pair : JoiningState) × (a b : SetState) × IsFreshPair far.now pair a b }
+    ensures { (pair : JoiningState) (a b : SetState) → IsFreshPair far.now pair a b
+        → result ≡ length a.positions }
+{
+    let pair = far.joining.as_ref().unwrap();
+    far.sets.committed(pair.a).unwrap().k()
+}
+
+/// How many parities the sets of the joining pair have.
+fn parity_count(far: &Far) -> u32
+    requires fresh { (pair : JoiningState) × (a b : SetState) × IsFreshPair far.now pair a b }
+    ensures { (pair : JoiningState) (a b : SetState) → IsFreshPair far.now pair a b
+        → result ≡ parities a }
+{
+    let pair = far.joining.as_ref().unwrap();
+    far.sets.committed(pair.a).unwrap().r()
+}
+
+/// The least position of the joining pair whose step is not done; None where all are.
+fn next_position(far: &Far) -> Option<u32>
+    requires fresh { (pair : JoiningState) × (a : SetState) × (b : SetState)
+        × IsFreshPair far.now pair a b × (length pair.steps ≤ 20) }
+    ensures next { (pair : JoiningState) (a b : SetState) → IsFreshPair far.now pair a b
+        → IfSome result (IsNext pair (length a.positions)) }
+    ensures none { (pair : JoiningState) (a b : SetState) → IsFreshPair far.now pair a b
+        → IfNone result (AreDone pair (length a.positions)) }
+{
+    let pair = far.joining.as_ref().unwrap();
+    next_step(pair, data_count(far))
+}
+
+/// The shard for a new row beside a's of the position: on its node and of its incarnation, under
+/// the next key.
+fn new_shard(far: &Far, position: u32) -> Shard
+    requires there { (pair : JoiningState) × (far.now.joining ≡ Some pair)
+        × (position < length pair.shards_a) }
+    ensures { (pair : JoiningState) → far.now.joining ≡ Some pair → (old : Shard)
+        × (slice_get pair.shards_a position ≡ Some old) × (result ≡ shard_beside far.now old) }
+{
+    let pair = far.joining.as_ref().unwrap();
+    let old = pair.shards_a[position as usize];
+    Shard {
+        node: old.node,
+        incarnation: old.incarnation,
+        key: far.counts.keys,
+    }
+}
+
+/// Puts the row of a position in the merged word of the joining pair under a shard. A full node is
+/// answered with its count.
+fn put_step(far: &mut Far, position: u32, shard: Shard) -> Result<PutAnswer, NoMemory>
+    requires ready { (s : Shown) × (pair : JoiningState) × (a : SetState) × (b : SetState)
+        × IsReady s far.old pair a b position shard }
+    ensures put { IfOk result (λ answer. (pair : JoiningState) (a b : SetState)
+        → IsFreshPair far.old pair a b
+        → PutsMerged far.old pair a b position shard answer far.new.nodes) }
+    ensures nodes { far.new ≡ record far.old { nodes = far.new.nodes } }
+    ensures error { OnErr result (far.new ≡ far.old) }
+{
+    let k = data_count(far);
+    let r = parity_count(far);
+    let pair = far.joining.as_ref().unwrap();
+    put_merged(&mut far.nodes, pair, k, r, position, shard)
+}
+
+/// Notes the shard of a step of the joining pair, whose key is drawn. Takes no memory.
+fn note_step(far: &mut Far, position: u32, shard: Shard)
+    requires there { (pair : JoiningState) × (far.old.joining ≡ Some pair)
+        × (position < length pair.steps) }
+    requires keys { far.old.counts.keys < 2 ^ 62 }
+    ensures { (pair : JoiningState) → far.old.joining ≡ Some pair → far.new ≡ record far.old {
+      joining = Some (with_step pair position shard);
+      counts = record far.old.counts { keys = far.old.counts.keys + 1 };
+    } }
+{
+    far.counts.keys += 1;
+    if let Some(pair) = &mut far.joining {
+        set_step(pair, position, shard);
+    }
+}
+
+/// Takes the step of a position of the joining pair, or answers a's node there, which is full.
+fn take_step(far: &mut Far, position: u32) -> Result<Option<NodeId>, NoMemory>
+    requires sound { (s : Shown) × FarSound s far.old }
+    requires next { (pair : JoiningState) × (a : SetState) × (b : SetState)
+        × IsFreshPair far.old pair a b × IsNext pair (length a.positions) position }
+    requires keys { far.old.counts.keys < 2 ^ 62 }
+    ensures step { IfOk result (λ full. (pair : JoiningState) (a b : SetState)
+        → IsFreshPair far.old pair a b → IsNext pair (length a.positions) position
+        → TakesOne far.old pair a b position far.new full) }
+    ensures error { OnErr result (far.new ≡ far.old) }
+{
+    let shard = new_shard(far, position);
+    match put_step(far, position, shard)? {
+        PutAnswer::Stored => {
+            note_step(far, position, shard);
+            Ok(None)
+        }
+        PutAnswer::Full { .. } => Ok(Some(shard.node)),
+    }
+}
+
+/// What is answered when the step of a position was tried.
+fn reply_of(position: u32, full: Option<NodeId>) -> Reply
+    ensures { result ≡ step_reply position full }
+{
+    match full {
+        Some(node) => Reply::NodeFull { node },
+        None => Reply::Stepped { position },
+    }
+}
+
+/// Takes the next step of the joining pair, whose sets stand as they did at the begin.
+fn step_on(far: &mut Far) -> Result<Reply, NoMemory>
+    requires sound { (s : Shown) × FarSound s far.old }
+    requires fresh { (pair : JoiningState) × (a : SetState) × (b : SetState)
+        × IsFreshPair far.old pair a b }
+    requires keys { far.old.counts.keys < 2 ^ 62 }
+    ensures step { IfOk result (λ reply. (pair : JoiningState) (a b : SetState)
+        → IsFreshPair far.old pair a b → TakesStep far.old pair a b far.new reply) }
+    ensures error { OnErr result (far.new ≡ far.old) }
+{
+    let Some(position) = next_position(far) else {
+        return Ok(Reply::AllStepped);
+    };
+    let full = take_step(far, position)?;
+    Ok(reply_of(position, full))
+}
+
+/// Takes the next step of the joining pair: the row of the least position that has a step which is
+/// not done is put beside a's row of that position, on the same node under a new key. For a data
+/// position that b gives it is a copy of b's row, and for a parity a copy of a's, to which the
+/// nodes add the deltas of all taken positions. The old row stays.
+///
+/// Answers NoJoin exactly where no pair is joining. Answers Changed exactly where a set of the
+/// pair, a before b, is gone, has lost a shard or has other shards than at the begin, as after a
+/// rebuild: the pair is given up then. Answers AllStepped where every step is done, NodeFull where
+/// a's node of the position has no room, and else Stepped. No row is given out. Where there is no
+/// memory, nothing has changed.
+pub fn compact_step<D: Desk>(desk: &mut D, far: &mut Far) -> Result<Reply, NoMemory>
+    requires sound { (s : Shown) × D.shows desk.old s × Sound s far.old }
+    requires keys { far.old.counts.keys < 2 ^ 62 }
+    ensures desk { desk.new ≡ desk.old }
+    ensures step { IfOk result (λ reply. PatchStep far.old far.new reply) }
+    ensures error { OnErr result (far.new ≡ far.old) }
+    ensures sound { (s : Shown) → Sound s far.old → Sound s far.new }
+    ensures now { (s : Shown) (h : ℕ) → Sound s far.old → now s far.new h ≡ now s far.old h }
+    ensures given { far.new.nodes.given ≡ far.old.nodes.given }
+{
+    match how_it_stands(far) {
+        Look::NoPair => Ok(Reply::NoJoin),
+        Look::Changed { id } => {
+            give_up(far);
+            Ok(Reply::Changed {
+                set: SetId { n: id },
+            })
+        }
+        Look::Fresh => step_on(far),
+    }
+}

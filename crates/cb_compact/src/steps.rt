@@ -1,0 +1,60 @@
+ghost use Rattle.std.specs.Prelude.{◌≡◌, ◌<◌, ◌≤◌, IfNone, IfSome, length};
+ghost use Rattle.cb_world.specs.JoinSteps.{with_step};
+ghost use Rattle.cb_world.specs.Merged.{takes};
+ghost use Rattle.cb_compact.specs.Steps.{AreDone, IsNext, has_step, is_undone};
+
+use cb_member::Shard;
+use cb_world::Joining;
+
+/// Whether the position is one of those that are taken.
+fn takes(taken: &[u32], position: u32) -> bool
+    ensures { result ≡ takes taken.now position }
+{
+    for other in taken {
+        if *other == position {
+            return true;
+        }
+    }
+    false
+}
+
+/// Whether the position has a step, of a pair with `k` data positions.
+fn has_step(pair: &Joining, k: u32, position: u32) -> bool
+    ensures { result ≡ has_step pair.now k position }
+{
+    if position < k {
+        return takes(&pair.taken, position);
+    }
+    true
+}
+
+/// Whether the position's step is still to be done.
+fn is_undone(pair: &Joining, k: u32, position: u32) -> bool
+    requires { position < length pair.now.steps }
+    ensures { result ≡ is_undone pair.now k position }
+{
+    has_step(pair, k, position) && pair.steps[position as usize].is_none()
+}
+
+/// The least position whose step is not done, of a pair with `k` data positions; None where all
+/// are.
+pub(crate) fn next_step(pair: &Joining, k: u32) -> Option<u32>
+    requires { length pair.now.steps ≤ 20 }
+    ensures next { IfSome result (IsNext pair.now k) }
+    ensures none { IfNone result (AreDone pair.now k) }
+{
+    for position in 0..pair.steps.len() as u32 {
+        if is_undone(pair, k, position) {
+            return Some(position);
+        }
+    }
+    None
+}
+
+/// Notes the shard of a step that was done.
+pub(crate) fn set_step(pair: &mut Joining, position: u32, shard: Shard)
+    requires { position < length pair.old.steps }
+    ensures { pair.new ≡ with_step pair.old position shard }
+{
+    pair.steps[position as usize] = Some(shard);
+}
