@@ -1,10 +1,14 @@
 mod Adding
 mod Dropping
+mod Homing
 mod Finding
 mod Looked
 mod Keeping
 mod Choosing
 mod Begins
+mod Merged
+mod Committing
+mod Committed
 mod OneStep
 mod Parity
 mod Ready

@@ -1,5 +1,6 @@
 -- A step of the joining pair: which position's, the row that is put, and the far state then.
-use Rattle.std.specs.Prelude.{◌≡◌, ◌⊎◌, ℕ, ◌+◌, ◌<◌, ◌&&◌, Bool, true, false, nat_lt, List, None, Some, is_none, length, slice_get, slice_index_or, if◌then◌else◌}
+use Rattle.std.specs.Prelude.{◌≡◌, ◌⊎◌, ℕ, ◌+◌, ◌<◌, ◌&&◌, Bool, true, false, nat_lt, List, None, Some, is_none, length, slice_get, filter, slice_index_or, if◌then◌else◌}
+use Rattle.std.specs.List.{range_with_len}
 use Rattle.cb_gf256.specs.Rows.{row_at}
 use Rattle.cb_member.specs.declared.names.Shard.{Shard}
 use Rattle.cb_node.specs.NodesState.{held, with_row}
@@ -13,14 +14,18 @@ use Rattle.cb_world.specs.SetWord.{IsWordOf}
 use Rattle.cb_world.specs.FarState.{FarState}
 use Rattle.cb_compact.specs.Standing.{HasNoPair, IsFreshPair, IsGivenUp}
 
--- whether the position has a step, of a pair with so many data positions: it is a data position
--- taken from b, or a parity's
+-- whether the position has a step, of a pair with so many data positions: it is a data position taken
+-- from b, or a parity's
 abbrev pub has_step : JoiningState → ℕ → ℕ → Bool
 has_step pair k p = if nat_lt p k then takes pair.taken p else true
 
 -- whether its step is still to be done
 abbrev pub is_undone : JoiningState → ℕ → ℕ → Bool
 is_undone pair k p = has_step pair k p && is_none (slice_index_or pair.steps p None)
+
+-- the positions whose steps are not done, in order
+abbrev pub undone : JoiningState → ℕ → List ℕ
+undone pair k = filter (is_undone pair k) (range_with_len 0 (length pair.steps))
 
 -- the least position whose step is not done
 pub record IsNext (pair : JoiningState) (k p : ℕ) : Type 0 where
@@ -38,8 +43,7 @@ IsMergedRow far pair a b p row = (wa wb m : List (List ℕ)) → IsWordOf far.no
     → IsWordOf far.nodes far.members b wb
     → IsMergedWord (length a.positions) (parities a) pair.taken wa wb m → row ≡ row_at m p
 
--- the shard for a new row beside the old one: on its node and of its incarnation, under the next
--- key
+-- the shard for a new row beside the old one: on its node and of its incarnation, under the next key
 abbrev pub shard_beside : FarState → Shard → Shard
 shard_beside far old = record {
   node = old.node;
@@ -63,8 +67,7 @@ pub record IsAllStepped (far : FarState) (pair : JoiningState) (a : SetState) (n
   pub state : new ≡ far
 
 -- a's node at the next position holds as many rows as it has room for: the pair stays
-pub record IsFull (far : FarState) (pair : JoiningState) (a : SetState) (new : FarState) (r :
-    Reply)
+pub record IsFull (far : FarState) (pair : JoiningState) (a : SetState) (new : FarState) (r : Reply)
     : Type 0 where
   pub position : ℕ
   pub next : IsNext pair (length a.positions) position
