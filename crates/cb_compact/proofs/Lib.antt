@@ -14,3 +14,4 @@ mod Parity
 mod Ready
 mod Taken
 mod WorkedPair
+mod WorkedMerge
