@@ -1,5 +1,5 @@
 -- The commit of a pair keeps the world sound, and last complete contents.
-use Rattle.std.proofs.Common.{◌≡◌, ◌≢◌, ◌⊎◌, ℕ, zero, suc, ◌+◌, ◌<◌, ◌≤◌, Bool, true, false, cond, List, [], ◌∷◌, length, get_or, Option, Some, None, refl, sym, ap, ◌∙◌, subst, arith, inl, inr}
+use Rattle.std.proofs.Common.{◌≡◌, ◌≢◌, ◌⊎◌, ℕ, zero, suc, Bool, true, false, cond, List, [], ◌∷◌, length, get_or, Option, Some, None, refl, sym, ap, ◌∙◌, subst, arith, inl, inr}
 use Rattle.std.specs.Prelude.{Result, Ok, Err, IfOk, OnErr}
 use Rattle.std.specs.Cmp.{nat_cmp_total}
 use Rattle.std.specs.FinMap as map
@@ -7,7 +7,6 @@ use Rattle.std.specs.List.{slice_get}
 use Rattle.std.specs.Ordering.{eq_by_cmp, nat_cmp}
 use Rattle.std.proofs.lemmas.Bool.{cases_eq}
 use Rattle.std.proofs.lemmas.Bool.Decides.{nat_tests}
-use Rattle.cb_member.specs.declared.names.NodeId.{NodeId}
 use Rattle.cb_member.specs.declared.names.Shard.{Shard}
 use Rattle.cb_member.specs.declared.no_memory.NoMemory.{NoMemory}
 use Rattle.cb_node.specs.NodesState.{NodesState, row_at as row_under}
@@ -16,7 +15,6 @@ use Rattle.cb_set.proofs.Laws.{named_live}
 use Rattle.cb_world.specs.declared.homes.Home.{Home}
 use Rattle.cb_world.specs.declared.shown.Shown.{Shown}
 use Rattle.cb_world.specs.FarState.{FarState}
-use Rattle.cb_world.specs.FarSound.{AwaySound}
 use Rattle.cb_world.specs.Homes.{home_at}
 use Rattle.cb_world.specs.Join.{AreFit, IsJoin}
 use Rattle.cb_world.specs.Joining.{JoiningState}
@@ -28,7 +26,7 @@ use Rattle.cb_world.specs.Sound.{Sound}
 use Rattle.cb_world.specs.Stored.{AreThere, all_dropped}
 use Rattle.cb_world.proofs.Laws.{commit_now, committed_whole, drop_count, drop_elsewhere, drop_fewer, drop_there, home_same, room_dropped, set_same}
 use Rattle.cb_compact.specs.declared.reply.Reply.{Reply}
-use Rattle.cb_compact.specs.MergeStep.{IsMerged, MergeStep, Merges, merged_set, replaced_shards, with_merged}
+use Rattle.cb_compact.specs.MergeStep.{MergeStep, Merges, merged_set, replaced_shards, with_merged}
 use Rattle.cb_compact.specs.Merging.{IsReadyToMerge}
 use Rattle.cb_compact.specs.Rehoming.{AreRehomed}
 use Rattle.cb_compact.specs.Standing.{IsFreshPair}

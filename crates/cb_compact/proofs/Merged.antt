@@ -1,5 +1,5 @@
 -- The merged set is made, place by place.
-use Rattle.std.proofs.Common.{◌≡◌, ◌⊎◌, if◌then◌else◌, ℕ, zero, suc, ◌+◌, ◌<◌, ◌≤◌, Bool, true, false, cond, List, [], ◌∷◌, ◌++◌, length, drop, get_or, set, Option, None, Some, unwrap_or, refl, sym, ap, ap₂, ◌∙◌, subst, arith, inl, inr, drop-cons, length-set, append_assoc}
+use Rattle.std.proofs.Common.{◌≡◌, ◌⊎◌, if◌then◌else◌, ℕ, zero, suc, ◌+◌, ◌<◌, ◌≤◌, Bool, true, false, cond, List, [], ◌∷◌, ◌++◌, length, drop, get_or, Option, None, Some, unwrap_or, refl, sym, ap, ap₂, ◌∙◌, arith, inl, inr, drop-cons, length-set, append_assoc}
 use Rattle.std.proofs.lemmas.Bool.{cases_eq, cases_lt}
 use Rattle.std.proofs.lemmas.List.{append-nil, ext_get_or, get_or_past}
 use Rattle.std.specs.List.{slice_get}

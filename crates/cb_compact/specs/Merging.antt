@@ -1,8 +1,8 @@
 -- How the merged set is made.
-use Rattle.std.specs.Prelude.{◌≡◌, ◌≢◌, ℕ, ◌+◌, ◌<◌, ◌≤◌, false, List, Some, length, is_some, slice_index_or, if◌then◌else◌}
+use Rattle.std.specs.Prelude.{◌≡◌, ℕ, ◌<◌, List, length, is_some, if◌then◌else◌}
 use Rattle.std.specs.List.{list_any}
 use Rattle.cb_member.specs.declared.names.Shard.{Shard}
-use Rattle.cb_set.specs.SetState.{PositionState, SetState, dead_position, live_at, position_of, set_of}
+use Rattle.cb_set.specs.SetState.{PositionState, SetState, live_at, position_of}
 use Rattle.cb_world.specs.declared.shown.Shown.{Shown}
 use Rattle.cb_world.specs.FarState.{FarState}
 use Rattle.cb_world.specs.FarSound.{FarSound}

@@ -1,5 +1,4 @@
-use Rattle.std.proofs.Common.{ℕ, ◌+◌, ◌<◌, length, sym, ap, ◌∙◌, subst, arith}
-use Rattle.cb_set.specs.SetState.{SetState}
+use Rattle.std.proofs.Common.{ℕ, ◌+◌, sym, subst, arith}
 use Rattle.cb_compact.specs.Merging.{IsFilledBelow}
 use Rattle.cb_compact.proofs.Merged.{none_filled, one_filled}
 use Rattle.cb_compact.proofs.merging.fill_positions.Goals as goal

@@ -1,13 +1,11 @@
-use Rattle.std.proofs.Common.{◌≡◌, ◌<◌, ◌≤◌, ℕ, true, All, List, Option, length, get_or, count_by, refl, sym, ap, ap₂, ◌∙◌, subst, arith}
+use Rattle.std.proofs.Common.{◌≡◌, true, length, sym, ap, ◌∙◌, subst}
 use Rattle.std.specs.FinMap as map
-use Rattle.cb_set.specs.SetState.{SetState, live_at}
+use Rattle.cb_set.specs.SetState.{SetState}
 use Rattle.cb_world.specs.FarState.{FarState}
 use Rattle.cb_world.specs.Joining.{JoiningState}
 use Rattle.std.proofs.lemmas.Result.{on_ok_weaker}
-use Rattle.cb_world.specs.Sets.{Kept, SetMap}
 use Rattle.cb_compact.specs.MergeStep.{merged_set}
 use Rattle.cb_compact.specs.Merging.{AreTables}
-use Rattle.cb_compact.specs.Standing.{IsFreshPair}
 use Rattle.cb_compact.proofs.Committing.{ready_data, ready_shards, ready_steps, tables_a, tables_b}
 use Rattle.cb_compact.proofs.Looked.{looked_some, looked_up}
 use Rattle.cb_compact.proofs.Ready.{unwrapped}

@@ -1,9 +1,7 @@
-use Rattle.std.proofs.Common.{◌≡◌, ◌<◌, ◌^◌, ℕ, List, Some, length, sym, ap, subst, ◌∙◌, arith}
-use Rattle.std.specs.FinMap as map
+use Rattle.std.proofs.Common.{ℕ, List, length, sym, ap, subst, ◌∙◌, arith}
 use Rattle.cb_node.specs.NodesState.{NodesState}
-use Rattle.cb_world.specs.declared.homes.Home.{Home}
 use Rattle.cb_world.specs.FarState.{FarState}
-use Rattle.cb_world.specs.Sets.{SetMap, set_in}
+use Rattle.cb_world.specs.Sets.{set_in}
 use Rattle.cb_world.specs.Stored.{AreThere}
 use Rattle.cb_world.proofs.Laws.{set_there}
 use Rattle.cb_compact.specs.MergeStep.{merged_set}

@@ -1,5 +1,4 @@
-use Rattle.std.proofs.Common.{◌≡◌, ◌<◌, ◌≤◌, ℕ, true, All, List, Option, length, get_or, count_by, refl, sym, ap, ap₂, ◌∙◌, subst, arith}
-use Rattle.std.specs.FinMap as map
+use Rattle.std.proofs.Common.{◌≡◌, ◌<◌, ◌≤◌, ℕ, List, length, get_or, count_by, sym, ap, ap₂, ◌∙◌, subst}
 use Rattle.cb_set.specs.SetState.{SetState, live_at}
 use Rattle.cb_world.specs.FarState.{FarState}
 use Rattle.cb_world.specs.Joining.{JoiningState}

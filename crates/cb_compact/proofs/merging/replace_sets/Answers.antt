@@ -1,9 +1,8 @@
-use Rattle.std.proofs.Common.{◌≡◌, ◌+◌, ◌<◌, ◌^◌, ℕ, List, Option, None, Some, length, sym, ap, subst, ◌∙◌, arith}
+use Rattle.std.proofs.Common.{◌+◌, List, Option, None, sym, ap, subst, ◌∙◌, arith}
 use Rattle.std.specs.FinMap as map
 use Rattle.cb_node.specs.NodesState.{NodesState}
 use Rattle.cb_world.specs.declared.homes.Home.{Home}
 use Rattle.cb_world.specs.FarState.{FarState}
-use Rattle.cb_world.specs.Joining.{JoiningState}
 use Rattle.cb_world.specs.Stored.{AreThere, all_dropped}
 use Rattle.cb_compact.specs.MergeStep.{replaced_shards}
 use Rattle.cb_compact.specs.Rehoming.{AreRehomed}

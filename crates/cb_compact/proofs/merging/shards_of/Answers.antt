@@ -1,4 +1,4 @@
-use Rattle.std.proofs.Common.{◌≡◌, ℕ, ◌+◌, ◌<◌, List, ◌++◌, ◌∷◌, [], drop, get_or, Option, None, length, unwrap_or, sym, refl, ap, ◌∙◌, arith}
+use Rattle.std.proofs.Common.{◌+◌, List, ◌++◌, ◌∷◌, [], drop, None, sym, ap, ◌∙◌, arith}
 use Rattle.cb_member.specs.declared.names.Shard.{Shard}
 use Rattle.cb_compact.specs.MergeStep.{merged_shards}
 use Rattle.cb_compact.proofs.Merged.{shards_all, shards_more}

@@ -1,4 +1,4 @@
-use Rattle.std.proofs.Common.{ℕ, length, sym, subst, ◌∙◌, arith}
+use Rattle.std.proofs.Common.{length, sym, subst, arith}
 use Rattle.cb_compact.specs.Rehoming.{AreNamedOnce}
 use Rattle.cb_compact.proofs.Homing.{all_rehomed, more_rehomed, none_rehomed}
 use Rattle.cb_compact.proofs.rehoming.rehome.Goals as goal

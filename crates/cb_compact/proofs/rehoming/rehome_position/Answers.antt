@@ -1,4 +1,4 @@
-use Rattle.std.proofs.Common.{ℕ, ◌^◌, ◌<◌, List, Option, None, Some, get_or, length, ap, sym, refl, subst, ◌∙◌, ◌≡◌}
+use Rattle.std.proofs.Common.{ℕ, ◌^◌, ◌<◌, List, Option, None, get_or, length, ap, sym, subst, ◌∙◌}
 use Rattle.std.proofs.lemmas.Bool.{false≢true}
 use Rattle.cb_compact.proofs.Homing.{dead_rehomed}
 use Rattle.cb_compact.proofs.rehoming.rehome_position.Goals as goal

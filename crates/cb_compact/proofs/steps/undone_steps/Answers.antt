@@ -1,5 +1,5 @@
-use Rattle.std.proofs.Common.{ℕ, ◌+◌, ◌≤◌, List, length, [], set, replicate, sym, refl, ap, ◌∙◌, ◌≡◌, take, subst, arith}
-use Rattle.cb_compact.specs.Steps.{is_undone, undone}
+use Rattle.std.proofs.Common.{ℕ, ◌+◌, List, length, set, sym, refl, ap, ◌∙◌, subst, arith}
+use Rattle.cb_compact.specs.Steps.{is_undone}
 use Rattle.cb_compact.proofs.Finding.{Found, found_more, found_not, passing}
 use Rattle.cb_compact.proofs.steps.undone_steps.Goals as goal
 use Rattle.cb_compact.proofs.steps.undone_steps.Goals.{then-is_undone, else-is_undone}
