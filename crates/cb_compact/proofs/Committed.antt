@@ -142,7 +142,8 @@ module _ (s : Shown) (far : FarState) (pair : JoiningState) (a b : SetState)
     off_b : id ≢ pair.b
     off_b e = let d = join.drawn.1 in omega (arith, d, e)
 
-    get_other : (q : ℕ) → q ≢ id → q ≢ pair.a → q ≢ pair.b → map.get after.sets q ≡ map.get far.sets q
+    get_other : (q : ℕ) → q ≢ id → q ≢ pair.a → q ≢ pair.b → map.get after.sets q ≡ map.get
+        far.sets q
     get_other q n l m =
         by_flags q false false false (eq_off q pair.b m) (eq_off q pair.a l) (eq_off q id n)
 
@@ -173,7 +174,8 @@ module _ (s : Shown) (far : FarState) (pair : JoiningState) (a b : SetState)
     from_a : (p slot h : ℕ) → slot_at a p slot ≡ Some h → IsRehomed after id c h
     from_a p slot h named =
         let on = tables_a s far pair a b x p ∙ named_live (position_of a p).slots slot h named in
-        let here = ap (λ (q : PositionState). slot_in q slot) (chosen_a id pair a b same p (off (live_at b p) refl (fit.a_live p on)))
+        let here = ap (λ (q : PositionState). slot_in q slot) (chosen_a id pair a b same p (off
+        (live_at b p) refl (fit.a_live p on)))
         ∙ named in
         record { position = p; slot = slot; named = here; home = at_home.here p slot h here }
       where
@@ -184,7 +186,8 @@ module _ (s : Shown) (far : FarState) (pair : JoiningState) (a b : SetState)
     from_b : (p slot h : ℕ) → slot_at b p slot ≡ Some h → IsRehomed after id c h
     from_b p slot h named =
         let on = tables_b s far pair a b x p ∙ named_live (position_of b p).slots slot h named in
-        let here = ap (λ (q : PositionState). slot_in q slot) (chosen_b id pair a b same p on) ∙ named in
+        let here = ap (λ (q : PositionState). slot_in q slot) (chosen_b id pair a b same p on) ∙
+        named in
         record { position = p; slot = slot; named = here; home = at_home.here p slot h here }
 
     each_home : (h : ℕ) → IsUnnamed far after a b h ⊎ IsRehomed after id c h
@@ -193,18 +196,22 @@ module _ (s : Shown) (far : FarState) (pair : JoiningState) (a b : SetState)
         by : (o : Option Home) → home_at far.homes h ≡ o
             → IsUnnamed far after a b h ⊎ IsRehomed after id c h
         by None e = inl (from_none h
-            (λ p slot named. none_some (home_at far.homes h) _ e (home_a s far pair a b x p slot h named))
-            (λ p slot named. none_some (home_at far.homes h) _ e (home_b s far pair a b x p slot h named)))
+            (λ p slot named. none_some (home_at far.homes h) _ e (home_a s far pair a b x p slot
+            h named))
+            (λ p slot named. none_some (home_at far.homes h) _ e (home_b s far pair a b x p slot
+            h named)))
         by (Some home) e =
             let y = x.sound.sound.away.home h home e in
             elim (cases_eq home.set pair.a) [
               | inl at ↦ inr (from_a home.position home.slot h
                   (subst (λ (q : SetState). slot_at q home.position home.slot ≡ Some h)
-                  (set_same y.0 a (sym y.1 ∙ ap (set_in far.sets) at ∙ x.fresh.a_stands.there)) y.2))
+                  (set_same y.0 a (sym y.1 ∙ ap (set_in far.sets) at ∙ x.fresh.a_stands.there))
+                  y.2))
               | inr not_a ↦ elim (cases_eq home.set pair.b) [
                 | inl at ↦ inr (from_b home.position home.slot h
                     (subst (λ (q : SetState). slot_at q home.position home.slot ≡ Some h)
-                    (set_same y.0 b (sym y.1 ∙ ap (set_in far.sets) at ∙ x.fresh.b_stands.there)) y.2))
+                    (set_same y.0 b (sym y.1 ∙ ap (set_in far.sets) at ∙ x.fresh.b_stands.there))
+                    y.2))
                 | inr not_b ↦ inl (from_none h
                     (λ p slot named. not_a (ap (λ (q : Home). q.set)
                     (home_same home _ (sym e ∙ home_a s far pair a b x p slot h named))))
@@ -220,11 +227,14 @@ module _ (s : Shown) (far : FarState) (pair : JoiningState) (a b : SetState)
       fresh = ready_whole s far pair a b x;
       merged = is_merged_set s far pair a b x;
       added = ap if_committed
-          (by_flags id false false true (eq_off id pair.b off_b) (eq_off id pair.a off_a) (eq_on id));
+          (by_flags id false false true (eq_off id pair.b off_b) (eq_off id pair.a off_a) (eq_on
+          id));
       a_gone = ap if_committed (by_flags pair.a false true false
-          (eq_off pair.a pair.b join.apart) (eq_on pair.a) (eq_off pair.a id (λ e. off_a (sym e))));
+          (eq_off pair.a pair.b join.apart) (eq_on pair.a) (eq_off pair.a id (λ e. off_a (sym
+          e))));
       b_gone = ap if_committed (by_flags pair.b true false false (eq_on pair.b)
-          (eq_off pair.b pair.a (λ e. join.apart (sym e))) (eq_off pair.b id (λ e. off_b (sym e))));
+          (eq_off pair.b pair.a (λ e. join.apart (sym e))) (eq_off pair.b id (λ e. off_b (sym
+          e))));
       others = λ q n l m. ap if_committed (get_other q n l m);
       drawn = (omega arith, omega arith);
       keys = omega arith;

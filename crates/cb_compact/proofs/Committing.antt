@@ -78,7 +78,8 @@ taken_below k taken x q any =
 
 pub taken_few : (k : ℕ) (taken : List ℕ) → AreTaken k taken → length taken ≤ k
 taken_few k taken x =
-    length-le_from_distinct_below taken k (IsDistinct-from_apart nat_eq taken (taken_apart k taken x))
+    length-le_from_distinct_below taken k (IsDistinct-from_apart nat_eq taken (taken_apart k
+    taken x))
     (taken_below k taken x)
 
 -- ---- a step that is done
@@ -91,7 +92,8 @@ done_at : (pair : JoiningState) (k p : ℕ) → p < length pair.steps
     → (shard : Shard) × (slice_get pair.steps p ≡ Some (Some shard))
 done_at pair k p within done taken =
     let y = some_is (get_or pair.steps p None)
-    (sym (ap (λ (b : Bool). b && is_none (get_or pair.steps p None)) (has (nat_lt p k) refl)) ∙ done) in
+    (sym (ap (λ (b : Bool). b && is_none (get_or pair.steps p None)) (has (nat_lt p k) refl)) ∙
+    done) in
     (y.0, slice_get-get_or pair.steps p None within ∙ ap Some y.1)
   where
     has : (b : Bool) → nat_lt p k ≡ b → has_step pair k p ≡ true
@@ -182,7 +184,8 @@ module _ (s : Shown) (far : FarState) (pair : JoiningState) (a b : SetState)
           → live_at c p ≡ list_any (λ slot. is_some slot) (position_of c p).slots
       by true on = subst (λ (q : PositionState). q.live ≡ list_any (λ slot. is_some slot) q.slots)
           (sym (chosen_b far.counts.sets pair a b ready_data p on)) (tables_b p)
-      by false off = subst (λ (q : PositionState). q.live ≡ list_any (λ slot. is_some slot) q.slots)
+      by false off = subst (λ (q : PositionState). q.live ≡ list_any (λ slot. is_some slot)
+          q.slots)
           (sym (chosen_a far.counts.sets pair a b ready_data p off)) (tables_a p)
 
   few_slots : (id : ℕ) (set : SetState) → set_in far.sets id ≡ Some set → (p slot h : ℕ)

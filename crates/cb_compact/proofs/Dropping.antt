@@ -50,12 +50,14 @@ replaced_one nodes (Some shard) old steps olds = refl
 
 pub replaced_more : (nodes : NodesState) (steps : List (Option Shard)) (olds : List Shard) (i : ℕ)
     (d : Option Shard) (e : Shard) → i < length steps → i < length olds
-    → all_dropped (all_dropped nodes (replaced_shards (get_or steps i d ∷ []) (get_or olds i e ∷ [])))
+    → all_dropped (all_dropped nodes (replaced_shards (get_or steps i d ∷ []) (get_or olds i e ∷
+    [])))
     (replaced_shards (drop (i + 1) steps) (drop (i + 1) olds))
     ≡ all_dropped nodes (replaced_shards (drop i steps) (drop i olds))
 replaced_more nodes steps olds i d e within inside =
     let next : suc i ≡ i + 1 = omega arith in
-    replaced_one nodes (get_or steps i d) (get_or olds i e) (drop (i + 1) steps) (drop (i + 1) olds)
+    replaced_one nodes (get_or steps i d) (get_or olds i e) (drop (i + 1) steps) (drop (i + 1)
+    olds)
     ∙ sym (ap (λ (l : List (Option Shard)). all_dropped nodes (replaced_shards l (drop i olds)))
     (drop-cons steps i d within ∙ ap (λ (n : ℕ). get_or steps i d ∷ drop n steps) next)
     ∙ ap (λ (l : List Shard). all_dropped nodes

@@ -11,7 +11,8 @@ use Rattle.cb_world.specs.Merged.{takes}
 pub takes_at : (taken : List ℕ) (k i : ℕ) → k < length taken → get_or taken k 0 ≡ i
     → takes taken i ≡ true
 takes_at [] k i below is = absurd (omega (arith, below))
-takes_at (q ∷ taken) zero i below is = ap (λ (b : Bool). cond b true (takes taken i)) (eq-eqb q i is)
+takes_at (q ∷ taken) zero i below is = ap (λ (b : Bool). cond b true (takes taken i)) (eq-eqb q i
+    is)
 takes_at (q ∷ taken) (suc k) i below is =
     first (nat_eq q i) (takes taken i) (takes_at taken k i (omega (arith, below)) is)
   where
@@ -72,7 +73,12 @@ pub found_more : (f : ℕ → Bool) (n : ℕ) (found : List ℕ) (count : ℕ) �
     → n < 20 → f n ≡ true → Found f (n + 1) (set found count n) (count + 1)
 found_more f n found count x few on =
     let e = passing_in f n on in
-    let room : count < length found = let s = x.size in let b = x.behind in omega (arith, s, b, few) in
+    let room : count < length found = let s = x.size in let b = x.behind in omega (
+      arith,
+      s,
+      b,
+      few,
+    ) in
     let l : take (count + 1) (set found count n) ≡ passing f (n + 1) =
     take_more_set found count n room ∙ ap (λ (l : List ℕ). l ++ n ∷ []) x.listed ∙ sym e in
     let k = length-take-le (count + 1) (set found count n)

@@ -24,7 +24,8 @@ pub home_skipped : (slots : List (Option ℕ)) (n id position : ℕ) (old now : 
 home_skipped slots n id position old now a empty = record {
   count = a.count;
   here = λ slot h below named. elim (cases_eq slot n) [
-    | inl e ↦ absurd (none_some h (sym empty ∙ ap (λ (k : ℕ). get_or slots k None) (sym e) ∙ named))
+    | inl e ↦ absurd (none_some h (sym empty ∙ ap (λ (k : ℕ). get_or slots k None) (sym e) ∙
+        named))
     | inr off ↦ a.here slot h (omega (arith, below, off)) named
   ];
   others = λ h none. a.others h (λ slot below named. none slot (omega (arith, below)) named);
@@ -44,19 +45,23 @@ home_more slots n id position h old now a named within apart =
       count = length-set now h (Some home) ∙ a.count;
       here = λ slot k below there. elim (cases_eq slot n) [
         | inl e ↦
-            let same : k ≡ h = some_same (sym there ∙ ap (λ (i : ℕ). get_or slots i None) e ∙ named) in
+            let same : k ≡ h = some_same (sym there ∙ ap (λ (i : ℕ). get_or slots i None) e ∙
+            named) in
             subst (λ (i : ℕ). home_at (set now h (Some home)) i
             ≡ Some (record { set = id; position = position; slot = slot })) (sym same)
             (get_or-set_same now h (Some home) None (omega (arith, within, a.count))
-            ∙ ap (λ (i : ℕ). let x : Home = record { set = id; position = position; slot = i } in Some x) (sym e))
+            ∙ ap (λ (i : ℕ). let x : Home = record { set = id; position = position; slot = i } in
+            Some x) (sym e))
         | inr off ↦
             get_or-set_other now h k (Some home) None
-            (λ same. off (apart slot n h (subst (λ (i : ℕ). get_or slots slot None ≡ Some i) same there) named))
+            (λ same. off (apart slot n h (subst (λ (i : ℕ). get_or slots slot None ≡ Some i) same
+            there) named))
             ∙ a.here slot k (omega (arith, below, off)) there
       ];
       others = λ k none.
           get_or-set_other now h k (Some home) None
-          (λ same. none n (omega arith) (subst (λ (i : ℕ). get_or slots n None ≡ Some i) (sym same) named))
+          (λ same. none n (omega arith) (subst (λ (i : ℕ). get_or slots n None ≡ Some i) (sym
+          same) named))
           ∙ a.others k (λ slot below there. none slot (omega (arith, below)) there);
     }
   where
@@ -112,7 +117,8 @@ no_object : (h : ℕ) → None ≡ Some h → ⊥
 no_object h e = cc
 
 -- a position that names an object is one of the set
-pub named_inside : (c : SetState) (p slot h : ℕ) → slot_at c p slot ≡ Some h → p < length c.positions
+pub named_inside : (c : SetState) (p slot h : ℕ) → slot_at c p slot ≡ Some h → p < length
+    c.positions
 named_inside c p slot h named = elim (cases_lt p (length c.positions)) [
   | inl within ↦ within
   | inr past ↦ absurd (no_object h (sym (ap (λ (x : PositionState). get_or x.slots slot None)
@@ -150,7 +156,12 @@ pub more_rehomed : (id : ℕ) (c : SetState) (n count : ℕ) (old now new : List
 more_rehomed id c n count old now new a once x = record {
   count = x.count ∙ a.count;
   here = λ p slot h l named. elim (cases_eq p n) [
-    | inl e ↦ subst (λ (q : ℕ). home_at new h ≡ Some (record { set = id; position = q; slot = slot }))
+    | inl e ↦ subst (λ (q : ℕ). home_at new h ≡ Some (record {
+      set = id;
+      position = q;
+      slot =
+          slot;
+    }))
         (sym e) (x.here slot h (ap (λ (q : ℕ). slot_at c q slot) (sym e) ∙ named))
     | inr off ↦ x.others h (λ j there. off (once.once p n slot j h named there).0)
         ∙ a.here p slot h (omega (arith, l, off)) named

@@ -36,7 +36,8 @@ shards_more done steps olds i d e within inside =
 pub shards_all : (done : List Shard) (steps : List (Option Shard)) (olds : List Shard) (i : ℕ)
     → length steps ≤ i → done ++ merged_shards (drop i steps) (drop i olds) ≡ done
 shards_all done steps olds i past =
-    ap (λ (l : List (Option Shard)). done ++ merged_shards l (drop i olds)) (nothing_left steps i past)
+    ap (λ (l : List (Option Shard)). done ++ merged_shards l (drop i olds)) (nothing_left steps i
+    past)
     ∙ append-nil done
   where
     nothing_left : (xs : List (Option Shard)) (n : ℕ) → length xs ≤ n → drop n xs ≡ []
@@ -87,7 +88,11 @@ one_filled id shards a b now n x l = record {
     | inl e ↦ ap (position_of (with_position now n (chosen_position a b n))) e
         ∙ position_here now n (chosen_position a b n) (let c = x.count in omega (arith, l, c))
         ∙ ap (chosen_position a b) (sym e)
-    | inr off ↦ position_else now n p (chosen_position a b n) off ∙ x.filled p (omega (arith, below, off))
+    | inr off ↦ position_else now n p (chosen_position a b n) off ∙ x.filled p (omega (
+      arith,
+      below,
+      off,
+    ))
   ];
 }
 
@@ -103,7 +108,8 @@ merged_at : (xs ys : List PositionState) (p : ℕ) (d : PositionState) → lengt
 merged_at [] ys p d e l = absurd (omega (arith, l))
 merged_at (a ∷ rest) [] p d e l = absurd (omega (arith, e))
 merged_at (a ∷ rest) (b ∷ others) zero d e l = refl
-merged_at (a ∷ rest) (b ∷ others) (suc p) d e l = merged_at rest others p d (omega (arith, e)) (omega (arith, l))
+merged_at (a ∷ rest) (b ∷ others) (suc p) d e l = merged_at rest others p d (omega (arith, e))
+    (omega (arith, l))
 
 pub all_filled : (id : ℕ) (pair : JoiningState) (a b c : SetState)
     → IsFilledBelow id (merged_shards pair.steps pair.shards_a) a b (length a.positions) c
@@ -144,7 +150,8 @@ module _ (id : ℕ) (pair : JoiningState) (a b : SetState)
 
   -- where b is live, and where it is not
   pub chosen_b : (p : ℕ) → live_at b p ≡ true → position_of c p ≡ position_of b p
-  chosen_b p on = chosen_at p ∙ ap (λ (l : Bool). if l then position_of b p else position_of a p) on
+  chosen_b p on = chosen_at p ∙ ap (λ (l : Bool). if l then position_of b p else position_of a p)
+      on
 
   pub chosen_a : (p : ℕ) → live_at b p ≡ false → position_of c p ≡ position_of a p
   chosen_a p off = chosen_at p

@@ -45,7 +45,8 @@ moved_count pair b = count_by (live_at b) pair.taken
 
 -- The far state once the pair is one set, under the next number, and its objects have these homes:
 -- b's rows are dropped, and a's where new ones stand.
-abbrev pub with_merged : FarState → JoiningState → SetState → SetState → List (Option Home) → FarState
+abbrev pub with_merged : FarState → JoiningState → SetState → SetState → List (Option Home) →
+    FarState
 with_merged far pair a b homes = record far {
   sets = map.remove (map.remove (map.insert far.sets far.counts.sets (record {
     set = merged_set far.counts.sets pair a b;

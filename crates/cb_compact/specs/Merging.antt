@@ -18,7 +18,8 @@ AreTables set = (p : ℕ) → live_at set p ≡ list_any (λ slot. is_some slot)
 abbrev pub chosen_position : SetState → SetState → ℕ → PositionState
 chosen_position a b p = if live_at b p then position_of b p else position_of a p
 
--- the set has these shards and as many positions as a, and the first n of them are the merged set's
+-- the set has these shards and as many positions as a, and the first n of them are the merged
+-- set's
 pub record IsFilledBelow (id : ℕ) (shards : List Shard) (a b : SetState) (n : ℕ) (set : SetState)
     : Type 0 where
   pub name : set.id ≡ id
@@ -26,8 +27,10 @@ pub record IsFilledBelow (id : ℕ) (shards : List Shard) (a b : SetState) (n : 
   pub count : length set.positions ≡ length a.positions
   pub filled : (p : ℕ) → p < n → position_of set p ≡ chosen_position a b p
 
--- the pair can be committed: the far part is sound, both sets stand as they did, and each step is done
-pub record IsReadyToMerge (s : Shown) (far : FarState) (pair : JoiningState) (a b : SetState) : Type 0
+-- the pair can be committed: the far part is sound, both sets stand as they did, and each step
+-- is done
+pub record IsReadyToMerge (s : Shown) (far : FarState) (pair : JoiningState) (a b : SetState) :
+    Type 0
   where
     pub sound : FarSound s far
     pub fresh : IsFreshPair far pair a b

@@ -22,8 +22,8 @@ pub record AreRehomed (id : ℕ) (set : SetState) (old new : List (Option Home))
   pub others : (h : ℕ) → ((p slot : ℕ) → slot_at set p slot ≡ Some h → ⊥)
       → home_at new h ≡ home_at old h
 
--- the objects that the set names are below the count, each is named in one slot of one live position,
--- and slots are numbers of 32 bits
+-- the objects that the set names are below the count, each is named in one slot of one live
+-- position, and slots are numbers of 32 bits
 pub record AreNamedOnce (set : SetState) (count : ℕ) : Type 0 where
   pub below : (p slot h : ℕ) → slot_at set p slot ≡ Some h → h < count
   pub once : (p q i j h : ℕ) → slot_at set p i ≡ Some h → slot_at set q j ≡ Some h

@@ -14,8 +14,8 @@ use Rattle.cb_world.specs.SetWord.{IsWordOf}
 use Rattle.cb_world.specs.FarState.{FarState}
 use Rattle.cb_compact.specs.Standing.{HasNoPair, IsFreshPair, IsGivenUp}
 
--- whether the position has a step, of a pair with so many data positions: it is a data position taken
--- from b, or a parity's
+-- whether the position has a step, of a pair with so many data positions: it is a data position
+-- taken from b, or a parity's
 abbrev pub has_step : JoiningState → ℕ → ℕ → Bool
 has_step pair k p = if nat_lt p k then takes pair.taken p else true
 
@@ -43,7 +43,8 @@ IsMergedRow far pair a b p row = (wa wb m : List (List ℕ)) → IsWordOf far.no
     → IsWordOf far.nodes far.members b wb
     → IsMergedWord (length a.positions) (parities a) pair.taken wa wb m → row ≡ row_at m p
 
--- the shard for a new row beside the old one: on its node and of its incarnation, under the next key
+-- the shard for a new row beside the old one: on its node and of its incarnation, under the next
+-- key
 abbrev pub shard_beside : FarState → Shard → Shard
 shard_beside far old = record {
   node = old.node;
@@ -67,7 +68,8 @@ pub record IsAllStepped (far : FarState) (pair : JoiningState) (a : SetState) (n
   pub state : new ≡ far
 
 -- a's node at the next position holds as many rows as it has room for: the pair stays
-pub record IsFull (far : FarState) (pair : JoiningState) (a : SetState) (new : FarState) (r : Reply)
+pub record IsFull (far : FarState) (pair : JoiningState) (a : SetState) (new : FarState) (r :
+    Reply)
     : Type 0 where
   pub position : ℕ
   pub next : IsNext pair (length a.positions) position

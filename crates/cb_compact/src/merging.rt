@@ -28,7 +28,8 @@ use cb_types::{NoMemory, Positions, SetId};
 use cb_world::{Desk, Far, Joining, KeptSet, Sets};
 use std::alloc::Global;
 
-/// The shards of the merged set: the new one at a position whose step was done, and else the old one.
+/// The shards of the merged set: the new one at a position whose step was done, and else the old
+/// one.
 fn shards_of(alloc: Global, steps: &[Option<Shard>], olds: &[Shard]) -> Result<Vec<Shard>, NoMemory>
     requires { length steps.now ≡ length olds.now }
     ensures { IfOk result (λ shards. shards.items ≡ merged_shards steps.now olds.now) }
@@ -40,7 +41,8 @@ fn shards_of(alloc: Global, steps: &[Option<Shard>], olds: &[Shard]) -> Result<V
     Ok(shards)
 }
 
-/// Gives a position of the merged set the slot table of b's where b is live there, and else of a's.
+/// Gives a position of the merged set the slot table of b's where b is live there, and else of
+/// a's.
 fn fill_position(set: &mut SpanSet, a: &SpanSet, b: &SpanSet, position: u32) -> Result<(), NoMemory>
     requires here { position < length set.old.positions }
     requires in_a { position < length a.now.positions }
@@ -211,8 +213,8 @@ fn remove_pair(sets: &mut Sets, pair: &Joining)
     sets.remove(pair.b);
 }
 
-/// Takes the sets of the joining pair out with the rows that are replaced; no pair is joining then.
-/// Takes no memory.
+/// Takes the sets of the joining pair out with the rows that are replaced; no pair is joining
+/// then. Takes no memory.
 fn end_pair(far: &mut Far)
     requires there { (pair : JoiningState) × (far.old.joining ≡ Some pair)
         × AreThere far.old.nodes pair.shards_a × AreThere far.old.nodes pair.shards_b
@@ -303,7 +305,8 @@ fn undone_positions(far: &Far) -> Positions
     undone_steps(pair, data_count(far))
 }
 
-/// Makes one set of the joining pair, whose sets stand as they did at the begin, if its steps are done.
+/// Makes one set of the joining pair, whose sets stand as they did at the begin, if its steps
+/// are done.
 fn merge_on(far: &mut Far) -> Result<Reply, NoMemory>
     requires sound { (s : Shown) × FarSound s far.old }
     requires fresh { (pair : JoiningState) × (a : SetState) × (b : SetState)
@@ -321,16 +324,16 @@ fn merge_on(far: &mut Far) -> Result<Reply, NoMemory>
     }
 }
 
-/// Commits the joining pair: one set, whose number is drawn here, stands in place of both. It has a's
-/// nodes, with the new rows where steps were done and a's own elsewhere, and is live where a or b is
-/// live now. b's rows and a's rows beside the new ones are dropped, the objects have their homes in the
-/// new set, and no pair is joining then.
+/// Commits the joining pair: one set, whose number is drawn here, stands in place of both. It
+/// has a's nodes, with the new rows where steps were done and a's own elsewhere, and is live
+/// where a or b is live now. b's rows and a's rows beside the new ones are dropped, the objects
+/// have their homes in the new set, and no pair is joining then.
 ///
-/// Answers NoJoin exactly where no pair is joining. Answers Changed exactly where a set of the pair, a
-/// before b, is gone, has lost a shard or has other shards than at the begin: the pair is given up then.
-/// Answers Unfinished where steps are not done, whose positions are told in order, and else Merged with
-/// the count of the positions taken from b that are live there now. No row is given out. Where there is
-/// no memory, nothing has changed.
+/// Answers NoJoin exactly where no pair is joining. Answers Changed exactly where a set of the
+/// pair, a before b, is gone, has lost a shard or has other shards than at the begin: the pair
+/// is given up then. Answers Unfinished where steps are not done, whose positions are told in
+/// order, and else Merged with the count of the positions taken from b that are live there now.
+/// No row is given out. Where there is no memory, nothing has changed.
 pub fn compact_commit<D: Desk>(desk: &mut D, far: &mut Far) -> Result<Reply, NoMemory>
     requires sound { (s : Shown) × D.shows desk.old s × Sound s far.old }
     requires sets { far.old.counts.sets < 2 ^ 62 }

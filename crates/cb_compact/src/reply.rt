@@ -12,7 +12,8 @@ pub enum Reply {
     Stepped { position: u32 },
     /// Every row of the joining pair is put.
     AllStepped,
-    /// The pair is one span-set, of this number; how many positions were taken from the second one.
+    /// The pair is one span-set, of this number; how many positions were taken from the second
+    /// one.
     Merged { set: SetId, moved: u32 },
     /// A pair is joining already.
     Joining { a: SetId, b: SetId },
@@ -20,8 +21,8 @@ pub enum Reply {
     NoPair,
     /// No pair is joining.
     NoJoin,
-    /// This set of the pair is gone, has lost a shard or has other shards than at the begin: the pair
-    /// is given up.
+    /// This set of the pair is gone, has lost a shard or has other shards than at the begin: the
+    /// pair is given up.
     Changed { set: SetId },
     /// The node of the next row has no room.
     NodeFull { node: NodeId },

@@ -41,7 +41,8 @@ fn is_undone(pair: &Joining, k: u32, position: u32) -> bool
     has_step(pair, k, position) && pair.steps[position as usize].is_none()
 }
 
-/// The least position whose step is not done, of a pair with `k` data positions; None where all are.
+/// The least position whose step is not done, of a pair with `k` data positions; None where all
+/// are.
 pub(crate) fn next_step(pair: &Joining, k: u32) -> Option<u32>
     requires { length pair.now.steps ≤ 20 }
     ensures next { IfSome result (IsNext pair.now k) }

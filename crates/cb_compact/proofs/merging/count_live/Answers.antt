@@ -13,7 +13,8 @@ live_at-requires c = c.requires.data c.loop-position.position-index 0 c.loop-pos
 
 pub overflow_add-count : goal.overflow_add-count
 overflow_add-count c =
-    let l = c.loop-position-test.true in let f = c.requires.few in let b = c.loop-position.invariant.few in
+    let l = c.loop-position-test.true in let f = c.requires.few in let b =
+    c.loop-position.invariant.few in
     omega (arith, l, f, b)
 
 pub loop-position-preserved : goal.loop-position-preserved
@@ -22,11 +23,13 @@ loop-position-preserved c =
     let taken = c.args.taken.now in let x = c.loop-position.invariant in
     elim c.if-live_at.branch [
       | then-live_at w ↦
-          let on = count_by_more_yes f taken i 0 c.loop-position-test.true (sym c.live_at.ensures ∙ w.if-live_at.true) in
+          let on = count_by_more_yes f taken i 0 c.loop-position-test.true (sym c.live_at.ensures
+          ∙ w.if-live_at.true) in
           let e = w.count-is in let a = x.counted in let b = x.few in
           record { counted = omega (arith, on, e, a); few = omega (arith, e, b) }
       | else-live_at w ↦
-          let off = count_by_more_no f taken i 0 c.loop-position-test.true (sym c.live_at.ensures ∙ w.if-live_at.false) in
+          let off = count_by_more_no f taken i 0 c.loop-position-test.true (sym c.live_at.ensures
+          ∙ w.if-live_at.false) in
           let e = w.count-is in let a = x.counted in let b = x.few in
           record { counted = omega (arith, off, e, a); few = omega (arith, e, b) }
     ]

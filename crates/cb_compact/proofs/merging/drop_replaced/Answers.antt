@@ -23,13 +23,15 @@ loop-p-preserved c =
     let p = c.loop-p.p in let olds = c.args.olds.now in let steps = c.args.steps.now in
     let below : p < length olds = let l = c.loop-p-test.true in let n = c.requires.counts in
     omega (arith, l, n) in (
-      ap (λ (n : NodesState). all_dropped n (replaced_shards (drop (p + 1) steps) (drop (p + 1) olds)))
+      ap (λ (n : NodesState). all_dropped n (replaced_shards (drop (p + 1) steps) (drop (p + 1)
+          olds)))
           c.drop_replaced_row.ensures
           ∙ replaced_more c.loop-p.nodes steps olds p None none_here c.loop-p-test.true below
           ∙ c.loop-p.invariant.0,
       λ q shard at. let l = c.loop-p.invariant.1 q shard at in
           let n = ap (λ (n : NodesState). length n.nodes) c.drop_replaced_row.ensures in
-          let m = drop_count c.loop-p.nodes (replaced_shards (get_or steps p None ∷ []) (get_or olds p none_here ∷ [])) in
+          let m = drop_count c.loop-p.nodes (replaced_shards (get_or steps p None ∷ []) (get_or
+          olds p none_here ∷ [])) in
           omega (arith, l, n, m),
     )
 

@@ -13,7 +13,11 @@ fill_position-requires-clause-here c =
 
 pub fill_position-requires-clause-in_a : goal.fill_position-requires-clause-in_a
 fill_position-requires-clause-in_a c =
-    let l = c.loop-position-test.true in let n = c.k-position-end.ensures.count in omega (arith, l, n)
+    let l = c.loop-position-test.true in let n = c.k-position-end.ensures.count in omega (
+      arith,
+      l,
+      n,
+    )
 
 pub fill_position-requires-clause-in_b : goal.fill_position-requires-clause-in_b
 fill_position-requires-clause-in_b c =
@@ -32,7 +36,11 @@ loop-position-preserved c =
     let n = c.loop-position.position in
     subst (IsFilledBelow set.id set.shards a b (n + 1)) (sym c.in_ok-fill_position.ensures)
     (one_filled set.id set.shards a b c.loop-position.set n c.loop-position.invariant
-    (let l = c.loop-position-test.true in let m = c.k-position-end.ensures.count in omega (arith, l, m)))
+    (let l = c.loop-position-test.true in let m = c.k-position-end.ensures.count in omega (
+      arith,
+      l,
+      m,
+    )))
 
 pub returns : goal.returns
 returns c =

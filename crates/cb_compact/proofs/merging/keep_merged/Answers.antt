@@ -27,7 +27,8 @@ unwrap-b-requires c =
     let e : x.1 ≡ c.unwrap-pair.result.now = unwrapped c.as_ref.result c.unwrap-pair.result
     c.far.inside.joining x.1 c.as_ref.ensures.value c.unwrap-pair.ensures
     (ap (λ (f : FarState). f.joining) v ∙ x.4.fresh.was) in
-    looked_some c.committed-2.result c.far.inside.sets c.args.far.now.sets c.pair.inside.b x.1.b x.3
+    looked_some c.committed-2.result c.far.inside.sets c.args.far.now.sets c.pair.inside.b x.1.b
+    x.3
     c.committed-2.ensures (ap (λ (f : FarState). f.sets) v)
     (ap (λ (q : JoiningState). q.b) (c.pair.view_is ∙ sym e)) x.4.fresh.b_stands.there
 
@@ -47,7 +48,8 @@ merged-requires-clause-in_a c =
     c.far.inside.joining x.1 c.as_ref.ensures.value c.unwrap-pair.ensures
     (ap (λ (f : FarState). f.joining) v ∙ x.4.fresh.was) in
     let a_is = looked_up c.committed.result c.unwrap-a.result c.far.inside.sets c.args.far.now.sets
-    c.pair.inside.a x.1.a x.2 c.committed.ensures c.unwrap-a.ensures (ap (λ (f : FarState). f.sets) v)
+    c.pair.inside.a x.1.a x.2 c.committed.ensures c.unwrap-a.ensures (ap (λ (f : FarState).
+    f.sets) v)
     (ap (λ (q : JoiningState). q.a) (c.pair.view_is ∙ sym e)) x.4.fresh.a_stands.there in
     ap (λ (q : SetState). length q.shards) a_is ∙ ready_shards x.0 c.args.far.now x.1 x.2 x.3 x.4
     ∙ ap (λ (q : JoiningState). length q.shards_a) e
@@ -59,10 +61,13 @@ merged-requires-clause-in_b c =
     c.far.inside.joining x.1 c.as_ref.ensures.value c.unwrap-pair.ensures
     (ap (λ (f : FarState). f.joining) v ∙ x.4.fresh.was) in
     let a_is = looked_up c.committed.result c.unwrap-a.result c.far.inside.sets c.args.far.now.sets
-    c.pair.inside.a x.1.a x.2 c.committed.ensures c.unwrap-a.ensures (ap (λ (f : FarState). f.sets) v)
+    c.pair.inside.a x.1.a x.2 c.committed.ensures c.unwrap-a.ensures (ap (λ (f : FarState).
+    f.sets) v)
     (ap (λ (q : JoiningState). q.a) (c.pair.view_is ∙ sym e)) x.4.fresh.a_stands.there in
-    let b_is = looked_up c.committed-2.result c.unwrap-b.result c.far.inside.sets c.args.far.now.sets
-    c.pair.inside.b x.1.b x.3 c.committed-2.ensures c.unwrap-b.ensures (ap (λ (f : FarState). f.sets) v)
+    let b_is = looked_up c.committed-2.result c.unwrap-b.result c.far.inside.sets
+    c.args.far.now.sets
+    c.pair.inside.b x.1.b x.3 c.committed-2.ensures c.unwrap-b.ensures (ap (λ (f : FarState).
+    f.sets) v)
     (ap (λ (q : JoiningState). q.b) (c.pair.view_is ∙ sym e)) x.4.fresh.b_stands.there in
     ap (λ (q : SetState). length q.positions) b_is ∙ ready_data x.0 c.args.far.now x.1 x.2 x.3 x.4
     ∙ sym (ap (λ (q : SetState). length q.positions) a_is)
@@ -74,7 +79,8 @@ merged-requires-clause-a_tables c =
     c.far.inside.joining x.1 c.as_ref.ensures.value c.unwrap-pair.ensures
     (ap (λ (f : FarState). f.joining) v ∙ x.4.fresh.was) in
     let a_is = looked_up c.committed.result c.unwrap-a.result c.far.inside.sets c.args.far.now.sets
-    c.pair.inside.a x.1.a x.2 c.committed.ensures c.unwrap-a.ensures (ap (λ (f : FarState). f.sets) v)
+    c.pair.inside.a x.1.a x.2 c.committed.ensures c.unwrap-a.ensures (ap (λ (f : FarState).
+    f.sets) v)
     (ap (λ (q : JoiningState). q.a) (c.pair.view_is ∙ sym e)) x.4.fresh.a_stands.there in
     subst AreTables (sym a_is) (tables_a x.0 c.args.far.now x.1 x.2 x.3 x.4)
 
@@ -84,8 +90,10 @@ merged-requires-clause-b_tables c =
     let e : x.1 ≡ c.unwrap-pair.result.now = unwrapped c.as_ref.result c.unwrap-pair.result
     c.far.inside.joining x.1 c.as_ref.ensures.value c.unwrap-pair.ensures
     (ap (λ (f : FarState). f.joining) v ∙ x.4.fresh.was) in
-    let b_is = looked_up c.committed-2.result c.unwrap-b.result c.far.inside.sets c.args.far.now.sets
-    c.pair.inside.b x.1.b x.3 c.committed-2.ensures c.unwrap-b.ensures (ap (λ (f : FarState). f.sets) v)
+    let b_is = looked_up c.committed-2.result c.unwrap-b.result c.far.inside.sets
+    c.args.far.now.sets
+    c.pair.inside.b x.1.b x.3 c.committed-2.ensures c.unwrap-b.ensures (ap (λ (f : FarState).
+    f.sets) v)
     (ap (λ (q : JoiningState). q.b) (c.pair.view_is ∙ sym e)) x.4.fresh.b_stands.there in
     subst AreTables (sym b_is) (tables_b x.0 c.args.far.now x.1 x.2 x.3 x.4)
 
@@ -97,7 +105,8 @@ returns-clause-kept c =
     c.far.inside.joining pair c.as_ref.ensures.value c.unwrap-pair.ensures
     (ap (λ (f : FarState). f.joining) v ∙ fresh.was) in
     let a_is = looked_up c.committed.result c.unwrap-a.result c.far.inside.sets c.args.far.now.sets
-    c.pair.inside.a pair.a a c.committed.ensures c.unwrap-a.ensures (ap (λ (f : FarState). f.sets) v)
+    c.pair.inside.a pair.a a c.committed.ensures c.unwrap-a.ensures (ap (λ (f : FarState).
+    f.sets) v)
     (ap (λ (q : JoiningState). q.a) (c.pair.view_is ∙ sym e)) fresh.a_stands.there in
     let b_is = looked_up c.committed-2.result c.unwrap-b.result c.far.inside.sets
     c.args.far.now.sets c.pair.inside.b pair.b b c.committed-2.ensures c.unwrap-b.ensures
@@ -105,5 +114,9 @@ returns-clause-kept c =
     (ap (λ (q : JoiningState). q.b) (c.pair.view_is ∙ sym e)) fresh.b_stands.there in
     let made = c.in_ok-set.ensures
     ∙ (λ i. merged_set c.args.id (sym e i) (a_is i) (b_is i)) in
-    let sets = ok ∙ (λ i. map.insert (v i).sets c.args.id (record { set = made i; committed = true })) in
+    let sets = ok ∙ (λ i. map.insert (v i).sets c.args.id (record {
+      set = made i;
+      committed =
+          true;
+    })) in
     λ i. record (v i) { sets = sets i }) c.put.ensures.ok

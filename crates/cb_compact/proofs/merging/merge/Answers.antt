@@ -43,7 +43,8 @@ replace_sets-requires-clause-set c =
     let made = merged_set id x.1 x.2 x.3 in (
       made,
       ap (λ (f : FarState). set_in f.sets id) kept ∙ set_there c.args.far.now.sets id made,
-      subst (λ (l : List _). AreNamedOnce made (length l)) (sym (ap (λ (f : FarState). f.homes) kept))
+      subst (λ (l : List _). AreNamedOnce made (length l)) (sym (ap (λ (f : FarState). f.homes)
+          kept))
           (subst (λ (n : ℕ). AreNamedOnce (merged_set n x.1 x.2 x.3) (length c.args.far.now.homes))
           (sym c.next_set-id.ensures) (named_once x.0 c.args.far.now x.1 x.2 x.3 x.4)),
     )

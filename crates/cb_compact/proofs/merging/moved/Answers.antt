@@ -24,7 +24,8 @@ count_live-requires-clause-data c =
     c.far.inside.joining x.1 c.as_ref.ensures.value c.unwrap-pair.ensures
     (ap (λ (f : FarState). f.joining) v ∙ x.4.fresh.was) in
     let b_is = looked_up c.committed.result c.unwrap-b.result c.far.inside.sets c.args.far.now.sets
-    c.pair.inside.b x.1.b x.3 c.committed.ensures c.unwrap-b.ensures (ap (λ (f : FarState). f.sets) v)
+    c.pair.inside.b x.1.b x.3 c.committed.ensures c.unwrap-b.ensures (ap (λ (f : FarState).
+    f.sets) v)
     (ap (λ (q : JoiningState). q.b) (c.pair.view_is ∙ sym e)) x.4.fresh.b_stands.there in
     subst (λ (l : List ℕ). (k d : ℕ) → k < length l
     → get_or l k d < length c.unwrap-b.result.now.positions)
@@ -50,7 +51,8 @@ returns c pair a b fresh =
     c.far.inside.joining pair c.as_ref.ensures.value c.unwrap-pair.ensures
     (ap (λ (f : FarState). f.joining) v ∙ fresh.was) in
     let b_is = looked_up c.committed.result c.unwrap-b.result c.far.inside.sets c.args.far.now.sets
-    c.pair.inside.b pair.b b c.committed.ensures c.unwrap-b.ensures (ap (λ (f : FarState). f.sets) v)
+    c.pair.inside.b pair.b b c.committed.ensures c.unwrap-b.ensures (ap (λ (f : FarState).
+    f.sets) v)
     (ap (λ (q : JoiningState). q.b) (c.pair.view_is ∙ sym e)) fresh.b_stands.there in
     c.count_live.ensures
     ∙ ap₂ (λ (q : SetState) (l : List ℕ). count_by (live_at q) l) b_is
