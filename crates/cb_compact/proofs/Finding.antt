@@ -1,8 +1,8 @@
 -- Positions that pass a test, in order, and the tests of a pair.
-use Rattle.std.proofs.Common.{◌≡◌, ℕ, zero, suc, ◌+◌, ◌<◌, Bool, true, false, cond, nat_eq, List, [], ◌∷◌, ◌++◌, length, get_or, refl, ap, ◌∙◌, arith}
+use Rattle.std.proofs.Common.{◌≡◌, ℕ, zero, suc, ◌+◌, ◌<◌, ◌≤◌, Bool, true, false, cond, nat_eq, List, [], ◌∷◌, ◌++◌, length, take, get_or, set, refl, ap, sym, ◌∙◌, arith, length-set}
 use Rattle.std.specs.List.{filter, range_with_len}
 use Rattle.std.proofs.lemmas.Bool.{eq-eqb, eqb-true}
-use Rattle.std.proofs.lemmas.List.{append-nil}
+use Rattle.std.proofs.lemmas.List.{append-nil, length-take-le, take_more_set}
 use Rattle.std.proofs.lemmas.List.Elements.{filter-append}
 use Rattle.cb_world.proofs.Laws.{range_more}
 use Rattle.cb_world.specs.Merged.{takes}
@@ -52,3 +52,40 @@ passing_in f n on = passing_more f n ∙ ap (λ (b : Bool). passing f n ++ cond 
 pub passing_out : (f : ℕ → Bool) (n : ℕ) → f n ≡ false → passing f (n + 1) ≡ passing f n
 passing_out f n off = passing_more f n ∙ ap (λ (b : Bool). passing f n ++ cond b (n ∷ []) []) off
     ∙ append-nil (passing f n)
+
+-- the passing ones of the first n positions stand in the first places
+pub record Found (f : ℕ → Bool) (n : ℕ) (found : List ℕ) (count : ℕ) : Type 0 where
+  pub size : length found ≡ 20
+  pub behind : count ≤ n
+  pub counted : count ≡ length (passing f n)
+  pub listed : take count found ≡ passing f n
+
+pub found_not : (f : ℕ → Bool) (n : ℕ) (found : List ℕ) (count : ℕ) → Found f n found count
+    → f n ≡ false → Found f (n + 1) found count
+found_not f n found count x off = let e = passing_out f n off in record {
+  size = x.size;
+  behind = let b = x.behind in omega (arith, b);
+  counted = x.counted ∙ ap length (sym e);
+  listed = x.listed ∙ sym e;
+}
+
+pub found_more : (f : ℕ → Bool) (n : ℕ) (found : List ℕ) (count : ℕ) → Found f n found count
+    → n < 20 → f n ≡ true → Found f (n + 1) (set found count n) (count + 1)
+found_more f n found count x few on =
+    let e = passing_in f n on in
+    let room : count < length found = let s = x.size in let b = x.behind in omega (
+      arith,
+      s,
+      b,
+      few,
+    ) in
+    let l : take (count + 1) (set found count n) ≡ passing f (n + 1) =
+    take_more_set found count n room ∙ ap (λ (l : List ℕ). l ++ n ∷ []) x.listed ∙ sym e in
+    let k = length-take-le (count + 1) (set found count n)
+    (let s = length-set found count n in omega (arith, room, s)) in
+    record {
+      size = length-set found count n ∙ x.size;
+      behind = let b = x.behind in omega (arith, b);
+      counted = sym k ∙ ap length l;
+      listed = l;
+    }

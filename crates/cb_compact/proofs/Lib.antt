@@ -1,12 +1,17 @@
 mod Adding
 mod Dropping
+mod Homing
 mod Finding
 mod Looked
 mod Keeping
 mod Choosing
 mod Begins
+mod Merged
+mod Committing
+mod Committed
 mod OneStep
 mod Parity
 mod Ready
 mod Taken
 mod WorkedPair
+mod WorkedMerge

@@ -1,8 +1,9 @@
 -- Sets that were looked up.
-use Rattle.std.proofs.Common.{◌≡◌, true, false, Option, None, Some, Bor, is_some, refl, sym, ap, ◌∙◌}
-use Rattle.std.specs.Option.{option_map}
+use Rattle.std.proofs.Common.{◌≡◌, ℕ, true, false, Option, None, Some, Bor, is_some, refl, sym, ap, ◌∙◌}
+use Rattle.std.specs.Option.{IsSome, option_map}
 use Rattle.cb_set.specs.SetState.{SetState}
 use Rattle.cb_world.specs.Joining.{JoiningState}
+use Rattle.cb_world.specs.Sets.{SetMap, set_in}
 
 pub set_same : (a b : SetState) → Some a ≡ Some b → a ≡ b
 set_same a b e = cc
@@ -31,3 +32,20 @@ none_pair (Some x) e = absurd (no_flag e)
   where
     no_flag : true ≡ false → ⊥
     no_flag e = cc
+
+-- a set that is there is found, and is the one that is there
+pub looked_some : (o : Option (Bor SetState)) (inside sets : SetMap) (n m : ℕ) (set : SetState)
+    → option_map (λ s. s.now) o ≡ set_in inside n → inside ≡ sets → n ≡ m
+    → set_in sets m ≡ Some set → IsSome o
+looked_some None inside sets n m set e same at there =
+    absurd (none_some (e ∙ (λ i. set_in (same i) (at i)) ∙ there))
+  where
+    none_some : None ≡ Some set → ⊥
+    none_some f = cc
+looked_some (Some x) inside sets n m set e same at there = refl
+
+pub looked_up : (o : Option (Bor SetState)) (u : Bor SetState) (inside sets : SetMap) (n m : ℕ)
+    (set : SetState) → option_map (λ s. s.now) o ≡ set_in inside n → o ≡ Some u → inside ≡ sets
+    → n ≡ m → set_in sets m ≡ Some set → u.now ≡ set
+looked_up o u inside sets n m set e f same at there =
+    found_set o u (set_in inside n) set e f ((λ i. set_in (same i) (at i)) ∙ there)

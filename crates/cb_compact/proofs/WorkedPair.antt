@@ -10,26 +10,26 @@ use Rattle.cb_compact.specs.Candidates.{AreAlike, CanMatch}
 use Rattle.cb_compact.specs.Pairing.{begun_pair, live_positions}
 use Rattle.cb_compact.specs.Steps.{AreDone, IsNext, has_step, is_undone}
 
-abbrev on_node : ℕ → Shard
+abbrev pub on_node : ℕ → Shard
 on_node n = record { node = record { n = n }; incarnation = 0; key = n }
 
-abbrev live_with : ℕ → PositionState
+abbrev pub live_with : ℕ → PositionState
 live_with h = record { live = true; slots = Some h ∷ [] }
 
-abbrev dead : PositionState
+abbrev pub dead : PositionState
 dead = record { live = false; slots = [] }
 
 -- a is live at position 0, and b at position 1
-abbrev set_a : SetState
+abbrev pub set_a : SetState
 set_a = set_of 0 (on_node 0 ∷ on_node 1 ∷ on_node 2 ∷ []) (live_with 7 ∷ dead ∷ [])
 
-abbrev set_b : SetState
+abbrev pub set_b : SetState
 set_b = set_of 1 (on_node 3 ∷ on_node 4 ∷ on_node 5 ∷ []) (dead ∷ live_with 8 ∷ [])
 
 pub live_in_b : live_positions set_b ≡ 1 ∷ []
 live_in_b = refl
 
-abbrev begun : JoiningState
+abbrev pub begun : JoiningState
 begun = begun_pair 0 1 set_a set_b
 
 pub none_is_done : begun.steps ≡ None ∷ None ∷ None ∷ []
@@ -79,7 +79,7 @@ pub not_past_the_end : IsNext begun 2 3 → ⊥
 not_past_the_end x = let l = x.within in omega (arith, l)
 
 -- ---- after the step
-abbrev stepped : JoiningState
+abbrev pub stepped : JoiningState
 stepped = with_step begun 1 (on_node 1)
 
 pub next_is_the_parity : IsNext stepped 2 2

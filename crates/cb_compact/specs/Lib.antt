@@ -1,8 +1,11 @@
 pub mod Pairing
 pub mod Standing
 pub mod Steps
+pub mod MergeStep
 pub mod Candidates
 pub mod Deltas
 pub mod Looking
+pub mod Rehoming
+pub mod Merging
 pub mod Stepping
 pub mod Begun

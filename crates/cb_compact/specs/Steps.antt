@@ -1,5 +1,6 @@
 -- A step of the joining pair: which position's, the row that is put, and the far state then.
-use Rattle.std.specs.Prelude.{◌≡◌, ◌⊎◌, ℕ, ◌+◌, ◌<◌, ◌&&◌, Bool, true, false, nat_lt, List, None, Some, is_none, length, slice_get, slice_index_or, if◌then◌else◌}
+use Rattle.std.specs.Prelude.{◌≡◌, ◌⊎◌, ℕ, ◌+◌, ◌<◌, ◌&&◌, Bool, true, false, nat_lt, List, None, Some, is_none, length, slice_get, filter, slice_index_or, if◌then◌else◌}
+use Rattle.std.specs.List.{range_with_len}
 use Rattle.cb_gf256.specs.Rows.{row_at}
 use Rattle.cb_member.specs.declared.names.Shard.{Shard}
 use Rattle.cb_node.specs.NodesState.{held, with_row}
@@ -21,6 +22,10 @@ has_step pair k p = if nat_lt p k then takes pair.taken p else true
 -- whether its step is still to be done
 abbrev pub is_undone : JoiningState → ℕ → ℕ → Bool
 is_undone pair k p = has_step pair k p && is_none (slice_index_or pair.steps p None)
+
+-- the positions whose steps are not done, in order
+abbrev pub undone : JoiningState → ℕ → List ℕ
+undone pair k = filter (is_undone pair k) (range_with_len 0 (length pair.steps))
 
 -- the least position whose step is not done
 pub record IsNext (pair : JoiningState) (k p : ℕ) : Type 0 where

@@ -6,12 +6,15 @@ mod beginning;
 mod candidates;
 mod deltas;
 mod looking;
+mod merging;
 mod parting;
+mod rehoming;
 mod reply;
 mod stepping;
 mod steps;
 
 pub use beginning::compact_begin;
+pub use merging::compact_commit;
 pub use parting::compact_part;
 pub use reply::Reply;
 pub use stepping::compact_step;

@@ -1,5 +1,5 @@
 use cb_member::NodeId;
-use cb_types::SetId;
+use cb_types::{Positions, SetId};
 
 /// What a turn of compaction is answered.
 #[derive(Drop)]
@@ -12,6 +12,9 @@ pub enum Reply {
     Stepped { position: u32 },
     /// Every row of the joining pair is put.
     AllStepped,
+    /// The pair is one span-set, of this number; how many positions were taken from the second
+    /// one.
+    Merged { set: SetId, moved: u32 },
     /// A pair is joining already.
     Joining { a: SetId, b: SetId },
     /// No two span-sets can be joined.
@@ -23,4 +26,6 @@ pub enum Reply {
     Changed { set: SetId },
     /// The node of the next row has no room.
     NodeFull { node: NodeId },
+    /// Rows of the joining pair were not put: their positions, in order.
+    Unfinished { positions: Positions },
 }

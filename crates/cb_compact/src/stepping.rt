@@ -23,7 +23,7 @@ use cb_types::{NoMemory, SetId};
 use cb_world::{Desk, Far};
 
 /// How many data positions the sets of the joining pair have.
-fn data_count(far: &Far) -> u32
+pub(crate) fn data_count(far: &Far) -> u32
     requires fresh { (pair : JoiningState) × (a b : SetState) × IsFreshPair far.now pair a b }
     ensures { (pair : JoiningState) (a b : SetState) → IsFreshPair far.now pair a b
         → result ≡ length a.positions }
@@ -43,7 +43,7 @@ fn parity_count(far: &Far) -> u32
 }
 
 /// The least position of the joining pair whose step is not done; None where all are.
-fn next_position(far: &Far) -> Option<u32>
+pub(crate) fn next_position(far: &Far) -> Option<u32>
     requires fresh { (pair : JoiningState) × (a : SetState) × (b : SetState)
         × IsFreshPair far.now pair a b × (length pair.steps ≤ 20) }
     ensures next { (pair : JoiningState) (a b : SetState) → IsFreshPair far.now pair a b

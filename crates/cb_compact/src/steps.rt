@@ -1,9 +1,14 @@
-ghost use Rattle.std.specs.Prelude.{◌≡◌, ◌<◌, ◌≤◌, IfNone, IfSome, length};
+ghost use Rattle.std.specs.Prelude.{◌≡◌, ℕ, ◌<◌, ◌≤◌, ◌^◌, IfNone, IfSome, Some, length, slice_get};
+ghost use Rattle.cb_member.specs.declared.names.Shard.{Shard};
+ghost use Rattle.cb_set.specs.SetState.{SetState, parities};
+ghost use Rattle.cb_world.specs.Joining.{JoiningState};
 ghost use Rattle.cb_world.specs.JoinSteps.{with_step};
 ghost use Rattle.cb_world.specs.Merged.{takes};
-ghost use Rattle.cb_compact.specs.Steps.{AreDone, IsNext, has_step, is_undone};
+ghost use Rattle.cb_compact.specs.Steps.{AreDone, IsNext, has_step, is_undone, undone};
 
 use cb_member::Shard;
+use cb_set::MOST_POSITIONS;
+use cb_types::Positions;
 use cb_world::Joining;
 
 /// Whether the position is one of those that are taken.
@@ -49,6 +54,22 @@ pub(crate) fn next_step(pair: &Joining, k: u32) -> Option<u32>
         }
     }
     None
+}
+
+/// The positions whose steps are not done, in order. Takes no memory.
+pub(crate) fn undone_steps(pair: &Joining, k: u32) -> Positions
+    requires { length pair.now.steps ≤ 20 }
+    ensures { result ≡ undone pair.now k }
+{
+    let mut found = [0; MOST_POSITIONS];
+    let mut count = 0;
+    for position in 0..pair.steps.len() as u32 {
+        if is_undone(pair, k, position) {
+            found[count] = position as u8;
+            count += 1;
+        }
+    }
+    Positions::copy_of(&found[..count])
 }
 
 /// Notes the shard of a step that was done.
