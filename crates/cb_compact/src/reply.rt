@@ -12,8 +12,8 @@ pub enum Reply {
     Stepped { position: u32 },
     /// Every row of the joining pair is put.
     AllStepped,
-    /// The pair is one span-set, of this number; how many positions were taken from the second
-    /// one.
+    /// The pair is one span-set, of this number; how many of the positions that were taken from
+    /// the second one are live there.
     Merged { set: SetId, moved: u32 },
     /// A pair is joining already.
     Joining { a: SetId, b: SetId },
