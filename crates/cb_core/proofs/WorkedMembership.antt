@@ -1,6 +1,6 @@
 -- Worked examples of a crash and a join of a node: turns, and turns with one part broken.
 use Rattle.std.proofs.Common.{◌≡◌, ℕ, ◌+◌, true, false, List, [], ◌∷◌, None, Some, refl, ap, sym, ◌∙◌, arith}
-use Rattle.std.specs.Prelude.{slice_index_or}
+use Rattle.std.specs.Prelude.{slice_index_or, None}
 use Rattle.std.specs.FinMap as map
 use Rattle.cb_member.specs.declared.names.NodeId.{NodeId}
 use Rattle.cb_member.specs.Membership.{Membership, alive, fresh_node}
@@ -125,7 +125,7 @@ crashes_and_makes far step = let e : far.made + 1 ≡ far.made =
     ap (λ (f : FarState). f.made) (up_crashed far _ _ step).1 in omega (arith, e)
 
 abbrev surveyed : FarState → FarState
-surveyed far = record far { survey = record { below = 1; gone = 0 } }
+surveyed far = record far { survey = record { below = 1; gone = 0; no_pair = None } }
 
 crashes_and_keeps_the_survey : (far : FarState)
     → CrashTurn (node 0) (with_nodes (surveyed far) rows both_up) (answer.EpochAt (record { n = 5 }))

@@ -1,5 +1,5 @@
 -- A rebuild keeps the world sound, last complete contents and every set's word.
-use Rattle.std.specs.Prelude.{◌≡◌, ◌≤◌, ◌+◌, ℕ, length, Result, Ok, Err, IfOk, OnErr}
+use Rattle.std.specs.Prelude.{◌≡◌, ◌≤◌, ◌+◌, ℕ, length, Result, Ok, Err, IfOk, OnErr, None}
 use Rattle.std.proofs.Common.{refl, sym, ap, ◌∙◌, subst, arith, inl, inr}
 use Rattle.cb_member.specs.declared.no_memory.NoMemory.{NoMemory}
 use Rattle.cb_set.specs.SetState.{SetState}
@@ -41,7 +41,7 @@ keeps_both s far mid new x y = record {
 
 -- ---- the survey
 survey_first : (s : Shown) (far : FarState) (id : ℕ) (set : SetState) → Sound s far
-    → IsFirstWeak far id set → IsSurvey far (record { below = id; gone = gone_below far id })
+    → IsFirstWeak far id set → IsSurvey far (record { below = id; gone = gone_below far id; no_pair = None })
 survey_first s far id set sound first = record {
   drawn = let l = sound.away.sound.sets.numbered id set first.there in omega (arith, l);
   none = λ j other l there. first.least j other l there;
@@ -49,10 +49,10 @@ survey_first s far id set sound first = record {
 }
 
 keeps_survey : (s : Shown) (far : FarState) (n : ℕ) → Sound s far
-    → IsSurvey far (record { below = n; gone = gone_below far n }) → Keeps s far (surveyed far n)
+    → IsSurvey far (record { below = n; gone = gone_below far n; no_pair = None }) → Keeps s far (surveyed far n)
 keeps_survey s far n sound holds = record {
   sound = retold_sound s far far.counts.turns far.counts.by_job far.nodes.given
-      (record { below = n; gone = gone_below far n }) holds sound;
+      (record { below = n; gone = gone_below far n; no_pair = None }) holds sound;
   same_now = λ h. refl;
   words = λ id set rows there word.
       (set, there, record { code = word.code; survive = word.survive });
@@ -150,12 +150,12 @@ keeps_step s far new r sound (inr z) =
 pub found_weak : (far new : FarState) (f : Found) (id gone : ℕ) → new ≡ with_found far f
     → f ≡ found.Weak id gone → gone ≡ gone_below far id → new ≡ surveyed far id
 found_weak far new f id gone kept is counted = kept ∙ ap (with_found far) is
-    ∙ ap (λ (n : ℕ). record far { survey = record { below = id; gone = n } }) counted
+    ∙ ap (λ (n : ℕ). record far { survey = record { below = id; gone = n; no_pair = None } }) counted
 
 pub found_whole : (far new : FarState) (f : Found) (gone : ℕ) → new ≡ with_found far f
     → f ≡ found.Whole gone → gone ≡ gone_count far → new ≡ surveyed far far.counts.sets
 found_whole far new f gone kept is counted = kept ∙ ap (with_found far) is
-    ∙ ap (λ (n : ℕ). record far { survey = record { below = far.counts.sets; gone = n } }) counted
+    ∙ ap (λ (n : ℕ). record far { survey = record { below = far.counts.sets; gone = n; no_pair = None } }) counted
 
 -- ---- the step, and what an error leaves
 pub steps_first : (far new : FarState) (id : ℕ) (r : Result Reply NoMemory)

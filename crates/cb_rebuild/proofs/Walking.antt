@@ -1,4 +1,5 @@
 -- The walk over the sets.
+use Rattle.std.specs.Prelude.{None}
 use Rattle.std.proofs.Common.{◌≡◌, ◌≢◌, ℕ, zero, suc, ◌+◌, ◌-◌, ◌<◌, ◌≤◌, Bool, true, false, nat_eq, List, [], Option, Some, None, length, map as mapped, refl, sym, ap, ◌∙◌, subst, arith, inl, inr}
 use Rattle.std.specs.FinMap as map
 use Rattle.std.proofs.lemmas.Bool.{cases_lt, cases_eq, false≢true, ltb-true, eq-eqb}
@@ -44,7 +45,7 @@ skip_by far a (suc d) none =
 
 -- the sets below a number were looked at: none is weak, and so many are gone
 abbrev pub Walked : FarState → ℕ → ℕ → Type 0
-Walked far from gone = IsSurvey far (record { below = from; gone = gone })
+Walked far from gone = IsSurvey far (record { below = from; gone = gone; no_pair = None })
 
 pub walked_to : (far : FarState) (from id gone : ℕ) → Walked far from gone → from ≤ id
     → id ≤ far.counts.sets → ((j : ℕ) → from ≤ j → j < id → map.get far.sets j ≡ None)

@@ -1,5 +1,6 @@
 -- Worked examples of which set is rebuilt: one that is, and for each part of a definition one that
 -- breaks that part alone.
+use Rattle.std.specs.Prelude.{None}
 use Rattle.std.proofs.Common.{◌≡◌, ℕ, zero, suc, ◌<◌, ◌≤◌, true, false, [], ◌∷◌, None, Some, get_or, nat_lt, ◌&&◌, Bool, cond, refl, sym, ap, ◌∙◌, subst, arith, lit<, lit≤}
 use Rattle.std.specs.FinMap as map
 use Rattle.std.specs.Cmp.{nat_cmp_total}
@@ -172,13 +173,13 @@ forgets_what_it_found : FindsNone lone lone (answer.Whole 1) → ⊥
 forgets_what_it_found x =
     let e : 0 ≡ 3 = ap (λ (f : FarState). f.survey.below) x.state in omega (arith, e)
 
-keeps_too_few_gone : FindsNone lone (record lone { survey = record { below = 3; gone = 0 } })
+keeps_too_few_gone : FindsNone lone (record lone { survey = record { below = 3; gone = 0; no_pair = None } })
     (answer.Whole 1) → ⊥
 keeps_too_few_gone x = let e : 0 ≡ gone_count lone = ap (λ (f : FarState). f.survey.gone) x.state in
     let n = lone_count in omega (arith, e, n)
 
-surveyed_so : (surveyed lone 1).survey ≡ record { below = 1; gone = 1 }
-surveyed_so = ap (λ (n : ℕ). record { below = 1; gone = n })
+surveyed_so : (surveyed lone 1).survey ≡ record { below = 1; gone = 1; no_pair = None }
+surveyed_so = ap (λ (n : ℕ). record { below = 1; gone = n; no_pair = None })
     (let e : gone_below lone 1 ≡ 1 = grind (arith, only_of gone) in e)
 
 abbrev pub lone_weak : FarState

@@ -41,6 +41,6 @@ Finds far (found.Whole gone) =
 
 -- the far state once this is known of its sets
 abbrev pub with_found : FarState → Found → FarState
-with_found far (found.Weak id gone) = record far { survey = record { below = id; gone = gone } }
+with_found far (found.Weak id gone) = record far { survey = record { below = id; gone = gone; no_pair = None } }
 with_found far (found.Whole gone) =
-    record far { survey = record { below = far.counts.sets; gone = gone } }
+    record far { survey = record { below = far.counts.sets; gone = gone; no_pair = None } }

@@ -1,5 +1,5 @@
 -- The rebuild of a lost row: which set and position, where its row is put, and the far state then.
-use Rattle.std.specs.Prelude.{◌≡◌, ◌⊎◌, ℕ, ◌+◌, ◌<◌, true, List, Some, length}
+use Rattle.std.specs.Prelude.{◌≡◌, ◌⊎◌, ℕ, ◌+◌, ◌<◌, true, List, Some, length, None}
 use Rattle.std.specs.FinMap as map
 use Rattle.cb_gf256.specs.Rows.{row_at}
 use Rattle.cb_member.specs.declared.names.NodeId.{NodeId}
@@ -31,7 +31,7 @@ gone_count far = gone_below far far.counts.sets
 
 -- the far state once the sets with a number below this one were looked at
 abbrev pub surveyed : FarState → ℕ → FarState
-surveyed far n = record far { survey = record { below = n; gone = gone_below far n } }
+surveyed far n = record far { survey = record { below = n; gone = gone_below far n; no_pair = None } }
 
 -- no committed set is weak: the answer tells how many have lost more, all sets were looked at, and
 -- nothing else changes

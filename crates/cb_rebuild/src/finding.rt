@@ -115,7 +115,15 @@ pub(crate) fn keep_found(far: &mut Far, found: Found)
 {
     let drawn = far.counts.sets;
     far.survey = match found {
-        Found::Weak { id, gone } => Survey { below: id, gone },
-        Found::Whole { gone } => Survey { below: drawn, gone },
+        Found::Weak { id, gone } => Survey {
+            below: id,
+            gone,
+            no_pair: None,
+        },
+        Found::Whole { gone } => Survey {
+            below: drawn,
+            gone,
+            no_pair: None,
+        },
     };
 }

@@ -2,7 +2,7 @@
 use Rattle.cb_types.specs.declared.request.Request.{Request}
 use Rattle.cb_types.specs.declared.request.Request.TheVariants as line
 use Rattle.cb_types.specs.declared.reply.Reply.{Reply}
-use Rattle.cb_types.specs.declared.reply.Reply.TheVariants.{Made, Version, Bytes, Done, Left, Moved, Same, Set, Batch, Shipped, AllShipped, Rebuilt, EpochAt, Full, NoRoom, Unmade, Freed, Moving, Unavailable, Range, Pinned, Worn, ScopeFull, NotPinned, NotHere, NoSlot, NoSpans, NoNodes, Leaving, NoNode, NoBatch, Short, Whole, Stuck, Down, Up}
+use Rattle.cb_types.specs.declared.reply.Reply.TheVariants.{Made, Version, Bytes, Done, Left, Moved, Same, Set, Batch, Shipped, AllShipped, Pair, Stepped, AllStepped, Merged, Rebuilt, EpochAt, Full, NoRoom, Unmade, Freed, Moving, Unavailable, Range, Pinned, Worn, ScopeFull, NotPinned, NotHere, NoSlot, NoSpans, NoNodes, Leaving, NoNode, NoBatch, Short, NoPair, Joining, NodeFull, Changed, Unfinished, NoJoin, Whole, Stuck, Down, Up}
 
 -- the table of replies by lines: the reply is one that the request's line may be answered
 abbrev pub IsReplyOf : Request → Reply → Type 0
@@ -72,6 +72,24 @@ IsReplyOf line.Commit NoBatch = Unit {0}
 IsReplyOf line.Commit (Short positions) = Unit {0}
 IsReplyOf line.Abort Done = Unit {0}
 IsReplyOf line.Abort NoBatch = Unit {0}
+IsReplyOf line.Pair (Pair a b) = Unit {0}
+IsReplyOf line.Pair NoPair = Unit {0}
+IsReplyOf line.Pair (Joining a b) = Unit {0}
+IsReplyOf line.Patch (Stepped position) = Unit {0}
+IsReplyOf line.Patch AllStepped = Unit {0}
+IsReplyOf line.Patch (NodeFull node) = Unit {0}
+IsReplyOf line.Patch (Changed set) = Unit {0}
+IsReplyOf line.Patch NoJoin = Unit {0}
+IsReplyOf line.Merge (Merged set moved) = Unit {0}
+IsReplyOf line.Merge (Changed set) = Unit {0}
+IsReplyOf line.Merge (Unfinished positions) = Unit {0}
+IsReplyOf line.Merge NoJoin = Unit {0}
+IsReplyOf line.Part Done = Unit {0}
+IsReplyOf line.Part NoJoin = Unit {0}
+IsReplyOf line.Compact (Merged set moved) = Unit {0}
+IsReplyOf line.Compact NoPair = Unit {0}
+IsReplyOf line.Compact (Joining a b) = Unit {0}
+IsReplyOf line.Compact (NodeFull node) = Unit {0}
 IsReplyOf line.Rebuild (Rebuilt set position node) = Unit {0}
 IsReplyOf line.Rebuild (Whole gone) = Unit {0}
 IsReplyOf line.Rebuild (Stuck set) = Unit {0}

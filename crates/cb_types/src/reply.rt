@@ -44,6 +44,23 @@ pub enum Reply {
     },
     /// Every row of the leaving batch is put on a node that has not crashed since.
     AllShipped,
+    /// These two span-sets are joining from here.
+    Pair {
+        a: SetId,
+        b: SetId,
+    },
+    /// The row at this position of the joining pair was put beside the old one.
+    Stepped {
+        position: u32,
+    },
+    /// Every row of the joining pair is put.
+    AllStepped,
+    /// The joining pair is one span-set, of this number; how many of the positions that were taken
+    /// from the second one are live there.
+    Merged {
+        set: SetId,
+        moved: u32,
+    },
     /// A lost row of the set stands again, at this position and on this node.
     Rebuilt {
         set: SetId,
@@ -118,6 +135,28 @@ pub enum Reply {
     Short {
         positions: Positions,
     },
+    /// No two span-sets can be joined.
+    NoPair,
+    /// A pair is joining already: its two span-sets.
+    Joining {
+        a: SetId,
+        b: SetId,
+    },
+    /// The node of the next row has no room.
+    NodeFull {
+        node: NodeId,
+    },
+    /// This set of the joining pair is gone, has lost a shard or has other shards than at the begin:
+    /// the pair is given up.
+    Changed {
+        set: SetId,
+    },
+    /// Rows of the joining pair were not put: their positions, in order.
+    Unfinished {
+        positions: Positions,
+    },
+    /// No pair is joining.
+    NoJoin,
     /// No set has lost a row that can be made again; how many sets have lost more.
     Whole {
         gone: u32,
@@ -150,4 +189,22 @@ pub enum Reply {
     Word {
         word: u64,
     },
+    /// The seat has an open write on the object from here.
+    Claimed,
+    /// The next word of the seat's open write was stored; how many are still to be stored.
+    Stored {
+        left: u32,
+    },
+    /// The seat has no open write on the object.
+    NotClaimed,
+    /// Words of the seat's open write are still to be stored; how many.
+    NotStored {
+        left: u32,
+    },
+    /// Another seat holds the far lock; which.
+    Held {
+        seat: u32,
+    },
+    /// The seat does not hold the far lock.
+    NotHeld,
 }

@@ -1,5 +1,6 @@
 -- Worked examples of a fresh set that is committed: one that meets what is said of it, and for each
 -- of its parts one that breaks that part alone.
+use Rattle.std.specs.Prelude.{None}
 use Rattle.std.proofs.Common.{◌≡◌, ◌≢◌, ◌⊎◌, ℕ, zero, suc, ◌+◌, ◌*◌, ◌^◌, ◌<◌, ◌≤◌, Bool, true, false, All, List, [], ◌∷◌, Option, None, Some, length, get_or, replicate, refl, sym, ap, ◌∙◌, subst, arith, inl, inr, lit<, lit≤}
 use Rattle.std.specs.FinMap as map
 use Rattle.std.specs.List.{list_any, slice_get}
@@ -510,7 +511,7 @@ pair = record { a = 6; b = 5; shards_a = []; shards_b = []; taken = []; steps = 
 begins_to_join : is_no_addition far (record new { joining = Some pair }) set rows
 begins_to_join x = none_some pair (sym x.joining)
 
-tells_more : is_no_addition far (record new { survey = record { below = 6; gone = 0 } }) set rows
+tells_more : is_no_addition far (record new { survey = record { below = 6; gone = 0; no_pair = None } }) set rows
 tells_more x = absurd (let e : 6 ≡ 0 = ap (λ (s : Survey). s.below) x.survey in omega (arith, e))
 
 -- a word of the span that is leaving is another one

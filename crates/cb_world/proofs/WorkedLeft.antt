@@ -1,5 +1,6 @@
 -- Worked examples of what a position gives up, and of what becomes of its set and of its rows, with
 -- what breaks one part alone.
+use Rattle.std.specs.Prelude.{None}
 use Rattle.std.proofs.Common.{◌≡◌, ◌≢◌, ◌⊎◌, ℕ, zero, suc, ◌<◌, true, false, [], ◌∷◌, None, Some, get_or, refl, sym, ap, ◌∙◌, subst, arith, inl, inr, lit<}
 use Rattle.std.specs.FinMap as map
 use Rattle.std.specs.List.{slice_get}
@@ -234,7 +235,7 @@ takes_another_set x = none_some (with_this both) (sym none ∙ ap if_committed (
 
 -- ---- the set goes on: object 0 was freed, and object 1 is there
 abbrev survey : ℕ → ℕ → Survey
-survey below gone = record { below = below; gone = gone }
+survey below gone = record { below = below; gone = gone; no_pair = None }
 
 set_then : set_in then_.sets 5 ≡ Some (with_this one)
 set_then = grind (arith, map.gets)

@@ -1,5 +1,6 @@
 -- Worked examples of how a pair that joins changes the far state: what a change of the pair alone
 -- leaves and a commit, with what breaks one part alone.
+use Rattle.std.specs.Prelude.{None}
 use Rattle.std.proofs.Common.{◌≡◌, ◌≢◌, ◌⊎◌, ℕ, zero, suc, ◌<◌, ◌≤◌, true, false, List, [], ◌∷◌, ◌++◌, Option, None, Some, length, if◌then◌else◌, refl, sym, ap, ◌∙◌, subst, arith, inl, inr, lit<, lit≤}
 use Rattle.std.specs.FinMap as map
 use Rattle.std.specs.List.{slice_get}
@@ -130,7 +131,7 @@ begins_to_leave : ¬ (LeavesSets joining (record drawn { leaving = Some batch })
 begins_to_leave x = none_some batch (sym x.leaving)
 
 abbrev seen : Survey
-seen = record { below = 6; gone = 0 }
+seen = record { below = 6; gone = 0; no_pair = None }
 
 tells_more : ¬ (LeavesSets joining (record drawn { survey = seen }))
 tells_more x = absurd (let e : 6 ≡ 0 = ap (λ (s : Survey). s.below) x.survey in omega (arith, e))

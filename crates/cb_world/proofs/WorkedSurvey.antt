@@ -1,5 +1,6 @@
 -- Worked examples of what is known of how the committed sets stand: what a dropped set, a crash and a
 -- join leave of it, a survey that holds, and for each of its parts one that breaks that part alone.
+use Rattle.std.specs.Prelude.{None}
 use Rattle.std.proofs.Common.{◌≡◌, ℕ, zero, suc, ◌<◌, ◌≤◌, true, false, [], ◌∷◌, None, Some, refl, sym, ap, ◌∙◌, subst, arith, lit<, lit≤}
 use Rattle.std.specs.FinMap as map
 use Rattle.cb_member.specs.declared.names.NodeId.{NodeId}
@@ -22,7 +23,7 @@ abbrev node : ℕ → NodeId
 node n = record { n = n }
 
 abbrev survey : ℕ → ℕ → Survey
-survey below gone = record { below = below; gone = gone }
+survey below gone = record { below = below; gone = gone; no_pair = None }
 
 -- ---- what is known once a set is dropped
 nothing_is_known : no_survey ≡ survey 0 0

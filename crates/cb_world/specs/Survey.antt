@@ -1,10 +1,10 @@
 -- What is known of how the committed sets stand, at the start, once a set is dropped and after a crash.
-use Rattle.std.specs.Prelude.{ℕ, ◌-◌, ◌&&◌, Bool, nat_eq, nat_lt, if◌then◌else◌}
+use Rattle.std.specs.Prelude.{ℕ, ◌-◌, ◌&&◌, Bool, nat_eq, nat_lt, None, if◌then◌else◌}
 use Rattle.cb_world.specs.declared.survey.Survey.{Survey}
 
 -- nothing is known of any set
 abbrev pub no_survey : Survey
-no_survey = record { below = 0; gone = 0 }
+no_survey = record { below = 0; gone = 0; no_pair = None }
 
 -- the set of a number is dropped, which was broken or not: where it was counted it is no more
 abbrev pub survey_without : Survey → ℕ → Bool → Survey
