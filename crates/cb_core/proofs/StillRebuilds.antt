@@ -5,9 +5,11 @@ use Rattle.cb_types.specs.declared.config.Config.{Config}
 use Rattle.cb_types.specs.declared.reply.Reply.{Reply}
 use Rattle.cb_world.specs.declared.shown.Shown.{Shown}
 use Rattle.cb_world.specs.FarState.{FarState}
+use Rattle.cb_world.specs.OpenWrites.{AreOpen}
 use Rattle.cb_world.specs.Plain.{Words}
 use Rattle.cb_world.specs.Seats.{SeatState}
 use Rattle.cb_world.specs.World.{ArePinned, IsConfigured, IsKnown}
+use Rattle.cb_world.proofs.Laws.{open_same}
 use Rattle.cb_rebuild.specs.RebuildStep.{IsFirstWeak, RebuildStep, Restores, surveyed}
 use Rattle.cb_rebuild.proofs.Laws.{keeps_first, keeps_step, failed_stays, rebuild_stays}
 use Rattle.cb_swapin.specs.Fetching.{far_given}
@@ -44,8 +46,15 @@ rebuild_known a b r s same step k = subst (λ (x : Words). IsKnown x b.far s) (s
   shows = k.shows;
   hots = k.hots;
   sound = (keeps_step s a.far b.far r k.sound step).sound;
-  here = k.here;
 })
+
+rebuild_open : (a b : Holding Words) (r : Reply) (s : Shown) (seats : List SeatState)
+    → b.desk ≡ a.desk → RebuildStep a.far b.far r → IsKnown a.desk a.far s
+    → AreOpen a.desk a.far seats → AreOpen b.desk b.far seats
+rebuild_open a b r s seats same step k ongoing =
+    subst (λ (x : Words). AreOpen x b.far seats) (sym same)
+    (open_same a.desk a.far b.far s seats k
+    (subst (λ (x : Words). IsKnown x b.far s) same (rebuild_known a b r s same step k)) ongoing)
 
 pub rebuild_part : (c : Config) (seats : List SeatState)
     → Carries c seats 16 (Rebuilds Ran) StillRebuild
@@ -54,8 +63,12 @@ rebuild_part c seats a b r good (ran, step) =
       is = (
         ran.0,
         step,
-        λ s k.
-            (s, rebuild_known a b r s ran.0 step k, (keeps_step s a.far b.far r k.sound step).same_now),
+        λ s k. (
+            s,
+            rebuild_known a b r s ran.0 step k,
+            (keeps_step s a.far b.far r k.sound step).same_now,
+            λ others ongoing. rebuild_open a b r s others ran.0 step k ongoing,
+          ),
       );
       good = record {
         settings = ap (λ (x : Words). x.settings) ran.0 ∙ good.settings;
@@ -63,6 +76,7 @@ rebuild_part c seats a b r good (ran, step) =
         shown = good.shown;
         known = rebuild_known a b r good.shown ran.0 step good.known;
         pinned = subst (λ (x : Words). ArePinned x seats) (sym ran.0) good.pinned;
+        ongoing = rebuild_open a b r good.shown seats ran.0 step good.known good.ongoing;
       };
       rises = stays.rises;
     }
@@ -76,7 +90,6 @@ surveyed_known x far s id set k first = record {
   shows = k.shows;
   hots = k.hots;
   sound = (keeps_first s far id set k.sound first).sound;
-  here = k.here;
 }
 
 pub rebuild_lack : (c : Config) (seats : List SeatState)
@@ -95,6 +108,9 @@ rebuild_lack c seats a b good (ran, (id, set, n, first, few, state)) =
         known = given_known a.desk (surveyed a.far id) good.shown n
             (surveyed_known a.desk a.far good.shown id set good.known first);
         pinned = good.pinned;
+        ongoing = open_same a.desk a.far then_far good.shown seats good.known
+            (given_known a.desk (surveyed a.far id) good.shown n
+            (surveyed_known a.desk a.far good.shown id set good.known first)) good.ongoing;
       });
       rises = stays.rises;
     }

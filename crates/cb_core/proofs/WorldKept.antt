@@ -15,7 +15,7 @@ use Rattle.cb_world.specs.Plain.{Words}
 use Rattle.cb_world.specs.Seats.{SeatState}
 use Rattle.cb_world.specs.Sound.{Sound}
 use Rattle.cb_world.specs.World.{WorldState, IsKnown, IsConfigured, IsSoundWorld}
-use Rattle.cb_world.proofs.Laws.{node_crash_sound, node_join_sound, recounted}
+use Rattle.cb_world.proofs.Laws.{node_crash_sound, node_join_sound, open_same, recounted}
 use Rattle.cb_core.specs.declared.event.Event.TheVariants as event
 use Rattle.cb_core.specs.Jobs.{IsJob}
 use Rattle.cb_core.specs.Membership.{CrashTurn, crashed, is_down, JoinTurn, joined, is_up}
@@ -48,7 +48,6 @@ known_far x far new s k sound = record {
   shows = k.shows;
   hots = k.hots;
   sound = sound;
-  here = k.here;
 }
 
 crash_part : (c : Config) (seats : List SeatState) (node : NodeId) (a b : Holding Words)
@@ -62,7 +61,10 @@ crash_part c seats node a b r Z good below words (crashed up reply far) z =
     (crash_stays c node a.far new r (crashed up reply refl))
     (known_far a.desk a.far new good.shown good.known
     (node_crash_sound good.shown a.far node good.known.sound (member_of c seats a node good below) up))
-    refl good.pinned z)
+    refl good.pinned (open_same a.desk a.far new good.shown seats good.known
+    (known_far a.desk a.far new good.shown good.known
+    (node_crash_sound good.shown a.far node good.known.sound (member_of c seats a node good below) up))
+    good.ongoing) z)
 crash_part c seats node a b r Z good below words (is_down is reply far) z =
     arrives_same c seats 1 a b Z good (both_same a b words far) z
 
@@ -77,7 +79,10 @@ join_part c seats node a b r Z good below words (joined is reply far) z =
     (join_stays c node a.far new r (joined is reply refl))
     (known_far a.desk a.far new good.shown good.known
     (node_join_sound good.shown a.far node good.known.sound (member_of c seats a node good below) is))
-    refl good.pinned z)
+    refl good.pinned (open_same a.desk a.far new good.shown seats good.known
+    (known_far a.desk a.far new good.shown good.known
+    (node_join_sound good.shown a.far node good.known.sound (member_of c seats a node good below) is))
+    good.ongoing) z)
 join_part c seats node a b r Z good below words (is_up is reply far) z =
     arrives_same c seats 1 a b Z good (both_same a b words far) z
 
@@ -248,6 +253,8 @@ counted_good w job sound = record {
   shown = sound.shown;
   known = known_counted w job sound.shown sound.known;
   pinned = sound.pinned;
+  ongoing = open_same w.desk w.far (counted w.far job) sound.shown w.seats sound.known
+      (known_counted w job sound.shown sound.known) sound.ongoing;
 }
 
 job_below : (job : Job) → job_index job < 19
@@ -281,6 +288,8 @@ arrived_sound w job b Z sound few z = record {
   shown = z.good.shown;
   known = z.good.known;
   pinned = z.good.pinned;
+  ongoing = z.good.ongoing;
+  one = sound.one;
   counted = counted_rises w.far (counted w.far job) b.far (job_index job) sound.counted few
       (job_below job) refl (rises_more 64 (2 ^ 20) (counted w.far job) b.far (omega arith) z.rises);
 }
