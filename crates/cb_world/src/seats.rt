@@ -3,7 +3,7 @@ ghost use Rattle.std.specs.List.{remove};
 ghost use Rattle.cb_world.specs.declared.seats.Pin.{Pin};
 ghost use Rattle.cb_world.specs.OpenWrites.{left_of, touched};
 ghost use Rattle.cb_world.specs.OpenSteps.{IsClaimOn, NoClaimOn, NoneHolds, stored_once};
-ghost use Rattle.cb_world.specs.Seats.{SeatState, OpenWriteState, Holds, IsNewest, NoneOn, claims_of_seat, idle_seat, pins_of_seat, with_claims, with_holds, with_pins};
+ghost use Rattle.cb_world.specs.Seats.{SeatState, OpenWriteState, Holds, IsNewest, NoneOn, claims_of_seat, idle_seat, pins_of_seat, seat_at, with_claims, with_holds, with_pins};
 
 use arrayvec::ArrayVec;
 use cb_member::NoMemory;
@@ -176,6 +176,7 @@ impl Seats {
     pub fn claim_on(&self, seat: u32, handle: u32) -> Option<usize>
         requires { seat < length self.now }
         ensures found { IfSome result (λ at. IsClaimOn (claims_of_seat self.now seat) handle at) }
+        ensures within { IfSome result (λ at. at < length (claims_of_seat self.now seat)) }
         ensures none { IfNone result (NoClaimOn (claims_of_seat self.now seat) handle) }
     {
         let claims = self.seats[seat as usize].claims.as_slice();
@@ -242,6 +243,15 @@ impl Seats {
         None
     }
 
+    /// Whether a seat holds the far lock.
+    pub fn holds(&self, seat: u32) -> bool
+        requires { seat < length self.now }
+        ensures { result ≡ (seat_at self.now seat).holds }
+    {
+        let seat = &self.seats[seat as usize];
+        seat.holds
+    }
+
     /// Lets a seat hold the far lock.
     pub fn take_lock(&mut self, seat: u32)
         requires { seat < length self.old }
@@ -262,6 +272,7 @@ impl Seats {
 /// The place of the first of these open writes on an object, None exactly where none is on it.
 fn claim_among(claims: &[OpenWrite], handle: u32) -> Option<usize>
     ensures found { IfSome result (λ at. IsClaimOn claims.now handle at) }
+    ensures within { IfSome result (λ at. at < length claims.now) }
     ensures none { IfNone result (NoClaimOn claims.now handle) }
 {
     for at in 0..claims.len() {
