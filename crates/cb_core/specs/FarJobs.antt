@@ -16,14 +16,14 @@ use Rattle.cb_core.specs.Membership.{CrashTurn, JoinTurn}
 
 -- What such a job does: the far state before and after it, and its reply. No other job is one.
 abbrev pub FarStep : Job → FarState → FarState → Reply → Type 0
-FarStep Pair far new r = BeginStep far new r
-FarStep Patch far new r = PatchStep far new r
-FarStep Merge far new r = MergeStep far new r
-FarStep Part far new r = PartStep far new r
-FarStep Rebuild far new r = RebuildStep far new r
-FarStep (Crash node) far new r = CrashTurn node far r new
-FarStep (Join node) far new r = JoinTurn node far r new
-FarStep job far new r = ⊥
+FarStep Pair = BeginStep
+FarStep Patch = PatchStep
+FarStep Merge = MergeStep
+FarStep Part = PartStep
+FarStep Rebuild = RebuildStep
+FarStep (Crash node) = λ far new r. CrashTurn node far r new
+FarStep (Join node) = λ far new r. JoinTurn node far r new
+FarStep job = λ far new r. ⊥
 
 -- the sets before the first weak one were looked at, and rows of that one were given out, at most as
 -- many as it has data positions
