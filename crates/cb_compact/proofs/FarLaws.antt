@@ -12,7 +12,8 @@ use Rattle.cb_world.specs.Sound.{Sound}
 use Rattle.cb_world.proofs.Laws.{StaysIf}
 use Rattle.cb_compact.proofs.Keeping.{Keeps}
 
--- the handles that were made, local memory, the members and the batch that is leaving stay
+-- the handles that were made, local memory, the members, the batch that is leaving and the count of
+-- turns stay
 pub record LeavesLocal (far new : FarState) : Type 0 where
   pub first : new.first ≡ far.first
   pub made : new.made ≡ far.made
@@ -20,6 +21,7 @@ pub record LeavesLocal (far new : FarState) : Type 0 where
   pub spans : new.spans ≡ far.spans
   pub members : new.members ≡ far.members
   pub leaving : new.leaving ≡ far.leaving
+  pub turns : new.counts.turns ≡ far.counts.turns
 
 -- Of a step whose numbers rise by at most so many, and which such a line does. What is configured
 -- stays; the world stays sound, and `now` of every handle is as before; local memory stays; a sound

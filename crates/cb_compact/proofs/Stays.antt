@@ -14,7 +14,7 @@ use Rattle.cb_world.specs.Reserved.{put_shards}
 use Rattle.cb_world.specs.Sets.{Kept}
 use Rattle.cb_world.specs.Sound.{Sound}
 use Rattle.cb_world.specs.Stored.{all_dropped}
-use Rattle.cb_world.proofs.Laws.{code_as, codes_put, codes_removed, codes_stay, drop_count, drop_room, StaysIf, stays_like, stays_same}
+use Rattle.cb_world.proofs.Laws.{HasCode, code_as, codes_put, codes_removed, codes_stay, drop_count, drop_room, StaysIf, stays_like, stays_same}
 use Rattle.cb_compact.specs.MergeStep.{MergeStep, Merges, merged_set, replaced_shards, with_merged}
 use Rattle.cb_compact.specs.Merging.{IsReadyToMerge}
 use Rattle.cb_compact.specs.Pairing.{BeginStep, with_pair}
@@ -73,49 +73,53 @@ stepped_stays c far pair p shard row is = record {
 }
 
 -- the merged set is of the code of both
-merged_stays : (c : Config) (s : Shown) (far : FarState) (pair : JoiningState) (a b : SetState)
-    (homes : List (Option Home)) → IsReadyToMerge s far pair a b
-    → AreRehomed far.counts.sets (merged_set far.counts.sets pair a b) far.homes homes
-    → StaysIf c 1 far (with_merged far pair a b homes)
-merged_stays c s far pair a b homes x at is = record {
-  configured = record {
-    frames = is.frames;
-    homes = at.count ∙ is.homes;
-    nodes = drop_count without_b gone ∙ drop_count far.nodes pair.shards_b ∙ is.nodes;
-    room = drop_room without_b gone ∙ drop_room far.nodes pair.shards_b ∙ is.room;
-    codes = record {
-      sets = codes_removed c (map.remove (map.insert far.sets id kept) pair.a) pair.b
-          (codes_removed c (map.insert far.sets id kept) pair.a
-          (codes_put c far.sets id kept (λ committed. code_as c a (merged_set id pair a b)
-          (length_merged a.positions b.positions (ready_data s far pair a b x))
-          (length_shards pair.steps pair.shards_a (ready_steps s far pair a b x)
-          ∙ sym (ready_shards s far pair a b x))
-          (is.codes.sets pair.a a x.fresh.a_stands.there)) is.codes.sets));
-      batch = is.codes.batch;
+module _ (c : Config) (s : Shown) (far : FarState) (pair : JoiningState) (a b : SetState)
+    (homes : List (Option Home)) (x : IsReadyToMerge s far pair a b)
+    (at : AreRehomed far.counts.sets (merged_set far.counts.sets pair a b) far.homes homes) where
+  abbrev id : ℕ
+  id = far.counts.sets
+
+  abbrev kept : Kept
+  kept = record { set = merged_set id pair a b; committed = true }
+
+  abbrev without_b : NodesState
+  without_b = all_dropped far.nodes pair.shards_b
+
+  abbrev gone : List Shard
+  gone = replaced_shards pair.steps pair.shards_a
+
+  one_code : HasCode c a → HasCode c (merged_set id pair a b)
+  one_code = code_as c a (merged_set id pair a b)
+      (length_merged a.positions b.positions (ready_data s far pair a b x))
+      (length_shards pair.steps pair.shards_a (ready_steps s far pair a b x)
+      ∙ sym (ready_shards s far pair a b x))
+
+  merged_stays : StaysIf c 1 far (with_merged far pair a b homes)
+  merged_stays is = record {
+    configured = record {
+      frames = is.frames;
+      homes = at.count ∙ is.homes;
+      nodes = drop_count without_b gone ∙ drop_count far.nodes pair.shards_b ∙ is.nodes;
+      room = drop_room without_b gone ∙ drop_room far.nodes pair.shards_b ∙ is.room;
+      codes = record {
+        sets = codes_removed c (map.remove (map.insert far.sets id kept) pair.a) pair.b
+            (codes_removed c (map.insert far.sets id kept) pair.a
+            (codes_put c far.sets id kept
+            (λ committed. one_code (is.codes.sets pair.a a x.fresh.a_stands.there))
+            is.codes.sets));
+        batch = is.codes.batch;
+      };
     };
-  };
-  rises = record {
-    turns = refl;
-    by_job = refl;
-    sets = omega arith;
-    keys = omega arith;
-    epoch = omega arith;
-    given = let e = dropped_given without_b gone in let f = dropped_given far.nodes pair.shards_b in
-        omega (arith, e, f);
-  };
-}
-  where
-    abbrev id : ℕ
-    id = far.counts.sets
-
-    abbrev kept : Kept
-    kept = record { set = merged_set id pair a b; committed = true }
-
-    abbrev without_b : NodesState
-    without_b = all_dropped far.nodes pair.shards_b
-
-    abbrev gone : List Shard
-    gone = replaced_shards pair.steps pair.shards_a
+    rises = record {
+      turns = refl;
+      by_job = refl;
+      sets = omega arith;
+      keys = omega arith;
+      epoch = omega arith;
+      given = let e = dropped_given without_b gone in let f = dropped_given far.nodes pair.shards_b in
+          omega (arith, e, f);
+    };
+  }
 
 -- ---- each step
 pub begin_stays : (c : Config) (s : Shown) (far new : FarState) (r : Reply) → Sound s far
