@@ -148,7 +148,7 @@ pub part_fixes : (s : Shown) (far new other : FarState) (r q : Reply) → Sound 
 part_fixes s far new other r q sound a b = parts_fixed far new other r q a b
 
 -- ---- a step
-next_fixed : (pair : JoiningState) (k m n : ℕ) → IsNext pair k m → IsNext pair k n → m ≡ n
+pub next_fixed : (pair : JoiningState) (k m n : ℕ) → IsNext pair k m → IsNext pair k n → m ≡ n
 next_fixed pair k m n x y = elim (cases_order m n) [
   | inl e ↦ e
   | inr apart ↦ elim apart [
