@@ -1,5 +1,5 @@
 -- Each step of a pair is fixed over a sound far state: one reply and one far state.
-use Rattle.std.proofs.Common.{◌≡◌, ℕ, true, false, List, length, Option, None, Some, sym, ap, ◌∙◌, subst, arith, inl, inr}
+use Rattle.std.proofs.Common.{◌≡◌, ℕ, List, length, Option, None, Some, sym, ap, ◌∙◌, subst, arith, inl, inr}
 use Rattle.std.specs.List.{slice_get}
 use Rattle.std.proofs.lemmas.Bool.{cases_order, false≢true}
 use Rattle.std.proofs.lemmas.List.{ext_get_or}
@@ -20,12 +20,11 @@ use Rattle.cb_world.specs.Sets.{set_in}
 use Rattle.cb_world.specs.SetWord.{IsWordOf}
 use Rattle.cb_world.specs.Sound.{Sound}
 use Rattle.cb_world.proofs.Laws.{set_same}
-use Rattle.cb_compact.specs.MergeStep.{IsMerged, MergeStep, Merges, MergesOn, merged_set, with_merged}
+use Rattle.cb_compact.specs.MergeStep.{IsMerged, MergeStep, Merges, with_merged}
 use Rattle.cb_compact.specs.Merging.{IsReadyToMerge}
-use Rattle.cb_compact.specs.Pairing.{BeginStep, CanJoin, FindsNoPair, IsFirstPair, IsJoining, IsPaired, begun_pair, numbered, with_pair}
-use Rattle.cb_compact.specs.Rehoming.{AreRehomed}
+use Rattle.cb_compact.specs.Pairing.{BeginStep, CanJoin, IsFirstPair, IsJoining, IsPaired, begun_pair, numbered, with_pair}
 use Rattle.cb_compact.specs.Standing.{HasNoPair, IsChangedSet, IsFreshPair, IsGivenUp, PartStep, with_parted}
-use Rattle.cb_compact.specs.Steps.{AreDone, IsFull, IsNext, IsOneStep, PatchStep, StepsOn, TakesStep, shard_beside, with_stepped}
+use Rattle.cb_compact.specs.Steps.{AreDone, IsFull, IsNext, IsOneStep, PatchStep, TakesStep, shard_beside, with_stepped}
 use Rattle.cb_compact.proofs.Committed.{committed_is}
 use Rattle.cb_compact.proofs.Committing.{ready_data}
 use Rattle.cb_compact.proofs.Keeping.{fresh_is}

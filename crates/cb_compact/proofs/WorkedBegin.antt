@@ -1,9 +1,8 @@
 -- Worked examples of which two sets can be joined, and which are the first: a value that meets each
 -- definition, and for each of its parts one that breaks that part alone.
-use Rattle.std.proofs.Common.{◌≡◌, ℕ, zero, suc, ◌<◌, ◌≤◌, true, List, [], ◌∷◌, Option, None, Some, length, refl, sym, ap, ◌∙◌, arith}
-use Rattle.std.proofs.lemmas.Option.{none-some, same_Some}
+use Rattle.std.proofs.Common.{◌≡◌, zero, suc, true, List, [], ◌∷◌, None, length, refl, sym, ap, ◌∙◌, arith}
+use Rattle.std.proofs.lemmas.Option.{none-some}
 use Rattle.cb_member.specs.declared.names.Loss.{Loss}
-use Rattle.cb_set.specs.Lost.{lost}
 use Rattle.cb_set.specs.Matched.{PositionsApart}
 use Rattle.cb_set.specs.SetState.{SetState, set_of}
 use Rattle.cb_world.specs.FarState.{FarState}

@@ -1,6 +1,6 @@
 -- Worked examples of the commit over a far state: a value that meets the definition, and for each of
 -- its parts one that breaks that part alone. Where the steps are not done the worked merge has one.
-use Rattle.std.proofs.Common.{◌≡◌, ℕ, zero, suc, ◌<◌, ◌≤◌, true, false, List, [], ◌∷◌, Option, None, Some, length, refl, sym, ap, ◌∙◌, subst, arith, lit<, lit≤}
+use Rattle.std.proofs.Common.{◌≡◌, ℕ, zero, suc, List, Option, None, Some, refl, sym, ap, ◌∙◌, subst, arith}
 use Rattle.std.specs.FinMap as map
 use Rattle.std.proofs.lemmas.Bool.{false≢true}
 use Rattle.std.proofs.lemmas.Option.{none-some, same_Some}
@@ -16,7 +16,6 @@ use Rattle.cb_world.proofs.Laws.{node, row}
 use Rattle.cb_compact.specs.MergeStep.{IsMerged, IsUnfinished, merged_set, with_merged}
 use Rattle.cb_compact.specs.Pairing.{numbered}
 use Rattle.cb_compact.specs.Rehoming.{AreRehomed}
-use Rattle.cb_compact.specs.Steps.{is_undone}
 use Rattle.cb_compact.proofs.WorkedGround.{all_up, far, has_row, homes_in, two}
 use Rattle.cb_compact.proofs.WorkedMerge.{all_done}
 use Rattle.cb_compact.proofs.WorkedPatch.{done_at}

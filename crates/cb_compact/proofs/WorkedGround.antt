@@ -1,10 +1,9 @@
 -- The ground of the worked examples of a pair: six nodes, and on them the two sets of the worked
 -- pair, whose words are the same three rows.
-use Rattle.std.proofs.Common.{◌≡◌, if◌then◌else◌, ℕ, zero, suc, ◌<◌, ◌≤◌, Bool, true, false, List, [], ◌∷◌, Option, None, Some, length, get_or, replicate, refl, sym, ap, ◌∙◌, subst, arith, lit<, lit≤}
+use Rattle.std.proofs.Common.{◌≡◌, if◌then◌else◌, ℕ, zero, suc, Bool, true, false, List, [], ◌∷◌, Option, None, Some, refl, subst, arith, lit≤}
 use Rattle.std.specs.FinMap as map
 use Rattle.std.proofs.lemmas.Option.{none-some, same_Some}
 use Rattle.cb_gf256.specs.Rows.{row_at}
-use Rattle.cb_member.specs.declared.names.NodeId.{NodeId}
 use Rattle.cb_member.specs.declared.names.Shard.{Shard}
 use Rattle.cb_member.specs.Membership.{Membership, NodeState, fresh_node}
 use Rattle.cb_node.specs.NodesState.{NodesState, empty_nodes, held, nodes_of, row_at as row_under}

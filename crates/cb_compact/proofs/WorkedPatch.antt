@@ -1,6 +1,6 @@
 -- Worked examples of a step of the pair: a value that meets each definition, and for each of its
 -- parts one that breaks that part alone.
-use Rattle.std.proofs.Common.{◌≡◌, ℕ, zero, suc, ◌+◌, ◌<◌, ◌≤◌, true, false, List, [], ◌∷◌, Option, None, Some, length, get_or, refl, sym, ap, ◌∙◌, subst, arith, lit<, lit≤}
+use Rattle.std.proofs.Common.{◌≡◌, ℕ, zero, suc, ◌<◌, false, List, Option, None, Some, get_or, refl, sym, ap, ◌∙◌, subst, arith, lit<}
 use Rattle.std.specs.List.{slice_get}
 use Rattle.std.proofs.lemmas.Bool.{false≢true}
 use Rattle.std.proofs.lemmas.Option.{same_Some}
@@ -13,7 +13,7 @@ use Rattle.cb_world.specs.FarState.{FarState}
 use Rattle.cb_world.specs.Joining.{JoiningState}
 use Rattle.cb_world.proofs.Laws.{node, row, row_byte, rows}
 use Rattle.cb_gf256.specs.Rows.{row_at}
-use Rattle.cb_compact.specs.Steps.{AreDone, IsAllStepped, IsFull, IsMergedRow, IsNext, IsOneStep, is_undone, shard_beside, with_stepped}
+use Rattle.cb_compact.specs.Steps.{IsAllStepped, IsFull, IsMergedRow, IsNext, IsOneStep, is_undone, shard_beside, with_stepped}
 use Rattle.cb_compact.proofs.Fixed.{next_fixed}
 use Rattle.cb_compact.proofs.WorkedGround.{all_up, far, ground, has_row, holds_one, merged_word, two, word_a, word_b}
 use Rattle.cb_compact.proofs.WorkedMerge.{all_done}

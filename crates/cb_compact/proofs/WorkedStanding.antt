@@ -6,7 +6,7 @@ use Rattle.cb_member.specs.declared.names.Loss.{Loss}
 use Rattle.cb_member.specs.declared.names.Shard.{Shard}
 use Rattle.cb_member.specs.Membership.{Membership}
 use Rattle.cb_set.specs.Lost.{IsWhole}
-use Rattle.cb_set.specs.SetState.{SetState, set_of}
+use Rattle.cb_set.specs.SetState.{SetState}
 use Rattle.cb_world.specs.FarState.{FarState}
 use Rattle.cb_compact.specs.Standing.{HasChanged, IsChangedSet, IsFreshPair, Stands}
 use Rattle.cb_compact.proofs.WorkedGround.{all_up, both_down, far, first_of, four_down, ground, none_third, one_down, second_of, two}
