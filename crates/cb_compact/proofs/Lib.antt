@@ -25,4 +25,9 @@ mod Fixed
 pub mod FarTurns
 mod WorkedPair
 mod WorkedMerge
+mod WorkedGround
+mod WorkedBegin
+mod WorkedStanding
+mod WorkedPatch
+mod WorkedCommit
 pub mod Laws
