@@ -10,6 +10,11 @@ mod Merged
 mod Committing
 pub mod Committed
 pub mod OneStep
+mod NowDropped
+mod NowGone
+mod NowEnds
+pub mod NowKept
+pub mod NowLaws
 mod Parity
 mod Ready
 mod Taken
