@@ -121,14 +121,13 @@ gives_up : (c : CountsState) → FarStep Part (joined (far c)) (far c) answer.Do
 gives_up c = inr (record { pair = pair; there = refl; reply = refl; state = refl })
 
 hold_on : (c : CountsState) → HoldOn (holds (joined (far c))) (holds (far c))
-hold_on c s k = let keeps = part_laws.keeps s (joined (far c)) (far c) answer.Done k.sound (gives_up c) in
-    (
-      s,
-      known_far (words_are calm hot) (joined (far c)) (far c) s k keeps.sound,
-      keeps.same_now,
-      λ seats ongoing. open_same (words_are calm hot) (joined (far c)) (far c) s seats k
-          (known_far (words_are calm hot) (joined (far c)) (far c) s k keeps.sound) ongoing,
-    )
+hold_on c s k = let keeps = part_laws.keeps s (joined (far c)) (far c) answer.Done k.sound (gives_up c) in (
+  s,
+  known_far (words_are calm hot) (joined (far c)) (far c) s k keeps.sound,
+  keeps.same_now,
+  λ seats ongoing. open_same (words_are calm hot) (joined (far c)) (far c) s seats k
+      (known_far (words_are calm hot) (joined (far c)) (far c) s k keeps.sound) ongoing,
+)
 
 parts : StillWorks Part (holds (joined start)) answer.Done (holds start)
 parts = (refl, gives_up (counts 0 []), hold_on (counts 0 []))
