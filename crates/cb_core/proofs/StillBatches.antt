@@ -202,9 +202,11 @@ begin_part c seats a b r good p =
     batch_arrives c seats a b z.1.shown (StillBegin a r b) good
     (begin_stays c far new r p.events p.rule) z.1.known
     (begin_keeps x y far new r z.0)
-    (open_kept x y far new _ _ good.shown seats good.known q good.ongoing)
-    (z.0, holds_on a b (λ s k. (begin_step x y far new r s q k).1)
-    (λ s k others ongoing. open_kept x y far new _ _ s others k q ongoing))
+    (open_kept x y far new _ _ good.shown seats good.known q good.ongoing) (
+      z.0,
+      holds_on a b (λ s k. (begin_step x y far new r s q k).1)
+          (λ s k others ongoing. open_kept x y far new _ _ s others k q ongoing),
+    )
 
 pub ship_part : (c : Config) (seats : List SeatState)
     → Carries c seats 1 (Ships Ran Tells) StillShip
@@ -214,9 +216,11 @@ ship_part c seats a b r good p =
     batch_arrives c seats a b z.1.shown (StillShip a r b) good
     (ship_stays c far new r p.events p.rule) z.1.known
     (ship_keeps x y far new r z.0)
-    (open_kept x y far new _ _ good.shown seats good.known p good.ongoing)
-    (z.0, holds_on a b (λ s k. (ship_step x y far new r s p k).1)
-    (λ s k others ongoing. open_kept x y far new _ _ s others k p ongoing))
+    (open_kept x y far new _ _ good.shown seats good.known p good.ongoing) (
+      z.0,
+      holds_on a b (λ s k. (ship_step x y far new r s p k).1)
+          (λ s k others ongoing. open_kept x y far new _ _ s others k p ongoing),
+    )
 
 -- one that found no memory changed nothing
 pub ship_lack : (c : Config) (seats : List SeatState)
@@ -235,9 +239,11 @@ commit_part c seats a b r good p =
     batch_arrives c seats a b z.1.shown (StillCommit a r b) good
     (commit_stays c good.shown far new r p.events good.known.sound p.rule) z.1.known
     (commit_keeps x y far new r good.shown good.known z.0)
-    (open_kept x y far new _ _ good.shown seats good.known p good.ongoing)
-    (z.0, holds_on a b (λ s k. (commit_step x y far new r s p k).1)
-    (λ s k others ongoing. open_kept x y far new _ _ s others k p ongoing))
+    (open_kept x y far new _ _ good.shown seats good.known p good.ongoing) (
+      z.0,
+      holds_on a b (λ s k. (commit_step x y far new r s p k).1)
+          (λ s k others ongoing. open_kept x y far new _ _ s others k p ongoing),
+    )
 
 pub abort_part : (c : Config) (seats : List SeatState)
     → Carries c seats 1 (Aborts Ran Tells) StillAbort
@@ -247,6 +253,8 @@ abort_part c seats a b r good p =
     batch_arrives c seats a b z.1.shown (StillAbort a r b) good
     (abort_stays c far new r p.events p.rule) z.1.known
     (abort_keeps x y far new r good.shown good.known z.0)
-    (open_kept x y far new _ _ good.shown seats good.known p good.ongoing)
-    (z.0, holds_on a b (λ s k. (abort_step x y far new r s p k).1)
-    (λ s k others ongoing. open_kept x y far new _ _ s others k p ongoing))
+    (open_kept x y far new _ _ good.shown seats good.known p good.ongoing) (
+      z.0,
+      holds_on a b (λ s k. (abort_step x y far new r s p k).1)
+          (λ s k others ongoing. open_kept x y far new _ _ s others k p ongoing),
+    )

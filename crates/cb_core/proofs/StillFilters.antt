@@ -60,8 +60,7 @@ filter_part c seats h a b r good p =
     let z = filter_step x y far new good.shown h r good.known q in
     filtered c seats h a b r good
     (λ s k.
-    let after = (filter_step x y far new s h r k q).1 in
-    (
+    let after = (filter_step x y far new s h r k q).1 in (
       after.shown,
       after.known,
       after.same_now,

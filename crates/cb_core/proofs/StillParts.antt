@@ -251,11 +251,11 @@ evict_part c seats accepted a b r good p =
       is = (
         z.0,
         λ s k. let after = (evict_step x y far new r s q k).1 in (
-            after.shown,
-            after.known,
-            after.same_now,
-            λ others ongoing. open_kept x y far new _ _ s others k q ongoing,
-          ),
+          after.shown,
+          after.known,
+          after.same_now,
+          λ others ongoing. open_kept x y far new _ _ s others k q ongoing,
+        ),
       );
       good = record {
         settings = evict_settings x y far new r z.0 ∙ good.settings;

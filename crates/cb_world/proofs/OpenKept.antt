@@ -1,4 +1,4 @@
--- What an operation at the still desk leaves of the ongoing writes of seats: all of them.
+-- What an operation at the still desk leaves of the open writes of seats: all of them.
 use Rattle.std.proofs.Common.{◌≡◌, ◌≢◌, ◌⊎◌, ℕ, ◌+◌, ◌*◌, ◌/◌, ◌<◌, ◌≤◌, List, [], ◌∷◌, Some, length, get_or, set, sym, refl, ap, ◌∙◌, subst, arith, inl, inr, length-set, get_or-set_other, get_or-set_same}
 use Rattle.std.specs.Prelude.{slice_get}
 use native.Mathlib.Decide.{ℕ_discrete}
@@ -77,7 +77,7 @@ leaves_now far s h len place words l = (
   (l.slot.frame, l.slot.slot, l.leaves, ap (λ o. handle_in o l.slot.slot) l.slot.there ∙ l.slot.named),
 )
 
--- the object of an ongoing write is known to be here, whose word is Moving
+-- the object of an open write is known to be here, whose word is Moving
 pub open_here : (x : Words) (far : FarState) (s : Shown) (seats : List SeatState) (seat at : ℕ)
     (c : OpenWriteState) → IsKnown x far s → AreOpen x far seats → IsClaimAt seats seat at c
     → object_at s c.handle ≡ is.Here (len_of (word_at x c.handle)) (place_of (word_at x c.handle))
@@ -93,7 +93,7 @@ open_here x far s seats seat at c k ongoing there =
         let leaving = k.sound.claimed c.handle _ _ v words claimed in
         absurd (ongoing.apart seat at c there (leaves_now far s c.handle _ _ words leaving))
 
--- an ongoing write stays ongoing
+-- an open write stays open
 open_stays : (es : List Event) (x y : Words) (s : Shown) (c : OpenWriteState) → Plain x es y
     → Allowed s es → length y.words ≡ length x.words → IsOpen x c
     → object_at s c.handle ≡ is.Here (len_of (word_at x c.handle)) (place_of (word_at x c.handle))
@@ -175,7 +175,7 @@ open_same x far new s seats k l ongoing = record {
       | inr leaving ↦ absurd (leaving_claimed far s h _ _ k.sound leaving here)
     ]
 
--- An operation at the still desk keeps the ongoing writes.
+-- An operation at the still desk keeps the open writes.
 pub open_kept : (x y : Words) (far new : FarState) (rules : List Event → Type 0)
     (does : List Event → Shown → Shown → Type 0) (s : Shown) (seats : List SeatState) → IsKnown x far s
     → PerformsStill x y far new rules does → AreOpen x far seats → AreOpen y new seats
@@ -239,7 +239,7 @@ open_kept x y far new rules does s seats k p ongoing = record {
             (here_after es x y s h ran k.shows.objects
             (subst (λ (o : Object). HereIs o (word_at x h)) (sym e.claimed) tt))
 
--- the pointer word of an object that is here is changed to another that is here; the ongoing writes of the
+-- the pointer word of an object that is here is changed to another that is here; the open writes of the
 -- seats are the same
 pub open_word : (desk : Words) (far : FarState) (seats next : List SeatState) (h w : ℕ)
     → state_of (word_at desk h) ≡ word.Here → state_of w ≡ word.Here → h < length desk.words
@@ -284,9 +284,9 @@ open_word desk far seats next h w was here within same ongoing = record {
     by k below moved (no off) = elim (ongoing.moving k
         (let l = length-set desk.words h w in omega (arith, l, below))
         (ap state_of (sym (other k off)) ∙ moved)) [
-      | inl (seat, at, c, there, on) ↦ inl (seat, at, c, ap (λ l. slice_get l at) (same seat) ∙ there, on)
-      | inr leaving ↦ inr leaving
-    ]
+          | inl (seat, at, c, there, on) ↦ inl (seat, at, c, ap (λ l. slice_get l at) (same seat) ∙ there, on)
+          | inr leaving ↦ inr leaving
+        ]
 
 -- what the seats have beside the part of one seat that is changed
 pub seat_beside : {A : Type 0} (f : SeatState → A) (seats : List SeatState) (seat : ℕ)
@@ -306,7 +306,7 @@ seat_beside f seats seat new same k = by (ℕ_discrete k seat) (cases_lt seat (l
         ∙ sym (ap f (get_or_past seats seat idle_seat past))
         ∙ ap (λ (i : ℕ). f (get_or seats i idle_seat)) (sym e)
 
--- other pins of a seat leave the ongoing writes of all
+-- other pins of a seat leave the open writes of all
 pub pins_leave : (seats : List SeatState) (seat : ℕ) (pins : List Pin) (k : ℕ)
     → claims_of_seat (with_pins seats seat pins) k ≡ claims_of_seat seats k
 pins_leave seats seat pins k =
@@ -322,7 +322,7 @@ pins_hold seats seat pins one a b held other = one a b (sym (same a) ∙ held) (
     same k = seat_beside (λ (x : SeatState). x.holds) seats seat
         (record (seat_at seats seat) { pins = pins }) refl k
 
--- where no seat has an ongoing write and no word is Moving
+-- where no seat has an open write and no word is Moving
 pub none_open : (desk : Words) (far : FarState) (seats : List SeatState)
     → ((seat : ℕ) → claims_of_seat seats seat ≡ [])
     → ((h : ℕ) → h < length desk.words → state_of (word_at desk h) ≡ word.Moving → ⊥)
