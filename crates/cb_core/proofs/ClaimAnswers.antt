@@ -1,7 +1,8 @@
 -- What the steps of open writes ask for, from a sound world; and what a claim is answered.
-use Rattle.std.proofs.Common.{◌≡◌, ◌≢◌, ℕ, Bool, zero, suc, ◌+◌, ◌-◌, ◌*◌, ◌/◌, ◌^◌, ◌<◌, ◌≤◌, List, length, refl, sym, ap, ◌∙◌, subst, arith, eq-eqb, ne_eqb}
+use Rattle.std.proofs.Common.{◌≡◌, ◌≢◌, ℕ, Bool, zero, suc, ◌+◌, ◌-◌, ◌*◌, ◌/◌, ◌^◌, ◌<◌, ◌≤◌, List, Some, length, refl, sym, ap, ◌∙◌, subst, arith, eq-eqb, ne_eqb}
 use Rattle.std.proofs.lemmas.Bool.{le-ltb}
-use Rattle.std.specs.Prelude.{nat_lt, ◌==◌, if◌then◌else◌}
+use native.Mathlib.Decide.{ℕ_discrete}
+use Rattle.std.specs.Prelude.{slice_get, slice_set, nat_lt, ◌==◌, if◌then◌else◌}
 use Rattle.cb_ptr.specs.declared.word.State.{State}
 use Rattle.cb_ptr.specs.declared.word.State.TheVariants as state
 use Rattle.cb_ptr.specs.Word.{state_of, len_of, place_of, pins_of}
@@ -10,16 +11,16 @@ use Rattle.cb_types.specs.declared.reply.Reply.{Reply}
 use Rattle.cb_types.specs.declared.reply.Reply.TheVariants as answer
 use Rattle.cb_world.specs.declared.object.Object.TheVariants as is
 use Rattle.cb_world.specs.Memory.{words_for}
-use Rattle.cb_world.specs.OpenSteps.{next_word}
-use Rattle.cb_world.specs.OpenWrites.{IsOpen, touched}
-use Rattle.cb_world.specs.Seats.{OpenWriteState, IsClaimAt}
+use Rattle.cb_world.specs.OpenSteps.{IsClaimOn, next_word, stored_once}
+use Rattle.cb_world.specs.OpenWrites.{IsOpen, left_of, touched}
+use Rattle.cb_world.specs.Seats.{OpenWriteState, IsClaimAt, claims_of_seat, with_claims}
 use Rattle.cb_world.specs.Shown.{object_at}
 use Rattle.cb_world.specs.StillDesk.{here_is}
 use Rattle.cb_world.specs.StillWords.{stamp_at}
 use Rattle.cb_world.specs.World.{WorldState, IsSoundWorld, word_at}
-use Rattle.cb_world.proofs.Laws.{lies, lies_within, open_here}
+use Rattle.cb_world.proofs.Laws.{lies, lies_within, open_here, some_same}
 use Rattle.cb_mutate.specs.StillReplies.{reply_as, write_reply, empty_reply, next_reply, change_reply}
-use Rattle.cb_core.specs.Claiming.{MayClaim, claim_answer, claim_reply}
+use Rattle.cb_core.specs.Claiming.{claim_reply, IsWordStored, IsVersionStored, next_place, StoreStep, stored, stamped, IsClaimSettled, SettleStep, not_stored, settled}
 
 -- the words of an object that is here lie in the memory
 pub here_within : (w : WorldState) (h : ℕ) → IsSoundWorld w → h < w.desk.settings.handles
@@ -94,3 +95,65 @@ may_reply w v at count here none inside next = ap claim_reply (
     ∙ ap (by_length w v at count) (le-ltb (len_of w) (at + count) inside)
     ∙ ap (by_pins w v) (eq-eqb (pins_of w) 0 none)
     ∙ ap (by_version v) (ne_eqb v (2 ^ 64 - 1) (λ e. omega (arith, e, next))))
+
+-- ---- what the calls of open writes come to
+-- the open write that was read is the one that was found
+claim_is : (claims : List OpenWriteState) (h at : ℕ) (c : OpenWriteState) → IsClaimOn claims h at
+    → slice_get claims at ≡ Some c → c.handle ≡ h
+claim_is claims h at c x there =
+    ap (λ (z : OpenWriteState). z.handle) (some_same c x.ongoing (sym there ∙ x.there)) ∙ x.on
+
+-- where two words or more are left, the next one lies in the memory
+pub store_within : (w : WorldState) (seat h at left : ℕ) (c : OpenWriteState) → IsSoundWorld w
+    → IsClaimOn (claims_of_seat w.seats seat) h at → IsClaimAt w.seats seat at c → left ≡ left_of c
+    → 2 ≤ left → next_place w.desk h c < length w.desk.memory
+store_within w seat h at left c sound x there is two =
+    subst (λ (k : ℕ). place_of (word_at w.desk k) + next_word c < length w.desk.memory)
+    (claim_is (claims_of_seat w.seats seat) h at c x there)
+    (next_within w seat at c sound there (omega (arith, is, two)))
+
+pub store_done : (w new : WorldState) (seat h at left : ℕ) (c : OpenWriteState)
+    → IsClaimOn (claims_of_seat w.seats seat) h at → IsClaimAt w.seats seat at c → left ≡ left_of c
+    → 1 ≤ left → (2 ≤ left → IsWordStored h c w.desk new.desk)
+    → (left ≡ 1 → IsVersionStored h c w.desk new.desk)
+    → new.seats ≡ with_claims w.seats seat (slice_set (claims_of_seat w.seats seat) at (stored_once c))
+    → new.far ≡ w.far → StoreStep seat h w (answer.Stored (left - 1)) new
+store_done w new seat h at left c x there is some word version seats far = by (ℕ_discrete left 1)
+  where
+    y : IsClaimOn (claims_of_seat w.seats seat) h at
+    y = record {
+      ongoing = c;
+      there = there;
+      on = claim_is (claims_of_seat w.seats seat) h at c x there;
+    }
+
+    by : Dec (left ≡ 1) → StoreStep seat h w (answer.Stored (left - 1)) new
+    by (yes one) = stamped at y (sym is ∙ one)
+        (ap answer.Stored (let z : left - 1 ≡ 0 = omega (arith, one) in z)) (version one)
+        (record { seats = seats; far = far })
+    by (no more) = stored at y (subst (λ (n : ℕ). 2 ≤ n) is (omega (arith, some, more)))
+        (ap (λ (n : ℕ). answer.Stored (n - 1)) is) (word (omega (arith, some, more)))
+        (record { seats = seats; far = far })
+
+pub settle_refused : (w : WorldState) (seat h at left : ℕ) (c : OpenWriteState)
+    → IsClaimOn (claims_of_seat w.seats seat) h at → IsClaimAt w.seats seat at c → left ≡ left_of c
+    → 1 ≤ left → SettleStep seat h w (answer.NotStored left) w
+settle_refused w seat h at left c x there is some =
+    let y : IsClaimOn (claims_of_seat w.seats seat) h at = record {
+      ongoing = c;
+      there = there;
+      on = claim_is (claims_of_seat w.seats seat) h at c x there;
+    } in
+    not_stored at y (subst (λ (n : ℕ). 1 ≤ n) is some) (ap answer.NotStored is) refl
+
+pub settle_done : (w new : WorldState) (seat h at left version : ℕ) (c : OpenWriteState)
+    → IsClaimOn (claims_of_seat w.seats seat) h at → IsClaimAt w.seats seat at c → left ≡ left_of c
+    → left ≡ 0 → version ≡ c.version → IsClaimSettled seat h at w new
+    → SettleStep seat h w (answer.Version (version + 1)) new
+settle_done w new seat h at left version c x there is none same done =
+    let y : IsClaimOn (claims_of_seat w.seats seat) h at = record {
+      ongoing = c;
+      there = there;
+      on = claim_is (claims_of_seat w.seats seat) h at c x there;
+    } in
+    settled at y (sym is ∙ none) (ap (λ (n : ℕ). answer.Version (n + 1)) same) done

@@ -13,7 +13,7 @@ use Rattle.cb_world.specs.World.{WorldState, IsKnown, IsSoundWorld, word_at}
 use Rattle.cb_world.specs.Write.{IsWriteBelow}
 use Rattle.cb_world.proofs.Laws.{open_here, pinned_still, sound_beside}
 use Rattle.cb_core.proofs.OpenChanges.{goes_on}
-use Rattle.cb_core.proofs.OpenSteps.{claims_hold, claims_pinned}
+use Rattle.cb_core.proofs.OpenSteps.{claims_hold, claims_pinned, not_zero}
 
 is_zero : (n a b : ℕ) → n ≡ 0 → (if nat_eq n 0 then a else b) ≡ a
 is_zero n a b e = ap (λ (c : Bool). if c then a else b) (eq-eqb n 0 e)
@@ -62,6 +62,16 @@ module _ (w : WorldState) (seat place : ℕ) (c : OpenWriteState) (sound : IsSou
   here : object_at sound.shown h ≡ is.Here (len_of (word_at w.desk h)) (place_of (word_at w.desk h))
   here = open_here w.desk w.far sound.shown w.seats seat place c sound.known sound.ongoing there
 
+  -- the version rises by one
+  rises : get_or sound.shown.versions h 0 ≤ get_or t.versions h 0
+  rises =
+      let same = ap (λ (l : List ℕ). length l) sound.known.shows.versions in
+      let now = get_or-set_same sound.shown.versions h (c.version + 1) 0 (omega (arith, ranged, same)) in
+      let was : get_or sound.shown.versions h 0 ≡ c.version =
+      ap (λ (l : List ℕ). get_or l h 0) sound.known.shows.versions ∙ o.stamp
+      ∙ not_zero (left_of c) (c.version + 1) c.version (omega (arith, last)) in
+      omega (arith, now, was)
+
   stamped_known : IsKnown y w.far t
   stamped_known = record {
     sized = record {
@@ -80,7 +90,8 @@ module _ (w : WorldState) (seat place : ℕ) (c : OpenWriteState) (sound : IsSou
     hots = sound.known.hots;
     sound = sound_beside w.far sound.shown t h (len_of (word_at w.desk h)) (place_of (word_at w.desk h))
         sound.known.sound here refl refl refl
-        (λ k off. get_or-set_other sound.shown.versions h k (c.version + 1) 0 off) (λ q side. refl);
+        (λ k off. get_or-set_other sound.shown.versions h k (c.version + 1) 0 off) rises
+        (λ q side. refl);
   }
 
   mine : IsOpen y next

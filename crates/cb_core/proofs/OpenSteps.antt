@@ -134,8 +134,8 @@ get_pushed (z ∷ xs) x (suc p) y e = elim (get_pushed xs x p y e) [
 ]
 
 -- ---- the claim
-here_moving : {w : ℕ} → state_of w ≡ state.Here → state_of w ≡ state.Moving → ⊥
-here_moving here moving = let e = sym here ∙ moving in cc
+here_moving : (w : ℕ) → state_of w ≡ state.Here → state_of w ≡ state.Moving → ⊥
+here_moving w here moving = let e = sym here ∙ moving in cc
 
 get_before : (xs ys : List OpenWriteState) (p : ℕ) (y : OpenWriteState) → slice_get xs p ≡ Some y
     → slice_get (xs ++ ys) p ≡ Some y
@@ -208,7 +208,7 @@ module _ (w : WorldState) (seat h at v : ℕ) (bytes : List ℕ) (sound : IsSoun
   mine_is = get_or-set_same w.desk.words h v 0 within
 
   not_mine : (other place : ℕ) (c : OpenWriteState) → IsClaimAt w.seats other place c → c.handle ≢ h
-  not_mine other place c there e = here_moving free.0
+  not_mine other place c there e = here_moving old free.0
       (ap (λ k. state_of (word_at w.desk k)) (sym e) ∙ (sound.ongoing.each other place c there).moving)
 
   is_one : (other place : ℕ) (c : OpenWriteState) → IsClaimAt seats other place c → IsOneOf w.seats seat (length cs) mine other place c

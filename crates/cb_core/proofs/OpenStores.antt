@@ -98,7 +98,7 @@ module _ (w : WorldState) (seat place m : ℕ) (c : OpenWriteState) (sound : IsS
     };
     hots = sound.known.hots;
     sound = sound_beside w.far s t h (len_of old) (place_of old) sound.known.sound here refl refl
-        (length-set s.memory p m) (λ k off. refl) beside;
+        (length-set s.memory p m) (λ k off. refl) (omega arith) beside;
   }
 
   -- the object's words have one more of the write

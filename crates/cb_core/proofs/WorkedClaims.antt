@@ -31,14 +31,14 @@ world far x claims = record { desk = x; far = far; seats = claiming claims ∷ i
 
 -- 0c over the second byte of 0a 0b, of which so many words are stored
 abbrev write : ℕ → OpenWriteState
-write stored = record {
+write n = record {
   handle = 0;
   len = 2;
   version = 3;
   words = 2826 ∷ [];
   at = 1;
   bytes = 12 ∷ [];
-  stored = stored;
+  stored = n;
 }
 
 -- ---- a claim

@@ -1,4 +1,4 @@
-ghost use Rattle.std.specs.Prelude.{◌≡◌, ℕ, ◌+◌, ◌^◌, ◌<◌, ◌≤◌, length, IfSome, IfNone, IfOk, OnErr};
+ghost use Rattle.std.specs.Prelude.{◌≡◌, ℕ, ◌+◌, ◌-◌, ◌^◌, ◌<◌, ◌≤◌, length, IfSome, IfNone, IfOk, OnErr};
 ghost use Rattle.cb_types.specs.declared.reply.Reply.TheVariants as answer;
 ghost use Rattle.cb_ptr.specs.declared.word.State.TheVariants as state;
 ghost use Rattle.cb_ptr.specs.Word.{len_of, place_of, state_of};
@@ -33,9 +33,11 @@ pub(crate) fn claim(
     requires handle { h.n < world.old.desk.settings.handles }
     ensures step { IfOk result (λ reply.
         ClaimStep seat h.n at bytes.now world.old reply world.new) }
+    ensures may { IfOk result (λ reply. reply ≡ answer.Claimed
+        → MayClaim world.old.desk h.n at (length bytes.now)) }
     ensures error { OnErr result (world.new ≡ world.old) }
 {
-    if let Some(refusal) = claim_refusal(&world.desk, h, at, bytes.len()) {
+    if let Some(refusal) = claim_refusal(&world.desk, h, at, bytes) {
         return Ok(refusal);
     }
     let write = open_write(alloc, &world.desk, h, at, bytes)?;
@@ -44,13 +46,13 @@ pub(crate) fn claim(
     Ok(Reply::Claimed)
 }
 
-/// Why an object can't be claimed for a write of so many bytes from the byte number `at` on, None
-/// where it can.
-fn claim_refusal(desk: &PlainDesk, h: Handle, at: u32, count: usize) -> Option<Reply>
+/// Why an object can't be claimed for a write of these bytes from the byte number `at` on, None where
+/// it can.
+fn claim_refusal(desk: &PlainDesk, h: Handle, at: u32, bytes: &[u8]) -> Option<Reply>
     requires { h.n < desk.now.settings.handles }
     ensures refused { IfSome result (λ r.
-        IsRefused (word_at desk.now h.n) (stamp_at desk.now h.n) at count r) }
-    ensures none { IfNone result (MayClaim desk.now h.n at count) }
+        IsRefused (word_at desk.now h.n) (stamp_at desk.now h.n) at (length bytes.now) r) }
+    ensures none { IfNone result (MayClaim desk.now h.n at (length bytes.now)) }
 {
     let fields = unpack(desk.look(h));
     let version = desk.tell(h);
@@ -59,7 +61,7 @@ fn claim_refusal(desk: &PlainDesk, h: Handle, at: u32, count: usize) -> Option<R
         State::Empty => Some(Reply::Freed),
         State::Far => Some(Reply::NotHere),
         State::Moving => Some(Reply::Moving),
-        State::Here if at as u64 + count as u64 > fields.len as u64 => {
+        State::Here if at as usize + bytes.len() > fields.len as usize => {
             Some(Reply::Range { len: fields.len })
         }
         State::Here if fields.pins > 0 => Some(Reply::Pinned { count: fields.pins }),
@@ -107,17 +109,33 @@ pub(crate) fn store(world: &mut World, seat: u32, h: Handle) -> Reply
     let Some(at) = world.seats.claim_on(seat, h.n) else {
         return Reply::NotClaimed;
     };
-    let left = world.seats.claim(seat, at).left();
+    let write = world.seats.claim(seat, at);
+    let left = write.left();
     if left == 0 {
         return Reply::Stored { left };
     }
-    if left == 1 {
-        store_version(&mut world.desk, h, world.seats.claim(seat, at));
-    } else {
-        store_word(&mut world.desk, h, world.seats.claim(seat, at));
-    }
+    store_next(&mut world.desk, h, write, left);
     world.seats.count_stored(seat, at);
     Reply::Stored { left: left - 1 }
+}
+
+/// Stores the next word of an open write on an object, of which so many are left: the version word
+/// where one is, and else a memory word.
+fn store_next(desk: &mut PlainDesk, h: Handle, write: &OpenWrite, left: u32)
+    requires handle { h.n < desk.old.settings.handles }
+    requires small { (next_word write.now < 2 ^ 24) × (write.now.at < 2 ^ 24)
+        × (length write.now.bytes < 2 ^ 24) }
+    requires next { write.now.version < 2 ^ 64 - 1 }
+    requires within { 2 ≤ left → next_place desk.old h.n write.now < length desk.old.memory }
+    requires some { 1 ≤ left }
+    ensures word { 2 ≤ left → IsWordStored h.n write.now desk.old desk.new }
+    ensures version { left ≡ 1 → IsVersionStored h.n write.now desk.old desk.new }
+{
+    if left == 1 {
+        store_version(desk, h, write);
+    } else {
+        store_word(desk, h, write);
+    }
 }
 
 /// Stores the next memory word of an open write on an object.
