@@ -1,5 +1,5 @@
 -- Each step of a pair is fixed over a sound far state: one reply and one far state.
-use Rattle.std.proofs.Common.{◌≡◌, ℕ, true, false, List, length, Option, None, Some, sym, ap, ◌∙◌, subst, arith, inl, inr}
+use Rattle.std.proofs.Common.{◌≡◌, ℕ, List, length, Option, None, Some, sym, ap, ◌∙◌, subst, arith, inl, inr}
 use Rattle.std.specs.List.{slice_get}
 use Rattle.std.proofs.lemmas.Bool.{cases_order, false≢true}
 use Rattle.std.proofs.lemmas.List.{ext_get_or}
@@ -20,12 +20,11 @@ use Rattle.cb_world.specs.Sets.{set_in}
 use Rattle.cb_world.specs.SetWord.{IsWordOf}
 use Rattle.cb_world.specs.Sound.{Sound}
 use Rattle.cb_world.proofs.Laws.{set_same}
-use Rattle.cb_compact.specs.MergeStep.{IsMerged, MergeStep, Merges, MergesOn, merged_set, with_merged}
+use Rattle.cb_compact.specs.MergeStep.{IsMerged, MergeStep, Merges, with_merged}
 use Rattle.cb_compact.specs.Merging.{IsReadyToMerge}
-use Rattle.cb_compact.specs.Pairing.{BeginStep, CanJoin, FindsNoPair, IsFirstPair, IsJoining, IsPaired, begun_pair, numbered, with_pair}
-use Rattle.cb_compact.specs.Rehoming.{AreRehomed}
+use Rattle.cb_compact.specs.Pairing.{BeginStep, CanJoin, IsFirstPair, IsJoining, IsPaired, begun_pair, numbered, with_pair}
 use Rattle.cb_compact.specs.Standing.{HasNoPair, IsChangedSet, IsFreshPair, IsGivenUp, PartStep, with_parted}
-use Rattle.cb_compact.specs.Steps.{AreDone, IsFull, IsNext, IsOneStep, PatchStep, StepsOn, TakesStep, shard_beside, with_stepped}
+use Rattle.cb_compact.specs.Steps.{AreDone, IsFull, IsNext, IsOneStep, PatchStep, TakesStep, shard_beside, with_stepped}
 use Rattle.cb_compact.proofs.Committed.{committed_is}
 use Rattle.cb_compact.proofs.Committing.{ready_data}
 use Rattle.cb_compact.proofs.Keeping.{fresh_is}
@@ -148,7 +147,7 @@ pub part_fixes : (s : Shown) (far new other : FarState) (r q : Reply) → Sound 
 part_fixes s far new other r q sound a b = parts_fixed far new other r q a b
 
 -- ---- a step
-next_fixed : (pair : JoiningState) (k m n : ℕ) → IsNext pair k m → IsNext pair k n → m ≡ n
+pub next_fixed : (pair : JoiningState) (k m n : ℕ) → IsNext pair k m → IsNext pair k n → m ≡ n
 next_fixed pair k m n x y = elim (cases_order m n) [
   | inl e ↦ e
   | inr apart ↦ elim apart [
