@@ -188,7 +188,7 @@ start = record { desk = words_are pinned pinned; far = crowd four_with_a_make }
 no_spans : StillEvict start (answer.NoSpans 0) start
 no_spans = (
   few_spans (record { few = lit< tt; reply = refl; state = refl }) refl,
-  λ s k. (s, k, λ h. refl),
+  λ s k. (s, k, (λ h. refl), λ seats ongoing. ongoing),
 )
 
 -- none of them is loose, and two nodes have room
