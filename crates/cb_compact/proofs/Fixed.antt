@@ -242,8 +242,8 @@ module _ (s : Shown) (far : FarState) (pair : JoiningState) (a b : SetState) (so
   home_same x y h =
       elim ((committed_is s far pair a b new.homes (ready x.done) x.homes).each h) [
         | inl z ↦ z.home ∙ sym (y.homes.others h (λ p slot named.
-            elim (named_from far.counts.sets pair a b (ready_data s far pair a b (ready x.done)) p slot
-            h named) [
+            elim (named_from far.counts.sets pair a b
+            (ready_data s far pair a b (ready x.done)) p slot h named) [
               | inl v ↦ z.absent_b p slot v.1
               | inr v ↦ z.absent_a p slot v.1
             ]))
@@ -286,7 +286,8 @@ patch_fixes s far new other r q sound (inr (inl a)) (inl b) =
     absurd (no_pair far.joining a.pair b.none a.there)
 patch_fixes s far new other r q sound (inr (inr a)) (inl b) =
     absurd (no_pair far.joining a.pair b.none a.fresh.was)
-patch_fixes s far new other r q sound (inr (inl a)) (inr (inl b)) = given_fixed far new other r q a b
+patch_fixes s far new other r q sound (inr (inl a)) (inr (inl b)) =
+    given_fixed far new other r q a b
 patch_fixes s far new other r q sound (inr (inl a)) (inr (inr b)) =
     absurd (given_or_fresh far new r b.pair b.a b.b a b.fresh)
 patch_fixes s far new other r q sound (inr (inr a)) (inr (inl b)) =
@@ -307,7 +308,8 @@ merge_fixes s far new other r q sound (inr (inl a)) (inl b) =
     absurd (no_pair far.joining a.pair b.none a.there)
 merge_fixes s far new other r q sound (inr (inr a)) (inl b) =
     absurd (no_pair far.joining a.pair b.none a.fresh.was)
-merge_fixes s far new other r q sound (inr (inl a)) (inr (inl b)) = given_fixed far new other r q a b
+merge_fixes s far new other r q sound (inr (inl a)) (inr (inl b)) =
+    given_fixed far new other r q a b
 merge_fixes s far new other r q sound (inr (inl a)) (inr (inr b)) =
     absurd (given_or_fresh far new r b.pair b.a b.b a b.fresh)
 merge_fixes s far new other r q sound (inr (inr a)) (inr (inl b)) =

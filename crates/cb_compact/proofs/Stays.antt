@@ -116,7 +116,8 @@ module _ (c : Config) (s : Shown) (far : FarState) (pair : JoiningState) (a b : 
       sets = omega arith;
       keys = omega arith;
       epoch = omega arith;
-      given = let e = dropped_given without_b gone in let f = dropped_given far.nodes pair.shards_b in
+      given = let e = dropped_given without_b gone in
+          let f = dropped_given far.nodes pair.shards_b in
           omega (arith, e, f);
     };
   }

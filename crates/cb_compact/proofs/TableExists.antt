@@ -99,7 +99,8 @@ module _ (k r : ℕ) (range : IsInRange k r) where
       ∙ length-map (range_with_len 0 k) (factor j) ∙ length-range 0 k
 
   difference_byte : (e i : ℕ) → differences r point e (power 2 i) < 256
-  difference_byte e i = differences_byte r point e (power 2 i) (power_is_byte 2 i (omega arith)) point_byte
+  difference_byte e i =
+      differences_byte r point e (power 2 i) (power_is_byte 2 i (omega arith)) point_byte
 
   factor_byte : (e i : ℕ) → e < r → factor e i < 256
   factor_byte e i l =

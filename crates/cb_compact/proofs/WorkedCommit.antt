@@ -1,5 +1,6 @@
--- Worked examples of the commit over a far state: a value that meets the definition, and for each of
--- its parts one that breaks that part alone. Where the steps are not done the worked merge has one.
+-- Worked examples of the commit over a far state: a value that meets the definition, and for each
+-- of its parts one that breaks that part alone. Where the steps are not done the worked merge has
+-- one.
 use Rattle.std.proofs.Common.{◌≡◌, ℕ, zero, suc, List, Option, None, Some, refl, sym, ap, ◌∙◌, subst, arith}
 use Rattle.std.specs.FinMap as map
 use Rattle.std.proofs.lemmas.Bool.{false≢true}
@@ -95,7 +96,8 @@ tells_the_next_number x = let e : 3 ≡ 2 = ap set_told x.reply in omega (arith,
 
 draws_its_number : IsMerged joined all_done set_a set_b
     (record (after (homes_in 2 2)) { counts = joined.counts }) (answer.Merged (numbered 2) 1) → ⊥
-draws_its_number x = let e : 2 ≡ 3 = ap (λ (f : FarState). f.counts.sets) x.state in omega (arith, e)
+draws_its_number x = let e : 2 ≡ 3 = ap (λ (f : FarState). f.counts.sets) x.state in
+    omega (arith, e)
 
 -- no row of b is left, nor a's beside which a new one stands
 row_of_b_gone : row_under (after (homes_in 2 2)).nodes (node 3) 3 ≡ None

@@ -129,11 +129,14 @@ module _ (id x y z : ℕ) (first second : PositionState)
 
   survive : HasRows (nodes_with 2) all_up shards rows
   survive zero shard e stands = subst (λ (s : Shard).
-      row_under (nodes_with 2) s.node s.key ≡ Some (row 7)) (same_Some (on_node x) shard e) first_row
+      row_under (nodes_with 2) s.node s.key ≡ Some (row 7))
+      (same_Some (on_node x) shard e) first_row
   survive (suc zero) shard e stands = subst (λ (s : Shard).
-      row_under (nodes_with 2) s.node s.key ≡ Some (row 0)) (same_Some (on_node y) shard e) second_row
+      row_under (nodes_with 2) s.node s.key ≡ Some (row 0))
+      (same_Some (on_node y) shard e) second_row
   survive (suc (suc zero)) shard e stands = subst (λ (s : Shard).
-      row_under (nodes_with 2) s.node s.key ≡ Some (row 7)) (same_Some (on_node z) shard e) third_row
+      row_under (nodes_with 2) s.node s.key ≡ Some (row 7))
+      (same_Some (on_node z) shard e) third_row
   survive (suc (suc (suc p))) shard e stands = absurd (none-some shard e)
 
   word_of : IsWordOf (nodes_with 2) all_up (set_of id shards (first ∷ second ∷ [])) rows

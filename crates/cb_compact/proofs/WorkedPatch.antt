@@ -56,7 +56,8 @@ abbrev node_in : Reply → ℕ
 node_in (answer.NodeFull n) = n.n
 node_in r = 20
 
-not_behind_the_next : (new : FarState) → IsOneStep ground begun set_a set_b new (answer.Stepped 2) → ⊥
+not_behind_the_next : (new : FarState)
+    → IsOneStep ground begun set_a set_b new (answer.Stepped 2) → ⊥
 not_behind_the_next new x = not_the_parity_yet
     (subst (IsNext begun 2) (sym (ap position_in x.reply)) x.next)
 
