@@ -123,11 +123,11 @@ module _ (x y : Words) (far : FarState) (seats : List SeatState) (seat place : �
         by (yes e) = elim (get_set cs place next at d
             (ap (λ l. slice_get l at) (sym (claims_same seats seat _ within))
             ∙ ap (λ k. slice_get (claims_of_seat after_store k) at) (sym e) ∙ is)) [
-          | inl (off, old) ↦ let before : IsClaimAt seats other at d =
-              ap (λ k. slice_get (claims_of_seat seats k) at) e ∙ old in
-              inl (before, λ q. off (sym (is_mine other at d before q).1))
-          | inr (last, same) ↦ inr (e, last, same)
-        ]
+              | inl (off, old) ↦ let before : IsClaimAt seats other at d =
+                  ap (λ k. slice_get (claims_of_seat seats k) at) e ∙ old in
+                  inl (before, λ q. off (sym (is_mine other at d before q).1))
+              | inr (last, same) ↦ inr (e, last, same)
+            ]
 
     handle_of : (d : OpenWriteState) → next ≡ d → d.handle ≡ c.handle
     handle_of d e = ap (λ (z : OpenWriteState). z.handle) (sym e) ∙ handle
@@ -147,9 +147,9 @@ module _ (x y : Words) (far : FarState) (seats : List SeatState) (seat place : �
       moving = λ h below moved. elim (ongoing.moving h
           (subst (λ (l : List ℕ). h < length l) words below)
           (ap (λ (l : List ℕ). state_of (get_or l h 0)) (sym words) ∙ moved)) [
-        | inl claimed ↦ inl (still h claimed)
-        | inr leaving ↦ inr leaving
-      ];
+            | inl claimed ↦ inl (still h claimed)
+            | inr leaving ↦ inr leaving
+          ];
     }
       where
         both : (a b p q : ℕ) (d f : OpenWriteState) → IsEither a p d → IsEither b q f
@@ -163,16 +163,29 @@ module _ (x y : Words) (far : FarState) (seats : List SeatState) (seat place : �
         still h (other, at, d, is, on) = by (ℕ_discrete other seat) (ℕ_discrete at place)
           where
             by : Dec (other ≡ seat) → Dec (at ≡ place) → IsClaimedNow after_store h
-            by (no off) any = (other, at, d,
-              ap (λ l. slice_get l at) (claims_other seats seat _ other off) ∙ is, on)
-            by (yes e) (no off) = (seat, at, d,
+            by (no off) any = (
+              other,
+              at,
+              d,
+              ap (λ l. slice_get l at) (claims_other seats seat _ other off) ∙ is,
+              on,
+            )
+            by (yes e) (no off) = (
+              seat,
+              at,
+              d,
               ap (λ l. slice_get l at) (claims_same seats seat _ within)
-              ∙ set_other cs place next at d off (ap (λ k. slice_get (claims_of_seat seats k) at) (sym e) ∙ is),
-              on)
-            by (yes e) (yes f) = (seat, place, next,
+                  ∙ set_other cs place next at d off (ap (λ k. slice_get (claims_of_seat seats k) at) (sym e) ∙ is),
+              on,
+            )
+            by (yes e) (yes f) = (
+              seat,
+              place,
+              next,
               ap (λ l. slice_get l place) (claims_same seats seat _ within) ∙ set_same cs place next c there,
               handle ∙ ap (λ (z : OpenWriteState). z.handle) (same_some c d (sym there
-              ∙ (λ i. slice_get (claims_of_seat seats (sym e i)) (sym f i)) ∙ is)) ∙ on)
+                  ∙ (λ i. slice_get (claims_of_seat seats (sym e i)) (sym f i)) ∙ is)) ∙ on,
+            )
 
   -- ---- one that is settled
   module _ (v : ℕ) (here : state_of v ≡ state.Here) (below : c.handle < length x.words)
@@ -226,8 +239,13 @@ module _ (x y : Words) (far : FarState) (seats : List SeatState) (seat place : �
         still h off (other, at, d, is, on) = go (ℕ_discrete other seat)
           where
             go : Dec (other ≡ seat) → IsClaimedNow after_settling h
-            go (no far_off) = (other, at, d,
-              ap (λ l. slice_get l at) (claims_other seats seat _ other far_off) ∙ is, on)
+            go (no far_off) = (
+              other,
+              at,
+              d,
+              ap (λ l. slice_get l at) (claims_other seats seat _ other far_off) ∙ is,
+              on,
+            )
             go (yes e) = let old : slice_get cs at ≡ Some d =
                 ap (λ k. slice_get (claims_of_seat seats k) at) (sym e) ∙ is in
                 let r = put_remove cs place at d old (λ q. off (sym on ∙ ap (λ (z : OpenWriteState). z.handle)
@@ -247,6 +265,6 @@ module _ (x y : Words) (far : FarState) (seats : List SeatState) (seat place : �
             omega (arith, l, m, less))
             (ap state_of (sym (ap (λ (l : List ℕ). get_or l h 0) words
             ∙ get_or-set_other x.words c.handle h v 0 off)) ∙ moved)) [
-          | inl claimed ↦ inl (still h off claimed)
-          | inr leaving ↦ inr leaving
-        ]
+              | inl claimed ↦ inl (still h off claimed)
+              | inr leaving ↦ inr leaving
+            ]

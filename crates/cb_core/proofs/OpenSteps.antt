@@ -191,7 +191,7 @@ module _ (w : WorldState) (seat h at v : ℕ) (bytes : List ℕ) (sound : IsSoun
   fits : Fits (object_at s h) v
   fits = subst (λ (o : Object). Fits o v) (sym here) (
     subst (λ (n : ℕ). n < 2 ^ 53) (omega (arith, claims.number)) (claimed_below old (below_here (object_at s h)
-    old (sound.known.shows.fit h within) free.0) free.0),
+        old (sound.known.shows.fit h within) free.0) free.0),
     claims.len,
     claims.place,
     inr claims.state,
@@ -221,9 +221,9 @@ module _ (w : WorldState) (seat h at v : ℕ) (bytes : List ℕ) (sound : IsSoun
           (ap (λ (x : SeatState). slice_get x.claims place)
           (sym (ap (λ i. get_or seats i idle_seat) e ∙ get_or-set_same w.seats seat _ idle_seat in_range))
           ∙ there)) [
-        | inl before ↦ inl (ap (λ i. slice_get (claims_of_seat w.seats i) place) e ∙ before)
-        | inr (last, same) ↦ inr (e, last, same)
-      ]
+            | inl before ↦ inl (ap (λ i. slice_get (claims_of_seat w.seats i) place) e ∙ before)
+            | inr (last, same) ↦ inr (e, last, same)
+          ]
 
   stays : (c : OpenWriteState) → IsOpen w.desk c → c.handle ≢ h → IsOpen desk c
   stays c o off = let z = other c.handle off in record {
@@ -295,15 +295,20 @@ module _ (w : WorldState) (seat h at v : ℕ) (bytes : List ℕ) (sound : IsSoun
 
       by : (k : ℕ) → k < length (set w.desk.words h v) → state_of (word_at desk k) ≡ state.Moving
           → Dec (k ≡ h) → IsClaimedNow seats k ⊎ IsLeavingNow w.far k
-      by k below moved (yes e) = inl (seat, length cs, mine,
-          ap (λ (x : SeatState). slice_get x.claims (length cs))
-          (get_or-set_same w.seats seat _ idle_seat in_range) ∙ get_last cs mine, sym e)
+      by k below moved (yes e) = inl (
+        seat,
+        length cs,
+        mine,
+        ap (λ (x : SeatState). slice_get x.claims (length cs))
+            (get_or-set_same w.seats seat _ idle_seat in_range) ∙ get_last cs mine,
+        sym e,
+      )
       by k below moved (no off) = elim (sound.ongoing.moving k
           (let l = length-set w.desk.words h v in omega (arith, l, below))
           (ap state_of (sym (other k off)) ∙ moved)) [
-        | inl claimed ↦ inl (still k claimed)
-        | inr leaving ↦ inr leaving
-      ]
+            | inl claimed ↦ inl (still k claimed)
+            | inr leaving ↦ inr leaving
+          ]
 
   pub claimed_sound : IsSoundWorld (record { desk = desk; far = w.far; seats = seats })
   claimed_sound = record {

@@ -148,7 +148,12 @@ fn store_word(desk: &mut PlainDesk, h: Handle, write: &OpenWrite)
 {
     let first = write.at / 8 + write.stored;
     let place = unpack(desk.look(h)).place + first;
-    let word = merged(desk.load_word(place), 8 * first, write.at, write.bytes.as_slice());
+    let word = merged(
+        desk.load_word(place),
+        8 * first,
+        write.at,
+        write.bytes.as_slice(),
+    );
     desk.store_word(place, word);
 }
 
