@@ -20,7 +20,7 @@ use Rattle.cb_world.specs.StillWords.{stamp_at}
 use Rattle.cb_world.specs.World.{WorldState, IsSoundWorld, word_at}
 use Rattle.cb_world.proofs.Laws.{lies, lies_within, open_here, some_same}
 use Rattle.cb_mutate.specs.StillReplies.{reply_as, write_reply, empty_reply, next_reply, change_reply}
-use Rattle.cb_core.specs.Claiming.{claim_reply, IsWordStored, IsVersionStored, next_place, StoreStep, stored, stamped, IsClaimSettled, SettleStep, not_stored, settled}
+use Rattle.cb_core.specs.Claiming.{claim_reply, IsWordStored, IsVersionStored, next_place, StoreStep, nothing_left, stored, stamped, IsClaimSettled, SettleStep, not_stored, settled}
 
 -- the words of an object that is here lie in the memory
 pub here_within : (w : WorldState) (h : ℕ) → IsSoundWorld w → h < w.desk.settings.handles
@@ -134,6 +134,17 @@ store_done w new seat h at left c x there is some word version seats far = by (�
     by (no more) = stored at y (subst (λ (n : ℕ). 2 ≤ n) is (omega (arith, some, more)))
         (ap (λ (n : ℕ). answer.Stored (n - 1)) is) (word (omega (arith, some, more)))
         (record { seats = seats; far = far })
+
+pub store_nothing : (w : WorldState) (seat h at left : ℕ) (c : OpenWriteState)
+    → IsClaimOn (claims_of_seat w.seats seat) h at → IsClaimAt w.seats seat at c → left ≡ left_of c
+    → left ≡ 0 → StoreStep seat h w (answer.Stored left) w
+store_nothing w seat h at left c x there is none =
+    let y : IsClaimOn (claims_of_seat w.seats seat) h at = record {
+      ongoing = c;
+      there = there;
+      on = claim_is (claims_of_seat w.seats seat) h at c x there;
+    } in
+    nothing_left at y (sym is ∙ none) (ap answer.Stored none) refl
 
 pub settle_refused : (w : WorldState) (seat h at left : ℕ) (c : OpenWriteState)
     → IsClaimOn (claims_of_seat w.seats seat) h at → IsClaimAt w.seats seat at c → left ≡ left_of c

@@ -109,7 +109,7 @@ is_refused far = refused (λ e. cc) refl refl
 none_some : (c : OpenWriteState) → None ≡ Some c → ⊥
 none_some c e = cc
 
-on_it : (s : ℕ) → IsClaimOn (write s ∷ []) 0 0
+abbrev on_it : (s : ℕ) → IsClaimOn (write s ∷ []) 0 0
 on_it s = record { ongoing = write s; there = refl; on = refl }
 
 stores_nothing_left : (far : FarState) → StoreStep 0 0 (world far (words_are moving 4 3082) (write 2 ∷ []))
