@@ -5,6 +5,8 @@ mod Finding
 mod Looked
 mod Keeping
 mod Choosing
+mod Within
+mod Groups
 mod Begins
 mod Merged
 mod Committing

@@ -3,6 +3,7 @@ pub mod Standing
 pub mod Steps
 pub mod MergeStep
 pub mod Candidates
+pub mod Tables
 pub mod Deltas
 pub mod Looking
 pub mod Rehoming

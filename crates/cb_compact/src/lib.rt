@@ -12,6 +12,7 @@ mod rehoming;
 mod reply;
 mod stepping;
 mod steps;
+mod tables;
 
 pub use beginning::compact_begin;
 pub use merging::compact_commit;

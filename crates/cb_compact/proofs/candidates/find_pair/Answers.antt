@@ -28,11 +28,11 @@ pub returns : goal.returns
 returns c =
     let s = c.requires.sound in
     let firsts = subst (AreFirsts c.args.far.now c.args.far.now.counts.sets) (sym
-    c.deref.ensures.value)
+    c.deref-3.ensures.value)
     c.in_ok-found.ensures in
     record {
-      found = found_in s.0 c.args.far.now c.deref.result.now c.first_match.result s.1 firsts
+      found = found_in s.0 c.args.far.now c.deref-3.result.now c.first_match.result s.1 firsts
           c.first_match.ensures.found;
-      none = none_in s.0 c.args.far.now c.deref.result.now c.first_match.result s.1 firsts
+      none = none_in s.0 c.args.far.now c.deref-3.result.now c.first_match.result s.1 firsts
           c.first_match.ensures.none;
     }

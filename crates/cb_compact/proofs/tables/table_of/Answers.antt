@@ -1,0 +1,4 @@
+use Rattle.cb_compact.proofs.tables.table_of.Goals as goal
+
+pub returns : goal.returns
+returns c = ?
