@@ -375,18 +375,6 @@ seen_more cmp found c seen new exact x updates g has = by (is_at (cmp (group c))
         ∙ sym (updates g) ∙ has) in
         (old.0, old.1, kept found c old.0 old.1 old.2, old.3)
 
--- where the group was seen before
-pub seen_before : (cmp : Group → Group → Ordering) (found : List Candidate) (c : Candidate)
-    (seen : BTreeSet Group) → AreSeen cmp found seen → contains cmp seen (group c) ≡ true
-    → IsAdded found c found
-seen_before cmp found c seen x has =
-    let old = x (group c) has in
-    inr (refl, old.0, old.1, old.2, record {
-      k = ap (λ (g : Group). g.k) old.3;
-      r = ap (λ (g : Group). g.r) old.3;
-      live = ap (λ (g : Group). g.live) old.3;
-    })
-
 -- ---- the first pair is one
 pub record IsOnePair (x y z w : ℕ) : Type 0 where
   pub first : x ≡ z

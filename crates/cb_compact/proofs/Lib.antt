@@ -3,17 +3,24 @@ mod Dropping
 mod Homing
 mod Finding
 mod Looked
-mod Keeping
+pub mod Keeping
 mod Choosing
 mod Within
 mod Groups
 mod Begins
 mod Merged
 mod Committing
-mod Committed
-mod OneStep
+pub mod Committed
+pub mod OneStep
 mod Parity
 mod Ready
 mod Taken
+mod TableExists
+pub mod FarLaws
+mod Stays
+mod Fixed
+pub mod FarTurns
 mod WorkedPair
+mod WorkedTables
 mod WorkedMerge
+pub mod Laws

@@ -1,11 +1,12 @@
 -- Sets of positions within others, by their bits.
-use Rattle.std.proofs.Common.{◌≡◌, ◌≢◌, ℕ, zero, suc, ◌+◌, ◌-◌, ◌*◌, ◌/◌, ◌%◌, ◌^◌, ◌<◌, ◌≤◌, Bool, true, false, List, Some, length, min, bit_and, refl, sym, ap, subst, ◌∙◌, arith, inl, inr}
+use Rattle.std.proofs.Common.{◌≡◌, ◌≢◌, ℕ, zero, suc, ◌+◌, ◌-◌, ◌*◌, ◌/◌, ◌%◌, ◌^◌, ◌<◌, ◌≤◌, Bool, true, false, List, Some, length, min, set, bit_and, refl, sym, ap, subst, ◌∙◌, arith, inl, inr}
 use Rattle.std.specs.Prelude.{slice_index_or}
 use Rattle.std.specs.Int.{bit_at}
 use Rattle.std.specs.List.{slice_get}
 use Rattle.std.proofs.Math.Nat.{pow-suc}
-use Rattle.std.proofs.lemmas.Bool.{cases_eq, cases_lt}
-use Rattle.std.proofs.lemmas.Nat.{one_shl}
+use Rattle.std.proofs.lemmas.Bool.{cases_eq, cases_lt, false≢true}
+use Rattle.std.proofs.lemmas.List.{get_or-set_other, get_or-set_same, length-set}
+use Rattle.std.proofs.lemmas.Nat.{one_shl, pow_pos}
 use Rattle.std.proofs.lemmas.Nat.Bits.{and_pow, bit_at-lt, bit_at-suc, bit_at-zero, bit_at_above, bit_at_and, bit_at_lowest, same_from_bits}
 use Rattle.cb_compact.specs.Tables.{IsWithin}
 
@@ -112,10 +113,10 @@ apart_within k a b fits low none i = elim (cases_lt i k) [
 ]
 
 -- the test of one bit of a usize
-pub bit_mask : (p : ℕ) → p < 16 → 1 * 2 ^ p % 2 ^ 64 ≡ 2 ^ p
-bit_mask p few = one_shl p 64 (omega (arith, few))
+pub bit_mask : (p : ℕ) → p < 64 → 1 * 2 ^ p % 2 ^ 64 ≡ 2 ^ p
+bit_mask p few = one_shl p 64 few
 
-pub bit_there : (n p m : ℕ) → p < 16 → m ≡ 1 * 2 ^ p % 2 ^ 64 → bit_and n m ≢ 0
+pub bit_there : (n p m : ℕ) → p < 64 → m ≡ 1 * 2 ^ p % 2 ^ 64 → bit_and n m ≢ 0
     → (m ≡ 2 ^ p) × (bit_at n p ≡ 1) × (2 ^ p ≤ n)
 bit_there n p m few is some =
     let e : m ≡ 2 ^ p = is ∙ bit_mask p few in
@@ -130,7 +131,7 @@ bit_there n p m few is some =
       | inr other ↦ omega (arith, l, other)
     ]
 
-pub bit_gone : (n p m : ℕ) → p < 16 → m ≡ 1 * 2 ^ p % 2 ^ 64 → bit_and n m ≡ 0
+pub bit_gone : (n p m : ℕ) → p < 64 → m ≡ 1 * 2 ^ p % 2 ^ 64 → bit_and n m ≡ 0
     → bit_at n p ≡ 1 → ⊥
 bit_gone n p m few is none on =
     let e : m ≡ 2 ^ p = is ∙ bit_mask p few in
@@ -141,3 +142,58 @@ bit_gone n p m few is none on =
     no_pow : (p : ℕ) → 2 ^ p ≡ 0 → ⊥
     no_pow zero z = omega (arith, z)
     no_pow (suc p) z = no_pow p (let t = pow-suc 2 p in omega (arith, z, t))
+
+-- what is known of the entries below n: no mark is lost, and each is marked where one within it was
+abbrev pub Spread : ℕ → List Bool → List Bool → ℕ → Type 0
+Spread k old marks n = record {
+  size : length marks ≡ 2 ^ k;
+  kept : (m : ℕ) → slice_index_or old m false ≡ true → slice_index_or marks m false ≡ true;
+  marked : (live m : ℕ) → m < n → m < 2 ^ k → IsWithin live m
+      → slice_index_or old live false ≡ true → slice_index_or marks m false ≡ true;
+}
+
+set_marked : (marks : List Bool) (n m : ℕ) → n < length marks → slice_index_or marks m false ≡ true
+    → slice_index_or (set marks n true) m false ≡ true
+set_marked marks n m within on = elim (cases_eq m n) [
+  | inl e ↦ ap (λ (i : ℕ). slice_index_or (set marks n true) i false) e
+      ∙ get_or-set_same marks n true false within
+  | inr off ↦ get_or-set_other marks n m true false off ∙ on
+]
+
+pub spread_set : (k : ℕ) (old marks : List Bool) (n : ℕ) → Spread k old marks n
+    → n < length marks → Spread k old (set marks n true) (n + 1)
+spread_set k old marks n x within = record {
+  size = length-set marks n true ∙ x.size;
+  kept = λ m on. set_marked marks n m within (x.kept m on);
+  marked = λ live m low fits w on. elim (cases_eq m n) [
+    | inl e ↦ ap (λ (i : ℕ). slice_index_or (set marks n true) i false) e
+        ∙ get_or-set_same marks n true false within
+    | inr off ↦ set_marked marks n m within (x.marked live m (omega (arith, low, off)) fits w on)
+  ];
+}
+
+pub spread_stays : (k : ℕ) (old marks : List Bool) (n : ℕ) → Spread k old marks n
+    → ((bit : ℕ) → bit < k → bit_at n bit ≡ 1
+    → slice_index_or marks (n - 2 ^ bit) false ≡ false) → Spread k old marks (n + 1)
+spread_stays k old marks n x none = record {
+  size = x.size;
+  kept = x.kept;
+  marked = λ live m low fits w on. elim (cases_eq m n) [
+    | inl e ↦ here live m e fits w on
+    | inr off ↦ x.marked live m (omega (arith, low, off)) fits w on
+  ];
+}
+  where
+    here : (live m : ℕ) → m ≡ n → m < 2 ^ k → IsWithin live m
+        → slice_index_or old live false ≡ true → slice_index_or marks m false ≡ true
+    here live m e fits w on = elim (cases_eq live m) [
+      | inl same ↦ x.kept m (ap (λ (i : ℕ). slice_index_or old i false) (sym same) ∙ on)
+      | inr off ↦
+          let y = smaller k live m fits w off in
+          let there = bit_on_le m y.place y.on in let some = pow_pos y.place in
+          let hit = x.marked live (m - 2 ^ y.place) (omega (arith, e, there, some))
+              (omega (arith, fits)) y.less on in
+          let miss = none y.place y.within (ap (λ (i : ℕ). bit_at i y.place) (sym e) ∙ y.on) in
+          absurd (false≢true (sym miss
+          ∙ ap (λ (i : ℕ). slice_index_or marks (i - 2 ^ y.place) false) (sym e) ∙ hit))
+    ]

@@ -1,5 +1,5 @@
 -- Which sets of positions have a candidate's live ones within them.
-use Rattle.std.specs.Prelude.{◌≡◌, ℕ, ◌^◌, ◌<◌, ◌≤◌, true, false, Bool, List, Some, length, slice_get, slice_index_or}
+use Rattle.std.specs.Prelude.{◌≡◌, ℕ, ◌^◌, ◌<◌, ◌≤◌, true, false, Bool, List, Some, length, slice_get, slice_index_or, All}
 use Rattle.std.specs.Int.{bit_at}
 use Rattle.cb_compact.specs.declared.candidates.Candidate.{Candidate}
 use Rattle.cb_compact.specs.declared.tables.Table.{Table}
@@ -18,15 +18,16 @@ abbrev pub AreMarked : List Candidate → ℕ → ℕ → List Bool → Type 0
 AreMarked found k r marks = (i : ℕ) (c : Candidate) → slice_get found i ≡ Some c → c.k ≡ k → c.r ≡ r
     → slice_index_or marks c.live false ≡ true
 
--- the table has an entry for each set of positions, and is marked wherever all live positions of a
--- candidate of its code are among these
+-- an entry is marked wherever all live positions of a candidate of this code are among its own
+abbrev pub IsFilled : List Candidate → ℕ → ℕ → List Bool → Type 0
+IsFilled found k r marks = (i mask : ℕ) (c : Candidate) → slice_get found i ≡ Some c → c.k ≡ k
+    → c.r ≡ r → mask < 2 ^ k → IsWithin c.live mask → slice_index_or marks mask false ≡ true
+
+-- the table has an entry for each set of positions, and they are filled
 pub record IsTable (found : List Candidate) (table : Table) : Type 0 where
   pub size : length table.marks.items ≡ 2 ^ table.k
-  pub marked : (i mask : ℕ) (c : Candidate) → slice_get found i ≡ Some c → c.k ≡ table.k
-      → c.r ≡ table.r → mask < 2 ^ table.k → IsWithin c.live mask
-      → slice_index_or table.marks.items mask false ≡ true
+  pub marked : IsFilled found table.k table.r table.marks.items
 
 -- each is a table of these candidates
 abbrev pub AreTables : List Candidate → List Table → Type 0
-AreTables found tables = (i : ℕ) (table : Table) → slice_get tables i ≡ Some table
-    → IsTable found table
+AreTables found tables = All (IsTable found) tables

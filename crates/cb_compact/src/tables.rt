@@ -2,7 +2,7 @@ ghost use Rattle.std.specs.Prelude.{◌≡◌, ℕ, ◌-◌, ◌*◌, ◌^◌, �
 ghost use Rattle.std.specs.Int.{bit_at};
 ghost use Rattle.cb_compact.specs.declared.candidates.Candidate.{Candidate};
 ghost use Rattle.cb_compact.specs.Candidates.{CanMatch};
-ghost use Rattle.cb_compact.specs.Tables.{AreMarked, AreMasks, AreTables, IsTable, IsWithin};
+ghost use Rattle.cb_compact.specs.Tables.{AreMarked, AreMasks, AreTables, IsFilled, IsTable, IsWithin};
 
 use crate::candidates::Candidate;
 use cb_types::NoMemory;
@@ -62,6 +62,18 @@ fn mark(marks: &mut [bool], found: &[Candidate], k: u32, r: u32)
     }
 }
 
+/// Marks the entries of a table of a code that have a candidate's live positions within them.
+fn fill(marks: &mut [bool], found: &[Candidate], k: u32, r: u32)
+    requires size { length marks.old ≡ 2 ^ k }
+    requires masks { AreMasks found.now }
+    requires few { k ≤ 16 }
+    ensures size { length marks.new ≡ 2 ^ k }
+    ensures marked { IsFilled found.now k r marks.new }
+{
+    mark(marks, found, k, r);
+    spread(marks, k);
+}
+
 /// The table of a code.
 fn table_of(alloc: Global, found: &[Candidate], k: u32, r: u32) -> Result<Table, NoMemory>
     requires masks { AreMasks found.now }
@@ -69,8 +81,7 @@ fn table_of(alloc: Global, found: &[Candidate], k: u32, r: u32) -> Result<Table,
     ensures { IfOk result (IsTable found.now) }
 {
     let mut marks = vec![in alloc; false; 1usize << k]?;
-    mark(&mut marks, found, k, r);
-    spread(&mut marks, k);
+    fill(&mut marks, found, k, r);
     Ok(Table { k, r, marks })
 }
 
@@ -87,6 +98,27 @@ fn is_worth(count: usize, k: u32) -> bool
     count.saturating_mul(count) >= (k as usize) << k
 }
 
+/// Adds the table of a code, where it is worth making and is not there yet.
+fn add_table(
+    alloc: Global,
+    found: &[Candidate],
+    tables: &mut Vec<Table>,
+    k: u32,
+    r: u32,
+) -> Result<(), NoMemory>
+    requires masks { AreMasks found.now }
+    requires few { k ≤ 16 }
+    requires tables { AreTables found.now tables.old.items }
+    ensures { IfOk result (λ _. AreTables found.now tables.new.items) }
+{
+    if !is_worth(found.len(), k) || has_table(tables, k, r) {
+        return Ok(());
+    }
+    let table = table_of(alloc, found, k, r)?;
+    tables.push(table)?;
+    Ok(())
+}
+
 /// The table of each code for which it is worth making.
 pub(crate) fn tables_of(alloc: Global, found: &[Candidate]) -> Result<Vec<Table>, NoMemory>
     requires masks { AreMasks found.now }
@@ -94,10 +126,7 @@ pub(crate) fn tables_of(alloc: Global, found: &[Candidate]) -> Result<Vec<Table>
 {
     let mut tables = Vec::new(alloc);
     for candidate in found {
-        if is_worth(found.len(), candidate.k) && !has_table(&tables, candidate.k, candidate.r) {
-            let table = table_of(alloc, found, candidate.k, candidate.r)?;
-            tables.push(table)?;
-        }
+        add_table(alloc, found, &mut tables, candidate.k, candidate.r)?;
     }
     Ok(tables)
 }
