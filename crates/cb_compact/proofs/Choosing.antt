@@ -350,9 +350,11 @@ are_masks s far n found sound x i c at =
     let y = x.sets i c at in
     let range = (sound.sets.shaped c.id y.1 y.2.there).range in
     let low = live_mask-lt y.1.positions in let k = y.2.k in let l = y.2.live in
-    let most = range.data_most in
-    (omega (arith, k, most), subst (λ (n : ℕ). n < 2 ^ c.k) (sym l) (subst (λ (n : ℕ).
-    live_mask y.1.positions < 2 ^ n) (sym k) low))
+    let most = range.data_most in (
+      omega (arith, k, most),
+      subst (λ (n : ℕ). n < 2 ^ c.k) (sym l) (subst (λ (n : ℕ).
+          live_mask y.1.positions < 2 ^ n) (sym k) low),
+    )
 
 -- ---- the groups that were seen
 pub none_seen : (cmp : Group → Group → Ordering) (seen : BTreeSet Group) → seen.keys ≡ []

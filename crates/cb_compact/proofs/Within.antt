@@ -43,7 +43,7 @@ smaller (suc k) live mask fits w off =
       | inl e ↦
           let size = pow-suc 2 k in
           let r = smaller k (live / 2) (mask / 2) (omega (arith, fits, size)) (half live mask w)
-              (λ same. off (omega (arith, same, e))) in
+          (λ same. off (omega (arith, same, e))) in
           let p = r.place in
           let there = bit_on_le (mask / 2) p r.on in
           let twice = pow-suc 2 p in
@@ -192,7 +192,7 @@ spread_stays k old marks n x none = record {
           let y = smaller k live m fits w off in
           let there = bit_on_le m y.place y.on in let some = pow_pos y.place in
           let hit = x.marked live (m - 2 ^ y.place) (omega (arith, e, there, some))
-              (omega (arith, fits)) y.less on in
+          (omega (arith, fits)) y.less on in
           let miss = none y.place y.within (ap (λ (i : ℕ). bit_at i y.place) (sym e) ∙ y.on) in
           absurd (false≢true (sym miss
           ∙ ap (λ (i : ℕ). slice_index_or marks (i - 2 ^ y.place) false) (sym e) ∙ hit))

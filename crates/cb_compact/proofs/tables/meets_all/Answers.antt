@@ -17,7 +17,7 @@ returns c on i d at k r none =
     let fits : d.live < 2 ^ p =
     subst (λ (n : ℕ). d.live < 2 ^ n) k (c.requires.masks i d at).1 in
     let hit = c.requires.table.marked i (2 ^ p - 1 - live) d at k r (omega (arith, low))
-        (apart_within p live d.live low fits none) in
+    (apart_within p live d.live low fits none) in
     marked_or_not table.marks.items (1 * 2 ^ p % 2 ^ 64 - 1 - live) c.index.result.now
     c.index.ensures (ap (λ (n : ℕ). slice_index_or table.marks.items (n - 1 - live) false) e ∙ hit)
     on
