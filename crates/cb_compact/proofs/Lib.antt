@@ -12,6 +12,11 @@ mod Merged
 mod Committing
 pub mod Committed
 pub mod OneStep
+mod NowDropped
+mod NowGone
+mod NowEnds
+pub mod NowKept
+pub mod NowLaws
 mod Parity
 mod Ready
 mod Taken
@@ -23,4 +28,9 @@ pub mod FarTurns
 mod WorkedPair
 mod WorkedTables
 mod WorkedMerge
+mod WorkedGround
+mod WorkedBegin
+mod WorkedStanding
+mod WorkedPatch
+mod WorkedCommit
 pub mod Laws
