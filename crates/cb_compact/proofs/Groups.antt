@@ -1,5 +1,5 @@
 -- The order of groups tells them apart.
-use Rattle.std.proofs.Common.{◌≡◌, ℕ, Bool, true, false, nat_cmp, refl, ap}
+use Rattle.std.proofs.Common.{◌≡◌, ℕ, true, nat_cmp, refl}
 use Rattle.std.specs.Ordering.{is_eq, ordering_then}
 use Rattle.std.specs.declared.cmp.Ordering.{Ordering}
 use Rattle.std.specs.declared.cmp.Ordering.TheVariants as is

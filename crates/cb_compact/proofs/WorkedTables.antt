@@ -1,7 +1,6 @@
 -- Worked examples: the groups of candidates, and the table of a code of two positions.
 use Rattle.std.proofs.Common.{◌≡◌, ℕ, zero, suc, ◌^◌, ◌<◌, true, false, Bool, List, [], ◌∷◌, None, Some, refl, subst, ◌∙◌, arith}
 use Rattle.std.specs.Prelude.{slice_index_or}
-use Rattle.std.specs.List.{slice_get}
 use Rattle.std.proofs.lemmas.Bool.{false≢true}
 use Rattle.std.proofs.lemmas.Nat.Bits.{bit_at-suc, bit_at-zero}
 use Rattle.cb_compact.specs.declared.candidates.Candidate.{Candidate}

@@ -1,7 +1,5 @@
-use Rattle.std.proofs.Common.{◌≡◌, List, true, sym, subst, ◌∙◌}
-use Rattle.std.specs.Ordering.{is_eq}
+use Rattle.std.proofs.Common.{List, sym, subst}
 use Rattle.cb_compact.specs.declared.candidates.Candidate.{Candidate}
-use Rattle.cb_compact.specs.declared.candidates.Group.{Group}
 use Rattle.cb_compact.specs.Candidates.{AreSeen}
 use Rattle.cb_compact.proofs.Choosing.{seen_more}
 use Rattle.cb_compact.proofs.Groups.{group_cmp, same_group}

@@ -1,4 +1,4 @@
-use Rattle.std.proofs.Common.{false, sym, ap, ◌∙◌, subst, arith}
+use Rattle.std.proofs.Common.{sym, ap, ◌∙◌, subst, arith}
 use Rattle.std.proofs.lemmas.Bool.{false≢true}
 use Rattle.cb_member.specs.Membership.{Membership}
 use Rattle.cb_set.specs.Lost.{NodesAreMembers}
