@@ -30,4 +30,5 @@ mod WorkedBegin
 mod WorkedStanding
 mod WorkedPatch
 mod WorkedCommit
+mod WorkedNow
 pub mod Laws
