@@ -33,4 +33,5 @@ mod WorkedBegin
 mod WorkedStanding
 mod WorkedPatch
 mod WorkedCommit
+mod WorkedNow
 pub mod Laws
