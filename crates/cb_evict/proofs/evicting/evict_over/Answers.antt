@@ -85,8 +85,7 @@ evict_claimed-requires-clause-rows g c =
     let taken = subst (Takes (λ es. g.D.Desk.run c.args.desk.now es c.take_spans.new.desk)
     (λ s. g.D.Desk.shows c.args.desk.now s) c.args.config c.args.far.now c.args.loose.now)
     c.in-Enough.is c.in_ok-taken.ensures.taken in
-    let x = taken.claims in
-    (
+    let x = taken.claims in (
       c.requires.rows.0
           ∙ sym (ap (λ (l : List ℕ). length l) c.deref.ensures.value ∙ taken.count),
       c.requires.rows.1,
