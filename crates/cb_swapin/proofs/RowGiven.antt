@@ -1,5 +1,6 @@
 -- The row of a position as it stands at its node, and the far state once it was given out.
 use Rattle.std.proofs.Common.{◌≡◌, ℕ, ◌+◌, ◌<◌, Bool, true, false, List, [], Option, Some, length, unwrap_or, if◌then◌else◌, is_some, sym, refl, ap, ◌∙◌, subst, arith}
+use Rattle.std.specs.Prelude.{Result, Ok, Err, OnErr}
 use Rattle.std.specs.List.{slice_get}
 use Rattle.std.specs.Option.{option_map_or}
 use Rattle.cb_gf256.specs.Rows.{row_at}
@@ -74,3 +75,8 @@ given_at q far new homes nodes x set p same found given e =
     e ∙ ap (λ (n : NodesState). record q { nodes = n; homes = homes }) given
     ∙ ap (λ (y : SetState). record (far_given q (rows_needed q.members y p)) { homes = homes }) found
     ∙ ap (λ (f : FarState). record (far_given f (rows_needed f.members set p)) { homes = homes }) same
+
+-- of an error this holds, where it holds anyway
+pub any_err : {T : Type 0} {E : Type 0} (P : Type 0) (r : Result T E) → P → OnErr r P
+any_err P (Ok t) p = tt
+any_err P (Err e) p = p

@@ -2,9 +2,7 @@ use Rattle.std.proofs.Common.{◌≡◌, ℕ, ◌<◌, List, Option, false, true
 use Rattle.std.specs.List.{slice_get}
 use Rattle.cb_gf256.specs.Rows.{row_at}
 use Rattle.cb_node.specs.NodesState.{has, known_row}
-use Rattle.cb_class.specs.declared.class.Class.{Class}
-use Rattle.cb_class.specs.Class.{IsClass, slots_of}
-use Rattle.cb_set.specs.SetState.{SetState, position_of}
+use Rattle.cb_set.specs.SetState.{SetState}
 use Rattle.cb_set.specs.Lost.{is_lost}
 use Rattle.cb_world.specs.declared.homes.Home.{Home}
 use Rattle.cb_world.specs.FarState.{FarState}
@@ -12,8 +10,7 @@ use Rattle.cb_world.specs.Sets.{set_in}
 use Rattle.cb_world.specs.SetWord.{IsWordOf}
 use Rattle.cb_world.specs.contracts.far.Far.{the_view}
 use Rattle.cb_swapin.specs.Named.{AreCleared}
-use Rattle.cb_swapin.specs.Fetching.{IsSpanOf}
-use Rattle.cb_swapin.proofs.Committed.{found_set, live_position, live_within}
+use Rattle.cb_swapin.proofs.Committed.{found_set, live_within}
 use Rattle.cb_swapin.proofs.Waits.{homes_within, names_apart, waiting}
 use Rattle.cb_swapin.proofs.RowGiven.{all_needed, given_at, one_needed, row_is_there, row_is_wide, row_of_word, word_is_wide}
 use Rattle.cb_swapin.proofs.swapping.bring_row.Goals as goal
@@ -30,80 +27,35 @@ is_lost-requires g c =
     ((had.2.away.sound.sets.shaped c.args.id.n set live.1).current c.args.position shard
     (ap (λ (y : SetState). slice_get y.shards c.args.position) (sym same) ∙ c.shard-shard.ensures)).0
 
-pub span_of-requires-clause-position : goal.span_of-requires-clause-position
-span_of-requires-clause-position g c =
-    let live = c.requires.live in let set = live.0 in
-    let same : c.unwrap-set.result.now ≡ set =
-    found_set c.committed.result c.unwrap-set.result _ set c.committed.ensures c.unwrap-set.ensures
-    (ap (λ (q : FarState). set_in q.sets c.args.id.n) c.far.view_is ∙ live.1) in
-    subst (λ (y : SetState). c.args.position < length y.positions) (sym same)
-    (live_within set c.args.position live.2)
-
-pub span_of-requires-clause-class : goal.span_of-requires-clause-class
-span_of-requires-clause-class g c =
-    let far = c.args.far.now in let live = c.requires.live in let set = live.0 in
-    let had = c.requires.sound in
-    let same : c.unwrap-set.result.now ≡ set =
-    found_set c.committed.result c.unwrap-set.result _ set c.committed.ensures c.unwrap-set.ensures
-    (ap (λ (q : FarState). set_in q.sets c.args.id.n) c.far.view_is ∙ live.1) in
-    let x = live_position had.0 far c.args.id.n c.args.position set had.2.away.sound live.1 live.2 in
-    subst (λ (y : SetState). (class : Class) × IsClass class
-    × (length (position_of y c.args.position).slots ≡ slots_of class)) (sym same)
-    (x.class, x.in_table, x.sized)
-
 pub bring_span-requires-clause-apart : goal.bring_span-requires-clause-apart
 bring_span-requires-clause-apart g c =
-    let far = c.args.far.now in let live = c.requires.live in let set = live.0 in
-    let had = c.requires.sound in
-    let same : c.unwrap-set.result.now ≡ set =
-    found_set c.committed.result c.unwrap-set.result _ set c.committed.ensures c.unwrap-set.ensures
-    (ap (λ (q : FarState). set_in q.sets c.args.id.n) c.far.view_is ∙ live.1) in
-    let x = subst (λ (y : SetState). IsSpanOf y c.args.position c.in_ok-span.span) same
-    c.in_ok-span.ensures in
-    names_apart had.0 far c.args.id.n c.args.position live.0 c.in_ok-span.span.slots
-    had.2.away.sound live.1 x.slots
+    let far = c.args.far.now in let live = c.requires.live in let had = c.requires.sound in
+    names_apart had.0 far c.args.id.n c.args.position live.0 c.args.span.now.slots
+    had.2.away.sound live.1 (c.requires.span live.0 live.1).slots
 
 pub bring_span-requires-else-is_lost-clause-apart :
     goal.bring_span-requires-else-is_lost-clause-apart
 bring_span-requires-else-is_lost-clause-apart g c =
-    let far = c.args.far.now in let live = c.requires.live in let set = live.0 in
-    let had = c.requires.sound in
-    let same : c.unwrap-set.result.now ≡ set =
-    found_set c.committed.result c.unwrap-set.result _ set c.committed.ensures c.unwrap-set.ensures
-    (ap (λ (q : FarState). set_in q.sets c.args.id.n) c.far.view_is ∙ live.1) in
-    let x = subst (λ (y : SetState). IsSpanOf y c.args.position c.in_ok-span.span) same
-    c.in_ok-span.ensures in
-    names_apart had.0 far c.args.id.n c.args.position live.0 c.in_ok-span.span.slots
-    had.2.away.sound live.1 x.slots
+    let far = c.args.far.now in let live = c.requires.live in let had = c.requires.sound in
+    names_apart had.0 far c.args.id.n c.args.position live.0 c.args.span.now.slots
+    had.2.away.sound live.1 (c.requires.span live.0 live.1).slots
 
 pub bring_span-requires-clause-homes : goal.bring_span-requires-clause-homes
 bring_span-requires-clause-homes g c h named =
-    let far = c.args.far.now in let live = c.requires.live in let set = live.0 in
-    let had = c.requires.sound in
-    let same : c.unwrap-set.result.now ≡ set =
-    found_set c.committed.result c.unwrap-set.result _ set c.committed.ensures c.unwrap-set.ensures
-    (ap (λ (q : FarState). set_in q.sets c.args.id.n) c.far.view_is ∙ live.1) in
-    let x = subst (λ (y : SetState). IsSpanOf y c.args.position c.in_ok-span.span) same
-    c.in_ok-span.ensures in
+    let far = c.args.far.now in let live = c.requires.live in let had = c.requires.sound in
     subst (λ (l : List (Option Home)). h < length l)
     (sym (ap (λ (q : FarState). q.homes) c.far.view_is))
-    (homes_within had.0 far c.args.id.n c.args.position live.0 c.in_ok-span.span.slots
-    had.2.away.sound live.1 x.slots h named)
+    (homes_within had.0 far c.args.id.n c.args.position live.0 c.args.span.now.slots
+    had.2.away.sound live.1 (c.requires.span live.0 live.1).slots h named)
 
 pub bring_span-requires-else-is_lost-clause-homes :
     goal.bring_span-requires-else-is_lost-clause-homes
 bring_span-requires-else-is_lost-clause-homes g c h named =
-    let far = c.args.far.now in let live = c.requires.live in let set = live.0 in
-    let had = c.requires.sound in
-    let same : c.unwrap-set.result.now ≡ set =
-    found_set c.committed.result c.unwrap-set.result _ set c.committed.ensures c.unwrap-set.ensures
-    (ap (λ (q : FarState). set_in q.sets c.args.id.n) c.far.view_is ∙ live.1) in
-    let x = subst (λ (y : SetState). IsSpanOf y c.args.position c.in_ok-span.span) same
-    c.in_ok-span.ensures in
+    let far = c.args.far.now in let live = c.requires.live in let had = c.requires.sound in
     subst (λ (l : List (Option Home)). h < length l)
     (sym (ap (λ (q : FarState). q.homes) c.far.view_is))
-    (homes_within had.0 far c.args.id.n c.args.position live.0 c.in_ok-span.span.slots
-    had.2.away.sound live.1 x.slots h named)
+    (homes_within had.0 far c.args.id.n c.args.position live.0 c.args.span.now.slots
+    had.2.away.sound live.1 (c.requires.span live.0 live.1).slots h named)
 
 pub row-requires : goal.row-requires
 row-requires g c =
@@ -143,14 +95,13 @@ bring_span-requires-clause-waiting g c =
     let far = c.args.far.now in let live = c.requires.live in let set = live.0 in
     let had = c.requires.sound in let s = had.0 in
     let sized = g.met.D.Desk.sized _ s had.1 in
+    let x = c.requires.span set live.1 in
     let same : c.unwrap-set.result.now ≡ set =
     found_set c.committed.result c.unwrap-set.result _ set c.committed.ensures c.unwrap-set.ensures
-    (ap (λ (q : FarState). set_in q.sets c.args.id.n) c.far.view_is ∙ live.1) in
-    let x = subst (λ (y : SetState). IsSpanOf y c.args.position c.in_ok-span.span) same
-    c.in_ok-span.ensures in (
+    (ap (λ (q : FarState). set_in q.sets c.args.id.n) c.far.view_is ∙ live.1) in (
       s,
       had.1,
-      waiting s far c.args.id.n c.args.position set c.args.frame c.in_ok-span.span
+      waiting s far c.args.id.n c.args.position set c.args.frame c.args.span.now
           c.row.result.now (record {
             sound = had.2;
             there = live.1;
@@ -207,14 +158,13 @@ bring_span-requires-else-is_lost-clause-waiting g c =
     let far = c.args.far.now in let live = c.requires.live in let set = live.0 in
     let had = c.requires.sound in let s = had.0 in let shard = c.shard-shard.result in
     let sized = g.met.D.Desk.sized _ s had.1 in
+    let x = c.requires.span set live.1 in
     let same : c.unwrap-set.result.now ≡ set =
     found_set c.committed.result c.unwrap-set.result _ set c.committed.ensures c.unwrap-set.ensures
-    (ap (λ (q : FarState). set_in q.sets c.args.id.n) c.far.view_is ∙ live.1) in
-    let x = subst (λ (y : SetState). IsSpanOf y c.args.position c.in_ok-span.span) same
-    c.in_ok-span.ensures in (
+    (ap (λ (q : FarState). set_in q.sets c.args.id.n) c.far.view_is ∙ live.1) in (
       s,
       had.1,
-      waiting s far c.args.id.n c.args.position set c.args.frame c.in_ok-span.span
+      waiting s far c.args.id.n c.args.position set c.args.frame c.args.span.now
           c.lend_row-row.result.now (record {
             sound = had.2;
             there = live.1;
@@ -239,12 +189,10 @@ bring_span-requires-else-is_lost-clause-waiting g c =
 
 pub returns-in_ok-rows-clause-row : goal.returns-in_ok-rows-clause-row
 returns-in_ok-rows-clause-row g c = λ set there.
-    let far = c.args.far.now in
+    let far = c.args.far.now in let x = c.requires.span set there in
     let same : c.unwrap-set.result.now ≡ set =
     found_set c.committed.result c.unwrap-set.result _ set c.committed.ensures c.unwrap-set.ensures
-    (ap (λ (q : FarState). set_in q.sets c.args.id.n) c.far.view_is ∙ there) in
-    let x = subst (λ (y : SetState). IsSpanOf y c.args.position c.in_ok-span.span) same
-    c.in_ok-span.ensures in record {
+    (ap (λ (q : FarState). set_in q.sets c.args.id.n) c.far.view_is ∙ there) in record {
       row = c.row.result.now;
       fetched = record {
         valid = x.valid;
@@ -258,7 +206,7 @@ returns-in_ok-rows-clause-row g c = λ set there.
             (subst (λ (y : SetState). IsWordOf far.nodes far.members y rows) (sym same) word))));
       };
       homes = subst (λ (l : List (Option Home)).
-          AreCleared c.in_ok-span.span.slots l c.bring_span.new.homes)
+          AreCleared c.args.span.now.slots l c.bring_span.new.homes)
           (ap (λ (q : FarState). q.homes) c.far.view_is) c.bring_span.ensures.homes;
       state = given_at (the_view c.far.inside) far _ c.bring_span.new.homes c.solved.new.nodes
           c.unwrap-set.result.now set c.args.position c.far.view_is same
@@ -271,13 +219,11 @@ returns-in_ok-rows-clause-row g c = λ set there.
 
 pub returns-else-is_lost-clause-row : goal.returns-else-is_lost-clause-row
 returns-else-is_lost-clause-row g c = λ set there.
-    let far = c.args.far.now in
+    let far = c.args.far.now in let x = c.requires.span set there in
     let shard = c.shard-shard.result in
     let same : c.unwrap-set.result.now ≡ set =
     found_set c.committed.result c.unwrap-set.result _ set c.committed.ensures c.unwrap-set.ensures
     (ap (λ (q : FarState). set_in q.sets c.args.id.n) c.far.view_is ∙ there) in
-    let x = subst (λ (y : SetState). IsSpanOf y c.args.position c.in_ok-span.span) same
-    c.in_ok-span.ensures in
     let kept = sym c.is_lost.ensures ∙ c.if-is_lost.false in record {
       row = c.lend_row-row.result.now;
       fetched = record {
@@ -292,7 +238,7 @@ returns-else-is_lost-clause-row g c = λ set there.
             (ap (λ (q : FarState). is_lost q.members shard) (sym c.far.view_is) ∙ kept);
       };
       homes = subst (λ (l : List (Option Home)).
-          AreCleared c.in_ok-span.span.slots l c.bring_span-else-is_lost.new.homes)
+          AreCleared c.args.span.now.slots l c.bring_span-else-is_lost.new.homes)
           (ap (λ (q : FarState). q.homes) c.far.view_is) c.bring_span-else-is_lost.ensures.homes;
       state = given_at (the_view c.far.inside) far _ c.bring_span-else-is_lost.new.homes
           c.lend_row-row.follows.lender-at-none

@@ -1,6 +1,6 @@
-use Rattle.std.proofs.Common.{◌≡◌, ℕ, ◌<◌, List, [], Option, None, Some, length, refl, sym, ap, ◌∙◌, subst}
+use Rattle.std.proofs.Common.{◌≡◌, ℕ, ◌+◌, ◌<◌, ◌≤◌, List, [], Option, None, Some, length, refl, sym, ap, ◌∙◌, subst, arith}
 use Rattle.cb_frame.specs.FreeFrames.{least_free}
-use Rattle.cb_set.specs.SetState.{dead_position, with_position}
+use Rattle.cb_set.specs.SetState.{SetState, dead_position, with_position}
 use Rattle.cb_set.specs.Lost.{NodesAreMembers}
 use Rattle.cb_world.specs.declared.shown.Shown.{Shown}
 use Rattle.cb_world.specs.Fetched.{rows_needed}
@@ -16,6 +16,7 @@ use Rattle.cb_swapin.proofs.Committed.{live_within}
 use Rattle.cb_swapin.proofs.Waits.{Arrives, free_frame, waiting}
 use Rattle.cb_swapin.proofs.ArrivedFar.{sound_arrived, there_of}
 use Rattle.cb_swapin.proofs.Swapped.{by_frame, has_arrived, is_whole, swapped_in, swapped_to, unavailable, with_arrived}
+use Rattle.cb_swapin.proofs.RowGiven.{any_err}
 use Rattle.cb_swapin.proofs.swapping.swap_in.Goals as goal
 
 pub returns-in-Some-clause-swap : goal.returns-in-Some-clause-swap
@@ -71,13 +72,16 @@ bring_row-requires-clause-live g c =
       is_whole far set (sym (c.in_ok-lost.ensures set live.1) ∙ c.in_default.is),
     )
 
+pub bring_row-requires-clause-span : goal.bring_row-requires-clause-span
+bring_row-requires-clause-span g c = λ set there. c.in_ok-span.ensures set there
+
 pub keep_span-requires-clause-frame : goal.keep_span-requires-clause-frame
 keep_span-requires-clause-frame g c =
     let live = c.requires.live in
     let least : least_free c.args.far.now.frames ≡ Some c.in-Some-least.frame =
     sym (ap least_free (c.free_set.ensures ∙ ap (λ (q : FarState). q.frames) c.far.view_is))
     ∙ sym c.least.ensures.least ∙ c.in-Some-least.is in
-    ap (λ (q : FarState). least_free q.frames) (c.in_ok-span.ensures.row live.0 live.1).state
+    ap (λ (q : FarState). least_free q.frames) (c.in_ok-bring_row.ensures.row live.0 live.1).state
     ∙ least
 
 pub keep_span-requires-clause-within : goal.keep_span-requires-clause-within
@@ -88,14 +92,14 @@ keep_span-requires-clause-within g c =
     sym (ap least_free (c.free_set.ensures ∙ ap (λ (q : FarState). q.frames) c.far.view_is))
     ∙ sym c.least.ensures.least ∙ c.in-Some-least.is in
     subst (λ (q : FarState). f < length q.spans)
-    (sym (c.in_ok-span.ensures.row live.0 live.1).state)
+    (sym (c.in_ok-bring_row.ensures.row live.0 live.1).state)
     (free_frame had.0 far f had.2.here least).0
 
 pub keep_span-requires-clause-set : goal.keep_span-requires-clause-set
 keep_span-requires-clause-set g c =
     let far = c.args.far.now in let live = c.requires.live in let set = live.0 in
     let had = c.requires.sound in
-    let now = (c.in_ok-span.ensures.row set live.1).state in (
+    let now = (c.in_ok-bring_row.ensures.row set live.1).state in (
       set,
       ap (λ (q : FarState). set_in q.sets c.args.id.n) now ∙ live.1,
       live_within set c.args.position live.2,
@@ -105,12 +109,20 @@ keep_span-requires-clause-set g c =
           (are_members far.members set (had.2.away.sound.sets.shaped c.args.id.n set live.1)),
     )
 
+pub returns-in_err-span-clause-far : goal.returns-in_err-span-clause-far
+returns-in_err-span-clause-far g c =
+    let far = c.args.far.now in
+    let e : far.nodes.given ≡ far.nodes.given + 0 = omega arith in
+    any_err ((set : SetState) → set_in far.sets c.args.id.n ≡ Some set → (n : ℕ)
+    × (n ≤ length set.positions) × (far ≡ far_given far n)) _ (λ set there.
+    (0, omega arith, ap (λ (n : ℕ). record far { nodes = record far.nodes { given = n } }) e))
+
 pub returns-clause-swap : goal.returns-clause-swap
 returns-clause-swap g c =
     let far = c.args.far.now in let live = c.requires.live in let set = live.0 in
     let id = c.args.id.n in let p = c.args.position in let f = c.in-Some-least.frame in
     let span = c.in_ok-span.span in
-    let x = c.in_ok-span.ensures.row set live.1 in let row = x.row in
+    let x = c.in_ok-bring_row.ensures.row set live.1 in let row = x.row in
     let n = rows_needed far.members set p in
     let whole = is_whole far set (sym (c.in_ok-lost.ensures set live.1) ∙ c.in_default.is) in
     let least : least_free far.frames ≡ Some f =
