@@ -4,7 +4,7 @@ use Rattle.cb_set.specs.SetState.{SetState, position_of}
 use Rattle.cb_world.specs.Sets.{set_in}
 use Rattle.cb_world.specs.FarState.{FarState}
 use Rattle.cb_swapin.proofs.Committed.{class_found, found_set, live_position}
-use Rattle.cb_swapin.proofs.swapping.fetch_span.Goals as goal
+use Rattle.cb_swapin.proofs.swapping.span_at.Goals as goal
 
 pub overflow_cast-slots : goal.overflow_cast-slots
 overflow_cast-slots c =
