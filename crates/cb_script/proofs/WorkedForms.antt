@@ -8,7 +8,6 @@ use Rattle.cb_script.specs.declared.script.Line.{Line}
 use Rattle.cb_script.specs.declared.script.Mode.TheVariants.{Seq, Threads}
 use Rattle.cb_script.specs.declared.script.Script.{Script}
 use Rattle.cb_script.specs.Form.{IsName, IsNameByte, IsContents, IsChange, IsRequest, IsLane, IsNew, KnowsName, IsKnown, MayFollow, AreInMode, IsScript, Spells}
-use Rattle.cb_script.specs.Unbuilt.{IsBuilt, IsFirstUnbuilt}
 use Rattle.cb_script.proofs.Phrases.{differ}
 use Rattle.cb_script.proofs.WorkedSpelling.{worked_lane}
 
@@ -166,21 +165,3 @@ lines_limit s form long = omega (arith, long)
 
 too_long : (bytes : List ℕ) (s : Script) → length bytes ≡ 1048577 → Spells bytes Seq s → ⊥
 too_long bytes s long spells = omega (arith, long, spells.short)
-
--- ---- lines that are not built
-
-first_unbuilt_line : IsFirstUnbuilt (two_makes ++ worked_lane 1 Pair 4 ∷ worked_lane 1 Leave 5 ∷ []) 4
-first_unbuilt_line = record { before = two_makes; here = worked_lane 1 Pair 4; after = worked_lane 1 Leave 5 ∷ []; are = refl; built = (tt, (tt, tt)); unbuilt = λ is. is; number_is = refl }
-
-filter_built : IsBuilt (Filter (codes "a"))
-filter_built = tt
-
-rebuild_built : IsBuilt Rebuild
-rebuild_built = tt
-
--- the four steps by which a batch leaves
-steps_built : AllByRecursion IsBuilt (Begin ∷ Ship ∷ Commit ∷ Abort ∷ [])
-steps_built = (tt, (tt, (tt, (tt, tt))))
-
-compact_unbuilt : IsBuilt Compact → ⊥
-compact_unbuilt is = is
