@@ -3,15 +3,21 @@ mod Dropping
 mod Homing
 mod Finding
 mod Looked
-mod Keeping
+pub mod Keeping
 mod Choosing
-mod Begins
+pub mod Begins
 mod Merged
 mod Committing
-mod Committed
-mod OneStep
+pub mod Committed
+pub mod OneStep
 mod Parity
 mod Ready
 mod Taken
+mod TableExists
+pub mod FarLaws
+mod Stays
+mod Fixed
+pub mod FarTurns
 mod WorkedPair
 mod WorkedMerge
+pub mod Laws

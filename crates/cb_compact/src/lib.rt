@@ -9,12 +9,10 @@ mod looking;
 mod merging;
 mod parting;
 mod rehoming;
-mod reply;
 mod stepping;
 mod steps;
 
 pub use beginning::compact_begin;
 pub use merging::compact_commit;
 pub use parting::compact_part;
-pub use reply::Reply;
 pub use stepping::compact_step;

@@ -18,13 +18,12 @@ ghost use Rattle.cb_compact.specs.Steps.{undone};
 use crate::looking::{Look, how_it_stands};
 use crate::parting::give_up;
 use crate::rehoming::rehome;
-use crate::reply::Reply;
 use crate::stepping::{data_count, next_position};
 use crate::steps::undone_steps;
 use cb_member::Shard;
 use cb_node::Nodes;
 use cb_set::SpanSet;
-use cb_types::{NoMemory, Positions, SetId};
+use cb_types::{NoMemory, Positions, Reply, SetId};
 use cb_world::{Desk, Far, Joining, KeptSet, Sets};
 use std::alloc::Global;
 

@@ -9,10 +9,9 @@ ghost use Rattle.cb_world.specs.Sound.{Sound};
 ghost use Rattle.cb_world.specs.Stored.{AreThere, all_dropped};
 ghost use Rattle.cb_compact.specs.Standing.{PartStep, with_parted};
 
-use crate::reply::Reply;
 use cb_member::Shard;
 use cb_node::Nodes;
-use cb_types::NoMemory;
+use cb_types::{NoMemory, Reply};
 use cb_world::{Desk, Far};
 
 /// Gives the joining pair up: both sets stay as they are, and the new rows are dropped.

@@ -15,11 +15,10 @@ ghost use Rattle.cb_compact.specs.Steps.{AreDone, IsNext, PatchStep, TakesStep, 
 use crate::deltas::put_merged;
 use crate::looking::{Look, how_it_stands};
 use crate::parting::give_up;
-use crate::reply::Reply;
 use crate::steps::{next_step, set_step};
 use cb_member::{NodeId, Shard};
 use cb_node::PutAnswer;
-use cb_types::{NoMemory, SetId};
+use cb_types::{NoMemory, Reply, SetId};
 use cb_world::{Desk, Far};
 
 /// How many data positions the sets of the joining pair have.
