@@ -215,8 +215,8 @@ far_map j w new r before after step =
 far_turn : (j : Job) (line : Request)
     → ((a b : Holding Words) (q : Reply) → StillWorks j a q b → StillFar (FarStep j) a q b)
     → ((q : Reply) → AnswersLine j q → IsReplyOf line q) → IsQuiet j line
-far_turn j line as answers w new r before after few step =
-    let d = as (held_at w j) (held_then new) r (is_done j w new r few step) in (
+far_turn j line works answers w new r before after few step =
+    let d = works (held_at w j) (held_then new) r (is_done j w new r few step) in (
       far_map j w new r before after d,
       answers r ((far_job j).answers (counted w.far j) new.far r d.1),
     )
