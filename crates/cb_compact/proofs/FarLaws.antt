@@ -1,6 +1,6 @@
 -- What a turn rests on where it does a step on the far state alone: one record of laws, whichever
 -- step it is.
-use Rattle.std.proofs.Common.{◌≡◌, ℕ, Option, List}
+use Rattle.std.proofs.Common.{◌≡◌, ℕ}
 use Rattle.cb_types.specs.declared.config.Config.{Config}
 use Rattle.cb_types.specs.declared.reply.Reply.{Reply}
 use Rattle.cb_types.specs.declared.reply.Reply.TheVariants as answer

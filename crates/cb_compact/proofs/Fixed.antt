@@ -1,5 +1,5 @@
 -- Each step of a pair is fixed over a sound far state: one reply and one far state.
-use Rattle.std.proofs.Common.{◌≡◌, ℕ, true, false, List, length, Option, None, Some, sym, ap, ◌∙◌, subst, arith, inl, inr}
+use Rattle.std.proofs.Common.{◌≡◌, ℕ, List, length, Option, None, Some, sym, ap, ◌∙◌, subst, arith, inl, inr}
 use Rattle.std.specs.List.{slice_get}
 use Rattle.std.proofs.lemmas.Bool.{cases_order, false≢true}
 use Rattle.std.proofs.lemmas.List.{ext_get_or}
@@ -20,12 +20,11 @@ use Rattle.cb_world.specs.Sets.{set_in}
 use Rattle.cb_world.specs.SetWord.{IsWordOf}
 use Rattle.cb_world.specs.Sound.{Sound}
 use Rattle.cb_world.proofs.Laws.{set_same}
-use Rattle.cb_compact.specs.MergeStep.{IsMerged, MergeStep, Merges, MergesOn, merged_set, with_merged}
+use Rattle.cb_compact.specs.MergeStep.{IsMerged, MergeStep, Merges, with_merged}
 use Rattle.cb_compact.specs.Merging.{IsReadyToMerge}
-use Rattle.cb_compact.specs.Pairing.{BeginStep, CanJoin, FindsNoPair, IsFirstPair, IsJoining, IsPaired, begun_pair, numbered, with_pair}
-use Rattle.cb_compact.specs.Rehoming.{AreRehomed}
+use Rattle.cb_compact.specs.Pairing.{BeginStep, CanJoin, IsFirstPair, IsJoining, IsPaired, begun_pair, numbered, with_pair}
 use Rattle.cb_compact.specs.Standing.{HasNoPair, IsChangedSet, IsFreshPair, IsGivenUp, PartStep, with_parted}
-use Rattle.cb_compact.specs.Steps.{AreDone, IsFull, IsNext, IsOneStep, PatchStep, StepsOn, TakesStep, shard_beside, with_stepped}
+use Rattle.cb_compact.specs.Steps.{AreDone, IsFull, IsNext, IsOneStep, PatchStep, TakesStep, shard_beside, with_stepped}
 use Rattle.cb_compact.proofs.Committed.{committed_is}
 use Rattle.cb_compact.proofs.Committing.{ready_data}
 use Rattle.cb_compact.proofs.Keeping.{fresh_is}
@@ -148,7 +147,7 @@ pub part_fixes : (s : Shown) (far new other : FarState) (r q : Reply) → Sound 
 part_fixes s far new other r q sound a b = parts_fixed far new other r q a b
 
 -- ---- a step
-next_fixed : (pair : JoiningState) (k m n : ℕ) → IsNext pair k m → IsNext pair k n → m ≡ n
+pub next_fixed : (pair : JoiningState) (k m n : ℕ) → IsNext pair k m → IsNext pair k n → m ≡ n
 next_fixed pair k m n x y = elim (cases_order m n) [
   | inl e ↦ e
   | inr apart ↦ elim apart [
@@ -243,8 +242,8 @@ module _ (s : Shown) (far : FarState) (pair : JoiningState) (a b : SetState) (so
   home_same x y h =
       elim ((committed_is s far pair a b new.homes (ready x.done) x.homes).each h) [
         | inl z ↦ z.home ∙ sym (y.homes.others h (λ p slot named.
-            elim (named_from far.counts.sets pair a b (ready_data s far pair a b (ready x.done)) p slot
-            h named) [
+            elim (named_from far.counts.sets pair a b
+            (ready_data s far pair a b (ready x.done)) p slot h named) [
               | inl v ↦ z.absent_b p slot v.1
               | inr v ↦ z.absent_a p slot v.1
             ]))
@@ -287,7 +286,8 @@ patch_fixes s far new other r q sound (inr (inl a)) (inl b) =
     absurd (no_pair far.joining a.pair b.none a.there)
 patch_fixes s far new other r q sound (inr (inr a)) (inl b) =
     absurd (no_pair far.joining a.pair b.none a.fresh.was)
-patch_fixes s far new other r q sound (inr (inl a)) (inr (inl b)) = given_fixed far new other r q a b
+patch_fixes s far new other r q sound (inr (inl a)) (inr (inl b)) =
+    given_fixed far new other r q a b
 patch_fixes s far new other r q sound (inr (inl a)) (inr (inr b)) =
     absurd (given_or_fresh far new r b.pair b.a b.b a b.fresh)
 patch_fixes s far new other r q sound (inr (inr a)) (inr (inl b)) =
@@ -308,7 +308,8 @@ merge_fixes s far new other r q sound (inr (inl a)) (inl b) =
     absurd (no_pair far.joining a.pair b.none a.there)
 merge_fixes s far new other r q sound (inr (inr a)) (inl b) =
     absurd (no_pair far.joining a.pair b.none a.fresh.was)
-merge_fixes s far new other r q sound (inr (inl a)) (inr (inl b)) = given_fixed far new other r q a b
+merge_fixes s far new other r q sound (inr (inl a)) (inr (inl b)) =
+    given_fixed far new other r q a b
 merge_fixes s far new other r q sound (inr (inl a)) (inr (inr b)) =
     absurd (given_or_fresh far new r b.pair b.a b.b a b.fresh)
 merge_fixes s far new other r q sound (inr (inr a)) (inr (inl b)) =

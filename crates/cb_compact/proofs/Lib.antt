@@ -10,6 +10,11 @@ mod Merged
 mod Committing
 pub mod Committed
 pub mod OneStep
+mod NowDropped
+mod NowGone
+mod NowEnds
+pub mod NowKept
+pub mod NowLaws
 mod Parity
 mod Ready
 mod Taken
@@ -20,4 +25,9 @@ mod Fixed
 pub mod FarTurns
 mod WorkedPair
 mod WorkedMerge
+mod WorkedGround
+mod WorkedBegin
+mod WorkedStanding
+mod WorkedPatch
+mod WorkedCommit
 pub mod Laws

@@ -1,5 +1,5 @@
 -- What the steps of a pair leave of the configured sizes and codes, and of what is counted.
-use Rattle.std.proofs.Common.{◌≡◌, ℕ, true, List, Option, refl, sym, ◌∙◌, subst, arith, inl, inr, length-set}
+use Rattle.std.proofs.Common.{ℕ, true, List, Option, refl, sym, ◌∙◌, subst, arith, inl, inr, length-set}
 use Rattle.std.specs.FinMap as map
 use Rattle.cb_member.specs.declared.names.Shard.{Shard}
 use Rattle.cb_node.specs.NodesState.{NodesState}
@@ -116,7 +116,8 @@ module _ (c : Config) (s : Shown) (far : FarState) (pair : JoiningState) (a b : 
       sets = omega arith;
       keys = omega arith;
       epoch = omega arith;
-      given = let e = dropped_given without_b gone in let f = dropped_given far.nodes pair.shards_b in
+      given = let e = dropped_given without_b gone in
+          let f = dropped_given far.nodes pair.shards_b in
           omega (arith, e, f);
     };
   }

@@ -1,6 +1,6 @@
 -- Each code that is built has a table of coefficients: Lagrange's factors of the data positions for
 -- the parities.
-use Rattle.std.proofs.Common.{◌≡◌, ◌≢◌, if◌then◌else◌, ℕ, zero, suc, ◌+◌, ◌<◌, ◌≤◌, ◌==◌, Bool, true, false, List, [], ◌∷◌, ◌++◌, length, get_or, map, All, sym, refl, ap, ap₂, subst, ◌∙◌, arith, inl, inr}
+use Rattle.std.proofs.Common.{◌≡◌, ◌≢◌, if◌then◌else◌, ℕ, zero, suc, ◌+◌, ◌<◌, ◌==◌, Bool, true, false, List, [], ◌++◌, length, get_or, map, sym, refl, ap, ap₂, ◌∙◌, arith, inl, inr}
 use Rattle.std.specs.List.{range_with_len}
 use Rattle.std.proofs.lemmas.Bool.{cases_eq, cases_lt}
 use Rattle.std.proofs.lemmas.List.{get_or_append_left, get_or-append-add, length-append, length-map}
@@ -99,7 +99,8 @@ module _ (k r : ℕ) (range : IsInRange k r) where
       ∙ length-map (range_with_len 0 k) (factor j) ∙ length-range 0 k
 
   difference_byte : (e i : ℕ) → differences r point e (power 2 i) < 256
-  difference_byte e i = differences_byte r point e (power 2 i) (power_is_byte 2 i (omega arith)) point_byte
+  difference_byte e i =
+      differences_byte r point e (power 2 i) (power_is_byte 2 i (omega arith)) point_byte
 
   factor_byte : (e i : ℕ) → e < r → factor e i < 256
   factor_byte e i l =

@@ -4,6 +4,7 @@
 
 mod beginning;
 mod candidates;
+mod compacting;
 mod deltas;
 mod looking;
 mod merging;
@@ -13,6 +14,7 @@ mod stepping;
 mod steps;
 
 pub use beginning::compact_begin;
+pub use compacting::compact_now;
 pub use merging::compact_commit;
 pub use parting::compact_part;
 pub use stepping::compact_step;

@@ -105,7 +105,7 @@ fn note_step(far: &mut Far, position: u32, shard: Shard)
 }
 
 /// Takes the step of a position of the joining pair, or answers a's node there, which is full.
-fn take_step(far: &mut Far, position: u32) -> Result<Option<NodeId>, NoMemory>
+pub(crate) fn take_step(far: &mut Far, position: u32) -> Result<Option<NodeId>, NoMemory>
     requires sound { (s : Shown) × FarSound s far.old }
     requires next { (pair : JoiningState) × (a : SetState) × (b : SetState)
         × IsFreshPair far.old pair a b × IsNext pair (length a.positions) position }

@@ -5,10 +5,12 @@ use Rattle.cb_types.specs.declared.job.Job.{Job}
 use Rattle.cb_types.specs.declared.reply.Reply.{Reply}
 use Rattle.cb_world.specs.declared.shown.Shown.{Shown}
 use Rattle.cb_world.specs.FarState.{FarState}
+use Rattle.cb_world.specs.OpenWrites.{AreOpen}
 use Rattle.cb_world.specs.Plain.{Words}
 use Rattle.cb_world.specs.Seats.{SeatState}
 use Rattle.cb_world.specs.Sound.{Sound}
 use Rattle.cb_world.specs.World.{ArePinned, IsKnown}
+use Rattle.cb_world.proofs.Laws.{open_same}
 use Rattle.cb_core.specs.FarJobs.{FarLacks, FarStep}
 use Rattle.cb_core.specs.Jobs.{IsJob}
 use Rattle.cb_core.specs.Parts.{Holding}
@@ -26,13 +28,20 @@ known_far x far new s k sound = record {
   shows = k.shows;
   hots = k.hots;
   sound = sound;
-  here = k.here;
 }
 
 known_after : (a b : Holding Words) (s : Shown) → b.desk ≡ a.desk → IsKnown a.desk a.far s
     → Sound s b.far → IsKnown b.desk b.far s
 known_after a b s same k sound =
     subst (λ (x : Words). IsKnown x b.far s) (sym same) (known_far a.desk a.far b.far s k sound)
+
+-- and the open writes of seats stay open
+open_after : (a b : Holding Words) (s : Shown) (seats : List SeatState) → b.desk ≡ a.desk
+    → IsKnown a.desk a.far s → Sound s b.far → AreOpen a.desk a.far seats
+    → AreOpen b.desk b.far seats
+open_after a b s seats same k sound ongoing =
+    subst (λ (x : Words). AreOpen x b.far seats) (sym same)
+    (open_same a.desk a.far b.far s seats k (known_far a.desk a.far b.far s k sound) ongoing)
 
 -- what a change of the far state alone comes to
 arrives_far : (c : Config) (seats : List SeatState) (a b : Holding Words) (Z : Type 0)
@@ -46,6 +55,7 @@ arrives_far c seats a b Z good same x z = record {
     shown = good.shown;
     known = known_after a b good.shown same good.known x.sound;
     pinned = subst (λ (x : Words). ArePinned x seats) (sym same) good.pinned;
+    ongoing = open_after a b good.shown seats same good.known x.sound good.ongoing;
   };
   rises = x.stays.rises;
 }
@@ -68,6 +78,8 @@ far_part c seats job ok holds a b r good (ran, step) =
         known_after a b s ran.0 k
             ((far_job job).keeps c s a.far b.far r ok good.configured k.sound step).sound,
         (far_job job).now holds c s a.far b.far r ok good.configured k.sound step,
+        λ others ongoing. open_after a b s others ran.0 k
+            ((far_job job).keeps c s a.far b.far r ok good.configured k.sound step).sound ongoing,
       ),
     )
 

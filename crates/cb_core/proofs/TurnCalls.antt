@@ -4,7 +4,7 @@ use Rattle.cb_member.specs.declared.names.NodeId.{NodeId}
 use Rattle.cb_types.specs.declared.job.Job.{Job}
 use Rattle.cb_types.specs.declared.job.Job.TheVariants as job
 use Rattle.cb_types.specs.declared.request.Request.{Request}
-use Rattle.cb_types.specs.declared.request.Request.TheVariants.{Make, Read, Write, Free, Filter, Evict, Begin, Ship, Commit, Abort, Pair, Patch, Merge, Part, Rebuild, Crash, Join}
+use Rattle.cb_types.specs.declared.request.Request.TheVariants.{Make, Read, Write, Free, Filter, Evict, Begin, Ship, Commit, Abort, Pair, Patch, Merge, Part, Compact, Rebuild, Crash, Join}
 use Rattle.cb_types.specs.declared.reply.Reply.{Reply}
 use Rattle.cb_types.specs.Table.{IsReplyOf}
 use Rattle.cb_world.specs.declared.shown.Shown.{Shown}
@@ -232,6 +232,9 @@ merge_turn = far_turn job.Merge Merge (λ a b q x. x) (λ q x. x)
 
 pub part_turn : IsQuiet job.Part Part
 part_turn = far_turn job.Part Part (λ a b q x. x) (λ q x. x)
+
+pub compact_turn : IsQuiet job.Compact Compact
+compact_turn = far_turn job.Compact Compact (λ a b q x. x) (λ q x. x)
 
 pub rebuild_turn : IsQuiet job.Rebuild Rebuild
 rebuild_turn = far_turn job.Rebuild Rebuild (λ a b q x. x) (λ q x. x)

@@ -16,6 +16,7 @@ use Rattle.cb_world.specs.Seats.{SeatState}
 use Rattle.cb_world.specs.Sets.{if_committed, set_in}
 use Rattle.cb_world.specs.World.{WorldState}
 use Rattle.cb_compact.proofs.Laws.{part_laws}
+use Rattle.cb_world.proofs.Laws.{open_same}
 use Rattle.cb_core.specs.FarJobs.{FarLacks, FarStep}
 use Rattle.cb_core.specs.Parts.{Holding}
 use Rattle.cb_core.specs.Step.{HoldOn, StillFar, StillFarLacks, StillStops, StillWorks, TurnStep, worn, done}
@@ -64,7 +65,7 @@ begins = inr (inl (record {
 }))
 
 pairs : StillWorks Pair (holds start) answer.NoPair (holds start)
-pairs = (refl, begins, λ s k. (s, k, λ h. refl))
+pairs = (refl, begins, λ s k. (s, k, (λ h. refl), λ seats ongoing. ongoing))
 
 pairs_and_warms : StillWorks Pair (holds start) answer.NoPair (warm start) → ⊥
 pairs_and_warms works = word_is start start works.0
@@ -121,8 +122,13 @@ gives_up : (c : CountsState) → FarStep Part (joined (far c)) (far c) answer.Do
 gives_up c = inr (record { pair = pair; there = refl; reply = refl; state = refl })
 
 hold_on : (c : CountsState) → HoldOn (holds (joined (far c))) (holds (far c))
-hold_on c s k = let keeps = part_laws.keeps s (joined (far c)) (far c) answer.Done k.sound (gives_up c) in
-    (s, known_far (words_are calm hot) (joined (far c)) (far c) s k keeps.sound, keeps.same_now)
+hold_on c s k = let keeps = part_laws.keeps s (joined (far c)) (far c) answer.Done k.sound (gives_up c) in (
+  s,
+  known_far (words_are calm hot) (joined (far c)) (far c) s k keeps.sound,
+  keeps.same_now,
+  λ seats ongoing. open_same (words_are calm hot) (joined (far c)) (far c) s seats k
+      (known_far (words_are calm hot) (joined (far c)) (far c) s k keeps.sound) ongoing,
+)
 
 parts : StillWorks Part (holds (joined start)) answer.Done (holds start)
 parts = (refl, gives_up (counts 0 []), hold_on (counts 0 []))
@@ -130,7 +136,7 @@ parts = (refl, gives_up (counts 0 []), hold_on (counts 0 []))
 -- where no pair is joining
 parts_nothing : StillWorks Part (holds start) answer.NoJoin (holds start)
 parts_nothing =
-    (refl, inl (record { none = refl; reply = refl; state = refl }), λ s k. (s, k, λ h. refl))
+    (refl, inl (record { none = refl; reply = refl; state = refl }), λ s k. (s, k, (λ h. refl), λ seats ongoing. ongoing))
 
 done_is_none : answer.Done ≡ answer.NoJoin → ⊥
 done_is_none e = cc

@@ -12,7 +12,7 @@ use Rattle.cb_span.specs.Contents.{Contents}
 use Rattle.cb_span.specs.declared.temp.Temp.TheVariants.{Hot, Cold}
 use Rattle.cb_types.specs.declared.config.Field.TheVariants.{K, R, Nodes, Frames, Room, Handles, Turns}
 use Rattle.cb_types.specs.declared.handle.SetId.{SetId}
-use Rattle.cb_types.specs.declared.job.Job.TheVariants.{Read, Write, Swap, Compact, Rebuild}
+use Rattle.cb_types.specs.declared.job.Job.TheVariants.{Read, Write, Swap, Rebuild}
 use Rattle.cb_types.specs.declared.reply.Reply.{Reply}
 use Rattle.cb_types.specs.declared.reply.Reply.TheVariants as answer
 use Rattle.cb_types.specs.Config.{IsAccepted}
@@ -23,8 +23,10 @@ use Rattle.cb_world.specs.FarState.{FarState, span_in}
 use Rattle.cb_world.specs.Leaving.{LeavingState}
 use Rattle.cb_world.specs.Memory.{bytes_in, window}
 use Rattle.cb_world.specs.Now.{now, is_gone, broken_set}
+use Rattle.cb_world.specs.OpenWrites.{AreOpen}
 use Rattle.cb_world.specs.Placed.{HasRoom}
 use Rattle.cb_world.specs.Plain.{Words}
+use Rattle.cb_world.specs.Seats.{SeatState}
 use Rattle.cb_world.specs.Sets.{if_committed, set_in}
 use Rattle.cb_world.specs.World.{IsKnown, empty_world}
 use Rattle.cb_world.proofs.Laws.{now_same, empty_world_sound}
@@ -169,7 +171,7 @@ looks_and_warms step = let e : 16390 ≡ 16385 = ap word_of step.1 in omega (ari
 
 -- ---- what every object holds
 same_holds : (a : Holding Words) → HoldOn a a
-same_holds a s k = (s, k, λ h. refl)
+same_holds a s k = (s, k, (λ h. refl), λ seats ongoing. ongoing)
 
 -- words that are lost are not known
 abbrev emptied : Holding Words
@@ -200,6 +202,11 @@ holds_another : (a b : Holding Words) (s t : Shown) (h : ℕ) → IsKnown a.desk
 holds_another a b s t h k l off hold =
     let after = hold s k in
     off (now_same b.desk after.0 t b.far h after.1.shows after.1.sound l.shows l.sound ∙ after.2 h)
+
+-- nor where an open write of a seat does not stay open
+closes_a_write : (a b : Holding Words) (s : Shown) (seats : List SeatState) → IsKnown a.desk a.far s
+    → AreOpen a.desk a.far seats → (AreOpen b.desk b.far seats → ⊥) → HoldOn a b → ⊥
+closes_a_write a b s seats k ongoing off hold = off ((hold s k).3 seats ongoing)
 
 -- ---- an eviction: both objects have pins
 abbrev crowd : Holding Words
@@ -459,9 +466,6 @@ swaps_none = not_far stays (λ e. stays_away e)
   where
     stays_away : answer.Stays ≡ answer.NotHere → ⊥
     stays_away e = cc
-
-no_compaction : StillWorks Compact start answer.Done start → ⊥
-no_compaction works = works.1
 
 -- ---- no memory
 smallest : IsClassOf 1 (record { index = 0 })

@@ -13,7 +13,7 @@ use Rattle.cb_world.specs.Plain.{Words}
 use Rattle.cb_world.specs.Seats.{SeatState}
 use Rattle.cb_world.specs.Sound.{Sound}
 use Rattle.cb_world.specs.World.{WorldState, IsKnown, IsConfigured, IsSoundWorld}
-use Rattle.cb_world.proofs.Laws.{recounted}
+use Rattle.cb_world.proofs.Laws.{open_same, recounted}
 use Rattle.cb_core.specs.declared.event.Event.TheVariants as event
 use Rattle.cb_core.specs.Jobs.{IsJob}
 use Rattle.cb_core.specs.Parts.{Holding, NeverLacks, WithRoom}
@@ -167,6 +167,8 @@ counted_good w job sound = record {
   shown = sound.shown;
   known = known_counted w job sound.shown sound.known;
   pinned = sound.pinned;
+  ongoing = open_same w.desk w.far (counted w.far job) sound.shown w.seats sound.known
+      (known_counted w job sound.shown sound.known) sound.ongoing;
 }
 
 arrived_sound : (w : WorldState) (job : Job) (b : Holding Words) (Z : Type 0) → IsSoundWorld w
@@ -179,6 +181,8 @@ arrived_sound w job b Z sound few z = record {
   shown = z.good.shown;
   known = z.good.known;
   pinned = z.good.pinned;
+  ongoing = z.good.ongoing;
+  one = sound.one;
   counted = counted_rises w.far (counted w.far job) b.far (job_index job) sound.counted few
       (job_below job) refl (rises_more 64 (2 ^ 20) (counted w.far job) b.far (omega arith) z.rises);
 }

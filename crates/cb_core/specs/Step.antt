@@ -6,6 +6,8 @@ use Rattle.cb_types.specs.declared.job.Job.{Job}
 use Rattle.cb_types.specs.declared.job.Job.TheVariants.{Make, Read, Write, Free, Swap, Filter, Evict, Begin, Ship, Commit, Abort, Crash}
 use Rattle.cb_types.specs.declared.reply.Reply.{Reply}
 use Rattle.cb_types.specs.declared.reply.Reply.TheVariants as answer
+use Rattle.cb_world.specs.Seats.{SeatState}
+use Rattle.cb_world.specs.OpenWrites.{AreOpen}
 use Rattle.cb_world.specs.declared.homes.Home.{Home}
 use Rattle.cb_world.specs.declared.shown.Shown.{Shown}
 use Rattle.cb_world.specs.FarState.{FarState}
@@ -63,10 +65,11 @@ StillDecline h at count a declined b = (declined
     × (b ≡ a)
 
 -- What every object holds stays: who knows all of the words and the far state before knows all after,
--- and it is the same.
+-- and it is the same; and the open writes of seats stay open.
 abbrev pub HoldOn : Holding Words → Holding Words → Type 0
 HoldOn a b = (s : Shown) → IsKnown a.desk a.far s
     → (t : Shown) × IsKnown b.desk b.far t × ((h : ℕ) → now t b.far h ≡ now s a.far h)
+    × ((seats : List SeatState) → AreOpen a.desk a.far seats → AreOpen b.desk b.far seats)
 
 abbrev pub StillEvict : Holding Words → Reply → Holding Words → Type 0
 StillEvict a r b = IsEvictStep a.desk b.desk a.far b.far r × HoldOn a b
