@@ -166,7 +166,7 @@ joined = record (empty_world small) {
 }
 
 a_join : LineStep 1 None (Join (record { n = node })) (empty_world small) (Up (record { n = node })) joined
-a_join = done (omega arith) (refl, is_up refl refl refl, λ s k. (s, k, λ h. refl)) refl
+a_join = done (omega arith) (refl, is_up refl refl refl, λ s k. (s, k, λ h. refl, λ seats open_writes. open_writes)) refl
 
 -- one that is not counted
 uncounted : LineStep 1 None (Join (record { n = node })) (empty_world small) (Up (record { n = node }))

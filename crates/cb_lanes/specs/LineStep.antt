@@ -105,7 +105,8 @@ ObjectStep seat None request w r new = (r ≡ answer.Unmade) × (new ≡ w)
 ObjectStep seat (Some h) request w r new = CallStep seat h request w r new
 
 -- a line with a job of its own is a turn, and one that has none is on an object
-abbrev pub OtherStep : ℕ → Option ℕ → Request → Option Job → WorldState → Reply → WorldState → Type 0
+abbrev pub OtherStep : ℕ → Option ℕ → Request → Option Job → WorldState → Reply → WorldState
+    → Type 0
 OtherStep seat handle request (Some job) w r new = Step w (Turn seat job) r new
 OtherStep seat handle request None w r new = ObjectStep seat handle request w r new
 
