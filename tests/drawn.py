@@ -9,7 +9,7 @@ class Drawn:
     """Lines of all verbs, drawn. In between come sets that are live at few positions, so that pairs are often found."""
 
     WEIGHTS = {"make": 4, "read": 6, "write": 4, "free": 6, "pin": 3, "unpin": 3, "peek": 1, "leave": 2, "filter": 4, "evict": 2,
-               "begin": 2, "ship": 8, "commit": 3, "abort": 1, "pair": 6, "patch": 22, "merge": 6, "part": 1, "compact": 4, "rebuild": 4,
+               "begin": 2, "ship": 8, "commit": 3, "abort": 1, "pair": 3, "patch": 6, "merge": 3, "part": 1, "compact": 4, "rebuild": 4,
                "crash": 0.3, "join": 1}
 
     def __init__(self, k, nodes, seed):
@@ -49,6 +49,12 @@ class Drawn:
             if (name, lane) not in live:
                 self.say(lane, f"free {name}")
 
+    def one_pair(self):
+        self.say(self.draw.randint(1, 3), "pair")
+        for _ in range(self.draw.randint(0, self.k + 5)):
+            self.say(self.draw.randint(1, 3), "patch")
+        self.say(self.draw.randint(1, 3), self.draw.choice(("merge", "merge", "merge", "patch", "part")))
+
     def one_loss(self):
         node = self.draw.randrange(self.nodes)
         self.say(1, f"crash {node}")
@@ -57,4 +63,4 @@ class Drawn:
         self.say(3, f"join {node}")
 
     def block(self):
-        self.draw.choices((self.one_line, self.one_set, self.one_loss), (30, 2, 1))[0]()
+        self.draw.choices((self.one_line, self.one_set, self.one_pair, self.one_loss), (30, 4, 2, 1))[0]()
