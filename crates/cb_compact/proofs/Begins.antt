@@ -15,7 +15,7 @@ use Rattle.cb_world.specs.Merged.{AreTaken, takes}
 use Rattle.cb_world.specs.Now.{now}
 use Rattle.cb_world.specs.Sound.{Sound}
 use Rattle.cb_world.proofs.Laws.{begun_whole, pair_now, reserved_is_other}
-use Rattle.cb_compact.specs.declared.reply.Reply.{Reply}
+use Rattle.cb_types.specs.declared.reply.Reply.{Reply}
 use Rattle.cb_compact.specs.Pairing.{BeginStep, IsFirstPair, begun_pair, live_positions, with_pair}
 use Rattle.cb_compact.proofs.Finding.{passing, passing_in, passing_more, passing_out}
 use Rattle.cb_compact.proofs.Keeping.{Keeps, local_sound}

@@ -25,7 +25,7 @@ use Rattle.cb_world.specs.Sets.{Kept, if_committed, set_in}
 use Rattle.cb_world.specs.Sound.{Sound}
 use Rattle.cb_world.specs.Stored.{AreThere, all_dropped}
 use Rattle.cb_world.proofs.Laws.{commit_now, committed_whole, drop_count, drop_elsewhere, drop_fewer, drop_there, home_same, room_dropped, set_same}
-use Rattle.cb_compact.specs.declared.reply.Reply.{Reply}
+use Rattle.cb_types.specs.declared.reply.Reply.{Reply}
 use Rattle.cb_compact.specs.MergeStep.{MergeStep, Merges, merged_set, replaced_shards, with_merged}
 use Rattle.cb_compact.specs.Merging.{IsReadyToMerge}
 use Rattle.cb_compact.specs.Rehoming.{AreRehomed}

@@ -24,7 +24,7 @@ use Rattle.cb_world.specs.Merged.{AreTaken, takes}
 use Rattle.cb_world.specs.Sets.{set_in}
 use Rattle.cb_world.specs.Stored.{AreThere, all_dropped}
 use Rattle.cb_world.proofs.Laws.{home_same, live_names, set_there, shards_there}
-use Rattle.cb_compact.specs.declared.reply.Reply.TheVariants as answer
+use Rattle.cb_types.specs.declared.reply.Reply.TheVariants as answer
 use Rattle.cb_compact.specs.MergeStep.{IsMerged, merged_set, moved_count, replaced_shards}
 use Rattle.cb_compact.specs.Pairing.{numbered}
 use Rattle.cb_compact.specs.Merging.{AreTables, IsReadyToMerge}

@@ -3,15 +3,32 @@ mod Dropping
 mod Homing
 mod Finding
 mod Looked
-mod Keeping
+pub mod Keeping
 mod Choosing
-mod Begins
+pub mod Begins
 mod Merged
 mod Committing
-mod Committed
-mod OneStep
+pub mod Committed
+pub mod OneStep
+mod NowDropped
+mod NowGone
+mod NowEnds
+pub mod NowKept
+pub mod NowLaws
 mod Parity
 mod Ready
 mod Taken
+mod TableExists
+pub mod FarLaws
+mod Stays
+mod Fixed
+pub mod FarTurns
 mod WorkedPair
 mod WorkedMerge
+mod WorkedGround
+mod WorkedBegin
+mod WorkedStanding
+mod WorkedPatch
+mod WorkedCommit
+mod WorkedNow
+pub mod Laws

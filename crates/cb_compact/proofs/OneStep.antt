@@ -20,7 +20,7 @@ use Rattle.cb_world.specs.Reserved.{put_shards}
 use Rattle.cb_world.specs.SetWord.{IsWordOf}
 use Rattle.cb_world.specs.Sound.{Sound}
 use Rattle.cb_world.proofs.Laws.{join_is_merged, pair_now, room_put, stepped_whole}
-use Rattle.cb_compact.specs.declared.reply.Reply.{Reply}
+use Rattle.cb_types.specs.declared.reply.Reply.{Reply}
 use Rattle.cb_compact.specs.Standing.{IsFreshPair}
 use Rattle.cb_compact.specs.Steps.{IsMergedRow, IsNext, PatchStep, TakesStep, has_step, shard_beside, with_stepped}
 use Rattle.cb_compact.proofs.Keeping.{Keeps, dropped_given, fresh_is, keeps_all, local_sound, parted_keeps}

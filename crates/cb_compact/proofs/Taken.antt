@@ -10,7 +10,7 @@ use Rattle.cb_world.specs.FarState.{FarState}
 use Rattle.cb_world.specs.FarSound.{FarSound}
 use Rattle.cb_world.specs.Joining.{JoiningState}
 use Rattle.cb_world.specs.JoinSteps.{with_step}
-use Rattle.cb_compact.specs.declared.reply.Reply.TheVariants as answer
+use Rattle.cb_types.specs.declared.reply.Reply.TheVariants as answer
 use Rattle.cb_compact.specs.Deltas.{IsReady, PutsMerged}
 use Rattle.cb_compact.specs.Standing.{IsFreshPair}
 use Rattle.cb_compact.specs.Steps.{IsFull, IsNext, IsOneStep, shard_beside, with_stepped}

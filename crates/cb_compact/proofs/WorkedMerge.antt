@@ -6,8 +6,8 @@ use Rattle.cb_world.specs.declared.homes.Home.{Home}
 use Rattle.cb_types.specs.declared.handle.SetId.{SetId}
 use Rattle.cb_world.specs.FarState.{FarState}
 use Rattle.cb_world.specs.Homes.{home_at}
-use Rattle.cb_compact.specs.declared.reply.Reply.{Reply}
-use Rattle.cb_compact.specs.declared.reply.Reply.TheVariants as answer
+use Rattle.cb_types.specs.declared.reply.Reply.{Reply}
+use Rattle.cb_types.specs.declared.reply.Reply.TheVariants as answer
 use Rattle.cb_world.specs.Joining.{JoiningState}
 use Rattle.cb_world.specs.JoinSteps.{with_step}
 use Rattle.cb_compact.specs.MergeStep.{IsMerged, IsUnfinished, merged_positions, merged_set, moved_count, replaced_shards}
@@ -20,7 +20,7 @@ use Rattle.cb_compact.proofs.WorkedPair.{begun, dead, live_with, on_node, set_a,
 abbrev new_at : ℕ → ℕ → Shard
 new_at n key = record { node = record { n = n }; incarnation = 0; key = key }
 
-abbrev all_done : JoiningState
+abbrev pub all_done : JoiningState
 all_done = with_step (with_step begun 1 (new_at 1 6)) 2 (new_at 2 7)
 
 pub both_undone : undone begun 2 ≡ 1 ∷ 2 ∷ []

@@ -1,8 +1,8 @@
 -- What the begin of a pair ends in.
 use Rattle.cb_compact.specs.declared.beginning.Begun.{Begun}
 use Rattle.cb_compact.specs.declared.beginning.Begun.TheVariants as begun
-use Rattle.cb_compact.specs.declared.reply.Reply.{Reply}
-use Rattle.cb_compact.specs.declared.reply.Reply.TheVariants as answer
+use Rattle.cb_types.specs.declared.reply.Reply.{Reply}
+use Rattle.cb_types.specs.declared.reply.Reply.TheVariants as answer
 use Rattle.cb_compact.specs.Pairing.{numbered}
 
 -- what is answered then

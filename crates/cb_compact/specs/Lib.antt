@@ -2,6 +2,8 @@ pub mod Pairing
 pub mod Standing
 pub mod Steps
 pub mod MergeStep
+pub mod NowStep
+pub mod NowGoing
 pub mod Candidates
 pub mod Deltas
 pub mod Looking

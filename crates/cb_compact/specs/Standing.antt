@@ -3,8 +3,8 @@ use Rattle.std.specs.Prelude.{◌≡◌, ◌⊎◌, ℕ, List, None, Some}
 use Rattle.cb_member.specs.declared.names.Shard.{Shard}
 use Rattle.cb_set.specs.SetState.{SetState}
 use Rattle.cb_set.specs.Lost.{IsWhole}
-use Rattle.cb_compact.specs.declared.reply.Reply.{Reply}
-use Rattle.cb_compact.specs.declared.reply.Reply.TheVariants as answer
+use Rattle.cb_types.specs.declared.reply.Reply.{Reply}
+use Rattle.cb_types.specs.declared.reply.Reply.TheVariants as answer
 use Rattle.cb_world.specs.Joining.{JoiningState}
 use Rattle.cb_world.specs.Reserved.{put_shards}
 use Rattle.cb_world.specs.Sets.{set_in}

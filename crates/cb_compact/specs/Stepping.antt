@@ -2,8 +2,8 @@
 use Rattle.std.specs.Prelude.{ℕ, Option, None, Some}
 use Rattle.cb_member.specs.declared.names.NodeId.{NodeId}
 use Rattle.cb_set.specs.SetState.{SetState}
-use Rattle.cb_compact.specs.declared.reply.Reply.{Reply}
-use Rattle.cb_compact.specs.declared.reply.Reply.TheVariants as answer
+use Rattle.cb_types.specs.declared.reply.Reply.{Reply}
+use Rattle.cb_types.specs.declared.reply.Reply.TheVariants as answer
 use Rattle.cb_world.specs.Joining.{JoiningState}
 use Rattle.cb_world.specs.FarState.{FarState}
 use Rattle.cb_compact.specs.Steps.{IsFull, IsOneStep}

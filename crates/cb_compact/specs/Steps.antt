@@ -5,8 +5,8 @@ use Rattle.cb_gf256.specs.Rows.{row_at}
 use Rattle.cb_member.specs.declared.names.Shard.{Shard}
 use Rattle.cb_node.specs.NodesState.{held, with_row}
 use Rattle.cb_set.specs.SetState.{SetState, parities}
-use Rattle.cb_compact.specs.declared.reply.Reply.{Reply}
-use Rattle.cb_compact.specs.declared.reply.Reply.TheVariants as answer
+use Rattle.cb_types.specs.declared.reply.Reply.{Reply}
+use Rattle.cb_types.specs.declared.reply.Reply.TheVariants as answer
 use Rattle.cb_world.specs.Joining.{JoiningState}
 use Rattle.cb_world.specs.JoinSteps.{with_step}
 use Rattle.cb_world.specs.Merged.{takes, IsMergedWord}

@@ -10,11 +10,10 @@ ghost use Rattle.cb_compact.specs.Begun.{reply_of};
 ghost use Rattle.cb_compact.specs.Pairing.{BeginStep, begun_pair, live_positions, with_pair};
 
 use crate::candidates::find_pair;
-use crate::reply::Reply;
 use cb_code::coefficients;
 use cb_member::Shard;
 use cb_set::SpanSet;
-use cb_types::{NoMemory, SetId};
+use cb_types::{NoMemory, Reply, SetId};
 use cb_world::{Desk, Far, Joining};
 use std::alloc::Global;
 

@@ -4,17 +4,17 @@
 
 mod beginning;
 mod candidates;
+mod compacting;
 mod deltas;
 mod looking;
 mod merging;
 mod parting;
 mod rehoming;
-mod reply;
 mod stepping;
 mod steps;
 
 pub use beginning::compact_begin;
+pub use compacting::compact_now;
 pub use merging::compact_commit;
 pub use parting::compact_part;
-pub use reply::Reply;
 pub use stepping::compact_step;

@@ -18,13 +18,12 @@ ghost use Rattle.cb_compact.specs.Steps.{undone};
 use crate::looking::{Look, how_it_stands};
 use crate::parting::give_up;
 use crate::rehoming::rehome;
-use crate::reply::Reply;
 use crate::stepping::{data_count, next_position};
 use crate::steps::undone_steps;
 use cb_member::Shard;
 use cb_node::Nodes;
 use cb_set::SpanSet;
-use cb_types::{NoMemory, Positions, SetId};
+use cb_types::{NoMemory, Positions, Reply, SetId};
 use cb_world::{Desk, Far, Joining, KeptSet, Sets};
 use std::alloc::Global;
 
@@ -276,7 +275,7 @@ fn next_set(far: &Far) -> u64
 }
 
 /// Makes one set of the joining pair, whose steps are all done.
-fn merge(far: &mut Far) -> Result<Reply, NoMemory>
+pub(crate) fn merge(far: &mut Far) -> Result<Reply, NoMemory>
     requires ready { (s : Shown) × (pair : JoiningState) × (a : SetState) × (b : SetState)
         × IsReadyToMerge s far.old pair a b }
     requires sets { far.old.counts.sets < 2 ^ 62 }

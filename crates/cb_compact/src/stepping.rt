@@ -15,11 +15,10 @@ ghost use Rattle.cb_compact.specs.Steps.{AreDone, IsNext, PatchStep, TakesStep, 
 use crate::deltas::put_merged;
 use crate::looking::{Look, how_it_stands};
 use crate::parting::give_up;
-use crate::reply::Reply;
 use crate::steps::{next_step, set_step};
 use cb_member::{NodeId, Shard};
 use cb_node::PutAnswer;
-use cb_types::{NoMemory, SetId};
+use cb_types::{NoMemory, Reply, SetId};
 use cb_world::{Desk, Far};
 
 /// How many data positions the sets of the joining pair have.
@@ -106,7 +105,7 @@ fn note_step(far: &mut Far, position: u32, shard: Shard)
 }
 
 /// Takes the step of a position of the joining pair, or answers a's node there, which is full.
-fn take_step(far: &mut Far, position: u32) -> Result<Option<NodeId>, NoMemory>
+pub(crate) fn take_step(far: &mut Far, position: u32) -> Result<Option<NodeId>, NoMemory>
     requires sound { (s : Shown) × FarSound s far.old }
     requires next { (pair : JoiningState) × (a : SetState) × (b : SetState)
         × IsFreshPair far.old pair a b × IsNext pair (length a.positions) position }

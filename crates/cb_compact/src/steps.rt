@@ -34,7 +34,7 @@ fn has_step(pair: &Joining, k: u32, position: u32) -> bool
 }
 
 /// Whether the position's step is still to be done.
-fn is_undone(pair: &Joining, k: u32, position: u32) -> bool
+pub(crate) fn is_undone(pair: &Joining, k: u32, position: u32) -> bool
     requires { position < length pair.now.steps }
     ensures { result ≡ is_undone pair.now k position }
 {

@@ -1,9 +1,10 @@
 -- A turn is counted, and then does its job.
-use Rattle.std.proofs.Common.{◌≡◌, ℕ, ◌^◌, ◌<◌, List, Result, sym, subst}
+use Rattle.std.proofs.Common.{◌≡◌, ℕ, ◌^◌, ◌<◌, List, [], Result, sym, subst, arith}
 use Rattle.std.specs.Prelude.{IfOk, OnErr}
 use Rattle.cb_member.specs.declared.no_memory.NoMemory.{NoMemory}
 use Rattle.cb_types.specs.declared.config.Config.{Config}
 use Rattle.cb_types.specs.declared.job.Job.{Job}
+use Rattle.cb_types.specs.declared.job.Job.TheVariants.{Make, Read, Write, Free, Swap, Filter, Evict, Begin, Ship, Commit, Abort, Pair, Patch, Merge, Part, Compact, Rebuild, Crash, Join}
 use Rattle.cb_types.specs.declared.reply.Reply.{Reply}
 use Rattle.cb_world.specs.declared.event.Event.{Event}
 use Rattle.cb_world.specs.declared.shown.Shown.{Shown}
@@ -13,8 +14,30 @@ use Rattle.cb_world.proofs.Laws.{recounted_sound}
 use Rattle.cb_types.specs.Jobs.{job_index}
 use Rattle.cb_world.specs.Counts.{with_turn}
 use Rattle.cb_core.specs.Parts.{Holding}
-use Rattle.cb_core.specs.Turned.{Does, Stops, Turned, done, Stopped, counted}
+use Rattle.cb_core.specs.Turned.{AtFar, AtFarLacks, Does, Stops, Turned, done, Stopped, counted}
 use Rattle.cb_core.proofs.Composing.{err_map, if_map}
+
+-- there are nineteen kinds
+pub job_below : (job : Job) → job_index job < 19
+job_below (Make bytes) = omega arith
+job_below (Read handle) = omega arith
+job_below (Write handle at bytes) = omega arith
+job_below (Free handle) = omega arith
+job_below (Swap handle) = omega arith
+job_below (Filter handle) = omega arith
+job_below Evict = omega arith
+job_below Begin = omega arith
+job_below Ship = omega arith
+job_below Commit = omega arith
+job_below Abort = omega arith
+job_below Pair = omega arith
+job_below Patch = omega arith
+job_below Merge = omega arith
+job_below Part = omega arith
+job_below Compact = omega arith
+job_below Rebuild = omega arith
+job_below (Crash node) = omega arith
+job_below (Join node) = omega arith
 
 pub counted_sound : (s : Shown) (far mid : FarState) (job : Job) → mid ≡ counted far job → Sound s far
     → Sound s mid
@@ -50,3 +73,19 @@ module _ {D : Type 0} (run : D → List Event → D → Type 0) (shows : D → S
         stops = subst (λ (f : FarState).
             Stops run shows lacks c job (record { desk = a.desk; far = f }) b) is x;
       })
+
+-- an operation on the far state alone
+module _ {D : Type 0} (run : D → List Event → D → Type 0) (a b : Holding D)
+    (result : Result Reply NoMemory) (same : b.desk ≡ a.desk) (none : run a.desk [] a.desk) where
+  runs_none : run a.desk [] b.desk
+  runs_none = subst (λ (d : D). run a.desk [] d) (sym same) none
+
+  pub at_far : (step : FarState → FarState → Reply → Type 0)
+      → IfOk result (λ r. step a.far b.far r) → IfOk result (λ r. AtFar run step a r b)
+  at_far step x = if_map (λ r. AtFar run step a r b) (λ r. step a.far b.far r) result x
+      (λ r y. (runs_none, y))
+
+  pub at_far_lacks : (lacks : FarState → FarState → Type 0) → OnErr result (lacks a.far b.far)
+      → OnErr result (AtFarLacks run lacks a b)
+  at_far_lacks lacks x = err_map (AtFarLacks run lacks a b) (lacks a.far b.far) result x
+      (λ y. (runs_none, y))

@@ -1,13 +1,12 @@
 -- No event makes the epoch fall: a crash and a join that take place begin the next one, and all else
 -- leaves the members as they are.
 use Rattle.std.proofs.Common.{◌≡◌, ℕ, ◌+◌, ◌≤◌, List, [], ◌∷◌, length, ap, arith, inl, inr}
-use Rattle.cb_member.specs.declared.names.NodeId.{NodeId}
 use Rattle.cb_member.specs.Membership.{Membership}
 use Rattle.cb_ptr.specs.declared.word.State.{State}
 use Rattle.cb_ptr.specs.declared.word.State.TheVariants as state
 use Rattle.cb_ptr.specs.Word.{state_of}
 use Rattle.cb_types.specs.declared.job.Job.{Job}
-use Rattle.cb_types.specs.declared.job.Job.TheVariants.{Make, Read, Write, Free, Swap, Filter, Evict, Begin, Ship, Commit, Abort, Pair, Patch, Merge, Part, Compact, Rebuild, Crash, Join}
+use Rattle.cb_types.specs.declared.job.Job.TheVariants.{Make, Read, Write, Free, Swap, Filter, Evict, Begin, Ship, Commit, Abort}
 use Rattle.cb_types.specs.declared.reply.Reply.{Reply}
 use Rattle.cb_world.specs.FarState.{FarState}
 use Rattle.cb_world.specs.Plain.{Words}
@@ -20,18 +19,16 @@ use Rattle.cb_evict.specs.BeginStep.{is_leaving, few_spans, few_nodes, begins}
 use Rattle.cb_evict.specs.CommitStep.{no_batch as none_to_commit, short, committed}
 use Rattle.cb_evict.specs.EvictStep.{IsEvictStep, few_spans as few_loose, few_nodes as few_roomy, made}
 use Rattle.cb_filter.specs.FilterStep.{refused as refuses, cools, without_slot, moves}
-use Rattle.cb_rebuild.specs.RebuildStep.{RebuildStep, Restores, surveyed}
-use Rattle.cb_set.specs.SetState.{SetState}
 use Rattle.cb_swapin.proofs.Laws.{step_cases, swapped_kept}
 use Rattle.cb_core.specs.declared.event.Atomic.TheVariants.{Load, Pin, Unpin}
 use Rattle.cb_core.specs.declared.event.Event.{Event}
 use Rattle.cb_core.specs.declared.event.Event.TheVariants as event
-use Rattle.cb_core.specs.Membership.{CrashTurn, crashed, is_down, JoinTurn, joined, is_up}
 use Rattle.cb_core.specs.Parts.{Holding, NeverDeclined}
 use Rattle.cb_core.specs.Pinning.{PinStep, scope_full, refused, taken, UnpinStep, not_pinned, given}
-use Rattle.cb_core.specs.Step.{Leads, StillMake, StillRead, StillWrite, StillFree, StillFind, StillDecline, StillEvict, StillRoom, StillSwap, StillBring, StillFilter, StillBegin, StillShip, StillCommit, StillAbort, StillRebuild, StillWorks, TurnStep, worn, done, Step}
+use Rattle.cb_core.specs.Step.{Leads, StillMake, StillRead, StillWrite, StillFree, StillFind, StillDecline, StillEvict, StillRoom, StillSwap, StillBring, StillFilter, StillBegin, StillShip, StillCommit, StillAbort, StillWorks, TurnStep, worn, done, Step}
 use Rattle.cb_core.specs.Turned.{counted}
 use Rattle.cb_core.proofs.Changes.{free_leaves}
+use Rattle.cb_core.proofs.FarJobs.{far_job}
 use Rattle.cb_core.proofs.PartsStay.{Leaves, room_same, where_same, brings_same}
 
 abbrev members_of : Holding Words → Membership
@@ -136,18 +133,6 @@ abort_same : Stay StillAbort
 abort_same a b r (none_to_abort n same, hold) = far_same a b n.state
 abort_same a b r (given_up g back, hold) = ap (λ (f : FarState). f.members) g.state
 
-rebuild_same : Stay StillRebuild
-rebuild_same a b r (same, step, hold) = by step
-  where
-    restored : (id : ℕ) → (set : SetState) → Restores (surveyed a.far id) id set b.far r
-        → members_of b ≡ members_of a
-    restored id set (inl z) = ap (λ (f : FarState). f.members) z.same
-    restored id set (inr z) = ap (λ (f : FarState). f.members) z.state
-
-    by : RebuildStep a.far b.far r → members_of b ≡ members_of a
-    by (inl none) = ap (λ (f : FarState). f.members) none.state
-    by (inr z) = restored z.id z.set z.restores
-
 -- ---- a job
 -- the epoch did not fall
 abbrev Rises : FarState → FarState → Type 0
@@ -155,21 +140,6 @@ Rises far new = far.members.epoch ≤ new.members.epoch
 
 rises_by : (far new : FarState) → new.members ≡ far.members → Rises far new
 rises_by far new same = let e = ap (λ (m : Membership). m.epoch) same in omega (arith, e)
-
-rises_one : (far new : FarState) → new.members.epoch ≡ far.members.epoch + 1 → Rises far new
-rises_one far new e = omega (arith, e)
-
-crash_rises : (a b : Holding Words) (r : Reply) (node : NodeId) → CrashTurn node a.far r b.far
-    → Rises a.far b.far
-crash_rises a b r node (crashed up reply state) =
-    rises_one a.far b.far (ap (λ (f : FarState). f.members.epoch) state)
-crash_rises a b r node (is_down down reply state) = rises_by a.far b.far (far_same a b state)
-
-join_rises : (a b : Holding Words) (r : Reply) (node : NodeId) → JoinTurn node a.far r b.far
-    → Rises a.far b.far
-join_rises a b r node (joined down reply state) =
-    rises_one a.far b.far (ap (λ (f : FarState). f.members.epoch) state)
-join_rises a b r node (is_up up reply state) = rises_by a.far b.far (far_same a b state)
 
 works_rises : (job : Job) (a b : Holding Words) (r : Reply) → StillWorks job a r b
     → Rises a.far b.far
@@ -190,14 +160,7 @@ works_rises Begin a b r step = rises_by a.far b.far (begin_same a b r step)
 works_rises Ship a b r step = rises_by a.far b.far (ship_same a b r step)
 works_rises Commit a b r step = rises_by a.far b.far (commit_same a b r step)
 works_rises Abort a b r step = rises_by a.far b.far (abort_same a b r step)
-works_rises Rebuild a b r step = rises_by a.far b.far (rebuild_same a b r step)
-works_rises (Crash node) a b r step = crash_rises a b r node step.1
-works_rises (Join node) a b r step = join_rises a b r node step.1
-works_rises Pair a b r step = absurd step
-works_rises Patch a b r step = absurd step
-works_rises Merge a b r step = absurd step
-works_rises Part a b r step = absurd step
-works_rises Compact a b r step = absurd step
+works_rises job a b r step = (far_job job).rises a.far b.far r step.1
 
 -- ---- events
 turn_rises : (w new : WorldState) (job : Job) (r : Reply) → TurnStep job w r new

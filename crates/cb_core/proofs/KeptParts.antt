@@ -8,6 +8,7 @@ use Rattle.cb_world.specs.Counts.{with_turn}
 use Rattle.cb_world.specs.FarState.{FarState}
 use Rattle.cb_world.specs.Plain.{Words}
 use Rattle.cb_world.specs.Seats.{SeatState}
+use Rattle.cb_world.specs.OpenWrites.{AreOpen}
 use Rattle.cb_world.specs.World.{IsKnown, ArePinned, AreCounted, IsConfigured}
 pub use Rattle.cb_world.proofs.Laws.{Rises, rises_more, rises_then, StaysIf}
 use Rattle.cb_core.specs.Parts.{Holding}
@@ -19,6 +20,7 @@ pub record IsGood (c : Config) (seats : List SeatState) (a : Holding Words) : Ty
   pub shown : Shown
   pub known : IsKnown a.desk a.far shown
   pub pinned : ArePinned a.desk seats
+  pub ongoing : AreOpen a.desk a.far seats
 
 -- what a part comes to: this holds of it, all is known, and the numbers rose by at most n
 pub record Arrives (c : Config) (seats : List SeatState) (n : ℕ) (a b : Holding Words) (Z : Type 0)
@@ -74,12 +76,13 @@ arrives_same c seats n a b Z good same z = record {
   });
 }
 
--- a part after which all is known, that keeps the pins and leaves the far state as it is
--- configured
+-- a part after which all is known, that keeps the pins and the open writes, and leaves the far state
+-- as it is configured
 pub arrives_stays : (c : Config) (seats : List SeatState) (n : ℕ) (a b : Holding Words) (t : Shown)
     (Z : Type 0) → IsGood c seats a → StaysIf c n a.far b.far → IsKnown b.desk b.far t
-    → b.desk.settings ≡ a.desk.settings → ArePinned b.desk seats → Z → Arrives c seats n a b Z
-arrives_stays c seats n a b t Z good stays known settings pinned z =
+    → b.desk.settings ≡ a.desk.settings → ArePinned b.desk seats → AreOpen b.desk b.far seats → Z
+    → Arrives c seats n a b Z
+arrives_stays c seats n a b t Z good stays known settings pinned ongoing z =
     let x = stays good.configured in record {
       is = z;
       good = record {
@@ -88,6 +91,7 @@ arrives_stays c seats n a b t Z good stays known settings pinned z =
         shown = t;
         known = known;
         pinned = pinned;
+        ongoing = ongoing;
       };
       rises = x.rises;
     }

@@ -8,9 +8,10 @@ pub mod Changes
 pub mod KeptPins
 pub mod KeptParts
 pub mod NodesStay
+pub mod FarJobs
 pub mod StillParts
 pub mod StillFilters
-pub mod StillRebuilds
+pub mod StillFarJobs
 pub mod StillBatches
 pub mod StillReads
 pub mod ReadTurns
@@ -29,6 +30,7 @@ pub mod WorkedMembership
 pub mod WorkedRoom
 pub mod WorkedTurns
 pub mod WorkedStill
+pub mod WorkedPairs
 pub mod Runs
 pub mod WorkedRuns
 pub mod WorkedCalled

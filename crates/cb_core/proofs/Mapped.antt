@@ -3,7 +3,7 @@
 use Rattle.std.proofs.Common.{ℕ, List, [], length, Option, None, Some}
 use Rattle.cb_types.specs.declared.config.Config.{Config}
 use Rattle.cb_types.specs.declared.job.Job.{Job}
-use Rattle.cb_types.specs.declared.job.Job.TheVariants.{Make, Read, Write, Free, Swap, Filter, Evict, Begin, Ship, Commit, Abort, Rebuild, Crash, Join}
+use Rattle.cb_types.specs.declared.job.Job.TheVariants.{Make, Read, Write, Free, Swap, Filter, Evict, Begin, Ship, Commit, Abort}
 use Rattle.cb_types.specs.declared.reply.Reply.{Reply}
 use Rattle.cb_types.specs.declared.reply.Reply.TheVariants as answer
 use Rattle.cb_world.specs.declared.event.Event.{Event}
@@ -202,10 +202,7 @@ module _ {D E : Type 0} (run : D → List Event → D → Type 0) (shows : D →
   does reading other read c Ship a b r p = performs a.desk b.desk a.far _ _ _ p
   does reading other read c Commit a b r p = performs a.desk b.desk a.far _ _ _ p
   does reading other read c Abort a b r p = performs a.desk b.desk a.far _ _ _ p
-  does reading other read c Rebuild a b r (ran, step) = (back a.desk b.desk [] ran, step)
-  does reading other read c (Crash node) a b r (ran, step) = (back a.desk b.desk [] ran, step)
-  does reading other read c (Join node) a b r (ran, step) = (back a.desk b.desk [] ran, step)
-  does reading other read c job a b r x = absurd x
+  does reading other read c job a b r (ran, step) = (back a.desk b.desk [] ran, step)
 
   pub stops : (lacking : ℕ → Lack D) (other : ℕ → Lack E)
       → ((h : ℕ) → MapsLack (lacking h) (other h)) → (c : Config) (job : Job)
@@ -230,9 +227,10 @@ module _ {D E : Type 0} (run : D → List Event → D → Type 0) (shows : D →
   stops lacking other lack c Evict a b x = evict_lacks a b x
   stops lacking other lack c Begin a b x = evict_lacks a b x
   stops lacking other lack c Ship a b (same, p) = (same, performs a.desk b.desk a.far _ _ _ p)
-  stops lacking other lack c Rebuild a b (ran, given) = (back a.desk b.desk [] ran, given)
-  stops lacking other lack c (Crash node) a b (ran, same, up) = (back a.desk b.desk [] ran, same, up)
-  stops lacking other lack c job a b x = absurd x
+  stops lacking other lack c (Free handle) a b x = absurd x
+  stops lacking other lack c Commit a b x = absurd x
+  stops lacking other lack c Abort a b x = absurd x
+  stops lacking other lack c job a b (ran, lacks) = (back a.desk b.desk [] ran, lacks)
 
   pub turned : (reading : ℕ → Part D Reply) (other : ℕ → Part E Reply)
       → ((h : ℕ) → Maps (reading h) (other h)) → (c : Config) (job : Job)

@@ -2,13 +2,12 @@
 -- that there is no room.
 use Rattle.std.proofs.Common.{◌≡◌, ◌⊎◌, ℕ, zero, suc, ◌+◌, ◌-◌, ◌^◌, ◌==◌, nat_lt, if◌then◌else◌, Bool, true, false, List, length, Option, None, Some, refl, sym, ap, ◌∙◌, inl, inr}
 use Rattle.std.proofs.lemmas.Bool.{false≢true}
-use Rattle.cb_member.specs.declared.names.NodeId.{NodeId}
 use Rattle.cb_ptr.specs.declared.word.State.{State}
 use Rattle.cb_ptr.specs.declared.word.State.TheVariants as word
 use Rattle.cb_ptr.specs.Word.{state_of, len_of}
 use Rattle.cb_types.specs.declared.config.Config.{Config}
 use Rattle.cb_types.specs.declared.job.Job.{Job}
-use Rattle.cb_types.specs.declared.job.Job.TheVariants.{Make, Read, Write, Free, Swap, Filter, Evict, Begin, Ship, Commit, Abort, Pair, Patch, Merge, Part, Compact, Rebuild, Crash, Join}
+use Rattle.cb_types.specs.declared.job.Job.TheVariants.{Make, Read, Write, Free, Swap, Filter, Evict, Begin, Ship, Commit, Abort}
 use Rattle.cb_types.specs.declared.reply.Reply.{Reply}
 use Rattle.cb_types.specs.declared.reply.Reply.TheVariants as answer
 use Rattle.cb_world.specs.declared.event.Event.{Event}
@@ -25,11 +24,10 @@ use Rattle.cb_evict.specs.EvictRule.{EvictRule, HasBoth, HasFewNodes, HasFewSpan
 use Rattle.cb_evict.specs.ShipRule.{ShipRule}
 use Rattle.cb_evict.specs.declared.eviction.Eviction.{Eviction}
 use Rattle.cb_filter.specs.FilterRule.{EmptyAnswer as EmptyFilter, FilterAs, FilterHere, FilterRule}
-use Rattle.cb_rebuild.specs.RebuildStep.{RebuildStep}
-use Rattle.cb_core.specs.Membership.{CrashTurn, crashed, is_down, JoinTurn, joined, is_up}
 use Rattle.cb_core.specs.Parts.{Holding, WithRoom, at_once, no_room, won, WhereItIs, near, declined, stays_far, brought, BringsIn, not_far, was_far}
 use Rattle.cb_core.specs.OnceHere.{OnceHere, away, here as once_in}
 use Rattle.cb_core.specs.Turned.{ComesIn, Does, IsDeclined, Reads}
+use Rattle.cb_core.proofs.FarJobs.{never_framed}
 
 -- whether a reply is that there is no frame
 abbrev says_no_frame : Reply → Bool
@@ -162,22 +160,6 @@ abort_never far new r es a = by a.answered
     by (inl x) = off r _ refl x.reply
     by (inr x) = off r _ refl x.reply
 
--- ---- nodes
-crash_never : (far new : FarState) (r : Reply) (node : NodeId) → CrashTurn node far r new → Never r
-crash_never far new r node (crashed up is same) = off r _ refl is
-crash_never far new r node (is_down down is same) = off r _ refl is
-
-join_never : (far new : FarState) (r : Reply) (node : NodeId) → JoinTurn node far r new → Never r
-join_never far new r node (joined down is same) = off r _ refl is
-join_never far new r node (is_up up is same) = off r _ refl is
-
-rebuild_never : (far new : FarState) (r : Reply) → RebuildStep far new r → Never r
-rebuild_never far new r (inl x) = off r _ refl x.reply
-rebuild_never far new r (inr x) = elim x.restores [
-  | inl y ↦ off r _ refl y.reply
-  | inr y ↦ off r _ refl y.reply
-]
-
 -- ---- a write that is declined
 some_none : (r : Reply) → Some r ≡ None → ⊥
 some_none r e = cc
@@ -260,11 +242,4 @@ module _ {D : Type 0} (run : D → List Event → D → Type 0) (shows : D → S
   does_never Ship a b r does = ship_never a.far b.far r does.events does.rule
   does_never Commit a b r does = commit_never a.far b.far r does.events does.rule
   does_never Abort a b r does = abort_never a.far b.far r does.events does.rule
-  does_never Rebuild a b r does = rebuild_never a.far b.far r does.1
-  does_never (Crash node) a b r does = crash_never a.far b.far r node does.1
-  does_never (Join node) a b r does = join_never a.far b.far r node does.1
-  does_never Pair a b r does = absurd does
-  does_never Patch a b r does = absurd does
-  does_never Merge a b r does = absurd does
-  does_never Part a b r does = absurd does
-  does_never Compact a b r does = absurd does
+  does_never job a b r does = never_framed job a.far b.far r does.1 (λ none. none)

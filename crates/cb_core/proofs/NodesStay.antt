@@ -1,12 +1,30 @@
--- What a crash and a join leave of the configured sizes and codes, and of what is counted.
-use Rattle.std.proofs.Common.{refl, sym, subst, arith, length-set}
+-- What a crash and a join leave of the configured sizes and codes, of what is counted and of the
+-- sound world; how each is answered; and that each is fixed.
+use Rattle.std.proofs.Common.{◌≡◌, ℕ, ◌+◌, ◌<◌, ◌≤◌, length, refl, sym, ap, ◌∙◌, subst, arith, length-set}
+use Rattle.std.proofs.lemmas.Bool.{false≢true}
 use Rattle.cb_member.specs.declared.names.NodeId.{NodeId}
 use Rattle.cb_types.specs.declared.config.Config.{Config}
 use Rattle.cb_types.specs.declared.reply.Reply.{Reply}
+use Rattle.cb_types.specs.declared.request.Request.TheVariants as line
+use Rattle.cb_types.specs.Table.{IsReplyOf}
+use Rattle.cb_world.specs.declared.shown.Shown.{Shown}
 use Rattle.cb_world.specs.FarState.{FarState}
 use Rattle.cb_world.specs.NodeChanges.{crashed_far, joined_far}
-use Rattle.cb_world.proofs.Laws.{codes_stay, IsLike, StaysIf, stays_like, stays_same}
+use Rattle.cb_world.specs.Now.{now}
+use Rattle.cb_world.specs.Sound.{Sound}
+use Rattle.cb_world.specs.World.{IsConfigured}
+use Rattle.cb_world.proofs.Laws.{codes_stay, IsLike, StaysIf, stays_like, stays_same, node_crash_sound, node_join_sound, node_join_now}
 use Rattle.cb_core.specs.Membership.{CrashTurn, crashed, is_down, JoinTurn, joined, is_up}
+
+-- no object was made and no turn was counted
+pub record MakesNone (far new : FarState) : Type 0 where
+  pub first : new.first ≡ far.first
+  pub made : new.made ≡ far.made
+  pub turns : new.counts.turns ≡ far.counts.turns
+
+pub makes_none_same : (far new : FarState) → new ≡ far → MakesNone far new
+makes_none_same far new same =
+    subst (MakesNone far) (sym same) (record { first = refl; made = refl; turns = refl })
 
 pub crash_stays : (c : Config) (node : NodeId) (far new : FarState) (r : Reply)
     → CrashTurn node far r new → StaysIf c 1 far new
@@ -37,3 +55,90 @@ join_stays c node far new r (joined down reply state) =
       given = refl;
     }))
 join_stays c node far new r (is_up is reply state) = stays_same c 1 far new (omega arith) state
+
+-- a node that may be named is one of the members
+pub member_of : (c : Config) (s : Shown) (far : FarState) (node : NodeId) → IsConfigured c far
+    → Sound s far → node.n < c.nodes → node.n < length far.members.nodes
+member_of c s far node is sound below =
+    let rows = sound.away.sound.rows.counted in let nodes = is.nodes in
+    omega (arith, below, rows, nodes)
+
+pub crash_sound : (s : Shown) (far new : FarState) (node : NodeId) (r : Reply)
+    → node.n < length far.members.nodes → CrashTurn node far r new → Sound s far → Sound s new
+crash_sound s far new node r within (crashed up reply state) sound =
+    subst (Sound s) (sym state) (node_crash_sound s far node sound within up)
+crash_sound s far new node r within (is_down down reply state) sound =
+    subst (Sound s) (sym state) sound
+
+pub join_sound : (s : Shown) (far new : FarState) (node : NodeId) (r : Reply)
+    → node.n < length far.members.nodes → JoinTurn node far r new → Sound s far → Sound s new
+join_sound s far new node r within (joined down reply state) sound =
+    subst (Sound s) (sym state) (node_join_sound s far node sound within down)
+join_sound s far new node r within (is_up up reply state) sound = subst (Sound s) (sym state) sound
+
+-- a join loses nothing that an object holds
+pub join_now : (s : Shown) (far new : FarState) (node : NodeId) (r : Reply) (h : ℕ)
+    → node.n < length far.members.nodes → JoinTurn node far r new → now s new h ≡ now s far h
+join_now s far new node r h within (joined down reply state) =
+    ap (λ (f : FarState). now s f h) state ∙ node_join_now s far node h within
+join_now s far new node r h within (is_up up reply state) = ap (λ (f : FarState). now s f h) state
+
+-- the epoch is the next one, or as it was
+rises_one : (far new : FarState) → new.members.epoch ≡ far.members.epoch + 1
+    → far.members.epoch ≤ new.members.epoch
+rises_one far new e = omega (arith, e)
+
+rises_none : (far new : FarState) → new ≡ far → far.members.epoch ≤ new.members.epoch
+rises_none far new same = let e = ap (λ (f : FarState). f.members.epoch) same in omega (arith, e)
+
+pub crash_rises : (far new : FarState) (node : NodeId) (r : Reply) → CrashTurn node far r new
+    → far.members.epoch ≤ new.members.epoch
+crash_rises far new node r (crashed up reply state) =
+    rises_one far new (ap (λ (f : FarState). f.members.epoch) state)
+crash_rises far new node r (is_down down reply state) = rises_none far new state
+
+pub join_rises : (far new : FarState) (node : NodeId) (r : Reply) → JoinTurn node far r new
+    → far.members.epoch ≤ new.members.epoch
+join_rises far new node r (joined down reply state) =
+    rises_one far new (ap (λ (f : FarState). f.members.epoch) state)
+join_rises far new node r (is_up up reply state) = rises_none far new state
+
+pub crash_none : (far new : FarState) (node : NodeId) (r : Reply) → CrashTurn node far r new
+    → MakesNone far new
+crash_none far new node r (crashed up reply state) =
+    subst (MakesNone far) (sym state) (record { first = refl; made = refl; turns = refl })
+crash_none far new node r (is_down down reply state) = makes_none_same far new state
+
+pub join_none : (far new : FarState) (node : NodeId) (r : Reply) → JoinTurn node far r new
+    → MakesNone far new
+join_none far new node r (joined down reply state) =
+    subst (MakesNone far) (sym state) (record { first = refl; made = refl; turns = refl })
+join_none far new node r (is_up up reply state) = makes_none_same far new state
+
+pub crash_line : (far new : FarState) (node : NodeId) (r : Reply) → CrashTurn node far r new
+    → IsReplyOf (line.Crash node) r
+crash_line far new node r (crashed up is state) = subst (IsReplyOf (line.Crash node)) (sym is) tt
+crash_line far new node r (is_down down is state) = subst (IsReplyOf (line.Crash node)) (sym is) tt
+
+pub join_line : (far new : FarState) (node : NodeId) (r : Reply) → JoinTurn node far r new
+    → IsReplyOf (line.Join node) r
+join_line far new node r (joined down is state) = subst (IsReplyOf (line.Join node)) (sym is) tt
+join_line far new node r (is_up up is state) = subst (IsReplyOf (line.Join node)) (sym is) tt
+
+pub crash_fixed : (node : NodeId) (r q : Reply) (far new other : FarState) → CrashTurn node far r new
+    → CrashTurn node far q other → (r ≡ q) × (new ≡ other)
+crash_fixed node r q far new other (crashed up a e) (crashed up' b f) = (a ∙ sym b, e ∙ sym f)
+crash_fixed node r q far new other (crashed up a e) (is_down down b f) =
+    absurd (false≢true (sym down ∙ up))
+crash_fixed node r q far new other (is_down down a e) (crashed up b f) =
+    absurd (false≢true (sym down ∙ up))
+crash_fixed node r q far new other (is_down down a e) (is_down down' b f) = (a ∙ sym b, e ∙ sym f)
+
+pub join_fixed : (node : NodeId) (r q : Reply) (far new other : FarState) → JoinTurn node far r new
+    → JoinTurn node far q other → (r ≡ q) × (new ≡ other)
+join_fixed node r q far new other (joined down a e) (joined down' b f) = (a ∙ sym b, e ∙ sym f)
+join_fixed node r q far new other (joined down a e) (is_up up b f) =
+    absurd (false≢true (sym down ∙ up))
+join_fixed node r q far new other (is_up up a e) (joined down b f) =
+    absurd (false≢true (sym down ∙ up))
+join_fixed node r q far new other (is_up up a e) (is_up up' b f) = (a ∙ sym b, e ∙ sym f)

@@ -9,7 +9,7 @@ use Rattle.cb_ptr.specs.Word.{state_of, len_of, place_of, pins_of}
 use Rattle.cb_types.specs.declared.config.Config.{Config}
 use Rattle.cb_types.specs.declared.handle.Handle.{Handle}
 use Rattle.cb_types.specs.declared.job.Job.{Job}
-use Rattle.cb_types.specs.declared.job.Job.TheVariants.{Make, Read, Write, Free, Swap, Filter, Evict, Begin, Ship, Commit, Abort, Rebuild, Crash, Join}
+use Rattle.cb_types.specs.declared.job.Job.TheVariants.{Make, Read, Write, Free, Swap, Filter, Evict, Begin, Ship, Commit, Abort}
 use Rattle.cb_types.specs.declared.request.Request.{Request}
 use Rattle.cb_types.specs.declared.request.Request.TheVariants as line
 use Rattle.cb_types.specs.declared.reply.Reply.{Reply}
@@ -316,10 +316,7 @@ works_fixed Commit k a b s t r ok ka kb p works = kept_fixed a b s t k (kept_com
     ((commit_keeps a.desk b.desk a.far b.far r s ka works.0).pinned k p.some)
 works_fixed Abort k a b s t r ok ka kb p works = kept_fixed a b s t k (kept_abort a b r s ka works) kb
     ((abort_keeps a.desk b.desk a.far b.far r s ka works.0).pinned k p.some)
-works_fixed Rebuild k a b s t r ok ka kb p works = same_desk a b s t k ka kb p works.0
-works_fixed (Crash node) k a b s t r ok ka kb p works = same_desk a b s t k ka kb p works.0
-works_fixed (Join node) k a b s t r ok ka kb p works = same_desk a b s t k ka kb p works.0
-works_fixed j k a b s t r ok ka kb p works = absurd works
+works_fixed j k a b s t r ok ka kb p works = same_desk a b s t k ka kb p works.0
 
 -- ---- every event
 unmoved_same : (x y : Words) (k : ℕ) → y ≡ x → IsUnmoved k x y

@@ -1,5 +1,5 @@
 -- The world stays sound through a pin and its end; and the handles that spans name are in range.
-use Rattle.std.proofs.Common.{◌≡◌, ℕ, ◌<◌, ◌≤◌, length, get_or, Option, None, Some, refl, sym, subst, arith, inl, inr}
+use Rattle.std.proofs.Common.{◌≡◌, ℕ, ◌<◌, ◌≤◌, length, get_or, Option, None, Some, refl, sym, ◌∙◌, subst, arith, inl, inr}
 use Rattle.std.specs.Prelude.{All, IfSome}
 use Rattle.std.proofs.lemmas.Bool.{cases_lt}
 use Rattle.std.proofs.lemmas.List.{get_or_past, get_or_default}
@@ -13,7 +13,7 @@ use Rattle.cb_world.specs.FarState.{span_in}
 use Rattle.cb_world.specs.LocalSound.{LiesAt, NamesObject}
 use Rattle.cb_world.specs.StillWords.{stamp_at}
 use Rattle.cb_world.specs.World.{WorldState, IsSoundWorld, IsKnown}
-use Rattle.cb_world.proofs.Laws.{pin_sound, unpin_sound, pin_counts}
+use Rattle.cb_world.proofs.Laws.{open_word, pins_hold, pins_leave, pin_sound, unpin_sound, pin_counts}
 use Rattle.cb_core.specs.Pinning.{PinStep, scope_full, refused, taken, UnpinStep, not_pinned, given}
 
 -- a handle that has an object in local memory is one of those that there are
@@ -70,6 +70,9 @@ pin_step_sound w new seat h r sound within below (taken room may reply t) =
       shown = _;
       known = z.0;
       pinned = z.1;
+      ongoing = open_word w.desk w.far w.seats _ h t.word.word may.here (t.word.takes.state ∙ may.here)
+          lt (pins_leave w.seats seat _) sound.ongoing;
+      one = pins_hold w.seats seat _ sound.one;
       counted = sound.counted;
     })
 
@@ -91,5 +94,8 @@ unpin_step_sound w new seat h r sound within below (given reply t) =
       shown = _;
       known = z.0;
       pinned = z.1;
+      ongoing = open_word w.desk w.far w.seats _ h t.word.word here (t.word.gives.state ∙ here) lt
+          (pins_leave w.seats seat _) sound.ongoing;
+      one = pins_hold w.seats seat _ sound.one;
       counted = sound.counted;
     })

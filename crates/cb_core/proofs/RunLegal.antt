@@ -50,7 +50,7 @@ use Rattle.cb_core.specs.Run.{LeadsSoundly}
 use Rattle.cb_core.specs.Step.{Step, TurnStep, worn, done}
 use Rattle.cb_core.proofs.CallsBeside.{Comes, IsObjectCall, comes_none, call_comes, make_comes, on_read, on_write, on_free, on_pinned}
 use Rattle.cb_core.proofs.Settings.{step_settings}
-use Rattle.cb_core.proofs.TurnCalls.{read_turn, write_turn, free_turn, make_turn, evict_turn, begin_turn, ship_turn, commit_turn, abort_turn, swap_turn, crash_turn, join_turn, turn_first, filter_turn, rebuild_turn}
+use Rattle.cb_core.proofs.TurnCalls.{read_turn, write_turn, free_turn, make_turn, evict_turn, begin_turn, ship_turn, commit_turn, abort_turn, swap_turn, crash_turn, far_map, is_done, turn_first, filter_turn}
 use Rattle.cb_core.proofs.TurnCallsKept.{known_same}
 use Rattle.cb_core.proofs.TurnCallsMap.{IsSameMap}
 use Rattle.cb_core.proofs.TurnCallsNodes.{IsMapLost}
@@ -176,15 +176,12 @@ done_goes before seat job.Commit r w new c ok few step =
     quiet_goes before w new c (commit_turn w new r c.at_first c.after few step).0
 done_goes before seat job.Abort r w new c ok few step =
     quiet_goes before w new c (abort_turn w new r c.at_first c.after few step).0
-done_goes before seat job.Rebuild r w new c ok few step =
-    quiet_goes before w new c (rebuild_turn w new r c.at_first c.after few step).0
 done_goes before seat (job.Crash node) r w new c ok few step =
     comes_none w.desk.settings.handles before c.after.shown w.far new.far
     (lost_beside before c.at_first.shown c.after.shown w.far new.far c.beside
     (crash_turn w new node r c.at_first c.after few ok step).0)
-done_goes before seat (job.Join node) r w new c ok few step =
-    quiet_goes before w new c (join_turn w new node r c.at_first c.after few ok step).0
-done_goes before seat j r w new c ok few step = absurd ok
+done_goes before seat j r w new c ok few step =
+    quiet_goes before w new c (far_map j w new r c.at_first c.after (is_done j w new r few step))
 
 turn_goes : (before : List Called) (seat : ℕ) (j : Job) (r : Reply) (w new : WorldState)
     → (c : Around before w new) → IsJob w.desk.settings j → TurnStep j w r new

@@ -2,7 +2,7 @@
 use Rattle.std.proofs.Common.{◌≡◌, ℕ, List, length, ap, inl, inr}
 use Rattle.cb_types.specs.declared.config.Config.{Config}
 use Rattle.cb_types.specs.declared.job.Job.{Job}
-use Rattle.cb_types.specs.declared.job.Job.TheVariants.{Make, Read, Write, Free, Swap, Filter, Evict, Begin, Ship, Commit, Abort, Pair, Patch, Merge, Part, Compact, Rebuild, Crash, Join}
+use Rattle.cb_types.specs.declared.job.Job.TheVariants.{Make, Read, Write, Free, Swap, Filter, Evict, Begin, Ship, Commit, Abort}
 use Rattle.cb_types.specs.declared.reply.Reply.{Reply}
 use Rattle.cb_world.specs.Plain.{Words}
 use Rattle.cb_world.specs.World.{WorldState}
@@ -134,14 +134,7 @@ works_settings Ship a b r step = ship_same a b r step
 works_settings Commit a b r step = commit_same a b r step
 works_settings Abort a b r step = abort_same a b r step
 works_settings (Filter handle) a b r step = filter_same handle.n a b r step
-works_settings Rebuild a b r step = words_same a b step.0
-works_settings (Crash node) a b r step = words_same a b step.0
-works_settings (Join node) a b r step = words_same a b step.0
-works_settings Pair a b r step = absurd step
-works_settings Patch a b r step = absurd step
-works_settings Merge a b r step = absurd step
-works_settings Part a b r step = absurd step
-works_settings Compact a b r step = absurd step
+works_settings job a b r step = words_same a b step.0
 
 -- ---- events
 turn_settings : (w new : WorldState) (job : Job) (r : Reply) → TurnStep job w r new

@@ -1,11 +1,10 @@
 -- An event leads from a sound world to one reply and one world; and so do events one after another.
 use Rattle.std.proofs.Common.{◌≡◌, ℕ, List, [], ◌∷◌, length, None, refl, sym, ap, ◌∙◌, subst, arith, inl, inr}
 use Rattle.std.specs.List.{remove}
-use Rattle.std.proofs.lemmas.Bool.{cases_order, false≢true}
-use Rattle.cb_member.specs.declared.names.NodeId.{NodeId}
+use Rattle.std.proofs.lemmas.Bool.{cases_order}
 use Rattle.cb_types.specs.declared.handle.Handle.{Handle}
 use Rattle.cb_types.specs.declared.job.Job.{Job}
-use Rattle.cb_types.specs.declared.job.Job.TheVariants.{Make, Read, Write, Free, Swap, Filter, Evict, Begin, Ship, Commit, Abort, Pair, Patch, Merge, Part, Compact, Rebuild, Crash, Join}
+use Rattle.cb_types.specs.declared.job.Job.TheVariants.{Make, Read, Write, Free, Swap, Filter, Evict, Begin, Ship, Commit, Abort}
 use Rattle.cb_types.specs.declared.reply.Reply.{Reply}
 use Rattle.cb_types.specs.declared.reply.Reply.TheVariants as answer
 use Rattle.cb_types.specs.Config.{IsAccepted}
@@ -13,28 +12,28 @@ use Rattle.cb_world.specs.declared.homes.Home.{Home}
 use Rattle.cb_world.specs.declared.seats.Pin.{Pin}
 use Rattle.cb_world.specs.declared.shown.Shown.{Shown}
 use Rattle.cb_world.specs.FarState.{FarState}
-use Rattle.cb_world.specs.LocalSound.{LocalSound}
 use Rattle.cb_world.specs.Pinned.{with_word}
 use Rattle.cb_world.specs.Plain.{Words}
 use Rattle.cb_world.specs.Seats.{IsNewest, pins_of_seat, with_pins}
+use Rattle.cb_world.specs.Sound.{Sound}
 use Rattle.cb_world.specs.World.{WorldState, IsSoundWorld}
-use Rattle.cb_world.proofs.Laws.{home_same, IsOneEnd, local_stays}
+use Rattle.cb_world.proofs.Laws.{home_same, IsOneEnd}
 use Rattle.cb_mutate.proofs.Laws.{free_step_fixes, make_step_fixes, read_step_fixes, write_step_fixes}
 use Rattle.cb_evict.proofs.Laws.{abort_step_fixes, begin_step_fixes, commit_step_fixes, evict_step_fixes, counted_step_fixes, ship_step_fixes}
 use Rattle.cb_filter.proofs.Laws.{filter_step_fixes}
-use Rattle.cb_rebuild.proofs.Laws.{rebuild_step_fixes}
 use Rattle.cb_swapin.specs.SwapStep.{IsSwapStep}
 use Rattle.cb_swapin.proofs.Laws.{swap_step_fixes}
 use Rattle.cb_core.specs.declared.event.Atomic.{Atomic}
 use Rattle.cb_core.specs.declared.event.Atomic.TheVariants.{Load, Pin as PinOn, Unpin}
 use Rattle.cb_core.specs.declared.event.Event.{Event}
 use Rattle.cb_core.specs.declared.event.Event.TheVariants as event
-use Rattle.cb_core.specs.Membership.{CrashTurn, crashed, is_down, JoinTurn, joined, is_up}
 use Rattle.cb_core.specs.Parts.{Holding, NeverDeclined}
 use Rattle.cb_core.specs.Pinning.{IsPinGiven, IsPinTaken, PinStep, scope_full, refused, taken, UnpinStep, not_pinned, given}
 use Rattle.cb_core.specs.Run.{LeadsSoundly}
 use Rattle.cb_core.specs.Step.{AtomicStep, Leads, Step, StillBring, StillDecline, StillFind, StillMake, StillRead, StillRoom, StillSwap, StillWorks, StillWrite, TurnStep, worn, done}
 use Rattle.cb_core.specs.Turned.{counted}
+use Rattle.cb_core.proofs.Counting.{counted_sound}
+use Rattle.cb_core.proofs.FarJobs.{far_job}
 use Rattle.cb_core.proofs.PartsFixed.{AreOne, IsFixed, LeavesAll, brings_in_fixed, where_it_is_fixed, with_room_fixed}
 
 -- where the words and the far state stay, all does
@@ -112,25 +111,6 @@ bring_fixed : (h : ℕ) (a : Holding Words) → IsAccepted a.desk.settings → I
 bring_fixed h a ok = with_room_fixed a.desk.settings.frames (StillSwap h) StillRoom (swap_fixed h)
     (swap_refuses h) a (room_fixed a ok)
 
--- ---- membership
-crash_fixed : (node : NodeId) (r q : Reply) (far new other : FarState) → CrashTurn node far r new
-    → CrashTurn node far q other → (r ≡ q) × (new ≡ other)
-crash_fixed node r q far new other (crashed up a e) (crashed up' b f) = (a ∙ sym b, e ∙ sym f)
-crash_fixed node r q far new other (crashed up a e) (is_down down b f) =
-    absurd (false≢true (sym down ∙ up))
-crash_fixed node r q far new other (is_down down a e) (crashed up b f) =
-    absurd (false≢true (sym down ∙ up))
-crash_fixed node r q far new other (is_down down a e) (is_down down' b f) = (a ∙ sym b, e ∙ sym f)
-
-join_fixed : (node : NodeId) (r q : Reply) (far new other : FarState) → JoinTurn node far r new
-    → JoinTurn node far q other → (r ≡ q) × (new ≡ other)
-join_fixed node r q far new other (joined down a e) (joined down' b f) = (a ∙ sym b, e ∙ sym f)
-join_fixed node r q far new other (joined down a e) (is_up up b f) =
-    absurd (false≢true (sym down ∙ up))
-join_fixed node r q far new other (is_up up a e) (joined down b f) =
-    absurd (false≢true (sym down ∙ up))
-join_fixed node r q far new other (is_up up a e) (is_up up' b f) = (a ∙ sym b, e ∙ sym f)
-
 -- where the words stay and the far state is one, the ends are one
 still : (r q : Reply) (a b c : Holding Words) → b.desk ≡ a.desk → c.desk ≡ a.desk
     → (r ≡ q) × (b.far ≡ c.far) → AreOne r q b c
@@ -142,7 +122,7 @@ still r q a b c e f same =
 pub record IsReady (a : Holding Words) : Type 0 where
   pub accepted : IsAccepted a.desk.settings
   pub shown : Shown
-  pub sound : LocalSound shown a.far
+  pub sound : Sound shown a.far
 
 pub works_fixed : (job : Job) (a : Holding Words) → IsReady a → IsFixed (StillWorks job) a
 works_fixed (Make bytes) a ready r q b c x y =
@@ -156,11 +136,11 @@ works_fixed (Write handle at bytes) a ready r q b c x y = where_it_is_fixed (Sti
     (write_refuses handle.n at bytes) (decline_fixed handle.n at (length bytes))
     (decline_stays handle.n at (length bytes)) a (bring_fixed handle.n a ready.accepted) r q b c x y
 works_fixed (Free handle) a ready r q b c x y = both r q b c
-    (free_step_fixes ready.shown a.desk b.desk c.desk a.far b.far c.far handle.n ready.sound r q x y)
+    (free_step_fixes ready.shown a.desk b.desk c.desk a.far b.far c.far handle.n ready.sound.here r q x y)
 works_fixed (Swap handle) a ready r q b c x y = brings_in_fixed (StillFind handle.n) (StillBring handle.n) a
     (find_fixed handle.n a) (find_refuses handle.n) (bring_fixed handle.n a ready.accepted) r q b c x y
 works_fixed (Filter handle) a ready r q b c x y = both r q b c
-    (filter_step_fixes ready.shown a.desk b.desk c.desk a.far b.far c.far handle.n r q ready.sound
+    (filter_step_fixes ready.shown a.desk b.desk c.desk a.far b.far c.far handle.n r q ready.sound.here
     x.0 y.0)
 works_fixed Evict a ready r q b c x y = both r q b c
     (evict_step_fixes a.desk b.desk c.desk a.far b.far c.far r q ready.accepted x.0 y.0)
@@ -172,17 +152,8 @@ works_fixed Commit a ready r q b c x y =
     both r q b c (commit_step_fixes a.desk b.desk c.desk a.far b.far c.far r q x.0 y.0)
 works_fixed Abort a ready r q b c x y =
     both r q b c (abort_step_fixes a.desk b.desk c.desk a.far b.far c.far r q x.0 y.0)
-works_fixed Rebuild a ready r q b c x y =
-    still r q a b c x.0 y.0 (rebuild_step_fixes a.far b.far c.far r q x.1 y.1)
-works_fixed (Crash node) a ready r q b c x y =
-    still r q a b c x.0 y.0 (crash_fixed node r q a.far b.far c.far x.1 y.1)
-works_fixed (Join node) a ready r q b c x y =
-    still r q a b c x.0 y.0 (join_fixed node r q a.far b.far c.far x.1 y.1)
-works_fixed Pair a ready r q b c x y = absurd x
-works_fixed Patch a ready r q b c x y = absurd x
-works_fixed Merge a ready r q b c x y = absurd x
-works_fixed Part a ready r q b c x y = absurd x
-works_fixed Compact a ready r q b c x y = absurd x
+works_fixed job a ready r q b c x y =
+    still r q a b c x.0 y.0 ((far_job job).fixes ready.shown a.far b.far c.far r q ready.sound x.1 y.1)
 
 -- ---- a turn
 -- the world that the words and the far state of a job are part of
@@ -194,7 +165,7 @@ turn_ready : (w : WorldState) (job : Job) → IsSoundWorld w
 turn_ready w job sound = record {
   accepted = sound.config;
   shown = sound.shown;
-  sound = local_stays sound.shown w.far (counted w.far job) refl refl refl refl sound.known.sound.here;
+  sound = counted_sound sound.shown w.far (counted w.far job) job refl sound.known.sound;
 }
 
 turn_fixed : (job : Job) (w a b : WorldState) (r q : Reply) → IsSoundWorld w → TurnStep job w r a

@@ -8,12 +8,13 @@ use Rattle.cb_world.specs.declared.object.Object.{Object}
 use Rattle.cb_world.specs.declared.shown.Shown.{Shown}
 use Rattle.cb_world.specs.FarState.{FarState}
 use Rattle.cb_world.specs.Leaving.{LeavingState}
+use Rattle.cb_world.specs.OpenWrites.{AreOpen}
 use Rattle.cb_world.specs.Plain.{Words}
 use Rattle.cb_world.specs.Seats.{SeatState}
 use Rattle.cb_world.specs.Shown.{Fits}
 use Rattle.cb_world.specs.Still.{IsStill}
 use Rattle.cb_world.specs.World.{IsKnown, word_at}
-use Rattle.cb_world.proofs.Laws.{pinned_still, StaysIf, PerformsStill}
+use Rattle.cb_world.proofs.Laws.{open_kept, pinned_still, StaysIf, PerformsStill}
 use Rattle.cb_evict.specs.AbortRule.{HasGivenUp}
 use Rattle.cb_evict.specs.AbortStep.{ArePutBack, IsAbortStep, no_batch as none_to_abort, given_up}
 use Rattle.cb_evict.specs.BeginEffect.{BeginEffect}
@@ -173,20 +174,23 @@ abort_keeps x y far new r s k (given_up g back) = abort_done x y far new r s k g
 -- a step of a batch after which all is known
 batch_arrives : (c : Config) (seats : List SeatState) (a b : Holding Words) (t : Shown) (Z : Type 0)
     → IsGood c seats a → StaysIf c 1 a.far b.far → IsKnown b.desk b.far t
-    → KeepsRest a.desk b.desk a.far b.far → Z → Arrives c seats 1 a b Z
-batch_arrives c seats a b t Z good stays known keeps z =
+    → KeepsRest a.desk b.desk a.far b.far → AreOpen b.desk b.far seats → Z
+    → Arrives c seats 1 a b Z
+batch_arrives c seats a b t Z good stays known keeps ongoing z =
     arrives_stays c seats 1 a b t Z good stays known keeps.settings
     (pinned_still a.desk b.desk seats good.pinned keeps.count
     (λ h below some. (
       keeps.pinned h some,
       ap (λ (l : List ℕ). get_or l h 0) keeps.versions,
     ))
-    (λ h below none. keeps.pins h ∙ none)) z
+    (λ h below none. keeps.pins h ∙ none)) ongoing z
 
--- what each object holds stays
+-- what each object holds stays, and so do the open writes
 holds_on : (a b : Holding Words)
-    → ((s : Shown) → IsKnown a.desk a.far s → IsStepKnown b.desk a.far b.far s) → HoldOn a b
-holds_on a b after s k = let z = after s k in (z.shown, z.known, z.same_now)
+    → ((s : Shown) → IsKnown a.desk a.far s → IsStepKnown b.desk a.far b.far s)
+    → ((s : Shown) → IsKnown a.desk a.far s → (seats : List SeatState) → AreOpen a.desk a.far seats
+    → AreOpen b.desk b.far seats) → HoldOn a b
+holds_on a b after ongoing s k = let z = after s k in (z.shown, z.known, z.same_now, ongoing s k)
 
 pub begin_part : (c : Config) (seats : List SeatState)
     → Carries c seats 1 (Begins Ran Tells c) StillBegin
@@ -198,7 +202,11 @@ begin_part c seats a b r good p =
     batch_arrives c seats a b z.1.shown (StillBegin a r b) good
     (begin_stays c far new r p.events p.rule) z.1.known
     (begin_keeps x y far new r z.0)
-    (z.0, holds_on a b (λ s k. (begin_step x y far new r s q k).1))
+    (open_kept x y far new _ _ good.shown seats good.known q good.ongoing) (
+      z.0,
+      holds_on a b (λ s k. (begin_step x y far new r s q k).1)
+          (λ s k others ongoing. open_kept x y far new _ _ s others k q ongoing),
+    )
 
 pub ship_part : (c : Config) (seats : List SeatState)
     → Carries c seats 1 (Ships Ran Tells) StillShip
@@ -208,7 +216,11 @@ ship_part c seats a b r good p =
     batch_arrives c seats a b z.1.shown (StillShip a r b) good
     (ship_stays c far new r p.events p.rule) z.1.known
     (ship_keeps x y far new r z.0)
-    (z.0, holds_on a b (λ s k. (ship_step x y far new r s p k).1))
+    (open_kept x y far new _ _ good.shown seats good.known p good.ongoing) (
+      z.0,
+      holds_on a b (λ s k. (ship_step x y far new r s p k).1)
+          (λ s k others ongoing. open_kept x y far new _ _ s others k p ongoing),
+    )
 
 -- one that found no memory changed nothing
 pub ship_lack : (c : Config) (seats : List SeatState)
@@ -227,7 +239,11 @@ commit_part c seats a b r good p =
     batch_arrives c seats a b z.1.shown (StillCommit a r b) good
     (commit_stays c good.shown far new r p.events good.known.sound p.rule) z.1.known
     (commit_keeps x y far new r good.shown good.known z.0)
-    (z.0, holds_on a b (λ s k. (commit_step x y far new r s p k).1))
+    (open_kept x y far new _ _ good.shown seats good.known p good.ongoing) (
+      z.0,
+      holds_on a b (λ s k. (commit_step x y far new r s p k).1)
+          (λ s k others ongoing. open_kept x y far new _ _ s others k p ongoing),
+    )
 
 pub abort_part : (c : Config) (seats : List SeatState)
     → Carries c seats 1 (Aborts Ran Tells) StillAbort
@@ -237,4 +253,8 @@ abort_part c seats a b r good p =
     batch_arrives c seats a b z.1.shown (StillAbort a r b) good
     (abort_stays c far new r p.events p.rule) z.1.known
     (abort_keeps x y far new r good.shown good.known z.0)
-    (z.0, holds_on a b (λ s k. (abort_step x y far new r s p k).1))
+    (open_kept x y far new _ _ good.shown seats good.known p good.ongoing) (
+      z.0,
+      holds_on a b (λ s k. (abort_step x y far new r s p k).1)
+          (λ s k others ongoing. open_kept x y far new _ _ s others k p ongoing),
+    )

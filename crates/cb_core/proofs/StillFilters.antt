@@ -7,11 +7,12 @@ use Rattle.cb_world.specs.declared.event.Event.{Event}
 use Rattle.cb_world.specs.declared.event.Event.TheVariants.{Looked, Claimed, Told, Loaded, Stored, Stamped, Settled}
 use Rattle.cb_world.specs.Grasped.{IsFree}
 use Rattle.cb_world.specs.Looks.{NoLook, IsFound, IsTaken, LooksFirst}
+use Rattle.cb_world.specs.OpenWrites.{AreOpen}
 use Rattle.cb_world.specs.Placed.{place_in}
 use Rattle.cb_world.specs.Plain.{Words, Plain}
 use Rattle.cb_world.specs.Seats.{SeatState}
 use Rattle.cb_world.specs.World.{word_at}
-use Rattle.cb_world.proofs.Laws.{found_exact, PerformsStill, StaysIf}
+use Rattle.cb_world.proofs.Laws.{found_exact, open_kept, PerformsStill, StaysIf}
 use Rattle.cb_filter.specs.FilterEffect.{FilterEffect}
 use Rattle.cb_filter.specs.FilterRule.{FilterRule}
 use Rattle.cb_filter.specs.FilterStep.{IsFilterStep, refused, cools, without_slot, moves, IsFreeIn, temp_of}
@@ -26,7 +27,8 @@ use Rattle.cb_core.proofs.KeptPins.{cooled_pinned}
 use Rattle.cb_core.proofs.StillParts.{Ran, Tells, both_same}
 
 module _ (c : Config) (seats : List SeatState) (h : ℕ) (a b : Holding Words) (r : Reply)
-    (good : IsGood c seats a) (hold : HoldOn a b) (stays : StaysIf c 1 a.far b.far) (z : IsStepKnown b.desk a.far b.far good.shown)
+    (good : IsGood c seats a) (hold : HoldOn a b) (stays : StaysIf c 1 a.far b.far)
+    (z : IsStepKnown b.desk a.far b.far good.shown) (ongoing : AreOpen b.desk b.far seats)
   where
     -- by the step
     filtered : IsFilterStep a.desk b.desk a.far b.far h r → Arrives c seats 1 a b (StillFilter h a r b)
@@ -38,7 +40,7 @@ module _ (c : Config) (seats : List SeatState) (h : ℕ) (a b : Holding Words) (
         (ap (λ (x : Words). x.settings) same)
         (cooled_pinned a.desk b.desk seats h (place_of (word_at a.desk h)) good.pinned is.free
         (ap (λ (x : Words). x.words) same) (ap (λ (x : Words). x.versions) same))
-        (cools seat is place same, hold)
+        ongoing (cools seat is place same, hold)
     filtered (without_slot seat is none same) =
         arrives_same c seats 1 a b (StillFilter h a r b) good (both_same a b same none.state)
         (without_slot seat is none same, hold)
@@ -47,7 +49,7 @@ module _ (c : Config) (seats : List SeatState) (h : ℕ) (a b : Holding Words) (
         (ap (λ (x : Words). x.settings) same)
         (cooled_pinned a.desk b.desk seats h (place_in slot) good.pinned is.free
         (ap (λ (x : Words). x.words) same) (ap (λ (x : Words). x.versions) same))
-        (moves seat slot is gets same, hold)
+        ongoing (moves seat slot is gets same, hold)
 
 pub filter_part : (c : Config) (seats : List SeatState) (h : ℕ)
     → Carries c seats 1 (Filters Ran Tells c h) (StillFilter h)
@@ -58,9 +60,14 @@ filter_part c seats h a b r good p =
     let z = filter_step x y far new good.shown h r good.known q in
     filtered c seats h a b r good
     (λ s k.
-    let after = (filter_step x y far new s h r k q).1 in
-    (after.shown, after.known, after.same_now))
-    (filter_stays c c.frames h far new r p.events p.rule) z.1 z.0
+    let after = (filter_step x y far new s h r k q).1 in (
+      after.shown,
+      after.known,
+      after.same_now,
+      λ others ongoing. open_kept x y far new _ _ s others k q ongoing,
+    ))
+    (filter_stays c c.frames h far new r p.events p.rule) z.1
+    (open_kept x y far new _ _ good.shown seats good.known q good.ongoing) z.0
 
 -- ---- want of memory
 -- an object that was claimed was found free

@@ -10,6 +10,7 @@ use Rattle.cb_world.specs.declared.object.Object.{Object}
 use Rattle.cb_world.specs.declared.shown.Shown.{Shown}
 use Rattle.cb_world.specs.FarState.{FarState}
 use Rattle.cb_world.specs.Now.{is_gone}
+use Rattle.cb_world.specs.OpenWrites.{AreOpen}
 use Rattle.cb_world.specs.Placed.{place_in}
 use Rattle.cb_world.specs.Plain.{Words, Plain, Shows, IsSized}
 use Rattle.cb_world.specs.Seats.{SeatState}
@@ -17,7 +18,7 @@ use Rattle.cb_world.specs.Shown.{Fits, object_at, never}
 use Rattle.cb_world.specs.Still.{IsStill}
 use Rattle.cb_world.specs.StillWords.{stamp_at}
 use Rattle.cb_world.specs.World.{IsKnown, ArePinned, word_at}
-use Rattle.cb_world.proofs.Laws.{found_exact, StaysIf, stays_same, PerformsStill, RunsStill, runs_still, stays_still, told_exact}
+use Rattle.cb_world.proofs.Laws.{found_exact, open_kept, open_same, StaysIf, stays_same, PerformsStill, RunsStill, runs_still, stays_still, told_exact}
 use Rattle.cb_mutate.specs.Answered.{Answered}
 use Rattle.cb_mutate.specs.MakeRule.{MakeRule, MakeEffect, NeedsNewSpan, new_word}
 use Rattle.cb_mutate.specs.MakeStep.{IsMakeStep}
@@ -70,8 +71,8 @@ without_far x y far new rules does p = record {
 -- ---- the calls on objects in local memory
 read_kept : (c : Config) (seats : List SeatState) (h : ℕ) (a b : Holding Words) (r : Reply)
     (t : Shown) (Z : Type 0) → IsGood c seats a → b.far ≡ a.far → IsReadStep a.desk b.desk h r
-    → IsKnown b.desk b.far t → Z → Arrives c seats 1 a b Z
-read_kept c seats h a b r t Z good same step known z =
+    → IsKnown b.desk b.far t → AreOpen b.desk b.far seats → Z → Arrives c seats 1 a b Z
+read_kept c seats h a b r t Z good same step known ongoing z =
     go (read_leaves a.desk b.desk h r step)
   where
     stays : StaysIf c 1 a.far b.far
@@ -79,16 +80,19 @@ read_kept c seats h a b r t Z good same step known z =
 
     go : (b.desk ≡ a.desk) ⊎ (b.desk ≡ with_seen a.desk h) → Arrives c seats 1 a b Z
     go (inl e) = arrives_stays c seats 1 a b t Z good stays known (ap (λ (x : Words). x.settings) e)
-        (subst (λ (x : Words). ArePinned x seats) (sym e) good.pinned) z
+        (subst (λ (x : Words). ArePinned x seats) (sym e) good.pinned) ongoing z
     go (inr e) = arrives_stays c seats 1 a b t Z good stays known (ap (λ (x : Words). x.settings) e)
-        (subst (λ (x : Words). ArePinned x seats) (sym e) (seen_pinned a.desk seats h good.pinned)) z
+        (subst (λ (x : Words). ArePinned x seats) (sym e) (seen_pinned a.desk seats h good.pinned))
+        ongoing z
 
 pub read_part : (c : Config) (seats : List SeatState) (h : ℕ)
     → Carries c seats 1 (Reads Ran Tells h) (StillRead h)
 read_part c seats h a b r good p =
     let q = without_far a.desk b.desk a.far b.far (ReadRule h r) (ReadEffect h r) p in
     let z = read_step a.desk b.desk a.far b.far good.shown h r good.known q in
-    read_kept c seats h a b r _ (StillRead h a r b) good p.rule.0 z.0 z.1 (z.0, p.rule.0)
+    read_kept c seats h a b r _ (StillRead h a r b) good p.rule.0 z.0 z.1
+    (open_kept a.desk b.desk a.far b.far (ReadRule h r) (ReadEffect h r) good.shown seats good.known q
+    good.ongoing) (z.0, p.rule.0)
 
 pub write_part : (c : Config) (seats : List SeatState) (h at : ℕ) (bytes : List ℕ)
     → Carries c seats 1 (Writes Ran Tells h at bytes) (StillWrite h at bytes)
@@ -100,6 +104,11 @@ write_part c seats h at bytes a b r good p =
     stays : StaysIf c 1 a.far b.far
     stays = stays_same c 1 a.far b.far (omega arith) p.rule.0
 
+    ongoing : AreOpen b.desk b.far seats
+    ongoing = open_kept a.desk b.desk a.far b.far (WriteRule h at bytes r) (WriteEffect h at bytes r)
+        good.shown seats good.known (without_far a.desk b.desk a.far b.far (WriteRule h at bytes r)
+        (WriteEffect h at bytes r) p) good.ongoing
+
     go : (t : Shown) → IsWriteStep a.desk b.desk h at bytes r → IsKnown b.desk b.far t
         → (b.desk ≡ a.desk) ⊎ ((pins_of (word_at a.desk h) ≡ 0)
         × ((n : ℕ) × IsOverwritten a.desk b.desk h n at bytes))
@@ -107,12 +116,12 @@ write_part c seats h at bytes a b r good p =
     go t step known (inl e) =
         arrives_stays c seats 1 a b t (StillWrite h at bytes a r b) good stays known
         (ap (λ (x : Words). x.settings) e)
-        (subst (λ (x : Words). ArePinned x seats) (sym e) good.pinned) (step, p.rule.0)
+        (subst (λ (x : Words). ArePinned x seats) (sym e) good.pinned) ongoing (step, p.rule.0)
     go t step known (inr (free, (n, o))) =
         arrives_stays c seats 1 a b t (StillWrite h at bytes a r b) good stays known
         (ap (λ (x : Words). x.settings) o.left)
         (subst (λ (x : Words). ArePinned x seats) (sym o.left)
-        (written_pinned a.desk seats h n o.words good.pinned free)) (step, p.rule.0)
+        (written_pinned a.desk seats h n o.words good.pinned free)) ongoing (step, p.rule.0)
 
 pub free_part : (c : Config) (seats : List SeatState) (h : ℕ)
     → Carries c seats 1 (Frees Ran Tells h) (StillFree h)
@@ -130,7 +139,8 @@ free_part c seats h a b r good p =
         arrives_stays c seats 1 a b t (StillFree h a r b) good
         (free_stays c h a.far b.far r p.events p.rule) known (ap (λ (x : Words). x.settings) o.left)
         (subst (λ (x : Words). ArePinned x seats) (sym o.left)
-        (freed_pinned a.desk seats h n good.pinned (no_pins a.desk seats h good.pinned may))) step
+        (freed_pinned a.desk seats h n good.pinned (no_pins a.desk seats h good.pinned may)))
+        (open_kept a.desk b.desk a.far b.far _ _ good.shown seats good.known p good.ongoing) step
 
 -- the next handle has an empty word, without pins
 pub next_free : (x : Words) (far : FarState) (s : Shown) → IsKnown x far s
@@ -151,21 +161,22 @@ pub make_part : (c : Config) (seats : List SeatState) (bytes : List ℕ)
 make_part c seats bytes a b r good p =
     let q = subst (λ (d : Config). PerformsStill a.desk b.desk a.far b.far
     (MakeRule d.handles bytes a.far b.far r) (MakeEffect bytes a.far b.far r)) (sym good.settings) p in
-    let z = make_step a.desk b.desk a.far b.far good.shown bytes r good.known q in go _ z.0 z.1 z.0
+    let z = make_step a.desk b.desk a.far b.far good.shown bytes r good.known q in
+    go (open_kept a.desk b.desk a.far b.far _ _ good.shown seats good.known q good.ongoing) _ z.0 z.1 z.0
   where
-    go : (t : Shown) → StillMake bytes a r b → IsKnown b.desk b.far t
+    go : AreOpen b.desk b.far seats → (t : Shown) → StillMake bytes a r b → IsKnown b.desk b.far t
         → IsMakeStep a.desk b.desk a.far b.far bytes r → Arrives c seats 1 a b (StillMake bytes a r b)
-    go t step known (inl (made, reply, e, same)) =
+    go ongoing t step known (inl (made, reply, e, same)) =
         arrives_same c seats 1 a b (StillMake bytes a r b) good (both_same a b e same) step
-    go t step known (inr (more, inl (crammed, reply, e, same))) =
+    go ongoing t step known (inr (more, inl (crammed, reply, e, same))) =
         arrives_same c seats 1 a b (StillMake bytes a r b) good (both_same a b e same) step
-    go t step known (inr (more, inr (reply, z))) =
+    go ongoing t step known (inr (more, inr (reply, z))) =
         arrives_stays c seats 1 a b t (StillMake bytes a r b) good
         (make_stays c c.handles bytes a.far b.far r p.events p.rule) known (ap (λ (x : Words). x.settings) z.left)
         (subst (λ (x : Words). ArePinned x seats) (sym z.left)
         (new_pinned a.desk seats a.far.made a.far.first (length bytes) (place_in z.slot) z.words
         good.pinned (next_free a.desk a.far good.shown good.known more)
-        (new_pins (length bytes) (place_in z.slot)))) step
+        (new_pins (length bytes) (place_in z.slot)))) ongoing step
 
 -- ---- looks at an object
 pub find_part : (c : Config) (seats : List SeatState) (h : ℕ)
@@ -239,8 +250,12 @@ evict_part c seats accepted a b r good p =
     let stays = evict_stays c far new r p.events accepted p.rule good.configured in record {
       is = (
         z.0,
-        λ s k. let after = (evict_step x y far new r s q k).1 in
-            (after.shown, after.known, after.same_now),
+        λ s k. let after = (evict_step x y far new r s q k).1 in (
+          after.shown,
+          after.known,
+          after.same_now,
+          λ others ongoing. open_kept x y far new _ _ s others k q ongoing,
+        ),
       );
       good = record {
         settings = evict_settings x y far new r z.0 ∙ good.settings;
@@ -248,6 +263,7 @@ evict_part c seats accepted a b r good p =
         shown = z.1.shown;
         known = z.1.known;
         pinned = evict_seats x y far new r seats z.0 good.pinned;
+        ongoing = open_kept x y far new _ _ good.shown seats good.known q good.ongoing;
       };
       rises = stays.rises;
     }
@@ -281,8 +297,12 @@ swap_part c seats h a b r good (home, at, p) =
         at,
         z.0,
         λ s k.
-            let after = (swap_step x y far new home.set home.position r s p k).1 in
-            (after.shown, after.known, after.same_now),
+            let after = (swap_step x y far new home.set home.position r s p k).1 in (
+              after.shown,
+              after.known,
+              after.same_now,
+              λ others ongoing. open_kept x y far new _ _ s others k p ongoing,
+            ),
       );
       good = record {
         settings = settings;
@@ -291,6 +311,7 @@ swap_part c seats h a b r good (home, at, p) =
         known = z.1.known;
         pinned = pinned_kept x y far new home.set home.position r good.shown seats good.known z.0
             good.pinned;
+        ongoing = open_kept x y far new _ _ good.shown seats good.known p good.ongoing;
       };
       rises = stays.rises;
     }
@@ -331,6 +352,8 @@ swap_lack c seats h a b good (ran, (home, set, n, at, there, few, state)) =
         shown = good.shown;
         known = given_known a.desk a.far good.shown n good.known;
         pinned = good.pinned;
+        ongoing = open_same a.desk a.far (far_given a.far n) good.shown seats good.known
+            (given_known a.desk a.far good.shown n good.known) good.ongoing;
       });
       rises = subst (Rises 16 a.far) (sym state) stays.rises;
     }

@@ -4,7 +4,7 @@ use Rattle.cb_member.specs.declared.names.NodeId.{NodeId}
 use Rattle.cb_types.specs.declared.job.Job.{Job}
 use Rattle.cb_types.specs.declared.job.Job.TheVariants as job
 use Rattle.cb_types.specs.declared.request.Request.{Request}
-use Rattle.cb_types.specs.declared.request.Request.TheVariants.{Make, Read, Write, Free, Filter, Evict, Begin, Ship, Commit, Abort, Rebuild, Crash, Join}
+use Rattle.cb_types.specs.declared.request.Request.TheVariants.{Make, Read, Write, Free, Filter, Evict, Begin, Ship, Commit, Abort, Pair, Patch, Merge, Part, Rebuild, Crash, Join}
 use Rattle.cb_types.specs.declared.reply.Reply.{Reply}
 use Rattle.cb_types.specs.Table.{IsReplyOf}
 use Rattle.cb_world.specs.declared.shown.Shown.{Shown}
@@ -13,16 +13,19 @@ use Rattle.cb_world.specs.Plain.{Words}
 use Rattle.cb_world.specs.StillWords.{stamp_at}
 use Rattle.cb_world.specs.World.{WorldState, IsKnown, IsSoundWorld, word_at}
 use Rattle.cb_mutate.proofs.Laws.{free_call}
+use Rattle.cb_core.specs.FarJobs.{FarStep}
 use Rattle.cb_core.specs.Parts.{Holding, NeverDeclined}
-use Rattle.cb_core.specs.Step.{StillRead, StillWrite, StillDecline, StillWorks, TurnStep, worn, done}
+use Rattle.cb_core.specs.Step.{StillFar, StillRead, StillWrite, StillDecline, StillWorks, TurnStep, worn, done}
 use Rattle.cb_core.specs.Turned.{counted}
+use Rattle.cb_core.proofs.FarJobs.{AnswersLine, far_job}
+use Rattle.cb_core.proofs.NodesStay.{crash_line, member_of}
 use Rattle.cb_core.proofs.TurnCallsKept.{HasKept, once_known, kept_evict}
 use Rattle.cb_core.proofs.TurnCallsBatch.{kept_begin, kept_ship, kept_commit, kept_abort, begin_line, ship_line, commit_line, abort_line}
-use Rattle.cb_core.proofs.TurnCallsFilter.{IsFilterAs, filter_line, filter_answered, kept_rebuild, rebuild_line}
+use Rattle.cb_core.proofs.TurnCallsFilter.{IsFilterAs, filter_line, filter_answered, kept_far}
 use Rattle.cb_core.proofs.TurnCallsFirst.{works_turn}
 use Rattle.cb_core.proofs.TurnCallsMake.{IsMadeAs, make_answered, evict_line}
 use Rattle.cb_core.proofs.TurnCallsMap.{IsSameMap, map_stays, map_then, counted_map, call_carried, make_carried}
-use Rattle.cb_core.proofs.TurnCallsNodes.{IsMapLost, crash_map, join_map, crash_line, join_line}
+use Rattle.cb_core.proofs.TurnCallsNodes.{IsMapLost, crash_map}
 use Rattle.cb_core.proofs.TurnCallsParts.{read_part, write_part, read_refusable, write_refusable}
 use Rattle.cb_core.proofs.TurnCallsReply.{free_line}
 use Rattle.cb_core.proofs.TurnCallsSwap.{IsSwapAs, swap_answered}
@@ -177,7 +180,7 @@ filter_turn w new h r before after few below step =
           (counted_map before.shown w.far j) (map_stays after.shown new.far) h (z.call name);
     }
 
--- An eviction, the steps of a batch, and a rebuild leave the map as it is.
+-- An eviction and the steps of a batch leave the map as it is.
 pub evict_turn : IsQuiet job.Evict Evict
 evict_turn = quiet_turn job.Evict Evict kept_evict
     (λ a b q x. evict_line a.desk b.desk a.far b.far q x.0)
@@ -198,16 +201,43 @@ pub abort_turn : IsQuiet job.Abort Abort
 abort_turn = quiet_turn job.Abort Abort kept_abort
     (λ a b q x. abort_line a.desk b.desk a.far b.far q x.0)
 
-pub rebuild_turn : IsQuiet job.Rebuild Rebuild
-rebuild_turn = quiet_turn job.Rebuild Rebuild kept_rebuild
-    (λ a b q x. rebuild_line a.far b.far q x.1)
+-- So do the jobs at the far state alone, but for a crash.
+pub far_map : (j : Job) (w new : WorldState) (r : Reply) → (before : IsSoundWorld w)
+    → (after : IsSoundWorld new) → StillFar (FarStep j) (held_at w j) r (held_then new)
+    → IsSameMap before.shown after.shown w.far new.far
+far_map j w new r before after step =
+    map_then before.shown before.shown after.shown w.far (counted w.far j) new.far
+    (counted_map before.shown w.far j)
+    (kept_map (held_at w j) (held_then new) before.shown after.shown
+    (kept_far (FarStep j) (held_at w j) (held_then new) r before.shown (known_at w j before)
+    ((far_job j).none (counted w.far j) new.far r step.1) step) after.known)
 
-member : (w : WorldState) (node : NodeId) → IsSoundWorld w → node.n < w.desk.settings.nodes
-    → node.n < length w.far.members.nodes
-member w node sound below =
-    let rows = sound.known.sound.away.sound.rows.counted in
-    let nodes = sound.configured.nodes in
-    omega (arith, below, rows, nodes)
+far_turn : (j : Job) (line : Request)
+    → ((a b : Holding Words) (q : Reply) → StillWorks j a q b → StillFar (FarStep j) a q b)
+    → ((q : Reply) → AnswersLine j q → IsReplyOf line q) → IsQuiet j line
+far_turn j line as answers w new r before after few step =
+    let d = as (held_at w j) (held_then new) r (is_done j w new r few step) in (
+      far_map j w new r before after d,
+      answers r ((far_job j).answers (counted w.far j) new.far r d.1),
+    )
+
+pub pair_turn : IsQuiet job.Pair Pair
+pair_turn = far_turn job.Pair Pair (λ a b q x. x) (λ q x. x)
+
+pub patch_turn : IsQuiet job.Patch Patch
+patch_turn = far_turn job.Patch Patch (λ a b q x. x) (λ q x. x)
+
+pub merge_turn : IsQuiet job.Merge Merge
+merge_turn = far_turn job.Merge Merge (λ a b q x. x) (λ q x. x)
+
+pub part_turn : IsQuiet job.Part Part
+part_turn = far_turn job.Part Part (λ a b q x. x) (λ q x. x)
+
+pub rebuild_turn : IsQuiet job.Rebuild Rebuild
+rebuild_turn = far_turn job.Rebuild Rebuild (λ a b q x. x) (λ q x. x)
+
+pub join_turn : (node : NodeId) → IsQuiet (job.Join node) (Join node)
+join_turn node = far_turn (job.Join node) (Join node) (λ a b q x. x) (λ q x. x)
 
 -- A crash: each object holds what it held, or is gone.
 pub crash_turn : (w new : WorldState) (node : NodeId) (r : Reply) → (before : IsSoundWorld w)
@@ -220,7 +250,7 @@ crash_turn w new node r before after few below step =
     let lost = crash_map w.desk before.shown after.shown (counted w.far j) new.far node r
     (known_at w j before)
     (subst (λ (x : Words). IsKnown x new.far after.shown) d.0 after.known)
-    (member w node before below) d.1 in
+    (member_of w.desk.settings before.shown w.far node before.configured before.known.sound below) d.1 in
     let same = counted_map before.shown w.far j in (
       record {
         now = λ h. elim (lost.now h) [
@@ -232,23 +262,6 @@ crash_turn w new node r before after few below step =
         made = lost.made;
       },
       crash_line (counted w.far j) new.far node r d.1,
-    )
-
--- A join leaves the map as it is.
-pub join_turn : (w new : WorldState) (node : NodeId) (r : Reply) → (before : IsSoundWorld w)
-    → (after : IsSoundWorld new) → w.far.counts.turns < 2 ^ 40 → node.n < w.desk.settings.nodes
-    → TurnStep (job.Join node) w r new
-    → IsSameMap before.shown after.shown w.far new.far × IsReplyOf (Join node) r
-join_turn w new node r before after few below step =
-    let j = job.Join node in
-    let d = is_done j w new r few step in (
-      map_then before.shown before.shown after.shown w.far (counted w.far j) new.far
-          (counted_map before.shown w.far j)
-          (join_map w.desk before.shown after.shown (counted w.far j) new.far node r
-          (known_at w j before)
-          (subst (λ (x : Words). IsKnown x new.far after.shown) d.0 after.known)
-          (member w node before below) d.1),
-      join_line (counted w.far j) new.far node r d.1,
     )
 
 -- ---- every turn

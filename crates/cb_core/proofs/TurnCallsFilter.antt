@@ -1,10 +1,11 @@
--- A filter and a rebuild, as parts of a turn: what each keeps, and how each is answered.
+-- A filter as a part of a turn, and a change of the far state alone: what each keeps, and how a filter
+-- is answered.
 use Rattle.std.proofs.Common.{◌≡◌, ◌⊎◌, ℕ, zero, suc, ◌%◌, ◌<◌, ◌≤◌, arith, List, length, get_or, set, Option, Some, None, refl, sym, ap, ◌∙◌, subst, inl, inr, get_or-set_same, get_or-set_other}
 use native.Mathlib.Decide.{ℕ_discrete}
 use Rattle.cb_ptr.specs.declared.word.State.{State}
 use Rattle.cb_ptr.specs.declared.word.State.TheVariants as state
 use Rattle.cb_ptr.specs.Word.{state_of, place_of, pins_of}
-use Rattle.cb_types.specs.declared.request.Request.TheVariants.{Filter, Rebuild}
+use Rattle.cb_types.specs.declared.request.Request.TheVariants.{Filter}
 use Rattle.cb_types.specs.declared.reply.Reply.{Reply}
 use Rattle.cb_types.specs.declared.reply.Reply.TheVariants as answer
 use Rattle.cb_types.specs.Table.{IsReplyOf}
@@ -28,11 +29,10 @@ use Rattle.cb_mutate.specs.MapCalls.{IsValue, IsCallOn}
 use Rattle.cb_mutate.proofs.Laws.{IsThere, map_same, stays_call, far_there, near_held, here_near, in_range}
 use Rattle.cb_filter.specs.FilterRule.{EmptyAnswer}
 use Rattle.cb_filter.specs.FilterStep.{IsFilterStep, refused, cools, without_slot, moves, RefusesAs, cool_word}
-use Rattle.cb_rebuild.specs.RebuildStep.{RebuildStep}
 use Rattle.cb_core.specs.Parts.{Holding}
-use Rattle.cb_core.specs.Step.{StillFilter, StillRebuild}
+use Rattle.cb_core.specs.Step.{StillFar, StillFilter}
 use Rattle.cb_core.proofs.KeptPins.{cool_pins}
-use Rattle.cb_core.proofs.StillRebuilds.{rebuild_none}
+use Rattle.cb_core.proofs.NodesStay.{MakesNone}
 use Rattle.cb_core.proofs.TurnCallsKept.{HasKept}
 use Rattle.cb_core.proofs.TurnCallsMap.{IsSameMap, map_stays, call_carried}
 use Rattle.cb_core.proofs.TurnCallsWhere.{kept_map, within}
@@ -108,22 +108,21 @@ kept_filter a b h r s k (step, hold) =
       pins = keeps.pins;
     }
 
-pub kept_rebuild : (a b : Holding Words) (r : Reply) (s : Shown) → IsKnown a.desk a.far s
-    → StillRebuild a r b → HasKept a b s
-kept_rebuild a b r s k (same, step, hold) =
-    let none = rebuild_none a.far b.far r step in
-    let then = hold s k in record {
-      shown = then.0;
-      known = then.1;
-      same_now = then.2;
-      first = none.first;
-      made = none.made;
-      turns = none.turns;
-      settings = ap (λ (x : Words). x.settings) same;
-      pins = λ h. ap (λ (x : Words). pins_of (word_at x h)) same;
-    }
+-- so does a change of the far state alone in which no object was made and no turn counted
+pub kept_far : (step : FarState → FarState → Reply → Type 0) (a b : Holding Words) (r : Reply)
+    (s : Shown) → IsKnown a.desk a.far s → MakesNone a.far b.far → StillFar step a r b → HasKept a b s
+kept_far step a b r s k none (same, done, hold) = let then = hold s k in record {
+  shown = then.0;
+  known = then.1;
+  same_now = then.2;
+  first = none.first;
+  made = none.made;
+  turns = none.turns;
+  settings = ap (λ (x : Words). x.settings) same;
+  pins = λ h. ap (λ (x : Words). pins_of (word_at x h)) same;
+}
 
--- ---- how each is answered
+-- ---- how it is answered
 empty_line : (name : List ℕ) (v : ℕ) (r : Reply) → EmptyAnswer v r → IsReplyOf (Filter name) r
 empty_line name zero r e = subst (IsReplyOf (Filter name)) (sym e) tt
 empty_line name (suc v) r e = subst (IsReplyOf (Filter name)) (sym e) tt
@@ -145,13 +144,6 @@ filter_line x y far new h r (without_slot seat is none same) name =
     subst (IsReplyOf (Filter name)) (sym none.reply) tt
 filter_line x y far new h r (moves seat slot is gets same) name =
     subst (IsReplyOf (Filter name)) (sym gets.reply) tt
-
-pub rebuild_line : (far new : FarState) (r : Reply) → RebuildStep far new r → IsReplyOf Rebuild r
-rebuild_line far new r (inl none) = subst (IsReplyOf Rebuild) (sym none.reply) tt
-rebuild_line far new r (inr z) = elim z.restores [
-  | inl stuck ↦ subst (IsReplyOf Rebuild) (sym stuck.reply) tt
-  | inr rebuilt ↦ subst (IsReplyOf Rebuild) (sym rebuilt.reply) tt
-]
 
 -- ---- a filter as a call
 -- there is an object, or there was one

@@ -1,6 +1,5 @@
 -- What each job keeps of the far state once the turn is counted.
 use Rattle.std.proofs.Common.{◌≡◌, ℕ, List, [], length, Option, Some, None, ap, ◌∙◌, subst, inl, inr}
-use Rattle.cb_member.specs.declared.names.NodeId.{NodeId}
 use Rattle.cb_ptr.specs.declared.word.State.{State}
 use Rattle.cb_ptr.specs.declared.word.State.TheVariants as state
 use Rattle.cb_types.specs.declared.job.Job.{Job}
@@ -14,16 +13,16 @@ use Rattle.cb_world.specs.World.{IsKnown}
 use Rattle.cb_mutate.specs.FreeRule.{LeavesPlace}
 use Rattle.cb_mutate.specs.MakeStep.{IsMakeStep}
 use Rattle.cb_mutate.specs.Steps.{IsFreeStep}
-use Rattle.cb_core.specs.Membership.{CrashTurn, crashed, is_down, JoinTurn, joined, is_up}
 use Rattle.cb_evict.specs.declared.eviction.Eviction.TheVariants.{Refused, Set}
 use Rattle.cb_core.specs.Parts.{Holding, NeverDeclined, WithRoom, at_once, no_room, won, WhereItIs, near, declined, stays_far, brought, BringsIn, not_far, was_far}
 use Rattle.cb_core.specs.Step.{StillMake, StillRoom, StillBring, StillFind, StillRead, StillWrite, StillDecline, StillWorks}
 use Rattle.cb_core.proofs.Changes.{free_leaves}
+use Rattle.cb_core.proofs.FarJobs.{far_job}
 use Rattle.cb_core.proofs.TurnCallsMake.{make_crammed}
 use Rattle.cb_core.proofs.TurnCallsParts.{read_part, write_part}
 use Rattle.cb_core.proofs.TurnCallsKept.{HasKept, same_holding, kept_evict, kept_room, kept_bring}
 use Rattle.cb_core.proofs.TurnCallsBatch.{kept_begin, kept_ship, kept_commit, kept_abort}
-use Rattle.cb_core.proofs.TurnCallsFilter.{kept_filter, kept_rebuild}
+use Rattle.cb_core.proofs.TurnCallsFilter.{kept_filter}
 
 pub record IsTurnOf (far new : FarState) : Type 0 where
   pub first : new.first ≡ far.first
@@ -107,22 +106,6 @@ swap_turn_of a b s h r k (not_far c never) =
 swap_turn_of a b s h r k (was_far m c bring) = turn_kept a b s (kept_bring a b h r s k
     (subst (λ (x : Holding Words). StillBring h x r b) c.1 bring))
 
-crash_turn_of : (far new : FarState) (node : NodeId) (r : Reply) → CrashTurn node far r new
-    → IsTurnOf far new
-crash_turn_of far new node r (crashed up is same) = record {
-  first = ap (λ (f : FarState). f.first) same;
-  turns = ap (λ (f : FarState). f.counts.turns) same;
-}
-crash_turn_of far new node r (is_down down is same) = turn_same far new same
-
-join_turn_of : (far new : FarState) (node : NodeId) (r : Reply) → JoinTurn node far r new
-    → IsTurnOf far new
-join_turn_of far new node r (joined down is same) = record {
-  first = ap (λ (f : FarState). f.first) same;
-  turns = ap (λ (f : FarState). f.counts.turns) same;
-}
-join_turn_of far new node r (is_up up is same) = turn_same far new same
-
 -- no job changes the first version or the count of turns
 pub works_turn : (j : Job) (a b : Holding Words) (s : Shown) (r : Reply) → IsKnown a.desk a.far s
     → StillWorks j a r b → IsTurnOf a.far b.far
@@ -143,7 +126,5 @@ works_turn job.Begin a b s r k works = turn_kept a b s (kept_begin a b r s k wor
 works_turn job.Ship a b s r k works = turn_kept a b s (kept_ship a b r s k works)
 works_turn job.Commit a b s r k works = turn_kept a b s (kept_commit a b r s k works)
 works_turn job.Abort a b s r k works = turn_kept a b s (kept_abort a b r s k works)
-works_turn job.Rebuild a b s r k works = turn_kept a b s (kept_rebuild a b r s k works)
-works_turn (job.Crash node) a b s r k works = crash_turn_of a.far b.far node r works.1
-works_turn (job.Join node) a b s r k works = join_turn_of a.far b.far node r works.1
-works_turn j a b s r k works = absurd works
+works_turn j a b s r k works = let none = (far_job j).none a.far b.far r works.1 in
+    record { first = none.first; turns = none.turns }

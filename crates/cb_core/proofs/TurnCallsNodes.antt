@@ -1,21 +1,18 @@
--- A crash and a join as parts of a turn.
+-- A crash as a part of a turn.
 use Rattle.std.proofs.Common.{◌≡◌, ◌⊎◌, ℕ, ◌<◌, List, length, sym, ap, ◌∙◌, subst, inl, inr}
 use Rattle.cb_member.specs.declared.names.NodeId.{NodeId}
-use Rattle.cb_types.specs.declared.request.Request.TheVariants.{Crash, Join}
 use Rattle.cb_types.specs.declared.reply.Reply.{Reply}
-use Rattle.cb_types.specs.Table.{IsReplyOf}
 use Rattle.cb_world.specs.declared.shown.Shown.{Shown}
 use Rattle.cb_world.specs.FarState.{FarState}
 use Rattle.cb_world.specs.Memory.{bytes_in}
-use Rattle.cb_world.specs.NodeChanges.{crashed_far, joined_far}
+use Rattle.cb_world.specs.NodeChanges.{crashed_far}
 use Rattle.cb_world.specs.Now.{now, now_as}
 use Rattle.cb_world.specs.Now.Now.{held, gone}
 use Rattle.cb_world.specs.Plain.{Words}
 use Rattle.cb_world.specs.Sound.{Sound}
 use Rattle.cb_world.specs.World.{IsKnown}
-use Rattle.cb_world.proofs.Laws.{BecomesGone, crash_now, node_crash_sound, node_join_sound, node_join_now, now_same}
-use Rattle.cb_core.specs.Membership.{CrashTurn, crashed, is_down, JoinTurn, joined, is_up}
-use Rattle.cb_core.proofs.TurnCallsMap.{IsSameMap}
+use Rattle.cb_world.proofs.Laws.{BecomesGone, crash_now, node_crash_sound, now_same}
+use Rattle.cb_core.specs.Membership.{CrashTurn, crashed, is_down}
 
 -- each object holds what it held, or was held and is gone; as many were made
 pub record IsMapLost (s t : Shown) (far new : FarState) : Type 0 where
@@ -61,32 +58,3 @@ crash_map x s t far new node r k l within (crashed up reply same) = record {
     by h (inl e) = inl (then h ∙ e)
     by h (inr z) = let lost = becomes_gone s far (crashed_far far node) h z in
         inr (lost.0, lost.1, lost.2, then h ∙ lost.3)
-
--- a join
-pub join_map : (x : Words) (s t : Shown) (far new : FarState) (node : NodeId) (r : Reply)
-    → IsKnown x far s → IsKnown x new t → node.n < length far.members.nodes → JoinTurn node far r new
-    → IsSameMap s t far new
-join_map x s t far new node r k l within (is_up up reply same) = record {
-  now = λ h. ap (λ (f : FarState). now t f h) same
-      ∙ now_same x s t far h k.shows k.sound l.shows (subst (λ (f : FarState). Sound t f) same l.sound);
-  first = ap (λ (f : FarState). f.first) same;
-  made = ap (λ (f : FarState). f.made) same;
-}
-join_map x s t far new node r k l within (joined down reply same) = record {
-  now = λ h. ap (λ (f : FarState). now t f h) same
-      ∙ now_same x s t (joined_far far node) h k.shows (node_join_sound s far node k.sound within down)
-      l.shows (subst (λ (f : FarState). Sound t f) same l.sound)
-      ∙ node_join_now s far node h within;
-  first = ap (λ (f : FarState). f.first) same;
-  made = ap (λ (f : FarState). f.made) same;
-}
-
-pub crash_line : (far to : FarState) (node : NodeId) (q : Reply) → CrashTurn node far q to
-    → IsReplyOf (Crash node) q
-crash_line far to node q (crashed up is same) = subst (IsReplyOf (Crash node)) (sym is) tt
-crash_line far to node q (is_down down is same) = subst (IsReplyOf (Crash node)) (sym is) tt
-
-pub join_line : (far to : FarState) (node : NodeId) (q : Reply) → JoinTurn node far q to
-    → IsReplyOf (Join node) q
-join_line far to node q (joined down is same) = subst (IsReplyOf (Join node)) (sym is) tt
-join_line far to node q (is_up up is same) = subst (IsReplyOf (Join node)) (sym is) tt

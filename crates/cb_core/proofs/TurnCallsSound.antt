@@ -6,9 +6,10 @@ use Rattle.cb_types.specs.declared.reply.Reply.{Reply}
 use Rattle.cb_types.specs.declared.reply.Reply.TheVariants as answer
 use Rattle.cb_types.specs.Config.{IsAccepted}
 use Rattle.cb_types.specs.Jobs.{job_index}
+use Rattle.cb_world.specs.OpenWrites.{AreOpen}
 use Rattle.cb_world.specs.Plain.{Words}
-use Rattle.cb_world.specs.Seats.{SeatState}
-use Rattle.cb_world.proofs.Laws.{recounted}
+use Rattle.cb_world.specs.Seats.{SeatState, AtMostOneHolds}
+use Rattle.cb_world.proofs.Laws.{open_same, recounted}
 use Rattle.cb_world.specs.World.{WorldState, ArePinned, IsConfigured, IsSoundWorld}
 use Rattle.cb_evict.proofs.Laws.{evict_seats, evict_settings, evict_step_stays}
 use Rattle.cb_swapin.proofs.Laws.{settings_stay, pinned_kept, swap_step_stays}
@@ -38,6 +39,7 @@ evict_comes c seats a b r accepted good (step, hold) =
         shown = known.0;
         known = known.1;
         pinned = evict_seats a.desk b.desk a.far b.far r seats step good.pinned;
+        ongoing = known.3 seats good.ongoing;
       };
       rises = stays.rises;
     }
@@ -58,6 +60,7 @@ swap_comes c seats h a b r good (home, at, step, hold) =
         known = known.1;
         pinned = pinned_kept a.desk b.desk a.far b.far home.set home.position r good.shown seats good.known
             step good.pinned;
+        ongoing = known.3 seats good.ongoing;
       };
       rises = stays.rises;
     }
@@ -98,6 +101,8 @@ swap_sound w new h r sound (done few works seats) =
       shown = sound.shown;
       known = known_at w j sound;
       pinned = sound.pinned;
+      ongoing = open_same w.desk w.far (counted w.far j) sound.shown w.seats sound.known
+          (known_at w j sound) sound.ongoing;
     }) works in
     record {
       config = subst IsAccepted (sym z.good.settings) sound.config;
@@ -105,6 +110,8 @@ swap_sound w new h r sound (done few works seats) =
       shown = z.good.shown;
       known = z.good.known;
       pinned = subst (ArePinned new.desk) (sym seats) z.good.pinned;
+      ongoing = subst (AreOpen new.desk new.far) (sym seats) z.good.ongoing;
+      one = subst AtMostOneHolds (sym seats) sound.one;
       counted = counted_rises w.far (counted w.far j) new.far (job_index j) sound.counted few
           (omega arith) refl (rises_more 56 (2 ^ 20) (counted w.far j) new.far (omega arith) z.rises);
     }

@@ -1,10 +1,9 @@
 -- What each part of a turn leaves over any desk, each job, and the turn.
 use Rattle.std.proofs.Common.{◌≡◌, ℕ, Bool, true, false, ◌+◌, ◌-◌, ◌^◌, ◌<◌, ◌≤◌, if◌then◌else◌, ◌==◌, nat_lt, List, [], ◌∷◌, length, None, Some, refl, sym, subst, arith, inl, inr}
-use Rattle.cb_member.specs.declared.names.NodeId.{NodeId}
 use Rattle.cb_types.specs.declared.config.Config.{Config}
 use Rattle.cb_types.specs.Config.{IsAccepted}
 use Rattle.cb_types.specs.declared.job.Job.{Job}
-use Rattle.cb_types.specs.declared.job.Job.TheVariants.{Make, Read, Write, Free, Swap, Filter, Evict, Begin, Ship, Commit, Abort, Pair, Patch, Merge, Part, Compact, Rebuild, Crash, Join}
+use Rattle.cb_types.specs.declared.job.Job.TheVariants.{Make, Read, Write, Free, Swap, Filter, Evict, Begin, Ship, Commit, Abort}
 use Rattle.cb_types.specs.declared.reply.Reply.{Reply}
 use Rattle.cb_types.specs.declared.reply.Reply.TheVariants as answer
 use Rattle.cb_ptr.specs.Word.{len_of}
@@ -16,7 +15,7 @@ use Rattle.cb_world.specs.Played.{played}
 use Rattle.cb_world.specs.Sound.{Sound}
 use Rattle.cb_world.specs.World.{IsConfigured}
 use Rattle.cb_world.specs.Written.{Writes, entry, gone}
-use Rattle.cb_world.proofs.Laws.{recounted_sound, node_crash_sound, node_join_sound, StaysIf, stays_same}
+use Rattle.cb_world.proofs.Laws.{recounted_sound, StaysIf, stays_same}
 use Rattle.cb_mutate.specs.FreeRule.{FreeEffect}
 use Rattle.cb_mutate.specs.MakeRule.{MakeEffect}
 use Rattle.cb_mutate.specs.WriteRule.{WriteEffect}
@@ -24,18 +23,14 @@ use Rattle.cb_mutate.proofs.Laws.{free_stays, make_stays, read_unwritten}
 use Rattle.cb_evict.specs.Eviction.{reply_of}
 use Rattle.cb_evict.proofs.Laws.{abort_stays, begin_stays, commit_stays, evict_stays, ship_stays, abort_unwritten, begin_unwritten, commit_unwritten, evict_unwritten}
 use Rattle.cb_filter.proofs.Laws.{filter_stays, filter_unwritten}
-use Rattle.cb_rebuild.specs.RebuildStep.{surveyed}
-use Rattle.cb_rebuild.proofs.Laws.{keeps_first, keeps_step, failed_stays, rebuild_stays}
-use Rattle.cb_swapin.specs.Fetching.{far_given}
 use Rattle.cb_swapin.specs.SwapRule.{SwapRule}
 use Rattle.cb_swapin.proofs.Laws.{given_stays, swap_stays, by_answer, swap_unwritten}
 use Rattle.cb_core.specs.Declining.{far_refusal}
 use Rattle.cb_core.specs.Jobs.{IsJob}
-use Rattle.cb_core.specs.Membership.{CrashTurn, crashed, is_down, JoinTurn, joined, is_up}
 use Rattle.cb_core.specs.Parts.{Holding, NeverDeclined, NeverLacks, at_once, no_room, won}
 use Rattle.cb_core.specs.Turned.{Swaps, SwapLacks, Brings, BringLacks, ComesIn, ComeLacks, Evicts, WinsRoom, EvictLacks, Makes, MakeLacks, Reads, ReadLacks, Writes as WritesAt, Declines, Finds, Does, Stops, IsDeclined}
 use Rattle.cb_core.specs.TurnLeaves.{MakeWrites, WriteWrites, FreeWrites, TurnWrites}
-use Rattle.cb_core.proofs.NodesStay.{crash_stays, join_stays}
+use Rattle.cb_core.proofs.FarJobs.{StaysSound, far_job}
 use Rattle.cb_core.proofs.TurnComes.{AreLaws, Carries, CarriesLack, Comes, Good, IsNone, IsQuiet, Nil, comes_by, comes_far, comes_more, comes_none, then_none, good_then, with_room, room_stops, where_it_is, brings_in, call_stops, once_here, once_here_stops}
 
 -- ---- what the calls write
@@ -213,30 +208,16 @@ module _ {D : Type 0} (run : D → List Event → D → Type 0) (shows : D → S
   never_lacks : Lacks 1 NeverLacks
   never_lacks a b good x = absurd x
 
-  -- ---- the nodes
-  member : (a : Hold) (s : Shown) (node : NodeId) → IsConfigured c a.far → Sound s a.far
-      → node.n < c.nodes → node.n < length a.far.members.nodes
-  member a s node is sound below =
-      let rows = sound.away.sound.rows.counted in let nodes = is.nodes in
-      omega (arith, below, rows, nodes)
-
-  crash_sound : (node : NodeId) (a b : Hold) (r : Reply) (s : Shown) → IsConfigured c a.far
-      → node.n < c.nodes → CrashTurn node a.far r b.far → Sound s a.far → Sound s b.far
-  crash_sound node a b r s is below (crashed up reply same) sound =
-      subst (Sound s) (sym same) (node_crash_sound s a.far node sound (member a s node is sound below) up)
-  crash_sound node a b r s is below (is_down down reply same) sound = subst (Sound s) (sym same) sound
-
-  join_sound : (node : NodeId) (a b : Hold) (r : Reply) (s : Shown) → IsConfigured c a.far
-      → node.n < c.nodes → JoinTurn node a.far r b.far → Sound s a.far → Sound s b.far
-  join_sound node a b r s is below (joined down reply same) sound =
-      subst (Sound s) (sym same) (node_join_sound s a.far node sound (member a s node is sound below) down)
-  join_sound node a b r s is below (is_up up reply same) sound = subst (Sound s) (sym same) sound
-
   -- ---- the jobs
   -- a part whose numbers rise by no more than those of a job may
   pub in_job : (W : List Entry → Type 0) (n : ℕ) (a b : Hold) → n ≤ 64 → Comes run shows c n W a b
       → Comes run shows c 64 W a b
   in_job W n a b most z = comes_more run shows laws c W n 64 a b most z
+
+  -- a change of the far state alone
+  far_leaves : (s : Shown) (a b : Hold) → (IsConfigured c a.far → StaysSound c s a.far b.far)
+      → Good shows c a → StaysIf c 64 a.far b.far × Sound s b.far
+  far_leaves s a b keeps good = ((λ is. (keeps is).stays), (keeps good.configured).sound)
 
   -- however an object is read
   pub does_comes : (reading : ℕ → Hold → Reply → Hold → Type 0) → ((h : ℕ) → Leads 1 Nil (reading h))
@@ -282,29 +263,9 @@ module _ {D : Type 0} (run : D → List Event → D → Type 0) (shows : D → S
       in_job IsNone 1 a b (omega arith) (comes_none run shows laws c 1 a b _ _ good
       (λ s sound. abort_stays c a.far b.far r p.events p.rule) p
       (λ s e. abort_unwritten a.far b.far r p.events s (played p.events s) p.rule e))
-  does_comes reading read Rebuild a b r ok good (ran, step) =
-      in_job IsNone 16 a b (omega arith) (comes_far run shows laws c 16 a b good ran
-      (λ s sound. (
-        rebuild_stays c s a.far b.far r sound step,
-        (keeps_step s a.far b.far r sound step).sound,
-      )))
-  does_comes reading read (Crash node) a b r ok good (ran, turn) =
-      in_job IsNone 1 a b (omega arith) (comes_far run shows laws c 1 a b good ran
-      (λ s sound. (
-        crash_stays c node a.far b.far r turn,
-        crash_sound node a b r s good.configured ok turn sound,
-      )))
-  does_comes reading read (Join node) a b r ok good (ran, turn) =
-      in_job IsNone 1 a b (omega arith) (comes_far run shows laws c 1 a b good ran
-      (λ s sound. (
-        join_stays c node a.far b.far r turn,
-        join_sound node a b r s good.configured ok turn sound,
-      )))
-  does_comes reading read Pair a b r ok good x = absurd ok
-  does_comes reading read Patch a b r ok good x = absurd ok
-  does_comes reading read Merge a b r ok good x = absurd ok
-  does_comes reading read Part a b r ok good x = absurd ok
-  does_comes reading read Compact a b r ok good x = absurd ok
+  does_comes reading read job a b r ok good (ran, step) =
+      comes_far run shows laws c 64 a b good ran (λ s sound.
+      far_leaves s a b (λ is. (far_job job).keeps c s a.far b.far r ok is sound step) good)
 
   -- ---- want of memory
   pub stops_comes : (lacking : ℕ → Hold → Hold → Type 0) → ((h : ℕ) → Lacks 1 (lacking h))
@@ -333,26 +294,9 @@ module _ {D : Type 0} (run : D → List Event → D → Type 0) (shows : D → S
   stops_comes lacking lack Ship a b good (same, p) =
       in_job IsNone 1 a b (omega arith) (comes_none run shows laws c 1 a b _ _ good
       (λ s sound. stays_same c 1 a.far b.far (omega arith) same) p (λ s e. e.nothing))
-  stops_comes lacking lack Rebuild a b good (ran, (id, set, n, first, few, state)) =
-      in_job IsNone 16 a b (omega arith) (comes_far run shows laws c 16 a b good ran
-      (λ s sound. (
-        failed_stays c s a.far b.far id n set sound first.there few state,
-        subst (Sound s) (sym state) (given_sound s (surveyed a.far id) n
-            (keeps_first s a.far id set sound first).sound),
-      )))
-    where
-      given_sound : (s : Shown) (far : FarState) (n : ℕ) → Sound s far → Sound s (far_given far n)
-      given_sound s far n sound =
-          recounted_sound s far far.counts.turns far.counts.by_job (far.nodes.given + n) sound
-  stops_comes lacking lack (Crash node) a b good (ran, same, up) =
-      in_job IsNone 1 a b (omega arith) (comes_far run shows laws c 1 a b good ran
-      (λ s sound. (stays_same c 1 a.far b.far (omega arith) same, subst (Sound s) (sym same) sound)))
   stops_comes lacking lack (Free handle) a b good x = absurd x
   stops_comes lacking lack Commit a b good x = absurd x
   stops_comes lacking lack Abort a b good x = absurd x
-  stops_comes lacking lack Pair a b good x = absurd x
-  stops_comes lacking lack Patch a b good x = absurd x
-  stops_comes lacking lack Merge a b good x = absurd x
-  stops_comes lacking lack Part a b good x = absurd x
-  stops_comes lacking lack Compact a b good x = absurd x
-  stops_comes lacking lack (Join node) a b good x = absurd x
+  stops_comes lacking lack job a b good (ran, lacks) =
+      comes_far run shows laws c 64 a b good ran (λ s sound.
+      far_leaves s a b (λ is. (far_job job).lacks c s a.far b.far is sound lacks) good)

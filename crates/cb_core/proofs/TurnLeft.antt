@@ -7,7 +7,7 @@ use Rattle.cb_types.specs.Config.{IsAccepted}
 use Rattle.cb_types.specs.declared.handle.Handle.{Handle}
 use Rattle.cb_types.specs.declared.job.Job.{Job}
 use Rattle.cb_types.specs.Jobs.{job_index}
-use Rattle.cb_types.specs.declared.job.Job.TheVariants.{Make, Read, Write, Free, Swap, Filter, Evict, Begin, Ship, Commit, Abort, Pair, Patch, Merge, Part, Compact, Rebuild, Crash, Join}
+use Rattle.cb_types.specs.declared.job.Job.TheVariants.{Make, Read, Write, Free}
 use Rattle.cb_types.specs.declared.reply.Reply.{Reply}
 use Rattle.cb_types.specs.declared.reply.Reply.TheVariants as answer
 use Rattle.cb_world.specs.declared.entry.Entry.{Entry}
@@ -23,31 +23,10 @@ use Rattle.cb_core.specs.ReadTurn.{BroughtToRead, StoppedToRead}
 use Rattle.cb_core.specs.ReadTurn.BroughtToRead.{worn as first_worn, done as first_done}
 use Rattle.cb_core.specs.Turned.{Reads, ReadLacks, Turned, Stopped, counted, once_counted, worn, done}
 use Rattle.cb_core.specs.TurnLeaves.{OutcomeWrites, TurnLeaves, TurnWrites}
-use Rattle.cb_core.proofs.Counting.{counted_sound}
+use Rattle.cb_core.proofs.Counting.{counted_sound, job_below}
 use Rattle.cb_core.proofs.KeptParts.{counted_rises}
 use Rattle.cb_core.proofs.TurnCarries.{come_lacks, comes_in, does_comes, in_job, reads, read_lacks, stops_comes}
 use Rattle.cb_core.proofs.TurnComes.{AreLaws, Carries, CarriesLack, Comes, Good, IsNone, Nil}
-
-job_below : (job : Job) → job_index job < 19
-job_below (Make bytes) = omega arith
-job_below (Read handle) = omega arith
-job_below (Write handle at bytes) = omega arith
-job_below (Free handle) = omega arith
-job_below (Swap handle) = omega arith
-job_below (Filter handle) = omega arith
-job_below Evict = omega arith
-job_below Begin = omega arith
-job_below Ship = omega arith
-job_below Commit = omega arith
-job_below Abort = omega arith
-job_below Pair = omega arith
-job_below Patch = omega arith
-job_below Merge = omega arith
-job_below Part = omega arith
-job_below Compact = omega arith
-job_below Rebuild = omega arith
-job_below (Crash node) = omega arith
-job_below (Join node) = omega arith
 
 -- those of a desk
 pub laws_of : {D : Type 0} → (run : D → List Event → D → Type 0) → (shows : D → Shown → Type 0)
@@ -65,24 +44,9 @@ laws_of run shows none more follows = record {
 -- a turn that is refused writes nothing
 worn_none : (job : Job) → TurnWrites job answer.Worn []
 worn_none (Make bytes) = refl
-worn_none (Read handle) = refl
 worn_none (Write handle at bytes) = refl
 worn_none (Free handle) = refl
-worn_none (Swap handle) = refl
-worn_none (Filter handle) = refl
-worn_none Evict = refl
-worn_none Begin = refl
-worn_none Ship = refl
-worn_none Commit = refl
-worn_none Abort = refl
-worn_none Pair = refl
-worn_none Patch = refl
-worn_none Merge = refl
-worn_none Part = refl
-worn_none Compact = refl
-worn_none Rebuild = refl
-worn_none (Crash node) = refl
-worn_none (Join node) = refl
+worn_none job = refl
 
 module _ {D : Type 0} (run : D → List Event → D → Type 0) (shows : D → Shown → Type 0)
     (laws : AreLaws run shows) (c : Config) (accepted : IsAccepted c) where

@@ -12,7 +12,7 @@ use Rattle.cb_span.specs.Contents.{Contents}
 use Rattle.cb_span.specs.declared.temp.Temp.TheVariants.{Hot, Cold}
 use Rattle.cb_types.specs.declared.config.Field.TheVariants.{K, R, Nodes, Frames, Room, Handles, Turns}
 use Rattle.cb_types.specs.declared.handle.SetId.{SetId}
-use Rattle.cb_types.specs.declared.job.Job.TheVariants.{Read, Write, Swap, Merge}
+use Rattle.cb_types.specs.declared.job.Job.TheVariants.{Read, Write, Swap, Compact, Rebuild}
 use Rattle.cb_types.specs.declared.reply.Reply.{Reply}
 use Rattle.cb_types.specs.declared.reply.Reply.TheVariants as answer
 use Rattle.cb_types.specs.Config.{IsAccepted}
@@ -23,8 +23,10 @@ use Rattle.cb_world.specs.FarState.{FarState, span_in}
 use Rattle.cb_world.specs.Leaving.{LeavingState}
 use Rattle.cb_world.specs.Memory.{bytes_in, window}
 use Rattle.cb_world.specs.Now.{now, is_gone, broken_set}
+use Rattle.cb_world.specs.OpenWrites.{AreOpen}
 use Rattle.cb_world.specs.Placed.{HasRoom}
 use Rattle.cb_world.specs.Plain.{Words}
+use Rattle.cb_world.specs.Seats.{SeatState}
 use Rattle.cb_world.specs.Sets.{if_committed, set_in}
 use Rattle.cb_world.specs.World.{IsKnown, empty_world}
 use Rattle.cb_world.proofs.Laws.{now_same, empty_world_sound}
@@ -44,8 +46,9 @@ use Rattle.cb_core.specs.Declining.{write_refusal}
 use Rattle.cb_evict.specs.declared.eviction.Eviction.TheVariants.{Refused}
 use Rattle.cb_evict.specs.declared.eviction.Lack.TheVariants.{Spans}
 use Rattle.cb_core.specs.Parts.{Holding, no_room, declined, stays_far, not_far, was_far}
-use Rattle.cb_core.specs.Step.{StillRead, StillWrite, StillFind, StillDecline, HoldOn, StillEvict, StillRoom, StillBegin, StillShip, StillCommit, StillAbort, StillSwap, StillBring, StillFilter, StillRebuild, StillWorks, StillMakeLacks, StillReadLacks, StillEvictLacks, StillShipLacks, StillSwapLacks, StillFilterLacks, StillRebuildLacks}
-use Rattle.cb_core.specs.Turned.{IsWeakGiven, Rebuilds, RebuildLacks}
+use Rattle.cb_core.specs.Step.{StillRead, StillWrite, StillFind, StillDecline, HoldOn, StillEvict, StillRoom, StillBegin, StillShip, StillCommit, StillAbort, StillSwap, StillBring, StillFar, StillFilter, StillWorks, StillMakeLacks, StillReadLacks, StillEvictLacks, StillShipLacks, StillSwapLacks, StillFarLacks, StillFilterLacks}
+use Rattle.cb_core.specs.FarJobs.{FarLacks, FarStep, IsWeakGiven}
+use Rattle.cb_core.specs.Turned.{AtFar, AtFarLacks}
 use Rattle.cb_core.proofs.WorkedPins.{settings, desk, away, calm, hot, pinned, moving}
 use Rattle.cb_core.proofs.WorkedRoom.{counts, far_of, first_down, largest, span_with, two_open, words_are}
 
@@ -168,7 +171,7 @@ looks_and_warms step = let e : 16390 ≡ 16385 = ap word_of step.1 in omega (ari
 
 -- ---- what every object holds
 same_holds : (a : Holding Words) → HoldOn a a
-same_holds a s k = (s, k, λ h. refl)
+same_holds a s k = (s, k, (λ h. refl), λ seats ongoing. ongoing)
 
 -- words that are lost are not known
 abbrev emptied : Holding Words
@@ -199,6 +202,11 @@ holds_another : (a b : Holding Words) (s t : Shown) (h : ℕ) → IsKnown a.desk
 holds_another a b s t h k l off hold =
     let after = hold s k in
     off (now_same b.desk after.0 t b.far h after.1.shows after.1.sound l.shows l.sound ∙ after.2 h)
+
+-- nor where an open write of a seat does not stay open
+closes_a_write : (a b : Holding Words) (s : Shown) (seats : List SeatState) → IsKnown a.desk a.far s
+    → AreOpen a.desk a.far seats → (AreOpen b.desk b.far seats → ⊥) → HoldOn a b → ⊥
+closes_a_write a b s seats k ongoing off hold = off ((hold s k).3 seats ongoing)
 
 -- ---- an eviction: both objects have pins
 abbrev crowd : Holding Words
@@ -459,8 +467,8 @@ swaps_none = not_far stays (λ e. stays_away e)
     stays_away : answer.Stays ≡ answer.NotHere → ⊥
     stays_away e = cc
 
-other_jobs : StillWorks Merge start answer.Done start → ⊥
-other_jobs works = works
+no_compaction : StillWorks Compact start answer.Done start → ⊥
+no_compaction works = works.1
 
 -- ---- no memory
 smallest : IsClassOf 1 (record { index = 0 })
@@ -575,7 +583,7 @@ no_set id s at = none_set s (sym (ap if_committed (map.get-empty nat_cmp id)) �
 none_weak : RebuildStep near near (answer.Whole 0)
 none_weak = inl (record { none = λ id s at weak. no_set id s at; reply = refl; state = refl })
 
-rebuilds : StillRebuild (holds calm near) (answer.Whole 0) (holds calm near)
+rebuilds : StillFar (FarStep Rebuild) (holds calm near) (answer.Whole 0) (holds calm near)
 rebuilds = (refl, none_weak, same_holds (holds calm near))
 
 -- no set is gone
@@ -587,10 +595,10 @@ one_gone (inl z) = let e : 1 ≡ 0 = ap gone_in z.reply in omega (arith, e)
     gone_in r = 0
 one_gone (inr z) = no_set z.id z.set z.first.there
 
-rebuilds_with_one_gone : StillRebuild (holds calm near) (answer.Whole 1) (holds calm near) → ⊥
+rebuilds_with_one_gone : StillFar (FarStep Rebuild) (holds calm near) (answer.Whole 1) (holds calm near) → ⊥
 rebuilds_with_one_gone step = one_gone step.1
 
-rebuilds_and_warms : StillRebuild (holds calm near) (answer.Whole 0) (holds hot near) → ⊥
+rebuilds_and_warms : StillFar (FarStep Rebuild) (holds calm near) (answer.Whole 0) (holds hot near) → ⊥
 rebuilds_and_warms step = let e : 16390 ≡ 16386 =
     ap (λ (x : Words). get_or x.words 0 0) step.0 in omega (arith, e)
 
@@ -598,15 +606,15 @@ rebuilds_and_warms step = let e : 16390 ≡ 16386 =
 abbrev waits : ℕ → List Event → ℕ → Type 0
 waits d es e = e ≡ d
 
-over_a_number : Rebuilds waits (record { desk = 3; far = near }) (answer.Whole 0)
+over_a_number : AtFar waits (FarStep Rebuild) (record { desk = 3; far = near }) (answer.Whole 0)
     (record { desk = 3; far = near })
 over_a_number = (refl, none_weak)
 
-over_another_number : Rebuilds waits (record { desk = 3; far = near }) (answer.Whole 0)
+over_another_number : AtFar waits (FarStep Rebuild) (record { desk = 3; far = near }) (answer.Whole 0)
     (record { desk = 4; far = near }) → ⊥
 over_another_number x = let e : 4 ≡ 3 = x.0 in omega (arith, e)
 
-over_a_number_with_one_gone : Rebuilds waits (record { desk = 3; far = near }) (answer.Whole 1)
+over_a_number_with_one_gone : AtFar waits (FarStep Rebuild) (record { desk = 3; far = near }) (answer.Whole 1)
     (record { desk = 3; far = near }) → ⊥
 over_a_number_with_one_gone x = one_gone x.1
 
@@ -687,10 +695,10 @@ first_weak = record {
 given_one : IsWeakGiven weak_far (far_given weak_far 1)
 given_one = (0, set, 1, first_weak, lit≤ tt, refl)
 
-rebuild_stops : StillRebuildLacks (holds calm weak_far) (holds calm (far_given weak_far 1))
+rebuild_stops : StillFarLacks (FarLacks Rebuild) (holds calm weak_far) (holds calm (far_given weak_far 1))
 rebuild_stops = (refl, given_one)
 
-rebuild_stops_and_warms : StillRebuildLacks (holds calm weak_far) (holds hot (far_given weak_far 1))
+rebuild_stops_and_warms : StillFarLacks (FarLacks Rebuild) (holds calm weak_far) (holds hot (far_given weak_far 1))
     → ⊥
 rebuild_stops_and_warms stops = let e : 16390 ≡ 16386 =
     ap (λ (x : Words). get_or x.words 0 0) stops.0 in omega (arith, e)
@@ -714,14 +722,14 @@ given_and_made : IsWeakGiven weak_far (more (far_given weak_far 1)) → ⊥
 given_and_made (id, s, n, first, few, state) =
     let e : 2 ≡ 1 = ap made_of state in omega (arith, e)
 
-number_stops : RebuildLacks waits (record { desk = 3; far = weak_far })
+number_stops : AtFarLacks waits (FarLacks Rebuild) (record { desk = 3; far = weak_far })
     (record { desk = 3; far = far_given weak_far 1 })
 number_stops = (refl, given_one)
 
-another_number_stops : RebuildLacks waits (record { desk = 3; far = weak_far })
+another_number_stops : AtFarLacks waits (FarLacks Rebuild) (record { desk = 3; far = weak_far })
     (record { desk = 4; far = far_given weak_far 1 }) → ⊥
 another_number_stops x = let e : 4 ≡ 3 = x.0 in omega (arith, e)
 
-number_stops_with_two : RebuildLacks waits (record { desk = 3; far = weak_far })
+number_stops_with_two : AtFarLacks waits (FarLacks Rebuild) (record { desk = 3; far = weak_far })
     (record { desk = 3; far = far_given weak_far 2 }) → ⊥
 number_stops_with_two x = given_two x.1

@@ -8,7 +8,7 @@ use Rattle.cb_node.specs.NodesState.{empty_nodes, held, with_rows}
 use Rattle.cb_span.specs.declared.temp.Temp.TheVariants.{Hot}
 use Rattle.cb_types.specs.declared.handle.Handle.{Handle}
 use Rattle.cb_types.specs.declared.handle.SetId.{SetId}
-use Rattle.cb_types.specs.declared.job.Job.TheVariants.{Make, Read, Write, Free, Swap, Filter, Evict, Begin, Ship, Commit, Abort, Merge, Rebuild, Crash, Join}
+use Rattle.cb_types.specs.declared.job.Job.TheVariants.{Make, Read, Write, Free, Swap, Filter, Evict, Begin, Ship, Commit, Abort, Pair, Patch, Merge, Part, Compact, Rebuild, Crash, Join}
 use Rattle.cb_types.specs.declared.reply.Reply.{Reply}
 use Rattle.cb_types.specs.declared.reply.Reply.TheVariants as answer
 use Rattle.cb_world.specs.Counts.{CountsState}
@@ -188,7 +188,7 @@ start = record { desk = words_are pinned pinned; far = crowd four_with_a_make }
 no_spans : StillEvict start (answer.NoSpans 0) start
 no_spans = (
   few_spans (record { few = lit< tt; reply = refl; state = refl }) refl,
-  λ s k. (s, k, λ h. refl),
+  λ s k. (s, k, (λ h. refl), λ seats ongoing. ongoing),
 )
 
 -- none of them is loose, and two nodes have room
@@ -303,15 +303,15 @@ a_reply_too_few new none = none
 
 -- ---- no memory
 stops : Stops old (event.Turn 0 (Crash (node 0))) (world (far four) calm idle)
-stops = (lit< tt, refl, (refl, refl))
+stops = (lit< tt, refl, (refl, (refl, refl)))
 
 stops_and_crashes : Stops old (event.Turn 0 (Crash (node 0))) (world (far_down four) calm idle) → ⊥
 stops_and_crashes stopped = let e : 1 ≡ 0 =
-    ap (λ (d : Holding Words). d.far.members.epoch) stopped.2.0 in omega (arith, e)
+    ap (λ (f : FarState). f.members.epoch) stopped.2.1.0 in omega (arith, e)
 
 stops_uncounted : Stops old (event.Turn 0 (Crash (node 0))) old → ⊥
 stops_uncounted stopped = let e : 3 ≡ 4 =
-    ap (λ (d : Holding Words). d.far.counts.turns) stopped.2.0 in omega (arith, e)
+    ap (λ (f : FarState). f.counts.turns) stopped.2.1.0 in omega (arith, e)
 
 stops_and_takes_a_pin : Stops old (event.Turn 0 (Crash (node 0)))
     (world (far four) calm (seat_with (pin_on 0 3 ∷ []) ∷ seat_with [] ∷ [])) → ⊥
@@ -325,13 +325,13 @@ stops_too_late new stopped = let few = stopped.0 in omega (arith, few)
 -- a crash of a node that is down, a free, a join and a write to an object that is here take no memory
 down_and_stops : Stops (world (far_down three) calm idle) (event.Turn 0 (Crash (node 0)))
     (world (far_down four) calm idle) → ⊥
-down_and_stops stopped = absurd (let e = stopped.2.1 in cc)
+down_and_stops stopped = absurd (let e = stopped.2.1.1 in cc)
 
 free_stops : (new : WorldState) → Stops old (event.Turn 0 (Free (handle 0))) new → ⊥
 free_stops new stopped = stopped.2
 
 join_stops : (new : WorldState) → Stops old (event.Turn 0 (Join (node 0))) new → ⊥
-join_stops new stopped = stopped.2
+join_stops new stopped = stopped.2.1
 
 not_here_version : (v : ℕ) → answer.NotHere ≡ answer.Version v → ⊥
 not_here_version v e = cc
@@ -403,6 +403,17 @@ none_to_filter job = omega (arith, job)
 a_rebuild : IsJob settings Rebuild
 a_rebuild = tt
 
--- which is not built
-a_merge : IsJob settings Merge → ⊥
-a_merge job = job
+a_pair : IsJob settings Pair
+a_pair = tt
+
+a_patch : IsJob settings Patch
+a_patch = tt
+
+a_merge : IsJob settings Merge
+a_merge = tt
+
+a_part : IsJob settings Part
+a_part = tt
+
+no_compaction : IsJob settings Compact → ⊥
+no_compaction job = job

@@ -1,85 +1,32 @@
 -- A turn over the still desk is a step of the world, part by part, and the world stays sound.
 use Rattle.std.proofs.Common.{◌≡◌, ℕ, ◌^◌, ◌<◌, ◌≤◌, List, length, refl, sym, subst, arith}
-use Rattle.cb_member.specs.declared.names.NodeId.{NodeId}
 use Rattle.cb_types.specs.declared.config.Config.{Config}
 use Rattle.cb_types.specs.declared.job.Job.{Job}
-use Rattle.cb_types.specs.declared.job.Job.TheVariants.{Make, Read, Write, Free, Swap, Filter, Evict, Begin, Ship, Commit, Abort, Pair, Patch, Merge, Part, Compact, Rebuild, Crash, Join}
+use Rattle.cb_types.specs.declared.job.Job.TheVariants.{Make, Read, Write, Free, Swap, Filter, Evict, Begin, Ship, Commit, Abort, Crash}
 use Rattle.cb_types.specs.declared.reply.Reply.{Reply}
 use Rattle.cb_types.specs.declared.reply.Reply.TheVariants as answer
 use Rattle.cb_types.specs.Config.{IsAccepted}
 use Rattle.cb_types.specs.Jobs.{job_index}
 use Rattle.cb_world.specs.declared.shown.Shown.{Shown}
 use Rattle.cb_world.specs.FarState.{FarState}
-use Rattle.cb_world.specs.NodeChanges.{crashed_far, joined_far}
 use Rattle.cb_world.specs.Plain.{Words}
 use Rattle.cb_world.specs.Seats.{SeatState}
 use Rattle.cb_world.specs.Sound.{Sound}
 use Rattle.cb_world.specs.World.{WorldState, IsKnown, IsConfigured, IsSoundWorld}
-use Rattle.cb_world.proofs.Laws.{node_crash_sound, node_join_sound, recounted}
+use Rattle.cb_world.proofs.Laws.{open_same, recounted}
 use Rattle.cb_core.specs.declared.event.Event.TheVariants as event
 use Rattle.cb_core.specs.Jobs.{IsJob}
-use Rattle.cb_core.specs.Membership.{CrashTurn, crashed, is_down, JoinTurn, joined, is_up}
 use Rattle.cb_core.specs.Parts.{Holding, NeverLacks, WithRoom}
 use Rattle.cb_core.specs.Step.{StillMake, StillMakeLacks, StillRead, StillReadLacks, StillWrite, StillFind, StillDecline, StillRoom, StillEvictLacks, StillSwap, StillSwapLacks, StillBring, StillBringLacks, StillWorks, StillStops, TurnStep, worn, done, Stops}
 use Rattle.cb_core.specs.Turned.{Does, Turned, worn as was_worn, done as was_done, Stopped, counted, once_counted, Makes, MakeLacks, Reads, ReadLacks, Writes, Finds, Declines, WinsRoom, EvictLacks, Swaps, SwapLacks, Brings, BringLacks, Stops as StopsOver, ComesIn, ComeLacks}
-use Rattle.cb_core.proofs.Counting.{counted_sound}
+use Rattle.cb_core.proofs.Counting.{counted_sound, job_below}
 use Rattle.cb_core.proofs.KeptParts.{IsGood, Arrives, Carries, CarriesLack, rises_more, arrives_then, arrives_more, arrives_same, counted_rises, arrives_stays}
 use Rattle.cb_core.proofs.StillParts.{Ran, Tells, both_same, make_part, read_part, write_part, free_part, find_part, decline_part, evict_part, room_part, swap_part, make_lack, read_lack, evict_lack, swap_lack}
-use Rattle.cb_core.proofs.NodesStay.{crash_stays, join_stays}
 use Rattle.cb_core.proofs.StillBatches.{begin_part, ship_part, ship_lack, commit_part, abort_part}
 use Rattle.cb_core.proofs.StillFilters.{filter_part, filter_lack}
-use Rattle.cb_core.proofs.StillRebuilds.{rebuild_part, rebuild_lack}
+use Rattle.cb_core.proofs.StillFarJobs.{far_arrives, far_lack, far_part, known_far}
 use Rattle.cb_core.proofs.StillReads.{StillComes, StillComeLacks, reads_where, read_stops_where}
 use Rattle.cb_core.proofs.StillTurns.{with_room, where_it_is, brings_in, room_stops, call_stops, once_here, once_here_stops}
-
--- ---- membership
--- the node is one of the members
-member_of : (c : Config) (seats : List SeatState) (a : Holding Words) (node : NodeId)
-    → IsGood c seats a → node.n < c.nodes → node.n < length a.far.members.nodes
-member_of c seats a node good below =
-    let rows = good.known.sound.away.sound.rows.counted in
-    let nodes = good.configured.nodes in omega (arith, below, rows, nodes)
-
--- all is known of the desk where the far state changed in its nodes alone
-pub known_far : (x : Words) (far new : FarState) (s : Shown) → IsKnown x far s → Sound s new
-    → IsKnown x new s
-known_far x far new s k sound = record {
-  sized = k.sized;
-  shows = k.shows;
-  hots = k.hots;
-  sound = sound;
-  here = k.here;
-}
-
-crash_part : (c : Config) (seats : List SeatState) (node : NodeId) (a b : Holding Words)
-    (r : Reply) (Z : Type 0) → IsGood c seats a → node.n < c.nodes → b.desk ≡ a.desk
-    → CrashTurn node a.far r b.far → Z → Arrives c seats 1 a b Z
-crash_part c seats node a b r Z good below words (crashed up reply far) z =
-    let new = crashed_far a.far node in
-    subst (λ (d : Holding Words). Arrives c seats 1 a d Z)
-    (sym (both_same (record { desk = a.desk; far = new }) b words far))
-    (arrives_stays c seats 1 a (record { desk = a.desk; far = new }) good.shown Z good
-    (crash_stays c node a.far new r (crashed up reply refl))
-    (known_far a.desk a.far new good.shown good.known
-    (node_crash_sound good.shown a.far node good.known.sound (member_of c seats a node good below) up))
-    refl good.pinned z)
-crash_part c seats node a b r Z good below words (is_down is reply far) z =
-    arrives_same c seats 1 a b Z good (both_same a b words far) z
-
-join_part : (c : Config) (seats : List SeatState) (node : NodeId) (a b : Holding Words)
-    (r : Reply) (Z : Type 0) → IsGood c seats a → node.n < c.nodes → b.desk ≡ a.desk
-    → JoinTurn node a.far r b.far → Z → Arrives c seats 1 a b Z
-join_part c seats node a b r Z good below words (joined is reply far) z =
-    let new = joined_far a.far node in
-    subst (λ (d : Holding Words). Arrives c seats 1 a d Z)
-    (sym (both_same (record { desk = a.desk; far = new }) b words far))
-    (arrives_stays c seats 1 a (record { desk = a.desk; far = new }) good.shown Z good
-    (join_stays c node a.far new r (joined is reply refl))
-    (known_far a.desk a.far new good.shown good.known
-    (node_join_sound good.shown a.far node good.known.sound (member_of c seats a node good below) is))
-    refl good.pinned z)
-join_part c seats node a b r Z good below words (is_up is reply far) z =
-    arrives_same c seats 1 a b Z good (both_same a b words far) z
 
 -- ---- jobs
 bring_part : (c : Config) (seats : List SeatState) (h : ℕ) → IsAccepted c
@@ -153,21 +100,10 @@ works_part c seats Abort a b r accepted ok good does =
     in_job c seats 1 a b _ (omega arith) (abort_part c seats a b r good does)
 works_part c seats (Filter handle) a b r accepted ok good does =
     in_job c seats 1 a b _ (omega arith) (filter_part c seats handle.n a b r good does)
-works_part c seats Rebuild a b r accepted ok good does =
-    in_job c seats 16 a b _ (omega arith) (rebuild_part c seats a b r good does)
 works_part c seats (Crash node) a b r accepted ok good (ran, crash) =
-    in_job c seats 1 a b _ (omega arith)
-    (crash_part c seats node a b r (StillWorks (Crash node) a r b) good ok ran.0 crash
-    (ran.0, crash))
-works_part c seats (Join node) a b r accepted ok good (ran, join) =
-    in_job c seats 1 a b _ (omega arith)
-    (join_part c seats node a b r (StillWorks (Join node) a r b) good ok ran.0 join
-    (ran.0, join))
-works_part c seats Pair a b r accepted ok good does = absurd ok
-works_part c seats Patch a b r accepted ok good does = absurd ok
-works_part c seats Merge a b r accepted ok good does = absurd ok
-works_part c seats Part a b r accepted ok good does = absurd ok
-works_part c seats Compact a b r accepted ok good does = absurd ok
+    far_arrives c seats (Crash node) a b r (StillWorks (Crash node) a r b) ok good ran.0 crash
+    (ran.0, crash)
+works_part c seats job a b r accepted ok good does = far_part c seats job ok tt a b r good does
 
 -- a job that found no memory
 never_lack : (c : Config) (seats : List SeatState) → CarriesLack c seats 1 NeverLacks NeverLacks
@@ -205,20 +141,10 @@ stops_part c seats Ship a b accepted good stops =
     in_job c seats 1 a b _ (omega arith) (ship_lack c seats a b good stops)
 stops_part c seats (Filter handle) a b accepted good stops =
     in_job c seats 1 a b _ (omega arith) (filter_lack c seats handle.n a b good stops)
-stops_part c seats Rebuild a b accepted good stops =
-    in_job c seats 16 a b _ (omega arith) (rebuild_lack c seats a b good stops)
-stops_part c seats (Crash node) a b accepted good (ran, far, up) =
-    let same = both_same a b ran.0 far in
-    arrives_same c seats 64 a b (StillStops (Crash node) a b) good same (same, up)
 stops_part c seats (Free handle) a b accepted good stops = absurd stops
 stops_part c seats Commit a b accepted good stops = absurd stops
 stops_part c seats Abort a b accepted good stops = absurd stops
-stops_part c seats Pair a b accepted good stops = absurd stops
-stops_part c seats Patch a b accepted good stops = absurd stops
-stops_part c seats Merge a b accepted good stops = absurd stops
-stops_part c seats Part a b accepted good stops = absurd stops
-stops_part c seats Compact a b accepted good stops = absurd stops
-stops_part c seats (Join node) a b accepted good stops = absurd stops
+stops_part c seats job a b accepted good stops = far_lack c seats job a b good stops
 
 -- ---- the whole world
 abbrev pub with_job : WorldState → Words → FarState → WorldState
@@ -233,13 +159,6 @@ pub known_counted : (w : WorldState) (job : Job) (s : Shown) → IsKnown w.desk 
 known_counted w job s k = known_far w.desk w.far (counted w.far job) s k
     (counted_sound s w.far (counted w.far job) job refl k.sound)
 
--- the node is one of the members
-pub member : (w : WorldState) (node : NodeId) → IsSoundWorld w → node.n < w.desk.settings.nodes
-    → node.n < length w.far.members.nodes
-member w node sound below =
-    let rows = sound.known.sound.away.sound.rows.counted in
-    let nodes = sound.configured.nodes in omega (arith, below, rows, nodes)
-
 counted_good : (w : WorldState) (job : Job) → IsSoundWorld w
     → IsGood w.desk.settings w.seats (once_counted (held w) job)
 counted_good w job sound = record {
@@ -248,28 +167,9 @@ counted_good w job sound = record {
   shown = sound.shown;
   known = known_counted w job sound.shown sound.known;
   pinned = sound.pinned;
+  ongoing = open_same w.desk w.far (counted w.far job) sound.shown w.seats sound.known
+      (known_counted w job sound.shown sound.known) sound.ongoing;
 }
-
-job_below : (job : Job) → job_index job < 19
-job_below (Make bytes) = omega arith
-job_below (Read handle) = omega arith
-job_below (Write handle at bytes) = omega arith
-job_below (Free handle) = omega arith
-job_below (Swap handle) = omega arith
-job_below (Filter handle) = omega arith
-job_below Evict = omega arith
-job_below Begin = omega arith
-job_below Ship = omega arith
-job_below Commit = omega arith
-job_below Abort = omega arith
-job_below Pair = omega arith
-job_below Patch = omega arith
-job_below Merge = omega arith
-job_below Part = omega arith
-job_below Compact = omega arith
-job_below Rebuild = omega arith
-job_below (Crash node) = omega arith
-job_below (Join node) = omega arith
 
 arrived_sound : (w : WorldState) (job : Job) (b : Holding Words) (Z : Type 0) → IsSoundWorld w
     → w.far.counts.turns < 2 ^ 40
@@ -281,6 +181,8 @@ arrived_sound w job b Z sound few z = record {
   shown = z.good.shown;
   known = z.good.known;
   pinned = z.good.pinned;
+  ongoing = z.good.ongoing;
+  one = sound.one;
   counted = counted_rises w.far (counted w.far job) b.far (job_index job) sound.counted few
       (job_below job) refl (rises_more 64 (2 ^ 20) (counted w.far job) b.far (omega arith) z.rises);
 }

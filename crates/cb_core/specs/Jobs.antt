@@ -2,7 +2,7 @@
 use Rattle.std.specs.Prelude.{◌<◌, ◌≤◌, length}
 use Rattle.cb_types.specs.declared.config.Config.{Config}
 use Rattle.cb_types.specs.declared.job.Job.{Job}
-use Rattle.cb_types.specs.declared.job.Job.TheVariants.{Make, Read, Write, Free, Swap, Filter, Evict, Begin, Ship, Commit, Abort, Rebuild, Crash, Join}
+use Rattle.cb_types.specs.declared.job.Job.TheVariants.{Make, Read, Write, Free, Swap, Filter, Evict, Begin, Ship, Commit, Abort, Pair, Patch, Merge, Part, Compact, Rebuild, Crash, Join}
 
 -- an object has 1 to 1,024 bytes, handles and nodes are among those that there are
 abbrev pub IsJob : Config → Job → Type 0
@@ -17,8 +17,12 @@ IsJob c Begin = Unit {0}
 IsJob c Ship = Unit {0}
 IsJob c Commit = Unit {0}
 IsJob c Abort = Unit {0}
+IsJob c Pair = Unit {0}
+IsJob c Patch = Unit {0}
+IsJob c Merge = Unit {0}
+IsJob c Part = Unit {0}
+-- no turn joins two sets in one
+IsJob c Compact = ⊥
 IsJob c Rebuild = Unit {0}
 IsJob c (Crash node) = node.n < c.nodes
 IsJob c (Join node) = node.n < c.nodes
--- every other job is not built
-IsJob c job = ⊥

@@ -4,6 +4,7 @@ pub mod Jobs
 pub mod Parts
 pub mod Declining
 pub mod OnceHere
+pub mod FarJobs
 pub mod Turned
 pub mod TurnLeaves
 pub mod ReadTurn

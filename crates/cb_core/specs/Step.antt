@@ -1,12 +1,13 @@
 -- One event of the core, at the still desk: its reply, and every part of the world after it.
 use Rattle.std.specs.Prelude.{◌≡◌, ℕ, ◌^◌, ◌<◌, true, List, [], ◌∷◌, Option, Some, length}
-use Rattle.cb_member.specs.Membership.{alive}
 use Rattle.cb_ptr.specs.declared.word.State.TheVariants as state
 use Rattle.cb_ptr.specs.Word.{state_of, len_of}
 use Rattle.cb_types.specs.declared.job.Job.{Job}
-use Rattle.cb_types.specs.declared.job.Job.TheVariants.{Make, Read, Write, Free, Swap, Filter, Evict, Begin, Ship, Commit, Abort, Rebuild, Crash, Join}
+use Rattle.cb_types.specs.declared.job.Job.TheVariants.{Make, Read, Write, Free, Swap, Filter, Evict, Begin, Ship, Commit, Abort, Crash}
 use Rattle.cb_types.specs.declared.reply.Reply.{Reply}
 use Rattle.cb_types.specs.declared.reply.Reply.TheVariants as answer
+use Rattle.cb_world.specs.Seats.{SeatState}
+use Rattle.cb_world.specs.OpenWrites.{AreOpen}
 use Rattle.cb_world.specs.declared.homes.Home.{Home}
 use Rattle.cb_world.specs.declared.shown.Shown.{Shown}
 use Rattle.cb_world.specs.FarState.{FarState}
@@ -28,17 +29,16 @@ use Rattle.cb_evict.specs.ShipStep.{IsShipStep}
 use Rattle.cb_filter.specs.FilterStep.{IsFilterStep, IsFreeIn, temp_of}
 use Rattle.cb_filter.specs.Plans.{Wants}
 use Rattle.cb_filter.specs.Seats.{Seat}
-use Rattle.cb_rebuild.specs.RebuildStep.{RebuildStep}
 use Rattle.cb_swapin.specs.SwapStep.{IsSwapStep}
 use Rattle.cb_core.specs.declared.event.Atomic.{Atomic}
 use Rattle.cb_core.specs.declared.event.Atomic.TheVariants.{Load, Pin, Unpin}
 use Rattle.cb_core.specs.declared.event.Event.{Event}
 use Rattle.cb_core.specs.declared.event.Event.TheVariants as event
 use Rattle.cb_core.specs.Declining.{write_refusal}
-use Rattle.cb_core.specs.Membership.{CrashTurn, JoinTurn}
+use Rattle.cb_core.specs.FarJobs.{FarLacks, FarStep}
 use Rattle.cb_core.specs.Parts.{Holding, WithRoom, WhereItIs, NeverDeclined, BringsIn, RoomStops, CallStops, NeverLacks}
 use Rattle.cb_core.specs.Pinning.{PinStep, UnpinStep}
-use Rattle.cb_core.specs.Turned.{IsGiven, IsWeakGiven, counted}
+use Rattle.cb_core.specs.Turned.{IsGiven, counted}
 
 -- the parts of a turn, each a step from words and a far state to others
 abbrev pub StillMake : List ℕ → Holding Words → Reply → Holding Words → Type 0
@@ -65,10 +65,11 @@ StillDecline h at count a declined b = (declined
     × (b ≡ a)
 
 -- What every object holds stays: who knows all of the words and the far state before knows all after,
--- and it is the same.
+-- and it is the same; and the open writes of seats stay open.
 abbrev pub HoldOn : Holding Words → Holding Words → Type 0
 HoldOn a b = (s : Shown) → IsKnown a.desk a.far s
     → (t : Shown) × IsKnown b.desk b.far t × ((h : ℕ) → now t b.far h ≡ now s a.far h)
+    × ((seats : List SeatState) → AreOpen a.desk a.far seats → AreOpen b.desk b.far seats)
 
 abbrev pub StillEvict : Holding Words → Reply → Holding Words → Type 0
 StillEvict a r b = IsEvictStep a.desk b.desk a.far b.far r × HoldOn a b
@@ -103,9 +104,10 @@ StillBring h a r b = WithRoom a.desk.settings.frames (StillSwap h) StillRoom a r
 abbrev pub StillFilter : ℕ → Holding Words → Reply → Holding Words → Type 0
 StillFilter h a r b = IsFilterStep a.desk b.desk a.far b.far h r × HoldOn a b
 
--- a rebuild of the next lost row
-abbrev pub StillRebuild : Holding Words → Reply → Holding Words → Type 0
-StillRebuild a r b = (b.desk ≡ a.desk) × RebuildStep a.far b.far r × HoldOn a b
+-- an operation on the far state alone: no word changes, and what every object holds stays
+abbrev pub StillFar : (FarState → FarState → Reply → Type 0) → Holding Words → Reply → Holding Words
+    → Type 0
+StillFar step a r b = (b.desk ≡ a.desk) × step a.far b.far r × HoldOn a b
 
 -- a job once the turn is counted, part by part
 abbrev pub StillWorks : Job → Holding Words → Reply → Holding Words → Type 0
@@ -123,11 +125,10 @@ StillWorks Begin a r b = StillBegin a r b
 StillWorks Ship a r b = StillShip a r b
 StillWorks Commit a r b = StillCommit a r b
 StillWorks Abort a r b = StillAbort a r b
-StillWorks Rebuild a r b = StillRebuild a r b
-StillWorks (Crash node) a r b = (b.desk ≡ a.desk) × CrashTurn node a.far r b.far
-StillWorks (Join node) a r b = (b.desk ≡ a.desk) × JoinTurn node a.far r b.far
--- every other job is not built
-StillWorks job a r b = ⊥
+-- a crash alone may lose what an object holds
+StillWorks (Crash node) a r b = (b.desk ≡ a.desk) × FarStep (Crash node) a.far b.far r
+-- every other job works at the far state alone
+StillWorks job a r b = StillFar (FarStep job) a r b
 
 -- A job once the turn is counted: it leads from the words x and a far state to the words y and
 -- another.
@@ -186,11 +187,11 @@ abbrev pub StillFilterLacks : ℕ → Holding Words → Holding Words → Type 0
 StillFilterLacks h a b =
     (b ≡ a) × ((seat : Seat) × IsFreeIn a.desk a.far h seat × Wants a.far (temp_of a.desk h) seat)
 
--- rows of the first weak set were given out, and nothing else was done
-abbrev pub StillRebuildLacks : Holding Words → Holding Words → Type 0
-StillRebuildLacks a b = (b.desk ≡ a.desk) × IsWeakGiven a.far b.far
+-- an operation on the far state alone
+abbrev pub StillFarLacks : (FarState → FarState → Type 0) → Holding Words → Holding Words → Type 0
+StillFarLacks lacks a b = (b.desk ≡ a.desk) × lacks a.far b.far
 
--- where a job that found no memory stopped; a commit and an abort take no memory
+-- where a job that found no memory stopped; a free, a commit and an abort take no memory
 abbrev pub StillStops : Job → Holding Words → Holding Words → Type 0
 StillStops (Make bytes) a b =
     RoomStops (StillMake bytes) (StillMakeLacks bytes) StillRoom StillEvictLacks a b
@@ -204,9 +205,10 @@ StillStops (Filter handle) a b = StillFilterLacks handle.n a b
 StillStops Evict a b = StillEvictLacks a b
 StillStops Begin a b = StillEvictLacks a b
 StillStops Ship a b = StillShipLacks a b
-StillStops Rebuild a b = StillRebuildLacks a b
-StillStops (Crash node) a b = (b ≡ a) × (alive a.far.members node ≡ true)
-StillStops job a b = ⊥
+StillStops (Free handle) a b = ⊥
+StillStops Commit a b = ⊥
+StillStops Abort a b = ⊥
+StillStops job a b = StillFarLacks (FarLacks job) a b
 
 -- A turn that found no memory is counted; what its parts did before stays. A step always has its
 -- reply.

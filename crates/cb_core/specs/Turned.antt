@@ -1,11 +1,10 @@
 -- A turn over any desk.
 use Rattle.std.specs.Prelude.{◌≡◌, ◌⊎◌, ℕ, ◌^◌, ◌<◌, ◌≤◌, true, false, List, [], Option, None, Some, length}
-use Rattle.cb_member.specs.Membership.{alive}
 use Rattle.cb_ptr.specs.Word.{len_of}
 use Rattle.cb_set.specs.SetState.{SetState}
 use Rattle.cb_types.specs.declared.config.Config.{Config}
 use Rattle.cb_types.specs.declared.job.Job.{Job}
-use Rattle.cb_types.specs.declared.job.Job.TheVariants.{Make, Read, Write, Free, Swap, Filter, Evict, Begin, Ship, Commit, Abort, Rebuild, Crash, Join}
+use Rattle.cb_types.specs.declared.job.Job.TheVariants.{Make, Read, Write, Free, Swap, Filter, Evict, Begin, Ship, Commit, Abort}
 use Rattle.cb_types.specs.declared.reply.Reply.{Reply}
 use Rattle.cb_types.specs.declared.reply.Reply.TheVariants as answer
 use Rattle.cb_types.specs.Jobs.{job_index}
@@ -39,12 +38,11 @@ use Rattle.cb_evict.specs.Evicting.{TouchesSpans}
 use Rattle.cb_evict.specs.ShipRule.{ReadsLeaving, ShipRule, ShipEffect}
 use Rattle.cb_filter.specs.FilterEffect.{FilterEffect}
 use Rattle.cb_filter.specs.FilterRule.{FilterRule, NeedsMemory}
-use Rattle.cb_rebuild.specs.RebuildStep.{IsFirstWeak, RebuildStep, surveyed}
 use Rattle.cb_swapin.specs.Fetching.{far_given}
 use Rattle.cb_swapin.specs.SwapEffect.{SwapEffect}
 use Rattle.cb_swapin.specs.SwapRule.{SwapRule}
 use Rattle.cb_core.specs.Declining.{write_refusal}
-use Rattle.cb_core.specs.Membership.{CrashTurn, JoinTurn}
+use Rattle.cb_core.specs.FarJobs.{FarLacks, FarStep}
 use Rattle.cb_core.specs.OnceHere.{OnceHere, OnceHereStops}
 use Rattle.cb_core.specs.Parts.{Holding, WithRoom, WhereItIs, BringsIn, RoomStops, CallStops, NeverLacks}
 
@@ -149,10 +147,10 @@ abbrev pub Filters : {D : Type 0} → (D → List Event → D → Type 0) → (D
 Filters run shows c h = Operates run shows (λ far new r. FilterRule c.frames h far new r)
     (λ far new r. FilterEffect h far new r)
 
--- a rebuild of the next lost row, at which the desk runs nothing
-abbrev pub Rebuilds : {D : Type 0} → (D → List Event → D → Type 0) → Holding D → Reply → Holding D
-    → Type 0
-Rebuilds run a r b = run a.desk [] b.desk × RebuildStep a.far b.far r
+-- an operation on the far state alone, at which the desk runs nothing
+abbrev pub AtFar : {D : Type 0} → (D → List Event → D → Type 0)
+    → (FarState → FarState → Reply → Type 0) → Holding D → Reply → Holding D → Type 0
+AtFar run step a r b = run a.desk [] b.desk × step a.far b.far r
 
 -- an object is brought in where it is far; the reply tells where it is: Stays where it is here
 abbrev pub ComesIn : {D : Type 0} → (D → List Event → D → Type 0) → (D → Shown → Type 0) → Config → ℕ
@@ -178,11 +176,8 @@ Does run shows reads c Begin a r b = Begins run shows c a r b
 Does run shows reads c Ship a r b = Ships run shows a r b
 Does run shows reads c Commit a r b = Commits run shows a r b
 Does run shows reads c Abort a r b = Aborts run shows a r b
-Does run shows reads c Rebuild a r b = Rebuilds run a r b
-Does run shows reads c (Crash node) a r b = run a.desk [] b.desk × CrashTurn node a.far r b.far
-Does run shows reads c (Join node) a r b = run a.desk [] b.desk × JoinTurn node a.far r b.far
--- every other job is not built
-Does run shows reads c job a r b = ⊥
+-- every other job works at the far state alone
+Does run shows reads c job a r b = AtFar run (FarStep job) a r b
 
 -- the holding, where one turn more of the job's kind is counted
 abbrev pub once_counted : {D : Type 0} → Holding D → Job → Holding D
@@ -240,16 +235,10 @@ abbrev pub FilterLacks : {D : Type 0} → (D → List Event → D → Type 0) �
 FilterLacks run shows h a b = Performs (λ es. run a.desk es b.desk)
     (λ s. shows a.desk s × Sound s a.far) (NeedsMemory h a.far b.far) (λ t. Sound t b.far) IsStill
 
--- the sets before the first weak one were looked at, and rows of that one were given out, at most as
--- many as it has data positions
-abbrev pub IsWeakGiven : FarState → FarState → Type 0
-IsWeakGiven far new = (id : ℕ) × (set : SetState) × (n : ℕ) × IsFirstWeak far id set
-    × (n ≤ length set.positions) × (new ≡ far_given (surveyed far id) n)
-
--- a rebuild that lacks memory has given out rows, and nothing else was done
-abbrev pub RebuildLacks : {D : Type 0} → (D → List Event → D → Type 0) → Holding D → Holding D
-    → Type 0
-RebuildLacks run a b = run a.desk [] b.desk × IsWeakGiven a.far b.far
+-- an operation on the far state alone that lacks memory
+abbrev pub AtFarLacks : {D : Type 0} → (D → List Event → D → Type 0)
+    → (FarState → FarState → Type 0) → Holding D → Holding D → Type 0
+AtFarLacks run lacks a b = run a.desk [] b.desk × lacks a.far b.far
 
 -- a ship that lacks memory changes nothing
 abbrev pub ShipLacks : {D : Type 0} → (D → List Event → D → Type 0) → (D → Shown → Type 0)
@@ -263,8 +252,8 @@ abbrev pub ComeLacks : {D : Type 0} → (D → List Event → D → Type 0) → 
 ComeLacks {D = D} run shows c h a b =
     (m : Holding D) × Finds run shows h a answer.NotHere m × BringLacks run shows c h m b
 
--- Where a job that found no memory stopped. A commit and an abort take no memory. `lacks` says what a
--- read that lacks it leaves.
+-- Where a job that found no memory stopped. A free, a commit and an abort take no memory. `lacks` says
+-- what a read that lacks it leaves.
 abbrev pub Stops : {D : Type 0} → (D → List Event → D → Type 0) → (D → Shown → Type 0)
     → (ℕ → Holding D → Holding D → Type 0) → Config → Job → Holding D → Holding D → Type 0
 Stops run shows lacks c (Make bytes) a b = RoomStops (Makes run shows c bytes) (MakeLacks run c bytes)
@@ -280,10 +269,10 @@ Stops run shows lacks c (Filter handle) a b = FilterLacks run shows handle.n a b
 Stops run shows lacks c Evict a b = EvictLacks run shows a b
 Stops run shows lacks c Begin a b = EvictLacks run shows a b
 Stops run shows lacks c Ship a b = ShipLacks run shows a b
-Stops run shows lacks c Rebuild a b = RebuildLacks run a b
-Stops run shows lacks c (Crash node) a b =
-    run a.desk [] b.desk × (b.far ≡ a.far) × (alive a.far.members node ≡ true)
-Stops run shows lacks c job a b = ⊥
+Stops run shows lacks c (Free handle) a b = ⊥
+Stops run shows lacks c Commit a b = ⊥
+Stops run shows lacks c Abort a b = ⊥
+Stops run shows lacks c job a b = AtFarLacks run (FarLacks job) a b
 
 -- a turn that found no memory is counted
 pub record Stopped {D : Type 0} (run : D → List Event → D → Type 0) (shows : D → Shown → Type 0)

@@ -19,7 +19,7 @@ use Rattle.cb_world.specs.Plain.{Words, Shows}
 use Rattle.cb_world.specs.Played.{played}
 use Rattle.cb_world.specs.StillDesk.{plain_follows, plain_stays}
 use Rattle.cb_world.specs.World.{word_at, IsKnown}
-use Rattle.cb_world.proofs.Laws.{HereIs, AreSeen, seen_after, seen_known, FreeIs, free_after, word_back, PerformsStill, RunsStill, runs_still, known_then, stays_still}
+use Rattle.cb_world.proofs.Laws.{HereIs, AreSeen, here_after, seen_after, seen_known, FreeIs, free_after, word_back, PerformsStill, RunsStill, runs_still, known_then, stays_still}
 use Rattle.cb_evict.specs.AbortRule.{HasNoBatch, HasGivenUp, AbortRule, AbortEffect}
 use Rattle.cb_evict.specs.AbortStep.{ArePutBack, IsAbortStep, no_batch, given_up}
 use Rattle.cb_evict.specs.Claims.{IsNone}
@@ -73,7 +73,9 @@ put_back x y far s es batch r there z = record {
         let still : h < length y.words = omega (arith, within, count) in
         here_word (word_at y h) w
         (subst (λ (o : Object). Fits o (word_at y h)) a.object (shows.fit h still))
-        (subst (λ (o : Object). HereIs o (word_at y h)) a.object (seen_then.here h still))
+        (subst (λ (o : Object). HereIs o (word_at y h)) a.object
+        (here_after es x y s h r.ran r.known.shows.objects
+        (subst (λ (o : Object). HereIs o (word_at x h)) (sym c.object) tt)))
         (subst (λ (o : Object). FreeIs o (word_at y h)) a.object
         (free_after es x y s h r.ran r.allowed r.known.shows.objects
         (subst (λ (o : Object). FreeIs o (word_at x h)) (sym c.object) tt)))

@@ -268,7 +268,6 @@ all_known = record {
   };
   hots = hots;
   sound = sound;
-  here = here;
 }
   where
     false_true : false ≡ true → ⊥
@@ -285,11 +284,6 @@ all_known = record {
     hots : (h : ℕ) → h < 1 → get_or (false ∷ []) h false ≡ hot_of (word_at (desk calm) h)
     hots zero below = refl
     hots (suc h) below = absurd (omega (arith, below))
-
-    here : (h len place : ℕ) → h < 1 → object_at known h ≡ is.Here len place
-        → state_of (word_at (desk calm) h) ≡ word.Here
-    here zero len place below e = refl
-    here (suc h) len place below e = absurd (omega (arith, below))
 
 -- ---- the begin
 abbrev former : Former

@@ -28,7 +28,7 @@ use Rattle.cb_world.specs.Still.{IsStill}
 use Rattle.cb_world.specs.StillDesk.{here_is as fits_here, plain_follows, plain_stays}
 use Rattle.cb_world.specs.StillWords.{stamp_at, contents_at}
 use Rattle.cb_world.specs.World.{word_at, IsKnown}
-use Rattle.cb_world.proofs.Laws.{found_exact, taken_exact, HereIs, AreSeen, seen_after, seen_known, told_exact, FreeIs, free_after, one_exact, PerformsStill, RunsStill, runs_still, known_then, stays_still}
+use Rattle.cb_world.proofs.Laws.{found_exact, taken_exact, HereIs, AreSeen, here_after, seen_after, seen_known, told_exact, FreeIs, free_after, one_exact, PerformsStill, RunsStill, runs_still, known_then, stays_still}
 use Rattle.cb_filter.specs.Seats.{Seat, temp_for}
 use Rattle.cb_filter.specs.FilterRule.{EmptyAnswer, AbsentAs, IsInPlace, HasNoSlot, GetsSlot, FilterSeated, FilterHere, FilterAs, FilterRule, NeedsMemory}
 use Rattle.cb_filter.specs.FilterEffect.{IsCooled, IsMoved, FilterEffect}
@@ -108,7 +108,9 @@ cool_exact x y far s es h place k run ok free objects hots =
         cool_is (word_at y h) w place
         (subst (λ (o : Object). Fits o (word_at y h)) there
         ((plain_follows es x y s run k.shows).1.fit h still))
-        (subst (λ (o : Object). HereIs o (word_at y h)) there (seen_then.here h still))
+        (subst (λ (o : Object). HereIs o (word_at y h)) there
+        (here_after es x y s h run k.shows.objects
+        (subst (λ (o : Object). HereIs o w) (sym (free_here x far s h k free)) free.0)))
         (subst (λ (o : Object). FreeIs o (word_at y h)) there
         (free_after es x y s h run ok k.shows.objects
         (subst (λ (o : Object). FreeIs o w) (sym (free_here x far s h k free)) free.1)))

@@ -209,6 +209,6 @@ pub join_goes : (answers : List Answer) (l : Line) (node : NodeId) (r : Reply) (
     → (c : Turning answers w new) → node.n < w.desk.settings.nodes
     → TurnStep (job.Join node) w r new → Goes answers (answer_to l (Join node) r) w new c.then.shown
 join_goes answers l node r w new c below step =
-    let z = join_turn w new node r c.before c.then c.few below step in
+    let z = join_turn node w new r c.before c.then c.few step in
     same_goes answers (answer_to l (Join node) r) w new (job.Join node) r c step z.0 refl
     (join_event node r z.1) z.1

@@ -138,7 +138,7 @@ joined = record (empty_world small) {
 }
 
 a_join : LineStep 1 None (Join (record { n = node })) (empty_world small) (Up (record { n = node })) joined
-a_join = done (omega arith) (refl, is_up refl refl refl) refl
+a_join = done (omega arith) (refl, is_up refl refl refl, λ s k. (s, k, λ h. refl)) refl
 
 leads : LinesLead [] (empty_world small) (answer (Join (record { n = node })) (Up (record { n = node })) ∷ [])
     joined

@@ -7,7 +7,7 @@ use Rattle.cb_world.specs.declared.event.Event.TheVariants.{Loaded, Stored}
 use Rattle.cb_world.specs.Memory.{byte_at, window, put, words_for}
 use Rattle.cb_world.specs.declared.shown.Shown.{Shown}
 use Rattle.cb_world.specs.Played.{Agree, played}
-use Rattle.cb_world.specs.Write.{IsWrite}
+use Rattle.cb_world.specs.Write.{IsWrite, IsWriteBelow}
 use Rattle.cb_world.specs.Shown.{Owns, Covers}
 use Rattle.cb_world.proofs.Laws.{put_at-windows as put_at, set_put, length_put, played_append, agree_last}
 use Rattle.cb_world.specs.StillDesk.{window_length}
@@ -15,14 +15,6 @@ use Rattle.cb_mutate.specs.Merged.{IsMerged, IsMixed}
 use Rattle.cb_mutate.specs.Wordwise.{IsReached, IsWordwise}
 use Rattle.cb_mutate.specs.Stores.{AreStores}
 use Rattle.cb_world.specs.Claimed.{OwnsAll}
-
--- the words with one write as far as the byte n
-pub record IsWriteBelow (n : ℕ) (old : List ℕ) (at : ℕ) (bytes : List ℕ) (new : List ℕ)
-    : Type 0 where
-  pub sized : length new ≡ length old
-  pub inside : (i : ℕ) → i < length bytes → at + i < n → byte_at new (at + i) ≡ get_or bytes i 0
-  pub outside : (p : ℕ) → p < 8 * length old → (n ≤ p) ⊎ ((p < at) ⊎ (at + length bytes ≤ p))
-      → byte_at new p ≡ byte_at old p
 
 -- the words that were stored so far are those below the word n that the bytes reach
 pub record IsWordwiseBelow (n : ℕ) (old : List ℕ) (at count : ℕ) (new : List ℕ) : Type 0 where

@@ -139,6 +139,22 @@ rule_cases x y far new s bytes es answer.Crowded k l run rule done = absurd rule
 rule_cases x y far new s bytes es (answer.Swapped a) k l run rule done = absurd rule
 rule_cases x y far new s bytes es answer.Stays k l run rule done = absurd rule
 rule_cases x y far new s bytes es (answer.Word a) k l run rule done = absurd rule
+rule_cases x y far new s bytes es (answer.Pair a b) k l run rule done = absurd rule
+rule_cases x y far new s bytes es (answer.Stepped a) k l run rule done = absurd rule
+rule_cases x y far new s bytes es answer.AllStepped k l run rule done = absurd rule
+rule_cases x y far new s bytes es (answer.Merged a b) k l run rule done = absurd rule
+rule_cases x y far new s bytes es answer.NoPair k l run rule done = absurd rule
+rule_cases x y far new s bytes es (answer.Joining a b) k l run rule done = absurd rule
+rule_cases x y far new s bytes es (answer.NodeFull a) k l run rule done = absurd rule
+rule_cases x y far new s bytes es (answer.Changed a) k l run rule done = absurd rule
+rule_cases x y far new s bytes es (answer.Unfinished a) k l run rule done = absurd rule
+rule_cases x y far new s bytes es answer.NoJoin k l run rule done = absurd rule
+rule_cases x y far new s bytes es answer.Claimed k l run rule done = absurd rule
+rule_cases x y far new s bytes es (answer.Stored a) k l run rule done = absurd rule
+rule_cases x y far new s bytes es answer.NotClaimed k l run rule done = absurd rule
+rule_cases x y far new s bytes es (answer.NotStored a) k l run rule done = absurd rule
+rule_cases x y far new s bytes es (answer.Held a) k l run rule done = absurd rule
+rule_cases x y far new s bytes es answer.NotHeld k l run rule done = absurd rule
 
 -- Over a still desk of which all is known a make is a step, and all is known of it afterwards.
 pub make_step : (x y : Words) (far new : FarState) (s : Shown) (bytes : List ℕ) (r : Reply)

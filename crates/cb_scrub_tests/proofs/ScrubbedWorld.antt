@@ -59,9 +59,15 @@ module _ (w : WorldState) (new : FarState) (sound : IsSoundWorld w)
       shows = sound.known.shows;
       hots = sound.known.hots;
       sound = subst (Sound sound.shown) far_again.as_was far_again.sound;
-      here = sound.known.here;
     };
     pinned = sound.pinned;
+    ongoing = record {
+      each = sound.ongoing.each;
+      once = sound.ongoing.once;
+      apart = sound.ongoing.apart;
+      moving = sound.ongoing.moving;
+    };
+    one = sound.one;
     counted = record {
       kinds = sound.counted.kinds;
       jobs = sound.counted.jobs;

@@ -20,7 +20,7 @@ use Rattle.cb_world.specs.Plain.{Words, Shows}
 use Rattle.cb_world.specs.StillDesk.{plain_follows, plain_stays}
 use Rattle.cb_world.specs.FarState.{FarState}
 use Rattle.cb_world.specs.World.{word_at}
-use Rattle.cb_world.proofs.Laws.{HereIs, AreSeen, seen_after, seen_known, FreeIs, free_after, word_back, RunsStill}
+use Rattle.cb_world.proofs.Laws.{HereIs, AreSeen, here_after, seen_after, seen_known, FreeIs, free_after, word_back, RunsStill}
 use Rattle.cb_swapin.specs.BroughtIn.{IsBrought, IsAsBefore, IsSpanBrought}
 use Rattle.cb_swapin.specs.SwapStep.{AreBroughtTo, brought_word}
 
@@ -81,7 +81,9 @@ module _ (x y : Words) (far : FarState) (s : Shown) (es : List Event) (slots : L
       let free : FreeIs (object_at s h) (word_at x h) =
       subst (λ (o : Object). FreeIs o (word_at x h)) (sym z.was) tt in
       word_is_brought (word_at y h) (len_of (word_at x h)) (slot_place class f slot) fit.0
-      (subst (λ (o : Object). HereIs o (word_at y h)) z.here (seen.here h there))
+      (subst (λ (o : Object). HereIs o (word_at y h)) z.here
+      (here_after es x y s h r.ran r.known.shows.objects
+      (subst (λ (o : Object). HereIs o (word_at x h)) (sym z.was) tt)))
       (sym (seen.hot h there) ∙ z.hot)
       (subst (λ (o : Object). FreeIs o (word_at y h)) z.here
       (free_after es x y s h r.ran r.allowed r.known.shows.objects free))

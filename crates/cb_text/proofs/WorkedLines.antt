@@ -7,8 +7,8 @@ use Rattle.cb_types.specs.declared.handle.Lane.{Lane}
 use Rattle.cb_types.specs.declared.answer.Answer.{Answer}
 use Rattle.cb_types.specs.declared.reply.Reply.{Reply}
 use Rattle.cb_types.specs.declared.request.Request.{Request}
-use Rattle.cb_types.specs.declared.request.Request.TheVariants.{Make, Read, Write, Free, Pin, Peek, Unpin, Leave, Filter, Evict, Begin, Ship, Commit, Abort, Rebuild, Crash, Join}
-use Rattle.cb_types.specs.declared.reply.Reply.TheVariants.{Made, Version, Bytes, Done, Left, Moved, Same, Set, Batch, Shipped, AllShipped, Rebuilt, EpochAt, Full, NoRoom, Unmade, Freed, Moving, Unavailable, Range, Pinned, Worn, ScopeFull, NotPinned, NotHere, NoSlot, NoSpans, NoNodes, Leaving, NoNode, NoBatch, Short, Whole, Stuck, Down, Up}
+use Rattle.cb_types.specs.declared.request.Request.TheVariants.{Make, Read, Write, Free, Pin, Peek, Unpin, Leave, Filter, Evict, Begin, Ship, Commit, Abort, Pair, Patch, Merge, Part, Compact, Rebuild, Crash, Join}
+use Rattle.cb_types.specs.declared.reply.Reply.TheVariants.{Made, Version, Bytes, Done, Left, Moved, Same, Set, Batch, Shipped, AllShipped, Rebuilt, EpochAt, Full, NoRoom, Unmade, Freed, Moving, Unavailable, Range, Pinned, Worn, ScopeFull, NotPinned, NotHere, NoSlot, NoSpans, NoNodes, Leaving, NoNode, NoBatch, Short, Whole, Stuck, Down, Up, Pair as Paired, Stepped, AllStepped, Merged, NoPair, Joining, NodeFull, Changed, Unfinished, NoJoin}
 use Rattle.cb_text.specs.Line.{answer_line, text_of}
 
 abbrev lane : ℕ → Lane
@@ -172,6 +172,50 @@ up = refl
 unavailable : answer_line (lane 1) (Read a) (Unavailable (record { n = 7 }) (record { node = record { n = 0 }; epoch = record { n = 1 } } ∷ record { node = record { n = 5 }; epoch = record { n = 12 } } ∷ [])) ≡ codes "1 read a unavailable set 7 lost 0@1 5@12\n"
 unfolding digits
 unavailable = refl
+
+paired : answer_line (lane 1) Pair (Paired (record { n = 3 }) (record { n = 12 })) ≡ codes "1 pair pair 3 12\n"
+unfolding digits
+paired = refl
+
+joining : answer_line (lane 1) Compact (Joining (record { n = 3 }) (record { n = 12 })) ≡ codes "1 compact joining 3 12\n"
+unfolding digits
+joining = refl
+
+no_pair : answer_line (lane 1) Pair NoPair ≡ codes "1 pair nopair\n"
+unfolding digits
+no_pair = refl
+
+stepped : answer_line (lane 1) Patch (Stepped 17) ≡ codes "1 patch stepped 17\n"
+unfolding digits
+stepped = refl
+
+all_stepped : answer_line (lane 1) Patch AllStepped ≡ codes "1 patch allstepped\n"
+unfolding digits
+all_stepped = refl
+
+node_full : answer_line (lane 1) Patch (NodeFull (record { n = 5 })) ≡ codes "1 patch nodefull 5\n"
+unfolding digits
+node_full = refl
+
+changed : answer_line (lane 1) Merge (Changed (record { n = 3 })) ≡ codes "1 merge changed 3\n"
+unfolding digits
+changed = refl
+
+unfinished : answer_line (lane 1) Merge (Unfinished (1 ∷ 4 ∷ [])) ≡ codes "1 merge unfinished 1 4\n"
+unfolding digits
+unfinished = refl
+
+no_join : answer_line (lane 1) Part NoJoin ≡ codes "1 part nojoin\n"
+unfolding digits
+no_join = refl
+
+parted : answer_line (lane 1) Part Done ≡ codes "1 part ok\n"
+unfolding digits
+parted = refl
+
+merged : answer_line (lane 1) Compact (Merged (record { n = 20 }) 2) ≡ codes "1 compact set 20 moved 2\n"
+unfolding digits
+merged = refl
 
 -- the lines of a make and of a read, one behind the other
 abbrev answer : ℕ → Request → Reply → Answer

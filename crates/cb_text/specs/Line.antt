@@ -4,11 +4,12 @@ use Rattle.std.specs.List.{flat_map}
 use Rattle.hex.specs.Hex.{encode_lower}
 use Rattle.cb_member.specs.declared.names.Loss.{Loss}
 use Rattle.cb_types.specs.declared.handle.Lane.{Lane}
+use Rattle.cb_types.specs.declared.handle.SetId.{SetId}
 use Rattle.cb_types.specs.declared.answer.Answer.{Answer}
 use Rattle.cb_types.specs.declared.request.Request.{Request}
 use Rattle.cb_types.specs.declared.request.Request.TheVariants.{Make, Read, Write, Free, Pin, Peek, Unpin, Leave, Filter, Evict, Begin, Ship, Commit, Abort, Pair, Patch, Merge, Part, Compact, Rebuild, Crash, Join}
 use Rattle.cb_types.specs.declared.reply.Reply.{Reply}
-use Rattle.cb_types.specs.declared.reply.Reply.TheVariants.{Made, Version, Bytes, Done, Left, Moved, Same, Set, Batch, Shipped, AllShipped, Rebuilt, EpochAt, Full, NoRoom, Unmade, Freed, Moving, Unavailable, Range, Pinned, Worn, ScopeFull, NotPinned, NotHere, NoSlot, NoSpans, NoNodes, Leaving, NoNode, NoBatch, Short, Whole, Stuck, Down, Up}
+use Rattle.cb_types.specs.declared.reply.Reply.TheVariants.{Made, Version, Bytes, Done, Left, Moved, Same, Set, Batch, Shipped, AllShipped, Rebuilt, EpochAt, Full, NoRoom, Unmade, Freed, Moving, Unavailable, Range, Pinned, Worn, ScopeFull, NotPinned, NotHere, NoSlot, NoSpans, NoNodes, Leaving, NoNode, NoBatch, Short, Whole, Stuck, Down, Up, Pair as Paired, Stepped, AllStepped, Merged, NoPair, Joining, NodeFull, Changed, Unfinished, NoJoin}
 use Rattle.cb_types.specs.Requests.{name_of}
 
 -- a space, and then the word
@@ -89,6 +90,12 @@ word_of NoBatch = codes "nobatch"
 word_of (Whole gone) = codes "whole"
 word_of (Down node) = codes "down"
 word_of (Up node) = codes "up"
+word_of (Stepped position) = codes "stepped"
+word_of AllStepped = codes "allstepped"
+word_of NoPair = codes "nopair"
+word_of (NodeFull node) = codes "nodefull"
+word_of (Changed set) = codes "changed"
+word_of NoJoin = codes "nojoin"
 word_of reply = []
 
 -- the number that is told behind the word, where there is one
@@ -108,6 +115,9 @@ number_of (Leaving set) = Some set.n
 number_of (Whole gone) = Some gone
 number_of (Down node) = Some node.n
 number_of (Up node) = Some node.n
+number_of (Stepped position) = Some position
+number_of (NodeFull node) = Some node.n
+number_of (Changed set) = Some set.n
 number_of reply = None
 
 abbrev pub number_text : Option ℕ → List ℕ
@@ -122,8 +132,17 @@ loss_text loss = spaced (decimal loss.node.n) ++ 64 ∷ decimal loss.epoch.n
 abbrev pub position_text : ℕ → List ℕ
 position_text position = spaced (decimal position)
 
+-- a word and the numbers of two sets, each behind a space
+abbrev pub pair_text : List ℕ → SetId → SetId → List ℕ
+pair_text word a b = counted word a.n ++ spaced (decimal b.n)
+
+-- a word and positions, each behind a space
+abbrev pub listed : List ℕ → List ℕ → List ℕ
+listed word positions = spaced word ++ flat_map position_text positions
+
 -- The words of a reply, each behind a space: a version with its `v`, and bytes in lower-case
--- hexadecimal; numbers by their names; else one word, and a number where it has one.
+-- hexadecimal; numbers by their names; two sets or all positions behind their word; else one word,
+-- and a number where it has one.
 abbrev pub reply_text : Reply → List ℕ
 reply_text (Made handle version) = spaced (version_text version)
 reply_text (Version version) = spaced (version_text version)
@@ -138,7 +157,11 @@ reply_text (Rebuilt set position node) =
     spaced (codes "rebuilt") ++ counted (codes "set") set.n ++ counted (codes "position") position
     ++ counted (codes "node") node.n
 reply_text (Stuck set) = spaced (codes "stuck") ++ counted (codes "set") set.n
-reply_text (Short positions) = spaced (codes "short") ++ flat_map position_text positions
+reply_text (Short positions) = listed (codes "short") positions
+reply_text (Paired a b) = pair_text (codes "pair") a b
+reply_text (Joining a b) = pair_text (codes "joining") a b
+reply_text (Merged set moved) = counted (codes "set") set.n ++ counted (codes "moved") moved
+reply_text (Unfinished positions) = listed (codes "unfinished") positions
 reply_text reply = spaced (word_of reply) ++ number_text (number_of reply)
 
 -- the line of an answer: the lane, the verb, the name or node, the reply and a line feed

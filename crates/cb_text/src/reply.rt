@@ -1,7 +1,7 @@
 ghost use Rattle.std.specs.Prelude.{◌≡◌, ◌++◌, OnOk, codes};
 ghost use Rattle.std.specs.Io.{StartsWith};
 ghost use Rattle.std.specs.List.{flat_map};
-ghost use Rattle.cb_text.specs.Line.{counted, loss_text, number_of, number_text, position_text, reply_text, spaced, word_of};
+ghost use Rattle.cb_text.specs.Line.{counted, listed, loss_text, number_of, number_text, pair_text, position_text, reply_text, spaced, word_of};
 
 use crate::word::{push_counted, push_hexadecimal, push_number, push_version, push_word};
 use cb_types::{Loss, NoMemory, NodeId, Reply, SetId};
@@ -31,7 +31,11 @@ pub(crate) fn push_reply(text: &mut Vec<u8>, reply: &Reply) -> Result<(), NoMemo
             node,
         } => push_rebuilt(text, *set, *position, *node),
         Reply::Stuck { set } => push_set(text, b"stuck", *set),
-        Reply::Short { positions } => push_short(text, positions.as_slice()),
+        Reply::Short { positions } => push_listed(text, b"short", positions.as_slice()),
+        Reply::Pair { a, b } => push_pair(text, b"pair", *a, *b),
+        Reply::Joining { a, b } => push_pair(text, b"joining", *a, *b),
+        Reply::Merged { set, moved } => push_merged(text, *set, *moved),
+        Reply::Unfinished { positions } => push_listed(text, b"unfinished", positions.as_slice()),
         _ => push_plain(text, reply),
     }
 }
@@ -82,6 +86,12 @@ fn word(reply: &Reply) -> &'static str
         Reply::Whole { .. } => "whole",
         Reply::Down { .. } => "down",
         Reply::Up { .. } => "up",
+        Reply::Stepped { .. } => "stepped",
+        Reply::AllStepped => "allstepped",
+        Reply::NoPair => "nopair",
+        Reply::NodeFull { .. } => "nodefull",
+        Reply::Changed { .. } => "changed",
+        Reply::NoJoin => "nojoin",
         _ => "",
     }
 }
@@ -106,6 +116,9 @@ fn number(reply: &Reply) -> Option<u64>
         Reply::Whole { gone } => Some(u64::from(*gone)),
         Reply::Down { node } => Some(u64::from(node.n)),
         Reply::Up { node } => Some(u64::from(node.n)),
+        Reply::Stepped { position } => Some(u64::from(*position)),
+        Reply::NodeFull { node } => Some(u64::from(node.n)),
+        Reply::Changed { set } => Some(set.n),
         _ => None,
     }
 }
@@ -178,13 +191,32 @@ fn push_loss(text: &mut Vec<u8>, loss: Loss) -> Result<(), NoMemory>
     Ok(())
 }
 
-/// Adds that rows of a batch are not put or were lost, and the positions that show it.
-fn push_short(text: &mut Vec<u8>, positions: &[u8]) -> Result<(), NoMemory>
-    ensures text { OnOk result (text.new.items
-        ≡ text.old.items ++ reply_text (Reply.Short positions.now)) }
+/// Adds a word and the numbers of two sets.
+fn push_pair(text: &mut Vec<u8>, word: &[u8], a: SetId, b: SetId) -> Result<(), NoMemory>
+    ensures text { OnOk result (text.new.items ≡ text.old.items ++ pair_text word.now a b) }
     ensures kept { StartsWith text.new.items text.old.items }
 {
-    push_word(text, b"short")?;
+    push_counted(text, word, a.n)?;
+    push_number(text, b.n)
+}
+
+/// Adds that a pair is one set: its number, and how many positions moved there.
+fn push_merged(text: &mut Vec<u8>, set: SetId, moved: u32) -> Result<(), NoMemory>
+    ensures text { OnOk result (text.new.items
+        ≡ text.old.items ++ reply_text (Reply.Merged set moved)) }
+    ensures kept { StartsWith text.new.items text.old.items }
+{
+    push_counted(text, b"set", set.n)?;
+    push_counted(text, b"moved", u64::from(moved))
+}
+
+/// Adds a word, and each position behind a space.
+fn push_listed(text: &mut Vec<u8>, word: &[u8], positions: &[u8]) -> Result<(), NoMemory>
+    ensures text { OnOk result (text.new.items
+        ≡ text.old.items ++ listed word.now positions.now) }
+    ensures kept { StartsWith text.new.items text.old.items }
+{
+    push_word(text, word)?;
     push_positions(text, positions)
 }
 

@@ -4,7 +4,7 @@ use Rattle.cb_types.specs.declared.config.Config.{Config}
 use Rattle.cb_types.specs.declared.config.Field.{Field}
 use Rattle.cb_types.specs.declared.config.Field.TheVariants.{K, R, Nodes, Frames, Room, Handles, Turns}
 use Rattle.cb_types.specs.declared.request.Request.TheVariants as line
-use Rattle.cb_types.specs.declared.reply.Reply.TheVariants.{Made, Version, Bytes, Done, Left, Full, NoRoom, Unmade, Freed, Moving, Unavailable, Range, Pinned, Worn, ScopeFull, NotHere, NoFrame, Down, Stays}
+use Rattle.cb_types.specs.declared.reply.Reply.TheVariants.{Made, Version, Bytes, Done, Left, Full, NoRoom, Unmade, Freed, Moving, Unavailable, Range, Pinned, Worn, ScopeFull, NotHere, NoFrame, Down, Stays, Joining, NodeFull, NoPair, NoJoin, Unfinished, Short, Changed}
 use Rattle.cb_types.specs.Config.{IsInRange, IsAccepted, IsFirstOutOfRange, place}
 use Rattle.cb_types.specs.Faults.{Rose}
 use Rattle.cb_types.specs.Table.{IsReplyOf}
@@ -168,3 +168,33 @@ a_join_is_not_answered_down is = is
 
 no_line_is_answered_that_an_object_stays : IsReplyOf (line.Pin []) Stays → ⊥
 no_line_is_answered_that_an_object_stays is = is
+
+a_pair_is_answered_that_a_pair_is_joining : IsReplyOf line.Pair (Joining (record { n = 1 }) (record { n = 2 }))
+a_pair_is_answered_that_a_pair_is_joining = tt
+
+a_pair_is_not_answered_that_a_node_is_full : IsReplyOf line.Pair (NodeFull (record { n = 0 })) → ⊥
+a_pair_is_not_answered_that_a_node_is_full is = is
+
+a_patch_is_answered_that_a_node_is_full : IsReplyOf line.Patch (NodeFull (record { n = 0 }))
+a_patch_is_answered_that_a_node_is_full = tt
+
+a_patch_is_not_answered_unfinished : IsReplyOf line.Patch (Unfinished []) → ⊥
+a_patch_is_not_answered_unfinished is = is
+
+a_merge_is_answered_unfinished : IsReplyOf line.Merge (Unfinished [])
+a_merge_is_answered_unfinished = tt
+
+a_merge_is_not_answered_short : IsReplyOf line.Merge (Short []) → ⊥
+a_merge_is_not_answered_short is = is
+
+a_part_is_answered_that_no_pair_is_joining : IsReplyOf line.Part NoJoin
+a_part_is_answered_that_no_pair_is_joining = tt
+
+a_part_is_not_answered_changed : IsReplyOf line.Part (Changed (record { n = 1 })) → ⊥
+a_part_is_not_answered_changed is = is
+
+a_compact_is_answered_that_there_is_no_pair : IsReplyOf line.Compact NoPair
+a_compact_is_answered_that_there_is_no_pair = tt
+
+a_compact_is_not_answered_changed : IsReplyOf line.Compact (Changed (record { n = 1 })) → ⊥
+a_compact_is_not_answered_changed is = is

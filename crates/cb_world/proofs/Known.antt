@@ -47,12 +47,11 @@ abbrev pub HereIs : Object → ℕ → Type 0
 HereIs (is.Here len place) w = state_of w ≡ word.Here
 HereIs _ w = Unit {0}
 
--- each hot bit is known, and no one else claims an object
+-- each hot bit is known
 pub record AreSeen (x : Words) (s : Shown) : Type 0 where
   pub objects : length s.objects ≡ length x.words
   pub hots : length s.hots ≡ length x.words
   pub hot : (h : ℕ) → h < length x.words → hot_at s h ≡ hot_of (get_or x.words h 0)
-  pub here : (h : ℕ) → h < length x.words → HereIs (object_at s h) (get_or x.words h 0)
 
 settled_seen : (q : State) (w v : ℕ) (o : Object) → state_of w ≡ q → IsSettledAs q w
     → HereIs (settled_by q w v o) w
@@ -77,7 +76,6 @@ seen_after (Looked h w ∷ es) x y s run a =
           → get_or (set s.hots h (hot_of w)) k false ≡ hot_of (get_or ws k 0)) same
           (pair_set (λ b n. b ≡ hot_of n) false s.hots x.words h w (hot_of w) a.hots run.0.1 refl
           a.hot);
-      here = a.here;
     })
 seen_after (Claimed h w v xs ∷ es) x y s run a =
     let b = run.0 in let moved : Claims w (w + 1) = claims w b.here b.no_pins in
@@ -87,17 +85,15 @@ seen_after (Claimed h w v xs ∷ es) x y s run a =
       hots = length-set s.hots h (hot_of w) ∙ a.hots ∙ sym (length-set x.words h (w + 1));
       hot = pair_set (λ b n. b ≡ hot_of n) false s.hots x.words h (w + 1) (hot_of w) a.hots b.within
           (sym moved.hot) a.hot;
-      here = pair_set HereIs never s.objects x.words h (w + 1)
-          (is.Claimed (len_of w) (place_of w) v xs) a.objects b.within tt a.here;
     })
 seen_after (Told h v ∷ es) x y s run a = seen_after es x y s run.1 a
 seen_after (Loaded p w ∷ es) x y s run a = seen_after es x y s run.1 a
 seen_after (Stored p w ∷ es) x y s run a =
     seen_after es (record x { memory = set x.memory p w }) y (after (Stored p w) s) run
-    (record { objects = a.objects; hots = a.hots; hot = a.hot; here = a.here })
+    (record { objects = a.objects; hots = a.hots; hot = a.hot })
 seen_after (Stamped h v ∷ es) x y s run a =
     seen_after es (record x { versions = set x.versions h v }) y (after (Stamped h v) s) run
-    (record { objects = a.objects; hots = a.hots; hot = a.hot; here = a.here })
+    (record { objects = a.objects; hots = a.hots; hot = a.hot })
 seen_after (Settled h w ∷ es) x y s run a =
     let o = settled_by (state_of w) w (version_at s h) (object_at s h) in
     seen_after es (record x { words = set x.words h w }) y (after (Settled h w) s) run.1 (record {
@@ -105,24 +101,59 @@ seen_after (Settled h w ∷ es) x y s run a =
       hots = length-set s.hots h (hot_of w) ∙ a.hots ∙ sym (length-set x.words h w);
       hot = pair_set (λ b n. b ≡ hot_of n) false s.hots x.words h w (hot_of w) a.hots run.0.0 refl
           a.hot;
-      here = pair_set HereIs never s.objects x.words h w o a.objects run.0.0
-          (settled_seen (state_of w) w (version_at s h) (object_at s h) refl run.0.1) a.here;
     })
 
-here_is : (o : Object) (w : ℕ) → ((len place : ℕ) → o ≡ is.Here len place → state_of w ≡ word.Here)
-    → HereIs o w
-here_is (is.Empty v) w f = tt
-here_is (is.Far len v words) w f = tt
-here_is (is.Here len place) w f = f len place refl
-here_is (is.Claimed len place v words) w f = tt
+-- one object and its word are changed
+set_here : (objects : List Object) (ws : List ℕ) (h k w : ℕ) (o : Object)
+    → length objects ≡ length ws → k < length ws → HereIs o w
+    → HereIs (get_or objects h never) (get_or ws h 0)
+    → HereIs (get_or (set objects k o) h never) (get_or (set ws k w) h 0)
+set_here objects ws h k w o same within mine here = elim (ℕ_discrete h k) [
+  | yes e ↦
+      subst (λ (i : ℕ). HereIs (get_or (set objects k o) i never) (get_or (set ws k w) i 0)) (sym e)
+      (subst (λ (n : ℕ). HereIs (get_or (set objects k o) k never) n)
+      (sym (get_or-set_same ws k w 0 within))
+      (subst (λ (p : Object). HereIs p w)
+      (sym (get_or-set_same objects k o never (omega (arith, same, within)))) mine))
+  | no off ↦
+      subst (λ (n : ℕ). HereIs (get_or (set objects k o) h never) n)
+      (sym (get_or-set_other ws k h w 0 off))
+      (subst (λ (p : Object). HereIs p (get_or ws h 0))
+      (sym (get_or-set_other objects k h o never off)) here)
+]
+
+-- an object that is here and not claimed has a word that is here afterwards, where it had one
+pub here_after : (es : List Event) (x y : Words) (s : Shown) (h : ℕ) → Plain x es y
+    → length s.objects ≡ length x.words → HereIs (object_at s h) (get_or x.words h 0)
+    → HereIs (object_at (played es s) h) (get_or y.words h 0)
+here_after [] x y s h run same here =
+    subst (λ (z : Words). HereIs (object_at s h) (get_or z.words h 0)) (sym run) here
+here_after (Looked k w ∷ es) x y s h run same here =
+    here_after es x y (after (Looked k w) s) h run.1 same here
+here_after (Claimed k w v xs ∷ es) x y s h run same here =
+    here_after es (record x { words = set x.words k (w + 1) }) y (after (Claimed k w v xs) s) h run.1
+    (length-set s.objects k _ ∙ same ∙ sym (length-set x.words k (w + 1)))
+    (set_here s.objects x.words h k (w + 1) (is.Claimed (len_of w) (place_of w) v xs) same
+    run.0.within tt here)
+here_after (Told k v ∷ es) x y s h run same here = here_after es x y s h run.1 same here
+here_after (Loaded p w ∷ es) x y s h run same here = here_after es x y s h run.1 same here
+here_after (Stored p w ∷ es) x y s h run same here =
+    here_after es (record x { memory = set x.memory p w }) y (after (Stored p w) s) h run same here
+here_after (Stamped k v ∷ es) x y s h run same here =
+    here_after es (record x { versions = set x.versions k v }) y (after (Stamped k v) s) h run same
+    here
+here_after (Settled k w ∷ es) x y s h run same here =
+    let o = settled_by (state_of w) w (version_at s k) (object_at s k) in
+    here_after es (record x { words = set x.words k w }) y (after (Settled k w) s) h run.1
+    (length-set s.objects k o ∙ same ∙ sym (length-set x.words k w))
+    (set_here s.objects x.words h k w o same run.0.0
+    (settled_seen (state_of w) w (version_at s k) (object_at s k) refl run.0.1) here)
 
 pub seen_known : (x : Words) (far : FarState) (s : Shown) → IsKnown x far s → AreSeen x s
 seen_known x far s k = record {
   objects = k.shows.objects;
   hots = k.shows.hots;
   hot = k.hots;
-  here = λ h below. here_is (object_at s h) (word_at x h)
-      (λ len place e. k.here h len place below e);
 }
 
 -- what is known after a call, where the world is sound then
@@ -135,8 +166,6 @@ known_after x y far new s es k run sized sound = let seen =
       shows = (plain_follows es x y s run k.shows).1;
       hots = seen.hot;
       sound = sound;
-      here = λ h len place below e. subst (λ (o : Object). HereIs o (word_at y h)) e
-          (seen.here h below);
     }
 
 -- what the events can tell of is known: hot bits of words that are looked at, and the words of

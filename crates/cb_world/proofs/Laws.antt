@@ -26,12 +26,13 @@ pub use Rattle.cb_world.proofs.Gone.{sound_gone}
 pub use Rattle.cb_world.proofs.JoinNow.{commit_now, pair_now, whole_not_broken}
 pub use Rattle.cb_world.proofs.Joined.{pair_kept, sets_kept}
 pub use Rattle.cb_world.proofs.Kept.{claim_played, claimed_from, frame_in_range, lies_within, set_back}
-pub use Rattle.cb_world.proofs.Known.{AreSeen, HereIs, seen_after, seen_known}
+pub use Rattle.cb_world.proofs.Known.{AreSeen, HereIs, here_after, seen_after, seen_known}
 pub use Rattle.cb_world.proofs.Merging.{merged_parity, merged_word, same_data, word_with_row}
 pub use Rattle.cb_world.proofs.NodeJoin.{claimed_stay, local_stays, node_crash_sound, node_join_now, node_join_sound, noted_stays}
 pub use Rattle.cb_world.proofs.NowKept.{brought_now, now_kept, put_away_now}
 pub use Rattle.cb_world.proofs.NowOthers.{contents_beside, near_lies}
 pub use Rattle.cb_world.proofs.NowSame.{bits, empty_now, empty_value, far_object, near_now, near_object, now_by_words, now_same}
+pub use Rattle.cb_world.proofs.OpenKept.{open_here, open_kept, open_same, open_word, pins_hold, pins_leave}
 pub use Rattle.cb_world.proofs.Patching.{join_is_merged, parity_step, patched_more}
 pub use Rattle.cb_world.proofs.PinNow.{pinned_now, unpinned_now}
 pub use Rattle.cb_world.proofs.Pins.{pin_counts, pin_sound, pinned_still, unpin_sound}

@@ -69,6 +69,7 @@ pub mod Placed
 pub mod Empty
 pub mod Codes
 pub mod Staying
+pub mod OpenKept
 pub mod Worlds
 pub mod NodeJoin
 pub mod Alike
@@ -81,6 +82,7 @@ mod WorkedWorld
 mod WorkedFar
 mod WorkedReserved
 mod WorkedOpen
+mod WorkedOpenWrites
 mod WorkedChoices
 mod WorkedLeft
 mod WorkedPlaced

@@ -51,7 +51,6 @@ word_known desk far s h w k within fit here = record {
   };
   hots = λ j below. hots j below (ℕ_discrete j h);
   sound = look_sound far s [] [] h w k.sound tt tt;
-  here = λ j len place below at. still j len place below at (ℕ_discrete j h);
 }
   where
     hots : (j : ℕ) → j < length (set desk.words h w) → Dec (j ≡ h)
@@ -65,15 +64,6 @@ word_known desk far s h w k within fit here = record {
         get_or-set_other s.hots h j (hot_of w) false n
         ∙ k.hots j (let l = length-set desk.words h w in omega (arith, l, below))
         ∙ ap hot_of (sym (get_or-set_other desk.words h j w 0 n))
-
-    still : (j len place : ℕ) → j < length (set desk.words h w) → object_at s j ≡ is.Here len place
-        → Dec (j ≡ h) → state_of (get_or (set desk.words h w) j 0) ≡ word.Here
-    still j len place below at (yes e) =
-        ap state_of (ap (λ (i : ℕ). get_or (set desk.words h w) i 0) e
-        ∙ get_or-set_same desk.words h w 0 within) ∙ here
-    still j len place below at (no n) =
-        ap state_of (get_or-set_other desk.words h j w 0 n)
-        ∙ k.here j len place (let l = length-set desk.words h w in omega (arith, l, below)) at
 
 -- a word that is here with other pins fits the object that its first word fits
 other_fits : (o : Object) (v w : ℕ) → Fits o v → state_of v ≡ word.Here → w < 2 ^ 53

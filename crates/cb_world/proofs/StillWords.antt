@@ -26,7 +26,7 @@ use Rattle.cb_world.specs.World.{word_at, IsKnown}
 use Rattle.cb_world.specs.StillWords.{with_hot}
 use Rattle.cb_world.specs.StillDesk.{here_is as fits_here, plain_follows, plain_stays}
 use Rattle.cb_world.proofs.Untouched.{may_held, untouched}
-use Rattle.cb_world.proofs.Known.{HereIs, AreSeen, seen_after, seen_known, told_known}
+use Rattle.cb_world.proofs.Known.{HereIs, AreSeen, seen_after, here_after, seen_known, told_known}
 
 not_told : (h v : ℕ) (es : List Event) → NoTell es → IsTold h v es → ⊥
 not_told h v [] none told = told
@@ -164,14 +164,25 @@ one_word (is.Claimed len place u words) v w a b p q m n e =
     (a.2 ∙ sym b.2) in
     let flags = ap flag_number e in omega (arith, near, flags)
 
-free_or_busy : (o : Object) (w : ℕ)
-    → FreeIs o w ⊎ ((len : ℕ) × (place : ℕ) × (o ≡ is.Here len place) × (pins_of w ≡ 0 → ⊥))
-free_or_busy (is.Empty v) w = inl tt
-free_or_busy (is.Far len v words) w = inl tt
-free_or_busy (is.Claimed len place v words) w = inl tt
-free_or_busy (is.Here len place) w = elim (ℕ_discrete (pins_of w) 0) [
-  | yes none ↦ inl none
-  | no some ↦ inr (len, place, refl, some)
+-- a word is free, or it is not
+is_free : (w : ℕ) → IsFree w ⊎ (IsFree w → ⊥)
+is_free w = by (state_of w) refl (ℕ_discrete (pins_of w) 0)
+  where
+    by : (q : State) → state_of w ≡ q → Dec (pins_of w ≡ 0) → IsFree w ⊎ (IsFree w → ⊥)
+    by word.Here e (yes none) = inl (e, none)
+    by q e (no some) = inr (λ free. some free.1)
+    by word.Empty e (yes none) = inr (λ free. let f = sym e ∙ free.0 in cc)
+    by word.Far e (yes none) = inr (λ free. let f = sym e ∙ free.0 in cc)
+    by word.Moving e (yes none) = inr (λ free. let f = sym e ∙ free.0 in cc)
+
+free_or_busy : (o : Object) (w : ℕ) → (FreeIs o w × HereIs o w)
+    ⊎ ((len : ℕ) × (place : ℕ) × (o ≡ is.Here len place) × (IsFree w → ⊥))
+free_or_busy (is.Empty v) w = inl (tt, tt)
+free_or_busy (is.Far len v words) w = inl (tt, tt)
+free_or_busy (is.Claimed len place v words) w = inl (tt, tt)
+free_or_busy (is.Here len place) w = elim (is_free w) [
+  | inl free ↦ inl (free.1, free.0)
+  | inr busy ↦ inr (len, place, refl, busy)
 ]
 
 -- the word of an object of which nothing else is known then is what it was
@@ -191,21 +202,22 @@ word_back x y far s es h k run ok below still object hot =
     shows : Shows y (played es s)
     shows = (plain_follows es x y s run k.shows).1
 
-    by : FreeIs (object_at s h) (word_at x h)
+    by : (FreeIs (object_at s h) (word_at x h) × HereIs (object_at s h) (word_at x h))
         ⊎ ((len : ℕ) × (place : ℕ) × (object_at s h ≡ is.Here len place)
-        × (pins_of (word_at x h) ≡ 0 → ⊥))
+        × (IsFree (word_at x h) → ⊥))
         → word_at y h ≡ word_at x h
-    by (inl free) = one_word (object_at s h) (word_at y h) (word_at x h)
+    by (inl (free, here)) = one_word (object_at s h) (word_at y h) (word_at x h)
         (subst (λ (o : Object). Fits o (word_at y h)) object (shows.fit h still))
         (k.shows.fit h below)
-        (subst (λ (o : Object). HereIs o (word_at y h)) object (seen_then.here h still))
-        (seen.here h below)
+        (subst (λ (o : Object). HereIs o (word_at y h)) object
+        (here_after es x y s h run k.shows.objects here))
+        here
         (subst (λ (o : Object). FreeIs o (word_at y h)) object
         (free_after es x y s h run ok seen.objects free))
         free
         (sym (seen_then.hot h still) ∙ hot ∙ seen.hot h below)
     by (inr busy) = (untouched es x y s h busy.0 busy.1 run ok
-        (busy_leaves es x y s h busy.0 busy.1 run ok busy.2 (λ free. busy.3 free.1)) busy.2).word
+        (busy_leaves es x y s h busy.0 busy.1 run ok busy.2 busy.3) busy.2).word
 
 -- the list of words with one changed
 pub words_but : (xs ys : List ℕ) (h w : ℕ) → length ys ≡ length xs
@@ -308,7 +320,9 @@ hot_exact x y far s es h k run ok free objects hots =
         hot_word (word_at y h) w
         (subst (λ (o : Object). Fits o (word_at y h)) there
         ((plain_follows es x y s run k.shows).1.fit h still))
-        (subst (λ (o : Object). HereIs o (word_at y h)) there (seen_then.here h still))
+        (subst (λ (o : Object). HereIs o (word_at y h)) there
+        (here_after es x y s h run k.shows.objects
+        (subst (λ (o : Object). HereIs o w) (sym here) free.0)))
         (subst (λ (o : Object). FreeIs o (word_at y h)) there
         (free_after es x y s h run ok k.shows.objects
         (subst (λ (o : Object). FreeIs o w) (sym here) free.1)))

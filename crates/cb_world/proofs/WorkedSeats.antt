@@ -70,8 +70,8 @@ all_seats_count = refl
 abbrev an_order : Option Kept
 an_order = Some (kept.Encode (record { set = 3; k = 1; r = 1; rows = [] }))
 
-one_seat : with_pins (record { pins = three; claims = 7 ∷ []; holds = true; order = an_order } ∷ idle_seat ∷ []) 0 []
-    ≡ record { pins = []; claims = 7 ∷ []; holds = true; order = an_order } ∷ idle_seat ∷ []
+one_seat : with_pins (record { pins = three; claims = []; holds = true; order = an_order } ∷ idle_seat ∷ []) 0 []
+    ≡ record { pins = []; claims = []; holds = true; order = an_order } ∷ idle_seat ∷ []
 one_seat = refl
 
 -- ---- words and pins

@@ -1,5 +1,5 @@
 -- The empty world is sound.
-use Rattle.std.proofs.Common.{sum_by, ap, ◌∙◌, sym, get_or, length, ◌≤◌, length-set, ◌^◌, ◌+◌, ◌≡◌, ℕ, ◌*◌, ◌<◌, false, [], replicate, refl, arith, lit≤}
+use Rattle.std.proofs.Common.{sum_by, ap, ◌∙◌, sym, get_or, length, ◌≤◌, length-set, ◌^◌, ◌+◌, ◌≡◌, ℕ, ◌*◌, ◌<◌, false, [], replicate, zero, suc, refl, arith, lit≤}
 use Rattle.std.specs.List.{All}
 use Rattle.std.proofs.lemmas.List.{length-replicate}
 use Rattle.std.proofs.lemmas.List.Elements.{All-replicate}
@@ -11,19 +11,15 @@ use Rattle.cb_types.specs.declared.config.Config.{Config}
 use Rattle.cb_types.specs.declared.config.Field.TheVariants.{Nodes}
 use Rattle.cb_types.specs.Config.{IsAccepted}
 use Rattle.std.specs.FinMap as map
-use Rattle.cb_ptr.specs.Word.{hot_of, pins_of}
-use Rattle.cb_world.specs.declared.object.Object.{Object}
-use Rattle.cb_world.specs.declared.object.Object.TheVariants as is
+use Rattle.cb_ptr.specs.declared.word.State.TheVariants as word
+use Rattle.cb_ptr.specs.Word.{state_of, hot_of, pins_of}
+use Rattle.cb_world.proofs.OpenKept.{none_open}
 use Rattle.cb_world.specs.declared.seats.Pin.{Pin}
-use Rattle.cb_world.specs.Shown.{object_at, never}
 use Rattle.cb_world.specs.Empty.{empty_words, empty_shown, empty_far}
-use Rattle.cb_world.specs.Seats.{SeatState, idle_seat, pins_on, all_pins_on}
+use Rattle.cb_world.specs.Seats.{SeatState, Holds, idle_seat, pins_on, all_pins_on}
 use Rattle.cb_world.specs.World.{AreCounted, IsKnown, ArePinned, IsSoundWorld, empty_world, word_at}
 use Rattle.cb_world.proofs.Codes.{empty_codes}
-use Rattle.cb_world.proofs.Empty.{empty_sound, empty_shows, no_object, reads_one}
-
-not_here : (o : Object) (len place : ℕ) → o ≡ never → o ≡ is.Here len place → ⊥
-not_here o len place e q = cc
+use Rattle.cb_world.proofs.Empty.{empty_sound, empty_shows, reads_one}
 
 known : (c : Config) → IsAccepted c → IsKnown (empty_words c) (empty_far 1 c) (empty_shown 1 c)
 known c ok = record {
@@ -35,8 +31,6 @@ known c ok = record {
   shows = empty_shows 1 c;
   hots = λ h below. reads_one c.handles h false ∙ ap hot_of (sym (reads_one c.handles h 0));
   sound = empty_sound 1 c (lit≤ tt) (let n = (ok Nodes).1 in omega (arith, n));
-  here = λ h len place below e.
-      absurd (not_here (object_at (empty_shown 1 c) h) len place (no_object 1 c h) e);
 }
 
 none_on : (h : ℕ) → all_pins_on h (replicate 64 idle_seat) ≡ 0
@@ -64,6 +58,19 @@ pinned c = record {
       (none_of _);
 }
 
+idle_at : (seat n : ℕ) → get_or (replicate n idle_seat) seat idle_seat ≡ idle_seat
+idle_at zero zero = refl
+idle_at zero (suc n) = refl
+idle_at (suc seat) zero = refl
+idle_at (suc seat) (suc n) = idle_at seat n
+
+none_holds : (seat : ℕ) → Holds (replicate 64 idle_seat) seat → ⊥
+none_holds seat held =
+    let e = sym (ap (λ (x : SeatState). x.holds) (idle_at seat 64)) ∙ held in cc
+
+still : (c : Config) (h : ℕ) → state_of (word_at (empty_words c) h) ≡ word.Moving → ⊥
+still c h moved = let e = sym (ap state_of (reads_one c.handles h 0)) ∙ moved in cc
+
 -- the empty world is sound
 pub empty_world_sound : (c : Config) → IsAccepted c → IsSoundWorld (empty_world c)
 empty_world_sound c ok = record {
@@ -78,6 +85,10 @@ empty_world_sound c ok = record {
   shown = empty_shown 1 c;
   known = known c ok;
   pinned = pinned c;
+  ongoing = none_open (empty_words c) (empty_far 1 c) (replicate 64 idle_seat)
+      (λ seat. ap (λ (x : SeatState). x.claims) (idle_at seat 64))
+      (λ h below moved. still c h moved);
+  one = λ a b held. absurd (none_holds a held);
   counted = record {
     kinds = length-replicate {A = ℕ} 19 0;
     jobs = sum_by-replicate (λ (n : ℕ). n) 19 0;

@@ -49,6 +49,7 @@ pub mod Still
 pub mod Finishes
 pub mod Reads
 pub mod Released
+pub mod OpenWrites
 pub mod World
 pub mod StillWords
 pub mod Placed

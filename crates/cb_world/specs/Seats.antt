@@ -1,14 +1,26 @@
 -- The seats from which callers act, and their pins.
-use Rattle.std.specs.Prelude.{◌≡◌, ◌≢◌, ℕ, ◌<◌, Bool, false, nat_eq, List, [], Option, None, Some, slice_get, slice_index_or, slice_set, if◌then◌else◌}
+use Rattle.std.specs.Prelude.{◌≡◌, ◌≢◌, ℕ, ◌<◌, Bool, false, true, nat_eq, List, [], Option, None, Some, slice_get, slice_index_or, slice_set, if◌then◌else◌}
 use Rattle.std.specs.List.{sum_by}
 use Rattle.cb_types.specs.declared.order.Kept.{Kept}
 use Rattle.cb_world.specs.declared.seats.Pin.{Pin}
 
--- what a seat has: its pins, the newest one last, the handles of the objects that it claims, whether
--- it holds the far lock, and the order that it keeps
+-- a write of a seat that is open: its object's handle and length; the version and the words that
+-- the object had when it was claimed; the bytes that are written, from the byte number `at` on; and
+-- how many of the words that the write touches are stored, the version word being the last of them
+pub record OpenWriteState : Type 0 where
+  pub handle : ℕ
+  pub len : ℕ
+  pub version : ℕ
+  pub words : List ℕ
+  pub at : ℕ
+  pub bytes : List ℕ
+  pub stored : ℕ
+
+-- what a seat has: its pins, the newest one last, its open writes, whether it holds the far lock,
+-- and the order that it keeps
 pub record SeatState : Type 0 where
   pub pins : List Pin
-  pub claims : List ℕ
+  pub claims : List OpenWriteState
   pub holds : Bool
   pub order : Option Kept
 
@@ -22,6 +34,31 @@ seat_at seats seat = slice_index_or seats seat idle_seat
 -- the pins of a seat
 abbrev pub pins_of_seat : List SeatState → ℕ → List Pin
 pins_of_seat seats seat = (seat_at seats seat).pins
+
+-- the open writes of a seat
+abbrev pub claims_of_seat : List SeatState → ℕ → List OpenWriteState
+claims_of_seat seats seat = (seat_at seats seat).claims
+
+-- the seats, where one has these open writes
+abbrev pub with_claims : List SeatState → ℕ → List OpenWriteState → List SeatState
+with_claims seats seat claims =
+    slice_set seats seat (record (seat_at seats seat) { claims = claims })
+
+-- the seats, where one holds the far lock, or does not
+abbrev pub with_holds : List SeatState → ℕ → Bool → List SeatState
+with_holds seats seat holds = slice_set seats seat (record (seat_at seats seat) { holds = holds })
+
+-- the seat holds the far lock
+abbrev pub Holds : List SeatState → ℕ → Type 0
+Holds seats seat = (seat_at seats seat).holds ≡ true
+
+-- no two seats hold it
+abbrev pub AtMostOneHolds : List SeatState → Type 0
+AtMostOneHolds seats = (a b : ℕ) → Holds seats a → Holds seats b → a ≡ b
+
+-- the seat has this open write at this place
+abbrev pub IsClaimAt : List SeatState → ℕ → ℕ → OpenWriteState → Type 0
+IsClaimAt seats seat at c = slice_get (claims_of_seat seats seat) at ≡ Some c
 
 -- the seats, where one has these pins
 abbrev pub with_pins : List SeatState → ℕ → List Pin → List SeatState

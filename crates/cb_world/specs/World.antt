@@ -13,8 +13,9 @@ use Rattle.cb_world.specs.Plain.{Words, Shows, IsSized}
 use Rattle.cb_world.specs.Empty.{empty_words, empty_far}
 use Rattle.cb_world.specs.Codes.{HaveCodes}
 use Rattle.cb_world.specs.FarState.{FarState}
-use Rattle.cb_world.specs.Seats.{SeatState, idle_seat, all_pins_on}
+use Rattle.cb_world.specs.Seats.{SeatState, AtMostOneHolds, idle_seat, all_pins_on}
 use Rattle.cb_world.specs.Sound.{Sound}
+use Rattle.cb_world.specs.OpenWrites.{AreOpen}
 
 -- the words of local memory at the still desk, the far state, and the seats
 pub record WorldState : Type 0 where
@@ -41,9 +42,6 @@ pub record IsKnown (desk : Words) (far : FarState) (s : Shown) : Type 0 where
   pub shows : Shows desk s
   pub hots : (h : ℕ) → h < length desk.words → hot_at s h ≡ hot_of (word_at desk h)
   pub sound : Sound s far
-  -- an object that is here and not claimed has a word that is here: no seat claims one
-  pub here : (h len place : ℕ) → h < length desk.words → object_at s h ≡ is.Here len place
-      → state_of (word_at desk h) ≡ word.Here
 
 -- The pins of each word are those that the seats have on it; an object with pins is here, and hot.
 pub record ArePinned (desk : Words) (seats : List SeatState) : Type 0 where
@@ -84,4 +82,6 @@ pub record IsSoundWorld (w : WorldState) : Type 0 where
   pub shown : Shown
   pub known : IsKnown w.desk w.far shown
   pub pinned : ArePinned w.desk w.seats
+  pub ongoing : AreOpen w.desk w.far w.seats
+  pub one : AtMostOneHolds w.seats
   pub counted : AreCounted w.far

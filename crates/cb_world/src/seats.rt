@@ -5,7 +5,7 @@ ghost use Rattle.cb_world.specs.Seats.{SeatState, IsNewest, NoneOn, idle_seat, p
 
 use arrayvec::ArrayVec;
 use cb_member::NoMemory;
-use cb_types::Kept;
+use cb_types::{Bytes, Kept};
 use std::alloc::Global;
 use std::marker::Model;
 
@@ -22,12 +22,42 @@ pub struct Pin {
     pub version: u64,
 }
 
-/// What a seat has: its pins, the newest one last, the handles of the objects that it claims, whether
-/// it holds the far lock, and the order that it keeps.
+/// A write that is open: its object's handle and length in bytes, the version and the words that the
+/// object had when it was claimed, the bytes that are written from the byte number `at` on, and how
+/// many of the words that the write touches are stored, the version word being the last of them.
+#[derive(Drop)]
+pub struct OpenWrite {
+    pub handle: u32,
+    pub len: u32,
+    pub version: u64,
+    pub words: Vec<u64>,
+    pub at: u32,
+    pub bytes: Bytes,
+    pub stored: u32,
+}
+
+impl Model for OpenWrite {
+    ghost use Rattle.cb_world.specs.Seats.{OpenWriteState};
+
+    ghost Value = { OpenWriteState };
+
+    ghost view = { λ a. record {
+      handle = a.handle;
+      len = a.len;
+      version = a.version;
+      words = a.words.items;
+      at = a.at;
+      bytes = a.bytes;
+      stored = a.stored;
+    } };
+}
+
+/// What a seat has: its pins, the newest one last, its open writes, whether it holds the far lock,
+/// and the order that it keeps.
 #[derive(Drop)]
 pub struct Seat {
     pins: ArrayVec<Pin, MOST_PINS>,
-    claims: Vec<u32>,
+    claims: Vec<OpenWrite>,
     holds: bool,
     order: Option<Kept>,
 }

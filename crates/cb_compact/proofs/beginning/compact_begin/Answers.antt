@@ -1,7 +1,7 @@
 use Rattle.std.proofs.Common.{sym, subst}
 use Rattle.cb_compact.specs.Begun.{reply_of}
 use Rattle.cb_compact.specs.Pairing.{BeginStep}
-use Rattle.cb_compact.specs.declared.reply.Reply.{Reply}
+use Rattle.cb_types.specs.declared.reply.Reply.{Reply}
 use Rattle.cb_compact.proofs.Begins.{begin_given, begin_now}
 use Rattle.cb_compact.proofs.beginning.compact_begin.Goals as goal
 

@@ -4,8 +4,8 @@ use Rattle.cb_member.specs.declared.no_memory.NoMemory.{NoMemory}
 use Rattle.cb_set.specs.SetState.{SetState}
 use Rattle.cb_world.specs.FarState.{FarState}
 use Rattle.cb_world.specs.Joining.{JoiningState}
-use Rattle.cb_compact.specs.declared.reply.Reply.{Reply}
-use Rattle.cb_compact.specs.declared.reply.Reply.TheVariants as answer
+use Rattle.cb_types.specs.declared.reply.Reply.{Reply}
+use Rattle.cb_types.specs.declared.reply.Reply.TheVariants as answer
 use Rattle.cb_compact.specs.MergeStep.{IsMerged, Merges}
 use Rattle.cb_compact.specs.Standing.{IsFreshPair}
 use Rattle.cb_compact.proofs.OneStep.{few_steps}

@@ -7,7 +7,8 @@ use Rattle.cb_world.specs.Touches.{Touches}
 use Rattle.cb_world.specs.Allowed.{Allowed}
 use Rattle.cb_mutate.specs.Stores.{AreStores}
 use Rattle.cb_world.specs.Claimed.{OwnsAll}
-use Rattle.cb_mutate.proofs.Bytes.{IsWriteBelow, IsWordwiseBelow}
+use Rattle.cb_world.specs.Write.{IsWriteBelow}
+use Rattle.cb_mutate.proofs.Bytes.{IsWordwiseBelow}
 use Rattle.cb_mutate.proofs.overwriting.overwrite.Given as goal
 
 abbrev pub invariant-loop-i : goal.invariant-loop-i

@@ -1,5 +1,5 @@
 use Rattle.cb_text.proofs.Fronts.{both}
-use Rattle.cb_text.proofs.reply.push_short.Goals as goal
+use Rattle.cb_text.proofs.reply.push_listed.Goals as goal
 
 pub returns-in_err-push_word-clause-kept : goal.returns-in_err-push_word-clause-kept
 returns-in_err-push_word-clause-kept c = c.in_err-push_word.ensures.kept

@@ -1,0 +1,163 @@
+-- What the steps of a pair leave of the configured sizes and codes, and of what is counted.
+use Rattle.std.proofs.Common.{ℕ, true, List, Option, refl, sym, ◌∙◌, subst, arith, inl, inr, length-set}
+use Rattle.std.specs.FinMap as map
+use Rattle.cb_member.specs.declared.names.Shard.{Shard}
+use Rattle.cb_node.specs.NodesState.{NodesState}
+use Rattle.cb_set.specs.SetState.{SetState}
+use Rattle.cb_types.specs.declared.config.Config.{Config}
+use Rattle.cb_types.specs.declared.reply.Reply.{Reply}
+use Rattle.cb_world.specs.declared.homes.Home.{Home}
+use Rattle.cb_world.specs.declared.shown.Shown.{Shown}
+use Rattle.cb_world.specs.FarState.{FarState}
+use Rattle.cb_world.specs.Joining.{JoiningState}
+use Rattle.cb_world.specs.Reserved.{put_shards}
+use Rattle.cb_world.specs.Sets.{Kept}
+use Rattle.cb_world.specs.Sound.{Sound}
+use Rattle.cb_world.specs.Stored.{all_dropped}
+use Rattle.cb_world.proofs.Laws.{HasCode, code_as, codes_put, codes_removed, codes_stay, drop_count, drop_room, StaysIf, stays_like, stays_same}
+use Rattle.cb_compact.specs.MergeStep.{MergeStep, Merges, merged_set, replaced_shards, with_merged}
+use Rattle.cb_compact.specs.Merging.{IsReadyToMerge}
+use Rattle.cb_compact.specs.Pairing.{BeginStep, with_pair}
+use Rattle.cb_compact.specs.Rehoming.{AreRehomed}
+use Rattle.cb_compact.specs.Standing.{PartStep, with_parted}
+use Rattle.cb_compact.specs.Steps.{PatchStep, TakesStep, with_stepped}
+use Rattle.cb_compact.proofs.Committing.{ready_data, ready_shards, ready_steps}
+use Rattle.cb_compact.proofs.Keeping.{dropped_given}
+use Rattle.cb_compact.proofs.Merged.{length_merged, length_shards}
+
+-- ---- each change
+begun_stays : (c : Config) (far : FarState) (pair : JoiningState)
+    → StaysIf c 1 far (with_pair far pair)
+begun_stays c far pair = stays_like c 1 far (with_pair far pair) (omega arith) (record {
+  spans = refl;
+  homes = refl;
+  nodes = refl;
+  room = refl;
+  codes = codes_stay far (with_pair far pair) refl refl;
+  counts = refl;
+  epoch = omega arith;
+  given = refl;
+})
+
+parted_stays : (c : Config) (far : FarState) (pair : JoiningState)
+    → StaysIf c 1 far (with_parted far pair)
+parted_stays c far pair = stays_like c 1 far (with_parted far pair) (omega arith) (record {
+  spans = refl;
+  homes = refl;
+  nodes = drop_count far.nodes (put_shards pair.steps);
+  room = drop_room far.nodes (put_shards pair.steps);
+  codes = codes_stay far (with_parted far pair) refl refl;
+  counts = refl;
+  epoch = omega arith;
+  given = dropped_given far.nodes (put_shards pair.steps);
+})
+
+stepped_stays : (c : Config) (far : FarState) (pair : JoiningState) (p : ℕ) (shard : Shard)
+    (row : List ℕ) → StaysIf c 1 far (with_stepped far pair p shard row)
+stepped_stays c far pair p shard row is = record {
+  configured = record {
+    frames = is.frames;
+    homes = is.homes;
+    nodes = length-set far.nodes.nodes shard.node.n _ ∙ is.nodes;
+    room = is.room;
+    codes = codes_stay far (with_stepped far pair p shard row) refl refl c is.codes;
+  };
+  rises = record {
+    turns = refl;
+    by_job = refl;
+    sets = omega arith;
+    keys = omega arith;
+    epoch = omega arith;
+    given = omega arith;
+  };
+}
+
+-- the merged set is of the code of both
+module _ (c : Config) (s : Shown) (far : FarState) (pair : JoiningState) (a b : SetState)
+    (homes : List (Option Home)) (x : IsReadyToMerge s far pair a b)
+    (at : AreRehomed far.counts.sets (merged_set far.counts.sets pair a b) far.homes homes) where
+  abbrev id : ℕ
+  id = far.counts.sets
+
+  abbrev kept : Kept
+  kept = record { set = merged_set id pair a b; committed = true }
+
+  abbrev without_b : NodesState
+  without_b = all_dropped far.nodes pair.shards_b
+
+  abbrev gone : List Shard
+  gone = replaced_shards pair.steps pair.shards_a
+
+  one_code : HasCode c a → HasCode c (merged_set id pair a b)
+  one_code = code_as c a (merged_set id pair a b)
+      (length_merged a.positions b.positions (ready_data s far pair a b x))
+      (length_shards pair.steps pair.shards_a (ready_steps s far pair a b x)
+      ∙ sym (ready_shards s far pair a b x))
+
+  merged_stays : StaysIf c 1 far (with_merged far pair a b homes)
+  merged_stays is = record {
+    configured = record {
+      frames = is.frames;
+      homes = at.count ∙ is.homes;
+      nodes = drop_count without_b gone ∙ drop_count far.nodes pair.shards_b ∙ is.nodes;
+      room = drop_room without_b gone ∙ drop_room far.nodes pair.shards_b ∙ is.room;
+      codes = record {
+        sets = codes_removed c (map.remove (map.insert far.sets id kept) pair.a) pair.b
+            (codes_removed c (map.insert far.sets id kept) pair.a
+            (codes_put c far.sets id kept
+            (λ committed. one_code (is.codes.sets pair.a a x.fresh.a_stands.there))
+            is.codes.sets));
+        batch = is.codes.batch;
+      };
+    };
+    rises = record {
+      turns = refl;
+      by_job = refl;
+      sets = omega arith;
+      keys = omega arith;
+      epoch = omega arith;
+      given = let e = dropped_given without_b gone in
+          let f = dropped_given far.nodes pair.shards_b in
+          omega (arith, e, f);
+    };
+  }
+
+-- ---- each step
+pub begin_stays : (c : Config) (s : Shown) (far new : FarState) (r : Reply) → Sound s far
+    → BeginStep far new r → StaysIf c 1 far new
+begin_stays c s far new r sound (inl x) = stays_same c 1 far new (omega arith) x.state
+begin_stays c s far new r sound (inr (inl x)) = stays_same c 1 far new (omega arith) x.state
+begin_stays c s far new r sound (inr (inr x)) =
+    subst (StaysIf c 1 far) (sym x.state) (begun_stays c far _)
+
+pub patch_stays : (c : Config) (s : Shown) (far new : FarState) (r : Reply) → Sound s far
+    → PatchStep far new r → StaysIf c 1 far new
+patch_stays c s far new r sound (inl x) = stays_same c 1 far new (omega arith) x.state
+patch_stays c s far new r sound (inr (inl x)) =
+    subst (StaysIf c 1 far) (sym x.state) (parted_stays c far x.pair)
+patch_stays c s far new r sound (inr (inr x)) = by x.takes
+  where
+    by : TakesStep far x.pair x.a x.b new r → StaysIf c 1 far new
+    by (inl y) = stays_same c 1 far new (omega arith) y.state
+    by (inr (inl y)) = stays_same c 1 far new (omega arith) y.state
+    by (inr (inr y)) =
+        subst (StaysIf c 1 far) (sym y.state) (stepped_stays c far x.pair y.position _ y.row)
+
+pub merge_stays : (c : Config) (s : Shown) (far new : FarState) (r : Reply) → Sound s far
+    → MergeStep far new r → StaysIf c 1 far new
+merge_stays c s far new r sound (inl x) = stays_same c 1 far new (omega arith) x.state
+merge_stays c s far new r sound (inr (inl x)) =
+    subst (StaysIf c 1 far) (sym x.state) (parted_stays c far x.pair)
+merge_stays c s far new r sound (inr (inr x)) = by x.merges
+  where
+    by : Merges far x.pair x.a x.b new r → StaysIf c 1 far new
+    by (inl y) = stays_same c 1 far new (omega arith) y.state
+    by (inr y) = subst (StaysIf c 1 far) (sym y.state)
+        (merged_stays c s far x.pair x.a x.b new.homes
+        (record { sound = sound.away; fresh = x.fresh; done = y.done }) y.homes)
+
+pub part_stays : (c : Config) (s : Shown) (far new : FarState) (r : Reply) → Sound s far
+    → PartStep far new r → StaysIf c 1 far new
+part_stays c s far new r sound (inl x) = stays_same c 1 far new (omega arith) x.state
+part_stays c s far new r sound (inr x) =
+    subst (StaysIf c 1 far) (sym x.state) (parted_stays c far x.pair)

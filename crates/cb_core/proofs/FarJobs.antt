@@ -1,0 +1,194 @@
+-- What is owed by a job that works at the far state alone, and that each of these jobs pays it.
+use Rattle.std.proofs.Common.{◌≡◌, ℕ, ◌≤◌, ◌∙◌, refl, sym, ap, subst, arith, inl, inr}
+use Rattle.cb_member.specs.Membership.{Membership}
+use Rattle.cb_set.specs.SetState.{SetState}
+use Rattle.cb_types.specs.declared.config.Config.{Config}
+use Rattle.cb_types.specs.declared.job.Job.{Job}
+use Rattle.cb_types.specs.declared.job.Job.TheVariants.{Pair, Patch, Merge, Part, Compact, Rebuild, Crash, Join}
+use Rattle.cb_types.specs.declared.reply.Reply.{Reply}
+use Rattle.cb_types.specs.declared.reply.Reply.TheVariants as answer
+use Rattle.cb_types.specs.declared.request.Request.{Request}
+use Rattle.cb_types.specs.declared.request.Request.TheVariants as line
+use Rattle.cb_types.specs.Table.{IsReplyOf}
+use Rattle.cb_world.specs.declared.shown.Shown.{Shown}
+use Rattle.cb_world.specs.FarState.{FarState}
+use Rattle.cb_world.specs.Now.{now}
+use Rattle.cb_world.specs.Sound.{Sound}
+use Rattle.cb_world.specs.World.{IsConfigured}
+use Rattle.cb_world.proofs.Laws.{recounted_sound, rises_more, Stays, StaysIf, stays_same}
+use Rattle.cb_compact.proofs.Laws.{AreFarLaws, begin_laws, merge_laws, part_laws, patch_laws}
+use Rattle.cb_rebuild.specs.RebuildStep.{RebuildStep, Restores, surveyed}
+use Rattle.cb_rebuild.proofs.Laws.{failed_stays, keeps_first, keeps_step, rebuild_stays, rebuild_step_fixes}
+use Rattle.cb_swapin.specs.Fetching.{far_given}
+use Rattle.cb_core.specs.FarJobs.{FarLacks, FarStep, IsWeakGiven}
+use Rattle.cb_core.specs.Jobs.{IsJob}
+use Rattle.cb_core.proofs.NodesStay.{MakesNone, crash_fixed, crash_line, crash_none, crash_rises, crash_sound, crash_stays, join_fixed, join_line, join_none, join_now, join_rises, join_sound, join_stays, member_of}
+
+-- the replies of the job are those of its line
+abbrev pub AnswersLine : Job → Reply → Type 0
+AnswersLine Pair r = IsReplyOf line.Pair r
+AnswersLine Patch r = IsReplyOf line.Patch r
+AnswersLine Merge r = IsReplyOf line.Merge r
+AnswersLine Part r = IsReplyOf line.Part r
+AnswersLine Compact r = IsReplyOf line.Compact r
+AnswersLine Rebuild r = IsReplyOf line.Rebuild r
+AnswersLine (Crash node) r = IsReplyOf (line.Crash node) r
+AnswersLine (Join node) r = IsReplyOf (line.Join node) r
+AnswersLine job r = ⊥
+
+-- what every object holds stays, but for a crash
+abbrev pub Holds : Job → Type 0
+Holds (Crash node) = ⊥
+Holds job = Unit {0}
+
+-- the far state is as it is configured, its numbers rose by no more than those of a job may, and it
+-- is sound
+pub record StaysSound (c : Config) (s : Shown) (far new : FarState) : Type 0 where
+  pub stays : Stays c 64 far new
+  pub sound : Sound s new
+
+-- what is owed
+pub record IsFarJob (job : Job) : Type 0 where
+  pub none : (far new : FarState) (r : Reply) → FarStep job far new r → MakesNone far new
+  pub rises : (far new : FarState) (r : Reply) → FarStep job far new r
+      → far.members.epoch ≤ new.members.epoch
+  pub answers : (far new : FarState) (r : Reply) → FarStep job far new r → AnswersLine job r
+  pub keeps : (c : Config) (s : Shown) (far new : FarState) (r : Reply) → IsJob c job
+      → IsConfigured c far → Sound s far → FarStep job far new r → StaysSound c s far new
+  pub now : Holds job → (c : Config) (s : Shown) (far new : FarState) (r : Reply) → IsJob c job
+      → IsConfigured c far → Sound s far → FarStep job far new r → (h : ℕ) → now s new h ≡ now s far h
+  pub fixes : (s : Shown) (far new other : FarState) (r q : Reply) → Sound s far
+      → FarStep job far new r → FarStep job far other q → (r ≡ q) × (new ≡ other)
+  pub lacks : (c : Config) (s : Shown) (far new : FarState) → IsConfigured c far → Sound s far
+      → FarLacks job far new → StaysSound c s far new
+
+-- whose numbers rise by at most so many
+stays_sound : (c : Config) (n : ℕ) (s : Shown) (far new : FarState) → n ≤ 64 → IsConfigured c far
+    → StaysIf c n far new → Sound s new → StaysSound c s far new
+stays_sound c n s far new most is stays sound = let z = stays is in record {
+  stays = record { configured = z.configured; rises = rises_more n 64 far new most z.rises };
+  sound = sound;
+}
+
+-- want of memory that changes nothing
+same_lacks : (c : Config) (s : Shown) (far new : FarState) → IsConfigured c far → Sound s far
+    → new ≡ far → StaysSound c s far new
+same_lacks c s far new is sound same = stays_sound c 1 s far new (omega arith) is
+    (stays_same c 1 far new (omega arith) same) (subst (Sound s) (sym same) sound)
+
+-- ---- by the laws of a step that leaves the members
+members_rise : (far new : FarState) → new.members ≡ far.members
+    → far.members.epoch ≤ new.members.epoch
+members_rise far new same = let e = ap (λ (m : Membership). m.epoch) same in omega (arith, e)
+
+by_laws : (job : Job) (most : ℕ) (asked : Request) → most ≤ 64 → AreFarLaws most asked (FarStep job)
+    → ((r : Reply) → IsReplyOf asked r → AnswersLine job r)
+    → ((c : Config) (s : Shown) (far new : FarState) → IsConfigured c far → Sound s far
+    → FarLacks job far new → StaysSound c s far new)
+    → IsFarJob job
+by_laws job most asked few laws answered lacking = record {
+  none = λ far new r step. let z = laws.leaves far new r step in record {
+    first = z.first;
+    made = z.made;
+    turns = z.turns;
+  };
+  rises = λ far new r step. members_rise far new (laws.leaves far new r step).members;
+  answers = λ far new r step. answered r (laws.answers far new r step);
+  keeps = λ c s far new r ok is sound step. stays_sound c most s far new few is
+      (laws.stays c s far new r sound step) (laws.keeps s far new r sound step).sound;
+  now = λ holds c s far new r ok is sound step. (laws.keeps s far new r sound step).same_now;
+  fixes = laws.fixes;
+  lacks = lacking;
+}
+
+-- ---- a rebuild
+restored_none : (far new : FarState) (id : ℕ) (set : SetState) (r : Reply)
+    → Restores (surveyed far id) id set new r → MakesNone far new × (new.members ≡ far.members)
+restored_none far new id set r (inl stuck) =
+    subst (λ (f : FarState). MakesNone far f × (f.members ≡ far.members)) (sym stuck.same)
+    (record { first = refl; made = refl; turns = refl }, refl)
+restored_none far new id set r (inr z) =
+    subst (λ (f : FarState). MakesNone far f × (f.members ≡ far.members)) (sym z.state)
+    (record { first = refl; made = refl; turns = refl }, refl)
+
+rebuild_none : (far new : FarState) (r : Reply) → RebuildStep far new r
+    → MakesNone far new × (new.members ≡ far.members)
+rebuild_none far new r (inl none) =
+    subst (λ (f : FarState). MakesNone far f × (f.members ≡ far.members)) (sym none.state)
+    (record { first = refl; made = refl; turns = refl }, refl)
+rebuild_none far new r (inr z) = restored_none far new z.id z.set r z.restores
+
+rebuild_line : (far new : FarState) (r : Reply) → RebuildStep far new r → IsReplyOf line.Rebuild r
+rebuild_line far new r (inl none) = subst (IsReplyOf line.Rebuild) (sym none.reply) tt
+rebuild_line far new r (inr z) = elim z.restores [
+  | inl stuck ↦ subst (IsReplyOf line.Rebuild) (sym stuck.reply) tt
+  | inr rebuilt ↦ subst (IsReplyOf line.Rebuild) (sym rebuilt.reply) tt
+]
+
+-- the sets before the first weak one were looked at, and rows of that one were given out
+rebuild_lacks : (c : Config) (s : Shown) (far new : FarState) → IsConfigured c far → Sound s far
+    → IsWeakGiven far new → StaysSound c s far new
+rebuild_lacks c s far new is sound (id, set, n, first, few, state) =
+    stays_sound c 16 s far new (omega arith) is
+    (failed_stays c s far new id n set sound first.there few state)
+    (subst (Sound s) (sym state) (recounted_sound s (surveyed far id) far.counts.turns far.counts.by_job
+    (far.nodes.given + n) (keeps_first s far id set sound first).sound))
+
+rebuild_owes : IsFarJob Rebuild
+rebuild_owes = record {
+  none = λ far new r step. (rebuild_none far new r step).0;
+  rises = λ far new r step. members_rise far new (rebuild_none far new r step).1;
+  answers = rebuild_line;
+  keeps = λ c s far new r ok is sound step. stays_sound c 16 s far new (omega arith) is
+      (rebuild_stays c s far new r sound step) (keeps_step s far new r sound step).sound;
+  now = λ holds c s far new r ok is sound step. (keeps_step s far new r sound step).same_now;
+  fixes = λ s far new other r q sound x y. rebuild_step_fixes far new other r q x y;
+  lacks = rebuild_lacks;
+}
+
+-- ---- every job
+pub far_job : (job : Job) → IsFarJob job
+far_job Pair = by_laws Pair 1 line.Pair (omega arith) begin_laws (λ r x. x) same_lacks
+far_job Patch = by_laws Patch 1 line.Patch (omega arith) patch_laws (λ r x. x) same_lacks
+far_job Merge = by_laws Merge 1 line.Merge (omega arith) merge_laws (λ r x. x) same_lacks
+far_job Part = by_laws Part 1 line.Part (omega arith) part_laws (λ r x. x)
+    (λ c s far new is sound x. absurd x)
+far_job Rebuild = rebuild_owes
+far_job (Crash node) = record {
+  none = λ far new r step. crash_none far new node r step;
+  rises = λ far new r step. crash_rises far new node r step;
+  answers = λ far new r step. crash_line far new node r step;
+  keeps = λ c s far new r ok is sound step. stays_sound c 1 s far new (omega arith) is
+      (crash_stays c node far new r step)
+      (crash_sound s far new node r (member_of c s far node is sound ok) step sound);
+  now = λ holds. absurd holds;
+  fixes = λ s far new other r q sound x y. crash_fixed node r q far new other x y;
+  lacks = λ c s far new is sound x. same_lacks c s far new is sound x.0;
+}
+far_job (Join node) = record {
+  none = λ far new r step. join_none far new node r step;
+  rises = λ far new r step. join_rises far new node r step;
+  answers = λ far new r step. join_line far new node r step;
+  keeps = λ c s far new r ok is sound step. stays_sound c 1 s far new (omega arith) is
+      (join_stays c node far new r step)
+      (join_sound s far new node r (member_of c s far node is sound ok) step sound);
+  now = λ holds c s far new r ok is sound step h.
+      join_now s far new node r h (member_of c s far node is sound ok) step;
+  fixes = λ s far new other r q sound x y. join_fixed node r q far new other x y;
+  lacks = λ c s far new is sound x. absurd x;
+}
+far_job job = record {
+  none = λ far new r step. absurd step;
+  rises = λ far new r step. absurd step;
+  answers = λ far new r step. absurd step;
+  keeps = λ c s far new r ok is sound step. absurd step;
+  now = λ holds c s far new r ok is sound step. absurd step;
+  fixes = λ s far new other r q sound x y. absurd x;
+  lacks = λ c s far new is sound x. absurd x;
+}
+
+-- no such job answers that there is no frame
+pub never_framed : (job : Job) (far new : FarState) (r : Reply) → FarStep job far new r
+    → (AnswersLine job answer.NoFrame → ⊥) → r ≡ answer.NoFrame → ⊥
+never_framed job far new r step off e =
+    off (subst (AnswersLine job) e ((far_job job).answers far new r step))
