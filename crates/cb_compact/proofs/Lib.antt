@@ -5,7 +5,9 @@ mod Finding
 mod Looked
 pub mod Keeping
 mod Choosing
-pub mod Begins
+mod Within
+mod Groups
+mod Begins
 mod Merged
 mod Committing
 pub mod Committed
@@ -24,6 +26,7 @@ mod Stays
 mod Fixed
 pub mod FarTurns
 mod WorkedPair
+mod WorkedTables
 mod WorkedMerge
 mod WorkedGround
 mod WorkedBegin

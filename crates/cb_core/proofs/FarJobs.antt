@@ -1,5 +1,5 @@
 -- What is owed by a job that works at the far state alone, and that each of these jobs pays it.
-use Rattle.std.proofs.Common.{◌≡◌, ℕ, ◌≤◌, ◌∙◌, refl, sym, ap, subst, arith, inl, inr}
+use Rattle.std.proofs.Common.{◌≡◌, ℕ, ◌+◌, ◌≤◌, ◌∙◌, refl, sym, ap, subst, arith, inl, inr}
 use Rattle.cb_member.specs.Membership.{Membership}
 use Rattle.cb_set.specs.SetState.{SetState}
 use Rattle.cb_types.specs.declared.config.Config.{Config}
@@ -16,7 +16,7 @@ use Rattle.cb_world.specs.Now.{now}
 use Rattle.cb_world.specs.Sound.{Sound}
 use Rattle.cb_world.specs.World.{IsConfigured}
 use Rattle.cb_world.proofs.Laws.{recounted_sound, rises_more, Stays, StaysIf, stays_same}
-use Rattle.cb_compact.proofs.Laws.{AreFarLaws, begin_laws, merge_laws, part_laws, patch_laws}
+use Rattle.cb_compact.proofs.Laws.{AreFarLaws, begin_laws, merge_laws, now_laws, part_laws, patch_laws}
 use Rattle.cb_rebuild.specs.RebuildStep.{RebuildStep, Restores, surveyed}
 use Rattle.cb_rebuild.proofs.Laws.{failed_stays, keeps_first, keeps_step, rebuild_stays, rebuild_step_fixes}
 use Rattle.cb_swapin.specs.Fetching.{far_given}
@@ -153,6 +153,7 @@ far_job Patch = by_laws Patch 1 line.Patch (omega arith) patch_laws (λ r x. x) 
 far_job Merge = by_laws Merge 1 line.Merge (omega arith) merge_laws (λ r x. x) same_lacks
 far_job Part = by_laws Part 1 line.Part (omega arith) part_laws (λ r x. x)
     (λ c s far new is sound x. absurd x)
+far_job Compact = by_laws Compact 20 line.Compact (omega arith) now_laws (λ r x. x) same_lacks
 far_job Rebuild = rebuild_owes
 far_job (Crash node) = record {
   none = λ far new r step. crash_none far new node r step;

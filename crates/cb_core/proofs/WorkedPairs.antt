@@ -1,7 +1,8 @@
 -- Worked examples of the jobs at the far state alone: a pair that begins, and one that is given up.
-use Rattle.std.proofs.Common.{◌≡◌, ◌⊎◌, ℕ, List, [], ◌∷◌, ◌++◌, None, Some, get_or, replicate, refl, sym, ap, ◌∙◌, inl, inr, lit<, arith}
+use Rattle.std.proofs.Common.{◌≡◌, ◌⊎◌, ℕ, ◌+◌, List, [], ◌∷◌, ◌++◌, None, Some, get_or, replicate, refl, sym, ap, ◌∙◌, inl, inr, lit<, arith}
 use Rattle.std.specs.FinMap as map
 use Rattle.std.specs.Ordering.{nat_cmp}
+use Rattle.cb_member.specs.Membership.{fresh_members}
 use Rattle.cb_set.specs.SetState.{SetState}
 use Rattle.cb_types.specs.declared.job.Job.TheVariants.{Make, Free, Pair, Patch, Merge, Part, Compact}
 use Rattle.cb_types.specs.declared.reply.Reply.{Reply}
@@ -22,11 +23,11 @@ use Rattle.cb_core.specs.Step.{HoldOn, StillFar, StillFarLacks, StillStops, Stil
 use Rattle.cb_core.specs.Turned.{AtFar, AtFarLacks}
 use Rattle.cb_core.proofs.StillFarJobs.{known_far}
 use Rattle.cb_core.proofs.WorkedPins.{calm, hot, seat_with}
-use Rattle.cb_core.proofs.WorkedRoom.{both, counts, words_are}
+use Rattle.cb_core.proofs.WorkedRoom.{counts, far_of, span_with, words_are}
 
 -- two objects that are here, and no set
 abbrev far : CountsState → FarState
-far c = record (both None) { counts = c }
+far c = far_of (span_with (Some 0) None) (span_with None (Some 1)) None (fresh_members 2) c
 
 abbrev start : FarState
 start = far (counts 0 [])

@@ -3,10 +3,11 @@ use Rattle.std.specs.Prelude.{◌≡◌, ℕ, ◌≤◌, true, length}
 use Rattle.cb_member.specs.Membership.{alive}
 use Rattle.cb_set.specs.SetState.{SetState}
 use Rattle.cb_types.specs.declared.job.Job.{Job}
-use Rattle.cb_types.specs.declared.job.Job.TheVariants.{Pair, Patch, Merge, Part, Rebuild, Crash, Join}
+use Rattle.cb_types.specs.declared.job.Job.TheVariants.{Pair, Patch, Merge, Part, Compact, Rebuild, Crash, Join}
 use Rattle.cb_types.specs.declared.reply.Reply.{Reply}
 use Rattle.cb_world.specs.FarState.{FarState}
 use Rattle.cb_compact.specs.MergeStep.{MergeStep}
+use Rattle.cb_compact.specs.NowStep.{NowStep}
 use Rattle.cb_compact.specs.Pairing.{BeginStep}
 use Rattle.cb_compact.specs.Standing.{PartStep}
 use Rattle.cb_compact.specs.Steps.{PatchStep}
@@ -20,6 +21,7 @@ FarStep Pair = BeginStep
 FarStep Patch = PatchStep
 FarStep Merge = MergeStep
 FarStep Part = PartStep
+FarStep Compact = NowStep
 FarStep Rebuild = RebuildStep
 FarStep (Crash node) = λ far new r. CrashTurn node far r new
 FarStep (Join node) = λ far new r. JoinTurn node far r new
@@ -37,6 +39,7 @@ abbrev pub FarLacks : Job → FarState → FarState → Type 0
 FarLacks Pair far new = new ≡ far
 FarLacks Patch far new = new ≡ far
 FarLacks Merge far new = new ≡ far
+FarLacks Compact far new = new ≡ far
 FarLacks Rebuild far new = IsWeakGiven far new
 FarLacks (Crash node) far new = (new ≡ far) × (alive far.members node ≡ true)
 FarLacks job far new = ⊥
