@@ -24,7 +24,7 @@ const SCRIPT: &[u8] = b"carbink 1 k=2 r=2 nodes=6 frames=8 room=64 handles=2 tur
     1 make a 0a0b\n1 make b 0c0c0c0c0c0c0c0c0c0c0c0c0c0c0c0c0c\n1 evict\n";
 
 /// The world that the lines of a script lead to.
-fn world_of(alloc: Global, text: &[u8]) -> Result<World, Fail>
+pub(crate) fn world_of(alloc: Global, text: &[u8]) -> Result<World, Fail>
     ensures { IfOk result IsSoundWorld }
 {
     let Ok(script) = read_script(alloc, text, Mode::Seq) else {
