@@ -29,6 +29,8 @@ pub mod OpenStored
 pub mod OpenSettled
 pub mod OpenStamped
 pub mod OpenKeptSteps
+pub mod OpenFrame
+pub mod OpenFixed
 pub mod HoldingSound
 pub mod ClaimAnswers
 pub mod PartsStay

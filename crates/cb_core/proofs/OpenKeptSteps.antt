@@ -18,22 +18,20 @@ use Rattle.cb_core.proofs.OpenStored.{stored_sound}
 
 pub claim_step_sound : (w new : WorldState) (seat h at : ℕ) (bytes : List ℕ) (r : Reply)
     → IsSoundWorld w → seat < 64 → h < w.desk.settings.handles
-    → (r ≡ answer.Claimed → MayClaim w.desk h at (length bytes))
     → ClaimStep seat h at bytes w r new → IsSoundWorld new
-claim_step_sound w new seat h at bytes r sound within below may (refused not reply same) =
+claim_step_sound w new seat h at bytes r sound within below (refused not reply same) =
     subst IsSoundWorld (sym same) sound
-claim_step_sound w new seat h at bytes r sound within below may (taken is reply t) =
+claim_step_sound w new seat h at bytes r sound within below (taken m is reply t) =
     let lt : h < length w.desk.words = (let n = sound.known.sized.words in omega (arith, below, n)) in
-    let m = may is in
     subst IsSoundWorld
     (sym (λ i. record { desk = t.word.words i; far = t.far i; seats = t.seats i }))
     (claimed_sound w seat h at t.word.word bytes sound within lt m.free m.inside m.next t.word.claims)
 
 -- the words with a memory word stored for an object, and those with its version word stored
-abbrev with_stored : Words → ℕ → ℕ → ℕ → Words
+abbrev pub with_stored : Words → ℕ → ℕ → ℕ → Words
 with_stored desk i word h = record desk { memory = set desk.memory (place_of (word_at desk h) + i) word }
 
-abbrev with_stamp : Words → ℕ → ℕ → Words
+abbrev pub with_stamp : Words → ℕ → ℕ → Words
 with_stamp desk version h = record desk { versions = set desk.versions h version }
 
 pub store_step_sound : (w new : WorldState) (seat h : ℕ) (r : Reply) → IsSoundWorld w → seat < 64

@@ -1,6 +1,7 @@
 -- A store of a memory word of an open write leaves the world sound.
 use Rattle.std.proofs.Common.{◌≡◌, ◌≢◌, ◌⊎◌, ℕ, zero, suc, ◌+◌, ◌-◌, ◌*◌, ◌/◌, ◌^◌, ◌<◌, ◌≤◌, List, [], ◌∷◌, ◌++◌, Some, length, get_or, set, sym, refl, ap, ◌∙◌, subst, arith, inl, inr, length-set, get_or-set_other, get_or-set_same}
 use native.Mathlib.Decide.{ℕ_discrete}
+use Rattle.cb_ptr.specs.declared.word.State.TheVariants as state
 use Rattle.cb_ptr.specs.Word.{state_of, len_of, place_of, pins_of}
 use Rattle.cb_world.specs.declared.object.Object.{Object}
 use Rattle.cb_world.specs.declared.object.Object.TheVariants as is
@@ -11,7 +12,7 @@ use Rattle.cb_world.specs.OpenWrites.{IsOpen, AreOpen, touched}
 use Rattle.cb_world.specs.Plain.{Words}
 use Rattle.cb_world.specs.Seats.{SeatState, OpenWriteState, IsClaimAt}
 use Rattle.cb_world.specs.Shown.{Covers, object_at}
-use Rattle.cb_world.specs.StillDesk.{put_window, window_length}
+use Rattle.cb_world.specs.StillDesk.{here_is, put_window, window_length}
 use Rattle.cb_world.specs.StillWords.{contents_at}
 use Rattle.cb_world.specs.World.{WorldState, IsKnown, IsSoundWorld, word_at}
 use Rattle.cb_world.specs.Write.{IsWriteBelow}
@@ -114,15 +115,25 @@ module _ (w : WorldState) (seat place m : ℕ) (c : OpenWriteState) (sound : IsS
       (subst (λ x. IsMerged x (8 * i) c.at c.bytes m)
       (sym (window_at w.desk.memory (place_of old) (words_for (len_of old)) i inside)) merged))
 
-  -- the words of another object are as they were
-  pub others_stay : (other at : ℕ) (d : OpenWriteState) → IsClaimAt w.seats other at d → d.handle ≢ h
-      → contents_at desk d.handle ≡ contents_at w.desk d.handle
-  others_stay other at d is off =
-      let v = word_at w.desk d.handle in
-      let lies_there = open_here w.desk w.far s w.seats other at d sound.known sound.ongoing is in
+  -- the words of another object that is here are as they were
+  stays_at : (k : ℕ) → object_at s k ≡ is.Here (len_of (word_at w.desk k)) (place_of (word_at w.desk k))
+      → k ≢ h → contents_at desk k ≡ contents_at w.desk k
+  stays_at k at off =
+      let v = word_at w.desk k in
       window_same (set w.desk.memory p m) w.desk.memory (place_of v) (words_for (len_of v))
       (λ q low high. get_or-set_other w.desk.memory p q m 0 (λ e.
-      apart w.far s d.handle (len_of v) (place_of v) h (len_of old) (place_of old) q
-      sound.known.sound.here (lies s d.handle (len_of v) (place_of v) lies_there)
+      apart w.far s k (len_of v) (place_of v) h (len_of old) (place_of old) q
+      sound.known.sound.here (lies s k (len_of v) (place_of v) at)
       (lies s h (len_of old) (place_of old) here) off (low, high)
       (omega (arith, e), omega (arith, e, inside))))
+
+  pub others_stay : (other at : ℕ) (d : OpenWriteState) → IsClaimAt w.seats other at d → d.handle ≢ h
+      → contents_at desk d.handle ≡ contents_at w.desk d.handle
+  others_stay other at d is off = stays_at d.handle
+      (open_here w.desk w.far s w.seats other at d sound.known sound.ongoing is) off
+
+  pub others_here : (k : ℕ) → k < length w.desk.words → state_of (word_at w.desk k) ≡ state.Here
+      → contents_at desk k ≡ contents_at w.desk k
+  others_here k below here_k = stays_at k
+      (here_is (object_at s k) (word_at w.desk k) (sound.known.shows.fit k below) here_k)
+      (λ e. let f = sym here_k ∙ ap (λ (i : ℕ). state_of (word_at w.desk i)) e ∙ o.moving in cc)

@@ -9,6 +9,9 @@ use Rattle.cb_world.specs.OpenWrites.{left_of}
 use Rattle.cb_world.specs.Plain.{Words}
 use Rattle.cb_world.specs.Seats.{SeatState, OpenWriteState, Holds, idle_seat, claims_of_seat}
 use Rattle.cb_world.specs.World.{WorldState}
+use Rattle.cb_core.specs.declared.event.Atomic.TheVariants.{Claim, Store, Settle}
+use Rattle.cb_core.specs.declared.event.Event.TheVariants as event
+use Rattle.cb_core.specs.Step.{Step}
 use Rattle.cb_core.specs.Claiming.{claim_answer, ClaimStep, refused, taken, StoreStep, not_claimed, nothing_left, stored, stamped, SettleStep, not_stored, settled}
 use Rattle.cb_core.specs.Holding.{TakeStep, held, taken as lock_taken, GiveStep, not_held, given}
 use Rattle.cb_core.proofs.WorkedPins.{away, calm, moving, hot, pinned, desk, settings}
@@ -45,7 +48,7 @@ write n = record {
 claims_it : (far : FarState) → ClaimStep 0 0 1 (12 ∷ []) (world far (words_are calm 3 2826) [])
     answer.Claimed (world far (words_are moving 3 2826) (write 0 ∷ []))
 unfolding window
-claims_it far = taken refl refl (record {
+claims_it far = taken (record { free = (refl, refl); inside = lit≤ tt; next = lit< tt }) refl refl (record {
   word = record {
     word = moving;
     claims = record {
@@ -65,13 +68,13 @@ claims_it far = taken refl refl (record {
 claims_nothing : (far : FarState) → ClaimStep 0 0 1 (12 ∷ []) (world far (words_are calm 3 2826) [])
     answer.Claimed (world far (words_are calm 3 2826) []) → ⊥
 claims_nothing far (refused not reply same) = not refl
-claims_nothing far (taken is reply t) =
+claims_nothing far (taken may is reply t) =
     let e : 0 ≡ 1 = ap (λ (s : List SeatState). length (claims_of_seat s 0)) t.seats in omega (arith, e)
 
 records_it_twice : (far : FarState) → ClaimStep 0 0 1 (12 ∷ []) (world far (words_are calm 3 2826) [])
     answer.Claimed (world far (words_are moving 3 2826) (write 0 ∷ write 0 ∷ [])) → ⊥
 records_it_twice far (refused not reply same) = not refl
-records_it_twice far (taken is reply t) =
+records_it_twice far (taken may is reply t) =
     let e : 2 ≡ 1 = ap (λ (s : List SeatState). length (claims_of_seat s 0)) t.seats in omega (arith, e)
 
 abbrev first_version : List OpenWriteState → ℕ
@@ -81,7 +84,7 @@ first_version (c ∷ cs) = c.version
 at_another_version : (far : FarState) → ClaimStep 0 0 1 (12 ∷ []) (world far (words_are calm 3 2826) [])
     answer.Claimed (world far (words_are moving 3 2826) (record (write 0) { version = 2 } ∷ [])) → ⊥
 at_another_version far (refused not reply same) = not refl
-at_another_version far (taken is reply t) =
+at_another_version far (taken may is reply t) =
     let e : 2 ≡ 3 = ap (λ (s : List SeatState). first_version (claims_of_seat s 0)) t.seats in
     omega (arith, e)
 
@@ -191,3 +194,19 @@ takes_back_anothers : (far : FarState) → GiveStep 0 (seated far (idle_seat ∷
     (seated far (idle_seat ∷ idle_seat ∷ [])) → ⊥
 takes_back_anothers far (not_held none reply same) = absurd cc
 takes_back_anothers far (given holds reply same) = let e : false ≡ true = holds in cc
+
+-- ---- they are events
+claim_comes : (far : FarState) → Step (world far (words_are calm 3 2826) [])
+    (event.Step 0 (Claim (record { n = 0 }) 1 (12 ∷ []))) answer.Claimed
+    (world far (words_are moving 3 2826) (write 0 ∷ []))
+claim_comes far = claims_it far
+
+store_comes : (far : FarState) → Step (world far (words_are moving 3 3082) (write 1 ∷ []))
+    (event.Step 0 (Store (record { n = 0 }))) (answer.Stored 0)
+    (world far (words_are moving 4 3082) (write 2 ∷ []))
+store_comes far = stores_the_version far
+
+settle_comes : (far : FarState) → Step (world far (words_are moving 4 3082) (write 2 ∷ []))
+    (event.Step 0 (Settle (record { n = 0 }))) (answer.Version 4)
+    (world far (words_are hot 4 3082) [])
+settle_comes far = settles_it far

@@ -27,6 +27,13 @@ abbrev pub IsRefused : ℕ → ℕ → ℕ → ℕ → Reply → Type 0
 IsRefused word version at count r =
     (r ≡ claim_reply (write_reply word version at count)) × (r ≡ answer.Claimed → ⊥)
 
+-- an object that can be claimed for a write of so many bytes: it is here without pins, the bytes are
+-- within it, and its version has a next one
+pub record MayClaim (desk : Words) (h at count : ℕ) : Type 0 where
+  pub free : IsFree (word_at desk h)
+  pub inside : at + count ≤ len_of (word_at desk h)
+  pub next : stamp_at desk h < 2 ^ 64 - 1
+
 -- the open write of an object that is claimed now
 abbrev pub opened : Words → ℕ → ℕ → List ℕ → OpenWriteState
 opened desk h at bytes = record {
@@ -51,8 +58,8 @@ pub data ClaimStep (seat h at : ℕ) (bytes : List ℕ) (w : WorldState) (r : Re
     : Type 0 where
   refused : (r ≡ answer.Claimed → ⊥) → r ≡ claim_answer w.desk h at (length bytes) → new ≡ w
       → ClaimStep seat h at bytes w r new
-  taken : r ≡ answer.Claimed → r ≡ claim_answer w.desk h at (length bytes)
-      → IsClaimTaken seat h at bytes w new → ClaimStep seat h at bytes w r new
+  taken : MayClaim w.desk h at (length bytes) → r ≡ answer.Claimed
+      → r ≡ claim_answer w.desk h at (length bytes) → IsClaimTaken seat h at bytes w new → ClaimStep seat h at bytes w r new
 
 -- the seats, where this open write of a seat has one word more stored
 pub record IsCounted (seat at : ℕ) (c : OpenWriteState) (w new : WorldState) : Type 0 where
@@ -67,6 +74,7 @@ next_place desk h c = place_of (word_at desk h) + next_word c
 -- that memory word is stored: it has the bytes of the write that fall into it
 pub record IsWordStored (h : ℕ) (c : OpenWriteState) (old new : Words) : Type 0 where
   pub word : ℕ
+  pub small : word < 2 ^ 64
   pub merged : IsMerged (slice_index old.memory (next_place old h c)) (8 * next_word c) c.at c.bytes
       word
   pub words : new ≡ record old { memory = slice_set old.memory (next_place old h c) word }
@@ -106,10 +114,3 @@ pub data SettleStep (seat h : ℕ) (w : WorldState) (r : Reply) (new : WorldStat
   settled : (at : ℕ) (x : IsClaimOn (claims_of_seat w.seats seat) h at)
       → left_of x.ongoing ≡ 0 → r ≡ answer.Version (x.ongoing.version + 1)
       → IsClaimSettled seat h at w new → SettleStep seat h w r new
-
--- an object that can be claimed for a write of so many bytes: it is here without pins, the bytes are
--- within it, and its version has a next one
-pub record MayClaim (desk : Words) (h at count : ℕ) : Type 0 where
-  pub free : IsFree (word_at desk h)
-  pub inside : at + count ≤ len_of (word_at desk h)
-  pub next : stamp_at desk h < 2 ^ 64 - 1

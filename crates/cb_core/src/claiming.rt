@@ -33,8 +33,6 @@ pub(crate) fn claim(
     requires handle { h.n < world.old.desk.settings.handles }
     ensures step { IfOk result (λ reply.
         ClaimStep seat h.n at bytes.now world.old reply world.new) }
-    ensures may { IfOk result (λ reply. reply ≡ answer.Claimed
-        → MayClaim world.old.desk h.n at (length bytes.now)) }
     ensures error { OnErr result (world.new ≡ world.old) }
 {
     if let Some(refusal) = claim_refusal(&world.desk, h, at, bytes) {
