@@ -1,10 +1,10 @@
 -- Worked examples of the jobs at the far state alone: a pair that begins, and one that is given up.
-use Rattle.std.proofs.Common.{◌≡◌, ◌⊎◌, ℕ, ◌+◌, List, [], ◌∷◌, ◌++◌, None, Some, get_or, replicate, refl, sym, ap, ◌∙◌, inl, inr, lit<, arith}
+use Rattle.std.proofs.Common.{◌≡◌, ℕ, ◌+◌, List, [], ◌∷◌, ◌++◌, None, Some, get_or, replicate, refl, sym, ap, ◌∙◌, inl, inr, lit<, arith}
 use Rattle.std.specs.FinMap as map
 use Rattle.std.specs.Ordering.{nat_cmp}
 use Rattle.cb_member.specs.Membership.{fresh_members}
 use Rattle.cb_set.specs.SetState.{SetState}
-use Rattle.cb_types.specs.declared.job.Job.TheVariants.{Make, Free, Pair, Patch, Merge, Part, Compact}
+use Rattle.cb_types.specs.declared.job.Job.TheVariants.{Make, Free, Pair, Patch, Merge, Part}
 use Rattle.cb_types.specs.declared.reply.Reply.{Reply}
 use Rattle.cb_types.specs.declared.reply.Reply.TheVariants as answer
 use Rattle.cb_world.specs.declared.event.Event.{Event}
@@ -19,7 +19,7 @@ use Rattle.cb_compact.proofs.Laws.{part_laws}
 use Rattle.cb_world.proofs.Laws.{open_same}
 use Rattle.cb_core.specs.FarJobs.{FarLacks, FarStep}
 use Rattle.cb_core.specs.Parts.{Holding}
-use Rattle.cb_core.specs.Step.{HoldOn, StillFar, StillFarLacks, StillStops, StillWorks, TurnStep, worn, done}
+use Rattle.cb_core.specs.Step.{HoldOn, StillStops, StillWorks, TurnStep, worn, done}
 use Rattle.cb_core.specs.Turned.{AtFar, AtFarLacks}
 use Rattle.cb_core.proofs.StillFarJobs.{known_far}
 use Rattle.cb_core.proofs.WorkedPins.{calm, hot, seat_with}
