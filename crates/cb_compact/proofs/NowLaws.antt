@@ -35,14 +35,14 @@ use Rattle.cb_compact.proofs.OneStep.{few_steps, step_is_none}
 
 -- ---- what a reply tells of the step
 -- a row was put
-record TookOne (far new : FarState) (p : ℕ) : Type 0 where
-  pair : JoiningState
-  a : SetState
-  b : SetState
-  fresh : IsFreshPair far pair a b
-  step : IsOneStep far pair a b new (answer.Stepped p)
+pub record TookOne (far new : FarState) (p : ℕ) : Type 0 where
+  pub pair : JoiningState
+  pub a : SetState
+  pub b : SetState
+  pub fresh : IsFreshPair far pair a b
+  pub step : IsOneStep far pair a b new (answer.Stepped p)
 
-took_one : (far new : FarState) (p : ℕ) → PatchStep far new (answer.Stepped p) → TookOne far new p
+pub took_one : (far new : FarState) (p : ℕ) → PatchStep far new (answer.Stepped p) → TookOne far new p
 took_one far new p (inl x) = absurd (other x.reply)
   where
     other : answer.Stepped p ≡ answer.NoJoin → ⊥
@@ -65,14 +65,14 @@ took_one far new p (inr (inr x)) = by x.takes
     by (inr (inr y)) = record { pair = x.pair; a = x.a; b = x.b; fresh = x.fresh; step = y }
 
 -- the pair is one set
-record GotMerged (far new : FarState) (set : SetId) (moved : ℕ) : Type 0 where
-  pair : JoiningState
-  a : SetState
-  b : SetState
-  fresh : IsFreshPair far pair a b
-  merged : IsMerged far pair a b new (answer.Merged set moved)
+pub record GotMerged (far new : FarState) (set : SetId) (moved : ℕ) : Type 0 where
+  pub pair : JoiningState
+  pub a : SetState
+  pub b : SetState
+  pub fresh : IsFreshPair far pair a b
+  pub merged : IsMerged far pair a b new (answer.Merged set moved)
 
-got_merged : (far new : FarState) (set : SetId) (moved : ℕ)
+pub got_merged : (far new : FarState) (set : SetId) (moved : ℕ)
     → MergeStep far new (answer.Merged set moved) → GotMerged far new set moved
 got_merged far new set moved (inl x) = absurd (other x.reply)
   where

@@ -1,7 +1,5 @@
-ghost use Rattle.std.specs.Prelude.{◌≡◌, ℕ, List, IfOk, OnErr, None, Some, length, replicate};
-ghost use Rattle.cb_code.specs.Coefficients.{AreCoefficients};
-ghost use Rattle.cb_gf256.specs.InRange.{IsInRange};
-ghost use Rattle.cb_set.specs.SetState.{SetState, parities};
+ghost use Rattle.std.specs.Prelude.{◌≡◌, ℕ, IfOk, OnErr, None, Some, length, replicate};
+ghost use Rattle.cb_set.specs.SetState.{SetState};
 ghost use Rattle.cb_world.specs.declared.shown.Shown.{Shown};
 ghost use Rattle.cb_world.specs.Now.{now};
 ghost use Rattle.cb_world.specs.Sets.{set_in};
@@ -10,7 +8,6 @@ ghost use Rattle.cb_compact.specs.Begun.{reply_of};
 ghost use Rattle.cb_compact.specs.Pairing.{BeginStep, begun_pair, live_positions, with_pair};
 
 use crate::candidates::find_pair;
-use cb_code::coefficients;
 use cb_member::Shard;
 use cb_set::SpanSet;
 use cb_types::{NoMemory, Reply, SetId};
@@ -70,19 +67,15 @@ fn pair_of(alloc: Global, x: u64, y: u64, a: &SpanSet, b: &SpanSet) -> Result<Jo
     })
 }
 
-/// The pair of the committed sets of two numbers at its begin. The table of their code shows that
-/// there is a word that it leads to.
+/// The pair of the committed sets of two numbers at its begin.
 fn new_pair(far: &Far, x: u64, y: u64) -> Result<Joining, NoMemory>
     requires there { (a : SetState) × (b : SetState) × (set_in far.now.sets x ≡ Some a)
-        × (set_in far.now.sets y ≡ Some b) × IsInRange (length a.positions) (parities a) }
-    ensures pair { IfOk result (λ pair. (a b : SetState) → set_in far.now.sets x ≡ Some a
+        × (set_in far.now.sets y ≡ Some b) }
+    ensures { IfOk result (λ pair. (a b : SetState) → set_in far.now.sets x ≡ Some a
         → set_in far.now.sets y ≡ Some b → pair ≡ begun_pair x y a b) }
-    ensures code { (a : SetState) → set_in far.now.sets x ≡ Some a → (table : List (List ℕ))
-        × AreCoefficients (length a.positions) (parities a) table }
 {
     let a = far.sets.committed(x).unwrap();
     let b = far.sets.committed(y).unwrap();
-    let _ = coefficients(a.k(), a.r());
     pair_of(far.alloc, x, y, a, b)
 }
 

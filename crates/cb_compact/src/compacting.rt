@@ -7,14 +7,14 @@ ghost use Rattle.cb_world.specs.Now.{now};
 ghost use Rattle.cb_world.specs.Reserved.{put_shards};
 ghost use Rattle.cb_world.specs.Sound.{Sound};
 ghost use Rattle.cb_world.specs.Stored.{AreThere};
-ghost use Rattle.cb_compact.specs.NowGoing.{EndsFrom, GoesTo, HasGone, IsUndone, TriesStep, with_keys, without_pair};
+ghost use Rattle.cb_compact.specs.NowGoing.{EndsFrom, GoesTo, HasGone, IsUndone, TriesStep, without_pair};
 ghost use Rattle.cb_compact.specs.NowStep.{NowStep};
 ghost use Rattle.cb_compact.specs.Standing.{IsFreshPair, with_parted};
 ghost use Rattle.cb_compact.specs.Steps.{is_undone};
 
 use crate::beginning::{Begun, begin};
 use crate::merging::merge;
-use crate::parting::give_up;
+use crate::parting::{give_up, undo};
 use crate::stepping::{data_count, take_step};
 use crate::steps::is_undone;
 use cb_member::NodeId;
@@ -111,24 +111,6 @@ fn drawn_keys(far: &Far) -> u64
     ensures { result ≡ far.now.counts.keys }
 {
     far.counts.keys
-}
-
-/// Gives the keys back that were drawn since there were so many.
-fn set_keys(far: &mut Far, keys: u64)
-    ensures { far.new ≡ with_keys far.old keys }
-{
-    far.counts.keys = keys;
-}
-
-/// Gives the joining pair up, and the keys back that were drawn for its rows.
-fn undo(far: &mut Far, keys: u64)
-    requires there { (pair : JoiningState) × (far.old.joining ≡ Some pair)
-        × AreThere far.old.nodes (put_shards pair.steps) }
-    ensures { (pair : JoiningState) → far.old.joining ≡ Some pair
-        → far.new ≡ with_keys (with_parted far.old pair) keys }
-{
-    give_up(far);
-    set_keys(far, keys);
 }
 
 /// Goes through with a pair that has begun to join. Where there is no memory, the pair is given up

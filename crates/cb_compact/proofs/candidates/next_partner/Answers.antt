@@ -3,7 +3,7 @@ use Rattle.std.proofs.lemmas.Bool.{cases_eq}
 use Rattle.std.proofs.lemmas.Option.{get_or_from_slice_get, slice_get_within}
 use Rattle.cb_compact.specs.declared.candidates.Candidate.{Candidate}
 use Rattle.cb_compact.specs.Candidates.{CanMatch}
-use Rattle.cb_compact.proofs.candidates.partner.Goals as goal
+use Rattle.cb_compact.proofs.candidates.next_partner.Goals as goal
 
 abbrev none_here : Candidate
 none_here = record { id = 0; k = 0; r = 0; live = 0 }
