@@ -12,7 +12,8 @@ use Rattle.cb_compact.specs.Tables.{IsWithin}
 -- a number with a bit is no less than that bit
 pub bit_on_le : (n p : ℕ) → bit_at n p ≡ 1 → 2 ^ p ≤ n
 bit_on_le n p on = elim (cases_lt n (2 ^ p)) [
-  | inl below ↦ let none = bit_at_above n p p below (omega arith) in absurd (omega (arith, on, none))
+  | inl below ↦ let none = bit_at_above n p p below (omega arith) in
+      absurd (omega (arith, on, none))
   | inr there ↦ there
 ]
 
