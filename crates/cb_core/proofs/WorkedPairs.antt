@@ -15,7 +15,8 @@ use Rattle.cb_world.specs.Plain.{Words}
 use Rattle.cb_world.specs.Seats.{SeatState}
 use Rattle.cb_world.specs.Sets.{if_committed, set_in}
 use Rattle.cb_world.specs.World.{WorldState}
-use Rattle.cb_compact.proofs.Laws.{part_laws}
+use Rattle.cb_world.specs.Pairs.{with_no_pair}
+use Rattle.cb_compact.proofs.Laws.{begin_laws, part_laws}
 use Rattle.cb_world.proofs.Laws.{open_same}
 use Rattle.cb_core.specs.FarJobs.{FarLacks, FarStep}
 use Rattle.cb_core.specs.Parts.{Holding}
@@ -59,7 +60,11 @@ no_set id s at = none_set s (sym (ap if_committed (map.get-empty nat_cmp id)) �
     none_set : (s : SetState) → None ≡ Some s → ⊥
     none_set s e = cc
 
-begins : FarStep Pair start start answer.NoPair
+-- that there are none is noted
+abbrev noted : FarState
+noted = with_no_pair start
+
+begins : FarStep Pair start noted answer.NoPair
 begins = inr (inl (record {
   none = refl;
   no_two = λ i j c d less can. no_set i c can.a_there;
@@ -67,8 +72,17 @@ begins = inr (inl (record {
   state = refl;
 }))
 
-pairs : StillWorks Pair (holds start) answer.NoPair (holds start)
-pairs = (refl, begins, same_holds start)
+hold_noted : HoldOn (holds start) (holds noted)
+hold_noted s k = let keeps = begin_laws.keeps s start noted answer.NoPair k.sound begins in (
+  s,
+  known_far (words_are calm hot) start noted s k keeps.sound,
+  keeps.same_now,
+  λ seats ongoing. open_same (words_are calm hot) start noted s seats k
+      (known_far (words_are calm hot) start noted s k keeps.sound) ongoing,
+)
+
+pairs : StillWorks Pair (holds start) answer.NoPair (holds noted)
+pairs = (refl, begins, hold_noted)
 
 pairs_and_warms : StillWorks Pair (holds start) answer.NoPair (warm start) → ⊥
 pairs_and_warms works = word_is start start works.0
@@ -78,7 +92,7 @@ none_is_none e = cc
 
 -- of no sets no two begin to join, and no pair is joining already
 begun : (far new : FarState) (r : Reply) → far ≡ start → FarStep Pair far new r
-    → (r ≡ answer.NoPair) × (new ≡ far)
+    → (r ≡ answer.NoPair) × (new ≡ with_no_pair far)
 begun far new r e (inl z) = absurd (none_joins z.pair (sym (ap (λ (f : FarState). f.joining) e) ∙ z.there))
   where
     none_joins : (p : JoiningState) → None ≡ Some p → ⊥
@@ -92,14 +106,21 @@ pairs_as_a_parting works = none_is_none (sym (begun start start answer.NoJoin re
 
 pairs_and_makes : StillWorks Pair (holds start) answer.NoPair (holds (more start)) → ⊥
 pairs_and_makes works =
-    two_made (more start) start refl refl (begun start (more start) answer.NoPair refl works.1).1
+    two_made (more start) noted refl refl (begun start (more start) answer.NoPair refl works.1).1
+
+pairs_and_notes_nothing : StillWorks Pair (holds start) answer.NoPair (holds start) → ⊥
+pairs_and_notes_nothing works = not_noted _
+    (ap (λ (f : FarState). f.survey.no_pair) (begun start start answer.NoPair refl works.1).1)
+  where
+    not_noted : (n : ℕ) → None ≡ Some n → ⊥
+    not_noted n e = cc
 
 -- over a desk that is a number, and which runs nothing
 abbrev waits : ℕ → List Event → ℕ → Type 0
 waits d es e = e ≡ d
 
 over_a_number : AtFar waits (FarStep Pair) (record { desk = 3; far = start }) answer.NoPair
-    (record { desk = 3; far = start })
+    (record { desk = 3; far = noted })
 over_a_number = (refl, begins)
 
 over_another_number : AtFar waits (FarStep Pair) (record { desk = 3; far = start }) answer.NoPair
@@ -166,13 +187,13 @@ merges_nothing : StillWorks Merge (holds start) answer.NoJoin (holds start)
 merges_nothing =
     (refl, inl (record { none = refl; reply = refl; state = refl }), same_holds start)
 
-compacts_nothing : StillWorks Compact (holds start) answer.NoPair (holds start)
+compacts_nothing : StillWorks Compact (holds start) answer.NoPair (holds noted)
 compacts_nothing = (refl, inr (inl (record {
   none = refl;
   no_two = λ i j c d less can. no_set i c can.a_there;
   reply = refl;
   state = refl;
-})), same_holds start)
+})), hold_noted)
 
 -- a turn, which is of kind 14
 abbrev idle : List SeatState

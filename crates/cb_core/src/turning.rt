@@ -2,6 +2,7 @@ ghost use Rattle.std.specs.Prelude.{◌≡◌, ◌+◌, ◌^◌, ◌<◌, true, 
 ghost use Rattle.cb_types.specs.Config.{IsAccepted};
 ghost use Rattle.cb_types.specs.declared.reply.Reply.TheVariants as answer;
 ghost use Rattle.cb_world.specs.declared.shown.Shown.{Shown};
+ghost use Rattle.cb_world.specs.Pairs.{HoldsNoPair};
 ghost use Rattle.cb_world.specs.Sound.{Sound};
 ghost use Rattle.cb_world.specs.World.{AreCounted, IsConfigured};
 ghost use Rattle.cb_core.specs.Jobs.{IsJob};
@@ -87,6 +88,7 @@ fn work<D: Desk>(alloc: Global, desk: &mut D, far: &mut Far, job: &Job) -> Resul
     requires counts { (far.old.counts.sets < 2 ^ 62) × (far.old.counts.keys + 20 < 2 ^ 62) }
     requires given { far.old.nodes.given + 16 < 2 ^ 64 }
     requires epoch { far.old.members.epoch < 2 ^ 62 }
+    requires note { HoldsNoPair far.old }
     requires sound { (s : Shown) × D.shows desk.old s × Sound s far.old }
     ensures does { IfOk result (λ reply. Does (λ d es e. D.run d es e) (λ d s. D.shows d s)
         (Reads (λ d es e. D.run d es e) (λ d s. D.shows d s)) (D.settings desk.old) job.now
