@@ -1,4 +1,4 @@
-"""Scripts of all verbs that are drawn, for cases (tests/compaction) and for the comparison of many (tests/fuzz)."""
+"""Scripts of all verbs that are drawn, for cases (tests/cases) and for the comparison of many (tests/fuzz)."""
 import random
 
 # The least length of each of eight classes: objects of different classes stand in different spans.

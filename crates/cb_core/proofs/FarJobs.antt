@@ -1,5 +1,5 @@
 -- What is owed by a job that works at the far state alone, and that each of these jobs pays it.
-use Rattle.std.proofs.Common.{◌≡◌, ℕ, ◌+◌, ◌≤◌, ◌∙◌, refl, sym, ap, subst, arith, inl, inr}
+use Rattle.std.proofs.Common.{◌≡◌, ℕ, ◌+◌, ◌≤◌, refl, sym, ap, subst, arith, inl, inr}
 use Rattle.cb_member.specs.Membership.{Membership}
 use Rattle.cb_set.specs.SetState.{SetState}
 use Rattle.cb_types.specs.declared.config.Config.{Config}
@@ -19,7 +19,6 @@ use Rattle.cb_world.proofs.Laws.{KeepsHolding, KeepsNote, recounted_sound, rises
 use Rattle.cb_compact.proofs.Laws.{AreFarLaws, begin_laws, merge_laws, now_laws, part_laws, patch_laws}
 use Rattle.cb_rebuild.specs.RebuildStep.{RebuildStep, Restores, surveyed}
 use Rattle.cb_rebuild.proofs.Laws.{failed_stays, keeps_first, keeps_step, rebuild_stays, rebuild_step_fixes}
-use Rattle.cb_swapin.specs.Fetching.{far_given}
 use Rattle.cb_core.specs.FarJobs.{FarLacks, FarStep, IsWeakGiven}
 use Rattle.cb_core.specs.Jobs.{IsJob}
 use Rattle.cb_core.proofs.NodesStay.{MakesNone, crash_fixed, crash_line, crash_none, crash_rises, crash_sound, crash_stays, join_fixed, join_line, join_none, join_now, join_rises, join_sound, join_stays, member_of}

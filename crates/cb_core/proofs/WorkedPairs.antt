@@ -1,5 +1,5 @@
 -- Worked examples of the jobs at the far state alone: a pair that begins, and one that is given up.
-use Rattle.std.proofs.Common.{◌≡◌, ◌⊎◌, ℕ, ◌+◌, List, [], ◌∷◌, ◌++◌, None, Some, get_or, replicate, refl, sym, ap, ◌∙◌, inl, inr, lit<, arith}
+use Rattle.std.proofs.Common.{◌≡◌, ℕ, ◌+◌, List, [], ◌∷◌, ◌++◌, None, Some, get_or, replicate, refl, sym, ap, ◌∙◌, inl, inr, lit<, arith}
 use Rattle.std.specs.FinMap as map
 use Rattle.std.specs.Ordering.{nat_cmp}
 use Rattle.cb_member.specs.Membership.{fresh_members}
@@ -20,7 +20,7 @@ use Rattle.cb_compact.proofs.Laws.{begin_laws, part_laws}
 use Rattle.cb_world.proofs.Laws.{open_same}
 use Rattle.cb_core.specs.FarJobs.{FarLacks, FarStep}
 use Rattle.cb_core.specs.Parts.{Holding}
-use Rattle.cb_core.specs.Step.{HoldOn, StillFar, StillFarLacks, StillStops, StillWorks, TurnStep, worn, done}
+use Rattle.cb_core.specs.Step.{HoldOn, StillStops, StillWorks, TurnStep, worn, done}
 use Rattle.cb_core.specs.Turned.{AtFar, AtFarLacks}
 use Rattle.cb_core.proofs.StillFarJobs.{known_far}
 use Rattle.cb_core.proofs.WorkedPins.{calm, hot, seat_with}
@@ -49,6 +49,9 @@ word_is f g same =
 two_made : (f g : FarState) → f.made ≡ 2 → g.made ≡ 1 → f ≡ g → ⊥
 two_made f g two one same =
     let e : 2 ≡ 1 = sym two ∙ ap (λ (x : FarState). x.made) same ∙ one in omega (arith, e)
+
+same_holds : (f : FarState) → HoldOn (holds f) (holds f)
+same_holds f s k = (s, k, (λ h. refl), λ seats ongoing. ongoing)
 
 -- ---- a begin: no two sets can be joined where there is none
 no_set : (id : ℕ) (s : SetState) → set_in start.sets id ≡ Some s → ⊥
@@ -157,7 +160,7 @@ parts = (refl, gives_up (counts 0 []), hold_on (counts 0 []))
 -- where no pair is joining
 parts_nothing : StillWorks Part (holds start) answer.NoJoin (holds start)
 parts_nothing =
-    (refl, inl (record { none = refl; reply = refl; state = refl }), λ s k. (s, k, (λ h. refl), λ seats ongoing. ongoing))
+    (refl, inl (record { none = refl; reply = refl; state = refl }), same_holds start)
 
 done_is_none : answer.Done ≡ answer.NoJoin → ⊥
 done_is_none e = cc
@@ -174,6 +177,23 @@ parts_and_keeps : StillWorks Part (holds (joined start)) answer.Done (holds (joi
 parts_and_keeps (same, inl z, hold) = done_is_none z.reply
 parts_and_keeps (same, inr z, hold) =
     no_pair pair (sym (ap (λ (f : FarState). f.joining) z.state))
+
+-- where no pair is joining, none is stepped or merged; and no two sets become one in one turn
+patches_nothing : StillWorks Patch (holds start) answer.NoJoin (holds start)
+patches_nothing =
+    (refl, inl (record { none = refl; reply = refl; state = refl }), same_holds start)
+
+merges_nothing : StillWorks Merge (holds start) answer.NoJoin (holds start)
+merges_nothing =
+    (refl, inl (record { none = refl; reply = refl; state = refl }), same_holds start)
+
+compacts_nothing : StillWorks Compact (holds start) answer.NoPair (holds noted)
+compacts_nothing = (refl, inr (inl (record {
+  none = refl;
+  no_two = λ i j c d less can. no_set i c can.a_there;
+  reply = refl;
+  state = refl;
+})), hold_noted)
 
 -- a turn, which is of kind 14
 abbrev idle : List SeatState
@@ -206,6 +226,12 @@ pair_stops_and_warms stops = word_is start start stops.0
 
 merge_stops_and_makes : StillStops Merge (holds start) (holds (more start)) → ⊥
 merge_stops_and_makes stops = two_made (more start) start refl refl stops.1
+
+compact_stops : StillStops Compact (holds start) (holds start)
+compact_stops = (refl, refl)
+
+compact_stops_and_makes : StillStops Compact (holds start) (holds (more start)) → ⊥
+compact_stops_and_makes stops = two_made (more start) start refl refl stops.1
 
 part_stops : StillStops Part (holds (joined start)) (holds (joined start)) → ⊥
 part_stops stops = stops.1

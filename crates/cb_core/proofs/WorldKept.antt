@@ -11,7 +11,6 @@ use Rattle.cb_world.specs.declared.shown.Shown.{Shown}
 use Rattle.cb_world.specs.FarState.{FarState}
 use Rattle.cb_world.specs.Plain.{Words}
 use Rattle.cb_world.specs.Seats.{SeatState}
-use Rattle.cb_world.specs.Sound.{Sound}
 use Rattle.cb_world.specs.World.{WorldState, IsKnown, IsConfigured, IsSoundWorld}
 use Rattle.cb_world.proofs.Laws.{open_same, recounted}
 use Rattle.cb_core.specs.declared.event.Event.TheVariants as event
@@ -20,10 +19,10 @@ use Rattle.cb_core.specs.Parts.{Holding, NeverLacks, WithRoom}
 use Rattle.cb_core.specs.Step.{StillMake, StillMakeLacks, StillRead, StillReadLacks, StillWrite, StillFind, StillDecline, StillRoom, StillEvictLacks, StillSwap, StillSwapLacks, StillBring, StillBringLacks, StillWorks, StillStops, TurnStep, worn, done, Stops}
 use Rattle.cb_core.specs.Turned.{Does, Turned, worn as was_worn, done as was_done, Stopped, counted, once_counted, Makes, MakeLacks, Reads, ReadLacks, Writes, Finds, Declines, WinsRoom, EvictLacks, Swaps, SwapLacks, Brings, BringLacks, Stops as StopsOver, ComesIn, ComeLacks}
 use Rattle.cb_core.proofs.Counting.{counted_sound, job_below}
+use Rattle.cb_core.proofs.KeptParts.{IsGood, Arrives, Carries, CarriesLack, rises_more, arrives_then, arrives_more, counted_rises, ArrivesBy}
+use Rattle.cb_core.proofs.StillParts.{Ran, Tells, make_part, read_part, write_part, free_part, find_part, decline_part, evict_part, room_part, swap_part, make_lack, read_lack, evict_lack, swap_lack}
 use Rattle.cb_core.proofs.FarJobs.{note_of}
 use Rattle.cb_core.proofs.Noted.{noted_after}
-use Rattle.cb_core.proofs.KeptParts.{IsGood, Arrives, ArrivesBy, Carries, CarriesLack, rises_more, arrives_then, arrives_more, arrives_same, counted_rises, arrives_stays}
-use Rattle.cb_core.proofs.StillParts.{Ran, Tells, both_same, make_part, read_part, write_part, free_part, find_part, decline_part, evict_part, room_part, swap_part, make_lack, read_lack, evict_lack, swap_lack}
 use Rattle.cb_core.proofs.StillBatches.{begin_part, ship_part, ship_lack, commit_part, abort_part}
 use Rattle.cb_core.proofs.StillFilters.{filter_part, filter_lack}
 use Rattle.cb_core.proofs.StillFarJobs.{far_arrives, far_lack, far_part, known_far}

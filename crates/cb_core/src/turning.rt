@@ -27,14 +27,15 @@ pub const MOST_TURNS: u64 = 1 << 40;
 /// A turn of the holder of the far lock: it is counted, and does its job. Where 2^40 turns were
 /// counted it answers Worn, and neither counts nor does anything.
 ///
-/// Where there is no frame for a new object or for one that is brought in, an eviction makes room. Where
-/// that is refused the answer is NoRoom: how many frames there are, and how many spans are loose and how
-/// many nodes have room, as the eviction found them; NoFrame is the answer of no turn. A call on a far
-/// object brings it in first, and is answered as the bringing in where the object stays far. A read is
-/// `bring_to_read` and then a read of the object, where it is here. A filter, a rebuild, a compaction and
-/// the steps of an eviction (begin, ship, commit, abort) and of a joining pair (pair, patch, merge, part)
-/// win no room: each is one part alone. Where there is no memory, the turn is counted and what its parts
-/// did before stays; a commit, an abort and a parting take none.
+/// Where there is no frame for a new object or for one that is brought in, an eviction makes room.
+/// Where that is refused the answer is NoRoom: how many frames there are, and how many spans are
+/// loose and how many nodes have room, as the eviction found them; NoFrame is the answer of no
+/// turn. A call on a far object brings it in first, and is answered as the bringing in where the
+/// object stays far. A read is `bring_to_read` and then a read of the object, where it is here. A
+/// filter, a rebuild, a compaction and the steps of an eviction (begin, ship, commit, abort) and of
+/// a joining pair (pair, patch, merge, part) win no room: each is one part alone. Where there is no
+/// memory, the turn is counted and what its parts did before stays; a commit, an abort and a
+/// parting take none.
 pub fn turn<D: Desk>(
     alloc: Global,
     desk: &mut D,
