@@ -194,7 +194,7 @@ fn pin(alloc: Global, world: &mut World, seat: u32, handle: Handle) -> Result<Re
         Reply::NotHere => {
             let reply = turn_of(alloc, world, seat, Job::Swap { handle })?;
             if is_in(&reply) {
-                step_of(alloc, world, seat, pin)
+                step_of(alloc, world, seat, Atomic::Pin { handle })
             } else {
                 Ok(reply)
             }
