@@ -203,7 +203,7 @@ module _ (seat h : ℕ) (w a b : WorldState) where
       turned a b (x.word.words ∙ ap (with_word w.desk h) words ∙ sym y.word.words) (x.far ∙ sym y.far)
       (x.pins ∙ sym y.pins)
 
-  pin_fixed : (r q : Reply) → PinStep seat h w r a → PinStep seat h w q b → (r ≡ q) × (a ≡ b)
+  pub pin_fixed : (r q : Reply) → PinStep seat h w r a → PinStep seat h w q b → (r ≡ q) × (a ≡ b)
   pin_fixed r q (scope_full m e s) (scope_full n f t) = (e ∙ sym f, s ∙ sym t)
   pin_fixed r q (scope_full m e s) (refused n off f t) = absurd (omega (arith, m, n))
   pin_fixed r q (scope_full m e s) (taken n may f t) = absurd (omega (arith, m, n))
@@ -224,7 +224,7 @@ module _ (seat h : ℕ) (w a b : WorldState) where
       ∙ ap (λ (i : ℕ). with_pins w.seats seat (remove (pins_of_seat w.seats seat) i)) at
       ∙ sym y.pins)
 
-  unpin_fixed : (r q : Reply) → UnpinStep seat h w r a → UnpinStep seat h w q b → (r ≡ q) × (a ≡ b)
+  pub unpin_fixed : (r q : Reply) → UnpinStep seat h w r a → UnpinStep seat h w q b → (r ≡ q) × (a ≡ b)
   unpin_fixed r q (not_pinned n e s) (not_pinned m f t) = (e ∙ sym f, s ∙ sym t)
   unpin_fixed r q (not_pinned n e s) (given f t) =
       absurd (n t.at t.newest.pin t.newest.there t.newest.on)

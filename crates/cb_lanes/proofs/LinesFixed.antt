@@ -18,10 +18,10 @@ use Rattle.cb_world.specs.Seats.{pins_of_seat}
 use Rattle.cb_world.specs.StillWords.{contents_at}
 use Rattle.cb_world.specs.World.{WorldState, IsSoundWorld, word_at}
 use Rattle.cb_world.proofs.Laws.{some_same}
-use Rattle.cb_core.specs.declared.event.Atomic.TheVariants as atomic
 use Rattle.cb_core.specs.declared.event.Event.TheVariants.{Turn}
 use Rattle.cb_core.specs.Step.{Leads}
-use Rattle.cb_core.proofs.Laws.{atomic_fixed, newest_fixed, step_fixes}
+use Rattle.cb_core.proofs.Laws.{newest_fixed, step_fixes, unpin_fixed}
+use Rattle.cb_core.proofs.Laws as core
 use Rattle.cb_lanes.specs.Asked.{asked}
 use Rattle.cb_lanes.specs.GivingBack.{GivesAll, Rests, end_of, lines_of}
 use Rattle.cb_lanes.specs.LineStep.{IsInReply, LinesLead, LineStep, ObjectStep, OtherStep, job_of, PeekStep, not_pinned, shown, PinEvent, PinLine, at_once, stays_far, swapped_in, SwapEvent, TurnStep}
@@ -41,7 +41,7 @@ ends_fixed seat [] (r ∷ rs) qs w a b x y = absurd x
 ends_fixed seat (pin ∷ pins) [] qs w a b x y = absurd x
 ends_fixed seat (pin ∷ pins) (r ∷ rs) [] w a b x y = absurd y
 ends_fixed seat (pin ∷ pins) (r ∷ rs) (q ∷ qs) w a b x y =
-    let same = atomic_fixed seat (atomic.Unpin (record { n = pin.handle })) w x.0 y.0 r q x.1 y.1 in
+    let same = unpin_fixed seat pin.handle w x.0 y.0 r q x.1 y.1 in
     ends_fixed seat pins rs qs y.0 a b
     (subst (λ (v : WorldState). Leads v (map (end_of seat) pins) rs a) same.1 x.2) y.2
 
@@ -73,7 +73,7 @@ peek_fixed seat h w a b r q (shown at x e s) (shown to y f t) =
 
 pin_event : (seat h : ℕ) (w a b : WorldState) (r q : Reply) → PinEvent seat h w r a
     → PinEvent seat h w q b → AreOne r q a b
-pin_event seat h w a b r q x y = atomic_fixed seat (atomic.Pin (record { n = h })) w a b r q x y
+pin_event seat h w a b r q x y = core.pin_fixed seat h w a b r q x y
 
 module _ (seat h : ℕ) (w a b : WorldState) (r q : Reply) (sound : IsSoundWorld w) where
   swap_event : (m n : WorldState) (p o : Reply) → SwapEvent seat h w p m → SwapEvent seat h w o n
