@@ -107,7 +107,7 @@ object_fixed seat None request w a b r q sound x y = (x.0 ∙ sym y.0, x.1 ∙ s
 object_fixed seat (Some h) (Pin name) w a b r q sound x y = pin_fixed seat h w a b r q sound x y
 object_fixed seat (Some h) (Peek name) w a b r q sound x y = peek_fixed seat h w a b r q x y
 object_fixed seat (Some h) (Unpin name) w a b r q sound x y =
-    atomic_fixed seat (atomic.Unpin (record { n = h })) w a b r q x y
+    unpin_fixed seat h w a b r q x y
 object_fixed seat (Some h) (Read name) w a b r q sound x y =
     turn_fixed seat h w a b r q sound (job.Read (record { n = h })) x y
 object_fixed seat (Some h) (Write name at bytes) w a b r q sound x y =
