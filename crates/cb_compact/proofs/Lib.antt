@@ -27,6 +27,7 @@ mod Fixed
 pub mod FarTurns
 mod WorkedPair
 mod WorkedTables
+mod WorkedCandidates
 mod WorkedMerge
 mod WorkedGround
 mod WorkedBegin
@@ -34,4 +35,7 @@ mod WorkedStanding
 mod WorkedPatch
 mod WorkedCommit
 mod WorkedNow
+mod WorkedTurns
+mod WorkedTurn
+mod WorkedDeltas
 pub mod Laws

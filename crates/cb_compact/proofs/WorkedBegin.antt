@@ -103,13 +103,13 @@ not_one_that_is_missing : IsFirstPair ground 0 2 set_a set_b → ⊥
 not_one_that_is_missing x = not_without_b x.can
 
 -- of four sets the first and the third are live at position 0, the second and the fourth at 1
-abbrev set_c : SetState
+abbrev pub set_c : SetState
 set_c = set_of 2 set_a.shards set_a.positions
 
 abbrev set_d : SetState
 set_d = set_of 3 set_b.shards set_b.positions
 
-abbrev crowd : FarState
+abbrev pub crowd : FarState
 crowd = far (four set_a set_b set_c set_d) all_up 2 None
 
 first_of_crowd : CanJoin crowd 0 1 set_a set_b

@@ -1,5 +1,6 @@
 -- Worked examples: the merged set of a pair, what is dropped and counted, and the homes in a set.
 use Rattle.std.proofs.Common.{◌≡◌, ℕ, zero, suc, ◌+◌, ◌^◌, ◌<◌, ◌≤◌, length, sym, ◌∙◌, true, false, List, [], ◌∷◌, Option, None, Some, refl, ap, subst, arith}
+use Rattle.std.specs.Prelude.{slice_index_or}
 use Rattle.cb_member.specs.declared.names.Shard.{Shard}
 use Rattle.cb_set.specs.SetState.{PositionState, SetState, live_at, position_of, set_of, slot_at}
 use Rattle.cb_world.specs.declared.homes.Home.{Home}
@@ -12,7 +13,7 @@ use Rattle.cb_world.specs.Joining.{JoiningState}
 use Rattle.cb_world.specs.JoinSteps.{with_step}
 use Rattle.cb_compact.specs.MergeStep.{IsMerged, IsUnfinished, merged_positions, merged_set, moved_count, replaced_shards}
 use Rattle.cb_compact.specs.Merging.{AreTables, IsFilledBelow, chosen_position}
-use Rattle.cb_compact.specs.Rehoming.{AreNamedOnce, AreRehomed}
+use Rattle.cb_compact.specs.Rehoming.{AreNamedOnce, AreRehomed, HasHomes}
 use Rattle.cb_compact.specs.Steps.{undone}
 use Rattle.cb_compact.proofs.WorkedPair.{begun, dead, live_with, on_node, set_a, set_b, stepped}
 
@@ -113,6 +114,67 @@ no_other_moves x =
 -- no home is added
 pub as_many_homes : AreRehomed 5 one_object (home_in 3 ∷ []) (home_in 3 ∷ home_in 5 ∷ []) → ⊥
 as_many_homes x = let e = x.count in omega (arith, e)
+
+-- ---- the homes of the objects in one slot table
+abbrev one_slot : List (Option ℕ)
+one_slot = None ∷ Some 1 ∷ []
+
+abbrev home_at_slot : ℕ → ℕ → ℕ → Option Home
+home_at_slot set position slot = Some (record { set = set; position = position; slot = slot })
+
+slot_is : (slot h : ℕ) (P : ℕ → ℕ → Type 0) → slice_index_or one_slot slot None ≡ Some h → P 1 1
+    → P slot h
+slot_is zero h P e x = absurd (no_number h e)
+slot_is (suc zero) h P e x = subst (P 1) (same e) x
+  where
+    same : Some 1 ≡ Some h → 1 ≡ h
+    same e = cc
+slot_is (suc (suc slot)) h P e x = absurd (no_number h e)
+
+abbrev table_homes : List (Option Home) → Type 0
+table_homes new = HasHomes one_slot 5 3 (home_in 2 ∷ home_in 3 ∷ []) new
+
+pub table_rehomed : table_homes (home_in 2 ∷ home_at_slot 5 3 1 ∷ [])
+table_rehomed = record {
+  count = refl;
+  here = λ slot h named. slot_is slot h (λ slot h.
+      home_at (home_in 2 ∷ home_at_slot 5 3 1 ∷ []) h ≡ home_at_slot 5 3 slot) named refl;
+  others = others;
+}
+  where
+    others : (h : ℕ) → ((slot : ℕ) → slice_index_or one_slot slot None ≡ Some h → ⊥)
+        → home_at (home_in 2 ∷ home_at_slot 5 3 1 ∷ []) h ≡ home_at (home_in 2 ∷ home_in 3 ∷ []) h
+    others zero none = refl
+    others (suc zero) none = absurd (none 1 refl)
+    others (suc (suc h)) none = refl
+
+home_same : (a b : Home) → Some a ≡ Some b → a ≡ b
+home_same a b e = cc
+
+-- in the set, at the position and in the slot
+pub not_in_another_set : table_homes (home_in 2 ∷ home_at_slot 4 3 1 ∷ []) → ⊥
+not_in_another_set x =
+    let e : 4 ≡ 5 = ap (λ (home : Home). home.set) (home_same _ _ (x.here 1 1 refl)) in
+    omega (arith, e)
+
+pub not_at_another_position : table_homes (home_in 2 ∷ home_at_slot 5 2 1 ∷ []) → ⊥
+not_at_another_position x =
+    let e : 2 ≡ 3 = ap (λ (home : Home). home.position) (home_same _ _ (x.here 1 1 refl)) in
+    omega (arith, e)
+
+pub not_in_another_slot : table_homes (home_in 2 ∷ home_at_slot 5 3 0 ∷ []) → ⊥
+not_in_another_slot x =
+    let e : 0 ≡ 1 = ap (λ (home : Home). home.slot) (home_same _ _ (x.here 1 1 refl)) in
+    omega (arith, e)
+
+-- another object's home stays, and none is added
+pub no_other_is_given : table_homes (home_in 5 ∷ home_at_slot 5 3 1 ∷ []) → ⊥
+no_other_is_given x =
+    let e = home_sets 5 2 (x.others 0 (λ slot named. slot_is slot 0 (λ slot h. h ≡ 0 → ⊥)
+    named (λ f. omega (arith, f)) refl)) in omega (arith, e)
+
+pub no_home_more : HasHomes one_slot 5 3 (home_in 2 ∷ []) (home_in 2 ∷ home_at_slot 5 3 1 ∷ []) → ⊥
+no_home_more x = let e : 2 ≡ 1 = x.count in omega (arith, e)
 
 -- a set names each object once, at a live position
 pub once : AreNamedOnce one_object 2

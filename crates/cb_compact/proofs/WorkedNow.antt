@@ -1,24 +1,27 @@
 -- Worked examples of a pair that is joined in one turn: a value that meets each definition, and for
 -- each of its parts one that breaks that part alone.
-use Rattle.std.proofs.Common.{◌≡◌, ℕ, ◌<◌, false, List, [], ◌∷◌, None, Some, length, refl, sym, ap, ◌∙◌, subst, arith, inl, inr, lit<, lit≤}
+use Rattle.std.proofs.Common.{◌≡◌, ℕ, ◌<◌, true, false, List, [], ◌∷◌, Option, None, Some, length, refl, sym, ap, ◌∙◌, subst, arith, inl, inr, lit<, lit≤}
+use Rattle.std.specs.FinMap as map
 use Rattle.std.specs.List.{slice_get}
 use Rattle.std.proofs.lemmas.Bool.{false≢true}
-use Rattle.std.proofs.lemmas.Option.{same_Some}
+use Rattle.std.proofs.lemmas.Option.{none-some, same_Some}
 use Rattle.cb_member.specs.declared.names.NodeId.{NodeId}
 use Rattle.cb_member.specs.declared.names.Shard.{Shard}
-use Rattle.cb_node.specs.NodesState.{held}
+use Rattle.cb_node.specs.NodesState.{held, row_at as row_under}
+use Rattle.cb_node.proofs.Laws.{row_is_put}
 use Rattle.cb_set.specs.SetState.{SetState}
 use Rattle.cb_types.specs.declared.handle.SetId.{SetId}
 use Rattle.cb_types.specs.declared.reply.Reply.{Reply}
 use Rattle.cb_types.specs.declared.reply.Reply.TheVariants as answer
 use Rattle.cb_world.specs.FarState.{FarState}
 use Rattle.cb_world.specs.Joining.{JoiningState}
+use Rattle.cb_world.specs.JoinSteps.{with_step}
 use Rattle.cb_world.proofs.Laws.{node, row}
 use Rattle.cb_compact.specs.MergeStep.{MergeStep, with_merged}
 use Rattle.cb_compact.specs.NowGoing.{EndsFrom, GoesTo, HasGone, IsUndone, TriesStep}
 use Rattle.cb_compact.specs.NowStep.{AreStepped, Ends, EndsFull, EndsMerged, GoesThrough, NowStep}
 use Rattle.cb_compact.specs.Pairing.{BeginStep, numbered}
-use Rattle.cb_compact.specs.Standing.{IsFreshPair, PartStep}
+use Rattle.cb_compact.specs.Standing.{IsFreshPair, PartStep, with_parted}
 use Rattle.cb_compact.specs.Steps.{AreDone, IsFull, IsOneStep, PatchStep, TakesStep, is_undone, shard_beside, with_stepped}
 use Rattle.cb_compact.proofs.Fixed.{begins_fixed, next_fixed}
 use Rattle.cb_compact.proofs.NowKept.{at_pair}
@@ -392,3 +395,97 @@ not_by_other_turns x = by x.done x.steps
 -- and one at most for each position
 not_one_key_more : HasGone ground first_put 0 → ⊥
 not_one_key_more x = let l = x.keys in omega (arith, l)
+
+-- the rows that were put since are all that the pair has put
+abbrev begun_late : JoiningState
+begun_late = with_step begun 1 (shard_beside ground (on_node 1))
+
+late_row : row_under first_put.nodes (node 1) 6 ≡ Some (row 0)
+late_row = row_is_put ground.nodes (node 1) 6 (row 0) (lit< tt)
+
+late_row_gone : row_under (with_parted first_put begun_late).nodes (node 1) 6 ≡ None
+late_row_gone = grind (arith, map.gets)
+
+not_one_put_before : HasGone first_put first_put 0 → ⊥
+not_one_put_before x = none-some (row 0) (sym late_row_gone
+    ∙ sym (ap (λ (q : JoiningState). row_under (with_parted first_put q).nodes (node 1) 6)
+    (same_Some x.pair begun_late (sym x.fresh.was)))
+    ∙ ap (λ (f : FarState). row_under f.nodes (node 1) 6) x.back ∙ late_row)
+
+-- ---- a step that is tried
+tried_first : TriesStep ground begun set_a set_b 1 first_put None
+tried_first = inr (next_is_the_taken, one_step)
+
+false_true : false ≡ true → ⊥
+false_true e = false≢true e
+
+no_full_node_where_a_stays : (n : NodeId)
+    → TriesStep (joining 1) begun set_a set_b 0 (joining 1) (Some n) → ⊥
+no_full_node_where_a_stays n (inl x) = some_none n x.1
+  where
+    some_none : (m : NodeId) → Some m ≡ None → ⊥
+    some_none m e = cc
+no_full_node_where_a_stays n (inr x) = false_true x.0.undone
+
+no_change_where_a_stays : (new : FarState) → new.joining ≡ None
+    → TriesStep (joining 1) begun set_a set_b 0 new None → ⊥
+no_change_where_a_stays new none (inl x) =
+    kept_pair begun (sym (ap (λ (f : FarState). f.joining) x.2) ∙ none)
+no_change_where_a_stays new none (inr x) = false_true x.0.undone
+
+not_passed_over : TriesStep (joining 2) begun set_a set_b 1 (joining 2) None → ⊥
+not_passed_over (inl x) = false_true (sym x.0)
+not_passed_over (inr x) = let e : 6 ≡ 7 = ap (λ (f : FarState). f.counts.keys) x.1.state in
+    omega (arith, e)
+
+not_before_the_next : (new : FarState) (full : Option NodeId)
+    → TriesStep ground begun set_a set_b 2 new full → ⊥
+not_before_the_next new full (inl x) = false_true (sym x.0)
+not_before_the_next new full (inr x) = false_true (sym (x.0.least 1 (lit< tt)))
+
+-- ---- where the steps end
+not_at_another_node : GoesTo (joining 1) (joining 1) (Some (node 0)) → ⊥
+not_at_another_node x =
+    let patch : PatchStep (joining 1) (joining 1) (answer.NodeFull (node 0)) = inr (inr (record {
+      pair = x.1.pair;
+      a = x.1.a;
+      b = x.1.b;
+      fresh = x.1.fresh;
+      takes = inr (inl x.2);
+    })) in
+    let e : 0 ≡ 1 = ap (λ (n : NodeId). n.n) (is_node_one 1 (node 0) patch).0 in omega (arith, e)
+
+not_at_one_that_has_room : (n : NodeId) → GoesTo (joining 2) (joining 2) (Some n) → ⊥
+not_at_one_that_has_room n x =
+    let patch : PatchStep (joining 2) (joining 2) (answer.NodeFull n) = inr (inr (record {
+      pair = x.1.pair;
+      a = x.1.a;
+      b = x.1.b;
+      fresh = x.1.fresh;
+      takes = inr (inl x.2);
+    })) in
+    let e : 1 ≡ 2 = (is_node_one 2 n patch).1 in omega (arith, e)
+
+not_at_the_end_yet : GoesTo (joining 1) (joining 1) None → ⊥
+not_at_the_end_yet x =
+    let gone = x.1 in
+    let same = same_fresh (joining 1) gone.pair begun gone.a gone.b set_a set_b gone.fresh
+    (fresh 1) in
+    let done = subst (λ (q : JoiningState). AreDone q 2) same.pairs
+    (subst (λ (v : SetState). AreDone gone.pair (length v.positions)) same.a_is x.2) in
+    false_true (sym (done 1 (lit< tt)))
+
+-- nor with the pair kept, or another node told
+does_not_end_with_it : EndsFrom (joining 1) (joining 1) (answer.NodeFull (node 1)) → ⊥
+does_not_end_with_it x = elim (ends_there (joining 1) (answer.NodeFull (node 1)) (joining 1) x.1 x.0
+    refl x.2 x.3) [
+      | inl y ↦ not_with_the_pair y
+      | inr y ↦ full_or_merged (node 1) y.set y.moved y.reply
+    ]
+
+does_not_end_elsewhere : EndsFrom (joining 1) (idle 1) (answer.NodeFull (node 0)) → ⊥
+does_not_end_elsewhere x = elim (ends_there (idle 1) (answer.NodeFull (node 0)) (joining 1) x.1 x.0
+    refl x.2 x.3) [
+      | inl y ↦ not_another_node y
+      | inr y ↦ full_or_merged (node 0) y.set y.moved y.reply
+    ]

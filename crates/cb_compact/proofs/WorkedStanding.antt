@@ -86,7 +86,7 @@ changed_second = inr (
 )
 
 -- neither has changed
-none_changed : (id : ℕ) → IsChangedSet ground begun id → ⊥
+pub none_changed : (id : ℕ) → IsChangedSet ground begun id → ⊥
 none_changed id (inl x) = x.0 set_a a_stands
 none_changed id (inr x) = x.2 set_b b_stands
 
