@@ -1,0 +1,10 @@
+use Rattle.std.proofs.Common.{ℕ, List, subst}
+use Rattle.cb_local.specs.Delta.{ArePatched}
+use Rattle.cb_local.proofs.running.patched.Goals as goal
+
+pub returns : goal.returns
+returns c table coeffs =
+    let order = c.args.order.now in
+    subst (λ (t : List (List ℕ)). ArePatched t order c.add_deltas.new.parities)
+    (c.coefficient_laws.ensures.one_table order.k order.r c.coefficients-table.result table
+    c.requires.range c.coefficients-table.ensures coeffs) c.add_deltas.ensures
