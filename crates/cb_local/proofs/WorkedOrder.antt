@@ -9,7 +9,7 @@ use Rattle.cb_local.specs.Adding.{IsAdded}
 use Rattle.cb_local.specs.Delta.{ArePatched, IsOrder, added_byte}
 use Rattle.cb_local.specs.declared.order.DeltaOrder.{DeltaOrder}
 
-abbrev order_of : ℕ → ℕ → List ℕ → List (List ℕ) → List (List ℕ) → List (List ℕ) → DeltaOrder
+abbrev pub order_of : ℕ → ℕ → List ℕ → List (List ℕ) → List (List ℕ) → List (List ℕ) → DeltaOrder
 order_of k r taken old new parities = record {
   set = 7;
   taken = taken;

@@ -1,2 +1,3 @@
 pub mod Delta
 pub mod Adding
+pub mod Words

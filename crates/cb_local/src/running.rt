@@ -3,6 +3,7 @@ ghost use Rattle.cb_gf256.specs.Rows.{row_at, HaveLength};
 ghost use Rattle.cb_code.specs.Coefficients.{AreCoefficients};
 ghost use Rattle.cb_local.specs.Delta.{ArePatched, IsDone, IsOrder, width};
 ghost use Rattle.cb_local.specs.Adding.{IsAdded};
+ghost use Rattle.cb_local.specs.Words.{AreMergedParities};
 
 use crate::order::{DeltaDone, DeltaOrder};
 use cb_code::{Coeffs, coefficient_laws, coefficients};
@@ -41,7 +42,8 @@ fn add_deltas(parities: &mut Rows, table: &Coeffs, order: &DeltaOrder, change: &
 /// The order's parities with all deltas added. The only error is want of memory.
 fn patched(alloc: Global, order: &DeltaOrder) -> Result<Rows, NoMemory>
     requires { IsOrder order.now }
-    ensures { IfOk result (IsDone order.now) }
+    ensures done { IfOk result (IsDone order.now) }
+    ensures merged { IfOk result (AreMergedParities order.now) }
 {
     coefficient_laws();
     let table = coefficients(order.k, order.r);
@@ -52,11 +54,13 @@ fn patched(alloc: Global, order: &DeltaOrder) -> Result<Rows, NoMemory>
 }
 
 /// Runs an order: its parities are patched by the deltas of all taken positions, each the sum of the
-/// old and the new row there. Where there is no memory, the order is handed back.
+/// old and the new row there. Where the order's rows are those of two sets, the patched parities are
+/// those of the merged set. Where there is no memory, the order is handed back.
 pub fn run_delta(alloc: Global, order: DeltaOrder) -> Result<DeltaDone, DeltaOrder>
     requires { IsOrder order }
     ensures order { IfOk result (λ done. done.order ≡ order) }
     ensures done { IfOk result (λ done. IsDone order done.parities) }
+    ensures merged { IfOk result (λ done. AreMergedParities order done.parities) }
     ensures back { IfErr result (λ kept. kept ≡ order) }
 {
     match patched(alloc, &order) {

@@ -1,4 +1,4 @@
-use Rattle.std.proofs.Common.{◌≡◌, ◌<◌, ℕ, List, length, get_or, ap, ap₂, ◌∙◌, subst}
+use Rattle.std.proofs.Common.{◌<◌, ℕ, List, length, get_or, ap, ap₂, ◌∙◌, subst}
 use Rattle.cb_gf256.specs.Row.{row_sum}
 use Rattle.cb_local.specs.Adding.{IsAdded}
 use Rattle.cb_local.proofs.Patching.{one_patched}
