@@ -34,6 +34,17 @@ class Batch:
         self.shards = [None] * positions  # as a set's, None where a position was not put yet
 
 
+class Pair:
+    """Two sets that join: a and b with the shards that both had at the begin, the positions taken from b, and the new
+    row of each step that was done. The steps are those of the taken positions and of all parities, in order."""
+    def __init__(self, a, b, k):
+        self.a, self.b = a.number, b.number
+        self.begun = {one.number: list(one.shards) for one in (a, b)}
+        self.taken = sorted(b.slots)
+        self.steps = self.taken + list(range(k, len(a.shards)))
+        self.new = {}  # position -> shard
+
+
 class Object:
     def __init__(self, data, frame, slot):
         self.data, self.version, self.state = bytearray(data), 1, "here"
@@ -49,6 +60,7 @@ class World:
         self.spans = [None] * frames
         self.sets, self.drawn = {}, 0
         self.leaving = None
+        self.joining = None
         self.objects = []
         self.up = [True] * nodes
         self.incarnation = [0] * nodes
@@ -321,6 +333,95 @@ class World:
         o.hot = False
         return "moved"
 
+    # ---- two sets become one
+    def first_pair(self):
+        """The least set that matches one of a greater number, and the least such other one; None where no two match:
+        both have all their shards, and no position is live in both."""
+        whole = [self.sets[number] for number in sorted(self.sets) if not self.lost(self.sets[number])]
+        for at, a in enumerate(whole):
+            for b in whole[at + 1:]:
+                if not a.slots.keys() & b.slots.keys():
+                    return a, b
+        return None
+
+    def pair(self):
+        if self.joining:
+            return "joining %d %d" % (self.joining.a, self.joining.b)
+        found = self.first_pair()
+        if not found:
+            return "nopair"
+        self.joining = Pair(*found, self.k)
+        return "pair %d %d" % (self.joining.a, self.joining.b)
+
+    def give_pair_up(self):
+        self.drop_rows(self.joining.new.values())
+        self.joining = None
+
+    def no_pair_stands(self):
+        """Why no step and no commit can be made: there is no pair, or one of its sets is gone, has lost a shard or
+        has other ones, and then the pair is given up. None where it stands."""
+        if not self.joining:
+            return "nojoin"
+        for number in (self.joining.a, self.joining.b):
+            one = self.sets.get(number)
+            if one is None or self.lost(one) or one.shards != self.joining.begun[number]:
+                self.give_pair_up()
+                return "changed %d" % number
+        return None
+
+    def to_step(self):
+        return [p for p in self.joining.steps if p not in self.joining.new]
+
+    def patch(self):
+        refusal = self.no_pair_stands()
+        if refusal:
+            return refusal
+        if not self.to_step():
+            return "allstepped"
+        position = self.to_step()[0]
+        shard = self.sets[self.joining.a].shards[position]
+        if self.rows[shard[0]] == self.room:
+            return "nodefull %d" % shard[0]
+        self.rows[shard[0]] += 1  # the new row stands beside the old one
+        self.joining.new[position] = shard
+        return "stepped %d" % position
+
+    def merge(self):
+        refusal = self.no_pair_stands()
+        if refusal:
+            return refusal
+        if self.to_step():
+            return "unfinished " + " ".join(str(p) for p in self.to_step())
+        pair, self.joining = self.joining, None
+        a, b = self.sets.pop(pair.a), self.sets.pop(pair.b)
+        self.drop_rows(a.shards[p] for p in pair.steps)
+        self.drop_rows(b.shards)
+        merged = Set(self.draw(), a.shards, [])
+        merged.slots = {**a.slots, **b.slots}
+        for position, (_, slots) in merged.slots.items():
+            for handle in slots:
+                if handle is not None:
+                    self.objects[handle].home = (merged.number, position)
+        self.sets[merged.number] = merged
+        return "set %d moved %d" % (merged.number, len(b.slots))
+
+    def part(self):
+        if not self.joining:
+            return "nojoin"
+        self.give_pair_up()
+        return "ok"
+
+    def compact(self):
+        begun = self.pair()
+        if not begun.startswith("pair "):
+            return begun
+        while self.to_step():
+            stepped = self.patch()
+            if stepped.startswith("nodefull "):
+                self.give_pair_up()
+                return stepped
+        return self.merge()
+
     def crash(self, node):
         if not self.up[node]:
             return "down %d" % node
@@ -413,7 +514,7 @@ def run(text, watch=None):
             give_back(lane)
         elif verb == "filter":
             reply = w.filter(h)
-        elif verb in ("evict", "begin", "ship", "commit", "abort", "rebuild"):
+        elif verb in ("evict", "begin", "ship", "commit", "abort", "pair", "patch", "merge", "part", "compact", "rebuild"):
             reply = getattr(w, verb)()
         else:
             reply = getattr(w, verb)(int(rest[0]))

@@ -148,7 +148,6 @@ reason_text() {
     10) echo "bytes are two lower-case hexadecimal digits each; - stands for none, in a write alone" ;;
     11) echo "an object has at most 1,024 bytes" ;;
     12) echo "steps are for scripts whose lanes take turns on one thread" ;;
-    13) echo "the program does not answer this verb yet" ;;
     *) echo "docs/FORMATS.md has the reasons" ;;
     esac
 }

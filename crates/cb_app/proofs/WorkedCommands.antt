@@ -7,14 +7,12 @@ use Rattle.cb_types.specs.declared.answer.Answer.{Answer}
 use Rattle.cb_types.specs.declared.config.Config.{Config}
 use Rattle.cb_types.specs.declared.config.Field.TheVariants.{K, R, Nodes, Frames, Room, Handles, Turns}
 use Rattle.cb_types.specs.declared.request.Request.TheVariants.{Compact, Leave}
-use Rattle.cb_script.specs.declared.fault.Reason.{Reason}
-use Rattle.cb_script.specs.declared.fault.Reason.TheVariants.{Unbuilt}
+use Rattle.cb_script.specs.declared.fault.Reason.TheVariants.{Header}
 use Rattle.cb_script.specs.declared.script.Mode.TheVariants as modes
 use Rattle.cb_script.specs.declared.script.Script.{Script}
 use Rattle.cb_script.specs.Form.{Spells}
 use Rattle.cb_script.specs.Spelling.{header_line}
-use Rattle.cb_script.specs.Unbuilt.{IsFirstUnbuilt}
-use Rattle.cb_script.proofs.PublicLaws.{spells_no_fault, script_unique, differ}
+use Rattle.cb_script.proofs.PublicLaws.{empty_input, script_unique, differ}
 use Rattle.cb_cli.specs.Taken.{IsTaken}
 use Rattle.cb_cli.specs.Texts.{check_text, fault_text}
 use Rattle.cb_cli.specs.declared.outcome.Due.TheVariants as dues
@@ -25,12 +23,11 @@ use Rattle.cb_cli.specs.declared.verdict.Verdict.TheVariants.{Done, Refused}
 use Rattle.cb_app.specs.declared.ending.Ending.{Ending}
 use Rattle.cb_app.specs.Modes.{Yields, Refuses, Accepts, IsVerdict}
 use Rattle.cb_app.specs.Outcome.{IsDone, AreWordsRefused, IsScriptRefused, IsDecided, RoseOnRead, RoseOnWrite}
-use Rattle.cb_app.specs.Scripts.{IsChecked, IsUnanswered}
-use Rattle.cb_app.specs.Scripts.IsUnanswered.{NoScript, NotBuilt}
+use Rattle.cb_app.specs.Scripts.{IsChecked}
 use Rattle.cb_app.proofs.Modes.{not_both}
 use Rattle.cb_world.specs.World.{WorldState}
 
--- ---- a script of two lines, whose first verb is not built
+-- ---- a script of two lines
 
 abbrev small : Config
 small = record { k = 2; r = 2; nodes = 6; frames = 8; room = 64; handles = 16; turns = 0 }
@@ -115,39 +112,42 @@ nothing_answered old text is =
 check_accepts : Accepts Check input
 check_accepts = (script, spelled)
 
-first_line : IsFirstUnbuilt script.lines 2
-first_line = record { before = []; here = lane_line 3 2 Compact; after = lane_line 3 3 Leave ∷ []; are = refl; built = tt; unbuilt = λ no. no; number_is = refl }
+seq_accepts : Accepts Seq input
+seq_accepts = (script, spelled)
 
--- `seq` refuses the script at line 2, and `check` nowhere
-seq_refuses : Refuses Seq input (codes "script line 2 reason 13 unbuilt\n")
+-- an input without a header is refused at line 1
+seq_refuses : Refuses Seq [] (codes "script line 1 reason 2 header\n")
 unfolding digits
-seq_refuses = (2, Unbuilt, NotBuilt script spelled first_line refl, refl)
+seq_refuses = (1, Header, empty_input, refl)
 
-another_line : (text : List ℕ) → text ≡ codes "script line 3 reason 13 unbuilt\n"
-    → text ≡ fault_text 2 Unbuilt → ⊥
+another_line : (text : List ℕ) → text ≡ codes "script line 2 reason 2 header\n"
+    → text ≡ fault_text 1 Header → ⊥
 unfolding digits
 another_line text is told =
-    differ (codes "script line 3 reason 13 unbuilt\n") (codes "script line 2 reason 13 unbuilt\n") (sym is ∙ told) refl
+    differ (codes "script line 2 reason 2 header\n") (codes "script line 1 reason 2 header\n") (sym is ∙ told) refl
 
+-- what is accepted is refused
 check_refuses_not : (text : List ℕ) → Refuses Check input text → ⊥
 check_refuses_not text is = not_both Check input text check_accepts is
 
--- a verb that is not built is accepted by `check` alone
-seq_accepts_not : Accepts Seq input → ⊥
-seq_accepts_not is = not_both Seq input (codes "script line 2 reason 13 unbuilt\n") is seq_refuses
+seq_refuses_not : (text : List ℕ) → Refuses Seq input text → ⊥
+seq_refuses_not text is = not_both Seq input text seq_accepts is
+
+seq_accepts_not : Accepts Seq [] → ⊥
+seq_accepts_not is = not_both Seq [] (codes "script line 1 reason 2 header\n") is seq_refuses
 
 -- what is done with leaves its ending, and what is refused the one before
 verdict_of_check : (old : Ending) → IsVerdict Check input old ending (Done (codes "script ok lines 2 lanes 1\n"))
 verdict_of_check old = (check_accepts, yielded old)
 
-verdict_of_seq : (old : Ending) → IsVerdict Seq input old old (Refused (codes "script line 2 reason 13 unbuilt\n"))
+verdict_of_seq : (old : Ending) → IsVerdict Seq [] old old (Refused (codes "script line 1 reason 2 header\n"))
 verdict_of_seq old = (seq_refuses, refl)
 
-seq_is_not_done : (old new : Ending) (text : List ℕ) → IsVerdict Seq input old new (Done text) → ⊥
+seq_is_not_done : (old new : Ending) (text : List ℕ) → IsVerdict Seq [] old new (Done text) → ⊥
 seq_is_not_done old new text is = seq_accepts_not is.0
 
 ending_left : (text : List ℕ)
-    → IsVerdict Seq input (record { config = None; answers = []; losses = []; world = None }) ending (Refused text) → ⊥
+    → IsVerdict Seq [] (record { config = None; answers = []; losses = []; world = None }) ending (Refused text) → ⊥
 ending_left text is =
     absurd (let e : Some small ≡ None = ap (λ (end : Ending). end.config) is.1 in cc)
 
@@ -155,6 +155,9 @@ ending_left text is =
 
 all_taken : IsTaken (Some input) (Some []) input
 all_taken = record { front = refl; few = omega arith; whole = inl refl }
+
+none_taken : IsTaken (Some []) (Some []) []
+none_taken = record { front = refl; few = omega arith; whole = inl refl }
 
 done : (w : String Global) (old : Ending) → string_bytes w ≡ codes "check"
     → IsDone (w ∷ []) (Some input) (Some []) old ending (codes "script ok lines 2 lanes 1\n")
@@ -175,8 +178,8 @@ input_taken : AreWordsRefused [] (Some (1 ∷ [])) (Some []) → ⊥
 input_taken refused = absurd (let e : Some [] ≡ Some (1 ∷ []) = refused.nothing_taken in cc)
 
 refused_by_seq : (w : String Global) → string_bytes w ≡ codes "seq"
-    → IsScriptRefused (w ∷ []) (Some input) (Some []) (codes "script line 2 reason 13 unbuilt\n")
-refused_by_seq w is = record { command = Seq; words_are = seq_named w is; bytes = input; taken = all_taken; refused = seq_refuses }
+    → IsScriptRefused (w ∷ []) (Some []) (Some []) (codes "script line 1 reason 2 header\n")
+refused_by_seq w is = record { command = Seq; words_are = seq_named w is; bytes = []; taken = none_taken; refused = seq_refuses }
 
 refused_without_words : (text : List ℕ) → IsScriptRefused [] (Some input) (Some []) text → ⊥
 refused_without_words text is = no_word is.command is.words_are
@@ -199,8 +202,8 @@ accepted_and_refused is = elim (is.accepted input refl check_accepts) [
 ]
 
 -- what is refused is done with
-refused_and_done : IsDecided Seq (Some input) (Ok dues.Done) → ⊥
-refused_and_done is = elim (is.refused input (codes "script line 2 reason 13 unbuilt\n") refl seq_refuses) [
+refused_and_done : IsDecided Seq (Some []) (Ok dues.Done) → ⊥
+refused_and_done is = elim (is.refused [] (codes "script line 1 reason 2 header\n") refl seq_refuses) [
   | inl e ↦ absurd cc
   | inr e ↦ absurd (true≢false (sym e))
 ]

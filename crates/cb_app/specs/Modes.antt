@@ -1,12 +1,10 @@
 -- What each command does with the bytes that were taken, a row for each command. The two endings are
 -- the one before and the one that is left.
 use Rattle.std.specs.Prelude.{◌≡◌, ℕ, List}
-use Rattle.std.specs.List.{AllByRecursion}
 use Rattle.cb_script.specs.declared.script.Script.{Script}
 use Rattle.cb_script.specs.declared.script.Mode.TheVariants as scripts
 use Rattle.cb_script.specs.First.{First}
 use Rattle.cb_script.specs.Form.{Spells}
-use Rattle.cb_script.specs.Unbuilt.{IsBuilt}
 use Rattle.cb_text.specs.Line.{text_of}
 use Rattle.cb_cli.specs.Texts.{check_text}
 use Rattle.cb_cli.specs.declared.words.Command.{Command}
@@ -16,7 +14,7 @@ use Rattle.cb_cli.specs.declared.verdict.Verdict.TheVariants.{Done, Refused}
 use Rattle.cb_rma_text.specs.Verdicts as schedules
 use Rattle.cb_scrub_text.specs.Verdicts as scrubs
 use Rattle.cb_app.specs.declared.ending.Ending.{Ending}
-use Rattle.cb_app.specs.Scripts.{IsAnswered, IsChecked, IsUnanswered, TellsFault}
+use Rattle.cb_app.specs.Scripts.{IsAnswered, IsChecked, TellsFault}
 
 -- the ending and the text that a command yields for bytes
 abbrev pub Yields : Command → List ℕ → (old new : Ending) → List ℕ → Type 0
@@ -31,17 +29,15 @@ Yields Scrub bytes old new text = scrubs.Yields bytes text × (new ≡ old)
 
 -- the command refuses the bytes, and this text tells where and why
 abbrev pub Refuses : Command → List ℕ → List ℕ → Type 0
-Refuses Seq bytes text = TellsFault (IsUnanswered bytes) text
+Refuses Seq bytes text = TellsFault (First bytes scripts.Seq) text
 Refuses Check bytes text = TellsFault (First bytes scripts.Seq) text
 Refuses Rma bytes text = schedules.Refuses bytes text
 Refuses Scrub bytes text = scrubs.Refuses bytes text
 
--- the bytes have the form that the command wants; `seq` wants verbs that are built, and `check` any;
--- `rma` wants a schedule, and `scrub` rows
+-- the bytes have the form that the command wants: `seq` and `check` want a script, `rma` a schedule, and
+-- `scrub` rows
 abbrev pub Accepts : Command → List ℕ → Type 0
-Accepts Seq bytes =
-    (script : Script) × Spells bytes scripts.Seq script
-    × AllByRecursion (λ l. IsBuilt l.request) script.lines
+Accepts Seq bytes = (script : Script) × Spells bytes scripts.Seq script
 Accepts Check bytes = (script : Script) × Spells bytes scripts.Seq script
 Accepts Rma bytes = schedules.Accepts bytes
 Accepts Scrub bytes = scrubs.Accepts bytes

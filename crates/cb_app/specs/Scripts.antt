@@ -1,13 +1,8 @@
--- What a script is answered, what the check of one leaves, and why `seq` does not answer one.
+-- What a script is answered, what the check of one leaves, and how its fault is told.
 use Rattle.std.specs.Prelude.{◌≡◌, ℕ, List, [], map, None, Some}
 use Rattle.std.specs.List.{AllByRecursion}
 use Rattle.cb_script.specs.declared.script.Script.{Script}
-use Rattle.cb_script.specs.declared.script.Mode.TheVariants.{Seq}
 use Rattle.cb_script.specs.declared.fault.Reason.{Reason}
-use Rattle.cb_script.specs.declared.fault.Reason.TheVariants.{Unbuilt}
-use Rattle.cb_script.specs.First.{First}
-use Rattle.cb_script.specs.Unbuilt.{IsFirstUnbuilt}
-use Rattle.cb_script.specs.Form.{Spells}
 use Rattle.cb_model.specs.Legal.{IsLegalInOrder}
 use Rattle.cb_lanes.specs.Asked.{asked, HasLineReply}
 use Rattle.cb_lanes.specs.Held.{HoldsAnswers}
@@ -48,13 +43,6 @@ pub record IsChecked (script : Script) (end : Ending) : Type 0 where
   pub no_answers : end.answers ≡ []
   pub no_losses : end.losses ≡ []
   pub no_world : end.world ≡ None
-
--- Why `seq` does not answer bytes: they have a first fault, or a line of the script that they spell
--- has a verb that is not built yet.
-pub data IsUnanswered (bytes : List ℕ) (line : ℕ) (reason : Reason) : Type 0 where
-  NoScript : First bytes Seq line reason → IsUnanswered bytes line reason
-  NotBuilt : (script : Script) → Spells bytes Seq script → IsFirstUnbuilt script.lines line
-      → reason ≡ Unbuilt → IsUnanswered bytes line reason
 
 -- the text tells a line and a reason for which this holds
 abbrev pub TellsFault : (ℕ → Reason → Type 0) → List ℕ → Type 0

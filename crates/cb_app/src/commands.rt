@@ -1,8 +1,6 @@
 ghost use Rattle.std.specs.Prelude.{◌≡◌, ℕ, IfOk, OnErr};
-ghost use Rattle.std.specs.List.{AllByRecursion};
 ghost use Rattle.cb_script.specs.declared.fault.Reason.{Reason};
 ghost use Rattle.cb_script.specs.Form.{IsScript};
-ghost use Rattle.cb_script.specs.Unbuilt.{IsBuilt};
 ghost use Rattle.cb_cli.specs.Texts.{fault_text, check_text};
 ghost use Rattle.cb_cli.specs.declared.words.Command.TheVariants as commands;
 ghost use Rattle.cb_text.specs.Line.{text_of};
@@ -13,7 +11,7 @@ use crate::ending::Ending;
 use cb_cli::{Command, Verdict, answers_text, script_fault_text, script_ok_text};
 use cb_lanes::run_seq;
 use cb_rma_text::rma_bytes;
-use cb_script::{Mode, Reason, Script, ScriptFault, first_unbuilt, read_script};
+use cb_script::{Mode, Script, ScriptFault, read_script};
 use cb_scrub_text::scrub_bytes;
 use cb_types::{Bytes, NoMemory};
 use std::alloc::Global;
@@ -42,13 +40,7 @@ fn answer_bytes(alloc: Global, bytes: &[u8], end: &mut Ending) -> Result<Verdict
     ensures kept { OnErr result (end.new ≡ end.old) }
 {
     match read_script(alloc, bytes, Mode::Seq) {
-        Ok(script) => match first_unbuilt(&script) {
-            Some(line) => {
-                let reason = Reason::Unbuilt;
-                refusal(alloc, ScriptFault::Bad { line, reason })
-            }
-            None => Ok(Verdict::Done(answer_script(alloc, &script, end)?)),
-        },
+        Ok(script) => Ok(Verdict::Done(answer_script(alloc, &script, end)?)),
         Err(fault) => refusal(alloc, fault),
     }
 }
@@ -56,7 +48,6 @@ fn answer_bytes(alloc: Global, bytes: &[u8], end: &mut Ending) -> Result<Verdict
 /// The text of the answers to a script. The answers and what they led to are left in the ending.
 fn answer_script(alloc: Global, script: &Script, end: &mut Ending) -> Result<Bytes, NoMemory>
     requires script { IsScript script.now }
-    requires built { AllByRecursion (λ l. IsBuilt l.request) script.now.lines }
     ensures answered { IfOk result (λ text. IsAnswered script.now end.new
         × (text ≡ text_of end.new.answers)) }
     ensures kept { OnErr result (end.new ≡ end.old) }

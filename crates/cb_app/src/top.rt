@@ -45,9 +45,8 @@ pub fn carbink_run<R: Threads + Wait + Sync, S: Source, K: Sink>(
     ensures words_end { result ≡ 1 → (src.new ≡ src.old) × (end.new ≡ end.old) }
     ensures refuses { NameNone words.now → (result ≡ 1) ⊎ (4 ≤ result) }
 
-    // 2: the command refuses the bytes taken: they spell no script, or one with a verb that is not
-    // built and that `seq` would have to answer, or, with `rma`, no schedule; what is put tells where
-    // and why.
+    // 2: the command refuses the bytes taken: they spell no script or, with `rma`, no schedule; what is
+    // put tells where and why.
     ensures script_refused { result ≡ 2
         → RefusesScript words.now (S.left src.old) (S.left src.new)
         (K.held out.old) (K.held out.new) }

@@ -1,18 +1,26 @@
 -- The first pair of all sets is found among the first sets of each code and live positions.
-use Rattle.std.proofs.Common.{◌≡◌, ◌≢◌, ◌⊎◌, ℕ, zero, suc, ◌+◌, ◌<◌, ◌≤◌, List, [], ◌∷◌, ◌++◌, length, Some, None, bit_and, refl, sym, ap, ◌∙◌, subst, arith, inl, inr}
-use Rattle.std.specs.List.{slice_get}
+use Rattle.std.proofs.Common.{◌≡◌, ◌≢◌, ◌⊎◌, ℕ, zero, suc, ◌+◌, ◌<◌, ◌≤◌, ◌^◌, Bool, true, false, cond, if◌then◌else◌, List, [], ◌∷◌, ◌++◌, length, Option, Some, None, bit_and, refl, sym, ap, ◌∙◌, subst, arith, inl, inr}
+use Rattle.std.specs.List.{list_any, slice_get}
 use Rattle.std.specs.FinMap as map
-use Rattle.std.proofs.lemmas.Bool.{cases_eq, cases_lt}
+use Rattle.std.specs.Ordering.{is_eq}
+use Rattle.std.specs.BTreeMap.{is_at}
+use Rattle.std.specs.BTreeSet.{BTreeSet, contains}
+use Rattle.std.specs.declared.cmp.Ordering.{Ordering}
+use Rattle.std.proofs.lemmas.Bool.{cases_eq, cases_lt, false≢true}
+use Rattle.cb_member.specs.Membership.{Membership}
 use Rattle.cb_set.specs.SetState.{SetState, parities}
 use Rattle.cb_set.specs.Lost.{IsWhole}
 use Rattle.cb_set.specs.Matched.{live_mask}
-use Rattle.cb_set.proofs.Laws.{apart_from_masks, masks_from_apart, masks_of_matched, matched_by_masks}
+use Rattle.cb_set.proofs.Laws.{apart_from_masks, live_mask-lt, masks_from_apart, masks_of_matched, matched_by_masks}
 use Rattle.cb_world.specs.declared.shown.Shown.{Shown}
 use Rattle.cb_world.specs.FarState.{FarState}
 use Rattle.cb_world.specs.FarSound.{AwaySound}
-use Rattle.cb_world.specs.Sets.{if_committed, set_in}
+use Rattle.cb_world.specs.Sets.{Kept, if_committed, set_in}
+use Rattle.cb_world.specs.SetsFrom.{AreFrom}
 use Rattle.cb_compact.specs.declared.candidates.Candidate.{Candidate}
-use Rattle.cb_compact.specs.Candidates.{AreAlike, AreFirsts, CanMatch, IsCandidate, IsFirstMatch, NoneMatch}
+use Rattle.cb_compact.specs.declared.candidates.Group.{Group}
+use Rattle.cb_compact.specs.Candidates.{AreAlike, AreFirsts, AreSeen, CanMatch, IsAdded, IsCandidate, IsFirstMatch, NoneMatch, group}
+use Rattle.cb_compact.specs.Tables.{AreMasks}
 use Rattle.cb_compact.specs.Pairing.{CanJoin, IsFirstPair, NoneCanJoin}
 use Rattle.cb_compact.proofs.Looked.{set_same}
 
@@ -279,11 +287,95 @@ alike_same far c d y set other e is of alike =
           of.live;
     }
 
--- up to the last number that was drawn
-pub firsts_least : (far : FarState) (from : ℕ) (found : List Candidate) → AreFirsts far from found
-    → ((j : ℕ) → from ≤ j → j < far.counts.sets → map.get far.sets j ≡ None)
-    → from ≤ far.counts.sets → AreFirsts far far.counts.sets found
-firsts_least far from found x none low = firsts_to far from far.counts.sets found x low none
+-- a candidate was added at the end, or one that is alike was there
+pub firsts_added : (far : FarState) (id : ℕ) (found new : List Candidate) (c : Candidate)
+    (set : SetState) → AreFirsts far id found → c.id ≡ id → IsCandidate far c set
+    → IsAdded found c new → AreFirsts far (id + 1) new
+firsts_added far id found new c set x e is (inl added) =
+    subst (AreFirsts far (id + 1)) (sym added) (firsts_more far id found c set x e is)
+firsts_added far id found new c set x e is (inr (same, old)) =
+    subst (AreFirsts far (id + 1)) (sym same)
+    (firsts_over far id found x (λ d other at of. (
+      old.0,
+      old.1,
+      old.2,
+      alike_same far c d old.1 set other (e ∙ sym at) is of old.3,
+    )))
+
+-- with no set behind a number, up to the last number that was drawn
+pub firsts_all : (s : Shown) (far : FarState) (from : ℕ) (found : List Candidate) → AwaySound s far
+    → AreFirsts far from found → AreFrom far.sets from [] → AreFirsts far far.counts.sets found
+firsts_all s far from found sound x rest = record {
+  sets = λ i c at. let y = x.sets i c at in (sound.sets.numbered c.id y.1 y.2.there, y.1, y.2);
+  ascend = x.ascend;
+  cover = λ c set below is. elim (cases_lt c.id from) [
+    | inl before ↦ x.cover c set before is
+    | inr after ↦ absurd (no_set set (sym (ap if_committed (rest.each c.id after)) ∙ is.there))
+  ];
+}
+
+-- ---- kept sets
+committed_is : (kept : Kept) (o : Option Kept) → o ≡ Some kept → kept.committed ≡ true
+    → if_committed o ≡ Some kept.set
+committed_is kept o at on = ap if_committed at
+    ∙ ap (λ (b : Bool). if b then Some kept.set else None) on
+
+pub kept_inside : (far : FarState) (id : ℕ) (kept inside : Kept) → map.get far.sets id ≡ Some kept
+    → inside ≡ kept → inside.committed ≡ true → set_in far.sets id ≡ Some inside.set
+kept_inside far id kept inside at same on =
+    committed_is inside (map.get far.sets id) (at ∙ ap Some (sym same)) on
+
+pub no_candidate_kept : (far : FarState) (id : ℕ) (kept inside : Kept)
+    → map.get far.sets id ≡ Some kept → inside ≡ kept → inside.committed ≡ false → (c : Candidate)
+    (set : SetState) → c.id ≡ id → ¬ (IsCandidate far c set)
+no_candidate_kept far id kept inside at same off c set e is =
+    no_set set (sym (ap if_committed (at ∙ ap Some (sym same))
+    ∙ ap (λ (b : Bool). if b then Some inside.set else None) off)
+    ∙ ap (set_in far.sets) (sym e) ∙ is.there)
+
+pub no_candidate_lost : (far : FarState) (m : Membership) (id : ℕ) (kept inside : Kept)
+    → map.get far.sets id ≡ Some kept → inside ≡ kept → m ≡ far.members → inside.committed ≡ true
+    → ¬ (IsWhole m inside.set) → (c : Candidate) (set : SetState)
+    → c.id ≡ id → ¬ (IsCandidate far c set)
+no_candidate_lost far m id kept inside at same members on lost c set e is =
+    let whole : IsWhole far.members inside.set =
+    subst (IsWhole far.members) (set_same set inside.set (sym is.there ∙ ap (set_in far.sets) e
+    ∙ kept_inside far id kept inside at same on)) is.whole in
+    lost (subst (λ (q : Membership). IsWhole q inside.set) (sym members) whole)
+
+-- the candidates have a bit for each of at most 16 positions
+pub are_masks : (s : Shown) (far : FarState) (n : ℕ) (found : List Candidate) → AwaySound s far
+    → AreFirsts far n found → AreMasks found
+are_masks s far n found sound x i c at =
+    let y = x.sets i c at in
+    let range = (sound.sets.shaped c.id y.1 y.2.there).range in
+    let low = live_mask-lt y.1.positions in let k = y.2.k in let l = y.2.live in
+    let most = range.data_most in (
+      omega (arith, k, most),
+      subst (λ (n : ℕ). n < 2 ^ c.k) (sym l) (subst (λ (n : ℕ).
+          live_mask y.1.positions < 2 ^ n) (sym k) low),
+    )
+
+-- ---- the groups that were seen
+pub none_seen : (cmp : Group → Group → Ordering) (seen : BTreeSet Group) → seen.keys ≡ []
+    → AreSeen cmp [] seen
+none_seen cmp seen none g has =
+    absurd (false≢true (sym (ap (list_any (is_at (cmp g))) none) ∙ has))
+
+-- one group more, with a candidate of it at the end
+pub seen_more : (cmp : Group → Group → Ordering) (found : List Candidate) (c : Candidate)
+    (seen new : BTreeSet Group) → ((g h : Group) → is_eq (cmp g h) ≡ true → g ≡ h)
+    → AreSeen cmp found seen → ((g : Group) → contains cmp new g
+    ≡ cond (is_at (cmp (group c)) g) true (contains cmp seen g)) → AreSeen cmp (found ++ c ∷ []) new
+seen_more cmp found c seen new exact x updates g has = by (is_at (cmp (group c)) g) refl
+  where
+    by : (b : Bool) → is_at (cmp (group c)) g ≡ b → (i : ℕ) × (d : Candidate)
+        × (slice_get (found ++ c ∷ []) i ≡ Some d) × (group d ≡ g)
+    by true e = (length found, c, last found c, exact (group c) g e)
+    by false e =
+        let old = x g (sym (ap (λ (b : Bool). cond b true (contains cmp seen g)) e)
+        ∙ sym (updates g) ∙ has) in
+        (old.0, old.1, kept found c old.0 old.1 old.2, old.3)
 
 -- ---- the first pair is one
 pub record IsOnePair (x y z w : ℕ) : Type 0 where

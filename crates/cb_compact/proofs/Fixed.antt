@@ -84,7 +84,7 @@ module _ (far new other : FarState) (r q : Reply) where
             ∙ sym b.state,
       )
 
-  begins_fixed : BeginStep far new r → BeginStep far other q → IsOne new other r q
+  pub begins_fixed : BeginStep far new r → BeginStep far other q → IsOne new other r q
   begins_fixed (inl a) (inl b) = joining_fixed a b
   begins_fixed (inl a) (inr (inl b)) = absurd (no_pair far.joining a.pair b.none a.there)
   begins_fixed (inl a) (inr (inr b)) = absurd (no_pair far.joining a.pair b.none a.there)

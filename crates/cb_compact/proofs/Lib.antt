@@ -5,7 +5,9 @@ mod Finding
 mod Looked
 pub mod Keeping
 mod Choosing
-pub mod Begins
+mod Within
+mod Groups
+mod Begins
 mod Merged
 mod Committing
 pub mod Committed
@@ -24,10 +26,12 @@ mod Stays
 mod Fixed
 pub mod FarTurns
 mod WorkedPair
+mod WorkedTables
 mod WorkedMerge
 mod WorkedGround
 mod WorkedBegin
 mod WorkedStanding
 mod WorkedPatch
 mod WorkedCommit
+mod WorkedNow
 pub mod Laws

@@ -11,7 +11,7 @@ use Rattle.cb_compact.proofs.WorkedGround.{all_up, far, first_of, first_of_four,
 use Rattle.cb_compact.proofs.WorkedPair.{dead, live_with, on_node, set_a, set_b}
 
 -- a is live at position 0, and b at position 1
-a_or_b : PositionsApart set_a.positions set_b.positions
+pub a_or_b : PositionsApart set_a.positions set_b.positions
 a_or_b zero on off = absurd (not_live off)
   where
     not_live : dead.live ≡ true → ⊥

@@ -1,11 +1,14 @@
 -- The sets among which a pair is looked for.
-use Rattle.std.specs.Prelude.{◌≡◌, ℕ, ◌<◌, ◌≤◌, List, Some, length, slice_get, bit_and}
+use Rattle.std.specs.Prelude.{◌≡◌, ◌⊎◌, ℕ, ◌<◌, ◌≤◌, true, List, [], ◌∷◌, ◌++◌, Some, length, slice_get, bit_and}
+use Rattle.std.specs.BTreeSet.{BTreeSet, contains}
+use Rattle.std.specs.declared.cmp.Ordering.{Ordering}
 use Rattle.cb_set.specs.SetState.{SetState, parities}
 use Rattle.cb_set.specs.Lost.{IsWhole}
 use Rattle.cb_set.specs.Matched.{live_mask}
 use Rattle.cb_world.specs.Sets.{set_in}
 use Rattle.cb_world.specs.FarState.{FarState}
 use Rattle.cb_compact.specs.declared.candidates.Candidate.{Candidate}
+use Rattle.cb_compact.specs.declared.candidates.Group.{Group}
 
 -- the candidate is the whole committed set of its number
 pub record IsCandidate (far : FarState) (candidate : Candidate) (set : SetState) : Type 0 where
@@ -20,6 +23,20 @@ pub record AreAlike (a b : Candidate) : Type 0 where
   pub k : a.k ≡ b.k
   pub r : a.r ≡ b.r
   pub live : a.live ≡ b.live
+
+-- what it has in common with those that are alike
+abbrev pub group : Candidate → Group
+group c = record { k = c.k; r = c.r; live = c.live }
+
+-- a group was seen, by this order of groups, only where a candidate of it was found
+abbrev pub AreSeen : (Group → Group → Ordering) → List Candidate → BTreeSet Group → Type 0
+AreSeen cmp found seen = (g : Group) → contains cmp seen g ≡ true
+    → (i : ℕ) × (d : Candidate) × (slice_get found i ≡ Some d) × (group d ≡ g)
+
+-- a candidate was added at the end, or one that is alike was there and nothing has changed
+abbrev pub IsAdded : List Candidate → Candidate → List Candidate → Type 0
+IsAdded found c new = (new ≡ found ++ c ∷ []) ⊎ ((new ≡ found)
+    × ((i : ℕ) × (d : Candidate) × (slice_get found i ≡ Some d) × AreAlike d c))
 
 -- both are of one code and have no live position in common
 pub record CanMatch (a b : Candidate) : Type 0 where

@@ -5,6 +5,7 @@ pub mod MergeStep
 pub mod NowStep
 pub mod NowGoing
 pub mod Candidates
+pub mod Tables
 pub mod Deltas
 pub mod Looking
 pub mod Rehoming

@@ -4,17 +4,18 @@ ghost use Rattle.cb_types.specs.declared.reply.Reply.TheVariants as answer;
 ghost use Rattle.cb_world.specs.declared.shown.Shown.{Shown};
 ghost use Rattle.cb_world.specs.Joining.{JoiningState};
 ghost use Rattle.cb_world.specs.Now.{now};
+ghost use Rattle.cb_world.specs.Pairs.{HoldsNoPair};
 ghost use Rattle.cb_world.specs.Reserved.{put_shards};
 ghost use Rattle.cb_world.specs.Sound.{Sound};
 ghost use Rattle.cb_world.specs.Stored.{AreThere};
-ghost use Rattle.cb_compact.specs.NowGoing.{EndsFrom, GoesTo, HasGone, IsUndone, TriesStep, with_keys, without_pair};
+ghost use Rattle.cb_compact.specs.NowGoing.{EndsFrom, GoesTo, HasGone, IsUndone, TriesStep, without_pair};
 ghost use Rattle.cb_compact.specs.NowStep.{NowStep};
 ghost use Rattle.cb_compact.specs.Standing.{IsFreshPair, with_parted};
 ghost use Rattle.cb_compact.specs.Steps.{is_undone};
 
 use crate::beginning::{Begun, begin};
 use crate::merging::merge;
-use crate::parting::give_up;
+use crate::parting::{give_up, undo};
 use crate::stepping::{data_count, take_step};
 use crate::steps::is_undone;
 use cb_member::NodeId;
@@ -113,24 +114,6 @@ fn drawn_keys(far: &Far) -> u64
     far.counts.keys
 }
 
-/// Gives the keys back that were drawn since there were so many.
-fn set_keys(far: &mut Far, keys: u64)
-    ensures { far.new ≡ with_keys far.old keys }
-{
-    far.counts.keys = keys;
-}
-
-/// Gives the joining pair up, and the keys back that were drawn for its rows.
-fn undo(far: &mut Far, keys: u64)
-    requires there { (pair : JoiningState) × (far.old.joining ≡ Some pair)
-        × AreThere far.old.nodes (put_shards pair.steps) }
-    ensures { (pair : JoiningState) → far.old.joining ≡ Some pair
-        → far.new ≡ with_keys (with_parted far.old pair) keys }
-{
-    give_up(far);
-    set_keys(far, keys);
-}
-
 /// Goes through with a pair that has begun to join. Where there is no memory, the pair is given up
 /// with all that was done for it.
 fn go_through(far: &mut Far) -> Result<Reply, NoMemory>
@@ -156,13 +139,14 @@ fn go_through(far: &mut Far) -> Result<Reply, NoMemory>
 /// position, and which is committed then. A key is drawn for each step, and the merged set's number
 /// at the end.
 ///
-/// Answers Joining where a pair is joining already, and NoPair where no two sets can be joined, and
-/// nothing changes then. Answers NodeFull with the first node, in the order of the steps, that has
+/// Answers Joining where a pair is joining already, and nothing changes then; and NoPair where no two
+/// sets can be joined, and notes that alone. Answers NodeFull with the first node, in the order of the steps, that has
 /// no room: the pair is given up and its new rows are dropped, so only the count of drawn keys may
 /// differ. Answers else Merged with the count of the taken positions, all of which are live. No row
 /// is given out. Where there is no memory, nothing has changed, the count of drawn keys included.
 pub fn compact_now<D: Desk>(desk: &mut D, far: &mut Far) -> Result<Reply, NoMemory>
     requires sound { (s : Shown) × D.shows desk.old s × Sound s far.old }
+    requires note { HoldsNoPair far.old }
     requires keys { far.old.counts.keys + 20 < 2 ^ 62 }
     requires sets { far.old.counts.sets < 2 ^ 62 }
     ensures desk { desk.new ≡ desk.old }

@@ -12,6 +12,7 @@ mod parting;
 mod rehoming;
 mod stepping;
 mod steps;
+mod tables;
 
 pub use beginning::compact_begin;
 pub use compacting::compact_now;

@@ -7,6 +7,7 @@ ghost use Rattle.cb_world.specs.Now.{now};
 ghost use Rattle.cb_world.specs.Reserved.{put_shards};
 ghost use Rattle.cb_world.specs.Sound.{Sound};
 ghost use Rattle.cb_world.specs.Stored.{AreThere, all_dropped};
+ghost use Rattle.cb_compact.specs.NowGoing.{with_keys};
 ghost use Rattle.cb_compact.specs.Standing.{PartStep, with_parted};
 
 use cb_member::Shard;
@@ -44,6 +45,24 @@ pub(crate) fn give_up(far: &mut Far)
     if let Some(pair) = far.joining.take() {
         drop_steps(&mut far.nodes, &pair.steps);
     }
+}
+
+/// Gives the keys back that were drawn since there were so many.
+fn set_keys(far: &mut Far, keys: u64)
+    ensures { far.new ≡ with_keys far.old keys }
+{
+    far.counts.keys = keys;
+}
+
+/// Gives the joining pair up, and the keys back that were drawn for its rows.
+pub(crate) fn undo(far: &mut Far, keys: u64)
+    requires there { (pair : JoiningState) × (far.old.joining ≡ Some pair)
+        × AreThere far.old.nodes (put_shards pair.steps) }
+    ensures { (pair : JoiningState) → far.old.joining ≡ Some pair
+        → far.new ≡ with_keys (with_parted far.old pair) keys }
+{
+    give_up(far);
+    set_keys(far, keys);
 }
 
 /// Drops the rows of the steps that were done.

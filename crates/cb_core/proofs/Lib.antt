@@ -9,6 +9,7 @@ pub mod KeptPins
 pub mod KeptParts
 pub mod NodesStay
 pub mod FarJobs
+mod Noted
 pub mod StillParts
 pub mod StillFilters
 pub mod StillFarJobs

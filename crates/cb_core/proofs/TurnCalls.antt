@@ -4,7 +4,7 @@ use Rattle.cb_member.specs.declared.names.NodeId.{NodeId}
 use Rattle.cb_types.specs.declared.job.Job.{Job}
 use Rattle.cb_types.specs.declared.job.Job.TheVariants as job
 use Rattle.cb_types.specs.declared.request.Request.{Request}
-use Rattle.cb_types.specs.declared.request.Request.TheVariants.{Make, Read, Write, Free, Filter, Evict, Begin, Ship, Commit, Abort, Pair, Patch, Merge, Part, Rebuild, Crash, Join}
+use Rattle.cb_types.specs.declared.request.Request.TheVariants.{Make, Read, Write, Free, Filter, Evict, Begin, Ship, Commit, Abort, Pair, Patch, Merge, Part, Compact, Rebuild, Crash, Join}
 use Rattle.cb_types.specs.declared.reply.Reply.{Reply}
 use Rattle.cb_types.specs.Table.{IsReplyOf}
 use Rattle.cb_world.specs.declared.shown.Shown.{Shown}
@@ -215,8 +215,8 @@ far_map j w new r before after step =
 far_turn : (j : Job) (line : Request)
     → ((a b : Holding Words) (q : Reply) → StillWorks j a q b → StillFar (FarStep j) a q b)
     → ((q : Reply) → AnswersLine j q → IsReplyOf line q) → IsQuiet j line
-far_turn j line as answers w new r before after few step =
-    let d = as (held_at w j) (held_then new) r (is_done j w new r few step) in (
+far_turn j line works answers w new r before after few step =
+    let d = works (held_at w j) (held_then new) r (is_done j w new r few step) in (
       far_map j w new r before after d,
       answers r ((far_job j).answers (counted w.far j) new.far r d.1),
     )
@@ -232,6 +232,9 @@ merge_turn = far_turn job.Merge Merge (λ a b q x. x) (λ q x. x)
 
 pub part_turn : IsQuiet job.Part Part
 part_turn = far_turn job.Part Part (λ a b q x. x) (λ q x. x)
+
+pub compact_turn : IsQuiet job.Compact Compact
+compact_turn = far_turn job.Compact Compact (λ a b q x. x) (λ q x. x)
 
 pub rebuild_turn : IsQuiet job.Rebuild Rebuild
 rebuild_turn = far_turn job.Rebuild Rebuild (λ a b q x. x) (λ q x. x)

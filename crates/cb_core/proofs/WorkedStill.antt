@@ -12,7 +12,7 @@ use Rattle.cb_span.specs.Contents.{Contents}
 use Rattle.cb_span.specs.declared.temp.Temp.TheVariants.{Hot, Cold}
 use Rattle.cb_types.specs.declared.config.Field.TheVariants.{K, R, Nodes, Frames, Room, Handles, Turns}
 use Rattle.cb_types.specs.declared.handle.SetId.{SetId}
-use Rattle.cb_types.specs.declared.job.Job.TheVariants.{Read, Write, Swap, Compact, Rebuild}
+use Rattle.cb_types.specs.declared.job.Job.TheVariants.{Read, Write, Swap, Rebuild}
 use Rattle.cb_types.specs.declared.reply.Reply.{Reply}
 use Rattle.cb_types.specs.declared.reply.Reply.TheVariants as answer
 use Rattle.cb_types.specs.Config.{IsAccepted}
@@ -466,9 +466,6 @@ swaps_none = not_far stays (λ e. stays_away e)
   where
     stays_away : answer.Stays ≡ answer.NotHere → ⊥
     stays_away e = cc
-
-no_compaction : StillWorks Compact start answer.Done start → ⊥
-no_compaction works = works.1
 
 -- ---- no memory
 smallest : IsClassOf 1 (record { index = 0 })

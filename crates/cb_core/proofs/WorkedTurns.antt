@@ -415,5 +415,5 @@ a_merge = tt
 a_part : IsJob settings Part
 a_part = tt
 
-no_compaction : IsJob settings Compact → ⊥
-no_compaction job = job
+a_compaction : IsJob settings Compact
+a_compaction = tt

@@ -3,10 +3,11 @@ use Rattle.std.specs.Prelude.{◌≡◌, ℕ, ◌≤◌, true, length}
 use Rattle.cb_member.specs.Membership.{alive}
 use Rattle.cb_set.specs.SetState.{SetState}
 use Rattle.cb_types.specs.declared.job.Job.{Job}
-use Rattle.cb_types.specs.declared.job.Job.TheVariants.{Pair, Patch, Merge, Part, Rebuild, Crash, Join}
+use Rattle.cb_types.specs.declared.job.Job.TheVariants.{Pair, Patch, Merge, Part, Compact, Rebuild, Crash, Join}
 use Rattle.cb_types.specs.declared.reply.Reply.{Reply}
 use Rattle.cb_world.specs.FarState.{FarState}
 use Rattle.cb_compact.specs.MergeStep.{MergeStep}
+use Rattle.cb_compact.specs.NowStep.{NowStep}
 use Rattle.cb_compact.specs.Pairing.{BeginStep}
 use Rattle.cb_compact.specs.Standing.{PartStep}
 use Rattle.cb_compact.specs.Steps.{PatchStep}
@@ -20,23 +21,25 @@ FarStep Pair = BeginStep
 FarStep Patch = PatchStep
 FarStep Merge = MergeStep
 FarStep Part = PartStep
+FarStep Compact = NowStep
 FarStep Rebuild = RebuildStep
 FarStep (Crash node) = λ far new r. CrashTurn node far r new
 FarStep (Join node) = λ far new r. JoinTurn node far r new
 FarStep job = λ far new r. ⊥
 
--- the sets before the first weak one were looked at, and rows of that one were given out, at most as
--- many as it has data positions
+-- the sets before the first weak one were looked at, and rows of that one were given out, at most
+-- as many as it has data positions
 abbrev pub IsWeakGiven : FarState → FarState → Type 0
 IsWeakGiven far new = (id : ℕ) × (set : SetState) × (n : ℕ) × IsFirstWeak far id set
     × (n ≤ length set.positions) × (new ≡ far_given (surveyed far id) n)
 
--- What one leaves that finds no memory: a rebuild may have given rows out, a crash needs memory only
--- where the node is up, and else nothing has changed. A parting and a join take no memory.
+-- What one leaves that finds no memory: a rebuild may have given rows out, a crash needs memory
+-- only where the node is up, and else nothing has changed. A parting and a join take no memory.
 abbrev pub FarLacks : Job → FarState → FarState → Type 0
 FarLacks Pair far new = new ≡ far
 FarLacks Patch far new = new ≡ far
 FarLacks Merge far new = new ≡ far
+FarLacks Compact far new = new ≡ far
 FarLacks Rebuild far new = IsWeakGiven far new
 FarLacks (Crash node) far new = (new ≡ far) × (alive far.members node ≡ true)
 FarLacks job far new = ⊥

@@ -21,8 +21,7 @@ IsJob c Pair = Unit {0}
 IsJob c Patch = Unit {0}
 IsJob c Merge = Unit {0}
 IsJob c Part = Unit {0}
--- no turn joins two sets in one
-IsJob c Compact = ⊥
+IsJob c Compact = Unit {0}
 IsJob c Rebuild = Unit {0}
 IsJob c (Crash node) = node.n < c.nodes
 IsJob c (Join node) = node.n < c.nodes

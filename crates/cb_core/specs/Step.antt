@@ -1,5 +1,5 @@
 -- One event of the core, at the still desk: its reply, and every part of the world after it.
-use Rattle.std.specs.Prelude.{◌≡◌, ℕ, ◌^◌, ◌<◌, true, List, [], ◌∷◌, Option, Some, length}
+use Rattle.std.specs.Prelude.{◌≡◌, ℕ, ◌^◌, ◌<◌, List, [], ◌∷◌, Option, Some, length}
 use Rattle.cb_ptr.specs.declared.word.State.TheVariants as state
 use Rattle.cb_ptr.specs.Word.{state_of, len_of}
 use Rattle.cb_types.specs.declared.job.Job.{Job}

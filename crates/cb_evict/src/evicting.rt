@@ -90,6 +90,23 @@ pub fn evict_counted<D: Desk>(desk: &mut D, far: &mut Far) -> Result<Eviction, N
     }
 }
 
+/// Room for the rows of `k` spans, which have any bytes: mostly that of the eviction before.
+fn spare_rows(far: &mut Far, k: u32) -> Result<Rows, NoMemory>
+    requires some { 0 < k }
+    ensures count { IfOk result (λ rows. length rows ≡ k) }
+    ensures lengths { IfOk result (λ rows. HaveLength 4096 rows) }
+    ensures unchanged { far.new ≡ far.old }
+{
+    far.nodes.spare_table(k, 4096)
+}
+
+/// Keeps the room of rows for the next eviction. Takes no memory.
+fn keep_rows(far: &mut Far, rows: Rows)
+    ensures unchanged { far.new ≡ far.old }
+{
+    far.nodes.keep_table(rows);
+}
+
 /// Evicts the first k of these spans whose objects can all be claimed. So many nodes have room.
 fn evict_loose<D: Desk>(
     desk: &mut D,
@@ -121,10 +138,46 @@ fn evict_loose<D: Desk>(
         IsStill) }
     ensures unchanged { OnErr result (far.new ≡ far.old) }
 {
-    let mut rows = match Rows::new(far.alloc, config.k, 4096) {
-        Ok(rows) => rows,
-        Err(_) => return Err(NoMemory),
-    };
+    let mut rows = spare_rows(far, config.k)?;
+    let eviction = evict_over(desk, far, config, nodes, loose, shards, &mut rows);
+    keep_rows(far, rows);
+    eviction
+}
+
+/// Evicts the first k of these spans whose objects can all be claimed, over rows that have room for k
+/// spans. So many nodes have room.
+fn evict_over<D: Desk>(
+    desk: &mut D,
+    far: &mut Far,
+    config: Config,
+    nodes: u32,
+    loose: &[u32],
+    shards: &[Shard],
+    rows: &mut Rows,
+) -> Result<Eviction, NoMemory>
+    requires config { (IsAccepted config) × (config ≡ D.settings desk.old) }
+    requires configured { IsConfigured config far.old }
+    requires counts { (far.old.counts.sets < 2 ^ 62) × (far.old.counts.keys < 2 ^ 62) }
+    requires sound { (s : Shown) × D.shows desk.old s × Sound s far.old }
+    requires among { All (Contains (candidates far.old)) loose.now }
+    requires apart { AllPairs (λ f g. f ≢ g) loose.now }
+    requires enough { config.k ≤ length loose.now }
+    requires room { config.k + config.r ≤ room_count far.old.nodes far.old.members }
+    requires nodes { nodes ≡ room_count far.old.nodes far.old.members }
+    requires shards { AreShards far.old (config.k + config.r) shards.now }
+    requires rows { (length rows.old ≡ config.k) × HaveLength 4096 rows.old }
+    ensures evict { IfOk result (λ eviction. Performs (λ es. D.run desk.old es desk.new)
+        (λ s. D.shows desk.old s × Sound s far.old)
+        (CountsAfter config far.old far.new eviction loose.now)
+        (λ t. Sound t far.new)
+        (EvictEffect far.old far.new (reply_of eviction))) }
+    ensures error { OnErr result (Performs (λ es. D.run desk.old es desk.new)
+        (λ s. D.shows desk.old s × Sound s far.old)
+        (TouchesSpans far.old)
+        (λ t. Sound t far.new)
+        IsStill) }
+    ensures unchanged { OnErr result (far.new ≡ far.old) }
+{
     let taken = take_spans(desk, far, config, loose)?;
     match taken {
         Taken::TooFew { spans } => Ok(Eviction::Refused {
@@ -133,7 +186,7 @@ fn evict_loose<D: Desk>(
             nodes,
         }),
         Taken::Enough { frames, formers } => {
-            evict_claimed(desk, far, shards, &frames, &formers, &mut rows)
+            evict_claimed(desk, far, shards, &frames, &formers, rows)
         }
     }
 }

@@ -9,9 +9,10 @@ use Rattle.cb_types.specs.declared.answer.Answer.{Answer}
 use Rattle.cb_types.specs.declared.config.Config.{Config}
 use Rattle.cb_types.specs.Config.{IsAccepted}
 use Rattle.cb_types.specs.declared.config.Field.TheVariants.{Nodes}
+use Rattle.cb_types.specs.declared.job.Job.{Job}
 use Rattle.cb_types.specs.declared.job.Job.TheVariants as job
 use Rattle.cb_types.specs.declared.request.Request.{Request}
-use Rattle.cb_types.specs.declared.request.Request.TheVariants.{Make, Read, Write, Free, Pin, Peek, Unpin, Filter, Evict, Begin, Ship, Commit, Abort, Rebuild, Crash, Join, Leave}
+use Rattle.cb_types.specs.declared.request.Request.TheVariants.{Make, Read, Write, Free, Pin, Peek, Unpin, Filter, Evict, Begin, Ship, Commit, Abort, Pair, Patch, Merge, Part, Compact, Rebuild, Crash, Join, Leave}
 use Rattle.cb_types.specs.declared.reply.Reply.{Reply}
 use Rattle.cb_types.specs.declared.reply.Reply.TheVariants as answer
 use Rattle.cb_types.specs.Requests.{name_of}
@@ -24,21 +25,20 @@ use Rattle.cb_model.specs.Legal.{Follow, IsMapReply}
 use Rattle.cb_model.proofs.Laws.{calls_of-push, handle_of-push, Follow-push, makes-le, makes-push}
 use Rattle.cb_script.specs.declared.script.Line.{Line}
 use Rattle.cb_script.specs.Form.{IsRequest, AreLines}
-use Rattle.cb_script.specs.Unbuilt.{IsBuilt}
 use Rattle.cb_world.specs.FarState.{FarState}
 use Rattle.cb_world.specs.Seats.{pins_of_seat}
 use Rattle.cb_world.specs.World.{WorldState, IsSoundWorld, empty_world}
 use Rattle.cb_mutate.specs.MapBeside.{IsMapBeside}
 use Rattle.cb_mutate.proofs.Laws.{is_map_reply, is_map_make, beside_kept, empty_beside}
 use Rattle.cb_core.specs.declared.event.Event.TheVariants.{Turn}
-use Rattle.cb_core.proofs.Laws.{step_settings}
+use Rattle.cb_core.proofs.Laws.{step_settings, evict_turn, begin_turn, ship_turn, commit_turn, abort_turn, pair_turn, patch_turn, merge_turn, part_turn, compact_turn, rebuild_turn}
 use Rattle.cb_world.specs.Empty.{empty_words, empty_far, empty_shown}
 use Rattle.cb_world.proofs.Laws.{empty_shows, empty_sound, now_same, empty_world_sound}
 use Rattle.cb_lanes.specs.Asked.{answer_to, asked, HasLineReply}
 use Rattle.cb_lanes.specs.Held.{HoldsAnswers}
 use Rattle.cb_lanes.specs.GivingBack.{Rests, lines_of}
 use Rattle.cb_lanes.specs.LineAnswered.{LineAnswered}
-use Rattle.cb_lanes.specs.LineStep.{LineStep, ObjectStep, PeekStep, not_pinned, shown}
+use Rattle.cb_lanes.specs.LineStep.{LineStep, ObjectStep, OtherStep, job_of, PeekStep, not_pinned, shown}
 use Rattle.cb_lanes.specs.LinesLeft.{AreLanes}
 use Rattle.cb_lanes.specs.Lost.{loss_of, losses_of}
 use Rattle.cb_lanes.specs.Names.{Names, kept_number, handle_at, handle_in, number_after, AreKept, AreReady}
@@ -49,7 +49,7 @@ use Rattle.cb_lanes.proofs.NamesKept.{name_within}
 use Rattle.cb_lanes.proofs.Pinning.{pin_goes, pin_settings, peek_goes, unpin_goes, leave_goes}
 use Rattle.cb_lanes.proofs.Scoping.{Scoped, line_scoped}
 use Rattle.cb_lanes.proofs.ScopesKept.{AreScopes, scopes_none, scopes_push, keep_push, Rested, rests, LeadsOn, leads_push, IsFresh, grown, apart_after, lines_own}
-use Rattle.cb_lanes.proofs.Silent.{unmade_line, evict_goes, begin_goes, ship_goes, commit_goes, abort_goes, rebuild_goes, crash_goes, join_goes}
+use Rattle.cb_lanes.proofs.Silent.{unmade_line, still_goes, crash_goes, join_goes}
 use Rattle.cb_lanes.proofs.Turning.{Turning, around, Goes}
 
 -- The answers so far are the map's, the map is beside the world that they led to, the names are what
@@ -73,7 +73,7 @@ pub record Along (c : Config) (later : List ℕ) (answers : List Answer) (w : Wo
 
 -- the line on an object whose name has this handle, if it has one
 pub line_goes : (answers : List Answer) (l : Line) (request : Request) (r : Reply) (w new : WorldState)
-    (handle : Option ℕ) → (c : Turning answers w new) → IsBuilt request
+    (handle : Option ℕ) → (c : Turning answers w new)
     → IsRequest w.desk.settings.nodes request
     → handle_named answers (name_of request) ≡ handle
     → ((h : ℕ) → handle ≡ Some h → h < w.desk.settings.handles)
@@ -81,55 +81,64 @@ pub line_goes : (answers : List Answer) (l : Line) (request : Request) (r : Repl
     → ((seat : ℕ) → 16 ≤ seat → pins_of_seat w.seats seat ≡ [])
     → LineStep l.lane.n handle request w r new
     → Goes answers (answer_to l request r) w new c.then.shown
-line_goes answers l (Make name bytes) r w new handle c built is named ready lt made few step =
+line_goes answers l (Make name bytes) r w new handle c is named ready lt made few step =
     make_goes answers l name bytes r w new c step
-line_goes answers l Evict r w new handle c built is named ready lt made few step =
-    evict_goes answers l r w new c step
-line_goes answers l Begin r w new handle c built is named ready lt made few step =
-    begin_goes answers l r w new c step
-line_goes answers l Ship r w new handle c built is named ready lt made few step =
-    ship_goes answers l r w new c step
-line_goes answers l Commit r w new handle c built is named ready lt made few step =
-    commit_goes answers l r w new c step
-line_goes answers l Abort r w new handle c built is named ready lt made few step =
-    abort_goes answers l r w new c step
-line_goes answers l Rebuild r w new handle c built is named ready lt made few step =
-    rebuild_goes answers l r w new c step
-line_goes answers l (Crash node) r w new handle c built is named ready lt made few step =
+line_goes answers l Evict r w new handle c is named ready lt made few step =
+    still_goes job.Evict Evict evict_turn refl (λ xs q. refl) answers l r w new c step
+line_goes answers l Begin r w new handle c is named ready lt made few step =
+    still_goes job.Begin Begin begin_turn refl (λ xs q. refl) answers l r w new c step
+line_goes answers l Ship r w new handle c is named ready lt made few step =
+    still_goes job.Ship Ship ship_turn refl (λ xs q. refl) answers l r w new c step
+line_goes answers l Commit r w new handle c is named ready lt made few step =
+    still_goes job.Commit Commit commit_turn refl (λ xs q. refl) answers l r w new c step
+line_goes answers l Abort r w new handle c is named ready lt made few step =
+    still_goes job.Abort Abort abort_turn refl (λ xs q. refl) answers l r w new c step
+line_goes answers l Pair r w new handle c is named ready lt made few step =
+    still_goes job.Pair Pair pair_turn refl (λ xs q. refl) answers l r w new c step
+line_goes answers l Patch r w new handle c is named ready lt made few step =
+    still_goes job.Patch Patch patch_turn refl (λ xs q. refl) answers l r w new c step
+line_goes answers l Merge r w new handle c is named ready lt made few step =
+    still_goes job.Merge Merge merge_turn refl (λ xs q. refl) answers l r w new c step
+line_goes answers l Part r w new handle c is named ready lt made few step =
+    still_goes job.Part Part part_turn refl (λ xs q. refl) answers l r w new c step
+line_goes answers l Compact r w new handle c is named ready lt made few step =
+    still_goes job.Compact Compact compact_turn refl (λ xs q. refl) answers l r w new c step
+line_goes answers l Rebuild r w new handle c is named ready lt made few step =
+    still_goes job.Rebuild Rebuild rebuild_turn refl (λ xs q. refl) answers l r w new c step
+line_goes answers l (Crash node) r w new handle c is named ready lt made few step =
     crash_goes answers l node r w new c is step
-line_goes answers l (Join node) r w new handle c built is named ready lt made few step =
+line_goes answers l (Join node) r w new handle c is named ready lt made few step =
     join_goes answers l node r w new c is step
-line_goes answers l (Read name) r w new None c built is named ready lt made few step =
+line_goes answers l (Read name) r w new None c is named ready lt made few step =
     unmade_line answers l (Read name) name r w new (around answers w new c) named refl refl tt step
-line_goes answers l (Read name) r w new (Some h) c built is named ready lt made few step =
+line_goes answers l (Read name) r w new (Some h) c is named ready lt made few step =
     read_goes answers l name h r w new c (ready h refl) named step
-line_goes answers l (Write name at bytes) r w new None c built is named ready lt made few step =
+line_goes answers l (Write name at bytes) r w new None c is named ready lt made few step =
     unmade_line answers l (Write name at bytes) name r w new (around answers w new c) named refl refl tt step
-line_goes answers l (Write name at bytes) r w new (Some h) c built is named ready lt made few step =
+line_goes answers l (Write name at bytes) r w new (Some h) c is named ready lt made few step =
     write_goes answers l name at bytes h r w new c (ready h refl) named step
-line_goes answers l (Free name) r w new None c built is named ready lt made few step =
+line_goes answers l (Free name) r w new None c is named ready lt made few step =
     unmade_line answers l (Free name) name r w new (around answers w new c) named refl refl tt step
-line_goes answers l (Free name) r w new (Some h) c built is named ready lt made few step =
+line_goes answers l (Free name) r w new (Some h) c is named ready lt made few step =
     free_goes answers l name h r w new c (ready h refl) named step
-line_goes answers l (Filter name) r w new None c built is named ready lt made few step =
+line_goes answers l (Filter name) r w new None c is named ready lt made few step =
     unmade_line answers l (Filter name) name r w new (around answers w new c) named refl refl tt step
-line_goes answers l (Filter name) r w new (Some h) c built is named ready lt made few step =
+line_goes answers l (Filter name) r w new (Some h) c is named ready lt made few step =
     filter_goes answers l name h r w new c (ready h refl) named step
-line_goes answers l Leave r w new handle c built is named ready lt made few step =
+line_goes answers l Leave r w new handle c is named ready lt made few step =
     leave_goes answers l (length (pins_of_seat w.seats l.lane.n)) r w new (around answers w new c) lt step.0 step.1
-line_goes answers l (Pin name) r w new None c built is named ready lt made few step =
+line_goes answers l (Pin name) r w new None c is named ready lt made few step =
     unmade_line answers l (Pin name) name r w new (around answers w new c) named refl refl tt step
-line_goes answers l (Pin name) r w new (Some h) c built is named ready lt made few step =
+line_goes answers l (Pin name) r w new (Some h) c is named ready lt made few step =
     pin_goes answers l name h r w new c lt (ready h refl) (made h refl) few named step
-line_goes answers l (Peek name) r w new None c built is named ready lt made few step =
+line_goes answers l (Peek name) r w new None c is named ready lt made few step =
     unmade_line answers l (Peek name) name r w new (around answers w new c) named refl refl tt step
-line_goes answers l (Peek name) r w new (Some h) c built is named ready lt made few step =
+line_goes answers l (Peek name) r w new (Some h) c is named ready lt made few step =
     peek_goes answers l name h r w new (around answers w new c) lt (made h refl) named step
-line_goes answers l (Unpin name) r w new None c built is named ready lt made few step =
+line_goes answers l (Unpin name) r w new None c is named ready lt made few step =
     unmade_line answers l (Unpin name) name r w new (around answers w new c) named refl refl tt step
-line_goes answers l (Unpin name) r w new (Some h) c built is named ready lt made few step =
+line_goes answers l (Unpin name) r w new (Some h) c is named ready lt made few step =
     unpin_goes answers l name h r w new (around answers w new c) lt (ready h refl) (made h refl) named step
-line_goes answers l request r w new handle c built is named ready lt made few step = absurd built
 
 -- ---- the handle that an answer is about
 
@@ -140,37 +149,28 @@ same_name answers names None kept = refl
 same_name answers names (Some q) kept = kept q
 
 -- an answer that found its name unmade is about no object that was made
-pub about_made : (answers : List Answer) (request : Request) (r : Reply) (h made : ℕ) → IsBuilt request
+pub about_made : (answers : List Answer) (request : Request) (r : Reply) (h made : ℕ)
     → ((name : List ℕ) (k : ℕ) → handle_of answers name ≡ Some k → k < made)
     → handle_for answers request r ≡ Some h → (h < made) ⊎ ((event_of request r ≡ FindsUnmade) → ⊥)
-about_made answers (Make name bytes) (answer.Made handle version) h made built within e = inr (λ z. cc)
-about_made answers (Make name bytes) r h made built within e = absurd cc
-about_made answers (Read name) r h made built within e = inl (within name h e)
-about_made answers (Write name at bytes) r h made built within e = inl (within name h e)
-about_made answers (Free name) r h made built within e = inl (within name h e)
-about_made answers (Pin name) r h made built within e = inl (within name h e)
-about_made answers (Peek name) r h made built within e = inl (within name h e)
-about_made answers (Unpin name) r h made built within e = inl (within name h e)
-about_made answers (Filter name) r h made built within e = inl (within name h e)
-about_made answers Leave r h made built within e = absurd cc
-about_made answers Evict r h made built within e = absurd cc
-about_made answers Begin r h made built within e = absurd cc
-about_made answers Ship r h made built within e = absurd cc
-about_made answers Commit r h made built within e = absurd cc
-about_made answers Abort r h made built within e = absurd cc
-about_made answers Rebuild r h made built within e = absurd cc
-about_made answers (Crash node) r h made built within e = absurd cc
-about_made answers (Join node) r h made built within e = absurd cc
-about_made answers request r h made built within e = absurd built
+about_made answers (Make name bytes) (answer.Made handle version) h made within e = inr (λ z. cc)
+about_made answers (Make name bytes) r h made within e = absurd cc
+about_made answers (Read name) r h made within e = inl (within name h e)
+about_made answers (Write name at bytes) r h made within e = inl (within name h e)
+about_made answers (Free name) r h made within e = inl (within name h e)
+about_made answers (Pin name) r h made within e = inl (within name h e)
+about_made answers (Peek name) r h made within e = inl (within name h e)
+about_made answers (Unpin name) r h made within e = inl (within name h e)
+about_made answers (Filter name) r h made within e = inl (within name h e)
+about_made answers request r h made within e = absurd cc
 
 -- the answer is the map's reply after the answers before it
 pub reply_of : (answers : List Answer) (l : Line) (request : Request) (r : Reply) (w new : WorldState)
-    → (c : Turning answers w new) → IsBuilt request
+    → (c : Turning answers w new)
     → ((name : List ℕ) (k : ℕ) → handle_of answers name ≡ Some k → k < w.far.made)
     → Goes answers (answer_to l request r) w new c.then.shown
     → IsMapReply w.far.first w.desk.settings.handles (calls_of answers)
     (called answers (answer_to l request r))
-reply_of answers l request r w new c built within goes = by (handle_for answers request r) refl
+reply_of answers l request r w new c within goes = by (handle_for answers request r) refl
   where
     P : Type 0
     P = IsMapReply w.far.first w.desk.settings.handles (calls_of answers)
@@ -186,7 +186,7 @@ reply_of answers l request r w new c built within goes = by (handle_for answers 
 
     by : (o : Option ℕ) → handle_for answers request r ≡ o → P
     by None e = record { reply = goes.follows.reply; unmade = rw e tt }
-    by (Some h) e = some h e (about_made answers request r h w.far.made built within e)
+    by (Some h) e = some h e (about_made answers request r h w.far.made within e)
 
 -- ---- the names after one more answer
 
@@ -257,55 +257,35 @@ object_settings seat (Some h) (Peek name) w new r sound lt ready step = peek_set
     peek_settings (shown at newest is same) = ap (λ (v : WorldState). v.desk.settings) same
 object_settings seat (Some h) request w new r sound lt ready step = absurd step
 
+other_settings : (seat : ℕ) (handle : Option ℕ) (request : Request) (o : Option Job) (w new : WorldState)
+    (r : Reply) → IsSoundWorld w → seat < 64
+    → ((h : ℕ) → handle ≡ Some h → h < w.desk.settings.handles)
+    → OtherStep seat handle request o w r new → new.desk.settings ≡ w.desk.settings
+other_settings seat handle request (Some j) w new r sound lt ready step =
+    step_settings w new (Turn seat j) r step
+other_settings seat handle request None w new r sound lt ready step =
+    object_settings seat handle request w new r sound lt ready step
+
 -- no line changes the configuration
 pub line_settings : (seat : ℕ) (handle : Option ℕ) (request : Request) (w new : WorldState) (r : Reply)
     → IsSoundWorld w → seat < 64 → ((h : ℕ) → handle ≡ Some h → h < w.desk.settings.handles)
     → LineStep seat handle request w r new → new.desk.settings ≡ w.desk.settings
 line_settings seat handle (Make name bytes) w new r sound lt ready step =
     step_settings w new (Turn seat (job.Make bytes)) r step
-line_settings seat handle Evict w new r sound lt ready step =
-    step_settings w new (Turn seat job.Evict) r step
-line_settings seat handle Begin w new r sound lt ready step =
-    step_settings w new (Turn seat job.Begin) r step
-line_settings seat handle Ship w new r sound lt ready step =
-    step_settings w new (Turn seat job.Ship) r step
-line_settings seat handle Commit w new r sound lt ready step =
-    step_settings w new (Turn seat job.Commit) r step
-line_settings seat handle Abort w new r sound lt ready step =
-    step_settings w new (Turn seat job.Abort) r step
-line_settings seat handle Rebuild w new r sound lt ready step =
-    step_settings w new (Turn seat job.Rebuild) r step
-line_settings seat handle (Crash node) w new r sound lt ready step =
-    step_settings w new (Turn seat (job.Crash node)) r step
-line_settings seat handle (Join node) w new r sound lt ready step =
-    step_settings w new (Turn seat (job.Join node)) r step
 line_settings seat handle Leave w new r sound lt ready step =
     (gives_all seat w new sound lt step.1).0.settings
-line_settings seat handle (Read name) w new r sound lt ready step =
-    object_settings seat handle (Read name) w new r sound lt ready step
-line_settings seat handle (Write name at bytes) w new r sound lt ready step =
-    object_settings seat handle (Write name at bytes) w new r sound lt ready step
-line_settings seat handle (Free name) w new r sound lt ready step =
-    object_settings seat handle (Free name) w new r sound lt ready step
-line_settings seat handle (Pin name) w new r sound lt ready step =
-    object_settings seat handle (Pin name) w new r sound lt ready step
-line_settings seat handle (Peek name) w new r sound lt ready step =
-    object_settings seat handle (Peek name) w new r sound lt ready step
-line_settings seat handle (Unpin name) w new r sound lt ready step =
-    object_settings seat handle (Unpin name) w new r sound lt ready step
-line_settings seat handle (Filter name) w new r sound lt ready step =
-    object_settings seat handle (Filter name) w new r sound lt ready step
-line_settings seat handle request w new r sound lt ready step = absurd step
+line_settings seat handle request w new r sound lt ready step =
+    other_settings seat handle request (job_of request) w new r sound lt ready step
 
 -- what the lines after this one need
 along_push : (c : Config) (later : List ℕ) (answers : List Answer) (l : Line) (request : Request) (r : Reply)
     (w new rested : WorldState) (names kept : Names) → Along c (l.lane.n ∷ later) answers w names
-    → length answers < 20000 → l.lane.n < 64 → IsSoundWorld new → IsBuilt request → IsRequest c.nodes request
+    → length answers < 20000 → l.lane.n < 64 → IsSoundWorld new → IsRequest c.nodes request
     → IsFresh (kept_number names) request
     → LineStep l.lane.n (handle_in names request) request w r new → AreKept names request r kept
     → Rests (lines_of l.lane.n later) l.lane.n new rested
     → Along c later (answers ++ answer_to l request r ∷ []) rested kept
-along_push c later answers l request r w new rested names kept along few lt then built is fresh step
+along_push c later answers l request r w new rested names kept along few lt then is fresh step
     names_after rest = record {
       sound = behind.stands.sound;
       beside = rw more
@@ -367,7 +347,7 @@ along_push c later answers l request r w new rested names kept along few lt then
     }
 
     goes : Goes answers a w new then.shown
-    goes = line_goes answers l request r w new (handle_in names request) turning built
+    goes = line_goes answers l request r w new (handle_in names request) turning
         (subst (λ (d : Config). IsRequest d.nodes request) (sym along.settings) is) named ready lt
         (λ h e. name_within names w.far.made (name_of request) h along.within e)
         (λ seat high. along.scopes.gone seat (along.scopes.low seat high)) step
@@ -378,14 +358,14 @@ along_push c later answers l request r w new rested names kept along few lt then
     scoped : Scoped (kept_number names) (handle_in names request) (scope_of l.lane.n answers) request r l.lane.n
         w new
     scoped = line_scoped answers request r w new (handle_in names request) (kept_number names)
-        (scope_of l.lane.n answers) l.lane.n turning built lt along.scopes.apart
+        (scope_of l.lane.n answers) l.lane.n turning lt along.scopes.apart
         (λ name e. ap (handle_at names) (sym e)) ready
         (along.scopes.are l.lane.n (let own = lines_own l.lane.n later in omega (arith, own))) step
 
     reply : IsMapReply 1 c.handles (calls_of answers) (called answers a)
     reply = rw along.first at (subst (λ (d : Config).
         IsMapReply w.far.first d.handles (calls_of answers) (called answers a)) along.settings
-        (reply_of answers l request r w new turning built
+        (reply_of answers l request r w new turning
         (λ name k e. along.within name k (sym (along.kept name) ∙ e)) goes))
 
     map_reply : MapReplies 1 c.handles w.far.made (handle_for answers request r)
@@ -403,13 +383,13 @@ along_push c later answers l request r w new rested names kept along few lt then
 
 pub along_answered : (c : Config) (later : List ℕ) (answers all : List Answer) (l : Line) (w rested : WorldState)
     (names kept : Names) → Along c (l.lane.n ∷ later) answers w names → length answers < 20000
-    → l.lane.n < 64 → IsBuilt l.request → IsRequest c.nodes l.request
+    → l.lane.n < 64 → IsRequest c.nodes l.request
     → IsFresh (kept_number names) l.request
     → LineAnswered l later w names answers rested kept all → Along c later all rested kept
-along_answered c later answers all l w rested names kept along few lt built is fresh done =
+along_answered c later answers all l w rested names kept along few lt is fresh done =
     subst (λ (xs : List Answer). Along c later xs rested kept) (sym done.answer)
     (along_push c later answers l l.request done.reply w done.between rested names kept along few lt done.sound
-    built is fresh done.step done.holds done.rests)
+    is fresh done.step done.holds done.rests)
 
 -- the names of the next request have handles
 pub along_ready : (c : Config) (later : List ℕ) (answers : List Answer) (w : WorldState) (names : Names)
@@ -485,12 +465,3 @@ line_form nodes before (x ∷ lines) zero l all below at =
 line_form nodes before (x ∷ lines) (suc i) l all below at =
     line_form nodes (before ++ x ∷ []) lines i l all.1 (omega (arith, below)) at
 line_form nodes before [] i l all below at = absurd (omega (arith, below))
-
--- every line's request is built
-pub line_built : (lines : List Line) (i : ℕ) (l : Line) → AllByRecursion (λ x. IsBuilt x.request) lines
-    → i < length lines → l ≡ get_or lines i l → IsBuilt l.request
-line_built (x ∷ lines) zero l all below at =
-    subst (λ (y : Line). IsBuilt y.request) (sym at) all.0
-line_built (x ∷ lines) (suc i) l all below at =
-    line_built lines i l all.1 (omega (arith, below)) at
-line_built [] i l all below at = absurd (omega (arith, below))

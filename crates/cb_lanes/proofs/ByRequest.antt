@@ -1,13 +1,16 @@
 -- What a line does, by its request.
-use Rattle.std.proofs.Common.{◌≡◌, ℕ, List, Option, Some, Result, Ok, Err, IfOk, refl, sym, subst}
-use Rattle.cb_member.specs.declared.names.NodeId.{NodeId}
+use Rattle.std.proofs.Common.{◌≡◌, ℕ, List, Option, None, Some, Result, IfOk, refl, sym, subst}
+use Rattle.std.specs.Prelude.{MatchOption}
 use Rattle.cb_member.specs.declared.no_memory.NoMemory.{NoMemory}
+use Rattle.cb_types.specs.declared.config.Config.{Config}
+use Rattle.cb_types.specs.declared.job.Job.{Job}
 use Rattle.cb_types.specs.declared.request.Request.{Request}
-use Rattle.cb_types.specs.declared.request.Request.TheVariants.{Make, Read, Write, Free, Pin, Peek, Unpin, Filter, Evict, Begin, Ship, Commit, Abort, Rebuild, Crash, Join, Leave}
+use Rattle.cb_types.specs.declared.request.Request.TheVariants.{Make, Read, Write, Free, Pin, Peek, Unpin, Filter, Crash, Join, Leave}
 use Rattle.cb_types.specs.declared.reply.Reply.{Reply}
-use Rattle.cb_script.specs.Unbuilt.{IsBuilt}
+use Rattle.cb_script.specs.Form.{IsRequest}
 use Rattle.cb_world.specs.World.{WorldState}
-use Rattle.cb_lanes.specs.LineStep.{LineStep, ObjectStep}
+use Rattle.cb_core.specs.Jobs.{IsJob}
+use Rattle.cb_lanes.specs.LineStep.{LineStep, ObjectStep, OtherStep, job_of}
 use Rattle.cb_lanes.specs.Names.{Names, AreKept, IsOnObject, handle_in}
 
 -- ---- by which request it is
@@ -30,64 +33,56 @@ pub names_are : (names kept : Names) (request q : Request) (result : Result Repl
 names_are names kept request q result is step =
     subst (λ (x : Request). IfOk result (λ r. AreKept names x r kept)) (sym is) step
 
-each_ok : (P : Reply → Type 0) (result : Result Reply NoMemory) → ((r : Reply) → P r) → IfOk result P
-each_ok P (Ok r) all = all r
-each_ok P (Err e) all = tt
+-- ---- a line that is neither a make nor a leave
 
--- the names stay as they are
-pub names_stay : (names : Names) (request q : Request) (result : Result Reply NoMemory) → request ≡ q
-    → ((r : Reply) → AreKept names q r names) → IfOk result (λ r. AreKept names request r names)
-names_stay names request q result is stay =
-    names_are names names request q result is (each_ok (λ r. AreKept names q r names) result stay)
+module _ (request : Request) (makes : (name bytes : List ℕ) → request ≡ Make name bytes → ⊥)
+    (leaves : request ≡ Leave → ⊥) where
+  -- only a make has a handle kept
+  pub names_stay : (names : Names) (r : Reply) → AreKept names request r names
+  names_stay names r = stay request makes where
+    stay : (q : Request) → ((name bytes : List ℕ) → q ≡ Make name bytes → ⊥) → AreKept names q r names
+    stay (Make name bytes) never = absurd (never name bytes refl)
+    stay q never = λ name. refl
+
+  -- it is a turn with its own job, or it is on an object
+  pub line_other : (seat : ℕ) (handle : Option ℕ) (o : Option Job) (w new : WorldState) (r : Reply)
+      → o ≡ job_of request → OtherStep seat handle request o w r new → LineStep seat handle request w r new
+  line_other seat handle o w new r is step = by request makes leaves
+      (subst (λ (x : Option Job). OtherStep seat handle request x w r new) is step)
+    where
+      by : (q : Request) → ((name bytes : List ℕ) → q ≡ Make name bytes → ⊥) → (q ≡ Leave → ⊥)
+          → OtherStep seat handle q (job_of q) w r new → LineStep seat handle q w r new
+      by (Make name bytes) never off other = absurd (never name bytes refl)
+      by Leave never off other = absurd (off refl)
+      by q never off other = other
+
+  pub on_object : None ≡ job_of request → IsOnObject request
+  on_object none = by request makes leaves none where
+    by : (q : Request) → ((name bytes : List ℕ) → q ≡ Make name bytes → ⊥) → (q ≡ Leave → ⊥)
+        → None ≡ job_of q → IsOnObject q
+    by (Make name bytes) never off no_job = absurd (never name bytes refl)
+    by Leave never off no_job = absurd (off refl)
+    by (Read name) never off no_job = tt
+    by (Write name at bytes) never off no_job = tt
+    by (Free name) never off no_job = tt
+    by (Pin name) never off no_job = tt
+    by (Peek name) never off no_job = tt
+    by (Unpin name) never off no_job = tt
+    by (Filter name) never off no_job = tt
+    by q never off no_job = absurd cc
+
+-- the job of a line of its form may be asked for
+pub job_asked : (c : Config) (request : Request) (j : Job) → Some j ≡ job_of request
+    → IsRequest c.nodes request → IsJob c j
+job_asked c request j is form = subst (λ (o : Option Job). MatchOption o (Unit {0}) (IsJob c)) (sym is)
+    (by request form)
+  where
+    by : (q : Request) → IsRequest c.nodes q → MatchOption (job_of q) (Unit {0}) (IsJob c)
+    by (Crash node) below = below
+    by (Join node) below = below
+    by q below = tt
 
 -- ---- a line on an object
-
--- a request that is built and is no other is about an object
-pub on_object : (request : Request) → IsBuilt request
-    → ((name bytes : List ℕ) → request ≡ Make name bytes → ⊥) → (request ≡ Evict → ⊥)
-    → (request ≡ Begin → ⊥) → (request ≡ Ship → ⊥) → (request ≡ Commit → ⊥) → (request ≡ Abort → ⊥)
-    → (request ≡ Rebuild → ⊥) → ((node : NodeId) → request ≡ Crash node → ⊥)
-    → ((node : NodeId) → request ≡ Join node → ⊥) → (request ≡ Leave → ⊥) → IsOnObject request
-on_object (Make name bytes) built m e b s c a r x j l = absurd (m name bytes refl)
-on_object Evict built m e b s c a r x j l = absurd (e refl)
-on_object Begin built m e b s c a r x j l = absurd (b refl)
-on_object Ship built m e b s c a r x j l = absurd (s refl)
-on_object Commit built m e b s c a r x j l = absurd (c refl)
-on_object Abort built m e b s c a r x j l = absurd (a refl)
-on_object Rebuild built m e b s c a r x j l = absurd (r refl)
-on_object (Crash node) built m e b s c a r x j l = absurd (x node refl)
-on_object (Join node) built m e b s c a r x j l = absurd (j node refl)
-on_object Leave built m e b s c a r x j l = absurd (l refl)
-on_object (Read name) built m e b s c a r x j l = tt
-on_object (Write name at bytes) built m e b s c a r x j l = tt
-on_object (Free name) built m e b s c a r x j l = tt
-on_object (Pin name) built m e b s c a r x j l = tt
-on_object (Peek name) built m e b s c a r x j l = tt
-on_object (Unpin name) built m e b s c a r x j l = tt
-on_object (Filter name) built m e b s c a r x j l = tt
-on_object request built m e b s c a r x j l = absurd built
-
-pub line_on : (seat : ℕ) (handle : Option ℕ) (request : Request) (w new : WorldState) (r : Reply)
-    → IsOnObject request → ObjectStep seat handle request w r new → LineStep seat handle request w r new
-line_on seat handle (Read name) w new r on step = step
-line_on seat handle (Write name at bytes) w new r on step = step
-line_on seat handle (Free name) w new r on step = step
-line_on seat handle (Pin name) w new r on step = step
-line_on seat handle (Peek name) w new r on step = step
-line_on seat handle (Unpin name) w new r on step = step
-line_on seat handle (Filter name) w new r on step = step
-line_on seat handle request w new r on step = absurd on
-
-pub names_on : (names : Names) (request : Request) (r : Reply) → IsOnObject request
-    → AreKept names request r names
-names_on names (Read name) r on = λ q. refl
-names_on names (Write name at bytes) r on = λ q. refl
-names_on names (Free name) r on = λ q. refl
-names_on names (Pin name) r on = λ q. refl
-names_on names (Peek name) r on = λ q. refl
-names_on names (Unpin name) r on = λ q. refl
-names_on names (Filter name) r on = λ q. refl
-names_on names request r on = absurd on
 
 -- one that is none of the others is a read
 pub a_read : (request : Request) → IsOnObject request → ((name : List ℕ) → request ≡ Pin name → ⊥)

@@ -8,7 +8,7 @@ use Rattle.cb_types.specs.declared.job.Job.TheVariants as job
 use Rattle.cb_types.specs.declared.reply.Reply.{Reply}
 use Rattle.cb_types.specs.declared.reply.Reply.TheVariants as answer
 use Rattle.cb_types.specs.declared.request.Request.{Request}
-use Rattle.cb_types.specs.declared.request.Request.TheVariants.{Make, Read, Write, Free, Pin, Peek, Unpin, Filter, Evict, Begin, Ship, Commit, Abort, Rebuild, Crash, Join, Leave}
+use Rattle.cb_types.specs.declared.request.Request.TheVariants.{Make, Read, Write, Free, Pin, Peek, Unpin, Filter, Leave}
 use Rattle.cb_types.specs.Requests.{name_of}
 use Rattle.cb_script.specs.declared.script.Line.{Line}
 use Rattle.cb_model.specs.Called.{handle_named}
@@ -24,7 +24,7 @@ use Rattle.cb_core.specs.Step.{Leads}
 use Rattle.cb_core.proofs.Laws.{atomic_fixed, newest_fixed, step_fixes}
 use Rattle.cb_lanes.specs.Asked.{asked}
 use Rattle.cb_lanes.specs.GivingBack.{GivesAll, Rests, end_of, lines_of}
-use Rattle.cb_lanes.specs.LineStep.{IsInReply, LinesLead, LineStep, ObjectStep, PeekStep, not_pinned, shown, PinEvent, PinLine, at_once, stays_far, swapped_in, SwapEvent, TurnStep}
+use Rattle.cb_lanes.specs.LineStep.{IsInReply, LinesLead, LineStep, ObjectStep, OtherStep, job_of, PeekStep, not_pinned, shown, PinEvent, PinLine, at_once, stays_far, swapped_in, SwapEvent, TurnStep}
 use Rattle.cb_lanes.specs.LinesSoundly.{LinesLeadSoundly}
 use Rattle.cb_lanes.proofs.FarPins.{far_not_here}
 
@@ -118,6 +118,14 @@ object_fixed seat (Some h) (Filter name) w a b r q sound x y =
     turn_fixed seat h w a b r q sound (job.Filter (record { n = h })) x y
 object_fixed seat (Some h) request w a b r q sound x y = absurd x
 
+other_fixed : (seat : ℕ) (handle : Option ℕ) (request : Request) (o : Option Job) (w a b : WorldState)
+    (r q : Reply) → IsSoundWorld w → OtherStep seat handle request o w r a
+    → OtherStep seat handle request o w q b → AreOne r q a b
+other_fixed seat handle request (Some j) w a b r q sound x y =
+    step_fixes w a b (Turn seat j) r q sound x y
+other_fixed seat handle request None w a b r q sound x y =
+    object_fixed seat handle request w a b r q sound x y
+
 -- ---- a line
 -- A line has one reply, and leads from a sound world to one world.
 pub line_fixes : (seat : ℕ) (handle : Option ℕ) (request : Request) (w a b : WorldState) (r q : Reply)
@@ -125,39 +133,10 @@ pub line_fixes : (seat : ℕ) (handle : Option ℕ) (request : Request) (w a b :
     → AreOne r q a b
 line_fixes seat handle (Make name bytes) w a b r q sound x y =
     step_fixes w a b (Turn seat (job.Make bytes)) r q sound x y
-line_fixes seat handle Evict w a b r q sound x y =
-    step_fixes w a b (Turn seat job.Evict) r q sound x y
-line_fixes seat handle Begin w a b r q sound x y =
-    step_fixes w a b (Turn seat job.Begin) r q sound x y
-line_fixes seat handle Ship w a b r q sound x y =
-    step_fixes w a b (Turn seat job.Ship) r q sound x y
-line_fixes seat handle Commit w a b r q sound x y =
-    step_fixes w a b (Turn seat job.Commit) r q sound x y
-line_fixes seat handle Abort w a b r q sound x y =
-    step_fixes w a b (Turn seat job.Abort) r q sound x y
-line_fixes seat handle Rebuild w a b r q sound x y =
-    step_fixes w a b (Turn seat job.Rebuild) r q sound x y
-line_fixes seat handle (Crash node) w a b r q sound x y =
-    step_fixes w a b (Turn seat (job.Crash node)) r q sound x y
-line_fixes seat handle (Join node) w a b r q sound x y =
-    step_fixes w a b (Turn seat (job.Join node)) r q sound x y
 line_fixes seat handle Leave w a b r q sound x y =
     (x.0 ∙ sym y.0, all_fixed seat w a b x.1 y.1)
-line_fixes seat handle (Read name) w a b r q sound x y =
-    object_fixed seat handle (Read name) w a b r q sound x y
-line_fixes seat handle (Write name at bytes) w a b r q sound x y =
-    object_fixed seat handle (Write name at bytes) w a b r q sound x y
-line_fixes seat handle (Free name) w a b r q sound x y =
-    object_fixed seat handle (Free name) w a b r q sound x y
-line_fixes seat handle (Pin name) w a b r q sound x y =
-    object_fixed seat handle (Pin name) w a b r q sound x y
-line_fixes seat handle (Peek name) w a b r q sound x y =
-    object_fixed seat handle (Peek name) w a b r q sound x y
-line_fixes seat handle (Unpin name) w a b r q sound x y =
-    object_fixed seat handle (Unpin name) w a b r q sound x y
-line_fixes seat handle (Filter name) w a b r q sound x y =
-    object_fixed seat handle (Filter name) w a b r q sound x y
-line_fixes seat handle request w a b r q sound x y = absurd x
+line_fixes seat handle request w a b r q sound x y =
+    other_fixed seat handle request (job_of request) w a b r q sound x y
 
 -- ---- lines one after another
 -- a line as it was asked

@@ -5,10 +5,11 @@ use Rattle.std.specs.List.{AllByRecursion, cons_option}
 use Rattle.cb_member.specs.declared.names.Loss.{Loss}
 use Rattle.cb_member.specs.declared.names.NodeId.{NodeId}
 use Rattle.cb_types.specs.declared.answer.Answer.{Answer}
+use Rattle.cb_types.specs.declared.job.Job.{Job}
 use Rattle.cb_types.specs.declared.job.Job.TheVariants as job
 use Rattle.cb_types.specs.declared.reply.Reply.{Reply}
 use Rattle.cb_types.specs.declared.request.Request.{Request}
-use Rattle.cb_types.specs.declared.request.Request.TheVariants.{Make, Read, Write, Free, Pin, Peek, Unpin, Filter, Evict, Begin, Ship, Commit, Abort, Rebuild, Crash, Join, Leave}
+use Rattle.cb_types.specs.declared.request.Request.TheVariants.{Make, Read, Write, Free, Pin, Peek, Unpin, Filter, Crash, Leave}
 use Rattle.cb_types.specs.Requests.{name_of}
 use Rattle.cb_model.specs.Called.{handle_named}
 use Rattle.cb_world.specs.FarState.{FarState}
@@ -20,7 +21,7 @@ use Rattle.cb_core.specs.Membership.{crashed, is_down}
 use Rattle.cb_core.specs.Step.{TurnStep, worn, done}
 use Rattle.cb_core.proofs.Laws.{lead_rises, step_rises}
 use Rattle.cb_lanes.specs.GivingBack.{GivesAll, Rests, lines_of}
-use Rattle.cb_lanes.specs.LineStep.{LinesLead, LineStep, ObjectStep, PeekStep, not_pinned, shown, PinLine, at_once, stays_far, swapped_in}
+use Rattle.cb_lanes.specs.LineStep.{LinesLead, LineStep, ObjectStep, OtherStep, job_of, PeekStep, not_pinned, shown, PinLine, at_once, stays_far, swapped_in}
 use Rattle.cb_lanes.specs.Lost.{AreInOrder, loss_of, losses_of}
 
 abbrev Rises : WorldState → WorldState → Type 0
@@ -68,28 +69,17 @@ rests_rise : (left seat : ℕ) (w new : WorldState) → Rests left seat w new �
 rests_rise zero seat w new x = gives_rise seat w new x
 rests_rise (suc left) seat w new x = stays w new x
 
+other_rises : (seat : ℕ) (handle : Option ℕ) (request : Request) (o : Option Job) (w new : WorldState)
+    (r : Reply) → OtherStep seat handle request o w r new → Rises w new
+other_rises seat handle request (Some j) w new r x = step_rises w new (Turn seat j) r x
+other_rises seat handle request None w new r x = object_rises seat handle request w new r x
+
 line_rises : (seat : ℕ) (handle : Option ℕ) (request : Request) (w new : WorldState) (r : Reply)
     → LineStep seat handle request w r new → Rises w new
 line_rises seat handle (Make name bytes) w new r x =
     step_rises w new (Turn seat (job.Make bytes)) r x
-line_rises seat handle Evict w new r x = step_rises w new (Turn seat job.Evict) r x
-line_rises seat handle Begin w new r x = step_rises w new (Turn seat job.Begin) r x
-line_rises seat handle Ship w new r x = step_rises w new (Turn seat job.Ship) r x
-line_rises seat handle Commit w new r x = step_rises w new (Turn seat job.Commit) r x
-line_rises seat handle Abort w new r x = step_rises w new (Turn seat job.Abort) r x
-line_rises seat handle Rebuild w new r x = step_rises w new (Turn seat job.Rebuild) r x
-line_rises seat handle (Crash node) w new r x = step_rises w new (Turn seat (job.Crash node)) r x
-line_rises seat handle (Join node) w new r x = step_rises w new (Turn seat (job.Join node)) r x
 line_rises seat handle Leave w new r x = gives_rise seat w new x.1
-line_rises seat handle (Read name) w new r x = object_rises seat handle (Read name) w new r x
-line_rises seat handle (Write name at bytes) w new r x =
-    object_rises seat handle (Write name at bytes) w new r x
-line_rises seat handle (Free name) w new r x = object_rises seat handle (Free name) w new r x
-line_rises seat handle (Pin name) w new r x = object_rises seat handle (Pin name) w new r x
-line_rises seat handle (Peek name) w new r x = object_rises seat handle (Peek name) w new r x
-line_rises seat handle (Unpin name) w new r x = object_rises seat handle (Unpin name) w new r x
-line_rises seat handle (Filter name) w new r x = object_rises seat handle (Filter name) w new r x
-line_rises seat handle request w new r x = absurd x
+line_rises seat handle request w new r x = other_rises seat handle request (job_of request) w new r x
 
 -- ---- a crash that took place
 none_some : {A : Type 0} (x : A) → None ≡ Some x → ⊥

@@ -8,11 +8,10 @@ use Rattle.cb_types.specs.declared.answer.Answer.{Answer}
 use Rattle.cb_types.specs.declared.job.Job.{Job}
 use Rattle.cb_types.specs.declared.job.Job.TheVariants as job
 use Rattle.cb_types.specs.declared.request.Request.{Request}
-use Rattle.cb_types.specs.declared.request.Request.TheVariants.{Make, Read, Write, Free, Pin, Peek, Unpin, Filter, Evict, Begin, Ship, Commit, Abort, Rebuild, Crash, Join, Leave}
+use Rattle.cb_types.specs.declared.request.Request.TheVariants.{Make, Read, Write, Free, Pin, Peek, Unpin, Filter, Leave}
 use Rattle.cb_types.specs.declared.reply.Reply.{Reply}
 use Rattle.cb_types.specs.declared.reply.Reply.TheVariants as answer
 use Rattle.cb_types.specs.Requests.{name_of}
-use Rattle.cb_script.specs.Unbuilt.{IsBuilt}
 use Rattle.cb_world.specs.Seats.{SeatState, idle_seat, pins_of_seat, pins_on}
 use Rattle.cb_world.specs.StillWords.{stamp_at}
 use Rattle.cb_world.specs.World.{WorldState, IsSoundWorld, word_at}
@@ -235,72 +234,56 @@ pin_line_scoped answers number apart scope name h seat r w new c lt below at_nam
 
 pub line_scoped : (answers : List Answer) (request : Request) (r : Reply) (w new : WorldState)
     (handle : Option ℕ) (number : List ℕ → Option ℕ) (scope : Scope) (seat : ℕ) → (c : Turning answers w new)
-    → IsBuilt request → seat < 64 → AreApart number
+    → seat < 64 → AreApart number
     → ((name : List ℕ) → name_of request ≡ Some name → number name ≡ handle)
     → ((h : ℕ) → handle ≡ Some h → h < w.desk.settings.handles)
     → ArePinsOf number scope (pins_of_seat w.seats seat) → LineStep seat handle request w r new
     → Scoped number handle scope request r seat w new
-line_scoped answers (Make name bytes) r w new handle number scope seat c built lt apart named ready are step =
+line_scoped answers (Make name bytes) r w new handle number scope seat c lt apart named ready are step =
     quiet_scoped number handle scope (Make name bytes) r seat w new (job.Make bytes) step are refl tt (λ h. tt)
-line_scoped answers Evict r w new handle number scope seat c built lt apart named ready are step =
-    quiet_scoped number handle scope Evict r seat w new job.Evict step are refl tt (λ h. tt)
-line_scoped answers Begin r w new handle number scope seat c built lt apart named ready are step =
-    quiet_scoped number handle scope Begin r seat w new job.Begin step are refl tt (λ h. tt)
-line_scoped answers Ship r w new handle number scope seat c built lt apart named ready are step =
-    quiet_scoped number handle scope Ship r seat w new job.Ship step are refl tt (λ h. tt)
-line_scoped answers Commit r w new handle number scope seat c built lt apart named ready are step =
-    quiet_scoped number handle scope Commit r seat w new job.Commit step are refl tt (λ h. tt)
-line_scoped answers Abort r w new handle number scope seat c built lt apart named ready are step =
-    quiet_scoped number handle scope Abort r seat w new job.Abort step are refl tt (λ h. tt)
-line_scoped answers Rebuild r w new handle number scope seat c built lt apart named ready are step =
-    quiet_scoped number handle scope Rebuild r seat w new job.Rebuild step are refl tt (λ h. tt)
-line_scoped answers (Crash node) r w new handle number scope seat c built lt apart named ready are step =
-    quiet_scoped number handle scope (Crash node) r seat w new (job.Crash node) step are refl tt (λ h. tt)
-line_scoped answers (Join node) r w new handle number scope seat c built lt apart named ready are step =
-    quiet_scoped number handle scope (Join node) r seat w new (job.Join node) step are refl tt (λ h. tt)
-line_scoped answers Leave r w new handle number scope seat c built lt apart named ready are step =
+line_scoped answers Leave r w new handle number scope seat c lt apart named ready are step =
     leave_scoped number handle scope seat r w new c.before lt are step.0 step.1
-line_scoped answers (Read name) r w new None number scope seat c built lt apart named ready are step =
+line_scoped answers (Read name) r w new None number scope seat c lt apart named ready are step =
     unmade_scoped number scope (Read name) seat r w new are step.1 refl tt
-line_scoped answers (Read name) r w new (Some h) number scope seat c built lt apart named ready are step =
+line_scoped answers (Read name) r w new (Some h) number scope seat c lt apart named ready are step =
     turn_scoped number (Some h) scope (Read name) r seat w new (job.Read (record { n = h })) step are refl tt
-line_scoped answers (Write name at bytes) r w new None number scope seat c built lt apart named ready are step =
+line_scoped answers (Write name at bytes) r w new None number scope seat c lt apart named ready are step =
     unmade_scoped number scope (Write name at bytes) seat r w new are step.1 refl tt
-line_scoped answers (Write name at bytes) r w new (Some h) number scope seat c built lt apart named ready are step =
+line_scoped answers (Write name at bytes) r w new (Some h) number scope seat c lt apart named ready are step =
     let j = job.Write (record { n = h }) at bytes in
     turn_scoped number (Some h) scope (Write name at bytes) r seat w new j step are refl
     (pinned_says number apart scope name h seat r w (named name refl) are c.before lt (ready h refl)
     (λ count is. write_counts w new h at bytes count c.before c.few
     (subst (λ (q : Reply). TurnStep j w q new) is step)))
-line_scoped answers (Free name) r w new None number scope seat c built lt apart named ready are step =
+line_scoped answers (Free name) r w new None number scope seat c lt apart named ready are step =
     unmade_scoped number scope (Free name) seat r w new are step.1 refl tt
-line_scoped answers (Free name) r w new (Some h) number scope seat c built lt apart named ready are step =
+line_scoped answers (Free name) r w new (Some h) number scope seat c lt apart named ready are step =
     let j = job.Free (record { n = h }) in
     turn_scoped number (Some h) scope (Free name) r seat w new j step are refl
     (pinned_says number apart scope name h seat r w (named name refl) are c.before lt (ready h refl)
     (λ count is. free_counts w new h count c.before c.few
     (subst (λ (q : Reply). TurnStep j w q new) is step)))
-line_scoped answers (Filter name) r w new None number scope seat c built lt apart named ready are step =
+line_scoped answers (Filter name) r w new None number scope seat c lt apart named ready are step =
     unmade_scoped number scope (Filter name) seat r w new are step.1 refl tt
-line_scoped answers (Filter name) r w new (Some h) number scope seat c built lt apart named ready are step =
+line_scoped answers (Filter name) r w new (Some h) number scope seat c lt apart named ready are step =
     let j = job.Filter (record { n = h }) in
     turn_scoped number (Some h) scope (Filter name) r seat w new j step are refl
     (pinned_says number apart scope name h seat r w (named name refl) are c.before lt (ready h refl)
     (λ count is. filter_counts w new h count c.few
     (subst (λ (q : Reply). TurnStep j w q new) is step)))
-line_scoped answers (Pin name) r w new None number scope seat c built lt apart named ready are step =
+line_scoped answers (Pin name) r w new None number scope seat c lt apart named ready are step =
     unmade_scoped number scope (Pin name) seat r w new are step.1 (ap (scope_after scope (Pin name)) step.0)
     step.0
-line_scoped answers (Pin name) r w new (Some h) number scope seat c built lt apart named ready are step =
+line_scoped answers (Pin name) r w new (Some h) number scope seat c lt apart named ready are step =
     pin_line_scoped answers number apart scope name h seat r w new c lt (ready h refl) (named name refl) are step
-line_scoped answers (Peek name) r w new None number scope seat c built lt apart named ready are step =
+line_scoped answers (Peek name) r w new None number scope seat c lt apart named ready are step =
     unmade_scoped number scope (Peek name) seat r w new are step.1 refl step.0
-line_scoped answers (Peek name) r w new (Some h) number scope seat c built lt apart named ready are step =
+line_scoped answers (Peek name) r w new (Some h) number scope seat c lt apart named ready are step =
     peek_scoped number apart scope name h seat r w new c.before lt (named name refl) are step
-line_scoped answers (Unpin name) r w new None number scope seat c built lt apart named ready are step =
+line_scoped answers (Unpin name) r w new None number scope seat c lt apart named ready are step =
     unmade_scoped number scope (Unpin name) seat r w new are step.1
     (ap (scope_after scope (Unpin name)) step.0) step.0
-line_scoped answers (Unpin name) r w new (Some h) number scope seat c built lt apart named ready are step =
+line_scoped answers (Unpin name) r w new (Some h) number scope seat c lt apart named ready are step =
     unpin_scoped number apart scope name h seat r w new c.before lt (named name refl) are step
-line_scoped answers request r w new handle number scope seat c built lt apart named ready are step =
-    absurd built
+line_scoped answers request r w new handle number scope seat c lt apart named ready are step =
+    quiet_scoped number handle scope request r seat w new _ step are refl tt (λ h. tt)

@@ -1,15 +1,16 @@
--- Lines about no object: names without a handle, evictions, whole and in steps, rebuilds, crashes and joins.
+-- Lines about no object: names without a handle, and turns that leave the map as it is, or lose of it.
 use Rattle.std.proofs.Common.{◌≡◌, ℕ, ◌<◌, List, [], ◌∷◌, ◌++◌, Option, None, refl, sym, ap, ◌∙◌, subst, arith, fold, if◌then◌else◌}
 use Rattle.cb_member.specs.declared.names.NodeId.{NodeId}
 use Rattle.cb_types.specs.declared.answer.Answer.{Answer}
+use Rattle.cb_types.specs.declared.handle.Handle.{Handle}
 use Rattle.cb_types.specs.declared.job.Job.{Job}
 use Rattle.cb_types.specs.declared.job.Job.TheVariants as job
 use Rattle.cb_types.specs.declared.request.Request.{Request}
-use Rattle.cb_types.specs.declared.request.Request.TheVariants.{Evict, Begin, Ship, Commit, Abort, Rebuild, Crash, Join}
+use Rattle.cb_types.specs.declared.request.Request.TheVariants.{Make, Read, Write, Free, Pin, Peek, Unpin, Filter, Crash, Join}
 use Rattle.cb_types.specs.declared.reply.Reply.{Reply}
 use Rattle.cb_types.specs.declared.reply.Reply.TheVariants as answer
 use Rattle.cb_types.specs.Table.{IsReplyOf}
-use Rattle.cb_model.specs.Event.{event_of, change_of}
+use Rattle.cb_model.specs.Event.{event_of, change_of, refusal, subject_of}
 use Rattle.cb_model.specs.Event.Subject.{Nothing}
 use Rattle.cb_model.specs.Event.Event.{FindsUnmade, Refused}
 use Rattle.cb_model.specs.Called.{Called, handle_of, handle_for, called, calls_of, makes, made_by, value, change_to, is_about}
@@ -25,7 +26,7 @@ use Rattle.cb_mutate.specs.MapCalls.{IsValue}
 use Rattle.cb_mutate.specs.MapBeside.{IsMapBeside}
 use Rattle.cb_mutate.proofs.Laws.{Follows, beside_kept}
 use Rattle.cb_core.specs.Step.{TurnStep}
-use Rattle.cb_core.proofs.Laws.{kept_beside, lost_beside, IsQuiet, evict_turn, begin_turn, ship_turn, commit_turn, abort_turn, rebuild_turn, crash_turn, join_turn, known_same, IsSameMap}
+use Rattle.cb_core.proofs.Laws.{kept_beside, lost_beside, IsQuiet, crash_turn, join_turn, known_same, IsSameMap}
 use Rattle.cb_lanes.specs.Asked.{answer_to, HasLineReply}
 use Rattle.cb_lanes.proofs.Turning.{Around, Turning, Goes, goes_by}
 
@@ -97,63 +98,34 @@ quiet_goes answers a w new j r c step map about event reply =
     (subst (MapReplies w.far.first w.desk.settings.handles (makes (calls_of answers)) None None) (sym event)
     tt)) reply
 
--- these lines tell nothing of an object
-evict_event : (r : Reply) → IsReplyOf Evict r → event_of Evict r ≡ Refused Nothing
-evict_event (answer.Set set) line = refl
-evict_event (answer.NoSpans loose) line = refl
-evict_event (answer.NoNodes nodes) line = refl
-evict_event answer.Worn line = refl
-evict_event r line = absurd line
+-- a reply that is none of the map's tells nothing of an object
+told_nothing : (P : Reply → Type 0) → ((handle : Handle) (version : ℕ) → P (answer.Made handle version) → ⊥)
+    → ((version : ℕ) → P (answer.Version version) → ⊥)
+    → ((version : ℕ) (bytes : List ℕ) → P (answer.Bytes version bytes) → ⊥)
+    → ((handles : ℕ) → P (answer.Full handles) → ⊥) → (P answer.Unmade → ⊥) → (P answer.Freed → ⊥)
+    → ((len : ℕ) → P (answer.Range len) → ⊥) → (r : Reply) → P r → refusal Nothing r ≡ Refused Nothing
+told_nothing P m v b f u g l (answer.Made handle version) x = absurd (m handle version x)
+told_nothing P m v b f u g l (answer.Version version) x = absurd (v version x)
+told_nothing P m v b f u g l (answer.Bytes version bytes) x = absurd (b version bytes x)
+told_nothing P m v b f u g l (answer.Full handles) x = absurd (f handles x)
+told_nothing P m v b f u g l answer.Unmade x = absurd (u x)
+told_nothing P m v b f u g l answer.Freed x = absurd (g x)
+told_nothing P m v b f u g l (answer.Range len) x = absurd (l len x)
+told_nothing P m v b f u g l r x = refl
 
-begin_event : (r : Reply) → IsReplyOf Begin r → event_of Begin r ≡ Refused Nothing
-begin_event (answer.Batch set) line = refl
-begin_event (answer.NoSpans loose) line = refl
-begin_event (answer.NoNodes nodes) line = refl
-begin_event (answer.Leaving set) line = refl
-begin_event answer.Worn line = refl
-begin_event r line = absurd line
-
-ship_event : (r : Reply) → IsReplyOf Ship r → event_of Ship r ≡ Refused Nothing
-ship_event (answer.Shipped position) line = refl
-ship_event answer.AllShipped line = refl
-ship_event answer.NoNode line = refl
-ship_event answer.NoBatch line = refl
-ship_event answer.Worn line = refl
-ship_event r line = absurd line
-
-commit_event : (r : Reply) → IsReplyOf Commit r → event_of Commit r ≡ Refused Nothing
-commit_event (answer.Set set) line = refl
-commit_event answer.NoBatch line = refl
-commit_event (answer.Short positions) line = refl
-commit_event answer.Worn line = refl
-commit_event r line = absurd line
-
-abort_event : (r : Reply) → IsReplyOf Abort r → event_of Abort r ≡ Refused Nothing
-abort_event answer.Done line = refl
-abort_event answer.NoBatch line = refl
-abort_event answer.Worn line = refl
-abort_event r line = absurd line
-
-rebuild_event : (r : Reply) → IsReplyOf Rebuild r → event_of Rebuild r ≡ Refused Nothing
-rebuild_event (answer.Rebuilt set position node) line = refl
-rebuild_event (answer.Whole broken) line = refl
-rebuild_event (answer.Stuck set) line = refl
-rebuild_event answer.Worn line = refl
-rebuild_event r line = absurd line
-
-crash_event : (node : NodeId) (r : Reply) → IsReplyOf (Crash node) r
-    → event_of (Crash node) r ≡ Refused Nothing
-crash_event node (answer.EpochAt epoch) line = refl
-crash_event node (answer.Down at) line = refl
-crash_event node answer.Worn line = refl
-crash_event node r line = absurd line
-
-join_event : (node : NodeId) (r : Reply) → IsReplyOf (Join node) r
-    → event_of (Join node) r ≡ Refused Nothing
-join_event node (answer.EpochAt epoch) line = refl
-join_event node (answer.Up at) line = refl
-join_event node answer.Worn line = refl
-join_event node r line = absurd line
+-- no line about no object is answered by a reply of the map
+nothing_told : (request : Request) (r : Reply) → subject_of request ≡ Nothing → IsReplyOf request r
+    → event_of request r ≡ Refused Nothing
+nothing_told (Make name bytes) r about line = absurd cc
+nothing_told (Read name) r about line = absurd cc
+nothing_told (Write name at bytes) r about line = absurd cc
+nothing_told (Free name) r about line = absurd cc
+nothing_told (Pin name) r about line = absurd cc
+nothing_told (Peek name) r about line = absurd cc
+nothing_told (Unpin name) r about line = absurd cc
+nothing_told (Filter name) r about line = absurd cc
+nothing_told request r about line = told_nothing (IsReplyOf request) (λ h v z. z) (λ v z. z) (λ v b z. z)
+    (λ n z. z) (λ z. z) (λ z. z) (λ n z. z) r line
 
 -- a turn at which the map stays, by a line that tells nothing of an object
 same_goes : (answers : List Answer) (a : Answer) (w new : WorldState) (j : Job) (r : Reply)
@@ -165,36 +137,15 @@ same_goes answers a w new j r c step same about event reply =
     (kept_beside (calls_of answers) c.before.shown c.then.shown w.far new.far c.beside same) about event
     reply
 
--- each turn of the job answers a line of that request as the map does
-abbrev pub JobGoes : Job → Request → Type 0
-JobGoes j request = (answers : List Answer) (l : Line) (r : Reply) (w new : WorldState)
-    → (c : Turning answers w new) → TurnStep j w r new
-    → Goes answers (answer_to l request r) w new c.then.shown
-
-job_goes : (j : Job) (request : Request) → IsQuiet j request
-    → ((r : Reply) → IsReplyOf request r → event_of request r ≡ Refused Nothing)
-    → ((answers : List Answer) (r : Reply) → handle_for answers request r ≡ None) → JobGoes j request
-job_goes j request turns event about answers l r w new c step =
+-- a turn of a job that leaves the map as it is answers a line about no object as the map does
+pub still_goes : (j : Job) (request : Request) → IsQuiet j request → subject_of request ≡ Nothing
+    → ((answers : List Answer) (r : Reply) → handle_for answers request r ≡ None)
+    → (answers : List Answer) (l : Line) (r : Reply) (w new : WorldState) → (c : Turning answers w new)
+    → TurnStep j w r new → Goes answers (answer_to l request r) w new c.then.shown
+still_goes j request turns nothing about answers l r w new c step =
     let z = turns w new r c.before c.then c.few step in
-    same_goes answers (answer_to l request r) w new j r c step z.0 (about answers r) (event r z.1) z.1
-
-pub evict_goes : JobGoes job.Evict Evict
-evict_goes = job_goes job.Evict Evict evict_turn evict_event (λ answers r. refl)
-
-pub begin_goes : JobGoes job.Begin Begin
-begin_goes = job_goes job.Begin Begin begin_turn begin_event (λ answers r. refl)
-
-pub ship_goes : JobGoes job.Ship Ship
-ship_goes = job_goes job.Ship Ship ship_turn ship_event (λ answers r. refl)
-
-pub commit_goes : JobGoes job.Commit Commit
-commit_goes = job_goes job.Commit Commit commit_turn commit_event (λ answers r. refl)
-
-pub abort_goes : JobGoes job.Abort Abort
-abort_goes = job_goes job.Abort Abort abort_turn abort_event (λ answers r. refl)
-
-pub rebuild_goes : JobGoes job.Rebuild Rebuild
-rebuild_goes = job_goes job.Rebuild Rebuild rebuild_turn rebuild_event (λ answers r. refl)
+    same_goes answers (answer_to l request r) w new j r c step z.0 (about answers r)
+    (nothing_told request r nothing z.1) z.1
 
 pub crash_goes : (answers : List Answer) (l : Line) (node : NodeId) (r : Reply) (w new : WorldState)
     → (c : Turning answers w new) → node.n < w.desk.settings.nodes
@@ -203,7 +154,7 @@ crash_goes answers l node r w new c below step =
     let z = crash_turn w new node r c.before c.then c.few below step in
     quiet_goes answers (answer_to l (Crash node) r) w new (job.Crash node) r c step
     (lost_beside (calls_of answers) c.before.shown c.then.shown w.far new.far c.beside z.0) refl
-    (crash_event node r z.1) z.1
+    (nothing_told (Crash node) r refl z.1) z.1
 
 pub join_goes : (answers : List Answer) (l : Line) (node : NodeId) (r : Reply) (w new : WorldState)
     → (c : Turning answers w new) → node.n < w.desk.settings.nodes
@@ -211,4 +162,4 @@ pub join_goes : (answers : List Answer) (l : Line) (node : NodeId) (r : Reply) (
 join_goes answers l node r w new c below step =
     let z = join_turn node w new r c.before c.then c.few step in
     same_goes answers (answer_to l (Join node) r) w new (job.Join node) r c step z.0 refl
-    (join_event node r z.1) z.1
+    (nothing_told (Join node) r refl z.1) z.1

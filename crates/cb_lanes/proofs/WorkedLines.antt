@@ -5,17 +5,18 @@ use Rattle.cb_types.specs.declared.answer.Answer.{Answer}
 use Rattle.cb_types.specs.declared.config.Config.{Config}
 use Rattle.cb_types.specs.declared.job.Job.TheVariants as job
 use Rattle.cb_types.specs.declared.request.Request.{Request}
-use Rattle.cb_types.specs.declared.request.Request.TheVariants.{Read, Write, Filter, Compact, Crash, Join, Evict, Begin, Ship, Commit, Abort}
+use Rattle.cb_types.specs.declared.request.Request.TheVariants.{Read, Write, Filter, Pair, Merge, Part, Compact, Crash, Join, Evict, Begin, Ship, Commit, Abort}
 use Rattle.cb_types.specs.declared.reply.Reply.{Reply}
-use Rattle.cb_types.specs.declared.reply.Reply.TheVariants.{Bytes, Done, Batch, Shipped, NoBatch, Short, EpochAt, Down, Up, Range, Unmade, Freed}
+use Rattle.cb_types.specs.declared.reply.Reply.TheVariants.{Bytes, Done, Batch, Shipped, NoBatch, Short, Joining, Stepped, Merged, EpochAt, Down, Up, Range, Unmade, Freed}
 use Rattle.cb_script.specs.declared.script.Line.{Line}
+use Rattle.cb_world.specs.FarState.{FarState}
 use Rattle.cb_world.specs.World.{WorldState, IsSoundWorld, empty_world}
-use Rattle.cb_core.specs.Membership.{is_up}
+use Rattle.cb_core.specs.Membership.{JoinTurn, joined as joined_again, is_up}
 use Rattle.cb_core.specs.declared.event.Event.TheVariants.{Turn}
-use Rattle.cb_core.specs.Step.{Step, done}
+use Rattle.cb_core.specs.Step.{Step, worn, done}
 use Rattle.cb_core.specs.Turned.{counted}
 use Rattle.cb_lanes.specs.Asked.{HasLineReply}
-use Rattle.cb_lanes.specs.LineStep.{job_on, LineStep, LinesLead, ObjectStep}
+use Rattle.cb_lanes.specs.LineStep.{job_of, job_on, LineStep, LinesLead, ObjectStep, OtherStep}
 use Rattle.cb_lanes.specs.LinesSoundly.{LinesLeadSoundly}
 use Rattle.cb_lanes.specs.LineAnswered.{LineAnswered}
 use Rattle.cb_lanes.specs.Lost.{AreInOrder, loss_of, losses_of}
@@ -94,6 +95,19 @@ aborts = tt
 no_abort_is_short : HasLineReply (answer Abort (Short (0 ∷ []))) → ⊥
 no_abort_is_short is = is
 
+-- two span-sets are joined, in steps and whole
+pairs : HasLineReply (answer Pair (Joining (record { n = 1 }) (record { n = 2 })))
+pairs = tt
+
+no_pair_is_stepped : HasLineReply (answer Pair (Stepped 0)) → ⊥
+no_pair_is_stepped is = is
+
+merges : HasLineReply (answer Merge (Merged (record { n = 3 }) 1))
+merges = tt
+
+no_part_is_merged : HasLineReply (answer Part (Merged (record { n = 3 }) 1)) → ⊥
+no_part_is_merged is = is
+
 -- ---- steps of lines
 
 -- each step is a turn with its own job
@@ -107,12 +121,26 @@ a_write_is_a_write = refl
 a_filter_is_a_filter : job_on 4 (Filter (97 ∷ [])) ≡ Some (job.Filter (record { n = 4 }))
 a_filter_is_a_filter = refl
 
-not_built : job_on 4 Evict ≡ None
-not_built = refl
+an_eviction_is_on_no_object : job_on 4 Evict ≡ None
+an_eviction_is_on_no_object = refl
 
--- a verb that is not built is no line, and none that is answered unmade
-not_a_line : (w : WorldState) → LineStep 1 None Compact w Unmade w → ⊥
-not_a_line w step = step
+-- the five verbs by which two span-sets are joined, each a turn with its own job
+a_merge_is_a_merge : job_of Merge ≡ Some job.Merge
+a_merge_is_a_merge = refl
+
+a_merge_is_no_part : job_of Merge ≡ Some job.Part → ⊥
+a_merge_is_no_part e = cc
+
+a_read_has_no_job_of_its_own : job_of (Read (97 ∷ [])) ≡ None
+a_read_has_no_job_of_its_own = refl
+
+joins_are_turns : (w new : WorldState) (r : Reply) → Step w (Turn 1 job.Compact) r new
+    → LineStep 1 None Compact w r new
+joins_are_turns w new r step = step
+
+-- a line on an object without a job is none
+no_line_on_an_object : (w : WorldState) → OtherStep 1 (Some 4) Pair None w Unmade w → ⊥
+no_line_on_an_object w step = step
 
 -- a name that has no handle is unmade, and nothing happens
 unmade : (w : WorldState) → LineStep 1 None (Read (97 ∷ [])) w Unmade w
@@ -138,7 +166,17 @@ joined = record (empty_world small) {
 }
 
 a_join : LineStep 1 None (Join (record { n = node })) (empty_world small) (Up (record { n = node })) joined
-a_join = done (omega arith) (refl, is_up refl refl refl, λ s k. (s, k, λ h. refl)) refl
+a_join = done (omega arith) (refl, is_up refl refl refl, λ s k. (s, k, λ h. refl, λ seats open_writes. open_writes)) refl
+
+-- one that is not counted
+uncounted : LineStep 1 None (Join (record { n = node })) (empty_world small) (Up (record { n = node }))
+    (empty_world small) → ⊥
+uncounted (worn end reply same) = absurd (let e = reply in cc)
+uncounted (done few works seats) = by works.1 where
+  by : JoinTurn (record { n = node }) (counted (empty_world small).far (job.Join (record { n = node })))
+      (Up (record { n = node })) (empty_world small).far → ⊥
+  by (is_up up reply same) = omega (arith, ap (λ (f : FarState). f.counts.turns) same)
+  by (joined_again down reply same) = absurd (let e = reply in cc)
 
 leads : LinesLead [] (empty_world small) (answer (Join (record { n = node })) (Up (record { n = node })) ∷ [])
     joined

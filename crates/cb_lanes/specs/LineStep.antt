@@ -6,7 +6,7 @@ use Rattle.cb_types.specs.declared.answer.Answer.{Answer}
 use Rattle.cb_types.specs.declared.job.Job.{Job}
 use Rattle.cb_types.specs.declared.job.Job.TheVariants as job
 use Rattle.cb_types.specs.declared.request.Request.{Request}
-use Rattle.cb_types.specs.declared.request.Request.TheVariants.{Make, Read, Write, Free, Pin, Peek, Unpin, Filter, Evict, Begin, Ship, Commit, Abort, Rebuild, Crash, Join, Leave}
+use Rattle.cb_types.specs.declared.request.Request.TheVariants.{Make, Read, Write, Free, Pin, Peek, Unpin, Filter, Evict, Begin, Ship, Commit, Abort, Pair, Patch, Merge, Part, Compact, Rebuild, Crash, Join, Leave}
 use Rattle.cb_types.specs.declared.reply.Reply.{Reply}
 use Rattle.cb_types.specs.declared.reply.Reply.TheVariants as answer
 use Rattle.cb_types.specs.Requests.{name_of}
@@ -21,7 +21,24 @@ use Rattle.cb_core.specs.declared.event.Event.TheVariants.{Turn}
 use Rattle.cb_core.specs.Step.{Step}
 use Rattle.cb_lanes.specs.GivingBack.{GivesAll, Rests, lines_of}
 
--- the job of a line on an object, where its verb is built
+-- the job of a line about no object, where it is a turn
+abbrev pub job_of : Request → Option Job
+job_of Evict = Some job.Evict
+job_of Begin = Some job.Begin
+job_of Ship = Some job.Ship
+job_of Commit = Some job.Commit
+job_of Abort = Some job.Abort
+job_of Pair = Some job.Pair
+job_of Patch = Some job.Patch
+job_of Merge = Some job.Merge
+job_of Part = Some job.Part
+job_of Compact = Some job.Compact
+job_of Rebuild = Some job.Rebuild
+job_of (Crash node) = Some (job.Crash node)
+job_of (Join node) = Some (job.Join node)
+job_of request = None
+
+-- the job of a line on an object, where it is a turn
 abbrev pub job_on : ℕ → Request → Option Job
 job_on h (Read name) = Some (job.Read (record { n = h }))
 job_on h (Write name at bytes) = Some (job.Write (record { n = h }) at bytes)
@@ -87,29 +104,19 @@ abbrev pub ObjectStep : ℕ → Option ℕ → Request → WorldState → Reply 
 ObjectStep seat None request w r new = (r ≡ answer.Unmade) × (new ≡ w)
 ObjectStep seat (Some h) request w r new = CallStep seat h request w r new
 
+-- a line with a job of its own is a turn, and one that has none is on an object
+abbrev pub OtherStep : ℕ → Option ℕ → Request → Option Job → WorldState → Reply → WorldState
+    → Type 0
+OtherStep seat handle request (Some job) w r new = Step w (Turn seat job) r new
+OtherStep seat handle request None w r new = ObjectStep seat handle request w r new
+
 -- A line of the lane of this seat, whose name has this handle, if it has one: it leads from one world
 -- to another. A lane that leaves gives all its pins back, and is told how many.
 abbrev pub LineStep : ℕ → Option ℕ → Request → WorldState → Reply → WorldState → Type 0
 LineStep seat handle (Make name bytes) w r new = Step w (Turn seat (job.Make bytes)) r new
-LineStep seat handle Evict w r new = Step w (Turn seat job.Evict) r new
-LineStep seat handle Begin w r new = Step w (Turn seat job.Begin) r new
-LineStep seat handle Ship w r new = Step w (Turn seat job.Ship) r new
-LineStep seat handle Commit w r new = Step w (Turn seat job.Commit) r new
-LineStep seat handle Abort w r new = Step w (Turn seat job.Abort) r new
-LineStep seat handle Rebuild w r new = Step w (Turn seat job.Rebuild) r new
-LineStep seat handle (Crash node) w r new = Step w (Turn seat (job.Crash node)) r new
-LineStep seat handle (Join node) w r new = Step w (Turn seat (job.Join node)) r new
 LineStep seat handle Leave w r new =
     (r ≡ answer.Left (length (pins_of_seat w.seats seat))) × GivesAll seat w new
-LineStep seat handle (Read name) w r new = ObjectStep seat handle (Read name) w r new
-LineStep seat handle (Write name at bytes) w r new = ObjectStep seat handle (Write name at bytes) w r new
-LineStep seat handle (Free name) w r new = ObjectStep seat handle (Free name) w r new
-LineStep seat handle (Pin name) w r new = ObjectStep seat handle (Pin name) w r new
-LineStep seat handle (Peek name) w r new = ObjectStep seat handle (Peek name) w r new
-LineStep seat handle (Unpin name) w r new = ObjectStep seat handle (Unpin name) w r new
-LineStep seat handle (Filter name) w r new = ObjectStep seat handle (Filter name) w r new
--- every other verb is not built
-LineStep seat handle request w r new = ⊥
+LineStep seat handle request w r new = OtherStep seat handle request (job_of request) w r new
 
 -- The answers behind those before them lead from one world to another, line by line. Behind its last
 -- line a lane's pins are given back, before the next line.

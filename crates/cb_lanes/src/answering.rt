@@ -1,12 +1,11 @@
 ghost use Rattle.std.specs.Prelude.{◌≡◌, ◌↔◌, IsTrue, ◌<◌, ◌≤◌, ℕ, List, Some, IfOk, length};
 ghost use Rattle.std.specs.Option.{option_map};
-ghost use Rattle.cb_script.specs.Unbuilt.{IsBuilt};
 ghost use Rattle.cb_script.specs.Form.{IsRequest};
 ghost use Rattle.cb_world.specs.World.{IsSoundWorld};
 ghost use Rattle.cb_core.specs.Jobs.{IsJob};
 ghost use Rattle.cb_core.specs.Events.{handle_of};
 ghost use Rattle.cb_core.specs.Step.{AtomicStep, Step};
-ghost use Rattle.cb_lanes.specs.LineStep.{IsInReply, LineStep, ObjectStep, PeekStep, PinLine};
+ghost use Rattle.cb_lanes.specs.LineStep.{IsInReply, LineStep, ObjectStep, PeekStep, PinLine, job_of};
 ghost use Rattle.cb_lanes.specs.Names.{AreKept, AreReady, IsOnObject, handle_in};
 
 use crate::resting::give_back;
@@ -27,7 +26,6 @@ pub(crate) fn reply_to<'a>(
     request: &'a Request,
 ) -> Result<Reply, NoMemory>
     requires seat { seat < 64 }
-    requires built { IsBuilt request.now }
     requires request { IsRequest world.old.desk.settings.nodes request.now }
     requires ready { AreReady world.old.desk.settings.handles names.old }
     requires sound { IsSoundWorld world.old }
@@ -37,21 +35,35 @@ pub(crate) fn reply_to<'a>(
 {
     match request {
         Request::Make { name, bytes } => make_named(alloc, world, names, seat, name, bytes),
-        Request::Evict => turn_of(alloc, world, seat, Job::Evict),
-        Request::Begin => turn_of(alloc, world, seat, Job::Begin),
-        Request::Ship => turn_of(alloc, world, seat, Job::Ship),
-        Request::Commit => turn_of(alloc, world, seat, Job::Commit),
-        Request::Abort => turn_of(alloc, world, seat, Job::Abort),
-        Request::Rebuild => turn_of(alloc, world, seat, Job::Rebuild),
-        Request::Crash { node } => turn_of(alloc, world, seat, Job::Crash { node: *node }),
-        Request::Join { node } => turn_of(alloc, world, seat, Job::Join { node: *node }),
         Request::Leave => Ok(Reply::Left {
             pins: give_back(alloc, world, seat)?,
         }),
-        _ => match handle_of(names, request) {
-            None => Ok(Reply::Unmade),
-            Some(handle) => call_object(alloc, world, seat, handle, request),
+        _ => match job_of(request) {
+            Some(job) => turn_of(alloc, world, seat, job),
+            None => call_named(alloc, world, names, seat, request),
         },
+    }
+}
+
+/// The job of a line about no object, where it is a turn.
+fn job_of(request: &Request) -> Option<Job>
+    ensures { result ≡ job_of request.now }
+{
+    match request {
+        Request::Evict => Some(Job::Evict),
+        Request::Begin => Some(Job::Begin),
+        Request::Ship => Some(Job::Ship),
+        Request::Commit => Some(Job::Commit),
+        Request::Abort => Some(Job::Abort),
+        Request::Pair => Some(Job::Pair),
+        Request::Patch => Some(Job::Patch),
+        Request::Merge => Some(Job::Merge),
+        Request::Part => Some(Job::Part),
+        Request::Compact => Some(Job::Compact),
+        Request::Rebuild => Some(Job::Rebuild),
+        Request::Crash { node } => Some(Job::Crash { node: *node }),
+        Request::Join { node } => Some(Job::Join { node: *node }),
+        _ => None,
     }
 }
 
@@ -92,6 +104,27 @@ fn make_named<'a>(
             Ok(Reply::Made { handle, version })
         }
         reply => Ok(reply),
+    }
+}
+
+/// Answers a line on the object of a name. One whose make was refused has no handle.
+fn call_named<'a>(
+    alloc: Global,
+    world: &mut World,
+    names: &BTreeMap<&'a [u8], Handle>,
+    seat: u32,
+    request: &'a Request,
+) -> Result<Reply, NoMemory>
+    requires seat { seat < 64 }
+    requires known { IsOnObject request.now }
+    requires ready { AreReady world.old.desk.settings.handles names.now }
+    requires sound { IsSoundWorld world.old }
+    ensures step { IfOk result (λ reply. ObjectStep seat (handle_in names.now request.now) request.now world.old reply world.new) }
+    ensures sound { IsSoundWorld world.new }
+{
+    match handle_of(names, request) {
+        None => Ok(Reply::Unmade),
+        Some(handle) => call_object(alloc, world, seat, handle, request),
     }
 }
 

@@ -2,7 +2,6 @@ ghost use Rattle.std.specs.Prelude.{◌≡◌, ◌<◌, ◌≤◌, ℕ, List, []
 ghost use Rattle.std.specs.List.{AllByRecursion, cons_option};
 ghost use Rattle.cb_model.specs.Legal.{IsLegalInOrder};
 ghost use Rattle.cb_script.specs.Form.{IsRequest, IsScript};
-ghost use Rattle.cb_script.specs.Unbuilt.{IsBuilt};
 ghost use Rattle.cb_world.specs.Seats.{pins_of_seat};
 ghost use Rattle.cb_world.specs.World.{IsSoundWorld, empty_world};
 ghost use Rattle.cb_lanes.specs.Asked.{answer_to, asked, HasLineReply};
@@ -34,12 +33,10 @@ pub struct SeqEnd {
     pub world: World,
 }
 
-/// Answers the lines of a script in order, in one world. Each line's request is one that is built.
-/// Behind the last line of a lane its pins are given back. A line costs the logarithm of the names,
-/// and what its event costs.
+/// Answers the lines of a script in order, in one world. Behind the last line of a lane its pins are
+/// given back. A line costs the logarithm of the names, and what its event costs.
 pub fn run_seq(alloc: Global, s: &Script) -> Result<SeqEnd, NoMemory>
     requires script { IsScript s.now }
-    requires built { AllByRecursion (λ l. IsBuilt l.request) s.now.lines }
     ensures lines { IfOk result (λ end. map asked end.answers ≡ s.now.lines) }
     ensures legal { IfOk result (λ end. IsLegalInOrder 1 s.now.config.handles end.answers) }
     ensures answered { IfOk result (λ end. AllByRecursion HasLineReply end.answers) }
@@ -89,7 +86,6 @@ fn answer_line<'a>(
 ) -> Result<(), NoMemory>
     requires lane { line.now.lane.n < 16 }
     requires some { 1 ≤ slice_index left.old line.now.lane.n }
-    requires built { IsBuilt line.now.request }
     requires request { IsRequest world.old.desk.settings.nodes line.now.request }
     requires ready { AreReady world.old.desk.settings.handles names.old }
     requires sound { IsSoundWorld world.old }

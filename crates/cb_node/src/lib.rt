@@ -1,5 +1,5 @@
-//! Memory nodes: each keeps rows by their keys, up to a capacity. Rows leave the nodes by one
-//! call, which is counted; nodes copy and combine rows among themselves.
+//! Memory nodes: each keeps rows by their keys, up to a capacity. Rows leave the nodes by two
+//! calls, which count them; nodes copy and combine rows among themselves.
 #![tactic(auto)]
 
 mod node;

@@ -1,12 +1,16 @@
 ghost use Rattle.std.specs.Prelude.{◌≡◌, ◌-◌, ◌+◌, ◌^◌, ◌<◌, ◌≤◌, ◌↔◌, IsTrue, length, true, false, if◌then◌else◌, IfOk, IfSome, IfNone, OnOk, OnErr};
+ghost use Rattle.std.specs.Borrow.{sem};
 ghost use Rattle.cb_gf256.specs.Row.{row_sum, scaled_row};
+ghost use Rattle.cb_gf256.specs.Rows.{HaveLength};
 ghost use Rattle.cb_node.specs.NodesState.{IsNodes, empty_nodes, row_at, known_row, held, has, with_dropped, with_row, with_spoiled, with_wiped};
 ghost use Rattle.cb_node.specs.Answer.{PutGives};
 ghost use Rattle.cb_node.specs.Delta.{with_delta, Names};
+ghost use Rattle.cb_node.specs.Lent.{GivesOne};
 
 use crate::node::Node;
 use crate::row::Row;
 use crate::spare::Spare;
+use cb_gf256::Rows;
 use cb_member::{NoMemory, NodeId, Shard};
 use std::alloc::Global;
 use std::marker::Model;
@@ -159,7 +163,7 @@ impl Nodes {
     }
 
     /// Gives the row out, into a buffer of its length, and counts it; answers whether the row is
-    /// there. This is the only call by which a row leaves the nodes.
+    /// there. A row leaves the nodes by this call and by `lend_row` alone.
     pub fn give_row(&mut self, node: NodeId, key: u64, into: &mut [u8]) -> bool
         requires node { node.n < length self.old.nodes }
         requires given { self.old.given < 2 ^ 64 - 1 }
@@ -177,6 +181,18 @@ impl Nodes {
         into.copy_from_slice(row.bytes());
         self.given += 1;
         true
+    }
+
+    /// Gives the row out, which is there, where it stands, and counts it: no byte is copied.
+    pub fn lend_row(&mut self, node: NodeId, key: u64) -> &[u8]
+        requires node { node.n < length self.old.nodes }
+        requires there { has self.old node key ≡ true }
+        requires given { self.old.given < 2 ^ 64 - 1 }
+        ensures* given { sem 𝓛 (GivesOne self.entry) }
+        ensures row { result.now ≡ known_row self.old node key }
+    {
+        self.given += 1;
+        self.known_row(node, key)
     }
 
     /// Adds `c` times the sum of the rows of the shards `old` and `new` to the row under `key` at
@@ -247,6 +263,24 @@ impl Nodes {
     {
         let row = self.nodes[usize::from(node.n)].remove(key);
         self.spare.keep(row);
+    }
+
+    /// A table of so many rows of so many bytes, which may be any: the one that was kept last, where it
+    /// has this shape. The only error is want of memory; the nodes stay as they are.
+    pub fn spare_table(&mut self, count: u32, len: u32) -> Result<Rows, NoMemory>
+        requires some { 0 < count }
+        ensures count { IfOk result (λ rows. length rows ≡ count) }
+        ensures lengths { IfOk result (λ rows. HaveLength len rows) }
+        ensures unchanged { self.new ≡ self.old }
+    {
+        self.spare.table(count, len)
+    }
+
+    /// Keeps a table of rows, to be used again. Takes no memory; the nodes stay as they are.
+    pub fn keep_table(&mut self, table: Rows)
+        ensures unchanged { self.new ≡ self.old }
+    {
+        self.spare.keep_table(table);
     }
 
     /// Drops all rows at the node. Takes no memory.

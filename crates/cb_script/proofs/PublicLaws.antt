@@ -7,4 +7,5 @@ pub use Rattle.cb_script.proofs.HexText.{bytes_at, lower_encoded}
 pub use Rattle.cb_script.proofs.OneReading.{script_unique, spells_no_fault}
 pub use Rattle.cb_script.proofs.Phrases.{differ}
 pub use Rattle.cb_script.proofs.Words.{AreWords, IsWord-decimal, IsWord-encoded, IsWord-setting, word_from_test, words_split}
+pub use Rattle.cb_script.proofs.WorkedFaults.{empty_input}
 pub use Rattle.cb_script.proofs.WorkedScript.{made_and_read, make_a, read_a, script, small, spelled}

@@ -45,7 +45,7 @@ longest bytes line long first = omega (arith, long, first.1)
 longer : (bytes : List ℕ) → length bytes ≡ 1048577 → First bytes Seq 0 reasons.TooLong
 longer bytes long = (refl, omega (arith, long))
 
-empty_input : First [] Seq 1 reasons.Header
+pub empty_input : First [] Seq 1 reasons.Header
 empty_input = no_header [] Seq refl
 
 -- k is out of its range

@@ -1,14 +1,12 @@
 -- Worked examples: which lines may stand behind others. Each part of a definition is broken alone.
-use Rattle.std.proofs.Common.{◌≡◌, ℕ, ◌<◌, ◌≤◌, List, [], ◌∷◌, ◌++◌, length, All, ◌⊎◌, inl, inr, refl, arith}
+use Rattle.std.proofs.Common.{◌≡◌, ℕ, ◌<◌, ◌≤◌, List, [], ◌∷◌, length, All, ◌⊎◌, inl, inr, refl, arith}
 use Rattle.std.specs.Prelude.{codes}
-use Rattle.std.specs.List.{AllByRecursion}
 use Rattle.std.proofs.lemmas.List.Elements.{All-cons, All-nil, All-head}
-use Rattle.cb_types.specs.declared.request.Request.TheVariants.{Make, Read, Write, Filter, Crash, Leave, Begin, Ship, Commit, Abort, Evict, Pair, Compact, Rebuild}
+use Rattle.cb_types.specs.declared.request.Request.TheVariants.{Make, Read, Write, Crash, Leave, Begin, Evict}
 use Rattle.cb_script.specs.declared.script.Line.{Line}
 use Rattle.cb_script.specs.declared.script.Mode.TheVariants.{Seq, Threads}
 use Rattle.cb_script.specs.declared.script.Script.{Script}
 use Rattle.cb_script.specs.Form.{IsName, IsNameByte, IsContents, IsChange, IsRequest, IsLane, IsNew, KnowsName, IsKnown, MayFollow, AreInMode, IsScript, Spells}
-use Rattle.cb_script.specs.Unbuilt.{IsBuilt, IsFirstUnbuilt}
 use Rattle.cb_script.proofs.Phrases.{differ}
 use Rattle.cb_script.proofs.WorkedSpelling.{worked_lane}
 
@@ -166,21 +164,3 @@ lines_limit s form long = omega (arith, long)
 
 too_long : (bytes : List ℕ) (s : Script) → length bytes ≡ 1048577 → Spells bytes Seq s → ⊥
 too_long bytes s long spells = omega (arith, long, spells.short)
-
--- ---- lines that are not built
-
-first_unbuilt_line : IsFirstUnbuilt (two_makes ++ worked_lane 1 Pair 4 ∷ worked_lane 1 Leave 5 ∷ []) 4
-first_unbuilt_line = record { before = two_makes; here = worked_lane 1 Pair 4; after = worked_lane 1 Leave 5 ∷ []; are = refl; built = (tt, (tt, tt)); unbuilt = λ is. is; number_is = refl }
-
-filter_built : IsBuilt (Filter (codes "a"))
-filter_built = tt
-
-rebuild_built : IsBuilt Rebuild
-rebuild_built = tt
-
--- the four steps by which a batch leaves
-steps_built : AllByRecursion IsBuilt (Begin ∷ Ship ∷ Commit ∷ Abort ∷ [])
-steps_built = (tt, (tt, (tt, (tt, tt))))
-
-compact_unbuilt : IsBuilt Compact → ⊥
-compact_unbuilt is = is

@@ -103,6 +103,3 @@ first_reason = (refl, refl)
 
 last_reason : (number_of reasons.Mode ≡ 12) × (word_of reasons.Mode ≡ codes "mode")
 last_reason = (refl, refl)
-
-unbuilt_reason : (number_of reasons.Unbuilt ≡ 13) × (word_of reasons.Unbuilt ≡ codes "unbuilt")
-unbuilt_reason = (refl, refl)

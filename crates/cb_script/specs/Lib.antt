@@ -6,7 +6,6 @@ pub mod Form
 pub mod Reasons
 pub mod Rules
 pub mod First
-pub mod Unbuilt
 pub mod Cut
 pub mod Found
 pub mod Reading

@@ -17,7 +17,6 @@ number_of reasons.Number = 9
 number_of reasons.Hex = 10
 number_of reasons.Length = 11
 number_of reasons.Mode = 12
-number_of reasons.Unbuilt = 13
 
 -- its word
 abbrev pub word_of : Reason → List ℕ
@@ -33,4 +32,3 @@ word_of reasons.Number = codes "number"
 word_of reasons.Hex = codes "hex"
 word_of reasons.Length = codes "length"
 word_of reasons.Mode = codes "mode"
-word_of reasons.Unbuilt = codes "unbuilt"

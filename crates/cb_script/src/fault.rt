@@ -4,8 +4,7 @@ ghost use Rattle.cb_script.specs.declared.fault.Refusal.TheVariants.{NoMemory as
 
 use cb_types::NoMemory;
 
-/// What is wrong with a script: the rule that its first bad line breaks, or, of a script that was
-/// read, that a verb in it is not built yet.
+/// What is wrong with a script: the rule that its first bad line breaks.
 #[derive(Clone, Copy, Debug, PartialEq, Eq)]
 pub enum Reason {
     /// The input has more than 1,048,576 bytes. The line is 0.
@@ -32,8 +31,6 @@ pub enum Reason {
     Length,
     /// A step of an eviction or a compaction, where lanes run as threads.
     Mode,
-    /// The program does not answer this verb yet. The reader never tells this one.
-    Unbuilt,
 }
 
 impl Reason {
@@ -56,7 +53,6 @@ impl Reason {
             Reason::Hex => 10,
             Reason::Length => 11,
             Reason::Mode => 12,
-            Reason::Unbuilt => 13,
         }
     }
 
@@ -77,7 +73,6 @@ impl Reason {
             Reason::Hex => "hex",
             Reason::Length => "length",
             Reason::Mode => "mode",
-            Reason::Unbuilt => "unbuilt",
         }
     }
 }

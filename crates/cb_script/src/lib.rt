@@ -18,7 +18,6 @@ pub mod print;
 pub mod read;
 mod request;
 pub mod script;
-pub mod unbuilt;
 pub mod verb;
 
 pub use cut::{first_line, words_into};
@@ -29,5 +28,4 @@ pub use number::{number_of, setting_of};
 pub use print::print_script;
 pub use read::read_script;
 pub use script::{Line, Lines, Mode, Script};
-pub use unbuilt::first_unbuilt;
 pub use verb::is_word;

@@ -10,7 +10,7 @@ ghost use Rattle.cb_scrub_tests.specs.Shards.{IsFirstSets};
 use cb_core::{Event, step};
 use cb_lanes::run_seq;
 use cb_member::Shard;
-use cb_script::{Mode, first_unbuilt, read_script};
+use cb_script::{Mode, read_script};
 use cb_scrub::Found;
 use cb_scrub_world::{Scrubbed, scrub_next};
 use cb_set::is_lost;
@@ -24,15 +24,12 @@ const SCRIPT: &[u8] = b"carbink 1 k=2 r=2 nodes=6 frames=8 room=64 handles=2 tur
     1 make a 0a0b\n1 make b 0c0c0c0c0c0c0c0c0c0c0c0c0c0c0c0c0c\n1 evict\n";
 
 /// The world that the lines of a script lead to.
-fn world_of(alloc: Global, text: &[u8]) -> Result<World, Fail>
+pub(crate) fn world_of(alloc: Global, text: &[u8]) -> Result<World, Fail>
     ensures { IfOk result IsSoundWorld }
 {
     let Ok(script) = read_script(alloc, text, Mode::Seq) else {
         return Err(Fail::from("no script"));
     };
-    if let Some(_) = first_unbuilt(&script) {
-        return Err(Fail::from("a verb that is not built"));
-    }
     let end = run_seq(alloc, &script)?;
     Ok(end.world)
 }

@@ -5,6 +5,7 @@ pub mod SlotsBrought
 pub mod SpanBrought
 pub mod Committed
 pub mod Waits
+pub mod RowGiven
 pub mod Arrived
 pub mod ArrivedFar
 pub mod Swapped

@@ -8,7 +8,13 @@ use Rattle.cb_span.specs.declared.temp.Temp.TheVariants.{Hot}
 use Rattle.cb_span.specs.Contents.{Contents, IsSpan}
 use Rattle.cb_world.specs.SetWord.{IsWordOf, is_broken}
 use Rattle.cb_world.specs.FarState.{FarState}
-use Rattle.cb_world.specs.Fetched.{with_given}
+use Rattle.cb_world.specs.Fetched.{rows_needed, with_given}
+use Rattle.cb_world.specs.declared.event.Event.{Event}
+use Rattle.cb_world.specs.declared.shown.Shown.{Shown}
+use Rattle.cb_swapin.specs.Named.{AreCleared}
+use Rattle.cb_swapin.specs.Brings.{Brings}
+use Rattle.cb_swapin.specs.Waiting.{AreWaiting}
+use Rattle.cb_swapin.specs.BroughtIn.{Brought, IsSpanBrought}
 
 -- what the set has lost, where it has lost more shards than it has parities
 abbrev pub losses_of : FarState → SetState → Option (List Loss)
@@ -18,7 +24,13 @@ losses_of far set = if is_broken far.members set then Some (lost far.members set
 abbrev pub far_given : FarState → ℕ → FarState
 far_given far n = record far { nodes = with_given far.nodes n }
 
--- the span is hot and has the slots of the position, and the row is that of the set's word
+-- the span is hot and has the slots of the position
+pub record IsSpanOf (set : SetState) (p : ℕ) (span : Contents) : Type 0 where
+  pub valid : IsSpan span
+  pub hot : span.temp ≡ Hot
+  pub slots : span.slots ≡ (position_of set p).slots
+
+-- such a span, and the row is that of the set's word
 pub record IsFetched (far : FarState) (set : SetState) (p : ℕ) (span : Contents) (row : List ℕ)
     : Type 0 where
   pub valid : IsSpan span
@@ -26,3 +38,14 @@ pub record IsFetched (far : FarState) (set : SetState) (p : ℕ) (span : Content
   pub slots : span.slots ≡ (position_of set p).slots
   pub row_of : (rows : List (List ℕ)) → IsWordOf far.nodes far.members set rows
       → row ≡ row_at rows p
+
+-- The row of the position was brought into the frame, from its node or made of others: as many rows were
+-- given out as that needs, the objects of the span are here and have no home, and nothing else changed.
+pub record BringsRow (runs : List Event → Type 0) (shows : Shown → Type 0) (far new : FarState)
+    (set : SetState) (p f : ℕ) (span : Contents) : Type 0 where
+  pub row : List ℕ
+  pub fetched : IsFetched far set p span row
+  pub homes : AreCleared span.slots far.homes new.homes
+  pub state : new ≡ record (far_given far (rows_needed far.members set p)) { homes = new.homes }
+  pub brought : Brought runs (λ s. shows s × AreWaiting s f span.class span.slots row)
+      (Brings span.slots f) (IsSpanBrought span.slots span.class f row)

@@ -8,21 +8,21 @@ ghost use Rattle.cb_world.specs.Sets.{set_in};
 ghost use Rattle.cb_world.specs.SetWord.{is_broken};
 ghost use Rattle.cb_world.specs.FarSound.{AwaySound};
 ghost use Rattle.cb_world.specs.Sound.{Sound};
-ghost use Rattle.cb_world.specs.Fetched.{rows_needed};
 ghost use Rattle.cb_world.specs.Stored.{AreThere};
 ghost use Rattle.cb_set.specs.Lost.{NodesAreMembers};
 ghost use Rattle.cb_world.specs.LeftOver.{with_left};
 ghost use Rattle.cb_world.specs.Performs.{Performs};
-ghost use Rattle.cb_swapin.specs.Fetching.{IsFetched, far_given, losses_of};
+ghost use Rattle.cb_swapin.specs.Fetching.{BringsRow, IsSpanOf, far_given, losses_of};
 ghost use Rattle.cb_swapin.specs.SwapRule.{SwapRule};
 ghost use Rattle.cb_swapin.specs.SwapEffect.{SwapEffect};
 
 use crate::bringing::bring_span;
-use cb_class::{SPAN_BYTES, class_with_slots};
+use cb_class::class_with_slots;
 use cb_member::Losses;
+use cb_set::is_lost;
 use cb_span::{Span, Temp};
 use cb_types::{NoMemory, Reply, SetId};
-use cb_world::{Desk, Far, fetch, kill_position};
+use cb_world::{Desk, Far, kill_position, solved};
 
 /// Swaps the span of a live position of a committed set in. Takes all memory before anything is
 /// changed; where there is none, at most k rows were given out and nothing else has changed.
@@ -59,9 +59,8 @@ pub fn swap_in<D: Desk>(
     let Some(frame) = far.frames.free_set().least() else {
         return Ok(Reply::NoFrame);
     };
-    let mut row = [0; SPAN_BYTES as usize];
-    let span = fetch_span(far, id, position, &mut row)?;
-    bring_span(desk, &mut far.homes, frame, &span, &row);
+    let span = span_at(far, id, position)?;
+    bring_row(desk, far, id, position, frame, &span)?;
     keep_span(far, id, position, frame, span);
     Ok(Reply::Swapped { frame })
 }
@@ -80,27 +79,58 @@ fn losses(far: &Far, id: SetId) -> Result<Option<Losses>, NoMemory>
     Ok(Some(set.lost(far.alloc, &far.members)?))
 }
 
-/// The span of a live position of a committed set, and its row in `row`. Takes all memory that a
-/// swap-in needs.
-fn fetch_span(far: &mut Far, id: SetId, position: u32, row: &mut [u8]) -> Result<Span, NoMemory>
-    requires sound { (s : Shown) × AwaySound s far.old }
-    requires live { (set : SetState) × (set_in far.old.sets id.n ≡ Some set)
-        × (live_at set position ≡ true) × (is_broken far.old.members set ≡ false) }
-    requires given { far.old.nodes.given + 16 < 2 ^ 64 }
-    requires row { length row.old ≡ 4096 }
-    ensures fetched { IfOk result (λ span. (set : SetState) → set_in far.old.sets id.n ≡ Some set
-        → IsFetched far.old set position span row.new) }
-    ensures far { OnOk result ((set : SetState) → set_in far.old.sets id.n ≡ Some set
-        → far.new ≡ far_given far.old (rows_needed far.old.members set position)) }
-    ensures error { OnErr result ((set : SetState) → set_in far.old.sets id.n ≡ Some set → (n : ℕ)
-        × (n ≤ length set.positions) × (far.new ≡ far_given far.old n)) }
+/// The span of a live position of a committed set: hot, with the slots of the position. Takes the memory
+/// of its slots.
+fn span_at(far: &Far, id: SetId, position: u32) -> Result<Span, NoMemory>
+    requires sound { (s : Shown) × AwaySound s far.now }
+    requires live { (set : SetState) × (set_in far.now.sets id.n ≡ Some set)
+        × (live_at set position ≡ true) }
+    ensures { IfOk result (λ span. (set : SetState) → set_in far.now.sets id.n ≡ Some set
+        → IsSpanOf set position span) }
 {
     let set = far.sets.committed(id.n).unwrap();
     let slots = set.slots(position);
     let class = class_with_slots(slots.len() as u32).unwrap();
-    let span = Span::from_slots(far.alloc, class, Temp::Hot, slots)?;
-    fetch(far.alloc, &mut far.nodes, &far.members, set, position, row)?;
-    Ok(span)
+    Ok(Span::from_slots(far.alloc, class, Temp::Hot, slots)?)
+}
+
+/// Brings the span of a live position of a committed set into the least free frame. Where the position's
+/// shard is not lost, its row is stored from where it stands at its node; else the row that k others make
+/// is. Where there is no memory for that one, at most k rows were given out and nothing else has changed.
+fn bring_row<D: Desk>(
+    desk: &mut D,
+    far: &mut Far,
+    id: SetId,
+    position: u32,
+    frame: u32,
+    span: &Span,
+) -> Result<(), NoMemory>
+    requires config { IsAccepted (D.settings desk.old) }
+    requires least { least_free far.old.frames ≡ Some frame }
+    requires frame { frame < (D.settings desk.old).frames }
+    requires live { (set : SetState) × (set_in far.old.sets id.n ≡ Some set)
+        × (live_at set position ≡ true) × (is_broken far.old.members set ≡ false) }
+    requires span { (set : SetState) → set_in far.old.sets id.n ≡ Some set
+        → IsSpanOf set position span.now }
+    requires sound { (s : Shown) × D.shows desk.old s × Sound s far.old }
+    requires given { far.old.nodes.given + 16 < 2 ^ 64 }
+    ensures row { OnOk result ((set : SetState) → set_in far.old.sets id.n ≡ Some set
+        → BringsRow (λ es. D.run desk.old es desk.new) (λ s. D.shows desk.old s)
+        far.old far.new set position frame span.now) }
+    ensures desk { OnErr result (desk.new ≡ desk.old) }
+    ensures far { OnErr result ((set : SetState) → set_in far.old.sets id.n ≡ Some set → (n : ℕ)
+        × (n ≤ length set.positions) × (far.new ≡ far_given far.old n)) }
+{
+    let set = far.sets.committed(id.n).unwrap();
+    let shard = set.shard(position);
+    if is_lost(&far.members, shard) {
+        let rows = solved(far.alloc, &mut far.nodes, &far.members, set)?;
+        bring_span(desk, &mut far.homes, frame, span, rows.row(position));
+    } else {
+        let row = far.nodes.lend_row(shard.node, shard.key);
+        bring_span(desk, &mut far.homes, frame, span, row);
+    }
+    Ok(())
 }
 
 /// Puts the span that was brought in into the least free frame. Its position is dead then, and a set

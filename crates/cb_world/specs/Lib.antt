@@ -16,6 +16,7 @@ pub mod SetsFrom
 pub mod Homes
 pub mod Leaving
 pub mod Joining
+pub mod Pairs
 pub mod Counts
 pub mod Survey
 pub mod FarState

@@ -5,6 +5,7 @@ use Rattle.cb_world.specs.Sound.{Sound}
 use Rattle.cb_compact.specs.declared.candidates.Match.{Match}
 use Rattle.cb_compact.specs.Pairing.{IsFirstPair, with_pair}
 use Rattle.cb_compact.proofs.Begins.{begun_keeps}
+use Rattle.cb_compact.proofs.TableExists.{table_exists}
 use Rattle.cb_compact.proofs.beginning.begin.Goals as goal
 
 none_joins : (c : goal.After-put_pair-arg-1) → c.args.far.now.joining ≡ None
@@ -21,7 +22,6 @@ new_pair-requires c =
         x.1,
         x.2.can.a_there,
         x.2.can.b_there,
-        (c.requires.1.away.sound.sets.shaped c.in-Some-2.found.a.id x.0 x.2.can.a_there).range,
       );
     }
 
@@ -42,7 +42,7 @@ returns-clause-step c =
       first = x.2;
       reply = refl;
       state = c.put_pair.ensures ∙ ap (with_pair far)
-          (c.in_ok-pair.ensures.pair x.0 x.1 x.2.can.a_there x.2.can.b_there);
+          (c.in_ok-pair.ensures x.0 x.1 x.2.can.a_there x.2.can.b_there);
     }))
 
 pub returns-clause-sound : goal.returns-clause-sound
@@ -50,8 +50,9 @@ returns-clause-sound c s sound =
     let far = c.args.far.now in
     let x = subst (λ (o : Option Match). IfSome o (λ m. (a : SetState) × (b : SetState)
     × IsFirstPair far m.a.id m.b.id a b)) c.in-Some-2.is c.in_ok-found.ensures.found in
-    let table = c.in_ok-pair.ensures.code x.0 x.2.can.a_there in
+    let range = (sound.away.sound.sets.shaped c.in-Some-2.found.a.id x.0 x.2.can.a_there).range in
+    let table = table_exists _ _ range in
     subst (Sound s) (sym (c.put_pair.ensures ∙ ap (with_pair far)
-    (c.in_ok-pair.ensures.pair x.0 x.1 x.2.can.a_there x.2.can.b_there)))
+    (c.in_ok-pair.ensures x.0 x.1 x.2.can.a_there x.2.can.b_there)))
     (begun_keeps s far c.in-Some-2.found.a.id c.in-Some-2.found.b.id x.0 x.1 table.0 sound
     (ap (λ (f : FarState). f.joining) (sym c.far.view_is) ∙ c.in_default.is) x.2 table.1).sound

@@ -1,32 +1,54 @@
-use Rattle.std.proofs.Common.{sym, subst, arith}
-use Rattle.cb_compact.specs.Candidates.{AreFirsts}
-use Rattle.cb_compact.proofs.Choosing.{firsts_least, firsts_to, none_yet}
+use Rattle.std.proofs.Common.{◌+◌, List, sym, subst}
+use Rattle.cb_world.specs.FarState.{FarState}
+use Rattle.cb_world.specs.SetsFrom.{AreFrom}
+use Rattle.cb_world.proofs.Laws.{first_from}
+use Rattle.cb_compact.specs.declared.candidates.Candidate.{Candidate}
+use Rattle.cb_compact.specs.Candidates.{AreFirsts, AreSeen}
+use Rattle.cb_compact.proofs.Choosing.{firsts_all, firsts_to, none_seen, none_yet}
+use Rattle.cb_compact.proofs.Groups.{group_cmp}
 use Rattle.cb_compact.proofs.candidates.firsts.Goals as goal
 
 pub loop-id-init : goal.loop-id-init
-loop-id-init c = record {
-  firsts = subst (AreFirsts c.args.far.now 0) (sym c.new-found.ensures.items) (none_yet
-      c.args.far.now);
-  low = omega arith;
-}
+loop-id-init c = (
+  0,
+  subst (AreFirsts c.args.far.now 0) (sym c.new-found.ensures.items) (none_yet c.args.far.now),
+  subst (λ (f : FarState). AreFrom f.sets 0 c.range_from-sets.result) c.far.view_is
+      c.range_from-sets.ensures,
+  subst (λ (l : List Candidate). AreSeen group_cmp l c.new-seen.result)
+      (sym c.new-found.ensures.items)
+      (none_seen group_cmp c.new-seen.result c.new-seen.ensures.empty),
+)
 
-pub loop-id-smaller : goal.loop-id-smaller
-loop-id-smaller c = let x = c.in-Some.ensures.found in
-    let a = x.0 in let b = x.1 in omega (arith, a, b)
+pub add_first-requires-clause-kept : goal.add_first-requires-clause-kept
+add_first-requires-clause-kept c =
+    let inv = c.loop-id.invariant in let far = c.args.far.now in
+    let f = first_from far.sets inv.0 (c.in-Some.id.now, c.in-Some.kept.now) c.next.new.self
+    (subst (AreFrom far.sets inv.0) c.in-Some.ensures.steps inv.2) in
+    f.there
 
 pub add_first-requires-clause-firsts : goal.add_first-requires-clause-firsts
 add_first-requires-clause-firsts c =
-    firsts_to c.args.far.now c.loop-id.from c.in-Some.id c.loop-id.found.items
-    c.loop-id.invariant.firsts
-    c.in-Some.ensures.found.0 c.in-Some.ensures.least
+    let inv = c.loop-id.invariant in let far = c.args.far.now in
+    let f = first_from far.sets inv.0 (c.in-Some.id.now, c.in-Some.kept.now) c.next.new.self
+    (subst (AreFrom far.sets inv.0) c.in-Some.ensures.steps inv.2) in
+    firsts_to far inv.0 c.in-Some.id.now c.loop-id.found.items inv.1 f.above f.none
+
+pub add_first-requires-clause-seen : goal.add_first-requires-clause-seen
+add_first-requires-clause-seen c = c.loop-id.invariant.3
 
 pub loop-id-preserved : goal.loop-id-preserved
-loop-id-preserved c = record {
-  firsts = c.in_ok-add_first.ensures;
-  low = let b = c.in-Some.ensures.found.1 in omega (arith, b);
-}
+loop-id-preserved c =
+    let inv = c.loop-id.invariant in let far = c.args.far.now in
+    let f = first_from far.sets inv.0 (c.in-Some.id.now, c.in-Some.kept.now) c.next.new.self
+    (subst (AreFrom far.sets inv.0) c.in-Some.ensures.steps inv.2) in (
+      c.in-Some.id.now + 1,
+      c.in_ok-add_first.ensures.firsts,
+      f.more,
+      c.in_ok-add_first.ensures.seen,
+    )
 
 pub returns : goal.returns
 returns c =
-    firsts_least c.args.far.now c.loop-id.from c.loop-id.found.items c.loop-id.invariant.firsts
-    c.in_default.ensures.none c.loop-id.invariant.low
+    let inv = c.loop-id.invariant in let s = c.requires.sound in
+    firsts_all s.0 c.args.far.now inv.0 c.loop-id.found.items s.1 inv.1
+    (subst (AreFrom c.args.far.now.sets inv.0) c.in_default.ensures.steps.0 inv.2)

@@ -1,212 +1,101 @@
 use Rattle.std.proofs.lemmas.Result.{IfOk-from_err}
-use Rattle.std.proofs.Common.{ℕ, ◌+◌, ◌++◌, List, length, refl, sym, ap, ◌∙◌, subst}
-use Rattle.cb_types.specs.Config.{IsAccepted}
-use Rattle.cb_types.specs.declared.config.Config.{Config}
-use Rattle.cb_world.specs.declared.leaving.Former.{Former}
+use Rattle.std.specs.Prelude.{IfOk, OnErr}
+use Rattle.std.specs.List.{Contains}
+use Rattle.std.proofs.Common.{◌≡◌, ℕ, ◌+◌, ◌^◌, ◌<◌, ◌≤◌, All, sym, subst, arith}
+use Rattle.cb_types.specs.declared.config.Field.TheVariants.{K}
+use Rattle.cb_world.specs.Choices.{room_count}
 use Rattle.cb_world.specs.FarState.{FarState}
 use Rattle.cb_world.specs.Sound.{Sound}
 use Rattle.cb_world.specs.Performs.{Performs}
-use Rattle.cb_types.specs.declared.handle.SetId.{SetId}
-use Rattle.cb_types.specs.declared.reply.Reply.TheVariants as answer
-use Rattle.cb_evict.specs.declared.eviction.Eviction.TheVariants as eviction
-use Rattle.cb_evict.specs.declared.eviction.Lack.TheVariants as lack
-use Rattle.cb_evict.specs.EvictEffect.{EvictEffect}
-use Rattle.cb_evict.specs.Evicting.{CountsAfter, IsReady, RuleAfter, TouchesSpans}
-use Rattle.cb_evict.specs.Eviction.{reply_of}
-use Rattle.cb_evict.specs.Taking.{Takes}
-use Rattle.cb_world.specs.World.{IsConfigured}
 use Rattle.cb_world.specs.Still.{IsStill}
+use Rattle.cb_world.specs.World.{IsConfigured}
+use Rattle.cb_evict.specs.Candidates.{candidates}
+use Rattle.cb_evict.specs.EvictEffect.{EvictEffect}
+use Rattle.cb_evict.specs.Evicting.{CountsAfter, TouchesSpans}
+use Rattle.cb_evict.specs.Eviction.{reply_of}
 use Rattle.cb_evict.specs.Storing.{AreShards}
-use Rattle.cb_evict.proofs.Composed.{if_ok, on_err, any_err, both_err, rows_made, nothing_done, are_ready, are_taken, taken_as, evicts_as, leaves_as, claims_then, claims_fail, rule_weaker, set_counted, spans_counted}
+use Rattle.cb_evict.proofs.Composed.{any_err, nothing_done}
 use Rattle.cb_evict.proofs.evicting.evict_loose.Goals as goal
 
-pub returns-in-Err-clause-error : goal.returns-in-Err-clause-error
-returns-in-Err-clause-error g c = nothing_done _ _ _ (g.met.D.Desk.none _)
+pub returns-in_err-rows-clause-evict : goal.returns-in_err-rows-clause-evict
+returns-in_err-rows-clause-evict g c = IfOk-from_err _ _ c.from_residual.ensures.0
 
-pub returns-in-TooFew-clause-evict : goal.returns-in-TooFew-clause-evict
-returns-in-TooFew-clause-evict g c =
-    let n = c.in-TooFew.spans in let far = c.args.far.now in
-    rule_weaker (λ es. g.D.Desk.run c.args.desk.now es c.take_spans.new.desk)
-    (λ s. g.D.Desk.shows c.args.desk.now s × Sound s far) (λ t. Sound t far)
-    (RuleAfter c.args.config far far (answer.NoSpans n) c.args.loose.now)
-    (CountsAfter c.args.config far far (eviction.Refused lack.Spans n c.args.nodes) c.args.loose.now)
-    (EvictEffect far far (answer.NoSpans n))
-    (λ es x before found touches. spans_counted c.args.config far far n c.args.nodes (before ++ es)
-    c.requires.nodes (x before found touches))
-    (subst (Takes (λ es. g.D.Desk.run c.args.desk.now es c.take_spans.new.desk)
-    (λ s. g.D.Desk.shows c.args.desk.now s) c.args.config c.args.far.now c.args.loose.now)
-    c.in-TooFew.is c.in_ok-taken.ensures.taken)
+pub returns-in_err-rows-clause-error : goal.returns-in_err-rows-clause-error
+returns-in_err-rows-clause-error g c = any_err _ _
+    (subst (λ (new : FarState). Performs (λ es. g.D.Desk.run c.args.desk.now es c.args.desk.now)
+    (λ s. g.D.Desk.shows c.args.desk.now s × Sound s c.args.far.now) (TouchesSpans c.args.far.now)
+    (λ t. Sound t new) IsStill) (sym c.spare_rows.ensures.unchanged)
+    (nothing_done c.args.far.now (λ es. g.D.Desk.run c.args.desk.now es c.args.desk.now)
+    (λ s. g.D.Desk.shows c.args.desk.now s) (g.met.D.Desk.none _)))
 
-pub returns-in_err-taken-clause-error : goal.returns-in_err-taken-clause-error
-returns-in_err-taken-clause-error g c = any_err _ _ (nothing_done c.args.far.now
-    (λ es. g.D.Desk.run c.args.desk.now es c.take_spans.new.desk)
-    (λ s. g.D.Desk.shows c.args.desk.now s) c.in_err-taken.ensures.error)
+pub returns-in_err-rows-clause-unchanged : goal.returns-in_err-rows-clause-unchanged
+returns-in_err-rows-clause-unchanged g c = any_err _ _ c.spare_rows.ensures.unchanged
 
-pub evict_claimed-requires-clause-config : goal.evict_claimed-requires-clause-config
-evict_claimed-requires-clause-config g c =
-    let taken = subst (Takes (λ es. g.D.Desk.run c.args.desk.now es c.take_spans.new.desk)
-    (λ s. g.D.Desk.shows c.args.desk.now s) c.args.config c.args.far.now c.args.loose.now)
-    c.in-Enough.is c.in_ok-taken.ensures.taken in
-    let x = taken.claims in
-    let stays = g.met.D.Desk.stays _ _ x.events x.ran in
-    subst IsAccepted (c.requires.config.1 ∙ sym stays) c.requires.config.0
+pub spare_rows-requires : goal.spare_rows-requires
+spare_rows-requires g c = let k = c.requires.config.0 K in omega (arith, k.0)
 
-pub evict_claimed-requires-clause-configured : goal.evict_claimed-requires-clause-configured
-evict_claimed-requires-clause-configured g c =
-    let taken = subst (Takes (λ es. g.D.Desk.run c.args.desk.now es c.take_spans.new.desk)
-    (λ s. g.D.Desk.shows c.args.desk.now s) c.args.config c.args.far.now c.args.loose.now)
-    c.in-Enough.is c.in_ok-taken.ensures.taken in
-    let x = taken.claims in
-    let stays = g.met.D.Desk.stays _ _ x.events x.ran in
-    subst (λ (n : Config). IsConfigured n c.args.far.now) (c.requires.config.1 ∙ sym stays) c.requires.configured
+pub evict_over-eviction-requires-clause-configured : goal.evict_over-eviction-requires-clause-configured
+evict_over-eviction-requires-clause-configured g c =
+    subst (λ (q : FarState). IsConfigured c.args.config q) (sym c.spare_rows.ensures.unchanged)
+    c.requires.configured
 
-pub evict_claimed-requires-clause-taken : goal.evict_claimed-requires-clause-taken
-evict_claimed-requires-clause-taken g c =
-    let taken = subst (Takes (λ es. g.D.Desk.run c.args.desk.now es c.take_spans.new.desk)
-    (λ s. g.D.Desk.shows c.args.desk.now s) c.args.config c.args.far.now c.args.loose.now)
-    c.in-Enough.is c.in_ok-taken.ensures.taken in
-    let x = taken.claims in
-    let stays = g.met.D.Desk.stays _ _ x.events x.ran in
-    taken_as c.args.config _ c.args.far.now _ _ _ _ (c.requires.config.1 ∙ sym stays)
-    c.deref.ensures.value c.deref-in-Enough.ensures.value
-    (are_taken c.args.config c.args.far.now c.args.loose.now _ _ _ _ c.args.config.k
-    x
-    c.requires.among taken.count)
+pub evict_over-eviction-requires-clause-counts : goal.evict_over-eviction-requires-clause-counts
+evict_over-eviction-requires-clause-counts g c =
+    subst (λ (q : FarState). (q.counts.sets < 2 ^ 62) × (q.counts.keys < 2 ^ 62))
+    (sym c.spare_rows.ensures.unchanged) c.requires.counts
 
-pub evict_claimed-requires-clause-shards : goal.evict_claimed-requires-clause-shards
-evict_claimed-requires-clause-shards g c =
-    let taken = subst (Takes (λ es. g.D.Desk.run c.args.desk.now es c.take_spans.new.desk)
-    (λ s. g.D.Desk.shows c.args.desk.now s) c.args.config c.args.far.now c.args.loose.now)
-    c.in-Enough.is c.in_ok-taken.ensures.taken in
-    let x = taken.claims in
-    let stays = g.met.D.Desk.stays _ _ x.events x.ran in
-    subst (λ (n : Config). AreShards c.args.far.now (n.k + n.r) c.args.shards.now)
-    (c.requires.config.1 ∙ sym stays) c.requires.shards
+pub evict_over-eviction-requires-clause-sound : goal.evict_over-eviction-requires-clause-sound
+evict_over-eviction-requires-clause-sound g c =
+    let had = c.requires.sound in
+    (had.0, had.1, subst (λ (q : FarState). Sound had.0 q) (sym c.spare_rows.ensures.unchanged) had.2)
 
-pub evict_claimed-requires-clause-rows : goal.evict_claimed-requires-clause-rows
-evict_claimed-requires-clause-rows g c =
-    let taken = subst (Takes (λ es. g.D.Desk.run c.args.desk.now es c.take_spans.new.desk)
-    (λ s. g.D.Desk.shows c.args.desk.now s) c.args.config c.args.far.now c.args.loose.now)
-    c.in-Enough.is c.in_ok-taken.ensures.taken in
-    let x = taken.claims in
-    rows_made c.in-Ok.rows c.args.config.k (length c.deref.result.now) c.in-Ok.ensures
-    (ap (λ (l : List ℕ). length l) c.deref.ensures.value
-    ∙ taken.count)
+pub evict_over-eviction-requires-clause-among : goal.evict_over-eviction-requires-clause-among
+evict_over-eviction-requires-clause-among g c =
+    subst (λ (q : FarState). All (Contains (candidates q)) c.args.loose.now)
+    (sym c.spare_rows.ensures.unchanged) c.requires.among
 
-pub evict_claimed-requires-clause-ready : goal.evict_claimed-requires-clause-ready
-evict_claimed-requires-clause-ready g c =
-    let taken = subst (Takes (λ es. g.D.Desk.run c.args.desk.now es c.take_spans.new.desk)
-    (λ s. g.D.Desk.shows c.args.desk.now s) c.args.config c.args.far.now c.args.loose.now)
-    c.in-Enough.is c.in_ok-taken.ensures.taken in
-    let x = taken.claims in let s = c.requires.sound.0 in (
-      x.events,
-      s,
-      subst (λ (l : List Former). IsReady (λ t. g.D.Desk.shows c.take_spans.new.desk t) c.args.far.now l x.events s)
-          (sym c.deref-in-Enough.ensures.value)
-          (are_ready c.args.far.now c.args.loose.now c.in-Enough.frames.items
-          c.in-Enough.formers.items _ (λ t. g.D.Desk.shows c.args.desk.now t)
-          (λ t. g.D.Desk.shows c.take_spans.new.desk t) c.args.config.k
-          x
-          c.requires.among s (g.met.D.Desk.follows _ _ x.events s x.ran c.requires.sound.1).1
-          c.requires.sound.1 c.requires.sound.2),
-    )
+pub evict_over-eviction-requires-clause-room : goal.evict_over-eviction-requires-clause-room
+evict_over-eviction-requires-clause-room g c =
+    subst (λ (q : FarState). c.args.config.k + c.args.config.r ≤ room_count q.nodes q.members)
+    (sym c.spare_rows.ensures.unchanged) c.requires.room
+
+pub evict_over-eviction-requires-clause-nodes : goal.evict_over-eviction-requires-clause-nodes
+evict_over-eviction-requires-clause-nodes g c =
+    subst (λ (q : FarState). c.args.nodes ≡ room_count q.nodes q.members)
+    (sym c.spare_rows.ensures.unchanged) c.requires.nodes
+
+pub evict_over-eviction-requires-clause-shards : goal.evict_over-eviction-requires-clause-shards
+evict_over-eviction-requires-clause-shards g c =
+    subst (λ (q : FarState). AreShards q (c.args.config.k + c.args.config.r) c.args.shards.now)
+    (sym c.spare_rows.ensures.unchanged) c.requires.shards
+
+pub evict_over-eviction-requires-clause-rows : goal.evict_over-eviction-requires-clause-rows
+evict_over-eviction-requires-clause-rows g c = (c.in_ok-rows.ensures.count, c.in_ok-rows.ensures.lengths)
 
 pub returns-clause-evict : goal.returns-clause-evict
 returns-clause-evict g c =
-    let taken = subst (Takes (λ es. g.D.Desk.run c.args.desk.now es c.take_spans.new.desk)
-    (λ s. g.D.Desk.shows c.args.desk.now s) c.args.config c.args.far.now c.args.loose.now)
-    c.in-Enough.is c.in_ok-taken.ensures.taken in
-    let x = taken.claims in
-    let stays = g.met.D.Desk.stays _ _ x.events x.ran in
-    if_ok _ _ _ c.evict_claimed.result c.evict_claimed.ensures.set c.evict_claimed.ensures.evict
-    (λ e is y.
-    let far = c.args.far.now in let new = c.evict_claimed.new.far in
-    let id : SetId = record { n = far.counts.sets } in
-    rule_weaker (λ es. g.D.Desk.run c.args.desk.now es c.evict_claimed.new.desk)
-    (λ s. g.D.Desk.shows c.args.desk.now s × Sound s far) (λ t. Sound t new)
-    (RuleAfter c.args.config far new (reply_of e) c.args.loose.now)
-    (CountsAfter c.args.config far new e c.args.loose.now) (EvictEffect far new (reply_of e))
-    (λ es x before found touches.
-    set_counted c.args.config far new id e (before ++ es) is (x before found touches))
-    (claims_then c.args.config far new id (reply_of e) c.args.loose.now
-    c.in-Enough.frames.items c.in-Enough.formers.items
-    (λ es. g.D.Desk.run c.args.desk.now es c.take_spans.new.desk)
-    (λ es. g.D.Desk.run c.take_spans.new.desk es c.evict_claimed.new.desk)
-    (λ es. g.D.Desk.run c.args.desk.now es c.evict_claimed.new.desk)
-    (λ s. g.D.Desk.shows c.args.desk.now s) (λ s. g.D.Desk.shows c.take_spans.new.desk s)
-    x
-    (evicts_as _ _ c.args.config _ c.args.far.now c.evict_claimed.new.far _ _ _ _
-    (c.requires.config.1 ∙ sym stays) c.deref.ensures.value c.deref-in-Enough.ensures.value y)
-    (λ es fs a b. g.met.D.Desk.more _ _ _ _ _ a b)
-    (λ s a. (g.met.D.Desk.follows _ _ x.events s x.ran a).1)
-    c.requires.among taken.count c.requires.room
-    refl (ap reply_of is) c.requires.sound))
+    let P : FarState → FarState → Type 0 = λ old new. IfOk c.evict_over-eviction.result (λ eviction.
+    Performs (λ es. g.D.Desk.run c.args.desk.now es c.evict_over-eviction.new.desk)
+    (λ s. g.D.Desk.shows c.args.desk.now s × Sound s old)
+    (CountsAfter c.args.config old new eviction c.args.loose.now) (λ t. Sound t new)
+    (EvictEffect old new (reply_of eviction))) in
+    subst (λ (old : FarState). P old c.keep_rows.new.far) c.spare_rows.ensures.unchanged
+    (subst (λ (new : FarState). P c.spare_rows.new.far new) (sym c.keep_rows.ensures.unchanged)
+    c.evict_over-eviction.ensures.evict)
 
 pub returns-clause-error : goal.returns-clause-error
 returns-clause-error g c =
-    let taken = subst (Takes (λ es. g.D.Desk.run c.args.desk.now es c.take_spans.new.desk)
-    (λ s. g.D.Desk.shows c.args.desk.now s) c.args.config c.args.far.now c.args.loose.now)
-    c.in-Enough.is c.in_ok-taken.ensures.taken in
-    let x = taken.claims in
-    on_err _ _ c.evict_claimed.result
-    (both_err _ _ c.evict_claimed.result c.evict_claimed.ensures.error c.evict_claimed.ensures.unchanged)
-    (λ (y, same).
-    subst (λ (far : FarState). Performs
-    (λ es. g.D.Desk.run c.args.desk.now es c.evict_claimed.new.desk)
-    (λ s. g.D.Desk.shows c.args.desk.now s × Sound s c.args.far.now) (TouchesSpans c.args.far.now)
-    (λ t. Sound t far) IsStill) (sym same)
-    (claims_fail c.args.config c.args.far.now c.args.loose.now
-    c.in-Enough.frames.items c.in-Enough.formers.items
-    (λ es. g.D.Desk.run c.args.desk.now es c.take_spans.new.desk)
-    (λ es. g.D.Desk.run c.take_spans.new.desk es c.evict_claimed.new.desk)
-    (λ es. g.D.Desk.run c.args.desk.now es c.evict_claimed.new.desk)
-    (λ s. g.D.Desk.shows c.args.desk.now s) (λ s. g.D.Desk.shows c.take_spans.new.desk s) x
-    (leaves_as _ _ c.args.far.now _ _ _ _ c.deref.ensures.value c.deref-in-Enough.ensures.value y)
-    (λ es fs a b. g.met.D.Desk.more _ _ _ _ _ a b)
-    (λ s a. (g.met.D.Desk.follows _ _ x.events s x.ran a).1)
-    c.requires.among))
-
-pub same-far : goal.same-far
-same-far g c = refl
-
-pub same-far-2 : goal.same-far-2
-same-far-2 g c = refl
-
-pub same-rows : goal.same-rows
-same-rows g c = refl
-
-pub take_spans-requires-clause-config : goal.take_spans-requires-clause-config
-take_spans-requires-clause-config g c = c.requires.config
-
-pub take_spans-requires-clause-sound : goal.take_spans-requires-clause-sound
-take_spans-requires-clause-sound g c = c.requires.sound
-
-pub take_spans-requires-clause-among : goal.take_spans-requires-clause-among
-take_spans-requires-clause-among g c = c.requires.among
-
-pub take_spans-requires-clause-apart : goal.take_spans-requires-clause-apart
-take_spans-requires-clause-apart g c = c.requires.apart
-
-pub returns-in_err-taken-clause-unchanged : goal.returns-in_err-taken-clause-unchanged
-returns-in_err-taken-clause-unchanged g c = any_err _ _ refl
-
-pub returns-in-TooFew-clause-error : goal.returns-in-TooFew-clause-error
-returns-in-TooFew-clause-error g c = tt
-
-pub returns-in-TooFew-clause-unchanged : goal.returns-in-TooFew-clause-unchanged
-returns-in-TooFew-clause-unchanged g c = tt
-
-pub returns-in-Err-clause-evict : goal.returns-in-Err-clause-evict
-returns-in-Err-clause-evict g c = tt
-
-pub returns-in-Err-clause-unchanged : goal.returns-in-Err-clause-unchanged
-returns-in-Err-clause-unchanged g c = refl
-
-pub returns-in_err-taken-clause-evict : goal.returns-in_err-taken-clause-evict
-returns-in_err-taken-clause-evict g c = IfOk-from_err _ _ c.from_residual.ensures.0
-
-pub evict_claimed-requires-clause-counts : goal.evict_claimed-requires-clause-counts
-evict_claimed-requires-clause-counts g c = c.requires.counts
+    let P : FarState → FarState → Type 0 = λ old new. OnErr c.evict_over-eviction.result
+    (Performs (λ es. g.D.Desk.run c.args.desk.now es c.evict_over-eviction.new.desk)
+    (λ s. g.D.Desk.shows c.args.desk.now s × Sound s old) (TouchesSpans old) (λ t. Sound t new)
+    IsStill) in
+    subst (λ (old : FarState). P old c.keep_rows.new.far) c.spare_rows.ensures.unchanged
+    (subst (λ (new : FarState). P c.spare_rows.new.far new) (sym c.keep_rows.ensures.unchanged)
+    c.evict_over-eviction.ensures.error)
 
 pub returns-clause-unchanged : goal.returns-clause-unchanged
-returns-clause-unchanged g c = c.evict_claimed.ensures.unchanged
+returns-clause-unchanged g c =
+    let P : FarState → FarState → Type 0 = λ old new. OnErr c.evict_over-eviction.result (new ≡ old) in
+    subst (λ (old : FarState). P old c.keep_rows.new.far) c.spare_rows.ensures.unchanged
+    (subst (λ (new : FarState). P c.spare_rows.new.far new) (sym c.keep_rows.ensures.unchanged)
+    c.evict_over-eviction.ensures.unchanged)

@@ -5,7 +5,7 @@ use Rattle.cb_script.specs.declared.script.Line.{Line}
 use Rattle.cb_script.specs.Form.{IsRequest}
 use Rattle.cb_model.proofs.Laws.{legal_in_order}
 use Rattle.cb_lanes.specs.Asked.{asked}
-use Rattle.cb_lanes.proofs.Along.{Along, along_answered, along_ready, along_none, along_holds, lines_push, line_form, line_built}
+use Rattle.cb_lanes.proofs.Along.{Along, along_answered, along_ready, along_none, along_holds, lines_push, line_form}
 use Rattle.cb_lanes.specs.LinesLeft.{AreLeft, lanes_of}
 use Rattle.cb_lanes.proofs.ScopesKept.{line_known, fresh_by, lines_lanes, lines_own, leads_end, split_line, LeadsOn, soundly_end}
 use Rattle.cb_world.specs.World.{empty_world}
@@ -47,10 +47,6 @@ answer_line-requires-clause-some c =
     let split = ap (lines_of l.lane.n) (split_line lines i l (search rules) (search rules)) in
     let own = lines_own l.lane.n (lanes_of (drop (i + 1) lines)) in
     omega (arith, at, split, own)
-
-pub answer_line-requires-clause-built : goal.answer_line-requires-clause-built
-answer_line-requires-clause-built c = line_built c.args.s.now.lines c.loop-line.line-index
-    c.line-item.result c.requires.built (search rules) (search rules)
 
 pub answer_line-requires-clause-request : goal.answer_line-requires-clause-request
 answer_line-requires-clause-request c =
@@ -97,8 +93,7 @@ loop-line-preserved c =
     let done = c.in_ok-answer_line.ensures.line later left in record {
       along = along_answered config later answers c.answer_line.new.answers l c.loop-line.world
           c.answer_line.new.world c.loop-line.names c.answer_line.new.names along
-          (omega (arith, lt, few, most)) (omega (arith, low))
-          (line_built lines i l c.requires.built lt at) form.0 fresh done;
+          (omega (arith, lt, few, most)) (omega (arith, low)) form.0 fresh done;
       lines = lines_push lines i answers c.answer_line.new.answers l done.reply lt at so_far done.answer;
       losses = c.in_ok-answer_line.ensures.losses c.loop-line.invariant.losses;
       left = c.in_ok-answer_line.ensures.left later left;

@@ -1,8 +1,7 @@
-use Rattle.std.proofs.Common.{◌≡◌, ℕ, ◌<◌, List, [], Option, None, Some, length, refl, sym, ap, ◌∙◌, subst}
+use Rattle.std.proofs.Common.{◌≡◌, ℕ, ◌+◌, ◌<◌, ◌≤◌, List, [], Option, None, Some, length, refl, sym, ap, ◌∙◌, subst, arith}
 use Rattle.cb_frame.specs.FreeFrames.{least_free}
-use Rattle.cb_set.specs.SetState.{dead_position, with_position}
+use Rattle.cb_set.specs.SetState.{SetState, dead_position, with_position}
 use Rattle.cb_set.specs.Lost.{NodesAreMembers}
-use Rattle.cb_world.specs.declared.homes.Home.{Home}
 use Rattle.cb_world.specs.declared.shown.Shown.{Shown}
 use Rattle.cb_world.specs.Fetched.{rows_needed}
 use Rattle.cb_world.specs.Played.{played}
@@ -11,13 +10,13 @@ use Rattle.cb_world.specs.Sound.{Sound}
 use Rattle.cb_world.specs.Stored.{AreThere}
 use Rattle.cb_world.specs.FarState.{FarState}
 use Rattle.cb_swapin.specs.Brings.{Brings}
-use Rattle.cb_swapin.specs.Named.{AreCleared}
 use Rattle.cb_swapin.specs.Fetching.{far_given}
 use Rattle.cb_world.proofs.Laws.{are_members}
 use Rattle.cb_swapin.proofs.Committed.{live_within}
-use Rattle.cb_swapin.proofs.Waits.{Arrives, homes_within, names_apart, waiting}
+use Rattle.cb_swapin.proofs.Waits.{Arrives, free_frame, waiting}
 use Rattle.cb_swapin.proofs.ArrivedFar.{sound_arrived, there_of}
 use Rattle.cb_swapin.proofs.Swapped.{by_frame, has_arrived, is_whole, swapped_in, swapped_to, unavailable, with_arrived}
+use Rattle.cb_swapin.proofs.RowGiven.{any_err}
 use Rattle.cb_swapin.proofs.swapping.swap_in.Goals as goal
 
 pub returns-in-Some-clause-swap : goal.returns-in-Some-clause-swap
@@ -59,48 +58,48 @@ returns-in_default-least-clause-swap g c =
       effect = λ s k. refl;
     }
 
-pub bring_span-requires-clause-apart : goal.bring_span-requires-clause-apart
-bring_span-requires-clause-apart g c =
-    let far = c.args.far.now in let live = c.requires.live in let had = c.requires.sound in
-    let x = c.in_ok-span.ensures.fetched live.0 live.1 in
-    names_apart had.0 far c.args.id.n c.args.position live.0 c.in_ok-span.span.slots
-    had.2.away.sound live.1 x.slots
+pub bring_row-requires-clause-least : goal.bring_row-requires-clause-least
+bring_row-requires-clause-least g c =
+    sym (ap least_free (c.free_set.ensures ∙ ap (λ (q : FarState). q.frames) c.far.view_is))
+    ∙ sym c.least.ensures.least ∙ c.in-Some-least.is
 
-pub bring_span-requires-clause-homes : goal.bring_span-requires-clause-homes
-bring_span-requires-clause-homes g c h named =
-    let far = c.args.far.now in let live = c.requires.live in let had = c.requires.sound in
-    let x = c.in_ok-span.ensures.fetched live.0 live.1 in
-    let now = c.far-2.view_is ∙ c.in_ok-span.ensures.far live.0 live.1 in
-    subst (λ (l : List (Option Home)). h < length l) (sym (ap (λ (q : FarState). q.homes) now))
-    (homes_within had.0 far c.args.id.n c.args.position live.0 c.in_ok-span.span.slots
-    had.2.away.sound live.1 x.slots h named)
-
-pub bring_span-requires-clause-waiting : goal.bring_span-requires-clause-waiting
-bring_span-requires-clause-waiting g c =
-    let far = c.args.far.now in let live = c.requires.live in let set = live.0 in
-    let had = c.requires.sound in let s = had.0 in
-    let sized = g.met.D.Desk.sized _ s had.1 in (
-      s,
-      had.1,
-      waiting s far c.args.id.n c.args.position set c.in-Some-least.frame c.in_ok-span.span
-          c.fetch_span.new.row (record {
-            sound = had.2;
-            there = live.1;
-            live = live.2;
-            whole = is_whole far set (sym (c.in_ok-lost.ensures set live.1) ∙ c.in_default.is);
-            least = sym (ap least_free (c.free_set.ensures
-                ∙ ap (λ (q : FarState). q.frames) c.far.view_is))
-                ∙ sym c.least.ensures.least ∙ c.in-Some-least.is;
-            flags = sized.1 ∙ sym sized.0;
-            fetched = c.in_ok-span.ensures.fetched set live.1;
-          }),
+pub bring_row-requires-clause-live : goal.bring_row-requires-clause-live
+bring_row-requires-clause-live g c =
+    let far = c.args.far.now in let live = c.requires.live in let set = live.0 in (
+      set,
+      live.1,
+      live.2,
+      is_whole far set (sym (c.in_ok-lost.ensures set live.1) ∙ c.in_default.is),
     )
+
+pub bring_row-requires-clause-span : goal.bring_row-requires-clause-span
+bring_row-requires-clause-span g c = λ set there. c.in_ok-span.ensures set there
+
+pub keep_span-requires-clause-frame : goal.keep_span-requires-clause-frame
+keep_span-requires-clause-frame g c =
+    let live = c.requires.live in
+    let least : least_free c.args.far.now.frames ≡ Some c.in-Some-least.frame =
+    sym (ap least_free (c.free_set.ensures ∙ ap (λ (q : FarState). q.frames) c.far.view_is))
+    ∙ sym c.least.ensures.least ∙ c.in-Some-least.is in
+    ap (λ (q : FarState). least_free q.frames) (c.in_ok-bring_row.ensures.row live.0 live.1).state
+    ∙ least
+
+pub keep_span-requires-clause-within : goal.keep_span-requires-clause-within
+keep_span-requires-clause-within g c =
+    let far = c.args.far.now in let live = c.requires.live in let had = c.requires.sound in
+    let f = c.in-Some-least.frame in
+    let least : least_free far.frames ≡ Some f =
+    sym (ap least_free (c.free_set.ensures ∙ ap (λ (q : FarState). q.frames) c.far.view_is))
+    ∙ sym c.least.ensures.least ∙ c.in-Some-least.is in
+    subst (λ (q : FarState). f < length q.spans)
+    (sym (c.in_ok-bring_row.ensures.row live.0 live.1).state)
+    (free_frame had.0 far f had.2.here least).0
 
 pub keep_span-requires-clause-set : goal.keep_span-requires-clause-set
 keep_span-requires-clause-set g c =
     let far = c.args.far.now in let live = c.requires.live in let set = live.0 in
     let had = c.requires.sound in
-    let now = c.far-2.view_is ∙ c.in_ok-span.ensures.far set live.1 in (
+    let now = (c.in_ok-bring_row.ensures.row set live.1).state in (
       set,
       ap (λ (q : FarState). set_in q.sets c.args.id.n) now ∙ live.1,
       live_within set c.args.position live.2,
@@ -110,27 +109,34 @@ keep_span-requires-clause-set g c =
           (are_members far.members set (had.2.away.sound.sets.shaped c.args.id.n set live.1)),
     )
 
+pub returns-in_err-span-clause-far : goal.returns-in_err-span-clause-far
+returns-in_err-span-clause-far g c =
+    let far = c.args.far.now in
+    let e : far.nodes.given ≡ far.nodes.given + 0 = omega arith in
+    any_err ((set : SetState) → set_in far.sets c.args.id.n ≡ Some set → (n : ℕ)
+    × (n ≤ length set.positions) × (far ≡ far_given far n)) _ (λ set there.
+    (0, omega arith, ap (λ (n : ℕ). record far { nodes = record far.nodes { given = n } }) e))
+
 pub returns-clause-swap : goal.returns-clause-swap
 returns-clause-swap g c =
     let far = c.args.far.now in let live = c.requires.live in let set = live.0 in
     let id = c.args.id.n in let p = c.args.position in let f = c.in-Some-least.frame in
-    let span = c.in_ok-span.span in let row = c.fetch_span.new.row in
+    let span = c.in_ok-span.span in
+    let x = c.in_ok-bring_row.ensures.row set live.1 in let row = x.row in
     let n = rows_needed far.members set p in
     let whole = is_whole far set (sym (c.in_ok-lost.ensures set live.1) ∙ c.in_default.is) in
     let least : least_free far.frames ≡ Some f =
     sym (ap least_free (c.free_set.ensures ∙ ap (λ (q : FarState). q.frames) c.far.view_is))
     ∙ sym c.least.ensures.least ∙ c.in-Some-least.is in
-    let fetched = c.in_ok-span.ensures.fetched set live.1 in
-    let now = c.far-2.view_is ∙ c.in_ok-span.ensures.far set live.1 in
-    let homes = c.bring_span.new.homes in
+    let fetched = x.fetched in
+    let homes = c.bring_row.new.far.homes in
     let new = c.keep_span.new.far in
     let rest = with_position set p dead_position in
     let left : new ≡ with_arrived (far_given far n) homes id rest f span =
-    c.keep_span.ensures set (ap (λ (q : FarState). set_in q.sets id) now ∙ live.1)
-    ∙ ap (λ (q : FarState). with_arrived q homes id rest f span) now in
-    let cleared = subst (λ (l : List (Option Home)). AreCleared span.slots l homes)
-    (ap (λ (q : FarState). q.homes) now) c.bring_span.ensures.homes in
-    let b = c.bring_span.ensures.brought in
+    c.keep_span.ensures set (ap (λ (q : FarState). set_in q.sets id) x.state ∙ live.1)
+    ∙ ap (λ (q : FarState). with_arrived q homes id rest f span) x.state in
+    let cleared = x.homes in
+    let b = x.brought in
     let arrives = λ (s : Shown) (a : g.D.Desk.shows c.args.desk.now s) (sound : Sound s far).
     let sized = g.met.D.Desk.sized _ s a in
     let x : Arrives s far id p set f span row = record {
