@@ -1,7 +1,8 @@
 /* What tests/faults loads into the program before the C library: one call of a kind fails, the one that FAULT_AT
- * numbers, from 1. FAULT_KIND is alloc, read or write; reads are those of standard input and writes those of standard
- * output. A read or a write fails with the error FAULT_ERROR, a number. With FAULT_PIECE each read and write moves at
- * the most so many bytes. The file FAULT_MARK is made when the call fails, so that it is known whether it came. */
+ * numbers, from 1, and with FAULT_ON each one behind it too. FAULT_KIND is alloc, read or write; reads are those of
+ * standard input and writes those of standard output. A read or a write fails with the error FAULT_ERROR, a number; where
+ * that is 0 it moves FAULT_BYTES in place of failing, or fewer. With FAULT_PIECE each read and write moves at the most so
+ * many bytes. The file FAULT_MARK is made when the call fails, so that it is known whether it came. */
 #define _GNU_SOURCE
 #include <errno.h>
 #include <fcntl.h>
@@ -22,7 +23,8 @@ static int fails(const char *kind) {
     static unsigned long calls;
     const char *wanted = getenv("FAULT_KIND"), *at = getenv("FAULT_AT"), *mark = getenv("FAULT_MARK");
     if (wanted == NULL || at == NULL || strcmp(wanted, kind) != 0) return 0;
-    if (__atomic_add_fetch(&calls, 1, __ATOMIC_SEQ_CST) != strtoul(at, NULL, 10)) return 0;
+    unsigned long call = __atomic_add_fetch(&calls, 1, __ATOMIC_SEQ_CST), first = strtoul(at, NULL, 10);
+    if (call != first) return call > first && getenv("FAULT_ON") != NULL;
     if (mark != NULL) syscall(SYS_close, syscall(SYS_openat, AT_FDCWD, mark, O_CREAT | O_WRONLY | O_CLOEXEC, 0600));
     return 1;
 }
@@ -33,17 +35,22 @@ static int no_memory(void) {
     return 1;
 }
 
-static int no_transfer(const char *kind) {
-    const char *error = getenv("FAULT_ERROR");
-    if (!fails(kind)) return 0;
-    errno = error == NULL ? EIO : atoi(error);
-    return 1;
+/* What a setting says, a number that is not negative; 0 where it is not there. */
+static size_t setting(const char *name) {
+    const char *text = getenv(name);
+    return text == NULL ? 0 : strtoul(text, NULL, 10);
 }
 
-static size_t piece(size_t size) {
-    const char *most = getenv("FAULT_PIECE");
-    size_t bytes = most == NULL ? 0 : strtoul(most, NULL, 10);
-    return bytes != 0 && bytes < size ? bytes : size;
+/* How many bytes of so many a call of the kind may move. Where it fails, none, and there is an error. */
+static size_t moved(const char *kind, size_t size) {
+    size_t most = setting("FAULT_PIECE");
+    errno = 0;
+    if (fails(kind)) {
+        errno = setting("FAULT_ERROR");
+        most = setting("FAULT_BYTES");
+        return most < size ? most : size;
+    }
+    return most != 0 && most < size ? most : size;
 }
 
 void *malloc(size_t size) { return no_memory() ? NULL : __libc_malloc(size); }
@@ -65,7 +72,8 @@ int posix_memalign(void **block, size_t alignment, size_t size) {
 
 ssize_t read(int file, void *bytes, size_t size) {
     if (file != STDIN_FILENO) return syscall(SYS_read, file, bytes, size);
-    return no_transfer("read") ? -1 : syscall(SYS_read, file, bytes, piece(size));
+    size = moved("read", size);
+    return errno != 0 ? -1 : syscall(SYS_read, file, bytes, size);
 }
 
 ssize_t readv(int file, const struct iovec *parts, int count) {
@@ -75,7 +83,8 @@ ssize_t readv(int file, const struct iovec *parts, int count) {
 
 ssize_t write(int file, const void *bytes, size_t size) {
     if (file != STDOUT_FILENO) return syscall(SYS_write, file, bytes, size);
-    return no_transfer("write") ? -1 : syscall(SYS_write, file, bytes, piece(size));
+    size = moved("write", size);
+    return errno != 0 ? -1 : syscall(SYS_write, file, bytes, size);
 }
 
 ssize_t __write(int file, const void *bytes, size_t size) { return write(file, bytes, size); }

@@ -23,40 +23,40 @@ after : (job : Job) (far new : FarState) → AreCounted far
     → HoldsNoPair new
 after Pair far new c same note = note (counted_holds far 11 c)
 after Compact far new c same note = note (counted_holds far 15 c)
-after (Make bytes) far new c same =
-    plain far new 0 c (λ e. omega (arith, e)) (λ e. omega (arith, e)) same
-after (Read handle) far new c same =
-    plain far new 1 c (λ e. omega (arith, e)) (λ e. omega (arith, e)) same
-after (Write handle at bytes) far new c same =
-    plain far new 2 c (λ e. omega (arith, e)) (λ e. omega (arith, e)) same
-after (Free handle) far new c same =
-    plain far new 3 c (λ e. omega (arith, e)) (λ e. omega (arith, e)) same
-after (Swap handle) far new c same =
-    plain far new 4 c (λ e. omega (arith, e)) (λ e. omega (arith, e)) same
-after (Filter handle) far new c same =
-    plain far new 5 c (λ e. omega (arith, e)) (λ e. omega (arith, e)) same
-after Evict far new c same =
-    plain far new 6 c (λ e. omega (arith, e)) (λ e. omega (arith, e)) same
-after Begin far new c same =
-    plain far new 7 c (λ e. omega (arith, e)) (λ e. omega (arith, e)) same
-after Ship far new c same =
-    plain far new 8 c (λ e. omega (arith, e)) (λ e. omega (arith, e)) same
-after Commit far new c same =
-    plain far new 9 c (λ e. omega (arith, e)) (λ e. omega (arith, e)) same
-after Abort far new c same =
-    plain far new 10 c (λ e. omega (arith, e)) (λ e. omega (arith, e)) same
-after Patch far new c same =
-    plain far new 12 c (λ e. omega (arith, e)) (λ e. omega (arith, e)) same
-after Merge far new c same =
-    plain far new 13 c (λ e. omega (arith, e)) (λ e. omega (arith, e)) same
-after Part far new c same =
-    plain far new 14 c (λ e. omega (arith, e)) (λ e. omega (arith, e)) same
-after Rebuild far new c same =
-    plain far new 16 c (λ e. omega (arith, e)) (λ e. omega (arith, e)) same
-after (Crash node) far new c same =
-    plain far new 17 c (λ e. omega (arith, e)) (λ e. omega (arith, e)) same
-after (Join node) far new c same =
-    plain far new 18 c (λ e. omega (arith, e)) (λ e. omega (arith, e)) same
+after (Make bytes) far new c same note =
+    plain far new 0 c (λ e. omega (arith, e)) (λ e. omega (arith, e)) same note
+after (Read handle) far new c same note =
+    plain far new 1 c (λ e. omega (arith, e)) (λ e. omega (arith, e)) same note
+after (Write handle at bytes) far new c same note =
+    plain far new 2 c (λ e. omega (arith, e)) (λ e. omega (arith, e)) same note
+after (Free handle) far new c same note =
+    plain far new 3 c (λ e. omega (arith, e)) (λ e. omega (arith, e)) same note
+after (Swap handle) far new c same note =
+    plain far new 4 c (λ e. omega (arith, e)) (λ e. omega (arith, e)) same note
+after (Filter handle) far new c same note =
+    plain far new 5 c (λ e. omega (arith, e)) (λ e. omega (arith, e)) same note
+after Evict far new c same note =
+    plain far new 6 c (λ e. omega (arith, e)) (λ e. omega (arith, e)) same note
+after Begin far new c same note =
+    plain far new 7 c (λ e. omega (arith, e)) (λ e. omega (arith, e)) same note
+after Ship far new c same note =
+    plain far new 8 c (λ e. omega (arith, e)) (λ e. omega (arith, e)) same note
+after Commit far new c same note =
+    plain far new 9 c (λ e. omega (arith, e)) (λ e. omega (arith, e)) same note
+after Abort far new c same note =
+    plain far new 10 c (λ e. omega (arith, e)) (λ e. omega (arith, e)) same note
+after Patch far new c same note =
+    plain far new 12 c (λ e. omega (arith, e)) (λ e. omega (arith, e)) same note
+after Merge far new c same note =
+    plain far new 13 c (λ e. omega (arith, e)) (λ e. omega (arith, e)) same note
+after Part far new c same note =
+    plain far new 14 c (λ e. omega (arith, e)) (λ e. omega (arith, e)) same note
+after Rebuild far new c same note =
+    plain far new 16 c (λ e. omega (arith, e)) (λ e. omega (arith, e)) same note
+after (Crash node) far new c same note =
+    plain far new 17 c (λ e. omega (arith, e)) (λ e. omega (arith, e)) same note
+after (Join node) far new c same note =
+    plain far new 18 c (λ e. omega (arith, e)) (λ e. omega (arith, e)) same note
 
 pub noted_after : (job : Job) (n : ℕ) (far new : FarState) → AreCounted far
     → RisesBy (note_of job) n (counted far job) new → HoldsNoPair new

@@ -121,14 +121,14 @@ module _ (c : Config) (accepted : IsAccepted c) where
     configured = recounted c far then_.counts w.configured;
     counted = counted_rises {N = KeepsNote} far then_ then_ (job_index Evict) w.counted (lit< tt)
         (lit< tt) refl (record {
-      turns = refl;
-      by_job = refl;
-      sets = omega arith;
-      keys = omega arith;
-      epoch = omega arith;
-      given = omega arith;
-      note = λ n e. e;
-    }) (counted_holds far (job_index Evict) w.counted);
+          turns = refl;
+          by_job = refl;
+          sets = omega arith;
+          keys = omega arith;
+          epoch = omega arith;
+          given = omega arith;
+          note = λ n e. e;
+        }) (counted_holds far (job_index Evict) w.counted);
     next = one_turn;
     after = λ s shown sound. record {
       sound = counted_sound s far then_ Evict refl sound;

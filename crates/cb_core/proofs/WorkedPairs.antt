@@ -188,12 +188,16 @@ merges_nothing =
     (refl, inl (record { none = refl; reply = refl; state = refl }), same_holds start)
 
 compacts_nothing : StillWorks Compact (holds start) answer.NoPair (holds noted)
-compacts_nothing = (refl, inr (inl (record {
-  none = refl;
-  no_two = λ i j c d less can. no_set i c can.a_there;
-  reply = refl;
-  state = refl;
-})), hold_noted)
+compacts_nothing = (
+  refl,
+  inr (inl (record {
+    none = refl;
+    no_two = λ i j c d less can. no_set i c can.a_there;
+    reply = refl;
+    state = refl;
+  })),
+  hold_noted,
+)
 
 -- a turn, which is of kind 14
 abbrev idle : List SeatState

@@ -5,8 +5,8 @@ use cb_gf256::Rows;
 use cb_types::Positions;
 use std::marker::Model;
 
-/// The parities of a span-set that are still to be patched, where other rows take the places of some
-/// of its data rows.
+/// The parities of a span-set that are still to be patched, where other rows take the places of
+/// some of its data rows.
 #[derive(Drop)]
 pub struct DeltaOrder {
     /// The number of the set.

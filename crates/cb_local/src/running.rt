@@ -53,9 +53,9 @@ fn patched(alloc: Global, order: &DeltaOrder) -> Result<Rows, NoMemory>
     Ok(parities)
 }
 
-/// Runs an order: its parities are patched by the deltas of all taken positions, each the sum of the
-/// old and the new row there. Where the order's rows are those of two sets, the patched parities are
-/// those of the merged set. Where there is no memory, the order is handed back.
+/// Runs an order: its parities are patched by the deltas of all taken positions, each the sum of
+/// the old and the new row there. Where the order's rows are those of two sets, the patched
+/// parities are those of the merged set. Where there is no memory, the order is handed back.
 pub fn run_delta(alloc: Global, order: DeltaOrder) -> Result<DeltaDone, DeltaOrder>
     requires { IsOrder order }
     ensures order { IfOk result (λ done. done.order ≡ order) }
