@@ -1,0 +1,5 @@
+pub mod Adding
+pub mod Patching
+pub mod WorkedOrder
+pub mod Merged
+pub mod WorkedWords
