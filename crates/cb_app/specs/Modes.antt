@@ -1,5 +1,5 @@
--- What each command does with the bytes that were taken, a row for each command. The two endings are
--- the one before and the one that is left.
+-- What each command does with the bytes that were taken, a row for each command. The two endings
+-- are the one before and the one that is left.
 use Rattle.std.specs.Prelude.{◌≡◌, ℕ, List}
 use Rattle.cb_script.specs.declared.script.Script.{Script}
 use Rattle.cb_script.specs.declared.script.Mode.TheVariants as scripts
@@ -34,8 +34,8 @@ Refuses Check bytes text = TellsFault (First bytes scripts.Seq) text
 Refuses Rma bytes text = schedules.Refuses bytes text
 Refuses Scrub bytes text = scrubs.Refuses bytes text
 
--- the bytes have the form that the command wants: `seq` and `check` want a script, `rma` a schedule, and
--- `scrub` rows
+-- the bytes have the form that the command wants: `seq` and `check` want a script, `rma` a
+-- schedule, and `scrub` rows
 abbrev pub Accepts : Command → List ℕ → Type 0
 Accepts Seq bytes = (script : Script) × Spells bytes scripts.Seq script
 Accepts Check bytes = (script : Script) × Spells bytes scripts.Seq script

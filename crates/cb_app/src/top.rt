@@ -31,9 +31,9 @@ pub fn carbink_run<R: Threads + Wait + Sync, S: Source, K: Sink>(
 ) -> u8
     ensures statuses { result ≤ 5 }
 
-    // 0: the words name a command, and what is put is what it yields for the bytes taken. Of a script
-    // `seq` puts the answers that the plain map gives, and `check` how many lines and lanes it has; of
-    // a schedule `rma` puts what is said to each event.
+    // 0: the words name a command, and what is put is what it yields for the bytes taken. Of a
+    // script `seq` puts the answers that the plain map gives, and `check` how many lines and lanes
+    // it has; of a schedule `rma` puts what is said to each event.
     ensures done { result ≡ 0
         → TellsScript words.now (S.left src.old) (S.left src.new)
         (K.held out.old) (K.held out.new) end.old end.new }
@@ -45,8 +45,8 @@ pub fn carbink_run<R: Threads + Wait + Sync, S: Source, K: Sink>(
     ensures words_end { result ≡ 1 → (src.new ≡ src.old) × (end.new ≡ end.old) }
     ensures refuses { NameNone words.now → (result ≡ 1) ⊎ (4 ≤ result) }
 
-    // 2: the command refuses the bytes taken: they spell no script or, with `rma`, no schedule; what is
-    // put tells where and why.
+    // 2: the command refuses the bytes taken: they spell no script or, with `rma`, no schedule;
+    // what is put tells where and why.
     ensures script_refused { result ≡ 2
         → RefusesScript words.now (S.left src.old) (S.left src.new)
         (K.held out.old) (K.held out.new) }
@@ -70,8 +70,8 @@ pub fn carbink_run<R: Threads + Wait + Sync, S: Source, K: Sink>(
     // At each status so many bytes are taken at the most.
     ensures most { (bytes : List ℕ) × Consumes (S.left src.old) (S.left src.new) bytes
         × (length bytes ≤ 1048577) }
-    // Of the bytes taken, what the command accepts is done with, and what it refuses is refused, where
-    // neither reading nor writing fails and there is memory.
+    // Of the bytes taken, what the command accepts is done with, and what it refuses is refused,
+    // where neither reading nor writing fails and there is memory.
     ensures complete { (command : Command) → Name words.now command
         → (bytes : List ℕ) → S.left src.old ≡ Some bytes → Accepts command (taken_of bytes)
         → (result ≡ 0) ⊎ (3 ≤ result) }

@@ -100,7 +100,8 @@ fn is_noted(far: &Far) -> bool
     }
 }
 
-/// The first two sets that can be joined. Where it is noted that there are none, nothing is looked at.
+/// The first two sets that can be joined. Where it is noted that there are none, nothing is looked
+/// at.
 fn look(far: &Far) -> Result<Option<Match>, NoMemory>
     requires sound { (s : Shown) × AwaySound s far.now }
     requires note { HoldsNoPair far.now }
@@ -170,10 +171,10 @@ pub(crate) fn reply_of(begun: Begun) -> Reply
 /// parities have.
 ///
 /// Answers Joining where a pair is joining already, whether its sets have changed or not; NoPair
-/// where no two sets can be joined, and notes that; and else Pair. Where it is noted and no turn but
-/// those that look has come since, nothing is looked at. Else looks at each set once, and then at one
-/// of each code and live positions. No row is given out. Where there is no memory, nothing has
-/// changed.
+/// where no two sets can be joined, and notes that; and else Pair. Where it is noted and no turn
+/// but those that look has come since, nothing is looked at. Else looks at each set once, and then
+/// at one of each code and live positions. No row is given out. Where there is no memory, nothing
+/// has changed.
 pub fn compact_begin<D: Desk>(desk: &mut D, far: &mut Far) -> Result<Reply, NoMemory>
     requires sound { (s : Shown) × D.shows desk.old s × Sound s far.old }
     requires note { HoldsNoPair far.old }

@@ -177,8 +177,8 @@ fn firsts(far: &Far) -> Result<Vec<Candidate>, NoMemory>
 
 /// The first two sets that can be joined: the least a that can be with one above it, and then the
 /// least b. Looks at each set once, and then at the groups of one code and live positions. Where
-/// comparing each of these with each would cost more than a table for it, one look at the table says
-/// of each whether any other matches it.
+/// comparing each of these with each would cost more than a table for it, one look at the table
+/// says of each whether any other matches it.
 pub(crate) fn find_pair(far: &Far) -> Result<Option<Match>, NoMemory>
     requires sound { (s : Shown) × AwaySound s far.now }
     ensures found { IfOk result (λ found. IfSome found (λ m. (a : SetState) × (b : SetState)

@@ -14,7 +14,8 @@ use Rattle.cb_core.specs.declared.event.Atomic.TheVariants.{Pin}
 use Rattle.cb_core.specs.declared.event.Event.{Event}
 use Rattle.cb_core.specs.declared.event.Event.TheVariants as event
 
--- the handle that a call on h is about, where so many objects were made: none, where h was not yet made
+-- the handle that a call on h is about, where so many objects were made: none, where h was not yet
+-- made
 abbrev pub handle_on : ℕ → ℕ → Option ℕ
 handle_on made h = if nat_lt h made then Some h else None
 
@@ -23,8 +24,8 @@ abbrev pub handle_given : Reply → Option ℕ
 handle_given (answer.Made handle version) = Some handle.n
 handle_given reply = None
 
--- the reply says nothing of any object: a number that has to rise stands at its end, or the seat has as
--- many pins as it may have
+-- the reply says nothing of any object: a number that has to rise stands at its end, or the seat
+-- has as many pins as it may have
 abbrev pub says_nothing : Reply → Bool
 says_nothing answer.Worn = true
 says_nothing answer.ScopeFull = true
@@ -36,8 +37,8 @@ call_of seat handle request reply = if says_nothing reply then []
     else record { lane = seat; handle = handle; event = event_of request reply } ∷ []
 
 -- An answered event, behind the calls before it: a make, a turn on an object and a pin are calls of
--- their seat, with no name. Every other event is none. (A pin of an object that is far, or that has as
--- many pins as its word counts, is a call that was refused.)
+-- their seat, with no name. Every other event is none. (A pin of an object that is far, or that has
+-- as many pins as its word counts, is a call that was refused.)
 abbrev pub called_as : List Called → Event → Reply → List Called
 called_as before (event.Turn seat (job.Make bytes)) r =
     call_of seat (handle_given r) (line.Make [] bytes) r

@@ -27,8 +27,8 @@ abbrev pub IsRefused : ℕ → ℕ → ℕ → ℕ → Reply → Type 0
 IsRefused word version at count r =
     (r ≡ claim_reply (write_reply word version at count)) × (r ≡ answer.Claimed → ⊥)
 
--- an object that can be claimed for a write of so many bytes: it is here without pins, the bytes are
--- within it, and its version has a next one
+-- an object that can be claimed for a write of so many bytes: it is here without pins, the bytes
+-- are within it, and its version has a next one
 pub record MayClaim (desk : Words) (h at count : ℕ) : Type 0 where
   pub free : IsFree (word_at desk h)
   pub inside : at + count ≤ len_of (word_at desk h)

@@ -3,8 +3,8 @@ use Rattle.std.specs.Prelude.{ℕ, ◌+◌, ◌-◌, ◌^◌, ◌==◌, nat_lt, 
 use Rattle.cb_types.specs.declared.reply.Reply.{Reply}
 use Rattle.cb_types.specs.declared.reply.Reply.TheVariants as answer
 
--- a write of so many bytes from the byte number `at` on to a far object of this length and version: one
--- past its end, then one of an object with no next version
+-- a write of so many bytes from the byte number `at` on to a far object of this length and version:
+-- one past its end, then one of an object with no next version
 abbrev pub far_refusal : ℕ → ℕ → ℕ → ℕ → Option Reply
 far_refusal len version at count =
     if nat_lt len (at + count) then Some (answer.Range len)

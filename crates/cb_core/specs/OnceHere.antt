@@ -8,8 +8,8 @@ use Rattle.cb_core.specs.Parts.{Holding}
 abbrev pub IsThere : Reply → Type 0
 IsThere place = (place ≡ answer.Stays) ⊎ ((f : ℕ) × (place ≡ answer.Swapped f))
 
--- The object is brought in where it is far. Where it is here then the call is made; where it is not, the
--- answer is why.
+-- The object is brought in where it is far. Where it is here then the call is made; where it is
+-- not, the answer is why.
 pub data OnceHere {D : Type 0} (bringing call : Holding D → Reply → Holding D → Type 0)
     (a : Holding D) (r : Reply) (b : Holding D) : Type 0 where
   away : bringing a r b → (IsThere r → ⊥) → OnceHere bringing call a r b

@@ -14,8 +14,8 @@ pub record Holding (D : Type 0) : Type 0 where
   pub far : FarState
 
 -- An operation for which room is won: where it finds no frame, an eviction makes some and the
--- operation is done once more; where the eviction is refused too, there is no room, with the frames that
--- there are and what was found lacking: so many loose spans, and so many nodes with room.
+-- operation is done once more; where the eviction is refused too, there is no room, with the frames
+-- that there are and what was found lacking: so many loose spans, and so many nodes with room.
 pub data WithRoom {D : Type 0} (frames : ℕ) (operation : Holding D → Reply → Holding D → Type 0)
     (eviction : Holding D → Eviction → Holding D → Type 0) (a : Holding D) (r : Reply)
     (b : Holding D) : Type 0 where
@@ -26,9 +26,9 @@ pub data WithRoom {D : Type 0} (frames : ℕ) (operation : Holding D → Reply �
   won : (m n : Holding D) (id : SetId) → operation a answer.NoFrame m → eviction m (Set id) n
       → operation n r b → (r ≡ answer.NoFrame → ⊥) → WithRoom frames operation eviction a r b
 
--- A call on an object wherever it is. One that is far is first looked at, which may decline the call;
--- then it is brought in, and the call is made once more. Where it can't be brought in the call is
--- answered as its bringing in was.
+-- A call on an object wherever it is. One that is far is first looked at, which may decline the
+-- call; then it is brought in, and the call is made once more. Where it can't be brought in the
+-- call is answered as its bringing in was.
 pub data WhereItIs {D : Type 0} (call : Holding D → Reply → Holding D → Type 0)
     (look : Holding D → Option Reply → Holding D → Type 0)
     (bringing : Holding D → Reply → Holding D → Type 0) (a : Holding D) (r : Reply) (b : Holding D)
@@ -51,8 +51,8 @@ pub data BringsIn {D : Type 0} (call bringing : Holding D → Reply → Holding 
   not_far : call a r b → (r ≡ answer.NotHere → ⊥) → BringsIn call bringing a r b
   was_far : (m : Holding D) → call a answer.NotHere m → bringing m r b → BringsIn call bringing a r b
 
--- An operation for which room is won, and which found no memory at the one part or at the other. The
--- eviction stays, where there was one.
+-- An operation for which room is won, and which found no memory at the one part or at the other.
+-- The eviction stays, where there was one.
 pub data RoomStops {D : Type 0} (operation : Holding D → Reply → Holding D → Type 0)
     (lacks : Holding D → Holding D → Type 0) (eviction : Holding D → Eviction → Holding D → Type 0)
     (eviction_lacks : Holding D → Holding D → Type 0) (a b : Holding D) : Type 0 where
@@ -63,8 +63,8 @@ pub data RoomStops {D : Type 0} (operation : Holding D → Reply → Holding D �
       → eviction m (Set id) n → lacks n b
       → RoomStops operation lacks eviction eviction_lacks a b
 
--- A call on an object wherever it is that found no memory: itself, where the object is brought in, or
--- once it is here. What was done before stays.
+-- A call on an object wherever it is that found no memory: itself, where the object is brought in,
+-- or once it is here. What was done before stays.
 pub data CallStops {D : Type 0} (call : Holding D → Reply → Holding D → Type 0)
     (lacks : Holding D → Holding D → Type 0)
     (look : Holding D → Option Reply → Holding D → Type 0)

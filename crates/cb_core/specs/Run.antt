@@ -5,7 +5,8 @@ use Rattle.cb_world.specs.World.{WorldState, IsSoundWorld}
 use Rattle.cb_core.specs.declared.event.Event.{Event}
 use Rattle.cb_core.specs.Step.{Step, Leads, Stops}
 
--- The world leads by these events, with these replies, to another, and after each of them it is sound.
+-- The world leads by these events, with these replies, to another, and after each of them it is
+-- sound.
 abbrev pub LeadsSoundly : WorldState → List Event → List Reply → WorldState → Type 0
 LeadsSoundly w [] [] new = new ≡ w
 LeadsSoundly w (e ∷ es) (r ∷ rs) new = (between : WorldState) × Step w e r between

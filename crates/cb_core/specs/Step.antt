@@ -65,8 +65,8 @@ StillDecline h at count a declined b = (declined
     ≡ write_refusal (is_gone a.far h) (len_of (word_at a.desk h)) (stamp_at a.desk h) at count)
     × (b ≡ a)
 
--- What every object holds stays: who knows all of the words and the far state before knows all after,
--- and it is the same; and the open writes of seats stay open.
+-- What every object holds stays: who knows all of the words and the far state before knows all
+-- after, and it is the same; and the open writes of seats stay open.
 abbrev pub HoldOn : Holding Words → Holding Words → Type 0
 HoldOn a b = (s : Shown) → IsKnown a.desk a.far s
     → (t : Shown) × IsKnown b.desk b.far t × ((h : ℕ) → now t b.far h ≡ now s a.far h)

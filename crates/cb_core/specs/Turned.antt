@@ -157,8 +157,8 @@ abbrev pub ComesIn : {D : Type 0} → (D → List Event → D → Type 0) → (D
     → Holding D → Reply → Holding D → Type 0
 ComesIn run shows c h = BringsIn (Finds run shows h) (Brings run shows c h)
 
--- What a job does once the turn is counted, part by part. An object that is to be read is first brought
--- in; `reads` says how it is read then.
+-- What a job does once the turn is counted, part by part. An object that is to be read is first
+-- brought in; `reads` says how it is read then.
 abbrev pub Does : {D : Type 0} → (D → List Event → D → Type 0) → (D → Shown → Type 0)
     → (ℕ → Holding D → Reply → Holding D → Type 0) → Config → Job
     → Holding D → Reply → Holding D → Type 0

@@ -16,9 +16,10 @@ use cb_swapin::swap_in;
 use cb_types::{Config, Handle, NoMemory, Reply, SetId};
 use cb_world::{Desk, Far};
 
-/// Makes an object of these bytes, 1 to 1,024. Where there is no frame for it, an eviction makes room,
-/// and it is made then. Where the eviction is refused there is no room: NoRoom tells how many frames there
-/// are, and how many spans are loose and how many nodes have room, as the eviction found them.
+/// Makes an object of these bytes, 1 to 1,024. Where there is no frame for it, an eviction makes
+/// room, and it is made then. Where the eviction is refused there is no room: NoRoom tells how many
+/// frames there are, and how many spans are loose and how many nodes have room, as the eviction
+/// found them.
 pub(crate) fn make_with_room<D: Desk>(
     desk: &mut D,
     far: &mut Far,
@@ -52,9 +53,9 @@ pub(crate) fn make_with_room<D: Desk>(
     }
 }
 
-/// Brings a far object in, with the span in which it left. Where no frame is free, an eviction makes
-/// room, and the span is swapped in then; NoRoom is answered only where the eviction is refused.
-/// Answers Unavailable where its set has lost more shards than it has parities.
+/// Brings a far object in, with the span in which it left. Where no frame is free, an eviction
+/// makes room, and the span is swapped in then; NoRoom is answered only where the eviction is
+/// refused. Answers Unavailable where its set has lost more shards than it has parities.
 fn bring<D: Desk>(desk: &mut D, far: &mut Far, h: Handle) -> Result<Reply, NoMemory>
     requires handle { h.n < (D.settings desk.old).handles }
     requires config { IsAccepted (D.settings desk.old) }
@@ -85,9 +86,9 @@ fn bring<D: Desk>(desk: &mut D, far: &mut Far, h: Handle) -> Result<Reply, NoMem
     }
 }
 
-/// Writes over a part of an object wherever it is: a far one is brought in first, but where the write
-/// would be declined by the object's length or version, which are looked at. Where it can't be brought
-/// in the answer is why.
+/// Writes over a part of an object wherever it is: a far one is brought in first, but where the
+/// write would be declined by the object's length or version, which are looked at. Where it can't
+/// be brought in the answer is why.
 pub(crate) fn write_anywhere<D: Desk>(
     desk: &mut D,
     far: &mut Far,

@@ -18,8 +18,8 @@ use std::alloc::Global;
 /// object is Moving, until the write is settled. Takes the memory of the object's words and of the
 /// bytes; where there is none, nothing is changed.
 ///
-/// Refuses as a write would: with Unmade, Freed, NotHere or Moving where the object is not here, then
-/// with Range, Pinned and Worn.
+/// Refuses as a write would: with Unmade, Freed, NotHere or Moving where the object is not here,
+/// then with Range, Pinned and Worn.
 pub(crate) fn claim(
     alloc: Global,
     world: &mut World,
@@ -44,8 +44,8 @@ pub(crate) fn claim(
     Ok(Reply::Claimed)
 }
 
-/// Why an object can't be claimed for a write of these bytes from the byte number `at` on, None where
-/// it can.
+/// Why an object can't be claimed for a write of these bytes from the byte number `at` on, None
+/// where it can.
 fn claim_refusal(desk: &PlainDesk, h: Handle, at: u32, bytes: &[u8]) -> Option<Reply>
     requires { h.n < desk.now.settings.handles }
     ensures refused { IfSome result (λ r.
@@ -94,10 +94,10 @@ fn open_write(
     })
 }
 
-/// Stores the next word of a seat's open write on an object: the memory words that the write touches,
-/// in ascending order, and the version word last. Tells how many are left. Takes no memory. Refuses
-/// with NotClaimed where the seat has no open write on the object; where nothing is left nothing is
-/// changed.
+/// Stores the next word of a seat's open write on an object: the memory words that the write
+/// touches, in ascending order, and the version word last. Tells how many are left. Takes no
+/// memory. Refuses with NotClaimed where the seat has no open write on the object; where nothing is
+/// left nothing is changed.
 pub(crate) fn store(world: &mut World, seat: u32, h: Handle) -> Reply
     requires sound { IsSoundWorld world.old }
     requires seat { seat < 64 }
@@ -164,9 +164,9 @@ fn store_version(desk: &mut PlainDesk, h: Handle, write: &OpenWrite)
     desk.stamp(h, write.version + 1);
 }
 
-/// Settles a seat's open write on an object whose words are all stored: the object is here again, and
-/// hot. Tells its version. Takes no memory. Refuses with NotClaimed where the seat has no open write
-/// on the object, and with NotStored, and how many words are left, where some are.
+/// Settles a seat's open write on an object whose words are all stored: the object is here again,
+/// and hot. Tells its version. Takes no memory. Refuses with NotClaimed where the seat has no open
+/// write on the object, and with NotStored, and how many words are left, where some are.
 pub(crate) fn settle(world: &mut World, seat: u32, h: Handle) -> Reply
     requires sound { IsSoundWorld world.old }
     requires seat { seat < 64 }

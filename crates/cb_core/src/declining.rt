@@ -12,8 +12,8 @@ use cb_ptr::{State, unpack};
 use cb_types::{Handle, Reply};
 use cb_world::{Desk, Far};
 
-/// Where an object is: Stays where it is here, NotHere where it is far, Moving, Freed or Unmade. It is
-/// looked at, and nothing else.
+/// Where an object is: Stays where it is here, NotHere where it is far, Moving, Freed or Unmade. It
+/// is looked at, and nothing else.
 pub(crate) fn find<D: Desk>(desk: &mut D, far: &Far, h: Handle) -> Reply
     requires handle { h.n < (D.settings desk.old).handles }
     requires sound { (s : Shown) × D.shows desk.old s × Sound s far.now }
@@ -33,8 +33,8 @@ pub(crate) fn find<D: Desk>(desk: &mut D, far: &Far, h: Handle) -> Reply
 }
 
 /// Why a write of these bytes from the byte number `at` on to a far object is declined before the
-/// object is brought in: Range past its end, then Worn where its version has no next one. Where its set
-/// has lost more shards than it has parities nothing is looked at.
+/// object is brought in: Range past its end, then Worn where its version has no next one. Where its
+/// set has lost more shards than it has parities nothing is looked at.
 pub(crate) fn decline<D: Desk>(
     desk: &mut D,
     far: &Far,

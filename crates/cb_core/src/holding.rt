@@ -5,8 +5,8 @@ ghost use Rattle.cb_core.specs.Holding.{GiveStep, TakeStep};
 use cb_types::Reply;
 use cb_world::World;
 
-/// Gives the far lock to a seat. Takes no memory. Refuses with Held, and the seat that holds it, where
-/// one does.
+/// Gives the far lock to a seat. Takes no memory. Refuses with Held, and the seat that holds it,
+/// where one does.
 pub(crate) fn take(world: &mut World, seat: u32) -> Reply
     requires sound { IsSoundWorld world.old }
     requires seat { seat < 64 }
@@ -19,8 +19,8 @@ pub(crate) fn take(world: &mut World, seat: u32) -> Reply
     Reply::Done
 }
 
-/// Takes the far lock back from a seat. Takes no memory. Refuses with NotHeld where the seat does not
-/// hold it.
+/// Takes the far lock back from a seat. Takes no memory. Refuses with NotHeld where the seat does
+/// not hold it.
 pub(crate) fn give(world: &mut World, seat: u32) -> Reply
     requires sound { IsSoundWorld world.old }
     requires seat { seat < 64 }

@@ -8,8 +8,8 @@ use cb_member::MemberAnswer;
 use cb_types::{NoMemory, NodeId, Reply};
 use cb_world::{Far, Survey};
 
-/// What is known of how the sets stand behind a crash of the node: where it held no row, no set had a
-/// shard there, and each stands as it did. Else nothing more is known.
+/// What is known of how the sets stand behind a crash of the node: where it held no row, no set had
+/// a shard there, and each stands as it did. Else nothing more is known.
 fn survey_after_crash(far: &Far, node: NodeId) -> Survey
     requires node { node.n < length far.now.nodes.nodes }
     ensures { result ≡ survey_after_crash far.now.survey (held far.now.nodes node) }

@@ -16,13 +16,15 @@ use cb_types::{Handle, Job, NoMemory, Reply};
 use cb_world::{Desk, Far};
 use std::alloc::Global;
 
-/// The first of the two calls of a read: a turn of the job Read is counted, and the object is brought in
-/// where it is far. A turn with the job Read is this call, and then the desk's read where the object is
-/// here; who reads under a pin of its own makes this call and then that read. It writes no version.
+/// The first of the two calls of a read: a turn of the job Read is counted, and the object is
+/// brought in where it is far. A turn with the job Read is this call, and then the desk's read
+/// where the object is here; who reads under a pin of its own makes this call and then that read.
+/// It writes no version.
 ///
-/// Answers Stays where the object is here, and Swapped where it was brought in; else what a read of it
-/// is to answer, as `turn` does. Where there is no memory, the turn is counted and what was done before
-/// stays. Where 2^40 turns were counted it answers Worn, and neither counts nor does anything.
+/// Answers Stays where the object is here, and Swapped where it was brought in; else what a read of
+/// it is to answer, as `turn` does. Where there is no memory, the turn is counted and what was done
+/// before stays. Where 2^40 turns were counted it answers Worn, and neither counts nor does
+/// anything.
 pub fn bring_to_read<D: Desk>(desk: &mut D, far: &mut Far, h: Handle) -> Result<Reply, NoMemory>
     requires config { IsAccepted (D.settings desk.old) }
     requires configured { IsConfigured (D.settings desk.old) far.old }

@@ -16,16 +16,15 @@ use cb_types::NoMemory;
 use cb_world::World;
 use std::alloc::Global;
 
-/// Events one after another, but for those of open writes, with the reply to each. The world is sound
-/// after each of them. Where
-/// there is no memory, some first events took place, and the next one stopped, or its reply or none
-/// was done.
+/// Events one after another, but for those of open writes, with the reply to each. The world is
+/// sound after each of them. Where there is no memory, some first events took place, and the next
+/// one stopped, or its reply or none was done.
 ///
 /// The completed calls among the events are legal in their order: makes, turns on objects and pins,
 /// but for those that are answered Worn or ScopeFull, which say nothing of any object. Wherever the
 /// plain map stands beside the world, each call is answered as the map answers it after the calls
-/// before it, and the map goes on standing beside the world. From the empty world the calls are legal
-/// by themselves: each object has a history, each answer is true of it, and no version falls.
+/// before it, and the map goes on standing beside the world. From the empty world the calls are
+/// legal by themselves: each object has a history, each answer is true of it, and no version falls.
 ///
 /// Each event leaves an object that has a pin before and after at its place, with its length, its
 /// version and its bytes. So whatever happens between a pin and its end, the object is unmoved.

@@ -13,9 +13,9 @@ use cb_world::World;
 use std::alloc::Global;
 
 /// One event: a seat takes an atomic step, or makes a turn. The world stays sound. Where there is
-/// no memory, a claim changed nothing, and a turn is counted, and what its parts did before stays: a span may have left or
-/// come in. Between events a batch may be leaving, whose objects are Moving until it is committed or
-/// given up.
+/// no memory, a claim changed nothing, and a turn is counted, and what its parts did before stays:
+/// a span may have left or come in. Between events a batch may be leaving, whose objects are Moving
+/// until it is committed or given up.
 pub fn step(alloc: Global, world: &mut World, event: &Event) -> Result<Reply, NoMemory>
     requires sound { IsSoundWorld world.old }
     requires event { IsEvent world.old.desk.settings event.now }
@@ -29,8 +29,8 @@ pub fn step(alloc: Global, world: &mut World, event: &Event) -> Result<Reply, No
     }
 }
 
-/// An atomic step of a seat. A claim takes memory, and where there is none nothing is changed; no other
-/// step takes any.
+/// An atomic step of a seat. A claim takes memory, and where there is none nothing is changed; no
+/// other step takes any.
 fn atomic_step(
     alloc: Global,
     world: &mut World,

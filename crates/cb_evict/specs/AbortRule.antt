@@ -24,8 +24,8 @@ pub record HasNoBatch (far new : FarState) (r : Reply) : Type 0 where
   pub reply : r ≡ answer.NoBatch
   pub state : new ≡ far
 
--- the batch is given up: no batch is leaving, the rows that were put are dropped, and its set is not
--- kept. Nothing else of the far state changed.
+-- the batch is given up: no batch is leaving, the rows that were put are dropped, and its set is
+-- not kept. Nothing else of the far state changed.
 pub record HasGivenUp (far new : FarState) (r : Reply) : Type 0 where
   pub batch : LeavingState
   pub there : far.leaving ≡ Some batch
@@ -37,8 +37,9 @@ pub record AbortRule (far new : FarState) (r : Reply) (es : List Event) : Type 0
   pub answered : HasNoBatch far new r ⊎ HasGivenUp far new r
   pub touches : TouchesOnly (IsOfBatch far) (λ p. ⊥) es
 
--- The objects of the batch are here again as they were before the begin, every other object and every
--- word is as it was, and no version is written. So the last complete contents of every object stay.
+-- The objects of the batch are here again as they were before the begin, every other object and
+-- every word is as it was, and no version is written. So the last complete contents of every object
+-- stay.
 pub record IsAborted (far new : FarState) (batch : LeavingState) (es : List Event) (s t : Shown)
     : Type 0 where
   pub back : AreRestored s t batch.words

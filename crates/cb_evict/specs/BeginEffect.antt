@@ -20,7 +20,8 @@ use Rattle.cb_evict.specs.Looking.{IsIn}
 abbrev pub IsLeavingNow : FarState → ℕ → Type 0
 IsLeavingNow far h = IsIn far.spans (leaving_frames far.leaving) h
 
--- the object was here and is claimed at its place, with the version and the words that its claim told
+-- the object was here and is claimed at its place, with the version and the words that its claim
+-- told
 pub record IsClaimedNow (es : List Event) (s t : Shown) (h : ℕ) : Type 0 where
   pub word : ℕ
   pub version : ℕ

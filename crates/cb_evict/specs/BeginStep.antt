@@ -34,9 +34,9 @@ pub record AreHeld (x y : Words) (far : FarState) (frames : List ℕ) : Type 0 w
   pub versions : y.versions ≡ x.versions
   pub memory : y.memory ≡ x.memory
 
--- The spans in these frames are leaving from here: the words of their objects are noted, each once, in
--- order of frame and slot, and the parities are those of the memory of the frames. Nothing else of the far state changed, and
--- of the words those of the objects alone.
+-- The spans in these frames are leaving from here: the words of their objects are noted, each once,
+-- in order of frame and slot, and the parities are those of the memory of the frames. Nothing else
+-- of the far state changed, and of the words those of the objects alone.
 pub record IsBegunTo (x y : Words) (far new : FarState) (frames : List ℕ) : Type 0 where
   pub words : List Former
   pub parities : List (List ℕ)

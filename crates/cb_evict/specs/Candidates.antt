@@ -55,8 +55,8 @@ candidates far = candidates_of far.spans (leaving_frames far.leaving)
 abbrev pub Names : List (Option Contents) → ℕ → ℕ → Type 0
 Names spans f h = (slot : ℕ) × (resident spans f slot ≡ Some h)
 
--- the span in the frame is loose by the last looks: each of its objects was found at a word at which
--- it can be claimed, so neither pinned nor claimed
+-- the span in the frame is loose by the last looks: each of its objects was found at a word at
+-- which it can be claimed, so neither pinned nor claimed
 abbrev pub IsLoose : List Event → List (Option Contents) → ℕ → Type 0
 IsLoose es spans f = (h : ℕ) → Names spans f h → (w : ℕ) × IsFound h w es × IsFree w
 

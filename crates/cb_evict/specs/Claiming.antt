@@ -38,8 +38,8 @@ pub record GivesBack (runs : List Event → Type 0) (shows : Shown → Type 0) (
       → AreBack s (played events s) formers × LocalSound (played events s) far
       × IsSteady events s
 
--- what came of the claim of the object in a slot, if there is one: it is noted, or it was found at a
--- word at which it can't be claimed
+-- what came of the claim of the object in a slot, if there is one: it is noted, or it was found at
+-- a word at which it can't be claimed
 abbrev pub SlotNotes : Bool → List Event → Option ℕ → List Former → Type 0
 SlotNotes true es None more = more ≡ []
 SlotNotes true es (Some h) more = (w : ℕ) × (more ≡ (record { handle = h; word = w }) ∷ [])

@@ -26,8 +26,8 @@ pub record HasShort (far new : FarState) (r : Reply) : Type 0 where
   pub reply : r ≡ answer.Short (waiting far.members batch.shards)
   pub state : new ≡ far
 
--- the far state in which the set of the batch is committed, with the shards whose rows were put, and
--- no batch is leaving
+-- the far state in which the set of the batch is committed, with the shards whose rows were put,
+-- and no batch is leaving
 abbrev pub with_committed : FarState → LeavingState → FarState
 with_committed far batch = record far {
   sets = map.insert far.sets batch.set (record {
@@ -52,9 +52,9 @@ pub record CommitRule (far new : FarState) (r : Reply) (es : List Event) : Type 
   pub answered : HasNoBatch far new r ⊎ (HasShort far new r ⊎ HasCommitted far new r)
   pub touches : TouchesOnly (IsOfBatch far) (λ p. ⊥) es
 
--- The objects of the batch are away, cold, with the versions and the words that they had, every other
--- object and every word is as it was, and no version is written. So the last complete contents of
--- every object stay.
+-- The objects of the batch are away, cold, with the versions and the words that they had, every
+-- other object and every word is as it was, and no version is written. So the last complete
+-- contents of every object stay.
 pub record IsCommitted (far new : FarState) (batch : LeavingState) (es : List Event) (s t : Shown)
     : Type 0 where
   pub sent : AreSent s t batch.words

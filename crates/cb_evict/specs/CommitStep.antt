@@ -11,8 +11,8 @@ use Rattle.cb_evict.specs.AbortRule.{HasNoBatch}
 use Rattle.cb_evict.specs.Claims.{IsNone}
 use Rattle.cb_evict.specs.CommitRule.{HasShort, HasCommitted}
 
--- The words of these objects are far, with their lengths alone. Every other word is as it was, and so
--- are all version words and memory words.
+-- The words of these objects are far, with their lengths alone. Every other word is as it was, and
+-- so are all version words and memory words.
 pub record ArePutAway (x y : Words) (formers : List Former) : Type 0 where
   pub away : All (λ former. IsFarWord (len_of former.word) (word_at y former.handle)) formers
   pub others : (h : ℕ) → IsNone formers h → word_at y h ≡ word_at x h

@@ -46,8 +46,8 @@ HaveFrameRows far new memory = (h f : ℕ) (home : Home) (set : SetState) (shard
     → row_under new.nodes shard.node shard.key ≡ Some (row_of (window memory (512 * f) 512))
 
 -- The objects of the spans that are gone are away, and their rows are those of their frames; every
--- other object is as it was, words are as the events told of them, and no version is written. So the
--- last complete contents of every object stay.
+-- other object is as it was, words are as the events told of them, and no version is written. So
+-- the last complete contents of every object stay.
 pub record IsEvicted (far new : FarState) (es : List Event) (s t : Shown) : Type 0 where
   pub away : (h : ℕ) → HasLeft far new h → IsAway es t h
   pub others : (h : ℕ) → ¬ (HasLeft far new h) → object_at t h ≡ object_at s h

@@ -33,7 +33,8 @@ pub record LooksAtSlot (runs : List Event → Type 0) (slot : Option ℕ) (loose
 abbrev pub Has : Contents → ℕ → Type 0
 Has span h = (slot : ℕ) × (handle_at span slot ≡ Some h)
 
--- by the answer: each object of the span was found at a word at which it can be claimed, or one was not
+-- by the answer: each object of the span was found at a word at which it can be claimed, or one was
+-- not
 abbrev pub SpanFinds : Bool → List Event → Contents → Type 0
 SpanFinds true es span = (h : ℕ) → Has span h → (w : ℕ) × IsFound h w es × IsFree w
 SpanFinds false es span = (h w : ℕ) × Has span h × IsFound h w es × ¬ (IsFree w)

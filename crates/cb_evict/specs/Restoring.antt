@@ -18,8 +18,8 @@ use Rattle.cb_evict.specs.Events.{TouchesOnly}
 use Rattle.cb_evict.specs.Claims.{IsNone}
 use Rattle.cb_evict.specs.Claiming.{IsOne}
 
--- The object is claimed with the words that stand at its place, and this was its word. Of its hot bit
--- nothing is known.
+-- The object is claimed with the words that stand at its place, and this was its word. Of its hot
+-- bit nothing is known.
 pub record IsClaimedFrom (s : Shown) (former : Former) : Type 0 where
   pub version : ℕ
   pub words : List ℕ

@@ -14,7 +14,8 @@ use Rattle.cb_evict.specs.Events.{TouchesOnly}
 use Rattle.cb_evict.specs.Claims.{IsNone}
 use Rattle.cb_evict.specs.Claiming.{IsOne}
 
--- the object is claimed at the word that is noted, and its version word is its last complete version
+-- the object is claimed at the word that is noted, and its version word is its last complete
+-- version
 pub record IsTold (s : Shown) (former : Former) : Type 0 where
   pub version : ℕ
   pub words : List ℕ

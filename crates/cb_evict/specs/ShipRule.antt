@@ -25,8 +25,8 @@ abbrev pub other_puts : List (Option Shard) → ℕ → List Shard
 other_puts shards p = put_shards (take p shards) ++ put_shards (drop (p + 1) shards)
 
 -- the shard for the row of a position: on the node with the fewest rows, and then the least number,
--- of those with room on which no shard of another position stands; of its incarnation, and under the
--- next key
+-- of those with room on which no shard of another position stands; of its incarnation, and under
+-- the next key
 pub record IsShardFor (far : FarState) (batch : LeavingState) (p : ℕ) (shard : Shard) : Type 0 where
   pub node : IsLeastNode far.nodes far.members (other_puts batch.shards p) shard.node
   pub incarnation : shard.incarnation ≡ incarnation far.members shard.node

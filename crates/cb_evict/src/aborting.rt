@@ -15,12 +15,12 @@ use cb_node::Nodes;
 use cb_types::{NoMemory, Reply};
 use cb_world::{Desk, Far, Leaving};
 
-/// Gives up the batch that is leaving: its objects are here again as they were before the begin, hot
-/// bits included, the rows that were put are dropped, and no batch is leaving. The number of its set is
-/// not given back.
+/// Gives up the batch that is leaving: its objects are here again as they were before the begin,
+/// hot bits included, the rows that were put are dropped, and no batch is leaving. The number of
+/// its set is not given back.
 ///
-/// Refuses with NoBatch where none is leaving. Looks at the batch's objects and positions alone; takes
-/// no memory.
+/// Refuses with NoBatch where none is leaving. Looks at the batch's objects and positions alone;
+/// takes no memory.
 pub fn abort<D: Desk>(desk: &mut D, far: &mut Far) -> Result<Reply, NoMemory>
     requires sound { (s : Shown) × D.shows desk.old s × Sound s far.old }
     ensures memory { IsOk result }

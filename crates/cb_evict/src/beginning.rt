@@ -50,16 +50,17 @@ struct Room {
     blank: Vec<Shard>,
 }
 
-/// Begins to evict k spans: they are leaving from here, as one batch, until a commit or an abort. Of the
-/// spans none of whose objects is pinned or claimed, the first k are taken, the cold ones before the hot
-/// ones and then by frame number. All their objects are claimed and stay in local memory, the parities of
-/// their frames are made, and the number of the set that they will be is drawn; the memory that its
-/// commit needs is taken. No row is put.
+/// Begins to evict k spans: they are leaving from here, as one batch, until a commit or an abort.
+/// Of the spans none of whose objects is pinned or claimed, the first k are taken, the cold ones
+/// before the hot ones and then by frame number. All their objects are claimed and stay in local
+/// memory, the parities of their frames are made, and the number of the set that they will be is
+/// drawn; the memory that its commit needs is taken. No row is put.
 ///
-/// Answers Leaving where a batch is leaving already, and then looks at nothing; then NoSpans where fewer
-/// than k spans are loose, and then NoNodes where fewer than k + r nodes have room. Every object of every
-/// span that may leave is looked at, once and in one pass; nothing walks over all sets or homes. Where
-/// there is no memory, which may be only where no batch is leaving, nothing has changed.
+/// Answers Leaving where a batch is leaving already, and then looks at nothing; then NoSpans where
+/// fewer than k spans are loose, and then NoNodes where fewer than k + r nodes have room. Every
+/// object of every span that may leave is looked at, once and in one pass; nothing walks over all
+/// sets or homes. Where there is no memory, which may be only where no batch is leaving, nothing
+/// has changed.
 pub fn begin<D: Desk>(desk: &mut D, far: &mut Far) -> Result<Reply, NoMemory>
     requires config { IsAccepted (D.settings desk.old) }
     requires configured { IsConfigured (D.settings desk.old) far.old }
@@ -197,8 +198,8 @@ fn blank_shards(alloc: Global, n: u32) -> Result<Vec<Shard>, NoMemory>
     Ok(vec![in alloc; BLANK; n as usize]?)
 }
 
-/// Lets spans whose objects are claimed leave from here, and gives them back where there is no memory.
-/// The rows have room for the spans; the shards are as many as a set has.
+/// Lets spans whose objects are claimed leave from here, and gives them back where there is no
+/// memory. The rows have room for the spans; the shards are as many as a set has.
 fn begin_claimed<D: Desk>(
     desk: &mut D,
     far: &mut Far,
@@ -238,9 +239,9 @@ fn begin_claimed<D: Desk>(
     }
 }
 
-/// Keeps the set that the spans in these frames will be under the next set number, with as many shards
-/// as there are blank ones. Answers the parities of their rows. Where there is no memory, nothing has
-/// changed.
+/// Keeps the set that the spans in these frames will be under the next set number, with as many
+/// shards as there are blank ones. Answers the parities of their rows. Where there is no memory,
+/// nothing has changed.
 fn reserve(far: &mut Far, blank: &[Shard], frames: &[u32], rows: &Rows) -> Result<Rows, NoMemory>
     requires there { All (λ f. (span : Contents) × (span_in far.old.spans f ≡ Some span)) frames.now }
     requires data_rows { length rows.now ≡ length frames.now }

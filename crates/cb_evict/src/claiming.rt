@@ -78,8 +78,8 @@ fn undo<D: Desk>(desk: &mut D, formers: &mut Vec<Former>, start: usize)
     formers.truncate(start);
 }
 
-/// Claims all objects of the span, or none: where one is pinned or claimed by another, those that were
-/// claimed are given back. Answers whether they are claimed; their words are noted then.
+/// Claims all objects of the span, or none: where one is pinned or claimed by another, those that
+/// were claimed are given back. Answers whether they are claimed; their words are noted then.
 pub(crate) fn claim_span<D: Desk>(desk: &mut D, span: &Span, formers: &mut Vec<Former>) -> bool
     requires handles { (h : ℕ) → Has span.now h → h < (D.settings desk.old).handles }
     requires apart { (i j h : ℕ) → handle_at span.now i ≡ Some h → handle_at span.now j ≡ Some h → i ≡ j }
@@ -128,9 +128,9 @@ fn claim_frame<D: Desk>(
     }
 }
 
-/// Claims the spans in these frames, in order, until `k` of them are claimed. A span of which an object
-/// is pinned or claimed by another is left as it was. `frames` and `formers` are empty before, and have
-/// room for k frames and for 256 objects of each.
+/// Claims the spans in these frames, in order, until `k` of them are claimed. A span of which an
+/// object is pinned or claimed by another is left as it was. `frames` and `formers` are empty
+/// before, and have room for k frames and for 256 objects of each.
 pub(crate) fn claim_spans<D: Desk>(
     desk: &mut D,
     spans: &Spans,

@@ -43,8 +43,8 @@ fn put_homes(homes: &mut Homes, slots: &[Option<u32>], set: u64, position: u32)
     }
 }
 
-/// Gives the objects of the span in a frame their homes at a position of the set, takes the span out
-/// and gives the frame back.
+/// Gives the objects of the span in a frame their homes at a position of the set, takes the span
+/// out and gives the frame back.
 fn take_out(
     homes: &mut Homes,
     spans: &mut Spans,
@@ -86,8 +86,9 @@ fn close_span(far: &mut Far, set: u64, position: u32, frame: u32)
     );
 }
 
-/// Takes the spans in these frames out of local memory, once their objects are away: the objects of the
-/// p-th one have their homes at position p of the set, and the frames are free. Takes no memory.
+/// Takes the spans in these frames out of local memory, once their objects are away: the objects of
+/// the p-th one have their homes at position p of the set, and the frames are free. Takes no
+/// memory.
 pub(crate) fn close_spans(far: &mut Far, set: u64, frames: &[u32])
     requires there { All (λ f. (span : Contents) × (span_in far.old.spans f ≡ Some span)) frames.now }
     requires unique { AreUnique far.old.spans (length far.old.homes) }

@@ -26,12 +26,13 @@ use cb_member::Shard;
 use cb_types::{NoMemory, Positions, Reply, SetId};
 use cb_world::{Desk, Far, Leaving, Sets};
 
-/// Commits the batch that is leaving: its set is a committed one with the shards whose rows were put,
-/// its objects are far and have their homes there, and its frames are free. No batch is leaving then.
+/// Commits the batch that is leaving: its set is a committed one with the shards whose rows were
+/// put, its objects are far and have their homes there, and its frames are free. No batch is
+/// leaving then.
 ///
-/// Refuses with NoBatch where none is leaving, and then with Short where rows were not put or were lost
-/// since; their positions are told in order, and the batch stays. Looks at the batch's objects and
-/// positions alone; takes no memory.
+/// Refuses with NoBatch where none is leaving, and then with Short where rows were not put or were
+/// lost since; their positions are told in order, and the batch stays. Looks at the batch's objects
+/// and positions alone; takes no memory.
 pub fn commit<D: Desk>(desk: &mut D, far: &mut Far) -> Result<Reply, NoMemory>
     requires configured { IsConfigured (D.settings desk.old) far.old }
     requires sound { (s : Shown) × D.shows desk.old s × Sound s far.old }
@@ -56,8 +57,8 @@ pub fn commit<D: Desk>(desk: &mut D, far: &mut Far) -> Result<Reply, NoMemory>
     })
 }
 
-/// The positions of the batch that is leaving whose rows are still to be put, in order, and None where
-/// none is leaving.
+/// The positions of the batch that is leaving whose rows are still to be put, in order, and None
+/// where none is leaving.
 fn waiting_in(far: &Far) -> Option<Positions>
     requires put { (batch : LeavingState) → far.now.leaving ≡ Some batch
         → PutAtMembers far.now.members batch.shards × (length batch.shards ≤ 20) }
@@ -98,8 +99,8 @@ fn keep_batch(far: &mut Far, batch: &Leaving)
     close_spans(far, batch.set, &batch.frames);
 }
 
-/// Names the shards of a batch, all of whose rows are put, in the set that is kept for it, and makes it
-/// a committed one. Takes no memory.
+/// Names the shards of a batch, all of whose rows are put, in the set that is kept for it, and
+/// makes it a committed one. Takes no memory.
 fn commit_set(sets: &mut Sets, id: u64, shards: &[Option<Shard>])
     requires kept { HasPlaces sets.old id shards.now }
     requires whole { AreAllPut shards.now }

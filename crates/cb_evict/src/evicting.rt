@@ -28,14 +28,14 @@ use cb_member::Shard;
 use cb_types::{Config, NoMemory, Reply, Rows, SetId};
 use cb_world::{Desk, Far, Former};
 
-/// Evicts k spans at once. Of the spans none of whose objects is pinned or claimed, and which are not
-/// leaving, the first k go, the cold ones before the hot ones and then by frame number: they are coded
-/// together, their rows are put at k + r nodes, and the objects are far.
+/// Evicts k spans at once. Of the spans none of whose objects is pinned or claimed, and which are
+/// not leaving, the first k go, the cold ones before the hot ones and then by frame number: they
+/// are coded together, their rows are put at k + r nodes, and the objects are far.
 ///
-/// Refuses with NoSpans where fewer than k spans are so, and then with NoNodes where fewer than k + r
-/// nodes have room. A batch that is leaving does not hinder it and stays as it is. Every object of every
-/// span that may leave is looked at, once and in one pass; nothing walks over all sets or homes. Where
-/// there is no memory, nothing has changed.
+/// Refuses with NoSpans where fewer than k spans are so, and then with NoNodes where fewer than k +
+/// r nodes have room. A batch that is leaving does not hinder it and stays as it is. Every object
+/// of every span that may leave is looked at, once and in one pass; nothing walks over all sets or
+/// homes. Where there is no memory, nothing has changed.
 pub fn evict_now<D: Desk>(desk: &mut D, far: &mut Far) -> Result<Reply, NoMemory>
     requires config { IsAccepted (D.settings desk.old) }
     requires configured { IsConfigured (D.settings desk.old) far.old }
@@ -59,9 +59,9 @@ pub fn evict_now<D: Desk>(desk: &mut D, far: &mut Far) -> Result<Reply, NoMemory
     }
 }
 
-/// Evicts k spans at once, as `evict_now` does. A refusal tells which of the two is lacking, and both
-/// counts as they were found: how many spans were loose by the last looks at their objects, and how many
-/// nodes have room.
+/// Evicts k spans at once, as `evict_now` does. A refusal tells which of the two is lacking, and
+/// both counts as they were found: how many spans were loose by the last looks at their objects,
+/// and how many nodes have room.
 pub fn evict_counted<D: Desk>(desk: &mut D, far: &mut Far) -> Result<Eviction, NoMemory>
     requires config { IsAccepted (D.settings desk.old) }
     requires configured { IsConfigured (D.settings desk.old) far.old }
@@ -144,8 +144,8 @@ fn evict_loose<D: Desk>(
     eviction
 }
 
-/// Evicts the first k of these spans whose objects can all be claimed, over rows that have room for k
-/// spans. So many nodes have room.
+/// Evicts the first k of these spans whose objects can all be claimed, over rows that have room for
+/// k spans. So many nodes have room.
 fn evict_over<D: Desk>(
     desk: &mut D,
     far: &mut Far,

@@ -17,16 +17,16 @@ pub(crate) enum Found {
     /// Fewer spans are loose than a set has data positions, or fewer nodes have room than it has
     /// positions. So many spans are loose, and so many nodes have room.
     Few { lack: Lack, loose: u32, nodes: u32 },
-    /// The spans in these frames are loose: k at least, in the order in which they are taken. So many
-    /// nodes have room, which are enough.
+    /// The spans in these frames are loose: k at least, in the order in which they are taken. So
+    /// many nodes have room, which are enough.
     Loose { frames: Vec<u32>, nodes: u32 },
 }
 
 /// Finds the spans that can leave now: of the spans that may leave, those none of whose objects is
 /// pinned or claimed, the cold ones before the hot ones and then by frame number.
 ///
-/// Each object of each span that may leave is looked at once, and the nodes are counted behind that.
-/// Where there is no memory, nothing was looked at.
+/// Each object of each span that may leave is looked at once, and the nodes are counted behind
+/// that. Where there is no memory, nothing was looked at.
 pub(crate) fn find_spans<D: Desk>(
     desk: &mut D,
     far: &Far,

@@ -34,8 +34,8 @@ fn is_loose<D: Desk>(desk: &mut D, span: &Span) -> bool
     loose
 }
 
-/// Looks at each object of the span in a frame, and adds the frame to the loose ones if each of them
-/// can be claimed.
+/// Looks at each object of the span in a frame, and adds the frame to the loose ones if each of
+/// them can be claimed.
 fn look_at<D: Desk>(desk: &mut D, spans: &Spans, frame: u32, loose: &mut Vec<u32>)
     requires there { (span : Contents) × (span_in spans.now frame ≡ Some span) }
     requires unique { AreUnique spans.now (D.settings desk.old).handles }

@@ -8,7 +8,8 @@ ghost use Rattle.cb_evict.specs.Restoring.{IsClaimedFrom, Restores};
 use cb_types::Handle;
 use cb_world::{Desk, Former};
 
-/// Settles claimed objects at the words that are noted: each is here again, as hot as its word says.
+/// Settles claimed objects at the words that are noted: each is here again, as hot as its word
+/// says.
 pub(crate) fn restore<D: Desk>(desk: &mut D, formers: &[Former])
     requires handles { All (λ former. former.handle < (D.settings desk.old).handles) formers.now }
     requires apart { AreApart formers.now }

@@ -78,8 +78,8 @@ fn put_parity(
     put_row(nodes, shard, batch.parities.row(position - k))
 }
 
-/// Puts the parity of a position of the batch that is leaving under the shard, which the position has
-/// then.
+/// Puts the parity of a position of the batch that is leaving under the shard, which the position
+/// has then.
 fn ship_parity(far: &mut Far, position: u32, shard: Shard) -> Result<(), NoMemory>
     requires there { (batch : LeavingState) × (far.old.leaving ≡ Some batch)
         × (length batch.frames ≤ position)
@@ -103,8 +103,8 @@ fn ship_parity(far: &mut Far, position: u32, shard: Shard) -> Result<(), NoMemor
     Ok(())
 }
 
-/// Reads the words of the frame at a position of the batch that is leaving into a row, and puts that
-/// under the shard, which the position has then. The row is allocated before all else.
+/// Reads the words of the frame at a position of the batch that is leaving into a row, and puts
+/// that under the shard, which the position has then. The row is allocated before all else.
 fn ship_data<D: Desk>(
     desk: &mut D,
     far: &mut Far,
@@ -160,14 +160,14 @@ fn ship_row<D: Desk>(
 
 /// Puts one row of the batch that is leaving: that of the least position whose row was not put yet,
 /// or was put and is lost. It goes to the node with the fewest rows, and then the least number, of
-/// those that are up, have room and hold no row of another position, lost ones included; the position's
-/// own old node may be taken again. A data row is read from memory, whose words no one else changes
-/// while the batch leaves; a parity is the batch's.
+/// those that are up, have room and hold no row of another position, lost ones included; the
+/// position's own old node may be taken again. A data row is read from memory, whose words no one
+/// else changes while the batch leaves; a parity is the batch's.
 ///
-/// Answers NoBatch exactly where no batch is leaving, AllShipped exactly where each position's row is
-/// put on a node that has not crashed since, NoNode where no node can take the row, and else Shipped.
-/// No object is looked at, and nothing is settled. Where there is no memory, which may be only where a
-/// position waits for its row, nothing has changed.
+/// Answers NoBatch exactly where no batch is leaving, AllShipped exactly where each position's row
+/// is put on a node that has not crashed since, NoNode where no node can take the row, and else
+/// Shipped. No object is looked at, and nothing is settled. Where there is no memory, which may be
+/// only where a position waits for its row, nothing has changed.
 pub fn ship<D: Desk>(desk: &mut D, far: &mut Far) -> Result<Reply, NoMemory>
     requires config { IsAccepted (D.settings desk.old) }
     requires configured { IsConfigured (D.settings desk.old) far.old }

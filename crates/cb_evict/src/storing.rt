@@ -18,8 +18,8 @@ use cb_types::{NoMemory, Rows};
 use cb_world::{Far, KeptSet, Spans, least_node, put_row};
 use std::alloc::Global;
 
-/// The shards of a new set: for each of `n` positions, in order, the node with the fewest rows of those
-/// that have room and are not taken yet, and the next row key. At least `n` nodes have room.
+/// The shards of a new set: for each of `n` positions, in order, the node with the fewest rows of
+/// those that have room and are not taken yet, and the next row key. At least `n` nodes have room.
 pub(crate) fn choose_shards(far: &Far, n: u32) -> Result<Vec<Shard>, NoMemory>
     requires counted { length far.now.nodes.nodes ≡ length far.now.members.nodes }
     requires few { length far.now.nodes.nodes ≤ 256 }
@@ -64,8 +64,8 @@ fn drop_rows(nodes: &mut Nodes, shards: &[Shard])
     }
 }
 
-/// Puts the rows of a set at its shards' nodes, which have room. Where there is no memory, no row is
-/// left there.
+/// Puts the rows of a set at its shards' nodes, which have room. Where there is no memory, no row
+/// is left there.
 fn put_rows(
     nodes: &mut Nodes,
     shards: &[Shard],
@@ -167,8 +167,8 @@ fn keep_committed(far: &mut Far, set: SpanSet, rows: u32) -> Result<(), NoMemory
     Ok(())
 }
 
-/// Puts the rows at the shards' nodes, and keeps the set as committed under the next set number. That
-/// and the row keys are drawn. Where there is no memory, nothing has changed.
+/// Puts the rows at the shards' nodes, and keeps the set as committed under the next set number.
+/// That and the row keys are drawn. Where there is no memory, nothing has changed.
 fn store_set(
     far: &mut Far,
     set: SpanSet,
@@ -193,9 +193,9 @@ fn store_set(
     }
 }
 
-/// Codes the rows of the spans in these frames, puts data and parities at the shards' nodes and keeps
-/// the set as committed. Its number and the row keys are drawn. Where there is no memory, nothing has
-/// changed.
+/// Codes the rows of the spans in these frames, puts data and parities at the shards' nodes and
+/// keeps the set as committed. Its number and the row keys are drawn. Where there is no memory,
+/// nothing has changed.
 pub(crate) fn keep_set(
     far: &mut Far,
     shards: &[Shard],

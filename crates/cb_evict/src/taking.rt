@@ -27,8 +27,8 @@ pub(crate) enum Taken {
     },
 }
 
-/// Claims the first k of these spans whose objects can all be claimed. Where fewer can be, all are given
-/// back. Where there is no memory, nothing was claimed.
+/// Claims the first k of these spans whose objects can all be claimed. Where fewer can be, all are
+/// given back. Where there is no memory, nothing was claimed.
 pub(crate) fn take_spans<D: Desk>(
     desk: &mut D,
     far: &Far,

@@ -47,8 +47,8 @@ pub record IsFreeIn (x : Words) (far : FarState) (h : ℕ) (seat : Seat) : Type 
 abbrev pub temp_of : Words → ℕ → Temp
 temp_of x h = temp_for (hot_of (word_at x h))
 
--- A filter of h leads from the words x and a far state to the words y and another. It is refused, and
--- nothing changes; or the object is free, and is the same but not hot, has no slot, or moves.
+-- A filter of h leads from the words x and a far state to the words y and another. It is refused,
+-- and nothing changes; or the object is free, and is the same but not hot, has no slot, or moves.
 pub data IsFilterStep (x y : Words) (far new : FarState) (h : ℕ) (r : Reply) : Type 0 where
   refused : RefusesAs (state_of (word_at x h)) (word_at x h) (stamp_at x h) r → y ≡ x → new ≡ far
       → IsFilterStep x y far new h r

@@ -20,18 +20,18 @@ use cb_ptr::unpack;
 use cb_types::{Handle, NoMemory, Reply};
 use cb_world::{Desk, Far, Grasp, release, try_claim};
 
-/// Moves an object in local memory to a span of its temperature: a hot one where its word is hot, else
-/// a cold one. Takes the memory of a new span alone, before anything but the object's claim is changed;
-/// where there is none, all is as it was.
+/// Moves an object in local memory to a span of its temperature: a hot one where its word is hot,
+/// else a cold one. Takes the memory of a new span alone, before anything but the object's claim is
+/// changed; where there is none, all is as it was.
 ///
-/// Moved, where the object's span has the other temperature: the object goes into the least empty slot
-/// of the least frame that holds a span of its class and temperature with one and is not leaving, else
-/// into a new span in the least free frame. A span whose last object goes gives its frame back. Same,
-/// where its span has its temperature. After both its word is not hot.
+/// Moved, where the object's span has the other temperature: the object goes into the least empty
+/// slot of the least frame that holds a span of its class and temperature with one and is not
+/// leaving, else into a new span in the least free frame. A span whose last object goes gives its
+/// frame back. Same, where its span has its temperature. After both its word is not hot.
 ///
-/// Refuses with Unmade where it was never made, with NotHere where it was freed or is far, with Moving
-/// where another has claimed it, with Pinned where it has pins, and with NoSlot where there is neither a
-/// slot nor a free frame. A refusal changes nothing.
+/// Refuses with Unmade where it was never made, with NotHere where it was freed or is far, with
+/// Moving where another has claimed it, with Pinned where it has pins, and with NoSlot where there
+/// is neither a slot nor a free frame. A refusal changes nothing.
 pub fn filter_one<D: Desk>(desk: &mut D, far: &mut Far, h: Handle) -> Result<Reply, NoMemory>
     requires handle { h.n < (D.settings desk.old).handles }
     requires config { IsAccepted (D.settings desk.old) }

@@ -23,8 +23,8 @@ GivesAll seat w new = Leads w (map (end_of seat) (reverse (pins_of_seat w.seats 
 abbrev pub lines_of : ℕ → List ℕ → ℕ
 lines_of lane lanes = count_by (nat_eq lane) lanes
 
--- Behind a line whose lane has so many lines yet to come: where there is none, the lane's pins are given
--- back; else all stays.
+-- Behind a line whose lane has so many lines yet to come: where there is none, the lane's pins are
+-- given back; else all stays.
 abbrev pub Rests : ℕ → ℕ → WorldState → WorldState → Type 0
 Rests zero seat between rested = GivesAll seat between rested
 Rests (suc left) seat between rested = rested ≡ between

@@ -6,7 +6,8 @@ use Rattle.cb_mutate.specs.MapBeside.{IsMapBeside}
 use Rattle.cb_world.specs.declared.shown.Shown.{Shown}
 use Rattle.cb_world.specs.World.{WorldState, IsKnown}
 
--- Whoever holds the world knows of each object what the plain map has at its handle after these answers.
+-- Whoever holds the world knows of each object what the plain map has at its handle after these
+-- answers.
 pub record HoldsAnswers (w : WorldState) (answers : List Answer) : Type 0 where
   pub shown : Shown
   pub known : IsKnown w.desk w.far shown

@@ -51,8 +51,8 @@ abbrev pub TurnStep : ℕ → Option Job → WorldState → Reply → WorldState
 TurnStep seat None w r new = ⊥
 TurnStep seat (Some job) w r new = Step w (Turn seat job) r new
 
--- A peek leaves the world as it is: a seat without a pin on the object is told so, and one that has a
--- pin is shown the bytes that the object has, at the version of its newest pin on it.
+-- A peek leaves the world as it is: a seat without a pin on the object is told so, and one that has
+-- a pin is shown the bytes that the object has, at the version of its newest pin on it.
 pub data PeekStep (seat h : ℕ) (w : WorldState) (r : Reply) (new : WorldState) : Type 0 where
   not_pinned : NoneOn (pins_of_seat w.seats seat) h → r ≡ answer.NotPinned → new ≡ w
       → PeekStep seat h w r new
@@ -81,8 +81,8 @@ pub record IsFarToPin (seat h : ℕ) (w : WorldState) : Type 0 where
   pub away : state_of (word_at w.desk h) ≡ state.Far
 
 -- A pin: one event where the object is not far, or the seat has as many pins as it may have. A far
--- object is pinned in two events, a turn that swaps it in and the pin; where it can't be swapped in, that
--- turn is the line's only event, and the line is answered so.
+-- object is pinned in two events, a turn that swaps it in and the pin; where it can't be swapped
+-- in, that turn is the line's only event, and the line is answered so.
 pub data PinLine (seat h : ℕ) (w : WorldState) (r : Reply) (new : WorldState) : Type 0 where
   at_once : PinEvent seat h w r new → (r ≡ answer.NotHere → ⊥) → PinLine seat h w r new
   stays_far : IsFarToPin seat h w → SwapEvent seat h w r new → (IsInReply r → ⊥)
@@ -90,16 +90,16 @@ pub data PinLine (seat h : ℕ) (w : WorldState) (r : Reply) (new : WorldState) 
   swapped_in : (m : WorldState) (q : Reply) → IsFarToPin seat h w → SwapEvent seat h w q m → IsInReply q
       → PinEvent seat h m r new → PinLine seat h w r new
 
--- a line on the object of this handle: the end of a pin is one step, a peek is no event, and every other
--- but a pin is a turn
+-- a line on the object of this handle: the end of a pin is one step, a peek is no event, and every
+-- other but a pin is a turn
 abbrev pub CallStep : ℕ → ℕ → Request → WorldState → Reply → WorldState → Type 0
 CallStep seat h (Pin name) w r new = PinLine seat h w r new
 CallStep seat h (Peek name) w r new = PeekStep seat h w r new
 CallStep seat h (Unpin name) w r new = Step w (event.Step seat (atomic.Unpin (record { n = h }))) r new
 CallStep seat h request w r new = TurnStep seat (job_on h request) w r new
 
--- A line on an object: one whose name has no handle, since its make was refused, makes no event and is
--- answered so.
+-- A line on an object: one whose name has no handle, since its make was refused, makes no event and
+-- is answered so.
 abbrev pub ObjectStep : ℕ → Option ℕ → Request → WorldState → Reply → WorldState → Type 0
 ObjectStep seat None request w r new = (r ≡ answer.Unmade) × (new ≡ w)
 ObjectStep seat (Some h) request w r new = CallStep seat h request w r new
@@ -110,16 +110,16 @@ abbrev pub OtherStep : ℕ → Option ℕ → Request → Option Job → WorldSt
 OtherStep seat handle request (Some job) w r new = Step w (Turn seat job) r new
 OtherStep seat handle request None w r new = ObjectStep seat handle request w r new
 
--- A line of the lane of this seat, whose name has this handle, if it has one: it leads from one world
--- to another. A lane that leaves gives all its pins back, and is told how many.
+-- A line of the lane of this seat, whose name has this handle, if it has one: it leads from one
+-- world to another. A lane that leaves gives all its pins back, and is told how many.
 abbrev pub LineStep : ℕ → Option ℕ → Request → WorldState → Reply → WorldState → Type 0
 LineStep seat handle (Make name bytes) w r new = Step w (Turn seat (job.Make bytes)) r new
 LineStep seat handle Leave w r new =
     (r ≡ answer.Left (length (pins_of_seat w.seats seat))) × GivesAll seat w new
 LineStep seat handle request w r new = OtherStep seat handle request (job_of request) w r new
 
--- The answers behind those before them lead from one world to another, line by line. Behind its last
--- line a lane's pins are given back, before the next line.
+-- The answers behind those before them lead from one world to another, line by line. Behind its
+-- last line a lane's pins are given back, before the next line.
 abbrev pub LinesLead : List Answer → WorldState → List Answer → WorldState → Type 0
 LinesLead before w [] new = new ≡ w
 LinesLead before w (a ∷ after) new = (between : WorldState) × (rested : WorldState)

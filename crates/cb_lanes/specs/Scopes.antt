@@ -34,8 +34,8 @@ without_newest name (pin ∷ older) =
 abbrev pub named_on : List ℕ → Scope → ℕ
 named_on name scope = sum_by (λ pin. if bytes_eq pin.name name then 1 else 0) scope
 
--- the scope after an answer of its lane: a pin comes to it, and an unpin takes the newest one on its name
--- and a leave all out
+-- the scope after an answer of its lane: a pin comes to it, and an unpin takes the newest one on
+-- its name and a leave all out
 abbrev pub scope_after : Scope → Request → Reply → Scope
 scope_after scope (Pin name) (answer.Version version) =
     record { name = name; version = version } ∷ scope
@@ -61,8 +61,8 @@ abbrev pub UnpinSays : Option ℕ → Reply → Type 0
 UnpinSays None r = r ≡ answer.NotPinned
 UnpinSays (Some version) r = r ≡ answer.Done
 
--- a change or a move of an object that is answered pinned: so many pins are those of all lanes, and so at least
--- one and at least the lane's own
+-- a change or a move of an object that is answered pinned: so many pins are those of all lanes, and
+-- so at least one and at least the lane's own
 abbrev pub PinnedSays : ℕ → Reply → Type 0
 PinnedSays own r = (count : ℕ) → r ≡ answer.Pinned count → (1 ≤ count) × (own ≤ count)
 
@@ -83,8 +83,8 @@ UnmadeSays (Peek name) r = r ≡ answer.Unmade
 UnmadeSays (Unpin name) r = r ≡ answer.Unmade
 UnmadeSays request r = Unit {0}
 
--- What a line is answered by its lane's scope, and by whether its name has a handle. A leave is told
--- how many pins it gave back.
+-- What a line is answered by its lane's scope, and by whether its name has a handle. A leave is
+-- told how many pins it gave back.
 abbrev pub ScopeSays : Option ℕ → Scope → Request → Reply → Type 0
 ScopeSays handle scope Leave r = r ≡ answer.Left (length scope)
 ScopeSays None scope request r = UnmadeSays request r

@@ -16,8 +16,8 @@ use cb_world::World;
 use std::alloc::Global;
 use std::collections::HashMap;
 
-/// Answers one request of the lane of this seat in the world, and keeps the handle of a name that it
-/// makes. A line costs a look at its name by its hash, and what its event costs.
+/// Answers one request of the lane of this seat in the world, and keeps the handle of a name that
+/// it makes. A line costs a look at its name by its hash, and what its event costs.
 pub(crate) fn reply_to<'a>(
     alloc: Global,
     world: &mut World,
@@ -180,8 +180,8 @@ fn step_of(alloc: Global, world: &mut World, seat: u32, atomic: Atomic) -> Resul
     step(alloc, world, &Event::Step { seat, atomic })
 }
 
-/// Pins an object. One that is not in local memory is swapped in by a turn before, and where it can't be,
-/// the pin is answered as the swap was.
+/// Pins an object. One that is not in local memory is swapped in by a turn before, and where it
+/// can't be, the pin is answered as the swap was.
 fn pin(alloc: Global, world: &mut World, seat: u32, handle: Handle) -> Result<Reply, NoMemory>
     requires seat { seat < 64 }
     requires within { handle.n < world.old.desk.settings.handles }
@@ -210,8 +210,8 @@ fn is_in(reply: &Reply) -> bool
     matches!(reply, Reply::Stays | Reply::Swapped { .. })
 }
 
-/// Shows an object on which the seat has a pin: it stays as it is, so it is read as it stands, and the
-/// world is unchanged. Refuses with NotPinned where the seat has no pin on it.
+/// Shows an object on which the seat has a pin: it stays as it is, so it is read as it stands, and
+/// the world is unchanged. Refuses with NotPinned where the seat has no pin on it.
 fn peek(alloc: Global, world: &mut World, seat: u32, handle: Handle) -> Result<Reply, NoMemory>
     requires seat { seat < 64 }
     requires within { handle.n < world.old.desk.settings.handles }

@@ -46,8 +46,8 @@ fn give_newest(alloc: Global, world: &mut World, seat: u32) -> Result<(), NoMemo
     Ok(())
 }
 
-/// Behind a line of the seat's lane that has so many lines yet to come: where there is none, its pins
-/// are given back.
+/// Behind a line of the seat's lane that has so many lines yet to come: where there is none, its
+/// pins are given back.
 pub(crate) fn rest(alloc: Global, world: &mut World, seat: u32, left: u32) -> Result<(), NoMemory>
     requires seat { seat < 64 }
     requires sound { IsSoundWorld world.old }

@@ -33,8 +33,8 @@ pub struct SeqEnd {
     pub world: World,
 }
 
-/// Answers the lines of a script in order, in one world. Behind the last line of a lane its pins are
-/// given back. A line costs a look at its name by its hash, and what its event costs.
+/// Answers the lines of a script in order, in one world. Behind the last line of a lane its pins
+/// are given back. A line costs a look at its name by its hash, and what its event costs.
 pub fn run_seq(alloc: Global, s: &Script) -> Result<SeqEnd, NoMemory>
     requires script { IsScript s.now }
     ensures lines { IfOk result (λ end. map asked end.answers ≡ s.now.lines) }
@@ -73,8 +73,8 @@ pub fn run_seq(alloc: Global, s: &Script) -> Result<SeqEnd, NoMemory>
     })
 }
 
-/// Answers a line in the world, and gives its lane's pins back where it is the last one that the lane
-/// has left.
+/// Answers a line in the world, and gives its lane's pins back where it is the last one that the
+/// lane has left.
 fn answer_line<'a>(
     alloc: Global,
     world: &mut World,

@@ -28,8 +28,8 @@ FreeEnds h word r es s v words t =
     ((v ≡ 2 ^ 64 - 1) × (r ≡ answer.Worn) × IsBack s h word es t)
     ⊎ ((v < 2 ^ 64 - 1) × (r ≡ answer.Version (v + 1)) × IsEmptied s h v words es t)
 
--- the version word of a far object was told: with no next version nothing is done; else the next one
--- is stored, and the object is empty
+-- the version word of a far object was told: with no next version nothing is done; else the next
+-- one is stored, and the object is empty
 abbrev pub FreesFar : (List Event → Type 0) → ℕ → ℕ → Reply → Type 0
 FreesFar runs h v r =
     ((v ≡ 2 ^ 64 - 1) × (r ≡ answer.Worn) × runs (Told h v ∷ []))

@@ -65,8 +65,8 @@ NeedsNewSpan handles len far =
 abbrev pub IsRefused : FarState → FarState → List Event → Type 0
 IsRefused far new es = (new ≡ far) × (es ≡ [])
 
--- the reply of a make, and the far state after it: Full where all of so many handles were made, then
--- NoFrame where there is no place, else Made
+-- the reply of a make, and the far state after it: Full where all of so many handles were made,
+-- then NoFrame where there is no place, else Made
 abbrev pub MakeRule : ℕ → List ℕ → FarState → FarState → Reply → List Event → Type 0
 MakeRule handles bytes far new (answer.Full n) es =
     (far.made ≡ handles) × (n ≡ handles) × IsRefused far new es
@@ -76,8 +76,8 @@ MakeRule handles bytes far new (answer.Made h version) es =
     (far.made < handles) × IsMake h.n version bytes far new es
 MakeRule handles bytes far new r es = ⊥
 
--- the object is here in its slot with the words of its bytes at the first version, and not hot; that
--- version is written; and all else is as it was
+-- the object is here in its slot with the words of its bytes at the first version, and not hot;
+-- that version is written; and all else is as it was
 pub record IsMade (h version : ℕ) (bytes : List ℕ) (far new : FarState) (es : List Event)
     (s t : Shown) : Type 0 where
   pub make : IsMake h version bytes far new es

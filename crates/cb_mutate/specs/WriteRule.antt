@@ -31,8 +31,8 @@ WriteHere h at bytes es r w =
 abbrev pub WriteRule : ℕ → ℕ → List ℕ → Reply → List Event → Type 0
 WriteRule h at bytes r es = Answered (WriteHere h at bytes es r) h es r
 
--- the object has its next version, and the words of its contents with the write, of which those that
--- it reaches alone are stored, and is hot
+-- the object has its next version, and the words of its contents with the write, of which those
+-- that it reaches alone are stored, and is hot
 pub record IsWritten (h n at : ℕ) (bytes : List ℕ) (es : List Event) (s t : Shown) : Type 0 where
   pub word : ℕ
   pub version : ℕ

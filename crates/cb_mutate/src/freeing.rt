@@ -27,10 +27,10 @@ use cb_ptr::{State, unpack};
 use cb_types::{Handle, NoMemory, Reply};
 use cb_world::{Desk, Far, Grasp, release, remove_far, try_claim};
 
-/// Frees an object. Where it is in local memory its slot is empty, and a span whose last object goes
-/// gives its frame back at once. Where it is far no row is read: its slot in its span-set is empty, a
-/// position without objects is dead, and a set with no live position goes with all its rows. Takes no
-/// memory, and never answers that there is none.
+/// Frees an object. Where it is in local memory its slot is empty, and a span whose last object
+/// goes gives its frame back at once. Where it is far no row is read: its slot in its span-set is
+/// empty, a position without objects is dead, and a set with no live position goes with all its
+/// rows. Takes no memory, and never answers that there is none.
 ///
 /// Refuses with Unmade, Freed or Moving, with Pinned where the object has pins, and with Worn where
 /// its version has no next one.

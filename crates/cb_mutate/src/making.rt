@@ -21,13 +21,13 @@ use cb_world::{Desk, Far, place_object};
 const WORD_BYTES: usize = 8;
 
 /// Makes an object of these bytes, 1 to 1,024, in local memory: its handle is the count of handles
-/// made before, and its version the far state's first. It goes into the least empty slot of the least
-/// frame that holds a hot span of its class with one and is not leaving, else into a new span in the
-/// least free frame. Its word is not hot. Takes the memory of a new span alone; where there is none,
-/// nothing has changed.
+/// made before, and its version the far state's first. It goes into the least empty slot of the
+/// least frame that holds a hot span of its class with one and is not leaving, else into a new span
+/// in the least free frame. Its word is not hot. Takes the memory of a new span alone; where there
+/// is none, nothing has changed.
 ///
-/// Refuses with Full where all handles were made, and then with NoFrame where there is neither a slot
-/// nor a free frame.
+/// Refuses with Full where all handles were made, and then with NoFrame where there is neither a
+/// slot nor a free frame.
 pub fn make<D: Desk>(desk: &mut D, far: &mut Far, bytes: &[u8]) -> Result<Reply, NoMemory>
     requires some_byte { 1 ≤ length bytes.now }
     requires fits { length bytes.now ≤ 1024 }
@@ -93,8 +93,8 @@ fn store_bytes<D: Desk>(desk: &mut D, place: u32, bytes: &[u8])
     }
 }
 
-/// The word that has the bytes from the byte number 8 * i on, the first one lowest, and zeros past the
-/// last one.
+/// The word that has the bytes from the byte number 8 * i on, the first one lowest, and zeros past
+/// the last one.
 fn word_at(bytes: &[u8], i: usize) -> u64
     requires { 8 * i < length bytes.now }
     ensures { IsWordAt bytes.now i result }

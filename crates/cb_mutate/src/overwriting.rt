@@ -8,8 +8,8 @@ ghost use Rattle.cb_mutate.specs.Overwrites.{Overwrites};
 use crate::merge::merged;
 use cb_world::Desk;
 
-/// Writes over a part of the object of `len` bytes at this place, whose words the caller owns: `bytes`
-/// from the byte number `at` on. Each word that has one of them is loaded and stored once.
+/// Writes over a part of the object of `len` bytes at this place, whose words the caller owns:
+/// `bytes` from the byte number `at` on. Each word that has one of them is loaded and stored once.
 pub(crate) fn overwrite<D: Desk>(desk: &mut D, place: u32, len: u32, at: u32, bytes: &[u8])
     requires inside { at + length bytes.now ≤ len }
     requires size { len ≤ 1024 }

@@ -12,8 +12,8 @@ use cb_types::{Bytes, Handle, NoMemory};
 use cb_world::{Desk, Grasp, try_claim};
 use std::alloc::Global;
 
-/// What a try to claim an object came to, with room for its bytes where it is here: it is claimed at
-/// this word, or this word was found, which can't be claimed.
+/// What a try to claim an object came to, with room for its bytes where it is here: it is claimed
+/// at this word, or this word was found, which can't be claimed.
 #[derive(Drop)]
 pub(crate) enum Reached {
     Claimed { word: u64, room: Bytes },
@@ -32,9 +32,9 @@ fn room_for(alloc: Global, word: u64) -> Result<Bytes, NoMemory>
     }
 }
 
-/// Looks at an object, and where it is here takes memory for its bytes and then tries to claim it. An
-/// object has one length as long as it lives, so the bytes fit into the room that the first look asked
-/// for. Where there is no memory, the object was found here and nothing was changed.
+/// Looks at an object, and where it is here takes memory for its bytes and then tries to claim it.
+/// An object has one length as long as it lives, so the bytes fit into the room that the first look
+/// asked for. Where there is no memory, the object was found here and nothing was changed.
 pub(crate) fn reach<D: Desk>(alloc: Global, desk: &mut D, h: Handle) -> Result<Reached, NoMemory>
     requires handle { h.n < (D.settings desk.old).handles }
     requires shown { (s : Shown) × D.shows desk.old s }

@@ -32,8 +32,8 @@ use std::alloc::Global;
 /// by the length that a first look finds and before the object is touched; where there is none,
 /// nothing is changed.
 ///
-/// Refuses with Unmade, Freed, Moving or NotHere where the object is not here; NotHere is answered only
-/// where it is far.
+/// Refuses with Unmade, Freed, Moving or NotHere where the object is not here; NotHere is answered
+/// only where it is far.
 pub fn read<D: Desk>(
     alloc: Global,
     desk: &mut D,

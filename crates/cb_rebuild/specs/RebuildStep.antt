@@ -52,8 +52,8 @@ pub record IsStuck (far : FarState) (id : ℕ) (set : SetState) (new : FarState)
     pub same : new ≡ far
 
 -- the shard for a row of the position: on the node with the fewest rows, and then the least number,
--- of those with room that no other position of the set names; of its incarnation, and under the next
--- key
+-- of those with room that no other position of the set names; of its incarnation, and under the
+-- next key
 pub record IsNewShard (far : FarState) (set : SetState) (position : ℕ) (shard : Shard) : Type 0
   where
     pub node : IsLeastNode far.nodes far.members (other_shards set.shards position) shard.node

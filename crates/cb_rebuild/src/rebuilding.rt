@@ -43,17 +43,17 @@ fn restore(far: &mut Far, id: u64) -> Result<Reply, NoMemory>
 }
 
 /// Puts one lost row on a spare node: that of the least lost position of the first committed set,
-/// by number, that has lost shards and no more than it has parities. Its k least rows that stand are
-/// given out, and the row that they make is put, under a key of its own, at the node with the fewest
-/// rows of those that are alive, have room and are named by no other position of the set. Then the
-/// set's shard at that position is the new one. Positions whose objects are gone are restored too. No
-/// word of local memory is looked at.
+/// by number, that has lost shards and no more than it has parities. Its k least rows that stand
+/// are given out, and the row that they make is put, under a key of its own, at the node with the
+/// fewest rows of those that are alive, have room and are named by no other position of the set.
+/// Then the set's shard at that position is the new one. Positions whose objects are gone are
+/// restored too. No word of local memory is looked at.
 ///
 /// Answers Whole where no set is so, with the count of those that have lost more than they have
 /// parities; and Stuck where there is no such node. Goes on from what earlier calls found: between
 /// two crashes each set is looked at once, and the one that is weak again by each call. Where there
-/// is no memory, at most k rows were given out, the sets before that one were looked at, and nothing
-/// else has changed.
+/// is no memory, at most k rows were given out, the sets before that one were looked at, and
+/// nothing else has changed.
 pub fn rebuild_next<D: Desk>(desk: &mut D, far: &mut Far) -> Result<Reply, NoMemory>
     requires config { IsAccepted (D.settings desk.old) }
     requires configured { IsConfigured (D.settings desk.old) far.old }

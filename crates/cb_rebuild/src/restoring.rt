@@ -12,8 +12,8 @@ use cb_member::Shard;
 use cb_types::NoMemory;
 use cb_world::{Far, put_row, solved};
 
-/// Makes the row of a position of a committed set again, from k rows that are given out, and puts it
-/// under the shard. Takes all memory that a rebuild needs.
+/// Makes the row of a position of a committed set again, from k rows that are given out, and puts
+/// it under the shard. Takes all memory that a rebuild needs.
 pub(crate) fn put_again(far: &mut Far, id: u64, position: u32, shard: Shard) -> Result<(), NoMemory>
     requires sound { (s : Shown) × AwaySound s far.old }
     requires weak { (set : SetState) × (set_in far.old.sets id ≡ Some set)

@@ -30,8 +30,8 @@ brought_word len place = word_of (record {
 })
 
 -- The objects of these slots are here, each at its slot of the frame, and every other pointer word
--- and all version words are as they were. The frame has the words of the row, and every other memory
--- word is as it was.
+-- and all version words are as they were. The frame has the words of the row, and every other
+-- memory word is as it was.
 pub record AreBroughtTo (x y : Words) (slots : List (Option ℕ)) (class : Class) (f : ℕ)
     (row : List ℕ) : Type 0 where
   pub settings : y.settings ≡ x.settings

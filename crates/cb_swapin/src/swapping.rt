@@ -28,11 +28,11 @@ use cb_world::{Desk, Far, kill_position, solved};
 /// changed; where there is none, at most k rows were given out and nothing else has changed.
 ///
 /// Refuses with Unavailable where the set has lost more shards than it has parities, and then with
-/// NoFrame where no frame is free. Else the least free frame has the span, hot and with the slots of
-/// the position: their objects are here, not hot, at the version that they had. The row is the
+/// NoFrame where no frame is free. Else the least free frame has the span, hot and with the slots
+/// of the position: their objects are here, not hot, at the version that they had. The row is the
 /// position's own where its shard is not lost (one row is given out), else the one that the k least
-/// other positions make whose shards are not lost (k rows are given out). The position is dead then,
-/// and a set with no live position goes with all its rows.
+/// other positions make whose shards are not lost (k rows are given out). The position is dead
+/// then, and a set with no live position goes with all its rows.
 pub fn swap_in<D: Desk>(
     desk: &mut D,
     far: &mut Far,
@@ -79,8 +79,8 @@ fn losses(far: &Far, id: SetId) -> Result<Option<Losses>, NoMemory>
     Ok(Some(set.lost(far.alloc, &far.members)?))
 }
 
-/// The span of a live position of a committed set: hot, with the slots of the position. Takes the memory
-/// of its slots.
+/// The span of a live position of a committed set: hot, with the slots of the position. Takes the
+/// memory of its slots.
 fn span_at(far: &Far, id: SetId, position: u32) -> Result<Span, NoMemory>
     requires sound { (s : Shown) × AwaySound s far.now }
     requires live { (set : SetState) × (set_in far.now.sets id.n ≡ Some set)
@@ -94,9 +94,10 @@ fn span_at(far: &Far, id: SetId, position: u32) -> Result<Span, NoMemory>
     Ok(Span::from_slots(far.alloc, class, Temp::Hot, slots)?)
 }
 
-/// Brings the span of a live position of a committed set into the least free frame. Where the position's
-/// shard is not lost, its row is stored from where it stands at its node; else the row that k others make
-/// is. Where there is no memory for that one, at most k rows were given out and nothing else has changed.
+/// Brings the span of a live position of a committed set into the least free frame. Where the
+/// position's shard is not lost, its row is stored from where it stands at its node; else the row
+/// that k others make is. Where there is no memory for that one, at most k rows were given out and
+/// nothing else has changed.
 fn bring_row<D: Desk>(
     desk: &mut D,
     far: &mut Far,
@@ -133,8 +134,8 @@ fn bring_row<D: Desk>(
     Ok(())
 }
 
-/// Puts the span that was brought in into the least free frame. Its position is dead then, and a set
-/// with no live position goes with all its rows.
+/// Puts the span that was brought in into the least free frame. Its position is dead then, and a
+/// set with no live position goes with all its rows.
 fn keep_span(far: &mut Far, id: SetId, position: u32, frame: u32, span: Span)
     requires frame { least_free far.old.frames ≡ Some frame }
     requires within { frame < length far.old.spans }

@@ -30,9 +30,11 @@ no_set a e = cc
 
 -- with no set, none can be joined: that none were found after both turns holds
 nothing_since : HoldsNoPair (noted map.empty 2)
-nothing_since n e = let is = same 2 n e in
-    (omega (arith, is), λ now i j a b l can.
-    no_set a (sym (ap if_committed (map.get-empty nat_cmp i)) ∙ can.a_there))
+nothing_since n e = let is = same 2 n e in (
+  omega (arith, is),
+  λ now i j a b l can.
+      no_set a (sym (ap if_committed (map.get-empty nat_cmp i)) ∙ can.a_there),
+)
 
 -- a note from before the free says nothing of the sets there are now
 freed_since : (sets : SetMap) → HoldsNoPair (noted sets 1)

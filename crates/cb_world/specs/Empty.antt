@@ -11,7 +11,8 @@ use Rattle.cb_world.specs.FarState.{FarState}
 use Rattle.cb_world.specs.Survey.{no_survey}
 use Rattle.cb_world.specs.Plain.{Words}
 
--- all frames are free, no object was made and all nodes are up without rows; makes give this version
+-- all frames are free, no object was made and all nodes are up without rows; makes give this
+-- version
 abbrev pub empty_far : ℕ → Config → FarState
 empty_far first c = record {
   first = first;

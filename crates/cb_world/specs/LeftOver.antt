@@ -30,8 +30,8 @@ survey_left far id rest =
     then far.survey
     else survey_without far.survey id (is_broken far.members rest)
 
--- The far state once the committed set of a number is dropped: its rows are too, and it is counted no
--- more.
+-- The far state once the committed set of a number is dropped: its rows are too, and it is counted
+-- no more.
 abbrev pub with_dropped : FarState → ℕ → SetState → FarState
 with_dropped far id set = record far {
   sets = map.remove far.sets id;

@@ -34,8 +34,8 @@ left_of c = touched c.at (length c.bytes) + 1 - c.stored
 abbrev pub stamp_of : OpenWriteState → ℕ
 stamp_of c = if nat_eq (left_of c) 0 then c.version + 1 else c.version
 
--- An open write: the object is Moving, without pins; its memory words are those that it had, with the
--- front of the write that is stored; and its version has a next one.
+-- An open write: the object is Moving, without pins; its memory words are those that it had, with
+-- the front of the write that is stored; and its version has a next one.
 pub record IsOpen (desk : Words) (c : OpenWriteState) : Type 0 where
   pub below : c.handle < length desk.words
   pub moving : state_of (word_in desk c.handle) ≡ word.Moving
@@ -57,8 +57,8 @@ abbrev pub IsClaimedNow : List SeatState → ℕ → Type 0
 IsClaimedNow seats h = (seat : ℕ) × (at : ℕ) × (c : OpenWriteState) × IsClaimAt seats seat at c
     × (c.handle ≡ h)
 
--- A word is Moving exactly where its object stands in one seat's open writes or in the leaving batch, and
--- it stands in one of these only.
+-- A word is Moving exactly where its object stands in one seat's open writes or in the leaving
+-- batch, and it stands in one of these only.
 pub record AreOpen (desk : Words) (far : FarState) (seats : List SeatState) : Type 0 where
   pub each : (seat at : ℕ) (c : OpenWriteState) → IsClaimAt seats seat at c → IsOpen desk c
   pub once : (seat other at place : ℕ) (c d : OpenWriteState) → IsClaimAt seats seat at c

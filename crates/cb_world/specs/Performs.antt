@@ -6,9 +6,10 @@ use Rattle.cb_world.specs.Played.{played}
 use Rattle.cb_world.specs.Looks.{LooksFirst}
 use Rattle.cb_world.specs.Allowed.{Allowed}
 
--- Its events, which the desk ran; objects are looked at before they are changed; the reply and the far
--- state are by the rule over what was found. And for all knowledge that the desk showed and that was
--- sound: what was stored and settled was allowed, it is sound afterwards, and the effect is this.
+-- Its events, which the desk ran; objects are looked at before they are changed; the reply and the
+-- far state are by the rule over what was found. And for all knowledge that the desk showed and
+-- that was sound: what was stored and settled was allowed, it is sound afterwards, and the effect
+-- is this.
 pub record Performs (runs : List Event → Type 0) (knows : Shown → Type 0)
     (rules : List Event → Type 0) (sound : Shown → Type 0)
     (does : List Event → Shown → Shown → Type 0) : Type 0 where

@@ -27,9 +27,9 @@ set_from id shards spans frames = set_of id shards (mapped (position_for spans) 
 abbrev pub IsUnpaired : FarState → ℕ → Type 0
 IsUnpaired far id = (pair : JoiningState) → far.joining ≡ Some pair → (pair.a ≢ id) × (pair.b ≢ id)
 
--- The batch's number is drawn, and under it the set is kept that the batch will be, so that a commit
--- takes no memory: it has the slot tables of the spans and a place for each shard, and is not
--- committed. No set that is joining has the number.
+-- The batch's number is drawn, and under it the set is kept that the batch will be, so that a
+-- commit takes no memory: it has the slot tables of the spans and a place for each shard, and is
+-- not committed. No set that is joining has the number.
 pub record IsReserved (far : FarState) (batch : LeavingState) : Type 0 where
   pub drawn : batch.set < far.counts.sets
   pub unpaired : IsUnpaired far batch.set

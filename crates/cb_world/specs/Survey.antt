@@ -1,4 +1,5 @@
--- What is known of how the committed sets stand, at the start, once a set is dropped and after a crash.
+-- What is known of how the committed sets stand, at the start, once a set is dropped and after a
+-- crash.
 use Rattle.std.specs.Prelude.{ℕ, ◌-◌, ◌&&◌, Bool, nat_eq, nat_lt, None, if◌then◌else◌}
 use Rattle.cb_world.specs.declared.survey.Survey.{Survey}
 

@@ -8,7 +8,8 @@ use Rattle.cb_world.specs.Sets.{set_in}
 use Rattle.cb_world.specs.SetWord.{IsWeak}
 use Rattle.cb_world.specs.FarState.{FarState}
 
--- how many committed sets with a number below this one have lost more shards than they have parities
+-- how many committed sets with a number below this one have lost more shards than they have
+-- parities
 abbrev pub gone_below : FarState → ℕ → ℕ
 gone_below far n =
     count_by (λ id. broken_set far.members (set_in far.sets id)) (range_with_len 0 n)

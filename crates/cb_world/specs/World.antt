@@ -68,8 +68,8 @@ pub record AreCounted (far : FarState) : Type 0 where
   pub given : far.nodes.given ≤ 2 ^ 20 * far.counts.turns
   pub no_pair : HoldsNoPair far
 
--- The far state has as many frames, homes and nodes as the configuration says, a node has room for as
--- many rows, and the sets have the configured code.
+-- The far state has as many frames, homes and nodes as the configuration says, a node has room for
+-- as many rows, and the sets have the configured code.
 pub record IsConfigured (c : Config) (far : FarState) : Type 0 where
   pub frames : length far.spans ≡ c.frames
   pub homes : length far.homes ≡ c.handles

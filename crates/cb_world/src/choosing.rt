@@ -49,8 +49,8 @@ fn is_better(nodes: &Nodes, node: NodeId, best: Option<NodeId>) -> bool
     }
 }
 
-/// Whether a row is put at this node sooner than at the best one so far. Nodes are tried by ascending
-/// number, so of those that hold as many rows the first one stays.
+/// Whether a row is put at this node sooner than at the best one so far. Nodes are tried by
+/// ascending number, so of those that hold as many rows the first one stays.
 fn is_next(
     nodes: &Nodes,
     members: &Members,
@@ -68,8 +68,8 @@ fn is_next(
 }
 
 /// The node for a row: of those with room on which none of these shards stands, the one that holds
-/// the fewest rows, and of those that hold as many the one with the least number; None exactly where
-/// there is none. Walks over the counts of all nodes, and takes no memory.
+/// the fewest rows, and of those that hold as many the one with the least number; None exactly
+/// where there is none. Walks over the counts of all nodes, and takes no memory.
 pub fn least_node(nodes: &Nodes, members: &Members, except: &[Shard]) -> Option<NodeId>
     requires counted { length nodes.now.nodes ≡ length members.now.nodes }
     requires few { length nodes.now.nodes ≤ 256 }

@@ -10,6 +10,7 @@ pub const JOBS: usize = 19;
 
 /// The kinds of the two jobs that look for sets to join.
 const PAIR: usize = 11;
+
 const COMPACT: usize = 15;
 
 /// The turns, in all and by job, and how many set numbers and row keys were drawn.

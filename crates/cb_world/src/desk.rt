@@ -23,11 +23,12 @@ pub enum Claim {
     Raced { found: u64 },
 }
 
-/// The words at which the holder of the far lock works: alone, or while others pin, unpin and write.
+/// The words at which the holder of the far lock works: alone, or while others pin, unpin and
+/// write.
 ///
 /// A call is told by its events. What the holder knows is plain data, which each event changes; so
-/// an operation is stated and proved once, over every desk. Where no one else changes the words, what
-/// was found is what was there, and the statement is exact. No call takes memory.
+/// an operation is stated and proved once, over every desk. Where no one else changes the words,
+/// what was found is what was there, and the statement is exact. No call takes memory.
 pub trait Desk {
     // How many handles and frames there are.
     ghost settings: { Self → Config };
@@ -57,15 +58,15 @@ pub trait Desk {
         requires { place < 512 * (settings self.old).frames }
         ensures { run self.old (Loaded place result ∷ []) self.new };
 
-    /// Loads the words of a frame into a row of 4,096 bytes, each once and in order: eight bytes a word,
-    /// the first one lowest.
+    /// Loads the words of a frame into a row of 4,096 bytes, each once and in order: eight bytes a
+    /// word, the first one lowest.
     fn load_frame(&mut self, frame: u32, row: &mut [u8])
         requires frame { frame < (settings self.old).frames }
         requires row { length row.old ≡ 4096 }
         ensures { ReadsFrame (λ es. run self.old es self.new) frame row.new };
 
-    /// Claims the object, Raced exactly where its word is another than `saw`. The word `saw` is here
-    /// and has no pins.
+    /// Claims the object, Raced exactly where its word is another than `saw`. The word `saw` is
+    /// here and has no pins.
     fn claim(&mut self, h: Handle, saw: u64) -> Claim
         requires handle { h.n < (settings self.old).handles }
         requires here { state_of saw ≡ word.Here }
@@ -81,8 +82,8 @@ pub trait Desk {
         requires owned { (s : Shown) × shows self.old s × Owns s place }
         ensures { run self.old (Stored place word ∷ []) self.new };
 
-    /// Stores the words of a row of 4,096 bytes in a frame whose words the caller owns, each once and in
-    /// order.
+    /// Stores the words of a row of 4,096 bytes in a frame whose words the caller owns, each once
+    /// and in order.
     fn store_frame(&mut self, frame: u32, row: &[u8])
         requires frame { frame < (settings self.old).frames }
         requires row { length row.now ≡ 4096 }
@@ -110,7 +111,8 @@ pub trait Desk {
     // The configuration stays.
     ghost stays: { (d e : Self) (es : List Event) → run d es e → settings e ≡ settings d };
 
-    // What events tell agrees with what was known, and what is known afterwards is what they make of it.
+    // What events tell agrees with what was known, and what is known afterwards is what they make
+    // of it.
     ghost follows: { (d e : Self) (es : List Event) (s : Shown) → run d es e → shows d s
         → Agree s es × shows e (played es s) };
 

@@ -66,9 +66,9 @@ impl Model for Far {
 
 impl Far {
     /// The far state of a configuration at the start: all frames are free, no object was made, and
-    /// all nodes are up without rows. Each make gives the version `first`, which is at least 1, since
-    /// 0 is the version of an object that was never made. Takes the memory of all frames' spans,
-    /// their index and all homes.
+    /// all nodes are up without rows. Each make gives the version `first`, which is at least 1,
+    /// since 0 is the version of an object that was never made. Takes the memory of all frames'
+    /// spans, their index and all homes.
     pub fn new(alloc: Global, first: u64, config: Config) -> Result<Far, NoMemory>
         requires config { IsAccepted config }
         requires first { 1 ≤ first }

@@ -63,8 +63,8 @@ pub fn solved(
 }
 
 /// The row of the set's word at a position, in `into`: its own row where its shard is not lost (one
-/// row is given out), else the row that k others make (k rows are given out). Rows have 4,096 bytes.
-/// Where there is no memory, at most k rows were given out, and `into` may have any bytes.
+/// row is given out), else the row that k others make (k rows are given out). Rows have 4,096
+/// bytes. Where there is no memory, at most k rows were given out, and `into` may have any bytes.
 pub fn fetch(
     alloc: Global,
     nodes: &mut Nodes,

@@ -25,9 +25,9 @@ pub fn is_free(word: u64) -> bool
     fields.pins == 0 && fields.state == State::Here
 }
 
-/// Claims the object where its word is here without pins. A claim that is raced by a word of that kind
-/// is made once more, and the second one decides: such words differ in the hot bit alone, and others
-/// only set it.
+/// Claims the object where its word is here without pins. A claim that is raced by a word of that
+/// kind is made once more, and the second one decides: such words differ in the hot bit alone, and
+/// others only set it.
 pub fn try_claim<D: Desk>(desk: &mut D, h: Handle) -> Grasp
     requires handle { h.n < (D.settings desk.old).handles }
     requires shown { (s : Shown) × D.shows desk.old s }

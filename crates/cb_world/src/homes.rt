@@ -13,7 +13,8 @@ pub struct Home {
     pub slot: u32,
 }
 
-/// For each handle the home of its object, where it is far. All its memory is taken when it is made.
+/// For each handle the home of its object, where it is far. All its memory is taken when it is
+/// made.
 #[derive(Drop)]
 pub struct Homes {
     homes: Vec<Option<Home>>,

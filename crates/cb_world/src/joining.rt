@@ -1,8 +1,8 @@
 use cb_member::Shard;
 use std::marker::Model;
 
-/// The pair of span-sets that is joining: their numbers and their shards at the begin, the positions
-/// taken from b, and by position the shard of the step that was done, where one was.
+/// The pair of span-sets that is joining: their numbers and their shards at the begin, the
+/// positions taken from b, and by position the shard of the step that was done, where one was.
 #[derive(Drop)]
 pub struct Joining {
     pub a: u64,

@@ -9,8 +9,9 @@ pub struct Former {
     pub word: u64,
 }
 
-/// The batch that is leaving: the number of its set, its frames by position, the words of its objects
-/// before the begin, its parities, and by position the shard whose row was put, where one was.
+/// The batch that is leaving: the number of its set, its frames by position, the words of its
+/// objects before the begin, its parities, and by position the shard whose row was put, where one
+/// was.
 #[derive(Drop)]
 pub struct Leaving {
     pub set: u64,

@@ -11,8 +11,8 @@ use std::marker::Model;
 /// How many words of memory a frame has.
 const FRAME_WORDS: usize = 512;
 
-/// The words of local memory. A frame's words are touched when one of them is stored, so that a large
-/// memory of which little is used costs its addresses alone.
+/// The words of local memory. A frame's words are touched when one of them is stored, so that a
+/// large memory of which little is used costs its addresses alone.
 #[derive(Drop)]
 pub(crate) struct LocalMemory {
     // The words up to the last frame that was stored to; all behind them are 0.

@@ -31,9 +31,9 @@ fn least_room(far: &Far, class: Class, temp: Temp) -> Option<u32>
         .least_open(class, temp, leaving_frames(&far.leaving))
 }
 
-/// Places an object of the class in local memory, and answers the place of its slot: the least empty
-/// slot in the least frame whose span has the class and temperature and is not leaving; else the
-/// first slot of a new span in the least free frame. None exactly where there is neither.
+/// Places an object of the class in local memory, and answers the place of its slot: the least
+/// empty slot in the least frame whose span has the class and temperature and is not leaving; else
+/// the first slot of a new span in the least free frame. None exactly where there is neither.
 ///
 /// Takes the memory of a new span alone, before anything changes.
 pub fn place_object(

@@ -46,8 +46,8 @@ impl Model for PlainDesk {
 }
 
 impl PlainDesk {
-    /// A desk with no objects: every word is 0. Takes the memory of all pointer words, version words
-    /// and frames.
+    /// A desk with no objects: every word is 0. Takes the memory of all pointer words, version
+    /// words and frames.
     pub fn new(alloc: Global, config: Config) -> Result<PlainDesk, NoMemory>
         requires { IsAccepted config }
         ensures empty { IfOk result (λ desk. desk ≡ record {

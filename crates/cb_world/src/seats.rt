@@ -24,9 +24,10 @@ pub struct Pin {
     pub version: u64,
 }
 
-/// A write that is open: its object's handle and length in bytes, the version and the words that the
-/// object had when it was claimed, the bytes that are written from the byte number `at` on, and how
-/// many of the words that the write touches are stored, the version word being the last of them.
+/// A write that is open: its object's handle and length in bytes, the version and the words that
+/// the object had when it was claimed, the bytes that are written from the byte number `at` on, and
+/// how many of the words that the write touches are stored, the version word being the last of
+/// them.
 #[derive(Drop)]
 pub struct OpenWrite {
     pub handle: u32,

@@ -12,7 +12,8 @@ use std::collections::BTreeMap;
 use std::collections::btree_map::Range;
 use std::marker::Model;
 
-/// A set, and whether it is committed. The set of a batch that is leaving is kept before its commit.
+/// A set, and whether it is committed. The set of a batch that is leaving is kept before its
+/// commit.
 #[derive(Drop)]
 pub struct KeptSet {
     pub set: SpanSet,
@@ -38,8 +39,8 @@ impl KeptSet {
         self.set.kill(position);
     }
 
-    /// Takes the object out of a slot of the set. A position that names no handle then is dead. Takes
-    /// no memory.
+    /// Takes the object out of a slot of the set. A position that names no handle then is dead.
+    /// Takes no memory.
     fn take_out(&mut self, position: u32, slot: u32)
         requires { position < length self.old.set.positions }
         ensures { self.new ≡ record self.old {
@@ -110,7 +111,8 @@ impl Sets {
         }
     }
 
-    /// The least number of a set from this one on, committed or not; None exactly where there is none.
+    /// The least number of a set from this one on, committed or not; None exactly where there is
+    /// none.
     pub fn next(&self, from: u64) -> Option<u64>
         ensures found { IfSome result (λ id. (from ≤ id) × IsSome (map.get self.now id)) }
         ensures least { IfSome result (λ id. (j : ℕ) → from ≤ j → j < id
@@ -121,8 +123,8 @@ impl Sets {
         Some(*id)
     }
 
-    /// The sets with a number from this one on, in the order of their numbers: the first one costs the
-    /// logarithm of their count, and each further one a step.
+    /// The sets with a number from this one on, in the order of their numbers: the first one costs
+    /// the logarithm of their count, and each further one a step.
     pub fn range_from(&self, from: u64) -> Range<'_, u64, KeptSet>
         ensures { AreFrom self.now from result }
     {

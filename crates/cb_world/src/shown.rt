@@ -1,8 +1,8 @@
 use crate::object::Object;
 
-/// What the holder of the far lock knows. No value of it is made; contracts read its arrays as lists
-/// of any length. Objects, version words and whether a word was seen hot are listed by handle,
-/// memory words by place.
+/// What the holder of the far lock knows. No value of it is made; contracts read its arrays as
+/// lists of any length. Objects, version words and whether a word was seen hot are listed by
+/// handle, memory words by place.
 pub struct Shown {
     /// The version that a make gives.
     pub first: u64,

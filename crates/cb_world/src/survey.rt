@@ -2,12 +2,12 @@ ghost use Rattle.std.specs.Prelude.{◌≡◌};
 ghost use Rattle.cb_world.specs.Survey.{no_survey, survey_without};
 
 /// What is known since the last crash that lost a row of how the committed sets stand: none with a
-/// number below `below` is weak, and `gone` of them have lost more shards than they have parities. A
-/// rebuild goes on from here, so that it looks at no set twice between two such crashes but at the one
-/// that it mends.
+/// number below `below` is weak, and `gone` of them have lost more shards than they have parities.
+/// A rebuild goes on from here, so that it looks at no set twice between two such crashes but at
+/// the one that it mends.
 ///
-/// Where a pair was looked for and none was found, `no_pair` is how many turns that look for none were
-/// counted then: until the next such turn there is none.
+/// Where a pair was looked for and none was found, `no_pair` is how many turns that look for none
+/// were counted then: until the next such turn there is none.
 #[derive(Clone, Copy)]
 pub struct Survey {
     pub below: u64,

@@ -10,8 +10,8 @@ use cb_types::Config;
 use std::alloc::Global;
 use std::marker::Model;
 
-/// The whole world on one thread: the words of local memory at the still desk, the far state, and the
-/// seats from which callers act.
+/// The whole world on one thread: the words of local memory at the still desk, the far state, and
+/// the seats from which callers act.
 #[derive(Drop)]
 pub struct World {
     pub desk: PlainDesk,
@@ -33,9 +33,9 @@ impl Model for World {
 }
 
 impl World {
-    /// The empty world of a configuration: no object was made, all frames are free, all nodes are up
-    /// without rows, and all seats are idle. Takes the memory of all frames, pointer words and version
-    /// words.
+    /// The empty world of a configuration: no object was made, all frames are free, all nodes are
+    /// up without rows, and all seats are idle. Takes the memory of all frames, pointer words and
+    /// version words.
     pub fn new(alloc: Global, config: Config) -> Result<World, NoMemory>
         requires { IsAccepted config }
         ensures empty { IfOk result (λ world. world ≡ empty_world config) }
