@@ -372,7 +372,9 @@ end_configured c s far new r sound (inr x) is =
 -- a pair was found, so that nothing noted is of now, and no part of the turn notes anything
 steps_note : (c : Config) (s : Shown) (far new : FarState) (done : List ℕ) → Sound s far
     → AreStepped far done new → IsConfigured c far → KeepsNote far new
-steps_note c s far new [] sound steps is = subst (KeepsNote far) (sym steps) (λ n e. e)
+steps_note c s far new [] sound steps is n e =
+    subst (λ (f : FarState). f.survey.no_pair ≡ Some n → far.survey.no_pair ≡ Some n) (sym steps)
+    (λ x. x) e
 steps_note c s far new (p ∷ done) sound steps is n e =
     let k = patch_laws.keeps s far steps.0 (answer.Stepped p) sound steps.1 in
     let z = patch_laws.stays c s far steps.0 (answer.Stepped p) sound steps.1 is in
@@ -449,7 +451,7 @@ now_stays c s far new r sound (inl x) is = more_stays c far new
     (begin_laws.stays c s far new r sound (inl x) is)
 now_stays c s far new r sound (inr (inl x)) is = more_stays c far new
     (begin_laws.stays c s far new r sound (inr (inl x)) is)
-now_stays c s far new r sound (inr (inr x)) = through_stays c s far new r sound x
+now_stays c s far new r sound (inr (inr x)) is = through_stays c s far new r sound x is
 
 -- ---- local memory
 leaves_both : (far mid new : FarState) → LeavesLocal far mid → LeavesLocal mid new

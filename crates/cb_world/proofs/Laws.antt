@@ -6,7 +6,7 @@ pub use Rattle.cb_world.proofs.Alike.{recounted_sound, retold_sound}
 pub use Rattle.cb_world.proofs.Apart.{apart, slot_inside, some_same}
 pub use Rattle.cb_world.proofs.BatchGone.{batch_given_up_whole, gone_sets, put_at, put_from}
 pub use Rattle.cb_world.proofs.Beginning.{whole_none}
-pub use Rattle.cb_world.proofs.Beside.{KeepsBeside, put_beside, put_twice_beside, sound_beside}
+pub use Rattle.cb_world.proofs.Beside.{IsBeside, KeepsBeside, put_beside, put_twice_beside, sound_beside}
 pub use Rattle.cb_world.proofs.Bridge.{put_only}
 pub use Rattle.cb_world.proofs.Choices.{few_pass, number, range_more}
 pub use Rattle.cb_world.proofs.Claimed.{avoids, back_written, held, is_claimed_at, lies, may_put_back, settled_here}
@@ -32,7 +32,7 @@ pub use Rattle.cb_world.proofs.NodeJoin.{claimed_stay, local_stays, node_crash_s
 pub use Rattle.cb_world.proofs.NowKept.{brought_now, now_kept, put_away_now}
 pub use Rattle.cb_world.proofs.NowOthers.{contents_beside, near_lies}
 pub use Rattle.cb_world.proofs.NowSame.{bits, empty_now, empty_value, far_object, near_now, near_object, now_by_words, now_same}
-pub use Rattle.cb_world.proofs.OpenKept.{open_here, open_kept, open_same, open_word, pins_hold, pins_leave}
+pub use Rattle.cb_world.proofs.OpenKept.{leaving_claimed, open_here, open_kept, open_same, open_word, pins_hold, pins_leave, seat_beside}
 pub use Rattle.cb_world.proofs.Patching.{join_is_merged, parity_step, patched_more}
 pub use Rattle.cb_world.proofs.PinNow.{pinned_now, unpinned_now}
 pub use Rattle.cb_world.proofs.Pins.{pin_counts, pin_sound, pinned_still, unpin_sound}

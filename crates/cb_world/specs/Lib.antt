@@ -51,6 +51,7 @@ pub mod Finishes
 pub mod Reads
 pub mod Released
 pub mod OpenWrites
+pub mod OpenSteps
 pub mod World
 pub mod StillWords
 pub mod Placed
