@@ -84,6 +84,7 @@ mod WorkedFar
 mod WorkedReserved
 mod WorkedOpen
 mod WorkedOpenWrites
+mod WorkedSeatWrites
 mod WorkedChoices
 mod WorkedLeft
 mod WorkedPlaced
