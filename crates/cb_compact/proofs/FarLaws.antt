@@ -9,7 +9,7 @@ use Rattle.cb_types.specs.Table.{IsReplyOf}
 use Rattle.cb_world.specs.declared.shown.Shown.{Shown}
 use Rattle.cb_world.specs.FarState.{FarState}
 use Rattle.cb_world.specs.Sound.{Sound}
-use Rattle.cb_world.proofs.Laws.{StaysIf}
+use Rattle.cb_world.proofs.Laws.{StaysIfBy}
 use Rattle.cb_compact.proofs.Keeping.{Keeps}
 
 -- the handles that were made, local memory, the members, the batch that is leaving and the count of
@@ -23,14 +23,14 @@ pub record LeavesLocal (far new : FarState) : Type 0 where
   pub leaving : new.leaving ≡ far.leaving
   pub turns : new.counts.turns ≡ far.counts.turns
 
--- Of a step whose numbers rise by at most so many, and which such a line does. What is configured
--- stays; the world stays sound, and `now` of every handle is as before; local memory stays; a sound
+-- Of a step whose numbers rise by at most so many, which does so to what is noted of a search for a
+-- pair, and which such a line does. What is configured stays; the world stays sound, and `now` of every handle is as before; local memory stays; a sound
 -- far state has one reply and leads to one far state; and the reply is one of the line's, and never
 -- that there is no frame.
-pub record AreFarLaws (most : ℕ) (line : Request) (step : FarState → FarState → Reply → Type 0)
-    : Type 0 where
+pub record AreFarLaws (N : FarState → FarState → Type 0) (most : ℕ) (line : Request)
+    (step : FarState → FarState → Reply → Type 0) : Type 0 where
   pub stays : (c : Config) (s : Shown) (far new : FarState) (r : Reply) → Sound s far
-      → step far new r → StaysIf c most far new
+      → step far new r → StaysIfBy N c most far new
   pub keeps : (s : Shown) (far new : FarState) (r : Reply) → Sound s far → step far new r
       → Keeps s far new
   pub leaves : (far new : FarState) (r : Reply) → step far new r → LeavesLocal far new

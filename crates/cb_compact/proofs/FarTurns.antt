@@ -6,6 +6,7 @@ use Rattle.cb_types.specs.Table.{IsReplyOf}
 use Rattle.cb_world.specs.declared.shown.Shown.{Shown}
 use Rattle.cb_world.specs.FarState.{FarState}
 use Rattle.cb_world.specs.Sound.{Sound}
+use Rattle.cb_world.proofs.Laws.{KeepsHolding, KeepsNote, no_pair_sound}
 use Rattle.cb_compact.specs.MergeStep.{MergeStep, Merges}
 use Rattle.cb_compact.specs.Pairing.{BeginStep}
 use Rattle.cb_compact.specs.Standing.{PartStep}
@@ -23,8 +24,8 @@ use Rattle.cb_compact.proofs.TableExists.{table_exists}
 begin_keeps : (s : Shown) (far new : FarState) (r : Reply) → Sound s far → BeginStep far new r
     → Keeps s far new
 begin_keeps s far new r sound (inl x) = subst (Keeps s far) (sym x.state) (keeps_all s far sound)
-begin_keeps s far new r sound (inr (inl x)) =
-    subst (Keeps s far) (sym x.state) (keeps_all s far sound)
+begin_keeps s far new r sound (inr (inl x)) = subst (Keeps s far) (sym x.state)
+    (record { sound = no_pair_sound s far sound; same_now = λ h. refl })
 begin_keeps s far new r sound (inr (inr x)) =
     let shaped = sound.away.sound.sets.shaped x.x x.a x.first.can.a_there in
     let table = table_exists _ _ shaped.range in
@@ -167,7 +168,7 @@ part_answers far new r (inl x) = subst (IsReplyOf line.Part) (sym x.reply) tt
 part_answers far new r (inr x) = subst (IsReplyOf line.Part) (sym x.reply) tt
 
 -- ---- all of it, for each step
-pub begin_laws : AreFarLaws 1 line.Pair BeginStep
+pub begin_laws : AreFarLaws KeepsHolding 1 line.Pair BeginStep
 begin_laws = record {
   stays = begin_stays;
   keeps = begin_keeps;
@@ -177,7 +178,7 @@ begin_laws = record {
   framed = λ far new r x e. subst (IsReplyOf line.Pair) e (begin_answers far new r x);
 }
 
-pub patch_laws : AreFarLaws 1 line.Patch PatchStep
+pub patch_laws : AreFarLaws KeepsNote 1 line.Patch PatchStep
 patch_laws = record {
   stays = patch_stays;
   keeps = patch_keeps;
@@ -187,7 +188,7 @@ patch_laws = record {
   framed = λ far new r x e. subst (IsReplyOf line.Patch) e (patch_answers far new r x);
 }
 
-pub merge_laws : AreFarLaws 1 line.Merge MergeStep
+pub merge_laws : AreFarLaws KeepsNote 1 line.Merge MergeStep
 merge_laws = record {
   stays = merge_stays;
   keeps = merge_keeps;
@@ -197,7 +198,7 @@ merge_laws = record {
   framed = λ far new r x e. subst (IsReplyOf line.Merge) e (merge_answers far new r x);
 }
 
-pub part_laws : AreFarLaws 1 line.Part PartStep
+pub part_laws : AreFarLaws KeepsNote 1 line.Part PartStep
 part_laws = record {
   stays = part_stays;
   keeps = part_keeps;

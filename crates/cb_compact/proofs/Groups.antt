@@ -28,7 +28,8 @@ same_number a b e = exact_unsigned a b (is_equal (nat_cmp a b) e)
 
 pub same_group : (g h : Group) → is_eq (group_cmp g h) ≡ true → g ≡ h
 same_group g h e =
-    let x = both_equal (nat_cmp g.k h.k) (ordering_then (nat_cmp g.r h.r) (nat_cmp g.live h.live)) e in
+    let x = both_equal (nat_cmp g.k h.k)
+    (ordering_then (nat_cmp g.r h.r) (nat_cmp g.live h.live)) e in
     let y = both_equal (nat_cmp g.r h.r) (nat_cmp g.live h.live) x.1 in
     let k = same_number g.k h.k x.0 in let r = same_number g.r h.r y.0 in
     let live = same_number g.live h.live y.1 in

@@ -15,12 +15,13 @@ use Rattle.cb_world.specs.declared.shown.Shown.{Shown}
 use Rattle.cb_world.specs.Counts.{CountsState}
 use Rattle.cb_world.specs.FarState.{FarState}
 use Rattle.cb_world.specs.Joining.{JoiningState}
+use Rattle.cb_world.specs.Pairs.{others}
 use Rattle.cb_world.specs.JoinSteps.{with_step}
 use Rattle.cb_world.specs.Reserved.{put_shards}
 use Rattle.cb_world.specs.Sound.{Sound}
 use Rattle.cb_world.specs.Stored.{all_dropped}
 use Rattle.cb_world.specs.World.{IsConfigured}
-use Rattle.cb_world.proofs.Laws.{StaysIf, stays_same}
+use Rattle.cb_world.proofs.Laws.{KeepsHolding, KeepsNote, StaysBy, StaysIfBy, others_same, rises_more}
 use Rattle.cb_compact.specs.MergeStep.{IsMerged, MergeStep, Merges, replaced_shards}
 use Rattle.cb_compact.specs.NowStep.{AreStepped, Ends, GoesThrough, NowStep}
 use Rattle.cb_compact.specs.Pairing.{BeginStep, numbered}
@@ -30,7 +31,7 @@ use Rattle.cb_compact.proofs.FarLaws.{AreFarLaws, LeavesLocal}
 use Rattle.cb_compact.proofs.FarTurns.{begin_laws, merge_laws, part_laws, patch_laws}
 use Rattle.cb_compact.proofs.Keeping.{Keeps, dropped_given, keeps_both}
 use Rattle.cb_compact.proofs.NowGone.{stepped_keeps_all}
-use Rattle.cb_compact.proofs.NowKept.{from_keep, has_begun}
+use Rattle.cb_compact.proofs.NowKept.{at_pair, from_keep, has_begun}
 use Rattle.cb_compact.proofs.OneStep.{few_steps, step_is_none}
 
 -- ---- what a reply tells of the step
@@ -368,8 +369,38 @@ end_configured c s far new r sound (inl x) is =
 end_configured c s far new r sound (inr x) is =
     (merge_laws.stays c s far new (answer.Merged x.set x.moved) sound x.merged is).configured
 
+-- a pair was found, so that nothing noted is of now, and no part of the turn notes anything
+steps_note : (c : Config) (s : Shown) (far new : FarState) (done : List ℕ) → Sound s far
+    → AreStepped far done new → IsConfigured c far → KeepsNote far new
+steps_note c s far new [] sound steps is n e =
+    subst (λ (f : FarState). f.survey.no_pair ≡ Some n → far.survey.no_pair ≡ Some n) (sym steps)
+    (λ x. x) e
+steps_note c s far new (p ∷ done) sound steps is n e =
+    let k = patch_laws.keeps s far steps.0 (answer.Stepped p) sound steps.1 in
+    let z = patch_laws.stays c s far steps.0 (answer.Stepped p) sound steps.1 is in
+    z.rises.note n (steps_note c s steps.0 new done k.sound steps.2 z.configured n e)
+
+end_note : (c : Config) (s : Shown) (far new : FarState) (r : Reply) → Sound s far → Ends far new r
+    → IsConfigured c far → KeepsNote far new
+end_note c s far new r sound (inl x) is =
+    (part_laws.stays c s far new answer.Done sound x.parted is).rises.note
+end_note c s far new r sound (inr x) is =
+    (merge_laws.stays c s far new (answer.Merged x.set x.moved) sound x.merged is).rises.note
+
+-- the note of a far state in which two sets can be joined is an older one
+older_note : (far mid new : FarState) (a b : SetId) → BeginStep far mid (answer.Pair a b)
+    → KeepsNote mid new → others new.counts ≡ others far.counts → KeepsHolding far new
+older_note far mid new a b begun keeps same holds n e =
+    let x = at_pair far mid a b begun in
+    let was : far.survey.no_pair ≡ Some n =
+    sym (ap (λ (f : FarState). f.survey.no_pair) x.state) ∙ keeps n e in
+    let z = holds n was in let l = z.0 in (
+      omega (arith, l, same),
+      λ now. absurd (z.1 (now ∙ same) x.x x.y x.a x.b x.first.above x.first.can),
+    )
+
 through_stays : (c : Config) (s : Shown) (far new : FarState) (r : Reply) → Sound s far
-    → GoesThrough far new r → StaysIf c 20 far new
+    → GoesThrough far new r → StaysIfBy KeepsHolding c 20 far new
 through_stays c s far new r sound x is =
     let k = begin_laws.keeps s far x.begun (answer.Pair x.a x.b) sound x.paired in
     let l = stepped_keeps_all s x.begun x.stepped x.done k.sound x.steps in
@@ -382,7 +413,12 @@ through_stays c s far new r sound x is =
     let sets_first = ap (λ (z : CountsState). z.sets) counts in
     let keys_first = ap (λ (z : CountsState). z.keys) counts in
     let sets_then = p.sets in let sets_last = q.sets in let keys_last = q.keys in
-    let all = counted_both x.begun x.stepped new p.counted q.counted in record {
+    let all = counted_both x.begun x.stepped new p.counted q.counted in
+    let begun = (begin_laws.stays c s far x.begun (answer.Pair x.a x.b) sound x.paired is).configured in
+    let turns = all.turns ∙ ap (λ (z : CountsState). z.turns) counts in
+    let by_job = all.by_job ∙ ap (λ (z : CountsState). z.by_job) counts in
+    let stepped = steps_configured c s x.begun x.stepped x.done k.sound x.steps begun in
+    record {
       configured = end_configured c s x.stepped new r l.sound x.ends
           (steps_configured c s x.begun x.stepped x.done k.sound x.steps
           (begin_laws.stays c s far x.begun (answer.Pair x.a x.b) sound x.paired is).configured);
@@ -395,14 +431,27 @@ through_stays c s far new r sound x is =
             let f = ap (λ (z : FarState). z.members.epoch) h.state in omega (arith, e, f);
         given = let e = all.given in let f = ap (λ (z : FarState). z.nodes.given) h.state in
             omega (arith, e, f);
+        note = older_note far x.begun new x.a x.b x.paired
+            (λ n e. steps_note c s x.begun x.stepped x.done k.sound x.steps begun n
+            (end_note c s x.stepped new r l.sound x.ends stepped n e))
+            (others_same far new turns by_job);
       };
     }
 
+more_stays : (c : Config) (far new : FarState) → StaysBy KeepsHolding c 1 far new
+    → StaysBy KeepsHolding c 20 far new
+more_stays c far new z = record {
+  configured = z.configured;
+  rises = rises_more 1 20 far new (omega arith) z.rises;
+}
+
 now_stays : (c : Config) (s : Shown) (far new : FarState) (r : Reply) → Sound s far
-    → NowStep far new r → StaysIf c 20 far new
-now_stays c s far new r sound (inl x) = stays_same c 20 far new (omega arith) x.state
-now_stays c s far new r sound (inr (inl x)) = stays_same c 20 far new (omega arith) x.state
-now_stays c s far new r sound (inr (inr x)) = through_stays c s far new r sound x
+    → NowStep far new r → StaysIfBy KeepsHolding c 20 far new
+now_stays c s far new r sound (inl x) is = more_stays c far new
+    (begin_laws.stays c s far new r sound (inl x) is)
+now_stays c s far new r sound (inr (inl x)) is = more_stays c far new
+    (begin_laws.stays c s far new r sound (inr (inl x)) is)
+now_stays c s far new r sound (inr (inr x)) is = through_stays c s far new r sound x is
 
 -- ---- local memory
 leaves_both : (far mid new : FarState) → LeavesLocal far mid → LeavesLocal mid new
@@ -454,7 +503,7 @@ now_answers far new r (inr (inr x)) = by x.ends
     by (inr y) = subst (IsReplyOf line.Compact) (sym y.reply) tt
 
 -- ---- all of it
-pub now_laws : AreFarLaws 20 line.Compact NowStep
+pub now_laws : AreFarLaws KeepsHolding 20 line.Compact NowStep
 now_laws = record {
   stays = now_stays;
   keeps = now_keeps;

@@ -14,10 +14,10 @@ use Rattle.cb_world.specs.Reserved.{put_shards}
 use Rattle.cb_world.specs.Sets.{Kept}
 use Rattle.cb_world.specs.Sound.{Sound}
 use Rattle.cb_world.specs.Stored.{all_dropped}
-use Rattle.cb_world.proofs.Laws.{HasCode, code_as, codes_put, codes_removed, codes_stay, drop_count, drop_room, StaysIf, stays_like, stays_same}
+use Rattle.cb_world.proofs.Laws.{HasCode, code_as, codes_put, codes_removed, codes_stay, drop_count, drop_room, KeepsHolding, KeepsNote, no_pair_configured, noted_holds, StaysBy, StaysIf, StaysIfBy, stays_like, stays_noted, stays_same}
 use Rattle.cb_compact.specs.MergeStep.{MergeStep, Merges, merged_set, replaced_shards, with_merged}
 use Rattle.cb_compact.specs.Merging.{IsReadyToMerge}
-use Rattle.cb_compact.specs.Pairing.{BeginStep, with_pair}
+use Rattle.cb_compact.specs.Pairing.{BeginStep, IsFirstPair, with_pair}
 use Rattle.cb_compact.specs.Rehoming.{AreRehomed}
 use Rattle.cb_compact.specs.Standing.{PartStep, with_parted}
 use Rattle.cb_compact.specs.Steps.{PatchStep, TakesStep, with_stepped}
@@ -35,6 +35,7 @@ begun_stays c far pair = stays_like c 1 far (with_pair far pair) (omega arith) (
   room = refl;
   codes = codes_stay far (with_pair far pair) refl refl;
   counts = refl;
+  note = λ n e. e;
   epoch = omega arith;
   given = refl;
 })
@@ -48,6 +49,7 @@ parted_stays c far pair = stays_like c 1 far (with_parted far pair) (omega arith
   room = drop_room far.nodes (put_shards pair.steps);
   codes = codes_stay far (with_parted far pair) refl refl;
   counts = refl;
+  note = λ n e. e;
   epoch = omega arith;
   given = dropped_given far.nodes (put_shards pair.steps);
 })
@@ -69,6 +71,7 @@ stepped_stays c far pair p shard row is = record {
     keys = omega arith;
     epoch = omega arith;
     given = omega arith;
+    note = λ n e. e;
   };
 }
 
@@ -119,16 +122,39 @@ module _ (c : Config) (s : Shown) (far : FarState) (pair : JoiningState) (a b : 
       given = let e = dropped_given without_b gone in
           let f = dropped_given far.nodes pair.shards_b in
           omega (arith, e, f);
+      note = λ n e. e;
     };
   }
 
 -- ---- each step
+-- what was noted holds where nothing or but the joining pair has changed
+pub paired_holds : (far : FarState) (x y : ℕ) (a b : SetState) (pair : JoiningState)
+    → IsFirstPair far x y a b → KeepsHolding far (with_pair far pair)
+paired_holds far x y a b pair first holds n e = let z = holds n e in let l = z.0 in
+    (omega (arith, l), λ now. absurd (z.1 now x y a b first.above first.can))
+
 pub begin_stays : (c : Config) (s : Shown) (far new : FarState) (r : Reply) → Sound s far
-    → BeginStep far new r → StaysIf c 1 far new
-begin_stays c s far new r sound (inl x) = stays_same c 1 far new (omega arith) x.state
-begin_stays c s far new r sound (inr (inl x)) = stays_same c 1 far new (omega arith) x.state
-begin_stays c s far new r sound (inr (inr x)) =
-    subst (StaysIf c 1 far) (sym x.state) (begun_stays c far _)
+    → BeginStep far new r → StaysIfBy KeepsHolding c 1 far new
+begin_stays c s far new r sound (inl x) is = subst (StaysBy KeepsHolding c 1 far) (sym x.state)
+    (stays_noted KeepsNote KeepsHolding c 1 far far (λ holds. holds)
+    (stays_same c 1 far far (omega arith) refl is))
+begin_stays c s far new r sound (inr (inl x)) is =
+    subst (StaysBy KeepsHolding c 1 far) (sym x.state) (record {
+      configured = no_pair_configured c far is;
+      rises = record {
+        turns = refl;
+        by_job = refl;
+        sets = omega arith;
+        keys = omega arith;
+        epoch = omega arith;
+        given = omega arith;
+        note = λ holds. noted_holds far x.no_two;
+      };
+    })
+begin_stays c s far new r sound (inr (inr x)) is =
+    subst (StaysBy KeepsHolding c 1 far) (sym x.state)
+    (stays_noted KeepsNote KeepsHolding c 1 far _
+    (paired_holds far x.x x.y x.a x.b _ x.first) (begun_stays c far _ is))
 
 pub patch_stays : (c : Config) (s : Shown) (far new : FarState) (r : Reply) → Sound s far
     → PatchStep far new r → StaysIf c 1 far new

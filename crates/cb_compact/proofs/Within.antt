@@ -12,7 +12,8 @@ use Rattle.cb_compact.specs.Tables.{IsWithin}
 -- a number with a bit is no less than that bit
 pub bit_on_le : (n p : ℕ) → bit_at n p ≡ 1 → 2 ^ p ≤ n
 bit_on_le n p on = elim (cases_lt n (2 ^ p)) [
-  | inl below ↦ let none = bit_at_above n p p below (omega arith) in absurd (omega (arith, on, none))
+  | inl below ↦ let none = bit_at_above n p p below (omega arith) in
+      absurd (omega (arith, on, none))
   | inr there ↦ there
 ]
 
@@ -121,7 +122,8 @@ bit_there n p m few is some =
     let e : m ≡ 2 ^ p = is ∙ bit_mask p few in
     let x : bit_and n m ≡ bit_at n p * 2 ^ p = ap (bit_and n) e ∙ and_pow n p in
     let l = bit_at-lt n p in
-    let on : bit_at n p ≡ 1 = by (bit_at n p) l (λ z. some (let y = ap (λ (d : ℕ). d * 2 ^ p) z in omega (arith, x, y))) in
+    let on : bit_at n p ≡ 1 = by (bit_at n p) l (λ z. some
+    (let y = ap (λ (d : ℕ). d * 2 ^ p) z in omega (arith, x, y))) in
     (e, on, bit_on_le n p on)
   where
     by : (d : ℕ) → d < 2 → (d ≡ 0 → ⊥) → d ≡ 1

@@ -2,22 +2,14 @@
 use Rattle.std.specs.Prelude.{◌≡◌, ◌⊎◌, ℕ, ◌<◌, ◌≤◌, List, None, Some, length, filter, replicate}
 use Rattle.std.specs.List.{range_with_len}
 use Rattle.cb_set.specs.SetState.{SetState, live_at, parities}
-use Rattle.cb_set.specs.Matched.{IsMatched}
 use Rattle.cb_types.specs.declared.handle.SetId.{SetId}
 use Rattle.cb_types.specs.declared.reply.Reply.{Reply}
 use Rattle.cb_types.specs.declared.reply.Reply.TheVariants as answer
 use Rattle.cb_world.specs.Joining.{JoiningState}
 use Rattle.cb_world.specs.Sets.{set_in}
 use Rattle.cb_world.specs.FarState.{FarState}
-
--- two committed sets can be joined: they are of one code, both whole, and no position is live in
--- both
-pub record CanJoin (far : FarState) (x y : ℕ) (a b : SetState) : Type 0 where
-  pub a_there : set_in far.sets x ≡ Some a
-  pub b_there : set_in far.sets y ≡ Some b
-  pub data_count : length b.positions ≡ length a.positions
-  pub parity_count : parities b ≡ parities a
-  pub matched : IsMatched far.members a b
+pub use Rattle.cb_world.specs.Pairs.{CanJoin, NoneCanJoin}
+use Rattle.cb_world.specs.Pairs.{with_no_pair}
 
 -- x is the least number of a set that can be joined with one of a greater number, and y is the
 -- least number of such another one
@@ -26,10 +18,6 @@ pub record IsFirstPair (far : FarState) (x y : ℕ) (a b : SetState) : Type 0 wh
   pub can : CanJoin far x y a b
   pub least_a : (i j : ℕ) (c d : SetState) → i < j → CanJoin far i j c d → x ≤ i
   pub least_b : (j : ℕ) (c d : SetState) → x < j → CanJoin far x j c d → y ≤ j
-
--- no two sets can be joined
-abbrev pub NoneCanJoin : FarState → Type 0
-NoneCanJoin far = (i j : ℕ) (c d : SetState) → i < j → ¬ (CanJoin far i j c d)
 
 -- the live positions of a set, in order
 abbrev pub live_positions : SetState → List ℕ
@@ -61,12 +49,12 @@ pub record IsJoining (far new : FarState) (r : Reply) : Type 0 where
   pub reply : r ≡ answer.Joining (numbered pair.a) (numbered pair.b)
   pub state : new ≡ far
 
--- no two sets can be joined
+-- no two sets can be joined, and that is noted
 pub record FindsNoPair (far new : FarState) (r : Reply) : Type 0 where
   pub none : far.joining ≡ None
   pub no_two : NoneCanJoin far
   pub reply : r ≡ answer.NoPair
-  pub state : new ≡ far
+  pub state : new ≡ with_no_pair far
 
 -- the first two sets that can be joined begin to
 pub record IsPaired (far new : FarState) (r : Reply) : Type 0 where

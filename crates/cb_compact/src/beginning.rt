@@ -1,13 +1,15 @@
-ghost use Rattle.std.specs.Prelude.{◌≡◌, ℕ, IfOk, OnErr, None, Some, length, replicate};
+ghost use Rattle.std.specs.Prelude.{◌≡◌, ℕ, true, IfNone, IfOk, IfSome, OnErr, None, Some, length, replicate};
 ghost use Rattle.cb_set.specs.SetState.{SetState};
 ghost use Rattle.cb_world.specs.declared.shown.Shown.{Shown};
 ghost use Rattle.cb_world.specs.Now.{now};
+ghost use Rattle.cb_world.specs.FarSound.{AwaySound};
+ghost use Rattle.cb_world.specs.Pairs.{HoldsNoPair, with_no_pair};
 ghost use Rattle.cb_world.specs.Sets.{set_in};
 ghost use Rattle.cb_world.specs.Sound.{Sound};
 ghost use Rattle.cb_compact.specs.Begun.{reply_of};
-ghost use Rattle.cb_compact.specs.Pairing.{BeginStep, begun_pair, live_positions, with_pair};
+ghost use Rattle.cb_compact.specs.Pairing.{BeginStep, IsFirstPair, NoneCanJoin, begun_pair, live_positions, with_pair};
 
-use crate::candidates::find_pair;
+use crate::candidates::{Match, find_pair};
 use cb_member::Shard;
 use cb_set::SpanSet;
 use cb_types::{NoMemory, Reply, SetId};
@@ -87,9 +89,42 @@ fn put_pair(far: &mut Far, pair: Joining)
     far.joining = Some(pair);
 }
 
+/// Whether it is noted that no two sets can be joined.
+fn is_noted(far: &Far) -> bool
+    requires { HoldsNoPair far.now }
+    ensures { result ≡ true → NoneCanJoin far.now }
+{
+    match far.survey.no_pair {
+        Some(turns) => turns == far.counts.others(),
+        None => false,
+    }
+}
+
+/// The first two sets that can be joined. Where it is noted that there are none, nothing is looked at.
+fn look(far: &Far) -> Result<Option<Match>, NoMemory>
+    requires sound { (s : Shown) × AwaySound s far.now }
+    requires note { HoldsNoPair far.now }
+    ensures found { IfOk result (λ found. IfSome found (λ m. (a : SetState) × (b : SetState)
+        × IsFirstPair far.now m.a.id m.b.id a b)) }
+    ensures none { IfOk result (λ found. IfNone found (NoneCanJoin far.now)) }
+{
+    if is_noted(far) {
+        return Ok(None);
+    }
+    find_pair(far)
+}
+
+/// Notes that no two sets can be joined.
+fn note_none(far: &mut Far)
+    ensures { far.new ≡ with_no_pair far.old }
+{
+    far.survey.no_pair = Some(far.counts.others());
+}
+
 /// Begins to join the first two sets that can be.
 pub(crate) fn begin(far: &mut Far) -> Result<Begun, NoMemory>
-    requires { (s : Shown) × Sound s far.old }
+    requires sound { (s : Shown) × Sound s far.old }
+    requires note { HoldsNoPair far.old }
     ensures step { IfOk result (λ begun. BeginStep far.old far.new (reply_of begun)) }
     ensures error { OnErr result (far.new ≡ far.old) }
     ensures sound { (s : Shown) → Sound s far.old → Sound s far.new }
@@ -100,7 +135,8 @@ pub(crate) fn begin(far: &mut Far) -> Result<Begun, NoMemory>
             b: pair.b,
         });
     }
-    let Some(found) = find_pair(far)? else {
+    let Some(found) = look(far)? else {
+        note_none(far);
         return Ok(Begun::NoPair);
     };
     let pair = new_pair(far, found.a.id, found.b.id)?;
@@ -134,11 +170,13 @@ pub(crate) fn reply_of(begun: Begun) -> Reply
 /// parities have.
 ///
 /// Answers Joining where a pair is joining already, whether its sets have changed or not; NoPair
-/// where no two sets can be joined; and else Pair. Looks at each set once, and then at pairs of
-/// sets, one of each code and live positions. No row is given out. Where there is no memory,
-/// nothing has changed.
+/// where no two sets can be joined, and notes that; and else Pair. Where it is noted and no turn but
+/// those that look has come since, nothing is looked at. Else looks at each set once, and then at one
+/// of each code and live positions. No row is given out. Where there is no memory, nothing has
+/// changed.
 pub fn compact_begin<D: Desk>(desk: &mut D, far: &mut Far) -> Result<Reply, NoMemory>
     requires sound { (s : Shown) × D.shows desk.old s × Sound s far.old }
+    requires note { HoldsNoPair far.old }
     ensures desk { desk.new ≡ desk.old }
     ensures step { IfOk result (λ reply. BeginStep far.old far.new reply) }
     ensures error { OnErr result (far.new ≡ far.old) }

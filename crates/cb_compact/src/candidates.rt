@@ -82,8 +82,8 @@ fn next_partner(found: &[Candidate], place: usize) -> Option<usize>
     None
 }
 
-/// The first candidate after this one that matches it. No other one is looked at where a table shows
-/// that none does.
+/// The first candidate after this one that matches it. None is looked at where a table shows that
+/// none does.
 fn partner(found: &[Candidate], tables: &[Table], place: usize) -> Option<usize>
     requires place { place < length found.now }
     requires tables { AreTables found.now tables.now }
@@ -176,9 +176,9 @@ fn firsts(far: &Far) -> Result<Vec<Candidate>, NoMemory>
 }
 
 /// The first two sets that can be joined: the least a that can be with one above it, and then the
-/// least b. Looks at each set once, and then at the groups of one code and live positions. Of each of
-/// these one look says whether any other matches it, where they are so many that comparing each with
-/// each would cost more than the table for it.
+/// least b. Looks at each set once, and then at the groups of one code and live positions. Where
+/// comparing each of these with each would cost more than a table for it, one look at the table says
+/// of each whether any other matches it.
 pub(crate) fn find_pair(far: &Far) -> Result<Option<Match>, NoMemory>
     requires sound { (s : Shown) × AwaySound s far.now }
     ensures found { IfOk result (λ found. IfSome found (λ m. (a : SetState) × (b : SetState)

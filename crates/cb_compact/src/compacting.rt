@@ -4,6 +4,7 @@ ghost use Rattle.cb_types.specs.declared.reply.Reply.TheVariants as answer;
 ghost use Rattle.cb_world.specs.declared.shown.Shown.{Shown};
 ghost use Rattle.cb_world.specs.Joining.{JoiningState};
 ghost use Rattle.cb_world.specs.Now.{now};
+ghost use Rattle.cb_world.specs.Pairs.{HoldsNoPair};
 ghost use Rattle.cb_world.specs.Reserved.{put_shards};
 ghost use Rattle.cb_world.specs.Sound.{Sound};
 ghost use Rattle.cb_world.specs.Stored.{AreThere};
@@ -138,13 +139,14 @@ fn go_through(far: &mut Far) -> Result<Reply, NoMemory>
 /// position, and which is committed then. A key is drawn for each step, and the merged set's number
 /// at the end.
 ///
-/// Answers Joining where a pair is joining already, and NoPair where no two sets can be joined, and
-/// nothing changes then. Answers NodeFull with the first node, in the order of the steps, that has
+/// Answers Joining where a pair is joining already, and nothing changes then; and NoPair where no two
+/// sets can be joined, and notes that alone. Answers NodeFull with the first node, in the order of the steps, that has
 /// no room: the pair is given up and its new rows are dropped, so only the count of drawn keys may
 /// differ. Answers else Merged with the count of the taken positions, all of which are live. No row
 /// is given out. Where there is no memory, nothing has changed, the count of drawn keys included.
 pub fn compact_now<D: Desk>(desk: &mut D, far: &mut Far) -> Result<Reply, NoMemory>
     requires sound { (s : Shown) × D.shows desk.old s × Sound s far.old }
+    requires note { HoldsNoPair far.old }
     requires keys { far.old.counts.keys + 20 < 2 ^ 62 }
     requires sets { far.old.counts.sets < 2 ^ 62 }
     ensures desk { desk.new ≡ desk.old }

@@ -145,8 +145,8 @@ fn meets_all(found: &[Candidate], table: &Table, candidate: Candidate) -> bool
     !table.marks[all - candidate.live as usize]
 }
 
-/// Whether the table of its code shows that no candidate matches this one; no where there is no such
-/// table.
+/// Whether the table of its code shows that no candidate matches this one. Where there is no such
+/// table it does not.
 pub(crate) fn matches_none(found: &[Candidate], tables: &[Table], place: usize) -> bool
     requires place { place < length found.now }
     requires tables { AreTables found.now tables.now }

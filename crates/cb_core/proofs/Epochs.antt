@@ -1,6 +1,6 @@
 -- No event makes the epoch fall: a crash and a join that take place begin the next one, and all else
 -- leaves the members as they are.
-use Rattle.std.proofs.Common.{◌≡◌, ℕ, ◌+◌, ◌≤◌, List, [], ◌∷◌, length, ap, arith, inl, inr}
+use Rattle.std.proofs.Common.{◌≡◌, ℕ, ◌≤◌, List, [], ◌∷◌, length, ap, arith, inl, inr}
 use Rattle.cb_member.specs.Membership.{Membership}
 use Rattle.cb_ptr.specs.declared.word.State.{State}
 use Rattle.cb_ptr.specs.declared.word.State.TheVariants as state
@@ -20,13 +20,14 @@ use Rattle.cb_evict.specs.CommitStep.{no_batch as none_to_commit, short, committ
 use Rattle.cb_evict.specs.EvictStep.{IsEvictStep, few_spans as few_loose, few_nodes as few_roomy, made}
 use Rattle.cb_filter.specs.FilterStep.{refused as refuses, cools, without_slot, moves}
 use Rattle.cb_swapin.proofs.Laws.{step_cases, swapped_kept}
-use Rattle.cb_core.specs.declared.event.Atomic.TheVariants.{Load, Pin, Unpin}
+use Rattle.cb_core.specs.declared.event.Atomic.TheVariants.{Load, Pin, Unpin, Claim, Store, Settle}
 use Rattle.cb_core.specs.declared.event.Event.{Event}
 use Rattle.cb_core.specs.declared.event.Event.TheVariants as event
 use Rattle.cb_core.specs.Parts.{Holding, NeverDeclined}
 use Rattle.cb_core.specs.Pinning.{PinStep, scope_full, refused, taken, UnpinStep, not_pinned, given}
 use Rattle.cb_core.specs.Step.{Leads, StillMake, StillRead, StillWrite, StillFree, StillFind, StillDecline, StillEvict, StillRoom, StillSwap, StillBring, StillFilter, StillBegin, StillShip, StillCommit, StillAbort, StillWorks, TurnStep, worn, done, Step}
 use Rattle.cb_core.specs.Turned.{counted}
+use Rattle.cb_core.proofs.OpenFrame.{claim_leaves, store_leaves, settle_leaves}
 use Rattle.cb_core.proofs.Changes.{free_leaves}
 use Rattle.cb_core.proofs.FarJobs.{far_job}
 use Rattle.cb_core.proofs.PartsStay.{Leaves, room_same, where_same, brings_same}
@@ -193,6 +194,12 @@ step_rises w new (event.Step seat (Pin handle)) r step =
     same_rises w new (pin_far w new seat handle.n r step)
 step_rises w new (event.Step seat (Unpin handle)) r step =
     same_rises w new (unpin_far w new seat handle.n r step)
+step_rises w new (event.Step seat (Claim handle at bytes)) r step =
+    same_rises w new (claim_leaves w new seat handle.n at bytes r step).far
+step_rises w new (event.Step seat (Store handle)) r step =
+    same_rises w new (store_leaves w new seat handle.n r step).far
+step_rises w new (event.Step seat (Settle handle)) r step =
+    same_rises w new (settle_leaves w new seat handle.n r step).far
 
 -- events one after another
 pub lead_rises : (w new : WorldState) (events : List Event) (replies : List Reply)

@@ -1,5 +1,5 @@
 -- What is owed by a job that works at the far state alone, and that each of these jobs pays it.
-use Rattle.std.proofs.Common.{◌≡◌, ℕ, ◌+◌, ◌≤◌, ◌∙◌, refl, sym, ap, subst, arith, inl, inr}
+use Rattle.std.proofs.Common.{◌≡◌, ℕ, ◌+◌, ◌≤◌, refl, sym, ap, subst, arith, inl, inr}
 use Rattle.cb_member.specs.Membership.{Membership}
 use Rattle.cb_set.specs.SetState.{SetState}
 use Rattle.cb_types.specs.declared.config.Config.{Config}
@@ -15,11 +15,10 @@ use Rattle.cb_world.specs.FarState.{FarState}
 use Rattle.cb_world.specs.Now.{now}
 use Rattle.cb_world.specs.Sound.{Sound}
 use Rattle.cb_world.specs.World.{IsConfigured}
-use Rattle.cb_world.proofs.Laws.{recounted_sound, rises_more, Stays, StaysIf, stays_same}
+use Rattle.cb_world.proofs.Laws.{KeepsHolding, KeepsNote, recounted_sound, rises_more, StaysBy, StaysIfBy, stays_noted, stays_same}
 use Rattle.cb_compact.proofs.Laws.{AreFarLaws, begin_laws, merge_laws, now_laws, part_laws, patch_laws}
 use Rattle.cb_rebuild.specs.RebuildStep.{RebuildStep, Restores, surveyed}
 use Rattle.cb_rebuild.proofs.Laws.{failed_stays, keeps_first, keeps_step, rebuild_stays, rebuild_step_fixes}
-use Rattle.cb_swapin.specs.Fetching.{far_given}
 use Rattle.cb_core.specs.FarJobs.{FarLacks, FarStep, IsWeakGiven}
 use Rattle.cb_core.specs.Jobs.{IsJob}
 use Rattle.cb_core.proofs.NodesStay.{MakesNone, crash_fixed, crash_line, crash_none, crash_rises, crash_sound, crash_stays, join_fixed, join_line, join_none, join_now, join_rises, join_sound, join_stays, member_of}
@@ -41,10 +40,18 @@ abbrev pub Holds : Job → Type 0
 Holds (Crash node) = ⊥
 Holds job = Unit {0}
 
+-- what a job does to what is noted of a search for a pair: one that looks keeps it as it should be,
+-- and any other notes nothing
+abbrev pub note_of : Job → FarState → FarState → Type 0
+note_of Pair = KeepsHolding
+note_of Compact = KeepsHolding
+note_of job = KeepsNote
+
 -- the far state is as it is configured, its numbers rose by no more than those of a job may, and it
 -- is sound
-pub record StaysSound (c : Config) (s : Shown) (far new : FarState) : Type 0 where
-  pub stays : Stays c 64 far new
+pub record StaysSound (N : FarState → FarState → Type 0) (c : Config) (s : Shown) (far new : FarState)
+    : Type 0 where
+  pub stays : StaysBy N c 64 far new
   pub sound : Sound s new
 
 -- what is owed
@@ -54,37 +61,49 @@ pub record IsFarJob (job : Job) : Type 0 where
       → far.members.epoch ≤ new.members.epoch
   pub answers : (far new : FarState) (r : Reply) → FarStep job far new r → AnswersLine job r
   pub keeps : (c : Config) (s : Shown) (far new : FarState) (r : Reply) → IsJob c job
-      → IsConfigured c far → Sound s far → FarStep job far new r → StaysSound c s far new
+      → IsConfigured c far → Sound s far → FarStep job far new r → StaysSound (note_of job) c s far new
   pub now : Holds job → (c : Config) (s : Shown) (far new : FarState) (r : Reply) → IsJob c job
       → IsConfigured c far → Sound s far → FarStep job far new r → (h : ℕ) → now s new h ≡ now s far h
   pub fixes : (s : Shown) (far new other : FarState) (r q : Reply) → Sound s far
       → FarStep job far new r → FarStep job far other q → (r ≡ q) × (new ≡ other)
   pub lacks : (c : Config) (s : Shown) (far new : FarState) → IsConfigured c far → Sound s far
-      → FarLacks job far new → StaysSound c s far new
+      → FarLacks job far new → StaysSound (note_of job) c s far new
 
 -- whose numbers rise by at most so many
-stays_sound : (c : Config) (n : ℕ) (s : Shown) (far new : FarState) → n ≤ 64 → IsConfigured c far
-    → StaysIf c n far new → Sound s new → StaysSound c s far new
+stays_sound : {N : FarState → FarState → Type 0} (c : Config) (n : ℕ) (s : Shown)
+    (far new : FarState) → n ≤ 64 → IsConfigured c far
+    → StaysIfBy N c n far new → Sound s new → StaysSound N c s far new
 stays_sound c n s far new most is stays sound = let z = stays is in record {
   stays = record { configured = z.configured; rises = rises_more n 64 far new most z.rises };
   sound = sound;
 }
 
 -- want of memory that changes nothing
+same_by : (N : FarState → FarState → Type 0) → ((far : FarState) → N far far) → (c : Config)
+    (s : Shown) (far new : FarState) → IsConfigured c far → Sound s far → new ≡ far
+    → StaysSound N c s far new
+same_by N none c s far new is sound same = stays_sound c 1 s far new (omega arith) is
+    (λ configured. stays_noted KeepsNote N c 1 far new (subst (N far) (sym same) (none far))
+    (stays_same c 1 far new (omega arith) same configured)) (subst (Sound s) (sym same) sound)
+
 same_lacks : (c : Config) (s : Shown) (far new : FarState) → IsConfigured c far → Sound s far
-    → new ≡ far → StaysSound c s far new
-same_lacks c s far new is sound same = stays_sound c 1 s far new (omega arith) is
-    (stays_same c 1 far new (omega arith) same) (subst (Sound s) (sym same) sound)
+    → new ≡ far → StaysSound KeepsNote c s far new
+same_lacks = same_by KeepsNote (λ far n e. e)
+
+same_looks : (c : Config) (s : Shown) (far new : FarState) → IsConfigured c far → Sound s far
+    → new ≡ far → StaysSound KeepsHolding c s far new
+same_looks = same_by KeepsHolding (λ far holds. holds)
 
 -- ---- by the laws of a step that leaves the members
 members_rise : (far new : FarState) → new.members ≡ far.members
     → far.members.epoch ≤ new.members.epoch
 members_rise far new same = let e = ap (λ (m : Membership). m.epoch) same in omega (arith, e)
 
-by_laws : (job : Job) (most : ℕ) (asked : Request) → most ≤ 64 → AreFarLaws most asked (FarStep job)
+by_laws : (job : Job) (most : ℕ) (asked : Request) → most ≤ 64
+    → AreFarLaws (note_of job) most asked (FarStep job)
     → ((r : Reply) → IsReplyOf asked r → AnswersLine job r)
     → ((c : Config) (s : Shown) (far new : FarState) → IsConfigured c far → Sound s far
-    → FarLacks job far new → StaysSound c s far new)
+    → FarLacks job far new → StaysSound (note_of job) c s far new)
     → IsFarJob job
 by_laws job most asked few laws answered lacking = record {
   none = λ far new r step. let z = laws.leaves far new r step in record {
@@ -127,7 +146,7 @@ rebuild_line far new r (inr z) = elim z.restores [
 
 -- the sets before the first weak one were looked at, and rows of that one were given out
 rebuild_lacks : (c : Config) (s : Shown) (far new : FarState) → IsConfigured c far → Sound s far
-    → IsWeakGiven far new → StaysSound c s far new
+    → IsWeakGiven far new → StaysSound KeepsNote c s far new
 rebuild_lacks c s far new is sound (id, set, n, first, few, state) =
     stays_sound c 16 s far new (omega arith) is
     (failed_stays c s far new id n set sound first.there few state)
@@ -148,12 +167,12 @@ rebuild_owes = record {
 
 -- ---- every job
 pub far_job : (job : Job) → IsFarJob job
-far_job Pair = by_laws Pair 1 line.Pair (omega arith) begin_laws (λ r x. x) same_lacks
+far_job Pair = by_laws Pair 1 line.Pair (omega arith) begin_laws (λ r x. x) same_looks
 far_job Patch = by_laws Patch 1 line.Patch (omega arith) patch_laws (λ r x. x) same_lacks
 far_job Merge = by_laws Merge 1 line.Merge (omega arith) merge_laws (λ r x. x) same_lacks
 far_job Part = by_laws Part 1 line.Part (omega arith) part_laws (λ r x. x)
     (λ c s far new is sound x. absurd x)
-far_job Compact = by_laws Compact 20 line.Compact (omega arith) now_laws (λ r x. x) same_lacks
+far_job Compact = by_laws Compact 20 line.Compact (omega arith) now_laws (λ r x. x) same_looks
 far_job Rebuild = rebuild_owes
 far_job (Crash node) = record {
   none = λ far new r step. crash_none far new node r step;

@@ -10,7 +10,8 @@ use Rattle.cb_world.specs.Plain.{Words}
 use Rattle.cb_world.specs.Seats.{SeatState}
 use Rattle.cb_world.specs.OpenWrites.{AreOpen}
 use Rattle.cb_world.specs.World.{IsKnown, ArePinned, AreCounted, IsConfigured}
-pub use Rattle.cb_world.proofs.Laws.{Rises, rises_more, rises_then, StaysIf}
+use Rattle.cb_world.specs.Pairs.{HoldsNoPair}
+pub use Rattle.cb_world.proofs.Laws.{KeepsNote, Rises, RisesBy, rises_more, rises_then, StaysIf}
 use Rattle.cb_core.specs.Parts.{Holding}
 
 -- all is known of a holding with this configuration, and its pins are those of these seats
@@ -22,12 +23,17 @@ pub record IsGood (c : Config) (seats : List SeatState) (a : Holding Words) : Ty
   pub pinned : ArePinned a.desk seats
   pub ongoing : AreOpen a.desk a.far seats
 
--- what a part comes to: this holds of it, all is known, and the numbers rose by at most n
-pub record Arrives (c : Config) (seats : List SeatState) (n : ℕ) (a b : Holding Words) (Z : Type 0)
-    : Type 0 where
+-- what a part comes to: this holds of it, all is known, the numbers rose by at most n, and so does
+-- this of what is noted of a search for a pair
+pub record ArrivesBy (N : FarState → FarState → Type 0) (c : Config) (seats : List SeatState) (n : ℕ)
+    (a b : Holding Words) (Z : Type 0) : Type 0 where
   pub is : Z
   pub good : IsGood c seats b
-  pub rises : Rises n a.far b.far
+  pub rises : RisesBy N n a.far b.far
+
+-- of a part that looks for no pair
+abbrev pub Arrives : Config → List SeatState → ℕ → Holding Words → Holding Words → Type 0 → Type 0
+Arrives = ArrivesBy KeepsNote
 
 -- each part that is P comes to Q, where all was known
 abbrev pub Carries : {A : Type 0} → Config → List SeatState → ℕ
@@ -73,6 +79,7 @@ arrives_same c seats n a b Z good same z = record {
     keys = omega arith;
     epoch = omega arith;
     given = omega arith;
+    note = λ n e. e;
   });
 }
 
@@ -97,10 +104,11 @@ arrives_stays c seats n a b t Z good stays known settings pinned ongoing z =
     }
 
 -- what was counted, after a turn in which the numbers rose by little
-pub counted_rises : (far mid new : FarState) (kind : ℕ) → AreCounted far → far.counts.turns < 2 ^ 40
-    → kind < 19 → mid ≡ record far { counts = with_turn far.counts kind } → Rises (2 ^ 20) mid new
-    → AreCounted new
-counted_rises far mid new kind c few below is rises =
+pub counted_rises : {N : FarState → FarState → Type 0} (far mid new : FarState) (kind : ℕ)
+    → AreCounted far → far.counts.turns < 2 ^ 40 → kind < 19
+    → mid ≡ record far { counts = with_turn far.counts kind } → RisesBy N (2 ^ 20) mid new
+    → HoldsNoPair new → AreCounted new
+counted_rises far mid new kind c few below is rises holds =
     let old = far.counts in
     let lt : kind < length old.by_job = (let n = c.kinds in omega (arith, n, below)) in
     let sum = sum_by-set (λ (n : ℕ). n) old.by_job kind (get_or old.by_job kind 0 + 1) 0 lt in
@@ -125,4 +133,5 @@ counted_rises far mid new kind c few below is rises =
       keys = omega (arith, turns, keys, mk, rk);
       epoch = omega (arith, turns, e, me, re);
       given = omega (arith, turns, g, mg, rg);
+      no_pair = holds;
     }

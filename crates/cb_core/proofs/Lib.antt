@@ -9,6 +9,7 @@ pub mod KeptPins
 pub mod KeptParts
 pub mod NodesStay
 pub mod FarJobs
+mod Noted
 pub mod StillParts
 pub mod StillFilters
 pub mod StillFarJobs
@@ -22,10 +23,22 @@ pub mod TurnLeft
 pub mod Mapped
 pub mod WorldKept
 pub mod PinsKept
+pub mod OpenSteps
+pub mod OpenStores
+pub mod OpenChanges
+pub mod OpenStored
+pub mod OpenSettled
+pub mod OpenStamped
+pub mod OpenKeptSteps
+pub mod OpenFrame
+pub mod OpenFixed
+pub mod HoldingSound
+pub mod ClaimAnswers
 pub mod PartsStay
 pub mod Settings
 pub mod Epochs
 pub mod WorkedPins
+mod WorkedClaims
 pub mod WorkedMembership
 pub mod WorkedRoom
 pub mod WorkedTurns

@@ -13,7 +13,8 @@ use Rattle.cb_world.specs.NodeChanges.{crashed_far, joined_far}
 use Rattle.cb_world.specs.Now.{now}
 use Rattle.cb_world.specs.Sound.{Sound}
 use Rattle.cb_world.specs.World.{IsConfigured}
-use Rattle.cb_world.proofs.Laws.{codes_stay, IsLike, StaysIf, stays_like, stays_same, node_crash_sound, node_join_sound, node_join_now}
+use Rattle.cb_node.specs.NodesState.{held}
+use Rattle.cb_world.proofs.Laws.{crash_note, codes_stay, IsLike, StaysIf, stays_like, stays_same, node_crash_sound, node_join_sound, node_join_now}
 use Rattle.cb_core.specs.Membership.{CrashTurn, crashed, is_down, JoinTurn, joined, is_up}
 
 -- no object was made and no turn was counted
@@ -36,6 +37,7 @@ crash_stays c node far new r (crashed up reply state) =
       room = refl;
       codes = codes_stay far (crashed_far far node) refl refl;
       counts = refl;
+      note = λ n e. crash_note far.survey (held far.nodes node) n e;
       epoch = omega arith;
       given = refl;
     }))
@@ -51,6 +53,7 @@ join_stays c node far new r (joined down reply state) =
       room = refl;
       codes = codes_stay far (joined_far far node) refl refl;
       counts = refl;
+      note = λ n e. e;
       epoch = omega arith;
       given = refl;
     }))

@@ -1,5 +1,5 @@
 -- A pinned object is unmoved by each event.
-use Rattle.std.proofs.Common.{◌≡◌, ◌≢◌, ◌⊎◌, ℕ, ◌<◌, ◌≤◌, ◌==◌, Bool, List, [], ◌∷◌, length, Option, Some, None, refl, sym, ap, ◌∙◌, subst, arith, inl, inr, if◌then◌else◌, ne_eqb, get_or-set_same, get_or-set_other}
+use Rattle.std.proofs.Common.{◌≡◌, ◌≢◌, ◌⊎◌, ℕ, ◌+◌, ◌<◌, ◌≤◌, ◌==◌, Bool, List, [], ◌∷◌, length, Option, Some, None, refl, sym, ap, ◌∙◌, subst, arith, inl, inr, if◌then◌else◌, ne_eqb, get_or-set_same, get_or-set_other}
 use native.Mathlib.Decide.{ℕ_discrete}
 use Rattle.std.specs.List.{AllByRecursion}
 use Rattle.std.proofs.lemmas.Bool.{cases_lt}
@@ -17,6 +17,7 @@ use Rattle.cb_types.specs.declared.reply.Reply.TheVariants as answer
 use Rattle.cb_world.specs.declared.shown.Shown.{Shown}
 use Rattle.cb_world.specs.FarState.{FarState}
 use Rattle.cb_world.specs.Memory.{bytes_in, window, words_for}
+use Rattle.cb_world.specs.OpenSteps.{next_word}
 use Rattle.cb_world.specs.Now.{Now, now}
 use Rattle.cb_world.specs.Now.Now.{held}
 use Rattle.cb_world.specs.Pinned.{with_word}
@@ -33,9 +34,10 @@ use Rattle.cb_evict.proofs.Laws.{evict_pinned}
 use Rattle.cb_filter.specs.FilterStep.{refused, cools, without_slot, moves}
 use Rattle.cb_swapin.proofs.Laws.{pinned_stays}
 use Rattle.cb_core.specs.declared.event.Atomic.{Atomic}
-use Rattle.cb_core.specs.declared.event.Atomic.TheVariants.{Load, Pin, Unpin}
+use Rattle.cb_core.specs.declared.event.Atomic.TheVariants.{Load, Pin, Unpin, Claim, Store, Settle}
 use Rattle.cb_core.specs.declared.event.Event.{Event}
 use Rattle.cb_core.specs.declared.event.Event.TheVariants as event
+use Rattle.cb_core.specs.Claiming.{refused as claim_refused, taken as claim_taken, not_claimed as none_stored, nothing_left, stored, stamped, not_stored, settled}
 use Rattle.cb_core.specs.Events.{IsEvent, handle_of}
 use Rattle.cb_core.specs.Jobs.{IsJob}
 use Rattle.cb_core.specs.Parts.{Holding, NeverDeclined, WithRoom, at_once, no_room, won, WhereItIs, near, declined, stays_far, brought, not_far, was_far}
@@ -43,6 +45,8 @@ use Rattle.cb_core.specs.Pinning.{scope_full, refused as pin_refused, taken, not
 use Rattle.cb_core.specs.Run.{LeadsSoundly}
 use Rattle.cb_core.specs.Step.{Step, StillMake, StillRead, StillWrite, StillFree, StillFilter, StillDecline, StillEvict, StillRoom, StillSwap, StillBring, StillWorks, AtomicStep, TurnStep, worn, done}
 use Rattle.cb_core.specs.Unmoved.{IsUnmoved, HasPin, KeepsPinned, LeadsPinned, StaysPinned}
+use Rattle.cb_core.proofs.OpenKeptSteps.{with_stored}
+use Rattle.cb_core.proofs.OpenStores.{others_here}
 use Rattle.cb_core.proofs.Changes.{read_leaves, write_leaves, free_leaves}
 use Rattle.cb_core.proofs.Settings.{step_settings}
 use Rattle.cb_core.proofs.StillBatches.{begin_keeps, ship_keeps, commit_keeps, abort_keeps}
@@ -384,30 +388,67 @@ touched x y h v k below left place len = subst (IsUnmoved k x) (sym left) (by (�
         unmoved (ap place_of at ∙ place ∙ ap place_of old) (ap len_of at ∙ len ∙ ap len_of old)
 
 atomic_pinned : (seat : ℕ) (atomic : Atomic) (w new : WorldState) (r : Reply) → IsSoundWorld w
-    → handle_of atomic < w.desk.settings.handles → AtomicStep seat atomic w r new
-    → (k : ℕ) → IsUnmoved k w.desk new.desk
-atomic_pinned seat (Load handle) w new r sound lt step k =
+    → handle_of atomic < w.desk.settings.handles → AtomicStep seat atomic w r new → KeepsPinned w new
+atomic_pinned seat (Load handle) w new r sound lt step k some still =
     unmoved_same w.desk new.desk k (ap (λ (v : WorldState). v.desk) step.1)
-atomic_pinned seat (Pin handle) w new r sound lt (scope_full full is same) k =
+atomic_pinned seat (Pin handle) w new r sound lt (scope_full full is same) k some still =
     unmoved_same w.desk new.desk k (ap (λ (v : WorldState). v.desk) same)
-atomic_pinned seat (Pin handle) w new r sound lt (pin_refused room off is same) k =
+atomic_pinned seat (Pin handle) w new r sound lt (pin_refused room off is same) k some still =
     unmoved_same w.desk new.desk k (ap (λ (v : WorldState). v.desk) same)
-atomic_pinned seat (Pin handle) w new r sound lt (taken room may is t) k =
+atomic_pinned seat (Pin handle) w new r sound lt (taken room may is t) k some still =
     touched w.desk new.desk handle.n t.word.word k
     (let n = sound.known.sized.words in omega (arith, n, lt)) t.word.words t.word.takes.place
     t.word.takes.len
-atomic_pinned seat (Unpin handle) w new r sound lt (not_pinned none is same) k =
+atomic_pinned seat (Unpin handle) w new r sound lt (not_pinned none is same) k some still =
     unmoved_same w.desk new.desk k (ap (λ (v : WorldState). v.desk) same)
-atomic_pinned seat (Unpin handle) w new r sound lt (given is t) k =
+atomic_pinned seat (Unpin handle) w new r sound lt (given is t) k some still =
     touched w.desk new.desk handle.n t.word.word k
     (let n = sound.known.sized.words in omega (arith, n, lt)) t.word.words t.word.gives.place
     t.word.gives.len
+atomic_pinned seat (Claim handle at bytes) w new r sound lt (claim_refused off is same) k some still =
+    unmoved_same w.desk new.desk k (ap (λ (v : WorldState). v.desk) same)
+atomic_pinned seat (Claim handle at bytes) w new r sound lt (claim_taken may is reply t) k some still =
+    touched w.desk new.desk handle.n t.word.word k
+    (let n = sound.known.sized.words in omega (arith, n, lt)) t.word.words t.word.claims.place
+    t.word.claims.len
+atomic_pinned seat (Store handle) w new r sound lt (none_stored off is same) k some still =
+    unmoved_same w.desk new.desk k (ap (λ (v : WorldState). v.desk) same)
+atomic_pinned seat (Store handle) w new r sound lt (nothing_left at x none is same) k some still =
+    unmoved_same w.desk new.desk k (ap (λ (v : WorldState). v.desk) same)
+atomic_pinned seat (Store handle) w new r sound lt (stored at x two is m n) k some still =
+    let c = x.ongoing in let p = held_here w k sound some in
+    subst (IsUnmoved k w.desk)
+    (sym (m.words ∙ ap (with_stored w.desk (next_word c) m.word) (sym x.on))) (record {
+      place = refl;
+      len = refl;
+      version = refl;
+      bytes = ap (λ (l : List ℕ). bytes_in l (len_of (word_at w.desk k)))
+          (others_here w seat at m.word c sound x.there (omega (arith, two)) k p.below p.here);
+    })
+atomic_pinned seat (Store handle) w new r sound lt (stamped at x last is m n) k some still =
+    let c = x.ongoing in let p = held_here w k sound some in
+    let off : k ≢ handle.n = λ e. (let moving = (sound.ongoing.each seat at c x.there).moving in
+    let f = sym p.here ∙ ap (λ (i : ℕ). state_of (word_at w.desk i)) (e ∙ sym x.on) ∙ moving in cc) in
+    subst (IsUnmoved k w.desk) (sym m) (record {
+      place = refl;
+      len = refl;
+      version = get_or-set_other w.desk.versions handle.n k (c.version + 1) 0 off;
+      bytes = refl;
+    })
+atomic_pinned seat (Settle handle) w new r sound lt (none_stored off is same) k some still =
+    unmoved_same w.desk new.desk k (ap (λ (v : WorldState). v.desk) same)
+atomic_pinned seat (Settle handle) w new r sound lt (not_stored at x left is same) k some still =
+    unmoved_same w.desk new.desk k (ap (λ (v : WorldState). v.desk) same)
+atomic_pinned seat (Settle handle) w new r sound lt (settled at x none is t) k some still =
+    touched w.desk new.desk handle.n t.word.word k
+    (let n = sound.known.sized.words in omega (arith, n, lt)) t.word.words t.word.settles.place
+    t.word.settles.len
 
 pub step_pinned : (e : Event) (w new : WorldState) (r : Reply) → IsSoundWorld w → IsSoundWorld new
     → IsEvent w.desk.settings e → Step w e r new → KeepsPinned w new
 step_pinned (event.Turn seat j) w new r sound after ok step = turn_pinned j w new r sound after ok.1 step
 step_pinned (event.Step seat atomic) w new r sound after ok step =
-    λ k some still. atomic_pinned seat atomic w new r sound ok.1 step k
+    atomic_pinned seat atomic w new r sound ok.1 step
 
 -- ---- runs
 pub leads_pinned : (events : List Event) (replies : List Reply) (w new : WorldState)

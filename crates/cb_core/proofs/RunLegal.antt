@@ -43,12 +43,13 @@ use Rattle.cb_core.specs.declared.event.Atomic.TheVariants as atomic
 use Rattle.cb_core.specs.declared.event.Event.{Event}
 use Rattle.cb_core.specs.declared.event.Event.TheVariants as event
 use Rattle.cb_core.specs.Called.{called_as, calls_by, call_of, handle_on, StandsBeside}
-use Rattle.cb_core.specs.Events.{IsEvent}
+use Rattle.cb_core.specs.Events.{IsRunEvent}
 use Rattle.cb_core.specs.Jobs.{IsJob}
 use Rattle.cb_core.specs.Pinning.{PinStep, scope_full, refused, taken, pin_refusal, UnpinStep, not_pinned, given}
 use Rattle.cb_core.specs.Run.{LeadsSoundly}
 use Rattle.cb_core.specs.Step.{Step, TurnStep, worn, done}
 use Rattle.cb_core.proofs.CallsBeside.{Comes, IsObjectCall, comes_none, call_comes, make_comes, on_read, on_write, on_free, on_pinned}
+use Rattle.cb_core.proofs.OpenFrame.{claim_leaves, store_leaves, settle_leaves}
 use Rattle.cb_core.proofs.Settings.{step_settings}
 use Rattle.cb_core.proofs.TurnCalls.{read_turn, write_turn, free_turn, make_turn, evict_turn, begin_turn, ship_turn, commit_turn, abort_turn, swap_turn, crash_turn, far_map, is_done, turn_first, filter_turn}
 use Rattle.cb_core.proofs.TurnCallsKept.{known_same}
@@ -311,16 +312,19 @@ unpin_beside before seat h r w new c lt (given is t) =
 -- ---- every event
 
 event_goes : (before : List Called) (e : Event) (r : Reply) (w new : WorldState)
-    → (c : Around before w new) → IsEvent w.desk.settings e → Step w e r new
+    → (c : Around before w new) → IsRunEvent w.desk.settings e → Step w e r new
     → Goes before e r w new c.after.shown
 event_goes before (event.Turn seat j) r w new c ok step = turn_goes before seat j r w new c ok.1 step
 event_goes before (event.Step seat (atomic.Load handle)) r w new c ok step =
     same_goes before w new c step.1
 event_goes before (event.Step seat (atomic.Pin handle)) r w new c ok step =
-    pin_goes before seat handle.n r w new c ok.1 step
+    pin_goes before seat handle.n r w new c ok.0.1 step
 event_goes before (event.Step seat (atomic.Unpin handle)) r w new c ok step =
     comes_none w.desk.settings.handles before c.after.shown w.far new.far
-    (unpin_beside before seat handle.n r w new c ok.0 step)
+    (unpin_beside before seat handle.n r w new c ok.0.0 step)
+event_goes before (event.Step seat (atomic.Claim handle at bytes)) r w new c ok step = absurd (ok.1 tt)
+event_goes before (event.Step seat (atomic.Store handle)) r w new c ok step = absurd (ok.1 tt)
+event_goes before (event.Step seat (atomic.Settle handle)) r w new c ok step = absurd (ok.1 tt)
 
 -- no event changes the first version
 event_first : (e : Event) (r : Reply) (w new : WorldState) → IsSoundWorld w → Step w e r new
@@ -341,6 +345,12 @@ event_first (event.Step seat (atomic.Unpin handle)) r w new sound (not_pinned no
     ap (λ (v : WorldState). v.far.first) same
 event_first (event.Step seat (atomic.Unpin handle)) r w new sound (given is t) =
     ap (λ (f : FarState). f.first) t.far
+event_first (event.Step seat (atomic.Claim handle at bytes)) r w new sound step =
+    ap (λ (f : FarState). f.first) (claim_leaves w new seat handle.n at bytes r step).far
+event_first (event.Step seat (atomic.Store handle)) r w new sound step =
+    ap (λ (f : FarState). f.first) (store_leaves w new seat handle.n r step).far
+event_first (event.Step seat (atomic.Settle handle)) r w new sound step =
+    ap (λ (f : FarState). f.first) (settle_leaves w new seat handle.n r step).far
 
 -- ---- runs
 
@@ -378,7 +388,7 @@ legal_more e r before rest w mid new step sound after goes later = record {
 }
 
 legal_by : (events : List Event) (replies : List Reply) (before : List Called) (w new : WorldState)
-    → LeadsSoundly w events replies new → AllByRecursion (IsEvent w.desk.settings) events
+    → LeadsSoundly w events replies new → AllByRecursion (IsRunEvent w.desk.settings) events
     → (sound : IsSoundWorld w) → IsMapBeside before sound.shown w.far
     → IsLegalRun before (calls_by before events replies) w new
 legal_by [] [] before w new leads ok sound map = record {
@@ -396,12 +406,12 @@ legal_by (e ∷ events) (r ∷ replies) before w new (mid, step, after, leads) o
     legal_more e r before (calls_by (before ++ called_as before e r) events replies) w mid new step sound
     after goes
     (legal_by events replies (before ++ called_as before e r) mid new leads
-    (subst (λ (c : Config). AllByRecursion (IsEvent c) events) (sym (step_settings w mid e r step)) ok.1)
+    (subst (λ (c : Config). AllByRecursion (IsRunEvent c) events) (sym (step_settings w mid e r step)) ok.1)
     after goes.beside)
 
 -- A run from a world beside which the map stands.
 pub run_legal : (events : List Event) (replies : List Reply) (w new : WorldState)
-    → LeadsSoundly w events replies new → AllByRecursion (IsEvent w.desk.settings) events
+    → LeadsSoundly w events replies new → AllByRecursion (IsRunEvent w.desk.settings) events
     → IsSoundWorld w → (before : List Called) → StandsBeside before w
     → Follow w.far.first w.desk.settings.handles before (calls_by before events replies)
     × StandsBeside (before ++ calls_by before events replies) new
@@ -423,7 +433,7 @@ empty_stands c ok =
 
 -- The calls of a run from a world beside which the empty map stands are legal.
 pub run_from_empty : (events : List Event) (replies : List Reply) (w new : WorldState)
-    → LeadsSoundly w events replies new → AllByRecursion (IsEvent w.desk.settings) events
+    → LeadsSoundly w events replies new → AllByRecursion (IsRunEvent w.desk.settings) events
     → IsSoundWorld w → StandsBeside [] w
     → AreLegal w.far.first w.desk.settings.handles (calls_by [] events replies)
 run_from_empty events replies w new leads ok sound stands =

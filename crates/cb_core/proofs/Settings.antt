@@ -14,13 +14,14 @@ use Rattle.cb_evict.specs.CommitStep.{no_batch as none_to_commit, short, committ
 use Rattle.cb_evict.proofs.Laws.{evict_settings}
 use Rattle.cb_filter.specs.FilterStep.{refused as refuses, cools, without_slot, moves}
 use Rattle.cb_swapin.proofs.Laws.{settings_stay}
-use Rattle.cb_core.specs.declared.event.Atomic.TheVariants.{Load, Pin, Unpin}
+use Rattle.cb_core.specs.declared.event.Atomic.TheVariants.{Load, Pin, Unpin, Claim, Store, Settle}
 use Rattle.cb_core.specs.declared.event.Event.{Event}
 use Rattle.cb_core.specs.declared.event.Event.TheVariants as event
 use Rattle.cb_core.specs.Parts.{Holding, NeverDeclined}
 use Rattle.cb_core.specs.Pinning.{PinStep, scope_full, refused, taken, UnpinStep, not_pinned, given}
 use Rattle.cb_core.specs.Step.{StillMake, StillRead, StillWrite, StillFree, StillFind, StillDecline, StillEvict, StillRoom, StillSwap, StillBring, StillFilter, StillBegin, StillShip, StillCommit, StillAbort, StillWorks, TurnStep, worn, done, Step}
 use Rattle.cb_core.specs.Turned.{counted}
+use Rattle.cb_core.proofs.OpenFrame.{claim_leaves, store_leaves, settle_leaves}
 use Rattle.cb_core.proofs.Changes.{read_leaves, write_leaves, free_leaves}
 use Rattle.cb_core.proofs.PartsStay.{Leaves, room_same, where_same, brings_same}
 
@@ -164,3 +165,9 @@ step_settings w new (event.Step seat (Load handle)) r step =
     ap (λ (v : WorldState). v.desk.settings) step.1
 step_settings w new (event.Step seat (Pin handle)) r step = pin_settings w new seat handle.n r step
 step_settings w new (event.Step seat (Unpin handle)) r step = unpin_settings w new seat handle.n r step
+step_settings w new (event.Step seat (Claim handle at bytes)) r step =
+    (claim_leaves w new seat handle.n at bytes r step).settings
+step_settings w new (event.Step seat (Store handle)) r step =
+    (store_leaves w new seat handle.n r step).settings
+step_settings w new (event.Step seat (Settle handle)) r step =
+    (settle_leaves w new seat handle.n r step).settings

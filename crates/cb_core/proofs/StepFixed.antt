@@ -11,7 +11,6 @@ use Rattle.cb_types.specs.Config.{IsAccepted}
 use Rattle.cb_world.specs.declared.homes.Home.{Home}
 use Rattle.cb_world.specs.declared.seats.Pin.{Pin}
 use Rattle.cb_world.specs.declared.shown.Shown.{Shown}
-use Rattle.cb_world.specs.FarState.{FarState}
 use Rattle.cb_world.specs.Pinned.{with_word}
 use Rattle.cb_world.specs.Plain.{Words}
 use Rattle.cb_world.specs.Seats.{IsNewest, pins_of_seat, with_pins}
@@ -24,7 +23,7 @@ use Rattle.cb_filter.proofs.Laws.{filter_step_fixes}
 use Rattle.cb_swapin.specs.SwapStep.{IsSwapStep}
 use Rattle.cb_swapin.proofs.Laws.{swap_step_fixes}
 use Rattle.cb_core.specs.declared.event.Atomic.{Atomic}
-use Rattle.cb_core.specs.declared.event.Atomic.TheVariants.{Load, Pin as PinOn, Unpin}
+use Rattle.cb_core.specs.declared.event.Atomic.TheVariants.{Load, Pin as PinOn, Unpin, Claim, Store, Settle}
 use Rattle.cb_core.specs.declared.event.Event.{Event}
 use Rattle.cb_core.specs.declared.event.Event.TheVariants as event
 use Rattle.cb_core.specs.Parts.{Holding, NeverDeclined}
@@ -34,6 +33,7 @@ use Rattle.cb_core.specs.Step.{AtomicStep, Leads, Step, StillBring, StillDecline
 use Rattle.cb_core.specs.Turned.{counted}
 use Rattle.cb_core.proofs.Counting.{counted_sound}
 use Rattle.cb_core.proofs.FarJobs.{far_job}
+use Rattle.cb_core.proofs.OpenFixed.{claim_fixed, store_fixed, settle_fixed}
 use Rattle.cb_core.proofs.PartsFixed.{AreOne, IsFixed, LeavesAll, brings_in_fixed, where_it_is_fixed, with_room_fixed}
 
 -- where the words and the far state stay, all does
@@ -233,18 +233,22 @@ module _ (seat h : ℕ) (w a b : WorldState) where
   unpin_fixed r q (given e s) (given f t) = (e ∙ sym f, given_fixed s t)
 
 -- ---- an event
--- an atomic step asks nothing of the world
-pub atomic_fixed : (seat : ℕ) (atomic : Atomic) (w a b : WorldState) (r q : Reply)
+pub atomic_fixed : (seat : ℕ) (atomic : Atomic) (w a b : WorldState) (r q : Reply) → IsSoundWorld w
     → AtomicStep seat atomic w r a → AtomicStep seat atomic w q b → (r ≡ q) × (a ≡ b)
-atomic_fixed seat (Load handle) w a b r q x y = (x.0 ∙ sym y.0, x.1 ∙ sym y.1)
-atomic_fixed seat (PinOn handle) w a b r q x y = pin_fixed seat handle.n w a b r q x y
-atomic_fixed seat (Unpin handle) w a b r q x y = unpin_fixed seat handle.n w a b r q x y
+atomic_fixed seat (Load handle) w a b r q sound x y = (x.0 ∙ sym y.0, x.1 ∙ sym y.1)
+atomic_fixed seat (PinOn handle) w a b r q sound x y = pin_fixed seat handle.n w a b r q x y
+atomic_fixed seat (Unpin handle) w a b r q sound x y = unpin_fixed seat handle.n w a b r q x y
+atomic_fixed seat (Claim handle at bytes) w a b r q sound x y =
+    claim_fixed w a b sound seat handle.n at bytes r q x y
+atomic_fixed seat (Store handle) w a b r q sound x y = store_fixed w a b sound seat handle.n r q x y
+atomic_fixed seat (Settle handle) w a b r q sound x y = settle_fixed w a b sound seat handle.n r q x y
 
 -- An event has one reply, and leads from a sound world to one world: every word of local memory, every
 -- row at the nodes and all else of it.
 pub step_fixes : (w a b : WorldState) (e : Event) (r q : Reply) → IsSoundWorld w → Step w e r a
     → Step w e q b → (r ≡ q) × (a ≡ b)
-step_fixes w a b (event.Step seat atomic) r q sound x y = atomic_fixed seat atomic w a b r q x y
+step_fixes w a b (event.Step seat atomic) r q sound x y =
+    atomic_fixed seat atomic w a b r q sound x y
 step_fixes w a b (event.Turn seat job) r q sound x y = turn_fixed job w a b r q sound x y
 
 -- ---- events one after another

@@ -18,6 +18,7 @@ use Rattle.cb_evict.specs.Eviction.{reply_of}
 use Rattle.cb_core.specs.Parts.{Holding, at_once, no_room, won, BringsIn, not_far, was_far}
 use Rattle.cb_core.specs.Step.{StillEvict, StillSwap, StillBring, StillFind, TurnStep, worn, done}
 use Rattle.cb_core.specs.Turned.{counted}
+use Rattle.cb_core.proofs.Noted.{noted_after}
 use Rattle.cb_core.proofs.KeptParts.{IsGood, Arrives, arrives_then, arrives_more, arrives_same, rises_more, counted_rises}
 use Rattle.cb_core.proofs.TurnCalls.{held_at, held_then, known_at}
 
@@ -113,5 +114,6 @@ swap_sound w new h r sound (done few works seats) =
       ongoing = subst (AreOpen new.desk new.far) (sym seats) z.good.ongoing;
       one = subst AtMostOneHolds (sym seats) sound.one;
       counted = counted_rises w.far (counted w.far j) new.far (job_index j) sound.counted few
-          (omega arith) refl (rises_more 56 (2 ^ 20) (counted w.far j) new.far (omega arith) z.rises);
+          (omega arith) refl (rises_more 56 (2 ^ 20) (counted w.far j) new.far (omega arith) z.rises)
+          (noted_after j 56 w.far new.far sound.counted z.rises);
     }

@@ -1,5 +1,5 @@
 -- What each part of a turn leaves over any desk, each job, and the turn.
-use Rattle.std.proofs.Common.{◌≡◌, ℕ, Bool, true, false, ◌+◌, ◌-◌, ◌^◌, ◌<◌, ◌≤◌, if◌then◌else◌, ◌==◌, nat_lt, List, [], ◌∷◌, length, None, Some, refl, sym, subst, arith, inl, inr}
+use Rattle.std.proofs.Common.{◌≡◌, ℕ, Bool, true, false, ◌+◌, ◌-◌, ◌^◌, ◌≤◌, if◌then◌else◌, ◌==◌, nat_lt, List, [], ◌∷◌, length, None, Some, refl, sym, subst, arith, inl, inr}
 use Rattle.cb_types.specs.declared.config.Config.{Config}
 use Rattle.cb_types.specs.Config.{IsAccepted}
 use Rattle.cb_types.specs.declared.job.Job.{Job}
@@ -15,7 +15,7 @@ use Rattle.cb_world.specs.Played.{played}
 use Rattle.cb_world.specs.Sound.{Sound}
 use Rattle.cb_world.specs.World.{IsConfigured}
 use Rattle.cb_world.specs.Written.{Writes, entry, gone}
-use Rattle.cb_world.proofs.Laws.{recounted_sound, StaysIf, stays_same}
+use Rattle.cb_world.proofs.Laws.{recounted_sound, StaysIf, StaysIfBy, stays_same}
 use Rattle.cb_mutate.specs.FreeRule.{FreeEffect}
 use Rattle.cb_mutate.specs.MakeRule.{MakeEffect}
 use Rattle.cb_mutate.specs.WriteRule.{WriteEffect}
@@ -30,8 +30,8 @@ use Rattle.cb_core.specs.Jobs.{IsJob}
 use Rattle.cb_core.specs.Parts.{Holding, NeverDeclined, NeverLacks, at_once, no_room, won}
 use Rattle.cb_core.specs.Turned.{Swaps, SwapLacks, Brings, BringLacks, ComesIn, ComeLacks, Evicts, WinsRoom, EvictLacks, Makes, MakeLacks, Reads, ReadLacks, Writes as WritesAt, Declines, Finds, Does, Stops, IsDeclined}
 use Rattle.cb_core.specs.TurnLeaves.{MakeWrites, WriteWrites, FreeWrites, TurnWrites}
-use Rattle.cb_core.proofs.FarJobs.{StaysSound, far_job}
-use Rattle.cb_core.proofs.TurnComes.{AreLaws, Carries, CarriesLack, Comes, Good, IsNone, IsQuiet, Nil, comes_by, comes_far, comes_more, comes_none, then_none, good_then, with_room, room_stops, where_it_is, brings_in, call_stops, once_here, once_here_stops}
+use Rattle.cb_core.proofs.FarJobs.{StaysSound, far_job, note_of}
+use Rattle.cb_core.proofs.TurnComes.{AreLaws, Carries, CarriesLack, Comes, ComesBy, Good, IsNone, IsQuiet, Nil, comes_by, comes_far, comes_more, comes_none, then_none, good_then, with_room, room_stops, where_it_is, brings_in, call_stops, once_here, once_here_stops}
 
 -- ---- what the calls write
 make_writes : (bytes : List ℕ) (far new : FarState) (r : Reply) (es : List Event) (s t : Shown)
@@ -215,14 +215,16 @@ module _ {D : Type 0} (run : D → List Event → D → Type 0) (shows : D → S
   in_job W n a b most z = comes_more run shows laws c W n 64 a b most z
 
   -- a change of the far state alone
-  far_leaves : (s : Shown) (a b : Hold) → (IsConfigured c a.far → StaysSound c s a.far b.far)
-      → Good shows c a → StaysIf c 64 a.far b.far × Sound s b.far
+  far_leaves : {N : FarState → FarState → Type 0} (s : Shown) (a b : Hold)
+      → (IsConfigured c a.far → StaysSound N c s a.far b.far)
+      → Good shows c a → StaysIfBy N c 64 a.far b.far × Sound s b.far
   far_leaves s a b keeps good = ((λ is. (keeps is).stays), (keeps good.configured).sound)
 
   -- however an object is read
   pub does_comes : (reading : ℕ → Hold → Reply → Hold → Type 0) → ((h : ℕ) → Leads 1 Nil (reading h))
       → (job : Job) (a b : Hold) (r : Reply) → IsJob c job → Good shows c a
-      → Does run shows reading c job a r b → Comes run shows c 64 (TurnWrites job r) a b
+      → Does run shows reading c job a r b
+      → ComesBy (note_of job) run shows c 64 (TurnWrites job r) a b
   does_comes reading read (Make bytes) a b r ok good x =
       with_room run shows laws c (MakeWrites bytes) (make_quiet bytes) c.frames
       (λ loose nodes. refl) 1 24 64 (Makes run shows c bytes) (WinsRoom run shows c) (omega arith)
@@ -270,7 +272,7 @@ module _ {D : Type 0} (run : D → List Event → D → Type 0) (shows : D → S
   -- ---- want of memory
   pub stops_comes : (lacking : ℕ → Hold → Hold → Type 0) → ((h : ℕ) → Lacks 1 (lacking h))
       → (job : Job) (a b : Hold) → Good shows c a → Stops run shows lacking c job a b
-      → Comes run shows c 64 IsNone a b
+      → ComesBy (note_of job) run shows c 64 IsNone a b
   stops_comes lacking lack (Make bytes) a b good x =
       room_stops run shows laws c (MakeWrites bytes) (make_quiet bytes) 1 24 64
       (Makes run shows c bytes) (WinsRoom run shows c) (MakeLacks run c bytes) (EvictLacks run shows)

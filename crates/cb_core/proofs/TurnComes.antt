@@ -12,7 +12,7 @@ use Rattle.cb_world.specs.Played.{played}
 use Rattle.cb_world.specs.Sound.{Sound}
 use Rattle.cb_world.specs.World.{IsConfigured}
 use Rattle.cb_world.specs.Written.{Writes, written_by}
-use Rattle.cb_world.proofs.Laws.{Rises, StaysIf, rises_more, rises_then, played_append, written_append}
+use Rattle.cb_world.proofs.Laws.{KeepsNote, RisesBy, StaysIf, StaysIfBy, rises_more, rises_then, played_append, written_append}
 use Rattle.cb_evict.specs.declared.eviction.Eviction.{Eviction}
 use Rattle.cb_evict.specs.declared.eviction.Eviction.TheVariants.{Refused, Set}
 use Rattle.cb_core.specs.OnceHere.{OnceHere, away, here, OnceHereStops, bringing_stops, call_stops as lacks_here}
@@ -44,14 +44,21 @@ pub record Good {D : Type 0} (shows : D → Shown → Type 0) (c : Config) (a : 
   pub shown : (s : Shown) × shows a.desk s × Sound s a.far
 
 -- what a part comes to: events of the desk, a far state that is configured and whose numbers rose
--- by at most n, sound where it was, and these versions
-pub record Comes {D : Type 0} (run : D → List Event → D → Type 0) (shows : D → Shown → Type 0)
-    (c : Config) (n : ℕ) (W : List Entry → Type 0) (a b : Holding D) : Type 0 where
+-- by at most n, which does so to what is noted of a search for a pair, sound where it was, and these
+-- versions
+pub record ComesBy (N : FarState → FarState → Type 0) {D : Type 0} (run : D → List Event → D → Type 0)
+    (shows : D → Shown → Type 0) (c : Config) (n : ℕ) (W : List Entry → Type 0) (a b : Holding D)
+    : Type 0 where
   pub events : List Event
   pub ran : run a.desk events b.desk
   pub configured : IsConfigured c b.far
-  pub rises : Rises n a.far b.far
+  pub rises : RisesBy N n a.far b.far
   pub after : (s : Shown) → shows a.desk s → Sound s a.far → SoundAfter events s b.far W
+
+-- by a part that looks for no pair
+abbrev pub Comes : {D : Type 0} → (D → List Event → D → Type 0) → (D → Shown → Type 0) → Config → ℕ
+    → (List Entry → Type 0) → Holding D → Holding D → Type 0
+Comes = ComesBy KeepsNote
 
 -- the laws of a desk's relations that are used here
 pub record AreLaws {D : Type 0} (run : D → List Event → D → Type 0) (shows : D → Shown → Type 0)
@@ -169,9 +176,10 @@ module _ {D : Type 0} (run : D → List Event → D → Type 0) (shows : D → S
       comes_by IsNone n a b rules does good stays p (λ s e. ([], refl, wrote s e))
 
   -- nothing is done at the desk
-  pub comes_far : (n : ℕ) (a b : Hold) → Good shows c a → run a.desk [] b.desk
-      → ((s : Shown) → Sound s a.far → StaysIf c n a.far b.far × Sound s b.far)
-      → Comes run shows c n IsNone a b
+  pub comes_far : {N : FarState → FarState → Type 0} (n : ℕ) (a b : Hold) → Good shows c a
+      → run a.desk [] b.desk
+      → ((s : Shown) → Sound s a.far → StaysIfBy N c n a.far b.far × Sound s b.far)
+      → ComesBy N run shows c n IsNone a b
   comes_far n a b good ran stays =
       let k = good.shown in let z = (stays k.0 k.2).0 good.configured in record {
         events = [];

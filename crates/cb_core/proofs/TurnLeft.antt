@@ -24,9 +24,11 @@ use Rattle.cb_core.specs.ReadTurn.BroughtToRead.{worn as first_worn, done as fir
 use Rattle.cb_core.specs.Turned.{Reads, ReadLacks, Turned, Stopped, counted, once_counted, worn, done}
 use Rattle.cb_core.specs.TurnLeaves.{OutcomeWrites, TurnLeaves, TurnWrites}
 use Rattle.cb_core.proofs.Counting.{counted_sound, job_below}
+use Rattle.cb_core.proofs.FarJobs.{note_of}
 use Rattle.cb_core.proofs.KeptParts.{counted_rises}
+use Rattle.cb_core.proofs.Noted.{noted_after}
 use Rattle.cb_core.proofs.TurnCarries.{come_lacks, comes_in, does_comes, in_job, reads, read_lacks, stops_comes}
-use Rattle.cb_core.proofs.TurnComes.{AreLaws, Carries, CarriesLack, Comes, Good, IsNone, Nil}
+use Rattle.cb_core.proofs.TurnComes.{AreLaws, Carries, CarriesLack, ComesBy, Good, IsNone, Nil}
 
 -- those of a desk
 pub laws_of : {D : Type 0} → (run : D → List Event → D → Type 0) → (shows : D → Shown → Type 0)
@@ -61,14 +63,15 @@ module _ {D : Type 0} (run : D → List Event → D → Type 0) (shows : D → S
 
   -- a counted turn
   counted_leaves : (W : List Entry → Type 0) (job : Job) (a b : Hold) → AreCounted a.far
-      → a.far.counts.turns < 2 ^ 40 → Comes run shows c 64 W (once_counted a job) b
+      → a.far.counts.turns < 2 ^ 40 → ComesBy (note_of job) run shows c 64 W (once_counted a job) b
       → TurnLeaves run shows c a b W
   counted_leaves W job a b counts few z = record {
     events = z.events;
     ran = z.ran;
     configured = z.configured;
     counted = counted_rises a.far (counted a.far job) b.far (job_index job) counts few (job_below job)
-        refl (rises_more 64 (2 ^ 20) (counted a.far job) b.far (omega arith) z.rises);
+        refl (rises_more 64 (2 ^ 20) (counted a.far job) b.far (omega arith) z.rises)
+        (noted_after job 64 a.far b.far counts z.rises);
     next = inl (few, z.rises.turns);
     after = λ s shown sound. z.after s shown (counted_sound s a.far (counted a.far job) job refl sound);
   }

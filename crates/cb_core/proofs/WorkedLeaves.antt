@@ -18,11 +18,11 @@ use Rattle.cb_world.specs.Sound.{Sound}
 use Rattle.cb_core.specs.Turned.{counted}
 use Rattle.cb_world.specs.declared.homes.Home.{Home}
 use Rattle.cb_world.specs.Written.{Writes, entry, gone}
-use Rattle.cb_world.proofs.Laws.{empty_world_sound, recounted}
+use Rattle.cb_world.proofs.Laws.{counted_holds, empty_world_sound, recounted}
 use Rattle.cb_core.specs.Parts.{Holding}
 use Rattle.cb_core.specs.TurnLeaves.{IsNext, TurnLeaves, TurnWrites}
 use Rattle.cb_core.proofs.Counting.{counted_sound}
-use Rattle.cb_core.proofs.KeptParts.{counted_rises}
+use Rattle.cb_core.proofs.KeptParts.{KeepsNote, counted_rises}
 
 abbrev handle : ℕ → Handle
 handle n = record { n = n }
@@ -119,14 +119,16 @@ module _ (c : Config) (accepted : IsAccepted c) where
     events = [];
     ran = refl;
     configured = recounted c far then_.counts w.configured;
-    counted = counted_rises far then_ then_ (job_index Evict) w.counted (lit< tt) (lit< tt) refl (record {
-      turns = refl;
-      by_job = refl;
-      sets = omega arith;
-      keys = omega arith;
-      epoch = omega arith;
-      given = omega arith;
-    });
+    counted = counted_rises {N = KeepsNote} far then_ then_ (job_index Evict) w.counted (lit< tt)
+        (lit< tt) refl (record {
+          turns = refl;
+          by_job = refl;
+          sets = omega arith;
+          keys = omega arith;
+          epoch = omega arith;
+          given = omega arith;
+          note = λ n e. e;
+        }) (counted_holds far (job_index Evict) w.counted);
     next = one_turn;
     after = λ s shown sound. record {
       sound = counted_sound s far then_ Evict refl sound;

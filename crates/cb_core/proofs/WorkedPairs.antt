@@ -1,5 +1,5 @@
 -- Worked examples of the jobs at the far state alone: a pair that begins, and one that is given up.
-use Rattle.std.proofs.Common.{◌≡◌, ◌⊎◌, ℕ, ◌+◌, List, [], ◌∷◌, ◌++◌, None, Some, get_or, replicate, refl, sym, ap, ◌∙◌, inl, inr, lit<, arith}
+use Rattle.std.proofs.Common.{◌≡◌, ℕ, ◌+◌, List, [], ◌∷◌, ◌++◌, None, Some, get_or, replicate, refl, sym, ap, ◌∙◌, inl, inr, lit<, arith}
 use Rattle.std.specs.FinMap as map
 use Rattle.std.specs.Ordering.{nat_cmp}
 use Rattle.cb_member.specs.Membership.{fresh_members}
@@ -15,11 +15,12 @@ use Rattle.cb_world.specs.Plain.{Words}
 use Rattle.cb_world.specs.Seats.{SeatState}
 use Rattle.cb_world.specs.Sets.{if_committed, set_in}
 use Rattle.cb_world.specs.World.{WorldState}
-use Rattle.cb_compact.proofs.Laws.{part_laws}
+use Rattle.cb_world.specs.Pairs.{with_no_pair}
+use Rattle.cb_compact.proofs.Laws.{begin_laws, part_laws}
 use Rattle.cb_world.proofs.Laws.{open_same}
 use Rattle.cb_core.specs.FarJobs.{FarLacks, FarStep}
 use Rattle.cb_core.specs.Parts.{Holding}
-use Rattle.cb_core.specs.Step.{HoldOn, StillFar, StillFarLacks, StillStops, StillWorks, TurnStep, worn, done}
+use Rattle.cb_core.specs.Step.{HoldOn, StillStops, StillWorks, TurnStep, worn, done}
 use Rattle.cb_core.specs.Turned.{AtFar, AtFarLacks}
 use Rattle.cb_core.proofs.StillFarJobs.{known_far}
 use Rattle.cb_core.proofs.WorkedPins.{calm, hot, seat_with}
@@ -49,6 +50,9 @@ two_made : (f g : FarState) → f.made ≡ 2 → g.made ≡ 1 → f ≡ g → �
 two_made f g two one same =
     let e : 2 ≡ 1 = sym two ∙ ap (λ (x : FarState). x.made) same ∙ one in omega (arith, e)
 
+same_holds : (f : FarState) → HoldOn (holds f) (holds f)
+same_holds f s k = (s, k, (λ h. refl), λ seats ongoing. ongoing)
+
 -- ---- a begin: no two sets can be joined where there is none
 no_set : (id : ℕ) (s : SetState) → set_in start.sets id ≡ Some s → ⊥
 no_set id s at = none_set s (sym (ap if_committed (map.get-empty nat_cmp id)) ∙ at)
@@ -56,7 +60,11 @@ no_set id s at = none_set s (sym (ap if_committed (map.get-empty nat_cmp id)) �
     none_set : (s : SetState) → None ≡ Some s → ⊥
     none_set s e = cc
 
-begins : FarStep Pair start start answer.NoPair
+-- that there are none is noted
+abbrev noted : FarState
+noted = with_no_pair start
+
+begins : FarStep Pair start noted answer.NoPair
 begins = inr (inl (record {
   none = refl;
   no_two = λ i j c d less can. no_set i c can.a_there;
@@ -64,8 +72,17 @@ begins = inr (inl (record {
   state = refl;
 }))
 
-pairs : StillWorks Pair (holds start) answer.NoPair (holds start)
-pairs = (refl, begins, λ s k. (s, k, (λ h. refl), λ seats ongoing. ongoing))
+hold_noted : HoldOn (holds start) (holds noted)
+hold_noted s k = let keeps = begin_laws.keeps s start noted answer.NoPair k.sound begins in (
+  s,
+  known_far (words_are calm hot) start noted s k keeps.sound,
+  keeps.same_now,
+  λ seats ongoing. open_same (words_are calm hot) start noted s seats k
+      (known_far (words_are calm hot) start noted s k keeps.sound) ongoing,
+)
+
+pairs : StillWorks Pair (holds start) answer.NoPair (holds noted)
+pairs = (refl, begins, hold_noted)
 
 pairs_and_warms : StillWorks Pair (holds start) answer.NoPair (warm start) → ⊥
 pairs_and_warms works = word_is start start works.0
@@ -75,7 +92,7 @@ none_is_none e = cc
 
 -- of no sets no two begin to join, and no pair is joining already
 begun : (far new : FarState) (r : Reply) → far ≡ start → FarStep Pair far new r
-    → (r ≡ answer.NoPair) × (new ≡ far)
+    → (r ≡ answer.NoPair) × (new ≡ with_no_pair far)
 begun far new r e (inl z) = absurd (none_joins z.pair (sym (ap (λ (f : FarState). f.joining) e) ∙ z.there))
   where
     none_joins : (p : JoiningState) → None ≡ Some p → ⊥
@@ -89,14 +106,21 @@ pairs_as_a_parting works = none_is_none (sym (begun start start answer.NoJoin re
 
 pairs_and_makes : StillWorks Pair (holds start) answer.NoPair (holds (more start)) → ⊥
 pairs_and_makes works =
-    two_made (more start) start refl refl (begun start (more start) answer.NoPair refl works.1).1
+    two_made (more start) noted refl refl (begun start (more start) answer.NoPair refl works.1).1
+
+pairs_and_notes_nothing : StillWorks Pair (holds start) answer.NoPair (holds start) → ⊥
+pairs_and_notes_nothing works = not_noted _
+    (ap (λ (f : FarState). f.survey.no_pair) (begun start start answer.NoPair refl works.1).1)
+  where
+    not_noted : (n : ℕ) → None ≡ Some n → ⊥
+    not_noted n e = cc
 
 -- over a desk that is a number, and which runs nothing
 abbrev waits : ℕ → List Event → ℕ → Type 0
 waits d es e = e ≡ d
 
 over_a_number : AtFar waits (FarStep Pair) (record { desk = 3; far = start }) answer.NoPair
-    (record { desk = 3; far = start })
+    (record { desk = 3; far = noted })
 over_a_number = (refl, begins)
 
 over_another_number : AtFar waits (FarStep Pair) (record { desk = 3; far = start }) answer.NoPair
@@ -136,7 +160,7 @@ parts = (refl, gives_up (counts 0 []), hold_on (counts 0 []))
 -- where no pair is joining
 parts_nothing : StillWorks Part (holds start) answer.NoJoin (holds start)
 parts_nothing =
-    (refl, inl (record { none = refl; reply = refl; state = refl }), λ s k. (s, k, (λ h. refl), λ seats ongoing. ongoing))
+    (refl, inl (record { none = refl; reply = refl; state = refl }), same_holds start)
 
 done_is_none : answer.Done ≡ answer.NoJoin → ⊥
 done_is_none e = cc
@@ -153,6 +177,27 @@ parts_and_keeps : StillWorks Part (holds (joined start)) answer.Done (holds (joi
 parts_and_keeps (same, inl z, hold) = done_is_none z.reply
 parts_and_keeps (same, inr z, hold) =
     no_pair pair (sym (ap (λ (f : FarState). f.joining) z.state))
+
+-- where no pair is joining, none is stepped or merged; and no two sets become one in one turn
+patches_nothing : StillWorks Patch (holds start) answer.NoJoin (holds start)
+patches_nothing =
+    (refl, inl (record { none = refl; reply = refl; state = refl }), same_holds start)
+
+merges_nothing : StillWorks Merge (holds start) answer.NoJoin (holds start)
+merges_nothing =
+    (refl, inl (record { none = refl; reply = refl; state = refl }), same_holds start)
+
+compacts_nothing : StillWorks Compact (holds start) answer.NoPair (holds noted)
+compacts_nothing = (
+  refl,
+  inr (inl (record {
+    none = refl;
+    no_two = λ i j c d less can. no_set i c can.a_there;
+    reply = refl;
+    state = refl;
+  })),
+  hold_noted,
+)
 
 -- a turn, which is of kind 14
 abbrev idle : List SeatState
@@ -185,6 +230,12 @@ pair_stops_and_warms stops = word_is start start stops.0
 
 merge_stops_and_makes : StillStops Merge (holds start) (holds (more start)) → ⊥
 merge_stops_and_makes stops = two_made (more start) start refl refl stops.1
+
+compact_stops : StillStops Compact (holds start) (holds start)
+compact_stops = (refl, refl)
+
+compact_stops_and_makes : StillStops Compact (holds start) (holds (more start)) → ⊥
+compact_stops_and_makes stops = two_made (more start) start refl refl stops.1
 
 part_stops : StillStops Part (holds (joined start)) (holds (joined start)) → ⊥
 part_stops stops = stops.1

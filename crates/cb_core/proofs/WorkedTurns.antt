@@ -23,9 +23,9 @@ use Rattle.cb_mutate.specs.MakeRule.{HasNoPlace}
 use Rattle.cb_mutate.specs.MakeStep.{IsMakeStep}
 use Rattle.cb_evict.specs.EvictStep.{loose_frames, few_spans}
 use Rattle.cb_evict.proofs.Laws.{evict_made}
-use Rattle.cb_core.specs.declared.event.Atomic.TheVariants.{Load, Pin, Unpin}
+use Rattle.cb_core.specs.declared.event.Atomic.TheVariants.{Load, Pin, Unpin, Claim, Store}
 use Rattle.cb_core.specs.declared.event.Event.TheVariants as event
-use Rattle.cb_core.specs.Events.{IsEvent}
+use Rattle.cb_core.specs.Events.{IsEvent, IsRunEvent}
 use Rattle.cb_core.specs.Jobs.{IsJob}
 use Rattle.cb_core.specs.Membership.{crashed, is_down}
 use Rattle.cb_world.specs.Choices.{room_count}
@@ -343,6 +343,25 @@ write_stops new (few, seats, once_in m n last f o d v lacks) = lacks
 
 stops_at_a_step : (new : WorldState) → Stops old (event.Step 0 (Load (handle 0))) new → ⊥
 stops_at_a_step new stopped = stopped
+
+-- a claim that found no memory changed nothing
+claim_stops : Stops old (event.Step 0 (Claim (handle 0) 0 [])) old
+claim_stops = refl
+
+claim_stops_and_counts : Stops old (event.Step 0 (Claim (handle 0) 0 []))
+    (world (far four) calm idle) → ⊥
+claim_stops_and_counts same =
+    let e : 4 ≡ 3 = ap (λ (v : WorldState). v.far.counts.turns) same in omega (arith, e)
+
+store_stops : (new : WorldState) → Stops old (event.Step 0 (Store (handle 0))) new → ⊥
+store_stops new stops = stops
+
+-- a run has no steps of open writes
+pin_in_a_run : IsRunEvent settings (event.Step 63 (Pin (handle 1)))
+pin_in_a_run = ((lit< tt, lit< tt), λ x. x)
+
+claim_in_a_run : IsRunEvent settings (event.Step 63 (Claim (handle 1) 0 [])) → ⊥
+claim_in_a_run ok = ok.1 tt
 
 -- a read that found no memory for its reply leaves the hot bit as it was
 abbrev holds : ℕ → ℕ → Holding Words

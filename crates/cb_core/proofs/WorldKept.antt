@@ -11,7 +11,6 @@ use Rattle.cb_world.specs.declared.shown.Shown.{Shown}
 use Rattle.cb_world.specs.FarState.{FarState}
 use Rattle.cb_world.specs.Plain.{Words}
 use Rattle.cb_world.specs.Seats.{SeatState}
-use Rattle.cb_world.specs.Sound.{Sound}
 use Rattle.cb_world.specs.World.{WorldState, IsKnown, IsConfigured, IsSoundWorld}
 use Rattle.cb_world.proofs.Laws.{open_same, recounted}
 use Rattle.cb_core.specs.declared.event.Event.TheVariants as event
@@ -20,8 +19,10 @@ use Rattle.cb_core.specs.Parts.{Holding, NeverLacks, WithRoom}
 use Rattle.cb_core.specs.Step.{StillMake, StillMakeLacks, StillRead, StillReadLacks, StillWrite, StillFind, StillDecline, StillRoom, StillEvictLacks, StillSwap, StillSwapLacks, StillBring, StillBringLacks, StillWorks, StillStops, TurnStep, worn, done, Stops}
 use Rattle.cb_core.specs.Turned.{Does, Turned, worn as was_worn, done as was_done, Stopped, counted, once_counted, Makes, MakeLacks, Reads, ReadLacks, Writes, Finds, Declines, WinsRoom, EvictLacks, Swaps, SwapLacks, Brings, BringLacks, Stops as StopsOver, ComesIn, ComeLacks}
 use Rattle.cb_core.proofs.Counting.{counted_sound, job_below}
-use Rattle.cb_core.proofs.KeptParts.{IsGood, Arrives, Carries, CarriesLack, rises_more, arrives_then, arrives_more, arrives_same, counted_rises, arrives_stays}
-use Rattle.cb_core.proofs.StillParts.{Ran, Tells, both_same, make_part, read_part, write_part, free_part, find_part, decline_part, evict_part, room_part, swap_part, make_lack, read_lack, evict_lack, swap_lack}
+use Rattle.cb_core.proofs.KeptParts.{IsGood, Arrives, Carries, CarriesLack, rises_more, arrives_then, arrives_more, counted_rises, ArrivesBy}
+use Rattle.cb_core.proofs.StillParts.{Ran, Tells, make_part, read_part, write_part, free_part, find_part, decline_part, evict_part, room_part, swap_part, make_lack, read_lack, evict_lack, swap_lack}
+use Rattle.cb_core.proofs.FarJobs.{note_of}
+use Rattle.cb_core.proofs.Noted.{noted_after}
 use Rattle.cb_core.proofs.StillBatches.{begin_part, ship_part, ship_lack, commit_part, abort_part}
 use Rattle.cb_core.proofs.StillFilters.{filter_part, filter_lack}
 use Rattle.cb_core.proofs.StillFarJobs.{far_arrives, far_lack, far_part, known_far}
@@ -65,7 +66,7 @@ in_job c seats n a b Z most z = arrives_more c seats n 64 a b Z Z most z z.is
 
 works_part : (c : Config) (seats : List SeatState) (job : Job) (a b : Holding Words) (r : Reply)
     → IsAccepted c → IsJob c job → IsGood c seats a → Does Ran Tells (Reads Ran Tells) c job a r b
-    → Arrives c seats 64 a b (StillWorks job a r b)
+    → ArrivesBy (note_of job) c seats 64 a b (StillWorks job a r b)
 works_part c seats (Make bytes) a b r accepted ok good does =
     let z = with_room c seats c.frames 1 24 64 (Makes Ran Tells c bytes) (StillMake bytes)
     (WinsRoom Ran Tells c) StillRoom (omega arith) (make_part c seats bytes) (room_part c seats accepted)
@@ -111,7 +112,7 @@ never_lack c seats a b good lacks = absurd lacks
 
 stops_part : (c : Config) (seats : List SeatState) (job : Job) (a b : Holding Words)
     → IsAccepted c → IsGood c seats a → StopsOver Ran Tells (ReadLacks Ran Tells) c job a b
-    → Arrives c seats 64 a b (StillStops job a b)
+    → ArrivesBy (note_of job) c seats 64 a b (StillStops job a b)
 stops_part c seats (Make bytes) a b accepted good stops =
     room_stops c seats 1 24 64 (Makes Ran Tells c bytes) (StillMake bytes) (WinsRoom Ran Tells c)
     StillRoom (MakeLacks Ran c bytes) (StillMakeLacks bytes) (EvictLacks Ran Tells) StillEvictLacks
@@ -173,7 +174,7 @@ counted_good w job sound = record {
 
 arrived_sound : (w : WorldState) (job : Job) (b : Holding Words) (Z : Type 0) → IsSoundWorld w
     → w.far.counts.turns < 2 ^ 40
-    → Arrives w.desk.settings w.seats 64 (once_counted (held w) job) b Z
+    → ArrivesBy (note_of job) w.desk.settings w.seats 64 (once_counted (held w) job) b Z
     → IsSoundWorld (with_job w b.desk b.far)
 arrived_sound w job b Z sound few z = record {
   config = subst IsAccepted (sym z.good.settings) sound.config;
@@ -184,7 +185,8 @@ arrived_sound w job b Z sound few z = record {
   ongoing = z.good.ongoing;
   one = sound.one;
   counted = counted_rises w.far (counted w.far job) b.far (job_index job) sound.counted few
-      (job_below job) refl (rises_more 64 (2 ^ 20) (counted w.far job) b.far (omega arith) z.rises);
+      (job_below job) refl (rises_more 64 (2 ^ 20) (counted w.far job) b.far (omega arith) z.rises)
+      (noted_after job 64 w.far b.far sound.counted z.rises);
 }
 
 -- ---- a turn over the still desk is a step, and leaves the world sound

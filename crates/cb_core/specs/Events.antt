@@ -2,7 +2,7 @@
 use Rattle.std.specs.Prelude.{ℕ, ◌<◌}
 use Rattle.cb_types.specs.declared.config.Config.{Config}
 use Rattle.cb_core.specs.declared.event.Atomic.{Atomic}
-use Rattle.cb_core.specs.declared.event.Atomic.TheVariants.{Load, Pin, Unpin}
+use Rattle.cb_core.specs.declared.event.Atomic.TheVariants.{Load, Pin, Unpin, Claim, Store, Settle}
 use Rattle.cb_core.specs.declared.event.Event.{Event}
 use Rattle.cb_core.specs.declared.event.Event.TheVariants as event
 use Rattle.cb_core.specs.Jobs.{IsJob}
@@ -12,8 +12,24 @@ abbrev pub handle_of : Atomic → ℕ
 handle_of (Load handle) = handle.n
 handle_of (Pin handle) = handle.n
 handle_of (Unpin handle) = handle.n
+handle_of (Claim handle at bytes) = handle.n
+handle_of (Store handle) = handle.n
+handle_of (Settle handle) = handle.n
 
 -- there are 64 seats, and handles, nodes and bytes are as a job may have them
 abbrev pub IsEvent : Config → Event → Type 0
 IsEvent c (event.Step seat atomic) = (seat < 64) × (handle_of atomic < c.handles)
 IsEvent c (event.Turn seat job) = (seat < 64) × IsJob c job
+
+-- the step is one of an open write
+abbrev pub IsOfWrite : Atomic → Type 0
+IsOfWrite (Claim handle at bytes) = Unit {0}
+IsOfWrite (Store handle) = Unit {0}
+IsOfWrite (Settle handle) = Unit {0}
+IsOfWrite atomic = ⊥
+
+-- an event of a run: one that may come, and no step of an open write
+abbrev pub IsRunEvent : Config → Event → Type 0
+IsRunEvent c (event.Step seat atomic) =
+    ((seat < 64) × (handle_of atomic < c.handles)) × ¬ (IsOfWrite atomic)
+IsRunEvent c (event.Turn seat job) = (seat < 64) × IsJob c job

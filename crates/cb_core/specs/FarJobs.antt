@@ -27,14 +27,14 @@ FarStep (Crash node) = λ far new r. CrashTurn node far r new
 FarStep (Join node) = λ far new r. JoinTurn node far r new
 FarStep job = λ far new r. ⊥
 
--- the sets before the first weak one were looked at, and rows of that one were given out, at most as
--- many as it has data positions
+-- the sets before the first weak one were looked at, and rows of that one were given out, at most
+-- as many as it has data positions
 abbrev pub IsWeakGiven : FarState → FarState → Type 0
 IsWeakGiven far new = (id : ℕ) × (set : SetState) × (n : ℕ) × IsFirstWeak far id set
     × (n ≤ length set.positions) × (new ≡ far_given (surveyed far id) n)
 
--- What one leaves that finds no memory: a rebuild may have given rows out, a crash needs memory only
--- where the node is up, and else nothing has changed. A parting and a join take no memory.
+-- What one leaves that finds no memory: a rebuild may have given rows out, a crash needs memory
+-- only where the node is up, and else nothing has changed. A parting and a join take no memory.
 abbrev pub FarLacks : Job → FarState → FarState → Type 0
 FarLacks Pair far new = new ≡ far
 FarLacks Patch far new = new ≡ far

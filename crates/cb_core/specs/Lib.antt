@@ -1,5 +1,7 @@
 pub mod Membership
 pub mod Pinning
+pub mod Claiming
+pub mod Holding
 pub mod Jobs
 pub mod Parts
 pub mod Declining

@@ -1,5 +1,5 @@
 -- One event of the core, at the still desk: its reply, and every part of the world after it.
-use Rattle.std.specs.Prelude.{◌≡◌, ℕ, ◌^◌, ◌<◌, true, List, [], ◌∷◌, Option, Some, length}
+use Rattle.std.specs.Prelude.{◌≡◌, ℕ, ◌^◌, ◌<◌, List, [], ◌∷◌, Option, Some, length}
 use Rattle.cb_ptr.specs.declared.word.State.TheVariants as state
 use Rattle.cb_ptr.specs.Word.{state_of, len_of}
 use Rattle.cb_types.specs.declared.job.Job.{Job}
@@ -31,9 +31,10 @@ use Rattle.cb_filter.specs.Plans.{Wants}
 use Rattle.cb_filter.specs.Seats.{Seat}
 use Rattle.cb_swapin.specs.SwapStep.{IsSwapStep}
 use Rattle.cb_core.specs.declared.event.Atomic.{Atomic}
-use Rattle.cb_core.specs.declared.event.Atomic.TheVariants.{Load, Pin, Unpin}
+use Rattle.cb_core.specs.declared.event.Atomic.TheVariants.{Load, Pin, Unpin, Claim, Store, Settle}
 use Rattle.cb_core.specs.declared.event.Event.{Event}
 use Rattle.cb_core.specs.declared.event.Event.TheVariants as event
+use Rattle.cb_core.specs.Claiming.{ClaimStep, StoreStep, SettleStep}
 use Rattle.cb_core.specs.Declining.{write_refusal}
 use Rattle.cb_core.specs.FarJobs.{FarLacks, FarStep}
 use Rattle.cb_core.specs.Parts.{Holding, WithRoom, WhereItIs, NeverDeclined, BringsIn, RoomStops, CallStops, NeverLacks}
@@ -148,6 +149,9 @@ abbrev pub AtomicStep : ℕ → Atomic → WorldState → Reply → WorldState �
 AtomicStep seat (Load handle) w r new = (r ≡ answer.Word (word_at w.desk handle.n)) × (new ≡ w)
 AtomicStep seat (Pin handle) w r new = PinStep seat handle.n w r new
 AtomicStep seat (Unpin handle) w r new = UnpinStep seat handle.n w r new
+AtomicStep seat (Claim handle at bytes) w r new = ClaimStep seat handle.n at bytes w r new
+AtomicStep seat (Store handle) w r new = StoreStep seat handle.n w r new
+AtomicStep seat (Settle handle) w r new = SettleStep seat handle.n w r new
 
 -- The world w, an event, its reply and the world after it.
 abbrev pub Step : WorldState → Event → Reply → WorldState → Type 0
@@ -210,10 +214,14 @@ StillStops Commit a b = ⊥
 StillStops Abort a b = ⊥
 StillStops job a b = StillFarLacks (FarLacks job) a b
 
--- A turn that found no memory is counted; what its parts did before stays. A step always has its
--- reply.
+-- a claim that found no memory changed nothing; every other step has its reply
+abbrev pub AtomicStops : Atomic → WorldState → WorldState → Type 0
+AtomicStops (Claim handle at bytes) w new = new ≡ w
+AtomicStops atomic w new = ⊥
+
+-- A turn that found no memory is counted; what its parts did before stays.
 abbrev pub Stops : WorldState → Event → WorldState → Type 0
-Stops w (event.Step seat atomic) new = ⊥
+Stops w (event.Step seat atomic) new = AtomicStops atomic w new
 Stops w (event.Turn seat job) new = (w.far.counts.turns < 2 ^ 40) × (new.seats ≡ w.seats)
     × StillStops job (record { desk = w.desk; far = counted w.far job })
     (record { desk = new.desk; far = new.far })

@@ -252,8 +252,8 @@ abbrev pub ComeLacks : {D : Type 0} → (D → List Event → D → Type 0) → 
 ComeLacks {D = D} run shows c h a b =
     (m : Holding D) × Finds run shows h a answer.NotHere m × BringLacks run shows c h m b
 
--- Where a job that found no memory stopped. A free, a commit and an abort take no memory. `lacks` says
--- what a read that lacks it leaves.
+-- Where a job that found no memory stopped. A free, a commit and an abort take no memory. `lacks`
+-- says what a read that lacks it leaves.
 abbrev pub Stops : {D : Type 0} → (D → List Event → D → Type 0) → (D → Shown → Type 0)
     → (ℕ → Holding D → Holding D → Type 0) → Config → Job → Holding D → Holding D → Type 0
 Stops run shows lacks c (Make bytes) a b = RoomStops (Makes run shows c bytes) (MakeLacks run c bytes)

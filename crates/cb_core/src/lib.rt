@@ -3,8 +3,10 @@
 #![tactic(auto)]
 
 mod bringing;
+mod claiming;
 mod declining;
 pub mod event;
+mod holding;
 mod membership;
 mod pinning;
 pub mod reading;

@@ -4,7 +4,7 @@ ghost use Rattle.cb_model.specs.Called.{Called};
 ghost use Rattle.cb_model.specs.Legal.{Follow, AreLegal};
 ghost use Rattle.cb_world.specs.World.{IsSoundWorld, empty_world};
 ghost use Rattle.cb_core.specs.Called.{calls_by, StandsBeside};
-ghost use Rattle.cb_core.specs.Events.{IsEvent};
+ghost use Rattle.cb_core.specs.Events.{IsRunEvent};
 ghost use Rattle.cb_core.specs.Run.{LeadsSoundly, RunStops};
 ghost use Rattle.cb_core.specs.Step.{Leads};
 ghost use Rattle.cb_core.specs.Unmoved.{LeadsPinned};
@@ -16,7 +16,8 @@ use cb_types::NoMemory;
 use cb_world::World;
 use std::alloc::Global;
 
-/// Events one after another, with the reply to each. The world is sound after each of them. Where
+/// Events one after another, but for those of open writes, with the reply to each. The world is sound
+/// after each of them. Where
 /// there is no memory, some first events took place, and the next one stopped, or its reply or none
 /// was done.
 ///
@@ -30,7 +31,7 @@ use std::alloc::Global;
 /// version and its bytes. So whatever happens between a pin and its end, the object is unmoved.
 pub fn run(alloc: Global, world: &mut World, events: &[Event]) -> Result<Replies, NoMemory>
     requires sound { IsSoundWorld world.old }
-    requires events { AllByRecursion (IsEvent world.old.desk.settings) events.now }
+    requires events { AllByRecursion (IsRunEvent world.old.desk.settings) events.now }
     ensures leads { IfOk result (λ replies. Leads world.old events.now replies world.new) }
     ensures along { IfOk result (λ replies. LeadsSoundly world.old events.now replies world.new) }
     ensures legal { IfOk result (λ replies. (before : List Called) → StandsBeside before world.old

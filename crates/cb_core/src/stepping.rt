@@ -2,8 +2,9 @@ ghost use Rattle.std.specs.Prelude.{◌≡◌, ◌<◌, IfOk, OnErr};
 ghost use Rattle.cb_world.specs.World.{IsSoundWorld};
 ghost use Rattle.cb_core.specs.Events.{IsEvent, handle_of};
 ghost use Rattle.cb_core.specs.Jobs.{IsJob};
-ghost use Rattle.cb_core.specs.Step.{AtomicStep, Step, Stops, TurnStep};
+ghost use Rattle.cb_core.specs.Step.{AtomicStep, AtomicStops, Step, Stops, TurnStep};
 
+use crate::claiming::{claim, settle, store};
 use crate::event::{Atomic, Event};
 use crate::pinning::{pin, unpin};
 use crate::turning::turn;
@@ -12,7 +13,7 @@ use cb_world::World;
 use std::alloc::Global;
 
 /// One event: a seat takes an atomic step, or makes a turn. The world stays sound. Where there is
-/// no memory, the turn is counted, and what its parts did before stays: a span may have left or
+/// no memory, a claim changed nothing, and a turn is counted, and what its parts did before stays: a span may have left or
 /// come in. Between events a batch may be leaving, whose objects are Moving until it is committed or
 /// given up.
 pub fn step(alloc: Global, world: &mut World, event: &Event) -> Result<Reply, NoMemory>
@@ -23,25 +24,38 @@ pub fn step(alloc: Global, world: &mut World, event: &Event) -> Result<Reply, No
     ensures error { OnErr result (Stops world.old event.now world.new) }
 {
     match event {
-        Event::Step { seat, atomic } => Ok(atomic_step(world, *seat, *atomic)),
+        Event::Step { seat, atomic } => atomic_step(alloc, world, *seat, atomic),
         Event::Turn { job, .. } => turn_step(alloc, world, job),
     }
 }
 
-/// An atomic step of a seat. Takes no memory.
-fn atomic_step(world: &mut World, seat: u32, atomic: Atomic) -> Reply
+/// An atomic step of a seat. A claim takes memory, and where there is none nothing is changed; no other
+/// step takes any.
+fn atomic_step(
+    alloc: Global,
+    world: &mut World,
+    seat: u32,
+    atomic: &Atomic,
+) -> Result<Reply, NoMemory>
     requires sound { IsSoundWorld world.old }
     requires seat { seat < 64 }
-    requires handle { handle_of atomic < world.old.desk.settings.handles }
-    ensures step { AtomicStep seat atomic world.old result world.new }
+    requires handle { handle_of atomic.now < world.old.desk.settings.handles }
+    ensures step { IfOk result (λ reply.
+        AtomicStep seat atomic.now world.old reply world.new) }
     ensures sound { IsSoundWorld world.new }
+    ensures error { OnErr result (AtomicStops atomic.now world.old world.new) }
 {
     match atomic {
-        Atomic::Load { handle } => Reply::Word {
-            word: world.desk.look(handle),
-        },
-        Atomic::Pin { handle } => pin(world, seat, handle),
-        Atomic::Unpin { handle } => unpin(world, seat, handle),
+        Atomic::Load { handle } => Ok(Reply::Word {
+            word: world.desk.look(*handle),
+        }),
+        Atomic::Pin { handle } => Ok(pin(world, seat, *handle)),
+        Atomic::Unpin { handle } => Ok(unpin(world, seat, *handle)),
+        Atomic::Claim { handle, at, bytes } => {
+            claim(alloc, world, seat, *handle, *at, bytes.as_slice())
+        }
+        Atomic::Store { handle } => Ok(store(world, seat, *handle)),
+        Atomic::Settle { handle } => Ok(settle(world, seat, *handle)),
     }
 }
 

@@ -88,6 +88,7 @@ made_stays c far new frames shards rows accepted k count homes state is =
         keys = omega (arith, keys, count, most.1, few.1);
         epoch = omega (arith, epoch);
         given = omega (arith, given);
+        note = λ n e. sym (ap (λ (f : FarState). f.survey.no_pair) state) ∙ e;
       };
     }
 
@@ -131,6 +132,7 @@ batch_stays c far new frames words parities k r state is =
         keys = omega (arith, keys);
         epoch = omega (arith, epoch);
         given = omega (arith, given);
+        note = λ n e. sym (ap (λ (f : FarState). f.survey.no_pair) state) ∙ e;
       };
     }
   where
@@ -177,6 +179,7 @@ shipped_stays c far new r row z is =
         keys = omega (arith, keys);
         epoch = omega (arith, epoch);
         given = omega (arith, given);
+        note = λ n was. sym (ap (λ (f : FarState). f.survey.no_pair) e) ∙ was;
       };
     }
 
@@ -220,6 +223,7 @@ committed_stays c s far new r sound z is =
         keys = omega arith;
         epoch = omega arith;
         given = omega arith;
+        note = λ n e. e;
       });
     }
 
@@ -250,6 +254,7 @@ given_up_stays c far new r z =
         batch = λ b at. absurd (no_batch b at);
       };
       counts = refl;
+      note = λ n e. e;
       epoch = omega arith;
       given = dropped_given far.nodes (put_shards z.batch.shards);
     }))

@@ -29,6 +29,7 @@ filter_stays c frames h far new r es x = by (state_of x.word) x.answer
           room = refl;
           codes = codes_stay far (with_moved far seat slot h) refl refl;
           counts = refl;
+          note = λ n e. e;
           epoch = omega arith;
           given = refl;
         }))

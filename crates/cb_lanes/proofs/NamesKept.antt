@@ -1,11 +1,9 @@
 -- The names that are kept.
 use Rattle.std.proofs.Common.{◌≡◌, ℕ, ◌<◌, Bool, true, false, cond, List, Option, Some, None, refl, ap}
 use Rattle.std.specs.Option.{option_map}
-use Rattle.std.specs.BTreeMap.{UpdatesBy}
-use Rattle.std.specs.Cmp.Lexicographic.{slice_cmp}
-use Rattle.std.specs.Ordering.{nat_cmp}
+use Rattle.std.specs.HashMap.{UpdatesBy}
 use Rattle.std.specs.Str.{bytes_eq}
-use Rattle.std.proofs.lemmas.Map.Text.{btree_map_updates_str}
+use Rattle.std.proofs.lemmas.Map.Text.{hash_map_updates_str}
 use Rattle.cb_types.specs.declared.handle.Handle.{Handle}
 use Rattle.cb_types.specs.declared.job.Job.TheVariants as job
 use Rattle.cb_types.specs.declared.request.Request.TheVariants.{Make}
@@ -25,12 +23,12 @@ mapped false here other found e = ap (option_map (λ (h : Handle). h.n)) e
 -- a make that was given a handle has it kept under its name
 pub made_names : (names kept : Names) (name bytes text : List ℕ) (handle : Handle) (version : ℕ)
     → text ≡ name
-    → UpdatesBy (λ x y. slice_cmp nat_cmp x.now y.now) (λ k. slice_cmp nat_cmp text k.now) names kept
+    → UpdatesBy (λ x y. bytes_eq x.now y.now) (λ k. bytes_eq text k.now) names kept
     (Some handle)
     → AreKept names (Make name bytes) (reply.Made handle version) kept
 made_names names kept name bytes text handle version same updates q =
     rw same at (mapped (bytes_eq text q) (Some handle) (kept_handle names q) (kept_handle kept q)
-    (btree_map_updates_str text names kept (Some handle) updates q))
+    (hash_map_updates_str text names kept (Some handle) updates q))
 
 -- a make that was refused leaves them
 pub refused_names : (w new : WorldState) (names : Names) (name bytes : List ℕ) (r : Reply)

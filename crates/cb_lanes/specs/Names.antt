@@ -1,11 +1,11 @@
 -- The names that were made, and their handles.
 use Rattle.std.specs.Prelude.{◌≡◌, ℕ, ◌<◌, List, Option, Some, None, if◌then◌else◌}
-use Rattle.std.specs.BTreeMap.{BTreeMap, get_by}
-use Rattle.std.specs.Cmp.Lexicographic.{slice_cmp}
+use Rattle.std.specs.HashMap.{HashMap, get_by}
 use Rattle.std.specs.Option.{option_map}
-use Rattle.std.specs.Ordering.{nat_cmp}
 use Rattle.std.specs.Borrow.{Bor}
 use Rattle.std.specs.Str.{bytes_eq}
+use Rattle.std.specs.declared.hash.BuildHasherDefault.{BuildHasherDefault}
+use Rattle.std.specs.declared.hash.FoldHasher.{FoldHasher}
 use Rattle.cb_types.specs.declared.handle.Handle.{Handle}
 use Rattle.cb_types.specs.declared.request.Request.{Request}
 use Rattle.cb_types.specs.declared.request.Request.TheVariants.{Make, Read, Write, Free, Pin, Peek, Unpin, Filter}
@@ -15,11 +15,11 @@ use Rattle.cb_types.specs.Requests.{name_of}
 
 -- names and their handles, as they are kept
 abbrev pub Names : Type 0
-Names = BTreeMap (Bor (List ℕ)) Handle
+Names = HashMap (Bor (List ℕ)) Handle (BuildHasherDefault FoldHasher)
 
 -- the handle that is kept for a name
 abbrev pub kept_handle : Names → List ℕ → Option Handle
-kept_handle names name = get_by (λ k. slice_cmp nat_cmp name k.now) names
+kept_handle names name = get_by (λ k. bytes_eq name k.now) names
 
 -- its number
 abbrev pub kept_number : Names → List ℕ → Option ℕ

@@ -14,14 +14,14 @@ use cb_mutate::read;
 use cb_types::{Bytes, Handle, Job, Name, NoMemory, Reply, Request};
 use cb_world::World;
 use std::alloc::Global;
-use std::collections::BTreeMap;
+use std::collections::HashMap;
 
 /// Answers one request of the lane of this seat in the world, and keeps the handle of a name that it
-/// makes. A line costs the logarithm of the names, and what its event costs.
+/// makes. A line costs a look at its name by its hash, and what its event costs.
 pub(crate) fn reply_to<'a>(
     alloc: Global,
     world: &mut World,
-    names: &mut BTreeMap<&'a [u8], Handle>,
+    names: &mut HashMap<&'a [u8], Handle>,
     seat: u32,
     request: &'a Request,
 ) -> Result<Reply, NoMemory>
@@ -82,7 +82,7 @@ fn turn_of(alloc: Global, world: &mut World, seat: u32, job: Job) -> Result<Repl
 fn make_named<'a>(
     alloc: Global,
     world: &mut World,
-    names: &mut BTreeMap<&'a [u8], Handle>,
+    names: &mut HashMap<&'a [u8], Handle>,
     seat: u32,
     name: &'a Name,
     bytes: &Bytes,
@@ -111,7 +111,7 @@ fn make_named<'a>(
 fn call_named<'a>(
     alloc: Global,
     world: &mut World,
-    names: &BTreeMap<&'a [u8], Handle>,
+    names: &HashMap<&'a [u8], Handle>,
     seat: u32,
     request: &'a Request,
 ) -> Result<Reply, NoMemory>
@@ -129,7 +129,7 @@ fn call_named<'a>(
 }
 
 /// The handle that is kept for the request's name.
-fn handle_of<'a>(names: &BTreeMap<&'a [u8], Handle>, request: &'a Request) -> Option<Handle>
+fn handle_of<'a>(names: &HashMap<&'a [u8], Handle>, request: &'a Request) -> Option<Handle>
     ensures { option_map (λ handle. handle.n) result ≡ handle_in names.now request.now }
 {
     let name = request.name()?;
@@ -194,7 +194,7 @@ fn pin(alloc: Global, world: &mut World, seat: u32, handle: Handle) -> Result<Re
         Reply::NotHere => {
             let reply = turn_of(alloc, world, seat, Job::Swap { handle })?;
             if is_in(&reply) {
-                step_of(alloc, world, seat, pin)
+                step_of(alloc, world, seat, Atomic::Pin { handle })
             } else {
                 Ok(reply)
             }

@@ -20,7 +20,7 @@ use cb_script::{Line, Script};
 use cb_types::{Answer, Answers, Handle, Loss, Losses, NoMemory, Reply, Request};
 use cb_world::World;
 use std::alloc::Global;
-use std::collections::BTreeMap;
+use std::collections::HashMap;
 
 /// What a script leaves that was run on one thread.
 #[derive(Drop)]
@@ -34,7 +34,7 @@ pub struct SeqEnd {
 }
 
 /// Answers the lines of a script in order, in one world. Behind the last line of a lane its pins are
-/// given back. A line costs the logarithm of the names, and what its event costs.
+/// given back. A line costs a look at its name by its hash, and what its event costs.
 pub fn run_seq(alloc: Global, s: &Script) -> Result<SeqEnd, NoMemory>
     requires script { IsScript s.now }
     ensures lines { IfOk result (λ end. map asked end.answers ≡ s.now.lines) }
@@ -51,7 +51,7 @@ pub fn run_seq(alloc: Global, s: &Script) -> Result<SeqEnd, NoMemory>
     ensures idle { IfOk result (λ end. (seat : ℕ) → pins_of_seat end.world.seats seat ≡ []) }
 {
     let mut world = World::new(alloc, s.config)?;
-    let mut names = BTreeMap::new(alloc);
+    let mut names = HashMap::new(alloc);
     let mut answers = Answers::new(alloc);
     let mut losses = Vec::new(alloc);
     let mut left = lines_by_lane(s.lines.as_slice());
@@ -78,7 +78,7 @@ pub fn run_seq(alloc: Global, s: &Script) -> Result<SeqEnd, NoMemory>
 fn answer_line<'a>(
     alloc: Global,
     world: &mut World,
-    names: &mut BTreeMap<&'a [u8], Handle>,
+    names: &mut HashMap<&'a [u8], Handle>,
     answers: &mut Answers,
     losses: &mut Vec<Loss>,
     left: &mut [u32; LANES],

@@ -10,7 +10,7 @@ use Rattle.cb_types.specs.declared.reply.Reply.TheVariants as answer
 use Rattle.cb_world.specs.declared.event.Event.{Event}
 use Rattle.cb_world.specs.FarState.{FarState}
 use Rattle.cb_world.specs.LeftOver.{set_without}
-use Rattle.cb_world.proofs.Laws.{codes_left, codes_stay, left_count, left_given, left_room, IsLike, StaysIf, stays_like, stays_same}
+use Rattle.cb_world.proofs.Laws.{codes_left, codes_stay, left_count, left_given, left_note, left_room, IsLike, StaysIf, stays_like, stays_same}
 use Rattle.cb_mutate.specs.FreeRule.{FreeFar, FreeRule, IsReleased, IsRemoved, LeavesPlace}
 use Rattle.cb_mutate.specs.MakeRule.{MakeRule, with_made}
 
@@ -28,6 +28,7 @@ make_stays c handles bytes far new (answer.Made h v) es x =
       room = refl;
       codes = codes_stay far (with_made far x.1.slot) refl refl;
       counts = refl;
+      note = λ n e. e;
       epoch = omega arith;
       given = refl;
     }))
@@ -42,6 +43,7 @@ released far new h z = subst (IsLike far) (sym z.left) (record {
   room = refl;
   codes = codes_stay far _ refl refl;
   counts = refl;
+  note = λ n e. e;
   epoch = omega arith;
   given = refl;
 })
@@ -58,6 +60,7 @@ removed far new h z = subst (IsLike far) (sym z.left) (record {
     batch = x.batch;
   };
   counts = refl;
+  note = λ n e. left_note far z.home.set n (set_without z.set z.home) e;
   epoch = omega arith;
   given = left_given far.nodes (set_without z.set z.home);
 })

@@ -13,5 +13,6 @@ mod writing;
 
 pub use freeing::free;
 pub use making::make;
+pub use merge::merged;
 pub use reading::read;
 pub use writing::write;

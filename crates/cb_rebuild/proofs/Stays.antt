@@ -1,5 +1,5 @@
 -- What a rebuild leaves of the configured sizes and codes, and of what is counted.
-use Rattle.std.proofs.Common.{◌≡◌, ℕ, ◌+◌, ◌≤◌, true, length, Some, refl, sym, ◌∙◌, subst, arith, inl, inr, length-set}
+use Rattle.std.proofs.Common.{◌≡◌, ℕ, ◌+◌, ◌≤◌, true, length, Option, None, Some, refl, sym, ◌∙◌, subst, arith, inl, inr, length-set}
 use Rattle.cb_set.specs.SetState.{SetState, with_shard}
 use Rattle.cb_types.specs.declared.config.Config.{Config}
 use Rattle.cb_types.specs.declared.reply.Reply.{Reply}
@@ -9,6 +9,13 @@ use Rattle.cb_world.specs.Sets.{set_in}
 use Rattle.cb_world.specs.Sound.{Sound}
 use Rattle.cb_world.proofs.Laws.{code_as, codes_put, Stays, StaysIf}
 use Rattle.cb_rebuild.specs.RebuildStep.{IsRebuilt, RebuildStep, Restores, far_given, surveyed}
+
+-- nothing is noted of a search for a pair
+forgets : {o : Option ℕ} → (m : ℕ) → None ≡ Some m → o ≡ Some m
+forgets m e = absurd (no_note m e)
+  where
+    no_note : (m : ℕ) → None ≡ Some m → ⊥
+    no_note m e = cc
 
 -- the sets were looked at
 survey_stays : (c : Config) (far : FarState) (n : ℕ) → StaysIf c 16 far (surveyed far n)
@@ -27,6 +34,7 @@ survey_stays c far n is = record {
     keys = omega arith;
     epoch = omega arith;
     given = omega arith;
+    note = forgets;
   };
 }
 
@@ -62,6 +70,7 @@ rebuilt_stays c s far new id set r sound there z is =
         keys = omega arith;
         epoch = omega arith;
         given = omega (arith, most);
+        note = forgets;
       };
     })
 
@@ -101,5 +110,6 @@ failed_stays c s far new id n set sound there few state is =
         keys = omega arith;
         epoch = omega arith;
         given = omega (arith, most, few);
+        note = forgets;
       };
     })

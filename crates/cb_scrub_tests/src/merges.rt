@@ -1,4 +1,5 @@
 use crate::worlds::world_of;
+use cb_world::World;
 use std::alloc::Global;
 use std::test::Fail;
 
@@ -16,6 +17,11 @@ const AT_ONCE: &[u8] = b"1 compact\n";
 /// Both far objects are read, each of them from two of the rows that are left.
 const READ: &[u8] = b"1 crash 0\n1 crash 1\n1 read a\n1 read d\n1 read b\n1 read c\n";
 
+/// How many rows were given out in a world.
+fn given_in(world: &World) -> u64 {
+    world.far.nodes.given()
+}
+
 /// How many rows were given out in the world that the lines lead to.
 fn given_by(alloc: Global, parts: &[&[u8]]) -> Result<u64, Fail> {
     let mut text = Vec::new(alloc);
@@ -23,7 +29,7 @@ fn given_by(alloc: Global, parts: &[&[u8]]) -> Result<u64, Fail> {
         text.extend_from_slice(part)?;
     }
     let world = world_of(alloc, text.as_slice())?;
-    Ok(world.far.nodes.given())
+    Ok(given_in(&world))
 }
 
 #[test]

@@ -65,6 +65,7 @@ swapped_stays c s far new id p set f sound there z is =
         keys = omega (arith, keys);
         epoch = omega (arith, epoch);
         given = omega (arith, given, most);
+        note = λ n e. sym (ap (λ (q : FarState). q.survey.no_pair) z.rest) ∙ e;
       };
     }
 
@@ -103,5 +104,6 @@ given_stays c s far id n set sound there few is =
         keys = omega arith;
         epoch = omega arith;
         given = omega (arith, most, few);
+        note = λ n e. e;
       };
     }

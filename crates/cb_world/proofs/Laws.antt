@@ -6,7 +6,7 @@ pub use Rattle.cb_world.proofs.Alike.{recounted_sound, retold_sound}
 pub use Rattle.cb_world.proofs.Apart.{apart, slot_inside, some_same}
 pub use Rattle.cb_world.proofs.BatchGone.{batch_given_up_whole, gone_sets, put_at, put_from}
 pub use Rattle.cb_world.proofs.Beginning.{whole_none}
-pub use Rattle.cb_world.proofs.Beside.{KeepsBeside, put_beside, put_twice_beside, sound_beside}
+pub use Rattle.cb_world.proofs.Beside.{IsBeside, KeepsBeside, put_beside, put_twice_beside, sound_beside}
 pub use Rattle.cb_world.proofs.Bridge.{put_only}
 pub use Rattle.cb_world.proofs.Choices.{few_pass, number, range_more}
 pub use Rattle.cb_world.proofs.Claimed.{avoids, back_written, held, is_claimed_at, lies, may_put_back, settled_here}
@@ -32,7 +32,7 @@ pub use Rattle.cb_world.proofs.NodeJoin.{claimed_stay, local_stays, node_crash_s
 pub use Rattle.cb_world.proofs.NowKept.{brought_now, now_kept, put_away_now}
 pub use Rattle.cb_world.proofs.NowOthers.{contents_beside, near_lies}
 pub use Rattle.cb_world.proofs.NowSame.{bits, empty_now, empty_value, far_object, near_now, near_object, now_by_words, now_same}
-pub use Rattle.cb_world.proofs.OpenKept.{open_here, open_kept, open_same, open_word, pins_hold, pins_leave}
+pub use Rattle.cb_world.proofs.OpenKept.{leaving_claimed, open_here, open_kept, open_same, open_word, pins_hold, pins_leave, seat_beside}
 pub use Rattle.cb_world.proofs.Patching.{join_is_merged, parity_step, patched_more}
 pub use Rattle.cb_world.proofs.PinNow.{pinned_now, unpinned_now}
 pub use Rattle.cb_world.proofs.Pins.{pin_counts, pin_sound, pinned_still, unpin_sound}
@@ -48,7 +48,8 @@ pub use Rattle.cb_world.proofs.SetWalk.{IsFirst, first_from}
 pub use Rattle.cb_world.proofs.SetsLeft.{drop_count, drop_fewer, drop_room, drop_there, left_count, left_given, left_others, left_over, left_room}
 pub use Rattle.cb_world.proofs.SlotFinding.{frame_is}
 pub use Rattle.cb_world.proofs.Slots.{IsEmptySlot, chosen_class, chosen_empty, chosen_stays}
-pub use Rattle.cb_world.proofs.Staying.{IsLike, Rises, Stays, StaysIf, recounted, rises_more, rises_then, stays_like, stays_same}
+pub use Rattle.cb_world.proofs.Staying.{IsLike, KeepsHolding, KeepsNote, Rises, RisesBy, Stays, StaysBy, StaysIf, StaysIfBy, recounted, rises_more, rises_then, stays_like, stays_noted, stays_same}
+pub use Rattle.cb_world.proofs.Noting.{counted_holds, counted_strictly, crash_note, left_note, no_pair_configured, no_pair_sound, none_again, noted_holds, others_same}
 pub use Rattle.cb_world.proofs.StillPerforms.{PerformsStill, RunsStill, known_then, runs_still, stays_still}
 pub use Rattle.cb_world.proofs.StillWords.{FreeIs, busy_leaves, empty_exact, free_after, hot_exact, one_exact, settles_other, told_exact, word_back}
 pub use Rattle.cb_world.proofs.Storing.{InRange, KeysApart, drop_elsewhere, put_elsewhere, put_there}

@@ -69,6 +69,7 @@ pub mod Placed
 pub mod Empty
 pub mod Codes
 pub mod Staying
+mod Noting
 pub mod OpenKept
 pub mod Worlds
 pub mod NodeJoin
@@ -87,6 +88,7 @@ mod WorkedChoices
 mod WorkedLeft
 mod WorkedPlaced
 mod WorkedSeats
+mod WorkedNotes
 mod WorkedSurvey
 mod WorkedSteps
 mod WorkedAdded

@@ -148,7 +148,7 @@ moving_here (is.Far n v words) w len place e moving here = cc
 moving_here (is.Claimed n p v words) w len place e moving here = cc
 
 -- who has a leaving object knows it as claimed
-leaving_claimed : (far : FarState) (s : Shown) (h len place : ℕ) → Sound s far
+pub leaving_claimed : (far : FarState) (s : Shown) (h len place : ℕ) → Sound s far
     → IsLeavingNow far h → object_at s h ≡ is.Here len place → ⊥
 leaving_claimed far s h len place sound (batch, there, (f, slot, among, named)) here =
     let n = sound.noted batch there in

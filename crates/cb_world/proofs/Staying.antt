@@ -1,20 +1,33 @@
 -- What a change of the far state leaves of the configured sizes and codes, and how far the numbers
 -- that are counted rise by it.
-use Rattle.std.proofs.Common.{◌≡◌, ℕ, ◌+◌, ◌≤◌, length, refl, sym, ap, ◌∙◌, subst, arith}
+use Rattle.std.proofs.Common.{◌≡◌, ℕ, ◌+◌, ◌≤◌, Some, length, refl, sym, ap, ◌∙◌, subst, arith}
 use Rattle.cb_types.specs.declared.config.Config.{Config}
 use Rattle.cb_world.specs.Counts.{CountsState}
 use Rattle.cb_world.specs.FarState.{FarState}
+use Rattle.cb_world.specs.Pairs.{HoldsNoPair}
 use Rattle.cb_world.specs.World.{IsConfigured}
 use Rattle.cb_world.proofs.Codes.{KeepCodes}
 
--- the turns stay, and each number that is drawn or rises did so by at most n
-pub record Rises (n : ℕ) (far new : FarState) : Type 0 where
+-- what is noted of a search for a pair was noted before
+abbrev pub KeepsNote : FarState → FarState → Type 0
+KeepsNote far new = (n : ℕ) → new.survey.no_pair ≡ Some n → far.survey.no_pair ≡ Some n
+
+-- what is noted of a search for a pair holds, where it held before
+abbrev pub KeepsHolding : FarState → FarState → Type 0
+KeepsHolding far new = HoldsNoPair far → HoldsNoPair new
+
+-- the turns stay, each number that is drawn or rises did so by at most n, and so does this of the note
+pub record RisesBy (N : FarState → FarState → Type 0) (n : ℕ) (far new : FarState) : Type 0 where
   pub turns : new.counts.turns ≡ far.counts.turns
   pub by_job : new.counts.by_job ≡ far.counts.by_job
   pub sets : new.counts.sets ≤ far.counts.sets + n
   pub keys : new.counts.keys ≤ far.counts.keys + n
   pub epoch : new.members.epoch ≤ far.members.epoch + n
   pub given : new.nodes.given ≤ far.nodes.given + n
+  pub note : N far new
+
+abbrev pub Rises : ℕ → FarState → FarState → Type 0
+Rises = RisesBy KeepsNote
 
 pub rises_then : (n m k : ℕ) (far mid new : FarState) → n + m ≤ k → Rises n far mid
     → Rises m mid new → Rises k far new
@@ -27,9 +40,11 @@ rises_then n m k far mid new most p q =
       keys = omega (arith, c, d, most);
       epoch = omega (arith, e, f, most);
       given = omega (arith, g, h, most);
+      note = λ i x. p.note i (q.note i x);
     }
 
-pub rises_more : (n k : ℕ) (far new : FarState) → n ≤ k → Rises n far new → Rises k far new
+pub rises_more : {N : FarState → FarState → Type 0} (n k : ℕ) (far new : FarState) → n ≤ k
+    → RisesBy N n far new → RisesBy N k far new
 rises_more n k far new most p =
     let a = p.sets in let c = p.keys in let e = p.epoch in let g = p.given in record {
       turns = p.turns;
@@ -38,6 +53,7 @@ rises_more n k far new most p =
       keys = omega (arith, c, most);
       epoch = omega (arith, e, most);
       given = omega (arith, g, most);
+      note = p.note;
     }
 
 -- a far state that differs in frames, spans, homes, sets and rows, and in the epoch by one at most
@@ -48,6 +64,7 @@ pub record IsLike (far new : FarState) : Type 0 where
   pub room : new.nodes.room ≡ far.nodes.room
   pub codes : KeepCodes far new
   pub counts : new.counts ≡ far.counts
+  pub note : KeepsNote far new
   pub epoch : new.members.epoch ≤ far.members.epoch + 1
   pub given : new.nodes.given ≡ far.nodes.given
 
@@ -59,16 +76,24 @@ like_same far = record {
   room = refl;
   codes = λ c x. x;
   counts = refl;
+  note = λ n e. e;
   epoch = omega arith;
   given = refl;
 }
 
--- the far state is as it is configured, and its numbers rose by n at the most
-pub record Stays (c : Config) (n : ℕ) (far new : FarState) : Type 0 where
+-- the far state is as it is configured, its numbers rose by n at the most, and so does this of the note
+pub record StaysBy (N : FarState → FarState → Type 0) (c : Config) (n : ℕ) (far new : FarState)
+    : Type 0 where
   pub configured : IsConfigured c new
-  pub rises : Rises n far new
+  pub rises : RisesBy N n far new
+
+abbrev pub Stays : Config → ℕ → FarState → FarState → Type 0
+Stays = StaysBy KeepsNote
 
 -- where it was so before
+abbrev pub StaysIfBy : (FarState → FarState → Type 0) → Config → ℕ → FarState → FarState → Type 0
+StaysIfBy N c n far new = IsConfigured c far → StaysBy N c n far new
+
 abbrev pub StaysIf : Config → ℕ → FarState → FarState → Type 0
 StaysIf c n far new = IsConfigured c far → Stays c n far new
 
@@ -93,6 +118,7 @@ stays_like c n far new some like is =
         keys = omega (arith, keys);
         epoch = omega (arith, epoch, some);
         given = omega (arith, given);
+        note = like.note;
       };
     }
 
@@ -110,4 +136,20 @@ recounted c far counts is = record {
   nodes = is.nodes;
   room = is.room;
   codes = record { sets = is.codes.sets; batch = is.codes.batch };
+}
+
+-- another way of what is known of the note
+pub stays_noted : (M N : FarState → FarState → Type 0) (c : Config) (n : ℕ) (far new : FarState)
+    → N far new → StaysBy M c n far new → StaysBy N c n far new
+stays_noted M N c n far new note z = let r = z.rises in record {
+  configured = z.configured;
+  rises = record {
+    turns = r.turns;
+    by_job = r.by_job;
+    sets = r.sets;
+    keys = r.keys;
+    epoch = r.epoch;
+    given = r.given;
+    note = note;
+  };
 }

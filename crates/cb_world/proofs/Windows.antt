@@ -1,5 +1,5 @@
 -- Words read from memory and put there.
-use Rattle.std.proofs.Common.{◌≡◌, ◌⊎◌, ℕ, zero, suc, ◌+◌, ◌<◌, ◌≤◌, List, [], ◌∷◌, length, get_or, set, refl, ap, ◌∙◌, arith, inl, inr, length-set, get_or-set_other, get_or-set_same}
+use Rattle.std.proofs.Common.{◌≡◌, ◌⊎◌, ℕ, zero, suc, ◌+◌, ◌<◌, ◌≤◌, List, [], ◌∷◌, ◌++◌, length, get_or, set, refl, ap, ◌∙◌, arith, inl, inr, length-set, get_or-set_other, get_or-set_same}
 use Rattle.std.proofs.lemmas.List.{set-set, set_comm}
 use Rattle.cb_world.specs.Memory.{window, put}
 
@@ -45,6 +45,21 @@ window_at ms p zero i e = absurd (omega arith)
 window_at ms p (suc n) zero e = ap (λ (j : ℕ). get_or ms j 0) (omega arith)
 window_at ms p (suc n) (suc i) e = window_at ms (p + 1) n i (omega (arith, e))
     ∙ ap (λ (j : ℕ). get_or ms j 0) (let q : (p + 1) + i ≡ p + suc i = omega arith in q)
+
+-- a window with one word more
+window_next : (ms : List ℕ) (p n : ℕ)
+    → window ms p (suc n) ≡ window ms p n ++ get_or ms (p + n) 0 ∷ []
+unfolding window
+window_next ms p zero =
+    ap (λ (i : ℕ). get_or ms i 0 ∷ []) (let q : p ≡ p + 0 = omega arith in q)
+window_next ms p (suc n) = ap (λ (l : List ℕ). get_or ms p 0 ∷ l) (window_next ms (p + 1) n
+    ∙ ap (λ (i : ℕ). window ms (p + 1) n ++ get_or ms i 0 ∷ [])
+    (let q : (p + 1) + n ≡ p + suc n = omega arith in q))
+
+pub window_more : (ms : List ℕ) (p n : ℕ)
+    → window ms p (n + 1) ≡ window ms p n ++ get_or ms (p + n) 0 ∷ []
+window_more ms p n =
+    ap (window ms p) (let q : n + 1 ≡ suc n = omega arith in q) ∙ window_next ms p n
 
 -- two windows whose words agree are one
 pub window_same : (ms ns : List ℕ) (p n : ℕ)

@@ -2,11 +2,12 @@
 -- each of its parts what breaks that part alone.
 use Rattle.std.proofs.Common.{◌≡◌, ◌⊎◌, ℕ, zero, suc, ◌+◌, ◌*◌, ◌-◌, ◌^◌, ◌<◌, ◌≤◌, true, false, List, [], ◌∷◌, Option, None, Some, Contains, length, get_or, slice_get, refl, sym, ap, ◌∙◌, subst, lit<, lit≤, arith, inl, inr}
 use Rattle.cb_ptr.specs.declared.word.State.TheVariants as word
-use Rattle.cb_ptr.specs.Word.{state_of}
+use Rattle.cb_ptr.specs.Word.{state_of, hot_of}
 use Rattle.cb_types.specs.declared.config.Config.{Config}
 use Rattle.cb_world.specs.FarState.{FarState}
 use Rattle.cb_world.specs.Leaving.{LeavingState}
 use Rattle.cb_world.specs.Memory.{byte_at, window}
+use Rattle.cb_world.specs.OpenSteps.{IsClaimOn, NoClaimOn, IsClaimed, IsSettled, NoneHolds, next_word}
 use Rattle.cb_world.specs.OpenWrites.{touched, left_of, IsOpen, IsLeavingNow, IsClaimedNow, AreOpen}
 use Rattle.cb_world.specs.Plain.{Words}
 use Rattle.cb_world.specs.Seats.{SeatState, OpenWriteState, IsClaimAt, Holds, AtMostOneHolds, idle_seat, with_claims, with_holds}
@@ -295,3 +296,87 @@ two_holders w first third sound =
 
 moves_for_no_one : (w : WorldState) → (AreOpen w.desk w.far w.seats → ⊥) → IsSoundWorld w → ⊥
 moves_for_no_one w not sound = not sound.ongoing
+
+-- ---- what a seat's open writes are on
+first_on : IsClaimOn (write ∷ []) 0 0
+first_on = record { ongoing = write; there = refl; on = refl }
+
+past_on : IsClaimOn (write ∷ []) 0 1 → ⊥
+past_on x = none_some x.ongoing x.there
+
+another_on : IsClaimOn (write ∷ []) 1 0 → ⊥
+another_on x =
+    let e : 0 ≡ x.ongoing.handle =
+    ap (λ (c : OpenWriteState). c.handle) (some_same write x.ongoing x.there) in
+    let on = x.on in omega (arith, e, on)
+
+none_on : NoClaimOn [] 0
+none_on at c there e = none_some c there
+
+some_on : NoClaimOn (write ∷ []) 0 → ⊥
+some_on none = none 0 write refl refl
+
+-- the memory word 0 is stored first, and the word 1 where the write begins there
+first_word : next_word (write_at 3 0) ≡ 0
+first_word = refl
+
+second_word : next_word (record (write_at 3 0) { at = 9 }) ≡ 1
+second_word = refl
+
+-- ---- the words of a claim and of its settling
+abbrev hot : ℕ
+hot = 16390
+
+claims_it : IsClaimed (desk calm 3 []) 0 (desk moving 3 [])
+claims_it = record {
+  word = moving;
+  claims = record {
+    state = refl;
+    hot = refl;
+    pins = refl;
+    len = refl;
+    place = refl;
+    number = refl;
+  };
+  words = refl;
+}
+
+abbrev word_of : Words → ℕ
+word_of x = get_or x.words 0 0
+
+claims_nothing : IsClaimed (desk calm 3 []) 0 (desk calm 3 []) → ⊥
+claims_nothing c =
+    let e : 16386 ≡ c.word = ap word_of c.words in
+    let n : c.word ≡ 16387 = c.claims.number in omega (arith, e, n)
+
+claims_and_stamps : IsClaimed (desk calm 3 []) 0 (desk moving 4 []) → ⊥
+claims_and_stamps c =
+    let e : 4 ≡ 3 = ap (λ (x : Words). get_or x.versions 0 0) c.words in omega (arith, e)
+
+settles_it : IsSettled (desk moving 4 []) 0 (desk hot 4 [])
+settles_it = record {
+  word = hot;
+  settles = record {
+    state = refl;
+    hot = refl;
+    pins = refl;
+    len = refl;
+    place = refl;
+    below = lit< tt;
+  };
+  words = refl;
+}
+
+hot_flag : (x : ℕ) → x ≡ 16386 → hot_of x ≡ true → ⊥
+hot_flag x e h = let f : false ≡ true = sym (ap hot_of e) ∙ h in cc
+
+settles_cold : IsSettled (desk moving 4 []) 0 (desk calm 4 []) → ⊥
+settles_cold c = hot_flag c.word (sym (ap word_of c.words)) c.settles.hot
+
+-- ---- no seat holds the lock, and one does
+none_at_all : NoneHolds (idle_seat ∷ [])
+none_at_all zero = refl
+none_at_all (suc k) = refl
+
+one_does : NoneHolds (idle_seat ∷ holder ∷ []) → ⊥
+one_does none = let e : true ≡ false = none 1 in cc

@@ -217,6 +217,9 @@ after_four = record far {
   counts = record { turns = 4; by_job = by_job; sets = 0; keys = 0 };
 }
 
+no_note : (n : ℕ) → None ≡ Some n → ⊥
+no_note n e = cc
+
 are_counted : AreCounted after_four
 are_counted = record {
   kinds = refl;
@@ -226,6 +229,7 @@ are_counted = record {
   keys = lit≤ tt;
   epoch = lit≤ tt;
   given = lit≤ tt;
+  no_pair = λ n e. absurd (no_note n e);
 }
 
 abbrev with_counts : ℕ → List ℕ → ℕ → ℕ → FarState
@@ -256,6 +260,12 @@ given_too_many : AreCounted (record after_four {
   nodes = record far.nodes { given = 2 ^ 22 + 1 };
 }) → ⊥
 given_too_many c = let n = c.given in omega (arith, n)
+
+-- it can't have been noted after more turns than there were
+noted_too_late : AreCounted (record after_four {
+  survey = record { below = 0; gone = 0; no_pair = Some 5 };
+}) → ⊥
+noted_too_late c = let n = (c.no_pair 5 refl).0 in omega (arith, n)
 
 -- ---- two frames, three homes, one node with room for one row, and no set
 is_configured : IsConfigured settings far

@@ -1,5 +1,5 @@
 -- The empty world is sound.
-use Rattle.std.proofs.Common.{sum_by, ap, ◌∙◌, sym, get_or, length, ◌≤◌, length-set, ◌^◌, ◌+◌, ◌≡◌, ℕ, ◌*◌, ◌<◌, false, [], replicate, zero, suc, refl, arith, lit≤}
+use Rattle.std.proofs.Common.{sum_by, ap, ◌∙◌, sym, get_or, length, ◌≤◌, length-set, ◌^◌, ◌+◌, ◌≡◌, ℕ, ◌*◌, None, Some, ◌<◌, false, [], replicate, zero, suc, refl, arith, lit≤}
 use Rattle.std.specs.List.{All}
 use Rattle.std.proofs.lemmas.List.{length-replicate}
 use Rattle.std.proofs.lemmas.List.Elements.{All-replicate}
@@ -71,6 +71,9 @@ none_holds seat held =
 still : (c : Config) (h : ℕ) → state_of (word_at (empty_words c) h) ≡ word.Moving → ⊥
 still c h moved = let e = sym (ap state_of (reads_one c.handles h 0)) ∙ moved in cc
 
+no_note : (n : ℕ) → None ≡ Some n → ⊥
+no_note n e = cc
+
 -- the empty world is sound
 pub empty_world_sound : (c : Config) → IsAccepted c → IsSoundWorld (empty_world c)
 empty_world_sound c ok = record {
@@ -97,29 +100,6 @@ empty_world_sound c ok = record {
     keys = omega arith;
     epoch = omega arith;
     given = omega arith;
+    no_pair = λ n e. absurd (no_note n e);
   };
 }
-
--- a turn more is counted: a node may have crashed or joined, and the other numbers stay
-pub counted_more : (far new : FarState) (kind : ℕ) → AreCounted far → far.counts.turns < 2 ^ 40
-    → kind < 19 → new.counts ≡ with_turn far.counts kind
-    → new.members.epoch ≤ far.members.epoch + 1 → new.nodes.given ≡ far.nodes.given
-    → AreCounted new
-counted_more far new kind c few below counts epoch given =
-    let old = far.counts in
-    let lt : kind < length old.by_job = (let n = c.kinds in omega (arith, n, below)) in
-    let sum = sum_by-set (λ (n : ℕ). n) old.by_job kind (get_or old.by_job kind 0 + 1) 0 lt in
-    let jobs = c.jobs in let sets = c.sets in let keys = c.keys in let e = c.epoch in let g = c.given in
-    record {
-      kinds = ap (λ (x : CountsState). length x.by_job) counts
-          ∙ length-set old.by_job kind _ ∙ c.kinds;
-      jobs = ap (λ (x : CountsState). sum_by (λ n. n) x.by_job) counts
-          ∙ (let total : sum_by (λ (n : ℕ). n) (with_turn old kind).by_job ≡ old.turns + 1 =
-          omega (arith, sum, jobs) in total)
-          ∙ sym (ap (λ (x : CountsState). x.turns) counts);
-      turns = rw counts (omega (arith, few));
-      sets = rw counts (omega (arith, sets));
-      keys = rw counts (omega (arith, keys));
-      epoch = rw counts (omega (arith, e, epoch));
-      given = rw counts (omega (arith, g, given));
-    }

@@ -16,6 +16,7 @@ pub mod SetsFrom
 pub mod Homes
 pub mod Leaving
 pub mod Joining
+pub mod Pairs
 pub mod Counts
 pub mod Survey
 pub mod FarState
@@ -50,6 +51,7 @@ pub mod Finishes
 pub mod Reads
 pub mod Released
 pub mod OpenWrites
+pub mod OpenSteps
 pub mod World
 pub mod StillWords
 pub mod Placed

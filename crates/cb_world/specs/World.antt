@@ -13,6 +13,7 @@ use Rattle.cb_world.specs.Plain.{Words, Shows, IsSized}
 use Rattle.cb_world.specs.Empty.{empty_words, empty_far}
 use Rattle.cb_world.specs.Codes.{HaveCodes}
 use Rattle.cb_world.specs.FarState.{FarState}
+use Rattle.cb_world.specs.Pairs.{HoldsNoPair}
 use Rattle.cb_world.specs.Seats.{SeatState, AtMostOneHolds, idle_seat, all_pins_on}
 use Rattle.cb_world.specs.Sound.{Sound}
 use Rattle.cb_world.specs.OpenWrites.{AreOpen}
@@ -55,8 +56,8 @@ pub record ArePinned (desk : Words) (seats : List SeatState) : Type 0 where
   pub versions : All (λ seat. All (λ pin. pin.version ≡ slice_index desk.versions pin.handle) seat.pins)
       seats
 
--- What was counted: turns, in all and by job; and each number that is drawn or rises is at most 2^20
--- times the turns.
+-- What was counted: turns, in all and by job; each number that is drawn or rises is at most 2^20
+-- times the turns; and what is noted of a search that found no two sets to join holds.
 pub record AreCounted (far : FarState) : Type 0 where
   pub kinds : length far.counts.by_job ≡ 19
   pub jobs : sum_by (λ n. n) far.counts.by_job ≡ far.counts.turns
@@ -65,6 +66,7 @@ pub record AreCounted (far : FarState) : Type 0 where
   pub keys : far.counts.keys ≤ 2 ^ 20 * far.counts.turns
   pub epoch : far.members.epoch ≤ 2 ^ 20 * far.counts.turns
   pub given : far.nodes.given ≤ 2 ^ 20 * far.counts.turns
+  pub no_pair : HoldsNoPair far
 
 -- The far state has as many frames, homes and nodes as the configuration says, a node has room for as
 -- many rows, and the sets have the configured code.

@@ -1,11 +1,16 @@
 ghost use Rattle.std.specs.Prelude.{◌≡◌, ◌<◌, ◌^◌, replicate};
 ghost use Rattle.std.specs.List.{sum_by};
 ghost use Rattle.cb_world.specs.Counts.{with_turn};
+ghost use Rattle.cb_world.specs.Pairs.{others};
 
 use std::marker::Model;
 
 /// How many kinds of turns there are.
 pub const JOBS: usize = 19;
+
+/// The kinds of the two jobs that look for sets to join.
+const PAIR: usize = 11;
+const COMPACT: usize = 15;
 
 /// The turns, in all and by job, and how many set numbers and row keys were drawn.
 #[derive(Drop)]
@@ -56,5 +61,14 @@ impl Counts {
     {
         self.turns += 1;
         self.by_job[kind] += 1;
+    }
+
+    /// How many turns look for no two sets to join: all but those of the two jobs that do.
+    pub fn others(&self) -> u64
+        ensures { result ≡ others self.now }
+    {
+        let looked = self.by_job[PAIR];
+        let rest = self.turns.saturating_sub(looked);
+        rest.saturating_sub(self.by_job[COMPACT])
     }
 }

@@ -44,7 +44,7 @@ pub use placing::{leaving_frames, place_object};
 pub use plain_desk::PlainDesk;
 pub use putting::{next_shard, put_row};
 pub use releasing::release;
-pub use seats::{MOST_PINS, Pin, SEATS, Seat, Seats};
+pub use seats::{MOST_PINS, OpenWrite, Pin, SEATS, Seat, Seats};
 pub use sets::{KeptSet, Sets};
 pub use shown::Shown;
 pub use spans::Spans;

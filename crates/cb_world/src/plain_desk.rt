@@ -1,12 +1,14 @@
-ghost use Rattle.std.specs.Prelude.{◌≡◌, ℕ, ◌+◌, ◌*◌, ◌<◌, ◌≤◌, length, slice_index, replicate, IfOk};
+ghost use Rattle.std.specs.Prelude.{◌≡◌, ℕ, ◌+◌, ◌*◌, ◌^◌, ◌<◌, ◌≤◌, length, slice_index, slice_set, replicate, IfOk};
 ghost use Rattle.cb_types.specs.Config.{IsAccepted};
 ghost use Rattle.cb_ptr.specs.declared.word.State.TheVariants as state;
-ghost use Rattle.cb_ptr.specs.Word.{pins_of, state_of};
+ghost use Rattle.cb_ptr.specs.Word.{len_of, pins_of, place_of, state_of};
+ghost use Rattle.cb_world.specs.Memory.{window, words_for};
+ghost use Rattle.cb_world.specs.OpenSteps.{IsClaimed, IsSettled};
 ghost use Rattle.cb_world.specs.Pinned.{IsPinned, IsUnpinned};
 
 use crate::desk::{Claim, Desk};
 use crate::local_memory::LocalMemory;
-use cb_ptr::{claimed, pinned, unpinned};
+use cb_ptr::{claimed, pinned, settled, unpack, unpinned};
 use cb_types::{Config, Handle, NoMemory};
 use std::alloc::Global;
 use std::marker::Model;
@@ -99,6 +101,83 @@ impl PlainDesk {
         let word = self.look(h);
         self.words[h.n as usize] = unpinned(word);
     }
+
+    /// Claims an object that is here and has no pins: it is Moving until it is settled.
+    pub fn claim_here(&mut self, h: Handle)
+        requires handle { h.n < self.old.settings.handles }
+        requires here { state_of (slice_index self.old.words h.n) ≡ state.Here }
+        requires no_pins { pins_of (slice_index self.old.words h.n) ≡ 0 }
+        ensures { IsClaimed self.old h.n self.new }
+    {
+        let word = self.look(h);
+        self.words[h.n as usize] = claimed(word);
+    }
+
+    /// Settles a claimed object: it is here again at its place, and hot.
+    pub fn settle_here(&mut self, h: Handle)
+        requires handle { h.n < self.old.settings.handles }
+        requires moving { state_of (slice_index self.old.words h.n) ≡ state.Moving }
+        ensures { IsSettled self.old h.n self.new }
+    {
+        let word = self.look(h);
+        self.words[h.n as usize] = settled(word, unpack(word).place, true);
+    }
+
+    /// The memory word at a place.
+    pub fn load_word(&self, place: u32) -> u64
+        requires { place < length self.now.memory }
+        ensures { slice_index self.now.memory place ≡ result }
+    {
+        self.memory.load(place)
+    }
+
+    /// Stores a memory word at a place.
+    pub fn store_word(&mut self, place: u32, word: u64)
+        requires { place < length self.old.memory }
+        ensures { self.new ≡ record self.old { memory = slice_set self.old.memory place word } }
+    {
+        self.memory.store(place, word);
+    }
+
+    /// Stores the version word of an object.
+    pub fn stamp(&mut self, h: Handle, version: u64)
+        requires { h.n < self.old.settings.handles }
+        ensures { self.new
+            ≡ record self.old { versions = slice_set self.old.versions h.n version } }
+    {
+        self.versions[h.n as usize] = version;
+    }
+
+    /// The memory words of an object in local memory. Takes the memory of a copy of them.
+    pub fn contents(&self, alloc: Global, h: Handle) -> Result<Vec<u64>, NoMemory>
+        requires handle { h.n < self.now.settings.handles }
+        requires within { place_of (slice_index self.now.words h.n)
+            + words_for (len_of (slice_index self.now.words h.n)) ≤ length self.now.memory }
+        ensures { IfOk result (λ words. words.items ≡ window self.now.memory
+            (place_of (slice_index self.now.words h.n))
+            (words_for (len_of (slice_index self.now.words h.n)))) }
+    {
+        let fields = unpack(self.look(h));
+        copy_words(alloc, &self.memory, fields.place, fields.len.div_ceil(8))
+    }
+}
+
+/// So many words from a place on.
+fn copy_words(
+    alloc: Global,
+    memory: &LocalMemory,
+    place: u32,
+    count: u32,
+) -> Result<Vec<u64>, NoMemory>
+    requires within { place + count ≤ length memory.now }
+    requires small { (place < 2 ^ 24) × (count < 2 ^ 24) }
+    ensures { IfOk result (λ words. words.items ≡ window memory.now place count) }
+{
+    let mut words = Vec::new(alloc);
+    for i in 0..count {
+        words.push(memory.load(place + i))?;
+    }
+    Ok(words)
 }
 
 impl Desk for PlainDesk {

@@ -1,7 +1,9 @@
-ghost use Rattle.std.specs.Prelude.{◌≡◌, ◌<◌, ◌≤◌, ℕ, ◌+◌, List, [], ◌++◌, ◌∷◌, length, replicate, Option, Some, None, IfSome, IfNone, IfOk, slice_get};
+ghost use Rattle.std.specs.Prelude.{◌≡◌, ◌<◌, ◌≤◌, ℕ, ◌+◌, ◌^◌, true, false, List, [], ◌++◌, ◌∷◌, length, replicate, Option, Some, None, IfSome, IfNone, IfOk, OnOk, OnErr, slice_get, slice_set};
 ghost use Rattle.std.specs.List.{remove};
 ghost use Rattle.cb_world.specs.declared.seats.Pin.{Pin};
-ghost use Rattle.cb_world.specs.Seats.{SeatState, IsNewest, NoneOn, idle_seat, pins_of_seat, with_pins};
+ghost use Rattle.cb_world.specs.OpenWrites.{left_of, touched};
+ghost use Rattle.cb_world.specs.OpenSteps.{IsClaimOn, NoClaimOn, NoneHolds, stored_once};
+ghost use Rattle.cb_world.specs.Seats.{SeatState, OpenWriteState, Holds, IsNewest, NoneOn, claims_of_seat, idle_seat, pins_of_seat, seat_at, with_claims, with_holds, with_pins};
 
 use arrayvec::ArrayVec;
 use cb_member::NoMemory;
@@ -50,6 +52,29 @@ impl Model for OpenWrite {
       bytes = a.bytes;
       stored = a.stored;
     } };
+}
+
+impl OpenWrite {
+    /// How many words the write still has to store: memory words that it touches, and the version
+    /// word.
+    pub fn left(&self) -> u32
+        requires end { self.now.at + length self.now.bytes < 2 ^ 31 }
+        requires few { self.now.stored ≤ touched self.now.at (length self.now.bytes) + 1 }
+        ensures { result ≡ left_of self.now }
+    {
+        touched(self.at, self.bytes.len() as u32) + 1 - self.stored
+    }
+}
+
+/// How many memory words a write of so many bytes from the byte number `at` on touches.
+fn touched(at: u32, count: u32) -> u32
+    requires { at + count < 2 ^ 31 }
+    ensures { result ≡ touched at count }
+{
+    if count == 0 {
+        return 0;
+    }
+    (at + count).div_ceil(8) - at / 8
 }
 
 /// What a seat has: its pins, the newest one last, its open writes, whether it holds the far lock,
@@ -146,6 +171,117 @@ impl Seats {
     {
         self.seats[seat as usize].pins.remove(at as usize)
     }
+
+    /// The place of the seat's open write on an object, None exactly where it has none.
+    pub fn claim_on(&self, seat: u32, handle: u32) -> Option<usize>
+        requires { seat < length self.now }
+        ensures found { IfSome result (λ at. IsClaimOn (claims_of_seat self.now seat) handle at) }
+        ensures within { IfSome result (λ at. at < length (claims_of_seat self.now seat)) }
+        ensures none { IfNone result (NoClaimOn (claims_of_seat self.now seat) handle) }
+    {
+        let claims = self.seats[seat as usize].claims.as_slice();
+        claim_among(claims, handle)
+    }
+
+    /// The open write at a place of a seat.
+    pub fn claim(&self, seat: u32, at: usize) -> &OpenWrite
+        requires seat { seat < length self.now }
+        requires at { at < length (claims_of_seat self.now seat) }
+        ensures { slice_get (claims_of_seat self.now seat) at ≡ Some result.now }
+    {
+        &self.seats[seat as usize].claims[at]
+    }
+
+    /// Opens a write of a seat, behind its others. Takes the memory of its place; where there is
+    /// none, nothing is changed.
+    pub fn open(&mut self, seat: u32, write: OpenWrite) -> Result<(), NoMemory>
+        requires seat { seat < length self.old }
+        ensures opened { OnOk result (self.new
+            ≡ with_claims self.old seat (claims_of_seat self.old seat ++ write ∷ [])) }
+        ensures error { OnErr result (self.new ≡ self.old) }
+    {
+        self.seats[seat as usize].claims.push(write)?;
+        Ok(())
+    }
+
+    /// Counts one stored word more of the open write at a place of a seat.
+    pub fn count_stored(&mut self, seat: u32, at: usize)
+        requires seat { seat < length self.old }
+        requires few { (c : OpenWriteState) → slice_get (claims_of_seat self.old seat) at ≡ Some c
+            → c.stored < 2 ^ 31 }
+        requires at { at < length (claims_of_seat self.old seat) }
+        ensures { (c : OpenWriteState) → slice_get (claims_of_seat self.old seat) at ≡ Some c
+            → self.new ≡ with_claims self.old seat
+            (slice_set (claims_of_seat self.old seat) at (stored_once c)) }
+    {
+        let write = &mut self.seats[seat as usize].claims[at];
+        write.stored += 1;
+    }
+
+    /// Closes the open write at a place of a seat.
+    pub fn close(&mut self, seat: u32, at: usize)
+        requires seat { seat < length self.old }
+        requires at { at < length (claims_of_seat self.old seat) }
+        ensures { self.new
+            ≡ with_claims self.old seat (remove (claims_of_seat self.old seat) at) }
+    {
+        self.seats[seat as usize].claims.remove(at);
+    }
+
+    /// The seat that holds the far lock, the first one in order, None exactly where none holds it.
+    pub fn holder(&self) -> Option<u32>
+        requires { length self.now ≡ 64 }
+        ensures found { IfSome result (λ seat. Holds self.now seat) }
+        ensures none { IfNone result (NoneHolds self.now) }
+    {
+        for at in 0..self.seats.len() {
+            let seat = &self.seats[at];
+            if seat.holds {
+                return Some(at as u32);
+            }
+        }
+        None
+    }
+
+    /// Whether a seat holds the far lock.
+    pub fn holds(&self, seat: u32) -> bool
+        requires { seat < length self.now }
+        ensures { result ≡ (seat_at self.now seat).holds }
+    {
+        let seat = &self.seats[seat as usize];
+        seat.holds
+    }
+
+    /// Lets a seat hold the far lock.
+    pub fn take_lock(&mut self, seat: u32)
+        requires { seat < length self.old }
+        ensures { self.new ≡ with_holds self.old seat true }
+    {
+        self.seats[seat as usize].holds = true;
+    }
+
+    /// Lets a seat no longer hold the far lock.
+    pub fn give_lock(&mut self, seat: u32)
+        requires { seat < length self.old }
+        ensures { self.new ≡ with_holds self.old seat false }
+    {
+        self.seats[seat as usize].holds = false;
+    }
+}
+
+/// The place of the first of these open writes on an object, None exactly where none is on it.
+fn claim_among(claims: &[OpenWrite], handle: u32) -> Option<usize>
+    ensures found { IfSome result (λ at. IsClaimOn claims.now handle at) }
+    ensures within { IfSome result (λ at. at < length claims.now) }
+    ensures none { IfNone result (NoClaimOn claims.now handle) }
+{
+    for at in 0..claims.len() {
+        let claim = &claims[at];
+        if claim.handle == handle {
+            return Some(at);
+        }
+    }
+    None
 }
 
 /// The place of the last of these pins on an object, None exactly where none is on it.

@@ -2,6 +2,7 @@ use Rattle.std.proofs.Common.{◌≡◌, IfSome, Option, None, refl, sym, ap, su
 use Rattle.cb_set.specs.SetState.{SetState}
 use Rattle.cb_world.specs.FarState.{FarState}
 use Rattle.cb_world.specs.Sound.{Sound}
+use Rattle.cb_world.proofs.Laws.{no_pair_sound}
 use Rattle.cb_compact.specs.declared.candidates.Match.{Match}
 use Rattle.cb_compact.specs.Pairing.{IsFirstPair, with_pair}
 use Rattle.cb_compact.proofs.Begins.{begun_keeps}
@@ -27,6 +28,10 @@ new_pair-requires c =
 
 pub put_pair-requires : goal.put_pair-requires
 put_pair-requires c = none_joins c
+
+pub returns-in_default-2-clause-sound : goal.returns-in_default-2-clause-sound
+returns-in_default-2-clause-sound c s sound =
+    subst (Sound s) (sym c.note_none.ensures) (no_pair_sound s c.args.far.now sound)
 
 pub returns-clause-step : goal.returns-clause-step
 returns-clause-step c =

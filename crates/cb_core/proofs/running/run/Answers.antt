@@ -1,10 +1,18 @@
 use Rattle.std.proofs.Common.{rules, sym, subst, ◌+◌, [], ◌∷◌, ◌++◌}
+use Rattle.cb_types.specs.declared.config.Config.{Config}
+use Rattle.cb_core.specs.Events.{IsEvent}
 use Rattle.cb_core.specs.Run.{RunStops}
 use Rattle.cb_core.specs.Called.{StandsBeside}
 use Rattle.cb_core.proofs.PinnedStays.{leads_pinned}
 use Rattle.cb_core.proofs.RunLegal.{run_legal, run_from_empty, empty_stands}
-use Rattle.cb_core.proofs.Runs.{going_more, going_all, going_stops, going_ends, only_leads, of_error}
+use Rattle.cb_core.proofs.Runs.{going_more, going_all, going_stops, going_ends, only_leads, of_error, event_at, run_events}
 use Rattle.cb_core.proofs.running.run.Goals as goal
+
+pub step-requires-clause-event : goal.step-requires-clause-event
+step-requires-clause-event c =
+    subst (λ (s : Config). IsEvent s c.event-item.result) (sym c.loop-event.invariant.settings)
+    (event_at c.args.world.now.desk.settings c.args.events.now c.loop-event.event-index
+    c.event-item.result c.requires.events (search rules) (search rules))
 
 pub loop-event-preserved : goal.loop-event-preserved
 loop-event-preserved c = rw c.in_ok-push.ensures.ok
@@ -25,7 +33,7 @@ pub returns-clause-pinned : goal.returns-clause-pinned
 returns-clause-pinned c = leads_pinned c.args.events.now c.loop-event.replies c.args.world.now
     c.loop-event.world (going_all c.args.world.now c.args.events.now c.loop-event.event-index
     c.loop-event.replies c.loop-event.world c.loop-event.invariant c.loop-event-test.false)
-    c.requires.events c.requires.sound
+    (run_events c.args.world.now.desk.settings c.args.events.now c.requires.events) c.requires.sound
 
 pub returns-clause-legal : goal.returns-clause-legal
 returns-clause-legal c before stands = run_legal c.args.events.now c.loop-event.replies c.args.world.now

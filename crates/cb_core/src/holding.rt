@@ -1,0 +1,34 @@
+ghost use Rattle.std.specs.Prelude.{◌≡◌, ◌<◌};
+ghost use Rattle.cb_world.specs.World.{IsSoundWorld};
+ghost use Rattle.cb_core.specs.Holding.{GiveStep, TakeStep};
+
+use cb_types::Reply;
+use cb_world::World;
+
+/// Gives the far lock to a seat. Takes no memory. Refuses with Held, and the seat that holds it, where
+/// one does.
+pub(crate) fn take(world: &mut World, seat: u32) -> Reply
+    requires sound { IsSoundWorld world.old }
+    requires seat { seat < 64 }
+    ensures step { TakeStep seat world.old result world.new }
+{
+    if let Some(holder) = world.seats.holder() {
+        return Reply::Held { seat: holder };
+    }
+    world.seats.take_lock(seat);
+    Reply::Done
+}
+
+/// Takes the far lock back from a seat. Takes no memory. Refuses with NotHeld where the seat does not
+/// hold it.
+pub(crate) fn give(world: &mut World, seat: u32) -> Reply
+    requires sound { IsSoundWorld world.old }
+    requires seat { seat < 64 }
+    ensures step { GiveStep seat world.old result world.new }
+{
+    if !world.seats.holds(seat) {
+        return Reply::NotHeld;
+    }
+    world.seats.give_lock(seat);
+    Reply::Done
+}
