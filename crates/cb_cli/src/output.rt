@@ -1,13 +1,31 @@
-ghost use Rattle.std.specs.Prelude.{◌≡◌, OnOk, OnErr};
+ghost use Rattle.std.specs.Prelude.{◌≡◌, ◌<◌, ◌≤◌, length, OnOk, OnErr};
 ghost use Rattle.std.specs.Io.KnownBytes.{Appends};
 ghost use Rattle.cb_types.specs.Faults.{Rose};
 ghost use Rattle.cb_cli.specs.Fronts.{GetsFront};
 
 use cb_types::{Sent, Sink};
 
+/// The most bytes of a put, so many that a pipe takes all of them or none.
+const MOST_PUT: usize = 4096;
+
 /// Writing failed.
 #[derive(Clone, Copy, Debug, PartialEq, Eq)]
 pub struct PutFailed;
+
+/// Where the next put ends: behind the last line that ends within it, so that who is killed while a
+/// pipe is full leaves no part of a line; where none does, at its most.
+fn put_end(bytes: &[u8], done: usize) -> usize
+    requires { done < length bytes.now }
+    ensures more { done < result }
+    ensures most { result ≤ length bytes.now }
+{
+    let most = done + MOST_PUT.min(bytes.len() - done);
+    let mut end = most;
+    'ends: while done < end && bytes[end - 1] != b'\n' {
+        end -= 1;
+    }
+    if done < end { end } else { most }
+}
 
 /// Puts all the bytes. Where a put takes a part, it goes on with the rest. After a failed put the
 /// sink has a front of them.
@@ -19,7 +37,8 @@ pub fn put_all<K: Sink>(sink: &mut K, bytes: &[u8]) -> Result<(), PutFailed>
 {
     let mut done = 0;
     'puts: while done < bytes.len() {
-        match sink.put(&bytes[done..]) {
+        let end = put_end(bytes, done);
+        match sink.put(&bytes[done..end]) {
             Sent::Sent(count) => done += count,
             Sent::Failed => return Err(PutFailed),
         }
