@@ -1,5 +1,5 @@
 -- A sound world is scrubbed, and sound again.
-use Rattle.std.proofs.Common.{ℕ, ◌*◌, ◌^◌, ◌<◌, ◌≤◌, Result, Ok, Err, sym, subst, arith}
+use Rattle.std.proofs.Common.{ℕ, ◌*◌, ◌^◌, ◌<◌, ◌≤◌, Result, Ok, Err, refl, sym, subst, arith}
 use Rattle.std.specs.Prelude.{IfOk}
 use Rattle.cb_member.specs.declared.names.Shard.{Shard}
 use Rattle.cb_node.specs.NodesState.{with_spoiled}
@@ -7,6 +7,7 @@ use Rattle.cb_world.specs.FarState.{FarState}
 use Rattle.cb_world.specs.Sound.{Sound}
 use Rattle.cb_world.specs.World.{WorldState, IsSoundWorld}
 use Rattle.cb_world.specs.declared.shown.Shown.{Shown}
+use Rattle.cb_world.proofs.Laws.{none_again}
 use Rattle.cb_scrub_world.specs.Scrub.{MayScrub, with_nodes}
 use Rattle.cb_scrub_world.specs.Spoilt.{IsSoundAgain, IsSpoilt}
 use Rattle.cb_scrub_world.proofs.Laws.{byte_is_spoilt, sound_may_scrub}
@@ -76,6 +77,8 @@ module _ (w : WorldState) (new : FarState) (sound : IsSoundWorld w)
       keys = sound.counted.keys;
       epoch = sound.counted.epoch;
       given = given;
+      no_pair = λ n noted. let held = sound.counted.no_pair n noted in
+          (held.0, λ now. none_again w.far was refl refl (held.1 now));
     };
   }
 
