@@ -82,6 +82,9 @@ fn patched_parities_are_those_of_the_new_rows(rt: HostRuntime) {
     let mut parity = [0xC8u8; 33];
     patch(&mut parity, 0x8F, &change);
     assert!(rt; parity == [0x47; 33]);
+    let mut other = [0xC9u8; 33];
+    patch(&mut other, 0x8E, &change);
+    assert!(rt; other == [0x47; 33]);
 }
 
 /// The next number of a sequence that looks random (Marsaglia 2003).
