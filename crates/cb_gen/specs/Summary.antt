@@ -5,11 +5,8 @@ use Rattle.cb_types.specs.declared.request.Request.{Request}
 use Rattle.cb_types.specs.declared.request.Request.TheVariants as request
 use Rattle.cb_types.specs.declared.reply.Reply.{Reply}
 use Rattle.cb_types.specs.declared.reply.Reply.TheVariants.{Made, Version, Bytes, Done, Left, Moved, Same, Set, Batch, Shipped, AllShipped, Pair, Stepped, AllStepped, Merged, Rebuilt, EpochAt}
+use Rattle.cb_script.specs.Roomy.{is_make}
 use Rattle.cb_text.specs.Line.{text_of}
-
-abbrev pub is_make : Request → Bool
-is_make (request.Make name bytes) = true
-is_make _ = false
 
 abbrev pub is_read : Request → Bool
 is_read (request.Read name) = true

@@ -1,4 +1,4 @@
-ghost use Rattle.std.specs.Prelude.{◌≡◌, ◌<◌, ◌≤◌, ◌++◌, ◌==◌, ℕ, [], length, get_or, if◌then◌else◌, All, OnOk, IfOk};
+ghost use Rattle.std.specs.Prelude.{◌≡◌, ◌<◌, ◌∷◌, ◌++◌, ◌==◌, ℕ, [], length, get_or, if◌then◌else◌, All, OnOk, IfOk};
 ghost use Rattle.cb_gen.specs.Drawn.{length_made};
 
 use cb_types::{NoMemory, Request};

@@ -1,5 +1,6 @@
 ghost use Rattle.std.specs.Prelude.{◌≡◌, ◌<◌, ◌≤◌, ◌∷◌, ◌++◌, length, OnOk, IfOk};
 ghost use Rattle.cb_script.specs.Form.{IsScript};
+ghost use Rattle.cb_script.specs.Roomy.{IsAtEase};
 ghost use Rattle.cb_gen.specs.Drawn.{made_script, with_line};
 ghost use Rattle.cb_gen.specs.Noted.{AreNoted};
 
@@ -29,6 +30,7 @@ pub fn make_script(alloc: Global, seed: u64, lines: u32, lanes: u32) -> Result<S
     requires lanes { (1 ≤ lanes) × (lanes ≤ 15) }
     ensures script { IfOk result (λ script. script ≡ made_script seed lines lanes) }
     ensures form { IfOk result IsScript }
+    ensures ease { IfOk result IsAtEase }
 {
     let mut draws = Draws { state: seed };
     let mut made = LaneLengths::new(alloc)?;

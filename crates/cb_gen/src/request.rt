@@ -1,6 +1,6 @@
-ghost use Rattle.std.specs.Prelude.{◌≡◌, ◌<◌, ◌≤◌, length, OnOk, IfOk};
+ghost use Rattle.std.specs.Prelude.{◌≡◌, ◌<◌, ◌≤◌, ◌^◌, ◌==◌, ◌||◌, nat_lt, length, OnOk, IfOk};
 ghost use Rattle.cb_gen.specs.Drawn.{object_name, drawn_make, drawn_write, drawn_object, drawn_seldom, drawn_action};
-ghost use Rattle.cb_gen.specs.Draws.{after, next};
+ghost use Rattle.cb_gen.specs.Draws.{drawn, next};
 
 use crate::draws::Draws;
 use cb_types::{Name, NoMemory, NodeId, Request};
@@ -25,7 +25,7 @@ pub(crate) fn draw_request(
         ≡ (drawn_action action draws.old.state lane lengths.now).left) }
 {
     let count = lengths.len() as u32;
-    if action < 4 || lengths.is_empty() {
+    if is_make(action, lengths) {
         return draw_make(alloc, draws, lane, count);
     }
     if action < 10 {
@@ -40,6 +40,13 @@ pub(crate) fn draw_request(
     }
     let what = draws.below(6);
     draw_seldom(alloc, draws, what, lane, count)
+}
+
+/// Whether a lane's line with this action is a make: a lane that made nothing makes something first.
+fn is_make(action: u32, lengths: &[u8]) -> bool
+    ensures { result ≡ (nat_lt action 4 || (length lengths.now == 0)) }
+{
+    action < 4 || lengths.is_empty()
 }
 
 /// A make of the lane's next object, behind so many.

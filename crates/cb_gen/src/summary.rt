@@ -1,8 +1,10 @@
-ghost use Rattle.std.specs.Prelude.{◌≡◌, length, IfOk};
+ghost use Rattle.std.specs.Prelude.{◌≡◌, ◌++◌, codes, decimal, length, IfOk, OnOk};
 ghost use Rattle.cb_text.specs.Line.{text_of};
-ghost use Rattle.cb_gen.specs.Summary.{asked, is_make, is_read, is_write, is_free, is_other, is_refusal, refused, summary};
+ghost use Rattle.cb_script.specs.Roomy.{is_make};
+ghost use Rattle.cb_gen.specs.Summary.{asked, is_read, is_write, is_free, is_other, is_refusal, refused, summary};
 
 use cb_types::{Answer, Answers, Bytes, NoMemory, Reply, Request};
+use itoa::Buffer;
 use std::alloc::Global;
 
 /// The summary of the answers to the script that a seed drew, of so many lines on so many lanes:
@@ -19,18 +21,51 @@ pub fn summary_text(
     requires text { text ≡ length (text_of answers.now) }
     ensures { IfOk result (λ told. told ≡ summary seed lines lanes answers.now) }
 {
-    let answers = answers.as_slice();
-    let make = makes(answers);
-    let read = reads(answers);
-    let write = writes(answers);
-    let free = frees(answers);
-    let other = others(answers);
-    let refused = refusals(answers);
-    let told = format!(
-        in alloc;
-        "gen seed {seed} lines {lines} lanes {lanes}\nmake {make} read {read} write {write} free {free} other {other}\nrefused {refused} text {text}\n"
-    )?;
-    Ok(Bytes::from(told.into_bytes()))
+    let mut told = Vec::new(alloc);
+    push_asked(&mut told, seed, lines, lanes)?;
+    push_answered(&mut told, answers.as_slice(), text)?;
+    Ok(Bytes::from(told))
+}
+
+/// Adds the line that tells what was asked for, without its line feed.
+fn push_asked(told: &mut Vec<u8>, seed: u32, lines: u32, lanes: u32) -> Result<(), NoMemory>
+    ensures { OnOk result (told.new.items ≡ told.old.items ++ codes "gen seed " ++ decimal seed
+        ++ codes " lines " ++ decimal lines ++ codes " lanes " ++ decimal lanes) }
+{
+    push_count(told, b"gen seed ", seed as usize)?;
+    push_count(told, b" lines ", lines as usize)?;
+    push_count(told, b" lanes ", lanes as usize)
+}
+
+/// Adds the two lines about the answers, whose text has so many bytes.
+fn push_answered(told: &mut Vec<u8>, answers: &[Answer], text: usize) -> Result<(), NoMemory>
+    ensures { OnOk result (told.new.items ≡ told.old.items
+        ++ codes "\nmake " ++ decimal (asked is_make answers.now)
+        ++ codes " read " ++ decimal (asked is_read answers.now)
+        ++ codes " write " ++ decimal (asked is_write answers.now)
+        ++ codes " free " ++ decimal (asked is_free answers.now)
+        ++ codes " other " ++ decimal (asked is_other answers.now)
+        ++ codes "\nrefused " ++ decimal (refused answers.now)
+        ++ codes " text " ++ decimal text ++ codes "\n") }
+{
+    push_count(told, b"\nmake ", makes(answers))?;
+    push_count(told, b" read ", reads(answers))?;
+    push_count(told, b" write ", writes(answers))?;
+    push_count(told, b" free ", frees(answers))?;
+    push_count(told, b" other ", others(answers))?;
+    push_count(told, b"\nrefused ", refusals(answers))?;
+    push_count(told, b" text ", text)?;
+    told.push(b'\n')?;
+    Ok(())
+}
+
+/// Adds a label and a count.
+fn push_count(told: &mut Vec<u8>, label: &[u8], count: usize) -> Result<(), NoMemory>
+    ensures { OnOk result (told.new.items ≡ told.old.items ++ label.now ++ decimal count) }
+{
+    told.extend_from_slice(label)?;
+    told.extend_from_slice(Buffer::new().format(count).as_bytes())?;
+    Ok(())
 }
 
 fn makes(answers: &[Answer]) -> usize
