@@ -8,5 +8,11 @@ pub mod Whole
 pub mod WorkedTaken
 pub mod WorkedTexts
 pub mod WorkedWords
-mod OneWord
+mod FlagWords
+mod OptionReader
+mod PartsRead
+mod PartsTaken
+mod AskedWords
+mod GivenWords
+mod FourWords
 pub mod Laws

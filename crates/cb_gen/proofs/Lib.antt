@@ -5,4 +5,6 @@ pub mod Grammar
 pub mod AtEase
 pub mod Actions
 pub mod OneLine
+pub mod WorkedDrawn
+pub mod WorkedSummary
 pub mod Laws
