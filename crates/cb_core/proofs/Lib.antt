@@ -7,6 +7,9 @@ pub mod DeclinedLooks
 pub mod Changes
 pub mod KeptPins
 pub mod KeptParts
+pub mod FewLost
+pub mod RowsHeld
+pub mod RoomyNodes
 pub mod NodesStay
 pub mod FarJobs
 mod Noted
