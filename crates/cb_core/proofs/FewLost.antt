@@ -96,7 +96,8 @@ few_lost nodes m shards among distinct =
     kept : List Shard
     kept = filter (is_lost m) shards
 
-    inside : (q : ℕ) → is_member nat_eq (map node_of kept) q ≡ true → is_member nat_eq nodes q ≡ true
+    inside : (q : ℕ) → is_member nat_eq (map node_of kept) q ≡ true
+        → is_member nat_eq nodes q ≡ true
     inside q e =
         let x = (is_member-Decides unsigned_Decides (map node_of kept) q).0 e in
         let len = length-map kept node_of in
@@ -109,7 +110,8 @@ few_lost nodes m shards among distinct =
 
 -- ---- so no set is broken, and no object is gone
 module _ (c : Config) (s : Shown) (far : FarState) (nodes : List ℕ) (sound : Sound s far)
-    (codes : HaveCodes c far) (among : CrashedAmong nodes far.members) (few : length nodes ≤ c.r) where
+    (codes : HaveCodes c far) (among : CrashedAmong nodes far.members) (few : length nodes ≤ c.r)
+  where
   pub never_broken : (id : ℕ) (set : SetState) → set_in far.sets id ≡ Some set
       → is_broken far.members set ≡ false
   never_broken id set there =
@@ -121,7 +123,8 @@ module _ (c : Config) (s : Shown) (far : FarState) (nodes : List ℕ) (sound : S
   pub never_gone : (h : ℕ) → is_gone far h ≡ false
   never_gone h = by (home_at far.homes h)
     where
-      at : (id : ℕ) (o : Option SetState) → set_in far.sets id ≡ o → broken_set far.members o ≡ false
+      at : (id : ℕ) (o : Option SetState) → set_in far.sets id ≡ o
+          → broken_set far.members o ≡ false
       at id None e = refl
       at id (Some set) e = never_broken id set e
 

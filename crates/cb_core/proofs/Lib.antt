@@ -11,6 +11,7 @@ pub mod FewLost
 pub mod RowsHeld
 pub mod RoomyNodes
 pub mod NodesStay
+pub mod CompactIdle
 pub mod FarJobs
 mod Noted
 pub mod StillParts
@@ -40,6 +41,7 @@ pub mod ClaimAnswers
 pub mod PartsStay
 pub mod Settings
 pub mod Epochs
+pub mod CrashesKept
 pub mod WorkedPins
 mod WorkedClaims
 pub mod WorkedMembership

@@ -47,7 +47,8 @@ both_count p (x ∷ xs) =
 stand_in : ℕ → Shard
 stand_in n = record { node = record { n = n }; incarnation = 0; key = 0 }
 
-stands : (nodes : List ℕ) (n : ℕ) → Contains nodes n → stands_on (map stand_in nodes) (numbered n) ≡ true
+stands : (nodes : List ℕ) (n : ℕ) → Contains nodes n
+    → stands_on (map stand_in nodes) (numbered n) ≡ true
 unfolding stand_in
 stands nodes n x =
     let len = length-map nodes stand_in in
@@ -74,7 +75,8 @@ module _ (s : Shown) (far : FarState) (nodes : List ℕ) (sound : Sound s far) (
       let rows = sound.away.sound.rows in
       let counted = rows.counted in
       let held_most = held_few s far sound idle (numbered n) in
-      let room = lt-ltb (held far.nodes (numbered n)) far.nodes.room (omega (arith, few, held_most)) in
+      let room = lt-ltb (held far.nodes (numbered n)) far.nodes.room
+      (omega (arith, few, held_most)) in
       among (numbered n) (down_crashed far.members (numbered n) rows.members
       (omega (arith, below, counted))
       (roomless (alive far.members (numbered n))

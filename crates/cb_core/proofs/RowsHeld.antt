@@ -1,4 +1,5 @@
--- A node holds no more rows than objects were made, where no batch is leaving and no pair is joining.
+-- A node holds no more rows than objects were made, where no batch is leaving and no pair is
+-- joining.
 use Rattle.std.proofs.Common.{◌≡◌, ℕ, zero, suc, ◌<◌, ◌≤◌, Bool, true, false, nat_eq, ◌&&◌, ◌||◌, T, List, [], ◌∷◌, length, map as mapped, Option, None, Some, is_some, is_lt, slice_get, nat_cmp, Less, Equal, Greater, Ordering, if◌then◌else◌, refl, sym, ap, ◌∙◌, arith, inl, inr, eq-eqb, ne_eqb}
 use Rattle.std.specs.Cmp.{nat_eq_equiv}
 use Rattle.std.specs.FinMap as map
@@ -158,11 +159,14 @@ far_made : (s : Shown) (far : FarState) (h len v : ℕ) (words : List ℕ) → A
     → object_at s h ≡ is.Far len v words → h < far.made
 far_made s far h len v words known away = elim (cases_lt h far.made) [
   | inl below ↦ below
-  | inr past ↦ absurd (not_never (object_at s h) len v words away (elim (cases_lt h (length s.objects)) [
-    | inl inside ↦ (known.made h inside).0 past
-    | inr outside ↦ get_or_past s.objects h never outside
-  ]))
+  | inr past ↦ absurd (not_never (object_at s h) len v words away (none past))
 ]
+  where
+    none : far.made ≤ h → object_at s h ≡ never
+    none past = elim (cases_lt h (length s.objects)) [
+      | inl inside ↦ (known.made h inside).0 past
+      | inr outside ↦ get_or_past s.objects h never outside
+    ]
 
 record HasObject (far : FarState) (id : ℕ) : Type 0 where
   h : ℕ
@@ -227,7 +231,8 @@ held_few s far sound idle node =
         → is_member nat_eq (mapped (key_at far node.n) (range_with_len 0 far.made)) q ≡ true
     inside q e =
         let rows = rows_at far.nodes node in
+        let keys = keys_of (map.entries rows) in
         let row = some_row (map.get rows q) (map.contains_key-keys rows q
-        ∙ sym (any_agree (nat_eq q) (eq_by_cmp nat_cmp q) (same_test q) (keys_of (map.entries rows))) ∙ e) in
+        ∙ sym (any_agree (nat_eq q) (eq_by_cmp nat_cmp q) (same_test q) keys) ∙ e) in
         let owner = sound.away.sound.rows.owned node q row.0 row.1 in
         here q owner.1 (owned_by far idle owner.0 owner.1 owner.2) owner.3 owner.4
