@@ -342,9 +342,9 @@ not_here_version : (v : ℕ) → answer.NotHere ≡ answer.Version v → ⊥
 not_here_version v e = cc
 
 write_stops : (new : WorldState) → Stops old (event.Turn 0 (Write (handle 0) 1 [])) new → ⊥
-write_stops new (alone, few, seats, near none) = none
-write_stops new (alone, few, seats, was_away m n o d lacks) = not_here_version 4 o.0.reply
-write_stops new (alone, few, seats, once_in m n last f o d v lacks) = lacks
+write_stops new (alone, (few, seats, near none)) = none
+write_stops new (alone, (few, seats, was_away m n o d lacks)) = not_here_version 4 o.0.reply
+write_stops new (alone, (few, seats, once_in m n last f o d v lacks)) = lacks
 
 stops_at_a_step : (new : WorldState) → Stops old (event.Step 0 (Load (handle 0))) new → ⊥
 stops_at_a_step new stopped = stopped

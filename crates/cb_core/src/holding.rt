@@ -1,10 +1,10 @@
-ghost use Rattle.std.specs.Prelude.{◌≡◌, ◌<◌, IfNone, IfSome, length};
-ghost use Rattle.cb_world.specs.Seats.{AtMostOneHolds, Holds};
+ghost use Rattle.std.specs.Prelude.{◌≡◌, ◌<◌, IfNone, IfSome};
+ghost use Rattle.cb_world.specs.Seats.{Holds};
 ghost use Rattle.cb_world.specs.World.{IsSoundWorld};
 ghost use Rattle.cb_core.specs.Holding.{GiveStep, NoOtherHolds, TakeStep};
 
 use cb_types::Reply;
-use cb_world::{Seats, World};
+use cb_world::World;
 
 /// Gives the far lock to a seat. Takes no memory. Refuses with Held, and the seat that holds it,
 /// where one does.
@@ -35,13 +35,12 @@ pub(crate) fn give(world: &mut World, seat: u32) -> Reply
 }
 
 /// The other seat that holds the far lock, None exactly where no seat but this one does.
-pub(crate) fn other_holder(seats: &Seats, seat: u32) -> Option<u32>
-    requires sized { length seats.now ≡ 64 }
-    requires one { AtMostOneHolds seats.now }
-    ensures found { IfSome result (λ holder. (holder ≡ seat → ⊥) × Holds seats.now holder) }
-    ensures none { IfNone result (NoOtherHolds seats.now seat) }
+pub(crate) fn other_holder(world: &World, seat: u32) -> Option<u32>
+    requires sound { IsSoundWorld world.now }
+    ensures found { IfSome result (λ holder. (holder ≡ seat → ⊥) × Holds world.now.seats holder) }
+    ensures none { IfNone result (NoOtherHolds world.now.seats seat) }
 {
-    match seats.holder() {
+    match world.seats.holder() {
         Some(holder) if holder != seat => Some(holder),
         _ => None,
     }

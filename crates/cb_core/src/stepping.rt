@@ -73,7 +73,7 @@ fn seat_turn(alloc: Global, world: &mut World, seat: u32, job: &Job) -> Result<R
     ensures sound { IsSoundWorld world.new }
     ensures error { OnErr result (Stops world.old (Event.Turn seat job.now) world.new) }
 {
-    match other_holder(&world.seats, seat) {
+    match other_holder(world, seat) {
         Some(holder) => Ok(Reply::Held { seat: holder }),
         None => turn_step(alloc, world, job),
     }
