@@ -7,12 +7,13 @@ use Rattle.std.specs.declared.cmp.Ordering.{Ordering}
 use Rattle.std.proofs.lemmas.Option.{none-some, same_Some, slice_get_within}
 use Rattle.cb_member.specs.declared.names.Loss.{Loss}
 use Rattle.cb_set.specs.SetState.{SetState, parities}
+use Rattle.cb_set.specs.Lost.{IsWhole}
 use Rattle.cb_set.specs.Matched.{live_mask}
 use Rattle.cb_world.specs.FarState.{FarState}
 use Rattle.cb_world.specs.Sets.{set_in}
 use Rattle.cb_compact.specs.declared.candidates.Candidate.{Candidate}
-use Rattle.cb_compact.specs.declared.candidates.Group.{Group}
-use Rattle.cb_compact.specs.Candidates.{AreAlike, AreFirsts, AreSeen, CanMatch, HasNoPartner, IsAdded, IsCandidate, IsFirstMatch, IsPartner, NoneMatch, group}
+use Rattle.cb_world.specs.declared.groups.Group.{Group}
+use Rattle.cb_compact.specs.Candidates.{AreAlike, AreFirsts, AreSeen, AreWhole, CanMatch, HasNoPartner, IsAdded, IsCandidate, IsFirstMatch, IsPartner, NoneMatch, group, groups_of}
 use Rattle.cb_compact.proofs.WorkedBegin.{crowd, set_c}
 use Rattle.cb_compact.proofs.WorkedGround.{all_up, far, first_of, first_of_four, ground, none_third, one_down, second_of, two}
 use Rattle.cb_compact.proofs.WorkedPair.{begun, set_a, set_b}
@@ -65,6 +66,10 @@ no_place i d e = let w = slice_get_within [] i d e in omega (arith, w)
 one_place : (i : ℕ) (c d : Candidate) → slice_get (c ∷ []) i ≡ Some d → c ≡ d
 one_place zero c d e = same_Some c d e
 one_place (suc i) c d e = absurd (no_place i d e)
+
+-- ---- the groups of candidates
+in_order : groups_of (at_zero 0 ∷ at_one 1 ∷ []) ≡ group (at_zero 7) ∷ group (at_one 5) ∷ []
+in_order = refl
 
 -- ---- groups that were seen
 module _ (cmp : Group → Group → Ordering) (seen : BTreeSet Group) where
@@ -332,3 +337,17 @@ last_has_none n c d l at_c at_d x =
 
 first_has_one : HasNoPartner both 0 → ⊥
 first_has_one x = x 1 (at_zero 0) (at_one 1) (omega arith) refl refl (zero_and_one 0 1)
+
+-- ---- all committed sets are whole
+all_are_whole : AreWhole ground 2
+all_are_whole zero set below at =
+    subst (IsWhole all_up) (same_Some set_a set (sym (first_of set_a set_b) ∙ at)) a_is.whole
+all_are_whole (suc zero) set below at =
+    subst (IsWhole all_up) (same_Some set_b set (sym (second_of set_a set_b) ∙ at)) b_is.whole
+all_are_whole (suc (suc id)) set below at = absurd (omega (arith, below))
+
+not_all_once_a_shard_is_lost : AreWhole (far (two set_a set_b) one_down 2 (Some begun)) 2 → ⊥
+not_all_once_a_shard_is_lost x =
+    let e : 1 ≡ 0 = ap (λ (l : List Loss). length l)
+    (x 0 set_a (omega arith) (first_of set_a set_b)) in
+    omega (arith, e)

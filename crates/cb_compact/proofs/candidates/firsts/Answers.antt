@@ -1,4 +1,4 @@
-use Rattle.std.proofs.Common.{◌+◌, List, sym, subst}
+use Rattle.std.proofs.Common.{◌+◌, List, sym, subst, arith}
 use Rattle.cb_world.specs.FarState.{FarState}
 use Rattle.cb_world.specs.SetsFrom.{AreFrom}
 use Rattle.cb_world.proofs.Laws.{first_from}
@@ -6,6 +6,7 @@ use Rattle.cb_compact.specs.declared.candidates.Candidate.{Candidate}
 use Rattle.cb_compact.specs.Candidates.{AreFirsts, AreSeen}
 use Rattle.cb_compact.proofs.Choosing.{firsts_all, firsts_to, none_seen, none_yet}
 use Rattle.cb_compact.proofs.Groups.{group_cmp}
+use Rattle.cb_compact.proofs.Learned.{both_true, whole_all, whole_more}
 use Rattle.cb_compact.proofs.candidates.firsts.Goals as goal
 
 pub loop-id-init : goal.loop-id-init
@@ -17,6 +18,7 @@ loop-id-init c = (
   subst (λ (l : List Candidate). AreSeen group_cmp l c.new-seen.result)
       (sym c.new-found.ensures.items)
       (none_seen group_cmp c.new-seen.result c.new-seen.ensures.empty),
+  λ all id set below. absurd (omega (arith, below)),
 )
 
 pub add_first-requires-clause-kept : goal.add_first-requires-clause-kept
@@ -42,13 +44,18 @@ loop-id-preserved c =
     let f = first_from far.sets inv.0 (c.in-Some.id.now, c.in-Some.kept.now) c.next.new.self
     (subst (AreFrom far.sets inv.0) c.in-Some.ensures.steps inv.2) in (
       c.in-Some.id.now + 1,
-      c.in_ok-add_first.ensures.firsts,
+      c.in_ok-all_whole.ensures.firsts,
       f.more,
-      c.in_ok-add_first.ensures.seen,
+      c.in_ok-all_whole.ensures.seen,
+      λ all. let both = both_true c.loop-id.all_whole c.in_ok-all_whole.field-0 all in
+          whole_more far inv.0 c.in-Some.id.now (inv.4 both.0) f.none
+          (c.in_ok-all_whole.ensures.whole both.1),
     )
 
 pub returns : goal.returns
 returns c =
-    let inv = c.loop-id.invariant in let s = c.requires.sound in
-    firsts_all s.0 c.args.far.now inv.0 c.loop-id.found.items s.1 inv.1
-    (subst (AreFrom c.args.far.now.sets inv.0) c.in_default.ensures.steps.0 inv.2)
+    let inv = c.loop-id.invariant in let s = c.requires.sound in let far = c.args.far.now in
+    let rest = subst (AreFrom far.sets inv.0) c.in_default.ensures.steps.0 inv.2 in record {
+      found = firsts_all s.0 far inv.0 c.loop-id.found.items s.1 inv.1 rest;
+      whole = λ all. whole_all far inv.0 far.counts.sets (inv.4 all) rest;
+    }

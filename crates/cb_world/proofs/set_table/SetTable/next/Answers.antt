@@ -2,7 +2,7 @@ use Rattle.std.proofs.Common.{◌≡◌, ℕ, ◌<◌, ◌≤◌, IfNone, IsSome
 use Rattle.std.specs.FinMap as map
 use Rattle.cb_world.specs.Sets.{SetMap}
 use Rattle.cb_world.proofs.NextSet.{first_next, none_next}
-use Rattle.cb_world.proofs.sets.Sets.next.Goals as goal
+use Rattle.cb_world.proofs.set_table.SetTable.next.Goals as goal
 
 pub returns-in_err-id-clause-none : goal.returns-in_err-id-clause-none
 returns-in_err-id-clause-none c =
