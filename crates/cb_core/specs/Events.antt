@@ -20,16 +20,3 @@ handle_of (Settle handle) = handle.n
 abbrev pub IsEvent : Config → Event → Type 0
 IsEvent c (event.Step seat atomic) = (seat < 64) × (handle_of atomic < c.handles)
 IsEvent c (event.Turn seat job) = (seat < 64) × IsJob c job
-
--- the step is one of an open write
-abbrev pub IsOfWrite : Atomic → Type 0
-IsOfWrite (Claim handle at bytes) = Unit {0}
-IsOfWrite (Store handle) = Unit {0}
-IsOfWrite (Settle handle) = Unit {0}
-IsOfWrite atomic = ⊥
-
--- an event of a run: one that may come, and no step of an open write
-abbrev pub IsRunEvent : Config → Event → Type 0
-IsRunEvent c (event.Step seat atomic) =
-    ((seat < 64) × (handle_of atomic < c.handles)) × ¬ (IsOfWrite atomic)
-IsRunEvent c (event.Turn seat job) = (seat < 64) × IsJob c job
