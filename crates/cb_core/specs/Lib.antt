@@ -14,4 +14,5 @@ pub mod Step
 pub mod Events
 pub mod Unmoved
 pub mod Run
+pub mod NowIn
 pub mod Called
