@@ -1,5 +1,5 @@
--- A turn tells of no want of room and of no loss where no set is broken, no object moves, each version
--- has a next one, and an eviction easy spans and nodes whenever no frame is free.
+-- A turn tells of no want of room and of no loss where no set is broken, no object moves, each
+-- version has a next one, and an eviction finds spans and nodes whenever no frame is free.
 use Rattle.std.proofs.Common.{◌≡◌, ℕ, zero, suc, ◌+◌, ◌-◌, ◌^◌, ◌==◌, ◌<◌, ◌≤◌, nat_lt, Bool, true, false, List, length, slice_index, Option, None, Some, if◌then◌else◌, refl, sym, ap, ◌∙◌, subst, arith, inl, inr, ne_eqb}
 use Rattle.std.proofs.lemmas.Bool.{cases_lt, false≢true}
 use Rattle.std.proofs.lemmas.List.{get_or_past}
@@ -56,8 +56,8 @@ IsEased r = Unit {0}
 calm_as : (r q : Reply) → IsEased q → r ≡ q → IsEased r
 calm_as r q calm e = subst IsEased (sym e) calm
 
--- no object moves, and none is gone; where no frame is free enough spans are loose, and enough nodes
--- have room; each version has a next one
+-- no object moves, and none is gone; where no frame is free enough spans are loose, and enough
+-- nodes have room; each version has a next one
 pub record MakesEasy (x : Words) (far : FarState) : Type 0 where
   pub still : (h : ℕ) → h < length x.words → state_of (word_at x h) ≡ word.Moving → ⊥
   pub whole : (h : ℕ) → is_gone far h ≡ false
@@ -137,7 +137,7 @@ declined_calm false len version at count r young e = by (nat_lt len (at + count)
     by true e = calm_as r (answer.Range len) tt (same_some r (answer.Range len) e)
     by false e = absurd (none_some r e)
 
--- ---- an eviction easy spans and nodes
+-- ---- an eviction finds spans and nodes
 spans_set : (loose : ℕ) (r : Reply) (id : _) → r ≡ answer.NoSpans loose → r ≡ answer.Set id → ⊥
 spans_set loose r id a b = cc
 
@@ -198,7 +198,8 @@ not_room far id set frames loose nodes = by (is_broken far.members set)
     framed None e = cc
     framed (Some f) e = cc
 
-    by : (b : Bool) → (if b then answer.Unavailable (record { n = id }) (lost far.members set.shards)
+    by : (b : Bool) → (if b
+        then answer.Unavailable (record { n = id }) (lost far.members set.shards)
         else frame_answer (least_free far.frames)) ≡ answer.NoRoom frames loose nodes → ⊥
     by true e = cc
     by false e = framed (least_free far.frames) e
@@ -221,15 +222,16 @@ has_room h a b r frames loose nodes easy (no_room m why some other o v is) e =
 has_room h a b r frames loose nodes easy (won m n id o v (home, at, step, hold) off) e =
     not_room n.far home.set step.set frames loose nodes (sym step.reply ∙ e)
 
-bring_calm : (h : ℕ) (a b : Holding Words) (r : Reply) (s : Shown) → IsKnown a.desk a.far s → IsEasy a
-    → StillBring h a r b → IsEased r
+bring_calm : (h : ℕ) (a b : Holding Words) (r : Reply) (s : Shown) → IsKnown a.desk a.far s
+    → IsEasy a → StillBring h a r b → IsEased r
 bring_calm h a b r s known easy step = by (bring_ends a b h r s known step)
   where
     by : BringEnds a b h r → IsEased r
     by (came f e kept here) = calm_as r (answer.Swapped f) tt e
     by (broke id losses e z) =
         absurd (false≢true (sym (easy.whole h) ∙ lost_gone a.far h id losses z))
-    by (crammed frames loose nodes e kept) = absurd (has_room h a b r frames loose nodes easy step e)
+    by (crammed frames loose nodes e kept) =
+        absurd (has_room h a b r frames loose nodes easy step e)
 
 -- an object that came in is here
 unavailable_came : (f : ℕ) (r : Reply) (id : _) (losses : _) → r ≡ answer.Swapped f
@@ -272,8 +274,8 @@ swap_versions h a b r (home, at, step, hold) =
 brought_young : (h : ℕ) (a b : Holding Words) (r : Reply) → IsEasy a → StillBring h a r b
     → stamp_at b.desk h < 2 ^ 64 - 1
 brought_young h a b r easy step =
-    let same = room_same versions_of a.desk.settings.frames (StillSwap h) StillRoom (swap_versions h)
-    room_versions a b r step in
+    let same = room_same versions_of a.desk.settings.frames (StillSwap h) StillRoom
+    (swap_versions h) room_versions a b r step in
     subst (λ (versions : List ℕ). slice_index versions h < 2 ^ 64 - 1) (sym same)
     (easy.stamps h)
 
@@ -306,8 +308,8 @@ write_at : (h at : ℕ) (bytes : List ℕ) (a b : Holding Words) (r : Reply)
 write_at h at bytes a b r still young step = calm_as r _
     (write_calm (word_at a.desk h) (stamp_at a.desk h) at (length bytes) still young) step.0.reply
 
-write_stops : (h at : ℕ) (bytes : List ℕ) (a m : Holding Words) → StillWrite h at bytes a answer.NotHere m
-    → m ≡ a
+write_stops : (h at : ℕ) (bytes : List ℕ) (a m : Holding Words)
+    → StillWrite h at bytes a answer.NotHere m → m ≡ a
 write_stops h at bytes a m step = same_holding a m step.0.change step.1
 
 write_job : (h at : ℕ) (bytes : List ℕ) (a b : Holding Words) (r : Reply) (s : Shown)
@@ -318,8 +320,8 @@ write_job h at bytes a b r s known easy (near o off) = write_at h at bytes a b r
     (still_at a.desk a.far easy h) (easy.stamps h) o
 write_job h at bytes a b r s known easy (declined m o d) =
     let same = write_stops h at bytes a m o in
-    declined_calm (is_gone m.far h) (len_of (word_at m.desk h)) (stamp_at m.desk h) at (length bytes) r
-    ((subst IsEasy (sym same) easy).stamps h) d.0
+    declined_calm (is_gone m.far h) (len_of (word_at m.desk h)) (stamp_at m.desk h) at
+    (length bytes) r ((subst IsEasy (sym same) easy).stamps h) d.0
 write_job h at bytes a b r s known easy (stays_far m n o d v off) =
     let same = d.1 ∙ write_stops h at bytes a m o in
     bring_calm h n b r s (subst (λ (z : Holding Words). IsKnown z.desk z.far s) (sym same) known)

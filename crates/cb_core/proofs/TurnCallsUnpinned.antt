@@ -98,7 +98,8 @@ far_unpinned w h sound away = by (pins_of (word_at w.desk h)) refl
     ]
 
 -- ---- a write
-brings_version : (a b : Holding Words) (h version : ℕ) → BringEnds a b h (answer.Version version) → ⊥
+brings_version : (a b : Holding Words) (h version : ℕ)
+    → BringEnds a b h (answer.Version version) → ⊥
 brings_version a b h version (came f e whole here) = cc
 brings_version a b h version (broke id l e lost) = cc
 brings_version a b h version (crammed frames loose nodes e whole) = cc
@@ -164,7 +165,8 @@ far_by w v at n e = by (state_of w) refl e
     moving e = cc
 
     by : (q : State) → state_of w ≡ q → reply_as q v (if nat_lt (len_of w) (at + n)
-        then answer.Range (len_of w) else change_reply w v) ≡ answer.NotHere → state_of w ≡ state.Far
+        then answer.Range (len_of w) else change_reply w v) ≡ answer.NotHere
+        → state_of w ≡ state.Far
     by state.Far is e = is
     by state.Empty is e = absurd (empty v e)
     by state.Moving is e = absurd (moving e)
@@ -178,7 +180,8 @@ module _ (a b : Holding Words) (s : Shown) (h at : ℕ) (bytes : List ℕ)
   where_unpinned version (near c never) = written_unpinned (word_at a.desk h) (stamp_at a.desk h) at
       (length bytes) version (sym c.0.reply)
   where_unpinned version (declined m c l) = absurd (false≢true (declined_as (is_gone m.far h)
-      (len_of (word_at m.desk h)) (stamp_at m.desk h) at (length bytes) (answer.Version version) l.0))
+      (len_of (word_at m.desk h)) (stamp_at m.desk h) at (length bytes) (answer.Version version)
+      l.0))
   where_unpinned version (stays_far m n c l bring never) =
       let part = write_part h at bytes [] in
       let back = part.looks m n None l ∙ part.nothing a m c in
@@ -201,10 +204,10 @@ module _ (a b : Holding Words) (s : Shown) (h at : ℕ) (bytes : List ℕ)
       (length bytes) count (sym c.0.reply)
   where_fits count off (declined m c l) = absurd (false≢true (declined_as (is_gone m.far h)
       (len_of (word_at m.desk h)) (stamp_at m.desk h) at (length bytes) (answer.Pinned count) l.0))
-  where_fits count off (stays_far m n c l bring never) = absurd (off (far_by (word_at a.desk h) (stamp_at a.desk h) at
-      (length bytes) (sym c.0.reply)))
-  where_fits count off (brought m n o f c l bring again) = absurd (off (far_by (word_at a.desk h) (stamp_at a.desk h) at
-      (length bytes) (sym c.0.reply)))
+  where_fits count off (stays_far m n c l bring never) =
+      absurd (off (far_by (word_at a.desk h) (stamp_at a.desk h) at (length bytes) (sym c.0.reply)))
+  where_fits count off (brought m n o f c l bring again) =
+      absurd (off (far_by (word_at a.desk h) (stamp_at a.desk h) at (length bytes) (sym c.0.reply)))
 
 pub write_unpinned : (w new : WorldState) (h at : ℕ) (bytes : List ℕ) (version : ℕ)
     → (before : IsSoundWorld w) → w.far.counts.turns < 2 ^ 40
@@ -212,8 +215,8 @@ pub write_unpinned : (w new : WorldState) (h at : ℕ) (bytes : List ℕ) (versi
     → pins_of (word_at w.desk h) ≡ 0
 write_unpinned w new h at bytes version before few step =
     let j = job.Write (record { n = h }) at bytes in
-    where_unpinned (held_at w j) (held_then new) before.shown h at bytes (known_at w j before) version
-    (is_done j w new (answer.Version version) few step)
+    where_unpinned (held_at w j) (held_then new) before.shown h at bytes (known_at w j before)
+    version (is_done j w new (answer.Version version) few step)
 
 pub write_fits : (w new : WorldState) (h at : ℕ) (bytes : List ℕ) (count : ℕ)
     → (before : IsSoundWorld w) → w.far.counts.turns < 2 ^ 40
