@@ -65,6 +65,10 @@ pub mod TurnCallsBatch
 pub mod TurnCallsFirst
 pub mod TurnCalls
 pub mod TurnCallsUnavailable
+pub mod Unavailables
+pub mod GoneObjects
+pub mod Rejobbed
+pub mod Stopping
 pub mod TurnCallsPinned
 pub mod TurnCallsSound
 pub mod CallsBeside
