@@ -20,13 +20,14 @@ use Rattle.cb_evict.specs.CommitStep.{no_batch as none_to_commit, short, committ
 use Rattle.cb_evict.specs.EvictStep.{IsEvictStep, few_spans as few_loose, few_nodes as few_roomy, made}
 use Rattle.cb_filter.specs.FilterStep.{refused as refuses, cools, without_slot, moves}
 use Rattle.cb_swapin.proofs.Laws.{step_cases, swapped_kept}
-use Rattle.cb_core.specs.declared.event.Atomic.TheVariants.{Load, Pin, Unpin, Claim, Store, Settle}
+use Rattle.cb_core.specs.declared.event.Atomic.TheVariants.{Load, Pin, Unpin, Claim, Store, Settle, Take, Give}
 use Rattle.cb_core.specs.declared.event.Event.{Event}
 use Rattle.cb_core.specs.declared.event.Event.TheVariants as event
 use Rattle.cb_core.specs.Parts.{Holding, NeverDeclined}
 use Rattle.cb_core.specs.Pinning.{PinStep, scope_full, refused, taken, UnpinStep, not_pinned, given}
-use Rattle.cb_core.specs.Step.{Leads, StillMake, StillRead, StillWrite, StillFree, StillFind, StillDecline, StillEvict, StillRoom, StillSwap, StillBring, StillFilter, StillBegin, StillShip, StillCommit, StillAbort, StillWorks, TurnStep, worn, done, Step}
+use Rattle.cb_core.specs.Step.{Leads, StillMake, StillRead, StillWrite, StillFree, StillFind, StillDecline, StillEvict, StillRoom, StillSwap, StillBring, StillFilter, StillBegin, StillShip, StillCommit, StillAbort, StillWorks, TurnStep, worn, done, held, free, Step}
 use Rattle.cb_core.specs.Turned.{counted}
+use Rattle.cb_core.proofs.HoldingFixed.{take_leaves, give_leaves}
 use Rattle.cb_core.proofs.OpenFrame.{claim_leaves, store_leaves, settle_leaves}
 use Rattle.cb_core.proofs.Changes.{free_leaves}
 use Rattle.cb_core.proofs.FarJobs.{far_job}
@@ -187,7 +188,9 @@ same_rises w new e = rises_by w.far new.far (ap (λ (f : FarState). f.members) e
 
 pub step_rises : (w new : WorldState) (e : Event) (r : Reply) → Step w e r new
     → w.far.members.epoch ≤ new.far.members.epoch
-step_rises w new (event.Turn seat job) r step = turn_rises w new job r step
+step_rises w new (event.Turn seat job) r (held holder off holds reply same) =
+    same_rises w new (ap (λ (v : WorldState). v.far) same)
+step_rises w new (event.Turn seat job) r (free none step) = turn_rises w new job r step
 step_rises w new (event.Step seat (Load handle)) r step =
     same_rises w new (ap (λ (v : WorldState). v.far) step.1)
 step_rises w new (event.Step seat (Pin handle)) r step =
@@ -200,6 +203,8 @@ step_rises w new (event.Step seat (Store handle)) r step =
     same_rises w new (store_leaves w new seat handle.n r step).far
 step_rises w new (event.Step seat (Settle handle)) r step =
     same_rises w new (settle_leaves w new seat handle.n r step).far
+step_rises w new (event.Step seat Take) r step = same_rises w new (take_leaves w new seat r step).far
+step_rises w new (event.Step seat Give) r step = same_rises w new (give_leaves w new seat r step).far
 
 -- events one after another
 pub lead_rises : (w new : WorldState) (events : List Event) (replies : List Reply)

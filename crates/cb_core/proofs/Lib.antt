@@ -33,6 +33,7 @@ pub mod OpenKeptSteps
 pub mod OpenFrame
 pub mod OpenFixed
 pub mod HoldingSound
+pub mod HoldingFixed
 pub mod ClaimAnswers
 pub mod PartsStay
 pub mod Settings
@@ -42,6 +43,7 @@ mod WorkedClaims
 pub mod WorkedMembership
 pub mod WorkedRoom
 pub mod WorkedTurns
+pub mod WorkedHolding
 pub mod WorkedStill
 pub mod WorkedPairs
 pub mod Runs

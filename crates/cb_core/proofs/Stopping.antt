@@ -24,12 +24,14 @@ use Rattle.cb_core.specs.declared.event.Atomic.TheVariants.{Load, Pin, Unpin, Cl
 use Rattle.cb_core.specs.declared.event.Event.{Event}
 use Rattle.cb_core.specs.declared.event.Event.TheVariants as event
 use Rattle.cb_core.specs.FarJobs.{FarLacks}
+use Rattle.cb_core.specs.Holding.{NoOtherHolds}
 use Rattle.cb_core.specs.Parts.{Holding, NeverDeclined, NeverLacks, WithRoom, at_once, won, was_far, BringsIn, RoomStops, CallStops}
 use Rattle.cb_core.specs.Parts.WithRoom.{no_room}
 use Rattle.cb_core.specs.Parts.RoomStops.{at_once as lacks_at_once, evicting, after as lacks_after}
 use Rattle.cb_core.specs.Parts.CallStops.{near, far as was_away, after as call_after}
 use Rattle.cb_core.specs.Run.{LeadsSoundly, but_counts, IsSameBut, HoldsAsBefore, seat_of, MakesRoom, nothing, evicts, brings, LeavesAsBefore, LeavesPrefix}
 use Rattle.cb_core.specs.Step.{Step, Stops, AtomicStops, StillBring, StillBringLacks, StillDecline, StillEvict, StillFarLacks, StillFind, StillMake, StillMakeLacks, StillRead, StillReadLacks, StillRoom, StillStops, StillSwap, StillSwapLacks, StillWorks, StillWrite, TurnStep, done}
+use Rattle.cb_core.specs.Step.SeatTurn.{free}
 use Rattle.cb_core.specs.Turned.{counted}
 use Rattle.cb_core.specs.Unavailable.{asked_by, brought_by}
 use Rattle.cb_core.proofs.FarJobs.{far_job}
@@ -161,8 +163,8 @@ bring_home a b s h f k (no_room m why loose nodes (home, at, step, hold) evict e
 bring_home a b s h f k (won m n id (home, at, step, hold) evict again never) =
     home_far a.desk a.far s h home k at
 
-module _ (w new : WorldState) (seat : ℕ) (j : Job) (few : w.far.counts.turns < 2 ^ 40)
-    (seats : new.seats ≡ w.seats) where
+module _ (w new : WorldState) (seat : ℕ) (j : Job) (alone : NoOtherHolds w.seats seat)
+    (few : w.far.counts.turns < 2 ^ 40) (seats : new.seats ≡ w.seats) where
   -- a turn of another job that does its work from here on
   other_turn : (other : Job) (r : Reply) (n : Holding Words)
       → StillWorks other (held_at w other) r (held_as (counted w.far other).counts.by_job n)
@@ -171,7 +173,7 @@ module _ (w new : WorldState) (seat : ℕ) (j : Job) (few : w.far.counts.turns <
         far = rejobbed (counted w.far other).counts.by_job n.far;
         seats = w.seats;
       })
-  other_turn other r n works = done few works refl
+  other_turn other r n works = free alone (done few works refl)
 
   find_far : (other : Job) (h : ℕ) → state_of (word_at w.desk h) ≡ state.Far
       → StillFind h (held_at w other) answer.NotHere (held_at w other)
@@ -239,11 +241,11 @@ atomic_leaves seat atomic w new never = absurd never
 pub stop_leaves : (e : Event) (w new : WorldState) → IsSoundWorld w → Stops w e new
     → LeavesAsBefore w e new
 stop_leaves (event.Step seat atomic) w new sound stops = atomic_leaves seat atomic w new stops
-stop_leaves (event.Turn seat j) w new sound (few, seats, stops) =
+stop_leaves (event.Turn seat j) w new sound (alone, (few, seats, stops)) =
     let room = stop_room j (held_at w j) (held_then new)
     (recounted w.desk.settings w.far (counted w.far j).counts sound.configured) stops in record {
-      room = world_room w new seat j few seats sound.shown sound.known room;
-      holds = world_holds w new seat j few seats room;
+      room = world_room w new seat j alone few seats sound.shown sound.known room;
+      holds = world_holds w new seat j alone few seats room;
       seats = seats;
     }
 

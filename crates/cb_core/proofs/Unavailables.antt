@@ -29,15 +29,19 @@ use Rattle.cb_world.proofs.Laws.{home_same, set_same, some_same}
 use Rattle.cb_mutate.specs.StillReplies.{reply_as, write_reply, empty_reply, next_reply, change_reply}
 use Rattle.cb_swapin.proofs.Laws.{gone_is_broken}
 use Rattle.cb_core.specs.declared.event.Atomic.{Atomic}
-use Rattle.cb_core.specs.declared.event.Atomic.TheVariants.{Load, Pin, Unpin, Claim, Store, Settle}
+use Rattle.cb_core.specs.declared.event.Atomic.TheVariants.{Load, Pin, Unpin, Claim, Store, Settle, Take, Give}
 use Rattle.cb_core.specs.declared.event.Event.{Event}
 use Rattle.cb_core.specs.declared.event.Event.TheVariants as event
 use Rattle.cb_core.specs.Claiming.{claim_reply, claim_answer, refused as claim_refused, taken as claim_taken, not_claimed, nothing_left, stored, stamped, not_stored, settled}
 use Rattle.cb_core.specs.Events.{IsEvent}
+use Rattle.cb_core.specs.Holding.{not_held}
+use Rattle.cb_core.specs.Holding.TakeStep.{held as lock_held, taken as lock_taken}
+use Rattle.cb_core.specs.Holding.GiveStep.{given as lock_given}
 use Rattle.cb_core.specs.Jobs.{IsJob}
 use Rattle.cb_core.specs.Pinning.{pin_refusal, scope_full, refused as pin_refused, taken, not_pinned, given}
 use Rattle.cb_core.specs.Run.{LeadsSoundly}
-use Rattle.cb_core.specs.Step.{AtomicStep, Step, TurnStep, worn, done}
+use Rattle.cb_core.specs.Step.{AtomicStep, SeatTurn, Step, TurnStep, worn, done}
+use Rattle.cb_core.specs.Step.SeatTurn.{held as is_held, free as is_free}
 use Rattle.cb_core.specs.Unavailable.{IsLost, brought_by, asked_by, IsMade, TellsUnavailable, LeadsTelling}
 use Rattle.cb_core.proofs.Settings.{step_settings}
 use Rattle.cb_core.proofs.TurnCalls.{IsQuiet, abort_turn, begin_turn, commit_turn, compact_turn, crash_turn, evict_turn, filter_turn, free_turn, join_turn, make_turn, merge_turn, pair_turn, part_turn, patch_turn, rebuild_turn, ship_turn}
@@ -113,10 +117,10 @@ brings_tells : (w new : WorldState) (seat : ℕ) (j : Job) (h : ℕ) (r : Reply)
     → TurnStep j w r new → TellsUnavailable w (event.Turn seat j) r
 brings_tells w new seat j h r sound asks told gone step = record {
   only = λ id l is. (h, asks, lost_is w sound.shown h id l sound.known (lost_then id l is step));
-  each = λ k id l asked few z.
+  each = λ k id l asked made z.
       let same : k ≡ h = some_same k h (sym asked ∙ asks) in
       let here = far_is w h id l (subst (λ (i : ℕ). IsLost w i id l) same z) in
-      let y = gone few (gone_is w.far h id l here) in
+      let y = gone made.1 (gone_is w.far h id l here) in
       y.is ∙ one_lost w.far h y.id id y.losses l y.lost here;
 }
   where
@@ -193,6 +197,19 @@ turn_tells (job.Join node) w new seat r sound after ok step =
     turn_never w new seat (job.Join node) (line.Join node) r refl (λ id l x. x)
     (λ few. (join_turn node w new r sound after few step).1) step
 
+pub seat_tells : (j : Job) (w new : WorldState) (seat : ℕ) (r : Reply) → IsSoundWorld w
+    → IsSoundWorld new → IsJob w.desk.settings j → SeatTurn seat j w r new
+    → TellsUnavailable w (event.Turn seat j) r
+seat_tells j w new seat r sound after ok (is_held holder other holds is same) = record {
+  only = λ id l e. absurd (held_never id l (sym is ∙ e));
+  each = λ h id l asked made z. absurd (other (made.0 holder holds));
+}
+  where
+    held_never : IsNever (answer.Held holder)
+    held_never id l e = cc
+seat_tells j w new seat r sound after ok (is_free none step) =
+    turn_tells j w new seat r sound after ok step
+
 -- ---- atomic steps
 empty_never : (v : ℕ) → IsNever (empty_reply v)
 empty_never zero id l e = cc
@@ -258,12 +275,16 @@ atomic_never seat (Settle handle) w new r (not_claimed off is same) = like r _ i
 atomic_never seat (Settle handle) w new r (not_stored at x left is same) =
     like r _ is (λ id l e. cc)
 atomic_never seat (Settle handle) w new r (settled at x none is t) = like r _ is (λ id l e. cc)
+atomic_never seat Take w new r (lock_held holder holds is same) = like r _ is (λ id l e. cc)
+atomic_never seat Take w new r (lock_taken none is same) = like r _ is (λ id l e. cc)
+atomic_never seat Give w new r (not_held off is same) = like r _ is (λ id l e. cc)
+atomic_never seat Give w new r (lock_given holds is same) = like r _ is (λ id l e. cc)
 
 -- ---- events, and events one after another
 pub step_tells : (e : Event) (w new : WorldState) (r : Reply) → IsSoundWorld w → IsSoundWorld new
     → IsEvent w.desk.settings e → Step w e r new → TellsUnavailable w e r
 step_tells (event.Turn seat j) w new r sound after ok step =
-    turn_tells j w new seat r sound after ok.1 step
+    seat_tells j w new seat r sound after ok.1 step
 step_tells (event.Step seat atomic) w new r sound after ok step =
     never_tells w (event.Step seat atomic) r refl (atomic_never seat atomic w new r step)
 

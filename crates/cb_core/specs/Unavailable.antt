@@ -16,6 +16,7 @@ use Rattle.cb_world.specs.Sets.{set_in}
 use Rattle.cb_world.specs.World.{WorldState, word_at}
 use Rattle.cb_core.specs.declared.event.Event.{Event}
 use Rattle.cb_core.specs.declared.event.Event.TheVariants as event
+use Rattle.cb_core.specs.Holding.{NoOtherHolds}
 use Rattle.cb_core.specs.Step.{Step}
 
 -- The object is far, and its set has lost more shards than it has parities: the set's number, and
@@ -42,9 +43,9 @@ abbrev pub asked_by : Event → Option ℕ
 asked_by (event.Turn seat job) = brought_by job
 asked_by (event.Step seat atomic) = None
 
--- the turn is not refused for its number
+-- the turn is made: no other seat holds the far lock, and fewer than 2^40 turns were counted
 abbrev pub IsMade : WorldState → Event → Type 0
-IsMade w (event.Turn seat job) = w.far.counts.turns < 2 ^ 40
+IsMade w (event.Turn seat job) = NoOtherHolds w.seats seat × (w.far.counts.turns < 2 ^ 40)
 IsMade w (event.Step seat atomic) = ⊥
 
 -- An event is answered Unavailable exactly where it is a turn that brings in an object, and that is

@@ -4,28 +4,28 @@ use Rattle.cb_types.specs.declared.reply.Reply.{Reply}
 use Rattle.cb_core.specs.declared.event.Event.{Event}
 use Rattle.cb_core.specs.declared.event.Event.TheVariants as event
 use Rattle.cb_core.specs.Run.{LeavesAsBefore}
-use Rattle.cb_core.specs.Step.{Stops, TurnStep}
+use Rattle.cb_core.specs.Step.{Stops, SeatTurn}
 use Rattle.cb_core.specs.Unavailable.{TellsUnavailable}
 use Rattle.cb_core.proofs.Composing.{err_map, if_map}
 use Rattle.cb_core.proofs.Stopping.{stop_leaves}
-use Rattle.cb_core.proofs.Unavailables.{turn_tells}
+use Rattle.cb_core.proofs.Unavailables.{seat_tells}
 use Rattle.cb_core.proofs.stepping.step.Goals as goal
 
 pub returns-in-Turn-clause-unavailable : goal.returns-in-Turn-clause-unavailable
 returns-in-Turn-clause-unavailable c =
     let w = c.args.world.now in let job = c.in-Turn.job in
-    subst (λ (e : Event). IfOk c.turn_step.result (λ reply. TellsUnavailable w e reply))
+    subst (λ (e : Event). IfOk c.seat_turn.result (λ reply. TellsUnavailable w e reply))
     (sym c.in-Turn.is)
     (if_map (λ reply. TellsUnavailable w (event.Turn c.in-Turn.seat job) reply)
-    (λ reply. TurnStep job w reply c.turn_step.new.world) c.turn_step.result c.turn_step.ensures.step
-    (λ reply step. turn_tells job w c.turn_step.new.world c.in-Turn.seat reply c.requires.sound
-    c.turn_step.ensures.sound (rw c.in-Turn.is at c.requires.event).1 step))
+    (λ reply. SeatTurn c.in-Turn.seat job w reply c.seat_turn.new.world) c.seat_turn.result c.seat_turn.ensures.step
+    (λ reply step. seat_tells job w c.seat_turn.new.world c.in-Turn.seat reply c.requires.sound
+    c.seat_turn.ensures.sound (rw c.in-Turn.is at c.requires.event).1 step))
 
 pub returns-in-Turn-clause-leaves : goal.returns-in-Turn-clause-leaves
 returns-in-Turn-clause-leaves c =
     let w = c.args.world.now in let job = c.in-Turn.job in
-    subst (λ (e : Event). OnErr c.turn_step.result (LeavesAsBefore w e c.turn_step.new.world))
+    subst (λ (e : Event). OnErr c.seat_turn.result (LeavesAsBefore w e c.seat_turn.new.world))
     (sym c.in-Turn.is)
-    (err_map (LeavesAsBefore w (event.Turn c.in-Turn.seat job) c.turn_step.new.world)
-    (Stops w (event.Turn 0 job) c.turn_step.new.world) c.turn_step.result c.turn_step.ensures.error
-    (λ stops. stop_leaves (event.Turn c.in-Turn.seat job) w c.turn_step.new.world c.requires.sound stops))
+    (err_map (LeavesAsBefore w (event.Turn c.in-Turn.seat job) c.seat_turn.new.world)
+    (Stops w (event.Turn c.in-Turn.seat job) c.seat_turn.new.world) c.seat_turn.result c.seat_turn.ensures.error
+    (λ stops. stop_leaves (event.Turn c.in-Turn.seat job) w c.seat_turn.new.world c.requires.sound stops))
