@@ -3,14 +3,13 @@ use Rattle.std.proofs.Common.{◌≡◌, ℕ, Bool, true, false, List, get_or, r
 use Rattle.cb_member.specs.declared.names.Loss.{Loss}
 use Rattle.cb_types.specs.declared.handle.SetId.{SetId}
 use Rattle.cb_world.specs.declared.object.Object.{Object}
-use Rattle.cb_world.specs.declared.object.Object.TheVariants as is
 use Rattle.cb_world.specs.declared.shown.Shown.{Shown}
 use Rattle.cb_world.specs.LocalSound.{IsStamped}
 use Rattle.cb_world.specs.Now.{Now, gone, now, now_as, is_gone}
 use Rattle.cb_world.specs.Shown.{object_at, version_at}
 use Rattle.cb_world.specs.StillWords.{stamp_at}
 use Rattle.cb_world.specs.World.{WorldState, IsKnown}
-use Rattle.cb_core.specs.GoneFar.{AreGone, TellsGone}
+use Rattle.cb_core.specs.GoneFar.{TellsGone}
 use Rattle.cb_core.specs.Unavailable.{IsLost}
 use Rattle.cb_core.proofs.TurnCallsFar.{IsLostFar, lost_gone, never_gone}
 use Rattle.cb_core.proofs.TurnCallsLost.{gone_lost}

@@ -71,6 +71,8 @@ pub mod Unavailables
 pub mod GoneObjects
 pub mod Rejobbed
 pub mod Stopping
+pub mod WorkedUnavailable
+pub mod WorkedStops
 pub mod TurnCallsPinned
 pub mod TurnCallsSound
 pub mod CallsBeside

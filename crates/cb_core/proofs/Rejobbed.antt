@@ -1,5 +1,5 @@
 -- An eviction and a swap-in do the same whichever job the turn is counted as.
-use Rattle.std.proofs.Common.{◌≡◌, ℕ, List, refl, ap}
+use Rattle.std.proofs.Common.{◌≡◌, ℕ, List, ap}
 use Rattle.cb_types.specs.declared.reply.Reply.{Reply}
 use Rattle.cb_types.specs.declared.reply.Reply.TheVariants as answer
 use Rattle.cb_types.specs.declared.handle.SetId.{SetId}
@@ -11,7 +11,7 @@ use Rattle.cb_world.specs.World.{IsKnown}
 use Rattle.cb_world.proofs.Laws.{open_same, recounted_sound}
 use Rattle.cb_evict.specs.declared.eviction.Eviction.TheVariants.{Set}
 use Rattle.cb_evict.specs.EvictStep.{IsEvictStep, few_spans, few_nodes, made}
-use Rattle.cb_swapin.specs.SwapStep.{IsSwapped, IsSwapStep}
+use Rattle.cb_swapin.specs.SwapStep.{IsSwapped}
 use Rattle.cb_core.specs.Parts.{Holding, at_once, no_room, won}
 use Rattle.cb_core.specs.Step.{HoldOn, StillBring, StillEvict, StillRoom, StillSwap}
 use Rattle.cb_core.proofs.StillFarJobs.{known_far}

@@ -1,5 +1,5 @@
 -- What an event leaves that found no memory, and what a run leaves.
-use Rattle.std.proofs.Common.{◌≡◌, ℕ, ◌^◌, ◌<◌, ◌≤◌, ◌+◌, List, [], ◌∷◌, length, take, drop, get_or, Option, Some, None, refl, sym, ap, ◌∙◌, subst, inl, inr}
+use Rattle.std.proofs.Common.{◌≡◌, ℕ, ◌^◌, ◌<◌, ◌+◌, List, [], length, take, drop, get_or, Option, Some, None, refl, sym, ap, ◌∙◌, subst, inl, inr}
 use Rattle.cb_ptr.specs.declared.word.State.{State}
 use Rattle.cb_ptr.specs.declared.word.State.TheVariants as state
 use Rattle.cb_ptr.specs.Word.{state_of}
@@ -20,20 +20,20 @@ use Rattle.cb_world.proofs.Laws.{recounted, recounted_sound}
 use Rattle.cb_mutate.specs.StillReplies.{reply_as}
 use Rattle.cb_evict.specs.declared.eviction.Eviction.TheVariants.{Set}
 use Rattle.cb_core.specs.declared.event.Atomic.{Atomic}
-use Rattle.cb_core.specs.declared.event.Atomic.TheVariants.{Load, Pin, Unpin, Claim, Store, Settle}
+use Rattle.cb_core.specs.declared.event.Atomic.TheVariants.{Claim}
 use Rattle.cb_core.specs.declared.event.Event.{Event}
 use Rattle.cb_core.specs.declared.event.Event.TheVariants as event
 use Rattle.cb_core.specs.FarJobs.{FarLacks}
 use Rattle.cb_core.specs.Holding.{NoOtherHolds}
-use Rattle.cb_core.specs.Parts.{Holding, NeverDeclined, NeverLacks, WithRoom, at_once, won, was_far, BringsIn, RoomStops, CallStops}
+use Rattle.cb_core.specs.Parts.{Holding, at_once, won, was_far}
 use Rattle.cb_core.specs.Parts.WithRoom.{no_room}
 use Rattle.cb_core.specs.Parts.RoomStops.{at_once as lacks_at_once, evicting, after as lacks_after}
 use Rattle.cb_core.specs.Parts.CallStops.{near, far as was_away, after as call_after}
-use Rattle.cb_core.specs.Run.{LeadsSoundly, but_counts, IsSameBut, HoldsAsBefore, seat_of, MakesRoom, nothing, evicts, brings, LeavesAsBefore, LeavesPrefix}
-use Rattle.cb_core.specs.Step.{Step, Stops, AtomicStops, StillBring, StillBringLacks, StillDecline, StillEvict, StillFarLacks, StillFind, StillMake, StillMakeLacks, StillRead, StillReadLacks, StillRoom, StillStops, StillSwap, StillSwapLacks, StillWorks, StillWrite, TurnStep, done}
+use Rattle.cb_core.specs.Run.{but_counts, HoldsAsBefore, MakesRoom, nothing, evicts, brings, LeavesAsBefore, LeavesPrefix}
+use Rattle.cb_core.specs.Step.{Step, Stops, AtomicStops, StillBring, StillBringLacks, StillFarLacks, StillFind, StillRoom, StillStops, StillSwapLacks, StillWorks, done}
 use Rattle.cb_core.specs.Step.SeatTurn.{free}
 use Rattle.cb_core.specs.Turned.{counted}
-use Rattle.cb_core.specs.Unavailable.{asked_by, brought_by}
+use Rattle.cb_core.specs.Unavailable.{brought_by}
 use Rattle.cb_core.proofs.FarJobs.{far_job}
 use Rattle.cb_core.proofs.Rejobbed.{rejobbed, held_as, room_evicts, bring_as}
 use Rattle.cb_core.proofs.Runs.{Going, next_at, split_at}

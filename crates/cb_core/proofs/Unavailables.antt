@@ -1,5 +1,5 @@
 -- Each event is answered Unavailable exactly where it is to be.
-use Rattle.std.proofs.Common.{◌≡◌, ℕ, Bool, true, false, zero, suc, ◌+◌, ◌-◌, ◌^◌, ◌<◌, List, [], ◌∷◌, Option, Some, None, length, refl, sym, ap, ◌∙◌, subst, arith}
+use Rattle.std.proofs.Common.{◌≡◌, ℕ, Bool, true, false, zero, suc, ◌+◌, ◌-◌, ◌^◌, ◌<◌, List, [], ◌∷◌, Some, None, length, refl, sym, ap, ◌∙◌, subst}
 use Rattle.std.specs.Prelude.{nat_lt, ◌==◌, if◌then◌else◌}
 use Rattle.std.specs.List.{AllByRecursion}
 use Rattle.std.proofs.lemmas.Bool.{lt-ltb, ltb-true}
@@ -32,7 +32,7 @@ use Rattle.cb_core.specs.declared.event.Atomic.{Atomic}
 use Rattle.cb_core.specs.declared.event.Atomic.TheVariants.{Load, Pin, Unpin, Claim, Store, Settle, Take, Give}
 use Rattle.cb_core.specs.declared.event.Event.{Event}
 use Rattle.cb_core.specs.declared.event.Event.TheVariants as event
-use Rattle.cb_core.specs.Claiming.{claim_reply, claim_answer, refused as claim_refused, taken as claim_taken, not_claimed, nothing_left, stored, stamped, not_stored, settled}
+use Rattle.cb_core.specs.Claiming.{claim_reply, refused as claim_refused, taken as claim_taken, not_claimed, nothing_left, stored, stamped, not_stored, settled}
 use Rattle.cb_core.specs.Events.{IsEvent}
 use Rattle.cb_core.specs.Holding.{not_held}
 use Rattle.cb_core.specs.Holding.TakeStep.{held as lock_held, taken as lock_taken}
@@ -42,9 +42,9 @@ use Rattle.cb_core.specs.Pinning.{pin_refusal, scope_full, refused as pin_refuse
 use Rattle.cb_core.specs.Run.{LeadsSoundly}
 use Rattle.cb_core.specs.Step.{AtomicStep, SeatTurn, Step, TurnStep, worn, done}
 use Rattle.cb_core.specs.Step.SeatTurn.{held as is_held, free as is_free}
-use Rattle.cb_core.specs.Unavailable.{IsLost, brought_by, asked_by, IsMade, TellsUnavailable, LeadsTelling}
+use Rattle.cb_core.specs.Unavailable.{IsLost, brought_by, asked_by, TellsUnavailable, LeadsTelling}
 use Rattle.cb_core.proofs.Settings.{step_settings}
-use Rattle.cb_core.proofs.TurnCalls.{IsQuiet, abort_turn, begin_turn, commit_turn, compact_turn, crash_turn, evict_turn, filter_turn, free_turn, join_turn, make_turn, merge_turn, pair_turn, part_turn, patch_turn, rebuild_turn, ship_turn}
+use Rattle.cb_core.proofs.TurnCalls.{abort_turn, begin_turn, commit_turn, compact_turn, crash_turn, evict_turn, filter_turn, free_turn, join_turn, make_turn, merge_turn, pair_turn, part_turn, patch_turn, rebuild_turn, ship_turn}
 use Rattle.cb_core.proofs.TurnCallsFar.{IsLostFar}
 use Rattle.cb_core.proofs.TurnCallsLost.{lost_far}
 use Rattle.cb_core.proofs.TurnCallsUnavailable.{IsUnavailable, read_gone, read_unavailable, swap_is_gone, swap_unavailable, write_gone, write_unavailable}

@@ -1,6 +1,5 @@
 use Rattle.std.proofs.Common.{sym, subst}
 use Rattle.std.specs.Prelude.{IfOk, OnErr}
-use Rattle.cb_types.specs.declared.reply.Reply.{Reply}
 use Rattle.cb_core.specs.declared.event.Event.{Event}
 use Rattle.cb_core.specs.declared.event.Event.TheVariants as event
 use Rattle.cb_core.specs.Run.{LeavesAsBefore}
