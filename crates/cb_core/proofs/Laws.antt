@@ -1,9 +1,8 @@
 -- The lemmas of this crate that other crates cite.
 pub use Rattle.cb_core.proofs.Changes.{read_leaves}
 pub use Rattle.cb_core.proofs.Epochs.{lead_rises, step_rises}
-pub use Rattle.cb_core.proofs.GoneObjects.{tells_gone}
 pub use Rattle.cb_core.proofs.PinsKept.{pin_step_sound, unpin_step_sound}
-pub use Rattle.cb_core.proofs.RunLegal.{kept_beside, lost_beside}
+pub use Rattle.cb_core.proofs.RunEvents.{kept_beside, lost_beside}
 pub use Rattle.cb_core.proofs.Settings.{step_settings, turn_settings}
 pub use Rattle.cb_core.proofs.StepFixed.{newest_fixed, pin_fixed, step_fixes, unpin_fixed}
 pub use Rattle.cb_core.proofs.TurnCalls.{IsQuiet, abort_turn, begin_turn, commit_turn, compact_turn, crash_turn, evict_turn, filter_turn, free_turn, is_done, join_turn, make_turn, merge_turn, pair_turn, part_turn, patch_turn, read_turn, rebuild_turn, ship_turn, swap_turn, turn_first, turn_turns, write_turn}

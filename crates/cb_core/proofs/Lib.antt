@@ -68,7 +68,6 @@ pub mod TurnCallsFirst
 pub mod TurnCalls
 pub mod TurnCallsUnavailable
 pub mod Unavailables
-pub mod GoneObjects
 pub mod Rejobbed
 pub mod Stopping
 pub mod WorkedUnavailable
@@ -76,10 +75,17 @@ pub mod WorkedStops
 pub mod TurnCallsPinned
 pub mod TurnCallsSound
 pub mod CallsBeside
+pub mod ClaimOn
+pub mod NowIn
+pub mod ClaimsNow
+pub mod ClaimsBegun
+pub mod MovingCalls
+pub mod RunEvents
 pub mod RunLegal
 pub mod PartsFixed
 pub mod StepFixed
 pub mod PinnedStays
 pub mod WorkedUnmoved
 pub mod WorkedReadTurns
+pub mod WorkedLegal
 pub mod Laws

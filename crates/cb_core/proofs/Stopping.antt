@@ -13,6 +13,7 @@ use Rattle.cb_world.specs.declared.shown.Shown.{Shown}
 use Rattle.cb_world.specs.FarState.{FarState}
 use Rattle.cb_world.specs.Now.{now}
 use Rattle.cb_world.specs.Plain.{Words}
+use Rattle.cb_world.specs.Seats.{SeatState}
 use Rattle.cb_world.specs.Sound.{Sound}
 use Rattle.cb_world.specs.StillWords.{stamp_at}
 use Rattle.cb_world.specs.World.{WorldState, IsConfigured, IsKnown, IsSoundWorld, word_at}
@@ -25,6 +26,7 @@ use Rattle.cb_core.specs.declared.event.Event.{Event}
 use Rattle.cb_core.specs.declared.event.Event.TheVariants as event
 use Rattle.cb_core.specs.FarJobs.{FarLacks}
 use Rattle.cb_core.specs.Holding.{NoOtherHolds}
+use Rattle.cb_core.specs.NowIn.{claim_on, now_in}
 use Rattle.cb_core.specs.Parts.{Holding, at_once, won, was_far}
 use Rattle.cb_core.specs.Parts.WithRoom.{no_room}
 use Rattle.cb_core.specs.Parts.RoomStops.{at_once as lacks_at_once, evicting, after as lacks_after}
@@ -35,6 +37,7 @@ use Rattle.cb_core.specs.Step.SeatTurn.{free}
 use Rattle.cb_core.specs.Turned.{counted}
 use Rattle.cb_core.specs.Unavailable.{brought_by}
 use Rattle.cb_core.proofs.FarJobs.{far_job}
+use Rattle.cb_core.proofs.NowIn.{in_same}
 use Rattle.cb_core.proofs.Rejobbed.{rejobbed, held_as, room_evicts, bring_as}
 use Rattle.cb_core.proofs.Runs.{Going, next_at, split_at}
 use Rattle.cb_core.proofs.StepFixed.{swap_refuses}
@@ -198,20 +201,24 @@ module _ (w new : WorldState) (seat : ℕ) (j : Job) (alone : NoOtherHolds w.sea
       (find_far (job.Swap handle) handle.n away) (bring_as by_job (held_at w j) o handle.n f bring)))
       (record { desk = z.desk; far = z.far; seats = seats })
 
+  claims : (h : ℕ) → claim_on new.seats h ≡ claim_on w.seats h
+  claims h = ap (λ (all : List SeatState). claim_on all h) seats
+
   kept_left : (n : Holding Words) (s : Shown) → (kept : HasKept (held_at w j) n s)
       → IsLeft n (held_then new)
-      → (t : Shown) × IsKnown new.desk new.far t × ((h : ℕ) → now t new.far h ≡ now s w.far h)
+      → (t : Shown) × IsKnown new.desk new.far t × ((h : ℕ) → now_in new t h ≡ now_in w s h)
   kept_left n s kept z = (
     kept.shown,
     z.known kept.shown kept.known,
-    λ h. left_now n (held_then new) kept.shown h z ∙ kept.same_now h,
+    λ h. in_same w new s kept.shown claims h
+        (left_now n (held_then new) kept.shown h z ∙ kept.same_now h),
   )
 
   world_holds : HasRoom (held_at w j) (held_then new) (brought_by j) → HoldsAsBefore w new
   world_holds (none z) s k = (
     s,
     z.known s (once_known w j s k),
-    λ h. left_now (held_at w j) (held_then new) s h z,
+    λ h. in_same w new s s claims h (left_now (held_at w j) (held_then new) s h z),
   )
   world_holds (evicted n id evict z) s k =
       kept_left n s (kept_room (held_at w j) n (Set id) s (once_known w j s k) evict) z
@@ -227,7 +234,7 @@ leaves_same w new e same = record {
     seats = ap (λ (v : WorldState). v.seats) same;
   });
   holds = λ s k. subst (λ (v : WorldState).
-      (t : Shown) × IsKnown v.desk v.far t × ((h : ℕ) → now t v.far h ≡ now s w.far h))
+      (t : Shown) × IsKnown v.desk v.far t × ((h : ℕ) → now_in v t h ≡ now_in w s h))
       (sym same) (s, k, λ h. refl);
   seats = ap (λ (v : WorldState). v.seats) same;
 }

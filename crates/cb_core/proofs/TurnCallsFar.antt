@@ -86,7 +86,7 @@ swap_ends a b h r s k (home, at, z, hold) never =
         came f refl (whole e) (home_comes_in a.desk b.desk a.far b.far s then.0 h home f k then.1 at y).reads.here
 
 -- an object whose set is broken is gone, and no other is
-pub never_gone : (s : Shown) (h v : ℕ) (o : Object) → now_as s h false o ≡ gone v → ⊥
+never_gone : (s : Shown) (h v : ℕ) (o : Object) → now_as s h false o ≡ gone v → ⊥
 never_gone s h v (is.Empty zero) e = cc
 never_gone s h v (is.Empty (suc u)) e = cc
 never_gone s h v (is.Far len u words) e = cc

@@ -8,7 +8,6 @@ use Rattle.cb_types.specs.declared.reply.Reply.{Reply}
 use Rattle.cb_types.specs.declared.reply.Reply.TheVariants as answer
 use Rattle.cb_world.specs.declared.shown.Shown.{Shown}
 use Rattle.cb_world.specs.FarState.{FarState}
-use Rattle.cb_world.specs.Now.{now}
 use Rattle.cb_world.specs.Plain.{Words}
 use Rattle.cb_world.specs.Seats.{SeatState, pins_of_seat}
 use Rattle.cb_world.specs.World.{WorldState, IsKnown, IsSoundWorld, empty_world}
@@ -16,6 +15,7 @@ use Rattle.cb_evict.specs.EvictStep.{few_spans, few_nodes, made}
 use Rattle.cb_core.specs.declared.event.Atomic.TheVariants.{Load}
 use Rattle.cb_core.specs.declared.event.Event.{Event}
 use Rattle.cb_core.specs.declared.event.Event.TheVariants as event
+use Rattle.cb_core.specs.NowIn.{claim_on, now_in, now_with}
 use Rattle.cb_core.specs.Run.{IsSameBut, HoldsAsBefore, MakesRoom, nothing, evicts, brings, LeavesAsBefore, LeavesPrefix, LeadsSoundly, seat_of}
 use Rattle.cb_core.specs.Step.{Step, worn, done}
 use Rattle.cb_core.specs.Step.SeatTurn.{held as is_held, free as is_free}
@@ -154,10 +154,11 @@ leaves_another_pin z = leaves_a_pin z.room
 
 -- an object that holds something else
 holds_another : (v new : WorldState) (s t : Shown) (h : ℕ) → IsKnown v.desk v.far s
-    → IsKnown new.desk new.far t → (now t new.far h ≡ now s v.far h → ⊥) → HoldsAsBefore v new → ⊥
+    → IsKnown new.desk new.far t → (now_in new t h ≡ now_in v s h → ⊥) → HoldsAsBefore v new → ⊥
 holds_another v new s t h k l off holds =
     let after = holds s k in
-    off (known_same new.desk new.far after.0 t h after.1 l ∙ after.2 h)
+    off (ap (now_with (claim_on new.seats h)) (known_same new.desk new.far after.0 t h after.1 l)
+    ∙ after.2 h)
 
 -- ---- what a run leaves
 abbrev look : Event

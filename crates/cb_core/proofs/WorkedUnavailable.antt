@@ -14,16 +14,12 @@ use Rattle.cb_types.specs.declared.job.Job.TheVariants as job
 use Rattle.cb_types.specs.declared.reply.Reply.{Reply}
 use Rattle.cb_types.specs.declared.reply.Reply.TheVariants as answer
 use Rattle.cb_world.specs.declared.homes.Home.{Home}
-use Rattle.cb_world.specs.declared.shown.Shown.{Shown}
 use Rattle.cb_world.specs.FarState.{FarState}
-use Rattle.cb_world.specs.Now.{Now, now}
-use Rattle.cb_world.specs.Now.Now.{gone, held}
 use Rattle.cb_world.specs.Sets.{set_in}
 use Rattle.cb_world.specs.World.{WorldState}
 use Rattle.cb_core.specs.declared.event.Atomic.TheVariants as atomic
 use Rattle.cb_core.specs.declared.event.Event.{Event}
 use Rattle.cb_core.specs.declared.event.Event.TheVariants as event
-use Rattle.cb_core.specs.GoneFar.{AreGone}
 use Rattle.cb_core.specs.Unavailable.{IsLost, asked_by, IsMade, TellsUnavailable, LeadsTelling}
 use Rattle.cb_core.proofs.WorkedPins.{desk, away, calm, seat_with}
 use Rattle.cb_core.proofs.WorkedRoom.{counts, far_of, first_down, span_with}
@@ -223,25 +219,3 @@ ends_elsewhere : (other : WorldState) → (other ≡ lost_world → ⊥)
     → LeadsTelling lost_world (event.Step 0 (atomic.Load handle) ∷ []) (answer.Word 16385 ∷ []) other
     → ⊥
 ends_elsewhere other not leads = not (leads.3 ∙ leads.1.1)
-
--- ---- objects that are gone
-abbrev version_of : Now → ℕ
-version_of (gone v) = v
-version_of n = 9
-
-holds_on : (s : Shown) → AreGone lost_world s → now s lost_world.far 0 ≡ gone 3
-holds_on s z = z.each 0 five both_lost is_lost
-
-held_though_lost : (s : Shown) → now s lost_world.far 0 ≡ held 3 [] → AreGone lost_world s → ⊥
-held_though_lost s is z = held_gone (sym is ∙ holds_on s z)
-  where
-    held_gone : held 3 [] ≡ gone 3 → ⊥
-    held_gone e = cc
-
-gone_at_another : (s : Shown) → now s lost_world.far 0 ≡ gone 4 → AreGone lost_world s → ⊥
-gone_at_another s is z = let e : 4 ≡ 3 = (z.only 0 4 is).0 in absurd (omega (arith, e))
-
-gone_though_near : (s : Shown) → now s (world both_down calm).far 0 ≡ gone 3
-    → AreGone (world both_down calm) s → ⊥
-gone_though_near s is z = let lost = (z.only 0 3 is).1.2 in
-    let e : 2 ≡ 1 = ap state_number lost.away in absurd (omega (arith, e))

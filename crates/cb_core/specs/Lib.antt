@@ -14,6 +14,6 @@ pub mod Step
 pub mod Events
 pub mod Unmoved
 pub mod Unavailable
-pub mod GoneFar
 pub mod Run
+pub mod NowIn
 pub mod Called

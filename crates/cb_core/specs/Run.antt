@@ -7,11 +7,11 @@ use Rattle.cb_types.specs.declared.reply.Reply.{Reply}
 use Rattle.cb_types.specs.declared.reply.Reply.TheVariants as answer
 use Rattle.cb_world.specs.declared.shown.Shown.{Shown}
 use Rattle.cb_world.specs.FarState.{FarState}
-use Rattle.cb_world.specs.Now.{now}
 use Rattle.cb_world.specs.Survey.{no_survey}
 use Rattle.cb_world.specs.World.{WorldState, IsKnown, IsSoundWorld}
 use Rattle.cb_core.specs.declared.event.Event.{Event}
 use Rattle.cb_core.specs.declared.event.Event.TheVariants as event
+use Rattle.cb_core.specs.NowIn.{now_in}
 use Rattle.cb_core.specs.Step.{Step, Leads, Stops}
 use Rattle.cb_core.specs.Unavailable.{asked_by}
 
@@ -56,7 +56,7 @@ pub record IsSameBut (w new : WorldState) : Type 0 where
 -- what each object holds is what it held
 abbrev pub HoldsAsBefore : WorldState → WorldState → Type 0
 HoldsAsBefore w new = (s : Shown) → IsKnown w.desk w.far s
-    → (t : Shown) × IsKnown new.desk new.far t × ((h : ℕ) → now t new.far h ≡ now s w.far h)
+    → (t : Shown) × IsKnown new.desk new.far t × ((h : ℕ) → now_in new t h ≡ now_in w s h)
 
 -- the seat of an event
 abbrev pub seat_of : Event → ℕ

@@ -1,10 +1,9 @@
 -- What a run keeps while it answers the lines of a script.
-use Rattle.std.proofs.Common.{◌≡◌, ◌⊎◌, ℕ, zero, suc, ◌+◌, ◌<◌, ◌≤◌, List, [], ◌∷◌, ◌++◌, length, Bool, true, false, cond, Option, None, Some, refl, sym, ap, ◌∙◌, subst, arith, lit≤, inl, inr, get_or, replicate, take, map}
+use Rattle.std.proofs.Common.{◌≡◌, ◌⊎◌, ℕ, zero, suc, ◌+◌, ◌<◌, ◌≤◌, List, [], ◌∷◌, ◌++◌, length, Bool, true, false, cond, Option, None, Some, refl, sym, ap, ◌∙◌, subst, arith, lit≤, inl, inr, get_or, take, map}
 use Rattle.std.specs.List.{AllByRecursion, cons_option}
 use Rattle.std.specs.Str.{bytes_eq}
 use Rattle.std.proofs.lemmas.List.Elements.{filter_map-append}
-use Rattle.std.proofs.lemmas.Bool.{cases_lt}
-use Rattle.std.proofs.lemmas.List.{get_or-replicate, get_or_past, map_push, take_more, length_push}
+use Rattle.std.proofs.lemmas.List.{map_push, take_more, length_push}
 use Rattle.cb_member.specs.declared.names.Loss.{Loss}
 use Rattle.cb_types.specs.declared.answer.Answer.{Answer}
 use Rattle.cb_types.specs.declared.config.Config.{Config}
@@ -28,7 +27,7 @@ use Rattle.cb_script.specs.declared.script.Line.{Line}
 use Rattle.cb_script.specs.Form.{IsRequest, AreLines}
 use Rattle.cb_world.specs.FarState.{FarState}
 use Rattle.cb_world.specs.OpenSteps.{NoneHolds}
-use Rattle.cb_world.specs.Seats.{SeatState, idle_seat, pins_of_seat}
+use Rattle.cb_world.specs.Seats.{pins_of_seat}
 use Rattle.cb_world.specs.World.{WorldState, IsSoundWorld, empty_world}
 use Rattle.cb_mutate.specs.MapBeside.{IsMapBeside}
 use Rattle.cb_mutate.proofs.Laws.{is_map_reply, is_map_make, beside_kept, empty_beside}
@@ -47,7 +46,7 @@ use Rattle.cb_lanes.specs.Names.{Names, kept_number, handle_at, handle_in, numbe
 use Rattle.cb_lanes.specs.Scopes.{KeepScopes, ScopeSays, scope_of}
 use Rattle.cb_lanes.proofs.GivingBack.{unpin_stands, gives_all}
 use Rattle.cb_lanes.proofs.LineGoes.{read_goes, write_goes, free_goes, filter_goes, make_goes}
-use Rattle.cb_lanes.proofs.Lone.{line_lone, rests_lone, turn_alone}
+use Rattle.cb_lanes.proofs.Lone.{empty_lone, line_lone, rests_lone, turn_alone}
 use Rattle.cb_lanes.proofs.NamesKept.{name_within}
 use Rattle.cb_lanes.proofs.Pinning.{pin_goes, pin_settings, peek_goes, unpin_goes, leave_goes}
 use Rattle.cb_lanes.proofs.Scoping.{Scoped, line_scoped}
@@ -431,13 +430,6 @@ empty_map c ok sound =
     beside_kept [] (empty_shown 1 c) sound.shown (empty_far 1 c) (empty_far 1 c) (empty_beside c) refl
     (λ k. now_same (empty_words c) (empty_shown 1 c) sound.shown (empty_far 1 c) k (empty_shows 1 c)
     (empty_sound 1 c (lit≤ tt) (let n = (ok Nodes).1 in omega (arith, n))) sound.known.shows sound.known.sound)
-
--- at first no seat holds the far lock
-empty_lone : NoneHolds (replicate 64 idle_seat)
-empty_lone k = elim (cases_lt k 64) [
-  | inl low ↦ ap (λ (x : SeatState). x.holds) (get_or-replicate 64 k idle_seat idle_seat low)
-  | inr past ↦ ap (λ (x : SeatState). x.holds) (get_or_past (replicate 64 idle_seat) k idle_seat past)
-]
 
 -- nothing was answered yet
 pub along_none : (c : Config) (later : List ℕ) (w : WorldState) (names : Names) → IsAccepted c

@@ -1,7 +1,8 @@
 -- No line takes the far lock. So no seat holds it while lines are answered, and no turn of a line is
 -- refused for it.
-use Rattle.std.proofs.Common.{◌≡◌, ℕ, zero, suc, List, [], ◌∷◌, map, Option, None, Some, refl, sym, ap, ◌∙◌, subst}
-use Rattle.std.specs.List.{remove}
+use Rattle.std.proofs.Common.{◌≡◌, ℕ, zero, suc, List, [], ◌∷◌, map, replicate, Option, None, Some, refl, sym, ap, ◌∙◌, subst, inl, inr}
+use Rattle.std.proofs.lemmas.Bool.{cases_lt}
+use Rattle.std.proofs.lemmas.List.{get_or-replicate, get_or_past}
 use Rattle.cb_types.specs.declared.job.Job.{Job}
 use Rattle.cb_types.specs.declared.job.Job.TheVariants as job
 use Rattle.cb_types.specs.declared.request.Request.{Request}
@@ -9,14 +10,25 @@ use Rattle.cb_types.specs.declared.request.Request.TheVariants.{Make, Read, Writ
 use Rattle.cb_types.specs.declared.reply.Reply.{Reply}
 use Rattle.cb_world.specs.declared.seats.Pin.{Pin as SeatPin}
 use Rattle.cb_world.specs.OpenSteps.{NoneHolds}
-use Rattle.cb_world.specs.Seats.{SeatState, seat_at, with_pins}
+use Rattle.cb_world.specs.Seats.{SeatState, idle_seat, seat_at, with_pins}
 use Rattle.cb_world.specs.World.{WorldState}
 use Rattle.cb_world.proofs.Laws.{seat_beside}
 use Rattle.cb_core.specs.declared.event.Event.TheVariants.{Turn}
+use Rattle.cb_core.specs.Holding.{NoOtherHolds}
 use Rattle.cb_core.specs.Pinning.{PinStep, scope_full, refused, taken, UnpinStep, not_pinned as no_pin, given}
 use Rattle.cb_core.specs.Step.{Leads, Step, TurnStep, worn, done, held as other_holds, free}
 use Rattle.cb_lanes.specs.GivingBack.{end_of, GivesAll, Rests}
 use Rattle.cb_lanes.specs.LineStep.{LineStep, ObjectStep, OtherStep, job_of, PeekStep, not_pinned, shown, PinLine, at_once, stays_far, swapped_in}
+
+-- at first no seat holds the far lock
+pub empty_lone : NoneHolds (replicate 64 idle_seat)
+empty_lone k = elim (cases_lt k 64) [
+  | inl low ↦ ap (λ (x : SeatState). x.holds) (get_or-replicate 64 k idle_seat idle_seat low)
+  | inr past ↦ ap (λ (x : SeatState). x.holds) (get_or_past (replicate 64 idle_seat) k idle_seat past)
+]
+
+pub lone_other : (seats : List SeatState) (seat : ℕ) → NoneHolds seats → NoOtherHolds seats seat
+lone_other seats seat lone other holds = absurd (let e = sym (lone other) ∙ holds in cc)
 
 -- ---- turns
 

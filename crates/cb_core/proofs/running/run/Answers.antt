@@ -5,7 +5,7 @@ use Rattle.cb_core.specs.Run.{LeavesPrefix, RunStops}
 use Rattle.cb_core.specs.Called.{StandsBeside}
 use Rattle.cb_core.proofs.PinnedStays.{leads_pinned}
 use Rattle.cb_core.proofs.RunLegal.{run_legal, run_from_empty, empty_stands}
-use Rattle.cb_core.proofs.Runs.{going_more, going_all, going_stops, going_ends, only_leads, of_error, event_at, run_events}
+use Rattle.cb_core.proofs.Runs.{going_more, going_all, going_stops, going_ends, only_leads, of_error, event_at}
 use Rattle.cb_core.proofs.Stopping.{prefix_ends, prefix_stops}
 use Rattle.cb_core.proofs.Unavailables.{leads_telling}
 use Rattle.cb_core.proofs.running.run.Goals as goal
@@ -35,26 +35,26 @@ pub returns-clause-pinned : goal.returns-clause-pinned
 returns-clause-pinned c = leads_pinned c.args.events.now c.loop-event.replies c.args.world.now
     c.loop-event.world (going_all c.args.world.now c.args.events.now c.loop-event.event-index
     c.loop-event.replies c.loop-event.world c.loop-event.invariant c.loop-event-test.false)
-    (run_events c.args.world.now.desk.settings c.args.events.now c.requires.events) c.requires.sound
+    c.requires.events c.requires.sound
 
 pub returns-clause-unavailable : goal.returns-clause-unavailable
 returns-clause-unavailable c = leads_telling c.args.events.now c.loop-event.replies c.args.world.now
     c.loop-event.world (going_all c.args.world.now c.args.events.now c.loop-event.event-index
     c.loop-event.replies c.loop-event.world c.loop-event.invariant c.loop-event-test.false)
-    (run_events c.args.world.now.desk.settings c.args.events.now c.requires.events) c.requires.sound
+    c.requires.events c.requires.sound
 
 pub returns-clause-legal : goal.returns-clause-legal
-returns-clause-legal c before stands = run_legal c.args.events.now c.loop-event.replies c.args.world.now
+returns-clause-legal c before claims stands = run_legal c.args.events.now c.loop-event.replies c.args.world.now
     c.loop-event.world (going_all c.args.world.now c.args.events.now c.loop-event.event-index
     c.loop-event.replies c.loop-event.world c.loop-event.invariant c.loop-event-test.false)
-    c.requires.events c.requires.sound before stands
+    c.requires.events c.requires.sound before claims stands
 
 pub returns-clause-from_empty : goal.returns-clause-from_empty
 returns-clause-from_empty c empty = run_from_empty c.args.events.now c.loop-event.replies
     c.args.world.now c.loop-event.world (going_all c.args.world.now c.args.events.now
     c.loop-event.event-index c.loop-event.replies c.loop-event.world c.loop-event.invariant
     c.loop-event-test.false) c.requires.events c.requires.sound
-    (subst (StandsBeside []) (sym empty) (empty_stands c.args.world.now.desk.settings
+    (subst (StandsBeside [] []) (sym empty) (empty_stands c.args.world.now.desk.settings
     c.requires.sound.config))
 
 pub returns-in_err-reply-clause-stops : goal.returns-in_err-reply-clause-stops
