@@ -72,6 +72,11 @@ pub mod TurnCallsBatch
 pub mod TurnCallsFirst
 pub mod TurnCalls
 pub mod TurnCallsUnavailable
+pub mod Unavailables
+pub mod Rejobbed
+pub mod Stopping
+pub mod WorkedUnavailable
+pub mod WorkedStops
 pub mod TurnCallsPinned
 pub mod TurnCallsUnpinned
 pub mod Calm

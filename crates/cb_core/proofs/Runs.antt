@@ -71,12 +71,12 @@ event_at c (x ∷ events) zero e all lt at = subst (IsEvent c) (sym at) all.0
 event_at c (x ∷ events) (suc i) e all lt at = event_at c events i e all.1 (omega (arith, lt)) at
 
 -- a list is its first items and the others
-split_at : (i : ℕ) (events : List Event) → events ≡ take i events ++ drop i events
+pub split_at : (i : ℕ) (events : List Event) → events ≡ take i events ++ drop i events
 split_at zero events = refl
 split_at (suc i) [] = refl
 split_at (suc i) (x ∷ events) = ap (λ (es : List Event). x ∷ es) (split_at i events)
 
-next_at : (i : ℕ) (events : List Event) (e : Event) → i < length events → e ≡ get_or events i e
+pub next_at : (i : ℕ) (events : List Event) (e : Event) → i < length events → e ≡ get_or events i e
     → drop i events ≡ e ∷ drop (i + 1) events
 next_at zero (x ∷ events) e lt at = ap (λ (y : Event). y ∷ events) (sym at)
 next_at (suc i) (x ∷ events) e lt at =

@@ -5,8 +5,9 @@ ghost use Rattle.cb_model.specs.Legal.{Follow, AreLegal};
 ghost use Rattle.cb_world.specs.World.{IsSoundWorld, empty_world};
 ghost use Rattle.cb_core.specs.Called.{ClaimCall, calls_by, claims_by, StandsBeside};
 ghost use Rattle.cb_core.specs.Events.{IsEvent};
-ghost use Rattle.cb_core.specs.Run.{LeadsSoundly, RunStops};
+ghost use Rattle.cb_core.specs.Run.{LeadsSoundly, LeavesPrefix, RunStops};
 ghost use Rattle.cb_core.specs.Step.{Leads};
+ghost use Rattle.cb_core.specs.Unavailable.{LeadsTelling};
 ghost use Rattle.cb_core.specs.Unmoved.{LeadsPinned};
 
 use crate::event::Event;
@@ -16,9 +17,15 @@ use cb_types::NoMemory;
 use cb_world::World;
 use std::alloc::Global;
 
-/// Events one after another, with the reply to each. The world is sound after each of them. Where
-/// there is no memory, some first events took place, and the next one stopped, or its reply or none
-/// was done.
+/// Events one after another, with the reply to each. The world is sound after each of them.
+///
+/// Where there is no memory, the world is left to which some first events led, or that world once
+/// room was made for the next event, by an eviction or by the swap-in of its object; the counts of
+/// turns and of rows that were given out are left out of this. What each object holds, pins and
+/// open writes are as those first events left them.
+///
+/// An event is answered Unavailable exactly where it is a turn that is to bring in a far object
+/// whose set has lost more shards than it has parities.
 ///
 /// The completed calls among the events are legal in their order: makes, turns on objects, pins and
 /// writes in steps, but for those of which the reply says nothing of any object (Worn, ScopeFull,
@@ -51,8 +58,11 @@ pub fn run(alloc: Global, world: &mut World, events: &[Event]) -> Result<Replies
         × StandsBeside (calls_by [] [] events.now replies) (claims_by [] events.now replies)
         world.new) }
     ensures pinned { IfOk result (λ replies. LeadsPinned world.old events.now replies world.new) }
+    ensures unavailable { IfOk result (λ replies.
+        LeadsTelling world.old events.now replies world.new) }
     ensures sound { IsSoundWorld world.new }
-    ensures error { OnErr result (RunStops world.old events.now world.new) }
+    ensures error { OnErr result (LeavesPrefix world.old events.now world.new) }
+    ensures stops { OnErr result (RunStops world.old events.now world.new) }
 {
     let mut replies = Replies::new(alloc);
     for event in events {
