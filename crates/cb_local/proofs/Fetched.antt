@@ -1,5 +1,5 @@
 -- The rows that an order for the joining pair takes are those of the words of its sets.
-use Rattle.std.proofs.Common.{◌≡◌, ℕ, ◌+◌, ◌*◌, ◌<◌, ◌≤◌, All, List, [], length, get_or, Some, refl, sym, ap, ◌∙◌, subst, arith}
+use Rattle.std.proofs.Common.{◌≡◌, ◌∷◌, ℕ, zero, suc, ◌+◌, ◌*◌, ◌^◌, ◌<◌, ◌≤◌, All, List, [], length, get_or, Some, refl, sym, ap, ◌∙◌, subst, arith}
 use Rattle.std.specs.List.{slice_get}
 use Rattle.std.specs.List.Sorted.{IsStrictlyIncreasing}
 use Rattle.std.proofs.lemmas.List.{get_or_default}
@@ -15,7 +15,7 @@ use Rattle.cb_world.specs.Joining.{JoiningState}
 use Rattle.cb_world.specs.Merged.{AreTaken}
 use Rattle.cb_world.specs.SetWord.{IsSpanWord, IsWordOf}
 use Rattle.cb_world.specs.Stored.{AreThere}
-use Rattle.cb_compact.specs.Deltas.{HaveAllRows, StandTogether}
+use Rattle.cb_compact.specs.Deltas.{HaveAllRows, IsOfCode, StandTogether}
 use Rattle.cb_compact.proofs.Laws.{fresh_code, fresh_together, fresh_words, taken_few as few_taken}
 use Rattle.cb_local.specs.Delta.{IsOrder, width}
 use Rattle.cb_local.specs.Fetching.{AreFetched, CanFetch, HasOrder, IsBlank, IsFetched, rows_given}
@@ -159,3 +159,61 @@ module _ (nodes : NodesState) (pair : JoiningState) (order : DeltaOrder)
           parity_rows = λ j l. pars wa wb x j (omega (arith, l, size)) ∙ ap (row_at wa) (are j l);
         };
       }
+
+-- along equations of shards and positions
+pub stand_along : (nodes : NodesState) (shards other : List Shard) (w : List (List ℕ))
+    (ps qs : List ℕ) → shards ≡ other → ps ≡ qs → StandAt nodes shards w ps
+    → StandAt nodes other w qs
+stand_along nodes shards other w ps qs e f stand =
+    subst (λ (t : List Shard). StandAt nodes t w qs) e
+    (subst (λ (t : List ℕ). StandAt nodes shards w t) f stand)
+
+-- ---- the joining pair's order
+module _ (s : Shown) (far : FarState) (pair : JoiningState) (a b : SetState)
+    (h : HasOrder s far pair a b) where
+  pub pair_taken : All (λ p. p < length a.positions) pair.taken
+  pair_taken = taken_below (length a.positions) pair.taken
+      (fresh_code s far pair a b h.sound h.fresh).taken
+
+  pub pair_few : length pair.taken ≤ 16
+  pair_few =
+      let c = fresh_code s far pair a b h.sound h.fresh in
+      let l = few_taken (length a.positions) pair.taken c.taken in
+      let m = c.range.data_most in omega (arith, l, m)
+
+  pub pair_small : All (λ p. p < 2 ^ 8) pair.taken
+  pair_small i d l =
+      let c = fresh_code s far pair a b h.sound h.fresh in
+      let p = pair_taken i d l in let m = c.range.data_most in omega (arith, p, m)
+
+  pub pair_rows : rows_given pair.taken (parities a) ≤ 36
+  pair_rows =
+      let c = fresh_code s far pair a b h.sound h.fresh in
+      let l = pair_few in let m = c.range.parities_most in omega (arith, l, m)
+
+  module _ (order : DeltaOrder) (blank : IsBlank pair (length a.positions) (parities a) order) where
+    at_code : (P : ℕ → ℕ → Type 0) → P (length a.positions) (parities a) → P order.k order.r
+    at_code P x =
+        subst (λ (k : ℕ). P k order.r) (sym blank.k_is)
+        (subst (λ (r : ℕ). P (length a.positions) r) (sym blank.r_is) x)
+
+    pub can_fetch : CanFetch far.nodes pair order
+    can_fetch = record {
+      code = at_code (IsOfCode far.nodes pair) (fresh_code s far pair a b h.sound h.fresh);
+      ascend = h.ascend;
+      blank = at_code (λ k r. IsBlank pair k r order) blank;
+      words = at_code (λ k r. (wa wb : List (List ℕ)) × StandTogether far.nodes pair k r wa wb)
+          (fresh_words s far pair a b h.sound h.fresh);
+    }
+
+    pub is_fetched : (new : DeltaOrder) → AreFetched far.nodes pair order new
+        → IsFetched far pair a b new
+    is_fetched new x = record {
+      order_is = x.order;
+      taken_is = x.taken_is;
+      k_is = x.k_is ∙ blank.k_is;
+      r_is = x.r_is ∙ blank.r_is;
+      words = λ wa wb xa xb. x.words wa wb (at_code
+          (λ k r. StandTogether far.nodes pair k r wa wb)
+          (fresh_together s far pair a b h.sound h.fresh wa wb xa xb));
+    }

@@ -17,16 +17,17 @@ use Rattle.cb_compact.specs.Pairing.{numbered}
 use Rattle.cb_compact.specs.MergeStep.{moved_count}
 use Rattle.cb_compact.specs.Standing.{IsFreshPair, with_parted}
 use Rattle.cb_compact.specs.Steps.{is_undone}
-use Rattle.cb_compact.proofs.Laws.{dropped_given, ends_merged, fresh_code, gone_all, gone_sets, gone_sound, gone_there, taken_few}
+use Rattle.cb_compact.proofs.Laws.{dropped_given, ends_merged, fresh_code, gone_all, gone_sets, gone_sound, gone_there, none_gone, taken_few}
 use Rattle.cb_local.specs.Delta.{DoneState}
-use Rattle.cb_local.specs.Fetching.{far_given, rows_given}
+use Rattle.cb_local.specs.Fetching.{IsMade, far_given, rows_given}
 use Rattle.cb_local.specs.LocalGoing.{EndsHere, EndsMergedHere, HasGoneGiving, IsBegunPair, IsStopped}
 use Rattle.cb_local.specs.Putting.{ArePut, with_count}
 use Rattle.cb_local.proofs.Counted.{dropped_counted, fresh_counted, merged_counted, sound_counted}
-use Rattle.cb_local.proofs.Taking.{taken_below, taken_sound}
+use Rattle.cb_local.specs.Rooms.{AllHaveRoom}
+use Rattle.cb_local.proofs.Taking.{none_taken, taken_below, taken_sound}
 
 -- how many rows are given at most
-pub rows_few : (s : Shown) (begun : FarState) (pair : JoiningState) (a b : SetState)
+rows_few : (s : Shown) (begun : FarState) (pair : JoiningState) (a b : SetState)
     → Sound s begun → IsFreshPair begun pair a b → rows_given pair.taken (parities a) ≤ 36
 rows_few s begun pair a b sound fresh =
     let c = fresh_code s begun pair a b sound.away fresh in
@@ -112,3 +113,30 @@ undone_stops begun far new keys x same undo =
           ∙ ap (λ (f : FarState). with_count f far.nodes.given) x.gone.back
           ∙ ap (with_count (without_pair begun)) x.given;
     }
+
+-- ---- before the first row
+pub stopped_first : (s : Shown) (begun new : FarState) (pair : JoiningState) (a b : SetState)
+    → IsBegunPair s begun pair a b
+    → (rows : ℕ) × (rows ≤ 36) × (new ≡ far_given begun rows) → HasGoneGiving begun new
+stopped_first s begun new pair a b is x = record {
+  n = 0;
+  gone = subst (λ (f : FarState). HasGone begun (with_count f begun.nodes.given) 0) (sym x.2)
+      (none_gone begun pair a b is.fresh is.undone);
+  rows = x.0;
+  few = x.1;
+  given = ap (λ (f : FarState). f.nodes.given) x.2;
+}
+
+pub put_none : (done : DoneState) (s : Shown) (begun : FarState) (pair : JoiningState)
+    (a b : SetState) (far : FarState) → IsBegunPair s begun pair a b → AllHaveRoom begun pair a
+    → IsMade begun pair a b done → far ≡ far_given begun (rows_given pair.taken (parities a))
+    → ArePut done s begun pair a b far 0
+put_none done s begun pair a b far is rooms made state =
+    subst (λ (f : FarState). ArePut done s begun pair a b f 0) (sym state) (record {
+      sound = is.sound;
+      made = made;
+      rooms = rooms;
+      few = is.few;
+      taken = none_taken begun pair a b is.fresh is.undone;
+      given = refl;
+    })

@@ -76,8 +76,12 @@ module _ (s : Shown) (begun : FarState) (first : JoiningState) (a b : SetState) 
     (is : IsBegunPair s begun first a b) (x : IsFirstFull begun first a node) where
   before : AreBefore s begun first a b is.sound x.position
   before =
-      all_before s begun first a b is.sound x.position 0 begun
-      (none_taken begun first a b is.fresh is.undone) x.before (let l = x.within in omega (arith, l))
+      let e : 0 + x.position ≡ x.position = omega arith in
+      subst (AreBefore s begun first a b is.sound) e
+      (all_before s begun first a b is.sound x.position 0 begun
+      (none_taken begun first a b is.fresh is.undone)
+      (λ q old l h. x.before q old l (omega (arith, h)))
+      (let l = x.within in omega (arith, l)))
 
   is_full : IsFull before.far before.taken.pair a before.far (answer.NodeFull node)
   is_full = let t = before.taken in record {

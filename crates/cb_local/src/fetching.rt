@@ -14,11 +14,11 @@ ghost use Rattle.cb_local.specs.Fetching.{AreFetched, CanFetch, HasOrder, IsBlan
 use crate::order::{DeltaDone, DeltaOrder};
 use crate::running::run_delta;
 use cb_compact::{data_count, parity_count};
-use cb_gf256::{NoMemory, Rows};
+use cb_gf256::Rows;
 use cb_member::Shard;
 use cb_node::Nodes;
 use cb_set::MOST_POSITIONS;
-use cb_types::Positions;
+use cb_types::{NoMemory, Positions};
 use cb_world::{Far, Joining};
 use std::alloc::Global;
 
@@ -71,7 +71,12 @@ fn parity_positions(k: u32, r: u32) -> [u32; 4]
 
 /// An order for a joining pair of sets with `k` data rows and `r` parities, whose rows are still to
 /// be fetched: all their bytes are zero.
-fn blank_order(alloc: Global, pair: &Joining, k: u32, r: u32) -> Result<DeltaOrder, NoMemory>
+fn blank_order(
+    alloc: Global,
+    pair: &Joining,
+    k: u32,
+    r: u32,
+) -> Result<DeltaOrder, cb_gf256::NoMemory>
     requires few { length pair.now.taken ≤ 20 }
     requires small { All (λ p. p < 2 ^ 8) pair.now.taken }
     ensures { IfOk result (IsBlank pair.now k r) }
@@ -96,7 +101,7 @@ fn blank_order(alloc: Global, pair: &Joining, k: u32, r: u32) -> Result<DeltaOrd
 /// the parities of a.
 fn fetch_rows(nodes: &mut Nodes, pair: &Joining, order: &mut DeltaOrder)
     requires given { nodes.old.given + 36 < 2 ^ 64 }
-    requires ready { CanFetch nodes.old pair.now order.entry.now }
+    requires ready { CanFetch nodes.old pair.now order.now }
     ensures nodes { nodes.new ≡ with_given nodes.old
         (rows_given pair.now.taken order.entry.now.r) }
     ensures rows { AreFetched nodes.old pair.now order.entry.now order.exit.now }
@@ -121,15 +126,18 @@ fn new_order(alloc: Global, far: &Far) -> Result<DeltaOrder, NoMemory>
         → IsBlank pair (length a.positions) (parities a) order) }
 {
     let pair = far.joining.as_ref().unwrap();
-    blank_order(alloc, pair, data_count(far), parity_count(far))
+    match blank_order(alloc, pair, data_count(far), parity_count(far)) {
+        Ok(order) => Ok(order),
+        Err(_) => Err(NoMemory),
+    }
 }
 
 /// Fetches the rows of the order for the joining pair.
 fn fill_order(far: &mut Far, order: &mut DeltaOrder)
     requires given { far.old.nodes.given + 36 < 2 ^ 64 }
     requires ready { (s : Shown) × (pair : JoiningState) × (a : SetState) × (b : SetState)
-        × HasOrder s far.old pair a b × IsBlank pair (length a.positions) (parities a)
-        order.entry.now }
+        × HasOrder s far.old pair a b
+        × IsBlank pair (length a.positions) (parities a) order.now }
     ensures far { (pair : JoiningState) (a b : SetState) → IsFreshPair far.old pair a b
         → far.new ≡ far_given far.old (rows_given pair.taken (parities a)) }
     ensures order { (pair : JoiningState) (a b : SetState) → IsFreshPair far.old pair a b
