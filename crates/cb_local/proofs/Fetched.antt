@@ -1,6 +1,5 @@
 -- The rows that an order for the joining pair takes are those of the words of its sets.
-use Rattle.std.proofs.Common.{◌≡◌, ◌∷◌, ℕ, zero, suc, ◌+◌, ◌*◌, ◌^◌, ◌<◌, ◌≤◌, All, List, [], length, get_or, Some, refl, sym, ap, ◌∙◌, subst, arith}
-use Rattle.std.specs.List.{slice_get}
+use Rattle.std.proofs.Common.{◌≡◌, ◌∷◌, ℕ, zero, suc, ◌+◌, ◌^◌, ◌<◌, ◌≤◌, All, List, [], length, get_or, refl, sym, ap, ◌∙◌, subst, arith}
 use Rattle.std.specs.List.Sorted.{IsStrictlyIncreasing}
 use Rattle.std.proofs.lemmas.List.{get_or_default}
 use Rattle.std.proofs.lemmas.Option.{slice_get-get_or}
@@ -10,16 +9,15 @@ use Rattle.cb_node.specs.NodesState.{NodesState}
 use Rattle.cb_set.specs.SetState.{SetState, parities}
 use Rattle.cb_world.specs.declared.shown.Shown.{Shown}
 use Rattle.cb_world.specs.FarState.{FarState}
-use Rattle.cb_world.specs.Fetched.{StandAt, StandsAt, with_given}
+use Rattle.cb_world.specs.Fetched.{StandAt, with_given}
 use Rattle.cb_world.specs.Joining.{JoiningState}
 use Rattle.cb_world.specs.Merged.{AreTaken}
-use Rattle.cb_world.specs.SetWord.{IsSpanWord, IsWordOf}
+use Rattle.cb_world.specs.SetWord.{IsSpanWord}
 use Rattle.cb_world.specs.Stored.{AreThere}
 use Rattle.cb_compact.specs.Deltas.{HaveAllRows, IsOfCode, StandTogether}
 use Rattle.cb_compact.proofs.Laws.{fresh_code, fresh_together, fresh_words, taken_few as few_taken}
 use Rattle.cb_local.specs.Delta.{IsOrder, width}
 use Rattle.cb_local.specs.Fetching.{AreFetched, CanFetch, HasOrder, IsBlank, IsFetched, rows_given}
-use Rattle.cb_local.specs.Words.{IsOfWords}
 use Rattle.cb_local.specs.declared.order.DeltaOrder.{DeltaOrder}
 use Rattle.cb_local.proofs.Merged.{wide_row}
 

@@ -1,7 +1,6 @@
 -- A pair whose rows are all put, and what want of memory leaves of it.
-use Rattle.std.proofs.Common.{◌≡◌, ℕ, ◌+◌, ◌*◌, ◌<◌, ◌≤◌, false, List, length, Option, Some, None, refl, sym, ap, ◌∙◌, subst, arith, inl, inr}
-use Rattle.std.specs.Prelude.{Result, Ok, Err, IfOk, OnErr}
-use Rattle.cb_member.specs.declared.no_memory.NoMemory.{NoMemory}
+use Rattle.std.proofs.Common.{◌≡◌, ℕ, ◌+◌, ◌≤◌, length, Some, None, refl, sym, ap, ◌∙◌, subst, arith}
+use Rattle.std.specs.Prelude.{Ok}
 use Rattle.cb_set.specs.SetState.{SetState, parities}
 use Rattle.cb_types.specs.declared.reply.Reply.{Reply}
 use Rattle.cb_world.specs.declared.shown.Shown.{Shown}
@@ -10,17 +9,16 @@ use Rattle.cb_world.specs.Joining.{JoiningState}
 use Rattle.cb_world.specs.Reserved.{put_shards}
 use Rattle.cb_world.specs.Sound.{Sound}
 use Rattle.cb_world.specs.Stored.{AreThere, all_dropped}
-use Rattle.cb_compact.specs.MergeStep.{IsMerged, replaced_shards, with_merged}
+use Rattle.cb_compact.specs.MergeStep.{IsMerged, replaced_shards}
 use Rattle.cb_compact.specs.Merging.{IsReadyToMerge}
-use Rattle.cb_compact.specs.NowGoing.{EndsFrom, GoesTo, HasGone, with_keys, without_pair}
+use Rattle.cb_compact.specs.NowGoing.{HasGone, with_keys, without_pair}
 use Rattle.cb_compact.specs.Pairing.{numbered}
 use Rattle.cb_compact.specs.MergeStep.{moved_count}
 use Rattle.cb_compact.specs.Standing.{IsFreshPair, with_parted}
-use Rattle.cb_compact.specs.Steps.{is_undone}
-use Rattle.cb_compact.proofs.Laws.{dropped_given, ends_merged, fresh_code, gone_all, gone_sets, gone_sound, gone_there, none_gone, taken_few}
+use Rattle.cb_compact.proofs.Laws.{dropped_given, ends_merged, fresh_code, gone_all, gone_sets, gone_there, none_gone, taken_few}
 use Rattle.cb_local.specs.Delta.{DoneState}
 use Rattle.cb_local.specs.Fetching.{IsMade, far_given, rows_given}
-use Rattle.cb_local.specs.LocalGoing.{EndsHere, EndsMergedHere, HasGoneGiving, IsBegunPair, IsStopped}
+use Rattle.cb_local.specs.LocalGoing.{EndsMergedHere, HasGoneGiving, IsBegunPair, IsStopped}
 use Rattle.cb_local.specs.Putting.{ArePut, with_count}
 use Rattle.cb_local.proofs.Counted.{dropped_counted, fresh_counted, merged_counted, sound_counted}
 use Rattle.cb_local.specs.Rooms.{AllHaveRoom}

@@ -1,10 +1,9 @@
 -- A pair that a full node ends: what the steps before it would have been.
-use Rattle.std.proofs.Common.{◌≡◌, ℕ, zero, suc, ◌+◌, ◌<◌, ◌≤◌, Bool, false, true, List, length, get_or, Option, Some, None, refl, sym, ap, ◌∙◌, subst, arith, inl, inr}
+use Rattle.std.proofs.Common.{◌≡◌, ℕ, zero, suc, ◌+◌, ◌<◌, ◌≤◌, Bool, false, true, List, length, get_or, Some, refl, sym, ap, ◌∙◌, subst, arith}
 use Rattle.std.specs.List.{slice_get}
 use Rattle.std.proofs.lemmas.Option.{same_Some, slice_get-get_or}
 use Rattle.cb_member.specs.declared.names.NodeId.{NodeId}
 use Rattle.cb_member.specs.declared.names.Shard.{Shard}
-use Rattle.cb_node.specs.NodesState.{held}
 use Rattle.cb_set.specs.SetState.{SetState}
 use Rattle.cb_types.specs.declared.reply.Reply.TheVariants as answer
 use Rattle.cb_world.specs.declared.shown.Shown.{Shown}
@@ -12,8 +11,8 @@ use Rattle.cb_world.specs.FarState.{FarState}
 use Rattle.cb_world.specs.Joining.{JoiningState}
 use Rattle.cb_world.specs.Sound.{Sound}
 use Rattle.cb_world.specs.Stored.{all_dropped}
-use Rattle.cb_compact.specs.NowGoing.{GoesTo, IsUndone, without_pair}
-use Rattle.cb_compact.specs.Standing.{IsFreshPair, with_parted}
+use Rattle.cb_compact.specs.NowGoing.{GoesTo, without_pair}
+use Rattle.cb_compact.specs.Standing.{with_parted}
 use Rattle.cb_compact.specs.Steps.{IsFull, is_undone, shard_beside, with_stepped}
 use Rattle.cb_compact.proofs.Laws.{as_fresh, ends_full}
 use Rattle.cb_local.specs.LocalGoing.{EndsFullHere, IsBegunPair}

@@ -1,5 +1,5 @@
 -- Two sets joined in one turn by the compute side: what was the begin, and what is kept.
-use Rattle.std.proofs.Common.{◌≡◌, ◌≢◌, ℕ, ◌+◌, ◌^◌, ◌<◌, ◌≤◌, List, [], length, replicate, zero, suc, Option, Some, None, refl, sym, ap, ◌∙◌, subst, arith, inl, inr}
+use Rattle.std.proofs.Common.{◌≡◌, ℕ, ◌+◌, ◌^◌, ◌<◌, ◌≤◌, [], length, replicate, zero, suc, Option, None, refl, sym, ap, ◌∙◌, subst, arith, inl, inr}
 use Rattle.std.specs.Prelude.{Result, Ok, Err, IfOk, OnErr}
 use Rattle.std.specs.List.{range_with_len}
 use Rattle.std.specs.List.Sorted.{IsStrictlyIncreasing}
@@ -7,25 +7,23 @@ use Rattle.std.proofs.lemmas.List.FromFn.{get_or-range_with_len, length-range_wi
 use Rattle.std.proofs.lemmas.List.Kept.{IsStrictlyIncreasing-filter}
 use Rattle.cb_member.specs.declared.names.NodeId.{NodeId}
 use Rattle.cb_member.specs.declared.no_memory.NoMemory.{NoMemory}
-use Rattle.cb_set.specs.SetState.{SetState, live_at, parities}
+use Rattle.cb_set.specs.SetState.{live_at}
 use Rattle.cb_types.specs.declared.handle.SetId.{SetId}
 use Rattle.cb_types.specs.declared.reply.Reply.{Reply}
 use Rattle.cb_types.specs.declared.reply.Reply.TheVariants as answer
 use Rattle.cb_world.specs.declared.shown.Shown.{Shown}
 use Rattle.cb_world.specs.FarState.{FarState}
 use Rattle.cb_world.specs.Joining.{JoiningState}
-use Rattle.cb_world.specs.Now.{now}
 use Rattle.cb_world.specs.Reserved.{put_shards}
 use Rattle.cb_world.specs.Sound.{Sound}
-use Rattle.cb_compact.specs.NowGoing.{IsUndone, with_keys, without_pair}
+use Rattle.cb_compact.specs.NowGoing.{with_keys, without_pair}
 use Rattle.cb_compact.specs.NowStep.{Ends, NowStep}
-use Rattle.cb_compact.specs.Pairing.{BeginStep, FindsNoPair, IsJoining, IsPaired, begun_pair, live_positions, with_pair}
+use Rattle.cb_compact.specs.Pairing.{BeginStep, IsPaired, begun_pair}
 use Rattle.cb_compact.specs.Standing.{IsFreshPair}
 use Rattle.cb_compact.proofs.Laws.{Keeps, at_joining, at_no_pair, at_pair, keeps_all, now_laws, through}
 use Rattle.cb_local.specs.Fetching.{far_given}
-use Rattle.cb_local.specs.LocalGoing.{EndsFullHere, EndsHere, EndsMergedHere, IsBegunPair, IsStopped}
-use Rattle.cb_local.specs.LocalStep.{IsBeside, IsMergedHere, IsRefused, LocalStep}
-use Rattle.cb_local.specs.Putting.{with_count}
+use Rattle.cb_local.specs.LocalGoing.{EndsHere, IsBegunPair, IsStopped}
+use Rattle.cb_local.specs.LocalStep.{IsBeside, IsRefused, LocalStep}
 use Rattle.cb_local.proofs.Counted.{sound_counted}
 
 range_ascends : (a n : ℕ) → IsStrictlyIncreasing (range_with_len a n)

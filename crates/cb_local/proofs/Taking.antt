@@ -1,12 +1,12 @@
 -- What a step of a pair that has begun leaves as it was at the begin.
-use Rattle.std.proofs.Common.{◌≡◌, ℕ, ◌+◌, ◌<◌, ◌≤◌, false, true, List, length, get_or, Option, Some, None, refl, sym, ap, ◌∙◌, subst, arith, inl, inr, length-set}
+use Rattle.std.proofs.Common.{◌≡◌, ℕ, ◌+◌, ◌<◌, false, List, length, Option, Some, None, refl, sym, ap, ◌∙◌, arith, inl, inr, length-set}
 use Rattle.std.specs.List.{slice_get}
 use Rattle.std.proofs.lemmas.Option.{get_or_from_slice_get, slice_get_within}
 use Rattle.cb_member.specs.declared.names.NodeId.{NodeId}
 use Rattle.cb_member.specs.declared.names.Shard.{Shard}
 use Rattle.cb_node.specs.NodesState.{held}
 use Rattle.cb_node.proofs.Laws.{other_nodes_hold_as_many, put_keeps_other_rows}
-use Rattle.cb_set.specs.SetState.{SetState, parities}
+use Rattle.cb_set.specs.SetState.{SetState}
 use Rattle.cb_set.specs.Nodes.{OnDistinctNodes}
 use Rattle.cb_types.specs.declared.reply.Reply.TheVariants as answer
 use Rattle.cb_world.specs.declared.shown.Shown.{Shown}
@@ -17,10 +17,10 @@ use Rattle.cb_world.specs.JoinSteps.{with_step}
 use Rattle.cb_world.specs.Sets.{set_in}
 use Rattle.cb_world.specs.SetWord.{IsWordOf}
 use Rattle.cb_world.specs.Sound.{Sound}
-use Rattle.cb_compact.specs.NowGoing.{HasGone, IsUndone, TriesStep}
+use Rattle.cb_compact.specs.NowGoing.{IsUndone, TriesStep}
 use Rattle.cb_compact.specs.Standing.{IsFreshPair}
 use Rattle.cb_compact.specs.Steps.{IsMergedRow, IsNext, IsOneStep, is_undone, shard_beside, with_stepped}
-use Rattle.cb_compact.proofs.Laws.{as_fresh, few_steps, fresh_code, gone_on, gone_sound, none_gone, step_other}
+use Rattle.cb_compact.proofs.Laws.{as_fresh, fresh_code, gone_on, gone_sound, none_gone, step_other}
 use Rattle.cb_local.specs.Putting.{HasTaken}
 
 no_shard : Shard

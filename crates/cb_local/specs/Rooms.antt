@@ -6,7 +6,6 @@ use Rattle.cb_node.specs.NodesState.{held}
 use Rattle.cb_set.specs.SetState.{SetState}
 use Rattle.cb_world.specs.FarState.{FarState}
 use Rattle.cb_world.specs.Joining.{JoiningState}
-use Rattle.cb_compact.specs.Standing.{IsFreshPair}
 use Rattle.cb_compact.specs.Steps.{is_undone}
 
 -- each of a's nodes at these positions has room, if there is a step to be done

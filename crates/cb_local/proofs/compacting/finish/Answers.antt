@@ -1,4 +1,4 @@
-use Rattle.std.proofs.Common.{◌<◌, ◌^◌, length, subst, sym, arith, inr}
+use Rattle.std.proofs.Common.{length, subst, sym, arith, inr}
 use Rattle.std.proofs.lemmas.Result.{IfOk-weaker, on_err_weaker}
 use Rattle.cb_set.specs.SetState.{SetState}
 use Rattle.cb_world.specs.Joining.{JoiningState}

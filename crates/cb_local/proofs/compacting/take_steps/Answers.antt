@@ -1,4 +1,3 @@
-use Rattle.std.proofs.Common.{length}
 use Rattle.std.proofs.lemmas.Result.{on_err_weaker, on_ok_weaker}
 use Rattle.cb_local.proofs.Finishing.{put_none, put_stops, stopped_first}
 use Rattle.cb_local.proofs.PutStep.{on_error}

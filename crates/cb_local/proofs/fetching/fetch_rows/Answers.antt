@@ -1,10 +1,10 @@
-use Rattle.std.proofs.Common.{◌≡◌, ◌<◌, ◌≤◌, refl, ℕ, ◌+◌, All, List, length, get_or, take, sym, ap, ◌∙◌, subst, arith}
+use Rattle.std.proofs.Common.{◌<◌, ◌≤◌, refl, ℕ, All, List, length, get_or, take, sym, ap, ◌∙◌, subst, arith}
 use Rattle.std.proofs.lemmas.List.{get_or-take, length-take-le}
 use Rattle.cb_gf256.specs.Rows.{row_at}
 use Rattle.cb_member.specs.declared.names.Shard.{Shard}
 use Rattle.cb_node.specs.NodesState.{NodesState}
 use Rattle.cb_world.specs.Joining.{JoiningState}
-use Rattle.cb_local.proofs.Fetched.{a_stand, are_fetched, b_stand, given_twice, parity_stand, parities_in_a, stand_along, stand_given, taken_few, taken_in_a, taken_in_b}
+use Rattle.cb_local.proofs.Fetched.{a_stand, are_fetched, b_stand, parity_stand, stand_along, stand_given, taken_few, taken_in_a, taken_in_b}
 use Rattle.cb_local.proofs.fetching.fetch_rows.Goals as goal
 
 pub give_rows-requires-clause-given : goal.give_rows-requires-clause-given

@@ -1,4 +1,4 @@
-use Rattle.std.proofs.Common.{◌≡◌, ℕ, length, take}
+use Rattle.std.proofs.Common.{◌≡◌, length, take}
 use Rattle.cb_local.proofs.fetching.positions_of.Given as goal
 
 abbrev pub invariant-loop-i : goal.invariant-loop-i

@@ -1,4 +1,4 @@
-use Rattle.std.proofs.Common.{sym, ap, ◌∙◌, subst, length}
+use Rattle.std.proofs.Common.{sym, subst}
 use Rattle.cb_set.specs.SetState.{parities}
 use Rattle.cb_compact.proofs.Laws.{table_exists}
 use Rattle.cb_local.specs.declared.order.DeltaOrder.{DeltaOrder}

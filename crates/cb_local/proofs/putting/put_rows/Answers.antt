@@ -1,4 +1,4 @@
-use Rattle.std.proofs.Common.{◌≡◌, ◌<◌, ℕ, length, subst, sym, ap, ◌∙◌, arith}
+use Rattle.std.proofs.Common.{subst, sym, arith}
 use Rattle.cb_world.specs.FarState.{FarState}
 use Rattle.cb_local.specs.Putting.{ArePut}
 use Rattle.cb_local.proofs.PutStep.{at_few, on_error}

@@ -1,4 +1,4 @@
-use Rattle.std.proofs.Common.{◌<◌, length, sym, ap, ◌∙◌, arith}
+use Rattle.std.proofs.Common.{sym, ◌∙◌, arith}
 use Rattle.std.proofs.lemmas.Result.{on_ok_weaker}
 use Rattle.cb_local.proofs.PutStep.{at_fresh, at_keys, at_next, at_old, at_room, at_sound, at_there, in_word, put_one, put_past}
 use Rattle.cb_local.proofs.putting.put_step.Goals as goal

@@ -1,4 +1,4 @@
-use Rattle.std.proofs.Common.{◌<◌, length, ap, arith}
+use Rattle.std.proofs.Common.{ap, arith}
 use Rattle.cb_member.specs.declared.names.Shard.{Shard}
 use Rattle.cb_compact.proofs.Laws.{fresh_code}
 use Rattle.cb_local.proofs.putting.take_row.Goals as goal

@@ -1,4 +1,4 @@
-use Rattle.std.proofs.Common.{◌≡◌, true, length, sym, ◌∙◌}
+use Rattle.std.proofs.Common.{sym, ◌∙◌}
 use Rattle.cb_local.proofs.PutStep.{if_some}
 use Rattle.cb_local.proofs.rooms.full_at.Goals as goal
 
