@@ -160,15 +160,15 @@ done_or_next : (pair : JoiningState) (k p : ℕ) → AreDone pair k → IsNext p
 done_or_next pair k p done next = false≢true (sym (done p next.within) ∙ next.undone)
 
 -- the sets have words, and a merged one
-record HasMerged (far : FarState) (pair : JoiningState) (a b : SetState) : Type 0 where
-  wa : List (List ℕ)
-  wb : List (List ℕ)
-  m : List (List ℕ)
-  a_word : IsWordOf far.nodes far.members a wa
-  b_word : IsWordOf far.nodes far.members b wb
-  merged : IsMergedWord (length a.positions) (parities a) pair.taken wa wb m
+pub record HasMerged (far : FarState) (pair : JoiningState) (a b : SetState) : Type 0 where
+  pub wa : List (List ℕ)
+  pub wb : List (List ℕ)
+  pub m : List (List ℕ)
+  pub a_word : IsWordOf far.nodes far.members a wa
+  pub b_word : IsWordOf far.nodes far.members b wb
+  pub merged : IsMergedWord (length a.positions) (parities a) pair.taken wa wb m
 
-has_merged : (s : Shown) (far : FarState) (pair : JoiningState) (a b : SetState) → Sound s far
+pub has_merged : (s : Shown) (far : FarState) (pair : JoiningState) (a b : SetState) → Sound s far
     → IsFreshPair far pair a b → HasMerged far pair a b
 has_merged s far pair a b sound fresh =
     let j = sound.away.join pair fresh.was in
@@ -266,7 +266,7 @@ module _ (s : Shown) (far : FarState) (pair : JoiningState) (a b : SetState) (so
   merges_fixed (inr x) (inr y) = merged_fixed x y
 
 -- what is so of a pair whose sets stand is so of the one that is looked at
-as_fresh : (far : FarState) (pair other : JoiningState) (a b c d : SetState)
+pub as_fresh : (far : FarState) (pair other : JoiningState) (a b c d : SetState)
     (P : JoiningState → SetState → SetState → Type 0) → IsFreshPair far pair a b
     → IsFreshPair far other c d → P pair a b → P other c d
 as_fresh far pair other a b c d P x y p =

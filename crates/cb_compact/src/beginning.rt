@@ -18,7 +18,7 @@ use std::alloc::Global;
 
 /// What the begin of a pair ends in; sets by their numbers.
 #[derive(Clone, Copy)]
-pub(crate) enum Begun {
+pub enum Begun {
     /// A pair is joining already.
     Joining { a: u64, b: u64 },
     /// No two sets can be joined.
@@ -124,7 +124,7 @@ fn note_none(far: &mut Far)
 }
 
 /// Begins to join the first two sets that can be.
-pub(crate) fn begin(far: &mut Far) -> Result<Begun, NoMemory>
+pub fn begin(far: &mut Far) -> Result<Begun, NoMemory>
     requires sound { (s : Shown) × Sound s far.old }
     requires note { HoldsNoPair far.old }
     ensures step { IfOk result (λ begun. BeginStep far.old far.new (reply_of begun)) }
