@@ -57,10 +57,10 @@ pub whole_more : (far : FarState) (from id : ℕ) → AreWhole far from
 whole_more far from id whole none here j set below at = elim (cases_lt j from) [
   | inl before ↦ whole j set before at
   | inr after ↦ elim (cases_eq j id) [
-      | inl e ↦ here set (sym (ap (set_in far.sets) e) ∙ at)
-      | inr off ↦ absurd (no_set set
-          (sym (ap if_committed (none j after (omega (arith, below, off)))) ∙ at))
-    ]
+    | inl e ↦ here set (sym (ap (set_in far.sets) e) ∙ at)
+    | inr off ↦ absurd (no_set set
+        (sym (ap if_committed (none j after (omega (arith, below, off)))) ∙ at))
+  ]
 ]
 
 pub whole_all : (far : FarState) (from n : ℕ) → AreWhole far from → AreFrom far.sets from []
@@ -116,12 +116,12 @@ module _ (s : Shown) (far : FarState) (sound : AwaySound s far) (found : List Ca
       elim (cases_lt y.0 z.0) [
         | inl less ↦ none y.0 z.0 y.1 z.1 less y.2 z.2 can
         | inr more ↦ elim (cases_eq y.0 z.0) [
-            | inl e ↦ not_itself y.0 y.1 y.2
-                (subst (λ (q : Candidate). CanMatch y.1 q) (candidate_same z.1 y.1
-                (sym z.2 ∙ ap (slice_get found) (sym e) ∙ y.2)) can)
-            | inr off ↦ none z.0 y.0 z.1 y.1 (omega (arith, more, off)) z.2 y.2
-                (turned y.1 z.1 can)
-          ]
+          | inl e ↦ not_itself y.0 y.1 y.2
+              (subst (λ (q : Candidate). CanMatch y.1 q) (candidate_same z.1 y.1
+              (sym z.2 ∙ ap (slice_get found) (sym e) ∙ y.2)) can)
+          | inr off ↦ none z.0 y.0 z.1 y.1 (omega (arith, more, off)) z.2 y.2
+              (turned y.1 z.1 can)
+        ]
       ]
 
   pub all_grouped : NoneMatch found → AreWhole far far.counts.sets

@@ -1,4 +1,4 @@
-ghost use Rattle.std.specs.Prelude.{◌≡◌, ℕ, ◌<◌, ◌≤◌, true, IfNone, IfSome, IsSome, List, None, Some, OnOk, OnErr, [], length};
+ghost use Rattle.std.specs.Prelude.{◌≡◌, ℕ, ◌<◌, ◌≤◌, true, IfNone, IfSome, IsSome, List, None, Some, OnOk, OnErr, length};
 ghost use Rattle.std.specs.Option.{option_map};
 ghost use Rattle.std.specs.FinMap as map;
 ghost use Rattle.cb_set.specs.SetState.{SetState, dead_position, position_of, with_position, with_shard, without_object};
@@ -208,11 +208,14 @@ impl Sets {
         true
     }
 
-    /// Keeps the groups of all committed sets, of which no two match.
-    pub fn learn(&mut self, groups: Vec<Group>)
-        requires { AreGrouped self.old groups.items [] }
+    /// Keeps groups of which no two match, one of each committed set but for those of these numbers.
+    /// The groups of these are added; where they match others, or there is no memory for them,
+    /// nothing is known.
+    pub fn learn(&mut self, groups: Vec<Group>, others: &[u64])
+        requires { AreGrouped self.old groups.items others.now }
         ensures { self.new ≡ self.old }
     {
-        self.groups.learn(groups);
+        self.groups.replace(groups);
+        self.groups.known = add_sets(&self.table, &mut self.groups.list, others);
     }
 }
