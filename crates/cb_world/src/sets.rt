@@ -71,7 +71,8 @@ impl Model for Sets {
 
     ghost view = { λ a. a.table };
 
-    ghost invariant = { λ a. a.groups.known ≡ true → AreGrouped a.table a.groups.list.items a.groups.changed.items };
+    ghost invariant = { λ a. a.groups.known ≡ true
+        → AreGrouped a.table a.groups.list.items a.groups.changed.items };
 }
 
 impl Sets {
@@ -190,9 +191,9 @@ impl Sets {
         self.table.remove(id);
     }
 
-    /// Whether it is known that no two committed sets match, as those that have changed do not match
-    /// the others: each of them is compared with the groups, and no other set is looked at. False
-    /// says nothing. The memory of new groups is taken where there is some.
+    /// Whether it is known that no two committed sets match, as those that have changed match none
+    /// of the others: each of them is compared with the groups, and no other set is looked at.
+    /// False says nothing. The memory of new groups is taken where there is some.
     pub fn none_match(&mut self) -> bool
         ensures same { self.new ≡ self.old }
         ensures none { result ≡ true → NoSetsMatch self.old }
@@ -208,9 +209,9 @@ impl Sets {
         true
     }
 
-    /// Keeps groups of which no two match, one of each committed set but for those of these numbers.
-    /// The groups of these are added; where they match others, or there is no memory for them,
-    /// nothing is known.
+    /// Keeps groups of which no two match, one of each committed set but for those of these
+    /// numbers. The groups of these are added; where they match others, or there is no memory for
+    /// them, nothing is known.
     pub fn learn(&mut self, groups: Vec<Group>, others: &[u64])
         requires { AreGrouped self.old groups.items others.now }
         ensures { self.new ≡ self.old }
