@@ -1,10 +1,10 @@
 -- What the sets keep of a search that has found no pair: the groups of all sets, of which no two
 -- match.
-use Rattle.std.proofs.Common.{◌≡◌, ℕ, ◌+◌, ◌<◌, ◌≤◌, ◌&&◌, Bool, true, false, if◌then◌else◌, List, [], map, Option, None, Some, bit_and, refl, sym, ap, ◌∙◌, subst, arith, inl, inr}
+use Rattle.std.proofs.Common.{◌≡◌, ◌⊎◌, ℕ, ◌+◌, ◌<◌, ◌≤◌, List, [], ◌∷◌, ◌++◌, length, Option, None, Some, bit_and, refl, sym, ap, ◌∙◌, subst, arith, inl, inr}
 use Rattle.std.specs.List.{slice_get}
 use Rattle.std.specs.Option.{option_map}
 use Rattle.std.specs.FinMap as sets
-use Rattle.std.proofs.lemmas.Bool.{cases_eq, cases_lt, false≢true}
+use Rattle.std.proofs.lemmas.Bool.{cases_eq, cases_lt}
 use Rattle.std.proofs.lemmas.Nat.{and_comm}
 use Rattle.std.proofs.lemmas.Option.{none-some, same_Some, slice_get-map}
 use Rattle.cb_set.specs.SetState.{SetState}
@@ -15,10 +15,11 @@ use Rattle.cb_world.specs.declared.shown.Shown.{Shown}
 use Rattle.cb_world.specs.FarState.{FarState}
 use Rattle.cb_world.specs.FarSound.{AwaySound}
 use Rattle.cb_world.specs.Groups.{AreGrouped, DoMatch, IsAmong, NoGroupsMatch, NoSetsMatch, group_of}
-use Rattle.cb_world.specs.Sets.{Kept, if_committed, set_in}
+use Rattle.cb_world.specs.Sets.{if_committed, set_in}
 use Rattle.cb_world.specs.SetsFrom.{AreFrom}
+use Rattle.cb_world.proofs.Laws.{among_last, among_more}
 use Rattle.cb_compact.specs.declared.candidates.Candidate.{Candidate}
-use Rattle.cb_compact.specs.Candidates.{AreAlike, AreFirsts, AreWhole, CanMatch, IsCandidate, NoneMatch, group, groups_of}
+use Rattle.cb_compact.specs.Candidates.{AreAlike, AreFirsts, AreWholeBut, CanMatch, IsCandidate, NoneMatch, group, groups_of}
 use Rattle.cb_compact.specs.Pairing.{NoneCanJoin}
 use Rattle.cb_compact.proofs.Choosing.{candidate_of, candidate_same, is_candidate, no_set}
 use Rattle.cb_compact.proofs.Looked.{set_same}
@@ -31,41 +32,39 @@ none_can_join far none i j c d l can = none i j c d can.a_there can.b_there (rec
   apart = masks_of_matched far.members c d can.matched;
 })
 
--- ---- whether all sets are whole
-pub uncommitted : (far : FarState) (id : ℕ) (kept inside : Kept)
-    → sets.get far.sets id ≡ Some kept → inside ≡ kept → inside.committed ≡ false
-    → (set : SetState) → set_in far.sets id ≡ Some set → ⊥
-uncommitted far id kept inside at same off set there =
-    no_set set (sym (ap if_committed (at ∙ ap Some (sym same))
-    ∙ ap (λ (b : Bool). if b then Some inside.set else None) off) ∙ there)
-
-pub whole_candidate : (far : FarState) (id : ℕ) (c : Candidate) (set other : SetState)
-    → c.id ≡ id → IsCandidate far c set → set_in far.sets id ≡ Some other
-    → IsWhole far.members other
-whole_candidate far id c set other e is at =
-    subst (IsWhole far.members) (set_same set other
-    (sym is.there ∙ ap (set_in far.sets) e ∙ at)) is.whole
-
-pub both_true : (a b : Bool) → (a && b) ≡ true → (a ≡ true) × (b ≡ true)
-both_true true b e = (refl, e)
-both_true false b e = absurd (false≢true e)
-
-pub whole_more : (far : FarState) (from id : ℕ) → AreWhole far from
-    → ((j : ℕ) → from ≤ j → j < id → sets.get far.sets j ≡ None)
-    → ((set : SetState) → set_in far.sets id ≡ Some set → IsWhole far.members set)
-    → AreWhole far (id + 1)
-whole_more far from id whole none here j set below at = elim (cases_lt j from) [
+-- ---- which sets are whole
+pub others_to : (far : FarState) (from to : ℕ) (others : List ℕ) → AreWholeBut far from others
+    → ((j : ℕ) → from ≤ j → j < to → sets.get far.sets j ≡ None) → AreWholeBut far to others
+others_to far from to others whole none j set below at = elim (cases_lt j from) [
   | inl before ↦ whole j set before at
-  | inr after ↦ elim (cases_eq j id) [
-      | inl e ↦ here set (sym (ap (set_in far.sets) e) ∙ at)
-      | inr off ↦ absurd (no_set set
-          (sym (ap if_committed (none j after (omega (arith, below, off)))) ∙ at))
-    ]
+  | inr after ↦ absurd (no_set set (sym (ap if_committed (none j after below)) ∙ at))
 ]
 
-pub whole_all : (far : FarState) (from n : ℕ) → AreWhole far from → AreFrom far.sets from []
-    → AreWhole far n
-whole_all far from n whole rest j set below at = elim (cases_lt j from) [
+pub others_whole : (far : FarState) (id : ℕ) (others : List ℕ) (c : Candidate) (set : SetState)
+    → AreWholeBut far id others → c.id ≡ id → IsCandidate far c set
+    → AreWholeBut far (id + 1) others
+others_whole far id others c set whole e is j other below at = elim (cases_eq j id) [
+  | inl same ↦ inl (subst (IsWhole far.members) (set_same set other
+      (sym is.there ∙ ap (set_in far.sets) (e ∙ sym same) ∙ at)) is.whole)
+  | inr off ↦ whole j other (omega (arith, below, off)) at
+]
+
+pub others_more : (far : FarState) (id : ℕ) (others new : List ℕ) → AreWholeBut far id others
+    → new ≡ others ++ id ∷ [] → AreWholeBut far (id + 1) new
+others_more far id others new whole is =
+    subst (AreWholeBut far (id + 1)) (sym is) (λ j set below at. elim (cases_eq j id) [
+      | inl same ↦ inr (length others, among_last others id ∙ ap Some (sym same))
+      | inr off ↦ later j set (whole j set (omega (arith, below, off)) at)
+    ])
+  where
+    later : (j : ℕ) (set : SetState) → IsWhole far.members set ⊎ IsAmong j others
+        → IsWhole far.members set ⊎ IsAmong j (others ++ id ∷ [])
+    later j set (inl w) = inl w
+    later j set (inr (i, at)) = inr (i, among_more others id i j at)
+
+pub others_all : (far : FarState) (from n : ℕ) (others : List ℕ) → AreWholeBut far from others
+    → AreFrom far.sets from [] → AreWholeBut far n others
+others_all far from n others whole rest j set below at = elim (cases_lt j from) [
   | inl before ↦ whole j set before at
   | inr after ↦ absurd (no_set set (sym (ap if_committed (rest.each j after)) ∙ at))
 ]
@@ -116,23 +115,28 @@ module _ (s : Shown) (far : FarState) (sound : AwaySound s far) (found : List Ca
       elim (cases_lt y.0 z.0) [
         | inl less ↦ none y.0 z.0 y.1 z.1 less y.2 z.2 can
         | inr more ↦ elim (cases_eq y.0 z.0) [
-            | inl e ↦ not_itself y.0 y.1 y.2
-                (subst (λ (q : Candidate). CanMatch y.1 q) (candidate_same z.1 y.1
-                (sym z.2 ∙ ap (slice_get found) (sym e) ∙ y.2)) can)
-            | inr off ↦ none z.0 y.0 z.1 y.1 (omega (arith, more, off)) z.2 y.2
-                (turned y.1 z.1 can)
-          ]
+          | inl e ↦ not_itself y.0 y.1 y.2
+              (subst (λ (q : Candidate). CanMatch y.1 q) (candidate_same z.1 y.1
+              (sym z.2 ∙ ap (slice_get found) (sym e) ∙ y.2)) can)
+          | inr off ↦ none z.0 y.0 z.1 y.1 (omega (arith, more, off)) z.2 y.2
+              (turned y.1 z.1 can)
+        ]
       ]
 
-  pub all_grouped : NoneMatch found → AreWhole far far.counts.sets
-      → AreGrouped far.sets (groups_of found) []
-  all_grouped none whole = record {
+  pub all_grouped : (others : List ℕ) → NoneMatch found
+      → AreWholeBut far far.counts.sets others → AreGrouped far.sets (groups_of found) others
+  all_grouped others none whole = record {
     apart = no_groups_match none;
-    cover = λ id set at.
-        let below = sound.sets.numbered id set at in
-        let y = x.cover (candidate_of id set) set below
-        (is_candidate far id set at (whole id set below at)) in
-        inl (subst (λ (g : Group). IsAmong g (groups_of found))
-        (same_group y.1 (candidate_of id set) y.4)
-        (y.0, slice_get-map group found y.0 ∙ ap (option_map group) y.2));
+    cover = λ id set at. by id set at (whole id set (sound.sets.numbered id set at) at);
   }
+    where
+      by : (id : ℕ) (set : SetState) → set_in far.sets id ≡ Some set
+          → IsWhole far.members set ⊎ IsAmong id others
+          → IsAmong (group_of set) (groups_of found) ⊎ IsAmong id others
+      by id set at (inl is_whole) =
+          let y = x.cover (candidate_of id set) set (sound.sets.numbered id set at)
+          (is_candidate far id set at is_whole) in
+          inl (subst (λ (g : Group). IsAmong g (groups_of found))
+          (same_group y.1 (candidate_of id set) y.4)
+          (y.0, slice_get-map group found y.0 ∙ ap (option_map group) y.2))
+      by id set at (inr among) = inr among

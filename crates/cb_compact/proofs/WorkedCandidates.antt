@@ -1,6 +1,6 @@
 -- Worked examples of the sets among which a pair is looked for: a value that meets each definition,
 -- and for each of its parts one that breaks that part alone.
-use Rattle.std.proofs.Common.{◌≡◌, ℕ, zero, suc, ◌+◌, ◌<◌, ◌≤◌, true, List, [], ◌∷◌, None, Some, length, refl, sym, ap, ◌∙◌, subst, arith, inl, inr}
+use Rattle.std.proofs.Common.{◌≡◌, ◌⊎◌, ℕ, zero, suc, ◌+◌, ◌<◌, ◌≤◌, true, List, [], ◌∷◌, None, Some, length, refl, sym, ap, ◌∙◌, subst, arith, inl, inr}
 use Rattle.std.specs.List.{slice_get}
 use Rattle.std.specs.BTreeSet.{BTreeSet, contains}
 use Rattle.std.specs.declared.cmp.Ordering.{Ordering}
@@ -10,10 +10,11 @@ use Rattle.cb_set.specs.SetState.{SetState, parities}
 use Rattle.cb_set.specs.Lost.{IsWhole}
 use Rattle.cb_set.specs.Matched.{live_mask}
 use Rattle.cb_world.specs.FarState.{FarState}
+use Rattle.cb_world.specs.Groups.{IsAmong}
 use Rattle.cb_world.specs.Sets.{set_in}
 use Rattle.cb_compact.specs.declared.candidates.Candidate.{Candidate}
 use Rattle.cb_world.specs.declared.groups.Group.{Group}
-use Rattle.cb_compact.specs.Candidates.{AreAlike, AreFirsts, AreSeen, AreWhole, CanMatch, HasNoPartner, IsAdded, IsCandidate, IsFirstMatch, IsPartner, NoneMatch, group, groups_of}
+use Rattle.cb_compact.specs.Candidates.{AreAlike, AreFirsts, AreSeen, AreWholeBut, CanMatch, HasNoPartner, IsAdded, IsCandidate, IsFirstMatch, IsPartner, NoneMatch, group, groups_of}
 use Rattle.cb_compact.proofs.WorkedBegin.{crowd, set_c}
 use Rattle.cb_compact.proofs.WorkedGround.{all_up, far, first_of, first_of_four, ground, none_third, one_down, second_of, two}
 use Rattle.cb_compact.proofs.WorkedPair.{begun, set_a, set_b}
@@ -338,16 +339,25 @@ last_has_none n c d l at_c at_d x =
 first_has_one : HasNoPartner both 0 → ⊥
 first_has_one x = x 1 (at_zero 0) (at_one 1) (omega arith) refl refl (zero_and_one 0 1)
 
--- ---- all committed sets are whole
-all_are_whole : AreWhole ground 2
-all_are_whole zero set below at =
-    subst (IsWhole all_up) (same_Some set_a set (sym (first_of set_a set_b) ∙ at)) a_is.whole
-all_are_whole (suc zero) set below at =
-    subst (IsWhole all_up) (same_Some set_b set (sym (second_of set_a set_b) ∙ at)) b_is.whole
-all_are_whole (suc (suc id)) set below at = absurd (omega (arith, below))
+-- ---- the committed sets that are whole, and the others
+both_are_whole : AreWholeBut ground 2 []
+both_are_whole zero set below at = inl
+    (subst (IsWhole all_up) (same_Some set_a set (sym (first_of set_a set_b) ∙ at)) a_is.whole)
+both_are_whole (suc zero) set below at = inl
+    (subst (IsWhole all_up) (same_Some set_b set (sym (second_of set_a set_b) ∙ at)) b_is.whole)
+both_are_whole (suc (suc id)) set below at = absurd (omega (arith, below))
 
-not_all_once_a_shard_is_lost : AreWhole (far (two set_a set_b) one_down 2 (Some begun)) 2 → ⊥
-not_all_once_a_shard_is_lost x =
-    let e : 1 ≡ 0 = ap (λ (l : List Loss). length l)
-    (x 0 set_a (omega arith) (first_of set_a set_b)) in
-    omega (arith, e)
+abbrev with_a_shard_lost : FarState
+with_a_shard_lost = far (two set_a set_b) one_down 2 (Some begun)
+
+but_one_that_is_named : AreWholeBut with_a_shard_lost 1 (0 ∷ [])
+but_one_that_is_named zero set below at = inr (0, refl)
+but_one_that_is_named (suc id) set below at = absurd (omega (arith, below))
+
+not_where_another_is_named : AreWholeBut with_a_shard_lost 1 (1 ∷ []) → ⊥
+not_where_another_is_named x = by (x 0 set_a (omega arith) (first_of set_a set_b))
+  where
+    by : IsWhole one_down set_a ⊎ IsAmong {X = ℕ} 0 (1 ∷ []) → ⊥
+    by (inl whole) = let e : 1 ≡ 0 = ap (λ (l : List Loss). length l) whole in omega (arith, e)
+    by (inr (zero, at)) = let e : 1 ≡ 0 = same_Some 1 0 at in omega (arith, e)
+    by (inr (suc i, at)) = none-some 0 at

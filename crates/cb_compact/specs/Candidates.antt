@@ -7,6 +7,7 @@ use Rattle.cb_set.specs.Lost.{IsWhole}
 use Rattle.cb_set.specs.Matched.{live_mask}
 use Rattle.cb_world.specs.Sets.{set_in}
 use Rattle.cb_world.specs.FarState.{FarState}
+use Rattle.cb_world.specs.Groups.{IsAmong}
 use Rattle.cb_compact.specs.declared.candidates.Candidate.{Candidate}
 use Rattle.cb_world.specs.declared.groups.Group.{Group}
 
@@ -90,7 +91,7 @@ abbrev pub HasNoPartner : List Candidate → ℕ → Type 0
 HasNoPartner found i = (n : ℕ) (c d : Candidate) → i < n → slice_get found i ≡ Some c
     → slice_get found n ≡ Some d → ¬ (CanMatch c d)
 
--- each committed set with a number below this one is whole
-abbrev pub AreWhole : FarState → ℕ → Type 0
-AreWhole far below = (id : ℕ) (set : SetState) → id < below → set_in far.sets id ≡ Some set
-    → IsWhole far.members set
+-- each committed set with a number below this one is whole, or its number is one of these
+abbrev pub AreWholeBut : FarState → ℕ → List ℕ → Type 0
+AreWholeBut far below others = (id : ℕ) (set : SetState) → id < below
+    → set_in far.sets id ≡ Some set → IsWhole far.members set ⊎ IsAmong id others

@@ -2,11 +2,9 @@ ghost use Rattle.std.specs.Prelude.{◌≡◌, ℕ, ◌+◌, ◌^◌, ◌<◌, t
 ghost use Rattle.std.specs.FinMap as map;
 ghost use Rattle.cb_set.specs.SetState.{SetState};
 ghost use Rattle.cb_world.specs.declared.shown.Shown.{Shown};
-ghost use Rattle.cb_set.specs.Lost.{IsWhole};
 ghost use Rattle.cb_world.specs.FarSound.{AwaySound};
 ghost use Rattle.cb_world.specs.Groups.{AreGrouped};
-ghost use Rattle.cb_world.specs.Sets.{set_in};
-ghost use Rattle.cb_compact.specs.Candidates.{AreAlike, AreFirsts, AreSeen, AreWhole, CanMatch, HasNoPartner, IsAdded, IsCandidate, IsFirstMatch, IsPartner, NoneMatch, group, groups_of};
+ghost use Rattle.cb_compact.specs.Candidates.{AreAlike, AreFirsts, AreSeen, AreWholeBut, CanMatch, HasNoPartner, IsAdded, IsCandidate, IsFirstMatch, IsPartner, NoneMatch, group, groups_of};
 ghost use Rattle.cb_compact.specs.Pairing.{IsFirstPair, NoneCanJoin};
 ghost use Rattle.cb_compact.specs.Tables.{AreMasks, AreTables};
 
@@ -135,37 +133,38 @@ fn add_new(
     Ok(())
 }
 
-/// Adds a kept set, if it is committed and whole and the first of its group; false where it is
-/// committed and has lost shards.
-fn add_first(
-    far: &Far,
-    found: &mut Vec<Candidate>,
-    seen: &mut BTreeSet<Group>,
-    id: u64,
-    kept: &KeptSet,
-) -> Result<bool, NoMemory>
-    requires sound { (s : Shown) × AwaySound s far.now }
-    requires kept { map.get far.now.sets id ≡ Some kept.now }
-    requires firsts { AreFirsts far.now id found.old.items }
-    requires seen { AreSeen ⟦<Group as Ord>⟧.cmp found.old.items seen.old }
-    ensures firsts { IfOk result (λ _. AreFirsts far.now (id + 1) found.new.items) }
-    ensures seen { IfOk result (λ _. AreSeen ⟦<Group as Ord>⟧.cmp found.new.items seen.new) }
-    ensures whole { IfOk result (λ whole. whole ≡ true → (set : SetState)
-        → set_in far.now.sets id ≡ Some set → IsWhole far.now.members set) }
-{
-    let Some(candidate) = whole_set(far, id, kept) else {
-        return Ok(!kept.committed);
-    };
-    add_new(found, seen, candidate)?;
-    Ok(true)
-}
-
-/// The first whole committed set of each group, in order of their numbers, and whether all
-/// committed sets are whole.
+/// The first whole committed set of each group, in order of their numbers, and the numbers of the
+/// sets that are not whole or not committed.
 #[derive(Drop)]
 struct FirstSets {
     found: Vec<Candidate>,
-    all_whole: bool,
+    others: Vec<u64>,
+}
+
+/// Adds a kept set: if it is committed and whole, where it is the first of its group, and else to
+/// the others.
+fn add_first(
+    far: &Far,
+    firsts: &mut FirstSets,
+    seen: &mut BTreeSet<Group>,
+    id: u64,
+    kept: &KeptSet,
+) -> Result<(), NoMemory>
+    requires sound { (s : Shown) × AwaySound s far.now }
+    requires kept { map.get far.now.sets id ≡ Some kept.now }
+    requires found { AreFirsts far.now id firsts.old.found.items }
+    requires seen { AreSeen ⟦<Group as Ord>⟧.cmp firsts.old.found.items seen.old }
+    requires others { AreWholeBut far.now id firsts.old.others.items }
+    ensures found { IfOk result (λ _. AreFirsts far.now (id + 1) firsts.new.found.items) }
+    ensures seen { IfOk result (λ _. AreSeen ⟦<Group as Ord>⟧.cmp firsts.new.found.items
+        seen.new) }
+    ensures others { IfOk result (λ _. AreWholeBut far.now (id + 1) firsts.new.others.items) }
+{
+    let Some(candidate) = whole_set(far, id, kept) else {
+        firsts.others.push(id)?;
+        return Ok(());
+    };
+    add_new(&mut firsts.found, seen, candidate)
 }
 
 /// Looks at each set once, and with the logarithm of the count of groups.
@@ -173,17 +172,19 @@ fn firsts(far: &Far) -> Result<FirstSets, NoMemory>
     requires sound { (s : Shown) × AwaySound s far.now }
     ensures found { IfOk result (λ firsts. AreFirsts far.now far.now.counts.sets
         firsts.found.items) }
-    ensures whole { IfOk result (λ firsts. firsts.all_whole ≡ true
-        → AreWhole far.now far.now.counts.sets) }
+    ensures others { IfOk result (λ firsts. AreWholeBut far.now far.now.counts.sets
+        firsts.others.items) }
 {
     let mut seen = BTreeSet::new(far.alloc);
-    let mut found = Vec::new(far.alloc);
+    let mut firsts = FirstSets {
+        found: Vec::new(far.alloc),
+        others: Vec::new(far.alloc),
+    };
     let mut sets = far.sets.range_from(0);
-    let mut all_whole = true;
     while let Some((id, kept)) = sets.next() {
-        all_whole &= add_first(far, &mut found, &mut seen, *id, kept)?;
+        add_first(far, &mut firsts, &mut seen, *id, kept)?;
     }
-    Ok(FirstSets { found, all_whole })
+    Ok(firsts)
 }
 
 /// The first two of these candidates that match. Where comparing each of them with each would cost
@@ -208,28 +209,25 @@ fn groups_of(alloc: Global, found: &[Candidate]) -> Result<Vec<Group>, NoMemory>
     Ok(groups)
 }
 
-/// Lets the sets keep their groups.
-fn keep_groups(far: &mut Far, groups: Vec<Group>)
-    requires { AreGrouped far.old.sets groups.items [] }
+/// Lets the sets keep groups, and add those of the sets of these numbers.
+fn keep_groups(far: &mut Far, groups: Vec<Group>, others: &[u64])
+    requires { AreGrouped far.old.sets groups.items others.now }
     ensures { far.new ≡ far.old }
 {
-    far.sets.learn(groups);
+    far.sets.learn(groups, others);
 }
 
-/// Lets the sets keep their groups, none of which matches another one, where all are whole and
-/// there is memory for that.
+/// Lets the sets keep their groups, none of which matches another one, where there is memory for
+/// that.
 fn keep_firsts(far: &mut Far, firsts: &FirstSets)
     requires sound { (s : Shown) × AwaySound s far.old }
     requires found { AreFirsts far.old far.old.counts.sets firsts.now.found.items }
-    requires whole { firsts.now.all_whole ≡ true → AreWhole far.old far.old.counts.sets }
+    requires others { AreWholeBut far.old far.old.counts.sets firsts.now.others.items }
     requires none { NoneMatch firsts.now.found.items }
     ensures { far.new ≡ far.old }
 {
-    if !firsts.all_whole {
-        return;
-    }
     if let Ok(groups) = groups_of(far.alloc, &firsts.found) {
-        keep_groups(far, groups);
+        keep_groups(far, groups, &firsts.others);
     }
 }
 

@@ -99,22 +99,21 @@ beside_tried old new id kept (Ok x) ok err = beside_put old new id kept ok
 beside_tried old new id kept (Err x) ok err = beside_same old new id err
 
 pub noted_stays : (old new : SetMap) (groups list : List Group) (changed more : List ℕ) (id : ℕ)
-    → IsSameBeside old new id → AreGrouped old groups changed → list ≡ groups
-    → more ≡ changed ++ id ∷ [] → AreGrouped new list more
-noted_stays old new groups list changed more id same x is_list is_more =
-    subst (λ (l : List Group). AreGrouped new l more) (sym is_list)
-    (subst (AreGrouped new groups) (sym is_more) (record {
+    → IsSameBeside old new id → AreGrouped old groups changed → list ≡ groups → IsAmong id more
+    → ((other : ℕ) → IsAmong other changed → IsAmong other more) → AreGrouped new list more
+noted_stays old new groups list changed more id same x is noted keeps =
+    subst (λ (l : List Group). AreGrouped new l more) (sym is) (record {
       apart = x.apart;
       cover = λ j set at. elim (cases_eq j id) [
-        | inl e ↦ inr (length changed, among_last changed id ∙ ap Some (sym e))
+        | inl e ↦ inr (subst (λ (n : ℕ). IsAmong n more) (sym e) noted)
         | inr off ↦ later j set (x.cover j set (sym (same j off) ∙ at))
       ];
-    }))
+    })
   where
     later : (j : ℕ) (set : SetState) → IsAmong (group_of set) groups ⊎ IsAmong j changed
-        → IsAmong (group_of set) groups ⊎ IsAmong j (changed ++ id ∷ [])
+        → IsAmong (group_of set) groups ⊎ IsAmong j more
     later j set (inl there) = inl there
-    later j set (inr (i, at)) = inr (i, among_more changed id i j at)
+    later j set (inr there) = inr (keeps j there)
 
 -- ---- a look at those that have changed
 pub more_groups : (sets : SetMap) (groups new : List Group) (changed : List ℕ)

@@ -1,4 +1,4 @@
-ghost use Rattle.std.specs.Prelude.{◌≡◌, ◌≤◌, true, false, [], ◌∷◌, ◌++◌, length};
+ghost use Rattle.std.specs.Prelude.{◌≡◌, ℕ, ◌≤◌, true, false, [], length};
 ghost use Rattle.cb_world.specs.Groups.{DoMatch, IsAmong, NoGroupsMatch, group_of};
 
 use arrayvec::ArrayVec;
@@ -6,7 +6,7 @@ use cb_set::SpanSet;
 use std::alloc::Global;
 
 /// How many changes of sets are noted between two looks at them.
-const MOST_CHANGED: usize = 64;
+const MOST_CHANGED: usize = 1024;
 
 /// What sets have in common that match the same others: their code, and their live positions as
 /// bits.
@@ -80,6 +80,14 @@ pub(crate) fn add_group(groups: &mut Vec<Group>, group: Group) -> bool
     }
 }
 
+/// Whether the last of these numbers is this one.
+fn is_last(numbers: &[u64], number: u64) -> bool
+    ensures { result ≡ true → IsAmong number numbers.now }
+{
+    let count = numbers.len();
+    count > 0 && numbers[count - 1] == number
+}
+
 /// Groups of which no two match, and the numbers of the sets that have changed since. Where more
 /// have changed than are noted, nothing is known.
 #[derive(Drop)]
@@ -106,10 +114,14 @@ impl Groups {
     pub(crate) fn note(&mut self, id: u64)
         ensures was { self.new.known ≡ true → self.old.known ≡ true }
         ensures list { self.new.known ≡ true → self.new.list ≡ self.old.list }
-        ensures noted { self.new.known ≡ true
-            → self.new.changed.items ≡ self.old.changed.items ++ id ∷ [] }
+        ensures noted { self.new.known ≡ true → IsAmong id self.new.changed.items }
+        ensures keeps { self.new.known ≡ true → (other : ℕ) → IsAmong other self.old.changed.items
+            → IsAmong other self.new.changed.items }
     {
         if !self.known {
+            return;
+        }
+        if is_last(self.changed.as_slice(), id) {
             return;
         }
         if self.changed.is_full() {
@@ -119,13 +131,12 @@ impl Groups {
         self.changed.push(id);
     }
 
-    /// These groups are known, and no set has changed.
-    pub(crate) fn learn(&mut self, list: Vec<Group>)
+    /// These are the groups, and no set has changed.
+    pub(crate) fn replace(&mut self, list: Vec<Group>)
         ensures list { self.new.list ≡ list }
         ensures changed { self.new.changed.items ≡ [] }
     {
         self.list = list;
         self.changed.clear();
-        self.known = true;
     }
 }

@@ -1,4 +1,4 @@
-ghost use Rattle.std.specs.Prelude.{◌≡◌, ℕ, ◌<◌, ◌≤◌, true, IfNone, IfSome, IsSome, List, None, Some, OnOk, OnErr, [], length};
+ghost use Rattle.std.specs.Prelude.{◌≡◌, ℕ, ◌<◌, ◌≤◌, true, IfNone, IfSome, IsSome, List, None, Some, OnOk, OnErr, length};
 ghost use Rattle.std.specs.Option.{option_map};
 ghost use Rattle.std.specs.FinMap as map;
 ghost use Rattle.cb_set.specs.SetState.{SetState, dead_position, position_of, with_position, with_shard, without_object};
@@ -71,7 +71,8 @@ impl Model for Sets {
 
     ghost view = { λ a. a.table };
 
-    ghost invariant = { λ a. a.groups.known ≡ true → AreGrouped a.table a.groups.list.items a.groups.changed.items };
+    ghost invariant = { λ a. a.groups.known ≡ true
+        → AreGrouped a.table a.groups.list.items a.groups.changed.items };
 }
 
 impl Sets {
@@ -190,9 +191,9 @@ impl Sets {
         self.table.remove(id);
     }
 
-    /// Whether it is known that no two committed sets match, as those that have changed do not match
-    /// the others: each of them is compared with the groups, and no other set is looked at. False
-    /// says nothing. The memory of new groups is taken where there is some.
+    /// Whether it is known that no two committed sets match, as those that have changed match none
+    /// of the others: each of them is compared with the groups, and no other set is looked at.
+    /// False says nothing. The memory of new groups is taken where there is some.
     pub fn none_match(&mut self) -> bool
         ensures same { self.new ≡ self.old }
         ensures none { result ≡ true → NoSetsMatch self.old }
@@ -208,11 +209,14 @@ impl Sets {
         true
     }
 
-    /// Keeps the groups of all committed sets, of which no two match.
-    pub fn learn(&mut self, groups: Vec<Group>)
-        requires { AreGrouped self.old groups.items [] }
+    /// Keeps groups of which no two match, one of each committed set but for those of these
+    /// numbers. The groups of these are added; where they match others, or there is no memory for
+    /// them, nothing is known.
+    pub fn learn(&mut self, groups: Vec<Group>, others: &[u64])
+        requires { AreGrouped self.old groups.items others.now }
         ensures { self.new ≡ self.old }
     {
-        self.groups.learn(groups);
+        self.groups.replace(groups);
+        self.groups.known = add_sets(&self.table, &mut self.groups.list, others);
     }
 }

@@ -9,4 +9,4 @@ invariant_of-self c known =
     noted_stays old.table c.remove.new.self old.groups.list.items noted.list.items
     old.groups.changed.items noted.changed.items c.args.id same
     (c.self.invariant (c.note.ensures.was known)) (ap (λ v. v.items) (c.note.ensures.list known))
-    (c.note.ensures.noted known)
+    (c.note.ensures.noted known) (c.note.ensures.keeps known)
