@@ -140,8 +140,15 @@ counted_from seats seat at c within there other place d is = by (ℕ_discrete ot
         (sym (claims_same seats seat (set cs at (stored_once c)) within))
         ∙ ap (λ (k : ℕ). slice_get (claims_of_seat (with_claims seats seat (set cs at (stored_once c))) k)
         place) (sym same) ∙ is)) [
-          | inl (off, old) ↦ (place, d, ap (λ (k : ℕ). slice_get (claims_of_seat seats k) place) same
-              ∙ old, refl, refl, refl)
+          | inl (off, old) ↦ (
+            place,
+            d,
+            ap (λ (k : ℕ). slice_get (claims_of_seat seats k) place) same
+                ∙ old,
+            refl,
+            refl,
+            refl,
+          )
           | inr (last, next) ↦ (
             at,
             c,

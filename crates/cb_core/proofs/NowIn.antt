@@ -217,9 +217,11 @@ module _ (w : WorldState) (s : Shown) (k : IsKnown w.desk w.far s)
       let stamp : version_at s h ≡ o.0 =
       subst (λ (p : Object). IsStamped p (version_at s h)) o.2 (k.sound.here.known.stamped h) in
       let same : o.0 ≡ stamp_at w.desk h =
-      sym stamp ∙ ap (λ (l : List ℕ). get_or l h 0) k.shows.versions in
-      (o.1, ap (now_as s h (is_gone w.far h)) o.2
-      ∙ ap (λ (v : ℕ). now_as s h (is_gone w.far h) (is.Far (len_of (word_at w.desk h)) v o.1)) same)
+      sym stamp ∙ ap (λ (l : List ℕ). get_or l h 0) k.shows.versions in (
+        o.1,
+        ap (now_as s h (is_gone w.far h)) o.2
+            ∙ ap (λ (v : ℕ). now_as s h (is_gone w.far h) (is.Far (len_of (word_at w.desk h)) v o.1)) same,
+      )
 
   gone_at : (h v n len : ℕ) (words : List ℕ) (lost : Bool) → is_gone w.far h ≡ lost
       → now_as s h lost (is.Far len n words) ≡ gone v → (is_gone w.far h ≡ true) × (n ≡ v)
