@@ -1,6 +1,6 @@
 -- Worked examples of writes in steps as calls of the plain map: what meets each definition, and what
 -- breaks one part.
-use Rattle.std.proofs.Common.{◌≡◌, ℕ, zero, suc, true, false, List, [], ◌∷◌, Option, None, Some, length, refl, sym, ap, ◌∙◌, arith}
+use Rattle.std.proofs.Common.{◌≡◌, ℕ, zero, suc, true, false, List, [], ◌∷◌, Option, None, Some, refl, sym, ap, ◌∙◌, arith}
 use Rattle.cb_ptr.specs.declared.word.State.TheVariants as state
 use Rattle.cb_types.specs.declared.config.Config.{Config}
 use Rattle.cb_types.specs.declared.job.Job.TheVariants as job
@@ -14,11 +14,11 @@ use Rattle.cb_world.specs.declared.shown.Shown.{Shown}
 use Rattle.cb_world.specs.FarState.{FarState}
 use Rattle.cb_world.specs.Memory.{bytes_in}
 use Rattle.cb_world.specs.Now.{Now, is_gone, now}
-use Rattle.cb_world.specs.Now.Now.{never, freed, held, gone}
+use Rattle.cb_world.specs.Now.Now.{freed, held, gone}
 use Rattle.cb_world.specs.Seats.{SeatState, OpenWriteState, idle_seat}
 use Rattle.cb_world.specs.World.{WorldState, empty_world}
-use Rattle.cb_core.specs.Called.{AreBegun, ClaimCall, called_as, calls_by, claim_by, claims_after, claims_by, written_by, StandsBeside}
-use Rattle.cb_core.specs.NowIn.{AreGone, IsLostAt, claim_on, first_on, now_in, now_with, one_of}
+use Rattle.cb_core.specs.Called.{AreBegun, ClaimCall, called_as, calls_by, claim_by, claims_after, claims_by, StandsBeside}
+use Rattle.cb_core.specs.NowIn.{AreGone, IsLostAt, claim_on, first_on, now_in, now_with}
 use Rattle.cb_core.specs.declared.event.Atomic.TheVariants.{Claim, Pin, Settle, Store}
 use Rattle.cb_core.specs.declared.event.Event.{Event}
 use Rattle.cb_core.specs.declared.event.Event.TheVariants as event
