@@ -5,6 +5,7 @@ pub use Rattle.cb_core.proofs.CrashesKept.{NamesAmong, none_crashed, turn_crashe
 pub use Rattle.cb_core.proofs.Epochs.{lead_rises, pin_far, step_rises, unpin_far}
 pub use Rattle.cb_core.proofs.FewLost.{CrashedAmong, never_broken, never_gone}
 pub use Rattle.cb_core.proofs.NodesStay.{IsWhole}
+pub use Rattle.cb_core.proofs.NowIn.{are_gone}
 pub use Rattle.cb_core.proofs.PinsKept.{pin_step_sound, unpin_step_sound}
 pub use Rattle.cb_core.proofs.RoomyNodes.{enough_roomy}
 pub use Rattle.cb_core.proofs.RowsHeld.{IsIdle, held_few}

@@ -48,10 +48,10 @@ but_counts far = record far {
 
 -- The worlds are the same, where these counts are left out. Every word of local memory and every
 -- seat's pins and open writes are compared.
-pub record IsSameBut (w new : WorldState) : Type 0 where
-  pub desk : new.desk ≡ w.desk
-  pub far : but_counts new.far ≡ but_counts w.far
-  pub seats : new.seats ≡ w.seats
+pub record IsSameBut (w v : WorldState) : Type 0 where
+  pub desk : v.desk ≡ w.desk
+  pub far : but_counts v.far ≡ but_counts w.far
+  pub seats : v.seats ≡ w.seats
 
 -- what each object holds is what it held
 abbrev pub HoldsAsBefore : WorldState → WorldState → Type 0
