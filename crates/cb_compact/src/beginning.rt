@@ -174,9 +174,9 @@ pub(crate) fn reply_of(begun: Begun) -> Reply
 /// Answers Joining where a pair is joining already, whether its sets have changed or not; NoPair
 /// where no two sets can be joined, and notes that; and else Pair. Where it is noted and no turn
 /// but those that look has come since, nothing is looked at. Where at an earlier look there were
-/// none, each set that has changed since is compared with the groups of one code and live positions;
-/// and where that does not show that there are still none, each set is looked at once, and then one
-/// of each group. No row is given out. Where there is no memory, nothing has changed.
+/// none, each set that has changed since is compared with the groups of one code and live
+/// positions; and where that does not show that there are still none, each set is looked at once,
+/// and then one of each group. No row is given out. Where there is no memory, nothing has changed.
 pub fn compact_begin<D: Desk>(desk: &mut D, far: &mut Far) -> Result<Reply, NoMemory>
     requires sound { (s : Shown) × D.shows desk.old s × Sound s far.old }
     requires note { HoldsNoPair far.old }
