@@ -16,3 +16,4 @@ pub mod LinesFixed
 pub mod LossOrder
 pub mod WorkedLines
 pub mod WorkedPins
+pub mod WorkedAlone
