@@ -17,3 +17,4 @@ pub mod LinesFixed
 pub mod LossOrder
 pub mod WorkedLines
 pub mod WorkedPins
+pub mod WorkedAlone
