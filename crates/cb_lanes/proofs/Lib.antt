@@ -1,5 +1,7 @@
 pub mod NamesKept
+pub mod LineKeeps
 pub mod Lone
+pub mod EasyLines
 pub mod ByRequest
 pub mod Turning
 pub mod PinLists
