@@ -128,6 +128,10 @@ job_easy nodes request easy = by request easy.step easy.crash
     by Part step crash j e = absurd (false≢true (sym step))
     by q step crash j e = absurd (no_job j e)
 
+pub job_whole : (nodes : List ℕ) (request : Request) → IsEasyLine nodes request
+    → MayBe IsWhole request
+job_whole nodes request easy j e = (job_easy nodes request easy j e).whole
+
 -- a line of a script at ease, and a lane that rests behind one
 pub line_at_rest : (nodes : List ℕ) (seat : ℕ) (handle : Option ℕ) (request : Request)
     (w new : WorldState) (r : Reply) → IsEasyLine nodes request
