@@ -24,7 +24,8 @@ eased_as : (r q : Reply) → IsEased q → r ≡ q → IsEased r
 eased_as r q calm e = subst IsEased (sym e) calm
 
 -- ---- a pin of an object that is here
-here_refusal : (q : State) (version pins : ℕ) → q ≡ state.Here → IsEased (pin_refusal q version pins)
+here_refusal : (q : State) (version pins : ℕ) → q ≡ state.Here
+    → IsEased (pin_refusal q version pins)
 here_refusal q version pins here =
     subst (λ (z : State). IsEased (pin_refusal z version pins)) (sym here) tt
 
@@ -32,8 +33,8 @@ pin_here : (w new : WorldState) (seat h : ℕ) (r : Reply)
     → state_of (word_at w.desk h) ≡ state.Here → PinStep seat h w r new → IsEased r
 pin_here w new seat h r here (scope_full full reply same) = eased_as r _ tt reply
 pin_here w new seat h r here (refused room not reply same) = eased_as r _
-    (here_refusal (state_of (word_at w.desk h)) (stamp_at w.desk h) (pins_of (word_at w.desk h)) here)
-    reply
+    (here_refusal (state_of (word_at w.desk h)) (stamp_at w.desk h) (pins_of (word_at w.desk h))
+    here) reply
 pin_here w new seat h r here (taken room may reply t) = eased_as r _ tt reply
 
 -- a swap that is refused brings nothing in
