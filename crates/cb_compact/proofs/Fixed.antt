@@ -44,13 +44,13 @@ no_pair o p e f = cc
 
 -- ---- the begin
 -- the first two sets that can be joined are two
-record AreThose (x y m n : ℕ) (a b c d : SetState) : Type 0 where
-  first : x ≡ m
-  second : y ≡ n
-  a_is : a ≡ c
-  b_is : b ≡ d
+pub record AreThose (x y m n : ℕ) (a b c d : SetState) : Type 0 where
+  pub first : x ≡ m
+  pub second : y ≡ n
+  pub a_is : a ≡ c
+  pub b_is : b ≡ d
 
-first_fixed : (far : FarState) (x y m n : ℕ) (a b c d : SetState) → IsFirstPair far x y a b
+pub first_fixed : (far : FarState) (x y m n : ℕ) (a b c d : SetState) → IsFirstPair far x y a b
     → IsFirstPair far m n c d → AreThose x y m n a b c d
 first_fixed far x y m n a b c d f g =
     let low = f.least_a m n c d g.above g.can in let high = g.least_a x y a b f.above f.can in

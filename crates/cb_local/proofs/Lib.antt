@@ -12,3 +12,4 @@ pub mod FullNode
 pub mod PutStep
 pub mod Finishing
 pub mod LocalKept
+pub mod WorkedLocal
