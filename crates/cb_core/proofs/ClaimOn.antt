@@ -6,7 +6,7 @@ use Rattle.std.proofs.lemmas.Bool.{cases_eq}
 use Rattle.cb_world.specs.FarState.{FarState}
 use Rattle.cb_world.specs.OpenWrites.{AreOpen}
 use Rattle.cb_world.specs.Plain.{Words}
-use Rattle.cb_world.specs.Seats.{SeatState, OpenWriteState, IsClaimAt, claims_of_seat, seat_at}
+use Rattle.cb_world.specs.Seats.{SeatState, OpenWriteState, IsClaimAt, claims_of_seat}
 use Rattle.cb_core.specs.NowIn.{claim_on, first_on, one_of}
 
 none_some : (c : OpenWriteState) → None ≡ Some c → ⊥

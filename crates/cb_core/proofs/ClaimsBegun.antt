@@ -1,5 +1,5 @@
 -- Each open write was begun by the newest of its seat's claims on the object, after every event.
-use Rattle.std.proofs.Common.{◌≡◌, ◌≢◌, ℕ, Bool, true, false, ◌<◌, ◌&&◌, List, [], ◌∷◌, ◌++◌, Option, Some, length, set, refl, sym, ap, ◌∙◌, subst, arith, inl, inr, eq-eqb, ne_eqb}
+use Rattle.std.proofs.Common.{◌≡◌, ◌≢◌, ℕ, Bool, true, false, ◌<◌, ◌&&◌, List, ◌∷◌, Some, length, set, refl, sym, ap, ◌∙◌, subst, arith, inl, inr, eq-eqb, ne_eqb}
 use Rattle.std.specs.Prelude.{nat_eq, slice_get, if◌then◌else◌}
 use Rattle.std.specs.List.{remove}
 use native.Mathlib.Decide.{ℕ_discrete}
@@ -7,11 +7,11 @@ use Rattle.cb_types.specs.declared.handle.Handle.{Handle}
 use Rattle.cb_types.specs.declared.reply.Reply.{Reply}
 use Rattle.cb_types.specs.declared.reply.Reply.TheVariants as answer
 use Rattle.cb_world.specs.OpenSteps.{stored_once}
-use Rattle.cb_world.specs.Seats.{SeatState, OpenWriteState, IsClaimAt, claims_of_seat, seat_at, with_claims}
+use Rattle.cb_world.specs.Seats.{SeatState, OpenWriteState, IsClaimAt, claims_of_seat, with_claims}
 use Rattle.cb_world.specs.World.{WorldState, IsSoundWorld}
 use Rattle.cb_world.proofs.Laws.{seat_beside}
 use Rattle.cb_core.specs.Called.{AreBegun, ClaimCall, claim_by, claims_after}
-use Rattle.cb_core.specs.Claiming.{ClaimStep, refused, taken, MayClaim, IsClaimTaken, StoreStep, not_claimed, nothing_left, stored, stamped, IsCounted, SettleStep, not_stored, settled, opened}
+use Rattle.cb_core.specs.Claiming.{ClaimStep, refused, taken, MayClaim, IsClaimTaken, StoreStep, not_claimed, nothing_left, stored, stamped, IsCounted, SettleStep, not_stored, settled}
 use Rattle.cb_core.specs.declared.event.Atomic.TheVariants.{Claim}
 use Rattle.cb_core.specs.declared.event.Event.TheVariants as event
 use Rattle.cb_core.proofs.OpenChanges.{claims_other, claims_same, get_remove, get_set}
@@ -140,8 +140,15 @@ counted_from seats seat at c within there other place d is = by (ℕ_discrete ot
         (sym (claims_same seats seat (set cs at (stored_once c)) within))
         ∙ ap (λ (k : ℕ). slice_get (claims_of_seat (with_claims seats seat (set cs at (stored_once c))) k)
         place) (sym same) ∙ is)) [
-          | inl (off, old) ↦ (place, d, ap (λ (k : ℕ). slice_get (claims_of_seat seats k) place) same
-              ∙ old, refl, refl, refl)
+          | inl (off, old) ↦ (
+            place,
+            d,
+            ap (λ (k : ℕ). slice_get (claims_of_seat seats k) place) same
+                ∙ old,
+            refl,
+            refl,
+            refl,
+          )
           | inr (last, next) ↦ (
             at,
             c,

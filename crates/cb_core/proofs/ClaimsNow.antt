@@ -1,5 +1,5 @@
 -- What the steps of open writes change of what objects hold: the settling alone, at its object.
-use Rattle.std.proofs.Common.{◌≡◌, ◌≢◌, ◌⊎◌, ℕ, ◌+◌, ◌-◌, ◌*◌, ◌/◌, ◌^◌, ◌<◌, ◌≤◌, List, [], ◌∷◌, ◌++◌, Option, None, Some, true, length, get_or, set, refl, sym, ap, ◌∙◌, subst, arith, inl, inr, length-set, get_or-set_same, get_or-set_other}
+use Rattle.std.proofs.Common.{◌≡◌, ◌≢◌, ℕ, ◌+◌, ◌-◌, ◌*◌, ◌/◌, ◌<◌, List, [], ◌∷◌, ◌++◌, None, Some, true, length, get_or, set, refl, sym, ap, ◌∙◌, subst, arith, inr, length-set, get_or-set_same, get_or-set_other}
 use Rattle.std.specs.Prelude.{slice_get}
 use Rattle.std.specs.List.{remove}
 use Rattle.std.proofs.lemmas.List.{set-get_or}
@@ -8,29 +8,27 @@ use Rattle.cb_ptr.specs.declared.word.State.TheVariants as state
 use Rattle.cb_ptr.specs.Steps.{Settles}
 use Rattle.cb_ptr.specs.Word.{state_of, len_of, place_of}
 use Rattle.cb_types.specs.declared.request.Request.TheVariants.{Write}
-use Rattle.cb_types.specs.declared.reply.Reply.{Reply}
 use Rattle.cb_types.specs.declared.reply.Reply.TheVariants as answer
 use Rattle.cb_model.specs.Now.{overwritten}
 use Rattle.cb_world.specs.declared.shown.Shown.{Shown}
 use Rattle.cb_world.specs.FarState.{FarState}
-use Rattle.cb_world.specs.LocalSound.{LiesAt}
 use Rattle.cb_world.specs.Memory.{bytes_in, window, words_for}
 use Rattle.cb_world.specs.Now.{Now, now}
 use Rattle.cb_world.specs.Now.Now.{held}
 use Rattle.cb_world.specs.OpenSteps.{next_word, stored_once}
-use Rattle.cb_world.specs.OpenWrites.{IsOpen, left_of, stamp_of, touched}
+use Rattle.cb_world.specs.OpenWrites.{IsOpen, left_of, touched}
 use Rattle.cb_world.specs.Pinned.{with_word}
 use Rattle.cb_world.specs.Plain.{Words}
 use Rattle.cb_world.specs.Seats.{SeatState, OpenWriteState, IsClaimAt, claims_of_seat, seat_at, with_claims}
 use Rattle.cb_world.specs.Shown.{object_at}
 use Rattle.cb_world.specs.StillDesk.{here_is, window_length}
 use Rattle.cb_world.specs.StillWords.{stamp_at, contents_at}
-use Rattle.cb_world.specs.World.{WorldState, IsKnown, IsSoundWorld, word_at}
+use Rattle.cb_world.specs.World.{WorldState, IsSoundWorld, word_at}
 use Rattle.cb_world.specs.Write.{IsWrite, IsWriteBelow}
 use Rattle.cb_world.proofs.Laws.{KeepsBeside, lies, open_here}
 use Rattle.cb_mutate.specs.MapCalls.{IsMapCall, IsCallBetween}
 use Rattle.cb_mutate.proofs.Laws.{AreKnownBoth, ChangesAt, bytes_length, here_near, keeps_same, near_held, others_hold, write_by, write_bytes}
-use Rattle.cb_core.specs.Claiming.{MayClaim, IsClaimTaken, IsCounted, IsVersionStored, IsWordStored, next_place, opened}
+use Rattle.cb_core.specs.Claiming.{MayClaim, IsClaimTaken, IsCounted, opened}
 use Rattle.cb_core.specs.NowIn.{claim_on, now_in, now_with}
 use Rattle.cb_core.proofs.ClaimOn.{claim_is, claim_set, first_push, first_remove, first_set}
 use Rattle.cb_core.proofs.NowIn.{in_words, in_write, not_claimed}

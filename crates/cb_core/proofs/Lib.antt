@@ -7,7 +7,11 @@ pub mod DeclinedLooks
 pub mod Changes
 pub mod KeptPins
 pub mod KeptParts
+pub mod FewLost
+pub mod RowsHeld
+pub mod RoomyNodes
 pub mod NodesStay
+pub mod CompactIdle
 pub mod FarJobs
 mod Noted
 pub mod StillParts
@@ -38,6 +42,7 @@ pub mod ClaimAnswers
 pub mod PartsStay
 pub mod Settings
 pub mod Epochs
+pub mod CrashesKept
 pub mod WorkedPins
 mod WorkedClaims
 pub mod WorkedMembership
@@ -75,6 +80,8 @@ pub mod Stopping
 pub mod WorkedUnavailable
 pub mod WorkedStops
 pub mod TurnCallsPinned
+pub mod TurnCallsUnpinned
+pub mod Calm
 pub mod TurnCallsSound
 pub mod CallsBeside
 pub mod ClaimOn

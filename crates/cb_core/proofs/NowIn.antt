@@ -1,11 +1,10 @@
 -- What the objects of a world hold, where seats have open writes on some.
-use Rattle.std.proofs.Common.{◌≡◌, ◌⊎◌, ℕ, zero, suc, Bool, true, false, ◌%◌, ◌<◌, ◌≤◌, List, Option, None, Some, length, get_or, refl, sym, ap, ◌∙◌, subst, arith, inl, inr, if◌then◌else◌}
+use Rattle.std.proofs.Common.{◌≡◌, ◌⊎◌, ℕ, zero, suc, Bool, true, false, ◌%◌, ◌<◌, ◌≤◌, List, Option, None, Some, length, get_or, refl, sym, ap, ◌∙◌, subst, arith, inl, inr}
 use Rattle.std.proofs.lemmas.Bool.{cases_lt}
 use Rattle.std.proofs.lemmas.List.{get_or_past}
 use Rattle.cb_ptr.specs.declared.word.State.{State}
 use Rattle.cb_ptr.specs.declared.word.State.TheVariants as state
 use Rattle.cb_ptr.specs.Word.{state_of, len_of}
-use Rattle.cb_types.specs.declared.handle.Handle.{Handle}
 use Rattle.cb_types.specs.declared.request.Request.{Request}
 use Rattle.cb_types.specs.declared.request.Request.TheVariants.{Make}
 use Rattle.cb_types.specs.declared.reply.Reply.{Reply}
@@ -24,17 +23,17 @@ use Rattle.cb_world.specs.FarState.{FarState}
 use Rattle.cb_world.specs.LocalSound.{IsStamped}
 use Rattle.cb_world.specs.Memory.{bytes_in}
 use Rattle.cb_world.specs.Now.{Now, is_gone, now, now_as}
-use Rattle.cb_world.specs.Now.Now.{never, freed, held, gone}
+use Rattle.cb_world.specs.Now.Now.{never, held, gone}
 use Rattle.cb_world.specs.OpenWrites.{AreOpen}
 use Rattle.cb_world.specs.Plain.{Words}
 use Rattle.cb_world.specs.Seats.{SeatState, OpenWriteState}
 use Rattle.cb_world.specs.Shown.{object_at, version_at, never as no_object}
 use Rattle.cb_world.specs.Sound.{Sound}
 use Rattle.cb_world.specs.StillWords.{stamp_at, contents_at}
-use Rattle.cb_world.specs.World.{WorldState, IsKnown, IsSoundWorld, word_at}
+use Rattle.cb_world.specs.World.{WorldState, IsKnown, word_at}
 use Rattle.cb_world.proofs.Laws.{empty_now, empty_value, far_object}
 use Rattle.cb_mutate.specs.MapBeside.{IsMapOf}
-use Rattle.cb_mutate.specs.MapCalls.{IsValue, IsMapCall, IsCallBetween, IsCallOn, IsRefusedBetween, IsMakeCall}
+use Rattle.cb_mutate.specs.MapCalls.{IsValue, IsMapCall, IsCallBetween, IsCallOn, IsMakeCall}
 use Rattle.cb_mutate.proofs.Laws.{here_near, map_kept, map_same, moving_near, near_held, refused_by, was_made}
 use Rattle.cb_core.specs.NowIn.{AreGone, IsLostAt, claim_on, now_in, now_with}
 use Rattle.cb_core.proofs.CallsBeside.{AreMade, IsMakeBetween}
@@ -110,6 +109,12 @@ are_made w s k ongoing = record {
     below_by h less e (Some c) f =
         held_never c.version (bytes_in c.words c.len) (sym (in_write w s h c f) ∙ e)
 
+-- of an object that was held the version alone is known once it is gone
+pub lost_value : (m : MapNow) (v : ℕ) (bytes : List ℕ) → IsValue m (held v bytes) → IsValue m (gone v)
+lost_value None v bytes i = absurd i
+lost_value (Some (Freed u)) v bytes i = absurd i
+lost_value (Some (Held u b)) v bytes i = i.0
+
 -- ---- where the claims stay, what holds of the words holds of the world
 module _ (w new : WorldState) (s t : Shown)
     (claims : (h : ℕ) → claim_on new.seats h ≡ claim_on w.seats h) where
@@ -120,12 +125,6 @@ module _ (w new : WorldState) (s t : Shown)
       → IsSameMap s t w.far new.far → IsMapOf before new.far.made (λ h. now_in new t h)
   same_in before map same = map_kept 0 0 w.far.made new.far.made (λ h. now_in w s h)
       (λ h. now_in new t h) before map same.made (λ h. in_same h (same.now h))
-
-  -- of an object that was held the version alone is known once it is gone
-  lost_value : (m : MapNow) (v : ℕ) (bytes : List ℕ) → IsValue m (held v bytes) → IsValue m (gone v)
-  lost_value None v bytes i = absurd i
-  lost_value (Some (Freed u)) v bytes i = absurd i
-  lost_value (Some (Held u b)) v bytes i = i.0
 
   pub lost_in : (before : List Called) → IsMapOf before w.far.made (λ h. now_in w s h)
       → IsMapLost s t w.far new.far → IsMapOf before new.far.made (λ h. now_in new t h)
@@ -217,9 +216,11 @@ module _ (w : WorldState) (s : Shown) (k : IsKnown w.desk w.far s)
       let stamp : version_at s h ≡ o.0 =
       subst (λ (p : Object). IsStamped p (version_at s h)) o.2 (k.sound.here.known.stamped h) in
       let same : o.0 ≡ stamp_at w.desk h =
-      sym stamp ∙ ap (λ (l : List ℕ). get_or l h 0) k.shows.versions in
-      (o.1, ap (now_as s h (is_gone w.far h)) o.2
-      ∙ ap (λ (v : ℕ). now_as s h (is_gone w.far h) (is.Far (len_of (word_at w.desk h)) v o.1)) same)
+      sym stamp ∙ ap (λ (l : List ℕ). get_or l h 0) k.shows.versions in (
+        o.1,
+        ap (now_as s h (is_gone w.far h)) o.2
+            ∙ ap (λ (v : ℕ). now_as s h (is_gone w.far h) (is.Far (len_of (word_at w.desk h)) v o.1)) same,
+      )
 
   gone_at : (h v n len : ℕ) (words : List ℕ) (lost : Bool) → is_gone w.far h ≡ lost
       → now_as s h lost (is.Far len n words) ≡ gone v → (is_gone w.far h ≡ true) × (n ≡ v)

@@ -55,7 +55,7 @@ use Rattle.cb_core.proofs.ClaimOn.{claim_set}
 use Rattle.cb_core.proofs.ClaimsBegun.{begun_beside, begun_still, claim_begun, settle_begun, store_begun}
 use Rattle.cb_core.proofs.ClaimsNow.{claimed_in, settled_in, stamped_in, stored_in}
 use Rattle.cb_core.proofs.MovingCalls.{free_moving, read_moving, write_moving}
-use Rattle.cb_core.proofs.NowIn.{are_made, call_in, claimed_moves, in_same, lost_in, make_in, same_in}
+use Rattle.cb_core.proofs.NowIn.{are_made, call_in, claimed_moves, in_same, lost_in, lost_value, make_in, same_in}
 use Rattle.cb_core.proofs.HoldingFixed.{LeavesAll, give_leaves, take_leaves}
 use Rattle.cb_core.proofs.OpenFrame.{claim_leaves, store_leaves, settle_leaves}
 use Rattle.cb_core.proofs.OpenKeptSteps.{with_stamp, with_stored}
@@ -126,12 +126,6 @@ same_goes before claims w new c same = none_goes before claims w new c
 pub kept_beside : (before : List Called) (s t : Shown) (far new : FarState) → IsMapBeside before s far
     → IsSameMap s t far new → IsMapBeside before t new
 kept_beside before s t far new map same = beside_kept before s t far new map same.made same.now
-
--- of an object that was held the version alone is known once it is gone
-lost_value : (m : MapNow) (v : ℕ) (bytes : List ℕ) → IsValue m (held v bytes) → IsValue m (gone v)
-lost_value None v bytes i = absurd i
-lost_value (Some (Freed u)) v bytes i = absurd i
-lost_value (Some (Held u b)) v bytes i = i.0
 
 -- and beside one in which some objects are gone
 pub lost_beside : (before : List Called) (s t : Shown) (far new : FarState) → IsMapBeside before s far

@@ -7,7 +7,6 @@ use Rattle.cb_types.specs.declared.config.Config.{Config}
 use Rattle.cb_types.specs.declared.reply.Reply.{Reply}
 use Rattle.cb_world.specs.World.{WorldState, IsSoundWorld}
 use Rattle.cb_core.specs.declared.event.Event.{Event}
-use Rattle.cb_core.specs.declared.event.Event.TheVariants as event
 use Rattle.cb_core.specs.Events.{IsEvent}
 use Rattle.cb_core.specs.Run.{LeadsSoundly, RunStops}
 use Rattle.cb_core.specs.Step.{Step, Leads, Stops}

@@ -1,6 +1,7 @@
 -- Worked examples of writes in steps as calls of the plain map: what meets each definition, and what
 -- breaks one part.
-use Rattle.std.proofs.Common.{◌≡◌, ℕ, zero, suc, true, false, List, [], ◌∷◌, Option, None, Some, length, refl, sym, ap, ◌∙◌, arith}
+use Rattle.std.proofs.Common.{◌≡◌, ℕ, zero, suc, true, false, List, [], ◌∷◌, Option, None, Some, refl, sym, ap, ◌∙◌, arith}
+use Rattle.cb_ptr.specs.declared.word.State.TheVariants as state
 use Rattle.cb_types.specs.declared.config.Config.{Config}
 use Rattle.cb_types.specs.declared.job.Job.TheVariants as job
 use Rattle.cb_types.specs.declared.reply.Reply.{Reply}
@@ -12,15 +13,16 @@ use Rattle.cb_model.specs.Legal.{Follow}
 use Rattle.cb_world.specs.declared.shown.Shown.{Shown}
 use Rattle.cb_world.specs.FarState.{FarState}
 use Rattle.cb_world.specs.Memory.{bytes_in}
-use Rattle.cb_world.specs.Now.{Now}
-use Rattle.cb_world.specs.Now.Now.{never, freed, held, gone}
+use Rattle.cb_world.specs.Now.{Now, is_gone, now}
+use Rattle.cb_world.specs.Now.Now.{freed, held, gone}
 use Rattle.cb_world.specs.Seats.{SeatState, OpenWriteState, idle_seat}
 use Rattle.cb_world.specs.World.{WorldState, empty_world}
-use Rattle.cb_core.specs.Called.{AreBegun, ClaimCall, called_as, calls_by, claim_by, claims_after, claims_by, written_by, StandsBeside}
-use Rattle.cb_core.specs.NowIn.{AreGone, IsLostAt, claim_on, first_on, now_in, now_with, one_of}
+use Rattle.cb_core.specs.Called.{AreBegun, ClaimCall, called_as, calls_by, claim_by, claims_after, claims_by, StandsBeside}
+use Rattle.cb_core.specs.NowIn.{AreGone, IsLostAt, claim_on, first_on, now_in, now_with}
 use Rattle.cb_core.specs.declared.event.Atomic.TheVariants.{Claim, Pin, Settle, Store}
 use Rattle.cb_core.specs.declared.event.Event.{Event}
 use Rattle.cb_core.specs.declared.event.Event.TheVariants as event
+use Rattle.cb_core.proofs.WorkedPins.{away, hot}
 
 -- ---- what a claimed object holds
 
@@ -256,3 +258,32 @@ lost_is_gone w s h v bytes are e lost = no_longer (sym e ∙ are.told h v lost)
   where
     no_longer : held v bytes ≡ gone v → ⊥
     no_longer f = cc
+
+-- ---- what is lost
+-- an object with this word, at this version, of a far state
+abbrev with_far : FarState → ℕ → ℕ → WorldState
+with_far far word version = record {
+  desk = record (empty_world c).desk { words = word ∷ 0 ∷ []; versions = version ∷ 0 ∷ [] };
+  far = far;
+  seats = [];
+}
+
+is_lost : (far : FarState) → is_gone far 0 ≡ true → IsLostAt (with_far far away 3) 0 3
+is_lost far broken = (refl, broken, refl)
+
+here_is_not : (far : FarState) → IsLostAt (with_far far hot 3) 0 3 → ⊥
+here_is_not far lost = let e : state.Here ≡ state.Far = lost.0 in cc
+
+whole_is_not : (far : FarState) → is_gone far 0 ≡ false → IsLostAt (with_far far away 3) 0 3 → ⊥
+whole_is_not far whole lost = let e = sym whole ∙ lost.1 in cc
+
+not_at_another_version : (far : FarState) → IsLostAt (with_far far away 3) 0 4 → ⊥
+not_at_another_version far lost = let e : 3 ≡ 4 = lost.2 in omega (arith, e)
+
+-- ---- what the world holds
+claimed_holds : (s : Shown) → now_in with_writes s 0 ≡ held 3 (10 ∷ 11 ∷ [])
+unfolding bytes_in
+claimed_holds s = refl
+
+other_holds : (s : Shown) → now_in with_writes s 1 ≡ now s with_writes.far 1
+other_holds s = refl

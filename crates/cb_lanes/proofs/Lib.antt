@@ -1,5 +1,9 @@
 pub mod NamesKept
+pub mod LineKeeps
 pub mod Lone
+pub mod EasyLines
+pub mod CalmLines
+pub mod Stamps
 pub mod ByRequest
 pub mod Turning
 pub mod PinLists
@@ -17,3 +21,4 @@ pub mod LinesFixed
 pub mod LossOrder
 pub mod WorkedLines
 pub mod WorkedPins
+pub mod WorkedAlone

@@ -8,3 +8,4 @@ pub mod LineAnswered
 pub mod Scopes
 pub mod Held
 pub mod Lost
+pub mod Alone

@@ -21,3 +21,5 @@ pub mod WorkedForms
 pub mod WorkedRules
 pub mod WorkedFaults
 pub mod PublicLaws
+pub mod AtEase
+pub mod WorkedRoomy

@@ -1,4 +1,5 @@
 -- The lemmas of this crate that other crates cite.
+pub use Rattle.cb_script.proofs.AtEase.{roomy_at_ease}
 pub use Rattle.cb_script.proofs.Cuts.{HasFirst, split_has, without_empty_end-more}
 pub use Rattle.cb_script.proofs.Decimals.{decimal_value}
 pub use Rattle.cb_script.proofs.HeaderWords.{text_at, text_at_is}

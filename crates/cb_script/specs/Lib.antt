@@ -9,3 +9,4 @@ pub mod First
 pub mod Cut
 pub mod Found
 pub mod Reading
+pub mod Roomy
