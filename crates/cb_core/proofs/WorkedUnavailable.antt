@@ -225,6 +225,25 @@ free_tells_of_a_set z = none_asked (z.only five both_lost refl).0 (z.only five b
     none_asked : (h : ℕ) → None ≡ Some h → ⊥
     none_asked h e = cc
 
+-- a read of an object whose set has a parity for the shard that it lost
+turn_of_another : TurnTells (job.Read handle) (far first_down) (answer.Unavailable five (loss 0 1 ∷ [])) → ⊥
+turn_of_another z = by (z.only five (loss 0 1 ∷ []) refl)
+  where
+    asked_is : (h : ℕ) → Some 0 ≡ Some h → h ≡ 0
+    asked_is h e = cc
+
+    by : (h : ℕ) × (asked_by read ≡ Some h) × IsInLost (far first_down) h five (loss 0 1 ∷ []) → ⊥
+    by (h, asked, lost) = not_many (record {
+      away = refl;
+      home = subst (λ (i : ℕ). IsInLost (far first_down) i five (loss 0 1 ∷ [])) (asked_is h asked) lost;
+    })
+
+turn_tells_another_set : TurnTells (job.Read handle) (far both_down)
+    (answer.Unavailable (record { n = 4 }) both_lost) → ⊥
+turn_tells_another_set z =
+    let e : 4 ≡ 5 = ap number_of (z.each 0 five both_lost refl (lit< tt) is_in_lost) in
+    absurd (omega (arith, e))
+
 turn_reads_all_the_same : TurnTells (job.Read handle) (far both_down) (answer.Bytes 3 (10 ∷ 11 ∷ [])) → ⊥
 turn_reads_all_the_same z =
     let e : 9 ≡ 5 = ap number_of (z.each 0 five both_lost refl (lit< tt) is_in_lost) in
