@@ -6,4 +6,5 @@ pub mod Failing
 pub mod Status
 pub mod Taken
 pub mod Fronts
+pub mod Puts
 pub mod Reader

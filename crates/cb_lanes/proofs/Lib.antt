@@ -1,4 +1,9 @@
 pub mod NamesKept
+pub mod LineKeeps
+pub mod Lone
+pub mod EasyLines
+pub mod CalmLines
+pub mod Stamps
 pub mod ByRequest
 pub mod Turning
 pub mod PinLists
