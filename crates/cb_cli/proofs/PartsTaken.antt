@@ -261,7 +261,7 @@ module _ (done : List Part) (pending : Option Part) (position : ℕ) (o : Settin
         ∙ ap (λ (rule : Option Rule). walk_rule done pending joint position rule (Some v)) (by_long o) ∙ joined_walk done pending joint o v free none position
 
 -- behind the word there is no second one
-no_second_word : (all : List Part) (w : Text) (parts : List Part) → AreOnce (all ++ Word w ∷ parts) → 0 < length (filter is_word parts) → 2 ≡ 1
+no_second_word : (all : List Part) (w : Text) (parts : List Part) → AreOnce (all ++ Word w ∷ parts) → 0 < length (filter is_word parts) → ◌≡◌ {A = ℕ} 2 1
 no_second_word all w parts once some =
     absurd (omega (arith, some, once.word, kind_count is_word all (Word w ∷ parts)))
 
