@@ -14,13 +14,13 @@ name = codes "l1n0"
 abbrev answer : ℕ → Request → Reply → Answer
 answer line asked reply = record { lane = record { n = 1 }; line = line; request = asked; reply = reply }
 
--- two makes, a read, two writes of which one is refused, a free, and three of other verbs of which
--- one is refused
+-- two makes, a read that is refused, two writes of which one is refused, a free, and three of other
+-- verbs of which two are refused
 abbrev answers : List Answer
 answers =
     answer 2 (request.Make name (10 ∷ [])) (replies.Made (record { n = 0 }) 1)
     ∷ answer 3 (request.Make (codes "l1n1") (10 ∷ [])) (replies.Made (record { n = 1 }) 1)
-    ∷ answer 4 (request.Read name) (replies.Bytes 1 (10 ∷ []))
+    ∷ answer 4 (request.Read name) replies.Freed
     ∷ answer 5 (request.Write name 0 []) (replies.Version 2)
     ∷ answer 6 (request.Free name) (replies.Version 3)
     ∷ answer 7 (request.Write name 0 []) replies.Freed
@@ -29,7 +29,7 @@ answers =
     ∷ answer 10 request.Rebuild (replies.Whole 0)
     ∷ []
 
-summed : summary 7 9 1 answers ≡ codes "gen seed 7 lines 9 lanes 1\nmake 2 read 1 write 2 free 1 other 3\nrefused 3 text 152\n"
+summed : summary 7 9 1 answers ≡ codes "gen seed 7 lines 9 lanes 1\nmake 2 read 1 write 2 free 1 other 3\nrefused 4 text 152\n"
 unfolding digits
 summed = refl
 
