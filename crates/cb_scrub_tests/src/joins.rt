@@ -33,9 +33,13 @@ fn join_there(alloc: Global, world: &mut World) -> Result<Reply, NoMemory>
 /// Whether the replies are the same ending of a join.
 fn are_same(a: &Reply, b: &Reply) -> bool {
     match (a, b) {
-        (Reply::Merged { set, moved }, Reply::Merged { set: other, moved: count }) => {
-            set.n == other.n && moved == count
-        }
+        (
+            Reply::Merged { set, moved },
+            Reply::Merged {
+                set: other,
+                moved: count,
+            },
+        ) => { set.n == other.n && moved == count }
         (Reply::NodeFull { node }, Reply::NodeFull { node: other }) => node.n == other.n,
         (Reply::NoPair, Reply::NoPair) => true,
         _ => false,
