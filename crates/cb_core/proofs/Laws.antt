@@ -1,6 +1,7 @@
 -- The lemmas of this crate that other crates cite.
 pub use Rattle.cb_core.proofs.Changes.{read_leaves}
 pub use Rattle.cb_core.proofs.Epochs.{lead_rises, step_rises}
+pub use Rattle.cb_core.proofs.LooseSpans.{NoClaims, loose_or_pinned, never_moving}
 pub use Rattle.cb_core.proofs.PinsKept.{pin_step_sound, unpin_step_sound}
 pub use Rattle.cb_core.proofs.RunLegal.{kept_beside, lost_beside}
 pub use Rattle.cb_core.proofs.Settings.{step_settings}

@@ -1,4 +1,5 @@
 pub mod Counting
+pub mod LooseSpans
 pub mod PartsFar
 pub mod Composing
 pub mod Exits
