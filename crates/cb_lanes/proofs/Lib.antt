@@ -16,4 +16,7 @@ pub mod LinesFixed
 pub mod LossOrder
 pub mod WorkedLines
 pub mod WorkedPins
+pub mod AloneValues
+pub mod AloneReplies
+pub mod AloneGoes
 pub mod WorkedAlone
