@@ -6,14 +6,14 @@ use Rattle.cb_set.specs.SetState.{PositionState, SetState, live_at, position_of,
 use Rattle.cb_world.specs.declared.homes.Home.{Home}
 use Rattle.cb_types.specs.declared.handle.SetId.{SetId}
 use Rattle.cb_world.specs.FarState.{FarState}
-use Rattle.cb_world.specs.Homes.{home_at}
 use Rattle.cb_types.specs.declared.reply.Reply.{Reply}
 use Rattle.cb_types.specs.declared.reply.Reply.TheVariants as answer
 use Rattle.cb_world.specs.Joining.{JoiningState}
 use Rattle.cb_world.specs.JoinSteps.{with_step}
 use Rattle.cb_compact.specs.MergeStep.{IsMerged, IsUnfinished, merged_positions, merged_set, moved_count, replaced_shards}
 use Rattle.cb_compact.specs.Merging.{AreTables, IsFilledBelow, chosen_position}
-use Rattle.cb_compact.specs.Rehoming.{AreNamedOnce, AreRehomed, HasHomes}
+use Rattle.cb_world.specs.Homes.{HasHomes}
+use Rattle.cb_compact.specs.Rehoming.{AreNamedOnce, AreRehomed}
 use Rattle.cb_compact.specs.Steps.{undone}
 use Rattle.cb_compact.proofs.WorkedPair.{begun, dead, live_with, on_node, set_a, set_b, stepped}
 

@@ -1,18 +1,8 @@
 -- The homes of a set's objects.
-use Rattle.std.specs.Prelude.{◌≡◌, ℕ, ◌^◌, ◌<◌, true, List, Option, None, Some, length, slice_index_or}
+use Rattle.std.specs.Prelude.{◌≡◌, ℕ, ◌^◌, ◌<◌, true, List, Option, Some, length}
 use Rattle.cb_set.specs.SetState.{SetState, live_at, position_of, slot_at}
 use Rattle.cb_world.specs.declared.homes.Home.{Home}
 use Rattle.cb_world.specs.Homes.{home_at}
-
--- each object that the slot table names has its home at that slot of the position of the set, and
--- every other home is as it was
-pub record HasHomes (slots : List (Option ℕ)) (id position : ℕ) (old new : List (Option Home))
-    : Type 0 where
-  pub count : length new ≡ length old
-  pub here : (slot h : ℕ) → slice_index_or slots slot None ≡ Some h
-      → home_at new h ≡ Some (record { set = id; position = position; slot = slot })
-  pub others : (h : ℕ) → ((slot : ℕ) → slice_index_or slots slot None ≡ Some h → ⊥)
-      → home_at new h ≡ home_at old h
 
 -- each object that the set names has its home there, and every other home is as it was
 pub record AreRehomed (id : ℕ) (set : SetState) (old new : List (Option Home)) : Type 0 where

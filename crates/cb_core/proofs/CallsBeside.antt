@@ -71,6 +71,7 @@ pub record IsObjectCall (q : Request) : Type 0 where
 read_quiet : (name : List ℕ) (r : Reply) → says_nothing r ≡ true → IsQuiet (event_of (Read name) r)
 read_quiet name answer.Worn e = (refl, refl)
 read_quiet name answer.ScopeFull e = (refl, refl)
+read_quiet name (answer.Held seat) e = (refl, refl)
 read_quiet name r e = absurd cc
 
 read_own : (name : List ℕ) (r : Reply) → IsOnObject (event_of (Read name) r)
@@ -84,6 +85,7 @@ write_quiet : (name : List ℕ) (at : ℕ) (bytes : List ℕ) (r : Reply) → sa
     → IsQuiet (event_of (Write name at bytes) r)
 write_quiet name at bytes answer.Worn e = (refl, refl)
 write_quiet name at bytes answer.ScopeFull e = (refl, refl)
+write_quiet name at bytes (answer.Held seat) e = (refl, refl)
 write_quiet name at bytes r e = absurd cc
 
 write_own : (name : List ℕ) (at : ℕ) (bytes : List ℕ) (r : Reply)
@@ -97,6 +99,7 @@ on_write name at bytes = record { quiet = write_quiet name at bytes; own = write
 free_quiet : (name : List ℕ) (r : Reply) → says_nothing r ≡ true → IsQuiet (event_of (Free name) r)
 free_quiet name answer.Worn e = (refl, refl)
 free_quiet name answer.ScopeFull e = (refl, refl)
+free_quiet name (answer.Held seat) e = (refl, refl)
 free_quiet name r e = absurd cc
 
 free_own : (name : List ℕ) (r : Reply) → IsOnObject (event_of (Free name) r)
@@ -109,6 +112,7 @@ on_free name = record { quiet = free_quiet name; own = free_own name }
 pin_quiet : (name : List ℕ) (r : Reply) → says_nothing r ≡ true → IsQuiet (event_of (Pin name) r)
 pin_quiet name answer.Worn e = (refl, refl)
 pin_quiet name answer.ScopeFull e = (refl, refl)
+pin_quiet name (answer.Held seat) e = (refl, refl)
 pin_quiet name r e = absurd cc
 
 pin_own : (name : List ℕ) (r : Reply) → IsOnObject (event_of (Pin name) r)
@@ -255,6 +259,7 @@ made_quiet : (name bytes : List ℕ) (r : Reply) → says_nothing r ≡ true
     → (event_of (Make name bytes) r ≡ Refused NewObject) × (handle_given r ≡ None)
 made_quiet name bytes answer.Worn e = (refl, refl)
 made_quiet name bytes answer.ScopeFull e = (refl, refl)
+made_quiet name bytes (answer.Held seat) e = (refl, refl)
 made_quiet name bytes r e = absurd cc
 
 pub make_comes : (handles seat : ℕ) (before : List Called) (s t : Shown) (far new : FarState)

@@ -1,5 +1,5 @@
 -- What is owed by a job that works at the far state alone, and that each of these jobs pays it.
-use Rattle.std.proofs.Common.{◌≡◌, ℕ, ◌+◌, ◌≤◌, refl, sym, ap, subst, arith, inl, inr}
+use Rattle.std.proofs.Common.{◌≡◌, ℕ, ◌+◌, ◌≤◌, refl, sym, subst, arith, inl, inr}
 use Rattle.cb_member.specs.Membership.{Membership}
 use Rattle.cb_set.specs.SetState.{SetState}
 use Rattle.cb_types.specs.declared.config.Config.{Config}
@@ -21,7 +21,9 @@ use Rattle.cb_rebuild.specs.RebuildStep.{RebuildStep, Restores, surveyed}
 use Rattle.cb_rebuild.proofs.Laws.{failed_stays, keeps_first, keeps_step, rebuild_stays, rebuild_step_fixes}
 use Rattle.cb_core.specs.FarJobs.{FarLacks, FarStep, IsWeakGiven}
 use Rattle.cb_core.specs.Jobs.{IsJob}
-use Rattle.cb_core.proofs.NodesStay.{MakesNone, crash_fixed, crash_line, crash_none, crash_rises, crash_sound, crash_stays, join_fixed, join_line, join_none, join_now, join_rises, join_sound, join_stays, member_of}
+use Rattle.cb_core.proofs.CompactIdle.{now_idle}
+use Rattle.cb_core.proofs.NodesStay.{IsWhole, MakesNone, MembersAfter, Stands, crash_fixed, crash_line, crash_none, crash_sound, crash_stands, crash_stays, join_fixed, join_line, join_none, join_now, join_sound, join_stands, join_stays, member_of, standing, stands_same}
+use Rattle.cb_core.proofs.RowsHeld.{IsIdle}
 
 -- the replies of the job are those of its line
 abbrev pub AnswersLine : Job → Reply → Type 0
@@ -57,8 +59,7 @@ pub record StaysSound (N : FarState → FarState → Type 0) (c : Config) (s : S
 -- what is owed
 pub record IsFarJob (job : Job) : Type 0 where
   pub none : (far new : FarState) (r : Reply) → FarStep job far new r → MakesNone far new
-  pub rises : (far new : FarState) (r : Reply) → FarStep job far new r
-      → far.members.epoch ≤ new.members.epoch
+  pub stands : (far new : FarState) (r : Reply) → FarStep job far new r → Stands job far new
   pub answers : (far new : FarState) (r : Reply) → FarStep job far new r → AnswersLine job r
   pub keeps : (c : Config) (s : Shown) (far new : FarState) (r : Reply) → IsJob c job
       → IsConfigured c far → Sound s far → FarStep job far new r → StaysSound (note_of job) c s far new
@@ -95,23 +96,25 @@ same_looks : (c : Config) (s : Shown) (far new : FarState) → IsConfigured c fa
 same_looks = same_by KeepsHolding (λ far holds. holds)
 
 -- ---- by the laws of a step that leaves the members
-members_rise : (far new : FarState) → new.members ≡ far.members
-    → far.members.epoch ≤ new.members.epoch
-members_rise far new same = let e = ap (λ (m : Membership). m.epoch) same in omega (arith, e)
-
 by_laws : (job : Job) (most : ℕ) (asked : Request) → most ≤ 64
     → AreFarLaws (note_of job) most asked (FarStep job)
+    → ((old new : Membership) → new ≡ old → MembersAfter job old new)
+    → (IsWhole job → (far new : FarState) (r : Reply) → FarStep job far new r → IsIdle far
+    → IsIdle new)
     → ((r : Reply) → IsReplyOf asked r → AnswersLine job r)
     → ((c : Config) (s : Shown) (far new : FarState) → IsConfigured c far → Sound s far
     → FarLacks job far new → StaysSound (note_of job) c s far new)
     → IsFarJob job
-by_laws job most asked few laws answered lacking = record {
+by_laws job most asked few laws stay idle answered lacking = record {
   none = λ far new r step. let z = laws.leaves far new r step in record {
     first = z.first;
     made = z.made;
     turns = z.turns;
   };
-  rises = λ far new r step. members_rise far new (laws.leaves far new r step).members;
+  stands = λ far new r step. record {
+    members = stay far.members new.members (laws.leaves far new r step).members;
+    idle = λ whole none. idle whole far new r step none;
+  };
   answers = λ far new r step. answered r (laws.answers far new r step);
   keeps = λ c s far new r ok is sound step. stays_sound c most s far new few is
       (laws.stays c s far new r sound step) (laws.keeps s far new r sound step).sound;
@@ -122,18 +125,18 @@ by_laws job most asked few laws answered lacking = record {
 
 -- ---- a rebuild
 restored_none : (far new : FarState) (id : ℕ) (set : SetState) (r : Reply)
-    → Restores (surveyed far id) id set new r → MakesNone far new × (new.members ≡ far.members)
+    → Restores (surveyed far id) id set new r → MakesNone far new × (standing new ≡ standing far)
 restored_none far new id set r (inl stuck) =
-    subst (λ (f : FarState). MakesNone far f × (f.members ≡ far.members)) (sym stuck.same)
+    subst (λ (f : FarState). MakesNone far f × (standing f ≡ standing far)) (sym stuck.same)
     (record { first = refl; made = refl; turns = refl }, refl)
 restored_none far new id set r (inr z) =
-    subst (λ (f : FarState). MakesNone far f × (f.members ≡ far.members)) (sym z.state)
+    subst (λ (f : FarState). MakesNone far f × (standing f ≡ standing far)) (sym z.state)
     (record { first = refl; made = refl; turns = refl }, refl)
 
 rebuild_none : (far new : FarState) (r : Reply) → RebuildStep far new r
-    → MakesNone far new × (new.members ≡ far.members)
+    → MakesNone far new × (standing new ≡ standing far)
 rebuild_none far new r (inl none) =
-    subst (λ (f : FarState). MakesNone far f × (f.members ≡ far.members)) (sym none.state)
+    subst (λ (f : FarState). MakesNone far f × (standing f ≡ standing far)) (sym none.state)
     (record { first = refl; made = refl; turns = refl }, refl)
 rebuild_none far new r (inr z) = restored_none far new z.id z.set r z.restores
 
@@ -156,7 +159,8 @@ rebuild_lacks c s far new is sound (id, set, n, first, few, state) =
 rebuild_owes : IsFarJob Rebuild
 rebuild_owes = record {
   none = λ far new r step. (rebuild_none far new r step).0;
-  rises = λ far new r step. members_rise far new (rebuild_none far new r step).1;
+  stands = λ far new r step. stands_same Rebuild (λ old later e. e) far new
+      (rebuild_none far new r step).1;
   answers = rebuild_line;
   keeps = λ c s far new r ok is sound step. stays_sound c 16 s far new (omega arith) is
       (rebuild_stays c s far new r sound step) (keeps_step s far new r sound step).sound;
@@ -167,16 +171,21 @@ rebuild_owes = record {
 
 -- ---- every job
 pub far_job : (job : Job) → IsFarJob job
-far_job Pair = by_laws Pair 1 line.Pair (omega arith) begin_laws (λ r x. x) same_looks
-far_job Patch = by_laws Patch 1 line.Patch (omega arith) patch_laws (λ r x. x) same_lacks
-far_job Merge = by_laws Merge 1 line.Merge (omega arith) merge_laws (λ r x. x) same_lacks
-far_job Part = by_laws Part 1 line.Part (omega arith) part_laws (λ r x. x)
+far_job Pair = by_laws Pair 1 line.Pair (omega arith) begin_laws (λ old later e. e)
+    (λ whole. absurd whole) (λ r x. x) same_looks
+far_job Patch = by_laws Patch 1 line.Patch (omega arith) patch_laws (λ old later e. e)
+    (λ whole. absurd whole) (λ r x. x) same_lacks
+far_job Merge = by_laws Merge 1 line.Merge (omega arith) merge_laws (λ old later e. e)
+    (λ whole. absurd whole) (λ r x. x) same_lacks
+far_job Part = by_laws Part 1 line.Part (omega arith) part_laws (λ old later e. e)
+    (λ whole. absurd whole) (λ r x. x)
     (λ c s far new is sound x. absurd x)
-far_job Compact = by_laws Compact 20 line.Compact (omega arith) now_laws (λ r x. x) same_looks
+far_job Compact = by_laws Compact 20 line.Compact (omega arith) now_laws (λ old later e. e)
+    (λ whole. now_idle) (λ r x. x) same_looks
 far_job Rebuild = rebuild_owes
 far_job (Crash node) = record {
   none = λ far new r step. crash_none far new node r step;
-  rises = λ far new r step. crash_rises far new node r step;
+  stands = λ far new r step. crash_stands far new node r step;
   answers = λ far new r step. crash_line far new node r step;
   keeps = λ c s far new r ok is sound step. stays_sound c 1 s far new (omega arith) is
       (crash_stays c node far new r step)
@@ -187,7 +196,7 @@ far_job (Crash node) = record {
 }
 far_job (Join node) = record {
   none = λ far new r step. join_none far new node r step;
-  rises = λ far new r step. join_rises far new node r step;
+  stands = λ far new r step. join_stands far new node r step;
   answers = λ far new r step. join_line far new node r step;
   keeps = λ c s far new r ok is sound step. stays_sound c 1 s far new (omega arith) is
       (join_stays c node far new r step)
@@ -199,7 +208,7 @@ far_job (Join node) = record {
 }
 far_job job = record {
   none = λ far new r step. absurd step;
-  rises = λ far new r step. absurd step;
+  stands = λ far new r step. absurd step;
   answers = λ far new r step. absurd step;
   keeps = λ c s far new r ok is sound step. absurd step;
   now = λ holds c s far new r ok is sound step. absurd step;

@@ -8,7 +8,11 @@ pub mod DeclinedLooks
 pub mod Changes
 pub mod KeptPins
 pub mod KeptParts
+pub mod FewLost
+pub mod RowsHeld
+pub mod RoomyNodes
 pub mod NodesStay
+pub mod CompactIdle
 pub mod FarJobs
 mod Noted
 pub mod StillParts
@@ -34,15 +38,18 @@ pub mod OpenKeptSteps
 pub mod OpenFrame
 pub mod OpenFixed
 pub mod HoldingSound
+pub mod HoldingFixed
 pub mod ClaimAnswers
 pub mod PartsStay
 pub mod Settings
 pub mod Epochs
+pub mod CrashesKept
 pub mod WorkedPins
 mod WorkedClaims
 pub mod WorkedMembership
 pub mod WorkedRoom
 pub mod WorkedTurns
+pub mod WorkedHolding
 pub mod WorkedStill
 pub mod WorkedPairs
 pub mod Runs

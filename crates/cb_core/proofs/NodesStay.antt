@@ -1,14 +1,19 @@
 -- What a crash and a join leave of the configured sizes and codes, of what is counted and of the
 -- sound world; how each is answered; and that each is fixed.
-use Rattle.std.proofs.Common.{◌≡◌, ℕ, ◌+◌, ◌<◌, ◌≤◌, length, refl, sym, ap, ◌∙◌, subst, arith, length-set}
+use Rattle.std.proofs.Common.{◌≡◌, ◌⊎◌, ℕ, ◌<◌, length, Option, refl, sym, ap, ◌∙◌, subst, arith, inl, inr, length-set}
 use Rattle.std.proofs.lemmas.Bool.{false≢true}
 use Rattle.cb_member.specs.declared.names.NodeId.{NodeId}
+use Rattle.cb_member.specs.Membership.{Membership, with_crash, with_join}
 use Rattle.cb_types.specs.declared.config.Config.{Config}
+use Rattle.cb_types.specs.declared.job.Job.{Job}
+use Rattle.cb_types.specs.declared.job.Job.TheVariants.{Begin, Ship, Commit, Abort, Pair, Patch, Merge, Part, Crash, Join}
 use Rattle.cb_types.specs.declared.reply.Reply.{Reply}
 use Rattle.cb_types.specs.declared.request.Request.TheVariants as line
 use Rattle.cb_types.specs.Table.{IsReplyOf}
 use Rattle.cb_world.specs.declared.shown.Shown.{Shown}
 use Rattle.cb_world.specs.FarState.{FarState}
+use Rattle.cb_world.specs.Joining.{JoiningState}
+use Rattle.cb_world.specs.Leaving.{LeavingState}
 use Rattle.cb_world.specs.NodeChanges.{crashed_far, joined_far}
 use Rattle.cb_world.specs.Now.{now}
 use Rattle.cb_world.specs.Sound.{Sound}
@@ -16,6 +21,7 @@ use Rattle.cb_world.specs.World.{IsConfigured}
 use Rattle.cb_node.specs.NodesState.{held}
 use Rattle.cb_world.proofs.Laws.{crash_note, codes_stay, IsLike, StaysIf, stays_like, stays_same, node_crash_sound, node_join_sound, node_join_now}
 use Rattle.cb_core.specs.Membership.{CrashTurn, crashed, is_down, JoinTurn, joined, is_up}
+use Rattle.cb_core.proofs.RowsHeld.{IsIdle}
 
 -- no object was made and no turn was counted
 pub record MakesNone (far new : FarState) : Type 0 where
@@ -86,25 +92,70 @@ join_now s far new node r h within (joined down reply state) =
     ap (λ (f : FarState). now s f h) state ∙ node_join_now s far node h within
 join_now s far new node r h within (is_up up reply state) = ap (λ (f : FarState). now s f h) state
 
--- the epoch is the next one, or as it was
-rises_one : (far new : FarState) → new.members.epoch ≡ far.members.epoch + 1
-    → far.members.epoch ≤ new.members.epoch
-rises_one far new e = omega (arith, e)
+-- ---- the members, the batch and the pair
+abbrev pub Standing : Type 0
+Standing = Membership × Option LeavingState × Option JoiningState
 
-rises_none : (far new : FarState) → new ≡ far → far.members.epoch ≤ new.members.epoch
-rises_none far new same = let e = ap (λ (f : FarState). f.members.epoch) same in omega (arith, e)
+-- the members, the batch that is leaving and the pair that is joining
+abbrev pub standing : FarState → Standing
+standing far = (far.members, far.leaving, far.joining)
 
-pub crash_rises : (far new : FarState) (node : NodeId) (r : Reply) → CrashTurn node far r new
-    → far.members.epoch ≤ new.members.epoch
-crash_rises far new node r (crashed up reply state) =
-    rises_one far new (ap (λ (f : FarState). f.members.epoch) state)
-crash_rises far new node r (is_down down reply state) = rises_none far new state
+-- the members behind a job: a crash and a join that take place change a node, and no other job does
+abbrev pub MembersAfter : Job → Membership → Membership → Type 0
+MembersAfter (Crash node) old new = (new ≡ old) ⊎ (new ≡ with_crash old node)
+MembersAfter (Join node) old new = (new ≡ old) ⊎ (new ≡ with_join old node)
+MembersAfter job old new = new ≡ old
 
-pub join_rises : (far new : FarState) (node : NodeId) (r : Reply) → JoinTurn node far r new
-    → far.members.epoch ≤ new.members.epoch
-join_rises far new node r (joined down reply state) =
-    rises_one far new (ap (λ (f : FarState). f.members.epoch) state)
-join_rises far new node r (is_up up reply state) = rises_none far new state
+-- the job is no step of an eviction or of a pair
+abbrev pub IsWhole : Job → Type 0
+IsWhole Begin = ⊥
+IsWhole Ship = ⊥
+IsWhole Commit = ⊥
+IsWhole Abort = ⊥
+IsWhole Pair = ⊥
+IsWhole Patch = ⊥
+IsWhole Merge = ⊥
+IsWhole Part = ⊥
+IsWhole job = Unit {0}
+
+-- how the members stand behind a job; and where no batch is leaving and no pair is joining, none is
+-- behind a job that is whole
+pub record Stands (job : Job) (far new : FarState) : Type 0 where
+  pub members : MembersAfter job far.members new.members
+  pub idle : IsWhole job → IsIdle far → IsIdle new
+
+-- so it is behind a job that leaves all three, one of those whose members stay
+pub stands_same : (job : Job) → ((old new : Membership) → new ≡ old → MembersAfter job old new)
+    → (far new : FarState) → standing new ≡ standing far → Stands job far new
+stands_same job stay far new e = record {
+  members = stay far.members new.members (ap (λ (x : Standing). x.0) e);
+  idle = λ whole idle. (
+    ap (λ (x : Standing). x.1) e ∙ idle.0,
+    ap (λ (x : Standing). x.2) e ∙ idle.1,
+  );
+}
+
+pub crash_stands : (far new : FarState) (node : NodeId) (r : Reply) → CrashTurn node far r new
+    → Stands (Crash node) far new
+crash_stands far new node r (crashed up reply state) = record {
+  members = inr (ap (λ (f : FarState). f.members) state);
+  idle = λ whole idle. subst IsIdle (sym state) idle;
+}
+crash_stands far new node r (is_down down reply state) = record {
+  members = inl (ap (λ (f : FarState). f.members) state);
+  idle = λ whole idle. subst IsIdle (sym state) idle;
+}
+
+pub join_stands : (far new : FarState) (node : NodeId) (r : Reply) → JoinTurn node far r new
+    → Stands (Join node) far new
+join_stands far new node r (joined down reply state) = record {
+  members = inr (ap (λ (f : FarState). f.members) state);
+  idle = λ whole idle. subst IsIdle (sym state) idle;
+}
+join_stands far new node r (is_up up reply state) = record {
+  members = inl (ap (λ (f : FarState). f.members) state);
+  idle = λ whole idle. subst IsIdle (sym state) idle;
+}
 
 pub crash_none : (far new : FarState) (node : NodeId) (r : Reply) → CrashTurn node far r new
     → MakesNone far new

@@ -34,18 +34,19 @@ use Rattle.cb_evict.proofs.Laws.{evict_pinned}
 use Rattle.cb_filter.specs.FilterStep.{refused, cools, without_slot, moves}
 use Rattle.cb_swapin.proofs.Laws.{pinned_stays}
 use Rattle.cb_core.specs.declared.event.Atomic.{Atomic}
-use Rattle.cb_core.specs.declared.event.Atomic.TheVariants.{Load, Pin, Unpin, Claim, Store, Settle}
+use Rattle.cb_core.specs.declared.event.Atomic.TheVariants.{Load, Pin, Unpin, Claim, Store, Settle, Take, Give}
 use Rattle.cb_core.specs.declared.event.Event.{Event}
 use Rattle.cb_core.specs.declared.event.Event.TheVariants as event
 use Rattle.cb_core.specs.Claiming.{refused as claim_refused, taken as claim_taken, not_claimed as none_stored, nothing_left, stored, stamped, not_stored, settled}
-use Rattle.cb_core.specs.Events.{IsEvent, handle_of}
+use Rattle.cb_core.specs.Events.{IsAtomic, IsEvent}
 use Rattle.cb_core.specs.Jobs.{IsJob}
 use Rattle.cb_core.specs.Parts.{Holding, NeverDeclined, WithRoom, at_once, no_room, won, WhereItIs, near, declined, stays_far, brought, not_far, was_far}
 use Rattle.cb_core.specs.Pinning.{scope_full, refused as pin_refused, taken, not_pinned, given}
 use Rattle.cb_core.specs.Run.{LeadsSoundly}
-use Rattle.cb_core.specs.Step.{Step, StillMake, StillRead, StillWrite, StillFree, StillFilter, StillDecline, StillEvict, StillRoom, StillSwap, StillBring, StillWorks, AtomicStep, TurnStep, worn, done}
+use Rattle.cb_core.specs.Step.{Step, StillMake, StillRead, StillWrite, StillFree, StillFilter, StillDecline, StillEvict, StillRoom, StillSwap, StillBring, StillWorks, AtomicStep, TurnStep, worn, done, held as other_holds, free as alone}
 use Rattle.cb_core.specs.Unmoved.{IsUnmoved, HasPin, KeepsPinned, LeadsPinned, StaysPinned}
 use Rattle.cb_core.proofs.OpenKeptSteps.{with_stored}
+use Rattle.cb_core.proofs.HoldingFixed.{give_leaves, take_leaves}
 use Rattle.cb_core.proofs.OpenStores.{others_here}
 use Rattle.cb_core.proofs.Changes.{read_leaves, write_leaves, free_leaves}
 use Rattle.cb_core.proofs.Settings.{step_settings}
@@ -388,7 +389,7 @@ touched x y h v k below left place len = subst (IsUnmoved k x) (sym left) (by (�
         unmoved (ap place_of at ∙ place ∙ ap place_of old) (ap len_of at ∙ len ∙ ap len_of old)
 
 atomic_pinned : (seat : ℕ) (atomic : Atomic) (w new : WorldState) (r : Reply) → IsSoundWorld w
-    → handle_of atomic < w.desk.settings.handles → AtomicStep seat atomic w r new → KeepsPinned w new
+    → IsAtomic w.desk.settings atomic → AtomicStep seat atomic w r new → KeepsPinned w new
 atomic_pinned seat (Load handle) w new r sound lt step k some still =
     unmoved_same w.desk new.desk k (ap (λ (v : WorldState). v.desk) step.1)
 atomic_pinned seat (Pin handle) w new r sound lt (scope_full full is same) k some still =
@@ -443,10 +444,17 @@ atomic_pinned seat (Settle handle) w new r sound lt (settled at x none is t) k s
     touched w.desk new.desk handle.n t.word.word k
     (let n = sound.known.sized.words in omega (arith, n, lt)) t.word.words t.word.settles.place
     t.word.settles.len
+atomic_pinned seat Take w new r sound lt step k some still =
+    unmoved_same w.desk new.desk k (take_leaves w new seat r step).desk
+atomic_pinned seat Give w new r sound lt step k some still =
+    unmoved_same w.desk new.desk k (give_leaves w new seat r step).desk
 
 pub step_pinned : (e : Event) (w new : WorldState) (r : Reply) → IsSoundWorld w → IsSoundWorld new
     → IsEvent w.desk.settings e → Step w e r new → KeepsPinned w new
-step_pinned (event.Turn seat j) w new r sound after ok step = turn_pinned j w new r sound after ok.1 step
+step_pinned (event.Turn seat j) w new r sound after ok (other_holds holder off holds is same) =
+    λ k some still. unmoved_same w.desk new.desk k (ap (λ (v : WorldState). v.desk) same)
+step_pinned (event.Turn seat j) w new r sound after ok (alone none step) =
+    turn_pinned j w new r sound after ok.1 step
 step_pinned (event.Step seat atomic) w new r sound after ok step =
     atomic_pinned seat atomic w new r sound ok.1 step
 

@@ -30,6 +30,7 @@ use Rattle.cb_world.specs.Empty.{empty_words, empty_far, empty_shown}
 use Rattle.cb_world.specs.FarState.{FarState}
 use Rattle.cb_world.specs.Memory.{bytes_in}
 use Rattle.cb_world.specs.Now.{now}
+use Rattle.cb_world.specs.Plain.{Words}
 use Rattle.cb_world.specs.Now.Now.{held, gone}
 use Rattle.cb_world.specs.Seats.{IsNewest, SeatState, idle_seat, pins_of_seat}
 use Rattle.cb_world.specs.StillWords.{stamp_at, contents_at}
@@ -47,8 +48,9 @@ use Rattle.cb_core.specs.Events.{IsRunEvent}
 use Rattle.cb_core.specs.Jobs.{IsJob}
 use Rattle.cb_core.specs.Pinning.{PinStep, scope_full, refused, taken, pin_refusal, UnpinStep, not_pinned, given}
 use Rattle.cb_core.specs.Run.{LeadsSoundly}
-use Rattle.cb_core.specs.Step.{Step, TurnStep, worn, done}
+use Rattle.cb_core.specs.Step.{Step, TurnStep, worn, done, held as other_holds, free}
 use Rattle.cb_core.proofs.CallsBeside.{Comes, IsObjectCall, comes_none, call_comes, make_comes, on_read, on_write, on_free, on_pinned}
+use Rattle.cb_core.proofs.HoldingFixed.{LeavesAll, give_leaves, take_leaves}
 use Rattle.cb_core.proofs.OpenFrame.{claim_leaves, store_leaves, settle_leaves}
 use Rattle.cb_core.proofs.Settings.{step_settings}
 use Rattle.cb_core.proofs.TurnCalls.{read_turn, write_turn, free_turn, make_turn, evict_turn, begin_turn, ship_turn, commit_turn, abort_turn, swap_turn, crash_turn, far_map, is_done, turn_first, filter_turn}
@@ -128,6 +130,20 @@ worn_goes : (before : List Called) (seat : ℕ) (j : Job) (r : Reply) (w new : W
 worn_goes before seat j r w new c is same =
     subst (λ (cs : List Called). Comes w.desk.settings.handles before cs c.after.shown w.far new.far)
     (sym (ap (called_as before (event.Turn seat j)) is ∙ worn_none before seat j))
+    (same_goes before w new c same)
+
+-- so is one beside another seat that holds the far lock
+held_none : (before : List Called) (seat holder : ℕ) (j : Job)
+    → called_as before (event.Turn seat j) (answer.Held holder) ≡ []
+held_none before seat holder job.Evict = refl
+held_none before seat holder j = refl
+
+held_goes : (before : List Called) (seat holder : ℕ) (j : Job) (r : Reply) (w new : WorldState)
+    → (c : Around before w new) → r ≡ answer.Held holder → new ≡ w
+    → Goes before (event.Turn seat j) r w new c.after.shown
+held_goes before seat holder j r w new c is same =
+    subst (λ (cs : List Called). Comes w.desk.settings.handles before cs c.after.shown w.far new.far)
+    (sym (ap (called_as before (event.Turn seat j)) is ∙ held_none before seat holder j))
     (same_goes before w new c same)
 
 -- a turn that keeps the map is no call
@@ -309,12 +325,28 @@ unpin_beside before seat h r w new c lt (given is t) =
     (subst (λ (f : FarState). IsKnown new.desk f c.after.shown) t.far c.after.known) t.word
     (pinned_here w seat t.at h c.at_first lt t.newest))
 
+-- ---- the far lock
+
+-- where the words and the far state stay, the map stays beside them
+lock_goes : (before : List Called) (w new : WorldState) → (c : Around before w new) → LeavesAll w new
+    → Comes w.desk.settings.handles before [] c.after.shown w.far new.far
+lock_goes before w new c same = comes_none w.desk.settings.handles before c.after.shown w.far new.far
+    (beside_kept before c.at_first.shown c.after.shown w.far new.far c.beside
+    (ap (λ (f : FarState). f.made) same.far)
+    (λ k. ap (λ (f : FarState). now c.after.shown f k) same.far
+    ∙ known_same w.desk w.far c.at_first.shown c.after.shown k c.at_first.known
+    (subst (λ (x : Words). IsKnown x w.far c.after.shown) same.desk
+    (subst (λ (f : FarState). IsKnown new.desk f c.after.shown) same.far c.after.known))))
+
 -- ---- every event
 
 event_goes : (before : List Called) (e : Event) (r : Reply) (w new : WorldState)
     → (c : Around before w new) → IsRunEvent w.desk.settings e → Step w e r new
     → Goes before e r w new c.after.shown
-event_goes before (event.Turn seat j) r w new c ok step = turn_goes before seat j r w new c ok.1 step
+event_goes before (event.Turn seat j) r w new c ok (other_holds holder off holds is same) =
+    held_goes before seat holder j r w new c is same
+event_goes before (event.Turn seat j) r w new c ok (free none step) =
+    turn_goes before seat j r w new c ok.1 step
 event_goes before (event.Step seat (atomic.Load handle)) r w new c ok step =
     same_goes before w new c step.1
 event_goes before (event.Step seat (atomic.Pin handle)) r w new c ok step =
@@ -325,13 +357,19 @@ event_goes before (event.Step seat (atomic.Unpin handle)) r w new c ok step =
 event_goes before (event.Step seat (atomic.Claim handle at bytes)) r w new c ok step = absurd (ok.1 tt)
 event_goes before (event.Step seat (atomic.Store handle)) r w new c ok step = absurd (ok.1 tt)
 event_goes before (event.Step seat (atomic.Settle handle)) r w new c ok step = absurd (ok.1 tt)
+event_goes before (event.Step seat atomic.Take) r w new c ok step =
+    lock_goes before w new c (take_leaves w new seat r step)
+event_goes before (event.Step seat atomic.Give) r w new c ok step =
+    lock_goes before w new c (give_leaves w new seat r step)
 
 -- no event changes the first version
 event_first : (e : Event) (r : Reply) (w new : WorldState) → IsSoundWorld w → Step w e r new
     → new.far.first ≡ w.far.first
-event_first (event.Turn seat j) r w new sound (worn end is same) =
+event_first (event.Turn seat j) r w new sound (other_holds holder off holds is same) =
     ap (λ (v : WorldState). v.far.first) same
-event_first (event.Turn seat j) r w new sound (done few works seats) =
+event_first (event.Turn seat j) r w new sound (free none (worn end is same)) =
+    ap (λ (v : WorldState). v.far.first) same
+event_first (event.Turn seat j) r w new sound (free none (done few works seats)) =
     turn_first j w new r sound few (done few works seats)
 event_first (event.Step seat (atomic.Load handle)) r w new sound step =
     ap (λ (v : WorldState). v.far.first) step.1
@@ -351,6 +389,10 @@ event_first (event.Step seat (atomic.Store handle)) r w new sound step =
     ap (λ (f : FarState). f.first) (store_leaves w new seat handle.n r step).far
 event_first (event.Step seat (atomic.Settle handle)) r w new sound step =
     ap (λ (f : FarState). f.first) (settle_leaves w new seat handle.n r step).far
+event_first (event.Step seat atomic.Take) r w new sound step =
+    ap (λ (f : FarState). f.first) (take_leaves w new seat r step).far
+event_first (event.Step seat atomic.Give) r w new sound step =
+    ap (λ (f : FarState). f.first) (give_leaves w new seat r step).far
 
 -- ---- runs
 

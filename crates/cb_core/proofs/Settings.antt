@@ -14,13 +14,14 @@ use Rattle.cb_evict.specs.CommitStep.{no_batch as none_to_commit, short, committ
 use Rattle.cb_evict.proofs.Laws.{evict_settings}
 use Rattle.cb_filter.specs.FilterStep.{refused as refuses, cools, without_slot, moves}
 use Rattle.cb_swapin.proofs.Laws.{settings_stay}
-use Rattle.cb_core.specs.declared.event.Atomic.TheVariants.{Load, Pin, Unpin, Claim, Store, Settle}
+use Rattle.cb_core.specs.declared.event.Atomic.TheVariants.{Load, Pin, Unpin, Claim, Store, Settle, Take, Give}
 use Rattle.cb_core.specs.declared.event.Event.{Event}
 use Rattle.cb_core.specs.declared.event.Event.TheVariants as event
 use Rattle.cb_core.specs.Parts.{Holding, NeverDeclined}
 use Rattle.cb_core.specs.Pinning.{PinStep, scope_full, refused, taken, UnpinStep, not_pinned, given}
-use Rattle.cb_core.specs.Step.{StillMake, StillRead, StillWrite, StillFree, StillFind, StillDecline, StillEvict, StillRoom, StillSwap, StillBring, StillFilter, StillBegin, StillShip, StillCommit, StillAbort, StillWorks, TurnStep, worn, done, Step}
+use Rattle.cb_core.specs.Step.{StillMake, StillRead, StillWrite, StillFree, StillFind, StillDecline, StillEvict, StillRoom, StillSwap, StillBring, StillFilter, StillBegin, StillShip, StillCommit, StillAbort, StillWorks, TurnStep, worn, done, held, free, Step}
 use Rattle.cb_core.specs.Turned.{counted}
+use Rattle.cb_core.proofs.HoldingFixed.{take_leaves, give_leaves}
 use Rattle.cb_core.proofs.OpenFrame.{claim_leaves, store_leaves, settle_leaves}
 use Rattle.cb_core.proofs.Changes.{read_leaves, write_leaves, free_leaves}
 use Rattle.cb_core.proofs.PartsStay.{Leaves, room_same, where_same, brings_same}
@@ -138,7 +139,7 @@ works_settings (Filter handle) a b r step = filter_same handle.n a b r step
 works_settings job a b r step = words_same a b step.0
 
 -- ---- events
-turn_settings : (w new : WorldState) (job : Job) (r : Reply) → TurnStep job w r new
+pub turn_settings : (w new : WorldState) (job : Job) (r : Reply) → TurnStep job w r new
     → new.desk.settings ≡ w.desk.settings
 turn_settings w new job r (worn end reply same) = ap (λ (v : WorldState). v.desk.settings) same
 turn_settings w new job r (done few works seats) =
@@ -160,7 +161,9 @@ unpin_settings w new seat h r (given reply t) = ap (λ (z : Words). z.settings) 
 
 pub step_settings : (w new : WorldState) (e : Event) (r : Reply) → Step w e r new
     → new.desk.settings ≡ w.desk.settings
-step_settings w new (event.Turn seat job) r step = turn_settings w new job r step
+step_settings w new (event.Turn seat job) r (held holder off holds reply same) =
+    ap (λ (v : WorldState). v.desk.settings) same
+step_settings w new (event.Turn seat job) r (free none step) = turn_settings w new job r step
 step_settings w new (event.Step seat (Load handle)) r step =
     ap (λ (v : WorldState). v.desk.settings) step.1
 step_settings w new (event.Step seat (Pin handle)) r step = pin_settings w new seat handle.n r step
@@ -171,3 +174,7 @@ step_settings w new (event.Step seat (Store handle)) r step =
     (store_leaves w new seat handle.n r step).settings
 step_settings w new (event.Step seat (Settle handle)) r step =
     (settle_leaves w new seat handle.n r step).settings
+step_settings w new (event.Step seat Take) r step =
+    ap (λ (z : Words). z.settings) (take_leaves w new seat r step).desk
+step_settings w new (event.Step seat Give) r step =
+    ap (λ (z : Words). z.settings) (give_leaves w new seat r step).desk

@@ -23,16 +23,17 @@ use Rattle.cb_filter.proofs.Laws.{filter_step_fixes}
 use Rattle.cb_swapin.specs.SwapStep.{IsSwapStep}
 use Rattle.cb_swapin.proofs.Laws.{swap_step_fixes}
 use Rattle.cb_core.specs.declared.event.Atomic.{Atomic}
-use Rattle.cb_core.specs.declared.event.Atomic.TheVariants.{Load, Pin as PinOn, Unpin, Claim, Store, Settle}
+use Rattle.cb_core.specs.declared.event.Atomic.TheVariants.{Load, Pin as PinOn, Unpin, Claim, Store, Settle, Take, Give}
 use Rattle.cb_core.specs.declared.event.Event.{Event}
 use Rattle.cb_core.specs.declared.event.Event.TheVariants as event
 use Rattle.cb_core.specs.Parts.{Holding, NeverDeclined}
 use Rattle.cb_core.specs.Pinning.{IsPinGiven, IsPinTaken, PinStep, scope_full, refused, taken, UnpinStep, not_pinned, given}
 use Rattle.cb_core.specs.Run.{LeadsSoundly}
-use Rattle.cb_core.specs.Step.{AtomicStep, Leads, Step, StillBring, StillDecline, StillFind, StillMake, StillRead, StillRoom, StillSwap, StillWorks, StillWrite, TurnStep, worn, done}
+use Rattle.cb_core.specs.Step.{AtomicStep, Leads, SeatTurn, held, free, Step, StillBring, StillDecline, StillFind, StillMake, StillRead, StillRoom, StillSwap, StillWorks, StillWrite, TurnStep, worn, done}
 use Rattle.cb_core.specs.Turned.{counted}
 use Rattle.cb_core.proofs.Counting.{counted_sound}
 use Rattle.cb_core.proofs.FarJobs.{far_job}
+use Rattle.cb_core.proofs.HoldingFixed.{give_fixed, one_holder, take_fixed}
 use Rattle.cb_core.proofs.OpenFixed.{claim_fixed, store_fixed, settle_fixed}
 use Rattle.cb_core.proofs.PartsFixed.{AreOne, IsFixed, LeavesAll, brings_in_fixed, where_it_is_fixed, with_room_fixed}
 
@@ -184,6 +185,15 @@ turn_fixed job w a b r q sound (done few x s) (done few' y t) =
           (s ∙ sym t),
     )
 
+-- a turn of a seat, by who holds the far lock
+seat_fixed : (seat : ℕ) (job : Job) (w a b : WorldState) (r q : Reply) → IsSoundWorld w
+    → SeatTurn seat job w r a → SeatTurn seat job w q b → (r ≡ q) × (a ≡ b)
+seat_fixed seat job w a b r q sound (held k off x e s) (held l out y f t) =
+    (e ∙ one_holder w.seats k l sound.one x y ∙ sym f, s ∙ sym t)
+seat_fixed seat job w a b r q sound (held k off x e s) (free none y) = absurd (off (none k x))
+seat_fixed seat job w a b r q sound (free none x) (held l out y f t) = absurd (out (none l y))
+seat_fixed seat job w a b r q sound (free none x) (free m y) = turn_fixed job w a b r q sound x y
+
 -- ---- a pin and its end
 -- the newest pin on an object is one
 pub newest_fixed : (pins : List Pin) (h i j : ℕ) → IsNewest pins h i → IsNewest pins h j → i ≡ j
@@ -242,6 +252,8 @@ atomic_fixed seat (Claim handle at bytes) w a b r q sound x y =
     claim_fixed w a b sound seat handle.n at bytes r q x y
 atomic_fixed seat (Store handle) w a b r q sound x y = store_fixed w a b sound seat handle.n r q x y
 atomic_fixed seat (Settle handle) w a b r q sound x y = settle_fixed w a b sound seat handle.n r q x y
+atomic_fixed seat Take w a b r q sound x y = take_fixed seat w a b r q sound.one x y
+atomic_fixed seat Give w a b r q sound x y = give_fixed seat w a b r q sound.one x y
 
 -- An event has one reply, and leads from a sound world to one world: every word of local memory, every
 -- row at the nodes and all else of it.
@@ -249,7 +261,7 @@ pub step_fixes : (w a b : WorldState) (e : Event) (r q : Reply) → IsSoundWorld
     → Step w e q b → (r ≡ q) × (a ≡ b)
 step_fixes w a b (event.Step seat atomic) r q sound x y =
     atomic_fixed seat atomic w a b r q sound x y
-step_fixes w a b (event.Turn seat job) r q sound x y = turn_fixed job w a b r q sound x y
+step_fixes w a b (event.Turn seat job) r q sound x y = seat_fixed seat job w a b r q sound x y
 
 -- ---- events one after another
 -- Where a run is sound all along, whatever leads by its events has its replies and ends in its world.

@@ -38,6 +38,9 @@ says_worn = refl
 says_full_scope : says_nothing answer.ScopeFull ≡ true
 says_full_scope = refl
 
+says_held : says_nothing (answer.Held 3) ≡ true
+says_held = refl
+
 says_unmade : says_nothing answer.Unmade ≡ false
 says_unmade = refl
 
@@ -113,6 +116,19 @@ a_pin_of_a_full_scope = refl
 
 a_turn_too_many : called_as (one ∷ []) read answer.Worn ≡ []
 a_turn_too_many = refl
+
+-- a turn beside another seat that holds the far lock is no call, whatever its job
+a_read_beside_the_lock : called_as (one ∷ []) read (answer.Held 3) ≡ []
+a_read_beside_the_lock = refl
+
+a_make_beside_the_lock : called_as (one ∷ []) make (answer.Held 3) ≡ []
+a_make_beside_the_lock = refl
+
+a_taking : called_as (one ∷ []) (event.Step 3 atomic.Take) answer.Done ≡ []
+a_taking = refl
+
+a_giving : called_as (one ∷ []) (event.Step 3 atomic.Give) answer.Done ≡ []
+a_giving = refl
 
 a_load : called_as (one ∷ []) (event.Step 3 (atomic.Load (record { n = 0 }))) (answer.Word 6) ≡ []
 a_load = refl

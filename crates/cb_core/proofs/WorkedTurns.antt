@@ -17,7 +17,7 @@ use Rattle.cb_world.specs.Placed.{HasRoom}
 use Rattle.cb_world.specs.NodeChanges.{crashed_far}
 use Rattle.cb_world.specs.Survey.{survey_after_crash}
 use Rattle.cb_world.specs.Plain.{Words}
-use Rattle.cb_world.specs.Seats.{SeatState}
+use Rattle.cb_world.specs.Seats.{SeatState, Holds}
 use Rattle.cb_world.specs.World.{WorldState, word_at}
 use Rattle.cb_mutate.specs.MakeRule.{HasNoPlace}
 use Rattle.cb_mutate.specs.MakeStep.{IsMakeStep}
@@ -33,57 +33,57 @@ use Rattle.cb_evict.specs.declared.eviction.Eviction.TheVariants.{Refused, Set}
 use Rattle.cb_evict.specs.declared.eviction.Lack.{Lack}
 use Rattle.cb_evict.specs.declared.eviction.Lack.TheVariants.{Spans}
 use Rattle.cb_core.specs.Parts.{Holding, at_once, no_room as no_room_won, won, near, far as was_away, after as once_in}
-use Rattle.cb_core.specs.Step.{StillEvict, StillRoom, TurnStep, worn, done, Step, Leads, Stops, StillStops}
+use Rattle.cb_core.specs.Step.{StillEvict, StillRoom, TurnStep, worn, done, free, Step, Leads, Stops, StillStops}
 use Rattle.cb_core.proofs.WorkedPins.{settings, desk, calm, hot, pinned, pin_on, seat_with}
 use Rattle.cb_core.proofs.WorkedRoom.{counts, far_of, first_down, span_with, two_open, words_are}
 
-abbrev node : ℕ → NodeId
+abbrev pub node : ℕ → NodeId
 node n = record { n = n }
 
-abbrev handle : ℕ → Handle
+abbrev pub handle : ℕ → Handle
 handle n = record { n = n }
 
 -- two frames whose spans have object 0 and no room for a small one; both nodes are up; one of two
 -- handles was made
-abbrev far : CountsState → FarState
+abbrev pub far : CountsState → FarState
 far c = far_of (span_with (Some 0) None) (span_with None None) None (fresh_members 2) c
 
 -- node 0 crashed
-abbrev far_down : CountsState → FarState
+abbrev pub far_down : CountsState → FarState
 far_down c = record (far c) {
   nodes = with_rows (empty_nodes 2 4) (node 0) map.empty;
   members = first_down;
 }
 
 -- object 0 has this word at version 3, and two seats have these pins
-abbrev world : FarState → ℕ → List SeatState → WorldState
+abbrev pub world : FarState → ℕ → List SeatState → WorldState
 world f word seats = record { desk = desk word 3; far = f; seats = seats }
 
-abbrev idle : List SeatState
+abbrev pub idle : List SeatState
 idle = seat_with [] ∷ seat_with [] ∷ []
 
 -- by kinds: three reads; and a crash, which is of kind 17, or a join
-abbrev three : CountsState
+abbrev pub three : CountsState
 three = counts 3 (0 ∷ 3 ∷ replicate 17 0)
 
-abbrev four : CountsState
+abbrev pub four : CountsState
 four = counts 4 (0 ∷ 3 ∷ replicate 15 0 ++ 1 ∷ 0 ∷ [])
 
 abbrev four_as_a_join : CountsState
 four_as_a_join = counts 4 (0 ∷ 3 ∷ replicate 15 0 ++ 0 ∷ 1 ∷ [])
 
-abbrev old : WorldState
+abbrev pub old : WorldState
 old = world (far three) calm idle
 
 -- ---- a turn
 no_row : held (empty_nodes 2 4) (node 0) ≡ 0
 no_row = grind (arith, map.gets)
 
-crashed_down : crashed_far (far four) (node 0) ≡ far_down four
+pub crashed_down : crashed_far (far four) (node 0) ≡ far_down four
 crashed_down =
     ap (λ (n : ℕ). record (far_down four) { survey = survey_after_crash (far four).survey n }) no_row
 
-crash_turn : TurnStep (Crash (node 0)) old (answer.EpochAt (record { n = 1 }))
+pub crash_turn : TurnStep (Crash (node 0)) old (answer.EpochAt (record { n = 1 }))
     (world (far_down four) calm idle)
 crash_turn = done (lit< tt)
     (refl, crashed refl refl (sym crashed_down)) refl
@@ -284,10 +284,15 @@ loads_and_sees : Step old (event.Step 1 (Load (handle 0))) (answer.Word calm)
 loads_and_sees step = let e : 16390 ≡ 16386 =
     ap (λ (w : WorldState). word_at w.desk 0) step.1 in omega (arith, e)
 
--- a turn is that of every seat alike
+-- where no seat holds the far lock, a turn is that of every seat alike
+pub nobody : (seat other : ℕ) → Holds idle other → other ≡ seat
+nobody seat zero holds = absurd cc
+nobody seat (suc zero) holds = absurd cc
+nobody seat (suc (suc other)) holds = absurd cc
+
 whose_turn : Step old (event.Turn 63 (Crash (node 0))) (answer.EpochAt (record { n = 1 }))
     (world (far_down four) calm idle)
-whose_turn = crash_turn
+whose_turn = free (nobody 63) crash_turn
 
 -- ---- events in a row
 nothing_happens : Leads old [] [] old
@@ -295,7 +300,7 @@ nothing_happens = refl
 
 in_a_row : Leads old (event.Step 0 (Load (handle 0)) ∷ event.Turn 1 (Crash (node 0)) ∷ [])
     (answer.Word calm ∷ answer.EpochAt (record { n = 1 }) ∷ []) (world (far_down four) calm idle)
-in_a_row = (old, loads, (world (far_down four) calm idle, crash_turn, refl))
+in_a_row = (old, loads, (world (far_down four) calm idle, free (nobody 1) crash_turn, refl))
 
 a_reply_too_few : (new : WorldState)
     → Leads old (event.Step 0 (Load (handle 0)) ∷ []) [] new → ⊥
@@ -303,43 +308,43 @@ a_reply_too_few new none = none
 
 -- ---- no memory
 stops : Stops old (event.Turn 0 (Crash (node 0))) (world (far four) calm idle)
-stops = (lit< tt, refl, (refl, (refl, refl)))
+stops = (nobody 0, (lit< tt, refl, (refl, (refl, refl))))
 
 stops_and_crashes : Stops old (event.Turn 0 (Crash (node 0))) (world (far_down four) calm idle) → ⊥
 stops_and_crashes stopped = let e : 1 ≡ 0 =
-    ap (λ (f : FarState). f.members.epoch) stopped.2.1.0 in omega (arith, e)
+    ap (λ (f : FarState). f.members.epoch) stopped.1.2.1.0 in omega (arith, e)
 
 stops_uncounted : Stops old (event.Turn 0 (Crash (node 0))) old → ⊥
 stops_uncounted stopped = let e : 3 ≡ 4 =
-    ap (λ (f : FarState). f.counts.turns) stopped.2.1.0 in omega (arith, e)
+    ap (λ (f : FarState). f.counts.turns) stopped.1.2.1.0 in omega (arith, e)
 
 stops_and_takes_a_pin : Stops old (event.Turn 0 (Crash (node 0)))
     (world (far four) calm (seat_with (pin_on 0 3 ∷ []) ∷ seat_with [] ∷ [])) → ⊥
 stops_and_takes_a_pin stopped = let e : 1 ≡ 0 =
-    ap (λ (s : List SeatState). length (get_or s 0 (seat_with [])).pins) stopped.1 in omega (arith, e)
+    ap (λ (s : List SeatState). length (get_or s 0 (seat_with [])).pins) stopped.1.1 in omega (arith, e)
 
 -- the last turn was counted before
 stops_too_late : (new : WorldState) → Stops worn_out (event.Turn 0 (Crash (node 0))) new → ⊥
-stops_too_late new stopped = let few = stopped.0 in omega (arith, few)
+stops_too_late new stopped = let few = stopped.1.0 in omega (arith, few)
 
 -- a crash of a node that is down, a free, a join and a write to an object that is here take no memory
 down_and_stops : Stops (world (far_down three) calm idle) (event.Turn 0 (Crash (node 0)))
     (world (far_down four) calm idle) → ⊥
-down_and_stops stopped = absurd (let e = stopped.2.1.1 in cc)
+down_and_stops stopped = absurd (let e = stopped.1.2.1.1 in cc)
 
 free_stops : (new : WorldState) → Stops old (event.Turn 0 (Free (handle 0))) new → ⊥
-free_stops new stopped = stopped.2
+free_stops new stopped = stopped.1.2
 
 join_stops : (new : WorldState) → Stops old (event.Turn 0 (Join (node 0))) new → ⊥
-join_stops new stopped = stopped.2.1
+join_stops new stopped = stopped.1.2.1
 
 not_here_version : (v : ℕ) → answer.NotHere ≡ answer.Version v → ⊥
 not_here_version v e = cc
 
 write_stops : (new : WorldState) → Stops old (event.Turn 0 (Write (handle 0) 1 [])) new → ⊥
-write_stops new (few, seats, near none) = none
-write_stops new (few, seats, was_away m n o d lacks) = not_here_version 4 o.0.reply
-write_stops new (few, seats, once_in m n last f o d v lacks) = lacks
+write_stops new (alone, (few, seats, near none)) = none
+write_stops new (alone, (few, seats, was_away m n o d lacks)) = not_here_version 4 o.0.reply
+write_stops new (alone, (few, seats, once_in m n last f o d v lacks)) = lacks
 
 stops_at_a_step : (new : WorldState) → Stops old (event.Step 0 (Load (handle 0))) new → ⊥
 stops_at_a_step new stopped = stopped

@@ -13,10 +13,9 @@ use Rattle.cb_world.specs.Plain.{Words}
 use Rattle.cb_world.specs.Seats.{SeatState}
 use Rattle.cb_world.specs.World.{WorldState, IsKnown, IsConfigured, IsSoundWorld}
 use Rattle.cb_world.proofs.Laws.{open_same, recounted}
-use Rattle.cb_core.specs.declared.event.Event.TheVariants as event
 use Rattle.cb_core.specs.Jobs.{IsJob}
 use Rattle.cb_core.specs.Parts.{Holding, NeverLacks, WithRoom}
-use Rattle.cb_core.specs.Step.{StillMake, StillMakeLacks, StillRead, StillReadLacks, StillWrite, StillFind, StillDecline, StillRoom, StillEvictLacks, StillSwap, StillSwapLacks, StillBring, StillBringLacks, StillWorks, StillStops, TurnStep, worn, done, Stops}
+use Rattle.cb_core.specs.Step.{StillMake, StillMakeLacks, StillRead, StillReadLacks, StillWrite, StillFind, StillDecline, StillRoom, StillEvictLacks, StillSwap, StillSwapLacks, StillBring, StillBringLacks, StillWorks, StillStops, TurnStep, worn, done, TurnStops}
 use Rattle.cb_core.specs.Turned.{Does, Turned, worn as was_worn, done as was_done, Stopped, counted, once_counted, Makes, MakeLacks, Reads, ReadLacks, Writes, Finds, Declines, WinsRoom, EvictLacks, Swaps, SwapLacks, Brings, BringLacks, Stops as StopsOver, ComesIn, ComeLacks}
 use Rattle.cb_core.proofs.Counting.{counted_sound, job_below}
 use Rattle.cb_core.proofs.KeptParts.{IsGood, Arrives, Carries, CarriesLack, rises_more, arrives_then, arrives_more, counted_rises, ArrivesBy}
@@ -214,7 +213,7 @@ turn_works w job q y new sound ok (was_done few does) =
 -- ---- a turn that found no memory
 pub record IsStopped (w : WorldState) (job : Job) (y : Words) (new : FarState) : Type 0 where
   pub sound : IsSoundWorld (with_job w y new)
-  pub stops : Stops w (event.Turn 0 job) (with_job w y new)
+  pub stops : TurnStops job w (with_job w y new)
 
 pub turn_stops : (w : WorldState) (job : Job) (y : Words) (new : FarState) → IsSoundWorld w
     → Stopped Ran Tells (ReadLacks Ran Tells) w.desk.settings job (held w) (record { desk = y; far = new })

@@ -24,11 +24,12 @@ abbrev pub handle_given : Reply → Option ℕ
 handle_given (answer.Made handle version) = Some handle.n
 handle_given reply = None
 
--- the reply says nothing of any object: a number that has to rise stands at its end, or the seat
--- has as many pins as it may have
+-- the reply says nothing of any object: a number that has to rise stands at its end, the seat has as
+-- many pins as it may have, or another seat holds the far lock
 abbrev pub says_nothing : Reply → Bool
 says_nothing answer.Worn = true
 says_nothing answer.ScopeFull = true
+says_nothing (answer.Held seat) = true
 says_nothing reply = false
 
 -- a request of a seat, as it was answered: a call, unless the reply says nothing of any object

@@ -1,10 +1,14 @@
 -- The far lock, as the seats' records tell who holds it.
-use Rattle.std.specs.Prelude.{◌≡◌, ℕ, true, false}
+use Rattle.std.specs.Prelude.{◌≡◌, ℕ, List, true, false}
 use Rattle.cb_types.specs.declared.reply.Reply.{Reply}
 use Rattle.cb_types.specs.declared.reply.Reply.TheVariants as answer
 use Rattle.cb_world.specs.OpenSteps.{NoneHolds}
 use Rattle.cb_world.specs.Seats.{SeatState, Holds, seat_at, with_holds}
 use Rattle.cb_world.specs.World.{WorldState}
+
+-- no seat but this one holds the far lock
+abbrev pub NoOtherHolds : List SeatState → ℕ → Type 0
+NoOtherHolds seats seat = (other : ℕ) → Holds seats other → other ≡ seat
 
 -- a seat takes the far lock where no seat holds it
 pub data TakeStep (seat : ℕ) (w : WorldState) (r : Reply) (new : WorldState) : Type 0 where

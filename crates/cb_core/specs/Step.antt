@@ -6,7 +6,7 @@ use Rattle.cb_types.specs.declared.job.Job.{Job}
 use Rattle.cb_types.specs.declared.job.Job.TheVariants.{Make, Read, Write, Free, Swap, Filter, Evict, Begin, Ship, Commit, Abort, Crash}
 use Rattle.cb_types.specs.declared.reply.Reply.{Reply}
 use Rattle.cb_types.specs.declared.reply.Reply.TheVariants as answer
-use Rattle.cb_world.specs.Seats.{SeatState}
+use Rattle.cb_world.specs.Seats.{SeatState, Holds}
 use Rattle.cb_world.specs.OpenWrites.{AreOpen}
 use Rattle.cb_world.specs.declared.homes.Home.{Home}
 use Rattle.cb_world.specs.declared.shown.Shown.{Shown}
@@ -31,12 +31,13 @@ use Rattle.cb_filter.specs.Plans.{Wants}
 use Rattle.cb_filter.specs.Seats.{Seat}
 use Rattle.cb_swapin.specs.SwapStep.{IsSwapStep}
 use Rattle.cb_core.specs.declared.event.Atomic.{Atomic}
-use Rattle.cb_core.specs.declared.event.Atomic.TheVariants.{Load, Pin, Unpin, Claim, Store, Settle}
+use Rattle.cb_core.specs.declared.event.Atomic.TheVariants.{Load, Pin, Unpin, Claim, Store, Settle, Take, Give}
 use Rattle.cb_core.specs.declared.event.Event.{Event}
 use Rattle.cb_core.specs.declared.event.Event.TheVariants as event
 use Rattle.cb_core.specs.Claiming.{ClaimStep, StoreStep, SettleStep}
 use Rattle.cb_core.specs.Declining.{write_refusal}
 use Rattle.cb_core.specs.FarJobs.{FarLacks, FarStep}
+use Rattle.cb_core.specs.Holding.{GiveStep, NoOtherHolds, TakeStep}
 use Rattle.cb_core.specs.Parts.{Holding, WithRoom, WhereItIs, NeverDeclined, BringsIn, RoomStops, CallStops, NeverLacks}
 use Rattle.cb_core.specs.Pinning.{PinStep, UnpinStep}
 use Rattle.cb_core.specs.Turned.{IsGiven, counted}
@@ -144,6 +145,14 @@ pub data TurnStep (job : Job) (w : WorldState) (r : Reply) (new : WorldState) : 
   done : w.far.counts.turns < 2 ^ 40 → Works w.desk (counted w.far job) job r new.desk new.far
       → new.seats ≡ w.seats → TurnStep job w r new
 
+-- A turn of a seat: where another seat holds the far lock it is refused, not counted, and changes
+-- nothing. Else it takes place, whether the seat holds the lock or nobody does.
+pub data SeatTurn (seat : ℕ) (job : Job) (w : WorldState) (r : Reply) (new : WorldState) : Type 0
+  where
+    held : (holder : ℕ) → (holder ≡ seat → ⊥) → Holds w.seats holder → r ≡ answer.Held holder
+        → new ≡ w → SeatTurn seat job w r new
+    free : NoOtherHolds w.seats seat → TurnStep job w r new → SeatTurn seat job w r new
+
 -- an atomic step of a seat
 abbrev pub AtomicStep : ℕ → Atomic → WorldState → Reply → WorldState → Type 0
 AtomicStep seat (Load handle) w r new = (r ≡ answer.Word (word_at w.desk handle.n)) × (new ≡ w)
@@ -152,11 +161,13 @@ AtomicStep seat (Unpin handle) w r new = UnpinStep seat handle.n w r new
 AtomicStep seat (Claim handle at bytes) w r new = ClaimStep seat handle.n at bytes w r new
 AtomicStep seat (Store handle) w r new = StoreStep seat handle.n w r new
 AtomicStep seat (Settle handle) w r new = SettleStep seat handle.n w r new
+AtomicStep seat Take w r new = TakeStep seat w r new
+AtomicStep seat Give w r new = GiveStep seat w r new
 
 -- The world w, an event, its reply and the world after it.
 abbrev pub Step : WorldState → Event → Reply → WorldState → Type 0
 Step w (event.Step seat atomic) r new = AtomicStep seat atomic w r new
-Step w (event.Turn seat job) r new = TurnStep job w r new
+Step w (event.Turn seat job) r new = SeatTurn seat job w r new
 
 -- The world leads by these events, with these replies, to another.
 abbrev pub Leads : WorldState → List Event → List Reply → WorldState → Type 0
@@ -219,9 +230,13 @@ abbrev pub AtomicStops : Atomic → WorldState → WorldState → Type 0
 AtomicStops (Claim handle at bytes) w new = new ≡ w
 AtomicStops atomic w new = ⊥
 
--- A turn that found no memory is counted; what its parts did before stays.
-abbrev pub Stops : WorldState → Event → WorldState → Type 0
-Stops w (event.Step seat atomic) new = AtomicStops atomic w new
-Stops w (event.Turn seat job) new = (w.far.counts.turns < 2 ^ 40) × (new.seats ≡ w.seats)
+-- a turn that found no memory is counted; what its parts did before stays
+abbrev pub TurnStops : Job → WorldState → WorldState → Type 0
+TurnStops job w new = (w.far.counts.turns < 2 ^ 40) × (new.seats ≡ w.seats)
     × StillStops job (record { desk = w.desk; far = counted w.far job })
     (record { desk = new.desk; far = new.far })
+
+-- An event that found no memory. No turn does beside a seat that holds the far lock.
+abbrev pub Stops : WorldState → Event → WorldState → Type 0
+Stops w (event.Step seat atomic) new = AtomicStops atomic w new
+Stops w (event.Turn seat job) new = NoOtherHolds w.seats seat × TurnStops job w new

@@ -29,6 +29,10 @@ pub enum Atomic {
     Settle {
         handle: Handle,
     },
+    /// The seat takes the far lock.
+    Take,
+    /// The seat gives the far lock back.
+    Give,
 }
 
 /// What happens next: a seat takes an atomic step, or makes a turn with a job. Seats are numbered

@@ -1,6 +1,7 @@
-ghost use Rattle.std.specs.Prelude.{◌≡◌, ◌<◌};
+ghost use Rattle.std.specs.Prelude.{◌≡◌, ◌<◌, IfNone, IfSome};
+ghost use Rattle.cb_world.specs.Seats.{Holds};
 ghost use Rattle.cb_world.specs.World.{IsSoundWorld};
-ghost use Rattle.cb_core.specs.Holding.{GiveStep, TakeStep};
+ghost use Rattle.cb_core.specs.Holding.{GiveStep, NoOtherHolds, TakeStep};
 
 use cb_types::Reply;
 use cb_world::World;
@@ -31,4 +32,16 @@ pub(crate) fn give(world: &mut World, seat: u32) -> Reply
     }
     world.seats.give_lock(seat);
     Reply::Done
+}
+
+/// The other seat that holds the far lock, None exactly where no seat but this one does.
+pub(crate) fn other_holder(world: &World, seat: u32) -> Option<u32>
+    requires sound { IsSoundWorld world.now }
+    ensures found { IfSome result (λ holder. (holder ≡ seat → ⊥) × Holds world.now.seats holder) }
+    ensures none { IfNone result (NoOtherHolds world.now.seats seat) }
+{
+    match world.seats.holder() {
+        Some(holder) if holder != seat => Some(holder),
+        _ => None,
+    }
 }

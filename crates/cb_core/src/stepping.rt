@@ -1,21 +1,23 @@
 ghost use Rattle.std.specs.Prelude.{◌≡◌, ◌<◌, IfOk, OnErr};
 ghost use Rattle.cb_world.specs.World.{IsSoundWorld};
-ghost use Rattle.cb_core.specs.Events.{IsEvent, handle_of};
+ghost use Rattle.cb_core.specs.Events.{IsAtomic, IsEvent};
 ghost use Rattle.cb_core.specs.Jobs.{IsJob};
-ghost use Rattle.cb_core.specs.Step.{AtomicStep, AtomicStops, Step, Stops, TurnStep};
+ghost use Rattle.cb_core.specs.Step.{AtomicStep, AtomicStops, SeatTurn, Step, Stops, TurnStep, TurnStops};
 
 use crate::claiming::{claim, settle, store};
 use crate::event::{Atomic, Event};
+use crate::holding::{give, other_holder, take};
 use crate::pinning::{pin, unpin};
 use crate::turning::turn;
 use cb_types::{Job, NoMemory, Reply};
 use cb_world::World;
 use std::alloc::Global;
 
-/// One event: a seat takes an atomic step, or makes a turn. The world stays sound. Where there is
-/// no memory, a claim changed nothing, and a turn is counted, and what its parts did before stays:
-/// a span may have left or come in. Between events a batch may be leaving, whose objects are Moving
-/// until it is committed or given up.
+/// One event: a seat takes an atomic step, or makes a turn. The world stays sound. A turn is refused
+/// with Held, and not counted, where another seat holds the far lock. Where there is no memory, a
+/// claim changed nothing, and a turn is counted, and what its parts did before stays: a span may
+/// have left or come in. Between events a batch may be leaving, whose objects are Moving until it
+/// is committed or given up.
 pub fn step(alloc: Global, world: &mut World, event: &Event) -> Result<Reply, NoMemory>
     requires sound { IsSoundWorld world.old }
     requires event { IsEvent world.old.desk.settings event.now }
@@ -25,7 +27,7 @@ pub fn step(alloc: Global, world: &mut World, event: &Event) -> Result<Reply, No
 {
     match event {
         Event::Step { seat, atomic } => atomic_step(alloc, world, *seat, atomic),
-        Event::Turn { job, .. } => turn_step(alloc, world, job),
+        Event::Turn { seat, job } => seat_turn(alloc, world, *seat, job),
     }
 }
 
@@ -39,7 +41,7 @@ fn atomic_step(
 ) -> Result<Reply, NoMemory>
     requires sound { IsSoundWorld world.old }
     requires seat { seat < 64 }
-    requires handle { handle_of atomic.now < world.old.desk.settings.handles }
+    requires handle { IsAtomic world.old.desk.settings atomic.now }
     ensures step { IfOk result (λ reply.
         AtomicStep seat atomic.now world.old reply world.new) }
     ensures sound { IsSoundWorld world.new }
@@ -56,6 +58,24 @@ fn atomic_step(
         }
         Atomic::Store { handle } => Ok(store(world, seat, *handle)),
         Atomic::Settle { handle } => Ok(settle(world, seat, *handle)),
+        Atomic::Take => Ok(take(world, seat)),
+        Atomic::Give => Ok(give(world, seat)),
+    }
+}
+
+/// A turn of a seat. Where another seat holds the far lock it is refused with Held, and the seat
+/// that holds it, and nothing is changed.
+fn seat_turn(alloc: Global, world: &mut World, seat: u32, job: &Job) -> Result<Reply, NoMemory>
+    requires sound { IsSoundWorld world.old }
+    requires seat { seat < 64 }
+    requires job { IsJob world.old.desk.settings job.now }
+    ensures step { IfOk result (λ reply. SeatTurn seat job.now world.old reply world.new) }
+    ensures sound { IsSoundWorld world.new }
+    ensures error { OnErr result (Stops world.old (Event.Turn seat job.now) world.new) }
+{
+    match other_holder(world, seat) {
+        Some(holder) => Ok(Reply::Held { seat: holder }),
+        None => turn_step(alloc, world, job),
     }
 }
 
@@ -65,7 +85,7 @@ fn turn_step(alloc: Global, world: &mut World, job: &Job) -> Result<Reply, NoMem
     requires job { IsJob world.old.desk.settings job.now }
     ensures step { IfOk result (λ reply. TurnStep job.now world.old reply world.new) }
     ensures sound { IsSoundWorld world.new }
-    ensures error { OnErr result (Stops world.old (Event.Turn 0 job.now) world.new) }
+    ensures error { OnErr result (TurnStops job.now world.old world.new) }
 {
     turn(alloc, &mut world.desk, &mut world.far, job)
 }

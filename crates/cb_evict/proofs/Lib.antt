@@ -30,7 +30,6 @@ mod WorkedEvicted
 mod WorkedSetMade
 mod WorkedShip
 mod Restores
-mod DropsPut
 pub mod Noted
 mod Aborted
 mod SmallWords

@@ -1,10 +1,10 @@
 -- Spans that are gone from local memory.
-use Rattle.std.specs.Prelude.{◌≡◌, ℕ, Bool, List, [], ◌∷◌, Option, None, Some, length, slice_get, slice_set, slice_index_or}
+use Rattle.std.specs.Prelude.{◌≡◌, ℕ, Bool, List, [], ◌∷◌, Option, None, Some, length, slice_get, slice_set}
 use Rattle.std.specs.List.{Contains}
 use Rattle.cb_frame.specs.FreeFrames.{with_given}
 use Rattle.cb_span.specs.Contents.{Contents}
 use Rattle.cb_world.specs.declared.homes.Home.{Home}
-use Rattle.cb_world.specs.Homes.{home_at}
+use Rattle.cb_world.specs.Homes.{HasHomes, home_at}
 use Rattle.cb_world.specs.FarState.{FarState, span_in, resident}
 use Rattle.cb_world.specs.Reserved.{table_of}
 use Rattle.cb_evict.specs.Candidates.{Names}
@@ -18,16 +18,6 @@ all_given free (f ∷ frames) = all_given (with_given free f) frames
 abbrev pub all_closed : List (Option Contents) → List ℕ → List (Option Contents)
 all_closed spans [] = spans
 all_closed spans (f ∷ frames) = all_closed (slice_set spans f None) frames
-
--- each object that the slot table names has its home at that slot of the position of the set, and
--- every other home is as it was
-pub record HasHomes (slots : List (Option ℕ)) (set position : ℕ) (old new : List (Option Home))
-    : Type 0 where
-  pub count : length new ≡ length old
-  pub here : (slot h : ℕ) → slice_index_or slots slot None ≡ Some h
-      → home_at new h ≡ Some (record { set = set; position = position; slot = slot })
-  pub others : (h : ℕ) → ((slot : ℕ) → slice_index_or slots slot None ≡ Some h → ⊥)
-      → home_at new h ≡ home_at old h
 
 -- each object of a span in these frames has its home at its slot, the position being the frame's
 -- place; every other home is as it was

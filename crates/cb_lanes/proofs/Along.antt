@@ -26,6 +26,7 @@ use Rattle.cb_model.proofs.Laws.{calls_of-push, handle_of-push, Follow-push, mak
 use Rattle.cb_script.specs.declared.script.Line.{Line}
 use Rattle.cb_script.specs.Form.{IsRequest, AreLines}
 use Rattle.cb_world.specs.FarState.{FarState}
+use Rattle.cb_world.specs.OpenSteps.{NoneHolds}
 use Rattle.cb_world.specs.Seats.{pins_of_seat}
 use Rattle.cb_world.specs.World.{WorldState, IsSoundWorld, empty_world}
 use Rattle.cb_mutate.specs.MapBeside.{IsMapBeside}
@@ -45,6 +46,7 @@ use Rattle.cb_lanes.specs.Names.{Names, kept_number, handle_at, handle_in, numbe
 use Rattle.cb_lanes.specs.Scopes.{KeepScopes, ScopeSays, scope_of}
 use Rattle.cb_lanes.proofs.GivingBack.{unpin_stands, gives_all}
 use Rattle.cb_lanes.proofs.LineGoes.{read_goes, write_goes, free_goes, filter_goes, make_goes}
+use Rattle.cb_lanes.proofs.Lone.{empty_lone, line_lone, rests_lone, turn_alone}
 use Rattle.cb_lanes.proofs.NamesKept.{name_within}
 use Rattle.cb_lanes.proofs.Pinning.{pin_goes, pin_settings, peek_goes, unpin_goes, leave_goes}
 use Rattle.cb_lanes.proofs.Scoping.{Scoped, line_scoped}
@@ -52,8 +54,9 @@ use Rattle.cb_lanes.proofs.ScopesKept.{AreScopes, scopes_none, scopes_push, keep
 use Rattle.cb_lanes.proofs.Silent.{unmade_line, still_goes, crash_goes, join_goes}
 use Rattle.cb_lanes.proofs.Turning.{Turning, around, Goes}
 
--- The answers so far are the map's, the map is beside the world that they led to, the names are what
--- these answers made of them, and each lane that has lines to come has the pins of its scope.
+-- The answers so far are the map's, the map is beside the world that they led to, in which no seat
+-- holds the far lock, the names are what these answers made of them, and each lane that has lines to
+-- come has the pins of its scope.
 pub record Along (c : Config) (later : List ℕ) (answers : List Answer) (w : WorldState) (names : Names) : Type 0
   where
     pub sound : IsSoundWorld w
@@ -61,6 +64,7 @@ pub record Along (c : Config) (later : List ℕ) (answers : List Answer) (w : Wo
     pub settings : w.desk.settings ≡ c
     pub first : w.far.first ≡ 1
     pub turns : w.far.counts.turns ≤ length answers
+    pub lone : NoneHolds w.seats
     pub leads : LeadsOn later [] (empty_world c) answers w
     pub follow : Follow 1 c.handles [] (calls_of answers)
     pub answered : AllByRecursion HasLineReply answers
@@ -82,49 +86,65 @@ pub line_goes : (answers : List Answer) (l : Line) (request : Request) (r : Repl
     → LineStep l.lane.n handle request w r new
     → Goes answers (answer_to l request r) w new c.then.shown
 line_goes answers l (Make name bytes) r w new handle c is named ready lt made few step =
-    make_goes answers l name bytes r w new c step
+    make_goes answers l name bytes r w new c
+    (turn_alone l.lane.n (job.Make bytes) w new r c.lone step)
 line_goes answers l Evict r w new handle c is named ready lt made few step =
-    still_goes job.Evict Evict evict_turn refl (λ xs q. refl) answers l r w new c step
+    still_goes job.Evict Evict evict_turn refl (λ xs q. refl) answers l r w new c
+    (turn_alone l.lane.n job.Evict w new r c.lone step)
 line_goes answers l Begin r w new handle c is named ready lt made few step =
-    still_goes job.Begin Begin begin_turn refl (λ xs q. refl) answers l r w new c step
+    still_goes job.Begin Begin begin_turn refl (λ xs q. refl) answers l r w new c
+    (turn_alone l.lane.n job.Begin w new r c.lone step)
 line_goes answers l Ship r w new handle c is named ready lt made few step =
-    still_goes job.Ship Ship ship_turn refl (λ xs q. refl) answers l r w new c step
+    still_goes job.Ship Ship ship_turn refl (λ xs q. refl) answers l r w new c
+    (turn_alone l.lane.n job.Ship w new r c.lone step)
 line_goes answers l Commit r w new handle c is named ready lt made few step =
-    still_goes job.Commit Commit commit_turn refl (λ xs q. refl) answers l r w new c step
+    still_goes job.Commit Commit commit_turn refl (λ xs q. refl) answers l r w new c
+    (turn_alone l.lane.n job.Commit w new r c.lone step)
 line_goes answers l Abort r w new handle c is named ready lt made few step =
-    still_goes job.Abort Abort abort_turn refl (λ xs q. refl) answers l r w new c step
+    still_goes job.Abort Abort abort_turn refl (λ xs q. refl) answers l r w new c
+    (turn_alone l.lane.n job.Abort w new r c.lone step)
 line_goes answers l Pair r w new handle c is named ready lt made few step =
-    still_goes job.Pair Pair pair_turn refl (λ xs q. refl) answers l r w new c step
+    still_goes job.Pair Pair pair_turn refl (λ xs q. refl) answers l r w new c
+    (turn_alone l.lane.n job.Pair w new r c.lone step)
 line_goes answers l Patch r w new handle c is named ready lt made few step =
-    still_goes job.Patch Patch patch_turn refl (λ xs q. refl) answers l r w new c step
+    still_goes job.Patch Patch patch_turn refl (λ xs q. refl) answers l r w new c
+    (turn_alone l.lane.n job.Patch w new r c.lone step)
 line_goes answers l Merge r w new handle c is named ready lt made few step =
-    still_goes job.Merge Merge merge_turn refl (λ xs q. refl) answers l r w new c step
+    still_goes job.Merge Merge merge_turn refl (λ xs q. refl) answers l r w new c
+    (turn_alone l.lane.n job.Merge w new r c.lone step)
 line_goes answers l Part r w new handle c is named ready lt made few step =
-    still_goes job.Part Part part_turn refl (λ xs q. refl) answers l r w new c step
+    still_goes job.Part Part part_turn refl (λ xs q. refl) answers l r w new c
+    (turn_alone l.lane.n job.Part w new r c.lone step)
 line_goes answers l Compact r w new handle c is named ready lt made few step =
-    still_goes job.Compact Compact compact_turn refl (λ xs q. refl) answers l r w new c step
+    still_goes job.Compact Compact compact_turn refl (λ xs q. refl) answers l r w new c
+    (turn_alone l.lane.n job.Compact w new r c.lone step)
 line_goes answers l Rebuild r w new handle c is named ready lt made few step =
-    still_goes job.Rebuild Rebuild rebuild_turn refl (λ xs q. refl) answers l r w new c step
+    still_goes job.Rebuild Rebuild rebuild_turn refl (λ xs q. refl) answers l r w new c
+    (turn_alone l.lane.n job.Rebuild w new r c.lone step)
 line_goes answers l (Crash node) r w new handle c is named ready lt made few step =
-    crash_goes answers l node r w new c is step
+    crash_goes answers l node r w new c is (turn_alone l.lane.n (job.Crash node) w new r c.lone step)
 line_goes answers l (Join node) r w new handle c is named ready lt made few step =
-    join_goes answers l node r w new c is step
+    join_goes answers l node r w new c is (turn_alone l.lane.n (job.Join node) w new r c.lone step)
 line_goes answers l (Read name) r w new None c is named ready lt made few step =
     unmade_line answers l (Read name) name r w new (around answers w new c) named refl refl tt step
 line_goes answers l (Read name) r w new (Some h) c is named ready lt made few step =
-    read_goes answers l name h r w new c (ready h refl) named step
+    read_goes answers l name h r w new c (ready h refl) named
+    (turn_alone l.lane.n (job.Read (record { n = h })) w new r c.lone step)
 line_goes answers l (Write name at bytes) r w new None c is named ready lt made few step =
     unmade_line answers l (Write name at bytes) name r w new (around answers w new c) named refl refl tt step
 line_goes answers l (Write name at bytes) r w new (Some h) c is named ready lt made few step =
-    write_goes answers l name at bytes h r w new c (ready h refl) named step
+    write_goes answers l name at bytes h r w new c (ready h refl) named
+    (turn_alone l.lane.n (job.Write (record { n = h }) at bytes) w new r c.lone step)
 line_goes answers l (Free name) r w new None c is named ready lt made few step =
     unmade_line answers l (Free name) name r w new (around answers w new c) named refl refl tt step
 line_goes answers l (Free name) r w new (Some h) c is named ready lt made few step =
-    free_goes answers l name h r w new c (ready h refl) named step
+    free_goes answers l name h r w new c (ready h refl) named
+    (turn_alone l.lane.n (job.Free (record { n = h })) w new r c.lone step)
 line_goes answers l (Filter name) r w new None c is named ready lt made few step =
     unmade_line answers l (Filter name) name r w new (around answers w new c) named refl refl tt step
 line_goes answers l (Filter name) r w new (Some h) c is named ready lt made few step =
-    filter_goes answers l name h r w new c (ready h refl) named step
+    filter_goes answers l name h r w new c (ready h refl) named
+    (turn_alone l.lane.n (job.Filter (record { n = h })) w new r c.lone step)
 line_goes answers l Leave r w new handle c is named ready lt made few step =
     leave_goes answers l (length (pins_of_seat w.seats l.lane.n)) r w new (around answers w new c) lt step.0 step.1
 line_goes answers l (Pin name) r w new None c is named ready lt made few step =
@@ -300,6 +320,8 @@ along_push c later answers l request r w new rested names kept along few lt then
       turns = let turns = goes.turns in let before = along.turns in
           let same = ap (λ (f : FarState). f.counts.turns) behind.stands.far in
           omega (arith, turns, before, same, length_push answers a);
+      lone = rests_lone (lines_of l.lane.n later) l.lane.n new rested rest
+          (line_lone l.lane.n (handle_in names request) request w new r step along.lone);
       leads = leads_push later [] answers (empty_world c) w new rested a along.leads step_by_answers rest
           behind.stands.sound;
       follow = rw more (Follow-push 1 c.handles [] (calls_of answers) (called answers a) along.follow reply);
@@ -343,6 +365,7 @@ along_push c later answers l request r w new rested names kept along few lt then
       before = along.sound;
       then = then;
       few = let turns = along.turns in omega (arith, turns, few);
+      lone = along.lone;
       beside = along.beside;
     }
 
@@ -419,6 +442,7 @@ along_none c later w names accepted is lanes none =
       settings = refl;
       first = refl;
       turns = omega arith;
+      lone = empty_lone;
       leads = refl;
       follow = tt;
       answered = tt;

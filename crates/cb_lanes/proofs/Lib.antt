@@ -1,4 +1,5 @@
 pub mod NamesKept
+pub mod Lone
 pub mod ByRequest
 pub mod Turning
 pub mod PinLists

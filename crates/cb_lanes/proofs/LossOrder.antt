@@ -18,7 +18,7 @@ use Rattle.cb_core.specs.declared.event.Atomic.TheVariants as atomic
 use Rattle.cb_core.specs.declared.event.Event.TheVariants as event
 use Rattle.cb_core.specs.declared.event.Event.TheVariants.{Turn}
 use Rattle.cb_core.specs.Membership.{crashed, is_down}
-use Rattle.cb_core.specs.Step.{TurnStep, worn, done}
+use Rattle.cb_core.specs.Step.{TurnStep, worn, done, held as other_holds, free}
 use Rattle.cb_core.proofs.Laws.{lead_rises, step_rises}
 use Rattle.cb_lanes.specs.GivingBack.{GivesAll, Rests, lines_of}
 use Rattle.cb_lanes.specs.LineStep.{LinesLead, LineStep, ObjectStep, OtherStep, job_of, PeekStep, not_pinned, shown, PinLine, at_once, stays_far, swapped_in}
@@ -110,7 +110,9 @@ crash_new node w new r loss (done few (words, crashed up reply state) seats) e =
 line_new : (seat : ℕ) (handle : Option ℕ) (request : Request) (w new : WorldState) (r : Reply)
     (loss : Loss) → LineStep seat handle request w r new → loss_of request r ≡ Some loss
     → IsNew loss w new
-line_new seat handle (Crash node) w new r loss x e = crash_new node w new r loss x e
+line_new seat handle (Crash node) w new r loss (other_holds holder off holds is same) e =
+    absurd (none_some loss (sym (ap (loss_of (Crash node)) is) ∙ e))
+line_new seat handle (Crash node) w new r loss (free none step) e = crash_new node w new r loss step e
 line_new seat handle request w new r loss x e = absurd (none_some loss e)
 
 -- ---- the lines one after another

@@ -5,12 +5,9 @@ use Rattle.std.specs.HashMap.{UpdatesBy}
 use Rattle.std.specs.Str.{bytes_eq}
 use Rattle.std.proofs.lemmas.Map.Text.{hash_map_updates_str}
 use Rattle.cb_types.specs.declared.handle.Handle.{Handle}
-use Rattle.cb_types.specs.declared.job.Job.TheVariants as job
 use Rattle.cb_types.specs.declared.request.Request.TheVariants.{Make}
 use Rattle.cb_types.specs.declared.reply.Reply.{Reply}
 use Rattle.cb_types.specs.declared.reply.Reply.TheVariants as reply
-use Rattle.cb_world.specs.World.{WorldState}
-use Rattle.cb_core.specs.Step.{TurnStep}
 use Rattle.cb_lanes.specs.Names.{Names, kept_handle, kept_number, handle_at, AreKept}
 
 mapped : (test : Bool) (here other : Option Handle) (found : Option Handle)
@@ -31,12 +28,11 @@ made_names names kept name bytes text handle version same updates q =
     (hash_map_updates_str text names kept (Some handle) updates q))
 
 -- a make that was refused leaves them
-pub refused_names : (w new : WorldState) (names : Names) (name bytes : List ℕ) (r : Reply)
-    → TurnStep (job.Make bytes) w r new
+pub refused_names : (names : Names) (name bytes : List ℕ) (r : Reply)
     → ((handle : Handle) (version : ℕ) → r ≡ reply.Made handle version → ⊥)
     → AreKept names (Make name bytes) r names
-refused_names w new names name bytes (reply.Made handle version) step never = absurd (never handle version refl)
-refused_names w new names name bytes r step never = λ q. refl
+refused_names names name bytes (reply.Made handle version) never = absurd (never handle version refl)
+refused_names names name bytes r never = λ q. refl
 
 -- the handle of a name is within the bound of all
 pub name_within : (names : Names) (made : ℕ) (name : Option (List ℕ)) (h : ℕ)

@@ -38,13 +38,14 @@ use Rattle.cb_mutate.proofs.Laws.{call_follows, beside_kept, was_made, IsOnConte
 use Rattle.cb_core.specs.Pinning.{PinStep, scope_full, refused, taken, pin_refusal, UnpinStep, not_pinned as unpin_refused, given}
 use Rattle.cb_core.specs.declared.event.Atomic.TheVariants as atomic
 use Rattle.cb_core.specs.declared.event.Event.TheVariants as event
-use Rattle.cb_core.specs.Step.{TurnStep, worn, done}
-use Rattle.cb_core.proofs.Laws.{step_settings, swap_turn, turn_turns, IsSameMap, swap_sound, IsSwapRefusal, SwapEnds, refused as swap_refused, stays, swapped, refusal_line}
+use Rattle.cb_core.specs.Step.{TurnStep}
+use Rattle.cb_core.proofs.Laws.{step_settings, turn_settings, swap_turn, turn_turns, IsSameMap, swap_sound, IsSwapRefusal, SwapEnds, refused as swap_refused, stays, swapped, refusal_line}
 use Rattle.cb_lanes.specs.Asked.{answer_to, HasLineReply}
 use Rattle.cb_lanes.specs.GivingBack.{GivesAll}
 use Rattle.cb_lanes.specs.LineStep.{PeekStep, not_pinned, shown, IsInReply, PinLine, at_once, stays_far, swapped_in}
 use Rattle.cb_lanes.proofs.GivingBack.{Stands, pin_stands, unpin_stands, stands_same, gives_all, pinned_here, pin_below}
 use Rattle.cb_lanes.proofs.Silent.{silent_follows}
+use Rattle.cb_lanes.proofs.Lone.{turn_alone, turn_seats}
 use Rattle.cb_lanes.proofs.Turning.{Around, Turning, around, within, Goes, call_goes}
 
 -- a world that changed in pins alone goes on by what it answers
@@ -265,10 +266,6 @@ pub record SwappedIn (w n : WorldState) (h : ℕ) (s t : Shown) : Type 0 where
   pub settings : n.desk.settings ≡ w.desk.settings
   pub seats : n.seats ≡ w.seats
 
-pub turn_seats : (j : Job) (w new : WorldState) (r : Reply) → TurnStep j w r new → new.seats ≡ w.seats
-turn_seats j w new r (worn end is same) = ap (λ (v : WorldState). v.seats) same
-turn_seats j w new r (done few works seats) = seats
-
 pub swapped_here : (w n : WorldState) (h seat : ℕ) (q : Reply) → (before : IsSoundWorld w)
     → (after : IsSoundWorld n) → w.far.counts.turns < 2 ^ 40 → h < w.desk.settings.handles
     → TurnStep (job.Swap (record { n = h })) w q n → IsInReply q
@@ -279,7 +276,7 @@ swapped_here w n h seat q before after few below step is =
       same = z.same;
       here = in_is_here n.desk h q z.ends is;
       turns = turn_turns j w n q before few step;
-      settings = step_settings w n (event.Turn seat j) q step;
+      settings = turn_settings w n j q step;
       seats = turn_seats j w n q step;
     }
 
@@ -336,9 +333,11 @@ pub pin_goes : (answers : List Answer) (l : Line) (name : List ℕ) (h : ℕ) (r
 pin_goes answers l name h r w new c lt below made few named (at_once pin unless) =
     pin_here_goes answers l name h r w new (around answers w new c) lt below made few named pin unless
 pin_goes answers l name h r w new c lt below made few named (stays_far away swap off) =
-    stays_goes answers l name h r w new c below named swap off
+    stays_goes answers l name h r w new c below named
+    (turn_alone l.lane.n (job.Swap (record { n = h })) w new r c.lone swap) off
 pin_goes answers l name h r w new c lt below made few named (swapped_in m q away swap is again) =
-    swapped_goes answers l name h q r w m new c lt below made few named swap is again
+    swapped_goes answers l name h q r w m new c lt below made few named
+    (turn_alone l.lane.n (job.Swap (record { n = h })) w m q c.lone swap) is again
 
 -- no pin changes the configuration
 pub pin_settings : (seat h : ℕ) (w new : WorldState) (r : Reply) → PinLine seat h w r new

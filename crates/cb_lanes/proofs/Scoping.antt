@@ -16,7 +16,8 @@ use Rattle.cb_world.specs.Seats.{SeatState, idle_seat, pins_of_seat, pins_on}
 use Rattle.cb_world.specs.StillWords.{stamp_at}
 use Rattle.cb_world.specs.World.{WorldState, IsSoundWorld, word_at}
 use Rattle.cb_core.specs.Pinning.{PinStep, scope_full, refused, taken, pin_refusal, UnpinStep, not_pinned as unpin_refused, given}
-use Rattle.cb_core.specs.Step.{TurnStep}
+use Rattle.cb_core.specs.declared.event.Event.TheVariants.{Turn}
+use Rattle.cb_core.specs.Step.{Step, TurnStep}
 use Rattle.cb_core.proofs.Laws.{swap_turn, IsPinCount, write_counts, free_counts, swap_sound, IsSwapRefusal}
 use Rattle.cb_lanes.specs.GivingBack.{GivesAll}
 use Rattle.cb_lanes.specs.LineStep.{LineStep, PeekStep, not_pinned, shown, PinLine, at_once, stays_far, swapped_in}
@@ -24,7 +25,8 @@ use Rattle.cb_lanes.specs.Scopes.{Scope, without_newest, named_on, scope_after, 
 use Rattle.cb_lanes.proofs.GivingBack.{gives_all, pins_own, pins_other, given_pins}
 use Rattle.cb_lanes.proofs.Filtering.{filter_counts}
 use Rattle.cb_lanes.proofs.PinLists.{AreApart, ArePinsOf, pins_length, scope_none, scope_newest, scope_without, scope_count}
-use Rattle.cb_lanes.proofs.Pinning.{in_or_refused, turn_seats}
+use Rattle.cb_lanes.proofs.Lone.{event_seats, turn_alone}
+use Rattle.cb_lanes.proofs.Pinning.{in_or_refused}
 use Rattle.cb_lanes.proofs.Turning.{Turning, within}
 
 -- The line is answered as its lane's scope says, the seat's pins are then those of the scope after it, and
@@ -48,15 +50,15 @@ still_scoped number handle scope request r seat w new same are still says = reco
 
 -- a turn changes no pins
 turn_scoped : (number : List ℕ → Option ℕ) (handle : Option ℕ) (scope : Scope) (request : Request)
-    (r : Reply) (seat : ℕ) (w new : WorldState) (j : Job) → TurnStep j w r new
+    (r : Reply) (seat : ℕ) (w new : WorldState) (j : Job) → Step w (Turn seat j) r new
     → ArePinsOf number scope (pins_of_seat w.seats seat) → scope_after scope request r ≡ scope
     → ScopeSays handle scope request r → Scoped number handle scope request r seat w new
 turn_scoped number handle scope request r seat w new j step are still says =
-    still_scoped number handle scope request r seat w new (turn_seats j w new r step) are still says
+    still_scoped number handle scope request r seat w new (event_seats seat j w new r step) are still says
 
 -- one for a line of which the scope says nothing
 quiet_scoped : (number : List ℕ → Option ℕ) (handle : Option ℕ) (scope : Scope) (request : Request)
-    (r : Reply) (seat : ℕ) (w new : WorldState) (j : Job) → TurnStep j w r new
+    (r : Reply) (seat : ℕ) (w new : WorldState) (j : Job) → Step w (Turn seat j) r new
     → ArePinsOf number scope (pins_of_seat w.seats seat) → scope_after scope request r ≡ scope
     → ScopeSays None scope request r → ((h : ℕ) → ScopeSays (Some h) scope request r)
     → Scoped number handle scope request r seat w new
@@ -214,17 +216,18 @@ pin_line_scoped answers number apart scope name h seat r w new c lt below at_nam
 pin_line_scoped answers number apart scope name h seat r w new c lt below at_name are
     (stays_far away swap off) =
     let j = job.Swap (record { n = h }) in
-    let refusal = in_or_refused new.desk h r (swap_turn w new h r c.before c.then c.few below swap).ends off in
+    let goes = turn_alone seat j w new r c.lone swap in
+    let refusal = in_or_refused new.desk h r (swap_turn w new h r c.before c.then c.few below goes).ends off in
     let room = away.room in
     let long = pins_length number scope (pins_of_seat w.seats seat) are in
-    still_scoped number (Some h) scope (Pin name) r seat w new (turn_seats j w new r swap) are
+    still_scoped number (Some h) scope (Pin name) r seat w new (event_seats seat j w new r swap) are
     (refusal_still scope name r refusal)
     (λ e. absurd (swap_not_full r refusal e), λ e. absurd (omega (arith, room, long, e)))
 pin_line_scoped answers number apart scope name h seat r w new c lt below at_name are
     (swapped_in m q away swap is again) =
     let j = job.Swap (record { n = h }) in
-    let seats = turn_seats j w m q swap in
-    let z = pin_scoped number apart scope name h seat r m new (swap_sound w m h q c.before swap) lt at_name
+    let seats = event_seats seat j w m q swap in
+    let z = pin_scoped number apart scope name h seat r m new (swap_sound w m h q c.before (turn_alone seat j w m q c.lone swap)) lt at_name
     (subst (λ (xs : List SeatState). ArePinsOf number scope (pins_of_seat xs seat)) (sym seats) are) again in
     record {
       says = z.says;
@@ -254,7 +257,7 @@ line_scoped answers (Write name at bytes) r w new (Some h) number scope seat c l
     turn_scoped number (Some h) scope (Write name at bytes) r seat w new j step are refl
     (pinned_says number apart scope name h seat r w (named name refl) are c.before lt (ready h refl)
     (λ count is. write_counts w new h at bytes count c.before c.few
-    (subst (λ (q : Reply). TurnStep j w q new) is step)))
+    (subst (λ (q : Reply). TurnStep j w q new) is (turn_alone seat j w new r c.lone step))))
 line_scoped answers (Free name) r w new None number scope seat c lt apart named ready are step =
     unmade_scoped number scope (Free name) seat r w new are step.1 refl tt
 line_scoped answers (Free name) r w new (Some h) number scope seat c lt apart named ready are step =
@@ -262,7 +265,7 @@ line_scoped answers (Free name) r w new (Some h) number scope seat c lt apart na
     turn_scoped number (Some h) scope (Free name) r seat w new j step are refl
     (pinned_says number apart scope name h seat r w (named name refl) are c.before lt (ready h refl)
     (λ count is. free_counts w new h count c.before c.few
-    (subst (λ (q : Reply). TurnStep j w q new) is step)))
+    (subst (λ (q : Reply). TurnStep j w q new) is (turn_alone seat j w new r c.lone step))))
 line_scoped answers (Filter name) r w new None number scope seat c lt apart named ready are step =
     unmade_scoped number scope (Filter name) seat r w new are step.1 refl tt
 line_scoped answers (Filter name) r w new (Some h) number scope seat c lt apart named ready are step =
@@ -270,7 +273,7 @@ line_scoped answers (Filter name) r w new (Some h) number scope seat c lt apart 
     turn_scoped number (Some h) scope (Filter name) r seat w new j step are refl
     (pinned_says number apart scope name h seat r w (named name refl) are c.before lt (ready h refl)
     (λ count is. filter_counts w new h count c.few
-    (subst (λ (q : Reply). TurnStep j w q new) is step)))
+    (subst (λ (q : Reply). TurnStep j w q new) is (turn_alone seat j w new r c.lone step))))
 line_scoped answers (Pin name) r w new None number scope seat c lt apart named ready are step =
     unmade_scoped number scope (Pin name) seat r w new are step.1 (ap (scope_after scope (Pin name)) step.0)
     step.0

@@ -5,6 +5,7 @@ use Rattle.cb_types.specs.declared.job.Job.{Job}
 use Rattle.cb_types.specs.declared.reply.Reply.{Reply}
 use Rattle.cb_model.specs.Called.{handle_for, called, calls_of}
 use Rattle.cb_world.specs.declared.shown.Shown.{Shown}
+use Rattle.cb_world.specs.OpenSteps.{NoneHolds}
 use Rattle.cb_world.specs.World.{WorldState, IsSoundWorld}
 use Rattle.cb_mutate.specs.MapCalls.{IsCallOn, IsRefusedMake}
 use Rattle.cb_mutate.specs.MapBeside.{IsMapBeside}
@@ -19,11 +20,12 @@ pub record Around (answers : List Answer) (w new : WorldState) : Type 0 where
   pub then : IsSoundWorld new
   pub beside : IsMapBeside (calls_of answers) before.shown w.far
 
--- and there is a turn yet to make
+-- and there is a turn yet to make, and no seat holds the far lock
 pub record Turning (answers : List Answer) (w new : WorldState) : Type 0 where
   pub before : IsSoundWorld w
   pub then : IsSoundWorld new
   pub few : w.far.counts.turns < 2 ^ 40
+  pub lone : NoneHolds w.seats
   pub beside : IsMapBeside (calls_of answers) before.shown w.far
 
 abbrev pub around : (answers : List Answer) (w new : WorldState) → Turning answers w new → Around answers w new

@@ -13,7 +13,7 @@ use Rattle.cb_world.specs.FarState.{FarState}
 use Rattle.cb_world.specs.World.{WorldState, IsSoundWorld, empty_world}
 use Rattle.cb_core.specs.Membership.{JoinTurn, joined as joined_again, is_up}
 use Rattle.cb_core.specs.declared.event.Event.TheVariants.{Turn}
-use Rattle.cb_core.specs.Step.{Step, worn, done}
+use Rattle.cb_core.specs.Step.{Step, held, free, worn, done}
 use Rattle.cb_core.specs.Turned.{counted}
 use Rattle.cb_lanes.specs.Asked.{HasLineReply}
 use Rattle.cb_lanes.specs.LineStep.{job_of, job_on, LineStep, LinesLead, ObjectStep, OtherStep}
@@ -21,6 +21,7 @@ use Rattle.cb_lanes.specs.LinesSoundly.{LinesLeadSoundly}
 use Rattle.cb_lanes.specs.LineAnswered.{LineAnswered}
 use Rattle.cb_lanes.specs.Lost.{AreInOrder, loss_of, losses_of}
 use Rattle.cb_lanes.specs.Names.{Names, kept_number}
+use Rattle.cb_lanes.proofs.Lone.{empty_lone, lone_other}
 
 abbrev answer : Request → Reply → Answer
 answer request reply = record { lane = record { n = 1 }; line = 2; request = request; reply = reply }
@@ -166,13 +167,15 @@ joined = record (empty_world small) {
 }
 
 a_join : LineStep 1 None (Join (record { n = node })) (empty_world small) (Up (record { n = node })) joined
-a_join = done (omega arith) (refl, is_up refl refl refl, λ s k. (s, k, λ h. refl, λ seats open_writes. open_writes)) refl
+a_join = free (lone_other (empty_world small).seats 1 empty_lone)
+    (done (omega arith) (refl, is_up refl refl refl, λ s k. (s, k, λ h. refl, λ seats open_writes. open_writes)) refl)
 
 -- one that is not counted
 uncounted : LineStep 1 None (Join (record { n = node })) (empty_world small) (Up (record { n = node }))
     (empty_world small) → ⊥
-uncounted (worn end reply same) = absurd (let e = reply in cc)
-uncounted (done few works seats) = by works.1 where
+uncounted (held holder off holds reply same) = absurd (let e = reply in cc)
+uncounted (free none (worn end reply same)) = absurd (let e = reply in cc)
+uncounted (free none (done few works seats)) = by works.1 where
   by : JoinTurn (record { n = node }) (counted (empty_world small).far (job.Join (record { n = node })))
       (Up (record { n = node })) (empty_world small).far → ⊥
   by (is_up up reply same) = omega (arith, ap (λ (f : FarState). f.counts.turns) same)

@@ -3,7 +3,7 @@ ghost use Rattle.std.specs.Option.{option_map};
 ghost use Rattle.cb_script.specs.Form.{IsRequest};
 ghost use Rattle.cb_world.specs.World.{IsSoundWorld};
 ghost use Rattle.cb_core.specs.Jobs.{IsJob};
-ghost use Rattle.cb_core.specs.Events.{handle_of};
+ghost use Rattle.cb_core.specs.Events.{IsAtomic};
 ghost use Rattle.cb_core.specs.Step.{AtomicStep, Step};
 ghost use Rattle.cb_lanes.specs.LineStep.{IsInReply, LineStep, ObjectStep, PeekStep, PinLine, job_of};
 ghost use Rattle.cb_lanes.specs.Names.{AreKept, AreReady, IsOnObject, handle_in};
@@ -172,7 +172,7 @@ fn call_object(
 /// An atomic step of a seat.
 fn step_of(alloc: Global, world: &mut World, seat: u32, atomic: Atomic) -> Result<Reply, NoMemory>
     requires seat { seat < 64 }
-    requires handle { handle_of atomic < world.old.desk.settings.handles }
+    requires handle { IsAtomic world.old.desk.settings atomic }
     requires sound { IsSoundWorld world.old }
     ensures step { IfOk result (λ reply. AtomicStep seat atomic world.old reply world.new) }
     ensures sound { IsSoundWorld world.new }

@@ -26,7 +26,7 @@ without_seats x = let e : 0 ≡ 64 = x.sound.pinned.count in absurd (omega (arit
 
 -- a sound world with a handle more
 abbrev more : Config
-more = record small { handles = 10 }
+more = record small { handles = 17 }
 
 more_is_accepted : IsAccepted more
 more_is_accepted K = (lit≤ tt, lit≤ tt)
@@ -42,4 +42,4 @@ more_is_sound = empty_world_sound more more_is_accepted
 
 with_more_handles : IsSmall (empty_world more) → ⊥
 with_more_handles x =
-    let e : 10 ≡ 9 = ap (λ (c : Config). c.handles) x.settings in absurd (omega (arith, e))
+    let e : 17 ≡ 16 = ap (λ (c : Config). c.handles) x.settings in absurd (omega (arith, e))

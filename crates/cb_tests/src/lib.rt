@@ -10,3 +10,5 @@ mod objects;
 mod turns;
 #[cfg(test)]
 mod worlds;
+#[cfg(test)]
+mod writes;

@@ -5,20 +5,21 @@ ghost use Rattle.cb_tests.specs.Worlds.{IsSmall};
 
 use crate::objects::{second_of_length_is_at, words_are_of_nine_bytes};
 use crate::turns::replies_in_order;
+use crate::writes::rows_are_answered;
 use cb_core::{Event, step};
 use cb_types::{Config, Job, NoMemory, Reply};
 use cb_world::World;
 use std::alloc::Global;
 use std::test::Fail;
 
-/// Two frames, three nodes and nine handles.
+/// Eight frames, six nodes and sixteen handles.
 const SMALL: Config = Config {
     k: 2,
-    r: 1,
-    nodes: 3,
-    frames: 2,
-    room: 4,
-    handles: 9,
+    r: 2,
+    nodes: 6,
+    frames: 8,
+    room: 64,
+    handles: 16,
     turns: 0,
 };
 
@@ -52,6 +53,8 @@ pub(crate) enum Look {
     Words,
     /// The replies of a run.
     Run,
+    /// The replies to the steps of open writes and of the far lock.
+    Writes,
 }
 
 fn is_seen(alloc: Global, world: &mut World, look: Look) -> Result<bool, Fail>
@@ -61,6 +64,7 @@ fn is_seen(alloc: Global, world: &mut World, look: Look) -> Result<bool, Fail>
         Look::Second { len, place } => second_of_length_is_at(alloc, world, len, place),
         Look::Words => words_are_of_nine_bytes(alloc, world),
         Look::Run => replies_in_order(alloc, world),
+        Look::Writes => rows_are_answered(alloc, world),
     }
 }
 

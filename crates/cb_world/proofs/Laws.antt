@@ -13,6 +13,7 @@ pub use Rattle.cb_world.proofs.Claimed.{avoids, back_written, held, is_claimed_a
 pub use Rattle.cb_world.proofs.Codes.{HasCode, SetCodes, code_as, codes_left, codes_put, codes_removed, codes_stay}
 pub use Rattle.cb_world.proofs.Counting.{count_next}
 pub use Rattle.cb_world.proofs.CrashNow.{BecomesGone, crash_now}
+pub use Rattle.cb_world.proofs.Dropping.{put_drops_more, node_there}
 pub use Rattle.cb_world.proofs.Empty.{empty_never, empty_shows, empty_sound}
 pub use Rattle.cb_world.proofs.Exact.{found_exact, taken_exact}
 pub use Rattle.cb_world.proofs.FarGone.{IsFarFreed, are_members, home_within, shards_there, sound_far_gone}

@@ -1,6 +1,8 @@
 mod Padded
 pub mod FrameCopied
 mod FrameRuns
+mod Dropping
+mod Homing
 pub mod Grasping
 pub mod Windows
 pub mod Tracing

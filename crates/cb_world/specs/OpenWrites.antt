@@ -1,25 +1,13 @@
 -- The open writes of seats, between their claim and their settling.
-use Rattle.std.specs.Prelude.{◌≡◌, ◌⊎◌, ℕ, zero, suc, ◌+◌, ◌-◌, ◌*◌, ◌/◌, ◌^◌, ◌<◌, ◌≤◌, nat_eq, if◌then◌else◌, List, Some, length, slice_index}
+use Rattle.std.specs.Prelude.{◌≡◌, ◌⊎◌, ℕ, zero, suc, ◌+◌, ◌-◌, ◌*◌, ◌/◌, ◌^◌, ◌<◌, ◌≤◌, nat_eq, if◌then◌else◌, List, Some, length}
 use Rattle.cb_ptr.specs.declared.word.State.TheVariants as word
-use Rattle.cb_ptr.specs.Word.{state_of, len_of, place_of, pins_of}
+use Rattle.cb_ptr.specs.Word.{state_of, len_of, pins_of}
 use Rattle.cb_world.specs.FarState.{FarState}
-use Rattle.cb_world.specs.Memory.{window, words_for}
 use Rattle.cb_world.specs.Leaving.{LeavingState}
-use Rattle.cb_world.specs.Plain.{Words}
+use Rattle.cb_world.specs.Plain.{Words, word_at, stamp_at, contents_at}
 use Rattle.cb_world.specs.Seats.{SeatState, OpenWriteState, IsClaimAt}
 use Rattle.cb_world.specs.Sound.{Leaves}
 use Rattle.cb_world.specs.Write.{IsWriteBelow}
-
--- the object's pointer word, its version word and its memory words
-abbrev pub word_in : Words → ℕ → ℕ
-word_in desk h = slice_index desk.words h
-
-abbrev pub stamp_in : Words → ℕ → ℕ
-stamp_in desk h = slice_index desk.versions h
-
-abbrev pub contents_in : Words → ℕ → List ℕ
-contents_in desk h =
-    window desk.memory (place_of (word_in desk h)) (words_for (len_of (word_in desk h)))
 
 -- how many memory words a write of so many bytes from the byte number `at` on touches
 abbrev pub touched : ℕ → ℕ → ℕ
@@ -38,15 +26,15 @@ stamp_of c = if nat_eq (left_of c) 0 then c.version + 1 else c.version
 -- the front of the write that is stored; and its version has a next one.
 pub record IsOpen (desk : Words) (c : OpenWriteState) : Type 0 where
   pub below : c.handle < length desk.words
-  pub moving : state_of (word_in desk c.handle) ≡ word.Moving
-  pub no_pins : pins_of (word_in desk c.handle) ≡ 0
-  pub len : len_of (word_in desk c.handle) ≡ c.len
+  pub moving : state_of (word_at desk c.handle) ≡ word.Moving
+  pub no_pins : pins_of (word_at desk c.handle) ≡ 0
+  pub len : len_of (word_at desk c.handle) ≡ c.len
   pub inside : c.at + length c.bytes ≤ c.len
   pub next : c.version < 2 ^ 64 - 1
   pub few : c.stored ≤ touched c.at (length c.bytes) + 1
-  pub stamp : stamp_in desk c.handle ≡ stamp_of c
+  pub stamp : stamp_at desk c.handle ≡ stamp_of c
   pub contents : IsWriteBelow (8 * (c.at / 8 + c.stored)) c.words c.at c.bytes
-      (contents_in desk c.handle)
+      (contents_at desk c.handle)
 
 -- the object is one of the batch that is leaving
 abbrev pub IsLeavingNow : FarState → ℕ → Type 0
@@ -65,5 +53,5 @@ pub record AreOpen (desk : Words) (far : FarState) (seats : List SeatState) : Ty
       → IsClaimAt seats other place d → c.handle ≡ d.handle → (seat ≡ other) × (at ≡ place)
   pub apart : (seat at : ℕ) (c : OpenWriteState) → IsClaimAt seats seat at c
       → IsLeavingNow far c.handle → ⊥
-  pub moving : (h : ℕ) → h < length desk.words → state_of (word_in desk h) ≡ word.Moving
+  pub moving : (h : ℕ) → h < length desk.words → state_of (word_at desk h) ≡ word.Moving
       → IsClaimedNow seats h ⊎ IsLeavingNow far h

@@ -23,6 +23,18 @@ pub record IsSized (x : Words) : Type 0 where
   pub versions : length x.versions ≡ x.settings.handles
   pub memory : length x.memory ≡ 512 * x.settings.frames
 
+-- the pointer word of a handle, its version word, and the memory words of the object that its
+-- pointer word names
+abbrev pub word_at : Words → ℕ → ℕ
+word_at desk h = slice_index desk.words h
+
+abbrev pub stamp_at : Words → ℕ → ℕ
+stamp_at desk h = slice_index desk.versions h
+
+abbrev pub contents_at : Words → ℕ → List ℕ
+contents_at desk h =
+    window desk.memory (place_of (word_at desk h)) (words_for (len_of (word_at desk h)))
+
 -- a word that is settled: 0, that of a far object with its length alone, or one that is here
 abbrev pub IsSettledAs : State → ℕ → Type 0
 IsSettledAs word.Empty w = w ≡ 0

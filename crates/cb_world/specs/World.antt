@@ -10,6 +10,7 @@ use Rattle.cb_world.specs.declared.object.Object.TheVariants as is
 use Rattle.cb_world.specs.declared.shown.Shown.{Shown}
 use Rattle.cb_world.specs.Shown.{object_at, hot_at}
 use Rattle.cb_world.specs.Plain.{Words, Shows, IsSized}
+pub use Rattle.cb_world.specs.Plain.{word_at}
 use Rattle.cb_world.specs.Empty.{empty_words, empty_far}
 use Rattle.cb_world.specs.Codes.{HaveCodes}
 use Rattle.cb_world.specs.FarState.{FarState}
@@ -31,10 +32,6 @@ empty_world c = record {
   far = empty_far 1 c;
   seats = replicate 64 idle_seat;
 }
-
--- the pointer word of a handle
-abbrev pub word_at : Words → ℕ → ℕ
-word_at desk h = slice_index desk.words h
 
 -- What the holder of the far lock knows of the still desk, where it knows all: the words are as it
 -- says, with each hot bit, and the world is sound.

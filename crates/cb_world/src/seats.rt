@@ -101,19 +101,24 @@ impl Model for Seat {
     } };
 }
 
-/// The 64 seats, from which callers act.
+/// The 64 seats, from which callers act. While the mark is unset no seat holds the far lock, so who
+/// asks then looks at no seat.
 #[derive(Drop)]
 pub struct Seats {
     seats: Vec<Seat>,
+    marked: bool,
 }
 
 impl Model for Seats {
-    ghost use Rattle.std.specs.Prelude.{List};
+    ghost use Rattle.std.specs.Prelude.{◌≡◌, List, false};
+    ghost use Rattle.cb_world.specs.OpenSteps.{NoneHolds};
     ghost use Rattle.cb_world.specs.Seats.{SeatState};
 
     ghost Value = { List SeatState };
 
     ghost view = { λ a. a.seats.items };
+
+    ghost invariant = { λ a. a.marked ≡ false → NoneHolds a.seats.items };
 }
 
 impl Seats {
@@ -130,7 +135,10 @@ impl Seats {
                 order: None,
             })?;
         }
-        Ok(Seats { seats })
+        Ok(Seats {
+            seats,
+            marked: false,
+        })
     }
 
     /// The pins of a seat, the newest one last.
@@ -235,13 +243,10 @@ impl Seats {
         ensures found { IfSome result (λ seat. Holds self.now seat) }
         ensures none { IfNone result (NoneHolds self.now) }
     {
-        for at in 0..self.seats.len() {
-            let seat = &self.seats[at];
-            if seat.holds {
-                return Some(at as u32);
-            }
+        if !self.marked {
+            return None;
         }
-        None
+        holder_among(self.seats.as_slice())
     }
 
     /// Whether a seat holds the far lock.
@@ -258,6 +263,7 @@ impl Seats {
         requires { seat < length self.old }
         ensures { self.new ≡ with_holds self.old seat true }
     {
+        self.marked = true;
         self.seats[seat as usize].holds = true;
     }
 
@@ -267,7 +273,36 @@ impl Seats {
         ensures { self.new ≡ with_holds self.old seat false }
     {
         self.seats[seat as usize].holds = false;
+        self.marked = any_holds(self.seats.as_slice());
     }
+}
+
+/// The first of these seats that holds the far lock, None exactly where none holds it.
+fn holder_among(seats: &[Seat]) -> Option<u32>
+    requires { length seats.now ≡ 64 }
+    ensures found { IfSome result (λ seat. Holds seats.now seat) }
+    ensures none { IfNone result (NoneHolds seats.now) }
+{
+    for at in 0..seats.len() {
+        let seat = &seats[at];
+        if seat.holds {
+            return Some(at as u32);
+        }
+    }
+    None
+}
+
+/// Whether one of these seats holds the far lock.
+fn any_holds(seats: &[Seat]) -> bool
+    ensures { result ≡ false → NoneHolds seats.now }
+{
+    for at in 0..seats.len() {
+        let seat = &seats[at];
+        if seat.holds {
+            return true;
+        }
+    }
+    false
 }
 
 /// The place of the first of these open writes on an object, None exactly where none is on it.

@@ -1,6 +1,7 @@
 use Rattle.cb_core.specs.declared.event.Atomic.{Atomic}
 use Rattle.cb_core.specs.Step.{AtomicStep}
 use Rattle.cb_core.proofs.Composing.{by_result}
+use Rattle.cb_core.proofs.HoldingSound.{take_step_sound, give_step_sound}
 use Rattle.cb_core.proofs.OpenKeptSteps.{claim_step_sound, store_step_sound, settle_step_sound}
 use Rattle.cb_core.proofs.PinsKept.{pin_step_sound, unpin_step_sound}
 use Rattle.std.proofs.Common.{sym, subst}
@@ -43,3 +44,23 @@ pub returns-in-Settle-clause-sound : goal.returns-in-Settle-clause-sound
 returns-in-Settle-clause-sound c =
     settle_step_sound c.args.world.now c.settle.new.world c.args.seat c.in-Settle.handle.n
     c.settle.result c.requires.sound c.requires.seat c.settle.ensures.step
+
+pub returns-in-Take-clause-step : goal.returns-in-Take-clause-step
+returns-in-Take-clause-step c = subst (λ (a : Atomic).
+    AtomicStep c.args.seat a c.args.world.now c.take.result c.take.new.world) (sym c.in-Take.is)
+    c.take.ensures.step
+
+pub returns-in-Take-clause-sound : goal.returns-in-Take-clause-sound
+returns-in-Take-clause-sound c =
+    take_step_sound c.args.world.now c.take.new.world c.args.seat c.take.result c.requires.sound
+    c.requires.seat c.take.ensures.step
+
+pub returns-in-Give-clause-step : goal.returns-in-Give-clause-step
+returns-in-Give-clause-step c = subst (λ (a : Atomic).
+    AtomicStep c.args.seat a c.args.world.now c.give.result c.give.new.world) (sym c.in-Give.is)
+    c.give.ensures.step
+
+pub returns-in-Give-clause-sound : goal.returns-in-Give-clause-sound
+returns-in-Give-clause-sound c =
+    give_step_sound c.args.world.now c.give.new.world c.args.seat c.give.result c.requires.sound
+    c.requires.seat c.give.ensures.step

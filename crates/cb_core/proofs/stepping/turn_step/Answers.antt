@@ -1,8 +1,7 @@
 use Rattle.std.proofs.Common.{sym, subst}
 use Rattle.cb_world.specs.World.{WorldState, IsSoundWorld}
 use Rattle.cb_core.specs.Jobs.{IsJob}
-use Rattle.cb_core.specs.declared.event.Event.TheVariants as event
-use Rattle.cb_core.specs.Step.{TurnStep, Stops}
+use Rattle.cb_core.specs.Step.{TurnStep, TurnStops}
 use Rattle.cb_core.proofs.Composing.{by_result, err_map, if_map}
 use Rattle.cb_core.proofs.WorldKept.{turn_works, with_job, turn_stops}
 use Rattle.cb_core.proofs.stepping.turn_step.Goals as goal
@@ -37,5 +36,5 @@ returns-clause-error c =
     let sound : IsSoundWorld w = subst IsSoundWorld (sym c.world.view_is) c.requires.sound in
     err_map _ _ c.turn.result c.turn.ensures.error (λ stopped.
     let z = turn_stops w c.args.job.now c.turn.new.desk c.turn.new.far sound stopped in
-    subst (λ (v : WorldState). Stops v (event.Turn 0 c.args.job.now)
-    (with_job w c.turn.new.desk c.turn.new.far)) c.world.view_is z.stops)
+    subst (λ (v : WorldState). TurnStops c.args.job.now v (with_job w c.turn.new.desk c.turn.new.far))
+    c.world.view_is z.stops)

@@ -1,13 +1,14 @@
 use Rattle.std.proofs.Common.{ℕ, List, subst}
 use Rattle.cb_types.specs.declared.job.Job.TheVariants as job
-use Rattle.cb_core.specs.Step.{TurnStep}
+use Rattle.cb_core.specs.declared.event.Event.TheVariants.{Turn}
+use Rattle.cb_core.specs.Step.{Step}
 use Rattle.cb_lanes.proofs.NamesKept.{made_names, refused_names}
 use Rattle.cb_lanes.proofs.answering.make_named.Goals as goal
 
 pub returns-in_ok-insert-in-Made-clause-step : goal.returns-in_ok-insert-in-Made-clause-step
 returns-in_ok-insert-in-Made-clause-step c =
-    rw c.in-Made.is at (subst (λ (b : List ℕ). TurnStep (job.Make b) c.args.world.now c.in_ok-reply.reply
-    c.turn_of.new.world) c.in_ok-copy.ensures.items c.in_ok-reply.ensures.step)
+    rw c.in-Made.is at (subst (λ (b : List ℕ). Step c.args.world.now (Turn c.args.seat (job.Make b))
+    c.in_ok-reply.reply c.turn_of.new.world) c.in_ok-copy.ensures.items c.in_ok-reply.ensures.step)
 
 pub returns-in_ok-insert-in-Made-clause-names : goal.returns-in_ok-insert-in-Made-clause-names
 returns-in_ok-insert-in-Made-clause-names c =
@@ -16,11 +17,10 @@ returns-in_ok-insert-in-Made-clause-names c =
 
 pub returns-in_default : goal.returns-in_default
 returns-in_default c =
-    let step = subst (λ (b : List ℕ). TurnStep (job.Make b) c.args.world.now c.in_ok-reply.reply
-    c.turn_of.new.world) c.in_ok-copy.ensures.items c.in_ok-reply.ensures.step in
     record {
-      step = step;
-      names = refused_names c.args.world.now c.turn_of.new.world c.args.names.now c.args.name.now
-          c.args.bytes.now c.in_ok-reply.reply step c.in_default.not-Made;
+      step = subst (λ (b : List ℕ). Step c.args.world.now (Turn c.args.seat (job.Make b))
+          c.in_ok-reply.reply c.turn_of.new.world) c.in_ok-copy.ensures.items c.in_ok-reply.ensures.step;
+      names = refused_names c.args.names.now c.args.name.now c.args.bytes.now c.in_ok-reply.reply
+          c.in_default.not-Made;
       sound = c.in_ok-reply.ensures.sound;
     }

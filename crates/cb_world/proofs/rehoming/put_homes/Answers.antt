@@ -1,6 +1,6 @@
 use Rattle.std.proofs.Common.{rules, length}
-use Rattle.cb_evict.proofs.Homing.{homes_all, homes_step, object_below}
-use Rattle.cb_evict.proofs.closing.put_homes.Goals as goal
+use Rattle.cb_world.proofs.Homing.{homes_all, homes_step, object_below}
+use Rattle.cb_world.proofs.rehoming.put_homes.Goals as goal
 
 pub put_home-requires : goal.put_home-requires
 put_home-requires c = record {

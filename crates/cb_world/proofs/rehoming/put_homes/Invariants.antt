@@ -1,5 +1,5 @@
-use Rattle.cb_evict.proofs.Homing.{HasSome}
-use Rattle.cb_evict.proofs.closing.put_homes.Given as goal
+use Rattle.cb_world.proofs.Homing.{HasSome}
+use Rattle.cb_world.proofs.rehoming.put_homes.Given as goal
 
 -- the objects in the earlier slots have their homes
 abbrev pub invariant-loop-slot : goal.invariant-loop-slot

@@ -1,13 +1,13 @@
--- The rows that were put for a batch are dropped.
-use Rattle.std.proofs.Common.{◌≡◌, ℕ, zero, suc, ◌+◌, ◌<◌, List, [], ◌∷◌, length, drop, get_or, Option, None, Some, sym, refl, ap, ◌∙◌, arith, drop-cons}
-use Rattle.std.specs.List.{slice_get}
+-- Rows that are dropped one after another.
+use Rattle.std.proofs.Common.{◌≡◌, ℕ, suc, ◌+◌, ◌<◌, List, ◌∷◌, length, drop, get_or, Option, None, Some, sym, refl, ap, ◌∙◌, arith, drop-cons}
+use Rattle.std.proofs.lemmas.Option.{slice_get-get_or}
 use Rattle.cb_member.specs.declared.names.Shard.{Shard}
 use Rattle.cb_node.specs.NodesState.{NodesState, with_dropped}
 use Rattle.cb_world.specs.Reserved.{put_shards}
 use Rattle.cb_world.specs.Stored.{AreThere, all_dropped}
-use Rattle.cb_world.proofs.Laws.{put_at}
+use Rattle.cb_world.proofs.BatchGone.{put_at}
 
--- the loop's step: one position less
+-- the loop's step: one place less
 drops_one : (nodes new : NodesState) (o : Option Shard) (rest : List (Option Shard))
     → ((shard : Shard) → o ≡ Some shard → new ≡ with_dropped nodes shard.node shard.key)
     → (o ≡ None → new ≡ nodes)
@@ -17,14 +17,14 @@ drops_one nodes new None rest put none =
 drops_one nodes new (Some shard) rest put none =
     ap (λ (n : NodesState). all_dropped n (put_shards rest)) (put shard refl)
 
-pub drops_more : (nodes new : NodesState) (shards : List (Option Shard)) (i : ℕ) (d : Option Shard)
+pub put_drops_more : (nodes new : NodesState) (shards : List (Option Shard)) (i : ℕ) (d : Option Shard)
     → i < length shards
     → ((shard : Shard) → get_or shards i d ≡ Some shard
     → new ≡ with_dropped nodes shard.node shard.key)
     → (get_or shards i d ≡ None → new ≡ nodes)
     → all_dropped new (put_shards (drop (i + 1) shards))
     ≡ all_dropped nodes (put_shards (drop i shards))
-drops_more nodes new shards i d within put none =
+put_drops_more nodes new shards i d within put none =
     let next : suc i ≡ i + 1 = omega arith in
     drops_one nodes new (get_or shards i d) (drop (i + 1) shards) put none
     ∙ sym (ap (λ (l : List (Option Shard)). all_dropped nodes (put_shards l))
@@ -36,11 +36,5 @@ pub node_there : (nodes : NodesState) (shards : List (Option Shard)) (i : ℕ) (
     (shard : Shard) → i < length shards → AreThere nodes (put_shards shards)
     → get_or shards i d ≡ Some shard → shard.node.n < length nodes.nodes
 node_there nodes shards i d shard within there e =
-    let x = put_at shards i shard (at shards i d within
+    let x = put_at shards i shard (slice_get-get_or shards i d within
     ∙ ap (λ (o : Option Shard). Some o) e) in there x.0 shard x.1
-  where
-    at : (xs : List (Option Shard)) (i : ℕ) (d : Option Shard) → i < length xs
-        → slice_get xs i ≡ Some (get_or xs i d)
-    at [] i d l = absurd (omega (arith, l))
-    at (x ∷ xs) zero d l = refl
-    at (x ∷ xs) (suc i) d l = at xs i d (omega (arith, l))
