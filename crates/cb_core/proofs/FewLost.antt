@@ -112,22 +112,22 @@ few_lost nodes m shards among distinct =
 module _ (c : Config) (s : Shown) (far : FarState) (nodes : List ℕ) (sound : Sound s far)
     (codes : HaveCodes c far) (among : CrashedAmong nodes far.members) (few : length nodes ≤ c.r)
   where
-  pub never_broken : (id : ℕ) (set : SetState) → set_in far.sets id ≡ Some set
-      → is_broken far.members set ≡ false
-  never_broken id set there =
-      let shaped = sound.away.sound.sets.shaped id set there in
-      let most = few_lost nodes far.members set.shards among shaped.distinct in
-      let r = (codes.sets id set there).1 in
-      le-ltb (parities set) (length (lost far.members set.shards)) (omega (arith, most, few, r))
+    pub never_broken : (id : ℕ) (set : SetState) → set_in far.sets id ≡ Some set
+        → is_broken far.members set ≡ false
+    never_broken id set there =
+        let shaped = sound.away.sound.sets.shaped id set there in
+        let most = few_lost nodes far.members set.shards among shaped.distinct in
+        let r = (codes.sets id set there).1 in
+        le-ltb (parities set) (length (lost far.members set.shards)) (omega (arith, most, few, r))
 
-  pub never_gone : (h : ℕ) → is_gone far h ≡ false
-  never_gone h = by (home_at far.homes h)
-    where
-      at : (id : ℕ) (o : Option SetState) → set_in far.sets id ≡ o
-          → broken_set far.members o ≡ false
-      at id None e = refl
-      at id (Some set) e = never_broken id set e
+    pub never_gone : (h : ℕ) → is_gone far h ≡ false
+    never_gone h = by (home_at far.homes h)
+      where
+        at : (id : ℕ) (o : Option SetState) → set_in far.sets id ≡ o
+            → broken_set far.members o ≡ false
+        at id None e = refl
+        at id (Some set) e = never_broken id set e
 
-      by : (o : Option Home) → broken_home far o ≡ false
-      by None = refl
-      by (Some home) = at home.set (set_in far.sets home.set) refl
+        by : (o : Option Home) → broken_home far o ≡ false
+        by None = refl
+        by (Some home) = at home.set (set_in far.sets home.set) refl

@@ -1,4 +1,5 @@
 -- The lemmas of this crate that other crates cite.
+pub use Rattle.cb_core.proofs.Calm.{IsEased, MakesEasy, pin_calm, turn_calm}
 pub use Rattle.cb_core.proofs.Changes.{read_leaves}
 pub use Rattle.cb_core.proofs.CrashesKept.{NamesAmong, none_crashed, turn_crashed, turn_idle}
 pub use Rattle.cb_core.proofs.Epochs.{lead_rises, pin_far, step_rises, unpin_far}
@@ -17,3 +18,4 @@ pub use Rattle.cb_core.proofs.TurnCallsMap.{IsSameMap}
 pub use Rattle.cb_core.proofs.TurnCallsPinned.{IsPinCount, free_counts, write_counts}
 pub use Rattle.cb_core.proofs.TurnCallsSound.{swap_sound}
 pub use Rattle.cb_core.proofs.TurnCallsSwap.{IsSwapRefusal, SwapEnds, refusal_line, refused, stays, swapped}
+pub use Rattle.cb_core.proofs.TurnCallsUnpinned.{free_unpinned, write_fits, write_unpinned}

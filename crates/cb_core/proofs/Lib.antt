@@ -74,6 +74,8 @@ pub mod TurnCallsFirst
 pub mod TurnCalls
 pub mod TurnCallsUnavailable
 pub mod TurnCallsPinned
+pub mod TurnCallsUnpinned
+pub mod Calm
 pub mod TurnCallsSound
 pub mod CallsBeside
 pub mod RunLegal

@@ -1,0 +1,458 @@
+-- A turn tells of no want of room and of no loss where no set is broken, no object moves, each
+-- version has a next one, and an eviction finds spans and nodes whenever no frame is free.
+use Rattle.std.proofs.Common.{◌≡◌, ℕ, zero, suc, ◌+◌, ◌-◌, ◌^◌, ◌==◌, ◌<◌, ◌≤◌, nat_lt, Bool, true, false, List, length, slice_index, Option, None, Some, if◌then◌else◌, refl, sym, ap, ◌∙◌, subst, arith, inl, inr, ne_eqb}
+use Rattle.std.proofs.lemmas.Bool.{cases_lt, false≢true}
+use Rattle.std.proofs.lemmas.List.{get_or_past}
+use Rattle.cb_frame.specs.FreeFrames.{least_free}
+use Rattle.cb_ptr.specs.declared.word.State.{State}
+use Rattle.cb_ptr.specs.declared.word.State.TheVariants as word
+use Rattle.cb_ptr.specs.Word.{state_of, len_of, pins_of}
+use Rattle.cb_set.specs.SetState.{SetState}
+use Rattle.cb_set.specs.Lost.{lost}
+use Rattle.cb_types.specs.declared.job.Job.{Job}
+use Rattle.cb_types.specs.declared.job.Job.TheVariants.{Make, Read, Write, Free, Swap, Filter, Evict, Begin, Ship, Commit, Abort, Pair, Patch, Merge, Part, Compact, Rebuild, Crash, Join}
+use Rattle.cb_types.specs.declared.reply.Reply.{Reply}
+use Rattle.cb_types.specs.declared.reply.Reply.TheVariants as answer
+use Rattle.cb_world.specs.declared.shown.Shown.{Shown}
+use Rattle.cb_world.specs.Choices.{room_count}
+use Rattle.cb_world.specs.FarState.{FarState}
+use Rattle.cb_world.specs.Now.{is_gone}
+use Rattle.cb_world.specs.Plain.{Words}
+use Rattle.cb_world.specs.SetWord.{is_broken}
+use Rattle.cb_world.specs.StillWords.{stamp_at}
+use Rattle.cb_world.specs.World.{WorldState, IsKnown, IsSoundWorld, word_at}
+use Rattle.cb_mutate.specs.StillReplies.{change_reply, empty_reply, free_as, next_reply, reply_as, write_reply}
+use Rattle.cb_evict.specs.declared.eviction.Eviction.TheVariants.{Refused}
+use Rattle.cb_evict.specs.declared.eviction.Lack.{Lack}
+use Rattle.cb_evict.specs.declared.eviction.Lack.TheVariants as lack
+use Rattle.cb_evict.specs.Eviction.{reply_of}
+use Rattle.cb_evict.specs.EvictStep.{IsEvictStep, few_nodes, few_spans, loose_frames, made}
+use Rattle.cb_filter.specs.FilterRule.{EmptyAnswer}
+use Rattle.cb_filter.specs.FilterStep.{RefusesAs, cools, moves, refused, without_slot}
+use Rattle.cb_swapin.specs.SwapRule.{frame_answer, swap_answer}
+use Rattle.cb_swapin.proofs.Laws.{step_cases, step_only_no_frame}
+use Rattle.cb_compact.specs.NowStep.{NowStep}
+use Rattle.cb_rebuild.specs.RebuildStep.{RebuildStep}
+use Rattle.cb_core.specs.Declining.{write_refusal}
+use Rattle.cb_core.specs.Membership.{CrashTurn, JoinTurn, crashed, is_down, is_up, joined}
+use Rattle.cb_core.specs.Parts.{Holding, NeverDeclined, WithRoom, at_once, no_room, won, WhereItIs, near, declined, stays_far, brought, BringsIn, not_far, was_far}
+use Rattle.cb_core.specs.Pinning.{PinStep, pin_refusal, refused as refused_pin, scope_full, taken}
+use Rattle.cb_core.specs.Step.{StillBring, StillDecline, StillEvict, StillFilter, StillFind, StillFree, StillMake, StillRead, StillRoom, StillSwap, StillWorks, StillWrite, TurnStep, worn, done}
+use Rattle.cb_core.specs.Turned.{counted}
+use Rattle.cb_core.proofs.NodesStay.{IsWhole}
+use Rattle.cb_core.proofs.PartsStay.{Leaves, room_same}
+use Rattle.cb_core.proofs.TurnCalls.{held_at, held_then, known_at}
+use Rattle.cb_core.proofs.TurnCallsKept.{same_holding}
+use Rattle.cb_core.proofs.TurnCallsFar.{BringEnds, bring_ends, broke, came, crammed, lost_gone}
+
+-- the reply tells of no want of room, no loss, no move and no number at its end
+abbrev pub IsEased : Reply → Type 0
+IsEased (answer.NoRoom frames loose nodes) = ⊥
+IsEased (answer.Unavailable set lost) = ⊥
+IsEased answer.Worn = ⊥
+IsEased answer.Moving = ⊥
+IsEased r = Unit {0}
+
+calm_as : (r q : Reply) → IsEased q → r ≡ q → IsEased r
+calm_as r q calm e = subst IsEased (sym e) calm
+
+-- no object moves, and none is gone; where no frame is free enough spans are loose, and enough
+-- nodes have room; each version has a next one
+pub record MakesEasy (x : Words) (far : FarState) : Type 0 where
+  pub still : (h : ℕ) → h < length x.words → state_of (word_at x h) ≡ word.Moving → ⊥
+  pub whole : (h : ℕ) → is_gone far h ≡ false
+  pub spans : least_free far.frames ≡ None → x.settings.k ≤ length (loose_frames x far)
+  pub nodes : x.settings.k + x.settings.r ≤ room_count far.nodes far.members
+  pub stamps : (h : ℕ) → stamp_at x h < 2 ^ 64 - 1
+
+abbrev IsEasy : Holding Words → Type 0
+IsEasy a = MakesEasy a.desk a.far
+
+-- ---- replies by pointer word and version word
+still_at : (x : Words) (far : FarState) → MakesEasy x far → (h : ℕ)
+    → state_of (word_at x h) ≡ word.Moving → ⊥
+still_at x far easy h moving = elim (cases_lt h (length x.words)) [
+  | inl inside ↦ easy.still h inside moving
+  | inr outside ↦ empty_moves (sym (ap state_of (get_or_past x.words h 0 outside)) ∙ moving)
+]
+  where
+    empty_moves : state_of 0 ≡ word.Moving → ⊥
+    empty_moves e = cc
+
+empty_calm : (version : ℕ) → IsEased (empty_reply version)
+empty_calm zero = tt
+empty_calm (suc version) = tt
+
+calm_by_state : (q : State) (version : ℕ) (here : Reply) → (q ≡ word.Moving → ⊥) → IsEased here
+    → IsEased (reply_as q version here)
+calm_by_state word.Empty version here still calm = empty_calm version
+calm_by_state word.Far version here still calm = tt
+calm_by_state word.Here version here still calm = calm
+calm_by_state word.Moving version here still calm = absurd (still refl)
+
+next_calm : (version : ℕ) → version < 2 ^ 64 - 1 → IsEased (next_reply version)
+next_calm version young = calm_as (next_reply version) (answer.Version (version + 1)) tt
+    (ap (λ (b : Bool). if b then answer.Worn else answer.Version (version + 1))
+    (ne_eqb version (2 ^ 64 - 1) (λ e. omega (arith, young, e))))
+
+change_calm : (w version : ℕ) → version < 2 ^ 64 - 1 → IsEased (change_reply w version)
+change_calm w version young = by (pins_of w == 0)
+  where
+    by : (b : Bool) → IsEased (if b then next_reply version else answer.Pinned (pins_of w))
+    by true = next_calm version young
+    by false = tt
+
+write_calm : (w version at count : ℕ) → (state_of w ≡ word.Moving → ⊥) → version < 2 ^ 64 - 1
+    → IsEased (write_reply w version at count)
+write_calm w version at count still young =
+    calm_by_state (state_of w) version _ still (by (nat_lt (len_of w) (at + count)))
+  where
+    by : (b : Bool) → IsEased (if b then answer.Range (len_of w) else change_reply w version)
+    by true = tt
+    by false = change_calm w version young
+
+free_calm : (q : State) (w version : ℕ) → (q ≡ word.Moving → ⊥) → version < 2 ^ 64 - 1
+    → IsEased (free_as q version (change_reply w version))
+free_calm word.Far w version still young = next_calm version young
+free_calm word.Empty w version still young = empty_calm version
+free_calm word.Here w version still young = change_calm w version young
+free_calm word.Moving w version still young = absurd (still refl)
+
+none_some : (r : Reply) → Some r ≡ None → ⊥
+none_some r e = cc
+
+same_some : (a b : Reply) → Some a ≡ Some b → a ≡ b
+same_some a b e = cc
+
+-- a write that is declined
+declined_calm : (gone : Bool) (len version at count : ℕ) (r : Reply) → version < 2 ^ 64 - 1
+    → Some r ≡ write_refusal gone len version at count → IsEased r
+declined_calm true len version at count r young e = absurd (none_some r e)
+declined_calm false len version at count r young e = by (nat_lt len (at + count)) (e ∙ ap
+    (λ (b : Bool). if nat_lt len (at + count) then Some (answer.Range len)
+    else if b then Some answer.Worn else None)
+    (ne_eqb version (2 ^ 64 - 1) (λ same. omega (arith, young, same))))
+  where
+    by : (b : Bool) → Some r ≡ (if b then Some (answer.Range len) else None) → IsEased r
+    by true e = calm_as r (answer.Range len) tt (same_some r (answer.Range len) e)
+    by false e = absurd (none_some r e)
+
+-- ---- an eviction finds spans and nodes
+spans_set : (loose : ℕ) (r : Reply) (id : _) → r ≡ answer.NoSpans loose → r ≡ answer.Set id → ⊥
+spans_set loose r id a b = cc
+
+nodes_set : (nodes : ℕ) (r : Reply) (id : _) → r ≡ answer.NoNodes nodes → r ≡ answer.Set id → ⊥
+nodes_set nodes r id a b = cc
+
+not_refused : (a b : Holding Words) (why : Lack) (loose nodes : ℕ) → IsEasy a
+    → least_free a.far.frames ≡ None → StillRoom a (Refused why loose nodes) b → ⊥
+not_refused a b why loose nodes easy none step = by step.0.step
+  where
+    no_set : (why : Lack) (id : _) → reply_of (Refused why loose nodes) ≡ answer.Set id → ⊥
+    no_set lack.Spans id e = spans_set loose _ id refl e
+    no_set lack.Nodes id e = nodes_set nodes _ id refl e
+
+    by : IsEvictStep a.desk b.desk a.far b.far (reply_of (Refused why loose nodes)) → ⊥
+    by (few_spans few same) =
+        let enough = easy.spans none in let less = few.few in omega (arith, enough, less)
+    by (few_nodes few same) =
+        let enough = easy.nodes in let less = few.few in omega (arith, enough, less)
+    by (made m) = no_set why _ m.reply
+
+-- ---- a make
+full_crammed : (r : Reply) (handles : ℕ) → r ≡ answer.NoFrame → r ≡ answer.Full handles → ⊥
+full_crammed r handles a b = cc
+
+made_crammed : (r : Reply) (h : _) (version : ℕ) → r ≡ answer.NoFrame
+    → r ≡ answer.Made h version → ⊥
+made_crammed r h version a b = cc
+
+make_stops : (bytes : List ℕ) (a m : Holding Words) → StillMake bytes a answer.NoFrame m
+    → (m ≡ a) × (least_free a.far.frames ≡ None)
+make_stops bytes a m (inl (full, reply, words, far)) = absurd (full_crammed _ _ refl reply)
+make_stops bytes a m (inr (more, inl (none, reply, words, far))) =
+    (same_holding a m words far, none.2.taken)
+make_stops bytes a m (inr (more, inr (reply, new))) = absurd (made_crammed _ _ _ refl reply)
+
+make_at : (bytes : List ℕ) (a b : Holding Words) (r : Reply) → (r ≡ answer.NoFrame → ⊥)
+    → StillMake bytes a r b → IsEased r
+make_at bytes a b r framed (inl (full, reply, words, far)) = calm_as r _ tt reply
+make_at bytes a b r framed (inr (more, inl (none, reply, words, far))) = absurd (framed reply)
+make_at bytes a b r framed (inr (more, inr (reply, new))) = calm_as r _ tt reply
+
+make_calm : (bytes : List ℕ) (a b : Holding Words) (r : Reply) → IsEasy a
+    → WithRoom a.desk.settings.frames (StillMake bytes) StillRoom a r b → IsEased r
+make_calm bytes a b r easy (at_once o off) = make_at bytes a b r off o
+make_calm bytes a b r easy (no_room m why loose nodes o v is) =
+    let x = make_stops bytes a m o in
+    absurd (not_refused m b why loose nodes (subst IsEasy (sym x.0) easy)
+    (ap (λ (z : Holding Words). least_free z.far.frames) x.0 ∙ x.1) v)
+make_calm bytes a b r easy (won m n id o v again off) = make_at bytes n b r off again
+
+-- ---- a bringing in
+not_room : (far : FarState) (id : ℕ) (set : SetState) (frames loose nodes : ℕ)
+    → swap_answer far id set ≡ answer.NoRoom frames loose nodes → ⊥
+not_room far id set frames loose nodes = by (is_broken far.members set)
+  where
+    framed : (o : Option ℕ) → frame_answer o ≡ answer.NoRoom frames loose nodes → ⊥
+    framed None e = cc
+    framed (Some f) e = cc
+
+    by : (b : Bool) → (if b
+        then answer.Unavailable (record { n = id }) (lost far.members set.shards)
+        else frame_answer (least_free far.frames)) ≡ answer.NoRoom frames loose nodes → ⊥
+    by true e = cc
+    by false e = framed (least_free far.frames) e
+
+swap_stops : (h : ℕ) (a m : Holding Words) → StillSwap h a answer.NoFrame m
+    → (m ≡ a) × (least_free a.far.frames ≡ None)
+swap_stops h a m (home, at, step, hold) = (
+  same_holding a m step.change.0 step.change.1,
+  (step_only_no_frame a.desk m.desk a.far m.far home.set home.position step).1,
+)
+
+has_room : (h : ℕ) (a b : Holding Words) (r : Reply) (frames loose nodes : ℕ) → IsEasy a
+    → StillBring h a r b → r ≡ answer.NoRoom frames loose nodes → ⊥
+has_room h a b r frames loose nodes easy (at_once (home, at, step, hold) off) e =
+    not_room a.far home.set step.set frames loose nodes (sym step.reply ∙ e)
+has_room h a b r frames loose nodes easy (no_room m why some other o v is) e =
+    let x = swap_stops h a m o in
+    not_refused m b why some other (subst IsEasy (sym x.0) easy)
+    (ap (λ (z : Holding Words). least_free z.far.frames) x.0 ∙ x.1) v
+has_room h a b r frames loose nodes easy (won m n id o v (home, at, step, hold) off) e =
+    not_room n.far home.set step.set frames loose nodes (sym step.reply ∙ e)
+
+bring_calm : (h : ℕ) (a b : Holding Words) (r : Reply) (s : Shown) → IsKnown a.desk a.far s
+    → IsEasy a → StillBring h a r b → IsEased r
+bring_calm h a b r s known easy step = by (bring_ends a b h r s known step)
+  where
+    by : BringEnds a b h r → IsEased r
+    by (came f e kept here) = calm_as r (answer.Swapped f) tt e
+    by (broke id losses e z) =
+        absurd (false≢true (sym (easy.whole h) ∙ lost_gone a.far h id losses z))
+    by (crammed frames loose nodes e kept) =
+        absurd (has_room h a b r frames loose nodes easy step e)
+
+-- an object that came in is here
+unavailable_came : (f : ℕ) (r : Reply) (id : _) (losses : _) → r ≡ answer.Swapped f
+    → r ≡ answer.Unavailable id losses → ⊥
+unavailable_came f r id losses a b = cc
+
+room_came : (f : ℕ) (r : Reply) (frames loose nodes : ℕ) → r ≡ answer.Swapped f
+    → r ≡ answer.NoRoom frames loose nodes → ⊥
+room_came f r frames loose nodes a b = cc
+
+here_moves : (q : State) → q ≡ word.Here → q ≡ word.Moving → ⊥
+here_moves q a b = cc
+
+brought_still : (h f : ℕ) (a b : Holding Words) (s : Shown) → IsKnown a.desk a.far s
+    → StillBring h a (answer.Swapped f) b → state_of (word_at b.desk h) ≡ word.Moving → ⊥
+brought_still h f a b s known step = by (bring_ends a b h (answer.Swapped f) s known step)
+  where
+    by : BringEnds a b h (answer.Swapped f) → state_of (word_at b.desk h) ≡ word.Moving → ⊥
+    by (came g e kept here) moving = here_moves (state_of (word_at b.desk h)) here moving
+    by (broke id losses e z) moving = unavailable_came f _ id losses refl e
+    by (crammed frames loose nodes e kept) moving = room_came f _ frames loose nodes refl e
+
+-- at its version
+abbrev versions_of : Holding Words → List ℕ
+versions_of a = a.desk.versions
+
+room_versions : Leaves versions_of StillRoom
+room_versions a b e step = by (reply_of e) step.0.step
+  where
+    by : (r : Reply) → IsEvictStep a.desk b.desk a.far b.far r → versions_of b ≡ versions_of a
+    by r (few_spans few same) = ap (λ (x : Words). x.versions) same
+    by r (few_nodes few same) = ap (λ (x : Words). x.versions) same
+    by r (made m) = m.evicted.sent.versions
+
+swap_versions : (h : ℕ) → Leaves versions_of (StillSwap h)
+swap_versions h a b r (home, at, step, hold) =
+    step_cases (versions_of b ≡ versions_of a) a.desk b.desk a.far b.far home.set home.position r
+    step (λ same. ap (λ (x : Words). x.versions) same.0) (λ f whole least e w. w.words.versions)
+
+brought_young : (h : ℕ) (a b : Holding Words) (r : Reply) → IsEasy a → StillBring h a r b
+    → stamp_at b.desk h < 2 ^ 64 - 1
+brought_young h a b r easy step =
+    let same = room_same versions_of a.desk.settings.frames (StillSwap h) StillRoom
+    (swap_versions h) room_versions a b r step in
+    subst (λ (versions : List ℕ). slice_index versions h < 2 ^ 64 - 1) (sym same)
+    (easy.stamps h)
+
+-- ---- each job
+read_calm : (h : ℕ) (a b : Holding Words) (r : Reply)
+    → (state_of (word_at a.desk h) ≡ word.Moving → ⊥) → StillRead h a r b → IsEased r
+read_calm h a b r still step = calm_as r _
+    (calm_by_state (state_of (word_at a.desk h)) (stamp_at a.desk h) _ still tt) step.0.reply
+
+read_stops : (h : ℕ) (a m : Holding Words) → StillRead h a answer.NotHere m → m ≡ a
+read_stops h a m step = same_holding a m step.0.change step.1
+
+read_job : (h : ℕ) (a b : Holding Words) (r : Reply) (s : Shown) → IsKnown a.desk a.far s → IsEasy a
+    → WhereItIs (StillRead h) NeverDeclined (StillBring h) a r b → IsEased r
+read_job h a b r s known easy (near o off) =
+    read_calm h a b r (still_at a.desk a.far easy h) o
+read_job h a b r s known easy (declined m o d) = absurd (none_some r d.0)
+read_job h a b r s known easy (stays_far m n o d v off) =
+    let same = d.1 ∙ read_stops h a m o in
+    bring_calm h n b r s (subst (λ (z : Holding Words). IsKnown z.desk z.far s) (sym same) known)
+    (subst IsEasy (sym same) easy) v
+read_job h a b r s known easy (brought m n q f o d v again) =
+    let same = d.1 ∙ read_stops h a m o in
+    read_calm h q b r (brought_still h f n q s
+    (subst (λ (z : Holding Words). IsKnown z.desk z.far s) (sym same) known) v) again
+
+write_at : (h at : ℕ) (bytes : List ℕ) (a b : Holding Words) (r : Reply)
+    → (state_of (word_at a.desk h) ≡ word.Moving → ⊥) → stamp_at a.desk h < 2 ^ 64 - 1
+    → StillWrite h at bytes a r b → IsEased r
+write_at h at bytes a b r still young step = calm_as r _
+    (write_calm (word_at a.desk h) (stamp_at a.desk h) at (length bytes) still young) step.0.reply
+
+write_stops : (h at : ℕ) (bytes : List ℕ) (a m : Holding Words)
+    → StillWrite h at bytes a answer.NotHere m → m ≡ a
+write_stops h at bytes a m step = same_holding a m step.0.change step.1
+
+write_job : (h at : ℕ) (bytes : List ℕ) (a b : Holding Words) (r : Reply) (s : Shown)
+    → IsKnown a.desk a.far s → IsEasy a
+    → WhereItIs (StillWrite h at bytes) (StillDecline h at (length bytes)) (StillBring h) a r b
+    → IsEased r
+write_job h at bytes a b r s known easy (near o off) = write_at h at bytes a b r
+    (still_at a.desk a.far easy h) (easy.stamps h) o
+write_job h at bytes a b r s known easy (declined m o d) =
+    let same = write_stops h at bytes a m o in
+    declined_calm (is_gone m.far h) (len_of (word_at m.desk h)) (stamp_at m.desk h) at
+    (length bytes) r ((subst IsEasy (sym same) easy).stamps h) d.0
+write_job h at bytes a b r s known easy (stays_far m n o d v off) =
+    let same = d.1 ∙ write_stops h at bytes a m o in
+    bring_calm h n b r s (subst (λ (z : Holding Words). IsKnown z.desk z.far s) (sym same) known)
+    (subst IsEasy (sym same) easy) v
+write_job h at bytes a b r s known easy (brought m n q f o d v again) =
+    let same = d.1 ∙ write_stops h at bytes a m o in
+    write_at h at bytes q b r (brought_still h f n q s
+    (subst (λ (z : Holding Words). IsKnown z.desk z.far s) (sym same) known) v)
+    (brought_young h n q (answer.Swapped f) (subst IsEasy (sym same) easy) v) again
+
+free_job : (h : ℕ) (a b : Holding Words) (r : Reply) → IsEasy a → StillFree h a r b → IsEased r
+free_job h a b r easy step = calm_as r _ (free_calm (state_of (word_at a.desk h)) (word_at a.desk h)
+    (stamp_at a.desk h) (still_at a.desk a.far easy h) (easy.stamps h)) step.reply
+
+find_calm : (h : ℕ) (a b : Holding Words) (r : Reply) → IsEasy a → StillFind h a r b → IsEased r
+find_calm h a b r easy step = calm_as r _ (calm_by_state (state_of (word_at a.desk h))
+    (stamp_at a.desk h) answer.Stays (still_at a.desk a.far easy h) tt) step.0
+
+swap_job : (h : ℕ) (a b : Holding Words) (r : Reply) (s : Shown) → IsKnown a.desk a.far s → IsEasy a
+    → BringsIn (StillFind h) (StillBring h) a r b → IsEased r
+swap_job h a b r s known easy (not_far o off) = find_calm h a b r easy o
+swap_job h a b r s known easy (was_far m o v) =
+    bring_calm h m b r s (subst (λ (z : Holding Words). IsKnown z.desk z.far s) (sym o.1) known)
+    (subst IsEasy (sym o.1) easy) v
+
+filter_job : (h : ℕ) (a b : Holding Words) (r : Reply) → IsEasy a → StillFilter h a r b → IsEased r
+filter_job h a b r easy (refused why same state, hold) =
+    by (state_of (word_at a.desk h)) (still_at a.desk a.far easy h) why
+  where
+    empty : (version : ℕ) → EmptyAnswer version r → IsEased r
+    empty zero e = calm_as r answer.Unmade tt e
+    empty (suc version) e = calm_as r answer.NotHere tt e
+
+    by : (q : State) → (q ≡ word.Moving → ⊥)
+        → RefusesAs q (word_at a.desk h) (stamp_at a.desk h) r → IsEased r
+    by word.Empty still e = empty (stamp_at a.desk h) e
+    by word.Far still e = calm_as r answer.NotHere tt e
+    by word.Here still e = calm_as r _ tt e.1
+    by word.Moving still e = absurd (still refl)
+filter_job h a b r easy (cools seat is place same, hold) = calm_as r _ tt place.reply
+filter_job h a b r easy (without_slot seat is none same, hold) = calm_as r _ tt none.reply
+filter_job h a b r easy (moves seat slot is gets same, hold) = calm_as r _ tt gets.reply
+
+evict_job : (a b : Holding Words) (r : Reply) → StillEvict a r b → IsEased r
+evict_job a b r step = by step.0
+  where
+    by : IsEvictStep a.desk b.desk a.far b.far r → IsEased r
+    by (few_spans few same) = calm_as r _ tt few.reply
+    by (few_nodes few same) = calm_as r _ tt few.reply
+    by (made m) = calm_as r _ tt m.reply
+
+compact_job : (far new : FarState) (r : Reply) → NowStep far new r → IsEased r
+compact_job far new r (inl z) = calm_as r _ tt z.reply
+compact_job far new r (inr (inl z)) = calm_as r _ tt z.reply
+compact_job far new r (inr (inr z)) = elim z.ends [
+  | inl full ↦ calm_as r _ tt full.reply
+  | inr merged ↦ calm_as r _ tt merged.reply
+]
+
+rebuild_job : (far new : FarState) (r : Reply) → RebuildStep far new r → IsEased r
+rebuild_job far new r (inl none) = calm_as r _ tt none.reply
+rebuild_job far new r (inr z) = elim z.restores [
+  | inl stuck ↦ calm_as r _ tt stuck.reply
+  | inr rebuilt ↦ calm_as r _ tt rebuilt.reply
+]
+
+crash_job : (node : _) (far new : FarState) (r : Reply) → CrashTurn node far r new → IsEased r
+crash_job node far new r (crashed up reply state) = calm_as r _ tt reply
+crash_job node far new r (is_down down reply state) = calm_as r _ tt reply
+
+join_job : (node : _) (far new : FarState) (r : Reply) → JoinTurn node far r new → IsEased r
+join_job node far new r (joined down reply state) = calm_as r _ tt reply
+join_job node far new r (is_up up reply state) = calm_as r _ tt reply
+
+works_calm : (job : Job) (a b : Holding Words) (r : Reply) (s : Shown) → IsKnown a.desk a.far s
+    → IsEasy a → IsWhole job → StillWorks job a r b → IsEased r
+works_calm (Make bytes) a b r s known easy whole step = make_calm bytes a b r easy step
+works_calm (Read handle) a b r s known easy whole step =
+    read_job handle.n a b r s known easy step
+works_calm (Write handle at bytes) a b r s known easy whole step =
+    write_job handle.n at bytes a b r s known easy step
+works_calm (Free handle) a b r s known easy whole step = free_job handle.n a b r easy step
+works_calm (Swap handle) a b r s known easy whole step =
+    swap_job handle.n a b r s known easy step
+works_calm (Filter handle) a b r s known easy whole step =
+    filter_job handle.n a b r easy step
+works_calm Evict a b r s known easy whole step = evict_job a b r step
+works_calm Begin a b r s known easy whole step = absurd whole
+works_calm Ship a b r s known easy whole step = absurd whole
+works_calm Commit a b r s known easy whole step = absurd whole
+works_calm Abort a b r s known easy whole step = absurd whole
+works_calm Pair a b r s known easy whole step = absurd whole
+works_calm Patch a b r s known easy whole step = absurd whole
+works_calm Merge a b r s known easy whole step = absurd whole
+works_calm Part a b r s known easy whole step = absurd whole
+works_calm Compact a b r s known easy whole step = compact_job a.far b.far r step.1
+works_calm Rebuild a b r s known easy whole step = rebuild_job a.far b.far r step.1
+works_calm (Crash node) a b r s known easy whole step = crash_job node a.far b.far r step.1
+works_calm (Join node) a b r s known easy whole step = join_job node a.far b.far r step.1
+
+-- ---- a turn
+easy_counted : (x : Words) (far : FarState) (job : Job) → MakesEasy x far
+    → MakesEasy x (counted far job)
+easy_counted x far job easy = record {
+  still = easy.still;
+  whole = easy.whole;
+  spans = easy.spans;
+  nodes = easy.nodes;
+  stamps = easy.stamps;
+}
+
+pub turn_calm : (w new : WorldState) (job : Job) (r : Reply) → IsSoundWorld w
+    → w.far.counts.turns < 2 ^ 40 → IsWhole job → MakesEasy w.desk w.far → TurnStep job w r new
+    → IsEased r
+turn_calm w new job r sound few whole easy (worn end reply same) = absurd (omega (arith, few, end))
+turn_calm w new job r sound few whole easy (done more works seats) =
+    works_calm job (held_at w job) (held_then new) r sound.shown (known_at w job sound)
+    (easy_counted w.desk w.far job easy) whole works
+
+-- ---- a pin
+refusal_calm : (q : State) (version pins : ℕ) → (q ≡ word.Moving → ⊥)
+    → IsEased (pin_refusal q version pins)
+refusal_calm word.Empty version pins still = empty_calm version
+refusal_calm word.Far version pins still = tt
+refusal_calm word.Here version pins still = tt
+refusal_calm word.Moving version pins still = absurd (still refl)
+
+pub pin_calm : (w new : WorldState) (seat h : ℕ) (r : Reply) → MakesEasy w.desk w.far
+    → PinStep seat h w r new → IsEased r
+pin_calm w new seat h r easy (scope_full full reply same) = calm_as r _ tt reply
+pin_calm w new seat h r easy (refused_pin room not reply same) = calm_as r _
+    (refusal_calm (state_of (word_at w.desk h)) (stamp_at w.desk h) (pins_of (word_at w.desk h))
+    (still_at w.desk w.far easy h)) reply
+pin_calm w new seat h r easy (taken room may reply t) = calm_as r _ tt reply
