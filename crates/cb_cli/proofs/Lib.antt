@@ -6,6 +6,7 @@ pub mod TextParts
 pub mod Statuses
 pub mod Whole
 pub mod WorkedTaken
+pub mod WorkedPuts
 pub mod WorkedTexts
 pub mod WorkedWords
 mod OneWord

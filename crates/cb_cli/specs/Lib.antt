@@ -5,4 +5,5 @@ pub mod Failing
 pub mod Status
 pub mod Taken
 pub mod Fronts
+pub mod Puts
 pub mod Reader

@@ -1,7 +1,8 @@
-ghost use Rattle.std.specs.Prelude.{◌≡◌, ◌<◌, ◌≤◌, length, OnOk, OnErr};
+ghost use Rattle.std.specs.Prelude.{◌≡◌, ◌<◌, length, OnOk, OnErr};
 ghost use Rattle.std.specs.Io.KnownBytes.{Appends};
 ghost use Rattle.cb_types.specs.Faults.{Rose};
 ghost use Rattle.cb_cli.specs.Fronts.{GetsFront};
+ghost use Rattle.cb_cli.specs.Puts.{IsPutEnd};
 
 use cb_types::{Sent, Sink};
 
@@ -16,8 +17,7 @@ pub struct PutFailed;
 /// pipe is full leaves no part of a line; where none does, at its most.
 fn put_end(bytes: &[u8], done: usize) -> usize
     requires { done < length bytes.now }
-    ensures more { done < result }
-    ensures most { result ≤ length bytes.now }
+    ensures end { IsPutEnd bytes.now done result }
 {
     let most = done + MOST_PUT.min(bytes.len() - done);
     let mut end = most;

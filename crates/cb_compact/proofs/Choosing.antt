@@ -18,7 +18,7 @@ use Rattle.cb_world.specs.FarSound.{AwaySound}
 use Rattle.cb_world.specs.Sets.{Kept, if_committed, set_in}
 use Rattle.cb_world.specs.SetsFrom.{AreFrom}
 use Rattle.cb_compact.specs.declared.candidates.Candidate.{Candidate}
-use Rattle.cb_compact.specs.declared.candidates.Group.{Group}
+use Rattle.cb_world.specs.declared.groups.Group.{Group}
 use Rattle.cb_compact.specs.Candidates.{AreAlike, AreFirsts, AreSeen, CanMatch, IsAdded, IsCandidate, IsFirstMatch, NoneMatch, group}
 use Rattle.cb_compact.specs.Tables.{AreMasks}
 use Rattle.cb_compact.specs.Pairing.{CanJoin, IsFirstPair, NoneCanJoin}
@@ -28,7 +28,7 @@ pub candidate_same : (a b : Candidate) → Some a ≡ Some b → a ≡ b
 candidate_same a b e = cc
 
 -- a whole committed set as a candidate
-abbrev candidate_of : ℕ → SetState → Candidate
+abbrev pub candidate_of : ℕ → SetState → Candidate
 candidate_of id c = record {
   id = id;
   k = length c.positions;
@@ -36,7 +36,7 @@ candidate_of id c = record {
   live = live_mask c.positions;
 }
 
-is_candidate : (far : FarState) (id : ℕ) (c : SetState) → set_in far.sets id ≡ Some c
+pub is_candidate : (far : FarState) (id : ℕ) (c : SetState) → set_in far.sets id ≡ Some c
     → IsWhole far.members c → IsCandidate far (candidate_of id c) c
 is_candidate far id c there whole =
     record { there = there; whole = whole; k = refl; r = refl; live = refl }
@@ -166,7 +166,7 @@ module _ (s : Shown) (far : FarState) (sound : AwaySound s far) (found : List Ca
       )
 
 -- ---- the walk
-no_set : (c : SetState) → None ≡ Some c → ⊥
+pub no_set : (c : SetState) → None ≡ Some c → ⊥
 no_set c e = cc
 
 no_candidate : (c : Candidate) → None ≡ Some c → ⊥

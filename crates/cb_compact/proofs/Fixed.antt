@@ -44,13 +44,13 @@ no_pair o p e f = cc
 
 -- ---- the begin
 -- the first two sets that can be joined are two
-record AreThose (x y m n : ℕ) (a b c d : SetState) : Type 0 where
-  first : x ≡ m
-  second : y ≡ n
-  a_is : a ≡ c
-  b_is : b ≡ d
+pub record AreThose (x y m n : ℕ) (a b c d : SetState) : Type 0 where
+  pub first : x ≡ m
+  pub second : y ≡ n
+  pub a_is : a ≡ c
+  pub b_is : b ≡ d
 
-first_fixed : (far : FarState) (x y m n : ℕ) (a b c d : SetState) → IsFirstPair far x y a b
+pub first_fixed : (far : FarState) (x y m n : ℕ) (a b c d : SetState) → IsFirstPair far x y a b
     → IsFirstPair far m n c d → AreThose x y m n a b c d
 first_fixed far x y m n a b c d f g =
     let low = f.least_a m n c d g.above g.can in let high = g.least_a x y a b f.above f.can in
@@ -160,15 +160,15 @@ done_or_next : (pair : JoiningState) (k p : ℕ) → AreDone pair k → IsNext p
 done_or_next pair k p done next = false≢true (sym (done p next.within) ∙ next.undone)
 
 -- the sets have words, and a merged one
-record HasMerged (far : FarState) (pair : JoiningState) (a b : SetState) : Type 0 where
-  wa : List (List ℕ)
-  wb : List (List ℕ)
-  m : List (List ℕ)
-  a_word : IsWordOf far.nodes far.members a wa
-  b_word : IsWordOf far.nodes far.members b wb
-  merged : IsMergedWord (length a.positions) (parities a) pair.taken wa wb m
+pub record HasMerged (far : FarState) (pair : JoiningState) (a b : SetState) : Type 0 where
+  pub wa : List (List ℕ)
+  pub wb : List (List ℕ)
+  pub m : List (List ℕ)
+  pub a_word : IsWordOf far.nodes far.members a wa
+  pub b_word : IsWordOf far.nodes far.members b wb
+  pub merged : IsMergedWord (length a.positions) (parities a) pair.taken wa wb m
 
-has_merged : (s : Shown) (far : FarState) (pair : JoiningState) (a b : SetState) → Sound s far
+pub has_merged : (s : Shown) (far : FarState) (pair : JoiningState) (a b : SetState) → Sound s far
     → IsFreshPair far pair a b → HasMerged far pair a b
 has_merged s far pair a b sound fresh =
     let j = sound.away.join pair fresh.was in
@@ -266,7 +266,7 @@ module _ (s : Shown) (far : FarState) (pair : JoiningState) (a b : SetState) (so
   merges_fixed (inr x) (inr y) = merged_fixed x y
 
 -- what is so of a pair whose sets stand is so of the one that is looked at
-as_fresh : (far : FarState) (pair other : JoiningState) (a b c d : SetState)
+pub as_fresh : (far : FarState) (pair other : JoiningState) (a b c d : SetState)
     (P : JoiningState → SetState → SetState → Type 0) → IsFreshPair far pair a b
     → IsFreshPair far other c d → P pair a b → P other c d
 as_fresh far pair other a b c d P x y p =

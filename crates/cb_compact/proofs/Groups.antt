@@ -5,7 +5,7 @@ use Rattle.std.specs.declared.cmp.Ordering.{Ordering}
 use Rattle.std.specs.declared.cmp.Ordering.TheVariants as is
 use Rattle.std.proofs.lemmas.Bool.{false≢true}
 use Rattle.std.proofs.lemmas.Map.Lookups.{exact_unsigned}
-use Rattle.cb_compact.specs.declared.candidates.Group.{Group}
+use Rattle.cb_world.specs.declared.groups.Group.{Group}
 
 -- by k, then by r, then by the live positions
 abbrev pub group_cmp : Group → Group → Ordering

@@ -5,6 +5,7 @@ mod Finding
 mod Looked
 pub mod Keeping
 mod Choosing
+mod Learned
 mod Within
 mod Groups
 mod Begins

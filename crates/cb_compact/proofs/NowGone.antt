@@ -72,14 +72,14 @@ and_false true = refl
 and_false false = refl
 
 -- the step that was done is done, and the others are as they were
-step_done : (pair : JoiningState) (k p : ℕ) (shard : Shard) → p < length pair.steps
+pub step_done : (pair : JoiningState) (k p : ℕ) (shard : Shard) → p < length pair.steps
     → is_undone (with_step pair p shard) k p ≡ false
 step_done pair k p shard within =
     ap (λ (o : Option Shard). has_step pair k p && is_none o)
     (get_or-set_same pair.steps p (Some shard) None within)
     ∙ and_false (has_step pair k p)
 
-step_other : (pair : JoiningState) (k p q : ℕ) (shard : Shard) → (q ≡ p → ⊥)
+pub step_other : (pair : JoiningState) (k p q : ℕ) (shard : Shard) → (q ≡ p → ⊥)
     → is_undone (with_step pair p shard) k q ≡ is_undone pair k q
 step_other pair k p q shard off =
     ap (λ (o : Option Shard). has_step pair k q && is_none o)

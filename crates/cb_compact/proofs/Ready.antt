@@ -13,7 +13,7 @@ use Rattle.cb_node.proofs.Laws.{row_is_put}
 use Rattle.cb_set.specs.SetState.{SetState, parities}
 use Rattle.cb_world.specs.declared.shown.Shown.{Shown}
 use Rattle.cb_world.specs.FarState.{FarState}
-use Rattle.cb_world.specs.FarSound.{IsSetWord, of_set}
+use Rattle.cb_world.specs.FarSound.{FarSound, IsSetWord, of_set}
 use Rattle.cb_world.specs.Join.{IsJoin}
 use Rattle.cb_world.specs.Joining.{JoiningState}
 use Rattle.cb_world.specs.Merged.{AreTaken, IsMergedWord, takes}
@@ -62,40 +62,38 @@ stand_all far id shards set rows x word p shard at =
     let here = ap (λ (l : List Shard). slice_get l p) x.same ∙ at in
     word.survive p shard here (whole_none far.members set.shards x.whole p shard here)
 
-module _ (s : Shown) (far : FarState) (pair : JoiningState) (a b : SetState) (p : ℕ) (shard :
-    Shard)
-    (x : IsReady s far pair a b p shard) where
+-- ---- the rows of a pair whose sets stand as they did
+module _ (s : Shown) (far : FarState) (pair : JoiningState) (a b : SetState)
+    (sound : FarSound s far) (fresh : IsFreshPair far pair a b) where
   j : IsJoin far pair
-  j = x.sound.join pair x.fresh.was
+  j = sound.join pair fresh.was
 
   k_is : length a.positions ≡ j.k
-  k_is = (counted far pair a b j x.fresh).k
+  k_is = (counted far pair a b j fresh).k
 
   r_is : parities a ≡ j.r
-  r_is = (counted far pair a b j x.fresh).r
+  r_is = (counted far pair a b j fresh).r
 
   a_there : AreThere far.nodes pair.shards_a
   a_there q shard at =
-      let y = (x.sound.sound.rows.current (of_set pair.a q) shard (
+      let y = (sound.sound.rows.current (of_set pair.a q) shard (
         a,
-        x.fresh.a_stands.there,
-        ap (λ (l : List Shard). slice_get l q) x.fresh.a_stands.same ∙
-            at,
+        fresh.a_stands.there,
+        ap (λ (l : List Shard). slice_get l q) fresh.a_stands.same ∙ at,
       )).0 in
-      let n = x.sound.sound.rows.counted in omega (arith, y, n)
+      let n = sound.sound.rows.counted in omega (arith, y, n)
 
   b_there : AreThere far.nodes pair.shards_b
   b_there q shard at =
-      let y = (x.sound.sound.rows.current (of_set pair.b q) shard (
+      let y = (sound.sound.rows.current (of_set pair.b q) shard (
         b,
-        x.fresh.b_stands.there,
-        ap (λ (l : List Shard). slice_get l q) x.fresh.b_stands.same ∙
-            at,
+        fresh.b_stands.there,
+        ap (λ (l : List Shard). slice_get l q) fresh.b_stands.same ∙ at,
       )).0 in
-      let n = x.sound.sound.rows.counted in omega (arith, y, n)
+      let n = sound.sound.rows.counted in omega (arith, y, n)
 
-  pub ready_code : IsOfCode far.nodes pair (length a.positions) (parities a)
-  ready_code = record {
+  pub fresh_code : IsOfCode far.nodes pair (length a.positions) (parities a)
+  fresh_code = record {
     range = subst (λ (k : ℕ). IsInRange k (parities a)) (sym k_is)
         (subst (λ (r : ℕ). IsInRange j.k r) (sym r_is) j.range);
     taken = subst (λ (k : ℕ). AreTaken k pair.taken) (sym k_is) j.taken;
@@ -105,8 +103,41 @@ module _ (s : Shown) (far : FarState) (pair : JoiningState) (a b : SetState) (p 
     b_nodes = b_there;
   }
 
+  pub fresh_together : (wa wb : List (List ℕ)) → IsWordOf far.nodes far.members a wa
+      → IsWordOf far.nodes far.members b wb
+      → StandTogether far.nodes pair (length a.positions) (parities a) wa wb
+  fresh_together wa wb xa xb =
+      let fit = j.fit a b (fresh_is far pair a b fresh) in
+      let bk : length b.positions ≡ length a.positions = fit.b_count ∙ sym fit.a_count in
+      let br : parities b ≡ parities a =
+      let n = j.b_count in let e = ap length fresh.b_stands.same in let k = k_is in let r = r_is in
+      let c = fit.b_count in omega (arith, n, e, k, r, c, bk) in
+      record {
+        a_word = xa.code;
+        b_word = subst (λ (r : ℕ). IsSpanWord (length a.positions) r wb) br
+            (subst (λ (k : ℕ). IsSpanWord k (parities b) wb) bk xb.code);
+        a_rows = stand_all far pair.a pair.shards_a a wa fresh.a_stands xa;
+        b_rows = stand_all far pair.b pair.shards_b b wb fresh.b_stands xb;
+      }
+
+  pub fresh_words : (wa wb : List (List ℕ))
+      × StandTogether far.nodes pair (length a.positions) (parities a) wa wb
+  fresh_words =
+      let x = sound.sound.sets.worded pair.a a fresh.a_stands.there in
+      let y = sound.sound.sets.worded pair.b b fresh.b_stands.there in
+      (x.0, y.0, fresh_together x.0 y.0 x.1.word y.1.word)
+
+module _ (s : Shown) (far : FarState) (pair : JoiningState) (a b : SetState) (p : ℕ)
+    (shard : Shard) (x : IsReady s far pair a b p shard) where
+  joined : IsJoin far pair
+  joined = x.sound.join pair x.fresh.was
+
+  pub ready_code : IsOfCode far.nodes pair (length a.positions) (parities a)
+  ready_code = fresh_code s far pair a b x.sound x.fresh
+
   pub ready_position : p < length a.positions + parities a
-  ready_position = let n = j.count in let l = x.next.within in let k = k_is in let r = r_is in
+  ready_position = let n = joined.count in let l = x.next.within in
+      let c = counted far pair a b joined x.fresh in let k = c.k in let r = c.r in
       omega (arith, n, l, k, r)
 
   pub ready_taken : p < length a.positions → takes pair.taken p ≡ true
@@ -114,7 +145,7 @@ module _ (s : Shown) (far : FarState) (pair : JoiningState) (a b : SetState) (p 
 
   pub ready_node : shard.node.n < length far.nodes.nodes
   ready_node = subst (λ (q : Shard). q.node.n < length far.nodes.nodes) (sym x.beside)
-      (a_there p x.old x.at)
+      (ready_code.a_nodes p x.old x.at)
 
   key_is : shard.key ≡ far.counts.keys
   key_is = ap (λ (q : Shard). q.key) x.beside
@@ -124,30 +155,17 @@ module _ (s : Shown) (far : FarState) (pair : JoiningState) (a b : SetState) (p 
       ∙ undrawn_is_fresh far shard.node far.counts.keys x.sound.sound.rows (omega arith)
 
   pub ready_a : NoneNames pair.shards_a shard.node shard.key
-  ready_a q other at names = let l = j.a_keys q other at in let e = names.1 in let k = key_is in
+  ready_a q other at names = let l = joined.a_keys q other at in let e = names.1 in let k = key_is in
       omega (arith, l, e, k)
 
   pub ready_b : NoneNames pair.shards_b shard.node shard.key
-  ready_b q other at names = let l = j.b_keys q other at in let e = names.1 in let k = key_is in
+  ready_b q other at names = let l = joined.b_keys q other at in let e = names.1 in let k = key_is in
       omega (arith, l, e, k)
 
   together : (wa wb : List (List ℕ)) → IsWordOf far.nodes far.members a wa
       → IsWordOf far.nodes far.members b wb
       → StandTogether far.nodes pair (length a.positions) (parities a) wa wb
-  together wa wb xa xb =
-      let fit = j.fit a b (fresh_is far pair a b x.fresh) in
-      let bk : length b.positions ≡ length a.positions = fit.b_count ∙ sym fit.a_count in
-      let br : parities b ≡ parities a =
-      let n = j.b_count in let e = ap length x.fresh.b_stands.same in let k = k_is in let r =
-      r_is in
-      let c = fit.b_count in omega (arith, n, e, k, r, c, bk) in
-      record {
-        a_word = xa.code;
-        b_word = subst (λ (r : ℕ). IsSpanWord (length a.positions) r wb) br
-            (subst (λ (k : ℕ). IsSpanWord k (parities b) wb) bk xb.code);
-        a_rows = stand_all far pair.a pair.shards_a a wa x.fresh.a_stands xa;
-        b_rows = stand_all far pair.b pair.shards_b b wb x.fresh.b_stands xb;
-      }
+  together = fresh_together s far pair a b x.sound x.fresh
 
   a_worded : (rows : List (List ℕ)) × IsSetWord s far.nodes far.members a rows
   a_worded = x.sound.sound.sets.worded pair.a a x.fresh.a_stands.there
@@ -157,12 +175,7 @@ module _ (s : Shown) (far : FarState) (pair : JoiningState) (a b : SetState) (p 
 
   pub ready_words : (wa wb : List (List ℕ))
       × StandTogether far.nodes pair (length a.positions) (parities a) wa wb
-  ready_words = (
-    a_worded.0,
-    b_worded.0,
-    together a_worded.0 b_worded.0 a_worded.1.word
-        b_worded.1.word,
-  )
+  ready_words = fresh_words s far pair a b x.sound x.fresh
 
   row_same : (c d : List ℕ) → Some c ≡ Some d → c ≡ d
   row_same c d e = cc
@@ -177,9 +190,9 @@ module _ (s : Shown) (far : FarState) (pair : JoiningState) (a b : SetState) (p 
     where
       word : (m : List (List ℕ))
           × IsMergedWord (length a.positions) (parities a) pair.taken a_worded.0 b_worded.0 m
-      word = let m = j.word a b (fresh_is far pair a b x.fresh) in (
+      word = let m = joined.word a b (fresh_is far pair a b x.fresh) in (
         m.0,
-        word_merged far pair a b j a_worded.0 b_worded.0 m.0 x.fresh a_worded.1.word
+        word_merged far pair a b joined a_worded.0 b_worded.0 m.0 x.fresh a_worded.1.word
             b_worded.1.word m.1,
       )
 

@@ -1,18 +1,20 @@
 -- Worked examples of the sets among which a pair is looked for: a value that meets each definition,
 -- and for each of its parts one that breaks that part alone.
-use Rattle.std.proofs.Common.{◌≡◌, ℕ, zero, suc, ◌+◌, ◌<◌, ◌≤◌, true, List, [], ◌∷◌, None, Some, length, refl, sym, ap, ◌∙◌, subst, arith, inl, inr}
+use Rattle.std.proofs.Common.{◌≡◌, ◌⊎◌, ℕ, zero, suc, ◌+◌, ◌<◌, ◌≤◌, true, List, [], ◌∷◌, None, Some, length, refl, sym, ap, ◌∙◌, subst, arith, inl, inr}
 use Rattle.std.specs.List.{slice_get}
 use Rattle.std.specs.BTreeSet.{BTreeSet, contains}
 use Rattle.std.specs.declared.cmp.Ordering.{Ordering}
 use Rattle.std.proofs.lemmas.Option.{none-some, same_Some, slice_get_within}
 use Rattle.cb_member.specs.declared.names.Loss.{Loss}
 use Rattle.cb_set.specs.SetState.{SetState, parities}
+use Rattle.cb_set.specs.Lost.{IsWhole}
 use Rattle.cb_set.specs.Matched.{live_mask}
 use Rattle.cb_world.specs.FarState.{FarState}
+use Rattle.cb_world.specs.Groups.{IsAmong}
 use Rattle.cb_world.specs.Sets.{set_in}
 use Rattle.cb_compact.specs.declared.candidates.Candidate.{Candidate}
-use Rattle.cb_compact.specs.declared.candidates.Group.{Group}
-use Rattle.cb_compact.specs.Candidates.{AreAlike, AreFirsts, AreSeen, CanMatch, HasNoPartner, IsAdded, IsCandidate, IsFirstMatch, IsPartner, NoneMatch, group}
+use Rattle.cb_world.specs.declared.groups.Group.{Group}
+use Rattle.cb_compact.specs.Candidates.{AreAlike, AreFirsts, AreSeen, AreWholeBut, CanMatch, HasNoPartner, IsAdded, IsCandidate, IsFirstMatch, IsPartner, NoneMatch, group, groups_of}
 use Rattle.cb_compact.proofs.WorkedBegin.{crowd, set_c}
 use Rattle.cb_compact.proofs.WorkedGround.{all_up, far, first_of, first_of_four, ground, none_third, one_down, second_of, two}
 use Rattle.cb_compact.proofs.WorkedPair.{begun, set_a, set_b}
@@ -65,6 +67,10 @@ no_place i d e = let w = slice_get_within [] i d e in omega (arith, w)
 one_place : (i : ℕ) (c d : Candidate) → slice_get (c ∷ []) i ≡ Some d → c ≡ d
 one_place zero c d e = same_Some c d e
 one_place (suc i) c d e = absurd (no_place i d e)
+
+-- ---- the groups of candidates
+in_order : groups_of (at_zero 0 ∷ at_one 1 ∷ []) ≡ group (at_zero 7) ∷ group (at_one 5) ∷ []
+in_order = refl
 
 -- ---- groups that were seen
 module _ (cmp : Group → Group → Ordering) (seen : BTreeSet Group) where
@@ -332,3 +338,26 @@ last_has_none n c d l at_c at_d x =
 
 first_has_one : HasNoPartner both 0 → ⊥
 first_has_one x = x 1 (at_zero 0) (at_one 1) (omega arith) refl refl (zero_and_one 0 1)
+
+-- ---- the committed sets that are whole, and the others
+both_are_whole : AreWholeBut ground 2 []
+both_are_whole zero set below at = inl
+    (subst (IsWhole all_up) (same_Some set_a set (sym (first_of set_a set_b) ∙ at)) a_is.whole)
+both_are_whole (suc zero) set below at = inl
+    (subst (IsWhole all_up) (same_Some set_b set (sym (second_of set_a set_b) ∙ at)) b_is.whole)
+both_are_whole (suc (suc id)) set below at = absurd (omega (arith, below))
+
+abbrev with_a_shard_lost : FarState
+with_a_shard_lost = far (two set_a set_b) one_down 2 (Some begun)
+
+but_one_that_is_named : AreWholeBut with_a_shard_lost 1 (0 ∷ [])
+but_one_that_is_named zero set below at = inr (0, refl)
+but_one_that_is_named (suc id) set below at = absurd (omega (arith, below))
+
+not_where_another_is_named : AreWholeBut with_a_shard_lost 1 (1 ∷ []) → ⊥
+not_where_another_is_named x = by (x 0 set_a (omega arith) (first_of set_a set_b))
+  where
+    by : IsWhole one_down set_a ⊎ IsAmong {X = ℕ} 0 (1 ∷ []) → ⊥
+    by (inl whole) = let e : 1 ≡ 0 = ap (λ (l : List Loss). length l) whole in omega (arith, e)
+    by (inr (zero, at)) = let e : 1 ≡ 0 = same_Some 1 0 at in omega (arith, e)
+    by (inr (suc i, at)) = none-some 0 at

@@ -20,7 +20,7 @@ use Rattle.cb_world.proofs.Laws.{node, row}
 use Rattle.cb_compact.specs.MergeStep.{MergeStep, with_merged}
 use Rattle.cb_compact.specs.NowGoing.{EndsFrom, GoesTo, HasGone, IsUndone, TriesStep}
 use Rattle.cb_compact.specs.NowStep.{AreStepped, Ends, EndsFull, EndsMerged, GoesThrough, NowStep}
-use Rattle.cb_compact.specs.Pairing.{BeginStep, numbered}
+use Rattle.cb_compact.specs.Pairing.{BeginStep, IsPaired, numbered}
 use Rattle.cb_compact.specs.Standing.{IsFreshPair, PartStep, with_parted}
 use Rattle.cb_compact.specs.Steps.{AreDone, IsFull, IsOneStep, PatchStep, TakesStep, is_undone, shard_beside, with_stepped}
 use Rattle.cb_compact.proofs.Fixed.{begins_fixed, next_fixed}
@@ -35,11 +35,11 @@ use Rattle.cb_compact.proofs.WorkedPair.{begun, next_is_the_taken, on_node, set_
 use Rattle.cb_compact.proofs.WorkedPatch.{node_is_full, one_step}
 
 -- ---- two sets on nodes that have room for so many rows, of which each holds one
-abbrev idle : ℕ → FarState
+abbrev pub idle : ℕ → FarState
 idle room = far (two set_a set_b) all_up room None
 
 -- the pair has begun
-abbrev joining : ℕ → FarState
+abbrev pub joining : ℕ → FarState
 joining room = far (two set_a set_b) all_up room (Some begun)
 
 fresh : (room : ℕ) → IsFreshPair (joining room) begun set_a set_b
@@ -49,8 +49,9 @@ fresh room = record {
   b_stands = record { there = second_of set_a set_b; same = refl; whole = refl };
 }
 
-begins : (room : ℕ) → BeginStep (idle room) (joining room) (answer.Pair (numbered 0) (numbered 1))
-begins room = inr (inr (record {
+abbrev pub paired : (room : ℕ)
+    → IsPaired (idle room) (joining room) (answer.Pair (numbered 0) (numbered 1))
+paired room = record {
   none = refl;
   x = 0;
   y = 1;
@@ -70,7 +71,10 @@ begins room = inr (inr (record {
   };
   reply = refl;
   state = refl;
-}))
+}
+
+begins : (room : ℕ) → BeginStep (idle room) (joining room) (answer.Pair (numbered 0) (numbered 1))
+begins room = inr (inr (paired room))
 
 -- ---- a node that is full
 full_step : PatchStep (joining 1) (joining 1) (answer.NodeFull (node 1))
@@ -180,7 +184,7 @@ goes = record {
   ends = inl ends_full;
 }
 
-full_turn : NowStep (idle 1) (idle 1) (answer.NodeFull (node 1))
+pub full_turn : NowStep (idle 1) (idle 1) (answer.NodeFull (node 1))
 full_turn = inr (inr goes)
 
 -- no pair may be joining before

@@ -1,5 +1,5 @@
 -- The sets among which a pair is looked for.
-use Rattle.std.specs.Prelude.{◌≡◌, ◌⊎◌, ℕ, ◌<◌, ◌≤◌, true, List, [], ◌∷◌, ◌++◌, Some, length, slice_get, bit_and}
+use Rattle.std.specs.Prelude.{◌≡◌, ◌⊎◌, ℕ, ◌<◌, ◌≤◌, true, List, [], ◌∷◌, ◌++◌, Some, length, map, slice_get, bit_and}
 use Rattle.std.specs.BTreeSet.{BTreeSet, contains}
 use Rattle.std.specs.declared.cmp.Ordering.{Ordering}
 use Rattle.cb_set.specs.SetState.{SetState, parities}
@@ -7,8 +7,9 @@ use Rattle.cb_set.specs.Lost.{IsWhole}
 use Rattle.cb_set.specs.Matched.{live_mask}
 use Rattle.cb_world.specs.Sets.{set_in}
 use Rattle.cb_world.specs.FarState.{FarState}
+use Rattle.cb_world.specs.Groups.{IsAmong}
 use Rattle.cb_compact.specs.declared.candidates.Candidate.{Candidate}
-use Rattle.cb_compact.specs.declared.candidates.Group.{Group}
+use Rattle.cb_world.specs.declared.groups.Group.{Group}
 
 -- the candidate is the whole committed set of its number
 pub record IsCandidate (far : FarState) (candidate : Candidate) (set : SetState) : Type 0 where
@@ -27,6 +28,10 @@ pub record AreAlike (a b : Candidate) : Type 0 where
 -- what it has in common with those that are alike
 abbrev pub group : Candidate → Group
 group c = record { k = c.k; r = c.r; live = c.live }
+
+-- the groups of candidates
+abbrev pub groups_of : List Candidate → List Group
+groups_of found = map group found
 
 -- a group was seen, by this order of groups, only where a candidate of it was found
 abbrev pub AreSeen : (Group → Group → Ordering) → List Candidate → BTreeSet Group → Type 0
@@ -85,3 +90,8 @@ pub record IsPartner (found : List Candidate) (i j : ℕ) : Type 0 where
 abbrev pub HasNoPartner : List Candidate → ℕ → Type 0
 HasNoPartner found i = (n : ℕ) (c d : Candidate) → i < n → slice_get found i ≡ Some c
     → slice_get found n ≡ Some d → ¬ (CanMatch c d)
+
+-- each committed set with a number below this one is whole, or its number is one of these
+abbrev pub AreWholeBut : FarState → ℕ → List ℕ → Type 0
+AreWholeBut far below others = (id : ℕ) (set : SetState) → id < below
+    → set_in far.sets id ≡ Some set → IsWhole far.members set ⊎ IsAmong id others

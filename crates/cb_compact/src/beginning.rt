@@ -18,7 +18,7 @@ use std::alloc::Global;
 
 /// What the begin of a pair ends in; sets by their numbers.
 #[derive(Clone, Copy)]
-pub(crate) enum Begun {
+pub enum Begun {
     /// A pair is joining already.
     Joining { a: u64, b: u64 },
     /// No two sets can be joined.
@@ -102,12 +102,13 @@ fn is_noted(far: &Far) -> bool
 
 /// The first two sets that can be joined. Where it is noted that there are none, nothing is looked
 /// at.
-fn look(far: &Far) -> Result<Option<Match>, NoMemory>
-    requires sound { (s : Shown) × AwaySound s far.now }
-    requires note { HoldsNoPair far.now }
+fn look(far: &mut Far) -> Result<Option<Match>, NoMemory>
+    requires sound { (s : Shown) × AwaySound s far.old }
+    requires note { HoldsNoPair far.old }
+    ensures same { far.new ≡ far.old }
     ensures found { IfOk result (λ found. IfSome found (λ m. (a : SetState) × (b : SetState)
-        × IsFirstPair far.now m.a.id m.b.id a b)) }
-    ensures none { IfOk result (λ found. IfNone found (NoneCanJoin far.now)) }
+        × IsFirstPair far.old m.a.id m.b.id a b)) }
+    ensures none { IfOk result (λ found. IfNone found (NoneCanJoin far.old)) }
 {
     if is_noted(far) {
         return Ok(None);
@@ -123,7 +124,7 @@ fn note_none(far: &mut Far)
 }
 
 /// Begins to join the first two sets that can be.
-pub(crate) fn begin(far: &mut Far) -> Result<Begun, NoMemory>
+pub fn begin(far: &mut Far) -> Result<Begun, NoMemory>
     requires sound { (s : Shown) × Sound s far.old }
     requires note { HoldsNoPair far.old }
     ensures step { IfOk result (λ begun. BeginStep far.old far.new (reply_of begun)) }
@@ -172,9 +173,10 @@ pub(crate) fn reply_of(begun: Begun) -> Reply
 ///
 /// Answers Joining where a pair is joining already, whether its sets have changed or not; NoPair
 /// where no two sets can be joined, and notes that; and else Pair. Where it is noted and no turn
-/// but those that look has come since, nothing is looked at. Else looks at each set once, and then
-/// at one of each code and live positions. No row is given out. Where there is no memory, nothing
-/// has changed.
+/// but those that look has come since, nothing is looked at. Where at an earlier look there were
+/// none, each set that has changed since is compared with the groups of one code and live
+/// positions; and where that does not show that there are still none, each set is looked at once,
+/// and then one of each group. No row is given out. Where there is no memory, nothing has changed.
 pub fn compact_begin<D: Desk>(desk: &mut D, far: &mut Far) -> Result<Reply, NoMemory>
     requires sound { (s : Shown) × D.shows desk.old s × Sound s far.old }
     requires note { HoldsNoPair far.old }

@@ -1,29 +1,23 @@
-ghost use Rattle.std.specs.Prelude.{◌≡◌, ℕ, ◌+◌, ◌^◌, ◌<◌, true, false, IfNone, IfOk, IfSome, Some, length, slice_get};
+ghost use Rattle.std.specs.Prelude.{◌≡◌, ℕ, ◌+◌, ◌^◌, ◌<◌, true, false, IfNone, IfOk, IfSome, None, Some, [], length, slice_get};
 ghost use Rattle.std.specs.FinMap as map;
 ghost use Rattle.cb_set.specs.SetState.{SetState};
 ghost use Rattle.cb_world.specs.declared.shown.Shown.{Shown};
 ghost use Rattle.cb_world.specs.FarSound.{AwaySound};
-ghost use Rattle.cb_compact.specs.Candidates.{AreAlike, AreFirsts, AreSeen, CanMatch, HasNoPartner, IsAdded, IsCandidate, IsFirstMatch, IsPartner, NoneMatch, group};
+ghost use Rattle.cb_world.specs.Groups.{AreGrouped};
+ghost use Rattle.cb_compact.specs.Candidates.{AreAlike, AreFirsts, AreSeen, AreWholeBut, CanMatch, HasNoPartner, IsAdded, IsCandidate, IsFirstMatch, IsPartner, NoneMatch, group, groups_of};
 ghost use Rattle.cb_compact.specs.Pairing.{IsFirstPair, NoneCanJoin};
 ghost use Rattle.cb_compact.specs.Tables.{AreMasks, AreTables};
 
 use crate::tables::{Table, matches_none, tables_of};
 use cb_types::NoMemory;
-use cb_world::{Far, KeptSet};
+use cb_world::{Far, Group, KeptSet};
+use std::alloc::Global;
 use std::collections::BTreeSet;
 
 /// A whole committed set: its number, its code, and its live positions as bits.
 #[derive(Clone, Copy)]
 pub(crate) struct Candidate {
     pub id: u64,
-    pub k: u32,
-    pub r: u32,
-    pub live: u32,
-}
-
-/// What candidates have in common that match the same others: their code and their live positions.
-#[derive(Clone, Copy, PartialEq, Eq, PartialOrd, Ord)]
-pub(crate) struct Group {
     pub k: u32,
     pub r: u32,
     pub live: u32,
@@ -139,53 +133,142 @@ fn add_new(
     Ok(())
 }
 
-/// Adds a kept set, if it is committed and whole and the first of its group.
+/// The first whole committed set of each group, in order of their numbers, and the numbers of the
+/// sets that are not whole or not committed.
+#[derive(Drop)]
+struct FirstSets {
+    found: Vec<Candidate>,
+    others: Vec<u64>,
+}
+
+/// Adds a kept set: if it is committed and whole, where it is the first of its group, and else to
+/// the others.
 fn add_first(
     far: &Far,
-    found: &mut Vec<Candidate>,
+    firsts: &mut FirstSets,
     seen: &mut BTreeSet<Group>,
     id: u64,
     kept: &KeptSet,
 ) -> Result<(), NoMemory>
     requires sound { (s : Shown) × AwaySound s far.now }
     requires kept { map.get far.now.sets id ≡ Some kept.now }
-    requires firsts { AreFirsts far.now id found.old.items }
-    requires seen { AreSeen ⟦<Group as Ord>⟧.cmp found.old.items seen.old }
-    ensures firsts { IfOk result (λ _. AreFirsts far.now (id + 1) found.new.items) }
-    ensures seen { IfOk result (λ _. AreSeen ⟦<Group as Ord>⟧.cmp found.new.items seen.new) }
+    requires found { AreFirsts far.now id firsts.old.found.items }
+    requires seen { AreSeen ⟦<Group as Ord>⟧.cmp firsts.old.found.items seen.old }
+    requires others { AreWholeBut far.now id firsts.old.others.items }
+    ensures found { IfOk result (λ _. AreFirsts far.now (id + 1) firsts.new.found.items) }
+    ensures seen { IfOk result (λ _. AreSeen ⟦<Group as Ord>⟧.cmp firsts.new.found.items
+        seen.new) }
+    ensures others { IfOk result (λ _. AreWholeBut far.now (id + 1) firsts.new.others.items) }
 {
     let Some(candidate) = whole_set(far, id, kept) else {
+        firsts.others.push(id)?;
         return Ok(());
     };
-    add_new(found, seen, candidate)
+    add_new(&mut firsts.found, seen, candidate)
 }
 
-/// The first whole committed set of each code and live positions, in order of their numbers: in one
-/// pass over the sets, and with the logarithm of the count of groups for each.
-fn firsts(far: &Far) -> Result<Vec<Candidate>, NoMemory>
+/// Looks at each set once, and with the logarithm of the count of groups.
+fn firsts(far: &Far) -> Result<FirstSets, NoMemory>
     requires sound { (s : Shown) × AwaySound s far.now }
-    ensures { IfOk result (λ found. AreFirsts far.now far.now.counts.sets found.items) }
+    ensures found { IfOk result (λ firsts. AreFirsts far.now far.now.counts.sets
+        firsts.found.items) }
+    ensures others { IfOk result (λ firsts. AreWholeBut far.now far.now.counts.sets
+        firsts.others.items) }
 {
     let mut seen = BTreeSet::new(far.alloc);
-    let mut found = Vec::new(far.alloc);
+    let mut firsts = FirstSets {
+        found: Vec::new(far.alloc),
+        others: Vec::new(far.alloc),
+    };
     let mut sets = far.sets.range_from(0);
     while let Some((id, kept)) = sets.next() {
-        add_first(far, &mut found, &mut seen, *id, kept)?;
+        add_first(far, &mut firsts, &mut seen, *id, kept)?;
     }
-    Ok(found)
+    Ok(firsts)
+}
+
+/// The first two of these candidates that match. Where comparing each of them with each would cost
+/// more than a table for it, one look at the table says of each whether any other matches it.
+fn match_among(alloc: Global, found: &[Candidate]) -> Result<Option<Match>, NoMemory>
+    requires masks { AreMasks found.now }
+    ensures found { IfOk result (λ pair. IfSome pair (λ m. IsFirstMatch found.now m.a m.b)) }
+    ensures none { IfOk result (λ pair. IfNone pair (NoneMatch found.now)) }
+{
+    let tables = tables_of(alloc, found)?;
+    Ok(first_match(found, &tables))
+}
+
+/// The groups of these candidates.
+fn groups_of(alloc: Global, found: &[Candidate]) -> Result<Vec<Group>, NoMemory>
+    ensures { IfOk result (λ groups. groups.items ≡ groups_of found.now) }
+{
+    let mut groups = Vec::new(alloc);
+    for candidate in found {
+        groups.push(group_of(*candidate))?;
+    }
+    Ok(groups)
+}
+
+/// Lets the sets keep groups, and add those of the sets of these numbers.
+fn keep_groups(far: &mut Far, groups: Vec<Group>, others: &[u64])
+    requires { AreGrouped far.old.sets groups.items others.now }
+    ensures { far.new ≡ far.old }
+{
+    far.sets.learn(groups, others);
+}
+
+/// Lets the sets keep their groups, none of which matches another one, where there is memory for
+/// that.
+fn keep_firsts(far: &mut Far, firsts: &FirstSets)
+    requires sound { (s : Shown) × AwaySound s far.old }
+    requires found { AreFirsts far.old far.old.counts.sets firsts.now.found.items }
+    requires others { AreWholeBut far.old far.old.counts.sets firsts.now.others.items }
+    requires none { NoneMatch firsts.now.found.items }
+    ensures { far.new ≡ far.old }
+{
+    if let Ok(groups) = groups_of(far.alloc, &firsts.found) {
+        keep_groups(far, groups, &firsts.others);
+    }
+}
+
+/// The first two sets that can be joined, by a look at each set and then at the groups; where there
+/// are none, the sets keep their groups.
+fn search(far: &mut Far) -> Result<Option<Match>, NoMemory>
+    requires sound { (s : Shown) × AwaySound s far.old }
+    ensures same { far.new ≡ far.old }
+    ensures found { IfOk result (λ found. IfSome found (λ m. (a : SetState) × (b : SetState)
+        × IsFirstPair far.old m.a.id m.b.id a b)) }
+    ensures none { IfOk result (λ found. IfNone found (NoneCanJoin far.old)) }
+{
+    let firsts = firsts(far)?;
+    let pair = match_among(far.alloc, &firsts.found)?;
+    if pair.is_none() {
+        keep_firsts(far, &firsts);
+    }
+    Ok(pair)
+}
+
+/// Whether the groups that the sets keep, and a look at those that have changed, show that no two
+/// can be joined.
+fn none_match(far: &mut Far) -> bool
+    ensures same { far.new ≡ far.old }
+    ensures none { result ≡ true → NoneCanJoin far.old }
+{
+    far.sets.none_match()
 }
 
 /// The first two sets that can be joined: the least a that can be with one above it, and then the
-/// least b. Looks at each set once, and then at the groups of one code and live positions. Where
-/// comparing each of these with each would cost more than a table for it, one look at the table
-/// says of each whether any other matches it.
-pub(crate) fn find_pair(far: &Far) -> Result<Option<Match>, NoMemory>
-    requires sound { (s : Shown) × AwaySound s far.now }
+/// least b. Where there were none at an earlier look, the sets that have changed since are compared
+/// with the groups; where that does not show that there are still none, each set is looked at.
+pub(crate) fn find_pair(far: &mut Far) -> Result<Option<Match>, NoMemory>
+    requires sound { (s : Shown) × AwaySound s far.old }
+    ensures same { far.new ≡ far.old }
     ensures found { IfOk result (λ found. IfSome found (λ m. (a : SetState) × (b : SetState)
-        × IsFirstPair far.now m.a.id m.b.id a b)) }
-    ensures none { IfOk result (λ found. IfNone found (NoneCanJoin far.now)) }
+        × IsFirstPair far.old m.a.id m.b.id a b)) }
+    ensures none { IfOk result (λ found. IfNone found (NoneCanJoin far.old)) }
 {
-    let found = firsts(far)?;
-    let tables = tables_of(far.alloc, &found)?;
-    Ok(first_match(&found, &tables))
+    if none_match(far) {
+        return Ok(None);
+    }
+    search(far)
 }

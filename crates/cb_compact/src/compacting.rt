@@ -23,7 +23,7 @@ use cb_types::{NoMemory, Reply, SetId};
 use cb_world::{Desk, Far};
 
 /// How many positions the sets of the joining pair have.
-fn step_count(far: &Far) -> u32
+pub fn step_count(far: &Far) -> u32
     requires { (pair : JoiningState) × (far.now.joining ≡ Some pair) × (length pair.steps ≤ 20) }
     ensures { (pair : JoiningState) → far.now.joining ≡ Some pair → result ≡ length pair.steps }
 {
@@ -31,7 +31,7 @@ fn step_count(far: &Far) -> u32
 }
 
 /// Whether the step of a position of the joining pair is still to be done.
-fn undone_at(far: &Far, position: u32) -> bool
+pub fn undone_at(far: &Far, position: u32) -> bool
     requires fresh { (pair : JoiningState) × (a : SetState) × (b : SetState)
         × IsFreshPair far.now pair a b × (position < length pair.steps) }
     ensures { (pair : JoiningState) (a b : SetState) → IsFreshPair far.now pair a b
@@ -80,7 +80,7 @@ fn take_steps(far: &mut Far) -> Result<Option<NodeId>, NoMemory>
 }
 
 /// Gives the joining pair up for a node that is full, which is answered.
-fn stop_at(far: &mut Far, node: NodeId) -> Reply
+pub fn stop_at(far: &mut Far, node: NodeId) -> Reply
     requires there { (pair : JoiningState) × (far.old.joining ≡ Some pair)
         × AreThere far.old.nodes (put_shards pair.steps) }
     ensures parted { (pair : JoiningState) → far.old.joining ≡ Some pair
@@ -108,7 +108,7 @@ fn finish(far: &mut Far) -> Result<Reply, NoMemory>
 }
 
 /// The count of the keys that were drawn.
-fn drawn_keys(far: &Far) -> u64
+pub fn drawn_keys(far: &Far) -> u64
     ensures { result ≡ far.now.counts.keys }
 {
     far.counts.keys

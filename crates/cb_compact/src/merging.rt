@@ -275,7 +275,7 @@ fn next_set(far: &Far) -> u64
 }
 
 /// Makes one set of the joining pair, whose steps are all done.
-pub(crate) fn merge(far: &mut Far) -> Result<Reply, NoMemory>
+pub fn merge(far: &mut Far) -> Result<Reply, NoMemory>
     requires ready { (s : Shown) × (pair : JoiningState) × (a : SetState) × (b : SetState)
         × IsReadyToMerge s far.old pair a b }
     requires sets { far.old.counts.sets < 2 ^ 62 }

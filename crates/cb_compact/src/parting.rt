@@ -55,7 +55,7 @@ fn set_keys(far: &mut Far, keys: u64)
 }
 
 /// Gives the joining pair up, and the keys back that were drawn for its rows.
-pub(crate) fn undo(far: &mut Far, keys: u64)
+pub fn undo(far: &mut Far, keys: u64)
     requires there { (pair : JoiningState) × (far.old.joining ≡ Some pair)
         × AreThere far.old.nodes (put_shards pair.steps) }
     ensures { (pair : JoiningState) → far.old.joining ≡ Some pair

@@ -22,7 +22,7 @@ use cb_types::{NoMemory, Reply, SetId};
 use cb_world::{Desk, Far};
 
 /// How many data positions the sets of the joining pair have.
-pub(crate) fn data_count(far: &Far) -> u32
+pub fn data_count(far: &Far) -> u32
     requires fresh { (pair : JoiningState) × (a b : SetState) × IsFreshPair far.now pair a b }
     ensures { (pair : JoiningState) (a b : SetState) → IsFreshPair far.now pair a b
         → result ≡ length a.positions }
@@ -32,7 +32,7 @@ pub(crate) fn data_count(far: &Far) -> u32
 }
 
 /// How many parities the sets of the joining pair have.
-fn parity_count(far: &Far) -> u32
+pub fn parity_count(far: &Far) -> u32
     requires fresh { (pair : JoiningState) × (a b : SetState) × IsFreshPair far.now pair a b }
     ensures { (pair : JoiningState) (a b : SetState) → IsFreshPair far.now pair a b
         → result ≡ parities a }
@@ -56,7 +56,7 @@ pub(crate) fn next_position(far: &Far) -> Option<u32>
 
 /// The shard for a new row beside a's of the position: on its node and of its incarnation, under
 /// the next key.
-fn new_shard(far: &Far, position: u32) -> Shard
+pub fn new_shard(far: &Far, position: u32) -> Shard
     requires there { (pair : JoiningState) × (far.now.joining ≡ Some pair)
         × (position < length pair.shards_a) }
     ensures { (pair : JoiningState) → far.now.joining ≡ Some pair → (old : Shard)
@@ -89,7 +89,7 @@ fn put_step(far: &mut Far, position: u32, shard: Shard) -> Result<PutAnswer, NoM
 }
 
 /// Notes the shard of a step of the joining pair, whose key is drawn. Takes no memory.
-fn note_step(far: &mut Far, position: u32, shard: Shard)
+pub fn note_step(far: &mut Far, position: u32, shard: Shard)
     requires there { (pair : JoiningState) × (far.old.joining ≡ Some pair)
         × (position < length pair.steps) }
     requires keys { far.old.counts.keys < 2 ^ 62 }

@@ -140,7 +140,6 @@ fn meets_all(found: &[Candidate], table: &Table, candidate: Candidate) -> bool
     ensures { result ≡ true → (i : ℕ) (d : Candidate) → slice_get found.now i ≡ Some d
         → d.k ≡ table.now.k → d.r ≡ table.now.r → bit_and candidate.live d.live ≡ 0 → ⊥ }
 {
-    let _count = found.len();
     let all = (1usize << table.k) - 1;
     !table.marks[all - candidate.live as usize]
 }

@@ -1,8 +1,9 @@
 -- One answered request beside the plain map.
-use Rattle.std.proofs.Common.{◌≡◌, ◌⊎◌, ℕ, ◌<◌, ◌≤◌, Bool, true, false, if◌then◌else◌, List, [], ◌∷◌, ◌++◌, length, Option, None, Some, refl, sym, ap, ◌∙◌, subst, arith, inl, inr, fold, lt-ltb, le-ltb}
+use Rattle.std.proofs.Common.{◌≡◌, ◌⊎◌, ℕ, ◌<◌, ◌≤◌, Bool, true, false, if◌then◌else◌, List, [], ◌∷◌, ◌++◌, Option, None, Some, refl, sym, ap, ◌∙◌, subst, arith, inl, inr, fold, lt-ltb, le-ltb}
 use Rattle.std.proofs.lemmas.Bool.{cases_lt}
-use Rattle.std.proofs.lemmas.List.{append-nil, get_or_past}
+use Rattle.std.proofs.lemmas.List.{append-nil}
 use native.Mathlib.Decide.{ℕ_discrete}
+use Rattle.cb_types.specs.declared.handle.Handle.{Handle}
 use Rattle.cb_types.specs.declared.request.Request.{Request}
 use Rattle.cb_types.specs.declared.request.Request.TheVariants.{Make, Read, Write, Free, Pin}
 use Rattle.cb_types.specs.declared.reply.Reply.{Reply}
@@ -18,36 +19,33 @@ use Rattle.cb_model.specs.Now.{Now as MapNow, Change, changed}
 use Rattle.cb_model.specs.Now.Change.{Create}
 use Rattle.cb_model.specs.Replies.{MapReplies}
 use Rattle.cb_model.proofs.Laws.{value-push, makes-push}
-use Rattle.cb_world.specs.declared.shown.Shown.{Shown}
-use Rattle.cb_world.specs.FarState.{FarState}
-use Rattle.cb_world.specs.Now.{now, now_as, is_gone}
+use Rattle.cb_world.specs.Now.{Now}
 use Rattle.cb_world.specs.Now.Now.{never}
-use Rattle.cb_world.specs.Shown.{object_at, never as no_object}
-use Rattle.cb_world.specs.Sound.{Sound}
-use Rattle.cb_mutate.specs.MapCalls.{IsValue, IsCallOn, IsMakeCall}
-use Rattle.cb_mutate.specs.MapBeside.{IsMapBeside}
-use Rattle.cb_mutate.proofs.Laws.{Follows, call_follows, refused_follows, is_map_reply, is_map_make}
+use Rattle.cb_mutate.specs.MapCalls.{IsValue, IsCallBetween, IsRefusedBetween}
+use Rattle.cb_mutate.specs.MapBeside.{IsMapOf}
+use Rattle.cb_mutate.proofs.Laws.{FollowsOf, between_follows, is_make_of, is_reply_of, refused_between}
 use Rattle.cb_core.specs.Called.{handle_on, handle_given, says_nothing, call_of}
 
--- ---- what comes of an event: its calls are the map's, and the map stands beside the world after it
-pub record Comes (handles : ℕ) (before more : List Called) (t : Shown) (far new : FarState) : Type 0
+-- ---- what comes of an event: its calls are the map's, and the map has afterwards what is told
+pub record Comes (first handles : ℕ) (before more : List Called) (count : ℕ) (holds : ℕ → Now) : Type 0
   where
-    pub follow : Follow far.first handles before more
-    pub beside : IsMapBeside (before ++ more) t new
+    pub follow : Follow first handles before more
+    pub beside : IsMapOf (before ++ more) count holds
 
 -- no call
-pub comes_none : (handles : ℕ) (before : List Called) (t : Shown) (far new : FarState)
-    → IsMapBeside before t new → Comes handles before [] t far new
-comes_none handles before t far new map = record {
+pub comes_none : (first handles : ℕ) (before : List Called) (count : ℕ) (holds : ℕ → Now)
+    → IsMapOf before count holds → Comes first handles before [] count holds
+comes_none first handles before count holds map = record {
   follow = tt;
-  beside = subst (λ (cs : List Called). IsMapBeside cs t new) (sym (append-nil before)) map;
+  beside = subst (λ (cs : List Called). IsMapOf cs count holds) (sym (append-nil before)) map;
 }
 
 -- one call
-comes_one : (handles : ℕ) (before : List Called) (c : Called) (t : Shown) (far new : FarState)
-    → IsMapReply far.first handles before c → IsMapBeside (before ++ c ∷ []) t new
-    → Comes handles before (c ∷ []) t far new
-comes_one handles before c t far new reply map = record { follow = (reply, tt); beside = map }
+comes_one : (first handles : ℕ) (before : List Called) (c : Called) (count : ℕ) (holds : ℕ → Now)
+    → IsMapReply first handles before c → IsMapOf (before ++ c ∷ []) count holds
+    → Comes first handles before (c ∷ []) count holds
+comes_one first handles before c count holds reply map =
+    record { follow = (reply, tt); beside = map }
 
 -- ---- requests on an object
 
@@ -72,6 +70,7 @@ read_quiet : (name : List ℕ) (r : Reply) → says_nothing r ≡ true → IsQui
 read_quiet name answer.Worn e = (refl, refl)
 read_quiet name answer.ScopeFull e = (refl, refl)
 read_quiet name (answer.Held seat) e = (refl, refl)
+read_quiet name answer.Claimed e = (refl, refl)
 read_quiet name r e = absurd cc
 
 read_own : (name : List ℕ) (r : Reply) → IsOnObject (event_of (Read name) r)
@@ -86,6 +85,7 @@ write_quiet : (name : List ℕ) (at : ℕ) (bytes : List ℕ) (r : Reply) → sa
 write_quiet name at bytes answer.Worn e = (refl, refl)
 write_quiet name at bytes answer.ScopeFull e = (refl, refl)
 write_quiet name at bytes (answer.Held seat) e = (refl, refl)
+write_quiet name at bytes answer.Claimed e = (refl, refl)
 write_quiet name at bytes r e = absurd cc
 
 write_own : (name : List ℕ) (at : ℕ) (bytes : List ℕ) (r : Reply)
@@ -100,6 +100,7 @@ free_quiet : (name : List ℕ) (r : Reply) → says_nothing r ≡ true → IsQui
 free_quiet name answer.Worn e = (refl, refl)
 free_quiet name answer.ScopeFull e = (refl, refl)
 free_quiet name (answer.Held seat) e = (refl, refl)
+free_quiet name answer.Claimed e = (refl, refl)
 free_quiet name r e = absurd cc
 
 free_own : (name : List ℕ) (r : Reply) → IsOnObject (event_of (Free name) r)
@@ -113,6 +114,7 @@ pin_quiet : (name : List ℕ) (r : Reply) → says_nothing r ≡ true → IsQuie
 pin_quiet name answer.Worn e = (refl, refl)
 pin_quiet name answer.ScopeFull e = (refl, refl)
 pin_quiet name (answer.Held seat) e = (refl, refl)
+pin_quiet name answer.Claimed e = (refl, refl)
 pin_quiet name r e = absurd cc
 
 pin_own : (name : List ℕ) (r : Reply) → IsOnObject (event_of (Pin name) r)
@@ -124,19 +126,20 @@ on_pinned name = record { quiet = pin_quiet name; own = pin_own name }
 
 -- ---- what the map has
 
--- a call that changes nothing of the map leaves it beside the world
-quiet_beside : (handles : ℕ) (calls : List Called) (s t : Shown) (far new : FarState) (h : ℕ)
-    (q : Request) (r : Reply) → IsMapBeside calls s far → IsCallOn handles s t far new h q r
-    → IsQuiet (event_of q r) → IsMapBeside calls t new
-quiet_beside handles calls s t far new h q r map call quiet = record {
+-- a call that changes nothing of the map leaves it as it is
+quiet_beside : (first handles count more : ℕ) (old new : ℕ → Now) (calls : List Called) (h : ℕ)
+    (q : Request) (r : Reply) → IsMapOf calls count old
+    → IsCallBetween first handles count more old new h q r → IsQuiet (event_of q r)
+    → IsMapOf calls more new
+quiet_beside first handles count more old new calls h q r map call quiet = record {
   made = let made = map.made in let counted = call.counted in let none = quiet.1 in
       omega (arith, made, counted, none);
   values = λ k. each k (ℕ_discrete k h);
 }
   where
-    each : (k : ℕ) → Dec (k ≡ h) → IsValue (value calls k) (now t new k)
-    each k (yes e) = subst (λ (i : ℕ). IsValue (value calls i) (now t new i)) (sym e)
-        (subst (λ (l : List (ℕ × Change)). IsValue (fold changed (value calls h) l) (now t new h)) quiet.0
+    each : (k : ℕ) → Dec (k ≡ h) → IsValue (value calls k) (new k)
+    each k (yes e) = subst (λ (i : ℕ). IsValue (value calls i) (new i)) (sym e)
+        (subst (λ (l : List (ℕ × Change)). IsValue (fold changed (value calls h) l) (new h)) quiet.0
         (call.own.value (value calls h) (map.values h)))
     each k (no off) = subst (IsValue (value calls k)) (sym (call.others k off)) (map.values k)
 
@@ -144,23 +147,20 @@ change_none : (c : Called) (k : ℕ) → c.handle ≡ None → change_to k c ≡
 change_none c k about = ap (λ (o : Option ℕ). if is_about k o then change_of c.event else []) about
 
 -- a call about no object leaves it there
-unmade_beside : (calls : List Called) (c : Called) (t : Shown) (new : FarState) → IsMapBeside calls t new
-    → c.handle ≡ None → made_by c.event ≡ 0 → IsMapBeside (calls ++ c ∷ []) t new
-unmade_beside calls c t new map about none = record {
+unmade_beside : (calls : List Called) (c : Called) (count : ℕ) (holds : ℕ → Now)
+    → IsMapOf calls count holds → c.handle ≡ None → made_by c.event ≡ 0
+    → IsMapOf (calls ++ c ∷ []) count holds
+unmade_beside calls c count holds map about none = record {
   made = let made = map.made in omega (arith, makes-push calls c, none, made);
-  values = λ k. subst (λ (m : MapNow). IsValue m (now t new k)) (sym (value-push calls c k
+  values = λ k. subst (λ (m : MapNow). IsValue m (holds k)) (sym (value-push calls c k
       ∙ ap (λ (l : List (ℕ × Change)). fold changed (value calls k) l) (change_none c k about)))
       (map.values k);
 }
 
--- an object that was not yet made
-not_made : (s : Shown) (far : FarState) (h : ℕ) → Sound s far → far.made ≤ h → now s far h ≡ never
-not_made s far h sound past =
-    ap (now_as s h (is_gone far h)) (by (cases_lt h (length s.objects)))
-  where
-    by : (h < length s.objects) ⊎ (length s.objects ≤ h) → object_at s h ≡ no_object
-    by (inl below) = (sound.here.known.made h below).0 past
-    by (inr out) = get_or_past s.objects h no_object out
+-- objects from the count on were never made, and those below it were
+pub record AreMade (count : ℕ) (holds : ℕ → Now) : Type 0 where
+  pub past : (h : ℕ) → count ≤ h → holds h ≡ never
+  pub below : (h : ℕ) → h < count → holds h ≡ never → ⊥
 
 has_none : (m : MapNow) → IsValue m never → m ≡ None
 has_none None i = refl
@@ -185,65 +185,6 @@ finds_unmade first handles made handle (Refused Other) on m = absurd m
 finds_unmade first handles made handle (Refused Nothing) on m = absurd on
 finds_unmade first handles made handle Wrong on m = absurd m
 
--- ---- one request
-
--- on an object
-pub call_comes : (handles seat : ℕ) (before : List Called) (s t : Shown) (far new : FarState) (h : ℕ)
-    (q : Request) (r : Reply) → Sound s far → IsMapBeside before s far
-    → IsCallOn handles s t far new h q r → IsObjectCall q
-    → Comes handles before (call_of seat (handle_on (makes before) h) q r) t far new
-call_comes handles seat before s t far new h q r sound map call on = by (says_nothing r) refl
-  where
-    c : Option ℕ → Called
-    c o = record { lane = seat; handle = o; event = event_of q r }
-
-    P : Bool → Option ℕ → Type 0
-    P b o = Comes handles before (if b then [] else c o ∷ []) t far new
-
-    told : (o : Option ℕ) → handle_on (makes before) h ≡ o → P false o
-        → P false (handle_on (makes before) h)
-    told o e p = subst (P false) (sym e) p
-
-    some : h < makes before → P false (Some h)
-    some less =
-        let follows = call_follows handles before (c (Some h)) s t far new h q r map call
-        (record { about = refl; event = refl }) in
-        let made = map.made in
-        comes_one handles before (c (Some h)) t far new
-        (is_map_reply handles before (c (Some h)) s t far new h follows map sound refl
-        (omega (arith, made, less))) follows.beside
-
-    none : makes before ≤ h → P false None
-    none past =
-        let made = map.made in
-        let value_none : value before h ≡ None = has_none (value before h)
-        (subst (IsValue (value before h)) (not_made s far h sound (omega (arith, made, past)))
-        (map.values h)) in
-        let e : event_of q r ≡ FindsUnmade = finds_unmade far.first handles far.made (Some h) (event_of q r)
-        (on.own r)
-        (subst (λ (m : MapNow). MapReplies far.first handles far.made (Some h) m (event_of q r)) value_none
-        (call.own.reply (value before h) (map.values h))) in
-        comes_one handles before (c None) t far new
-        (record {
-          reply = subst (MapReplies far.first handles (makes before) None None) (sym e) tt;
-          unmade = tt;
-        })
-        (unmade_beside before (c None) t new
-        (quiet_beside handles before s t far new h q r map call (ap change_of e, ap made_by e)) refl
-        (ap made_by e))
-
-    by : (b : Bool) → says_nothing r ≡ b → P (says_nothing r) (handle_on (makes before) h)
-    by true e = subst (λ (b : Bool). P b (handle_on (makes before) h)) (sym e)
-        (comes_none handles before t far new
-        (quiet_beside handles before s t far new h q r map call (on.quiet r e)))
-    by false e = subst (λ (b : Bool). P b (handle_on (makes before) h)) (sym e)
-        (elim (cases_lt h (makes before)) [
-          | inl less ↦ told (Some h)
-              (ap (λ (b : Bool). if b then Some h else None) (lt-ltb h (makes before) less)) (some less)
-          | inr past ↦ told None
-              (ap (λ (b : Bool). if b then Some h else None) (le-ltb h (makes before) past)) (none past)
-        ])
-
 -- ---- a make
 
 -- one that changed nothing was given no handle
@@ -260,44 +201,118 @@ made_quiet : (name bytes : List ℕ) (r : Reply) → says_nothing r ≡ true
 made_quiet name bytes answer.Worn e = (refl, refl)
 made_quiet name bytes answer.ScopeFull e = (refl, refl)
 made_quiet name bytes (answer.Held seat) e = (refl, refl)
+made_quiet name bytes answer.Claimed e = (refl, refl)
 made_quiet name bytes r e = absurd cc
 
-pub make_comes : (handles seat : ℕ) (before : List Called) (s t : Shown) (far new : FarState)
-    (bytes name : List ℕ) (r : Reply) → IsMapBeside before s far
-    → IsMakeCall handles s t far new (Make name bytes) r → IsReplyOf (Make name bytes) r
-    → Comes handles before (call_of seat (handle_given r) (Make name bytes) r) t far new
-make_comes handles seat before s t far new bytes name r map (inl (h, v, is, call)) line =
-    subst (λ (q : Reply). Comes handles before (call_of seat (handle_given q) (Make name bytes) q) t far new)
-    (sym is) (comes_one handles before c t far new
-    (is_map_make handles before c t far new follows (λ e. cc)) follows.beside)
-  where
-    c : Called
-    c = record { lane = seat; handle = Some h.n; event = Makes bytes v }
+-- a make: a call on the handle that it was answered, or refused
+abbrev pub IsMakeBetween : (first handles count more : ℕ) (old new : ℕ → Now) → Request → Reply
+    → Type 0
+IsMakeBetween first handles count more old new q r =
+    ((h : Handle) × (v : ℕ) × (r ≡ answer.Made h v)
+    × IsCallBetween first handles count more old new h.n q r)
+    ⊎ IsRefusedBetween first handles count more old new q r
 
-    follows : Follows handles before c t far new
-    follows = call_follows handles before c s t far new h.n (Make name bytes) (answer.Made h v) map
-        (subst (IsCallOn handles s t far new h.n (Make name bytes)) is call)
-        (record { about = refl; event = refl })
-make_comes handles seat before s t far new bytes name r map (inr call) line = by (says_nothing r) refl
-  where
-    c : Called
-    c = record { lane = seat; handle = handle_given r; event = event_of (Make name bytes) r }
+-- ---- one request
 
-    none : handle_given r ≡ None
-    none = no_handle name bytes r line call.silent
+module _ (first handles seat count more : ℕ) (before : List Called) (old new : ℕ → Now)
+    (map : IsMapOf before count old) where
+  -- on an object
+  pub call_comes : (h : ℕ) (q : Request) (r : Reply) → AreMade count old
+      → IsCallBetween first handles count more old new h q r → IsObjectCall q
+      → Comes first handles before (call_of seat (handle_on (makes before) h) q r) more new
+  call_comes h q r are call on = by (says_nothing r) refl
+    where
+      c : Option ℕ → Called
+      c o = record { lane = seat; handle = o; event = event_of q r }
 
-    follows : Follows handles before c t far new
-    follows = refused_follows handles before c s t far new (Make name bytes) r map call
-        (record { about = none; event = refl })
+      P : Bool → Option ℕ → Type 0
+      P b o = Comes first handles before (if b then [] else c o ∷ []) more new
 
-    P : Bool → Type 0
-    P b = Comes handles before (if b then [] else c ∷ []) t far new
+      told : (o : Option ℕ) → handle_on (makes before) h ≡ o → P false o
+          → P false (handle_on (makes before) h)
+      told o e p = subst (P false) (sym e) p
 
-    by : (b : Bool) → says_nothing r ≡ b → P (says_nothing r)
-    by true e = subst P (sym e) (comes_none handles before t far new (record {
-      made = let made = map.made in let counted = call.counted in
-          let same = ap made_by (made_quiet name bytes r e).0 in omega (arith, made, counted, same);
-      values = λ k. subst (IsValue (value before k)) (sym (call.others k)) (map.values k);
-    }))
-    by false e = subst P (sym e) (comes_one handles before c t far new
-        (record { reply = follows.reply; unmade = rw none tt }) follows.beside)
+      some : h < makes before → P false (Some h)
+      some less =
+          let follows = between_follows first handles count more old new before map (c (Some h)) h q r
+          call (record { about = refl; event = refl }) in
+          let made = map.made in
+          comes_one first handles before (c (Some h)) more new
+          (is_reply_of first handles count more old new before (c (Some h)) h follows map
+          (are.below h (omega (arith, made, less))) refl) follows.beside
+
+      none : makes before ≤ h → P false None
+      none past =
+          let made = map.made in
+          let value_none : value before h ≡ None = has_none (value before h)
+          (subst (IsValue (value before h)) (are.past h (omega (arith, made, past)))
+          (map.values h)) in
+          let e : event_of q r ≡ FindsUnmade = finds_unmade first handles count (Some h) (event_of q r)
+          (on.own r)
+          (subst (λ (m : MapNow). MapReplies first handles count (Some h) m (event_of q r)) value_none
+          (call.own.reply (value before h) (map.values h))) in
+          comes_one first handles before (c None) more new
+          (record {
+            reply = subst (MapReplies first handles (makes before) None None) (sym e) tt;
+            unmade = tt;
+          })
+          (unmade_beside before (c None) more new
+          (quiet_beside first handles count more old new before h q r map call
+          (ap change_of e, ap made_by e)) refl (ap made_by e))
+
+      by : (b : Bool) → says_nothing r ≡ b → P (says_nothing r) (handle_on (makes before) h)
+      by true e = subst (λ (b : Bool). P b (handle_on (makes before) h)) (sym e)
+          (comes_none first handles before more new
+          (quiet_beside first handles count more old new before h q r map call (on.quiet r e)))
+      by false e = subst (λ (b : Bool). P b (handle_on (makes before) h)) (sym e)
+          (elim (cases_lt h (makes before)) [
+            | inl less ↦ told (Some h)
+                (ap (λ (b : Bool). if b then Some h else None) (lt-ltb h (makes before) less))
+                (some less)
+            | inr past ↦ told None
+                (ap (λ (b : Bool). if b then Some h else None) (le-ltb h (makes before) past))
+                (none past)
+          ])
+
+  -- ---- a make
+  pub make_comes : (bytes name : List ℕ) (r : Reply)
+      → IsMakeBetween first handles count more old new (Make name bytes) r
+      → IsReplyOf (Make name bytes) r
+      → Comes first handles before (call_of seat (handle_given r) (Make name bytes) r) more new
+  make_comes bytes name r (inl (h, v, is, call)) line =
+      subst (λ (q : Reply).
+      Comes first handles before (call_of seat (handle_given q) (Make name bytes) q) more new)
+      (sym is) (comes_one first handles before c more new
+      (is_make_of first handles before c more new follows (λ e. cc)) follows.beside)
+    where
+      c : Called
+      c = record { lane = seat; handle = Some h.n; event = Makes bytes v }
+
+      follows : FollowsOf first handles before c more new
+      follows = between_follows first handles count more old new before map c h.n (Make name bytes)
+          (answer.Made h v)
+          (subst (IsCallBetween first handles count more old new h.n (Make name bytes)) is call)
+          (record { about = refl; event = refl })
+  make_comes bytes name r (inr call) line = by (says_nothing r) refl
+    where
+      c : Called
+      c = record { lane = seat; handle = handle_given r; event = event_of (Make name bytes) r }
+
+      none : handle_given r ≡ None
+      none = no_handle name bytes r line call.silent
+
+      follows : FollowsOf first handles before c more new
+      follows = refused_between first handles count more old new before map c (Make name bytes) r call
+          (record { about = none; event = refl })
+
+      P : Bool → Type 0
+      P b = Comes first handles before (if b then [] else c ∷ []) more new
+
+      by : (b : Bool) → says_nothing r ≡ b → P (says_nothing r)
+      by true e = subst P (sym e) (comes_none first handles before more new (record {
+        made = let made = map.made in let counted = call.counted in
+            let same = ap made_by (made_quiet name bytes r e).0 in omega (arith, made, counted, same);
+        values = λ k. subst (IsValue (value before k)) (sym (call.others k)) (map.values k);
+      }))
+      by false e = subst P (sym e) (comes_one first handles before c more new
+          (record { reply = follows.reply; unmade = rw none tt }) follows.beside)

@@ -21,7 +21,7 @@ same_some : (x y : OpenWriteState) → Some x ≡ Some y → x ≡ y
 same_some x y e = cc
 
 -- what stands in a list in which one item was replaced
-get_set : (xs : List OpenWriteState) (i : ℕ) (x : OpenWriteState) (p : ℕ) (y : OpenWriteState)
+pub get_set : (xs : List OpenWriteState) (i : ℕ) (x : OpenWriteState) (p : ℕ) (y : OpenWriteState)
     → slice_get (set xs i x) p ≡ Some y
     → ((p ≢ i) × (slice_get xs p ≡ Some y)) ⊎ ((p ≡ i) × (x ≡ y))
 get_set [] i x p y e = absurd (none_is y p e)
@@ -42,14 +42,14 @@ set_other (z ∷ xs) (suc i) x zero y off e = e
 set_other (z ∷ xs) (suc i) x (suc p) y off e =
     set_other xs i x p y (λ q. off (ap suc q)) e
 
-set_same : (xs : List OpenWriteState) (i : ℕ) (x y : OpenWriteState) → slice_get xs i ≡ Some y
+pub set_same : (xs : List OpenWriteState) (i : ℕ) (x y : OpenWriteState) → slice_get xs i ≡ Some y
     → slice_get (set xs i x) i ≡ Some x
 set_same [] i x y e = absurd (none_is y i e)
 set_same (z ∷ xs) zero x y e = refl
 set_same (z ∷ xs) (suc i) x y e = set_same xs i x y e
 
 -- what stands in a list out of which one item was taken
-abbrev IsShift : ℕ → ℕ → ℕ → Type 0
+abbrev pub IsShift : ℕ → ℕ → ℕ → Type 0
 IsShift i p q = ((p < i) × (q ≡ p)) ⊎ ((i ≤ p) × (q ≡ p + 1))
 
 shift_more : (i p q : ℕ) → IsShift i p q → IsShift (suc i) (suc p) (suc q)
@@ -63,7 +63,7 @@ shift_one i p q m n (inl (a, b)) (inr (c, d)) e = absurd (omega (arith, a, b, c,
 shift_one i p q m n (inr (a, b)) (inl (c, d)) e = absurd (omega (arith, a, b, c, d, e))
 shift_one i p q m n (inr (a, b)) (inr (c, d)) e = omega (arith, a, b, c, d, e)
 
-get_remove : (xs : List OpenWriteState) (i p : ℕ) (y : OpenWriteState)
+pub get_remove : (xs : List OpenWriteState) (i p : ℕ) (y : OpenWriteState)
     → slice_get (remove xs i) p ≡ Some y → (q : ℕ) × (slice_get xs q ≡ Some y) × IsShift i p q
 get_remove [] zero p y e = absurd (none_is y p e)
 get_remove [] (suc i) p y e = absurd (none_is y p e)
@@ -82,12 +82,12 @@ put_remove (z ∷ xs) (suc i) (suc q) y e off =
     let r = put_remove xs i q y e (λ s. off (ap suc s)) in (suc r.0, r.1)
 
 -- the open writes of a seat, where one seat has these
-claims_same : (seats : List SeatState) (seat : ℕ) (cs : List OpenWriteState) → seat < length seats
+pub claims_same : (seats : List SeatState) (seat : ℕ) (cs : List OpenWriteState) → seat < length seats
     → claims_of_seat (with_claims seats seat cs) seat ≡ cs
 claims_same seats seat cs within = ap (λ (x : SeatState). x.claims)
     (get_or-set_same seats seat (record (seat_at seats seat) { claims = cs }) idle_seat within)
 
-claims_other : (seats : List SeatState) (seat : ℕ) (cs : List OpenWriteState) (k : ℕ) → k ≢ seat
+pub claims_other : (seats : List SeatState) (seat : ℕ) (cs : List OpenWriteState) (k : ℕ) → k ≢ seat
     → claims_of_seat (with_claims seats seat cs) k ≡ claims_of_seat seats k
 claims_other seats seat cs k off = ap (λ (x : SeatState). x.claims)
     (get_or-set_other seats seat k (record (seat_at seats seat) { claims = cs }) idle_seat off)

@@ -15,11 +15,11 @@ use Rattle.cb_world.proofs.Laws.{open_here, pinned_still, sound_beside}
 use Rattle.cb_core.proofs.OpenChanges.{goes_on}
 use Rattle.cb_core.proofs.OpenSteps.{claims_hold, claims_pinned, not_zero}
 
-is_zero : (n a b : ℕ) → n ≡ 0 → (if nat_eq n 0 then a else b) ≡ a
+pub is_zero : (n a b : ℕ) → n ≡ 0 → (if nat_eq n 0 then a else b) ≡ a
 is_zero n a b e = ap (λ (c : Bool). if c then a else b) (eq-eqb n 0 e)
 
 -- each byte of a write lies in a word that it touches
-lies_in : (at n i : ℕ) → i < n → at + i < 8 * (at / 8 + touched at n)
+pub lies_in : (at n i : ℕ) → i < n → at + i < 8 * (at / 8 + touched at n)
 lies_in at zero i less = absurd (omega (arith, less))
 lies_in at (suc n) i less = omega (arith, less)
 

@@ -134,7 +134,7 @@ get_pushed (z ∷ xs) x (suc p) y e = elim (get_pushed xs x p y e) [
 ]
 
 -- ---- the claim
-here_moving : (w : ℕ) → state_of w ≡ state.Here → state_of w ≡ state.Moving → ⊥
+pub here_moving : (w : ℕ) → state_of w ≡ state.Here → state_of w ≡ state.Moving → ⊥
 here_moving w here moving = let e = sym here ∙ moving in cc
 
 get_before : (xs ys : List OpenWriteState) (p : ℕ) (y : OpenWriteState) → slice_get xs p ≡ Some y
@@ -143,7 +143,7 @@ get_before [] ys p y e = absurd cc
 get_before (x ∷ xs) ys zero y e = e
 get_before (x ∷ xs) ys (suc p) y e = get_before xs ys p y e
 
-get_last : (xs : List OpenWriteState) (y : OpenWriteState) → slice_get (xs ++ y ∷ []) (length xs) ≡ Some y
+pub get_last : (xs : List OpenWriteState) (y : OpenWriteState) → slice_get (xs ++ y ∷ []) (length xs) ≡ Some y
 get_last [] y = refl
 get_last (x ∷ xs) y = get_last xs y
 
@@ -159,7 +159,7 @@ none_written old at bytes = record {
 }
 
 -- an open write is one of those before, or this one
-abbrev IsOneOf : List SeatState → ℕ → ℕ → OpenWriteState → ℕ → ℕ → OpenWriteState → Type 0
+abbrev pub IsOneOf : List SeatState → ℕ → ℕ → OpenWriteState → ℕ → ℕ → OpenWriteState → Type 0
 IsOneOf seats seat n mine other place c = IsClaimAt seats other place c
     ⊎ ((other ≡ seat) × (place ≡ n) × (mine ≡ c))
 
@@ -207,11 +207,11 @@ module _ (w : WorldState) (seat h at v : ℕ) (bytes : List ℕ) (sound : IsSoun
   mine_is : word_at desk h ≡ v
   mine_is = get_or-set_same w.desk.words h v 0 within
 
-  not_mine : (other place : ℕ) (c : OpenWriteState) → IsClaimAt w.seats other place c → c.handle ≢ h
+  pub not_mine : (other place : ℕ) (c : OpenWriteState) → IsClaimAt w.seats other place c → c.handle ≢ h
   not_mine other place c there e = here_moving old free.0
       (ap (λ k. state_of (word_at w.desk k)) (sym e) ∙ (sound.ongoing.each other place c there).moving)
 
-  is_one : (other place : ℕ) (c : OpenWriteState) → IsClaimAt seats other place c → IsOneOf w.seats seat (length cs) mine other place c
+  pub is_one : (other place : ℕ) (c : OpenWriteState) → IsClaimAt seats other place c → IsOneOf w.seats seat (length cs) mine other place c
   is_one other place c there = by (ℕ_discrete other seat)
     where
       by : Dec (other ≡ seat) → IsOneOf w.seats seat (length cs) mine other place c

@@ -75,12 +75,13 @@ module _ (w : WorldState) (seat place m : ℕ) (c : OpenWriteState) (sound : IsS
   abbrev pub t : Shown
   t = record s { memory = set s.memory p m }
 
+  -- a word beside the object is another one than that which is stored
+  pub other_word : (q : ℕ) → IsBeside (place_of old) (len_of old) q → q ≢ p
+  other_word q (inl before) e = omega (arith, before, e)
+  other_word q (inr behind) e = omega (arith, behind, e, inside)
+
   beside : (q : ℕ) → IsBeside (place_of old) (len_of old) q → get_or t.memory q 0 ≡ get_or s.memory q 0
-  beside q side = get_or-set_other s.memory p q m 0 (off side)
-    where
-      off : IsBeside (place_of old) (len_of old) q → q ≢ p
-      off (inl before) e = omega (arith, before, e)
-      off (inr behind) e = omega (arith, behind, e, inside)
+  beside q side = get_or-set_other s.memory p q m 0 (other_word q side)
 
   pub stored_known : IsKnown desk w.far t
   stored_known = record {

@@ -7,8 +7,7 @@ use Rattle.cb_types.specs.declared.config.Config.{Config}
 use Rattle.cb_types.specs.declared.reply.Reply.{Reply}
 use Rattle.cb_world.specs.World.{WorldState, IsSoundWorld}
 use Rattle.cb_core.specs.declared.event.Event.{Event}
-use Rattle.cb_core.specs.declared.event.Event.TheVariants as event
-use Rattle.cb_core.specs.Events.{IsEvent, IsRunEvent}
+use Rattle.cb_core.specs.Events.{IsEvent}
 use Rattle.cb_core.specs.Run.{LeadsSoundly, RunStops}
 use Rattle.cb_core.specs.Step.{Step, Leads, Stops}
 use Rattle.cb_core.proofs.Settings.{step_settings}
@@ -63,29 +62,20 @@ pub going_all : (start : WorldState) (events : List Event) (i : ℕ) (replies : 
 going_all start events i replies w g past =
     subst (λ (es : List Event). LeadsSoundly start es replies w) (take_all i events past) g.leads
 
--- an event of a run is one that may come
-pub run_event : (c : Config) (e : Event) → IsRunEvent c e → IsEvent c e
-run_event c (event.Step seat atomic) ok = ok.0
-run_event c (event.Turn seat job) ok = ok
-
-pub run_events : (c : Config) (events : List Event) → AllByRecursion (IsRunEvent c) events
-    → AllByRecursion (IsEvent c) events
-run_events c [] all = tt
-run_events c (e ∷ events) all = (run_event c e all.0, run_events c events all.1)
-
+-- each event is one that may come
 pub event_at : (c : Config) (events : List Event) (i : ℕ) (e : Event)
-    → AllByRecursion (IsRunEvent c) events → i < length events → e ≡ get_or events i e → IsEvent c e
+    → AllByRecursion (IsEvent c) events → i < length events → e ≡ get_or events i e → IsEvent c e
 event_at c [] i e all lt at = absurd (omega (arith, lt))
-event_at c (x ∷ events) zero e all lt at = subst (IsEvent c) (sym at) (run_event c x all.0)
+event_at c (x ∷ events) zero e all lt at = subst (IsEvent c) (sym at) all.0
 event_at c (x ∷ events) (suc i) e all lt at = event_at c events i e all.1 (omega (arith, lt)) at
 
 -- a list is its first items and the others
-split_at : (i : ℕ) (events : List Event) → events ≡ take i events ++ drop i events
+pub split_at : (i : ℕ) (events : List Event) → events ≡ take i events ++ drop i events
 split_at zero events = refl
 split_at (suc i) [] = refl
 split_at (suc i) (x ∷ events) = ap (λ (es : List Event). x ∷ es) (split_at i events)
 
-next_at : (i : ℕ) (events : List Event) (e : Event) → i < length events → e ≡ get_or events i e
+pub next_at : (i : ℕ) (events : List Event) (e : Event) → i < length events → e ≡ get_or events i e
     → drop i events ≡ e ∷ drop (i + 1) events
 next_at zero (x ∷ events) e lt at = ap (λ (y : Event). y ∷ events) (sym at)
 next_at (suc i) (x ∷ events) e lt at =

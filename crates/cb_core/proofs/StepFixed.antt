@@ -100,7 +100,7 @@ swap_fixed h a r q b c x y =
     (subst (λ (home : Home). IsSwapStep a.desk b.desk a.far b.far home.set home.position r) homes x.2)
     y.2)
 
-swap_refuses : (h : ℕ) → LeavesAll (StillSwap h) answer.NoFrame
+pub swap_refuses : (h : ℕ) → LeavesAll (StillSwap h) answer.NoFrame
 swap_refuses h a b x = both_same a b x.2.change.0 x.2.change.1
 
 room_fixed : (a : Holding Words) → IsAccepted a.desk.settings → IsFixed StillRoom a

@@ -30,7 +30,7 @@ known_far x far new s k sound = record {
   sound = sound;
 }
 
-known_after : (a b : Holding Words) (s : Shown) → b.desk ≡ a.desk → IsKnown a.desk a.far s
+pub known_after : (a b : Holding Words) (s : Shown) → b.desk ≡ a.desk → IsKnown a.desk a.far s
     → Sound s b.far → IsKnown b.desk b.far s
 known_after a b s same k sound =
     subst (λ (x : Words). IsKnown x b.far s) (sym same) (known_far a.desk a.far b.far s k sound)

@@ -25,7 +25,7 @@ use Rattle.cb_evict.specs.EvictStep.{loose_frames, few_spans}
 use Rattle.cb_evict.proofs.Laws.{evict_made}
 use Rattle.cb_core.specs.declared.event.Atomic.TheVariants.{Load, Pin, Unpin, Claim, Store}
 use Rattle.cb_core.specs.declared.event.Event.TheVariants as event
-use Rattle.cb_core.specs.Events.{IsEvent, IsRunEvent}
+use Rattle.cb_core.specs.Events.{IsEvent}
 use Rattle.cb_core.specs.Jobs.{IsJob}
 use Rattle.cb_core.specs.Membership.{crashed, is_down}
 use Rattle.cb_world.specs.Choices.{room_count}
@@ -360,13 +360,6 @@ claim_stops_and_counts same =
 
 store_stops : (new : WorldState) → Stops old (event.Step 0 (Store (handle 0))) new → ⊥
 store_stops new stops = stops
-
--- a run has no steps of open writes
-pin_in_a_run : IsRunEvent settings (event.Step 63 (Pin (handle 1)))
-pin_in_a_run = ((lit< tt, lit< tt), λ x. x)
-
-claim_in_a_run : IsRunEvent settings (event.Step 63 (Claim (handle 1) 0 [])) → ⊥
-claim_in_a_run ok = ok.1 tt
 
 -- a read that found no memory for its reply leaves the hot bit as it was
 abbrev holds : ℕ → ℕ → Holding Words

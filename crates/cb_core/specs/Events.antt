@@ -1,5 +1,5 @@
 -- Which events may come.
-use Rattle.std.specs.Prelude.{ℕ, ◌<◌}
+use Rattle.std.specs.Prelude.{◌<◌}
 use Rattle.cb_types.specs.declared.config.Config.{Config}
 use Rattle.cb_core.specs.declared.event.Atomic.{Atomic}
 use Rattle.cb_core.specs.declared.event.Atomic.TheVariants.{Load, Pin, Unpin, Claim, Store, Settle, Take, Give}
@@ -22,16 +22,3 @@ IsAtomic c Give = Unit {0}
 abbrev pub IsEvent : Config → Event → Type 0
 IsEvent c (event.Step seat atomic) = (seat < 64) × IsAtomic c atomic
 IsEvent c (event.Turn seat job) = (seat < 64) × IsJob c job
-
--- the step is one of an open write
-abbrev pub IsOfWrite : Atomic → Type 0
-IsOfWrite (Claim handle at bytes) = Unit {0}
-IsOfWrite (Store handle) = Unit {0}
-IsOfWrite (Settle handle) = Unit {0}
-IsOfWrite atomic = ⊥
-
--- an event of a run: one that may come, and no step of an open write
-abbrev pub IsRunEvent : Config → Event → Type 0
-IsRunEvent c (event.Step seat atomic) =
-    ((seat < 64) × IsAtomic c atomic) × ¬ (IsOfWrite atomic)
-IsRunEvent c (event.Turn seat job) = (seat < 64) × IsJob c job

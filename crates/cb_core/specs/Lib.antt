@@ -13,5 +13,7 @@ pub mod ReadTurn
 pub mod Step
 pub mod Events
 pub mod Unmoved
+pub mod Unavailable
 pub mod Run
+pub mod NowIn
 pub mod Called

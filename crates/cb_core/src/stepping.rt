@@ -2,7 +2,9 @@ ghost use Rattle.std.specs.Prelude.{◌≡◌, ◌<◌, IfOk, OnErr};
 ghost use Rattle.cb_world.specs.World.{IsSoundWorld};
 ghost use Rattle.cb_core.specs.Events.{IsAtomic, IsEvent};
 ghost use Rattle.cb_core.specs.Jobs.{IsJob};
+ghost use Rattle.cb_core.specs.Run.{LeavesAsBefore};
 ghost use Rattle.cb_core.specs.Step.{AtomicStep, AtomicStops, SeatTurn, Step, Stops, TurnStep, TurnStops};
+ghost use Rattle.cb_core.specs.Unavailable.{TellsUnavailable};
 
 use crate::claiming::{claim, settle, store};
 use crate::event::{Atomic, Event};
@@ -16,14 +18,19 @@ use std::alloc::Global;
 /// One event: a seat takes an atomic step, or makes a turn. The world stays sound. A turn is refused
 /// with Held, and not counted, where another seat holds the far lock. Where there is no memory, a
 /// claim changed nothing, and a turn is counted, and what its parts did before stays: a span may
-/// have left or come in. Between events a batch may be leaving, whose objects are Moving until it
-/// is committed or given up.
+/// have left or come in, and each object holds what it held. Between events a batch may be leaving,
+/// whose objects are Moving until it is committed or given up.
+///
+/// Unavailable is answered exactly where a turn is to bring in a far object whose set has lost more
+/// shards than it has parities, and tells the set and all that it lost.
 pub fn step(alloc: Global, world: &mut World, event: &Event) -> Result<Reply, NoMemory>
     requires sound { IsSoundWorld world.old }
     requires event { IsEvent world.old.desk.settings event.now }
     ensures step { IfOk result (λ reply. Step world.old event.now reply world.new) }
+    ensures unavailable { IfOk result (λ reply. TellsUnavailable world.old event.now reply) }
     ensures sound { IsSoundWorld world.new }
     ensures error { OnErr result (Stops world.old event.now world.new) }
+    ensures leaves { OnErr result (LeavesAsBefore world.old event.now world.new) }
 {
     match event {
         Event::Step { seat, atomic } => atomic_step(alloc, world, *seat, atomic),

@@ -311,7 +311,7 @@ none_without q p (pin ∷ older) none =
         ∙ later (rest e)
 
 -- a scope has none on a name that no pin is on
-others_after : (q : List ℕ) (scope : Scope) (request : Request) (r : Reply)
+pub others_after : (q : List ℕ) (scope : Scope) (request : Request) (r : Reply)
     → ((name : List ℕ) → request ≡ Pin name → name ≢ q) → newest_on q scope ≡ None
     → newest_on q (scope_after scope request r) ≡ None
 others_after q scope (Pin name) (answer.Version v) off none = by (name_cases name q)

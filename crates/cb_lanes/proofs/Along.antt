@@ -32,7 +32,7 @@ use Rattle.cb_world.specs.World.{WorldState, IsSoundWorld, empty_world}
 use Rattle.cb_mutate.specs.MapBeside.{IsMapBeside}
 use Rattle.cb_mutate.proofs.Laws.{is_map_reply, is_map_make, beside_kept, empty_beside}
 use Rattle.cb_core.specs.declared.event.Event.TheVariants.{Turn}
-use Rattle.cb_core.proofs.Laws.{step_settings, evict_turn, begin_turn, ship_turn, commit_turn, abort_turn, pair_turn, patch_turn, merge_turn, part_turn, compact_turn, rebuild_turn}
+use Rattle.cb_core.proofs.Laws.{are_gone, step_settings, evict_turn, begin_turn, ship_turn, commit_turn, abort_turn, pair_turn, patch_turn, merge_turn, part_turn, compact_turn, rebuild_turn}
 use Rattle.cb_world.specs.Empty.{empty_words, empty_far, empty_shown}
 use Rattle.cb_world.proofs.Laws.{empty_shows, empty_sound, now_same, empty_world_sound}
 use Rattle.cb_lanes.specs.Asked.{answer_to, asked, HasLineReply}
@@ -460,6 +460,7 @@ along_holds c later answers w names along = record {
   shown = along.sound.shown;
   known = along.sound.known;
   beside = along.beside;
+  gone = are_gone w along.sound.shown along.sound.known along.sound.ongoing;
 }
 
 -- the lines that were answered

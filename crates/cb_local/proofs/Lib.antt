@@ -3,3 +3,13 @@ pub mod Patching
 pub mod WorkedOrder
 pub mod Merged
 pub mod WorkedWords
+pub mod Gathering
+pub mod Fetched
+pub mod Counted
+pub mod RowThere
+pub mod Taking
+pub mod FullNode
+pub mod PutStep
+pub mod Finishing
+pub mod LocalKept
+pub mod WorkedLocal

@@ -47,7 +47,7 @@ are_taken k (i ∷ xs) pairs below = (
 )
 
 -- ---- the bytes of a parity to which the first positions are added
-wide_row : (k r : ℕ) (rows : List (List ℕ)) (p : ℕ) → IsSpanWord k r rows → p < k + r
+pub wide_row : (k r : ℕ) (rows : List (List ℕ)) (p : ℕ) → IsSpanWord k r rows → p < k + r
     → length (row_at rows p) ≡ 4096
 wide_row k r rows p x l =
     x.is_word.equal_lengths p [] (let n = x.is_word.count in omega (arith, n, l)) ∙ x.wide

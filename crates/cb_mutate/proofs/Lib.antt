@@ -3,6 +3,7 @@ pub mod Packing
 pub mod NewObject
 pub mod Made
 mod WorkedMake
+mod WorkedMap
 pub mod Settling
 pub mod Written
 pub mod Emptied

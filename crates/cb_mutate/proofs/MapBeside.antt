@@ -24,19 +24,24 @@ use Rattle.cb_world.specs.Shown.{object_at}
 use Rattle.cb_world.specs.Sound.{Sound}
 use Rattle.cb_model.specs.Event.Event.{Makes, Shows, Pins, Writes, Frees, FindsFull, FindsUnmade, FindsFreed, FindsEnd, Refused, Wrong}
 use Rattle.cb_model.specs.Legal.{IsUnmadeRight, IsMapReply}
-use Rattle.cb_mutate.specs.MapCalls.{IsValue, IsCallOn, IsRefusedMake}
-use Rattle.cb_mutate.specs.MapBeside.{IsMapBeside}
+use Rattle.cb_mutate.specs.MapCalls.{IsValue, IsCallBetween, IsCallOn, IsRefusedBetween, IsRefusedMake}
+use Rattle.cb_mutate.specs.MapBeside.{IsMapOf, IsMapBeside}
 
 -- The answered call: what it was about, and what was answered.
 pub record Tells (c : Called) (handle : Option ℕ) (request : Request) (r : Reply) : Type 0 where
   pub about : c.handle ≡ handle
   pub event : c.event ≡ event_of request r
 
--- The reply is the map's after the calls before, and the map stays beside the world.
-pub record Follows (handles : ℕ) (calls : List Called) (c : Called) (t : Shown)
-    (far new : FarState) : Type 0 where
-  pub reply : MapReplies far.first handles (makes calls) c.handle (value_at calls c.handle) c.event
-  pub beside : IsMapBeside (calls ++ c ∷ []) t new
+-- The reply is the map's after the calls before, and the map has afterwards what is told.
+pub record FollowsOf (first handles : ℕ) (calls : List Called) (c : Called) (more : ℕ)
+    (new : ℕ → Now) : Type 0 where
+  pub reply : MapReplies first handles (makes calls) c.handle (value_at calls c.handle) c.event
+  pub beside : IsMapOf (calls ++ c ∷ []) more new
+
+-- the map stays beside the world
+abbrev pub Follows : ℕ → List Called → Called → Shown → FarState → FarState → Type 0
+Follows handles calls c t far new =
+    FollowsOf far.first handles calls c new.made (λ k. now t new k)
 
 -- what a call changes at the object that it is about, and at another
 change_own : (c : Called) (h : ℕ) → c.handle ≡ Some h → change_to h c ≡ change_of c.event
@@ -52,70 +57,93 @@ change_other c h k about off =
 change_none : (c : Called) (k : ℕ) → c.handle ≡ None → change_to k c ≡ []
 change_none c k about = ap (λ (o : Option ℕ). if is_about k o then change_of c.event else []) about
 
-count_more : (calls : List Called) (c : Called) (far new : FarState) → makes calls ≡ far.made
-    → new.made ≡ far.made + made_by c.event → makes (calls ++ c ∷ []) ≡ new.made
-count_more calls c far new made counted =
+count_more : (calls : List Called) (c : Called) (count more : ℕ) → makes calls ≡ count
+    → more ≡ count + made_by c.event → makes (calls ++ c ∷ []) ≡ more
+count_more calls c count more made counted =
     makes-push calls c ∙ ap (λ (n : ℕ). n + made_by c.event) made ∙ sym counted
 
--- a call on an object
+module _ (first handles count more : ℕ) (old new : ℕ → Now) (calls : List Called)
+    (map : IsMapOf calls count old) where
+  -- a call on an object
+  pub between_follows : (c : Called) (h : ℕ) (q : Request) (r : Reply)
+      → IsCallBetween first handles count more old new h q r → Tells c (Some h) q r
+      → FollowsOf first handles calls c more new
+  between_follows c h q r call told = record {
+    reply = subst (λ (o : Option ℕ).
+        MapReplies first handles (makes calls) o (value_at calls o) c.event) (sym told.about)
+        (subst (λ (e : Event).
+        MapReplies first handles (makes calls) (Some h) (value calls h) e) (sym told.event)
+        (subst (λ (n : ℕ).
+        MapReplies first handles n (Some h) (value calls h) (event_of q r)) (sym map.made)
+        (call.own.reply (value calls h) (map.values h))));
+    beside = record {
+      made = count_more calls c count more map.made
+          (call.counted ∙ ap (λ (e : Event). count + made_by e) (sym told.event));
+      values = λ k. each k (ℕ_discrete k h);
+    };
+  }
+    where
+      each : (k : ℕ) → Dec (k ≡ h) → IsValue (value (calls ++ c ∷ []) k) (new k)
+      each k (yes e) = subst (λ (i : ℕ). IsValue (value (calls ++ c ∷ []) i) (new i)) (sym e)
+          (subst (λ (m : MapNow). IsValue m (new h)) (sym (value-push calls c h
+          ∙ ap (λ (l : List (ℕ × Change)). fold changed (value calls h) l)
+          (change_own c h told.about ∙ ap change_of told.event)))
+          (call.own.value (value calls h) (map.values h)))
+      each k (no off) = subst (λ (m : MapNow). IsValue m (new k)) (sym (value-push calls c k
+          ∙ ap (λ (l : List (ℕ × Change)). fold changed (value calls k) l)
+          (change_other c h k told.about off)))
+          (subst (IsValue (value calls k)) (sym (call.others k off)) (map.values k))
+
+  -- a make that made no object
+  pub refused_between : (c : Called) (q : Request) (r : Reply)
+      → IsRefusedBetween first handles count more old new q r → Tells c None q r
+      → FollowsOf first handles calls c more new
+  refused_between c q r call told = record {
+    reply = subst (λ (o : Option ℕ).
+        MapReplies first handles (makes calls) o (value_at calls o) c.event) (sym told.about)
+        (subst (λ (e : Event). MapReplies first handles (makes calls) None None e)
+        (sym told.event)
+        (subst (λ (n : ℕ). MapReplies first handles n None None (event_of q r)) (sym map.made)
+        (call.reply None)));
+    beside = record {
+      made = count_more calls c count more map.made
+          (call.counted ∙ ap (λ (e : Event). count + made_by e) (sym told.event));
+      values = λ k. subst (λ (m : MapNow). IsValue m (new k)) (sym (value-push calls c k
+          ∙ ap (λ (l : List (ℕ × Change)). fold changed (value calls k) l)
+          (change_none c k told.about)))
+          (subst (IsValue (value calls k)) (sym (call.others k)) (map.values k));
+    };
+  }
+
+  -- what leaves every object as it was, and makes none
+  pub map_kept : more ≡ count → ((k : ℕ) → new k ≡ old k) → IsMapOf calls more new
+  map_kept made same = record {
+    made = map.made ∙ sym made;
+    values = λ k. subst (IsValue (value calls k)) (sym (same k)) (map.values k);
+  }
+
+-- a call on an object of a world
 pub call_follows : (handles : ℕ) (calls : List Called) (c : Called) (s t : Shown)
     (far new : FarState) (h : ℕ) (q : Request) (r : Reply) → IsMapBeside calls s far
     → IsCallOn handles s t far new h q r → Tells c (Some h) q r → Follows handles calls c t far new
-call_follows handles calls c s t far new h q r map call told = record {
-  reply = subst (λ (o : Option ℕ).
-      MapReplies far.first handles (makes calls) o (value_at calls o) c.event) (sym told.about)
-      (subst (λ (e : Event).
-      MapReplies far.first handles (makes calls) (Some h) (value calls h) e) (sym told.event)
-      (subst (λ (n : ℕ).
-      MapReplies far.first handles n (Some h) (value calls h) (event_of q r)) (sym map.made)
-      (call.own.reply (value calls h) (map.values h))));
-  beside = record {
-    made = count_more calls c far new map.made
-        (call.counted ∙ ap (λ (e : Event). far.made + made_by e) (sym told.event));
-    values = λ k. each k (ℕ_discrete k h);
-  };
-}
-  where
-    each : (k : ℕ) → Dec (k ≡ h) → IsValue (value (calls ++ c ∷ []) k) (now t new k)
-    each k (yes e) = subst (λ (i : ℕ). IsValue (value (calls ++ c ∷ []) i) (now t new i)) (sym e)
-        (subst (λ (m : MapNow). IsValue m (now t new h)) (sym (value-push calls c h
-        ∙ ap (λ (l : List (ℕ × Change)). fold changed (value calls h) l)
-        (change_own c h told.about ∙ ap change_of told.event)))
-        (call.own.value (value calls h) (map.values h)))
-    each k (no off) = subst (λ (m : MapNow). IsValue m (now t new k)) (sym (value-push calls c k
-        ∙ ap (λ (l : List (ℕ × Change)). fold changed (value calls k) l)
-        (change_other c h k told.about off)))
-        (subst (IsValue (value calls k)) (sym (call.others k off)) (map.values k))
+call_follows handles calls c s t far new h q r map call told =
+    between_follows far.first handles far.made new.made (λ k. now s far k) (λ k. now t new k) calls
+    map c h q r call told
 
--- a make that made no object
+-- a make in a world that made no object
 pub refused_follows : (handles : ℕ) (calls : List Called) (c : Called) (s t : Shown)
     (far new : FarState) (q : Request) (r : Reply) → IsMapBeside calls s far
     → IsRefusedMake handles s t far new q r → Tells c None q r → Follows handles calls c t far new
-refused_follows handles calls c s t far new q r map call told = record {
-  reply = subst (λ (o : Option ℕ).
-      MapReplies far.first handles (makes calls) o (value_at calls o) c.event) (sym told.about)
-      (subst (λ (e : Event). MapReplies far.first handles (makes calls) None None e)
-      (sym told.event)
-      (subst (λ (n : ℕ). MapReplies far.first handles n None None (event_of q r)) (sym map.made)
-      (call.reply None)));
-  beside = record {
-    made = count_more calls c far new map.made
-        (call.counted ∙ ap (λ (e : Event). far.made + made_by e) (sym told.event));
-    values = λ k. subst (λ (m : MapNow). IsValue m (now t new k)) (sym (value-push calls c k
-        ∙ ap (λ (l : List (ℕ × Change)). fold changed (value calls k) l)
-        (change_none c k told.about)))
-        (subst (IsValue (value calls k)) (sym (call.others k)) (map.values k));
-  };
-}
+refused_follows handles calls c s t far new q r map call told =
+    refused_between far.first handles far.made new.made (λ k. now s far k) (λ k. now t new k) calls
+    map c q r call told
 
--- what leaves every object as it was, and makes none
+-- what leaves every object of a world as it was, and makes none
 pub beside_kept : (calls : List Called) (s t : Shown) (far new : FarState)
     → IsMapBeside calls s far → new.made ≡ far.made → ((k : ℕ) → now t new k ≡ now s far k)
     → IsMapBeside calls t new
-beside_kept calls s t far new map made same = record {
-  made = map.made ∙ sym made;
-  values = λ k. subst (IsValue (value calls k)) (sym (same k)) (map.values k);
-}
+beside_kept calls s t far new map made same =
+    map_kept 0 0 far.made new.made (λ k. now s far k) (λ k. now t new k) calls map made same
 
 -- at first no object was made
 pub empty_beside : (c : Config) → IsMapBeside [] (empty_shown 1 c) (empty_far 1 c)
@@ -195,24 +223,35 @@ right_unmade (Some h) (Refused subject) f = tt
 right_unmade (Some h) Wrong f = tt
 
 -- Of an object that was made, each call is answered the map's reply.
+pub is_reply_of : (first handles count more : ℕ) (old new : ℕ → Now) (calls : List Called)
+    (c : Called) (h : ℕ) → FollowsOf first handles calls c more new → IsMapOf calls count old
+    → (old h ≡ never → ⊥) → c.handle ≡ Some h → IsMapReply first handles calls c
+is_reply_of first handles count more old new calls c h follows map was about = record {
+  reply = follows.reply;
+  unmade = right_unmade c.handle c.event (λ e.
+      let reply = subst (λ (z : Event). MapReplies first handles (makes calls) c.handle
+      (value_at calls c.handle) z) e follows.reply in
+      let none : value calls h ≡ None = ap (value_at calls) (sym about)
+      ∙ found_unmade first handles (makes calls) c.handle (value_at calls c.handle) reply in
+      was (never_told (old h) (subst (λ (m : MapNow). IsValue m (old h)) none (map.values h))));
+}
+
 pub is_map_reply : (handles : ℕ) (calls : List Called) (c : Called) (s t : Shown)
     (far new : FarState) (h : ℕ) → Follows handles calls c t far new → IsMapBeside calls s far
     → Sound s far → c.handle ≡ Some h → h < far.made → IsMapReply far.first handles calls c
-is_map_reply handles calls c s t far new h follows map sound about more = record {
-  reply = follows.reply;
-  unmade = right_unmade c.handle c.event (λ e.
-      let reply = subst (λ (z : Event). MapReplies far.first handles (makes calls) c.handle
-      (value_at calls c.handle) z) e follows.reply in
-      let none : value calls h ≡ None = ap (value_at calls) (sym about)
-      ∙ found_unmade far.first handles (makes calls) c.handle (value_at calls c.handle) reply in
-      was_made s far h sound more
-      (never_told (now s far h) (subst (λ (m : MapNow). IsValue m (now s far h)) none
-      (map.values h))));
-}
+is_map_reply handles calls c s t far new h follows map sound about more =
+    is_reply_of far.first handles far.made new.made (λ k. now s far k) (λ k. now t new k) calls c h
+    follows map (was_made s far h sound more) about
 
 -- And so is each make.
+pub is_make_of : (first handles : ℕ) (calls : List Called) (c : Called) (more : ℕ)
+    (new : ℕ → Now) → FollowsOf first handles calls c more new → (c.event ≡ FindsUnmade → ⊥)
+    → IsMapReply first handles calls c
+is_make_of first handles calls c more new follows other =
+    record { reply = follows.reply; unmade = right_unmade c.handle c.event other }
+
 pub is_map_make : (handles : ℕ) (calls : List Called) (c : Called) (t : Shown)
     (far new : FarState) → Follows handles calls c t far new → (c.event ≡ FindsUnmade → ⊥)
     → IsMapReply far.first handles calls c
 is_map_make handles calls c t far new follows other =
-    record { reply = follows.reply; unmade = right_unmade c.handle c.event other }
+    is_make_of far.first handles calls c new.made (λ k. now t new k) follows other

@@ -49,7 +49,7 @@ IsThere (freed v) = ⊥
 IsThere (held v bytes) = Unit {0}
 IsThere (gone v) = Unit {0}
 
-refused_by : (n : Now) → IsThere n → (first handles made : ℕ) (handle : Option ℕ) (m : MapNow)
+pub refused_by : (n : Now) → IsThere n → (first handles made : ℕ) (handle : Option ℕ) (m : MapNow)
     → IsValue m n → MapReplies first handles made handle m (Refused Contents)
 refused_by never there first handles made handle m i = absurd there
 refused_by (freed v) there first handles made handle m i = absurd there
@@ -141,7 +141,7 @@ near_held x far s h k below near = near_now x far s h k.shows k.sound below near
 pub here_near : (w : ℕ) → state_of w ≡ state.Here → 2 ≤ w % 4
 here_near w e = let b = bits w state.Here e in omega (arith, b)
 
-moving_near : (w : ℕ) → state_of w ≡ state.Moving → 2 ≤ w % 4
+pub moving_near : (w : ℕ) → state_of w ≡ state.Moving → 2 ≤ w % 4
 moving_near w e = let b = bits w state.Moving e in omega (arith, b)
 
 -- what is left by the refusals of an object that is not here: all as it was

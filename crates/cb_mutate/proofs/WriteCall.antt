@@ -50,7 +50,7 @@ end_by v at len first handles made old bytes handle same past (Some (Held u b)) 
     (omega (arith, past, count), count)
 
 -- a write within the bytes, as the map does it
-write_by : (v at : ℕ) (old bytes : List ℕ) (first handles made : ℕ) (handle : Option ℕ)
+pub write_by : (v at : ℕ) (old bytes : List ℕ) (first handles made : ℕ) (handle : Option ℕ)
     (name : List ℕ) (r : Reply) → at + length bytes ≤ length old → r ≡ answer.Version (v + 1)
     → IsMapCall first handles made handle (Write name at bytes) r (held v old)
     (held (v + 1) (overwritten old at bytes))

@@ -35,22 +35,32 @@ pub record IsMapCall (first handles made : ℕ) (handle : Option ℕ) (request :
       → MapReplies first handles made handle m (event_of request r)
   pub value : (m : MapNow) → IsValue m before → IsValue (value_after m (event_of request r)) after
 
--- A call on the object h in a world of so many handles: what each object holds before and after,
--- and the count of handles made.
-pub record IsCallOn (handles : ℕ) (s t : Shown) (far new : FarState) (h : ℕ) (request : Request)
-    (r : Reply) : Type 0 where
-  pub own : IsMapCall far.first handles far.made (Some h) request r (now s far h) (now t new h)
-  pub others : (k : ℕ) → k ≢ h → now t new k ≡ now s far k
-  pub counted : new.made ≡ far.made + made_by (event_of request r)
+-- A call on the object h, where so many of the handles were made before it and so many after, and
+-- each object held the one before and holds the other after.
+pub record IsCallBetween (first handles count more : ℕ) (old new : ℕ → Now) (h : ℕ)
+    (request : Request) (r : Reply) : Type 0 where
+  pub own : IsMapCall first handles count (Some h) request r (old h) (new h)
+  pub others : (k : ℕ) → k ≢ h → new k ≡ old k
+  pub counted : more ≡ count + made_by (event_of request r)
+
+-- a call on the object h in a world of so many handles
+abbrev pub IsCallOn : ℕ → Shown → Shown → FarState → FarState → ℕ → Request → Reply → Type 0
+IsCallOn handles s t far new h request r = IsCallBetween far.first handles far.made new.made
+    (λ k. now s far k) (λ k. now t new k) h request r
 
 -- A make that made no object: the reply is one that the map gives, or another refusal, and each
 -- object holds what it held.
-pub record IsRefusedMake (handles : ℕ) (s t : Shown) (far new : FarState) (request : Request)
+pub record IsRefusedBetween (first handles count more : ℕ) (old new : ℕ → Now) (request : Request)
     (r : Reply) : Type 0 where
-  pub reply : (m : MapNow) → MapReplies far.first handles far.made None m (event_of request r)
+  pub reply : (m : MapNow) → MapReplies first handles count None m (event_of request r)
   pub silent : change_of (event_of request r) ≡ []
-  pub others : (k : ℕ) → now t new k ≡ now s far k
-  pub counted : new.made ≡ far.made + made_by (event_of request r)
+  pub others : (k : ℕ) → new k ≡ old k
+  pub counted : more ≡ count + made_by (event_of request r)
+
+-- one in a world of so many handles
+abbrev pub IsRefusedMake : ℕ → Shown → Shown → FarState → FarState → Request → Reply → Type 0
+IsRefusedMake handles s t far new request r = IsRefusedBetween far.first handles far.made new.made
+    (λ k. now s far k) (λ k. now t new k) request r
 
 -- A make in a world of so many handles: a call on the handle that it was answered, or refused.
 abbrev pub IsMakeCall : ℕ → Shown → Shown → FarState → FarState → Request → Reply → Type 0

@@ -3,6 +3,8 @@
 #![tactic(auto)]
 
 #[cfg(test)]
+mod joins;
+#[cfg(test)]
 mod merges;
 #[cfg(test)]
 mod worlds;

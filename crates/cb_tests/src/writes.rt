@@ -45,11 +45,17 @@ enum Said {
     Done,
 }
 
+/// Whether these are the bytes behind the write.
+fn are_written(bytes: &Bytes) -> bool {
+    let wanted = [0x0a, 0xff];
+    bytes.as_slice() == wanted.as_slice()
+}
+
 /// What the reply says, None where it is none of these.
-fn said(reply: &Reply) -> Option<Said> {
+fn told_by(reply: &Reply) -> Option<Said> {
     match reply {
         Reply::Made { handle, version } if handle.n == 0 && *version == 1 => Some(Said::Made),
-        Reply::Bytes { version, bytes } if *version == 2 && bytes.as_slice() == [0x0a, 0xff] => {
+        Reply::Bytes { version, bytes } if *version == 2 && are_written(bytes) => {
             Some(Said::Written)
         }
         Reply::Version { version } => Some(Said::Version { version: *version }),
@@ -113,7 +119,7 @@ fn is_answered(
 {
     let event = event_of(alloc, u32::from(is_second), act)?;
     let reply = step(alloc, world, &event)?;
-    Ok(said(&reply) == Some(wanted))
+    Ok(told_by(&reply) == Some(wanted))
 }
 
 /// The steps of two seats with an object of two bytes: a claim is refused beside the second seat's

@@ -19,7 +19,7 @@ use Rattle.cb_set.specs.SetState.{parities}
 use Rattle.cb_world.proofs.Surviving.{count_surviving, counted, taken_survives}
 use Rattle.std.proofs.lemmas.Option.{slice_get_within}
 use Rattle.std.specs.Option.{option_map_or}
-use Rattle.cb_world.specs.Fetched.{StandAt, StandsAt, with_given, rows_needed}
+use Rattle.cb_world.specs.Fetched.{StandAt, StandsAt, with_given}
 
 surviving_append : (m : Membership) (p : ℕ) (xs : List Shard) (x : Shard)
     → surviving_from m p (xs ++ (x ∷ [])) ≡ surviving_from m p xs ++ cond (is_lost m x) []
@@ -211,24 +211,3 @@ word_is_solution nodes m set rows table positions word same = record {
         ap (λ (l : List (List ℕ)).
         row_at rows p ∷ l) (alike ps (λ i l. h (suc i) (omega (arith, l))))
         ∙ ap (λ (r : List ℕ). r ∷ rows_at table ps) (sym (h 0 (omega arith)))
-
--- a row of the word has the bytes of a span
-pub row_wide : (nodes : NodesState) (m : Membership) (set : SetState) (rows : List (List ℕ)) (p : ℕ)
-    → IsShaped m set → IsWordOf nodes m set rows → p < length set.shards
-    → length (row_at rows p) ≡ 4096
-row_wide nodes m set rows p shaped word within =
-    let inside : p < length rows =
-    omega (arith, within, word.code.is_word.count, counted m set shaped) in
-    word.code.is_word.equal_lengths p [] inside ∙ word.code.wide
-
--- the position's own row is given out, where its shard is not lost
-pub one_given : (nodes new : NodesState) (m : Membership) (set : SetState) (position : ℕ)
-    (shard : Shard) (there : Bool) → slice_get set.shards position ≡ Some shard
-    → is_lost m shard ≡ false → there ≡ true
-    → new ≡ with_given nodes (if there then 1 else 0)
-    → new ≡ with_given nodes (rows_needed m set position)
-one_given nodes new m set position shard there at kept found e =
-    let stays : lost_at m set.shards position ≡ false =
-    ap (λ (o : Option Shard). option_map_or (is_lost m) o false) at ∙ kept in
-    e ∙ ap (λ (b : Bool). with_given nodes (if b then 1 else 0)) found
-    ∙ ap (λ (b : Bool). with_given nodes (if b then length set.positions else 1)) (sym stays)

@@ -24,6 +24,7 @@ pub use Rattle.cb_world.proofs.FreshShard.{IsUpShard, fits_on_least, undrawn_is_
 pub use Rattle.cb_world.proofs.GivenUp.{live_names}
 pub use Rattle.cb_world.proofs.GivenUpNow.{left_gone}
 pub use Rattle.cb_world.proofs.Gone.{sound_gone}
+pub use Rattle.cb_world.proofs.Grouped.{among_last, among_more}
 pub use Rattle.cb_world.proofs.JoinNow.{commit_now, pair_now, whole_not_broken}
 pub use Rattle.cb_world.proofs.Joined.{pair_kept, sets_kept}
 pub use Rattle.cb_world.proofs.Kept.{claim_played, claimed_from, frame_in_range, lies_within, set_back}

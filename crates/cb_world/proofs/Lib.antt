@@ -28,6 +28,7 @@ pub mod FarGoneNow
 pub mod Gathering
 mod NextSet
 pub mod SetWalk
+pub mod Grouped
 pub mod NowKept
 pub mod Bridge
 pub mod Merging
@@ -81,6 +82,7 @@ pub mod Fixed
 mod WorkedDesk
 mod WorkedFrames
 mod WorkedWalk
+mod WorkedGroups
 mod WorkedWorld
 mod WorkedFar
 mod WorkedReserved

@@ -13,6 +13,7 @@ pub mod Grasped
 pub mod Written
 pub mod Sets
 pub mod SetsFrom
+pub mod Groups
 pub mod Homes
 pub mod Leaving
 pub mod Joining

@@ -1,16 +1,16 @@
-ghost use Rattle.std.specs.Prelude.{◌≡◌, ℕ, ◌+◌, ◌-◌, ◌^◌, ◌<◌, ◌≤◌, List, All, IfOk, OnOk, OnErr, length, take, slice_index, if◌then◌else◌};
+ghost use Rattle.std.specs.Prelude.{◌≡◌, ℕ, ◌+◌, ◌-◌, ◌^◌, ◌<◌, ◌≤◌, List, All, IfOk, OnOk, OnErr, length, slice_index};
 ghost use Rattle.cb_gf256.specs.Rows.{row_at, HaveLength};
 ghost use Rattle.cb_set.specs.Lost.{lost};
 ghost use Rattle.cb_world.specs.SetWord.{IsShaped, IsWordOf};
 ghost use Rattle.cb_set.specs.SetState.{parities};
 ghost use Rattle.cb_set.specs.Surviving.{surviving};
-ghost use Rattle.cb_world.specs.Fetched.{StandAt, with_given, rows_needed};
+ghost use Rattle.cb_world.specs.Fetched.{StandAt, with_given};
 
 use cb_erase::solve;
 use cb_gf256::Rows;
 use cb_member::{Members, NoMemory};
 use cb_node::Nodes;
-use cb_set::{SpanSet, is_lost};
+use cb_set::SpanSet;
 use std::alloc::Global;
 
 /// Gives the rows at these positions of the set out into the table.
@@ -60,38 +60,4 @@ pub fn solved(
         Ok(word) => Ok(word),
         Err(_) => Err(NoMemory),
     }
-}
-
-/// The row of the set's word at a position, in `into`: its own row where its shard is not lost (one
-/// row is given out), else the row that k others make (k rows are given out). Rows have 4,096
-/// bytes. Where there is no memory, at most k rows were given out, and `into` may have any bytes.
-pub fn fetch(
-    alloc: Global,
-    nodes: &mut Nodes,
-    members: &Members,
-    set: &SpanSet,
-    position: u32,
-    into: &mut [u8],
-) -> Result<(), NoMemory>
-    requires given { nodes.old.given + length set.now.positions < 2 ^ 64 }
-    requires counted { length nodes.old.nodes ≡ length members.now.nodes }
-    requires shaped { IsShaped members.now set.now }
-    requires few { length (lost members.now set.now.shards) ≤ parities set.now }
-    requires position { position < length set.now.positions }
-    requires into { length into.old ≡ 4096 }
-    requires word { (rows : List (List ℕ)) × IsWordOf nodes.old members.now set.now rows }
-    ensures nodes { OnOk result (nodes.new
-        ≡ with_given nodes.old (rows_needed members.now set.now position)) }
-    ensures error { OnErr result ((n : ℕ) × (n ≤ length set.now.positions)
-        × (nodes.new ≡ with_given nodes.old n)) }
-    ensures row { OnOk result ((rows : List (List ℕ)) → IsWordOf nodes.old members.now set.now rows → into.new ≡ row_at rows position) }
-{
-    let shard = set.shard(position);
-    if !is_lost(members, shard) {
-        nodes.give_row(shard.node, shard.key, into);
-        return Ok(());
-    }
-    let word = solved(alloc, nodes, members, set)?;
-    into.copy_from_slice(word.row(position));
-    Ok(())
 }

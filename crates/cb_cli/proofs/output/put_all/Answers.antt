@@ -1,4 +1,4 @@
-use Rattle.std.proofs.Common.{List, ℕ, ◌-◌, ◌≤◌, take, drop, subst, ◌∙◌, rules, arith}
+use Rattle.std.proofs.Common.{List, ℕ, ◌-◌, ◌≤◌, take, drop, subst, ◌∙◌, rules}
 use Rattle.std.proofs.lemmas.List.{take-take}
 use Rattle.std.specs.Io.KnownBytes.{Appends}
 use Rattle.cb_cli.proofs.Streams.{Appends-then, take-add}

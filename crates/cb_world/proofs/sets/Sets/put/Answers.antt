@@ -1,10 +1,12 @@
-use Rattle.std.proofs.Common.{ap, ◌∙◌}
-use Rattle.std.specs.FinMap as map
-use Rattle.cb_node.proofs.Laws.{view-insert}
+use Rattle.std.proofs.Common.{ap}
+use Rattle.cb_world.proofs.Grouped.{beside_tried, noted_stays}
 use Rattle.cb_world.proofs.sets.Sets.put.Goals as goal
 
-pub returns-clause-ok : goal.returns-clause-ok
-returns-clause-ok c =
-    view-insert c.self.inside.sets c.insert.new.self c.args.id c.args.kept
-    c.in_ok-insert.ensures.updates
-    ∙ ap (λ sets. map.insert sets c.args.id c.args.kept) c.self.view_is
+pub invariant_of-self : goal.invariant_of-self
+invariant_of-self c known =
+    let old = c.self.inside in let noted = c.note.new.self in
+    let same = beside_tried old.table c.put.new.self c.args.id c.args.kept c.put.result c.put.ensures.ok c.put.ensures.err in
+    noted_stays old.table c.put.new.self old.groups.list.items noted.list.items
+    old.groups.changed.items noted.changed.items c.args.id same
+    (c.self.invariant (c.note.ensures.was known)) (ap (λ v. v.items) (c.note.ensures.list known))
+    (c.note.ensures.noted known) (c.note.ensures.keeps known)

@@ -1,8 +1,12 @@
-use Rattle.std.proofs.Common.{ap, ◌∙◌}
-use Rattle.std.specs.FinMap as map
-use Rattle.cb_node.proofs.Laws.{view-remove}
+use Rattle.std.proofs.Common.{ap}
+use Rattle.cb_world.proofs.Grouped.{beside_removed, noted_stays}
 use Rattle.cb_world.proofs.sets.Sets.remove.Goals as goal
 
-pub returns : goal.returns
-returns c = view-remove c.self.inside.sets c.remove.new.self c.args.id c.remove.ensures.updates
-    ∙ ap (λ sets. map.remove sets c.args.id) c.self.view_is
+pub invariant_of-self : goal.invariant_of-self
+invariant_of-self c known =
+    let old = c.self.inside in let noted = c.note.new.self in
+    let same = beside_removed old.table c.remove.new.self c.args.id c.remove.ensures in
+    noted_stays old.table c.remove.new.self old.groups.list.items noted.list.items
+    old.groups.changed.items noted.changed.items c.args.id same
+    (c.self.invariant (c.note.ensures.was known)) (ap (λ v. v.items) (c.note.ensures.list known))
+    (c.note.ensures.noted known) (c.note.ensures.keeps known)

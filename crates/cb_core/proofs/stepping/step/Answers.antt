@@ -1,0 +1,30 @@
+use Rattle.std.proofs.Common.{sym, subst}
+use Rattle.std.specs.Prelude.{IfOk, OnErr}
+use Rattle.cb_core.specs.declared.event.Event.{Event}
+use Rattle.cb_core.specs.declared.event.Event.TheVariants as event
+use Rattle.cb_core.specs.Run.{LeavesAsBefore}
+use Rattle.cb_core.specs.Step.{Stops, SeatTurn}
+use Rattle.cb_core.specs.Unavailable.{TellsUnavailable}
+use Rattle.cb_core.proofs.Composing.{err_map, if_map}
+use Rattle.cb_core.proofs.Stopping.{stop_leaves}
+use Rattle.cb_core.proofs.Unavailables.{seat_tells}
+use Rattle.cb_core.proofs.stepping.step.Goals as goal
+
+pub returns-in-Turn-clause-unavailable : goal.returns-in-Turn-clause-unavailable
+returns-in-Turn-clause-unavailable c =
+    let w = c.args.world.now in let job = c.in-Turn.job in
+    subst (λ (e : Event). IfOk c.seat_turn.result (λ reply. TellsUnavailable w e reply))
+    (sym c.in-Turn.is)
+    (if_map (λ reply. TellsUnavailable w (event.Turn c.in-Turn.seat job) reply)
+    (λ reply. SeatTurn c.in-Turn.seat job w reply c.seat_turn.new.world) c.seat_turn.result c.seat_turn.ensures.step
+    (λ reply step. seat_tells job w c.seat_turn.new.world c.in-Turn.seat reply c.requires.sound
+    c.seat_turn.ensures.sound (rw c.in-Turn.is at c.requires.event).1 step))
+
+pub returns-in-Turn-clause-leaves : goal.returns-in-Turn-clause-leaves
+returns-in-Turn-clause-leaves c =
+    let w = c.args.world.now in let job = c.in-Turn.job in
+    subst (λ (e : Event). OnErr c.seat_turn.result (LeavesAsBefore w e c.seat_turn.new.world))
+    (sym c.in-Turn.is)
+    (err_map (LeavesAsBefore w (event.Turn c.in-Turn.seat job) c.seat_turn.new.world)
+    (Stops w (event.Turn c.in-Turn.seat job) c.seat_turn.new.world) c.seat_turn.result c.seat_turn.ensures.error
+    (λ stops. stop_leaves (event.Turn c.in-Turn.seat job) w c.seat_turn.new.world c.requires.sound stops))

@@ -1,0 +1,66 @@
+-- Which event is answered Unavailable, and exactly when.
+use Rattle.std.specs.Prelude.{◌≡◌, ℕ, ◌^◌, ◌<◌, List, [], ◌∷◌, Option, None, Some, length}
+use Rattle.cb_member.specs.declared.names.Loss.{Loss}
+use Rattle.cb_ptr.specs.declared.word.State.TheVariants as state
+use Rattle.cb_ptr.specs.Word.{state_of}
+use Rattle.cb_set.specs.Lost.{lost}
+use Rattle.cb_set.specs.SetState.{SetState, parities}
+use Rattle.cb_types.specs.declared.handle.SetId.{SetId}
+use Rattle.cb_types.specs.declared.job.Job.{Job}
+use Rattle.cb_types.specs.declared.job.Job.TheVariants as job
+use Rattle.cb_types.specs.declared.reply.Reply.{Reply}
+use Rattle.cb_types.specs.declared.reply.Reply.TheVariants as answer
+use Rattle.cb_world.specs.declared.homes.Home.{Home}
+use Rattle.cb_world.specs.Homes.{home_at}
+use Rattle.cb_world.specs.Sets.{set_in}
+use Rattle.cb_world.specs.World.{WorldState, word_at}
+use Rattle.cb_core.specs.declared.event.Event.{Event}
+use Rattle.cb_core.specs.declared.event.Event.TheVariants as event
+use Rattle.cb_core.specs.Holding.{NoOtherHolds}
+use Rattle.cb_core.specs.Step.{Step}
+
+-- The object is far, and its set has lost more shards than it has parities: the set's number, and
+-- all that it lost, in order of position, each as its node and the epoch of the crash.
+pub record IsLost (w : WorldState) (h : ℕ) (id : SetId) (losses : List Loss) : Type 0 where
+  pub away : state_of (word_at w.desk h) ≡ state.Far
+  pub home : Home
+  pub set : SetState
+  pub at : home_at w.far.homes h ≡ Some home
+  pub there : set_in w.far.sets home.set ≡ Some set
+  pub number : id ≡ record { n = home.set }
+  pub all : losses ≡ lost w.far.members set.shards
+  pub many : parities set < length losses
+
+-- the object that a job brings in where it is far: that of a read, a write or a swap
+abbrev pub brought_by : Job → Option ℕ
+brought_by (job.Read handle) = Some handle.n
+brought_by (job.Write handle at bytes) = Some handle.n
+brought_by (job.Swap handle) = Some handle.n
+brought_by other = None
+
+-- and that an event does
+abbrev pub asked_by : Event → Option ℕ
+asked_by (event.Turn seat job) = brought_by job
+asked_by (event.Step seat atomic) = None
+
+-- the turn is made: no other seat holds the far lock, and fewer than 2^40 turns were counted
+abbrev pub IsMade : WorldState → Event → Type 0
+IsMade w (event.Turn seat job) = NoOtherHolds w.seats seat × (w.far.counts.turns < 2 ^ 40)
+IsMade w (event.Step seat atomic) = ⊥
+
+-- An event is answered Unavailable exactly where it is a turn that brings in an object, and that is
+-- far in a set that has lost more shards than it has parities; and the answer tells the set and all
+-- that it lost.
+pub record TellsUnavailable (w : WorldState) (e : Event) (r : Reply) : Type 0 where
+  pub only : (id : SetId) (losses : List Loss) → r ≡ answer.Unavailable id losses
+      → (h : ℕ) × (asked_by e ≡ Some h) × IsLost w h id losses
+  pub each : (h : ℕ) (id : SetId) (losses : List Loss) → asked_by e ≡ Some h → IsMade w e
+      → IsLost w h id losses → r ≡ answer.Unavailable id losses
+
+-- The world leads by these events, with these replies, to another, and each of them is answered
+-- Unavailable exactly where it is to be.
+abbrev pub LeadsTelling : WorldState → List Event → List Reply → WorldState → Type 0
+LeadsTelling w [] [] new = new ≡ w
+LeadsTelling w (e ∷ es) (r ∷ rs) new = (between : WorldState) × Step w e r between
+    × TellsUnavailable w e r × LeadsTelling between es rs new
+LeadsTelling w es rs new = ⊥

@@ -1,0 +1,117 @@
+-- A line is answered with no want of room and no loss where its world makes it easy.
+use Rattle.std.proofs.Common.{◌≡◌, ℕ, ◌^◌, ◌<◌, List, Option, None, Some, refl, sym, subst}
+use Rattle.cb_ptr.specs.declared.word.State.{State}
+use Rattle.cb_ptr.specs.declared.word.State.TheVariants as state
+use Rattle.cb_ptr.specs.Word.{state_of, pins_of}
+use Rattle.cb_types.specs.declared.job.Job.{Job}
+use Rattle.cb_types.specs.declared.job.Job.TheVariants as job
+use Rattle.cb_types.specs.declared.request.Request.{Request}
+use Rattle.cb_types.specs.declared.request.Request.TheVariants.{Make, Read, Write, Free, Pin, Peek, Unpin, Filter, Leave}
+use Rattle.cb_types.specs.declared.reply.Reply.{Reply}
+use Rattle.cb_types.specs.declared.reply.Reply.TheVariants as answer
+use Rattle.cb_world.specs.OpenSteps.{NoneHolds}
+use Rattle.cb_world.specs.StillWords.{stamp_at}
+use Rattle.cb_world.specs.World.{WorldState, IsSoundWorld, word_at}
+use Rattle.cb_core.specs.declared.event.Event.TheVariants.{Turn}
+use Rattle.cb_core.specs.Pinning.{PinStep, UnpinStep, given, not_pinned as none_given, pin_refusal, refused, scope_full, taken}
+use Rattle.cb_core.specs.Step.{Step}
+use Rattle.cb_core.proofs.Laws.{IsEased, IsSwapRefusal, IsWhole, MakesEasy, SwapEnds, pin_calm, refused as swap_refused, stays, swap_sound, swap_turn, swapped, turn_calm}
+use Rattle.cb_lanes.specs.LineStep.{LineStep, ObjectStep, OtherStep, job_of, IsInReply, PeekStep, not_pinned, shown, PinLine, at_once, stays_far, swapped_in}
+use Rattle.cb_lanes.proofs.EasyLines.{IsEasyLine, job_whole}
+use Rattle.cb_lanes.proofs.Lone.{turn_alone}
+
+eased_as : (r q : Reply) → IsEased q → r ≡ q → IsEased r
+eased_as r q calm e = subst IsEased (sym e) calm
+
+-- ---- a pin of an object that is here
+here_refusal : (q : State) (version pins : ℕ) → q ≡ state.Here
+    → IsEased (pin_refusal q version pins)
+here_refusal q version pins here =
+    subst (λ (z : State). IsEased (pin_refusal z version pins)) (sym here) tt
+
+pin_here : (w new : WorldState) (seat h : ℕ) (r : Reply)
+    → state_of (word_at w.desk h) ≡ state.Here → PinStep seat h w r new → IsEased r
+pin_here w new seat h r here (scope_full full reply same) = eased_as r _ tt reply
+pin_here w new seat h r here (refused room not reply same) = eased_as r _
+    (here_refusal (state_of (word_at w.desk h)) (stamp_at w.desk h) (pins_of (word_at w.desk h))
+    here) reply
+pin_here w new seat h r here (taken room may reply t) = eased_as r _ tt reply
+
+-- a swap that is refused brings nothing in
+refused_in : (q : Reply) → IsSwapRefusal q → IsInReply q → ⊥
+refused_in answer.Stays refusal is = refusal
+refused_in (answer.Swapped f) refusal is = refusal
+refused_in q refusal is = is
+
+unpin_calm : (seat h : ℕ) (w new : WorldState) (r : Reply) → UnpinStep seat h w r new → IsEased r
+unpin_calm seat h w new r (none_given none reply same) = eased_as r _ tt reply
+unpin_calm seat h w new r (given reply t) = eased_as r _ tt reply
+
+peek_calm : (seat h : ℕ) (w new : WorldState) (r : Reply) → PeekStep seat h w r new → IsEased r
+peek_calm seat h w new r (not_pinned none reply same) = eased_as r _ tt reply
+peek_calm seat h w new r (shown at newest reply same) = eased_as r _ tt reply
+
+module _ (w : WorldState) (sound : IsSoundWorld w) (few : w.far.counts.turns < 2 ^ 40)
+    (lone : NoneHolds w.seats) (easy : MakesEasy w.desk w.far) where
+  event_calm : (seat : ℕ) (j : Job) (new : WorldState) (r : Reply) → IsWhole j
+      → Step w (Turn seat j) r new → IsEased r
+  event_calm seat j new r whole step =
+      turn_calm w new j r sound few whole easy (turn_alone seat j w new r lone step)
+
+  pin_line_calm : (seat h : ℕ) (new : WorldState) (r : Reply) → h < w.desk.settings.handles
+      → PinLine seat h w r new → IsEased r
+  pin_line_calm seat h new r below (at_once pin never) = pin_calm w new seat h r easy pin
+  pin_line_calm seat h new r below (stays_far away swap off) =
+      event_calm seat (job.Swap (record { n = h })) new r tt swap
+  pin_line_calm seat h new r below (swapped_in m q away swap is again) =
+      let step = turn_alone seat (job.Swap (record { n = h })) w m q lone swap in
+      by (swap_turn w m h q sound (swap_sound w m h q sound step) few below step).ends
+    where
+      by : SwapEnds m.desk h q → IsEased r
+      by (swap_refused refusal) = absurd (refused_in q refusal is)
+      by (stays e here) = pin_here m new seat h r here again
+      by (swapped f e here) = pin_here m new seat h r here again
+
+  object_calm : (seat : ℕ) (handle : Option ℕ) (request : Request) (new : WorldState) (r : Reply)
+      → ((h : ℕ) → handle ≡ Some h → h < w.desk.settings.handles)
+      → ObjectStep seat handle request w r new → IsEased r
+  object_calm seat None request new r ready x = eased_as r _ tt x.0
+  object_calm seat (Some h) (Pin name) new r ready x = pin_line_calm seat h new r (ready h refl) x
+  object_calm seat (Some h) (Peek name) new r ready x = peek_calm seat h w new r x
+  object_calm seat (Some h) (Unpin name) new r ready x = unpin_calm seat h w new r x
+  object_calm seat (Some h) (Read name) new r ready x =
+      event_calm seat (job.Read (record { n = h })) new r tt x
+  object_calm seat (Some h) (Write name at bytes) new r ready x =
+      event_calm seat (job.Write (record { n = h }) at bytes) new r tt x
+  object_calm seat (Some h) (Free name) new r ready x =
+      event_calm seat (job.Free (record { n = h })) new r tt x
+  object_calm seat (Some h) (Filter name) new r ready x =
+      event_calm seat (job.Filter (record { n = h })) new r tt x
+  object_calm seat (Some h) request new r ready x = absurd x
+
+  other_calm : (seat : ℕ) (handle : Option ℕ) (request : Request) (o : Option Job)
+      (new : WorldState) (r : Reply) → ((j : Job) → o ≡ Some j → IsWhole j)
+      → ((h : ℕ) → handle ≡ Some h → h < w.desk.settings.handles)
+      → OtherStep seat handle request o w r new → IsEased r
+  other_calm seat handle request (Some j) new r whole ready x =
+      event_calm seat j new r (whole j refl) x
+  other_calm seat handle request None new r whole ready x =
+      object_calm seat handle request new r ready x
+
+  go : (nodes : List ℕ) (seat : ℕ) (handle : Option ℕ) (request : Request) (new : WorldState)
+      (r : Reply) → IsEasyLine nodes request
+      → ((h : ℕ) → handle ≡ Some h → h < w.desk.settings.handles)
+      → LineStep seat handle request w r new → IsEased r
+  go nodes seat handle (Make name bytes) new r line ready x =
+      event_calm seat (job.Make bytes) new r tt x
+  go nodes seat handle Leave new r line ready x = eased_as r _ tt x.0
+  go nodes seat handle request new r line ready x = other_calm seat handle request
+      (job_of request) new r (job_whole nodes request line) ready x
+
+pub line_calm : (nodes : List ℕ) (seat : ℕ) (handle : Option ℕ) (request : Request)
+    (w new : WorldState) (r : Reply) → IsSoundWorld w → w.far.counts.turns < 2 ^ 40
+    → NoneHolds w.seats → MakesEasy w.desk w.far → IsEasyLine nodes request
+    → ((h : ℕ) → handle ≡ Some h → h < w.desk.settings.handles)
+    → LineStep seat handle request w r new → IsEased r
+line_calm nodes seat handle request w new r sound few lone easy line ready x =
+    go w sound few lone easy nodes seat handle request new r line ready x

@@ -1,0 +1,109 @@
+-- What turns, pins and the ends of pins keep, lines keep too.
+use Rattle.std.proofs.Common.{◌≡◌, ℕ, zero, suc, List, [], ◌∷◌, map, Option, None, Some, refl, sym, subst}
+use Rattle.cb_types.specs.declared.job.Job.{Job}
+use Rattle.cb_types.specs.declared.job.Job.TheVariants as job
+use Rattle.cb_types.specs.declared.request.Request.{Request}
+use Rattle.cb_types.specs.declared.request.Request.TheVariants.{Make, Read, Write, Free, Pin, Peek, Unpin, Filter, Leave}
+use Rattle.cb_types.specs.declared.reply.Reply.{Reply}
+use Rattle.cb_world.specs.declared.seats.Pin.{Pin as SeatPin}
+use Rattle.cb_world.specs.World.{WorldState}
+use Rattle.cb_core.specs.declared.event.Event.TheVariants.{Turn}
+use Rattle.cb_core.specs.Pinning.{PinStep, UnpinStep}
+use Rattle.cb_core.specs.Step.{Leads, Step, TurnStep, held as other_holds, free}
+use Rattle.cb_lanes.specs.GivingBack.{end_of, GivesAll, Rests}
+use Rattle.cb_lanes.specs.LineStep.{LineStep, ObjectStep, OtherStep, job_of, PeekStep, not_pinned, shown, PinLine, at_once, stays_far, swapped_in}
+
+-- the job is one of a line on an object
+abbrev pub IsOnObject : Job → Type 0
+IsOnObject (job.Make bytes) = Unit {0}
+IsOnObject (job.Read handle) = Unit {0}
+IsOnObject (job.Write handle at bytes) = Unit {0}
+IsOnObject (job.Free handle) = Unit {0}
+IsOnObject (job.Swap handle) = Unit {0}
+IsOnObject (job.Filter handle) = Unit {0}
+IsOnObject j = ⊥
+
+-- P is kept by each turn whose job may be, among them those on objects, and by pins and their ends
+pub record IsKept (P : WorldState → Type 0) (May : Job → Type 0) : Type 0 where
+  pub object : (j : Job) → IsOnObject j → May j
+  pub turn : (j : Job) (w new : WorldState) (r : Reply) → May j → TurnStep j w r new → P w → P new
+  pub pin : (seat h : ℕ) (w new : WorldState) (r : Reply) → PinStep seat h w r new → P w → P new
+  pub unpin : (seat h : ℕ) (w new : WorldState) (r : Reply) → UnpinStep seat h w r new → P w → P new
+
+-- the job of a line about no object may be
+abbrev pub MayBe : (Job → Type 0) → Request → Type 0
+MayBe May request = (j : Job) → job_of request ≡ Some j → May j
+
+module _ (P : WorldState → Type 0) (May : Job → Type 0) (k : IsKept P May) where
+  same_kept : (w new : WorldState) → new ≡ w → P w → P new
+  same_kept w new same p = subst P (sym same) p
+
+  event_kept : (seat : ℕ) (j : Job) (w new : WorldState) (r : Reply) → May j
+      → Step w (Turn seat j) r new → P w → P new
+  event_kept seat j w new r may (other_holds holder off holds is same) p = same_kept w new same p
+  event_kept seat j w new r may (free none step) p = k.turn j w new r may step p
+
+  on_object : (seat : ℕ) (j : Job) (w new : WorldState) (r : Reply) → IsOnObject j
+      → Step w (Turn seat j) r new → P w → P new
+  on_object seat j w new r is step p = event_kept seat j w new r (k.object j is) step p
+
+  pin_kept : (seat h : ℕ) (w new : WorldState) (r : Reply) → PinLine seat h w r new → P w → P new
+  pin_kept seat h w new r (at_once pin never) p = k.pin seat h w new r pin p
+  pin_kept seat h w new r (stays_far away swap off) p =
+      on_object seat (job.Swap (record { n = h })) w new r tt swap p
+  pin_kept seat h w new r (swapped_in m q away swap is again) p =
+      k.pin seat h m new r again (on_object seat (job.Swap (record { n = h })) w m q tt swap p)
+
+  peek_kept : (seat h : ℕ) (w new : WorldState) (r : Reply) → PeekStep seat h w r new → P w → P new
+  peek_kept seat h w new r (not_pinned none is same) p = same_kept w new same p
+  peek_kept seat h w new r (shown at newest is same) p = same_kept w new same p
+
+  object_kept : (seat : ℕ) (handle : Option ℕ) (request : Request) (w new : WorldState) (r : Reply)
+      → ObjectStep seat handle request w r new → P w → P new
+  object_kept seat None request w new r x p = same_kept w new x.1 p
+  object_kept seat (Some h) (Pin name) w new r x p = pin_kept seat h w new r x p
+  object_kept seat (Some h) (Peek name) w new r x p = peek_kept seat h w new r x p
+  object_kept seat (Some h) (Unpin name) w new r x p = k.unpin seat h w new r x p
+  object_kept seat (Some h) (Read name) w new r x p =
+      on_object seat (job.Read (record { n = h })) w new r tt x p
+  object_kept seat (Some h) (Write name at bytes) w new r x p =
+      on_object seat (job.Write (record { n = h }) at bytes) w new r tt x p
+  object_kept seat (Some h) (Free name) w new r x p =
+      on_object seat (job.Free (record { n = h })) w new r tt x p
+  object_kept seat (Some h) (Filter name) w new r x p =
+      on_object seat (job.Filter (record { n = h })) w new r tt x p
+  object_kept seat (Some h) request w new r x p = absurd x
+
+  other_kept : (seat : ℕ) (handle : Option ℕ) (request : Request) (o : Option Job)
+      (w new : WorldState) (r : Reply) → ((j : Job) → o ≡ Some j → May j)
+      → OtherStep seat handle request o w r new → P w → P new
+  other_kept seat handle request (Some j) w new r may x p =
+      event_kept seat j w new r (may j refl) x p
+  other_kept seat handle request None w new r may x p =
+      object_kept seat handle request w new r x p
+
+  gives_kept : (seat : ℕ) (pins : List SeatPin) (replies : List Reply) (w new : WorldState)
+      → Leads w (map (end_of seat) pins) replies new → P w → P new
+  gives_kept seat [] [] w new leads p = same_kept w new leads p
+  gives_kept seat [] (r ∷ replies) w new leads p = absurd leads
+  gives_kept seat (pin ∷ pins) [] w new leads p = absurd leads
+  gives_kept seat (pin ∷ pins) (r ∷ replies) w new (mid, step, rest) p =
+      gives_kept seat pins replies mid new rest (k.unpin seat pin.handle w mid r step p)
+
+  -- the pins of a seat are given back
+  pub all_kept : (seat : ℕ) (w new : WorldState) → GivesAll seat w new → P w → P new
+  all_kept seat w new leads p = gives_kept seat _ _ w new leads p
+
+  -- a line
+  pub line_kept : (seat : ℕ) (handle : Option ℕ) (request : Request) (w new : WorldState)
+      (r : Reply) → MayBe May request → LineStep seat handle request w r new → P w → P new
+  line_kept seat handle (Make name bytes) w new r may x p =
+      on_object seat (job.Make bytes) w new r tt x p
+  line_kept seat handle Leave w new r may x p = all_kept seat w new x.1 p
+  line_kept seat handle request w new r may x p =
+      other_kept seat handle request (job_of request) w new r may x p
+
+  -- a lane that rests
+  pub rests_kept : (left seat : ℕ) (w new : WorldState) → Rests left seat w new → P w → P new
+  rests_kept zero seat w new x p = all_kept seat w new x p
+  rests_kept (suc left) seat w new x p = same_kept w new x p

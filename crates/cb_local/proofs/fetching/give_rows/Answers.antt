@@ -1,0 +1,31 @@
+use Rattle.std.proofs.Common.{◌≡◌, ℕ, ◌+◌, Bool, List, length, get_or, Option, is_some, if◌then◌else◌, refl, ap, ◌∙◌, subst}
+use Rattle.std.specs.Option.{IfSome}
+use Rattle.std.proofs.lemmas.Option.{slice_get-get_or}
+use Rattle.cb_member.specs.declared.names.Shard.{Shard}
+use Rattle.cb_world.specs.Fetched.{StandAt}
+use Rattle.cb_local.proofs.Gathering.{one_given, row_stands}
+use Rattle.cb_local.proofs.fetching.give_rows.Goals as goal
+
+abbrev none_here : Shard
+none_here = record { node = record { n = 0 }; incarnation = 0; key = 0 }
+
+pub loop-i-preserved : goal.loop-i-preserved
+loop-i-preserved c =
+    let old = c.args.nodes.now in let now = c.loop-i.nodes in let shards = c.args.shards.now in
+    let positions = c.args.positions.now in let i = c.loop-i.i in let p = get_or positions i 0 in
+    let inv = c.loop-i.invariant in
+    let within = c.loop-i-test.true in
+    let at = slice_get-get_or shards p none_here (c.requires.within i 0 within) in
+    let row = λ (rows : List (List ℕ)) (stand : StandAt old shards rows positions).
+    row_stands old now shards positions i p (get_or shards p none_here) rows inv.nodes stand within
+    refl at in
+    let into = λ (rows : List (List ℕ)) (stand : StandAt old shards rows positions).
+    subst (λ (o : Option (List ℕ)). IfSome o (λ r. c.give_row.new.into ≡ r)) (row rows stand).0
+    c.give_row.ensures.row in
+    let mine = row c.requires.there.0 c.requires.there.1 in
+    one_given old now c.give_row.new.self shards positions c.loop-i.table i c.give_row.new.into inv
+    within (ap length (into c.requires.there.0 c.requires.there.1) ∙ mine.1)
+    (c.give_row.ensures.given
+    ∙ ap (λ (b : Bool). record now { given = now.given + (if b then 1 else 0) })
+    (c.give_row.ensures.there ∙ ap is_some mine.0))
+    into
