@@ -1,12 +1,10 @@
 -- What a script at ease keeps from line to line: its replies are calm, and each lane's own lines are
 -- answered as the lane is by itself.
-use Rattle.std.proofs.Common.{◌≡◌, ◌⊎◌, ℕ, ◌+◌, ◌^◌, ◌<◌, ◌≤◌, Bool, true, false, ◌&&◌, List, [], ◌∷◌, ◌++◌, length, map, take, get_or, Option, None, Some, refl, sym, ap, ◌∙◌, subst, arith, inl, inr, eq-eqb, nat_eq, append_assoc}
+use Rattle.std.proofs.Common.{◌≡◌, ℕ, ◌+◌, ◌^◌, ◌<◌, ◌≤◌, Bool, true, ◌&&◌, List, [], ◌∷◌, ◌++◌, length, map, take, get_or, Option, None, Some, refl, sym, ap, ◌∙◌, subst, arith, eq-eqb, nat_eq, append_assoc}
 use Rattle.std.specs.List.{AllByRecursion}
-use Rattle.std.proofs.lemmas.Bool.{false≢true}
 use Rattle.std.proofs.lemmas.List.{append-nil, length_push}
 use Rattle.std.proofs.lemmas.List.Sums.{count_by_more_yes}
 use Rattle.cb_types.specs.declared.answer.Answer.{Answer}
-use Rattle.cb_types.specs.declared.config.Config.{Config}
 use Rattle.cb_types.specs.declared.request.Request.{Request}
 use Rattle.cb_types.specs.declared.request.Request.TheVariants.{Make}
 use Rattle.cb_types.specs.declared.reply.Reply.{Reply}
@@ -24,7 +22,7 @@ use Rattle.cb_script.specs.Form.{IsRequest, IsScript}
 use Rattle.cb_script.specs.Roomy.{IsAtEase, is_make}
 use Rattle.cb_world.specs.World.{WorldState, IsSoundWorld, empty_world}
 use Rattle.cb_core.proofs.Laws.{IsEased, MakesEasy}
-use Rattle.cb_lanes.specs.Alone.{HasOwnLines, IsCalm, is_maker, pins_shared}
+use Rattle.cb_lanes.specs.Alone.{HasOwnLines, IsCalm, pins_shared}
 use Rattle.cb_lanes.specs.Asked.{HasLineReply, answer_to, asked}
 use Rattle.cb_lanes.specs.GivingBack.{Rests, lines_of}
 use Rattle.cb_lanes.specs.LineAnswered.{LineAnswered}
@@ -33,11 +31,10 @@ use Rattle.cb_lanes.specs.Names.{Names, handle_at, handle_in, kept_number}
 use Rattle.cb_lanes.specs.Scopes.{KeepScopes, ScopeSays, scope_of}
 use Rattle.cb_lanes.proofs.AloneGoes.{GoesAlone, Telling, alone_none, alone_push}
 use Rattle.cb_lanes.proofs.AloneLines.{IsNamed, any_at, count_front, each_at, names_known, one_maker}
-use Rattle.cb_lanes.proofs.Along.{Along, along_ready, line_form, same_name}
+use Rattle.cb_lanes.proofs.Along.{Along, along_ready, line_form}
 use Rattle.cb_lanes.proofs.CalmLines.{line_calm}
 use Rattle.cb_lanes.proofs.EasyLines.{IsAtRest, empty_at_rest, line_at_rest, rests_at_rest}
 use Rattle.cb_lanes.proofs.EasyWorlds.{crashed_nodes, easy_line, easy_world, few_answers, few_made}
-use Rattle.cb_lanes.proofs.NamesKept.{name_within}
 use Rattle.cb_lanes.proofs.OwnPins.{line_tells}
 use Rattle.cb_lanes.proofs.ScopesKept.{lines_own}
 use Rattle.cb_lanes.proofs.Turning.{Turning}

@@ -1,7 +1,8 @@
 -- Between the lines of a script at ease every turn is easy.
-use Rattle.std.proofs.Common.{◌≡◌, ◌≢◌, ◌⊎◌, ℕ, zero, suc, ◌+◌, ◌*◌, ◌-◌, ◌^◌, ◌<◌, ◌≤◌, Bool, true, false, List, [], ◌∷◌, length, map, take, get_or, filter, Contains, Option, None, Some, refl, sym, ap, ◌∙◌, subst, arith, inl, inr, eqb-true, nat_eq, if◌then◌else◌, length-map, length-take}
+use Rattle.std.proofs.Common.{◌≡◌, ◌⊎◌, ℕ, zero, suc, ◌+◌, ◌*◌, ◌<◌, ◌≤◌, Bool, true, false, List, [], ◌∷◌, length, map, take, get_or, filter, Contains, refl, sym, ap, ◌∙◌, subst, arith, inl, inr, eqb-true, if◌then◌else◌, length-take}
 use Rattle.std.specs.List.{range_with_len, sum_by}
 use Rattle.std.proofs.lemmas.Bool.{cases_Bool, cases_lt, false≢true}
+use Rattle.std.proofs.lemmas.List.{length-map}
 use Rattle.std.proofs.lemmas.List.Folds.{list_any_at}
 use Rattle.std.proofs.lemmas.List.FromFn.{get_or-range_with_len, length-range_with_len}
 use Rattle.std.proofs.lemmas.List.Sums.{length-filter}
@@ -21,7 +22,7 @@ use Rattle.cb_core.proofs.Laws.{MakesEasy, enough_roomy, never_gone}
 use Rattle.cb_lanes.specs.Asked.{asked}
 use Rattle.cb_lanes.specs.GivingBack.{lines_of}
 use Rattle.cb_lanes.specs.Names.{Names, kept_number}
-use Rattle.cb_lanes.specs.Scopes.{Scope, scope_of}
+use Rattle.cb_lanes.specs.Scopes.{Scope}
 use Rattle.cb_lanes.proofs.AloneLines.{any_at, count_front, makes_few, scope_none}
 use Rattle.cb_lanes.proofs.Along.{Along}
 use Rattle.cb_lanes.proofs.EasyLines.{IsAtRest, IsEasyLine}

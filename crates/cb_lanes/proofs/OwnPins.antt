@@ -1,8 +1,8 @@
 -- The pins on an object of a lane are the lane's own.
-use Rattle.std.proofs.Common.{◌≡◌, ◌≢◌, ◌⊎◌, ℕ, ◌+◌, ◌<◌, ◌≤◌, ◌^◌, ◌%◌, Bool, true, false, List, [], ◌∷◌, length, map, take, get_or, Option, None, Some, refl, sym, ap, ◌∙◌, subst, arith, inl, inr}
+use Rattle.std.proofs.Common.{◌≡◌, ◌≢◌, ◌⊎◌, ℕ, ◌<◌, ◌≤◌, true, List, [], length, map, take, Option, None, Some, refl, sym, ap, ◌∙◌, subst, arith, inl, inr}
 use Rattle.std.proofs.lemmas.Bool.{cases_lt}
 use Rattle.cb_ptr.specs.declared.word.State.TheVariants as state
-use Rattle.cb_ptr.specs.Word.{len_of, pins_of, state_of}
+use Rattle.cb_ptr.specs.Word.{len_of, pins_of}
 use Rattle.cb_types.specs.declared.answer.Answer.{Answer}
 use Rattle.cb_types.specs.declared.job.Job.TheVariants as job
 use Rattle.cb_types.specs.declared.request.Request.{Request}
@@ -15,15 +15,13 @@ use Rattle.cb_model.specs.Now.{Now as MapNow}
 use Rattle.cb_model.specs.Called.{calls_of, handle_of, value, value_at}
 use Rattle.cb_script.specs.declared.script.Line.{Line}
 use Rattle.cb_script.specs.Form.{AreLines}
-use Rattle.cb_world.specs.declared.seats.Pin.{Pin}
 use Rattle.cb_world.specs.Memory.{bytes_in}
-use Rattle.cb_world.specs.Now.{Now, now}
+use Rattle.cb_world.specs.Now.{now}
 use Rattle.cb_world.specs.Now.Now.{held}
-use Rattle.cb_world.specs.Seats.{SeatState, all_pins_on, idle_seat, pins_of_seat, pins_on}
+use Rattle.cb_world.specs.Seats.{SeatState, idle_seat, pins_of_seat, pins_on}
 use Rattle.cb_world.specs.StillWords.{contents_at, stamp_at}
-use Rattle.cb_world.specs.World.{WorldState, IsSoundWorld, word_at}
+use Rattle.cb_world.specs.World.{WorldState, word_at}
 use Rattle.cb_world.proofs.Laws.{bits, near_now}
-use Rattle.cb_mutate.specs.MapBeside.{IsMapBeside}
 use Rattle.cb_mutate.specs.MapCalls.{IsValue}
 use Rattle.cb_mutate.proofs.Laws.{bytes_length}
 use Rattle.cb_core.specs.Step.{TurnStep}
