@@ -73,6 +73,8 @@ pub mod TurnCallsFirst
 pub mod TurnCalls
 pub mod TurnCallsUnavailable
 pub mod Unavailables
+pub mod FarLooks
+pub mod TurnUnavailable
 pub mod Rejobbed
 pub mod Stopping
 pub mod WorkedUnavailable

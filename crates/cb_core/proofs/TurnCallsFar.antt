@@ -19,6 +19,7 @@ use Rattle.cb_world.specs.Now.{gone, now, now_as, is_gone}
 use Rattle.cb_world.specs.Plain.{Words}
 use Rattle.cb_world.specs.Sets.{set_in}
 use Rattle.cb_world.specs.SetWord.{is_broken}
+use Rattle.cb_world.specs.Sound.{Sound}
 use Rattle.cb_world.specs.Shown.{object_at}
 use Rattle.cb_world.specs.World.{IsKnown, word_at}
 use Rattle.cb_swapin.specs.SwapStep.{IsSwapStep}
@@ -86,22 +87,26 @@ swap_ends a b h r s k (home, at, z, hold) never =
         came f refl (whole e) (home_comes_in a.desk b.desk a.far b.far s then.0 h home f k then.1 at y).reads.here
 
 -- an object whose set is broken is gone, and no other is
-never_gone : (s : Shown) (h v : ℕ) (o : Object) → now_as s h false o ≡ gone v → ⊥
+pub never_gone : (s : Shown) (h v : ℕ) (o : Object) → now_as s h false o ≡ gone v → ⊥
 never_gone s h v (is.Empty zero) e = cc
 never_gone s h v (is.Empty (suc u)) e = cc
 never_gone s h v (is.Far len u words) e = cc
 never_gone s h v (is.Here len place) e = cc
 never_gone s h v (is.Claimed len place u words) e = cc
 
-lost_now : (x : Words) (far : FarState) (s : Shown) (h : ℕ) (id : SetId) (losses : List Loss)
-    → IsKnown x far s → IsLostFar far h id losses → (v : ℕ) × (now s far h ≡ gone v)
-lost_now x far s h id losses k z =
-    let lies = k.sound.away.sound.away.home h z.home z.at in
-    let holds = (k.sound.away.sound.sets.worded z.home.set lies.0 lies.1).1.holds z.home.position
-    z.home.slot h lies.2 in (
-      holds.version,
-      (λ i. now_as s h (lost_gone far h id losses z i) (holds.away i)),
-    )
+pub lost_away : (far : FarState) (s : Shown) (h : ℕ) (id : SetId) (losses : List Loss)
+    → Sound s far → IsLostFar far h id losses
+    → (len v : ℕ) × (words : List ℕ) × (object_at s h ≡ is.Far len v words)
+lost_away far s h id losses sound z =
+    let lies = sound.away.sound.away.home h z.home z.at in
+    let holds = (sound.away.sound.sets.worded z.home.set lies.0 lies.1).1.holds z.home.position
+    z.home.slot h lies.2 in (holds.len, holds.version, holds.words, holds.away)
+
+pub lost_now : (far : FarState) (s : Shown) (h : ℕ) (id : SetId) (losses : List Loss)
+    → Sound s far → IsLostFar far h id losses → (v : ℕ) × (now s far h ≡ gone v)
+lost_now far s h id losses sound z =
+    let o = lost_away far s h id losses sound z in
+    (o.1, (λ i. now_as s h (lost_gone far h id losses z i) (o.3 i)))
 
 pub bring_ends : (a b : Holding Words) (h : ℕ) (r : Reply) (s : Shown) → IsKnown a.desk a.far s
     → StillBring h a r b → BringEnds a b h r
@@ -122,7 +127,7 @@ bring_ends a b h r s k (won m n id (home, at, z, hold) evict again some) =
     by two (came f e kept here) = came f e whole here
     by two (crammed frames loose nodes e kept) = crammed frames loose nodes e whole
     by two (broke i l e z) =
-        let then = lost_now n.desk n.far two.shown h i l two.known z in
+        let then = lost_now n.far two.shown h i l two.known.sound z in
         absurd (never_gone s h then.0 (object_at s h)
         (ap (λ (lost : Bool). now_as s h lost (object_at s h)) (sym whole)
         ∙ sym (two.same_now h) ∙ then.1))

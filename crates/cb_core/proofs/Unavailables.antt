@@ -43,7 +43,7 @@ use Rattle.cb_core.specs.Pinning.{pin_refusal, scope_full, refused as pin_refuse
 use Rattle.cb_core.specs.Run.{LeadsSoundly}
 use Rattle.cb_core.specs.Step.{AtomicStep, SeatTurn, Step, TurnStep, worn, done}
 use Rattle.cb_core.specs.Step.SeatTurn.{held as is_held, free as is_free}
-use Rattle.cb_core.specs.Unavailable.{IsLost, brought_by, asked_by, TellsUnavailable, LeadsTelling}
+use Rattle.cb_core.specs.Unavailable.{IsInLost, IsLost, brought_by, asked_by, TellsUnavailable, LeadsTelling}
 use Rattle.cb_core.proofs.Settings.{step_settings}
 use Rattle.cb_core.proofs.TurnCalls.{abort_turn, begin_turn, commit_turn, compact_turn, crash_turn, evict_turn, filter_turn, free_turn, join_turn, make_turn, merge_turn, pair_turn, part_turn, patch_turn, rebuild_turn, ship_turn}
 use Rattle.cb_core.proofs.TurnCallsFar.{IsLostFar}
@@ -51,10 +51,9 @@ use Rattle.cb_core.proofs.TurnCallsLost.{gone_lost, lost_far}
 use Rattle.cb_core.proofs.TurnCallsUnavailable.{IsUnavailable, read_gone, read_unavailable, swap_is_gone, swap_unavailable, write_gone, write_unavailable}
 
 -- ---- an object whose set has lost too many
-pub lost_is : (w : WorldState) (s : Shown) (h : ℕ) (id : SetId) (l : List Loss) → IsKnown w.desk w.far s
-    → IsLostFar w.far h id l → IsLost w h id l
-lost_is w s h id l k z = record {
-  away = lost_far w.desk w.far s h id l k z;
+pub far_in : (far : FarState) (h : ℕ) (id : SetId) (l : List Loss) → IsLostFar far h id l
+    → IsInLost far h id l
+far_in far h id l z = record {
   home = z.home;
   set = z.set;
   at = z.at;
@@ -62,22 +61,31 @@ lost_is w s h id l k z = record {
   number = z.number;
   all = z.lost;
   many = subst (λ (m : List Loss). parities z.set < length m) (sym z.lost)
-      (ltb-true (parities z.set) (length (lost w.far.members z.set.shards)) z.broken);
+      (ltb-true (parities z.set) (length (lost far.members z.set.shards)) z.broken);
 }
 
-far_is : (w : WorldState) (h : ℕ) (id : SetId) (l : List Loss) → IsLost w h id l → IsLostFar w.far h id l
-far_is w h id l z = record {
+pub in_far : (far : FarState) (h : ℕ) (id : SetId) (l : List Loss) → IsInLost far h id l
+    → IsLostFar far h id l
+in_far far h id l z = record {
   home = z.home;
   set = z.set;
   at = z.at;
   there = z.there;
-  broken = lt-ltb (parities z.set) (length (lost w.far.members z.set.shards))
+  broken = lt-ltb (parities z.set) (length (lost far.members z.set.shards))
       (subst (λ (m : List Loss). parities z.set < length m) z.all z.many);
   number = z.number;
   lost = z.all;
 }
 
-gone_is : (far : FarState) (h : ℕ) (id : SetId) (l : List Loss) → IsLostFar far h id l
+lost_is : (w : WorldState) (s : Shown) (h : ℕ) (id : SetId) (l : List Loss) → IsKnown w.desk w.far s
+    → IsLostFar w.far h id l → IsLost w h id l
+lost_is w s h id l k z =
+    record { away = lost_far w.desk w.far s h id l k z; home = far_in w.far h id l z }
+
+far_is : (w : WorldState) (h : ℕ) (id : SetId) (l : List Loss) → IsLost w h id l → IsLostFar w.far h id l
+far_is w h id l z = in_far w.far h id l z.home
+
+pub gone_is : (far : FarState) (h : ℕ) (id : SetId) (l : List Loss) → IsLostFar far h id l
     → is_gone far h ≡ true
 gone_is far h id l z = gone_is_broken far h z.home z.set z.at z.there ∙ z.broken
 
@@ -92,7 +100,7 @@ at_lost w s h v k z =
     let y = gone_lost w.far h z.1 in (y.0, y.1, lost_is w s h y.0 y.1 k y.2)
 
 -- it has one set, and that has lost one list of shards
-one_lost : (far : FarState) (h : ℕ) (i j : SetId) (l m : List Loss) → IsLostFar far h i l
+pub one_lost : (far : FarState) (h : ℕ) (i j : SetId) (l m : List Loss) → IsLostFar far h i l
     → IsLostFar far h j m → answer.Unavailable i l ≡ answer.Unavailable j m
 one_lost far h i j l m x y =
     let home : x.home ≡ y.home = home_same x.home y.home (sym x.at ∙ y.at) in

@@ -1,6 +1,6 @@
 -- Worked examples of objects whose set has lost too many shards: what meets each definition, and
 -- what breaks one part.
-use Rattle.std.proofs.Common.{◌≡◌, ℕ, true, false, List, [], ◌∷◌, None, Some, length, refl, ap, sym, ◌∙◌, subst, lit<, arith}
+use Rattle.std.proofs.Common.{◌≡◌, ℕ, ◌^◌, true, false, List, [], ◌∷◌, None, Some, length, refl, ap, sym, ◌∙◌, subst, lit<, arith}
 use Rattle.std.specs.FinMap as map
 use Rattle.cb_member.specs.declared.names.Loss.{Loss}
 use Rattle.cb_member.specs.declared.names.Shard.{Shard}
@@ -20,7 +20,7 @@ use Rattle.cb_world.specs.World.{WorldState}
 use Rattle.cb_core.specs.declared.event.Atomic.TheVariants as atomic
 use Rattle.cb_core.specs.declared.event.Event.{Event}
 use Rattle.cb_core.specs.declared.event.Event.TheVariants as event
-use Rattle.cb_core.specs.Unavailable.{IsLost, asked_by, IsMade, TellsUnavailable, LeadsTelling}
+use Rattle.cb_core.specs.Unavailable.{IsInLost, IsLost, TurnTells, asked_by, IsMade, TellsUnavailable, LeadsTelling}
 use Rattle.cb_core.proofs.WorkedPins.{desk, away, calm, seat_with}
 use Rattle.cb_core.proofs.WorkedRoom.{counts, far_of, first_down, span_with}
 
@@ -70,20 +70,22 @@ there members = grind (arith, map.gets)
 is_lost : IsLost (world both_down away) 0 five both_lost
 is_lost = record {
   away = refl;
-  home = home;
-  set = set;
-  at = refl;
-  there = there both_down;
-  number = refl;
-  all = refl;
-  many = lit< tt;
+  home = record {
+    home = home;
+    set = set;
+    at = refl;
+    there = there both_down;
+    number = refl;
+    all = refl;
+    many = lit< tt;
+  };
 }
 
 not_away : IsLost (world both_down calm) 0 five both_lost → ⊥
 not_away z = let e : 2 ≡ 1 = ap state_number z.away in absurd (omega (arith, e))
 
 no_home : (id : SetId) (losses : List Loss) → IsLost (world both_down away) 1 id losses → ⊥
-no_home id losses z = none_home z.home z.at
+no_home id losses z = none_home z.home.home z.home.at
   where
     none_home : (h : Home) → None ≡ Some h → ⊥
     none_home h e = cc
@@ -96,26 +98,26 @@ set_is s e = cc
 
 another_set : IsLost (world both_down away) 0 (record { n = 4 }) both_lost → ⊥
 another_set z =
-    let same = home_is (world both_down away) z.home refl z.at in
-    let e : 4 ≡ 5 = ap (λ (id : SetId). id.n) z.number ∙ ap (λ (h : Home). h.set) (sym same) in
+    let same = home_is (world both_down away) z.home.home refl z.home.at in
+    let e : 4 ≡ 5 = ap (λ (id : SetId). id.n) z.home.number ∙ ap (λ (h : Home). h.set) (sym same) in
     absurd (omega (arith, e))
 
 set_found : (members : Membership) (id : SetId) (losses : List Loss)
-    → (z : IsLost (world members away) 0 id losses) → set ≡ z.set
+    → (z : IsLost (world members away) 0 id losses) → set ≡ z.home.set
 set_found members id losses z =
-    let same = home_is (world members away) z.home refl z.at in
-    set_is z.set (sym (there members) ∙ ap (λ (h : Home). set_in (far members).sets h.set) same
-    ∙ z.there)
+    let same = home_is (world members away) z.home.home refl z.home.at in
+    set_is z.home.set (sym (there members) ∙ ap (λ (h : Home). set_in (far members).sets h.set) same
+    ∙ z.home.there)
 
 loses_one_of_two : IsLost (world both_down away) 0 five (loss 0 1 ∷ []) → ⊥
-loses_one_of_two z = let e : 1 ≡ 2 = ap (λ (l : List Loss). length l) z.all
+loses_one_of_two z = let e : 1 ≡ 2 = ap (λ (l : List Loss). length l) z.home.all
     ∙ ap (λ (s : SetState). length (lost both_down s.shards)) (sym (set_found both_down five (loss 0 1 ∷ []) z))
     in absurd (omega (arith, e))
 
 -- one shard is lost, and the set has a parity for it
 not_many : IsLost (world first_down away) 0 five (loss 0 1 ∷ []) → ⊥
 not_many z =
-    let many = z.many in let e : 1 ≡ parities z.set =
+    let many = z.home.many in let e : 1 ≡ parities z.home.set =
     ap (λ (s : SetState). parities s) (set_found first_down five (loss 0 1 ∷ []) z) in
     absurd (omega (arith, many, e))
 
@@ -200,6 +202,62 @@ reads_all_the_same : IsMade lost_world read
     → TellsUnavailable lost_world read (answer.Bytes 3 (10 ∷ 11 ∷ [])) → ⊥
 reads_all_the_same made z =
     let e : 9 ≡ 5 = ap number_of (not_told _ made z) in absurd (omega (arith, e))
+
+-- ---- a turn over any desk
+is_in_lost : IsInLost (far both_down) 0 five both_lost
+is_in_lost = is_lost.home
+
+free_tells : TurnTells (job.Free handle) (far both_down) (answer.Version 4)
+free_tells = record {
+  only = λ id l e. absurd (version_lost id l e);
+  each = λ h id l asked few z. absurd (none_asked h asked);
+}
+  where
+    version_lost : (id : SetId) (l : List Loss) → answer.Version 4 ≡ answer.Unavailable id l → ⊥
+    version_lost id l e = cc
+
+    none_asked : (h : ℕ) → None ≡ Some h → ⊥
+    none_asked h e = cc
+
+free_tells_of_a_set : TurnTells (job.Free handle) (far both_down) unavailable → ⊥
+free_tells_of_a_set z = none_asked (z.only five both_lost refl).0 (z.only five both_lost refl).1
+  where
+    none_asked : (h : ℕ) → None ≡ Some h → ⊥
+    none_asked h e = cc
+
+-- a read of an object whose set has a parity for the shard that it lost
+turn_of_another : TurnTells (job.Read handle) (far first_down) (answer.Unavailable five (loss 0 1 ∷ [])) → ⊥
+turn_of_another z = by (z.only five (loss 0 1 ∷ []) refl)
+  where
+    asked_is : (h : ℕ) → Some 0 ≡ Some h → h ≡ 0
+    asked_is h e = cc
+
+    by : (h : ℕ) × (asked_by read ≡ Some h) × IsInLost (far first_down) h five (loss 0 1 ∷ []) → ⊥
+    by (h, asked, lost) = not_many (record {
+      away = refl;
+      home = subst (λ (i : ℕ). IsInLost (far first_down) i five (loss 0 1 ∷ [])) (asked_is h asked) lost;
+    })
+
+turn_tells_another_set : TurnTells (job.Read handle) (far both_down)
+    (answer.Unavailable (record { n = 4 }) both_lost) → ⊥
+turn_tells_another_set z =
+    let e : 4 ≡ 5 = ap number_of (z.each 0 five both_lost refl (lit< tt) is_in_lost) in
+    absurd (omega (arith, e))
+
+turn_reads_all_the_same : TurnTells (job.Read handle) (far both_down) (answer.Bytes 3 (10 ∷ 11 ∷ [])) → ⊥
+turn_reads_all_the_same z =
+    let e : 9 ≡ 5 = ap number_of (z.each 0 five both_lost refl (lit< tt) is_in_lost) in
+    absurd (omega (arith, e))
+
+-- one that is refused for its number tells of none
+refused_tells : (f : FarState) → f.counts.turns ≡ 2 ^ 40 → TurnTells (job.Read handle) f answer.Worn
+refused_tells f end = record {
+  only = λ id l e. absurd (worn_lost id l e);
+  each = λ h id l asked few z. absurd (omega (arith, few, end));
+}
+  where
+    worn_lost : (id : SetId) (l : List Loss) → answer.Worn ≡ answer.Unavailable id l → ⊥
+    worn_lost id l e = cc
 
 -- ---- runs
 no_events : LeadsTelling lost_world [] [] lost_world

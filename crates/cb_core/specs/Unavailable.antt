@@ -1,4 +1,4 @@
--- Which event is answered Unavailable, and exactly when.
+-- Which turn is answered Unavailable, and which event, and exactly when.
 use Rattle.std.specs.Prelude.{◌≡◌, ℕ, ◌^◌, ◌<◌, List, [], ◌∷◌, Option, None, Some, length}
 use Rattle.cb_member.specs.declared.names.Loss.{Loss}
 use Rattle.cb_ptr.specs.declared.word.State.TheVariants as state
@@ -11,6 +11,7 @@ use Rattle.cb_types.specs.declared.job.Job.TheVariants as job
 use Rattle.cb_types.specs.declared.reply.Reply.{Reply}
 use Rattle.cb_types.specs.declared.reply.Reply.TheVariants as answer
 use Rattle.cb_world.specs.declared.homes.Home.{Home}
+use Rattle.cb_world.specs.FarState.{FarState}
 use Rattle.cb_world.specs.Homes.{home_at}
 use Rattle.cb_world.specs.Sets.{set_in}
 use Rattle.cb_world.specs.World.{WorldState, word_at}
@@ -19,17 +20,21 @@ use Rattle.cb_core.specs.declared.event.Event.TheVariants as event
 use Rattle.cb_core.specs.Holding.{NoOtherHolds}
 use Rattle.cb_core.specs.Step.{Step}
 
--- The object is far, and its set has lost more shards than it has parities: the set's number, and
--- all that it lost, in order of position, each as its node and the epoch of the crash.
-pub record IsLost (w : WorldState) (h : ℕ) (id : SetId) (losses : List Loss) : Type 0 where
-  pub away : state_of (word_at w.desk h) ≡ state.Far
+-- The object has its home in a set that has lost more shards than it has parities: the set's number,
+-- and all that it lost, in order of position, each as its node and the epoch of the crash.
+pub record IsInLost (far : FarState) (h : ℕ) (id : SetId) (losses : List Loss) : Type 0 where
   pub home : Home
   pub set : SetState
-  pub at : home_at w.far.homes h ≡ Some home
-  pub there : set_in w.far.sets home.set ≡ Some set
+  pub at : home_at far.homes h ≡ Some home
+  pub there : set_in far.sets home.set ≡ Some set
   pub number : id ≡ record { n = home.set }
-  pub all : losses ≡ lost w.far.members set.shards
+  pub all : losses ≡ lost far.members set.shards
   pub many : parities set < length losses
+
+-- The object is far, and its set has lost more shards than it has parities.
+pub record IsLost (w : WorldState) (h : ℕ) (id : SetId) (losses : List Loss) : Type 0 where
+  pub away : state_of (word_at w.desk h) ≡ state.Far
+  pub home : IsInLost w.far h id losses
 
 -- the object that a job brings in where it is far: that of a read, a write or a swap
 abbrev pub brought_by : Job → Option ℕ
@@ -38,7 +43,15 @@ brought_by (job.Write handle at bytes) = Some handle.n
 brought_by (job.Swap handle) = Some handle.n
 brought_by other = None
 
--- and that an event does
+-- Over any desk a turn is answered Unavailable exactly where it is made for an object that it brings
+-- in, and that has its home in a set that has lost more shards than it has parities.
+pub record TurnTells (job : Job) (far : FarState) (r : Reply) : Type 0 where
+  pub only : (id : SetId) (losses : List Loss) → r ≡ answer.Unavailable id losses
+      → (h : ℕ) × (brought_by job ≡ Some h) × IsInLost far h id losses
+  pub each : (h : ℕ) (id : SetId) (losses : List Loss) → brought_by job ≡ Some h
+      → far.counts.turns < 2 ^ 40 → IsInLost far h id losses → r ≡ answer.Unavailable id losses
+
+-- the object that an event brings in
 abbrev pub asked_by : Event → Option ℕ
 asked_by (event.Turn seat job) = brought_by job
 asked_by (event.Step seat atomic) = None

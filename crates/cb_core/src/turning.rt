@@ -7,6 +7,7 @@ ghost use Rattle.cb_world.specs.Sound.{Sound};
 ghost use Rattle.cb_world.specs.World.{AreCounted, IsConfigured};
 ghost use Rattle.cb_core.specs.Jobs.{IsJob};
 ghost use Rattle.cb_core.specs.TurnLeaves.{OutcomeWrites, TurnLeaves};
+ghost use Rattle.cb_core.specs.Unavailable.{TurnTells};
 ghost use Rattle.cb_core.specs.Turned.{Does, Stops, Turned, Stopped, counted, ReadLacks, Reads};
 
 use crate::bringing::{make_with_room, swap_object, write_anywhere};
@@ -31,7 +32,8 @@ pub const MOST_TURNS: u64 = 1 << 40;
 /// Where that is refused the answer is NoRoom: how many frames there are, and how many spans are
 /// loose and how many nodes have room, as the eviction found them; NoFrame is the answer of no
 /// turn. A call on a far object brings it in first, and is answered as the bringing in where the
-/// object stays far. A read is `bring_to_read` and then a read of the object, where it is here. A
+/// object stays far; Unavailable exactly where its home is a set that has lost more shards than it
+/// has parities, with the set and all that it lost. A read is `bring_to_read` and then a read of the object, where it is here. A
 /// filter, a rebuild, a compaction and the steps of an eviction (begin, ship, commit, abort) and of
 /// a joining pair (pair, patch, merge, part) win no room: each is one part alone. Where there is no
 /// memory, the turn is counted and what its parts did before stays; a commit, an abort and a
@@ -52,6 +54,7 @@ pub fn turn<D: Desk>(
         (record { desk = desk.old; far = far.old }) reply
         (record { desk = desk.new; far = far.new })) }
     ensures no_frame { IfOk result (λ reply. reply ≡ answer.NoFrame → ⊥) }
+    ensures unavailable { IfOk result (λ reply. TurnTells job.now far.old reply) }
     ensures error { OnErr result (Stopped (λ d es e. D.run d es e) (λ d s. D.shows d s)
         (ReadLacks (λ d es e. D.run d es e) (λ d s. D.shows d s)) (D.settings desk.old) job.now
         (record { desk = desk.old; far = far.old }) (record { desk = desk.new; far = far.new })) }

@@ -9,6 +9,8 @@ use Rattle.cb_core.proofs.NoFrames.{Never, does_never, reads_never}
 use Rattle.cb_core.proofs.Counting.{counted_sound, stopped, turned}
 use Rattle.cb_core.proofs.TurnCarries.{reads}
 use Rattle.cb_core.proofs.TurnLeft.{laws_of, outcome_leaves, turn_leaves}
+use Rattle.cb_core.specs.Unavailable.{TurnTells}
+use Rattle.cb_core.proofs.TurnUnavailable.{turned_tells}
 use Rattle.cb_core.proofs.turning.turn.Goals as goal
 
 pub work-requires-clause-sound : goal.work-requires-clause-sound
@@ -63,6 +65,22 @@ returns-clause-leaves g c =
     (holding c.work.new.desk c.work.new.far) c.work.result c.requires.job
     (record { configured = c.requires.configured; shown = c.requires.sound }) c.requires.counted
     (returns-clause-turned g c) (returns-clause-error g c)
+
+pub returns-then-not-count_turn-clause-unavailable : goal.returns-then-not-count_turn-clause-unavailable
+returns-then-not-count_turn-clause-unavailable g c =
+    let d = c.count_turn.ensures.worn c.if-not-count_turn.true in
+    turned_tells (λ d es e. g.D.Desk.run d es e) (λ d s. g.D.Desk.shows d s) g.met.D.Desk.follows
+    (g.D.Desk.settings c.args.desk.now) c.args.job.now (holding c.args.desk.now c.args.far.now)
+    (holding c.args.desk.now c.count_turn.new.far) answer.Worn c.requires.sound
+    (worn d.0 refl d.1 (g.met.D.Desk.none c.args.desk.now))
+
+pub returns-clause-unavailable : goal.returns-clause-unavailable
+returns-clause-unavailable g c =
+    if_map (λ r. TurnTells c.args.job.now c.args.far.now r) _ c.work.result (returns-clause-turned g c)
+    (λ r turned. turned_tells (λ d es e. g.D.Desk.run d es e) (λ d s. g.D.Desk.shows d s)
+    g.met.D.Desk.follows (g.D.Desk.settings c.args.desk.now) c.args.job.now
+    (holding c.args.desk.now c.args.far.now) (holding c.work.new.desk c.work.new.far) r
+    c.requires.sound turned)
 
 pub returns-clause-no_frame : goal.returns-clause-no_frame
 returns-clause-no_frame g c =
