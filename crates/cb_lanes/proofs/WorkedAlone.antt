@@ -9,7 +9,7 @@ use Rattle.cb_model.specs.declared.object.Object.{Object}
 use Rattle.cb_model.specs.declared.object.Object.TheVariants as has
 use Rattle.cb_script.specs.declared.script.Line.{Line}
 use Rattle.cb_lanes.specs.Scopes.{NamedPin}
-use Rattle.cb_lanes.specs.Alone.{is_own, leaves, HasOwnLines, NamedObject, LaneState, fresh_lane, now_named, alone_after, AloneSays, KeepAlone, IsCalm}
+use Rattle.cb_lanes.specs.Alone.{is_own, leaves, HasOwnLines, NamedNow, LaneState, fresh_lane, now_named, alone_after, AloneSays, KeepAlone, IsCalm}
 
 abbrev a : List ℕ
 a = 97 ∷ []
@@ -74,8 +74,8 @@ a_pin_leaves_nothing = refl
 
 -- ---- what a lane has
 
-abbrev object : List ℕ → Object → NamedObject
-object name is = record { name = name; object = is }
+abbrev object : List ℕ → Object → NamedNow
+object name is = record { name = name; now = Some is }
 
 abbrev on : List ℕ → ℕ → NamedPin
 on name version = record { name = name; version = version }

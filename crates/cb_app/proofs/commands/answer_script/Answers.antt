@@ -23,6 +23,8 @@ returns-clause-answered c =
         in_order = told.in_order;
         scopes = told.scopes;
         idle = told.idle;
+        calm = told.calm;
+        alone = told.alone;
       },
       c.in_ok-text.ensures,
     )
