@@ -66,11 +66,11 @@ fn same_set(a: &Far, b: &Far, id: u64) -> bool {
 
 /// Whether each of the six nodes holds as many rows in both.
 fn same_nodes(a: &Far, b: &Far) -> bool {
-    for n in 0..6 {
-        if n >= a.nodes.len() || n >= b.nodes.len() {
+    for n in 0..6u8 {
+        if u32::from(n) >= a.nodes.len() || u32::from(n) >= b.nodes.len() {
             return false;
         }
-        let node = NodeId { n: n as u16 };
+        let node = NodeId { n };
         if a.nodes.held(node) != b.nodes.held(node) {
             return false;
         }
