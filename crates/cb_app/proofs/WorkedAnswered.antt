@@ -1,6 +1,7 @@
 -- Worked example: what `seq` leaves and puts for a script of two lines, and for each part what breaks it.
-use Rattle.std.proofs.Common.{◌≡◌, ℕ, List, [], ◌∷◌, length, Some, None, refl, sym, ap, ◌∙◌, arith, inl, String, Global}
+use Rattle.std.proofs.Common.{◌≡◌, ℕ, Bool, true, false, ◌&&◌, List, [], ◌∷◌, length, Some, None, refl, sym, ap, ◌∙◌, subst, arith, inl, lit≤, lit<, nat_eq, eqb-true, String, Global}
 use Rattle.std.specs.Prelude.{codes, string_bytes}
+use native.Mathlib.Decide.{ℕ_discrete}
 use Rattle.cb_types.specs.declared.answer.Answer.{Answer}
 use Rattle.cb_types.specs.declared.reply.Reply.{Reply}
 use Rattle.cb_types.specs.declared.reply.Reply.TheVariants as replies
@@ -8,11 +9,13 @@ use Rattle.cb_types.specs.declared.request.Request.{Request}
 use Rattle.cb_types.specs.declared.request.Request.TheVariants.{Leave}
 use Rattle.cb_script.specs.declared.script.Line.{Line}
 use Rattle.cb_script.specs.declared.script.Script.{Script}
+use Rattle.cb_script.specs.Roomy.{IsAtEase}
 use Rattle.cb_script.proofs.PublicLaws.{differ, small, made_and_read as input, make_a, read_a, script, spelled}
 use Rattle.cb_text.proofs.Laws.{made_and_read_text}
 use Rattle.cb_model.specs.Legal.{IsLegalInOrder}
 use Rattle.cb_model.proofs.Laws.{legal_in_order}
 use Rattle.cb_text.specs.Line.{text_of}
+use Rattle.cb_lanes.specs.Alone.{HasOwnLines, KeepAlone, fresh_lane, is_maker}
 use Rattle.cb_lanes.specs.Held.{HoldsAnswers}
 use Rattle.cb_lanes.specs.LineStep.{LinesLead}
 use Rattle.cb_lanes.specs.Lost.{AreInOrder, losses_of}
@@ -55,6 +58,38 @@ record IsLeft (world : WorldState) : Type 0 where
   holds : HoldsAnswers world answers
   idle : (seat : ℕ) → pins_of_seat world.seats seat ≡ []
 
+-- lane 1 has own lines, and no other lane has one
+at_ease : IsAtEase script
+at_ease = record {
+  frames = lit≤ tt;
+  room = lit< tt;
+  nodes = lit≤ tt;
+  makes = lit≤ tt;
+  crashes = lit≤ tt;
+  steps = refl;
+}
+
+own_lines : HasOwnLines script.lines 1
+own_lines = record { from_one = lit≤ tt; pins = refl }
+
+of_lane_1 : (lane : ℕ) (name : List ℕ) → (nat_eq 1 lane && is_maker script.lines lane name) ≡ true → 1 ≡ lane
+of_lane_1 lane name own = eqb-true 1 lane (left (nat_eq 1 lane) (is_maker script.lines lane name) own)
+  where
+    left : (a b : Bool) → (a && b) ≡ true → a ≡ true
+    left true b e = refl
+    left false b e = absurd (let z : false ≡ true = e in cc)
+
+kept : (lane : ℕ) → KeepAlone script.lines lane fresh_lane answers
+kept lane = by (ℕ_discrete 1 lane)
+  where
+    by : Dec (1 ≡ lane) → KeepAlone script.lines lane fresh_lane answers
+    by (yes e) = subst (λ (k : ℕ). KeepAlone script.lines k fresh_lane answers) e
+        (λ own. (record { n = 0 }, refl), (λ own. refl, tt))
+    by (no off) = (
+      λ own. absurd (off (of_lane_1 lane (codes "a") own)),
+      (λ own. absurd (off (of_lane_1 lane (codes "a") own)), tt),
+    )
+
 answered : (world : WorldState) → IsLeft world → IsAnswered script (ending_of world answers)
 answered world there = record {
   config = refl;
@@ -70,6 +105,8 @@ answered world there = record {
   in_order = tt;
   scopes = (tt, (tt, tt));
   idle = there.idle;
+  calm = λ ease. (tt, (tt, tt));
+  alone = λ ease lane has. kept lane;
 }
 
 no_world : (end : Ending) → end.world ≡ None → IsAnswered script end → ⊥
@@ -110,6 +147,16 @@ another_refusal world is = is.replies.1.0
 a_loss : (end : Ending) → losses_of end.answers ≡ [] → length end.losses ≡ 1
     → IsAnswered script end → ⊥
 a_loss end none one is = omega (arith, sym one ∙ ap length (is.losses ∙ none))
+
+-- at ease no read wants room
+a_want_of_room : (world : WorldState) → IsAnswered script
+    (ending_of world (made ∷ answer 3 read_a (replies.NoRoom 8 0 6) ∷ [])) → ⊥
+a_want_of_room world is = (is.calm at_ease).1.0
+
+-- and none shows what no line of the lane wrote
+another_lane_s_bytes : (world : WorldState) → IsAnswered script
+    (ending_of world (made ∷ answer 3 read_a (replies.Bytes 2 (12 ∷ 11 ∷ [])) ∷ [])) → ⊥
+another_lane_s_bytes world is = absurd (let e = (is.alone at_ease 1 own_lines).1.0 refl in cc)
 
 -- the losses are not in the order of their epochs
 out_of_order : (end : Ending) → (AreInOrder end.losses → ⊥) → IsAnswered script end → ⊥

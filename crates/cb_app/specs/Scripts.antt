@@ -3,7 +3,9 @@ use Rattle.std.specs.Prelude.{◌≡◌, ℕ, List, [], map, None, Some}
 use Rattle.std.specs.List.{AllByRecursion}
 use Rattle.cb_script.specs.declared.script.Script.{Script}
 use Rattle.cb_script.specs.declared.fault.Reason.{Reason}
+use Rattle.cb_script.specs.Roomy.{IsAtEase}
 use Rattle.cb_model.specs.Legal.{IsLegalInOrder}
+use Rattle.cb_lanes.specs.Alone.{HasOwnLines, IsCalm, KeepAlone, fresh_lane}
 use Rattle.cb_lanes.specs.Asked.{asked, HasLineReply}
 use Rattle.cb_lanes.specs.Held.{HoldsAnswers}
 use Rattle.cb_lanes.specs.LineStep.{LinesLead}
@@ -39,6 +41,11 @@ pub record IsAnswered (script : Script) (end : Ending) : Type 0 where
   -- each answer is as its lane's pins say, and at the end no lane has one
   pub scopes : KeepScopes [] end.answers
   pub idle : (seat : ℕ) → pins_of_seat world.seats seat ≡ []
+  -- at ease no line is told of a want of room or of a loss, and the own lines of each lane are
+  -- answered as if it were alone
+  pub calm : IsAtEase script → AllByRecursion (λ a. IsCalm a.reply) end.answers
+  pub alone : IsAtEase script → (lane : ℕ) → HasOwnLines script.lines lane
+      → KeepAlone script.lines lane fresh_lane end.answers
 
 -- The ending of a script that was checked: its configuration, and nothing else.
 pub record IsChecked (script : Script) (end : Ending) : Type 0 where

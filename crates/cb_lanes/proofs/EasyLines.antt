@@ -1,6 +1,6 @@
 -- What a script at ease keeps from line to line: no batch is leaving and no pair is joining, no
 -- node has crashed but those that its lines name, and no seat has an open write.
-use Rattle.std.proofs.Common.{◌≡◌, ℕ, true, false, List, [], replicate, Contains, Option, None, Some, refl, sym, ap, ◌∙◌, subst, inl, inr, eq-eqb}
+use Rattle.std.proofs.Common.{◌≡◌, ℕ, true, false, List, replicate, Contains, Option, None, Some, refl, sym, ap, ◌∙◌, subst, inl, inr, eq-eqb}
 use Rattle.std.proofs.lemmas.Bool.{cases_lt, false≢true}
 use Rattle.std.proofs.lemmas.List.{get_or-replicate, get_or_past}
 use Rattle.cb_types.specs.declared.config.Config.{Config}
@@ -12,7 +12,7 @@ use Rattle.cb_types.specs.declared.reply.Reply.{Reply}
 use Rattle.cb_script.specs.Roomy.{is_crash, is_step}
 use Rattle.cb_world.specs.declared.seats.Pin.{Pin as SeatPin}
 use Rattle.cb_world.specs.FarState.{FarState}
-use Rattle.cb_world.specs.Seats.{SeatState, claims_of_seat, idle_seat, seat_at, with_pins}
+use Rattle.cb_world.specs.Seats.{SeatState, idle_seat, seat_at, with_pins}
 use Rattle.cb_world.specs.World.{WorldState, empty_world}
 use Rattle.cb_world.proofs.Laws.{seat_beside}
 use Rattle.cb_core.specs.Pinning.{PinStep, UnpinStep, given, not_pinned, refused, scope_full, taken}
@@ -21,10 +21,7 @@ use Rattle.cb_lanes.specs.GivingBack.{GivesAll, Rests}
 use Rattle.cb_lanes.specs.LineStep.{LineStep, job_of}
 use Rattle.cb_lanes.proofs.LineKeeps.{IsKept, IsOnObject, MayBe, all_kept, line_kept, rests_kept}
 use Rattle.cb_lanes.proofs.Lone.{turn_seats}
-
--- no seat has an open write
-abbrev NoClaims : List SeatState → Type 0
-NoClaims seats = (seat : ℕ) → claims_of_seat seats seat ≡ []
+use Rattle.cb_lanes.proofs.LooseSpans.{NoClaims}
 
 -- what is kept
 pub record IsAtRest (nodes : List ℕ) (w : WorldState) : Type 0 where

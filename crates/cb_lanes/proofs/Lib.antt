@@ -1,6 +1,7 @@
 pub mod NamesKept
 pub mod LineKeeps
 pub mod Lone
+pub mod LooseSpans
 pub mod EasyLines
 pub mod CalmLines
 pub mod Stamps
@@ -17,6 +18,15 @@ pub mod Filtering
 pub mod Scoping
 pub mod ScopesKept
 pub mod Along
+pub mod AloneValues
+pub mod AloneReplies
+pub mod AloneGoes
+pub mod AloneLines
+pub mod FewPins
+pub mod Versions
+pub mod OwnPins
+pub mod EasyWorlds
+pub mod Eases
 pub mod LinesFixed
 pub mod LossOrder
 pub mod WorkedLines

@@ -9,7 +9,7 @@ use Rattle.cb_model.specs.declared.object.Object.{Object}
 use Rattle.cb_model.specs.declared.object.Object.TheVariants as has
 use Rattle.cb_script.specs.declared.script.Line.{Line}
 use Rattle.cb_lanes.specs.Scopes.{NamedPin}
-use Rattle.cb_lanes.specs.Alone.{is_own, leaves, HasOwnLines, NamedObject, LaneState, fresh_lane, now_named, alone_after, AloneSays, KeepAlone, IsCalm}
+use Rattle.cb_lanes.specs.Alone.{is_own, leaves, HasOwnLines, NamedNow, LaneState, fresh_lane, now_named, alone_after, AloneSays, KeepAlone, IsCalm}
 
 abbrev a : List ℕ
 a = 97 ∷ []
@@ -55,7 +55,7 @@ a_leave_is_not : is_own lines 1 (told 1 Leave (Left 0)) ≡ false
 a_leave_is_not = refl
 
 lane_1_has_own_lines : HasOwnLines lines 1
-lane_1_has_own_lines = record { from_one = lit≤ tt; pins = refl; }
+lane_1_has_own_lines = record { from_one = lit≤ tt; pins = refl }
 
 lane_0_has_none : HasOwnLines lines 0 → ⊥
 lane_0_has_none is = let n = is.from_one in omega (arith, n)
@@ -74,8 +74,8 @@ a_pin_leaves_nothing = refl
 
 -- ---- what a lane has
 
-abbrev object : List ℕ → Object → NamedObject
-object name is = record { name = name; object = is }
+abbrev object : List ℕ → Object → NamedNow
+object name is = record { name = name; now = Some is }
 
 abbrev on : List ℕ → ℕ → NamedPin
 on name version = record { name = name; version = version }
@@ -89,10 +89,10 @@ lane = record {
 
 -- the same without pins
 abbrev loose : LaneState
-loose = record { objects = lane.objects; scope = []; }
+loose = record { objects = lane.objects; scope = [] }
 
 abbrev full : LaneState
-full = record { objects = lane.objects; scope = replicate 16 (on b 3); }
+full = record { objects = lane.objects; scope = replicate 16 (on b 3) }
 
 the_last_change_counts : now_named b lane.objects ≡ Some (has.Held 3 (7 ∷ 8 ∷ []))
 the_last_change_counts = refl
@@ -221,8 +221,25 @@ answers = told 1 (Make b (2 ∷ [])) (made 1) ∷ told 2 (Write a 0 (5 ∷ [])) 
     ∷ told 1 (Write b 0 (4 ∷ [])) (Version 2) ∷ []
 
 kept : KeepAlone lines 1 fresh_lane answers
-kept = (λ e. (record { n = 1 }, refl), (λ e. absurd cc, (λ e. refl, (λ e. refl, (λ e. absurd cc, (λ e. absurd cc,
-    (λ e. refl, tt)))))))
+kept = (
+  λ e. (record { n = 1 }, refl),
+  (
+    λ e. absurd cc,
+    (
+      λ e. refl,
+      (
+        λ e. refl,
+        (
+          λ e. absurd cc,
+          (
+            λ e. absurd cc,
+            (λ e. refl, tt),
+          ),
+        ),
+      ),
+    ),
+  ),
+)
 
 -- a write behind a leave that is still answered pinned
 a_scope_that_keeps_what_was_given_back : KeepAlone lines 1 fresh_lane (told 1 (Make b (2 ∷ [])) (made 1)

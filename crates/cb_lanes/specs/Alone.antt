@@ -63,13 +63,13 @@ pub record HasOwnLines (lines : List Line) (lane : ℕ) : Type 0 where
 -- ---- what a lane has by itself
 
 -- what the map has under a name
-pub record NamedObject : Type 0 where
+pub record NamedNow : Type 0 where
   pub name : List ℕ
-  pub object : Object
+  pub now : Now
 
--- the objects of the lane's names, the last change first, and its scope
+-- what the map has under the lane's names, the last change first, and its scope
 pub record LaneState : Type 0 where
-  pub objects : List NamedObject
+  pub objects : List NamedNow
   pub scope : Scope
 
 -- a lane before its first line
@@ -77,24 +77,19 @@ abbrev pub fresh_lane : LaneState
 fresh_lane = record { objects = []; scope = [] }
 
 -- what the map has under a name, by the last change
-abbrev pub now_named : List ℕ → List NamedObject → Now
+abbrev pub now_named : List ℕ → List NamedNow → Now
 now_named name [] = None
-now_named name (o ∷ older) = if bytes_eq o.name name then Some o.object else now_named name older
-
--- the objects where the map has this under the name
-abbrev pub with_now : List ℕ → Now → List NamedObject → List NamedObject
-with_now name None objects = objects
-with_now name (Some object) objects = record { name = name; object = object } ∷ objects
+now_named name (o ∷ older) = if bytes_eq o.name name then o.now else now_named name older
 
 -- what a completed call makes of what the map has
 abbrev pub now_after : Now → Request → Reply → Now
 now_after now request r = fold changed now (change_of (event_of request r))
 
 -- the objects after a completed call on this name, where there is one
-abbrev pub objects_after : List NamedObject → Option (List ℕ) → Request → Reply → List NamedObject
+abbrev pub objects_after : List NamedNow → Option (List ℕ) → Request → Reply → List NamedNow
 objects_after objects None request r = objects
 objects_after objects (Some name) request r =
-    with_now name (now_after (now_named name objects) request r) objects
+    record { name = name; now = now_after (now_named name objects) request r } ∷ objects
 
 -- the lane after one of its own lines, or a leave
 abbrev pub alone_after : LaneState → Request → Reply → LaneState

@@ -2,8 +2,10 @@ ghost use Rattle.std.specs.Prelude.{◌≡◌, ◌<◌, ◌≤◌, ℕ, List, []
 ghost use Rattle.std.specs.List.{AllByRecursion, cons_option};
 ghost use Rattle.cb_model.specs.Legal.{IsLegalInOrder};
 ghost use Rattle.cb_script.specs.Form.{IsRequest, IsScript};
+ghost use Rattle.cb_script.specs.Roomy.{IsAtEase};
 ghost use Rattle.cb_world.specs.Seats.{pins_of_seat};
 ghost use Rattle.cb_world.specs.World.{IsSoundWorld, empty_world};
+ghost use Rattle.cb_lanes.specs.Alone.{HasOwnLines, IsCalm, KeepAlone, fresh_lane};
 ghost use Rattle.cb_lanes.specs.Asked.{answer_to, asked, HasLineReply};
 ghost use Rattle.cb_lanes.specs.Held.{HoldsAnswers};
 ghost use Rattle.cb_lanes.specs.LineAnswered.{LineAnswered};
@@ -34,7 +36,9 @@ pub struct SeqEnd {
 }
 
 /// Answers the lines of a script in order, in one world. Behind the last line of a lane its pins
-/// are given back. A line costs a look at its name by its hash, and what its event costs.
+/// are given back. A line costs a look at its name by its hash, and what its event costs. On a
+/// script at ease no line is told of a want of room or of a loss, and the own lines of each lane
+/// are answered as if it were alone.
 pub fn run_seq(alloc: Global, s: &Script) -> Result<SeqEnd, NoMemory>
     requires script { IsScript s.now }
     ensures lines { IfOk result (λ end. map asked end.answers ≡ s.now.lines) }
@@ -49,6 +53,10 @@ pub fn run_seq(alloc: Global, s: &Script) -> Result<SeqEnd, NoMemory>
     ensures in_order { IfOk result (λ end. AreInOrder end.losses) }
     ensures scopes { IfOk result (λ end. KeepScopes [] end.answers) }
     ensures idle { IfOk result (λ end. (seat : ℕ) → pins_of_seat end.world.seats seat ≡ []) }
+    ensures calm { IfOk result (λ end.
+        IsAtEase s.now → AllByRecursion (λ a. IsCalm a.reply) end.answers) }
+    ensures alone { IfOk result (λ end. IsAtEase s.now → (lane : ℕ)
+        → HasOwnLines s.now.lines lane → KeepAlone s.now.lines lane fresh_lane end.answers) }
 {
     let mut world = World::new(alloc, s.config)?;
     let mut names = HashMap::new(alloc);

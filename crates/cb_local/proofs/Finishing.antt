@@ -25,7 +25,7 @@ use Rattle.cb_local.specs.Rooms.{AllHaveRoom}
 use Rattle.cb_local.proofs.Taking.{none_taken, taken_below, taken_sound}
 
 -- how many rows are given at most
-rows_few : (s : Shown) (begun : FarState) (pair : JoiningState) (a b : SetState)
+pub rows_few : (s : Shown) (begun : FarState) (pair : JoiningState) (a b : SetState)
     → Sound s begun → IsFreshPair begun pair a b → rows_given pair.taken (parities a) ≤ 36
 rows_few s begun pair a b sound fresh =
     let c = fresh_code s begun pair a b sound.away fresh in

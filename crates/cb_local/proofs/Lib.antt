@@ -13,3 +13,5 @@ pub mod PutStep
 pub mod Finishing
 pub mod LocalKept
 pub mod WorkedLocal
+pub mod LocalLaws
+pub mod Laws

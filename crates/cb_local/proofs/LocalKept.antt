@@ -37,6 +37,25 @@ none_put : (n : ℕ) → put_shards (replicate n None) ≡ []
 none_put zero = refl
 none_put (suc n) = none_put n
 
+-- the first two sets that can be joined stand, where they begin to
+pub paired_fresh : (far begun : FarState) (r : Reply) (x : IsPaired far begun r)
+    → IsFreshPair begun (begun_pair x.x x.y x.a x.b) x.a x.b
+paired_fresh far begun r x =
+    subst (λ (f : FarState). IsFreshPair f (begun_pair x.x x.y x.a x.b) x.a x.b) (sym x.state)
+    (record {
+      was = refl;
+      a_stands = record {
+        there = x.first.can.a_there;
+        same = refl;
+        whole = x.first.can.matched.whole_a;
+      };
+      b_stands = record {
+        there = x.first.can.b_there;
+        same = refl;
+        whole = x.first.can.matched.whole_b;
+      };
+    })
+
 module _ (s : Shown) (far begun : FarState) (x y : SetId)
     (step : BeginStep far begun (answer.Pair x y)) where
   pub pair_is : IsPaired far begun (answer.Pair x y)
@@ -52,20 +71,7 @@ module _ (s : Shown) (far begun : FarState) (x y : SetId)
       → far.nodes.given + 36 < 2 ^ 64 → IsBegunPair s begun pair pair_is.a pair_is.b
   begun_is sound keys sets rows = record {
     sound = sound;
-    fresh = subst (λ (f : FarState). IsFreshPair f pair pair_is.a pair_is.b) (sym pair_is.state)
-        (record {
-          was = refl;
-          a_stands = record {
-            there = pair_is.first.can.a_there;
-            same = refl;
-            whole = pair_is.first.can.matched.whole_a;
-          };
-          b_stands = record {
-            there = pair_is.first.can.b_there;
-            same = refl;
-            whole = pair_is.first.can.matched.whole_b;
-          };
-        });
+    fresh = paired_fresh far begun (answer.Pair x y) pair_is;
     undone = none_put (length pair_is.a.shards);
     ascend = IsStrictlyIncreasing-filter (live_at pair_is.b)
         (range_with_len 0 (length pair_is.b.positions)) (range_ascends 0 _);

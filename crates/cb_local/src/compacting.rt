@@ -94,11 +94,7 @@ fn go_through(alloc: Global, far: &mut Far) -> Result<Reply, NoMemory>
 /// row is given or put.
 ///
 /// Where there is no memory, the far state is as before, but that at most 36 rows were given.
-pub fn compact_local<D: Desk>(
-    alloc: Global,
-    desk: &mut D,
-    far: &mut Far,
-) -> Result<Reply, NoMemory>
+pub fn compact_local<D: Desk>(alloc: Global, desk: &mut D, far: &mut Far) -> Result<Reply, NoMemory>
     requires sound { (s : Shown) × D.shows desk.old s × Sound s far.old }
     requires note { HoldsNoPair far.old }
     requires keys { far.old.counts.keys + 20 < 2 ^ 62 }

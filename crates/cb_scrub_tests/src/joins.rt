@@ -33,9 +33,13 @@ fn join_there(alloc: Global, world: &mut World) -> Result<Reply, NoMemory>
 /// Whether the replies are the same ending of a join.
 fn are_same(a: &Reply, b: &Reply) -> bool {
     match (a, b) {
-        (Reply::Merged { set, moved }, Reply::Merged { set: other, moved: count }) => {
-            set.n == other.n && moved == count
-        }
+        (
+            Reply::Merged { set, moved },
+            Reply::Merged {
+                set: other,
+                moved: count,
+            },
+        ) => { set.n == other.n && moved == count }
         (Reply::NodeFull { node }, Reply::NodeFull { node: other }) => node.n == other.n,
         (Reply::NoPair, Reply::NoPair) => true,
         _ => false,
@@ -64,14 +68,18 @@ fn same_set(a: &Far, b: &Far, id: u64) -> bool {
     }
 }
 
-/// Whether each node holds as many rows in both.
+/// Whether each of the six nodes holds as many rows in both.
 fn same_nodes(a: &Far, b: &Far) -> bool {
-    let mut same = a.nodes.len() == b.nodes.len();
-    for n in 0..a.nodes.len() as u16 {
+    for n in 0..6u8 {
+        if u32::from(n) >= a.nodes.len() || u32::from(n) >= b.nodes.len() {
+            return false;
+        }
         let node = NodeId { n };
-        same &= u32::from(n) < b.nodes.len() && a.nodes.held(node) == b.nodes.held(node);
+        if a.nodes.held(node) != b.nodes.held(node) {
+            return false;
+        }
     }
-    same
+    true
 }
 
 /// Whether both have drawn as much, hold the same of the first three sets, and join no pair.
@@ -81,16 +89,36 @@ fn same_far(a: &Far, b: &Far) -> bool {
     drawn && sets && same_nodes(a, b) && a.joining.is_none() && b.joining.is_none()
 }
 
-/// Whether both ways to join the sets of a script's world lead to the same, but that the compute
-/// side was given so many rows.
+/// Whether both ways to join the sets of these worlds, which are alike, lead to the same, but that
+/// the compute side was given so many rows.
+fn compare(alloc: Global, there: &mut World, here: &mut World, rows: u64) -> Result<bool, Fail>
+    requires there { IsSoundWorld there.old }
+    requires here { IsSoundWorld here.old }
+{
+    let before = given_in(here);
+    let said = join_there(alloc, there)?;
+    let told = join_here(alloc, here)?;
+    let given = given_in(there) == before && given_in(here).wrapping_sub(before) == rows;
+    Ok(are_same(&said, &told) && given && same_far(&here.far, &there.far))
+}
+
+/// The same in a world and another one that the same lines lead to.
+fn join_beside(
+    alloc: Global,
+    text: &[u8],
+    there: &mut World,
+    rows: u64,
+) -> Result<bool, Fail>
+    requires { IsSoundWorld there.old }
+{
+    let mut here = world_of(alloc, text)?;
+    compare(alloc, there, &mut here, rows)
+}
+
+/// The same in two worlds that these lines lead to.
 fn both_join(alloc: Global, text: &[u8], rows: u64) -> Result<bool, Fail> {
     let mut there = world_of(alloc, text)?;
-    let mut here = world_of(alloc, text)?;
-    let before = given_in(&here);
-    let said = join_there(alloc, &mut there)?;
-    let told = join_here(alloc, &mut here)?;
-    let given = given_in(&there) == before && given_in(&here).wrapping_sub(before) == rows;
-    Ok(are_same(&said, &told) && given && same_far(&here.far, &there.far))
+    join_beside(alloc, text, &mut there, rows)
 }
 
 #[test]

@@ -5,7 +5,8 @@ use std::test::Fail;
 
 /// Two sets on two data rows and two parities each; of the first one position 1 is back, of the
 /// second one position 0.
-pub(crate) const TWO_SETS: &[u8] = b"carbink 1 k=2 r=2 nodes=6 frames=8 room=64 handles=16 turns=0\n\
+pub(crate) const TWO_SETS: &[u8] =
+    b"carbink 1 k=2 r=2 nodes=6 frames=8 room=64 handles=16 turns=0\n\
     1 make a 01\n1 make b 02\n1 filter a\n1 evict\n1 make c 03\n1 make d 04\n1 filter c\n\
     1 evict\n1 read b\n1 read c\n";
 

@@ -20,4 +20,6 @@ returns c =
       in_order = told.in_order;
       scopes = told.scopes;
       idle = told.idle;
+      calm = told.calm;
+      alone = told.alone;
     })

@@ -6,6 +6,7 @@ use Rattle.cb_script.specs.Form.{IsRequest}
 use Rattle.cb_model.proofs.Laws.{legal_in_order}
 use Rattle.cb_lanes.specs.Asked.{asked}
 use Rattle.cb_lanes.proofs.Along.{Along, along_answered, along_ready, along_none, along_holds, lines_push, line_form}
+use Rattle.cb_lanes.proofs.Eases.{eases_answered, eases_none}
 use Rattle.cb_lanes.specs.LinesLeft.{AreLeft, lanes_of}
 use Rattle.cb_lanes.proofs.ScopesKept.{line_known, fresh_by, lines_lanes, lines_own, leads_end, split_line, LeadsOn, soundly_end}
 use Rattle.cb_world.specs.World.{empty_world}
@@ -27,6 +28,8 @@ loop-line-init c = record {
   lines = search rules;
   losses = rw c.new-answers.ensures.empty c.new-losses.ensures.items;
   left = rw c.as_slice.ensures.items at c.lines_by_lane-left.ensures.left;
+  ease = λ ease. rw c.new-answers.ensures.empty
+      (eases_none c.args.s.now c.in_ok-world.world c.in_ok-world.ensures.empty);
 }
 
 pub answer_line-requires-clause-lane : goal.answer_line-requires-clause-lane
@@ -90,13 +93,18 @@ loop-line-preserved c =
     subst (λ (lanes : List ℕ). AreLeft lanes c.loop-line.left) split c.loop-line.invariant.left in
     let fresh = fresh_by answers (take i lines) l.lane.n l.request (kept_number c.loop-line.names) along.kept
     so_far (line_known config.nodes [] lines i l c.requires.script.lines lt at) in
-    let done = c.in_ok-answer_line.ensures.line later left in record {
-      along = along_answered config later answers c.answer_line.new.answers l c.loop-line.world
-          c.answer_line.new.world c.loop-line.names c.answer_line.new.names along
-          (omega (arith, lt, few, most)) (omega (arith, low)) form.0 fresh done;
+    let done = c.in_ok-answer_line.ensures.line later left in
+    let then : Along config later c.answer_line.new.answers c.answer_line.new.world c.answer_line.new.names =
+    along_answered config later answers c.answer_line.new.answers l c.loop-line.world
+    c.answer_line.new.world c.loop-line.names c.answer_line.new.names along
+    (omega (arith, lt, few, most)) (omega (arith, low)) form.0 fresh done in record {
+      along = then;
       lines = lines_push lines i answers c.answer_line.new.answers l done.reply lt at so_far done.answer;
       losses = c.in_ok-answer_line.ensures.losses c.loop-line.invariant.losses;
       left = c.in_ok-answer_line.ensures.left later left;
+      ease = λ ease. eases_answered c.args.s.now i later answers c.answer_line.new.answers l
+          c.loop-line.world c.answer_line.new.world c.loop-line.names c.answer_line.new.names
+          c.requires.script ease lt at so_far along then done (c.loop-line.invariant.ease ease);
     }
 
 pub returns-clause-lines : goal.returns-clause-lines
@@ -151,3 +159,9 @@ returns-clause-idle c =
     λ seat. c.loop-line.invariant.along.scopes.gone seat
     (ap (λ (ls : List Line). lines_of seat (lanes_of ls))
     (drop_all c.loop-line.line-index c.args.s.now.lines past))
+
+pub returns-clause-calm : goal.returns-clause-calm
+returns-clause-calm c = λ ease. (c.loop-line.invariant.ease ease).calm
+
+pub returns-clause-alone : goal.returns-clause-alone
+returns-clause-alone c = λ ease lane has. ((c.loop-line.invariant.ease ease).alone lane has).kept
