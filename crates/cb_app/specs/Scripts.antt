@@ -54,9 +54,11 @@ pub record IsChecked (script : Script) (end : Ending) : Type 0 where
   pub no_losses : end.losses ≡ []
   pub no_world : end.world ≡ None
 
--- The script that the plan draws was answered, and this is the summary of its answers.
+-- The script that the plan draws was answered, no line of it with want of room, and this is the
+-- summary of its answers.
 pub record IsSummed (plan : Plan) (end : Ending) (text : List ℕ) : Type 0 where
   pub answered : IsAnswered (made_script plan.seed plan.lines plan.lanes) end
+  pub calm : AllByRecursion (λ a. IsCalm a.reply) end.answers
   pub text_is : text ≡ summary plan.seed plan.lines plan.lanes end.answers
 
 -- the text tells a line and a reason for which this holds
