@@ -3,4 +3,5 @@ pub mod Runs
 pub mod Tops
 pub mod WorkedCommands
 pub mod WorkedAnswered
+pub mod WorkedDraws
 pub mod WorkedSchedules

@@ -7,17 +7,20 @@ use Rattle.cb_cli.specs.declared.outcome.Due.TheVariants as dues
 use Rattle.cb_cli.specs.declared.outcome.Failure.{Failure}
 use Rattle.cb_cli.specs.declared.outcome.Failure.TheVariants.{Write}
 use Rattle.cb_cli.specs.declared.words.Command.{Command}
-use Rattle.cb_cli.specs.Words.{Name, NameNone}
+use Rattle.cb_cli.specs.declared.words.Asked.TheVariants.{Run}
+use Rattle.cb_cli.specs.declared.words.Plan.{Plan}
+use Rattle.cb_cli.specs.Words.{AskFor, Name, NameNone}
 use Rattle.cb_cli.specs.Taken.{IsTaken, taken_of}
 use Rattle.cb_cli.specs.Fronts.{GetsFront}
 use Rattle.cb_cli.specs.Texts.{words_refused}
-use Rattle.cb_cli.proofs.Laws.{one_command, taken_is}
+use Rattle.cb_cli.proofs.Laws.{no_command_draws, one_command, taken_is}
 use Rattle.cb_cli.specs.declared.verdict.Verdict.{Verdict}
 use Rattle.cb_cli.specs.declared.verdict.Verdict.TheVariants.{Done, Refused}
 use Rattle.cb_app.specs.declared.ending.Ending.{Ending}
 use Rattle.cb_app.specs.Modes.{Accepts, Refuses, IsVerdict}
-use Rattle.cb_app.specs.Outcome.{IsScriptRefused, IsDone, AreWordsRefused, IsDecided, Ends}
-use Rattle.cb_app.specs.Outcome.IsDue.{WhereDone, WhereWordsRefused, WhereScriptRefused}
+use Rattle.cb_app.specs.Outcome.{IsScriptRefused, IsDone, IsDrawn, AreWordsRefused, IsDecided, Ends}
+use Rattle.cb_app.specs.Outcome.IsDue.{WhereDone, WhereDrawn, WhereWordsRefused, WhereScriptRefused}
+use Rattle.cb_app.specs.Scripts.{IsSummed}
 use Rattle.cb_app.proofs.Modes.{not_both}
 
 -- bytes were taken, and this is the command's verdict on them
@@ -51,7 +54,7 @@ module _ (command : Command) (before after : Option (List ℕ)) (old new : Endin
   pub ends_done : (held holds : Option (List ℕ)) → IsJudged command before after old new (Done text)
       → Appends held holds text → (words : List (String Global)) → Name words command
       → Ends words before after held holds old new (Ok dues.Done)
-  ends_done held holds judged put words named = (text, is_done words named judged, put)
+  ends_done held holds judged put words named = inl (text, is_done words named judged, put)
 
   pub ends_refused : (held holds : Option (List ℕ))
       → IsJudged command before after old new (Refused text)
@@ -93,6 +96,30 @@ module _ (command : Command) (before after : Option (List ℕ)) (old new : Endin
     refused = λ all other told refuses. inl refl;
   }
 
+-- a script was drawn, and its summary is put, or cut short
+module _ (plan : Plan) (old new : Ending) (text : List ℕ) (summed : IsSummed plan new text) where
+  is_drawn : (words : List (String Global)) → AskFor words plan → (source : Option (List ℕ))
+      → IsDrawn words source source new text
+  is_drawn words asks source =
+      record { plan = plan; words_are = asks; nothing_taken = refl; summed = summed }
+
+  pub ends_drawn : (held holds : Option (List ℕ)) → Appends held holds text
+      → (words : List (String Global)) → AskFor words plan → (source : Option (List ℕ))
+      → Ends words source source held holds old new (Ok dues.Done)
+  ends_drawn held holds put words asks source = inr (text, is_drawn words asks source, put)
+
+  pub drawn_cut : (held holds : Option (List ℕ)) → GetsFront held holds text
+      → (words : List (String Global)) → AskFor words plan → (source : Option (List ℕ))
+      → Ends words source source held holds old new (Err Write)
+  drawn_cut held holds front words asks source =
+      (text, WhereDrawn (is_drawn words asks source), front)
+
+-- words that ask for a drawn script are of no command
+pub drawn_decided : (words : List (String Global)) (plan : Plan) (before : Option (List ℕ)) (outcome : Result Due Failure)
+    → AskFor words plan → (command : Command) → Name words command → IsDecided command before outcome
+drawn_decided words plan before outcome asks command named =
+    absurd (no_command_draws words plan command asks named)
+
 -- a run that fails decides nothing
 pub decided_failed : (command : Command) (before : Option (List ℕ)) (failure : Failure)
     → IsDecided command before (Err failure)
@@ -109,7 +136,7 @@ words_cut words before held holds end none front =
 -- words that name none are of no command
 pub none_decided : (words : List (String Global)) (before : Option (List ℕ)) (outcome : Result Due Failure)
     → NameNone words → (command : Command) → Name words command → IsDecided command before outcome
-none_decided words before outcome none command named = absurd (none command named)
+none_decided words before outcome none command named = absurd (none (Run command) named)
 
 -- the command that words name is the one that was found
 pub found_decided : (words : List (String Global)) (before : Option (List ℕ)) (outcome : Result Due Failure) (found : Command)

@@ -61,6 +61,15 @@ failed_status (Err Read) failed = omega arith
 failed_status (Err Write) failed = omega arith
 failed_status (Err NoMemory) failed = omega arith
 
+-- the statuses of a run that draws a script
+pub drawn_status : (outcome : Result Due Failure) (status : ℕ) → status ≡ status_of outcome
+    → (outcome ≡ Ok Done) ⊎ IsErr outcome → outcome ≢ Err Read → (status ≡ 0) ⊎ (4 ≤ status)
+drawn_status outcome status is (inl e) other = inl (is ∙ ap status_of e)
+drawn_status (Ok due) status is (inr failed) other = absurd (true≢false (sym failed))
+drawn_status (Err Read) status is (inr failed) other = absurd (other refl)
+drawn_status (Err Write) status is (inr failed) other = inr (omega (arith, is))
+drawn_status (Err NoMemory) status is (inr failed) other = inr (omega (arith, is))
+
 -- an outcome that is due, or that is a failure, has its status, or one of a failure
 pub due_status : (outcome : Result Due Failure) (due : Due) (status : ℕ) → status ≡ status_of outcome
     → (outcome ≡ Ok due) ⊎ IsErr outcome

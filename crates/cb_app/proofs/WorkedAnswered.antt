@@ -23,6 +23,7 @@ use Rattle.cb_world.specs.Seats.{pins_of_seat}
 use Rattle.cb_world.specs.World.{WorldState, IsSoundWorld, empty_world}
 use Rattle.cb_app.specs.declared.ending.Ending.{Ending}
 use Rattle.cb_cli.specs.Taken.{IsTaken}
+use Rattle.cb_cli.specs.declared.words.Asked.TheVariants.{Run}
 use Rattle.cb_cli.specs.declared.words.Command.{Command}
 use Rattle.cb_cli.specs.declared.words.Command.TheVariants.{Seq, Check, Rma, Scrub}
 use Rattle.cb_cli.proofs.Laws.{seq_named, no_word}
@@ -199,7 +200,7 @@ tells w old world there is = (text, done w old world there is, refl)
 
 tells_without_words : (old : Ending) (world : WorldState)
     → TellsScript [] (Some input) (Some []) (Some []) (Some text) old (ending_of world answers) → ⊥
-tells_without_words old world (due, is, put) = no_word is.command is.words_are
+tells_without_words old world (due, is, put) = no_word (Run is.command) is.words_are
 
 -- nothing is put, and no command before left answers
 not_empty : (old : Ending) (world : WorldState) (command : Command) (bytes due : List ℕ)

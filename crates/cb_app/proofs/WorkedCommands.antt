@@ -17,6 +17,7 @@ use Rattle.cb_cli.specs.Taken.{IsTaken}
 use Rattle.cb_cli.specs.Texts.{check_text, fault_text}
 use Rattle.cb_cli.specs.declared.outcome.Due.TheVariants as dues
 use Rattle.cb_cli.specs.declared.outcome.Failure.TheVariants.{Read}
+use Rattle.cb_cli.specs.declared.words.Asked.TheVariants.{Run}
 use Rattle.cb_cli.specs.declared.words.Command.TheVariants.{Seq, Check}
 use Rattle.cb_cli.proofs.Laws.{lane_line, seq_named, check_named, no_word}
 use Rattle.cb_cli.specs.declared.verdict.Verdict.TheVariants.{Done, Refused}
@@ -165,14 +166,14 @@ done w old is = record { command = Check; words_are = check_named w is; bytes = 
 
 done_without_words : (old : Ending)
     → IsDone [] (Some input) (Some []) old ending (codes "script ok lines 2 lanes 1\n") → ⊥
-done_without_words old is = no_word is.command is.words_are
+done_without_words old is = no_word (Run is.command) is.words_are
 
 words_refused : AreWordsRefused [] (Some input) (Some input)
 words_refused = record { words_are_not = no_word; nothing_taken = refl }
 
 named_words : (w : String Global) → string_bytes w ≡ codes "check"
     → AreWordsRefused (w ∷ []) (Some input) (Some input) → ⊥
-named_words w is refused = refused.words_are_not Check (check_named w is)
+named_words w is refused = refused.words_are_not (Run Check) (check_named w is)
 
 input_taken : AreWordsRefused [] (Some (1 ∷ [])) (Some []) → ⊥
 input_taken refused = absurd (let e : Some [] ≡ Some (1 ∷ []) = refused.nothing_taken in cc)
@@ -182,7 +183,7 @@ refused_by_seq : (w : String Global) → string_bytes w ≡ codes "seq"
 refused_by_seq w is = record { command = Seq; words_are = seq_named w is; bytes = []; taken = none_taken; refused = seq_refuses }
 
 refused_without_words : (text : List ℕ) → IsScriptRefused [] (Some input) (Some []) text → ⊥
-refused_without_words text is = no_word is.command is.words_are
+refused_without_words text is = no_word (Run is.command) is.words_are
 
 -- ---- what is decided
 

@@ -9,12 +9,14 @@ use Rattle.cb_cli.specs.declared.outcome.Due.TheVariants.{Done, WordsRefused, Sc
 use Rattle.cb_cli.specs.declared.outcome.Failure.{Failure}
 use Rattle.cb_cli.specs.declared.outcome.Failure.TheVariants.{Read, Write, NoMemory}
 use Rattle.cb_cli.specs.declared.words.Command.{Command}
-use Rattle.cb_cli.specs.Words.{Name, NameNone}
+use Rattle.cb_cli.specs.declared.words.Plan.{Plan}
+use Rattle.cb_cli.specs.Words.{AskFor, Name, NameNone}
 use Rattle.cb_cli.specs.Taken.{IsTaken, taken_of}
 use Rattle.cb_cli.specs.Fronts.{GetsFront}
 use Rattle.cb_cli.specs.Texts.{words_refused}
 use Rattle.cb_app.specs.declared.ending.Ending.{Ending}
 use Rattle.cb_app.specs.Modes.{Yields, Refuses, Accepts}
+use Rattle.cb_app.specs.Scripts.{IsSummed}
 
 -- The words name a command, and this is what it yields for the bytes that were taken.
 pub record IsDone (words : List (String Global)) (before after : Option (List ℕ)) (old new : Ending) (text : List ℕ) : Type 0 where
@@ -24,7 +26,15 @@ pub record IsDone (words : List (String Global)) (before after : Option (List �
   pub taken : IsTaken before after bytes
   pub yields : Yields command bytes old new text
 
--- The words name no command, and nothing was taken.
+-- The words ask for a drawn script, whose lines are answered, and this is the summary of the answers.
+-- Nothing was taken.
+pub record IsDrawn (words : List (String Global)) (before after : Option (List ℕ)) (new : Ending) (text : List ℕ) : Type 0 where
+  pub plan : Plan
+  pub words_are : AskFor words plan
+  pub nothing_taken : after ≡ before
+  pub summed : IsSummed plan new text
+
+-- The words ask for nothing, and nothing was taken.
 pub record AreWordsRefused (words : List (String Global)) (before after : Option (List ℕ)) : Type 0 where
   pub words_are_not : NameNone words
   pub nothing_taken : after ≡ before
@@ -40,6 +50,7 @@ pub record IsScriptRefused (words : List (String Global)) (before after : Option
 -- The text that is due, and the ending with it. `old` and `new` are the ending before and after.
 pub data IsDue (words : List (String Global)) (before after : Option (List ℕ)) (old new : Ending) (text : List ℕ) : Type 0 where
   WhereDone : IsDone words before after old new text → IsDue words before after old new text
+  WhereDrawn : IsDrawn words before after new text → IsDue words before after old new text
   WhereWordsRefused : AreWordsRefused words before after → new ≡ old → text ≡ words_refused
       → IsDue words before after old new text
   WhereScriptRefused : IsScriptRefused words before after text → new ≡ old
@@ -59,6 +70,13 @@ abbrev pub TellsScript : List (String Global) → (before after held_before held
 TellsScript words before after held_before held_after old new =
     (text : List ℕ) × IsDone words before after old new text × Appends held_before held_after text
 
+-- A script was drawn, and the summary that is due is put.
+abbrev pub TellsSummary : List (String Global) → (before after held_before held_after : Option (List ℕ))
+    → (new : Ending)
+    → Type 0
+TellsSummary words before after held_before held_after new =
+    (text : List ℕ) × IsDrawn words before after new text × Appends held_before held_after text
+
 -- what was due was cut short
 abbrev pub IsCut : List (String Global) → (before after held_before held_after : Option (List ℕ))
     → (old new : Ending)
@@ -72,6 +90,7 @@ abbrev pub Ends : List (String Global) → (before after held_before held_after 
     → Type 0
 Ends words before after held_before held_after old new (Ok Done) =
     TellsScript words before after held_before held_after old new
+    ⊎ TellsSummary words before after held_before held_after new
 Ends words before after held_before held_after old new (Ok WordsRefused) =
     AreWordsRefused words before after × Appends held_before held_after words_refused × (new ≡ old)
 Ends words before after held_before held_after old new (Ok ScriptRefused) =

@@ -14,6 +14,9 @@ use Rattle.cb_lanes.specs.Scopes.{KeepScopes}
 use Rattle.cb_world.specs.Seats.{pins_of_seat}
 use Rattle.cb_world.specs.World.{WorldState, IsSoundWorld, empty_world}
 use Rattle.cb_cli.specs.Texts.{fault_text}
+use Rattle.cb_cli.specs.declared.words.Plan.{Plan}
+use Rattle.cb_gen.specs.Drawn.{made_script}
+use Rattle.cb_gen.specs.Summary.{summary}
 use Rattle.cb_app.specs.declared.ending.Ending.{Ending}
 
 -- The ending of a script that was answered.
@@ -50,6 +53,13 @@ pub record IsChecked (script : Script) (end : Ending) : Type 0 where
   pub no_answers : end.answers ≡ []
   pub no_losses : end.losses ≡ []
   pub no_world : end.world ≡ None
+
+-- The script that the plan draws was answered, no line of it with want of room, and this is the
+-- summary of its answers.
+pub record IsSummed (plan : Plan) (end : Ending) (text : List ℕ) : Type 0 where
+  pub answered : IsAnswered (made_script plan.seed plan.lines plan.lanes) end
+  pub calm : AllByRecursion (λ a. IsCalm a.reply) end.answers
+  pub text_is : text ≡ summary plan.seed plan.lines plan.lanes end.answers
 
 -- the text tells a line and a reason for which this holds
 abbrev pub TellsFault : (ℕ → Reason → Type 0) → List ℕ → Type 0

@@ -52,10 +52,19 @@ fn answer_script(alloc: Global, script: &Script, end: &mut Ending) -> Result<Byt
         × (text ≡ text_of end.new.answers)) }
     ensures kept { OnErr result (end.new ≡ end.old) }
 {
-    let told = run_seq(alloc, script)?;
-    let text = answers_text(alloc, &told.answers)?;
-    end.set(Ending::answered(script.config, told));
+    let ended = answer(alloc, script)?;
+    let text = answers_text(alloc, &ended.answers)?;
+    end.set(ended);
     Ok(text)
+}
+
+/// What the answers to a script are, and what they led to.
+pub(crate) fn answer(alloc: Global, script: &Script) -> Result<Ending, NoMemory>
+    requires script { IsScript script.now }
+    ensures { IfOk result (IsAnswered script.now) }
+{
+    let told = run_seq(alloc, script)?;
+    Ok(Ending::answered(script.config, told))
 }
 
 /// What `check` makes of bytes.

@@ -1,7 +1,9 @@
-//! The program `carbink`: reads a script, answers or checks it, and writes what it has to tell.
+//! The program `carbink`: reads or draws a script, answers or checks it, and writes what it has to
+//! tell.
 #![tactic(auto)]
 
 pub mod commands;
+mod drawn;
 pub mod ending;
 pub mod run;
 pub mod top;

@@ -1,16 +1,18 @@
-ghost use Rattle.std.specs.Prelude.{◌≡◌, ◌≢◌, ◌≤◌, ◌⊎◌, ℕ, List, length, String, Ok, Err, IfOk, OnErr};
+ghost use Rattle.std.specs.Prelude.{◌≡◌, ◌≢◌, ◌≤◌, ◌⊎◌, ℕ, List, length, String, Ok, Err, IfOk, IsErr, OnErr};
 ghost use Rattle.std.specs.Io.KnownBytes.{Consumes};
 ghost use Rattle.std.specs.declared.alloc.Global.{Global};
 ghost use Rattle.cb_types.specs.Faults.{Rose};
 ghost use Rattle.cb_cli.specs.Taken.{IsTaken};
-ghost use Rattle.cb_cli.specs.Words.{Name, NameNone};
+ghost use Rattle.cb_cli.specs.Words.{AskFor, Name, NameNone};
 ghost use Rattle.cb_cli.specs.declared.words.Command.{Command};
+ghost use Rattle.cb_cli.specs.declared.words.Plan.{Plan};
 ghost use Rattle.cb_app.specs.Modes.{IsVerdict};
 ghost use Rattle.cb_app.specs.Outcome.{Ends, RoseOnRead, RoseOnWrite, IsDecided};
 
 use crate::commands::obey;
+use crate::drawn::run_drawn;
 use crate::ending::Ending;
-use cb_cli::{Command, Due, Failure, Verdict, WORDS_REFUSED, command_of, put_all, take_all};
+use cb_cli::{Asked, Command, Due, Failure, Verdict, WORDS_REFUSED, asked_of, put_all, take_all};
 use cb_types::{Sink, Source};
 use std::alloc::Global;
 
@@ -35,9 +37,13 @@ pub fn run<S: Source, K: Sink>(
         × (length bytes ≤ 1048577) }
     ensures decided { (command : Command) → Name words.now command
         → IsDecided command (S.left source.old) result }
+    ensures draws { (plan : Plan) → AskFor words.now plan
+        → (source.new ≡ source.old) × ((result ≡ Ok Due.Done) ⊎ IsErr result)
+        × (result ≢ Err Failure.Read) }
 {
-    match command_of(alloc, words)? {
-        Some(command) => run_command(alloc, command, source, sink, end),
+    match asked_of(alloc, words)? {
+        Some(Asked::Run(command)) => run_command(alloc, command, source, sink, end),
+        Some(Asked::Draw(plan)) => run_drawn(alloc, plan, sink, end),
         None => {
             put_all(sink, WORDS_REFUSED)?;
             Ok(Due::WordsRefused)

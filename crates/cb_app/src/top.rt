@@ -4,10 +4,11 @@ ghost use Rattle.cb_types.specs.Faults.{Rose};
 ghost use Rattle.cb_cli.specs.Fronts.{GetsFront};
 ghost use Rattle.cb_cli.specs.Taken.{taken_of};
 ghost use Rattle.cb_cli.specs.Texts.{words_refused};
-ghost use Rattle.cb_cli.specs.Words.{Name, NameNone};
+ghost use Rattle.cb_cli.specs.Words.{AskFor, Name, NameNone};
 ghost use Rattle.cb_cli.specs.declared.words.Command.{Command};
+ghost use Rattle.cb_cli.specs.declared.words.Plan.{Plan};
 ghost use Rattle.cb_app.specs.Modes.{Accepts, Refuses};
-ghost use Rattle.cb_app.specs.Outcome.{TellsScript, AreWordsRefused, RefusesScript, IsDue};
+ghost use Rattle.cb_app.specs.Outcome.{TellsScript, TellsSummary, AreWordsRefused, RefusesScript, IsDue};
 
 use crate::ending::Ending;
 use crate::run::run;
@@ -18,7 +19,7 @@ use std::sync::Wait;
 use std::thread::Threads;
 
 /// Runs the command that the words give, which come after the program's name. It takes bytes from
-/// the source, puts text into the sink, leaves in `end` what the run was beside its text, and
+/// the source, but where it draws a script of its own, puts text into the sink, leaves in `end` what the run was beside its text, and
 /// answers the exit status: 0 done, 1 words refused, 2 script refused, 3 reading failed, 4 writing
 /// failed, 5 want of memory.
 pub fn carbink_run<R: Threads + Wait + Sync, S: Source, K: Sink>(
@@ -33,12 +34,15 @@ pub fn carbink_run<R: Threads + Wait + Sync, S: Source, K: Sink>(
 
     // 0: the words name a command, and what is put is what it yields for the bytes taken. Of a
     // script `seq` puts the answers that the plain map gives, and `check` how many lines and lanes
-    // it has; of a schedule `rma` puts what is said to each event.
+    // it has; of a schedule `rma` puts what is said to each event. Or the words ask `gen` for a
+    // drawn script: its lines are answered as `seq` answers them, and what is put is the summary.
     ensures done { result ≡ 0
         → TellsScript words.now (S.left src.old) (S.left src.new)
-        (K.held out.old) (K.held out.new) end.old end.new }
+        (K.held out.old) (K.held out.new) end.old end.new
+        ⊎ TellsSummary words.now (S.left src.old) (S.left src.new)
+        (K.held out.old) (K.held out.new) end.new }
 
-    // 1: the words name no command, and nothing was taken.
+    // 1: the words name no command and ask for no drawn script, and nothing was taken.
     ensures words_refused { result ≡ 1
         → AreWordsRefused words.now (S.left src.old) (S.left src.new) }
     ensures words_text { result ≡ 1 → Appends (K.held out.old) (K.held out.new) words_refused }
@@ -78,6 +82,10 @@ pub fn carbink_run<R: Threads + Wait + Sync, S: Source, K: Sink>(
     ensures refused { (command : Command) → Name words.now command
         → (bytes text : List ℕ) → S.left src.old ≡ Some bytes
         → Refuses command (taken_of bytes) text → (result ≡ 2) ⊎ (3 ≤ result) }
+    // For a drawn script nothing is taken, and it is done with, where writing does not fail and
+    // there is memory.
+    ensures draws { (plan : Plan) → AskFor words.now plan
+        → (src.new ≡ src.old) × ((result ≡ 0) ⊎ (4 ≤ result)) }
 {
     status(run(alloc, words, src, out, end))
 }

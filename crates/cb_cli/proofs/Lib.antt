@@ -9,5 +9,11 @@ pub mod WorkedTaken
 pub mod WorkedPuts
 pub mod WorkedTexts
 pub mod WorkedWords
-mod OneWord
+mod FlagWords
+mod OptionReader
+mod PartsRead
+mod PartsTaken
+mod AskedWords
+mod GivenWords
+mod FourWords
 pub mod Laws

@@ -1,4 +1,5 @@
 pub mod Words
+pub mod Given
 pub mod Lanes
 pub mod Texts
 pub mod Failing

@@ -17,4 +17,4 @@ pub use outcome::{Due, Failure, status};
 pub use output::{PutFailed, put_all};
 pub use texts::{WORDS_REFUSED, answers_text, script_fault_text, script_ok_text};
 pub use verdict::Verdict;
-pub use words::{Command, command_of};
+pub use words::{Asked, Command, Plan, asked_of};

@@ -1,17 +1,25 @@
-ghost use Rattle.std.specs.Prelude.{◌≡◌, List, ℕ, [], ◌∷◌, map, codes, string_bytes, IfOk, MatchOption};
+ghost use Rattle.std.specs.Prelude.{◌≡◌, ◌↔◌, ◌||◌, is_some, List, ℕ, codes, string_bytes, IfOk, MatchOption};
 ghost use Rattle.std.specs.List.{list_any};
 ghost use Rattle.std.specs.Str.{bytes_eq};
-ghost use Rattle.clap.specs.Simple.{app_of};
-ghost use Rattle.cb_cli.specs.Reader.{reader};
-ghost use Rattle.cb_cli.specs.Words.{word_of, Name, NameNone};
+ghost use Rattle.clap.specs.Simple.{app_of, with_rule};
+ghost use Rattle.cb_script.specs.Found.{Finds};
+ghost use Rattle.cb_cli.specs.Given.{GivenAsks, IsCount, IsPlanOf};
+ghost use Rattle.cb_cli.specs.Reader.{option_rule, reader, word_reader};
+ghost use Rattle.cb_cli.specs.Words.{word_of, Ask, NameNone};
+ghost use Rattle.cb_cli.specs.declared.words.Asked.{Asked};
 ghost use Rattle.cb_cli.specs.declared.words.Command.{Command};
 
+use cb_script::number_of;
 use cb_types::NoMemory;
 use clap::error::ErrorKind;
 use clap::{Arg, ArgAction};
 use std::alloc::Global;
 
-/// What the words of the command line ask for.
+/// A drawn script has so many lines at the most, and so many lanes.
+const MOST_LINES: u32 = 4000;
+const MOST_LANES: u32 = 15;
+
+/// What takes the bytes of a source.
 #[derive(Clone, Copy, Debug, PartialEq, Eq)]
 pub enum Command {
     /// Answer the lines of a script, in order, on one thread.
@@ -24,21 +32,47 @@ pub enum Command {
     Scrub,
 }
 
-/// The command that the words name, and None exactly where they name none.
-pub fn command_of(alloc: Global, words: &[String]) -> Result<Option<Command>, NoMemory>
-    ensures { IfOk result (λ found. MatchOption found (NameNone words.now) (Name words.now)) }
+/// A script that is to be drawn: from this seed, of 1 to 4,000 lines on 1 to 15 lanes.
+#[derive(Clone, Copy, Debug, PartialEq, Eq)]
+pub struct Plan {
+    pub seed: u32,
+    pub lines: u32,
+    pub lanes: u32,
+}
+
+/// What the words of the command line ask for.
+#[derive(Clone, Copy, Debug, PartialEq, Eq)]
+pub enum Asked {
+    /// Run a command on the bytes of the source.
+    Run(Command),
+    /// Draw a script, answer its lines, and tell a summary.
+    Draw(Plan),
+}
+
+/// The word and the values of options that a command line has.
+#[derive(Clone, Copy)]
+struct Given<'a> {
+    word: Option<&'a str>,
+    seed: Option<&'a str>,
+    lines: Option<&'a str>,
+    lanes: Option<&'a str>,
+}
+
+/// What the words ask for, and None exactly where they ask for nothing.
+pub fn asked_of(alloc: Global, words: &[String]) -> Result<Option<Asked>, NoMemory>
+    ensures { IfOk result (λ found. MatchOption found (NameNone words.now) (Ask words.now)) }
 {
-    match lone_word(alloc, words)? {
-        Some(word) => Ok(named(word)),
-        None => Ok(None),
+    match given_of(alloc, words) {
+        Ok(Some(given)) => Ok(asked_by(given)),
+        Ok(None) => Ok(None),
+        Err(refused) => Err(refused),
     }
 }
 
-/// The word of a list that is one word and no option. Of a list that names a command it is the
-/// command's word.
-fn lone_word<'a>(alloc: Global, words: &'a [String]) -> Result<Option<&'a str>, NoMemory>
+/// What is given by words that are a word and options. Words that ask for something are.
+fn given_of<'a>(alloc: Global, words: &'a [String]) -> Result<Option<Given<'a>>, NoMemory>
     ensures { IfOk result (λ found. MatchOption found (NameNone words.entry.now)
-        (λ word. map string_bytes words.entry.now ≡ word.now ∷ [])) }
+        (λ given. (asked : Asked) → (Ask words.entry.now asked ↔ GivenAsks given asked))) }
 {
     // clap would pass over this word.
     if has_two_dashes(words) {
@@ -46,15 +80,43 @@ fn lone_word<'a>(alloc: Global, words: &'a [String]) -> Result<Option<&'a str>, 
     }
     let reader = reader(alloc)?;
     match reader.try_get_matches_from(words) {
-        Ok(matches) => Ok(matches.get_str("command")),
+        Ok(matches) => Ok(Some(Given {
+            word: matches.get_str("command"),
+            seed: matches.get_str("seed"),
+            lines: matches.get_str("lines"),
+            lanes: matches.get_str("lanes"),
+        })),
         Err(error) if error.kind() == ErrorKind::OutOfMemory => Err(NoMemory),
         Err(_) => Ok(None),
     }
 }
 
-/// The reader of one word that has to be there, and of no option.
+/// The reader of one word, and of each of the options of `gen` once at the most.
 fn reader<'a>(alloc: Global) -> Result<clap::Command<'a>, NoMemory>
     ensures { IfOk result (λ made. app_of made ≡ reader) }
+{
+    let word = word_reader(alloc)?;
+    let seed = with_option(alloc, word, "seed")?;
+    let lines = with_option(alloc, seed, "lines")?;
+    with_option(alloc, lines, "lanes")
+}
+
+/// The reader with one option more.
+fn with_option<'a>(
+    alloc: Global,
+    reader: clap::Command<'a>,
+    name: &'a str,
+) -> Result<clap::Command<'a>, NoMemory>
+    ensures { IfOk result (λ made. app_of made
+        ≡ with_rule (app_of reader.entry) (option_rule name.entry.now)) }
+{
+    let option = Arg::new(alloc, name).long(name).action(ArgAction::Set);
+    Ok(reader.arg(option)?)
+}
+
+/// The reader of one word that has to be there, and of no option.
+fn word_reader<'a>(alloc: Global) -> Result<clap::Command<'a>, NoMemory>
+    ensures { IfOk result (λ made. app_of made ≡ word_reader) }
 {
     let word = Arg::new(alloc, "command")
         .required(true)
@@ -72,6 +134,52 @@ fn has_two_dashes(words: &[String]) -> bool
     ensures { result ≡ list_any (λ word. bytes_eq (string_bytes word) (codes "--")) words.now }
 {
     words.iter().any(|word| word.as_str() == "--")
+}
+
+/// What is asked for by what was given.
+fn asked_by(given: Given) -> Option<Asked>
+    ensures { Finds result (GivenAsks given.entry) }
+{
+    let word = given.word?;
+    if word == "gen" {
+        let plan = plan_of(given.seed?, given.lines?, given.lanes?)?;
+        return Some(Asked::Draw(plan));
+    }
+    if has_option(&given) {
+        return None;
+    }
+    Some(Asked::Run(named(word)?))
+}
+
+/// Whether one of the options was given.
+fn has_option(given: &Given) -> bool
+    ensures { result ≡ (is_some given.now.seed || is_some given.now.lines || is_some given.now.lanes) }
+{
+    given.seed.is_some() || given.lines.is_some() || given.lanes.is_some()
+}
+
+/// The plan of these values, where each is a number in its range.
+fn plan_of(seed: &str, lines: &str, lanes: &str) -> Option<Plan>
+    ensures { Finds result (IsPlanOf seed.now lines.now lanes.now) }
+{
+    let seed = number_of(seed.as_bytes())?;
+    let lines = count_of(lines, MOST_LINES)?;
+    let lanes = count_of(lanes, MOST_LANES)?;
+    Some(Plan { seed, lines, lanes })
+}
+
+/// The number that the text spells, from 1 on and at the most this.
+fn count_of(text: &str, most: u32) -> Option<u32>
+    ensures { Finds result (IsCount text.now most) }
+{
+    let count = number_of(text.as_bytes())?;
+    if count < 1 {
+        return None;
+    }
+    if count > most {
+        return None;
+    }
+    Some(count)
 }
 
 /// The command of a word.

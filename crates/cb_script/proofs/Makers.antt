@@ -19,16 +19,16 @@ use Rattle.cb_script.proofs.NameNumbers.{one_name}
 
 -- ---- one more line
 
-made_before : (before : List Line) (l : Line) (lane : ℕ) (name : List ℕ) → IsMade before lane name → IsMade (before ++ l ∷ []) lane name
+pub made_before : (before : List Line) (l : Line) (lane : ℕ) (name : List ℕ) → IsMade before lane name → IsMade (before ++ l ∷ []) lane name
 made_before [] l lane name is = absurd is
 made_before (m ∷ before) l lane name (inl here) = inl here
 made_before (m ∷ before) l lane name (inr later) = inr (made_before before l lane name later)
 
-made_here : (before : List Line) (l : Line) (name : List ℕ) → Makes l.request name → IsMade (before ++ l ∷ []) l.lane.n name
+pub made_here : (before : List Line) (l : Line) (name : List ℕ) → Makes l.request name → IsMade (before ++ l ∷ []) l.lane.n name
 made_here [] l name makes = inl (refl, makes)
 made_here (m ∷ before) l name makes = inr (made_here before l name makes)
 
-made_cases : (before : List Line) (l : Line) (lane : ℕ) (name : List ℕ) → IsMade (before ++ l ∷ []) lane name → IsMade before lane name ⊎ ((l.lane.n ≡ lane) × Makes l.request name)
+pub made_cases : (before : List Line) (l : Line) (lane : ℕ) (name : List ℕ) → IsMade (before ++ l ∷ []) lane name → IsMade before lane name ⊎ ((l.lane.n ≡ lane) × Makes l.request name)
 made_cases [] l lane name (inl here) = inr here
 made_cases [] l lane name (inr later) = absurd later
 made_cases (m ∷ before) l lane name (inl here) = inl (inl here)

@@ -2,7 +2,7 @@ use Rattle.std.proofs.Common.{Ok, Err, refl, sym, ◌∙◌}
 use Rattle.cb_cli.specs.declared.outcome.Due.TheVariants.{Done, WordsRefused, ScriptRefused}
 use Rattle.cb_cli.specs.declared.outcome.Failure.TheVariants.{Read, Write, NoMemory}
 use Rattle.cb_cli.proofs.Laws.{same_outcome, status_of-le}
-use Rattle.cb_app.proofs.Tops.{ends_at, rose_at_read, rose_at_write, stays_but_read, stays_but_write, words_status, due_status}
+use Rattle.cb_app.proofs.Tops.{ends_at, rose_at_read, rose_at_write, stays_but_read, stays_but_write, words_status, drawn_status, due_status}
 use Rattle.cb_app.proofs.top.carbink_run.Goals as goal
 
 pub returns-clause-statuses : goal.returns-clause-statuses
@@ -98,3 +98,8 @@ returns-clause-complete g c = λ command named bytes told accepted.
 pub returns-clause-refused : goal.returns-clause-refused
 returns-clause-refused g c = λ command named bytes text told refuses.
     due_status c.run.result ScriptRefused c.status.result c.status.ensures ((c.run.ensures.decided command named).refused bytes text told refuses)
+
+pub returns-clause-draws : goal.returns-clause-draws
+returns-clause-draws g c = λ plan asks.
+    let drawn = c.run.ensures.draws plan asks in
+    (drawn.0, drawn_status c.run.result c.status.result c.status.ensures drawn.1 drawn.2)

@@ -1,13 +1,12 @@
-use Rattle.std.proofs.Common.{rules, ◌≡◌}
-use Rattle.clap.specs.Walk.{rule_of}
-use Rattle.cb_cli.specs.Reader.{word_rule}
-use Rattle.cb_cli.proofs.OneWord.{reader_made}
+use Rattle.std.proofs.Common.{◌≡◌, ap, ◌∙◌, codes}
+use Rattle.std.proofs.lemmas.Result.{IfOk-weaker}
+use Rattle.clap.specs.Simple.{App, with_rule}
+use Rattle.cb_cli.specs.Reader.{option_rule}
 use Rattle.cb_cli.proofs.words.reader.Goals as goal
 
 pub returns : goal.returns
 returns c =
-    let rule_is : rule_of c.action-word.result ≡ word_rule = search rules in
-    reader_made c.new-2.result c.no_binary_name.result c.disable_help_flag.result
-    c.disable_version_flag.result c.in_ok-reader.reader c.new-2.ensures.app
-    c.no_binary_name.ensures c.disable_help_flag.ensures c.disable_version_flag.ensures
-    (rw (← rule_is) (c.in_ok-reader.ensures.shape (search rules)))
+    IfOk-weaker c.with_option-3.result _ _ (λ made is.
+      is ∙ ap (λ (a : App). with_rule a (option_rule (codes "lanes"))) (c.in_ok-lines.ensures
+      ∙ ap (λ (a : App). with_rule a (option_rule (codes "lines"))) (c.in_ok-seed.ensures
+      ∙ ap (λ (a : App). with_rule a (option_rule (codes "seed"))) c.in_ok-word.ensures))) c.with_option-3.ensures

@@ -1,0 +1,4 @@
+pub mod Draws
+pub mod Drawn
+pub mod Noted
+pub mod Summary

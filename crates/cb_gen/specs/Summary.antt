@@ -1,0 +1,66 @@
+-- The summary of a script's answers.
+use Rattle.std.specs.Prelude.{ℕ, Bool, true, false, not, ◌||◌, List, ◌++◌, length, codes, decimal, count_by}
+use Rattle.cb_types.specs.declared.answer.Answer.{Answer}
+use Rattle.cb_types.specs.declared.request.Request.{Request}
+use Rattle.cb_types.specs.declared.request.Request.TheVariants as request
+use Rattle.cb_types.specs.declared.reply.Reply.{Reply}
+use Rattle.cb_types.specs.declared.reply.Reply.TheVariants.{Made, Version, Bytes, Done, Left, Moved, Same, Set, Batch, Shipped, AllShipped, Pair, Stepped, AllStepped, Merged, Rebuilt, EpochAt}
+use Rattle.cb_script.specs.Roomy.{is_make}
+use Rattle.cb_text.specs.Line.{text_of}
+
+abbrev pub is_read : Request → Bool
+is_read (request.Read name) = true
+is_read _ = false
+
+abbrev pub is_write : Request → Bool
+is_write (request.Write name at bytes) = true
+is_write _ = false
+
+abbrev pub is_free : Request → Bool
+is_free (request.Free name) = true
+is_free _ = false
+
+-- the request has another verb than these four
+abbrev pub is_other : Request → Bool
+is_other r = not (is_make r || is_read r || is_write r || is_free r)
+
+-- the reply is a refusal: the request was not done
+abbrev pub is_refusal : Reply → Bool
+is_refusal (Made handle version) = false
+is_refusal (Version version) = false
+is_refusal (Bytes version bytes) = false
+is_refusal Done = false
+is_refusal (Left pins) = false
+is_refusal Moved = false
+is_refusal Same = false
+is_refusal (Set set) = false
+is_refusal (Batch set) = false
+is_refusal (Shipped position) = false
+is_refusal AllShipped = false
+is_refusal (Pair a b) = false
+is_refusal (Stepped position) = false
+is_refusal AllStepped = false
+is_refusal (Merged set moved) = false
+is_refusal (Rebuilt set position node) = false
+is_refusal (EpochAt epoch) = false
+is_refusal _ = true
+
+-- how many answers have a request of the kind
+abbrev pub asked : (Request → Bool) → List Answer → ℕ
+asked kind answers = count_by (λ a. kind a.request) answers
+
+-- how many answers are refusals
+abbrev pub refused : List Answer → ℕ
+refused answers = count_by (λ a. is_refusal a.reply) answers
+
+-- what was asked for, the requests by verb, the refusals, and how many bytes the answers' text has
+abbrev pub summary : (seed lines lanes : ℕ) → List Answer → List ℕ
+summary seed lines lanes answers =
+    codes "gen seed " ++ decimal seed ++ codes " lines " ++ decimal lines
+    ++ codes " lanes " ++ decimal lanes ++ codes "\nmake " ++ decimal (asked is_make answers)
+    ++ codes " read " ++ decimal (asked is_read answers)
+    ++ codes " write " ++ decimal (asked is_write answers)
+    ++ codes " free " ++ decimal (asked is_free answers)
+    ++ codes " other " ++ decimal (asked is_other answers)
+    ++ codes "\nrefused " ++ decimal (refused answers)
+    ++ codes " text " ++ decimal (length (text_of answers)) ++ codes "\n"

@@ -1,0 +1,87 @@
+ghost use Rattle.std.specs.Prelude.{◌≡◌, ◌<◌, ◌∷◌, ◌++◌, ◌==◌, ℕ, [], length, get_or, if◌then◌else◌, All, OnOk, IfOk};
+ghost use Rattle.cb_gen.specs.Drawn.{length_made};
+
+use cb_types::{NoMemory, Request};
+use std::alloc::Global;
+use std::marker::Model;
+
+/// So many lanes have a place: one for each number of a lane.
+const PLACES: usize = 16;
+
+/// The lengths of the objects that one lane made, in order.
+#[derive(Drop)]
+struct Lengths {
+    items: Vec<u8>,
+}
+
+impl Model for Lengths {
+    ghost use Rattle.std.specs.Prelude.{List, ℕ};
+
+    ghost Value = { List ℕ };
+
+    ghost view = { λ a. a.items.items };
+}
+
+/// The lengths of the objects that each lane made. Contracts see a list a lane.
+#[derive(Drop)]
+pub(crate) struct LaneLengths {
+    lanes: Vec<Lengths>,
+}
+
+impl Model for LaneLengths {
+    ghost use Rattle.std.specs.Prelude.{List, ℕ};
+
+    ghost Value = { List (List ℕ) };
+
+    ghost view = { λ a. a.lanes.items };
+}
+
+impl LaneLengths {
+    /// No lane made anything.
+    pub(crate) fn new(alloc: Global) -> Result<LaneLengths, NoMemory>
+        ensures places { IfOk result (λ made. length made ≡ 16) }
+        ensures empty { IfOk result (λ made. (lane : ℕ) → get_or made lane [] ≡ []) }
+    {
+        let mut lanes = Vec::new(alloc);
+        for _lane in 0..PLACES {
+            lanes.push(Lengths {
+                items: Vec::new(alloc),
+            })?;
+        }
+        Ok(LaneLengths { lanes })
+    }
+
+    /// The lengths of what this lane made.
+    pub(crate) fn of(&self, lane: u8) -> &[u8]
+        requires { lane < length self.now }
+        ensures { result.now ≡ get_or self.now lane [] }
+    {
+        self.lanes[usize::from(lane)].items.as_slice()
+    }
+
+    /// Notes what a request of this lane makes.
+    pub(crate) fn note(&mut self, lane: u8, request: &Request) -> Result<(), NoMemory>
+        requires place { lane < length self.old }
+        requires short { All (λ len. len < 256) (length_made request.now) }
+        ensures places { OnOk result (length self.new ≡ length self.old) }
+        ensures noted { OnOk result ((other : ℕ) → get_or self.new other []
+            ≡ get_or self.old other []
+            ++ (if lane == other then length_made request.now else [])) }
+    {
+        if let Request::Make { bytes, .. } = request {
+            self.push(lane, bytes.len() as u8)?;
+        }
+        Ok(())
+    }
+
+    /// Adds a length at the end of this lane's.
+    fn push(&mut self, lane: u8, len: u8) -> Result<(), NoMemory>
+        requires { lane < length self.old }
+        ensures places { OnOk result (length self.new ≡ length self.old) }
+        ensures pushed { OnOk result ((other : ℕ) → get_or self.new other []
+            ≡ get_or self.old other [] ++ (if lane == other then len ∷ [] else [])) }
+    {
+        self.lanes[usize::from(lane)].items.push(len)?;
+        Ok(())
+    }
+}
