@@ -60,7 +60,8 @@ pub given_twice : (nodes mid new : NodesState) (m n : ℕ) → mid ≡ with_give
     → new ≡ with_given mid n → new ≡ with_given nodes (m + n)
 given_twice nodes mid new m n first second =
     second ∙ ap (λ (x : NodesState). with_given x n) first
-    ∙ ap (λ (g : ℕ). record nodes { given = g }) (let e : nodes.given + m + n ≡ nodes.given + (m + n) = omega arith in e)
+    ∙ ap (λ (g : ℕ). record nodes { given = g })
+    (let e : nodes.given + m + n ≡ nodes.given + (m + n) = omega arith in e)
 
 module _ (nodes : NodesState) (pair : JoiningState) (order : DeltaOrder)
     (can : CanFetch nodes pair order) where

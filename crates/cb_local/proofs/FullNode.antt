@@ -40,7 +40,8 @@ module _ (s : Shown) (begun : FarState) (first : JoiningState) (a b : SetState)
           let size = j.a_count in let steps = j.count in let counts = x.count in
           let d : Shard = record { node = record { n = 0 }; incarnation = 0; key = 0 } in
           let old = get_or x.pair.shards_a n d in
-          let at = slice_get-get_or x.pair.shards_a n d (omega (arith, size, steps, counts, within)) in
+          let at = slice_get-get_or x.pair.shards_a n d
+          (omega (arith, size, steps, counts, within)) in
           let here = ap (λ (l : List Shard). slice_get l n) (sym x.shards) ∙ at in
           let fits = room n old (omega arith) (omega arith)
           (sym (x.undone n (omega arith)) ∙ e) here in
@@ -66,8 +67,8 @@ module _ (s : Shown) (begun : FarState) (first : JoiningState) (a b : SetState)
       (λ q old l h. room q old (omega (arith, l)) (omega (arith, h))) (omega (arith, within)) in
       record {
         far = z.far;
-        taken = subst (HasTaken begun first a b z.far) (let e : n + 1 + m ≡ n + suc m = omega arith in e)
-            z.taken;
+        taken = subst (HasTaken begun first a b z.far)
+            (let e : n + 1 + m ≡ n + suc m = omega arith in e) z.taken;
       }
 
 -- the pair is given up, as it would have been behind those steps

@@ -39,7 +39,8 @@ one_given old now next shards positions table i row g within wide one is =
           ∙ elim (cases_eq j i) [
             | inl same ↦ ap (row_at (set table i row)) same ∙ get_or-set_same table i row [] inside
                 ∙ is rows stand ∙ ap (λ (q : ℕ). row_at rows (get_or positions q 0)) (sym same)
-            | inr off ↦ get_or-set_other table i j row [] off ∙ g.rows rows stand j (earlier j l off)
+            | inr off ↦ get_or-set_other table i j row [] off
+                ∙ g.rows rows stand j (earlier j l off)
           ];
     }
   where

@@ -1,12 +1,11 @@
 -- What a turn rests on where the compute side joins two sets: the laws of the whole step.
-use Rattle.std.proofs.Common.{◌≡◌, ℕ, ◌+◌, ◌≤◌, refl, sym, ap, ◌∙◌, subst, arith, inl, inr}
+use Rattle.std.proofs.Common.{◌≡◌, ℕ, ◌≤◌, refl, sym, ap, ◌∙◌, subst, arith, inl, inr}
 use Rattle.cb_member.specs.declared.names.NodeId.{NodeId}
 use Rattle.cb_set.specs.SetState.{parities}
 use Rattle.cb_types.specs.declared.config.Config.{Config}
 use Rattle.cb_types.specs.declared.reply.Reply.{Reply}
 use Rattle.cb_types.specs.declared.reply.Reply.TheVariants as answer
 use Rattle.cb_types.specs.declared.request.Request.TheVariants as line
-use Rattle.cb_types.specs.Table.{IsReplyOf}
 use Rattle.cb_world.specs.declared.shown.Shown.{Shown}
 use Rattle.cb_world.specs.FarState.{FarState}
 use Rattle.cb_world.specs.Pairs.{HoldsNoPair}
@@ -105,7 +104,8 @@ local_stays c s far new r sound x is = by x.beside
         (stays_noted _ KeepsHolding c 1 far far (λ holds. holds)
         (stays_same c 1 far far (omega arith) refl is)))
     refused (as_there e) =
-        subst (StaysBy KeepsHolding c 36 far) (sym e) (more_stays c 20 far x.mid (omega arith) at_mid)
+        subst (StaysBy KeepsHolding c 36 far) (sym e)
+        (more_stays c 20 far x.mid (omega arith) at_mid)
 
     by : IsBeside far x.mid new r → StaysBy KeepsHolding c 36 far new
     by (inl y) = refused (either far x.mid new r x.same y x.full)
@@ -156,7 +156,8 @@ local_fixes s far new other r q sound x y =
         let same = first_fixed far a.pair.x a.pair.y b.pair.x b.pair.y a.pair.a a.pair.b b.pair.a
         b.pair.b a.pair.first b.pair.first in
         a.state
-        ∙ (λ i. far_given (f i) (rows_given (live_positions (same.b_is i)) (parities (same.a_is i))))
+        ∙ (λ i. far_given (f i)
+        (rows_given (live_positions (same.b_is i)) (parities (same.a_is i))))
         ∙ sym b.state
 
 -- ---- all of it

@@ -89,7 +89,8 @@ module _ (s : Shown) (begun : FarState) (first : JoiningState) (a b : SetState) 
 
   -- a row was put
   module _ (old : Shard) (row : List ℕ) (next : IsNext x.pair (length a.positions) n)
-      (at : slice_get x.pair.shards_a n ≡ Some old) (fits : held far.nodes old.node < far.nodes.room)
+      (at : slice_get x.pair.shards_a n ≡ Some old)
+      (fits : held far.nodes old.node < far.nodes.room)
       (merged : IsMergedRow far x.pair a b n row) where
     abbrev shard : Shard
     shard = shard_beside far old
@@ -135,7 +136,8 @@ module _ (s : Shown) (begun : FarState) (first : JoiningState) (a b : SetState) 
 
     pub taken_one : HasTaken begun first a b after (n + 1)
     taken_one = record {
-      gone = gone_on s begun far after n None taken_sound x.gone (goes after None (inr (next, step)));
+      gone = gone_on s begun far after n None taken_sound x.gone
+          (goes after None (inr (next, step)));
       pair = with_step x.pair n shard;
       fresh = record {
         was = refl;

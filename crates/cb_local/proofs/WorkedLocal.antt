@@ -1,24 +1,18 @@
 -- Worked examples of two sets that the compute side joins: a value that meets each definition, and
 -- for each of its parts one that breaks that part alone.
-use Rattle.std.proofs.Common.{◌≡◌, ℕ, zero, suc, ◌+◌, ◌<◌, true, List, [], ◌∷◌, length, get_or, Some, None, refl, sym, ap, ap₂, ◌∙◌, subst, arith, inl, inr}
-use Rattle.std.specs.List.{slice_get}
-use Rattle.std.proofs.lemmas.Option.{same_Some}
-use Rattle.cb_gf256.specs.Rows.{HaveLength}
+use Rattle.std.proofs.Common.{◌≡◌, ℕ, ◌+◌, [], ◌∷◌, None, refl, ap, arith, inl}
 use Rattle.cb_member.specs.declared.names.NodeId.{NodeId}
-use Rattle.cb_member.specs.declared.names.Shard.{Shard}
-use Rattle.cb_node.specs.NodesState.{NodesState, held, nodes_of}
-use Rattle.cb_set.specs.SetState.{SetState, parities}
+use Rattle.cb_set.specs.SetState.{parities}
 use Rattle.cb_types.specs.declared.handle.SetId.{SetId}
 use Rattle.cb_types.specs.declared.reply.Reply.{Reply}
 use Rattle.cb_types.specs.declared.reply.Reply.TheVariants as answer
 use Rattle.cb_world.specs.FarState.{FarState}
 use Rattle.cb_world.proofs.Laws.{node}
-use Rattle.cb_compact.specs.NowStep.{NowStep}
 use Rattle.cb_compact.specs.Pairing.{live_positions, numbered}
-use Rattle.cb_compact.proofs.Laws.{AreThose, first_fixed, full_turn, idle, joining, now_laws, paired, set_a, set_b}
+use Rattle.cb_compact.proofs.Laws.{first_fixed, full_turn, idle, joining, now_laws, paired, set_a, set_b}
 use Rattle.cb_local.specs.Fetching.{far_given, rows_given}
-use Rattle.cb_local.specs.LocalGoing.{EndsFullHere, HasGoneGiving, IsStopped}
-use Rattle.cb_local.specs.LocalStep.{IsBeside, IsMergedHere, IsRefused, LocalStep}
+use Rattle.cb_local.specs.LocalGoing.{IsStopped}
+use Rattle.cb_local.specs.LocalStep.{IsMergedHere, IsRefused, LocalStep}
 use Rattle.cb_local.specs.Putting.{with_count}
 
 -- ---- how many rows are given: two for a taken position, one for a parity
@@ -85,7 +79,8 @@ merged = record {
   state = refl;
 }
 
-not_told_as_full : (far mid new : FarState) → IsMergedHere far mid new (answer.NodeFull (node 1)) → ⊥
+not_told_as_full : (far mid new : FarState) → IsMergedHere far mid new (answer.NodeFull (node 1))
+    → ⊥
 not_told_as_full far mid new x = full_or_merged (node 1) x.set x.moved x.reply
 
 -- not the rows of one set alone, and not none

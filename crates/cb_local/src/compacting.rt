@@ -87,11 +87,11 @@ fn go_through(alloc: Global, far: &mut Far) -> Result<Reply, NoMemory>
 /// the parities: it is given both rows at each position that is taken from the second set and the
 /// parities of the first, and puts the new rows.
 ///
-/// From any sound world the reply is that of `compact_now`. Where the sets are merged, the far state
-/// is the same but for the count of rows given, which rises by two for each taken position and one
-/// for each parity, and there by none. Else no row is given, and the far state is the same but for
-/// the count of drawn keys, which stays here where a node is full: all nodes are looked at before a
-/// row is given or put.
+/// From any sound world the reply is that of `compact_now`. Where the sets are merged, the far
+/// state is the same but for the count of rows given, which rises by two for each taken position
+/// and one for each parity, and there by none. Else no row is given, and the far state is the same
+/// but for the count of drawn keys, which stays here where a node is full: all nodes are looked at
+/// before a row is given or put.
 ///
 /// Where there is no memory, the far state is as before, but that at most 36 rows were given.
 pub fn compact_local<D: Desk>(alloc: Global, desk: &mut D, far: &mut Far) -> Result<Reply, NoMemory>

@@ -30,7 +30,8 @@ pub returns-in_err-done-clause-error : goal.returns-in_err-done-clause-error
 returns-in_err-done-clause-error c =
     let q = c.requires.begun in
     on_error _ c.from_residual.result
-    (stopped_first q.0 c.args.far.now c.run_pair.new.far q.1 q.2 q.3 q.4 c.in_err-done.ensures.error)
+    (stopped_first q.0 c.args.far.now c.run_pair.new.far q.1 q.2 q.3 q.4
+    c.in_err-done.ensures.error)
 
 pub returns-clause-put : goal.returns-clause-put
 returns-clause-put c =

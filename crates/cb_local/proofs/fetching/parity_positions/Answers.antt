@@ -7,5 +7,6 @@ pub loop-e-preserved : goal.loop-e-preserved
 loop-e-preserved c =
     let e = c.loop-e.e in (
       length-set c.loop-e.positions e (c.args.k + e) ∙ c.loop-e.invariant.0,
-      below_more_set (λ m x. x ≡ c.args.k + m) c.loop-e.positions e (c.args.k + e) 0 (omega arith) c.loop-e.invariant.1 refl,
+      below_more_set (λ m x. x ≡ c.args.k + m) c.loop-e.positions e (c.args.k + e) 0 (omega arith)
+          c.loop-e.invariant.1 refl,
     )

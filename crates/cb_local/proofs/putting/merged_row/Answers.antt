@@ -18,6 +18,7 @@ returns-in-None c wa wb m x merged =
     ] in
     parity_row order c.args.done.now.parities p c.row-in-None.result.now c.requires.merged
     c.requires.within past
-    (c.row-in-None.ensures.value ∙ ap (λ (t : List (List ℕ)). row_at t (p - c.order-order.result.now.k))
+    (c.row-in-None.ensures.value
+    ∙ ap (λ (t : List (List ℕ)). row_at t (p - c.order-order.result.now.k))
     c.parities.ensures.rows ∙ ap (λ (o : DeltaOrder). row_at c.args.done.now.parities (p - o.k))
     c.order-order.ensures) wa wb m x merged
