@@ -204,10 +204,10 @@ module _ (done : List Part) (o : Setting) (position : ℕ) (w : Text) where
   pub value_turn : IsPlain w → (turn_fault shape [] (at_waiting done o position) w ≡ []) × (walked rules [] (at_waiting done o position) w ≡ at_idle (held_at done (Some (Given o w))) position)
   value_turn plain = (
     turn_is w (map row done) waiting_pend (option (name_of o)) position refl plain.other ∙ ap (fault_by w (map row done) waiting_pend (option (name_of o)) position) plain.long
-    ∙ ap (λ (short : Option Text). or_else (option_map_or (λ flags. bundle_fault rules again flags waiting_held) short []) (step_fault shape position (short_or_plain rules (option (name_of o)) w short waiting_held).0 (short_or_plain rules (option (name_of o)) w short waiting_held).1)) plain.short,
+        ∙ ap (λ (short : Option Text). or_else (option_map_or (λ flags. bundle_fault rules again flags waiting_held) short []) (step_fault shape position (short_or_plain rules (option (name_of o)) w short waiting_held).0 (short_or_plain rules (option (name_of o)) w short waiting_held).1)) plain.short,
     walked_is w (map row done) waiting_pend (option (name_of o)) position refl plain.other ∙ ap (walked_by w (map row done) waiting_pend (option (name_of o)) position) plain.long
-    ∙ ap (λ (short : Option Text). after_step rules w (at_waiting done o position) (short_or_plain rules (option (name_of o)) w short waiting_held).0 (short_or_plain rules (option (name_of o)) w short waiting_held).1) plain.short
-    ∙ given_walk o,
+        ∙ ap (λ (short : Option Text). after_step rules w (at_waiting done o position) (short_or_plain rules (option (name_of o)) w short waiting_held).0 (short_or_plain rules (option (name_of o)) w short waiting_held).1) plain.short
+        ∙ given_walk o,
   )
 
   -- a word that is not refused there is the option's value

@@ -17,6 +17,7 @@ use std::alloc::Global;
 
 /// A drawn script has so many lines at the most, and so many lanes.
 const MOST_LINES: u32 = 4000;
+
 const MOST_LANES: u32 = 15;
 
 /// What takes the bytes of a source.

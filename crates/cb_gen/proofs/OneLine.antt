@@ -32,7 +32,6 @@ pub line_added : (lanes x lane action s y : ℕ) (lengths : List ℕ) (r : Reque
     → r ≡ (drawn_action action s lane lengths).request → y ≡ (drawn_action action s lane lengths).left → more ≡ lines ++ line_behind lines lane r ∷ []
     → record { lines = more; left = y } ≡ with_line lanes (record { lines = lines; left = x })
 line_added lanes x lane action s y lengths r lines more lane_is action_is s_is lengths_are r_is y_is pushed =
-
     (λ i. record { lines = pushed i; left = y_is i })
     ∙ (λ i. record { lines = lines ++ line_behind lines lane (r_is i) ∷ []; left = (drawn_action action s lane lengths).left })
     ∙ (λ i. record { lines = lines ++ line_behind lines lane (drawn_action action s lane (lengths_are i)).request ∷ []; left = (drawn_action action s lane (lengths_are i)).left })

@@ -68,5 +68,5 @@ pub kind_of : (action x lane : ℕ) (lengths : List ℕ) → All (λ len. len �
 kind_of action x lane lengths short =
     let P = Fits x lane lengths in
     either P (nat_lt action 4 || (length lengths == 0)) _ _ (λ t. fits_make x lane lengths) (λ f.
-      let some = one_at_least (nat_lt action 4) (length lengths) f in
-      either P (nat_lt action 10) _ _ (λ t. reads _ (drawn_low x 0 (length lengths) some)) (λ f. either P (nat_lt action 14) _ _ (λ t. fits_write x lane lengths some short) (λ f. either P (action == 14) _ _ (λ t. evicts) (λ f. fits_seldom (after x 1) lane lengths some (drawn x 0 6)))))
+    let some = one_at_least (nat_lt action 4) (length lengths) f in
+    either P (nat_lt action 10) _ _ (λ t. reads _ (drawn_low x 0 (length lengths) some)) (λ f. either P (nat_lt action 14) _ _ (λ t. fits_write x lane lengths some short) (λ f. either P (action == 14) _ _ (λ t. evicts) (λ f. fits_seldom (after x 1) lane lengths some (drawn x 0 6)))))

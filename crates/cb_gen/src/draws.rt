@@ -6,6 +6,7 @@ use std::alloc::Global;
 
 /// The factor and the summand of the generator.
 const FACTOR: u64 = 6_364_136_223_846_793_005;
+
 const SUMMAND: u64 = 1_442_695_040_888_963_407;
 
 /// Numbers that are drawn one after the other.

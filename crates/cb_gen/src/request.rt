@@ -8,6 +8,7 @@ use std::alloc::Global;
 
 /// An object that a script makes has so many bytes at the most, and a write of it so many.
 const LONGEST_OBJECT: u32 = 120;
+
 const LONGEST_WRITE: u32 = 32;
 
 /// The request that a lane's line with this action has. The lane made objects of these lengths.

@@ -103,12 +103,7 @@ fn compare(alloc: Global, there: &mut World, here: &mut World, rows: u64) -> Res
 }
 
 /// The same in a world and another one that the same lines lead to.
-fn join_beside(
-    alloc: Global,
-    text: &[u8],
-    there: &mut World,
-    rows: u64,
-) -> Result<bool, Fail>
+fn join_beside(alloc: Global, text: &[u8], there: &mut World, rows: u64) -> Result<bool, Fail>
     requires { IsSoundWorld there.old }
 {
     let mut here = world_of(alloc, text)?;

@@ -22,10 +22,10 @@ note-requires-clause-short c =
 pub returns-clause-line : goal.returns-clause-line
 returns-clause-line c =
     on_ok_weaker c.push.result (λ pushed.
-      line_added c.args.lanes c.args.draws.now.state (1 + c.below.result) c.below-action.result c.below-action.new.self.state c.draw_request.new.draws.state c.of.result.now c.in_ok-request.request c.args.lines.now c.push.new.self
-      (ap (λ (n : ℕ). 1 + n) c.below.ensures.drawn) (search rules) (search rules) (c.of.ensures ∙ c.requires.noted.noted _) c.in_ok-request.ensures.request c.in_ok-request.ensures.left (search rules)) c.push.ensures.ok
+    line_added c.args.lanes c.args.draws.now.state (1 + c.below.result) c.below-action.result c.below-action.new.self.state c.draw_request.new.draws.state c.of.result.now c.in_ok-request.request c.args.lines.now c.push.new.self
+    (ap (λ (n : ℕ). 1 + n) c.below.ensures.drawn) (search rules) (search rules) (c.of.ensures ∙ c.requires.noted.noted _) c.in_ok-request.ensures.request c.in_ok-request.ensures.left (search rules)) c.push.ensures.ok
 
 pub returns-clause-noted : goal.returns-clause-noted
 returns-clause-noted c =
     on_ok_weaker c.push.result (λ pushed.
-      noted_more c.args.made.now c.note.new.self c.args.lines.now c.push.new.self _ c.requires.noted c.in_ok-note.ensures.places c.in_ok-note.ensures.noted pushed) c.push.ensures.ok
+    noted_more c.args.made.now c.note.new.self c.args.lines.now c.push.new.self _ c.requires.noted c.in_ok-note.ensures.places c.in_ok-note.ensures.noted pushed) c.push.ensures.ok
