@@ -71,7 +71,7 @@ pub record IsFarJob (job : Job) : Type 0 where
       → FarLacks job far new → StaysSound (note_of job) c s far new
 
 -- whose numbers rise by at most so many
-stays_sound : {N : FarState → FarState → Type 0} (c : Config) (n : ℕ) (s : Shown)
+pub stays_sound : {N : FarState → FarState → Type 0} (c : Config) (n : ℕ) (s : Shown)
     (far new : FarState) → n ≤ 64 → IsConfigured c far
     → StaysIfBy N c n far new → Sound s new → StaysSound N c s far new
 stays_sound c n s far new most is stays sound = let z = stays is in record {

@@ -1,4 +1,5 @@
 -- The lemmas of this crate that other crates cite.
+pub use Rattle.cb_core.proofs.Admitted.{compact_made, compact_sound, compacted_sound}
 pub use Rattle.cb_core.proofs.Calm.{IsEased, MakesEasy, pin_calm, turn_calm}
 pub use Rattle.cb_core.proofs.Changes.{read_leaves}
 pub use Rattle.cb_core.proofs.CrashesKept.{NamesAmong, none_crashed, turn_crashed, turn_idle}
@@ -13,8 +14,8 @@ pub use Rattle.cb_core.proofs.RunEvents.{kept_beside, lost_beside}
 pub use Rattle.cb_core.proofs.Settings.{step_settings, turn_settings}
 pub use Rattle.cb_core.proofs.StepFixed.{newest_fixed, pin_fixed, step_fixes, unpin_fixed}
 pub use Rattle.cb_core.proofs.TurnCalls.{IsQuiet, abort_turn, begin_turn, commit_turn, compact_turn, crash_turn, evict_turn, filter_turn, free_turn, is_done, join_turn, make_turn, merge_turn, pair_turn, part_turn, patch_turn, read_turn, rebuild_turn, ship_turn, swap_turn, turn_first, turn_turns, write_turn}
-pub use Rattle.cb_core.proofs.TurnCallsKept.{known_same}
-pub use Rattle.cb_core.proofs.TurnCallsMap.{IsSameMap}
+pub use Rattle.cb_core.proofs.TurnCallsKept.{known_same, once_known}
+pub use Rattle.cb_core.proofs.TurnCallsMap.{IsSameMap, counted_map}
 pub use Rattle.cb_core.proofs.TurnCallsPinned.{IsPinCount, free_counts, write_counts}
 pub use Rattle.cb_core.proofs.TurnCallsSound.{swap_sound}
 pub use Rattle.cb_core.proofs.TurnCallsSwap.{IsSwapRefusal, SwapEnds, refusal_line, refused, stays, swapped}

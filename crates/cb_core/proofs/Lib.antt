@@ -97,4 +97,5 @@ pub mod PinnedStays
 pub mod WorkedUnmoved
 pub mod WorkedReadTurns
 pub mod WorkedLegal
+pub mod Admitted
 pub mod Laws

@@ -36,7 +36,7 @@ known_after a b s same k sound =
     subst (λ (x : Words). IsKnown x b.far s) (sym same) (known_far a.desk a.far b.far s k sound)
 
 -- and the open writes of seats stay open
-open_after : (a b : Holding Words) (s : Shown) (seats : List SeatState) → b.desk ≡ a.desk
+pub open_after : (a b : Holding Words) (s : Shown) (seats : List SeatState) → b.desk ≡ a.desk
     → IsKnown a.desk a.far s → Sound s b.far → AreOpen a.desk a.far seats
     → AreOpen b.desk b.far seats
 open_after a b s seats same k sound ongoing =
@@ -44,7 +44,7 @@ open_after a b s seats same k sound ongoing =
     (open_same a.desk a.far b.far s seats k (known_far a.desk a.far b.far s k sound) ongoing)
 
 -- what a change of the far state alone comes to
-arrives_far : {N : FarState → FarState → Type 0} (c : Config) (seats : List SeatState)
+pub arrives_far : {N : FarState → FarState → Type 0} (c : Config) (seats : List SeatState)
     (a b : Holding Words) (Z : Type 0)
     → (good : IsGood c seats a) → b.desk ≡ a.desk → StaysSound N c good.shown a.far b.far → Z
     → ArrivesBy N c seats 64 a b Z

@@ -159,7 +159,7 @@ pub known_counted : (w : WorldState) (job : Job) (s : Shown) → IsKnown w.desk 
 known_counted w job s k = known_far w.desk w.far (counted w.far job) s k
     (counted_sound s w.far (counted w.far job) job refl k.sound)
 
-counted_good : (w : WorldState) (job : Job) → IsSoundWorld w
+pub counted_good : (w : WorldState) (job : Job) → IsSoundWorld w
     → IsGood w.desk.settings w.seats (once_counted (held w) job)
 counted_good w job sound = record {
   settings = refl;
@@ -171,7 +171,7 @@ counted_good w job sound = record {
       (known_counted w job sound.shown sound.known) sound.ongoing;
 }
 
-arrived_sound : (w : WorldState) (job : Job) (b : Holding Words) (Z : Type 0) → IsSoundWorld w
+pub arrived_sound : (w : WorldState) (job : Job) (b : Holding Words) (Z : Type 0) → IsSoundWorld w
     → w.far.counts.turns < 2 ^ 40
     → ArrivesBy (note_of job) w.desk.settings w.seats 64 (once_counted (held w) job) b Z
     → IsSoundWorld (with_job w b.desk b.far)

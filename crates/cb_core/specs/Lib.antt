@@ -8,6 +8,7 @@ pub mod Declining
 pub mod OnceHere
 pub mod FarJobs
 pub mod Turned
+pub mod Admitting
 pub mod TurnLeaves
 pub mod ReadTurn
 pub mod Step

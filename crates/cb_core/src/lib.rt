@@ -20,5 +20,5 @@ pub use event::{Atomic, Event};
 pub use reading::bring_to_read;
 pub use replies::Replies;
 pub use running::run;
-pub use stepping::step;
+pub use stepping::{admit_turn, step};
 pub use turning::{MOST_TURNS, turn};

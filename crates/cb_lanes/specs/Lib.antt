@@ -2,6 +2,7 @@ pub mod Asked
 pub mod Names
 pub mod GivingBack
 pub mod LinesLeft
+pub mod CompactsHere
 pub mod LineStep
 pub mod LinesSoundly
 pub mod LineAnswered

@@ -5,6 +5,7 @@ use Rattle.cb_types.specs.declared.reply.Reply.{Reply}
 use Rattle.cb_script.specs.declared.script.Line.{Line}
 use Rattle.cb_world.specs.World.{WorldState, IsSoundWorld}
 use Rattle.cb_lanes.specs.Asked.{answer_to}
+use Rattle.cb_lanes.specs.declared.side.Side.{Side}
 use Rattle.cb_lanes.specs.GivingBack.{Rests, lines_of}
 use Rattle.cb_lanes.specs.LineStep.{LineStep}
 use Rattle.cb_lanes.specs.Names.{Names, AreKept, handle_in}
@@ -12,11 +13,11 @@ use Rattle.cb_lanes.specs.Names.{Names, AreKept, handle_in}
 -- A line was answered in a world with these names and answers, where these lanes have the lines
 -- behind it: the line leads to a sound world, with the reply of its answer; its lane rests from
 -- there; the handle of a make is kept, and the answer stands behind those before.
-pub record LineAnswered (line : Line) (later : List ℕ) (w : WorldState) (names : Names) (answers : List Answer)
-    (rested : WorldState) (kept : Names) (all : List Answer) : Type 0 where
+pub record LineAnswered (side : Side) (line : Line) (later : List ℕ) (w : WorldState) (names : Names)
+    (answers : List Answer) (rested : WorldState) (kept : Names) (all : List Answer) : Type 0 where
   pub reply : Reply
   pub between : WorldState
-  pub step : LineStep line.lane.n (handle_in names line.request) line.request w reply between
+  pub step : LineStep side line.lane.n (handle_in names line.request) line.request w reply between
   pub sound : IsSoundWorld between
   pub rests : Rests (lines_of line.lane.n later) line.lane.n between rested
   pub holds : AreKept names line.request reply kept

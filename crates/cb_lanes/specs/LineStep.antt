@@ -19,6 +19,9 @@ use Rattle.cb_core.specs.declared.event.Atomic.TheVariants as atomic
 use Rattle.cb_core.specs.declared.event.Event.TheVariants as event
 use Rattle.cb_core.specs.declared.event.Event.TheVariants.{Turn}
 use Rattle.cb_core.specs.Step.{Step}
+use Rattle.cb_lanes.specs.CompactsHere.{CompactsHere}
+use Rattle.cb_lanes.specs.declared.side.Side.{Side}
+use Rattle.cb_lanes.specs.declared.side.Side.TheVariants as parities
 use Rattle.cb_lanes.specs.GivingBack.{GivesAll, Rests, lines_of}
 
 -- the job of a line about no object, where it is a turn
@@ -104,25 +107,37 @@ abbrev pub ObjectStep : ℕ → Option ℕ → Request → WorldState → Reply 
 ObjectStep seat None request w r new = (r ≡ answer.Unmade) × (new ≡ w)
 ObjectStep seat (Some h) request w r new = CallStep seat h request w r new
 
+-- a compaction, by who makes the parities
+abbrev pub CompactsAt : Side → ℕ → WorldState → Reply → WorldState → Type 0
+CompactsAt parities.Nodes seat w r new = Step w (Turn seat job.Compact) r new
+CompactsAt parities.Compute seat w r new = CompactsHere seat w r new
+
+-- a turn of a seat; who makes the parities matters to a compaction alone
+abbrev pub TurnAt : Job → Side → ℕ → WorldState → Reply → WorldState → Type 0
+TurnAt job.Compact side seat w r new = CompactsAt side seat w r new
+TurnAt j side seat w r new = Step w (Turn seat j) r new
+
 -- a line with a job of its own is a turn, and one that has none is on an object
-abbrev pub OtherStep : ℕ → Option ℕ → Request → Option Job → WorldState → Reply → WorldState
-    → Type 0
-OtherStep seat handle request (Some job) w r new = Step w (Turn seat job) r new
-OtherStep seat handle request None w r new = ObjectStep seat handle request w r new
+abbrev pub OtherStep : Side → ℕ → Option ℕ → Request → Option Job → WorldState → Reply
+    → WorldState → Type 0
+OtherStep side seat handle request (Some job) w r new = TurnAt job side seat w r new
+OtherStep side seat handle request None w r new = ObjectStep seat handle request w r new
 
 -- A line of the lane of this seat, whose name has this handle, if it has one: it leads from one
--- world to another. A lane that leaves gives all its pins back, and is told how many.
-abbrev pub LineStep : ℕ → Option ℕ → Request → WorldState → Reply → WorldState → Type 0
-LineStep seat handle (Make name bytes) w r new = Step w (Turn seat (job.Make bytes)) r new
-LineStep seat handle Leave w r new =
+-- world to another, where this side makes the parities of a compaction. A lane that leaves gives
+-- all its pins back, and is told how many.
+abbrev pub LineStep : Side → ℕ → Option ℕ → Request → WorldState → Reply → WorldState → Type 0
+LineStep side seat handle (Make name bytes) w r new = Step w (Turn seat (job.Make bytes)) r new
+LineStep side seat handle Leave w r new =
     (r ≡ answer.Left (length (pins_of_seat w.seats seat))) × GivesAll seat w new
-LineStep seat handle request w r new = OtherStep seat handle request (job_of request) w r new
+LineStep side seat handle request w r new =
+    OtherStep side seat handle request (job_of request) w r new
 
 -- The answers behind those before them lead from one world to another, line by line. Behind its
 -- last line a lane's pins are given back, before the next line.
-abbrev pub LinesLead : List Answer → WorldState → List Answer → WorldState → Type 0
-LinesLead before w [] new = new ≡ w
-LinesLead before w (a ∷ after) new = (between : WorldState) × (rested : WorldState)
-    × LineStep a.lane.n (handle_named before (name_of a.request)) a.request w a.reply between
+abbrev pub LinesLead : Side → List Answer → WorldState → List Answer → WorldState → Type 0
+LinesLead side before w [] new = new ≡ w
+LinesLead side before w (a ∷ after) new = (between : WorldState) × (rested : WorldState)
+    × LineStep side a.lane.n (handle_named before (name_of a.request)) a.request w a.reply between
     × Rests (lines_of a.lane.n (map (λ later. later.lane.n) after)) a.lane.n between rested
-    × LinesLead (before ++ a ∷ []) rested after new
+    × LinesLead side (before ++ a ∷ []) rested after new

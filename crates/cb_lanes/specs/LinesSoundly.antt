@@ -4,13 +4,14 @@ use Rattle.cb_types.specs.declared.answer.Answer.{Answer}
 use Rattle.cb_types.specs.Requests.{name_of}
 use Rattle.cb_model.specs.Called.{handle_named}
 use Rattle.cb_world.specs.World.{WorldState, IsSoundWorld}
+use Rattle.cb_lanes.specs.declared.side.Side.{Side}
 use Rattle.cb_lanes.specs.GivingBack.{Rests, lines_of}
 use Rattle.cb_lanes.specs.LineStep.{LineStep}
 
 -- as LinesLead, and the world behind each line is sound
-abbrev pub LinesLeadSoundly : List Answer → WorldState → List Answer → WorldState → Type 0
-LinesLeadSoundly before w [] new = new ≡ w
-LinesLeadSoundly before w (a ∷ after) new = (between : WorldState) × (rested : WorldState)
-    × LineStep a.lane.n (handle_named before (name_of a.request)) a.request w a.reply between
+abbrev pub LinesLeadSoundly : Side → List Answer → WorldState → List Answer → WorldState → Type 0
+LinesLeadSoundly side before w [] new = new ≡ w
+LinesLeadSoundly side before w (a ∷ after) new = (between : WorldState) × (rested : WorldState)
+    × LineStep side a.lane.n (handle_named before (name_of a.request)) a.request w a.reply between
     × Rests (lines_of a.lane.n (map (λ later. later.lane.n) after)) a.lane.n between rested
-    × IsSoundWorld rested × LinesLeadSoundly (before ++ a ∷ []) rested after new
+    × IsSoundWorld rested × LinesLeadSoundly side (before ++ a ∷ []) rested after new

@@ -5,10 +5,12 @@ ghost use Rattle.cb_world.specs.World.{IsSoundWorld};
 ghost use Rattle.cb_core.specs.Jobs.{IsJob};
 ghost use Rattle.cb_core.specs.Events.{IsAtomic};
 ghost use Rattle.cb_core.specs.Step.{AtomicStep, Step};
-ghost use Rattle.cb_lanes.specs.LineStep.{IsInReply, LineStep, ObjectStep, PeekStep, PinLine, job_of};
+ghost use Rattle.cb_lanes.specs.LineStep.{CompactsAt, IsInReply, LineStep, ObjectStep, PeekStep, PinLine, TurnAt, job_of};
 ghost use Rattle.cb_lanes.specs.Names.{AreKept, AreReady, IsOnObject, handle_in};
 
+use crate::compacting::compact_here;
 use crate::resting::give_back;
+use crate::side::Side;
 use cb_core::{Atomic, Event, step};
 use cb_mutate::read;
 use cb_types::{Bytes, Handle, Job, Name, NoMemory, Reply, Request};
@@ -17,11 +19,13 @@ use std::alloc::Global;
 use std::collections::HashMap;
 
 /// Answers one request of the lane of this seat in the world, and keeps the handle of a name that
-/// it makes. A line costs a look at its name by its hash, and what its event costs.
+/// it makes. This side makes the parities of a compaction. A line costs a look at its name by its
+/// hash, and what its event costs.
 pub(crate) fn reply_to<'a>(
     alloc: Global,
     world: &mut World,
     names: &mut HashMap<&'a [u8], Handle>,
+    side: Side,
     seat: u32,
     request: &'a Request,
 ) -> Result<Reply, NoMemory>
@@ -29,7 +33,7 @@ pub(crate) fn reply_to<'a>(
     requires request { IsRequest world.old.desk.settings.nodes request.now }
     requires ready { AreReady world.old.desk.settings.handles names.old }
     requires sound { IsSoundWorld world.old }
-    ensures line { IfOk result (λ reply. LineStep seat (handle_in names.old request.now) request.now world.old reply world.new) }
+    ensures line { IfOk result (λ reply. LineStep side seat (handle_in names.old request.now) request.now world.old reply world.new) }
     ensures names { IfOk result (λ reply. AreKept names.old request.now reply names.new) }
     ensures sound { IsSoundWorld world.new }
 {
@@ -39,7 +43,7 @@ pub(crate) fn reply_to<'a>(
             pins: give_back(alloc, world, seat)?,
         }),
         _ => match job_of(request) {
-            Some(job) => turn_of(alloc, world, seat, job),
+            Some(job) => turn_at(alloc, world, side, seat, job),
             None => call_named(alloc, world, names, seat, request),
         },
     }
@@ -64,6 +68,44 @@ fn job_of(request: &Request) -> Option<Job>
         Request::Crash { node } => Some(Job::Crash { node: *node }),
         Request::Join { node } => Some(Job::Join { node: *node }),
         _ => None,
+    }
+}
+
+/// A turn of a seat, where this side makes the parities of a compaction.
+fn turn_at(
+    alloc: Global,
+    world: &mut World,
+    side: Side,
+    seat: u32,
+    job: Job,
+) -> Result<Reply, NoMemory>
+    requires seat { seat < 64 }
+    requires job { IsJob world.old.desk.settings job }
+    requires sound { IsSoundWorld world.old }
+    ensures step { IfOk result (λ reply. TurnAt job side seat world.old reply world.new) }
+    ensures sound { IsSoundWorld world.new }
+{
+    match job {
+        Job::Compact => compact_at(alloc, world, side, seat),
+        job => turn_of(alloc, world, seat, job),
+    }
+}
+
+/// A compaction, where this side makes the parities.
+fn compact_at(
+    alloc: Global,
+    world: &mut World,
+    side: Side,
+    seat: u32,
+) -> Result<Reply, NoMemory>
+    requires seat { seat < 64 }
+    requires sound { IsSoundWorld world.old }
+    ensures step { IfOk result (λ reply. CompactsAt side seat world.old reply world.new) }
+    ensures sound { IsSoundWorld world.new }
+{
+    match side {
+        Side::Nodes => turn_of(alloc, world, seat, Job::Compact),
+        Side::Compute => compact_here(alloc, world, seat),
     }
 }
 

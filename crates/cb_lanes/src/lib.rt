@@ -2,7 +2,10 @@
 #![tactic(auto)]
 
 mod answering;
+mod compacting;
 mod resting;
 pub mod seq;
+pub mod side;
 
-pub use seq::{SeqEnd, run_seq};
+pub use seq::{SeqEnd, run_lines};
+pub use side::Side;

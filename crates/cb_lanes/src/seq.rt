@@ -18,6 +18,7 @@ ghost use Rattle.cb_lanes.specs.Scopes.{KeepScopes};
 
 use crate::answering::reply_to;
 use crate::resting::{LANES, lines_by_lane, rest, take_line};
+use crate::side::Side;
 use cb_script::{Line, Script};
 use cb_types::{Answer, Answers, Handle, Loss, Losses, NoMemory, Reply, Request};
 use cb_world::World;
@@ -35,18 +36,18 @@ pub struct SeqEnd {
     pub world: World,
 }
 
-/// Answers the lines of a script in order, in one world. Behind the last line of a lane its pins
-/// are given back. A line costs a look at its name by its hash, and what its event costs. On a
-/// script at ease no line is told of a want of room or of a loss, and the own lines of each lane
-/// are answered as if it were alone.
-pub fn run_seq(alloc: Global, s: &Script) -> Result<SeqEnd, NoMemory>
+/// Answers the lines of a script in order, in one world, where this side makes the parities of each
+/// compaction. Behind the last line of a lane its pins are given back. A line costs a look at its
+/// name by its hash, and what its event costs. On a script at ease no line is told of a want of
+/// room or of a loss, and the own lines of each lane are answered as if it were alone.
+pub fn run_lines(alloc: Global, s: &Script, side: Side) -> Result<SeqEnd, NoMemory>
     requires script { IsScript s.now }
     ensures lines { IfOk result (λ end. map asked end.answers ≡ s.now.lines) }
     ensures legal { IfOk result (λ end. IsLegalInOrder 1 s.now.config.handles end.answers) }
     ensures answered { IfOk result (λ end. AllByRecursion HasLineReply end.answers) }
-    ensures leads { IfOk result (λ end. LinesLead [] (empty_world s.now.config) end.answers end.world) }
+    ensures leads { IfOk result (λ end. LinesLead side [] (empty_world s.now.config) end.answers end.world) }
     ensures along { IfOk result (λ end.
-        LinesLeadSoundly [] (empty_world s.now.config) end.answers end.world) }
+        LinesLeadSoundly side [] (empty_world s.now.config) end.answers end.world) }
     ensures sound { IfOk result (λ end. IsSoundWorld end.world) }
     ensures holds { IfOk result (λ end. HoldsAnswers end.world end.answers) }
     ensures losses { IfOk result (λ end. end.losses ≡ losses_of end.answers) }
@@ -71,6 +72,7 @@ pub fn run_seq(alloc: Global, s: &Script) -> Result<SeqEnd, NoMemory>
             &mut answers,
             &mut losses,
             &mut left,
+            side,
             line,
         )?;
     }
@@ -90,6 +92,7 @@ fn answer_line<'a>(
     answers: &mut Answers,
     losses: &mut Vec<Loss>,
     left: &mut [u32; LANES],
+    side: Side,
     line: &'a Line,
 ) -> Result<(), NoMemory>
     requires lane { line.now.lane.n < 16 }
@@ -97,14 +100,14 @@ fn answer_line<'a>(
     requires request { IsRequest world.old.desk.settings.nodes line.now.request }
     requires ready { AreReady world.old.desk.settings.handles names.old }
     requires sound { IsSoundWorld world.old }
-    ensures line { (later : List ℕ) → AreLeft (line.now.lane.n ∷ later) left.old → IfOk result (λ done. LineAnswered line.now later world.old names.old answers.old world.new names.new answers.new) }
+    ensures line { (later : List ℕ) → AreLeft (line.now.lane.n ∷ later) left.old → IfOk result (λ done. LineAnswered side line.now later world.old names.old answers.old world.new names.new answers.new) }
     ensures losses { losses.old.items ≡ losses_of answers.old → IfOk result (λ done. losses.new.items ≡ losses_of answers.new) }
     ensures left { (later : List ℕ) → AreLeft (line.now.lane.n ∷ later) left.old → AreLeft later left.new }
     ensures sound { IsSoundWorld world.new }
 {
     let seat = u32::from(line.lane.n);
     let behind = take_line(left, line.lane.n);
-    let reply = reply_to(alloc, world, names, seat, &line.request)?;
+    let reply = reply_to(alloc, world, names, side, seat, &line.request)?;
     rest(alloc, world, seat, behind)?;
     note_answer(alloc, answers, losses, line, reply)
 }

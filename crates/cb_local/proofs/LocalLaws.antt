@@ -141,24 +141,36 @@ local_leaves far new r x = by x.beside
     })
 
 -- ---- one reply and one far state
+-- beside one far state stands one, by the reply
+pub beside_fixed : (far mid there new other : FarState) (r q : Reply) → r ≡ q → mid ≡ there
+    → IsBeside far mid new r → IsBeside far there other q → new ≡ other
+beside_fixed far mid there new other r q e f (inl a) (inl b) =
+    a.state ∙ ap (λ (m : FarState). with_keys m far.counts.keys) f ∙ sym b.state
+beside_fixed far mid there new other r q e f (inl a) (inr b) =
+    absurd (a.refusal b.set b.moved (e ∙ b.reply))
+beside_fixed far mid there new other r q e f (inr a) (inl b) =
+    absurd (b.refusal a.set a.moved (sym e ∙ a.reply))
+beside_fixed far mid there new other r q e f (inr a) (inr b) =
+    let same = first_fixed far a.pair.x a.pair.y b.pair.x b.pair.y a.pair.a a.pair.b b.pair.a b.pair.b
+    a.pair.first b.pair.first in
+    a.state
+    ∙ (λ i. far_given (f i) (rows_given (live_positions (same.b_is i)) (parities (same.a_is i))))
+    ∙ sym b.state
+
 local_fixes : (s : Shown) (far new other : FarState) (r q : Reply) → Sound s far
     → LocalStep far new r → LocalStep far other q → (r ≡ q) × (new ≡ other)
 local_fixes s far new other r q sound x y =
     let e = now_laws.fixes s far x.mid y.mid r q sound x.same y.same in
-    (e.0, by e.0 e.1 x.beside y.beside)
-  where
-    by : r ≡ q → x.mid ≡ y.mid → IsBeside far x.mid new r → IsBeside far y.mid other q → new ≡ other
-    by e f (inl a) (inl b) =
-        a.state ∙ ap (λ (m : FarState). with_keys m far.counts.keys) f ∙ sym b.state
-    by e f (inl a) (inr b) = absurd (a.refusal b.set b.moved (e ∙ b.reply))
-    by e f (inr a) (inl b) = absurd (b.refusal a.set a.moved (sym e ∙ a.reply))
-    by e f (inr a) (inr b) =
-        let same = first_fixed far a.pair.x a.pair.y b.pair.x b.pair.y a.pair.a a.pair.b b.pair.a
-        b.pair.b a.pair.first b.pair.first in
-        a.state
-        ∙ (λ i. far_given (f i)
-        (rows_given (live_positions (same.b_is i)) (parities (same.a_is i))))
-        ∙ sym b.state
+    (e.0, beside_fixed far x.mid y.mid new other r q e.0 e.1 x.beside y.beside)
+
+-- ---- want of memory
+-- so many rows may have been given
+pub lack_stays : (c : Config) (far new : FarState) (rows : ℕ) → rows ≤ 36
+    → new ≡ far_given far rows → StaysIfBy KeepsHolding c 36 far new
+lack_stays c far new rows few same is =
+    subst (StaysBy KeepsHolding c 36 far) (sym same) (given_stays c far far rows few refl
+    (stays_noted _ KeepsHolding c 20 far far (λ holds. holds)
+    (stays_same c 20 far far (omega arith) refl is)))
 
 -- ---- all of it
 pub local_laws : AreFarLaws KeepsHolding 36 line.Compact LocalStep

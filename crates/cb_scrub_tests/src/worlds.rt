@@ -8,7 +8,7 @@ ghost use Rattle.cb_scrub_world.specs.Standing.{Stands};
 ghost use Rattle.cb_scrub_tests.specs.Shards.{IsFirstSets};
 
 use cb_core::{Event, step};
-use cb_lanes::run_seq;
+use cb_lanes::{Side, run_lines};
 use cb_member::Shard;
 use cb_script::{Mode, read_script};
 use cb_scrub::Found;
@@ -30,7 +30,7 @@ pub(crate) fn world_of(alloc: Global, text: &[u8]) -> Result<World, Fail>
     let Ok(script) = read_script(alloc, text, Mode::Seq) else {
         return Err(Fail::from("no script"));
     };
-    let end = run_seq(alloc, &script)?;
+    let end = run_lines(alloc, &script, Side::Nodes)?;
     Ok(end.world)
 }
 

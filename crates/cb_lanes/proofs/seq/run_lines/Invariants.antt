@@ -5,7 +5,7 @@ use Rattle.cb_lanes.specs.LinesLeft.{AreLeft, lanes_of}
 use Rattle.cb_lanes.specs.Lost.{losses_of}
 use Rattle.cb_lanes.proofs.Along.{Along}
 use Rattle.cb_lanes.proofs.Eases.{Eases}
-use Rattle.cb_lanes.proofs.seq.run_seq.Given as goal
+use Rattle.cb_lanes.proofs.seq.run_lines.Given as goal
 
 -- the lines so far were answered, the plain map is beside the world that they led to, and the lines that
 -- are left are counted

@@ -14,7 +14,7 @@ use Rattle.cb_lanes.specs.GivingBack.{lines_of}
 use Rattle.cb_lanes.specs.Lost.{AreInOrder}
 use Rattle.cb_lanes.proofs.LossOrder.{losses_in_order}
 use Rattle.cb_lanes.specs.Names.{kept_number}
-use Rattle.cb_lanes.proofs.seq.run_seq.Goals as goal
+use Rattle.cb_lanes.proofs.seq.run_lines.Goals as goal
 
 pub lines_by_lane-left-requires-clause-lanes : goal.lines_by_lane-left-requires-clause-lanes
 lines_by_lane-left-requires-clause-lanes c = rw c.as_slice.ensures.items
