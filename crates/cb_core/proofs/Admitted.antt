@@ -1,5 +1,5 @@
 -- A turn that was counted, and a compaction whose job is done beside the turns of the core.
-use Rattle.std.proofs.Common.{◌≡◌, ℕ, ◌^◌, ◌<◌, ◌≤◌, refl, sym, subst, arith}
+use Rattle.std.proofs.Common.{ℕ, ◌^◌, ◌<◌, ◌≤◌, refl, sym, subst, arith}
 use Rattle.cb_types.specs.declared.job.Job.{Job}
 use Rattle.cb_types.specs.declared.job.Job.TheVariants.{Pair, Compact}
 use Rattle.cb_types.specs.declared.reply.Reply.{Reply}

@@ -1,25 +1,23 @@
 -- What the steps of open writes ask for, from a sound world; and what a claim is answered.
-use Rattle.std.proofs.Common.{◌≡◌, ◌≢◌, ℕ, Bool, zero, suc, ◌+◌, ◌-◌, ◌*◌, ◌/◌, ◌^◌, ◌<◌, ◌≤◌, List, Some, length, refl, sym, ap, ◌∙◌, subst, arith, eq-eqb, ne_eqb}
+use Rattle.std.proofs.Common.{◌≡◌, ℕ, Bool, zero, suc, ◌+◌, ◌-◌, ◌/◌, ◌^◌, ◌<◌, ◌≤◌, List, Some, length, refl, sym, ap, ◌∙◌, subst, arith, eq-eqb, ne_eqb}
 use Rattle.std.proofs.lemmas.Bool.{le-ltb}
 use native.Mathlib.Decide.{ℕ_discrete}
-use Rattle.std.specs.Prelude.{slice_get, slice_set, nat_lt, ◌==◌, if◌then◌else◌}
+use Rattle.std.specs.Prelude.{slice_get, slice_set, nat_lt, if◌then◌else◌}
 use Rattle.cb_ptr.specs.declared.word.State.{State}
 use Rattle.cb_ptr.specs.declared.word.State.TheVariants as state
 use Rattle.cb_ptr.specs.Word.{state_of, len_of, place_of, pins_of}
 use Rattle.cb_ptr.proofs.Laws.{len_of-below}
 use Rattle.cb_types.specs.declared.reply.Reply.{Reply}
 use Rattle.cb_types.specs.declared.reply.Reply.TheVariants as answer
-use Rattle.cb_world.specs.declared.object.Object.TheVariants as is
 use Rattle.cb_world.specs.Memory.{words_for}
 use Rattle.cb_world.specs.OpenSteps.{IsClaimOn, next_word, stored_once}
-use Rattle.cb_world.specs.OpenWrites.{IsOpen, left_of, touched}
+use Rattle.cb_world.specs.OpenWrites.{left_of, touched}
 use Rattle.cb_world.specs.Seats.{OpenWriteState, IsClaimAt, claims_of_seat, with_claims}
 use Rattle.cb_world.specs.Shown.{object_at}
 use Rattle.cb_world.specs.StillDesk.{here_is}
-use Rattle.cb_world.specs.StillWords.{stamp_at}
 use Rattle.cb_world.specs.World.{WorldState, IsSoundWorld, word_at}
 use Rattle.cb_world.proofs.Laws.{lies, lies_within, open_here, some_same}
-use Rattle.cb_mutate.specs.StillReplies.{reply_as, write_reply, empty_reply, next_reply, change_reply}
+use Rattle.cb_mutate.specs.StillReplies.{reply_as, write_reply, next_reply, change_reply}
 use Rattle.cb_core.specs.Claiming.{claim_reply, IsWordStored, IsVersionStored, next_place, StoreStep, nothing_left, stored, stamped, IsClaimSettled, SettleStep, not_stored, settled}
 
 -- the words of an object that is here lie in the memory

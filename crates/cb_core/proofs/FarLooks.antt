@@ -1,5 +1,5 @@
 -- Over any desk, what is found of a far object is a far word.
-use Rattle.std.proofs.Common.{◌≡◌, ◌⊎◌, ℕ, ◌+◌, ◌*◌, ◌^◌, ◌<◌, List, [], ◌∷◌, get_or, set, refl, sym, ap, ◌∙◌, subst, inl, inr, get_or-set_other}
+use Rattle.std.proofs.Common.{◌≡◌, ℕ, List, [], ◌∷◌, get_or, set, refl, sym, ap, ◌∙◌, subst, inl, inr, get_or-set_other}
 use native.Mathlib.Decide.{ℕ_discrete}
 use Rattle.cb_ptr.specs.declared.word.State.TheVariants as state
 use Rattle.cb_ptr.specs.Word.{state_of, len_of, place_of}
@@ -9,7 +9,7 @@ use Rattle.cb_world.specs.declared.event.Event.TheVariants.{Looked, Claimed, Tol
 use Rattle.cb_world.specs.declared.object.Object.{Object}
 use Rattle.cb_world.specs.declared.object.Object.TheVariants as is
 use Rattle.cb_world.specs.declared.shown.Shown.{Shown}
-use Rattle.cb_world.specs.Looks.{IsFound, IsLook, LooksFirst, NoLook}
+use Rattle.cb_world.specs.Looks.{IsFound, LooksFirst, NoLook}
 use Rattle.cb_world.specs.Played.{Agree, after, settled_by}
 use Rattle.cb_world.specs.Shown.{Fits, never, object_at, version_at}
 

@@ -98,4 +98,5 @@ pub mod WorkedUnmoved
 pub mod WorkedReadTurns
 pub mod WorkedLegal
 pub mod Admitted
+pub mod WorkedAdmitting
 pub mod Laws

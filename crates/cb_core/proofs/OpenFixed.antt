@@ -6,14 +6,13 @@ use Rattle.std.proofs.lemmas.Bool.{cases_lt}
 use Rattle.std.proofs.lemmas.List.{ext_get_or}
 use Rattle.std.proofs.lemmas.Nat.{from_le_bytes-to_le_bytes_8}
 use Rattle.cb_ptr.specs.Steps.{Settles}
-use Rattle.cb_ptr.specs.Word.{fields_of, place_of}
+use Rattle.cb_ptr.specs.Word.{place_of}
 use Rattle.cb_ptr.proofs.Laws.{same_from_fields}
 use Rattle.cb_types.specs.declared.reply.Reply.{Reply}
 use Rattle.cb_types.specs.declared.reply.Reply.TheVariants as answer
 use Rattle.cb_world.specs.OpenSteps.{IsClaimOn, next_word, stored_once}
 use Rattle.cb_world.specs.OpenWrites.{left_of}
 use Rattle.cb_world.specs.Pinned.{with_word}
-use Rattle.cb_world.specs.Plain.{Words}
 use Rattle.cb_world.specs.Seats.{OpenWriteState, claims_of_seat, with_claims}
 use Rattle.cb_world.specs.World.{WorldState, IsSoundWorld, word_at}
 use Rattle.cb_world.proofs.Laws.{some_same}

@@ -1,7 +1,6 @@
 -- What the steps of open writes leave as it was: the far state and the configuration.
 use Rattle.std.proofs.Common.{◌≡◌, ℕ, List, ap}
 use Rattle.cb_types.specs.declared.reply.Reply.{Reply}
-use Rattle.cb_world.specs.FarState.{FarState}
 use Rattle.cb_world.specs.Plain.{Words}
 use Rattle.cb_world.specs.World.{WorldState}
 use Rattle.cb_core.specs.Claiming.{ClaimStep, refused, taken, StoreStep, not_claimed, nothing_left, stored, stamped, SettleStep, not_stored, settled}

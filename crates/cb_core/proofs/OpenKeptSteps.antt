@@ -1,16 +1,14 @@
 -- The steps of open writes leave the world sound.
-use Rattle.std.proofs.Common.{◌≡◌, ℕ, ◌+◌, ◌-◌, ◌*◌, ◌^◌, ◌<◌, ◌≤◌, true, List, length, get_or, set, sym, ap, ◌∙◌, subst, arith}
+use Rattle.std.proofs.Common.{◌≡◌, ℕ, ◌+◌, ◌*◌, ◌<◌, true, List, length, get_or, set, sym, ap, ◌∙◌, subst, arith}
 use Rattle.cb_types.specs.declared.reply.Reply.{Reply}
-use Rattle.cb_types.specs.declared.reply.Reply.TheVariants as answer
 use Rattle.cb_ptr.specs.Steps.{Settles}
 use Rattle.cb_ptr.specs.Word.{place_of}
 use Rattle.cb_world.specs.OpenSteps.{next_word}
-use Rattle.cb_world.specs.OpenWrites.{left_of, touched}
 use Rattle.cb_world.specs.Pinned.{with_word}
 use Rattle.cb_world.specs.Plain.{Words}
 use Rattle.cb_world.specs.World.{WorldState, IsSoundWorld, word_at}
 use Rattle.cb_mutate.specs.Merged.{IsMerged}
-use Rattle.cb_core.specs.Claiming.{ClaimStep, refused, taken, MayClaim, StoreStep, not_claimed, nothing_left, stored, stamped, SettleStep, not_stored, settled}
+use Rattle.cb_core.specs.Claiming.{ClaimStep, refused, taken, StoreStep, not_claimed, nothing_left, stored, stamped, SettleStep, not_stored, settled}
 use Rattle.cb_core.proofs.OpenSettled.{settled_sound}
 use Rattle.cb_core.proofs.OpenStamped.{stamped_sound}
 use Rattle.cb_core.proofs.OpenSteps.{claimed_sound}

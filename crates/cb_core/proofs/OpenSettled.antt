@@ -1,11 +1,10 @@
 -- The world is sound once an open write is settled.
-use Rattle.std.proofs.Common.{◌≡◌, ◌≢◌, ◌⊎◌, ℕ, ◌+◌, ◌-◌, ◌*◌, ◌/◌, ◌<◌, ◌≤◌, true, List, length, get_or, set, sym, refl, ap, ◌∙◌, subst, arith, inl, length-set, get_or-set_other, get_or-set_same}
+use Rattle.std.proofs.Common.{◌≡◌, ◌≢◌, ℕ, ◌+◌, ◌*◌, ◌/◌, ◌<◌, ◌≤◌, true, length, sym, refl, ap, ◌∙◌, subst, arith, inl, length-set, get_or-set_other, get_or-set_same}
 use Rattle.std.specs.List.{remove}
 use native.Mathlib.Decide.{ℕ_discrete}
 use Rattle.cb_ptr.specs.Steps.{Settles}
 use Rattle.cb_ptr.specs.Word.{state_of, len_of, place_of, pins_of}
 use Rattle.cb_world.specs.declared.object.Object.{Object}
-use Rattle.cb_world.specs.declared.object.Object.TheVariants as is
 use Rattle.cb_world.specs.Memory.{window, words_for}
 use Rattle.cb_world.specs.OpenWrites.{IsOpen}
 use Rattle.cb_world.specs.Pinned.{with_word}

@@ -1,7 +1,7 @@
 -- The world is sound once the version word of an open write is stored.
-use Rattle.std.proofs.Common.{◌≡◌, ◌≢◌, ◌⊎◌, ℕ, Bool, zero, suc, eq-eqb, ◌+◌, ◌-◌, ◌*◌, ◌/◌, ◌<◌, ◌≤◌, List, length, get_or, set, sym, refl, ap, ◌∙◌, subst, arith, inl, inr, length-set, get_or-set_other, get_or-set_same}
+use Rattle.std.proofs.Common.{◌≡◌, ◌≢◌, ◌⊎◌, ℕ, Bool, zero, suc, eq-eqb, ◌+◌, ◌*◌, ◌/◌, ◌<◌, ◌≤◌, List, length, get_or, set, sym, refl, ap, ◌∙◌, subst, arith, inl, inr, length-set, get_or-set_other, get_or-set_same}
 use Rattle.std.specs.Prelude.{nat_eq, if◌then◌else◌}
-use Rattle.cb_ptr.specs.Word.{state_of, len_of, place_of, pins_of}
+use Rattle.cb_ptr.specs.Word.{len_of, place_of, pins_of}
 use Rattle.cb_world.specs.declared.object.Object.TheVariants as is
 use Rattle.cb_world.specs.declared.shown.Shown.{Shown}
 use Rattle.cb_world.specs.OpenWrites.{IsOpen, touched, left_of}

@@ -1,17 +1,16 @@
 -- The world is sound after a store of a memory word of an open write.
-use Rattle.std.proofs.Common.{◌≡◌, ◌≢◌, ◌⊎◌, ℕ, ◌+◌, ◌-◌, ◌*◌, ◌/◌, ◌<◌, ◌≤◌, List, length, get_or, set, sym, refl, ap, ◌∙◌, subst, arith}
-use Rattle.cb_world.specs.Memory.{window, words_for}
-use Rattle.cb_world.specs.OpenWrites.{IsOpen, AreOpen, touched, left_of, stamp_of}
+use Rattle.std.proofs.Common.{◌≡◌, ◌≢◌, ℕ, ◌+◌, ◌*◌, ◌/◌, ◌<◌, length, get_or, set, sym, refl, ◌∙◌, subst, arith}
+use Rattle.cb_world.specs.OpenWrites.{IsOpen, touched, left_of, stamp_of}
 use Rattle.cb_world.specs.Plain.{Words}
 use Rattle.cb_world.specs.Seats.{OpenWriteState, IsClaimAt, claims_of_seat, with_claims}
 use Rattle.cb_world.specs.StillWords.{contents_at}
-use Rattle.cb_world.specs.World.{WorldState, IsSoundWorld, word_at}
+use Rattle.cb_world.specs.World.{WorldState, IsSoundWorld}
 use Rattle.cb_world.specs.Write.{IsWriteBelow}
 use Rattle.cb_world.proofs.Laws.{pinned_still}
 use Rattle.cb_mutate.specs.Merged.{IsMerged}
 use Rattle.cb_core.proofs.OpenChanges.{goes_on}
 use Rattle.cb_core.proofs.OpenSteps.{claims_hold, claims_pinned, not_zero}
-use Rattle.cb_core.proofs.OpenStores.{desk, i, h, p, t, stored_known, stored_contents, others_stay}
+use Rattle.cb_core.proofs.OpenStores.{desk, i, p, t, stored_known, stored_contents, others_stay}
 
 module _ (w : WorldState) (seat place m : ℕ) (c : OpenWriteState) (sound : IsSoundWorld w)
     (lt : seat < 64) (there : IsClaimAt w.seats seat place c)

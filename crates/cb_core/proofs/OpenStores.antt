@@ -1,17 +1,14 @@
 -- A store of a memory word of an open write leaves the world sound.
-use Rattle.std.proofs.Common.{◌≡◌, ◌≢◌, ◌⊎◌, ℕ, zero, suc, ◌+◌, ◌-◌, ◌*◌, ◌/◌, ◌^◌, ◌<◌, ◌≤◌, List, [], ◌∷◌, ◌++◌, Some, length, get_or, set, sym, refl, ap, ◌∙◌, subst, arith, inl, inr, length-set, get_or-set_other, get_or-set_same}
-use native.Mathlib.Decide.{ℕ_discrete}
+use Rattle.std.proofs.Common.{◌≡◌, ◌≢◌, ℕ, zero, suc, ◌+◌, ◌*◌, ◌/◌, ◌<◌, ◌≤◌, List, length, get_or, set, sym, refl, ap, ◌∙◌, subst, arith, inl, inr, length-set, get_or-set_other}
 use Rattle.cb_ptr.specs.declared.word.State.TheVariants as state
-use Rattle.cb_ptr.specs.Word.{state_of, len_of, place_of, pins_of}
-use Rattle.cb_world.specs.declared.object.Object.{Object}
+use Rattle.cb_ptr.specs.Word.{state_of, len_of, place_of}
 use Rattle.cb_world.specs.declared.object.Object.TheVariants as is
 use Rattle.cb_world.specs.declared.shown.Shown.{Shown}
-use Rattle.cb_world.specs.FarState.{FarState}
 use Rattle.cb_world.specs.Memory.{window, put, words_for}
-use Rattle.cb_world.specs.OpenWrites.{IsOpen, AreOpen, touched}
+use Rattle.cb_world.specs.OpenWrites.{IsOpen, touched}
 use Rattle.cb_world.specs.Plain.{Words}
-use Rattle.cb_world.specs.Seats.{SeatState, OpenWriteState, IsClaimAt}
-use Rattle.cb_world.specs.Shown.{Covers, object_at}
+use Rattle.cb_world.specs.Seats.{OpenWriteState, IsClaimAt}
+use Rattle.cb_world.specs.Shown.{object_at}
 use Rattle.cb_world.specs.StillDesk.{here_is, put_window, window_length}
 use Rattle.cb_world.specs.StillWords.{contents_at}
 use Rattle.cb_world.specs.World.{WorldState, IsKnown, IsSoundWorld, word_at}

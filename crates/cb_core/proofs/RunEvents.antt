@@ -26,7 +26,7 @@ use Rattle.cb_world.specs.declared.shown.Shown.{Shown}
 use Rattle.cb_world.specs.FarState.{FarState}
 use Rattle.cb_world.specs.Memory.{bytes_in}
 use Rattle.cb_world.specs.Now.{now}
-use Rattle.cb_world.specs.Now.Now.{held, gone}
+use Rattle.cb_world.specs.Now.Now.{held}
 use Rattle.cb_world.specs.OpenSteps.{next_word}
 use Rattle.cb_world.specs.Pinned.{with_word}
 use Rattle.cb_world.specs.Plain.{Words}

@@ -1,5 +1,5 @@
 -- The calls of a run are answered as the plain map answers them, event by event.
-use Rattle.std.proofs.Common.{◌≡◌, ◌≢◌, ℕ, ◌+◌, ◌≤◌, List, [], ◌∷◌, ◌++◌, length, get_or, replicate, None, Some, refl, sym, ap, ◌∙◌, subst, arith, lit≤, inl, inr}
+use Rattle.std.proofs.Common.{◌≡◌, ◌≢◌, ℕ, List, [], ◌∷◌, ◌++◌, replicate, None, Some, refl, sym, ap, ◌∙◌, subst, arith, lit≤, inl, inr}
 use Rattle.std.specs.Prelude.{slice_get}
 use Rattle.std.specs.List.{AllByRecursion}
 use Rattle.std.proofs.lemmas.Bool.{cases_lt}
@@ -14,7 +14,6 @@ use Rattle.cb_model.proofs.Laws.{Follow-AreLegal}
 use Rattle.cb_world.specs.declared.shown.Shown.{Shown}
 use Rattle.cb_world.specs.Empty.{empty_words, empty_far, empty_shown}
 use Rattle.cb_world.specs.Now.{now}
-use Rattle.cb_world.specs.Now.Now.{gone}
 use Rattle.cb_world.specs.Seats.{SeatState, OpenWriteState, IsClaimAt, idle_seat, seat_at}
 use Rattle.cb_world.specs.World.{WorldState, IsKnown, IsSoundWorld, empty_world}
 use Rattle.cb_world.proofs.Laws.{empty_shows, empty_sound, now_same, empty_world_sound}

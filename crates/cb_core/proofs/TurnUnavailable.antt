@@ -1,10 +1,8 @@
 -- Over any desk a turn is answered Unavailable exactly where it is to be.
-use Rattle.std.proofs.Common.{◌≡◌, ℕ, Bool, true, false, ◌^◌, ◌<◌, List, [], length, Option, Some, None, refl, sym, ap, ◌∙◌, subst, arith, inl, inr}
+use Rattle.std.proofs.Common.{◌≡◌, ℕ, Bool, true, false, List, [], length, Some, None, refl, sym, ap, ◌∙◌, subst, arith, inl, inr}
 use Rattle.std.proofs.lemmas.Bool.{false≢true}
-use Rattle.cb_frame.specs.FreeFrames.{least_free}
 use Rattle.cb_member.specs.declared.names.Loss.{Loss}
 use Rattle.cb_ptr.specs.declared.word.State.{State}
-use Rattle.cb_ptr.specs.declared.word.State.TheVariants as state
 use Rattle.cb_ptr.specs.Word.{state_of}
 use Rattle.cb_set.specs.Lost.{lost}
 use Rattle.cb_types.specs.declared.config.Config.{Config}
@@ -25,18 +23,16 @@ use Rattle.cb_world.specs.Sound.{Sound}
 use Rattle.cb_world.proofs.Laws.{some_same}
 use Rattle.cb_mutate.specs.Answered.{AnsweredAs, AnsweredBy}
 use Rattle.cb_mutate.specs.MakeRule.{MakeRule}
-use Rattle.cb_evict.specs.declared.eviction.Eviction.TheVariants.{Set}
-use Rattle.cb_swapin.specs.SwapRule.{SwapRule}
-use Rattle.cb_swapin.proofs.Laws.{by_answer, gone_is_broken, unavailable_answer}
+use Rattle.cb_swapin.proofs.Laws.{by_answer, gone_is_broken}
 use Rattle.cb_core.specs.OnceHere.{IsThere, OnceHere, away, here}
-use Rattle.cb_core.specs.Parts.{Holding, WithRoom, WhereItIs, BringsIn, at_once, no_room, won, near, declined, stays_far, brought, not_far, was_far}
+use Rattle.cb_core.specs.Parts.{Holding, WithRoom, WhereItIs, at_once, no_room, won, near, declined, stays_far, brought, not_far, was_far}
 use Rattle.cb_core.specs.FarJobs.{FarStep}
-use Rattle.cb_core.specs.Turned.{Brings, ComesIn, Declines, Does, Finds, IsDeclined, Makes, Reads, Swaps, Turned, WinsRoom, Writes, counted, once_counted, worn, done}
+use Rattle.cb_core.specs.Turned.{Brings, ComesIn, Declines, Does, IsDeclined, Makes, Reads, Swaps, Turned, WinsRoom, Writes, counted, once_counted, worn, done}
 use Rattle.cb_core.specs.Unavailable.{IsInLost, TurnTells, brought_by}
 use Rattle.cb_core.proofs.Counting.{counted_sound}
 use Rattle.cb_core.proofs.FarJobs.{AnswersLine, far_job}
 use Rattle.cb_core.proofs.FarLooks.{found_away}
-use Rattle.cb_core.proofs.NoFrames.{Plain, abort_plain, answered, begin_plain, commit_plain, declined_plain, evict_plain, filter_plain, free_plain, read_plain, ship_plain, stays_plain, whole, write_plain}
+use Rattle.cb_core.proofs.NoFrames.{abort_plain, answered, begin_plain, commit_plain, declined_plain, evict_plain, filter_plain, free_plain, read_plain, ship_plain, stays_plain, whole, write_plain}
 use Rattle.cb_core.proofs.TurnCallsFar.{IsLostFar, lost_away, lost_now, never_gone}
 use Rattle.cb_core.proofs.TurnCallsLost.{gone_lost}
 use Rattle.cb_core.proofs.Unavailables.{far_in, gone_is, in_far, one_lost}

@@ -1,20 +1,18 @@
 -- Worked examples of a write in steps and of the far lock: steps, and steps with one part broken.
-use Rattle.std.proofs.Common.{◌≡◌, ◌≢◌, ◌⊎◌, ℕ, zero, suc, ◌+◌, ◌-◌, ◌^◌, ◌<◌, ◌≤◌, true, false, List, [], ◌∷◌, Option, None, Some, length, get_or, slice_get, refl, ap, sym, ◌∙◌, lit<, lit≤, arith, inl, inr}
-use Rattle.cb_types.specs.declared.reply.Reply.{Reply}
+use Rattle.std.proofs.Common.{◌≡◌, ℕ, zero, suc, ◌-◌, ◌^◌, true, false, List, [], ◌∷◌, None, Some, length, get_or, refl, ap, lit<, lit≤, arith}
 use Rattle.cb_types.specs.declared.reply.Reply.TheVariants as answer
 use Rattle.cb_world.specs.FarState.{FarState}
 use Rattle.cb_world.specs.Memory.{window}
 use Rattle.cb_world.specs.OpenSteps.{IsClaimOn, NoClaimOn}
-use Rattle.cb_world.specs.OpenWrites.{left_of}
 use Rattle.cb_world.specs.Plain.{Words}
-use Rattle.cb_world.specs.Seats.{SeatState, OpenWriteState, Holds, idle_seat, claims_of_seat}
+use Rattle.cb_world.specs.Seats.{SeatState, OpenWriteState, idle_seat, claims_of_seat}
 use Rattle.cb_world.specs.World.{WorldState}
 use Rattle.cb_core.specs.declared.event.Atomic.TheVariants.{Claim, Store, Settle}
 use Rattle.cb_core.specs.declared.event.Event.TheVariants as event
 use Rattle.cb_core.specs.Step.{Step}
-use Rattle.cb_core.specs.Claiming.{claim_answer, ClaimStep, refused, taken, StoreStep, not_claimed, nothing_left, stored, stamped, SettleStep, not_stored, settled}
+use Rattle.cb_core.specs.Claiming.{claim_answer, ClaimStep, refused, taken, StoreStep, not_claimed, nothing_left, stamped, SettleStep, not_stored, settled}
 use Rattle.cb_core.specs.Holding.{TakeStep, held, taken as lock_taken, GiveStep, not_held, given}
-use Rattle.cb_core.proofs.WorkedPins.{away, calm, moving, hot, pinned, desk, settings}
+use Rattle.cb_core.proofs.WorkedPins.{away, calm, moving, hot, pinned, settings}
 
 -- object 0, of two bytes, has this word, this version and this memory word; the first of two seats
 -- has these open writes and may hold the lock

@@ -1,6 +1,6 @@
 -- Worked examples of turns beside the far lock: those that take place and those that are refused, and
 -- each with one part broken.
-use Rattle.std.proofs.Common.{◌≡◌, ℕ, zero, suc, ◌<◌, true, false, List, [], ◌∷◌, None, refl, ap, sym, lit<, arith}
+use Rattle.std.proofs.Common.{◌≡◌, ℕ, zero, suc, true, false, List, [], ◌∷◌, None, refl, ap, sym, lit<, arith}
 use Rattle.cb_types.specs.declared.job.Job.{Job}
 use Rattle.cb_types.specs.declared.job.Job.TheVariants.{Crash}
 use Rattle.cb_types.specs.declared.reply.Reply.{Reply}
@@ -13,9 +13,9 @@ use Rattle.cb_core.specs.declared.event.Event.TheVariants as event
 use Rattle.cb_core.specs.Events.{IsEvent}
 use Rattle.cb_core.specs.Holding.{not_held, taken, given}
 use Rattle.cb_core.specs.Membership.{crashed, is_down}
-use Rattle.cb_core.specs.Step.{SeatTurn, held, free, TurnStep, worn, done, Step, Leads, Stops}
+use Rattle.cb_core.specs.Step.{SeatTurn, held, free, TurnStep, worn, done, Leads, Stops}
 use Rattle.cb_core.proofs.WorkedPins.{settings, calm}
-use Rattle.cb_core.proofs.WorkedTurns.{node, far, far_down, world, idle, three, four, old, crashed_down, crash_turn, nobody}
+use Rattle.cb_core.proofs.WorkedTurns.{node, far, far_down, world, idle, three, four, old, crashed_down, nobody}
 
 -- the first of two seats holds the far lock
 abbrev locked : List SeatState

@@ -159,7 +159,7 @@ pub known_counted : (w : WorldState) (job : Job) (s : Shown) → IsKnown w.desk 
 known_counted w job s k = known_far w.desk w.far (counted w.far job) s k
     (counted_sound s w.far (counted w.far job) job refl k.sound)
 
-pub counted_good : (w : WorldState) (job : Job) → IsSoundWorld w
+abbrev pub counted_good : (w : WorldState) (job : Job) → IsSoundWorld w
     → IsGood w.desk.settings w.seats (once_counted (held w) job)
 counted_good w job sound = record {
   settings = refl;

@@ -6,7 +6,7 @@ use Rattle.cb_types.specs.declared.reply.Reply.{Reply}
 use Rattle.cb_types.specs.declared.reply.Reply.TheVariants as answer
 use Rattle.cb_world.specs.Grasped.{IsFree}
 use Rattle.cb_world.specs.OpenSteps.{IsClaimOn, NoClaimOn, IsClaimed, IsSettled, next_word, stored_once}
-use Rattle.cb_world.specs.OpenWrites.{left_of, touched}
+use Rattle.cb_world.specs.OpenWrites.{left_of}
 use Rattle.cb_world.specs.Plain.{Words}
 use Rattle.cb_world.specs.Seats.{OpenWriteState, claims_of_seat, with_claims}
 use Rattle.cb_world.specs.StillWords.{stamp_at, contents_at}

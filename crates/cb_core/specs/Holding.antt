@@ -3,7 +3,7 @@ use Rattle.std.specs.Prelude.{◌≡◌, ℕ, List, true, false}
 use Rattle.cb_types.specs.declared.reply.Reply.{Reply}
 use Rattle.cb_types.specs.declared.reply.Reply.TheVariants as answer
 use Rattle.cb_world.specs.OpenSteps.{NoneHolds}
-use Rattle.cb_world.specs.Seats.{SeatState, Holds, seat_at, with_holds}
+use Rattle.cb_world.specs.Seats.{SeatState, Holds, with_holds}
 use Rattle.cb_world.specs.World.{WorldState}
 
 -- no seat but this one holds the far lock

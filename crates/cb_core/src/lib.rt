@@ -2,6 +2,7 @@
 //! atomic step, and the world after each event is fixed by one relation.
 #![tactic(auto)]
 
+pub mod admitting;
 mod bringing;
 mod claiming;
 mod declining;
@@ -15,10 +16,11 @@ pub mod running;
 pub mod stepping;
 pub mod turning;
 
+pub use admitting::admit_turn;
 pub use cb_types::Job;
 pub use event::{Atomic, Event};
 pub use reading::bring_to_read;
 pub use replies::Replies;
 pub use running::run;
-pub use stepping::{admit_turn, step};
+pub use stepping::step;
 pub use turning::{MOST_TURNS, turn};

@@ -1,6 +1,5 @@
-ghost use Rattle.std.specs.Prelude.{◌≡◌, ◌<◌, IfNone, IfOk, IfSome, OnErr};
+ghost use Rattle.std.specs.Prelude.{◌≡◌, ◌<◌, IfOk, OnErr};
 ghost use Rattle.cb_world.specs.World.{IsSoundWorld};
-ghost use Rattle.cb_core.specs.Admitting.{IsAdmitted, IsTurnRefused};
 ghost use Rattle.cb_core.specs.Events.{IsAtomic, IsEvent};
 ghost use Rattle.cb_core.specs.Jobs.{IsJob};
 ghost use Rattle.cb_core.specs.Run.{LeavesAsBefore};
@@ -11,7 +10,7 @@ use crate::claiming::{claim, settle, store};
 use crate::event::{Atomic, Event};
 use crate::holding::{give, other_holder, take};
 use crate::pinning::{pin, unpin};
-use crate::turning::{count_turn, turn};
+use crate::turning::turn;
 use cb_types::{Job, NoMemory, Reply};
 use cb_world::World;
 use std::alloc::Global;
@@ -96,26 +95,4 @@ fn turn_step(alloc: Global, world: &mut World, job: &Job) -> Result<Reply, NoMem
     ensures error { OnErr result (TurnStops job.now world.old world.new) }
 {
     turn(alloc, &mut world.desk, &mut world.far, job)
-}
-
-/// Counts a turn of a seat whose job the caller does. Takes no memory. Answers None where it is
-/// counted, and else why it is refused, as `step` refuses it: with Held, and the seat, where
-/// another one holds the far lock, and with Worn where 2^40 turns were counted. A turn that is
-/// refused changes nothing.
-pub fn admit_turn(world: &mut World, seat: u32, job: &Job) -> Option<Reply>
-    requires sound { IsSoundWorld world.old }
-    requires seat { seat < 64 }
-    ensures refused { IfSome result (λ reply. IsTurnRefused seat world.old reply) }
-    ensures same { IfSome result (λ reply. world.new ≡ world.old) }
-    ensures admitted { IfNone result (IsAdmitted seat job.now world.old world.new) }
-    ensures sound { IsSoundWorld world.new }
-{
-    if let Some(holder) = other_holder(world, seat) {
-        return Some(Reply::Held { seat: holder });
-    }
-    if count_turn(&mut world.far, job) {
-        None
-    } else {
-        Some(Reply::Worn)
-    }
 }

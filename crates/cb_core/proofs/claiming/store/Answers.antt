@@ -1,4 +1,4 @@
-use Rattle.std.proofs.Common.{◌-◌, ◌≤◌, arith, refl, sym, subst}
+use Rattle.std.proofs.Common.{◌-◌, arith, refl, sym, subst}
 use Rattle.cb_types.specs.declared.reply.Reply.TheVariants as answer
 use Rattle.cb_world.specs.World.{WorldState, IsSoundWorld}
 use Rattle.cb_core.specs.Claiming.{StoreStep}
