@@ -27,28 +27,32 @@ use Rattle.cb_script.specs.declared.script.Line.{Line}
 use Rattle.cb_script.specs.Form.{IsRequest, AreLines}
 use Rattle.cb_world.specs.FarState.{FarState}
 use Rattle.cb_world.specs.OpenSteps.{NoneHolds}
+use Rattle.cb_world.specs.Plain.{Words}
 use Rattle.cb_world.specs.Seats.{pins_of_seat}
 use Rattle.cb_world.specs.World.{WorldState, IsSoundWorld, empty_world}
 use Rattle.cb_mutate.specs.MapBeside.{IsMapBeside}
 use Rattle.cb_mutate.proofs.Laws.{is_map_reply, is_map_make, beside_kept, empty_beside}
 use Rattle.cb_core.specs.declared.event.Event.TheVariants.{Turn}
-use Rattle.cb_core.proofs.Laws.{are_gone, step_settings, evict_turn, begin_turn, ship_turn, commit_turn, abort_turn, pair_turn, patch_turn, merge_turn, part_turn, compact_turn, rebuild_turn}
+use Rattle.cb_core.proofs.Laws.{are_gone, step_settings, evict_turn, begin_turn, ship_turn, commit_turn, abort_turn, pair_turn, patch_turn, merge_turn, part_turn, rebuild_turn}
 use Rattle.cb_world.specs.Empty.{empty_words, empty_far, empty_shown}
 use Rattle.cb_world.proofs.Laws.{empty_shows, empty_sound, now_same, empty_world_sound}
 use Rattle.cb_lanes.specs.Asked.{answer_to, asked, HasLineReply}
 use Rattle.cb_lanes.specs.Held.{HoldsAnswers}
 use Rattle.cb_lanes.specs.GivingBack.{Rests, lines_of}
 use Rattle.cb_lanes.specs.LineAnswered.{LineAnswered}
-use Rattle.cb_lanes.specs.LineStep.{LineStep, ObjectStep, OtherStep, job_of, PeekStep, not_pinned, shown}
+use Rattle.cb_lanes.specs.LineStep.{LineStep, ObjectStep, OtherStep, TurnAt, job_of, PeekStep, not_pinned, shown}
+use Rattle.cb_lanes.specs.declared.side.Side.{Side}
 use Rattle.cb_lanes.specs.LinesLeft.{AreLanes}
 use Rattle.cb_lanes.specs.Lost.{loss_of, losses_of}
 use Rattle.cb_lanes.specs.Names.{Names, kept_number, handle_at, handle_in, number_after, AreKept, AreReady}
 use Rattle.cb_lanes.specs.Scopes.{KeepScopes, ScopeSays, scope_of}
+use Rattle.cb_lanes.proofs.CompactGoes.{compact_goes}
 use Rattle.cb_lanes.proofs.GivingBack.{unpin_stands, gives_all}
 use Rattle.cb_lanes.proofs.LineGoes.{read_goes, write_goes, free_goes, filter_goes, make_goes}
 use Rattle.cb_lanes.proofs.Lone.{empty_lone, line_lone, rests_lone, turn_alone}
 use Rattle.cb_lanes.proofs.NamesKept.{name_within}
 use Rattle.cb_lanes.proofs.Pinning.{pin_goes, pin_settings, peek_goes, unpin_goes, leave_goes}
+use Rattle.cb_lanes.proofs.Recounting.{turn_beside}
 use Rattle.cb_lanes.proofs.Scoping.{Scoped, line_scoped}
 use Rattle.cb_lanes.proofs.ScopesKept.{AreScopes, scopes_none, scopes_push, keep_push, Rested, rests, LeadsOn, leads_push, IsFresh, grown, apart_after, lines_own}
 use Rattle.cb_lanes.proofs.Silent.{unmade_line, still_goes, crash_goes, join_goes}
@@ -57,7 +61,7 @@ use Rattle.cb_lanes.proofs.Turning.{Turning, around, Goes}
 -- The answers so far are the map's, the map is beside the world that they led to, in which no seat
 -- holds the far lock, the names are what these answers made of them, and each lane that has lines to
 -- come has the pins of its scope.
-pub record Along (c : Config) (later : List ℕ) (answers : List Answer) (w : WorldState) (names : Names) : Type 0
+pub record Along (side : Side) (c : Config) (later : List ℕ) (answers : List Answer) (w : WorldState) (names : Names) : Type 0
   where
     pub sound : IsSoundWorld w
     pub beside : IsMapBeside (calls_of answers) sound.shown w.far
@@ -65,7 +69,7 @@ pub record Along (c : Config) (later : List ℕ) (answers : List Answer) (w : Wo
     pub first : w.far.first ≡ 1
     pub turns : w.far.counts.turns ≤ length answers
     pub lone : NoneHolds w.seats
-    pub leads : LeadsOn later [] (empty_world c) answers w
+    pub leads : LeadsOn side later [] (empty_world c) answers w
     pub follow : Follow 1 c.handles [] (calls_of answers)
     pub answered : AllByRecursion HasLineReply answers
     pub kept : (name : List ℕ) → handle_of answers name ≡ kept_number names name
@@ -76,88 +80,87 @@ pub record Along (c : Config) (later : List ℕ) (answers : List Answer) (w : Wo
 -- ---- a line
 
 -- the line on an object whose name has this handle, if it has one
-pub line_goes : (answers : List Answer) (l : Line) (request : Request) (r : Reply) (w new : WorldState)
+pub line_goes : (side : Side) (answers : List Answer) (l : Line) (request : Request) (r : Reply) (w new : WorldState)
     (handle : Option ℕ) → (c : Turning answers w new)
     → IsRequest w.desk.settings.nodes request
     → handle_named answers (name_of request) ≡ handle
     → ((h : ℕ) → handle ≡ Some h → h < w.desk.settings.handles)
     → l.lane.n < 64 → ((h : ℕ) → handle ≡ Some h → h < w.far.made)
     → ((seat : ℕ) → 16 ≤ seat → pins_of_seat w.seats seat ≡ [])
-    → LineStep l.lane.n handle request w r new
+    → LineStep side l.lane.n handle request w r new
     → Goes answers (answer_to l request r) w new c.then.shown
-line_goes answers l (Make name bytes) r w new handle c is named ready lt made few step =
+line_goes side answers l (Make name bytes) r w new handle c is named ready lt made few step =
     make_goes answers l name bytes r w new c
     (turn_alone l.lane.n (job.Make bytes) w new r c.lone step)
-line_goes answers l Evict r w new handle c is named ready lt made few step =
+line_goes side answers l Evict r w new handle c is named ready lt made few step =
     still_goes job.Evict Evict evict_turn refl (λ xs q. refl) answers l r w new c
     (turn_alone l.lane.n job.Evict w new r c.lone step)
-line_goes answers l Begin r w new handle c is named ready lt made few step =
+line_goes side answers l Begin r w new handle c is named ready lt made few step =
     still_goes job.Begin Begin begin_turn refl (λ xs q. refl) answers l r w new c
     (turn_alone l.lane.n job.Begin w new r c.lone step)
-line_goes answers l Ship r w new handle c is named ready lt made few step =
+line_goes side answers l Ship r w new handle c is named ready lt made few step =
     still_goes job.Ship Ship ship_turn refl (λ xs q. refl) answers l r w new c
     (turn_alone l.lane.n job.Ship w new r c.lone step)
-line_goes answers l Commit r w new handle c is named ready lt made few step =
+line_goes side answers l Commit r w new handle c is named ready lt made few step =
     still_goes job.Commit Commit commit_turn refl (λ xs q. refl) answers l r w new c
     (turn_alone l.lane.n job.Commit w new r c.lone step)
-line_goes answers l Abort r w new handle c is named ready lt made few step =
+line_goes side answers l Abort r w new handle c is named ready lt made few step =
     still_goes job.Abort Abort abort_turn refl (λ xs q. refl) answers l r w new c
     (turn_alone l.lane.n job.Abort w new r c.lone step)
-line_goes answers l Pair r w new handle c is named ready lt made few step =
+line_goes side answers l Pair r w new handle c is named ready lt made few step =
     still_goes job.Pair Pair pair_turn refl (λ xs q. refl) answers l r w new c
     (turn_alone l.lane.n job.Pair w new r c.lone step)
-line_goes answers l Patch r w new handle c is named ready lt made few step =
+line_goes side answers l Patch r w new handle c is named ready lt made few step =
     still_goes job.Patch Patch patch_turn refl (λ xs q. refl) answers l r w new c
     (turn_alone l.lane.n job.Patch w new r c.lone step)
-line_goes answers l Merge r w new handle c is named ready lt made few step =
+line_goes side answers l Merge r w new handle c is named ready lt made few step =
     still_goes job.Merge Merge merge_turn refl (λ xs q. refl) answers l r w new c
     (turn_alone l.lane.n job.Merge w new r c.lone step)
-line_goes answers l Part r w new handle c is named ready lt made few step =
+line_goes side answers l Part r w new handle c is named ready lt made few step =
     still_goes job.Part Part part_turn refl (λ xs q. refl) answers l r w new c
     (turn_alone l.lane.n job.Part w new r c.lone step)
-line_goes answers l Compact r w new handle c is named ready lt made few step =
-    still_goes job.Compact Compact compact_turn refl (λ xs q. refl) answers l r w new c
-    (turn_alone l.lane.n job.Compact w new r c.lone step)
-line_goes answers l Rebuild r w new handle c is named ready lt made few step =
+line_goes side answers l Compact r w new handle c is named ready lt made few step =
+    compact_goes side answers l r w new c step
+line_goes side answers l Rebuild r w new handle c is named ready lt made few step =
     still_goes job.Rebuild Rebuild rebuild_turn refl (λ xs q. refl) answers l r w new c
     (turn_alone l.lane.n job.Rebuild w new r c.lone step)
-line_goes answers l (Crash node) r w new handle c is named ready lt made few step =
+line_goes side answers l (Crash node) r w new handle c is named ready lt made few step =
     crash_goes answers l node r w new c is (turn_alone l.lane.n (job.Crash node) w new r c.lone step)
-line_goes answers l (Join node) r w new handle c is named ready lt made few step =
+line_goes side answers l (Join node) r w new handle c is named ready lt made few step =
     join_goes answers l node r w new c is (turn_alone l.lane.n (job.Join node) w new r c.lone step)
-line_goes answers l (Read name) r w new None c is named ready lt made few step =
+line_goes side answers l (Read name) r w new None c is named ready lt made few step =
     unmade_line answers l (Read name) name r w new (around answers w new c) named refl refl tt step
-line_goes answers l (Read name) r w new (Some h) c is named ready lt made few step =
+line_goes side answers l (Read name) r w new (Some h) c is named ready lt made few step =
     read_goes answers l name h r w new c (ready h refl) named
     (turn_alone l.lane.n (job.Read (record { n = h })) w new r c.lone step)
-line_goes answers l (Write name at bytes) r w new None c is named ready lt made few step =
+line_goes side answers l (Write name at bytes) r w new None c is named ready lt made few step =
     unmade_line answers l (Write name at bytes) name r w new (around answers w new c) named refl refl tt step
-line_goes answers l (Write name at bytes) r w new (Some h) c is named ready lt made few step =
+line_goes side answers l (Write name at bytes) r w new (Some h) c is named ready lt made few step =
     write_goes answers l name at bytes h r w new c (ready h refl) named
     (turn_alone l.lane.n (job.Write (record { n = h }) at bytes) w new r c.lone step)
-line_goes answers l (Free name) r w new None c is named ready lt made few step =
+line_goes side answers l (Free name) r w new None c is named ready lt made few step =
     unmade_line answers l (Free name) name r w new (around answers w new c) named refl refl tt step
-line_goes answers l (Free name) r w new (Some h) c is named ready lt made few step =
+line_goes side answers l (Free name) r w new (Some h) c is named ready lt made few step =
     free_goes answers l name h r w new c (ready h refl) named
     (turn_alone l.lane.n (job.Free (record { n = h })) w new r c.lone step)
-line_goes answers l (Filter name) r w new None c is named ready lt made few step =
+line_goes side answers l (Filter name) r w new None c is named ready lt made few step =
     unmade_line answers l (Filter name) name r w new (around answers w new c) named refl refl tt step
-line_goes answers l (Filter name) r w new (Some h) c is named ready lt made few step =
+line_goes side answers l (Filter name) r w new (Some h) c is named ready lt made few step =
     filter_goes answers l name h r w new c (ready h refl) named
     (turn_alone l.lane.n (job.Filter (record { n = h })) w new r c.lone step)
-line_goes answers l Leave r w new handle c is named ready lt made few step =
+line_goes side answers l Leave r w new handle c is named ready lt made few step =
     leave_goes answers l (length (pins_of_seat w.seats l.lane.n)) r w new (around answers w new c) lt step.0 step.1
-line_goes answers l (Pin name) r w new None c is named ready lt made few step =
+line_goes side answers l (Pin name) r w new None c is named ready lt made few step =
     unmade_line answers l (Pin name) name r w new (around answers w new c) named refl refl tt step
-line_goes answers l (Pin name) r w new (Some h) c is named ready lt made few step =
+line_goes side answers l (Pin name) r w new (Some h) c is named ready lt made few step =
     pin_goes answers l name h r w new c lt (ready h refl) (made h refl) few named step
-line_goes answers l (Peek name) r w new None c is named ready lt made few step =
+line_goes side answers l (Peek name) r w new None c is named ready lt made few step =
     unmade_line answers l (Peek name) name r w new (around answers w new c) named refl refl tt step
-line_goes answers l (Peek name) r w new (Some h) c is named ready lt made few step =
+line_goes side answers l (Peek name) r w new (Some h) c is named ready lt made few step =
     peek_goes answers l name h r w new (around answers w new c) lt (made h refl) named step
-line_goes answers l (Unpin name) r w new None c is named ready lt made few step =
+line_goes side answers l (Unpin name) r w new None c is named ready lt made few step =
     unmade_line answers l (Unpin name) name r w new (around answers w new c) named refl refl tt step
-line_goes answers l (Unpin name) r w new (Some h) c is named ready lt made few step =
+line_goes side answers l (Unpin name) r w new (Some h) c is named ready lt made few step =
     unpin_goes answers l name h r w new (around answers w new c) lt (ready h refl) (made h refl) named step
 
 -- ---- the handle that an answer is about
@@ -277,35 +280,36 @@ object_settings seat (Some h) (Peek name) w new r sound lt ready step = peek_set
     peek_settings (shown at newest is same) = ap (λ (v : WorldState). v.desk.settings) same
 object_settings seat (Some h) request w new r sound lt ready step = absurd step
 
-other_settings : (seat : ℕ) (handle : Option ℕ) (request : Request) (o : Option Job) (w new : WorldState)
-    (r : Reply) → IsSoundWorld w → seat < 64
+other_settings : (side : Side) (seat : ℕ) (handle : Option ℕ) (request : Request)
+    (o : Option Job) (w new : WorldState) (r : Reply) → IsSoundWorld w → seat < 64
     → ((h : ℕ) → handle ≡ Some h → h < w.desk.settings.handles)
-    → OtherStep seat handle request o w r new → new.desk.settings ≡ w.desk.settings
-other_settings seat handle request (Some j) w new r sound lt ready step =
-    step_settings w new (Turn seat j) r step
-other_settings seat handle request None w new r sound lt ready step =
+    → OtherStep side seat handle request o w r new → new.desk.settings ≡ w.desk.settings
+other_settings side seat handle request (Some j) w new r sound lt ready step =
+    let z = turn_beside j side seat w new r step in
+    ap (λ (d : Words). d.settings) z.counts.desk ∙ step_settings w z.mid (Turn seat j) r z.step
+other_settings side seat handle request None w new r sound lt ready step =
     object_settings seat handle request w new r sound lt ready step
 
 -- no line changes the configuration
-pub line_settings : (seat : ℕ) (handle : Option ℕ) (request : Request) (w new : WorldState) (r : Reply)
-    → IsSoundWorld w → seat < 64 → ((h : ℕ) → handle ≡ Some h → h < w.desk.settings.handles)
-    → LineStep seat handle request w r new → new.desk.settings ≡ w.desk.settings
-line_settings seat handle (Make name bytes) w new r sound lt ready step =
+pub line_settings : (side : Side) (seat : ℕ) (handle : Option ℕ) (request : Request)
+    (w new : WorldState) (r : Reply) → IsSoundWorld w → seat < 64 → ((h : ℕ) → handle ≡ Some h → h < w.desk.settings.handles)
+    → LineStep side seat handle request w r new → new.desk.settings ≡ w.desk.settings
+line_settings side seat handle (Make name bytes) w new r sound lt ready step =
     step_settings w new (Turn seat (job.Make bytes)) r step
-line_settings seat handle Leave w new r sound lt ready step =
+line_settings side seat handle Leave w new r sound lt ready step =
     (gives_all seat w new sound lt step.1).0.settings
-line_settings seat handle request w new r sound lt ready step =
-    other_settings seat handle request (job_of request) w new r sound lt ready step
+line_settings side seat handle request w new r sound lt ready step =
+    other_settings side seat handle request (job_of request) w new r sound lt ready step
 
 -- what the lines after this one need
-along_push : (c : Config) (later : List ℕ) (answers : List Answer) (l : Line) (request : Request) (r : Reply)
-    (w new rested : WorldState) (names kept : Names) → Along c (l.lane.n ∷ later) answers w names
+along_push : (side : Side) (c : Config) (later : List ℕ) (answers : List Answer) (l : Line)
+    (request : Request) (r : Reply) (w new rested : WorldState) (names kept : Names) → Along side c (l.lane.n ∷ later) answers w names
     → length answers < 20000 → l.lane.n < 64 → IsSoundWorld new → IsRequest c.nodes request
     → IsFresh (kept_number names) request
-    → LineStep l.lane.n (handle_in names request) request w r new → AreKept names request r kept
+    → LineStep side l.lane.n (handle_in names request) request w r new → AreKept names request r kept
     → Rests (lines_of l.lane.n later) l.lane.n new rested
-    → Along c later (answers ++ answer_to l request r ∷ []) rested kept
-along_push c later answers l request r w new rested names kept along few lt then is fresh step
+    → Along side c later (answers ++ answer_to l request r ∷ []) rested kept
+along_push side c later answers l request r w new rested names kept along few lt then is fresh step
     names_after rest = record {
       sound = behind.stands.sound;
       beside = rw more
@@ -314,15 +318,15 @@ along_push c later answers l request r w new rested names kept along few lt then
           (λ k. behind.stands.holds then.shown behind.stands.sound.shown k then.known
           behind.stands.sound.known));
       settings = behind.stands.settings
-          ∙ line_settings l.lane.n (handle_in names request) request w new r along.sound lt ready step
+          ∙ line_settings side l.lane.n (handle_in names request) request w new r along.sound lt ready step
           ∙ along.settings;
       first = ap (λ (f : FarState). f.first) behind.stands.far ∙ goes.first ∙ along.first;
       turns = let turns = goes.turns in let before = along.turns in
           let same = ap (λ (f : FarState). f.counts.turns) behind.stands.far in
           omega (arith, turns, before, same, length_push answers a);
       lone = rests_lone (lines_of l.lane.n later) l.lane.n new rested rest
-          (line_lone l.lane.n (handle_in names request) request w new r step along.lone);
-      leads = leads_push later [] answers (empty_world c) w new rested a along.leads step_by_answers rest
+          (line_lone side l.lane.n (handle_in names request) request w new r step along.lone);
+      leads = leads_push side later [] answers (empty_world c) w new rested a along.leads step_by_answers rest
           behind.stands.sound;
       follow = rw more (Follow-push 1 c.handles [] (calls_of answers) (called answers a) along.follow reply);
       answered = all_push answers a along.answered goes.reply;
@@ -349,8 +353,8 @@ along_push c later answers l request r w new rested names kept along few lt then
     named : handle_named answers (name_of request) ≡ handle_in names request
     named = same_name answers names (name_of request) along.kept
 
-    step_by_answers : LineStep l.lane.n (handle_named answers (name_of request)) request w r new
-    step_by_answers = subst (λ (o : Option ℕ). LineStep l.lane.n o request w r new) (sym named) step
+    step_by_answers : LineStep side l.lane.n (handle_named answers (name_of request)) request w r new
+    step_by_answers = subst (λ (o : Option ℕ). LineStep side l.lane.n o request w r new) (sym named) step
 
     most : makes (calls_of answers) ≤ c.handles
     most = makes-le 1 c.handles [] (calls_of answers) (omega arith) along.follow
@@ -370,7 +374,7 @@ along_push c later answers l request r w new rested names kept along few lt then
     }
 
     goes : Goes answers a w new then.shown
-    goes = line_goes answers l request r w new (handle_in names request) turning
+    goes = line_goes side answers l request r w new (handle_in names request) turning
         (subst (λ (d : Config). IsRequest d.nodes request) (sym along.settings) is) named ready lt
         (λ h e. name_within names w.far.made (name_of request) h along.within e)
         (λ seat high. along.scopes.gone seat (along.scopes.low seat high)) step
@@ -380,7 +384,7 @@ along_push c later answers l request r w new rested names kept along few lt then
 
     scoped : Scoped (kept_number names) (handle_in names request) (scope_of l.lane.n answers) request r l.lane.n
         w new
-    scoped = line_scoped answers request r w new (handle_in names request) (kept_number names)
+    scoped = line_scoped side answers request r w new (handle_in names request) (kept_number names)
         (scope_of l.lane.n answers) l.lane.n turning lt along.scopes.apart
         (λ name e. ap (handle_at names) (sym e)) ready
         (along.scopes.are l.lane.n (let own = lines_own l.lane.n later in omega (arith, own))) step
@@ -404,20 +408,20 @@ along_push c later answers l request r w new rested names kept along few lt then
     made = sym goes.follows.beside.made ∙ makes-push (calls_of answers) (called answers a)
         ∙ ap (λ (n : ℕ). n + made_by (event_of request r)) along.beside.made
 
-pub along_answered : (c : Config) (later : List ℕ) (answers all : List Answer) (l : Line) (w rested : WorldState)
-    (names kept : Names) → Along c (l.lane.n ∷ later) answers w names → length answers < 20000
+pub along_answered : (side : Side) (c : Config) (later : List ℕ) (answers all : List Answer) (l : Line) (w rested : WorldState)
+    (names kept : Names) → Along side c (l.lane.n ∷ later) answers w names → length answers < 20000
     → l.lane.n < 64 → IsRequest c.nodes l.request
     → IsFresh (kept_number names) l.request
-    → LineAnswered l later w names answers rested kept all → Along c later all rested kept
-along_answered c later answers all l w rested names kept along few lt is fresh done =
-    subst (λ (xs : List Answer). Along c later xs rested kept) (sym done.answer)
-    (along_push c later answers l l.request done.reply w done.between rested names kept along few lt done.sound
+    → LineAnswered side l later w names answers rested kept all → Along side c later all rested kept
+along_answered side c later answers all l w rested names kept along few lt is fresh done =
+    subst (λ (xs : List Answer). Along side c later xs rested kept) (sym done.answer)
+    (along_push side c later answers l l.request done.reply w done.between rested names kept along few lt done.sound
     is fresh done.step done.holds done.rests)
 
 -- the names of the next request have handles
-pub along_ready : (c : Config) (later : List ℕ) (answers : List Answer) (w : WorldState) (names : Names)
-    → Along c later answers w names → AreReady w.desk.settings.handles names
-along_ready c later answers w names along = λ name h e.
+pub along_ready : (side : Side) (c : Config) (later : List ℕ) (answers : List Answer) (w : WorldState) (names : Names)
+    → Along side c later answers w names → AreReady w.desk.settings.handles names
+along_ready side c later answers w names along = λ name h e.
     let lt = along.within name h e in
     let most = makes-le 1 c.handles [] (calls_of answers) (omega arith) along.follow in
     let same = ap (λ (d : Config). d.handles) along.settings in
@@ -432,11 +436,11 @@ empty_map c ok sound =
     (empty_sound 1 c (lit≤ tt) (let n = (ok Nodes).1 in omega (arith, n))) sound.known.shows sound.known.sound)
 
 -- nothing was answered yet
-pub along_none : (c : Config) (later : List ℕ) (w : WorldState) (names : Names) → IsAccepted c
+pub along_none : (side : Side) (c : Config) (later : List ℕ) (w : WorldState) (names : Names) → IsAccepted c
     → w ≡ empty_world c → AreLanes later → ((name : List ℕ) → kept_number names name ≡ None)
-    → Along c later [] w names
-along_none c later w names accepted is lanes none =
-    subst (λ (v : WorldState). Along c later [] v names) (sym is) (record {
+    → Along side c later [] w names
+along_none side c later w names accepted is lanes none =
+    subst (λ (v : WorldState). Along side c later [] v names) (sym is) (record {
       sound = empty_world_sound c accepted;
       beside = empty_map c accepted (empty_world_sound c accepted);
       settings = refl;
@@ -454,9 +458,9 @@ along_none c later w names accepted is lanes none =
     })
 
 -- what the world holds
-pub along_holds : (c : Config) (later : List ℕ) (answers : List Answer) (w : WorldState) (names : Names)
-    → Along c later answers w names → HoldsAnswers w answers
-along_holds c later answers w names along = record {
+pub along_holds : (side : Side) (c : Config) (later : List ℕ) (answers : List Answer) (w : WorldState) (names : Names)
+    → Along side c later answers w names → HoldsAnswers w answers
+along_holds side c later answers w names along = record {
   shown = along.sound.shown;
   known = along.sound.known;
   beside = along.beside;

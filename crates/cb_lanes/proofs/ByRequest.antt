@@ -4,13 +4,17 @@ use Rattle.std.specs.Prelude.{MatchOption}
 use Rattle.cb_member.specs.declared.no_memory.NoMemory.{NoMemory}
 use Rattle.cb_types.specs.declared.config.Config.{Config}
 use Rattle.cb_types.specs.declared.job.Job.{Job}
+use Rattle.cb_types.specs.declared.job.Job.TheVariants as job
 use Rattle.cb_types.specs.declared.request.Request.{Request}
 use Rattle.cb_types.specs.declared.request.Request.TheVariants.{Make, Read, Write, Free, Pin, Peek, Unpin, Filter, Crash, Join, Leave}
 use Rattle.cb_types.specs.declared.reply.Reply.{Reply}
 use Rattle.cb_script.specs.Form.{IsRequest}
 use Rattle.cb_world.specs.World.{WorldState}
+use Rattle.cb_core.specs.declared.event.Event.TheVariants.{Turn}
 use Rattle.cb_core.specs.Jobs.{IsJob}
-use Rattle.cb_lanes.specs.LineStep.{LineStep, ObjectStep, OtherStep, job_of}
+use Rattle.cb_core.specs.Step.{Step}
+use Rattle.cb_lanes.specs.LineStep.{LineStep, ObjectStep, OtherStep, TurnAt, job_of}
+use Rattle.cb_lanes.specs.declared.side.Side.{Side}
 use Rattle.cb_lanes.specs.Names.{Names, AreKept, IsOnObject, handle_in}
 
 -- ---- by which request it is
@@ -21,12 +25,12 @@ pub object_is : (seat h : ℕ) (request q : Request) (w new : WorldState) (resul
 object_is seat h request q w new result is step =
     subst (λ (x : Request). IfOk result (λ r. ObjectStep seat (Some h) x w r new)) (sym is) step
 
-pub line_is : (names : Names) (seat : ℕ) (request q : Request) (w new : WorldState)
+pub line_is : (names : Names) (side : Side) (seat : ℕ) (request q : Request) (w new : WorldState)
     (result : Result Reply NoMemory) → request ≡ q
-    → IfOk result (λ r. LineStep seat (handle_in names q) q w r new)
-    → IfOk result (λ r. LineStep seat (handle_in names request) request w r new)
-line_is names seat request q w new result is step =
-    subst (λ (x : Request). IfOk result (λ r. LineStep seat (handle_in names x) x w r new)) (sym is) step
+    → IfOk result (λ r. LineStep side seat (handle_in names q) q w r new)
+    → IfOk result (λ r. LineStep side seat (handle_in names request) request w r new)
+line_is names side seat request q w new result is step =
+    subst (λ (x : Request). IfOk result (λ r. LineStep side seat (handle_in names x) x w r new)) (sym is) step
 
 pub names_are : (names kept : Names) (request q : Request) (result : Result Reply NoMemory) → request ≡ q
     → IfOk result (λ r. AreKept names q r kept) → IfOk result (λ r. AreKept names request r kept)
@@ -45,13 +49,14 @@ module _ (request : Request) (makes : (name bytes : List ℕ) → request ≡ Ma
     stay q never = λ name. refl
 
   -- it is a turn with its own job, or it is on an object
-  pub line_other : (seat : ℕ) (handle : Option ℕ) (o : Option Job) (w new : WorldState) (r : Reply)
-      → o ≡ job_of request → OtherStep seat handle request o w r new → LineStep seat handle request w r new
-  line_other seat handle o w new r is step = by request makes leaves
-      (subst (λ (x : Option Job). OtherStep seat handle request x w r new) is step)
+  pub line_other : (side : Side) (seat : ℕ) (handle : Option ℕ) (o : Option Job)
+      (w new : WorldState) (r : Reply) → o ≡ job_of request
+      → OtherStep side seat handle request o w r new → LineStep side seat handle request w r new
+  line_other side seat handle o w new r is step = by request makes leaves
+      (subst (λ (x : Option Job). OtherStep side seat handle request x w r new) is step)
     where
       by : (q : Request) → ((name bytes : List ℕ) → q ≡ Make name bytes → ⊥) → (q ≡ Leave → ⊥)
-          → OtherStep seat handle q (job_of q) w r new → LineStep seat handle q w r new
+          → OtherStep side seat handle q (job_of q) w r new → LineStep side seat handle q w r new
       by (Make name bytes) never off other = absurd (never name bytes refl)
       by Leave never off other = absurd (off refl)
       by q never off other = other
@@ -70,6 +75,13 @@ module _ (request : Request) (makes : (name bytes : List ℕ) → request ≡ Ma
     by (Unpin name) never off no_job = tt
     by (Filter name) never off no_job = tt
     by q never off no_job = absurd cc
+
+-- only to a compaction it matters who makes the parities
+pub other_turn : (j : Job) (side : Side) (seat : ℕ) (w new : WorldState)
+    (result : Result Reply NoMemory) → (j ≡ job.Compact → ⊥)
+    → IfOk result (λ r. Step w (Turn seat j) r new) → IfOk result (λ r. TurnAt j side seat w r new)
+other_turn job.Compact side seat w new result off step = absurd (off refl)
+other_turn j side seat w new result off step = step
 
 -- the job of a line of its form may be asked for
 pub job_asked : (c : Config) (request : Request) (j : Job) → Some j ≡ job_of request

@@ -16,9 +16,11 @@ use Rattle.cb_core.specs.declared.event.Event.TheVariants.{Turn}
 use Rattle.cb_core.specs.Pinning.{PinStep, UnpinStep, given, not_pinned as none_given, pin_refusal, refused, scope_full, taken}
 use Rattle.cb_core.specs.Step.{Step}
 use Rattle.cb_core.proofs.Laws.{IsEased, IsSwapRefusal, IsWhole, MakesEasy, SwapEnds, pin_calm, refused as swap_refused, stays, swap_sound, swap_turn, swapped, turn_calm}
-use Rattle.cb_lanes.specs.LineStep.{LineStep, ObjectStep, OtherStep, job_of, IsInReply, PeekStep, not_pinned, shown, PinLine, at_once, stays_far, swapped_in}
+use Rattle.cb_lanes.specs.LineStep.{LineStep, ObjectStep, OtherStep, TurnAt, job_of, IsInReply, PeekStep, not_pinned, shown, PinLine, at_once, stays_far, swapped_in}
+use Rattle.cb_lanes.specs.declared.side.Side.{Side}
 use Rattle.cb_lanes.proofs.EasyLines.{IsEasyLine, job_whole}
 use Rattle.cb_lanes.proofs.Lone.{turn_alone}
+use Rattle.cb_lanes.proofs.Recounting.{turn_beside}
 
 eased_as : (r q : Reply) → IsEased q → r ≡ q → IsEased r
 eased_as r q calm e = subst IsEased (sym e) calm
@@ -89,29 +91,30 @@ module _ (w : WorldState) (sound : IsSoundWorld w) (few : w.far.counts.turns < 2
       event_calm seat (job.Filter (record { n = h })) new r tt x
   object_calm seat (Some h) request new r ready x = absurd x
 
-  other_calm : (seat : ℕ) (handle : Option ℕ) (request : Request) (o : Option Job)
+  other_calm : (side : Side) (seat : ℕ) (handle : Option ℕ) (request : Request) (o : Option Job)
       (new : WorldState) (r : Reply) → ((j : Job) → o ≡ Some j → IsWhole j)
       → ((h : ℕ) → handle ≡ Some h → h < w.desk.settings.handles)
-      → OtherStep seat handle request o w r new → IsEased r
-  other_calm seat handle request (Some j) new r whole ready x =
-      event_calm seat j new r (whole j refl) x
-  other_calm seat handle request None new r whole ready x =
+      → OtherStep side seat handle request o w r new → IsEased r
+  other_calm side seat handle request (Some j) new r whole ready x =
+      let z = turn_beside j side seat w new r x in
+      event_calm seat j z.mid r (whole j refl) z.step
+  other_calm side seat handle request None new r whole ready x =
       object_calm seat handle request new r ready x
 
-  go : (nodes : List ℕ) (seat : ℕ) (handle : Option ℕ) (request : Request) (new : WorldState)
-      (r : Reply) → IsEasyLine nodes request
+  go : (nodes : List ℕ) (side : Side) (seat : ℕ) (handle : Option ℕ) (request : Request)
+      (new : WorldState) (r : Reply) → IsEasyLine nodes request
       → ((h : ℕ) → handle ≡ Some h → h < w.desk.settings.handles)
-      → LineStep seat handle request w r new → IsEased r
-  go nodes seat handle (Make name bytes) new r line ready x =
+      → LineStep side seat handle request w r new → IsEased r
+  go nodes side seat handle (Make name bytes) new r line ready x =
       event_calm seat (job.Make bytes) new r tt x
-  go nodes seat handle Leave new r line ready x = eased_as r _ tt x.0
-  go nodes seat handle request new r line ready x = other_calm seat handle request
+  go nodes side seat handle Leave new r line ready x = eased_as r _ tt x.0
+  go nodes side seat handle request new r line ready x = other_calm side seat handle request
       (job_of request) new r (job_whole nodes request line) ready x
 
-pub line_calm : (nodes : List ℕ) (seat : ℕ) (handle : Option ℕ) (request : Request)
+pub line_calm : (nodes : List ℕ) (side : Side) (seat : ℕ) (handle : Option ℕ) (request : Request)
     (w new : WorldState) (r : Reply) → IsSoundWorld w → w.far.counts.turns < 2 ^ 40
     → NoneHolds w.seats → MakesEasy w.desk w.far → IsEasyLine nodes request
     → ((h : ℕ) → handle ≡ Some h → h < w.desk.settings.handles)
-    → LineStep seat handle request w r new → IsEased r
-line_calm nodes seat handle request w new r sound few lone easy line ready x =
-    go w sound few lone easy nodes seat handle request new r line ready x
+    → LineStep side seat handle request w r new → IsEased r
+line_calm nodes side seat handle request w new r sound few lone easy line ready x =
+    go w sound few lone easy nodes side seat handle request new r line ready x

@@ -22,6 +22,7 @@ use Rattle.cb_script.specs.Form.{IsRequest, IsScript}
 use Rattle.cb_script.specs.Roomy.{IsAtEase, is_make}
 use Rattle.cb_world.specs.World.{WorldState, IsSoundWorld, empty_world}
 use Rattle.cb_core.proofs.Laws.{IsEased, MakesEasy}
+use Rattle.cb_lanes.specs.declared.side.Side.{Side}
 use Rattle.cb_lanes.specs.Alone.{HasOwnLines, IsCalm, pins_shared}
 use Rattle.cb_lanes.specs.Asked.{HasLineReply, answer_to, asked}
 use Rattle.cb_lanes.specs.GivingBack.{Rests, lines_of}
@@ -103,12 +104,12 @@ never_full handles before answers lane request n line more m = line
 
 -- ---- one line more
 
-module _ (s : Script) (i : ℕ) (later : List ℕ) (answers : List Answer) (l : Line) (r : Reply)
+module _ (side : Side) (s : Script) (i : ℕ) (later : List ℕ) (answers : List Answer) (l : Line) (r : Reply)
     (w between rested : WorldState) (names kept : Names)
     (script : IsScript s) (ease : IsAtEase s) (lt : i < length s.lines) (at : l ≡ get_or s.lines i l)
     (so_far : map asked answers ≡ take i s.lines)
-    (along : Along s.config (l.lane.n ∷ later) answers w names)
-    (then : Along s.config later (answers ++ answer_to l l.request r ∷ []) rested kept)
+    (along : Along side s.config (l.lane.n ∷ later) answers w names)
+    (then : Along side s.config later (answers ++ answer_to l l.request r ∷ []) rested kept)
     (eases : Eases s answers w) where
   abbrev pub told : Answer
   told = answer_to l l.request r
@@ -124,15 +125,15 @@ module _ (s : Script) (i : ℕ) (later : List ℕ) (answers : List Answer) (l : 
   is_line = all_last HasLineReply answers told then.answered
 
   easy : MakesEasy w.desk w.far
-  easy = easy_world s i (l.lane.n ∷ later) answers w names script ease along so_far eases.rest eases.young
+  easy = easy_world side s i (l.lane.n ∷ later) answers w names script ease along so_far eases.rest eases.young
 
   few_turns : w.far.counts.turns < 2 ^ 40
   few_turns = let turns = along.turns in
-      let few = few_answers s i (l.lane.n ∷ later) answers w names script ease along so_far in
+      let few = few_answers side s i (l.lane.n ∷ later) answers w names script ease along so_far in
       omega (arith, turns, few)
 
   ready : (name : List ℕ) (h : ℕ) → kept_number names name ≡ Some h → h < w.desk.settings.handles
-  ready = along_ready s.config (l.lane.n ∷ later) answers w names along
+  ready = along_ready side s.config (l.lane.n ∷ later) answers w names along
 
   handle_ready : (h : ℕ) → handle_in names l.request ≡ Some h → h < w.desk.settings.handles
   handle_ready h e = by (name_of l.request) e
@@ -144,7 +145,7 @@ module _ (s : Script) (i : ℕ) (later : List ℕ) (answers : List Answer) (l : 
   more_made : is_make l.request ≡ true
       → makes (calls_of answers) < s.config.handles
   more_made is =
-      let made = few_made s i (l.lane.n ∷ later) answers w names script ease along so_far in
+      let made = few_made side s i (l.lane.n ∷ later) answers w names script ease along so_far in
       let same = along.beside.made in
       let one = count_by_more_yes (λ (x : Line). is_make x.request) s.lines i l lt
       (ap (λ (x : Line). is_make x.request) (sym at) ∙ is) in
@@ -164,7 +165,7 @@ module _ (s : Script) (i : ℕ) (later : List ℕ) (answers : List Answer) (l : 
       (event_of l.request q)) e by_map.reply))
 
   telling : Turning answers w between
-      → LineStep l.lane.n (handle_in names l.request) l.request w r between
+      → LineStep side l.lane.n (handle_in names l.request) l.request w r between
       → IsCalm r → Telling s.lines s.config.handles answers l.lane.n l.request r
   telling turning step calm = record {
     map = by_map.reply;
@@ -174,7 +175,7 @@ module _ (s : Script) (i : ℕ) (later : List ℕ) (answers : List Answer) (l : 
     calm = calm;
     pins = λ name named maker some.
         let low = form.1 in let own = lines_own l.lane.n later in
-        line_tells s.config.nodes i s.lines answers w between (kept_number names) (l.lane.n ∷ later) l.lane.n
+        line_tells side s.config.nodes i s.lines answers w between (kept_number names) (l.lane.n ∷ later) l.lane.n
         script.lines so_far along.scopes turning some (omega (arith, low)) (omega (arith, own)) along.kept ready
         l.request r (handle_in names l.request) (λ q e. ap (handle_at names) (sym e)) step name named maker;
     apart = λ p q h x y. along.scopes.apart p q h (sym (along.kept p) ∙ x) (sym (along.kept q) ∙ y);
@@ -188,14 +189,14 @@ module _ (s : Script) (i : ℕ) (later : List ℕ) (answers : List Answer) (l : 
         lt at;
   }
 
-  pub eases_more : (step : LineStep l.lane.n (handle_in names l.request) l.request w
+  pub eases_more : (step : LineStep side l.lane.n (handle_in names l.request) l.request w
       r between)
       → (sound : IsSoundWorld between)
       → Rests (lines_of l.lane.n later) l.lane.n between rested
       → Eases s (answers ++ told ∷ []) rested
   eases_more step sound rests = record {
     rest = rests_at_rest (crashed_nodes s) (lines_of l.lane.n later) l.lane.n between rested rests
-        (line_at_rest (crashed_nodes s) l.lane.n (handle_in names l.request) l.request w between r
+        (line_at_rest (crashed_nodes s) side l.lane.n (handle_in names l.request) l.request w between r
         (easy_line s i l ease lt at form.0) step eases.rest);
     young = λ h.
         let z = version_more s.config.handles (calls_of answers) (called answers told) h (length answers) by_map
@@ -217,18 +218,18 @@ module _ (s : Script) (i : ℕ) (later : List ℕ) (answers : List Answer) (l : 
       }
 
       calm : IsCalm r
-      calm = eased_calm (line_calm (crashed_nodes s) l.lane.n (handle_in names l.request) l.request w between r
+      calm = eased_calm (line_calm (crashed_nodes s) side l.lane.n (handle_in names l.request) l.request w between r
           along.sound few_turns along.lone easy (easy_line s i l ease lt at form.0) handle_ready step)
 
-pub eases_answered : (s : Script) (i : ℕ) (later : List ℕ) (answers all : List Answer) (l : Line)
+pub eases_answered : (side : Side) (s : Script) (i : ℕ) (later : List ℕ) (answers all : List Answer) (l : Line)
     (w rested : WorldState) (names kept : Names) → IsScript s → IsAtEase s → i < length s.lines
     → l ≡ get_or s.lines i l → map asked answers ≡ take i s.lines
-    → Along s.config (l.lane.n ∷ later) answers w names → Along s.config later all rested kept
-    → LineAnswered l later w names answers rested kept all → Eases s answers w → Eases s all rested
-eases_answered s i later answers all l w rested names kept script ease lt at so_far along then done eases =
+    → Along side s.config (l.lane.n ∷ later) answers w names → Along side s.config later all rested kept
+    → LineAnswered side l later w names answers rested kept all → Eases s answers w → Eases s all rested
+eases_answered side s i later answers all l w rested names kept script ease lt at so_far along then done eases =
     subst (λ (xs : List Answer). Eases s xs rested) (sym done.answer)
-    (eases_more s i later answers l done.reply w done.between rested names kept script ease lt at so_far along
-    (subst (λ (xs : List Answer). Along s.config later xs rested kept) done.answer then) eases done.step
+    (eases_more side s i later answers l done.reply w done.between rested names kept script ease lt at so_far along
+    (subst (λ (xs : List Answer). Along side s.config later xs rested kept) done.answer then) eases done.step
     done.sound done.rests)
 
 -- before the first line

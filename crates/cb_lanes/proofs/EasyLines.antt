@@ -19,6 +19,7 @@ use Rattle.cb_core.specs.Pinning.{PinStep, UnpinStep, given, not_pinned, refused
 use Rattle.cb_core.proofs.Laws.{CrashedAmong, IsIdle, IsWhole, NamesAmong, none_crashed, pin_far, turn_crashed, turn_idle, unpin_far}
 use Rattle.cb_lanes.specs.GivingBack.{GivesAll, Rests}
 use Rattle.cb_lanes.specs.LineStep.{LineStep, job_of}
+use Rattle.cb_lanes.specs.declared.side.Side.{Side}
 use Rattle.cb_lanes.proofs.LineKeeps.{IsKept, IsOnObject, MayBe, all_kept, line_kept, rests_kept}
 use Rattle.cb_lanes.proofs.Lone.{turn_seats}
 use Rattle.cb_lanes.proofs.LooseSpans.{NoClaims}
@@ -86,6 +87,11 @@ rest_kept nodes = record {
       (pin_claims seat h w new r step rest.claims) rest;
   unpin = λ seat h w new r step rest. rest_by nodes w new (unpin_far w new seat h r step)
       (unpin_claims seat h w new r step rest.claims) rest;
+  recount = λ w new same rest. record {
+    idle = subst IsIdle (sym same.far) rest.idle;
+    crashed = subst (λ (f : FarState). CrashedAmong nodes f.members) (sym same.far) rest.crashed;
+    claims = subst NoClaims (sym same.seats) rest.claims;
+  };
 }
 
 -- ---- lines
@@ -130,11 +136,12 @@ pub job_whole : (nodes : List ℕ) (request : Request) → IsEasyLine nodes requ
 job_whole nodes request easy j e = (job_easy nodes request easy j e).whole
 
 -- a line of a script at ease, and a lane that rests behind one
-pub line_at_rest : (nodes : List ℕ) (seat : ℕ) (handle : Option ℕ) (request : Request)
-    (w new : WorldState) (r : Reply) → IsEasyLine nodes request
-    → LineStep seat handle request w r new → IsAtRest nodes w → IsAtRest nodes new
-line_at_rest nodes seat handle request w new r easy = line_kept (IsAtRest nodes) (IsEasyJob nodes)
-    (rest_kept nodes) seat handle request w new r (job_easy nodes request easy)
+pub line_at_rest : (nodes : List ℕ) (side : Side) (seat : ℕ) (handle : Option ℕ)
+    (request : Request) (w new : WorldState) (r : Reply) → IsEasyLine nodes request
+    → LineStep side seat handle request w r new → IsAtRest nodes w → IsAtRest nodes new
+line_at_rest nodes side seat handle request w new r easy =
+    line_kept (IsAtRest nodes) (IsEasyJob nodes) (rest_kept nodes) side seat handle request w new r
+    (job_easy nodes request easy)
 
 pub rests_at_rest : (nodes : List ℕ) (left seat : ℕ) (w new : WorldState) → Rests left seat w new
     → IsAtRest nodes w → IsAtRest nodes new

@@ -19,6 +19,7 @@ use Rattle.cb_world.specs.declared.seats.Pin.{Pin}
 use Rattle.cb_world.specs.Seats.{SeatState, idle_seat, pins_of_seat}
 use Rattle.cb_world.specs.World.{WorldState}
 use Rattle.cb_core.proofs.Laws.{MakesEasy, enough_roomy, never_gone}
+use Rattle.cb_lanes.specs.declared.side.Side.{Side}
 use Rattle.cb_lanes.specs.Asked.{asked}
 use Rattle.cb_lanes.specs.GivingBack.{lines_of}
 use Rattle.cb_lanes.specs.Names.{Names, kept_number}
@@ -72,8 +73,8 @@ easy_line s i l ease lt at is = record {
 
 -- ---- and so are the worlds between lines
 
-module _ (s : Script) (i : ℕ) (later : List ℕ) (answers : List Answer) (w : WorldState) (names : Names)
-    (script : IsScript s) (ease : IsAtEase s) (along : Along s.config later answers w names)
+module _ (side : Side) (s : Script) (i : ℕ) (later : List ℕ) (answers : List Answer) (w : WorldState) (names : Names)
+    (script : IsScript s) (ease : IsAtEase s) (along : Along side s.config later answers w names)
     (so_far : map asked answers ≡ take i s.lines) where
   -- a lane without a pin line has no pins
   no_pins : (k : ℕ) → has_pin s.lines k ≡ false → pins_of_seat w.seats k ≡ []

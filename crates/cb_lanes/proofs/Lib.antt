@@ -1,4 +1,5 @@
 pub mod NamesKept
+pub mod Recounting
 pub mod LineKeeps
 pub mod Lone
 pub mod LooseSpans
@@ -11,6 +12,8 @@ pub mod PinLists
 pub mod GivingBack
 pub mod LineGoes
 pub mod Silent
+pub mod CompactGoes
+pub mod Compacted
 pub mod FarPins
 pub mod Pinning
 pub mod Shown
@@ -30,5 +33,6 @@ pub mod Eases
 pub mod LinesFixed
 pub mod LossOrder
 pub mod WorkedLines
+pub mod WorkedHere
 pub mod WorkedPins
 pub mod WorkedAlone

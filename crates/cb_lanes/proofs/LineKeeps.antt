@@ -11,7 +11,9 @@ use Rattle.cb_core.specs.declared.event.Event.TheVariants.{Turn}
 use Rattle.cb_core.specs.Pinning.{PinStep, UnpinStep}
 use Rattle.cb_core.specs.Step.{Leads, Step, TurnStep, held as other_holds, free}
 use Rattle.cb_lanes.specs.GivingBack.{end_of, GivesAll, Rests}
-use Rattle.cb_lanes.specs.LineStep.{LineStep, ObjectStep, OtherStep, job_of, PeekStep, not_pinned, shown, PinLine, at_once, stays_far, swapped_in}
+use Rattle.cb_lanes.specs.LineStep.{LineStep, ObjectStep, OtherStep, TurnAt, job_of, PeekStep, not_pinned, shown, PinLine, at_once, stays_far, swapped_in}
+use Rattle.cb_lanes.specs.declared.side.Side.{Side}
+use Rattle.cb_lanes.proofs.Recounting.{IsRecounted, turn_beside}
 
 -- the job is one of a line on an object
 abbrev pub IsOnObject : Job → Type 0
@@ -23,12 +25,14 @@ IsOnObject (job.Swap handle) = Unit {0}
 IsOnObject (job.Filter handle) = Unit {0}
 IsOnObject j = ⊥
 
--- P is kept by each turn whose job may be, among them those on objects, and by pins and their ends
+-- P is kept by each turn whose job may be, among them those on objects, by pins and their ends, and
+-- where rows given and keys drawn are counted otherwise
 pub record IsKept (P : WorldState → Type 0) (May : Job → Type 0) : Type 0 where
   pub object : (j : Job) → IsOnObject j → May j
   pub turn : (j : Job) (w new : WorldState) (r : Reply) → May j → TurnStep j w r new → P w → P new
   pub pin : (seat h : ℕ) (w new : WorldState) (r : Reply) → PinStep seat h w r new → P w → P new
   pub unpin : (seat h : ℕ) (w new : WorldState) (r : Reply) → UnpinStep seat h w r new → P w → P new
+  pub recount : (w new : WorldState) → IsRecounted w new → P w → P new
 
 -- the job of a line about no object may be
 abbrev pub MayBe : (Job → Type 0) → Request → Type 0
@@ -42,6 +46,11 @@ module _ (P : WorldState → Type 0) (May : Job → Type 0) (k : IsKept P May) w
       → Step w (Turn seat j) r new → P w → P new
   event_kept seat j w new r may (other_holds holder off holds is same) p = same_kept w new same p
   event_kept seat j w new r may (free none step) p = k.turn j w new r may step p
+
+  turn_kept : (side : Side) (seat : ℕ) (j : Job) (w new : WorldState) (r : Reply) → May j
+      → TurnAt j side seat w r new → P w → P new
+  turn_kept side seat j w new r may x p = let z = turn_beside j side seat w new r x in
+      k.recount z.mid new z.counts (event_kept seat j w z.mid r may z.step p)
 
   on_object : (seat : ℕ) (j : Job) (w new : WorldState) (r : Reply) → IsOnObject j
       → Step w (Turn seat j) r new → P w → P new
@@ -74,12 +83,12 @@ module _ (P : WorldState → Type 0) (May : Job → Type 0) (k : IsKept P May) w
       on_object seat (job.Filter (record { n = h })) w new r tt x p
   object_kept seat (Some h) request w new r x p = absurd x
 
-  other_kept : (seat : ℕ) (handle : Option ℕ) (request : Request) (o : Option Job)
+  other_kept : (side : Side) (seat : ℕ) (handle : Option ℕ) (request : Request) (o : Option Job)
       (w new : WorldState) (r : Reply) → ((j : Job) → o ≡ Some j → May j)
-      → OtherStep seat handle request o w r new → P w → P new
-  other_kept seat handle request (Some j) w new r may x p =
-      event_kept seat j w new r (may j refl) x p
-  other_kept seat handle request None w new r may x p =
+      → OtherStep side seat handle request o w r new → P w → P new
+  other_kept side seat handle request (Some j) w new r may x p =
+      turn_kept side seat j w new r (may j refl) x p
+  other_kept side seat handle request None w new r may x p =
       object_kept seat handle request w new r x p
 
   gives_kept : (seat : ℕ) (pins : List SeatPin) (replies : List Reply) (w new : WorldState)
@@ -95,13 +104,14 @@ module _ (P : WorldState → Type 0) (May : Job → Type 0) (k : IsKept P May) w
   all_kept seat w new leads p = gives_kept seat _ _ w new leads p
 
   -- a line
-  pub line_kept : (seat : ℕ) (handle : Option ℕ) (request : Request) (w new : WorldState)
-      (r : Reply) → MayBe May request → LineStep seat handle request w r new → P w → P new
-  line_kept seat handle (Make name bytes) w new r may x p =
+  pub line_kept : (side : Side) (seat : ℕ) (handle : Option ℕ) (request : Request)
+      (w new : WorldState) (r : Reply) → MayBe May request
+      → LineStep side seat handle request w r new → P w → P new
+  line_kept side seat handle (Make name bytes) w new r may x p =
       on_object seat (job.Make bytes) w new r tt x p
-  line_kept seat handle Leave w new r may x p = all_kept seat w new x.1 p
-  line_kept seat handle request w new r may x p =
-      other_kept seat handle request (job_of request) w new r may x p
+  line_kept side seat handle Leave w new r may x p = all_kept seat w new x.1 p
+  line_kept side seat handle request w new r may x p =
+      other_kept side seat handle request (job_of request) w new r may x p
 
   -- a lane that rests
   pub rests_kept : (left seat : ℕ) (w new : WorldState) → Rests left seat w new → P w → P new

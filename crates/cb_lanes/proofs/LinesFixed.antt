@@ -20,12 +20,17 @@ use Rattle.cb_world.specs.World.{WorldState, IsSoundWorld, word_at}
 use Rattle.cb_world.proofs.Laws.{some_same}
 use Rattle.cb_core.specs.declared.event.Event.TheVariants.{Turn}
 use Rattle.cb_core.specs.Step.{Leads}
+use Rattle.cb_core.specs.Turned.{counted}
 use Rattle.cb_core.proofs.Laws.{newest_fixed, step_fixes, unpin_fixed}
 use Rattle.cb_core.proofs.Laws as core
+use Rattle.cb_local.proofs.Laws.{beside_fixed}
 use Rattle.cb_lanes.specs.Asked.{asked}
 use Rattle.cb_lanes.specs.GivingBack.{GivesAll, Rests, end_of, lines_of}
-use Rattle.cb_lanes.specs.LineStep.{IsInReply, LinesLead, LineStep, ObjectStep, OtherStep, job_of, PeekStep, not_pinned, shown, PinEvent, PinLine, at_once, stays_far, swapped_in, SwapEvent, TurnStep}
+use Rattle.cb_lanes.specs.LineStep.{IsInReply, LinesLead, LineStep, ObjectStep, OtherStep, TurnAt, job_of, PeekStep, not_pinned, shown, PinEvent, PinLine, at_once, stays_far, swapped_in, SwapEvent, TurnStep}
 use Rattle.cb_lanes.specs.LinesSoundly.{LinesLeadSoundly}
+use Rattle.cb_lanes.specs.CompactsHere.{CompactsHere}
+use Rattle.cb_lanes.specs.declared.side.Side.{Side}
+use Rattle.cb_lanes.specs.declared.side.Side.TheVariants as parities
 use Rattle.cb_lanes.proofs.FarPins.{far_not_here}
 
 -- two replies and two worlds are one
@@ -118,31 +123,50 @@ object_fixed seat (Some h) (Filter name) w a b r q sound x y =
     turn_fixed seat h w a b r q sound (job.Filter (record { n = h })) x y
 object_fixed seat (Some h) request w a b r q sound x y = absurd x
 
-other_fixed : (seat : ℕ) (handle : Option ℕ) (request : Request) (o : Option Job) (w a b : WorldState)
-    (r q : Reply) → IsSoundWorld w → OtherStep seat handle request o w r a
-    → OtherStep seat handle request o w q b → AreOne r q a b
-other_fixed seat handle request (Some j) w a b r q sound x y =
-    step_fixes w a b (Turn seat j) r q sound x y
-other_fixed seat handle request None w a b r q sound x y =
+here_fixed : (seat : ℕ) (w a b : WorldState) (r q : Reply) → IsSoundWorld w
+    → CompactsHere seat w r a → CompactsHere seat w q b → AreOne r q a b
+here_fixed seat w a b r q sound x y =
+    let one = step_fixes w x.mid y.mid (Turn seat job.Compact) r q sound x.there y.there in
+    let far = beside_fixed (counted w.far job.Compact) x.mid.far y.mid.far a.far b.far r q one.0
+    (ap (λ (v : WorldState). v.far) one.1) x.beside y.beside in
+    let desk = x.desk ∙ ap (λ (v : WorldState). v.desk) one.1 ∙ sym y.desk in
+    let seats = x.seats ∙ ap (λ (v : WorldState). v.seats) one.1 ∙ sym y.seats in
+    (one.0, λ i. record { desk = desk i; far = far i; seats = seats i })
+
+turn_at_fixed : (j : Job) (side : Side) (seat : ℕ) (w a b : WorldState) (r q : Reply)
+    → IsSoundWorld w → TurnAt j side seat w r a → TurnAt j side seat w q b → AreOne r q a b
+turn_at_fixed job.Compact parities.Nodes seat w a b r q sound x y =
+    step_fixes w a b (Turn seat job.Compact) r q sound x y
+turn_at_fixed job.Compact parities.Compute seat w a b r q sound x y =
+    here_fixed seat w a b r q sound x y
+turn_at_fixed j side seat w a b r q sound x y = step_fixes w a b (Turn seat j) r q sound x y
+
+other_fixed : (side : Side) (seat : ℕ) (handle : Option ℕ) (request : Request) (o : Option Job)
+    (w a b : WorldState) (r q : Reply) → IsSoundWorld w
+    → OtherStep side seat handle request o w r a → OtherStep side seat handle request o w q b
+    → AreOne r q a b
+other_fixed side seat handle request (Some j) w a b r q sound x y =
+    turn_at_fixed j side seat w a b r q sound x y
+other_fixed side seat handle request None w a b r q sound x y =
     object_fixed seat handle request w a b r q sound x y
 
 -- ---- a line
 -- A line has one reply, and leads from a sound world to one world.
-pub line_fixes : (seat : ℕ) (handle : Option ℕ) (request : Request) (w a b : WorldState) (r q : Reply)
-    → IsSoundWorld w → LineStep seat handle request w r a → LineStep seat handle request w q b
-    → AreOne r q a b
-line_fixes seat handle (Make name bytes) w a b r q sound x y =
+pub line_fixes : (side : Side) (seat : ℕ) (handle : Option ℕ) (request : Request)
+    (w a b : WorldState) (r q : Reply) → IsSoundWorld w → LineStep side seat handle request w r a
+    → LineStep side seat handle request w q b → AreOne r q a b
+line_fixes side seat handle (Make name bytes) w a b r q sound x y =
     step_fixes w a b (Turn seat (job.Make bytes)) r q sound x y
-line_fixes seat handle Leave w a b r q sound x y =
+line_fixes side seat handle Leave w a b r q sound x y =
     (x.0 ∙ sym y.0, all_fixed seat w a b x.1 y.1)
-line_fixes seat handle request w a b r q sound x y =
-    other_fixed seat handle request (job_of request) w a b r q sound x y
+line_fixes side seat handle request w a b r q sound x y =
+    other_fixed side seat handle request (job_of request) w a b r q sound x y
 
 -- ---- lines one after another
 -- a line as it was asked
-abbrev AskedStep : List Answer → Line → WorldState → Reply → WorldState → Type 0
-AskedStep before l w r new =
-    LineStep l.lane.n (handle_named before (name_of l.request)) l.request w r new
+abbrev AskedStep : Side → List Answer → Line → WorldState → Reply → WorldState → Type 0
+AskedStep side before l w r new =
+    LineStep side l.lane.n (handle_named before (name_of l.request)) l.request w r new
 
 lanes_asked : (answers : List Answer) → map (λ (a : Answer). a.lane.n) answers
     ≡ map (λ (l : Line). l.lane.n) (map asked answers)
@@ -161,19 +185,19 @@ heads_same l m ls ms e = (ap (λ (xs : List Line). first xs) e, ap (λ (xs : Lis
     later [] = []
     later (x ∷ xs) = xs
 
-pub lines_fix : (before : List Answer) (w a b : WorldState) (xs ys : List Answer) → IsSoundWorld w
-    → LinesLeadSoundly before w xs a → LinesLead before w ys b → map asked xs ≡ map asked ys
+pub lines_fix : (side : Side) (before : List Answer) (w a b : WorldState) (xs ys : List Answer)
+    → IsSoundWorld w → LinesLeadSoundly side before w xs a → LinesLead side before w ys b → map asked xs ≡ map asked ys
     → (xs ≡ ys) × (a ≡ b)
-lines_fix before w a b [] [] sound x y lines = (refl, x ∙ sym y)
-lines_fix before w a b [] (d ∷ ys) sound x y lines =
+lines_fix side before w a b [] [] sound x y lines = (refl, x ∙ sym y)
+lines_fix side before w a b [] (d ∷ ys) sound x y lines =
     absurd (let n : 0 ≡ suc (length (map asked ys)) = ap (λ (l : List Line). length l) lines in omega (arith, n))
-lines_fix before w a b (c ∷ xs) [] sound x y lines =
+lines_fix side before w a b (c ∷ xs) [] sound x y lines =
     absurd (let n : suc (length (map asked xs)) ≡ 0 = ap (λ (l : List Line). length l) lines in omega (arith, n))
-lines_fix before w a b (c ∷ xs) (d ∷ ys) sound x y lines =
+lines_fix side before w a b (c ∷ xs) (d ∷ ys) sound x y lines =
     let split = heads_same (asked c) (asked d) (map asked xs) (map asked ys) lines in
     let line = split.0 in
-    let done = line_fixes d.lane.n (handle_named before (name_of d.request)) d.request w x.0 y.0 c.reply
-    d.reply sound (subst (λ (l : Line). AskedStep before l w c.reply x.0) line x.2) y.2 in
+    let done = line_fixes side d.lane.n (handle_named before (name_of d.request)) d.request w x.0 y.0 c.reply
+    d.reply sound (subst (λ (l : Line). AskedStep side before l w c.reply x.0) line x.2) y.2 in
     let same : c ≡ d = λ i. record {
       lane = (line i).lane;
       line = (line i).line;
@@ -191,7 +215,7 @@ lines_fix before w a b (c ∷ xs) (d ∷ ys) sound x y lines =
     (subst (λ (n : ℕ). Rests n d.lane.n x.0 x.1) left
     (subst (λ (e : Answer). Rests (lines_of c.lane.n (map (λ (f : Answer). f.lane.n) xs)) e.lane.n x.0 x.1)
     same x.3))) y.3 in
-    let rest = lines_fix (before ++ c ∷ []) x.1 a b xs ys x.4 x.5
-    (subst (λ (v : WorldState). LinesLead (before ++ c ∷ []) v ys b) (sym rested)
-    (subst (λ (e : Answer). LinesLead (before ++ e ∷ []) y.1 ys b) (sym same) y.4)) split.1 in
+    let rest = lines_fix side (before ++ c ∷ []) x.1 a b xs ys x.4 x.5
+    (subst (λ (v : WorldState). LinesLead side (before ++ c ∷ []) v ys b) (sym rested)
+    (subst (λ (e : Answer). LinesLead side (before ++ e ∷ []) y.1 ys b) (sym same) y.4)) split.1 in
     ((λ i. same i ∷ rest.0 i), rest.1)

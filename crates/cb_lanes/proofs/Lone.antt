@@ -17,6 +17,7 @@ use Rattle.cb_core.specs.Pinning.{PinStep, scope_full, refused, taken, UnpinStep
 use Rattle.cb_core.specs.Step.{Step, TurnStep, worn, done, held as other_holds, free}
 use Rattle.cb_lanes.specs.GivingBack.{Rests}
 use Rattle.cb_lanes.specs.LineStep.{LineStep}
+use Rattle.cb_lanes.specs.declared.side.Side.{Side}
 use Rattle.cb_lanes.proofs.LineKeeps.{IsKept, line_kept, rests_kept}
 
 -- at first no seat holds the far lock
@@ -88,13 +89,15 @@ lone_kept = record {
   turn = λ j w new r may step lone. subst NoneHolds (sym (turn_seats j w new r step)) lone;
   pin = pin_lone;
   unpin = unpin_lone;
+  recount = λ w new same lone. subst NoneHolds (sym same.seats) lone;
 }
 
 -- no line takes the far lock
-pub line_lone : (seat : ℕ) (handle : Option ℕ) (request : Request) (w new : WorldState) (r : Reply)
-    → LineStep seat handle request w r new → NoneHolds w.seats → NoneHolds new.seats
-line_lone seat handle request w new r =
-    line_kept IsLone AnyJob lone_kept seat handle request w new r (λ j is. tt)
+pub line_lone : (side : Side) (seat : ℕ) (handle : Option ℕ) (request : Request)
+    (w new : WorldState) (r : Reply) → LineStep side seat handle request w r new
+    → NoneHolds w.seats → NoneHolds new.seats
+line_lone side seat handle request w new r =
+    line_kept IsLone AnyJob lone_kept side seat handle request w new r (λ j is. tt)
 
 -- nor does a lane that rests
 pub rests_lone : (left seat : ℕ) (w new : WorldState) → Rests left seat w new → NoneHolds w.seats

@@ -22,7 +22,9 @@ use Rattle.cb_core.specs.Step.{TurnStep, worn, done, held as other_holds, free}
 use Rattle.cb_core.proofs.Laws.{lead_rises, step_rises}
 use Rattle.cb_lanes.specs.GivingBack.{GivesAll, Rests, lines_of}
 use Rattle.cb_lanes.specs.LineStep.{LinesLead, LineStep, ObjectStep, OtherStep, job_of, PeekStep, not_pinned, shown, PinLine, at_once, stays_far, swapped_in}
+use Rattle.cb_lanes.specs.declared.side.Side.{Side}
 use Rattle.cb_lanes.specs.Lost.{AreInOrder, loss_of, losses_of}
+use Rattle.cb_lanes.proofs.Recounting.{turn_beside}
 
 abbrev Rises : WorldState → WorldState → Type 0
 Rises w new = w.far.members.epoch ≤ new.far.members.epoch
@@ -69,17 +71,21 @@ rests_rise : (left seat : ℕ) (w new : WorldState) → Rests left seat w new �
 rests_rise zero seat w new x = gives_rise seat w new x
 rests_rise (suc left) seat w new x = stays w new x
 
-other_rises : (seat : ℕ) (handle : Option ℕ) (request : Request) (o : Option Job) (w new : WorldState)
-    (r : Reply) → OtherStep seat handle request o w r new → Rises w new
-other_rises seat handle request (Some j) w new r x = step_rises w new (Turn seat j) r x
-other_rises seat handle request None w new r x = object_rises seat handle request w new r x
+other_rises : (side : Side) (seat : ℕ) (handle : Option ℕ) (request : Request) (o : Option Job)
+    (w new : WorldState) (r : Reply) → OtherStep side seat handle request o w r new → Rises w new
+other_rises side seat handle request (Some j) w new r x =
+    let z = turn_beside j side seat w new r x in
+    let rise = step_rises w z.mid (Turn seat j) r z.step in
+    let same = ap (λ (f : FarState). f.members.epoch) z.counts.far in omega (arith, rise, same)
+other_rises side seat handle request None w new r x = object_rises seat handle request w new r x
 
-line_rises : (seat : ℕ) (handle : Option ℕ) (request : Request) (w new : WorldState) (r : Reply)
-    → LineStep seat handle request w r new → Rises w new
-line_rises seat handle (Make name bytes) w new r x =
+line_rises : (side : Side) (seat : ℕ) (handle : Option ℕ) (request : Request) (w new : WorldState)
+    (r : Reply) → LineStep side seat handle request w r new → Rises w new
+line_rises side seat handle (Make name bytes) w new r x =
     step_rises w new (Turn seat (job.Make bytes)) r x
-line_rises seat handle Leave w new r x = gives_rise seat w new x.1
-line_rises seat handle request w new r x = other_rises seat handle request (job_of request) w new r x
+line_rises side seat handle Leave w new r x = gives_rise seat w new x.1
+line_rises side seat handle request w new r x =
+    other_rises side seat handle request (job_of request) w new r x
 
 -- ---- a crash that took place
 none_some : {A : Type 0} (x : A) → None ≡ Some x → ⊥
@@ -107,13 +113,14 @@ crash_new node w new r loss (done few (words, crashed up reply state) seats) e =
     ap (λ (f : FarState). f.members.epoch) state in
     record { later = omega (arith, at); reached = omega (arith, at, now) }
 
-line_new : (seat : ℕ) (handle : Option ℕ) (request : Request) (w new : WorldState) (r : Reply)
-    (loss : Loss) → LineStep seat handle request w r new → loss_of request r ≡ Some loss
+line_new : (side : Side) (seat : ℕ) (handle : Option ℕ) (request : Request) (w new : WorldState)
+    (r : Reply) (loss : Loss) → LineStep side seat handle request w r new → loss_of request r ≡ Some loss
     → IsNew loss w new
-line_new seat handle (Crash node) w new r loss (other_holds holder off holds is same) e =
+line_new side seat handle (Crash node) w new r loss (other_holds holder off holds is same) e =
     absurd (none_some loss (sym (ap (loss_of (Crash node)) is) ∙ e))
-line_new seat handle (Crash node) w new r loss (free none step) e = crash_new node w new r loss step e
-line_new seat handle request w new r loss x e = absurd (none_some loss e)
+line_new side seat handle (Crash node) w new r loss (free none step) e =
+    crash_new node w new r loss step e
+line_new side seat handle request w new r loss x e = absurd (none_some loss e)
 
 -- ---- the lines one after another
 -- all have a later epoch
@@ -135,20 +142,21 @@ one_more n m (Some loss) losses less new x order =
       (behind_less loss.epoch.n m losses at.1 x, order),
     )
 
-losses_ascend : (before answers : List Answer) (w new : WorldState) → LinesLead before w answers new
+losses_ascend : (side : Side) (before answers : List Answer) (w new : WorldState)
+    → LinesLead side before w answers new
     → Behind w.far.members.epoch (losses_of answers) × AreInOrder (losses_of answers)
-losses_ascend before [] w new x = (tt, tt)
-losses_ascend before (a ∷ after) w new (between, rested, step, rests, rest) =
+losses_ascend side before [] w new x = (tt, tt)
+losses_ascend side before (a ∷ after) w new (between, rested, step, rests, rest) =
     let named = handle_named before (name_of a.request) in
-    let line = line_rises a.lane.n named a.request w between a.reply step in
+    let line = line_rises side a.lane.n named a.request w between a.reply step in
     let back = rests_rise (lines_of a.lane.n (map (λ (later : Answer). later.lane.n) after)) a.lane.n
     between rested rests in
-    let more = losses_ascend (before ++ a ∷ []) after rested new rest in
+    let more = losses_ascend side (before ++ a ∷ []) after rested new rest in
     one_more w.far.members.epoch rested.far.members.epoch (loss_of a.request a.reply) (losses_of after)
     (omega (arith, line, back))
-    (λ loss e. let z = line_new a.lane.n named a.request w between a.reply loss step e in
+    (λ loss e. let z = line_new side a.lane.n named a.request w between a.reply loss step e in
     let reached = z.reached in (z.later, omega (arith, reached, back))) more.0 more.1
 
-pub losses_in_order : (answers : List Answer) (w new : WorldState) → LinesLead [] w answers new
-    → AreInOrder (losses_of answers)
-losses_in_order answers w new x = (losses_ascend [] answers w new x).1
+pub losses_in_order : (side : Side) (answers : List Answer) (w new : WorldState)
+    → LinesLead side [] w answers new → AreInOrder (losses_of answers)
+losses_in_order side answers w new x = (losses_ascend side [] answers w new x).1

@@ -29,6 +29,7 @@ use Rattle.cb_core.proofs.Laws.{free_counts, free_unpinned, write_counts, write_
 use Rattle.cb_lanes.specs.Asked.{asked}
 use Rattle.cb_lanes.specs.GivingBack.{lines_of}
 use Rattle.cb_lanes.specs.LineStep.{LineStep}
+use Rattle.cb_lanes.specs.declared.side.Side.{Side}
 use Rattle.cb_lanes.specs.Alone.{is_maker}
 use Rattle.cb_lanes.specs.Scopes.{named_on, scope_of}
 use Rattle.cb_lanes.proofs.AloneLines.{named_none}
@@ -120,7 +121,7 @@ unmade_tells own r is = record {
   done = λ version e. absurd (let z : answer.Unmade ≡ answer.Version version = sym is ∙ e in cc);
 }
 
-module _ (nodes i : ℕ) (lines : List Line) (answers : List Answer) (w new : WorldState)
+module _ (side : Side) (nodes i : ℕ) (lines : List Line) (answers : List Answer) (w new : WorldState)
     (number : List ℕ → Option ℕ) (later : List ℕ) (own : ℕ)
     (are : AreLines nodes [] lines) (so_far : map asked answers ≡ take i lines)
     (scopes : AreScopes number later answers w) (c : Turning answers w new)
@@ -128,7 +129,7 @@ module _ (nodes i : ℕ) (lines : List Line) (answers : List Answer) (w new : Wo
     (same : (name : List ℕ) → handle_of answers name ≡ number name)
     (ready : (name : List ℕ) (h : ℕ) → number name ≡ Some h → h < w.desk.settings.handles) where
   write_by : (name : List ℕ) (at : ℕ) (bytes : List ℕ) (r : Reply) → is_maker lines own name ≡ true
-      → (o : Option ℕ) → number name ≡ o → LineStep own o (Write name at bytes) w r new
+      → (o : Option ℕ) → number name ≡ o → LineStep side own o (Write name at bytes) w r new
       → PinsTell (value_named answers name) (named_on name (scope_of own answers)) (Write name at bytes) r
   write_by name at bytes r maker None e step = (
     unmade_tells (named_on name (scope_of own answers)) r step.0,
@@ -141,7 +142,7 @@ module _ (nodes i : ℕ) (lines : List Line) (answers : List Answer) (w new : Wo
       (turn_alone own (job.Write (record { n = h }) at bytes) w new r c.lone step)
 
   free_by : (name : List ℕ) (r : Reply) → is_maker lines own name ≡ true
-      → (o : Option ℕ) → number name ≡ o → LineStep own o (Free name) w r new
+      → (o : Option ℕ) → number name ≡ o → LineStep side own o (Free name) w r new
       → ChangeTells (named_on name (scope_of own answers)) r
   free_by name r maker None e step = unmade_tells (named_on name (scope_of own answers)) r step.0
   free_by name r maker (Some h) e step =
@@ -153,7 +154,7 @@ module _ (nodes i : ℕ) (lines : List Line) (answers : List Answer) (w new : Wo
 
   pub line_tells : (request : Request) (r : Reply) (handle : Option ℕ)
       → ((name : List ℕ) → name_of request ≡ Some name → number name ≡ handle)
-      → LineStep own handle request w r new → (name : List ℕ) → name_of request ≡ Some name
+      → LineStep side own handle request w r new → (name : List ℕ) → name_of request ≡ Some name
       → is_maker lines own name ≡ true
       → PinsTell (value_named answers name) (named_on name (scope_of own answers)) request r
   line_tells (Write written at bytes) r handle at_name step name e maker =

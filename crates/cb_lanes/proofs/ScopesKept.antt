@@ -23,6 +23,7 @@ use Rattle.cb_lanes.specs.Asked.{asked}
 use Rattle.cb_lanes.specs.GivingBack.{Rests, lines_of}
 use Rattle.cb_lanes.specs.LineStep.{LineStep, LinesLead}
 use Rattle.cb_lanes.specs.LinesSoundly.{LinesLeadSoundly}
+use Rattle.cb_lanes.specs.declared.side.Side.{Side}
 use Rattle.cb_lanes.specs.LinesLeft.{AreLanes, AreLeft, lanes_of}
 use Rattle.cb_lanes.specs.Names.{Names, kept_number, number_after}
 use Rattle.cb_lanes.specs.Scopes.{Scope, scope_after, scope_more, scope_of, ScopeSays, KeepScopes}
@@ -184,39 +185,40 @@ abbrev pub answered_lanes : List Answer → List ℕ
 answered_lanes answers = map (λ (a : Answer). a.lane.n) answers
 
 -- as LinesLeadSoundly, where these lanes have lines behind the answers
-abbrev pub LeadsOn : List ℕ → List Answer → WorldState → List Answer → WorldState → Type 0
-LeadsOn later before w [] new = new ≡ w
-LeadsOn later before w (a ∷ after) new = (between : WorldState) × (rested : WorldState)
-    × LineStep a.lane.n (handle_named before (name_of a.request)) a.request w a.reply between
+abbrev pub LeadsOn : Side → List ℕ → List Answer → WorldState → List Answer → WorldState → Type 0
+LeadsOn side later before w [] new = new ≡ w
+LeadsOn side later before w (a ∷ after) new = (between : WorldState) × (rested : WorldState)
+    × LineStep side a.lane.n (handle_named before (name_of a.request)) a.request w a.reply between
     × Rests (lines_of a.lane.n (answered_lanes after ++ later)) a.lane.n between rested
-    × IsSoundWorld rested × LeadsOn later (before ++ a ∷ []) rested after new
+    × IsSoundWorld rested × LeadsOn side later (before ++ a ∷ []) rested after new
 
-pub leads_push : (later : List ℕ) (before after : List Answer) (w mid between new : WorldState) (a : Answer)
-    → LeadsOn (a.lane.n ∷ later) before w after mid
-    → LineStep a.lane.n (handle_named (before ++ after) (name_of a.request)) a.request mid a.reply between
+pub leads_push : (side : Side) (later : List ℕ) (before after : List Answer)
+    (w mid between new : WorldState) (a : Answer)
+    → LeadsOn side (a.lane.n ∷ later) before w after mid
+    → LineStep side a.lane.n (handle_named (before ++ after) (name_of a.request)) a.request mid a.reply between
     → Rests (lines_of a.lane.n later) a.lane.n between new → IsSoundWorld new
-    → LeadsOn later before w (after ++ a ∷ []) new
-leads_push later before [] w mid between new a leads step rest sound = (
+    → LeadsOn side later before w (after ++ a ∷ []) new
+leads_push side later before [] w mid between new a leads step rest sound = (
   between,
   new,
   subst (λ (v : WorldState).
-      LineStep a.lane.n (handle_named before (name_of a.request)) a.request v a.reply between) leads
+      LineStep side a.lane.n (handle_named before (name_of a.request)) a.request v a.reply between) leads
       (subst (λ (xs : List Answer).
-      LineStep a.lane.n (handle_named xs (name_of a.request)) a.request mid a.reply between)
+      LineStep side a.lane.n (handle_named xs (name_of a.request)) a.request mid a.reply between)
       (append-nil before) step),
   rest,
   sound,
   refl,
 )
-leads_push later before (b ∷ after) w mid between new a leads step rest sound = (
+leads_push side later before (b ∷ after) w mid between new a leads step rest sound = (
   leads.0,
   leads.1,
   leads.2,
   subst (λ (lanes : List ℕ). Rests (lines_of b.lane.n lanes) b.lane.n leads.0 leads.1) moved leads.3,
   leads.4,
-  leads_push later (before ++ b ∷ []) after leads.1 mid between new a leads.5
+  leads_push side later (before ++ b ∷ []) after leads.1 mid between new a leads.5
       (subst (λ (xs : List Answer).
-      LineStep a.lane.n (handle_named xs (name_of a.request)) a.request mid a.reply between)
+      LineStep side a.lane.n (handle_named xs (name_of a.request)) a.request mid a.reply between)
       (sym (append_assoc before (b ∷ []) after)) step) rest sound,
 )
   where
@@ -225,29 +227,29 @@ leads_push later before (b ∷ after) w mid between new a leads step rest sound 
         ∙ ap (λ (xs : List ℕ). xs ++ later) (sym (map_push (λ (x : Answer). x.lane.n) after a))
 
 -- without lines to come
-pub leads_end : (before after : List Answer) (w new : WorldState) → LeadsOn [] before w after new
-    → LinesLead before w after new
-leads_end before [] w new leads = leads
-leads_end before (a ∷ after) w new leads = (
+pub leads_end : (side : Side) (before after : List Answer) (w new : WorldState)
+    → LeadsOn side [] before w after new → LinesLead side before w after new
+leads_end side before [] w new leads = leads
+leads_end side before (a ∷ after) w new leads = (
   leads.0,
   leads.1,
   leads.2,
   subst (λ (lanes : List ℕ). Rests (lines_of a.lane.n lanes) a.lane.n leads.0 leads.1)
       (append-nil (answered_lanes after)) leads.3,
-  leads_end (before ++ a ∷ []) after leads.1 new leads.5,
+  leads_end side (before ++ a ∷ []) after leads.1 new leads.5,
 )
 
-pub soundly_end : (before after : List Answer) (w new : WorldState) → LeadsOn [] before w after new
-    → LinesLeadSoundly before w after new
-soundly_end before [] w new leads = leads
-soundly_end before (a ∷ after) w new leads = (
+pub soundly_end : (side : Side) (before after : List Answer) (w new : WorldState)
+    → LeadsOn side [] before w after new → LinesLeadSoundly side before w after new
+soundly_end side before [] w new leads = leads
+soundly_end side before (a ∷ after) w new leads = (
   leads.0,
   leads.1,
   leads.2,
   subst (λ (lanes : List ℕ). Rests (lines_of a.lane.n lanes) a.lane.n leads.0 leads.1)
       (append-nil (answered_lanes after)) leads.3,
   leads.4,
-  soundly_end (before ++ a ∷ []) after leads.1 new leads.5,
+  soundly_end side (before ++ a ∷ []) after leads.1 new leads.5,
 )
 
 -- ---- names and their handles

@@ -8,7 +8,7 @@ use Rattle.cb_types.specs.declared.answer.Answer.{Answer}
 use Rattle.cb_types.specs.declared.job.Job.{Job}
 use Rattle.cb_types.specs.declared.job.Job.TheVariants as job
 use Rattle.cb_types.specs.declared.request.Request.{Request}
-use Rattle.cb_types.specs.declared.request.Request.TheVariants.{Make, Read, Write, Free, Pin, Peek, Unpin, Filter, Leave}
+use Rattle.cb_types.specs.declared.request.Request.TheVariants.{Make, Read, Write, Free, Pin, Peek, Unpin, Filter, Compact, Leave}
 use Rattle.cb_types.specs.declared.reply.Reply.{Reply}
 use Rattle.cb_types.specs.declared.reply.Reply.TheVariants as answer
 use Rattle.cb_types.specs.Requests.{name_of}
@@ -21,12 +21,14 @@ use Rattle.cb_core.specs.Step.{Step, TurnStep}
 use Rattle.cb_core.proofs.Laws.{swap_turn, IsPinCount, write_counts, free_counts, swap_sound, IsSwapRefusal}
 use Rattle.cb_lanes.specs.GivingBack.{GivesAll}
 use Rattle.cb_lanes.specs.LineStep.{LineStep, PeekStep, not_pinned, shown, PinLine, at_once, stays_far, swapped_in}
+use Rattle.cb_lanes.specs.declared.side.Side.{Side}
 use Rattle.cb_lanes.specs.Scopes.{Scope, without_newest, named_on, scope_after, PinnedSays, PeekSays, UnpinSays, ScopeSays}
 use Rattle.cb_lanes.proofs.GivingBack.{gives_all, pins_own, pins_other, given_pins}
 use Rattle.cb_lanes.proofs.Filtering.{filter_counts}
 use Rattle.cb_lanes.proofs.PinLists.{AreApart, ArePinsOf, pins_length, scope_none, scope_newest, scope_without, scope_count}
 use Rattle.cb_lanes.proofs.Lone.{event_seats, turn_alone}
 use Rattle.cb_lanes.proofs.Pinning.{in_or_refused}
+use Rattle.cb_lanes.proofs.Recounting.{turn_beside}
 use Rattle.cb_lanes.proofs.Turning.{Turning, within}
 
 -- The line is answered as its lane's scope says, the seat's pins are then those of the scope after it, and
@@ -56,18 +58,26 @@ turn_scoped : (number : List ℕ → Option ℕ) (handle : Option ℕ) (scope : 
 turn_scoped number handle scope request r seat w new j step are still says =
     still_scoped number handle scope request r seat w new (event_seats seat j w new r step) are still says
 
--- one for a line of which the scope says nothing
+-- a line of which the scope says nothing, and that changes no seat
+seats_scoped : (number : List ℕ → Option ℕ) (handle : Option ℕ) (scope : Scope) (request : Request)
+    (r : Reply) (seat : ℕ) (w new : WorldState) → new.seats ≡ w.seats
+    → ArePinsOf number scope (pins_of_seat w.seats seat) → scope_after scope request r ≡ scope
+    → ScopeSays None scope request r → ((h : ℕ) → ScopeSays (Some h) scope request r)
+    → Scoped number handle scope request r seat w new
+seats_scoped number handle scope request r seat w new same are still none some =
+    still_scoped number handle scope request r seat w new same are still (says handle)
+  where
+    says : (o : Option ℕ) → ScopeSays o scope request r
+    says None = none
+    says (Some h) = some h
+
 quiet_scoped : (number : List ℕ → Option ℕ) (handle : Option ℕ) (scope : Scope) (request : Request)
     (r : Reply) (seat : ℕ) (w new : WorldState) (j : Job) → Step w (Turn seat j) r new
     → ArePinsOf number scope (pins_of_seat w.seats seat) → scope_after scope request r ≡ scope
     → ScopeSays None scope request r → ((h : ℕ) → ScopeSays (Some h) scope request r)
     → Scoped number handle scope request r seat w new
-quiet_scoped number handle scope request r seat w new j step are still none some =
-    turn_scoped number handle scope request r seat w new j step are still (says handle)
-  where
-    says : (o : Option ℕ) → ScopeSays o scope request r
-    says None = none
-    says (Some h) = some h
+quiet_scoped number handle scope request r seat w new j step =
+    seats_scoped number handle scope request r seat w new (event_seats seat j w new r step)
 
 -- ---- an answer that counts pins
 
@@ -235,58 +245,62 @@ pin_line_scoped answers number apart scope name h seat r w new c lt below at_nam
       others = λ k off. z.others k off ∙ ap (λ (xs : List SeatState). pins_of_seat xs k) seats;
     }
 
-pub line_scoped : (answers : List Answer) (request : Request) (r : Reply) (w new : WorldState)
+pub line_scoped : (side : Side) (answers : List Answer) (request : Request) (r : Reply) (w new : WorldState)
     (handle : Option ℕ) (number : List ℕ → Option ℕ) (scope : Scope) (seat : ℕ) → (c : Turning answers w new)
     → seat < 64 → AreApart number
     → ((name : List ℕ) → name_of request ≡ Some name → number name ≡ handle)
     → ((h : ℕ) → handle ≡ Some h → h < w.desk.settings.handles)
-    → ArePinsOf number scope (pins_of_seat w.seats seat) → LineStep seat handle request w r new
+    → ArePinsOf number scope (pins_of_seat w.seats seat) → LineStep side seat handle request w r new
     → Scoped number handle scope request r seat w new
-line_scoped answers (Make name bytes) r w new handle number scope seat c lt apart named ready are step =
+line_scoped side answers (Make name bytes) r w new handle number scope seat c lt apart named ready are step =
     quiet_scoped number handle scope (Make name bytes) r seat w new (job.Make bytes) step are refl tt (λ h. tt)
-line_scoped answers Leave r w new handle number scope seat c lt apart named ready are step =
+line_scoped side answers Leave r w new handle number scope seat c lt apart named ready are step =
     leave_scoped number handle scope seat r w new c.before lt are step.0 step.1
-line_scoped answers (Read name) r w new None number scope seat c lt apart named ready are step =
+line_scoped side answers (Read name) r w new None number scope seat c lt apart named ready are step =
     unmade_scoped number scope (Read name) seat r w new are step.1 refl tt
-line_scoped answers (Read name) r w new (Some h) number scope seat c lt apart named ready are step =
+line_scoped side answers (Read name) r w new (Some h) number scope seat c lt apart named ready are step =
     turn_scoped number (Some h) scope (Read name) r seat w new (job.Read (record { n = h })) step are refl tt
-line_scoped answers (Write name at bytes) r w new None number scope seat c lt apart named ready are step =
+line_scoped side answers (Write name at bytes) r w new None number scope seat c lt apart named ready are step =
     unmade_scoped number scope (Write name at bytes) seat r w new are step.1 refl tt
-line_scoped answers (Write name at bytes) r w new (Some h) number scope seat c lt apart named ready are step =
+line_scoped side answers (Write name at bytes) r w new (Some h) number scope seat c lt apart named ready are step =
     let j = job.Write (record { n = h }) at bytes in
     turn_scoped number (Some h) scope (Write name at bytes) r seat w new j step are refl
     (pinned_says number apart scope name h seat r w (named name refl) are c.before lt (ready h refl)
     (λ count is. write_counts w new h at bytes count c.before c.few
     (subst (λ (q : Reply). TurnStep j w q new) is (turn_alone seat j w new r c.lone step))))
-line_scoped answers (Free name) r w new None number scope seat c lt apart named ready are step =
+line_scoped side answers (Free name) r w new None number scope seat c lt apart named ready are step =
     unmade_scoped number scope (Free name) seat r w new are step.1 refl tt
-line_scoped answers (Free name) r w new (Some h) number scope seat c lt apart named ready are step =
+line_scoped side answers (Free name) r w new (Some h) number scope seat c lt apart named ready are step =
     let j = job.Free (record { n = h }) in
     turn_scoped number (Some h) scope (Free name) r seat w new j step are refl
     (pinned_says number apart scope name h seat r w (named name refl) are c.before lt (ready h refl)
     (λ count is. free_counts w new h count c.before c.few
     (subst (λ (q : Reply). TurnStep j w q new) is (turn_alone seat j w new r c.lone step))))
-line_scoped answers (Filter name) r w new None number scope seat c lt apart named ready are step =
+line_scoped side answers (Filter name) r w new None number scope seat c lt apart named ready are step =
     unmade_scoped number scope (Filter name) seat r w new are step.1 refl tt
-line_scoped answers (Filter name) r w new (Some h) number scope seat c lt apart named ready are step =
+line_scoped side answers (Filter name) r w new (Some h) number scope seat c lt apart named ready are step =
     let j = job.Filter (record { n = h }) in
     turn_scoped number (Some h) scope (Filter name) r seat w new j step are refl
     (pinned_says number apart scope name h seat r w (named name refl) are c.before lt (ready h refl)
     (λ count is. filter_counts w new h count c.few
     (subst (λ (q : Reply). TurnStep j w q new) is (turn_alone seat j w new r c.lone step))))
-line_scoped answers (Pin name) r w new None number scope seat c lt apart named ready are step =
+line_scoped side answers (Pin name) r w new None number scope seat c lt apart named ready are step =
     unmade_scoped number scope (Pin name) seat r w new are step.1 (ap (scope_after scope (Pin name)) step.0)
     step.0
-line_scoped answers (Pin name) r w new (Some h) number scope seat c lt apart named ready are step =
+line_scoped side answers (Pin name) r w new (Some h) number scope seat c lt apart named ready are step =
     pin_line_scoped answers number apart scope name h seat r w new c lt (ready h refl) (named name refl) are step
-line_scoped answers (Peek name) r w new None number scope seat c lt apart named ready are step =
+line_scoped side answers (Peek name) r w new None number scope seat c lt apart named ready are step =
     unmade_scoped number scope (Peek name) seat r w new are step.1 refl step.0
-line_scoped answers (Peek name) r w new (Some h) number scope seat c lt apart named ready are step =
+line_scoped side answers (Peek name) r w new (Some h) number scope seat c lt apart named ready are step =
     peek_scoped number apart scope name h seat r w new c.before lt (named name refl) are step
-line_scoped answers (Unpin name) r w new None number scope seat c lt apart named ready are step =
+line_scoped side answers (Unpin name) r w new None number scope seat c lt apart named ready are step =
     unmade_scoped number scope (Unpin name) seat r w new are step.1
     (ap (scope_after scope (Unpin name)) step.0) step.0
-line_scoped answers (Unpin name) r w new (Some h) number scope seat c lt apart named ready are step =
+line_scoped side answers (Unpin name) r w new (Some h) number scope seat c lt apart named ready are step =
     unpin_scoped number apart scope name h seat r w new c.before lt (named name refl) are step
-line_scoped answers request r w new handle number scope seat c lt apart named ready are step =
+line_scoped side answers Compact r w new handle number scope seat c lt apart named ready are step =
+    let z = turn_beside job.Compact side seat w new r step in
+    seats_scoped number handle scope Compact r seat w new
+    (z.counts.seats ∙ event_seats seat job.Compact w z.mid r z.step) are refl tt (λ h. tt)
+line_scoped side answers request r w new handle number scope seat c lt apart named ready are step =
     quiet_scoped number handle scope request r seat w new _ step are refl tt (λ h. tt)

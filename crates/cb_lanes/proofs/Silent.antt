@@ -114,7 +114,7 @@ told_nothing P m v b f u g l (answer.Range len) x = absurd (l len x)
 told_nothing P m v b f u g l r x = refl
 
 -- no line about no object is answered by a reply of the map
-nothing_told : (request : Request) (r : Reply) → subject_of request ≡ Nothing → IsReplyOf request r
+pub nothing_told : (request : Request) (r : Reply) → subject_of request ≡ Nothing → IsReplyOf request r
     → event_of request r ≡ Refused Nothing
 nothing_told (Make name bytes) r about line = absurd cc
 nothing_told (Read name) r about line = absurd cc

@@ -17,6 +17,7 @@ use Rattle.cb_core.specs.Step.{Step, held, free, worn, done}
 use Rattle.cb_core.specs.Turned.{counted}
 use Rattle.cb_lanes.specs.Asked.{HasLineReply}
 use Rattle.cb_lanes.specs.LineStep.{job_of, job_on, LineStep, LinesLead, ObjectStep, OtherStep}
+use Rattle.cb_lanes.specs.declared.side.Side.TheVariants.{Nodes}
 use Rattle.cb_lanes.specs.LinesSoundly.{LinesLeadSoundly}
 use Rattle.cb_lanes.specs.LineAnswered.{LineAnswered}
 use Rattle.cb_lanes.specs.Lost.{AreInOrder, loss_of, losses_of}
@@ -112,7 +113,7 @@ no_part_is_merged is = is
 -- ---- steps of lines
 
 -- each step is a turn with its own job
-step_is_a_turn : (w new : WorldState) (r : Reply) → Step w (Turn 1 job.Ship) r new → LineStep 1 None Ship w r new
+step_is_a_turn : (w new : WorldState) (r : Reply) → Step w (Turn 1 job.Ship) r new → LineStep Nodes 1 None Ship w r new
 step_is_a_turn w new r step = step
 
 a_write_is_a_write : job_on 4 (Write (97 ∷ []) 2 (9 ∷ []))
@@ -136,26 +137,26 @@ a_read_has_no_job_of_its_own : job_of (Read (97 ∷ [])) ≡ None
 a_read_has_no_job_of_its_own = refl
 
 joins_are_turns : (w new : WorldState) (r : Reply) → Step w (Turn 1 job.Compact) r new
-    → LineStep 1 None Compact w r new
+    → LineStep Nodes 1 None Compact w r new
 joins_are_turns w new r step = step
 
 -- a line on an object without a job is none
-no_line_on_an_object : (w : WorldState) → OtherStep 1 (Some 4) Pair None w Unmade w → ⊥
+no_line_on_an_object : (w : WorldState) → OtherStep Nodes 1 (Some 4) Pair None w Unmade w → ⊥
 no_line_on_an_object w step = step
 
 -- a name that has no handle is unmade, and nothing happens
-unmade : (w : WorldState) → LineStep 1 None (Read (97 ∷ [])) w Unmade w
+unmade : (w : WorldState) → LineStep Nodes 1 None (Read (97 ∷ [])) w Unmade w
 unmade w = (refl, refl)
 
-another_reply : (w : WorldState) → LineStep 1 None (Read (97 ∷ [])) w Freed w → ⊥
+another_reply : (w : WorldState) → LineStep Nodes 1 None (Read (97 ∷ [])) w Freed w → ⊥
 another_reply w step = absurd (let e = step.0 in cc)
 
-another_world : (w new : WorldState) → LineStep 1 None (Read (97 ∷ [])) w Unmade new
+another_world : (w new : WorldState) → LineStep Nodes 1 None (Read (97 ∷ [])) w Unmade new
     → new.far.made ≡ w.far.made + 1 → ⊥
 another_world w new step more = omega (arith, more, ap (λ (v : WorldState). v.far.made) step.1)
 
 -- a join of a node that is up is a turn, and changes nothing else
-abbrev small : Config
+abbrev pub small : Config
 small = record { k = 2; r = 2; nodes = 4; frames = 2; room = 2; handles = 2; turns = 0 }
 
 abbrev node : ℕ
@@ -166,12 +167,12 @@ joined = record (empty_world small) {
   far = counted (empty_world small).far (job.Join (record { n = node }));
 }
 
-a_join : LineStep 1 None (Join (record { n = node })) (empty_world small) (Up (record { n = node })) joined
+a_join : LineStep Nodes 1 None (Join (record { n = node })) (empty_world small) (Up (record { n = node })) joined
 a_join = free (lone_other (empty_world small).seats 1 empty_lone)
     (done (omega arith) (refl, is_up refl refl refl, λ s k. (s, k, λ h. refl, λ seats open_writes. open_writes)) refl)
 
 -- one that is not counted
-uncounted : LineStep 1 None (Join (record { n = node })) (empty_world small) (Up (record { n = node }))
+uncounted : LineStep Nodes 1 None (Join (record { n = node })) (empty_world small) (Up (record { n = node }))
     (empty_world small) → ⊥
 uncounted (held holder off holds reply same) = absurd (let e = reply in cc)
 uncounted (free none (worn end reply same)) = absurd (let e = reply in cc)
@@ -181,17 +182,17 @@ uncounted (free none (done few works seats)) = by works.1 where
   by (is_up up reply same) = omega (arith, ap (λ (f : FarState). f.counts.turns) same)
   by (joined_again down reply same) = absurd (let e = reply in cc)
 
-leads : LinesLead [] (empty_world small) (answer (Join (record { n = node })) (Up (record { n = node })) ∷ [])
+leads : LinesLead Nodes [] (empty_world small) (answer (Join (record { n = node })) (Up (record { n = node })) ∷ [])
     joined
 leads = (joined, joined, a_join, refl, refl)
 
 -- without lines the world stays
-no_line : LinesLead [] (empty_world small) [] joined → ⊥
+no_line : LinesLead Nodes [] (empty_world small) [] joined → ⊥
 no_line is = omega (arith, ap (λ (v : WorldState). v.far.counts.turns) is)
 
 -- a line behind which the world is not sound does not lead soundly
 not_through_an_unsound_world : (before : List Answer) (a : Answer) (w new : WorldState)
-    → (IsSoundWorld new → ⊥) → LinesLeadSoundly before w (a ∷ []) new → ⊥
+    → (IsSoundWorld new → ⊥) → LinesLeadSoundly Nodes before w (a ∷ []) new → ⊥
 not_through_an_unsound_world before a w new unsound x = unsound (subst IsSoundWorld (sym x.5) x.4)
 
 -- ---- a line that was answered
@@ -209,13 +210,13 @@ first_reply (x ∷ xs) = x.reply
 -- a name that has no handle, in a lane that has one more line
 module _ (w : WorldState) (names : Names) (none : kept_number names (97 ∷ []) ≡ None) where
   is_unmade : (new : WorldState) (other : Names) (all : List Answer)
-      → (line : LineAnswered reading (1 ∷ []) w names [] new other all)
+      → (line : LineAnswered Nodes reading (1 ∷ []) w names [] new other all)
       → (line.reply ≡ Unmade) × (new ≡ w) × (line.between ≡ w)
   is_unmade new other all line =
       let step = subst (λ (o : Option ℕ). ObjectStep 1 o (Read (97 ∷ [])) w line.reply line.between) none
       line.step in (step.0, line.rests ∙ step.1, step.1)
 
-  is_answered : IsSoundWorld w → LineAnswered reading (1 ∷ []) w names [] w names (read_as Unmade)
+  is_answered : IsSoundWorld w → LineAnswered Nodes reading (1 ∷ []) w names [] w names (read_as Unmade)
   is_answered sound = record {
     reply = Unmade;
     between = w;
@@ -226,25 +227,25 @@ module _ (w : WorldState) (names : Names) (none : kept_number names (97 ∷ []) 
     answer = refl;
   }
 
-  answered_freed : LineAnswered reading (1 ∷ []) w names [] w names (read_as Freed) → ⊥
+  answered_freed : LineAnswered Nodes reading (1 ∷ []) w names [] w names (read_as Freed) → ⊥
   answered_freed line = absurd (let e : Freed ≡ Unmade =
       ap first_reply line.answer ∙ (is_unmade w names (read_as Freed) line).0 in cc)
 
-  not_answered : LineAnswered reading (1 ∷ []) w names [] w names [] → ⊥
+  not_answered : LineAnswered Nodes reading (1 ∷ []) w names [] w names [] → ⊥
   not_answered line = let told = line.answer in absurd cc
 
   in_an_unsound_world : (IsSoundWorld w → ⊥)
-      → LineAnswered reading (1 ∷ []) w names [] w names (read_as Unmade) → ⊥
+      → LineAnswered Nodes reading (1 ∷ []) w names [] w names (read_as Unmade) → ⊥
   in_an_unsound_world unsound line =
       unsound (subst IsSoundWorld (is_unmade w names (read_as Unmade) line).2 line.sound)
 
   in_another_world : (new : WorldState) → new.far.made ≡ w.far.made + 1
-      → LineAnswered reading (1 ∷ []) w names [] new names (read_as Unmade) → ⊥
+      → LineAnswered Nodes reading (1 ∷ []) w names [] new names (read_as Unmade) → ⊥
   in_another_world new more line =
       let same = (is_unmade new names (read_as Unmade) line).1 in
       omega (arith, more, ap (λ (v : WorldState). v.far.made) same)
 
   with_another_name : (other : Names) → kept_number other (97 ∷ []) ≡ Some 4
-      → LineAnswered reading (1 ∷ []) w names [] w other (read_as Unmade) → ⊥
+      → LineAnswered Nodes reading (1 ∷ []) w names [] w other (read_as Unmade) → ⊥
   with_another_name other four line = absurd (let kept = line.holds (97 ∷ []) in
       let both : Some 4 ≡ None = sym four ∙ kept ∙ none in cc)

@@ -19,6 +19,7 @@ use Rattle.cb_core.specs.declared.event.Atomic.TheVariants as atomic
 use Rattle.cb_core.specs.declared.event.Event.TheVariants as event
 use Rattle.cb_core.specs.Pinning.{not_pinned as unpin_refused, given}
 use Rattle.cb_lanes.specs.GivingBack.{end_of, GivesAll, lines_of, Rests}
+use Rattle.cb_lanes.specs.declared.side.Side.TheVariants.{Nodes}
 use Rattle.cb_lanes.specs.LineStep.{not_pinned, shown, CallStep, LineStep, IsInReply, PinEvent, SwapEvent, IsFarToPin, PinLine, at_once, stays_far, swapped_in}
 use Rattle.cb_lanes.specs.LinesLeft.{AreLanes, AreLeft}
 use Rattle.cb_lanes.specs.Scopes.{NamedPin, Scope, newest_on, without_newest, named_on, scope_after, scope_of, PinnedSays, ScopeSays, KeepScopes}
@@ -234,7 +235,7 @@ pins_end_with_the_last_line : Rests 0 1 held held → ⊥
 pins_end_with_the_last_line is = a_pin_is_not_kept is
 
 -- a leave of a lane with a pin, which tells two
-a_leave_tells_the_pins : LineStep 1 None Leave held (Left 2) held → ⊥
+a_leave_tells_the_pins : LineStep Nodes 1 None Leave held (Left 2) held → ⊥
 a_leave_tells_the_pins step = absurd (let e = step.0 in cc)
 
 nothing_left : AreLeft [] (replicate 16 0) → AreLeft (3 ∷ []) (replicate 16 0) → ⊥

@@ -92,12 +92,7 @@ fn turn_at(
 }
 
 /// A compaction, where this side makes the parities.
-fn compact_at(
-    alloc: Global,
-    world: &mut World,
-    side: Side,
-    seat: u32,
-) -> Result<Reply, NoMemory>
+fn compact_at(alloc: Global, world: &mut World, side: Side, seat: u32) -> Result<Reply, NoMemory>
     requires seat { seat < 64 }
     requires sound { IsSoundWorld world.old }
     ensures step { IfOk result (λ reply. CompactsAt side seat world.old reply world.new) }

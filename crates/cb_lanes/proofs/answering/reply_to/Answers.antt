@@ -8,7 +8,7 @@ use Rattle.cb_lanes.proofs.answering.reply_to.Goals as goal
 
 pub returns-in-Make : goal.returns-in-Make
 returns-in-Make c = record {
-  line = line_is c.args.names.now c.args.seat c.args.request.now _ c.args.world.now c.make_named.new.world
+  line = line_is c.args.names.now c.args.side c.args.seat c.args.request.now _ c.args.world.now c.make_named.new.world
       c.make_named.result c.in-Make.is c.make_named.ensures.step;
   names = names_are c.args.names.now c.make_named.new.names c.args.request.now _ c.make_named.result
       c.in-Make.is c.make_named.ensures.names;
@@ -25,8 +25,8 @@ make_named-requires-clause-few c =
     (subst (λ (q : Request). IsRequest c.args.world.now.desk.settings.nodes q) c.in-Make.is
     c.requires.request).1.few
 
-pub turn_of-requires-clause-job : goal.turn_of-requires-clause-job
-turn_of-requires-clause-job c = job_asked c.args.world.now.desk.settings c.args.request.now c.in-Some.job
+pub turn_at-requires-clause-job : goal.turn_at-requires-clause-job
+turn_at-requires-clause-job c = job_asked c.args.world.now.desk.settings c.args.request.now c.in-Some.job
     c.in-Some.ensures c.requires.request
 
 pub returns-in-Some : goal.returns-in-Some
@@ -35,12 +35,12 @@ returns-in-Some c =
     let makes = c.in_default.not-Make in
     let leaves = c.in_default.not-Leave in
     record {
-      line = ok_then c.turn_of.result (λ r step.
-          line_other request makes leaves c.args.seat (handle_in c.args.names.now request) _ c.args.world.now
-          c.turn_of.new.world r c.in-Some.ensures step) c.turn_of.ensures.step;
-      names = ok_then c.turn_of.result (λ r step. names_stay request makes leaves c.args.names.now r)
-          c.turn_of.ensures.step;
-      sound = c.turn_of.ensures.sound;
+      line = ok_then c.turn_at.result (λ r step.
+          line_other request makes leaves c.args.side c.args.seat (handle_in c.args.names.now request) _ c.args.world.now
+          c.turn_at.new.world r c.in-Some.ensures step) c.turn_at.ensures.step;
+      names = ok_then c.turn_at.result (λ r step. names_stay request makes leaves c.args.names.now r)
+          c.turn_at.ensures.step;
+      sound = c.turn_at.ensures.sound;
     }
 
 pub call_named-requires-clause-known : goal.call_named-requires-clause-known
@@ -54,7 +54,7 @@ returns-in-None c =
     let leaves = c.in_default.not-Leave in
     record {
       line = ok_then c.call_named.result (λ r step.
-          line_other request makes leaves c.args.seat (handle_in c.args.names.now request) _ c.args.world.now
+          line_other request makes leaves c.args.side c.args.seat (handle_in c.args.names.now request) _ c.args.world.now
           c.call_named.new.world r c.in-None.ensures step) c.call_named.ensures.step;
       names = ok_then c.call_named.result (λ r step. names_stay request makes leaves c.args.names.now r)
           c.call_named.ensures.step;

@@ -12,7 +12,7 @@ use Rattle.cb_lanes.proofs.seq.run_lines.Given as goal
 abbrev pub invariant-loop-line : goal.invariant-loop-line
 invariant-loop-line l =
     record {
-      along : Along l.s.config (lanes_of (drop l.line-index l.s.lines)) l.answers l.world l.names;
+      along : Along l.side l.s.config (lanes_of (drop l.line-index l.s.lines)) l.answers l.world l.names;
       lines : map asked l.answers ≡ take l.line-index l.s.lines;
       losses : l.losses.items ≡ losses_of l.answers;
       left : AreLeft (lanes_of (drop l.line-index l.s.lines)) l.left;
