@@ -16,7 +16,7 @@ use Rattle.cb_core.specs.declared.event.Event.TheVariants.{Turn}
 use Rattle.cb_core.specs.Pinning.{PinStep, UnpinStep, given, not_pinned as none_given, pin_refusal, refused, scope_full, taken}
 use Rattle.cb_core.specs.Step.{Step}
 use Rattle.cb_core.proofs.Laws.{IsEased, IsSwapRefusal, IsWhole, MakesEasy, SwapEnds, pin_calm, refused as swap_refused, stays, swap_sound, swap_turn, swapped, turn_calm}
-use Rattle.cb_lanes.specs.LineStep.{LineStep, ObjectStep, OtherStep, TurnAt, job_of, IsInReply, PeekStep, not_pinned, shown, PinLine, at_once, stays_far, swapped_in}
+use Rattle.cb_lanes.specs.LineStep.{LineStep, ObjectStep, OtherStep, job_of, IsInReply, PeekStep, not_pinned, shown, PinLine, at_once, stays_far, swapped_in}
 use Rattle.cb_lanes.specs.declared.side.Side.{Side}
 use Rattle.cb_lanes.proofs.EasyLines.{IsEasyLine, job_whole}
 use Rattle.cb_lanes.proofs.Lone.{turn_alone}

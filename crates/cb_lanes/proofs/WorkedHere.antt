@@ -1,12 +1,11 @@
 -- Worked examples: a compaction whose parities the compute side makes.
-use Rattle.std.proofs.Common.{◌≡◌, ℕ, ◌+◌, ◌^◌, None, refl, sym, ap, ◌∙◌, arith, inl, inr}
+use Rattle.std.proofs.Common.{◌≡◌, ◌+◌, ◌^◌, None, refl, ap, ◌∙◌, arith, inl, inr}
 use Rattle.cb_member.specs.declared.names.NodeId.{NodeId}
 use Rattle.cb_types.specs.declared.job.Job.TheVariants as job
 use Rattle.cb_types.specs.declared.reply.Reply.{Reply}
-use Rattle.cb_types.specs.declared.reply.Reply.TheVariants.{Held, Joining, NoPair, NodeFull, Merged, Shipped, Worn}
+use Rattle.cb_types.specs.declared.reply.Reply.TheVariants.{Held, NoPair, NodeFull, Merged, Worn}
 use Rattle.cb_types.specs.declared.request.Request.TheVariants.{Compact, Ship}
 use Rattle.cb_world.specs.FarState.{FarState}
-use Rattle.cb_world.specs.Seats.{Holds}
 use Rattle.cb_world.specs.World.{WorldState, empty_world}
 use Rattle.cb_compact.specs.NowStep.{NowStep}
 use Rattle.cb_core.specs.declared.event.Event.TheVariants.{Turn}
@@ -15,7 +14,7 @@ use Rattle.cb_core.specs.Step.{Step, done, free, held, worn}
 use Rattle.cb_core.specs.Turned.{counted}
 use Rattle.cb_local.specs.LocalStep.{IsBeside}
 use Rattle.cb_lanes.specs.CompactsHere.{CompactsHere}
-use Rattle.cb_lanes.specs.LineStep.{CompactsAt, LineStep, TurnAt}
+use Rattle.cb_lanes.specs.LineStep.{LineStep}
 use Rattle.cb_lanes.specs.declared.side.Side.{Side}
 use Rattle.cb_lanes.specs.declared.side.Side.TheVariants.{Nodes, Compute}
 use Rattle.cb_lanes.proofs.Lone.{empty_lone, lone_other}

@@ -33,7 +33,8 @@ pub(crate) fn reply_to<'a>(
     requires request { IsRequest world.old.desk.settings.nodes request.now }
     requires ready { AreReady world.old.desk.settings.handles names.old }
     requires sound { IsSoundWorld world.old }
-    ensures line { IfOk result (λ reply. LineStep side seat (handle_in names.old request.now) request.now world.old reply world.new) }
+    ensures line { IfOk result (λ reply. LineStep side seat (handle_in names.old request.now)
+        request.now world.old reply world.new) }
     ensures names { IfOk result (λ reply. AreKept names.old request.now reply names.new) }
     ensures sound { IsSoundWorld world.new }
 {

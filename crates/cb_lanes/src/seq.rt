@@ -45,7 +45,8 @@ pub fn run_lines(alloc: Global, s: &Script, side: Side) -> Result<SeqEnd, NoMemo
     ensures lines { IfOk result (λ end. map asked end.answers ≡ s.now.lines) }
     ensures legal { IfOk result (λ end. IsLegalInOrder 1 s.now.config.handles end.answers) }
     ensures answered { IfOk result (λ end. AllByRecursion HasLineReply end.answers) }
-    ensures leads { IfOk result (λ end. LinesLead side [] (empty_world s.now.config) end.answers end.world) }
+    ensures leads { IfOk result (λ end.
+        LinesLead side [] (empty_world s.now.config) end.answers end.world) }
     ensures along { IfOk result (λ end.
         LinesLeadSoundly side [] (empty_world s.now.config) end.answers end.world) }
     ensures sound { IfOk result (λ end. IsSoundWorld end.world) }
@@ -100,7 +101,9 @@ fn answer_line<'a>(
     requires request { IsRequest world.old.desk.settings.nodes line.now.request }
     requires ready { AreReady world.old.desk.settings.handles names.old }
     requires sound { IsSoundWorld world.old }
-    ensures line { (later : List ℕ) → AreLeft (line.now.lane.n ∷ later) left.old → IfOk result (λ done. LineAnswered side line.now later world.old names.old answers.old world.new names.new answers.new) }
+    ensures line { (later : List ℕ) → AreLeft (line.now.lane.n ∷ later) left.old
+        → IfOk result (λ done. LineAnswered side line.now later world.old names.old answers.old
+        world.new names.new answers.new) }
     ensures losses { losses.old.items ≡ losses_of answers.old → IfOk result (λ done. losses.new.items ≡ losses_of answers.new) }
     ensures left { (later : List ℕ) → AreLeft (line.now.lane.n ∷ later) left.old → AreLeft later left.new }
     ensures sound { IsSoundWorld world.new }

@@ -1,4 +1,3 @@
-use Rattle.cb_types.specs.declared.job.Job.TheVariants as job
 use Rattle.cb_lanes.proofs.ByRequest.{other_turn}
 use Rattle.cb_lanes.proofs.answering.turn_at.Goals as goal
 
