@@ -10,7 +10,7 @@ use Rattle.clap.specs.Faults.{fault_of}
 use Rattle.clap.proofs.OnLiterals.{clap_on_literals}
 use Rattle.cb_cli.specs.Reader.{reader}
 use Rattle.cb_cli.specs.declared.words.Asked.TheVariants.{Run, Draw}
-use Rattle.cb_cli.specs.declared.words.Command.TheVariants.{Seq, Check, Rma, Scrub}
+use Rattle.cb_cli.specs.declared.words.Command.TheVariants.{Seq, Local, Check, Rma, Scrub}
 use Rattle.cb_cli.specs.declared.words.Plan.{Plan}
 use Rattle.cb_cli.specs.Words.{word_of, AreParts, AskFor, IsPart, Name, NameNone, Part, Setting, is_given, is_word, IsPlan, value_of}
 use Rattle.cb_cli.specs.Words.Part.{Word, Given}
@@ -21,6 +21,9 @@ use Rattle.cb_cli.proofs.CommandWords.{is_word as is_command_word, no_word_of}
 
 pub seq_named : (w : String Global) → string_bytes w ≡ codes "seq" → Name (w ∷ []) Seq
 seq_named w is = ap (λ (b : List ℕ). b ∷ []) is
+
+pub local_named : (w : String Global) → string_bytes w ≡ codes "local" → Name (w ∷ []) Local
+local_named w is = ap (λ (b : List ℕ). b ∷ []) is
 
 pub check_named : (w : String Global) → string_bytes w ≡ codes "check" → Name (w ∷ []) Check
 check_named w is = ap (λ (b : List ℕ). b ∷ []) is
@@ -56,6 +59,9 @@ not_yet_threads w is = another_word w (codes "threads") is refl
 
 gen_alone : (w : String Global) → string_bytes w ≡ codes "gen" → NameNone (w ∷ [])
 gen_alone w is = another_word w (codes "gen") is refl
+
+a_capital : (w : String Global) → string_bytes w ≡ codes "Local" → NameNone (w ∷ [])
+a_capital w is = another_word w (codes "Local") is refl
 
 longer_word : (w : String Global) → string_bytes w ≡ codes "checks" → NameNone (w ∷ [])
 longer_word w is = another_word w (codes "checks") is refl

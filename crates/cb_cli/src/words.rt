@@ -25,6 +25,9 @@ const MOST_LANES: u32 = 15;
 pub enum Command {
     /// Answer the lines of a script, in order, on one thread.
     Seq,
+    /// Answer them, with parities made by the compute side where two sets become one, and tell how
+    /// many rows the nodes gave out.
+    Local,
     /// Read a script, and tell how many lines and lanes it has.
     Check,
     /// Run a schedule of remote orders, and tell what is said to each event.
@@ -191,6 +194,7 @@ fn named(word: &str) -> Option<Command>
 {
     match word {
         "seq" => Some(Command::Seq),
+        "local" => Some(Command::Local),
         "check" => Some(Command::Check),
         "rma" => Some(Command::Rma),
         "scrub" => Some(Command::Scrub),
