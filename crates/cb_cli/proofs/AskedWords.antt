@@ -1,16 +1,15 @@
 -- What a command line asks for, by what clap finds in it.
-use Rattle.std.proofs.Common.{◌≡◌, ℕ, zero, suc, ◌^◌, ◌<◌, ◌≤◌, Bool, true, false, cond, ◌||◌, ◌⊎◌, inl, inr, List, [], ◌∷◌, ◌++◌, Option, Some, None, refl, sym, ap, ◌∙◌, subst, codes, length, map, fold, String, Global, true≢false, arith}
+use Rattle.std.proofs.Common.{◌≡◌, ℕ, ◌^◌, ◌<◌, ◌≤◌, Bool, true, false, cond, ◌||◌, inl, inr, List, [], ◌∷◌, ◌++◌, Option, Some, None, refl, sym, ap, ◌∙◌, subst, codes, length, map, fold, String, Global, true≢false, arith}
 use Rattle.std.specs.Borrow.{Bor}
 use Rattle.std.specs.Fmt.{decimal}
 use Rattle.std.specs.List.{AllByRecursion, filter, list_any}
 use Rattle.std.specs.Prelude.{is_some, string_bytes}
 use Rattle.std.specs.Str.{bytes_eq}
-use Rattle.std.proofs.lemmas.Bool.{cases_Bool}
 use Rattle.std.proofs.lemmas.Fmt.{decimal_is_IsNumeral}
 use Rattle.std.proofs.lemmas.List.{nil_from_length}
 use Rattle.std.proofs.lemmas.List.Folds.{list_any-append}
 use Rattle.std.proofs.lemmas.Slice.Eq.{bytes_eq-Decides}
-use Rattle.clap.specs.Faults.{check_fault, default_fault, defaults_fault, entered_fault, fault_of, given_default_fault, is_simple_and_free, settle_fault, walk_fault}
+use Rattle.clap.specs.Faults.{check_fault, defaults_fault, entered_fault, fault_of, given_default_fault, is_simple_and_free, settle_fault, walk_fault}
 use Rattle.clap.specs.Kinds.{HasKind, Kinds, or_else}
 use Rattle.clap.specs.Matches.{first_value, found_of}
 use Rattle.clap.specs.Simple.{App, HasMatchesOf, app_of, built, entered, is_simple, matches_of}
@@ -35,7 +34,6 @@ use Rattle.cb_cli.specs.declared.words.Given.{Given as WordsGiven}
 use Rattle.cb_cli.specs.declared.words.Plan.{Plan}
 use Rattle.cb_cli.proofs.FlagWords.{IsPlain, dashes, plain_digits, plain_from}
 use Rattle.cb_cli.proofs.OptionReader.{again, at_idle, held_at, no_first, no_second, part_value, reader_is_simple, row, rules, settled_is, shape}
-use Rattle.cb_cli.proofs.PartsRead.{AreOnce}
 use Rattle.cb_cli.proofs.PartsTaken.{Finished, IsPlainPart, Total, complete, idle_at, other_dashed, other_joined, sound}
 
 -- ---- values by rows and by parts

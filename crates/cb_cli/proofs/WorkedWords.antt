@@ -1,9 +1,8 @@
 -- Worked examples: which words ask for something.
-use Rattle.std.proofs.Common.{◌≡◌, ℕ, suc, ◌+◌, ◌<◌, ◌≤◌, false, List, [], ◌∷◌, ◌++◌, length, map, refl, sym, ap, ◌∙◌, subst, inl, inr, String, Global, arith, length-append}
+use Rattle.std.proofs.Common.{◌≡◌, ℕ, false, List, [], ◌∷◌, map, refl, sym, ap, ◌∙◌, inl, inr, String, Global, arith}
 use Rattle.std.specs.List.{filter}
 use Rattle.std.specs.Prelude.{codes, decimal, string_bytes}
 use Rattle.std.specs.Fmt.{digits}
-use Rattle.std.proofs.lemmas.List.{length-map}
 use Rattle.clap.specs.Simple.{matches_of}
 use Rattle.clap.specs.Walk.{first_of}
 use Rattle.clap.specs.Faults.{fault_of}
@@ -12,7 +11,7 @@ use Rattle.cb_cli.specs.Reader.{reader}
 use Rattle.cb_cli.specs.declared.words.Asked.TheVariants.{Run, Draw}
 use Rattle.cb_cli.specs.declared.words.Command.TheVariants.{Seq, Local, Check, Rma, Scrub}
 use Rattle.cb_cli.specs.declared.words.Plan.{Plan}
-use Rattle.cb_cli.specs.Words.{word_of, AreParts, AskFor, IsPart, Name, NameNone, Part, Setting, is_given, is_word, IsPlan, value_of}
+use Rattle.cb_cli.specs.Words.{word_of, AskFor, Name, NameNone, Setting, is_given, IsPlan, value_of}
 use Rattle.cb_cli.specs.Words.Part.{Word, Given}
 use Rattle.cb_cli.specs.Words.Setting.{Seed, Lines, Lanes}
 use Rattle.cb_cli.proofs.AskedWords.{another_than_gen, fault_names_none, without_option}
