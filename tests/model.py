@@ -4,7 +4,8 @@
 It keeps each object's bytes as they are, and of a span-set only where its rows stand: no coding is done here.
 What it answers follows from the rules alone, so it shares no code and no idea with the program.
 
-    model.py CASE.in > CASE.out
+    model.py CASE.in > CASE.out            as `carbink seq` answers
+    model.py --local CASE.in > CASE.out    as `carbink local` does, with the rows that the nodes gave out behind it
 """
 import sys
 
@@ -54,7 +55,8 @@ class Object:
 
 
 class World:
-    def __init__(self, k, r, nodes, frames, room, handles):
+    def __init__(self, k, r, nodes, frames, room, handles, local=False):
+        self.local = local  # whether a compact line is done by the compute side
         self.k, self.r, self.n = k, r, k + r
         self.frames, self.room, self.handles = frames, room, handles
         self.spans = [None] * frames
@@ -420,6 +422,8 @@ class World:
             if stepped.startswith("nodefull "):
                 self.give_pair_up()
                 return stepped
+        if self.local:  # both rows at each taken position, and the first set's parities
+            self.given += 2 * len(self.joining.taken) + self.r
         return self.merge()
 
     def crash(self, node):
@@ -456,12 +460,13 @@ class World:
         return "whole %d" % sum(self.is_broken(s) for s in self.sets.values())
 
 
-def run(text, watch=None):
+def run(text, watch=None, local=False):
     """The answers of a script, and the world at its end. After each line watch(line number, words, reply, world, names)
-    is called, where it is given, with the handles by their names."""
+    is called, where it is given, with the handles by their names. With local the compute side does the compact lines, and
+    a last line tells how many rows the nodes gave out."""
     lines = text.rstrip("\n").split("\n")
     head = dict(w.split("=") for w in lines[0].split()[2:])
-    w = World(*(int(head[f]) for f in ("k", "r", "nodes", "frames", "room", "handles")))
+    w = World(*(int(head[f]) for f in ("k", "r", "nodes", "frames", "room", "handles")), local)
     names, scopes = {}, {}
     last = {l.split()[0]: i for i, l in enumerate(lines[1:])}
     out = []
@@ -524,8 +529,10 @@ def run(text, watch=None):
             give_back(lane)
         if watch:
             watch(i + 2, words, reply, w, names)
+    if local:
+        out.append("given %d" % w.given)
     return "".join(line + "\n" for line in out), w
 
 
 if __name__ == "__main__":
-    sys.stdout.write(run(open(sys.argv[1]).read())[0])
+    sys.stdout.write(run(open(sys.argv[-1]).read(), local="--local" in sys.argv)[0])

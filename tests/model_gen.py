@@ -127,6 +127,7 @@ CASES = {
     "lanes_twice": "gen --lanes=3 --seed 5 --lines 20 --lanes 3",
     "with_seq": "seq --seed 5 --lines 20 --lanes 3",
     "with_seq_and_gen": "seq gen --seed 5 --lines 20 --lanes 3",
+    "with_local": "local --seed 5 --lines 20 --lanes 3",
     "with_check": "--seed 5 --lines 20 --lanes 3 check",
     "with_one_option": "seq --seed 5",
     "with_rma": "rma --lanes=3",

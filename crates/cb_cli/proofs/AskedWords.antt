@@ -1,16 +1,16 @@
 -- What a command line asks for, by what clap finds in it.
-use Rattle.std.proofs.Common.{◌≡◌, ℕ, zero, suc, ◌^◌, ◌<◌, ◌≤◌, Bool, true, false, cond, ◌||◌, ◌⊎◌, inl, inr, List, [], ◌∷◌, ◌++◌, Option, Some, None, refl, sym, ap, ◌∙◌, subst, codes, length, map, fold, String, Global, true≢false, arith}
+use Rattle.std.proofs.Common.{◌≡◌, ℕ, ◌^◌, ◌<◌, ◌≤◌, Bool, true, false, cond, ◌||◌, inl, inr, List, [], ◌∷◌, ◌++◌, Option, Some, None, refl, sym, ap, ◌∙◌, subst, codes, length, map, fold, String, Global, true≢false, arith}
 use Rattle.std.specs.Borrow.{Bor}
 use Rattle.std.specs.Fmt.{decimal}
 use Rattle.std.specs.List.{AllByRecursion, filter, list_any}
-use Rattle.std.specs.Prelude.{is_some, string_bytes}
+use Rattle.std.specs.Prelude.{◌≢◌, IfOk, MatchOption, Result, is_some, string_bytes}
 use Rattle.std.specs.Str.{bytes_eq}
-use Rattle.std.proofs.lemmas.Bool.{cases_Bool}
 use Rattle.std.proofs.lemmas.Fmt.{decimal_is_IsNumeral}
 use Rattle.std.proofs.lemmas.List.{nil_from_length}
+use Rattle.std.proofs.lemmas.Result.{IfOk-weaker}
 use Rattle.std.proofs.lemmas.List.Folds.{list_any-append}
 use Rattle.std.proofs.lemmas.Slice.Eq.{bytes_eq-Decides}
-use Rattle.clap.specs.Faults.{check_fault, default_fault, defaults_fault, entered_fault, fault_of, given_default_fault, is_simple_and_free, settle_fault, walk_fault}
+use Rattle.clap.specs.Faults.{check_fault, defaults_fault, entered_fault, fault_of, given_default_fault, is_simple_and_free, settle_fault, walk_fault}
 use Rattle.clap.specs.Kinds.{HasKind, Kinds, or_else}
 use Rattle.clap.specs.Matches.{first_value, found_of}
 use Rattle.clap.specs.Simple.{App, HasMatchesOf, app_of, built, entered, is_simple, matches_of}
@@ -18,11 +18,12 @@ use Rattle.clap.specs.Takes.{is_given as has_source}
 use Rattle.clap.specs.Walk.{Row, Rule, Text, Walk, default_rows, finished, first_of, has_row, is_empty, reading_by, rows_of, settled, walked, with_default}
 use Rattle.clap.specs.declared.builder.command.Command.{Command as ClapCommand}
 use Rattle.clap.specs.declared.error.Error.{Error}
+use Rattle.clap.specs.declared.error.kind.ErrorKind.{ErrorKind}
 use Rattle.clap.specs.declared.error.kind.ErrorKind.TheVariants.{OutOfMemory}
 use Rattle.clap.specs.declared.parser.matches.ArgMatches.{ArgMatches}
 use Rattle.clap.specs.Words.{kind_of}
 use Rattle.clap.proofs.WalkLemmas.{first_value-rows}
-use Rattle.cb_cli.specs.Given.{GivenAsks, text_in}
+use Rattle.cb_cli.specs.Given.{AreFound, GivenAsks, text_in}
 use Rattle.cb_cli.specs.Reader.{reader}
 use Rattle.cb_cli.specs.Words.{Ask, AskFor, AreParts, IsPart, Name, NameNone, Part, Setting, is_given, is_word, name_of, value_of, word_of}
 use Rattle.cb_cli.specs.Words.Part.{Word, Given}
@@ -30,12 +31,11 @@ use Rattle.cb_cli.specs.Words.Setting.{Seed, Lines, Lanes}
 use Rattle.cb_cli.specs.declared.words.Asked.{Asked}
 use Rattle.cb_cli.specs.declared.words.Asked.TheVariants.{Run, Draw}
 use Rattle.cb_cli.specs.declared.words.Command.{Command}
-use Rattle.cb_cli.specs.declared.words.Command.TheVariants.{Seq, Check, Rma, Scrub}
+use Rattle.cb_cli.specs.declared.words.Command.TheVariants.{Seq, Local, Check, Rma, Scrub}
 use Rattle.cb_cli.specs.declared.words.Given.{Given as WordsGiven}
 use Rattle.cb_cli.specs.declared.words.Plan.{Plan}
 use Rattle.cb_cli.proofs.FlagWords.{IsPlain, dashes, plain_digits, plain_from}
 use Rattle.cb_cli.proofs.OptionReader.{again, at_idle, held_at, no_first, no_second, part_value, reader_is_simple, row, rules, settled_is, shape}
-use Rattle.cb_cli.proofs.PartsRead.{AreOnce}
 use Rattle.cb_cli.proofs.PartsTaken.{Finished, IsPlainPart, Total, complete, idle_at, other_dashed, other_joined, sound}
 
 -- ---- values by rows and by parts
@@ -201,6 +201,7 @@ texts_of = map string_bytes
 
 plain_command : (c : Command) → IsPlain (word_of c)
 plain_command Seq = plain_from 115 (codes "eq") refl
+plain_command Local = plain_from 108 (codes "ocal") refl
 plain_command Check = plain_from 99 (codes "heck") refl
 plain_command Rma = plain_from 114 (codes "ma") refl
 plain_command Scrub = plain_from 115 (codes "crub") refl
@@ -331,6 +332,17 @@ refused_name_none made words e is kinds other asked ask =
     let fault : fault_of (app_of made) (texts_of words) ≡ [] = ap (λ (a : App). fault_of a (texts_of words)) is ∙ asked_fault words asked ask in
     elim (subst (λ (ks : Kinds). HasKind ks e) fault kind) [ inl memory ↦ other memory | inr among ↦ among ]
 
+-- and nothing is found then
+pub none_given : {E : Type 0} (made : ClapCommand) (words : List (String Global)) (e : Error) (kind : ErrorKind)
+    (found : Result (Option WordsGiven) E) (P : WordsGiven → Type 0) → app_of made ≡ reader
+    → (is_simple_and_free (app_of made) ≡ true → HasKind (fault_of (app_of made) (texts_of words)) e)
+    → kind ≡ kind_of e
+    → IfOk found (λ given. (given ≡ None) × (kind ≢ OutOfMemory))
+    → IfOk found (λ given. MatchOption given (NameNone words) P)
+none_given made words e kind found P is kinds same none =
+    IfOk-weaker found _ _ (λ given left. subst (λ g. MatchOption g (NameNone words) P) (sym left.0)
+    (refused_name_none made words e is kinds (λ memory. left.1 (same ∙ memory)))) none
+
 -- ---- what is given
 
 abbrev pub option_in : WordsGiven → Setting → Option (Bor Text)
@@ -338,19 +350,11 @@ option_in given Seed = given.seed
 option_in given Lines = given.lines
 option_in given Lanes = given.lanes
 
--- What was found is what clap gives for the word and for each option.
-pub record AreFound (m : ArgMatches) (given : WordsGiven) : Type 0 where
-  pub word : text_in given.word ≡ first_value (found_of m) (codes "command")
-  pub options : (o : Setting) → text_in (option_in given o) ≡ first_value (found_of m) (name_of o)
-
-pub are_found : (m : ArgMatches) (given : WordsGiven) → text_in given.word ≡ first_value (found_of m) (codes "command") → text_in given.seed ≡ first_value (found_of m) (codes "seed")
-    → text_in given.lines ≡ first_value (found_of m) (codes "lines") → text_in given.lanes ≡ first_value (found_of m) (codes "lanes") → AreFound m given
-are_found m given word seed lines lanes = record { word = word; options = λ o. each o }
-  where
-    each : (o : Setting) → text_in (option_in given o) ≡ first_value (found_of m) (name_of o)
-    each Seed = seed
-    each Lines = lines
-    each Lanes = lanes
+option_found : (m : ArgMatches) (given : WordsGiven) → AreFound m given → (o : Setting)
+    → text_in (option_in given o) ≡ first_value (found_of m) (name_of o)
+option_found m given found Seed = found.seed
+option_found m given found Lines = found.lines
+option_found m given found Lanes = found.lanes
 
 none_in : (found : Option (Bor Text)) → text_in found ≡ None → found ≡ None
 none_in None e = refl
@@ -369,7 +373,7 @@ module _ (made : ClapCommand) (words : List (String Global)) (m : ArgMatches) (g
 
   given_in : (parts : List Part) → matches_of reader (texts_of words) ≡ map row parts → (o : Setting) → text_in (option_in given o) ≡ first_in (filter (is_given o) parts)
   given_in parts same_rows o =
-      found.options o ∙ first_value-rows (found_of m) (name_of o) ∙ ap (first_of (name_of o)) (rows_are ∙ same_rows) ∙ first_given o parts
+      option_found m given found o ∙ first_value-rows (found_of m) (name_of o) ∙ ap (first_of (name_of o)) (rows_are ∙ same_rows) ∙ first_given o parts
 
   fault : fault_of reader (texts_of words) ≡ []
   fault = ap (λ (a : App). fault_of a (texts_of words)) (sym is) ∙ free (ap is_simple_and_free is ∙ reader_is_simple)
@@ -407,13 +411,13 @@ module _ (made : ClapCommand) (words : List (String Global)) (m : ArgMatches) (g
     words_are = total_are;
     gen = only_word total (codes "gen") total_is.once.word (sym (word_in total total_rows) ∙ g.0);
     options = λ o. only_given o total (decimal (value_of plan o)) (total_is.once.given o) (sym (given_in total total_rows o) ∙ each o);
-    in_range = g.4;
+    in_range = g.1.3;
   }
     where
       each : (o : Setting) → text_in (option_in given o) ≡ Some (decimal (value_of plan o))
-      each Seed = g.1
-      each Lines = g.2
-      each Lanes = g.3
+      each Seed = g.1.0
+      each Lines = g.1.1
+      each Lanes = g.1.2
 
   given_then : (asked : Asked) → Ask words asked → GivenAsks given asked
   given_then (Run c) ask =
@@ -423,7 +427,7 @@ module _ (made : ClapCommand) (words : List (String Global)) (m : ArgMatches) (g
   given_then (Draw plan) ask =
       let rows = asked_rows words (Draw plan) ask in
       let option : (o : Setting) → text_in (option_in given o) ≡ Some (decimal (value_of plan o)) = (λ o. given_in ask.parts rows o ∙ ap first_in (ask.options o)) in
-      (word_in ask.parts rows ∙ ap first_in ask.gen, option Seed, option Lines, option Lanes, ask.in_range)
+      (word_in ask.parts rows ∙ ap first_in ask.gen, (option Seed, option Lines, option Lanes, ask.in_range))
 
   pub given_asks : (asked : Asked) → (Ask words asked → GivenAsks given asked) × (GivenAsks given asked → Ask words asked)
   given_asks asked = (given_then asked, asked_then asked)

@@ -1,5 +1,5 @@
 -- The numbers that the values of options spell.
-use Rattle.std.proofs.Common.{◌≡◌, ℕ, ◌<◌, List, sym, ◌∙◌, arith}
+use Rattle.std.proofs.Common.{◌≡◌, ℕ, List, sym, ◌∙◌, arith}
 use Rattle.std.proofs.lemmas.Fmt.{decimal_injective}
 use Rattle.cb_script.specs.Rules.{IsNumber}
 use Rattle.cb_cli.specs.Given.{IsCount}

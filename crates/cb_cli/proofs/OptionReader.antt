@@ -1,30 +1,27 @@
 -- One step of clap's walk over the words, for a command of one required word and three options.
-use Rattle.std.proofs.Common.{◌≡◌, ℕ, zero, suc, ◌==◌, Bool, true, false, cond, ◌||◌, ◌&&◌, ◌⊎◌, inl, inr, if◌then◌else◌, List, [], ◌∷◌, ◌++◌, Option, Some, None, refl, sym, ap, ◌∙◌, codes, length, map, append-nil}
+use Rattle.std.proofs.Common.{◌≡◌, ℕ, zero, suc, Bool, true, false, cond, ◌||◌, ◌&&◌, ◌⊎◌, inl, inr, List, [], ◌∷◌, ◌++◌, Option, Some, None, refl, sym, ap, ◌∙◌, codes, length, map, append-nil}
 use Rattle.std.proofs.lemmas.Bool.{cases_Bool}
 use Rattle.std.proofs.lemmas.List.{map-append}
 use Rattle.std.proofs.lemmas.Slice.Eq.{bytes_eq-Decides}
 use Rattle.std.specs.Option.{option_map_or}
 use Rattle.std.specs.Prelude.{slice_get, option_map}
-use Rattle.std.specs.List.{list_any}
 use Rattle.std.specs.Str.{bytes_eq, chars}
-use Rattle.clap.specs.Lexer.{long_of, short_of}
+use Rattle.clap.specs.Lexer.{long_of}
 use Rattle.clap.specs.Kinds.{Kinds, or_else}
 use Rattle.clap.specs.Walk.{Held, Names, Row, Rule, Step, Text, Waiting, Walk, after_flag, after_step, arg_by_id, arg_by_index, arg_by_long, at_row, bundle_met, bundle_step, has_row, idle, long_or_other, more_values, next, option, plain, plain_word, pushed, reading_by, settled, short_or_plain, subcommand_met, subcommand_or_other, trailing, used, value, walked, with_values, without, word_met}
 use Rattle.clap.specs.Simple.{App, Shape, app_of, app_of_fields, built, filled, new_app, with_index, with_rule}
-use Rattle.clap.specs.Faults.{bundle_fault, bundle_step_fault, flag_word_fault, flags_fault, is_simple_and_free, other_fault, settle_fault, step_fault, turn_fault, use_fault, word_fault}
+use Rattle.clap.specs.Faults.{bundle_fault, bundle_step_fault, flag_word_fault, flags_fault, is_simple_and_free, other_fault, settle_fault, step_fault, turn_fault, use_fault}
 use Rattle.clap.specs.declared.builder.command.Command.TheViews.{out-Command}
 use Rattle.clap.specs.declared.builder.command.Command.{Command}
 use Rattle.clap.specs.declared.builder.command.Command.TheOpen.{Command-F}
 use Rattle.clap.specs.declared.error.kind.ErrorKind.{ErrorKind}
-use Rattle.clap.specs.declared.error.kind.ErrorKind.TheVariants.{UnknownArgument}
-use Rattle.clap.specs.declared.parser.matches.ValueSource.{ValueSource}
 use Rattle.clap.specs.declared.parser.matches.ValueSource.TheVariants.{CommandLine}
 use Rattle.clap.specs.declared.builder.value_parser.Reading.{Reading}
 use Rattle.cb_cli.specs.Reader.{option_rule, quieted, reader, word_reader, word_rule}
 use Rattle.cb_cli.specs.Words.{Part, Setting, name_of}
 use Rattle.cb_cli.specs.Words.Part.{Word, Given}
 use Rattle.cb_cli.specs.Words.Setting.{Seed, Lines, Lanes}
-use Rattle.cb_cli.proofs.FlagWords.{IsLong, IsPlain, dashes, long_is}
+use Rattle.cb_cli.proofs.FlagWords.{dashes}
 
 -- what the calls that make the reader of one word leave
 pub reader_made : (new named helpless quiet made : Command) → app_of new ≡ new_app (codes "carbink")

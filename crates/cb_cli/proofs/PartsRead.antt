@@ -1,20 +1,20 @@
 -- What clap makes of the words, part after part.
-use Rattle.std.proofs.Common.{◌≡◌, ℕ, zero, suc, ◌+◌, ◌<◌, ◌≤◌, Bool, true, false, cond, ◌||◌, ◌&&◌, ◌⊎◌, inl, inr, List, [], ◌∷◌, ◌++◌, Option, Some, None, refl, sym, ap, ◌∙◌, subst, codes, length, map, fold, append-nil, append_assoc, length-append, arith}
+use Rattle.std.proofs.Common.{◌≡◌, ℕ, ◌+◌, ◌<◌, ◌≤◌, Bool, true, false, cond, inl, inr, List, [], ◌∷◌, ◌++◌, Option, Some, None, refl, sym, ap, ◌∙◌, codes, length, map, length-append, arith}
 use Rattle.std.proofs.lemmas.List.{map-append}
 use Rattle.std.proofs.lemmas.List.Elements.{filter-append}
 use Rattle.std.specs.Prelude.{option_map}
 use Rattle.std.specs.Option.{option_map_or}
-use Rattle.std.specs.List.{filter, list_any}
+use Rattle.std.specs.List.{filter}
 use Rattle.std.specs.Str.{bytes_eq}
 use Rattle.clap.specs.Lexer.{long_of, short_of}
 use Rattle.clap.specs.Kinds.{Kinds, or_else}
 use Rattle.clap.specs.Walk.{Held, Row, Rule, Text, Walk, after_flag, after_step, arg_by_long, has_row, idle, is_pending, long_met, option, plain_word, pushed, settled, short_or_plain, used, value, walked}
-use Rattle.clap.specs.Faults.{bundle_fault, long_fault, settle_fault, step_fault, turn_fault, use_fault, walk_fault}
-use Rattle.cb_cli.specs.Words.{AreParts, IsPart, Part, Setting, is_given, is_word, name_of}
+use Rattle.clap.specs.Faults.{bundle_fault, long_fault, settle_fault, step_fault, turn_fault, use_fault}
+use Rattle.cb_cli.specs.Words.{Part, Setting, is_given, is_word, name_of}
 use Rattle.cb_cli.specs.Words.Part.{Word, Given}
 use Rattle.cb_cli.specs.Words.Setting.{Seed, Lines, Lanes}
-use Rattle.cb_cli.proofs.FlagWords.{IsLong, IsPlain, dashes, long_is}
-use Rattle.cb_cli.proofs.OptionReader.{a_kind, again, all_of, and_no, at_idle, at_waiting, fault_by, held_at, held_for, no_first, no_second, no_value, option_named, option_of, part_id, part_rule, part_value, row, rules, settle_fault_is, settled_is, shape, short_case, turn_is, use_free, use_is, used_is, walked_by, walked_is}
+use Rattle.cb_cli.proofs.FlagWords.{IsPlain, dashes}
+use Rattle.cb_cli.proofs.OptionReader.{a_kind, again, all_of, and_no, at_idle, at_waiting, fault_by, held_at, held_for, no_first, no_value, option_named, option_of, part_id, part_rule, part_value, row, rules, settled_is, shape, short_case, turn_is, use_free, used_is, walked_by, walked_is}
 
 -- ---- how often a part stands among others
 

@@ -1,16 +1,16 @@
 -- Which lists of words clap takes, and the parts that it finds in them.
-use Rattle.std.proofs.Common.{◌≡◌, ℕ, zero, suc, ◌+◌, ◌<◌, ◌≤◌, Bool, true, false, cond, ◌||◌, ◌⊎◌, inl, inr, List, [], ◌∷◌, ◌++◌, Option, Some, None, refl, sym, ap, ◌∙◌, subst, length, map, fold, append-nil, append_assoc, arith}
+use Rattle.std.proofs.Common.{◌≡◌, ℕ, ◌<◌, false, ◌⊎◌, inl, inr, List, [], ◌∷◌, ◌++◌, Option, Some, None, refl, sym, ap, ◌∙◌, subst, length, map, fold, append-nil, append_assoc, arith}
 use Rattle.std.specs.List.{AllByRecursion, filter, list_any}
 use Rattle.std.specs.Str.{bytes_eq}
 use Rattle.clap.specs.Lexer.{long_of, short_of}
 use Rattle.clap.specs.Kinds.{Kinds, or_else}
-use Rattle.clap.specs.Walk.{Held, Row, Rule, Text, Walk, after_step, arg_by_long, has_row, idle, settled, value, walked}
+use Rattle.clap.specs.Walk.{Held, Rule, Text, Walk, after_step, arg_by_long, has_row, idle, settled, value, walked}
 use Rattle.clap.specs.Faults.{long_fault, settle_fault, step_fault, turn_fault, use_fault, walk_fault}
-use Rattle.cb_cli.specs.Words.{AreParts, IsPart, Part, Setting, is_given, is_word, name_of}
+use Rattle.cb_cli.specs.Words.{AreParts, Part, Setting, is_word, name_of}
 use Rattle.cb_cli.specs.Words.Part.{Word, Given}
 use Rattle.cb_cli.specs.Words.Setting.{Seed, Lines, Lanes}
 use Rattle.cb_cli.proofs.FlagWords.{IsLong, IsPlain, dashes, long_is}
-use Rattle.cb_cli.proofs.OptionReader.{a_kind, again, all_of, at_idle, at_waiting, fault_by, held_at, held_for, is_false_or, no_first, no_second, no_value, option_named, option_of, part_id, part_value, row, rules, settle_fault_is, settled_is, shape, short_case, use_free, use_is, walked_by}
+use Rattle.cb_cli.proofs.OptionReader.{a_kind, again, all_of, at_idle, at_waiting, fault_by, held_at, is_false_or, no_first, no_second, no_value, option_named, option_of, part_value, row, rules, settle_fault_is, settled_is, shape, short_case, use_free, use_is, walked_by}
 use Rattle.cb_cli.proofs.PartsRead.{AreOnce, by_rule, fresh, joined_fault, joined_walk, kind_count, named_walk, once_more, pend, turned, value_fault, value_taken, value_turn, value_walk, walk_rule, went, word_turn}
 
 -- where the walk stands: between two parts, or where an option waits for its value

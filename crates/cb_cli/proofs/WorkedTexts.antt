@@ -8,7 +8,7 @@ use Rattle.cb_types.specs.declared.request.Request.TheVariants.{Compact, Leave}
 use Rattle.cb_script.specs.declared.fault.Reason.TheVariants as reasons
 use Rattle.cb_script.specs.declared.script.Line.{Line}
 use Rattle.cb_cli.specs.Lanes.{lane_count}
-use Rattle.cb_cli.specs.Texts.{fault_text, words_refused, check_text}
+use Rattle.cb_cli.specs.Texts.{fault_text, words_refused, check_text, given_line}
 
 -- ---- lanes
 
@@ -37,6 +37,14 @@ refused_words = refl
 a_fault : fault_text 8 reasons.Hex ≡ codes "script line 8 reason 10 hex\n"
 unfolding digits
 a_fault = refl
+
+ten_given : given_line 10 ≡ codes "given 10\n"
+unfolding digits
+ten_given = refl
+
+none_given : given_line 0 ≡ codes "given 0\n"
+unfolding digits
+none_given = refl
 
 -- the header is no line, and a lane that stands twice counts once
 checked_lines : (config : Config)

@@ -1,18 +1,17 @@
 -- Worked examples: which words ask for something.
-use Rattle.std.proofs.Common.{◌≡◌, ℕ, suc, ◌+◌, ◌<◌, ◌≤◌, false, List, [], ◌∷◌, ◌++◌, length, map, refl, sym, ap, ◌∙◌, subst, inl, inr, String, Global, arith, length-append}
+use Rattle.std.proofs.Common.{◌≡◌, ℕ, false, List, [], ◌∷◌, map, refl, sym, ap, ◌∙◌, inl, inr, String, Global, arith}
 use Rattle.std.specs.List.{filter}
 use Rattle.std.specs.Prelude.{codes, decimal, string_bytes}
 use Rattle.std.specs.Fmt.{digits}
-use Rattle.std.proofs.lemmas.List.{length-map}
 use Rattle.clap.specs.Simple.{matches_of}
 use Rattle.clap.specs.Walk.{first_of}
 use Rattle.clap.specs.Faults.{fault_of}
 use Rattle.clap.proofs.OnLiterals.{clap_on_literals}
 use Rattle.cb_cli.specs.Reader.{reader}
 use Rattle.cb_cli.specs.declared.words.Asked.TheVariants.{Run, Draw}
-use Rattle.cb_cli.specs.declared.words.Command.TheVariants.{Seq, Check, Rma, Scrub}
+use Rattle.cb_cli.specs.declared.words.Command.TheVariants.{Seq, Local, Check, Rma, Scrub}
 use Rattle.cb_cli.specs.declared.words.Plan.{Plan}
-use Rattle.cb_cli.specs.Words.{word_of, AreParts, AskFor, IsPart, Name, NameNone, Part, Setting, is_given, is_word, IsPlan, value_of}
+use Rattle.cb_cli.specs.Words.{word_of, AskFor, Name, NameNone, Setting, is_given, IsPlan, value_of}
 use Rattle.cb_cli.specs.Words.Part.{Word, Given}
 use Rattle.cb_cli.specs.Words.Setting.{Seed, Lines, Lanes}
 use Rattle.cb_cli.proofs.AskedWords.{another_than_gen, fault_names_none, without_option}
@@ -21,6 +20,9 @@ use Rattle.cb_cli.proofs.CommandWords.{is_word as is_command_word, no_word_of}
 
 pub seq_named : (w : String Global) → string_bytes w ≡ codes "seq" → Name (w ∷ []) Seq
 seq_named w is = ap (λ (b : List ℕ). b ∷ []) is
+
+pub local_named : (w : String Global) → string_bytes w ≡ codes "local" → Name (w ∷ []) Local
+local_named w is = ap (λ (b : List ℕ). b ∷ []) is
 
 pub check_named : (w : String Global) → string_bytes w ≡ codes "check" → Name (w ∷ []) Check
 check_named w is = ap (λ (b : List ℕ). b ∷ []) is
@@ -56,6 +58,9 @@ not_yet_threads w is = another_word w (codes "threads") is refl
 
 gen_alone : (w : String Global) → string_bytes w ≡ codes "gen" → NameNone (w ∷ [])
 gen_alone w is = another_word w (codes "gen") is refl
+
+a_capital : (w : String Global) → string_bytes w ≡ codes "Local" → NameNone (w ∷ [])
+a_capital w is = another_word w (codes "Local") is refl
 
 longer_word : (w : String Global) → string_bytes w ≡ codes "checks" → NameNone (w ∷ [])
 longer_word w is = another_word w (codes "checks") is refl

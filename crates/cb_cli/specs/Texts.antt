@@ -15,6 +15,10 @@ fault_text line reason =
     codes "script line " ++ decimal line ++ codes " reason " ++ decimal (number_of reason)
     ++ codes " " ++ word_of reason ++ codes "\n"
 
+-- how many rows the nodes gave out
+abbrev pub given_line : ℕ → List ℕ
+given_line given = codes "given " ++ decimal given ++ codes "\n"
+
 -- that a script was read, with its lines behind the header and its different lanes
 abbrev pub check_text : Script → List ℕ
 check_text script =

@@ -1,8 +1,8 @@
-ghost use Rattle.std.specs.Prelude.{◌≡◌, IfOk};
+ghost use Rattle.std.specs.Prelude.{◌≡◌, ◌++◌, IfOk};
 ghost use Rattle.std.specs.List.{AllByRecursion};
 ghost use Rattle.cb_types.specs.Table.{IsReplyOf};
 ghost use Rattle.cb_text.specs.Line.{text_of};
-ghost use Rattle.cb_cli.specs.Texts.{fault_text, check_text};
+ghost use Rattle.cb_cli.specs.Texts.{fault_text, check_text, given_line};
 
 use crate::lanes::different_lanes;
 use cb_script::{Reason, Script};
@@ -23,6 +23,16 @@ pub fn answers_text(alloc: Global, answers: &Answers) -> Result<Bytes, NoMemory>
         push_line(&mut text, answer.lane, &answer.request, &answer.reply)?;
     }
     Ok(Bytes::from(text))
+}
+
+/// The text, and behind it a line that tells how many rows the nodes gave out.
+pub fn with_given(alloc: Global, text: Bytes, given: u64) -> Result<Bytes, NoMemory>
+    ensures { IfOk result (λ longer. longer ≡ text ++ given_line given) }
+{
+    let line = format!(in alloc; "given {given}\n")?;
+    let mut longer = text.into_vec();
+    longer.extend_from_slice(line.as_bytes())?;
+    Ok(Bytes::from(longer))
 }
 
 /// The text that tells what is wrong with a script.

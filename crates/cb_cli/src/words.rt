@@ -1,9 +1,10 @@
-ghost use Rattle.std.specs.Prelude.{◌≡◌, ◌↔◌, ◌||◌, is_some, List, ℕ, codes, string_bytes, IfOk, MatchOption};
+ghost use Rattle.std.specs.Prelude.{◌≡◌, ◌≢◌, ◌↔◌, ◌||◌, is_some, None, List, ℕ, codes, string_bytes, IfOk, MatchOption};
 ghost use Rattle.std.specs.List.{list_any};
 ghost use Rattle.std.specs.Str.{bytes_eq};
 ghost use Rattle.clap.specs.Simple.{app_of, with_rule};
+ghost use Rattle.clap.specs.declared.error.kind.ErrorKind.TheVariants.{OutOfMemory};
 ghost use Rattle.cb_script.specs.Found.{Finds};
-ghost use Rattle.cb_cli.specs.Given.{GivenAsks, IsCount, IsPlanOf};
+ghost use Rattle.cb_cli.specs.Given.{AreFound, GivenAsks, GivesPlan, IsCount, IsPlanOf};
 ghost use Rattle.cb_cli.specs.Reader.{option_rule, reader, word_reader};
 ghost use Rattle.cb_cli.specs.Words.{word_of, Ask, NameNone};
 ghost use Rattle.cb_cli.specs.declared.words.Asked.{Asked};
@@ -12,7 +13,7 @@ ghost use Rattle.cb_cli.specs.declared.words.Command.{Command};
 use cb_script::number_of;
 use cb_types::NoMemory;
 use clap::error::ErrorKind;
-use clap::{Arg, ArgAction};
+use clap::{Arg, ArgAction, ArgMatches};
 use std::alloc::Global;
 
 /// A drawn script has so many lines at the most, and so many lanes.
@@ -25,6 +26,9 @@ const MOST_LANES: u32 = 15;
 pub enum Command {
     /// Answer the lines of a script, in order, on one thread.
     Seq,
+    /// Answer them, with parities made by the compute side where two sets become one, and tell how
+    /// many rows the nodes gave out.
+    Local,
     /// Read a script, and tell how many lines and lanes it has.
     Check,
     /// Run a schedule of remote orders, and tell what is said to each event.
@@ -81,15 +85,31 @@ fn given_of<'a>(alloc: Global, words: &'a [String]) -> Result<Option<Given<'a>>,
     }
     let reader = reader(alloc)?;
     match reader.try_get_matches_from(words) {
-        Ok(matches) => Ok(Some(Given {
-            word: matches.get_str("command"),
-            seed: matches.get_str("seed"),
-            lines: matches.get_str("lines"),
-            lanes: matches.get_str("lanes"),
-        })),
-        Err(error) if error.kind() == ErrorKind::OutOfMemory => Err(NoMemory),
-        Err(_) => Ok(None),
+        Ok(matches) => Ok(Some(given_in(&matches))),
+        Err(error) => nothing_given(error.kind()),
     }
+}
+
+/// What was given, by what clap found.
+fn given_in<'a>(matches: &ArgMatches<'a>) -> Given<'a>
+    ensures { AreFound matches.now result }
+{
+    Given {
+        word: matches.get_str("command"),
+        seed: matches.get_str("seed"),
+        lines: matches.get_str("lines"),
+        lanes: matches.get_str("lanes"),
+    }
+}
+
+/// Nothing was given, where this is why clap refused the words.
+fn nothing_given<'a>(kind: ErrorKind) -> Result<Option<Given<'a>>, NoMemory>
+    ensures { IfOk result (λ found. (found ≡ None) × (kind ≢ OutOfMemory)) }
+{
+    if kind == ErrorKind::OutOfMemory {
+        return Err(NoMemory);
+    }
+    Ok(None)
 }
 
 /// The reader of one word, and of each of the options of `gen` once at the most.
@@ -143,8 +163,7 @@ fn asked_by(given: Given) -> Option<Asked>
 {
     let word = given.word?;
     if word == "gen" {
-        let plan = plan_of(given.seed?, given.lines?, given.lanes?)?;
-        return Some(Asked::Draw(plan));
+        return Some(Asked::Draw(plan_in(&given)?));
     }
     if has_option(&given) {
         return None;
@@ -157,6 +176,13 @@ fn has_option(given: &Given) -> bool
     ensures { result ≡ (is_some given.now.seed || is_some given.now.lines || is_some given.now.lanes) }
 {
     given.seed.is_some() || given.lines.is_some() || given.lanes.is_some()
+}
+
+/// The plan of the options that were given, where all three were.
+fn plan_in(given: &Given) -> Option<Plan>
+    ensures { Finds result (GivesPlan given.now) }
+{
+    plan_of(given.seed?, given.lines?, given.lanes?)
 }
 
 /// The plan of these values, where each is a number in its range.
@@ -191,6 +217,7 @@ fn named(word: &str) -> Option<Command>
 {
     match word {
         "seq" => Some(Command::Seq),
+        "local" => Some(Command::Local),
         "check" => Some(Command::Check),
         "rma" => Some(Command::Rma),
         "scrub" => Some(Command::Scrub),
