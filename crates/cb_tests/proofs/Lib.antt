@@ -1,1 +1,2 @@
+pub mod AllEvents
 mod WorkedSmall

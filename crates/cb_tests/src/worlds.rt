@@ -5,7 +5,7 @@ ghost use Rattle.cb_tests.specs.Worlds.{IsSmall};
 
 use crate::objects::{second_of_length_is_at, words_are_of_nine_bytes};
 use crate::turns::replies_in_order;
-use crate::writes::rows_are_answered;
+use crate::writes::{rows_are_answered, run_is_answered};
 use cb_core::{Event, step};
 use cb_types::{Config, Job, NoMemory, Reply};
 use cb_world::World;
@@ -55,6 +55,8 @@ pub(crate) enum Look {
     Run,
     /// The replies to the steps of open writes and of the far lock.
     Writes,
+    /// The replies of a run of these.
+    WritesInARun,
 }
 
 fn is_seen(alloc: Global, world: &mut World, look: Look) -> Result<bool, Fail>
@@ -65,6 +67,7 @@ fn is_seen(alloc: Global, world: &mut World, look: Look) -> Result<bool, Fail>
         Look::Words => words_are_of_nine_bytes(alloc, world),
         Look::Run => replies_in_order(alloc, world),
         Look::Writes => rows_are_answered(alloc, world),
+        Look::WritesInARun => run_is_answered(alloc, world),
     }
 }
 

@@ -1,9 +1,10 @@
 ghost use Rattle.std.specs.Prelude.{◌≡◌, ◌<◌, IfOk};
+ghost use Rattle.std.specs.List.{AllByRecursion};
 ghost use Rattle.cb_core.specs.Events.{IsEvent};
 ghost use Rattle.cb_tests.specs.Worlds.{IsSmall, small};
 
 use crate::worlds::{Look, holds};
-use cb_core::{Atomic, Event, step};
+use cb_core::{Atomic, Event, run, step};
 use cb_types::{Bytes, Handle, Job, NoMemory, Reply};
 use cb_world::World;
 use std::alloc::Global;
@@ -155,8 +156,42 @@ pub(crate) fn rows_are_answered(alloc: Global, world: &mut World) -> Result<bool
     Ok(found)
 }
 
+/// The events of the rows.
+fn events_of_rows(alloc: Global) -> Result<Vec<Event>, NoMemory>
+    ensures { IfOk result (λ events. AllByRecursion (IsEvent small) events.items) }
+{
+    let mut events = Vec::new(alloc);
+    for (is_second, act, _) in ROWS {
+        let event = event_of(alloc, u32::from(is_second), act)?;
+        events.push(event)?;
+    }
+    Ok(events)
+}
+
+/// Whether these are the replies of the rows, in order.
+fn are_of_rows(replies: &[Reply]) -> bool {
+    if replies.len() != ROWS.len() {
+        return false;
+    }
+    let mut found = true;
+    for at in 0..ROWS.len() {
+        found &= told_by(&replies[at]) == Some(ROWS[at].2);
+    }
+    found
+}
+
+/// Whether a run of all these events is answered as the rows say.
+pub(crate) fn run_is_answered(alloc: Global, world: &mut World) -> Result<bool, Fail>
+    requires small { IsSmall world.old }
+{
+    let events = events_of_rows(alloc)?;
+    let replies = run(alloc, world, events.as_slice())?;
+    Ok(are_of_rows(replies.as_slice()))
+}
+
 #[test]
 fn a_write_in_steps_and_the_far_lock_are_answered_row_by_row(rt: HostRuntime) -> Result<(), Fail> {
     assert!(rt; holds(rt.alloc(), Look::Writes)?);
+    assert!(rt; holds(rt.alloc(), Look::WritesInARun)?);
     Ok(())
 }
