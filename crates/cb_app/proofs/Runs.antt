@@ -1,6 +1,5 @@
 -- How runs end, by what was judged and put.
-use Rattle.std.proofs.Common.{◌≡◌, ℕ, List, Option, Some, Ok, Err, refl, sym, subst, ◌∙◌, inl, inr, String, Global, Result}
-use Rattle.std.specs.Prelude.{IsErr}
+use Rattle.std.proofs.Common.{ℕ, List, Option, Ok, Err, refl, subst, inl, inr, String, Global, Result}
 use Rattle.std.specs.Io.KnownBytes.{Appends}
 use Rattle.cb_cli.specs.declared.outcome.Due.{Due}
 use Rattle.cb_cli.specs.declared.outcome.Due.TheVariants as dues
@@ -18,7 +17,7 @@ use Rattle.cb_cli.specs.declared.verdict.Verdict.{Verdict}
 use Rattle.cb_cli.specs.declared.verdict.Verdict.TheVariants.{Done, Refused}
 use Rattle.cb_app.specs.declared.ending.Ending.{Ending}
 use Rattle.cb_app.specs.Modes.{Accepts, Refuses, IsVerdict}
-use Rattle.cb_app.specs.Outcome.{IsScriptRefused, IsDone, IsDrawn, AreWordsRefused, IsDecided, Ends}
+use Rattle.cb_app.specs.Outcome.{IsScriptRefused, IsDone, IsDrawn, IsDecided, Ends}
 use Rattle.cb_app.specs.Outcome.IsDue.{WhereDone, WhereDrawn, WhereWordsRefused, WhereScriptRefused}
 use Rattle.cb_app.specs.Scripts.{IsSummed}
 use Rattle.cb_app.proofs.Modes.{not_both}

@@ -1,6 +1,8 @@
--- Worked example: what `seq` leaves and puts for a script of two lines, and for each part what breaks it.
-use Rattle.std.proofs.Common.{◌≡◌, ℕ, Bool, true, false, ◌&&◌, List, [], ◌∷◌, length, Some, None, refl, sym, ap, ◌∙◌, subst, arith, inl, lit≤, lit<, nat_eq, eqb-true, String, Global}
+-- Worked examples: what `seq` and `local` leave and put for a script of two lines, and for each part
+-- what breaks it.
+use Rattle.std.proofs.Common.{◌≡◌, ℕ, Bool, true, false, ◌&&◌, List, [], ◌∷◌, ◌++◌, length, Some, None, refl, sym, ap, ◌∙◌, subst, arith, inl, lit≤, lit<, nat_eq, eqb-true, String, Global}
 use Rattle.std.specs.Prelude.{codes, string_bytes}
+use Rattle.std.specs.Fmt.{digits}
 use native.Mathlib.Decide.{ℕ_discrete}
 use Rattle.cb_types.specs.declared.answer.Answer.{Answer}
 use Rattle.cb_types.specs.declared.reply.Reply.{Reply}
@@ -15,6 +17,8 @@ use Rattle.cb_text.proofs.Laws.{made_and_read_text}
 use Rattle.cb_model.specs.Legal.{IsLegalInOrder}
 use Rattle.cb_model.proofs.Laws.{legal_in_order}
 use Rattle.cb_text.specs.Line.{text_of}
+use Rattle.cb_lanes.specs.declared.side.Side.{Side}
+use Rattle.cb_lanes.specs.declared.side.Side.TheVariants.{Nodes, Compute}
 use Rattle.cb_lanes.specs.Alone.{HasOwnLines, KeepAlone, fresh_lane, is_maker}
 use Rattle.cb_lanes.specs.Held.{HoldsAnswers}
 use Rattle.cb_lanes.specs.LineStep.{LinesLead}
@@ -23,13 +27,14 @@ use Rattle.cb_world.specs.Seats.{pins_of_seat}
 use Rattle.cb_world.specs.World.{WorldState, IsSoundWorld, empty_world}
 use Rattle.cb_app.specs.declared.ending.Ending.{Ending}
 use Rattle.cb_cli.specs.Taken.{IsTaken}
+use Rattle.cb_cli.specs.Texts.{given_line}
 use Rattle.cb_cli.specs.declared.words.Asked.TheVariants.{Run}
 use Rattle.cb_cli.specs.declared.words.Command.{Command}
-use Rattle.cb_cli.specs.declared.words.Command.TheVariants.{Seq, Check, Rma, Scrub}
-use Rattle.cb_cli.proofs.Laws.{seq_named, no_word}
+use Rattle.cb_cli.specs.declared.words.Command.TheVariants.{Seq, Local, Check, Rma, Scrub}
+use Rattle.cb_cli.proofs.Laws.{local_named, seq_named, no_word}
 use Rattle.cb_app.specs.Modes.{Yields}
 use Rattle.cb_app.specs.Outcome.{IsDone, TellsScript}
-use Rattle.cb_app.specs.Scripts.{IsAnswered}
+use Rattle.cb_app.specs.Scripts.{IsAnswered, rows_given, told_text}
 
 -- ---- the answers
 
@@ -52,8 +57,8 @@ legal = legal_in_order 1 16 answers (
 )
 
 -- the world is one that the two lines lead to
-record IsLeft (world : WorldState) : Type 0 where
-  leads : LinesLead [] (empty_world small) answers world
+record IsLeft (side : Side) (world : WorldState) : Type 0 where
+  leads : LinesLead side [] (empty_world small) answers world
   sound : IsSoundWorld world
   holds : HoldsAnswers world answers
   idle : (seat : ℕ) → pins_of_seat world.seats seat ≡ []
@@ -90,8 +95,9 @@ kept lane = by (ℕ_discrete 1 lane)
       (λ own. absurd (off (of_lane_1 lane (codes "a") own)), tt),
     )
 
-answered : (world : WorldState) → IsLeft world → IsAnswered script (ending_of world answers)
-answered world there = record {
+answered : (side : Side) (world : WorldState) → IsLeft side world
+    → IsAnswered side script (ending_of world answers)
+answered side world there = record {
   config = refl;
   lines = refl;
   legal = legal;
@@ -109,20 +115,20 @@ answered world there = record {
   alone = λ ease lane has. kept lane;
 }
 
-no_world : (end : Ending) → end.world ≡ None → IsAnswered script end → ⊥
+no_world : (end : Ending) → end.world ≡ None → IsAnswered Nodes script end → ⊥
 no_world end none is = absurd (let e : None ≡ Some is.world = sym none ∙ is.left in cc)
 
 -- without lines the world is the empty one
-no_turn_counted : (world : WorldState) → LinesLead [] (empty_world small) [] world
+no_turn_counted : (side : Side) (world : WorldState) → LinesLead side [] (empty_world small) [] world
     → world.far.counts.turns ≡ 1 → ⊥
-no_turn_counted world leads one =
+no_turn_counted side world leads one =
     omega (arith, sym one ∙ ap (λ (w : WorldState). w.far.counts.turns) leads)
 
-no_config : (world : WorldState) → IsAnswered script
+no_config : (world : WorldState) → IsAnswered Nodes script
     (record { config = None; answers = answers; losses = []; world = Some world }) → ⊥
 no_config world is = absurd (let e : None ≡ Some small = is.config in cc)
 
-a_line_left_out : (world : WorldState) → IsAnswered script (ending_of world (made ∷ [])) → ⊥
+a_line_left_out : (world : WorldState) → IsAnswered Nodes script (ending_of world (made ∷ [])) → ⊥
 a_line_left_out world is = absurd (omega (arith, ap (λ (lines : List Line). length lines) is.lines))
 
 -- the read is numbered as the make is
@@ -130,36 +136,36 @@ abbrev first_number : List Line → ℕ
 first_number [] = 0
 first_number (l ∷ lines) = l.line
 
-another_number : (world : WorldState) → IsAnswered script (ending_of world (answer 3 make_a (replies.Made (record { n = 0 }) 1) ∷ answer 3 read_a (replies.Bytes 1 (10 ∷ 11 ∷ [])) ∷ []))
+another_number : (world : WorldState) → IsAnswered Nodes script (ending_of world (answer 3 make_a (replies.Made (record { n = 0 }) 1) ∷ answer 3 read_a (replies.Bytes 1 (10 ∷ 11 ∷ [])) ∷ []))
     → ⊥
 another_number world is = absurd (let e : 3 ≡ 2 = ap first_number is.lines in omega (arith, e))
 
-other_bytes : (world : WorldState) → IsAnswered script (ending_of world (made ∷ answer 3 read_a (replies.Bytes 1 (10 ∷ 12 ∷ [])) ∷ []))
+other_bytes : (world : WorldState) → IsAnswered Nodes script (ending_of world (made ∷ answer 3 read_a (replies.Bytes 1 (10 ∷ 12 ∷ [])) ∷ []))
     → ⊥
 other_bytes world is = absurd (let e = is.legal.in_order.1.0.reply in cc)
 
 -- no read is answered that a node is down
-another_refusal : (world : WorldState) → IsAnswered script
+another_refusal : (world : WorldState) → IsAnswered Nodes script
     (ending_of world (made ∷ answer 3 read_a (replies.Down (record { n = 0 })) ∷ [])) → ⊥
 another_refusal world is = is.replies.1.0
 
 -- no crash took place, and one is told
 a_loss : (end : Ending) → losses_of end.answers ≡ [] → length end.losses ≡ 1
-    → IsAnswered script end → ⊥
+    → IsAnswered Nodes script end → ⊥
 a_loss end none one is = omega (arith, sym one ∙ ap length (is.losses ∙ none))
 
 -- at ease no read wants room
-a_want_of_room : (world : WorldState) → IsAnswered script
+a_want_of_room : (world : WorldState) → IsAnswered Nodes script
     (ending_of world (made ∷ answer 3 read_a (replies.NoRoom 8 0 6) ∷ [])) → ⊥
 a_want_of_room world is = (is.calm at_ease).1.0
 
 -- and none shows what no line of the lane wrote
-another_lane_s_bytes : (world : WorldState) → IsAnswered script
+another_lane_s_bytes : (world : WorldState) → IsAnswered Nodes script
     (ending_of world (made ∷ answer 3 read_a (replies.Bytes 2 (12 ∷ 11 ∷ [])) ∷ [])) → ⊥
 another_lane_s_bytes world is = absurd (let e = (is.alone at_ease 1 own_lines).1.0 refl in cc)
 
 -- the losses are not in the order of their epochs
-out_of_order : (end : Ending) → (AreInOrder end.losses → ⊥) → IsAnswered script end → ⊥
+out_of_order : (end : Ending) → (AreInOrder end.losses → ⊥) → IsAnswered Nodes script end → ⊥
 out_of_order end off is = off is.in_order
 
 -- ---- the text, and the run
@@ -170,17 +176,55 @@ text = codes "1 make a v1\n1 read a v1 0a0b\n"
 pub text_is : text_of answers ≡ text
 text_is = made_and_read_text
 
-yielded : (old : Ending) (world : WorldState) → IsLeft world → Yields Seq input old (ending_of world answers) text
-yielded old world there = (script, spelled, answered world there, sym text_is)
+yielded : (old : Ending) (world : WorldState) → IsLeft Nodes world → Yields Seq input old (ending_of world answers) text
+yielded old world there = (script, spelled, answered Nodes world there, sym text_is)
 
 -- a line feed is left out
 no_line_feed : (old : Ending) (world : WorldState) → Yields Seq input old (ending_of world answers) (codes "1 make a v1\n1 read a v1 0a0b") → ⊥
 no_line_feed old world is = differ (codes "1 make a v1\n1 read a v1 0a0b") text (is.3 ∙ text_is) refl
 
+-- of the compute side the text has one line more
+abbrev local_text : List ℕ
+local_text = codes "1 make a v1\n1 read a v1 0a0b\ngiven 0\n"
+
+none_given : given_line 0 ≡ codes "given 0\n"
+unfolding digits
+none_given = refl
+
+local_text_is : (world : WorldState) → world.far.nodes.given ≡ 0
+    → told_text Compute (ending_of world answers) ≡ local_text
+local_text_is world none =
+    ap (λ (told : List ℕ). told ++ given_line world.far.nodes.given) text_is
+    ∙ ap (λ (given : ℕ). text ++ given_line given) none
+    ∙ ap (λ (line : List ℕ). text ++ line) none_given
+
+local_yields : (old : Ending) (world : WorldState) → IsLeft Compute world
+    → world.far.nodes.given ≡ 0 → Yields Local input old (ending_of world answers) local_text
+local_yields old world there none =
+    (script, spelled, answered Compute world there, sym (local_text_is world none))
+
+-- the last line is left out, tells another count, or stands in the text of `seq`
+no_last_line : (old : Ending) (world : WorldState) → world.far.nodes.given ≡ 0
+    → Yields Local input old (ending_of world answers) text → ⊥
+no_last_line old world none is = differ text local_text (is.3 ∙ local_text_is world none) refl
+
+another_count : (old : Ending) (world : WorldState) → world.far.nodes.given ≡ 0
+    → Yields Local input old (ending_of world answers) (codes "1 make a v1\n1 read a v1 0a0b\ngiven 2\n")
+    → ⊥
+another_count old world none is =
+    differ (codes "1 make a v1\n1 read a v1 0a0b\ngiven 2\n") local_text (is.3 ∙ local_text_is world none) refl
+
+a_count_of_seq : (old : Ending) (world : WorldState)
+    → Yields Seq input old (ending_of world answers) local_text → ⊥
+a_count_of_seq old world is = differ local_text text (is.3 ∙ text_is) refl
+
+no_rows_without_a_world : rows_given None ≡ 0
+no_rows_without_a_world = refl
+
 all_taken : IsTaken (Some input) (Some []) input
 all_taken = record { front = refl; few = omega arith; whole = inl refl }
 
-done : (w : String Global) (old : Ending) (world : WorldState) → IsLeft world
+done : (w : String Global) (old : Ending) (world : WorldState) → IsLeft Nodes world
     → string_bytes w ≡ codes "seq"
     → IsDone (w ∷ []) (Some input) (Some []) old (ending_of world answers) text
 done w old world there is = record {
@@ -191,8 +235,19 @@ done w old world there is = record {
   yields = yielded old world there;
 }
 
+local_done : (w : String Global) (old : Ending) (world : WorldState) → IsLeft Compute world
+    → world.far.nodes.given ≡ 0 → string_bytes w ≡ codes "local"
+    → IsDone (w ∷ []) (Some input) (Some []) old (ending_of world answers) local_text
+local_done w old world there none is = record {
+  command = Local;
+  words_are = local_named w is;
+  bytes = input;
+  taken = all_taken;
+  yields = local_yields old world there none;
+}
+
 -- the sink held a byte before, and has the text behind it
-tells : (w : String Global) (old : Ending) (world : WorldState) → IsLeft world
+tells : (w : String Global) (old : Ending) (world : WorldState) → IsLeft Nodes world
     → string_bytes w ≡ codes "seq"
     → TellsScript (w ∷ []) (Some input) (Some []) (Some (7 ∷ [])) (Some (7 ∷ text)) old
     (ending_of world answers)
@@ -208,6 +263,10 @@ not_empty : (old : Ending) (world : WorldState) (command : Command) (bytes due :
     → due ≡ [] → ⊥
 not_empty old world Seq bytes due before is none =
     differ text [] (sym text_is ∙ sym is.3 ∙ none) refl
+not_empty old world Local bytes due before is none =
+    let told : text ++ given_line world.far.nodes.given ≡ [] =
+    sym (ap (λ (t : List ℕ). t ++ given_line world.far.nodes.given) text_is) ∙ sym is.3 ∙ none in
+    absurd (let e = told in cc)
 not_empty old world Check bytes due before is none =
     absurd (let e : answers ≡ [] = is.2.no_answers in cc)
 not_empty old world Rma bytes due before is none =
@@ -223,12 +282,12 @@ tells_nothing words old world before (due, told, put) =
 
 -- no lane has a pin, and a leave is told of one
 a_pin_too_many : (other : Script) (world : WorldState)
-    → IsAnswered other (ending_of world (answer 2 Leave (replies.Left 1) ∷ [])) → ⊥
+    → IsAnswered Nodes other (ending_of world (answer 2 Leave (replies.Left 1) ∷ [])) → ⊥
 a_pin_too_many other world is = absurd (let e : replies.Left 1 ≡ replies.Left 0 = is.scopes.0 in cc)
 
 -- a lane has a pin at the end
 a_pin_is_left : (world : WorldState) → length (pins_of_seat world.seats 1) ≡ 1
-    → IsAnswered script (ending_of world answers) → ⊥
+    → IsAnswered Nodes script (ending_of world answers) → ⊥
 a_pin_is_left world one is =
     let same : world ≡ is.world = let e : Some world ≡ Some is.world = is.left in cc in
     omega (arith, one, ap (λ (w : WorldState). length (pins_of_seat w.seats 1)) same, ap length (is.idle 1))

@@ -1,4 +1,4 @@
--- Worked examples: what `check` yields, what `seq` refuses, and runs of both.
+-- Worked examples: what `check` yields, what `seq` and `local` refuse, and runs.
 use Rattle.std.proofs.Common.{◌≡◌, ℕ, List, [], ◌∷◌, length, Some, None, Ok, Err, refl, sym, ap, ◌∙◌, arith, inl, inr, String, Global, true≢false}
 use Rattle.std.specs.Prelude.{codes, string_bytes}
 use Rattle.std.specs.Fmt.{digits}
@@ -18,7 +18,7 @@ use Rattle.cb_cli.specs.Texts.{check_text, fault_text}
 use Rattle.cb_cli.specs.declared.outcome.Due.TheVariants as dues
 use Rattle.cb_cli.specs.declared.outcome.Failure.TheVariants.{Read}
 use Rattle.cb_cli.specs.declared.words.Asked.TheVariants.{Run}
-use Rattle.cb_cli.specs.declared.words.Command.TheVariants.{Seq, Check}
+use Rattle.cb_cli.specs.declared.words.Command.TheVariants.{Seq, Local, Check}
 use Rattle.cb_cli.proofs.Laws.{lane_line, seq_named, check_named, no_word}
 use Rattle.cb_cli.specs.declared.verdict.Verdict.TheVariants.{Done, Refused}
 use Rattle.cb_app.specs.declared.ending.Ending.{Ending}
@@ -116,10 +116,16 @@ check_accepts = (script, spelled)
 seq_accepts : Accepts Seq input
 seq_accepts = (script, spelled)
 
+local_accepts : Accepts Local input
+local_accepts = (script, spelled)
+
 -- an input without a header is refused at line 1
 seq_refuses : Refuses Seq [] (codes "script line 1 reason 2 header\n")
 unfolding digits
 seq_refuses = (1, Header, empty_input, refl)
+
+local_refuses : Refuses Local [] (codes "script line 1 reason 2 header\n")
+local_refuses = seq_refuses
 
 another_line : (text : List ℕ) → text ≡ codes "script line 2 reason 2 header\n"
     → text ≡ fault_text 1 Header → ⊥
@@ -136,6 +142,12 @@ seq_refuses_not text is = not_both Seq input text seq_accepts is
 
 seq_accepts_not : Accepts Seq [] → ⊥
 seq_accepts_not is = not_both Seq [] (codes "script line 1 reason 2 header\n") is seq_refuses
+
+local_refuses_not : (text : List ℕ) → Refuses Local input text → ⊥
+local_refuses_not text is = not_both Local input text local_accepts is
+
+local_accepts_not : Accepts Local [] → ⊥
+local_accepts_not is = not_both Local [] (codes "script line 1 reason 2 header\n") is local_refuses
 
 -- what is done with leaves its ending, and what is refused the one before
 verdict_of_check : (old : Ending) → IsVerdict Check input old ending (Done (codes "script ok lines 2 lanes 1\n"))

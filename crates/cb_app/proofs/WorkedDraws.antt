@@ -1,10 +1,9 @@
 -- Worked examples: what a run leaves and puts that draws a script.
-use Rattle.std.proofs.Common.{◌≡◌, ℕ, List, [], ◌∷◌, length, Some, None, refl, sym, ap, ◌∙◌, subst, arith, String, Global}
+use Rattle.std.proofs.Common.{◌≡◌, ℕ, List, [], ◌∷◌, Some, None, refl, sym, ap, ◌∙◌, subst, String, Global}
 use Rattle.std.specs.Prelude.{codes}
 use Rattle.std.specs.Fmt.{digits}
 use Rattle.std.specs.List.{AllByRecursion}
 use Rattle.cb_types.specs.declared.answer.Answer.{Answer}
-use Rattle.cb_types.specs.declared.config.Config.{Config}
 use Rattle.cb_types.specs.declared.reply.Reply.TheVariants as replies
 use Rattle.cb_types.specs.declared.request.Request.TheVariants as request
 use Rattle.cb_script.proofs.PublicLaws.{differ}
@@ -13,6 +12,7 @@ use Rattle.cb_cli.specs.declared.words.Plan.{Plan}
 use Rattle.cb_cli.specs.Words.{AskFor}
 use Rattle.cb_cli.proofs.Laws.{no_word}
 use Rattle.cb_lanes.specs.Alone.{IsCalm}
+use Rattle.cb_lanes.specs.declared.side.Side.TheVariants.{Nodes}
 use Rattle.cb_app.specs.declared.ending.Ending.{Ending}
 use Rattle.cb_app.specs.Outcome.{IsDrawn, TellsSummary}
 use Rattle.cb_app.specs.Scripts.{IsAnswered, IsSummed}
@@ -30,7 +30,7 @@ text_is : (end : Ending) → end.answers ≡ [] → text ≡ summary 3 0 2 end.a
 unfolding digits
 text_is end none = ap (summary 3 0 2) (sym none)
 
-summed : (end : Ending) → end.answers ≡ [] → IsAnswered (made_script 3 0 2) end → IsSummed plan end text
+summed : (end : Ending) → end.answers ≡ [] → IsAnswered Nodes (made_script 3 0 2) end → IsSummed plan end text
 summed end none answered = record { answered = answered; calm = subst (AllByRecursion (λ a. IsCalm a.reply)) (sym none) tt; text_is = text_is end none }
 
 -- another text

@@ -5,22 +5,34 @@ use Rattle.cb_script.specs.declared.script.Script.{Script}
 use Rattle.cb_script.specs.declared.script.Mode.TheVariants as scripts
 use Rattle.cb_script.specs.First.{First}
 use Rattle.cb_script.specs.Form.{Spells}
-use Rattle.cb_text.specs.Line.{text_of}
 use Rattle.cb_cli.specs.Texts.{check_text}
 use Rattle.cb_cli.specs.declared.words.Command.{Command}
-use Rattle.cb_cli.specs.declared.words.Command.TheVariants.{Seq, Check, Rma, Scrub}
+use Rattle.cb_cli.specs.declared.words.Command.TheVariants.{Seq, Local, Check, Rma, Scrub}
 use Rattle.cb_cli.specs.declared.verdict.Verdict.{Verdict}
 use Rattle.cb_cli.specs.declared.verdict.Verdict.TheVariants.{Done, Refused}
+use Rattle.cb_lanes.specs.declared.side.Side.{Side}
+use Rattle.cb_lanes.specs.declared.side.Side.TheVariants.{Nodes, Compute}
 use Rattle.cb_rma_text.specs.Verdicts as schedules
 use Rattle.cb_scrub_text.specs.Verdicts as scrubs
 use Rattle.cb_app.specs.declared.ending.Ending.{Ending}
-use Rattle.cb_app.specs.Scripts.{IsAnswered, IsChecked, TellsFault}
+use Rattle.cb_app.specs.Scripts.{IsAnswered, IsChecked, TellsFault, told_text}
+
+-- the command that answers a script where this side makes the parities of a compaction
+abbrev pub command_of : Side → Command
+command_of Nodes = Seq
+command_of Compute = Local
+
+-- the bytes spell a script that was answered, where this side makes the parities of a compaction,
+-- and the text tells the ending
+abbrev pub YieldsAnswers : Side → List ℕ → (new : Ending) → List ℕ → Type 0
+YieldsAnswers side bytes new text =
+    (script : Script) × Spells bytes scripts.Seq script
+    × IsAnswered side script new × (text ≡ told_text side new)
 
 -- the ending and the text that a command yields for bytes
 abbrev pub Yields : Command → List ℕ → (old new : Ending) → List ℕ → Type 0
-Yields Seq bytes old new text =
-    (script : Script) × Spells bytes scripts.Seq script
-    × IsAnswered script new × (text ≡ text_of new.answers)
+Yields Seq bytes old new text = YieldsAnswers Nodes bytes new text
+Yields Local bytes old new text = YieldsAnswers Compute bytes new text
 Yields Check bytes old new text =
     (script : Script) × Spells bytes scripts.Seq script
     × IsChecked script new × (text ≡ check_text script)
@@ -30,14 +42,16 @@ Yields Scrub bytes old new text = scrubs.Yields bytes text × (new ≡ old)
 -- the command refuses the bytes, and this text tells where and why
 abbrev pub Refuses : Command → List ℕ → List ℕ → Type 0
 Refuses Seq bytes text = TellsFault (First bytes scripts.Seq) text
+Refuses Local bytes text = TellsFault (First bytes scripts.Seq) text
 Refuses Check bytes text = TellsFault (First bytes scripts.Seq) text
 Refuses Rma bytes text = schedules.Refuses bytes text
 Refuses Scrub bytes text = scrubs.Refuses bytes text
 
--- the bytes have the form that the command wants: `seq` and `check` want a script, `rma` a
+-- the bytes have the form that the command wants: `seq`, `local` and `check` want a script, `rma` a
 -- schedule, and `scrub` rows
 abbrev pub Accepts : Command → List ℕ → Type 0
 Accepts Seq bytes = (script : Script) × Spells bytes scripts.Seq script
+Accepts Local bytes = (script : Script) × Spells bytes scripts.Seq script
 Accepts Check bytes = (script : Script) × Spells bytes scripts.Seq script
 Accepts Rma bytes = schedules.Accepts bytes
 Accepts Scrub bytes = scrubs.Accepts bytes

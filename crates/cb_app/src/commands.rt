@@ -3,13 +3,14 @@ ghost use Rattle.cb_script.specs.declared.fault.Reason.{Reason};
 ghost use Rattle.cb_script.specs.Form.{IsScript};
 ghost use Rattle.cb_cli.specs.Texts.{fault_text, check_text};
 ghost use Rattle.cb_cli.specs.declared.words.Command.TheVariants as commands;
-ghost use Rattle.cb_text.specs.Line.{text_of};
-ghost use Rattle.cb_app.specs.Modes.{IsVerdict};
-ghost use Rattle.cb_app.specs.Scripts.{IsAnswered, IsChecked};
+ghost use Rattle.cb_types.specs.Table.{IsReplyOf};
+ghost use Rattle.std.specs.List.{AllByRecursion};
+ghost use Rattle.cb_app.specs.Modes.{IsVerdict, command_of};
+ghost use Rattle.cb_app.specs.Scripts.{IsAnswered, IsChecked, told_text};
 
 use crate::ending::Ending;
-use cb_cli::{Command, Verdict, answers_text, script_fault_text, script_ok_text};
-use cb_lanes::run_seq;
+use cb_cli::{Command, Verdict, answers_text, script_fault_text, script_ok_text, with_given};
+use cb_lanes::{Side, run_lines};
 use cb_rma_text::rma_bytes;
 use cb_script::{Mode, Script, ScriptFault, read_script};
 use cb_scrub_text::scrub_bytes;
@@ -27,44 +28,71 @@ pub fn obey(
     ensures kept { OnErr result (end.new ≡ end.old) }
 {
     match command {
-        Command::Seq => answer_bytes(alloc, bytes, end),
+        Command::Seq => answer_bytes(alloc, Side::Nodes, bytes, end),
+        Command::Local => answer_bytes(alloc, Side::Compute, bytes, end),
         Command::Check => check_bytes(alloc, bytes, end),
         Command::Rma => rma_bytes(alloc, bytes),
         Command::Scrub => scrub_bytes(alloc, bytes),
     }
 }
 
-/// What `seq` makes of bytes.
-fn answer_bytes(alloc: Global, bytes: &[u8], end: &mut Ending) -> Result<Verdict, NoMemory>
-    ensures verdict { IfOk result (IsVerdict commands.Seq bytes.now end.old end.new) }
+/// What the command makes of bytes that answers a script, where this side makes the parities of a
+/// compaction.
+fn answer_bytes(
+    alloc: Global,
+    side: Side,
+    bytes: &[u8],
+    end: &mut Ending,
+) -> Result<Verdict, NoMemory>
+    ensures verdict { IfOk result (IsVerdict (command_of side) bytes.now end.old end.new) }
     ensures kept { OnErr result (end.new ≡ end.old) }
 {
     match read_script(alloc, bytes, Mode::Seq) {
-        Ok(script) => Ok(Verdict::Done(answer_script(alloc, &script, end)?)),
+        Ok(script) => Ok(Verdict::Done(answer_script(alloc, side, &script, end)?)),
         Err(fault) => refusal(alloc, fault),
     }
 }
 
-/// The text of the answers to a script. The answers and what they led to are left in the ending.
-fn answer_script(alloc: Global, script: &Script, end: &mut Ending) -> Result<Bytes, NoMemory>
+/// The text that tells the answers to a script. The answers and what they led to are left in the
+/// ending.
+fn answer_script(
+    alloc: Global,
+    side: Side,
+    script: &Script,
+    end: &mut Ending,
+) -> Result<Bytes, NoMemory>
     requires script { IsScript script.now }
-    ensures answered { IfOk result (λ text. IsAnswered script.now end.new
-        × (text ≡ text_of end.new.answers)) }
+    ensures answered { IfOk result (λ text. IsAnswered side script.now end.new
+        × (text ≡ told_text side end.new)) }
     ensures kept { OnErr result (end.new ≡ end.old) }
 {
-    let ended = answer(alloc, script)?;
-    let text = answers_text(alloc, &ended.answers)?;
+    let ended = answer(alloc, side, script)?;
+    let text = told_text(alloc, side, &ended)?;
     end.set(ended);
     Ok(text)
 }
 
-/// What the answers to a script are, and what they led to.
-pub(crate) fn answer(alloc: Global, script: &Script) -> Result<Ending, NoMemory>
+/// What the answers to a script are, and what they led to, where this side makes the parities of a
+/// compaction.
+pub(crate) fn answer(alloc: Global, side: Side, script: &Script) -> Result<Ending, NoMemory>
     requires script { IsScript script.now }
-    ensures { IfOk result (IsAnswered script.now) }
+    ensures { IfOk result (IsAnswered side script.now) }
 {
-    let told = run_seq(alloc, script)?;
+    let told = run_lines(alloc, script, side)?;
     Ok(Ending::answered(script.config, told))
+}
+
+/// The text that tells an ending: its answers, and, where the compute side makes the parities, how
+/// many rows the nodes gave out. Each reply is one that its line may have.
+fn told_text(alloc: Global, side: Side, end: &Ending) -> Result<Bytes, NoMemory>
+    requires { AllByRecursion (λ a. IsReplyOf a.request a.reply) end.now.answers }
+    ensures { IfOk result (λ text. text ≡ told_text side end.now) }
+{
+    let text = answers_text(alloc, &end.answers)?;
+    match side {
+        Side::Nodes => Ok(text),
+        Side::Compute => with_given(alloc, text, end.rows_given()),
+    }
 }
 
 /// What `check` makes of bytes.

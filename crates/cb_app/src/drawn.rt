@@ -13,6 +13,7 @@ use crate::commands::answer;
 use crate::ending::Ending;
 use cb_cli::{Due, Failure, Plan, answers_text, put_all};
 use cb_gen::{make_script, summary_text};
+use cb_lanes::Side;
 use cb_types::{Answers, Bytes, NoMemory, Sink};
 use std::alloc::Global;
 
@@ -46,7 +47,7 @@ fn draw_script(alloc: Global, plan: Plan, end: &mut Ending) -> Result<Bytes, NoM
     ensures kept { OnErr result (end.new ≡ end.old) }
 {
     let script = make_script(alloc, u64::from(plan.seed), plan.lines, plan.lanes)?;
-    let ended = answer(alloc, &script)?;
+    let ended = answer(alloc, Side::Nodes, &script)?;
     let text = summary_of(alloc, plan, &ended.answers)?;
     end.set(ended);
     Ok(text)

@@ -1,4 +1,5 @@
 ghost use Rattle.std.specs.Prelude.{◌≡◌, [], None, Some};
+ghost use Rattle.cb_app.specs.Scripts.{rows_given};
 
 use cb_lanes::SeqEnd;
 use cb_types::{Answers, Config, Losses};
@@ -57,6 +58,16 @@ impl Ending {
             answers: Answers::new(alloc),
             losses: Losses::from(Vec::new(alloc)),
             world: None,
+        }
+    }
+
+    /// How many rows the nodes of the world that is left gave out; 0 where none is left.
+    pub(crate) fn rows_given(&self) -> u64
+        ensures { result ≡ rows_given self.now.world }
+    {
+        match &self.world {
+            Some(world) => world.far.nodes.given(),
+            None => 0,
         }
     }
 

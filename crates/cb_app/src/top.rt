@@ -19,9 +19,9 @@ use std::sync::Wait;
 use std::thread::Threads;
 
 /// Runs the command that the words give, which come after the program's name. It takes bytes from
-/// the source, but where it draws a script of its own, puts text into the sink, leaves in `end` what the run was beside its text, and
-/// answers the exit status: 0 done, 1 words refused, 2 script refused, 3 reading failed, 4 writing
-/// failed, 5 want of memory.
+/// the source, but where it draws a script of its own, puts text into the sink, leaves in `end`
+/// what the run was beside its text, and answers the exit status: 0 done, 1 words refused, 2 script
+/// refused, 3 reading failed, 4 writing failed, 5 want of memory.
 pub fn carbink_run<R: Threads + Wait + Sync, S: Source, K: Sink>(
     _rt: &R,
     alloc: Global,
@@ -33,9 +33,11 @@ pub fn carbink_run<R: Threads + Wait + Sync, S: Source, K: Sink>(
     ensures statuses { result ≤ 5 }
 
     // 0: the words name a command, and what is put is what it yields for the bytes taken. Of a
-    // script `seq` puts the answers that the plain map gives, and `check` how many lines and lanes
-    // it has; of a schedule `rma` puts what is said to each event. Or the words ask `gen` for a
-    // drawn script: its lines are answered as `seq` answers them, and what is put is the summary.
+    // script `seq` puts the answers that the plain map gives; `local` too, where the compute side
+    // makes the parities of each compaction, and how many rows the nodes gave out; and `check` how
+    // many lines and lanes it has. Of a schedule `rma` puts what is said to each event. Or the
+    // words ask `gen` for a drawn script: its lines are answered as `seq` answers them, and what is
+    // put is the summary.
     ensures done { result ≡ 0
         → TellsScript words.now (S.left src.old) (S.left src.new)
         (K.held out.old) (K.held out.new) end.old end.new

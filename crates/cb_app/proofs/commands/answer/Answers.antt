@@ -6,7 +6,7 @@ use Rattle.cb_app.proofs.commands.answer.Goals as goal
 pub returns : goal.returns
 returns c =
     let told = c.in_ok-told.ensures in
-    subst (λ (e : Ending). IsAnswered c.args.script.now e) (sym c.answered.ensures) (record {
+    subst (λ (e : Ending). IsAnswered c.args.side c.args.script.now e) (sym c.answered.ensures) (record {
       config = refl;
       lines = told.lines;
       legal = told.legal;

@@ -3,6 +3,7 @@ use Rattle.cb_script.specs.declared.script.Script.{Script}
 use Rattle.cb_app.specs.declared.ending.Ending.{Ending}
 use Rattle.cb_app.specs.Scripts.{IsAnswered, IsSummed}
 use Rattle.cb_gen.specs.Drawn.{made_script}
+use Rattle.cb_lanes.specs.declared.side.Side.TheVariants.{Nodes}
 use Rattle.cb_app.proofs.drawn.draw_script.Goals as goal
 
 pub summary_of-requires : goal.summary_of-requires
@@ -15,7 +16,7 @@ returns-clause-summed c =
     let script_is : c.in_ok-script.script ≡ made_script plan.seed plan.lines plan.lanes =
     c.in_ok-script.ensures.script ∙ ap (λ (seed : ℕ). made_script seed plan.lines plan.lanes) seed_is in
     subst (λ (e : Ending). IsSummed c.args.plan e c.in_ok-text.text) (sym c.set.ensures) (record {
-      answered = subst (λ (s : Script). IsAnswered s c.in_ok-ended.ended) script_is c.in_ok-ended.ensures;
+      answered = subst (λ (s : Script). IsAnswered Nodes s c.in_ok-ended.ended) script_is c.in_ok-ended.ensures;
       calm = c.in_ok-ended.ensures.calm c.in_ok-script.ensures.ease;
       text_is = c.in_ok-text.ensures;
     })

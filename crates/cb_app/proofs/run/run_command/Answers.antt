@@ -1,4 +1,3 @@
-use Rattle.std.proofs.Common.{rules, refl}
 use Rattle.std.proofs.lemmas.Result.{err_from_is_err_and}
 use Rattle.cb_app.proofs.Runs.{ends_done, ends_refused, done_cut, refused_cut, decided_done, decided_refused}
 use Rattle.cb_app.proofs.run.run_command.Goals as goal
