@@ -1,5 +1,5 @@
 -- Which request an action has.
-use Rattle.std.proofs.Common.{◌≡◌, ℕ, ◌+◌, ◌<◌, ◌==◌, ◌||◌, Bool, true, false, cond, nat_lt, List, [], ◌∷◌, length, refl, sym, ap, ◌∙◌, suc, zero, arith}
+use Rattle.std.proofs.Common.{◌≡◌, ℕ, ◌+◌, ◌<◌, ◌==◌, ◌||◌, true, false, nat_lt, List, [], ◌∷◌, length, refl, sym, suc, zero, arith}
 use Rattle.std.specs.List.{All}
 use Rattle.cb_gen.specs.Draws.{next, after, drawn}
 use Rattle.cb_gen.specs.Drawn.{Drawn, drawn_action, drawn_make, drawn_seldom, drawn_write, length_made}

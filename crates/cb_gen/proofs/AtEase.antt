@@ -1,5 +1,5 @@
 -- A drawn script is at ease: it pins nothing, and crashes two nodes at the most.
-use Rattle.std.proofs.Common.{◌≡◌, ℕ, zero, suc, ◌+◌, ◌<◌, ◌≤◌, ◌==◌, ◌&&◌, ◌||◌, nat_eq, nat_lt, Bool, true, false, cond, List, [], ◌∷◌, ◌++◌, length, refl, sym, ap, ap₂, ◌∙◌, arith}
+use Rattle.std.proofs.Common.{◌≡◌, ℕ, zero, suc, ◌+◌, ◌≤◌, ◌==◌, ◌&&◌, ◌||◌, nat_eq, nat_lt, Bool, true, false, cond, List, [], ◌∷◌, ◌++◌, length, refl, sym, ap, ap₂, ◌∙◌, arith}
 use Rattle.std.proofs.lemmas.Bool.Decides.{nat_tests}
 use Rattle.std.specs.List.{count_by, list_any, range_with_len}
 use Rattle.std.proofs.lemmas.Bool.{ne_eqb}
@@ -11,7 +11,6 @@ use Rattle.cb_script.specs.Roomy.{IsAtEase, crashing, has_crash, has_pin, has_st
 use Rattle.cb_gen.specs.Draws.{after, drawn}
 use Rattle.cb_gen.specs.Drawn.{drawn_lines, lengths_of, made_script}
 use Rattle.cb_gen.proofs.Grammar.{drawn_all}
-use Rattle.cb_gen.proofs.Drawing.{drawn_low}
 use Rattle.cb_gen.proofs.RequestKinds.{IsKind, kind_of}
 use Rattle.cb_gen.proofs.RequestKinds.IsKind.{makes, reads, writes, frees, filters, evicts, crashes, joins, rebuilds, compacts}
 

@@ -1,18 +1,17 @@
 -- A drawn script is one by the grammar.
-use Rattle.std.proofs.Common.{◌≡◌, ℕ, zero, suc, ◌+◌, ◌<◌, ◌≤◌, ◌==◌, nat_lt, Bool, true, false, cond, List, [], ◌∷◌, ◌++◌, length, ◌⊎◌, inl, inr, refl, sym, ap, ◌∙◌, subst, arith, length-append, append-nil}
-use Rattle.std.specs.List.{All, flat_map}
+use Rattle.std.proofs.Common.{◌≡◌, ℕ, zero, suc, ◌+◌, ◌<◌, ◌≤◌, ◌==◌, nat_lt, Bool, true, false, cond, List, [], ◌∷◌, ◌++◌, length, inl, inr, refl, sym, ap, ◌∙◌, subst, arith, length-append, append-nil}
+use Rattle.std.specs.List.{All}
 use Rattle.std.proofs.lemmas.Bool.{cases_Bool, eq-eqb, eqb-true, ltb-true, ltb-false}
 use Rattle.std.proofs.lemmas.Grind.{flat_map-append}
 use Rattle.std.proofs.lemmas.List.Elements.{All-append}
 use Rattle.cb_types.specs.Config.{IsAccepted}
 use Rattle.cb_types.specs.declared.config.Field.TheVariants as field
 use Rattle.cb_types.specs.declared.request.Request.{Request}
-use Rattle.cb_types.specs.declared.request.Request.TheVariants as request
 use Rattle.cb_script.specs.declared.script.Line.{Line}
 use Rattle.cb_script.specs.Form.{AreLines, IsKnown, IsMade, IsName, IsNew, IsRequest, IsScript, Makes, MayFollow}
 use Rattle.cb_script.proofs.PublicLaws.{AreLines-push, made_before, made_cases, made_here}
 use Rattle.cb_gen.specs.Draws.{after, drawn}
-use Rattle.cb_gen.specs.Drawn.{DrawnLines, drawn_action, drawn_config, drawn_lines, length_made, lengths_of, made_script, object_name, with_line}
+use Rattle.cb_gen.specs.Drawn.{drawn_config, drawn_lines, length_made, lengths_of, made_script, object_name}
 use Rattle.cb_gen.proofs.Drawing.{drawn_low}
 use Rattle.cb_gen.proofs.RequestKinds.{IsKind, kind_of}
 use Rattle.cb_gen.proofs.RequestKinds.IsKind.{makes, reads, writes, frees, filters, evicts, crashes, joins, rebuilds, compacts}

@@ -1,13 +1,26 @@
 -- One line more, in the script and beside it.
-use Rattle.std.proofs.Common.{◌≡◌, ℕ, zero, suc, ◌+◌, ◌≤◌, ◌==◌, Bool, true, false, cond, List, [], ◌∷◌, ◌++◌, length, get_or, refl, sym, ap, ◌∙◌, arith, length-append}
+use Rattle.std.proofs.Common.{◌≡◌, ℕ, zero, suc, ◌+◌, ◌≤◌, ◌==◌, Bool, true, false, cond, List, [], ◌∷◌, ◌++◌, length, get_or, refl, sym, ap, ◌∙◌, arith, length-append, OnOk, Ok, Err, Result}
 use Rattle.std.proofs.lemmas.List.Concat.{flat_map-cons}
 use Rattle.cb_types.specs.declared.request.Request.{Request}
 use Rattle.cb_types.specs.declared.request.Request.TheVariants.{Make}
 use Rattle.cb_script.specs.declared.script.Line.{Line}
-use Rattle.cb_gen.specs.Draws.{next, after, drawn}
+use Rattle.cb_gen.specs.Draws.{after, drawn}
 use Rattle.cb_gen.specs.Drawn.{DrawnLines, drawn_action, drawn_lines, length_made, lengths_of, with_line}
 use Rattle.cb_gen.specs.Noted.{AreNoted}
 use Rattle.cb_gen.proofs.Grammar.{lengths_more}
+
+-- what two clauses of a call say on success, together
+pub both_ok : {T E P Q R : Type 0} (r : Result T E) → (P → Q → R) → OnOk r P → OnOk r Q → OnOk r R
+both_ok (Ok x) together p q = together p q
+both_ok (Err e) together p q = tt
+
+-- one lane more that made nothing
+pub blank_more : (lists : List (List ℕ)) → ((lane : ℕ) → get_or lists lane [] ≡ [])
+    → (lane : ℕ) → get_or (lists ++ [] ∷ []) lane [] ≡ []
+blank_more [] blank zero = refl
+blank_more [] blank (suc lane) = refl
+blank_more (first ∷ lists) blank zero = blank zero
+blank_more (first ∷ lists) blank (suc lane) = blank_more lists (λ n. blank (suc n)) lane
 
 one_at_most : (b : Bool) (r : Request) → length (cond b (length_made r) []) ≤ 1
 one_at_most false r = omega arith

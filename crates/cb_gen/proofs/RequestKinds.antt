@@ -1,10 +1,10 @@
 -- What a drawn request may be.
-use Rattle.std.proofs.Common.{◌≡◌, ℕ, suc, ◌+◌, ◌-◌, ◌<◌, ◌≤◌, ◌==◌, ◌||◌, Bool, true, false, cond, min, nat_lt, List, [], ◌∷◌, length, get_or, refl, sym, ap, ◌∙◌, subst, arith}
+use Rattle.std.proofs.Common.{◌≡◌, ℕ, ◌+◌, ◌-◌, ◌<◌, ◌≤◌, ◌==◌, ◌||◌, Bool, true, false, cond, min, nat_lt, List, length, get_or, refl, arith}
 use Rattle.std.proofs.lemmas.Bool.Decides.{nat_tests}
 use Rattle.std.specs.List.{All}
 use Rattle.cb_types.specs.declared.request.Request.{Request}
 use Rattle.cb_types.specs.declared.request.Request.TheVariants as request
-use Rattle.cb_gen.specs.Draws.{after, drawn, drawn_bytes}
+use Rattle.cb_gen.specs.Draws.{after, drawn}
 use Rattle.cb_gen.specs.Drawn.{Drawn, object_name, drawn_make, drawn_write, drawn_seldom, drawn_action}
 use Rattle.cb_gen.proofs.Drawing.{bytes_count, bytes_low, drawn_low}
 

@@ -1,13 +1,11 @@
 -- Worked examples: what is drawn from seeds, and what is not.
-use Rattle.std.proofs.Common.{◌≡◌, ℕ, ◌+◌, Bool, true, false, List, [], ◌∷◌, length, codes, refl, sym, ap, ◌∙◌, arith}
+use Rattle.std.proofs.Common.{◌≡◌, ℕ, List, [], ◌∷◌, codes, refl, arith}
 use Rattle.std.specs.Fmt.{digits}
-use Rattle.cb_types.specs.declared.config.Config.{Config}
 use Rattle.cb_types.specs.declared.request.Request.{Request}
-use Rattle.cb_types.specs.declared.request.Request.TheVariants.{Make, Read, Write, Free, Filter, Evict, Crash, Join, Rebuild, Compact}
+use Rattle.cb_types.specs.declared.request.Request.TheVariants.{Make, Read, Write, Filter, Evict, Crash, Rebuild, Compact}
 use Rattle.cb_script.specs.declared.script.Line.{Line}
-use Rattle.cb_script.specs.declared.script.Script.{Script}
 use Rattle.cb_gen.specs.Draws.{after, drawn, drawn_bytes, next}
-use Rattle.cb_gen.specs.Drawn.{Drawn, DrawnLines, drawn_action, drawn_config, drawn_lines, length_made, lengths_of, made_script, object_name, with_line}
+use Rattle.cb_gen.specs.Drawn.{drawn_action, drawn_config, lengths_of, made_script, object_name}
 
 -- ---- draws
 

@@ -1,5 +1,4 @@
-use Rattle.std.proofs.Common.{◌≡◌, ap, sym, subst, ◌∙◌, arith, rules}
-use Rattle.cb_script.specs.declared.script.Script.{Script}
+use Rattle.std.proofs.Common.{◌≡◌, ap, sym, subst, ◌∙◌, rules}
 use Rattle.cb_script.specs.Form.{IsScript}
 use Rattle.cb_script.specs.Roomy.{IsAtEase}
 use Rattle.cb_gen.specs.Drawn.{DrawnLines, drawn_config, drawn_lines, made_script}
