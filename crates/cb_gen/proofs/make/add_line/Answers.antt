@@ -15,6 +15,14 @@ draw_request-requires c =
     let is : c.of.result.now ≡ lengths_of lines lane = c.of.ensures ∙ c.requires.noted.noted lane in
     omega (arith, ap length is, lengths_few lines lane, c.requires.few)
 
+pub of-requires : goal.of-requires
+of-requires c =
+    omega (arith, c.below.ensures.low, c.requires.lanes.1, c.requires.noted.places)
+
+pub note-requires : goal.note-requires
+note-requires c =
+    omega (arith, c.below.ensures.low, c.requires.lanes.1, c.requires.noted.places)
+
 pub length_made-len-requires : goal.length_made-len-requires
 length_made-len-requires c =
     subst (λ (r : Request). All (λ len. len < 256) (length_made r)) (sym c.in_ok-request.ensures.request)
