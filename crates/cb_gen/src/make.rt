@@ -11,8 +11,8 @@ use cb_script::{Line, Lines, Script};
 use cb_types::{Config, Lane, NoMemory};
 use std::alloc::Global;
 
-/// The configuration of each script: its nodes 0 and 1 may crash, and no line is refused for want of
-/// room, or because an object is lost.
+/// The configuration of each script: its nodes 0 and 1 may crash, and no line is refused for want
+/// of room, or because an object is lost.
 const CONFIG: Config = Config {
     k: 4,
     r: 2,

@@ -36,7 +36,8 @@ fn push_summary(
     text: usize,
 ) -> Result<(), NoMemory>
     requires text { text ≡ length (text_of answers.now) }
-    ensures { OnOk result (told.new.items ≡ told.old.items ++ summary seed lines lanes answers.now) }
+    ensures { OnOk result (told.new.items
+        ≡ told.old.items ++ summary seed lines lanes answers.now) }
 {
     push_asked(told, seed, lines, lanes)?;
     push_requests(told, answers)?;

@@ -25,19 +25,34 @@ note-requires c =
 
 pub length_made-len-requires : goal.length_made-len-requires
 length_made-len-requires c =
-    subst (λ (r : Request). All (λ len. len < 256) (length_made r)) (sym c.in_ok-request.ensures.request)
-    (made_short c.below-action.result c.below-action.new.self.state (1 + c.below.result) c.of.result.now)
+    subst (λ (r : Request). All (λ len. len < 256) (length_made r))
+    (sym c.in_ok-request.ensures.request)
+    (made_short c.below-action.result c.below-action.new.self.state
+    (1 + c.below.result) c.of.result.now)
 
 pub returns-clause-line : goal.returns-clause-line
 returns-clause-line c =
     on_ok_weaker c.note.result (λ done.
-    line_added c.args.lanes c.args.draws.now.state (1 + c.below.result) c.below-action.result c.below-action.new.self.state c.draw_request.new.draws.state c.of.result.now c.in_ok-request.request c.args.lines.now c.push.new.self
-    (ap (λ (n : ℕ). 1 + n) c.below.ensures.drawn) (c.below-action.ensures.drawn ∙ ap (λ (s : ℕ). drawn s 0 16) c.below.ensures.left) (c.below-action.ensures.left ∙ ap next c.below.ensures.left) (c.of.ensures ∙ c.requires.noted.noted _) c.in_ok-request.ensures.request c.in_ok-request.ensures.left
-    (c.in_ok-push.ensures.ok ∙ (λ i. c.args.lines.now ++ record { lane = record { n = 1 + c.below.result }; line = length (c.as_slice.ensures.items i) + 2; request = c.in_ok-request.request } ∷ []))) c.note.ensures.places
+    line_added c.args.lanes c.args.draws.now.state
+    (1 + c.below.result) c.below-action.result c.below-action.new.self.state
+    c.draw_request.new.draws.state c.of.result.now c.in_ok-request.request c.args.lines.now
+    c.push.new.self
+    (ap (λ (n : ℕ). 1 + n) c.below.ensures.drawn) (c.below-action.ensures.drawn
+    ∙ ap (λ (s : ℕ). drawn s 0 16) c.below.ensures.left) (c.below-action.ensures.left
+    ∙ ap next c.below.ensures.left) (c.of.ensures
+    ∙ c.requires.noted.noted _) c.in_ok-request.ensures.request c.in_ok-request.ensures.left
+    (c.in_ok-push.ensures.ok
+    ∙ (λ i. c.args.lines.now ++ record {
+      lane = record { n = 1 + c.below.result };
+      line = length (c.as_slice.ensures.items i) + 2;
+      request = c.in_ok-request.request;
+    } ∷ []))) c.note.ensures.places
 
 pub returns-clause-noted : goal.returns-clause-noted
 returns-clause-noted c =
     both_ok c.note.result (λ places noted.
-    noted_more c.args.made.now c.note.new.self c.args.lines.now c.push.new.self _ c.requires.noted places (λ other.
-    noted other ∙ ap (λ (len : List ℕ). get_or c.args.made.now other [] ++ cond (1 + c.below.result == other) len []) c.length_made-len.ensures) c.in_ok-push.ensures.ok)
+    noted_more c.args.made.now c.note.new.self c.args.lines.now c.push.new.self _ c.requires.noted
+    places (λ other.
+    noted other ∙ ap (λ (len : List ℕ). get_or c.args.made.now other [] ++ cond
+    (1 + c.below.result == other) len []) c.length_made-len.ensures) c.in_ok-push.ensures.ok)
     c.note.ensures.places c.note.ensures.noted

@@ -9,5 +9,7 @@ pub returns : goal.returns
 returns c =
     let answers = c.args.answers.now in
     count_from_yields_List c.filter.result _ c.count.ensures.ran
-    (YieldsList-from_filter _ (is_of c.args.kind.now) (YieldsList-from_slice answers cc) c.filter.ensures.closure (λ x b q k. search (rules, tests)))
+    (YieldsList-from_filter _ (is_of c.args.kind.now)
+    (YieldsList-from_slice answers cc) c.filter.ensures.closure (λ x b q k. search
+    (rules, tests)))
     ∙ length-filter (is_of c.args.kind.now) answers

@@ -9,5 +9,8 @@ pub returns : goal.returns
 returns c =
     let answers = c.args.answers.now in
     on_ok_weaker c.push_refused.result (λ refused.
-    joined c.args.told.now.items (asked_text c.args.seed c.args.lines c.args.lanes) (requests_text answers) (refused_text answers (length (text_of answers))) c.in_ok-push_asked.ensures c.in_ok-push_requests.ensures
-    (refused ∙ ap (λ (n : ℕ). c.push_requests.new.told.items ++ refused_text answers n) c.requires.text)) c.push_refused.ensures
+    joined c.args.told.now.items (asked_text c.args.seed c.args.lines c.args.lanes)
+    (requests_text answers) (refused_text answers
+    (length (text_of answers))) c.in_ok-push_asked.ensures c.in_ok-push_requests.ensures
+    (refused ∙ ap (λ (n : ℕ). c.push_requests.new.told.items ++ refused_text answers n) c.requires.text))
+    c.push_refused.ensures

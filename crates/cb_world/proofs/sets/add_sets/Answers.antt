@@ -25,14 +25,17 @@ returns-then-not-add_set-clause-keeps c =
 pub loop-at-preserved : goal.loop-at-preserved
 loop-at-preserved c =
     let more = c.add_set.ensures in
-    let at = c.loop-at.at in
-    (more.none, (λ (g : Group). λ among. more.keeps g (c.loop-at.invariant.1 g among)), λ i id set below found is. elim (cases_eq i at) [
-      | inl here ↦
-          let value : get_or c.args.changed.now at 0 ≡ id =
-          get_or_from_slice_get c.args.changed.now at id 0 (ap (slice_get c.args.changed.now) (sym here) ∙ found) in
-          more.among (search rules) set (subst (λ (n : ℕ). set_in c.args.table.now n ≡ Some set) (sym value) is)
-      | inr other ↦ more.keeps (group_of set) (c.loop-at.invariant.2 i id set (omega (arith, below, other)) found is)
-    ])
+    let at = c.loop-at.at in (
+      more.none,
+      (λ (g : Group). λ among. more.keeps g (c.loop-at.invariant.1 g among)),
+      λ i id set below found is. elim (cases_eq i at) [
+        | inl here ↦
+            let value : get_or c.args.changed.now at 0 ≡ id =
+            get_or_from_slice_get c.args.changed.now at id 0 (ap (slice_get c.args.changed.now) (sym here) ∙ found) in
+            more.among (search rules) set (subst (λ (n : ℕ). set_in c.args.table.now n ≡ Some set) (sym value) is)
+        | inr other ↦ more.keeps (group_of set) (c.loop-at.invariant.2 i id set (omega (arith, below, other)) found is)
+      ],
+    )
 
 pub returns-clause-none : goal.returns-clause-none
 returns-clause-none c = c.loop-at.invariant.0
