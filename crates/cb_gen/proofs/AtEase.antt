@@ -1,5 +1,5 @@
 -- A drawn script is at ease: it pins nothing, and crashes two nodes at the most.
-use Rattle.std.proofs.Common.{◌≡◌, ℕ, zero, suc, ◌+◌, ◌<◌, ◌≤◌, ◌==◌, ◌&&◌, ◌||◌, nat_eq, nat_lt, Bool, true, false, cond, List, [], ◌∷◌, ◌++◌, length, refl, sym, ap, ap₂, ◌∙◌, arith}
+use Rattle.std.proofs.Common.{◌≡◌, ℕ, zero, suc, ◌+◌, ◌≤◌, ◌==◌, ◌&&◌, ◌||◌, nat_eq, nat_lt, Bool, true, false, cond, List, [], ◌∷◌, ◌++◌, length, refl, sym, ap, ap₂, ◌∙◌, arith}
 use Rattle.std.proofs.lemmas.Bool.Decides.{nat_tests}
 use Rattle.std.specs.List.{count_by, list_any, range_with_len}
 use Rattle.std.proofs.lemmas.Bool.{ne_eqb}
@@ -11,7 +11,6 @@ use Rattle.cb_script.specs.Roomy.{IsAtEase, crashing, has_crash, has_pin, has_st
 use Rattle.cb_gen.specs.Draws.{after, drawn}
 use Rattle.cb_gen.specs.Drawn.{drawn_lines, lengths_of, made_script}
 use Rattle.cb_gen.proofs.Grammar.{drawn_all}
-use Rattle.cb_gen.proofs.Drawing.{drawn_low}
 use Rattle.cb_gen.proofs.RequestKinds.{IsKind, kind_of}
 use Rattle.cb_gen.proofs.RequestKinds.IsKind.{makes, reads, writes, frees, filters, evicts, crashes, joins, rebuilds, compacts}
 
@@ -30,16 +29,19 @@ module _ (lane : ℕ) (lengths : List ℕ) where
   gentle : (r : Request) → IsKind lane lengths r → IsGentle r
   gentle _ (makes bytes some few each) = record { pin = refl; step = refl; other = λ n past. refl }
   gentle _ (reads object within) = record { pin = refl; step = refl; other = λ n past. refl }
-  gentle _ (writes object at bytes within low few each) = record { pin = refl; step = refl; other = λ n past. refl }
+  gentle _ (writes object at bytes within low few each) =
+      record { pin = refl; step = refl; other = λ n past. refl }
   gentle _ (frees object within) = record { pin = refl; step = refl; other = λ n past. refl }
   gentle _ (filters object within) = record { pin = refl; step = refl; other = λ n past. refl }
   gentle _ evicts = record { pin = refl; step = refl; other = λ n past. refl }
-  gentle _ (crashes node low) = record { pin = refl; step = refl; other = λ n past. ne_eqb n node (λ e. omega (arith, past, low, e)) }
+  gentle _ (crashes node low) =
+      record { pin = refl; step = refl; other = λ n past. ne_eqb n node (λ e. omega (arith, past, low, e)) }
   gentle _ (joins node low) = record { pin = refl; step = refl; other = λ n past. refl }
   gentle _ rebuilds = record { pin = refl; step = refl; other = λ n past. refl }
   gentle _ compacts = record { pin = refl; step = refl; other = λ n past. refl }
 
-no_more : (test : Line → Bool) (lines : List Line) (l : Line) → list_any test lines ≡ false → test l ≡ false → list_any test (lines ++ l ∷ []) ≡ false
+no_more : (test : Line → Bool) (lines : List Line) (l : Line) → list_any test lines ≡ false
+    → test l ≡ false → list_any test (lines ++ l ∷ []) ≡ false
 no_more test lines l none other =
     list_any-append test lines (l ∷ []) ∙ ap₂ (λ (a b : Bool). a || (b || false)) none other
 
@@ -47,21 +49,28 @@ and_false : (a b : Bool) → b ≡ false → (a && b) ≡ false
 and_false true b e = e
 and_false false b e = refl
 
-gentle_then : (lines : List Line) (l : Line) → AreGentle lines → IsGentle l.request → AreGentle (lines ++ l ∷ [])
+gentle_then : (lines : List Line) (l : Line) → AreGentle lines → IsGentle l.request
+    → AreGentle (lines ++ l ∷ [])
 gentle_then lines l are is = record {
-  pins = λ lane. no_more (λ m. nat_eq lane m.lane.n && is_pin m.request) lines l (are.pins lane) (and_false (nat_eq lane l.lane.n) (is_pin l.request) is.pin);
+  pins = λ lane. no_more (λ m. nat_eq lane m.lane.n && is_pin m.request) lines l (are.pins lane)
+      (and_false (nat_eq lane l.lane.n) (is_pin l.request) is.pin);
   steps = no_more (λ m. is_step m.request) lines l are.steps is.step;
-  others = λ n past. no_more (λ m. is_crash n m.request) lines l (are.others n past) (is.other n past);
+  others = λ n past. no_more (λ m. is_crash n m.request) lines l (are.others n past)
+      (is.other n past);
 }
 
-gentle_all : (seed lanes n : ℕ) → n ≤ 4000 → 1 ≤ lanes → lanes ≤ 15 → AreGentle (drawn_lines seed lanes n).lines
-gentle_all seed lanes zero few some low = record { pins = λ lane. refl; steps = refl; others = λ n past. refl }
+gentle_all : (seed lanes n : ℕ) → n ≤ 4000 → 1 ≤ lanes → lanes ≤ 15
+    → AreGentle (drawn_lines seed lanes n).lines
+gentle_all seed lanes zero few some low =
+    record { pins = λ lane. refl; steps = refl; others = λ n past. refl }
 gentle_all seed lanes (suc n) few some low =
     let d = drawn_lines seed lanes n in
     let lane = 1 + drawn d.left 0 lanes in
     let before = drawn_all seed lanes n (omega (arith, few)) some low in
-    let kind = kind_of (drawn d.left 1 16) (after d.left 2) lane (lengths_of d.lines lane) (before.0.short lane) in
-    gentle_then d.lines _ (gentle_all seed lanes n (omega (arith, few)) some low) (gentle lane (lengths_of d.lines lane) _ kind)
+    let kind =
+    kind_of (drawn d.left 1 16) (after d.left 2) lane (lengths_of d.lines lane) (before.0.short lane) in
+    gentle_then d.lines _ (gentle_all seed lanes n (omega (arith, few)) some low) (gentle lane
+    (lengths_of d.lines lane) _ kind)
 
 -- two of eight nodes at the most
 past_two : (n : ℕ) → nat_lt (suc (suc n)) 2 ≡ false
@@ -72,7 +81,8 @@ module _ (p : ℕ → Bool) (others : (n : ℕ) → 2 ≤ n → p n ≡ false) w
   only_two zero = refl
   only_two (suc zero) = refl
   only_two (suc (suc n)) =
-      others (suc (suc n)) (omega arith) ∙ sym (ap (λ (b : Bool). cond b (cond (suc (suc n) == 0) (p 0) (p 1)) false) (past_two n))
+      others (suc (suc n)) (omega arith)
+      ∙ sym (ap (λ (b : Bool). cond b (cond (suc (suc n) == 0) (p 0) (p 1)) false) (past_two n))
 
   two_at_most : count_by p (range_with_len 0 8) ≤ 2
   two_at_most =
@@ -80,20 +90,24 @@ module _ (p : ℕ → Bool) (others : (n : ℕ) → 2 ≤ n → p n ≡ false) w
       (λ i. count_by (λ n. only_two n i) (range_with_len 0 8)) in
       omega (arith, same, two (p 0) (p 1))
     where
-      two : (a b : Bool) → count_by (λ n. cond (nat_lt n 2) (cond (n == 0) a b) false) (range_with_len 0 8) ≤ 2
+      two : (a b : Bool) → count_by (λ n. cond (nat_lt n 2) (cond (n == 0) a b) false)
+          (range_with_len 0 8) ≤ 2
       two true true = omega arith
       two true false = omega arith
       two false true = omega arith
       two false false = omega arith
 
 -- each drawn script is at ease
-pub made_at_ease : (seed lines lanes : ℕ) → lines ≤ 4000 → 1 ≤ lanes → lanes ≤ 15 → IsAtEase (made_script seed lines lanes)
+pub made_at_ease : (seed lines lanes : ℕ) → lines ≤ 4000 → 1 ≤ lanes → lanes ≤ 15
+    → IsAtEase (made_script seed lines lanes)
 made_at_ease seed lines lanes few some low =
     let all = gentle_all seed lanes lines few some low in
     let drawn_so = (drawn_lines seed lanes lines).lines in
-    let none : pinning drawn_so ≡ 0 = (λ i. count_by (λ lane. all.pins lane i) (range_with_len 0 16)) in
+    let none : pinning drawn_so ≡ 0 =
+    (λ i. count_by (λ lane. all.pins lane i) (range_with_len 0 16)) in
     let two : crashing 8 drawn_so ≤ 2 = two_at_most (has_crash drawn_so) all.others in
-    let most : makes_in drawn_so ≤ length drawn_so = count_by-le-length (λ (l : Line). is_make l.request) drawn_so in
+    let most : makes_in drawn_so ≤ length drawn_so =
+    count_by-le-length (λ (l : Line). is_make l.request) drawn_so in
     let count = (drawn_all seed lanes lines few some low).1 in
     record {
       frames = omega (arith, none);

@@ -5,6 +5,7 @@ pub mod Grammar
 pub mod AtEase
 pub mod Actions
 pub mod OneLine
+pub mod Joined
 pub mod WorkedDrawn
 pub mod WorkedSummary
 pub mod Laws

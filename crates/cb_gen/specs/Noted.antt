@@ -1,5 +1,5 @@
 -- What is kept beside the lines that were drawn so far.
-use Rattle.std.specs.Prelude.{◌≡◌, ℕ, ◌<◌, List, [], length, get_or}
+use Rattle.std.specs.Prelude.{◌≡◌, ℕ, List, [], length, get_or}
 use Rattle.cb_script.specs.declared.script.Line.{Line}
 use Rattle.cb_gen.specs.Drawn.{lengths_of}
 

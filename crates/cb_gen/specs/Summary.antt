@@ -7,6 +7,8 @@ use Rattle.cb_types.specs.declared.reply.Reply.{Reply}
 use Rattle.cb_types.specs.declared.reply.Reply.TheVariants.{Made, Version, Bytes, Done, Left, Moved, Same, Set, Batch, Shipped, AllShipped, Pair, Stepped, AllStepped, Merged, Rebuilt, EpochAt}
 use Rattle.cb_script.specs.Roomy.{is_make}
 use Rattle.cb_text.specs.Line.{text_of}
+use Rattle.cb_gen.specs.declared.summary.Kind.{Kind}
+use Rattle.cb_gen.specs.declared.summary.Kind.TheVariants as kind
 
 abbrev pub is_read : Request → Bool
 is_read (request.Read name) = true
@@ -45,22 +47,45 @@ is_refusal (Rebuilt set position node) = false
 is_refusal (EpochAt epoch) = false
 is_refusal _ = true
 
--- how many answers have a request of the kind
+-- how many answers have a request of the verb
 abbrev pub asked : (Request → Bool) → List Answer → ℕ
-asked kind answers = count_by (λ a. kind a.request) answers
+asked verb answers = count_by (λ a. verb a.request) answers
 
 -- how many answers are refusals
 abbrev pub refused : List Answer → ℕ
 refused answers = count_by (λ a. is_refusal a.reply) answers
 
--- what was asked for, the requests by verb, the refusals, and how many bytes the answers' text has
-abbrev pub summary : (seed lines lanes : ℕ) → List Answer → List ℕ
-summary seed lines lanes answers =
+-- the answer is of the kind that is counted
+abbrev pub is_of : Kind → Answer → Bool
+is_of kind.Make a = is_make a.request
+is_of kind.Read a = is_read a.request
+is_of kind.Write a = is_write a.request
+is_of kind.Free a = is_free a.request
+is_of kind.Other a = is_other a.request
+is_of kind.Refused a = is_refusal a.reply
+
+-- what was asked for
+abbrev pub asked_text : (seed lines lanes : ℕ) → List ℕ
+asked_text seed lines lanes =
     codes "gen seed " ++ decimal seed ++ codes " lines " ++ decimal lines
-    ++ codes " lanes " ++ decimal lanes ++ codes "\nmake " ++ decimal (asked is_make answers)
+    ++ codes " lanes " ++ decimal lanes
+
+-- the requests by verb
+abbrev pub requests_text : List Answer → List ℕ
+requests_text answers =
+    codes "\nmake " ++ decimal (asked is_make answers)
     ++ codes " read " ++ decimal (asked is_read answers)
     ++ codes " write " ++ decimal (asked is_write answers)
     ++ codes " free " ++ decimal (asked is_free answers)
     ++ codes " other " ++ decimal (asked is_other answers)
-    ++ codes "\nrefused " ++ decimal (refused answers)
-    ++ codes " text " ++ decimal (length (text_of answers)) ++ codes "\n"
+
+-- the refusals, and how many bytes the answers' text has
+abbrev pub refused_text : List Answer → (text : ℕ) → List ℕ
+refused_text answers text =
+    codes "\nrefused " ++ decimal (refused answers) ++ codes " text " ++ decimal text ++ codes "\n"
+
+-- what was asked for, the requests by verb, the refusals, and how many bytes the answers' text has
+abbrev pub summary : (seed lines lanes : ℕ) → List Answer → List ℕ
+summary seed lines lanes answers =
+    asked_text seed lines lanes ++ requests_text answers
+    ++ refused_text answers (length (text_of answers))

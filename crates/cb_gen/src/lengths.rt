@@ -1,4 +1,4 @@
-ghost use Rattle.std.specs.Prelude.{◌≡◌, ◌<◌, ◌∷◌, ◌++◌, ◌==◌, ℕ, [], length, get_or, if◌then◌else◌, All, OnOk, IfOk};
+ghost use Rattle.std.specs.Prelude.{◌≡◌, ◌<◌, ◌∷◌, ◌++◌, ◌==◌, ℕ, [], length, get_or, if◌then◌else◌, option_to_list, All, OnOk, IfOk};
 ghost use Rattle.cb_gen.specs.Drawn.{length_made};
 
 use cb_types::{NoMemory, Request};
@@ -59,19 +59,17 @@ impl LaneLengths {
         self.lanes[usize::from(lane)].items.as_slice()
     }
 
-    /// Notes what a request of this lane makes.
-    pub(crate) fn note(&mut self, lane: u8, request: &Request) -> Result<(), NoMemory>
-        requires place { lane < length self.old }
-        requires short { All (λ len. len < 256) (length_made request.now) }
+    /// Notes the length of an object that this lane made, where it made one.
+    pub(crate) fn note(&mut self, lane: u8, made: Option<u8>) -> Result<(), NoMemory>
+        requires { lane < length self.old }
         ensures places { OnOk result (length self.new ≡ length self.old) }
         ensures noted { OnOk result ((other : ℕ) → get_or self.new other []
-            ≡ get_or self.old other []
-            ++ (if lane == other then length_made request.now else [])) }
+            ≡ get_or self.old other [] ++ (if lane == other then option_to_list made else [])) }
     {
-        if let Request::Make { bytes, .. } = request {
-            self.push(lane, bytes.len() as u8)?;
+        match made {
+            Some(len) => self.push(lane, len),
+            None => Ok(()),
         }
-        Ok(())
     }
 
     /// Adds a length at the end of this lane's.
@@ -84,4 +82,15 @@ impl LaneLengths {
         self.lanes[usize::from(lane)].items.push(len)?;
         Ok(())
     }
+}
+
+/// The length of what a request makes, where it makes something.
+pub(crate) fn length_made(request: &Request) -> Option<u8>
+    requires { All (λ len. len < 256) (length_made request.now) }
+    ensures { option_to_list result ≡ length_made request.now }
+{
+    if let Request::Make { bytes, .. } = request {
+        return Some(bytes.len() as u8);
+    }
+    None
 }

@@ -5,14 +5,14 @@ ghost use Rattle.cb_gen.specs.Drawn.{made_script, with_line};
 ghost use Rattle.cb_gen.specs.Noted.{AreNoted};
 
 use crate::draws::Draws;
-use crate::lengths::LaneLengths;
+use crate::lengths::{LaneLengths, length_made};
 use crate::request::draw_request;
 use cb_script::{Line, Lines, Script};
 use cb_types::{Config, Lane, NoMemory};
 use std::alloc::Global;
 
-/// The configuration of each script: its nodes 0 and 1 may crash, and no line is refused for want of
-/// room, or because an object is lost.
+/// The configuration of each script: its nodes 0 and 1 may crash, and no line is refused for want
+/// of room, or because an object is lost.
 const CONFIG: Config = Config {
     k: 4,
     r: 2,
@@ -62,11 +62,12 @@ fn add_line(
     let lane = 1 + draws.below(lanes) as u8;
     let action = draws.below(16);
     let request = draw_request(alloc, draws, action, lane, made.of(lane))?;
-    made.note(lane, &request)?;
+    let len = length_made(&request);
     let line = lines.as_slice().len() as u32 + 2;
     lines.push(Line {
         lane: Lane { n: lane },
         line,
         request,
-    })
+    })?;
+    made.note(lane, len)
 }

@@ -43,7 +43,8 @@ pub(crate) fn draw_request(
     draw_seldom(alloc, draws, what, lane, count)
 }
 
-/// Whether a lane's line with this action is a make: a lane that made nothing makes something first.
+/// Whether a lane's line with this action is a make: a lane that made nothing makes something
+/// first.
 fn is_make(action: u32, lengths: &[u8]) -> bool
     ensures { result ≡ (nat_lt action 4 || (length lengths.now == 0)) }
 {
@@ -73,7 +74,8 @@ fn draw_write(
     requires few { length lengths.now < 2 ^ 32 }
     ensures request { IfOk result (λ request. request
         ≡ (drawn_write draws.old.state lane lengths.now).request) }
-    ensures left { OnOk result (draws.new.state ≡ (drawn_write draws.old.state lane lengths.now).left) }
+    ensures left { OnOk result (draws.new.state
+        ≡ (drawn_write draws.old.state lane lengths.now).left) }
 {
     let object = draws.below(lengths.len() as u32);
     let len = u32::from(lengths[object as usize]);

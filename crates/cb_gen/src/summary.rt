@@ -1,7 +1,7 @@
-ghost use Rattle.std.specs.Prelude.{◌≡◌, ◌++◌, codes, decimal, length, IfOk, OnOk};
+ghost use Rattle.std.specs.Prelude.{◌≡◌, ◌++◌, decimal, length, count_by, IfOk, OnOk};
 ghost use Rattle.cb_text.specs.Line.{text_of};
 ghost use Rattle.cb_script.specs.Roomy.{is_make};
-ghost use Rattle.cb_gen.specs.Summary.{asked, is_read, is_write, is_free, is_other, is_refusal, refused, summary};
+ghost use Rattle.cb_gen.specs.Summary.{asked_text, is_free, is_of, is_other, is_read, is_refusal, is_write, refused_text, requests_text, summary};
 
 use cb_types::{Answer, Answers, Bytes, NoMemory, Reply, Request};
 use itoa::Buffer;
@@ -22,38 +22,53 @@ pub fn summary_text(
     ensures { IfOk result (λ told. told ≡ summary seed lines lanes answers.now) }
 {
     let mut told = Vec::new(alloc);
-    push_asked(&mut told, seed, lines, lanes)?;
-    push_answered(&mut told, answers.as_slice(), text)?;
+    push_summary(&mut told, seed, lines, lanes, answers.as_slice(), text)?;
     Ok(Bytes::from(told))
+}
+
+/// Adds the summary to what is there.
+fn push_summary(
+    told: &mut Vec<u8>,
+    seed: u32,
+    lines: u32,
+    lanes: u32,
+    answers: &[Answer],
+    text: usize,
+) -> Result<(), NoMemory>
+    requires text { text ≡ length (text_of answers.now) }
+    ensures { OnOk result (told.new.items
+        ≡ told.old.items ++ summary seed lines lanes answers.now) }
+{
+    push_asked(told, seed, lines, lanes)?;
+    push_requests(told, answers)?;
+    push_refused(told, answers, text)
 }
 
 /// Adds the line that tells what was asked for, without its line feed.
 fn push_asked(told: &mut Vec<u8>, seed: u32, lines: u32, lanes: u32) -> Result<(), NoMemory>
-    ensures { OnOk result (told.new.items ≡ told.old.items ++ codes "gen seed " ++ decimal seed
-        ++ codes " lines " ++ decimal lines ++ codes " lanes " ++ decimal lanes) }
+    ensures { OnOk result (told.new.items ≡ told.old.items ++ asked_text seed lines lanes) }
 {
     push_count(told, b"gen seed ", seed as usize)?;
     push_count(told, b" lines ", lines as usize)?;
     push_count(told, b" lanes ", lanes as usize)
 }
 
-/// Adds the two lines about the answers, whose text has so many bytes.
-fn push_answered(told: &mut Vec<u8>, answers: &[Answer], text: usize) -> Result<(), NoMemory>
-    ensures { OnOk result (told.new.items ≡ told.old.items
-        ++ codes "\nmake " ++ decimal (asked is_make answers.now)
-        ++ codes " read " ++ decimal (asked is_read answers.now)
-        ++ codes " write " ++ decimal (asked is_write answers.now)
-        ++ codes " free " ++ decimal (asked is_free answers.now)
-        ++ codes " other " ++ decimal (asked is_other answers.now)
-        ++ codes "\nrefused " ++ decimal (refused answers.now)
-        ++ codes " text " ++ decimal text ++ codes "\n") }
+/// Adds the line that tells the requests by verb, behind a line feed.
+fn push_requests(told: &mut Vec<u8>, answers: &[Answer]) -> Result<(), NoMemory>
+    ensures { OnOk result (told.new.items ≡ told.old.items ++ requests_text answers.now) }
 {
-    push_count(told, b"\nmake ", makes(answers))?;
-    push_count(told, b" read ", reads(answers))?;
-    push_count(told, b" write ", writes(answers))?;
-    push_count(told, b" free ", frees(answers))?;
-    push_count(told, b" other ", others(answers))?;
-    push_count(told, b"\nrefused ", refusals(answers))?;
+    push_count(told, b"\nmake ", count(answers, &Kind::Make))?;
+    push_count(told, b" read ", count(answers, &Kind::Read))?;
+    push_count(told, b" write ", count(answers, &Kind::Write))?;
+    push_count(told, b" free ", count(answers, &Kind::Free))?;
+    push_count(told, b" other ", count(answers, &Kind::Other))
+}
+
+/// Adds the line that tells the refusals and the length of the answers' text, between line feeds.
+fn push_refused(told: &mut Vec<u8>, answers: &[Answer], text: usize) -> Result<(), NoMemory>
+    ensures { OnOk result (told.new.items ≡ told.old.items ++ refused_text answers.now text) }
+{
+    push_count(told, b"\nrefused ", count(answers, &Kind::Refused))?;
     push_count(told, b" text ", text)?;
     told.push(b'\n')?;
     Ok(())
@@ -68,40 +83,35 @@ fn push_count(told: &mut Vec<u8>, label: &[u8], count: usize) -> Result<(), NoMe
     Ok(())
 }
 
-fn makes(answers: &[Answer]) -> usize
-    ensures { result ≡ asked is_make answers.now }
-{
-    answers.iter().filter(|a| is_make(&a.request)).count()
+/// What is counted: the answers to requests of a verb, of none of these, and the refusals.
+enum Kind {
+    Make,
+    Read,
+    Write,
+    Free,
+    Other,
+    Refused,
 }
 
-fn reads(answers: &[Answer]) -> usize
-    ensures { result ≡ asked is_read answers.now }
+/// How many answers are of the kind.
+fn count(answers: &[Answer], kind: &Kind) -> usize
+    ensures { result ≡ count_by (is_of kind.now) answers.now }
 {
-    answers.iter().filter(|a| is_read(&a.request)).count()
+    answers.iter().filter(|a| is_of(a, kind)).count()
 }
 
-fn writes(answers: &[Answer]) -> usize
-    ensures { result ≡ asked is_write answers.now }
+/// Whether the answer is of the kind.
+fn is_of(answer: &Answer, kind: &Kind) -> bool
+    ensures { result ≡ is_of kind.now answer.now }
 {
-    answers.iter().filter(|a| is_write(&a.request)).count()
-}
-
-fn frees(answers: &[Answer]) -> usize
-    ensures { result ≡ asked is_free answers.now }
-{
-    answers.iter().filter(|a| is_free(&a.request)).count()
-}
-
-fn others(answers: &[Answer]) -> usize
-    ensures { result ≡ asked is_other answers.now }
-{
-    answers.iter().filter(|a| is_other(&a.request)).count()
-}
-
-fn refusals(answers: &[Answer]) -> usize
-    ensures { result ≡ refused answers.now }
-{
-    answers.iter().filter(|a| is_refusal(&a.reply)).count()
+    match kind {
+        Kind::Make => is_make(&answer.request),
+        Kind::Read => is_read(&answer.request),
+        Kind::Write => is_write(&answer.request),
+        Kind::Free => is_free(&answer.request),
+        Kind::Other => is_other(&answer.request),
+        Kind::Refused => is_refusal(&answer.reply),
+    }
 }
 
 fn is_make(request: &Request) -> bool

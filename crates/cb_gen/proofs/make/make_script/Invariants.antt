@@ -7,7 +7,8 @@ use Rattle.cb_gen.proofs.make.make_script.Given as goal
 abbrev pub invariant-loop-line : goal.invariant-loop-line
 invariant-loop-line l =
     record {
-      lines : record { lines = l.drawn; left = l.draws.state } ≡ drawn_lines l.fn.seed l.fn.lanes l._line;
+      lines : record { lines = l.drawn; left = l.draws.state } ≡ drawn_lines l.fn.seed l.fn.lanes
+          l._line;
       count : length l.drawn ≡ l._line;
       noted : AreNoted l.made l.drawn;
     }
