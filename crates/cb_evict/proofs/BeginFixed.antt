@@ -1,5 +1,5 @@
 -- A begin is fixed: one reply, one set of words and one far state.
-use Rattle.std.proofs.Common.{◌≡◌, ℕ, suc, ◌+◌, ◌*◌, List, [], ◌∷◌, ◌++◌, length, take, map, All, None, Some, refl, sym, ap, ◌∙◌, arith, inl, inr}
+use Rattle.std.proofs.Common.{◌≡◌, ℕ, suc, ◌*◌, List, [], ◌∷◌, ◌++◌, length, take, map, All, None, Some, refl, sym, ap, ◌∙◌, arith, inl, inr}
 use Rattle.std.proofs.lemmas.List.{append_cancel_left, ext_get_or, get_or_append_left, length-map}
 use Rattle.cb_gf256.specs.InRange.{IsInRange}
 use Rattle.cb_types.specs.declared.reply.Reply.{Reply}

@@ -1,12 +1,12 @@
 -- The end of an eviction: rows are read and put, objects are put away, or given back.
-use Rattle.std.proofs.Common.{◌≡◌, ℕ, ◌+◌, ◌*◌, ◌<◌, Bool, false, List, [], ◌++◌, length, get_or, All, Option, Some, sym, refl, ap, ◌∙◌, subst, arith}
+use Rattle.std.proofs.Common.{◌≡◌, ℕ, ◌+◌, ◌*◌, ◌^◌, ◌<◌, Bool, false, List, [], ◌++◌, length, get_or, All, Option, Some, sym, refl, ap, ◌∙◌, subst, arith}
 use Rattle.std.specs.List.{Contains, slice_get}
-use Rattle.std.proofs.lemmas.List.{get_or_append_left, get_or_default}
+use Rattle.std.proofs.lemmas.List.{get_or_default}
 use Rattle.std.proofs.lemmas.List.Elements.{All-contains}
-use Rattle.std.proofs.lemmas.Option.{slice_get_within, get_or_from_slice_get}
+use Rattle.std.proofs.lemmas.Option.{slice_get-get_or, slice_get_within, get_or_from_slice_get}
 use Rattle.cb_gf256.specs.CodeWord.{IsCodeWord}
 use Rattle.cb_gf256.specs.InRange.{IsInRange}
-use Rattle.cb_gf256.specs.Rows.{row_at}
+use Rattle.cb_gf256.specs.Rows.{row_at, HoldBytes}
 use Rattle.cb_member.specs.declared.names.Shard.{Shard}
 use Rattle.cb_span.specs.Contents.{Contents}
 use Rattle.cb_types.specs.declared.config.Config.{Config}
@@ -22,9 +22,11 @@ use Rattle.cb_world.specs.Looks.{NoLook}
 use Rattle.cb_world.specs.Written.{Writes, written_by}
 use Rattle.cb_world.specs.FarState.{FarState, handle_in}
 use Rattle.cb_world.specs.LocalSound.{LocalSound}
+use Rattle.cb_world.specs.RowWords.{row_of}
 use Rattle.cb_world.specs.Sound.{Sound}
 use Rattle.cb_world.proofs.Laws.{played_append, written_append, frame_owned}
 use Rattle.cb_evict.specs.Candidates.{candidates}
+use Rattle.cb_evict.specs.Beginning.{AreParities}
 use Rattle.cb_evict.specs.Claims.{AreClaimed}
 use Rattle.cb_evict.specs.Claiming.{IsOne}
 use Rattle.cb_evict.specs.Closing.{HaveHomes, with_homes}
@@ -34,12 +36,12 @@ use Rattle.cb_evict.specs.EvictRule.{HasEvicted}
 use Rattle.cb_evict.specs.Evicting.{AreTaken, IsReady, TouchesSpans}
 use Rattle.cb_evict.specs.Loading.{LiesInOne, OwnsFrame, IsRowOf}
 use Rattle.cb_evict.specs.Looking.{IsIn}
-use Rattle.cb_evict.specs.Sending.{AreSent}
-use Rattle.cb_evict.specs.Storing.{AreShards, KeepsSet, with_set}
+use Rattle.cb_evict.specs.Storing.{KeepsSet, with_set}
 use Rattle.cb_evict.proofs.Events.{AreReads, touches_append, touches_more, no_look_append, told_words, told_objects}
 use Rattle.cb_evict.proofs.Evicts.{Done, after_far, rule_then, sound_then, effect_then, told_before}
 use Rattle.cb_evict.proofs.Owned.{claimed_held}
 use Rattle.cb_evict.proofs.Standing.{IsReadyFrame, ready_frame}
+use Rattle.cb_evict.proofs.TakenGroup.{AreRead, frame_rows, rows_read}
 
 -- ---- the frames that were taken
 pub taken_ready : (c : Config) (far : FarState) (frames : List ℕ) (formers : List Former) (s : Shown)
@@ -75,42 +77,51 @@ code_range c ok = record {
   parities_most = (ok R).1;
 }
 
-pub done : (c : Config) (far mid : FarState) (frames : List ℕ) (formers : List Former)
-    (shards : List Shard) (coded : List (List ℕ)) (homes : List (Option Home))
-    (shows : Shown → Type 0) (before : List Event) (s u : Shown)
+-- the parities of a set that is kept
+pub kept_parities : {far mid : FarState} (shards : List Shard) (frames : List ℕ) (n : ℕ)
+    (coded : List (List ℕ)) → length shards ≡ n → (kept : KeepsSet far mid shards frames coded)
+    → AreParities (length frames) n coded kept.parities
+kept_parities shards frames n coded count kept =
+    record { count = sym kept.count ∙ count; word = kept.word; bytes = kept.bytes }
+
+-- what is known once the rows are read and coded
+pub are_read : (c : Config) (far : FarState) (frames : List ℕ) (formers : List Former)
+    (coded parities : List (List ℕ)) (shows : Shown → Type 0) (before : List Event) (s : Shown)
     → IsAccepted c → IsReady shows far formers before s → AreTaken c far frames formers
-    → AreSent (played before s) u formers → AreShards far (c.k + c.r) shards
-    → (kept : KeepsSet far mid shards frames coded) → length coded ≡ length frames
+    → AreParities (length frames) (c.k + c.r) coded parities → length coded ≡ length frames
     → ((p f : ℕ) → slice_get frames p ≡ Some f → IsRowOf shows f (row_at coded p))
-    → HaveHomes far.spans frames far.counts.sets far.homes homes
-    → Done c far frames formers shards (coded ++ kept.parities) homes before s (played before s) u
-done c far mid frames formers shards coded homes shows before s u ok r taken sent chosen kept count made homed =
-    let few : length kept.parities ≡ c.r = omega (arith, kept.count, chosen.count, taken.count) in record {
-      sound = r.sound;
-      claimed = r.claimed;
-      here = r.here;
-      taken = taken;
-      sent = sent;
-      chosen = chosen;
-      range = code_range c ok;
-      word = subst (λ (n : ℕ). IsCodeWord n c.r (coded ++ kept.parities)) taken.count
-          (subst (λ (n : ℕ). IsCodeWord (length frames) n (coded ++ kept.parities)) few kept.word);
-      bytes = kept.bytes;
-      made = λ p f at.
-          let within = slice_get_within frames p f at in
-          let m = made p f at in
-          let same : row_at (coded ++ kept.parities) p ≡ row_at coded p =
-          get_or_append_left coded kept.parities [] p (omega (arith, within, count)) in
-          let x : Contains frames f = (p, within, get_or_from_slice_get frames p f f at) in record {
-            words = m.words;
-            count = m.count;
-            small = m.small;
-            made = same ∙ m.made;
-            contents = m.contents (played before s) r.shown
-                (owns_taken c far frames formers before s (played before s) taken r.sound.here r.here r.claimed f x);
-          };
-      homed = homed;
-    }
+    → AreRead c far frames formers parities before s (played before s)
+    × (coded ≡ frame_rows (played before s) frames)
+are_read c far frames formers coded parities shows before s ok r taken a count made =
+    let t = played before s in
+    let owned = owns_taken c far frames formers before s t taken r.sound.here r.here r.claimed in
+    let few : length parities ≡ c.r = omega (arith, a.count, taken.count) in
+    let same : coded ≡ frame_rows t frames = rows_read t frames coded count (λ p f at.
+    let m = made p f at in
+    m.made ∙ ap row_of (m.contents t r.shown (owned f (placed frames p f at)))) in (
+      record {
+        sound = r.sound;
+        claimed = r.claimed;
+        here = r.here;
+        taken = taken;
+        range = code_range c ok;
+        few = few;
+        word = subst (λ (rows : List (List ℕ)). IsCodeWord c.k c.r (rows ++ parities)) same
+            (subst (λ (n : ℕ). IsCodeWord n c.r (coded ++ parities)) taken.count
+            (subst (λ (n : ℕ). IsCodeWord (length frames) n (coded ++ parities)) few a.word));
+        bytes = subst (λ (rows : List (List ℕ)). HoldBytes (rows ++ parities)) same a.bytes;
+        small = λ f (p, within, at).
+            let e : slice_get frames p ≡ Some f =
+            slice_get-get_or frames p f within ∙ ap (λ (n : ℕ). Some n) at in
+            let m = made p f e in
+            subst (λ (ws : List ℕ). All (λ w. w < 2 ^ 64) ws) (m.contents t r.shown (owned f (p, within, at)))
+            m.small;
+      },
+      same,
+    )
+  where
+    placed : (frames : List ℕ) (p f : ℕ) → slice_get frames p ≡ Some f → Contains frames f
+    placed frames p f at = (p, slice_get_within frames p f at, get_or_from_slice_get frames p f f at)
 
 -- all that is promised of the events of the end
 pub record Ended (c : Config) (far new : FarState) (frames : List ℕ) (before events : List Event)
@@ -141,28 +152,32 @@ end_played q formers before ls ss s e = played_append before (ls ++ ss) s
     ∙ played_append ls ss (played before s) ∙ ap (played ss) (e.reads.stays (played before s))
 
 pub ended : (c : Config) (far new : FarState) (frames : List ℕ) (formers : List Former)
-    (shards : List Shard) (rows : List (List ℕ)) (homes : List (Option Home))
+    (shards : List Shard) (coded parities : List (List ℕ)) (homes : List (Option Home))
     (q o p : ℕ → Type 0) (before ls ss : List Event) (s : Shown)
-    → Done c far frames formers shards rows homes before s (played before s) (played ss (played before s))
-    → IsEnd q formers ls ss → new ≡ after_far far frames shards rows homes → IsSteady before s
+    → Done c far frames formers shards parities homes before s (played before s) (played ss (played before s))
+    → coded ≡ frame_rows (played before s) frames → IsEnd q formers ls ss
+    → new ≡ after_far far frames shards (coded ++ parities) homes → IsSteady before s
     → TouchesOnly o p (before ++ (ls ++ ss)) → Writes ss (played before s) []
     → Ended c far new frames before (ls ++ ss) s
-ended c far new frames formers shards rows homes q o p before ls ss s d e is steady touches nothing =
+ended c far new frames formers shards coded parities homes q o p before ls ss s d read e state steady
+    touches nothing =
     let t = played before s in let u = played ss t in
-    let events = ls ++ ss in
+    let events = ls ++ ss in let rows = frame_rows t frames ++ parities in
+    let is : new ≡ after_far far frames shards rows homes =
+    state ∙ ap (λ (l : List (List ℕ)). after_far far frames shards (l ++ parities) homes) read in
     let quiet = end_quiet q formers ls ss e in
     let same = end_played q formers before ls ss s e in
     let words = told_words o p (before ++ events) s s touches refl refl in
     let told = told_before (IsOne formers) q before events s (end_touches q formers ls ss e) quiet in
     record {
       evicted = subst (λ (x : FarState). HasEvicted c far x frames (before ++ events)) (sym is)
-          (rule_then c far frames formers shards rows homes before s t u d events quiet);
+          (rule_then c far frames formers shards parities homes before s t u d events quiet);
       sound = subst (λ (x : FarState). Sound (played (before ++ events) s) x) (sym is)
           (subst (λ (v : Shown). Sound v (after_far far frames shards rows homes)) (sym same)
-          (sound_then c far frames formers shards rows homes before s t u d));
+          (sound_then c far frames formers shards parities homes before s t u d));
       effect = subst (λ (x : FarState). IsEvicted far x (before ++ events) s (played (before ++ events) s)) (sym is)
           (subst (λ (v : Shown). IsEvicted far (after_far far frames shards rows homes) (before ++ events) s v) (sym same)
-          (effect_then c far frames formers shards rows homes before s t u d events quiet
+          (effect_then c far frames formers shards parities homes before s t u d events quiet
           (λ h none. d.sent.hots h none
           ∙ ap (λ (l : List Bool). get_or l h false) (steady.hots ∙ sym (ap (λ (x : Shown). x.hots) told)))
           (told_objects (before ++ events) s).0

@@ -15,6 +15,9 @@ pub mod Standing
 mod Owned
 mod NewSet
 pub mod Gone
+mod Group
+mod PutAway
+mod TakenGroup
 mod Evicts
 mod Ending
 mod Restored
@@ -40,7 +43,6 @@ pub mod WhichWait
 mod BatchReady
 mod Commits
 pub mod CommitStep
-pub mod AfterEnds
 pub mod Stays
 pub mod Unwritten
 mod WorkedEnds

@@ -11,7 +11,6 @@ use Rattle.cb_types.specs.declared.reply.Reply.{Reply}
 use Rattle.cb_types.specs.declared.reply.Reply.TheVariants as answer
 use Rattle.cb_world.specs.declared.event.Event.{Event}
 use Rattle.cb_world.specs.declared.shown.Shown.{Shown}
-use Rattle.cb_world.specs.Shown.{IsHeld}
 use Rattle.cb_world.specs.FarSound.{AreRows, of_leaving, batch_rows}
 use Rattle.cb_world.specs.FarState.{FarState, span_in}
 use Rattle.cb_world.specs.Leaving.{LeavingState}
@@ -25,7 +24,7 @@ use Rattle.cb_world.proofs.Laws.{batch_owned}
 use Rattle.cb_world.specs.Still.{IsStill}
 use Rattle.cb_evict.specs.Loading.{LiesIn, LiesInOne, OnlyLoads, LoadsFrame}
 use Rattle.cb_evict.specs.ShipRule.{IsShardFor, ReadsLeaving, ShipEffect, ShipRule, Ships, with_shipped}
-use Rattle.cb_evict.specs.Shipping.{OwnsBatch, PutsNothing, PutsRow}
+use Rattle.cb_evict.specs.Shipping.{PutsNothing, PutsRow}
 use Rattle.cb_evict.specs.Waiting.{PutAtMembers, least_waiting}
 use Rattle.cb_evict.proofs.Events.{are_reads, loads_more, told_words}
 use Rattle.cb_evict.proofs.ShippedFar.{put_sound}

@@ -1,6 +1,6 @@
 -- What an eviction and the steps of a batch leave of the configured sizes and codes, and of what is
 -- counted.
-use Rattle.std.proofs.Common.{◌≡◌, ℕ, ◌+◌, ◌≤◌, true, false, List, [], ◌∷◌, length, Some, None, inl, inr, refl, sym, ap, ◌∙◌, subst, arith, length-set, take}
+use Rattle.std.proofs.Common.{◌≡◌, ℕ, ◌+◌, true, false, List, [], ◌∷◌, length, Some, None, inl, inr, refl, sym, ap, ◌∙◌, subst, arith, length-set, take}
 use Rattle.std.proofs.lemmas.List.{length-map, length-take-le}
 use Rattle.cb_member.specs.declared.names.Shard.{Shard}
 use Rattle.cb_node.specs.NodesState.{NodesState, with_dropped, with_row}

@@ -12,9 +12,8 @@ use Rattle.cb_member.specs.declared.names.Shard.{Shard}
 use Rattle.cb_member.specs.Membership.{fresh_members}
 use Rattle.cb_member.proofs.Laws.{fresh-IsMembership}
 use Rattle.cb_node.specs.NodesState.{empty_nodes, row_at as row_under}
-use Rattle.cb_ptr.specs.declared.word.State.TheVariants as word
 use Rattle.cb_ptr.specs.Steps.{Claims}
-use Rattle.cb_ptr.specs.Word.{hot_of, len_of, place_of, state_of}
+use Rattle.cb_ptr.specs.Word.{hot_of, len_of, place_of}
 use Rattle.cb_ptr.proofs.Laws.{claims}
 use Rattle.cb_set.specs.SetState.{SetState}
 use Rattle.cb_span.specs.declared.temp.Temp.TheVariants.{Cold}

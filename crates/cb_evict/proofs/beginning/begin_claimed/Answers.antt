@@ -14,9 +14,9 @@ use Rattle.cb_world.proofs.Laws.{allowed_append}
 use Rattle.cb_evict.specs.Claims.{AreApart, IsHeldAt}
 use Rattle.cb_evict.specs.Evicting.{IsReady}
 use Rattle.cb_evict.specs.Loading.{LiesInOne}
-use Rattle.cb_evict.proofs.BeginEnd.{begins, starts, reads_in, batch_then, loads_as, parities_as, backs_as, blank_count}
+use Rattle.cb_evict.proofs.BeginEnd.{starts, reads_in, batch_then, loads_as, parities_as, backs_as, blank_count}
 use Rattle.cb_evict.proofs.Events.{are_reads, first_append}
-use Rattle.cb_evict.proofs.Ending.{taken_ready, place_in, handles_all, code_range, IsEnd, end_quiet, taken_in, spans_touched, frames_below}
+use Rattle.cb_evict.proofs.Ending.{are_read, taken_ready, place_in, handles_all, code_range, IsEnd, end_quiet, taken_in, spans_touched, frames_below}
 use Rattle.cb_evict.proofs.Restored.{batch_back}
 use Rattle.cb_evict.proofs.beginning.begin_claimed.Goals as goal
 
@@ -118,10 +118,10 @@ returns-in-Ok-clause-begun g c =
     c.in-Ok.parities c.args.blank.now c.args.shards.items c.deref-2.ensures.value c.in-Ok.ensures.state
     c.note_batch-set.ensures.state c.requires.blank c.requires.shards in
     let all = λ (before : List Event) (s : Shown) (r : IsReady shows far formers before s).
-    starts config far c.note_batch-set.new.far frames formers c.load_frames.new.rows c.in-Ok.parities before x.events s
-    (begins config far frames formers c.load_frames.new.rows c.in-Ok.parities shows before s
-    c.requires.config c.requires.none r c.requires.taken made
-    (c.load_frames.ensures.count ∙ c.requires.rows.0) x.made)
+    starts config far c.note_batch-set.new.far frames formers c.in-Ok.parities before x.events s
+    (are_read config far frames formers c.load_frames.new.rows c.in-Ok.parities shows before s
+    c.requires.config r c.requires.taken made (c.load_frames.ensures.count ∙ c.requires.rows.0) x.made).0
+    c.requires.none
     reads is r.steady r.touches in
     record {
       events = x.events;

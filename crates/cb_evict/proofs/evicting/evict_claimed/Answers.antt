@@ -13,7 +13,7 @@ use Rattle.cb_evict.specs.Evicting.{IsReady}
 use Rattle.cb_evict.specs.Loading.{LiesInOne}
 use Rattle.cb_evict.proofs.Events.{are_reads, first_append}
 use Rattle.cb_evict.proofs.Evicts.{told_all}
-use Rattle.cb_evict.proofs.Ending.{taken_ready, place_in, handles_all, code_range, done, IsEnd, end_quiet, ended, state_then, homes_then, taken_in, spans_touched, frames_below}
+use Rattle.cb_evict.proofs.Ending.{taken_ready, place_in, handles_all, are_read, code_range, kept_parities, IsEnd, end_quiet, ended, state_then, homes_then, taken_in, spans_touched, frames_below}
 use Rattle.cb_evict.proofs.NewSet.{can_put, have_room}
 use Rattle.cb_evict.proofs.Restored.{batch_back}
 use Rattle.cb_evict.proofs.Standing.{are_unique}
@@ -162,12 +162,19 @@ returns-in-Ok-clause-evict g c =
     let sized = g.met.D.Desk.sized _ (played before s) r.shown in
     told_all far before s (played before s) formers r.claimed r.here (sized.1 ∙ sym sized.0) in
     let all = λ (before : List Event) (s : Shown) (r : IsReady shows far formers before s).
-    ended (g.D.Desk.settings c.args.desk.now) far c.close_spans.new.far frames formers c.args.shards.now _
-    c.close_spans.new.far.homes (LiesInOne frames) _ _ before x.events y.events s
-    (done (g.D.Desk.settings c.args.desk.now) far c.keep_set.new.far frames formers c.args.shards.now
-    c.load_frames.new.rows c.close_spans.new.far.homes shows before s _ c.requires.config r
-    c.requires.taken (y.sent (played before s) (shown before s r) (told before s r)) c.requires.shards
-    kept (search rules) x.made homed)
+    let read = are_read (g.D.Desk.settings c.args.desk.now) far frames formers c.load_frames.new.rows
+    kept.parities shows before s c.requires.config r c.requires.taken
+    (kept_parities c.args.shards.now frames _ c.load_frames.new.rows c.requires.shards.count kept)
+    (search rules) x.made in
+    ended (g.D.Desk.settings c.args.desk.now) far c.close_spans.new.far frames formers c.args.shards.now
+    c.load_frames.new.rows kept.parities c.close_spans.new.far.homes (LiesInOne frames) _ _ before
+    x.events y.events s
+    (record {
+      read = read.0;
+      sent = y.sent (played before s) (shown before s r) (told before s r);
+      chosen = c.requires.shards;
+      homed = homed;
+    }) read.1
     end is r.steady
     (spans_touched _ far frames formers (LiesInOne frames) before x.events y.events s c.requires.taken
     r.touches end)
