@@ -25,10 +25,8 @@ use Rattle.cb_evict.specs.Looking.{IsIn}
 use Rattle.cb_evict.specs.Restoring.{AreRestored, IsHereAt, IsRestoring, Restores}
 use Rattle.cb_evict.proofs.Events.{touches_more}
 use Rattle.cb_evict.proofs.Group.{IsGroup, IsQuiet, claimed_not_far, either, here_beside, here_not_far, leaving_group, now_without, quiet_away}
-use Rattle.cb_evict.proofs.Noted.{claimed_all, same_batch}
-
-none_some : {X : Type 0} (a : X) → None ≡ Some a → ⊥
-none_some a e = cc
+use Rattle.cb_evict.proofs.Noted.{claimed_all}
+use Rattle.cb_evict.proofs.Options.{none_some, some_same}
 
 -- in a sound world the objects of the leaving batch are here again
 module _ (s t : Shown) (far : FarState) (batch : LeavingState) (sound : Sound s far)
@@ -154,7 +152,7 @@ aborts runs shows far new batch there state warm r = record {
           same_now = now_restored s (played r.events s) far batch k.1 there (restoring s k).restored;
         } in
         subst (λ (c : LeavingState). IsAborted far new c r.events s (played r.events s))
-        (same_batch batch b (sym there ∙ at))
+        (some_same batch b (sym there ∙ at))
         (subst (λ (f : FarState). IsAborted far f batch r.events s (played r.events s)) (sym state) z);
     left = λ none. absurd (none_some batch (sym none ∙ there));
   };

@@ -22,6 +22,7 @@ use Rattle.cb_evict.proofs.Loose.{names_has, contains_head, contains_tail}
 use Rattle.cb_evict.proofs.LooseSpans.{loose_free}
 use Rattle.cb_evict.proofs.Standing.{names_span}
 use Rattle.cb_evict.proofs.Trying.{taken_of}
+use Rattle.cb_evict.proofs.Options.{none_some, some_same}
 
 -- ---- the steps
 -- what a step that makes no set leaves holds of it, and what the others leave
@@ -57,12 +58,6 @@ evict_versions x y far new r step = by_step (λ u f. u.versions ≡ x.versions) 
     (λ m. m.evicted.sent.versions)
 
 -- ---- the objects that leave
-none_some : (h : ℕ) → None ≡ Some h → ⊥
-none_some h e = cc
-
-some_same : (a b : ℕ) → Some a ≡ Some b → a ≡ b
-some_same a b e = cc
-
 option_is : (o : Option ℕ) (h : ℕ) → (o ≡ Some h) ⊎ (o ≡ Some h → ⊥)
 option_is None h = inr (none_some h)
 option_is (Some n) h = elim (cases_eq n h) [

@@ -1,5 +1,5 @@
 -- The sound world once its leaving batch is committed.
-use Rattle.std.proofs.Common.{◌≡◌, ◌⊎◌, ℕ, ◌<◌, true, false, List, length, get_or, Option, Some, None, sym, ap, ◌∙◌, arith, inl, inr}
+use Rattle.std.proofs.Common.{◌≡◌, ◌⊎◌, ℕ, ◌<◌, true, false, List, length, get_or, Option, Some, sym, ap, ◌∙◌, arith, inl, inr}
 use Rattle.std.specs.List.{slice_get}
 use Rattle.std.specs.FinMap as map
 use Rattle.std.proofs.lemmas.Option.{slice_get-get_or}
@@ -26,11 +26,8 @@ use Rattle.cb_evict.specs.Sending.{AreSent}
 use Rattle.cb_evict.proofs.Group.{leaving_group, now_without}
 use Rattle.cb_evict.proofs.NamesShards.{put_count, put_place, removed_other}
 use Rattle.cb_evict.proofs.NewSet.{set_added_in, set_others}
-use Rattle.cb_evict.proofs.Noted.{same_batch}
 use Rattle.cb_evict.proofs.PutAway.{IsPutAway, now_away, sound_away}
-
-none_some : {X : Type 0} (a : X) → None ≡ Some a → ⊥
-none_some a e = cc
+use Rattle.cb_evict.proofs.Options.{none_some, some_same}
 
 -- in a sound world the batch that is leaving has all its rows put, and its objects were put away
 pub record Done (s t : Shown) (far : FarState) (batch : LeavingState) (homes : List (Option Home))
@@ -133,7 +130,7 @@ module _ (s t : Shown) (far : FarState) (batch : LeavingState) (homes : List (Op
       (λ q shard there same. other_key (of_joining p) a is (joining_leaving p) q shard there (same ∙ sym k))
       ∙ at)
   row_of_whom node key row (of_leaving p) a at (b, was, is) n k =
-      let e = same_batch b batch (sym was ∙ d.there) in
+      let e = some_same b batch (sym was ∙ d.there) in
       let x = put_at batch.shards p a (ap (λ (l : LeavingState). slice_get l.shards p) (sym e) ∙ is) in
       inr (x.0, a, x.1, n, k)
 

@@ -15,15 +15,14 @@ use Rattle.cb_world.proofs.Laws.{played_append, written_append}
 use Rattle.cb_evict.specs.Candidates.{candidates}
 use Rattle.cb_evict.specs.Events.{TouchesOnly, IsSteady}
 use Rattle.cb_evict.specs.Evicting.{TouchesSpans}
-use Rattle.cb_evict.specs.Claiming.{GivesBack}
 use Rattle.cb_evict.specs.Loading.{LiesInOne, LoadsFrames}
 use Rattle.cb_evict.specs.Looking.{IsIn}
 use Rattle.cb_evict.specs.BeginRule.{blank_shard, blank_shards, with_batch, HasBegun}
 use Rattle.cb_evict.specs.BeginEffect.{IsBegun}
 use Rattle.cb_evict.specs.Beginning.{with_reserved, AreParities}
 use Rattle.cb_evict.proofs.Begun.{sound_begun, rule_begun, effect_begun}
-use Rattle.cb_evict.proofs.Ending.{in_candidates}
-use Rattle.cb_evict.proofs.Events.{AreReads, touches_append, touches_more, told_words, told_objects}
+use Rattle.cb_evict.proofs.Ending.{spans_touched}
+use Rattle.cb_evict.proofs.Events.{AreReads, touches_more, told_words, told_objects}
 use Rattle.cb_evict.proofs.Evicts.{told_before}
 use Rattle.cb_evict.proofs.TakenGroup.{AreRead}
 
@@ -50,8 +49,7 @@ starts c far new frames formers parities before ls s d none reads is steady touc
     let t = played before s in
     let same : played (before ++ ls) s ≡ t = played_append before ls s ∙ reads.stays t in
     let in_spans = IsIn far.spans (candidates far) in
-    let touches = touches_append in_spans (LiesInOne (candidates far)) before ls touched
-    (in_candidates c far frames formers d.taken ls (reads_in far frames ls reads)) in
+    let touches = spans_touched far frames before ls d.taken.among touched (reads_in far frames ls reads) in
     let words = told_words in_spans (LiesInOne (candidates far)) (before ++ ls) s s touches refl refl in
     let told = told_before (λ h. ⊥) (LiesInOne frames) before ls s reads.touches reads.quiet in
     record {
@@ -112,7 +110,3 @@ pub parities_as : (j m k n : ℕ) (rows parities : List (List ℕ)) → j ≡ k 
 parities_as j m k n rows parities e f a =
     subst (λ (i : ℕ). AreParities i n rows parities) e
     (subst (λ (i : ℕ). AreParities j i rows parities) f a)
-
-pub backs_as : (runs : List Event → Type 0) (shows : Shown → Type 0) (hs formers : List Former)
-    → hs ≡ formers → GivesBack runs shows hs → GivesBack runs shows formers
-backs_as runs shows hs formers e x = subst (λ (l : List Former). GivesBack runs shows l) e x

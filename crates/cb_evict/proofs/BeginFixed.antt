@@ -21,6 +21,7 @@ use Rattle.cb_evict.specs.Order.{noted_of}
 use Rattle.cb_evict.proofs.AfterEvict.{in_or_not}
 use Rattle.cb_evict.proofs.Ending.{code_range}
 use Rattle.cb_evict.proofs.EvictFixed.{first_loose}
+use Rattle.cb_evict.proofs.Options.{none_some}
 
 -- ---- the words that are noted
 -- the word of an object at the desk
@@ -85,9 +86,6 @@ begun_fixed x y z far new other r q range a b =
     let ends = batch_fixed x y z far new other (take x.settings.k (loose_frames x far)) range
     (first_loose x far a.enough) a.begun b.begun in
     record { reply = a.reply ∙ sym b.reply; words = ends.0; far = ends.1 }
-
-none_some : {A : Type 0} (a : A) → None ≡ Some a → ⊥
-none_some a e = cc
 
 pub leaving_or_not : (far : FarState) (batch : LeavingState) → far.leaving ≡ Some batch
     → far.leaving ≡ None → ⊥

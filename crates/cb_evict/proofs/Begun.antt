@@ -39,11 +39,9 @@ use Rattle.cb_evict.specs.BeginRule.{blank_shards, blank_shard, new_batch, with_
 use Rattle.cb_evict.specs.BeginEffect.{IsBegun}
 use Rattle.cb_evict.proofs.Group.{either, here_beside, out_none, unique}
 use Rattle.cb_evict.proofs.TakenGroup.{AreRead, frame_rows, group_range, group_word, now_told, row_at_frame, rows_told, span_word, taken_group, told_one}
+use Rattle.cb_evict.proofs.Options.{none_some}
 
 -- ---- a set that is not committed
-none_some : {X : Type 0} (a : X) → None ≡ Some a → ⊥
-none_some a e = cc
-
 by_cmp-other : (q k : ℕ) → q ≢ k → eq_by_cmp nat_cmp q k ≡ false
 by_cmp-other q k other = grind (arith, nat_tests)
 

@@ -29,8 +29,8 @@ use Rattle.cb_evict.proofs.Aborted.{still_none}
 use Rattle.cb_evict.proofs.BatchCommitted.{Done, sound_committed, now_committed}
 use Rattle.cb_evict.proofs.BatchReady.{told_all}
 use Rattle.cb_evict.proofs.Events.{touches_more}
-use Rattle.cb_evict.proofs.Noted.{same_batch}
 use Rattle.cb_evict.proofs.WhichWait.{all_stand}
+use Rattle.cb_evict.proofs.Options.{some_same}
 
 -- ---- the refusals
 pub no_batch_set : (id : SetId) → answer.NoBatch ≡ answer.Set id → ⊥
@@ -166,7 +166,7 @@ commits runs shows far new batch id same there whole state homes warm r = record
   effect = λ s k. record {
     committed = λ b n at e.
         subst (λ (c : LeavingState). IsCommitted far new c r.events s (played r.events s))
-        (same_batch batch b (sym there ∙ at)) (record {
+        (some_same batch b (sym there ∙ at)) (record {
           sent = (done s k).sent;
           nothing = r.nothing s k.0 (told_all s far batch k.1 there (warm s k.0));
           same_now = λ h. subst (λ (f : FarState). now (played r.events s) f h ≡ now s far h) (sym state)

@@ -1,5 +1,5 @@
 -- The parts of an eviction one after another.
-use Rattle.std.proofs.Common.{◌≡◌, ◌≢◌, ◌⊎◌, ℕ, ◌+◌, ◌<◌, ◌≤◌, List, [], ◌∷◌, ◌++◌, length, get_or, All, Option, replicate, sym, refl, ap, ◌∙◌, subst, arith, inl, inr}
+use Rattle.std.proofs.Common.{◌≡◌, ◌≢◌, ◌⊎◌, ℕ, ◌+◌, ◌<◌, ◌≤◌, List, [], ◌∷◌, ◌++◌, length, get_or, All, Option, replicate, take, sym, refl, ap, ◌∙◌, subst, arith, inl, inr}
 use Rattle.std.specs.Prelude.{Result, Ok, Err, IfOk, OnOk, OnErr}
 use Rattle.std.specs.List.{Contains, AllPairs}
 use Rattle.std.proofs.lemmas.List.{append-nil, append_assoc, take_at, length-append, length-replicate, get_or-replicate, get_or_default}
@@ -23,17 +23,15 @@ use Rattle.cb_world.specs.Written.{written_by}
 use Rattle.cb_world.specs.Still.{IsStill}
 use Rattle.cb_world.specs.FarState.{FarState}
 use Rattle.cb_world.specs.Now.{now}
-use Rattle.cb_world.specs.LocalSound.{LocalSound}
 use Rattle.cb_world.specs.Sound.{Sound}
 use Rattle.cb_world.specs.Performs.{Performs}
 use Rattle.cb_world.proofs.Laws.{taken_before, played_append, told_append, written_append, allowed_append}
 use Rattle.cb_evict.specs.Candidates.{candidates, AreLoose}
-use Rattle.cb_evict.specs.Claims.{AreClaimed}
-use Rattle.cb_evict.specs.Claiming.{IsOne, GivesBack, ClaimsSpans}
+use Rattle.cb_evict.specs.Claiming.{GivesBack, ClaimsSpans}
 use Rattle.cb_evict.specs.Events.{TouchesOnly, OnlyLooks}
 use Rattle.cb_evict.specs.EvictEffect.{IsAway, IsEvicted, EvictEffect}
 use Rattle.cb_evict.specs.EvictRule.{IsInRow, HasEvicted, HasFewSpans, HasFewNodes, HasBoth, EvictRule}
-use Rattle.cb_evict.specs.Evicting.{TouchesSpans, RuleAfter, CountsAfter, AreTaken, IsReady, EvictsClaimed, LeavesClaimed}
+use Rattle.cb_evict.specs.Evicting.{TouchesSpans, RuleAfter, CountsAfter, AreTaken, IsReady, EndsClaimed, EvictsClaimed, LeavesClaimed}
 use Rattle.cb_evict.specs.declared.eviction.Eviction.{Eviction}
 use Rattle.cb_evict.specs.declared.eviction.Eviction.TheVariants as eviction
 use Rattle.cb_evict.specs.declared.eviction.Lack.TheVariants as lack
@@ -41,10 +39,9 @@ use Rattle.cb_evict.specs.Eviction.{CountsRule, TellsCounts, reply_of}
 use Rattle.cb_evict.specs.Finding.{FindsFew}
 use Rattle.cb_evict.specs.Loading.{LiesInOne}
 use Rattle.cb_evict.specs.Looking.{IsIn, LooksOver}
-use Rattle.cb_evict.proofs.Claims.{claims_back}
-use Rattle.cb_evict.proofs.Events.{touches_append, touches_more, found_after, first_append, looks_before, looks_change, looks_steady, steady_append}
+use Rattle.cb_evict.proofs.Events.{touches_append, touches_more, found_after, first_append, looks_before, looks_change, looks_steady, are_reads}
 use Rattle.cb_evict.proofs.Loose.{loose_among, all_quiet, apart_tail, fresh_head}
-use Rattle.cb_evict.proofs.Restored.{restored, looked}
+use Rattle.cb_evict.proofs.Restored.{gives_back_ends, looked}
 use Rattle.cb_evict.proofs.Standing.{candidates_apart}
 
 -- ---- by the result
@@ -239,7 +236,32 @@ looks_as runs spans ys frames gs loose hs e f h x =
     (subst (λ (l : List ℕ). LooksOver runs ys l loose) f
     (subst (λ (l : List ℕ). LooksOver runs ys gs l) h x))
 
--- the looks, and then the rest
+-- the looks, and then the rest: what that meets and does is carried over them
+pub looks_more : (far new : FarState) (loose : List ℕ) (rule after : List Event → Type 0)
+    (does : List Event → Shown → Shown → Type 0) (runsA runsB runsC : List Event → Type 0)
+    (showsA showsB : Shown → Type 0) → (x : LooksOver runsA far.spans (candidates far) loose)
+    → Performs runsB (λ s. showsB s × Sound s far) after (λ t. Sound t new) does
+    → ((fs : List Event) → after fs → rule (x.events ++ fs))
+    → ((fs : List Event) (s t : Shown) → does fs (played x.events s) t → does (x.events ++ fs) s t)
+    → ((es fs : List Event) → runsA es → runsB fs → runsC (es ++ fs))
+    → ((es : List Event) (s : Shown) → runsA es → showsA s → showsB (played es s))
+    → Performs runsC (λ s. showsA s × Sound s far) rule (λ t. Sound t new) does
+looks_more far new loose rule after does runsA runsB runsC showsA showsB x y meets moves more shown =
+    let es = x.events in let fs = y.events in
+    let known : (s : Shown) → showsA s × Sound s far → showsB (played es s) × Sound (played es s) far =
+    λ s k. (shown es s x.ran k.0, (looked far es s k.1 x.looks).0) in record {
+      events = es ++ fs;
+      ran = more es fs x.ran y.ran;
+      looks_first = looks_before es fs x.looks y.looks_first;
+      rule = meets fs y.rule;
+      allowed = λ s k. allowed_append es fs s (looks_steady es s x.looks).allowed
+          (y.allowed (played es s) (known s k));
+      sound_after = λ s k. subst (λ (v : Shown). Sound v new) (sym (played_append es fs s))
+          (y.sound_after (played es s) (known s k));
+      effect = λ s k. subst (does (es ++ fs) s) (sym (played_append es fs s))
+          (moves fs s (played fs (played es s)) (y.effect (played es s) (known s k)));
+    }
+
 pub looks_then : (c d : Config) (far new : FarState) (e : Eviction) (loose : List ℕ)
     (runsA runsB runsC : List Event → Type 0) (showsA showsB : Shown → Type 0)
     → d ≡ c → (x : LooksOver runsA far.spans (candidates far) loose)
@@ -249,23 +271,12 @@ pub looks_then : (c d : Config) (far new : FarState) (e : Eviction) (loose : Lis
     → ((es : List Event) (s : Shown) → runsA es → showsA s → showsB (played es s))
     → Performs runsC (λ s. showsA s × Sound s far) (CountsRule c far new e) (λ t. Sound t new)
     (EvictEffect far new (reply_of e))
-looks_then c d far new e loose runsA runsB runsC showsA showsB same x y more shown =
-    let es = x.events in let fs = y.events in
-    let known : (s : Shown) → showsA s × Sound s far → showsB (played es s) × Sound (played es s) far =
-    λ s k. (shown es s x.ran k.0, (looked far es s k.1 x.looks).0) in record {
-      events = es ++ fs;
-      ran = more es fs x.ran y.ran;
-      looks_first = looks_before es fs x.looks y.looks_first;
-      rule = subst (λ (n : Config). CountsRule n far new e (es ++ fs)) same
-          (y.rule es x.finds (looks_touch far es x.touches));
-      allowed = λ s k. allowed_append es fs s (looks_steady es s x.looks).allowed
-          (y.allowed (played es s) (known s k));
-      sound_after = λ s k. subst (λ (v : Shown). Sound v new) (sym (played_append es fs s))
-          (y.sound_after (played es s) (known s k));
-      effect = λ s k. subst (λ (v : Shown). EvictEffect far new (reply_of e) (es ++ fs) s v)
-          (sym (played_append es fs s)) (effect_before far new (reply_of e) es fs s (played fs (played es s)) x.looks
-          (y.effect (played es s) (known s k)));
-    }
+looks_then c d far new e loose runsA runsB runsC showsA showsB same x y =
+    looks_more far new loose (CountsRule c far new e) (CountsAfter d far new e loose)
+    (EvictEffect far new (reply_of e)) runsA runsB runsC showsA showsB x y
+    (λ fs a. subst (λ (n : Config). CountsRule n far new e (x.events ++ fs)) same
+    (a x.events x.finds (looks_touch far x.events x.touches)))
+    (λ fs s t. effect_before far new (reply_of e) x.events fs s t x.looks)
 
 pub looks_fail : (far : FarState) (loose : List ℕ)
     (runsA runsB runsC : List Event → Type 0) (showsA showsB : Shown → Type 0)
@@ -274,23 +285,12 @@ pub looks_fail : (far : FarState) (loose : List ℕ)
     → ((es fs : List Event) → runsA es → runsB fs → runsC (es ++ fs))
     → ((es : List Event) (s : Shown) → runsA es → showsA s → showsB (played es s))
     → Performs runsC (λ s. showsA s × Sound s far) (TouchesSpans far) (λ t. Sound t far) IsStill
-looks_fail far loose runsA runsB runsC showsA showsB x y more shown =
-    let es = x.events in let fs = y.events in
-    let known : (s : Shown) → showsA s × Sound s far → showsB (played es s) × Sound (played es s) far =
-    λ s k. (shown es s x.ran k.0, (looked far es s k.1 x.looks).0) in record {
-      events = es ++ fs;
-      ran = more es fs x.ran y.ran;
-      looks_first = looks_before es fs x.looks y.looks_first;
-      rule = touches_append (IsIn far.spans (candidates far)) (LiesInOne (candidates far)) es fs
-          (looks_touch far es x.touches) y.rule;
-      allowed = λ s k. allowed_append es fs s (looks_steady es s x.looks).allowed
-          (y.allowed (played es s) (known s k));
-      sound_after = λ s k. subst (λ (v : Shown). Sound v far) (sym (played_append es fs s))
-          (y.sound_after (played es s) (known s k));
-      effect = λ s k. subst (λ (v : Shown). IsStill (es ++ fs) s v)
-          (sym (played_append es fs s)) (left_before es fs s (played fs (played es s)) x.looks
-          (y.effect (played es s) (known s k)));
-    }
+looks_fail far loose runsA runsB runsC showsA showsB x y =
+    looks_more far far loose (TouchesSpans far) (TouchesSpans far) IsStill runsA runsB runsC showsA
+    showsB x y
+    (λ fs a. touches_append (IsIn far.spans (candidates far)) (LiesInOne (candidates far)) x.events fs
+    (looks_touch far x.events x.touches) a)
+    (λ fs s t. left_before x.events fs s t x.looks)
 
 -- the looks alone
 pub looks_alone : (far : FarState) (loose : List ℕ) (runs : List Event → Type 0)
@@ -419,26 +419,6 @@ claims_touch far loose es among t = touches_more (IsIn far.spans loose) (IsIn fa
     (λ h (f, c, named). (f, All-contains (Contains (candidates far)) loose f among c, named))
     (λ p x. absurd x) t
 
--- the objects that were claimed
-one_touch : (far : FarState) (loose : List ℕ) (runs : List Event → Type 0) (shows : Shown → Type 0)
-    (k : ℕ) (frames : List ℕ) (formers : List Former) (es : List Event)
-    → All (Contains (candidates far)) loose
-    → (x : ClaimsSpans runs shows far.spans loose k frames formers)
-    → TouchesOnly (IsOne formers) (λ p. ⊥) es → TouchesSpans far es
-one_touch far loose runs shows k frames formers es among x t =
-    touches_more (IsOne formers) (IsIn far.spans (candidates far)) (λ p. ⊥) (LiesInOne (candidates far)) es
-    (λ h (f, c, same). subst (IsIn far.spans (candidates far)) same (wide f.handle
-    (All-contains (λ g. IsIn far.spans frames g.handle) formers f x.of.only c)))
-    (λ p y. absurd y) t
-  where
-    wide : (h : ℕ) → IsIn far.spans frames h → IsIn far.spans (candidates far) h
-    wide h (f, c, named) = (
-      f,
-      All-contains (Contains (candidates far)) loose f among
-          (All-contains (Contains loose) frames f x.among c),
-      named,
-    )
-
 -- the spans that are loose in the end
 pub loose_then : (far : FarState) (loose : List ℕ) (runs : List Event → Type 0) (shows : Shown → Type 0)
     (k : ℕ) (frames : List ℕ) (formers : List Former) (before fs : List Event)
@@ -527,6 +507,63 @@ pub claims_as : (runs : List Event → Type 0) (shows : Shown → Type 0)
 claims_as runs shows spans ys loose k frames formers e x =
     subst (λ (l : List (Option Contents)). ClaimsSpans runs shows l loose k frames formers) e x
 
+-- the claims, and then an end
+pub claims_end : (far new : FarState) (loose : List ℕ) (k : ℕ) (frames : List ℕ)
+    (formers : List Former) (rule ends : List Event → Type 0)
+    (does effect : List Event → Shown → Shown → Type 0)
+    (runsA runsB runsC : List Event → Type 0) (showsA showsB : Shown → Type 0)
+    → (x : ClaimsSpans runsA showsA far.spans loose k frames formers)
+    → (y : EndsClaimed runsB showsB far new frames formers ends does)
+    → All (Contains (candidates far)) loose → rule (x.events ++ y.events)
+    → ((s t : Shown) → does (x.events ++ y.events) s t → effect (x.events ++ y.events) s t)
+    → ((es fs : List Event) → runsA es → runsB fs → runsC (es ++ fs))
+    → ((s : Shown) → showsA s → showsB (played x.events s))
+    → Performs runsC (λ s. showsA s × Sound s far) rule (λ t. Sound t new) effect
+claims_end far new loose k frames formers rule ends does effect runsA runsB runsC showsA showsB x y among
+    meets moves more shown =
+    let es = x.events in let fs = y.events in
+    let ready = λ (s : Shown) (had : showsA s × Sound s far).
+    are_ready far loose frames formers runsA showsA showsB k x among s (shown s had.0) had.0 had.1 in
+    record {
+      events = es ++ fs;
+      ran = more es fs x.ran y.ran;
+      looks_first = first_append (IsIn far.spans loose) (λ p. ⊥) es fs x.touches x.first y.first
+          (λ h t. y.quiet h);
+      rule = meets;
+      allowed = λ s had. allowed_append es fs s (x.claims far s had.0 had.1.here).2.allowed
+          (y.allowed es s (ready s had));
+      sound_after = λ s had. y.sound es s (ready s had);
+      effect = λ s had. moves s (played (es ++ fs) s) (y.effect es s (ready s had));
+    }
+
+-- what is loose in the end, and what was touched
+pub record LeavesLoose (far : FarState) (k : ℕ) (loose : List ℕ) (frames : List ℕ) (es : List Event)
+    : Type 0 where
+  pub found : AreLoose es far.spans (candidates far) loose
+  pub enough : length frames ≡ k → k ≤ length loose
+  pub first : length frames ≡ k → frames ≡ take k loose
+  pub touches : TouchesSpans far es
+
+pub claims_leave : (far new : FarState) (loose : List ℕ) (k : ℕ) (frames : List ℕ)
+    (formers : List Former) (ends : List Event → Type 0) (does : List Event → Shown → Shown → Type 0)
+    (runsA runsB : List Event → Type 0) (showsA showsB : Shown → Type 0)
+    → (x : ClaimsSpans runsA showsA far.spans loose k frames formers)
+    → (y : EndsClaimed runsB showsB far new frames formers ends does)
+    → All (Contains (candidates far)) loose → (before : List Event)
+    → AreLoose before far.spans (candidates far) loose → TouchesSpans far before
+    → LeavesLoose far k (frames ++ x.rest) frames (before ++ (x.events ++ y.events))
+claims_leave far new loose k frames formers ends does runsA runsB showsA showsB x y among before found
+    touches =
+    let es = x.events in let fs = y.events in record {
+      found = loose_then far loose runsA showsA k frames formers before fs x y.quiet found;
+      enough = λ count. let n = length-append frames x.rest in omega (arith, n, count);
+      first = λ count. sym (take_at frames x.rest k count);
+      touches = touches_append (IsIn far.spans (candidates far)) (LiesInOne (candidates far)) before (es ++ fs)
+          touches (touches_append (IsIn far.spans (candidates far)) (LiesInOne (candidates far)) es fs
+          (claims_touch far loose es among x.touches)
+          (wide_touch far loose runsA showsA k frames formers fs among x y.touches));
+    }
+
 -- k spans were claimed and are evicted
 pub claims_then : (c : Config) (far new : FarState) (id : SetId) (r : Reply)
     (loose frames : List ℕ) (formers : List Former)
@@ -543,36 +580,25 @@ pub claims_then : (c : Config) (far new : FarState) (id : SetId) (r : Reply)
     (EvictEffect far new r)
 claims_then c far new id r loose frames formers runsA runsB runsC showsA showsB x y more shown among
     count room number is (s, shows, sound) =
-    let es = x.events in let fs = y.events in
-    let ready = λ (s : Shown) (k : showsA s × Sound s far).
-    are_ready far loose frames formers runsA showsA showsB c.k x among s (shown s k.0) k.0 k.1 in
-    record {
-      events = es ++ fs;
-      ran = more es fs x.ran y.ran;
-      looks_first = first_append (IsIn far.spans loose) (λ p. ⊥) es fs x.touches x.first y.first
-          (λ h t. y.quiet h);
-      rule = λ before found touches. record {
-        loose = frames ++ x.rest;
-        found = loose_then far loose runsA showsA c.k frames formers before fs x y.quiet found;
-        answered = inr (inr (record {
-          enough = let n = length-append frames x.rest in omega (arith, n, count);
-          room = room;
-          reply = is ∙ ap answer.Set number;
-          evicted = subst (λ (l : List ℕ). HasEvicted c far new l (before ++ (es ++ fs)))
-              (sym (take_at frames x.rest c.k count))
-              (evicted_before c far new frames before (es ++ fs) (y.evicted es s (ready s (shows, sound))));
-        }));
-        touches = touches_append (IsIn far.spans (candidates far)) (LiesInOne (candidates far)) before (es ++ fs)
-            touches (touches_append (IsIn far.spans (candidates far)) (LiesInOne (candidates far)) es fs
-            (claims_touch far loose es among x.touches)
-            (wide_touch far loose runsA showsA c.k frames formers fs among x y.touches));
-      };
-      allowed = λ s k. allowed_append es fs s (x.claims far s k.0 k.1.here).2.allowed
-          (y.allowed es s (ready s k));
-      sound_after = λ s k. y.sound es s (ready s k);
-      effect = λ s k. set_effect far new id r (es ++ fs) s (played (es ++ fs) s) is
-          (y.effect es s (ready s k));
-    }
+    let all = x.events ++ y.events in
+    claims_end far new loose c.k frames formers (RuleAfter c far new r loose) (HasEvicted c far new frames)
+    (IsEvicted far new) (EvictEffect far new r) runsA runsB runsC showsA showsB x y among
+    (λ before found touches.
+    let a = claims_leave far new loose c.k frames formers _ _ runsA runsB showsA showsB x y among before
+    found touches in record {
+      loose = frames ++ x.rest;
+      found = a.found;
+      answered = inr (inr (record {
+        enough = a.enough count;
+        room = room;
+        reply = is ∙ ap answer.Set number;
+        evicted = subst (λ (l : List ℕ). HasEvicted c far new l (before ++ all)) (a.first count)
+            (evicted_before c far new frames before all (y.rule x.events s
+            (are_ready far loose frames formers runsA showsA showsB c.k x among s (shown s shows) shows sound)));
+      }));
+      touches = a.touches;
+    })
+    (λ s t. set_effect far new id r all s t is) more shown
 
 -- k spans were claimed and are given back for want of memory
 pub claims_fail : (c : Config) (far : FarState) (loose frames : List ℕ) (formers : List Former)
@@ -584,22 +610,12 @@ pub claims_fail : (c : Config) (far : FarState) (loose frames : List ℕ) (forme
     → All (Contains (candidates far)) loose
     → Performs runsC (λ s. showsA s × Sound s far) (TouchesSpans far) (λ t. Sound t far) IsStill
 claims_fail c far loose frames formers runsA runsB runsC showsA showsB x y more shown among =
-    let es = x.events in let fs = y.events in
-    let ready = λ (s : Shown) (k : showsA s × Sound s far).
-    are_ready far loose frames formers runsA showsA showsB c.k x among s (shown s k.0) k.0 k.1 in
-    record {
-      events = es ++ fs;
-      ran = more es fs x.ran y.ran;
-      looks_first = first_append (IsIn far.spans loose) (λ p. ⊥) es fs x.touches x.first y.first
-          (λ h t. y.quiet h);
-      rule = touches_append (IsIn far.spans (candidates far)) (LiesInOne (candidates far)) es fs
-          (claims_touch far loose es among x.touches)
-          (wide_touch far loose runsA showsA c.k frames formers fs among x y.touches);
-      allowed = λ s k. allowed_append es fs s (x.claims far s k.0 k.1.here).2.allowed
-          (y.allowed es s (ready s k));
-      sound_after = λ s k. y.sound es s (ready s k);
-      effect = λ s k. y.left es s (ready s k);
-    }
+    claims_end far far loose c.k frames formers (TouchesSpans far) (λ es. Unit {0}) IsStill IsStill runsA
+    runsB runsC showsA showsB x y among
+    (touches_append (IsIn far.spans (candidates far)) (LiesInOne (candidates far)) x.events y.events
+    (claims_touch far loose x.events among x.touches)
+    (wide_touch far loose runsA showsA c.k frames formers y.events among x y.touches))
+    (λ s t a. a) more shown
 
 -- fewer were claimed, and are given back
 pub claims_back_then : (c : Config) (far : FarState) (r : Reply) (loose frames : List ℕ)
@@ -614,44 +630,30 @@ pub claims_back_then : (c : Config) (far : FarState) (r : Reply) (loose frames :
     (EvictEffect far far r)
 claims_back_then c far r loose frames formers runsA runsB runsC showsA showsB x y more shown among
     few is =
-    let es = x.events in let fs = y.events in
+    let among_frames = λ (i d : ℕ) (l : i < length frames).
+    All-contains (Contains (candidates far)) loose (get_or frames i d) among (x.among i d l) in
+    let end = gives_back_ends far frames formers (λ es. es ≡ []) runsB runsB showsB showsB [] among_frames
+    x.of.only (are_reads (LiesInOne frames) [] tt) refl y
+    (λ none fs e b. subst (λ (l : List Event). runsB (l ++ fs)) (sym e) b) (λ before s r. r.shown) in
     let none : x.rest ≡ [] = rest_none x.stops in
     let same : length (frames ++ x.rest) ≡ length frames =
     ap (λ (l : List ℕ). length (frames ++ l)) none ∙ ap (λ (l : List ℕ). length l) (append-nil frames) in
-    let touched = touches_append (IsIn far.spans (candidates far)) (LiesInOne (candidates far)) es fs
-    (claims_touch far loose es among x.touches)
-    (one_touch far loose runsA showsA c.k frames formers fs among x y.touches) in
-    let back = λ (s : Shown) (k : showsA s × Sound s far).
-    y.back (played es s) far (shown s k.0) (x.claims far s k.0 k.1.here).1
-    (λ i d l. ((x.claims far s k.0 k.1.here).0.taken i d l).at) in
-    let left = λ (s : Shown) (k : showsA s × Sound s far).
-    let b = back s k in let a = x.claims far s k.0 k.1.here in
-    let then = played_append es fs s in
-    restored far (es ++ fs) s (IsIn far.spans (candidates far)) (LiesInOne (candidates far)) k.1
-    (subst (λ (v : Shown). AreClaimed (es ++ fs) s v []) (sym then)
-    (claims_back es fs s (played es s) (played fs (played es s)) formers a.0 b.0))
-    (subst (λ (v : Shown). LocalSound v far) (sym then) b.1)
-    (steady_append es fs s a.2 b.2) touched in record {
-      events = es ++ fs;
-      ran = more es fs x.ran y.ran;
-      looks_first = first_append (IsIn far.spans loose) (λ p. ⊥) es fs x.touches x.first y.first
-          (λ h t. y.quiet h);
-      rule = λ before found touches. record {
-        loose = frames ++ x.rest;
-        found = loose_then far loose runsA showsA c.k frames formers before fs x y.quiet found;
-        answered = inl (record {
-          few = omega (arith, few, same);
-          reply = is ∙ ap answer.NoSpans (sym same);
-          state = refl;
-        });
-        touches = touches_append (IsIn far.spans (candidates far)) (LiesInOne (candidates far)) before (es ++ fs)
-            touches touched;
-      };
-      allowed = λ s k. allowed_append es fs s (x.claims far s k.0 k.1.here).2.allowed (back s k).2.allowed;
-      sound_after = λ s k. (left s k).1;
-      effect = λ s k. left_effect far far r (es ++ fs) s (played (es ++ fs) s)
-          (λ id e. few_spans (length frames) r id is e) (left s k).0;
-    }
+    claims_end far far loose c.k frames formers (RuleAfter c far far r loose) (λ es. Unit {0}) IsStill
+    (EvictEffect far far r) runsA runsB runsC showsA showsB x end among
+    (λ before found touches.
+    let a = claims_leave far far loose c.k frames formers _ _ runsA runsB showsA showsB x end among before
+    found touches in record {
+      loose = frames ++ x.rest;
+      found = a.found;
+      answered = inl (record {
+        few = omega (arith, few, same);
+        reply = is ∙ ap answer.NoSpans (sym same);
+        state = refl;
+      });
+      touches = a.touches;
+    })
+    (λ s t. left_effect far far r (x.events ++ end.events) s t (λ id e. few_spans (length frames) r id is e))
+    more shown
   where
     rest_none : (length frames ≡ c.k) ⊎ (x.rest ≡ []) → x.rest ≡ []
     rest_none (inl e) = absurd (omega (arith, e, few))

@@ -206,32 +206,25 @@ homes_then far mid frames shards rows id homes a e x =
     (subst (λ (y : FarState). HaveHomes y.spans frames id y.homes homes) a x)
 
 -- the events touch objects and words of the frames alone
-pub taken_in : (c : Config) (far : FarState) (frames : List ℕ) (formers : List Former)
-    (ls ss : List Event) → AreTaken c far frames formers → IsEnd (LiesInOne frames) formers ls ss
+pub end_in : (far : FarState) (frames : List ℕ) (formers : List Former) (ls ss : List Event)
+    → All (λ f. IsIn far.spans frames f.handle) formers → IsEnd (LiesInOne frames) formers ls ss
     → TouchesOnly (IsIn far.spans frames) (LiesInOne frames) (ls ++ ss)
-taken_in c far frames formers ls ss a e =
+end_in far frames formers ls ss only e =
     touches_more (IsOne formers) (IsIn far.spans frames) (LiesInOne frames) (LiesInOne frames) (ls ++ ss)
     (λ h (f, x, same). subst (IsIn far.spans frames) same
-    (All-contains (λ g. IsIn far.spans frames g.handle) formers f a.of.only x))
+    (All-contains (λ g. IsIn far.spans frames g.handle) formers f only x))
     (λ p x. x) (end_touches (LiesInOne frames) formers ls ss e)
 
 -- the frames are candidates
-pub in_candidates : (c : Config) (far : FarState) (frames : List ℕ) (formers : List Former)
-    → AreTaken c far frames formers → (es : List Event)
-    → TouchesOnly (IsIn far.spans frames) (LiesInOne frames) es → TouchesSpans far es
-in_candidates c far frames formers a es t =
-    touches_more (IsIn far.spans frames) (IsIn far.spans (candidates far)) (LiesInOne frames)
+pub spans_touched : (far : FarState) (frames : List ℕ) (before es : List Event)
+    → All (Contains (candidates far)) frames → TouchesSpans far before
+    → TouchesOnly (IsIn far.spans frames) (LiesInOne frames) es → TouchesSpans far (before ++ es)
+spans_touched far frames before es among touched t =
+    touches_append (IsIn far.spans (candidates far)) (LiesInOne (candidates far)) before es touched
+    (touches_more (IsIn far.spans frames) (IsIn far.spans (candidates far)) (LiesInOne frames)
     (LiesInOne (candidates far)) es
-    (λ h (f, x, named). (f, All-contains (Contains (candidates far)) frames f a.among x, named))
-    (λ p (f, x, lies). (f, All-contains (Contains (candidates far)) frames f a.among x, lies)) t
-
-pub spans_touched : (c : Config) (far : FarState) (frames : List ℕ) (formers : List Former)
-    (q : ℕ → Type 0) (before ls ss : List Event) (s : Shown) → AreTaken c far frames formers
-    → TouchesSpans far before → IsEnd (LiesInOne frames) formers ls ss
-    → TouchesSpans far (before ++ (ls ++ ss))
-spans_touched c far frames formers q before ls ss s a t e =
-    touches_append (IsIn far.spans (candidates far)) (LiesInOne (candidates far)) before (ls ++ ss) t
-    (in_candidates c far frames formers a (ls ++ ss) (taken_in c far frames formers ls ss a e))
+    (λ h (f, x, named). (f, All-contains (Contains (candidates far)) frames f among x, named))
+    (λ p (f, x, lies). (f, All-contains (Contains (candidates far)) frames f among x, lies)) t)
 
 -- the frames are those that there are
 pub frames_below : (c : Config) (far : FarState) (frames : List ℕ) (formers : List Former)

@@ -41,11 +41,9 @@ use Rattle.cb_evict.proofs.Homing.{closed_else}
 use Rattle.cb_evict.proofs.LooseSpans.{loose_exact}
 use Rattle.cb_evict.proofs.Standing.{names_span, are_unique}
 use Rattle.cb_evict.proofs.Trying.{taken_of}
+use Rattle.cb_evict.proofs.Options.{some_none}
 
 -- ---- which objects left
-some_none : (span : Contents) → Some span ≡ None → ⊥
-some_none span e = cc
-
 has_left : (far new : FarState) (frames : List ℕ) (h : ℕ)
     → new.spans ≡ all_closed far.spans frames → IsIn far.spans frames h → HasLeft far new h
 has_left far new frames h e (f, c, named) = (

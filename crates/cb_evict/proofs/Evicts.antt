@@ -6,7 +6,6 @@ use Rattle.std.proofs.lemmas.List.{get_or_default}
 use Rattle.std.proofs.lemmas.List.Elements.{All-contains}
 use Rattle.std.proofs.lemmas.Option.{slice_get-get_or, slice_get_within}
 use Rattle.cb_member.specs.declared.names.Shard.{Shard}
-use Rattle.cb_span.specs.Contents.{Contents}
 use Rattle.cb_types.specs.declared.config.Config.{Config}
 use Rattle.cb_world.specs.declared.event.Event.{Event}
 use Rattle.cb_world.specs.declared.homes.Home.{Home}
@@ -43,6 +42,7 @@ use Rattle.cb_evict.proofs.PutAway.{IsPutAway, is_sent, now_away, sound_away}
 use Rattle.cb_evict.proofs.Putting.{put_count}
 use Rattle.cb_evict.proofs.Standing.{names_span}
 use Rattle.cb_evict.proofs.TakenGroup.{AreRead, frame_rows, group_range, group_word, now_told, row_at_frame, rows_told, span_word, taken_group, told_one}
+use Rattle.cb_evict.proofs.Options.{some_none}
 
 -- objects of k spans were claimed, their rows coded and put, and they were put away
 pub record Done (c : Config) (far : FarState) (frames : List ℕ) (formers : List Former)
@@ -139,9 +139,6 @@ module _ (c : Config) (far : FarState) (frames : List ℕ) (formers : List Forme
     | inr none ↦ let y = names_span far.spans f h named in
         absurd (some_none y.0 (sym y.1 ∙ sym (closed_else far.spans frames f none) ∙ gone))
   ]
-    where
-      some_none : (x : Contents) → Some x ≡ None → ⊥
-      some_none x e = cc
 
   not_left : (h : ℕ)
       → (HasLeft far (after_far far frames shards (frame_rows t frames ++ parities) homes) h → ⊥)

@@ -11,6 +11,7 @@ use Rattle.cb_ptr.specs.Word.{len_of, place_of}
 use Rattle.cb_span.specs.Contents.{Contents, handle_at}
 use Rattle.cb_span.specs.Places.{slot_place}
 use Rattle.cb_world.specs.declared.homes.Home.{Home}
+use Rattle.cb_world.specs.declared.leaving.Former.{Former}
 use Rattle.cb_world.specs.declared.object.Object.{Object}
 use Rattle.cb_world.specs.declared.object.Object.TheVariants as is
 use Rattle.cb_world.specs.declared.shown.Shown.{Shown}
@@ -37,9 +38,7 @@ use Rattle.cb_evict.proofs.Claims.{among, no_former}
 use Rattle.cb_evict.proofs.Noted.{none_claimed}
 use Rattle.cb_evict.proofs.SmallWords.{row_window}
 use Rattle.cb_evict.proofs.Standing.{are_unique, named_at, names_span}
-
-none_some : {X : Type 0} (a : X) → None ≡ Some a → ⊥
-none_some a e = cc
+use Rattle.cb_evict.proofs.Options.{none_some}
 
 -- ---- the local part
 -- it does not depend on sets, nodes, the batch and what is counted
@@ -140,6 +139,21 @@ claimed_not_far o len place v words e f = subst is_far e f
 
 pub here_not_far : (o : Object) (len place : ℕ) → o ≡ is.Here len place → is_far o → ⊥
 here_not_far o len place e f = subst is_far e f
+
+-- a note of an object that is as it was
+pub noted_still : (s t : Shown) (batch rest : LeavingState) (h : ℕ) → batch.words ≡ rest.words
+    → object_at t h ≡ object_at s h → IsNoted s batch h → IsNoted t rest h
+noted_still s t batch rest h words same n = record {
+  former = n.former;
+  noted = subst (λ (l : List Former). Contains l n.former) words n.noted;
+  handle = n.handle;
+  free = n.free;
+  below = n.below;
+  version = n.version;
+  words = n.words;
+  claimed = same ∙ n.claimed;
+  small = n.small;
+}
 
 -- ---- the group
 -- All objects of the spans of a batch are claimed at the words that are noted, one of each, and their

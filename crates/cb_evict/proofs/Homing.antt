@@ -15,6 +15,7 @@ use Rattle.cb_world.specs.Reserved.{table_of}
 use Rattle.cb_evict.specs.Closing.{all_given, all_closed, HaveHomes, with_homes, ClosesSpan}
 use Rattle.cb_evict.proofs.Putting.{taken_at}
 use Rattle.cb_evict.proofs.Sharing.{get_pushed}
+use Rattle.cb_evict.proofs.Options.{none_some}
 
 pub closed_last : (spans : List (Option Contents)) (xs : List ℕ) (x : ℕ)
     → all_closed spans (xs ++ x ∷ []) ≡ set (all_closed spans xs) x None
@@ -65,9 +66,6 @@ closed_none far id = record {
     others = λ h none. refl;
   };
 }
-  where
-    none_some : (f : ℕ) → None ≡ Some f → ⊥
-    none_some f e = cc
 
 -- the frame of a place is another than those before it
 pub none_before : (frames : List ℕ) (n : ℕ) → AllPairs (λ f g. f ≢ g) frames → n < length frames
@@ -94,9 +92,6 @@ names_closed spans [] f slot h e = e
 names_closed spans (g ∷ frames) f slot h e =
     back (names_closed (set spans g None) frames f slot h e)
   where
-    none_some : (k : ℕ) → None ≡ Some k → ⊥
-    none_some k e = cc
-
     back : resident (set spans g None) f slot ≡ Some h → resident spans f slot ≡ Some h
     back x = elim (cases_eq f g) [
       | inl same ↦ elim (cases_lt g (length spans)) [

@@ -1,3 +1,4 @@
+mod Options
 mod Framing
 pub mod Putting
 mod Filling

@@ -46,13 +46,11 @@ use Rattle.cb_evict.specs.Closing.{HaveHomes, with_homes}
 use Rattle.cb_evict.specs.Looking.{IsIn}
 use Rattle.cb_evict.specs.Sending.{IsSent, AreSent}
 use Rattle.cb_evict.proofs.Gone.{LeftMemory, sound_gone}
-use Rattle.cb_evict.proofs.Group.{IsGroup, here_beside, claimed_not_far, unique, at_place, either, not_in, lies_here, in_row, row_is}
+use Rattle.cb_evict.proofs.Group.{IsGroup, here_beside, claimed_not_far, unique, at_place, either, not_in, lies_here, in_row, row_is, noted_still}
 use Rattle.cb_evict.proofs.Homing.{closed_else}
 use Rattle.cb_evict.proofs.NewSet.{set_count, position_at, slot_is, slot_named, set_lives, set_live}
 use Rattle.cb_evict.proofs.Standing.{named_at, names_span}
-
-none_some : {X : Type 0} (a : X) → None ≡ Some a → ⊥
-none_some a e = cc
+use Rattle.cb_evict.proofs.Options.{none_some}
 
 -- the set of a group under these shards
 abbrev pub put_set : FarState → LeavingState → List Shard → SetState
@@ -311,17 +309,8 @@ module _ (t u : Shown) (far : FarState) (batch : LeavingState) (shards : List Sh
         sets = d.other_sets b.set (d.other_batch b there);
         drawn = d.drawn.1;
         unpaired = λ apart. apart;
-      }) (λ f slot h span leaves at named n. record {
-        former = n.former;
-        noted = n.noted;
-        handle = n.handle;
-        free = n.free;
-        below = n.below;
-        version = n.version;
-        words = n.words;
-        claimed = d.sent.others h (leaving_none b there f slot h span leaves at named) ∙ n.claimed;
-        small = n.small;
-      }) was
+      }) (λ f slot h span leaves at named. noted_still t u b b h refl
+      (d.sent.others h (leaving_none b there f slot h span leaves at named))) was
 
   -- a claimed object stands in a frame that is leaving, as before
   claimed_then : (h len place v : ℕ) (words : List ℕ) → object_at u h ≡ is.Claimed len place v words

@@ -28,6 +28,7 @@ use Rattle.cb_evict.specs.Shipping.{PutsNothing, PutsRow}
 use Rattle.cb_evict.specs.Waiting.{PutAtMembers, least_waiting}
 use Rattle.cb_evict.proofs.Events.{are_reads, loads_more, told_words}
 use Rattle.cb_evict.proofs.ShippedFar.{put_sound}
+use Rattle.cb_evict.proofs.Options.{none_some}
 
 -- ---- the batch
 -- the nodes of its rows are among the members
@@ -68,9 +69,6 @@ past_end xs p none = elim (cases_lt p (length xs)) [
   | inl below ↦ absurd (none_some (get_or xs p 0) (sym none ∙ slice_get-get_or xs p 0 below))
   | inr past ↦ past
 ]
-  where
-    none_some : (x : ℕ) → None ≡ Some x → ⊥
-    none_some x e = cc
 
 abbrev frame_row : Shown → ℕ → List ℕ
 frame_row s f = row_of (window s.memory (512 * f) 512)

@@ -38,7 +38,7 @@ use Rattle.cb_evict.specs.EvictRule.{AreInRows}
 use Rattle.cb_evict.specs.Evicting.{AreTaken}
 use Rattle.cb_evict.specs.Looking.{IsIn}
 use Rattle.cb_evict.proofs.Claims.{among, no_former}
-use Rattle.cb_evict.proofs.Group.{IsGroup, IsQuiet, quiet_away, claimed_not_far, here_not_far, in_row, row_is}
+use Rattle.cb_evict.proofs.Group.{IsGroup, IsQuiet, quiet_away, claimed_not_far, here_not_far, in_row, row_is, noted_still}
 use Rattle.cb_evict.proofs.Owned.{frame_stays}
 use Rattle.cb_evict.proofs.SmallWords.{small_part}
 use Rattle.cb_evict.proofs.Standing.{IsReadyFrame, ready_frame, are_unique, not_among}
@@ -245,17 +245,8 @@ module _ (c : Config) (far : FarState) (frames : List ℕ) (formers : List Forme
       sets = refl;
       drawn = omega arith;
       unpaired = λ apart. apart;
-    }) (λ f slot h span leaves at named n. record {
-      former = n.former;
-      noted = n.noted;
-      handle = n.handle;
-      free = n.free;
-      below = n.below;
-      version = n.version;
-      words = n.words;
-      claimed = d.claimed.others h (leaving_none b there f slot h span leaves at named) ∙ n.claimed;
-      small = n.small;
-    }) (d.sound.noted b there);
+    }) (λ f slot h span leaves at named. noted_still s t b b h refl
+        (d.claimed.others h (leaving_none b there f slot h span leaves at named))) (d.sound.noted b there);
     out = leaving_out;
   }
 

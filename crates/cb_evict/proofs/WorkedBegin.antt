@@ -52,8 +52,9 @@ use Rattle.cb_evict.specs.Order.{noted_of, objects_of}
 use Rattle.cb_evict.specs.Claiming.{AreOf}
 use Rattle.cb_evict.specs.Looking.{IsIn, LooksOver}
 use Rattle.cb_evict.proofs.BeginParts.{leaving_batch, spans_batch}
-use Rattle.cb_evict.proofs.WorkedEvictStep.{settings, desk, calm, pinned, moving, pair, busy, lone, one_node, first_object, only_object, only_second, span_with, same_number, none_is}
+use Rattle.cb_evict.proofs.WorkedEvictStep.{settings, desk, calm, pinned, moving, pair, busy, lone, one_node, first_object, only_object, only_second, span_with}
 use Rattle.cb_evict.proofs.WorkedSetMade.{row, row_words, zero_row, is_word, two_nodes}
+use Rattle.cb_evict.proofs.Options.{none_some, some_none, some_same}
 
 -- ---- words of objects that are claimed
 -- the first object is here, the other one pinned; all memory words are 0
@@ -138,15 +139,12 @@ begun = record {
   held = held;
 }
 
-pub some_batch : (a b : LeavingState) → Some a ≡ Some b → a ≡ b
-some_batch a b e = cc
-
 -- the far state says which words and parities are noted
 same_batch : (words : List Former) (parities : List (List ℕ)) (y : Words)
     → (a : IsBegunTo start y pair (leaving_with words parities) (0 ∷ []))
     → (words ≡ a.words) × (parities ≡ a.parities)
 same_batch words parities y a =
-    let e = some_batch (new_batch settings pair (0 ∷ []) words parities)
+    let e = some_same (new_batch settings pair (0 ∷ []) words parities)
     (new_batch settings pair (0 ∷ []) a.words a.parities) (ap (λ (f : FarState). f.leaving) a.state) in
     (ap (λ (b : LeavingState). b.words) e, ap (λ (b : LeavingState). b.parities) e)
 
@@ -169,7 +167,7 @@ not_the_other_way : (x y : Words)
     → IsBegunTo x y two (with_batch settings two (0 ∷ []) (noted_at 1 ∷ noted_at 3 ∷ []) (row ∷ []))
     (0 ∷ []) → ⊥
 not_the_other_way x y a =
-    let e = some_batch (new_batch settings two (0 ∷ []) (noted_at 1 ∷ noted_at 3 ∷ []) (row ∷ []))
+    let e = some_same (new_batch settings two (0 ∷ []) (noted_at 1 ∷ noted_at 3 ∷ []) (row ∷ []))
     (new_batch x.settings two (0 ∷ []) a.words a.parities) (ap (λ (f : FarState). f.leaving) a.state) in
     let first : 1 ≡ 3 = ap (λ (l : List ℕ). get_or l 0 0)
     (ap (λ (b : LeavingState). noted_of b.words) e ∙ a.order) in
@@ -253,9 +251,6 @@ second = leaving_with (former ∷ []) (row ∷ [])
 waits : IsBeginStep claimed claimed second second (answer.Leaving (record { n = 0 }))
 waits = is_leaving (new_batch settings pair (0 ∷ []) (former ∷ []) (row ∷ [])) refl refl refl refl
 
-none_some : (b : LeavingState) → None ≡ Some b → ⊥
-none_some b e = cc
-
 not_yet : (y : Words) (new : FarState) → IsBatchMade claimed y second new
     (answer.Batch (record { n = 1 })) → ⊥
 not_yet y new a = none_some _ (sym a.none)
@@ -316,7 +311,7 @@ leaving_is a b e = cc
 
 not_other_set : IsLeavingAlready second second (answer.Leaving (record { n = 3 })) [] → ⊥
 not_other_set a =
-    let b = some_batch (new_batch settings pair (0 ∷ []) (former ∷ []) (row ∷ [])) a.batch a.there in
+    let b = some_same (new_batch settings pair (0 ∷ []) (former ∷ []) (row ∷ [])) a.batch a.there in
     let e : 3 ≡ 0 = ap (λ (id : SetId). id.n) (leaving_is _ _ a.reply)
     ∙ sym (ap (λ (x : LeavingState). x.set) b) in absurd (omega (arith, e))
 
@@ -393,9 +388,6 @@ not_before a = differ _ _ a.was
 abbrev pub claim_zeros : List Event
 claim_zeros = Claimed 0 calm 3 (0 ∷ []) ∷ []
 
-same_span : (a b : Contents) → Some a ≡ Some b → a ≡ b
-same_span a b e = cc
-
 in_row : IsInRow claim_zeros (span_with Cold 0) row 1 0
 in_row = record {
   word = calm;
@@ -408,19 +400,19 @@ in_row = record {
 
 in_rows : AreInRows claim_zeros pair (0 ∷ []) (row ∷ [])
 in_rows zero f slot h span at there named =
-    let frame : 0 ≡ f = same_number 0 f at in
-    let same : span_with Cold 0 ≡ span = same_span (span_with Cold 0) span
+    let frame : 0 ≡ f = some_same 0 f at in
+    let same : span_with Cold 0 ≡ span = some_same (span_with Cold 0) span
     (ap (span_in pair.spans) frame ∙ there) in
     subst (λ (s : Contents). IsInRow claim_zeros s row slot h) same
     (by slot (ap (λ (s : Contents). handle_at s slot) same ∙ named))
   where
     by : (slot : ℕ) → handle_at (span_with Cold 0) slot ≡ Some h
         → IsInRow claim_zeros (span_with Cold 0) row slot h
-    by zero e = absurd (none_is h e)
+    by zero e = absurd (none_some h e)
     by (suc zero) e = subst (λ (k : ℕ). IsInRow claim_zeros (span_with Cold 0) row 1 k)
-        (same_number 0 h e) in_row
-    by (suc (suc n)) e = absurd (none_is h e)
-in_rows (suc p) f slot h span at there named = absurd (none_is f at)
+        (some_same 0 h e) in_row
+    by (suc (suc n)) e = absurd (none_some h e)
+in_rows (suc p) f slot h span at there named = absurd (none_some f at)
 
 pub has_begun : HasBegun settings pair second (0 ∷ []) claim_zeros
 has_begun = record {
@@ -441,7 +433,7 @@ has_begun = record {
 -- a word that no claim found is not noted
 not_without_claim : HasBegun settings pair second (0 ∷ []) [] → ⊥
 not_without_claim a =
-    let batch = some_batch (new_batch settings pair (0 ∷ []) (former ∷ []) (row ∷ []))
+    let batch = some_same (new_batch settings pair (0 ∷ []) (former ∷ []) (row ∷ []))
     (new_batch settings pair (0 ∷ []) a.words a.parities) (ap (λ (f : FarState). f.leaving) a.state) in
     let found = subst (λ (l : List Former). All (λ (f : Former). IsFound f.handle f.word []) l)
     (sym (ap (λ (b : LeavingState). b.words) batch)) a.found in
@@ -454,9 +446,6 @@ not_committed : (set : SetState) → HasBegun settings pair (record second {
 not_committed set a = some_none set (sym (set_added_in pair.sets 0 set)
     ∙ ap (λ (f : FarState). set_in f.sets 0) a.state
     ∙ ap if_committed (reserved_kept pair.sets 0 (set_from 0 (blank_shards 2) pair.spans (0 ∷ []))))
-  where
-    some_none : (x : SetState) → Some x ≡ None → ⊥
-    some_none x e = cc
 
 -- ---- the effect
 abbrev both : List Object → Shown
@@ -623,14 +612,14 @@ first_loose h (slot, named) = by slot named
 
     by : (slot : ℕ) → handle_in (span_in pair.spans 0) slot ≡ Some h
         → (w : ℕ) × IsFound h w looks × IsFree w
-    by zero e = absurd (none_is h e)
+    by zero e = absurd (none_some h e)
     by (suc zero) e = (
       calm,
-      subst (λ (k : ℕ). IsFound k calm looks) (same_number 0 h e)
+      subst (λ (k : ℕ). IsFound k calm looks) (some_same 0 h e)
           (inr ((refl, refl), ((λ w look. one_zero 0 look.0), tt))),
       (refl, refl),
     )
-    by (suc (suc n)) e = absurd (none_is h e)
+    by (suc (suc n)) e = absurd (none_some h e)
 
 second_held : IsHeldUp looks pair.spans 1
 second_held = held_alone pair.spans 1 looks 1 pinned only_second (1, refl)

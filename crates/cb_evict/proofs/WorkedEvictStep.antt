@@ -26,6 +26,7 @@ use Rattle.cb_world.specs.Survey.{no_survey}
 use Rattle.cb_evict.specs.Candidates.{Names}
 use Rattle.cb_evict.specs.EvictStep.{is_slot_loose, is_loose, loose_frames, AreSentOff, HaveContents, IsEvictStep, few_spans, few_nodes, made}
 use Rattle.cb_evict.specs.Looking.{IsIn}
+use Rattle.cb_evict.proofs.Options.{none_some, some_same}
 
 -- the words of an object of 8 bytes at place 0: here; with a pin, and so hot; claimed; far
 abbrev pub calm : ℕ
@@ -141,21 +142,15 @@ before = desk (calm ∷ pinned ∷ [])
 abbrev pub after : Words
 after = desk (away ∷ pinned ∷ [])
 
-pub none_is : (h : ℕ) → None ≡ Some h → ⊥
-none_is h e = cc
-
-pub same_number : (a b : ℕ) → Some a ≡ Some b → a ≡ b
-same_number a b e = cc
-
 -- the first span's object is the first one
 pub only_object : (h : ℕ) → IsIn pair.spans (0 ∷ []) h → 0 ≡ h
 only_object h (f, (zero, l, e), (slot, named)) =
     go slot (ap (λ (n : ℕ). handle_in (span_in pair.spans n) slot) e ∙ named)
   where
     go : (slot : ℕ) → handle_in (span_in pair.spans 0) slot ≡ Some h → 0 ≡ h
-    go zero e = absurd (none_is h e)
-    go (suc zero) e = same_number 0 h e
-    go (suc (suc n)) e = absurd (none_is h e)
+    go zero e = absurd (none_some h e)
+    go (suc zero) e = some_same 0 h e
+    go (suc (suc n)) e = absurd (none_some h e)
 only_object h (f, (suc k, l, e), named) = absurd (omega (arith, l))
 
 pub first_object : IsIn pair.spans (0 ∷ []) 0
@@ -209,9 +204,6 @@ not_other_memory a =
     let e : 0 ≡ 2 = ap (λ (l : List ℕ). length l) a.memory in absurd (omega (arith, e))
 
 -- ---- the words of an object in a row
-same_span : (a b : Contents) → Some a ≡ Some b → a ≡ b
-same_span a b e = cc
-
 -- a row of zeros has an object whose word is 0
 pub zeros : window (words_in []) (1 * words_of (record { index = 0 })) 1 ≡ 0 ∷ []
 unfolding words_of bytes_of window words_from
@@ -233,22 +225,22 @@ pub contents_in : (row : List ℕ) (rest : List (List ℕ))
     → window (words_in row) (1 * words_of (record { index = 0 })) 1 ≡ 0 ∷ []
     → HaveContents before pair (0 ∷ []) (row ∷ rest)
 contents_in row rest is zero f slot h span at there named =
-    let frame : 0 ≡ f = same_number 0 f at in
-    let same : span_with Cold 0 ≡ span = same_span (span_with Cold 0) span
+    let frame : 0 ≡ f = some_same 0 f at in
+    let same : span_with Cold 0 ≡ span = some_same (span_with Cold 0) span
     (ap (span_in pair.spans) frame ∙ there) in
     by slot (ap (λ (s : Contents). handle_at s slot) same ∙ named) same
   where
     by : (slot : ℕ) → handle_at (span_with Cold 0) slot ≡ Some h → span_with Cold 0 ≡ span
         → contents_at before h ≡ window (words_in row) (slot * words_of span.class)
         (words_for (len_of (word_at before h)))
-    by zero e same = absurd (none_is h e)
+    by zero e same = absurd (none_some h e)
     by (suc zero) e same = subst (λ (k : ℕ). contents_at before k
         ≡ window (words_in row) (1 * words_of span.class) (words_for (len_of (word_at before k))))
-        (same_number 0 h e)
+        (some_same 0 h e)
         (subst (λ (s : Contents). contents_at before 0
         ≡ window (words_in row) (1 * words_of s.class) 1) same (first_word ∙ sym is))
-    by (suc (suc n)) e same = absurd (none_is h e)
-contents_in row rest is (suc p) f slot h span at there named = absurd (none_is f at)
+    by (suc (suc n)) e same = absurd (none_some h e)
+contents_in row rest is (suc p) f slot h span at there named = absurd (none_some f at)
 
 have_contents : HaveContents before pair (0 ∷ []) ([] ∷ [])
 have_contents = contents_in [] [] zeros
@@ -264,14 +256,14 @@ not_contents a =
 
 -- each of the two spans has one object
 pub only_first : (h : ℕ) → Names pair.spans 0 h → 0 ≡ h
-only_first h (zero, e) = absurd (none_is h e)
-only_first h (suc zero, e) = same_number 0 h e
-only_first h (suc (suc n), e) = absurd (none_is h e)
+only_first h (zero, e) = absurd (none_some h e)
+only_first h (suc zero, e) = some_same 0 h e
+only_first h (suc (suc n), e) = absurd (none_some h e)
 
 pub only_second : (h : ℕ) → Names pair.spans 1 h → 1 ≡ h
-only_second h (zero, e) = absurd (none_is h e)
-only_second h (suc zero, e) = same_number 1 h e
-only_second h (suc (suc n), e) = absurd (none_is h e)
+only_second h (zero, e) = absurd (none_some h e)
+only_second h (suc zero, e) = some_same 1 h e
+only_second h (suc (suc n), e) = absurd (none_some h e)
 
 -- ---- the refusals
 abbrev pub busy : Words

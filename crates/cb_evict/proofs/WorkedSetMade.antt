@@ -33,7 +33,8 @@ use Rattle.cb_evict.specs.declared.eviction.Eviction.TheVariants.{Refused}
 use Rattle.cb_evict.specs.declared.eviction.Lack.TheVariants.{Spans, Nodes}
 use Rattle.cb_evict.specs.Storing.{IsShardAt, AreShards, set_for, with_set}
 use Rattle.cb_evict.proofs.NewSet.{set_added_in}
-use Rattle.cb_evict.proofs.WorkedEvictStep.{before, after, busy, no_nodes, no_spans, pair, lone, one_node, none_is, same_number, sent_off, not_here, contents_in, first_word, heads, span_with}
+use Rattle.cb_evict.proofs.WorkedEvictStep.{before, after, busy, no_nodes, no_spans, pair, lone, one_node, sent_off, not_here, contents_in, first_word, heads, span_with}
+use Rattle.cb_evict.proofs.Options.{none_some, some_same}
 
 -- ---- the code word: a row of zeros and its parity
 pub row : List ℕ
@@ -128,21 +129,15 @@ second_node = record {
   least = λ other m. inr (none_held 1 ∙ sym (none_held other.n), apart other.n m.spare);
 }
 
-some_shard : (a b : Shard) → Some a ≡ Some b → a ≡ b
-some_shard a b e = cc
-
-no_shard : (a : Shard) → None ≡ Some a → ⊥
-no_shard a e = cc
-
 chosen : AreShards pair 2 shards
 chosen = record { count = refl; each = λ p s at. each p s at }
   where
     each : (p : ℕ) (s : Shard) → slice_get shards p ≡ Some s → IsShardAt pair shards p s
-    each zero s at = subst (IsShardAt pair shards 0) (some_shard (shard 0) s at)
+    each zero s at = subst (IsShardAt pair shards 0) (some_same (shard 0) s at)
         (record { node = first_node; incarnation = refl; key = refl })
-    each (suc zero) s at = subst (IsShardAt pair shards 1) (some_shard (shard 1) s at)
+    each (suc zero) s at = subst (IsShardAt pair shards 1) (some_same (shard 1) s at)
         (record { node = second_node; incarnation = refl; key = refl })
-    each (suc (suc p)) s at = absurd (no_shard s at)
+    each (suc (suc p)) s at = absurd (none_some s at)
 
 pub two_nodes : room_count pair.nodes pair.members ≡ 2
 two_nodes = let a = none_held 0 in let b = none_held 1 in grind (arith, a, b)
@@ -160,15 +155,15 @@ homed = record {
   where
     by_slot : (slot h : ℕ) → handle_in (span_in pair.spans 0) slot ≡ Some h
         → home_at homes h ≡ Some (record { set = 0; position = 0; slot = slot })
-    by_slot zero h e = absurd (none_is h e)
-    by_slot (suc zero) h e = ap (home_at homes) (sym (same_number 0 h e))
-    by_slot (suc (suc n)) h e = absurd (none_is h e)
+    by_slot zero h e = absurd (none_some h e)
+    by_slot (suc zero) h e = ap (home_at homes) (sym (some_same 0 h e))
+    by_slot (suc (suc n)) h e = absurd (none_some h e)
 
     here : (p f slot h : ℕ) → slice_get (0 ∷ []) p ≡ Some f → resident pair.spans f slot ≡ Some h
         → home_at homes h ≡ Some (record { set = 0; position = p; slot = slot })
     here zero f slot h at named = by_slot slot h
-        (ap (λ (n : ℕ). handle_in (span_in pair.spans n) slot) (same_number 0 f at) ∙ named)
-    here (suc p) f slot h at named = absurd (none_is f at)
+        (ap (λ (n : ℕ). handle_in (span_in pair.spans n) slot) (some_same 0 f at) ∙ named)
+    here (suc p) f slot h at named = absurd (none_some f at)
 
     others : (h : ℕ) → ((f : ℕ) → Contains (0 ∷ []) f → Names pair.spans f h → ⊥)
         → home_at homes h ≡ home_at pair.homes h
@@ -179,8 +174,8 @@ homed = record {
 data_in : (first : List ℕ) (rest : List (List ℕ)) → first ≡ row_of (window before.memory 0 512)
     → AreFrameRows before (0 ∷ []) (first ∷ rest)
 data_in first rest is zero f at =
-    is ∙ ap (λ (n : ℕ). row_of (window before.memory (512 * n) 512)) (same_number 0 f at)
-data_in first rest is (suc p) f at = absurd (none_is f at)
+    is ∙ ap (λ (n : ℕ). row_of (window before.memory (512 * n) 512)) (some_same 0 f at)
+data_in first rest is (suc p) f at = absurd (none_some f at)
 
 -- ---- the step
 -- the far state once these rows are put at these shards' nodes
@@ -219,14 +214,11 @@ step = made set_made
 abbrev again : Shard
 again = record { node = numbered 0; incarnation = 0; key = 1 }
 
-some_set : (a b : SetState) → Some a ≡ Some b → a ≡ b
-some_set a b e = cc
-
 -- the set says which its shards are
 same_shards : (at : List Shard) (put : List (List ℕ))
     → (a : IsEvictedTo before after pair (with_word at put) (0 ∷ [])) → at ≡ a.shards
 same_shards at put a = ap (λ (s : SetState). s.shards)
-    (some_set (set_for pair at (0 ∷ [])) (set_for pair a.shards (0 ∷ []))
+    (some_same (set_for pair at (0 ∷ [])) (set_for pair a.shards (0 ∷ []))
     (sym (set_added_in pair.sets 0 (set_for pair at (0 ∷ [])))
     ∙ ap (λ (f : FarState). set_in f.sets 0) a.state
     ∙ set_added_in pair.sets 0 (set_for pair a.shards (0 ∷ []))))
@@ -252,9 +244,6 @@ two_of (r ∷ []) e = absurd (omega (arith, e))
 two_of (r ∷ q ∷ []) e = refl
 two_of (r ∷ q ∷ u ∷ l) e = absurd (omega (arith, e))
 
-some_row : (r q : List ℕ) → Some r ≡ Some q → r ≡ q
-some_row r q e = cc
-
 -- the nodes say which its rows are
 same_rows : (r q : List ℕ)
     → (a : IsEvictedTo before after pair (with_word shards (r ∷ q ∷ [])) (0 ∷ []))
@@ -266,10 +255,10 @@ same_rows r q a =
     ∙ ap (λ (l : List Shard). all_put pair.nodes l a.rows)
     (sym (same_shards shards (r ∷ q ∷ []) a))
     ∙ ap (all_put pair.nodes shards) (two_of a.rows a.word.is_word.count) in (
-      some_row r (row_at a.rows 0) (sym (first_stored r q)
+      some_same r (row_at a.rows 0) (sym (first_stored r q)
           ∙ ap (λ (n : NodesState). row_under n (numbered 0) 0) nodes
           ∙ first_stored (row_at a.rows 0) (row_at a.rows 1)),
-      some_row q (row_at a.rows 1) (sym (second_stored r q)
+      some_same q (row_at a.rows 1) (sym (second_stored r q)
           ∙ ap (λ (n : NodesState). row_under n (numbered 1) 1) nodes
           ∙ second_stored (row_at a.rows 0) (row_at a.rows 1)),
     )
@@ -323,11 +312,8 @@ not_made a = let e : 5 ≡ 4 = ap (λ (f : FarState). f.made) a.state in absurd 
 
 -- the object has no home
 not_homeless : IsEvictedTo before after pair (record new { homes = pair.homes }) (0 ∷ []) → ⊥
-not_homeless a = no_home (record { set = 0; position = 0; slot = 1 })
+not_homeless a = none_some (record { set = 0; position = 0; slot = 1 })
     (a.homes.here 0 0 1 0 refl refl)
-  where
-    no_home : (home : Home) → None ≡ Some home → ⊥
-    no_home home e = cc
 
 -- the object is here as before
 not_sent : IsEvictedTo before before pair new (0 ∷ []) → ⊥

@@ -44,6 +44,7 @@ use Rattle.cb_evict.specs.BeginRule.{with_batch, new_batch}
 use Rattle.cb_evict.specs.BeginStep.{AreHeld, IsBegunTo, IsBeginStep, begins}
 use Rattle.cb_evict.specs.Looking.{IsIn}
 use Rattle.cb_evict.proofs.WorkedSetMade.{row, zero_row, is_word}
+use Rattle.cb_evict.proofs.Options.{none_some}
 
 -- ---- one object of 1,024 bytes, in the first slot of the one frame; its first word has 65 bits
 abbrev largest : Class
@@ -91,9 +92,6 @@ far = record {
   counts = record { turns = 0; by_job = []; sets = 0; keys = 0 };
   survey = no_survey;
 }
-
-none_some : {X : Type 0} (x : X) → None ≡ Some x → ⊥
-none_some x e = cc
 
 -- ---- all is known before
 class_of_1024 : IsClassOf 1024 largest
