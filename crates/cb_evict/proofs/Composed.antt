@@ -36,7 +36,12 @@ use Rattle.cb_evict.specs.declared.eviction.Eviction.{Eviction}
 use Rattle.cb_evict.specs.declared.eviction.Eviction.TheVariants as eviction
 use Rattle.cb_evict.specs.declared.eviction.Lack.TheVariants as lack
 use Rattle.cb_evict.specs.Eviction.{CountsRule, TellsCounts, reply_of}
-use Rattle.cb_evict.specs.Finding.{FindsFew}
+use Rattle.cb_evict.specs.declared.finding.Found.{Found}
+use Rattle.cb_evict.specs.declared.finding.Found.TheVariants.{Loose}
+use Rattle.cb_evict.specs.declared.taking.Taken.{Taken}
+use Rattle.cb_evict.specs.declared.taking.Taken.TheVariants.{Enough}
+use Rattle.cb_evict.specs.Finding.{FindsFew, Finds}
+use Rattle.cb_evict.specs.Taking.{Takes}
 use Rattle.cb_evict.specs.Loading.{LiesInOne}
 use Rattle.cb_evict.specs.Looking.{IsIn, LooksOver}
 use Rattle.cb_evict.proofs.Events.{touches_append, touches_more, found_after, first_append, looks_before, looks_change, looks_steady, are_reads}
@@ -67,6 +72,18 @@ if_map P Q (Err e) q f = tt
 pub any_err : {T : Type 0} {E : Type 0} (P : Type 0) (r : Result T E) → P → OnErr r P
 any_err P (Ok t) p = tt
 any_err P (Err e) p = p
+
+-- ---- by what was found, and by what was taken
+pub found_loose : (runs : List Event → Type 0) (c : Config) (far : FarState) (found : Found)
+    (frames : _) (nodes : ℕ) → found ≡ Loose frames nodes → Finds runs c far found
+    → Finds runs c far (Loose frames nodes)
+found_loose runs c far found frames nodes is x = subst (Finds runs c far) is x
+
+pub taken_enough : (runs : List Event → Type 0) (shows : Shown → Type 0) (c : Config)
+    (far : FarState) (loose : List ℕ) (taken : Taken) (frames : _) (formers : _)
+    → taken ≡ Enough frames formers → Takes runs shows c far loose taken
+    → Takes runs shows c far loose (Enough frames formers)
+taken_enough runs shows c far loose taken frames formers is x = subst (Takes runs shows c far loose) is x
 
 -- ---- the rows that are made
 pub rows_made : (rows : List (List ℕ)) (k n : ℕ) → rows ≡ replicate k (replicate 4096 0) → n ≡ k
