@@ -258,14 +258,8 @@ not_yet y new a = none_some _ (sym a.none)
 -- a batch is told to be leaving only where one is
 not_told : (id : SetId) → IsBeginStep start start pair pair (answer.Leaving id) → ⊥
 not_told id (is_leaving b there a state e) = none_some b there
-not_told id (few_spans none a e) = differ a.reply
-  where
-    differ : answer.Leaving id ≡ answer.NoSpans 1 → ⊥
-    differ e = cc
-not_told id (few_nodes none a e) = differ _ a.reply
-  where
-    differ : (n : ℕ) → answer.Leaving id ≡ answer.NoNodes n → ⊥
-    differ n e = cc
+not_told id (few_spans none a e) = let e : answer.Leaving id ≡ answer.NoSpans 1 = a.reply in cc
+not_told id (few_nodes none a e) = let e : answer.Leaving id ≡ answer.NoNodes _ = a.reply in cc
 not_told id (begins m) = leaving_batch id (record { n = 0 }) (answer.Leaving id) refl m.reply
 
 -- a batch is made only where enough spans are loose
@@ -298,10 +292,7 @@ told = record {
 
 not_looked : IsLeavingAlready second second (answer.Leaving (record { n = 0 }))
     (Looked 0 moving ∷ []) → ⊥
-not_looked a = differ a.nothing
-  where
-    differ : Looked 0 moving ∷ [] ≡ [] → ⊥
-    differ e = cc
+not_looked a = let e : Looked 0 moving ∷ [] ≡ [] = a.nothing in cc
 
 not_absent : (r : Reply) (es : List Event) → IsLeavingAlready pair pair r es → ⊥
 not_absent r es a = none_some a.batch a.there
@@ -373,16 +364,10 @@ not_newer a =
 
 -- it is not here any more, and it was
 not_still_here : IsClaimedNow claim here here 0 → ⊥
-not_still_here a = differ _ _ _ _ a.object
-  where
-    differ : (len place v : ℕ) (xs : List ℕ) → is.Here 8 0 ≡ is.Claimed len place v xs → ⊥
-    differ len place v xs e = cc
+not_still_here a = let e : is.Here 8 0 ≡ is.Claimed _ _ _ _ = a.object in cc
 
 not_before : IsClaimedNow claim (taken 3 7) (taken 3 7) 0 → ⊥
-not_before a = differ _ _ a.was
-  where
-    differ : (len place : ℕ) → is.Claimed 8 0 3 (7 ∷ []) ≡ is.Here len place → ⊥
-    differ len place e = cc
+not_before a = let e : is.Claimed 8 0 3 (7 ∷ []) ≡ is.Here _ _ = a.was in cc
 
 -- ---- the rule
 abbrev pub claim_zeros : List Event
@@ -500,10 +485,8 @@ not_left : effect_of (both (is.Here 8 0 ∷ is.Here 8 1 ∷ [])) → ⊥
 not_left a = let x = a.claimed 0 first_object in here_claimed _ _ _ _ x.object
 
 not_freed : effect_of (both (held_object ∷ is.Empty 4 ∷ [])) → ⊥
-not_freed a = differ (a.others 1 (λ i. let z = only_object 1 i in omega (arith, z)))
-  where
-    differ : is.Empty 4 ≡ is.Here 8 1 → ⊥
-    differ e = cc
+not_freed a = let e : is.Empty 4 ≡ is.Here 8 1 =
+    a.others 1 (λ i. let z = only_object 1 i in omega (arith, z)) in cc
 
 not_added : effect_of (both (held_object ∷ is.Here 8 1 ∷ never ∷ [])) → ⊥
 not_added a = let e : 3 ≡ 2 = a.objects in absurd (omega (arith, e))

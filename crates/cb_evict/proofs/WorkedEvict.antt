@@ -171,10 +171,7 @@ not_warmed : IsStill [] known (record known { hots = true ∷ [] }) → ⊥
 not_warmed a = false≢true (sym (heads true false a.hots))
 
 not_sent : IsStill [] known (record known { objects = is.Empty 4 ∷ [] }) → ⊥
-not_sent a = differ a.objects
-  where
-    differ : is.Empty 4 ∷ [] ≡ is.Here 8 0 ∷ [] → ⊥
-    differ e = cc
+not_sent a = let e : is.Empty 4 ∷ [] ≡ is.Here 8 0 ∷ [] = a.objects in cc
 
 -- ---- an object is away
 abbrev sent : ℕ → ℕ → ℕ → Bool → Shown
@@ -214,10 +211,7 @@ not_hot : IsAway (claim (7 ∷ [])) (sent 8 3 7 true) 0 → ⊥
 not_hot a = false≢true (sym a.cold)
 
 not_here : IsAway (claim (7 ∷ [])) known 0 → ⊥
-not_here a = differ _ _ _ a.object
-  where
-    differ : (len v : ℕ) (xs : List ℕ) → is.Here 8 0 ≡ is.Far len v xs → ⊥
-    differ len v xs e = cc
+not_here a = let e : is.Here 8 0 ≡ is.Far _ _ _ = a.object in cc
 
 -- ---- the effect of a refusal
 refused : EvictEffect far far (answer.NoSpans 1) [] known known

@@ -40,10 +40,7 @@ pinned_word e = let p = e.1 in absurd (omega (arith, p))
 
 -- a word that moves can't be claimed either
 moving_word : IsFree 3 → ⊥
-moving_word e = differ e.0
-  where
-    differ : Moving ≡ Here → ⊥
-    differ e = cc
+moving_word e = let e : Moving ≡ Here = e.0 in cc
 
 abbrev looks : List Event
 looks = Looked 1 2 ∷ Looked 0 14 ∷ []

@@ -15,7 +15,6 @@ use Rattle.cb_world.specs.FarState.{FarState}
 use Rattle.cb_world.specs.Leaving.{LeavingState}
 use Rattle.cb_world.specs.Plain.{Words}
 use Rattle.cb_world.specs.Survey.{no_survey}
-use Rattle.cb_evict.specs.AbortRule.{HasNoBatch}
 use Rattle.cb_evict.specs.ShipRule.{HasAllShipped, HasNoNode, HasShipped, IsShardFor, ReadsLeaving, Ships, other_puts, with_shipped}
 use Rattle.cb_evict.specs.ShipStep.{IsShipStep}
 use Rattle.cb_evict.specs.Shipping.{Waits}
@@ -254,22 +253,7 @@ other_row s =
     first_or (Some row) = get_or row 0 0
 
 -- ---- refusals
-no_batch : HasNoBatch (far None) (far None) answer.NoBatch
-no_batch = record { none = refl; reply = refl; state = refl }
-
-one_leaves : HasNoBatch leaving leaving answer.NoBatch → ⊥
-one_leaves a = some_none (batch some_wait) a.none
-
 -- a refusal changes nothing, and is told as what it is
-batch_or_done : answer.Done ≡ answer.NoBatch → ⊥
-batch_or_done e = cc
-
-not_done : HasNoBatch (far None) (far None) answer.Done → ⊥
-not_done a = batch_or_done a.reply
-
-none_made : HasNoBatch (far None) (record (far None) { made = 1 }) answer.NoBatch → ⊥
-none_made a = let e : 1 ≡ 0 = ap (λ (f : FarState). f.made) a.state in absurd (omega (arith, e))
-
 abbrev done : FarState
 done = far (Some (batch all_put))
 
