@@ -14,7 +14,6 @@ use Rattle.cb_world.specs.LocalSound.{LocalSound, IsStamped}
 use Rattle.cb_world.specs.Memory.{window, words_for, bytes_in}
 use Rattle.cb_world.specs.Performs.{Performs}
 use Rattle.cb_world.specs.Played.{played}
-use Rattle.cb_world.specs.Still.{IsStill}
 use Rattle.cb_world.specs.Now.{held, is_gone, now_as, now}
 use Rattle.cb_world.specs.Reserved.{without_batch}
 use Rattle.cb_world.specs.Sound.{IsNoted, Sound}
@@ -27,6 +26,7 @@ use Rattle.cb_evict.proofs.Events.{touches_more}
 use Rattle.cb_evict.proofs.Group.{IsGroup, IsQuiet, claimed_not_far, either, here_beside, here_not_far, leaving_group, now_without, quiet_away}
 use Rattle.cb_evict.proofs.Noted.{claimed_all}
 use Rattle.cb_evict.proofs.Options.{none_some, some_same}
+use Rattle.cb_evict.proofs.Still.{does_nothing, still_none}
 
 -- in a sound world the objects of the leaving batch are here again
 module _ (s t : Shown) (far : FarState) (batch : LeavingState) (sound : Sound s far)
@@ -102,27 +102,17 @@ untaken_state inside far o same none gone =
     ap (λ (q : Option LeavingState). record inside { leaving = q })
     (gone ∙ sym (ap (λ (f : FarState). f.leaving) same ∙ none)) ∙ same
 
--- nothing is done
-pub still_none : (s : Shown) → IsStill [] s s
-still_none s =
-    record { objects = refl; hots = refl; versions = refl; memory = refl; nothing = λ old. refl }
-
 pub not_aborted : (runs : List Event → Type 0) (shows : Shown → Type 0) (far new : FarState)
     → runs [] → far.leaving ≡ None → new ≡ far
     → Performs runs (λ s. shows s × Sound s far) (AbortRule far new answer.NoBatch)
     (λ t. Sound t new) (AbortEffect far new)
-not_aborted runs shows far new ran none state = record {
-  events = [];
-  ran = ran;
-  looks_first = tt;
-  rule = record { answered = inl (record { none = none; reply = refl; state = state }); touches = tt };
-  allowed = λ s k. tt;
-  sound_after = λ s k. subst (λ (f : FarState). Sound s f) (sym state) k.1;
-  effect = λ s k. record {
-    aborted = λ b there. absurd (none_some b (sym none ∙ there));
-    left = λ e. still_none s;
-  };
-}
+not_aborted runs shows far new ran none state =
+    does_nothing runs shows far new (AbortRule far new answer.NoBatch) (AbortEffect far new) ran state
+    (record { answered = inl (record { none = none; reply = refl; state = state }); touches = tt })
+    (λ s. record {
+      aborted = λ b there. absurd (none_some b (sym none ∙ there));
+      left = λ e. still_none s;
+    })
 
 -- the batch is given up
 pub aborts : (runs : List Event → Type 0) (shows : Shown → Type 0) (far new : FarState)

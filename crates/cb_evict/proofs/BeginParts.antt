@@ -36,6 +36,7 @@ use Rattle.cb_evict.specs.Beginning.{BeginsAfter, BeginsClaimed}
 use Rattle.cb_evict.proofs.Composed.{are_ready, claims_end, claims_leave, few_nodes, few_spans, finds_few, left_before, looks_more, looks_touch, nothing_before, replied, row_before, told_next}
 use Rattle.cb_evict.proofs.Events.{found_after, looks_change}
 use Rattle.cb_evict.proofs.Options.{none_some}
+use Rattle.cb_evict.proofs.Still.{does_nothing, still_none}
 
 -- ---- the batch that is leaving
 abbrev pub number_of : LeavingState → SetId
@@ -162,30 +163,19 @@ pub begins_not : (c : Config) (far : FarState) (r : Reply) (id : SetId)
     → Performs runs (λ s. knows s × Sound s far) (BeginRule c far far r) (λ t. Sound t far)
     (BeginEffect far far r)
 begins_not c far r id runs knows e is ran =
-    let b = some_leaving far.leaving id e in record {
-      events = [];
-      ran = ran;
-      looks_first = tt;
-      rule = inl (record {
-        batch = b.0;
-        there = b.1;
-        reply = is ∙ ap answer.Leaving b.2;
-        state = refl;
-        nothing = refl;
-      });
-      allowed = λ s k. tt;
-      sound_after = λ s k. k.1;
-      effect = λ s k. record {
-        begun = λ other f. absurd (leaving_batch id other r is f);
-        left = λ f. record {
-          objects = refl;
-          hots = refl;
-          versions = refl;
-          memory = refl;
-          nothing = λ old. refl;
-        };
-      };
-    }
+    let b = some_leaving far.leaving id e in
+    does_nothing runs knows far far (BeginRule c far far r) (BeginEffect far far r) ran refl
+    (inl (record {
+      batch = b.0;
+      there = b.1;
+      reply = is ∙ ap answer.Leaving b.2;
+      state = refl;
+      nothing = refl;
+    }))
+    (λ s. record {
+      begun = λ other f. absurd (leaving_batch id other r is f);
+      left = λ f. still_none s;
+    })
 
 -- ---- what is told later
 pub begun_before : (c : Config) (far new : FarState) (frames : List ℕ) (before es : List Event)

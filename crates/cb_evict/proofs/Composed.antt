@@ -48,6 +48,7 @@ use Rattle.cb_evict.proofs.Events.{touches_append, touches_more, found_after, fi
 use Rattle.cb_evict.proofs.Loose.{loose_among, all_quiet, apart_tail, fresh_head}
 use Rattle.cb_evict.proofs.Restored.{gives_back_ends, looked}
 use Rattle.cb_evict.proofs.Standing.{candidates_apart}
+use Rattle.cb_evict.proofs.Still.{does_nothing, still_none}
 
 -- ---- by the result
 pub if_ok : {T : Type 0} {E : Type 0} (P Q : T → Type 0) (B : Type 0) (r : Result T E) → IfOk r Q → OnOk r B
@@ -162,21 +163,8 @@ few_nodes n r id a b = cc
 -- ---- nothing was done
 pub nothing_done : (far : FarState) (runs : List Event → Type 0) (knows : Shown → Type 0)
     → runs [] → Performs runs (λ s. knows s × Sound s far) (TouchesSpans far) (λ t. Sound t far) IsStill
-nothing_done far runs knows ran = record {
-  events = [];
-  ran = ran;
-  looks_first = tt;
-  rule = tt;
-  allowed = λ s k. tt;
-  sound_after = λ s k. k.1;
-  effect = λ s k. record {
-    objects = refl;
-    hots = refl;
-    versions = refl;
-    memory = refl;
-    nothing = λ old. refl;
-  };
-}
+nothing_done far runs knows ran =
+    does_nothing runs knows far far (TouchesSpans far) IsStill ran refl tt still_none
 
 -- ---- looks before
 looks_same : (es : List Event) (s : Shown) → OnlyLooks es → played es s ≡ told_by es s

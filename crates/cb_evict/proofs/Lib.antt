@@ -1,4 +1,5 @@
 mod Options
+mod Still
 mod Framing
 pub mod Putting
 mod Filling

@@ -29,6 +29,7 @@ use Rattle.cb_evict.specs.Waiting.{PutAtMembers, least_waiting}
 use Rattle.cb_evict.proofs.Events.{are_reads, loads_more, told_words}
 use Rattle.cb_evict.proofs.ShippedFar.{put_sound}
 use Rattle.cb_evict.proofs.Options.{none_some}
+use Rattle.cb_evict.proofs.Still.{does_nothing}
 
 -- ---- the batch
 -- the nodes of its rows are among the members
@@ -170,15 +171,10 @@ pub refused : (runs : List Event → Type 0) (knows : Shown → Type 0) (far new
     → runs [] → new ≡ far → ((row : LeavingState → ℕ → List ℕ) → Ships far new r row)
     → Performs runs (λ s. knows s × Sound s far) (ShipRule far new r) (λ t. Sound t new)
     (ShipEffect far new r)
-refused runs knows far new r ran same ships = record {
-  events = [];
-  ran = ran;
-  looks_first = tt;
-  rule = record { row = λ b p. []; ships = ships (λ b p. []); reads = tt };
-  allowed = λ s k. tt;
-  sound_after = λ s k. subst (Sound s) (sym same) k.1;
-  effect = λ s k. record { still = still far [] s tt; ships = ships (λ b. row_at (batch_rows s b)) };
-}
+refused runs knows far new r ran same ships =
+    does_nothing runs knows far new (ShipRule far new r) (ShipEffect far new r) ran same
+    (record { row = λ b p. []; ships = ships (λ b p. []); reads = tt })
+    (λ s. record { still = still far [] s tt; ships = ships (λ b. row_at (batch_rows s b)) })
 
 -- a row that is put
 pub shipped : (runs : List Event → Type 0) (knows : Shown → Type 0) (far new : FarState)

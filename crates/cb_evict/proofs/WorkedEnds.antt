@@ -279,11 +279,8 @@ is_given_up = record { batch = batch one_put; there = refl; reply = refl; state 
 gives_none_up : ¬ (HasGivenUp pair pair answer.Done)
 gives_none_up x = absurd (some_none x.batch (sym x.there))
 
-no_batch_done : answer.NoBatch ≡ answer.Done → ⊥
-no_batch_done e = cc
-
 answers_no_batch : ¬ (HasGivenUp (leaving one_put) (without_batch (leaving one_put) (batch one_put)) answer.NoBatch)
-answers_no_batch x = absurd (no_batch_done x.reply)
+answers_no_batch x = absurd (let e : answer.NoBatch ≡ answer.Done = x.reply in cc)
 
 stays_leaving : ¬ (HasGivenUp (leaving one_put) (leaving one_put) answer.Done)
 stays_leaving x = absurd (some_none (batch one_put) (ap (λ (f : FarState). f.leaving) x.state))

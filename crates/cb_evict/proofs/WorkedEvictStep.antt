@@ -293,9 +293,6 @@ spans_nodes n m e = cc
 spans_set : (n m : ℕ) → answer.NoSpans n ≡ answer.Set (record { n = m }) → ⊥
 spans_set n m e = cc
 
-nodes_set : (n m : ℕ) → answer.NoNodes n ≡ answer.Set (record { n = m }) → ⊥
-nodes_set n m e = cc
-
 count_is : (n m : ℕ) → answer.NoSpans n ≡ answer.NoSpans m → n ≡ m
 count_is n m e = cc
 
@@ -328,4 +325,4 @@ not_too_few (made m) = spans_set 1 0 m.reply
 not_nodes_first : IsEvictStep busy busy lone lone (answer.NoNodes 1) → ⊥
 not_nodes_first (few_spans a e) = spans_nodes _ 1 (sym a.reply)
 not_nodes_first (few_nodes a e) = let l : 1 ≤ 0 = a.enough in absurd (omega (arith, l))
-not_nodes_first (made m) = nodes_set 1 0 m.reply
+not_nodes_first (made m) = let e : answer.NoNodes 1 ≡ answer.Set (record { n = 0 }) = m.reply in cc

@@ -171,20 +171,14 @@ ships : Ships leaving after (answer.Shipped 1) rows
 ships = inr (inr (inr is_shipped))
 
 -- what is told as shipped is no refusal
-shipped_all : (p : ℕ) → answer.Shipped p ≡ answer.AllShipped → ⊥
-shipped_all p e = cc
-
-shipped_none : (p : ℕ) → answer.Shipped p ≡ answer.NoNode → ⊥
-shipped_none p e = cc
-
 shipped_same : (p q : ℕ) → answer.Shipped p ≡ answer.Shipped q → p ≡ q
 shipped_same p q e = cc
 
 only : (new : FarState) (p : ℕ) (row : LeavingState → ℕ → List ℕ)
     → Ships leaving new (answer.Shipped p) row → HasShipped leaving new (answer.Shipped p) row
 only new p row (inl x) = absurd (some_none (batch some_wait) x.none)
-only new p row (inr (inl x)) = absurd (shipped_all p x.reply)
-only new p row (inr (inr (inl x))) = absurd (shipped_none p x.reply)
+only new p row (inr (inl x)) = absurd (let e : answer.Shipped p ≡ answer.AllShipped = x.reply in cc)
+only new p row (inr (inr (inl x))) = absurd (let e : answer.Shipped p ≡ answer.NoNode = x.reply in cc)
 only new p row (inr (inr (inr x))) = x
 
 -- it is the batch that is leaving, and its least position that waits
@@ -266,11 +260,8 @@ all_shipped = record {
   state = refl;
 }
 
-done_is_not_all : answer.Done ≡ answer.AllShipped → ⊥
-done_is_not_all e = cc
-
 all_not_done : HasAllShipped done done answer.Done → ⊥
-all_not_done a = done_is_not_all a.reply
+all_not_done a = let e : answer.Done ≡ answer.AllShipped = a.reply in cc
 
 all_none_made : HasAllShipped done (record done { made = 1 }) answer.AllShipped → ⊥
 all_none_made a = let e : 1 ≡ 0 = ap (λ (f : FarState). f.made) a.state in absurd (omega (arith, e))
@@ -302,11 +293,8 @@ no_node = record {
   state = refl;
 }
 
-done_is_no_node : answer.Done ≡ answer.NoNode → ⊥
-done_is_no_node e = cc
-
 node_not_done : HasNoNode crowded crowded answer.Done → ⊥
-node_not_done a = done_is_no_node a.reply
+node_not_done a = let e : answer.Done ≡ answer.NoNode = a.reply in cc
 
 node_none_made : HasNoNode crowded (record crowded { made = 1 }) answer.NoNode → ⊥
 node_none_made a = let e : 1 ≡ 0 = ap (λ (f : FarState). f.made) a.state in absurd (omega (arith, e))
