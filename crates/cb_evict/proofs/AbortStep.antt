@@ -66,7 +66,8 @@ put_back x y far s es batch r there z = record {
         → word_at y f.handle ≡ f.word
     back f c a =
         let h = f.handle in let w = f.word in
-        let within : h < length x.words = let l = c.handle in omega (arith, l, r.known.shows.objects) in
+        let within : h < length x.words = let l =
+        c.handle in omega (arith, l, r.known.shows.objects) in
         let still : h < length y.words = omega (arith, within, count) in
         here_word (word_at y h) w
         (subst (λ (o : Object). Fits o (word_at y h)) a.object (shows.fit h still))

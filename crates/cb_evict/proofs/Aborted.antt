@@ -39,7 +39,8 @@ module _ (s t : Shown) (far : FarState) (batch : LeavingState) (sound : Sound s 
   here_one h n = ap (object_at t) (sym n.handle)
       ∙ (All-contains (IsHereAt t) batch.words n.former r.here n.noted).object
 
-  here_not_claimed : (m p len place v : ℕ) (words : List ℕ) → is.Here m p ≡ is.Claimed len place v words → ⊥
+  here_not_claimed : (m p len place v : ℕ) (words : List ℕ)
+      → is.Here m p ≡ is.Claimed len place v words → ⊥
   here_not_claimed m p len place v words e = cc
 
   all_quiet : (h : ℕ) → IsQuiet s t h
@@ -57,19 +58,23 @@ module _ (s t : Shown) (far : FarState) (batch : LeavingState) (sound : Sound s 
     here = here_beside t far _ _ None far.counts here;
     noted = λ b at. absurd (none_some b at);
     claimed = λ h len place v words e. elim (either s (without_batch far batch) batch group h) [
-      | inl x ↦ absurd (here_not_claimed _ _ len place v words (sym (here_one h (group.each h x)) ∙ e))
+      | inl x ↦ absurd (here_not_claimed _ _ len place v words
+          (sym (here_one h (group.each h x)) ∙ e))
       | inr none ↦ let y = group.others h len place v words none (sym (r.others h none) ∙ e) in
           absurd (none_some y.batch y.there)
     ];
-    away = quiet_away s t (without_batch far batch) all_quiet (λ b e. absurd (none_some b e)) group.away;
+    away = quiet_away s t (without_batch far batch) all_quiet (λ b e. absurd (none_some b e))
+        group.away;
   }
 
   restored_now : (h : ℕ) → IsIn far.spans batch.frames h
       → now t (without_batch far batch) h ≡ now s (without_batch far batch) h
   restored_now h x =
-      let n = group.each h x in let len = len_of n.former.word in let place = place_of n.former.word in
+      let n = group.each h x in let len = len_of n.former.word in let place =
+      place_of n.former.word in
       let version : version_at t h ≡ n.version = ap (λ (l : List ℕ). get_or l h 0) r.versions
-      ∙ subst (λ (o : Object). IsStamped o (version_at s h)) n.claimed (sound.here.known.stamped h) in
+      ∙ subst (λ (o : Object). IsStamped o (version_at s h)) n.claimed (sound.here.known.stamped h)
+      in
       let words : window t.memory place (words_for len) ≡ n.words =
       ap (λ (ms : List ℕ). window ms place (words_for len)) r.memory
       ∙ sym (group.contents h len place n.version n.words x n.claimed) in
@@ -81,7 +86,8 @@ module _ (s t : Shown) (far : FarState) (batch : LeavingState) (sound : Sound s 
   pub now_restored : (h : ℕ) → now t (without_batch far batch) h ≡ now s far h
   now_restored h = elim (either s (without_batch far batch) batch group h) [
     | inl x ↦ restored_now h x
-    | inr none ↦ now_kept s t (without_batch far batch) (without_batch far batch) h (r.others h none)
+    | inr none ↦ now_kept s t (without_batch far batch) (without_batch far batch) h
+        (r.others h none)
         (ap (λ (l : List ℕ). get_or l h 0) r.versions)
         (λ len place at. ap (λ (ms : List ℕ). window ms place (words_for len)) r.memory) refl
   ] ∙ now_without s far batch (sound.noted batch there).reserved h
@@ -107,7 +113,8 @@ pub not_aborted : (runs : List Event → Type 0) (shows : Shown → Type 0) (far
     → Performs runs (λ s. shows s × Sound s far) (AbortRule far new answer.NoBatch)
     (λ t. Sound t new) (AbortEffect far new)
 not_aborted runs shows far new ran none state =
-    does_nothing runs shows far new (AbortRule far new answer.NoBatch) (AbortEffect far new) ran state
+    does_nothing runs shows far new (AbortRule far new answer.NoBatch) (AbortEffect far new) ran
+    state
     (record { answered = inl (record { none = none; reply = refl; state = state }); touches = tt })
     (λ s. record {
       aborted = λ b there. absurd (none_some b (sym none ∙ there));
@@ -136,14 +143,17 @@ aborts runs shows far new batch there state warm r = record {
       (restoring s k).sound);
   effect = λ s k. record {
     aborted = λ b at.
-        let z : IsAborted far (without_batch far batch) batch r.events s (played r.events s) = record {
+        let z : IsAborted far (without_batch far batch) batch r.events s (played r.events s) =
+        record {
           back = (restoring s k).restored;
           nothing = (restoring s k).nothing;
-          same_now = now_restored s (played r.events s) far batch k.1 there (restoring s k).restored;
+          same_now = now_restored s (played r.events s) far batch k.1 there
+              (restoring s k).restored;
         } in
         subst (λ (c : LeavingState). IsAborted far new c r.events s (played r.events s))
         (some_same batch b (sym there ∙ at))
-        (subst (λ (f : FarState). IsAborted far f batch r.events s (played r.events s)) (sym state) z);
+        (subst (λ (f : FarState). IsAborted far f batch r.events s (played r.events s))
+        (sym state) z);
     left = λ none. absurd (none_some batch (sym none ∙ there));
   };
 }

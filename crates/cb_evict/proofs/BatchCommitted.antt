@@ -81,7 +81,11 @@ module _ (s t : Shown) (far : FarState) (batch : LeavingState) (homes : List (Op
       → shard.node.n < length far.nodes.nodes
   nodes_there p shard at =
       let rows = d.sound.away.sound.rows in
-      let c = (rows.current (of_leaving p) shard (mine p shard at)).0 in omega (arith, c, rows.counted)
+      let c = (rows.current (of_leaving p) shard (mine p shard at)).0 in omega (
+        arith,
+        c,
+        rows.counted,
+      )
 
   distinct : OnDistinctNodes (put_shards batch.shards)
   distinct i j e less within same =
@@ -96,7 +100,8 @@ module _ (s t : Shown) (far : FarState) (batch : LeavingState) (homes : List (Op
   place_once : (p q : ℕ) (a b : Shard) → slice_get (put_shards batch.shards) p ≡ Some a
       → slice_get (put_shards batch.shards) q ≡ Some b → a.key ≡ b.key → p ≡ q
   place_once p q a b at bt same = ap owner_place
-      (d.sound.away.sound.rows.one (of_leaving p) (of_leaving q) a b (mine p a at) (mine q b bt) same)
+      (d.sound.away.sound.rows.one (of_leaving p) (of_leaving q) a b (mine p a at)
+      (mine q b bt) same)
 
   -- a shard of another owner has another key
   other_key : (o : Owner) (a : Shard) → IsShardOf far o a → ((q : ℕ) → o ≡ of_leaving q → ⊥)
@@ -123,15 +128,18 @@ module _ (s t : Shown) (far : FarState) (batch : LeavingState) (homes : List (Op
       × (shard.node.n ≡ node.n) × (shard.key ≡ key))
   row_of_whom node key row (of_set id p) a at is n k = inl
       (drop_elsewhere far.nodes (put_shards batch.shards) node key nodes_there
-      (λ q shard there same. other_key (of_set id p) a is (set_leaving id p) q shard there (same ∙ sym k))
+      (λ q shard there same. other_key (of_set id p) a is (set_leaving id p) q shard there
+      (same ∙ sym k))
       ∙ at)
   row_of_whom node key row (of_joining p) a at is n k = inl
       (drop_elsewhere far.nodes (put_shards batch.shards) node key nodes_there
-      (λ q shard there same. other_key (of_joining p) a is (joining_leaving p) q shard there (same ∙ sym k))
+      (λ q shard there same. other_key (of_joining p) a is (joining_leaving p) q shard there
+      (same ∙ sym k))
       ∙ at)
   row_of_whom node key row (of_leaving p) a at (b, was, is) n k =
       let e = some_same b batch (sym was ∙ d.there) in
-      let x = put_at batch.shards p a (ap (λ (l : LeavingState). slice_get l.shards p) (sym e) ∙ is) in
+      let x = put_at batch.shards p a (ap (λ (l : LeavingState). slice_get l.shards p) (sym e)
+      ∙ is) in
       inr (x.0, a, x.1, n, k)
 
   -- ---- the set is committed
@@ -149,7 +157,8 @@ module _ (s t : Shown) (far : FarState) (batch : LeavingState) (homes : List (Op
         distinct = distinct;
         current = λ p shard at. rows.current (of_leaving p) shard (mine p shard at);
         added = set_added_in far.sets batch.set (the_set far batch);
-        fresh = gone_sets far batch noted.reserved batch.set ∙ reserved_uncommitted far batch noted.reserved;
+        fresh = gone_sets far batch noted.reserved batch.set
+            ∙ reserved_uncommitted far batch noted.reserved;
         other_batch = λ b at. absurd (none_some b at);
         other_sets = λ j off. set_others far.sets batch.set j (the_set far batch) off
             ∙ sym (removed_other far.sets batch.set j off);
@@ -162,7 +171,8 @@ module _ (s t : Shown) (far : FarState) (batch : LeavingState) (homes : List (Op
         up = λ p shard at. d.up p shard (put_place batch.shards p shard d.all at);
         put = λ p shard at. let x = put_place batch.shards p shard d.all at in
             leaving_batch.put p shard x (d.up p shard x);
-        stay = λ node key none. sym (drop_elsewhere far.nodes (put_shards batch.shards) node key nodes_there none);
+        stay = λ node key none. sym (drop_elsewhere far.nodes (put_shards batch.shards) node key
+            nodes_there none);
         only = λ node key row at. let o = rows.owned node key row at in
             row_of_whom node key row o.0 o.1 at o.2 o.3 o.4;
         same_nodes = sym (drop_count far.nodes (put_shards batch.shards));
@@ -172,10 +182,12 @@ module _ (s t : Shown) (far : FarState) (batch : LeavingState) (homes : List (Op
 
   -- the world is sound then
   pub sound_committed : Sound t (committed_far far batch homes)
-  sound_committed = sound_away s t (without_batch far batch) batch (put_shards batch.shards) _ _ _ homes
+  sound_committed = sound_away s t (without_batch far batch) batch (put_shards batch.shards) _ _ _
+      homes
       put_away
 
   -- and last complete contents stay
   pub now_committed : (h : ℕ) → now t (committed_far far batch homes) h ≡ now s far h
-  now_committed h = now_away s t (without_batch far batch) batch (put_shards batch.shards) _ _ _ homes
+  now_committed h = now_away s t (without_batch far batch) batch (put_shards batch.shards) _ _ _
+      homes
       put_away h ∙ now_without s far batch noted.reserved h

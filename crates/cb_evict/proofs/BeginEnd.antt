@@ -49,8 +49,10 @@ starts c far new frames formers parities before ls s d none reads is steady touc
     let t = played before s in
     let same : played (before ++ ls) s ≡ t = played_append before ls s ∙ reads.stays t in
     let in_spans = IsIn far.spans (candidates far) in
-    let touches = spans_touched far frames before ls d.taken.among touched (reads_in far frames ls reads) in
-    let words = told_words in_spans (LiesInOne (candidates far)) (before ++ ls) s s touches refl refl in
+    let touches = spans_touched far frames before ls d.taken.among touched
+    (reads_in far frames ls reads) in
+    let words = told_words in_spans (LiesInOne (candidates far)) (before ++ ls) s s touches refl
+    refl in
     let told = told_before (λ h. ⊥) (LiesInOne frames) before ls s reads.touches reads.quiet in
     record {
       begun = subst (λ (x : FarState). HasBegun c far x frames (before ++ ls)) (sym is)
@@ -58,8 +60,10 @@ starts c far new frames formers parities before ls s d none reads is steady touc
       sound = subst (λ (x : FarState). Sound (played (before ++ ls) s) x) (sym is)
           (subst (λ (v : Shown). Sound v (with_batch c far frames formers parities)) (sym same)
           (sound_begun c far frames formers parities before s t d none));
-      effect = subst (λ (x : FarState). IsBegun far x (before ++ ls) s (played (before ++ ls) s)) (sym is)
-          (subst (λ (v : Shown). IsBegun far (with_batch c far frames formers parities) (before ++ ls) s v) (sym same)
+      effect = subst (λ (x : FarState). IsBegun far x (before ++ ls) s (played (before ++ ls) s))
+          (sym is)
+          (subst (λ (v : Shown). IsBegun far (with_batch c far frames formers parities)
+          (before ++ ls) s v) (sym same)
           (effect_begun c far frames formers parities before s t d none ls reads.quiet
           (steady.hots ∙ sym (ap (λ (x : Shown). x.hots) told))
           (told_objects (before ++ ls) s).0
@@ -71,7 +75,8 @@ starts c far new frames formers parities before ls s d none reads is steady touc
     }
 
 -- the far state once the batch is noted
-abbrev pub noted_far : FarState → List ℕ → List Former → List (List ℕ) → List (Option Shard) → FarState
+abbrev pub noted_far : FarState → List ℕ → List Former → List (List ℕ) → List (Option Shard)
+    → FarState
 noted_far far frames words parities shards = record far {
   leaving = Some (record {
     set = far.counts.sets;
@@ -92,8 +97,10 @@ pub batch_then : (c : Config) (far mid new : FarState) (gs frames : List ℕ) (f
 batch_then c far mid new gs frames formers parities blank shards same a b e f =
     b ∙ ap (λ (x : FarState). noted_far x frames formers parities shards) a
     ∙ ap (λ (l : List ℕ). noted_far (with_reserved far blank l) frames formers parities shards) same
-    ∙ ap (λ (l : List Shard). noted_far (with_reserved far l frames) frames formers parities shards) e
-    ∙ ap (λ (l : List (Option Shard)). noted_far (with_reserved far (blank_shards (c.k + c.r)) frames) frames
+    ∙ ap (λ (l : List Shard). noted_far (with_reserved far l frames) frames formers parities
+    shards) e
+    ∙ ap (λ (l : List (Option Shard)). noted_far
+    (with_reserved far (blank_shards (c.k + c.r)) frames) frames
     formers parities l) f
 
 -- ---- the same, of the same lists

@@ -60,7 +60,8 @@ held_words x y far new s es frames r spans leaves free z = record {
       let below : h < length s.objects =
       (are_unique far s (length s.objects) r.known.sound.here refl).below i.0 h i.2 in
       let range : h < length x.words = omega (arith, below, r.known.shows.objects) in
-      let fit : Fits (is.Claimed (len_of a.word) (place_of a.word) a.version a.words) (word_at y h) =
+      let fit : Fits (is.Claimed (len_of a.word) (place_of a.word) a.version a.words)
+      (word_at y h) =
       subst (λ (o : Object). Fits o (word_at y h)) a.object
       (shows.fit h (omega (arith, range, count))) in
       let was : Fits (is.Here (len_of a.word) (place_of a.word)) (word_at x h) =
@@ -110,7 +111,8 @@ begun_to x y far new s es r l enough b z =
     let k = x.settings.k in let frames = take k (loose_frames x far) in
     let batch = new_batch x.settings far frames b.words b.parities in
     let held = held_words x y far new s es frames r
-    (ap (λ (f : FarState). f.spans) b.state) (ap (λ (f : FarState). leaving_frames f.leaving) b.state)
+    (ap (λ (f : FarState). f.spans) b.state) (ap (λ (f : FarState). leaving_frames f.leaving)
+    b.state)
     (λ h i. leaves_free x far k h i) z in
     let word = (l.sound.away.sound.batch batch (ap (λ (f : FarState). f.leaving) b.state)).word in
     let memory : (played es s).memory ≡ x.memory = l.shows.memory ∙ held.memory in
@@ -127,7 +129,8 @@ begun_to x y far new s es r l enough b z =
           (map (λ f. row_of (window ms (512 * f) 512)) frames ++ b.parities)) memory
           (subst (λ (n : ℕ). IsSpanWord n x.settings.r (batch_rows (played es s) batch))
           (length-take-le k (loose_frames x far) enough)
-          (subst (λ (n : ℕ). IsSpanWord (length frames) n (batch_rows (played es s) batch)) b.counts.1 word));
+          (subst (λ (n : ℕ). IsSpanWord (length frames) n (batch_rows (played es s) batch))
+          b.counts.1 word));
       state = b.state;
       held = held;
     }
@@ -140,7 +143,8 @@ by_looks : (x y : Words) (far new : FarState) (r : Reply) (s : Shown) (es : List
     ⊎ HasBatch x.settings far new r loose es)
     → IsBeginStep x y far new r × IsStepKnown y far new s
 by_looks x y far new r s es loose runs l none same effect (inl a) =
-    refused x y far new s es runs l (effect.left (λ id e. spans_batch (length loose) r id a.reply e)) a.state
+    refused x y far new s es runs l (effect.left
+    (λ id e. spans_batch (length loose) r id a.reply e)) a.state
     (few_spans none (subst (HasFewSpans x.settings far new r) same a))
 by_looks x y far new r s es loose runs l none same effect (inr (inl a)) =
     refused x y far new s es runs l (effect.left (λ id e. nodes_batch _ r id a.reply e)) a.state

@@ -94,7 +94,8 @@ module _ (t : Shown) (far : FarState) (set : SetState) (batch : LeavingState)
       → IsShardOf far o a
   shard_back (of_set id p) a (other, there, at) = (other, back id other there, at)
   shard_back (of_leaving p) a (b, there, at) =
-      absurd (unput p a (ap (λ (x : LeavingState). slice_get x.shards p) (some_same batch b there) ∙ at))
+      absurd (unput p a (ap (λ (x : LeavingState). slice_get x.shards p) (some_same batch b there)
+      ∙ at))
   shard_back (of_joining p) a x = x
 
   -- the far part is sound with it
@@ -125,7 +126,8 @@ module _ (t : Shown) (far : FarState) (set : SetState) (batch : LeavingState)
         drawn = λ o a p. x.rows.drawn o a (shard_back o a p);
         current = λ o a p. x.rows.current o a (shard_back o a p);
       };
-      batch = λ b there. subst (IsBatch t (begun_far far set batch)) (some_same batch b there) is_batch;
+      batch = λ b there. subst (IsBatch t (begun_far far set batch)) (some_same batch b there)
+          is_batch;
     };
     survey = survey_stays far (begun_far far set batch) refl (omega arith)
         (λ id l. stands_still far.members far.members (set_in far.sets id)
@@ -141,7 +143,11 @@ module _ (t : Shown) (far : FarState) (set : SetState) (batch : LeavingState)
       b_count = j.b_count;
       count = j.count;
       apart = j.apart;
-      drawn = (let less = j.drawn.0 in omega (arith, less), let less = j.drawn.1 in omega (arith, less));
+      drawn = (
+        let less = j.drawn.0 in omega (arith, less),
+        let less =
+            j.drawn.1 in omega (arith, less),
+      );
       a_keys = j.a_keys;
       b_keys = j.b_keys;
       steps = j.steps;
@@ -198,16 +204,19 @@ module _ (c : Config) (far : FarState) (frames : List ℕ) (formers : List Forme
       none_some shard (sym (get_or-replicate n p None None (omega (arith, within, count)))
       ∙ get_or_from_slice_get all p (Some shard) None at)
 
-  is_batch : IsBatch t (with_batch c far frames formers parities) (new_batch c far frames formers parities)
+  is_batch : IsBatch t (with_batch c far frames formers parities)
+      (new_batch c far frames formers parities)
   is_batch = record {
     word = group_word c far frames formers parities before s t d;
-    count = let n : length (new_batch c far frames formers parities).shards ≡ c.k + c.r = length-replicate {A = Option Shard} (c.k + c.r) None in
+    count = let n : length (new_batch c far frames formers parities).shards ≡ c.k + c.r =
+        length-replicate {A = Option Shard} (c.k + c.r) None in
         omega (arith, n, d.taken.count, d.few);
     put = λ p shard at lost. absurd (no_shard p shard at);
     apart = λ p q a b at there same. absurd (no_shard p a at);
   }
 
-  reserved : IsReserved (with_batch c far frames formers parities) (new_batch c far frames formers parities)
+  reserved : IsReserved (with_batch c far frames formers parities)
+      (new_batch c far frames formers parities)
   reserved = record {
     drawn = omega arith;
     unpaired = λ pair there. let less = (d.sound.away.join pair there).drawn in
@@ -216,10 +225,12 @@ module _ (c : Config) (far : FarState) (frames : List ℕ) (formers : List Forme
     blank = blank_shards (c.k + c.r);
     places = length-replicate (c.k + c.r) blank_shard
         ∙ sym (length-replicate {A = Option Shard} (c.k + c.r) None);
-    kept = reserved_kept far.sets far.counts.sets (set_from far.counts.sets (blank_shards (c.k + c.r)) far.spans frames);
+    kept = reserved_kept far.sets far.counts.sets
+        (set_from far.counts.sets (blank_shards (c.k + c.r)) far.spans frames);
   }
 
-  noted : AreNoted t (with_batch c far frames formers parities) (new_batch c far frames formers parities)
+  noted : AreNoted t (with_batch c far frames formers parities)
+      (new_batch c far frames formers parities)
   noted = let g = taken_group c far frames formers parities before s t d in record {
     apart = d.taken.apart;
     held = g.held;
@@ -241,8 +252,11 @@ module _ (c : Config) (far : FarState) (frames : List ℕ) (formers : List Forme
             let lies : LiesAt (object_at t h) len place =
             subst (λ (o : Object). LiesAt o len place) (sym e) (refl, refl) in
             let seat = d.here.placed.placed h len place lies in
-            let frame : seat.frame ≡ x.0 = (unique t far batch g).one_frame seat.frame x.0 h
-            (seat.slot, ap (λ (o : Option Contents). handle_in o seat.slot) seat.there ∙ seat.named) x.2 in
+            let frame : seat.frame ≡ x.0 = (unique t far batch g).one_frame seat.frame x.0 h (
+              seat.slot,
+              ap (λ (o : Option Contents). handle_in o seat.slot) seat.there
+                  ∙ seat.named,
+            ) x.2 in
             record {
               batch = new_batch c far frames formers parities;
               there = refl;
@@ -258,7 +272,8 @@ module _ (c : Config) (far : FarState) (frames : List ℕ) (formers : List Forme
   pub sound_begun : Sound t (with_batch c far frames formers parities)
   sound_begun = record {
     here = here_beside t far _ far.nodes _ _ d.here;
-    noted = λ b there. subst (AreNoted t (with_batch c far frames formers parities)) (some_same (new_batch c far frames formers parities) b there) noted;
+    noted = λ b there. subst (AreNoted t (with_batch c far frames formers parities))
+        (some_same (new_batch c far frames formers parities) b there) noted;
     claimed = leaves_one;
     away = away_begun t far (set_from far.counts.sets (blank_shards (c.k + c.r)) far.spans frames)
         (new_batch c far frames formers parities) none no_shard
@@ -274,7 +289,9 @@ module _ (c : Config) (far : FarState) (frames : List ℕ) (formers : List Forme
       let x = d.sound.away.sound.away.home h home e in
       let less = d.sound.away.sound.sets.numbered home.set x.0 x.1 in
       ap (λ (o : Option SetState). broken_set far.members o)
-      (reserved_others far.sets far.counts.sets home.set (set_from far.counts.sets (blank_shards (c.k + c.r)) far.spans frames) (λ same. omega (arith, less, same)))
+      (reserved_others far.sets far.counts.sets home.set
+      (set_from far.counts.sets (blank_shards (c.k + c.r)) far.spans frames)
+      (λ same. omega (arith, less, same)))
 
   -- ---- the rule
   pub rule_begun : (events : List Event) → ((k : ℕ) → NoLook k events)
@@ -289,7 +306,8 @@ module _ (c : Config) (far : FarState) (frames : List ℕ) (formers : List Forme
         each_once = d.taken.each_once;
         found = λ k e l. let f = get_or formers k e in
             found_more f.handle f.word before events (d.claimed.taken k e l).found (quiet f.handle);
-        contents = rows_told c far frames formers parities before s t d events quiet (frame_rows t frames)
+        contents = rows_told c far frames formers parities before s t d events quiet
+            (frame_rows t frames)
             (λ p f at. let within = slice_get_within frames p f at in
             sym (get_or_append_left (frame_rows t frames) parities [] p (omega (arith, n, within)))
             ∙ row_at_frame c far frames formers parities before s t d p f at);
@@ -307,15 +325,16 @@ module _ (c : Config) (far : FarState) (frames : List ℕ) (formers : List Forme
       → Writes (before ++ events) s []
       → IsBegun far (with_batch c far frames formers parities) (before ++ events) s t
   effect_begun events quiet hots objects versions memory nothing = record {
-    claimed = λ h x. let g = told_one c far frames formers parities before s t d events quiet h x in record {
-      word = g.noted.former.word;
-      version = g.noted.version;
-      words = g.noted.words;
-      found = g.found;
-      told = g.told;
-      was = g.was;
-      object = g.noted.claimed;
-    };
+    claimed = λ h x. let g = told_one c far frames formers parities before s t d events quiet h
+        x in record {
+          word = g.noted.former.word;
+          version = g.noted.version;
+          words = g.noted.words;
+          found = g.found;
+          told = g.told;
+          was = g.was;
+          object = g.noted.claimed;
+        };
     others = λ h out. d.claimed.others h (out_none t far (new_batch c far frames formers parities)
         (taken_group c far frames formers parities before s t d) h out);
     hots = hots;
@@ -326,6 +345,7 @@ module _ (c : Config) (far : FarState) (frames : List ℕ) (formers : List Forme
     nothing = nothing;
     same_now = λ h.
         ap (λ (b : Bool). now_as t h b (object_at t h)) (other_home (home_at far.homes h) h refl)
-        ∙ now_told c far frames formers parities before s t d (told_by (before ++ events) s) h objects
+        ∙ now_told c far frames formers parities before s t d (told_by (before ++ events) s) h
+        objects
         versions memory;
   }

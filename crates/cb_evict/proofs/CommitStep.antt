@@ -65,7 +65,8 @@ by_rule : (x y : Words) (far new : FarState) (r : Reply) (s : Shown) (es : List 
     → HasNoBatch far new r ⊎ (HasShort far new r ⊎ HasCommitted far new r)
     → IsCommitStep x y far new r × IsStepKnown y far new s
 by_rule x y far new r s es runs l effect (inl a) =
-    refused x y far new s es runs l (effect.left (λ id e. no_batch_set id (sym a.reply ∙ e))) a.state
+    refused x y far new s es runs l (effect.left (λ id e. no_batch_set id (sym a.reply ∙ e)))
+    a.state
     (no_batch a)
 by_rule x y far new r s es runs l effect (inr (inl a)) =
     refused x y far new s es runs l (effect.left (λ id e. short_set _ id (sym a.reply ∙ e))) a.state

@@ -51,12 +51,14 @@ use Rattle.cb_evict.proofs.Standing.{candidates_apart}
 use Rattle.cb_evict.proofs.Still.{does_nothing, still_none}
 
 -- ---- by the result
-pub if_ok : {T : Type 0} {E : Type 0} (P Q : T → Type 0) (B : Type 0) (r : Result T E) → IfOk r Q → OnOk r B
+pub if_ok : {T : Type 0} {E : Type 0} (P Q : T → Type 0) (B : Type 0) (r : Result T E) → IfOk r Q
+    → OnOk r B
     → ((t : T) → Q t → B → P t) → IfOk r P
 if_ok P Q B (Ok t) q b f = f t q b
 if_ok P Q B (Err e) q b f = tt
 
-pub on_err : {T : Type 0} {E : Type 0} (P B : Type 0) (r : Result T E) → OnErr r B → (B → P) → OnErr r P
+pub on_err : {T : Type 0} {E : Type 0} (P B : Type 0) (r : Result T E) → OnErr r B → (B → P)
+    → OnErr r P
 on_err P B (Ok t) b f = tt
 on_err P B (Err e) b f = f b
 
@@ -84,7 +86,8 @@ pub taken_enough : (runs : List Event → Type 0) (shows : Shown → Type 0) (c 
     (far : FarState) (loose : List ℕ) (taken : Taken) (frames : _) (formers : _)
     → taken ≡ Enough frames formers → Takes runs shows c far loose taken
     → Takes runs shows c far loose (Enough frames formers)
-taken_enough runs shows c far loose taken frames formers is x = subst (Takes runs shows c far loose) is x
+taken_enough runs shows c far loose taken frames formers is x =
+    subst (Takes runs shows c far loose) is x
 
 -- ---- the rows that are made
 pub rows_made : (rows : List (List ℕ)) (k n : ℕ) → rows ≡ replicate k (replicate 4096 0) → n ≡ k
@@ -94,7 +97,8 @@ rows_made rows k n is e =
     ap (λ (l : List (List ℕ)). length l) is ∙ length-replicate k (replicate 4096 0) in (
       count ∙ sym e,
       λ i d l. ap (λ (m : List (List ℕ)). length (get_or m i d)) is
-          ∙ ap (λ (m : List ℕ). length m) (get_or-replicate k i (replicate 4096 0) d (omega (arith, l, count)))
+          ∙ ap (λ (m : List ℕ). length m) (get_or-replicate k i (replicate 4096 0) d
+          (omega (arith, l, count)))
           ∙ length-replicate {A = ℕ} 4096 0,
     )
 
@@ -134,7 +138,8 @@ evicted_before c far new frames before es a = record {
   chosen = a.chosen;
   word = a.word;
   contents = λ p f slot h span at there named.
-      row_before before es span (row_at a.rows p) slot h (a.contents p f slot h span at there named);
+      row_before before es span (row_at a.rows p) slot h
+      (a.contents p f slot h span at there named);
   homes = a.homes;
   state = a.state;
 }
@@ -162,7 +167,8 @@ few_nodes n r id a b = cc
 
 -- ---- nothing was done
 pub nothing_done : (far : FarState) (runs : List Event → Type 0) (knows : Shown → Type 0)
-    → runs [] → Performs runs (λ s. knows s × Sound s far) (TouchesSpans far) (λ t. Sound t far) IsStill
+    → runs [] → Performs runs (λ s. knows s × Sound s far) (TouchesSpans far) (λ t. Sound t far)
+    IsStill
 nothing_done far runs knows ran =
     does_nothing runs knows far far (TouchesSpans far) IsStill ran refl tt still_none
 
@@ -230,7 +236,8 @@ effect_before far new r es fs s t looks a = record {
 -- only objects of candidates were looked at
 pub looks_touch : (far : FarState) (es : List Event)
     → TouchesOnly (IsIn far.spans (candidates far)) (λ p. ⊥) es → TouchesSpans far es
-looks_touch far es t = touches_more (IsIn far.spans (candidates far)) (IsIn far.spans (candidates far))
+looks_touch far es t = touches_more (IsIn far.spans (candidates far))
+    (IsIn far.spans (candidates far))
     (λ p. ⊥) (LiesInOne (candidates far)) es (λ h x. x) (λ p x. absurd x) t
 
 pub looks_as : (runs : List Event → Type 0) (spans ys : List (Option Contents))
@@ -251,9 +258,11 @@ pub looks_more : (far new : FarState) (loose : List ℕ) (rule after : List Even
     → ((es fs : List Event) → runsA es → runsB fs → runsC (es ++ fs))
     → ((es : List Event) (s : Shown) → runsA es → showsA s → showsB (played es s))
     → Performs runsC (λ s. showsA s × Sound s far) rule (λ t. Sound t new) does
-looks_more far new loose rule after does runsA runsB runsC showsA showsB x y meets moves more shown =
+looks_more far new loose rule after does runsA runsB runsC showsA showsB x y meets moves more
+    shown =
     let es = x.events in let fs = y.events in
-    let known : (s : Shown) → showsA s × Sound s far → showsB (played es s) × Sound (played es s) far =
+    let known : (s : Shown) → showsA s × Sound s far → showsB (played es s)
+    × Sound (played es s) far =
     λ s k. (shown es s x.ran k.0, (looked far es s k.1 x.looks).0) in record {
       events = es ++ fs;
       ran = more es fs x.ran y.ran;
@@ -270,7 +279,8 @@ looks_more far new loose rule after does runsA runsB runsC showsA showsB x y mee
 pub looks_then : (c d : Config) (far new : FarState) (e : Eviction) (loose : List ℕ)
     (runsA runsB runsC : List Event → Type 0) (showsA showsB : Shown → Type 0)
     → d ≡ c → (x : LooksOver runsA far.spans (candidates far) loose)
-    → Performs runsB (λ s. showsB s × Sound s far) (CountsAfter d far new e loose) (λ t. Sound t new)
+    → Performs runsB (λ s. showsB s × Sound s far) (CountsAfter d far new e loose)
+    (λ t. Sound t new)
     (EvictEffect far new (reply_of e))
     → ((es fs : List Event) → runsA es → runsB fs → runsC (es ++ fs))
     → ((es : List Event) (s : Shown) → runsA es → showsA s → showsB (played es s))
@@ -293,7 +303,8 @@ pub looks_fail : (far : FarState) (loose : List ℕ)
 looks_fail far loose runsA runsB runsC showsA showsB x y =
     looks_more far far loose (TouchesSpans far) (TouchesSpans far) IsStill runsA runsB runsC showsA
     showsB x y
-    (λ fs a. touches_append (IsIn far.spans (candidates far)) (LiesInOne (candidates far)) x.events fs
+    (λ fs a. touches_append (IsIn far.spans (candidates far)) (LiesInOne (candidates far)) x.events
+    fs
     (looks_touch far x.events x.touches) a)
     (λ fs s t. left_before x.events fs s t x.looks)
 
@@ -333,7 +344,8 @@ pub replied : (c : Config) (far new : FarState) (e : Eviction) (r : Reply)
     → Performs runs knows (EvictRule c far new r) sound (EvictEffect far new r)
 replied c far new e r runs knows sound is x =
     subst (λ (q : Reply). Performs runs knows (EvictRule c far new q) sound (EvictEffect far new q))
-    (sym is) (rule_weaker runs knows sound (CountsRule c far new e) (EvictRule c far new (reply_of e))
+    (sym is) (rule_weaker runs knows sound (CountsRule c far new e)
+    (EvictRule c far new (reply_of e))
     (EvictEffect far new (reply_of e)) (λ es y. y.rule) x)
 
 -- a set has no counts to tell
@@ -419,13 +431,15 @@ finds_few c d far e runs shows same x =
 pub claims_touch : (far : FarState) (loose : List ℕ) (es : List Event)
     → All (Contains (candidates far)) loose → TouchesOnly (IsIn far.spans loose) (λ p. ⊥) es
     → TouchesSpans far es
-claims_touch far loose es among t = touches_more (IsIn far.spans loose) (IsIn far.spans (candidates far))
+claims_touch far loose es among t = touches_more (IsIn far.spans loose)
+    (IsIn far.spans (candidates far))
     (λ p. ⊥) (LiesInOne (candidates far)) es
     (λ h (f, c, named). (f, All-contains (Contains (candidates far)) loose f among c, named))
     (λ p x. absurd x) t
 
 -- the spans that are loose in the end
-pub loose_then : (far : FarState) (loose : List ℕ) (runs : List Event → Type 0) (shows : Shown → Type 0)
+pub loose_then : (far : FarState) (loose : List ℕ) (runs : List Event → Type 0)
+    (shows : Shown → Type 0)
     (k : ℕ) (frames : List ℕ) (formers : List Former) (before fs : List Event)
     → (x : ClaimsSpans runs shows far.spans loose k frames formers)
     → ((h : ℕ) → NoLook h fs) → AreLoose before far.spans (candidates far) loose
@@ -437,7 +451,8 @@ loose_then far loose runs shows k frames formers before fs x quiet found =
     (λ f c h named. quiet h)
     (x.found before (candidates far) (candidates_apart far) found))
 
-pub wide_touch : (far : FarState) (loose : List ℕ) (runs : List Event → Type 0) (shows : Shown → Type 0)
+pub wide_touch : (far : FarState) (loose : List ℕ) (runs : List Event → Type 0)
+    (shows : Shown → Type 0)
     (k : ℕ) (frames : List ℕ) (formers : List Former) (es : List Event)
     → All (Contains (candidates far)) loose
     → (x : ClaimsSpans runs shows far.spans loose k frames formers)
@@ -470,11 +485,13 @@ are_ready far loose frames formers runs shows showsB k x among s shown knows sou
 
 pub are_taken : (c : Config) (far : FarState) (loose frames : List ℕ) (formers : List Former)
     (runs : List Event → Type 0) (shows : Shown → Type 0) (k : ℕ)
-    → ClaimsSpans runs shows far.spans loose k frames formers → All (Contains (candidates far)) loose
+    → ClaimsSpans runs shows far.spans loose k frames formers
+    → All (Contains (candidates far)) loose
     → length frames ≡ c.k → AreTaken c far frames formers
 are_taken c far loose frames formers runs shows k x among count = record {
   count = count;
-  among = λ i d l. All-contains (Contains (candidates far)) loose (get_or frames i d) among (x.among i d l);
+  among = λ i d l. All-contains (Contains (candidates far)) loose (get_or frames i d) among
+      (x.among i d l);
   apart = x.apart;
   of = x.of;
   order = x.order;
@@ -524,11 +541,13 @@ pub claims_end : (far new : FarState) (loose : List ℕ) (k : ℕ) (frames : Lis
     → ((es fs : List Event) → runsA es → runsB fs → runsC (es ++ fs))
     → ((s : Shown) → showsA s → showsB (played x.events s))
     → Performs runsC (λ s. showsA s × Sound s far) rule (λ t. Sound t new) effect
-claims_end far new loose k frames formers rule ends does effect runsA runsB runsC showsA showsB x y among
+claims_end far new loose k frames formers rule ends does effect runsA runsB runsC showsA showsB x y
+    among
     meets moves more shown =
     let es = x.events in let fs = y.events in
     let ready = λ (s : Shown) (had : showsA s × Sound s far).
-    are_ready far loose frames formers runsA showsA showsB k x among s (shown s had.0) had.0 had.1 in
+    are_ready far loose frames formers runsA showsA showsB k x among s (shown s had.0) had.0 had.1
+    in
     record {
       events = es ++ fs;
       ran = more es fs x.ran y.ran;
@@ -550,21 +569,25 @@ pub record LeavesLoose (far : FarState) (k : ℕ) (loose : List ℕ) (frames : L
   pub touches : TouchesSpans far es
 
 pub claims_leave : (far new : FarState) (loose : List ℕ) (k : ℕ) (frames : List ℕ)
-    (formers : List Former) (ends : List Event → Type 0) (does : List Event → Shown → Shown → Type 0)
+    (formers : List Former) (ends : List Event → Type 0)
+    (does : List Event → Shown → Shown → Type 0)
     (runsA runsB : List Event → Type 0) (showsA showsB : Shown → Type 0)
     → (x : ClaimsSpans runsA showsA far.spans loose k frames formers)
     → (y : EndsClaimed runsB showsB far new frames formers ends does)
     → All (Contains (candidates far)) loose → (before : List Event)
     → AreLoose before far.spans (candidates far) loose → TouchesSpans far before
     → LeavesLoose far k (frames ++ x.rest) frames (before ++ (x.events ++ y.events))
-claims_leave far new loose k frames formers ends does runsA runsB showsA showsB x y among before found
+claims_leave far new loose k frames formers ends does runsA runsB showsA showsB x y among before
+    found
     touches =
     let es = x.events in let fs = y.events in record {
       found = loose_then far loose runsA showsA k frames formers before fs x y.quiet found;
       enough = λ count. let n = length-append frames x.rest in omega (arith, n, count);
       first = λ count. sym (take_at frames x.rest k count);
-      touches = touches_append (IsIn far.spans (candidates far)) (LiesInOne (candidates far)) before (es ++ fs)
-          touches (touches_append (IsIn far.spans (candidates far)) (LiesInOne (candidates far)) es fs
+      touches = touches_append (IsIn far.spans (candidates far)) (LiesInOne (candidates far))
+          before (es ++ fs)
+          touches (touches_append (IsIn far.spans (candidates far)) (LiesInOne (candidates far)) es
+          fs
           (claims_touch far loose es among x.touches)
           (wide_touch far loose runsA showsA k frames formers fs among x y.touches));
     }
@@ -586,10 +609,12 @@ pub claims_then : (c : Config) (far new : FarState) (id : SetId) (r : Reply)
 claims_then c far new id r loose frames formers runsA runsB runsC showsA showsB x y more shown among
     count room number is (s, shows, sound) =
     let all = x.events ++ y.events in
-    claims_end far new loose c.k frames formers (RuleAfter c far new r loose) (HasEvicted c far new frames)
+    claims_end far new loose c.k frames formers (RuleAfter c far new r loose)
+    (HasEvicted c far new frames)
     (IsEvicted far new) (EvictEffect far new r) runsA runsB runsC showsA showsB x y among
     (λ before found touches.
-    let a = claims_leave far new loose c.k frames formers _ _ runsA runsB showsA showsB x y among before
+    let a = claims_leave far new loose c.k frames formers _ _ runsA runsB showsA showsB x y among
+    before
     found touches in record {
       loose = frames ++ x.rest;
       found = a.found;
@@ -599,7 +624,8 @@ claims_then c far new id r loose frames formers runsA runsB runsC showsA showsB 
         reply = is ∙ ap answer.Set number;
         evicted = subst (λ (l : List ℕ). HasEvicted c far new l (before ++ all)) (a.first count)
             (evicted_before c far new frames before all (y.rule x.events s
-            (are_ready far loose frames formers runsA showsA showsB c.k x among s (shown s shows) shows sound)));
+            (are_ready far loose frames formers runsA showsA showsB c.k x among s
+            (shown s shows) shows sound)));
       }));
       touches = a.touches;
     })
@@ -615,7 +641,8 @@ pub claims_fail : (c : Config) (far : FarState) (loose frames : List ℕ) (forme
     → All (Contains (candidates far)) loose
     → Performs runsC (λ s. showsA s × Sound s far) (TouchesSpans far) (λ t. Sound t far) IsStill
 claims_fail c far loose frames formers runsA runsB runsC showsA showsB x y more shown among =
-    claims_end far far loose c.k frames formers (TouchesSpans far) (λ es. Unit {0}) IsStill IsStill runsA
+    claims_end far far loose c.k frames formers (TouchesSpans far) (λ es. Unit {0}) IsStill IsStill
+    runsA
     runsB runsC showsA showsB x y among
     (touches_append (IsIn far.spans (candidates far)) (LiesInOne (candidates far)) x.events y.events
     (claims_touch far loose x.events among x.touches)
@@ -624,7 +651,8 @@ claims_fail c far loose frames formers runsA runsB runsC showsA showsB x y more 
 
 -- fewer were claimed, and are given back
 pub claims_back_then : (c : Config) (far : FarState) (r : Reply) (loose frames : List ℕ)
-    (formers : List Former) (runsA runsB runsC : List Event → Type 0) (showsA showsB : Shown → Type 0)
+    (formers : List Former) (runsA runsB runsC : List Event → Type 0)
+    (showsA showsB : Shown → Type 0)
     → (x : ClaimsSpans runsA showsA far.spans loose c.k frames formers)
     → (y : GivesBack runsB showsB formers)
     → ((es fs : List Event) → runsA es → runsB fs → runsC (es ++ fs))
@@ -637,16 +665,21 @@ claims_back_then c far r loose frames formers runsA runsB runsC showsA showsB x 
     few is =
     let among_frames = λ (i d : ℕ) (l : i < length frames).
     All-contains (Contains (candidates far)) loose (get_or frames i d) among (x.among i d l) in
-    let end = gives_back_ends far frames formers (λ es. es ≡ []) runsB runsB showsB showsB [] among_frames
+    let end = gives_back_ends far frames formers (λ es. es ≡ []) runsB runsB showsB showsB []
+    among_frames
     x.of.only (are_reads (LiesInOne frames) [] tt) refl y
-    (λ none fs e b. subst (λ (l : List Event). runsB (l ++ fs)) (sym e) b) (λ before s r. r.shown) in
+    (λ none fs e b. subst (λ (l : List Event). runsB (l ++ fs)) (sym e) b) (λ before s r. r.shown)
+    in
     let none : x.rest ≡ [] = rest_none x.stops in
     let same : length (frames ++ x.rest) ≡ length frames =
-    ap (λ (l : List ℕ). length (frames ++ l)) none ∙ ap (λ (l : List ℕ). length l) (append-nil frames) in
-    claims_end far far loose c.k frames formers (RuleAfter c far far r loose) (λ es. Unit {0}) IsStill
+    ap (λ (l : List ℕ). length (frames ++ l)) none
+    ∙ ap (λ (l : List ℕ). length l) (append-nil frames) in
+    claims_end far far loose c.k frames formers (RuleAfter c far far r loose) (λ es. Unit {0})
+    IsStill
     (EvictEffect far far r) runsA runsB runsC showsA showsB x end among
     (λ before found touches.
-    let a = claims_leave far far loose c.k frames formers _ _ runsA runsB showsA showsB x end among before
+    let a = claims_leave far far loose c.k frames formers _ _ runsA runsB showsA showsB x end among
+    before
     found touches in record {
       loose = frames ++ x.rest;
       found = a.found;
@@ -657,7 +690,8 @@ claims_back_then c far r loose frames formers runsA runsB runsC showsA showsB x 
       });
       touches = a.touches;
     })
-    (λ s t. left_effect far far r (x.events ++ end.events) s t (λ id e. few_spans (length frames) r id is e))
+    (λ s t. left_effect far far r (x.events ++ end.events) s t
+    (λ id e. few_spans (length frames) r id is e))
     more shown
   where
     rest_none : (length frames ≡ c.k) ⊎ (x.rest ≡ []) → x.rest ≡ []

@@ -44,7 +44,8 @@ use Rattle.cb_evict.proofs.Standing.{IsReadyFrame, ready_frame}
 use Rattle.cb_evict.proofs.TakenGroup.{AreRead, frame_rows, rows_read}
 
 -- ---- the frames that were taken
-pub taken_ready : (c : Config) (far : FarState) (frames : List ℕ) (formers : List Former) (s : Shown)
+pub taken_ready : (c : Config) (far : FarState) (frames : List ℕ) (formers : List Former)
+    (s : Shown)
     → AreTaken c far frames formers → LocalSound s far → (f : ℕ) → Contains frames f
     → IsReadyFrame far f
 taken_ready c far frames formers s a sound f x =
@@ -114,14 +115,20 @@ are_read c far frames formers coded parities shows before s ok r taken a count m
             let e : slice_get frames p ≡ Some f =
             slice_get-get_or frames p f within ∙ ap (λ (n : ℕ). Some n) at in
             let m = made p f e in
-            subst (λ (ws : List ℕ). All (λ w. w < 2 ^ 64) ws) (m.contents t r.shown (owned f (p, within, at)))
+            subst (λ (ws : List ℕ). All (λ w. w < 2 ^ 64) ws)
+            (m.contents t r.shown (owned f (p, within, at)))
             m.small;
       },
       same,
     )
   where
     placed : (frames : List ℕ) (p f : ℕ) → slice_get frames p ≡ Some f → Contains frames f
-    placed frames p f at = (p, slice_get_within frames p f at, get_or_from_slice_get frames p f f at)
+    placed frames p f at = (
+      p,
+      slice_get_within frames p f at,
+      get_or_from_slice_get frames p f f
+          at,
+    )
 
 -- all that is promised of the events of the end
 pub record Ended (c : Config) (far new : FarState) (frames : List ℕ) (before events : List Event)
@@ -136,7 +143,8 @@ pub record IsEnd (q : ℕ → Type 0) (formers : List Former) (ls ss : List Even
   pub touches : TouchesOnly (IsOne formers) (λ p. ⊥) ss
   pub quiet : (k : ℕ) → NoLook k ss
 
-pub end_quiet : (q : ℕ → Type 0) (formers : List Former) (ls ss : List Event) → IsEnd q formers ls ss
+pub end_quiet : (q : ℕ → Type 0) (formers : List Former) (ls ss : List Event)
+    → IsEnd q formers ls ss
     → (k : ℕ) → NoLook k (ls ++ ss)
 end_quiet q formers ls ss e k = no_look_append k ls ss (e.reads.quiet k) (e.quiet k)
 
@@ -144,7 +152,8 @@ pub end_touches : (q : ℕ → Type 0) (formers : List Former) (ls ss : List Eve
     → IsEnd q formers ls ss → TouchesOnly (IsOne formers) q (ls ++ ss)
 end_touches q formers ls ss e = touches_append (IsOne formers) q ls ss
     (touches_more (λ h. ⊥) (IsOne formers) q q ls (λ h x. absurd x) (λ p x. x) e.reads.touches)
-    (touches_more (IsOne formers) (IsOne formers) (λ p. ⊥) q ss (λ h x. x) (λ p x. absurd x) e.touches)
+    (touches_more (IsOne formers) (IsOne formers) (λ p. ⊥) q ss (λ h x. x) (λ p x. absurd x)
+    e.touches)
 
 pub end_played : (q : ℕ → Type 0) (formers : List Former) (before ls ss : List Event) (s : Shown)
     → IsEnd q formers ls ss → played (before ++ (ls ++ ss)) s ≡ played ss (played before s)
@@ -154,12 +163,14 @@ end_played q formers before ls ss s e = played_append before (ls ++ ss) s
 pub ended : (c : Config) (far new : FarState) (frames : List ℕ) (formers : List Former)
     (shards : List Shard) (coded parities : List (List ℕ)) (homes : List (Option Home))
     (q o p : ℕ → Type 0) (before ls ss : List Event) (s : Shown)
-    → Done c far frames formers shards parities homes before s (played before s) (played ss (played before s))
+    → Done c far frames formers shards parities homes before s (played before s)
+    (played ss (played before s))
     → coded ≡ frame_rows (played before s) frames → IsEnd q formers ls ss
     → new ≡ after_far far frames shards (coded ++ parities) homes → IsSteady before s
     → TouchesOnly o p (before ++ (ls ++ ss)) → Writes ss (played before s) []
     → Ended c far new frames before (ls ++ ss) s
-ended c far new frames formers shards coded parities homes q o p before ls ss s d read e state steady
+ended c far new frames formers shards coded parities homes q o p before ls ss s d read e state
+    steady
     touches nothing =
     let t = played before s in let u = played ss t in
     let events = ls ++ ss in let rows = frame_rows t frames ++ parities in
@@ -168,18 +179,22 @@ ended c far new frames formers shards coded parities homes q o p before ls ss s 
     let quiet = end_quiet q formers ls ss e in
     let same = end_played q formers before ls ss s e in
     let words = told_words o p (before ++ events) s s touches refl refl in
-    let told = told_before (IsOne formers) q before events s (end_touches q formers ls ss e) quiet in
+    let told = told_before (IsOne formers) q before events s (end_touches q formers ls ss e) quiet
+    in
     record {
       evicted = subst (λ (x : FarState). HasEvicted c far x frames (before ++ events)) (sym is)
           (rule_then c far frames formers shards parities homes before s t u d events quiet);
       sound = subst (λ (x : FarState). Sound (played (before ++ events) s) x) (sym is)
           (subst (λ (v : Shown). Sound v (after_far far frames shards rows homes)) (sym same)
           (sound_then c far frames formers shards parities homes before s t u d));
-      effect = subst (λ (x : FarState). IsEvicted far x (before ++ events) s (played (before ++ events) s)) (sym is)
-          (subst (λ (v : Shown). IsEvicted far (after_far far frames shards rows homes) (before ++ events) s v) (sym same)
+      effect = subst (λ (x : FarState). IsEvicted far x (before ++ events) s
+          (played (before ++ events) s)) (sym is)
+          (subst (λ (v : Shown). IsEvicted far (after_far far frames shards rows homes)
+          (before ++ events) s v) (sym same)
           (effect_then c far frames formers shards parities homes before s t u d events quiet
           (λ h none. d.sent.hots h none
-          ∙ ap (λ (l : List Bool). get_or l h false) (steady.hots ∙ sym (ap (λ (x : Shown). x.hots) told)))
+          ∙ ap (λ (l : List Bool). get_or l h false)
+          (steady.hots ∙ sym (ap (λ (x : Shown). x.hots) told)))
           (told_objects (before ++ events) s).0
           (sym (ap (λ (x : Shown). x.versions) same) ∙ words.0)
           (sym (ap (λ (x : Shown). x.memory) same) ∙ words.1)
@@ -198,7 +213,8 @@ state_then far mid new frames shards rows a b =
     b ∙ ap (λ (x : FarState). with_homes x frames new.homes) a
 
 pub homes_then : (far mid : FarState) (frames : List ℕ) (shards : List Shard)
-    (rows : List (List ℕ)) (id : ℕ) (homes : List (Option Home)) → mid ≡ with_set far shards frames rows
+    (rows : List (List ℕ)) (id : ℕ) (homes : List (Option Home))
+    → mid ≡ with_set far shards frames rows
     → id ≡ far.counts.sets → HaveHomes mid.spans frames id mid.homes homes
     → HaveHomes far.spans frames far.counts.sets far.homes homes
 homes_then far mid frames shards rows id homes a e x =
@@ -210,7 +226,8 @@ pub end_in : (far : FarState) (frames : List ℕ) (formers : List Former) (ls ss
     → All (λ f. IsIn far.spans frames f.handle) formers → IsEnd (LiesInOne frames) formers ls ss
     → TouchesOnly (IsIn far.spans frames) (LiesInOne frames) (ls ++ ss)
 end_in far frames formers ls ss only e =
-    touches_more (IsOne formers) (IsIn far.spans frames) (LiesInOne frames) (LiesInOne frames) (ls ++ ss)
+    touches_more (IsOne formers) (IsIn far.spans frames) (LiesInOne frames) (LiesInOne frames)
+    (ls ++ ss)
     (λ h (f, x, same). subst (IsIn far.spans frames) same
     (All-contains (λ g. IsIn far.spans frames g.handle) formers f only x))
     (λ p x. x) (end_touches (LiesInOne frames) formers ls ss e)
@@ -231,5 +248,6 @@ pub frames_below : (c : Config) (far : FarState) (frames : List ℕ) (formers : 
     (s t : Shown) (n : ℕ) → AreTaken c far frames formers → LocalSound s far → LocalSound t far
     → length t.memory ≡ 512 * n → All (λ f. f < n) frames
 frames_below c far frames formers s t n a sound here count k d l =
-    let x = taken_ready c far frames formers s a sound (get_or frames k d) (place_in frames k d l) in
+    let x = taken_ready c far frames formers s a sound (get_or frames k d) (place_in frames k d l)
+    in
     let w = x.within in omega (arith, w, here.placed.memory, count)

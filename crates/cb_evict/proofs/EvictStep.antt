@@ -68,8 +68,10 @@ pub word_stays : (x y : Words) (far : FarState) (s : Shown) (es : List Event) (h
     → object_at (played es s) h ≡ object_at s h → hot_at (played es s) h ≡ hot_at s h
     → word_at y h ≡ word_at x h
 word_stays x y far s es h r count object hot = elim (cases_lt h (length x.words)) [
-  | inl below ↦ word_back x y far s es h r.known r.ran r.allowed below (omega (arith, below, count)) object hot
-  | inr past ↦ get_or_past y.words h 0 (omega (arith, past, count)) ∙ sym (get_or_past x.words h 0 past)
+  | inl below ↦ word_back x y far s es h r.known r.ran r.allowed below
+      (omega (arith, below, count)) object hot
+  | inr past ↦ get_or_past y.words h 0 (omega (arith, past, count))
+      ∙ sym (get_or_past x.words h 0 past)
 ]
 
 sent_off : (x y : Words) (far new : FarState) (s : Shown) (es : List Event) (frames : List ℕ)
@@ -192,7 +194,8 @@ by_rule : (x y : Words) (far new : FarState) (r : Reply) (s : Shown) (es : List 
     ⊎ HasBoth x.settings far new r loose es)
     → IsEvictStep x y far new r × IsStepKnown y far new s
 by_rule x y far new r s es loose runs l same effect (inl a) =
-    refused x y far new s es runs l (effect.left (λ id e. not_few_spans (length loose) r id a.reply e)) a.state
+    refused x y far new s es runs l (effect.left
+    (λ id e. not_few_spans (length loose) r id a.reply e)) a.state
     (few_spans (subst (HasFewSpans x.settings far new r) same a))
 by_rule x y far new r s es loose runs l same effect (inr (inl a)) =
     refused x y far new s es runs l (effect.left (λ id e. not_few_nodes _ r id a.reply e)) a.state

@@ -54,7 +54,8 @@ pub record Done (c : Config) (far : FarState) (frames : List ℕ) (formers : Lis
   pub homed : HaveHomes far.spans frames far.counts.sets far.homes homes
 
 -- the far state then
-abbrev pub after_far : FarState → List ℕ → List Shard → List (List ℕ) → List (Option Home) → FarState
+abbrev pub after_far : FarState → List ℕ → List Shard → List (List ℕ) → List (Option Home)
+    → FarState
 after_far far frames shards rows homes = with_homes (with_set far shards frames rows) frames homes
 
 abbrev new_sets : FarState → List ℕ → List Shard → SetMap
@@ -105,7 +106,8 @@ module _ (c : Config) (far : FarState) (frames : List ℕ) (formers : List Forme
         only = λ node key row at. put_only far.nodes shards rows node key row within at;
         same_nodes = put_count far.nodes shards rows;
         room = room_puts far.nodes shards rows
-            (λ p shard at. fits_on_least far (take p shards) shard.node (d.chosen.each p shard at).node)
+            (λ p shard at. fits_on_least far (take p shards) shard.node
+            (d.chosen.each p shard at).node)
             (shards_distinct far n shards d.chosen);
         unpaired = λ pair at. let j = (r.sound.away.join pair at).drawn in
             ((λ e. omega (arith, j.0, e)), (λ e. omega (arith, j.1, e)));
@@ -113,11 +115,13 @@ module _ (c : Config) (far : FarState) (frames : List ℕ) (formers : List Forme
 
   -- the world is sound then
   pub sound_then : Sound u (after_far far frames shards (frame_rows t frames ++ parities) homes)
-  sound_then = sound_away t u far (new_batch c far frames formers parities) shards _ _ _ homes put_away
+  sound_then = sound_away t u far (new_batch c far frames formers parities) shards _ _ _ homes
+      put_away
 
   -- ---- the rule
   pub rule_then : (events : List Event) → ((k : ℕ) → NoLook k events)
-      → HasEvicted c far (after_far far frames shards (frame_rows t frames ++ parities) homes) frames
+      → HasEvicted c far (after_far far frames shards (frame_rows t frames ++ parities) homes)
+      frames
       (before ++ events)
   rule_then events quiet = record {
     shards = shards;
@@ -147,7 +151,8 @@ module _ (c : Config) (far : FarState) (frames : List ℕ) (formers : List Forme
       (λ (f, x, named). not (f, named, closed_in far.spans frames f x))
 
   -- the row of an object is that of the frame that it left
-  rows_then : HaveFrameRows far (after_far far frames shards (frame_rows t frames ++ parities) homes)
+  rows_then : HaveFrameRows far (after_far far frames shards (frame_rows t frames ++ parities)
+      homes)
       u.memory
   rows_then h f home set shard named gone at there is =
       let x = in_gone h f named gone in
@@ -185,12 +190,14 @@ module _ (c : Config) (far : FarState) (frames : List ℕ) (formers : List Forme
           words = g.noted.words;
           found = g.found;
           told = g.told;
-          object = is_sent t u far (new_batch c far frames formers parities) shards _ _ _ homes put_away h
+          object = is_sent t u far (new_batch c far frames formers parities) shards _ _ _ homes
+              put_away h
               g.noted;
           cold = ap (hot_at u) (sym g.noted.handle)
               ∙ (All-contains (IsSent t u) formers g.noted.former d.sent.sent g.noted.noted).cold;
         };
-    others = λ h not. let none = not_left h not in d.sent.others h none ∙ d.read.claimed.others h none;
+    others = λ h not. let none = not_left h not in d.sent.others h none
+        ∙ d.read.claimed.others h none;
     hots = λ h not. hots h (not_left h not);
     first = d.sent.first ∙ d.read.claimed.keeps.first;
     objects = d.sent.objects ∙ d.read.claimed.keeps.objects;

@@ -113,7 +113,8 @@ quiet_away s t far quiet rows sound = record {
       numbered = x.sets.numbered;
     };
     away = record {
-      away = λ h len v words e. x.away.away h len v words (far_before s t h len v words (quiet h) e);
+      away = λ h len v words e. x.away.away h len v words
+          (far_before s t h len v words (quiet h) e);
       home = x.away.home;
       named = x.away.named;
     };

@@ -101,7 +101,8 @@ pub record IsPutAway (t u : Shown) (far : FarState) (batch : LeavingState) (shar
 module _ (t u : Shown) (far : FarState) (batch : LeavingState) (shards : List Shard)
     (sets : SetMap) (nodes : NodesState) (counts : CountsState) (homes : List (Option Home))
     (d : IsPutAway t u far batch shards sets nodes counts homes) where
-  pub is_sent : (h : ℕ) → (n : IsNoted t batch h) → object_at u h ≡ is.Far (len_of n.former.word) n.version n.words
+  pub is_sent : (h : ℕ) → (n : IsNoted t batch h)
+      → object_at u h ≡ is.Far (len_of n.former.word) n.version n.words
   is_sent h n =
       let b = All-contains (IsSent t u) batch.words n.former d.sent.sent n.noted in
       let e : is.Claimed (len_of n.former.word) (place_of n.former.word) b.version b.words
@@ -169,7 +170,8 @@ module _ (t u : Shown) (far : FarState) (batch : LeavingState) (shards : List Sh
             let m = slot_named far shards batch.frames q i h e in
             let same = once.one_frame (get_or batch.frames q 0) f h (i, m.1) (slot, is) in (
               frame_once q p m.0 within (same ∙ sym frame),
-              once.one_slot f i slot h (subst (λ (k : ℕ). resident far.spans k i ≡ Some h) same m.1) is,
+              once.one_slot f i slot h (subst (λ (k : ℕ). resident far.spans k i ≡ Some h) same
+                  m.1) is,
             );
         home = d.homed.here p f slot h there is;
         before = claimed_not_far (object_at t h) _ _ n.version n.words n.claimed;
@@ -204,8 +206,10 @@ module _ (t u : Shown) (far : FarState) (batch : LeavingState) (shards : List Sh
           distinct = d.distinct;
           current = d.current;
         };
-        code = subst (λ (i : ℕ). IsSpanWord i (parities (put_set far batch shards)) (batch_rows t batch))
-            (sym k) (subst (λ (i : ℕ). IsSpanWord (length batch.frames) i (batch_rows t batch)) (sym r)
+        code = subst (λ (i : ℕ). IsSpanWord i (parities (put_set far batch shards))
+            (batch_rows t batch))
+            (sym k) (subst (λ (i : ℕ). IsSpanWord (length batch.frames) i (batch_rows t batch))
+            (sym r)
             d.word);
         lives = set_lives far shards batch.frames;
         some_live = (0, set_live far t shards batch.frames head.0 d.group.here some head.1);
@@ -227,7 +231,8 @@ module _ (t u : Shown) (far : FarState) (batch : LeavingState) (shards : List Sh
         leaving = refl;
         joining = refl;
         survey = refl;
-        batch = λ b there. ap (λ (ms : List ℕ). batch_rows (record t { memory = ms }) b) d.sent.memory;
+        batch = λ b there. ap (λ (ms : List ℕ). batch_rows (record t { memory = ms }) b)
+            d.sent.memory;
         unpaired = d.unpaired;
         each = λ h. elim (either t far batch d.group h) [
           | inl x ↦ inr (moved h x)
@@ -343,7 +348,8 @@ module _ (t u : Shown) (far : FarState) (batch : LeavingState) (shards : List Sh
   -- the world is sound then
   pub sound_away : Sound u (away_far far batch sets nodes counts homes)
   sound_away = record {
-    here = sound_gone (record far { sets = sets; nodes = nodes; counts = counts }) t u batch.frames homes
+    here = sound_gone (record far { sets = sets; nodes = nodes; counts = counts }) t u batch.frames
+        homes
         (here_beside t far sets nodes far.leaving counts d.group.here)
         (λ f c. let x = d.group.held f c in frame_in_range far.spans f x.0 x.1) left_memory;
     noted = noted;

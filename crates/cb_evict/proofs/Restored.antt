@@ -99,7 +99,8 @@ pub gives_back_ends : (far : FarState) (frames : List ℕ) (formers : List Forme
     → ((before : List Event) (s : Shown) → IsReady showsA far formers before s
     → showsB (played before s))
     → LeavesClaimed runsC showsA far frames formers
-gives_back_ends far frames formers runsA runsB runsC showsA showsB ls among only reads ran y more shown =
+gives_back_ends far frames formers runsA runsB runsC showsA showsB ls among only reads ran y more
+    shown =
     let end : IsEnd (LiesInOne frames) formers ls y.events =
     record { reads = reads; touches = y.touches; quiet = y.quiet } in
     let touched = end_in far frames formers ls y.events only end in
@@ -107,8 +108,10 @@ gives_back_ends far frames formers runsA runsB runsC showsA showsB ls among only
     y.back (played before s) far (shown before s r) r.here (λ k d l. (r.claimed.taken k d l).at) in
     let all = λ (before : List Event) (s : Shown) (r : IsReady showsA far formers before s).
     let b = back before s r in
-    batch_back far formers (LiesInOne frames) _ _ before ls y.events s r.sound r.claimed r.steady end
-    b.0 b.1 b.2 (spans_touched far frames before (ls ++ y.events) among r.touches touched) in record {
+    batch_back far formers (LiesInOne frames) _ _ before ls y.events s r.sound r.claimed r.steady
+    end
+    b.0 b.1 b.2 (spans_touched far frames before (ls ++ y.events) among r.touches
+    touched) in record {
       events = ls ++ y.events;
       ran = more ls y.events ran y.ran;
       touches = touched;

@@ -116,7 +116,8 @@ module _ (c : Config) (far : FarState) (frames : List ℕ) (formers : List Forme
     (parities : List (List ℕ)) (before : List Event) (s t : Shown)
     (d : AreRead c far frames formers parities before s t) where
   ready : (f : ℕ) → Contains frames f → IsReadyFrame far f
-  ready f x = ready_frame far s f d.sound.here (All-contains (Contains (candidates far)) frames f d.taken.among x)
+  ready f x = ready_frame far s f d.sound.here
+      (All-contains (Contains (candidates far)) frames f d.taken.among x)
 
   once : AreUnique far.spans (length s.objects)
   once = are_unique far s (length s.objects) d.sound.here refl
@@ -124,7 +125,8 @@ module _ (c : Config) (far : FarState) (frames : List ℕ) (formers : List Forme
   -- ---- its objects
   either_one : (h : ℕ) → IsIn far.spans frames h ⊎ IsNone formers h
   either_one h = elim (among formers h) [
-    | inl (k, l, e) ↦ inl (subst (IsIn far.spans frames) (e no_former) (d.taken.of.only k no_former l))
+    | inl (k, l, e) ↦ inl (subst (IsIn far.spans frames) (e no_former)
+        (d.taken.of.only k no_former l))
     | inr none ↦ inr none
   ]
 
@@ -133,9 +135,11 @@ module _ (c : Config) (far : FarState) (frames : List ℕ) (formers : List Forme
       → object_at t h ≡ is.Claimed len place v words
       → All (λ w. w < 2 ^ 64) (window t.memory place (words_for len))
   small_one h f len place v words x named e =
-      let seat = d.here.placed.placed h len place (subst (λ (o : Object). LiesAt o len place) (sym e) (refl, refl)) in
+      let seat = d.here.placed.placed h len place
+      (subst (λ (o : Object). LiesAt o len place) (sym e) (refl, refl)) in
       let frame : seat.frame ≡ f = once.one_frame seat.frame f h
-      (seat.slot, ap (λ (o : Option Contents). handle_in o seat.slot) seat.there ∙ seat.named) named in
+      (seat.slot, ap (λ (o : Option Contents). handle_in o seat.slot) seat.there ∙ seat.named)
+      named in
       let inside = slot_inside far t h len place d.here seat in
       small_part t.memory (window t.memory (512 * f) 512) (512 * f) place (words_for len)
       (window_length t.memory (512 * f) 512) (d.small f x) refl
@@ -148,7 +152,8 @@ module _ (c : Config) (far : FarState) (frames : List ℕ) (formers : List Forme
       let y = d.taken.of.all h (f, c, named) in
       let g = y.0 in let x = y.1 in let same : g.handle ≡ h = y.2 in
       let a = All-contains (IsClaimedBy before t) formers g d.claimed.taken x in
-      let claimed : object_at t h ≡ is.Claimed (len_of g.word) (place_of g.word) a.at.version a.at.words =
+      let claimed : object_at t h ≡ is.Claimed (len_of g.word) (place_of g.word) a.at.version
+      a.at.words =
       ap (object_at t) (sym same) ∙ a.at.object in
       record {
         noted = record {
@@ -161,7 +166,8 @@ module _ (c : Config) (far : FarState) (frames : List ℕ) (formers : List Forme
           words = a.at.words;
           claimed = claimed;
           small = subst (λ (ws : List ℕ). All (λ w. w < 2 ^ 64) ws) a.at.contents
-              (small_one h f (len_of g.word) (place_of g.word) a.at.version a.at.words c named claimed);
+              (small_one h f (len_of g.word) (place_of g.word) a.at.version a.at.words c named
+              claimed);
         };
         was = ap (object_at s) (sym same) ∙ All-contains (WasHere s) formers g d.claimed.were x;
         found = subst (λ (k : ℕ). IsFound k g.word (before ++ events)) same
@@ -197,7 +203,11 @@ module _ (c : Config) (far : FarState) (frames : List ℕ) (formers : List Forme
       → IsNone formers h
   leaving_none b there f slot h span leaves at named = elim (either_one h) [
     | inl x ↦
-        let mine : Names far.spans f h = (slot, ap (λ (o : Option Contents). handle_in o slot) at ∙ named) in
+        let mine : Names far.spans f h = (
+          slot,
+          ap (λ (o : Option Contents). handle_in o slot) at
+              ∙ named,
+        ) in
         absurd (leaving_out b there f leaves
         (subst (Contains frames) (once.one_frame x.0 f h x.2 mine) x.1))
     | inr none ↦ none
@@ -226,7 +236,8 @@ module _ (c : Config) (far : FarState) (frames : List ℕ) (formers : List Forme
     each_once = d.taken.each_once;
     contents = λ h len place v words x e.
         let g = one h x in let w = g.noted.former.word in
-        let same = claimed_same len place v (len_of w) (place_of w) g.noted.version words g.noted.words
+        let same = claimed_same len place v (len_of w) (place_of w) g.noted.version words
+        g.noted.words
         (sym e ∙ g.noted.claimed) in
         same.2 ∙ sym g.contents
         ∙ (λ i. window t.memory (sym same.1 i) (words_for (sym same.0 i)));
@@ -246,7 +257,8 @@ module _ (c : Config) (far : FarState) (frames : List ℕ) (formers : List Forme
       drawn = omega arith;
       unpaired = λ apart. apart;
     }) (λ f slot h span leaves at named. noted_still s t b b h refl
-        (d.claimed.others h (leaving_none b there f slot h span leaves at named))) (d.sound.noted b there);
+        (d.claimed.others h (leaving_none b there f slot h span leaves at named)))
+        (d.sound.noted b there);
     out = leaving_out;
   }
 
@@ -263,7 +275,8 @@ module _ (c : Config) (far : FarState) (frames : List ℕ) (formers : List Forme
 
   pub group_word : IsSpanWord (length frames) (length parities) (frame_rows t frames ++ parities)
   group_word =
-      subst (λ (n : ℕ). IsSpanWord n (length parities) (frame_rows t frames ++ parities)) (sym d.taken.count)
+      subst (λ (n : ℕ). IsSpanWord n (length parities) (frame_rows t frames ++ parities))
+      (sym d.taken.count)
       (subst (λ (n : ℕ). IsSpanWord c.k n (frame_rows t frames ++ parities)) (sym d.few) span_word)
 
   pub group_range : IsInRange (length frames) (length parities)
@@ -273,12 +286,15 @@ module _ (c : Config) (far : FarState) (frames : List ℕ) (formers : List Forme
   pub row_at_frame : (p f : ℕ) → slice_get frames p ≡ Some f
       → row_at (frame_rows t frames ++ parities) p ≡ row_of (window t.memory (512 * f) 512)
   row_at_frame p f at =
-      row_is t far (new_batch c far frames formers parities) taken_group p (slice_get_within frames p f at)
-      ∙ ap (λ (g : ℕ). row_of (window t.memory (512 * g) 512)) (get_or_from_slice_get frames p f 0 at)
+      row_is t far (new_batch c far frames formers parities) taken_group p
+      (slice_get_within frames p f at)
+      ∙ ap (λ (g : ℕ). row_of (window t.memory (512 * g) 512))
+      (get_or_from_slice_get frames p f 0 at)
 
   -- rows with the words of the frames, each at its frame's place, have what the claims told
   pub rows_told : (events : List Event) → ((k : ℕ) → NoLook k events) → (rows : List (List ℕ))
-      → ((p f : ℕ) → slice_get frames p ≡ Some f → row_at rows p ≡ row_of (window t.memory (512 * f) 512))
+      → ((p f : ℕ) → slice_get frames p ≡ Some f
+      → row_at rows p ≡ row_of (window t.memory (512 * f) 512))
       → AreInRows (before ++ events) far frames rows
   rows_told events quiet rows are p f slot h span at there named =
       let x : Contains frames f =
@@ -290,7 +306,8 @@ module _ (c : Config) (far : FarState) (frames : List ℕ) (formers : List Forme
         words = g.noted.words;
         found = g.found;
         told = g.told;
-        contents = in_row t far (new_batch c far frames formers parities) taken_group f slot h span g.noted x
+        contents = in_row t far (new_batch c far frames formers parities) taken_group f slot h span
+            g.noted x
             there named
             ∙ ap (λ (row : List ℕ). window (words_in row) (slot * words_of span.class)
             (words_for (len_of g.noted.former.word))) (sym (are p f at));
@@ -336,7 +353,8 @@ module _ (c : Config) (far : FarState) (frames : List ℕ) (formers : List Forme
 
 -- rows that were read are those of the frames
 pub rows_read : (t : Shown) (frames : List ℕ) (rows : List (List ℕ)) → length rows ≡ length frames
-    → ((p f : ℕ) → slice_get frames p ≡ Some f → row_at rows p ≡ row_of (window t.memory (512 * f) 512))
+    → ((p f : ℕ) → slice_get frames p ≡ Some f
+    → row_at rows p ≡ row_of (window t.memory (512 * f) 512))
     → rows ≡ frame_rows t frames
 rows_read t frames rows count made = ext_get_or [] rows (frame_rows t frames)
     (count ∙ sym (length-map frames (λ (f : ℕ). row_of (window t.memory (512 * f) 512))))
