@@ -28,6 +28,7 @@ mod LooseSpans
 pub mod FrameRows
 pub mod EvictStep
 pub mod AfterEvict
+mod SmallWorlds
 mod WorkedLoose
 mod WorkedEvict
 mod WorkedEvictStep

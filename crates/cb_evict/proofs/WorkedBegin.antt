@@ -52,9 +52,8 @@ use Rattle.cb_evict.specs.Order.{noted_of, objects_of}
 use Rattle.cb_evict.specs.Claiming.{AreOf}
 use Rattle.cb_evict.specs.Looking.{IsIn, LooksOver}
 use Rattle.cb_evict.proofs.BeginParts.{leaving_batch, spans_batch}
-use Rattle.cb_evict.proofs.WorkedEvictStep.{settings, desk, calm, pinned, moving, pair, busy, lone, one_node, first_object, only_object, only_second, span_with}
-use Rattle.cb_evict.proofs.WorkedSetMade.{row, row_words, zero_row, is_word, two_nodes}
 use Rattle.cb_evict.proofs.Options.{none_some, some_none, some_same}
+use Rattle.cb_evict.proofs.SmallWorlds.{busy, calm, desk, first_object, is_word, lone, moving, one_node, only_object, only_second, pair, pinned, row, row_words, settings, span_with, two_nodes, zero_row}
 
 -- ---- words of objects that are claimed
 -- the first object is here, the other one pinned; all memory words are 0

@@ -33,9 +33,8 @@ use Rattle.cb_evict.specs.Committing.{AreAllPut, HasPlaces, with_shards}
 use Rattle.cb_evict.specs.Restoring.{IsClaimedFrom, IsHereAt, AreRestored}
 use Rattle.cb_evict.specs.Waiting.{waiting}
 use Rattle.cb_evict.proofs.NamesShards.{insert_here}
-use Rattle.cb_evict.proofs.WorkedEvictStep.{calm, pinned, moving, away, desk, settings, pair}
-use Rattle.cb_evict.proofs.WorkedSetMade.{homes, homed, shard, shards}
 use Rattle.cb_evict.proofs.Options.{some_none, some_same}
+use Rattle.cb_evict.proofs.SmallWorlds.{away, calm, desk, homed, homes, moving, pair, pinned, settings, shard, shards}
 
 -- ---- the words: object 0 leaves, and object 1 is pinned
 abbrev pub noted : List Former

@@ -1,110 +1,39 @@
 -- A worked example of a whole step: the loose one of two spans is evicted; and for each part of
 -- what is said of it a value that breaks that part alone.
-use Rattle.std.proofs.Common.{◌≡◌, ℕ, zero, suc, ◌*◌, ◌^◌, ◌<◌, ◌≤◌, false, nat_lt, List, [], ◌∷◌, ◌++◌, length, get_or, All, Option, None, Some, replicate, refl, sym, ap, ◌∙◌, subst, lit<, lit≤, arith, inr}
+use Rattle.std.proofs.Common.{◌≡◌, ℕ, zero, suc, ◌*◌, ◌<◌, ◌≤◌, false, nat_lt, List, [], ◌∷◌, ◌++◌, length, get_or, Some, replicate, refl, sym, ap, ◌∙◌, subst, lit<, lit≤, arith, inr}
 use Rattle.std.specs.FinMap as map
-use Rattle.std.specs.List.{Contains, slice_get}
+use Rattle.std.specs.List.{slice_get}
 use Rattle.std.proofs.lemmas.Bool.{false≢true}
-use Rattle.std.proofs.lemmas.List.{get_or-replicate, length-replicate}
-use Rattle.std.proofs.lemmas.List.Elements.{All-nil, All-cons, All-replicate}
 use Rattle.cb_class.specs.Class.{words_of, bytes_of}
-use Rattle.cb_gf256.specs.Rows.{row_at, byte_at}
-use Rattle.cb_gf256.specs.Power.{power}
-use Rattle.cb_gf256.specs.Product.{◌⊗◌}
-use Rattle.cb_gf256.proofs.PublicLaws.{product_with_zero, sum_over_zeros}
+use Rattle.cb_gf256.specs.Rows.{row_at}
 use Rattle.cb_member.specs.declared.names.Shard.{Shard}
-use Rattle.cb_node.specs.NodesState.{NodesState, held, row_at as row_under}
+use Rattle.cb_node.specs.NodesState.{NodesState, row_at as row_under}
 use Rattle.cb_set.specs.SetState.{SetState}
 use Rattle.cb_types.specs.declared.handle.SetId.{SetId}
 use Rattle.cb_types.specs.declared.reply.Reply.TheVariants as answer
-use Rattle.cb_world.specs.declared.homes.Home.{Home}
-use Rattle.cb_world.specs.Choices.{numbered, room_count, stands_on, IsLeastNode}
-use Rattle.cb_world.specs.FarState.{FarState, span_in, resident, handle_in}
-use Rattle.cb_world.specs.Homes.{home_at}
+use Rattle.cb_world.specs.Choices.{numbered, stands_on, IsLeastNode}
+use Rattle.cb_world.specs.FarState.{FarState}
 use Rattle.cb_world.specs.Memory.{window}
 use Rattle.cb_world.specs.RowWords.{words_from, words_in, row_of}
 use Rattle.cb_world.specs.Sets.{set_in}
 use Rattle.cb_world.specs.Stored.{all_put}
 use Rattle.cb_span.specs.declared.temp.Temp.TheVariants.{Cold}
-use Rattle.cb_world.specs.SetWord.{IsSpanWord}
-use Rattle.cb_evict.specs.Candidates.{Names}
-use Rattle.cb_evict.specs.Closing.{HaveHomes, with_homes}
+use Rattle.cb_evict.specs.Closing.{with_homes}
 use Rattle.cb_evict.specs.EvictStep.{AreFrameRows, IsEvictedTo, IsSetMade, IsEvictStep, made, IsCountedStep}
 use Rattle.cb_evict.specs.declared.eviction.Eviction.TheVariants.{Refused}
 use Rattle.cb_evict.specs.declared.eviction.Lack.TheVariants.{Spans, Nodes}
 use Rattle.cb_evict.specs.Storing.{IsShardAt, AreShards, set_for, with_set}
 use Rattle.cb_evict.proofs.NewSet.{set_added_in}
-use Rattle.cb_evict.proofs.WorkedEvictStep.{before, after, busy, no_nodes, no_spans, pair, lone, one_node, sent_off, not_here, contents_in, first_word, heads, span_with}
+use Rattle.cb_evict.proofs.WorkedEvictStep.{no_nodes, no_spans, sent_off, not_here, contents_in, first_word}
 use Rattle.cb_evict.proofs.Options.{none_some, some_same}
+use Rattle.cb_evict.proofs.SmallWorlds.{after, before, busy, heads, homed, homes, is_word, lone, none_held, one_node, pair, row, row_words, rows, shard, shards, span_with, two_nodes}
 
--- ---- the code word: a row of zeros and its parity
-pub row : List ℕ
-row = replicate 4096 0
-
-abbrev rows : List (List ℕ)
-rows = row ∷ row ∷ []
-
--- the bytes of a frame of zeros
-pub zero_row : row_of (window [] 0 512) ≡ row
-unfolding row window
-zero_row = refl
-
--- and those of a frame where there are words, which are 0
+-- the bytes of a frame where there are words, which are 0
 memory_row : row_of (window before.memory 0 512) ≡ row
 unfolding row window
 memory_row = refl
 
-row_length : length row ≡ 4096
-unfolding row
-row_length = length-replicate {A = ℕ} 4096 0
-
-row_zeros : (column : ℕ) → column < 4096 → get_or row column 0 ≡ 0
-unfolding row
-row_zeros column below = get_or-replicate 4096 column 0 0 below
-
-row_bytes : All (λ (b : ℕ). b < 2 ^ 8) row
-unfolding row
-row_bytes = All-replicate (λ (b : ℕ). b < 2 ^ 8) 4096 0 (lit< tt)
-
-pub row_words : window (words_in row) (1 * words_of (record { index = 0 })) 1 ≡ 0 ∷ []
-unfolding row words_of bytes_of window words_from
-row_words = refl
-
-bytes_zero : (column i : ℕ) → column < 4096 → byte_at rows i column ≡ 0
-bytes_zero column zero below = row_zeros column below
-bytes_zero column (suc zero) below = row_zeros column below
-bytes_zero column (suc (suc i)) below = refl
-
-pub is_word : IsSpanWord 1 1 rows
-is_word = record {
-  is_word = record {
-    count = refl;
-    equal_lengths = All-cons (λ (r : List ℕ). length r ≡ length row) row (row ∷ []) refl
-        (All-cons (λ (r : List ℕ). length r ≡ length row) row [] refl
-        (All-nil (λ (r : List ℕ). length r ≡ length row)));
-    syndromes_zero = λ j column low below.
-        sum_over_zeros 2 (λ i. power 2 (i * j) ⊗ byte_at rows i column)
-        (λ i l. ap (λ (b : ℕ). power 2 (i * j) ⊗ b)
-        (bytes_zero column i (omega (arith, below, row_length)))
-        ∙ product_with_zero (power 2 (i * j)));
-  };
-  bytes = All-cons (All (λ (b : ℕ). b < 2 ^ 8)) row (row ∷ []) row_bytes
-      (All-cons (All (λ (b : ℕ). b < 2 ^ 8)) row [] row_bytes
-      (All-nil (All (λ (b : ℕ). b < 2 ^ 8))));
-  wide = row_length;
-}
-
 -- ---- the shards: both nodes are empty, and the one with the least number comes first
-abbrev pub shard : ℕ → Shard
-shard n = record { node = numbered n; incarnation = 0; key = n }
-
-abbrev pub shards : List Shard
-shards = shard 0 ∷ shard 1 ∷ []
-
-none_held : (n : ℕ) → held pair.nodes (numbered n) ≡ 0
-none_held zero = grind (arith, map.gets)
-none_held (suc zero) = grind (arith, map.gets)
-none_held (suc (suc n)) = grind (arith, map.gets)
-
 apart : (n : ℕ) → stands_on (shard 0 ∷ []) (numbered n) ≡ false → 1 ≤ n
 apart zero e = absurd (false≢true (sym e))
 apart (suc n) e = omega arith
@@ -138,37 +67,6 @@ chosen = record { count = refl; each = λ p s at. each p s at }
     each (suc zero) s at = subst (IsShardAt pair shards 1) (some_same (shard 1) s at)
         (record { node = second_node; incarnation = refl; key = refl })
     each (suc (suc p)) s at = absurd (none_some s at)
-
-pub two_nodes : room_count pair.nodes pair.members ≡ 2
-two_nodes = let a = none_held 0 in let b = none_held 1 in grind (arith, a, b)
-
--- ---- the home of the object
-abbrev pub homes : List (Option Home)
-homes = Some (record { set = 0; position = 0; slot = 1 }) ∷ None ∷ None ∷ None ∷ []
-
-pub homed : HaveHomes pair.spans (0 ∷ []) 0 pair.homes homes
-homed = record {
-  count = refl;
-  here = λ p f slot h at named. here p f slot h at named;
-  others = λ h none. others h none;
-}
-  where
-    by_slot : (slot h : ℕ) → handle_in (span_in pair.spans 0) slot ≡ Some h
-        → home_at homes h ≡ Some (record { set = 0; position = 0; slot = slot })
-    by_slot zero h e = absurd (none_some h e)
-    by_slot (suc zero) h e = ap (home_at homes) (sym (some_same 0 h e))
-    by_slot (suc (suc n)) h e = absurd (none_some h e)
-
-    here : (p f slot h : ℕ) → slice_get (0 ∷ []) p ≡ Some f → resident pair.spans f slot ≡ Some h
-        → home_at homes h ≡ Some (record { set = 0; position = p; slot = slot })
-    here zero f slot h at named = by_slot slot h
-        (ap (λ (n : ℕ). handle_in (span_in pair.spans n) slot) (some_same 0 f at) ∙ named)
-    here (suc p) f slot h at named = absurd (none_some f at)
-
-    others : (h : ℕ) → ((f : ℕ) → Contains (0 ∷ []) f → Names pair.spans f h → ⊥)
-        → home_at homes h ≡ home_at pair.homes h
-    others zero none = absurd (none 0 (0, lit< tt, refl) (1, refl))
-    others (suc h) none = refl
 
 -- the row of the one frame stands first
 data_in : (first : List ℕ) (rest : List (List ℕ)) → first ≡ row_of (window before.memory 0 512)

@@ -43,8 +43,8 @@ use Rattle.cb_world.proofs.Laws.{some_same, room_empty, unsurveyed}
 use Rattle.cb_evict.specs.BeginRule.{with_batch, new_batch}
 use Rattle.cb_evict.specs.BeginStep.{AreHeld, IsBegunTo, IsBeginStep, begins}
 use Rattle.cb_evict.specs.Looking.{IsIn}
-use Rattle.cb_evict.proofs.WorkedSetMade.{row, zero_row, is_word}
 use Rattle.cb_evict.proofs.Options.{none_some}
+use Rattle.cb_evict.proofs.SmallWorlds.{is_word, row, zero_row}
 
 -- ---- one object of 1,024 bytes, in the first slot of the one frame; its first word has 65 bits
 abbrev largest : Class
