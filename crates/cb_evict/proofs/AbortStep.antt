@@ -1,7 +1,5 @@
 -- Over a still desk an abort is a step.
-use Rattle.std.proofs.Common.{◌≡◌, ◌⊎◌, ℕ, ◌^◌, ◌<◌, ◌≤◌, List, length, get_or, All, Some, sym, ap, ◌∙◌, subst, arith, inl, inr}
-use Rattle.std.proofs.lemmas.Bool.{cases_lt}
-use Rattle.std.proofs.lemmas.List.{get_or_past}
+use Rattle.std.proofs.Common.{◌≡◌, ◌⊎◌, ℕ, ◌^◌, ◌<◌, List, length, get_or, All, Some, sym, ap, ◌∙◌, subst, arith, inl, inr}
 use Rattle.cb_ptr.specs.Word.{word_of, fields_of, state_of, hot_of, len_of, place_of, pins_of}
 use Rattle.cb_ptr.specs.declared.word.State.TheVariants as state
 use Rattle.cb_ptr.proofs.Laws.{word_of-fields_of}
@@ -19,12 +17,11 @@ use Rattle.cb_world.specs.Plain.{Words, Shows}
 use Rattle.cb_world.specs.Played.{played}
 use Rattle.cb_world.specs.StillDesk.{plain_follows, plain_stays}
 use Rattle.cb_world.specs.World.{word_at, IsKnown}
-use Rattle.cb_world.proofs.Laws.{HereIs, AreSeen, here_after, seen_after, seen_known, FreeIs, free_after, word_back, PerformsStill, RunsStill, runs_still, known_then, stays_still}
+use Rattle.cb_world.proofs.Laws.{HereIs, AreSeen, here_after, seen_after, seen_known, FreeIs, free_after, PerformsStill, RunsStill, runs_still, known_then}
 use Rattle.cb_evict.specs.AbortRule.{HasNoBatch, HasGivenUp, AbortRule, AbortEffect}
 use Rattle.cb_evict.specs.AbortStep.{ArePutBack, IsAbortStep, no_batch, given_up}
-use Rattle.cb_evict.specs.Claims.{IsNone}
 use Rattle.cb_evict.specs.Restoring.{IsClaimedFrom, IsHereAt, AreRestored}
-use Rattle.cb_evict.proofs.EvictStep.{IsStepKnown, refused}
+use Rattle.cb_evict.proofs.EvictStep.{IsStepKnown, refused, word_stays}
 use Rattle.cb_evict.proofs.Noted.{claimed_all}
 
 -- the word of an object that is here, without pins, as a word says, is that word
@@ -45,7 +42,7 @@ put_back : (x y : Words) (far : FarState) (s : Shown) (es : List Event) (batch :
     → AreRestored s (played es s) batch.words → ArePutBack x y batch.words
 put_back x y far s es batch r there z = record {
   back = λ i d within. back (get_or batch.words i d) (claimed i d within) (z.here i d within);
-  others = λ h none. other h none (cases_lt h (length x.words));
+  others = λ h none. word_stays x y far s es h r count (z.others h none) (z.hots h none);
   count = count;
   settings = plain_stays x y es r.ran;
   versions = sym shows.versions ∙ z.versions ∙ r.known.shows.versions;
@@ -69,7 +66,8 @@ put_back x y far s es batch r there z = record {
         → word_at y f.handle ≡ f.word
     back f c a =
         let h = f.handle in let w = f.word in
-        let within : h < length x.words = let l = c.handle in omega (arith, l, r.known.shows.objects) in
+        let within : h < length x.words = let l =
+        c.handle in omega (arith, l, r.known.shows.objects) in
         let still : h < length y.words = omega (arith, within, count) in
         here_word (word_at y h) w
         (subst (λ (o : Object). Fits o (word_at y h)) a.object (shows.fit h still))
@@ -81,22 +79,13 @@ put_back x y far s es batch r there z = record {
         (subst (λ (o : Object). FreeIs o (word_at x h)) (sym c.object) tt)))
         (sym (seen_then.hot h still) ∙ a.hot) c.free c.below
 
-    other : (h : ℕ) → IsNone batch.words h → (h < length x.words) ⊎ (length x.words ≤ h)
-        → word_at y h ≡ word_at x h
-    other h none (inl below) = word_back x y far s es h r.known r.ran r.allowed below
-        (omega (arith, below, count)) (z.others h none) (z.hots h none)
-    other h none (inr past) = get_or_past y.words h 0 (omega (arith, past, count))
-        ∙ sym (get_or_past x.words h 0 past)
-
 by_rule : (x y : Words) (far new : FarState) (r : Reply) (s : Shown) (es : List Event)
     → RunsStill x y far s es → IsKnown y new (played es s)
     → AbortEffect far new es s (played es s) → HasNoBatch far new r ⊎ HasGivenUp far new r
     → IsAbortStep x y far new r × IsStepKnown y far new s
 by_rule x y far new r s es runs l effect (inl a) =
-    let words = stays_still x y far s es runs (effect.left a.none) in (
-      no_batch a words,
-      refused x y far new s (played es s) runs.known l words a.state,
-    )
+    refused x y far new s es runs l (effect.left a.none) a.state
+    (no_batch a)
 by_rule x y far new r s es runs l effect (inr a) =
     let z = effect.aborted a.batch a.there in (
       given_up a (put_back x y far s es a.batch runs a.there z.back),

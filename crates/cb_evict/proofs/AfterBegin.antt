@@ -1,6 +1,5 @@
 -- What a begin leaves as it was, from the step alone.
-use Rattle.std.proofs.Common.{◌≡◌, ℕ, ◌+◌, ◌<◌, ◌≤◌, length, take, refl, sym, ap, ◌∙◌, subst, arith, inl, inr}
-use Rattle.cb_ptr.specs.declared.word.State.TheVariants as state
+use Rattle.std.proofs.Common.{◌≡◌, ℕ, ◌≤◌, length, take, refl, sym, ap, ◌∙◌, subst, arith, inl, inr}
 use Rattle.cb_ptr.specs.Word.{pins_of}
 use Rattle.cb_types.specs.declared.reply.Reply.{Reply}
 use Rattle.cb_world.specs.FarState.{FarState}
@@ -106,13 +105,3 @@ begin_keeps x y far new r step =
       turns = refl;
       by_job = refl;
     }
-
--- one set number at most is drawn
-pub begin_sets : (x y : Words) (far new : FarState) (r : Reply) → IsBeginStep x y far new r
-    → (far.counts.sets ≤ new.counts.sets) × (new.counts.sets ≤ far.counts.sets + 1)
-begin_sets x y far new r step =
-    by_step (λ u f. (far.counts.sets ≤ f.counts.sets) × (f.counts.sets ≤ far.counts.sets + 1))
-    x y far new r step (omega arith, omega arith)
-    (λ m. let e : new.counts.sets ≡ far.counts.sets + 1 =
-    ap (λ (f : FarState). f.counts.sets) m.begun.state in
-    (omega (arith, e), omega (arith, e)))

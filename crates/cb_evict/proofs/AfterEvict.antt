@@ -1,39 +1,28 @@
 -- What an eviction leaves as it was, from the step alone.
-use Rattle.std.proofs.Common.{◌≡◌, ◌⊎◌, ℕ, zero, suc, Bool, true, ◌+◌, ◌<◌, ◌≤◌, List, [], ◌∷◌, length, get_or, take, Option, Some, None, refl, sym, ap, ◌∙◌, subst, arith, inl, inr}
+use Rattle.std.proofs.Common.{◌≡◌, ◌⊎◌, ℕ, zero, suc, true, ◌≤◌, List, [], ◌∷◌, length, get_or, take, Option, Some, None, refl, sym, ap, ◌∙◌, subst, arith, inl, inr}
 use Rattle.std.specs.List.{Contains}
 use Rattle.std.proofs.lemmas.Bool.{cases_eq}
 use Rattle.std.proofs.lemmas.List.Elements.{All-contains, filter_passes}
-use Rattle.cb_frame.specs.FreeFrames.{IsFree as IsFreeFrame, least_free}
-use Rattle.cb_frame.proofs.Laws.{least_free-None}
-use Rattle.cb_member.specs.declared.names.Shard.{Shard}
-use Rattle.cb_node.specs.NodesState.{NodesState, with_row}
-use Rattle.cb_ptr.specs.declared.word.State.TheVariants as state
 use Rattle.cb_ptr.specs.Word.{pins_of}
 use Rattle.cb_span.specs.Contents.{Contents}
-use Rattle.cb_types.specs.declared.config.Config.{Config}
-use Rattle.cb_types.specs.declared.config.Field.TheVariants.{K, R}
-use Rattle.cb_types.specs.Config.{IsAccepted}
 use Rattle.cb_types.specs.declared.handle.SetId.{SetId}
 use Rattle.cb_types.specs.declared.reply.Reply.{Reply}
 use Rattle.cb_types.specs.declared.reply.Reply.TheVariants as answer
-use Rattle.cb_world.specs.declared.object.Object.TheVariants as is
 use Rattle.cb_world.specs.FarState.{FarState, span_in, handle_in}
 use Rattle.cb_world.specs.Grasped.{IsFree}
 use Rattle.cb_world.specs.Plain.{Words}
 use Rattle.cb_world.specs.Seats.{SeatState}
-use Rattle.cb_world.specs.Stored.{all_put}
-use Rattle.cb_world.specs.World.{word_at, IsConfigured, ArePinned}
+use Rattle.cb_world.specs.World.{word_at, ArePinned}
 use Rattle.cb_world.proofs.Laws.{pinned_still}
 use Rattle.cb_evict.specs.Candidates.{candidates}
 use Rattle.cb_evict.specs.EvictStep.{is_loose, loose_frames, IsSetMade, IsEvictStep, few_spans, few_nodes, made}
 use Rattle.cb_evict.specs.Looking.{IsIn}
 use Rattle.cb_evict.proofs.Composed.{few_spans as not_few_spans, few_nodes as not_few_nodes}
-use Rattle.cb_evict.proofs.Homing.{length_closed}
 use Rattle.cb_evict.proofs.Loose.{names_has, contains_head, contains_tail}
 use Rattle.cb_evict.proofs.LooseSpans.{loose_free}
-use Rattle.cb_evict.proofs.Putting.{put_count, put_room}
 use Rattle.cb_evict.proofs.Standing.{names_span}
 use Rattle.cb_evict.proofs.Trying.{taken_of}
+use Rattle.cb_evict.proofs.Options.{none_some, some_same}
 
 -- ---- the steps
 -- what a step that makes no set leaves holds of it, and what the others leave
@@ -69,12 +58,6 @@ evict_versions x y far new r step = by_step (λ u f. u.versions ≡ x.versions) 
     (λ m. m.evicted.sent.versions)
 
 -- ---- the objects that leave
-none_some : (h : ℕ) → None ≡ Some h → ⊥
-none_some h e = cc
-
-some_same : (a b : ℕ) → Some a ≡ Some b → a ≡ b
-some_same a b e = cc
-
 option_is : (o : Option ℕ) (h : ℕ) → (o ≡ Some h) ⊎ (o ≡ Some h → ⊥)
 option_is None h = inr (none_some h)
 option_is (Some n) h = elim (cases_eq n h) [
@@ -203,11 +186,3 @@ evict_keeps x y far new r step =
       turns = ap (λ (f : FarState). f.counts.turns) m.evicted.state;
       by_job = ap (λ (f : FarState). f.counts.by_job) m.evicted.state;
     })
-
--- ---- frames
-some_free : (free : List Bool) (f : ℕ) → IsFreeFrame free f → (g : ℕ) × (least_free free ≡ Some g)
-some_free free f is = go (least_free free) refl
-  where
-    go : (o : Option ℕ) → least_free free ≡ o → (g : ℕ) × (least_free free ≡ Some g)
-    go None e = absurd (least_free-None free e f is)
-    go (Some g) e = (g, e)

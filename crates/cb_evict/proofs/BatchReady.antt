@@ -19,9 +19,7 @@ use Rattle.cb_evict.specs.Sending.{IsTold}
 use Rattle.cb_evict.specs.Waiting.{PutAtMembers}
 use Rattle.cb_evict.proofs.Noted.{claimed_all, stamp_of}
 use Rattle.cb_evict.proofs.Standing.{are_unique}
-
-none_some : {X : Type 0} (a : X) → None ≡ Some a → ⊥
-none_some a e = cc
+use Rattle.cb_evict.proofs.Options.{none_some}
 
 module _ (s : Shown) (far : FarState) (batch : LeavingState) (sound : Sound s far)
     (there : far.leaving ≡ Some batch) where

@@ -1,14 +1,8 @@
 -- The end of a begin: rows are read, the set is reserved, and the batch is noted.
-use Rattle.std.proofs.Common.{◌≡◌, ℕ, ◌+◌, List, ◌++◌, length, replicate, Option, None, Some, sym, refl, ap, ◌∙◌, subst, arith}
-use Rattle.std.specs.List.{slice_get}
+use Rattle.std.proofs.Common.{◌≡◌, ℕ, ◌+◌, List, ◌++◌, length, replicate, Option, None, Some, sym, refl, ap, ◌∙◌, subst}
 use Rattle.std.proofs.lemmas.List.{length-replicate}
-use Rattle.std.proofs.lemmas.Option.{slice_get_within, get_or_from_slice_get}
-use Rattle.std.specs.List.{Contains}
-use Rattle.cb_gf256.specs.CodeWord.{IsCodeWord}
-use Rattle.cb_gf256.specs.Rows.{row_at}
 use Rattle.cb_member.specs.declared.names.Shard.{Shard}
 use Rattle.cb_types.specs.declared.config.Config.{Config}
-use Rattle.cb_types.specs.Config.{IsAccepted}
 use Rattle.cb_world.specs.declared.entry.Entry.{Entry}
 use Rattle.cb_world.specs.declared.event.Event.{Event}
 use Rattle.cb_world.specs.declared.leaving.Former.{Former}
@@ -20,51 +14,17 @@ use Rattle.cb_world.specs.Written.{written_by}
 use Rattle.cb_world.proofs.Laws.{played_append, written_append}
 use Rattle.cb_evict.specs.Candidates.{candidates}
 use Rattle.cb_evict.specs.Events.{TouchesOnly, IsSteady}
-use Rattle.cb_evict.specs.Evicting.{AreTaken, IsReady, TouchesSpans}
-use Rattle.cb_evict.specs.Claiming.{GivesBack}
-use Rattle.cb_evict.specs.Loading.{LiesInOne, IsRowOf, LoadsFrames}
+use Rattle.cb_evict.specs.Evicting.{TouchesSpans}
+use Rattle.cb_evict.specs.Loading.{LiesInOne, LoadsFrames}
 use Rattle.cb_evict.specs.Looking.{IsIn}
 use Rattle.cb_evict.specs.BeginRule.{blank_shard, blank_shards, with_batch, HasBegun}
 use Rattle.cb_evict.specs.BeginEffect.{IsBegun}
 use Rattle.cb_evict.specs.Beginning.{with_reserved, AreParities}
-use Rattle.cb_evict.proofs.Begun.{Begins, sound_begun, rule_begun, effect_begun}
-use Rattle.cb_evict.proofs.Ending.{code_range, owns_taken, in_candidates}
-use Rattle.cb_evict.proofs.Events.{AreReads, touches_append, touches_more, told_words, told_objects}
+use Rattle.cb_evict.proofs.Begun.{sound_begun, rule_begun, effect_begun}
+use Rattle.cb_evict.proofs.Ending.{spans_touched}
+use Rattle.cb_evict.proofs.Events.{AreReads, touches_more, told_words, told_objects}
 use Rattle.cb_evict.proofs.Evicts.{told_before}
-
--- what is known once the rows are read and coded
-pub begins : (c : Config) (far : FarState) (frames : List ℕ) (formers : List Former)
-    (coded parities : List (List ℕ)) (shows : Shown → Type 0) (before : List Event) (s : Shown)
-    → IsAccepted c → far.leaving ≡ None → IsReady shows far formers before s
-    → AreTaken c far frames formers → AreParities (length frames) (c.k + c.r) coded parities
-    → length coded ≡ length frames
-    → ((p f : ℕ) → slice_get frames p ≡ Some f → IsRowOf shows f (row_at coded p))
-    → Begins c far frames formers coded parities before s (played before s)
-begins c far frames formers coded parities shows before s ok none r taken a count made =
-    let few : length parities ≡ c.r = omega (arith, a.count, taken.count) in record {
-      sound = r.sound;
-      none = none;
-      claimed = r.claimed;
-      here = r.here;
-      taken = taken;
-      range = code_range c ok;
-      count = count ∙ taken.count;
-      few = few;
-      word = subst (λ (n : ℕ). IsCodeWord n c.r (coded ++ parities)) taken.count
-          (subst (λ (n : ℕ). IsCodeWord (length frames) n (coded ++ parities)) few a.word);
-      bytes = a.bytes;
-      made = λ p f at.
-          let m = made p f at in
-          let within = slice_get_within frames p f at in
-          let x : Contains frames f = (p, within, get_or_from_slice_get frames p f f at) in record {
-            words = m.words;
-            count = m.count;
-            small = m.small;
-            made = m.made;
-            contents = m.contents (played before s) r.shown
-                (owns_taken c far frames formers before s (played before s) taken r.sound.here r.here r.claimed f x);
-          };
-    }
+use Rattle.cb_evict.proofs.TakenGroup.{AreRead}
 
 -- all that is promised of the reads
 pub record Starts (c : Config) (far new : FarState) (frames : List ℕ) (before events : List Event)
@@ -81,27 +41,30 @@ reads_in far frames ls reads =
     (λ h x. absurd x) (λ p x. x) reads.touches
 
 pub starts : (c : Config) (far new : FarState) (frames : List ℕ) (formers : List Former)
-    (rows parities : List (List ℕ)) (before ls : List Event) (s : Shown)
-    → Begins c far frames formers rows parities before s (played before s)
+    (parities : List (List ℕ)) (before ls : List Event) (s : Shown)
+    → AreRead c far frames formers parities before s (played before s) → far.leaving ≡ None
     → AreReads (LiesInOne frames) ls → new ≡ with_batch c far frames formers parities
     → IsSteady before s → TouchesSpans far before → Starts c far new frames before ls s
-starts c far new frames formers rows parities before ls s d reads is steady touched =
+starts c far new frames formers parities before ls s d none reads is steady touched =
     let t = played before s in
     let same : played (before ++ ls) s ≡ t = played_append before ls s ∙ reads.stays t in
     let in_spans = IsIn far.spans (candidates far) in
-    let touches = touches_append in_spans (LiesInOne (candidates far)) before ls touched
-    (in_candidates c far frames formers d.taken ls (reads_in far frames ls reads)) in
-    let words = told_words in_spans (LiesInOne (candidates far)) (before ++ ls) s s touches refl refl in
+    let touches = spans_touched far frames before ls d.taken.among touched
+    (reads_in far frames ls reads) in
+    let words = told_words in_spans (LiesInOne (candidates far)) (before ++ ls) s s touches refl
+    refl in
     let told = told_before (λ h. ⊥) (LiesInOne frames) before ls s reads.touches reads.quiet in
     record {
       begun = subst (λ (x : FarState). HasBegun c far x frames (before ++ ls)) (sym is)
-          (rule_begun c far frames formers rows parities before s t d ls reads.quiet);
+          (rule_begun c far frames formers parities before s t d none ls reads.quiet);
       sound = subst (λ (x : FarState). Sound (played (before ++ ls) s) x) (sym is)
           (subst (λ (v : Shown). Sound v (with_batch c far frames formers parities)) (sym same)
-          (sound_begun c far frames formers rows parities before s t d));
-      effect = subst (λ (x : FarState). IsBegun far x (before ++ ls) s (played (before ++ ls) s)) (sym is)
-          (subst (λ (v : Shown). IsBegun far (with_batch c far frames formers parities) (before ++ ls) s v) (sym same)
-          (effect_begun c far frames formers rows parities before s t d ls reads.quiet
+          (sound_begun c far frames formers parities before s t d none));
+      effect = subst (λ (x : FarState). IsBegun far x (before ++ ls) s (played (before ++ ls) s))
+          (sym is)
+          (subst (λ (v : Shown). IsBegun far (with_batch c far frames formers parities)
+          (before ++ ls) s v) (sym same)
+          (effect_begun c far frames formers parities before s t d none ls reads.quiet
           (steady.hots ∙ sym (ap (λ (x : Shown). x.hots) told))
           (told_objects (before ++ ls) s).0
           (sym (ap (λ (x : Shown). x.versions) same) ∙ words.0)
@@ -112,7 +75,8 @@ starts c far new frames formers rows parities before ls s d reads is steady touc
     }
 
 -- the far state once the batch is noted
-abbrev pub noted_far : FarState → List ℕ → List Former → List (List ℕ) → List (Option Shard) → FarState
+abbrev pub noted_far : FarState → List ℕ → List Former → List (List ℕ) → List (Option Shard)
+    → FarState
 noted_far far frames words parities shards = record far {
   leaving = Some (record {
     set = far.counts.sets;
@@ -133,8 +97,10 @@ pub batch_then : (c : Config) (far mid new : FarState) (gs frames : List ℕ) (f
 batch_then c far mid new gs frames formers parities blank shards same a b e f =
     b ∙ ap (λ (x : FarState). noted_far x frames formers parities shards) a
     ∙ ap (λ (l : List ℕ). noted_far (with_reserved far blank l) frames formers parities shards) same
-    ∙ ap (λ (l : List Shard). noted_far (with_reserved far l frames) frames formers parities shards) e
-    ∙ ap (λ (l : List (Option Shard)). noted_far (with_reserved far (blank_shards (c.k + c.r)) frames) frames
+    ∙ ap (λ (l : List Shard). noted_far (with_reserved far l frames) frames formers parities
+    shards) e
+    ∙ ap (λ (l : List (Option Shard)). noted_far
+    (with_reserved far (blank_shards (c.k + c.r)) frames) frames
     formers parities l) f
 
 -- ---- the same, of the same lists
@@ -151,7 +117,3 @@ pub parities_as : (j m k n : ℕ) (rows parities : List (List ℕ)) → j ≡ k 
 parities_as j m k n rows parities e f a =
     subst (λ (i : ℕ). AreParities i n rows parities) e
     (subst (λ (i : ℕ). AreParities j i rows parities) f a)
-
-pub backs_as : (runs : List Event → Type 0) (shows : Shown → Type 0) (hs formers : List Former)
-    → hs ≡ formers → GivesBack runs shows hs → GivesBack runs shows formers
-backs_as runs shows hs formers e x = subst (λ (l : List Former). GivesBack runs shows l) e x

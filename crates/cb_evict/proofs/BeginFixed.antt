@@ -1,5 +1,5 @@
 -- A begin is fixed: one reply, one set of words and one far state.
-use Rattle.std.proofs.Common.{◌≡◌, ℕ, suc, ◌+◌, ◌*◌, List, [], ◌∷◌, ◌++◌, length, take, map, All, None, Some, refl, sym, ap, ◌∙◌, arith, inl, inr}
+use Rattle.std.proofs.Common.{◌≡◌, ℕ, suc, ◌*◌, List, [], ◌∷◌, ◌++◌, length, take, map, All, None, Some, refl, sym, ap, ◌∙◌, arith, inl, inr}
 use Rattle.std.proofs.lemmas.List.{append_cancel_left, ext_get_or, get_or_append_left, length-map}
 use Rattle.cb_gf256.specs.InRange.{IsInRange}
 use Rattle.cb_types.specs.declared.reply.Reply.{Reply}
@@ -21,6 +21,7 @@ use Rattle.cb_evict.specs.Order.{noted_of}
 use Rattle.cb_evict.proofs.AfterEvict.{in_or_not}
 use Rattle.cb_evict.proofs.Ending.{code_range}
 use Rattle.cb_evict.proofs.EvictFixed.{first_loose}
+use Rattle.cb_evict.proofs.Options.{none_some}
 
 -- ---- the words that are noted
 -- the word of an object at the desk
@@ -85,9 +86,6 @@ begun_fixed x y z far new other r q range a b =
     let ends = batch_fixed x y z far new other (take x.settings.k (loose_frames x far)) range
     (first_loose x far a.enough) a.begun b.begun in
     record { reply = a.reply ∙ sym b.reply; words = ends.0; far = ends.1 }
-
-none_some : {A : Type 0} (a : A) → None ≡ Some a → ⊥
-none_some a e = cc
 
 pub leaving_or_not : (far : FarState) (batch : LeavingState) → far.leaving ≡ Some batch
     → far.leaving ≡ None → ⊥

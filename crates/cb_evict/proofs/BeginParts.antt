@@ -1,8 +1,7 @@
 -- The parts of a begin one after another.
-use Rattle.std.proofs.Common.{◌≡◌, ◌⊎◌, ℕ, ◌+◌, ◌≤◌, List, [], ◌++◌, length, get_or, All, replicate, Option, Some, None, sym, refl, ap, ◌∙◌, subst, arith, inl, inr}
+use Rattle.std.proofs.Common.{◌≡◌, ◌⊎◌, ℕ, ◌+◌, ◌≤◌, List, [], ◌++◌, length, get_or, All, replicate, Option, Some, None, sym, refl, ap, ◌∙◌, subst, inl, inr}
 use Rattle.std.specs.List.{Contains}
 use Rattle.std.specs.Option.{option_map}
-use Rattle.std.proofs.lemmas.List.{take_at, length-append}
 use Rattle.cb_gf256.specs.Rows.{row_at}
 use Rattle.cb_member.specs.declared.names.Shard.{Shard}
 use Rattle.cb_types.specs.declared.config.Config.{Config}
@@ -20,7 +19,7 @@ use Rattle.cb_world.specs.Now.{now}
 use Rattle.cb_world.specs.Performs.{Performs}
 use Rattle.cb_world.specs.Played.{played}
 use Rattle.cb_world.specs.Sound.{Sound}
-use Rattle.cb_world.proofs.Laws.{taken_before, played_append, allowed_append}
+use Rattle.cb_world.proofs.Laws.{taken_before}
 use Rattle.cb_evict.specs.Candidates.{candidates}
 use Rattle.cb_evict.specs.Claiming.{ClaimsSpans}
 use Rattle.cb_evict.specs.Events.{OnlyLooks}
@@ -30,19 +29,16 @@ use Rattle.cb_evict.specs.Evicting.{RuleAfter}
 use Rattle.cb_evict.specs.declared.eviction.Eviction.{Eviction}
 use Rattle.cb_evict.specs.Eviction.{reply_of}
 use Rattle.cb_evict.specs.Finding.{FindsFew}
-use Rattle.cb_evict.specs.Loading.{LiesInOne}
-use Rattle.cb_evict.specs.Looking.{IsIn, LooksOver}
+use Rattle.cb_evict.specs.Looking.{LooksOver}
 use Rattle.cb_evict.specs.BeginRule.{HasBegun, HasBatch, BeginRule}
 use Rattle.cb_evict.specs.BeginEffect.{IsBegun, BeginEffect}
 use Rattle.cb_evict.specs.Beginning.{BeginsAfter, BeginsClaimed}
-use Rattle.cb_evict.proofs.Composed.{finds_few, replied, few_spans, few_nodes, row_before, told_next, nothing_before, left_before, looks_touch, claims_touch, wide_touch, loose_then, are_ready}
-use Rattle.cb_evict.proofs.Events.{touches_append, found_after, first_append, looks_before, looks_change, looks_steady}
-use Rattle.cb_evict.proofs.Restored.{looked}
+use Rattle.cb_evict.proofs.Composed.{are_ready, claims_end, claims_leave, few_nodes, few_spans, finds_few, left_before, looks_more, looks_touch, nothing_before, replied, row_before, told_next}
+use Rattle.cb_evict.proofs.Events.{found_after, looks_change}
+use Rattle.cb_evict.proofs.Options.{none_some}
+use Rattle.cb_evict.proofs.Still.{does_nothing, still_none}
 
 -- ---- the batch that is leaving
-none_some : {X : Type 0} (a : X) → None ≡ Some a → ⊥
-none_some a e = cc
-
 abbrev pub number_of : LeavingState → SetId
 number_of batch = record { n = batch.set }
 
@@ -167,30 +163,19 @@ pub begins_not : (c : Config) (far : FarState) (r : Reply) (id : SetId)
     → Performs runs (λ s. knows s × Sound s far) (BeginRule c far far r) (λ t. Sound t far)
     (BeginEffect far far r)
 begins_not c far r id runs knows e is ran =
-    let b = some_leaving far.leaving id e in record {
-      events = [];
-      ran = ran;
-      looks_first = tt;
-      rule = inl (record {
-        batch = b.0;
-        there = b.1;
-        reply = is ∙ ap answer.Leaving b.2;
-        state = refl;
-        nothing = refl;
-      });
-      allowed = λ s k. tt;
-      sound_after = λ s k. k.1;
-      effect = λ s k. record {
-        begun = λ other f. absurd (leaving_batch id other r is f);
-        left = λ f. record {
-          objects = refl;
-          hots = refl;
-          versions = refl;
-          memory = refl;
-          nothing = λ old. refl;
-        };
-      };
-    }
+    let b = some_leaving far.leaving id e in
+    does_nothing runs knows far far (BeginRule c far far r) (BeginEffect far far r) ran refl
+    (inl (record {
+      batch = b.0;
+      there = b.1;
+      reply = is ∙ ap answer.Leaving b.2;
+      state = refl;
+      nothing = refl;
+    }))
+    (λ s. record {
+      begun = λ other f. absurd (leaving_batch id other r is f);
+      left = λ f. still_none s;
+    })
 
 -- ---- what is told later
 pub begun_before : (c : Config) (far new : FarState) (frames : List ℕ) (before es : List Event)
@@ -252,23 +237,12 @@ pub looks_begin : (c d : Config) (far new : FarState) (r : Reply) (loose : List 
     → ((es : List Event) (s : Shown) → runsA es → showsA s → showsB (played es s))
     → Performs runsC (λ s. showsA s × Sound s far) (BeginRule c far new r) (λ t. Sound t new)
     (BeginEffect far new r)
-looks_begin c d far new r loose runsA runsB runsC showsA showsB same x y more shown =
-    let es = x.events in let fs = y.events in
-    let known : (s : Shown) → showsA s × Sound s far → showsB (played es s) × Sound (played es s) far =
-    λ s k. (shown es s x.ran k.0, (looked far es s k.1 x.looks).0) in record {
-      events = es ++ fs;
-      ran = more es fs x.ran y.ran;
-      looks_first = looks_before es fs x.looks y.looks_first;
-      rule = subst (λ (n : Config). BeginRule n far new r (es ++ fs)) same
-          (y.rule es x.finds (looks_touch far es x.touches));
-      allowed = λ s k. allowed_append es fs s (looks_steady es s x.looks).allowed
-          (y.allowed (played es s) (known s k));
-      sound_after = λ s k. subst (λ (v : Shown). Sound v new) (sym (played_append es fs s))
-          (y.sound_after (played es s) (known s k));
-      effect = λ s k. subst (λ (v : Shown). BeginEffect far new r (es ++ fs) s v)
-          (sym (played_append es fs s)) (effect_before far new r es fs s (played fs (played es s)) x.looks
-          (y.effect (played es s) (known s k)));
-    }
+looks_begin c d far new r loose runsA runsB runsC showsA showsB same x y =
+    looks_more far new loose (BeginRule c far new r) (BeginsAfter d far new r loose) (BeginEffect far new r)
+    runsA runsB runsC showsA showsB x y
+    (λ fs a. subst (λ (n : Config). BeginRule n far new r (x.events ++ fs)) same
+    (a x.events x.finds (looks_touch far x.events x.touches)))
+    (λ fs s t. effect_before far new r x.events fs s t x.looks)
 
 pub begins_as : (runs : List Event → Type 0) (shows : Shown → Type 0) (c d : Config)
     (far new : FarState) (frames : List ℕ) (formers : List Former) → c ≡ d
@@ -293,36 +267,26 @@ pub claims_begin : (c : Config) (far new : FarState) (r : Reply)
     (λ t. Sound t new) (BeginEffect far new r)
 claims_begin c far new r loose frames formers runsA runsB runsC showsA showsB x y more shown among
     count room none is (s, shows, sound) =
-    let es = x.events in let fs = y.events in
-    let ready = λ (s : Shown) (k : showsA s × Sound s far).
-    are_ready far loose frames formers runsA showsA showsB c.k x among s (shown s k.0) k.0 k.1 in
-    record {
-      events = es ++ fs;
-      ran = more es fs x.ran y.ran;
-      looks_first = first_append (IsIn far.spans loose) (λ p. ⊥) es fs x.touches x.first y.first
-          (λ h t. y.quiet h);
-      rule = λ before found touches. inr (record {
-        none = none;
-        loose = frames ++ x.rest;
-        found = loose_then far loose runsA showsA c.k frames formers before fs x y.quiet found;
-        answered = inr (inr (record {
-          enough = let n = length-append frames x.rest in omega (arith, n, count);
-          room = room;
-          reply = is;
-          begun = subst (λ (l : List ℕ). HasBegun c far new l (before ++ (es ++ fs)))
-              (sym (take_at frames x.rest c.k count))
-              (begun_before c far new frames before (es ++ fs) (y.begun es s (ready s (shows, sound))));
-        }));
-        touches = touches_append (IsIn far.spans (candidates far)) (LiesInOne (candidates far)) before (es ++ fs)
-            touches (touches_append (IsIn far.spans (candidates far)) (LiesInOne (candidates far)) es fs
-            (claims_touch far loose es among x.touches)
-            (wide_touch far loose runsA showsA c.k frames formers fs among x y.touches));
-      });
-      allowed = λ s k. allowed_append es fs s (x.claims far s k.0 k.1.here).2.allowed
-          (y.allowed es s (ready s k));
-      sound_after = λ s k. y.sound es s (ready s k);
-      effect = λ s k. record {
-        begun = λ id e. y.effect es s (ready s k);
-        left = λ none. absurd (none (record { n = far.counts.sets }) is);
-      };
-    }
+    let all = x.events ++ y.events in
+    claims_end far new loose c.k frames formers (BeginsAfter c far new r loose) (HasBegun c far new frames)
+    (IsBegun far new) (BeginEffect far new r) runsA runsB runsC showsA showsB x y among
+    (λ before found touches.
+    let a = claims_leave far new loose c.k frames formers _ _ runsA runsB showsA showsB x y among before
+    found touches in inr (record {
+      none = none;
+      loose = frames ++ x.rest;
+      found = a.found;
+      answered = inr (inr (record {
+        enough = a.enough count;
+        room = room;
+        reply = is;
+        begun = subst (λ (l : List ℕ). HasBegun c far new l (before ++ all)) (a.first count)
+            (begun_before c far new frames before all (y.rule x.events s
+            (are_ready far loose frames formers runsA showsA showsB c.k x among s (shown s shows) shows sound)));
+      }));
+      touches = a.touches;
+    }))
+    (λ s t a. record {
+      begun = λ id e. a;
+      left = λ off. absurd (off (record { n = far.counts.sets }) is);
+    }) more shown

@@ -1,7 +1,6 @@
 -- Over a still desk a begin is a step: what its rule and its effect say is exact there.
 use Rattle.std.proofs.Common.{◌≡◌, ◌⊎◌, ℕ, ◌+◌, ◌*◌, ◌^◌, ◌<◌, ◌≤◌, Bool, false, List, length, get_or, map, ◌++◌, take, None, refl, sym, ap, ◌∙◌, subst, arith, inl, inr}
-use Rattle.std.proofs.lemmas.Bool.{cases_lt}
-use Rattle.std.proofs.lemmas.List.{get_or_past, length-take-le}
+use Rattle.std.proofs.lemmas.List.{length-take-le}
 use Rattle.cb_ptr.specs.Steps.{Claims}
 use Rattle.cb_ptr.specs.Word.{flag_number, hot_of, len_of, place_of}
 use Rattle.cb_ptr.proofs.Laws.{claims, claimed_below, same_but_hot}
@@ -23,7 +22,7 @@ use Rattle.cb_world.specs.RowWords.{row_of}
 use Rattle.cb_world.specs.SetWord.{IsSpanWord}
 use Rattle.cb_world.specs.StillDesk.{plain_follows, plain_stays}
 use Rattle.cb_world.specs.World.{word_at, IsKnown}
-use Rattle.cb_world.proofs.Laws.{found_exact, AreSeen, seen_after, seen_known, word_back, PerformsStill, RunsStill, runs_still, known_then, stays_still}
+use Rattle.cb_world.proofs.Laws.{found_exact, AreSeen, seen_after, seen_known, PerformsStill, RunsStill, runs_still, known_then}
 use Rattle.cb_evict.specs.BeginEffect.{IsLeavingNow, IsBegun, BeginEffect}
 use Rattle.cb_evict.specs.BeginRule.{new_batch, HasBegun, HasBatch, BeginRule}
 use Rattle.cb_evict.specs.BeginStep.{AreHeld, IsBegunTo, IsBeginStep, is_leaving, few_spans, few_nodes, begins}
@@ -32,7 +31,7 @@ use Rattle.cb_evict.specs.EvictStep.{loose_frames}
 use Rattle.cb_evict.specs.Looking.{IsIn}
 use Rattle.cb_evict.proofs.AfterEvict.{leaves_free}
 use Rattle.cb_evict.proofs.BeginParts.{leaving_batch, spans_batch, nodes_batch}
-use Rattle.cb_evict.proofs.EvictStep.{IsStepKnown, refused}
+use Rattle.cb_evict.proofs.EvictStep.{IsStepKnown, refused, word_stays}
 use Rattle.cb_evict.proofs.LooseSpans.{loose_exact}
 use Rattle.cb_evict.proofs.Standing.{are_unique}
 
@@ -61,7 +60,8 @@ held_words x y far new s es frames r spans leaves free z = record {
       let below : h < length s.objects =
       (are_unique far s (length s.objects) r.known.sound.here refl).below i.0 h i.2 in
       let range : h < length x.words = omega (arith, below, r.known.shows.objects) in
-      let fit : Fits (is.Claimed (len_of a.word) (place_of a.word) a.version a.words) (word_at y h) =
+      let fit : Fits (is.Claimed (len_of a.word) (place_of a.word) a.version a.words)
+      (word_at y h) =
       subst (λ (o : Object). Fits o (word_at y h)) a.object
       (shows.fit h (omega (arith, range, count))) in
       let was : Fits (is.Here (len_of a.word) (place_of a.word)) (word_at x h) =
@@ -71,7 +71,8 @@ held_words x y far new s es frames r spans leaves free z = record {
       (sym (seen_then.hot h (omega (arith, range, count)))
       ∙ ap (λ (l : List Bool). get_or l h false) (z.hots ∙ ap (λ (t : Shown). t.hots) r.told)
       ∙ seen.hot h range);
-  others = λ h out. other h out (cases_lt h (length x.words));
+  others = λ h out. word_stays x y far s es h r count (z.others h (λ i. out (out_of h i)))
+      (ap (λ (l : List Bool). get_or l h false) (z.hots ∙ ap (λ (t : Shown). t.hots) r.told));
   count = count;
   settings = plain_stays x y es r.ran;
   versions = sym shows.versions ∙ z.versions ∙ ap (λ (t : Shown). t.versions) r.told
@@ -100,15 +101,6 @@ held_words x y far new s es frames r spans leaves free z = record {
     out_of h i = subst (λ (l : List _). IsIn l frames h) spans
         (subst (λ (l : List ℕ). IsIn new.spans l h) leaves i)
 
-    other : (h : ℕ) → ¬ (IsIn far.spans frames h) → (h < length x.words) ⊎ (length x.words ≤ h)
-        → word_at y h ≡ word_at x h
-    other h out (inl below) =
-        word_back x y far s es h r.known r.ran r.allowed below (omega (arith, below, count))
-        (z.others h (λ i. out (out_of h i)))
-        (ap (λ (l : List Bool). get_or l h false) (z.hots ∙ ap (λ (t : Shown). t.hots) r.told))
-    other h out (inr past) = get_or_past y.words h 0 (omega (arith, past, count))
-        ∙ sym (get_or_past x.words h 0 past)
-
 begun_to : (x y : Words) (far new : FarState) (s : Shown) (es : List Event)
     → RunsStill x y far s es → IsKnown y new (played es s)
     → x.settings.k ≤ length (loose_frames x far)
@@ -119,7 +111,8 @@ begun_to x y far new s es r l enough b z =
     let k = x.settings.k in let frames = take k (loose_frames x far) in
     let batch = new_batch x.settings far frames b.words b.parities in
     let held = held_words x y far new s es frames r
-    (ap (λ (f : FarState). f.spans) b.state) (ap (λ (f : FarState). leaving_frames f.leaving) b.state)
+    (ap (λ (f : FarState). f.spans) b.state) (ap (λ (f : FarState). leaving_frames f.leaving)
+    b.state)
     (λ h i. leaves_free x far k h i) z in
     let word = (l.sound.away.sound.batch batch (ap (λ (f : FarState). f.leaving) b.state)).word in
     let memory : (played es s).memory ≡ x.memory = l.shows.memory ∙ held.memory in
@@ -136,7 +129,8 @@ begun_to x y far new s es r l enough b z =
           (map (λ f. row_of (window ms (512 * f) 512)) frames ++ b.parities)) memory
           (subst (λ (n : ℕ). IsSpanWord n x.settings.r (batch_rows (played es s) batch))
           (length-take-le k (loose_frames x far) enough)
-          (subst (λ (n : ℕ). IsSpanWord (length frames) n (batch_rows (played es s) batch)) b.counts.1 word));
+          (subst (λ (n : ℕ). IsSpanWord (length frames) n (batch_rows (played es s) batch))
+          b.counts.1 word));
       state = b.state;
       held = held;
     }
@@ -149,17 +143,12 @@ by_looks : (x y : Words) (far new : FarState) (r : Reply) (s : Shown) (es : List
     ⊎ HasBatch x.settings far new r loose es)
     → IsBeginStep x y far new r × IsStepKnown y far new s
 by_looks x y far new r s es loose runs l none same effect (inl a) =
-    let words = stays_still x y far s es runs
-    (effect.left (λ id e. spans_batch (length loose) r id a.reply e)) in (
-      few_spans none (subst (HasFewSpans x.settings far new r) same a) words,
-      refused x y far new s (played es s) runs.known l words a.state,
-    )
+    refused x y far new s es runs l (effect.left
+    (λ id e. spans_batch (length loose) r id a.reply e)) a.state
+    (few_spans none (subst (HasFewSpans x.settings far new r) same a))
 by_looks x y far new r s es loose runs l none same effect (inr (inl a)) =
-    let words = stays_still x y far s es runs
-    (effect.left (λ id e. nodes_batch _ r id a.reply e)) in (
-      few_nodes none (subst (HasFewNodes x.settings far new r) same a) words,
-      refused x y far new s (played es s) runs.known l words a.state,
-    )
+    refused x y far new s es runs l (effect.left (λ id e. nodes_batch _ r id a.reply e)) a.state
+    (few_nodes none (subst (HasFewNodes x.settings far new r) same a))
 by_looks x y far new r s es loose runs l none same effect (inr (inr a)) =
     let b = subst (λ (frames : List ℕ). HasBatch x.settings far new r frames es) same a in
     let z = effect.begun (record { n = far.counts.sets }) a.reply in (
@@ -182,11 +171,8 @@ by_rule : (x y : Words) (far new : FarState) (r : Reply) (s : Shown) (es : List 
     → BeginEffect far new r es s (played es s) → BeginRule x.settings far new r es
     → IsBeginStep x y far new r × IsStepKnown y far new s
 by_rule x y far new r s es runs l effect (inl a) =
-    let words = stays_still x y far s es runs
-    (effect.left (λ id e. leaving_batch _ id r a.reply e)) in (
-      is_leaving a.batch a.there a.reply a.state words,
-      refused x y far new s (played es s) runs.known l words a.state,
-    )
+    refused x y far new s es runs l (effect.left (λ id e. leaving_batch _ id r a.reply e)) a.state
+    (is_leaving a.batch a.there a.reply a.state)
 by_rule x y far new r s es runs l effect (inr a) =
     by_looks x y far new r s es a.loose runs l a.none
     (loose_exact es x y far a.loose runs.ran runs.looks_first a.found) effect a.answered

@@ -1,7 +1,5 @@
 -- Over a still desk a commit is a step.
-use Rattle.std.proofs.Common.{◌≡◌, ◌⊎◌, ℕ, ◌+◌, ◌*◌, ◌<◌, ◌≤◌, List, length, get_or, All, Some, sym, ap, ◌∙◌, subst, arith, inl, inr}
-use Rattle.std.proofs.lemmas.Bool.{cases_lt}
-use Rattle.std.proofs.lemmas.List.{get_or_past}
+use Rattle.std.proofs.Common.{◌≡◌, ◌⊎◌, ℕ, ◌+◌, ◌*◌, ◌<◌, List, length, get_or, All, Some, sym, ap, ◌∙◌, subst, arith, inl, inr}
 use Rattle.cb_ptr.specs.Steps.{IsFarWord}
 use Rattle.cb_ptr.specs.Word.{len_of}
 use Rattle.cb_ptr.proofs.Laws.{far_word_is, len_of-below}
@@ -18,15 +16,14 @@ use Rattle.cb_world.specs.Plain.{Words, Shows}
 use Rattle.cb_world.specs.Played.{played}
 use Rattle.cb_world.specs.StillDesk.{plain_follows, plain_stays}
 use Rattle.cb_world.specs.World.{word_at, IsKnown}
-use Rattle.cb_world.proofs.Laws.{word_back, PerformsStill, RunsStill, runs_still, known_then, stays_still}
+use Rattle.cb_world.proofs.Laws.{PerformsStill, RunsStill, runs_still, known_then}
 use Rattle.cb_evict.specs.AbortRule.{HasNoBatch}
-use Rattle.cb_evict.specs.Claims.{IsNone}
 use Rattle.cb_evict.specs.CommitRule.{HasShort, HasCommitted, CommitRule, CommitEffect}
 use Rattle.cb_evict.specs.CommitStep.{ArePutAway, IsCommitStep, no_batch, short, committed}
 use Rattle.cb_evict.specs.Restoring.{IsClaimedFrom}
 use Rattle.cb_evict.specs.Sending.{IsSent, AreSent}
 use Rattle.cb_evict.proofs.Commits.{no_batch_set, short_set}
-use Rattle.cb_evict.proofs.EvictStep.{IsStepKnown, refused}
+use Rattle.cb_evict.proofs.EvictStep.{IsStepKnown, refused, word_stays}
 use Rattle.cb_evict.proofs.Noted.{claimed_all}
 
 put_away : (x y : Words) (far : FarState) (s : Shown) (es : List Event) (batch : LeavingState)
@@ -34,7 +31,7 @@ put_away : (x y : Words) (far : FarState) (s : Shown) (es : List Event) (batch :
     → AreSent s (played es s) batch.words → ArePutAway x y batch.words
 put_away x y far s es batch r there z = record {
   away = λ i d within. away (get_or batch.words i d) (claimed i d within) (z.sent i d within);
-  others = λ h none. other h none (cases_lt h (length x.words));
+  others = λ h none. word_stays x y far s es h r count (z.others h none) (z.hots h none);
   count = count;
   settings = plain_stays x y es r.ran;
   versions = sym shows.versions ∙ z.versions ∙ r.known.shows.versions;
@@ -62,30 +59,18 @@ put_away x y far s es batch r there z = record {
         far_word_is (len_of f.word) (word_at y h) (len_of-below f.word)
         (fit.0 ∙ ap (λ (n : ℕ). 1 + n * 8192) fit.1)
 
-    other : (h : ℕ) → IsNone batch.words h → (h < length x.words) ⊎ (length x.words ≤ h)
-        → word_at y h ≡ word_at x h
-    other h none (inl below) = word_back x y far s es h r.known r.ran r.allowed below
-        (omega (arith, below, count)) (z.others h none) (z.hots h none)
-    other h none (inr past) = get_or_past y.words h 0 (omega (arith, past, count))
-        ∙ sym (get_or_past x.words h 0 past)
-
 by_rule : (x y : Words) (far new : FarState) (r : Reply) (s : Shown) (es : List Event)
     → RunsStill x y far s es → IsKnown y new (played es s)
     → CommitEffect far new r es s (played es s)
     → HasNoBatch far new r ⊎ (HasShort far new r ⊎ HasCommitted far new r)
     → IsCommitStep x y far new r × IsStepKnown y far new s
 by_rule x y far new r s es runs l effect (inl a) =
-    let words = stays_still x y far s es runs
-    (effect.left (λ id e. no_batch_set id (sym a.reply ∙ e))) in (
-      no_batch a words,
-      refused x y far new s (played es s) runs.known l words a.state,
-    )
+    refused x y far new s es runs l (effect.left (λ id e. no_batch_set id (sym a.reply ∙ e)))
+    a.state
+    (no_batch a)
 by_rule x y far new r s es runs l effect (inr (inl a)) =
-    let words = stays_still x y far s es runs
-    (effect.left (λ id e. short_set _ id (sym a.reply ∙ e))) in (
-      short a words,
-      refused x y far new s (played es s) runs.known l words a.state,
-    )
+    refused x y far new s es runs l (effect.left (λ id e. short_set _ id (sym a.reply ∙ e))) a.state
+    (short a)
 by_rule x y far new r s es runs l effect (inr (inr a)) =
     let z = effect.committed a.batch (record { n = a.batch.set }) a.there a.reply in (
       committed a (put_away x y far s es a.batch runs a.there z.sent),

@@ -25,12 +25,12 @@ use Rattle.cb_evict.specs.CommitRule.{CommitRule, CommitEffect, IsCommitted, wit
 use Rattle.cb_evict.specs.Committing.{AreAllPut, with_shards}
 use Rattle.cb_evict.specs.Sending.{Sends}
 use Rattle.cb_evict.specs.Waiting.{waiting}
-use Rattle.cb_evict.proofs.Aborted.{still_none}
 use Rattle.cb_evict.proofs.BatchCommitted.{Done, sound_committed, now_committed}
 use Rattle.cb_evict.proofs.BatchReady.{told_all}
 use Rattle.cb_evict.proofs.Events.{touches_more}
-use Rattle.cb_evict.proofs.Noted.{same_batch}
 use Rattle.cb_evict.proofs.WhichWait.{all_stand}
+use Rattle.cb_evict.proofs.Options.{some_same}
+use Rattle.cb_evict.proofs.Still.{does_nothing, still_none}
 
 -- ---- the refusals
 pub no_batch_set : (id : SetId) → answer.NoBatch ≡ answer.Set id → ⊥
@@ -43,45 +43,37 @@ pub not_committed : (runs : List Event → Type 0) (shows : Shown → Type 0) (f
     → runs [] → far.leaving ≡ None → new ≡ far
     → Performs runs (λ s. shows s × Sound s far) (CommitRule far new answer.NoBatch)
     (λ t. Sound t new) (CommitEffect far new answer.NoBatch)
-not_committed runs shows far new ran none state = record {
-  events = [];
-  ran = ran;
-  looks_first = tt;
-  rule = record { answered = inl (record { none = none; reply = refl; state = state }); touches = tt };
-  allowed = λ s k. tt;
-  sound_after = λ s k. subst (λ (f : FarState). Sound s f) (sym state) k.1;
-  effect = λ s k. record {
-    committed = λ b id there e. absurd (no_batch_set id e);
-    left = λ e. still_none s;
-  };
-}
+not_committed runs shows far new ran none state =
+    does_nothing runs shows far new (CommitRule far new answer.NoBatch) (CommitEffect far new answer.NoBatch)
+    ran state
+    (record { answered = inl (record { none = none; reply = refl; state = state }); touches = tt })
+    (λ s. record {
+      committed = λ b id there e. absurd (no_batch_set id e);
+      left = λ e. still_none s;
+    })
 
 pub short_of_rows : (runs : List Event → Type 0) (shows : Shown → Type 0) (far new : FarState)
     (batch : LeavingState) (positions : List ℕ) → runs [] → far.leaving ≡ Some batch
     → positions ≡ waiting far.members batch.shards → 1 ≤ length positions → new ≡ far
     → Performs runs (λ s. shows s × Sound s far) (CommitRule far new (answer.Short positions))
     (λ t. Sound t new) (CommitEffect far new (answer.Short positions))
-short_of_rows runs shows far new batch positions ran there same some state = record {
-  events = [];
-  ran = ran;
-  looks_first = tt;
-  rule = record {
-    answered = inr (inl (record {
-      batch = batch;
-      there = there;
-      some = subst (λ (l : List ℕ). 1 ≤ length l) same some;
-      reply = ap (λ (l : List ℕ). answer.Short l) same;
-      state = state;
-    }));
-    touches = tt;
-  };
-  allowed = λ s k. tt;
-  sound_after = λ s k. subst (λ (f : FarState). Sound s f) (sym state) k.1;
-  effect = λ s k. record {
-    committed = λ b id at e. absurd (short_set positions id e);
-    left = λ e. still_none s;
-  };
-}
+short_of_rows runs shows far new batch positions ran there same some state =
+    does_nothing runs shows far new (CommitRule far new (answer.Short positions))
+    (CommitEffect far new (answer.Short positions)) ran state
+    (record {
+      answered = inr (inl (record {
+        batch = batch;
+        there = there;
+        some = subst (λ (l : List ℕ). 1 ≤ length l) same some;
+        reply = ap (λ (l : List ℕ). answer.Short l) same;
+        state = state;
+      }));
+      touches = tt;
+    })
+    (λ s. record {
+      committed = λ b id at e. absurd (short_set positions id e);
+      left = λ e. still_none s;
+    })
 
 -- ---- whether a position waits
 pub some_items : (xs : List ℕ) → (length xs == 0) ≡ false → 1 ≤ length xs
@@ -166,7 +158,7 @@ commits runs shows far new batch id same there whole state homes warm r = record
   effect = λ s k. record {
     committed = λ b n at e.
         subst (λ (c : LeavingState). IsCommitted far new c r.events s (played r.events s))
-        (same_batch batch b (sym there ∙ at)) (record {
+        (some_same batch b (sym there ∙ at)) (record {
           sent = (done s k).sent;
           nothing = r.nothing s k.0 (told_all s far batch k.1 there (warm s k.0));
           same_now = λ h. subst (λ (f : FarState). now (played r.events s) f h ≡ now s far h) (sym state)

@@ -1,5 +1,5 @@
 -- The parts of an eviction one after another.
-use Rattle.std.proofs.Common.{◌≡◌, ◌≢◌, ◌⊎◌, ℕ, ◌+◌, ◌<◌, ◌≤◌, List, [], ◌∷◌, ◌++◌, length, get_or, All, Option, replicate, sym, refl, ap, ◌∙◌, subst, arith, inl, inr}
+use Rattle.std.proofs.Common.{◌≡◌, ◌≢◌, ◌⊎◌, ℕ, ◌+◌, ◌<◌, ◌≤◌, List, [], ◌∷◌, ◌++◌, length, get_or, All, Option, replicate, take, sym, refl, ap, ◌∙◌, subst, arith, inl, inr}
 use Rattle.std.specs.Prelude.{Result, Ok, Err, IfOk, OnOk, OnErr}
 use Rattle.std.specs.List.{Contains, AllPairs}
 use Rattle.std.proofs.lemmas.List.{append-nil, append_assoc, take_at, length-append, length-replicate, get_or-replicate, get_or_default}
@@ -23,37 +23,42 @@ use Rattle.cb_world.specs.Written.{written_by}
 use Rattle.cb_world.specs.Still.{IsStill}
 use Rattle.cb_world.specs.FarState.{FarState}
 use Rattle.cb_world.specs.Now.{now}
-use Rattle.cb_world.specs.LocalSound.{LocalSound}
 use Rattle.cb_world.specs.Sound.{Sound}
 use Rattle.cb_world.specs.Performs.{Performs}
 use Rattle.cb_world.proofs.Laws.{taken_before, played_append, told_append, written_append, allowed_append}
 use Rattle.cb_evict.specs.Candidates.{candidates, AreLoose}
-use Rattle.cb_evict.specs.Claims.{AreClaimed}
-use Rattle.cb_evict.specs.Claiming.{IsOne, GivesBack, ClaimsSpans}
+use Rattle.cb_evict.specs.Claiming.{GivesBack, ClaimsSpans}
 use Rattle.cb_evict.specs.Events.{TouchesOnly, OnlyLooks}
 use Rattle.cb_evict.specs.EvictEffect.{IsAway, IsEvicted, EvictEffect}
 use Rattle.cb_evict.specs.EvictRule.{IsInRow, HasEvicted, HasFewSpans, HasFewNodes, HasBoth, EvictRule}
-use Rattle.cb_evict.specs.Evicting.{TouchesSpans, RuleAfter, CountsAfter, AreTaken, IsReady, EvictsClaimed, LeavesClaimed}
+use Rattle.cb_evict.specs.Evicting.{TouchesSpans, RuleAfter, CountsAfter, AreTaken, IsReady, EndsClaimed, EvictsClaimed, LeavesClaimed}
 use Rattle.cb_evict.specs.declared.eviction.Eviction.{Eviction}
 use Rattle.cb_evict.specs.declared.eviction.Eviction.TheVariants as eviction
 use Rattle.cb_evict.specs.declared.eviction.Lack.TheVariants as lack
 use Rattle.cb_evict.specs.Eviction.{CountsRule, TellsCounts, reply_of}
-use Rattle.cb_evict.specs.Finding.{FindsFew}
+use Rattle.cb_evict.specs.declared.finding.Found.{Found}
+use Rattle.cb_evict.specs.declared.finding.Found.TheVariants.{Loose}
+use Rattle.cb_evict.specs.declared.taking.Taken.{Taken}
+use Rattle.cb_evict.specs.declared.taking.Taken.TheVariants.{Enough}
+use Rattle.cb_evict.specs.Finding.{FindsFew, Finds}
+use Rattle.cb_evict.specs.Taking.{Takes}
 use Rattle.cb_evict.specs.Loading.{LiesInOne}
 use Rattle.cb_evict.specs.Looking.{IsIn, LooksOver}
-use Rattle.cb_evict.proofs.Claims.{claims_back}
-use Rattle.cb_evict.proofs.Events.{touches_append, touches_more, found_after, first_append, looks_before, looks_change, looks_steady, steady_append}
+use Rattle.cb_evict.proofs.Events.{touches_append, touches_more, found_after, first_append, looks_before, looks_change, looks_steady, are_reads}
 use Rattle.cb_evict.proofs.Loose.{loose_among, all_quiet, apart_tail, fresh_head}
-use Rattle.cb_evict.proofs.Restored.{restored, looked}
+use Rattle.cb_evict.proofs.Restored.{gives_back_ends, looked}
 use Rattle.cb_evict.proofs.Standing.{candidates_apart}
+use Rattle.cb_evict.proofs.Still.{does_nothing, still_none}
 
 -- ---- by the result
-pub if_ok : {T : Type 0} {E : Type 0} (P Q : T → Type 0) (B : Type 0) (r : Result T E) → IfOk r Q → OnOk r B
+pub if_ok : {T : Type 0} {E : Type 0} (P Q : T → Type 0) (B : Type 0) (r : Result T E) → IfOk r Q
+    → OnOk r B
     → ((t : T) → Q t → B → P t) → IfOk r P
 if_ok P Q B (Ok t) q b f = f t q b
 if_ok P Q B (Err e) q b f = tt
 
-pub on_err : {T : Type 0} {E : Type 0} (P B : Type 0) (r : Result T E) → OnErr r B → (B → P) → OnErr r P
+pub on_err : {T : Type 0} {E : Type 0} (P B : Type 0) (r : Result T E) → OnErr r B → (B → P)
+    → OnErr r P
 on_err P B (Ok t) b f = tt
 on_err P B (Err e) b f = f b
 
@@ -71,6 +76,19 @@ pub any_err : {T : Type 0} {E : Type 0} (P : Type 0) (r : Result T E) → P → 
 any_err P (Ok t) p = tt
 any_err P (Err e) p = p
 
+-- ---- by what was found, and by what was taken
+pub found_loose : (runs : List Event → Type 0) (c : Config) (far : FarState) (found : Found)
+    (frames : _) (nodes : ℕ) → found ≡ Loose frames nodes → Finds runs c far found
+    → Finds runs c far (Loose frames nodes)
+found_loose runs c far found frames nodes is x = subst (Finds runs c far) is x
+
+pub taken_enough : (runs : List Event → Type 0) (shows : Shown → Type 0) (c : Config)
+    (far : FarState) (loose : List ℕ) (taken : Taken) (frames : _) (formers : _)
+    → taken ≡ Enough frames formers → Takes runs shows c far loose taken
+    → Takes runs shows c far loose (Enough frames formers)
+taken_enough runs shows c far loose taken frames formers is x =
+    subst (Takes runs shows c far loose) is x
+
 -- ---- the rows that are made
 pub rows_made : (rows : List (List ℕ)) (k n : ℕ) → rows ≡ replicate k (replicate 4096 0) → n ≡ k
     → (length rows ≡ n) × HaveLength 4096 rows
@@ -79,7 +97,8 @@ rows_made rows k n is e =
     ap (λ (l : List (List ℕ)). length l) is ∙ length-replicate k (replicate 4096 0) in (
       count ∙ sym e,
       λ i d l. ap (λ (m : List (List ℕ)). length (get_or m i d)) is
-          ∙ ap (λ (m : List ℕ). length m) (get_or-replicate k i (replicate 4096 0) d (omega (arith, l, count)))
+          ∙ ap (λ (m : List ℕ). length m) (get_or-replicate k i (replicate 4096 0) d
+          (omega (arith, l, count)))
           ∙ length-replicate {A = ℕ} 4096 0,
     )
 
@@ -119,7 +138,8 @@ evicted_before c far new frames before es a = record {
   chosen = a.chosen;
   word = a.word;
   contents = λ p f slot h span at there named.
-      row_before before es span (row_at a.rows p) slot h (a.contents p f slot h span at there named);
+      row_before before es span (row_at a.rows p) slot h
+      (a.contents p f slot h span at there named);
   homes = a.homes;
   state = a.state;
 }
@@ -147,22 +167,10 @@ few_nodes n r id a b = cc
 
 -- ---- nothing was done
 pub nothing_done : (far : FarState) (runs : List Event → Type 0) (knows : Shown → Type 0)
-    → runs [] → Performs runs (λ s. knows s × Sound s far) (TouchesSpans far) (λ t. Sound t far) IsStill
-nothing_done far runs knows ran = record {
-  events = [];
-  ran = ran;
-  looks_first = tt;
-  rule = tt;
-  allowed = λ s k. tt;
-  sound_after = λ s k. k.1;
-  effect = λ s k. record {
-    objects = refl;
-    hots = refl;
-    versions = refl;
-    memory = refl;
-    nothing = λ old. refl;
-  };
-}
+    → runs [] → Performs runs (λ s. knows s × Sound s far) (TouchesSpans far) (λ t. Sound t far)
+    IsStill
+nothing_done far runs knows ran =
+    does_nothing runs knows far far (TouchesSpans far) IsStill ran refl tt still_none
 
 -- ---- looks before
 looks_same : (es : List Event) (s : Shown) → OnlyLooks es → played es s ≡ told_by es s
@@ -228,7 +236,8 @@ effect_before far new r es fs s t looks a = record {
 -- only objects of candidates were looked at
 pub looks_touch : (far : FarState) (es : List Event)
     → TouchesOnly (IsIn far.spans (candidates far)) (λ p. ⊥) es → TouchesSpans far es
-looks_touch far es t = touches_more (IsIn far.spans (candidates far)) (IsIn far.spans (candidates far))
+looks_touch far es t = touches_more (IsIn far.spans (candidates far))
+    (IsIn far.spans (candidates far))
     (λ p. ⊥) (LiesInOne (candidates far)) es (λ h x. x) (λ p x. absurd x) t
 
 pub looks_as : (runs : List Event → Type 0) (spans ys : List (Option Contents))
@@ -239,33 +248,50 @@ looks_as runs spans ys frames gs loose hs e f h x =
     (subst (λ (l : List ℕ). LooksOver runs ys l loose) f
     (subst (λ (l : List ℕ). LooksOver runs ys gs l) h x))
 
--- the looks, and then the rest
+-- the looks, and then the rest: what that meets and does is carried over them
+pub looks_more : (far new : FarState) (loose : List ℕ) (rule after : List Event → Type 0)
+    (does : List Event → Shown → Shown → Type 0) (runsA runsB runsC : List Event → Type 0)
+    (showsA showsB : Shown → Type 0) → (x : LooksOver runsA far.spans (candidates far) loose)
+    → Performs runsB (λ s. showsB s × Sound s far) after (λ t. Sound t new) does
+    → ((fs : List Event) → after fs → rule (x.events ++ fs))
+    → ((fs : List Event) (s t : Shown) → does fs (played x.events s) t → does (x.events ++ fs) s t)
+    → ((es fs : List Event) → runsA es → runsB fs → runsC (es ++ fs))
+    → ((es : List Event) (s : Shown) → runsA es → showsA s → showsB (played es s))
+    → Performs runsC (λ s. showsA s × Sound s far) rule (λ t. Sound t new) does
+looks_more far new loose rule after does runsA runsB runsC showsA showsB x y meets moves more
+    shown =
+    let es = x.events in let fs = y.events in
+    let known : (s : Shown) → showsA s × Sound s far → showsB (played es s)
+    × Sound (played es s) far =
+    λ s k. (shown es s x.ran k.0, (looked far es s k.1 x.looks).0) in record {
+      events = es ++ fs;
+      ran = more es fs x.ran y.ran;
+      looks_first = looks_before es fs x.looks y.looks_first;
+      rule = meets fs y.rule;
+      allowed = λ s k. allowed_append es fs s (looks_steady es s x.looks).allowed
+          (y.allowed (played es s) (known s k));
+      sound_after = λ s k. subst (λ (v : Shown). Sound v new) (sym (played_append es fs s))
+          (y.sound_after (played es s) (known s k));
+      effect = λ s k. subst (does (es ++ fs) s) (sym (played_append es fs s))
+          (moves fs s (played fs (played es s)) (y.effect (played es s) (known s k)));
+    }
+
 pub looks_then : (c d : Config) (far new : FarState) (e : Eviction) (loose : List ℕ)
     (runsA runsB runsC : List Event → Type 0) (showsA showsB : Shown → Type 0)
     → d ≡ c → (x : LooksOver runsA far.spans (candidates far) loose)
-    → Performs runsB (λ s. showsB s × Sound s far) (CountsAfter d far new e loose) (λ t. Sound t new)
+    → Performs runsB (λ s. showsB s × Sound s far) (CountsAfter d far new e loose)
+    (λ t. Sound t new)
     (EvictEffect far new (reply_of e))
     → ((es fs : List Event) → runsA es → runsB fs → runsC (es ++ fs))
     → ((es : List Event) (s : Shown) → runsA es → showsA s → showsB (played es s))
     → Performs runsC (λ s. showsA s × Sound s far) (CountsRule c far new e) (λ t. Sound t new)
     (EvictEffect far new (reply_of e))
-looks_then c d far new e loose runsA runsB runsC showsA showsB same x y more shown =
-    let es = x.events in let fs = y.events in
-    let known : (s : Shown) → showsA s × Sound s far → showsB (played es s) × Sound (played es s) far =
-    λ s k. (shown es s x.ran k.0, (looked far es s k.1 x.looks).0) in record {
-      events = es ++ fs;
-      ran = more es fs x.ran y.ran;
-      looks_first = looks_before es fs x.looks y.looks_first;
-      rule = subst (λ (n : Config). CountsRule n far new e (es ++ fs)) same
-          (y.rule es x.finds (looks_touch far es x.touches));
-      allowed = λ s k. allowed_append es fs s (looks_steady es s x.looks).allowed
-          (y.allowed (played es s) (known s k));
-      sound_after = λ s k. subst (λ (v : Shown). Sound v new) (sym (played_append es fs s))
-          (y.sound_after (played es s) (known s k));
-      effect = λ s k. subst (λ (v : Shown). EvictEffect far new (reply_of e) (es ++ fs) s v)
-          (sym (played_append es fs s)) (effect_before far new (reply_of e) es fs s (played fs (played es s)) x.looks
-          (y.effect (played es s) (known s k)));
-    }
+looks_then c d far new e loose runsA runsB runsC showsA showsB same x y =
+    looks_more far new loose (CountsRule c far new e) (CountsAfter d far new e loose)
+    (EvictEffect far new (reply_of e)) runsA runsB runsC showsA showsB x y
+    (λ fs a. subst (λ (n : Config). CountsRule n far new e (x.events ++ fs)) same
+    (a x.events x.finds (looks_touch far x.events x.touches)))
+    (λ fs s t. effect_before far new (reply_of e) x.events fs s t x.looks)
 
 pub looks_fail : (far : FarState) (loose : List ℕ)
     (runsA runsB runsC : List Event → Type 0) (showsA showsB : Shown → Type 0)
@@ -274,23 +300,13 @@ pub looks_fail : (far : FarState) (loose : List ℕ)
     → ((es fs : List Event) → runsA es → runsB fs → runsC (es ++ fs))
     → ((es : List Event) (s : Shown) → runsA es → showsA s → showsB (played es s))
     → Performs runsC (λ s. showsA s × Sound s far) (TouchesSpans far) (λ t. Sound t far) IsStill
-looks_fail far loose runsA runsB runsC showsA showsB x y more shown =
-    let es = x.events in let fs = y.events in
-    let known : (s : Shown) → showsA s × Sound s far → showsB (played es s) × Sound (played es s) far =
-    λ s k. (shown es s x.ran k.0, (looked far es s k.1 x.looks).0) in record {
-      events = es ++ fs;
-      ran = more es fs x.ran y.ran;
-      looks_first = looks_before es fs x.looks y.looks_first;
-      rule = touches_append (IsIn far.spans (candidates far)) (LiesInOne (candidates far)) es fs
-          (looks_touch far es x.touches) y.rule;
-      allowed = λ s k. allowed_append es fs s (looks_steady es s x.looks).allowed
-          (y.allowed (played es s) (known s k));
-      sound_after = λ s k. subst (λ (v : Shown). Sound v far) (sym (played_append es fs s))
-          (y.sound_after (played es s) (known s k));
-      effect = λ s k. subst (λ (v : Shown). IsStill (es ++ fs) s v)
-          (sym (played_append es fs s)) (left_before es fs s (played fs (played es s)) x.looks
-          (y.effect (played es s) (known s k)));
-    }
+looks_fail far loose runsA runsB runsC showsA showsB x y =
+    looks_more far far loose (TouchesSpans far) (TouchesSpans far) IsStill runsA runsB runsC showsA
+    showsB x y
+    (λ fs a. touches_append (IsIn far.spans (candidates far)) (LiesInOne (candidates far)) x.events
+    fs
+    (looks_touch far x.events x.touches) a)
+    (λ fs s t. left_before x.events fs s t x.looks)
 
 -- the looks alone
 pub looks_alone : (far : FarState) (loose : List ℕ) (runs : List Event → Type 0)
@@ -328,7 +344,8 @@ pub replied : (c : Config) (far new : FarState) (e : Eviction) (r : Reply)
     → Performs runs knows (EvictRule c far new r) sound (EvictEffect far new r)
 replied c far new e r runs knows sound is x =
     subst (λ (q : Reply). Performs runs knows (EvictRule c far new q) sound (EvictEffect far new q))
-    (sym is) (rule_weaker runs knows sound (CountsRule c far new e) (EvictRule c far new (reply_of e))
+    (sym is) (rule_weaker runs knows sound (CountsRule c far new e)
+    (EvictRule c far new (reply_of e))
     (EvictEffect far new (reply_of e)) (λ es y. y.rule) x)
 
 -- a set has no counts to tell
@@ -414,33 +431,15 @@ finds_few c d far e runs shows same x =
 pub claims_touch : (far : FarState) (loose : List ℕ) (es : List Event)
     → All (Contains (candidates far)) loose → TouchesOnly (IsIn far.spans loose) (λ p. ⊥) es
     → TouchesSpans far es
-claims_touch far loose es among t = touches_more (IsIn far.spans loose) (IsIn far.spans (candidates far))
+claims_touch far loose es among t = touches_more (IsIn far.spans loose)
+    (IsIn far.spans (candidates far))
     (λ p. ⊥) (LiesInOne (candidates far)) es
     (λ h (f, c, named). (f, All-contains (Contains (candidates far)) loose f among c, named))
     (λ p x. absurd x) t
 
--- the objects that were claimed
-one_touch : (far : FarState) (loose : List ℕ) (runs : List Event → Type 0) (shows : Shown → Type 0)
-    (k : ℕ) (frames : List ℕ) (formers : List Former) (es : List Event)
-    → All (Contains (candidates far)) loose
-    → (x : ClaimsSpans runs shows far.spans loose k frames formers)
-    → TouchesOnly (IsOne formers) (λ p. ⊥) es → TouchesSpans far es
-one_touch far loose runs shows k frames formers es among x t =
-    touches_more (IsOne formers) (IsIn far.spans (candidates far)) (λ p. ⊥) (LiesInOne (candidates far)) es
-    (λ h (f, c, same). subst (IsIn far.spans (candidates far)) same (wide f.handle
-    (All-contains (λ g. IsIn far.spans frames g.handle) formers f x.of.only c)))
-    (λ p y. absurd y) t
-  where
-    wide : (h : ℕ) → IsIn far.spans frames h → IsIn far.spans (candidates far) h
-    wide h (f, c, named) = (
-      f,
-      All-contains (Contains (candidates far)) loose f among
-          (All-contains (Contains loose) frames f x.among c),
-      named,
-    )
-
 -- the spans that are loose in the end
-pub loose_then : (far : FarState) (loose : List ℕ) (runs : List Event → Type 0) (shows : Shown → Type 0)
+pub loose_then : (far : FarState) (loose : List ℕ) (runs : List Event → Type 0)
+    (shows : Shown → Type 0)
     (k : ℕ) (frames : List ℕ) (formers : List Former) (before fs : List Event)
     → (x : ClaimsSpans runs shows far.spans loose k frames formers)
     → ((h : ℕ) → NoLook h fs) → AreLoose before far.spans (candidates far) loose
@@ -452,7 +451,8 @@ loose_then far loose runs shows k frames formers before fs x quiet found =
     (λ f c h named. quiet h)
     (x.found before (candidates far) (candidates_apart far) found))
 
-pub wide_touch : (far : FarState) (loose : List ℕ) (runs : List Event → Type 0) (shows : Shown → Type 0)
+pub wide_touch : (far : FarState) (loose : List ℕ) (runs : List Event → Type 0)
+    (shows : Shown → Type 0)
     (k : ℕ) (frames : List ℕ) (formers : List Former) (es : List Event)
     → All (Contains (candidates far)) loose
     → (x : ClaimsSpans runs shows far.spans loose k frames formers)
@@ -485,11 +485,13 @@ are_ready far loose frames formers runs shows showsB k x among s shown knows sou
 
 pub are_taken : (c : Config) (far : FarState) (loose frames : List ℕ) (formers : List Former)
     (runs : List Event → Type 0) (shows : Shown → Type 0) (k : ℕ)
-    → ClaimsSpans runs shows far.spans loose k frames formers → All (Contains (candidates far)) loose
+    → ClaimsSpans runs shows far.spans loose k frames formers
+    → All (Contains (candidates far)) loose
     → length frames ≡ c.k → AreTaken c far frames formers
 are_taken c far loose frames formers runs shows k x among count = record {
   count = count;
-  among = λ i d l. All-contains (Contains (candidates far)) loose (get_or frames i d) among (x.among i d l);
+  among = λ i d l. All-contains (Contains (candidates far)) loose (get_or frames i d) among
+      (x.among i d l);
   apart = x.apart;
   of = x.of;
   order = x.order;
@@ -527,6 +529,69 @@ pub claims_as : (runs : List Event → Type 0) (shows : Shown → Type 0)
 claims_as runs shows spans ys loose k frames formers e x =
     subst (λ (l : List (Option Contents)). ClaimsSpans runs shows l loose k frames formers) e x
 
+-- the claims, and then an end
+pub claims_end : (far new : FarState) (loose : List ℕ) (k : ℕ) (frames : List ℕ)
+    (formers : List Former) (rule ends : List Event → Type 0)
+    (does effect : List Event → Shown → Shown → Type 0)
+    (runsA runsB runsC : List Event → Type 0) (showsA showsB : Shown → Type 0)
+    → (x : ClaimsSpans runsA showsA far.spans loose k frames formers)
+    → (y : EndsClaimed runsB showsB far new frames formers ends does)
+    → All (Contains (candidates far)) loose → rule (x.events ++ y.events)
+    → ((s t : Shown) → does (x.events ++ y.events) s t → effect (x.events ++ y.events) s t)
+    → ((es fs : List Event) → runsA es → runsB fs → runsC (es ++ fs))
+    → ((s : Shown) → showsA s → showsB (played x.events s))
+    → Performs runsC (λ s. showsA s × Sound s far) rule (λ t. Sound t new) effect
+claims_end far new loose k frames formers rule ends does effect runsA runsB runsC showsA showsB x y
+    among
+    meets moves more shown =
+    let es = x.events in let fs = y.events in
+    let ready = λ (s : Shown) (had : showsA s × Sound s far).
+    are_ready far loose frames formers runsA showsA showsB k x among s (shown s had.0) had.0 had.1
+    in
+    record {
+      events = es ++ fs;
+      ran = more es fs x.ran y.ran;
+      looks_first = first_append (IsIn far.spans loose) (λ p. ⊥) es fs x.touches x.first y.first
+          (λ h t. y.quiet h);
+      rule = meets;
+      allowed = λ s had. allowed_append es fs s (x.claims far s had.0 had.1.here).2.allowed
+          (y.allowed es s (ready s had));
+      sound_after = λ s had. y.sound es s (ready s had);
+      effect = λ s had. moves s (played (es ++ fs) s) (y.effect es s (ready s had));
+    }
+
+-- what is loose in the end, and what was touched
+pub record LeavesLoose (far : FarState) (k : ℕ) (loose : List ℕ) (frames : List ℕ) (es : List Event)
+    : Type 0 where
+  pub found : AreLoose es far.spans (candidates far) loose
+  pub enough : length frames ≡ k → k ≤ length loose
+  pub first : length frames ≡ k → frames ≡ take k loose
+  pub touches : TouchesSpans far es
+
+pub claims_leave : (far new : FarState) (loose : List ℕ) (k : ℕ) (frames : List ℕ)
+    (formers : List Former) (ends : List Event → Type 0)
+    (does : List Event → Shown → Shown → Type 0)
+    (runsA runsB : List Event → Type 0) (showsA showsB : Shown → Type 0)
+    → (x : ClaimsSpans runsA showsA far.spans loose k frames formers)
+    → (y : EndsClaimed runsB showsB far new frames formers ends does)
+    → All (Contains (candidates far)) loose → (before : List Event)
+    → AreLoose before far.spans (candidates far) loose → TouchesSpans far before
+    → LeavesLoose far k (frames ++ x.rest) frames (before ++ (x.events ++ y.events))
+claims_leave far new loose k frames formers ends does runsA runsB showsA showsB x y among before
+    found
+    touches =
+    let es = x.events in let fs = y.events in record {
+      found = loose_then far loose runsA showsA k frames formers before fs x y.quiet found;
+      enough = λ count. let n = length-append frames x.rest in omega (arith, n, count);
+      first = λ count. sym (take_at frames x.rest k count);
+      touches = touches_append (IsIn far.spans (candidates far)) (LiesInOne (candidates far))
+          before (es ++ fs)
+          touches (touches_append (IsIn far.spans (candidates far)) (LiesInOne (candidates far)) es
+          fs
+          (claims_touch far loose es among x.touches)
+          (wide_touch far loose runsA showsA k frames formers fs among x y.touches));
+    }
+
 -- k spans were claimed and are evicted
 pub claims_then : (c : Config) (far new : FarState) (id : SetId) (r : Reply)
     (loose frames : List ℕ) (formers : List Former)
@@ -543,36 +608,28 @@ pub claims_then : (c : Config) (far new : FarState) (id : SetId) (r : Reply)
     (EvictEffect far new r)
 claims_then c far new id r loose frames formers runsA runsB runsC showsA showsB x y more shown among
     count room number is (s, shows, sound) =
-    let es = x.events in let fs = y.events in
-    let ready = λ (s : Shown) (k : showsA s × Sound s far).
-    are_ready far loose frames formers runsA showsA showsB c.k x among s (shown s k.0) k.0 k.1 in
-    record {
-      events = es ++ fs;
-      ran = more es fs x.ran y.ran;
-      looks_first = first_append (IsIn far.spans loose) (λ p. ⊥) es fs x.touches x.first y.first
-          (λ h t. y.quiet h);
-      rule = λ before found touches. record {
-        loose = frames ++ x.rest;
-        found = loose_then far loose runsA showsA c.k frames formers before fs x y.quiet found;
-        answered = inr (inr (record {
-          enough = let n = length-append frames x.rest in omega (arith, n, count);
-          room = room;
-          reply = is ∙ ap answer.Set number;
-          evicted = subst (λ (l : List ℕ). HasEvicted c far new l (before ++ (es ++ fs)))
-              (sym (take_at frames x.rest c.k count))
-              (evicted_before c far new frames before (es ++ fs) (y.evicted es s (ready s (shows, sound))));
-        }));
-        touches = touches_append (IsIn far.spans (candidates far)) (LiesInOne (candidates far)) before (es ++ fs)
-            touches (touches_append (IsIn far.spans (candidates far)) (LiesInOne (candidates far)) es fs
-            (claims_touch far loose es among x.touches)
-            (wide_touch far loose runsA showsA c.k frames formers fs among x y.touches));
-      };
-      allowed = λ s k. allowed_append es fs s (x.claims far s k.0 k.1.here).2.allowed
-          (y.allowed es s (ready s k));
-      sound_after = λ s k. y.sound es s (ready s k);
-      effect = λ s k. set_effect far new id r (es ++ fs) s (played (es ++ fs) s) is
-          (y.effect es s (ready s k));
-    }
+    let all = x.events ++ y.events in
+    claims_end far new loose c.k frames formers (RuleAfter c far new r loose)
+    (HasEvicted c far new frames)
+    (IsEvicted far new) (EvictEffect far new r) runsA runsB runsC showsA showsB x y among
+    (λ before found touches.
+    let a = claims_leave far new loose c.k frames formers _ _ runsA runsB showsA showsB x y among
+    before
+    found touches in record {
+      loose = frames ++ x.rest;
+      found = a.found;
+      answered = inr (inr (record {
+        enough = a.enough count;
+        room = room;
+        reply = is ∙ ap answer.Set number;
+        evicted = subst (λ (l : List ℕ). HasEvicted c far new l (before ++ all)) (a.first count)
+            (evicted_before c far new frames before all (y.rule x.events s
+            (are_ready far loose frames formers runsA showsA showsB c.k x among s
+            (shown s shows) shows sound)));
+      }));
+      touches = a.touches;
+    })
+    (λ s t. set_effect far new id r all s t is) more shown
 
 -- k spans were claimed and are given back for want of memory
 pub claims_fail : (c : Config) (far : FarState) (loose frames : List ℕ) (formers : List Former)
@@ -584,26 +641,18 @@ pub claims_fail : (c : Config) (far : FarState) (loose frames : List ℕ) (forme
     → All (Contains (candidates far)) loose
     → Performs runsC (λ s. showsA s × Sound s far) (TouchesSpans far) (λ t. Sound t far) IsStill
 claims_fail c far loose frames formers runsA runsB runsC showsA showsB x y more shown among =
-    let es = x.events in let fs = y.events in
-    let ready = λ (s : Shown) (k : showsA s × Sound s far).
-    are_ready far loose frames formers runsA showsA showsB c.k x among s (shown s k.0) k.0 k.1 in
-    record {
-      events = es ++ fs;
-      ran = more es fs x.ran y.ran;
-      looks_first = first_append (IsIn far.spans loose) (λ p. ⊥) es fs x.touches x.first y.first
-          (λ h t. y.quiet h);
-      rule = touches_append (IsIn far.spans (candidates far)) (LiesInOne (candidates far)) es fs
-          (claims_touch far loose es among x.touches)
-          (wide_touch far loose runsA showsA c.k frames formers fs among x y.touches);
-      allowed = λ s k. allowed_append es fs s (x.claims far s k.0 k.1.here).2.allowed
-          (y.allowed es s (ready s k));
-      sound_after = λ s k. y.sound es s (ready s k);
-      effect = λ s k. y.left es s (ready s k);
-    }
+    claims_end far far loose c.k frames formers (TouchesSpans far) (λ es. Unit {0}) IsStill IsStill
+    runsA
+    runsB runsC showsA showsB x y among
+    (touches_append (IsIn far.spans (candidates far)) (LiesInOne (candidates far)) x.events y.events
+    (claims_touch far loose x.events among x.touches)
+    (wide_touch far loose runsA showsA c.k frames formers y.events among x y.touches))
+    (λ s t a. a) more shown
 
 -- fewer were claimed, and are given back
 pub claims_back_then : (c : Config) (far : FarState) (r : Reply) (loose frames : List ℕ)
-    (formers : List Former) (runsA runsB runsC : List Event → Type 0) (showsA showsB : Shown → Type 0)
+    (formers : List Former) (runsA runsB runsC : List Event → Type 0)
+    (showsA showsB : Shown → Type 0)
     → (x : ClaimsSpans runsA showsA far.spans loose c.k frames formers)
     → (y : GivesBack runsB showsB formers)
     → ((es fs : List Event) → runsA es → runsB fs → runsC (es ++ fs))
@@ -614,44 +663,36 @@ pub claims_back_then : (c : Config) (far : FarState) (r : Reply) (loose frames :
     (EvictEffect far far r)
 claims_back_then c far r loose frames formers runsA runsB runsC showsA showsB x y more shown among
     few is =
-    let es = x.events in let fs = y.events in
+    let among_frames = λ (i d : ℕ) (l : i < length frames).
+    All-contains (Contains (candidates far)) loose (get_or frames i d) among (x.among i d l) in
+    let end = gives_back_ends far frames formers (λ es. es ≡ []) runsB runsB showsB showsB []
+    among_frames
+    x.of.only (are_reads (LiesInOne frames) [] tt) refl y
+    (λ none fs e b. subst (λ (l : List Event). runsB (l ++ fs)) (sym e) b) (λ before s r. r.shown)
+    in
     let none : x.rest ≡ [] = rest_none x.stops in
     let same : length (frames ++ x.rest) ≡ length frames =
-    ap (λ (l : List ℕ). length (frames ++ l)) none ∙ ap (λ (l : List ℕ). length l) (append-nil frames) in
-    let touched = touches_append (IsIn far.spans (candidates far)) (LiesInOne (candidates far)) es fs
-    (claims_touch far loose es among x.touches)
-    (one_touch far loose runsA showsA c.k frames formers fs among x y.touches) in
-    let back = λ (s : Shown) (k : showsA s × Sound s far).
-    y.back (played es s) far (shown s k.0) (x.claims far s k.0 k.1.here).1
-    (λ i d l. ((x.claims far s k.0 k.1.here).0.taken i d l).at) in
-    let left = λ (s : Shown) (k : showsA s × Sound s far).
-    let b = back s k in let a = x.claims far s k.0 k.1.here in
-    let then = played_append es fs s in
-    restored far (es ++ fs) s (IsIn far.spans (candidates far)) (LiesInOne (candidates far)) k.1
-    (subst (λ (v : Shown). AreClaimed (es ++ fs) s v []) (sym then)
-    (claims_back es fs s (played es s) (played fs (played es s)) formers a.0 b.0))
-    (subst (λ (v : Shown). LocalSound v far) (sym then) b.1)
-    (steady_append es fs s a.2 b.2) touched in record {
-      events = es ++ fs;
-      ran = more es fs x.ran y.ran;
-      looks_first = first_append (IsIn far.spans loose) (λ p. ⊥) es fs x.touches x.first y.first
-          (λ h t. y.quiet h);
-      rule = λ before found touches. record {
-        loose = frames ++ x.rest;
-        found = loose_then far loose runsA showsA c.k frames formers before fs x y.quiet found;
-        answered = inl (record {
-          few = omega (arith, few, same);
-          reply = is ∙ ap answer.NoSpans (sym same);
-          state = refl;
-        });
-        touches = touches_append (IsIn far.spans (candidates far)) (LiesInOne (candidates far)) before (es ++ fs)
-            touches touched;
-      };
-      allowed = λ s k. allowed_append es fs s (x.claims far s k.0 k.1.here).2.allowed (back s k).2.allowed;
-      sound_after = λ s k. (left s k).1;
-      effect = λ s k. left_effect far far r (es ++ fs) s (played (es ++ fs) s)
-          (λ id e. few_spans (length frames) r id is e) (left s k).0;
-    }
+    ap (λ (l : List ℕ). length (frames ++ l)) none
+    ∙ ap (λ (l : List ℕ). length l) (append-nil frames) in
+    claims_end far far loose c.k frames formers (RuleAfter c far far r loose) (λ es. Unit {0})
+    IsStill
+    (EvictEffect far far r) runsA runsB runsC showsA showsB x end among
+    (λ before found touches.
+    let a = claims_leave far far loose c.k frames formers _ _ runsA runsB showsA showsB x end among
+    before
+    found touches in record {
+      loose = frames ++ x.rest;
+      found = a.found;
+      answered = inl (record {
+        few = omega (arith, few, same);
+        reply = is ∙ ap answer.NoSpans (sym same);
+        state = refl;
+      });
+      touches = a.touches;
+    })
+    (λ s t. left_effect far far r (x.events ++ end.events) s t
+    (λ id e. few_spans (length frames) r id is e))
+    more shown
   where
     rest_none : (length frames ≡ c.k) ⊎ (x.rest ≡ []) → x.rest ≡ []
     rest_none (inl e) = absurd (omega (arith, e, few))

@@ -1,12 +1,12 @@
 -- The end of an eviction: rows are read and put, objects are put away, or given back.
-use Rattle.std.proofs.Common.{◌≡◌, ℕ, ◌+◌, ◌*◌, ◌<◌, Bool, false, List, [], ◌++◌, length, get_or, All, Option, Some, sym, refl, ap, ◌∙◌, subst, arith}
+use Rattle.std.proofs.Common.{◌≡◌, ℕ, ◌+◌, ◌*◌, ◌^◌, ◌<◌, Bool, false, List, [], ◌++◌, length, get_or, All, Option, Some, sym, refl, ap, ◌∙◌, subst, arith}
 use Rattle.std.specs.List.{Contains, slice_get}
-use Rattle.std.proofs.lemmas.List.{get_or_append_left, get_or_default}
+use Rattle.std.proofs.lemmas.List.{get_or_default}
 use Rattle.std.proofs.lemmas.List.Elements.{All-contains}
-use Rattle.std.proofs.lemmas.Option.{slice_get_within, get_or_from_slice_get}
+use Rattle.std.proofs.lemmas.Option.{slice_get-get_or, slice_get_within, get_or_from_slice_get}
 use Rattle.cb_gf256.specs.CodeWord.{IsCodeWord}
 use Rattle.cb_gf256.specs.InRange.{IsInRange}
-use Rattle.cb_gf256.specs.Rows.{row_at}
+use Rattle.cb_gf256.specs.Rows.{row_at, HoldBytes}
 use Rattle.cb_member.specs.declared.names.Shard.{Shard}
 use Rattle.cb_span.specs.Contents.{Contents}
 use Rattle.cb_types.specs.declared.config.Config.{Config}
@@ -22,9 +22,11 @@ use Rattle.cb_world.specs.Looks.{NoLook}
 use Rattle.cb_world.specs.Written.{Writes, written_by}
 use Rattle.cb_world.specs.FarState.{FarState, handle_in}
 use Rattle.cb_world.specs.LocalSound.{LocalSound}
+use Rattle.cb_world.specs.RowWords.{row_of}
 use Rattle.cb_world.specs.Sound.{Sound}
 use Rattle.cb_world.proofs.Laws.{played_append, written_append, frame_owned}
 use Rattle.cb_evict.specs.Candidates.{candidates}
+use Rattle.cb_evict.specs.Beginning.{AreParities}
 use Rattle.cb_evict.specs.Claims.{AreClaimed}
 use Rattle.cb_evict.specs.Claiming.{IsOne}
 use Rattle.cb_evict.specs.Closing.{HaveHomes, with_homes}
@@ -34,15 +36,16 @@ use Rattle.cb_evict.specs.EvictRule.{HasEvicted}
 use Rattle.cb_evict.specs.Evicting.{AreTaken, IsReady, TouchesSpans}
 use Rattle.cb_evict.specs.Loading.{LiesInOne, OwnsFrame, IsRowOf}
 use Rattle.cb_evict.specs.Looking.{IsIn}
-use Rattle.cb_evict.specs.Sending.{AreSent}
-use Rattle.cb_evict.specs.Storing.{AreShards, KeepsSet, with_set}
+use Rattle.cb_evict.specs.Storing.{KeepsSet, with_set}
 use Rattle.cb_evict.proofs.Events.{AreReads, touches_append, touches_more, no_look_append, told_words, told_objects}
 use Rattle.cb_evict.proofs.Evicts.{Done, after_far, rule_then, sound_then, effect_then, told_before}
 use Rattle.cb_evict.proofs.Owned.{claimed_held}
 use Rattle.cb_evict.proofs.Standing.{IsReadyFrame, ready_frame}
+use Rattle.cb_evict.proofs.TakenGroup.{AreRead, frame_rows, rows_read}
 
 -- ---- the frames that were taken
-pub taken_ready : (c : Config) (far : FarState) (frames : List ℕ) (formers : List Former) (s : Shown)
+pub taken_ready : (c : Config) (far : FarState) (frames : List ℕ) (formers : List Former)
+    (s : Shown)
     → AreTaken c far frames formers → LocalSound s far → (f : ℕ) → Contains frames f
     → IsReadyFrame far f
 taken_ready c far frames formers s a sound f x =
@@ -75,42 +78,57 @@ code_range c ok = record {
   parities_most = (ok R).1;
 }
 
-pub done : (c : Config) (far mid : FarState) (frames : List ℕ) (formers : List Former)
-    (shards : List Shard) (coded : List (List ℕ)) (homes : List (Option Home))
-    (shows : Shown → Type 0) (before : List Event) (s u : Shown)
+-- the parities of a set that is kept
+pub kept_parities : {far mid : FarState} (shards : List Shard) (frames : List ℕ) (n : ℕ)
+    (coded : List (List ℕ)) → length shards ≡ n → (kept : KeepsSet far mid shards frames coded)
+    → AreParities (length frames) n coded kept.parities
+kept_parities shards frames n coded count kept =
+    record { count = sym kept.count ∙ count; word = kept.word; bytes = kept.bytes }
+
+-- what is known once the rows are read and coded
+pub are_read : (c : Config) (far : FarState) (frames : List ℕ) (formers : List Former)
+    (coded parities : List (List ℕ)) (shows : Shown → Type 0) (before : List Event) (s : Shown)
     → IsAccepted c → IsReady shows far formers before s → AreTaken c far frames formers
-    → AreSent (played before s) u formers → AreShards far (c.k + c.r) shards
-    → (kept : KeepsSet far mid shards frames coded) → length coded ≡ length frames
+    → AreParities (length frames) (c.k + c.r) coded parities → length coded ≡ length frames
     → ((p f : ℕ) → slice_get frames p ≡ Some f → IsRowOf shows f (row_at coded p))
-    → HaveHomes far.spans frames far.counts.sets far.homes homes
-    → Done c far frames formers shards (coded ++ kept.parities) homes before s (played before s) u
-done c far mid frames formers shards coded homes shows before s u ok r taken sent chosen kept count made homed =
-    let few : length kept.parities ≡ c.r = omega (arith, kept.count, chosen.count, taken.count) in record {
-      sound = r.sound;
-      claimed = r.claimed;
-      here = r.here;
-      taken = taken;
-      sent = sent;
-      chosen = chosen;
-      range = code_range c ok;
-      word = subst (λ (n : ℕ). IsCodeWord n c.r (coded ++ kept.parities)) taken.count
-          (subst (λ (n : ℕ). IsCodeWord (length frames) n (coded ++ kept.parities)) few kept.word);
-      bytes = kept.bytes;
-      made = λ p f at.
-          let within = slice_get_within frames p f at in
-          let m = made p f at in
-          let same : row_at (coded ++ kept.parities) p ≡ row_at coded p =
-          get_or_append_left coded kept.parities [] p (omega (arith, within, count)) in
-          let x : Contains frames f = (p, within, get_or_from_slice_get frames p f f at) in record {
-            words = m.words;
-            count = m.count;
-            small = m.small;
-            made = same ∙ m.made;
-            contents = m.contents (played before s) r.shown
-                (owns_taken c far frames formers before s (played before s) taken r.sound.here r.here r.claimed f x);
-          };
-      homed = homed;
-    }
+    → AreRead c far frames formers parities before s (played before s)
+    × (coded ≡ frame_rows (played before s) frames)
+are_read c far frames formers coded parities shows before s ok r taken a count made =
+    let t = played before s in
+    let owned = owns_taken c far frames formers before s t taken r.sound.here r.here r.claimed in
+    let few : length parities ≡ c.r = omega (arith, a.count, taken.count) in
+    let same : coded ≡ frame_rows t frames = rows_read t frames coded count (λ p f at.
+    let m = made p f at in
+    m.made ∙ ap row_of (m.contents t r.shown (owned f (placed frames p f at)))) in (
+      record {
+        sound = r.sound;
+        claimed = r.claimed;
+        here = r.here;
+        taken = taken;
+        range = code_range c ok;
+        few = few;
+        word = subst (λ (rows : List (List ℕ)). IsCodeWord c.k c.r (rows ++ parities)) same
+            (subst (λ (n : ℕ). IsCodeWord n c.r (coded ++ parities)) taken.count
+            (subst (λ (n : ℕ). IsCodeWord (length frames) n (coded ++ parities)) few a.word));
+        bytes = subst (λ (rows : List (List ℕ)). HoldBytes (rows ++ parities)) same a.bytes;
+        small = λ f (p, within, at).
+            let e : slice_get frames p ≡ Some f =
+            slice_get-get_or frames p f within ∙ ap (λ (n : ℕ). Some n) at in
+            let m = made p f e in
+            subst (λ (ws : List ℕ). All (λ w. w < 2 ^ 64) ws)
+            (m.contents t r.shown (owned f (p, within, at)))
+            m.small;
+      },
+      same,
+    )
+  where
+    placed : (frames : List ℕ) (p f : ℕ) → slice_get frames p ≡ Some f → Contains frames f
+    placed frames p f at = (
+      p,
+      slice_get_within frames p f at,
+      get_or_from_slice_get frames p f f
+          at,
+    )
 
 -- all that is promised of the events of the end
 pub record Ended (c : Config) (far new : FarState) (frames : List ℕ) (before events : List Event)
@@ -125,7 +143,8 @@ pub record IsEnd (q : ℕ → Type 0) (formers : List Former) (ls ss : List Even
   pub touches : TouchesOnly (IsOne formers) (λ p. ⊥) ss
   pub quiet : (k : ℕ) → NoLook k ss
 
-pub end_quiet : (q : ℕ → Type 0) (formers : List Former) (ls ss : List Event) → IsEnd q formers ls ss
+pub end_quiet : (q : ℕ → Type 0) (formers : List Former) (ls ss : List Event)
+    → IsEnd q formers ls ss
     → (k : ℕ) → NoLook k (ls ++ ss)
 end_quiet q formers ls ss e k = no_look_append k ls ss (e.reads.quiet k) (e.quiet k)
 
@@ -133,7 +152,8 @@ pub end_touches : (q : ℕ → Type 0) (formers : List Former) (ls ss : List Eve
     → IsEnd q formers ls ss → TouchesOnly (IsOne formers) q (ls ++ ss)
 end_touches q formers ls ss e = touches_append (IsOne formers) q ls ss
     (touches_more (λ h. ⊥) (IsOne formers) q q ls (λ h x. absurd x) (λ p x. x) e.reads.touches)
-    (touches_more (IsOne formers) (IsOne formers) (λ p. ⊥) q ss (λ h x. x) (λ p x. absurd x) e.touches)
+    (touches_more (IsOne formers) (IsOne formers) (λ p. ⊥) q ss (λ h x. x) (λ p x. absurd x)
+    e.touches)
 
 pub end_played : (q : ℕ → Type 0) (formers : List Former) (before ls ss : List Event) (s : Shown)
     → IsEnd q formers ls ss → played (before ++ (ls ++ ss)) s ≡ played ss (played before s)
@@ -141,30 +161,40 @@ end_played q formers before ls ss s e = played_append before (ls ++ ss) s
     ∙ played_append ls ss (played before s) ∙ ap (played ss) (e.reads.stays (played before s))
 
 pub ended : (c : Config) (far new : FarState) (frames : List ℕ) (formers : List Former)
-    (shards : List Shard) (rows : List (List ℕ)) (homes : List (Option Home))
+    (shards : List Shard) (coded parities : List (List ℕ)) (homes : List (Option Home))
     (q o p : ℕ → Type 0) (before ls ss : List Event) (s : Shown)
-    → Done c far frames formers shards rows homes before s (played before s) (played ss (played before s))
-    → IsEnd q formers ls ss → new ≡ after_far far frames shards rows homes → IsSteady before s
+    → Done c far frames formers shards parities homes before s (played before s)
+    (played ss (played before s))
+    → coded ≡ frame_rows (played before s) frames → IsEnd q formers ls ss
+    → new ≡ after_far far frames shards (coded ++ parities) homes → IsSteady before s
     → TouchesOnly o p (before ++ (ls ++ ss)) → Writes ss (played before s) []
     → Ended c far new frames before (ls ++ ss) s
-ended c far new frames formers shards rows homes q o p before ls ss s d e is steady touches nothing =
+ended c far new frames formers shards coded parities homes q o p before ls ss s d read e state
+    steady
+    touches nothing =
     let t = played before s in let u = played ss t in
-    let events = ls ++ ss in
+    let events = ls ++ ss in let rows = frame_rows t frames ++ parities in
+    let is : new ≡ after_far far frames shards rows homes =
+    state ∙ ap (λ (l : List (List ℕ)). after_far far frames shards (l ++ parities) homes) read in
     let quiet = end_quiet q formers ls ss e in
     let same = end_played q formers before ls ss s e in
     let words = told_words o p (before ++ events) s s touches refl refl in
-    let told = told_before (IsOne formers) q before events s (end_touches q formers ls ss e) quiet in
+    let told = told_before (IsOne formers) q before events s (end_touches q formers ls ss e) quiet
+    in
     record {
       evicted = subst (λ (x : FarState). HasEvicted c far x frames (before ++ events)) (sym is)
-          (rule_then c far frames formers shards rows homes before s t u d events quiet);
+          (rule_then c far frames formers shards parities homes before s t u d events quiet);
       sound = subst (λ (x : FarState). Sound (played (before ++ events) s) x) (sym is)
           (subst (λ (v : Shown). Sound v (after_far far frames shards rows homes)) (sym same)
-          (sound_then c far frames formers shards rows homes before s t u d));
-      effect = subst (λ (x : FarState). IsEvicted far x (before ++ events) s (played (before ++ events) s)) (sym is)
-          (subst (λ (v : Shown). IsEvicted far (after_far far frames shards rows homes) (before ++ events) s v) (sym same)
-          (effect_then c far frames formers shards rows homes before s t u d events quiet
+          (sound_then c far frames formers shards parities homes before s t u d));
+      effect = subst (λ (x : FarState). IsEvicted far x (before ++ events) s
+          (played (before ++ events) s)) (sym is)
+          (subst (λ (v : Shown). IsEvicted far (after_far far frames shards rows homes)
+          (before ++ events) s v) (sym same)
+          (effect_then c far frames formers shards parities homes before s t u d events quiet
           (λ h none. d.sent.hots h none
-          ∙ ap (λ (l : List Bool). get_or l h false) (steady.hots ∙ sym (ap (λ (x : Shown). x.hots) told)))
+          ∙ ap (λ (l : List Bool). get_or l h false)
+          (steady.hots ∙ sym (ap (λ (x : Shown). x.hots) told)))
           (told_objects (before ++ events) s).0
           (sym (ap (λ (x : Shown). x.versions) same) ∙ words.0)
           (sym (ap (λ (x : Shown). x.memory) same) ∙ words.1)
@@ -183,7 +213,8 @@ state_then far mid new frames shards rows a b =
     b ∙ ap (λ (x : FarState). with_homes x frames new.homes) a
 
 pub homes_then : (far mid : FarState) (frames : List ℕ) (shards : List Shard)
-    (rows : List (List ℕ)) (id : ℕ) (homes : List (Option Home)) → mid ≡ with_set far shards frames rows
+    (rows : List (List ℕ)) (id : ℕ) (homes : List (Option Home))
+    → mid ≡ with_set far shards frames rows
     → id ≡ far.counts.sets → HaveHomes mid.spans frames id mid.homes homes
     → HaveHomes far.spans frames far.counts.sets far.homes homes
 homes_then far mid frames shards rows id homes a e x =
@@ -191,37 +222,32 @@ homes_then far mid frames shards rows id homes a e x =
     (subst (λ (y : FarState). HaveHomes y.spans frames id y.homes homes) a x)
 
 -- the events touch objects and words of the frames alone
-pub taken_in : (c : Config) (far : FarState) (frames : List ℕ) (formers : List Former)
-    (ls ss : List Event) → AreTaken c far frames formers → IsEnd (LiesInOne frames) formers ls ss
+pub end_in : (far : FarState) (frames : List ℕ) (formers : List Former) (ls ss : List Event)
+    → All (λ f. IsIn far.spans frames f.handle) formers → IsEnd (LiesInOne frames) formers ls ss
     → TouchesOnly (IsIn far.spans frames) (LiesInOne frames) (ls ++ ss)
-taken_in c far frames formers ls ss a e =
-    touches_more (IsOne formers) (IsIn far.spans frames) (LiesInOne frames) (LiesInOne frames) (ls ++ ss)
+end_in far frames formers ls ss only e =
+    touches_more (IsOne formers) (IsIn far.spans frames) (LiesInOne frames) (LiesInOne frames)
+    (ls ++ ss)
     (λ h (f, x, same). subst (IsIn far.spans frames) same
-    (All-contains (λ g. IsIn far.spans frames g.handle) formers f a.of.only x))
+    (All-contains (λ g. IsIn far.spans frames g.handle) formers f only x))
     (λ p x. x) (end_touches (LiesInOne frames) formers ls ss e)
 
 -- the frames are candidates
-pub in_candidates : (c : Config) (far : FarState) (frames : List ℕ) (formers : List Former)
-    → AreTaken c far frames formers → (es : List Event)
-    → TouchesOnly (IsIn far.spans frames) (LiesInOne frames) es → TouchesSpans far es
-in_candidates c far frames formers a es t =
-    touches_more (IsIn far.spans frames) (IsIn far.spans (candidates far)) (LiesInOne frames)
+pub spans_touched : (far : FarState) (frames : List ℕ) (before es : List Event)
+    → All (Contains (candidates far)) frames → TouchesSpans far before
+    → TouchesOnly (IsIn far.spans frames) (LiesInOne frames) es → TouchesSpans far (before ++ es)
+spans_touched far frames before es among touched t =
+    touches_append (IsIn far.spans (candidates far)) (LiesInOne (candidates far)) before es touched
+    (touches_more (IsIn far.spans frames) (IsIn far.spans (candidates far)) (LiesInOne frames)
     (LiesInOne (candidates far)) es
-    (λ h (f, x, named). (f, All-contains (Contains (candidates far)) frames f a.among x, named))
-    (λ p (f, x, lies). (f, All-contains (Contains (candidates far)) frames f a.among x, lies)) t
-
-pub spans_touched : (c : Config) (far : FarState) (frames : List ℕ) (formers : List Former)
-    (q : ℕ → Type 0) (before ls ss : List Event) (s : Shown) → AreTaken c far frames formers
-    → TouchesSpans far before → IsEnd (LiesInOne frames) formers ls ss
-    → TouchesSpans far (before ++ (ls ++ ss))
-spans_touched c far frames formers q before ls ss s a t e =
-    touches_append (IsIn far.spans (candidates far)) (LiesInOne (candidates far)) before (ls ++ ss) t
-    (in_candidates c far frames formers a (ls ++ ss) (taken_in c far frames formers ls ss a e))
+    (λ h (f, x, named). (f, All-contains (Contains (candidates far)) frames f among x, named))
+    (λ p (f, x, lies). (f, All-contains (Contains (candidates far)) frames f among x, lies)) t)
 
 -- the frames are those that there are
 pub frames_below : (c : Config) (far : FarState) (frames : List ℕ) (formers : List Former)
     (s t : Shown) (n : ℕ) → AreTaken c far frames formers → LocalSound s far → LocalSound t far
     → length t.memory ≡ 512 * n → All (λ f. f < n) frames
 frames_below c far frames formers s t n a sound here count k d l =
-    let x = taken_ready c far frames formers s a sound (get_or frames k d) (place_in frames k d l) in
+    let x = taken_ready c far frames formers s a sound (get_or frames k d) (place_in frames k d l)
+    in
     let w = x.within in omega (arith, w, here.placed.memory, count)

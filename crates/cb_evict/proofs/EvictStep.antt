@@ -14,7 +14,7 @@ use Rattle.cb_world.specs.declared.object.Object.{Object}
 use Rattle.cb_world.specs.declared.object.Object.TheVariants as is
 use Rattle.cb_world.specs.declared.event.Event.{Event}
 use Rattle.cb_world.specs.declared.shown.Shown.{Shown}
-use Rattle.cb_world.specs.Shown.{Fits, hot_at}
+use Rattle.cb_world.specs.Shown.{Fits, hot_at, object_at}
 use Rattle.cb_world.specs.FarState.{FarState, span_in}
 use Rattle.cb_world.specs.Memory.{window, words_for}
 use Rattle.cb_world.specs.Now.{now}
@@ -41,11 +41,9 @@ use Rattle.cb_evict.proofs.Homing.{closed_else}
 use Rattle.cb_evict.proofs.LooseSpans.{loose_exact}
 use Rattle.cb_evict.proofs.Standing.{names_span, are_unique}
 use Rattle.cb_evict.proofs.Trying.{taken_of}
+use Rattle.cb_evict.proofs.Options.{some_none}
 
 -- ---- which objects left
-some_none : (span : Contents) → Some span ≡ None → ⊥
-some_none span e = cc
-
 has_left : (far new : FarState) (frames : List ℕ) (h : ℕ)
     → new.spans ≡ all_closed far.spans frames → IsIn far.spans frames h → HasLeft far new h
 has_left far new frames h e (f, c, named) = (
@@ -64,6 +62,18 @@ was_in far new frames h e (f, named, gone) = elim (in_or_out frames f) [
 ]
 
 -- ---- every word
+-- the word of an object that stays, hot bit included, is as it was
+pub word_stays : (x y : Words) (far : FarState) (s : Shown) (es : List Event) (h : ℕ)
+    → RunsStill x y far s es → length y.words ≡ length x.words
+    → object_at (played es s) h ≡ object_at s h → hot_at (played es s) h ≡ hot_at s h
+    → word_at y h ≡ word_at x h
+word_stays x y far s es h r count object hot = elim (cases_lt h (length x.words)) [
+  | inl below ↦ word_back x y far s es h r.known r.ran r.allowed below
+      (omega (arith, below, count)) object hot
+  | inr past ↦ get_or_past y.words h 0 (omega (arith, past, count))
+      ∙ sym (get_or_past x.words h 0 past)
+]
+
 sent_off : (x y : Words) (far new : FarState) (s : Shown) (es : List Event) (frames : List ℕ)
     → RunsStill x y far s es → new.spans ≡ all_closed far.spans frames
     → IsEvicted far new es s (played es s) → AreSentOff x y far frames
@@ -79,7 +89,10 @@ sent_off x y far new s es frames r closed z = record {
       (shows.fit h (omega (arith, below, count, r.known.shows.objects))) in
       far_word_is (len_of (word_at x h)) (word_at y h) (len_of-below (word_at x h))
       (fit.0 ∙ ap (λ (n : ℕ). 1 + n * 8192) (fit.1 ∙ ap len_of (sym found)));
-  others = λ h out. other h out (cases_lt h (length x.words));
+  others = λ h out.
+      let stays : ¬ (HasLeft far new h) = λ left. out (was_in far new frames h closed left) in
+      word_stays x y far s es h r count (z.others h stays)
+      (z.hots h stays ∙ ap (λ (t : Shown). hot_at t h) r.told);
   count = count;
   settings = plain_stays x y es r.ran;
   versions = sym shows.versions ∙ z.versions ∙ ap (λ (t : Shown). t.versions) r.told
@@ -93,15 +106,6 @@ sent_off x y far new s es frames r closed z = record {
 
     count : length y.words ≡ length x.words
     count = sym shows.objects ∙ z.objects ∙ r.known.shows.objects
-
-    other : (h : ℕ) → ¬ (IsIn far.spans frames h) → (h < length x.words) ⊎ (length x.words ≤ h)
-        → word_at y h ≡ word_at x h
-    other h out (inl below) =
-        let stays : ¬ (HasLeft far new h) = λ left. out (was_in far new frames h closed left) in
-        word_back x y far s es h r.known r.ran r.allowed below (omega (arith, below, count))
-        (z.others h stays) (z.hots h stays ∙ ap (λ (t : Shown). hot_at t h) r.told)
-    other h out (inr past) = get_or_past y.words h 0 (omega (arith, past, count))
-        ∙ sym (get_or_past x.words h 0 past)
 
 -- the claims told the memory words as they stand
 have_contents : (x y : Words) (far : FarState) (s : Shown) (es : List Event) (frames : List ℕ)
@@ -165,17 +169,23 @@ pub record IsStepKnown (y : Words) (far new : FarState) (s : Shown) : Type 0 whe
   pub known : IsKnown y new shown
   pub same_now : (h : ℕ) → now shown new h ≡ now s far h
 
-pub refused : (x y : Words) (far new : FarState) (s t : Shown) → IsKnown x far s → IsKnown y new t
-    → y ≡ x → new ≡ far → IsStepKnown y far new s
-refused x y far new s t k l words state =
+-- so it is where nothing changed, which is a refusal
+pub refused : {Step : Type 0} (x y : Words) (far new : FarState) (s : Shown) (es : List Event)
+    → RunsStill x y far s es → IsKnown y new (played es s) → IsStill es s (played es s) → new ≡ far
+    → (y ≡ x → Step) → Step × IsStepKnown y far new s
+refused x y far new s es runs l still state step =
+    let t = played es s in
+    let words = stays_still x y far s es runs still in
     let m : IsKnown x far t = subst (λ (f : FarState). IsKnown x f t) state
-    (subst (λ (u : Words). IsKnown u new t) words l) in
-    record {
-      shown = t;
-      known = l;
-      same_now = λ h. ap (λ (f : FarState). now t f h) state
-          ∙ now_same x s t far h k.shows k.sound m.shows m.sound;
-    }
+    (subst (λ (u : Words). IsKnown u new t) words l) in (
+      step words,
+      record {
+        shown = t;
+        known = l;
+        same_now = λ h. ap (λ (f : FarState). now t f h) state
+            ∙ now_same x s t far h runs.known.shows runs.known.sound m.shows m.sound;
+      },
+    )
 
 by_rule : (x y : Words) (far new : FarState) (r : Reply) (s : Shown) (es : List Event)
     (loose : List ℕ) → RunsStill x y far s es → IsKnown y new (played es s)
@@ -184,17 +194,12 @@ by_rule : (x y : Words) (far new : FarState) (r : Reply) (s : Shown) (es : List 
     ⊎ HasBoth x.settings far new r loose es)
     → IsEvictStep x y far new r × IsStepKnown y far new s
 by_rule x y far new r s es loose runs l same effect (inl a) =
-    let words = stays_still x y far s es runs
-    (effect.left (λ id e. not_few_spans (length loose) r id a.reply e)) in (
-      few_spans (subst (HasFewSpans x.settings far new r) same a) words,
-      refused x y far new s (played es s) runs.known l words a.state,
-    )
+    refused x y far new s es runs l (effect.left
+    (λ id e. not_few_spans (length loose) r id a.reply e)) a.state
+    (few_spans (subst (HasFewSpans x.settings far new r) same a))
 by_rule x y far new r s es loose runs l same effect (inr (inl a)) =
-    let words = stays_still x y far s es runs
-    (effect.left (λ id e. not_few_nodes _ r id a.reply e)) in (
-      few_nodes (subst (HasFewNodes x.settings far new r) same a) words,
-      refused x y far new s (played es s) runs.known l words a.state,
-    )
+    refused x y far new s es runs l (effect.left (λ id e. not_few_nodes _ r id a.reply e)) a.state
+    (few_nodes (subst (HasFewNodes x.settings far new r) same a))
 by_rule x y far new r s es loose runs l same effect (inr (inr a)) =
     let b = subst (λ (frames : List ℕ). HasBoth x.settings far new r frames es) same a in
     let z = effect.evicted (record { n = far.counts.sets }) a.reply in (

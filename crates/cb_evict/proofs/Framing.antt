@@ -1,9 +1,7 @@
 -- The frames whose spans may leave are gathered one after another.
-use Rattle.std.proofs.Common.{◌≡◌, ℕ, zero, suc, ◌+◌, ◌*◌, ◌<◌, ◌≤◌, Bool, true, false, cond, ◌&&◌, ◌||◌, not, nat_eq, List, [], ◌∷◌, ◌++◌, length, get_or, set, take, refl, sym, ap, ◌∙◌, subst, arith, inl, inr, length-set, eq-eqb, Option}
-use Rattle.std.specs.List.{filter, list_any, range_with_len}
-use Rattle.std.proofs.lemmas.Bool.{cases_eq, ne_eqb}
-use Rattle.std.proofs.lemmas.List.{append-nil, append_assoc, get_or-set_same, get_or-set_other, length-append}
-use Rattle.std.proofs.lemmas.List.Folds.{list_any_more}
+use Rattle.std.proofs.Common.{◌≡◌, ℕ, zero, suc, ◌+◌, ◌*◌, ◌<◌, ◌≤◌, Bool, true, false, cond, ◌&&◌, not, List, [], ◌∷◌, ◌++◌, length, refl, sym, ap, ◌∙◌, subst, arith, Option}
+use Rattle.std.specs.List.{filter, range_with_len}
+use Rattle.std.proofs.lemmas.List.{append-nil, append_assoc, length-append}
 use Rattle.std.proofs.lemmas.List.FromFn.{length-range_with_len}
 use Rattle.std.proofs.lemmas.List.Elements.{filter-append}
 use Rattle.cb_span.specs.Contents.{Contents}
@@ -12,7 +10,7 @@ use Rattle.cb_span.specs.declared.temp.Temp.TheVariants.{Hot, Cold}
 use Rattle.cb_world.specs.FarState.{FarState, span_in}
 use Rattle.cb_world.specs.Placed.{leaving_frames}
 use Rattle.cb_world.proofs.Laws.{range_more}
-use Rattle.cb_evict.specs.Candidates.{AreFlags, candidates, candidates_of, frames_with, has_temp, is_among, may_leave, may_leave_by}
+use Rattle.cb_evict.specs.Candidates.{AreFlags, candidates, candidates_of, frames_with, has_temp, may_leave, may_leave_by}
 
 -- one number more
 pub filter_more : (p : ℕ → Bool) (n : ℕ) → filter p (range_with_len 0 (n + 1))
@@ -40,35 +38,6 @@ frame_passed p before now n a e = a
     ∙ ap (λ (xs : List ℕ). before ++ xs) (sym (filter_more p n))
 
 -- ---- flags of frames
-or_true : (b : Bool) → (b || true) ≡ true
-or_true true = refl
-or_true false = refl
-
-or_false : (b : Bool) → (b || false) ≡ b
-or_false true = refl
-or_false false = refl
-
--- one frame more is flagged
-pub flag_more : (frames : List ℕ) (i n f : ℕ) (flags : List Bool) → i < length frames
-    → f ≡ get_or frames i 0 → AreFlags (take i frames) n flags
-    → AreFlags (take (i + 1) frames) n (set flags f true)
-flag_more frames i n f flags within is a = record {
-  counted = length-set flags f true ∙ a.counted;
-  each = λ k below. elim (cases_eq k f) [
-    | inl same ↦ ap (λ (m : ℕ). get_or (set flags f true) m false) same
-        ∙ get_or-set_same flags f true false (let c = a.counted in omega (arith, c, below, same))
-        ∙ sym (more k ∙ ap (λ (b : Bool). is_among (take i frames) k || b)
-        (eq-eqb (get_or frames i 0) k (sym is ∙ sym same)) ∙ or_true (is_among (take i frames) k))
-    | inr off ↦ get_or-set_other flags f k true false off ∙ a.each k below
-        ∙ sym (more k ∙ ap (λ (b : Bool). is_among (take i frames) k || b)
-        (ne_eqb (get_or frames i 0) k (λ e. off (sym e ∙ sym is))) ∙ or_false (is_among (take i frames) k))
-  ];
-}
-  where
-    more : (k : ℕ) → is_among (take (i + 1) frames) k
-        ≡ (is_among (take i frames) k || nat_eq (get_or frames i 0) k)
-    more k = list_any_more (λ g. nat_eq g k) frames i 0 within
-
 -- two tests that agree below a number find the same numbers there
 pub filter_agree : (p q : ℕ → Bool) (n : ℕ) → ((f : ℕ) → f < n → p f ≡ q f)
     → filter p (range_with_len 0 n) ≡ filter q (range_with_len 0 n)

@@ -18,9 +18,7 @@ use Rattle.cb_world.proofs.Laws.{one_slot}
 use Rattle.cb_evict.specs.Looking.{IsIn}
 use Rattle.cb_evict.specs.Closing.{all_given, all_closed, with_homes}
 use Rattle.cb_evict.proofs.Homing.{closed_else, given_else, length_closed, length_given}
-
-some_none : (x : Contents) → Some x ≡ None → ⊥
-some_none x e = cc
+use Rattle.cb_evict.proofs.Options.{none_some, some_none}
 
 -- a number is among these, or is none of them
 pub in_or_out : (frames : List ℕ) (f : ℕ) → Contains frames f ⊎ All (λ g. g ≢ f) frames
@@ -117,9 +115,6 @@ was_there spans frames g other at = elim (in_or_out frames g) [
   | inl c ↦ absurd (some_none other (sym at ∙ closed_in spans frames g c))
   | inr none ↦ (sym (closed_else spans frames g none) ∙ at, none)
 ]
-
-none_some : (h : ℕ) → None ≡ Some h → ⊥
-none_some h e = cc
 
 span_named : (spans : List (Option Contents)) (f slot h : ℕ) → resident spans f slot ≡ Some h
     → (span : Contents) × (span_in spans f ≡ Some span) × (handle_at span slot ≡ Some h)

@@ -1,5 +1,5 @@
 -- Spans are taken out, one after another, and their objects get homes.
-use Rattle.std.proofs.Common.{◌≡◌, ◌≢◌, ℕ, zero, suc, ◌+◌, ◌^◌, ◌<◌, ◌≤◌, Bool, true, false, List, [], ◌∷◌, ◌++◌, length, take, set, get_or, All, Option, Some, None, sym, refl, ap, ◌∙◌, subst, arith, inl, inr, length-set, get_or-set_same, get_or-set_other}
+use Rattle.std.proofs.Common.{◌≡◌, ◌≢◌, ℕ, suc, ◌+◌, ◌^◌, ◌<◌, ◌≤◌, Bool, true, false, List, [], ◌∷◌, ◌++◌, length, take, set, get_or, All, Option, Some, None, sym, refl, ap, ◌∙◌, subst, arith, inl, inr, length-set, get_or-set_same, get_or-set_other}
 use Rattle.std.specs.List.{slice_get, AllPairs}
 use Rattle.std.proofs.lemmas.Bool.{cases_eq, cases_lt}
 use Rattle.std.proofs.lemmas.List.{take_more, length-take-le, get_or-take, get_or_past, take_all}
@@ -8,7 +8,6 @@ use Rattle.std.proofs.lemmas.Option.{slice_get-get_or, get_or_from_slice_get}
 use Rattle.cb_frame.specs.FreeFrames.{with_given}
 use Rattle.cb_class.proofs.Laws.{slots_at_most}
 use Rattle.cb_span.specs.Contents.{Contents, IsSpan}
-use Rattle.cb_world.specs.declared.homes.Home.{Home}
 use Rattle.cb_world.specs.Homes.{home_at}
 use Rattle.cb_world.specs.FarState.{FarState, span_in, resident, handle_in}
 use Rattle.cb_evict.specs.Candidates.{AreUnique}
@@ -16,6 +15,7 @@ use Rattle.cb_world.specs.Reserved.{table_of}
 use Rattle.cb_evict.specs.Closing.{all_given, all_closed, HaveHomes, with_homes, ClosesSpan}
 use Rattle.cb_evict.proofs.Putting.{taken_at}
 use Rattle.cb_evict.proofs.Sharing.{get_pushed}
+use Rattle.cb_evict.proofs.Options.{none_some}
 
 pub closed_last : (spans : List (Option Contents)) (xs : List ℕ) (x : ℕ)
     → all_closed spans (xs ++ x ∷ []) ≡ set (all_closed spans xs) x None
@@ -66,9 +66,6 @@ closed_none far id = record {
     others = λ h none. refl;
   };
 }
-  where
-    none_some : (f : ℕ) → None ≡ Some f → ⊥
-    none_some f e = cc
 
 -- the frame of a place is another than those before it
 pub none_before : (frames : List ℕ) (n : ℕ) → AllPairs (λ f g. f ≢ g) frames → n < length frames
@@ -95,9 +92,6 @@ names_closed spans [] f slot h e = e
 names_closed spans (g ∷ frames) f slot h e =
     back (names_closed (set spans g None) frames f slot h e)
   where
-    none_some : (k : ℕ) → None ≡ Some k → ⊥
-    none_some k e = cc
-
     back : resident (set spans g None) f slot ≡ Some h → resident spans f slot ≡ Some h
     back x = elim (cases_eq f g) [
       | inl same ↦ elim (cases_lt g (length spans)) [

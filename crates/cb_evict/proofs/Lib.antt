@@ -1,3 +1,5 @@
+mod Options
+mod Still
 mod Framing
 pub mod Putting
 mod Filling
@@ -15,6 +17,9 @@ pub mod Standing
 mod Owned
 mod NewSet
 pub mod Gone
+mod Group
+mod PutAway
+mod TakenGroup
 mod Evicts
 mod Ending
 mod Restored
@@ -23,6 +28,7 @@ mod LooseSpans
 pub mod FrameRows
 pub mod EvictStep
 pub mod AfterEvict
+mod SmallWorlds
 mod WorkedLoose
 mod WorkedEvict
 mod WorkedEvictStep
@@ -40,7 +46,6 @@ pub mod WhichWait
 mod BatchReady
 mod Commits
 pub mod CommitStep
-pub mod AfterEnds
 pub mod Stays
 pub mod Unwritten
 mod WorkedEnds

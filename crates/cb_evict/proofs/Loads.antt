@@ -1,21 +1,19 @@
 -- The words of a frame are read into a row.
-use Rattle.std.proofs.Common.{◌≡◌, ◌≢◌, ℕ, ◌+◌, ◌*◌, ◌<◌, ◌≤◌, List, [], ◌∷◌, ◌++◌, length, take, get_or, All, Some, refl, sym, ap, ◌∙◌, subst, arith, inl, inr, get_or-set_same, get_or-set_other}
+use Rattle.std.proofs.Common.{◌≡◌, ◌≢◌, ℕ, ◌+◌, ◌*◌, ◌<◌, ◌≤◌, List, [], ◌∷◌, length, get_or, Some, refl, sym, ap, ◌∙◌, subst, arith, inl, inr, get_or-set_same, get_or-set_other}
 use Rattle.std.specs.List.{Contains, slice_get}
 use Rattle.std.proofs.lemmas.Bool.{cases_eq}
-use Rattle.std.proofs.lemmas.List.{length-append, take_all, get_or_default}
-use Rattle.std.proofs.lemmas.List.Elements.{All-nil, All-append, All-cons}
+use Rattle.std.proofs.lemmas.List.{get_or_default}
 use Rattle.std.proofs.lemmas.Option.{get_or_from_slice_get}
 use Rattle.cb_gf256.specs.Rows.{row_at, HaveLength}
 use Rattle.cb_gf256.specs.Block.{with_row}
 use Rattle.cb_gf256.proofs.PublicLaws.{written_row}
 use Rattle.cb_world.specs.declared.event.Event.{Event}
-use Rattle.cb_world.specs.declared.event.Event.TheVariants.{Loaded}
 use Rattle.cb_world.specs.declared.shown.Shown.{Shown}
 use Rattle.cb_world.specs.Shown.{Owns}
 use Rattle.cb_world.specs.Memory.{window}
 use Rattle.cb_world.specs.Played.{Agree}
 use Rattle.cb_world.specs.FrameWords.{ReadsFrame, loads_from}
-use Rattle.cb_evict.specs.Loading.{LiesIn, OnlyLoads, OwnsFrame, IsRowOf, LoadsFrame}
+use Rattle.cb_evict.specs.Loading.{LiesIn, OnlyLoads, IsRowOf, LoadsFrame}
 
 -- ---- the words of a frame
 reads_frame : (f p : ℕ) (ws : List ℕ) → 512 * f ≤ p → p + length ws ≤ 512 * f + 512

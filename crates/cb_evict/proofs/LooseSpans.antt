@@ -21,6 +21,7 @@ use Rattle.cb_evict.specs.Looking.{Has}
 use Rattle.cb_evict.specs.EvictStep.{is_here, is_slot_loose, is_loose, loose_frames}
 use Rattle.cb_evict.proofs.Loose.{has_names, names_has, contains_head, contains_tail}
 use Rattle.cb_evict.proofs.Standing.{is_standing}
+use Rattle.cb_evict.proofs.Options.{none_some}
 
 -- ---- one object
 -- whether a word can be claimed
@@ -47,9 +48,6 @@ not_free w held = go (is_free_word w) refl
     go : (b : Bool) → is_free_word w ≡ b → is_free_word w ≡ false
     go true e = absurd (held (passes_free w e))
     go false e = e
-
-none_some : (a : ℕ) → None ≡ Some a → ⊥
-none_some a e = cc
 
 slot_passes : (x : Words) (slot : Option ℕ) → ((h : ℕ) → slot ≡ Some h → IsFree (word_at x h))
     → is_slot_loose x slot ≡ true

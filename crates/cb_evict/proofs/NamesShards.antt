@@ -10,9 +10,7 @@ use Rattle.cb_member.specs.declared.names.Shard.{Shard}
 use Rattle.cb_world.specs.Reserved.{put_shards}
 use Rattle.cb_world.specs.Sets.{Kept, SetMap}
 use Rattle.cb_evict.specs.Committing.{AreAllPut, with_shards}
-
-none_some : {X : Type 0} (a : X) → None ≡ Some a → ⊥
-none_some a e = cc
+use Rattle.cb_evict.proofs.Options.{none_some}
 
 by_cmp-other : (q k : ℕ) → q ≢ k → eq_by_cmp nat_cmp q k ≡ false
 by_cmp-other q k other = grind (arith, nat_tests)

@@ -24,12 +24,7 @@ use Rattle.cb_world.specs.Reserved.{table_of, position_for}
 use Rattle.cb_world.specs.Sets.{Kept, SetMap, set_in, if_committed}
 use Rattle.cb_world.proofs.Laws.{IsUpShard, fits_on_least, undrawn_is_fresh, up_is_current, up_is_kept, up_on_least, InRange, KeysApart}
 use Rattle.cb_evict.specs.Storing.{AreShards, CanPut, HasRoomFor, set_for}
-
-some_same : {X : Type 0} (a b : X) → Some a ≡ Some b → a ≡ b
-some_same a b e = cc
-
-none_some : {X : Type 0} (a : X) → None ≡ Some a → ⊥
-none_some a e = cc
+use Rattle.cb_evict.proofs.Options.{none_some}
 
 -- ---- the shards
 pub shards_within : (far : FarState) (n : ℕ) (shards : List Shard) → AreShards far n shards

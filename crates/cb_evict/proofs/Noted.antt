@@ -22,9 +22,7 @@ use Rattle.cb_world.proofs.Laws.{put_from}
 use Rattle.cb_evict.specs.Claims.{AreApart, IsNone}
 use Rattle.cb_evict.specs.Restoring.{IsClaimedFrom}
 use Rattle.cb_evict.proofs.Standing.{named_at, names_span}
-
-pub same_batch : (a b : LeavingState) → Some a ≡ Some b → a ≡ b
-same_batch a b e = cc
+use Rattle.cb_evict.proofs.Options.{some_same}
 
 never_claimed : (len place v : ℕ) (words : List ℕ) → never ≡ is.Claimed len place v words → ⊥
 never_claimed len place v words e = cc
@@ -98,7 +96,7 @@ module _ (s : Shown) (far : FarState) (batch : LeavingState) (sound : Sound s fa
       → object_at s h ≡ is.Claimed len place v words → ⊥
   none_claimed h len place v words none e =
       let x = sound.claimed h len place v words e in
-      let same = same_batch x.batch batch (sym x.there ∙ there) in
+      let same = some_same x.batch batch (sym x.there ∙ there) in
       let leaves : Contains batch.frames x.slot.frame =
       subst (λ (b : LeavingState). Contains b.frames x.slot.frame) same x.leaves in
       let n = noted.each x.slot.frame x.slot.slot h x.slot.span leaves x.slot.there x.slot.named in

@@ -10,12 +10,7 @@ use Rattle.cb_member.specs.Membership.{incarnation}
 use Rattle.cb_world.specs.Choices.{IsLeastNode}
 use Rattle.cb_world.specs.FarState.{FarState}
 use Rattle.cb_evict.specs.Storing.{IsShardAt, AreShards}
-
-some_same : {X : Type 0} (a b : X) → Some a ≡ Some b → a ≡ b
-some_same a b e = cc
-
-none_some : {X : Type 0} (a : X) → None ≡ Some a → ⊥
-none_some a e = cc
+use Rattle.cb_evict.proofs.Options.{none_some, some_same}
 
 -- an element of a list and one more
 pub get_pushed : {X : Type 0} (xs : List X) (x : X) (p : ℕ) (y : X)

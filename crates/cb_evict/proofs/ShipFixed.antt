@@ -14,9 +14,7 @@ use Rattle.cb_evict.specs.ShipRule.{HasNoNode, HasShipped, Ships, other_puts, wi
 use Rattle.cb_evict.specs.ShipStep.{IsShipStep, rows_at_desk}
 use Rattle.cb_evict.specs.Waiting.{least_waiting}
 use Rattle.cb_evict.proofs.BeginFixed.{leaving_or_not}
-
-none_some : {A : Type 0} (a : A) → None ≡ Some a → ⊥
-none_some a e = cc
+use Rattle.cb_evict.proofs.Options.{none_some}
 
 module _ (x y z : Words) (far new other : FarState) (r q : Reply) (left : y ≡ x) (also : z ≡ x) where
   abbrev row : LeavingState → ℕ → List ℕ

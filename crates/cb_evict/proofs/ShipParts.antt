@@ -11,7 +11,6 @@ use Rattle.cb_types.specs.declared.reply.Reply.{Reply}
 use Rattle.cb_types.specs.declared.reply.Reply.TheVariants as answer
 use Rattle.cb_world.specs.declared.event.Event.{Event}
 use Rattle.cb_world.specs.declared.shown.Shown.{Shown}
-use Rattle.cb_world.specs.Shown.{IsHeld}
 use Rattle.cb_world.specs.FarSound.{AreRows, of_leaving, batch_rows}
 use Rattle.cb_world.specs.FarState.{FarState, span_in}
 use Rattle.cb_world.specs.Leaving.{LeavingState}
@@ -25,10 +24,12 @@ use Rattle.cb_world.proofs.Laws.{batch_owned}
 use Rattle.cb_world.specs.Still.{IsStill}
 use Rattle.cb_evict.specs.Loading.{LiesIn, LiesInOne, OnlyLoads, LoadsFrame}
 use Rattle.cb_evict.specs.ShipRule.{IsShardFor, ReadsLeaving, ShipEffect, ShipRule, Ships, with_shipped}
-use Rattle.cb_evict.specs.Shipping.{OwnsBatch, PutsNothing, PutsRow}
+use Rattle.cb_evict.specs.Shipping.{PutsNothing, PutsRow}
 use Rattle.cb_evict.specs.Waiting.{PutAtMembers, least_waiting}
 use Rattle.cb_evict.proofs.Events.{are_reads, loads_more, told_words}
 use Rattle.cb_evict.proofs.ShippedFar.{put_sound}
+use Rattle.cb_evict.proofs.Options.{none_some}
+use Rattle.cb_evict.proofs.Still.{does_nothing}
 
 -- ---- the batch
 -- the nodes of its rows are among the members
@@ -69,9 +70,6 @@ past_end xs p none = elim (cases_lt p (length xs)) [
   | inl below ↦ absurd (none_some (get_or xs p 0) (sym none ∙ slice_get-get_or xs p 0 below))
   | inr past ↦ past
 ]
-  where
-    none_some : (x : ℕ) → None ≡ Some x → ⊥
-    none_some x e = cc
 
 abbrev frame_row : Shown → ℕ → List ℕ
 frame_row s f = row_of (window s.memory (512 * f) 512)
@@ -173,15 +171,10 @@ pub refused : (runs : List Event → Type 0) (knows : Shown → Type 0) (far new
     → runs [] → new ≡ far → ((row : LeavingState → ℕ → List ℕ) → Ships far new r row)
     → Performs runs (λ s. knows s × Sound s far) (ShipRule far new r) (λ t. Sound t new)
     (ShipEffect far new r)
-refused runs knows far new r ran same ships = record {
-  events = [];
-  ran = ran;
-  looks_first = tt;
-  rule = record { row = λ b p. []; ships = ships (λ b p. []); reads = tt };
-  allowed = λ s k. tt;
-  sound_after = λ s k. subst (Sound s) (sym same) k.1;
-  effect = λ s k. record { still = still far [] s tt; ships = ships (λ b. row_at (batch_rows s b)) };
-}
+refused runs knows far new r ran same ships =
+    does_nothing runs knows far new (ShipRule far new r) (ShipEffect far new r) ran same
+    (record { row = λ b p. []; ships = ships (λ b p. []); reads = tt })
+    (λ s. record { still = still far [] s tt; ships = ships (λ b. row_at (batch_rows s b)) })
 
 -- a row that is put
 pub shipped : (runs : List Event → Type 0) (knows : Shown → Type 0) (far new : FarState)

@@ -12,12 +12,14 @@ use Rattle.cb_world.specs.Joining.{JoiningState}
 use Rattle.cb_world.specs.Leaving.{LeavingState}
 use Rattle.cb_world.specs.FarState.{FarState}
 use Rattle.cb_world.specs.FarSound.{Owner, of_set, of_leaving, of_joining, IsShardOf, AwaySound, batch_rows}
-use Rattle.cb_world.specs.Sound.{AreNoted, IsNoted, IsLeaving, Sound}
+use Rattle.cb_world.specs.Sound.{AreNoted, IsLeaving, Sound}
 use Rattle.cb_world.proofs.Laws.{fits_on_least, up_on_least, local_stays, place_back, place_here, place_on, HasRowPut, IsNewOr, IsRefilled, row_put_away, row_put_join, survey_same}
 use Rattle.cb_evict.specs.ShipRule.{IsShardFor, other_puts, with_shard_at, with_shipped}
 use Rattle.cb_evict.specs.Waiting.{is_waiting, least_waiting}
 use Rattle.cb_evict.proofs.PutShards.{others_off}
 use Rattle.cb_evict.proofs.WhichWait.{least_waits}
+use Rattle.cb_evict.proofs.Options.{some_same}
+use Rattle.cb_evict.proofs.Group.{noted_still}
 
 -- the row of the least position that waits of the batch that is leaving, and its shard
 pub record IsPut (s : Shown) (far : FarState) (batch : LeavingState) (p : ℕ) (shard : Shard)
@@ -30,9 +32,6 @@ pub record IsPut (s : Shown) (far : FarState) (batch : LeavingState) (p : ℕ) (
 
 shard_same : (a b : Shard) → Some (Some a) ≡ Some (Some b) → a ≡ b
 shard_same a b e = cc
-
-pub batch_same : (a b : LeavingState) → Some a ≡ Some b → a ≡ b
-batch_same a b e = cc
 
 module _ (s : Shown) (far : FarState) (batch : LeavingState) (p : ℕ) (shard : Shard)
     (row : List ℕ) (x : IsPut s far batch p shard row) where
@@ -66,7 +65,7 @@ module _ (s : Shown) (far : FarState) (batch : LeavingState) (p : ℕ) (shard : 
   back (of_leaving q) a is =
       let at : slice_get rest.shards q ≡ Some (Some a) =
       subst (λ (b : LeavingState). slice_get b.shards q ≡ Some (Some a))
-      (sym (batch_same rest is.0 is.1)) is.2 in
+      (sym (some_same rest is.0 is.1)) is.2 in
       elim (place_was q a at) [
         | inl y ↦ inl (ap of_leaving y.0, y.1)
         | inr y ↦ inr (batch, x.there, y.1)
@@ -80,7 +79,7 @@ module _ (s : Shown) (far : FarState) (batch : LeavingState) (p : ℕ) (shard : 
   on (of_leaving q) a is kept =
       let at : slice_get batch.shards q ≡ Some (Some a) =
       subst (λ (b : LeavingState). slice_get b.shards q ≡ Some (Some a))
-      (batch_same is.0 batch (sym is.1 ∙ x.there)) is.2 in
+      (some_same is.0 batch (sym is.1 ∙ x.there)) is.2 in
       elim (cases_eq q p) [
         | inl same ↦ absurd (false≢true (sym kept
             ∙ ap (is_waiting far.members) (sym (get_or_from_slice_get batch.shards p (Some a) None
@@ -111,7 +110,7 @@ module _ (s : Shown) (far : FarState) (batch : LeavingState) (p : ℕ) (shard : 
       → ((q ≡ p) × (a ≡ shard)) ⊎ ((q ≢ p) × (slice_get batch.shards q ≡ Some (Some a)))
   at_place b q a there at =
       place_was q a (subst (λ (c : LeavingState). slice_get c.shards q ≡ Some (Some a))
-      (sym (batch_same rest b there)) at)
+      (sym (some_same rest b there)) at)
 
   puts : HasRowPut s far new (of_leaving p) shard row
   puts = record {
@@ -120,7 +119,7 @@ module _ (s : Shown) (far : FarState) (batch : LeavingState) (p : ℕ) (shard : 
     key = x.named.key;
     of_owner = λ b at. x.of_batch
         ∙ ap (λ (c : LeavingState). row_at (batch_rows s c) p)
-        (batch_same batch b (sym x.there ∙ at));
+        (some_same batch b (sym x.there ∙ at));
     given = far.nodes.given;
     nodes = refl;
     members = refl;
@@ -138,7 +137,7 @@ module _ (s : Shown) (far : FarState) (batch : LeavingState) (p : ℕ) (shard : 
     batch_was = λ b at. (
       batch,
       x.there,
-      subst (IsRefilled batch) (batch_same rest b at) (record {
+      subst (IsRefilled batch) (some_same rest b at) (record {
         same = refl;
         count = length-set batch.shards p (Some shard);
       }),
@@ -155,24 +154,11 @@ module _ (s : Shown) (far : FarState) (batch : LeavingState) (p : ℕ) (shard : 
   put_join = row_put_join s far new (of_leaving p) shard row x.sound puts
 
   -- ---- the objects of the batch
-  noted_still : (h : ℕ) → IsNoted s batch h → IsNoted s rest h
-  noted_still h n = record {
-    former = n.former;
-    noted = n.noted;
-    handle = n.handle;
-    free = n.free;
-    below = n.below;
-    version = n.version;
-    words = n.words;
-    claimed = n.claimed;
-    small = n.small;
-  }
-
   put_noted : AreNoted s far batch → AreNoted s new rest
   put_noted n = record {
     apart = n.apart;
     held = n.held;
-    each = λ f slot h span c at named. noted_still h (n.each f slot h span c at named);
+    each = λ f slot h span c at named. noted_still s s batch rest h refl refl (n.each f slot h span c at named);
     only = n.only;
     each_once = n.each_once;
     reserved = let y = n.reserved in record {
@@ -192,7 +178,7 @@ module _ (s : Shown) (far : FarState) (batch : LeavingState) (p : ℕ) (shard : 
     there = refl;
     slot = y.slot;
     leaves = subst (λ (b : LeavingState). Contains b.frames y.slot.frame)
-        (batch_same y.batch batch (sym y.there ∙ x.there)) y.leaves;
+        (some_same y.batch batch (sym y.there ∙ x.there)) y.leaves;
     contents = y.contents;
   }
 
@@ -203,7 +189,7 @@ pub put_sound : (s : Shown) (far : FarState) (batch : LeavingState) (p : ℕ) (s
 put_sound s far batch p shard row sound x = record {
   here = local_stays s far (with_shipped far batch p shard row) refl refl refl refl sound.here;
   noted = λ b at. subst (AreNoted s (with_shipped far batch p shard row))
-      (batch_same (with_shard_at batch p shard) b at)
+      (some_same (with_shard_at batch p shard) b at)
       (put_noted s far batch p shard row x (sound.noted batch x.there));
   claimed = λ h len place v words at. put_claimed s far batch p shard row x h len place words
       (sound.claimed h len place v words at);

@@ -24,6 +24,7 @@ use Rattle.cb_evict.specs.Order.{noted_of, objects_in, one_of}
 use Rattle.cb_evict.proofs.Claims.{claim_of}
 use Rattle.cb_world.specs.Played.{played}
 use Rattle.cb_evict.proofs.Gathers.{Gathers, gathers_more}
+use Rattle.cb_evict.proofs.Options.{none_some, some_same}
 
 pub claim_touches : (before : List Event) (h w v : ℕ) (words : List ℕ) → AreLooks h before
     → TouchesOnly (λ k. Some h ≡ Some k) (λ p. ⊥) (claim_of before h w v words)
@@ -81,9 +82,6 @@ slot_of None es more e = subst (λ (l : List Former). AreOf (λ h. None ≡ Some
   record { all = λ h x. absurd (none_some h x); only = All-nil (λ f. None ≡ Some f.handle) },
   λ i j d less within. absurd (omega (arith, within)),
 )
-  where
-    none_some : (h : ℕ) → None ≡ Some h → ⊥
-    none_some h e = cc
 slot_of (Some h) es more (w, e) =
     let f : Former = record { handle = h; word = w } in
     subst (λ (l : List Former). AreOf (λ k. Some h ≡ Some k) l × AreApart l) (sym e) (
@@ -238,9 +236,6 @@ abbrev pub FindsBelow : Bool → Contents → ℕ → List Event → Type 0
 FindsBelow true span i es = (h : ℕ) → HasBelow span i h → (w : ℕ) × IsFound h w es × IsFree w
 FindsBelow false span i es = (h w : ℕ) × HasBelow span i h × IsFound h w es × ¬ (IsFree w)
 
-same_handle : (k h : ℕ) → Some k ≡ Some h → k ≡ h
-same_handle k h e = cc
-
 -- one slot more was looked at
 module _ (span : Contents) (i : ℕ) (slot : Option ℕ) (es fs : List Event)
     (e : slot ≡ handle_at span i)
@@ -263,7 +258,7 @@ module _ (span : Contents) (i : ℕ) (slot : Option ℕ) (es fs : List Event)
       → (w : ℕ) × IsFound h w fs
   sees true b h is = let x = b h is in (x.0, x.1)
   sees false (k, w, named, found, held) h is =
-      (w, subst (λ (n : ℕ). IsFound n w fs) (same_handle k h (sym named ∙ is)) found)
+      (w, subst (λ (n : ℕ). IsFound n w fs) (some_same k h (sym named ∙ is)) found)
 
   pub slot_seen : (found : Bool) → SeesBelow span i es → SlotFinds found fs slot
       → SeesBelow span (i + 1) (es ++ fs)

@@ -20,12 +20,7 @@ use Rattle.cb_world.specs.LocalSound.{LocalSound, LiesAt}
 use Rattle.cb_world.proofs.Laws.{one_slot, frame_in_range}
 use Rattle.cb_world.specs.Placed.{leaving_frames}
 use Rattle.cb_evict.specs.Candidates.{is_among, same_temp, has_temp, may_leave, frames_with, candidates, Names, AreUnique}
-
-some_same : {X : Type 0} (a b : X) → Some a ≡ Some b → a ≡ b
-some_same a b e = cc
-
-none_some : {X : Type 0} (a : X) → None ≡ Some a → ⊥
-none_some a e = cc
+use Rattle.cb_evict.proofs.Options.{none_some, some_same}
 
 -- ---- objects of spans
 never_lies : (o : Object) (len place : ℕ) → LiesAt o len place → o ≡ never → ⊥

@@ -1,6 +1,6 @@
 -- What an eviction and the steps of a batch leave of the configured sizes and codes, and of what is
 -- counted.
-use Rattle.std.proofs.Common.{◌≡◌, ℕ, ◌+◌, ◌≤◌, true, false, List, [], ◌∷◌, length, Some, None, inl, inr, refl, sym, ap, ◌∙◌, subst, arith, length-set, take}
+use Rattle.std.proofs.Common.{◌≡◌, ℕ, ◌+◌, true, false, List, [], ◌∷◌, length, inl, inr, refl, sym, ap, ◌∙◌, subst, arith, length-set, take}
 use Rattle.std.proofs.lemmas.List.{length-map, length-take-le}
 use Rattle.cb_member.specs.declared.names.Shard.{Shard}
 use Rattle.cb_node.specs.NodesState.{NodesState, with_dropped, with_row}
@@ -31,12 +31,7 @@ use Rattle.cb_evict.proofs.Commits.{all_put as all_shards_put}
 use Rattle.cb_evict.proofs.Homing.{length_closed}
 use Rattle.cb_evict.proofs.NamesShards.{put_count as shards_count}
 use Rattle.cb_evict.proofs.Putting.{put_count, put_room}
-
-batch_same : (a b : LeavingState) → Some a ≡ Some b → a ≡ b
-batch_same a b e = cc
-
-no_batch : (b : LeavingState) → None ≡ Some b → ⊥
-no_batch b e = cc
+use Rattle.cb_evict.proofs.Options.{none_some, some_same}
 
 -- the set of spans in k frames, with k + r shards, has the code
 code_of : (c : Config) (id : ℕ) (shards : List Shard) (far : FarState) (frames : List ℕ)
@@ -121,7 +116,7 @@ batch_stays c far new frames words parities k r state is =
         codes = subst (HaveCodes c) (sym state) (record {
           sets = codes_put c far.sets far.counts.sets _ (λ committed. absurd (false_true committed))
               is.codes.sets;
-          batch = λ b at. let same = batch_same (new_batch c far frames words parities) b at in
+          batch = λ b at. let same = some_same (new_batch c far frames words parities) b at in
               subst (λ (l : LeavingState). IsCode c (length l.frames) (length l.parities)) same (k, r);
         });
       };
@@ -167,7 +162,7 @@ shipped_stays c far new r row z is =
         room = ap (λ (f : FarState). f.nodes.room) e ∙ is.room;
         codes = subst (HaveCodes c) (sym e) (record {
           sets = is.codes.sets;
-          batch = λ b at. let same = batch_same (with_shard_at z.batch z.position z.shard) b at in
+          batch = λ b at. let same = some_same (with_shard_at z.batch z.position z.shard) b at in
               subst (λ (l : LeavingState). IsCode c (length l.frames) (length l.parities)) same
               (is.codes.batch z.batch z.there);
         });
@@ -213,7 +208,7 @@ committed_stays c s far new r sound z is =
           sets = codes_put c far.sets batch.set (record { set = set; committed = true })
               (λ committed. code_of c batch.set (put_shards batch.shards) far batch.frames code.0
               (omega (arith, shards, places, code.0, code.1))) is.codes.sets;
-          batch = λ b at. absurd (no_batch b at);
+          batch = λ b at. absurd (none_some b at);
         });
       };
       rises = subst (Rises 1 far) (sym e) (record {
@@ -251,7 +246,7 @@ given_up_stays c far new r z =
       room = drop_room far.nodes (put_shards z.batch.shards);
       codes = λ d x. record {
         sets = codes_removed d far.sets z.batch.set x.sets;
-        batch = λ b at. absurd (no_batch b at);
+        batch = λ b at. absurd (none_some b at);
       };
       counts = refl;
       note = λ n e. e;

@@ -52,8 +52,8 @@ use Rattle.cb_evict.specs.Order.{noted_of, objects_of}
 use Rattle.cb_evict.specs.Claiming.{AreOf}
 use Rattle.cb_evict.specs.Looking.{IsIn, LooksOver}
 use Rattle.cb_evict.proofs.BeginParts.{leaving_batch, spans_batch}
-use Rattle.cb_evict.proofs.WorkedEvictStep.{settings, desk, calm, pinned, moving, pair, busy, lone, one_node, first_object, only_object, only_second, span_with, same_number, none_is}
-use Rattle.cb_evict.proofs.WorkedSetMade.{row, row_words, zero_row, is_word, two_nodes}
+use Rattle.cb_evict.proofs.Options.{none_some, some_none, some_same}
+use Rattle.cb_evict.proofs.SmallWorlds.{busy, calm, desk, first_object, is_word, lone, moving, one_node, only_object, only_second, pair, pinned, row, row_words, settings, span_with, two_nodes, zero_row}
 
 -- ---- words of objects that are claimed
 -- the first object is here, the other one pinned; all memory words are 0
@@ -138,15 +138,12 @@ begun = record {
   held = held;
 }
 
-pub some_batch : (a b : LeavingState) → Some a ≡ Some b → a ≡ b
-some_batch a b e = cc
-
 -- the far state says which words and parities are noted
 same_batch : (words : List Former) (parities : List (List ℕ)) (y : Words)
     → (a : IsBegunTo start y pair (leaving_with words parities) (0 ∷ []))
     → (words ≡ a.words) × (parities ≡ a.parities)
 same_batch words parities y a =
-    let e = some_batch (new_batch settings pair (0 ∷ []) words parities)
+    let e = some_same (new_batch settings pair (0 ∷ []) words parities)
     (new_batch settings pair (0 ∷ []) a.words a.parities) (ap (λ (f : FarState). f.leaving) a.state) in
     (ap (λ (b : LeavingState). b.words) e, ap (λ (b : LeavingState). b.parities) e)
 
@@ -169,7 +166,7 @@ not_the_other_way : (x y : Words)
     → IsBegunTo x y two (with_batch settings two (0 ∷ []) (noted_at 1 ∷ noted_at 3 ∷ []) (row ∷ []))
     (0 ∷ []) → ⊥
 not_the_other_way x y a =
-    let e = some_batch (new_batch settings two (0 ∷ []) (noted_at 1 ∷ noted_at 3 ∷ []) (row ∷ []))
+    let e = some_same (new_batch settings two (0 ∷ []) (noted_at 1 ∷ noted_at 3 ∷ []) (row ∷ []))
     (new_batch x.settings two (0 ∷ []) a.words a.parities) (ap (λ (f : FarState). f.leaving) a.state) in
     let first : 1 ≡ 3 = ap (λ (l : List ℕ). get_or l 0 0)
     (ap (λ (b : LeavingState). noted_of b.words) e ∙ a.order) in
@@ -253,9 +250,6 @@ second = leaving_with (former ∷ []) (row ∷ [])
 waits : IsBeginStep claimed claimed second second (answer.Leaving (record { n = 0 }))
 waits = is_leaving (new_batch settings pair (0 ∷ []) (former ∷ []) (row ∷ [])) refl refl refl refl
 
-none_some : (b : LeavingState) → None ≡ Some b → ⊥
-none_some b e = cc
-
 not_yet : (y : Words) (new : FarState) → IsBatchMade claimed y second new
     (answer.Batch (record { n = 1 })) → ⊥
 not_yet y new a = none_some _ (sym a.none)
@@ -263,14 +257,8 @@ not_yet y new a = none_some _ (sym a.none)
 -- a batch is told to be leaving only where one is
 not_told : (id : SetId) → IsBeginStep start start pair pair (answer.Leaving id) → ⊥
 not_told id (is_leaving b there a state e) = none_some b there
-not_told id (few_spans none a e) = differ a.reply
-  where
-    differ : answer.Leaving id ≡ answer.NoSpans 1 → ⊥
-    differ e = cc
-not_told id (few_nodes none a e) = differ _ a.reply
-  where
-    differ : (n : ℕ) → answer.Leaving id ≡ answer.NoNodes n → ⊥
-    differ n e = cc
+not_told id (few_spans none a e) = let e : answer.Leaving id ≡ answer.NoSpans 1 = a.reply in cc
+not_told id (few_nodes none a e) = let e : answer.Leaving id ≡ answer.NoNodes _ = a.reply in cc
 not_told id (begins m) = leaving_batch id (record { n = 0 }) (answer.Leaving id) refl m.reply
 
 -- a batch is made only where enough spans are loose
@@ -303,10 +291,7 @@ told = record {
 
 not_looked : IsLeavingAlready second second (answer.Leaving (record { n = 0 }))
     (Looked 0 moving ∷ []) → ⊥
-not_looked a = differ a.nothing
-  where
-    differ : Looked 0 moving ∷ [] ≡ [] → ⊥
-    differ e = cc
+not_looked a = let e : Looked 0 moving ∷ [] ≡ [] = a.nothing in cc
 
 not_absent : (r : Reply) (es : List Event) → IsLeavingAlready pair pair r es → ⊥
 not_absent r es a = none_some a.batch a.there
@@ -316,7 +301,7 @@ leaving_is a b e = cc
 
 not_other_set : IsLeavingAlready second second (answer.Leaving (record { n = 3 })) [] → ⊥
 not_other_set a =
-    let b = some_batch (new_batch settings pair (0 ∷ []) (former ∷ []) (row ∷ [])) a.batch a.there in
+    let b = some_same (new_batch settings pair (0 ∷ []) (former ∷ []) (row ∷ [])) a.batch a.there in
     let e : 3 ≡ 0 = ap (λ (id : SetId). id.n) (leaving_is _ _ a.reply)
     ∙ sym (ap (λ (x : LeavingState). x.set) b) in absurd (omega (arith, e))
 
@@ -378,23 +363,14 @@ not_newer a =
 
 -- it is not here any more, and it was
 not_still_here : IsClaimedNow claim here here 0 → ⊥
-not_still_here a = differ _ _ _ _ a.object
-  where
-    differ : (len place v : ℕ) (xs : List ℕ) → is.Here 8 0 ≡ is.Claimed len place v xs → ⊥
-    differ len place v xs e = cc
+not_still_here a = let e : is.Here 8 0 ≡ is.Claimed _ _ _ _ = a.object in cc
 
 not_before : IsClaimedNow claim (taken 3 7) (taken 3 7) 0 → ⊥
-not_before a = differ _ _ a.was
-  where
-    differ : (len place : ℕ) → is.Claimed 8 0 3 (7 ∷ []) ≡ is.Here len place → ⊥
-    differ len place e = cc
+not_before a = let e : is.Claimed 8 0 3 (7 ∷ []) ≡ is.Here _ _ = a.was in cc
 
 -- ---- the rule
 abbrev pub claim_zeros : List Event
 claim_zeros = Claimed 0 calm 3 (0 ∷ []) ∷ []
-
-same_span : (a b : Contents) → Some a ≡ Some b → a ≡ b
-same_span a b e = cc
 
 in_row : IsInRow claim_zeros (span_with Cold 0) row 1 0
 in_row = record {
@@ -408,19 +384,19 @@ in_row = record {
 
 in_rows : AreInRows claim_zeros pair (0 ∷ []) (row ∷ [])
 in_rows zero f slot h span at there named =
-    let frame : 0 ≡ f = same_number 0 f at in
-    let same : span_with Cold 0 ≡ span = same_span (span_with Cold 0) span
+    let frame : 0 ≡ f = some_same 0 f at in
+    let same : span_with Cold 0 ≡ span = some_same (span_with Cold 0) span
     (ap (span_in pair.spans) frame ∙ there) in
     subst (λ (s : Contents). IsInRow claim_zeros s row slot h) same
     (by slot (ap (λ (s : Contents). handle_at s slot) same ∙ named))
   where
     by : (slot : ℕ) → handle_at (span_with Cold 0) slot ≡ Some h
         → IsInRow claim_zeros (span_with Cold 0) row slot h
-    by zero e = absurd (none_is h e)
+    by zero e = absurd (none_some h e)
     by (suc zero) e = subst (λ (k : ℕ). IsInRow claim_zeros (span_with Cold 0) row 1 k)
-        (same_number 0 h e) in_row
-    by (suc (suc n)) e = absurd (none_is h e)
-in_rows (suc p) f slot h span at there named = absurd (none_is f at)
+        (some_same 0 h e) in_row
+    by (suc (suc n)) e = absurd (none_some h e)
+in_rows (suc p) f slot h span at there named = absurd (none_some f at)
 
 pub has_begun : HasBegun settings pair second (0 ∷ []) claim_zeros
 has_begun = record {
@@ -441,7 +417,7 @@ has_begun = record {
 -- a word that no claim found is not noted
 not_without_claim : HasBegun settings pair second (0 ∷ []) [] → ⊥
 not_without_claim a =
-    let batch = some_batch (new_batch settings pair (0 ∷ []) (former ∷ []) (row ∷ []))
+    let batch = some_same (new_batch settings pair (0 ∷ []) (former ∷ []) (row ∷ []))
     (new_batch settings pair (0 ∷ []) a.words a.parities) (ap (λ (f : FarState). f.leaving) a.state) in
     let found = subst (λ (l : List Former). All (λ (f : Former). IsFound f.handle f.word []) l)
     (sym (ap (λ (b : LeavingState). b.words) batch)) a.found in
@@ -454,9 +430,6 @@ not_committed : (set : SetState) → HasBegun settings pair (record second {
 not_committed set a = some_none set (sym (set_added_in pair.sets 0 set)
     ∙ ap (λ (f : FarState). set_in f.sets 0) a.state
     ∙ ap if_committed (reserved_kept pair.sets 0 (set_from 0 (blank_shards 2) pair.spans (0 ∷ []))))
-  where
-    some_none : (x : SetState) → Some x ≡ None → ⊥
-    some_none x e = cc
 
 -- ---- the effect
 abbrev both : List Object → Shown
@@ -511,10 +484,8 @@ not_left : effect_of (both (is.Here 8 0 ∷ is.Here 8 1 ∷ [])) → ⊥
 not_left a = let x = a.claimed 0 first_object in here_claimed _ _ _ _ x.object
 
 not_freed : effect_of (both (held_object ∷ is.Empty 4 ∷ [])) → ⊥
-not_freed a = differ (a.others 1 (λ i. let z = only_object 1 i in omega (arith, z)))
-  where
-    differ : is.Empty 4 ≡ is.Here 8 1 → ⊥
-    differ e = cc
+not_freed a = let e : is.Empty 4 ≡ is.Here 8 1 =
+    a.others 1 (λ i. let z = only_object 1 i in omega (arith, z)) in cc
 
 not_added : effect_of (both (held_object ∷ is.Here 8 1 ∷ never ∷ [])) → ⊥
 not_added a = let e : 3 ≡ 2 = a.objects in absurd (omega (arith, e))
@@ -623,14 +594,14 @@ first_loose h (slot, named) = by slot named
 
     by : (slot : ℕ) → handle_in (span_in pair.spans 0) slot ≡ Some h
         → (w : ℕ) × IsFound h w looks × IsFree w
-    by zero e = absurd (none_is h e)
+    by zero e = absurd (none_some h e)
     by (suc zero) e = (
       calm,
-      subst (λ (k : ℕ). IsFound k calm looks) (same_number 0 h e)
+      subst (λ (k : ℕ). IsFound k calm looks) (some_same 0 h e)
           (inr ((refl, refl), ((λ w look. one_zero 0 look.0), tt))),
       (refl, refl),
     )
-    by (suc (suc n)) e = absurd (none_is h e)
+    by (suc (suc n)) e = absurd (none_some h e)
 
 second_held : IsHeldUp looks pair.spans 1
 second_held = held_alone pair.spans 1 looks 1 pinned only_second (1, refl)

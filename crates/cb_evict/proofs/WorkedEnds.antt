@@ -33,8 +33,8 @@ use Rattle.cb_evict.specs.Committing.{AreAllPut, HasPlaces, with_shards}
 use Rattle.cb_evict.specs.Restoring.{IsClaimedFrom, IsHereAt, AreRestored}
 use Rattle.cb_evict.specs.Waiting.{waiting}
 use Rattle.cb_evict.proofs.NamesShards.{insert_here}
-use Rattle.cb_evict.proofs.WorkedEvictStep.{calm, pinned, moving, away, desk, settings, pair}
-use Rattle.cb_evict.proofs.WorkedSetMade.{homes, homed, shard, shards}
+use Rattle.cb_evict.proofs.Options.{some_none, some_same}
+use Rattle.cb_evict.proofs.SmallWorlds.{away, calm, desk, homed, homes, moving, pair, pinned, settings, shard, shards}
 
 -- ---- the words: object 0 leaves, and object 1 is pinned
 abbrev pub noted : List Former
@@ -260,9 +260,6 @@ both_put = Some (shard 0) ∷ Some (shard 1) ∷ []
 not_leaving : HasNoBatch pair pair answer.NoBatch
 not_leaving = record { none = refl; reply = refl; state = refl }
 
-some_none : {X : Type 0} (x : X) → Some x ≡ None → ⊥
-some_none x e = cc
-
 leaves_one : ¬ (HasNoBatch (leaving one_put) (leaving one_put) answer.NoBatch)
 leaves_one x = absurd (some_none (batch one_put) x.none)
 
@@ -281,11 +278,8 @@ is_given_up = record { batch = batch one_put; there = refl; reply = refl; state 
 gives_none_up : ¬ (HasGivenUp pair pair answer.Done)
 gives_none_up x = absurd (some_none x.batch (sym x.there))
 
-no_batch_done : answer.NoBatch ≡ answer.Done → ⊥
-no_batch_done e = cc
-
 answers_no_batch : ¬ (HasGivenUp (leaving one_put) (without_batch (leaving one_put) (batch one_put)) answer.NoBatch)
-answers_no_batch x = absurd (no_batch_done x.reply)
+answers_no_batch x = absurd (let e : answer.NoBatch ≡ answer.Done = x.reply in cc)
 
 stays_leaving : ¬ (HasGivenUp (leaving one_put) (leaving one_put) answer.Done)
 stays_leaving x = absurd (some_none (batch one_put) (ap (λ (f : FarState). f.leaving) x.state))
@@ -309,12 +303,9 @@ is_short = record { batch = batch one_put; there = refl; some = lit≤ tt; reply
 
 waits_no_more : ¬ (HasShort (leaving both_put) (leaving both_put) (answer.Short []))
 waits_no_more x =
-    let e : batch both_put ≡ x.batch = same (batch both_put) x.batch x.there in
+    let e : batch both_put ≡ x.batch = some_same (batch both_put) x.batch x.there in
     absurd (let l = subst (λ (b : LeavingState). 1 ≤ length (waiting pair.members b.shards)) (sym e) x.some in
     omega (arith, l))
-  where
-    same : (a b : LeavingState) → Some a ≡ Some b → a ≡ b
-    same a b e = cc
 
 abbrev positions_of : Reply → ℕ
 positions_of (answer.Short positions) = length positions
@@ -322,12 +313,9 @@ positions_of reply = 9
 
 tells_none : ¬ (HasShort (leaving one_put) (leaving one_put) (answer.Short []))
 tells_none x =
-    let e : batch one_put ≡ x.batch = same (batch one_put) x.batch x.there in
+    let e : batch one_put ≡ x.batch = some_same (batch one_put) x.batch x.there in
     absurd (let n : 0 ≡ 1 = ap positions_of (x.reply
     ∙ ap (λ (b : LeavingState). answer.Short (waiting pair.members b.shards)) (sym e)) in omega (arith, n))
-  where
-    same : (a b : LeavingState) → Some a ≡ Some b → a ≡ b
-    same a b e = cc
 
 short_drops_it : ¬ (HasShort (leaving one_put) (record (leaving one_put) { leaving = None }) (answer.Short (1 ∷ [])))
 short_drops_it x = absurd (some_none (batch one_put) (sym (ap (λ (f : FarState). f.leaving) x.state)))
@@ -358,12 +346,9 @@ commits_none x = absurd (some_none x.batch (sym x.there))
 -- a row is missing
 commits_early : ¬ (HasCommitted (leaving one_put) (with_homes (with_committed (leaving one_put) (batch one_put)) (0 ∷ []) homes) (answer.Set (record { n = 0 })))
 commits_early x =
-    let e : batch one_put ≡ x.batch = same (batch one_put) x.batch x.there in
+    let e : batch one_put ≡ x.batch = some_same (batch one_put) x.batch x.there in
     absurd (let n : 1 ≡ 0 = ap (λ (b : LeavingState). length (waiting pair.members b.shards)) e
     ∙ ap (λ (l : List ℕ). length l) x.whole in omega (arith, n))
-  where
-    same : (a b : LeavingState) → Some a ≡ Some b → a ≡ b
-    same a b e = cc
 
 leaves_on : ¬ (HasCommitted (leaving both_put) (record then { leaving = Some (batch both_put) }) (answer.Set (record { n = 0 })))
 leaves_on x = absurd (some_none (batch both_put) (ap (λ (f : FarState). f.leaving) x.state))
@@ -390,12 +375,9 @@ has_places = record {
   places = refl;
 }
 
-same_kept : (a b : Kept) → Some a ≡ Some b → a ≡ b
-same_kept a b e = cc
-
 place_too_many : ¬ (HasPlaces (leaving both_put).sets 0 (None ∷ []))
 place_too_many x =
-    let e : kept_set ≡ x.kept = same_kept kept_set x.kept
+    let e : kept_set ≡ x.kept = some_same kept_set x.kept
     (sym (insert_here map.empty 0 kept_set) ∙ x.there) in
     absurd (let n : 2 ≡ 1 = ap (λ (k : Kept). length k.set.shards) e ∙ x.places in omega (arith, n))
 

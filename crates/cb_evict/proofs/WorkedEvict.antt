@@ -31,6 +31,7 @@ use Rattle.cb_evict.specs.EvictRule.{IsInRow, HasFewSpans, HasFewNodes, HasBoth}
 use Rattle.cb_evict.specs.EvictEffect.{IsAway, EvictEffect}
 use Rattle.cb_evict.specs.Storing.{CanStore, HasRoomFor, HasSpans, with_kept}
 use Rattle.cb_evict.proofs.Composed.{few_spans}
+use Rattle.cb_evict.proofs.Options.{none_some, some_same}
 
 -- one node, with room for one row
 abbrev far : FarState
@@ -170,10 +171,7 @@ not_warmed : IsStill [] known (record known { hots = true ∷ [] }) → ⊥
 not_warmed a = false≢true (sym (heads true false a.hots))
 
 not_sent : IsStill [] known (record known { objects = is.Empty 4 ∷ [] }) → ⊥
-not_sent a = differ a.objects
-  where
-    differ : is.Empty 4 ∷ [] ≡ is.Here 8 0 ∷ [] → ⊥
-    differ e = cc
+not_sent a = let e : is.Empty 4 ∷ [] ≡ is.Here 8 0 ∷ [] = a.objects in cc
 
 -- ---- an object is away
 abbrev sent : ℕ → ℕ → ℕ → Bool → Shown
@@ -213,10 +211,7 @@ not_hot : IsAway (claim (7 ∷ [])) (sent 8 3 7 true) 0 → ⊥
 not_hot a = false≢true (sym a.cold)
 
 not_here : IsAway (claim (7 ∷ [])) known 0 → ⊥
-not_here a = differ _ _ _ a.object
-  where
-    differ : (len v : ℕ) (xs : List ℕ) → is.Here 8 0 ≡ is.Far len v xs → ⊥
-    differ len v xs e = cc
+not_here a = let e : is.Here 8 0 ≡ is.Far _ _ _ = a.object in cc
 
 -- ---- the effect of a refusal
 refused : EvictEffect far far (answer.NoSpans 1) [] known known
@@ -253,9 +248,6 @@ nodes_stay : (s : SetState) → (with_kept far s 3).nodes ≡ far.nodes
 nodes_stay s = refl
 
 -- ---- room for a row at each shard's node
-none_shard : (shard : Shard) → None ≡ Some shard → ⊥
-none_shard shard e = cc
-
 -- on the one node
 abbrev here : Shard
 here = record { node = record { n = 0 }; incarnation = 0; key = 0 }
@@ -269,15 +261,12 @@ has_room_for = record {
   distinct = λ i j d less within. absurd (omega (arith, less, within));
 }
   where
-    same : (a b : Shard) → Some a ≡ Some b → a ≡ b
-    same a b e = cc
-
     by : (p : ℕ) (shard : Shard) → slice_get (here ∷ []) p ≡ Some shard
         → held far.nodes shard.node < far.nodes.room
     by zero shard at =
-        subst (λ (s : Shard). held far.nodes s.node < far.nodes.room) (same here shard at)
+        subst (λ (s : Shard). held far.nodes s.node < far.nodes.room) (some_same here shard at)
         (let e = none_held in omega (arith, e))
-    by (suc p) shard at = absurd (none_shard shard at)
+    by (suc p) shard at = absurd (none_some shard at)
 
 not_at_a_full_node : HasRoomFor (empty_nodes 1 0) (here ∷ []) → ⊥
 not_at_a_full_node a =
@@ -294,12 +283,12 @@ can_store = record {
   count = refl;
   few = lit< tt;
   can = record {
-    within = λ p shard e. absurd (none_shard shard e);
-    apart = λ p q a b e f same. absurd (none_shard a e);
-    fresh = λ p shard e. absurd (none_shard shard e);
+    within = λ p shard e. absurd (none_some shard e);
+    apart = λ p q a b e f same. absurd (none_some a e);
+    fresh = λ p shard e. absurd (none_some shard e);
   };
   fits = record {
-    room = λ p shard e. absurd (none_shard shard e);
+    room = λ p shard e. absurd (none_some shard e);
     distinct = λ i j d less within. absurd (omega (arith, within));
   };
 }
@@ -329,10 +318,7 @@ not_more_spans : HasSpans far.spans [] (0 ∷ []) → ⊥
 not_more_spans a = let l : 1 ≤ 0 = a.count in absurd (omega (arith, l))
 
 not_a_free_frame : HasSpans far.spans (elsewhere ∷ []) (0 ∷ []) → ⊥
-not_a_free_frame a = let x = a.there 0 0 (lit< tt) in none_span x.0 x.1
-  where
-    none_span : (span : Contents) → None ≡ Some span → ⊥
-    none_span span e = cc
+not_a_free_frame a = let x = a.there 0 0 (lit< tt) in none_some x.0 x.1
 
 not_of_so_many : (shards : List Shard) → length shards ≡ 4294967296 → HasSpans far.spans shards [] → ⊥
 not_of_so_many shards n a = let few = a.few in absurd (omega (arith, few, n))

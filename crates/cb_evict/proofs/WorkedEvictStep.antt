@@ -2,84 +2,30 @@
 -- of the two refusals: values that meet a definition, and for each of its parts one that breaks that
 -- part alone.
 use Rattle.std.proofs.Common.{◌≡◌, ℕ, zero, suc, ◌+◌, ◌*◌, ◌<◌, ◌≤◌, true, false, List, [], ◌∷◌, length, Option, None, Some, refl, sym, ap, ◌∙◌, subst, lit<, lit≤, arith}
-use Rattle.std.specs.FinMap as map
 use Rattle.cb_class.specs.Class.{words_of, bytes_of}
-use Rattle.cb_member.specs.Membership.{fresh_members}
-use Rattle.cb_node.specs.NodesState.{empty_nodes}
 use Rattle.cb_ptr.specs.Steps.{IsFarWord}
 use Rattle.cb_ptr.specs.Word.{len_of}
 use Rattle.cb_ptr.proofs.Laws.{far_word_is}
-use Rattle.cb_span.specs.declared.temp.Temp.{Temp}
 use Rattle.cb_span.specs.declared.temp.Temp.TheVariants.{Hot, Cold}
 use Rattle.cb_span.specs.Contents.{Contents, span_of, handle_at}
 use Rattle.cb_types.specs.declared.config.Config.{Config}
 use Rattle.cb_types.specs.declared.reply.Reply.TheVariants as answer
-use Rattle.cb_world.specs.Choices.{room_count}
-use Rattle.cb_world.specs.FarState.{FarState, span_in, handle_in}
+use Rattle.cb_world.specs.FarState.{FarState, span_in}
 use Rattle.cb_world.specs.Leaving.{LeavingState}
 use Rattle.cb_world.specs.Memory.{window, words_for}
 use Rattle.cb_world.specs.Plain.{Words}
 use Rattle.cb_world.specs.RowWords.{words_from, words_in}
 use Rattle.cb_world.specs.StillWords.{contents_at}
 use Rattle.cb_world.specs.World.{word_at}
-use Rattle.cb_world.specs.Survey.{no_survey}
-use Rattle.cb_evict.specs.Candidates.{Names}
 use Rattle.cb_evict.specs.EvictStep.{is_slot_loose, is_loose, loose_frames, AreSentOff, HaveContents, IsEvictStep, few_spans, few_nodes, made}
 use Rattle.cb_evict.specs.Looking.{IsIn}
-
--- the words of an object of 8 bytes at place 0: here; with a pin, and so hot; claimed; far
-abbrev pub calm : ℕ
-calm = 65538
-
-abbrev pub pinned : ℕ
-pinned = 65550
-
-abbrev pub moving : ℕ
-moving = 65539
-
-abbrev pub away : ℕ
-away = 65537
-
--- here, at place 1
-abbrev pub further : ℕ
-further = 536936450
-
-abbrev pub settings : Config
-settings = record { k = 1; r = 1; nodes = 2; frames = 5; room = 2; handles = 4; turns = 0 }
-
-abbrev pub desk : List ℕ → Words
-desk words = record {
-  settings = settings;
-  words = words;
-  versions = 3 ∷ 3 ∷ 3 ∷ 3 ∷ [];
-  memory = 0 ∷ 0 ∷ [];
-}
-
--- a span with two slots, of which the second has an object
-abbrev pub span_with : Temp → ℕ → Contents
-span_with temp h = span_of (record { index = 0 }) temp (None ∷ Some h ∷ [])
+use Rattle.cb_evict.proofs.Options.{none_some, some_same}
+use Rattle.cb_evict.proofs.SmallWorlds.{after, away, before, busy, calm, desk, far_with, first_object, further, heads, lone, moving, one_node, only_object, pair, pinned, row, settings, shards, span_with}
 
 -- a hot span, two cold ones with a free frame between them, and one more
 abbrev spans : List (Option Contents)
 spans = Some (span_with Hot 0) ∷ Some (span_with Cold 1) ∷ None ∷ Some (span_with Cold 2)
     ∷ Some (span_with Cold 3) ∷ []
-
--- a far state with these spans, where these frames are leaving, and with so many nodes
-abbrev pub far_with : List (Option Contents) → Option LeavingState → ℕ → FarState
-far_with spans leaving nodes = record {
-  first = 1;
-  made = 4;
-  frames = false ∷ false ∷ true ∷ false ∷ false ∷ [];
-  spans = spans;
-  sets = map.empty;
-  homes = None ∷ None ∷ None ∷ None ∷ [];
-  nodes = empty_nodes nodes 2;
-  members = fresh_members nodes;
-  leaving = leaving;
-  joining = None;
-  counts = record { turns = 0; by_job = []; sets = 0; keys = 0 };
-  survey = no_survey;
-}
 
 abbrev far : FarState
 far = far_with spans None 2
@@ -131,36 +77,6 @@ but_leaving : loose_frames (desk (calm ∷ calm ∷ calm ∷ calm ∷ [])) (far_
 but_leaving = refl
 
 -- ---- objects that are sent off
--- one span leaves, and another one stays
-abbrev pub pair : FarState
-pair = far_with (Some (span_with Cold 0) ∷ Some (span_with Hot 1) ∷ []) None 2
-
-abbrev pub before : Words
-before = desk (calm ∷ pinned ∷ [])
-
-abbrev pub after : Words
-after = desk (away ∷ pinned ∷ [])
-
-pub none_is : (h : ℕ) → None ≡ Some h → ⊥
-none_is h e = cc
-
-pub same_number : (a b : ℕ) → Some a ≡ Some b → a ≡ b
-same_number a b e = cc
-
--- the first span's object is the first one
-pub only_object : (h : ℕ) → IsIn pair.spans (0 ∷ []) h → 0 ≡ h
-only_object h (f, (zero, l, e), (slot, named)) =
-    go slot (ap (λ (n : ℕ). handle_in (span_in pair.spans n) slot) e ∙ named)
-  where
-    go : (slot : ℕ) → handle_in (span_in pair.spans 0) slot ≡ Some h → 0 ≡ h
-    go zero e = absurd (none_is h e)
-    go (suc zero) e = same_number 0 h e
-    go (suc (suc n)) e = absurd (none_is h e)
-only_object h (f, (suc k, l, e), named) = absurd (omega (arith, l))
-
-pub first_object : IsIn pair.spans (0 ∷ []) 0
-first_object = (0, (0, lit< tt, refl), (1, refl))
-
 pub sent_off : AreSentOff before after pair (0 ∷ [])
 sent_off = record {
   sent = λ h i. subst (λ (k : ℕ). IsFarWord (len_of (word_at before k)) (word_at after k))
@@ -209,9 +125,6 @@ not_other_memory a =
     let e : 0 ≡ 2 = ap (λ (l : List ℕ). length l) a.memory in absurd (omega (arith, e))
 
 -- ---- the words of an object in a row
-same_span : (a b : Contents) → Some a ≡ Some b → a ≡ b
-same_span a b e = cc
-
 -- a row of zeros has an object whose word is 0
 pub zeros : window (words_in []) (1 * words_of (record { index = 0 })) 1 ≡ 0 ∷ []
 unfolding words_of bytes_of window words_from
@@ -233,28 +146,25 @@ pub contents_in : (row : List ℕ) (rest : List (List ℕ))
     → window (words_in row) (1 * words_of (record { index = 0 })) 1 ≡ 0 ∷ []
     → HaveContents before pair (0 ∷ []) (row ∷ rest)
 contents_in row rest is zero f slot h span at there named =
-    let frame : 0 ≡ f = same_number 0 f at in
-    let same : span_with Cold 0 ≡ span = same_span (span_with Cold 0) span
+    let frame : 0 ≡ f = some_same 0 f at in
+    let same : span_with Cold 0 ≡ span = some_same (span_with Cold 0) span
     (ap (span_in pair.spans) frame ∙ there) in
     by slot (ap (λ (s : Contents). handle_at s slot) same ∙ named) same
   where
     by : (slot : ℕ) → handle_at (span_with Cold 0) slot ≡ Some h → span_with Cold 0 ≡ span
         → contents_at before h ≡ window (words_in row) (slot * words_of span.class)
         (words_for (len_of (word_at before h)))
-    by zero e same = absurd (none_is h e)
+    by zero e same = absurd (none_some h e)
     by (suc zero) e same = subst (λ (k : ℕ). contents_at before k
         ≡ window (words_in row) (1 * words_of span.class) (words_for (len_of (word_at before k))))
-        (same_number 0 h e)
+        (some_same 0 h e)
         (subst (λ (s : Contents). contents_at before 0
         ≡ window (words_in row) (1 * words_of s.class) 1) same (first_word ∙ sym is))
-    by (suc (suc n)) e same = absurd (none_is h e)
-contents_in row rest is (suc p) f slot h span at there named = absurd (none_is f at)
+    by (suc (suc n)) e same = absurd (none_some h e)
+contents_in row rest is (suc p) f slot h span at there named = absurd (none_some f at)
 
 have_contents : HaveContents before pair (0 ∷ []) ([] ∷ [])
 have_contents = contents_in [] [] zeros
-
-pub heads : (a b : ℕ) → a ∷ [] ≡ b ∷ [] → a ≡ b
-heads a b e = cc
 
 -- an object whose word is 7 is not in a row of zeros
 not_contents : HaveContents seven pair (0 ∷ []) ([] ∷ []) → ⊥
@@ -262,30 +172,8 @@ not_contents a =
     let e = heads 7 0 (sym second_word ∙ a 0 0 1 0 (span_with Cold 0) refl refl refl ∙ zeros) in
     absurd (omega (arith, e))
 
--- each of the two spans has one object
-pub only_first : (h : ℕ) → Names pair.spans 0 h → 0 ≡ h
-only_first h (zero, e) = absurd (none_is h e)
-only_first h (suc zero, e) = same_number 0 h e
-only_first h (suc (suc n), e) = absurd (none_is h e)
-
-pub only_second : (h : ℕ) → Names pair.spans 1 h → 1 ≡ h
-only_second h (zero, e) = absurd (none_is h e)
-only_second h (suc zero, e) = same_number 1 h e
-only_second h (suc (suc n), e) = absurd (none_is h e)
-
--- ---- the refusals
-abbrev pub busy : Words
-busy = desk (pinned ∷ pinned ∷ [])
-
 pub no_spans : IsEvictStep busy busy pair pair (answer.NoSpans 0)
 no_spans = few_spans (record { few = lit< tt; reply = refl; state = refl }) refl
-
--- one node where two are needed: the one has room
-abbrev pub lone : FarState
-lone = far_with pair.spans None 1
-
-pub one_node : room_count lone.nodes lone.members ≡ 1
-one_node = grind (arith, map.gets)
 
 pub no_nodes : IsEvictStep before before lone lone (answer.NoNodes 1)
 no_nodes = few_nodes (record {
@@ -300,9 +188,6 @@ spans_nodes n m e = cc
 
 spans_set : (n m : ℕ) → answer.NoSpans n ≡ answer.Set (record { n = m }) → ⊥
 spans_set n m e = cc
-
-nodes_set : (n m : ℕ) → answer.NoNodes n ≡ answer.Set (record { n = m }) → ⊥
-nodes_set n m e = cc
 
 count_is : (n m : ℕ) → answer.NoSpans n ≡ answer.NoSpans m → n ≡ m
 count_is n m e = cc
@@ -336,4 +221,4 @@ not_too_few (made m) = spans_set 1 0 m.reply
 not_nodes_first : IsEvictStep busy busy lone lone (answer.NoNodes 1) → ⊥
 not_nodes_first (few_spans a e) = spans_nodes _ 1 (sym a.reply)
 not_nodes_first (few_nodes a e) = let l : 1 ≤ 0 = a.enough in absurd (omega (arith, l))
-not_nodes_first (made m) = nodes_set 1 0 m.reply
+not_nodes_first (made m) = let e : answer.NoNodes 1 ≡ answer.Set (record { n = 0 }) = m.reply in cc

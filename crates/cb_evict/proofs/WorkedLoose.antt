@@ -11,6 +11,7 @@ use Rattle.cb_world.specs.Looks.{IsFound}
 use Rattle.cb_world.specs.Grasped.{IsFree}
 use Rattle.cb_evict.specs.Candidates.{candidates_of, Names, IsLoose, IsHeldUp, AreLoose, AreUnique}
 use Rattle.cb_evict.specs.Events.{TouchesOnly, OnlyLooks}
+use Rattle.cb_evict.proofs.Options.{none_some}
 
 -- slots of 1,024 bytes, of which the second has an object
 abbrev span_with : Temp → ℕ → Option Contents
@@ -39,27 +40,21 @@ pinned_word e = let p = e.1 in absurd (omega (arith, p))
 
 -- a word that moves can't be claimed either
 moving_word : IsFree 3 → ⊥
-moving_word e = differ e.0
-  where
-    differ : Moving ≡ Here → ⊥
-    differ e = cc
+moving_word e = let e : Moving ≡ Here = e.0 in cc
 
 abbrev looks : List Event
 looks = Looked 1 2 ∷ Looked 0 14 ∷ []
 
 -- the only object that a span names
-none_is : (h : ℕ) → None ≡ Some h → ⊥
-none_is h e = cc
-
 one_is : (h : ℕ) → Some 1 ≡ Some h → h ≡ 1
 one_is h e = cc
 
 only_one : (h : ℕ) → Names spans 1 h → h ≡ 1
-only_one h (zero, e) = absurd (none_is h e)
+only_one h (zero, e) = absurd (none_some h e)
 only_one h (suc zero, e) = one_is h e
-only_one h (suc (suc zero), e) = absurd (none_is h e)
-only_one h (suc (suc (suc zero)), e) = absurd (none_is h e)
-only_one h (suc (suc (suc (suc n))), e) = absurd (none_is h e)
+only_one h (suc (suc zero), e) = absurd (none_some h e)
+only_one h (suc (suc (suc zero)), e) = absurd (none_some h e)
+only_one h (suc (suc (suc (suc n))), e) = absurd (none_some h e)
 
 found_free : IsFound 1 2 looks
 found_free =
@@ -82,11 +77,11 @@ zero_is : (h : ℕ) → Some 0 ≡ Some h → h ≡ 0
 zero_is h e = cc
 
 only_zero : (h : ℕ) → Names spans 0 h → h ≡ 0
-only_zero h (zero, e) = absurd (none_is h e)
+only_zero h (zero, e) = absurd (none_some h e)
 only_zero h (suc zero, e) = zero_is h e
-only_zero h (suc (suc zero), e) = absurd (none_is h e)
-only_zero h (suc (suc (suc zero)), e) = absurd (none_is h e)
-only_zero h (suc (suc (suc (suc n))), e) = absurd (none_is h e)
+only_zero h (suc (suc zero), e) = absurd (none_some h e)
+only_zero h (suc (suc (suc zero)), e) = absurd (none_some h e)
+only_zero h (suc (suc (suc (suc n))), e) = absurd (none_some h e)
 
 found_pinned : IsFound 0 14 looks
 found_pinned = inl (inr ((refl, refl), tt))

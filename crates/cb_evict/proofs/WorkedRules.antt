@@ -1,7 +1,7 @@
 -- Worked examples of what the events of an eviction, of a begin and of the two ends of a batch may be
 -- about, of what the ends write, and of the rows of a begin: what meets each definition, and for each
 -- of its parts what breaks that part alone.
-use Rattle.std.proofs.Common.{◌≡◌, ℕ, zero, suc, ◌+◌, ◌*◌, ◌<◌, ◌≤◌, true, false, List, [], ◌∷◌, ◌++◌, length, Option, Some, refl, sym, ap, ◌∙◌, subst, lit<, lit≤, arith, inl, inr}
+use Rattle.std.proofs.Common.{◌≡◌, ℕ, zero, suc, ◌+◌, ◌*◌, ◌<◌, true, false, List, [], ◌∷◌, ◌++◌, length, Option, Some, refl, sym, ap, ◌∙◌, subst, lit<, lit≤, arith, inl, inr}
 use Rattle.std.proofs.lemmas.List.Elements.{All-nil, All-cons}
 use Rattle.cb_class.specs.Class.{words_of}
 use Rattle.cb_gf256.specs.Rows.{row_at}
@@ -41,22 +41,19 @@ use Rattle.cb_evict.specs.Looking.{IsIn}
 use Rattle.cb_evict.specs.Sending.{AreSent, IsSent}
 use Rattle.cb_evict.proofs.Loose.{held_alone}
 use Rattle.cb_evict.proofs.NewSet.{set_added_in}
-use Rattle.cb_evict.proofs.WorkedBegin.{former, second, some_batch}
+use Rattle.cb_evict.proofs.WorkedBegin.{former, second}
 use Rattle.cb_evict.proofs.WorkedEnds.{are_restored, batch, both_put, claimed, hot, is_committed, is_given_up, leaving, none_of_one, noted, one_put, restored}
-use Rattle.cb_evict.proofs.WorkedEvictStep.{away, calm, far_with, first_object, heads, none_is, only_first, only_object, only_second, pair, pinned, same_number, settings, span_with}
-use Rattle.cb_evict.proofs.WorkedSetMade.{homes, is_word, row, row_words}
+use Rattle.cb_evict.proofs.Options.{none_some, some_same}
+use Rattle.cb_evict.proofs.SmallWorlds.{away, calm, far_with, first_object, heads, homes, is_word, only_first, only_object, only_second, pair, pinned, row, row_words, settings, span_with}
 
 -- ---- objects of the batch alone are settled by a commit and by an abort
-same_batch : (a b : LeavingState) → Some a ≡ Some b → a ≡ b
-same_batch a b e = cc
-
 of_batch : (shards : List (Option Shard)) → IsOfBatch (leaving shards) 0
 of_batch shards =
     (batch shards, refl, (record { handle = 0; word = calm }, (0, lit< tt, refl), refl))
 
 not_of_batch : (shards : List (Option Shard)) → IsOfBatch (leaving shards) 1 → ⊥
 not_of_batch shards (b, there, one) =
-    let e = same_batch (batch shards) b there in
+    let e = some_same (batch shards) b there in
     by (subst (λ (x : LeavingState). IsOne x.words 1) (sym e) one)
   where
     by : IsOne noted 1 → ⊥
@@ -269,9 +266,9 @@ begin_looks_elsewhere x = nowhere x.touches.1.1.0
   where
     named : (n : ℕ) (slot : ℕ) → n < 2
         → handle_in (Some (span_with Cold n)) slot ≡ Some 2 → ⊥
-    named n zero less e = none_is 2 e
-    named n (suc zero) less e = let z = same_number n 2 e in omega (arith, z, less)
-    named n (suc (suc slot)) less e = none_is 2 e
+    named n zero less e = none_some 2 e
+    named n (suc zero) less e = let z = some_same n 2 e in omega (arith, z, less)
+    named n (suc (suc slot)) less e = none_some 2 e
 
     nowhere : IsIn pair.spans (0 ∷ 1 ∷ []) 2 → ⊥
     nowhere (f, (zero, less, same), (slot, e)) = named 0 slot (lit< tt)
@@ -318,7 +315,7 @@ not_sevens x = let e = heads 7 0 (told x.words x.version x.told ∙ x.contents
 -- rows of zeros, where the claim told another word
 begins_with_other_words : ¬ (HasBegun settings pair second (0 ∷ []) claim_sevens)
 begins_with_other_words a =
-    let b = some_batch (new_batch settings pair (0 ∷ []) (former ∷ []) (row ∷ []))
+    let b = some_same (new_batch settings pair (0 ∷ []) (former ∷ []) (row ∷ []))
     (new_batch settings pair (0 ∷ []) a.words a.parities)
     (ap (λ (f : FarState). f.leaving) a.state) in
     let parities : row ∷ [] ≡ a.parities = ap (λ (x : LeavingState). x.parities) b in

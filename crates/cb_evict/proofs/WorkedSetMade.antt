@@ -1,109 +1,39 @@
 -- A worked example of a whole step: the loose one of two spans is evicted; and for each part of
 -- what is said of it a value that breaks that part alone.
-use Rattle.std.proofs.Common.{◌≡◌, ℕ, zero, suc, ◌*◌, ◌^◌, ◌<◌, ◌≤◌, false, nat_lt, List, [], ◌∷◌, ◌++◌, length, get_or, All, Option, None, Some, replicate, refl, sym, ap, ◌∙◌, subst, lit<, lit≤, arith, inr}
+use Rattle.std.proofs.Common.{◌≡◌, ℕ, zero, suc, ◌*◌, ◌<◌, ◌≤◌, false, nat_lt, List, [], ◌∷◌, ◌++◌, length, get_or, Some, replicate, refl, sym, ap, ◌∙◌, subst, lit<, lit≤, arith, inr}
 use Rattle.std.specs.FinMap as map
-use Rattle.std.specs.List.{Contains, slice_get}
+use Rattle.std.specs.List.{slice_get}
 use Rattle.std.proofs.lemmas.Bool.{false≢true}
-use Rattle.std.proofs.lemmas.List.{get_or-replicate, length-replicate}
-use Rattle.std.proofs.lemmas.List.Elements.{All-nil, All-cons, All-replicate}
 use Rattle.cb_class.specs.Class.{words_of, bytes_of}
-use Rattle.cb_gf256.specs.Rows.{row_at, byte_at}
-use Rattle.cb_gf256.specs.Power.{power}
-use Rattle.cb_gf256.specs.Product.{◌⊗◌}
-use Rattle.cb_gf256.proofs.PublicLaws.{product_with_zero, sum_over_zeros}
+use Rattle.cb_gf256.specs.Rows.{row_at}
 use Rattle.cb_member.specs.declared.names.Shard.{Shard}
-use Rattle.cb_node.specs.NodesState.{NodesState, held, row_at as row_under}
+use Rattle.cb_node.specs.NodesState.{NodesState, row_at as row_under}
 use Rattle.cb_set.specs.SetState.{SetState}
 use Rattle.cb_types.specs.declared.handle.SetId.{SetId}
 use Rattle.cb_types.specs.declared.reply.Reply.TheVariants as answer
-use Rattle.cb_world.specs.declared.homes.Home.{Home}
-use Rattle.cb_world.specs.Choices.{numbered, room_count, stands_on, IsLeastNode}
-use Rattle.cb_world.specs.FarState.{FarState, span_in, resident, handle_in}
-use Rattle.cb_world.specs.Homes.{home_at}
+use Rattle.cb_world.specs.Choices.{numbered, stands_on, IsLeastNode}
+use Rattle.cb_world.specs.FarState.{FarState}
 use Rattle.cb_world.specs.Memory.{window}
 use Rattle.cb_world.specs.RowWords.{words_from, words_in, row_of}
 use Rattle.cb_world.specs.Sets.{set_in}
 use Rattle.cb_world.specs.Stored.{all_put}
 use Rattle.cb_span.specs.declared.temp.Temp.TheVariants.{Cold}
-use Rattle.cb_world.specs.SetWord.{IsSpanWord}
-use Rattle.cb_evict.specs.Candidates.{Names}
-use Rattle.cb_evict.specs.Closing.{HaveHomes, with_homes}
+use Rattle.cb_evict.specs.Closing.{with_homes}
 use Rattle.cb_evict.specs.EvictStep.{AreFrameRows, IsEvictedTo, IsSetMade, IsEvictStep, made, IsCountedStep}
 use Rattle.cb_evict.specs.declared.eviction.Eviction.TheVariants.{Refused}
 use Rattle.cb_evict.specs.declared.eviction.Lack.TheVariants.{Spans, Nodes}
 use Rattle.cb_evict.specs.Storing.{IsShardAt, AreShards, set_for, with_set}
 use Rattle.cb_evict.proofs.NewSet.{set_added_in}
-use Rattle.cb_evict.proofs.WorkedEvictStep.{before, after, busy, no_nodes, no_spans, pair, lone, one_node, none_is, same_number, sent_off, not_here, contents_in, first_word, heads, span_with}
+use Rattle.cb_evict.proofs.WorkedEvictStep.{no_nodes, no_spans, sent_off, not_here, contents_in, first_word}
+use Rattle.cb_evict.proofs.Options.{none_some, some_same}
+use Rattle.cb_evict.proofs.SmallWorlds.{after, before, busy, heads, homed, homes, is_word, lone, none_held, one_node, pair, row, row_words, rows, shard, shards, span_with, two_nodes}
 
--- ---- the code word: a row of zeros and its parity
-pub row : List ℕ
-row = replicate 4096 0
-
-abbrev rows : List (List ℕ)
-rows = row ∷ row ∷ []
-
--- the bytes of a frame of zeros
-pub zero_row : row_of (window [] 0 512) ≡ row
-unfolding row window
-zero_row = refl
-
--- and those of a frame where there are words, which are 0
+-- the bytes of a frame where there are words, which are 0
 memory_row : row_of (window before.memory 0 512) ≡ row
 unfolding row window
 memory_row = refl
 
-row_length : length row ≡ 4096
-unfolding row
-row_length = length-replicate {A = ℕ} 4096 0
-
-row_zeros : (column : ℕ) → column < 4096 → get_or row column 0 ≡ 0
-unfolding row
-row_zeros column below = get_or-replicate 4096 column 0 0 below
-
-row_bytes : All (λ (b : ℕ). b < 2 ^ 8) row
-unfolding row
-row_bytes = All-replicate (λ (b : ℕ). b < 2 ^ 8) 4096 0 (lit< tt)
-
-pub row_words : window (words_in row) (1 * words_of (record { index = 0 })) 1 ≡ 0 ∷ []
-unfolding row words_of bytes_of window words_from
-row_words = refl
-
-bytes_zero : (column i : ℕ) → column < 4096 → byte_at rows i column ≡ 0
-bytes_zero column zero below = row_zeros column below
-bytes_zero column (suc zero) below = row_zeros column below
-bytes_zero column (suc (suc i)) below = refl
-
-pub is_word : IsSpanWord 1 1 rows
-is_word = record {
-  is_word = record {
-    count = refl;
-    equal_lengths = All-cons (λ (r : List ℕ). length r ≡ length row) row (row ∷ []) refl
-        (All-cons (λ (r : List ℕ). length r ≡ length row) row [] refl
-        (All-nil (λ (r : List ℕ). length r ≡ length row)));
-    syndromes_zero = λ j column low below.
-        sum_over_zeros 2 (λ i. power 2 (i * j) ⊗ byte_at rows i column)
-        (λ i l. ap (λ (b : ℕ). power 2 (i * j) ⊗ b)
-        (bytes_zero column i (omega (arith, below, row_length)))
-        ∙ product_with_zero (power 2 (i * j)));
-  };
-  bytes = All-cons (All (λ (b : ℕ). b < 2 ^ 8)) row (row ∷ []) row_bytes
-      (All-cons (All (λ (b : ℕ). b < 2 ^ 8)) row [] row_bytes
-      (All-nil (All (λ (b : ℕ). b < 2 ^ 8))));
-  wide = row_length;
-}
-
 -- ---- the shards: both nodes are empty, and the one with the least number comes first
-abbrev pub shard : ℕ → Shard
-shard n = record { node = numbered n; incarnation = 0; key = n }
-
-abbrev pub shards : List Shard
-shards = shard 0 ∷ shard 1 ∷ []
-
-none_held : (n : ℕ) → held pair.nodes (numbered n) ≡ 0
-none_held zero = grind (arith, map.gets)
-none_held (suc zero) = grind (arith, map.gets)
-none_held (suc (suc n)) = grind (arith, map.gets)
-
 apart : (n : ℕ) → stands_on (shard 0 ∷ []) (numbered n) ≡ false → 1 ≤ n
 apart zero e = absurd (false≢true (sym e))
 apart (suc n) e = omega arith
@@ -128,59 +58,22 @@ second_node = record {
   least = λ other m. inr (none_held 1 ∙ sym (none_held other.n), apart other.n m.spare);
 }
 
-some_shard : (a b : Shard) → Some a ≡ Some b → a ≡ b
-some_shard a b e = cc
-
-no_shard : (a : Shard) → None ≡ Some a → ⊥
-no_shard a e = cc
-
 chosen : AreShards pair 2 shards
 chosen = record { count = refl; each = λ p s at. each p s at }
   where
     each : (p : ℕ) (s : Shard) → slice_get shards p ≡ Some s → IsShardAt pair shards p s
-    each zero s at = subst (IsShardAt pair shards 0) (some_shard (shard 0) s at)
+    each zero s at = subst (IsShardAt pair shards 0) (some_same (shard 0) s at)
         (record { node = first_node; incarnation = refl; key = refl })
-    each (suc zero) s at = subst (IsShardAt pair shards 1) (some_shard (shard 1) s at)
+    each (suc zero) s at = subst (IsShardAt pair shards 1) (some_same (shard 1) s at)
         (record { node = second_node; incarnation = refl; key = refl })
-    each (suc (suc p)) s at = absurd (no_shard s at)
-
-pub two_nodes : room_count pair.nodes pair.members ≡ 2
-two_nodes = let a = none_held 0 in let b = none_held 1 in grind (arith, a, b)
-
--- ---- the home of the object
-abbrev pub homes : List (Option Home)
-homes = Some (record { set = 0; position = 0; slot = 1 }) ∷ None ∷ None ∷ None ∷ []
-
-pub homed : HaveHomes pair.spans (0 ∷ []) 0 pair.homes homes
-homed = record {
-  count = refl;
-  here = λ p f slot h at named. here p f slot h at named;
-  others = λ h none. others h none;
-}
-  where
-    by_slot : (slot h : ℕ) → handle_in (span_in pair.spans 0) slot ≡ Some h
-        → home_at homes h ≡ Some (record { set = 0; position = 0; slot = slot })
-    by_slot zero h e = absurd (none_is h e)
-    by_slot (suc zero) h e = ap (home_at homes) (sym (same_number 0 h e))
-    by_slot (suc (suc n)) h e = absurd (none_is h e)
-
-    here : (p f slot h : ℕ) → slice_get (0 ∷ []) p ≡ Some f → resident pair.spans f slot ≡ Some h
-        → home_at homes h ≡ Some (record { set = 0; position = p; slot = slot })
-    here zero f slot h at named = by_slot slot h
-        (ap (λ (n : ℕ). handle_in (span_in pair.spans n) slot) (same_number 0 f at) ∙ named)
-    here (suc p) f slot h at named = absurd (none_is f at)
-
-    others : (h : ℕ) → ((f : ℕ) → Contains (0 ∷ []) f → Names pair.spans f h → ⊥)
-        → home_at homes h ≡ home_at pair.homes h
-    others zero none = absurd (none 0 (0, lit< tt, refl) (1, refl))
-    others (suc h) none = refl
+    each (suc (suc p)) s at = absurd (none_some s at)
 
 -- the row of the one frame stands first
 data_in : (first : List ℕ) (rest : List (List ℕ)) → first ≡ row_of (window before.memory 0 512)
     → AreFrameRows before (0 ∷ []) (first ∷ rest)
 data_in first rest is zero f at =
-    is ∙ ap (λ (n : ℕ). row_of (window before.memory (512 * n) 512)) (same_number 0 f at)
-data_in first rest is (suc p) f at = absurd (none_is f at)
+    is ∙ ap (λ (n : ℕ). row_of (window before.memory (512 * n) 512)) (some_same 0 f at)
+data_in first rest is (suc p) f at = absurd (none_some f at)
 
 -- ---- the step
 -- the far state once these rows are put at these shards' nodes
@@ -219,14 +112,11 @@ step = made set_made
 abbrev again : Shard
 again = record { node = numbered 0; incarnation = 0; key = 1 }
 
-some_set : (a b : SetState) → Some a ≡ Some b → a ≡ b
-some_set a b e = cc
-
 -- the set says which its shards are
 same_shards : (at : List Shard) (put : List (List ℕ))
     → (a : IsEvictedTo before after pair (with_word at put) (0 ∷ [])) → at ≡ a.shards
 same_shards at put a = ap (λ (s : SetState). s.shards)
-    (some_set (set_for pair at (0 ∷ [])) (set_for pair a.shards (0 ∷ []))
+    (some_same (set_for pair at (0 ∷ [])) (set_for pair a.shards (0 ∷ []))
     (sym (set_added_in pair.sets 0 (set_for pair at (0 ∷ [])))
     ∙ ap (λ (f : FarState). set_in f.sets 0) a.state
     ∙ set_added_in pair.sets 0 (set_for pair a.shards (0 ∷ []))))
@@ -252,9 +142,6 @@ two_of (r ∷ []) e = absurd (omega (arith, e))
 two_of (r ∷ q ∷ []) e = refl
 two_of (r ∷ q ∷ u ∷ l) e = absurd (omega (arith, e))
 
-some_row : (r q : List ℕ) → Some r ≡ Some q → r ≡ q
-some_row r q e = cc
-
 -- the nodes say which its rows are
 same_rows : (r q : List ℕ)
     → (a : IsEvictedTo before after pair (with_word shards (r ∷ q ∷ [])) (0 ∷ []))
@@ -266,10 +153,10 @@ same_rows r q a =
     ∙ ap (λ (l : List Shard). all_put pair.nodes l a.rows)
     (sym (same_shards shards (r ∷ q ∷ []) a))
     ∙ ap (all_put pair.nodes shards) (two_of a.rows a.word.is_word.count) in (
-      some_row r (row_at a.rows 0) (sym (first_stored r q)
+      some_same r (row_at a.rows 0) (sym (first_stored r q)
           ∙ ap (λ (n : NodesState). row_under n (numbered 0) 0) nodes
           ∙ first_stored (row_at a.rows 0) (row_at a.rows 1)),
-      some_row q (row_at a.rows 1) (sym (second_stored r q)
+      some_same q (row_at a.rows 1) (sym (second_stored r q)
           ∙ ap (λ (n : NodesState). row_under n (numbered 1) 1) nodes
           ∙ second_stored (row_at a.rows 0) (row_at a.rows 1)),
     )
@@ -323,11 +210,8 @@ not_made a = let e : 5 ≡ 4 = ap (λ (f : FarState). f.made) a.state in absurd 
 
 -- the object has no home
 not_homeless : IsEvictedTo before after pair (record new { homes = pair.homes }) (0 ∷ []) → ⊥
-not_homeless a = no_home (record { set = 0; position = 0; slot = 1 })
+not_homeless a = none_some (record { set = 0; position = 0; slot = 1 })
     (a.homes.here 0 0 1 0 refl refl)
-  where
-    no_home : (home : Home) → None ≡ Some home → ⊥
-    no_home home e = cc
 
 -- the object is here as before
 not_sent : IsEvictedTo before before pair new (0 ∷ []) → ⊥

@@ -15,12 +15,11 @@ use Rattle.cb_world.specs.FarState.{FarState}
 use Rattle.cb_world.specs.Leaving.{LeavingState}
 use Rattle.cb_world.specs.Plain.{Words}
 use Rattle.cb_world.specs.Survey.{no_survey}
-use Rattle.cb_evict.specs.AbortRule.{HasNoBatch}
 use Rattle.cb_evict.specs.ShipRule.{HasAllShipped, HasNoNode, HasShipped, IsShardFor, ReadsLeaving, Ships, other_puts, with_shipped}
 use Rattle.cb_evict.specs.ShipStep.{IsShipStep}
 use Rattle.cb_evict.specs.Shipping.{Waits}
 use Rattle.cb_evict.specs.Waiting.{is_waiting, waits_at, waiting, least_waiting, PutAtMembers}
-use Rattle.cb_evict.proofs.ShippedFar.{batch_same}
+use Rattle.cb_evict.proofs.Options.{none_some, some_none, some_same}
 
 abbrev at : ℕ → ℕ → Shard
 at n key = record { node = numbered n; incarnation = 0; key = key }
@@ -172,32 +171,20 @@ ships : Ships leaving after (answer.Shipped 1) rows
 ships = inr (inr (inr is_shipped))
 
 -- what is told as shipped is no refusal
-some_batch : (b : LeavingState) → Some b ≡ None → ⊥
-some_batch b e = cc
-
-shipped_all : (p : ℕ) → answer.Shipped p ≡ answer.AllShipped → ⊥
-shipped_all p e = cc
-
-shipped_none : (p : ℕ) → answer.Shipped p ≡ answer.NoNode → ⊥
-shipped_none p e = cc
-
 shipped_same : (p q : ℕ) → answer.Shipped p ≡ answer.Shipped q → p ≡ q
 shipped_same p q e = cc
 
-some_same : (p q : ℕ) → Some p ≡ Some q → p ≡ q
-some_same p q e = cc
-
 only : (new : FarState) (p : ℕ) (row : LeavingState → ℕ → List ℕ)
     → Ships leaving new (answer.Shipped p) row → HasShipped leaving new (answer.Shipped p) row
-only new p row (inl x) = absurd (some_batch (batch some_wait) x.none)
-only new p row (inr (inl x)) = absurd (shipped_all p x.reply)
-only new p row (inr (inr (inl x))) = absurd (shipped_none p x.reply)
+only new p row (inl x) = absurd (some_none (batch some_wait) x.none)
+only new p row (inr (inl x)) = absurd (let e : answer.Shipped p ≡ answer.AllShipped = x.reply in cc)
+only new p row (inr (inr (inl x))) = absurd (let e : answer.Shipped p ≡ answer.NoNode = x.reply in cc)
 only new p row (inr (inr (inr x))) = x
 
 -- it is the batch that is leaving, and its least position that waits
 is_batch : (new : FarState) (r : Reply) (row : LeavingState → ℕ → List ℕ)
     (x : HasShipped leaving new r row) → batch some_wait ≡ x.batch
-is_batch new r row x = batch_same (batch some_wait) x.batch x.there
+is_batch new r row x = some_same (batch some_wait) x.batch x.there
 
 is_least : (new : FarState) (r : Reply) (row : LeavingState → ℕ → List ℕ)
     (x : HasShipped leaving new r row) → 1 ≡ x.position
@@ -227,14 +214,11 @@ is_second new x =
     ∙ ap (λ (q : ℕ). second (with_shipped leaving (batch some_wait) q x.shard []).leaving)
     (sym (is_least new (answer.Shipped 1) rows x))
 
-shard_same : (a b : Shard) → Some a ≡ Some b → a ≡ b
-shard_same a b e = cc
-
 -- no position has the new shard
 batch_stays : Ships leaving (record after { leaving = leaving.leaving }) (answer.Shipped 1) rows → ⊥
 batch_stays s =
     let x = only (record after { leaving = leaving.leaving }) 1 rows s in
-    let e = shard_same (at 0 1) x.shard (is_second (record after { leaving = leaving.leaving }) x) in
+    let e = some_same (at 0 1) x.shard (is_second (record after { leaving = leaving.leaving }) x) in
     let k : 1 ≡ x.shard.key = ap (λ (a : Shard). a.key) e in let l = x.named.key in
     absurd (omega (arith, k, l))
 
@@ -248,7 +232,7 @@ put_at a row = row_under (with_row nodes a.node a.key row) (numbered 2) 5
 other_row : Ships leaving wrong (answer.Shipped 1) rows → ⊥
 other_row s =
     let x = only wrong 1 rows s in
-    let a = shard_same shard x.shard (is_second wrong x) in
+    let a = some_same shard x.shard (is_second wrong x) in
     let p = is_least wrong (answer.Shipped 1) rows x in
     let e : Some (9 ∷ []) ≡ Some (7 ∷ []) =
     sym (row_is_put nodes (numbered 2) 5 (9 ∷ []) (lit< tt))
@@ -263,22 +247,7 @@ other_row s =
     first_or (Some row) = get_or row 0 0
 
 -- ---- refusals
-no_batch : HasNoBatch (far None) (far None) answer.NoBatch
-no_batch = record { none = refl; reply = refl; state = refl }
-
-one_leaves : HasNoBatch leaving leaving answer.NoBatch → ⊥
-one_leaves a = some_batch (batch some_wait) a.none
-
 -- a refusal changes nothing, and is told as what it is
-batch_or_done : answer.Done ≡ answer.NoBatch → ⊥
-batch_or_done e = cc
-
-not_done : HasNoBatch (far None) (far None) answer.Done → ⊥
-not_done a = batch_or_done a.reply
-
-none_made : HasNoBatch (far None) (record (far None) { made = 1 }) answer.NoBatch → ⊥
-none_made a = let e : 1 ≡ 0 = ap (λ (f : FarState). f.made) a.state in absurd (omega (arith, e))
-
 abbrev done : FarState
 done = far (Some (batch all_put))
 
@@ -291,22 +260,16 @@ all_shipped = record {
   state = refl;
 }
 
-done_is_not_all : answer.Done ≡ answer.AllShipped → ⊥
-done_is_not_all e = cc
-
 all_not_done : HasAllShipped done done answer.Done → ⊥
-all_not_done a = done_is_not_all a.reply
+all_not_done a = let e : answer.Done ≡ answer.AllShipped = a.reply in cc
 
 all_none_made : HasAllShipped done (record done { made = 1 }) answer.AllShipped → ⊥
 all_none_made a = let e : 1 ≡ 0 = ap (λ (f : FarState). f.made) a.state in absurd (omega (arith, e))
 
-some_position : (p : ℕ) → Some p ≡ None → ⊥
-some_position p e = cc
-
 one_waits : HasAllShipped leaving leaving answer.AllShipped → ⊥
-one_waits a = some_position 1
+one_waits a = some_none 1
     (ap (λ (b : LeavingState). least_waiting members b.shards)
-    (batch_same (batch some_wait) a.batch a.there) ∙ a.none)
+    (some_same (batch some_wait) a.batch a.there) ∙ a.none)
 
 -- all nodes that are up have rows of other positions
 abbrev crowded : FarState
@@ -330,11 +293,8 @@ no_node = record {
   state = refl;
 }
 
-done_is_no_node : answer.Done ≡ answer.NoNode → ⊥
-done_is_no_node e = cc
-
 node_not_done : HasNoNode crowded crowded answer.Done → ⊥
-node_not_done a = done_is_no_node a.reply
+node_not_done a = let e : answer.Done ≡ answer.NoNode = a.reply in cc
 
 node_none_made : HasNoNode crowded (record crowded { made = 1 }) answer.NoNode → ⊥
 node_none_made a = let e : 1 ≡ 0 = ap (λ (f : FarState). f.made) a.state in absurd (omega (arith, e))
@@ -342,7 +302,7 @@ node_none_made a = let e : 1 ≡ 0 = ap (λ (f : FarState). f.made) a.state in a
 -- where a node can take the row it is no refusal
 a_node_is_left : HasNoNode leaving leaving answer.NoNode → ⊥
 a_node_is_left a =
-    let b = batch_same (batch some_wait) a.batch a.there in
+    let b = some_same (batch some_wait) a.batch a.there in
     let p = some_same 1 a.position
     (ap (λ (c : LeavingState). least_waiting members c.shards) b ∙ a.least) in
     a.none (numbered 2)
@@ -389,12 +349,9 @@ waits_at_one : Waits leaving
 waits_at_one = (batch some_wait, 1, refl, refl)
 
 no_one_waits : Waits done → ⊥
-no_one_waits (b, p, there, least) = some_position p (sym least
+no_one_waits (b, p, there, least) = some_none p (sym least
     ∙ sym (ap (λ (x : LeavingState). least_waiting members x.shards)
-    (batch_same (batch all_put) b there)) ∙ no_least)
+    (some_same (batch all_put) b there)) ∙ no_least)
 
 none_leaves : Waits (far None) → ⊥
 none_leaves (b, p, there, least) = none_some b there
-  where
-    none_some : (x : LeavingState) → None ≡ Some x → ⊥
-    none_some x e = cc

@@ -12,9 +12,8 @@ use Rattle.cb_member.specs.declared.names.Shard.{Shard}
 use Rattle.cb_member.specs.Membership.{fresh_members}
 use Rattle.cb_member.proofs.Laws.{fresh-IsMembership}
 use Rattle.cb_node.specs.NodesState.{empty_nodes, row_at as row_under}
-use Rattle.cb_ptr.specs.declared.word.State.TheVariants as word
 use Rattle.cb_ptr.specs.Steps.{Claims}
-use Rattle.cb_ptr.specs.Word.{hot_of, len_of, place_of, state_of}
+use Rattle.cb_ptr.specs.Word.{hot_of, len_of, place_of}
 use Rattle.cb_ptr.proofs.Laws.{claims}
 use Rattle.cb_set.specs.SetState.{SetState}
 use Rattle.cb_span.specs.declared.temp.Temp.TheVariants.{Cold}
@@ -44,7 +43,8 @@ use Rattle.cb_world.proofs.Laws.{some_same, room_empty, unsurveyed}
 use Rattle.cb_evict.specs.BeginRule.{with_batch, new_batch}
 use Rattle.cb_evict.specs.BeginStep.{AreHeld, IsBegunTo, IsBeginStep, begins}
 use Rattle.cb_evict.specs.Looking.{IsIn}
-use Rattle.cb_evict.proofs.WorkedSetMade.{row, zero_row, is_word}
+use Rattle.cb_evict.proofs.Options.{none_some}
+use Rattle.cb_evict.proofs.SmallWorlds.{is_word, row, zero_row}
 
 -- ---- one object of 1,024 bytes, in the first slot of the one frame; its first word has 65 bits
 abbrev largest : Class
@@ -92,9 +92,6 @@ far = record {
   counts = record { turns = 0; by_job = []; sets = 0; keys = 0 };
   survey = no_survey;
 }
-
-none_some : {X : Type 0} (x : X) → None ≡ Some x → ⊥
-none_some x e = cc
 
 -- ---- all is known before
 class_of_1024 : IsClassOf 1024 largest

@@ -9,17 +9,9 @@ use Rattle.cb_types.specs.declared.reply.Reply.{Reply}
 use Rattle.cb_world.specs.declared.event.Event.{Event}
 use Rattle.cb_world.specs.declared.leaving.Former.{Former}
 use Rattle.cb_world.specs.declared.shown.Shown.{Shown}
-use Rattle.cb_world.specs.Allowed.{Allowed}
 use Rattle.cb_world.specs.FarState.{FarState}
-use Rattle.cb_world.specs.Looks.{NoLook, LooksFirst}
-use Rattle.cb_world.specs.Played.{played}
 use Rattle.cb_world.specs.Reserved.{set_from}
-use Rattle.cb_world.specs.Sound.{Sound}
-use Rattle.cb_evict.specs.Candidates.{candidates, AreLoose}
-use Rattle.cb_evict.specs.Events.{TouchesOnly}
-use Rattle.cb_evict.specs.Evicting.{IsReady, TouchesSpans}
-use Rattle.cb_evict.specs.Loading.{LiesInOne}
-use Rattle.cb_evict.specs.Looking.{IsIn}
+use Rattle.cb_evict.specs.Evicting.{After, EndsClaimed}
 use Rattle.cb_evict.specs.BeginRule.{HasBegun, BeginRule}
 use Rattle.cb_evict.specs.BeginEffect.{IsBegun}
 
@@ -40,23 +32,10 @@ pub record AreParities (k n : ℕ) (rows parities : List (List ℕ)) : Type 0 wh
 
 -- the rule, where these spans were found loose before
 abbrev pub BeginsAfter : Config → FarState → FarState → Reply → List ℕ → List Event → Type 0
-BeginsAfter c far new r loose es = (before : List Event)
-    → AreLoose before far.spans (candidates far) loose → TouchesSpans far before
-    → BeginRule c far new r (before ++ es)
+BeginsAfter c far new r loose es = After (BeginRule c far new r) far loose es
 
 -- claimed spans are leaving from here
-pub record BeginsClaimed (runs : List Event → Type 0) (shows : Shown → Type 0) (c : Config)
-    (far new : FarState) (frames : List ℕ) (formers : List Former) : Type 0 where
-  pub events : List Event
-  pub ran : runs events
-  pub touches : TouchesOnly (IsIn far.spans frames) (LiesInOne frames) events
-  pub quiet : (k : ℕ) → NoLook k events
-  pub first : LooksFirst events
-  pub allowed : (before : List Event) (s : Shown) → IsReady shows far formers before s
-      → Allowed (played before s) events
-  pub begun : (before : List Event) (s : Shown) → IsReady shows far formers before s
-      → HasBegun c far new frames (before ++ events)
-  pub sound : (before : List Event) (s : Shown) → IsReady shows far formers before s
-      → Sound (played (before ++ events) s) new
-  pub effect : (before : List Event) (s : Shown) → IsReady shows far formers before s
-      → IsBegun far new (before ++ events) s (played (before ++ events) s)
+abbrev pub BeginsClaimed : (List Event → Type 0) → (Shown → Type 0) → Config → FarState → FarState
+    → List ℕ → List Former → Type 0
+BeginsClaimed runs shows c far new frames formers =
+    EndsClaimed runs shows far new frames formers (HasBegun c far new frames) (IsBegun far new)

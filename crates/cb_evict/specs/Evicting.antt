@@ -61,9 +61,11 @@ pub record IsReady (shows : Shown → Type 0) (far : FarState) (formers : List F
   pub steady : IsSteady before s
   pub touches : TouchesSpans far before
 
--- claimed spans are evicted
-pub record EvictsClaimed (runs : List Event → Type 0) (shows : Shown → Type 0) (c : Config)
-    (far new : FarState) (frames : List ℕ) (formers : List Former) : Type 0 where
+-- Claimed spans are brought to an end: evicted, begun or given back. All events, those before this
+-- part too, meet the rule, and lead to what the effect says.
+pub record EndsClaimed (runs : List Event → Type 0) (shows : Shown → Type 0) (far new : FarState)
+    (frames : List ℕ) (formers : List Former) (ends : List Event → Type 0)
+    (does : List Event → Shown → Shown → Type 0) : Type 0 where
   pub events : List Event
   pub ran : runs events
   pub touches : TouchesOnly (IsIn far.spans frames) (LiesInOne frames) events
@@ -71,24 +73,21 @@ pub record EvictsClaimed (runs : List Event → Type 0) (shows : Shown → Type 
   pub first : LooksFirst events
   pub allowed : (before : List Event) (s : Shown) → IsReady shows far formers before s
       → Allowed (played before s) events
-  pub evicted : (before : List Event) (s : Shown) → IsReady shows far formers before s
-      → HasEvicted c far new frames (before ++ events)
+  pub rule : (before : List Event) (s : Shown) → IsReady shows far formers before s
+      → ends (before ++ events)
   pub sound : (before : List Event) (s : Shown) → IsReady shows far formers before s
       → Sound (played (before ++ events) s) new
   pub effect : (before : List Event) (s : Shown) → IsReady shows far formers before s
-      → IsEvicted far new (before ++ events) s (played (before ++ events) s)
+      → does (before ++ events) s (played (before ++ events) s)
+
+-- claimed spans are evicted
+abbrev pub EvictsClaimed : (List Event → Type 0) → (Shown → Type 0) → Config → FarState → FarState
+    → List ℕ → List Former → Type 0
+EvictsClaimed runs shows c far new frames formers =
+    EndsClaimed runs shows far new frames formers (HasEvicted c far new frames) (IsEvicted far new)
 
 -- claimed spans are given back
-pub record LeavesClaimed (runs : List Event → Type 0) (shows : Shown → Type 0) (far : FarState)
-    (frames : List ℕ) (formers : List Former) : Type 0 where
-  pub events : List Event
-  pub ran : runs events
-  pub touches : TouchesOnly (IsIn far.spans frames) (LiesInOne frames) events
-  pub quiet : (k : ℕ) → NoLook k events
-  pub first : LooksFirst events
-  pub allowed : (before : List Event) (s : Shown) → IsReady shows far formers before s
-      → Allowed (played before s) events
-  pub sound : (before : List Event) (s : Shown) → IsReady shows far formers before s
-      → Sound (played (before ++ events) s) far
-  pub left : (before : List Event) (s : Shown) → IsReady shows far formers before s
-      → IsStill (before ++ events) s (played (before ++ events) s)
+abbrev pub LeavesClaimed : (List Event → Type 0) → (Shown → Type 0) → FarState → List ℕ
+    → List Former → Type 0
+LeavesClaimed runs shows far frames formers =
+    EndsClaimed runs shows far far frames formers (λ es. Unit {0}) IsStill

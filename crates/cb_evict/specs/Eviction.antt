@@ -8,7 +8,6 @@ use Rattle.cb_world.specs.Choices.{room_count}
 use Rattle.cb_world.specs.FarState.{FarState}
 use Rattle.cb_evict.specs.declared.eviction.Eviction.{Eviction}
 use Rattle.cb_evict.specs.declared.eviction.Eviction.TheVariants as eviction
-use Rattle.cb_evict.specs.declared.eviction.Lack.{Lack}
 use Rattle.cb_evict.specs.declared.eviction.Lack.TheVariants as lack
 use Rattle.cb_evict.specs.EvictRule.{EvictRule}
 

@@ -1,4 +1,4 @@
-use Rattle.std.proofs.Common.{◌≡◌, ℕ, ◌+◌, ◌<◌, ◌^◌, List, ◌++◌, length, get_or, All, Some, sym, ap, ◌∙◌, subst, arith}
+use Rattle.std.proofs.Common.{◌≡◌, ℕ, ◌+◌, ◌<◌, ◌^◌, List, length, get_or, All, Some, sym, ap, ◌∙◌, subst, arith}
 use Rattle.cb_span.specs.Contents.{Contents}
 use Rattle.cb_types.specs.declared.config.Config.{Config}
 use Rattle.cb_types.specs.declared.config.Field.TheVariants.{K}
@@ -8,16 +8,15 @@ use Rattle.cb_world.specs.declared.event.Event.{Event}
 use Rattle.cb_world.specs.declared.leaving.Former.{Former}
 use Rattle.cb_world.specs.declared.shown.Shown.{Shown}
 use Rattle.cb_world.specs.Played.{played}
-use Rattle.cb_world.specs.Allowed.{Allowed}
 use Rattle.cb_world.specs.FarState.{FarState, span_in}
-use Rattle.cb_world.proofs.Laws.{allowed_append}
+use Rattle.cb_evict.specs.Claiming.{GivesBack}
 use Rattle.cb_evict.specs.Claims.{AreApart, IsHeldAt}
 use Rattle.cb_evict.specs.Evicting.{IsReady}
 use Rattle.cb_evict.specs.Loading.{LiesInOne}
-use Rattle.cb_evict.proofs.BeginEnd.{begins, starts, reads_in, batch_then, loads_as, parities_as, backs_as, blank_count}
-use Rattle.cb_evict.proofs.Events.{are_reads, first_append}
-use Rattle.cb_evict.proofs.Ending.{taken_ready, place_in, handles_all, code_range, IsEnd, end_quiet, taken_in, spans_touched, frames_below}
-use Rattle.cb_evict.proofs.Restored.{batch_back}
+use Rattle.cb_evict.proofs.BeginEnd.{starts, reads_in, batch_then, loads_as, parities_as, blank_count}
+use Rattle.cb_evict.proofs.Events.{are_reads}
+use Rattle.cb_evict.proofs.Ending.{are_read, taken_ready, place_in, handles_all, code_range, frames_below}
+use Rattle.cb_evict.proofs.Restored.{gives_back_ends}
 use Rattle.cb_evict.proofs.beginning.begin_claimed.Goals as goal
 
 pub load_frames-requires-clause-count : goal.load_frames-requires-clause-count
@@ -118,10 +117,10 @@ returns-in-Ok-clause-begun g c =
     c.in-Ok.parities c.args.blank.now c.args.shards.items c.deref-2.ensures.value c.in-Ok.ensures.state
     c.note_batch-set.ensures.state c.requires.blank c.requires.shards in
     let all = λ (before : List Event) (s : Shown) (r : IsReady shows far formers before s).
-    starts config far c.note_batch-set.new.far frames formers c.load_frames.new.rows c.in-Ok.parities before x.events s
-    (begins config far frames formers c.load_frames.new.rows c.in-Ok.parities shows before s
-    c.requires.config c.requires.none r c.requires.taken made
-    (c.load_frames.ensures.count ∙ c.requires.rows.0) x.made)
+    starts config far c.note_batch-set.new.far frames formers c.in-Ok.parities before x.events s
+    (are_read config far frames formers c.load_frames.new.rows c.in-Ok.parities shows before s
+    c.requires.config r c.requires.taken made (c.load_frames.ensures.count ∙ c.requires.rows.0) x.made).0
+    c.requires.none
     reads is r.steady r.touches in
     record {
       events = x.events;
@@ -130,42 +129,25 @@ returns-in-Ok-clause-begun g c =
       quiet = reads.quiet;
       first = reads.first;
       allowed = λ before s r. (reads.steady (played before s)).allowed;
-      begun = λ before s r. (all before s r).begun;
+      rule = λ before s r. (all before s r).begun;
       sound = λ before s r. (all before s r).sound;
       effect = λ before s r. (all before s r).effect;
     }
 
 pub returns-in-Err-clause-error : goal.returns-in-Err-clause-error
 returns-in-Err-clause-error g c =
-    let far = c.args.far.now in let frames = c.args.frames.items in let formers = c.args.formers.items in
+    let far = c.args.far.now in let frames = c.args.frames.items in
     let x = loads_as _ _ _ frames _ c.deref.ensures.value c.load_frames.ensures.loads in
-    let y = backs_as _ _ _ formers c.deref-in-Err.ensures.value c.give_back.ensures in
     let reads = are_reads (LiesInOne frames) x.events x.loads in
-    let end : IsEnd (LiesInOne frames) formers x.events y.events =
-    record { reads = reads; touches = y.touches; quiet = y.quiet } in
-    let shows = λ (t : Shown). g.D.Desk.shows c.args.desk.now t in
-    let back = λ (before : List Event) (s : Shown) (r : IsReady shows far formers before s).
-    y.back (played before s) far
-    (subst (λ (v : Shown). g.D.Desk.shows c.load_frames.new.desk v) (reads.stays (played before s))
-    (g.met.D.Desk.follows _ _ x.events (played before s) x.ran r.shown).1)
-    r.here (λ k d l. (r.claimed.taken k d l).at) in
-    let all = λ (before : List Event) (s : Shown) (r : IsReady shows far formers before s).
-    let b = back before s r in
-    batch_back far formers (LiesInOne frames) _ _ before x.events y.events s r.sound r.claimed
-    r.steady end b.0 b.1 b.2
-    (spans_touched _ far frames formers (LiesInOne frames) before x.events y.events s c.requires.taken
-    r.touches end) in
-    record {
-      events = x.events ++ y.events;
-      ran = g.met.D.Desk.more _ _ _ _ _ x.ran y.ran;
-      touches = taken_in _ far frames formers x.events y.events c.requires.taken end;
-      quiet = end_quiet (LiesInOne frames) formers x.events y.events end;
-      first = first_append (λ h. ⊥) (LiesInOne frames) x.events y.events reads.touches reads.first
-          y.first (λ h e. absurd e);
-      allowed = λ before s r. allowed_append x.events y.events (played before s)
-          (reads.steady (played before s)).allowed
-          (subst (λ (v : Shown). Allowed v y.events) (sym (reads.stays (played before s)))
-          (back before s r).2.allowed);
-      sound = λ before s r. (all before s r).1;
-      left = λ before s r. (all before s r).0;
-    }
+    gives_back_ends far frames c.args.formers.items
+    (λ es. g.D.Desk.run c.args.desk.now es c.load_frames.new.desk)
+    (λ es. g.D.Desk.run c.load_frames.new.desk es c.give_back.new.desk)
+    (λ es. g.D.Desk.run c.args.desk.now es c.give_back.new.desk)
+    (λ t. g.D.Desk.shows c.args.desk.now t) (λ t. g.D.Desk.shows c.load_frames.new.desk t) x.events
+    c.requires.taken.among c.requires.taken.of.only reads x.ran
+    (subst (λ (l : List Former). GivesBack
+    (λ es. g.D.Desk.run c.load_frames.new.desk es c.give_back.new.desk)
+    (λ s. g.D.Desk.shows c.load_frames.new.desk s) l) c.deref-in-Err.ensures.value c.give_back.ensures)
+    (λ es fs a b. g.met.D.Desk.more _ _ _ _ _ a b)
+    (λ before s r. subst (λ (v : Shown). g.D.Desk.shows c.load_frames.new.desk v)
+    (reads.stays (played before s)) (g.met.D.Desk.follows _ _ x.events (played before s) x.ran r.shown).1)

@@ -13,7 +13,7 @@ use Rattle.cb_world.specs.World.{IsConfigured}
 use Rattle.cb_world.specs.Still.{IsStill}
 use Rattle.cb_evict.specs.BeginRule.{blank_shards}
 use Rattle.cb_evict.proofs.BeginParts.{refuses_after, spans_refusal, begins_as, claims_begin, no_names}
-use Rattle.cb_evict.proofs.Composed.{if_ok, on_err, any_err, both_err, rows_made, nothing_done, are_ready, are_taken, taken_as, claims_fail}
+use Rattle.cb_evict.proofs.Composed.{taken_enough, if_ok, on_err, any_err, both_err, rows_made, nothing_done, are_ready, are_taken, taken_as, claims_fail}
 use Rattle.cb_evict.proofs.beginning.begin_loose.Goals as goal
 
 pub returns-in-TooFew-clause-begun : goal.returns-in-TooFew-clause-begun
@@ -43,27 +43,21 @@ returns-in_err-taken-clause-error g c = any_err _ _ (nothing_done c.args.far.now
 
 pub begin_claimed-requires-clause-config : goal.begin_claimed-requires-clause-config
 begin_claimed-requires-clause-config g c =
-    let taken = subst (Takes (λ es. g.D.Desk.run c.args.desk.now es c.take_spans.new.desk)
-    (λ s. g.D.Desk.shows c.args.desk.now s) c.args.config c.args.far.now c.args.loose.now)
-    c.in-Enough.is c.in_ok-taken.ensures.taken in
+    let taken = taken_enough _ _ _ _ _ _ _ _ c.in-Enough.is c.in_ok-taken.ensures.taken in
     let x = taken.claims in
     let stays = g.met.D.Desk.stays _ _ x.events x.ran in
     subst IsAccepted (c.requires.config.1 ∙ sym stays) c.requires.config.0
 
 pub begin_claimed-requires-clause-configured : goal.begin_claimed-requires-clause-configured
 begin_claimed-requires-clause-configured g c =
-    let taken = subst (Takes (λ es. g.D.Desk.run c.args.desk.now es c.take_spans.new.desk)
-    (λ s. g.D.Desk.shows c.args.desk.now s) c.args.config c.args.far.now c.args.loose.now)
-    c.in-Enough.is c.in_ok-taken.ensures.taken in
+    let taken = taken_enough _ _ _ _ _ _ _ _ c.in-Enough.is c.in_ok-taken.ensures.taken in
     let x = taken.claims in
     let stays = g.met.D.Desk.stays _ _ x.events x.ran in
     subst (λ (n : Config). IsConfigured n c.args.far.now) (c.requires.config.1 ∙ sym stays) c.requires.configured
 
 pub begin_claimed-requires-clause-taken : goal.begin_claimed-requires-clause-taken
 begin_claimed-requires-clause-taken g c =
-    let taken = subst (Takes (λ es. g.D.Desk.run c.args.desk.now es c.take_spans.new.desk)
-    (λ s. g.D.Desk.shows c.args.desk.now s) c.args.config c.args.far.now c.args.loose.now)
-    c.in-Enough.is c.in_ok-taken.ensures.taken in
+    let taken = taken_enough _ _ _ _ _ _ _ _ c.in-Enough.is c.in_ok-taken.ensures.taken in
     let x = taken.claims in
     let stays = g.met.D.Desk.stays _ _ x.events x.ran in
     taken_as c.args.config _ c.args.far.now _ _ _ _ (c.requires.config.1 ∙ sym stays) refl refl
@@ -73,9 +67,7 @@ begin_claimed-requires-clause-taken g c =
 
 pub begin_claimed-requires-clause-blank : goal.begin_claimed-requires-clause-blank
 begin_claimed-requires-clause-blank g c =
-    let taken = subst (Takes (λ es. g.D.Desk.run c.args.desk.now es c.take_spans.new.desk)
-    (λ s. g.D.Desk.shows c.args.desk.now s) c.args.config c.args.far.now c.args.loose.now)
-    c.in-Enough.is c.in_ok-taken.ensures.taken in
+    let taken = taken_enough _ _ _ _ _ _ _ _ c.in-Enough.is c.in_ok-taken.ensures.taken in
     let x = taken.claims in
     let stays = g.met.D.Desk.stays _ _ x.events x.ran in
     c.deref.ensures.value ∙ c.in_ok-room.ensures.blank
@@ -83,9 +75,7 @@ begin_claimed-requires-clause-blank g c =
 
 pub begin_claimed-requires-clause-shards : goal.begin_claimed-requires-clause-shards
 begin_claimed-requires-clause-shards g c =
-    let taken = subst (Takes (λ es. g.D.Desk.run c.args.desk.now es c.take_spans.new.desk)
-    (λ s. g.D.Desk.shows c.args.desk.now s) c.args.config c.args.far.now c.args.loose.now)
-    c.in-Enough.is c.in_ok-taken.ensures.taken in
+    let taken = taken_enough _ _ _ _ _ _ _ _ c.in-Enough.is c.in_ok-taken.ensures.taken in
     let x = taken.claims in
     let stays = g.met.D.Desk.stays _ _ x.events x.ran in
     c.in_ok-room.ensures.shards
@@ -93,9 +83,7 @@ begin_claimed-requires-clause-shards g c =
 
 pub begin_claimed-requires-clause-rows : goal.begin_claimed-requires-clause-rows
 begin_claimed-requires-clause-rows g c =
-    let taken = subst (Takes (λ es. g.D.Desk.run c.args.desk.now es c.take_spans.new.desk)
-    (λ s. g.D.Desk.shows c.args.desk.now s) c.args.config c.args.far.now c.args.loose.now)
-    c.in-Enough.is c.in_ok-taken.ensures.taken in
+    let taken = taken_enough _ _ _ _ _ _ _ _ c.in-Enough.is c.in_ok-taken.ensures.taken in
     let x = taken.claims in
     rows_made c.in_ok-room.room.rows c.args.config.k (length c.in-Enough.frames.items)
     c.in_ok-room.ensures.rows
@@ -103,9 +91,7 @@ begin_claimed-requires-clause-rows g c =
 
 pub begin_claimed-requires-clause-ready : goal.begin_claimed-requires-clause-ready
 begin_claimed-requires-clause-ready g c =
-    let taken = subst (Takes (λ es. g.D.Desk.run c.args.desk.now es c.take_spans.new.desk)
-    (λ s. g.D.Desk.shows c.args.desk.now s) c.args.config c.args.far.now c.args.loose.now)
-    c.in-Enough.is c.in_ok-taken.ensures.taken in
+    let taken = taken_enough _ _ _ _ _ _ _ _ c.in-Enough.is c.in_ok-taken.ensures.taken in
     let x = taken.claims in let s = c.requires.sound.0 in (
       x.events,
       s,
@@ -119,9 +105,7 @@ begin_claimed-requires-clause-ready g c =
 
 pub returns-in-Enough-clause-begun : goal.returns-in-Enough-clause-begun
 returns-in-Enough-clause-begun g c =
-    let taken = subst (Takes (λ es. g.D.Desk.run c.args.desk.now es c.take_spans.new.desk)
-    (λ s. g.D.Desk.shows c.args.desk.now s) c.args.config c.args.far.now c.args.loose.now)
-    c.in-Enough.is c.in_ok-taken.ensures.taken in
+    let taken = taken_enough _ _ _ _ _ _ _ _ c.in-Enough.is c.in_ok-taken.ensures.taken in
     let x = taken.claims in
     let stays = g.met.D.Desk.stays _ _ x.events x.ran in
     if_ok _ _ _ c.begin_claimed.result c.begin_claimed.ensures.reply c.begin_claimed.ensures.begun
@@ -142,9 +126,7 @@ returns-in-Enough-clause-begun g c =
 
 pub returns-in-Enough-clause-error : goal.returns-in-Enough-clause-error
 returns-in-Enough-clause-error g c =
-    let taken = subst (Takes (λ es. g.D.Desk.run c.args.desk.now es c.take_spans.new.desk)
-    (λ s. g.D.Desk.shows c.args.desk.now s) c.args.config c.args.far.now c.args.loose.now)
-    c.in-Enough.is c.in_ok-taken.ensures.taken in
+    let taken = taken_enough _ _ _ _ _ _ _ _ c.in-Enough.is c.in_ok-taken.ensures.taken in
     let x = taken.claims in
     on_err _ _ c.begin_claimed.result
     (both_err _ _ c.begin_claimed.result c.begin_claimed.ensures.error c.begin_claimed.ensures.unchanged)

@@ -16,7 +16,7 @@ use Rattle.cb_evict.specs.declared.eviction.Eviction.TheVariants.{Refused}
 use Rattle.cb_evict.specs.Finding.{Finds}
 use Rattle.cb_world.specs.World.{IsConfigured}
 use Rattle.cb_world.specs.Still.{IsStill}
-use Rattle.cb_evict.proofs.Composed.{if_map, on_err, any_err, both_err, nothing_done, loose_apart, looks_fail}
+use Rattle.cb_evict.proofs.Composed.{found_loose, if_map, on_err, any_err, both_err, nothing_done, loose_apart, looks_fail}
 use Rattle.cb_evict.proofs.Loose.{loose_among}
 use Rattle.cb_evict.proofs.Ending.{place_in}
 use Rattle.cb_evict.proofs.Restored.{looked}
@@ -47,8 +47,7 @@ find_spans-requires-clause-configured g c =
 
 pub begin_loose-requires-clause-config : goal.begin_loose-requires-clause-config
 begin_loose-requires-clause-config g c =
-    let found = subst (Finds (λ es. g.D.Desk.run c.args.desk.now es c.find_spans.new.desk)
-    c.config-config.result c.args.far.now) c.in-Loose.is c.in_ok-found.ensures.found in
+    let found = found_loose _ _ _ _ _ _ c.in-Loose.is c.in_ok-found.ensures.found in
     let x = found.looks in let stays = g.met.D.Desk.stays _ _ x.events x.ran in
     (subst IsAccepted (sym c.config-config.ensures) c.requires.config, c.config-config.ensures ∙ sym stays)
 
@@ -58,8 +57,7 @@ begin_loose-requires-clause-configured g c =
 
 pub begin_loose-requires-clause-sound : goal.begin_loose-requires-clause-sound
 begin_loose-requires-clause-sound g c =
-    let found = subst (Finds (λ es. g.D.Desk.run c.args.desk.now es c.find_spans.new.desk)
-    c.config-config.result c.args.far.now) c.in-Loose.is c.in_ok-found.ensures.found in
+    let found = found_loose _ _ _ _ _ _ c.in-Loose.is c.in_ok-found.ensures.found in
     let x = found.looks in let s = c.requires.sound.0 in (
       played x.events s,
       (g.met.D.Desk.follows _ _ x.events s x.ran c.requires.sound.1).1,
@@ -68,8 +66,7 @@ begin_loose-requires-clause-sound g c =
 
 pub begin_loose-requires-clause-among : goal.begin_loose-requires-clause-among
 begin_loose-requires-clause-among g c =
-    let found = subst (Finds (λ es. g.D.Desk.run c.args.desk.now es c.find_spans.new.desk)
-    c.config-config.result c.args.far.now) c.in-Loose.is c.in_ok-found.ensures.found in
+    let found = found_loose _ _ _ _ _ _ c.in-Loose.is c.in_ok-found.ensures.found in
     let x = found.looks in
     subst (λ (l : List ℕ). All (Contains (candidates c.args.far.now)) l) (sym c.deref.ensures.value)
     (λ k d l. loose_among x.events c.args.far.now.spans (candidates c.args.far.now)
@@ -77,8 +74,7 @@ begin_loose-requires-clause-among g c =
 
 pub begin_loose-requires-clause-apart : goal.begin_loose-requires-clause-apart
 begin_loose-requires-clause-apart g c =
-    let found = subst (Finds (λ es. g.D.Desk.run c.args.desk.now es c.find_spans.new.desk)
-    c.config-config.result c.args.far.now) c.in-Loose.is c.in_ok-found.ensures.found in
+    let found = found_loose _ _ _ _ _ _ c.in-Loose.is c.in_ok-found.ensures.found in
     let x = found.looks in
     subst (λ (l : List ℕ). AllPairs (λ f h. f ≢ h) l) (sym c.deref.ensures.value)
     (loose_apart x.events c.args.far.now (candidates c.args.far.now) c.in-Loose.frames.items
@@ -87,20 +83,17 @@ begin_loose-requires-clause-apart g c =
 pub begin_loose-requires-clause-enough : goal.begin_loose-requires-clause-enough
 begin_loose-requires-clause-enough g c =
     let same = ap (λ (l : List ℕ). length l) c.deref.ensures.value in
-    let found = subst (Finds (λ es. g.D.Desk.run c.args.desk.now es c.find_spans.new.desk)
-    c.config-config.result c.args.far.now) c.in-Loose.is c.in_ok-found.ensures.found in
+    let found = found_loose _ _ _ _ _ _ c.in-Loose.is c.in_ok-found.ensures.found in
     omega (arith, same, found.enough)
 
 pub begin_loose-requires-clause-room : goal.begin_loose-requires-clause-room
 begin_loose-requires-clause-room g c =
-    let found = subst (Finds (λ es. g.D.Desk.run c.args.desk.now es c.find_spans.new.desk)
-    c.config-config.result c.args.far.now) c.in-Loose.is c.in_ok-found.ensures.found in
+    let found = found_loose _ _ _ _ _ _ c.in-Loose.is c.in_ok-found.ensures.found in
     found.room
 
 pub returns-in-Loose-clause-begun : goal.returns-in-Loose-clause-begun
 returns-in-Loose-clause-begun g c =
-    let found = subst (Finds (λ es. g.D.Desk.run c.args.desk.now es c.find_spans.new.desk)
-    c.config-config.result c.args.far.now) c.in-Loose.is c.in_ok-found.ensures.found in
+    let found = found_loose _ _ _ _ _ _ c.in-Loose.is c.in_ok-found.ensures.found in
     let x = found.looks in
     if_map _ _ c.begin_loose.result c.begin_loose.ensures.begun (λ r y.
     looks_begin (g.D.Desk.settings c.args.desk.now) c.config-config.result c.args.far.now
@@ -120,8 +113,7 @@ returns-in-Loose-clause-begun g c =
 
 pub returns-in-Loose-clause-error : goal.returns-in-Loose-clause-error
 returns-in-Loose-clause-error g c =
-    let found = subst (Finds (λ es. g.D.Desk.run c.args.desk.now es c.find_spans.new.desk)
-    c.config-config.result c.args.far.now) c.in-Loose.is c.in_ok-found.ensures.found in
+    let found = found_loose _ _ _ _ _ _ c.in-Loose.is c.in_ok-found.ensures.found in
     let x = found.looks in
     on_err _ _ c.begin_loose.result
     (both_err _ _ c.begin_loose.result c.begin_loose.ensures.error c.begin_loose.ensures.unchanged)

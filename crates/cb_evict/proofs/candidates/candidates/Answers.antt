@@ -1,5 +1,4 @@
-use Rattle.std.proofs.Common.{ap, ◌∙◌, subst}
-use Rattle.cb_world.specs.FarState.{FarState}
+use Rattle.std.proofs.Common.{ap, ◌∙◌}
 use Rattle.cb_evict.specs.Candidates.{candidates}
 use Rattle.cb_evict.proofs.Framing.{gathered}
 use Rattle.cb_evict.proofs.candidates.candidates.Goals as goal

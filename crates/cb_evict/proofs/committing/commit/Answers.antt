@@ -12,8 +12,9 @@ use Rattle.cb_evict.specs.Sending.{IsTold, Sends}
 use Rattle.cb_evict.specs.Waiting.{waiting}
 use Rattle.cb_evict.proofs.BatchReady.{put_at_members, few_shards, has_places, frames_held, frames_within, frames_busy, frames_apart, few_frames, spans_unique, told_all}
 use Rattle.cb_evict.proofs.Commits.{not_committed, short_of_rows, some_items, no_items, committed_state, all_put, commits}
-use Rattle.cb_evict.proofs.Noted.{claimed_all, noted_apart, same_batch}
+use Rattle.cb_evict.proofs.Noted.{claimed_all, noted_apart}
 use Rattle.cb_evict.proofs.committing.commit.Goals as goal
+use Rattle.cb_evict.proofs.Options.{some_same}
 
 pub waiting_in-requires : goal.waiting_in-requires
 waiting_in-requires g c = let had = c.requires.sound in record {
@@ -87,7 +88,7 @@ keep_batch-requires-clause-whole g c =
     let none = no_items c.as_slice.result.now (sym c.is_empty.ensures ∙ c.if-not-is_empty.false) in
     all_put c.args.far.now c.unwrap-batch.result
     (ap (λ (b : LeavingState). waiting c.args.far.now.members b.shards)
-    (sym (same_batch found.0 c.unwrap-batch.result (sym found.1 ∙ there)))
+    (sym (some_same found.0 c.unwrap-batch.result (sym found.1 ∙ there)))
     ∙ sym found.2 ∙ sym c.as_slice.ensures.items ∙ none)
 
 pub keep_batch-requires-clause-numbered : goal.keep_batch-requires-clause-numbered
@@ -157,7 +158,7 @@ returns-clause-commit g c =
     (λ s. g.D.Desk.shows c.args.desk.now s) c.args.far.now c.keep_batch.new.far c.unwrap-batch.result c.batch.inside.set
     (ap (λ (b : LeavingState). b.set) c.batch.view_is) there
     (ap (λ (b : LeavingState). waiting c.args.far.now.members b.shards)
-    (sym (same_batch found.0 c.unwrap-batch.result (sym found.1 ∙ there)))
+    (sym (some_same found.0 c.unwrap-batch.result (sym found.1 ∙ there)))
     ∙ sym found.2 ∙ sym c.as_slice.ensures.items ∙ none)
     (committed_state _ c.args.far.now c.keep_batch.new.far c.unwrap-batch.result c.take.new.self
     c.far.view_is c.take.ensures.after (had.2.noted c.unwrap-batch.result there).reserved

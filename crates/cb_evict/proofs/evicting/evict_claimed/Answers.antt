@@ -13,9 +13,9 @@ use Rattle.cb_evict.specs.Evicting.{IsReady}
 use Rattle.cb_evict.specs.Loading.{LiesInOne}
 use Rattle.cb_evict.proofs.Events.{are_reads, first_append}
 use Rattle.cb_evict.proofs.Evicts.{told_all}
-use Rattle.cb_evict.proofs.Ending.{taken_ready, place_in, handles_all, code_range, done, IsEnd, end_quiet, ended, state_then, homes_then, taken_in, spans_touched, frames_below}
+use Rattle.cb_evict.proofs.Ending.{taken_ready, place_in, handles_all, are_read, code_range, kept_parities, IsEnd, end_quiet, ended, state_then, homes_then, end_in, spans_touched, frames_below}
 use Rattle.cb_evict.proofs.NewSet.{can_put, have_room}
-use Rattle.cb_evict.proofs.Restored.{batch_back}
+use Rattle.cb_evict.proofs.Restored.{gives_back_ends}
 use Rattle.cb_evict.proofs.Standing.{are_unique}
 use Rattle.cb_evict.proofs.evicting.evict_claimed.Goals as goal
 
@@ -162,20 +162,27 @@ returns-in-Ok-clause-evict g c =
     let sized = g.met.D.Desk.sized _ (played before s) r.shown in
     told_all far before s (played before s) formers r.claimed r.here (sized.1 ∙ sym sized.0) in
     let all = λ (before : List Event) (s : Shown) (r : IsReady shows far formers before s).
-    ended (g.D.Desk.settings c.args.desk.now) far c.close_spans.new.far frames formers c.args.shards.now _
-    c.close_spans.new.far.homes (LiesInOne frames) _ _ before x.events y.events s
-    (done (g.D.Desk.settings c.args.desk.now) far c.keep_set.new.far frames formers c.args.shards.now
-    c.load_frames.new.rows c.close_spans.new.far.homes shows before s _ c.requires.config r
-    c.requires.taken (y.sent (played before s) (shown before s r) (told before s r)) c.requires.shards
-    kept (search rules) x.made homed)
+    let read = are_read (g.D.Desk.settings c.args.desk.now) far frames formers c.load_frames.new.rows
+    kept.parities shows before s c.requires.config r c.requires.taken
+    (kept_parities c.args.shards.now frames _ c.load_frames.new.rows c.requires.shards.count kept)
+    (search rules) x.made in
+    ended (g.D.Desk.settings c.args.desk.now) far c.close_spans.new.far frames formers c.args.shards.now
+    c.load_frames.new.rows kept.parities c.close_spans.new.far.homes (LiesInOne frames) _ _ before
+    x.events y.events s
+    (record {
+      read = read.0;
+      sent = y.sent (played before s) (shown before s r) (told before s r);
+      chosen = c.requires.shards;
+      homed = homed;
+    }) read.1
     end is r.steady
-    (spans_touched _ far frames formers (LiesInOne frames) before x.events y.events s c.requires.taken
-    r.touches end)
+    (spans_touched far frames before (x.events ++ y.events) c.requires.taken.among r.touches
+    (end_in far frames formers x.events y.events c.requires.taken.of.only end))
     (y.nothing (played before s) (shown before s r) (told before s r)) in
     record {
       events = x.events ++ y.events;
       ran = g.met.D.Desk.more _ _ _ _ _ x.ran y.ran;
-      touches = taken_in _ far frames formers x.events y.events c.requires.taken end;
+      touches = end_in far frames formers x.events y.events c.requires.taken.of.only end;
       quiet = end_quiet (LiesInOne frames) formers x.events y.events end;
       first = first_append (λ h. ⊥) (LiesInOne frames) x.events y.events reads.touches reads.first
           y.first (λ h e. absurd e);
@@ -183,41 +190,22 @@ returns-in-Ok-clause-evict g c =
           (reads.steady (played before s)).allowed
           (subst (λ (v : Shown). Allowed v y.events) (sym (reads.stays (played before s)))
           (y.allowed (played before s) (shown before s r) (told before s r)));
-      evicted = λ before s r. (all before s r).evicted;
+      rule = λ before s r. (all before s r).evicted;
       sound = λ before s r. (all before s r).sound;
       effect = λ before s r. (all before s r).effect;
     }
 
 pub returns-in-Err-clause-error : goal.returns-in-Err-clause-error
 returns-in-Err-clause-error g c =
-    let x = c.load_frames.ensures.loads in let y = c.give_back.ensures in
-    let far = c.args.far.now in let frames = c.args.frames.now in let formers = c.args.formers.now in
+    let x = c.load_frames.ensures.loads in
+    let far = c.args.far.now in let frames = c.args.frames.now in
     let reads = are_reads (LiesInOne frames) x.events x.loads in
-    let end : IsEnd (LiesInOne frames) formers x.events y.events =
-    record { reads = reads; touches = y.touches; quiet = y.quiet } in
-    let shows = λ (t : Shown). g.D.Desk.shows c.args.desk.now t in
-    let back = λ (before : List Event) (s : Shown) (r : IsReady shows far formers before s).
-    y.back (played before s) far
-    (subst (λ (v : Shown). g.D.Desk.shows c.load_frames.new.desk v) (reads.stays (played before s))
-    (g.met.D.Desk.follows _ _ x.events (played before s) x.ran r.shown).1)
-    r.here (λ k d l. (r.claimed.taken k d l).at) in
-    let all = λ (before : List Event) (s : Shown) (r : IsReady shows far formers before s).
-    let b = back before s r in
-    batch_back far formers (LiesInOne frames) _ _ before x.events y.events s r.sound r.claimed
-    r.steady end b.0 b.1 b.2
-    (spans_touched _ far frames formers (LiesInOne frames) before x.events y.events s c.requires.taken
-    r.touches end) in
-    record {
-      events = x.events ++ y.events;
-      ran = g.met.D.Desk.more _ _ _ _ _ x.ran y.ran;
-      touches = taken_in _ far frames formers x.events y.events c.requires.taken end;
-      quiet = end_quiet (LiesInOne frames) formers x.events y.events end;
-      first = first_append (λ h. ⊥) (LiesInOne frames) x.events y.events reads.touches reads.first
-          y.first (λ h e. absurd e);
-      allowed = λ before s r. allowed_append x.events y.events (played before s)
-          (reads.steady (played before s)).allowed
-          (subst (λ (v : Shown). Allowed v y.events) (sym (reads.stays (played before s)))
-          (back before s r).2.allowed);
-      sound = λ before s r. (all before s r).1;
-      left = λ before s r. (all before s r).0;
-    }
+    gives_back_ends far frames c.args.formers.now
+    (λ es. g.D.Desk.run c.args.desk.now es c.load_frames.new.desk)
+    (λ es. g.D.Desk.run c.load_frames.new.desk es c.give_back.new.desk)
+    (λ es. g.D.Desk.run c.args.desk.now es c.give_back.new.desk)
+    (λ t. g.D.Desk.shows c.args.desk.now t) (λ t. g.D.Desk.shows c.load_frames.new.desk t) x.events
+    c.requires.taken.among c.requires.taken.of.only reads x.ran c.give_back.ensures
+    (λ es fs a b. g.met.D.Desk.more _ _ _ _ _ a b)
+    (λ before s r. subst (λ (v : Shown). g.D.Desk.shows c.load_frames.new.desk v)
+    (reads.stays (played before s)) (g.met.D.Desk.follows _ _ x.events (played before s) x.ran r.shown).1)

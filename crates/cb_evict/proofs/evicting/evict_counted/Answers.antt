@@ -18,7 +18,7 @@ use Rattle.cb_evict.specs.Finding.{Finds}
 use Rattle.cb_world.specs.World.{IsConfigured}
 use Rattle.cb_world.specs.Still.{IsStill}
 use Rattle.cb_evict.specs.Storing.{AreShards}
-use Rattle.cb_evict.proofs.Composed.{if_map, on_err, any_err, both_err, nothing_done, loose_apart, looks_then, looks_fail, looks_alone, finds_few}
+use Rattle.cb_evict.proofs.Composed.{found_loose, if_map, on_err, any_err, both_err, nothing_done, loose_apart, looks_then, looks_fail, looks_alone, finds_few}
 use Rattle.cb_evict.proofs.Loose.{loose_among}
 use Rattle.cb_evict.proofs.Ending.{place_in}
 use Rattle.cb_evict.proofs.Restored.{looked}
@@ -63,8 +63,7 @@ choose_shards-requires-clause-few g c =
 
 pub choose_shards-requires-clause-room : goal.choose_shards-requires-clause-room
 choose_shards-requires-clause-room g c =
-    let found = subst (Finds (λ es. g.D.Desk.run c.args.desk.now es c.find_spans.new.desk)
-    c.config-config.result c.args.far.now) c.in-Loose.is c.in_ok-found.ensures.found in
+    let found = found_loose _ _ _ _ _ _ c.in-Loose.is c.in_ok-found.ensures.found in
     found.room
 
 pub choose_shards-requires-clause-keys : goal.choose_shards-requires-clause-keys
@@ -76,8 +75,7 @@ choose_shards-requires-clause-keys g c =
 
 pub returns-in_err-shards-in-Loose-clause-error : goal.returns-in_err-shards-in-Loose-clause-error
 returns-in_err-shards-in-Loose-clause-error g c =
-    let found = subst (Finds (λ es. g.D.Desk.run c.args.desk.now es c.find_spans.new.desk)
-    c.config-config.result c.args.far.now) c.in-Loose.is c.in_ok-found.ensures.found in
+    let found = found_loose _ _ _ _ _ _ c.in-Loose.is c.in_ok-found.ensures.found in
     any_err _ _
     (looks_alone c.args.far.now c.in-Loose.frames.items
     (λ es. g.D.Desk.run c.args.desk.now es c.find_spans.new.desk)
@@ -85,8 +83,7 @@ returns-in_err-shards-in-Loose-clause-error g c =
 
 pub evict_loose-requires-clause-config : goal.evict_loose-requires-clause-config
 evict_loose-requires-clause-config g c =
-    let found = subst (Finds (λ es. g.D.Desk.run c.args.desk.now es c.find_spans.new.desk)
-    c.config-config.result c.args.far.now) c.in-Loose.is c.in_ok-found.ensures.found in
+    let found = found_loose _ _ _ _ _ _ c.in-Loose.is c.in_ok-found.ensures.found in
     let x = found.looks in let stays = g.met.D.Desk.stays _ _ x.events x.ran in
     (subst IsAccepted (sym c.config-config.ensures) c.requires.config, c.config-config.ensures ∙ sym stays)
 
@@ -96,8 +93,7 @@ evict_loose-requires-clause-configured g c =
 
 pub evict_loose-requires-clause-sound : goal.evict_loose-requires-clause-sound
 evict_loose-requires-clause-sound g c =
-    let found = subst (Finds (λ es. g.D.Desk.run c.args.desk.now es c.find_spans.new.desk)
-    c.config-config.result c.args.far.now) c.in-Loose.is c.in_ok-found.ensures.found in
+    let found = found_loose _ _ _ _ _ _ c.in-Loose.is c.in_ok-found.ensures.found in
     let x = found.looks in let s = c.requires.sound.0 in (
       played x.events s,
       (g.met.D.Desk.follows _ _ x.events s x.ran c.requires.sound.1).1,
@@ -106,8 +102,7 @@ evict_loose-requires-clause-sound g c =
 
 pub evict_loose-requires-clause-among : goal.evict_loose-requires-clause-among
 evict_loose-requires-clause-among g c =
-    let found = subst (Finds (λ es. g.D.Desk.run c.args.desk.now es c.find_spans.new.desk)
-    c.config-config.result c.args.far.now) c.in-Loose.is c.in_ok-found.ensures.found in
+    let found = found_loose _ _ _ _ _ _ c.in-Loose.is c.in_ok-found.ensures.found in
     let x = found.looks in
     subst (λ (l : List ℕ). All (Contains (candidates c.args.far.now)) l) (sym c.deref.ensures.value)
     (λ k d l. loose_among x.events c.args.far.now.spans (candidates c.args.far.now)
@@ -115,8 +110,7 @@ evict_loose-requires-clause-among g c =
 
 pub evict_loose-requires-clause-apart : goal.evict_loose-requires-clause-apart
 evict_loose-requires-clause-apart g c =
-    let found = subst (Finds (λ es. g.D.Desk.run c.args.desk.now es c.find_spans.new.desk)
-    c.config-config.result c.args.far.now) c.in-Loose.is c.in_ok-found.ensures.found in
+    let found = found_loose _ _ _ _ _ _ c.in-Loose.is c.in_ok-found.ensures.found in
     let x = found.looks in
     subst (λ (l : List ℕ). AllPairs (λ f h. f ≢ h) l) (sym c.deref.ensures.value)
     (loose_apart x.events c.args.far.now (candidates c.args.far.now) c.in-Loose.frames.items
@@ -125,14 +119,12 @@ evict_loose-requires-clause-apart g c =
 pub evict_loose-requires-clause-enough : goal.evict_loose-requires-clause-enough
 evict_loose-requires-clause-enough g c =
     let same = ap (λ (l : List ℕ). length l) c.deref.ensures.value in
-    let found = subst (Finds (λ es. g.D.Desk.run c.args.desk.now es c.find_spans.new.desk)
-    c.config-config.result c.args.far.now) c.in-Loose.is c.in_ok-found.ensures.found in
+    let found = found_loose _ _ _ _ _ _ c.in-Loose.is c.in_ok-found.ensures.found in
     omega (arith, same, found.enough)
 
 pub evict_loose-requires-clause-room : goal.evict_loose-requires-clause-room
 evict_loose-requires-clause-room g c =
-    let found = subst (Finds (λ es. g.D.Desk.run c.args.desk.now es c.find_spans.new.desk)
-    c.config-config.result c.args.far.now) c.in-Loose.is c.in_ok-found.ensures.found in
+    let found = found_loose _ _ _ _ _ _ c.in-Loose.is c.in_ok-found.ensures.found in
     found.room
 
 pub evict_loose-requires-clause-shards : goal.evict_loose-requires-clause-shards
@@ -143,8 +135,7 @@ evict_loose-requires-clause-shards g c =
 
 pub returns-in_ok-shards-in-Loose-clause-evict : goal.returns-in_ok-shards-in-Loose-clause-evict
 returns-in_ok-shards-in-Loose-clause-evict g c =
-    let found = subst (Finds (λ es. g.D.Desk.run c.args.desk.now es c.find_spans.new.desk)
-    c.config-config.result c.args.far.now) c.in-Loose.is c.in_ok-found.ensures.found in
+    let found = found_loose _ _ _ _ _ _ c.in-Loose.is c.in_ok-found.ensures.found in
     let x = found.looks in
     if_map _ _ c.evict_loose.result c.evict_loose.ensures.evict (λ r y.
     looks_then (g.D.Desk.settings c.args.desk.now) c.config-config.result c.args.far.now
@@ -164,8 +155,7 @@ returns-in_ok-shards-in-Loose-clause-evict g c =
 
 pub returns-in_ok-shards-in-Loose-clause-error : goal.returns-in_ok-shards-in-Loose-clause-error
 returns-in_ok-shards-in-Loose-clause-error g c =
-    let found = subst (Finds (λ es. g.D.Desk.run c.args.desk.now es c.find_spans.new.desk)
-    c.config-config.result c.args.far.now) c.in-Loose.is c.in_ok-found.ensures.found in
+    let found = found_loose _ _ _ _ _ _ c.in-Loose.is c.in_ok-found.ensures.found in
     let x = found.looks in
     on_err _ _ c.evict_loose.result
     (both_err _ _ c.evict_loose.result c.evict_loose.ensures.error c.evict_loose.ensures.unchanged)
@@ -212,6 +202,5 @@ returns-in_ok-shards-in-Loose-clause-unchanged g c = c.evict_loose.ensures.uncha
 
 pub evict_loose-requires-clause-nodes : goal.evict_loose-requires-clause-nodes
 evict_loose-requires-clause-nodes g c =
-    let found = subst (Finds (λ es. g.D.Desk.run c.args.desk.now es c.find_spans.new.desk)
-    c.config-config.result c.args.far.now) c.in-Loose.is c.in_ok-found.ensures.found in
+    let found = found_loose _ _ _ _ _ _ c.in-Loose.is c.in_ok-found.ensures.found in
     found.nodes

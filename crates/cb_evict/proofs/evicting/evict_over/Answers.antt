@@ -17,7 +17,7 @@ use Rattle.cb_evict.specs.Taking.{Takes}
 use Rattle.cb_world.specs.World.{IsConfigured}
 use Rattle.cb_world.specs.Still.{IsStill}
 use Rattle.cb_evict.specs.Storing.{AreShards}
-use Rattle.cb_evict.proofs.Composed.{if_ok, on_err, any_err, both_err, nothing_done, are_ready, are_taken, taken_as, evicts_as, leaves_as, claims_then, claims_fail, rule_weaker, set_counted, spans_counted}
+use Rattle.cb_evict.proofs.Composed.{taken_enough, if_ok, on_err, any_err, both_err, nothing_done, are_ready, are_taken, taken_as, evicts_as, leaves_as, claims_then, claims_fail, rule_weaker, set_counted, spans_counted}
 use Rattle.cb_evict.proofs.evicting.evict_over.Goals as goal
 
 pub returns-in-TooFew-clause-evict : goal.returns-in-TooFew-clause-evict
@@ -41,27 +41,21 @@ returns-in_err-taken-clause-error g c = any_err _ _ (nothing_done c.args.far.now
 
 pub evict_claimed-requires-clause-config : goal.evict_claimed-requires-clause-config
 evict_claimed-requires-clause-config g c =
-    let taken = subst (Takes (λ es. g.D.Desk.run c.args.desk.now es c.take_spans.new.desk)
-    (λ s. g.D.Desk.shows c.args.desk.now s) c.args.config c.args.far.now c.args.loose.now)
-    c.in-Enough.is c.in_ok-taken.ensures.taken in
+    let taken = taken_enough _ _ _ _ _ _ _ _ c.in-Enough.is c.in_ok-taken.ensures.taken in
     let x = taken.claims in
     let stays = g.met.D.Desk.stays _ _ x.events x.ran in
     subst IsAccepted (c.requires.config.1 ∙ sym stays) c.requires.config.0
 
 pub evict_claimed-requires-clause-configured : goal.evict_claimed-requires-clause-configured
 evict_claimed-requires-clause-configured g c =
-    let taken = subst (Takes (λ es. g.D.Desk.run c.args.desk.now es c.take_spans.new.desk)
-    (λ s. g.D.Desk.shows c.args.desk.now s) c.args.config c.args.far.now c.args.loose.now)
-    c.in-Enough.is c.in_ok-taken.ensures.taken in
+    let taken = taken_enough _ _ _ _ _ _ _ _ c.in-Enough.is c.in_ok-taken.ensures.taken in
     let x = taken.claims in
     let stays = g.met.D.Desk.stays _ _ x.events x.ran in
     subst (λ (n : Config). IsConfigured n c.args.far.now) (c.requires.config.1 ∙ sym stays) c.requires.configured
 
 pub evict_claimed-requires-clause-taken : goal.evict_claimed-requires-clause-taken
 evict_claimed-requires-clause-taken g c =
-    let taken = subst (Takes (λ es. g.D.Desk.run c.args.desk.now es c.take_spans.new.desk)
-    (λ s. g.D.Desk.shows c.args.desk.now s) c.args.config c.args.far.now c.args.loose.now)
-    c.in-Enough.is c.in_ok-taken.ensures.taken in
+    let taken = taken_enough _ _ _ _ _ _ _ _ c.in-Enough.is c.in_ok-taken.ensures.taken in
     let x = taken.claims in
     let stays = g.met.D.Desk.stays _ _ x.events x.ran in
     taken_as c.args.config _ c.args.far.now _ _ _ _ (c.requires.config.1 ∙ sym stays)
@@ -72,9 +66,7 @@ evict_claimed-requires-clause-taken g c =
 
 pub evict_claimed-requires-clause-shards : goal.evict_claimed-requires-clause-shards
 evict_claimed-requires-clause-shards g c =
-    let taken = subst (Takes (λ es. g.D.Desk.run c.args.desk.now es c.take_spans.new.desk)
-    (λ s. g.D.Desk.shows c.args.desk.now s) c.args.config c.args.far.now c.args.loose.now)
-    c.in-Enough.is c.in_ok-taken.ensures.taken in
+    let taken = taken_enough _ _ _ _ _ _ _ _ c.in-Enough.is c.in_ok-taken.ensures.taken in
     let x = taken.claims in
     let stays = g.met.D.Desk.stays _ _ x.events x.ran in
     subst (λ (n : Config). AreShards c.args.far.now (n.k + n.r) c.args.shards.now)
@@ -82,9 +74,7 @@ evict_claimed-requires-clause-shards g c =
 
 pub evict_claimed-requires-clause-rows : goal.evict_claimed-requires-clause-rows
 evict_claimed-requires-clause-rows g c =
-    let taken = subst (Takes (λ es. g.D.Desk.run c.args.desk.now es c.take_spans.new.desk)
-    (λ s. g.D.Desk.shows c.args.desk.now s) c.args.config c.args.far.now c.args.loose.now)
-    c.in-Enough.is c.in_ok-taken.ensures.taken in
+    let taken = taken_enough _ _ _ _ _ _ _ _ c.in-Enough.is c.in_ok-taken.ensures.taken in
     let x = taken.claims in (
       c.requires.rows.0
           ∙ sym (ap (λ (l : List ℕ). length l) c.deref.ensures.value ∙ taken.count),
@@ -93,9 +83,7 @@ evict_claimed-requires-clause-rows g c =
 
 pub evict_claimed-requires-clause-ready : goal.evict_claimed-requires-clause-ready
 evict_claimed-requires-clause-ready g c =
-    let taken = subst (Takes (λ es. g.D.Desk.run c.args.desk.now es c.take_spans.new.desk)
-    (λ s. g.D.Desk.shows c.args.desk.now s) c.args.config c.args.far.now c.args.loose.now)
-    c.in-Enough.is c.in_ok-taken.ensures.taken in
+    let taken = taken_enough _ _ _ _ _ _ _ _ c.in-Enough.is c.in_ok-taken.ensures.taken in
     let x = taken.claims in let s = c.requires.sound.0 in (
       x.events,
       s,
@@ -111,9 +99,7 @@ evict_claimed-requires-clause-ready g c =
 
 pub returns-in-Enough-clause-evict : goal.returns-in-Enough-clause-evict
 returns-in-Enough-clause-evict g c =
-    let taken = subst (Takes (λ es. g.D.Desk.run c.args.desk.now es c.take_spans.new.desk)
-    (λ s. g.D.Desk.shows c.args.desk.now s) c.args.config c.args.far.now c.args.loose.now)
-    c.in-Enough.is c.in_ok-taken.ensures.taken in
+    let taken = taken_enough _ _ _ _ _ _ _ _ c.in-Enough.is c.in_ok-taken.ensures.taken in
     let x = taken.claims in
     let stays = g.met.D.Desk.stays _ _ x.events x.ran in
     if_ok _ _ _ c.evict_claimed.result c.evict_claimed.ensures.set c.evict_claimed.ensures.evict
@@ -142,9 +128,7 @@ returns-in-Enough-clause-evict g c =
 
 pub returns-in-Enough-clause-error : goal.returns-in-Enough-clause-error
 returns-in-Enough-clause-error g c =
-    let taken = subst (Takes (λ es. g.D.Desk.run c.args.desk.now es c.take_spans.new.desk)
-    (λ s. g.D.Desk.shows c.args.desk.now s) c.args.config c.args.far.now c.args.loose.now)
-    c.in-Enough.is c.in_ok-taken.ensures.taken in
+    let taken = taken_enough _ _ _ _ _ _ _ _ c.in-Enough.is c.in_ok-taken.ensures.taken in
     let x = taken.claims in
     on_err _ _ c.evict_claimed.result
     (both_err _ _ c.evict_claimed.result c.evict_claimed.ensures.error c.evict_claimed.ensures.unchanged)

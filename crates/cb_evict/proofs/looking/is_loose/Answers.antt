@@ -1,4 +1,4 @@
-use Rattle.std.proofs.Common.{◌≡◌, ℕ, ◌+◌, ◌<◌, true, List, [], ◌++◌, length, get_or, Option, None, Some, sym, ap, ◌∙◌, subst, arith, rules}
+use Rattle.std.proofs.Common.{◌≡◌, ℕ, ◌+◌, ◌<◌, List, [], ◌++◌, length, get_or, Option, None, Some, sym, ap, subst, arith, rules}
 use Rattle.std.specs.Option.{IfSome}
 use Rattle.cb_types.specs.declared.config.Config.{Config}
 use Rattle.cb_evict.specs.Looking.{Has}

@@ -1,4 +1,4 @@
-use Rattle.std.proofs.Common.{ℕ, List}
+use Rattle.std.proofs.Common.{List}
 use Rattle.cb_world.specs.declared.event.Event.{Event}
 use Rattle.cb_evict.specs.Events.{TouchesOnly, OnlyLooks}
 use Rattle.cb_evict.proofs.Slots.{HasBelow, SeesBelow, FindsBelow}

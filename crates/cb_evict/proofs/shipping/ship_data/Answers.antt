@@ -9,9 +9,9 @@ use Rattle.cb_evict.specs.Loading.{LoadsFrame}
 use Rattle.cb_evict.specs.ShipRule.{with_noted, with_shipped}
 use Rattle.cb_evict.specs.Shipping.{PutsNothing}
 use Rattle.cb_evict.proofs.Composed.{any_err}
-use Rattle.cb_evict.proofs.ShippedFar.{batch_same}
 use Rattle.cb_evict.proofs.ShipParts.{puts_data, puts_nothing}
 use Rattle.cb_evict.proofs.shipping.ship_data.Goals as goal
+use Rattle.cb_evict.proofs.Options.{some_same}
 
 pub returns-in_err-put_row-clause-err : goal.returns-in_err-put_row-clause-err
 returns-in_err-put_row-clause-err g c =
@@ -34,7 +34,7 @@ returns-clause-ok g c = λ batch there.
     (λ s. g.D.Desk.shows c.args.desk.now s) (λ s. g.D.Desk.shows c.args.desk.now s) far
     c.note_shard.new.far batch p c.args.frame shard row there
     (subst (λ (b : LeavingState). slice_get b.frames p ≡ Some c.args.frame)
-    (batch_same x.0 batch (sym x.1 ∙ there)) x.2)
+    (some_same x.0 batch (sym x.1 ∙ there)) x.2)
     (subst (λ (l : List ℕ). LoadsFrame (λ es. g.D.Desk.run c.args.desk.now es c.load_frame.new.desk)
     (λ s. g.D.Desk.shows c.args.desk.now s) c.args.frame l) (sym same) c.load_frame.ensures.loads)
     (λ s k. k)
