@@ -1,10 +1,12 @@
 -- Worked examples of a pinned object that stays where it is, and of each part alone that breaks.
-use Rattle.std.proofs.Common.{◌≡◌, ℕ, List, [], ◌∷◌, refl, ap, arith, lit≤}
+use Rattle.std.proofs.Common.{◌≡◌, ℕ, List, [], ◌∷◌, refl, ap, sym, subst, arith, lit≤}
 use Rattle.cb_types.specs.declared.config.Config.{Config}
+use Rattle.cb_types.specs.declared.reply.Reply.{Reply}
 use Rattle.cb_world.specs.Memory.{bytes_in, window}
 use Rattle.cb_world.specs.Plain.{Words}
 use Rattle.cb_world.specs.World.{WorldState, empty_world}
-use Rattle.cb_core.specs.Unmoved.{IsUnmoved, HasPin, KeepsPinned}
+use Rattle.cb_core.specs.declared.event.Event.{Event}
+use Rattle.cb_core.specs.Unmoved.{IsUnmoved, HasPin, KeepsPinned, LeadsPinned, StaysPinned}
 
 abbrev c : Config
 c = record { k = 1; r = 1; nodes = 2; frames = 2; room = 4; handles = 2; turns = 0 }
@@ -71,3 +73,25 @@ free_is_written some = absurd (has_none some)
 
 pinned_is_written : KeepsPinned (world pinned 3) (world pinned 4) → ⊥
 pinned_is_written keeps = let e : 4 ≡ 3 = (keeps 0 (lit≤ tt) (lit≤ tt)).version in omega (arith, e)
+
+-- a pin before an event and after it is one in each world of that run
+stays_pinned : (e : Event) (r : Reply)
+    → (leads : LeadsPinned (world pinned 3) (e ∷ []) (r ∷ []) (world pinned 3))
+    → StaysPinned 0 (world pinned 3) (e ∷ []) (r ∷ []) (world pinned 3) leads
+stays_pinned e r leads = (has_a_pin, subst (HasPin 0) leads.3 has_a_pin)
+
+pinned_late : (e : Event) (r : Reply)
+    → (leads : LeadsPinned (world free 3) (e ∷ []) (r ∷ []) (world pinned 3))
+    → StaysPinned 0 (world free 3) (e ∷ []) (r ∷ []) (world pinned 3) leads → ⊥
+pinned_late e r leads pinned = has_none pinned.0
+
+unpinned_at_the_end : (e : Event) (r : Reply)
+    → (leads : LeadsPinned (world pinned 3) (e ∷ []) (r ∷ []) (world free 3))
+    → StaysPinned 0 (world pinned 3) (e ∷ []) (r ∷ []) (world free 3) leads → ⊥
+unpinned_at_the_end e r leads stays = has_none (subst (HasPin 0) (sym leads.3) stays.1)
+
+unpinned_between : (e f : Event) (r s : Reply)
+    → (leads : LeadsPinned (world pinned 3) (e ∷ f ∷ []) (r ∷ s ∷ []) (world pinned 3))
+    → leads.0 ≡ world free 3
+    → StaysPinned 0 (world pinned 3) (e ∷ f ∷ []) (r ∷ s ∷ []) (world pinned 3) leads → ⊥
+unpinned_between e f r s leads free_then stays = has_none (subst (HasPin 0) free_then stays.1.0)

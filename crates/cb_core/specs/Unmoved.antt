@@ -39,3 +39,8 @@ abbrev pub StaysPinned : ℕ → (w : WorldState) (es : List Event) (rs : List R
 StaysPinned h w [] [] new leads = HasPin h w
 StaysPinned h w (e ∷ es) (r ∷ rs) new leads = HasPin h w × StaysPinned h leads.0 es rs new leads.3
 StaysPinned h w es rs new leads = ⊥
+
+-- an object that has a pin in each world of the run is unmoved from the first to the last
+abbrev pub LeadsUnmoved : WorldState → List Event → List Reply → WorldState → Type 0
+LeadsUnmoved w es rs new = (h : ℕ) → (leads : LeadsPinned w es rs new)
+    → StaysPinned h w es rs new leads → IsUnmoved h w.desk new.desk

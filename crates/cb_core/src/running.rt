@@ -8,7 +8,7 @@ ghost use Rattle.cb_core.specs.Events.{IsEvent};
 ghost use Rattle.cb_core.specs.Run.{LeadsSoundly, LeavesPrefix, RunStops};
 ghost use Rattle.cb_core.specs.Step.{Leads};
 ghost use Rattle.cb_core.specs.Unavailable.{LeadsTelling};
-ghost use Rattle.cb_core.specs.Unmoved.{LeadsPinned};
+ghost use Rattle.cb_core.specs.Unmoved.{LeadsPinned, LeadsUnmoved};
 
 use crate::event::Event;
 use crate::replies::Replies;
@@ -38,7 +38,8 @@ use std::alloc::Global;
 /// falls.
 ///
 /// Each event leaves an object that has a pin before and after at its place, with its length, its
-/// version and its bytes. So whatever happens between a pin and its end, the object is unmoved.
+/// version and its bytes. So an object that has a pin before the first event, after the last and
+/// after each one between them is unmoved over all of them.
 pub fn run(alloc: Global, world: &mut World, events: &[Event]) -> Result<Replies, NoMemory>
     requires sound { IsSoundWorld world.old }
     requires events { AllByRecursion (IsEvent world.old.desk.settings) events.now }
@@ -58,6 +59,7 @@ pub fn run(alloc: Global, world: &mut World, events: &[Event]) -> Result<Replies
         × StandsBeside (calls_by [] [] events.now replies) (claims_by [] events.now replies)
         world.new) }
     ensures pinned { IfOk result (λ replies. LeadsPinned world.old events.now replies world.new) }
+    ensures unmoved { IfOk result (λ replies. LeadsUnmoved world.old events.now replies world.new) }
     ensures unavailable { IfOk result (λ replies.
         LeadsTelling world.old events.now replies world.new) }
     ensures sound { IsSoundWorld world.new }

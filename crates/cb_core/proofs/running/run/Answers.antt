@@ -3,7 +3,7 @@ use Rattle.cb_types.specs.declared.config.Config.{Config}
 use Rattle.cb_core.specs.Events.{IsEvent}
 use Rattle.cb_core.specs.Run.{LeavesPrefix, RunStops}
 use Rattle.cb_core.specs.Called.{StandsBeside}
-use Rattle.cb_core.proofs.PinnedStays.{leads_pinned}
+use Rattle.cb_core.proofs.PinnedStays.{leads_pinned, pinned_unmoved}
 use Rattle.cb_core.proofs.RunLegal.{run_legal, run_from_empty, empty_stands}
 use Rattle.cb_core.proofs.Runs.{going_more, going_all, going_stops, going_ends, only_leads, of_error, event_at}
 use Rattle.cb_core.proofs.Stopping.{prefix_ends, prefix_stops}
@@ -36,6 +36,10 @@ returns-clause-pinned c = leads_pinned c.args.events.now c.loop-event.replies c.
     c.loop-event.world (going_all c.args.world.now c.args.events.now c.loop-event.event-index
     c.loop-event.replies c.loop-event.world c.loop-event.invariant c.loop-event-test.false)
     c.requires.events c.requires.sound
+
+pub returns-clause-unmoved : goal.returns-clause-unmoved
+returns-clause-unmoved c h leads pinned = (pinned_unmoved c.args.events.now c.loop-event.replies
+    c.args.world.now c.loop-event.world h leads pinned).0
 
 pub returns-clause-unavailable : goal.returns-clause-unavailable
 returns-clause-unavailable c = leads_telling c.args.events.now c.loop-event.replies c.args.world.now
