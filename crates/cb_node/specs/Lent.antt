@@ -1,5 +1,5 @@
 -- A row that is lent by the nodes.
-use Rattle.std.specs.Prelude.{◌≡◌, ℕ, ◌+◌, ⊤}
+use Rattle.std.specs.Prelude.{◌≡◌, ◌+◌, ⊤}
 use Rattle.std.specs.Borrow.{Fml, MutBor, follows_so}
 use mathlib.Core.Option.{none}
 use Rattle.cb_node.specs.NodesState.{NodesState}

@@ -1,5 +1,5 @@
 -- How the surviving positions are found, and their rows given out.
-use Rattle.std.proofs.Common.{◌≡◌, ◌≢◌, ℕ, suc, ◌+◌, ◌<◌, ◌≤◌, Bool, true, false, cond, List, [], ◌∷◌, ◌++◌, length, take, get_or, set, Some, Option, if◌then◌else◌, sym, refl, ap, ◌∙◌, subst, arith, inl, inr, length-set, get_or-set_same, get_or-set_other}
+use Rattle.std.proofs.Common.{◌≡◌, ◌≢◌, ℕ, suc, ◌+◌, ◌<◌, ◌≤◌, Bool, true, false, cond, List, [], ◌∷◌, ◌++◌, length, take, get_or, set, Some, sym, refl, ap, ◌∙◌, subst, arith, inl, inr, length-set, get_or-set_same, get_or-set_other}
 use Rattle.std.specs.List.{slice_get}
 use Rattle.std.proofs.lemmas.Bool.{cases_eq}
 use Rattle.std.proofs.lemmas.List.{append-nil, take-take, take_more, length-take-le, take_more_set}
@@ -10,7 +10,7 @@ use Rattle.cb_member.specs.declared.names.Shard.{Shard}
 use Rattle.cb_member.specs.Membership.{Membership}
 use Rattle.cb_node.specs.NodesState.{NodesState, row_at as row_under}
 use Rattle.cb_set.specs.SetState.{SetState}
-use Rattle.cb_set.specs.Lost.{is_lost, lost, lost_at}
+use Rattle.cb_set.specs.Lost.{is_lost, lost}
 use Rattle.cb_gf256.specs.Rows.{rows_at}
 use Rattle.cb_erase.specs.Weights.{IsSolution}
 use Rattle.cb_world.specs.SetWord.{IsShaped, IsWordOf}
@@ -18,8 +18,7 @@ use Rattle.cb_set.specs.Surviving.{surviving_from, surviving}
 use Rattle.cb_set.specs.SetState.{parities}
 use Rattle.cb_world.proofs.Surviving.{count_surviving, counted, taken_survives}
 use Rattle.std.proofs.lemmas.Option.{slice_get_within}
-use Rattle.std.specs.Option.{option_map_or}
-use Rattle.cb_world.specs.Fetched.{StandAt, StandsAt, with_given}
+use Rattle.cb_world.specs.Fetched.{StandAt, StandsAt}
 
 surviving_append : (m : Membership) (p : ℕ) (xs : List Shard) (x : Shard)
     → surviving_from m p (xs ++ (x ∷ [])) ≡ surviving_from m p xs ++ cond (is_lost m x) []

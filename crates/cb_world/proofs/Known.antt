@@ -21,7 +21,7 @@ use Rattle.cb_world.specs.Plain.{Words, Plain, IsSized, IsSettledAs}
 use Rattle.cb_world.specs.Looks.{NoLook, NoClaim, LooksFirst, told_by}
 use Rattle.cb_world.specs.FarState.{FarState}
 use Rattle.cb_world.specs.Sound.{Sound}
-use Rattle.cb_world.specs.World.{word_at, IsKnown}
+use Rattle.cb_world.specs.World.{IsKnown}
 use Rattle.cb_world.specs.StillDesk.{plain_follows, put_window}
 
 -- two lists go together, and so they do where both are changed at one place

@@ -4,25 +4,23 @@ use Rattle.std.specs.Prelude.{slice_get}
 use native.Mathlib.Decide.{ℕ_discrete}
 use Rattle.std.proofs.lemmas.Bool.{cases_lt}
 use Rattle.std.proofs.lemmas.List.{get_or_past}
-use Rattle.cb_ptr.specs.declared.word.State.{State}
 use Rattle.cb_ptr.specs.declared.word.State.TheVariants as word
-use Rattle.cb_ptr.specs.Word.{state_number, state_of, len_of, place_of, pins_of}
+use Rattle.cb_ptr.specs.Word.{state_of, len_of, place_of, pins_of}
 use Rattle.cb_world.specs.declared.object.Object.{Object}
 use Rattle.cb_world.specs.declared.object.Object.TheVariants as is
 use Rattle.cb_world.specs.declared.event.Event.{Event}
 use Rattle.cb_world.specs.declared.event.Event.TheVariants.{Looked, Claimed, Told, Loaded, Stored, Stamped, Settled}
 use Rattle.cb_world.specs.declared.shown.Shown.{Shown}
 use Rattle.cb_world.specs.FarState.{FarState, handle_in}
-use Rattle.cb_world.specs.Leaving.{LeavingState}
 use Rattle.cb_world.specs.Memory.{window, words_for}
-use Rattle.cb_world.specs.Plain.{Words, Plain, Shows, IsSized}
-use Rattle.cb_world.specs.Played.{after, played, settled_by}
+use Rattle.cb_world.specs.Plain.{Words, Plain}
+use Rattle.cb_world.specs.Played.{after, played}
 use Rattle.cb_world.specs.declared.seats.Pin.{Pin}
 use Rattle.cb_world.specs.Pinned.{with_word}
 use Rattle.cb_world.specs.Seats.{SeatState, OpenWriteState, IsClaimAt, AtMostOneHolds, idle_seat, seat_at, claims_of_seat, with_pins}
-use Rattle.cb_world.specs.Shown.{Fits, Covers, object_at, version_at, never}
+use Rattle.cb_world.specs.Shown.{Fits, object_at, never}
 use Rattle.cb_world.specs.Sound.{Sound, IsLeaving}
-use Rattle.cb_world.specs.StillWords.{stamp_at, contents_at}
+use Rattle.cb_world.specs.StillWords.{contents_at}
 use Rattle.cb_world.specs.World.{word_at, IsKnown}
 use Rattle.cb_world.specs.Write.{IsWriteBelow}
 use Rattle.cb_world.specs.Allowed.{Allowed, Leaves}
@@ -33,7 +31,7 @@ use Rattle.cb_world.proofs.Known.{HereIs, here_after}
 use Rattle.cb_world.proofs.NowSame.{bits, near_object, IsNearAt}
 use Rattle.cb_world.proofs.StillPerforms.{PerformsStill, RunsStill, runs_still, known_then}
 use Rattle.cb_world.proofs.StillWords.{busy_leaves, settles_other}
-use Rattle.cb_world.proofs.Untouched.{IsUntouched, untouched}
+use Rattle.cb_world.proofs.Untouched.{untouched}
 use Rattle.cb_world.proofs.Windows.{window_same}
 
 -- an object that is here and that is not claimed is here afterwards, at its place

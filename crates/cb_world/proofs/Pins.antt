@@ -14,7 +14,6 @@ use Rattle.cb_ptr.specs.Word.{state_of, hot_of, len_of, place_of, pins_of}
 use Rattle.cb_ptr.specs.Steps.{TakesPin, GivesPin}
 use Rattle.cb_world.specs.declared.event.Event.TheVariants.{Looked}
 use Rattle.cb_world.specs.declared.object.Object.{Object}
-use Rattle.cb_world.specs.declared.object.Object.TheVariants as is
 use Rattle.cb_world.specs.declared.seats.Pin.{Pin}
 use Rattle.cb_world.specs.declared.shown.Shown.{Shown}
 use Rattle.cb_world.specs.Shown.{Fits, object_at, never}

@@ -1,9 +1,9 @@
 -- Worked examples: what may be noted of a search that found no two sets to join.
-use Rattle.std.proofs.Common.{◌≡◌, ℕ, ◌<◌, [], ◌∷◌, ◌++◌, List, None, Some, nat_cmp, replicate, refl, sym, ap, ◌∙◌, arith}
+use Rattle.std.proofs.Common.{◌≡◌, ℕ, ◌<◌, ◌∷◌, ◌++◌, List, None, Some, nat_cmp, replicate, refl, sym, ap, ◌∙◌, arith}
 use Rattle.std.specs.FinMap as map
 use Rattle.cb_set.specs.SetState.{SetState}
 use Rattle.cb_world.specs.FarState.{FarState}
-use Rattle.cb_world.specs.Pairs.{CanJoin, HoldsNoPair, NoneCanJoin, others}
+use Rattle.cb_world.specs.Pairs.{CanJoin, HoldsNoPair, others}
 use Rattle.cb_world.specs.Sets.{SetMap, if_committed}
 use Rattle.cb_world.proofs.WorkedWorld.{far}
 

@@ -1,8 +1,7 @@
 -- Worked examples of room at the nodes, and of the codes of sets: what meets each definition, and
 -- what breaks one part.
-use Rattle.std.proofs.Common.{◌≡◌, ℕ, zero, suc, ◌≤◌, ◌<◌, List, [], ◌∷◌, Option, None, Some, length, replicate, refl, ap, sym, ◌∙◌, arith, lit≤}
+use Rattle.std.proofs.Common.{◌≡◌, ℕ, zero, suc, ◌≤◌, [], ◌∷◌, None, Some, length, replicate, refl, ap, sym, ◌∙◌, arith}
 use Rattle.std.specs.FinMap as map
-use Rattle.cb_member.specs.declared.names.NodeId.{NodeId}
 use Rattle.cb_node.specs.NodesState.{NodesState, empty_nodes, held, with_row}
 use Rattle.cb_set.specs.SetState.{SetState, set_of}
 use Rattle.cb_types.specs.declared.config.Config.{Config}
@@ -13,7 +12,7 @@ use Rattle.cb_world.specs.Leaving.{LeavingState}
 use Rattle.cb_world.specs.Rooms.{HaveRoom}
 use Rattle.cb_world.specs.Sets.{set_in}
 use Rattle.cb_world.proofs.Codes.{codes_put}
-use Rattle.cb_world.proofs.WorkedFar.{at, away, committed, filled, node, set, shards, there}
+use Rattle.cb_world.proofs.WorkedFar.{at, away, committed, filled, node, set, there}
 
 -- ---- room: a row at each of two nodes
 abbrev two : ℕ → NodesState

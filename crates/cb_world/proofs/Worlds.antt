@@ -1,12 +1,9 @@
 -- The empty world is sound.
-use Rattle.std.proofs.Common.{sum_by, ap, ◌∙◌, sym, get_or, length, ◌≤◌, length-set, ◌^◌, ◌+◌, ◌≡◌, ℕ, ◌*◌, None, Some, ◌<◌, false, [], replicate, zero, suc, refl, arith, lit≤}
+use Rattle.std.proofs.Common.{ap, ◌∙◌, sym, get_or, length, ◌≤◌, ◌≡◌, ℕ, ◌*◌, None, Some, ◌<◌, false, [], replicate, zero, suc, refl, arith, lit≤}
 use Rattle.std.specs.List.{All}
 use Rattle.std.proofs.lemmas.List.{length-replicate}
 use Rattle.std.proofs.lemmas.List.Elements.{All-replicate}
 use Rattle.std.proofs.lemmas.List.Folds.{sum_by-replicate}
-use Rattle.std.proofs.lemmas.List.Sums.{sum_by-set}
-use Rattle.cb_world.specs.Counts.{CountsState, with_turn}
-use Rattle.cb_world.specs.FarState.{FarState}
 use Rattle.cb_types.specs.declared.config.Config.{Config}
 use Rattle.cb_types.specs.declared.config.Field.TheVariants.{Nodes}
 use Rattle.cb_types.specs.Config.{IsAccepted}
@@ -17,7 +14,7 @@ use Rattle.cb_world.proofs.OpenKept.{none_open}
 use Rattle.cb_world.specs.declared.seats.Pin.{Pin}
 use Rattle.cb_world.specs.Empty.{empty_words, empty_shown, empty_far}
 use Rattle.cb_world.specs.Seats.{SeatState, Holds, idle_seat, pins_on, all_pins_on}
-use Rattle.cb_world.specs.World.{AreCounted, IsKnown, ArePinned, IsSoundWorld, empty_world, word_at}
+use Rattle.cb_world.specs.World.{IsKnown, ArePinned, IsSoundWorld, empty_world, word_at}
 use Rattle.cb_world.proofs.Codes.{empty_codes}
 use Rattle.cb_world.proofs.Empty.{empty_sound, empty_shows, reads_one}
 

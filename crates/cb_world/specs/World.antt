@@ -6,9 +6,8 @@ use Rattle.cb_types.specs.declared.config.Config.{Config}
 use Rattle.cb_types.specs.Config.{IsAccepted}
 use Rattle.cb_ptr.specs.declared.word.State.TheVariants as word
 use Rattle.cb_ptr.specs.Word.{state_of, hot_of, pins_of}
-use Rattle.cb_world.specs.declared.object.Object.TheVariants as is
 use Rattle.cb_world.specs.declared.shown.Shown.{Shown}
-use Rattle.cb_world.specs.Shown.{object_at, hot_at}
+use Rattle.cb_world.specs.Shown.{hot_at}
 use Rattle.cb_world.specs.Plain.{Words, Shows, IsSized}
 pub use Rattle.cb_world.specs.Plain.{word_at}
 use Rattle.cb_world.specs.Empty.{empty_words, empty_far}

@@ -1,4 +1,4 @@
-use Rattle.std.proofs.Common.{◌≡◌, ◌∙◌, sym, [], ◌∷◌, ◌++◌}
+use Rattle.std.proofs.Common.{◌∙◌, sym, [], ◌∷◌, ◌++◌}
 use Rattle.cb_world.specs.Memory.{window}
 use Rattle.cb_world.proofs.Windows.{window_more}
 use Rattle.cb_world.proofs.plain_desk.copy_words.Goals as goal

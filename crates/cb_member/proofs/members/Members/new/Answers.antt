@@ -16,7 +16,8 @@ pub invariant_of-result : goal.invariant_of-result
 invariant_of-result c =
     subst (λ (nodes : List NodeState). IsMembership (record { epoch = 0; nodes = nodes }))
     (sym c.loop.invariant)
-    (fresh-IsMembership c.loop.counter (omega (arith, c.loop.auto.counter-end, c.ranges.nodes.fits)))
+    (fresh-IsMembership c.loop.counter
+    (omega (arith, c.loop.auto.counter-end, c.ranges.nodes.fits)))
 
 pub returns-clause-fresh : goal.returns-clause-fresh
 returns-clause-fresh c =
@@ -30,4 +31,5 @@ pub returns-clause-valid : goal.returns-clause-valid
 returns-clause-valid c =
     subst (λ (nodes : List NodeState). IsMembership (record { epoch = 0; nodes = nodes }))
     (sym c.loop.invariant)
-    (fresh-IsMembership c.loop.counter (omega (arith, c.loop.auto.counter-end, c.ranges.nodes.fits)))
+    (fresh-IsMembership c.loop.counter
+    (omega (arith, c.loop.auto.counter-end, c.ranges.nodes.fits)))

@@ -30,7 +30,8 @@ invariant_of-result c =
 
 pub returns-clause-fresh : goal.returns-clause-fresh
 returns-clause-fresh c =
-    let all : c.loop.counter ≡ c.args.k = omega (arith, c.loop.auto.counter-end, c.loop-test.false) in
+    let all : c.loop.counter ≡ c.args.k =
+    omega (arith, c.loop.auto.counter-end, c.loop-test.false) in
     let dead : c.loop.positions.items ≡ replicate c.args.k dead_position =
     c.loop.invariant ∙ ap (λ (n : ℕ). replicate n dead_position) all in
     λ i. set_of c.args.id (c.in_ok-shards.ensures.items i) (dead i)

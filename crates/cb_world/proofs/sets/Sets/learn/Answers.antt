@@ -1,4 +1,4 @@
-use Rattle.std.proofs.Common.{ℕ, List, sym, ap, subst}
+use Rattle.std.proofs.Common.{sym, ap, subst}
 use Rattle.cb_world.specs.declared.groups.Group.{Group}
 use Rattle.cb_world.specs.Groups.{AreGrouped, IsAmong, NoGroupsMatch}
 use Rattle.cb_world.specs.Sets.{SetMap}
