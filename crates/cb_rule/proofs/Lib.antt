@@ -1,0 +1,4 @@
+pub mod Counts
+pub mod Growing
+pub mod Keeping
+pub mod Lifting
