@@ -119,6 +119,7 @@ module _ (c : Config) (first : ℕ) (ws ws' : List ℕ) (h p q : ℕ) where
         born = k.born;
         held = k.held;
         packed = k.packed;
+        low = k.low;
         word = ⊎_elim
             (λ (m : IsCalm c ws h p q n value len place). inl record {
               no_claims = m.no_claims;
@@ -151,14 +152,16 @@ pub held_same : (c : Config) (ws ws' : List ℕ) (known known' : Shown) (es es' 
     → top es' x.handle ≡ top es x.handle → newest es' x.handle ≡ newest es x.handle
     → stamp c ws' x.handle ≡ stamp c ws x.handle
     → words_at c ws' x.place x.len ≡ words_at c ws x.place x.len
+    → pointer ws' x.handle ≡ pointer ws x.handle
     → HeldOk c ws known es x → HeldOk c ws' known' es' x
-held_same c ws ws' known known' es es' x eo et ev em ew k = record {
+held_same c ws ws' known known' es es' x eo et ev em ew ep k = record {
   below = k.below;
   there = eo ∙ k.there;
   number = k.number ∙ sym et;
   contents = ev ∙ k.contents;
   stamped = em ∙ k.stamped;
   laid = ew ∙ k.laid;
+  taken = ep ∙ k.taken;
 }
 
 pub seats_stay : (K : ℕ → View → Type 0) (vs : List View) (me : ℕ) (w : View) → K me w
@@ -193,6 +196,7 @@ pub record Steps (c : Config) (ws ws' : List ℕ) (views : List View) (v : View)
   pub helds : (x : Held) → 0 < total (claims_on x.handle) views → HeldOk c ws v.known es x
       → HeldOk c ws' (after e v.known) (adds e v.known ++ es) x
   pub follows : IsHistory v.known.first (adds e v.known ++ es)
+  pub within : Each (λ (x : Entry). x.handle < c.handles) (adds e v.known)
   pub tells : TellsOk v.known.first (adds e v.known ++ es) v.since
       (length (adds e v.known ++ es)) e
 
@@ -338,6 +342,7 @@ module _ (c : Config) (ws ws' : List ℕ) (views : List View) (id : ℕ) (v : Vi
           lasting = kept_record u ok.lasting;
         });
     history = subst (λ (n : ℕ). IsHistory n more) (sym (first_stays e v.known)) t.follows;
+    within = each_append (λ (x : Entry). x.handle < c.handles) (adds e v.known) es t.within r.within;
     recorded = λ h k. let sum = total-set (written_on h k) views id v w at in
         let mine_now : times (is_version h k) (adds e v.known ++ v.fresh)
         ≡ times (is_version h k) (adds e v.known) + times (is_version h k) v.fresh =

@@ -10,7 +10,7 @@ use Rattle.cb_world.specs.LocalSound.{LiesAt}
 use Rattle.cb_world.specs.Shown.{Fits, Covers, Owns, object_at, hot_at, version_at}
 use Rattle.cb_rule.specs.declared.view.View.{View}
 use Rattle.cb_rule.specs.History.{IsHistory, is_version, newest, top}
-use Rattle.cb_rule.specs.Lists.{times, total}
+use Rattle.cb_rule.specs.Lists.{times, total, Each}
 use Rattle.cb_rule.specs.Records.{SeatOk}
 use Rattle.cb_rule.specs.Seats.{pins_on, claims_on, written_on, holding}
 use Rattle.cb_rule.specs.Stands.{Stands}
@@ -45,5 +45,6 @@ pub record Kept (c : Config) (ws : List ℕ) (views : List View) (known : Shown)
   pub stand : (h : ℕ) → h < c.handles → StandsIn c ws views known es h
   pub seats : (j : ℕ) (u : View) → get_elem? views j ≡ some u → SeatOk c ws known es u
   pub history : IsHistory known.first es
+  pub within : Each (λ (e : Entry). e.handle < c.handles) es
   pub recorded : (h k : ℕ) → total (written_on h k) views ≡ times (is_version h k) es
   pub one : total holding views ≤ 1

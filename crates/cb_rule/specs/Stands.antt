@@ -26,10 +26,11 @@ pub record IsTaken (ws : List ℕ) (h pins claims : ℕ) : Type 0 where
   pub state : state_of (pointer ws h) ≡ word.Moving
 
 -- it lies in local memory, and others may change it
-pub record IsShared (c : Config) (first : ℕ) (ws : List ℕ) (h pins claims version : ℕ) (value : Value) (len place : ℕ) : Type 0 where
+pub record IsShared (c : Config) (first : ℕ) (ws : List ℕ) (h pins claims version : ℕ) (value : Value) (seen len place : ℕ) : Type 0 where
   pub born : first ≤ version
   pub held : value ≡ holding_words len value.words
   pub packed : IsPacked len value.words
+  pub low : seen ≤ version
   pub word : IsCalm c ws h pins claims version value len place ⊎ IsTaken ws h pins claims
 
 -- only the holder of the far lock may change it, and its version word is as it left it
@@ -54,6 +55,6 @@ Stands c first ws h pins claims version value seen (is.Empty v) =
 Stands c first ws h pins claims version value seen (is.Far len v words) =
     IsHolding c first ws h pins claims version value seen len v words
 Stands c first ws h pins claims version value seen (is.Here len place) =
-    IsShared c first ws h pins claims version value len place
+    IsShared c first ws h pins claims version value seen len place
 Stands c first ws h pins claims version value seen (is.Claimed len place v words) =
     IsHolding c first ws h pins claims version value seen len v words

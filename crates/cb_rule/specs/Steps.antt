@@ -1,5 +1,5 @@
 -- What each kind of step does to the view of the seat that steps, and what it tells.
-use Rattle.std.specs.Prelude.{◌≡◌, ◌≢◌, ◌⊎◌, ℕ, ◌+◌, ◌-◌, ◌≤◌, ◌<◌, true, false, List, [], ◌∷◌, ◌++◌, length, map, slice_index, slice_set}
+use Rattle.std.specs.Prelude.{◌≡◌, ◌≢◌, ◌⊎◌, ℕ, ◌+◌, ◌-◌, ◌*◌, ◌^◌, ◌≤◌, ◌<◌, true, false, List, [], ◌∷◌, ◌++◌, length, map, slice_index, slice_set}
 use Rattle.atomic_table.specs.Table.{Step}
 use Rattle.cb_types.specs.declared.config.Config.{Config}
 use Rattle.cb_ptr.specs.declared.word.State.TheVariants as word
@@ -82,6 +82,7 @@ rested n v = record v {
 
 abbrev pub rests : Step Slot → Sat → ℕ → Sat → Type 0
 rests st m n m' = (count : ℕ) × (m' ≡ (rested count m.0, m.1))
+    × Each (λ (e : Entry). e.handle < m.0.config.handles) (m.0.fresh ++ m.0.written)
 
 -- Any seat, also while another holds the lock.
 
@@ -155,6 +156,10 @@ with_pin h w v words u = record (with_look h w u) {
 abbrev pub without_pin : ℕ → View → View
 without_pin h u = record u { pins = removed (pins_it h) u.pins }
 
+-- the words that a pointer word names lie in local memory
+abbrev pub IsInside : Config → ℕ → Type 0
+IsInside c w = (j : ℕ) → j < words_for (len_of w) → place_of w + j < 512 * c.frames
+
 -- an exchange that takes a pin, or finds another word
 abbrev pub pinned : Step Slot → Sat → ℕ → Sat → Type 0
 pinned st m n m' = (h : ℕ) → st.word ≡ 1 + h
@@ -201,6 +206,7 @@ held_at h w v words = record {
   handle = h;
   len = len_of w;
   place = place_of w;
+  word = w;
   version = v;
   old = words;
   stamp = v;

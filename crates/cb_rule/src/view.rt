@@ -12,12 +12,13 @@ pub struct Stand {
     pub words: [u64; 0],
 }
 
-/// An object that a seat claims outside of a turn: its last complete version and words, and what
-/// its version word and its memory have now.
+/// An object that a seat claims outside of a turn: the pointer word at which it was claimed, its
+/// last complete version and words, and what its version word and its memory have now.
 pub struct Held {
     pub handle: u32,
     pub len: u32,
     pub place: u32,
+    pub word: u64,
     pub version: u64,
     pub old: [u64; 0],
     pub stamp: u64,
