@@ -6,3 +6,8 @@ pub mod Lifting
 pub mod Looking
 pub mod Newest
 pub mod Calm
+pub mod Pinning
+pub mod Glancing
+pub mod Peeking
+pub mod Seating
+pub mod Opening
