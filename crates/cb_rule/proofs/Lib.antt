@@ -6,3 +6,5 @@ pub mod Lifting
 pub mod Looking
 pub mod Newest
 pub mod Calm
+pub mod Claiming
+pub mod Storing
