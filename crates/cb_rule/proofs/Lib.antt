@@ -8,3 +8,5 @@ pub mod Newest
 pub mod Calm
 pub mod Claiming
 pub mod Storing
+pub mod Settling
+pub mod Settled
