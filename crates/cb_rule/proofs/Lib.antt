@@ -10,3 +10,4 @@ pub mod Claiming
 pub mod Storing
 pub mod Settling
 pub mod Settled
+pub mod Acting
