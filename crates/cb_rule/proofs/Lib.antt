@@ -11,3 +11,5 @@ pub mod Storing
 pub mod Settling
 pub mod Settled
 pub mod Acting
+pub mod Others
+pub mod Own
