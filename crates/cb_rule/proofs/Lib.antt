@@ -11,3 +11,10 @@ pub mod Glancing
 pub mod Peeking
 pub mod Seating
 pub mod Opening
+pub mod Claiming
+pub mod Storing
+pub mod Settling
+pub mod Settled
+pub mod Acting
+pub mod Others
+pub mod Own

@@ -35,6 +35,7 @@ pub use Rattle.cb_world.proofs.NowKept.{brought_now, now_kept, put_away_now}
 pub use Rattle.cb_world.proofs.NowOthers.{contents_beside, near_lies}
 pub use Rattle.cb_world.proofs.NowSame.{bits, empty_now, empty_value, far_object, near_now, near_object, now_by_words, now_same}
 pub use Rattle.cb_world.proofs.OpenKept.{leaving_claimed, open_here, open_kept, open_same, open_word, pins_hold, pins_leave, seat_beside}
+pub use Rattle.cb_world.proofs.Packed.{contents_packed, packed_write}
 pub use Rattle.cb_world.proofs.Patching.{join_is_merged, parity_step, patched_more}
 pub use Rattle.cb_world.proofs.PinNow.{pinned_now, unpinned_now}
 pub use Rattle.cb_world.proofs.Pins.{pin_counts, pin_sound, pinned_still, unpin_sound}
