@@ -18,3 +18,5 @@ pub mod Settled
 pub mod Acting
 pub mod Others
 pub mod Own
+pub mod Promising
+mod WorkedHistory

@@ -8,3 +8,4 @@ pub mod Rule
 pub mod Records
 pub mod Steps
 pub mod Ruled
+pub mod Promised
