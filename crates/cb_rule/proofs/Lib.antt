@@ -13,3 +13,8 @@ pub mod Settled
 pub mod Acting
 pub mod Others
 pub mod Own
+pub mod Pinning
+pub mod Glancing
+pub mod Peeking
+pub mod Seating
+pub mod Opening

@@ -134,7 +134,7 @@ glanced st m n m' = (h : ℕ) → st.word ≡ 1 + h
     → (v : ℕ) × (m' ≡ (with_freed h v n m.0, m.1)) × IsNewest h v m.0)
     × (state_of n ≢ word.Empty → m' ≡ (with_look h n m.0, m.1))
     × (state_of n ≡ word.Here
-    → (pins_on h m.0 ≤ pins_of n) × (m.0.share ≡ 64 → pins_of n ≡ pins_on h m.0))
+    → (n < 2 ^ 53) × (pins_on h m.0 ≤ pins_of n) × (m.0.share ≡ 64 → pins_of n ≡ pins_on h m.0))
 
 abbrev pub stand : ℕ → ℕ → ℕ → ℕ → List ℕ → Stand
 stand h len place v words = record {
@@ -160,11 +160,18 @@ without_pin h u = record u { pins = removed (pins_it h) u.pins }
 abbrev pub IsInside : Config → ℕ → Type 0
 IsInside c w = (j : ℕ) → j < words_for (len_of w) → place_of w + j < 512 * c.frames
 
+-- what an exchange at the word w tells of the object: its newest version, with its words
+pub record Finds (h w version : ℕ) (words : List ℕ) (u : View) : Type 0 where
+  pub above : IsNewest h version u
+  pub inside : IsInside u.config w
+  pub below : w < 2 ^ 53
+  pub long : length words ≡ words_for (len_of w)
+
 -- an exchange that takes a pin, or finds another word
 abbrev pub pinned : Step Slot → Sat → ℕ → Sat → Type 0
 pinned st m n m' = (h : ℕ) → st.word ≡ 1 + h
     → (n ≡ st.first → (v : ℕ) × (words : List ℕ)
-    × (m' ≡ (with_pin h n v words m.0, m.1)) × IsNewest h v m.0)
+    × (m' ≡ (with_pin h n v words m.0, m.1)) × Finds h n v words m.0)
     × (n ≢ st.first → m' ≡ (with_look h n m.0, m.1))
 
 abbrev pub unpinned : Step Slot → Sat → ℕ → Sat → Type 0
@@ -220,7 +227,7 @@ with_claim h w v words u = record (with_look h w u) { claims = held_at h w v wor
 abbrev pub claimed_here : Step Slot → Sat → ℕ → Sat → Type 0
 claimed_here st m n m' = (h : ℕ) → st.word ≡ 1 + h
     → (n ≡ st.first → (v : ℕ) × (words : List ℕ)
-    × (m' ≡ (with_claim h n v words m.0, m.1)) × IsNewest h v m.0)
+    × (m' ≡ (with_claim h n v words m.0, m.1)) × Finds h n v words m.0)
     × (n ≢ st.first → m' ≡ (with_look h n m.0, m.1))
 
 -- the seat's claim of an object, changed
