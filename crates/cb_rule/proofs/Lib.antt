@@ -18,3 +18,4 @@ pub mod Glancing
 pub mod Peeking
 pub mod Seating
 pub mod Opening
+pub mod Allowing
