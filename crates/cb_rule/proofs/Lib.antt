@@ -19,3 +19,5 @@ pub mod Peeking
 pub mod Seating
 pub mod Opening
 pub mod Allowing
+pub mod WorkedStands
+pub mod WorkedClaims
