@@ -20,3 +20,6 @@ pub mod Others
 pub mod Own
 pub mod Promising
 mod WorkedHistory
+pub mod Allowing
+pub mod WorkedStands
+pub mod WorkedClaims

@@ -34,6 +34,9 @@ both_true : (a b : Bool) → (a && b) ≡ true → (a ≡ true) × (b ≡ true)
 both_true true b e = (refl, e)
 both_true false b e = absurd (true≢false (sym e))
 
+has_same : (x e : Entry) (xs : List Entry) → x ≡ e → Has x xs → Has e xs
+has_same x e xs is h = subst (λ (y : Entry). Has y xs) is h
+
 version_true : (e : Entry) → is_version e.handle e.version e ≡ true
 version_true e = ap (λ (b : Bool). b && eqb e.version e.version) (eq-eqb e.handle e.handle refl)
     ∙ eq-eqb e.version e.version refl
@@ -92,7 +95,7 @@ module _ (c : Config) (ws : List ℕ) (views : List View) (known : Shown) (es : 
       let named = both_true (eqb x.handle h) (eqb x.version k) found.2 in
       let is_it = same_entry known.first r.begins x e es r.history at there
           (eqb-true x.handle h named.0) (eqb-true x.version k named.1) in
-      (u, (seat.0, seat.2), subst (λ (y : Entry). Has y (u.fresh ++ u.written)) is_it found.1)
+      (u, (seat.0, seat.2), has_same x e (u.fresh ++ u.written) is_it found.1)
 
   -- the newest entry of an object is its last
   newest_last : (h : ℕ) (n : IsEntry es h (top es h) (newest es h)) → IsLast views n.entry
