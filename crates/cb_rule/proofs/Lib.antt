@@ -19,7 +19,9 @@ pub mod Acting
 pub mod Others
 pub mod Own
 pub mod Promising
-mod WorkedHistory
+pub mod WorkedHistory
 pub mod Allowing
 pub mod WorkedStands
 pub mod WorkedClaims
+pub mod Showing
+mod WorkedViews

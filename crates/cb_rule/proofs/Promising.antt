@@ -48,14 +48,14 @@ module _ {A : Type 0} where
       (λ (is : y ≡ x). let one = hit (t y) (ap t is ∙ e) in omega (arith, one))
       (λ (more : Has x xs). let z = times_has t x xs more e in omega (arith, z)) h
 
-  has_times : (t : A → Bool) (xs : List A) → 1 ≤ times t xs → (x : A) × Has x xs × (t x ≡ true)
+  pub has_times : (t : A → Bool) (xs : List A) → 1 ≤ times t xs → (x : A) × Has x xs × (t x ≡ true)
   has_times t [] some_one = absurd (omega arith)
   has_times t (y ∷ xs) some_one = by_case
       (λ b. 1 ≤ cond b 1 0 + times t xs → (x : A) × Has x (y ∷ xs) × (t x ≡ true)) (t y)
       (λ is _. (y, inl refl, is))
       (λ _ le. let z = has_times t xs (omega (arith, le)) in (z.0, inr z.1, z.2)) some_one
 
-  total_some : (f : A → ℕ) (vs : List A) → 1 ≤ total f vs
+  pub total_some : (f : A → ℕ) (vs : List A) → 1 ≤ total f vs
       → (j : ℕ) × (u : A) × (get_elem? vs j ≡ some u) × (1 ≤ f u)
   total_some f [] le = absurd (omega arith)
   total_some f (x ∷ xs) le = pick (f x) refl (λ more. total_some f xs more)
@@ -88,21 +88,24 @@ module _ (c : Config) (ws : List ℕ) (views : List View) (known : Shown) (es : 
       let u = seat.1 in
       let parts = times-append (is_version h k) u.fresh u.written in
       let found = has_times (is_version h k) (u.fresh ++ u.written)
-          (let some_one = seat.3 in omega (arith, parts, some_one)) in
+      (let some_one = seat.3 in omega (arith, parts, some_one)) in
       let x = found.0 in
       let at = each_has (λ y. Has y es) x (u.fresh ++ u.written) (all_written seat.0 u seat.2)
-          found.1 in
+      found.1 in
       let named = both_true (eqb x.handle h) (eqb x.version k) found.2 in
       let is_it = same_entry known.first r.begins x e es r.history at there
-          (eqb-true x.handle h named.0) (eqb-true x.version k named.1) in
+      (eqb-true x.handle h named.0) (eqb-true x.version k named.1) in
       (u, (seat.0, seat.2), has_same x e (u.fresh ++ u.written) is_it found.1)
 
   -- the newest entry of an object is its last
   newest_last : (h : ℕ) (n : IsEntry es h (top es h) (newest es h)) → IsLast views n.entry
-  newest_last h n = (has_wrote n.entry n.there, λ x w same.
-      let z = (entry_within known.first r.begins x es r.history (wrote_has x w)).1 in
-      let t : top es x.handle ≡ top es h = ap (top es) (same ∙ n.handle) in
-      let v = n.version in omega (arith, z, t, v))
+  newest_last h n = (
+    has_wrote n.entry n.there,
+    λ x w same.
+        let z = (entry_within known.first r.begins x es r.history (wrote_has x w)).1 in
+        let t : top es x.handle ≡ top es h = ap (top es) (same ∙ n.handle) in
+        let v = n.version in omega (arith, z, t, v),
+  )
 
   last_top : (e : Entry) → IsLast views e → e.version ≡ top es e.handle
   last_top e last = let there = wrote_has e last.0 in
@@ -122,7 +125,7 @@ module _ (c : Config) (ws : List ℕ) (views : List View) (known : Shown) (es : 
     where
       go : (o : Object)
           → Stands c known.first ws h (total (pins_on h) views) (total (claims_on h) views)
-            (top es h) (newest es h) (version_at known h) o
+          (top es h) (newest es h) (version_at known h) o
           → Fits o (pointer ws h) → pins_of (pointer ws h) ≡ total (pins_on h) views
       go (is.Empty v) k f = ap pins_of f ∙ sym k.no_pins
       go (is.Far len v words) k f =
@@ -130,9 +133,10 @@ module _ (c : Config) (ws : List ℕ) (views : List View) (known : Shown) (es : 
       go (is.Claimed len place v words) k f = f.3 ∙ sym k.kept.no_pins
       go (is.Here len place) k f = ⊎_elim
           (λ (m : IsCalm c ws h (total (pins_on h) views) (total (claims_on h) views) (top es h)
-              (newest es h) len place). m.count)
+          (newest es h) len place). m.count)
           (λ (m : IsTaken ws h (total (pins_on h) views) (total (claims_on h) views)).
-            m.bare ∙ sym m.no_pins) k.word
+          m.bare ∙ sym m.no_pins) k.word
+
       all : pins_of (pointer ws h) ≡ total (pins_on h) views
       all = go (object_at known h) (r.stand h l) (r.fit h l)
 
@@ -144,21 +148,22 @@ module _ (c : Config) (ws : List ℕ) (views : List View) (known : Shown) (es : 
         lone = omega (arith, z);
         moving = λ pos. absurd (omega (arith, z, pos));
       }
+
       go : (o : Object)
           → Stands c known.first ws h (total (pins_on h) views) (total (claims_on h) views)
-            (top es h) (newest es h) (version_at known h) o
+          (top es h) (newest es h) (version_at known h) o
           → ClaimsStand ws views h
       go (is.Empty v) k = none_claims k.no_claims
       go (is.Far len v words) k = none_claims k.kept.no_claims
       go (is.Claimed len place v words) k = none_claims k.kept.no_claims
       go (is.Here len place) k = ⊎_elim
           (λ (m : IsCalm c ws h (total (pins_on h) views) (total (claims_on h) views) (top es h)
-              (newest es h) len place). none_claims m.no_claims)
+          (newest es h) len place). none_claims m.no_claims)
           (λ (m : IsTaken ws h (total (pins_on h) views) (total (claims_on h) views)).
-            let one = m.one_claim in record {
-              lone = omega (arith, one);
-              moving = λ pos. m.state;
-            }) k.word
+          let one = m.one_claim in record {
+            lone = omega (arith, one);
+            moving = λ pos. m.state;
+          }) k.word
 
   -- a word that names a place is that of an object that lies there
   named_lies : (h : ℕ) → h < c.handles → Names (pointer ws h)
@@ -167,6 +172,7 @@ module _ (c : Config) (ws : List ℕ) (views : List View) (known : Shown) (es : 
     where
       w : ℕ
       w = pointer ws h
+
       go : (o : Object) → Fits o w → LiesAt o (len_of w) (place_of w)
       go (is.Empty v) f = absurd (⊎_elim
           (λ (s : state_of w ≡ word.Here). let b = bits_here w s in omega (arith, b, f))
@@ -195,12 +201,12 @@ module _ (c : Config) (ws : List ℕ) (views : List View) (known : Shown) (es : 
 
   held_stands : (u : View) (x : Held) → Is views u → Has x u.claims → HeldStands views x
   held_stands u x at there = let ok = each_has (HeldOk c ws known es) x u.claims
-          (r.seats at.0 u at.1).claims there in
+      (r.seats at.0 u at.1).claims there in
       let k = subst (λ (o : Object). Stands c known.first ws x.handle
-          (total (pins_on x.handle) views) (total (claims_on x.handle) views) (top es x.handle)
-          (newest es x.handle) (version_at known x.handle) o) ok.there (r.stand x.handle ok.below) in
+      (total (pins_on x.handle) views) (total (claims_on x.handle) views) (top es x.handle)
+      (newest es x.handle) (version_at known x.handle) o) ok.there (r.stand x.handle ok.below) in
       let n = newest_entry es x.handle
-          (let b = k.born in let p = r.begins in omega (arith, b, p)) in
+      (let b = k.born in let p = r.begins in omega (arith, b, p)) in
       let has = n.has ∙ ok.contents in record {
         last = n.entry;
         is_last = newest_last x.handle n;
@@ -228,7 +234,7 @@ module _ (c : Config) (ws : List ℕ) (views : List View) (known : Shown) (es : 
     once = λ e k last low high. r.recorded e.handle k
         ∙ once known.first r.begins es e.handle k r.history
         ∙ (let t = last_top e last in let one : stands known.first k (top es e.handle) ≡ 1 =
-          omega (arith, t, low, high) in one);
+        omega (arith, t, low, high) in one);
     goes_on = λ e a. ⊎_elim
         (λ (z : (e.version ≡ known.first) × (e.before ≡ [])). inl z)
         (λ (z : _). inr (z.0, has_wrote z.0 z.1, z.2, z.3, z.4, z.5))

@@ -166,5 +166,5 @@ not_five w e = let v : 4 ≡ 5 = ap (λ (es : List Entry). top es 1) (sym e) ∙
 not_seven : (w : WasNow all_entries 3 3 1 4 (holding_words 8 (7 ∷ []))) → w.older ≡ some_entries → ⊥
 not_seven w e =
     let v : 9 ≡ 7 = ap (λ (es : List Entry). first_word (newest es 1).words) (sym e)
-          ∙ ap (λ (x : Value). first_word x.words) w.has in
+    ∙ ap (λ (x : Value). first_word x.words) w.has in
     absurd (omega (arith, v))

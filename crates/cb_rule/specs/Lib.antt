@@ -9,3 +9,4 @@ pub mod Records
 pub mod Steps
 pub mod Ruled
 pub mod Promised
+pub mod AsShown
