@@ -36,14 +36,10 @@ use Rattle.cb_rule.specs.Words.{stamps, base, pointer, words_at}
 use Rattle.cb_rule.proofs.Calm.{Lies, Quiet, lies, still_rule}
 use Rattle.cb_rule.proofs.Counts.{each_append, each_map, each_there, total-at}
 use Rattle.cb_rule.proofs.Histories.{entry_within, newest_entry}
+use Rattle.cb_rule.proofs.Members.{each_has}
 use Rattle.cb_rule.proofs.Lifting.{any_seat, same_words, set_same}
 use Rattle.cb_rule.proofs.Newest.{is_newest, others_spent, total_alone}
 use Rattle.cb_rule.proofs.Pinning.{lost, looks_quiet, reread}
-
-pub each_has : {A : Type 0} (P : A → Type 0) (x : A) (xs : List A) → Each P xs → Has x xs → P x
-each_has P x [] e h = absurd h
-each_has P x (y ∷ xs) e h =
-    ⊎_elim (λ (is : y ≡ x). subst P is e.0) (λ (more : Has x xs). each_has P x xs e.1 more) h
 
 abbrev is_empty : State → Bool
 is_empty word.Empty = true

@@ -24,7 +24,7 @@ use Rattle.cb_rule.specs.Steps.{blank, opener, rested, rests}
 use Rattle.cb_rule.specs.Words.{base, pointer}
 use Rattle.cb_rule.proofs.Calm.{Quiet, still_rule}
 use Rattle.cb_rule.proofs.Counts.{each_append, each_map, times-append}
-use Rattle.cb_rule.proofs.Glancing.{each_has}
+use Rattle.cb_rule.proofs.Members.{each_has}
 use Rattle.cb_rule.proofs.Lifting.{any_seat, same_words}
 use Rattle.cb_rule.proofs.Seating.{never_now}
 

@@ -24,20 +24,6 @@ use Rattle.cb_rule.proofs.Counts.{hit, each_map, each_none, each_there, times-ap
 use Rattle.cb_rule.proofs.Growing.{record_more}
 use Rattle.cb_rule.proofs.Keeping.{held_same, pin_same, seats_stay, stands_same}
 
--- what stands in a list has what each element has
-pub each_has : {A : Type 0} (P : A → Type 0) (x : A) (xs : List A) → Each P xs → Has x xs → P x
-each_has P x [] h there = absurd there
-each_has P x (y ∷ xs) h there =
-    ⊎_elim (λ (e : y ≡ x). subst P e h.0) (λ (e : Has x xs). each_has P x xs h.1 e) there
-
--- and is counted
-pub times_has : {A : Type 0} (t : A → Bool) (x : A) (xs : List A) → Has x xs → t x ≡ true
-    → 0 < times t xs
-times_has t x [] there is = absurd there
-times_has t x (y ∷ xs) there is = ⊎_elim
-    (λ (e : y ≡ x). let one : cond (t y) 1 0 ≡ 1 = hit (t y) (ap t e ∙ is) in omega arith)
-    (λ (e : Has _ xs). let rest = times_has t x xs e is in omega arith) there
-
 -- What a step of the seat on the object that it claims has to show: what the holder knows stays,
 -- and the history gets these entries.
 pub record Other (c : Config) (ws ws' : List ℕ) (views : List View) (id : ℕ) (v w : View)

@@ -34,7 +34,8 @@ use Rattle.cb_rule.proofs.Counts.{each_edited, each_map, each_removed_only, hit,
 use Rattle.cb_rule.proofs.Growing.{record_more}
 use Rattle.cb_rule.proofs.Histories.{newest_else, newest_same, top_else, top_same}
 use Rattle.cb_rule.proofs.Keeping.{held_same, lies_here, outside, words_else}
-use Rattle.cb_rule.proofs.Others.{Claimer, claimer, each_has, other_rule, times_has}
+use Rattle.cb_rule.proofs.Members.{each_has, times_has}
+use Rattle.cb_rule.proofs.Others.{Claimer, claimer, other_rule}
 
 -- the length and the place of an object in local memory
 abbrev len_in : Object → ℕ

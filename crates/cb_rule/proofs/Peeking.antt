@@ -26,7 +26,7 @@ use Rattle.cb_rule.specs.Steps.{peeked, with_peek}
 use Rattle.cb_rule.specs.Words.{base, words_at}
 use Rattle.cb_rule.proofs.Calm.{Quiet, lies, still_rule}
 use Rattle.cb_rule.proofs.Counts.{hit, total-at}
-use Rattle.cb_rule.proofs.Glancing.{each_has}
+use Rattle.cb_rule.proofs.Members.{each_has}
 use Rattle.cb_rule.proofs.Histories.{newest_entry}
 use Rattle.cb_rule.proofs.Keeping.{lies_here}
 use Rattle.cb_rule.proofs.Lifting.{any_seat, same_words}

@@ -27,7 +27,7 @@ use Rattle.cb_rule.specs.Stands.{IsCalm, IsTaken, Stands}
 use Rattle.cb_rule.specs.Words.{pointer, stamp, words_at}
 use Rattle.cb_rule.proofs.Calm.{Lies, lies}
 use Rattle.cb_rule.proofs.Counts.{by_case, each_append, hit, times-append}
-use Rattle.cb_rule.proofs.Glancing.{each_has}
+use Rattle.cb_rule.proofs.Members.{each_has, has_times, times_has, total_some}
 use Rattle.cb_rule.proofs.Histories.{IsEntry, entry_before, entry_within, newest_entry, once, same_entry, stands}
 
 both_true : (a b : Bool) → (a && b) ≡ true → (a ≡ true) × (b ≡ true)
@@ -40,31 +40,6 @@ has_same x e xs is h = subst (λ (y : Entry). Has y xs) is h
 version_true : (e : Entry) → is_version e.handle e.version e ≡ true
 version_true e = ap (λ (b : Bool). b && eqb e.version e.version) (eq-eqb e.handle e.handle refl)
     ∙ eq-eqb e.version e.version refl
-
-module _ {A : Type 0} where
-  times_has : (t : A → Bool) (x : A) (xs : List A) → Has x xs → t x ≡ true → 1 ≤ times t xs
-  times_has t x [] h e = absurd h
-  times_has t x (y ∷ xs) h e = ⊎_elim
-      (λ (is : y ≡ x). let one = hit (t y) (ap t is ∙ e) in omega (arith, one))
-      (λ (more : Has x xs). let z = times_has t x xs more e in omega (arith, z)) h
-
-  pub has_times : (t : A → Bool) (xs : List A) → 1 ≤ times t xs → (x : A) × Has x xs × (t x ≡ true)
-  has_times t [] some_one = absurd (omega arith)
-  has_times t (y ∷ xs) some_one = by_case
-      (λ b. 1 ≤ cond b 1 0 + times t xs → (x : A) × Has x (y ∷ xs) × (t x ≡ true)) (t y)
-      (λ is _. (y, inl refl, is))
-      (λ _ le. let z = has_times t xs (omega (arith, le)) in (z.0, inr z.1, z.2)) some_one
-
-  pub total_some : (f : A → ℕ) (vs : List A) → 1 ≤ total f vs
-      → (j : ℕ) × (u : A) × (get_elem? vs j ≡ some u) × (1 ≤ f u)
-  total_some f [] le = absurd (omega arith)
-  total_some f (x ∷ xs) le = pick (f x) refl (λ more. total_some f xs more)
-    where
-      pick : (n : ℕ) → f x ≡ n
-          → (1 ≤ total f xs → (j : ℕ) × (u : A) × (get_elem? xs j ≡ some u) × (1 ≤ f u))
-          → (j : ℕ) × (u : A) × (get_elem? (x ∷ xs) j ≡ some u) × (1 ≤ f u)
-      pick zero e rest = let z = rest (omega (arith, e, le)) in (suc z.0, z.1, z.2, z.3)
-      pick (suc n) e rest = (0, x, refl, omega (arith, e))
 
 far_bare : (w n : ℕ) → w ≡ 1 + n * 8192 → w / 8 % 1024 ≡ 0
 far_bare w n e = omega arith

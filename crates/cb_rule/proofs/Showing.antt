@@ -23,9 +23,8 @@ use Rattle.cb_rule.specs.Rule.{Kept}
 use Rattle.cb_rule.specs.Seats.{claims_it, claims_on, pins_on}
 use Rattle.cb_rule.specs.Stands.{IsCalm, IsTaken, Stands}
 use Rattle.cb_rule.specs.Words.{base, stamp, stamps}
-use Rattle.cb_rule.proofs.Glancing.{each_has}
+use Rattle.cb_rule.proofs.Members.{each_has, has_times, total_some}
 use Rattle.cb_rule.proofs.Keeping.{lt_or_le}
-use Rattle.cb_rule.proofs.Promising.{has_times, total_some}
 
 beyond : {A : Type 0} (l : List A) (i : ℕ) (d : A) → length l ≤ i → get_or l i d ≡ d
 beyond [] i d e = refl
