@@ -1,5 +1,5 @@
 -- Steps under which what is known and the history stay: loads and pins of any seat.
-use Rattle.std.proofs.Common.{◌≡◌, ◌≢◌, ◌⊎◌, ℕ, zero, suc, ◌+◌, ◌-◌, ◌*◌, ◌^◌, ◌<◌, ◌≤◌, Bool, true, false, cond, List, [], ◌∷◌, ◌++◌, length, get_or, set, sym, refl, ap, ◌∙◌, subst, inl, inr, ⊎_elim, arith, length-set, get_or-set_other, get_or-set_same}
+use Rattle.std.proofs.Common.{◌≡◌, ◌≢◌, ◌⊎◌, ℕ, ◌+◌, ◌<◌, ◌≤◌, Bool, true, cond, List, length, set, sym, refl, ap, ◌∙◌, subst, inl, ⊎_elim, arith, length-set, get_or-set_other, get_or-set_same}
 use native.Mathlib.Decide.{ℕ_discrete}
 use mathlib.Core.Option.{some}
 use lib.ListN.{get_elem?}
@@ -15,7 +15,7 @@ use Rattle.cb_world.specs.Shown.{Fits, object_at, hot_at, version_at}
 use Rattle.cb_world.specs.StillDesk.{bits_here, bits_moving}
 use Rattle.cb_rule.specs.declared.view.Held.{Held}
 use Rattle.cb_rule.specs.declared.view.View.{View}
-use Rattle.cb_rule.specs.History.{Value, holding_words, newest, top}
+use Rattle.cb_rule.specs.History.{holding_words, newest, top}
 use Rattle.cb_rule.specs.Lists.{times, total, Each}
 use Rattle.cb_rule.specs.Records.{PinOk, HeldOk, RecordOk, SeatOk}
 use Rattle.cb_rule.specs.Rule.{StandsIn, Kept}

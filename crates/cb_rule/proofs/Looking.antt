@@ -1,7 +1,7 @@
 -- Looks and loads of the holder of the lock.
-use Rattle.std.proofs.Common.{◌≡◌, ◌≢◌, ◌⊎◌, ℕ, ◌+◌, ◌*◌, ◌<◌, ◌≤◌, Bool, true, false, List, [], ◌∷◌, ◌++◌, length, get_or, set, sym, refl, ap, ◌∙◌, subst, arith, get_or-set_other, get_or-set_same}
+use Rattle.std.proofs.Common.{◌≡◌, ℕ, ◌+◌, ◌<◌, ◌≤◌, true, false, List, get_or, set, sym, refl, ap, ◌∙◌, subst, arith, get_or-set_other, get_or-set_same}
 use native.Mathlib.Decide.{ℕ_discrete}
-use mathlib.Core.Option.{some, none}
+use mathlib.Core.Option.{none}
 use Rattle.atomic_table.specs.Table.{step, keeps, Allows}
 use Rattle.cb_types.specs.declared.config.Config.{Config}
 use Rattle.cb_ptr.specs.Word.{hot_of}
@@ -10,7 +10,7 @@ use Rattle.cb_world.specs.declared.event.Event.TheVariants.{Looked, Told, Loaded
 use Rattle.cb_world.specs.declared.object.Object.{Object}
 use Rattle.cb_world.specs.declared.object.Object.TheVariants as is
 use Rattle.cb_world.specs.Played.{Agrees, after}
-use Rattle.cb_world.specs.Shown.{Fits, IsHeld, object_at, hot_at, version_at}
+use Rattle.cb_world.specs.Shown.{IsHeld, object_at, version_at}
 use Rattle.cb_rule.specs.declared.view.View.{View}
 use Rattle.cb_rule.specs.History.{newest, top}
 use Rattle.cb_rule.specs.Lists.{total}

@@ -1,5 +1,5 @@
 -- A seat changes an object that it claims outside of a turn, while another may hold the far lock.
-use Rattle.std.proofs.Common.{◌≡◌, ◌≢◌, ℕ, ◌+◌, ◌<◌, ◌≤◌, Bool, true, cond, List, [], ◌∷◌, ◌++◌, length, get_or, set, sym, refl, ap, ◌∙◌, subst, ⊎_elim, arith}
+use Rattle.std.proofs.Common.{◌≡◌, ◌≢◌, ℕ, ◌+◌, ◌<◌, ◌≤◌, Bool, true, cond, List, ◌++◌, length, get_or, set, sym, refl, ap, ◌∙◌, subst, ⊎_elim, arith}
 use Rattle.std.proofs.lemmas.Bool.{eqb-false}
 use native.Mathlib.Decide.{ℕ_discrete}
 use mathlib.Core.Option.{some}
@@ -14,7 +14,7 @@ use Rattle.cb_rule.specs.declared.view.Held.{Held}
 use Rattle.cb_rule.specs.declared.view.Stand.{Stand}
 use Rattle.cb_rule.specs.declared.view.View.{View}
 use Rattle.cb_rule.specs.History.{IsHistory, is_version, newest, top}
-use Rattle.cb_rule.specs.Lists.{times, total, Each, Has}
+use Rattle.cb_rule.specs.Lists.{times, total, Each}
 use Rattle.cb_rule.specs.Records.{PinOk, HeldOk, RecordOk, SeatOk}
 use Rattle.cb_rule.specs.Rule.{StandsIn, Kept}
 use Rattle.cb_rule.specs.Seats.{claims_it, claims_on, holding, pins_it, pins_on, written_on}

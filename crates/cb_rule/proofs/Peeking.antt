@@ -16,12 +16,12 @@ use Rattle.cb_world.proofs.Laws.{window_at}
 use Rattle.cb_rule.specs.declared.view.Stand.{Stand}
 use Rattle.cb_rule.specs.declared.view.View.{View}
 use Rattle.cb_rule.specs.History.{newest, top}
-use Rattle.cb_rule.specs.Lists.{times, total, Each, Has}
+use Rattle.cb_rule.specs.Lists.{times, total, Has}
 use Rattle.cb_rule.specs.Records.{PinOk, PeekedOk}
 use Rattle.cb_rule.specs.Rule.{Kept}
 use Rattle.cb_rule.specs.Ruled.{Beside, IsSteady, Ruled}
 use Rattle.cb_rule.specs.Seats.{pins_it, pins_on}
-use Rattle.cb_rule.specs.Slot.{Sat, Table}
+use Rattle.cb_rule.specs.Slot.{Sat}
 use Rattle.cb_rule.specs.Steps.{peeked, with_peek}
 use Rattle.cb_rule.specs.Words.{base, words_at}
 use Rattle.cb_rule.proofs.Calm.{Quiet, lies, still_rule}

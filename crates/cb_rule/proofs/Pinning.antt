@@ -1,5 +1,5 @@
 -- Pins of any seat, while another may hold the lock.
-use Rattle.std.proofs.Common.{◌≡◌, ◌≢◌, ◌⊎◌, ℕ, zero, suc, ◌+◌, ◌-◌, ◌*◌, ◌/◌, ◌%◌, ◌^◌, ◌<◌, ◌≤◌, Bool, true, false, cond, eqb, List, [], ◌∷◌, ◌++◌, length, get_or, set, sym, refl, ap, ◌∙◌, subst, inl, inr, ⊎_elim, arith, eq-eqb, ne_eqb, eqb-true}
+use Rattle.std.proofs.Common.{◌≡◌, ℕ, suc, ◌+◌, ◌-◌, ◌*◌, ◌/◌, ◌%◌, ◌^◌, ◌<◌, ◌≤◌, Bool, false, cond, eqb, List, [], ◌∷◌, length, set, sym, refl, ap, ◌∙◌, subst, inl, inr, arith, eq-eqb, ne_eqb, eqb-true}
 use mathlib.Core.Logic.{dite}
 use native.Mathlib.Decide.{ℕ_discrete}
 use mathlib.Core.Option.{some, none}
@@ -16,7 +16,7 @@ use Rattle.cb_world.specs.declared.object.Object.{Object}
 use Rattle.cb_world.specs.declared.object.Object.TheVariants as is
 use Rattle.cb_world.specs.declared.shown.Shown.{Shown}
 use Rattle.cb_world.specs.Memory.{words_for}
-use Rattle.cb_world.specs.Shown.{Fits, object_at}
+use Rattle.cb_world.specs.Shown.{Fits}
 use Rattle.cb_world.specs.StillDesk.{bits_here, window_length}
 use Rattle.cb_rule.specs.declared.view.Held.{Held}
 use Rattle.cb_rule.specs.declared.view.Look.{Look}
@@ -25,8 +25,8 @@ use Rattle.cb_rule.specs.declared.view.Seen.{Seen}
 use Rattle.cb_rule.specs.declared.view.Stand.{Stand}
 use Rattle.cb_rule.specs.declared.view.View.{View}
 use Rattle.cb_rule.specs.History.{Value, newest, top}
-use Rattle.cb_rule.specs.Lists.{times, total, removed, Each, Has}
-use Rattle.cb_rule.specs.Records.{PinOk, SeenOk, PeekedOk, RecordOk, seen_of}
+use Rattle.cb_rule.specs.Lists.{removed, Each}
+use Rattle.cb_rule.specs.Records.{PinOk, SeenOk, PeekedOk, RecordOk}
 use Rattle.cb_rule.specs.Rule.{Kept}
 use Rattle.cb_rule.specs.Ruled.{Beside, IsSteady, Ruled, AreShares}
 use Rattle.cb_rule.specs.Seats.{pins_it, pins_on}
@@ -37,7 +37,7 @@ use Rattle.cb_rule.proofs.Calm.{Lies, Quiet, calm_rule, lies, still_rule}
 use Rattle.cb_rule.proofs.Counts.{each_removed, hit, miss, times-removed, times-removed_else, total-at, total-set}
 use Rattle.cb_rule.proofs.Histories.{IsEntry, newest_entry}
 use Rattle.cb_rule.proofs.Keeping.{lies_here}
-use Rattle.cb_rule.proofs.Lifting.{any_seat, same_lock, same_words, set_same}
+use Rattle.cb_rule.proofs.Lifting.{any_seat, same_lock, same_words}
 use Rattle.cb_rule.proofs.Newest.{is_newest}
 
 -- the record with other pins, claims, looks and words that were read

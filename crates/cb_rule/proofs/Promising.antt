@@ -1,32 +1,31 @@
 -- The rule says what stands of the words and the views alone.
-use Rattle.std.proofs.Common.{◌≡◌, ◌≢◌, ◌⊎◌, ℕ, zero, suc, ◌+◌, ◌-◌, ◌*◌, ◌/◌, ◌%◌, ◌<◌, ◌≤◌, ◌&&◌, Bool, true, false, cond, eqb, List, [], ◌∷◌, ◌++◌, length, get_or, sym, refl, ap, ◌∙◌, subst, inl, inr, ⊎_elim, arith, eq-eqb, eqb-true, true≢false}
+use Rattle.std.proofs.Common.{◌≡◌, ℕ, ◌+◌, ◌*◌, ◌/◌, ◌%◌, ◌<◌, ◌&&◌, Bool, true, false, eqb, List, [], ◌++◌, sym, refl, ap, ◌∙◌, subst, inl, inr, ⊎_elim, arith, eq-eqb, eqb-true, true≢false}
 use mathlib.Core.Option.{some}
 use lib.ListN.{get_elem?}
 use Rattle.cb_types.specs.declared.config.Config.{Config}
 use Rattle.cb_ptr.specs.declared.word.State.TheVariants as word
-use Rattle.cb_ptr.specs.Word.{state_of, hot_of, pins_of, len_of, place_of}
+use Rattle.cb_ptr.specs.Word.{state_of, pins_of, len_of, place_of}
 use Rattle.cb_world.specs.declared.entry.Entry.{Entry}
 use Rattle.cb_world.specs.declared.object.Object.{Object}
 use Rattle.cb_world.specs.declared.object.Object.TheVariants as is
 use Rattle.cb_world.specs.declared.shown.Shown.{Shown}
 use Rattle.cb_world.specs.LocalSound.{LiesAt}
-use Rattle.cb_world.specs.Shown.{Fits, Covers, object_at, version_at}
+use Rattle.cb_world.specs.Shown.{Fits, object_at, version_at}
 use Rattle.cb_world.specs.StillDesk.{bits_here, bits_moving}
 use Rattle.cb_rule.specs.declared.view.Held.{Held}
-use Rattle.cb_rule.specs.declared.view.Seen.{Seen}
 use Rattle.cb_rule.specs.declared.view.View.{View}
 use Rattle.cb_rule.specs.History.{Value, is_version, newest, top}
-use Rattle.cb_rule.specs.Lists.{times, total, Each, Has}
-use Rattle.cb_rule.specs.Promised.{ClaimsStand, GoesOn, HeldStands, HereStands, Is, IsLast, Names, PinsStand, Read, WordsStand, Wrote}
-use Rattle.cb_rule.specs.Records.{HeldOk, SeenOk, seen_of}
+use Rattle.cb_rule.specs.Lists.{total, Each, Has}
+use Rattle.cb_rule.specs.Promised.{ClaimsStand, HeldStands, HereStands, Is, IsLast, Names, PinsStand, WordsStand, Wrote}
+use Rattle.cb_rule.specs.Records.{HeldOk, SeenOk}
 use Rattle.cb_rule.specs.Rule.{Kept}
 use Rattle.cb_rule.specs.Ruled.{Beside, Ruled}
 use Rattle.cb_rule.specs.Seats.{pins_on, claims_on, written_on}
 use Rattle.cb_rule.specs.Slot.{Table}
 use Rattle.cb_rule.specs.Stands.{IsCalm, IsTaken, Stands}
-use Rattle.cb_rule.specs.Words.{pointer, stamp, words_at}
-use Rattle.cb_rule.proofs.Calm.{Lies, lies}
-use Rattle.cb_rule.proofs.Counts.{by_case, each_append, hit, times-append}
+use Rattle.cb_rule.specs.Words.{pointer, words_at}
+use Rattle.cb_rule.proofs.Calm.{lies}
+use Rattle.cb_rule.proofs.Counts.{each_append, times-append}
 use Rattle.cb_rule.proofs.Members.{each_has, has_times, times_has, total_some}
 use Rattle.cb_rule.proofs.Histories.{IsEntry, entry_before, entry_within, newest_entry, once, same_entry, stands}
 

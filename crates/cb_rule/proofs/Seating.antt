@@ -1,5 +1,5 @@
 -- A seat is split, and two are joined.
-use Rattle.std.proofs.Common.{◌≡◌, ◌≢◌, ◌⊎◌, ℕ, zero, suc, ◌+◌, ◌-◌, ◌<◌, ◌≤◌, Bool, true, false, cond, List, [], ◌∷◌, ◌++◌, length, map, set, sym, refl, ap, ◌∙◌, subst, inl, inr, ⊎_elim, arith, true≢false}
+use Rattle.std.proofs.Common.{◌≡◌, ◌≢◌, ◌⊎◌, ℕ, zero, suc, ◌+◌, ◌<◌, ◌≤◌, Bool, false, cond, List, [], ◌∷◌, ◌++◌, length, map, set, sym, refl, ap, ◌∙◌, subst, inl, inr, ⊎_elim, arith, true≢false}
 use Rattle.std.proofs.lemmas.List.{append-nil}
 use mathlib.Core.Option.{some, some-injective, some-ne-none}
 use lib.ListN.{get_elem?}
@@ -11,13 +11,13 @@ use Rattle.cb_world.specs.Shown.{object_at, version_at}
 use Rattle.cb_rule.specs.declared.view.Stand.{Stand}
 use Rattle.cb_rule.specs.declared.view.View.{View}
 use Rattle.cb_rule.specs.History.{WasNow, is_version, newest, no_value, top}
-use Rattle.cb_rule.specs.Lists.{times, total, Each, Has}
+use Rattle.cb_rule.specs.Lists.{total, Has}
 use Rattle.cb_rule.specs.Records.{HeldOk, PeekedOk, PinOk, RecordOk, SeatOk, SeenOk, TurnOk, seen_of}
 use Rattle.cb_rule.specs.Rule.{StandsIn, Kept}
 use Rattle.cb_rule.specs.Ruled.{AreShares, Beside, IsSteady, Ruled}
 use Rattle.cb_rule.specs.Seats.{claims_it, claims_on, holding, pins_it, pins_on, share_of, written_on}
 use Rattle.cb_rule.specs.Stands.{Stands}
-use Rattle.cb_rule.specs.Steps.{all_seen, blank, joined, left_of, right_of}
+use Rattle.cb_rule.specs.Steps.{blank, joined, left_of, right_of}
 use Rattle.cb_rule.proofs.Counts.{each_append, each_map, each_mapped, times-append, total-same, total-set, total-snoc}
 use Rattle.cb_rule.proofs.Keeping.{seats_stay}
 

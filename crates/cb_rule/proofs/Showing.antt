@@ -1,19 +1,15 @@
 -- The world that the table shows is sound where what is known is.
-use Rattle.std.proofs.Common.{◌≡◌, ◌⊎◌, ℕ, zero, suc, ◌+◌, ◌*◌, ◌<◌, ◌≤◌, Bool, true, false, List, [], ◌∷◌, length, get_or, sym, refl, ap, ◌∙◌, subst, inl, inr, ⊎_elim, arith, eqb-true}
-use lib.ListN.{get_elem?}
-use mathlib.Core.Option.{some}
+use Rattle.std.proofs.Common.{◌≡◌, ℕ, zero, suc, ◌*◌, ◌<◌, ◌≤◌, List, [], ◌∷◌, length, get_or, sym, refl, ap, ◌∙◌, ⊎_elim, arith, eqb-true}
 use Rattle.cb_types.specs.declared.config.Config.{Config}
 use Rattle.cb_world.specs.declared.entry.Entry.{Entry}
 use Rattle.cb_world.specs.declared.object.Object.{Object}
 use Rattle.cb_world.specs.declared.object.Object.TheVariants as is
 use Rattle.cb_world.specs.declared.shown.Shown.{Shown}
 use Rattle.cb_world.specs.FarState.{FarState}
-use Rattle.cb_world.specs.Memory.{window}
-use Rattle.cb_world.specs.Shown.{IsHeld, Owns, never, object_at, version_at}
+use Rattle.cb_world.specs.Shown.{IsHeld, object_at, version_at}
 use Rattle.cb_world.specs.Sound.{Sound}
 use Rattle.cb_world.specs.StillDesk.{window_length}
 use Rattle.cb_world.proofs.Laws.{IsSeen, seen_sound, window_at}
-use Rattle.cb_rule.specs.declared.view.Held.{Held}
 use Rattle.cb_rule.specs.declared.view.View.{View}
 use Rattle.cb_rule.specs.AsShown.{as_shown}
 use Rattle.cb_rule.specs.History.{newest, top}
