@@ -56,7 +56,8 @@ empty_or word.Moving = inr (other_state word.Moving refl)
 bits_empty : (w : ℕ) → state_of w ≡ word.Empty → w % 4 ≡ 0
 bits_empty w e = sym (state_number-state_of w) ∙ ap state_number e
 
-module _ (c : Config) (ws : List ℕ) (views : List View) (known : Shown) (es : List Entry) (r : Kept c ws views known es) where
+module _ (c : Config) (ws : List ℕ) (views : List View) (known : Shown) (es : List Entry)
+    (r : Kept c ws views known es) where
   -- an object that a record knows was made
   pub known_made : (id h : ℕ) (v : View) → get_elem? views id ≡ some v → Knows h v → 0 < top es h
   known_made id h v at knows = let ok = (r.seats id v at).lasting in ⊎_elim
@@ -109,7 +110,8 @@ module _ (c : Config) (ws : List ℕ) (views : List View) (known : Shown) (es : 
   own_pins shares id h v at whole = total_alone (pins_on h) views id v at
       (λ j u ne there. ap (pins_on h) (others_spent c views id j v u shares at whole ne there))
 
-module _ (beside : Beside) (steady : IsSteady beside) (first : ℕ) (c : Config) (slots id : ℕ) (me : Sat) where
+module _ (beside : Beside) (steady : IsSteady beside) (first : ℕ) (c : Config) (slots id : ℕ)
+    (me : Sat) where
   -- a load of the pointer word of an object that the record knows
   pub glances : 1 ≤ me.0.share → (h : ℕ) → h < c.handles → Knows h me.0
       → Allows (Ruled beside first c) slots id me (1 + h) (λ n. n)

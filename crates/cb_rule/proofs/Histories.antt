@@ -100,7 +100,8 @@ module _ (first : ℕ) (pos : 1 ≤ first) where
       → (first ≤ e.version) × (e.version ≤ top es e.handle)
   entry_within e [] k h = absurd h
   entry_within e (x ∷ es) k h = ⊎_elim
-      (λ (is : x ≡ e). subst (λ (y : Entry). (first ≤ y.version) × (y.version ≤ top (x ∷ es) y.handle))
+      (λ (is : x ≡ e). subst (λ (y : Entry). (first ≤ y.version) × (y.version ≤ top
+      (x ∷ es) y.handle))
       is ((above x es k).0, (let t = top_same x es in omega arith)))
       (λ (more : Has e es). let z = entry_within e es k.1 more in
       (z.0, (let r = rises x es e.handle k in let a = z.1 in omega arith))) h

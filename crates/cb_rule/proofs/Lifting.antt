@@ -43,7 +43,8 @@ shares_stay c views id v w at same live r = record {
       (λ none. absurd (omega (arith, same, live, none))) (λ j u ne there. r.spent j u there);
 }
 
-module _ (beside : Beside) (steady : IsSteady beside) (first : ℕ) (c : Config) (s : Table) (id : ℕ) (v : View) (at : get_elem? s.views id ≡ some v) (r : Ruled beside first c s) where
+module _ (beside : Beside) (steady : IsSteady beside) (first : ℕ) (c : Config) (s : Table)
+    (id : ℕ) (v : View) (at : get_elem? s.views id ≡ some v) (r : Ruled beside first c s) where
   -- a step of any seat, under which what is known stays
   pub any_seat : (w : View) (ws : List ℕ) (es : List Entry) → w.share ≡ v.share → 1 ≤ v.share
       → IsAlike v w → get_or ws 0 0 ≡ get_or s.words 0 0
@@ -74,7 +75,8 @@ module _ (beside : Beside) (steady : IsSteady beside) (first : ℕ) (c : Config)
   next e i x holds live pos t = record {
     known = after e v.known;
     history = adds e v.known ++ r.history;
-    starts = first_stays e v.known ∙ ap (λ (k : Shown). k.first) ((r.kept.seats id v at).knows holds)
+    starts = first_stays e v.known ∙ ap (λ (k : Shown). k.first)
+        ((r.kept.seats id v at).knows holds)
         ∙ r.starts;
     kept = keeps_rule c s.words (set s.words i x) s.views id v e r.history (mine holds) at holds t;
     shares = shares_stay c s.views id v (act e v) at refl live r.shares;

@@ -46,7 +46,8 @@ others_spent c views id j v u r at whole ne there =
     let two = total-two share_of views id j v u ne at there in let all = r.whole in
     r.spent j u there (omega (arith, two, all, whole))
 
-module _ (c : Config) (ws : List ℕ) (views : List View) (known : Shown) (es : List Entry) (r : Kept c ws views known es) (shares : AreShares c views) where
+module _ (c : Config) (ws : List ℕ) (views : List View) (known : Shown) (es : List Entry)
+    (r : Kept c ws views known es) (shares : AreShares c views) where
   pub is_newest : (id : ℕ) (v : View) (h : ℕ) → get_elem? views id ≡ some v → 0 < top es h
       → IsNewest h (top es h) v
   is_newest id v h at pos = let ok = (r.seats id v at).lasting in record {

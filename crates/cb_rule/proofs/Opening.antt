@@ -45,7 +45,8 @@ alone_steady = record {
   joins = λ c s known id v other w at ne there quiet far. tt;
 }
 
-module _ (first : ℕ) (pos : 1 ≤ first) (c : Config) (ws : List ℕ) (wide : length ws ≡ base c + 512 * c.frames) (zeros : (i : ℕ) → get_or ws i 0 ≡ 0) where
+module _ (first : ℕ) (pos : 1 ≤ first) (c : Config) (ws : List ℕ) (wide : length ws
+    ≡ base c + 512 * c.frames) (zeros : (i : ℕ) → get_or ws i 0 ≡ 0) where
   abbrev s : Shown
   s = empty_shown first c
 
@@ -155,7 +156,8 @@ old_now c ws views known es r h l = go (object_at known h) (r.stand h l)
     go (is.Here len place) k = tt
     go (is.Claimed len place v words) k = (k.born, was v _ k.kept.at k.kept.has)
 
-module _ (beside : Beside) (steady : IsSteady beside) (first : ℕ) (c : Config) (slots id : ℕ) (me : Sat) (live : 1 ≤ me.0.share) (holds : me.0.holds ≡ true) where
+module _ (beside : Beside) (steady : IsSteady beside) (first : ℕ) (c : Config) (slots id : ℕ)
+    (me : Sat) (live : 1 ≤ me.0.share) (holds : me.0.holds ≡ true) where
   -- the holder ends a turn: a load of the lock
   pub ends_turn : Allows (Ruled beside first c) slots id me 0 (λ n. n)
       (rests (step slots 0 0 0 none) me)

@@ -333,7 +333,8 @@ module _ (c : Config) (ws : List ℕ) (views : List View) (known : Shown) (es : 
                 stamped = ap (stamp c ws') e ∙ own_stamp_is;
                 laid = wrd z.place z.len ∙ a.laid;
                 taken = ptr z.handle a.below ∙ a.taken;
-                risen = (let q = a.number in let o' = o.number in let same : top es z.handle ≡ top es h =
+                risen = (let q = a.number in let o' = o.number in
+                    let same : top es z.handle ≡ top es h =
                     ap (top es) e in omega (arith, q, o', same, low));
               })
               (λ z is a. let ne = eqb-false z.handle h is in

@@ -97,7 +97,8 @@ seen_is es h k len words value n e = (
   },
 )
 
-module _ (c : Config) (ws : List ℕ) (views : List View) (known : Shown) (es : List Entry) (r : Kept c ws views known es) (shares : AreShares c views) where
+module _ (c : Config) (ws : List ℕ) (views : List View) (known : Shown) (es : List Entry)
+    (r : Kept c ws views known es) (shares : AreShares c views) where
   -- what a word tells of an object that lies in local memory and that no one claims
   pub finds : (id h : ℕ) (v : View) → get_elem? views id ≡ some v → h < c.handles
       → (o : Lies c ws views known es r h)
@@ -133,7 +134,8 @@ pin_below : (old new f : ℕ) → old < 2 ^ 53 → old % 4 ≡ 2 → old / 8 % 1
     → new + f * 4 ≡ old + 12 → new < 2 ^ 53
 pin_below old new f b s p e n = omega arith
 
-module _ (beside : Beside) (steady : IsSteady beside) (first : ℕ) (c : Config) (slots id : ℕ) (me : Sat) (live : 1 ≤ me.0.share) (h : ℕ) (l : h < c.handles) where
+module _ (beside : Beside) (steady : IsSteady beside) (first : ℕ) (c : Config) (slots id : ℕ)
+    (me : Sat) (live : 1 ≤ me.0.share) (h : ℕ) (l : h < c.handles) where
   -- an exchange found another word
   pub lost : (s : Rattle.cb_rule.specs.Slot.Table) (x : ℕ) → Ruled beside first c s
       → get_elem? s.views id ≡ some me.0
@@ -281,7 +283,8 @@ module _ (beside : Beside) (steady : IsSteady beside) (first : ℕ) (c : Config)
           homes = s.homes;
           views = set s.views id w;
         }) (sym less)
-            (any_seat beside steady first c s id me.0 at r w (set s.words (1 + h) (x - 8)) es refl live
+            (any_seat beside steady first c s id me.0 at r w (set s.words (1 + h)
+            (x - 8)) es refl live
             record { holds = refl; took = refl; turns = refl }
             (same_lock s.words (1 + h) (x - 8) (omega arith))
             (calm_rule c s.words s.views r.known es k h l o (x - 8) id me.0 w at quiet (

@@ -43,7 +43,8 @@ version_true e = ap (λ (b : Bool). b && eqb e.version e.version) (eq-eqb e.hand
 far_bare : (w n : ℕ) → w ≡ 1 + n * 8192 → w / 8 % 1024 ≡ 0
 far_bare w n e = omega arith
 
-module _ (c : Config) (ws : List ℕ) (views : List View) (known : Shown) (es : List Entry) (r : Kept c ws views known es) where
+module _ (c : Config) (ws : List ℕ) (views : List View) (known : Shown) (es : List Entry)
+    (r : Kept c ws views known es) where
   all_written : (j : ℕ) (u : View) → get_elem? views j ≡ some u
       → Each (λ e. Has e es) (u.fresh ++ u.written)
   all_written j u at = let ok = (r.seats j u at).lasting in
@@ -195,7 +196,8 @@ module _ (c : Config) (ws : List ℕ) (views : List View) (known : Shown) (es : 
     pins = pins_stand;
     few = λ u at. (r.seats at.0 u at.1).few;
     claims = claims_stand;
-    apart = λ h k p lh lk ne a b ca cb. r.apart h (len_of (pointer ws h)) (place_of (pointer ws h)) k
+    apart = λ h k p lh lk ne a b ca cb. r.apart h (len_of (pointer ws h)) (place_of
+        (pointer ws h)) k
         (len_of (pointer ws k)) (place_of (pointer ws k)) p (named_lies h lh a) (named_lies k lk b)
         ne ca cb;
     here = here_stands;

@@ -64,7 +64,8 @@ never_now es h = record {
   has = refl;
 }
 
-module _ (c : Config) (ws : List ℕ) (views : List View) (known : Shown) (es : List Entry) (r : Kept c ws views known es) where
+module _ (c : Config) (ws : List ℕ) (views : List View) (known : Shown) (es : List Entry)
+    (r : Kept c ws views known es) where
   -- a view without pins and claims, which knows some entries
   fresh_seat : (given : ℕ) (v : View) → v.config ≡ c → RecordOk c known.first es v
       → SeatOk c ws known es (right_of given v)
@@ -202,7 +203,8 @@ module _ (c : Config) (ws : List ℕ) (views : List View) (known : Shown) (es : 
         (let e = times-append (is_version h k) w.fresh v.fresh in
         let e' = times-append (is_version h k) w.written v.written in omega (arith, e, e')) refl
         ∙ r.recorded h k;
-    one = let e = sums holding (let z : holding v ≡ holding v + holding w = omega (arith, none) in z)
+    one = let e = sums holding (let z : holding v ≡ holding v + holding w = omega (arith, none) in
+        z)
         refl in omega (arith, e, r.one);
   }
     where
@@ -297,7 +299,8 @@ module _ (beside : Beside) (steady : IsSteady beside) (first : ℕ) (c : Config)
     known = r.known;
     history = r.history;
     starts = r.starts;
-    kept = kept_joins c s.words s.views r.known r.history r.kept id v other w at ne there quiet bare;
+    kept = kept_joins c s.words s.views r.known r.history r.kept id v other w at ne there quiet
+        bare;
     shares = shares_joined c s.views id v other w at there live r.shares;
     far = steady.joins c s r.known id v other w at ne there quiet r.far;
   }

@@ -27,7 +27,8 @@ beyond [] i d e = refl
 beyond (x ∷ xs) zero d e = absurd (omega (arith, e))
 beyond (x ∷ xs) (suc i) d e = beyond xs i d (omega (arith, e))
 
-module _ (c : Config) (ws : List ℕ) (views : List View) (known : Shown) (es : List Entry) (r : Kept c ws views known es) where
+module _ (c : Config) (ws : List ℕ) (views : List View) (known : Shown) (es : List Entry)
+    (r : Kept c ws views known es) where
   abbrev t : Shown
   t = as_shown c ws known
 
