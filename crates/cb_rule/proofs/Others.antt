@@ -20,7 +20,7 @@ use Rattle.cb_rule.specs.Rule.{StandsIn, Kept}
 use Rattle.cb_rule.specs.Seats.{claims_it, claims_on, holding, pins_it, pins_on, written_on}
 use Rattle.cb_rule.specs.Stands.{IsCalm, IsShared, IsTaken, Stands}
 use Rattle.cb_rule.specs.Words.{base, pointer, stamp, words_at}
-use Rattle.cb_rule.proofs.Counts.{hit, each_map, each_none, each_there, times-append, total-at, total-same, total-two}
+use Rattle.cb_rule.proofs.Counts.{hit, each_none, each_there, times-append, total-at, total-same, total-two, total-set, each_append}
 use Rattle.cb_rule.proofs.Growing.{record_more}
 use Rattle.cb_rule.proofs.Keeping.{held_same, pin_same, seats_stay, stands_same}
 
@@ -137,14 +137,14 @@ module _ (c : Config) (ws ws' : List ℕ) (views : List View) (id : ℕ) (v w : 
     history = t.follows;
     within = within_all;
     recorded = λ a k. let wrote = t.wrote a k in let before = r.recorded a k in
-        let sum = Rattle.cb_rule.proofs.Counts.total-set (written_on a k) views id v w at in
+        let sum = total-set (written_on a k) views id v w at in
         let all = times-append (is_version a k) more es in omega (arith, wrote, before, sum, all);
     one = let e = total-same holding views id v w at
         (ap (λ (b : Bool). cond {A = ℕ} b 1 0) t.holds) in omega (arith, e, r.one);
   }
     where
       within_all : Each (λ (x : Entry). x.handle < c.handles) (more ++ es)
-      within_all = Rattle.cb_rule.proofs.Counts.each_append
+      within_all = each_append
           (λ (x : Entry). x.handle < c.handles) more es t.within r.within
 
 -- an object that a seat claims outside of a turn
