@@ -20,7 +20,7 @@ use Rattle.cb_rule.specs.Rule.{StandsIn, Kept}
 use Rattle.cb_rule.specs.Seats.{claims_it, claims_on, holding, pins_it, pins_on, written_on}
 use Rattle.cb_rule.specs.Stands.{IsCalm, IsShared, IsTaken, Stands}
 use Rattle.cb_rule.specs.Words.{base, pointer, stamp, words_at}
-use Rattle.cb_rule.proofs.Counts.{hit, each_none, each_there, times-append, total-at, total-same, total-two, total-set, each_append}
+use Rattle.cb_rule.proofs.Counts.{each_none, each_there, times-append, total-at, total-same, total-two, total-set, each_append}
 use Rattle.cb_rule.proofs.Growing.{record_more}
 use Rattle.cb_rule.proofs.Keeping.{held_same, pin_same, seats_stay, stands_same}
 
