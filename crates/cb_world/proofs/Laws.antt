@@ -35,6 +35,7 @@ pub use Rattle.cb_world.proofs.NowKept.{brought_now, now_kept, put_away_now}
 pub use Rattle.cb_world.proofs.NowOthers.{contents_beside, near_lies}
 pub use Rattle.cb_world.proofs.NowSame.{bits, empty_now, empty_value, far_object, near_now, near_object, now_by_words, now_same}
 pub use Rattle.cb_world.proofs.OpenKept.{leaving_claimed, open_here, open_kept, open_same, open_word, pins_hold, pins_leave, seat_beside}
+pub use Rattle.cb_world.proofs.Packed.{contents_packed, packed_write}
 pub use Rattle.cb_world.proofs.Patching.{join_is_merged, parity_step, patched_more}
 pub use Rattle.cb_world.proofs.PinNow.{pinned_now, unpinned_now}
 pub use Rattle.cb_world.proofs.Pins.{pin_counts, pin_sound, pinned_still, unpin_sound}
@@ -44,7 +45,7 @@ pub use Rattle.cb_world.proofs.Reserving.{noted_by, reserved_is_other, reserved_
 pub use Rattle.cb_world.proofs.Rooms.{room_dropped, room_empty, room_left, room_put, room_puts, room_wiped}
 pub use Rattle.cb_world.proofs.RowPut.{HasRowPut, IsNewOr, IsRefilled, IsRenamed, row_put_away, row_put_join, row_put_words}
 pub use Rattle.cb_world.proofs.RowWords.{length_words, row_put, windows_agree, words_of_row}
-pub use Rattle.cb_world.proofs.Seen.{batch_owned, frame_owned, frame_spares}
+pub use Rattle.cb_world.proofs.Seen.{IsSeen, batch_owned, frame_owned, frame_spares, seen_sound}
 pub use Rattle.cb_world.proofs.SetChanging.{drops_more, kept_same, set_there}
 pub use Rattle.cb_world.proofs.SetWalk.{IsFirst, first_from}
 pub use Rattle.cb_world.proofs.SetsLeft.{drop_count, drop_fewer, drop_room, drop_there, left_count, left_given, left_others, left_over, left_room}

@@ -1,0 +1,281 @@
+-- Loads of any seat: of a pointer word, of a version word, and of a memory word that it pins or
+-- claims.
+use Rattle.std.proofs.Common.{◌≡◌, ◌≢◌, ◌⊎◌, ℕ, ◌+◌, ◌%◌, ◌^◌, ◌<◌, ◌≤◌, Bool, true, false, List, ◌++◌, get_or, set, sym, refl, ap, ◌∙◌, subst, inl, inr, ⊎_elim, arith, true≢false}
+use mathlib.Core.Option.{some, none}
+use lib.ListN.{get_elem?}
+use Rattle.atomic_table.specs.Table.{step, keeps, Allows}
+use Rattle.cb_types.specs.declared.config.Config.{Config}
+use Rattle.cb_ptr.specs.declared.word.State.{State}
+use Rattle.cb_ptr.specs.declared.word.State.TheVariants as word
+use Rattle.cb_ptr.specs.Word.{state_of, state_number, pins_of}
+use Rattle.cb_ptr.proofs.Laws.{state_number-state_of}
+use Rattle.cb_world.specs.declared.entry.Entry.{Entry}
+use Rattle.cb_world.specs.declared.object.Object.{Object}
+use Rattle.cb_world.specs.declared.object.Object.TheVariants as is
+use Rattle.cb_world.specs.declared.shown.Shown.{Shown}
+use Rattle.cb_world.specs.Memory.{words_for}
+use Rattle.cb_world.specs.Shown.{Fits, object_at, version_at}
+use Rattle.cb_world.proofs.Laws.{window_at}
+use Rattle.cb_rule.specs.declared.view.Held.{Held}
+use Rattle.cb_rule.specs.declared.view.Seen.{Seen}
+use Rattle.cb_rule.specs.declared.view.Stand.{Stand}
+use Rattle.cb_rule.specs.declared.view.View.{View}
+use Rattle.cb_rule.specs.History.{newest, top}
+use Rattle.cb_rule.specs.Lists.{total, Has}
+use Rattle.cb_rule.specs.Records.{PinOk, HeldOk, SeenOk}
+use Rattle.cb_rule.specs.Rule.{Kept}
+use Rattle.cb_rule.specs.Ruled.{AreShares, Beside, IsSteady, Ruled}
+use Rattle.cb_rule.specs.Seats.{pins_on, claims_on}
+use Rattle.cb_rule.specs.Slot.{Sat, Table}
+use Rattle.cb_rule.specs.Stands.{Stands}
+use Rattle.cb_rule.specs.Steps.{IsNewest, Knows, LoadsHeld, TellsHeld, TellsPin, dated, freed_seen, glanced, read_held, with_freed, with_look}
+use Rattle.cb_rule.specs.Words.{stamps, base, pointer}
+use Rattle.cb_rule.proofs.Calm.{lies, still_rule}
+use Rattle.cb_rule.proofs.Counts.{each_append, each_map, each_there, total-at}
+use Rattle.cb_rule.proofs.Histories.{entry_within, newest_entry}
+use Rattle.cb_rule.proofs.Members.{each_has}
+use Rattle.cb_rule.proofs.Lifting.{any_seat, same_words, set_same}
+use Rattle.cb_rule.proofs.Newest.{is_newest, others_spent, total_alone}
+use Rattle.cb_rule.proofs.Pinning.{lost, reread}
+
+abbrev is_empty : State → Bool
+is_empty word.Empty = true
+is_empty word.Far = false
+is_empty word.Here = false
+is_empty word.Moving = false
+
+other_state : (s : State) → is_empty s ≡ false → s ≢ word.Empty
+other_state s off e = true≢false (sym (ap is_empty e) ∙ off)
+
+empty_or : (s : State) → (s ≡ word.Empty) ⊎ (s ≢ word.Empty)
+empty_or word.Empty = inl refl
+empty_or word.Far = inr (other_state word.Far refl)
+empty_or word.Here = inr (other_state word.Here refl)
+empty_or word.Moving = inr (other_state word.Moving refl)
+
+bits_empty : (w : ℕ) → state_of w ≡ word.Empty → w % 4 ≡ 0
+bits_empty w e = sym (state_number-state_of w) ∙ ap state_number e
+
+module _ (c : Config) (ws : List ℕ) (views : List View) (known : Shown) (es : List Entry)
+    (r : Kept c ws views known es) where
+  -- an object that a record knows was made
+  pub known_made : (id h : ℕ) (v : View) → get_elem? views id ≡ some v → Knows h v → 0 < top es h
+  known_made id h v at knows = let ok = (r.seats id v at).lasting in ⊎_elim
+      (λ (k : (e : Entry) × Has e (v.fresh ++ v.written) × (e.handle ≡ h)).
+      of_entry k.0 (each_has (λ e. Has e es) k.0 (v.fresh ++ v.written)
+      (each_append (λ e. Has e es) v.fresh v.written ok.fresh ok.written) k.1) k.2)
+      (λ (k : (s : Seen) × Has s v.seen × (s.handle ≡ h)).
+      let o = each_has (SeenOk es) k.0 v.seen ok.seen k.1 in
+      of_entry o.0 o.1 (ap (λ (s : Seen). s.handle) (sym o.2) ∙ k.2)) knows
+    where
+      of_entry : (e : Entry) → Has e es → e.handle ≡ h → 0 < top es h
+      of_entry e there same = let z = entry_within known.first r.begins e es r.history there in
+          let low = z.0 in let high = z.1 in let b = r.begins in
+          let t : top es e.handle ≡ top es h = ap (top es) same in omega (arith, low, high, b, t)
+
+  -- an Empty word of such an object is that of a freed one
+  pub freed : (h : ℕ) → h < c.handles → 0 < top es h → state_of (pointer ws h) ≡ word.Empty
+      → SeenOk es (freed_seen h (top es h))
+  freed h l made empty = go (object_at known h) (r.stand h l) (r.fit h l)
+    where
+      w : ℕ
+      w = pointer ws h
+
+      go : (o : Object)
+          → Stands c known.first ws h (total (pins_on h) views) (total (claims_on h) views)
+          (top es h) (newest es h) (version_at known h) o
+          → Fits o w → SeenOk es (freed_seen h (top es h))
+      go (is.Empty v) k f = let n = newest_entry es h made in (
+        n.entry,
+        n.there,
+        λ i. record {
+          handle = sym n.handle i;
+          version = sym n.version i;
+          len = ((sym k.has ∙ sym n.has) i).len;
+          freed = ((sym k.has ∙ sym n.has) i).freed;
+          words = ((sym k.has ∙ sym n.has) i).words;
+        },
+      )
+      go (is.Far len v words) k f =
+          absurd (let b = bits_empty w empty in let n = f.0 in omega (arith, b, n))
+      go (is.Here len place) k f = absurd (⊎_elim
+          (λ (s : state_of w ≡ word.Here). other_state word.Here refl (sym s ∙ empty))
+          (λ (s : state_of w ≡ word.Moving). other_state word.Moving refl (sym s ∙ empty)) f.3)
+      go (is.Claimed len place v words) k f =
+          absurd (other_state word.Moving refl (sym f.4 ∙ empty))
+
+  -- with the whole share all pins are one's own
+  pub own_pins : AreShares c views → (id h : ℕ) (v : View) → get_elem? views id ≡ some v
+      → v.share ≡ 64 → total (pins_on h) views ≡ pins_on h v
+  own_pins shares id h v at whole = total_alone (pins_on h) views id v at
+      (λ j u ne there. ap (pins_on h) (others_spent c views id j v u shares at whole ne there))
+
+module _ (beside : Beside) (steady : IsSteady beside) (first : ℕ) (c : Config) (slots id : ℕ)
+    (me : Sat) where
+  -- a load of the pointer word of an object that the record knows
+  pub glances : 1 ≤ me.0.share → (h : ℕ) → h < c.handles → Knows h me.0
+      → Allows (Ruled beside first c) slots id me (1 + h) (λ n. n)
+      (glanced (step slots (1 + h) 0 0 none) me)
+  glances live h l knows s r _ at _ = ⊎_elim
+      (λ (e : state_of x ≡ word.Empty). (
+        with_freed h v x me.0,
+        keeps,
+        tt,
+        subst (λ (ws : List ℕ). Ruled beside first c record {
+          words = ws;
+          homes = s.homes;
+          views = set s.views id (with_freed h v x me.0);
+        }) (sym (same_words s.words (1 + h))) (found e),
+        λ h' q. let same : h ≡ h' = omega (arith, q) in (
+          (λ _. (
+            v,
+            ap (λ (j : ℕ). let z : Sat = (with_freed j v x me.0, me.1) in z) same,
+            subst (λ (j : ℕ). IsNewest j v me.0) same above,
+          )),
+          (λ ne. absurd (ne e)),
+          λ here. absurd (other_state word.Here refl (sym here ∙ e)),
+        ),
+      ))
+      (λ (ne : state_of x ≢ word.Empty). (
+        with_look h x me.0,
+        keeps,
+        tt,
+        subst (λ (ws : List ℕ). Ruled beside first c record {
+          words = ws;
+          homes = s.homes;
+          views = set s.views id (with_look h x me.0);
+        }) (sym (same_words s.words (1 + h)))
+            (lost beside steady first c slots id me live h l s x r at),
+        λ h' q. let same : h ≡ h' = omega (arith, q) in (
+          (λ e. absurd (ne e)),
+          (λ _. ap (λ (j : ℕ). let z : Sat = (with_look j x me.0, me.1) in z) same),
+          λ here. subst (λ (j : ℕ). (x < 2 ^ 53) × (pins_on j me.0 ≤ pins_of x)
+              × (me.0.share ≡ 64 → pins_of x ≡ pins_on j me.0)) same (pins here),
+        ),
+      )) (empty_or (state_of x))
+    where
+      k : Kept c s.words s.views r.known r.history
+      k = r.kept
+
+      x : ℕ
+      x = pointer s.words h
+
+      v : ℕ
+      v = top r.history h
+
+      made : 0 < top r.history h
+      made = known_made c s.words s.views r.known r.history k id h me.0 at knows
+
+      above : IsNewest h v me.0
+      above = is_newest c s.words s.views r.known r.history k r.shares id me.0 h at made
+
+      found : state_of x ≡ word.Empty → Ruled beside first c record {
+        words = s.words;
+        homes = s.homes;
+        views = set s.views id (with_freed h v x me.0);
+      }
+      found e = let ok = k.seats id me.0 at in
+          any_seat beside steady first c s id me.0 at r (with_freed h v x me.0) s.words r.history
+          refl live record { holds = refl; took = refl; turns = refl } refl
+          (still_rule c s.words s.views r.known r.history k id h me.0 (with_freed h v x me.0) at
+          record {
+            same_config = refl;
+            claims = refl;
+            wrote = λ a j. refl;
+            holds = refl;
+            knows = refl;
+            pins = ok.pins;
+            few = ok.few;
+            others = λ j ne. refl;
+            lasting = reread c r.known.first r.history me.0 me.0.share me.0.ever me.0.pins
+                me.0.claims _ _ me.0.peeked ok.lasting
+                (freed c s.words s.views r.known r.history k h l made e, ok.lasting.seen)
+                ok.lasting.peeked;
+          } refl)
+
+      pins : state_of x ≡ word.Here → (x < 2 ^ 53) × (pins_on h me.0 ≤ pins_of x)
+          × (me.0.share ≡ 64 → pins_of x ≡ pins_on h me.0)
+      pins here = let o = lies c s.words s.views r.known r.history k h l (inl here) in
+          let f = subst (λ (z : Object). Fits z x) o.here (k.fit h l) in (
+            f.0,
+            (let many = total-at (pins_on h) s.views id me.0 at in let n = o.calm.count in
+                omega (arith, many, n)),
+            λ whole. o.calm.count
+                ∙ own_pins c s.words s.views r.known r.history k r.shares id h me.0 at whole,
+          )
+
+  -- a load under which the view stays as it is
+  stays : (i : ℕ) (s : Table) → Ruled beside first c s → get_elem? s.views id ≡ some me.0
+      → Ruled beside first c record {
+        words = set s.words i (get_or s.words i 0);
+        homes = s.homes;
+        views = set s.views id me.0;
+      }
+  stays i s r at = subst (λ (ws : List ℕ). Ruled beside first c record {
+    words = ws;
+    homes = s.homes;
+    views = set s.views id me.0;
+  }) (sym (same_words s.words i))
+      (subst (λ (vs : List View). Ruled beside first c record {
+        words = s.words;
+        homes = s.homes;
+        views = vs;
+      }) (sym (set_same s.views id me.0 at)) r)
+
+  -- a load of a version word
+  pub dates : (i : ℕ) → Allows (Ruled beside first c) slots id me i (λ n. n)
+      (dated (step slots i 0 0 none) me)
+  dates i s r _ at _ = let k = r.kept in let ok = k.seats id me.0 at in (
+    me.0,
+    keeps,
+    tt,
+    stays i s r at,
+    (
+      refl,
+      each_there (PinOk c r.known r.history) (TellsPin me.0.config i (get_or s.words i 0))
+          (λ (p : Stand). p.handle) me.0.pins (λ p pos o e. pin p pos o e) ok.pins,
+      each_map (HeldOk c s.words r.known r.history)
+          (TellsHeld me.0.config i (get_or s.words i 0)) me.0.claims (λ y o e. held y o e)
+          ok.claims,
+    ),
+  )
+    where
+      at_stamp : (h : ℕ) → i ≡ stamps me.0.config + h
+          → get_or s.words i 0 ≡ get_or s.words (stamps c + h) 0
+      at_stamp h e = ap (λ (q : ℕ). get_or s.words q 0)
+          (e ∙ ap (λ (q : Config). stamps q + h) (r.kept.seats id me.0 at).same_config)
+
+      pin : (p : Stand) → 0 < pins_on p.handle me.0 → PinOk c r.known r.history p
+          → i ≡ stamps me.0.config + p.handle → get_or s.words i 0 ≡ p.version
+      pin p pos o e = let many = total-at (pins_on p.handle) s.views id me.0 at in
+          let z = lies c s.words s.views r.known r.history r.kept p.handle o.below
+          (inr (omega (arith, many, pos))) in
+          at_stamp p.handle e ∙ z.calm.stamped ∙ sym o.number
+
+      held : (y : Held) → HeldOk c s.words r.known r.history y
+          → i ≡ stamps me.0.config + y.handle → get_or s.words i 0 ≡ y.stamp
+      held y o e = at_stamp y.handle e ∙ o.stamped
+
+  -- a load of a memory word of an object that the seat claims
+  pub reads_held : (i : ℕ) → Allows (Ruled beside first c) slots id me i (λ n. n)
+      (read_held (step slots i 0 0 none) me)
+  reads_held i s r _ at _ = let k = r.kept in let ok = k.seats id me.0 at in (
+    me.0,
+    keeps,
+    tt,
+    stays i s r at,
+    (
+      refl,
+      each_map (HeldOk c s.words r.known r.history)
+          (LoadsHeld me.0.config i (get_or s.words i 0)) me.0.claims (λ y o j lt e. held y o j lt e)
+          ok.claims,
+    ),
+  )
+    where
+      held : (y : Held) → HeldOk c s.words r.known r.history y → (j : ℕ) → j < words_for y.len
+          → i ≡ base me.0.config + y.place + j → get_or s.words i 0 ≡ get_or y.memory j 0
+      held y o j lt e = ap (λ (q : ℕ). get_or s.words q 0)
+          (e ∙ ap (λ (q : Config). base q + y.place + j)
+          (r.kept.seats id me.0 at).same_config)
+          ∙ sym (window_at s.words (base c + y.place) (words_for y.len) j lt)
+          ∙ ap (λ (m : List ℕ). get_or m j 0) o.laid

@@ -1,0 +1,90 @@
+-- What holds of a history holds of it with more entries.
+use Rattle.std.proofs.Common.{◌≡◌, ℕ, ◌≤◌, List, [], ◌∷◌, ◌++◌, length, sym, ap, ◌∙◌, inl, inr, ⊎_elim, arith}
+use Rattle.std.proofs.lemmas.List.{append_assoc, length-append}
+use Rattle.cb_types.specs.declared.config.Config.{Config}
+use Rattle.cb_world.specs.declared.entry.Entry.{Entry}
+use Rattle.cb_world.specs.declared.event.Event.{Event}
+use Rattle.cb_world.specs.declared.event.Event.TheVariants as ev
+use Rattle.cb_world.specs.declared.object.Object.{Object}
+use Rattle.cb_world.specs.declared.object.Object.TheVariants as is
+use Rattle.cb_world.specs.Shown.{object_at}
+use Rattle.cb_rule.specs.declared.turn.Turn.{Turn}
+use Rattle.cb_rule.specs.declared.view.View.{View}
+use Rattle.cb_rule.specs.History.{Value, WasNow}
+use Rattle.cb_rule.specs.Lists.{Has}
+use Rattle.cb_rule.specs.Records.{SeenOk, PeekedOk, TellsOk, OldOk, TurnOk, RecordOk}
+use Rattle.cb_rule.proofs.Counts.{each_map}
+
+pub has_more : {A : Type 0} (x : A) (more xs : List A) → Has x xs → Has x (more ++ xs)
+has_more x [] xs h = h
+has_more x (y ∷ more) xs h = inr (has_more x more xs h)
+
+pub has_front : {A : Type 0} (x : A) (xs more : List A) → Has x xs → Has x (xs ++ more)
+has_front x [] more h = absurd h
+has_front x (y ∷ xs) more h =
+    ⊎_elim (λ (e : y ≡ x). inl e) (λ (r : Has x xs). inr (has_front x xs more r)) h
+
+pub longer : {A : Type 0} (more xs : List A) → length xs ≤ length (more ++ xs)
+longer more xs = let e = length-append more xs in omega arith
+
+module _ (more es : List Entry) where
+  pub now_more : (since until until' h v : ℕ) (value : Value) → until ≤ until'
+      → WasNow es since until h v value → WasNow (more ++ es) since until' h v value
+  now_more since until until' h v value le w = record {
+    newer = more ++ w.newer;
+    older = w.older;
+    parts = ap (λ (ys : List Entry). more ++ ys) w.parts ∙ sym (append_assoc more w.newer w.older);
+    low = w.low;
+    high = let a = w.high in omega (arith, a, le);
+    last = w.last;
+    has = w.has;
+  }
+
+  pub tells_more : (first since until until' : ℕ) (e : Event) → until ≤ until'
+      → TellsOk first es since until e → TellsOk first (more ++ es) since until' e
+  tells_more first since until until' (ev.Looked h w) le ok = tt
+  tells_more first since until until' (ev.Claimed h w v words) le ok =
+      (ok.0, now_more since until until' h v _ le ok.1)
+  tells_more first since until until' (ev.Told h v) le ok = tt
+  tells_more first since until until' (ev.Loaded p x) le ok = tt
+  tells_more first since until until' (ev.Stored p x) le ok = tt
+  tells_more first since until until' (ev.Stamped h v) le ok = tt
+  tells_more first since until until' (ev.Settled h w) le ok = tt
+
+  pub old_more : (first since h : ℕ) (o : Object)
+      → OldOk first es since h o → OldOk first (more ++ es) since h o
+  old_more first since h (is.Empty v) ok = now_more since since since h v _ (omega arith) ok
+  old_more first since h (is.Far len v words) ok =
+      (ok.0, now_more since since since h v _ (omega arith) ok.1)
+  old_more first since h (is.Here len place) ok = tt
+  old_more first since h (is.Claimed len place v words) ok =
+      (ok.0, now_more since since since h v _ (omega arith) ok.1)
+
+  pub turn_more : (c : Config) (first : ℕ) (t : Turn)
+      → TurnOk c first es t → TurnOk c first (more ++ es) t
+  turn_more c first t ok = record {
+    told = each_map (TellsOk first es t.since t.until) (TellsOk first (more ++ es) t.since t.until)
+        t.acts (λ e o. tells_more first t.since t.until t.until e (omega arith) o) ok.told;
+    began = λ h l. old_more first t.since h (object_at t.start h) (ok.began h l);
+  }
+
+  pub record_more : (c : Config) (first : ℕ) (u : View)
+      → RecordOk c first es u → RecordOk c first (more ++ es) u
+  record_more c first u ok = record {
+    written = each_map (λ e. Has e es) (λ e. Has e (more ++ es)) u.written
+        (λ e h. has_more e more es h) ok.written;
+    fresh = each_map (λ e. Has e es) (λ e. Has e (more ++ es)) u.fresh
+        (λ e h. has_more e more es h) ok.fresh;
+    seen = each_map (SeenOk es) (SeenOk (more ++ es)) u.seen
+        (λ s o. (o.0, has_more o.0 more es o.1, o.2)) ok.seen;
+    peeked = each_map (PeekedOk es) (PeekedOk (more ++ es)) u.peeked
+        (λ p o. (o.0, has_more o.0 more es o.1, o.2)) ok.peeked;
+    reached = let a = ok.reached in let b = longer more es in omega (arith, a, b);
+    told = each_map (TellsOk first es u.since (length es))
+        (TellsOk first (more ++ es) u.since (length (more ++ es))) u.acts
+        (λ e o. tells_more first u.since (length es) (length (more ++ es)) e (longer more es) o)
+        ok.told;
+    began = λ h l. old_more first u.since h (object_at u.start h) (ok.began h l);
+    past = each_map (TurnOk c first es) (TurnOk c first (more ++ es)) u.turns
+        (λ t o. turn_more c first t o) ok.past;
+  }

@@ -1,0 +1,74 @@
+-- What a record has of an object is not newer than the newest, which with the whole share it wrote.
+use Rattle.std.proofs.Common.{◌≡◌, ◌≢◌, ℕ, zero, suc, ◌<◌, ◌≤◌, List, [], ◌∷◌, ◌++◌, sym, refl, ap, subst, ⊎_elim, arith}
+use mathlib.Core.Option.{some, some-injective, some-ne-none}
+use lib.ListN.{get_elem?}
+use Rattle.cb_types.specs.declared.config.Config.{Config}
+use Rattle.cb_world.specs.declared.entry.Entry.{Entry}
+use Rattle.cb_world.specs.declared.shown.Shown.{Shown}
+use Rattle.cb_rule.specs.declared.view.Seen.{Seen}
+use Rattle.cb_rule.specs.declared.view.View.{View}
+use Rattle.cb_rule.specs.History.{top}
+use Rattle.cb_rule.specs.Lists.{total, Has}
+use Rattle.cb_rule.specs.Records.{SeenOk}
+use Rattle.cb_rule.specs.Rule.{Kept}
+use Rattle.cb_rule.specs.Ruled.{AreShares}
+use Rattle.cb_rule.specs.Seats.{share_of, written_on}
+use Rattle.cb_rule.specs.Steps.{IsNewest, blank}
+use Rattle.cb_rule.proofs.Counts.{each_append, each_map, total-two}
+use Rattle.cb_rule.proofs.Histories.{begun, entry_within, once}
+
+-- a total to which one element alone adds
+pub total_alone : {A : Type 0} (f : A → ℕ) (vs : List A) (i : ℕ) (v : A) → get_elem? vs i ≡ some v
+    → ((j : ℕ) (u : A) → j ≢ i → get_elem? vs j ≡ some u → f u ≡ 0) → total f vs ≡ f v
+total_alone f [] i v at none = absurd (some-ne-none v (sym at))
+total_alone f (x ∷ xs) zero v at none =
+    let mine : f x ≡ f v = ap f (some-injective x v at) in
+    let rest = total_none xs (λ j u there. none (suc j) u (λ e. away j e) there) in omega arith
+  where
+    away : (j : ℕ) → suc j ≡ 0 → ⊥
+    away j e = omega (arith, e)
+
+    total_none : (ys : List _) → ((j : ℕ) (u : _) → get_elem? ys j ≡ some u → f u ≡ 0)
+        → total f ys ≡ 0
+    total_none [] g = refl
+    total_none (y ∷ ys) g = let a = g 0 y refl in
+        let b = total_none ys (λ j u there. g (suc j) u there) in omega arith
+total_alone f (x ∷ xs) (suc i) v at none =
+    let head = none 0 x (λ e. omega (arith, e)) refl in
+    let rest = total_alone f xs i v at
+    (λ j u ne there. none (suc j) u (λ e. ne (omega (arith, e))) there) in omega arith
+
+-- with the whole share all others are spent
+pub others_spent : (c : Config) (views : List View) (id j : ℕ) (v u : View) → AreShares c views
+    → get_elem? views id ≡ some v → v.share ≡ 64 → j ≢ id → get_elem? views j ≡ some u
+    → u ≡ blank c
+others_spent c views id j v u r at whole ne there =
+    let two = total-two share_of views id j v u ne at there in let all = r.whole in
+    r.spent j u there (omega (arith, two, all, whole))
+
+module _ (c : Config) (ws : List ℕ) (views : List View) (known : Shown) (es : List Entry)
+    (r : Kept c ws views known es) (shares : AreShares c views) where
+  pub is_newest : (id : ℕ) (v : View) (h : ℕ) → get_elem? views id ≡ some v → 0 < top es h
+      → IsNewest h (top es h) v
+  is_newest id v h at pos = let ok = (r.seats id v at).lasting in record {
+    written = each_map (λ e. Has e es) (λ (e : Entry). e.handle ≡ h → e.version ≤ top es h)
+        (v.fresh ++ v.written) (λ e there same. below e there same)
+        (each_append (λ e. Has e es) v.fresh v.written ok.fresh ok.written);
+    seen = each_map (SeenOk es) (λ (s : Seen). s.handle ≡ h → s.version ≤ top es h) v.seen
+        (λ s o same. subst (λ (x : Seen). x.handle ≡ h → x.version ≤ top es h) (sym o.2)
+        (λ q. below o.0 o.1 q) same) ok.seen;
+    whole = λ all. let lone = total_alone (written_on h (top es h)) views id v at
+        (λ j u ne there. ap (λ (x : View). written_on h (top es h) x)
+        (others_spent c views id j v u shares at all ne there)) in
+        let count = r.recorded h (top es h) in
+        let one = once known.first r.begins es h (top es h) r.history in
+        let low = born in omega (arith, lone, count, one, low);
+  }
+    where
+      born : known.first ≤ top es h
+      born = ⊎_elim (λ (z : (top es h ≡ 0) × _). let q = z.0 in absurd (omega (arith, pos, q)))
+          (λ (z : known.first ≤ top es h). z) (begun known.first r.begins es h r.history)
+
+      below : (e : Entry) → Has e es → e.handle ≡ h → e.version ≤ top es h
+      below e there same = let z = (entry_within known.first r.begins e es r.history there).1 in
+          let t : top es e.handle ≡ top es h = ap (top es) same in omega (arith, z, t)

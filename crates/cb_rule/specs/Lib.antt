@@ -1,0 +1,12 @@
+pub mod Lists
+pub mod Words
+pub mod History
+pub mod Slot
+pub mod Seats
+pub mod Stands
+pub mod Rule
+pub mod Records
+pub mod Steps
+pub mod Ruled
+pub mod Promised
+pub mod AsShown

@@ -1,0 +1,104 @@
+-- What a view says is true: of its pins and claims now, of its entries and its turns for good.
+use Rattle.std.specs.Prelude.{◌≡◌, ℕ, ◌+◌, ◌≤◌, ◌<◌, true, List, length, slice_index}
+use Rattle.cb_types.specs.declared.config.Config.{Config}
+use Rattle.cb_ptr.specs.Word.{len_of}
+use Rattle.cb_world.specs.declared.entry.Entry.{Entry}
+use Rattle.cb_world.specs.declared.event.Event.{Event}
+use Rattle.cb_world.specs.declared.event.Event.TheVariants.{Claimed}
+use Rattle.cb_world.specs.declared.object.Object.{Object}
+use Rattle.cb_world.specs.declared.object.Object.TheVariants as is
+use Rattle.cb_world.specs.declared.shown.Shown.{Shown}
+use Rattle.cb_world.specs.Memory.{words_for}
+use Rattle.cb_world.specs.Shown.{object_at}
+use Rattle.cb_rule.specs.declared.turn.Turn.{Turn}
+use Rattle.cb_rule.specs.declared.view.Held.{Held}
+use Rattle.cb_rule.specs.declared.view.Peeked.{Peeked}
+use Rattle.cb_rule.specs.declared.view.Seen.{Seen}
+use Rattle.cb_rule.specs.declared.view.Stand.{Stand}
+use Rattle.cb_rule.specs.declared.view.View.{View}
+use Rattle.cb_rule.specs.History.{holding_words, no_value, top, newest, WasNow}
+use Rattle.cb_rule.specs.Lists.{Each, Has}
+use Rattle.cb_rule.specs.Words.{pointer, stamp, words_at}
+
+-- the pinned object lies there, and the pin has its newest entry
+pub record PinOk (c : Config) (known : Shown) (es : List Entry) (p : Stand) : Type 0 where
+  pub below : p.handle < c.handles
+  pub there : object_at known p.handle ≡ is.Here p.len p.place
+  pub number : p.version ≡ top es p.handle
+  pub contents : newest es p.handle ≡ holding_words p.len p.words
+
+-- the claimed object lies there, and the claim has its newest entry, its version word and its memory
+pub record HeldOk (c : Config) (ws : List ℕ) (known : Shown) (es : List Entry)
+    (x : Held) : Type 0 where
+  pub below : x.handle < c.handles
+  pub there : object_at known x.handle ≡ is.Here x.len x.place
+  pub number : x.version ≡ top es x.handle
+  pub contents : newest es x.handle ≡ holding_words x.len x.old
+  pub stamped : stamp c ws x.handle ≡ x.stamp
+  pub laid : words_at c ws x.place x.len ≡ x.memory
+  pub taken : pointer ws x.handle ≡ x.word + 1
+  pub risen : x.version ≤ x.stamp
+
+-- the entry, as one that was read
+abbrev pub seen_of : Entry → Seen
+seen_of e = record {
+  handle = e.handle;
+  version = e.version;
+  len = e.len;
+  freed = e.freed;
+  words = e.after;
+}
+
+-- what was read is an entry of the history
+abbrev pub SeenOk : List Entry → Seen → Type 0
+SeenOk es s = (e : Entry) × Has e es × (s ≡ seen_of e)
+
+-- the word that was peeked is one of an entry's
+pub record IsWordOf (e : Entry) (p : Peeked) : Type 0 where
+  pub handle : p.handle ≡ e.handle
+  pub version : p.version ≡ e.version
+  pub within : p.index < words_for e.len
+  pub word : p.word ≡ slice_index e.after p.index
+
+abbrev pub PeekedOk : List Entry → Peeked → Type 0
+PeekedOk es p = (e : Entry) × Has e es × IsWordOf e p
+
+-- what a claim told was the object's newest entry at some time of the turn
+abbrev pub TellsOk : ℕ → List Entry → ℕ → ℕ → Event → Type 0
+TellsOk first es since until (Claimed h w v words) =
+    (first ≤ v) × WasNow es since until h v (holding_words (len_of w) words)
+TellsOk first es since until _ = Unit {0}
+
+-- so was, when the turn began, what was known of an object
+abbrev pub OldOk : ℕ → List Entry → ℕ → ℕ → Object → Type 0
+OldOk first es since h (is.Empty v) = WasNow es since since h v no_value
+OldOk first es since h (is.Far len v words) =
+    (first ≤ v) × WasNow es since since h v (holding_words len words)
+OldOk first es since h (is.Here len place) = Unit {0}
+OldOk first es since h (is.Claimed len place v words) =
+    (first ≤ v) × WasNow es since since h v (holding_words len words)
+
+-- a turn that ended
+pub record TurnOk (c : Config) (first : ℕ) (es : List Entry) (t : Turn) : Type 0 where
+  pub told : Each (TellsOk first es t.since t.until) t.acts
+  pub began : (h : ℕ) → h < c.handles → OldOk first es t.since h (object_at t.start h)
+
+-- what a view's record says for good
+pub record RecordOk (c : Config) (first : ℕ) (es : List Entry) (u : View) : Type 0 where
+  pub written : Each (λ e. Has e es) u.written
+  pub fresh : Each (λ e. Has e es) u.fresh
+  pub seen : Each (SeenOk es) u.seen
+  pub peeked : Each (PeekedOk es) u.peeked
+  pub reached : u.since ≤ length es
+  pub told : Each (TellsOk first es u.since (length es)) u.acts
+  pub began : (h : ℕ) → h < c.handles → OldOk first es u.since h (object_at u.start h)
+  pub past : Each (TurnOk c first es) u.turns
+
+pub record SeatOk (c : Config) (ws : List ℕ) (known : Shown) (es : List Entry)
+    (u : View) : Type 0 where
+  pub same_config : u.config ≡ c
+  pub pins : Each (PinOk c known es) u.pins
+  pub few : length u.pins ≤ 17
+  pub claims : Each (HeldOk c ws known es) u.claims
+  pub knows : u.holds ≡ true → u.known ≡ known
+  pub lasting : RecordOk c known.first es u
