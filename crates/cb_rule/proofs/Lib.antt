@@ -27,3 +27,4 @@ pub mod WorkedHistory
 pub mod WorkedViews
 pub mod WorkedStands
 pub mod WorkedClaims
+pub mod WorkedPromise

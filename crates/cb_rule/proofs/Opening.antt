@@ -28,7 +28,7 @@ use Rattle.cb_rule.proofs.Members.{each_has}
 use Rattle.cb_rule.proofs.Lifting.{any_seat, same_words}
 use Rattle.cb_rule.proofs.Seating.{never_now}
 
-same_each : {A : Type 0} (n : ℕ) (x : A) (i : ℕ) → get_or (replicate n x) i x ≡ x
+pub same_each : {A : Type 0} (n : ℕ) (x : A) (i : ℕ) → get_or (replicate n x) i x ≡ x
 same_each zero x i = refl
 same_each (suc n) x zero = refl
 same_each (suc n) x (suc i) = same_each n x i

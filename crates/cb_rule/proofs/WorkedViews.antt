@@ -11,7 +11,7 @@ use Rattle.cb_rule.specs.Seats.{written_on}
 use Rattle.cb_rule.specs.Steps.{IsNewest, Knows, blank, freed_seen, joined, left_of, opener, right_of, version_seen}
 use Rattle.cb_rule.proofs.WorkedHistory.{all_entries, freed, made, written}
 
-abbrev pair_of : Config
+abbrev pub pair_of : Config
 pair_of = record { k = 1; r = 1; nodes = 2; frames = 1; room = 6; handles = 2; turns = 0 }
 
 -- ---- an entry that was read, and a word that was peeked
