@@ -2,7 +2,7 @@
 #![tactic(auto)]
 
 pub mod line;
-mod reply;
+pub mod reply;
 mod verb;
 pub mod word;
 

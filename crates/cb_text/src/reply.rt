@@ -8,7 +8,7 @@ use cb_types::{Loss, NoMemory, NodeId, Reply, SetId};
 use itoa::Buffer;
 
 /// Adds the words of a reply at the end, each behind a space.
-pub(crate) fn push_reply(text: &mut Vec<u8>, reply: &Reply) -> Result<(), NoMemory>
+pub fn push_reply(text: &mut Vec<u8>, reply: &Reply) -> Result<(), NoMemory>
     ensures text { OnOk result (text.new.items ≡ text.old.items ++ reply_text reply.now) }
     ensures kept { StartsWith text.new.items text.old.items }
 {

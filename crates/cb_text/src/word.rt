@@ -7,7 +7,7 @@ use cb_types::NoMemory;
 use itoa::Buffer;
 
 /// Adds a space and a word at the end.
-pub(crate) fn push_word(text: &mut Vec<u8>, word: &[u8]) -> Result<(), NoMemory>
+pub fn push_word(text: &mut Vec<u8>, word: &[u8]) -> Result<(), NoMemory>
     ensures text { OnOk result (text.new.items ≡ text.old.items ++ spaced word.now) }
     ensures kept { StartsWith text.new.items text.old.items }
 {
@@ -25,7 +25,7 @@ pub fn push_number(text: &mut Vec<u8>, number: u64) -> Result<(), NoMemory>
 }
 
 /// Adds a word and a number at the end, each behind a space.
-pub(crate) fn push_counted(text: &mut Vec<u8>, word: &[u8], number: u64) -> Result<(), NoMemory>
+pub fn push_counted(text: &mut Vec<u8>, word: &[u8], number: u64) -> Result<(), NoMemory>
     ensures text { OnOk result (text.new.items ≡ text.old.items ++ counted word.now number) }
     ensures kept { StartsWith text.new.items text.old.items }
 {
@@ -34,7 +34,7 @@ pub(crate) fn push_counted(text: &mut Vec<u8>, word: &[u8], number: u64) -> Resu
 }
 
 /// Adds a space and a version at the end.
-pub(crate) fn push_version(text: &mut Vec<u8>, version: u64) -> Result<(), NoMemory>
+pub fn push_version(text: &mut Vec<u8>, version: u64) -> Result<(), NoMemory>
     ensures text { OnOk result (text.new.items ≡ text.old.items ++ spaced (version_text version)) }
     ensures kept { StartsWith text.new.items text.old.items }
 {
