@@ -1,5 +1,5 @@
 -- Events that are listed, and one more.
-use Rattle.std.proofs.Common.{◌≡◌, ℕ, List, [], ◌∷◌, ◌++◌, drop, refl, subst}
+use Rattle.std.proofs.Common.{ℕ, List, [], ◌∷◌, ◌++◌, drop, refl, subst}
 use Rattle.std.specs.List.{AllByRecursion}
 use Rattle.cb_types.specs.declared.config.Config.{Config}
 use Rattle.cb_core.specs.declared.event.Event.{Event}

@@ -14,10 +14,10 @@ use Rattle.cb_events.specs.Listing.{IsListed, AreListed, config_in}
 use Rattle.cb_events.specs.Told.{rest_line, told_line}
 
 -- two data rows, one parity, six nodes, eight frames, room for four rows, 258 handles, no turns
-abbrev header : List ℕ
+abbrev pub header : List ℕ
 header = 2 ∷ 0 ∷ 1 ∷ 0 ∷ 6 ∷ 0 ∷ 8 ∷ 0 ∷ 4 ∷ 0 ∷ 2 ∷ 1 ∷ 0 ∷ 0 ∷ []
 
-abbrev few : Config
+abbrev pub few : Config
 few = record { k = 2; r = 1; nodes = 6; frames = 8; room = 4; handles = 258; turns = 0 }
 
 is_few : config_in header ≡ few
@@ -76,13 +76,13 @@ no_such_seat : IsListed few (64 ∷ 36 ∷ 3 ∷ 0 ∷ 0 ∷ 0 ∷ 0 ∷ 0 ∷ [
 no_such_seat is = omega (arith, is.may.0)
 
 -- two events and three bytes behind them
-abbrev rest : List ℕ
+abbrev pub rest : List ℕ
 rest = 5 ∷ 5 ∷ 5 ∷ []
 
-abbrev merge : List ℕ
+abbrev pub merge : List ℕ
 merge = 0 ∷ 13 ∷ 0 ∷ 0 ∷ 0 ∷ 0 ∷ 0 ∷ 0 ∷ []
 
-merges : IsListed few (merge ++ rest) (event.Turn 0 Merge)
+pub merges : IsListed few (merge ++ rest) (event.Turn 0 Merge)
 merges = record {
   whole = lit≤ tt;
   within = (lit< tt, lit< tt);

@@ -1,5 +1,5 @@
 -- Worked examples of what is told of bytes, and with one part broken.
-use Rattle.std.proofs.Common.{◌≡◌, ℕ, List, [], ◌∷◌, ◌++◌, length, refl, sym, subst, lit≤, arith}
+use Rattle.std.proofs.Common.{◌≡◌, ℕ, List, [], ◌∷◌, ◌++◌, length, refl, ap, sym, subst, lit≤, arith}
 use Rattle.std.specs.Prelude.{codes}
 use Rattle.std.specs.List.{flat_map}
 use Rattle.std.specs.Fmt.{digits}
@@ -52,11 +52,15 @@ left_out text tells none =
 too_few : IsTold (2 ∷ 0 ∷ []) no_config
 too_few = refused (λ long is. omega (arith, long)) refl
 
+abbrev front : List ℕ → ℕ
+front [] = 0
+front (byte ∷ bytes) = byte
+
 no_refusal : (replies : List Reply) (n : ℕ)
     → no_config ≡ flat_map told_line replies ++ rest_line n → ⊥
-no_refusal [] n e = cc
-no_refusal (r ∷ replies) n e = cc
+no_refusal [] n e = let first : 110 ≡ 114 = ap front e in omega (arith, first)
+no_refusal (r ∷ replies) n e = let first : 110 ≡ 114 = ap front e in omega (arith, first)
 
 never_refused : IsTold header no_config → ⊥
-never_refused (refused no text) = no (lit≤ tt) accepted
+never_refused (refused never text) = never (lit≤ tt) accepted
 never_refused (answered long is tells) = no_refusal tells.replies (length tells.rest) tells.told

@@ -18,8 +18,8 @@ replies_of-requires-clause-events c =
 pub returns : goal.returns
 returns c =
     let leads = subst
-        (λ (events : List Event). LeadFromEmpty c.args.config events c.in_ok-replies.replies)
-        c.as_slice.ensures.value c.in_ok-replies.ensures in
+    (λ (events : List Event). LeadFromEmpty c.args.config events c.in_ok-replies.replies)
+    c.as_slice.ensures.value c.in_ok-replies.ensures in
     tells (λ text. text.items) c.replies_text.result c.args.config c.args.bytes.now
     c.in_ok-listed.ensures.0 c.in_ok-listed.listed.events.items c.as_slice-2.result.now
     c.in_ok-listed.listed.left c.in_ok-listed.ensures.1 c.in_ok-listed.ensures.2
