@@ -1,0 +1,4 @@
+pub mod Listed
+pub mod Replied
+pub mod WorkedListing
+pub mod WorkedTold
