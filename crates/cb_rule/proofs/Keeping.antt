@@ -1,6 +1,5 @@
 -- What a step of the holder has to show, and that it keeps the rule.
-use Rattle.std.proofs.Common.{◌≡◌, ◌≢◌, ◌⊎◌, ℕ, zero, suc, ◌+◌, ◌*◌, ◌<◌, ◌≤◌, Bool, true, false, cond, List, [], ◌∷◌, ◌++◌, length, get_or, set, sym, refl, ap, ◌∙◌, subst, ap₂, inl, inr, ⊎_elim, arith, length-set, get_or-set_other, get_or-set_same}
-use Rattle.std.proofs.lemmas.List.{append_assoc}
+use Rattle.std.proofs.Common.{◌≡◌, ◌≢◌, ◌⊎◌, ℕ, zero, suc, ◌+◌, ◌*◌, ◌<◌, ◌≤◌, Bool, true, cond, List, [], ◌∷◌, ◌++◌, length, get_or, set, sym, refl, ap, ◌∙◌, subst, ap₂, inl, inr, ⊎_elim, arith, length-set, get_or-set_other}
 use mathlib.Core.Option.{some}
 use lib.ListN.{get_elem?}
 use Rattle.atomic_table.proofs.Lists.{at_set}
@@ -23,14 +22,14 @@ use Rattle.cb_rule.specs.declared.view.Stand.{Stand}
 use Rattle.cb_rule.specs.declared.view.View.{View}
 use Rattle.cb_rule.specs.History.{Value, IsHistory, holding_words, is_version, newest, top}
 use Rattle.cb_rule.specs.Lists.{times, total, Each, Has}
-use Rattle.cb_rule.specs.Records.{PinOk, HeldOk, TellsOk, OldOk, RecordOk, SeatOk}
-use Rattle.cb_rule.specs.Rule.{AreSized, StandsIn, Kept}
+use Rattle.cb_rule.specs.Records.{PinOk, HeldOk, TellsOk, RecordOk, SeatOk}
+use Rattle.cb_rule.specs.Rule.{AreSized, Kept}
 use Rattle.cb_rule.specs.Seats.{pins_on, claims_on, written_on, holding}
-use Rattle.cb_rule.specs.Stands.{IsCalm, IsTaken, IsShared, IsKept, IsHolding, Stands}
+use Rattle.cb_rule.specs.Stands.{IsCalm, IsTaken, IsKept, IsHolding, Stands}
 use Rattle.cb_rule.specs.Steps.{act}
-use Rattle.cb_rule.specs.Words.{stamps, base, pointer, stamp, words_at}
-use Rattle.cb_rule.proofs.Counts.{total-set, total-at, total-two, total-same, times-append, each_map, each_append, each_there}
-use Rattle.cb_rule.proofs.Growing.{has_more, has_front, record_more}
+use Rattle.cb_rule.specs.Words.{base, pointer, stamp, words_at}
+use Rattle.cb_rule.proofs.Counts.{total-set, total-at, total-two, total-same, times-append, each_append, each_there}
+use Rattle.cb_rule.proofs.Growing.{has_front, record_more}
 
 pub lt_or_le : (a b : ℕ) → (a < b) ⊎ (b ≤ a)
 lt_or_le a zero = inr (omega arith)
@@ -133,6 +132,7 @@ module _ (c : Config) (first : ℕ) (ws ws' : List ℕ) (h p q : ℕ) where
               one_claim = m.one_claim;
               no_pins = m.no_pins;
               state = ap state_of a ∙ m.state;
+              bare = ap pins_of a ∙ m.bare;
             }) k.word;
       }
 
@@ -162,6 +162,7 @@ held_same c ws ws' known known' es es' x eo et ev em ew ep k = record {
   stamped = em ∙ k.stamped;
   laid = ew ∙ k.laid;
   taken = ep ∙ k.taken;
+  risen = k.risen;
 }
 
 pub seats_stay : (K : ℕ → View → Type 0) (vs : List View) (me : ℕ) (w : View) → K me w

@@ -18,3 +18,6 @@ pub mod Settled
 pub mod Acting
 pub mod Others
 pub mod Own
+pub mod Allowing
+pub mod WorkedStands
+pub mod WorkedClaims

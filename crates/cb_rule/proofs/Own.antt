@@ -134,6 +134,7 @@ module _ (c : Config) (ws : List ℕ) (views : List View) (known : Shown) (es : 
                 one_claim = omega (arith, sum, one, no_claims);
                 no_pins = total-same (pins_on h) views id v u at refl ∙ no_pins;
                 state = ap state_of ptr_h ∙ moved.state;
+                bare = ap pins_of ptr_h ∙ moved.pins;
               };
             };
         others = λ q ne. (refl, refl);
@@ -155,6 +156,7 @@ module _ (c : Config) (ws : List ℕ) (views : List View) (known : Shown) (es : 
             stamped = stm h ∙ calm.stamped;
             laid = wrd (place_of w) (len_of w) ∙ calm.words;
             taken = ptr_h;
+            risen = (let z : top es h ≤ top es h = omega arith in z);
           },
           Rattle.cb_rule.proofs.Counts.each_there (HeldOk c ws known es) (HeldOk c ws' known es)
               (λ (y : Held). y.handle) v.claims
@@ -202,6 +204,7 @@ module _ (c : Config) (ws : List ℕ) (views : List View) (known : Shown) (es : 
                 (ap (times (λ y. Rattle.cb_rule.specs.Seats.pins_it h y)) pins)
                 ∙ k.taken.no_pins;
             state = ap state_of same ∙ k.taken.state;
+            bare = ap pins_of same ∙ k.taken.bare;
           };
         }
 
@@ -270,6 +273,7 @@ module _ (c : Config) (ws : List ℕ) (views : List View) (known : Shown) (es : 
                     ∙ (λ q. set (words_at c ws (sym pe q) (sym le q)) j y)
                     ∙ ap (λ (m : List ℕ). set m j y) a.laid;
                 taken = ptr z.handle a.below ∙ a.taken;
+                risen = a.risen;
               })
               (λ z is a. let ne = eqb-false z.handle h is in
               held_same c ws ws' known known es es z refl refl refl (stm z.handle a.below)
@@ -283,10 +287,10 @@ module _ (c : Config) (ws : List ℕ) (views : List View) (known : Shown) (es : 
         }
 
     -- a store of its version word
-    pub own_stamp : (y : ℕ)
+    pub own_stamp : (y : ℕ) → x.version ≤ y
         → Kept c (set ws (stamps c + x.handle) y)
         (set views id (with_held x.handle (with_stamp y) v)) known es
-    own_stamp y =
+    own_stamp y low =
         let h = x.handle in let i : ℕ = stamps c + h in let ws' : List ℕ = set ws i y in
         let u : View = with_held h (with_stamp y) v in
         let k = own_alone in let o = own_ok in let l = o.below in
@@ -328,6 +332,8 @@ module _ (c : Config) (ws : List ℕ) (views : List View) (known : Shown) (es : 
                 stamped = ap (stamp c ws') e ∙ own_stamp_is;
                 laid = wrd z.place z.len ∙ a.laid;
                 taken = ptr z.handle a.below ∙ a.taken;
+                risen = (let q = a.number in let o' = o.number in let same : top es z.handle ≡ top es h =
+                    ap (top es) e in omega (arith, q, o', same, low));
               })
               (λ z is a. let ne = eqb-false z.handle h is in
               held_same c ws ws' known known es es z refl refl refl (stm z.handle ne)
@@ -503,12 +509,14 @@ module _ (c : Config) (ws : List ℕ) (views : List View) (known : Shown) (es : 
         }
 
     -- put back as it was, with nothing stored
-    pub own_put_back : x.stamp ≡ x.version → x.memory ≡ x.old → pins_of x.word ≡ 0
+    pub own_put_back : x.stamp ≡ x.version → x.memory ≡ x.old
         → Kept c (set ws (1 + x.handle) x.word) (set views id (without_claim x.handle v)) known es
-    own_put_back same_stamp same_memory bare =
+    own_put_back same_stamp same_memory =
         let o = own_ok in let k = own_alone in
-        let here : state_of x.word ≡ word.Here = here_before x.word
-        (bits_moving (pointer ws x.handle) k.taken.state) o.taken in
+        let moving = bits_moving (pointer ws x.handle) k.taken.state in
+        let bare : pins_of x.word ≡ 0 =
+        (let a = k.taken.bare in let b = o.taken in omega (arith, a, b, moving)) in
+        let here : state_of x.word ≡ word.Here = here_before x.word moving o.taken in
         let moved : Claims x.word (x.word + 1) = claims x.word here bare in
         let f = subst (λ (z : Object). Fits z (pointer ws x.handle)) o.there
         (r.fit x.handle o.below) in

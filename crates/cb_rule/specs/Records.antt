@@ -1,5 +1,5 @@
 -- What a view says is true: of its pins and claims now, of its entries and its turns for good.
-use Rattle.std.specs.Prelude.{◌≡◌, ◌≢◌, ℕ, ◌+◌, ◌≤◌, ◌<◌, true, false, List, length, slice_index}
+use Rattle.std.specs.Prelude.{◌≡◌, ℕ, ◌+◌, ◌≤◌, ◌<◌, true, List, length, slice_index}
 use Rattle.cb_types.specs.declared.config.Config.{Config}
 use Rattle.cb_ptr.specs.Word.{len_of}
 use Rattle.cb_world.specs.declared.entry.Entry.{Entry}
@@ -16,7 +16,7 @@ use Rattle.cb_rule.specs.declared.view.Peeked.{Peeked}
 use Rattle.cb_rule.specs.declared.view.Seen.{Seen}
 use Rattle.cb_rule.specs.declared.view.Stand.{Stand}
 use Rattle.cb_rule.specs.declared.view.View.{View}
-use Rattle.cb_rule.specs.History.{Value, holding_words, no_value, top, newest, WasNow}
+use Rattle.cb_rule.specs.History.{holding_words, no_value, top, newest, WasNow}
 use Rattle.cb_rule.specs.Lists.{Each, Has}
 use Rattle.cb_rule.specs.Words.{pointer, stamp, words_at}
 
@@ -36,6 +36,7 @@ pub record HeldOk (c : Config) (ws : List ℕ) (known : Shown) (es : List Entry)
   pub stamped : stamp c ws x.handle ≡ x.stamp
   pub laid : words_at c ws x.place x.len ≡ x.memory
   pub taken : pointer ws x.handle ≡ x.word + 1
+  pub risen : x.version ≤ x.stamp
 
 -- the entry, as one that was read
 abbrev pub seen_of : Entry → Seen

@@ -24,6 +24,7 @@ pub record IsTaken (ws : List ℕ) (h pins claims : ℕ) : Type 0 where
   pub one_claim : claims ≡ 1
   pub no_pins : pins ≡ 0
   pub state : state_of (pointer ws h) ≡ word.Moving
+  pub bare : pins_of (pointer ws h) ≡ 0
 
 -- it lies in local memory, and others may change it
 pub record IsShared (c : Config) (first : ℕ) (ws : List ℕ) (h pins claims version : ℕ) (value : Value) (seen len place : ℕ) : Type 0 where
