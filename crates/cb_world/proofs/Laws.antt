@@ -19,6 +19,7 @@ pub use Rattle.cb_world.proofs.Exact.{found_exact, taken_exact}
 pub use Rattle.cb_world.proofs.FarGone.{IsFarFreed, are_members, home_within, shards_there, sound_far_gone}
 pub use Rattle.cb_world.proofs.FarGoneNow.{now_far_gone}
 pub use Rattle.cb_world.proofs.Fixed.{IsOneEnd, chosen_fixed, home_fixed, least_node_fixed, not_crammed, place_fixed, refused_alike, seat_fixed}
+pub use Rattle.cb_world.proofs.FrameCopied.{words_read}
 pub use Rattle.cb_world.proofs.Freed.{one_slot}
 pub use Rattle.cb_world.proofs.FreshShard.{IsUpShard, fits_on_least, undrawn_is_fresh, up_is_current, up_is_kept, up_on_least}
 pub use Rattle.cb_world.proofs.GivenUp.{live_names}
