@@ -1,5 +1,5 @@
 -- The runtime at the start.
-use Rattle.std.proofs.Common.{◌≡◌, ℕ, zero, suc, ◌+◌, ◌*◌, ◌<◌, ◌≤◌, [], List, length, get_or, replicate, refl, sym, ap, ◌∙◌, subst, arith}
+use Rattle.std.proofs.Common.{◌≡◌, ℕ, zero, suc, ◌≤◌, List, length, get_or, replicate, refl, ap, ◌∙◌, arith}
 use Rattle.cb_types.specs.declared.config.Config.{Config}
 use Rattle.cb_types.specs.declared.config.Field.TheVariants.{Nodes}
 use Rattle.cb_types.specs.Config.{IsAccepted}

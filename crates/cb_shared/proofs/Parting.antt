@@ -1,5 +1,5 @@
 -- What stands of a record that was split off, and of one that took another in.
-use Rattle.std.proofs.Common.{◌≡◌, ◌≢◌, ℕ, ◌+◌, ◌<◌, ◌≤◌, List, [], ◌∷◌, ◌++◌, length, map, sym, refl, ap, ◌∙◌, subst, arith}
+use Rattle.std.proofs.Common.{ℕ, ◌+◌, ◌<◌, ◌≤◌, List, [], ◌∷◌, ◌++◌, map, sym, refl, ap, ◌∙◌, subst, arith}
 use Rattle.cb_types.specs.declared.config.Config.{Config}
 use Rattle.cb_world.specs.declared.entry.Entry.{Entry}
 use Rattle.cb_rule.specs.declared.view.Seen.{Seen}
@@ -8,7 +8,7 @@ use Rattle.cb_rule.specs.Lists.{Each}
 use Rattle.cb_rule.specs.Records.{seen_of}
 use Rattle.cb_rule.specs.Steps.{joined, right_of}
 use Rattle.cb_shared.specs.Joining.{unpinned_all}
-use Rattle.cb_shared.specs.Passes.{IsAtRest, PinFits}
+use Rattle.cb_shared.specs.Passes.{IsAtRest}
 
 each_both : {A : Type 0} (P : A → Type 0) (xs ys : List A) → Each P xs → Each P ys
     → Each P (xs ++ ys)

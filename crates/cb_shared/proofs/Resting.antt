@@ -1,15 +1,15 @@
 -- What stands of a record between the calls of its pass stands after each step.
-use Rattle.std.proofs.Common.{◌≡◌, ◌≢◌, ◌⊎◌, ℕ, zero, suc, ◌+◌, ◌<◌, ◌≤◌, Bool, cond, List, [], ◌∷◌, ◌++◌, length, get_or, map, sym, refl, ap, ◌∙◌, subst, arith, inl, inr, ⊎_elim, eqb, eqb-true, ne_eqb, eq-eqb, true, false}
+use Rattle.std.proofs.Common.{◌≡◌, ◌≢◌, ◌⊎◌, ℕ, ◌+◌, ◌<◌, Bool, cond, List, [], ◌∷◌, ◌++◌, sym, refl, ap, ◌∙◌, subst, arith, inl, inr, ⊎_elim, eq-eqb, true, false}
 use Rattle.cb_types.specs.declared.config.Config.{Config}
 use Rattle.cb_ptr.specs.declared.word.State.{State}
 use Rattle.cb_ptr.specs.declared.word.State.TheVariants as state
-use Rattle.cb_ptr.specs.Word.{state_number, state_of, len_of, place_of}
+use Rattle.cb_ptr.specs.Word.{state_number, state_of}
 use Rattle.cb_world.specs.declared.entry.Entry.{Entry}
 use Rattle.cb_rule.specs.declared.view.Seen.{Seen}
 use Rattle.cb_rule.specs.declared.view.Stand.{Stand}
 use Rattle.cb_rule.specs.declared.view.View.{View}
 use Rattle.cb_rule.specs.Lists.{Each, Has, removed, times}
-use Rattle.cb_rule.specs.Seats.{pins_it, pins_on}
+use Rattle.cb_rule.specs.Seats.{pins_it}
 use Rattle.cb_rule.specs.Steps.{IsInside, Knows, with_look, with_freed, with_pin, with_peek, without_pin}
 use Rattle.cb_rule.specs.Slot.{Sat}
 use Rattle.cb_shared.specs.declared.answers.PinAnswer.{PinAnswer}

@@ -1,13 +1,12 @@
 -- The words of a frame, one step after another.
-use Rattle.std.proofs.Common.{◌≡◌, ℕ, ◌+◌, ◌*◌, ◌<◌, ◌≤◌, List, [], ◌∷◌, ◌++◌, length, get_or, set, take, sym, refl, ap, ◌∙◌, subst, arith, ◌≢◌, ◌^◌, All, length-set, get_or-set_same, get_or-set_other}
+use Rattle.std.proofs.Common.{◌≡◌, ℕ, ◌+◌, ◌<◌, List, [], ◌∷◌, ◌++◌, length, get_or, set, take, sym, ap, ◌∙◌, subst, arith, ◌^◌, All, length-set, get_or-set_same, get_or-set_other}
 use Rattle.std.proofs.lemmas.List.{take_more_set}
 use Rattle.cb_world.specs.declared.event.Event.{Event}
 use Rattle.cb_world.specs.declared.event.Event.TheVariants.{Loaded, Stored}
 use Rattle.cb_world.specs.declared.shown.Shown.{Shown}
 use Rattle.cb_world.specs.FrameWords.{OwnsWords, loads_from, stores_from}
-use Rattle.cb_world.specs.Shown.{Owns}
-use Rattle.cb_world.specs.Played.{after, played}
-use Rattle.cb_shared.specs.Places.{Place, Acts, Moves}
+use Rattle.cb_world.specs.Played.{after}
+use Rattle.cb_shared.specs.Places.{Place, Acts}
 use Rattle.cb_shared.specs.SeatLaws.{Runs, runs_more}
 use native.Mathlib.Decide.{ℕ_discrete}
 

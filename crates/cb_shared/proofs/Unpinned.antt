@@ -1,11 +1,10 @@
 -- The newest pin of an object among the handles of a pass.
-use Rattle.std.proofs.Common.{◌≡◌, ◌≢◌, ◌⊎◌, ℕ, zero, suc, ◌+◌, ◌<◌, ◌≤◌, Bool, cond, List, [], ◌∷◌, length, get_or, sym, refl, ap, ◌∙◌, subst, arith, eqb, eqb-true, ne_eqb, eq-eqb, true, false}
+use Rattle.std.proofs.Common.{◌≡◌, ◌≢◌, ℕ, zero, suc, ◌+◌, ◌<◌, Bool, cond, List, [], ◌∷◌, get_or, ap, ◌∙◌, subst, arith, ne_eqb, eq-eqb}
 use native.Mathlib.Decide.{ℕ_discrete}
 use Rattle.std.specs.List.{remove}
 use Rattle.cb_rule.specs.declared.view.Stand.{Stand}
-use Rattle.cb_rule.specs.declared.view.View.{View}
 use Rattle.cb_rule.specs.Lists.{removed, times}
-use Rattle.cb_rule.specs.Seats.{pins_it, pins_on}
+use Rattle.cb_rule.specs.Seats.{pins_it}
 use Rattle.cb_shared.specs.Handles.{IsFirstAt, handles_of}
 
 pub handles_removed : (ps : List Stand) (h at : ℕ) → IsFirstAt (handles_of ps) h at

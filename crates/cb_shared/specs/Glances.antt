@@ -1,9 +1,8 @@
 -- What a look at a pointer word and the steps of a pin come to.
-use Rattle.std.specs.Prelude.{◌≡◌, ◌≢◌, ℕ, ◌+◌, ◌*◌, ◌<◌, ◌≤◌, List}
+use Rattle.std.specs.Prelude.{◌≡◌, ◌≢◌, ℕ, ◌≤◌, List}
 use Rattle.cb_types.specs.declared.config.Config.{Config}
 use Rattle.cb_ptr.specs.declared.word.State.TheVariants as state
-use Rattle.cb_ptr.specs.Word.{state_of, len_of, place_of, pins_of}
-use Rattle.cb_rule.specs.declared.view.View.{View}
+use Rattle.cb_ptr.specs.Word.{state_of, pins_of}
 use Rattle.cb_rule.specs.declared.view.Stand.{Stand}
 use Rattle.cb_rule.specs.Lists.{Each}
 use Rattle.cb_rule.specs.Seats.{pins_on}

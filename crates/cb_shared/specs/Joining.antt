@@ -1,5 +1,5 @@
 -- A seat that may be taken in.
-use Rattle.std.specs.Prelude.{◌≡◌, ◌≤◌, List, [], false}
+use Rattle.std.specs.Prelude.{◌≡◌, ◌≤◌, [], false}
 use Rattle.atomic_table.specs.Seated.{TableId}
 use Rattle.cb_rule.specs.declared.view.View.{View}
 use Rattle.cb_shared.specs.Places.{Place}

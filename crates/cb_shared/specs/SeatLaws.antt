@@ -1,5 +1,5 @@
 -- The laws of the desk over a seat.
-use Rattle.std.proofs.Common.{◌≡◌, ℕ, ◌+◌, ◌*◌, ◌≤◌, true, List, [], ◌∷◌, ◌++◌, length, get_or, set, sym, refl, ap, ◌∙◌, subst, length-set}
+use Rattle.std.proofs.Common.{◌≡◌, ◌≤◌, List, [], ◌∷◌, ◌++◌, sym, refl, ap, ◌∙◌, subst, length-set}
 use Rattle.atomic_table.specs.Seated.{TableId}
 use Rattle.cb_types.specs.declared.config.Config.{Config}
 use Rattle.cb_ptr.specs.Word.{state_of, hot_of, len_of, place_of}
@@ -10,13 +10,13 @@ use Rattle.cb_world.specs.declared.shown.Shown.{Shown}
 use Rattle.cb_world.specs.Played.{Agree, after, played, settled_by}
 use Rattle.cb_world.specs.Shown.{version_at, object_at}
 use Rattle.cb_world.specs.Written.{written_by}
-use Rattle.cb_world.proofs.Laws.{length_put, played_append}
+use Rattle.cb_world.proofs.Laws.{length_put}
 use Rattle.cb_rule.specs.declared.view.View.{View}
 use Rattle.cb_rule.specs.Rule.{AreSized}
 use Rattle.cb_rule.specs.Slot.{Sat}
 use Rattle.cb_rule.specs.Steps.{act, acted}
 use Rattle.cb_shared.specs.declared.setup.Setup.{Setup}
-use Rattle.cb_shared.specs.Places.{Moves, Place, Holds, IsOf, Acts}
+use Rattle.cb_shared.specs.Places.{Moves, Place, Holds, Acts}
 
 pub acted_known : (es : List Event) (v : View) → (acted es v).known ≡ played es v.known
 acted_known [] v = refl

@@ -1,4 +1,4 @@
-use Rattle.std.proofs.Common.{◌≡◌, ◌∙◌, ◌<◌, ◌≤◌, ◌+◌, ◌*◌, ℕ, length, take, length-set, subst, arith}
+use Rattle.std.proofs.Common.{◌∙◌, ◌<◌, ◌+◌, ◌*◌, length, length-set, arith}
 use Rattle.std.proofs.lemmas.List.{length-take-le}
 use Rattle.cb_world.specs.declared.event.Event.TheVariants.{Loaded}
 use Rattle.cb_shared.specs.SeatLaws.{holds_still}

@@ -1,4 +1,4 @@
-use Rattle.std.proofs.Common.{◌≡◌, ℕ, ◌*◌, ◌^◌, ◌<◌, All, length, take}
+use Rattle.std.proofs.Common.{◌≡◌, ◌*◌, ◌^◌, ◌<◌, All, length, take}
 use Rattle.cb_world.specs.FrameWords.{loads_from}
 use Rattle.cb_shared.specs.Places.{Holds}
 use Rattle.cb_shared.specs.SeatLaws.{Runs}

@@ -1,4 +1,4 @@
-use Rattle.std.proofs.Common.{◌≡◌, ℕ, ◌*◌, length, take}
+use Rattle.std.proofs.Common.{◌*◌, take}
 use Rattle.cb_world.specs.FrameWords.{OwnsWords, stores_from}
 use Rattle.cb_shared.specs.Places.{Holds}
 use Rattle.cb_shared.specs.SeatLaws.{Runs}

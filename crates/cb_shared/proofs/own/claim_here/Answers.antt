@@ -1,16 +1,10 @@
-use Rattle.std.proofs.Common.{◌≡◌, ◌<◌, ◌≤◌, ◌+◌, ◌*◌, ◌^◌, ℕ, List, [], ◌∷◌, length, refl, sym, ap, subst, ◌∙◌, inl, arith}
-use mathlib.Core.Option.{none}
-use Rattle.atomic_table.specs.Table.{step, Allows}
+use Rattle.std.proofs.Common.{◌<◌, ◌^◌, ℕ, List, ◌∷◌, refl, ap, subst, ◌∙◌, arith}
 use Rattle.cb_types.specs.declared.config.Config.{Config}
 use Rattle.cb_ptr.specs.Word.{len_of}
 use Rattle.cb_world.specs.Memory.{words_for}
 use Rattle.cb_rule.specs.declared.view.Held.{Held}
-use Rattle.cb_rule.specs.declared.view.View.{View}
-use Rattle.cb_rule.specs.Lists.{Each, Has}
-use Rattle.cb_rule.specs.Ruled.{Ruled, alone}
 use Rattle.cb_rule.specs.Slot.{Sat}
-use Rattle.cb_rule.specs.Steps.{IsInside, LoadsHeld, TellsHeld, held_at, next_entry, put_back, settled_here, stamped_here, stored_here, with_claim, with_look, with_stamp, with_word}
-use Rattle.cb_rule.specs.Words.{base, stamps}
+use Rattle.cb_rule.specs.Steps.{IsInside, held_at, with_claim, with_look}
 use Rattle.cb_shared.proofs.OwnAlone.{claims_here_at}
 use Rattle.cb_shared.proofs.own.claim_here.Goals as goal
 

@@ -1,14 +1,12 @@
-use Rattle.std.proofs.Common.{◌≡◌, ◌<◌, ◌≤◌, ◌+◌, ◌*◌, ◌^◌, ℕ, List, [], ◌∷◌, length, refl, sym, ap, subst, ◌∙◌, inl, arith}
+use Rattle.std.proofs.Common.{◌+◌, ℕ, List, sym, ap, subst, ◌∙◌, arith}
 use mathlib.Core.Option.{none}
 use Rattle.atomic_table.specs.Table.{step, Allows}
 use Rattle.cb_types.specs.declared.config.Config.{Config}
 use Rattle.cb_rule.specs.declared.view.Held.{Held}
-use Rattle.cb_rule.specs.declared.view.View.{View}
-use Rattle.cb_rule.specs.Lists.{Each, Has}
 use Rattle.cb_rule.specs.Ruled.{Ruled, alone}
 use Rattle.cb_rule.specs.Slot.{Sat}
-use Rattle.cb_rule.specs.Steps.{IsInside, LoadsHeld, TellsHeld, held_at, next_entry, put_back, settled_here, stamped_here, stored_here, with_claim, with_look, with_stamp, with_word}
-use Rattle.cb_rule.specs.Words.{base, stamps}
+use Rattle.cb_rule.specs.Steps.{stamped_here, with_stamp}
+use Rattle.cb_rule.specs.Words.{stamps}
 use Rattle.cb_shared.proofs.Only.{edited_only, has_only}
 use Rattle.cb_shared.proofs.OwnAlone.{stamps_here_at}
 use Rattle.cb_shared.proofs.own.stamp_own.Goals as goal

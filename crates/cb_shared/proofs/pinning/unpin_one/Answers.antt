@@ -1,4 +1,4 @@
-use Rattle.std.proofs.Common.{◌≡◌, ◌∙◌, ℕ, List, sym, ap, subst}
+use Rattle.std.proofs.Common.{◌∙◌, ℕ, List, sym, ap, subst}
 use Rattle.std.specs.List.{remove}
 use Rattle.cb_rule.specs.Slot.{Sat}
 use Rattle.cb_shared.specs.Handles.{IsFirstAt, handles_of}

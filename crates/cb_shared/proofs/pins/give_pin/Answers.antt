@@ -1,4 +1,4 @@
-use Rattle.std.proofs.Common.{◌≡◌, ◌<◌, ◌+◌, ◌*◌, ℕ, refl, arith}
+use Rattle.std.proofs.Common.{refl, arith}
 use Rattle.cb_shared.proofs.PinsAlone.{gives_pins_at}
 use Rattle.cb_shared.proofs.pins.give_pin.Goals as goal
 

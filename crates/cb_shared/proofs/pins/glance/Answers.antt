@@ -1,4 +1,4 @@
-use Rattle.std.proofs.Common.{◌≡◌, ◌<◌, ◌+◌, ◌*◌, ℕ, refl, arith}
+use Rattle.std.proofs.Common.{refl, arith}
 use Rattle.cb_shared.proofs.PinsAlone.{glances_at}
 use Rattle.cb_shared.proofs.pins.glance.Goals as goal
 

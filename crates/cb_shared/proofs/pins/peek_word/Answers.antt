@@ -1,4 +1,4 @@
-use Rattle.std.proofs.Common.{◌≡◌, ◌<◌, ◌+◌, ◌*◌, ℕ, List, refl, sym, ap, arith}
+use Rattle.std.proofs.Common.{◌+◌, sym, ap, arith}
 use Rattle.cb_types.specs.declared.config.Config.{Config}
 use Rattle.cb_rule.specs.Words.{base}
 use Rattle.cb_shared.specs.Passes.{stand_of}

@@ -1,4 +1,4 @@
-use Rattle.std.proofs.Common.{◌≡◌, ◌<◌, ◌+◌, ◌*◌, ℕ, List, [], ◌∷◌, refl, sym, ap, ◌∙◌, subst, arith}
+use Rattle.std.proofs.Common.{◌≡◌, ◌+◌, ℕ, List, [], ◌∷◌, sym, arith}
 use Rattle.cb_types.specs.declared.config.Config.{Config}
 use Rattle.cb_rule.specs.declared.view.Stand.{Stand}
 use Rattle.cb_rule.specs.Lists.{Each}

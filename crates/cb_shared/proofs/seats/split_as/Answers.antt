@@ -1,4 +1,4 @@
-use Rattle.std.proofs.Common.{◌≡◌, ◌<◌, ◌+◌, ◌*◌, ℕ, [], ap, ◌∙◌, arith}
+use Rattle.std.proofs.Common.{ℕ, [], ap, ◌∙◌, arith}
 use Rattle.cb_rule.specs.Slot.{Sat}
 use Rattle.cb_rule.specs.Steps.{left_of, right_of}
 use Rattle.cb_shared.proofs.SeatsAlone.{splits_at}

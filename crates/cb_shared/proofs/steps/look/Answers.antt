@@ -1,4 +1,4 @@
-use Rattle.std.proofs.Common.{◌≡◌, ◌<◌, ◌+◌, ◌*◌, ℕ, refl, arith}
+use Rattle.std.proofs.Common.{refl, arith}
 use Rattle.cb_shared.proofs.Alone.{looks_at}
 use Rattle.cb_shared.proofs.steps.look.Goals as goal
 

@@ -1,4 +1,4 @@
-use Rattle.std.proofs.Common.{◌≡◌, ◌<◌, ◌+◌, ◌*◌, ℕ, refl, sym, ap, arith}
+use Rattle.std.proofs.Common.{refl, arith}
 use Rattle.cb_shared.proofs.Alone.{settles_at}
 use Rattle.cb_shared.proofs.steps.settle.Goals as goal
 

@@ -1,4 +1,4 @@
-use Rattle.std.proofs.Common.{◌≡◌, ◌<◌, ◌+◌, ◌*◌, ℕ, List, refl, subst, arith}
+use Rattle.std.proofs.Common.{ℕ, refl, subst, arith}
 use native.Mathlib.Decide.{ℕ_discrete}
 use Rattle.cb_world.specs.declared.event.Event.TheVariants.{Looked, Claimed}
 use Rattle.cb_shared.specs.Places.{Acts}

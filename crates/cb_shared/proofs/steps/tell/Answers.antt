@@ -1,4 +1,4 @@
-use Rattle.std.proofs.Common.{◌≡◌, ◌<◌, ◌+◌, ◌*◌, ℕ, refl, sym, ap, arith}
+use Rattle.std.proofs.Common.{◌+◌, ℕ, sym, ap, arith}
 use Rattle.cb_shared.proofs.Alone.{tells_at}
 use Rattle.cb_shared.proofs.steps.tell.Goals as goal
 

@@ -1,6 +1,6 @@
-use Rattle.std.proofs.Common.{◌≡◌, ◌∙◌, ℕ}
+use Rattle.std.proofs.Common.{◌∙◌}
 use Rattle.cb_rule.specs.Slot.{Sat}
-use Rattle.std.proofs.Common.{ap, sym, subst}
+use Rattle.std.proofs.Common.{sym, subst}
 use Rattle.cb_shared.specs.Passes.{IsAtRest}
 use Rattle.cb_shared.proofs.Parting.{rest_right}
 use Rattle.cb_shared.proofs.runtime.Shared.split.Goals as goal

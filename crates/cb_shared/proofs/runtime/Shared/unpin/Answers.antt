@@ -1,4 +1,4 @@
-use Rattle.std.proofs.Common.{◌≡◌, ◌∙◌, ◌<◌, ℕ}
+use Rattle.std.proofs.Common.{◌∙◌}
 use Rattle.cb_rule.specs.Steps.{without_pin}
 use Rattle.cb_shared.specs.Passes.{PinFits, stand_of}
 use Rattle.cb_shared.proofs.Resting.{each_has, pins_some, rest_moved, rest_unpin}

@@ -1,9 +1,8 @@
-use Rattle.std.proofs.Common.{◌≡◌, ◌∙◌, [], ℕ, ◌+◌, ◌*◌, ◌<◌, ◌≤◌, List, length, get_or, replicate, refl, sym, ap, subst, arith}
+use Rattle.std.proofs.Common.{◌≡◌, ◌∙◌, [], ℕ, ◌+◌, ◌*◌, replicate, refl, sym, ap, subst, arith}
 use Rattle.cb_world.specs.Empty.{empty_shown}
 use Rattle.cb_world.specs.FarState.{FarState}
 use Rattle.cb_rule.specs.Ruled.{alone}
 use Rattle.cb_rule.specs.Slot.{Sat}
-use Rattle.cb_rule.specs.Steps.{opener}
 use Rattle.cb_rule.specs.Words.{base}
 use Rattle.cb_shared.specs.Passes.{IsAtRest, Stood}
 use Rattle.cb_rule.proofs.Opening.{opens}
