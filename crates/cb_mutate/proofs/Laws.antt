@@ -1,5 +1,5 @@
 -- The lemmas of this crate that other crates cite.
-pub use Rattle.cb_mutate.proofs.Bytes.{write_more, write_none}
+pub use Rattle.cb_mutate.proofs.Bytes.{write_all, write_more, write_none}
 pub use Rattle.cb_mutate.proofs.ChangedObject.{hot_fields, keeps_same}
 pub use Rattle.cb_mutate.proofs.FarFreed.{found_far}
 pub use Rattle.cb_mutate.proofs.FreeCall.{free_call}

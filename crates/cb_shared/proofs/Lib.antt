@@ -8,3 +8,4 @@ pub mod OwnAlone
 pub mod Only
 pub mod Parting
 pub mod Begun
+pub mod WriteSteps

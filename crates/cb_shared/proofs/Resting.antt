@@ -19,13 +19,13 @@ use Rattle.cb_shared.specs.Passes.{IsAtRest, PinFits}
 use Rattle.cb_shared.specs.Pinning.{IsRefusal, PinGives}
 use Rattle.cb_shared.specs.Places.{Place, Moves}
 
-far_empty : state.Far ≡ state.Empty → ⊥
+pub far_empty : state.Far ≡ state.Empty → ⊥
 far_empty e = let z : 1 ≡ 0 = ap state_number e in omega (arith, z)
 
-here_empty : state.Here ≡ state.Empty → ⊥
+pub here_empty : state.Here ≡ state.Empty → ⊥
 here_empty e = let z : 2 ≡ 0 = ap state_number e in omega (arith, z)
 
-moving_empty : state.Moving ≡ state.Empty → ⊥
+pub moving_empty : state.Moving ≡ state.Empty → ⊥
 moving_empty e = let z : 3 ≡ 0 = ap state_number e in omega (arith, z)
 
 pub each_has : {A : Type 0} (P : A → Type 0) (x : A) (xs : List A) → Each P xs → Has x xs → P x
@@ -139,7 +139,7 @@ rest_glance c h w p q g below rest = ⊎_elim
     (λ (ne : state_of w ≢ state.Empty).
     rest_moved c p q (with_look h w p.me.0) (g.other ne) (rest_look c h w p.me.0 rest)) (by_state w)
 
-view_of : (p q : Place) (w : View) → Moves p q w → q.me.0 ≡ w
+pub view_of : (p q : Place) (w : View) → Moves p q w → q.me.0 ≡ w
 view_of p q w m = ap (λ (x : Sat). x.0) m.2
 
 -- a refusal by the word that was found is answered

@@ -17,6 +17,7 @@ mod seats;
 mod setup;
 mod starting;
 mod steps;
+mod writing;
 
 pub use answers::{PinAnswer, WriteAnswer};
 pub use pass::{Pass, Pin};
