@@ -30,7 +30,7 @@ use Rattle.cb_rule.proofs.Counts.{hit}
 use Rattle.cb_rule.proofs.Keeping.{lies_here}
 use Rattle.cb_rule.proofs.Lifting.{any_seat, same_lock, same_words}
 use Rattle.cb_rule.proofs.Newest.{is_newest}
-use Rattle.cb_rule.proofs.Others.{times_has}
+use Rattle.cb_rule.proofs.Members.{times_has}
 use Rattle.cb_rule.proofs.Own.{own_alone, own_claim, own_ok, own_put_back, own_settle, own_stamp, own_store, record_held}
 
 -- where one element at most passes the test, those that do are the same

@@ -1,5 +1,5 @@
 -- Steps under which what is known and the history stay: loads and pins of any seat.
-use Rattle.std.proofs.Common.{◌≡◌, ◌≢◌, ◌⊎◌, ℕ, zero, suc, ◌+◌, ◌-◌, ◌*◌, ◌^◌, ◌<◌, ◌≤◌, Bool, true, false, cond, List, [], ◌∷◌, ◌++◌, length, get_or, set, sym, refl, ap, ◌∙◌, subst, inl, inr, ⊎_elim, arith, length-set, get_or-set_other, get_or-set_same}
+use Rattle.std.proofs.Common.{◌≡◌, ◌≢◌, ◌⊎◌, ℕ, ◌+◌, ◌<◌, ◌≤◌, Bool, true, cond, List, length, set, sym, refl, ap, ◌∙◌, subst, inl, ⊎_elim, arith, length-set, get_or-set_other, get_or-set_same}
 use native.Mathlib.Decide.{ℕ_discrete}
 use mathlib.Core.Option.{some}
 use lib.ListN.{get_elem?}
@@ -15,7 +15,7 @@ use Rattle.cb_world.specs.Shown.{Fits, object_at, hot_at, version_at}
 use Rattle.cb_world.specs.StillDesk.{bits_here, bits_moving}
 use Rattle.cb_rule.specs.declared.view.Held.{Held}
 use Rattle.cb_rule.specs.declared.view.View.{View}
-use Rattle.cb_rule.specs.History.{Value, holding_words, newest, top}
+use Rattle.cb_rule.specs.History.{holding_words, newest, top}
 use Rattle.cb_rule.specs.Lists.{times, total, Each}
 use Rattle.cb_rule.specs.Records.{PinOk, HeldOk, RecordOk, SeatOk}
 use Rattle.cb_rule.specs.Rule.{StandsIn, Kept}
@@ -37,7 +37,8 @@ pub record Quiet (c : Config) (known : Shown) (es : List Entry) (h : ℕ) (v w :
   pub others : (k : ℕ) → k ≢ h → pins_on k w ≡ pins_on k v
   pub lasting : RecordOk c known.first es w
 
-module _ (c : Config) (ws : List ℕ) (views : List View) (known : Shown) (es : List Entry) (r : Kept c ws views known es) where
+module _ (c : Config) (ws : List ℕ) (views : List View) (known : Shown) (es : List Entry)
+    (r : Kept c ws views known es) where
   same_claims : (id : ℕ) (v w : View) → get_elem? views id ≡ some v → w.claims ≡ v.claims
       → (k : ℕ) → total (claims_on k) (set views id w) ≡ total (claims_on k) views
   same_claims id v w at e k = total-same (claims_on k) views id v w at
@@ -185,66 +186,67 @@ module _ (c : Config) (ws : List ℕ) (views : List View) (known : Shown) (es : 
         → (1 ≤ total (pins_on h) (set views id w) → hot_of x ≡ true)
         → pins_of x ≡ total (pins_on h) (set views id w)
         → Kept c ws' (set views id w) known es
-    calm_rule id v w at q fits state hot warm count = let vs' : List View = set views id w in record {
-      wide = length-set ws (1 + h) x ∙ r.wide;
-      sized = r.sized;
-      begins = r.begins;
-      fit = λ k lk. elim (ℕ_discrete k h) [
-        | yes e ↦ subst (λ (j : ℕ). Fits (object_at known j) (pointer ws' j)) (sym e)
-            (subst (λ (z : Object). Fits z (pointer ws' h)) (sym o.here)
-            (subst (Fits (is.Here o.len o.place)) (sym ptr_h) fits))
-        | no ne ↦ subst (Fits (object_at known k)) (sym (ptr_k k ne)) (r.fit k lk)
-      ];
-      hot = λ k lk was. elim (ℕ_discrete k h) [
-        | yes e ↦ ap (λ (j : ℕ). hot_of (pointer ws' j)) e ∙ ap hot_of ptr_h
-            ∙ hot (r.hot h l (ap (hot_at known) (sym e) ∙ was))
-        | no ne ↦ ap hot_of (ptr_k k ne) ∙ r.hot k lk was
-      ];
-      owned = λ p own. get_or-set_other ws (1 + h) (base c + p) x 0 (λ e. omega (arith, e, l))
-          ∙ r.owned p own;
-      inside = r.inside;
-      apart = r.apart;
-      stand = λ k lk. elim (ℕ_discrete k h) [
-        | yes e ↦ subst (λ (j : ℕ). StandsIn c ws' vs' known es j) (sym e)
-            (subst (Stands c known.first ws' h (total (pins_on h) vs') (total (claims_on h) vs')
-            (top es h) (newest es h) (version_at known h)) (sym o.here) record {
-              born = o.born;
-              held = o.held;
-              packed = o.packed;
-              low = o.low;
-              word = inl record {
-                no_claims = same_claims id v w at q.claims h ∙ o.calm.no_claims;
-                state = ap state_of ptr_h ∙ state;
-                count = ap pins_of ptr_h ∙ count;
-                warm = λ some. ap hot_of ptr_h ∙ warm some;
-                stamped = stm h ∙ o.calm.stamped;
-                words = wrd o.place o.len ∙ o.calm.words;
-              };
-            })
-        | no ne ↦ subst (λ (n : ℕ). Stands c known.first ws' k n (total (claims_on k) vs')
-            (top es k) (newest es k) (version_at known k) (object_at known k))
-            (sym (total-same (pins_on k) views id v w at (q.others k ne)))
-            (subst (λ (n : ℕ). Stands c known.first ws' k (total (pins_on k) views) n (top es k)
-            (newest es k) (version_at known k) (object_at known k))
-            (sym (same_claims id v w at q.claims k))
-            (stands_same c known.first ws ws' k (total (pins_on k) views)
-            (total (claims_on k) views) (top es k) (top es k) (newest es k) (newest es k)
-            (version_at known k) (version_at known k) (object_at known k) (object_at known k)
-            refl refl refl refl (ptr_k k ne) (stm k) (λ len place _. wrd place len)
-            (r.stand k lk)))
-      ];
-      seats = seats_stay (λ _ u. SeatOk c ws' known es u) views id w
-          (my_seat ws' id h v w at q (helds id v at (r.seats id v at).claims))
-          (λ j u ne there. let ok = r.seats j u there in record {
-            same_config = ok.same_config;
-            pins = ok.pins;
-            few = ok.few;
-            claims = helds j u there ok.claims;
-            knows = ok.knows;
-            lasting = ok.lasting;
-          });
-      history = r.history;
-      within = r.within;
-      recorded = λ a k. total-same (written_on a k) views id v w at (q.wrote a k) ∙ r.recorded a k;
-      one = one_holds id h v w at q;
-    }
+    calm_rule id v w at q fits state hot warm count = let vs' : List View = set views id w in
+        record {
+          wide = length-set ws (1 + h) x ∙ r.wide;
+          sized = r.sized;
+          begins = r.begins;
+          fit = λ k lk. elim (ℕ_discrete k h) [
+            | yes e ↦ subst (λ (j : ℕ). Fits (object_at known j) (pointer ws' j)) (sym e)
+                (subst (λ (z : Object). Fits z (pointer ws' h)) (sym o.here)
+                (subst (Fits (is.Here o.len o.place)) (sym ptr_h) fits))
+            | no ne ↦ subst (Fits (object_at known k)) (sym (ptr_k k ne)) (r.fit k lk)
+          ];
+          hot = λ k lk was. elim (ℕ_discrete k h) [
+            | yes e ↦ ap (λ (j : ℕ). hot_of (pointer ws' j)) e ∙ ap hot_of ptr_h
+                ∙ hot (r.hot h l (ap (hot_at known) (sym e) ∙ was))
+            | no ne ↦ ap hot_of (ptr_k k ne) ∙ r.hot k lk was
+          ];
+          owned = λ p own. get_or-set_other ws (1 + h) (base c + p) x 0 (λ e. omega (arith, e, l))
+              ∙ r.owned p own;
+          inside = r.inside;
+          apart = r.apart;
+          stand = λ k lk. elim (ℕ_discrete k h) [
+            | yes e ↦ subst (λ (j : ℕ). StandsIn c ws' vs' known es j) (sym e)
+                (subst (Stands c known.first ws' h (total (pins_on h) vs') (total (claims_on h) vs')
+                (top es h) (newest es h) (version_at known h)) (sym o.here) record {
+                  born = o.born;
+                  held = o.held;
+                  packed = o.packed;
+                  low = o.low;
+                  word = inl record {
+                    no_claims = same_claims id v w at q.claims h ∙ o.calm.no_claims;
+                    state = ap state_of ptr_h ∙ state;
+                    count = ap pins_of ptr_h ∙ count;
+                    warm = λ some. ap hot_of ptr_h ∙ warm some;
+                    stamped = stm h ∙ o.calm.stamped;
+                    words = wrd o.place o.len ∙ o.calm.words;
+                  };
+                })
+            | no ne ↦ subst (λ (n : ℕ). Stands c known.first ws' k n (total (claims_on k) vs')
+                (top es k) (newest es k) (version_at known k) (object_at known k))
+                (sym (total-same (pins_on k) views id v w at (q.others k ne)))
+                (subst (λ (n : ℕ). Stands c known.first ws' k (total (pins_on k) views) n (top es k)
+                (newest es k) (version_at known k) (object_at known k))
+                (sym (same_claims id v w at q.claims k))
+                (stands_same c known.first ws ws' k (total (pins_on k) views)
+                (total (claims_on k) views) (top es k) (top es k) (newest es k) (newest es k)
+                (version_at known k) (version_at known k) (object_at known k) (object_at known k)
+                refl refl refl refl (ptr_k k ne) (stm k) (λ len place _. wrd place len)
+                (r.stand k lk)))
+          ];
+          seats = seats_stay (λ _ u. SeatOk c ws' known es u) views id w
+              (my_seat ws' id h v w at q (helds id v at (r.seats id v at).claims))
+              (λ j u ne there. let ok = r.seats j u there in record {
+                same_config = ok.same_config;
+                pins = ok.pins;
+                few = ok.few;
+                claims = helds j u there ok.claims;
+                knows = ok.knows;
+                lasting = ok.lasting;
+              });
+          history = r.history;
+          within = r.within;
+          recorded = λ a k. total-same (written_on a k) views id v w at (q.wrote a k) ∙ r.recorded a k;
+          one = one_holds id h v w at q;
+        }

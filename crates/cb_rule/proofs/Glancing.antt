@@ -1,8 +1,6 @@
 -- Loads of any seat: of a pointer word, of a version word, and of a memory word that it pins or
 -- claims.
-use Rattle.std.proofs.Common.{◌≡◌, ◌≢◌, ◌⊎◌, ℕ, zero, suc, ◌+◌, ◌-◌, ◌*◌, ◌%◌, ◌^◌, ◌<◌, ◌≤◌, Bool, true, false, cond, List, [], ◌∷◌, ◌++◌, length, get_or, set, sym, refl, ap, ◌∙◌, subst, inl, inr, ⊎_elim, arith, true≢false}
-use native.Mathlib.Decide.{ℕ_discrete}
-use mathlib.Core.Logic.{dite}
+use Rattle.std.proofs.Common.{◌≡◌, ◌≢◌, ◌⊎◌, ℕ, ◌+◌, ◌%◌, ◌^◌, ◌<◌, ◌≤◌, Bool, true, false, List, ◌++◌, get_or, set, sym, refl, ap, ◌∙◌, subst, inl, inr, ⊎_elim, arith, true≢false}
 use mathlib.Core.Option.{some, none}
 use lib.ListN.{get_elem?}
 use Rattle.atomic_table.specs.Table.{step, keeps, Allows}
@@ -17,33 +15,28 @@ use Rattle.cb_world.specs.declared.object.Object.TheVariants as is
 use Rattle.cb_world.specs.declared.shown.Shown.{Shown}
 use Rattle.cb_world.specs.Memory.{words_for}
 use Rattle.cb_world.specs.Shown.{Fits, object_at, version_at}
-use Rattle.cb_world.specs.StillDesk.{bits_moving}
 use Rattle.cb_world.proofs.Laws.{window_at}
 use Rattle.cb_rule.specs.declared.view.Held.{Held}
 use Rattle.cb_rule.specs.declared.view.Seen.{Seen}
 use Rattle.cb_rule.specs.declared.view.Stand.{Stand}
 use Rattle.cb_rule.specs.declared.view.View.{View}
-use Rattle.cb_rule.specs.History.{newest, no_value, top}
-use Rattle.cb_rule.specs.Lists.{total, Each, Has}
-use Rattle.cb_rule.specs.Records.{PinOk, HeldOk, SeenOk, PeekedOk}
+use Rattle.cb_rule.specs.History.{newest, top}
+use Rattle.cb_rule.specs.Lists.{total, Has}
+use Rattle.cb_rule.specs.Records.{PinOk, HeldOk, SeenOk}
 use Rattle.cb_rule.specs.Rule.{Kept}
 use Rattle.cb_rule.specs.Ruled.{AreShares, Beside, IsSteady, Ruled}
 use Rattle.cb_rule.specs.Seats.{pins_on, claims_on}
 use Rattle.cb_rule.specs.Slot.{Sat, Table}
 use Rattle.cb_rule.specs.Stands.{Stands}
 use Rattle.cb_rule.specs.Steps.{IsNewest, Knows, LoadsHeld, TellsHeld, TellsPin, dated, freed_seen, glanced, read_held, with_freed, with_look}
-use Rattle.cb_rule.specs.Words.{stamps, base, pointer, words_at}
-use Rattle.cb_rule.proofs.Calm.{Lies, Quiet, lies, still_rule}
+use Rattle.cb_rule.specs.Words.{stamps, base, pointer}
+use Rattle.cb_rule.proofs.Calm.{lies, still_rule}
 use Rattle.cb_rule.proofs.Counts.{each_append, each_map, each_there, total-at}
 use Rattle.cb_rule.proofs.Histories.{entry_within, newest_entry}
+use Rattle.cb_rule.proofs.Members.{each_has}
 use Rattle.cb_rule.proofs.Lifting.{any_seat, same_words, set_same}
 use Rattle.cb_rule.proofs.Newest.{is_newest, others_spent, total_alone}
-use Rattle.cb_rule.proofs.Pinning.{lost, looks_quiet, reread}
-
-pub each_has : {A : Type 0} (P : A → Type 0) (x : A) (xs : List A) → Each P xs → Has x xs → P x
-each_has P x [] e h = absurd h
-each_has P x (y ∷ xs) e h =
-    ⊎_elim (λ (is : y ≡ x). subst P is e.0) (λ (more : Has x xs). each_has P x xs e.1 more) h
+use Rattle.cb_rule.proofs.Pinning.{lost, reread}
 
 abbrev is_empty : State → Bool
 is_empty word.Empty = true
@@ -63,7 +56,8 @@ empty_or word.Moving = inr (other_state word.Moving refl)
 bits_empty : (w : ℕ) → state_of w ≡ word.Empty → w % 4 ≡ 0
 bits_empty w e = sym (state_number-state_of w) ∙ ap state_number e
 
-module _ (c : Config) (ws : List ℕ) (views : List View) (known : Shown) (es : List Entry) (r : Kept c ws views known es) where
+module _ (c : Config) (ws : List ℕ) (views : List View) (known : Shown) (es : List Entry)
+    (r : Kept c ws views known es) where
   -- an object that a record knows was made
   pub known_made : (id h : ℕ) (v : View) → get_elem? views id ≡ some v → Knows h v → 0 < top es h
   known_made id h v at knows = let ok = (r.seats id v at).lasting in ⊎_elim
@@ -116,7 +110,8 @@ module _ (c : Config) (ws : List ℕ) (views : List View) (known : Shown) (es : 
   own_pins shares id h v at whole = total_alone (pins_on h) views id v at
       (λ j u ne there. ap (pins_on h) (others_spent c views id j v u shares at whole ne there))
 
-module _ (beside : Beside) (steady : IsSteady beside) (first : ℕ) (c : Config) (slots id : ℕ) (me : Sat) where
+module _ (beside : Beside) (steady : IsSteady beside) (first : ℕ) (c : Config) (slots id : ℕ)
+    (me : Sat) where
   -- a load of the pointer word of an object that the record knows
   pub glances : 1 ≤ me.0.share → (h : ℕ) → h < c.handles → Knows h me.0
       → Allows (Ruled beside first c) slots id me (1 + h) (λ n. n)

@@ -1,7 +1,6 @@
 -- What a history has: each version once, from the first to the newest, and each with the one before
 -- it.
-use Rattle.std.proofs.Common.{◌≡◌, ◌≢◌, ◌⊎◌, ℕ, zero, suc, ◌+◌, ◌-◌, ◌<◌, ◌≤◌, ◌&&◌, min, Bool, true, false, cond, eqb, List, [], ◌∷◌, ◌++◌, length, sym, refl, ap, ◌∙◌, subst, inl, inr, ⊎_elim, arith, eq-eqb, ne_eqb, eqb-true, true≢false}
-use native.Mathlib.Decide.{ℕ_discrete}
+use Rattle.std.proofs.Common.{◌≡◌, ◌≢◌, ◌⊎◌, ℕ, ◌+◌, ◌-◌, ◌<◌, ◌≤◌, ◌&&◌, min, Bool, false, cond, eqb, List, [], ◌∷◌, sym, refl, ap, ◌∙◌, subst, inl, inr, ⊎_elim, arith, eq-eqb, ne_eqb, eqb-true, true≢false}
 use Rattle.cb_world.specs.declared.entry.Entry.{Entry}
 use Rattle.cb_rule.specs.History.{Value, IsMade, IsChanged, Follows, IsHistory, is_version, newest, no_value, top, value_of}
 use Rattle.cb_rule.specs.Lists.{times, Has}
@@ -101,7 +100,8 @@ module _ (first : ℕ) (pos : 1 ≤ first) where
       → (first ≤ e.version) × (e.version ≤ top es e.handle)
   entry_within e [] k h = absurd h
   entry_within e (x ∷ es) k h = ⊎_elim
-      (λ (is : x ≡ e). subst (λ (y : Entry). (first ≤ y.version) × (y.version ≤ top (x ∷ es) y.handle))
+      (λ (is : x ≡ e). subst (λ (y : Entry). (first ≤ y.version) × (y.version ≤ top
+      (x ∷ es) y.handle))
       is ((above x es k).0, (let t = top_same x es in omega arith)))
       (λ (more : Has e es). let z = entry_within e es k.1 more in
       (z.0, (let r = rises x es e.handle k in let a = z.1 in omega arith))) h

@@ -147,7 +147,8 @@ pin_same c known known' es es' p et ev eo k = record {
   contents = ev ∙ k.contents;
 }
 
-pub held_same : (c : Config) (ws ws' : List ℕ) (known known' : Shown) (es es' : List Entry) (x : Held)
+pub held_same : (c : Config) (ws ws' : List ℕ) (known known' : Shown) (es es' : List Entry)
+    (x : Held)
     → object_at known' x.handle ≡ object_at known x.handle
     → top es' x.handle ≡ top es x.handle → newest es' x.handle ≡ newest es x.handle
     → stamp c ws' x.handle ≡ stamp c ws x.handle
@@ -173,7 +174,8 @@ seats_stay K vs me w mine others j u e = ⊎_elim
     (λ (t : (j ≢ me) × (get_elem? vs j ≡ some u)). others j u t.0 t.1) (at_set vs me j w u e)
 
 -- what a step of the holder has to show; the history has then what the event adds
-pub record Steps (c : Config) (ws ws' : List ℕ) (views : List View) (v : View) (e : Event) (es : List Entry) : Type 0 where
+pub record Steps (c : Config) (ws ws' : List ℕ) (views : List View) (v : View) (e : Event)
+    (es : List Entry) : Type 0 where
   pub wide : length ws' ≡ length ws
   pub fit : (h : ℕ) → h < c.handles → Fits (object_at (after e v.known) h) (pointer ws' h)
   pub hot : (h : ℕ) → h < c.handles → hot_at (after e v.known) h ≡ true
@@ -218,7 +220,8 @@ sized_after c (ev.Looked h w) s z = record {
   memory = z.memory;
 }
 sized_after c (ev.Claimed h w v words) s z = record {
-  objects = length-set s.objects h (is.Claimed (len_of w) (Rattle.cb_ptr.specs.Word.place_of w) v words) ∙ z.objects;
+  objects = length-set s.objects h (is.Claimed (len_of w)
+      (Rattle.cb_ptr.specs.Word.place_of w) v words) ∙ z.objects;
   hots = length-set s.hots h (hot_of w) ∙ z.hots;
   versions = length-set s.versions h v ∙ z.versions;
   memory = length_put s.memory (Rattle.cb_ptr.specs.Word.place_of w) words ∙ z.memory;
@@ -238,7 +241,8 @@ sized_after c (ev.Stamped h v) s z = record {
   memory = z.memory;
 }
 sized_after c (ev.Settled h w) s z = record {
-  objects = length-set s.objects h (settled_by (state_of w) w (version_at s h) (object_at s h)) ∙ z.objects;
+  objects = length-set s.objects h (settled_by (state_of w) w (version_at s h)
+      (object_at s h)) ∙ z.objects;
   hots = length-set s.hots h (hot_of w) ∙ z.hots;
   versions = z.versions;
   memory = z.memory;
@@ -252,7 +256,9 @@ held_one vs id j v u ne at there mine one his =
     let a : holding v ≡ 1 = ap (λ (b : Bool). cond {A = ℕ} b 1 0) mine in
     let b : holding u ≡ 1 = ap (λ (b : Bool). cond {A = ℕ} b 1 0) his in omega arith
 
-module _ (c : Config) (ws ws' : List ℕ) (views : List View) (id : ℕ) (v : View) (e : Event) (es : List Entry) (r : Kept c ws views v.known es) (at : get_elem? views id ≡ some v) (mine : v.holds ≡ true) (t : Steps c ws ws' views v e es) where
+module _ (c : Config) (ws ws' : List ℕ) (views : List View) (id : ℕ) (v : View) (e : Event)
+    (es : List Entry) (r : Kept c ws views v.known es) (at : get_elem? views id
+    ≡ some v) (mine : v.holds ≡ true) (t : Steps c ws ws' views v e es) where
   abbrev w : View
   w = act e v
 
@@ -343,7 +349,8 @@ module _ (c : Config) (ws ws' : List ℕ) (views : List View) (id : ℕ) (v : Vi
           lasting = kept_record u ok.lasting;
         });
     history = subst (λ (n : ℕ). IsHistory n more) (sym (first_stays e v.known)) t.follows;
-    within = each_append (λ (x : Entry). x.handle < c.handles) (adds e v.known) es t.within r.within;
+    within = each_append (λ (x : Entry). x.handle < c.handles)
+        (adds e v.known) es t.within r.within;
     recorded = λ h k. let sum = total-set (written_on h k) views id v w at in
         let mine_now : times (is_version h k) (adds e v.known ++ v.fresh)
         ≡ times (is_version h k) (adds e v.known) + times (is_version h k) v.fresh =

@@ -1,4 +1,5 @@
 pub mod Counts
+pub mod Members
 pub mod Growing
 pub mod Histories
 pub mod Keeping
@@ -19,5 +20,10 @@ pub mod Acting
 pub mod Others
 pub mod Own
 pub mod Allowing
+pub mod Promising
+pub mod Showing
+pub mod Laws
+pub mod WorkedHistory
+pub mod WorkedViews
 pub mod WorkedStands
 pub mod WorkedClaims

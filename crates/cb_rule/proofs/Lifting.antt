@@ -1,6 +1,6 @@
 -- From the rule of the words to the rule of the whole table.
-use Rattle.std.proofs.Common.{◌≡◌, ◌≢◌, ◌⊎◌, ℕ, zero, suc, ◌+◌, ◌<◌, ◌≤◌, Bool, true, List, [], ◌∷◌, ◌++◌, length, get_or, set, sym, refl, ap, ◌∙◌, subst, inl, inr, arith, get_or-set_other}
-use mathlib.Core.Option.{some, some-injective, some-ne-none}
+use Rattle.std.proofs.Common.{◌≡◌, ℕ, zero, suc, ◌<◌, ◌≤◌, true, List, [], ◌∷◌, ◌++◌, get_or, set, sym, refl, ap, ◌∙◌, subst, inl, inr, arith, get_or-set_other}
+use mathlib.Core.Option.{some, some-injective}
 use lib.ListN.{get_elem?}
 use lib.Seq.{set-get_or}
 use Rattle.cb_types.specs.declared.config.Config.{Config}
@@ -10,7 +10,6 @@ use Rattle.cb_world.specs.declared.shown.Shown.{Shown}
 use Rattle.cb_world.specs.Played.{after}
 use Rattle.cb_world.specs.Written.{adds}
 use Rattle.cb_rule.specs.declared.view.View.{View}
-use Rattle.cb_rule.specs.Lists.{total}
 use Rattle.cb_rule.specs.Rule.{Kept}
 use Rattle.cb_rule.specs.Ruled.{AreShares, Beside, IsAlike, IsSteady, Ruled}
 use Rattle.cb_rule.specs.Seats.{share_of}
@@ -44,7 +43,8 @@ shares_stay c views id v w at same live r = record {
       (λ none. absurd (omega (arith, same, live, none))) (λ j u ne there. r.spent j u there);
 }
 
-module _ (beside : Beside) (steady : IsSteady beside) (first : ℕ) (c : Config) (s : Table) (id : ℕ) (v : View) (at : get_elem? s.views id ≡ some v) (r : Ruled beside first c s) where
+module _ (beside : Beside) (steady : IsSteady beside) (first : ℕ) (c : Config) (s : Table)
+    (id : ℕ) (v : View) (at : get_elem? s.views id ≡ some v) (r : Ruled beside first c s) where
   -- a step of any seat, under which what is known stays
   pub any_seat : (w : View) (ws : List ℕ) (es : List Entry) → w.share ≡ v.share → 1 ≤ v.share
       → IsAlike v w → get_or ws 0 0 ≡ get_or s.words 0 0
@@ -75,7 +75,8 @@ module _ (beside : Beside) (steady : IsSteady beside) (first : ℕ) (c : Config)
   next e i x holds live pos t = record {
     known = after e v.known;
     history = adds e v.known ++ r.history;
-    starts = first_stays e v.known ∙ ap (λ (k : Shown). k.first) ((r.kept.seats id v at).knows holds)
+    starts = first_stays e v.known ∙ ap (λ (k : Shown). k.first)
+        ((r.kept.seats id v at).knows holds)
         ∙ r.starts;
     kept = keeps_rule c s.words (set s.words i x) s.views id v e r.history (mine holds) at holds t;
     shares = shares_stay c s.views id v (act e v) at refl live r.shares;

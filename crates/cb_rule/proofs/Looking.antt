@@ -1,7 +1,7 @@
 -- Looks and loads of the holder of the lock.
-use Rattle.std.proofs.Common.{◌≡◌, ◌≢◌, ◌⊎◌, ℕ, ◌+◌, ◌*◌, ◌<◌, ◌≤◌, Bool, true, false, List, [], ◌∷◌, ◌++◌, length, get_or, set, sym, refl, ap, ◌∙◌, subst, arith, get_or-set_other, get_or-set_same}
+use Rattle.std.proofs.Common.{◌≡◌, ℕ, ◌+◌, ◌<◌, ◌≤◌, true, false, List, get_or, set, sym, refl, ap, ◌∙◌, subst, arith, get_or-set_other, get_or-set_same}
 use native.Mathlib.Decide.{ℕ_discrete}
-use mathlib.Core.Option.{some, none}
+use mathlib.Core.Option.{none}
 use Rattle.atomic_table.specs.Table.{step, keeps, Allows}
 use Rattle.cb_types.specs.declared.config.Config.{Config}
 use Rattle.cb_ptr.specs.Word.{hot_of}
@@ -10,7 +10,7 @@ use Rattle.cb_world.specs.declared.event.Event.TheVariants.{Looked, Told, Loaded
 use Rattle.cb_world.specs.declared.object.Object.{Object}
 use Rattle.cb_world.specs.declared.object.Object.TheVariants as is
 use Rattle.cb_world.specs.Played.{Agrees, after}
-use Rattle.cb_world.specs.Shown.{Fits, IsHeld, object_at, hot_at, version_at}
+use Rattle.cb_world.specs.Shown.{IsHeld, object_at, version_at}
 use Rattle.cb_rule.specs.declared.view.View.{View}
 use Rattle.cb_rule.specs.History.{newest, top}
 use Rattle.cb_rule.specs.Lists.{total}
@@ -24,7 +24,8 @@ use Rattle.cb_rule.specs.Words.{stamps, base, pointer, stamp}
 use Rattle.cb_rule.proofs.Keeping.{Steps, held_same}
 use Rattle.cb_rule.proofs.Lifting.{mine, next_load}
 
-module _ (c : Config) (ws : List ℕ) (views : List View) (v : View) (es : List Entry) (r : Kept c ws views v.known es) where
+module _ (c : Config) (ws : List ℕ) (views : List View) (v : View) (es : List Entry)
+    (r : Kept c ws views v.known es) where
   pub look_steps : (h : ℕ) → h < c.handles → Steps c ws ws views v (Looked h (pointer ws h)) es
   look_steps h l = let s = v.known in let x : ℕ = pointer ws h in record {
     wide = refl;
@@ -40,7 +41,8 @@ module _ (c : Config) (ws : List ℕ) (views : List View) (v : View) (es : List 
     apart = r.apart;
     stand = r.stand;
     tops = λ k _. (refl, refl, refl);
-    helds = λ y _ ok. held_same c ws ws s (after (Looked h x) s) es es y refl refl refl refl refl refl
+    helds = λ y _ ok. held_same c ws ws s (after
+        (Looked h x) s) es es y refl refl refl refl refl refl
         ok;
     follows = r.history;
     within = tt;
@@ -97,7 +99,8 @@ module _ (c : Config) (ws : List ℕ) (views : List View) (v : View) (es : List 
   pub load_agrees : (p : ℕ) → Agrees v.known (Loaded p (get_or ws (base c + p) 0))
   load_agrees p = r.owned p
 
-module _ (beside : Beside) (steady : IsSteady beside) (first : ℕ) (c : Config) (slots id : ℕ) (me : Sat) (live : 1 ≤ me.0.share) (holds : me.0.holds ≡ true) where
+module _ (beside : Beside) (steady : IsSteady beside) (first : ℕ) (c : Config) (slots id : ℕ)
+    (me : Sat) (live : 1 ≤ me.0.share) (holds : me.0.holds ≡ true) where
   pub looks : (h : ℕ) → h < c.handles
       → Allows (Ruled beside first c) slots id me (1 + h) (λ n. n)
       (looked (step slots (1 + h) 0 0 none) me)

@@ -1,5 +1,5 @@
 -- What a record has of an object is not newer than the newest, which with the whole share it wrote.
-use Rattle.std.proofs.Common.{◌≡◌, ◌≢◌, ◌⊎◌, ℕ, zero, suc, ◌+◌, ◌<◌, ◌≤◌, Bool, true, false, cond, eqb, List, [], ◌∷◌, ◌++◌, length, get_or, set, sym, refl, ap, ◌∙◌, subst, inl, inr, ⊎_elim, arith, ap₂, eq-eqb}
+use Rattle.std.proofs.Common.{◌≡◌, ◌≢◌, ℕ, zero, suc, ◌<◌, ◌≤◌, List, [], ◌∷◌, ◌++◌, sym, refl, ap, subst, ⊎_elim, arith}
 use mathlib.Core.Option.{some, some-injective, some-ne-none}
 use lib.ListN.{get_elem?}
 use Rattle.cb_types.specs.declared.config.Config.{Config}
@@ -7,15 +7,15 @@ use Rattle.cb_world.specs.declared.entry.Entry.{Entry}
 use Rattle.cb_world.specs.declared.shown.Shown.{Shown}
 use Rattle.cb_rule.specs.declared.view.Seen.{Seen}
 use Rattle.cb_rule.specs.declared.view.View.{View}
-use Rattle.cb_rule.specs.History.{IsHistory, is_version, newest, top}
-use Rattle.cb_rule.specs.Lists.{times, total, Each, Has}
+use Rattle.cb_rule.specs.History.{top}
+use Rattle.cb_rule.specs.Lists.{total, Has}
 use Rattle.cb_rule.specs.Records.{SeenOk}
 use Rattle.cb_rule.specs.Rule.{Kept}
 use Rattle.cb_rule.specs.Ruled.{AreShares}
 use Rattle.cb_rule.specs.Seats.{share_of, written_on}
 use Rattle.cb_rule.specs.Steps.{IsNewest, blank}
-use Rattle.cb_rule.proofs.Counts.{each_append, each_map, total-at, total-two}
-use Rattle.cb_rule.proofs.Histories.{begun, entry_within, once, stands}
+use Rattle.cb_rule.proofs.Counts.{each_append, each_map, total-two}
+use Rattle.cb_rule.proofs.Histories.{begun, entry_within, once}
 
 -- a total to which one element alone adds
 pub total_alone : {A : Type 0} (f : A → ℕ) (vs : List A) (i : ℕ) (v : A) → get_elem? vs i ≡ some v
@@ -46,7 +46,8 @@ others_spent c views id j v u r at whole ne there =
     let two = total-two share_of views id j v u ne at there in let all = r.whole in
     r.spent j u there (omega (arith, two, all, whole))
 
-module _ (c : Config) (ws : List ℕ) (views : List View) (known : Shown) (es : List Entry) (r : Kept c ws views known es) (shares : AreShares c views) where
+module _ (c : Config) (ws : List ℕ) (views : List View) (known : Shown) (es : List Entry)
+    (r : Kept c ws views known es) (shares : AreShares c views) where
   pub is_newest : (id : ℕ) (v : View) (h : ℕ) → get_elem? views id ≡ some v → 0 < top es h
       → IsNewest h (top es h) v
   is_newest id v h at pos = let ok = (r.seats id v at).lasting in record {

@@ -1,5 +1,5 @@
 -- The rule at the start: no object was made, and every word is 0. And the holder between two turns.
-use Rattle.std.proofs.Common.{◌≡◌, ◌≢◌, ◌⊎◌, ℕ, zero, suc, ◌+◌, ◌-◌, ◌*◌, ◌<◌, ◌≤◌, Bool, true, false, List, [], ◌∷◌, ◌++◌, length, get_or, set, replicate, sym, refl, ap, ◌∙◌, subst, arith, true≢false}
+use Rattle.std.proofs.Common.{◌≡◌, ℕ, zero, suc, ◌+◌, ◌*◌, ◌<◌, ◌≤◌, true, false, List, [], ◌∷◌, ◌++◌, length, get_or, set, replicate, sym, refl, ap, ◌∙◌, subst, arith, true≢false}
 use mathlib.Core.Option.{some, none, some-injective, some-ne-none}
 use lib.ListN.{get_elem?}
 use Rattle.atomic_table.specs.Table.{step, keeps, opening, Allows}
@@ -13,7 +13,7 @@ use Rattle.cb_world.specs.LocalSound.{LiesAt}
 use Rattle.cb_world.specs.Shown.{Fits, never, object_at, version_at}
 use Rattle.cb_rule.specs.declared.view.View.{View}
 use Rattle.cb_rule.specs.History.{Value, WasNow, is_version, newest, no_value, top}
-use Rattle.cb_rule.specs.Lists.{times, total, Each, Has}
+use Rattle.cb_rule.specs.Lists.{total, Each, Has}
 use Rattle.cb_rule.specs.Records.{OldOk, SeatOk}
 use Rattle.cb_rule.specs.Rule.{Kept}
 use Rattle.cb_rule.specs.Ruled.{Beside, IsSteady, Ruled, alone}
@@ -24,7 +24,7 @@ use Rattle.cb_rule.specs.Steps.{blank, opener, rested, rests}
 use Rattle.cb_rule.specs.Words.{base, pointer}
 use Rattle.cb_rule.proofs.Calm.{Quiet, still_rule}
 use Rattle.cb_rule.proofs.Counts.{each_append, each_map, times-append}
-use Rattle.cb_rule.proofs.Glancing.{each_has}
+use Rattle.cb_rule.proofs.Members.{each_has}
 use Rattle.cb_rule.proofs.Lifting.{any_seat, same_words}
 use Rattle.cb_rule.proofs.Seating.{never_now}
 
@@ -45,7 +45,8 @@ alone_steady = record {
   joins = λ c s known id v other w at ne there quiet far. tt;
 }
 
-module _ (first : ℕ) (pos : 1 ≤ first) (c : Config) (ws : List ℕ) (wide : length ws ≡ base c + 512 * c.frames) (zeros : (i : ℕ) → get_or ws i 0 ≡ 0) where
+module _ (first : ℕ) (pos : 1 ≤ first) (c : Config) (ws : List ℕ) (wide : length ws
+    ≡ base c + 512 * c.frames) (zeros : (i : ℕ) → get_or ws i 0 ≡ 0) where
   abbrev s : Shown
   s = empty_shown first c
 
@@ -155,7 +156,8 @@ old_now c ws views known es r h l = go (object_at known h) (r.stand h l)
     go (is.Here len place) k = tt
     go (is.Claimed len place v words) k = (k.born, was v _ k.kept.at k.kept.has)
 
-module _ (beside : Beside) (steady : IsSteady beside) (first : ℕ) (c : Config) (slots id : ℕ) (me : Sat) (live : 1 ≤ me.0.share) (holds : me.0.holds ≡ true) where
+module _ (beside : Beside) (steady : IsSteady beside) (first : ℕ) (c : Config) (slots id : ℕ)
+    (me : Sat) (live : 1 ≤ me.0.share) (holds : me.0.holds ≡ true) where
   -- the holder ends a turn: a load of the lock
   pub ends_turn : Allows (Ruled beside first c) slots id me 0 (λ n. n)
       (rests (step slots 0 0 0 none) me)

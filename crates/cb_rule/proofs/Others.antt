@@ -1,5 +1,5 @@
 -- A seat changes an object that it claims outside of a turn, while another may hold the far lock.
-use Rattle.std.proofs.Common.{◌≡◌, ◌≢◌, ℕ, ◌+◌, ◌<◌, ◌≤◌, Bool, true, cond, List, [], ◌∷◌, ◌++◌, length, get_or, set, sym, refl, ap, ◌∙◌, subst, ⊎_elim, arith}
+use Rattle.std.proofs.Common.{◌≡◌, ◌≢◌, ℕ, ◌+◌, ◌<◌, ◌≤◌, Bool, true, cond, List, ◌++◌, length, get_or, set, sym, refl, ap, ◌∙◌, subst, ⊎_elim, arith}
 use Rattle.std.proofs.lemmas.Bool.{eqb-false}
 use native.Mathlib.Decide.{ℕ_discrete}
 use mathlib.Core.Option.{some}
@@ -14,29 +14,15 @@ use Rattle.cb_rule.specs.declared.view.Held.{Held}
 use Rattle.cb_rule.specs.declared.view.Stand.{Stand}
 use Rattle.cb_rule.specs.declared.view.View.{View}
 use Rattle.cb_rule.specs.History.{IsHistory, is_version, newest, top}
-use Rattle.cb_rule.specs.Lists.{times, total, Each, Has}
+use Rattle.cb_rule.specs.Lists.{times, total, Each}
 use Rattle.cb_rule.specs.Records.{PinOk, HeldOk, RecordOk, SeatOk}
 use Rattle.cb_rule.specs.Rule.{StandsIn, Kept}
 use Rattle.cb_rule.specs.Seats.{claims_it, claims_on, holding, pins_it, pins_on, written_on}
 use Rattle.cb_rule.specs.Stands.{IsCalm, IsShared, IsTaken, Stands}
 use Rattle.cb_rule.specs.Words.{base, pointer, stamp, words_at}
-use Rattle.cb_rule.proofs.Counts.{hit, each_map, each_none, each_there, times-append, total-at, total-same, total-two}
+use Rattle.cb_rule.proofs.Counts.{each_none, each_there, times-append, total-at, total-same, total-two, total-set, each_append}
 use Rattle.cb_rule.proofs.Growing.{record_more}
 use Rattle.cb_rule.proofs.Keeping.{held_same, pin_same, seats_stay, stands_same}
-
--- what stands in a list has what each element has
-pub each_has : {A : Type 0} (P : A → Type 0) (x : A) (xs : List A) → Each P xs → Has x xs → P x
-each_has P x [] h there = absurd there
-each_has P x (y ∷ xs) h there =
-    ⊎_elim (λ (e : y ≡ x). subst P e h.0) (λ (e : Has x xs). each_has P x xs h.1 e) there
-
--- and is counted
-pub times_has : {A : Type 0} (t : A → Bool) (x : A) (xs : List A) → Has x xs → t x ≡ true
-    → 0 < times t xs
-times_has t x [] there is = absurd there
-times_has t x (y ∷ xs) there is = ⊎_elim
-    (λ (e : y ≡ x). let one : cond (t y) 1 0 ≡ 1 = hit (t y) (ap t e ∙ is) in omega arith)
-    (λ (e : Has _ xs). let rest = times_has t x xs e is in omega arith) there
 
 -- What a step of the seat on the object that it claims has to show: what the holder knows stays,
 -- and the history gets these entries.
@@ -151,14 +137,14 @@ module _ (c : Config) (ws ws' : List ℕ) (views : List View) (id : ℕ) (v w : 
     history = t.follows;
     within = within_all;
     recorded = λ a k. let wrote = t.wrote a k in let before = r.recorded a k in
-        let sum = Rattle.cb_rule.proofs.Counts.total-set (written_on a k) views id v w at in
+        let sum = total-set (written_on a k) views id v w at in
         let all = times-append (is_version a k) more es in omega (arith, wrote, before, sum, all);
     one = let e = total-same holding views id v w at
         (ap (λ (b : Bool). cond {A = ℕ} b 1 0) t.holds) in omega (arith, e, r.one);
   }
     where
       within_all : Each (λ (x : Entry). x.handle < c.handles) (more ++ es)
-      within_all = Rattle.cb_rule.proofs.Counts.each_append
+      within_all = each_append
           (λ (x : Entry). x.handle < c.handles) more es t.within r.within
 
 -- an object that a seat claims outside of a turn

@@ -1,12 +1,12 @@
 -- The steps of a seat on an object that it claims outside of a turn: the claim, the stores of its
 -- memory words and of its version word, and the two ways to settle it.
-use Rattle.std.proofs.Common.{◌≡◌, ◌≢◌, ℕ, zero, suc, ◌+◌, ◌%◌, ◌<◌, ◌≤◌, Bool, true, List, [], ◌∷◌, ◌++◌, length, get_or, set, sym, refl, ap, ◌∙◌, subst, inl, inr, ⊎_elim, true≢false, arith, length-set, get_or-set_other, get_or-set_same, eq-eqb, ne_eqb, eqb-true}
+use Rattle.std.proofs.Common.{◌≡◌, ◌≢◌, ℕ, zero, suc, ◌+◌, ◌%◌, ◌<◌, ◌≤◌, true, List, [], ◌∷◌, ◌++◌, length, get_or, set, sym, refl, ap, ◌∙◌, subst, inl, inr, ⊎_elim, true≢false, arith, length-set, get_or-set_other, get_or-set_same, eq-eqb, ne_eqb, eqb-true, eqb}
 use Rattle.std.proofs.lemmas.Bool.{eqb-false}
 use mathlib.Core.Option.{some}
 use lib.ListN.{get_elem?}
 use Rattle.cb_types.specs.declared.config.Config.{Config}
 use Rattle.cb_ptr.specs.declared.word.State.TheVariants as word
-use Rattle.cb_ptr.specs.Word.{state_number, state_of, hot_of, len_of, place_of, pins_of}
+use Rattle.cb_ptr.specs.Word.{state_of, hot_of, len_of, place_of, pins_of, numbered_state}
 use Rattle.cb_ptr.specs.Steps.{Claims}
 use Rattle.cb_ptr.proofs.Laws.{claims, claimed_below}
 use Rattle.cb_world.specs.declared.entry.Entry.{Entry}
@@ -21,20 +21,21 @@ use Rattle.cb_world.proofs.Laws.{packed_write, window_same}
 use Rattle.cb_rule.specs.declared.view.Held.{Held}
 use Rattle.cb_rule.specs.declared.view.Look.{Look}
 use Rattle.cb_rule.specs.declared.view.View.{View}
-use Rattle.cb_rule.specs.History.{Value, Follows, holding_words, newest, top}
-use Rattle.cb_rule.specs.Lists.{times, total, Each, Has}
+use Rattle.cb_rule.specs.History.{Value, holding_words, newest, top, IsHistory, is_version}
+use Rattle.cb_rule.specs.Lists.{times, total, Each, Has, removed}
 use Rattle.cb_rule.specs.Records.{HeldOk, RecordOk}
 use Rattle.cb_rule.specs.Rule.{StandsIn, Kept}
-use Rattle.cb_rule.specs.Seats.{claims_it, claims_on, pins_on}
+use Rattle.cb_rule.specs.Seats.{claims_it, claims_on, pins_on, written_on, pins_it}
 use Rattle.cb_rule.specs.Stands.{Stands}
 use Rattle.cb_rule.specs.Steps.{next_entry, with_claim, with_held, with_stamp, with_version, with_word, without_claim}
 use Rattle.cb_rule.specs.Words.{stamps, base, pointer, stamp, words_at}
 use Rattle.cb_rule.proofs.Claiming.{found_below, found_calm, found_here, found_shared}
-use Rattle.cb_rule.proofs.Counts.{each_edited, each_map, each_removed_only, hit, miss, times-edited, times-removed, times-removed_else, total-at, total-same, total-set}
+use Rattle.cb_rule.proofs.Counts.{each_edited, each_removed_only, hit, miss, times-edited, times-removed, times-removed_else, total-at, total-same, total-set, each_there}
 use Rattle.cb_rule.proofs.Growing.{record_more}
 use Rattle.cb_rule.proofs.Histories.{newest_else, newest_same, top_else, top_same}
 use Rattle.cb_rule.proofs.Keeping.{held_same, lies_here, outside, words_else}
-use Rattle.cb_rule.proofs.Others.{Claimer, claimer, each_has, other_rule, times_has}
+use Rattle.cb_rule.proofs.Members.{each_has, times_has}
+use Rattle.cb_rule.proofs.Others.{Claimer, claimer, other_rule}
 
 -- the length and the place of an object in local memory
 abbrev len_in : Object → ℕ
@@ -98,7 +99,7 @@ module _ (c : Config) (ws : List ℕ) (views : List View) (known : Shown) (es : 
       let no_pins : total (pins_on h) views ≡ 0 = sym calm.count ∙ ap pins_of found ∙ bare in
       let no_claims = calm.no_claims in
       let sum = total-set (claims_on h) views id v u at in
-      let one = hit (eqb_h h) (eq-eqb h h refl) in
+      let one = hit (eqb h h) (eq-eqb h h refl) in
       let ptr_h : pointer ws' h ≡ x =
       get_or-set_same ws (1 + h) x 0 (let e = r.wide in omega arith) in
       let ptr : (q : ℕ) → q ≢ h → pointer ws' q ≡ pointer ws q =
@@ -145,7 +146,7 @@ module _ (c : Config) (ws : List ℕ) (views : List View) (known : Shown) (es : 
             omega (arith, le, no_claims);
         same_config = refl;
         pins = refl;
-        claims = λ q ne. (let out = miss (Rattle.std.specs.Prelude.eqb h q)
+        claims = λ q ne. (let out = miss (eqb h q)
             (ne_eqb h q (λ y. ne (sym y))) in omega arith);
         held = (
           record {
@@ -158,7 +159,7 @@ module _ (c : Config) (ws : List ℕ) (views : List View) (known : Shown) (es : 
             taken = ptr_h;
             risen = (let z : top es h ≤ top es h = omega arith in z);
           },
-          Rattle.cb_rule.proofs.Counts.each_there (HeldOk c ws known es) (HeldOk c ws' known es)
+          each_there (HeldOk c ws known es) (HeldOk c ws' known es)
               (λ (y : Held). y.handle) v.claims
               (λ y pos o. held_same c ws ws' known known es es y refl refl refl (stm y.handle)
               (wrd y.place y.len) (ptr y.handle (not_mine y pos)) o) ok.claims,
@@ -166,12 +167,9 @@ module _ (c : Config) (ws : List ℕ) (views : List View) (known : Shown) (es : 
         holds = refl;
         knows = refl;
         lasting = record_held c known.first es v u.claims u.looks ok.lasting;
-        wrote = λ a q. (let z : 0 + Rattle.cb_rule.specs.Seats.written_on a q v
-            ≡ Rattle.cb_rule.specs.Seats.written_on a q v = omega arith in sym z);
+        wrote = λ a q. (let z : 0 + written_on a q v
+            ≡ written_on a q v = omega arith in sym z);
       }
-    where
-      eqb_h : ℕ → Bool
-      eqb_h q = Rattle.std.specs.Prelude.eqb q q
 
   -- a claim that the seat has
   module _ (x : Held) (there : Has x v.claims) where
@@ -201,7 +199,7 @@ module _ (c : Config) (ws : List ℕ) (views : List View) (known : Shown) (es : 
           word = inr record {
             one_claim = total-same (claims_on h) views id v u at claims ∙ k.taken.one_claim;
             no_pins = total-same (pins_on h) views id v u at
-                (ap (times (λ y. Rattle.cb_rule.specs.Seats.pins_it h y)) pins)
+                (ap (times (λ y. pins_it h y)) pins)
                 ∙ k.taken.no_pins;
             state = ap state_of same ∙ k.taken.state;
             bare = ap pins_of same ∙ k.taken.bare;
@@ -282,8 +280,8 @@ module _ (c : Config) (ws : List ℕ) (views : List View) (known : Shown) (es : 
           holds = refl;
           knows = refl;
           lasting = record_held c known.first es v u.claims v.looks ok.lasting;
-          wrote = λ a q. (let z : 0 + Rattle.cb_rule.specs.Seats.written_on a q v
-              ≡ Rattle.cb_rule.specs.Seats.written_on a q v = omega arith in sym z);
+          wrote = λ a q. (let z : 0 + written_on a q v
+              ≡ written_on a q v = omega arith in sym z);
         }
 
     -- a store of its version word
@@ -332,7 +330,8 @@ module _ (c : Config) (ws : List ℕ) (views : List View) (known : Shown) (es : 
                 stamped = ap (stamp c ws') e ∙ own_stamp_is;
                 laid = wrd z.place z.len ∙ a.laid;
                 taken = ptr z.handle a.below ∙ a.taken;
-                risen = (let q = a.number in let o' = o.number in let same : top es z.handle ≡ top es h =
+                risen = (let q = a.number in let o' = o.number in
+                    let same : top es z.handle ≡ top es h =
                     ap (top es) e in omega (arith, q, o', same, low));
               })
               (λ z is a. let ne = eqb-false z.handle h is in
@@ -342,8 +341,8 @@ module _ (c : Config) (ws : List ℕ) (views : List View) (known : Shown) (es : 
           holds = refl;
           knows = refl;
           lasting = record_held c known.first es v u.claims v.looks ok.lasting;
-          wrote = λ a q. (let z : 0 + Rattle.cb_rule.specs.Seats.written_on a q v
-              ≡ Rattle.cb_rule.specs.Seats.written_on a q v = omega arith in sym z);
+          wrote = λ a q. (let z : 0 + written_on a q v
+              ≡ written_on a q v = omega arith in sym z);
         }
 
     -- Its pointer word becomes n, which is Here without pins, and the claim is given up. The
@@ -364,17 +363,17 @@ module _ (c : Config) (ws : List ℕ) (views : List View) (known : Shown) (es : 
         pub packed : IsPacked x.len x.memory
         pub others : (k : ℕ) → k ≢ x.handle
             → (top (more ++ es) k ≡ top es k) × (newest (more ++ es) k ≡ newest es k)
-        pub follows : Rattle.cb_rule.specs.History.IsHistory known.first (more ++ es)
+        pub follows : IsHistory known.first (more ++ es)
         pub within : Each (λ (e : Entry). e.handle < c.handles) more
         pub same_config : u.config ≡ v.config
         pub pins : u.pins ≡ v.pins
-        pub claims : u.claims ≡ Rattle.cb_rule.specs.Lists.removed (claims_it x.handle) v.claims
+        pub claims : u.claims ≡ removed (claims_it x.handle) v.claims
         pub holds : u.holds ≡ v.holds
         pub knows : u.known ≡ v.known
         pub lasting : RecordOk c known.first (more ++ es) u
-        pub wrote : (a k : ℕ) → Rattle.cb_rule.specs.Seats.written_on a k u
-            ≡ times (Rattle.cb_rule.specs.History.is_version a k) more
-            + Rattle.cb_rule.specs.Seats.written_on a k v
+        pub wrote : (a k : ℕ) → written_on a k u
+            ≡ times (is_version a k) more
+            + written_on a k v
 
       pub own_leaves : Leaves → Kept c ws' (set views id u) known (more ++ es)
       own_leaves t =
@@ -389,7 +388,7 @@ module _ (c : Config) (ws : List ℕ) (views : List View) (known : Shown) (es : 
           let wrd : (place len : ℕ) → words_at c ws' place len ≡ words_at c ws place len =
           λ place len. words_else c ws (1 + h) n place len (inl (omega arith)) in
           let rest : List Held =
-          Rattle.cb_rule.specs.Lists.removed (claims_it h) v.claims in
+          removed (claims_it h) v.claims in
           let less : times (claims_it h) rest + 1 ≡ claims_on h v =
           times-removed (claims_it h) v.claims own_claimed in
           let mine_now : claims_on h u ≡ times (claims_it h) rest =
@@ -449,7 +448,7 @@ module _ (c : Config) (ws : List ℕ) (views : List View) (known : Shown) (es : 
           no_pins_then : (h : ℕ) → Claimer c ws views known es id h v x.len x.place
               → total (pins_on h) (set views id u) ≡ 0
           no_pins_then h k = total-same (pins_on h) views id v u at
-              (ap (times (λ y. Rattle.cb_rule.specs.Seats.pins_it h y)) t.pins)
+              (ap (times (λ y. pins_it h y)) t.pins)
               ∙ k.taken.no_pins
 
     -- settled with the next version: one entry more
@@ -552,4 +551,4 @@ module _ (c : Config) (ws : List ℕ) (views : List View) (known : Shown) (es : 
         here_before : (w : ℕ) → pointer ws x.handle % 4 ≡ 3 → pointer ws x.handle ≡ w + 1
             → state_of w ≡ word.Here
         here_before w moving taken = let two : w % 4 ≡ 2 = omega arith in
-            ap Rattle.cb_ptr.specs.Word.numbered_state two
+            ap numbered_state two

@@ -16,17 +16,17 @@ use Rattle.cb_world.proofs.Laws.{window_at}
 use Rattle.cb_rule.specs.declared.view.Stand.{Stand}
 use Rattle.cb_rule.specs.declared.view.View.{View}
 use Rattle.cb_rule.specs.History.{newest, top}
-use Rattle.cb_rule.specs.Lists.{times, total, Each, Has}
+use Rattle.cb_rule.specs.Lists.{times, total, Has}
 use Rattle.cb_rule.specs.Records.{PinOk, PeekedOk}
 use Rattle.cb_rule.specs.Rule.{Kept}
 use Rattle.cb_rule.specs.Ruled.{Beside, IsSteady, Ruled}
 use Rattle.cb_rule.specs.Seats.{pins_it, pins_on}
-use Rattle.cb_rule.specs.Slot.{Sat, Table}
+use Rattle.cb_rule.specs.Slot.{Sat}
 use Rattle.cb_rule.specs.Steps.{peeked, with_peek}
 use Rattle.cb_rule.specs.Words.{base, words_at}
 use Rattle.cb_rule.proofs.Calm.{Quiet, lies, still_rule}
 use Rattle.cb_rule.proofs.Counts.{hit, total-at}
-use Rattle.cb_rule.proofs.Glancing.{each_has}
+use Rattle.cb_rule.proofs.Members.{each_has}
 use Rattle.cb_rule.proofs.Histories.{newest_entry}
 use Rattle.cb_rule.proofs.Keeping.{lies_here}
 use Rattle.cb_rule.proofs.Lifting.{any_seat, same_words}
@@ -53,7 +53,9 @@ place_in (is.Far len m words) = 0
 place_in (is.Here len place) = place
 place_in (is.Claimed len place m words) = place
 
-module _ (c : Config) (ws : List ℕ) (views : List View) (known : Shown) (es : List Entry) (r : Kept c ws views known es) (id : ℕ) (v : View) (at : get_elem? views id ≡ some v) (p : Stand) (there : Has p v.pins) (j : ℕ) (lt : j < words_for p.len) where
+module _ (c : Config) (ws : List ℕ) (views : List View) (known : Shown) (es : List Entry)
+    (r : Kept c ws views known es) (id : ℕ) (v : View) (at : get_elem? views id
+    ≡ some v) (p : Stand) (there : Has p v.pins) (j : ℕ) (lt : j < words_for p.len) where
   ok : PinOk c known es p
   ok = each_has (PinOk c known es) p v.pins (r.seats id v at).pins there
 
@@ -94,7 +96,8 @@ module _ (c : Config) (ws : List ℕ) (views : List View) (known : Shown) (es : 
   -- another pin of the seat that has the word is on the same version
   pub one_pin : (q : Stand) → Has q v.pins → (k : ℕ) → k < words_for q.len
       → p.place + j ≡ q.place + k → (p.handle ≡ q.handle) × (p.version ≡ q.version) × (j ≡ k)
-  one_pin q there' k lt' e = let ok' = each_has (PinOk c known es) q v.pins (r.seats id v at).pins there' in
+  one_pin q there' k lt' e = let ok' =
+      each_has (PinOk c known es) q v.pins (r.seats id v at).pins there' in
       dite (ℕ_discrete p.handle q.handle)
       (λ same. let here : is.Here p.len p.place ≡ is.Here q.len q.place =
       sym ok.there ∙ ap (object_at known) same ∙ ok'.there in (
@@ -107,7 +110,8 @@ module _ (c : Config) (ws : List ℕ) (views : List View) (known : Shown) (es : 
       (lies_here known q.handle q.len q.place ok'.there) ne
       (omega arith, omega (arith, lt)) (omega (arith, e), omega (arith, e, lt'))))
 
-module _ (beside : Beside) (steady : IsSteady beside) (first : ℕ) (c : Config) (slots id : ℕ) (me : Sat) (live : 1 ≤ me.0.share) where
+module _ (beside : Beside) (steady : IsSteady beside) (first : ℕ) (c : Config) (slots id : ℕ)
+    (me : Sat) (live : 1 ≤ me.0.share) where
   pub peeks : (p : Stand) (j : ℕ) → Has p me.0.pins → j < words_for p.len
       → Allows (Ruled beside first c) slots id me (base c + p.place + j) (λ n. n)
       (peeked (step slots (base c + p.place + j) 0 0 none) me)

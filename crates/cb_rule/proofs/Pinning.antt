@@ -1,5 +1,5 @@
 -- Pins of any seat, while another may hold the lock.
-use Rattle.std.proofs.Common.{◌≡◌, ◌≢◌, ◌⊎◌, ℕ, zero, suc, ◌+◌, ◌-◌, ◌*◌, ◌/◌, ◌%◌, ◌^◌, ◌<◌, ◌≤◌, Bool, true, false, cond, eqb, List, [], ◌∷◌, ◌++◌, length, get_or, set, sym, refl, ap, ◌∙◌, subst, inl, inr, ⊎_elim, arith, eq-eqb, ne_eqb, eqb-true}
+use Rattle.std.proofs.Common.{◌≡◌, ℕ, suc, ◌+◌, ◌-◌, ◌*◌, ◌/◌, ◌%◌, ◌^◌, ◌<◌, ◌≤◌, Bool, false, cond, eqb, List, [], ◌∷◌, length, set, sym, refl, ap, ◌∙◌, subst, inl, inr, arith, eq-eqb, ne_eqb, eqb-true}
 use mathlib.Core.Logic.{dite}
 use native.Mathlib.Decide.{ℕ_discrete}
 use mathlib.Core.Option.{some, none}
@@ -16,7 +16,7 @@ use Rattle.cb_world.specs.declared.object.Object.{Object}
 use Rattle.cb_world.specs.declared.object.Object.TheVariants as is
 use Rattle.cb_world.specs.declared.shown.Shown.{Shown}
 use Rattle.cb_world.specs.Memory.{words_for}
-use Rattle.cb_world.specs.Shown.{Fits, object_at}
+use Rattle.cb_world.specs.Shown.{Fits}
 use Rattle.cb_world.specs.StillDesk.{bits_here, window_length}
 use Rattle.cb_rule.specs.declared.view.Held.{Held}
 use Rattle.cb_rule.specs.declared.view.Look.{Look}
@@ -25,8 +25,8 @@ use Rattle.cb_rule.specs.declared.view.Seen.{Seen}
 use Rattle.cb_rule.specs.declared.view.Stand.{Stand}
 use Rattle.cb_rule.specs.declared.view.View.{View}
 use Rattle.cb_rule.specs.History.{Value, newest, top}
-use Rattle.cb_rule.specs.Lists.{times, total, removed, Each, Has}
-use Rattle.cb_rule.specs.Records.{PinOk, SeenOk, PeekedOk, RecordOk, seen_of}
+use Rattle.cb_rule.specs.Lists.{removed, Each}
+use Rattle.cb_rule.specs.Records.{PinOk, SeenOk, PeekedOk, RecordOk}
 use Rattle.cb_rule.specs.Rule.{Kept}
 use Rattle.cb_rule.specs.Ruled.{Beside, IsSteady, Ruled, AreShares}
 use Rattle.cb_rule.specs.Seats.{pins_it, pins_on}
@@ -37,7 +37,7 @@ use Rattle.cb_rule.proofs.Calm.{Lies, Quiet, calm_rule, lies, still_rule}
 use Rattle.cb_rule.proofs.Counts.{each_removed, hit, miss, times-removed, times-removed_else, total-at, total-set}
 use Rattle.cb_rule.proofs.Histories.{IsEntry, newest_entry}
 use Rattle.cb_rule.proofs.Keeping.{lies_here}
-use Rattle.cb_rule.proofs.Lifting.{any_seat, same_lock, same_words, set_same}
+use Rattle.cb_rule.proofs.Lifting.{any_seat, same_lock, same_words}
 use Rattle.cb_rule.proofs.Newest.{is_newest}
 
 -- the record with other pins, claims, looks and words that were read
@@ -97,7 +97,8 @@ seen_is es h k len words value n e = (
   },
 )
 
-module _ (c : Config) (ws : List ℕ) (views : List View) (known : Shown) (es : List Entry) (r : Kept c ws views known es) (shares : AreShares c views) where
+module _ (c : Config) (ws : List ℕ) (views : List View) (known : Shown) (es : List Entry)
+    (r : Kept c ws views known es) (shares : AreShares c views) where
   -- what a word tells of an object that lies in local memory and that no one claims
   pub finds : (id h : ℕ) (v : View) → get_elem? views id ≡ some v → h < c.handles
       → (o : Lies c ws views known es r h)
@@ -133,7 +134,8 @@ pin_below : (old new f : ℕ) → old < 2 ^ 53 → old % 4 ≡ 2 → old / 8 % 1
     → new + f * 4 ≡ old + 12 → new < 2 ^ 53
 pin_below old new f b s p e n = omega arith
 
-module _ (beside : Beside) (steady : IsSteady beside) (first : ℕ) (c : Config) (slots id : ℕ) (me : Sat) (live : 1 ≤ me.0.share) (h : ℕ) (l : h < c.handles) where
+module _ (beside : Beside) (steady : IsSteady beside) (first : ℕ) (c : Config) (slots id : ℕ)
+    (me : Sat) (live : 1 ≤ me.0.share) (h : ℕ) (l : h < c.handles) where
   -- an exchange found another word
   pub lost : (s : Rattle.cb_rule.specs.Slot.Table) (x : ℕ) → Ruled beside first c s
       → get_elem? s.views id ≡ some me.0
@@ -281,7 +283,8 @@ module _ (beside : Beside) (steady : IsSteady beside) (first : ℕ) (c : Config)
           homes = s.homes;
           views = set s.views id w;
         }) (sym less)
-            (any_seat beside steady first c s id me.0 at r w (set s.words (1 + h) (x - 8)) es refl live
+            (any_seat beside steady first c s id me.0 at r w (set s.words (1 + h)
+            (x - 8)) es refl live
             record { holds = refl; took = refl; turns = refl }
             (same_lock s.words (1 + h) (x - 8) (omega arith))
             (calm_rule c s.words s.views r.known es k h l o (x - 8) id me.0 w at quiet (

@@ -1,5 +1,5 @@
 -- A seat is split, and two are joined.
-use Rattle.std.proofs.Common.{◌≡◌, ◌≢◌, ◌⊎◌, ℕ, zero, suc, ◌+◌, ◌-◌, ◌<◌, ◌≤◌, Bool, true, false, cond, List, [], ◌∷◌, ◌++◌, length, map, set, sym, refl, ap, ◌∙◌, subst, inl, inr, ⊎_elim, arith, true≢false}
+use Rattle.std.proofs.Common.{◌≡◌, ◌≢◌, ◌⊎◌, ℕ, zero, suc, ◌+◌, ◌<◌, ◌≤◌, Bool, false, cond, List, [], ◌∷◌, ◌++◌, length, map, set, sym, refl, ap, ◌∙◌, subst, inl, inr, ⊎_elim, arith, true≢false}
 use Rattle.std.proofs.lemmas.List.{append-nil}
 use mathlib.Core.Option.{some, some-injective, some-ne-none}
 use lib.ListN.{get_elem?}
@@ -11,13 +11,13 @@ use Rattle.cb_world.specs.Shown.{object_at, version_at}
 use Rattle.cb_rule.specs.declared.view.Stand.{Stand}
 use Rattle.cb_rule.specs.declared.view.View.{View}
 use Rattle.cb_rule.specs.History.{WasNow, is_version, newest, no_value, top}
-use Rattle.cb_rule.specs.Lists.{times, total, Each, Has}
+use Rattle.cb_rule.specs.Lists.{total, Has}
 use Rattle.cb_rule.specs.Records.{HeldOk, PeekedOk, PinOk, RecordOk, SeatOk, SeenOk, TurnOk, seen_of}
 use Rattle.cb_rule.specs.Rule.{StandsIn, Kept}
 use Rattle.cb_rule.specs.Ruled.{AreShares, Beside, IsSteady, Ruled}
 use Rattle.cb_rule.specs.Seats.{claims_it, claims_on, holding, pins_it, pins_on, share_of, written_on}
 use Rattle.cb_rule.specs.Stands.{Stands}
-use Rattle.cb_rule.specs.Steps.{all_seen, blank, joined, left_of, right_of}
+use Rattle.cb_rule.specs.Steps.{blank, joined, left_of, right_of}
 use Rattle.cb_rule.proofs.Counts.{each_append, each_map, each_mapped, times-append, total-same, total-set, total-snoc}
 use Rattle.cb_rule.proofs.Keeping.{seats_stay}
 
@@ -64,7 +64,8 @@ never_now es h = record {
   has = refl;
 }
 
-module _ (c : Config) (ws : List ℕ) (views : List View) (known : Shown) (es : List Entry) (r : Kept c ws views known es) where
+module _ (c : Config) (ws : List ℕ) (views : List View) (known : Shown) (es : List Entry)
+    (r : Kept c ws views known es) where
   -- a view without pins and claims, which knows some entries
   fresh_seat : (given : ℕ) (v : View) → v.config ≡ c → RecordOk c known.first es v
       → SeatOk c ws known es (right_of given v)
@@ -202,7 +203,8 @@ module _ (c : Config) (ws : List ℕ) (views : List View) (known : Shown) (es : 
         (let e = times-append (is_version h k) w.fresh v.fresh in
         let e' = times-append (is_version h k) w.written v.written in omega (arith, e, e')) refl
         ∙ r.recorded h k;
-    one = let e = sums holding (let z : holding v ≡ holding v + holding w = omega (arith, none) in z)
+    one = let e = sums holding (let z : holding v ≡ holding v + holding w = omega (arith, none) in
+        z)
         refl in omega (arith, e, r.one);
   }
     where
@@ -297,7 +299,8 @@ module _ (beside : Beside) (steady : IsSteady beside) (first : ℕ) (c : Config)
     known = r.known;
     history = r.history;
     starts = r.starts;
-    kept = kept_joins c s.words s.views r.known r.history r.kept id v other w at ne there quiet bare;
+    kept = kept_joins c s.words s.views r.known r.history r.kept id v other w at ne there quiet
+        bare;
     shares = shares_joined c s.views id v other w at there live r.shares;
     far = steady.joins c s r.known id v other w at ne there quiet r.far;
   }

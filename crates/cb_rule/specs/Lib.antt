@@ -8,3 +8,5 @@ pub mod Rule
 pub mod Records
 pub mod Steps
 pub mod Ruled
+pub mod Promised
+pub mod AsShown

@@ -28,7 +28,8 @@ pub record PinOk (c : Config) (known : Shown) (es : List Entry) (p : Stand) : Ty
   pub contents : newest es p.handle ≡ holding_words p.len p.words
 
 -- the claimed object lies there, and the claim has its newest entry, its version word and its memory
-pub record HeldOk (c : Config) (ws : List ℕ) (known : Shown) (es : List Entry) (x : Held) : Type 0 where
+pub record HeldOk (c : Config) (ws : List ℕ) (known : Shown) (es : List Entry)
+    (x : Held) : Type 0 where
   pub below : x.handle < c.handles
   pub there : object_at known x.handle ≡ is.Here x.len x.place
   pub number : x.version ≡ top es x.handle
@@ -93,7 +94,8 @@ pub record RecordOk (c : Config) (first : ℕ) (es : List Entry) (u : View) : Ty
   pub began : (h : ℕ) → h < c.handles → OldOk first es u.since h (object_at u.start h)
   pub past : Each (TurnOk c first es) u.turns
 
-pub record SeatOk (c : Config) (ws : List ℕ) (known : Shown) (es : List Entry) (u : View) : Type 0 where
+pub record SeatOk (c : Config) (ws : List ℕ) (known : Shown) (es : List Entry)
+    (u : View) : Type 0 where
   pub same_config : u.config ≡ c
   pub pins : Each (PinOk c known es) u.pins
   pub few : length u.pins ≤ 17

@@ -1,5 +1,5 @@
 -- The rule of the words, between any two steps.
-use Rattle.std.specs.Prelude.{◌≡◌, ◌≢◌, ℕ, ◌+◌, ◌*◌, ◌<◌, ◌≤◌, true, false, List, [], length, slice_index}
+use Rattle.std.specs.Prelude.{◌≡◌, ◌≢◌, ℕ, ◌+◌, ◌*◌, ◌<◌, ◌≤◌, true, List, length, slice_index}
 use mathlib.Core.Option.{some}
 use lib.ListN.{get_elem?}
 use Rattle.cb_types.specs.declared.config.Config.{Config}
@@ -30,7 +30,8 @@ StandsIn c ws views known es h = Stands c known.first ws h
 
 -- The words of a table, the views of its seats and the history of all objects, by what the holder of
 -- the far lock knows, or would know if it were taken now.
-pub record Kept (c : Config) (ws : List ℕ) (views : List View) (known : Shown) (es : List Entry) : Type 0 where
+pub record Kept (c : Config) (ws : List ℕ) (views : List View) (known : Shown)
+    (es : List Entry) : Type 0 where
   pub wide : length ws ≡ base c + 512 * c.frames
   pub sized : AreSized c known
   pub begins : 1 ≤ known.first

@@ -11,7 +11,8 @@ use Rattle.cb_rule.specs.Words.{pointer, stamp, words_at}
 
 -- It lies in local memory and no one claims it: its word counts the pins, and its version word and
 -- its memory are those of its newest entry.
-pub record IsCalm (c : Config) (ws : List ℕ) (h pins claims version : ℕ) (value : Value) (len place : ℕ) : Type 0 where
+pub record IsCalm (c : Config) (ws : List ℕ) (h pins claims version : ℕ) (value : Value)
+    (len place : ℕ) : Type 0 where
   pub no_claims : claims ≡ 0
   pub state : state_of (pointer ws h) ≡ word.Here
   pub count : pins_of (pointer ws h) ≡ pins
@@ -27,7 +28,8 @@ pub record IsTaken (ws : List ℕ) (h pins claims : ℕ) : Type 0 where
   pub bare : pins_of (pointer ws h) ≡ 0
 
 -- it lies in local memory, and others may change it
-pub record IsShared (c : Config) (first : ℕ) (ws : List ℕ) (h pins claims version : ℕ) (value : Value) (seen len place : ℕ) : Type 0 where
+pub record IsShared (c : Config) (first : ℕ) (ws : List ℕ) (h pins claims version : ℕ)
+    (value : Value) (seen len place : ℕ) : Type 0 where
   pub born : first ≤ version
   pub held : value ≡ holding_words len value.words
   pub packed : IsPacked len value.words
@@ -35,7 +37,8 @@ pub record IsShared (c : Config) (first : ℕ) (ws : List ℕ) (h pins claims ve
   pub word : IsCalm c ws h pins claims version value len place ⊎ IsTaken ws h pins claims
 
 -- only the holder of the far lock may change it, and its version word is as it left it
-pub record IsKept (c : Config) (ws : List ℕ) (h pins claims version : ℕ) (value : Value) (seen last : ℕ) (contents : Value) : Type 0 where
+pub record IsKept (c : Config) (ws : List ℕ) (h pins claims version : ℕ) (value : Value)
+    (seen last : ℕ) (contents : Value) : Type 0 where
   pub no_pins : pins ≡ 0
   pub no_claims : claims ≡ 0
   pub stamped : stamp c ws h ≡ seen
@@ -43,7 +46,8 @@ pub record IsKept (c : Config) (ws : List ℕ) (h pins claims version : ℕ) (va
   pub has : value ≡ contents
 
 -- and it has contents
-pub record IsHolding (c : Config) (first : ℕ) (ws : List ℕ) (h pins claims version : ℕ) (value : Value) (seen len last : ℕ) (words : List ℕ) : Type 0 where
+pub record IsHolding (c : Config) (first : ℕ) (ws : List ℕ) (h pins claims version : ℕ)
+    (value : Value) (seen len last : ℕ) (words : List ℕ) : Type 0 where
   pub kept : IsKept c ws h pins claims version value seen last (holding_words len words)
   pub born : first ≤ last
   pub packed : IsPacked len words

@@ -46,7 +46,7 @@ pub use Rattle.cb_world.proofs.Reserving.{noted_by, reserved_is_other, reserved_
 pub use Rattle.cb_world.proofs.Rooms.{room_dropped, room_empty, room_left, room_put, room_puts, room_wiped}
 pub use Rattle.cb_world.proofs.RowPut.{HasRowPut, IsNewOr, IsRefilled, IsRenamed, row_put_away, row_put_join, row_put_words}
 pub use Rattle.cb_world.proofs.RowWords.{length_words, row_put, windows_agree, words_of_row}
-pub use Rattle.cb_world.proofs.Seen.{batch_owned, frame_owned, frame_spares}
+pub use Rattle.cb_world.proofs.Seen.{IsSeen, batch_owned, frame_owned, frame_spares, seen_sound}
 pub use Rattle.cb_world.proofs.SetChanging.{drops_more, kept_same, set_there}
 pub use Rattle.cb_world.proofs.SetWalk.{IsFirst, first_from}
 pub use Rattle.cb_world.proofs.SetsLeft.{drop_count, drop_fewer, drop_room, drop_there, left_count, left_given, left_others, left_over, left_room}

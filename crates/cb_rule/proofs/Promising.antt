@@ -1,0 +1,224 @@
+-- The rule says what stands of the words and the views alone.
+use Rattle.std.proofs.Common.{◌≡◌, ℕ, ◌+◌, ◌*◌, ◌/◌, ◌%◌, ◌<◌, ◌&&◌, Bool, true, false, eqb, List, [], ◌++◌, sym, refl, ap, ◌∙◌, subst, inl, inr, ⊎_elim, arith, eq-eqb, eqb-true, true≢false}
+use mathlib.Core.Option.{some}
+use lib.ListN.{get_elem?}
+use Rattle.cb_types.specs.declared.config.Config.{Config}
+use Rattle.cb_ptr.specs.declared.word.State.TheVariants as word
+use Rattle.cb_ptr.specs.Word.{state_of, pins_of, len_of, place_of}
+use Rattle.cb_world.specs.declared.entry.Entry.{Entry}
+use Rattle.cb_world.specs.declared.object.Object.{Object}
+use Rattle.cb_world.specs.declared.object.Object.TheVariants as is
+use Rattle.cb_world.specs.declared.shown.Shown.{Shown}
+use Rattle.cb_world.specs.LocalSound.{LiesAt}
+use Rattle.cb_world.specs.Shown.{Fits, object_at, version_at}
+use Rattle.cb_world.specs.StillDesk.{bits_here, bits_moving}
+use Rattle.cb_rule.specs.declared.view.Held.{Held}
+use Rattle.cb_rule.specs.declared.view.View.{View}
+use Rattle.cb_rule.specs.History.{Value, is_version, newest, top}
+use Rattle.cb_rule.specs.Lists.{total, Each, Has}
+use Rattle.cb_rule.specs.Promised.{ClaimsStand, HeldStands, HereStands, Is, IsLast, Names, PinsStand, WordsStand, Wrote}
+use Rattle.cb_rule.specs.Records.{HeldOk, SeenOk}
+use Rattle.cb_rule.specs.Rule.{Kept}
+use Rattle.cb_rule.specs.Ruled.{Beside, Ruled}
+use Rattle.cb_rule.specs.Seats.{pins_on, claims_on, written_on}
+use Rattle.cb_rule.specs.Slot.{Table}
+use Rattle.cb_rule.specs.Stands.{IsCalm, IsTaken, Stands}
+use Rattle.cb_rule.specs.Words.{pointer, words_at}
+use Rattle.cb_rule.proofs.Calm.{lies}
+use Rattle.cb_rule.proofs.Counts.{each_append, times-append}
+use Rattle.cb_rule.proofs.Members.{each_has, has_times, times_has, total_some}
+use Rattle.cb_rule.proofs.Histories.{IsEntry, entry_before, entry_within, newest_entry, once, same_entry, stands}
+
+both_true : (a b : Bool) → (a && b) ≡ true → (a ≡ true) × (b ≡ true)
+both_true true b e = (refl, e)
+both_true false b e = absurd (true≢false (sym e))
+
+has_same : (x e : Entry) (xs : List Entry) → x ≡ e → Has x xs → Has e xs
+has_same x e xs is h = subst (λ (y : Entry). Has y xs) is h
+
+version_true : (e : Entry) → is_version e.handle e.version e ≡ true
+version_true e = ap (λ (b : Bool). b && eqb e.version e.version) (eq-eqb e.handle e.handle refl)
+    ∙ eq-eqb e.version e.version refl
+
+far_bare : (w n : ℕ) → w ≡ 1 + n * 8192 → w / 8 % 1024 ≡ 0
+far_bare w n e = omega arith
+
+module _ (c : Config) (ws : List ℕ) (views : List View) (known : Shown) (es : List Entry)
+    (r : Kept c ws views known es) where
+  all_written : (j : ℕ) (u : View) → get_elem? views j ≡ some u
+      → Each (λ e. Has e es) (u.fresh ++ u.written)
+  all_written j u at = let ok = (r.seats j u at).lasting in
+      each_append (λ e. Has e es) u.fresh u.written ok.fresh ok.written
+
+  -- what was written stands in the history, and the reverse
+  pub wrote_has : (e : Entry) → Wrote views e → Has e es
+  wrote_has e w = each_has (λ x. Has x es) e (w.0.fresh ++ w.0.written)
+      (all_written w.1.0 w.0 w.1.1) w.2
+
+  pub has_wrote : (e : Entry) → Has e es → Wrote views e
+  has_wrote e there = let h = e.handle in let k = e.version in
+      let count = times_has (is_version h k) e es there (version_true e) in
+      let sum = r.recorded h k in
+      let seat = total_some (written_on h k) views (omega (arith, count, sum)) in
+      let u = seat.1 in
+      let parts = times-append (is_version h k) u.fresh u.written in
+      let found = has_times (is_version h k) (u.fresh ++ u.written)
+      (let some_one = seat.3 in omega (arith, parts, some_one)) in
+      let x = found.0 in
+      let at = each_has (λ y. Has y es) x (u.fresh ++ u.written) (all_written seat.0 u seat.2)
+      found.1 in
+      let named = both_true (eqb x.handle h) (eqb x.version k) found.2 in
+      let is_it = same_entry known.first r.begins x e es r.history at there
+      (eqb-true x.handle h named.0) (eqb-true x.version k named.1) in
+      (u, (seat.0, seat.2), has_same x e (u.fresh ++ u.written) is_it found.1)
+
+  -- the newest entry of an object is its last
+  newest_last : (h : ℕ) (n : IsEntry es h (top es h) (newest es h)) → IsLast views n.entry
+  newest_last h n = (
+    has_wrote n.entry n.there,
+    λ x w same.
+        let z = (entry_within known.first r.begins x es r.history (wrote_has x w)).1 in
+        let t : top es x.handle ≡ top es h = ap (top es) (same ∙ n.handle) in
+        let v = n.version in omega (arith, z, t, v),
+  )
+
+  last_top : (e : Entry) → IsLast views e → e.version ≡ top es e.handle
+  last_top e last = let there = wrote_has e last.0 in
+      let z = entry_within known.first r.begins e es r.history there in
+      let low = z.0 in let high = z.1 in let b = r.begins in
+      let n = newest_entry es e.handle (omega (arith, low, high, b)) in
+      let most = last.1 n.entry (has_wrote n.entry n.there) n.handle in
+      let v = n.version in omega (arith, high, most, v)
+
+  pins_stand : (h : ℕ) → h < c.handles → PinsStand ws views h
+  pins_stand h l = record {
+    counted = all;
+    here = λ pos. (lies c ws views known es r h l (inr (omega (arith, pos, all)))).calm.state;
+    warm = λ pos. (lies c ws views known es r h l (inr (omega (arith, pos, all)))).calm.warm
+        (omega (arith, pos, all));
+  }
+    where
+      go : (o : Object)
+          → Stands c known.first ws h (total (pins_on h) views) (total (claims_on h) views)
+          (top es h) (newest es h) (version_at known h) o
+          → Fits o (pointer ws h) → pins_of (pointer ws h) ≡ total (pins_on h) views
+      go (is.Empty v) k f = ap pins_of f ∙ sym k.no_pins
+      go (is.Far len v words) k f =
+          far_bare (pointer ws h) (len_of (pointer ws h)) f.0 ∙ sym k.kept.no_pins
+      go (is.Claimed len place v words) k f = f.3 ∙ sym k.kept.no_pins
+      go (is.Here len place) k f = ⊎_elim
+          (λ (m : IsCalm c ws h (total (pins_on h) views) (total (claims_on h) views) (top es h)
+          (newest es h) len place). m.count)
+          (λ (m : IsTaken ws h (total (pins_on h) views) (total (claims_on h) views)).
+          m.bare ∙ sym m.no_pins) k.word
+
+      all : pins_of (pointer ws h) ≡ total (pins_on h) views
+      all = go (object_at known h) (r.stand h l) (r.fit h l)
+
+  claims_stand : (h : ℕ) → h < c.handles → ClaimsStand ws views h
+  claims_stand h l = go (object_at known h) (r.stand h l)
+    where
+      none_claims : total (claims_on h) views ≡ 0 → ClaimsStand ws views h
+      none_claims z = record {
+        lone = omega (arith, z);
+        moving = λ pos. absurd (omega (arith, z, pos));
+      }
+
+      go : (o : Object)
+          → Stands c known.first ws h (total (pins_on h) views) (total (claims_on h) views)
+          (top es h) (newest es h) (version_at known h) o
+          → ClaimsStand ws views h
+      go (is.Empty v) k = none_claims k.no_claims
+      go (is.Far len v words) k = none_claims k.kept.no_claims
+      go (is.Claimed len place v words) k = none_claims k.kept.no_claims
+      go (is.Here len place) k = ⊎_elim
+          (λ (m : IsCalm c ws h (total (pins_on h) views) (total (claims_on h) views) (top es h)
+          (newest es h) len place). none_claims m.no_claims)
+          (λ (m : IsTaken ws h (total (pins_on h) views) (total (claims_on h) views)).
+          let one = m.one_claim in record {
+            lone = omega (arith, one);
+            moving = λ pos. m.state;
+          }) k.word
+
+  -- a word that names a place is that of an object that lies there
+  named_lies : (h : ℕ) → h < c.handles → Names (pointer ws h)
+      → LiesAt (object_at known h) (len_of (pointer ws h)) (place_of (pointer ws h))
+  named_lies h l named = go (object_at known h) (r.fit h l)
+    where
+      w : ℕ
+      w = pointer ws h
+
+      go : (o : Object) → Fits o w → LiesAt o (len_of w) (place_of w)
+      go (is.Empty v) f = absurd (⊎_elim
+          (λ (s : state_of w ≡ word.Here). let b = bits_here w s in omega (arith, b, f))
+          (λ (s : state_of w ≡ word.Moving). let b = bits_moving w s in omega (arith, b, f)) named)
+      go (is.Far len v words) f = let g = f.0 in absurd (⊎_elim
+          (λ (s : state_of w ≡ word.Here). let b = bits_here w s in omega (arith, b, g))
+          (λ (s : state_of w ≡ word.Moving). let b = bits_moving w s in omega (arith, b, g)) named)
+      go (is.Here len place) f = (f.1, f.2)
+      go (is.Claimed len place v words) f = (f.1, f.2)
+
+  here_stands : (h : ℕ) → h < c.handles → state_of (pointer ws h) ≡ word.Here
+      → HereStands c ws views h
+  here_stands h l here = let o = lies c ws views known es r h l (inl here) in
+      let n = newest_entry es h (let b = o.born in let p = r.begins in omega (arith, b, p)) in
+      let f = subst (λ (z : Object). Fits z (pointer ws h)) o.here (r.fit h l) in
+      let has = n.has ∙ o.held in record {
+        last = n.entry;
+        is_last = newest_last h n;
+        handle = n.handle;
+        held = ap (λ (x : Value). x.freed) has;
+        len = ap (λ (x : Value). x.len) has ∙ sym f.1;
+        version = o.calm.stamped ∙ sym n.version;
+        words = (λ i. words_at c ws (f.2 i) (f.1 i)) ∙ o.calm.words
+            ∙ ap (λ (x : Value). x.words) (sym n.has);
+      }
+
+  held_stands : (u : View) (x : Held) → Is views u → Has x u.claims → HeldStands views x
+  held_stands u x at there = let ok = each_has (HeldOk c ws known es) x u.claims
+      (r.seats at.0 u at.1).claims there in
+      let k = subst (λ (o : Object). Stands c known.first ws x.handle
+      (total (pins_on x.handle) views) (total (claims_on x.handle) views) (top es x.handle)
+      (newest es x.handle) (version_at known x.handle) o) ok.there (r.stand x.handle ok.below) in
+      let n = newest_entry es x.handle
+      (let b = k.born in let p = r.begins in omega (arith, b, p)) in
+      let has = n.has ∙ ok.contents in record {
+        last = n.entry;
+        is_last = newest_last x.handle n;
+        handle = n.handle;
+        version = n.version ∙ sym ok.number;
+        len = ap (λ (y : Value). y.len) has;
+        words = ap (λ (y : Value). y.words) has;
+      }
+
+  pub words_stand : WordsStand known.first c ws views
+  words_stand = record {
+    pins = pins_stand;
+    few = λ u at. (r.seats at.0 u at.1).few;
+    claims = claims_stand;
+    apart = λ h k p lh lk ne a b ca cb. r.apart h (len_of (pointer ws h)) (place_of
+        (pointer ws h)) k
+        (len_of (pointer ws k)) (place_of (pointer ws k)) p (named_lies h lh a) (named_lies k lk b)
+        ne ca cb;
+    here = here_stands;
+    held = held_stands;
+    read = λ s there. let u = there.0 in let at = there.1 in
+        let o = each_has (SeenOk es) s u.seen (r.seats at.0 u at.1).lasting.seen there.2 in
+        (o.0, has_wrote o.0 o.1, o.2);
+    same = λ e x a b eh ev. same_entry known.first r.begins e x es r.history (wrote_has e a)
+        (wrote_has x b) eh ev;
+    once = λ e k last low high. r.recorded e.handle k
+        ∙ once known.first r.begins es e.handle k r.history
+        ∙ (let t = last_top e last in let one : stands known.first k (top es e.handle) ≡ 1 =
+        omega (arith, t, low, high) in one);
+    goes_on = λ e a. ⊎_elim
+        (λ (z : (e.version ≡ known.first) × (e.before ≡ [])). inl z)
+        (λ (z : _). inr (z.0, has_wrote z.0 z.1, z.2, z.3, z.4, z.5))
+        (entry_before known.first r.begins e es r.history (wrote_has e a));
+  }
+
+-- the rule of the whole table
+pub promises : (beside : Beside) (first : ℕ) (c : Config) (s : Table) → Ruled beside first c s
+    → WordsStand first c s.words s.views
+promises beside first c s r = subst (λ (n : ℕ). WordsStand n c s.words s.views) r.starts
+    (words_stand c s.words s.views r.known r.history r.kept)

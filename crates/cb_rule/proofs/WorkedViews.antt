@@ -1,0 +1,108 @@
+-- Worked records of seats: what meets each definition, and what breaks one of its parts alone.
+use Rattle.std.proofs.Common.{◌≡◌, ℕ, zero, suc, [], ◌∷◌, sym, refl, ap, ◌∙◌, inl, inr, arith}
+use mathlib.Core.Option.{some, some-injective, some-ne-none}
+use lib.ListN.{get_elem?}
+use Rattle.cb_types.specs.declared.config.Config.{Config}
+use Rattle.cb_rule.specs.declared.view.Peeked.{Peeked}
+use Rattle.cb_rule.specs.declared.view.View.{View}
+use Rattle.cb_rule.specs.Records.{IsWordOf, PeekedOk, SeenOk, seen_of}
+use Rattle.cb_rule.specs.Ruled.{AreShares}
+use Rattle.cb_rule.specs.Seats.{written_on}
+use Rattle.cb_rule.specs.Steps.{IsNewest, Knows, blank, freed_seen, joined, left_of, opener, right_of, version_seen}
+use Rattle.cb_rule.proofs.WorkedHistory.{all_entries, freed, made, written}
+
+abbrev pair_of : Config
+pair_of = record { k = 1; r = 1; nodes = 2; frames = 1; room = 6; handles = 2; turns = 0 }
+
+-- ---- an entry that was read, and a word that was peeked
+read_made : SeenOk all_entries (version_seen 1 3 8 (7 ∷ []))
+read_made = (made, inr (inr (inr (inl refl))), refl)
+
+read_freed : SeenOk all_entries (freed_seen 1 5)
+read_freed = (freed, inl refl, refl)
+
+abbrev a_peek : ℕ → ℕ → ℕ → ℕ → Peeked
+a_peek h k j n = record { handle = h; version = k; index = j; word = n }
+
+peeked_made : PeekedOk all_entries (a_peek 1 3 0 7)
+peeked_made = (
+  made,
+  inr (inr (inr (inl refl))),
+  record {
+    handle = refl;
+    version = refl;
+    within = omega arith;
+    word = refl;
+  },
+)
+
+of_another_object : IsWordOf made (a_peek 0 3 0 7) → ⊥
+of_another_object w = let e = w.handle in omega (arith, e)
+
+of_another_version : IsWordOf made (a_peek 1 4 0 7) → ⊥
+of_another_version w = let e = w.version in omega (arith, e)
+
+past_the_end : IsWordOf made (a_peek 1 3 1 0) → ⊥
+past_the_end w = let e = w.within in omega (arith, e)
+
+another_word : IsWordOf made (a_peek 1 3 0 8) → ⊥
+another_word w = let e = w.word in omega (arith, e)
+
+-- ---- the first seat, after it made object 1 and wrote it
+abbrev first_seat : View
+first_seat = record (opener 3 pair_of) { written = written ∷ made ∷ [] }
+
+newest_is_written : IsNewest 1 4 first_seat
+newest_is_written = record {
+  written = ((λ _. omega arith), ((λ _. omega arith), tt));
+  seen = tt;
+  whole = λ _. omega arith;
+}
+
+not_made : IsNewest 1 3 first_seat → ⊥
+not_made n = let e = n.written.0 refl in omega (arith, e)
+
+not_what_was_read : IsNewest 1 3 record (blank pair_of) { seen = freed_seen 1 5 ∷ [] } → ⊥
+not_what_was_read n = let e = n.seen.0 refl in omega (arith, e)
+
+not_another_seat_s : IsNewest 1 5 first_seat → ⊥
+not_another_seat_s n = let e = n.whole refl in omega (arith, e)
+
+knows_made : Knows 1 first_seat
+knows_made = inl (made, inr (inl refl), refl)
+
+-- ---- a seat that is split off has seen what the first has, and wrote nothing
+splits_seen : (right_of 24 first_seat).seen ≡ seen_of written ∷ seen_of made ∷ []
+splits_seen = refl
+
+splits_nothing_written : written_on 1 4 (right_of 24 first_seat) ≡ 0
+splits_nothing_written = refl
+
+splits_share : (left_of 24 first_seat).share ≡ 40
+splits_share = refl
+
+-- joined again, each entry is there once, and the other's lists stand in front
+joins_share : (joined (left_of 24 first_seat) (right_of 24 first_seat)).share ≡ 64
+joins_share = refl
+
+joins_written : written_on 1 4 (joined (left_of 24 first_seat) (right_of 24 first_seat)) ≡ 1
+joins_written = refl
+
+-- ---- shares
+shares : AreShares pair_of (first_seat ∷ blank pair_of ∷ [])
+shares = record { whole = refl; spent = spent }
+  where
+    spent : (j : ℕ) (u : View) → get_elem? (first_seat ∷ blank pair_of ∷ []) j ≡ some u
+        → u.share ≡ 0 → u ≡ blank pair_of
+    spent zero u e z = absurd (let q : 64 ≡ 0 =
+        ap (λ (x : View). x.share) (some-injective first_seat u e) ∙ z in omega (arith, q))
+    spent (suc zero) u e z = sym (some-injective (blank pair_of) u e)
+    spent (suc (suc j)) u e z = absurd (some-ne-none u (sym e))
+
+too_many_shares : AreShares pair_of (first_seat ∷ first_seat ∷ []) → ⊥
+too_many_shares a = let e = a.whole in omega (arith, e)
+
+spent_with_pins : AreShares pair_of (first_seat ∷ record (blank pair_of) { ever = 1 } ∷ []) → ⊥
+spent_with_pins a = let e : 1 ≡ 0 =
+    ap (λ (x : View). x.ever) (a.spent 1 record (blank pair_of) { ever = 1 } refl refl) in
+    omega (arith, e)

@@ -1,0 +1,95 @@
+-- What stands of the words and the views alone, between any two steps.
+use Rattle.std.specs.Prelude.{◌≡◌, ◌≢◌, ◌⊎◌, ℕ, ◌+◌, ◌<◌, ◌≤◌, true, false, List, [], ◌++◌, length}
+use mathlib.Core.Option.{some}
+use lib.ListN.{get_elem?}
+use Rattle.cb_types.specs.declared.config.Config.{Config}
+use Rattle.cb_ptr.specs.declared.word.State.TheVariants as word
+use Rattle.cb_ptr.specs.Word.{state_of, hot_of, pins_of, len_of, place_of}
+use Rattle.cb_world.specs.declared.entry.Entry.{Entry}
+use Rattle.cb_world.specs.Shown.{Covers}
+use Rattle.cb_rule.specs.declared.view.Held.{Held}
+use Rattle.cb_rule.specs.declared.view.Seen.{Seen}
+use Rattle.cb_rule.specs.declared.view.View.{View}
+use Rattle.cb_rule.specs.Lists.{total, Has}
+use Rattle.cb_rule.specs.Records.{seen_of}
+use Rattle.cb_rule.specs.Seats.{pins_on, claims_on, written_on}
+use Rattle.cb_rule.specs.Words.{pointer, stamp, words_at}
+
+-- one of the views
+abbrev pub Is : List View → View → Type 0
+Is views u = (j : ℕ) × (get_elem? views j ≡ some u)
+
+-- the entry stands as written in a view
+abbrev pub Wrote : List View → Entry → Type 0
+Wrote views e = (u : View) × Is views u × Has e (u.fresh ++ u.written)
+
+-- or as read
+abbrev pub Read : List View → Seen → Type 0
+Read views s = (u : View) × Is views u × Has s u.seen
+
+-- the entry of its object's greatest version that was written
+abbrev pub IsLast : List View → Entry → Type 0
+IsLast views e =
+    Wrote views e × ((x : Entry) → Wrote views x → x.handle ≡ e.handle → x.version ≤ e.version)
+
+-- The pins of a word are those of all views, and a word with pins is Here and hot.
+pub record PinsStand (ws : List ℕ) (views : List View) (h : ℕ) : Type 0 where
+  pub counted : pins_of (pointer ws h) ≡ total (pins_on h) views
+  pub here : 1 ≤ pins_of (pointer ws h) → state_of (pointer ws h) ≡ word.Here
+  pub warm : 1 ≤ pins_of (pointer ws h) → hot_of (pointer ws h) ≡ true
+
+-- No two views claim an object, and the word of one that is claimed is Moving.
+pub record ClaimsStand (ws : List ℕ) (views : List View) (h : ℕ) : Type 0 where
+  pub lone : total (claims_on h) views ≤ 1
+  pub moving : 1 ≤ total (claims_on h) views → state_of (pointer ws h) ≡ word.Moving
+
+-- the word names a place
+abbrev pub Names : ℕ → Type 0
+Names w = (state_of w ≡ word.Here) ⊎ (state_of w ≡ word.Moving)
+
+-- The words of an object that is Here are those of its last entry.
+pub record HereStands (c : Config) (ws : List ℕ) (views : List View) (h : ℕ) : Type 0 where
+  pub last : Entry
+  pub is_last : IsLast views last
+  pub handle : last.handle ≡ h
+  pub held : last.freed ≡ false
+  pub len : last.len ≡ len_of (pointer ws h)
+  pub version : stamp c ws h ≡ last.version
+  pub words : words_at c ws (place_of (pointer ws h)) (len_of (pointer ws h)) ≡ last.after
+
+-- The record of a claim has its last entry.
+pub record HeldStands (views : List View) (x : Held) : Type 0 where
+  pub last : Entry
+  pub is_last : IsLast views last
+  pub handle : last.handle ≡ x.handle
+  pub version : last.version ≡ x.version
+  pub len : last.len ≡ x.len
+  pub words : last.after ≡ x.old
+
+-- An entry that was written goes on from the one before it, and a make from none.
+abbrev pub GoesOn : ℕ → List View → Entry → Type 0
+GoesOn first views e = ((e.version ≡ first) × (e.before ≡ []))
+    ⊎ ((x : Entry) × Wrote views x × (x.handle ≡ e.handle) × (x.version + 1 ≡ e.version)
+    × (x.after ≡ e.before) × (x.freed ≡ false))
+
+pub record WordsStand (first : ℕ) (c : Config) (ws : List ℕ) (views : List View) : Type 0 where
+  pub pins : (h : ℕ) → h < c.handles → PinsStand ws views h
+  pub few : (u : View) → Is views u → length u.pins ≤ 17
+  pub claims : (h : ℕ) → h < c.handles → ClaimsStand ws views h
+  -- places of different objects do not overlap
+  pub apart : (h k p : ℕ) → h < c.handles → k < c.handles → h ≢ k
+      → Names (pointer ws h) → Names (pointer ws k)
+      → Covers (place_of (pointer ws h)) (len_of (pointer ws h)) p
+      → Covers (place_of (pointer ws k)) (len_of (pointer ws k)) p → ⊥
+  pub here : (h : ℕ) → h < c.handles → state_of (pointer ws h) ≡ word.Here
+      → HereStands c ws views h
+  pub held : (u : View) (x : Held) → Is views u → Has x u.claims → HeldStands views x
+  -- an entry that was read was written
+  pub read : (s : Seen) → Read views s → (e : Entry) × Wrote views e × (s ≡ seen_of e)
+  -- two entries of one version are the same
+  pub same : (e x : Entry) → Wrote views e → Wrote views x → e.handle ≡ x.handle
+      → e.version ≡ x.version → e ≡ x
+  -- each version from the first to the last is written in one view, once
+  pub once : (e : Entry) (k : ℕ) → IsLast views e → first ≤ k → k ≤ e.version
+      → total (written_on e.handle k) views ≡ 1
+  pub goes_on : (e : Entry) → Wrote views e → GoesOn first views e
