@@ -12,9 +12,7 @@ use Rattle.cb_rule.specs.Ruled.{Ruled, alone}
 use Rattle.cb_rule.specs.Slot.{Sat}
 use Rattle.cb_rule.specs.Steps.{looked, told, loaded, claimed, stored, stamped, settled, handles_of}
 use Rattle.cb_rule.specs.Words.{base, stamps}
-use Rattle.cb_rule.proofs.Acting.{settles, stores, stamps_version, takes_claim}
-use Rattle.cb_rule.proofs.Looking.{looks, tells, loads}
-use Rattle.cb_rule.proofs.Opening.{alone_steady}
+use Rattle.cb_rule.proofs.Laws.{alone_steady, loads, looks, settles, stamps_version, stores, takes_claim, tells}
 
 pub at_key : (first : ℕ) (c k : Config) (slots id : ℕ) (me : Sat) (i : ℕ) (f : ℕ → ℕ)
     (then : ℕ → Sat → Type 0) → k ≡ c → Allows (Ruled alone first c) slots id me i f then

@@ -16,9 +16,7 @@ use Rattle.cb_rule.specs.Ruled.{Ruled, alone}
 use Rattle.cb_rule.specs.Slot.{Sat}
 use Rattle.cb_rule.specs.Steps.{claimed_here, read_held, stored_here, stamped_here, settled_here, put_back}
 use Rattle.cb_rule.specs.Words.{base, stamps}
-use Rattle.cb_rule.proofs.Allowing.{claims_here, stores_here, stamps_here, settles_here, puts_back}
-use Rattle.cb_rule.proofs.Glancing.{reads_held}
-use Rattle.cb_rule.proofs.Opening.{alone_steady}
+use Rattle.cb_rule.proofs.Laws.{alone_steady, claims_here, puts_back, reads_held, settles_here, stamps_here, stores_here}
 use Rattle.cb_shared.proofs.Alone.{at_key}
 
 module _ (first : ℕ) (c k : Config) (key : k ≡ c) (slots id : ℕ) (me : Sat)

@@ -15,10 +15,7 @@ use Rattle.cb_rule.specs.Seats.{pins_on}
 use Rattle.cb_rule.specs.Slot.{Sat}
 use Rattle.cb_rule.specs.Steps.{Knows, glanced, pinned, unpinned, peeked, dated}
 use Rattle.cb_rule.specs.Words.{base}
-use Rattle.cb_rule.proofs.Glancing.{glances, dates}
-use Rattle.cb_rule.proofs.Peeking.{peeks}
-use Rattle.cb_rule.proofs.Pinning.{takes_pin, gives_pins}
-use Rattle.cb_rule.proofs.Opening.{alone_steady}
+use Rattle.cb_rule.proofs.Laws.{alone_steady, dates, gives_pins, glances, peeks, takes_pin}
 use Rattle.cb_shared.proofs.Alone.{at_key}
 
 module _ (first : ℕ) (c k : Config) (key : k ≡ c) (slots id : ℕ) (me : Sat)

@@ -5,8 +5,7 @@ use Rattle.cb_types.specs.declared.config.Config.{Config}
 use Rattle.cb_rule.specs.declared.view.View.{View}
 use Rattle.cb_rule.specs.Ruled.{Ruled, alone}
 use Rattle.cb_rule.specs.Steps.{blank, joined, left_of, right_of}
-use Rattle.cb_rule.proofs.Opening.{alone_steady}
-use Rattle.cb_rule.proofs.Seating.{splits, joins}
+use Rattle.cb_rule.proofs.Laws.{alone_steady, joins, splits}
 
 pub splits_at : (first : ℕ) (c : Config) (id : ℕ) (v : View) (given picked : ℕ) → picked ≡ given
     → 1 ≤ given → given < v.share

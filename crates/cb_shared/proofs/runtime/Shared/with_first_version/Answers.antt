@@ -5,7 +5,7 @@ use Rattle.cb_rule.specs.Ruled.{alone}
 use Rattle.cb_rule.specs.Slot.{Sat}
 use Rattle.cb_rule.specs.Words.{base}
 use Rattle.cb_shared.specs.Passes.{IsAtRest, Stood}
-use Rattle.cb_rule.proofs.Opening.{opens}
+use Rattle.cb_rule.proofs.Laws.{opens}
 use Rattle.cb_shared.proofs.Begun.{long_zeros, rest_opener, stood_empty, zeros_at}
 use Rattle.cb_shared.proofs.runtime.Shared.with_first_version.Goals as goal
 
