@@ -1,0 +1,11 @@
+pub mod Alone
+pub mod Rows
+pub mod Resting
+pub mod Unpinned
+pub mod PinsAlone
+pub mod SeatsAlone
+pub mod OwnAlone
+pub mod Only
+pub mod Parting
+pub mod Begun
+pub mod WriteSteps

@@ -1,0 +1,166 @@
+-- What stands of a record between the calls of its pass stands after each step.
+use Rattle.std.proofs.Common.{◌≡◌, ◌≢◌, ◌⊎◌, ℕ, ◌+◌, ◌<◌, Bool, cond, List, [], ◌∷◌, ◌++◌, sym, refl, ap, ◌∙◌, subst, arith, inl, inr, ⊎_elim, eq-eqb, true, false}
+use Rattle.cb_types.specs.declared.config.Config.{Config}
+use Rattle.cb_ptr.specs.declared.word.State.{State}
+use Rattle.cb_ptr.specs.declared.word.State.TheVariants as state
+use Rattle.cb_ptr.specs.Word.{state_number, state_of}
+use Rattle.cb_world.specs.declared.entry.Entry.{Entry}
+use Rattle.cb_rule.specs.declared.view.Seen.{Seen}
+use Rattle.cb_rule.specs.declared.view.Stand.{Stand}
+use Rattle.cb_rule.specs.declared.view.View.{View}
+use Rattle.cb_rule.specs.Lists.{Each, Has, removed, times}
+use Rattle.cb_rule.specs.Seats.{pins_it}
+use Rattle.cb_rule.specs.Steps.{IsInside, Knows, with_look, with_freed, with_pin, with_peek, without_pin}
+use Rattle.cb_rule.specs.Slot.{Sat}
+use Rattle.cb_shared.specs.declared.answers.PinAnswer.{PinAnswer}
+use Rattle.cb_shared.specs.declared.answers.PinAnswer.TheVariants.{Pinned, ScopeFull, Freed, NotHere, Moving, Crowded, Raced}
+use Rattle.cb_shared.specs.Glances.{Glances}
+use Rattle.cb_shared.specs.Passes.{IsAtRest, PinFits}
+use Rattle.cb_shared.specs.Pinning.{IsRefusal, PinGives}
+use Rattle.cb_shared.specs.Places.{Place, Moves}
+
+pub far_empty : state.Far ≡ state.Empty → ⊥
+far_empty e = let z : 1 ≡ 0 = ap state_number e in omega (arith, z)
+
+pub here_empty : state.Here ≡ state.Empty → ⊥
+here_empty e = let z : 2 ≡ 0 = ap state_number e in omega (arith, z)
+
+pub moving_empty : state.Moving ≡ state.Empty → ⊥
+moving_empty e = let z : 3 ≡ 0 = ap state_number e in omega (arith, z)
+
+pub each_has : {A : Type 0} (P : A → Type 0) (x : A) (xs : List A) → Each P xs → Has x xs → P x
+each_has P x [] each has = absurd has
+each_has P x (y ∷ ys) each (inl is) = subst P is each.0
+each_has P x (y ∷ ys) each (inr has) = each_has P x ys each.1 has
+
+each_cond : {A : Type 0} (P : A → Type 0) (b : Bool) (x : A) (xs ys : List A) → P x → Each P xs
+    → Each P ys → Each P (cond b xs (x ∷ ys))
+each_cond P true x xs ys p a e = a
+each_cond P false x xs ys p a e = (p, e)
+
+pub each_removed : {A : Type 0} (P : A → Type 0) (t : A → Bool) (xs : List A) → Each P xs
+    → Each P (removed t xs)
+each_removed P t [] each = tt
+each_removed P t (x ∷ xs) each =
+    each_cond P (t x) x xs (removed t xs) each.0 each.1 (each_removed P t xs each.1)
+
+-- a record knows handles that are in range
+pub known_below : (c : Config) (h : ℕ) (v : View) → IsAtRest c v → Knows h v → h < c.handles
+known_below c h v rest (inl (e, has, is)) =
+    let here : Has e v.written = subst (λ (l : List Entry). Has e (l ++ v.written)) rest.fresh has in
+    subst (λ (n : ℕ). n < c.handles) is
+    (each_has (λ (x : Entry). x.handle < c.handles) e v.written rest.written here)
+known_below c h v rest (inr (s, has, is)) =
+    subst (λ (n : ℕ). n < c.handles) is
+    (each_has (λ (x : Seen). x.handle < c.handles) s v.seen rest.seen has)
+
+pub rest_look : (c : Config) (h w : ℕ) (v : View) → IsAtRest c v → IsAtRest c (with_look h w v)
+rest_look c h w v rest = record {
+  config = rest.config;
+  live = rest.live;
+  most = rest.most;
+  claims = rest.claims;
+  fresh = rest.fresh;
+  written = rest.written;
+  seen = rest.seen;
+  pins = rest.pins;
+}
+
+pub rest_freed : (c : Config) (h n w : ℕ) (v : View) → IsAtRest c v → h < c.handles
+    → IsAtRest c (with_freed h n w v)
+rest_freed c h n w v rest below = record {
+  config = rest.config;
+  live = rest.live;
+  most = rest.most;
+  claims = rest.claims;
+  fresh = rest.fresh;
+  written = rest.written;
+  seen = (below, rest.seen);
+  pins = rest.pins;
+}
+
+pub rest_pin : (c : Config) (h w n : ℕ) (words : List ℕ) (v : View) → IsAtRest c v → h < c.handles
+    → IsInside c w → IsAtRest c (with_pin h w n words v)
+rest_pin c h w n words v rest below inside = record {
+  config = rest.config;
+  live = rest.live;
+  most = rest.most;
+  claims = rest.claims;
+  fresh = rest.fresh;
+  written = rest.written;
+  seen = (below, rest.seen);
+  pins = ((below, inside), rest.pins);
+}
+
+pub rest_peek : (c : Config) (h n j w : ℕ) (v : View) → IsAtRest c v
+    → IsAtRest c (with_peek h n j w v)
+rest_peek c h n j w v rest = record {
+  config = rest.config;
+  live = rest.live;
+  most = rest.most;
+  claims = rest.claims;
+  fresh = rest.fresh;
+  written = rest.written;
+  seen = rest.seen;
+  pins = rest.pins;
+}
+
+pub rest_unpin : (c : Config) (h : ℕ) (v : View) → IsAtRest c v → IsAtRest c (without_pin h v)
+rest_unpin c h v rest = record {
+  config = rest.config;
+  live = rest.live;
+  most = rest.most;
+  claims = rest.claims;
+  fresh = rest.fresh;
+  written = rest.written;
+  seen = rest.seen;
+  pins = each_removed (PinFits c) (pins_it h) v.pins rest.pins;
+}
+
+-- so after a look
+by_state : (w : ℕ) → (state_of w ≡ state.Empty) ⊎ (state_of w ≢ state.Empty)
+by_state w = go (state_of w) refl
+  where
+    go : (z : State) → state_of w ≡ z → (state_of w ≡ state.Empty) ⊎ (state_of w ≢ state.Empty)
+    go state.Empty e = inl e
+    go state.Far e = inr (λ q. far_empty (sym e ∙ q))
+    go state.Here e = inr (λ q. here_empty (sym e ∙ q))
+    go state.Moving e = inr (λ q. moving_empty (sym e ∙ q))
+
+pub rest_moved : (c : Config) (p q : Place) (w : View) → Moves p q w → IsAtRest c w
+    → IsAtRest c q.me.0
+rest_moved c p q w m rest = subst (λ (x : Sat). IsAtRest c x.0) (sym m.2) rest
+
+pub rest_glance : (c : Config) (h w : ℕ) (p q : Place) → Glances h w p q → h < c.handles
+    → IsAtRest c p.me.0 → IsAtRest c q.me.0
+rest_glance c h w p q g below rest = ⊎_elim
+    (λ (e : state_of w ≡ state.Empty). let f = g.freed e in
+    rest_moved c p q (with_freed h f.0 w p.me.0) f.2 (rest_freed c h f.0 w p.me.0 rest below))
+    (λ (ne : state_of w ≢ state.Empty).
+    rest_moved c p q (with_look h w p.me.0) (g.other ne) (rest_look c h w p.me.0 rest)) (by_state w)
+
+pub view_of : (p q : Place) (w : View) → Moves p q w → q.me.0 ≡ w
+view_of p q w m = ap (λ (x : Sat). x.0) m.2
+
+-- a refusal by the word that was found is answered
+pub refused_gives : (h w : ℕ) (a : PinAnswer) (p q : Place) → Glances h w p q → IsRefusal w a
+    → PinGives h a p.me.0 q.me.0
+refused_gives h w (Pinned x) p q g why = absurd why
+refused_gives h w ScopeFull p q g why = absurd why
+refused_gives h w Freed p q g why = let f = g.freed why in
+    (w, f.0, why, f.1, view_of p q (with_freed h f.0 w p.me.0) f.2)
+refused_gives h w NotHere p q g why =
+    (w, why, view_of p q (with_look h w p.me.0) (g.other (λ e. far_empty (sym why ∙ e))))
+refused_gives h w Moving p q g why =
+    (w, why, view_of p q (with_look h w p.me.0) (g.other (λ e. moving_empty (sym why ∙ e))))
+refused_gives h w Crowded p q g why =
+    (w, why, view_of p q (with_look h w p.me.0) (g.other (λ e. here_empty (sym why.0 ∙ e))))
+refused_gives h w (Raced saw found) p q g why = absurd why
+
+-- a pin that stands in the list is counted
+pub pins_some : (p : Stand) (ps : List Stand) → Has p ps → 0 < times (pins_it p.handle) ps
+pins_some p [] has = absurd has
+pins_some p (x ∷ xs) (inl is) =
+    subst (λ (b : Bool). 0 < cond {A = ℕ} b 1 0 + times (pins_it p.handle) xs)
+    (sym (eq-eqb x.handle p.handle (ap (λ (y : Stand). y.handle) is))) (omega arith)
+pins_some p (x ∷ xs) (inr has) = let z = pins_some p xs has in omega (arith, z)

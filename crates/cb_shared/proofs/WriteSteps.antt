@@ -1,0 +1,135 @@
+-- A write of a claimed object, step by step.
+use Rattle.std.proofs.Common.{◌≡◌, ◌≢◌, ◌⊎◌, ℕ, ◌+◌, ◌-◌, ◌*◌, ◌^◌, ◌<◌, ◌≤◌, List, [], ◌∷◌, length, get_or, sym, refl, ap, ◌∙◌, subst, arith, inl, inr}
+use Rattle.atomic_table.specs.Seated.{TableId}
+use Rattle.cb_types.specs.declared.config.Config.{Config}
+use Rattle.cb_ptr.specs.declared.word.State.TheVariants as state
+use Rattle.cb_ptr.specs.Word.{state_of, len_of, place_of, pins_of}
+use Rattle.cb_world.specs.Write.{IsWrite}
+use Rattle.cb_world.specs.Written.{entry}
+use Rattle.cb_world.specs.declared.entry.Entry.{Entry}
+use Rattle.cb_rule.specs.declared.view.Held.{Held}
+use Rattle.cb_rule.specs.declared.view.View.{View}
+use Rattle.cb_rule.specs.Slot.{Sat}
+use Rattle.cb_rule.specs.Steps.{IsNewest, held_at, with_freed, with_look}
+use Rattle.cb_shared.specs.declared.answers.WriteAnswer.{WriteAnswer}
+use Rattle.cb_shared.specs.declared.answers.WriteAnswer.TheVariants.{Ok, Freed, NotHere, Moving, Range, Pinned, Worn, Raced}
+use Rattle.cb_shared.specs.declared.setup.Setup.{Setup}
+use Rattle.cb_shared.specs.Claims.{unclaimed, with_only}
+use Rattle.cb_shared.specs.Glances.{Glances}
+use Rattle.cb_shared.specs.Passes.{IsAtRest}
+use Rattle.cb_shared.specs.Places.{IsOf, Place, Moves}
+use Rattle.cb_shared.specs.Writing.{IsWriteRefusal, WriteAt, WriteClaimed, WriteGives}
+use Rattle.cb_shared.proofs.Resting.{far_empty, here_empty, moving_empty, view_of}
+
+pub of_moves : (z : TableId) (k : Setup) (c : Config) (p q : Place) (w : View) → IsOf z k c p
+    → Moves p q w → w.config ≡ p.me.0.config → w.share ≡ p.me.0.share → IsOf z k c q
+of_moves z k c p q w o m config share = record {
+  table = m.0 ∙ o.table;
+  words = o.words;
+  key = o.key;
+  config = ap (λ (x : Sat). x.0.config) m.2 ∙ config ∙ o.config;
+  live = subst (λ (n : ℕ). 1 ≤ n) (sym (ap (λ (x : Sat). x.0.share) m.2 ∙ share)) o.live;
+}
+
+-- where a write at a claimed word leaves the seat
+pub record IsAfter (c : Config) (h word at : ℕ) (bytes : List ℕ) (a : WriteAnswer) (p q : Place)
+    : Type 0 where
+  pub table : (q.table_id ≡ p.table_id) × (q.me.1 ≡ p.me.1)
+  pub share : q.me.0.share ≡ p.me.0.share
+  pub pins : q.me.0.pins ≡ p.me.0.pins
+  pub rest : IsAtRest c q.me.0
+  pub write : WriteAt h word at bytes a p.me.0 q.me.0
+
+rest_plain : (c : Config) (h n : ℕ) (v : View) → IsAtRest c v
+    → IsAtRest c (record (with_look h n v) { claims = [] })
+rest_plain c h n v rest = record {
+  config = rest.config;
+  live = rest.live;
+  most = rest.most;
+  claims = refl;
+  fresh = rest.fresh;
+  written = rest.written;
+  seen = rest.seen;
+  pins = rest.pins;
+}
+
+rest_written : (c : Config) (h n : ℕ) (e : Entry) (v : View) → IsAtRest c v → e.handle < c.handles
+    → IsAtRest c (record (with_look h n v) { claims = []; written = e ∷ v.written })
+rest_written c h n e v rest below = record {
+  config = rest.config;
+  live = rest.live;
+  most = rest.most;
+  claims = refl;
+  fresh = rest.fresh;
+  written = (below, rest.written);
+  seen = rest.seen;
+  pins = rest.pins;
+}
+
+pub written_at : (c : Config) (h word at : ℕ) (bytes : List ℕ) (a : WriteAnswer) (p m q : Place)
+    (v : ℕ) (words : List ℕ) → IsAtRest c p.me.0 → h < c.handles → IsNewest h v p.me.0
+    → Moves p m (with_only (held_at h word v words) (with_look h word p.me.0))
+    → WriteClaimed h word at bytes v words a m q → IsAfter c h word at bytes a p q
+written_at c h word at bytes (Ok version) p m q v words rest below newest mv x =
+    let u = p.me.0 in let e : Entry = entry h (v + 1) (len_of word) words x.1 in
+    let w : View = record (with_look h word u) { claims = []; written = e ∷ u.written } in
+    let left : q.me ≡ (let z : Sat = (w, p.me.1) in z) = x.3.2
+    ∙ ap (λ (y : Sat).
+    let z : Sat = (record y.0 { claims = []; written = e ∷ y.0.written }, y.1) in z) mv.2 in record {
+      table = (x.3.0 ∙ mv.0, ap (λ (y : Sat). y.1) left);
+      share = ap (λ (y : Sat). y.0.share) left;
+      pins = ap (λ (y : Sat). y.0.pins) left;
+      rest = subst (λ (y : Sat). IsAtRest c y.0) (sym left) (rest_written c h word e u rest below);
+      write = record {
+        old = words;
+        new = x.1;
+        last = v;
+        newest = newest;
+        next = x.0;
+        write = x.2;
+        left = ap (λ (y : Sat). y.0) left
+            ∙ (λ i. record (with_look h word u) {
+              claims = sym rest.claims i;
+              written = entry h (sym x.0 i) (len_of word) words x.1 ∷ u.written;
+            });
+      };
+    }
+written_at c h word at bytes Worn p m q v words rest below newest mv x =
+    let u = p.me.0 in let w : View = record (with_look h word u) { claims = [] } in
+    let left : q.me ≡ (let z : Sat = (w, p.me.1) in z) = x.1.2
+    ∙ ap (λ (y : Sat). let z : Sat = (record y.0 { claims = [] }, y.1) in z) mv.2 in record {
+      table = (x.1.0 ∙ mv.0, ap (λ (y : Sat). y.1) left);
+      share = ap (λ (y : Sat). y.0.share) left;
+      pins = ap (λ (y : Sat). y.0.pins) left;
+      rest = subst (λ (y : Sat). IsAtRest c y.0) (sym left) (rest_plain c h word u rest);
+      write = (
+        subst (λ (n : ℕ). IsNewest h n u) x.0 newest,
+        ap (λ (y : Sat). y.0) left ∙ (λ i. record (with_look h word u) { claims = sym rest.claims i }),
+      );
+    }
+written_at c h word at bytes Freed p m q v words rest below newest mv x = absurd x
+written_at c h word at bytes NotHere p m q v words rest below newest mv x = absurd x
+written_at c h word at bytes Moving p m q v words rest below newest mv x = absurd x
+written_at c h word at bytes (Range l) p m q v words rest below newest mv x = absurd x
+written_at c h word at bytes (Pinned n) p m q v words rest below newest mv x = absurd x
+written_at c h word at bytes (Raced s f) p m q v words rest below newest mv x = absurd x
+
+-- a refusal by the word that was found is answered
+pub refused_writes : (h w at : ℕ) (bytes : List ℕ) (a : WriteAnswer) (p q : Place) → Glances h w p q
+    → IsWriteRefusal at (length bytes) w a → WriteGives h at bytes a p.me.0 q.me.0
+refused_writes h w at bytes (Ok n) p q g why = absurd why
+refused_writes h w at bytes Freed p q g why = let f = g.freed why in
+    (w, f.0, why, f.1, view_of p q (with_freed h f.0 w p.me.0) f.2)
+refused_writes h w at bytes NotHere p q g why =
+    (w, why, view_of p q (with_look h w p.me.0) (g.other (λ e. far_empty (sym why ∙ e))))
+refused_writes h w at bytes Moving p q g why =
+    (w, why, view_of p q (with_look h w p.me.0) (g.other (λ e. moving_empty (sym why ∙ e))))
+refused_writes h w at bytes (Range len) p q g why =
+    (w, why, view_of p q (with_look h w p.me.0) (g.other (λ e. here_empty (sym why.0 ∙ e))))
+refused_writes h w at bytes (Pinned k) p q g why = (
+  w,
+  (why.0, (why.1, why.2, λ all. sym why.1 ∙ (g.counted why.0.0).1 all)),
+  view_of p q (with_look h w p.me.0) (g.other (λ e. here_empty (sym why.0.0 ∙ e))),
+)
+refused_writes h w at bytes Worn p q g why = absurd why
+refused_writes h w at bytes (Raced s f) p q g why = absurd why

@@ -1,0 +1,64 @@
+use Rattle.std.proofs.Common.{◌≡◌, ◌∙◌, ◌<◌, ◌≤◌, ◌+◌, ◌*◌, ℕ, List, [], ◌∷◌, length, set, refl, sym, ap, subst, arith}
+use Rattle.cb_world.specs.Memory.{words_for}
+use Rattle.cb_mutate.proofs.Laws.{write_all, write_more}
+use Rattle.cb_rule.specs.declared.view.Held.{Held}
+use Rattle.cb_rule.specs.Slot.{Sat}
+use Rattle.cb_shared.specs.Claims.{with_memory, with_only}
+use Rattle.cb_rule.specs.Steps.{with_word}
+use Rattle.cb_shared.proofs.WriteSteps.{of_moves}
+use Rattle.cb_shared.proofs.writing.overwrite_own.Goals as goal
+
+pub store_own-requires-clause-held : goal.store_own-requires-clause-held
+store_own-requires-clause-held c = let h = c.requires.claim in let x = h.0 in let w = h.2 in
+    let inv = c.loop-i.invariant.1 x h.1 w in let y : Held = with_memory inv.0 x in
+    let i = c.loop-i.i in
+    let claims = ap (λ (m : Sat). m.0.claims) c.merged_own-word.ensures.same.2
+    ∙ ap (λ (m : Sat). m.0.claims) inv.2.2 in (
+      y,
+      i,
+      (claims, refl),
+      omega (arith, c.loop-i-test.true, c.div_ceil-i-end.ensures, w.inside),
+      ap (λ (p : ℕ). p + i) (sym w.there),
+    )
+
+pub loop-i-preserved : goal.loop-i-preserved
+loop-i-preserved c = let i = c.loop-i.i in let same = c.merged_own-word.ensures.same in (
+  (let h = c.requires.claim in let x = h.0 in let inv = c.loop-i.invariant.1 x h.1 h.2 in
+      let y : Held = with_memory inv.0 x in let mid = c.merged_own-word.new.seat in
+      let lt : i < words_for x.len =
+      omega (arith, c.loop-i-test.true, c.div_ceil-i-end.ensures, h.2.inside) in
+      let s = c.store_own.ensures y i (ap (λ (m : Sat). m.0.claims) (same.2 ∙ inv.2.2), refl) lt
+      (ap (λ (p : ℕ). p + i) (sym h.2.there)) in
+      of_moves c.args.top.now.table_id c.args.top.now.key c.args.config.now mid c.store_own.new.seat
+      (with_only (with_word i c.merged_own-word.result y) mid.me.0)
+      (of_moves c.args.top.now.table_id c.args.top.now.key c.args.config.now c.loop-i.seat mid
+      c.loop-i.seat.me.0 c.loop-i.invariant.0 same refl refl) s refl refl),
+  λ x ho w. let inv = c.loop-i.invariant.1 x ho w in
+      let y : Held = with_memory inv.0 x in let n = c.merged_own-word.result in
+      let lt : i < words_for x.len =
+      omega (arith, c.loop-i-test.true, c.div_ceil-i-end.ensures, w.inside) in
+      let place = ap (λ (p : ℕ). p + i) (sym w.there) in
+      let s = c.store_own.ensures y i (ap (λ (m : Sat). m.0.claims) (same.2 ∙ inv.2.2), refl) lt
+      place in (
+        set inv.0 i n,
+        write_more x.memory inv.0 i c.args.at c.args.bytes.now n inv.1
+            (omega (arith, lt, w.whole))
+            (c.merged_own-word.ensures.merged y i (ap (λ (m : Sat). m.0.claims) inv.2.2, refl) lt
+            place),
+        (
+          s.0 ∙ (same.0 ∙ inv.2.0),
+          s.1 ∙ (same.1 ∙ inv.2.1),
+          s.2 ∙ ap (λ (m : Sat).
+              let z : Sat = (with_only (with_word i n y) m.0, m.1) in
+              z) (same.2 ∙ inv.2.2),
+        ),
+      ),
+)
+
+pub returns : goal.returns
+returns c x ho w = let inv = c.loop-i.invariant.1 x ho w in (
+  inv.0,
+  write_all (8 * c.loop-i.i) x.memory c.args.at c.args.bytes.now inv.0
+      (omega (arith, c.loop-i-test.false, c.div_ceil-i-end.ensures)) inv.1,
+  inv.2,
+)

@@ -1,0 +1,69 @@
+use Rattle.std.proofs.Common.{rules, ◌≡◌, ◌∙◌, ◌<◌, ℕ, List, [], ◌∷◌, refl, sym, ap}
+use Rattle.cb_rule.specs.Slot.{Sat}
+use Rattle.cb_shared.proofs.WriteSteps.{IsAfter, written_at}
+use Rattle.cb_shared.proofs.writing.write_at.Goals as goal
+
+pub returns-clause-table : goal.returns-clause-table
+returns-clause-table c =
+    let e : c.claim_here-found.result ≡ c.args.saw = search rules in
+    let y = c.claim_here-found.ensures.won e in
+    (written_at c.args.config.now c.args.h c.args.saw c.args.at c.args.bytes.now
+    c.write_claimed.result c.args.seat.now c.claim_here-found.new.seat c.write_claimed.new.seat
+    y.0 y.1 c.requires.rest c.requires.handle y.2 y.6 (c.write_claimed.ensures y.0 y.1 (record {
+      only = ap (λ (m : Sat). m.0.claims) y.6.2;
+      lies = y.3;
+      below = y.4;
+      whole = y.5;
+    }))).table
+
+pub returns-clause-share : goal.returns-clause-share
+returns-clause-share c =
+    let e : c.claim_here-found.result ≡ c.args.saw = search rules in
+    let y = c.claim_here-found.ensures.won e in
+    (written_at c.args.config.now c.args.h c.args.saw c.args.at c.args.bytes.now
+    c.write_claimed.result c.args.seat.now c.claim_here-found.new.seat c.write_claimed.new.seat
+    y.0 y.1 c.requires.rest c.requires.handle y.2 y.6 (c.write_claimed.ensures y.0 y.1 (record {
+      only = ap (λ (m : Sat). m.0.claims) y.6.2;
+      lies = y.3;
+      below = y.4;
+      whole = y.5;
+    }))).share
+
+pub returns-clause-pins : goal.returns-clause-pins
+returns-clause-pins c =
+    let e : c.claim_here-found.result ≡ c.args.saw = search rules in
+    let y = c.claim_here-found.ensures.won e in
+    (written_at c.args.config.now c.args.h c.args.saw c.args.at c.args.bytes.now
+    c.write_claimed.result c.args.seat.now c.claim_here-found.new.seat c.write_claimed.new.seat
+    y.0 y.1 c.requires.rest c.requires.handle y.2 y.6 (c.write_claimed.ensures y.0 y.1 (record {
+      only = ap (λ (m : Sat). m.0.claims) y.6.2;
+      lies = y.3;
+      below = y.4;
+      whole = y.5;
+    }))).pins
+
+pub returns-clause-rest : goal.returns-clause-rest
+returns-clause-rest c =
+    let e : c.claim_here-found.result ≡ c.args.saw = search rules in
+    let y = c.claim_here-found.ensures.won e in
+    (written_at c.args.config.now c.args.h c.args.saw c.args.at c.args.bytes.now
+    c.write_claimed.result c.args.seat.now c.claim_here-found.new.seat c.write_claimed.new.seat
+    y.0 y.1 c.requires.rest c.requires.handle y.2 y.6 (c.write_claimed.ensures y.0 y.1 (record {
+      only = ap (λ (m : Sat). m.0.claims) y.6.2;
+      lies = y.3;
+      below = y.4;
+      whole = y.5;
+    }))).rest
+
+pub returns-clause-write : goal.returns-clause-write
+returns-clause-write c =
+    let e : c.claim_here-found.result ≡ c.args.saw = search rules in
+    let y = c.claim_here-found.ensures.won e in
+    (written_at c.args.config.now c.args.h c.args.saw c.args.at c.args.bytes.now
+    c.write_claimed.result c.args.seat.now c.claim_here-found.new.seat c.write_claimed.new.seat
+    y.0 y.1 c.requires.rest c.requires.handle y.2 y.6 (c.write_claimed.ensures y.0 y.1 (record {
+      only = ap (λ (m : Sat). m.0.claims) y.6.2;
+      lies = y.3;
+      below = y.4;
+      whole = y.5;
+    }))).write

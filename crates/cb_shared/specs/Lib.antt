@@ -1,0 +1,9 @@
+pub mod Places
+pub mod SeatLaws
+pub mod Handles
+pub mod Passes
+pub mod Glances
+pub mod Claims
+pub mod Pinning
+pub mod Writing
+pub mod Joining

@@ -1,0 +1,38 @@
+-- A seat of the table, and what the steps of a seat say.
+use Rattle.std.specs.Prelude.{◌≡◌, ◌+◌, ◌*◌, ◌≤◌, true}
+use Rattle.atomic_table.specs.Seated.{TableId}
+use Rattle.atomic_table.specs.declared.shared.Seat.{Seat}
+use Rattle.cb_types.specs.declared.config.Config.{Config}
+use Rattle.cb_world.specs.declared.event.Event.{Event}
+use Rattle.cb_world.specs.Played.{Agrees}
+use Rattle.cb_rule.specs.declared.view.View.{View}
+use Rattle.cb_rule.specs.Rule.{AreSized}
+use Rattle.cb_rule.specs.Slot.{Slot}
+use Rattle.cb_rule.specs.Steps.{act}
+use Rattle.cb_rule.specs.Words.{base}
+use Rattle.cb_shared.specs.declared.setup.Setup.{Setup}
+
+abbrev pub Place : Type 0
+Place = Seat Slot View
+
+-- the same seat, with the view w
+abbrev pub Moves : Place → Place → View → Type 0
+Moves p q w = (q.table_id ≡ p.table_id) × (q.id ≡ p.id) × (q.me ≡ (w, p.me.1))
+
+-- the seat is of the table of this configuration
+pub record IsOf (z : TableId) (k : Setup) (c : Config) (p : Place) : Type 0 where
+  pub table : p.table_id ≡ z
+  pub words : z.words ≡ base c + 512 * c.frames
+  pub key : k.config ≡ c
+  pub config : p.me.0.config ≡ c
+  pub live : 1 ≤ p.me.0.share
+
+-- and holds the far lock
+pub record Holds (z : TableId) (k : Setup) (c : Config) (p : Place) : Type 0 where
+  pub of : IsOf z k c p
+  pub holds : p.me.0.holds ≡ true
+  pub sized : AreSized c p.me.0.known
+
+-- the seat's view has the event, which agrees with what it knew
+abbrev pub Acts : Place → Event → Place → Type 0
+Acts p e q = Moves p q (act e p.me.0) × Agrees p.me.0.known e

@@ -1,0 +1,116 @@
+-- The laws of the desk over a seat.
+use Rattle.std.proofs.Common.{◌≡◌, ◌≤◌, List, [], ◌∷◌, ◌++◌, sym, refl, ap, ◌∙◌, subst, length-set}
+use Rattle.atomic_table.specs.Seated.{TableId}
+use Rattle.cb_types.specs.declared.config.Config.{Config}
+use Rattle.cb_ptr.specs.Word.{state_of, hot_of, len_of, place_of}
+use Rattle.cb_world.specs.declared.event.Event.{Event}
+use Rattle.cb_world.specs.declared.event.Event.TheVariants.{Looked, Claimed, Told, Loaded, Stored, Stamped, Settled}
+use Rattle.cb_world.specs.declared.object.Object.TheVariants as is
+use Rattle.cb_world.specs.declared.shown.Shown.{Shown}
+use Rattle.cb_world.specs.Played.{Agree, after, played, settled_by}
+use Rattle.cb_world.specs.Shown.{version_at, object_at}
+use Rattle.cb_world.specs.Written.{written_by}
+use Rattle.cb_world.proofs.Laws.{length_put}
+use Rattle.cb_rule.specs.declared.view.View.{View}
+use Rattle.cb_rule.specs.Rule.{AreSized}
+use Rattle.cb_rule.specs.Slot.{Sat}
+use Rattle.cb_rule.specs.Steps.{act, acted}
+use Rattle.cb_shared.specs.declared.setup.Setup.{Setup}
+use Rattle.cb_shared.specs.Places.{Moves, Place, Holds, Acts}
+
+pub acted_known : (es : List Event) (v : View) → (acted es v).known ≡ played es v.known
+acted_known [] v = refl
+acted_known (e ∷ es) v = acted_known es (act e v)
+
+pub acted_fresh : (es : List Event) (v : View)
+    → (acted es v).fresh ≡ written_by es v.known v.fresh
+acted_fresh [] v = refl
+acted_fresh (e ∷ es) v = acted_fresh es (act e v)
+
+pub acted_append : (es fs : List Event) (v : View) → acted (es ++ fs) v ≡ acted fs (acted es v)
+acted_append [] fs v = refl
+acted_append (e ∷ es) fs v = acted_append es fs (act e v)
+
+agree_more : (es fs : List Event) (s : Shown) → Agree s es → Agree (played es s) fs
+    → Agree s (es ++ fs)
+agree_more [] fs s a b = b
+agree_more (e ∷ es) fs s a b = (a.0, agree_more es fs (after e s) a.1 b)
+
+-- the seat's view has these events more, and they agree with what it knew
+abbrev pub Runs : Place → List Event → Place → Type 0
+Runs p es q = Moves p q (acted es p.me.0) × Agree p.me.0.known es
+
+pub known_is : (p q : Place) (es : List Event) → Moves p q (acted es p.me.0)
+    → q.me.0.known ≡ played es p.me.0.known
+known_is p q es m = ap (λ (k : Sat). k.0.known) m.2 ∙ acted_known es p.me.0
+
+pub runs_more : (p q r : Place) (es fs : List Event) → Runs p es q → Runs q fs r
+    → Runs p (es ++ fs) r
+runs_more p q r es fs a b = let m = a.0 in let n = b.0 in (
+  (
+    n.0 ∙ m.0,
+    n.1 ∙ m.1,
+    n.2 ∙ ap (λ (k : Sat). let z : Sat = (acted fs k.0, k.1) in z) m.2
+        ∙ ap (λ (v : View). let z : Sat = (v, p.me.1) in z) (sym (acted_append es fs p.me.0)),
+  ),
+  agree_more es fs p.me.0.known a.1
+      (subst (λ (s : Shown). Agree s fs) (known_is p q es m) b.1),
+)
+
+pub runs_follows : (p q : Place) (es : List Event) (s : Shown) → Runs p es q → s ≡ p.me.0.known
+    → Agree s es × (played es s ≡ q.me.0.known)
+runs_follows p q es s a b = (
+  subst (λ (t : Shown). Agree t es) (sym b) a.1,
+  ap (played es) b ∙ sym (known_is p q es a.0),
+)
+
+pub sized_after : (c : Config) (e : Event) (s : Shown) → AreSized c s → AreSized c (after e s)
+sized_after c (Looked h w) s z = record {
+  objects = z.objects;
+  hots = length-set s.hots h (hot_of w) ∙ z.hots;
+  versions = z.versions;
+  memory = z.memory;
+}
+sized_after c (Claimed h w v words) s z = record {
+  objects = length-set s.objects h (is.Claimed (len_of w) (place_of w) v words) ∙ z.objects;
+  hots = length-set s.hots h (hot_of w) ∙ z.hots;
+  versions = length-set s.versions h v ∙ z.versions;
+  memory = length_put s.memory (place_of w) words ∙ z.memory;
+}
+sized_after c (Told h v) s z = z
+sized_after c (Loaded p x) s z = z
+sized_after c (Stored p x) s z = record {
+  objects = z.objects;
+  hots = z.hots;
+  versions = z.versions;
+  memory = length-set s.memory p x ∙ z.memory;
+}
+sized_after c (Stamped h v) s z = record {
+  objects = z.objects;
+  hots = z.hots;
+  versions = length-set s.versions h v ∙ z.versions;
+  memory = z.memory;
+}
+sized_after c (Settled h w) s z = record {
+  objects = length-set s.objects h (settled_by (state_of w) w (version_at s h) (object_at s h))
+      ∙ z.objects;
+  hots = length-set s.hots h (hot_of w) ∙ z.hots;
+  versions = z.versions;
+  memory = z.memory;
+}
+
+-- the seat holds the lock as before
+pub holds_still : (z : TableId) (k : Setup) (c : Config) (p q : Place) (e : Event) → Holds z k c p
+    → Acts p e q → Holds z k c q
+holds_still z k c p q e h a = record {
+  of = record {
+    table = a.0.0 ∙ h.of.table;
+    words = h.of.words;
+    key = h.of.key;
+    config = ap (λ (m : Sat). m.0.config) a.0.2 ∙ h.of.config;
+    live = subst (λ (m : Sat). 1 ≤ m.0.share) (sym a.0.2) h.of.live;
+  };
+  holds = ap (λ (m : Sat). m.0.holds) a.0.2 ∙ h.holds;
+  sized = subst (λ (m : Sat). AreSized c m.0.known) (sym a.0.2)
+      (sized_after c e p.me.0.known h.sized);
+}

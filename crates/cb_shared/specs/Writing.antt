@@ -1,0 +1,103 @@
+-- What a write in place is answered, and what it adds to the record of its pass.
+use Rattle.std.specs.Prelude.{◌≡◌, ◌≢◌, ℕ, ◌+◌, ◌-◌, ◌^◌, ◌<◌, ◌≤◌, List, [], ◌∷◌, length}
+use Rattle.cb_ptr.specs.declared.word.State.TheVariants as state
+use Rattle.cb_ptr.specs.Word.{state_of, len_of, pins_of}
+use Rattle.cb_world.specs.Write.{IsWrite}
+use Rattle.cb_world.specs.Written.{entry}
+use Rattle.cb_rule.specs.declared.view.View.{View}
+use Rattle.cb_rule.specs.Seats.{pins_on}
+use Rattle.cb_rule.specs.Steps.{IsNewest, with_look}
+use Rattle.cb_shared.specs.declared.answers.WriteAnswer.{WriteAnswer}
+use Rattle.cb_shared.specs.declared.answers.WriteAnswer.TheVariants.{Ok, Freed, NotHere, Moving, Range, Pinned, Worn, Raced}
+use Rattle.cb_shared.specs.Claims.{unclaimed}
+use Rattle.cb_shared.specs.Pinning.{LooksOnce, FindsFreed, LoosesRace}
+use Rattle.cb_shared.specs.Places.{Place, Moves}
+
+-- the word is that of an object that is here, and that so many bytes from the byte number `at` on
+-- lie in
+abbrev pub IsRoomFor : ℕ → ℕ → ℕ → Type 0
+IsRoomFor at count n = (state_of n ≡ state.Here) × (at + count ≤ len_of n)
+
+-- it is here, and the bytes go past its end
+abbrev pub IsPastEnd : ℕ → ℕ → ℕ → ℕ → Type 0
+IsPastEnd at count len n = (state_of n ≡ state.Here) × (len_of n ≡ len) × (len < at + count)
+
+-- it is pinned so often; with the whole share by this pass alone
+abbrev pub IsPinnedSo : ℕ → ℕ → View → ℕ → Type 0
+IsPinnedSo h count v n = (pins_of n ≡ count) × (1 ≤ count) × (v.share ≡ 64 → count ≡ pins_on h v)
+
+-- the object was claimed where it is, at its newest version, and written: one entry more, one
+-- version higher, whose contents are those before with the bytes in them
+pub record IsWrittenHere (h at : ℕ) (bytes : List ℕ) (version : ℕ) (v w : View) : Type 0 where
+  pub word : ℕ
+  pub old : List ℕ
+  pub new : List ℕ
+  pub last : ℕ
+  pub room : IsRoomFor at (length bytes) word
+  pub bare : pins_of word ≡ 0
+  pub newest : IsNewest h last v
+  pub next : version ≡ last + 1
+  pub write : IsWrite old at bytes new
+  pub left : w ≡ record (with_look h word (with_look h word v)) {
+    written = entry h version (len_of word) old new ∷ v.written;
+  }
+
+-- it was claimed at a version that has no next one, and put back as it was
+pub record IsWorn (h at count : ℕ) (v w : View) : Type 0 where
+  pub word : ℕ
+  pub room : IsRoomFor at count word
+  pub bare : pins_of word ≡ 0
+  pub newest : IsNewest h (2 ^ 64 - 1) v
+  pub left : w ≡ with_look h word (with_look h word v)
+
+-- by the answer
+abbrev pub WriteGives : ℕ → ℕ → List ℕ → WriteAnswer → View → View → Type 0
+WriteGives h at bytes (Ok version) v w = IsWrittenHere h at bytes version v w
+WriteGives h at bytes Freed v w = FindsFreed h v w
+WriteGives h at bytes NotHere v w = LooksOnce h v w (λ n. state_of n ≡ state.Far)
+WriteGives h at bytes Moving v w = LooksOnce h v w (λ n. state_of n ≡ state.Moving)
+WriteGives h at bytes (Range len) v w = LooksOnce h v w (IsPastEnd at (length bytes) len)
+WriteGives h at bytes (Pinned count) v w =
+    LooksOnce h v w (λ n. IsRoomFor at (length bytes) n × IsPinnedSo h count v n)
+WriteGives h at bytes Worn v w = IsWorn h at (length bytes) v w
+WriteGives h at bytes (Raced saw found) v w = LoosesRace h saw found v w
+
+-- why a write is refused by the word that was found
+abbrev pub IsWriteRefusal : ℕ → ℕ → ℕ → WriteAnswer → Type 0
+IsWriteRefusal at count n Freed = state_of n ≡ state.Empty
+IsWriteRefusal at count n NotHere = state_of n ≡ state.Far
+IsWriteRefusal at count n Moving = state_of n ≡ state.Moving
+IsWriteRefusal at count n (Range len) = IsPastEnd at count len n
+IsWriteRefusal at count n (Pinned k) = IsRoomFor at count n × (pins_of n ≡ k) × (1 ≤ k)
+IsWriteRefusal at count n _ = ⊥
+
+-- the object, claimed at this word, was written: so after the look at the word
+pub record IsWrittenAt (h word at : ℕ) (bytes : List ℕ) (version : ℕ) (v w : View) : Type 0 where
+  pub old : List ℕ
+  pub new : List ℕ
+  pub last : ℕ
+  pub newest : IsNewest h last v
+  pub next : version ≡ last + 1
+  pub write : IsWrite old at bytes new
+  pub left : w ≡ record (with_look h word v) {
+    written = entry h version (len_of word) old new ∷ v.written;
+  }
+
+-- what the exchange at the word that was seen comes to
+abbrev pub WriteAt : ℕ → ℕ → ℕ → List ℕ → WriteAnswer → View → View → Type 0
+WriteAt h saw at bytes (Ok version) v w = IsWrittenAt h saw at bytes version v w
+WriteAt h saw at bytes Worn v w = IsNewest h (2 ^ 64 - 1) v × (w ≡ with_look h saw v)
+WriteAt h saw at bytes (Raced seen found) v w =
+    (seen ≡ saw) × (found ≢ saw) × (w ≡ with_look h found v)
+WriteAt h saw at bytes _ v w = ⊥
+
+-- and what the write comes to of an object that is claimed at this version, with these words
+abbrev pub WriteClaimed : ℕ → ℕ → ℕ → List ℕ → ℕ → List ℕ → WriteAnswer → Place → Place → Type 0
+WriteClaimed h word at bytes v words (Ok version) p q = (version ≡ v + 1) × (new : List ℕ)
+    × IsWrite words at bytes new × Moves p q (record p.me.0 {
+      claims = [];
+      written = entry h (v + 1) (len_of word) words new ∷ p.me.0.written;
+    })
+WriteClaimed h word at bytes v words Worn p q =
+    (v ≡ 2 ^ 64 - 1) × Moves p q (unclaimed p.me.0)
+WriteClaimed h word at bytes v words _ p q = ⊥

@@ -1,0 +1,27 @@
+use crate::setup::Setup;
+use atomic_table::{Seat, Table, TableRule};
+use cb_rule::View;
+use cb_world::Far;
+use std::alloc::Global;
+
+/// The rule that holds between any two steps at the table. Its words are, in order: one that is
+/// left to a lock, the pointer words, the version words, and the memory words.
+pub struct Words;
+
+impl TableRule<Option<Far>, View, Setup> for Words {
+    ghost use Rattle.cb_rule.specs.Ruled.{Ruled, alone};
+    ghost use Rattle.cb_rule.specs.Steps.{opener};
+
+    ghost holds = { λ k s. Ruled alone k.first k.config s };
+
+    ghost first = { λ k. opener k.first k.config };
+}
+
+/// The table of the words, with its memory.
+pub type Board = Table<Option<Far>, View, Setup, Words, Global>;
+
+/// The steps of the table, each through a shared reference.
+pub type Top = atomic_table::Shared<Option<Far>, View, Setup, Words>;
+
+/// A seat at the table: what one caller knows. It has no bytes.
+pub type Place = Seat<Option<Far>, View>;

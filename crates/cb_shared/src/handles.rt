@@ -1,0 +1,50 @@
+//! The handles that a pass has pinned.
+ghost use Rattle.std.specs.Prelude.{◌≡◌, ◌<◌, ℕ, [], ◌∷◌, length};
+ghost use Rattle.std.specs.List.{remove};
+ghost use Rattle.crossbeam_utils.specs.Padded.{padded_value};
+ghost use Rattle.cb_shared.specs.Handles.{IsFirstAt};
+
+use arrayvec::ArrayVec;
+use crossbeam_utils::CachePadded;
+
+/// The most pins that a pass may have.
+pub const MOST_PINS: usize = 16;
+
+/// The handles of the pins, the newest first, on cache lines of their own.
+pub(crate) type Pins = CachePadded<ArrayVec<u32, MOST_PINS>>;
+
+/// No pins.
+pub(crate) fn no_pins() -> Pins
+    ensures { (padded_value result).items ≡ [] }
+{
+    CachePadded::new(ArrayVec::new())
+}
+
+/// Puts the newest pin before the others.
+pub(crate) fn add_pin(pins: &mut Pins, h: u32)
+    requires { length (padded_value pins.old).items < 16 }
+    ensures { (padded_value pins.new).items ≡ h ∷ (padded_value pins.old).items }
+{
+    pins.insert(0, h);
+}
+
+/// Takes out the pin at this place.
+pub(crate) fn remove_pin(pins: &mut Pins, at: usize)
+    requires { at < length (padded_value pins.old).items }
+    ensures { (padded_value pins.new).items ≡ remove (padded_value pins.old).items at }
+{
+    pins.remove(at);
+}
+
+/// The place of the newest pin on an object.
+pub(crate) fn newest(pins: &[u32], h: u32) -> usize
+    requires { (at : ℕ) × IsFirstAt pins.now h at }
+    ensures { IsFirstAt pins.now h result }
+{
+    for at in 0..pins.len() {
+        if pins[at] == h {
+            return at;
+        }
+    }
+    unreachable!()
+}

@@ -1,0 +1,24 @@
+//! The shared runtime: callers in any threads pin, read and write objects of one table of atomic
+//! words, each by single steps of its own pass, and wait for nobody.
+#![tactic(auto)]
+
+pub mod answers;
+mod board;
+mod frames;
+mod handles;
+mod own;
+pub mod pass;
+mod pinning;
+mod pins;
+mod plays;
+pub mod runtime;
+mod seat_desk;
+mod seats;
+mod setup;
+mod starting;
+mod steps;
+mod writing;
+
+pub use answers::{PinAnswer, WriteAnswer};
+pub use pass::{Pass, Pin};
+pub use runtime::Shared;

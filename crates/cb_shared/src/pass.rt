@@ -1,0 +1,60 @@
+ghost use Rattle.std.specs.Prelude.{◌≡◌, []};
+ghost use Rattle.crossbeam_utils.specs.Padded.{padded_value};
+ghost use Rattle.cb_shared.specs.Handles.{handles_of};
+
+use crate::board::Place;
+use crate::handles::Pins;
+use cb_types::Handle;
+
+/// A pin: while its pass has it, the object stays where it is, at this version.
+#[derive(Drop)]
+pub struct Pin {
+    pub(crate) handle: Handle,
+    pub(crate) version: u64,
+    pub(crate) len: u32,
+    pub(crate) place: u32,
+}
+
+impl Pin {
+    /// The object.
+    pub fn handle(&self) -> Handle
+        ensures { result ≡ self.now.handle }
+    {
+        self.handle
+    }
+
+    /// The version that it has.
+    pub fn version(&self) -> u64
+        ensures { result ≡ self.now.version }
+    {
+        self.version
+    }
+
+    /// Its length in bytes.
+    pub fn len(&self) -> u32
+        ensures { result ≡ self.now.len }
+    {
+        self.len
+    }
+}
+
+/// What one caller has of the shared runtime: a seat, whose view has all that the caller wrote,
+/// read and pinned, its share, and its pins, which stand on cache lines of their own.
+#[derive(Drop)]
+pub struct Pass {
+    pub(crate) seat: Place,
+    pub(crate) share: u32,
+    pub(crate) pins: Pins,
+    ghost shares: { share ≡ seat.me.0.share },
+    ghost carries: { seat.me.1 ≡ [] },
+    ghost pinned: { (padded_value pins).items ≡ handles_of seat.me.0.pins },
+}
+
+impl Pass {
+    /// The part of the whole, of 64 shares, that the pass has.
+    pub fn share(&self) -> u32
+        ensures { result ≡ self.now.seat.me.0.share }
+    {
+        self.share
+    }
+}

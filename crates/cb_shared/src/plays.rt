@@ -1,0 +1,177 @@
+//! What each kind of step tells the seat that makes it.
+ghost use Rattle.std.specs.Prelude.{ℕ};
+ghost use Rattle.cb_types.specs.declared.config.Config.{Config};
+ghost use Rattle.cb_rule.specs.Steps.{looked, told, loaded, claimed, stored, stamped, settled, rests, glanced, pinned, unpinned, peeked, dated, read_held, claimed_here, stored_here, stamped_here, settled_here, put_back, blank, left_of, right_of, joined};
+
+use atomic_table::{Join, Play, Split};
+use cb_rule::View;
+use cb_world::Far;
+use std::marker::{Brand, PhantomData};
+
+// The holder of the far lock, within a turn.
+
+pub struct Look;
+
+impl Play<Option<Far>, View> for Look {
+    ghost then = { looked };
+}
+
+pub struct Tell;
+
+impl Play<Option<Far>, View> for Tell {
+    ghost then = { told };
+}
+
+pub struct Load;
+
+impl Play<Option<Far>, View> for Load {
+    ghost then = { loaded };
+}
+
+pub struct TakeClaim;
+
+impl Play<Option<Far>, View> for TakeClaim {
+    ghost then = { claimed };
+}
+
+pub struct Store;
+
+impl Play<Option<Far>, View> for Store {
+    ghost then = { stored };
+}
+
+pub struct Stamp;
+
+impl Play<Option<Far>, View> for Stamp {
+    ghost then = { stamped };
+}
+
+pub struct Settle;
+
+impl Play<Option<Far>, View> for Settle {
+    ghost then = { settled };
+}
+
+/// Between two turns.
+pub struct Rest;
+
+impl Play<Option<Far>, View> for Rest {
+    ghost then = { rests };
+}
+
+// Any seat.
+
+pub struct Glance;
+
+impl Play<Option<Far>, View> for Glance {
+    ghost then = { glanced };
+}
+
+pub struct TakePin;
+
+impl Play<Option<Far>, View> for TakePin {
+    ghost then = { pinned };
+}
+
+pub struct GivePin;
+
+impl Play<Option<Far>, View> for GivePin {
+    ghost then = { unpinned };
+}
+
+pub struct Peek;
+
+impl Play<Option<Far>, View> for Peek {
+    ghost then = { peeked };
+}
+
+/// A look at a version word that does not change while the seat has a pin or a claim.
+pub struct Date;
+
+impl Play<Option<Far>, View> for Date {
+    ghost then = { dated };
+}
+
+pub struct ClaimHere;
+
+impl Play<Option<Far>, View> for ClaimHere {
+    ghost then = { claimed_here };
+}
+
+pub struct ReadHeld;
+
+impl Play<Option<Far>, View> for ReadHeld {
+    ghost then = { read_held };
+}
+
+pub struct StoreHere;
+
+impl Play<Option<Far>, View> for StoreHere {
+    ghost then = { stored_here };
+}
+
+pub struct StampHere;
+
+impl Play<Option<Far>, View> for StampHere {
+    ghost then = { stamped_here };
+}
+
+pub struct SettleHere;
+
+impl Play<Option<Far>, View> for SettleHere {
+    ghost then = { settled_here };
+}
+
+pub struct PutBack;
+
+impl Play<Option<Far>, View> for PutBack {
+    ghost then = { put_back };
+}
+
+// Seats that are split and joined.
+
+/// The share that a seat hands out. Each call picks it.
+pub trait Given {
+    ghost share: { ℕ };
+}
+
+impl Given for Brand {
+    ghost share = { 1 };
+}
+
+pub struct Cut<W> {
+    given: PhantomData<W>,
+}
+
+impl<W: Given> Split<View> for Cut<W> {
+    ghost left = { left_of W.share };
+
+    ghost right = { right_of W.share };
+}
+
+/// The table's configuration, which a seat that was joined keeps. Each call picks it.
+pub trait Keyed {
+    ghost key: { Config };
+}
+
+impl Keyed for Brand {
+    ghost key = { record {
+      k = 1;
+      r = 1;
+      nodes = 2;
+      frames = 1;
+      room = 1;
+      handles = 1;
+      turns = 0;
+    } };
+}
+
+pub struct Glue<W> {
+    keyed: PhantomData<W>,
+}
+
+impl<W: Keyed> Join<View> for Glue<W> {
+    ghost both = { joined };
+
+    ghost spent = { blank W.key };
+}

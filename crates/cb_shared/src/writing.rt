@@ -1,0 +1,196 @@
+ghost use Rattle.std.specs.Prelude.{◌≡◌, ◌≢◌, ℕ, ◌+◌, ◌*◌, ◌^◌, ◌<◌, ◌≤◌, List, [], ◌∷◌, length, slice_index, Option, None, Some};
+ghost use Rattle.cb_ptr.specs.declared.word.State.TheVariants as state;
+ghost use Rattle.cb_ptr.specs.Word.{len_of, pins_of, place_of, state_of};
+ghost use Rattle.cb_world.specs.Memory.{words_for};
+ghost use Rattle.cb_world.specs.Write.{IsWrite};
+ghost use Rattle.cb_mutate.specs.Merged.{IsMerged};
+ghost use Rattle.cb_rule.specs.declared.view.Held.{Held};
+ghost use Rattle.cb_rule.specs.Steps.{Knows};
+ghost use Rattle.cb_shared.specs.declared.answers.WriteAnswer.{WriteAnswer};
+ghost use Rattle.cb_shared.specs.Claims.{HoldsOnly, IsFreshClaim, IsWithin, with_memory, with_only};
+ghost use Rattle.cb_shared.specs.Passes.{IsAtRest, IsPassOf};
+ghost use Rattle.cb_shared.specs.Places.{IsOf, Moves};
+ghost use Rattle.cb_shared.specs.Writing.{IsRoomFor, IsWriteRefusal, WriteAt, WriteClaimed, WriteGives};
+
+use crate::answers::WriteAnswer;
+use crate::board::{Place, Top};
+use crate::own::{claim_here, load_own, put_back, settle_own, stamp_own, store_own, version_own};
+use crate::pass::Pass;
+use crate::pins::glance;
+use crate::runtime::Shared;
+use cb_mutate::merged;
+use cb_ptr::{State, claimed, settled, unpack};
+use cb_types::{Config, Handle};
+
+impl Shared {
+    /// Writes over a part of an object that the pass knows, where it is here and has no pins:
+    /// `bytes` from the byte number `at` on. One load of its word, one exchange, one load and one
+    /// store of its version, one store for each word that changes, before it one load where a part
+    /// of the word stays, and one store of its word. Takes no memory and waits for nobody.
+    pub fn write_here(&self, pass: &mut Pass, h: Handle, at: u32, bytes: &[u8]) -> WriteAnswer
+        requires of { IsPassOf self.now pass.old }
+        requires knows { Knows h.n pass.old.seat.me.0 }
+        ensures of { IsPassOf self.now pass.new }
+        ensures write { WriteGives h.n at bytes.now result pass.old.seat.me.0 pass.new.seat.me.0 }
+    {
+        write_looked(
+            &self.board.shared,
+            &mut pass.seat,
+            &self.config,
+            h.n,
+            at,
+            bytes,
+        )
+    }
+}
+
+/// Why an object is not claimed for a write, by its word; None where it can be.
+fn refuse_write(word: u64, at: u32, count: usize) -> Option<WriteAnswer>
+    requires { count < 2 ^ 63 }
+    ensures refused { (a : WriteAnswer) → result ≡ Some a → IsWriteRefusal at count word a }
+    ensures room { result ≡ None → IsRoomFor at count word × (pins_of word ≡ 0) }
+{
+    let fields = unpack(word);
+    match fields.state {
+        State::Empty => Some(WriteAnswer::Freed),
+        State::Far => Some(WriteAnswer::NotHere),
+        State::Moving => Some(WriteAnswer::Moving),
+        State::Here if at as usize + count > fields.len as usize => {
+            Some(WriteAnswer::Range { len: fields.len })
+        }
+        State::Here if fields.pins > 0 => Some(WriteAnswer::Pinned { count: fields.pins }),
+        State::Here => None,
+    }
+}
+
+/// The look at the word, and the write where it is one that can be claimed.
+fn write_looked(
+    top: &Top,
+    seat: &mut Place,
+    config: &Config,
+    h: u32,
+    at: u32,
+    bytes: &[u8],
+) -> WriteAnswer
+    requires of { IsOf top.now.table_id top.now.key config.now seat.old }
+    requires rest { IsAtRest config.now seat.old.me.0 }
+    requires knows { Knows h seat.old.me.0 }
+    ensures table { (seat.new.table_id ≡ seat.old.table_id) × (seat.new.me.1 ≡ seat.old.me.1) }
+    ensures share { seat.new.me.0.share ≡ seat.old.me.0.share }
+    ensures pins { seat.new.me.0.pins ≡ seat.old.me.0.pins }
+    ensures rest { IsAtRest config.now seat.new.me.0 }
+    ensures write { WriteGives h at bytes.now result seat.old.me.0 seat.new.me.0 }
+{
+    let saw = glance(top, seat, config, h);
+    match refuse_write(saw, at, bytes.len()) {
+        Some(answer) => answer,
+        None => write_at(top, seat, config, h, saw, at, bytes),
+    }
+}
+
+/// The claim of an object at the word that was seen, and its write.
+fn write_at(
+    top: &Top,
+    seat: &mut Place,
+    config: &Config,
+    h: u32,
+    saw: u64,
+    at: u32,
+    bytes: &[u8],
+) -> WriteAnswer
+    requires of { IsOf top.now.table_id top.now.key config.now seat.old }
+    requires rest { IsAtRest config.now seat.old.me.0 }
+    requires handle { h < config.now.handles }
+    requires room { IsRoomFor at (length bytes.now) saw }
+    requires bare { pins_of saw ≡ 0 }
+    ensures table { (seat.new.table_id ≡ seat.old.table_id) × (seat.new.me.1 ≡ seat.old.me.1) }
+    ensures share { seat.new.me.0.share ≡ seat.old.me.0.share }
+    ensures pins { seat.new.me.0.pins ≡ seat.old.me.0.pins }
+    ensures rest { IsAtRest config.now seat.new.me.0 }
+    ensures write { WriteAt h saw at bytes.now result seat.old.me.0 seat.new.me.0 }
+{
+    let found = claim_here(top, seat, config, h, saw);
+    if found != saw {
+        return WriteAnswer::Raced { saw, found };
+    }
+    write_claimed(top, seat, config, h, saw, at, bytes)
+}
+
+/// The write of an object that the seat claims, and its settling.
+fn write_claimed(
+    top: &Top,
+    seat: &mut Place,
+    config: &Config,
+    h: u32,
+    word: u64,
+    at: u32,
+    bytes: &[u8],
+) -> WriteAnswer
+    requires of { IsOf top.now.table_id top.now.key config.now seat.old }
+    requires handle { h < config.now.handles }
+    requires room { IsRoomFor at (length bytes.now) word }
+    requires bare { pins_of word ≡ 0 }
+    requires claim { (v : ℕ) × (words : List ℕ) × IsFreshClaim config.now h word v words seat.old }
+    ensures { (v : ℕ) (words : List ℕ) → IsFreshClaim config.now h word v words seat.old
+        → WriteClaimed h word at bytes.now v words result seat.old seat.new }
+{
+    let version = version_own(top, seat, config, h);
+    if version == u64::MAX {
+        put_back(top, seat, config, h, word);
+        return WriteAnswer::Worn;
+    }
+    let place = unpack(word).place;
+    overwrite_own(top, seat, config, place, at, bytes);
+    stamp_own(top, seat, config, h, version + 1);
+    settle_own(top, seat, config, h, settled(claimed(word), place, true));
+    WriteAnswer::Ok {
+        version: version + 1,
+    }
+}
+
+/// Stores each word of a claimed object that these bytes reach, from the byte number `at` on. A
+/// word of which a part stays is loaded before.
+fn overwrite_own(top: &Top, seat: &mut Place, config: &Config, place: u32, at: u32, bytes: &[u8])
+    requires of { IsOf top.now.table_id top.now.key config.now seat.old }
+    requires end { at + length bytes.now < 2 ^ 16 }
+    requires claim { (x : Held) × HoldsOnly x x.handle seat.old
+        × IsWithin config.now x place at (length bytes.now) }
+    ensures { (x : Held) → HoldsOnly x x.handle seat.old
+        → IsWithin config.now x place at (length bytes.now)
+        → (new : List ℕ) × IsWrite x.memory at bytes.now new
+        × Moves seat.old seat.new (with_only (with_memory new x) seat.old.me.0) }
+{
+    let end = at + bytes.len() as u32;
+    let first = place as usize;
+    for i in at / 8..end.div_ceil(8) {
+        let word = merged_own(top, seat, config, first + i as usize, 8 * i, at, bytes);
+        store_own(top, seat, config, first + i as usize, word);
+    }
+}
+
+/// The word of a claimed object whose first byte is the object's byte `first`, with these bytes. It
+/// is loaded where a part of it stays.
+fn merged_own(
+    top: &Top,
+    seat: &mut Place,
+    config: &Config,
+    place: usize,
+    first: u32,
+    at: u32,
+    bytes: &[u8],
+) -> u64
+    requires of { IsOf top.now.table_id top.now.key config.now seat.old }
+    requires place { place < 512 * config.now.frames }
+    requires first { first + 8 < 2 ^ 32 }
+    requires end { at + length bytes.now < 2 ^ 16 }
+    ensures same { Moves seat.old seat.new seat.old.me.0 }
+    ensures merged { (x : Held) (j : ℕ) → HoldsOnly x x.handle seat.old → j < words_for x.len
+        → place ≡ x.place + j → IsMerged (slice_index x.memory j) first at bytes.now result }
+{
+    let end = at + bytes.len() as u32;
+    if at <= first && first + 8 <= end {
+        return merged(0, first, at, bytes);
+    }
+    let old = load_own(top, seat, config, place);
+    merged(old, first, at, bytes)
+}
