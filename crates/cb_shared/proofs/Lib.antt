@@ -9,3 +9,5 @@ pub mod Only
 pub mod Parting
 pub mod Begun
 pub mod WriteSteps
+pub mod Tallying
+pub mod FirstPin

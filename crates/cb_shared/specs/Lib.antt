@@ -7,3 +7,4 @@ pub mod Claims
 pub mod Pinning
 pub mod Writing
 pub mod Joining
+pub mod Tallies

@@ -1,5 +1,5 @@
 //! The handles that a pass has pinned.
-ghost use Rattle.std.specs.Prelude.{◌≡◌, ◌<◌, ℕ, [], ◌∷◌, length};
+ghost use Rattle.std.specs.Prelude.{◌≡◌, ◌<◌, ℕ, List, [], ◌∷◌, length, IfSome, IfNone};
 ghost use Rattle.std.specs.List.{remove};
 ghost use Rattle.crossbeam_utils.specs.Padded.{padded_value};
 ghost use Rattle.cb_shared.specs.Handles.{IsFirstAt};
@@ -47,4 +47,15 @@ pub(crate) fn newest(pins: &[u32], h: u32) -> usize
         }
     }
     unreachable!()
+}
+
+/// The handle of the newest pin, None where there is none.
+pub(crate) fn first_handle(pins: &Pins) -> Option<u32>
+    ensures some { IfSome result (λ h. (rest : List ℕ) × ((padded_value pins.now).items ≡ h ∷ rest)) }
+    ensures none { IfNone result ((padded_value pins.now).items ≡ []) }
+{
+    match pins.as_slice() {
+        [] => None,
+        [first, ..] => Some(*first),
+    }
 }

@@ -2,6 +2,7 @@
 ghost use Rattle.std.specs.Prelude.{ℕ};
 ghost use Rattle.cb_types.specs.declared.config.Config.{Config};
 ghost use Rattle.cb_rule.specs.Steps.{looked, told, loaded, claimed, stored, stamped, settled, rests, glanced, pinned, unpinned, peeked, dated, read_held, claimed_here, stored_here, stamped_here, settled_here, put_back, blank, left_of, right_of, joined};
+ghost use Rattle.cb_shared.specs.Tallies.{tallied};
 
 use atomic_table::{Join, Play, Split};
 use cb_rule::View;
@@ -126,6 +127,13 @@ pub struct PutBack;
 
 impl Play<Option<Far>, View> for PutBack {
     ghost then = { put_back };
+}
+
+/// A look at how large the share may be.
+pub struct Tally;
+
+impl Play<Option<Far>, View> for Tally {
+    ghost then = { tallied };
 }
 
 // Seats that are split and joined.

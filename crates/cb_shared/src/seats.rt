@@ -1,13 +1,17 @@
-//! Passes that are split.
-ghost use Rattle.std.specs.Prelude.{◌≡◌, ℕ, ◌<◌, ◌≤◌, []};
-ghost use Rattle.cb_rule.specs.Steps.{left_of, right_of};
-ghost use Rattle.cb_shared.specs.Passes.{IsPassOf};
+//! Passes that are split and joined.
+ghost use Rattle.std.specs.Prelude.{◌≡◌, ℕ, ◌<◌, ◌≤◌, List, [], ◌∷◌, false, length};
+ghost use Rattle.crossbeam_utils.specs.Padded.{padded_value};
+ghost use Rattle.cb_rule.specs.Lists.{Each};
+ghost use Rattle.cb_rule.specs.Steps.{joined, left_of, right_of};
+ghost use Rattle.cb_shared.specs.Passes.{IsPassOf, PinFits};
+ghost use Rattle.cb_shared.specs.Joining.{IsSpare, unpinned_all};
 ghost use Rattle.cb_shared.specs.Places.{IsOf, Moves};
 
 use crate::board::{Place, Top};
-use crate::handles::no_pins;
+use crate::handles::{first_handle, no_pins};
 use crate::pass::Pass;
-use crate::plays::{Cut, Given};
+use crate::pinning::unpin_one;
+use crate::plays::{Cut, Given, Glue, Keyed, Tally};
 use crate::runtime::Shared;
 use cb_types::Config;
 use std::marker::Brand;
@@ -29,6 +33,23 @@ impl Shared {
             share,
             pins: no_pins(),
         }
+    }
+
+    /// A pass takes another in, with its share and its record, whose lists stand in front. The
+    /// pins of the other one are given back before. Takes no memory and waits for nobody.
+    pub fn join_pass(&self, pass: &mut Pass, other: Pass)
+        requires of { IsPassOf self.now pass.old }
+        requires other { IsPassOf self.now other }
+        requires free { other.seat.me.0.holds ≡ false }
+        ensures of { IsPassOf self.now pass.new }
+        ensures joined { pass.new.seat.me.0
+            ≡ joined pass.old.seat.me.0 (unpinned_all other.seat.me.0) }
+    {
+        let mut other = other;
+        give_back(&self.board.shared, &mut other, &self.config);
+        let share = other.share;
+        let Pass { seat, .. } = other;
+        join_in(&self.board.shared, pass, seat, share, &self.config);
     }
 }
 
@@ -66,4 +87,73 @@ fn split_seat(top: &Top, seat: &mut Place, config: &Config, share: u32) -> Place
         × (result.me ≡ (right_of share seat.old.me.0, [])) }
 {
     split_as::<Brand>(top, seat, config, share)
+}
+
+/// Gives all pins of a pass back.
+fn give_back(top: &Top, pass: &mut Pass, config: &Config)
+    requires of { IsOf top.now.table_id top.now.key config.now pass.old.seat }
+    requires pins { Each (PinFits config.now) pass.old.seat.me.0.pins }
+    ensures { Moves pass.old.seat pass.new.seat (unpinned_all pass.old.seat.me.0) }
+{
+    while let Some(h) = first_handle(&pass.pins) {
+        give_first(top, pass, config, h);
+    }
+}
+
+/// Gives the newest pin of a pass back, which is on this object.
+fn give_first(top: &Top, pass: &mut Pass, config: &Config, h: u32)
+    requires of { IsOf top.now.table_id top.now.key config.now pass.old.seat }
+    requires pins { Each (PinFits config.now) pass.old.seat.me.0.pins }
+    requires first { (rest : List ℕ) × ((padded_value pass.old.pins).items ≡ h ∷ rest) }
+    ensures of { IsOf top.now.table_id top.now.key config.now pass.new.seat }
+    ensures pins { Each (PinFits config.now) pass.new.seat.me.0.pins }
+    ensures moved { Moves pass.old.seat pass.new.seat
+        (record pass.old.seat.me.0 { pins = pass.new.seat.me.0.pins }) }
+    ensures shorter { length (padded_value pass.new.pins).items
+        < length (padded_value pass.old.pins).items }
+{
+    unpin_one(top, &mut pass.seat, &mut pass.pins, config, h);
+}
+
+/// A pass takes in a seat that has this share.
+fn join_in(top: &Top, pass: &mut Pass, other: Place, share: u32, config: &Config)
+    requires of { IsOf top.now.table_id top.now.key config.now pass.old.seat }
+    requires other { IsSpare top.now.table_id other }
+    requires share { share ≡ other.me.0.share }
+    requires few { (pass.old.seat.me.0.share ≤ 64) × (share ≤ 64) }
+    ensures joined { Moves pass.old.seat pass.new.seat
+        (joined pass.old.seat.me.0 other.me.0) }
+    ensures most { pass.new.seat.me.0.share ≤ 64 }
+{
+    join_seats(top, &mut pass.seat, other, config);
+    pass.share += share;
+    tally(top, &mut pass.seat, config);
+}
+
+/// A look that tells how large the share may be.
+fn tally(top: &Top, seat: &mut Place, config: &Config)
+    requires of { IsOf top.now.table_id top.now.key config.now seat.old }
+    ensures same { Moves seat.old seat.new seat.old.me.0 }
+    ensures most { seat.old.me.0.share ≤ 64 }
+{
+    let _config = *config;
+    top.load::<Tally>(seat, 0);
+}
+
+fn join_as<W: Keyed>(top: &Top, seat: &mut Place, other: Place, config: &Config)
+    requires of { IsOf top.now.table_id top.now.key config.now seat.old }
+    requires picks { W.key ≡ config.now }
+    requires other { IsSpare top.now.table_id other }
+    ensures { Moves seat.old seat.new (joined seat.old.me.0 other.me.0) }
+{
+    let _config = config;
+    top.join_seat::<Glue<W>>(seat, other)
+}
+
+fn join_seats(top: &Top, seat: &mut Place, other: Place, config: &Config)
+    requires of { IsOf top.now.table_id top.now.key config.now seat.old }
+    requires other { IsSpare top.now.table_id other }
+    ensures { Moves seat.old seat.new (joined seat.old.me.0 other.me.0) }
+{
+    join_as::<Brand>(top, seat, other, config)
 }
