@@ -11,3 +11,7 @@ pub mod Begun
 pub mod WriteSteps
 pub mod Tallying
 pub mod FirstPin
+pub mod WorkedGround
+pub mod WorkedPins
+pub mod WorkedWrites
+pub mod WorkedPasses

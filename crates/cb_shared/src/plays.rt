@@ -11,42 +11,49 @@ use std::marker::{Brand, PhantomData};
 
 // The holder of the far lock, within a turn.
 
+/// A load of a pointer word.
 pub struct Look;
 
 impl Play<Option<Far>, View> for Look {
     ghost then = { looked };
 }
 
+/// A load of a version word.
 pub struct Tell;
 
 impl Play<Option<Far>, View> for Tell {
     ghost then = { told };
 }
 
+/// A load of a memory word.
 pub struct Load;
 
 impl Play<Option<Far>, View> for Load {
     ghost then = { loaded };
 }
 
+/// An exchange of a pointer word that claims its object, or finds another word.
 pub struct TakeClaim;
 
 impl Play<Option<Far>, View> for TakeClaim {
     ghost then = { claimed };
 }
 
+/// A store of a memory word.
 pub struct Store;
 
 impl Play<Option<Far>, View> for Store {
     ghost then = { stored };
 }
 
+/// A store of a version word.
 pub struct Stamp;
 
 impl Play<Option<Far>, View> for Stamp {
     ghost then = { stamped };
 }
 
+/// A store of a pointer word.
 pub struct Settle;
 
 impl Play<Option<Far>, View> for Settle {
@@ -62,24 +69,28 @@ impl Play<Option<Far>, View> for Rest {
 
 // Any seat.
 
+/// A look at the pointer word of an object that the seat knows.
 pub struct Glance;
 
 impl Play<Option<Far>, View> for Glance {
     ghost then = { glanced };
 }
 
+/// An exchange of a pointer word that takes a pin, or finds another word.
 pub struct TakePin;
 
 impl Play<Option<Far>, View> for TakePin {
     ghost then = { pinned };
 }
 
+/// A subtraction from a pointer word that gives a pin back.
 pub struct GivePin;
 
 impl Play<Option<Far>, View> for GivePin {
     ghost then = { unpinned };
 }
 
+/// A load of a memory word of an object that the seat has pinned.
 pub struct Peek;
 
 impl Play<Option<Far>, View> for Peek {
@@ -93,36 +104,42 @@ impl Play<Option<Far>, View> for Date {
     ghost then = { dated };
 }
 
+/// An exchange of a pointer word that claims its object outside of a turn, or finds another word.
 pub struct ClaimHere;
 
 impl Play<Option<Far>, View> for ClaimHere {
     ghost then = { claimed_here };
 }
 
+/// A load of a memory word of an object that the seat claims.
 pub struct ReadHeld;
 
 impl Play<Option<Far>, View> for ReadHeld {
     ghost then = { read_held };
 }
 
+/// A store of a memory word of an object that the seat claims.
 pub struct StoreHere;
 
 impl Play<Option<Far>, View> for StoreHere {
     ghost then = { stored_here };
 }
 
+/// A store of the version word of an object that the seat claims.
 pub struct StampHere;
 
 impl Play<Option<Far>, View> for StampHere {
     ghost then = { stamped_here };
 }
 
+/// A store of the pointer word of a claimed object that has its next version.
 pub struct SettleHere;
 
 impl Play<Option<Far>, View> for SettleHere {
     ghost then = { settled_here };
 }
 
+/// A store of the pointer word of a claimed object that is as it was.
 pub struct PutBack;
 
 impl Play<Option<Far>, View> for PutBack {
@@ -147,6 +164,7 @@ impl Given for Brand {
     ghost share = { 1 };
 }
 
+/// A seat hands out a part of its share to a new one.
 pub struct Cut<W> {
     given: PhantomData<W>,
 }
@@ -174,6 +192,7 @@ impl Keyed for Brand {
     } };
 }
 
+/// A seat takes another in.
 pub struct Glue<W> {
     keyed: PhantomData<W>,
 }

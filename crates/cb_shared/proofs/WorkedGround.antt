@@ -1,0 +1,95 @@
+-- What the worked examples are about: an object, the words that it may have, and two records.
+use Rattle.std.proofs.Common.{ℕ, List, [], ◌∷◌, refl, arith}
+use Rattle.cb_types.specs.declared.config.Config.{Config}
+use Rattle.cb_ptr.specs.Word.{state_of, state_number}
+use Rattle.cb_world.specs.declared.entry.Entry.{Entry}
+use Rattle.cb_world.specs.Written.{entry}
+use Rattle.cb_rule.specs.declared.view.Look.{Look}
+use Rattle.cb_rule.specs.declared.view.Stand.{Stand}
+use Rattle.cb_rule.specs.declared.view.View.{View}
+use Rattle.cb_rule.specs.Steps.{IsNewest, blank, opener, stand}
+use Rattle.cb_shared.specs.declared.pass.Pin.{Pin}
+
+-- two objects at most
+abbrev pub two : Config
+two = record { k = 1; r = 1; nodes = 2; frames = 1; room = 6; handles = 2; turns = 0 }
+
+-- the pointer word of an object of 8 bytes at place 5: Here without pins, with one pin (and hot),
+-- with as many as it counts, and Moving; and that of one of 8 bytes that is Far
+abbrev pub calm : ℕ
+calm = 2684420098
+
+abbrev pub pinned : ℕ
+pinned = 2684420110
+
+abbrev pub full : ℕ
+full = 2684428286
+
+abbrev pub moving : ℕ
+moving = 2684420099
+
+abbrev pub away : ℕ
+away = 65537
+
+-- object 1 was made at version 3 with the bytes 0a 0b
+abbrev pub made : Entry
+made = entry 1 3 8 [] (2826 ∷ [])
+
+-- the record of a pass with a part of the share that made it, and of one with the whole share
+abbrev pub part : View
+part = record (blank two) { share = 40; written = made ∷ [] }
+
+abbrev pub whole : View
+whole = record (opener 3 two) { written = made ∷ [] }
+
+-- a pin on it
+abbrev pub a_pin : ℕ → ℕ → ℕ → ℕ → Pin
+a_pin h version len place =
+    record { handle = record { n = h }; version = version; len = len; place = place }
+
+abbrev pub a_stand : Stand
+a_stand = stand 1 8 5 3 (2826 ∷ [])
+
+-- ---- what a record has last
+abbrev pub word_in : List Look → ℕ
+word_in [] = 0
+word_in (x ∷ xs) = x.word
+
+abbrev pub last_look : View → ℕ
+last_look v = word_in v.looks
+
+abbrev pub state_in : ℕ → ℕ
+state_in n = state_number (state_of n)
+
+abbrev pub last_state : View → ℕ
+last_state v = state_in (last_look v)
+
+abbrev pub version_in : List Entry → ℕ
+version_in [] = 0
+version_in (x ∷ xs) = x.version
+
+abbrev pub words_in : List Entry → List ℕ
+words_in [] = []
+words_in (x ∷ xs) = x.after
+
+-- ---- its newest version
+pub newest_made : IsNewest 1 3 part
+newest_made = record {
+  written = ((λ _. omega arith), tt);
+  seen = tt;
+  whole = λ e. absurd (omega (arith, e));
+}
+
+pub newest_later : IsNewest 1 4 part
+newest_later = record {
+  written = ((λ _. omega arith), tt);
+  seen = tt;
+  whole = λ e. absurd (omega (arith, e));
+}
+
+pub not_second : IsNewest 1 2 part → ⊥
+not_second n = let e = n.written.0 refl in omega (arith, e)
+
+-- with the whole share no one else wrote it
+pub not_foreign : IsNewest 1 4 whole → ⊥
+not_foreign n = let e = n.whole refl in omega (arith, e)

@@ -1,0 +1,316 @@
+-- Worked passes and claims: what meets each definition, and what breaks one of its parts alone.
+use Rattle.std.proofs.Common.{◌≡◌, ◌≢◌, ℕ, zero, suc, ◌+◌, ◌^◌, ◌<◌, ◌≤◌, true, false, List, [], ◌∷◌, length, replicate, get_or, refl, sym, ap, ◌∙◌, subst, inr, true≢false, lit<, lit≤, arith}
+use Rattle.std.proofs.lemmas.Bool.{eqb-false}
+use Rattle.atomic_table.specs.Seated.{TableId}
+use Rattle.atomic_table.specs.Table.{Step}
+use Rattle.cb_types.specs.declared.config.Config.{Config}
+use Rattle.cb_types.specs.declared.config.Field.TheVariants.{K, R, Nodes, Frames, Room, Handles, Turns}
+use Rattle.cb_types.specs.Config.{IsAccepted}
+use Rattle.cb_ptr.specs.Word.{state_number}
+use Rattle.cb_world.specs.Empty.{empty_far, empty_shown}
+use Rattle.cb_world.specs.FarState.{FarState}
+use Rattle.cb_world.specs.Written.{entry}
+use Rattle.cb_rule.specs.declared.view.Held.{Held}
+use Rattle.cb_rule.specs.declared.view.View.{View}
+use Rattle.cb_rule.specs.Slot.{Sat, Slot}
+use Rattle.cb_rule.specs.Steps.{freed_seen, held_at, joined, left_of, right_of, stand}
+use Rattle.cb_shared.specs.declared.pass.Pass.{Pass}
+use Rattle.cb_shared.specs.declared.runtime.Shared.{Shared}
+use Rattle.cb_shared.specs.Claims.{IsAsBefore, IsFreshClaim, IsNextOf, IsWithin}
+use Rattle.cb_shared.specs.Handles.{IsFirstAt}
+use Rattle.cb_shared.specs.Joining.{IsSpare, unpinned_all}
+use Rattle.cb_shared.specs.Passes.{IsAtRest, IsBegun, IsFirst, IsPassOf, Stood}
+use Rattle.cb_shared.specs.Places.{Place}
+use Rattle.cb_shared.specs.Tallies.{tallied}
+use Rattle.cb_shared.proofs.Begun.{stood_empty}
+use Rattle.cb_shared.proofs.WorkedGround.{a_stand, calm, made, part, pinned, two, whole}
+use Rattle.cb_shared.proofs.WorkedWrites.{write_it}
+
+abbrev roomy : Config
+roomy = record two { room = 7 }
+
+abbrev no_frames : Config
+no_frames = record two { frames = 0 }
+
+-- ---- a record between calls
+lies : (place j : ℕ) → place < 512 → j < 1 → place + j < 512
+lies place j a b = omega (arith, a, b)
+
+at_rest : IsAtRest two record part { pins = a_stand ∷ [] }
+at_rest = record {
+  config = refl;
+  live = lit≤ tt;
+  most = lit≤ tt;
+  claims = refl;
+  fresh = refl;
+  written = (lit< tt, tt);
+  seen = tt;
+  pins = ((lit< tt, λ j below. lies 5 j (lit< tt) below), tt);
+}
+
+another_config : IsAtRest roomy part → ⊥
+another_config r = eqb-false 6 7 refl (ap (λ (c : Config). c.room) r.config)
+
+no_share : IsAtRest two record part { share = 0 } → ⊥
+no_share r = let e : 1 ≤ 0 = r.live in omega (arith, e)
+
+too_much_share : IsAtRest two record part { share = 65 } → ⊥
+too_much_share r = let e : 65 ≤ 64 = r.most in omega (arith, e)
+
+claims_one : IsAtRest two record part { claims = held_at 1 calm 3 (2826 ∷ []) ∷ [] } → ⊥
+claims_one r = eqb-false 1 0 refl (ap (λ (xs : List Held). length xs) r.claims)
+
+within_a_turn : IsAtRest two record part { fresh = made ∷ [] } → ⊥
+within_a_turn r = eqb-false 1 0 refl (ap length r.fresh)
+
+wrote_no_object : IsAtRest two record part { written = entry 2 3 8 [] (2826 ∷ []) ∷ [] } → ⊥
+wrote_no_object r = let e : 2 < 2 = r.written.0 in omega (arith, e)
+
+read_no_object : IsAtRest two record part { seen = freed_seen 2 4 ∷ [] } → ⊥
+read_no_object r = let e : 2 < 2 = r.seen.0 in omega (arith, e)
+
+pins_no_object : IsAtRest two record part { pins = stand 2 8 5 3 (2826 ∷ []) ∷ [] } → ⊥
+pins_no_object r = let e : 2 < 2 = r.pins.0.0 in omega (arith, e)
+
+pins_past_memory : IsAtRest two record part { pins = stand 1 8 512 3 (2826 ∷ []) ∷ [] } → ⊥
+pins_past_memory r = let e : 512 + 0 < 512 = r.pins.0.1 0 (lit< tt) in omega (arith, e)
+
+-- ---- the far state that the first pass stands on
+accepted : IsAccepted two
+accepted K = (lit≤ tt, lit≤ tt)
+accepted R = (lit≤ tt, lit≤ tt)
+accepted Nodes = (lit≤ tt, lit≤ tt)
+accepted Frames = (lit≤ tt, lit≤ tt)
+accepted Room = (lit≤ tt, lit≤ tt)
+accepted Handles = (lit≤ tt, lit≤ tt)
+accepted Turns = lit≤ tt
+
+stood : Stood two (empty_shown 3 two) (empty_far 3 two)
+stood = stood_empty 3 two (lit≤ tt) accepted
+
+made_without_version : Stood two (empty_shown 3 two) (record (empty_far 3 two) { made = 1 }) → ⊥
+made_without_version s =
+    let e : 3 ≤ 0 = s.sound.here.known.versioned 0 (lit< tt) in omega (arith, e)
+
+less_room : Stood roomy (empty_shown 3 two) (empty_far 3 two) → ⊥
+less_room s = eqb-false 6 7 refl (s.configured.room)
+
+uncounted_turn : Stood two (empty_shown 3 two) (record (empty_far 3 two) {
+  counts = record { turns = 1; by_job = replicate 19 0; sets = 0; keys = 0 };
+}) → ⊥
+uncounted_turn s = eqb-false 0 1 refl (s.counted.jobs)
+
+-- ---- the first pass, and a pass of a runtime: each part is one that cannot be left out
+without_lock : (s : Shared) (p : Pass) → p.seat.me.0.holds ≡ false → IsFirst s p → ⊥
+without_lock s p e f = true≢false (sym f.holds ∙ e)
+
+not_accepted : (s : Shared) (p : Pass) → (IsAccepted s.config → ⊥) → IsFirst s p → ⊥
+not_accepted s p n f = n f.accepted
+
+not_stood : (s : Shared) (p : Pass) → (Stood s.config p.seat.me.0.known s.far → ⊥) → IsFirst s p
+    → ⊥
+not_stood s p n f = n f.stood
+
+of_another_table : (s : Shared) (p : Pass) → (p.seat.table_id ≡ s.board.shared.table_id → ⊥)
+    → IsPassOf s p → ⊥
+of_another_table s p n f = n f.table
+
+spent_pass : (s : Shared) (p : Pass) → p.seat.me.0.share ≡ 0 → IsPassOf s p → ⊥
+spent_pass s p e f = let live = f.rest.live in omega (arith, e, live)
+
+-- ---- the start
+of_another_config : (s : Shared) (p : Pass) → s.config ≡ roomy → IsBegun 3 two s p → ⊥
+of_another_config s p e b = eqb-false 7 6 refl (ap (λ (c : Config). c.room) (sym e ∙ b.config))
+
+of_another_first : (s : Shared) (p : Pass) → s.far ≡ empty_far 4 two → IsBegun 3 two s p → ⊥
+of_another_first s p e b = eqb-false 4 3 refl (ap (λ (f : FarState). f.first) (sym e ∙ b.far))
+
+begun_with_an_entry : (s : Shared) (p : Pass) → p.seat.me.0 ≡ whole → IsBegun 3 two s p → ⊥
+begun_with_an_entry s p e b =
+    eqb-false 1 0 refl (ap (λ (v : View). length v.written) (sym e ∙ b.begun))
+
+begun_of_another : (s : Shared) (p : Pass) → (IsPassOf s p → ⊥) → IsBegun 3 two s p → ⊥
+begun_of_another s p n b = n b.of
+
+begun_not_first : (s : Shared) (p : Pass) → (IsFirst s p → ⊥) → IsBegun 3 two s p → ⊥
+begun_not_first s p n b = n b.is_first
+
+-- ---- a claim directly after the exchange
+abbrev claim : Held
+claim = held_at 1 calm 3 (2826 ∷ [])
+
+fresh_claim : (p : Place) → p.me.0.claims ≡ claim ∷ [] → IsFreshClaim two 1 calm 3 (2826 ∷ []) p
+fresh_claim p e = record {
+  only = e;
+  lies = λ j below. lies 5 j (lit< tt) below;
+  below = lit< tt;
+  whole = refl;
+}
+
+no_claim : (p : Place) → p.me.0.claims ≡ [] → IsFreshClaim two 1 calm 3 (2826 ∷ []) p → ⊥
+no_claim p e f = eqb-false 0 1 refl (ap (λ (xs : List Held). length xs) (sym e ∙ f.only))
+
+claimed_past_memory : (p : Place) → IsFreshClaim no_frames 1 calm 3 (2826 ∷ []) p → ⊥
+claimed_past_memory p f = let e : 5 + 0 < 0 = f.lies 0 (lit< tt) in omega (arith, e)
+
+too_wide : (p : Place) → IsFreshClaim two 1 (calm + 2 ^ 53) 3 (2826 ∷ []) p → ⊥
+too_wide p f = let e = f.below in omega (arith, e)
+
+no_words : (p : Place) → IsFreshClaim two 1 calm 3 [] p → ⊥
+no_words p f = eqb-false 0 1 refl (f.whole)
+
+-- ---- a claim under which one write and the next version were stored, and the hot word
+abbrev stored : Held
+stored = record claim { stamp = 4; memory = 3082 ∷ [] }
+
+abbrev warm : ℕ
+warm = 2684420102
+
+is_next : IsNextOf stored warm
+is_next = record {
+  below = lit< tt;
+  here = refl;
+  bare = refl;
+  hot = refl;
+  len = refl;
+  place = refl;
+  next = refl;
+  write = (1, 12 ∷ [], lit≤ tt, write_it);
+}
+
+next_too_wide : IsNextOf stored (warm + 2 ^ 53) → ⊥
+next_too_wide n = let e = n.below in omega (arith, e)
+
+next_moving : IsNextOf stored (warm + 1) → ⊥
+next_moving n = eqb-false 3 2 refl (ap state_number n.here)
+
+next_pinned : IsNextOf stored pinned → ⊥
+next_pinned n = eqb-false 1 0 refl (n.bare)
+
+next_cold : IsNextOf stored calm → ⊥
+next_cold n = true≢false (sym n.hot)
+
+next_longer : IsNextOf record stored { len = 16 } warm → ⊥
+next_longer n = eqb-false 8 16 refl (n.len)
+
+next_elsewhere : IsNextOf record stored { place = 6 } warm → ⊥
+next_elsewhere n = eqb-false 5 6 refl (n.place)
+
+next_same_version : IsNextOf record stored { stamp = 3 } warm → ⊥
+next_same_version n = eqb-false 3 4 refl (n.next)
+
+next_of_another_size : IsNextOf record stored { memory = 3082 ∷ 0 ∷ [] } warm → ⊥
+next_of_another_size n = eqb-false 2 1 refl (n.write.3.sized)
+
+-- an object of one byte, whose byte 1 is changed
+next_past_the_end : IsNextOf record stored { len = 1 } 2684362758 → ⊥
+next_past_the_end n = eqb-false 12 11 refl (n.write.3.outside 1 (lit< tt) (inr n.write.2))
+
+-- ---- a claim with nothing stored
+as_before : IsAsBefore claim calm
+as_before = record { word = refl; version = refl; memory = refl }
+
+another_word : IsAsBefore claim warm → ⊥
+another_word b = eqb-false warm calm refl (b.word)
+
+another_stamp : IsAsBefore record claim { stamp = 4 } calm → ⊥
+another_stamp b = eqb-false 4 3 refl (b.version)
+
+another_memory : IsAsBefore record claim { memory = 3082 ∷ [] } calm → ⊥
+another_memory b = eqb-false 3082 2826 refl (ap (λ (xs : List ℕ). get_or xs 0 0) b.memory)
+
+-- ---- bytes of a claimed object
+is_within : IsWithin two claim 5 1 1
+is_within = record {
+  there = refl;
+  inside = lit≤ tt;
+  short = lit< tt;
+  lies = λ j below. lies 5 j (lit< tt) below;
+  whole = refl;
+}
+
+elsewhere : IsWithin two claim 6 1 1 → ⊥
+elsewhere w = eqb-false 5 6 refl (w.there)
+
+past_the_end : IsWithin two claim 5 8 1 → ⊥
+past_the_end w = let e : 9 ≤ 8 = w.inside in omega (arith, e)
+
+too_long : IsWithin (record two { frames = 20 })
+    record claim { len = 65536; memory = replicate 8192 0 } 5 1 1 → ⊥
+too_long w = let e : 65536 < 65536 = w.short in omega (arith, e)
+
+past_memory : IsWithin no_frames claim 5 1 1 → ⊥
+past_memory w = let e : 5 + 0 < 0 = w.lies 0 (lit< tt) in omega (arith, e)
+
+without_words : IsWithin two record claim { memory = [] } 5 1 1 → ⊥
+without_words w = eqb-false 0 1 refl (w.whole)
+
+-- ---- a look at how large the share may be
+tallied_whole : (st : Step Slot) → tallied st (whole, []) 0 (whole, [])
+tallied_whole st = (refl, lit≤ tt)
+
+tallied_another : (st : Step Slot) → tallied st (whole, []) 0 (part, []) → ⊥
+tallied_another st t = eqb-false 40 64 refl (ap (λ (m : Sat). m.0.share) t.0)
+
+tallied_over : (st : Step Slot)
+    → tallied st (record whole { share = 65 }, []) 0 (record whole { share = 65 }, []) → ⊥
+tallied_over st t = let e : 65 ≤ 64 = t.1 in omega (arith, e)
+
+-- ---- a seat that may be taken in
+abbrev spare_view : View
+spare_view = right_of 24 part
+
+spare : (z : TableId) (p : Place) → p.table_id ≡ z → p.me ≡ (spare_view, []) → IsSpare z p
+spare z p t e = record {
+  table = t;
+  carries = ap (λ (m : Sat). m.1) e;
+  live = subst (λ (m : Sat). 1 ≤ m.0.share) (sym e) (lit≤ tt);
+  no_pins = ap (λ (m : Sat). m.0.pins) e;
+  no_claims = ap (λ (m : Sat). m.0.claims) e;
+  free = ap (λ (m : Sat). m.0.holds) e;
+}
+
+spare_elsewhere : (z : TableId) (p : Place) → (p.table_id ≡ z → ⊥) → IsSpare z p → ⊥
+spare_elsewhere z p n s = n s.table
+
+spare_spent : (z : TableId) (p : Place) → p.me.0.share ≡ 0 → IsSpare z p → ⊥
+spare_spent z p e s = let live = s.live in omega (arith, e, live)
+
+spare_pinning : (z : TableId) (p : Place) → p.me.0.pins ≡ a_stand ∷ [] → IsSpare z p → ⊥
+spare_pinning z p e s = eqb-false 1 0 refl (ap length (sym e ∙ s.no_pins))
+
+spare_claiming : (z : TableId) (p : Place) → p.me.0.claims ≡ claim ∷ [] → IsSpare z p → ⊥
+spare_claiming z p e s = eqb-false 1 0 refl (ap length (sym e ∙ s.no_claims))
+
+spare_locking : (z : TableId) (p : Place) → p.me.0.holds ≡ true → IsSpare z p → ⊥
+spare_locking z p e s = true≢false (sym e ∙ s.free)
+
+-- the other's pins are given back before, and its share and what it read are taken in
+joins_no_pins : (joined part (unpinned_all record spare_view { pins = a_stand ∷ [] })).pins ≡ []
+joins_no_pins = refl
+
+joins_share : (joined (left_of 24 part) (unpinned_all spare_view)).share ≡ 40
+joins_share = refl
+
+joins_read : (joined part (unpinned_all spare_view)).seen ≡ spare_view.seen
+joins_read = refl
+
+-- ---- the first place of a handle
+abbrev three : List ℕ
+three = 4 ∷ 1 ∷ 1 ∷ []
+
+second_is_first : IsFirstAt three 1 1
+second_is_first = record { within = lit< tt; here = refl; before = before }
+  where
+    before : (i : ℕ) → i < 1 → get_or three i 0 ≡ 1 → ⊥
+    before zero below = λ e. eqb-false 4 1 refl e
+    before (suc i) below = absurd (omega (arith, below))
+
+third_is_not : IsFirstAt three 1 2 → ⊥
+third_is_not f = f.before 1 (lit< tt) refl
+
+another_handle : IsFirstAt three 1 0 → ⊥
+another_handle f = eqb-false 4 1 refl (f.here)
+
+behind_the_last : IsFirstAt (4 ∷ []) 0 1 → ⊥
+behind_the_last f = let e : 1 < 1 = f.within in omega (arith, e)

@@ -1,0 +1,170 @@
+-- Worked pins: what meets each definition, and what breaks one of its parts alone.
+use Rattle.std.proofs.Common.{◌≡◌, ℕ, ◌+◌, List, [], ◌∷◌, length, replicate, refl, sym, ap, ◌∙◌, subst, inl, inr}
+use Rattle.std.proofs.lemmas.Bool.{eqb-false}
+use Rattle.cb_ptr.specs.Word.{len_of, place_of, pins_of, state_of, state_number}
+use Rattle.cb_ptr.specs.declared.word.State.TheVariants as state
+use Rattle.cb_rule.specs.declared.view.Seen.{Seen}
+use Rattle.cb_rule.specs.declared.view.Stand.{Stand}
+use Rattle.cb_rule.specs.declared.view.View.{View}
+use Rattle.cb_rule.specs.Steps.{IsNewest, with_freed, with_look, with_pin}
+use Rattle.cb_shared.specs.declared.answers.PinAnswer.TheVariants.{Pinned, ScopeFull, Freed, NotHere, Moving, Crowded, Raced}
+use Rattle.cb_shared.specs.Passes.{IsPinOf}
+use Rattle.cb_shared.specs.Pinning.{FindsFreed, IsPinned, LooksOnce, LoosesRace, PinGives}
+use Rattle.cb_shared.proofs.WorkedGround.{a_pin, a_stand, away, calm, full, last_look, last_state, moving, newest_later, newest_made, not_foreign, not_second, part, pinned, whole}
+
+abbrev looks_of : View → ℕ
+looks_of v = length v.looks
+
+-- ---- a pin at a word, of a version
+abbrev taken : ℕ → ℕ → View
+taken w version = with_pin 1 w version (2826 ∷ []) (with_look 1 w part)
+
+is_pinned : IsPinned 1 (a_pin 1 3 8 5) part (taken calm 3)
+is_pinned = record {
+  word = calm;
+  words = 2826 ∷ [];
+  here = refl;
+  handle = refl;
+  len = refl;
+  place = refl;
+  newest = newest_made;
+  left = refl;
+}
+
+moving_pinned : IsPinned 1 (a_pin 1 3 8 5) part (taken moving 3) → ⊥
+moving_pinned p = eqb-false 3 2 refl (ap last_state p.left ∙ ap state_number p.here)
+
+another_object : IsPinned 1 (a_pin 0 3 8 5) part (taken calm 3) → ⊥
+another_object p = eqb-false 0 1 refl (p.handle)
+
+another_length : IsPinned 1 (a_pin 1 3 16 5) part (taken calm 3) → ⊥
+another_length p = eqb-false 16 8 refl (p.len ∙ ap len_of (sym (ap last_look p.left)))
+
+another_place : IsPinned 1 (a_pin 1 3 8 6) part (taken calm 3) → ⊥
+another_place p = eqb-false 6 5 refl (p.place ∙ ap place_of (sym (ap last_look p.left)))
+
+older_version : IsPinned 1 (a_pin 1 2 8 5) part (taken calm 2) → ⊥
+older_version p = not_second p.newest
+
+foreign_version : IsPinned 1 (a_pin 1 4 8 5) whole
+    (with_pin 1 calm 4 (2826 ∷ []) (with_look 1 calm whole)) → ⊥
+foreign_version p = not_foreign p.newest
+
+-- without the look, without the version as read, or with others of its words
+not_looked : IsPinned 1 (a_pin 1 3 8 5) part (with_pin 1 calm 3 (2826 ∷ []) part) → ⊥
+not_looked p = eqb-false 1 2 refl (ap looks_of p.left)
+
+not_read : IsPinned 1 (a_pin 1 3 8 5) part (record (taken calm 3) { seen = [] }) → ⊥
+not_read p = eqb-false 0 1 refl (ap (λ (v : View). length v.seen) p.left)
+
+not_counted : IsPinned 1 (a_pin 1 3 8 5) part (record (taken calm 3) { ever = 0 }) → ⊥
+not_counted p = eqb-false 0 1 refl (ap (λ (v : View). v.ever) p.left)
+
+-- ---- the answers, each for its word
+by_pin : PinGives 1 (Pinned (a_pin 1 3 8 5)) part (taken calm 3)
+by_pin = is_pinned
+
+abbrev many : ℕ → View
+many n = record part { pins = replicate n a_stand }
+
+scope_full : PinGives 1 ScopeFull (many 16) (many 16)
+scope_full = (refl, refl)
+
+fifteen : PinGives 1 ScopeFull (many 15) (many 15) → ⊥
+fifteen g = eqb-false 15 16 refl (g.0)
+
+full_and_looked : PinGives 1 ScopeFull (many 16) (with_look 1 calm (many 16)) → ⊥
+full_and_looked g = eqb-false 1 0 refl (ap looks_of g.1)
+
+is_away : PinGives 1 NotHere part (with_look 1 away part)
+is_away = (away, refl, refl)
+
+here_not_away : PinGives 1 NotHere part (with_look 1 calm part) → ⊥
+here_not_away g = eqb-false 2 1 refl (ap last_state g.2 ∙ ap state_number g.1)
+
+is_moving : PinGives 1 Moving part (with_look 1 moving part)
+is_moving = (moving, refl, refl)
+
+away_not_moving : PinGives 1 Moving part (with_look 1 away part) → ⊥
+away_not_moving g = eqb-false 1 3 refl (ap last_state g.2 ∙ ap state_number g.1)
+
+is_crowded : PinGives 1 Crowded part (with_look 1 full part)
+is_crowded = (full, (refl, refl), refl)
+
+not_crowded : PinGives 1 Crowded part (with_look 1 pinned part) → ⊥
+not_crowded g =
+    eqb-false 1 1023 refl (ap (λ (v : View). pins_of (last_look v)) g.2 ∙ g.1.1)
+
+crowded_moving : PinGives 1 Crowded part (with_look 1 (full + 1) part) → ⊥
+crowded_moving g = eqb-false 3 2 refl (ap last_state g.2 ∙ ap state_number g.1.0)
+
+by_freed : PinGives 1 Freed part (with_freed 1 4 0 part)
+by_freed = (0, 4, refl, newest_later, refl)
+
+by_race : PinGives 1 (Raced calm moving) part (with_look 1 moving (with_look 1 calm part))
+by_race = ((λ e. eqb-false moving calm refl e), refl)
+
+-- ---- no look, and two
+no_look : LooksOnce 1 part part (λ n. state_of n ≡ state.Far) → ⊥
+no_look g = eqb-false 0 1 refl (ap looks_of g.2)
+
+two_looks : LooksOnce 1 part (with_look 1 away (with_look 1 away part))
+    (λ n. state_of n ≡ state.Far) → ⊥
+two_looks g = eqb-false 2 1 refl (ap looks_of g.2)
+
+-- ---- freed
+abbrev version_read : List Seen → ℕ
+version_read [] = 0
+version_read (x ∷ xs) = x.version
+
+freed_here : FindsFreed 1 part (with_freed 1 4 calm part) → ⊥
+freed_here g = eqb-false 2 0 refl (ap last_state g.4 ∙ ap state_number g.2)
+
+freed_before : FindsFreed 1 part (with_freed 1 2 0 part) → ⊥
+freed_before g =
+    let e : 2 ≡ g.1 = ap (λ (v : View). version_read v.seen) g.4 in
+    not_second (subst (λ (n : ℕ). IsNewest 1 n part) (sym e) g.3)
+
+freed_by_another : FindsFreed 1 whole (with_freed 1 4 0 whole) → ⊥
+freed_by_another g =
+    let e : 4 ≡ g.1 = ap (λ (v : View). version_read v.seen) g.4 in
+    not_foreign (subst (λ (n : ℕ). IsNewest 1 n whole) (sym e) g.3)
+
+freed_unread : FindsFreed 1 part (with_look 1 0 part) → ⊥
+freed_unread g = eqb-false 0 1 refl (ap (λ (v : View). length v.seen) g.4)
+
+-- ---- a race: the same word, and the looks in the other order
+no_race : LoosesRace 1 calm calm part (with_look 1 calm (with_look 1 calm part)) → ⊥
+no_race g = g.0 refl
+
+other_order : LoosesRace 1 calm moving part (with_look 1 calm (with_look 1 moving part)) → ⊥
+other_order g = eqb-false calm moving refl (ap last_look g.1)
+
+one_look : LoosesRace 1 calm moving part (with_look 1 moving part) → ⊥
+one_look g = eqb-false 1 2 refl (ap looks_of g.1)
+
+-- ---- a pin that the record has, and others
+abbrev with_one : View
+with_one = record part { pins = a_stand ∷ [] }
+
+has_pin : IsPinOf (a_pin 1 3 8 5) with_one
+has_pin = (2826 ∷ [], inl refl)
+
+no_pin : IsPinOf (a_pin 1 3 8 5) part → ⊥
+no_pin g = absurd (g.1)
+
+other_object : IsPinOf (a_pin 0 3 8 5) with_one → ⊥
+other_object (words, inl e) = eqb-false 1 0 refl (ap (λ (s : Stand). s.handle) e)
+other_object (words, inr n) = absurd n
+
+other_version : IsPinOf (a_pin 1 4 8 5) with_one → ⊥
+other_version (words, inl e) = eqb-false 3 4 refl (ap (λ (s : Stand). s.version) e)
+other_version (words, inr n) = absurd n
+
+other_length : IsPinOf (a_pin 1 3 16 5) with_one → ⊥
+other_length (words, inl e) = eqb-false 8 16 refl (ap (λ (s : Stand). s.len) e)
+other_length (words, inr n) = absurd n
+
+other_place : IsPinOf (a_pin 1 3 8 6) with_one → ⊥
+other_place (words, inl e) = eqb-false 5 6 refl (ap (λ (s : Stand). s.place) e)
+other_place (words, inr n) = absurd n

@@ -1,0 +1,226 @@
+-- Worked writes: what meets each definition, and what breaks one of its parts alone.
+use Rattle.std.proofs.Common.{◌≡◌, ◌⊎◌, ℕ, zero, suc, ◌+◌, ◌<◌, ◌≤◌, List, [], ◌∷◌, length, get_or, refl, sym, ap, ◌∙◌, subst, inl, inr, lit<, lit≤, arith}
+use Rattle.std.proofs.lemmas.Bool.{eqb-false}
+use Rattle.cb_ptr.specs.Word.{len_of, pins_of, state_number}
+use Rattle.cb_world.specs.Memory.{byte_at}
+use Rattle.cb_world.specs.Write.{IsWrite}
+use Rattle.cb_world.specs.Written.{entry}
+use Rattle.cb_rule.specs.declared.view.View.{View}
+use Rattle.cb_rule.specs.Steps.{IsNewest, with_freed, with_look}
+use Rattle.cb_shared.specs.declared.answers.WriteAnswer.TheVariants.{Ok, Freed, NotHere, Moving, Range, Pinned, Worn, Raced}
+use Rattle.cb_shared.specs.Writing.{IsPastEnd, IsPinnedSo, IsWorn, IsWrittenHere, WriteGives}
+use Rattle.cb_shared.proofs.WorkedGround.{a_stand, away, calm, last_look, last_state, moving, newest_later, newest_made, not_foreign, not_second, part, pinned, version_in, whole, words_in}
+
+abbrev looks_of : View → ℕ
+looks_of v = length v.looks
+
+-- ---- 0c in place of the object's byte 1
+pub write_it : IsWrite (2826 ∷ []) 1 (12 ∷ []) (3082 ∷ [])
+write_it = record { sized = refl; inside = inside; outside = outside }
+  where
+    inside : (i : ℕ) → i < 1 → byte_at (3082 ∷ []) (1 + i) ≡ get_or (12 ∷ []) i 0
+    inside zero below = refl
+    inside (suc i) below = absurd (omega (arith, below))
+
+    outside : (p : ℕ) → p < 8 → (p < 1) ⊎ (2 ≤ p) → byte_at (3082 ∷ []) p ≡ byte_at (2826 ∷ []) p
+    outside zero below side = refl
+    outside (suc zero) below (inl before) = absurd (omega (arith, before))
+    outside (suc zero) below (inr behind) = absurd (omega (arith, behind))
+    outside (suc (suc zero)) below side = refl
+    outside (suc (suc (suc zero))) below side = refl
+    outside (suc (suc (suc (suc zero)))) below side = refl
+    outside (suc (suc (suc (suc (suc zero))))) below side = refl
+    outside (suc (suc (suc (suc (suc (suc zero)))))) below side = refl
+    outside (suc (suc (suc (suc (suc (suc (suc zero))))))) below side = refl
+    outside (suc (suc (suc (suc (suc (suc (suc (suc p)))))))) below side = absurd (omega
+        (arith, below))
+
+-- two looks at a word, and the entry of a version with these words
+abbrev changed : ℕ → ℕ → List ℕ → View → View
+changed w version new v = record (with_look 1 w (with_look 1 w v)) {
+  written = entry 1 version 8 (2826 ∷ []) new ∷ v.written;
+}
+
+is_written : IsWrittenHere 1 1 (12 ∷ []) 4 part (changed calm 4 (3082 ∷ []) part)
+is_written = record {
+  word = calm;
+  old = 2826 ∷ [];
+  new = 3082 ∷ [];
+  last = 3;
+  room = (refl, lit≤ tt);
+  bare = refl;
+  newest = newest_made;
+  next = refl;
+  write = write_it;
+  left = refl;
+}
+
+-- another one wrote version 4 between
+is_written_later : IsWrittenHere 1 1 (12 ∷ []) 5 part (changed calm 5 (3082 ∷ []) part)
+is_written_later = record {
+  word = calm;
+  old = 2826 ∷ [];
+  new = 3082 ∷ [];
+  last = 4;
+  room = (refl, lit≤ tt);
+  bare = refl;
+  newest = newest_later;
+  next = refl;
+  write = write_it;
+  left = refl;
+}
+
+-- with the whole share no one can have
+not_later : IsWrittenHere 1 1 (12 ∷ []) 5 whole (changed calm 5 (3082 ∷ []) whole) → ⊥
+not_later p =
+    let next = p.next in let e : p.last ≡ 4 = omega (arith, next) in
+    not_foreign (subst (λ (n : ℕ). IsNewest 1 n whole) e p.newest)
+
+same_version : IsWrittenHere 1 1 (12 ∷ []) 3 part (changed calm 3 (3082 ∷ []) part) → ⊥
+same_version p =
+    let next = p.next in let e : p.last ≡ 2 = omega (arith, next) in
+    not_second (subst (λ (n : ℕ). IsNewest 1 n part) e p.newest)
+
+no_next : IsWrittenHere 1 1 (12 ∷ []) 0 part (changed calm 0 (3082 ∷ []) part) → ⊥
+no_next p = let next = p.next in omega (arith, next)
+
+while_moving : IsWrittenHere 1 1 (12 ∷ []) 4 part (changed moving 4 (3082 ∷ []) part) → ⊥
+while_moving p = eqb-false 3 2 refl (ap last_state p.left ∙ ap state_number p.room.0)
+
+while_pinned : IsWrittenHere 1 1 (12 ∷ []) 4 part (changed pinned 4 (3082 ∷ []) part) → ⊥
+while_pinned p =
+    eqb-false 1 0 refl (ap (λ (v : View). pins_of (last_look v)) p.left ∙ p.bare)
+
+past_the_end : IsWrittenHere 1 8 (12 ∷ []) 4 part (changed calm 4 (3082 ∷ []) part) → ⊥
+past_the_end p =
+    let e : calm ≡ p.word = ap last_look p.left in
+    let z : 9 ≤ 8 = subst (λ (n : ℕ). 9 ≤ len_of n) (sym e) p.room.1 in omega (arith, z)
+
+not_the_bytes : IsWrittenHere 1 1 (12 ∷ []) 4 part (changed calm 4 (2826 ∷ []) part) → ⊥
+not_the_bytes p = eqb-false 11 12 refl
+    (ap (λ (v : View). byte_at (words_in v.written) 1) p.left ∙ p.write.inside 0 (lit< tt))
+
+no_entry : IsWrittenHere 1 1 (12 ∷ []) 4 part (with_look 1 calm (with_look 1 calm part)) → ⊥
+no_entry p = eqb-false 1 2 refl (ap (λ (v : View). length v.written) p.left)
+
+another_entry : IsWrittenHere 1 1 (12 ∷ []) 4 part (changed calm 5 (3082 ∷ []) part) → ⊥
+another_entry p = eqb-false 5 4 refl (ap (λ (v : View). version_in v.written) p.left)
+
+one_look : IsWrittenHere 1 1 (12 ∷ []) 4 part record (changed calm 4 (3082 ∷ []) part) {
+  looks = (with_look 1 calm part).looks;
+} → ⊥
+one_look p = eqb-false 1 2 refl (ap looks_of p.left)
+
+-- ---- a version that has no next one
+abbrev last_made : View
+last_made = record part { written = entry 1 18446744073709551615 8 [] (2826 ∷ []) ∷ [] }
+
+abbrev twice : ℕ → View → View
+twice w v = with_look 1 w (with_look 1 w v)
+
+is_worn : IsWorn 1 1 1 last_made (twice calm last_made)
+is_worn = record {
+  word = calm;
+  room = (refl, lit≤ tt);
+  bare = refl;
+  newest = record {
+    written = ((λ _. lit≤ tt), tt);
+    seen = tt;
+    whole = λ e. absurd (omega (arith, e));
+  };
+  left = refl;
+}
+
+worn_moving : IsWorn 1 1 1 last_made (twice moving last_made) → ⊥
+worn_moving p = eqb-false 3 2 refl (ap last_state p.left ∙ ap state_number p.room.0)
+
+worn_past_the_end : IsWorn 1 8 1 last_made (twice calm last_made) → ⊥
+worn_past_the_end p =
+    let e : calm ≡ p.word = ap last_look p.left in
+    let z : 9 ≤ 8 = subst (λ (n : ℕ). 9 ≤ len_of n) (sym e) p.room.1 in omega (arith, z)
+
+worn_pinned : IsWorn 1 1 1 last_made (twice pinned last_made) → ⊥
+worn_pinned p = eqb-false 1 0 refl (ap (λ (v : View). pins_of (last_look v)) p.left ∙ p.bare)
+
+-- it alone writes, and wrote version 3
+not_worn : IsWorn 1 1 1 whole (twice calm whole) → ⊥
+not_worn p = let e : 0 < 0 = p.newest.whole refl in omega (arith, e)
+
+worn_and_written : IsWorn 1 1 1 last_made (changed calm 4 (3082 ∷ []) last_made) → ⊥
+worn_and_written p = eqb-false 2 1 refl (ap (λ (v : View). length v.written) p.left)
+
+-- ---- past the end
+ninth_byte : IsPastEnd 8 1 8 calm
+ninth_byte = (refl, refl, lit< tt)
+
+end_of_moving : IsPastEnd 8 1 8 moving → ⊥
+end_of_moving g = eqb-false 3 2 refl (ap state_number g.0)
+
+another_end : IsPastEnd 8 1 7 calm → ⊥
+another_end g = eqb-false 8 7 refl (g.1)
+
+eighth_byte : IsPastEnd 7 1 8 calm → ⊥
+eighth_byte g = let e : 8 < 8 = g.2 in omega (arith, e)
+
+-- ---- pins of others, and with the whole share its own alone
+abbrev with_one : View
+with_one = record whole { pins = a_stand ∷ [] }
+
+pinned_by_another : IsPinnedSo 1 1 part pinned
+pinned_by_another = (refl, lit≤ tt, λ e. absurd (omega (arith, e)))
+
+pinned_by_itself : IsPinnedSo 1 1 with_one pinned
+pinned_by_itself = (refl, lit≤ tt, λ _. refl)
+
+another_count : IsPinnedSo 1 2 part pinned → ⊥
+another_count g = eqb-false 1 2 refl (g.0)
+
+no_pins : IsPinnedSo 1 0 part calm → ⊥
+no_pins g = let e : 1 ≤ 0 = g.1 in omega (arith, e)
+
+no_one_else : IsPinnedSo 1 1 whole pinned → ⊥
+no_one_else g = eqb-false 1 0 refl (g.2 refl)
+
+-- ---- the answers, each for its word
+by_write : WriteGives 1 1 (12 ∷ []) (Ok 4) part (changed calm 4 (3082 ∷ []) part)
+by_write = is_written
+
+by_freed : WriteGives 1 1 (12 ∷ []) Freed part (with_freed 1 4 0 part)
+by_freed = (0, 4, refl, newest_later, refl)
+
+by_place : WriteGives 1 1 (12 ∷ []) NotHere part (with_look 1 away part)
+by_place = (away, refl, refl)
+
+here_not_away : WriteGives 1 1 (12 ∷ []) NotHere part (with_look 1 calm part) → ⊥
+here_not_away g = eqb-false 2 1 refl (ap last_state g.2 ∙ ap state_number g.1)
+
+by_move : WriteGives 1 1 (12 ∷ []) Moving part (with_look 1 moving part)
+by_move = (moving, refl, refl)
+
+away_not_moving : WriteGives 1 1 (12 ∷ []) Moving part (with_look 1 away part) → ⊥
+away_not_moving g = eqb-false 1 3 refl (ap last_state g.2 ∙ ap state_number g.1)
+
+by_range : WriteGives 1 8 (12 ∷ []) (Range 8) part (with_look 1 calm part)
+by_range = (calm, ninth_byte, refl)
+
+in_range : WriteGives 1 7 (12 ∷ []) (Range 8) part (with_look 1 calm part) → ⊥
+in_range g = let e : 8 < 8 = g.1.2 in omega (arith, e)
+
+by_pins : WriteGives 1 1 (12 ∷ []) (Pinned 1) part (with_look 1 pinned part)
+by_pins = (pinned, ((refl, lit≤ tt), pinned_by_another), refl)
+
+-- the range is tested before the pins
+range_before_pins : WriteGives 1 8 (12 ∷ []) (Pinned 1) part (with_look 1 pinned part) → ⊥
+range_before_pins g =
+    let e : pinned ≡ g.0 = ap last_look g.2 in
+    let z : 9 ≤ 8 = subst (λ (n : ℕ). 9 ≤ len_of n) (sym e) g.1.0.1 in omega (arith, z)
+
+by_no_one : WriteGives 1 1 (12 ∷ []) (Pinned 1) whole (with_look 1 pinned whole) → ⊥
+by_no_one g = eqb-false 1 0 refl (g.1.1.2 refl)
+
+by_wear : WriteGives 1 1 (12 ∷ []) Worn last_made (twice calm last_made)
+by_wear = is_worn
+
+by_race : WriteGives 1 1 (12 ∷ []) (Raced calm moving) part
+    (with_look 1 moving (with_look 1 calm part))
+by_race = ((λ e. eqb-false moving calm refl e), refl)
