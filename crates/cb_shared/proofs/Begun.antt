@@ -1,10 +1,12 @@
 -- The runtime at the start.
-use Rattle.std.proofs.Common.{◌≡◌, ℕ, zero, suc, ◌≤◌, List, length, get_or, replicate, refl, ap, ◌∙◌, arith}
+use Rattle.std.proofs.Common.{◌≡◌, ℕ, zero, suc, ◌*◌, ◌≤◌, false, List, length, get_or, replicate, refl, ap, ◌∙◌, arith}
 use Rattle.cb_types.specs.declared.config.Config.{Config}
 use Rattle.cb_types.specs.declared.config.Field.TheVariants.{Nodes}
 use Rattle.cb_types.specs.Config.{IsAccepted}
 use Rattle.cb_world.specs.Empty.{empty_far, empty_shown}
 use Rattle.cb_world.proofs.Laws.{empty_sound, empty_world_sound}
+use Rattle.cb_world.specs.Shown.{never}
+use Rattle.cb_rule.specs.Rule.{AreSized}
 use Rattle.cb_rule.specs.Steps.{opener}
 use Rattle.cb_shared.specs.Passes.{IsAtRest, Stood}
 
@@ -13,7 +15,7 @@ same_each zero i z = refl
 same_each (suc n) zero z = refl
 same_each (suc n) (suc i) z = same_each n i z
 
-long : (n z : ℕ) → length (replicate n z) ≡ n
+long : {A : Type 0} (n : ℕ) (z : A) → length (replicate n z) ≡ n
 long zero z = refl
 long (suc n) z = ap suc (long n z)
 
@@ -58,3 +60,11 @@ stood_empty first c pos accepted =
         no_pair = λ k e. absurd (cc);
       };
     }
+
+pub sized_empty : (first : ℕ) (c : Config) → AreSized c (empty_shown first c)
+sized_empty first c = record {
+  objects = long c.handles never;
+  hots = long c.handles false;
+  versions = long c.handles 0;
+  memory = long (512 * c.frames) 0;
+}

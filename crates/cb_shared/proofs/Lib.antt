@@ -11,6 +11,9 @@ pub mod Begun
 pub mod WriteSteps
 pub mod Tallying
 pub mod FirstPin
+pub mod AfterTurn
+pub mod Mapped
+pub mod Turns
 pub mod WorkedGround
 pub mod WorkedPins
 pub mod WorkedWrites

@@ -8,3 +8,4 @@ pub mod Pinning
 pub mod Writing
 pub mod Joining
 pub mod Tallies
+pub mod Turning

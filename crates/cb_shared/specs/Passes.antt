@@ -13,6 +13,7 @@ use Rattle.cb_rule.specs.declared.view.Seen.{Seen}
 use Rattle.cb_rule.specs.declared.view.Stand.{Stand}
 use Rattle.cb_rule.specs.declared.view.View.{View}
 use Rattle.cb_rule.specs.Lists.{Each, Has}
+use Rattle.cb_rule.specs.Rule.{AreSized}
 use Rattle.cb_rule.specs.Steps.{opener, stand}
 use Rattle.cb_shared.specs.declared.pass.Pass.{Pass}
 use Rattle.cb_shared.specs.declared.pass.Pin.{Pin}
@@ -61,6 +62,8 @@ pub record Stood (c : Config) (known : Shown) (far : FarState) : Type 0 where
 pub record IsFirst (s : Shared) (p : Pass) : Type 0 where
   pub accepted : IsAccepted s.config
   pub holds : p.seat.me.0.holds ≡ true
+  pub idle : p.seat.me.0.acts ≡ []
+  pub sized : AreSized s.config p.seat.me.0.known
   pub stood : Stood s.config p.seat.me.0.known s.far
 
 -- the runtime and its first pass at the start

@@ -17,6 +17,7 @@ mod seats;
 mod setup;
 mod starting;
 mod steps;
+pub mod turning;
 mod writing;
 
 pub use answers::{PinAnswer, WriteAnswer};

@@ -1,12 +1,13 @@
 use Rattle.std.proofs.Common.{◌≡◌, ◌∙◌, [], ℕ, ◌+◌, ◌*◌, replicate, refl, sym, ap, subst, arith}
 use Rattle.cb_world.specs.Empty.{empty_shown}
 use Rattle.cb_world.specs.FarState.{FarState}
+use Rattle.cb_rule.specs.Rule.{AreSized}
 use Rattle.cb_rule.specs.Ruled.{alone}
 use Rattle.cb_rule.specs.Slot.{Sat}
 use Rattle.cb_rule.specs.Words.{base}
 use Rattle.cb_shared.specs.Passes.{IsAtRest, Stood}
 use Rattle.cb_rule.proofs.Laws.{opens}
-use Rattle.cb_shared.proofs.Begun.{long_zeros, rest_opener, stood_empty, zeros_at}
+use Rattle.cb_shared.proofs.Begun.{long_zeros, rest_opener, sized_empty, stood_empty, zeros_at}
 use Rattle.cb_shared.proofs.runtime.Shared.with_first_version.Goals as goal
 
 pub of_words-requires : goal.of_words-requires
@@ -34,6 +35,8 @@ returns c =
         is_first = record {
           accepted = c.requires.accepted;
           holds = ap (λ (m : Sat). m.0.holds) t.4;
+          idle = ap (λ (m : Sat). m.0.acts) t.4;
+          sized = subst (λ (m : Sat). AreSized cfg m.0.known) (sym t.4) (sized_empty first cfg);
           stood = subst (λ (m : Sat). Stood cfg m.0.known c.in_ok-far.far) (sym t.4)
               (subst (λ (x : FarState). Stood cfg (empty_shown first cfg) x) (sym f)
               (stood_empty first cfg c.requires.first c.requires.accepted));

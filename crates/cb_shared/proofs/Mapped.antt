@@ -1,0 +1,249 @@
+-- A turn at a desk of one kind as one at a desk of another kind.
+use Rattle.std.proofs.Common.{◌≡◌, ℕ, List, [], Option, None, Some}
+use Rattle.cb_types.specs.declared.config.Config.{Config}
+use Rattle.cb_types.specs.declared.job.Job.{Job}
+use Rattle.cb_types.specs.declared.job.Job.TheVariants.{Make, Read, Write, Free, Swap, Filter, Evict, Begin, Ship, Commit, Abort, Pair, Patch, Merge, Part, Compact, Rebuild, Crash, Join}
+use Rattle.cb_types.specs.declared.reply.Reply.{Reply}
+use Rattle.cb_types.specs.declared.reply.Reply.TheVariants as answer
+use Rattle.cb_world.specs.declared.event.Event.{Event}
+use Rattle.cb_world.specs.declared.shown.Shown.{Shown}
+use Rattle.cb_world.specs.FarState.{FarState}
+use Rattle.cb_world.specs.Performs.{Performs}
+use Rattle.cb_world.specs.Sound.{Sound}
+use Rattle.cb_evict.specs.declared.eviction.Eviction.{Eviction}
+use Rattle.cb_evict.specs.declared.eviction.Eviction.TheVariants as eviction
+use Rattle.cb_core.specs.OnceHere.{OnceHere, OnceHereStops}
+use Rattle.cb_core.specs.OnceHere.OnceHere.{away, here}
+use Rattle.cb_core.specs.OnceHere.OnceHereStops.{bringing_stops, call_stops}
+use Rattle.cb_core.specs.Parts.{Holding, WithRoom, WhereItIs, BringsIn, RoomStops, CallStops, NeverLacks}
+use Rattle.cb_core.specs.Parts.WithRoom.{at_once, no_room, won}
+use Rattle.cb_core.specs.Parts.WhereItIs.{near, declined, stays_far, brought}
+use Rattle.cb_core.specs.Parts.BringsIn.{not_far, was_far}
+use Rattle.cb_core.specs.Parts.RoomStops.{at_once as lacks_now, evicting, after}
+use Rattle.cb_core.specs.Parts.CallStops.{near as lacks_near, far as lacks_far, after as lacks_after}
+use Rattle.cb_core.specs.Turned.{BringLacks, Brings, ComeLacks, ComesIn, Declines, Does, EvictLacks, Finds, Makes, MakeLacks, ReadLacks, Reads, Stopped, Stops, SwapLacks, Swaps, Turned, WinsRoom, Writes, done, worn}
+
+module _ {D E : Type 0} (run : D → List Event → D → Type 0) (shows : D → Shown → Type 0)
+    (run' : E → List Event → E → Type 0) (shows' : E → Shown → Type 0) (f : D → E)
+    (back : (d e : D) (es : List Event) → run d es e → run' (f d) es (f e))
+    (told : (d : D) (s : Shown) → shows' (f d) s → shows d s) where
+  abbrev pub on : Holding D → Holding E
+  on a = record { desk = f a.desk; far = a.far }
+
+  abbrev Maps : {A : Type 0} → (Holding D → A → Holding D → Type 0)
+      → (Holding E → A → Holding E → Type 0) → Type 0
+  Maps {A = A} P Q = (a b : Holding D) (r : A) → P a r b → Q (on a) r (on b)
+
+  abbrev MapsLack : (Holding D → Holding D → Type 0) → (Holding E → Holding E → Type 0) → Type 0
+  MapsLack L M = (a b : Holding D) → L a b → M (on a) (on b)
+
+  performs : (a b : D) (far : FarState) (rules : List Event → Type 0) (sound : Shown → Type 0)
+      (does : List Event → Shown → Shown → Type 0)
+      → Performs (λ es. run a es b) (λ s. shows a s × Sound s far) rules sound does
+      → Performs (λ es. run' (f a) es (f b)) (λ s. shows' (f a) s × Sound s far) rules sound does
+  performs a b far rules sound does p = record {
+    events = p.events;
+    ran = back a b p.events p.ran;
+    looks_first = p.looks_first;
+    rule = p.rule;
+    allowed = λ s k. p.allowed s (told a s k.0, k.1);
+    sound_after = λ s k. p.sound_after s (told a s k.0, k.1);
+    effect = λ s k. p.effect s (told a s k.0, k.1);
+  }
+
+  with_room : (n : ℕ) (P : Holding D → Reply → Holding D → Type 0)
+      (F : Holding D → Eviction → Holding D → Type 0) (Q : Holding E → Reply → Holding E → Type 0)
+      (G : Holding E → Eviction → Holding E → Type 0) → Maps P Q → Maps F G
+      → Maps (WithRoom n P F) (WithRoom n Q G)
+  with_room n P F Q G p e a b r (at_once o off) = at_once (p a b r o) off
+  with_room n P F Q G p e a b r (no_room m why loose nodes o v is) = no_room (on m) why loose nodes
+      (p a m answer.NoFrame o) (e m b (eviction.Refused why loose nodes) v) is
+  with_room n P F Q G p e a b r (won m k id o v again off) = won (on m) (on k) id
+      (p a m answer.NoFrame o) (e m k (eviction.Set id) v) (p k b r again) off
+
+  where_it_is : (P F : Holding D → Reply → Holding D → Type 0)
+      (L : Holding D → Option Reply → Holding D → Type 0)
+      (Q G : Holding E → Reply → Holding E → Type 0)
+      (M : Holding E → Option Reply → Holding E → Type 0) → Maps P Q → Maps L M → Maps F G
+      → Maps (WhereItIs P L F) (WhereItIs Q M G)
+  where_it_is P F L Q G M p l e a b r (near o off) = near (p a b r o) off
+  where_it_is P F L Q G M p l e a b r (declined m o d) =
+      declined (on m) (p a m answer.NotHere o) (l m b (Some r) d)
+  where_it_is P F L Q G M p l e a b r (stays_far m n o d v off) =
+      stays_far (on m) (on n) (p a m answer.NotHere o) (l m n None d) (e n b r v) off
+  where_it_is P F L Q G M p l e a b r (brought m n o' g o d v again) =
+      brought (on m) (on n) (on o') g (p a m answer.NotHere o) (l m n None d)
+      (e n o' (answer.Swapped g) v) (p o' b r again)
+
+  brings_in : (P F : Holding D → Reply → Holding D → Type 0)
+      (Q G : Holding E → Reply → Holding E → Type 0) → Maps P Q → Maps F G
+      → Maps (BringsIn P F) (BringsIn Q G)
+  brings_in P F Q G p e a b r (not_far o off) = not_far (p a b r o) off
+  brings_in P F Q G p e a b r (was_far m o v) =
+      was_far (on m) (p a m answer.NotHere o) (e m b r v)
+
+  once_here : (P F : Holding D → Reply → Holding D → Type 0)
+      (Q G : Holding E → Reply → Holding E → Type 0) → Maps P Q → Maps F G
+      → Maps (OnceHere P F) (OnceHere Q G)
+  once_here P F Q G p e a b r (away o off) = away (p a b r o) off
+  once_here P F Q G p e a b r (here m place o there v) =
+      here (on m) place (p a m place o) there (e m b r v)
+
+  room_stops : (P : Holding D → Reply → Holding D → Type 0)
+      (F : Holding D → Eviction → Holding D → Type 0) (L I : Holding D → Holding D → Type 0)
+      (Q : Holding E → Reply → Holding E → Type 0) (G : Holding E → Eviction → Holding E → Type 0)
+      (M J : Holding E → Holding E → Type 0) → Maps P Q → MapsLack L M → Maps F G → MapsLack I J
+      → MapsLack (RoomStops P L F I) (RoomStops Q M G J)
+  room_stops P F L I Q G M J p l e i a b (lacks_now o) = lacks_now (l a b o)
+  room_stops P F L I Q G M J p l e i a b (evicting m o v) =
+      evicting (on m) (p a m answer.NoFrame o) (i m b v)
+  room_stops P F L I Q G M J p l e i a b (after m n id o v w) =
+      after (on m) (on n) id (p a m answer.NoFrame o) (e m n (eviction.Set id) v) (l n b w)
+
+  call_lacks : (P F : Holding D → Reply → Holding D → Type 0)
+      (S : Holding D → Option Reply → Holding D → Type 0) (L I : Holding D → Holding D → Type 0)
+      (Q G : Holding E → Reply → Holding E → Type 0)
+      (T : Holding E → Option Reply → Holding E → Type 0) (M J : Holding E → Holding E → Type 0)
+      → Maps P Q → MapsLack L M → Maps S T → Maps F G → MapsLack I J
+      → MapsLack (CallStops P L S F I) (CallStops Q M T G J)
+  call_lacks P F S L I Q G T M J p l s e i a b (lacks_near o) = lacks_near (l a b o)
+  call_lacks P F S L I Q G T M J p l s e i a b (lacks_far m n o d v) =
+      lacks_far (on m) (on n) (p a m answer.NotHere o) (s m n None d) (i n b v)
+  call_lacks P F S L I Q G T M J p l s e i a b (lacks_after m n o' g o d v again) =
+      lacks_after (on m) (on n) (on o') g (p a m answer.NotHere o) (s m n None d)
+      (e n o' (answer.Swapped g) v) (l o' b again)
+
+  once_stops : (P : Holding D → Reply → Holding D → Type 0) (L I : Holding D → Holding D → Type 0)
+      (Q : Holding E → Reply → Holding E → Type 0) (M J : Holding E → Holding E → Type 0)
+      → Maps P Q → MapsLack L M → MapsLack I J
+      → MapsLack (OnceHereStops P L I) (OnceHereStops Q M J)
+  once_stops P L I Q M J p l i a b (bringing_stops o) = bringing_stops (l a b o)
+  once_stops P L I Q M J p l i a b (call_stops m place o there v) =
+      call_stops (on m) place (p a m place o) there (i m b v)
+
+  swaps : (h : ℕ) → Maps (Swaps run shows h) (Swaps run' shows' h)
+  swaps h a b r (home, at, p) = (home, at, performs a.desk b.desk a.far _ _ _ p)
+
+  swap_lacks : (h : ℕ) → MapsLack (SwapLacks run h) (SwapLacks run' h)
+  swap_lacks h a b (ran, given) = (back a.desk b.desk [] ran, given)
+
+  wins : (c : Config) → Maps (WinsRoom run shows c) (WinsRoom run' shows' c)
+  wins c a b r p = performs a.desk b.desk a.far _ _ _ p
+
+  evict_lacks : MapsLack (EvictLacks run shows) (EvictLacks run' shows')
+  evict_lacks a b (same, p) = (same, performs a.desk b.desk a.far _ _ _ p)
+
+  brings : (c : Config) (h : ℕ) → Maps (Brings run shows c h) (Brings run' shows' c h)
+  brings c h = with_room c.frames (Swaps run shows h) (WinsRoom run shows c) (Swaps run' shows' h)
+      (WinsRoom run' shows' c) (swaps h) (wins c)
+
+  bring_lacks : (c : Config) (h : ℕ) → MapsLack (BringLacks run shows c h)
+      (BringLacks run' shows' c h)
+  bring_lacks c h = room_stops (Swaps run shows h) (WinsRoom run shows c) (SwapLacks run h)
+      (EvictLacks run shows) (Swaps run' shows' h) (WinsRoom run' shows' c) (SwapLacks run' h)
+      (EvictLacks run' shows') (swaps h) (swap_lacks h) (wins c) evict_lacks
+
+  makes : (c : Config) (bytes : List ℕ) → Maps (Makes run shows c bytes) (Makes run' shows' c bytes)
+  makes c bytes a b r p = performs a.desk b.desk a.far _ _ _ p
+
+  make_lacks : (c : Config) (bytes : List ℕ)
+      → MapsLack (MakeLacks run c bytes) (MakeLacks run' c bytes)
+  make_lacks c bytes a b (ran, same, needs) = (back a.desk b.desk [] ran, same, needs)
+
+  reads : (h : ℕ) → Maps (Reads run shows h) (Reads run' shows' h)
+  reads h a b r p = performs a.desk b.desk a.far _ _ _ p
+
+  read_lacks : (h : ℕ) → MapsLack (ReadLacks run shows h) (ReadLacks run' shows' h)
+  read_lacks h a b (same, p) = (same, performs a.desk b.desk a.far _ _ _ p)
+
+  writes : (h at : ℕ) (bytes : List ℕ)
+      → Maps (Writes run shows h at bytes) (Writes run' shows' h at bytes)
+  writes h at bytes a b r p = performs a.desk b.desk a.far _ _ _ p
+
+  never_lacks : MapsLack NeverLacks NeverLacks
+  never_lacks a b x = x
+
+  finds : (h : ℕ) → Maps (Finds run shows h) (Finds run' shows' h)
+  finds h a b r p = performs a.desk b.desk a.far _ _ _ p
+
+  declines : (h at count : ℕ)
+      → Maps (Declines run shows h at count) (Declines run' shows' h at count)
+  declines h at count a b r (same, p) = (same, performs a.desk b.desk a.far _ _ _ p)
+
+  comes_in : (c : Config) (h : ℕ) → Maps (ComesIn run shows c h) (ComesIn run' shows' c h)
+  comes_in c h = brings_in (Finds run shows h) (Brings run shows c h) (Finds run' shows' h)
+      (Brings run' shows' c h) (finds h) (brings c h)
+
+  come_lacks : (c : Config) (h : ℕ) → MapsLack (ComeLacks run shows c h) (ComeLacks run' shows' c h)
+  come_lacks c h a b (m, find, lacks) =
+      (on m, finds h a m answer.NotHere find, bring_lacks c h m b lacks)
+
+  does : (c : Config) (job : Job)
+      → Maps (Does run shows (Reads run shows) c job) (Does run' shows' (Reads run' shows') c job)
+  does c (Make bytes) a b r x = with_room c.frames (Makes run shows c bytes) (WinsRoom run shows c)
+      (Makes run' shows' c bytes) (WinsRoom run' shows' c) (makes c bytes) (wins c) a b r x
+  does c (Read handle) a b r x = once_here (ComesIn run shows c handle.n) (Reads run shows handle.n)
+      (ComesIn run' shows' c handle.n) (Reads run' shows' handle.n) (comes_in c handle.n)
+      (reads handle.n) a b r x
+  does c (Write handle at bytes) a b r x = where_it_is (Writes run shows handle.n at bytes)
+      (Brings run shows c handle.n) _ (Writes run' shows' handle.n at bytes)
+      (Brings run' shows' c handle.n) _ (writes handle.n at bytes) (declines handle.n at _)
+      (brings c handle.n) a b r x
+  does c (Free handle) a b r p = performs a.desk b.desk a.far _ _ _ p
+  does c (Swap handle) a b r x = comes_in c handle.n a b r x
+  does c (Filter handle) a b r p = performs a.desk b.desk a.far _ _ _ p
+  does c Evict a b r p = performs a.desk b.desk a.far _ _ _ p
+  does c Begin a b r p = performs a.desk b.desk a.far _ _ _ p
+  does c Ship a b r p = performs a.desk b.desk a.far _ _ _ p
+  does c Commit a b r p = performs a.desk b.desk a.far _ _ _ p
+  does c Abort a b r p = performs a.desk b.desk a.far _ _ _ p
+  does c Pair a b r (ran, step) = (back a.desk b.desk [] ran, step)
+  does c Patch a b r (ran, step) = (back a.desk b.desk [] ran, step)
+  does c Merge a b r (ran, step) = (back a.desk b.desk [] ran, step)
+  does c Part a b r (ran, step) = (back a.desk b.desk [] ran, step)
+  does c Compact a b r (ran, step) = (back a.desk b.desk [] ran, step)
+  does c Rebuild a b r (ran, step) = (back a.desk b.desk [] ran, step)
+  does c (Crash node) a b r (ran, step) = (back a.desk b.desk [] ran, step)
+  does c (Join node) a b r (ran, step) = (back a.desk b.desk [] ran, step)
+
+  stops : (c : Config) (job : Job) → MapsLack (Stops run shows (ReadLacks run shows) c job)
+      (Stops run' shows' (ReadLacks run' shows') c job)
+  stops c (Make bytes) a b x = room_stops (Makes run shows c bytes) (WinsRoom run shows c)
+      (MakeLacks run c bytes) (EvictLacks run shows) (Makes run' shows' c bytes)
+      (WinsRoom run' shows' c) (MakeLacks run' c bytes) (EvictLacks run' shows') (makes c bytes)
+      (make_lacks c bytes) (wins c) evict_lacks a b x
+  stops c (Read handle) a b x = once_stops (ComesIn run shows c handle.n)
+      (ComeLacks run shows c handle.n) (ReadLacks run shows handle.n)
+      (ComesIn run' shows' c handle.n) (ComeLacks run' shows' c handle.n)
+      (ReadLacks run' shows' handle.n) (comes_in c handle.n) (come_lacks c handle.n)
+      (read_lacks handle.n) a b x
+  stops c (Write handle at bytes) a b x = call_lacks (Writes run shows handle.n at bytes)
+      (Brings run shows c handle.n) _ NeverLacks (BringLacks run shows c handle.n)
+      (Writes run' shows' handle.n at bytes) (Brings run' shows' c handle.n) _ NeverLacks
+      (BringLacks run' shows' c handle.n) (writes handle.n at bytes) never_lacks
+      (declines handle.n at _) (brings c handle.n) (bring_lacks c handle.n) a b x
+  stops c (Swap handle) a b x = come_lacks c handle.n a b x
+  stops c (Filter handle) a b p = performs a.desk b.desk a.far _ _ _ p
+  stops c Evict a b x = evict_lacks a b x
+  stops c Begin a b x = evict_lacks a b x
+  stops c Ship a b (same, p) = (same, performs a.desk b.desk a.far _ _ _ p)
+  stops c (Free handle) a b x = x
+  stops c Commit a b x = x
+  stops c Abort a b x = x
+  stops c Pair a b (ran, lacks) = (back a.desk b.desk [] ran, lacks)
+  stops c Patch a b (ran, lacks) = (back a.desk b.desk [] ran, lacks)
+  stops c Merge a b (ran, lacks) = (back a.desk b.desk [] ran, lacks)
+  stops c Part a b (ran, lacks) = (back a.desk b.desk [] ran, lacks)
+  stops c Compact a b (ran, lacks) = (back a.desk b.desk [] ran, lacks)
+  stops c Rebuild a b (ran, lacks) = (back a.desk b.desk [] ran, lacks)
+  stops c (Crash node) a b (ran, lacks) = (back a.desk b.desk [] ran, lacks)
+  stops c (Join node) a b (ran, lacks) = (back a.desk b.desk [] ran, lacks)
+
+  pub turned : (c : Config) (job : Job) → Maps (Turned run shows (Reads run shows) c job)
+      (Turned run' shows' (Reads run' shows') c job)
+  turned c job a b r (worn end reply state ran) = worn end reply state (back a.desk b.desk [] ran)
+  turned c job a b r (done few x) = done few (does c job _ b r x)
+
+  pub stopped : (c : Config) (job : Job) → MapsLack (Stopped run shows (ReadLacks run shows) c job)
+      (Stopped run' shows' (ReadLacks run' shows') c job)
+  stopped c job a b x = record { few = x.few; stops = stops c job _ b x.stops }

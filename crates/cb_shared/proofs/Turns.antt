@@ -1,0 +1,117 @@
+-- A turn over any desk, at the desk over a seat.
+use Rattle.std.proofs.Common.{◌≡◌, List, [], ◌++◌, Result, Ok, Err, sym, refl, ap, ◌∙◌, subst, append-nil}
+use Rattle.std.specs.Prelude.{IfOk, OnErr}
+use Rattle.cb_member.specs.declared.no_memory.NoMemory.{NoMemory}
+use Rattle.cb_types.specs.declared.config.Config.{Config}
+use Rattle.cb_types.specs.declared.job.Job.{Job}
+use Rattle.cb_types.specs.declared.reply.Reply.{Reply}
+use Rattle.cb_world.specs.declared.entry.Entry.{Entry}
+use Rattle.cb_world.specs.declared.event.Event.{Event}
+use Rattle.cb_world.specs.declared.shown.Shown.{Shown}
+use Rattle.cb_world.specs.Played.{played}
+use Rattle.cb_world.specs.Sound.{Sound}
+use Rattle.cb_core.specs.Parts.{Holding}
+use Rattle.cb_core.specs.Turned.{ReadLacks, Reads, Stopped, Turned}
+use Rattle.cb_core.specs.TurnLeaves.{OutcomeWrites, TurnLeaves}
+use Rattle.cb_rule.specs.declared.view.View.{View}
+use Rattle.cb_rule.specs.Slot.{Sat}
+use Rattle.cb_rule.specs.Steps.{acted}
+use Rattle.cb_shared.specs.Passes.{Stood}
+use Rattle.cb_shared.specs.Places.{Place}
+use Rattle.cb_shared.specs.SeatLaws.{Runs, acted_fresh, acted_known}
+use Rattle.cb_shared.specs.Turning.{Did, Slate, TurnAt, held_by, slate_run, slate_shows}
+use Rattle.cb_shared.proofs.AfterTurn.{acted_is}
+use Rattle.cb_shared.proofs.Mapped.{stopped, turned}
+
+module _ {D : Type 0} (at : D → Place) (run : D → List Event → D → Type 0)
+    (shows : D → Shown → Type 0)
+    (back : (d e : D) (es : List Event) → run d es e → Runs (at d) es (at e))
+    (shown : (d : D) (s : Shown) → s ≡ (at d).me.0.known → shows d s) (c : Config) (job : Job)
+    (a b : Holding D) (idle : (at a.desk).me.0.acts ≡ []) (fresh : (at a.desk).me.0.fresh ≡ [])
+    (stood : Stood c (at a.desk).me.0.known a.far) where
+  abbrev slate_of : D → Slate
+  slate_of d = record { known = (at d).me.0.known; acts = (at d).me.0.acts }
+
+  slate_ran : (d e : D) (es : List Event) → run d es e → slate_run (slate_of d) es (slate_of e)
+  slate_ran d e es x = let r = back d e es x in let v = (at d).me.0 in (
+    (λ i. record {
+      known = (ap (λ (m : Sat). m.0.known) r.0.2 ∙ acted_known es v) i;
+      acts = (ap (λ (m : Sat). m.0.acts) r.0.2 ∙ ap (λ (x : View). x.acts) (acted_is es v)) i;
+    }),
+    r.1,
+  )
+
+  abbrev v : View
+  v = (at a.desk).me.0
+
+  abbrev w : View
+  w = (at b.desk).me.0
+
+  module _ (es : List Event) (ran : run a.desk es b.desk) where
+    moved : w ≡ acted es v
+    moved = ap (λ (m : Sat). m.0) (back a.desk b.desk es ran).0.2
+
+    known_is : w.known ≡ played es v.known
+    known_is = ap (λ (x : View). x.known) moved ∙ acted_known es v
+
+    acts_are : w.acts ≡ es
+    acts_are = ap (λ (x : View). x.acts) moved ∙ ap (λ (x : View). x.acts) (acted_is es v)
+        ∙ ap (λ (l : List Event). l ++ es) idle
+
+    first_is : (let x : Holding Slate = record { desk = slate_of a.desk; far = a.far } in x)
+        ≡ held_by v.known [] a.far
+    first_is = λ i. record { desk = record { known = v.known; acts = idle i }; far = a.far }
+
+    last_is : (let x : Holding Slate = record { desk = slate_of b.desk; far = b.far } in x)
+        ≡ held_by (played es v.known) es b.far
+    last_is = λ i. record {
+      desk = record { known = known_is i; acts = acts_are i };
+      far = b.far;
+    }
+
+    pub did_by : (r : Result Reply NoMemory)
+        → IfOk r (λ q. Turned run shows (Reads run shows) c job a q b)
+        → OnErr r (Stopped run shows (ReadLacks run shows) c job a b)
+        → Did c job r v.known es a.far b.far
+    did_by (Ok q) x y = subst (λ (z : Holding Slate).
+        Turned slate_run slate_shows (Reads slate_run slate_shows) c job
+        (held_by v.known [] a.far) q z) last_is
+        (subst (λ (z : Holding Slate). Turned slate_run slate_shows (Reads slate_run slate_shows) c
+        job z q (record { desk = slate_of b.desk; far = b.far })) first_is
+        (turned run shows slate_run slate_shows slate_of slate_ran shown c job a b q x))
+    did_by (Err e) x y = subst (λ (z : Holding Slate).
+        Stopped slate_run slate_shows (ReadLacks slate_run slate_shows) c job
+        (held_by v.known [] a.far) z) last_is
+        (subst (λ (z : Holding Slate). Stopped slate_run slate_shows
+        (ReadLacks slate_run slate_shows) c job z
+        (record { desk = slate_of b.desk; far = b.far })) first_is
+        (stopped run shows slate_run slate_shows slate_of slate_ran shown c job a b y))
+
+  pub turn_at : (r : Result Reply NoMemory)
+      → IfOk r (λ q. Turned run shows (Reads run shows) c job a q b)
+      → OnErr r (Stopped run shows (ReadLacks run shows) c job a b)
+      → TurnLeaves run shows c a b (OutcomeWrites job r)
+      → TurnAt c job r a.far b.far (at a.desk) (at b.desk)
+  turn_at r x y z =
+      let after = z.after v.known (shown a.desk v.known refl) stood.sound in
+      let known = known_is z.events z.ran in record {
+        events = z.events;
+        more = after.more;
+        runs = back a.desk b.desk z.events z.ran;
+        did = did_by z.events z.ran r x y;
+        next = z.next;
+        wrote = after.wrote;
+        fresh = ap (λ (q : View). q.fresh) (moved z.events z.ran) ∙ acted_fresh z.events v
+            ∙ after.writes_them v.fresh ∙ ap (λ (l : List Entry). after.more ++ l) fresh
+            ∙ append-nil after.more;
+        stood = record {
+          sound = subst (λ (s : Shown). Sound s b.far) (sym known) after.sound;
+          configured = z.configured;
+          counted = z.counted;
+        };
+      }
+
+  -- what holds after each run of the desk holds after the turn
+  pub turn_ran : (P : D → Type 0) → ((d : D) (es : List Event) → run a.desk es d → P d)
+      → (W : List Entry → Type 0) → TurnLeaves run shows c a b W → P b.desk
+  turn_ran P f W z = f b.desk z.events z.ran
