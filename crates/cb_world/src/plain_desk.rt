@@ -81,6 +81,14 @@ impl PlainDesk {
         self.versions[h.n as usize]
     }
 
+    /// Puts the pointer word of an object as it is given.
+    pub fn put_word(&mut self, h: Handle, word: u64)
+        requires { h.n < self.old.settings.handles }
+        ensures { self.new ≡ record self.old { words = slice_set self.old.words h.n word } }
+    {
+        self.words[h.n as usize] = word;
+    }
+
     /// Puts one pin more on an object that is here and has fewer than 1,023.
     pub fn pin(&mut self, h: Handle)
         requires handle { h.n < self.old.settings.handles }

@@ -46,4 +46,7 @@ impl World {
         let far = Far::new(alloc, 1, config)?;
         Ok(World { desk, far, seats })
     }
+
+    /// Gives all of its memory back.
+    pub fn end(self) {}
 }
