@@ -25,7 +25,11 @@ const MOST_OBJECTS: usize = 256;
 pub(crate) enum Taken {
     /// Fewer than k spans could be claimed, or fewer than k + r nodes have room, and no span is
     /// claimed. So many spans are loose, and so many nodes have room.
-    Few { lack: Lack, loose: u32, nodes: u32 },
+    Few {
+        lack: Lack,
+        loose: u32,
+        nodes: u32,
+    },
     /// k spans are claimed: their frames, and the words of their objects before the claims.
     Enough {
         frames: Vec<u32>,
