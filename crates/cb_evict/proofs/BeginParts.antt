@@ -171,7 +171,8 @@ takes_begin c far new r frames formers runsA runsB runsC showsA showsB x y more 
     (inr (record {
       none = none;
       loose = x.loose;
-      found = loose_still _ _ _ _ _ _ _ runsA runsB runsC showsA showsB t y more shown x.loose t.found;
+      found = loose_still _ _ _ _ _ _ _ runsA runsB runsC showsA showsB t y more shown x.loose
+          t.found;
       answered = inr (inr (record {
         enough = x.enough;
         room = x.room;
@@ -180,7 +181,8 @@ takes_begin c far new r frames formers runsA runsB runsC showsA showsB x y more 
             (y.rule t.events s
             (ready _ _ _ _ _ _ _ runsA runsB runsC showsA showsB t y more shown s knows sound));
       }));
-      touches = all_touched _ _ _ _ _ _ _ runsA runsB runsC showsA showsB t y more shown x.taken.among;
+      touches = all_touched _ _ _ _ _ _ _ runsA runsB runsC showsA showsB t y more shown
+          x.taken.among;
     }))
     (λ a b did. record {
       begun = λ id e. did;

@@ -193,15 +193,15 @@ module _ (far : FarState) (was : List ℕ) (runsA runsB runsC : List Event → T
         events = es ++ fs;
         ran = more es fs x.ran y.ran;
         first = looks_before es fs x.looks y.first;
-        touches = touches_append (IsIn far.spans (candidates far)) (LiesInOne (candidates far)) es fs
-            (looks_touch far es x.touches) y.touches;
+        touches = touches_append (IsIn far.spans (candidates far)) (LiesInOne (candidates far)) es
+            fs (looks_touch far es x.touches) y.touches;
         found = y.found es x.finds;
         claims = λ s knows here.
             let a = claims_nothing far s es x.looks here in
             let b = y.claims (played es s) (shown es s x.ran knows) a.1 in (
               subst (λ (u : Shown). AreClaimed (es ++ fs) s u formers) (sym (played_append es fs s))
-                  (claims_append far es fs s (played es s) (played fs (played es s)) [] formers a.1 a.0
-                  b.0 (All-nil (λ f. IsNone formers f.handle)) (All-nil (λ f. NoLook f.handle fs))
+                  (claims_append far es fs s (played es s) (played fs (played es s)) [] formers a.1
+                  a.0 b.0 (All-nil (λ f. IsNone formers f.handle)) (All-nil (λ f. NoLook f.handle fs))
                   (λ k d l. All-nil (λ f. f.handle ≢ (get_or formers k d).handle))),
               subst (λ (u : Shown). LocalSound u far) (sym (played_append es fs s)) b.1,
               steady_append es fs s a.2 b.2,
@@ -211,8 +211,8 @@ module _ (far : FarState) (was : List ℕ) (runsA runsB runsC : List Event → T
   pub looked_takes : (c d : Config) (taken : Taken) → d ≡ c
       → Takes runsB showsB d far (AreLooseStill far was) taken
       → Takes runsC showsA c far (AreLooseNow far) taken
-  looked_takes c d taken same y = subst (λ (n : Config). Takes runsC showsA n far (AreLooseNow far) taken) same
-      (by taken y)
+  looked_takes c d taken same y =
+      subst (λ (n : Config). Takes runsC showsA n far (AreLooseNow far) taken) same (by taken y)
     where
       by : (taken : Taken) → Takes runsB showsB d far (AreLooseStill far was) taken
           → Takes runsC showsA d far (AreLooseNow far) taken
@@ -261,8 +261,8 @@ pub looked_fails : (far : FarState) (loose : List ℕ) (runsA runsB : List Event
     → ((es : List Event) → runsA es → runsB es)
     → Performs runsB (λ s. shows s × Sound s far) (TouchesSpans far) (λ t. Sound t far) IsStill
 looked_fails far loose runsA runsB shows x on =
-    let y = tried_still far (AreLooseNow far loose) runsA shows (looks_tried far loose runsA shows x)
-    in record {
+    let y = tried_still far (AreLooseNow far loose) runsA shows
+    (looks_tried far loose runsA shows x) in record {
       events = y.events;
       ran = on y.events y.ran;
       looks_first = y.looks_first;
@@ -489,7 +489,8 @@ module _ (far new : FarState) (frames : List ℕ) (formers : List Former)
     (shown : (es : List Event) (s : Shown) → runsA es → showsA s → showsB (played es s)) where
   pub ready : (s : Shown) → showsA s → Sound s far → IsReady showsB far formers x.events s
   ready s knows sound =
-      tried_ready far formers finds runsA showsA showsB x s (shown x.events s x.ran knows) knows sound
+      tried_ready far formers finds runsA showsA showsB x s (shown x.events s x.ran knows) knows
+      sound
 
   pub tried_end : (rule : List Event → Type 0) (effect : List Event → Shown → Shown → Type 0)
       → rule (x.events ++ y.events)
@@ -499,8 +500,8 @@ module _ (far new : FarState) (frames : List ℕ) (formers : List Former)
       let es = x.events in let fs = y.events in record {
         events = es ++ fs;
         ran = more es fs x.ran y.ran;
-        looks_first = first_append (IsIn far.spans (candidates far)) (LiesInOne (candidates far)) es fs
-            x.touches x.first y.first (λ h t. y.quiet h);
+        looks_first = first_append (IsIn far.spans (candidates far)) (LiesInOne (candidates far)) es
+            fs x.touches x.first y.first (λ h t. y.quiet h);
         rule = meets;
         allowed = λ s k. allowed_append es fs s (x.claims s k.0 k.1.here).2.allowed
             (y.allowed es s (ready s k.0 k.1));
@@ -537,7 +538,8 @@ takes_evict c far new e frames formers runsA runsB runsC showsA showsB x y more 
     (CountsRule c far new e) (EvictEffect far new (reply_of e))
     (set_counted c far new id e all is (record {
       loose = x.loose;
-      found = loose_still _ _ _ _ _ _ _ runsA runsB runsC showsA showsB t y more shown x.loose t.found;
+      found = loose_still _ _ _ _ _ _ _ runsA runsB runsC showsA showsB t y more shown x.loose
+          t.found;
       answered = inr (inr (record {
         enough = x.enough;
         room = x.room;
@@ -546,7 +548,8 @@ takes_evict c far new e frames formers runsA runsB runsC showsA showsB x y more 
             (y.rule t.events s
             (ready _ _ _ _ _ _ _ runsA runsB runsC showsA showsB t y more shown s knows sound));
       }));
-      touches = all_touched _ _ _ _ _ _ _ runsA runsB runsC showsA showsB t y more shown x.taken.among;
+      touches = all_touched _ _ _ _ _ _ _ runsA runsB runsC showsA showsB t y more shown
+          x.taken.among;
     }))
     (λ a b. set_effect far new id (reply_of e) all a b (ap reply_of is))
 

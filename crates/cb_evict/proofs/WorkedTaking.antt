@@ -1,5 +1,5 @@
--- The front of an eviction and of a begin: of two spans the second is held up by a pin, and the first
--- is claimed.
+-- The front of an eviction and of a begin: of two spans the second is held up by a pin, and the
+-- first is claimed.
 use Rattle.std.proofs.Common.{◌≡◌, ◌⊎◌, ℕ, zero, suc, List, [], ◌∷◌, length, take, All, None, refl, sym, ap, ◌∙◌, subst, lit<, lit≤, arith, inl, inr}
 use Rattle.std.specs.FinMap as map
 use Rattle.std.specs.List.{Contains}
@@ -113,7 +113,8 @@ not_its_count runs shows a = by a.few
 
 -- and the other one beside it, as it is and not another
 not_other_count : (runs : List Event → Type 0) (shows : Shown → Type 0)
-    → TakesFew runs shows (record settings { k = 2 }) pair (AreLooseNow pair) (Refused Spans 1 1) → ⊥
+    → TakesFew runs shows (record settings { k = 2 }) pair (AreLooseNow pair)
+    (Refused Spans 1 1) → ⊥
 not_other_count runs shows a = let e = a.counts.1 in absurd (omega (arith, e, two_nodes))
 
 -- ---- looks, and the claim of the first span

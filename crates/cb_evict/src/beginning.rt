@@ -173,9 +173,11 @@ fn begin_claimed<D: Desk>(
     requires taken { AreTaken (D.settings desk.old) far.old frames.items formers.items }
     requires ready { (before : List Event) × (s : Shown)
         × IsReady (λ t. D.shows desk.old t) far.old formers.items before s }
-    ensures reply { IfOk result (λ reply. reply ≡ answer.Batch (record { n = far.old.counts.sets })) }
+    ensures reply { IfOk result (λ reply.
+        reply ≡ answer.Batch (record { n = far.old.counts.sets })) }
     ensures begun { OnOk result (BeginsClaimed (λ es. D.run desk.old es desk.new)
-        (λ s. D.shows desk.old s) (D.settings desk.old) far.old far.new frames.items formers.items) }
+        (λ s. D.shows desk.old s) (D.settings desk.old) far.old far.new
+        frames.items formers.items) }
     ensures error { OnErr result (LeavesClaimed (λ es. D.run desk.old es desk.new)
         (λ s. D.shows desk.old s) far.old frames.items formers.items) }
     ensures unchanged { OnErr result (far.new ≡ far.old) }
@@ -202,10 +204,12 @@ fn reserve_frames<D: Desk>(
 ) -> Result<Reserved, NoMemory>
     requires config { IsAccepted (D.settings desk.old) }
     requires count { length frames.now ≡ (D.settings desk.old).k }
-    requires there { All (λ f. (span : Contents) × (span_in far.old.spans f ≡ Some span)) frames.now }
+    requires there { All (λ f. (span : Contents) × (span_in far.old.spans f ≡ Some span))
+        frames.now }
     requires below { All (λ f. f < (D.settings desk.old).frames) frames.now }
     ensures reserved { IfOk result (λ reserved. ReservesFrames (λ es. D.run desk.old es desk.new)
-        (λ s. D.shows desk.old s) (D.settings desk.old) far.old far.new frames.now reserved.parities) }
+        (λ s. D.shows desk.old s) (D.settings desk.old) far.old far.new
+        frames.now reserved.parities) }
     ensures shards { IfOk result (λ reserved. reserved.shards.items
         ≡ replicate ((D.settings desk.old).k + (D.settings desk.old).r) None) }
     ensures read { OnErr result (ReadsFrames (λ es. D.run desk.old es desk.new) frames.now) }
@@ -227,7 +231,8 @@ fn reserve_frames<D: Desk>(
 /// shards as there are blank ones. Answers the parities of their rows. Where there is no memory,
 /// nothing has changed.
 fn reserve(far: &mut Far, blank: &[Shard], frames: &[u32], rows: &Rows) -> Result<Rows, NoMemory>
-    requires there { All (λ f. (span : Contents) × (span_in far.old.spans f ≡ Some span)) frames.now }
+    requires there { All (λ f. (span : Contents) × (span_in far.old.spans f ≡ Some span))
+        frames.now }
     requires data_rows { length rows.now ≡ length frames.now }
     requires range { IsInRange (length frames.now) (length blank.now - length frames.now) }
     ensures err { OnErr result (far.new ≡ far.old) }

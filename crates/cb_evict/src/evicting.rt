@@ -111,7 +111,8 @@ fn store_frames<D: Desk>(desk: &mut D, far: &mut Far, frames: &[u32]) -> Result<
     requires room { (D.settings desk.old).k + (D.settings desk.old).r
         ≤ room_count far.old.nodes far.old.members }
     requires count { length frames.now ≡ (D.settings desk.old).k }
-    requires there { All (λ f. (span : Contents) × (span_in far.old.spans f ≡ Some span)) frames.now }
+    requires there { All (λ f. (span : Contents) × (span_in far.old.spans f ≡ Some span))
+        frames.now }
     requires below { All (λ f. f < (D.settings desk.old).frames) frames.now }
     requires rows { AreRows far.old }
     ensures kept { OnOk result (StoresFrames (λ es. D.run desk.old es desk.new)
