@@ -3,6 +3,7 @@ pub mod Members
 pub mod Growing
 pub mod Histories
 pub mod Keeping
+pub mod Owning
 pub mod Lifting
 pub mod Looking
 pub mod Newest
@@ -28,3 +29,4 @@ pub mod WorkedViews
 pub mod WorkedStands
 pub mod WorkedClaims
 pub mod WorkedPromise
+pub mod WorkedOwn
