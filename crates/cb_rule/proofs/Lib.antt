@@ -3,6 +3,7 @@ pub mod Members
 pub mod Growing
 pub mod Histories
 pub mod Keeping
+pub mod Owning
 pub mod Lifting
 pub mod Looking
 pub mod Newest
@@ -35,3 +36,4 @@ pub mod WorkedClaims
 pub mod WorkedPromise
 pub mod WorkedLocking
 pub mod WorkedTurns
+pub mod WorkedOwn

@@ -11,12 +11,14 @@ use Rattle.cb_world.specs.Played.{after}
 use Rattle.cb_world.specs.Written.{adds}
 use Rattle.cb_rule.specs.declared.view.View.{View}
 use Rattle.cb_rule.specs.Rule.{Kept}
+use Rattle.cb_rule.specs.Own.{AreOwn}
 use Rattle.cb_rule.specs.Ruled.{AreShares, Beside, IsAlike, IsSteady, Ruled}
 use Rattle.cb_rule.specs.Seats.{share_of}
 use Rattle.cb_rule.specs.Slot.{Table}
 use Rattle.cb_rule.specs.Steps.{act, blank}
 use Rattle.cb_rule.proofs.Counts.{total-same}
 use Rattle.cb_rule.proofs.Keeping.{Steps, first_stays, keeps_rule, seats_stay}
+use Rattle.cb_rule.proofs.Owning.{Keeps, own_acted, own_kept}
 
 -- a list with an element put where it is
 pub set_same : {A : Type 0} (vs : List A) (id : ℕ) (v : A) → get_elem? vs id ≡ some v
@@ -46,18 +48,27 @@ shares_stay c views id v w at same live r = record {
 module _ (beside : Beside) (steady : IsSteady beside) (first : ℕ) (c : Config) (s : Table)
     (id : ℕ) (v : View) (at : get_elem? s.views id ≡ some v) (r : Ruled beside first c s) where
   -- a step of any seat, under which what is known stays
-  pub any_seat : (w : View) (ws : List ℕ) (es : List Entry) → w.share ≡ v.share → 1 ≤ v.share
-      → IsAlike v w → get_or ws 0 0 ≡ get_or s.words 0 0
+  pub any_step : (w : View) (ws : List ℕ) (es : List Entry) → w.share ≡ v.share → 1 ≤ v.share
+      → IsAlike v w → AreOwn first (set s.views id w) → get_or ws 0 0 ≡ get_or s.words 0 0
       → Kept c ws (set s.views id w) r.known es
       → Ruled beside first c record { words = ws; homes = s.homes; views = set s.views id w }
-  any_seat w ws es share live alike lock kept = record {
+  any_step w ws es share live alike own lock kept = record {
     known = r.known;
     history = es;
     starts = r.starts;
     kept = kept;
     shares = shares_stay c s.views id v w at share live r.shares;
+    own = own;
     far = steady.stays c s ws r.known r.known id v w at lock alike (inl refl) refl r.far;
   }
+
+  -- one under which no object comes to it that is another's own
+  pub any_seat : (w : View) (ws : List ℕ) (es : List Entry) → w.share ≡ v.share → 1 ≤ v.share
+      → IsAlike v w → Keeps v w → get_or ws 0 0 ≡ get_or s.words 0 0
+      → Kept c ws (set s.views id w) r.known es
+      → Ruled beside first c record { words = ws; homes = s.homes; views = set s.views id w }
+  any_seat w ws es share live alike keeps lock kept = any_step w ws es share live alike
+      (own_kept first s.views id v at r.own w keeps) lock kept
 
   -- what the holder knows is what the rule knows
   pub mine : v.holds ≡ true → Kept c s.words s.views v.known r.history
@@ -81,6 +92,9 @@ module _ (beside : Beside) (steady : IsSteady beside) (first : ℕ) (c : Config)
         kept = keeps_rule c s.words (set s.words i x) s.views id v e r.history (mine holds) at
             holds t;
         shares = shares_stay c s.views id v (act e v) at refl live r.shares;
+        own = own_acted first c s.words s.views id v at r.own e r.history (mine holds) holds
+            (sym (ap (λ (k : Shown). k.first) ((r.kept.seats id v at).knows holds) ∙ r.starts))
+            t.follows t.within;
         far = steady.stays c s (set s.words i x) r.known (after e v.known) id v (act e v) at
             (same_lock s.words i x pos) record { holds = refl; took = refl; turns = refl }
             (inr holds) first_is r.far;

@@ -27,6 +27,7 @@ use Rattle.cb_rule.specs.Slot.{Table}
 use Rattle.cb_rule.specs.Stands.{Stands}
 use Rattle.cb_rule.specs.Steps.{blank, opener}
 use Rattle.cb_rule.specs.Words.{base, pointer}
+use Rattle.cb_rule.proofs.Owning.{own_one}
 use Rattle.cb_rule.proofs.Seating.{never_now}
 
 pub same_each : {A : Type 0} (n : ℕ) (x : A) (i : ℕ) → get_or (replicate n x) i x ≡ x
@@ -167,6 +168,7 @@ module _ (first : ℕ) (pos : 1 ≤ first) (c : Config) (ws : List ℕ) (wide : 
         spent = one_view (λ u. u.share ≡ 0 → u ≡ blank c)
             (λ none. absurd (let z : 64 ≡ 0 = none in omega (arith, z)));
       };
+      own = own_one first (opener c) refl refl;
       far = locked_opens;
     }
 

@@ -1,5 +1,5 @@
 -- The rule says what stands of the words and the views alone.
-use Rattle.std.proofs.Common.{◌≡◌, ℕ, ◌+◌, ◌*◌, ◌/◌, ◌%◌, ◌<◌, ◌&&◌, Bool, true, false, eqb, List, [], ◌++◌, sym, refl, ap, ◌∙◌, subst, inl, inr, ⊎_elim, arith, eq-eqb, eqb-true, true≢false}
+use Rattle.std.proofs.Common.{◌≡◌, ℕ, ◌+◌, ◌*◌, ◌/◌, ◌%◌, ◌<◌, ◌&&◌, Bool, true, eqb, List, [], ◌++◌, sym, refl, ap, ◌∙◌, subst, inl, inr, ⊎_elim, arith, eq-eqb, eqb-true}
 use mathlib.Core.Option.{some}
 use lib.ListN.{get_elem?}
 use Rattle.cb_types.specs.declared.config.Config.{Config}
@@ -27,11 +27,8 @@ use Rattle.cb_rule.specs.Words.{pointer, words_at}
 use Rattle.cb_rule.proofs.Calm.{lies}
 use Rattle.cb_rule.proofs.Counts.{each_append, times-append}
 use Rattle.cb_rule.proofs.Members.{each_has, has_times, times_has, total_some}
+use Rattle.cb_rule.proofs.Owning.{both_true}
 use Rattle.cb_rule.proofs.Histories.{IsEntry, entry_before, entry_within, newest_entry, once, same_entry, stands}
-
-both_true : (a b : Bool) → (a && b) ≡ true → (a ≡ true) × (b ≡ true)
-both_true true b e = (refl, e)
-both_true false b e = absurd (true≢false (sym e))
 
 has_same : (x e : Entry) (xs : List Entry) → x ≡ e → Has x xs → Has e xs
 has_same x e xs is h = subst (λ (y : Entry). Has y xs) is h

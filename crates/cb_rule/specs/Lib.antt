@@ -3,6 +3,7 @@ pub mod Words
 pub mod History
 pub mod Slot
 pub mod Seats
+pub mod Own
 pub mod Stands
 pub mod Rule
 pub mod Records
