@@ -27,6 +27,7 @@ pub mod Taking
 pub mod Giving
 pub mod Promising
 pub mod Turns
+pub mod Told
 pub mod Showing
 pub mod Laws
 pub mod WorkedHistory
@@ -36,4 +37,5 @@ pub mod WorkedClaims
 pub mod WorkedPromise
 pub mod WorkedLocking
 pub mod WorkedTurns
+pub mod WorkedTold
 pub mod WorkedOwn

@@ -13,4 +13,5 @@ pub mod Locking
 pub mod LockSteps
 pub mod Promised
 pub mod OneHistory
+pub mod Told
 pub mod AsShown
