@@ -1,5 +1,5 @@
 -- The rule at the start: no object was made, and every word is 0. And the holder between two turns.
-use Rattle.std.proofs.Common.{◌≡◌, ℕ, zero, suc, ◌+◌, ◌*◌, ◌<◌, ◌≤◌, true, false, List, [], ◌∷◌, ◌++◌, length, get_or, set, replicate, sym, refl, ap, ◌∙◌, subst, arith, true≢false}
+use Rattle.std.proofs.Common.{◌≡◌, ℕ, zero, suc, ◌+◌, ◌*◌, ◌<◌, ◌≤◌, true, false, List, [], ◌∷◌, ◌++◌, length, get_or, set, replicate, sym, refl, ap, ◌∙◌, subst, inl, inr, arith, true≢false}
 use mathlib.Core.Option.{some, none, some-injective, some-ne-none}
 use lib.ListN.{get_elem?}
 use Rattle.atomic_table.specs.Table.{step, keeps, opening, Allows}
@@ -14,11 +14,11 @@ use Rattle.cb_world.specs.Shown.{Fits, never, object_at, version_at}
 use Rattle.cb_rule.specs.declared.view.View.{View}
 use Rattle.cb_rule.specs.History.{Value, WasNow, is_version, newest, no_value, top}
 use Rattle.cb_rule.specs.Lists.{total, Each, Has}
-use Rattle.cb_rule.specs.Own.{AreOwn, StaysWithin, writes_it}
+use Rattle.cb_rule.specs.Own.{AreOwn, writes_it}
 use Rattle.cb_rule.specs.Records.{OldOk, SeatOk}
 use Rattle.cb_rule.specs.Rule.{Kept}
 use Rattle.cb_rule.specs.Ruled.{Beside, IsSteady, Ruled, alone}
-use Rattle.cb_rule.specs.Seats.{pins_on, claims_on, written_on}
+use Rattle.cb_rule.specs.Seats.{pins_on, claims_on}
 use Rattle.cb_rule.specs.Slot.{Sat, Slot}
 use Rattle.cb_rule.specs.Stands.{Stands}
 use Rattle.cb_rule.specs.Steps.{blank, opener, rested, rests}
@@ -27,7 +27,8 @@ use Rattle.cb_rule.proofs.Calm.{Quiet, still_rule}
 use Rattle.cb_rule.proofs.Counts.{each_append, each_map, times-append}
 use Rattle.cb_rule.proofs.Members.{each_has}
 use Rattle.cb_rule.proofs.Lifting.{any_step, same_words}
-use Rattle.cb_rule.proofs.Owning.{made_once, own_given, own_one}
+use Rattle.cb_rule.proofs.Binding.{bound_stays}
+use Rattle.cb_rule.proofs.Owning.{own_given, own_one}
 use Rattle.cb_rule.proofs.Seating.{never_now}
 
 pub same_each : {A : Type 0} (n : ℕ) (x : A) (i : ℕ) → get_or (replicate n x) i x ≡ x
@@ -122,6 +123,7 @@ module _ (first : ℕ) (pos : 1 ≤ first) (c : Config) (ws : List ℕ) (wide : 
       spent = one_share;
     };
     own = own_one first (opener first c) refl refl;
+    bound = λ h l. inr (inl (same_each c.handles never h));
     far = far;
   }
     where
@@ -162,9 +164,9 @@ old_now c ws views known es r h l = go (object_at known h) (r.stand h l)
 module _ (beside : Beside) (steady : IsSteady beside) (first : ℕ) (c : Config) (slots id : ℕ)
     (me : Sat) (live : 1 ≤ me.0.share) (holds : me.0.holds ≡ true) where
   -- the holder ends a turn: a load of the lock
-  pub ends_turn : StaysWithin first me.0 → Allows (Ruled beside first c) slots id me 0 (λ n. n)
+  pub ends_turn : Allows (Ruled beside first c) slots id me 0 (λ n. n)
       (rests (step slots 0 0 0 none) me)
-  ends_turn within s r _ at _ = (
+  ends_turn s r _ at _ = (
     w,
     keeps,
     tt,
@@ -174,7 +176,10 @@ module _ (beside : Beside) (steady : IsSteady beside) (first : ℕ) (c : Config)
       views = set s.views id w;
     }) (sym (same_words s.words 0))
         (any_step beside steady first c s id me.0 at r w s.words es refl live
-        record { holds = refl; took = refl; turns = refl } own refl
+        record { holds = refl; took = refl; turns = refl } own
+        (bound_stays c r.known s.views id me.0 w at refl
+        (λ h. let all = times-append (writes_it h) me.0.fresh me.0.written in omega (arith, all))
+        r.bound) refl
         (still_rule c s.words s.views r.known es k id 0 me.0 w at quiet refl)),
     (
       length es,
@@ -200,10 +205,9 @@ module _ (beside : Beside) (steady : IsSteady beside) (first : ℕ) (c : Config)
 
       own : AreOwn first (set s.views id w)
       own = own_given first s.views id me.0 at r.own
-          (λ h. subst (λ (n : ℕ). total (written_on h n) s.views ≤ 1) r.starts
-          (made_once c s.words s.views r.known es k h)) within w [] refl refl refl tt
-          (λ h none wrote. let all = times-append (writes_it h) me.0.fresh me.0.written in
-          omega (arith, none, wrote, all))
+          w [] refl refl refl tt
+          (λ h none. let all = times-append (writes_it h) me.0.fresh me.0.written in
+          omega (arith, none, all))
 
       all : Each (λ e. Has e es) (me.0.fresh ++ me.0.written)
       all = each_append (λ e. Has e es) me.0.fresh me.0.written ok.lasting.fresh ok.lasting.written
