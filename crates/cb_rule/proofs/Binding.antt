@@ -39,6 +39,11 @@ held_more h v w same le =
     (λ b. cond {A = ℕ} b (entries_on h v) 0 ≤ cond b (entries_on h w) 0) v.holds
     (λ _. le) (λ _. omega arith) in omega (arith, e, all)
 
+-- no more than its entries
+pub held_at_most : (h : ℕ) (v : View) → held_on h v ≤ entries_on h v
+held_at_most h v = by_case (λ b. cond {A = ℕ} b (entries_on h v) 0 ≤ entries_on h v) v.holds
+    (λ _. omega arith) (λ _. omega arith)
+
 -- other views, of which the holder has no fewer entries
 pub bound_by : (c : Config) (known : Shown) (views more : List View)
     → ((h : ℕ) → total (held_on h) views ≤ total (held_on h) more) → AreBound c known views
@@ -256,7 +261,6 @@ settles_within c views id v at holds one pos b h w l may = ⊎_elim
     mine : 0 < total (held_on h) views → 0 < entries_on h v
     mine t = let seat = total_some (held_on h) views (omega (arith, t)) in
         his seat.0 seat.1 seat.2 seat.3
-
       where
         his : (j : ℕ) (u : View) → get_elem? views j ≡ some u → 1 ≤ held_on h u
             → 0 < entries_on h v

@@ -63,7 +63,7 @@ module _ (beside : Beside) (steady : IsSteady beside) (first : ℕ) (c : Config)
     shares = shares_stay c s.views id v w at share live r.shares;
     own = own;
     bound = bound;
-    far = steady.stays c s ws r.known r.known id v w at lock alike (inl refl) r.far;
+    far = steady.stays c s ws r.known r.known id v w at lock alike (inl refl) refl r.far;
   }
 
   -- one under which no object comes to it that is another's own
@@ -89,24 +89,25 @@ module _ (beside : Beside) (steady : IsSteady beside) (first : ℕ) (c : Config)
         homes = s.homes;
         views = set s.views id (act e v);
       }
-  next e i x holds live pos within stamps t = record {
-    known = after e v.known;
-    history = adds e v.known ++ r.history;
-    starts = first_stays e v.known ∙ ap (λ (k : Shown). k.first)
-        ((r.kept.seats id v at).knows holds)
-        ∙ r.starts;
-    kept = keeps_rule c s.words (set s.words i x) s.views id v e r.history (mine holds) at holds t;
-    shares = shares_stay c s.views id v (act e v) at refl live r.shares;
-    own = own_acted first c s.words s.views id v at r.own e r.history (mine holds) holds
-        (sym (ap (λ (k : Shown). k.first) ((r.kept.seats id v at).knows holds) ∙ r.starts))
-        t.follows t.within within;
-    bound = bound_acted c s.views id v at holds (mine holds).sized e stamps
-        (subst (λ (k : Shown). AreBound c k s.views) (sym ((r.kept.seats id v at).knows holds))
-        r.bound);
-    far = steady.stays c s (set s.words i x) r.known (after e v.known) id v (act e v) at
-        (same_lock s.words i x pos) record { holds = refl; took = refl; turns = refl } (inr holds)
-        r.far;
-  }
+  next e i x holds live pos within stamps t =
+      let first_is : (after e v.known).first ≡ r.known.first = first_stays e v.known
+      ∙ ap (λ (k : Shown). k.first) ((r.kept.seats id v at).knows holds) in record {
+        known = after e v.known;
+        history = adds e v.known ++ r.history;
+        starts = first_is ∙ r.starts;
+        kept = keeps_rule c s.words (set s.words i x) s.views id v e r.history (mine holds) at
+            holds t;
+        shares = shares_stay c s.views id v (act e v) at refl live r.shares;
+        own = own_acted first c s.words s.views id v at r.own e r.history (mine holds) holds
+            (sym (ap (λ (k : Shown). k.first) ((r.kept.seats id v at).knows holds) ∙ r.starts))
+            t.follows t.within within;
+        bound = bound_acted c s.views id v at holds (mine holds).sized e stamps
+            (subst (λ (k : Shown). AreBound c k s.views)
+            (sym ((r.kept.seats id v at).knows holds)) r.bound);
+        far = steady.stays c s (set s.words i x) r.known (after e v.known) id v (act e v) at
+            (same_lock s.words i x pos) record { holds = refl; took = refl; turns = refl }
+            (inr holds) first_is r.far;
+      }
 
   -- a load of the holder
   pub next_load : (e : Event) (i : ℕ) → v.holds ≡ true → 1 ≤ v.share → 0 < i
