@@ -24,7 +24,7 @@ use Rattle.cb_rule.specs.Records.{SeenOk}
 use Rattle.cb_rule.specs.Own.{AreOwn, reads_it, traces, writes_it}
 use Rattle.cb_rule.specs.Rule.{Kept}
 use Rattle.cb_rule.specs.Ruled.{Ruled}
-use Rattle.cb_rule.specs.Seats.{holding, written_on}
+use Rattle.cb_rule.specs.Seats.{holding}
 use Rattle.cb_rule.specs.Slot.{Sat, Slot, Table}
 use Rattle.cb_rule.proofs.Counts.{each_append, each_map, hit, miss, times-append, total-at, total-set}
 use Rattle.cb_rule.proofs.Flagging.{flagged, lock_word}
@@ -32,7 +32,7 @@ use Rattle.cb_rule.proofs.Glancing.{freed_at, known_below, known_made}
 use Rattle.cb_rule.proofs.Keeping.{seats_stay}
 use Rattle.cb_rule.proofs.Lifting.{shares_stay}
 use Rattle.cb_rule.proofs.Members.{each_has}
-use Rattle.cb_rule.proofs.Owning.{known_traces, made_once, not_it, own_given}
+use Rattle.cb_rule.proofs.Owning.{known_traces, not_it, own_given}
 use Rattle.cb_rule.proofs.Seating.{never_now}
 
 -- ---- far states by how many turns were counted, and one more
@@ -290,13 +290,10 @@ module _ (deeds : Deeds) (first : ℕ) (c : Config) (s : Table) (id : ℕ) (v : 
           ap (λ (k : ℕ). cond {A = ℕ} (eqb k h) 1 0) same ∙ out in omega (arith, off, rest)
 
   own_now : AreOwn first views
-  own_now = own_given first s.views id v at r.own
-      (λ h. subst (λ (n : ℕ). total (written_on h n) s.views ≤ 1) r.starts
-      (made_once c s.words s.views r.known r.history r.kept h)) may.within w made refl refl refl
-      may.makes
-      (λ h bare wrote. let all = times-append (writes_it h) v.fresh v.written in
+  own_now = own_given first s.views id v at r.own w made refl refl refl may.makes
+      (λ h bare. let all = times-append (writes_it h) v.fresh v.written in
       let read = times-append (reads_it h) freed v.seen in let found = none_found h bare in
-      omega (arith, bare, wrote, all, read, found))
+      omega (arith, bare, all, read, found))
 
   ruled_given : (n : ℕ) → 1 ≤ v.share → n ≡ 2 * far.counts.turns
       → Ruled (Locked deeds) first c (after n)
@@ -307,6 +304,7 @@ module _ (deeds : Deeds) (first : ℕ) (c : Config) (s : Table) (id : ℕ) (v : 
     kept = kept_given n;
     shares = shares_stay c s.views id v w at refl live r.shares;
     own = own_now;
+    bound = λ h _. inl (stood.sound.here.known.stamped h);
     far = ⊎_elim
         (λ (z : (v.took.counts.turns < 2 ^ 40) × (far.counts.turns ≡ v.took.counts.turns + 1)).
         locked_next n word z.0 z.1)

@@ -4,6 +4,7 @@ pub mod Growing
 pub mod Histories
 pub mod Keeping
 pub mod Owning
+pub mod Binding
 pub mod Lifting
 pub mod Looking
 pub mod Newest

@@ -20,7 +20,7 @@ use Rattle.cb_rule.specs.OneHistory.{HasNumber, IsOneHistory, Made, TurnsStand}
 use Rattle.cb_rule.specs.Slot.{Sat, Slot}
 use Rattle.cb_rule.specs.Steps.{freed_seen, version_seen}
 use Rattle.cb_rule.proofs.Members.{each_has}
-use Rattle.cb_rule.proofs.WorkedHistory.{made, written}
+use Rattle.cb_rule.proofs.WorkedHistory.{made}
 use Rattle.cb_rule.proofs.WorkedLocking.{far, home, no_frames, one_turn, one_view, quiet, seat, seen, stood, table, turn}
 use Rattle.cb_rule.proofs.WorkedViews.{pair_of}
 
@@ -122,7 +122,6 @@ may_give = record {
   adds = inl (lit< tt, refl);
   did = λ n. refl;
   found = tt;
-  within = (inl refl, tt);
   makes = (lit< tt, tt);
 }
 
@@ -150,13 +149,7 @@ as_before m = not_counted m.adds
 did_else : MayGive quiet 3 pair_of Evict None (far 2) [] (1 ∷ []) record at_work { acts = Looked 0 0 ∷ [] } → ⊥
 did_else m = let e : 1 ≡ 0 = ap (λ (es : List _). length es) (m.did 0) in omega (arith, e)
 
--- an entry of an object of which the record has nothing, and a handle that the turn did not make
-writes_of_another : MayGive quiet 3 pair_of Evict None (far 2) [] [] record at_work {
-  fresh = written ∷ [];
-} → ⊥
-writes_of_another m = ⊎_elim (λ (e : 4 ≡ 3). omega (arith, e))
-    (λ (l : 0 < 0 + 0 + 0 + 0). omega (arith, l)) m.within.0
-
+-- a handle that the turn did not make
 did_not_make : MayGive quiet 3 pair_of Evict None (far 2) [] (0 ∷ []) at_work → ⊥
 did_not_make m = let l : 0 < 0 + 0 = m.makes.0 in omega (arith, l)
 
