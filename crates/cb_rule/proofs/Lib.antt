@@ -28,6 +28,9 @@ pub mod Giving
 pub mod Promising
 pub mod Turns
 pub mod Showing
+pub mod Lone
+pub mod ClosedWorld
+pub mod Closing
 pub mod Laws
 pub mod WorkedHistory
 pub mod WorkedViews
@@ -37,3 +40,4 @@ pub mod WorkedPromise
 pub mod WorkedLocking
 pub mod WorkedTurns
 pub mod WorkedOwn
+pub mod WorkedClosing

@@ -14,3 +14,4 @@ pub mod LockSteps
 pub mod Promised
 pub mod OneHistory
 pub mod AsShown
+pub mod Closing
