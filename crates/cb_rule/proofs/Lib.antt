@@ -30,6 +30,9 @@ pub mod Promising
 pub mod Turns
 pub mod Told
 pub mod Showing
+pub mod Lone
+pub mod ClosedWorld
+pub mod Closing
 pub mod Laws
 pub mod WorkedHistory
 pub mod WorkedViews
@@ -40,3 +43,4 @@ pub mod WorkedLocking
 pub mod WorkedTurns
 pub mod WorkedTold
 pub mod WorkedOwn
+pub mod WorkedClosing

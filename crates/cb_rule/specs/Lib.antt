@@ -15,3 +15,4 @@ pub mod Promised
 pub mod OneHistory
 pub mod Told
 pub mod AsShown
+pub mod Closing
