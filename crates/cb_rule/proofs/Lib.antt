@@ -32,6 +32,7 @@ pub mod Told
 pub mod Showing
 pub mod Lone
 pub mod ClosedWorld
+pub mod ShownWorld
 pub mod Closing
 pub mod Laws
 pub mod WorkedHistory

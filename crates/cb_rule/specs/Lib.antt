@@ -16,3 +16,4 @@ pub mod OneHistory
 pub mod Told
 pub mod AsShown
 pub mod Closing
+pub mod ShownWorld
