@@ -91,8 +91,8 @@ abbrev pub AddsTurn : FarState → FarState → Type 0
 AddsTurn far new = ((far.counts.turns < 2 ^ 40) × (new.counts.turns ≡ far.counts.turns + 1))
     ⊎ ((far.counts.turns ≡ 2 ^ 40) × (new ≡ far))
 
--- The holder may give the lock back with this far state: what it knows is sound for it, and the turn
--- did what its job says, and made what is said to be its own.
+-- The holder may give the lock back with this far state: what it knows is sound for it, the turn did
+-- what its job says, and it made what is to be its own.
 pub record MayGive (deeds : Deeds) (first : ℕ) (c : Config) (job : Job) (reply : Option Reply)
     (far : FarState) (freed : List Seen) (made : List ℕ) (v : View) : Type 0 where
   pub holds : v.holds ≡ true
