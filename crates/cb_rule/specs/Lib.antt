@@ -3,10 +3,17 @@ pub mod Words
 pub mod History
 pub mod Slot
 pub mod Seats
+pub mod Own
 pub mod Stands
 pub mod Rule
 pub mod Records
 pub mod Steps
 pub mod Ruled
+pub mod Locking
+pub mod LockSteps
 pub mod Promised
+pub mod OneHistory
+pub mod Told
 pub mod AsShown
+pub mod Closing
+pub mod ShownWorld

@@ -7,6 +7,7 @@ use Rattle.cb_world.specs.declared.entry.Entry.{Entry}
 use Rattle.cb_world.specs.declared.shown.Shown.{Shown}
 use Rattle.cb_rule.specs.declared.view.View.{View}
 use Rattle.cb_rule.specs.Lists.{total}
+use Rattle.cb_rule.specs.Own.{AreBound, AreOwn}
 use Rattle.cb_rule.specs.Rule.{Kept}
 use Rattle.cb_rule.specs.Seats.{share_of}
 use Rattle.cb_rule.specs.Slot.{Table}
@@ -22,10 +23,6 @@ pub record AreShares (c : Config) (views : List View) : Type 0 where
 abbrev pub Beside : Type 1
 Beside = Config → Table → Shown → Type 0
 
--- nothing, while the far state is no part of the table
-abbrev pub alone : Beside
-alone c s known = Unit {0}
-
 -- the lock and the turns of a view
 pub record IsAlike (v w : View) : Type 0 where
   pub holds : w.holds ≡ v.holds
@@ -33,11 +30,12 @@ pub record IsAlike (v w : View) : Type 0 where
   pub turns : w.turns ≡ v.turns
 
 -- A step on another word than the lock keeps what stands beside, where the seat's lock and turns
--- stay and what is known stays but for the holder. So do a split and a join of seats.
+-- stay and what is known stays but for the holder, who keeps the first version. So do a split and a
+-- join of seats.
 pub record IsSteady (beside : Beside) : Type 0 where
   pub stays : (c : Config) (s : Table) (ws : List ℕ) (known known' : Shown) (id : ℕ) (v w : View)
       → get_elem? s.views id ≡ some v → slice_index ws 0 ≡ slice_index s.words 0 → IsAlike v w
-      → (known' ≡ known) ⊎ (v.holds ≡ true) → beside c s known
+      → (known' ≡ known) ⊎ (v.holds ≡ true) → known'.first ≡ known.first → beside c s known
       → beside c record { words = ws; homes = s.homes; views = slice_set s.views id w } known'
   pub splits : (c : Config) (s : Table) (known : Shown) (id : ℕ) (v left right : View)
       → get_elem? s.views id ≡ some v → IsAlike v left → right.holds ≡ false → right.turns ≡ []
@@ -65,4 +63,6 @@ pub record Ruled (beside : Beside) (first : ℕ) (c : Config) (s : Table) : Type
   pub starts : known.first ≡ first
   pub kept : Kept c s.words s.views known history
   pub shares : AreShares c s.views
+  pub own : AreOwn first s.views
+  pub bound : AreBound c known s.views
   pub far : beside c s known
