@@ -2,6 +2,7 @@ pub mod Places
 pub mod SeatLaws
 pub mod Handles
 pub mod Passes
+pub mod Parts
 pub mod Glances
 pub mod Claims
 pub mod Pinning
@@ -9,3 +10,5 @@ pub mod Writing
 pub mod Joining
 pub mod Tallies
 pub mod Turning
+pub mod PinLoads
+pub mod Reading

@@ -11,6 +11,7 @@ pub mod pass;
 mod pinning;
 mod pins;
 mod plays;
+mod reading;
 pub mod runtime;
 mod seat_desk;
 mod seats;
