@@ -1,5 +1,5 @@
 -- The steps of a pin are allowed by the rule of the table, whose key has the configuration.
-use Rattle.std.proofs.Common.{◌≡◌, ℕ, ◌+◌, ◌-◌, ◌%◌, ◌^◌, ◌<◌, ◌≤◌, length, eqb}
+use Rattle.std.proofs.Common.{◌≡◌, ℕ, ◌+◌, ◌-◌, ◌%◌, ◌^◌, ◌<◌, ◌≤◌, get_or, length, eqb, sym, ap, ◌∙◌, subst}
 use mathlib.Core.Option.{none}
 use prog.Atomic.{either}
 use Rattle.atomic_table.specs.Table.{step, Allows}
@@ -16,6 +16,7 @@ use Rattle.cb_rule.specs.Slot.{Sat}
 use Rattle.cb_rule.specs.Steps.{Knows, glanced, pinned, unpinned, peeked, dated}
 use Rattle.cb_rule.specs.Words.{base}
 use Rattle.cb_rule.proofs.Laws.{alone_steady, dates, gives_pins, glances, peeks, takes_pin}
+use Rattle.cb_shared.specs.PinLoads.{read_pin}
 use Rattle.cb_shared.proofs.Alone.{at_key}
 
 module _ (first : ℕ) (c k : Config) (key : k ≡ c) (slots id : ℕ) (me : Sat)
@@ -55,3 +56,22 @@ module _ (first : ℕ) (c k : Config) (key : k ≡ c) (slots id : ℕ) (me : Sat
       (dated (step slots i 0 0 none) me)
   dates_at i = at_key first c k slots id me i (λ n. n) (dated (step slots i 0 0 none) me) key
       (dates alone alone_steady first c slots id me i)
+
+  -- a load tells what a peek tells, and leaves the record as a look at a version word does
+  pub reads_pin_at : me.0.config ≡ c → (i : ℕ) → Allows (Ruled alone first k) slots id me i (λ n. n)
+      (read_pin (step slots i 0 0 none) me)
+  reads_pin_at same i s r long at low = let a = dates_at i s r long at low in (
+    a.0,
+    a.1,
+    a.2,
+    a.3,
+    (
+      a.4.0,
+      λ p j has lt is.
+          let here = is ∙ ap (λ (x : Config). base x + p.place + j) same in
+          let z = peeks_at p j has lt s r long at
+          (subst (λ (n : ℕ). get_or s.words n 0 < 18446744073709551616) here low) in
+          ap (λ (n : ℕ). get_or s.words n 0) here
+          ∙ (z.4 p j has lt (ap (λ (x : Config). base x + p.place + j) (sym same))).0,
+    ),
+  )

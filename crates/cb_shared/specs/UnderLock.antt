@@ -23,11 +23,12 @@ use Rattle.cb_rule.specs.LockSteps.{AddsTurn, HasTaken, gave_lock, took_lock, tu
 use Rattle.cb_rule.specs.Rule.{AreSized}
 use Rattle.cb_rule.specs.Slot.{Slot}
 use Rattle.cb_rule.specs.Steps.{acted}
+use Rattle.cb_shared.specs.declared.reading.ReadAnswer.{ReadAnswer}
 use Rattle.cb_shared.specs.declared.reading.ReadAnswer.TheVariants as found
 use Rattle.cb_shared.specs.Parts.{Part, grown, nothing_more}
 use Rattle.cb_shared.specs.Places.{Moves, Place}
 use Rattle.cb_shared.specs.SeatLaws.{Runs}
-use Rattle.cb_shared.specs.Turning.{AreLooksAt, Did, DidAs, FindsAtLast, JobReads, answer_of, held_by, made_by, slate_run, slate_shows, turn_part, with_own}
+use Rattle.cb_shared.specs.Turning.{AreLooksAt, Did, DidAs, FindsAtLast, FindsFreed, JobReads, answer_of, held_by, made_by, slate_run, slate_shows, turn_part, with_own}
 
 -- the same seat, with this view and these slots in hand
 abbrev pub IsAt : Place → Place → View → List (ℕ × Slot) → Type 0
@@ -116,6 +117,36 @@ Tries h (Ok answer.Moving) v d = FindsAtLast h found.Moving v d
 Tries h (Ok answer.Crowded) v d = FindsAtLast h found.Crowded v d
 Tries h (Ok other) v d = ⊥
 Tries h (Err e) v d = AreLooksAt h d
+
+-- they are so on a seat
+abbrev pub TriesOn : ℕ → Result Reply NoMemory → Place → Place → Type 0
+TriesOn h r p q = (d : Part) × Moves p q (grown d p.me.0) × Tries h r p.me.0 d
+
+-- the answer of a turn for that of its read under a pin
+abbrev pub IsReplyTo : ReadAnswer → Reply → Type 0
+IsReplyTo (found.Bytes version bytes) reply = reply ≡ answer.Bytes version bytes
+IsReplyTo found.Freed reply = reply ≡ answer.Freed
+IsReplyTo found.Moving reply = reply ≡ answer.Moving
+IsReplyTo found.Crowded reply = reply ≡ answer.Crowded
+IsReplyTo other reply = ⊥
+
+-- looks alone are left of it
+abbrev pub IsTriedAgain : ReadAnswer → Type 0
+IsTriedAgain found.NotHere = Unit {0}
+IsTriedAgain (found.Raced saw other) = Unit {0}
+IsTriedAgain a = ⊥
+
+-- the handle, if there is one, is in range
+abbrev pub IsBelow : Config → Option ℕ → Type 0
+IsBelow c (Some h) = h < c.handles
+IsBelow c None = Unit {0}
+
+-- a seat looked for the freed entry of an object, and of one if there is one
+abbrev pub LooksFor : ℕ → Place → Place → Type 0
+LooksFor h p q = (d : Part) × Moves p q (grown d p.me.0) × FindsAtLast h found.Freed p.me.0 d
+
+abbrev pub FreedMoves : Option ℕ → Place → Place → Type 0
+FreedMoves freed p q = (d : Part) × Moves p q (grown d p.me.0) × FindsFreed freed p.me.0 d
 
 -- The seat may give the lock back with this far state, whose turn had this job and this reply.
 pub record IsEnding (c : Config) (job : Job) (r : Option Reply) (far : FarState) (v : View) : Type 0

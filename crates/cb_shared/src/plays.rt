@@ -6,6 +6,7 @@ ghost use Rattle.cb_types.specs.declared.job.Job.TheVariants.{Evict};
 ghost use Rattle.cb_types.specs.declared.reply.Reply.{Reply};
 ghost use Rattle.cb_rule.specs.LockSteps.{gave, took};
 ghost use Rattle.cb_rule.specs.Steps.{looked, told, loaded, claimed, stored, stamped, settled, glanced, pinned, unpinned, peeked, dated, read_held, claimed_here, stored_here, stamped_here, settled_here, put_back, blank, left_of, right_of, joined};
+ghost use Rattle.cb_shared.specs.PinLoads.{read_pin};
 ghost use Rattle.cb_shared.specs.Tallies.{tallied};
 ghost use Rattle.cb_shared.specs.Turning.{made_by};
 
@@ -121,6 +122,13 @@ pub struct Peek;
 
 impl Play<Option<Far>, View> for Peek {
     ghost then = { peeked };
+}
+
+/// A load of such a word that adds nothing to the record.
+pub struct ReadPin;
+
+impl Play<Option<Far>, View> for ReadPin {
+    ghost then = { read_pin };
 }
 
 /// A look at a version word that does not change while the seat has a pin or a claim.
