@@ -3,7 +3,7 @@ use Rattle.std.specs.Prelude.{◌≡◌, ◌⊎◌, ℕ, List, [], ◌∷◌, �
 use Rattle.cb_member.specs.declared.no_memory.NoMemory.{NoMemory}
 use Rattle.cb_types.specs.declared.config.Config.{Config}
 use Rattle.cb_types.specs.declared.job.Job.{Job}
-use Rattle.cb_types.specs.declared.job.Job.TheVariants.{Read, Write, Free}
+use Rattle.cb_types.specs.declared.job.Job.TheVariants.{Make, Read, Write, Free}
 use Rattle.cb_types.specs.declared.reply.Reply.{Reply}
 use Rattle.cb_types.specs.declared.reply.Reply.TheVariants as answer
 use Rattle.cb_world.specs.declared.entry.Entry.{Entry}
@@ -83,10 +83,15 @@ abbrev pub answer_of : Result Reply NoMemory → Option Reply
 answer_of (Ok reply) = Some reply
 answer_of (Err e) = None
 
--- the handle that a turn with this reply made
-abbrev pub made_by : Option Reply → List ℕ
-made_by (Some (answer.Made handle version)) = handle.n ∷ []
-made_by other = []
+-- the handle that a reply tells of as made
+abbrev pub made_in : Option Reply → List ℕ
+made_in (Some (answer.Made handle version)) = handle.n ∷ []
+made_in reply = []
+
+-- the handle that a turn made
+abbrev pub made_by : Job → Option Reply → List ℕ
+made_by (Make bytes) reply = made_in reply
+made_by job reply = []
 
 -- the object that a job reads, writes or frees
 abbrev pub object_of : Job → Option ℕ
@@ -155,11 +160,12 @@ turn_part t more within later =
 abbrev pub with_own : List ℕ → View → View
 with_own made v = record v { own = made ++ v.own }
 
--- A turn of the pass with the record v. It stands in the record with its job, its reply, what was
+-- What a turn adds to the record v of its pass. It stands there with its job, its reply, what was
 -- known when it began, its events, and the far states that it took and gave, which are those of one
--- turn more. What it wrote is that of its reply, and a handle that it made is the pass's own. It is
--- answered Unavailable exactly where it is to be. All else of the record is as it was.
-pub record TurnBy (c : Config) (job : Job) (r : Result Reply NoMemory) (v w : View) : Type 0 where
+-- turn more. What it wrote is that of its reply. It is answered Unavailable exactly where it is to
+-- be.
+pub record TurnAdds (c : Config) (job : Job) (r : Result Reply NoMemory) (v : View) (d : Part)
+    : Type 0 where
   pub turn : Turn
   pub more : List Entry
   pub within : Part
@@ -170,8 +176,13 @@ pub record TurnBy (c : Config) (job : Job) (r : Result Reply NoMemory) (v w : Vi
   pub did : Did c turn
   pub next : IsNext turn.took turn.gave
   pub wrote : OutcomeWrites job r more
-  pub reads : JobReads job r v within
   pub tells : IfOk r (λ reply. TurnTells job turn.took reply)
-  pub finds : FindsFreed (freed_of job r)
-      (with_own (made_by turn.reply) (grown (turn_part turn more within nothing_more) v)) later
-  pub left : w ≡ with_own (made_by turn.reply) (grown (turn_part turn more within later) v)
+  pub reads : JobReads job r v within
+  pub finds : FindsFreed (freed_of job r) (with_own (made_by job (answer_of r))
+      (grown (turn_part turn more within nothing_more) v)) later
+  pub part : d ≡ turn_part turn more within later
+
+-- A handle that it made is the pass's own, and all else of the record is as it was.
+abbrev pub TurnBy : Config → Job → Result Reply NoMemory → View → View → Type 0
+TurnBy c job r v w = (d : Part) × TurnAdds c job r v d
+    × (w ≡ with_own (made_by job (answer_of r)) (grown d v))

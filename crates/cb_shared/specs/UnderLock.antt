@@ -160,7 +160,7 @@ pub record IsEnding (c : Config) (job : Job) (r : Option Reply) (far : FarState)
 pub record GivesFar (c : Config) (job : Job) (r : Option Reply) (far : FarState) (p q : Place)
     : Type 0 where
   pub entries : ℕ
-  pub at : IsAt p q (gave_lock job r far entries [] (made_by r) p.me.0) []
+  pub at : IsAt p q (gave_lock job r far entries [] (made_by job r) p.me.0) []
   pub written : Each (λ (e : Entry). e.handle < c.handles) (p.me.0.fresh ++ p.me.0.written)
 
 -- A turn of a seat that took the lock, to its end.
@@ -172,7 +172,7 @@ pub record TurnWith (c : Config) (job : Job) (r : Result Reply NoMemory) (took :
   pub within : Part
   pub entries : ℕ
   pub agree : Agree p.me.0.known events
-  pub at : IsAt p q (gave_lock job (answer_of r) gave entries [] (made_by (answer_of r))
+  pub at : IsAt p q (gave_lock job (answer_of r) gave entries [] (made_by job (answer_of r))
       (grown within (acted events p.me.0))) []
   pub below : Each (λ (e : Entry). e.handle < c.handles) (more ++ p.me.0.written)
   pub reads : JobReads job r p.me.0 within
@@ -195,4 +195,5 @@ pub record TurnedBy (c : Config) (job : Job) (r : Result Reply NoMemory) (v w : 
   pub below : Each (λ (e : Entry). e.handle < c.handles) (more ++ v.written)
   pub reads : JobReads job r v within
   pub tells : IfOk r (λ reply. TurnTells job turn.took reply)
-  pub left : w ≡ with_own (made_by turn.reply) (grown (turn_part turn more within nothing_more) v)
+  pub left : w ≡ with_own (made_by job (answer_of r))
+      (grown (turn_part turn more within nothing_more) v)

@@ -80,6 +80,7 @@ fn open_board(alloc: Global, words: &[u64], about: &Setup) -> Result<(Board, Pla
 /// One slot, with the far state of no objects.
 fn first_slots(alloc: Global, about: &Setup) -> Result<Vec<Option<Far>>, NoMemory>
     requires accepted { IsAccepted about.now.config }
+    requires first { 1 ≤ about.now.first }
     ensures { IfOk result (λ slots. slots.items
         ≡ Some (empty_far about.now.first about.now.config) ∷ []) }
 {
