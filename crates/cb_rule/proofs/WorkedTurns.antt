@@ -115,7 +115,7 @@ without_its_entry g = let e : 0 ≡ 1 = ap (λ (m : Sat). length m.0.written) g.
     omega (arith, e)
 
 -- ---- what a give needs
-may_give : MayGive quiet 3 pair_of Evict None (far 2) [] (1 ∷ []) at_work
+may_give : MayGive quiet pair_of Evict None (far 2) [] (1 ∷ []) at_work
 may_give = record {
   holds = refl;
   stood = stood 2 (lit≤ tt);
@@ -125,10 +125,10 @@ may_give = record {
   makes = (lit< tt, tt);
 }
 
-not_the_holder : MayGive quiet 3 pair_of Evict None (far 2) [] (1 ∷ []) record at_work { holds = false } → ⊥
+not_the_holder : MayGive quiet pair_of Evict None (far 2) [] (1 ∷ []) record at_work { holds = false } → ⊥
 not_the_holder m = true≢false (sym m.holds)
 
-not_sound : MayGive quiet 3 pair_of Evict None record (far 2) { spans = [] } [] (1 ∷ []) at_work → ⊥
+not_sound : MayGive quiet pair_of Evict None record (far 2) { spans = [] } [] (1 ∷ []) at_work → ⊥
 not_sound m = let e : 0 ≡ 1 = m.stood.configured.frames in omega (arith, e)
 
 -- the turn is not counted, or twice
@@ -143,14 +143,14 @@ counted_twice a = ⊎_elim (λ (z : (0 < 2 ^ 40) × (2 ≡ 1)). let e = z.1 in o
 refused_for_its_number : AddsTurn (far (2 ^ 40)) (far (2 ^ 40))
 refused_for_its_number = inr (refl, refl)
 
-as_before : MayGive quiet 3 pair_of Evict None (far 1) [] (1 ∷ []) at_work → ⊥
+as_before : MayGive quiet pair_of Evict None (far 1) [] (1 ∷ []) at_work → ⊥
 as_before m = not_counted m.adds
 
-did_else : MayGive quiet 3 pair_of Evict None (far 2) [] (1 ∷ []) record at_work { acts = Looked 0 0 ∷ [] } → ⊥
+did_else : MayGive quiet pair_of Evict None (far 2) [] (1 ∷ []) record at_work { acts = Looked 0 0 ∷ [] } → ⊥
 did_else m = let e : 1 ≡ 0 = ap (λ (es : List _). length es) (m.did 0) in omega (arith, e)
 
 -- a handle that the turn did not make
-did_not_make : MayGive quiet 3 pair_of Evict None (far 2) [] (0 ∷ []) at_work → ⊥
+did_not_make : MayGive quiet pair_of Evict None (far 2) [] (0 ∷ []) at_work → ⊥
 did_not_make m = let l : 0 < 0 + 0 = m.makes.0 in omega (arith, l)
 
 -- a freed entry that the turn found: of an object that the record knows, and that is empty
