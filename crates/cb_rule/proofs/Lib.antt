@@ -28,7 +28,12 @@ pub mod Taking
 pub mod Giving
 pub mod Promising
 pub mod Turns
+pub mod Told
 pub mod Showing
+pub mod Lone
+pub mod ClosedWorld
+pub mod ShownWorld
+pub mod Closing
 pub mod Laws
 pub mod WorkedHistory
 pub mod WorkedViews
@@ -37,4 +42,6 @@ pub mod WorkedClaims
 pub mod WorkedPromise
 pub mod WorkedLocking
 pub mod WorkedTurns
+pub mod WorkedTold
 pub mod WorkedOwn
+pub mod WorkedClosing
