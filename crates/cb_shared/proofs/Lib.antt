@@ -9,11 +9,16 @@ pub mod Only
 pub mod Parting
 pub mod Begun
 pub mod WriteSteps
+pub mod ReadBytes
+pub mod ReadSteps
 pub mod Tallying
 pub mod FirstPin
 pub mod AfterTurn
 pub mod Mapped
 pub mod Turns
+pub mod LockAlone
+pub mod ReadParts
+pub mod ReadTurns
 pub mod WorkedGround
 pub mod WorkedPins
 pub mod WorkedWrites
