@@ -1,5 +1,5 @@
 -- The pass with the whole share closes the runtime.
-use Rattle.std.proofs.Common.{◌≡◌, ◌≢◌, ℕ, zero, suc, ◌<◌, ◌≤◌, Bool, true, false, cond, List, [], ◌∷◌, Some, replicate, sym, refl, ap, ◌∙◌, subst, ⊎_elim, arith}
+use Rattle.std.proofs.Common.{◌≡◌, ◌≢◌, ℕ, ◌<◌, Bool, false, cond, List, [], ◌∷◌, Some, replicate, sym, refl, ap, ◌∙◌, subst, arith}
 use mathlib.Core.Option.{some}
 use lib.ListN.{get_elem?}
 use Rattle.atomic_table.specs.Table.{Final, Seen}
@@ -7,21 +7,15 @@ use Rattle.cb_types.specs.declared.config.Config.{Config}
 use Rattle.cb_types.specs.Config.{IsAccepted}
 use Rattle.cb_world.specs.declared.entry.Entry.{Entry}
 use Rattle.cb_world.specs.FarState.{FarState}
-use Rattle.cb_world.specs.Memory.{bytes_in}
-use Rattle.cb_world.specs.Now.{is_gone, now}
-use Rattle.cb_world.specs.Now.Now.{never as made_never, freed, held, gone}
 use Rattle.cb_world.specs.Seats.{idle_seat}
 use Rattle.cb_world.specs.StillDesk.{window_length}
 use Rattle.cb_world.specs.World.{WorldState}
-use Rattle.cb_world.proofs.Laws.{empty_value}
 use Rattle.cb_rule.specs.declared.view.View.{View}
-use Rattle.cb_rule.specs.AsShown.{as_shown}
-use Rattle.cb_rule.specs.Closing.{HoldsEntries, IsClosed, desk_of, now_of}
-use Rattle.cb_rule.specs.History.{newest, no_value, top, value_of}
+use Rattle.cb_rule.specs.Closing.{HoldsEntries, IsClosed, desk_of}
 use Rattle.cb_rule.specs.Lists.{times, total}
 use Rattle.cb_rule.specs.Locking.{Deeds, IsUnlocked, Locked}
 use Rattle.cb_rule.specs.OneHistory.{IsOneHistory}
-use Rattle.cb_rule.specs.Promised.{EntriesStand, Wrote}
+use Rattle.cb_rule.specs.Promised.{EntriesStand}
 use Rattle.cb_rule.specs.Rule.{Kept}
 use Rattle.cb_rule.specs.Ruled.{Ruled}
 use Rattle.cb_rule.specs.Seats.{claims_it, claims_on, holding, pins_it, pins_on}
@@ -29,13 +23,11 @@ use Rattle.cb_rule.specs.ShownWorld.{ShowsWorld}
 use Rattle.cb_rule.specs.Slot.{Slot, Table}
 use Rattle.cb_rule.specs.Steps.{blank}
 use Rattle.cb_rule.proofs.ClosedWorld.{closed_sound}
-use Rattle.cb_rule.proofs.Histories.{begun, entry_within, newest_entry}
 use Rattle.cb_rule.proofs.ShownWorld.{world_shown}
 use Rattle.cb_rule.proofs.Lone.{is_last, lone_entries, lone_total, lone_turns, wrote}
-use Rattle.cb_rule.proofs.Members.{each_has}
 use Rattle.cb_rule.proofs.Newest.{others_spent}
 use Rattle.cb_rule.proofs.Turns.{one_history}
-use Rattle.cb_rule.proofs.Promising.{entries_stand, has_wrote, last_newest, last_top, wrote_has}
+use Rattle.cb_rule.proofs.Promising.{entries_stand}
 
 -- A view with the whole share that has no pin, no claim and not the lock.
 pub record IsAtEnd (v : View) : Type 0 where

@@ -1,18 +1,18 @@
 -- While no seat holds the lock the table shows a sound world.
-use Rattle.std.proofs.Common.{◌≡◌, ◌≢◌, ℕ, zero, suc, ◌+◌, ◌<◌, ◌≤◌, Bool, true, false, cond, List, sym, refl, ap, ◌∙◌, ⊎_elim, arith}
+use Rattle.std.proofs.Common.{◌≡◌, ◌≢◌, ℕ, zero, suc, ◌<◌, ◌≤◌, Bool, true, false, cond, List, sym, refl, ◌∙◌, ⊎_elim, arith}
 use Rattle.cb_types.specs.declared.config.Config.{Config}
 use Rattle.cb_world.specs.declared.entry.Entry.{Entry}
 use Rattle.cb_world.specs.declared.object.Object.{Object}
 use Rattle.cb_world.specs.declared.object.Object.TheVariants as is
 use Rattle.cb_world.specs.FarState.{FarState}
 use Rattle.cb_world.specs.Memory.{bytes_in}
-use Rattle.cb_world.specs.Now.{Now, is_gone, now}
+use Rattle.cb_world.specs.Now.{is_gone, now}
 use Rattle.cb_world.specs.Now.Now.{never as made_never, freed, held, gone}
 use Rattle.cb_world.specs.Shown.{object_at, version_at}
 use Rattle.cb_world.proofs.Laws.{empty_value}
 use Rattle.cb_rule.specs.AsShown.{as_shown}
 use Rattle.cb_rule.specs.Closing.{now_of}
-use Rattle.cb_rule.specs.History.{Value, newest, no_value, top, value_of}
+use Rattle.cb_rule.specs.History.{newest, no_value, top, value_of}
 use Rattle.cb_rule.specs.Lists.{total}
 use Rattle.cb_rule.specs.Locking.{Deeds, IsUnlocked, Locked}
 use Rattle.cb_rule.specs.Promised.{Wrote}

@@ -17,6 +17,8 @@ pub mod AfterTurn
 pub mod Mapped
 pub mod Turns
 pub mod LockAlone
+pub mod MadeFirst
+pub mod Rights
 pub mod ReadParts
 pub mod ReadTurns
 pub mod WorkedGround
