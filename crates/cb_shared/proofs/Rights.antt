@@ -1,6 +1,7 @@
 -- A turn that may write an object may write it still after each of its steps.
-use Rattle.std.proofs.Common.{◌≡◌, ◌≢◌, ◌⊎◌, ℕ, zero, suc, ◌+◌, ◌<◌, ◌≤◌, Bool, true, cond, eqb, List, [], ◌∷◌, Option, None, Some, get_or, set, length, sym, refl, ap, ◌∙◌, subst, inl, inr, ⊎_elim, arith, eqb-true, get_or-set_other}
+use Rattle.std.proofs.Common.{◌≡◌, ◌≢◌, ◌⊎◌, ℕ, zero, suc, ◌+◌, ◌*◌, ◌<◌, ◌≤◌, Bool, true, cond, eqb, List, [], ◌∷◌, Option, None, Some, get_or, set, length, sym, refl, ap, ◌∙◌, subst, inl, inr, ⊎_elim, arith, eqb-true, get_or-set_other}
 use native.Mathlib.Decide.{ℕ_discrete}
+use Rattle.atomic_table.specs.Seated.{TableId}
 use Rattle.cb_types.specs.declared.config.Config.{Config}
 use Rattle.cb_types.specs.declared.job.Job.{Job}
 use Rattle.cb_types.specs.declared.job.Job.TheVariants.{Make, Write, Free}
@@ -24,7 +25,8 @@ use Rattle.cb_rule.specs.Own.{MayWrite, entries_on, writes_it}
 use Rattle.cb_rule.specs.Slot.{Sat}
 use Rattle.cb_rule.specs.Steps.{Knows, act, acted}
 use Rattle.cb_rule.proofs.Laws.{entries_acted, hit, known_entries, times-append}
-use Rattle.cb_shared.specs.Places.{Acts, Moves, Place}
+use Rattle.cb_shared.specs.declared.setup.Setup.{Setup}
+use Rattle.cb_shared.specs.Places.{Acts, Holds, Moves, Place}
 use Rattle.cb_shared.specs.Rights.{rights, unmade, writes_of}
 use Rattle.cb_shared.specs.Turning.{KnowsOf}
 
@@ -188,3 +190,31 @@ begins_with (Write handle at bytes) far v sound knows =
 begins_with (Free handle) far v sound knows =
     rights_are handle.n v.known v (inl (known_entries handle.n v knows))
 begins_with job far v sound knows = let z : 1 ≤ 1 = omega arith in z
+
+-- a claim, won or lost
+pub rights_claimed : (allowed : Option ℕ) (h saw w : ℕ) (p q : Place)
+    → (w ≡ saw → (n : ℕ) × (words : List ℕ) × Acts p (ev.Claimed h saw n words) q)
+    → (w ≢ saw → Acts p (ev.Looked h w) q) → 1 ≤ rights allowed p.me.0.known p.me.0
+    → 1 ≤ rights allowed q.me.0.known q.me.0
+rights_claimed allowed h saw w p q won lost r = elim (ℕ_discrete w saw) [
+  | yes e ↦ let x = won e in rights_moved allowed (ev.Claimed h saw x.0 x.1) p q x.2 tt r
+  | no ne ↦ rights_moved allowed (ev.Looked h w) p q (lost ne) tt r
+]
+
+-- the turn may write this object
+pub rights_within : (allowed : Option ℕ) (h : ℕ) (known : Shown) (v : View) → allowed ≡ Some h
+    → 1 ≤ rights allowed known v → MayWrite h known v
+rights_within allowed h known v is r =
+    may_write h known v (subst (λ (x : Option ℕ). 1 ≤ rights x known v) is r)
+
+-- what a desk says of its seat
+pub holds_of : (z : TableId) (k : Setup) (c : Config) (p : Place) → p.table_id ≡ z
+    → z.words ≡ 1 + c.handles + c.handles + 512 * c.frames → k.config ≡ c → p.me.0.config ≡ c
+    → 1 ≤ p.me.0.share → p.me.0.holds ≡ true → length p.me.0.known.objects ≡ c.handles
+    → length p.me.0.known.hots ≡ c.handles → length p.me.0.known.versions ≡ c.handles
+    → length p.me.0.known.memory ≡ 512 * c.frames → Holds z k c p
+holds_of z k c p table words key config live holds objects hots versions memory = record {
+  of = record { table = table; words = words; key = key; config = config; live = live };
+  holds = holds;
+  sized = record { objects = objects; hots = hots; versions = versions; memory = memory };
+}

@@ -2,7 +2,7 @@
 ghost use Rattle.std.specs.Prelude.{◌≡◌, ◌<◌, ◌≤◌, true, false, [], length, None, Some, IfOk};
 ghost use Rattle.cb_types.specs.Config.{IsAccepted};
 ghost use Rattle.cb_types.specs.declared.handle.Handle.{Handle};
-ghost use Rattle.cb_types.specs.declared.job.Job.TheVariants as job;
+ghost use Rattle.cb_types.specs.declared.job.Job.TheVariants as jobs;
 ghost use Rattle.cb_types.specs.declared.reply.Reply.{Reply};
 ghost use Rattle.cb_types.specs.declared.reply.Reply.TheVariants as answer;
 ghost use Rattle.cb_core.specs.Jobs.{IsJob};
@@ -17,7 +17,7 @@ ghost use Rattle.cb_shared.specs.UnderLock.{BringAt, IsBeginning, IsNoRead, IsRe
 
 use crate::board::{Place, Top};
 use crate::reading::{ReadAnswer, read_pinned};
-use crate::seat_desk::SeatDesk;
+use crate::seat_desk::{SeatDesk, end_desk};
 use cb_core::{bring_to_read, turn};
 use cb_types::{Config, Handle, Job, NoMemory, Reply};
 use cb_world::Far;
@@ -53,7 +53,7 @@ pub(crate) fn work<R: Wait>(
 
 /// The object that a job reads, None where the job is another one.
 fn read_of(job: &Job) -> Option<Handle>
-    ensures read { (h : Handle) → result ≡ Some h → job.now ≡ job.Read h }
+    ensures read { (h : Handle) → result ≡ Some h → job.now ≡ jobs.Read h }
     ensures other { result ≡ None → IsNoRead job.now }
 {
     match job {
@@ -92,7 +92,9 @@ fn turn_by_seat<R: Wait>(
         seat,
         allowed,
     };
-    turn_at_desk(&mut desk, far, alloc, job)
+    let reply = turn_at_desk(&mut desk, far, alloc, job);
+    end_desk(desk);
+    reply
 }
 
 /// The object that a job writes: a make the next handle, a write or a free its own, and every other
@@ -152,9 +154,9 @@ fn read_by_seat<R: Wait>(
     requires handle { h.n < config.now.handles }
     requires knows { Knows h.n seat.old.me.0 }
     requires begins { IsBeginning config.now far.old seat.old.me.0 }
-    ensures work { WorkBy config.now (job.Read h) result far.old far.new seat.old seat.new }
+    ensures work { WorkBy config.now (jobs.Read h) result far.old far.new seat.old seat.new }
     ensures no_frame { IfOk result (λ reply. reply ≡ answer.NoFrame → ⊥) }
-    ensures unavailable { IfOk result (λ reply. TurnTells (job.Read h) far.old reply) }
+    ensures unavailable { IfOk result (λ reply. TurnTells (jobs.Read h) far.old reply) }
 {
     let place = bring_by_seat(rt, top, seat, config, far, h)?;
     if !is_there(&place) {
@@ -199,7 +201,9 @@ fn bring_by_seat<R: Wait>(
         seat,
         allowed: None,
     };
-    bring_at_desk(&mut desk, far, h)
+    let reply = bring_at_desk(&mut desk, far, h);
+    end_desk(desk);
+    reply
 }
 
 fn bring_at_desk<'a, R: Wait>(

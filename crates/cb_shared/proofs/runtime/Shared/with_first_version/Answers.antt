@@ -29,6 +29,7 @@ returns c =
         config = refl;
         far = f;
         of = record {
+          accepted = c.requires.of.accepted;
           table = t.2;
           rest = subst (λ (m : Sat). IsAtRest cfg m.0) (sym t.4) (rest_opener first cfg);
         };
