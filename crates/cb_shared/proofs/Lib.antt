@@ -24,3 +24,4 @@ pub mod WorkedGround
 pub mod WorkedPins
 pub mod WorkedWrites
 pub mod WorkedPasses
+pub mod WorkedTurns

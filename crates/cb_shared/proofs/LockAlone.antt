@@ -72,11 +72,11 @@ gives_far c job j reply r ej er far p q key table id h = record {
       (p.me.0.fresh ++ p.me.0.written)) key h.written;
 }
 
-slot_in : Slot → List (ℕ × Slot) → Slot
+abbrev slot_in : Slot → List (ℕ × Slot) → Slot
 slot_in d [] = d
 slot_in d (x ∷ xs) = x.1
 
-far_in : FarState → Slot → FarState
+abbrev far_in : FarState → Slot → FarState
 far_in d None = d
 far_in d (Some f) = f
 
