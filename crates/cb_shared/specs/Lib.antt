@@ -3,7 +3,6 @@ pub mod Parts
 pub mod SeatLaws
 pub mod Handles
 pub mod Passes
-pub mod Parts
 pub mod Glances
 pub mod Claims
 pub mod Pinning
