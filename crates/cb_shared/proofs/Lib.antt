@@ -16,6 +16,9 @@ pub mod FirstPin
 pub mod AfterTurn
 pub mod Mapped
 pub mod Turns
+pub mod LockAlone
+pub mod ReadParts
+pub mod ReadTurns
 pub mod WorkedGround
 pub mod WorkedPins
 pub mod WorkedWrites

@@ -3,7 +3,7 @@ use Rattle.std.specs.Prelude.{◌≡◌, ◌⊎◌, ℕ, List, [], ◌∷◌, �
 use Rattle.cb_member.specs.declared.no_memory.NoMemory.{NoMemory}
 use Rattle.cb_types.specs.declared.config.Config.{Config}
 use Rattle.cb_types.specs.declared.job.Job.{Job}
-use Rattle.cb_types.specs.declared.job.Job.TheVariants.{Read, Write, Free}
+use Rattle.cb_types.specs.declared.job.Job.TheVariants.{Make, Read, Write, Free}
 use Rattle.cb_types.specs.declared.reply.Reply.{Reply}
 use Rattle.cb_types.specs.declared.reply.Reply.TheVariants as answer
 use Rattle.cb_world.specs.declared.entry.Entry.{Entry}
@@ -83,10 +83,15 @@ abbrev pub answer_of : Result Reply NoMemory → Option Reply
 answer_of (Ok reply) = Some reply
 answer_of (Err e) = None
 
--- the handle that a turn with this reply made
-abbrev pub made_by : Option Reply → List ℕ
-made_by (Some (answer.Made handle version)) = handle.n ∷ []
-made_by other = []
+-- the handle that a reply tells of as made
+abbrev pub made_in : Option Reply → List ℕ
+made_in (Some (answer.Made handle version)) = handle.n ∷ []
+made_in reply = []
+
+-- the handle that a turn made
+abbrev pub made_by : Job → Option Reply → List ℕ
+made_by (Make bytes) reply = made_in reply
+made_by job reply = []
 
 -- the object that a job reads, writes or frees
 abbrev pub object_of : Job → Option ℕ
@@ -117,23 +122,26 @@ pub record FindsAtLast (h : ℕ) (a : ReadAnswer) (v : View) (d : Part) : Type 0
   pub finds : ReadFinds h a (grown before v) last
   pub part : d ≡ sum before last
 
--- nothing, or what a read with this answer adds
-abbrev pub MayFind : ℕ → ReadAnswer → View → Part → Type 0
-MayFind h a v d = (d ≡ nothing_more) ⊎ FindsAtLast h a v d
+-- What the tries to read an object under a pin come to, by the reply: its bytes are those that the
+-- last pin kept. Where there was no memory for them, looks are left.
+abbrev pub Tries : ℕ → Result Reply NoMemory → View → Part → Type 0
+Tries h (Ok (answer.Bytes version bytes)) v d = FindsAtLast h (found.Bytes version bytes) v d
+Tries h (Ok answer.Freed) v d = FindsAtLast h found.Freed v d
+Tries h (Ok answer.Moving) v d = FindsAtLast h found.Moving v d
+Tries h (Ok answer.Crowded) v d = FindsAtLast h found.Crowded v d
+Tries h (Ok other) v d = ⊥
+Tries h (Err e) v d = AreLooksAt h d
 
--- What the read of a job Read adds: its bytes are those that the pin kept. Where the object was not
--- brought in, no pin was tried.
-abbrev pub PinReads : ℕ → Result Reply NoMemory → View → Part → Type 0
-PinReads h (Ok (answer.Bytes version bytes)) v d = FindsAtLast h (found.Bytes version bytes) v d
-PinReads h (Ok answer.Freed) v d = MayFind h found.Freed v d
-PinReads h (Ok answer.Moving) v d = MayFind h found.Moving v d
-PinReads h (Ok answer.Crowded) v d = FindsAtLast h found.Crowded v d
-PinReads h (Ok other) v d = d ≡ nothing_more
-PinReads h (Err e) v d = AreLooksAt h d
+-- the reply tells neither of bytes nor of many pins
+abbrev pub TellsNoPin : Result Reply NoMemory → Type 0
+TellsNoPin (Ok (answer.Bytes version bytes)) = ⊥
+TellsNoPin (Ok answer.Crowded) = ⊥
+TellsNoPin r = Unit {0}
 
--- no other job reads under a pin
+-- A job Read reads under a pin of the pass, where the object is here or could be brought in. No
+-- other job does.
 abbrev pub JobReads : Job → Result Reply NoMemory → View → Part → Type 0
-JobReads (Read handle) r v d = PinReads handle.n r v d
+JobReads (Read handle) r v d = ((d ≡ nothing_more) × TellsNoPin r) ⊎ Tries handle.n r v d
 JobReads job r v d = d ≡ nothing_more
 
 -- the object of a read, a write or a free that was answered Freed
@@ -155,11 +163,12 @@ turn_part t more within later =
 abbrev pub with_own : List ℕ → View → View
 with_own made v = record v { own = made ++ v.own }
 
--- A turn of the pass with the record v. It stands in the record with its job, its reply, what was
+-- What a turn adds to the record v of its pass. It stands there with its job, its reply, what was
 -- known when it began, its events, and the far states that it took and gave, which are those of one
--- turn more. What it wrote is that of its reply, and a handle that it made is the pass's own. It is
--- answered Unavailable exactly where it is to be. All else of the record is as it was.
-pub record TurnBy (c : Config) (job : Job) (r : Result Reply NoMemory) (v w : View) : Type 0 where
+-- turn more. What it wrote is that of its reply. It is answered Unavailable exactly where it is to
+-- be.
+pub record TurnAdds (c : Config) (job : Job) (r : Result Reply NoMemory) (v : View) (d : Part)
+    : Type 0 where
   pub turn : Turn
   pub more : List Entry
   pub within : Part
@@ -170,8 +179,13 @@ pub record TurnBy (c : Config) (job : Job) (r : Result Reply NoMemory) (v w : Vi
   pub did : Did c turn
   pub next : IsNext turn.took turn.gave
   pub wrote : OutcomeWrites job r more
-  pub reads : JobReads job r v within
   pub tells : IfOk r (λ reply. TurnTells job turn.took reply)
-  pub finds : FindsFreed (freed_of job r)
-      (with_own (made_by turn.reply) (grown (turn_part turn more within nothing_more) v)) later
-  pub left : w ≡ with_own (made_by turn.reply) (grown (turn_part turn more within later) v)
+  pub reads : JobReads job r v within
+  pub finds : FindsFreed (freed_of job r) (with_own (made_by job (answer_of r))
+      (grown (turn_part turn more within nothing_more) v)) later
+  pub part : d ≡ turn_part turn more within later
+
+-- A handle that it made is the pass's own, and all else of the record is as it was.
+abbrev pub TurnBy : Config → Job → Result Reply NoMemory → View → View → Type 0
+TurnBy c job r v w = (d : Part) × TurnAdds c job r v d
+    × (w ≡ with_own (made_by job (answer_of r)) (grown d v))

@@ -23,11 +23,12 @@ use Rattle.cb_rule.specs.LockSteps.{AddsTurn, HasTaken, gave_lock, took_lock, tu
 use Rattle.cb_rule.specs.Rule.{AreSized}
 use Rattle.cb_rule.specs.Slot.{Slot}
 use Rattle.cb_rule.specs.Steps.{acted}
+use Rattle.cb_shared.specs.declared.reading.ReadAnswer.{ReadAnswer}
 use Rattle.cb_shared.specs.declared.reading.ReadAnswer.TheVariants as found
 use Rattle.cb_shared.specs.Parts.{Part, grown, nothing_more}
 use Rattle.cb_shared.specs.Places.{Moves, Place}
 use Rattle.cb_shared.specs.SeatLaws.{Runs}
-use Rattle.cb_shared.specs.Turning.{AreLooksAt, Did, DidAs, FindsAtLast, JobReads, answer_of, held_by, made_by, slate_run, slate_shows, turn_part, with_own}
+use Rattle.cb_shared.specs.Turning.{Did, DidAs, FindsAtLast, FindsFreed, JobReads, Tries, answer_of, held_by, made_by, slate_run, slate_shows, turn_part, with_own}
 
 -- the same seat, with this view and these slots in hand
 abbrev pub IsAt : Place → Place → View → List (ℕ × Slot) → Type 0
@@ -87,6 +88,15 @@ pub record BringAt (c : Config) (handle : Handle) (r : Result Reply NoMemory) (t
   pub fresh : q.me.0.fresh ≡ []
   pub stood : Stood c q.me.0.known gave
 
+-- the part has neither entries that were written nor turns
+abbrev pub IsQuiet : Part → Type 0
+IsQuiet d = (d.written ≡ []) × (d.turns ≡ [])
+
+-- the two records have the same entries, the same share and the same own handles
+abbrev pub HasSame : View → View → Type 0
+HasSame u v = (u.fresh ≡ v.fresh) × (u.written ≡ v.written) × (u.seen ≡ v.seen)
+    × (u.share ≡ v.share) × (u.own ≡ v.own)
+
 -- The work of a turn at the desk, and the read under a pin beside it.
 pub record WorkBy (c : Config) (job : Job) (r : Result Reply NoMemory) (took gave : FarState)
     (p q : Place) : Type 0 where
@@ -95,7 +105,8 @@ pub record WorkBy (c : Config) (job : Job) (r : Result Reply NoMemory) (took gav
   pub within : Part
   pub agree : Agree p.me.0.known events
   pub moves : Moves p q (grown within (acted events p.me.0))
-  pub reads : JobReads job r p.me.0 within
+  pub quiet : IsQuiet within
+  pub reads : (u : View) → HasSame u p.me.0 → JobReads job r u within
   pub did : DidAs c job (answer_of r) p.me.0.known events took gave
   pub next : IsNext took gave
   pub wrote : OutcomeWrites job r more
@@ -107,15 +118,38 @@ abbrev pub IsNoRead : Job → Type 0
 IsNoRead (Read handle) = ⊥
 IsNoRead job = Unit {0}
 
--- What the tries to read an object under a pin come to, once it is brought in.
-abbrev pub Tries : ℕ → Result Reply NoMemory → View → Part → Type 0
-Tries h (Ok (answer.Bytes version bytes)) v d =
-    FindsAtLast h (found.Bytes version bytes) v d
-Tries h (Ok answer.Freed) v d = FindsAtLast h found.Freed v d
-Tries h (Ok answer.Moving) v d = FindsAtLast h found.Moving v d
-Tries h (Ok answer.Crowded) v d = FindsAtLast h found.Crowded v d
-Tries h (Ok other) v d = ⊥
-Tries h (Err e) v d = AreLooksAt h d
+-- they are so on a seat
+abbrev pub TriesOn : ℕ → Result Reply NoMemory → Place → Place → Type 0
+TriesOn h r p q = (d : Part) × Moves p q (grown d p.me.0) × IsQuiet d
+    × ((u : View) → HasSame u p.me.0 → Tries h r u d)
+
+-- the answer of a turn for that of its read under a pin
+abbrev pub IsReplyTo : ReadAnswer → Reply → Type 0
+IsReplyTo (found.Bytes version bytes) reply = reply ≡ answer.Bytes version bytes
+IsReplyTo found.Freed reply = reply ≡ answer.Freed
+IsReplyTo found.Moving reply = reply ≡ answer.Moving
+IsReplyTo found.Crowded reply = reply ≡ answer.Crowded
+IsReplyTo other reply = ⊥
+
+-- looks alone are left of it
+abbrev pub IsTriedAgain : ReadAnswer → Type 0
+IsTriedAgain found.NotHere = Unit {0}
+IsTriedAgain (found.Raced saw other) = Unit {0}
+IsTriedAgain a = ⊥
+
+-- the handle, if there is one, is in range
+abbrev pub IsBelow : Config → Option ℕ → Type 0
+IsBelow c (Some h) = h < c.handles
+IsBelow c None = Unit {0}
+
+-- a seat looked for the freed entry of an object, and of one if there is one
+abbrev pub LooksFor : ℕ → Place → Place → Type 0
+LooksFor h p q = (d : Part) × Moves p q (grown d p.me.0) × IsQuiet d
+    × FindsAtLast h found.Freed p.me.0 d
+
+abbrev pub FreedMoves : Option ℕ → Place → Place → Type 0
+FreedMoves freed p q = (d : Part) × Moves p q (grown d p.me.0) × IsQuiet d
+    × FindsFreed freed p.me.0 d
 
 -- The seat may give the lock back with this far state, whose turn had this job and this reply.
 pub record IsEnding (c : Config) (job : Job) (r : Option Reply) (far : FarState) (v : View) : Type 0
@@ -129,7 +163,7 @@ pub record IsEnding (c : Config) (job : Job) (r : Option Reply) (far : FarState)
 pub record GivesFar (c : Config) (job : Job) (r : Option Reply) (far : FarState) (p q : Place)
     : Type 0 where
   pub entries : ℕ
-  pub at : IsAt p q (gave_lock job r far entries [] (made_by r) p.me.0) []
+  pub at : IsAt p q (gave_lock job r far entries [] (made_by job r) p.me.0) []
   pub written : Each (λ (e : Entry). e.handle < c.handles) (p.me.0.fresh ++ p.me.0.written)
 
 -- A turn of a seat that took the lock, to its end.
@@ -141,10 +175,11 @@ pub record TurnWith (c : Config) (job : Job) (r : Result Reply NoMemory) (took :
   pub within : Part
   pub entries : ℕ
   pub agree : Agree p.me.0.known events
-  pub at : IsAt p q (gave_lock job (answer_of r) gave entries [] (made_by (answer_of r))
+  pub at : IsAt p q (gave_lock job (answer_of r) gave entries [] (made_by job (answer_of r))
       (grown within (acted events p.me.0))) []
   pub below : Each (λ (e : Entry). e.handle < c.handles) (more ++ p.me.0.written)
-  pub reads : JobReads job r p.me.0 within
+  pub quiet : IsQuiet within
+  pub reads : (u : View) → HasSame u p.me.0 → JobReads job r u within
   pub did : DidAs c job (answer_of r) p.me.0.known events took gave
   pub next : IsNext took gave
   pub wrote : OutcomeWrites job r more
@@ -164,4 +199,5 @@ pub record TurnedBy (c : Config) (job : Job) (r : Result Reply NoMemory) (v w : 
   pub below : Each (λ (e : Entry). e.handle < c.handles) (more ++ v.written)
   pub reads : JobReads job r v within
   pub tells : IfOk r (λ reply. TurnTells job turn.took reply)
-  pub left : w ≡ with_own (made_by turn.reply) (grown (turn_part turn more within nothing_more) v)
+  pub left : w ≡ with_own (made_by job (answer_of r))
+      (grown (turn_part turn more within nothing_more) v)

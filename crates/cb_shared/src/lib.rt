@@ -5,7 +5,9 @@
 pub mod answers;
 mod board;
 mod frames;
+mod freed;
 mod handles;
+mod locking;
 mod own;
 pub mod pass;
 mod pinning;
@@ -19,6 +21,7 @@ mod setup;
 mod starting;
 mod steps;
 pub mod turning;
+mod working;
 mod writing;
 
 pub use answers::{PinAnswer, WriteAnswer};

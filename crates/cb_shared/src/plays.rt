@@ -91,7 +91,7 @@ pub struct GiveLock<W> {
 }
 
 impl<W: Deed> Play<Option<Far>, View> for GiveLock<W> {
-    ghost then = { gave W.job W.reply [] (made_by W.reply) };
+    ghost then = { gave W.job W.reply [] (made_by W.job W.reply) };
 }
 
 // Any seat.

@@ -1,18 +1,21 @@
 //! Turns under the far lock.
-ghost use Rattle.std.specs.Prelude.{◌≡◌, ◌≤◌, [], ◌∷◌, length, None, IfOk};
+ghost use Rattle.std.specs.Prelude.{◌≡◌, ◌≤◌, ◌^◌, ◌<◌, [], ◌∷◌, length, IfOk, None};
 ghost use Rattle.cb_types.specs.Config.{IsAccepted};
 ghost use Rattle.cb_types.specs.declared.reply.Reply.TheVariants as answer;
 ghost use Rattle.cb_core.specs.Jobs.{IsJob};
 ghost use Rattle.cb_core.specs.Unavailable.{TurnTells};
-ghost use Rattle.cb_shared.specs.Passes.{IsPassOf};
+ghost use Rattle.cb_shared.specs.Passes.{IsAtRest, IsPassOf};
 ghost use Rattle.cb_shared.specs.Places.{IsOf};
 ghost use Rattle.cb_shared.specs.Turning.{KnowsOf, TurnBy};
-ghost use Rattle.cb_shared.specs.UnderLock.{IsBeginning, TurnWith, WorkBy};
+ghost use Rattle.cb_shared.specs.UnderLock.{IsBeginning, TurnWith, TurnedBy};
 
 use crate::board::{Place, Top};
+use crate::freed::{find_freed, freed_of};
+use crate::handles::count_pins;
 use crate::locking::{give_far, lock_far};
 use crate::pass::Pass;
 use crate::runtime::Shared;
+use crate::working::work;
 use cb_types::{Config, Job, NoMemory, Reply};
 use cb_world::Far;
 use std::alloc::Global;
@@ -42,8 +45,60 @@ impl Shared {
     {
         let config = self.config;
         let top = &self.board.shared;
+        let _count = count_pins(&pass.pins);
         let reply = locked_turn(rt, top, &mut pass.seat, &config, alloc, job);
         find_freed(rt, top, &mut pass.seat, &config, freed_of(job, &reply));
         reply
     }
+}
+
+/// A turn, from taking the far lock to giving it back.
+fn locked_turn<R: Wait>(
+    rt: &R,
+    top: &Top,
+    seat: &mut Place,
+    config: &Config,
+    alloc: Global,
+    job: &Job,
+) -> Result<Reply, NoMemory>
+    requires of { IsOf top.now.table_id top.now.key config.now seat.old }
+    requires rest { IsAtRest config.now seat.old.me.0 }
+    requires slots { seat.old.me.1 ≡ [] }
+    requires few { length seat.old.me.0.pins ≤ 16 }
+    requires config { IsAccepted config.now }
+    requires job { IsJob config.now job.now }
+    requires knows { KnowsOf job.now seat.old.me.0 }
+    ensures same { (seat.new.table_id ≡ seat.old.table_id) × (seat.new.id ≡ seat.old.id)
+        × (seat.new.me.1 ≡ []) }
+    ensures turn { TurnedBy config.now job.now result seat.old.me.0 seat.new.me.0 }
+    ensures no_frame { IfOk result (λ reply. reply ≡ answer.NoFrame → ⊥) }
+{
+    let far = lock_far(rt, top, seat, config);
+    turn_with(rt, top, seat, config, alloc, job, far)
+}
+
+/// The turn of a seat that took the far state, and its end.
+fn turn_with<R: Wait>(
+    rt: &R,
+    top: &Top,
+    seat: &mut Place,
+    config: &Config,
+    alloc: Global,
+    job: &Job,
+    mut far: Far,
+) -> Result<Reply, NoMemory>
+    requires of { IsOf top.now.table_id top.now.key config.now seat.old }
+    requires slots { seat.old.me.1 ≡ (0, None) ∷ [] }
+    requires few { length seat.old.me.0.pins ≤ 16 }
+    requires config { IsAccepted config.now }
+    requires job { IsJob config.now job.now }
+    requires knows { KnowsOf job.now seat.old.me.0 }
+    requires begins { IsBeginning config.now far seat.old.me.0 }
+    ensures turn { TurnWith config.now job.now result far seat.old seat.new }
+    ensures no_frame { IfOk result (λ reply. reply ≡ answer.NoFrame → ⊥) }
+    ensures unavailable { IfOk result (λ reply. TurnTells job.now far reply) }
+{
+    let reply = work(rt, top, seat, config, &mut far, alloc, job);
+    give_far(top, seat, config, job, &reply, far);
+    reply
 }
