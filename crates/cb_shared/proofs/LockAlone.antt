@@ -20,12 +20,12 @@ use Rattle.cb_shared.specs.UnderLock.{GivesFar, IsEnding}
 use Rattle.cb_shared.proofs.Alone.{at_key}
 
 pub takes_lock_at : (first : ℕ) (c k : Config) → k ≡ c → (slots id old : ℕ) (me : Sat)
-    → me.0.config ≡ c → 1 ≤ me.0.share → old % 2 ≡ 0
+    → 1 ≤ me.0.share → old % 2 ≡ 0
     → Allows (Ruled (Locked Did) first k) slots id me 0 (λ x. either (eqb x old) 1 x)
     (took (step slots 0 old 1 none) me)
-takes_lock_at first c k key slots id old me config live even =
+takes_lock_at first c k key slots id old me live even =
     at_key first c k slots id me 0 (λ x. either (eqb x old) 1 x) (took (step slots 0 old 1 none) me) key
-    (takes_lock Did first c slots id old me config live even)
+    (takes_lock Did first c slots id me old live even)
 
 may_give : (c : Config) (job : Job) (reply : Option Reply) (me : Sat) (far : FarState)
     → IsEnding c job reply far me.0 → MayGive Did c job reply far [] me.0

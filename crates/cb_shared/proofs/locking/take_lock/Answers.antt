@@ -1,4 +1,4 @@
-use Rattle.std.proofs.Common.{◌≡◌, ◌∙◌, ◌+◌, ◌*◌, ℕ, ap, subst, arith, eqb-true}
+use Rattle.std.proofs.Common.{◌≡◌, ◌∙◌, ◌+◌, ◌*◌, ℕ, sym, subst, arith, eqb-true, eq-eqb}
 use Rattle.std.proofs.lemmas.Bool.{false≢true}
 use Rattle.cb_rule.specs.LockSteps.{HasTaken}
 use Rattle.cb_shared.proofs.LockAlone.{takes_lock_at}
@@ -8,7 +8,7 @@ pub compare_exchange-requires : goal.compare_exchange-requires
 compare_exchange-requires c = let o = c.requires.of in (
   o.table,
   (let z = o.words in omega arith),
-  takes_lock_at c.args.top.now.key.first c.args.config.now _ o.key _ _ c.args.word _ o.config o.live
+  takes_lock_at c.args.top.now.key.first c.args.config.now _ o.key _ _ c.args.word _ o.live
       c.requires.even,
 )
 
