@@ -50,9 +50,11 @@ load_into-requires-clause-pin c =
     c.args.seat.now c.take_pin-found.new.seat c.tell_version-version.new.seat y.4
     c.tell_version-version.ensures in (
       stand c.args.h (len_of c.args.saw) (place_of c.args.saw) y.0 y.1,
-      u.0,
-      u.1 ∙ sym (ap (λ (x : PtrWord). x.place) c.unpack.ensures.fields),
-      u.2 ∙ sym c.requires.long,
+      (
+        u.0,
+        u.1 ∙ sym (ap (λ (x : PtrWord). x.place) c.unpack.ensures.fields),
+        u.2 ∙ sym c.requires.long,
+      ),
     )
 
 pub give_pin-requires-clause-of : goal.give_pin-requires-clause-of
