@@ -21,7 +21,9 @@ pub mod MadeFirst
 pub mod Rights
 pub mod ReadParts
 pub mod ReadTurns
+pub mod TurnEnds
 pub mod WorkedGround
 pub mod WorkedPins
 pub mod WorkedWrites
 pub mod WorkedPasses
+pub mod WorkedTurns

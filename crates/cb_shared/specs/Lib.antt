@@ -14,3 +14,4 @@ pub mod Reading
 pub mod Turning
 pub mod UnderLock
 pub mod Rights
+pub mod Calls
