@@ -1,4 +1,4 @@
--- The holder gives the lock back, and the far state to its slot: its turn is one more of the history.
+-- The holder gives the lock back, and the far state to its slot: the history has its turn more.
 use Rattle.std.proofs.Common.{◌≡◌, ◌≢◌, ℕ, suc, ◌+◌, ◌*◌, ◌^◌, ◌<◌, ◌≤◌, Bool, true, cond, eqb, List, [], ◌∷◌, ◌++◌, length, set, Option, Some, None, sym, refl, ap, ◌∙◌, subst, inl, inr, ⊎_elim, arith, eq-eqb, ne_eqb, length-set, get_or-set_same, true≢false}
 use mathlib.Core.Option.{some, none}
 use lib.ListN.{get_elem?}
@@ -46,7 +46,8 @@ chain_else : (chain : ℕ → FarState) (n k : ℕ) (g : FarState) → k ≢ n
     → chain_with chain n g k ≡ chain k
 chain_else chain n k g ne = ap (λ (b : Bool). cond b g (chain k)) (ne_eqb k n ne)
 
-module _ (deeds : Deeds) (c : Config) (count : ℕ) (chain : ℕ → FarState) (few : count < 2 ^ 40) where
+module _ (deeds : Deeds) (c : Config) (count : ℕ) (chain : ℕ → FarState)
+    (few : count < 2 ^ 40) where
   -- where fewer than 2^40 turns were counted each has a number below them
   counted : (t : Turn) → TurnStands deeds c count chain t
       → (turn_number t < count) × (t.gave ≡ chain (turn_number t + 1))
@@ -340,7 +341,8 @@ one_in_hand d l f g a b = ap in_hand (sym a ∙ b)
 
 pub gives_lock : (deeds : Deeds) (first : ℕ) (c : Config) (slots id : ℕ) (me : Sat) (job : Job)
     (reply : Option Reply) (far : FarState) (freed : List Seen) (made : List ℕ) (n : ℕ)
-    → 1 ≤ me.0.share → me.1 ≡ (0, Some far) ∷ [] → MayGive deeds c job reply far freed made me.0
+    → 1 ≤ me.0.share → me.1 ≡ (0, Some far) ∷ []
+    → MayGive deeds c job reply far freed made me.0
     → n ≡ 2 * far.counts.turns
     → Allows (Ruled (Locked deeds) first c) slots id me 0 (λ _. n)
     (λ _. gave job reply freed made (step slots 0 n 0 none) me n)

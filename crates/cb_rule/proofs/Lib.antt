@@ -45,3 +45,4 @@ pub mod WorkedTurns
 pub mod WorkedTold
 pub mod WorkedOwn
 pub mod WorkedClosing
+pub mod WorkedShown

@@ -159,7 +159,8 @@ takes_lock deeds first c slots id me old live even s r _ at _ =
         words = ws;
         homes = s.homes;
         views = set s.views id me.0;
-      }) (sym (ap (set s.words 0) (ap (λ b. either b 1 x) (ne_eqb x old ne)) ∙ same_words s.words 0))
+      }) (sym (ap (set s.words 0) (ap (λ b. either b 1 x) (ne_eqb x old ne))
+          ∙ same_words s.words 0))
           (subst (λ (vs : List View). Ruled (Locked deeds) first c record {
             words = s.words;
             homes = s.homes;

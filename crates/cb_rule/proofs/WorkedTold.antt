@@ -10,6 +10,7 @@ use Rattle.cb_world.specs.Written.{entry}
 use Rattle.cb_rule.specs.declared.turn.Turn.{Turn}
 use Rattle.cb_rule.specs.declared.view.View.{View}
 use Rattle.cb_rule.specs.Lists.{Each, Has}
+use Rattle.cb_rule.specs.OneHistory.{Made}
 use Rattle.cb_rule.specs.Promised.{Wrote}
 use Rattle.cb_rule.specs.Records.{OldOk, TurnOk}
 use Rattle.cb_rule.specs.Steps.{blank}
@@ -21,8 +22,8 @@ use Rattle.cb_rule.proofs.WorkedLocking.{far, one_view, seen}
 use Rattle.cb_rule.proofs.WorkedStands.{here}
 use Rattle.cb_rule.proofs.WorkedViews.{pair_of}
 
--- a turn that found both objects in local memory when the history had two entries, and claimed object
--- 1 when it had three
+-- a turn that found both objects in local memory when the history had two entries, and claimed
+-- object 1 when it had three
 abbrev turn : Event → Turn
 turn e = record {
   job = Evict;
@@ -92,8 +93,9 @@ abbrev too_low : Turn
 too_low = turn (Claimed 1 here 2 [])
 
 told_too_low : Told some_entries too_low → ⊥
-told_too_low k = let e = (k.told too_low (seat some_entries too_low, (0, refl), inl refl)).told.0.0 in
-    omega (arith, e)
+told_too_low k = let made_it : Made (seat some_entries too_low ∷ []) too_low =
+    (seat some_entries too_low, (0, refl), inl refl) in
+    let e = (k.told too_low made_it).told.0.0 in omega (arith, e)
 
 -- no order in which the second version of an object comes without its first
 lone : (e : Entry) → Wrote (seat (written ∷ []) good ∷ []) e → e ≡ written

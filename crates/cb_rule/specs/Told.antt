@@ -11,8 +11,8 @@ use Rattle.cb_rule.specs.Promised.{Wrote}
 use Rattle.cb_rule.specs.Records.{TurnOk}
 
 -- The entries that stand as written were settled in one order, in which each may come after those
--- before it. What a turn knew of an object when it began, and what its claims told, was the object's
--- newest entry at some time of that turn.
+-- before it. What a turn knew of an object when it began, and what its claims told, was the
+-- object's newest entry at some time of that turn.
 pub record AreTold (first : ℕ) (c : Config) (views : List View) : Type 0 where
   pub history : List Entry
   pub ordered : IsHistory first history

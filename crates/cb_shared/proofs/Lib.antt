@@ -13,12 +13,12 @@ pub mod ReadBytes
 pub mod ReadSteps
 pub mod Tallying
 pub mod FirstPin
+pub mod MadeFirst
+pub mod Rights
 pub mod AfterTurn
 pub mod Mapped
 pub mod Turns
 pub mod LockAlone
-pub mod MadeFirst
-pub mod Rights
 pub mod ReadParts
 pub mod ReadTurns
 pub mod TurnEnds
