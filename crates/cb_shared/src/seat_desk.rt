@@ -112,7 +112,7 @@ impl<'a, R: Wait> Desk for SeatDesk<'a, R> {
 
 /// Lets go of a desk.
 pub(crate) fn end_desk<'a, R: Wait>(desk: SeatDesk<'a, R>)
-    ensures { desk.exit.0.now ≡ desk.entry.seat.now }
+    ensures { desk.exit.1.now ≡ desk.entry.seat.now }
 {
     let SeatDesk {
         rt: _,
