@@ -1,25 +1,20 @@
 -- Worked turns: what meets each definition, and what breaks one of its parts alone.
-use Rattle.std.proofs.Common.{◌≡◌, ℕ, ◌+◌, ◌^◌, ◌<◌, List, [], ◌∷◌, ◌++◌, length, replicate, Option, None, Some, Result, Ok, Err, refl, sym, ap, ◌∙◌, inl, inr, lit<, lit≤, arith, true≢false}
+use Rattle.std.proofs.Common.{◌≡◌, ℕ, ◌+◌, ◌^◌, List, [], ◌∷◌, ◌++◌, length, replicate, None, Some, Ok, refl, ap, ◌∙◌, inl, inr}
 use Rattle.std.proofs.lemmas.Bool.{eqb-false}
-use Rattle.cb_types.specs.declared.config.Config.{Config}
 use Rattle.cb_types.specs.declared.handle.Handle.{Handle}
-use Rattle.cb_types.specs.declared.job.Job.{Job}
 use Rattle.cb_types.specs.declared.job.Job.TheVariants as job
-use Rattle.cb_types.specs.declared.reply.Reply.{Reply}
 use Rattle.cb_types.specs.declared.reply.Reply.TheVariants as answer
 use Rattle.cb_types.specs.Jobs.{job_index}
-use Rattle.cb_world.specs.declared.event.Event.{Event}
 use Rattle.cb_world.specs.declared.event.Event.TheVariants.{Looked}
 use Rattle.cb_world.specs.Empty.{empty_far, empty_shown}
 use Rattle.cb_world.specs.FarState.{FarState}
-use Rattle.cb_core.specs.Turned.{done, worn}
+use Rattle.cb_core.specs.Turned.{worn}
 use Rattle.cb_rule.specs.declared.turn.Turn.{Turn}
 use Rattle.cb_rule.specs.declared.view.Look.{Look}
 use Rattle.cb_rule.specs.declared.view.View.{View}
 use Rattle.cb_rule.specs.Steps.{look_at}
-use Rattle.cb_shared.specs.declared.reading.ReadAnswer.TheVariants as found
-use Rattle.cb_shared.specs.Parts.{Part, grown, nothing_more, sum}
-use Rattle.cb_shared.specs.Turning.{AreLooksAt, Did, KnowsOf, ReadsByPin, Slate, TellsNoPin, TurnAdds, TurnBy, answer_of, freed_of, held_by, made_by, object_of, slate_run, turn_part, with_own}
+use Rattle.cb_shared.specs.Parts.{Part, grown, nothing_more}
+use Rattle.cb_shared.specs.Turning.{AreLooksAt, Did, KnowsOf, ReadsByPin, Slate, TellsNoPin, TurnAdds, TurnBy, freed_of, held_by, made_by, object_of, slate_run, turn_part}
 use Rattle.cb_shared.proofs.WorkedGround.{part, two}
 
 abbrev one : Handle
@@ -148,8 +143,11 @@ adds_refused = record {
   did = refused_did;
   next = inr (refl, refl);
   wrote = refl;
-  tells = record { only = λ id losses is. absurd (worn_lost is); each = λ h id losses asks few lost.
-      absurd (no_one asks); };
+  tells = record {
+    only = λ id losses is. absurd (worn_lost is);
+    each = λ h id losses asks few lost.
+        absurd (no_one asks);
+  };
   reads = refl;
   finds = refl;
   part = refl;
@@ -157,6 +155,7 @@ adds_refused = record {
   where
     worn_lost : {id : _} {losses : _} → answer.Worn ≡ answer.Unavailable id losses → ⊥
     worn_lost e = cc
+
     no_one : {h : ℕ} → None ≡ Some h → ⊥
     no_one e = cc
 
@@ -171,6 +170,7 @@ adds_another_job a = eqb-false 6 7 refl
     first : List Turn → Turn
     first [] = refused
     first (t ∷ ts) = t
+
     first_turn : (t : Turn) → refused ∷ [] ≡ t ∷ [] → refused ≡ t
     first_turn t e = ap first e
 
