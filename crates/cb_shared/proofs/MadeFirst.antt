@@ -1,5 +1,5 @@
 -- What a turn makes has the first version, so it is its pass's own.
-use Rattle.std.proofs.Common.{◌≡◌, ℕ, ◌+◌, ◌<◌, ◌&&◌, Bool, List, [], ◌∷◌, Ok, Err, Result, refl, sym, ap, ◌∙◌, subst, eqb, eq-eqb, arith}
+use Rattle.std.proofs.Common.{◌≡◌, ℕ, ◌&&◌, Bool, List, Ok, Err, Result, refl, sym, ap, ◌∙◌, subst, eqb, eq-eqb, arith}
 use Rattle.cb_member.specs.declared.no_memory.NoMemory.{NoMemory}
 use Rattle.cb_types.specs.declared.config.Config.{Config}
 use Rattle.cb_types.specs.declared.handle.Handle.{Handle}
@@ -12,9 +12,8 @@ use Rattle.cb_world.specs.declared.event.Event.{Event}
 use Rattle.cb_world.specs.declared.shown.Shown.{Shown}
 use Rattle.cb_world.specs.FarState.{FarState}
 use Rattle.cb_core.specs.Parts.{Holding, WithRoom, at_once, no_room, won}
-use Rattle.cb_core.specs.Turned.{Does, Makes, Turned, WinsRoom, done, worn}
+use Rattle.cb_core.specs.Turned.{Makes, Turned, WinsRoom, done, worn}
 use Rattle.cb_core.specs.TurnLeaves.{OutcomeWrites}
-use Rattle.cb_rule.specs.History.{is_version}
 use Rattle.cb_rule.specs.Lists.{Each}
 use Rattle.cb_rule.specs.Own.{Make as IsMadeIn}
 use Rattle.cb_rule.proofs.Laws.{hit}

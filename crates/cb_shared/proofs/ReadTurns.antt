@@ -11,7 +11,6 @@ use Rattle.cb_types.specs.declared.job.Job.{Job}
 use Rattle.cb_types.specs.declared.job.Job.TheVariants.{Read}
 use Rattle.cb_types.specs.declared.reply.Reply.{Reply}
 use Rattle.cb_types.specs.declared.reply.Reply.TheVariants as answer
-use Rattle.cb_world.specs.declared.entry.Entry.{Entry}
 use Rattle.cb_world.specs.declared.event.Event.{Event}
 use Rattle.cb_world.specs.declared.shown.Shown.{Shown}
 use Rattle.cb_world.specs.FarState.{FarState}
@@ -39,7 +38,7 @@ use Rattle.cb_shared.specs.Places.{Place}
 use Rattle.cb_shared.specs.SeatLaws.{Runs, acted_known}
 use Rattle.cb_shared.specs.Turning.{DidAs, IsReadReply, JobReads, Slate, TellsNoPin, Tries, answer_of, slate_run, slate_shows}
 use Rattle.cb_shared.specs.UnderLock.{BringAt, Brought, CameThere, HasSame, IsNoRead, TriesOn, TurnAt, WorkBy}
-use Rattle.cb_shared.proofs.AfterTurn.{acted_is, after_events, after_runs}
+use Rattle.cb_shared.proofs.AfterTurn.{acted_is, after_runs}
 use Rattle.cb_shared.proofs.ReadParts.{grown_nothing}
 
 -- ---- the first part tells neither of bytes nor of many pins

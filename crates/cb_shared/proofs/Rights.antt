@@ -16,14 +16,14 @@ use Rattle.cb_world.specs.declared.shown.Shown.{Shown}
 use Rattle.cb_world.specs.FarState.{FarState}
 use Rattle.cb_world.specs.FrameWords.{loads_from, stores_from}
 use Rattle.cb_world.specs.Played.{Agrees, after, settled_by}
-use Rattle.cb_world.specs.Settling.{MayBring, MaySettle, MaySettleAs, MayFree, MayPutAway}
+use Rattle.cb_world.specs.Settling.{MaySettle, MaySettleAs, MayFree, MayPutAway}
 use Rattle.cb_world.specs.Shown.{never, object_at, version_at}
 use Rattle.cb_world.specs.Sound.{Sound}
 use Rattle.cb_world.specs.Written.{adds, adds_as}
 use Rattle.cb_rule.specs.declared.view.View.{View}
 use Rattle.cb_rule.specs.Own.{MayWrite, entries_on, writes_it}
 use Rattle.cb_rule.specs.Slot.{Sat}
-use Rattle.cb_rule.specs.Steps.{Knows, act, acted}
+use Rattle.cb_rule.specs.Steps.{act, acted}
 use Rattle.cb_rule.proofs.Laws.{entries_acted, hit, known_entries, times-append}
 use Rattle.cb_shared.specs.declared.setup.Setup.{Setup}
 use Rattle.cb_shared.specs.Places.{Acts, Holds, Moves, Place}

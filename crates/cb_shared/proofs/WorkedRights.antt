@@ -1,5 +1,5 @@
 -- Worked rights of a turn: the object that it may write.
-use Rattle.std.proofs.Common.{◌≡◌, ℕ, ◌≤◌, List, [], ◌∷◌, Some, None, refl, arith}
+use Rattle.std.proofs.Common.{◌≡◌, ◌≤◌, [], ◌∷◌, Some, None, refl, arith}
 use Rattle.cb_types.specs.declared.job.Job.TheVariants.{Make, Write, Free, Evict}
 use Rattle.cb_world.specs.declared.object.Object.TheVariants as is
 use Rattle.cb_world.specs.declared.shown.Shown.{Shown}
