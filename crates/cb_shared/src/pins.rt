@@ -3,6 +3,7 @@ ghost use Rattle.std.specs.Prelude.{◌≡◌, ◌≢◌, ℕ, ◌+◌, ◌*◌,
 ghost use Rattle.cb_ptr.specs.declared.word.State.TheVariants as state;
 ghost use Rattle.cb_ptr.specs.Word.{state_of, pins_of};
 ghost use Rattle.cb_world.specs.Memory.{words_for};
+ghost use Rattle.cb_rule.specs.declared.view.Stand.{Stand};
 ghost use Rattle.cb_rule.specs.Lists.{Has};
 ghost use Rattle.cb_rule.specs.Seats.{pins_on};
 ghost use Rattle.cb_rule.specs.Steps.{Knows, with_peek, without_pin};
@@ -12,7 +13,7 @@ ghost use Rattle.cb_shared.specs.Glances.{Glances, TakesPin, TellsVersion};
 
 use crate::board::{Place, Top};
 use crate::pass::Pin;
-use crate::plays::{Date, GivePin, Glance, Peek, TakePin};
+use crate::plays::{Date, GivePin, Glance, Peek, ReadPin, TakePin};
 use cb_types::Config;
 
 /// The pointer word of an object that the seat knows.
@@ -25,13 +26,14 @@ pub(crate) fn glance(top: &Top, seat: &mut Place, config: &Config, h: u32) -> u6
     top.load::<Glance>(seat, 1 + h as usize)
 }
 
-/// Pins an object where its word is `saw`, which is here and has fewer than 1,023 pins, and answers
+/// Pins an object that the seat knows where its word is `saw`, which is here and has fewer than 1,023 pins, and answers
 /// the word that was found.
 pub(crate) fn take_pin(top: &Top, seat: &mut Place, config: &Config, h: u32, saw: u64) -> u64
     requires of { IsOf top.now.table_id top.now.key config.now seat.old }
     requires handle { h < config.now.handles }
     requires here { state_of saw ≡ state.Here }
     requires room { pins_of saw < 1023 }
+    requires knows { Knows h seat.old.me.0 }
     requires few { length seat.old.me.0.pins < 17 }
     ensures { TakesPin config.now h saw result seat.old seat.new }
 {
@@ -73,4 +75,17 @@ pub(crate) fn peek_word(top: &Top, seat: &mut Place, config: &Config, pin: &Pin,
         seat,
         1 + handles + handles + pin.place as usize + index as usize,
     )
+}
+
+/// A memory word of an object that the seat has pinned, which adds nothing to its record.
+pub(crate) fn read_word(top: &Top, seat: &mut Place, config: &Config, place: usize) -> u64
+    requires of { IsOf top.now.table_id top.now.key config.now seat.old }
+    requires place { place < 512 * config.now.frames }
+    ensures same { Moves seat.old seat.new seat.old.me.0 }
+    ensures word { (p : Stand) (j : ℕ) → Has p seat.old.me.0.pins → j < words_for p.len
+        → place ≡ p.place + j → result ≡ slice_index p.words j }
+{
+    let config = *config;
+    let handles = config.handles as usize;
+    top.load::<ReadPin>(seat, 1 + handles + handles + place)
 }
