@@ -23,3 +23,5 @@ pub mod WorkedGround
 pub mod WorkedPins
 pub mod WorkedWrites
 pub mod WorkedPasses
+pub mod Filled
+pub mod Closes

@@ -13,3 +13,5 @@ pub mod PinLoads
 pub mod Reading
 pub mod Turning
 pub mod UnderLock
+pub mod Sealing
+pub mod Closing

@@ -4,6 +4,8 @@
 
 pub mod answers;
 mod board;
+mod closing;
+mod filling;
 mod frames;
 mod freed;
 mod handles;
@@ -14,7 +16,9 @@ mod pinning;
 mod pins;
 mod plays;
 mod reading;
+pub mod refused;
 pub mod runtime;
+pub mod seal;
 mod seat_desk;
 mod seats;
 mod setup;
@@ -26,4 +30,6 @@ mod writing;
 
 pub use answers::{PinAnswer, WriteAnswer};
 pub use pass::{Pass, Pin};
+pub use refused::CloseRefused;
 pub use runtime::Shared;
+pub use seal::Seal;
