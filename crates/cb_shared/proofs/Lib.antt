@@ -25,3 +25,4 @@ pub mod WorkedWrites
 pub mod WorkedPasses
 pub mod Filled
 pub mod Closes
+pub mod WorkedClosing
