@@ -19,6 +19,7 @@ pub mod Turns
 pub mod LockAlone
 pub mod ReadParts
 pub mod ReadTurns
+pub mod TurnEnds
 pub mod WorkedGround
 pub mod WorkedPins
 pub mod WorkedWrites
@@ -26,3 +27,4 @@ pub mod WorkedPasses
 pub mod Filled
 pub mod Closes
 pub mod WorkedClosing
+pub mod WorkedTurns

@@ -15,3 +15,4 @@ pub mod Turning
 pub mod UnderLock
 pub mod Sealing
 pub mod Closing
+pub mod Calls
