@@ -57,39 +57,39 @@ all_filled ws p n m old new e more f = let z = f.len in let w = window_length ws
     f.below i (omega (arith, below, more)) ∙ sym (window_at ws p n i below))
 
 module _ (c : Config) (ws : List ℕ) (d : Words) (settings : d.settings ≡ c) (sized : IsSized d)
-    where
-  -- a desk with words put in is as large as before
-  pub words_sized : IsSized record d { words = window ws 1 c.handles }
-  words_sized = record {
-    words = window_length ws 1 c.handles ∙ sym (ap (λ (k : Config). k.handles) settings);
-    versions = sized.versions;
-    memory = sized.memory;
-  }
+  where
+    -- a desk with words put in is as large as before
+    pub words_sized : IsSized record d { words = window ws 1 c.handles }
+    words_sized = record {
+      words = window_length ws 1 c.handles ∙ sym (ap (λ (k : Config). k.handles) settings);
+      versions = sized.versions;
+      memory = sized.memory;
+    }
 
-  pub versions_sized : IsSized record d { versions = window ws (stamps c) c.handles }
-  versions_sized = record {
-    words = sized.words;
-    versions =
-        window_length ws (stamps c) c.handles ∙ sym (ap (λ (k : Config). k.handles) settings);
-    memory = sized.memory;
-  }
+    pub versions_sized : IsSized record d { versions = window ws (stamps c) c.handles }
+    versions_sized = record {
+      words = sized.words;
+      versions =
+          window_length ws (stamps c) c.handles ∙ sym (ap (λ (k : Config). k.handles) settings);
+      memory = sized.memory;
+    }
 
-  -- with all of them put in it is the desk of the words
-  pub all_put : (x y z : Words) → x ≡ record d { words = window ws 1 c.handles }
-      → y ≡ record x { versions = window ws (stamps c) c.handles }
-      → z ≡ record y { memory = window ws (base c) (512 * c.frames) } → z ≡ desk_of c ws
-  all_put x y z a b e = e
-      ∙ ap (λ (q : Words). let r : Words = record q {
-        memory = window ws (base c) (512 * c.frames);
-      } in r) (b ∙ ap (λ (q : Words). let r : Words = record q {
-        versions = window ws (stamps c) c.handles;
-      } in r) a)
-      ∙ ap (λ (k : Config). let r : Words = record {
-        settings = k;
-        words = window ws 1 c.handles;
-        versions = window ws (stamps c) c.handles;
-        memory = window ws (base c) (512 * c.frames);
-      } in r) settings
+    -- with all of them put in it is the desk of the words
+    pub all_put : (x y z : Words) → x ≡ record d { words = window ws 1 c.handles }
+        → y ≡ record x { versions = window ws (stamps c) c.handles }
+        → z ≡ record y { memory = window ws (base c) (512 * c.frames) } → z ≡ desk_of c ws
+    all_put x y z a b e = e
+        ∙ ap (λ (q : Words). let r : Words = record q {
+          memory = window ws (base c) (512 * c.frames);
+        } in r) (b ∙ ap (λ (q : Words). let r : Words = record q {
+          versions = window ws (stamps c) c.handles;
+        } in r) a)
+        ∙ ap (λ (k : Config). let r : Words = record {
+          settings = k;
+          words = window ws 1 c.handles;
+          versions = window ws (stamps c) c.handles;
+          memory = window ws (base c) (512 * c.frames);
+        } in r) settings
 
 -- a far state that stands in a slot is there
 abbrev is_there : Slot → Bool

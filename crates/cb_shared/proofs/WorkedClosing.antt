@@ -51,7 +51,7 @@ module _ (s : Shared) (p : Pass) (seal : Seal) where
     view = ap (λ (x : Sealed). x.view) under ∙ sym (ap unpinned_all e);
     world = ap (λ (x : Sealed). x.world) under;
     closed = subst (λ (v : View).
-    IsClosed Did s.board.shared.key.first s.config v (a_world 3)) (sym (ap unpinned_all e)) k;
+        IsClosed Did s.board.shared.key.first s.config v (a_world 3)) (sym (ap unpinned_all e)) k;
   }
 
   closes_with_a_part : record_of p ≡ part → IsClosedBy s p (a_world 3) seal → ⊥

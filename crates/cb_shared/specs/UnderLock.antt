@@ -167,10 +167,10 @@ FreedMoves c freed p q = (d : Part) × Moves p q (grown d p.me.0) × IsQuiet d �
 -- The seat may give the lock back with this far state, whose turn had this job and this reply.
 pub record IsEnding (c : Config) (job : Job) (r : Option Reply) (far : FarState) (v : View) : Type 0
   where
-  pub holds : v.holds ≡ true
-  pub stood : Stood c v.known far
-  pub adds : AddsTurn v.took far
-  pub did : (n : ℕ) → Did c (turn_of job r far n v)
+    pub holds : v.holds ≡ true
+    pub stood : Stood c v.known far
+    pub adds : AddsTurn v.took far
+    pub did : (n : ℕ) → Did c (turn_of job r far n v)
 
 -- the seat gave the lock back, with the far state in its slot
 pub record GivesFar (c : Config) (job : Job) (r : Option Reply) (far : FarState) (p q : Place)

@@ -1,6 +1,5 @@
 use Rattle.std.proofs.Common.{◌≡◌, List, ℕ}
 use Rattle.std.specs.Slots.{slots_items}
-
 use Rattle.cb_shared.proofs.Filled.{IsFilled}
 use Rattle.cb_shared.proofs.filling.fill_words.Given as goal
 
