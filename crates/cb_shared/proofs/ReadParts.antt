@@ -154,7 +154,7 @@ tried_again h found.Moving v d x again = absurd again
 tried_again h found.Crowded v d x again = absurd again
 tried_again h (found.Raced saw other) v d x again = record {
   looks = look_at h other ∷ look_at h saw ∷ [];
-  on = (refl, refl, tt);
+  on = (refl, (refl, tt));
   part = x.1;
 }
 

@@ -1,5 +1,5 @@
 -- A turn as it stands in the record of its pass at its end.
-use Rattle.std.proofs.Common.{◌≡◌, ℕ, ◌+◌, ◌<◌, ◌≤◌, List, [], ◌∷◌, ◌++◌, length, map, Option, None, Some, Result, Ok, refl, sym, ap, ◌∙◌, subst, arith, inl, inr, append_assoc}
+use Rattle.std.proofs.Common.{◌≡◌, ℕ, suc, ◌+◌, ◌<◌, ◌≤◌, List, [], ◌∷◌, ◌++◌, length, map, Option, None, Some, Result, Ok, refl, sym, ap, ◌∙◌, subst, arith, inl, inr, append_assoc}
 use Rattle.std.specs.Prelude.{IfOk}
 use Rattle.crossbeam_utils.specs.Padded.{padded_value}
 use Rattle.cb_member.specs.declared.no_memory.NoMemory.{NoMemory}
@@ -145,7 +145,7 @@ module _ (c : Config) (job : Job) (r : Result Reply NoMemory) (p m q : Place)
 
 length_handles : (xs : List Stand) → length (handles_of xs) ≡ length xs
 length_handles [] = refl
-length_handles (x ∷ xs) = ap (λ (n : ℕ). 1 + n) (length_handles xs)
+length_handles (x ∷ xs) = ap suc (length_handles xs)
 
 pub few_pins : (handles : List ℕ) (xs : List Stand) → handles ≡ handles_of xs
     → length handles ≤ 16 → length xs ≤ 16

@@ -1,5 +1,5 @@
 -- Worked turns: what meets each definition, and what breaks one of its parts alone.
-use Rattle.std.proofs.Common.{◌≡◌, ℕ, ◌+◌, ◌^◌, ◌<◌, List, [], ◌∷◌, length, replicate, Option, None, Some, Result, Ok, Err, refl, sym, ap, ◌∙◌, inl, inr, lit<, lit≤, arith, true≢false}
+use Rattle.std.proofs.Common.{◌≡◌, ℕ, ◌+◌, ◌^◌, ◌<◌, List, [], ◌∷◌, ◌++◌, length, replicate, Option, None, Some, Result, Ok, Err, refl, sym, ap, ◌∙◌, inl, inr, lit<, lit≤, arith, true≢false}
 use Rattle.std.proofs.lemmas.Bool.{eqb-false}
 use Rattle.cb_types.specs.declared.config.Config.{Config}
 use Rattle.cb_types.specs.declared.handle.Handle.{Handle}
@@ -105,7 +105,7 @@ freed_none = refl
 
 -- ---- looks at an object
 two_looks : AreLooksAt 1 record nothing_more { looks = look_at 1 2 ∷ look_at 1 6 ∷ [] }
-two_looks = record { looks = look_at 1 2 ∷ look_at 1 6 ∷ []; on = (refl, refl, tt); part = refl }
+two_looks = record { looks = look_at 1 2 ∷ look_at 1 6 ∷ []; on = (refl, (refl, tt)); part = refl }
 
 another_look : AreLooksAt 1 record nothing_more { looks = look_at 0 2 ∷ [] } → ⊥
 another_look a = go a.looks a.on (ap (λ (d : Part). d.looks) a.part)
@@ -187,9 +187,10 @@ adds_two a = eqb-false 2 1 refl (ap (λ (d : Part). length d.turns) a.part)
 -- a pin beside it
 adds_a_pin : TurnAdds two job.Evict (Ok answer.Worn) part (record added { ever = 1 }) → ⊥
 adds_a_pin a = eqb-false 1 0 refl (ap (λ (d : Part). d.ever) a.part
-    ∙ ap (λ (d : Part). d.ever + a.later.ever) a.reads ∙ ap (λ (d : Part). d.ever) a.finds)
+    ∙ ap (λ (d : Part). d.ever + a.later.ever) a.reads
+    ∙ ap (λ (d : Part). 0 + d.ever) a.finds)
 
 -- another record than its part in front
 keeps_no_turn : TurnBy two job.Evict (Ok answer.Worn) part part → ⊥
 keeps_no_turn (d, a, is) = eqb-false 0 1 refl (ap (λ (v : View). length v.turns) is
-    ∙ ap (λ (e : Part). length e.turns) a.part)
+    ∙ ap (λ (e : Part). length (e.turns ++ [])) a.part)
