@@ -1,5 +1,5 @@
--- Where no view has a pin or a claim, and no seat holds the lock, the words of the table with the
--- far state are a sound world, which holds of each object its newest entry.
+-- Where no seat holds the lock, the words of the table with the far state are a sound world, which
+-- holds its newest entry of each object that no view claims.
 use Rattle.std.proofs.Common.{◌≡◌, ℕ, zero, suc, ◌+◌, ◌*◌, ◌<◌, ◌≤◌, Bool, true, false, cond, List, [], ◌∷◌, Option, None, Some, length, get_or, replicate, sym, refl, ap, ◌∙◌, subst, inr, ⊎_elim, arith, true≢false}
 use Rattle.std.specs.List.{All}
 use Rattle.std.specs.Prelude.{slice_get}
@@ -110,9 +110,7 @@ none_holds seat has = true≢false (sym has
     ∙ ap (λ (s : SeatState). s.holds) (same_each 64 idle_seat seat))
 
 module _ (c : Config) (ws : List ℕ) (views : List View) (known : Shown) (es : List Entry)
-    (r : Kept c ws views known es) (unpinned : (h : ℕ) → total (pins_on h) views ≡ 0)
-    (unclaimed : (h : ℕ) → total (claims_on h) views ≡ 0) (far : FarState)
-    (stood : Stood c known far) where
+    (r : Kept c ws views known es) (far : FarState) (stood : Stood c known far) where
   abbrev t : Shown
   t = as_shown c ws known
 
@@ -143,8 +141,8 @@ module _ (c : Config) (ws : List ℕ) (views : List View) (known : Shown) (es : 
         subst (Fits (object_at known h)) (sym (pointer_at h l)) (r.fit h l);
   }
 
-  pub closed_known : IsKnown (desk_of c ws) far t
-  closed_known = record {
+  pub shown_known : IsKnown (desk_of c ws) far t
+  shown_known = record {
     sized = record {
       words = wide;
       versions = window_length ws (stamps c) c.handles;
@@ -155,88 +153,14 @@ module _ (c : Config) (ws : List ℕ) (views : List View) (known : Shown) (es : 
     sound = sound;
   }
 
-  bare : (h : ℕ) → h < c.handles → pins_of (word_at (desk_of c ws) h) ≡ 0
-  bare h l = ap pins_of (pointer_at h l)
-      ∙ (pins_stand c ws views known es r h l).counted ∙ unpinned h
-
-  pinned : ArePinned (desk_of c ws) (replicate 64 idle_seat)
-  pinned = record {
-    count = length-replicate 64 idle_seat;
-    few = idle_each (λ (seat : SeatState). length seat.pins ≤ 16) (omega arith);
-    counted = λ h below. bare h (subst (λ (n : ℕ). h < n) wide below)
-        ∙ sym (sum_by-replicate (λ (seat : SeatState). pins_there h seat.pins) 64 idle_seat);
-    known = idle_each (λ (seat : SeatState).
-        All (λ (pin : Pin). pin.handle < length (desk_of c ws).words) seat.pins) (no_pin _);
-    here = λ h below some. absurd (let n = bare h (subst (λ (n : ℕ). h < n) wide below) in
-        omega (arith, n, some));
-    versions = idle_each (λ (seat : SeatState).
-        All (λ (pin : Pin). pin.version ≡ get_or (desk_of c ws).versions pin.handle 0) seat.pins)
-        (no_pin _);
-  }
-
-  -- a word that is Moving is that of an object that is leaving
-  leaves : (h : ℕ) → h < c.handles → state_of (pointer ws h) ≡ word.Moving → IsLeavingNow far h
-  leaves h l moving = go (object_at known h) refl (r.stand h l) (r.fit h l)
-    where
-      of : (len place : ℕ) (words : List ℕ) → IsLeaving known far h len place words
-          → IsLeavingNow far h
-      of len place words x = (
-        x.batch,
-        x.there,
-        (
-          x.slot.frame,
-          x.slot.slot,
-          x.leaves,
-          ap (λ o. handle_in o x.slot.slot) x.slot.there ∙ x.slot.named,
-        ),
-      )
-
-      go : (o : Object) → object_at known h ≡ o
-          → Stands c known.first ws h (total (pins_on h) views) (total (claims_on h) views)
-          (top es h) (newest es h) (version_at known h) o
-          → Fits o (pointer ws h) → IsLeavingNow far h
-      go (is.Empty v) q k f = absurd (let b = bits_moving (pointer ws h) moving in
-          omega (arith, b, f))
-      go (is.Far len v words) q k f = absurd (let b = bits_moving (pointer ws h) moving in
-          let g = f.0 in omega (arith, b, g))
-      go (is.Claimed len place v words) q k f =
-          of len place words (stood.sound.claimed h len place v words q)
-      go (is.Here len place) q k f = absurd (⊎_elim
-          (λ (m : IsCalm c ws h (total (pins_on h) views) (total (claims_on h) views) (top es h)
-          (newest es h) len place). let b = bits_moving (pointer ws h) moving in
-          let g = bits_here (pointer ws h) m.state in omega (arith, b, g))
-          (λ (m : IsTaken ws h (total (pins_on h) views) (total (claims_on h) views)).
-          let one = m.one_claim in let none = unclaimed h in omega (arith, one, none)) k.word)
-
-  ongoing : AreOpen (desk_of c ws) far (replicate 64 idle_seat)
-  ongoing = record {
-    each = λ seat at x there. absurd (no_claim seat at x there);
-    once = λ seat other at place x y there a b. absurd (no_claim seat at x there);
-    apart = λ seat at x there leaving. no_claim seat at x there;
-    moving = λ h below moves. let l = subst (λ (n : ℕ). h < n) wide below in
-        inr (leaves h l (sym (ap state_of (pointer_at h l)) ∙ moves));
-  }
-
-  pub closed_sound : IsAccepted c → IsSoundWorld w
-  closed_sound ok = record {
-    config = ok;
-    configured = stood.configured;
-    shown = t;
-    known = closed_known;
-    pinned = pinned;
-    ongoing = ongoing;
-    one = λ a b there. absurd (none_holds a there);
-    counted = stood.counted;
-  }
-
   whole : (h : ℕ) (o : Object) → object_at known h ≡ o → is_far o ≡ false
       → is_gone far h ≡ false
   whole h o q near = not_gone known far stood.sound h (ap is_far q ∙ near)
 
-  -- what the world holds is what the newest entry says
-  pub closed_now : (h : ℕ) → h < c.handles
+  -- what the world holds of an object that no view claims is what the newest entry says
+  pub now_shown : (h : ℕ) → h < c.handles → total (claims_on h) views ≡ 0
       → now t far h ≡ value_now (is_gone far h) (top es h) (newest es h)
-  closed_now h l = go (object_at known h) refl (r.stand h l)
+  now_shown h l unclaimed = go (object_at known h) refl (r.stand h l)
     where
       here : (len place : ℕ) → object_at known h ≡ is.Here len place
           → newest es h ≡ holding_words len (newest es h).words
@@ -276,5 +200,81 @@ module _ (c : Config) (ws : List ℕ) (views : List View) (known : Shown) (es : 
           (λ (m : IsCalm c ws h (total (pins_on h) views) (total (claims_on h) views) (top es h)
           (newest es h) len place). here len place q k.held m)
           (λ (m : IsTaken ws h (total (pins_on h) views) (total (claims_on h) views)).
-          absurd (let one = m.one_claim in let none = unclaimed h in omega (arith, one, none)))
-          k.word
+          absurd (let one = m.one_claim in omega (arith, one, unclaimed))) k.word
+
+  -- where no view has a pin or a claim
+  module _ (unpinned : (h : ℕ) → total (pins_on h) views ≡ 0)
+      (unclaimed : (h : ℕ) → total (claims_on h) views ≡ 0) where
+    bare : (h : ℕ) → h < c.handles → pins_of (word_at (desk_of c ws) h) ≡ 0
+    bare h l = ap pins_of (pointer_at h l)
+        ∙ (pins_stand c ws views known es r h l).counted ∙ unpinned h
+
+    pinned : ArePinned (desk_of c ws) (replicate 64 idle_seat)
+    pinned = record {
+      count = length-replicate 64 idle_seat;
+      few = idle_each (λ (seat : SeatState). length seat.pins ≤ 16) (omega arith);
+      counted = λ h below. bare h (subst (λ (n : ℕ). h < n) wide below)
+          ∙ sym (sum_by-replicate (λ (seat : SeatState). pins_there h seat.pins) 64 idle_seat);
+      known = idle_each (λ (seat : SeatState).
+          All (λ (pin : Pin). pin.handle < length (desk_of c ws).words) seat.pins) (no_pin _);
+      here = λ h below some. absurd (let n = bare h (subst (λ (n : ℕ). h < n) wide below) in
+          omega (arith, n, some));
+      versions = idle_each (λ (seat : SeatState).
+          All (λ (pin : Pin). pin.version ≡ get_or (desk_of c ws).versions pin.handle 0) seat.pins)
+          (no_pin _);
+    }
+
+    -- a word that is Moving is that of an object that is leaving
+    leaves : (h : ℕ) → h < c.handles → state_of (pointer ws h) ≡ word.Moving → IsLeavingNow far h
+    leaves h l moving = go (object_at known h) refl (r.stand h l) (r.fit h l)
+      where
+        of : (len place : ℕ) (words : List ℕ) → IsLeaving known far h len place words
+            → IsLeavingNow far h
+        of len place words x = (
+          x.batch,
+          x.there,
+          (
+            x.slot.frame,
+            x.slot.slot,
+            x.leaves,
+            ap (λ o. handle_in o x.slot.slot) x.slot.there ∙ x.slot.named,
+          ),
+        )
+
+        go : (o : Object) → object_at known h ≡ o
+            → Stands c known.first ws h (total (pins_on h) views) (total (claims_on h) views)
+            (top es h) (newest es h) (version_at known h) o
+            → Fits o (pointer ws h) → IsLeavingNow far h
+        go (is.Empty v) q k f = absurd (let b = bits_moving (pointer ws h) moving in
+            omega (arith, b, f))
+        go (is.Far len v words) q k f = absurd (let b = bits_moving (pointer ws h) moving in
+            let g = f.0 in omega (arith, b, g))
+        go (is.Claimed len place v words) q k f =
+            of len place words (stood.sound.claimed h len place v words q)
+        go (is.Here len place) q k f = absurd (⊎_elim
+            (λ (m : IsCalm c ws h (total (pins_on h) views) (total (claims_on h) views) (top es h)
+            (newest es h) len place). let b = bits_moving (pointer ws h) moving in
+            let g = bits_here (pointer ws h) m.state in omega (arith, b, g))
+            (λ (m : IsTaken ws h (total (pins_on h) views) (total (claims_on h) views)).
+            let one = m.one_claim in let none = unclaimed h in omega (arith, one, none)) k.word)
+
+    ongoing : AreOpen (desk_of c ws) far (replicate 64 idle_seat)
+    ongoing = record {
+      each = λ seat at x there. absurd (no_claim seat at x there);
+      once = λ seat other at place x y there a b. absurd (no_claim seat at x there);
+      apart = λ seat at x there leaving. no_claim seat at x there;
+      moving = λ h below moves. let l = subst (λ (n : ℕ). h < n) wide below in
+          inr (leaves h l (sym (ap state_of (pointer_at h l)) ∙ moves));
+    }
+
+    pub closed_sound : IsAccepted c → IsSoundWorld w
+    closed_sound ok = record {
+      config = ok;
+      configured = stood.configured;
+      shown = t;
+      known = shown_known;
+      pinned = pinned;
+      ongoing = ongoing;
+      one = λ a b there. absurd (none_holds a there);
+      counted = stood.counted;
+    }

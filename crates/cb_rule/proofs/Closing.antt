@@ -1,5 +1,5 @@
 -- The pass with the whole share closes the runtime.
-use Rattle.std.proofs.Common.{◌≡◌, ◌≢◌, ℕ, zero, suc, ◌<◌, ◌≤◌, Bool, true, false, cond, List, [], ◌∷◌, Some, replicate, sym, refl, ap, ◌∙◌, subst, ⊎_elim, arith}
+use Rattle.std.proofs.Common.{◌≡◌, ◌≢◌, ℕ, ◌<◌, Bool, false, cond, List, [], ◌∷◌, Some, replicate, sym, refl, ap, ◌∙◌, subst, arith}
 use mathlib.Core.Option.{some}
 use lib.ListN.{get_elem?}
 use Rattle.atomic_table.specs.Table.{Final, Seen}
@@ -7,46 +7,27 @@ use Rattle.cb_types.specs.declared.config.Config.{Config}
 use Rattle.cb_types.specs.Config.{IsAccepted}
 use Rattle.cb_world.specs.declared.entry.Entry.{Entry}
 use Rattle.cb_world.specs.FarState.{FarState}
-use Rattle.cb_world.specs.Memory.{bytes_in}
-use Rattle.cb_world.specs.Now.{is_gone, now}
-use Rattle.cb_world.specs.Now.Now.{never as made_never, freed, held, gone}
 use Rattle.cb_world.specs.Seats.{idle_seat}
 use Rattle.cb_world.specs.StillDesk.{window_length}
 use Rattle.cb_world.specs.World.{WorldState}
-use Rattle.cb_world.proofs.Laws.{empty_value}
 use Rattle.cb_rule.specs.declared.view.View.{View}
-use Rattle.cb_rule.specs.AsShown.{as_shown}
-use Rattle.cb_rule.specs.Closing.{HoldsEntries, IsClosed, desk_of, now_of}
-use Rattle.cb_rule.specs.History.{newest, no_value, top, value_of}
+use Rattle.cb_rule.specs.Closing.{HoldsEntries, IsClosed, desk_of}
 use Rattle.cb_rule.specs.Lists.{times, total}
 use Rattle.cb_rule.specs.Locking.{Deeds, IsUnlocked, Locked}
 use Rattle.cb_rule.specs.OneHistory.{IsOneHistory}
-use Rattle.cb_rule.specs.Promised.{EntriesStand, Wrote}
+use Rattle.cb_rule.specs.Promised.{EntriesStand}
 use Rattle.cb_rule.specs.Rule.{Kept}
 use Rattle.cb_rule.specs.Ruled.{Ruled}
 use Rattle.cb_rule.specs.Seats.{claims_it, claims_on, holding, pins_it, pins_on}
+use Rattle.cb_rule.specs.ShownWorld.{ShowsWorld}
 use Rattle.cb_rule.specs.Slot.{Slot, Table}
 use Rattle.cb_rule.specs.Steps.{blank}
-use Rattle.cb_rule.proofs.ClosedWorld.{closed_known, closed_now, closed_sound, value_now}
-use Rattle.cb_rule.proofs.Histories.{begun, entry_within, newest_entry}
+use Rattle.cb_rule.proofs.ClosedWorld.{closed_sound}
+use Rattle.cb_rule.proofs.ShownWorld.{world_shown}
 use Rattle.cb_rule.proofs.Lone.{is_last, lone_entries, lone_total, lone_turns, wrote}
-use Rattle.cb_rule.proofs.Members.{each_has}
 use Rattle.cb_rule.proofs.Newest.{others_spent}
 use Rattle.cb_rule.proofs.Turns.{one_history}
-use Rattle.cb_rule.proofs.Promising.{entries_stand, has_wrote, last_newest, last_top, wrote_has}
-
--- what an entry left, as what the history has of it
-left : (lost : Bool) (e : Entry) → 1 ≤ e.version
-    → value_now lost e.version (value_of e) ≡ now_of lost e
-left lost e pos = by e.version e.freed pos
-  where
-    by : (v : ℕ) (ended : Bool) → 1 ≤ v
-        → cond ended (empty_value v)
-        (cond lost (gone v) (held v (bytes_in e.after e.len)))
-        ≡ cond ended (freed v) (cond lost (gone v) (held v (bytes_in e.after e.len)))
-    by zero ended made = absurd (omega (arith, made))
-    by (suc v) true made = refl
-    by (suc v) false made = refl
+use Rattle.cb_rule.proofs.Promising.{entries_stand}
 
 -- A view with the whole share that has no pin, no claim and not the lock.
 pub record IsAtEnd (v : View) : Type 0 where
@@ -92,46 +73,24 @@ module _ (deeds : Deeds) (first : ℕ) (c : Config) (accepted : IsAccepted c) (s
   abbrev far : FarState
   far = r.far.chain r.far.count
 
+  nobody : total holding s.views ≡ 0
+  nobody = none_of holding refl (ap (λ (b : Bool). cond {A = ℕ} b 1 0) end.no_lock)
+
   free : IsUnlocked c s r.known r.far.count far
-  free = r.far.free (none_of holding refl (ap (λ (b : Bool). cond {A = ℕ} b 1 0) end.no_lock))
+  free = r.far.free nobody
 
   abbrev w : WorldState
   w = record { desk = desk_of c s.words; far = far; seats = replicate 64 idle_seat }
 
-  now_here : (h : ℕ) → h < c.handles → now (as_shown c s.words r.known) far h
-      ≡ value_now (is_gone far h) (top es h) (newest es h)
-  now_here h l =
-      closed_now c s.words s.views r.known es k unpinned unclaimed far free.stood h l
-
-  holds : HoldsEntries (v ∷ []) w
-  holds = record {
-    shown = as_shown c s.words r.known;
-    known =
-        closed_known c s.words s.views r.known es k unpinned unclaimed far free.stood;
-    last = λ e last. let all = is_last c s.views id v at spent e last in
-        let there = wrote_has c s.words s.views r.known es k e all.0 in
-        let low = (entry_within r.known.first k.begins e es k.history there).0 in
-        let pos = k.begins in
-        now_here e.handle (each_has (λ (x : Entry). x.handle < c.handles) e es k.within there)
-        ∙ (λ i. value_now (is_gone far e.handle)
-        (sym (last_top c s.words s.views r.known es k e all) i)
-        (sym (last_newest c s.words s.views r.known es k e all) i))
-        ∙ left (is_gone far e.handle) e (omega (arith, low, pos));
-    none = λ h below none. let l = subst (λ (n : ℕ). h < n)
-        (window_length s.words 1 c.handles) below in
-        now_here h l ∙ unmade h none;
+  holds : ShowsWorld c s far → HoldsEntries (v ∷ []) w
+  holds x = record {
+    shown = x.shown;
+    known = x.known;
+    last = λ e last. x.last e (is_last c s.views id v at spent e last) (unclaimed e.handle);
+    none = λ h below none. x.none h
+        (subst (λ (n : ℕ). h < n) (window_length s.words 1 c.handles) below)
+        (λ e w. none e (wrote c s.views id v at spent e w));
   }
-    where
-      unmade : (h : ℕ) → ((e : Entry) → Wrote (v ∷ []) e → e.handle ≢ h)
-          → value_now (is_gone far h) (top es h) (newest es h) ≡ made_never
-      unmade h none = ⊎_elim
-          (λ (z : (top es h ≡ 0) × (newest es h ≡ no_value)).
-          (λ i. value_now (is_gone far h) (z.0 i) (z.1 i)))
-          (λ (low : r.known.first ≤ top es h). let pos = k.begins in
-          let n = newest_entry es h (omega (arith, low, pos)) in
-          absurd (none n.entry (wrote c s.views id v at spent n.entry
-          (has_wrote c s.words s.views r.known es k n.entry n.there)) n.handle))
-          (begun r.known.first k.begins es h k.history)
 
   pub closing : Closes deeds first c s v
   closing = record {
@@ -141,12 +100,12 @@ module _ (deeds : Deeds) (first : ℕ) (c : Config) (accepted : IsAccepted c) (s
       settings = refl;
       begins = sym free.stood.sound.here.known.first ∙ r.starts;
       idle = refl;
-      sound = closed_sound c s.words s.views r.known es k unpinned unclaimed far free.stood
+      sound = closed_sound c s.words s.views r.known es k far free.stood unpinned unclaimed
           accepted;
       entries = subst (λ (n : ℕ). EntriesStand n (v ∷ [])) r.starts
           (lone_entries c s.views id v at spent r.known.first
           (entries_stand c s.words s.views r.known es k));
-      holds = holds;
+      holds = holds (world_shown deeds first c s r nobody);
       turns = subst (λ (n : ℕ). IsOneHistory deeds first c (v ∷ []) n far) (sym r.far.reached)
           (lone_turns c s.views id v at spent deeds first r.far.count far
           (one_history deeds first c s r));

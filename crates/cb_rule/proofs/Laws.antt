@@ -14,6 +14,8 @@ pub use Rattle.cb_rule.proofs.Peeking.{peeks}
 pub use Rattle.cb_rule.proofs.Pinning.{gives_pins, takes_pin}
 pub use Rattle.cb_rule.proofs.Promising.{promises}
 pub use Rattle.cb_rule.proofs.Seating.{joins, splits}
+pub use Rattle.cb_rule.proofs.ShownWorld.{world_shown}
 pub use Rattle.cb_rule.proofs.Showing.{is_shown, shown_sound}
 pub use Rattle.cb_rule.proofs.Taking.{takes_lock}
+pub use Rattle.cb_rule.proofs.Told.{are_told}
 pub use Rattle.cb_rule.proofs.Turns.{one_history, turns_stand}

@@ -8,7 +8,7 @@ use Rattle.cb_world.specs.declared.event.Event.{Event}
 use Rattle.cb_world.specs.declared.object.Object.{Object}
 use Rattle.cb_world.specs.declared.object.Object.TheVariants as is
 use Rattle.cb_world.specs.declared.shown.Shown.{Shown}
-use Rattle.cb_world.specs.Shown.{object_at, version_at}
+use Rattle.cb_world.specs.Shown.{never, object_at, version_at}
 use Rattle.cb_world.specs.Written.{adds}
 use Rattle.cb_rule.specs.declared.view.Held.{Held}
 use Rattle.cb_rule.specs.declared.view.Look.{Look}
@@ -17,14 +17,14 @@ use Rattle.cb_rule.specs.declared.view.Seen.{Seen}
 use Rattle.cb_rule.specs.declared.view.View.{View}
 use Rattle.cb_rule.specs.History.{IsChanged, IsHistory, IsMade, is_version, newest, no_value, top}
 use Rattle.cb_rule.specs.Lists.{times, total, removed, Each, Has}
-use Rattle.cb_rule.specs.Own.{AreOwn, IsOwn, Make, StaysWithin, reads_it, traces, writes_it}
+use Rattle.cb_rule.specs.Own.{AreOwn, IsOwn, Make, MayWrite, entries_on, reads_it, traces, writes_it}
 use Rattle.cb_rule.specs.Records.{SeenOk, seen_of}
 use Rattle.cb_rule.specs.Rule.{Kept}
-use Rattle.cb_rule.specs.Seats.{claims_it, claims_on, pins_it, pins_on, written_on}
+use Rattle.cb_rule.specs.Seats.{claims_it, claims_on, pins_it, pins_on}
 use Rattle.cb_rule.specs.Stands.{Stands}
 use Rattle.cb_rule.specs.Steps.{Knows, act, blank, joined, left_of, right_of, with_claim, with_freed, with_held, with_pin, with_version, without_claim, without_pin}
-use Rattle.cb_rule.proofs.Counts.{by_case, times-append, times-edited, total-at, total-two}
-use Rattle.cb_rule.proofs.Histories.{begun, entry_within, once, rises}
+use Rattle.cb_rule.proofs.Counts.{by_case, times-append, times-edited, total-at}
+use Rattle.cb_rule.proofs.Histories.{begun, entry_within, rises}
 use Rattle.cb_rule.proofs.Keeping.{lt_or_le, seats_stay}
 use Rattle.cb_rule.proofs.Members.{at_snoc, each_has, has_times, times_has}
 
@@ -50,14 +50,26 @@ pub seen_times : (h : ℕ) (es : List Entry)
 seen_times h [] = refl
 seen_times h (e ∷ es) = ap (λ (n : ℕ). cond (eqb e.handle h) 1 0 + n) (seen_times h es)
 
--- a record has something of what it knows
-pub known_traces : (h : ℕ) (v : View) → Knows h v → 0 < traces h v
-known_traces h v knows = ⊎_elim
+-- a record has an entry of what it knows
+pub known_entries : (h : ℕ) (v : View) → Knows h v → 0 < entries_on h v
+known_entries h v knows = ⊎_elim
     (λ (k : (e : Entry) × Has e v.written × (e.handle ≡ h)).
     let n = times_has (writes_it h) k.0 v.written k.1 (eq-eqb k.0.handle h k.2) in omega (arith, n))
     (λ (k : (s : Seen) × Has s v.seen × (s.handle ≡ h)).
     let n = times_has (reads_it h) k.0 v.seen k.1 (eq-eqb k.0.handle h k.2) in omega (arith, n))
     knows
+
+-- and so something
+pub known_traces : (h : ℕ) (v : View) → Knows h v → 0 < traces h v
+known_traces h v knows = let n = known_entries h v knows in omega (arith, n)
+
+-- of what is its own a record has an entry
+own_entries : (first h : ℕ) (u : View) → (Has h u.own → Make first h u.written) → IsOwn first h u
+    → 0 < entries_on h u
+own_entries first h u made own = ⊎_elim
+    (λ (has : Has h u.own). let m = made has in let le = version_of h first u.written in
+    omega (arith, m, le))
+    (λ (m : Make first h u.fresh). let le = version_of h first u.fresh in omega (arith, m, le)) own
 
 -- of which there is nothing is another object
 pub not_it : (h k : ℕ) (v : View) → 0 < traces h v → traces k v ≡ 0
@@ -70,6 +82,14 @@ not_it h k v some_of none = by_case (λ b. cond {A = ℕ} b 1 0 ≡ 0) (eqb h k)
 pub both_true : (a b : Bool) → (a && b) ≡ true → (a ≡ true) × (b ≡ true)
 both_true true b e = (refl, e)
 both_true false b e = absurd (true≢false (sym e))
+
+-- where nothing of the list passes the test
+none_of : {A : Type 0} (t : A → Bool) (xs : List A) → ((x : A) → Has x xs → t x ≡ true → ⊥)
+    → times t xs ≡ 0
+none_of t xs f = ⊎_elim
+    (λ (some_of : 0 < times t xs). let x = has_times t xs (omega (arith, some_of)) in
+    absurd (f x.0 x.1 x.2))
+    (λ (le : times t xs ≤ 0). omega (arith, le)) (lt_or_le 0 (times t xs))
 
 -- a list without an element counts no more
 fewer : {A : Type 0} (t t' : A → Bool) (xs : List A) → times t (removed t' xs) ≤ times t xs
@@ -84,16 +104,21 @@ pub record Keeps (v w : View) : Type 0 where
   pub fresh : w.fresh ≡ v.fresh
   pub holds : w.holds ≡ v.holds
   pub wrote : (h k : ℕ) → times (is_version h k) v.written ≤ times (is_version h k) w.written
+  pub more : (h : ℕ) → entries_on h v ≤ entries_on h w
   pub none : (h : ℕ) → traces h v ≡ 0 → traces h w ≡ 0
 
 -- a step that leaves what was written, and lets nothing come of an object of which there is nothing
 pub keeps_by : (v w : View) → w.own ≡ v.own → w.fresh ≡ v.fresh → w.holds ≡ v.holds
-    → w.written ≡ v.written → ((h : ℕ) → traces h v ≡ 0 → traces h w ≡ 0) → Keeps v w
-keeps_by v w own fresh holds written none = record {
+    → w.written ≡ v.written
+    → ((h : ℕ) → times (reads_it h) v.seen ≤ times (reads_it h) w.seen)
+    → ((h : ℕ) → traces h v ≡ 0 → traces h w ≡ 0) → Keeps v w
+keeps_by v w own fresh holds written read none = record {
   own = own;
   fresh = fresh;
   holds = holds;
   wrote = λ h k. let e = ap (times (is_version h k)) written in omega (arith, e);
+  more = λ h. let a = ap (times (writes_it h)) fresh in let b = ap (times (writes_it h)) written in
+      let c = read h in omega (arith, a, b, c);
   none = none;
 }
 
@@ -101,38 +126,38 @@ keeps_by v w own fresh holds written none = record {
 pub keeps_all : (v : View) (looks : List Look) (peeked : List Peeked)
     → Keeps v (record v { looks = looks; peeked = peeked })
 keeps_all v looks peeked = keeps_by v (record v { looks = looks; peeked = peeked }) refl refl refl
-    refl (λ h none. none)
+    refl (λ h. omega arith) (λ h none. none)
 
 -- an object that is known is pinned, claimed or found freed
 module _ (h : ℕ) (v : View) (knows : 0 < traces h v) where
   pub keeps_pin : (w version : ℕ) (words : List ℕ) → Keeps v (with_pin h w version words v)
   keeps_pin w version words = keeps_by v (with_pin h w version words v) refl refl refl refl
-      (λ k none. let out = not_it h k v knows none in omega (arith, none, out))
+      (λ k. omega arith) (λ k none. let out = not_it h k v knows none in omega (arith, none, out))
 
   pub keeps_claim : (w version : ℕ) (words : List ℕ) → Keeps v (with_claim h w version words v)
   keeps_claim w version words = keeps_by v (with_claim h w version words v) refl refl refl refl
-      (λ k none. let out = not_it h k v knows none in omega (arith, none, out))
+      (λ k. omega arith) (λ k none. let out = not_it h k v knows none in omega (arith, none, out))
 
   pub keeps_freed : (version w : ℕ) → Keeps v (with_freed h version w v)
   keeps_freed version w = keeps_by v (with_freed h version w v) refl refl refl refl
-      (λ k none. let out = not_it h k v knows none in omega (arith, none, out))
+      (λ k. omega arith) (λ k none. let out = not_it h k v knows none in omega (arith, none, out))
 
 -- a pin is given back
 pub keeps_unpin : (h : ℕ) (v : View) → Keeps v (without_pin h v)
 keeps_unpin h v = keeps_by v (without_pin h v) refl refl refl refl
-    (λ k none. let le = fewer (pins_it k) (pins_it h) v.pins in omega (arith, none, le))
+    (λ k. omega arith) (λ k none. let le = fewer (pins_it k) (pins_it h) v.pins in omega (arith, none, le))
 
 -- a claim is changed
 pub keeps_held : (h : ℕ) (f : Held → Held) (v : View) → ((x : Held) → (f x).handle ≡ x.handle)
     → Keeps v (with_held h f v)
 keeps_held h f v same = keeps_by v (with_held h f v) refl refl refl refl
-    (λ k none. let e = times-edited (claims_it h) (claims_it k) f v.claims
+    (λ k. omega arith) (λ k none. let e = times-edited (claims_it h) (claims_it k) f v.claims
     (λ x. ap (λ (j : ℕ). eqb j k) (same x)) in omega (arith, none, e))
 
 -- and given up
 pub keeps_unclaim : (h : ℕ) (v : View) → Keeps v (without_claim h v)
 keeps_unclaim h v = keeps_by v (without_claim h v) refl refl refl refl
-    (λ k none. let le = fewer (claims_it k) (claims_it h) v.claims in omega (arith, none, le))
+    (λ k. omega arith) (λ k none. let le = fewer (claims_it k) (claims_it h) v.claims in omega (arith, none, le))
 
 -- with an entry more of the claimed object
 pub keeps_version : (x : Held) (v : View) → Has x v.claims → Keeps v (with_version x v)
@@ -142,6 +167,7 @@ keeps_version x v has = let one = times_has (claims_it x.handle) x v.claims has
       fresh = refl;
       holds = refl;
       wrote = λ h k. omega arith;
+      more = λ h. omega arith;
       none = λ k none. let out = not_it x.handle k v (omega (arith, one)) none in
           let le = fewer (claims_it k) (claims_it x.handle) v.claims in omega (arith, none, le, out);
     }
@@ -179,77 +205,40 @@ module _ (first : ℕ) (views : List View) (id : ℕ) (v : View) (at : get_elem?
       (λ j u ne there h own. k.none h (r.alone j u there id v at (λ e. ne (sym e)) h own))
       (λ off. k.fresh ∙ r.idle id v at (sym k.holds ∙ off))
 
-  -- The turn is ended: what it wrote stands in the record, and what it made is the view's own.
-  module _ (single : (h : ℕ) → total (written_on h first) views ≤ 1)
-      (within : StaysWithin first v) where
-    -- it wrote nothing of what is another's own
-    not_theirs : (j : ℕ) (u : View) → j ≢ id → get_elem? views j ≡ some u → (h : ℕ)
-        → IsOwn first h u → times (writes_it h) v.fresh ≡ 0
-    not_theirs j u ne there h own = ⊎_elim
-        (λ (some_of : 0 < times (writes_it h) v.fresh).
-        let x = has_times (writes_it h) v.fresh (omega (arith, some_of)) in
-        let same = eqb-true x.0.handle h x.2 in absurd (⊎_elim
-        (λ (make : x.0.version ≡ first). twice x.0 x.1 same make)
-        (λ (has : 0 < traces x.0.handle v).
-        let t : traces x.0.handle v ≡ traces h v = ap (λ (k : ℕ). traces k v) same in
-        let none = r.alone j u there id v at (λ e. ne (sym e)) h own in
-        omega (arith, has, t, none))
-        (each_has (λ (e : Entry). (e.version ≡ first) ⊎ (0 < traces e.handle v)) x.0 v.fresh
-        within x.1)))
-        (λ (le : times (writes_it h) v.fresh ≤ 0). omega (arith, le))
-        (lt_or_le 0 (times (writes_it h) v.fresh))
-      where
-        is_make : (e : Entry) → e.handle ≡ h → e.version ≡ first → is_version h first e ≡ true
-        is_make e a b = ap (λ (q : Bool). q && eqb e.version first) (eq-eqb e.handle h a)
-            ∙ eq-eqb e.version first b
+  -- the turn is ended: what it wrote stands in the record, and what it made is the view's own
+  pub own_given : (w : View) (made : List ℕ) → w.fresh ≡ [] → w.written ≡ v.fresh ++ v.written
+      → w.own ≡ made ++ v.own → Each (λ h. Make first h v.fresh) made
+      → ((h : ℕ) → traces h v ≡ 0 → traces h w ≡ 0) → AreOwn first (set views id w)
+  own_given w made fresh written own makes none = own_stays w
+      (λ h has. let all = times-append (is_version h first) v.fresh v.written in
+      subst (Make first h) (sym written) (⊎_elim
+      (λ (m : Make first h v.fresh). omega (arith, m, all))
+      (λ (o : Has h v.own). let m = r.made id v at h o in omega (arith, m, all)) (which h has)))
+      (λ j u ne there h is_own. r.alone id v at j u there ne h (⊎_elim
+      (λ (has : Has h w.own). ⊎_elim (λ (m : Make first h v.fresh). inr m)
+      (λ (o : Has h v.own). inl o) (which h has))
+      (λ (m : Make first h w.fresh). absurd (nothing h (subst (Make first h) fresh m))) is_own))
+      (λ j u ne there h is_own. none h (r.alone j u there id v at (λ e. ne (sym e)) h is_own))
+      (λ _. fresh)
+    where
+      which : (h : ℕ) → Has h w.own → Make first h v.fresh ⊎ Has h v.own
+      which h has = ⊎_elim
+          (λ (m : Has h made). inl (each_has (λ k. Make first k v.fresh) h made makes m))
+          (λ (o : Has h v.own). inr o) (has_either h made v.own (subst (Has h) own has))
 
-        twice : (e : Entry) → Has e v.fresh → e.handle ≡ h → e.version ≡ first → ⊥
-        twice e has same make =
-            let mine = times_has (is_version h first) e v.fresh has (is_make e same make) in
-            let two = total-two (written_on h first) views id j v u ne at there in
-            let one = single h in
-            let his : 0 < written_on h first u = ⊎_elim
-            (λ (o : Has h u.own). let m = r.made j u there h o in omega (arith, m))
-            (λ (m : Make first h u.fresh). omega (arith, m)) own in
-            omega (arith, mine, two, one, his)
-
-    pub own_given : (w : View) (made : List ℕ) → w.fresh ≡ [] → w.written ≡ v.fresh ++ v.written
-        → w.own ≡ made ++ v.own → Each (λ h. Make first h v.fresh) made
-        → ((h : ℕ) → traces h v ≡ 0 → times (writes_it h) v.fresh ≡ 0 → traces h w ≡ 0)
-        → AreOwn first (set views id w)
-    own_given w made fresh written own makes none = own_stays w
-        (λ h has. let all = times-append (is_version h first) v.fresh v.written in
-        subst (Make first h) (sym written) (⊎_elim
-        (λ (m : Make first h v.fresh). omega (arith, m, all))
-        (λ (o : Has h v.own). let m = r.made id v at h o in omega (arith, m, all)) (which h has)))
-        (λ j u ne there h is_own. r.alone id v at j u there ne h (⊎_elim
-        (λ (has : Has h w.own). ⊎_elim (λ (m : Make first h v.fresh). inr m)
-        (λ (o : Has h v.own). inl o) (which h has))
-        (λ (m : Make first h w.fresh). absurd (nothing h (subst (Make first h) fresh m))) is_own))
-        (λ j u ne there h is_own. none h (r.alone j u there id v at (λ e. ne (sym e)) h is_own)
-        (not_theirs j u ne there h is_own))
-        (λ _. fresh)
-      where
-        which : (h : ℕ) → Has h w.own → Make first h v.fresh ⊎ Has h v.own
-        which h has = ⊎_elim
-            (λ (m : Has h made). inl (each_has (λ k. Make first k v.fresh) h made makes m))
-            (λ (o : Has h v.own). inr o) (has_either h made v.own (subst (Has h) own has))
-
-        nothing : (h : ℕ) → Make first h [] → ⊥
-        nothing h m = omega (arith, m)
+      nothing : (h : ℕ) → Make first h [] → ⊥
+      nothing h m = omega (arith, m)
 
 module _ (c : Config) (ws : List ℕ) (views : List View) (known : Shown) (es : List Entry)
     (r : Kept c ws views known es) where
-  -- the first version of an object is written once
-  pub made_once : (h : ℕ) → total (written_on h known.first) views ≤ 1
-  made_once h = let a = r.recorded h known.first in
-      let b = once known.first r.begins es h known.first r.history in omega (arith, a, b)
-
   -- of an object that was never made no record has anything
   pub never_seen : (j : ℕ) (u : View) → get_elem? views j ≡ some u → (h : ℕ) → h < c.handles
       → top es h ≡ 0 → traces h u ≡ 0
   never_seen j u there h l never = let wrote = none_of (writes_it h) u.written
       (λ e has is. of_entry e (each_has (λ x. Has x es) e u.written ok.written has)
+      (eqb-true e.handle h is)) in
+      let writes = none_of (writes_it h) u.fresh
+      (λ e has is. of_entry e (each_has (λ x. Has x es) e u.fresh ok.fresh has)
       (eqb-true e.handle h is)) in
       let read = none_of (reads_it h) u.seen (λ s has is.
       let o = each_has (SeenOk es) s u.seen ok.seen has in
@@ -257,17 +246,10 @@ module _ (c : Config) (ws : List ℕ) (views : List View) (known : Shown) (es : 
       let held = go (object_at known h) (r.stand h l) in
       let pins = total-at (pins_on h) views j u there in
       let claims = total-at (claims_on h) views j u there in
-      let a = held.0 in let b = held.1 in omega (arith, wrote, read, a, b, pins, claims)
+      let a = held.0 in let b = held.1 in omega (arith, wrote, writes, read, a, b, pins, claims)
     where
       ok : Rattle.cb_rule.specs.Records.RecordOk c known.first es u
       ok = (r.seats j u there).lasting
-
-      none_of : {A : Type 0} (t : A → Bool) (xs : List A)
-          → ((x : A) → Has x xs → t x ≡ true → ⊥) → times t xs ≡ 0
-      none_of t xs f = ⊎_elim
-          (λ (some_of : 0 < times t xs). let x = has_times t xs (omega (arith, some_of)) in
-          absurd (f x.0 x.1 x.2))
-          (λ (le : times t xs ≤ 0). omega (arith, le)) (lt_or_le 0 (times t xs))
 
       of_entry : (e : Entry) → Has e es → e.handle ≡ h → ⊥
       of_entry e has same = let z = entry_within known.first r.begins e es r.history has in
@@ -284,6 +266,13 @@ module _ (c : Config) (ws : List ℕ) (views : List View) (known : Shown) (es : 
       go (is.Here len place) k = absurd (let a = k.born in let b = r.begins in
           omega (arith, a, b, never))
       go (is.Claimed len place v words) k = (k.kept.no_pins, k.kept.no_claims)
+
+  -- no record has anything of one that is known as never made
+  pub never_made : (j : ℕ) (u : View) → get_elem? views j ≡ some u → (h : ℕ) → h < c.handles
+      → object_at known h ≡ never → traces h u ≡ 0
+  never_made j u there h l is_never = let k = subst (Stands c known.first ws h
+      (total (pins_on h) views) (total (claims_on h) views) (top es h) (newest es h)
+      (version_at known h)) is_never (r.stand h l) in never_seen j u there h l k.at
 
 -- what comes at the first version had no entry before
 pub never_before : (first : ℕ) → 1 ≤ first → (more es : List Entry) → IsHistory first (more ++ es)
@@ -310,14 +299,15 @@ never_before first pos (x ∷ more) es k e has make = ⊎_elim
         omega (arith, n, at_first, some_of)))
         (begun first pos (more ++ es) x.handle k.1)) k.0
 
--- A step of the holder: what it makes was never made before.
+-- A step of the holder, which writes what it may: what it makes was never made before.
 pub own_acted : (first : ℕ) (c : Config) (ws : List ℕ) (views : List View) (id : ℕ) (v : View)
     → get_elem? views id ≡ some v → AreOwn first views → (e : Event) (es : List Entry)
     → Kept c ws views v.known es → v.holds ≡ true → first ≡ v.known.first
     → IsHistory v.known.first (adds e v.known ++ es)
     → Each (λ (x : Entry). x.handle < c.handles) (adds e v.known)
+    → Each (λ (x : Entry). MayWrite x.handle v.known v) (adds e v.known)
     → AreOwn first (set views id (act e v))
-own_acted first c ws views id v at r e es k holds starts follows within =
+own_acted first c ws views id v at r e es k holds starts follows within may =
     own_stays first views id v at r (act e v) (r.made id v at)
     (λ j u ne there h own. ⊎_elim (λ (has : Has h v.own). r.alone id v at j u there ne h (inl has))
     (λ (m : Make first h (more ++ v.fresh)). let all = times-append (is_version h first) more v.fresh in
@@ -325,11 +315,28 @@ own_acted first c ws views id v at r e es k holds starts follows within =
     (λ (le : times (is_version h first) more ≤ 0).
     r.alone id v at j u there ne h (inr (omega (arith, m, all, le))))
     (lt_or_le 0 (times (is_version h first) more))) own)
-    (λ j u ne there h own. r.alone j u there id v at (λ q. ne (sym q)) h own)
+    (λ j u ne there h own. let none = r.alone j u there id v at (λ q. ne (sym q)) h own in
+    let wrote = not_theirs j u there h own none in
+    let all = times-append (writes_it h) more v.fresh in omega (arith, none, wrote, all))
     (λ off. absurd (true≢false (sym holds ∙ off)))
   where
     more : List Entry
     more = adds e v.known
+
+    not_theirs : (j : ℕ) (u : View) → get_elem? views j ≡ some u → (h : ℕ) → IsOwn first h u
+        → traces h v ≡ 0 → times (writes_it h) more ≡ 0
+    not_theirs j u there h own none = none_of (writes_it h) more
+        (λ x has is. let same = eqb-true x.handle h is in ⊎_elim
+        (λ (some_of : 0 < entries_on x.handle v).
+        let t : entries_on x.handle v ≡ entries_on h v = ap (λ (q : ℕ). entries_on q v) same in
+        omega (arith, some_of, t, none))
+        (λ (is_never : object_at v.known x.handle ≡ never).
+        let z = never_made c ws views v.known es k j u there x.handle
+        (each_has (λ (y : Entry). y.handle < c.handles) x more within has) is_never in
+        let t : traces x.handle u ≡ traces h u = ap (λ (q : ℕ). traces q u) same in
+        let some_of = own_entries first h u (r.made j u there h) own in
+        omega (arith, z, t, some_of))
+        (each_has (λ (y : Entry). MayWrite y.handle v.known v) x more may has))
 
     new : (j : ℕ) (u : View) → get_elem? views j ≡ some u → (h : ℕ)
         → 0 < times (is_version h first) more → traces h u ≡ 0
@@ -408,8 +415,7 @@ own_split first views id v given at fresh r = record {
         let parts = times-append (reads_it h) (map seen_of (v.fresh ++ v.written)) v.seen in
         let seen = seen_times h (v.fresh ++ v.written) in
         let all = times-append (writes_it h) v.fresh v.written in
-        let calm : times (writes_it h) v.fresh ≡ 0 = ap (times (writes_it h)) fresh in
-        omega (arith, none, parts, seen, all, calm)
+        omega (arith, none, parts, seen, all)
 
     new : (i : ℕ) (u : View) → get_elem? (set views id left) i ≡ some u → (h : ℕ)
         → IsOwn first h u → traces h right ≡ 0
@@ -467,6 +473,7 @@ own_joined first c views id v other w at at' fresh fresh' r = record {
 
     sum : (h : ℕ) → traces h v ≡ 0 → traces h w ≡ 0 → traces h both ≡ 0
     sum h a b = let e = times-append (writes_it h) w.written v.written in
+        let d = times-append (writes_it h) w.fresh v.fresh in
         let f = times-append (reads_it h) w.seen v.seen in
         let g = times-append (pins_it h) w.pins v.pins in
-        let k = times-append (claims_it h) w.claims v.claims in omega (arith, a, b, e, f, g, k)
+        let k = times-append (claims_it h) w.claims v.claims in omega (arith, a, b, d, e, f, g, k)

@@ -21,6 +21,7 @@ use Rattle.cb_rule.specs.Steps.{blank, joined, left_of, right_of}
 use Rattle.cb_rule.proofs.Counts.{each_append, each_map, each_mapped, times-append, total-same, total-set, total-snoc}
 use Rattle.cb_rule.proofs.Keeping.{seats_stay}
 use Rattle.cb_rule.proofs.Members.{at_snoc}
+use Rattle.cb_rule.proofs.Binding.{bound_joined, bound_split}
 use Rattle.cb_rule.proofs.Owning.{own_joined, own_split}
 
 -- a total to which the new element adds nothing
@@ -285,6 +286,7 @@ module _ (beside : Beside) (steady : IsSteady beside) (first : ℕ) (c : Config)
     kept = kept_splits c s.words s.views r.known r.history r.kept id v given at;
     shares = shares_split c s.views id v given at some_share less r.shares;
     own = own_split first s.views id v given at fresh r.own;
+    bound = bound_split c r.known s.views id v given at r.bound;
     far = steady.splits c s r.known id v (left_of given v) (right_of given v) at
         record { holds = refl; took = refl; turns = refl } refl refl r.far;
   }
@@ -300,5 +302,6 @@ module _ (beside : Beside) (steady : IsSteady beside) (first : ℕ) (c : Config)
     shares = shares_joined c s.views id v other w at there live r.shares;
     own = let at' = sym (set_else s.views id other (joined v w) ne) ∙ there in
         own_joined first c s.views id v other w at at' fresh (r.own.idle other w at' quiet) r.own;
+    bound = bound_joined c r.known s.views id v other w at there quiet r.bound;
     far = steady.joins c s r.known id v other w at ne there quiet r.far;
   }

@@ -13,11 +13,12 @@ use Rattle.cb_rule.specs.declared.view.View.{View}
 use Rattle.cb_rule.specs.Lists.{total, Each}
 use Rattle.cb_rule.specs.Locking.{Deeds, Locked, Stood, TurnStands, turns_on}
 use Rattle.cb_rule.specs.LockSteps.{HasTaken, took, took_lock}
-use Rattle.cb_rule.specs.Own.{AreOwn}
+use Rattle.cb_rule.specs.Own.{AreOwn, held_on}
 use Rattle.cb_rule.specs.Rule.{AreSized, Kept}
 use Rattle.cb_rule.specs.Ruled.{Ruled}
 use Rattle.cb_rule.specs.Seats.{holding}
 use Rattle.cb_rule.specs.Slot.{Sat, Table}
+use Rattle.cb_rule.proofs.Binding.{bound_by, held_at_most}
 use Rattle.cb_rule.proofs.Counts.{total-at, total-same, total-set}
 use Rattle.cb_rule.proofs.Flagging.{flagged, lock_word}
 use Rattle.cb_rule.proofs.Keeping.{seats_stay}
@@ -111,6 +112,9 @@ module _ (deeds : Deeds) (first : ℕ) (c : Config) (s : Table) (id : ℕ) (me :
     kept = kept_taken;
     shares = shares_stay c s.views id me.0 taken at refl live r.shares;
     own = own_taken;
+    bound = bound_by c r.known s.views views (λ h.
+        let sum = total-set (held_on h) s.views id me.0 taken at in
+        let less = held_at_most h me.0 in omega (arith, sum, less)) r.bound;
     far = locked_taken;
   }
 
@@ -155,7 +159,8 @@ takes_lock deeds first c slots id me old live even s r _ at _ =
         words = ws;
         homes = s.homes;
         views = set s.views id me.0;
-      }) (sym (ap (set s.words 0) (ap (λ b. either b 1 x) (ne_eqb x old ne)) ∙ same_words s.words 0))
+      }) (sym (ap (set s.words 0) (ap (λ b. either b 1 x) (ne_eqb x old ne))
+          ∙ same_words s.words 0))
           (subst (λ (vs : List View). Ruled (Locked deeds) first c record {
             words = s.words;
             homes = s.homes;

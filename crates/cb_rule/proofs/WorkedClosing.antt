@@ -58,7 +58,7 @@ left_freed = refl
 abbrev record_with : List Entry → View
 record_with es = record (opener pair_of) { written = es }
 
-abbrev maker : View
+abbrev pub maker : View
 maker = record_with (made ∷ [])
 
 abbrev Stands : View → Type 0
@@ -80,7 +80,7 @@ the_two : (e x : Entry) → Has e (x ∷ x ∷ []) → e ≡ x
 the_two e x (inl same) = sym same
 the_two e x (inr more) = the_one e x more
 
-is_made : (e : Entry) → Wrote (maker ∷ []) e → e ≡ made
+pub is_made : (e : Entry) → Wrote (maker ∷ []) e → e ≡ made
 is_made e w = the_one e made (wrote_in maker e w)
 
 nothing_read : {A : Type 0} (f : View → List A) → f maker ≡ [] → (x : A) → (u : View)
@@ -102,7 +102,7 @@ stands = record {
   goes_on = λ e w. subst (GoesOn 3 (maker ∷ [])) (sym (is_made e w)) (inl (refl, refl));
 }
 
-abbrev here : (v : View) → Is (v ∷ []) v
+abbrev pub here : (v : View) → Is (v ∷ []) v
 here v = (0, refl)
 
 read_unwritten : Stands record maker { seen = freed_seen 1 5 ∷ [] } → ⊥
@@ -173,7 +173,7 @@ closes = closing quiet 3 pair_of accepted _
     (opener pair_of) refl
     record { whole = refl; no_pins = refl; no_claims = refl; no_lock = refl }
 
-abbrev far_in : Maybe (Maybe Slot) → FarState
+abbrev pub far_in : Maybe (Maybe Slot) → FarState
 far_in (some (some (Some f))) = f
 far_in (some (some None)) = empty_far 3 pair_of
 far_in (some none) = empty_far 3 pair_of
@@ -210,11 +210,11 @@ with_an_entry_unwritten k = let v = record (opener pair_of) { seen = freed_seen 
     let o = k.entries.read (freed_seen 1 5) (v, here v, inl refl) in wrote_in v o.0 o.1
 
 -- the record wrote an object, and the world does not hold it
-abbrev is_held : Now → Bool
+abbrev pub is_held : Now → Bool
 is_held (held v bytes) = true
 is_held _ = false
 
-not_held : (n : ℕ) → is_held (empty_value n) ≡ false
+pub not_held : (n : ℕ) → is_held (empty_value n) ≡ false
 not_held zero = refl
 not_held (suc n) = refl
 

@@ -1,12 +1,16 @@
 -- Worked own handles: what meets each definition, and what breaks one of its parts alone.
-use Rattle.std.proofs.Common.{◌≡◌, ◌≢◌, ℕ, zero, suc, ◌<◌, true, false, List, [], ◌∷◌, length, sym, refl, ap, subst, inl, inr, ⊎_elim, arith}
+use Rattle.std.proofs.Common.{◌≡◌, ◌≢◌, ◌⊎◌, ℕ, zero, suc, ◌<◌, true, false, List, [], ◌∷◌, length, sym, refl, ap, subst, inl, inr, ⊎_elim, arith}
 use mathlib.Core.Option.{some, some-injective, some-ne-none}
 use lib.ListN.{get_elem?}
 use Rattle.cb_world.specs.declared.entry.Entry.{Entry}
+use Rattle.cb_world.specs.declared.object.Object.{Object}
+use Rattle.cb_world.specs.declared.object.Object.TheVariants as is
+use Rattle.cb_world.specs.declared.shown.Shown.{Shown}
+use Rattle.cb_world.specs.Shown.{never}
 use Rattle.cb_world.specs.Written.{entry}
 use Rattle.cb_rule.specs.declared.view.View.{View}
 use Rattle.cb_rule.specs.Lists.{Has}
-use Rattle.cb_rule.specs.Own.{AreOwn, IsAlone, IsOwn, Make, StaysWithin, traces}
+use Rattle.cb_rule.specs.Own.{AreBound, AreOwn, IsAlone, IsOwn, Make, MayWrite, traces}
 use Rattle.cb_rule.specs.Steps.{blank, freed_seen, held_at, joined, left_of, right_of, stand}
 use Rattle.cb_rule.proofs.WorkedHistory.{made, other, written}
 use Rattle.cb_rule.proofs.WorkedViews.{pair_of}
@@ -107,16 +111,55 @@ no_turn r = let e : 1 ≡ 0 =
     ap (λ (xs : List Entry). length xs) (r.idle 0 record making { holds = false } refl refl) in
     omega (arith, e)
 
--- ---- a turn writes what it makes, and what its seat knows
-makes_it : StaysWithin 3 making
-makes_it = (inl refl, tt)
+-- what a turn wrote of an object counts while it runs
+written_by_a_turn : AreOwn 3 (mine ∷ record yours { holds = true; fresh = entry 0 4 8 [] [] ∷ [] }
+    ∷ []) → ⊥
+written_by_a_turn = shared record yours { holds = true; fresh = entry 0 4 8 [] [] ∷ [] }
+    (omega arith)
 
-writes_known : StaysWithin 3 record yours { holds = true; fresh = entry 1 5 8 [] [] ∷ [] }
-writes_known = (inr (let z : 0 < traces 1 yours = omega arith in z), tt)
+-- ---- the holder may write what it has an entry of, and what was never made
+abbrev two_objects : ℕ → Shown
+two_objects n = record {
+  first = 3;
+  objects = never ∷ is.Far 8 4 (9 ∷ []) ∷ [];
+  hots = [];
+  versions = 0 ∷ n ∷ [];
+  memory = [];
+}
 
-writes_unknown : StaysWithin 3 record mine { holds = true; fresh = written ∷ [] } → ⊥
-writes_unknown s = ⊎_elim (λ (e : 4 ≡ 3). omega (arith, e))
-    (λ (n : 0 < traces 1 mine). omega (arith, n)) s.0
+writes_known : MayWrite 1 (two_objects 4) yours
+writes_known = inl (omega arith)
+
+writes_new : MayWrite 0 (two_objects 4) (blank pair_of)
+writes_new = inr refl
+
+abbrev is_far : Object → ℕ
+is_far (is.Empty v) = 0
+is_far (is.Far n v words) = 1
+is_far (is.Here n place) = 0
+is_far (is.Claimed n place v words) = 0
+
+writes_unknown : MayWrite 1 (two_objects 4) mine → ⊥
+writes_unknown m = ⊎_elim (λ (n : 0 < 0). omega (arith, n))
+    (λ (e : is.Far 8 4 (9 ∷ []) ≡ never).
+    let z : 1 ≡ 0 = ap is_far e in omega (arith, z)) m
+
+-- so the version word of another is its last version, and that of one which it may write is any
+bound_last : AreBound pair_of (two_objects 4) (record mine { holds = true } ∷ [])
+bound_last zero l = inl refl
+bound_last (suc zero) l = inl refl
+bound_last (suc (suc h)) l = absurd (omega (arith, l))
+
+bound_known : AreBound pair_of (two_objects 5) (record yours { holds = true } ∷ [])
+bound_known zero l = inl refl
+bound_known (suc zero) l = inr (inr (omega arith))
+bound_known (suc (suc h)) l = absurd (omega (arith, l))
+
+stamped_by_none : AreBound pair_of (two_objects 5) (yours ∷ []) → ⊥
+stamped_by_none b = ⊎_elim (λ (e : 5 ≡ 4). omega (arith, e))
+    (λ (o : (is.Far 8 4 (9 ∷ []) ≡ never) ⊎ (0 < 0)). ⊎_elim
+    (λ (e : is.Far 8 4 (9 ∷ []) ≡ never). let z : 1 ≡ 0 = ap is_far e in omega (arith, z))
+    (λ (n : 0 < 0). omega (arith, n)) o) (b 1 (omega arith))
 
 -- ---- no other seat has the object
 with_all : IsAlone 1 record (blank pair_of) { share = 64 }

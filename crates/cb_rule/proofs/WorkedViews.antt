@@ -1,5 +1,5 @@
 -- Worked records of seats: what meets each definition, and what breaks one of its parts alone.
-use Rattle.std.proofs.Common.{◌≡◌, ℕ, zero, suc, true, [], ◌∷◌, sym, refl, ap, ◌∙◌, inl, inr, ⊎_elim, arith}
+use Rattle.std.proofs.Common.{◌≡◌, ℕ, zero, suc, [], ◌∷◌, sym, refl, ap, ◌∙◌, inl, inr, ⊎_elim, arith}
 use mathlib.Core.Option.{some, some-injective, some-ne-none}
 use lib.ListN.{get_elem?}
 use Rattle.cb_types.specs.declared.config.Config.{Config}
@@ -56,8 +56,7 @@ newest_is_written : IsNewest 1 4 first_seat
 newest_is_written = record {
   written = ((λ _. omega arith), ((λ _. omega arith), tt));
   seen = tt;
-  whole = λ _. omega arith;
-  mine = λ _ has. absurd has;
+  lone = λ _. omega arith;
 }
 
 not_made : IsNewest 1 3 first_seat → ⊥
@@ -67,14 +66,14 @@ not_what_was_read : IsNewest 1 3 record (blank pair_of) { seen = freed_seen 1 5 
 not_what_was_read n = let e = n.seen.0 refl in omega (arith, e)
 
 not_another_seat_s : IsNewest 1 5 first_seat → ⊥
-not_another_seat_s n = let e = n.whole refl in omega (arith, e)
+not_another_seat_s n = let e = n.lone (inl refl) in omega (arith, e)
 
--- nor of its own object, where it holds the lock
-abbrev holder : View
-holder = record (blank pair_of) { written = written ∷ made ∷ []; own = 1 ∷ []; holds = true }
+-- nor of its own object
+abbrev owner : View
+owner = record (blank pair_of) { written = written ∷ made ∷ []; own = 1 ∷ [] }
 
-not_its_own : IsNewest 1 5 holder → ⊥
-not_its_own n = let e = n.mine refl (inl refl) in omega (arith, e)
+not_its_own : IsNewest 1 5 owner → ⊥
+not_its_own n = let e = n.lone (inr (inl refl)) in omega (arith, e)
 
 knows_made : Knows 1 first_seat
 knows_made = inl (made, inr (inl refl), refl)

@@ -13,5 +13,7 @@ pub mod Locking
 pub mod LockSteps
 pub mod Promised
 pub mod OneHistory
+pub mod Told
 pub mod AsShown
 pub mod Closing
+pub mod ShownWorld

@@ -15,7 +15,7 @@ use Rattle.cb_rule.specs.declared.view.Seen.{Seen}
 use Rattle.cb_rule.specs.declared.view.View.{View}
 use Rattle.cb_rule.specs.Lists.{Each}
 use Rattle.cb_rule.specs.Locking.{Deeds, Stood}
-use Rattle.cb_rule.specs.Own.{Make, StaysWithin}
+use Rattle.cb_rule.specs.Own.{Make}
 use Rattle.cb_rule.specs.Rule.{AreSized}
 use Rattle.cb_rule.specs.Slot.{Slot, Sat}
 use Rattle.cb_rule.specs.Steps.{Knows, freed_seen, nothing}
@@ -92,7 +92,7 @@ AddsTurn far new = ((far.counts.turns < 2 ^ 40) × (new.counts.turns ≡ far.cou
     ⊎ ((far.counts.turns ≡ 2 ^ 40) × (new ≡ far))
 
 -- The holder may give the lock back with this far state: what it knows is sound for it, the turn did
--- what its job says, and it wrote and made no object that is another's own.
+-- what its job says, and it made what is to be its own.
 pub record MayGive (deeds : Deeds) (first : ℕ) (c : Config) (job : Job) (reply : Option Reply)
     (far : FarState) (freed : List Seen) (made : List ℕ) (v : View) : Type 0 where
   pub holds : v.holds ≡ true
@@ -100,7 +100,6 @@ pub record MayGive (deeds : Deeds) (first : ℕ) (c : Config) (job : Job) (reply
   pub adds : AddsTurn v.took far
   pub did : (n : ℕ) → deeds c (turn_of job reply far n v)
   pub found : Each (IsFoundFreed v) freed
-  pub within : StaysWithin first v
   pub makes : Each (λ h. Make first h v.fresh) made
 
 -- what a seat has that gave the lock back, and that its handles are in range

@@ -76,13 +76,12 @@ abbrev pub Knows : ℕ → View → Type 0
 Knows h u = ((e : Entry) × Has e u.written × (e.handle ≡ h))
     ⊎ ((s : Seen) × Has s u.seen × (s.handle ≡ h))
 
--- this version of the object is at least all that the record has of it; it is one that the record
--- wrote where it has the whole share, and where the object is its own and it holds the lock
+-- this version of the object is at least all that the record has of it; where no other view has the
+-- object it is one that the record wrote
 pub record IsNewest (h version : ℕ) (u : View) : Type 0 where
   pub written : Each (λ (e : Entry). e.handle ≡ h → e.version ≤ version) (u.fresh ++ u.written)
   pub seen : Each (λ (s : Seen). s.handle ≡ h → s.version ≤ version) u.seen
-  pub whole : u.share ≡ 64 → 0 < written_on h version u
-  pub mine : u.holds ≡ true → Has h u.own → 0 < written_on h version u
+  pub lone : IsAlone h u → 0 < written_on h version u
 
 abbrev pub look_at : ℕ → ℕ → Look
 look_at h w = record { handle = h; word = w }
