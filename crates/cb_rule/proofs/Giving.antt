@@ -21,7 +21,7 @@ use Rattle.cb_rule.specs.Lists.{times, total, Each, Has}
 use Rattle.cb_rule.specs.Locking.{Deeds, IsUnlocked, Locked, Stood, TurnStands, is_turn, turn_number, turns_on}
 use Rattle.cb_rule.specs.LockSteps.{HasGiven, IsFoundFreed, MayGive, gave, gave_lock, turn_of}
 use Rattle.cb_rule.specs.Records.{SeenOk}
-use Rattle.cb_rule.specs.Own.{AreOwn, reads_it, traces, writes_it}
+use Rattle.cb_rule.specs.Own.{AreOwn, Make, reads_it, traces, writes_it}
 use Rattle.cb_rule.specs.Rule.{Kept}
 use Rattle.cb_rule.specs.Ruled.{Ruled}
 use Rattle.cb_rule.specs.Seats.{holding}
@@ -87,7 +87,7 @@ total_none f (x ∷ xs) all = let a = all 0 x refl in
 module _ (deeds : Deeds) (first : ℕ) (c : Config) (s : Table) (id : ℕ) (v : View)
     (at : get_elem? s.views id ≡ some v) (r : Ruled (Locked deeds) first c s)
     (job : Job) (reply : Option Reply) (far : FarState) (freed : List Seen) (made : List ℕ)
-    (may : MayGive deeds first c job reply far freed made v) where
+    (may : MayGive deeds c job reply far freed made v) where
   abbrev lock : Locked deeds c s r.known
   lock = r.far
 
@@ -291,7 +291,9 @@ module _ (deeds : Deeds) (first : ℕ) (c : Config) (s : Table) (id : ℕ) (v : 
           ap (λ (k : ℕ). cond {A = ℕ} (eqb k h) 1 0) same ∙ out in omega (arith, off, rest)
 
   own_now : AreOwn first views
-  own_now = own_given first s.views id v at r.own w made refl refl refl may.makes
+  own_now = own_given first s.views id v at r.own w made refl refl refl
+      (subst (λ (n : ℕ). Each (λ h. Make n h v.fresh) made)
+      (ap (λ (k : Shown). k.first) ((r.kept.seats id v at).knows may.holds) ∙ r.starts) may.makes)
       (λ h bare. let all = times-append (writes_it h) v.fresh v.written in
       let read = times-append (reads_it h) freed v.seen in let found = none_found h bare in
       omega (arith, bare, all, read, found))
@@ -340,7 +342,7 @@ one_in_hand d l f g a b = ap in_hand (sym a ∙ b)
 pub gives_lock : (deeds : Deeds) (first : ℕ) (c : Config) (slots id : ℕ) (me : Sat) (job : Job)
     (reply : Option Reply) (far : FarState) (freed : List Seen) (made : List ℕ) (n : ℕ)
     → 1 ≤ me.0.share → me.1 ≡ (0, Some far) ∷ []
-    → MayGive deeds first c job reply far freed made me.0
+    → MayGive deeds c job reply far freed made me.0
     → n ≡ 2 * far.counts.turns
     → Allows (Ruled (Locked deeds) first c) slots id me 0 (λ _. n)
     (λ _. gave job reply freed made (step slots 0 n 0 none) me n)

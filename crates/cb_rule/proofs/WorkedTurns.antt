@@ -116,7 +116,7 @@ without_its_entry g = let e : 0 ≡ 1 = ap (λ (m : Sat). length m.0.written) g.
 
 -- ---- what a give needs
 abbrev May : FarState → List ℕ → View → Type 0
-May f made v = MayGive quiet 3 pair_of Evict None f [] made v
+May f made v = MayGive quiet pair_of Evict None f [] made v
 
 may_give : May (far 2) (1 ∷ []) at_work
 may_give = record {

@@ -91,16 +91,16 @@ abbrev pub AddsTurn : FarState → FarState → Type 0
 AddsTurn far new = ((far.counts.turns < 2 ^ 40) × (new.counts.turns ≡ far.counts.turns + 1))
     ⊎ ((far.counts.turns ≡ 2 ^ 40) × (new ≡ far))
 
--- The holder may give the lock back with this far state: what it knows is sound for it, the turn did
--- what its job says, and it made what is to be its own.
-pub record MayGive (deeds : Deeds) (first : ℕ) (c : Config) (job : Job) (reply : Option Reply)
-    (far : FarState) (freed : List Seen) (made : List ℕ) (v : View) : Type 0 where
+-- The holder may give the lock back with this far state: what it knows is sound for it, and the turn
+-- did what its job says, and made what is said to be its own.
+pub record MayGive (deeds : Deeds) (c : Config) (job : Job) (reply : Option Reply) (far : FarState)
+    (freed : List Seen) (made : List ℕ) (v : View) : Type 0 where
   pub holds : v.holds ≡ true
   pub stood : Stood c v.known far
   pub adds : AddsTurn v.took far
   pub did : (n : ℕ) → deeds c (turn_of job reply far n v)
   pub found : Each (IsFoundFreed v) freed
-  pub makes : Each (λ h. Make first h v.fresh) made
+  pub makes : Each (λ h. Make v.known.first h v.fresh) made
 
 -- what a seat has that gave the lock back, and that its handles are in range
 pub record HasGiven (job : Job) (reply : Option Reply) (far : FarState) (freed : List Seen)

@@ -13,6 +13,8 @@ pub mod ReadBytes
 pub mod ReadSteps
 pub mod Tallying
 pub mod FirstPin
+pub mod MadeFirst
+pub mod Rights
 pub mod AfterTurn
 pub mod Mapped
 pub mod Turns

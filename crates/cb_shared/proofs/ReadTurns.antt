@@ -276,13 +276,9 @@ no_frame_read c h (Ok r) m q (d, moves, quiet, range, tries) = λ e. subst IsRea
 no_frame_read c h (Err e) m q tries = tt
 
 -- the seat knows and pins what it did
-pub knows_come : (h : ℕ) (p m : Place) (es : List Event) → Runs p es m → p.me.0.fresh ≡ []
-    → m.me.0.fresh ≡ [] → Knows h p.me.0 → Knows h m.me.0
-knows_come h p m es runs none after knows =
-    let e : m.me.0 ≡ after_events es p.me.0 = after_runs p m es runs in
-    subst (Knows h) (sym e) (subst (λ (l : List Entry). Knows h (record (after_events es p.me.0) {
-      fresh = l;
-    })) (none ∙ sym (sym (ap (λ (v : View). v.fresh) e) ∙ after)) knows)
+pub knows_come : (h : ℕ) (p m : Place) (es : List Event) → Runs p es m → Knows h p.me.0
+    → Knows h m.me.0
+knows_come h p m es runs knows = subst (Knows h) (sym (after_runs p m es runs)) knows
 
 pub few_come : (p m : Place) (es : List Event) → Runs p es m → length p.me.0.pins ≤ 16
     → length m.me.0.pins ≤ 16

@@ -15,4 +15,5 @@ pub mod Turning
 pub mod UnderLock
 pub mod Sealing
 pub mod Closing
+pub mod Rights
 pub mod Calls
