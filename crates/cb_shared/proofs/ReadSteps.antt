@@ -149,7 +149,7 @@ module _ (c : Config) (h saw v version : ℕ) (words bytes : List ℕ) (p s t : 
   version_told : version ≡ v
   version_told =
       let each : Each (λ (x : Stand). x.handle ≡ h → version ≡ x.version)
-      (with_pin h saw v words p.me.0).pins =
+          (with_pin h saw v words p.me.0).pins =
       subst (Each (λ (x : Stand). x.handle ≡ h → version ≡ x.version))
       (ap (λ (m : Sat). m.0.pins) taken.2) told.tells in each.0 refl
 

@@ -148,11 +148,8 @@ adds_refused = record {
   did = refused_did;
   next = inr (refl, refl);
   wrote = refl;
-  tells = record {
-    only = λ id losses is. absurd (worn_lost is);
-    each = λ h id losses asks few lost.
-        absurd (no_one asks);
-  };
+  tells = record { only = λ id losses is. absurd (worn_lost is); each = λ h id losses asks few lost.
+      absurd (no_one asks); };
   reads = refl;
   finds = refl;
   part = refl;
@@ -160,7 +157,6 @@ adds_refused = record {
   where
     worn_lost : {id : _} {losses : _} → answer.Worn ≡ answer.Unavailable id losses → ⊥
     worn_lost e = cc
-
     no_one : {h : ℕ} → None ≡ Some h → ⊥
     no_one e = cc
 
@@ -175,7 +171,6 @@ adds_another_job a = eqb-false 6 7 refl
     first : List Turn → Turn
     first [] = refused
     first (t ∷ ts) = t
-
     first_turn : (t : Turn) → refused ∷ [] ≡ t ∷ [] → refused ≡ t
     first_turn t e = ap first e
 
