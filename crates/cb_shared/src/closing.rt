@@ -1,5 +1,5 @@
 //! A runtime is closed.
-ghost use Rattle.std.specs.Prelude.{◌≡◌, ◌+◌, ◌*◌, Some, replicate, IfOk, IfErr};
+ghost use Rattle.std.specs.Prelude.{◌≡◌, ◌<◌, ◌≤◌, ◌+◌, ◌*◌, true, false, Some, replicate, IfOk, IfErr};
 ghost use Rattle.std.specs.Slots.{IsFull, slots_items, slots_len};
 ghost use mathlib.Core.Option.{some};
 ghost use lib.ListN.{get_elem?};
@@ -41,7 +41,7 @@ impl Shared {
         ensures refused { IfErr result (λ e. Refuses self pass e) }
     {
         let share = pass.share;
-        if share < WHOLE {
+        if is_part(share) {
             return Err(CloseRefused::Out {
                 shared: self,
                 pass,
@@ -53,6 +53,14 @@ impl Shared {
             Err(_none) => Err(CloseRefused::NoMemory { shared: self, pass }),
         }
     }
+}
+
+/// Whether a share is less than the whole one.
+fn is_part(share: u32) -> bool
+    ensures part { result ≡ true → share < 64 }
+    ensures whole { result ≡ false → 64 ≤ share }
+{
+    share < WHOLE
 }
 
 /// Words that are 0, and idle seats.
