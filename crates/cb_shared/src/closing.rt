@@ -11,7 +11,7 @@ ghost use Rattle.cb_world.specs.Seats.{idle_seat};
 ghost use Rattle.cb_rule.specs.Closing.{desk_of};
 ghost use Rattle.cb_rule.specs.Words.{base};
 ghost use Rattle.cb_shared.specs.Closing.{IsClosedBy, Refuses};
-ghost use Rattle.cb_shared.specs.Passes.{IsPassOf, record_of};
+ghost use Rattle.cb_shared.specs.Passes.{IsPassOf};
 
 use crate::filling::{Rows, fill, take_far};
 use crate::pass::Pass;

@@ -1,4 +1,4 @@
-use Rattle.std.proofs.Common.{◌≡◌, ◌∙◌, ap, sym, subst}
+use Rattle.std.proofs.Common.{◌∙◌, ap, sym, subst}
 use Rattle.std.specs.Slots.{slots_items}
 use Rattle.cb_world.specs.Plain.{IsSized, Words}
 use Rattle.cb_shared.proofs.Filled.{all_put, versions_sized, words_sized}

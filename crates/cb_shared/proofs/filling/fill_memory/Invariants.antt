@@ -1,6 +1,6 @@
 use Rattle.std.proofs.Common.{◌≡◌, List, ℕ}
 use Rattle.std.specs.Slots.{slots_items}
-use Rattle.cb_rule.specs.Words.{base, stamps}
+use Rattle.cb_rule.specs.Words.{base}
 use Rattle.cb_shared.proofs.Filled.{IsFilled}
 use Rattle.cb_shared.proofs.filling.fill_memory.Given as goal
 

@@ -1,8 +1,6 @@
-use Rattle.std.proofs.Common.{◌≡◌, ◌∙◌, ◌<◌, ℕ, Bool, false, Option, None, Some, get_or, set, ap, sym, subst, lit≤, arith, get_or-set_same}
+use Rattle.std.proofs.Common.{◌≡◌, ◌∙◌, ℕ, false, get_or, set, ap, sym, lit≤, arith, get_or-set_same}
 use Rattle.std.specs.Slots.{slots_counts, slots_filled}
 use mathlib.Core.Option.{some, some-injective}
-use Rattle.cb_rule.specs.Slot.{Slot}
-use Rattle.cb_world.specs.FarState.{FarState}
 use Rattle.cb_shared.proofs.Filled.{not_none}
 use Rattle.cb_shared.proofs.filling.take_far.Goals as goal
 
