@@ -33,7 +33,8 @@ loop-h-preserved c = let inv = c.loop-h.invariant in let h = c.loop-h.h in
 
 pub returns : goal.returns
 returns c = let inv = c.loop-h.invariant in let f = c.args.desk.now in
-    let len = c.requires.sized.versions ∙ ap (λ (k : Config). k.handles) c.requires.settings in
+    let k = c.args.config.now in let ws = slots_items c.args.rows.now.words in
+    let len = c.requires.sized.versions ∙ ap (λ (q : Config). q.handles) c.requires.settings in
     inv.1 ∙ ap (λ (l : List ℕ). let e : Words = record f { versions = l } in e)
-    (all_filled (slots_items c.args.rows.now.words) (stamps c.args.config.now)
-    c.args.config.now.handles c.loop-h.h f.versions inv.0 len (let out = c.loop-h-test.false in omega (arith, out)) inv.2)
+    (all_filled ws (stamps k) k.handles c.loop-h.h f.versions inv.0 len
+    (let out = c.loop-h-test.false in omega (arith, out)) inv.2)
