@@ -23,6 +23,7 @@ pub mod ReadParts
 pub mod ReadTurns
 pub mod TurnEnds
 pub mod WorkedGround
+pub mod WorkedRights
 pub mod WorkedPins
 pub mod WorkedWrites
 pub mod WorkedPasses
