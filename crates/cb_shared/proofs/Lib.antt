@@ -11,6 +11,7 @@ pub mod Begun
 pub mod WriteSteps
 pub mod ReadBytes
 pub mod ReadSteps
+pub mod CallSteps
 pub mod Tallying
 pub mod FirstPin
 pub mod AfterTurn

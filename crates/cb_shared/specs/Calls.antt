@@ -1,10 +1,10 @@
 -- What the calls that try again until they are answered add to the record of their pass.
-use Rattle.std.specs.Prelude.{◌≡◌, ◌⊎◌, ℕ, ◌+◌, ◌*◌, ◌&&◌, Bool, true, false, ltb, leb, List, [], ◌∷◌, length, Option, None, Some, Result, Ok}
+use Rattle.std.specs.Prelude.{◌≡◌, ◌⊎◌, ℕ, ◌+◌, ◌*◌, ◌&&◌, ◌-◌, ◌^◌, Bool, true, false, ltb, leb, List, [], ◌∷◌, length, Option, None, Some, Result, Ok}
 use Rattle.cb_member.specs.declared.no_memory.NoMemory.{NoMemory}
 use Rattle.cb_types.specs.declared.config.Config.{Config}
 use Rattle.cb_types.specs.declared.handle.Handle.{Handle}
 use Rattle.cb_types.specs.declared.job.Job.{Job}
-use Rattle.cb_types.specs.declared.job.Job.TheVariants as job
+use Rattle.cb_types.specs.declared.job.Job.TheVariants as jobs
 use Rattle.cb_types.specs.declared.reply.Reply.{Reply}
 use Rattle.cb_types.specs.declared.reply.Reply.TheVariants as answer
 use Rattle.cb_ptr.specs.declared.word.State.TheVariants as state
@@ -46,27 +46,39 @@ IsLack c answer.Worn = Unit {0}
 IsLack c (answer.NoRoom frames loose nodes) = may_come_loose c loose ≡ false
 IsLack c other = ⊥
 
--- what a turn of a make, a write or a free can end in, but that it is made again
-abbrev pub IsAnswer : Config → Reply → Type 0
-IsAnswer c (answer.Made handle version) = Unit {0}
-IsAnswer c (answer.Version version) = Unit {0}
-IsAnswer c (answer.Full handles) = Unit {0}
-IsAnswer c answer.Freed = Unit {0}
-IsAnswer c (answer.Range len) = Unit {0}
-IsAnswer c (answer.Pinned count) = Unit {0}
-IsAnswer c other = IsLack c other
+-- what the reply of a make, a write or a free says of its object
+abbrev pub TellsOfIt : Reply → Type 0
+TellsOfIt (answer.Made handle version) = Unit {0}
+TellsOfIt (answer.Version version) = Unit {0}
+TellsOfIt (answer.Full handles) = Unit {0}
+TellsOfIt answer.Freed = Unit {0}
+TellsOfIt (answer.Range len) = Unit {0}
+TellsOfIt (answer.Pinned count) = Unit {0}
+TellsOfIt other = ⊥
 
--- the call is answered as this turn of it
+-- a turn so answered is not made again
+abbrev pub IsAnswer : Config → Reply → Type 0
+IsAnswer c r = TellsOfIt r ⊎ IsLack c r
+
+-- nor is one of this job; a swap tells nothing of its object
 abbrev pub IsAnswerTo : Config → Job → Reply → Type 0
-IsAnswerTo c (job.Swap handle) r = IsLack c r
+IsAnswerTo c (jobs.Swap handle) r = IsLack c r
 IsAnswerTo c other r = IsAnswer c r
+
+-- the jobs that the calls make turns of
+abbrev pub IsCalled : Job → Type 0
+IsCalled (jobs.Make bytes) = Unit {0}
+IsCalled (jobs.Write handle at bytes) = Unit {0}
+IsCalled (jobs.Free handle) = Unit {0}
+IsCalled (jobs.Swap handle) = Unit {0}
+IsCalled other = ⊥
 
 abbrev pub the_handle : ℕ → Handle
 the_handle h = record { n = h }
 
 -- Tries that came to nothing: looks at such objects and turns of this job, which wrote, read and
 -- pinned nothing.
-pub record Tries (on : ℕ → Type 0) (job : Job) (d : Part) : Type 0 where
+pub record IsInVain (on : ℕ → Type 0) (job : Job) (d : Part) : Type 0 where
   pub looks : List Look
   pub turns : List Turn
   pub at : Each (λ (l : Look). on l.handle) looks
@@ -82,14 +94,14 @@ AtNone h = ⊥
 
 -- there was no memory: the record grew by such tries alone
 abbrev pub Stops : (ℕ → Type 0) → Job → View → View → Type 0
-Stops on job v w = (d : Part) × Tries on job d × Grows v d w
+Stops on job v w = (d : Part) × IsInVain on job d × Grows v d w
 
 -- tries that came to nothing, and then one that ends so
 pub record EndsAtLast (on : ℕ → Type 0) (job : Job) (ends : View → Part → Type 0) (v : View)
     (d : Part) : Type 0 where
   pub before : Part
   pub last : Part
-  pub tries : Tries on job before
+  pub in_vain : IsInVain on job before
   pub ends_so : ends (grown before v) last
   pub part : d ≡ sum before last
 
@@ -110,7 +122,7 @@ pub record AsksFor (c : Config) (job : Job) (r : Reply) (h : ℕ) (v : View) (d 
 abbrev pub ReadEnds : Config → ℕ → Reply → View → Part → Type 0
 ReadEnds c h (answer.Bytes version bytes) v d = IsReadHere h version bytes v d
 ReadEnds c h answer.Freed v d = FindsGone h v d
-ReadEnds c h r v d = AsksFor c (job.Swap (the_handle h)) r h v d
+ReadEnds c h r v d = AsksFor c (jobs.Swap (the_handle h)) r h v d
 
 -- a look and an exchange that claimed the object at this word, and the entry that was written
 abbrev pub written_once : ℕ → ℕ → ℕ → List ℕ → List ℕ → Part
@@ -167,34 +179,33 @@ SaysAs other r = ⊥
 abbrev pub WriteEnds : Config → ℕ → ℕ → List ℕ → Reply → View → Part → Type 0
 WriteEnds c h at bytes r v d =
     ((a : WriteAnswer) × SaysAs a r × WriteFinds h at bytes a v d)
-    ⊎ AsksFor c (job.Write (the_handle h) at bytes) r h v d
+    ⊎ AsksFor c (jobs.Write (the_handle h) at bytes) r h v d
 
 -- the record after a read, a write, and a make or a free by turns
 abbrev pub ReadGives : Config → ℕ → Reply → View → View → Type 0
 ReadGives c h r v w = (d : Part)
-    × EndsAtLast (AtThis h) (job.Swap (the_handle h)) (ReadEnds c h r) v d × Grows v d w
+    × EndsAtLast (AtThis h) (jobs.Swap (the_handle h)) (ReadEnds c h r) v d × Grows v d w
 
 abbrev pub WriteAnswers : Config → ℕ → ℕ → List ℕ → Reply → View → View → Type 0
 WriteAnswers c h at bytes r v w = (d : Part)
-    × EndsAtLast (AtThis h) (job.Write (the_handle h) at bytes) (WriteEnds c h at bytes r) v d
-    × (w ≡ with_own (made_by (Ok r)) (grown d v))
+    × EndsAtLast (AtThis h) (jobs.Write (the_handle h) at bytes) (WriteEnds c h at bytes r) v d
+    × Grows v d w
 
 -- a handle that was made is the pass's own
 abbrev pub TurnGives : Config → Job → Reply → View → View → Type 0
 TurnGives c job r v w = (d : Part)
-    × EndsAtLast AtNone job (TurnEnds c job r) v d × (w ≡ with_own (made_by (Ok r)) (grown d v))
+    × EndsAtLast AtNone job (TurnEnds c job r) v d × (w ≡ with_own (made_by job (Some r)) (grown d v))
 
 -- what one try comes to: it ends so, or came to nothing
 abbrev pub TurnTries : Config → Job → Option Reply → View → View → Type 0
 TurnTries c job (Some r) v w =
-    (d : Part) × TurnEnds c job r v d × (w ≡ with_own (made_by (Ok r)) (grown d v))
+    (d : Part) × TurnEnds c job r v d × (w ≡ with_own (made_by job (Some r)) (grown d v))
 TurnTries c job None v w = Stops AtNone job v w
 
 abbrev pub ReadTries : Config → ℕ → Option Reply → View → View → Type 0
 ReadTries c h (Some r) v w = (d : Part) × ReadEnds c h r v d × Grows v d w
-ReadTries c h None v w = Stops (AtThis h) (job.Swap (the_handle h)) v w
+ReadTries c h None v w = Stops (AtThis h) (jobs.Swap (the_handle h)) v w
 
 abbrev pub WriteTries : Config → ℕ → ℕ → List ℕ → Option Reply → View → View → Type 0
-WriteTries c h at bytes (Some r) v w =
-    (d : Part) × WriteEnds c h at bytes r v d × (w ≡ with_own (made_by (Ok r)) (grown d v))
-WriteTries c h at bytes None v w = Stops (AtThis h) (job.Write (the_handle h) at bytes) v w
+WriteTries c h at bytes (Some r) v w = (d : Part) × WriteEnds c h at bytes r v d × Grows v d w
+WriteTries c h at bytes None v w = Stops (AtThis h) (jobs.Write (the_handle h) at bytes) v w

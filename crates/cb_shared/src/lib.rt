@@ -4,6 +4,7 @@
 
 pub mod answers;
 mod board;
+pub mod calling;
 mod frames;
 mod freed;
 mod handles;
