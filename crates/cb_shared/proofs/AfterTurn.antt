@@ -1,5 +1,5 @@
 -- What a turn leaves of the record of its pass.
-use Rattle.std.proofs.Common.{◌≡◌, ℕ, ◌+◌, ◌<◌, ◌≤◌, true, List, [], ◌∷◌, ◌++◌, Option, None, Result, refl, sym, ap, ◌∙◌, subst, arith, append_assoc, append-nil}
+use Rattle.std.proofs.Common.{◌≡◌, ℕ, ◌+◌, ◌<◌, ◌≤◌, true, List, [], ◌∷◌, ◌++◌, length, Option, None, Some, Result, refl, sym, ap, ◌∙◌, subst, arith, append_assoc, append-nil}
 use Rattle.std.specs.Prelude.{IfOk}
 use Rattle.atomic_table.specs.Seated.{TableId}
 use Rattle.cb_member.specs.declared.no_memory.NoMemory.{NoMemory}
@@ -26,7 +26,7 @@ use Rattle.cb_shared.specs.Parts.{Part, grown, nothing_more}
 use Rattle.cb_shared.specs.Passes.{IsAtRest}
 use Rattle.cb_shared.specs.Places.{Holds, IsOf, Moves, Place}
 use Rattle.cb_shared.specs.SeatLaws.{Runs, sized_after}
-use Rattle.cb_shared.specs.Turning.{Did, DidAs, answer_of, made_by, turn_part, with_own}
+use Rattle.cb_shared.specs.Turning.{Did, DidAs, KnowsIt, KnowsOf, answer_of, made_by, object_of, turn_part, with_own}
 use Rattle.cb_shared.specs.UnderLock.{GivesFar, HasSame, IsBeginning, IsEnding, IsQuiet, TakesFar, TurnWith, TurnedBy, WorkBy}
 
 abbrev pub after_events : List Event → View → View
@@ -92,6 +92,41 @@ pub holds_begun : (z : TableId) (k : Setup) (c : Config) (far : FarState) (p : P
     → IsBeginning c far p.me.0 → Holds z k c p
 holds_begun z k c far p of b = record { of = of; holds = b.holds; sized = b.sized }
 
+module _ (c : Config) (far : FarState) (p q : Place) (t : TakesFar c far p q) where
+  taken : q.me.0 ≡ took_lock t.known far t.entries p.me.0
+  taken = ap (λ (m : Sat). m.0) t.at.2
+
+  of_take : (z : TableId) (k : Setup) → IsOf z k c p → IsOf z k c q
+  of_take z k of = of_moved z k c p q of t.at.0 (ap (λ (v : View). v.config) taken)
+      (ap (λ (v : View). v.share) taken)
+
+  slots_take : p.me.1 ≡ [] → q.me.1 ≡ (0, None) ∷ []
+  slots_take none = ap (λ (m : Sat). m.1) t.at.2
+      ∙ ap (λ (l : List (ℕ × Slot)). let k : List (ℕ × Slot) = (0, None) ∷ l in k) none
+
+  pins_take : length p.me.0.pins ≤ 16 → length q.me.0.pins ≤ 16
+  pins_take few = subst (λ (v : View). length v.pins ≤ 16) (sym taken) few
+
+  knows_take : (o : Option ℕ) → KnowsIt o p.me.0 → KnowsIt o q.me.0
+  knows_take None knows = tt
+  knows_take (Some h) knows = subst (Knows h) (sym taken) knows
+
+pub of_taken : (z : TableId) (k : Setup) (c : Config) (far : FarState) (p q : Place) → IsOf z k c p
+    → TakesFar c far p q → IsOf z k c q
+of_taken z k c far p q of t = of_take c far p q t z k of
+
+pub slots_taken : (c : Config) (far : FarState) (p q : Place) → p.me.1 ≡ [] → TakesFar c far p q
+    → q.me.1 ≡ (0, None) ∷ []
+slots_taken c far p q none t = slots_take c far p q t none
+
+pub pins_taken : (c : Config) (far : FarState) (p q : Place) → length p.me.0.pins ≤ 16
+    → TakesFar c far p q → length q.me.0.pins ≤ 16
+pins_taken c far p q few t = pins_take c far p q t few
+
+pub knows_taken : (c : Config) (far : FarState) (job : Job) (p q : Place) → KnowsOf job p.me.0
+    → TakesFar c far p q → KnowsOf job q.me.0
+knows_taken c far job p q knows t = knows_take c far p q t (object_of job) knows
+
 -- ---- the work of a turn, and its end
 pub ends_work : (c : Config) (job : Job) (r : Result Reply NoMemory) (took gave : FarState)
     (p q : Place) → IsBeginning c took p.me.0 → WorkBy c job r took gave p q
@@ -109,6 +144,14 @@ ends_work c job r took gave p q b w =
           (subst (λ (l : List Event). DidAs c job reply v.known (l ++ es) v.took gave) (sym b.idle)
           (subst (λ (f : FarState). DidAs c job reply v.known es f gave) (sym b.took) w.did)));
     }
+
+pub of_work : (z : TableId) (k : Setup) (c : Config) (job : Job) (r : Result Reply NoMemory)
+    (took gave : FarState) (p q : Place) → IsOf z k c p → WorkBy c job r took gave p q
+    → IsOf z k c q
+of_work z k c job r took gave p q of w =
+    let m : q.me.0 ≡ grown w.within (after_events w.events p.me.0) =
+    ap (λ (x : Sat). x.0) w.moves.2 ∙ ap (grown w.within) (acted_is w.events p.me.0) in
+    of_moved z k c p q of w.moves.0 (ap (λ (x : View). x.config) m) (ap (λ (x : View). x.share) m)
 
 pub turn_with : (c : Config) (job : Job) (r : Result Reply NoMemory) (took gave : FarState)
     (p m q : Place) → WorkBy c job r took gave p m → GivesFar c job (answer_of r) gave m q
@@ -137,6 +180,7 @@ turn_with c job r took gave p m q w g =
       below = subst (Each (λ (e : Entry). e.handle < c.handles)) (λ i. fresh i ++ written i)
           g.written;
       quiet = w.quiet;
+      range = w.range;
       reads = w.reads;
       did = w.did;
       next = w.next;
@@ -187,6 +231,7 @@ turned_by c job r far p m q rest t w tells =
       wrote = w.wrote;
       below = subst (λ (l : List Entry). Each (λ (e : Entry). e.handle < c.handles) (w.more ++ l))
           written w.below;
+      range = w.range;
       reads = w.reads v (
         rest.fresh ∙ sym (ap (λ (x : View). x.fresh) at ∙ rest.fresh),
         sym written,

@@ -20,6 +20,7 @@ pub mod Turns
 pub mod LockAlone
 pub mod ReadParts
 pub mod ReadTurns
+pub mod TurnEnds
 pub mod WorkedGround
 pub mod WorkedPins
 pub mod WorkedWrites

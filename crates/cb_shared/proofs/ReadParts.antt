@@ -1,6 +1,10 @@
 -- The parts of reads under a pin.
-use Rattle.std.proofs.Common.{◌≡◌, ℕ, ◌+◌, ◌<◌, ◌≤◌, List, [], ◌∷◌, ◌++◌, Ok, sym, refl, ap, ◌∙◌, subst, arith, append_assoc}
+use Rattle.std.proofs.Common.{◌≡◌, ℕ, ◌+◌, ◌<◌, ◌≤◌, List, [], ◌∷◌, ◌++◌, length, Result, Ok, Err, sym, refl, ap, ◌∙◌, subst, arith, append_assoc}
+use Rattle.std.specs.Prelude.{IfOk, OnErr}
 use Rattle.atomic_table.specs.Seated.{TableId}
+use Rattle.cb_ptr.specs.declared.word.State.TheVariants as state
+use Rattle.cb_ptr.specs.Word.{state_of}
+use Rattle.cb_member.specs.declared.no_memory.NoMemory.{NoMemory}
 use Rattle.cb_types.specs.declared.config.Config.{Config}
 use Rattle.cb_types.specs.declared.reply.Reply.{Reply}
 use Rattle.cb_world.specs.declared.entry.Entry.{Entry}
@@ -16,9 +20,9 @@ use Rattle.cb_shared.specs.declared.reading.ReadAnswer.TheVariants as found
 use Rattle.cb_shared.specs.declared.setup.Setup.{Setup}
 use Rattle.cb_shared.specs.Parts.{Part, grown, nothing_more, sum}
 use Rattle.cb_shared.specs.Places.{IsOf, Moves, Place}
-use Rattle.cb_shared.specs.Reading.{ReadFinds, looked}
+use Rattle.cb_shared.specs.Reading.{ReadFinds, ReadMoves, looked}
 use Rattle.cb_shared.specs.Turning.{AreLooksAt, FindsAtLast, Tries}
-use Rattle.cb_shared.specs.UnderLock.{HasSame, IsQuiet, IsReplyTo, IsTriedAgain}
+use Rattle.cb_shared.specs.UnderLock.{HasSame, IsQuiet, IsReplyTo, IsTriedAgain, LooksFor, ReadsBelow, TriesOn}
 use Rattle.cb_shared.proofs.AfterTurn.{of_moved}
 
 pub grown_nothing : (v : View) → v ≡ grown nothing_more v
@@ -50,10 +54,33 @@ finds_quiet h found.Moving v d x = part_quiet d _ x.2 (refl, refl)
 finds_quiet h found.Crowded v d x = part_quiet d _ x.2 (refl, refl)
 finds_quiet h (found.Raced saw other) v d x = part_quiet d _ x.1 (refl, refl)
 
+each_both : {A : Type 0} (P : A → Type 0) (xs ys : List A) → Each P xs → Each P ys
+    → Each P (xs ++ ys)
+each_both P [] ys a b = b
+each_both P (x ∷ xs) ys a b = (a.0, each_both P xs ys a.1 b)
+
+finds_below : (c : Config) (h : ℕ) (a : ReadAnswer) (v : View) (d : Part) → h < c.handles
+    → ReadFinds h a v d → ReadsBelow c d
+finds_below c h (found.Bytes version bytes) v d l x = subst (ReadsBelow c) (sym x.part) (l, tt)
+finds_below c h found.Freed v d l x = subst (ReadsBelow c) (sym x.4) (l, tt)
+finds_below c h found.NotHere v d l x = subst (ReadsBelow c) (sym x.2) tt
+finds_below c h found.Moving v d l x = subst (ReadsBelow c) (sym x.2) tt
+finds_below c h found.Crowded v d l x = subst (ReadsBelow c) (sym x.2) tt
+finds_below c h (found.Raced saw other) v d l x = subst (ReadsBelow c) (sym x.1) tt
+
+looks_below : (c : Config) (h : ℕ) (d : Part) → AreLooksAt h d → ReadsBelow c d
+looks_below c h d x = subst (ReadsBelow c) (sym x.part) tt
+
 pub last_quiet : (h : ℕ) (a : ReadAnswer) (v : View) (d : Part) → FindsAtLast h a v d → IsQuiet d
 last_quiet h a v d x = let b = looks_quiet h x.before x.lost in
     let l = finds_quiet h a (grown x.before v) x.last x.finds in part_quiet d (sum x.before x.last)
     x.part ((λ i. l.0 i ++ b.0 i), (λ i. l.1 i ++ b.1 i))
+
+last_below : (c : Config) (h : ℕ) (a : ReadAnswer) (v : View) (d : Part) → h < c.handles
+    → FindsAtLast h a v d → ReadsBelow c d
+last_below c h a v d l x = subst (ReadsBelow c) (sym x.part)
+    (each_both (λ (s : Seen). s.handle < c.handles) x.last.seen x.before.seen
+    (finds_below c h a (grown x.before v) x.last l x.finds) (looks_below c h x.before x.lost))
 
 -- ---- what is found depends on the entries of the record alone
 newest_same : (h version : ℕ) (u v : View) → HasSame u v → IsNewest h version v
@@ -105,11 +132,6 @@ last_same h a u v d same x = record {
 }
 
 -- ---- looks, and then more of them
-each_both : {A : Type 0} (P : A → Type 0) (xs ys : List A) → Each P xs → Each P ys
-    → Each P (xs ++ ys)
-each_both P [] ys a b = b
-each_both P (x ∷ xs) ys a b = (a.0, each_both P xs ys a.1 b)
-
 pub no_looks : (h : ℕ) → AreLooksAt h nothing_more
 no_looks h = record { looks = []; on = tt; part = refl }
 
@@ -123,8 +145,8 @@ more_looks h d e x y = record {
   part = λ i. sum (x.part i) (y.part i);
 }
 
-pub tried_again : (h : ℕ) (a : ReadAnswer) (v : View) (d : Part) → ReadFinds h a v d
-    → IsTriedAgain a → AreLooksAt h d
+tried_again : (h : ℕ) (a : ReadAnswer) (v : View) (d : Part) → ReadFinds h a v d
+    → IsTriedAgain (Ok a) → AreLooksAt h d
 tried_again h (found.Bytes version bytes) v d x again = absurd again
 tried_again h found.Freed v d x again = absurd again
 tried_again h found.NotHere v d (word, far, is) again = one_look h word d is
@@ -144,14 +166,17 @@ pub found_last : (h : ℕ) (a : ReadAnswer) (v : View) (d e : Part) → AreLooks
 found_last h a v d e lost x =
     record { before = d; last = e; lost = lost; finds = x; part = refl }
 
-pub tries_of : (h : ℕ) (a : ReadAnswer) (reply : Reply) (v : View) (d : Part) → IsReplyTo a reply
-    → FindsAtLast h a v d → Tries h (Ok reply) v d
+tries_of : (h : ℕ) (a : ReadAnswer) (reply : Result Reply NoMemory) (v : View) (d : Part)
+    → IsReplyTo (Ok a) reply → FindsAtLast h a v d → Tries h reply v d
 tries_of h (found.Bytes version bytes) reply v d is x =
-    subst (λ (r : Reply). Tries h (Ok r) v d) (sym is) x
-tries_of h found.Freed reply v d is x = subst (λ (r : Reply). Tries h (Ok r) v d) (sym is) x
+    subst (λ (r : Result Reply NoMemory). Tries h r v d) (sym is) x
+tries_of h found.Freed reply v d is x =
+    subst (λ (r : Result Reply NoMemory). Tries h r v d) (sym is) x
 tries_of h found.NotHere reply v d is x = absurd is
-tries_of h found.Moving reply v d is x = subst (λ (r : Reply). Tries h (Ok r) v d) (sym is) x
-tries_of h found.Crowded reply v d is x = subst (λ (r : Reply). Tries h (Ok r) v d) (sym is) x
+tries_of h found.Moving reply v d is x =
+    subst (λ (r : Result Reply NoMemory). Tries h r v d) (sym is) x
+tries_of h found.Crowded reply v d is x =
+    subst (λ (r : Result Reply NoMemory). Tries h r v d) (sym is) x
 tries_of h (found.Raced saw other) reply v d is x = absurd is
 
 -- ---- the seat after looks
@@ -180,3 +205,68 @@ pub of_grown : (z : TableId) (k : Setup) (c : Config) (p q : Place) (d : Part) �
     → Moves p q (grown d p.me.0) → IsOf z k c q
 of_grown z k c p q d of m = let v = ap (λ (s : Sat). s.0) m.2 in
     of_moved z k c p q of m.0 (ap (λ (x : View). x.config) v) (ap (λ (x : View). x.share) v)
+
+-- a look found the object freed
+pub look_found : (c : Config) (h : ℕ) (p q r : Place) (d : Part) → h < c.handles → AreLooksAt h d → Moves p q (grown d p.me.0)
+    → ReadMoves h found.Freed q r → LooksFor c h p r
+look_found c h p q r d l lost m (e, n, finds) =
+    let at : q.me.0 ≡ grown d p.me.0 = ap (λ (s : Sat). s.0) m.2 in
+    let last = found_last h found.Freed p.me.0 d e lost
+    (subst (λ (v : View). ReadFinds h found.Freed v e) at finds) in (
+      sum d e,
+      grown_moves p q r d e m n,
+      last_quiet h found.Freed p.me.0 (sum d e) last,
+      last_below c h found.Freed p.me.0 (sum d e) l last,
+      last,
+    )
+
+-- a try that came to nothing, and one that is answered
+pub try_lost : (h : ℕ) (a : Result ReadAnswer NoMemory) (p q r : Place) (d : Part) → AreLooksAt h d
+    → Moves p q (grown d p.me.0) → IfOk a (λ x. ReadMoves h x q r) → IsTriedAgain a
+    → (e : Part) × AreLooksAt h e × Moves p r (grown e p.me.0)
+try_lost h (Ok a) p q r d lost m (e, n, finds) again = (
+  sum d e,
+  more_looks h d e lost (tried_again h a q.me.0 e finds again),
+  grown_moves p q r d e m n,
+)
+try_lost h (Err e) p q r d lost m read again = absurd again
+
+try_done : (c : Config) (h : ℕ) (a : ReadAnswer) (reply : Result Reply NoMemory) (p q r : Place)
+    (d : Part) → h < c.handles → AreLooksAt h d → Moves p q (grown d p.me.0) → ReadMoves h a q r → IsReplyTo (Ok a) reply
+    → TriesOn c h reply p r
+try_done c h a reply p q r d l lost m (e, n, finds) is =
+    let at : q.me.0 ≡ grown d p.me.0 = ap (λ (s : Sat). s.0) m.2 in
+    let last = found_last h a p.me.0 d e lost (subst (λ (v : View). ReadFinds h a v e) at finds) in (
+      sum d e,
+      grown_moves p q r d e m n,
+      last_quiet h a p.me.0 (sum d e) last,
+      last_below c h a p.me.0 (sum d e) l last,
+      λ u same. tries_of h a reply u (sum d e) is (last_same h a u p.me.0 (sum d e) same last),
+    )
+
+pub try_ends : (c : Config) (h : ℕ) (a : Result ReadAnswer NoMemory) (reply : Result Reply NoMemory)
+    (p q r : Place) (d : Part) → h < c.handles → AreLooksAt h d → Moves p q (grown d p.me.0)
+    → IfOk a (λ x. ReadMoves h x q r)
+    → OnErr a ((word : ℕ) × (state_of word ≡ state.Here) × Moves q r (grown (looked h word) q.me.0))
+    → IsReplyTo a reply → TriesOn c h reply p r
+try_ends c h (Ok a) reply p q r d l lost m read err is = try_done c h a reply p q r d l lost m read is
+try_ends c h (Err e) reply p q r d l lost m read (word, here, n) is =
+    let more = more_looks h d (looked h word) lost (here_look h word) in
+    subst (λ (x : Result Reply NoMemory). TriesOn c h x p r) (sym is) (
+      sum d (looked h word),
+      grown_moves p q r d (looked h word) m n,
+      looks_quiet h (sum d (looked h word)) more,
+      looks_below c h (sum d (looked h word)) more,
+      λ u same. more,
+    )
+
+-- the seat knows what it knew
+pub looks_know : (h : ℕ) (p q : Place) (d : Part) → AreLooksAt h d → Moves p q (grown d p.me.0)
+    → Knows h p.me.0 → Knows h q.me.0
+looks_know h p q d lost m knows = subst (Knows h) (sym (ap (λ (s : Sat). s.0) m.2))
+    (looks_known h h d p.me.0 lost knows)
+
+pub looks_few : (h : ℕ) (p q : Place) (d : Part) → Moves p q (grown d p.me.0)
+    → length p.me.0.pins ≤ 16 → length q.me.0.pins ≤ 16
+looks_few h p q d m few = subst (λ (v : View). length v.pins ≤ 16)
+    (sym (ap (λ (s : Sat). s.0) m.2)) few

@@ -1,5 +1,5 @@
 -- A turn of the job Read, in its two parts.
-use Rattle.std.proofs.Common.{◌≡◌, ℕ, zero, suc, ◌+◌, Bool, List, [], ◌∷◌, ◌++◌, Option, None, Some, Result, Ok, Err, sym, refl, ap, ◌∙◌, subst, arith, inl, inr}
+use Rattle.std.proofs.Common.{◌≡◌, ℕ, zero, suc, ◌≤◌, length, List, [], ◌∷◌, ◌++◌, Option, None, Some, Result, Ok, Err, sym, refl, ap, ◌∙◌, subst, arith, inl, inr}
 use Rattle.std.specs.Prelude.{IfOk}
 use Rattle.cb_member.specs.declared.no_memory.NoMemory.{NoMemory}
 use Rattle.cb_ptr.specs.declared.word.State.{State}
@@ -11,6 +11,7 @@ use Rattle.cb_types.specs.declared.job.Job.{Job}
 use Rattle.cb_types.specs.declared.job.Job.TheVariants.{Read}
 use Rattle.cb_types.specs.declared.reply.Reply.{Reply}
 use Rattle.cb_types.specs.declared.reply.Reply.TheVariants as answer
+use Rattle.cb_world.specs.declared.entry.Entry.{Entry}
 use Rattle.cb_world.specs.declared.event.Event.{Event}
 use Rattle.cb_world.specs.declared.shown.Shown.{Shown}
 use Rattle.cb_world.specs.FarState.{FarState}
@@ -18,6 +19,8 @@ use Rattle.cb_world.specs.Played.{Agree, played}
 use Rattle.cb_mutate.specs.Answered.{AbsentAs, AnsweredAs}
 use Rattle.cb_swapin.proofs.Laws.{by_answer}
 use Rattle.cb_core.specs.OnceHere.{IsThere}
+use Rattle.cb_core.specs.Unavailable.{TurnTells}
+use Rattle.cb_core.proofs.Laws.{IsNever, brought_tells, there_tells}
 use Rattle.cb_core.specs.OnceHere.OnceHere.{away, here}
 use Rattle.cb_core.specs.OnceHere.OnceHereStops.{bringing_stops, call_stops}
 use Rattle.cb_core.specs.Parts.{Holding, WithRoom}
@@ -30,13 +33,13 @@ use Rattle.cb_core.specs.TurnLeaves.{OutcomeWrites}
 use Rattle.cb_rule.specs.declared.view.View.{View}
 use Rattle.cb_rule.specs.Locking.{Stood}
 use Rattle.cb_rule.specs.Slot.{Sat}
-use Rattle.cb_rule.specs.Steps.{acted}
+use Rattle.cb_rule.specs.Steps.{Knows, acted}
 use Rattle.cb_shared.specs.Parts.{Part, grown, nothing_more, sum}
 use Rattle.cb_shared.specs.Places.{Moves, Place}
-use Rattle.cb_shared.specs.SeatLaws.{acted_known}
+use Rattle.cb_shared.specs.SeatLaws.{Runs, acted_known}
 use Rattle.cb_shared.specs.Turning.{DidAs, IsReadReply, JobReads, Slate, TellsNoPin, Tries, answer_of, held_by, slate_run, slate_shows}
-use Rattle.cb_shared.specs.UnderLock.{BringAt, Brought, HasSame, IsNoRead, TriesOn, TurnAt, WorkBy}
-use Rattle.cb_shared.proofs.AfterTurn.{acted_is}
+use Rattle.cb_shared.specs.UnderLock.{BringAt, Brought, CameThere, HasSame, IsNoRead, TriesOn, TurnAt, WorkBy}
+use Rattle.cb_shared.proofs.AfterTurn.{acted_is, after_events, after_runs}
 use Rattle.cb_shared.proofs.ReadParts.{grown_nothing}
 
 -- ---- the first part tells neither of bytes nor of many pins
@@ -129,8 +132,8 @@ module _ (c : Config) (handle : Handle) (took gave : FarState) (p m : Place) (pl
   stood_acted = subst (λ (s : Shown). Stood c s gave)
       (ap (λ (x : View). x.known) came ∙ acted_known b.events p.me.0) b.stood
 
-  pub work_away : (IsThere place → ⊥) → WorkBy c (Read handle) (Ok place) took gave p m
-  work_away off = record {
+  work_off : (IsThere place → ⊥) → WorkBy c (Read handle) (Ok place) took gave p m
+  work_off off = record {
     events = b.events;
     more = [];
     within = nothing_more;
@@ -142,6 +145,7 @@ module _ (c : Config) (handle : Handle) (took gave : FarState) (p m : Place) (pl
           (grown_nothing (acted b.events p.me.0)),
     );
     quiet = (refl, refl);
+    range = tt;
     reads = λ u same. inl (refl, first_plain c handle _ _ place b.brought);
     did = did_away c handle place p.me.0.known b.events took gave b.brought off;
     next = b.next;
@@ -160,9 +164,9 @@ module _ (c : Config) (handle : Handle) (took gave : FarState) (p m : Place) (pl
     sym (ap (λ (x : View). x.own) e),
   )
 
-  pub work_read : (q : Place) (r : Result Reply NoMemory) → p.me.0.fresh ≡ [] → IsThere place
-      → TriesOn handle.n r m q → WorkBy c (Read handle) r took gave p q
-  work_read q r none there (d, moves, quiet, tries) =
+  work_here : (q : Place) (r : Result Reply NoMemory) → p.me.0.fresh ≡ [] → IsThere place
+      → TriesOn c handle.n r m q → WorkBy c (Read handle) r took gave p q
+  work_here q r none there (d, moves, quiet, range, tries) =
       let s = same_come none in record {
         events = b.events;
         more = [];
@@ -174,6 +178,7 @@ module _ (c : Config) (handle : Handle) (took gave : FarState) (p m : Place) (pl
           moves.2 ∙ ap (λ (x : Sat). let z : Sat = (grown d x.0, x.1) in z) b.runs.0.2,
         );
         quiet = quiet;
+        range = range;
         reads = λ u same. inr (tries u (
           same.0 ∙ s.0,
           same.1 ∙ s.1,
@@ -194,7 +199,7 @@ module _ (c : Config) (handle : Handle) (took gave : FarState) (p m : Place) (pl
       wrote_none (Err e) = refl
 
 -- where there was no memory to bring it in
-pub work_stopped : (c : Config) (handle : Handle) (e : NoMemory) (took gave : FarState) (p m : Place)
+work_stopped : (c : Config) (handle : Handle) (e : NoMemory) (took gave : FarState) (p m : Place)
     → BringAt c handle (Err e) took gave p m → WorkBy c (Read handle) (Err e) took gave p m
 work_stopped c handle e took gave p m b =
     let came : m.me.0 ≡ acted b.events p.me.0 = ap (λ (s : Sat). s.0) b.runs.0.2 in record {
@@ -209,6 +214,7 @@ work_stopped c handle e took gave p m b =
             (grown_nothing (acted b.events p.me.0)),
       );
       quiet = (refl, refl);
+      range = tt;
       reads = λ u same. inl (refl, tt);
       did = did_stop c handle e p.me.0.known b.events took gave b.brought;
       next = b.next;
@@ -217,6 +223,71 @@ work_stopped c handle e took gave p m b =
       stood = subst (λ (s : Shown). Stood c s gave)
           (ap (λ (x : View). x.known) came ∙ acted_known b.events p.me.0) b.stood;
     }
+
+-- by the answer of the first part
+pub work_away : (c : Config) (handle : Handle) (r : Result Reply NoMemory) (took gave : FarState)
+    (p m : Place) → BringAt c handle r took gave p m → (CameThere r → ⊥)
+    → WorkBy c (Read handle) r took gave p m
+work_away c handle (Ok place) took gave p m b off = work_off c handle took gave p m place b off
+work_away c handle (Err e) took gave p m b off = work_stopped c handle e took gave p m b
+
+pub work_read : (c : Config) (handle : Handle) (place r : Result Reply NoMemory)
+    (took gave : FarState) (p m q : Place) → BringAt c handle place took gave p m
+    → p.me.0.fresh ≡ [] → CameThere place → TriesOn c handle.n r m q
+    → WorkBy c (Read handle) r took gave p q
+work_read c handle (Ok place) r took gave p m q b none there tries =
+    work_here c handle took gave p m place b q r none there tries
+work_read c handle (Err e) r took gave p m q b none there tries = absurd there
+
+-- ---- what it tells
+slate_follows : (d e : Slate) (es : List Event) (s : Shown) → slate_run d es e → slate_shows d s
+    → Agree s es × slate_shows e (played es s)
+slate_follows d e es s run shown = (
+  subst (λ (t : Shown). Agree t es) (sym shown) run.1,
+  ap (played es) shown ∙ sym (ap (λ (x : Slate). x.known) run.0),
+)
+
+pub tells_away : (c : Config) (handle : Handle) (r : Result Reply NoMemory) (took gave : FarState)
+    (p m : Place) → BringAt c handle r took gave p m → Stood c p.me.0.known took
+    → IfOk r (λ reply. TurnTells (Read handle) took reply)
+tells_away c handle (Ok r) took gave p m b stood = brought_tells slate_run slate_shows slate_follows c
+    handle _ _ r (p.me.0.known, refl, stood.sound) b.brought
+tells_away c handle (Err e) took gave p m b stood = tt
+
+read_tells_none : (r : Reply) → IsReadReply r → IsNever r
+read_tells_none r is id losses e = subst IsReadReply e is
+
+pub tells_read : (c : Config) (handle : Handle) (place r : Result Reply NoMemory)
+    (took gave : FarState) (p m q : Place) → BringAt c handle place took gave p m
+    → Stood c p.me.0.known took → CameThere place → TriesOn c handle.n r m q
+    → IfOk r (λ reply. TurnTells (Read handle) took reply)
+tells_read c handle (Ok place) (Ok r) took gave p m q b stood there (d, moves, quiet, range, tries) =
+    there_tells slate_run slate_shows slate_follows c handle _ _ place r
+    (p.me.0.known, refl, stood.sound) b.brought there (read_tells_none r
+    (tries_reply handle.n r m.me.0 d (tries m.me.0 (refl, refl, refl, refl, refl))))
+tells_read c handle (Ok place) (Err e) took gave p m q b stood there tries = tt
+tells_read c handle (Err e) (Ok r) took gave p m q b stood there tries = absurd there
+tells_read c handle (Err e) (Err f) took gave p m q b stood there tries = tt
+
+pub no_frame_read : (c : Config) (h : ℕ) (r : Result Reply NoMemory) (m q : Place) → TriesOn c h r m q
+    → IfOk r (λ reply. reply ≡ answer.NoFrame → ⊥)
+no_frame_read c h (Ok r) m q (d, moves, quiet, range, tries) = λ e. subst IsReadReply e
+    (tries_reply h r m.me.0 d (tries m.me.0 (refl, refl, refl, refl, refl)))
+no_frame_read c h (Err e) m q tries = tt
+
+-- the seat knows and pins what it did
+pub knows_come : (h : ℕ) (p m : Place) (es : List Event) → Runs p es m → p.me.0.fresh ≡ []
+    → m.me.0.fresh ≡ [] → Knows h p.me.0 → Knows h m.me.0
+knows_come h p m es runs none after knows =
+    let e : m.me.0 ≡ after_events es p.me.0 = after_runs p m es runs in
+    subst (Knows h) (sym e) (subst (λ (l : List Entry). Knows h (record (after_events es p.me.0) {
+      fresh = l;
+    })) (none ∙ sym (sym (ap (λ (v : View). v.fresh) e) ∙ after)) knows)
+
+pub few_come : (p m : Place) (es : List Event) → Runs p es m → length p.me.0.pins ≤ 16
+    → length m.me.0.pins ≤ 16
+few_come p m es runs few = subst (λ (v : View). length v.pins ≤ 16)
+    (sym (after_runs p m es runs)) few
 
 -- ---- any other job
 pub work_done : (c : Config) (job : Job) (r : Result Reply NoMemory) (took gave : FarState)
@@ -234,6 +305,7 @@ work_done c job r took gave p q other t =
             (grown_nothing (acted t.events p.me.0)),
       );
       quiet = (refl, refl);
+      range = tt;
       reads = λ u same. reads_none job other r u;
       did = t.did;
       next = t.next;

@@ -12,10 +12,12 @@ use Rattle.cb_world.specs.declared.event.Event.{Event}
 use Rattle.cb_world.specs.declared.shown.Shown.{Shown}
 use Rattle.cb_world.specs.FarState.{FarState}
 use Rattle.cb_world.specs.Played.{Agree, played}
+use Rattle.cb_core.specs.OnceHere.{IsThere}
 use Rattle.cb_core.specs.ReadTurn.{BroughtToRead, StoppedToRead}
 use Rattle.cb_core.specs.TurnLeaves.{IsNext, OutcomeWrites}
 use Rattle.cb_core.specs.Unavailable.{TurnTells}
 use Rattle.cb_rule.specs.declared.turn.Turn.{Turn}
+use Rattle.cb_rule.specs.declared.view.Seen.{Seen}
 use Rattle.cb_rule.specs.declared.view.View.{View}
 use Rattle.cb_rule.specs.Lists.{Each}
 use Rattle.cb_rule.specs.Locking.{Stood}
@@ -92,6 +94,10 @@ pub record BringAt (c : Config) (handle : Handle) (r : Result Reply NoMemory) (t
 abbrev pub IsQuiet : Part → Type 0
 IsQuiet d = (d.written ≡ []) × (d.turns ≡ [])
 
+-- what it has read is of objects in range
+abbrev pub ReadsBelow : Config → Part → Type 0
+ReadsBelow c d = Each (λ (s : Seen). s.handle < c.handles) d.seen
+
 -- the two records have the same entries, the same share and the same own handles
 abbrev pub HasSame : View → View → Type 0
 HasSame u v = (u.fresh ≡ v.fresh) × (u.written ≡ v.written) × (u.seen ≡ v.seen)
@@ -106,6 +112,7 @@ pub record WorkBy (c : Config) (job : Job) (r : Result Reply NoMemory) (took gav
   pub agree : Agree p.me.0.known events
   pub moves : Moves p q (grown within (acted events p.me.0))
   pub quiet : IsQuiet within
+  pub range : ReadsBelow c within
   pub reads : (u : View) → HasSame u p.me.0 → JobReads job r u within
   pub did : DidAs c job (answer_of r) p.me.0.known events took gave
   pub next : IsNext took gave
@@ -119,22 +126,28 @@ IsNoRead (Read handle) = ⊥
 IsNoRead job = Unit {0}
 
 -- they are so on a seat
-abbrev pub TriesOn : ℕ → Result Reply NoMemory → Place → Place → Type 0
-TriesOn h r p q = (d : Part) × Moves p q (grown d p.me.0) × IsQuiet d
+abbrev pub TriesOn : Config → ℕ → Result Reply NoMemory → Place → Place → Type 0
+TriesOn c h r p q = (d : Part) × Moves p q (grown d p.me.0) × IsQuiet d × ReadsBelow c d
     × ((u : View) → HasSame u p.me.0 → Tries h r u d)
 
+-- the object is here by the answer of the first part of a read
+abbrev pub CameThere : Result Reply NoMemory → Type 0
+CameThere (Ok place) = IsThere place
+CameThere (Err e) = ⊥
+
 -- the answer of a turn for that of its read under a pin
-abbrev pub IsReplyTo : ReadAnswer → Reply → Type 0
-IsReplyTo (found.Bytes version bytes) reply = reply ≡ answer.Bytes version bytes
-IsReplyTo found.Freed reply = reply ≡ answer.Freed
-IsReplyTo found.Moving reply = reply ≡ answer.Moving
-IsReplyTo found.Crowded reply = reply ≡ answer.Crowded
-IsReplyTo other reply = ⊥
+abbrev pub IsReplyTo : Result ReadAnswer NoMemory → Result Reply NoMemory → Type 0
+IsReplyTo (Ok (found.Bytes version bytes)) reply = reply ≡ Ok (answer.Bytes version bytes)
+IsReplyTo (Ok found.Freed) reply = reply ≡ Ok answer.Freed
+IsReplyTo (Ok found.Moving) reply = reply ≡ Ok answer.Moving
+IsReplyTo (Ok found.Crowded) reply = reply ≡ Ok answer.Crowded
+IsReplyTo (Ok other) reply = ⊥
+IsReplyTo (Err e) reply = reply ≡ Err e
 
 -- looks alone are left of it
-abbrev pub IsTriedAgain : ReadAnswer → Type 0
-IsTriedAgain found.NotHere = Unit {0}
-IsTriedAgain (found.Raced saw other) = Unit {0}
+abbrev pub IsTriedAgain : Result ReadAnswer NoMemory → Type 0
+IsTriedAgain (Ok found.NotHere) = Unit {0}
+IsTriedAgain (Ok (found.Raced saw other)) = Unit {0}
 IsTriedAgain a = ⊥
 
 -- the handle, if there is one, is in range
@@ -143,12 +156,12 @@ IsBelow c (Some h) = h < c.handles
 IsBelow c None = Unit {0}
 
 -- a seat looked for the freed entry of an object, and of one if there is one
-abbrev pub LooksFor : ℕ → Place → Place → Type 0
-LooksFor h p q = (d : Part) × Moves p q (grown d p.me.0) × IsQuiet d
+abbrev pub LooksFor : Config → ℕ → Place → Place → Type 0
+LooksFor c h p q = (d : Part) × Moves p q (grown d p.me.0) × IsQuiet d × ReadsBelow c d
     × FindsAtLast h found.Freed p.me.0 d
 
-abbrev pub FreedMoves : Option ℕ → Place → Place → Type 0
-FreedMoves freed p q = (d : Part) × Moves p q (grown d p.me.0) × IsQuiet d
+abbrev pub FreedMoves : Config → Option ℕ → Place → Place → Type 0
+FreedMoves c freed p q = (d : Part) × Moves p q (grown d p.me.0) × IsQuiet d × ReadsBelow c d
     × FindsFreed freed p.me.0 d
 
 -- The seat may give the lock back with this far state, whose turn had this job and this reply.
@@ -179,6 +192,7 @@ pub record TurnWith (c : Config) (job : Job) (r : Result Reply NoMemory) (took :
       (grown within (acted events p.me.0))) []
   pub below : Each (λ (e : Entry). e.handle < c.handles) (more ++ p.me.0.written)
   pub quiet : IsQuiet within
+  pub range : ReadsBelow c within
   pub reads : (u : View) → HasSame u p.me.0 → JobReads job r u within
   pub did : DidAs c job (answer_of r) p.me.0.known events took gave
   pub next : IsNext took gave
@@ -197,6 +211,7 @@ pub record TurnedBy (c : Config) (job : Job) (r : Result Reply NoMemory) (v w : 
   pub next : IsNext turn.took turn.gave
   pub wrote : OutcomeWrites job r more
   pub below : Each (λ (e : Entry). e.handle < c.handles) (more ++ v.written)
+  pub range : ReadsBelow c within
   pub reads : JobReads job r v within
   pub tells : IfOk r (λ reply. TurnTells job turn.took reply)
   pub left : w ≡ with_own (made_by job (answer_of r))
