@@ -3,23 +3,27 @@ use Rattle.std.proofs.Common.{◌≡◌, ◌⊎◌, ℕ, List, [], ◌∷◌, �
 use Rattle.std.specs.Result.{IfOk, OnErr}
 use Rattle.cb_member.specs.declared.no_memory.NoMemory.{NoMemory}
 use Rattle.cb_types.specs.declared.config.Config.{Config}
+use Rattle.cb_types.specs.declared.handle.Handle.{Handle}
 use Rattle.cb_types.specs.declared.job.Job.{Job}
 use Rattle.cb_types.specs.declared.job.Job.TheVariants as jobs
 use Rattle.cb_types.specs.declared.reply.Reply.{Reply}
 use Rattle.cb_types.specs.declared.reply.Reply.TheVariants as answer
 use Rattle.cb_ptr.specs.declared.word.State.TheVariants as state
-use Rattle.cb_ptr.specs.Word.{state_of}
+use Rattle.cb_ptr.specs.Word.{pins_of, state_of}
 use Rattle.cb_world.specs.declared.entry.Entry.{Entry}
 use Rattle.cb_core.specs.TurnLeaves.{FreeWrites, MakeWrites, WriteWrites}
 use Rattle.cb_rule.specs.declared.view.Look.{Look}
 use Rattle.cb_rule.specs.declared.view.View.{View}
 use Rattle.cb_rule.specs.Lists.{Each, Has}
 use Rattle.cb_rule.specs.Steps.{look_at}
-use Rattle.cb_shared.specs.Calls.{AsksFor, AtNone, AtThis, EndsAtLast, IsAnswerTo, IsCalled, IsInVain, ReadEnds, Stops, TurnEnds, TurnTries, the_handle}
+use Rattle.cb_shared.specs.Calls.{AsksFor, AtNone, AtThis, EndsAtLast, IsAnswer, IsAnswerTo, IsCalled, IsInVain, ReadEnds, ReadGives, ReadTries, Stops, TurnEnds, TurnGives, TurnTries, the_handle}
 use Rattle.cb_shared.specs.Parts.{Part, Grows, grown, nothing_more, sum}
-use Rattle.cb_shared.specs.Reading.{looked}
-use Rattle.cb_shared.specs.Turning.{FindsFreed, TurnAdds, TurnBy, answer_of, freed_of, made_by, made_in, object_of, turn_part, with_own}
+use Rattle.cb_shared.specs.declared.reading.ReadAnswer.{ReadAnswer}
+use Rattle.cb_shared.specs.declared.reading.ReadAnswer.TheVariants as found
+use Rattle.cb_shared.specs.Reading.{FindsOther, FindsWord, ReadFinds, looked}
+use Rattle.cb_shared.specs.Turning.{FindsFreed, KnowsIt, TurnAdds, TurnBy, answer_of, freed_of, made_by, made_in, object_of, turn_part, with_own}
 use Rattle.cb_shared.proofs.ReadParts.{grown_nothing, grown_sum}
+use Rattle.cb_shared.proofs.TurnEnds.{know_more}
 
 each_both : {A : Type 0} (P : A → Type 0) (xs ys : List A) → Each P xs → Each P ys
     → Each P (xs ++ ys)
@@ -188,17 +192,17 @@ turn_without c job e v w called (d, x, is) = let z = turn_stops c job e v d call
     (d, z.0, grows_own (made_by job None) v w d z.1 is)
 
 -- ---- a look that found the object far, and then a turn
-pub away_stops : (h word : ℕ) (job : Job) (v w u : View) (d : Part) → d ≡ looked h word
+pub look_stops : (h word : ℕ) (job : Job) (v w u : View) (d : Part) → d ≡ looked h word
     → Grows v d w → Stops AtNone job w u → Stops (AtThis h) job v u
-away_stops h word job v w u d is grew (e, x, next) =
+look_stops h word job v w u d is grew (e, x, next) =
     stops_after (AtThis h) job v w u (looked h word) (vain_look h word job)
     (grew ∙ ap (λ (z : Part). grown z v) is) (e, vain_any (AtThis h) job e x, next)
 
-pub away_asks : (c : Config) (h word : ℕ) (job : Job) (r : Reply) (v w u : View) (d e : Part)
+pub look_asks : (c : Config) (h word : ℕ) (job : Job) (r : Reply) (v w u : View) (d e : Part)
     → d ≡ looked h word → state_of word ≡ state.Far → Grows v d w → TurnEnds c job r w e
     → made_by job (Some r) ≡ [] → u ≡ with_own (made_by job (Some r)) (grown e w)
     → (x : Part) × AsksFor c job r h v x × Grows v x u
-away_asks c h word job r v w u d e is far grew ends none next =
+look_asks c h word job r v w u d e is far grew ends none next =
     let at : w ≡ grown (looked h word) v = grew ∙ ap (λ (z : Part). grown z v) is in (
       sum (looked h word) e,
       record {
@@ -221,3 +225,125 @@ ends_asked c h r v d x = x
 pub err_always : {T E : Type 0} (r : Result T E) (P : Type 0) → P → OnErr r P
 err_always (Ok x) P p = tt
 err_always (Err e) P p = p
+
+pub answers_yes : (c : Config) (job : Job) (r : Reply) → ((h : Handle) → job ≡ jobs.Swap h → ⊥)
+    → IsAnswer c r → IsAnswerTo c job r
+answers_yes c (jobs.Swap h) r no x = absurd (no h refl)
+answers_yes c job r no x = x
+
+pub answers_no : (c : Config) (job : Job) (r : Reply) → ((h : Handle) → job ≡ jobs.Swap h → ⊥)
+    → IsAnswerTo c job r → IsAnswer c r
+answers_no c (jobs.Swap h) r no x = absurd (no h refl)
+answers_no c job r no x = x
+
+-- ---- what a read under a pin found
+abbrev Found : ℕ → ReadAnswer → View → View → Type 0
+Found h a v w = (d : Part) × Grows v d w × ReadFinds h a v d
+
+pub found_bytes : (c : Config) (h version : ℕ) (bytes : List ℕ) (a : ReadAnswer) (v w : View)
+    → a ≡ found.Bytes version bytes → Found h a v w
+    → ReadTries c h (Some (answer.Bytes version bytes)) v w
+found_bytes c h version bytes a v w is (d, grew, f) =
+    (d, subst (λ (z : ReadAnswer). ReadFinds h z v d) is f, grew)
+
+pub found_freed : (c : Config) (h : ℕ) (a : ReadAnswer) (v w : View) → a ≡ found.Freed
+    → Found h a v w → ReadTries c h (Some answer.Freed) v w
+found_freed c h a v w is (d, grew, f) =
+    (d, subst (λ (z : ReadAnswer). ReadFinds h z v d) is f, grew)
+
+one_look : (h word : ℕ) (v w : View) (d : Part) → Grows v d w → d ≡ looked h word
+    → Stops (AtThis h) (jobs.Swap (the_handle h)) v w
+one_look h word v w d grew is = (
+  d,
+  subst (IsInVain (AtThis h) (jobs.Swap (the_handle h))) (sym is)
+      (vain_look h word (jobs.Swap (the_handle h))),
+  grew,
+)
+
+pub found_moving : (h : ℕ) (a : ReadAnswer) (v w : View) → a ≡ found.Moving → Found h a v w
+    → Stops (AtThis h) (jobs.Swap (the_handle h)) v w
+found_moving h a v w is (d, grew, f) =
+    let x : FindsWord h (λ word. state_of word ≡ state.Moving) d =
+    subst (λ (z : ReadAnswer). ReadFinds h z v d) is f in one_look h x.0 v w d grew x.2
+
+pub found_crowded : (h : ℕ) (a : ReadAnswer) (v w : View) → a ≡ found.Crowded → Found h a v w
+    → Stops (AtThis h) (jobs.Swap (the_handle h)) v w
+found_crowded h a v w is (d, grew, f) =
+    let x : FindsWord h (λ word. (state_of word ≡ state.Here) × (pins_of word ≡ 1023)) d =
+    subst (λ (z : ReadAnswer). ReadFinds h z v d) is f in one_look h x.0 v w d grew x.2
+
+pub found_raced : (h saw other : ℕ) (a : ReadAnswer) (v w : View) → a ≡ found.Raced saw other
+    → Found h a v w → Stops (AtThis h) (jobs.Swap (the_handle h)) v w
+found_raced h saw other a v w is (d, grew, f) =
+    let x : FindsOther h saw other d = subst (λ (z : ReadAnswer). ReadFinds h z v d) is f in (
+      d,
+      record {
+        looks = look_at h other ∷ look_at h saw ∷ [];
+        turns = [];
+        at = (refl, refl, tt);
+        of = tt;
+        part = x.1;
+      },
+      grew,
+    )
+
+pub lacks_room : (h : ℕ) (v w : View)
+    → (word : ℕ) × (state_of word ≡ state.Here) × Grows v (looked h word) w
+    → Stops (AtThis h) (jobs.Swap (the_handle h)) v w
+lacks_room h v w (word, here, grew) =
+    (looked h word, vain_look h word (jobs.Swap (the_handle h)), grew)
+
+pub away_stops : (h : ℕ) (a : ReadAnswer) (v w u : View) → a ≡ found.NotHere → Found h a v w
+    → Stops AtNone (jobs.Swap (the_handle h)) w u → Stops (AtThis h) (jobs.Swap (the_handle h)) v u
+away_stops h a v w u is (d, grew, f) x =
+    let y : FindsWord h (λ word. state_of word ≡ state.Far) d =
+    subst (λ (z : ReadAnswer). ReadFinds h z v d) is f in
+    look_stops h y.0 (jobs.Swap (the_handle h)) v w u d y.2 grew x
+
+pub away_tries : (c : Config) (h : ℕ) (a : ReadAnswer) (o : Option Reply) (v w u : View)
+    → a ≡ found.NotHere → Found h a v w → TurnTries c (jobs.Swap (the_handle h)) o w u
+    → ReadTries c h o v u
+away_tries c h a None v w u is x y = away_stops h a v w u is x y
+away_tries c h a (Some r) v w u is (d, grew, f) (e, ends, next) =
+    let y : FindsWord h (λ word. state_of word ≡ state.Far) d =
+    subst (λ (z : ReadAnswer). ReadFinds h z v d) is f in
+    let z = look_asks c h y.0 (jobs.Swap (the_handle h)) r v w u d e y.2 y.1 grew ends refl next in
+    (z.0, ends_asked c h r v z.0 z.1, z.2)
+
+-- ---- the loops round the tries
+pub so_far : (on : ℕ → Type 0) (job : Job) (v : View) → Stops on job v v
+so_far on job v = (nothing_more, vain_none on job, grown_nothing v)
+
+pub known_still : (on : ℕ → Type 0) (job : Job) (o : Option ℕ) (v w : View) → v.fresh ≡ []
+    → KnowsIt o v → Stops on job v w → KnowsIt o w
+known_still on job o v w none knows (d, x, grew) =
+    subst (KnowsIt o) (sym grew) (know_more o [] d v none knows)
+
+pub stops_then : (on : ℕ → Type 0) (job : Job) (v w u : View) → Stops on job v w
+    → Stops on job w u → Stops on job v u
+stops_then on job v w u (d, x, grew) y = stops_after on job v w u d x grew y
+
+pub read_again : (c : Config) (h : ℕ) (o : Option Reply) (v w u : View) → o ≡ None
+    → Stops (AtThis h) (jobs.Swap (the_handle h)) v w → ReadTries c h o w u
+    → Stops (AtThis h) (jobs.Swap (the_handle h)) v u
+read_again c h o v w u is x y = stops_then (AtThis h) (jobs.Swap (the_handle h)) v w u x
+    (subst (λ (z : Option Reply). ReadTries c h z w u) is y)
+
+pub read_at_last : (c : Config) (h : ℕ) (o : Option Reply) (r : Reply) (v w u : View) → o ≡ Some r
+    → Stops (AtThis h) (jobs.Swap (the_handle h)) v w → ReadTries c h o w u → ReadGives c h r v u
+read_at_last c h o r v w u is (d, x, grew) y =
+    let z : ReadTries c h (Some r) w u = subst (λ (q : Option Reply). ReadTries c h q w u) is y in
+    ends_after (AtThis h) (jobs.Swap (the_handle h)) (ReadEnds c h r) (λ (q : View). q) v w u d z.0
+    x grew z.1 z.2
+
+pub turn_again : (c : Config) (job : Job) (o : Option Reply) (v w u : View) → o ≡ None
+    → Stops AtNone job v w → TurnTries c job o w u → Stops AtNone job v u
+turn_again c job o v w u is x y = stops_then AtNone job v w u x
+    (subst (λ (z : Option Reply). TurnTries c job z w u) is y)
+
+pub turn_at_last : (c : Config) (job : Job) (o : Option Reply) (r : Reply) (v w u : View)
+    → o ≡ Some r → Stops AtNone job v w → TurnTries c job o w u → TurnGives c job r v u
+turn_at_last c job o r v w u is (d, x, grew) y =
+    let z : TurnTries c job (Some r) w u = subst (λ (q : Option Reply). TurnTries c job q w u) is y in
+    ends_after AtNone job (TurnEnds c job r) (with_own (made_by job (Some r))) v w u d z.0
+    x grew z.1 z.2

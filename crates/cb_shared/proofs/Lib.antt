@@ -11,7 +11,6 @@ pub mod Begun
 pub mod WriteSteps
 pub mod ReadBytes
 pub mod ReadSteps
-pub mod CallSteps
 pub mod Tallying
 pub mod FirstPin
 pub mod AfterTurn
@@ -21,6 +20,8 @@ pub mod LockAlone
 pub mod ReadParts
 pub mod ReadTurns
 pub mod TurnEnds
+pub mod ReadKept
+pub mod CallSteps
 pub mod WorkedGround
 pub mod WorkedPins
 pub mod WorkedWrites

@@ -1,5 +1,5 @@
 -- A turn as it stands in the record of its pass at its end.
-use Rattle.std.proofs.Common.{◌≡◌, ℕ, ◌+◌, ◌<◌, ◌≤◌, List, [], ◌∷◌, ◌++◌, length, map, Option, None, Some, Result, Ok, refl, sym, ap, ◌∙◌, subst, arith, inl, inr, append_assoc}
+use Rattle.std.proofs.Common.{◌≡◌, ℕ, suc, ◌+◌, ◌<◌, ◌≤◌, List, [], ◌∷◌, ◌++◌, length, map, Option, None, Some, Result, Ok, refl, sym, ap, ◌∙◌, subst, arith, inl, inr, append_assoc}
 use Rattle.std.specs.Prelude.{IfOk}
 use Rattle.crossbeam_utils.specs.Padded.{padded_value}
 use Rattle.cb_member.specs.declared.no_memory.NoMemory.{NoMemory}
@@ -42,7 +42,7 @@ has_behind : {A : Type 0} (x : A) (xs ys : List A) → Has x ys → Has x (xs ++
 has_behind x [] ys has = has
 has_behind x (y ∷ xs) ys has = inr (has_behind x xs ys has)
 
-knows_more : (h : ℕ) (made : List ℕ) (d : Part) (v : View) → v.fresh ≡ [] → Knows h v
+pub knows_more : (h : ℕ) (made : List ℕ) (d : Part) (v : View) → v.fresh ≡ [] → Knows h v
     → Knows h (with_own made (grown d v))
 knows_more h made d v none (inl (e, has, is)) = inl (
   e,
@@ -52,7 +52,7 @@ knows_more h made d v none (inl (e, has, is)) = inl (
 )
 knows_more h made d v none (inr (s, has, is)) = inr (s, has_behind s d.seen v.seen has, is)
 
-know_more : (o : Option ℕ) (made : List ℕ) (d : Part) (v : View) → v.fresh ≡ [] → KnowsIt o v
+pub know_more : (o : Option ℕ) (made : List ℕ) (d : Part) (v : View) → v.fresh ≡ [] → KnowsIt o v
     → KnowsIt o (with_own made (grown d v))
 know_more None made d v none knows = tt
 know_more (Some h) made d v none knows = knows_more h made d v none knows
@@ -145,7 +145,7 @@ module _ (c : Config) (job : Job) (r : Result Reply NoMemory) (p m q : Place)
 
 length_handles : (xs : List Stand) → length (handles_of xs) ≡ length xs
 length_handles [] = refl
-length_handles (x ∷ xs) = ap (λ (n : ℕ). 1 + n) (length_handles xs)
+length_handles (x ∷ xs) = ap suc (length_handles xs)
 
 pub few_pins : (handles : List ℕ) (xs : List Stand) → handles ≡ handles_of xs
     → length handles ≤ 16 → length xs ≤ 16
