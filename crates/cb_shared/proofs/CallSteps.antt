@@ -91,18 +91,18 @@ vain_look h word job = record {
 -- ---- turns that came to nothing
 make_none : (bytes : List ℕ) (r : Reply) (more : List Entry)
     → ((h : _) (v : ℕ) → r ≡ answer.Made h v → ⊥) → MakeWrites bytes r more → more ≡ []
-make_none bytes (answer.Made h v) more no w = absurd (no h v refl)
-make_none bytes r more no w = w
+make_none bytes (answer.Made h v) more off w = absurd (off h v refl)
+make_none bytes r more off w = w
 
 write_none : (h at : ℕ) (bytes : List ℕ) (r : Reply) (more : List Entry)
     → ((v : ℕ) → r ≡ answer.Version v → ⊥) → WriteWrites h at bytes r more → more ≡ []
-write_none h at bytes (answer.Version v) more no w = absurd (no v refl)
-write_none h at bytes r more no w = w
+write_none h at bytes (answer.Version v) more off w = absurd (off v refl)
+write_none h at bytes r more off w = w
 
 free_none : (h : ℕ) (r : Reply) (more : List Entry)
     → ((v : ℕ) → r ≡ answer.Version v → ⊥) → FreeWrites h r more → more ≡ []
-free_none h (answer.Version v) more no w = absurd (no v refl)
-free_none h r more no w = w
+free_none h (answer.Version v) more off w = absurd (off v refl)
+free_none h r more off w = w
 
 later_none : (job : Job) (r : Reply) (v : View) (d : Part)
     → (r ≡ answer.Freed → object_of job ≡ None) → FindsFreed (freed_of job (Ok r)) v d
@@ -112,8 +112,8 @@ later_none job answer.Freed v d none x =
 later_none job r v d none x = x
 
 made_none : (r : Reply) → ((h : _) (v : ℕ) → r ≡ answer.Made h v → ⊥) → made_in (Some r) ≡ []
-made_none (answer.Made h v) no = absurd (no h v refl)
-made_none r no = refl
+made_none (answer.Made h v) off = absurd (off h v refl)
+made_none r off = refl
 
 vain_turn : (c : Config) (job : Job) (r : Result Reply NoMemory) (v : View) (d : Part)
     → (x : TurnAdds c job r v d) → x.more ≡ [] → x.within ≡ nothing_more
@@ -130,34 +130,34 @@ vain_turn c job r v d x more within later = record {
 pub turn_vain : (c : Config) (job : Job) (r : Reply) (v : View) (d : Part) → IsCalled job
     → (IsAnswerTo c job r → ⊥) → TurnAdds c job (Ok r) v d
     → IsInVain AtNone job d × (made_by job (Some r) ≡ [])
-turn_vain c (jobs.Make bytes) r v d called no x =
-    let other = λ h w (e : r ≡ answer.Made h w). no (subst (IsAnswerTo c (jobs.Make bytes)) (sym e) (inl tt)) in (
+turn_vain c (jobs.Make bytes) r v d called off x =
+    let other = λ h w (e : r ≡ answer.Made h w). off (subst (IsAnswerTo c (jobs.Make bytes)) (sym e) (inl tt)) in (
       vain_turn c (jobs.Make bytes) (Ok r) v d x (make_none bytes r x.more other x.wrote) x.reads
           (later_none (jobs.Make bytes) r _ x.later (λ _. refl) x.finds),
       made_none r other,
     )
-turn_vain c (jobs.Write handle at bytes) r v d called no x = (
+turn_vain c (jobs.Write handle at bytes) r v d called off x = (
   vain_turn c (jobs.Write handle at bytes) (Ok r) v d x
       (write_none handle.n at bytes r x.more
-      (λ w e. no (subst (IsAnswerTo c (jobs.Write handle at bytes)) (sym e) (inl tt))) x.wrote) x.reads
+      (λ w e. off (subst (IsAnswerTo c (jobs.Write handle at bytes)) (sym e) (inl tt))) x.wrote) x.reads
       (later_none (jobs.Write handle at bytes) r _ x.later
-      (λ e. absurd (no (subst (IsAnswerTo c (jobs.Write handle at bytes)) (sym e) (inl tt)))) x.finds),
+      (λ e. absurd (off (subst (IsAnswerTo c (jobs.Write handle at bytes)) (sym e) (inl tt)))) x.finds),
   refl,
 )
-turn_vain c (jobs.Free handle) r v d called no x = (
+turn_vain c (jobs.Free handle) r v d called off x = (
   vain_turn c (jobs.Free handle) (Ok r) v d x
       (free_none handle.n r x.more
-      (λ w e. no (subst (IsAnswerTo c (jobs.Free handle)) (sym e) (inl tt))) x.wrote) x.reads
+      (λ w e. off (subst (IsAnswerTo c (jobs.Free handle)) (sym e) (inl tt))) x.wrote) x.reads
       (later_none (jobs.Free handle) r _ x.later
-      (λ e. absurd (no (subst (IsAnswerTo c (jobs.Free handle)) (sym e) (inl tt)))) x.finds),
+      (λ e. absurd (off (subst (IsAnswerTo c (jobs.Free handle)) (sym e) (inl tt)))) x.finds),
   refl,
 )
-turn_vain c (jobs.Swap handle) r v d called no x = (
+turn_vain c (jobs.Swap handle) r v d called off x = (
   vain_turn c (jobs.Swap handle) (Ok r) v d x x.wrote x.reads
       (later_none (jobs.Swap handle) r _ x.later (λ _. refl) x.finds),
   refl,
 )
-turn_vain c job r v d called no x = absurd called
+turn_vain c job r v d called off x = absurd called
 
 -- nor does one that found no memory
 pub turn_stops : (c : Config) (job : Job) (e : NoMemory) (v : View) (d : Part) → IsCalled job
@@ -179,11 +179,11 @@ grows_own made v w d none is = is ∙ ap (λ (l : List ℕ). with_own l (grown d
 -- what one turn of a call comes to
 pub turn_ends : (c : Config) (job : Job) (r : Reply) (v w : View) → IsAnswerTo c job r
     → TurnBy c job (Ok r) v w → TurnTries c job (Some r) v w
-turn_ends c job r v w yes (d, x, is) = (d, (yes, x), is)
+turn_ends c job r v w ends (d, x, is) = (d, (ends, x), is)
 
 pub turn_in_vain : (c : Config) (job : Job) (r : Reply) (v w : View) → IsCalled job
     → (IsAnswerTo c job r → ⊥) → TurnBy c job (Ok r) v w → Stops AtNone job v w
-turn_in_vain c job r v w called no (d, x, is) = let z = turn_vain c job r v d called no x in
+turn_in_vain c job r v w called off (d, x, is) = let z = turn_vain c job r v d called off x in
     (d, z.0, grows_own (made_by job (Some r)) v w d z.1 is)
 
 pub turn_without : (c : Config) (job : Job) (e : NoMemory) (v w : View) → IsCalled job
@@ -228,13 +228,13 @@ err_always (Err e) P p = p
 
 pub answers_yes : (c : Config) (job : Job) (r : Reply) → ((h : Handle) → job ≡ jobs.Swap h → ⊥)
     → IsAnswer c r → IsAnswerTo c job r
-answers_yes c (jobs.Swap h) r no x = absurd (no h refl)
-answers_yes c job r no x = x
+answers_yes c (jobs.Swap h) r off x = absurd (off h refl)
+answers_yes c job r off x = x
 
 pub answers_no : (c : Config) (job : Job) (r : Reply) → ((h : Handle) → job ≡ jobs.Swap h → ⊥)
     → IsAnswerTo c job r → IsAnswer c r
-answers_no c (jobs.Swap h) r no x = absurd (no h refl)
-answers_no c job r no x = x
+answers_no c (jobs.Swap h) r off x = absurd (off h refl)
+answers_no c job r off x = x
 
 -- ---- what a read under a pin found
 abbrev Found : ℕ → ReadAnswer → View → View → Type 0
@@ -280,7 +280,7 @@ found_raced h saw other a v w is (d, grew, f) =
       record {
         looks = look_at h other ∷ look_at h saw ∷ [];
         turns = [];
-        at = (refl, refl, tt);
+        at = (refl, (refl, tt));
         of = tt;
         part = x.1;
       },

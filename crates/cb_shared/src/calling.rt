@@ -194,7 +194,7 @@ impl Shared {
         ensures error { OnErr result ((word : ℕ) × (state_of word ≡ state.Here)
             × Grows pass.old.seat.me.0 (looked h.n word) pass.new.seat.me.0) }
     {
-        let _count = count_pins(&pass.pins);
+        count_pins(&pass.pins);
         read_pinned(
             &self.board.shared,
             &mut pass.seat,
