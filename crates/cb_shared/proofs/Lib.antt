@@ -22,6 +22,7 @@ pub mod ReadTurns
 pub mod TurnEnds
 pub mod ReadKept
 pub mod CallSteps
+pub mod WriteParts
 pub mod WorkedGround
 pub mod WorkedPins
 pub mod WorkedWrites

@@ -175,6 +175,13 @@ SaysAs (place.Pinned count) r = r ≡ answer.Pinned count
 SaysAs place.Worn r = r ≡ answer.Worn
 SaysAs other r = ⊥
 
+-- it is one
+abbrev pub IsNoReply : WriteAnswer → Type 0
+IsNoReply place.NotHere = Unit {0}
+IsNoReply place.Moving = Unit {0}
+IsNoReply (place.Raced saw found) = Unit {0}
+IsNoReply other = ⊥
+
 -- The last try of a write: in place, or by a turn where a look found the object far.
 abbrev pub WriteEnds : Config → ℕ → ℕ → List ℕ → Reply → View → Part → Type 0
 WriteEnds c h at bytes r v d =

@@ -1,10 +1,12 @@
 //! Reads, writes, makes and frees that try again until they are answered. Each try is a step or a
 //! turn of its own; the loops round them wait, and nothing else does but the turns.
-ghost use Rattle.std.specs.Prelude.{◌≡◌, ◌≤◌, ℕ, true, false, length, IfOk, OnErr};
+ghost use Rattle.std.specs.Prelude.{◌≡◌, ◌≤◌, ℕ, true, false, length, None, Some, IfOk, OnErr};
 ghost use Rattle.cb_types.specs.declared.job.Job.TheVariants as jobs;
+ghost use Rattle.cb_types.specs.declared.reply.Reply.{Reply};
+ghost use Rattle.cb_shared.specs.declared.answers.WriteAnswer.TheVariants as places;
 ghost use Rattle.cb_core.specs.Jobs.{IsJob};
 ghost use Rattle.cb_rule.specs.Steps.{Knows};
-ghost use Rattle.cb_shared.specs.Calls.{AtNone, AtThis, IsAnswerTo, IsCalled, IsLack, ReadGives, ReadTries, Stops, TellsOfIt, TurnGives, TurnTries, may_come_loose, the_handle};
+ghost use Rattle.cb_shared.specs.Calls.{AtNone, AtThis, IsAnswerTo, IsCalled, IsLack, IsNoReply, ReadGives, ReadTries, SaysAs, Stops, TellsOfIt, TurnGives, TurnTries, WriteAnswers, WriteTries, may_come_loose, the_handle};
 ghost use Rattle.cb_shared.specs.Parts.{Part, Grows};
 ghost use Rattle.cb_shared.specs.Passes.{IsPassOf};
 ghost use Rattle.cb_shared.specs.Reading.{ReadFinds, looked};
@@ -12,6 +14,7 @@ ghost use Rattle.cb_shared.specs.Turning.{KnowsOf};
 ghost use Rattle.cb_ptr.specs.declared.word.State.TheVariants as state;
 ghost use Rattle.cb_ptr.specs.Word.{state_of};
 
+use crate::answers::WriteAnswer;
 use crate::handles::count_pins;
 use crate::pass::Pass;
 use crate::reading::{ReadAnswer, read_pinned};
@@ -49,6 +52,39 @@ impl Shared {
     {
         for _ in rt.forever() {
             if let Some(reply) = self.try_read(rt, alloc, pass, h)? {
+                return Ok(reply);
+            }
+            thread::yield_now();
+        }
+        unreachable!()
+    }
+
+    /// Writes over a part of an object that the pass knows, `bytes` from the byte number `at` on,
+    /// where it is and has no pins: Version with its next version; Freed where it was freed; Range
+    /// with its length where the bytes go past its end; Pinned with the count of its pins; Worn
+    /// where its version has no next one. A far object is written by a turn of the job Write; where
+    /// it can't be brought in, the answer is why: Unavailable, NoRoom, or Worn by the count of turns.
+    /// Tries again where the object is being moved or written, or another pass came first, and where
+    /// too few spans were loose but there are so many frames that more may come. Waits.
+    pub fn write<R: Wait>(
+        &self,
+        rt: &R,
+        alloc: Global,
+        pass: &mut Pass,
+        h: Handle,
+        at: u32,
+        bytes: &[u8],
+    ) -> Result<Reply, NoMemory>
+        requires of { IsPassOf self.now pass.old }
+        requires knows { Knows h.n pass.old.seat.me.0 }
+        ensures of { IsPassOf self.now pass.new }
+        ensures write { IfOk result (λ reply. WriteAnswers self.now.config h.n at bytes.now reply
+            pass.old.seat.me.0 pass.new.seat.me.0) }
+        ensures error { OnErr result (Stops (AtThis h.n)
+            (jobs.Write (the_handle h.n) at bytes.now) pass.old.seat.me.0 pass.new.seat.me.0) }
+    {
+        for _ in rt.forever() {
+            if let Some(reply) = self.try_write(rt, alloc, pass, h, at, bytes)? {
                 return Ok(reply);
             }
             thread::yield_now();
@@ -183,6 +219,57 @@ impl Shared {
         }
     }
 
+    /// One write in place, or a turn where the object is far; None where neither answers the call.
+    fn try_write<R: Wait>(
+        &self,
+        rt: &R,
+        alloc: Global,
+        pass: &mut Pass,
+        h: Handle,
+        at: u32,
+        bytes: &[u8],
+    ) -> Result<Option<Reply>, NoMemory>
+        requires of { IsPassOf self.now pass.old }
+        requires knows { Knows h.n pass.old.seat.me.0 }
+        ensures of { IsPassOf self.now pass.new }
+        ensures write { IfOk result (λ o. WriteTries self.now.config h.n at bytes.now o
+            pass.old.seat.me.0 pass.new.seat.me.0) }
+        ensures error { OnErr result (Stops (AtThis h.n)
+            (jobs.Write (the_handle h.n) at bytes.now) pass.old.seat.me.0 pass.new.seat.me.0) }
+    {
+        let answer = self.write_here(pass, h, at, bytes);
+        if is_away(answer) {
+            return self.write_away(rt, alloc, pass, h, at, bytes);
+        }
+        Ok(reply_of(answer))
+    }
+
+    /// A turn that writes over a part of an object.
+    fn write_away<R: Wait>(
+        &self,
+        rt: &R,
+        alloc: Global,
+        pass: &mut Pass,
+        h: Handle,
+        at: u32,
+        bytes: &[u8],
+    ) -> Result<Option<Reply>, NoMemory>
+        requires of { IsPassOf self.now pass.old }
+        requires knows { Knows h.n pass.old.seat.me.0 }
+        ensures of { IsPassOf self.now pass.new }
+        ensures turn { IfOk result (λ o. TurnTries self.now.config
+            (jobs.Write (the_handle h.n) at bytes.now) o pass.old.seat.me.0 pass.new.seat.me.0) }
+        ensures error { OnErr result (Stops AtNone (jobs.Write (the_handle h.n) at bytes.now)
+            pass.old.seat.me.0 pass.new.seat.me.0) }
+    {
+        let job = Job::Write {
+            handle: h,
+            at,
+            bytes: Bytes::copy_of(alloc, bytes)?,
+        };
+        self.try_turn(rt, alloc, pass, &job)
+    }
+
     /// One read under a pin beside those of the pass.
     fn read_beside(&self, alloc: Global, pass: &mut Pass, h: Handle) -> Result<ReadAnswer, NoMemory>
         requires of { IsPassOf self.now pass.old }
@@ -247,4 +334,32 @@ fn comes_loose(config: &Config, loose: u32) -> bool
 {
     let config = *config;
     loose < config.k && 2 * config.k as u64 + MOST_HELD as u64 <= config.frames as u64
+}
+
+/// Whether a write in place found its object far.
+fn is_away(answer: WriteAnswer) -> bool
+    ensures yes { result ≡ true → answer ≡ places.NotHere }
+    ensures no { result ≡ false → answer ≡ places.NotHere → ⊥ }
+{
+    match answer {
+        WriteAnswer::NotHere => true,
+        _ => false,
+    }
+}
+
+/// The reply that says what a write in place was answered; None where it is a reason to try again.
+fn reply_of(answer: WriteAnswer) -> Option<Reply>
+    ensures some { (r : Reply) → result ≡ Some r → SaysAs answer r }
+    ensures none { result ≡ None → IsNoReply answer }
+{
+    match answer {
+        WriteAnswer::Ok { version } => Some(Reply::Version { version }),
+        WriteAnswer::Freed => Some(Reply::Freed),
+        WriteAnswer::Range { len } => Some(Reply::Range { len }),
+        WriteAnswer::Pinned { count } => Some(Reply::Pinned { count }),
+        WriteAnswer::Worn => Some(Reply::Worn),
+        WriteAnswer::NotHere => None,
+        WriteAnswer::Moving => None,
+        WriteAnswer::Raced { .. } => None,
+    }
 }
