@@ -90,7 +90,7 @@ vain_look h word job = record {
 
 -- ---- turns that came to nothing
 make_none : (bytes : List ℕ) (r : Reply) (more : List Entry)
-    → ((h : _) (v : ℕ) → r ≡ answer.Made h v → ⊥) → MakeWrites bytes r more → more ≡ []
+    → ((h : Handle) (v : ℕ) → r ≡ answer.Made h v → ⊥) → MakeWrites bytes r more → more ≡ []
 make_none bytes (answer.Made h v) more off w = absurd (off h v refl)
 make_none bytes r more off w = w
 
@@ -111,7 +111,7 @@ later_none job answer.Freed v d none x =
     subst (λ (o : Option ℕ). FindsFreed o v d) (none refl) x
 later_none job r v d none x = x
 
-made_none : (r : Reply) → ((h : _) (v : ℕ) → r ≡ answer.Made h v → ⊥) → made_in (Some r) ≡ []
+made_none : (r : Reply) → ((h : Handle) (v : ℕ) → r ≡ answer.Made h v → ⊥) → made_in (Some r) ≡ []
 made_none (answer.Made h v) off = absurd (off h v refl)
 made_none r off = refl
 
@@ -131,7 +131,8 @@ pub turn_vain : (c : Config) (job : Job) (r : Reply) (v : View) (d : Part) → I
     → (IsAnswerTo c job r → ⊥) → TurnAdds c job (Ok r) v d
     → IsInVain AtNone job d × (made_by job (Some r) ≡ [])
 turn_vain c (jobs.Make bytes) r v d called off x =
-    let other = λ h w (e : r ≡ answer.Made h w). off (subst (IsAnswerTo c (jobs.Make bytes)) (sym e) (inl tt)) in (
+    let other : (h : Handle) (w : ℕ) → r ≡ answer.Made h w → ⊥ =
+    λ h w e. off (subst (IsAnswerTo c (jobs.Make bytes)) (sym e) (inl tt)) in (
       vain_turn c (jobs.Make bytes) (Ok r) v d x (make_none bytes r x.more other x.wrote) x.reads
           (later_none (jobs.Make bytes) r _ x.later (λ _. refl) x.finds),
       made_none r other,
