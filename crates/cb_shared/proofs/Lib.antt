@@ -13,6 +13,8 @@ pub mod ReadBytes
 pub mod ReadSteps
 pub mod Tallying
 pub mod FirstPin
+pub mod MadeFirst
+pub mod Rights
 pub mod AfterTurn
 pub mod Mapped
 pub mod Turns
@@ -27,3 +29,4 @@ pub mod WorkedGround
 pub mod WorkedPins
 pub mod WorkedWrites
 pub mod WorkedPasses
+pub mod WorkedTurns

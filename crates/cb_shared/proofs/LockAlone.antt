@@ -30,13 +30,14 @@ takes_lock_at first c k key slots id old me live even =
     (takes_lock Did first c slots id me old live even)
 
 may_give : (c : Config) (job : Job) (reply : Option Reply) (me : Sat) (far : FarState)
-    → IsEnding c job reply far me.0 → MayGive Did c job reply far [] me.0
+    → IsEnding c job reply far me.0 → MayGive Did c job reply far [] (made_by job reply) me.0
 may_give c job reply me far e = record {
   holds = e.holds;
   stood = e.stood;
   adds = e.adds;
   did = e.did;
   found = tt;
+  makes = e.makes;
 }
 
 pub gives_lock_at : (first : ℕ) (c k : Config) → k ≡ c → (slots id : ℕ) (me : Sat) (job j : Job)
@@ -72,11 +73,11 @@ gives_far c job j reply r ej er far p q key table id h = record {
       (p.me.0.fresh ++ p.me.0.written)) key h.written;
 }
 
-slot_in : Slot → List (ℕ × Slot) → Slot
+abbrev slot_in : Slot → List (ℕ × Slot) → Slot
 slot_in d [] = d
 slot_in d (x ∷ xs) = x.1
 
-far_in : FarState → Slot → FarState
+abbrev far_in : FarState → Slot → FarState
 far_in d None = d
 far_in d (Some f) = f
 

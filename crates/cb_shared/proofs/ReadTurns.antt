@@ -43,14 +43,14 @@ use Rattle.cb_shared.proofs.AfterTurn.{acted_is, after_events, after_runs}
 use Rattle.cb_shared.proofs.ReadParts.{grown_nothing}
 
 -- ---- the first part tells neither of bytes nor of many pins
-absent_plain : (r : Reply) (q : State) (h : ℕ) (es : List Event)
-    → AnsweredAs q (λ w. r ≡ answer.Stays) 0 h es r → TellsNoPin (Ok r)
-absent_plain r state.Empty h es (zero, told, is) = subst (λ (x : Reply). TellsNoPin (Ok x)) (sym is) tt
-absent_plain r state.Empty h es (suc v, told, is) =
+absent_plain : (r : Reply) (q : State) (w h : ℕ) (es : List Event)
+    → AnsweredAs q (λ v. r ≡ answer.Stays) w h es r → TellsNoPin (Ok r)
+absent_plain r state.Empty w h es (zero, told, is) = subst (λ (x : Reply). TellsNoPin (Ok x)) (sym is) tt
+absent_plain r state.Empty w h es (suc v, told, is) =
     subst (λ (x : Reply). TellsNoPin (Ok x)) (sym is) tt
-absent_plain r state.Far h es is = subst (λ (x : Reply). TellsNoPin (Ok x)) (sym is) tt
-absent_plain r state.Here h es is = subst (λ (x : Reply). TellsNoPin (Ok x)) (sym is) tt
-absent_plain r state.Moving h es is = subst (λ (x : Reply). TellsNoPin (Ok x)) (sym is) tt
+absent_plain r state.Far w h es is = subst (λ (x : Reply). TellsNoPin (Ok x)) (sym is) tt
+absent_plain r state.Here w h es is = subst (λ (x : Reply). TellsNoPin (Ok x)) (sym is) tt
+absent_plain r state.Moving w h es is = subst (λ (x : Reply). TellsNoPin (Ok x)) (sym is) tt
 
 swap_plain : (h : ℕ) (a b : Holding Slate) (r : Reply) → Swaps slate_run slate_shows h a r b
     → TellsNoPin (Ok r)
@@ -68,7 +68,7 @@ bring_plain c h a b r (won m n id x e again off) = swap_plain h n b r again
 come_plain : (c : Config) (h : ℕ) (a b : Holding Slate) (r : Reply)
     → ComesIn slate_run slate_shows c h a r b → TellsNoPin (Ok r)
 come_plain c h a b r (not_far x off) = let z = x.rule.1 in
-    absent_plain r (state_of z.word) h x.events z.answer
+    absent_plain r (state_of z.word) z.word h x.events z.answer
 come_plain c h a b r (was_far m x bring) = bring_plain c h m b r bring
 
 first_plain : (c : Config) (handle : Handle) (a b : Holding Slate) (r : Reply)
@@ -276,13 +276,9 @@ no_frame_read c h (Ok r) m q (d, moves, quiet, range, tries) = λ e. subst IsRea
 no_frame_read c h (Err e) m q tries = tt
 
 -- the seat knows and pins what it did
-pub knows_come : (h : ℕ) (p m : Place) (es : List Event) → Runs p es m → p.me.0.fresh ≡ []
-    → m.me.0.fresh ≡ [] → Knows h p.me.0 → Knows h m.me.0
-knows_come h p m es runs none after knows =
-    let e : m.me.0 ≡ after_events es p.me.0 = after_runs p m es runs in
-    subst (Knows h) (sym e) (subst (λ (l : List Entry). Knows h (record (after_events es p.me.0) {
-      fresh = l;
-    })) (none ∙ sym (sym (ap (λ (v : View). v.fresh) e) ∙ after)) knows)
+pub knows_come : (h : ℕ) (p m : Place) (es : List Event) → Runs p es m → Knows h p.me.0
+    → Knows h m.me.0
+knows_come h p m es runs knows = subst (Knows h) (sym (after_runs p m es runs)) knows
 
 pub few_come : (p m : Place) (es : List Event) → Runs p es m → length p.me.0.pins ≤ 16
     → length m.me.0.pins ≤ 16
@@ -317,5 +313,5 @@ work_done c job r took gave p q other t =
   where
     reads_none : (job : Job) → IsNoRead job → (r : Result Reply NoMemory) (u : View)
         → JobReads job r u nothing_more
-    reads_none (Read handle) no r u = absurd no
-    reads_none job no r u = refl
+    reads_none (Read handle) never r u = absurd never
+    reads_none job never r u = refl

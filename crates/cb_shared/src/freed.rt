@@ -46,8 +46,9 @@ pub(crate) fn find_freed<R: Wait>(
     requires knows { KnowsIt freed seat.old.me.0 }
     ensures { FreedMoves config.now freed seat.old seat.new }
 {
-    if let Some(h) = freed {
-        look_freed(rt, top, seat, config, h);
+    match freed {
+        Some(h) => look_freed(rt, top, seat, config, h),
+        None => {}
     }
 }
 

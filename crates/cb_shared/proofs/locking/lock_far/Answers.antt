@@ -8,19 +8,21 @@ pub loop-init : goal.loop-init
 loop-init g c = ((refl, refl, refl), (let z : 0 ≤ 100 = omega arith in z))
 
 pub try_far-requires : goal.try_far-requires
-try_far-requires g c = of_moves c.args.top.now.table_id c.args.top.now.key c.args.config.now
-    c.args.seat.now c.loop.seat c.args.seat.now.me.0 c.requires.of c.loop.invariant.0 refl refl
+try_far-requires g c = record {
+  of = of_moves c.args.top.now.table_id c.args.top.now.key c.args.config.now c.args.seat.now
+      c.loop.seat c.args.seat.now.me.0 c.requires.of c.loop.invariant.0 refl refl;
+}
 
-pub returns-in-Some : goal.returns-in-Some
-returns-in-Some g c = takes_from c.args.config.now c.in-Some.far c.args.seat.now c.loop.seat
-    c.try_far.new.seat c.loop.invariant.0 (c.try_far.ensures.took c.in-Some.far c.in-Some.is)
+pub returns-in-Some-try_far : goal.returns-in-Some-try_far
+returns-in-Some-try_far g c = takes_from c.args.config.now c.in-Some-try_far.far c.args.seat.now c.loop.seat
+    c.try_far.new.seat c.loop.invariant.0 (c.try_far.ensures.took c.in-Some-try_far.far c.in-Some-try_far.is)
 
 pub loop-preserved : goal.loop-preserved
-loop-preserved g c = let i = c.loop.invariant.0 in let m = c.try_far.ensures.held c.in-None.is in (
+loop-preserved g c = let i = c.loop.invariant.0 in let m = c.try_far.ensures.held c.in-None-try_far.is in (
   (
     m.0 ∙ i.0,
     m.1 ∙ i.1,
     m.2 ∙ i.2,
   ),
-  c.pause-spins.ensures,
+  c.pause-spins.ensures.few,
 )

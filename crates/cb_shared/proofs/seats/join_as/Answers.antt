@@ -9,7 +9,8 @@ join_seat-requires g c = let o = c.requires.other in (
   o.carries,
   (let z = c.requires.of.words in omega arith),
   joins_at c.args.top.now.key.first c.args.config.now _ _ _ _ _ _ c.requires.of.key
-      c.requires.picks c.requires.of.live o.free o.no_pins,
+      c.requires.picks c.requires.of.live o.free o.no_pins
+      c.requires.fresh,
 )
 
 pub returns : goal.returns

@@ -1,5 +1,5 @@
 use Rattle.cb_rule.proofs.Laws.{opens}
-use Rattle.std.proofs.Common.{◌<◌, sym, subst, arith}
+use Rattle.std.proofs.Common.{sym, subst}
 use Rattle.std.specs.Prelude.{Option}
 use Rattle.std.proofs.Common.{List}
 use Rattle.atomic_table.specs.Table.{opening}
@@ -15,4 +15,4 @@ new-requires c = let a = c.args.about.now in
     subst (λ (xs : List Slot). Ruled (Locked Did) a.first a.config
     (opening c.args.words.now xs (opener a.config))) (sym c.in_ok-slots.ensures)
     (opens a.first c.requires.first a.config c.args.words.now c.requires.long c.requires.zeros
-    (let d : 0 < 1 = omega arith in d) Did c.requires.accepted)
+    Did c.requires.accepted)

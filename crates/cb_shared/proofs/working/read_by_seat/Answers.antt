@@ -27,7 +27,7 @@ read_tried-requires-clause-of g c = of_runs c.args.top.now.table_id c.args.top.n
 pub read_tried-requires-clause-knows : goal.read_tried-requires-clause-knows
 read_tried-requires-clause-knows g c = let b = c.bring_by_seat-place.ensures.bring in
     knows_come c.args.h.n c.args.seat.now c.bring_by_seat-place.new.seat b.events b.runs
-    c.requires.begins.fresh b.fresh c.requires.knows
+    c.requires.knows
 
 pub read_tried-requires-clause-few : goal.read_tried-requires-clause-few
 read_tried-requires-clause-few g c = let b = c.bring_by_seat-place.ensures.bring in

@@ -18,14 +18,14 @@ pub read_pinned-requires-clause-few : goal.read_pinned-requires-clause-few
 read_pinned-requires-clause-few g c = let i = c.loop.invariant in
     looks_few c.args.h c.args.seat.now c.loop.seat i.0 i.2 c.requires.few
 
-pub returns-in-Some : goal.returns-in-Some
-returns-in-Some g c = let i = c.loop.invariant in
-    try_ends c.args.config.now c.args.h c.read_pinned.result c.in-Some.reply c.args.seat.now
+pub returns-in-Some-reply_to : goal.returns-in-Some-reply_to
+returns-in-Some-reply_to g c = let i = c.loop.invariant in
+    try_ends c.args.config.now c.args.h c.read_pinned.result c.in-Some-reply_to.reply c.args.seat.now
     c.loop.seat c.read_pinned.new.seat i.0 c.requires.handle i.1 i.2 c.read_pinned.ensures.read c.read_pinned.ensures.error
-    (c.reply_to.ensures.done c.in-Some.reply c.in-Some.is)
+    (c.reply_to.ensures.done c.in-Some-reply_to.reply c.in-Some-reply_to.is)
 
 pub loop-preserved : goal.loop-preserved
 loop-preserved g c = let i = c.loop.invariant in
     try_lost c.args.h c.read_pinned.result c.args.seat.now c.loop.seat
     c.read_pinned.new.seat i.0 i.1 i.2 c.read_pinned.ensures.read
-    (c.reply_to.ensures.again c.in-None.is)
+    (c.reply_to.ensures.again c.in-None-reply_to.is)

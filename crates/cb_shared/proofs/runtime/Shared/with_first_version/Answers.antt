@@ -22,7 +22,7 @@ open_board-requires-clause-zeros c i =
 
 pub returns : goal.returns
 returns c =
-    let cfg = c.args.config in let t = c.in_ok-open_board.ensures in record {
+    let cfg = c.args.config in let t = c.in_ok-board.ensures in record {
       begun = record {
         config = refl;
         first_is = ap (λ (k : Setup). k.first) t.key;
