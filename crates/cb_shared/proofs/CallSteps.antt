@@ -15,7 +15,7 @@ use Rattle.cb_core.specs.TurnLeaves.{FreeWrites, MakeWrites, WriteWrites}
 use Rattle.cb_rule.specs.declared.view.Look.{Look}
 use Rattle.cb_rule.specs.declared.view.View.{View}
 use Rattle.cb_rule.specs.Lists.{Each, Has}
-use Rattle.cb_rule.specs.Steps.{look_at}
+use Rattle.cb_rule.specs.Steps.{Knows, look_at}
 use Rattle.cb_shared.specs.Calls.{AsksFor, AtNone, AtThis, EndsAtLast, IsAnswer, IsAnswerTo, IsCalled, IsInVain, ReadEnds, ReadGives, ReadTries, Stops, TurnEnds, TurnGives, TurnTries, the_handle}
 use Rattle.cb_shared.specs.Parts.{Part, Grows, grown, nothing_more, sum}
 use Rattle.cb_shared.specs.declared.reading.ReadAnswer.{ReadAnswer}
@@ -23,7 +23,6 @@ use Rattle.cb_shared.specs.declared.reading.ReadAnswer.TheVariants as found
 use Rattle.cb_shared.specs.Reading.{FindsOther, FindsWord, ReadFinds, looked}
 use Rattle.cb_shared.specs.Turning.{FindsFreed, KnowsIt, TurnAdds, TurnBy, answer_of, freed_of, made_by, made_in, object_of, turn_part, with_own}
 use Rattle.cb_shared.proofs.ReadParts.{grown_nothing, grown_sum}
-use Rattle.cb_shared.proofs.TurnEnds.{know_more}
 
 each_both : {A : Type 0} (P : A → Type 0) (xs ys : List A) → Each P xs → Each P ys
     → Each P (xs ++ ys)
@@ -315,10 +314,22 @@ away_tries c h a (Some r) v w u is (d, grew, f) (e, ends, next) =
 pub so_far : (on : ℕ → Type 0) (job : Job) (v : View) → Stops on job v v
 so_far on job v = (nothing_more, vain_none on job, grown_nothing v)
 
-pub known_still : (on : ℕ → Type 0) (job : Job) (o : Option ℕ) (v w : View) → v.fresh ≡ []
+has_behind : {A : Type 0} (x : A) (xs ys : List A) → Has x ys → Has x (xs ++ ys)
+has_behind x [] ys has = has
+has_behind x (y ∷ xs) ys has = inr (has_behind x xs ys has)
+
+known_grown : (h : ℕ) (d : Part) (v : View) → Knows h v → Knows h (grown d v)
+known_grown h d v (inl (e, has, is)) = inl (e, has_behind e d.written v.written has, is)
+known_grown h d v (inr (s, has, is)) = inr (s, has_behind s d.seen v.seen has, is)
+
+know_grown : (o : Option ℕ) (d : Part) (v : View) → KnowsIt o v → KnowsIt o (grown d v)
+know_grown None d v knows = tt
+know_grown (Some h) d v knows = known_grown h d v knows
+
+pub known_still : (on : ℕ → Type 0) (job : Job) (o : Option ℕ) (v w : View)
     → KnowsIt o v → Stops on job v w → KnowsIt o w
-known_still on job o v w none knows (d, x, grew) =
-    subst (KnowsIt o) (sym grew) (know_more o [] d v none knows)
+known_still on job o v w knows (d, x, grew) =
+    subst (KnowsIt o) (sym grew) (know_grown o d v knows)
 
 pub stops_then : (on : ℕ → Type 0) (job : Job) (v w u : View) → Stops on job v w
     → Stops on job w u → Stops on job v u

@@ -6,7 +6,7 @@ ghost use Rattle.cb_types.specs.declared.reply.Reply.{Reply};
 ghost use Rattle.cb_shared.specs.declared.answers.WriteAnswer.TheVariants as places;
 ghost use Rattle.cb_core.specs.Jobs.{IsJob};
 ghost use Rattle.cb_rule.specs.Steps.{Knows};
-ghost use Rattle.cb_shared.specs.Calls.{AtNone, AtThis, IsAnswerTo, IsCalled, IsLack, IsNoReply, ReadGives, ReadTries, SaysAs, Stops, TellsOfIt, TurnGives, TurnTries, WriteAnswers, WriteTries, may_come_loose, the_handle};
+ghost use Rattle.cb_shared.specs.Calls.{AtNone, AtThis, IsAnswerTo, IsCalled, IsLack, IsNoReply, ReadGives, ReadTries, SaysAs, Stops, TellsOfIt, TurnGives, TurnTries, WriteAnswers, WriteTries, is_to_try_again, may_come_loose, the_handle};
 ghost use Rattle.cb_shared.specs.Parts.{Part, Grows};
 ghost use Rattle.cb_shared.specs.Passes.{IsPassOf};
 ghost use Rattle.cb_shared.specs.Reading.{ReadFinds, looked};
@@ -137,6 +137,18 @@ impl Shared {
             pass.new.seat.me.0) }
     {
         self.turn_until(rt, alloc, pass, &Job::Free { handle: h })
+    }
+
+    /// Whether a turn with this reply was refused for want of loose spans alone and is made again,
+    /// as the calls above do: with so many frames more spans may come loose. Takes no memory and
+    /// waits for nobody.
+    pub fn is_to_try_again(&self, reply: &Reply) -> bool
+        ensures { result ≡ is_to_try_again self.now.config (Some reply.now) }
+    {
+        match reply {
+            Reply::NoRoom { loose, .. } => comes_loose(&self.config, *loose),
+            _ => false,
+        }
     }
 
     /// Turns of a job until one answers the call.

@@ -110,19 +110,6 @@ impl<'a, R: Wait> Desk for SeatDesk<'a, R> {
     ) };
 }
 
-/// Lets go of a desk.
-pub(crate) fn end_desk<'a, R: Wait>(desk: SeatDesk<'a, R>)
-    ensures { desk.exit.1.now ≡ desk.entry.seat.now }
-{
-    let SeatDesk {
-        rt: _,
-        config: _,
-        top: _,
-        seat: _,
-        allowed: _,
-    } = desk;
-}
-
 /// Goes on where the object is the one that the turn may write. No turn stores the version word of
 /// another, but the desk can't tell that of the calls that are made at it; and what a pass reads of
 /// its own objects rests on it that no other pass writes them. So a turn that came here with another

@@ -17,7 +17,7 @@ ghost use Rattle.cb_shared.specs.UnderLock.{BringAt, CameThere, IsBeginning, IsN
 
 use crate::board::{Place, Top};
 use crate::reading::{ReadAnswer, read_pinned};
-use crate::seat_desk::{SeatDesk, end_desk};
+use crate::seat_desk::SeatDesk;
 use cb_core::{bring_to_read, turn};
 use cb_types::{Config, Handle, Job, NoMemory, Reply};
 use cb_world::Far;
@@ -93,7 +93,13 @@ fn turn_by_seat<R: Wait>(
         allowed,
     };
     let reply = turn_at_desk(&mut desk, far, alloc, job);
-    end_desk(desk);
+    let SeatDesk {
+        rt: _,
+        config: _,
+        top: _,
+        seat: _,
+        allowed: _,
+    } = desk;
     reply
 }
 
@@ -203,7 +209,13 @@ fn bring_by_seat<R: Wait>(
         allowed: None,
     };
     let reply = bring_at_desk(&mut desk, far, h);
-    end_desk(desk);
+    let SeatDesk {
+        rt: _,
+        config: _,
+        top: _,
+        seat: _,
+        allowed: _,
+    } = desk;
     reply
 }
 

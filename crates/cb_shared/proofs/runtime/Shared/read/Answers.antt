@@ -16,7 +16,7 @@ try_read-requires-clause-of g c = c.loop.invariant.0
 pub try_read-requires-clause-knows : goal.try_read-requires-clause-knows
 try_read-requires-clause-knows g c = known_still (AtThis c.args.h.n)
     (jobs.Swap (the_handle c.args.h.n)) (Some c.args.h.n) c.args.pass.now.seat.me.0
-    c.loop.pass.seat.me.0 c.requires.of.rest.fresh c.requires.knows c.loop.invariant.1
+    c.loop.pass.seat.me.0 c.requires.knows c.loop.invariant.1
 
 pub returns-in_err-reply-clause-error : goal.returns-in_err-reply-clause-error
 returns-in_err-reply-clause-error g c = err_always c.from_residual.result _

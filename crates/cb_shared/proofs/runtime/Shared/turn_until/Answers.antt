@@ -12,7 +12,7 @@ try_turn-requires-clause-of g c = c.loop.invariant.0
 
 pub try_turn-requires-clause-knows : goal.try_turn-requires-clause-knows
 try_turn-requires-clause-knows g c = known_still AtNone c.args.job.now (object_of c.args.job.now)
-    c.args.pass.now.seat.me.0 c.loop.pass.seat.me.0 c.requires.of.rest.fresh c.requires.knows
+    c.args.pass.now.seat.me.0 c.loop.pass.seat.me.0 c.requires.knows
     c.loop.invariant.1
 
 pub returns-in_err-reply-clause-error : goal.returns-in_err-reply-clause-error

@@ -18,7 +18,7 @@ try_write-requires-clause-of g c = c.loop.invariant.0
 pub try_write-requires-clause-knows : goal.try_write-requires-clause-knows
 try_write-requires-clause-knows g c = known_still (AtThis c.args.h.n)
     (jobs.Write (the_handle c.args.h.n) c.args.at c.args.bytes.now) (Some c.args.h.n)
-    c.args.pass.now.seat.me.0 c.loop.pass.seat.me.0 c.requires.of.rest.fresh c.requires.knows
+    c.args.pass.now.seat.me.0 c.loop.pass.seat.me.0 c.requires.knows
     c.loop.invariant.1
 
 pub returns-in_err-reply-clause-error : goal.returns-in_err-reply-clause-error
