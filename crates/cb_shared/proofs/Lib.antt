@@ -30,3 +30,5 @@ pub mod WorkedPins
 pub mod WorkedWrites
 pub mod WorkedPasses
 pub mod WorkedTurns
+pub mod WorkedReads
+pub mod WorkedCalls
