@@ -1,5 +1,5 @@
 -- Worked calls that try again: what meets each definition, and what breaks one of its parts alone.
-use Rattle.std.proofs.Common.{◌≡◌, ℕ, true, false, List, [], ◌∷◌, length, Option, None, Some, refl, sym, ap, ◌∙◌, subst, inl, inr, arith}
+use Rattle.std.proofs.Common.{◌≡◌, ℕ, true, false, List, [], ◌∷◌, length, Option, None, Some, refl, sym, ap, ◌∙◌, subst, inl, inr, arith, lit≤}
 use Rattle.std.proofs.lemmas.Bool.{eqb-false, false≢true}
 use Rattle.cb_types.specs.declared.config.Config.{Config}
 use Rattle.cb_types.specs.declared.job.Job.TheVariants as jobs
