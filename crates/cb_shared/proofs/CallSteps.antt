@@ -139,9 +139,11 @@ turn_vain c (jobs.Make bytes) r v d called off x =
 turn_vain c (jobs.Write handle at bytes) r v d called off x = (
   vain_turn c (jobs.Write handle at bytes) (Ok r) v d x
       (write_none handle.n at bytes r x.more
-      (λ w e. off (subst (IsAnswerTo c (jobs.Write handle at bytes)) (sym e) (inl tt))) x.wrote) x.reads
+      (λ w e. off (subst (IsAnswerTo c (jobs.Write handle at bytes)) (sym e) (inl tt))) x.wrote)
+      x.reads
       (later_none (jobs.Write handle at bytes) r _ x.later
-      (λ e. absurd (off (subst (IsAnswerTo c (jobs.Write handle at bytes)) (sym e) (inl tt)))) x.finds),
+      (λ e. absurd (off (subst (IsAnswerTo c (jobs.Write handle at bytes)) (sym e) (inl tt))))
+      x.finds),
   refl,
 )
 turn_vain c (jobs.Free handle) r v d called off x = (
@@ -356,6 +358,7 @@ turn_again c job o v w u is x y = stops_then AtNone job v w u x
 pub turn_at_last : (c : Config) (job : Job) (o : Option Reply) (r : Reply) (v w u : View)
     → o ≡ Some r → Stops AtNone job v w → TurnTries c job o w u → TurnGives c job r v u
 turn_at_last c job o r v w u is (d, x, grew) y =
-    let z : TurnTries c job (Some r) w u = subst (λ (q : Option Reply). TurnTries c job q w u) is y in
+    let z : TurnTries c job (Some r) w u =
+    subst (λ (q : Option Reply). TurnTries c job q w u) is y in
     ends_after AtNone job (TurnEnds c job r) (with_own (made_by job (Some r))) v w u d z.0
     x grew z.1 z.2

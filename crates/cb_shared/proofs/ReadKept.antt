@@ -64,7 +64,8 @@ kept_part c p q d rest m x = record {
     out = rest.out;
     fresh = rest.fresh;
     written = subst (λ (l : List Entry).
-        Each (λ (e : Entry). e.handle < c.handles) (l ++ p.me.0.written)) (sym x.wrote) rest.written;
+        Each (λ (e : Entry). e.handle < c.handles) (l ++ p.me.0.written)) (sym x.wrote)
+        rest.written;
     seen = each_both (λ (s : Seen). s.handle < c.handles) d.seen p.me.0.seen x.seen rest.seen;
     pins = rest.pins;
   };

@@ -64,7 +64,13 @@ swap_tells_nothing x = x
 
 -- ---- tries that came to nothing
 in_vain : IsInVain (AtThis 1) (jobs.Swap (the_handle 1)) (looked 1 moving)
-in_vain = record { looks = look_at 1 moving ∷ []; turns = []; at = (refl, tt); of = tt; part = refl }
+in_vain = record {
+  looks = look_at 1 moving ∷ [];
+  turns = [];
+  at = (refl, tt);
+  of = tt;
+  part = refl;
+}
 
 at_another : IsInVain (AtThis 1) (jobs.Swap (the_handle 1)) (looked 0 moving) → ⊥
 at_another x = eqb-false 0 1 refl (subst (Each (λ (l : Look). AtThis 1 l.handle))

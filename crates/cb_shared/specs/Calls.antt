@@ -134,17 +134,17 @@ written_once h word version old new = record nothing_more {
 -- the object was here and was written: one entry, one version above the newest one, whose contents
 -- are those before with the bytes in them
 pub record IsWrittenOnce (h at : ℕ) (bytes : List ℕ) (version : ℕ) (v : View) (d : Part) : Type 0
-    where
-  pub word : ℕ
-  pub old : List ℕ
-  pub new : List ℕ
-  pub last : ℕ
-  pub room : IsRoomFor at (length bytes) word
-  pub bare : pins_of word ≡ 0
-  pub newest : IsNewest h last v
-  pub next : version ≡ last + 1
-  pub write : IsWrite old at bytes new
-  pub part : d ≡ written_once h word version old new
+  where
+    pub word : ℕ
+    pub old : List ℕ
+    pub new : List ℕ
+    pub last : ℕ
+    pub room : IsRoomFor at (length bytes) word
+    pub bare : pins_of word ≡ 0
+    pub newest : IsNewest h last v
+    pub next : version ≡ last + 1
+    pub write : IsWrite old at bytes new
+    pub part : d ≡ written_once h word version old new
 
 -- it was claimed at a version that has no next one, and put back as it was
 pub record IsWornOut (h at count : ℕ) (v : View) (d : Part) : Type 0 where
@@ -200,8 +200,8 @@ WriteAnswers c h at bytes r v w = (d : Part)
 
 -- a handle that was made is the pass's own
 abbrev pub TurnGives : Config → Job → Reply → View → View → Type 0
-TurnGives c job r v w = (d : Part)
-    × EndsAtLast AtNone job (TurnEnds c job r) v d × (w ≡ with_own (made_by job (Some r)) (grown d v))
+TurnGives c job r v w = (d : Part) × EndsAtLast AtNone job (TurnEnds c job r) v d
+    × (w ≡ with_own (made_by job (Some r)) (grown d v))
 
 -- what one try comes to: it ends so, or came to nothing
 abbrev pub TurnTries : Config → Job → Option Reply → View → View → Type 0

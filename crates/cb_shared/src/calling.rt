@@ -30,9 +30,9 @@ const MOST_HELD: u32 = 360;
 
 impl Shared {
     /// The version and the bytes of an object that the pass knows, under a pin of its own beside
-    /// those of the scope; Freed where it was freed. A far object is brought in by a turn of the job
-    /// Swap; where that can't be, the answer is why: Unavailable, NoRoom, or Worn by the count of
-    /// turns. Tries again where the object is being moved or written, has as many pins as its word
+    /// those of the scope; Freed where it was freed. A far object is brought in by a turn of the
+    /// job Swap; where that can't be, the answer is why: Unavailable, NoRoom, or Worn by the count
+    /// of turns. Tries again where the object is being moved or written, has as many pins as its word
     /// can count, or another pass came first, and where too few spans were loose but there are so
     /// many frames that more may come. Waits.
     pub fn read<R: Wait>(
@@ -63,9 +63,9 @@ impl Shared {
     /// where it is and has no pins: Version with its next version; Freed where it was freed; Range
     /// with its length where the bytes go past its end; Pinned with the count of its pins; Worn
     /// where its version has no next one. A far object is written by a turn of the job Write; where
-    /// it can't be brought in, the answer is why: Unavailable, NoRoom, or Worn by the count of turns.
-    /// Tries again where the object is being moved or written, or another pass came first, and where
-    /// too few spans were loose but there are so many frames that more may come. Waits.
+    /// it can't be brought in, the answer is why: Unavailable, NoRoom, or Worn by the count of
+    /// turns. Tries again where the object is being moved or written, or another pass came first,
+    /// and where too few spans were loose but there are so many frames that more may come. Waits.
     pub fn write<R: Wait>(
         &self,
         rt: &R,
@@ -117,8 +117,8 @@ impl Shared {
         self.turn_until(rt, alloc, pass, &job)
     }
 
-    /// Frees an object that the pass knows, by a turn of the job Free: Version with the version that
-    /// it ends at; Freed where it was freed before; Pinned with the count of its pins; Worn where
+    /// Frees an object that the pass knows, by a turn of the job Free: Version with the version
+    /// that it ends at; Freed where it was freed before; Pinned with the count of its pins; Worn where
     /// its version has no next one, or by the count of turns. Tries again while the object is being
     /// moved or written. Waits.
     pub fn free<R: Wait>(
@@ -294,13 +294,7 @@ impl Shared {
             × Grows pass.old.seat.me.0 (looked h.n word) pass.new.seat.me.0) }
     {
         count_pins(&pass.pins);
-        read_pinned(
-            &self.board.shared,
-            &mut pass.seat,
-            &self.config,
-            alloc,
-            h.n,
-        )
+        read_pinned(&self.board.shared, &mut pass.seat, &self.config, alloc, h.n)
     }
 }
 

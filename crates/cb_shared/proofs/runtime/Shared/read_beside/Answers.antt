@@ -30,13 +30,21 @@ returns-clause-of c =
 
 pub returns-clause-read : goal.returns-clause-read
 returns-clause-read c = IfOk-weaker c.read_pinned.result _ _
-    (λ a x. (x.0, view_of c.args.pass.now.seat c.read_pinned.new.seat
-    (grown x.0 c.args.pass.now.seat.me.0) x.1, x.2)) c.read_pinned.ensures.read
+    (λ a x. (
+      x.0,
+      view_of c.args.pass.now.seat c.read_pinned.new.seat
+          (grown x.0 c.args.pass.now.seat.me.0) x.1,
+      x.2,
+    )) c.read_pinned.ensures.read
 
 pub returns-clause-error : goal.returns-clause-error
 returns-clause-error c = on_err_weaker c.read_pinned.result
-    (λ x. (x.0, x.1, view_of c.args.pass.now.seat c.read_pinned.new.seat
-    (grown (looked c.args.h.n x.0) c.args.pass.now.seat.me.0) x.2)) c.read_pinned.ensures.error
+    (λ x. (
+      x.0,
+      x.1,
+      view_of c.args.pass.now.seat c.read_pinned.new.seat
+          (grown (looked c.args.h.n x.0) c.args.pass.now.seat.me.0) x.2,
+    )) c.read_pinned.ensures.error
 
 pub invariant_of-pass : goal.invariant_of-pass
 invariant_of-pass c =
