@@ -1,5 +1,5 @@
 -- What a turn leaves of the record of its pass.
-use Rattle.std.proofs.Common.{◌≡◌, ℕ, ◌+◌, ◌<◌, ◌≤◌, true, List, [], ◌∷◌, ◌++◌, length, Option, None, Some, Result, refl, sym, ap, ◌∙◌, subst, arith, append_assoc, append-nil}
+use Rattle.std.proofs.Common.{◌≡◌, ℕ, ◌+◌, ◌<◌, ◌≤◌, List, [], ◌∷◌, ◌++◌, length, Option, None, Some, Result, refl, sym, ap, ◌∙◌, subst, arith, append_assoc, append-nil}
 use Rattle.std.specs.Prelude.{IfOk}
 use Rattle.atomic_table.specs.Seated.{TableId}
 use Rattle.cb_member.specs.declared.no_memory.NoMemory.{NoMemory}
@@ -25,10 +25,10 @@ use Rattle.cb_rule.specs.Steps.{Knows, act, acted}
 use Rattle.cb_shared.specs.declared.setup.Setup.{Setup}
 use Rattle.cb_shared.specs.Parts.{Part, grown, nothing_more}
 use Rattle.cb_shared.specs.Passes.{IsAtRest}
-use Rattle.cb_shared.specs.Places.{Holds, IsOf, Moves, Place}
+use Rattle.cb_shared.specs.Places.{Holds, IsOf, Place}
 use Rattle.cb_shared.specs.SeatLaws.{Runs, acted_known, sized_after}
 use Rattle.cb_shared.specs.Turning.{Did, DidAs, KnowsIt, KnowsOf, answer_of, made_by, object_of, turn_part, with_own}
-use Rattle.cb_shared.specs.UnderLock.{GivesFar, HasSame, IsBeginning, IsEnding, IsQuiet, TakesFar, TurnWith, TurnedBy, WorkBy}
+use Rattle.cb_shared.specs.UnderLock.{GivesFar, IsBeginning, IsEnding, IsQuiet, TakesFar, TurnWith, TurnedBy, WorkBy}
 use Rattle.cb_shared.proofs.MadeFirst.{makes_own}
 
 abbrev pub after_events : List Event → View → View

@@ -26,6 +26,7 @@ pub mod ReadKept
 pub mod CallSteps
 pub mod WriteParts
 pub mod WorkedGround
+pub mod WorkedRights
 pub mod WorkedPins
 pub mod WorkedWrites
 pub mod WorkedPasses

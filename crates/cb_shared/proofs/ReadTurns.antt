@@ -1,5 +1,5 @@
 -- A turn of the job Read, in its two parts.
-use Rattle.std.proofs.Common.{◌≡◌, ℕ, zero, suc, ◌≤◌, length, List, [], ◌∷◌, ◌++◌, Option, None, Some, Result, Ok, Err, sym, refl, ap, ◌∙◌, subst, arith, inl, inr}
+use Rattle.std.proofs.Common.{◌≡◌, ℕ, zero, suc, ◌≤◌, length, List, [], None, Some, Result, Ok, Err, sym, refl, ap, ◌∙◌, subst, inl, inr}
 use Rattle.std.specs.Prelude.{IfOk}
 use Rattle.cb_member.specs.declared.no_memory.NoMemory.{NoMemory}
 use Rattle.cb_ptr.specs.declared.word.State.{State}
@@ -16,17 +16,17 @@ use Rattle.cb_world.specs.declared.event.Event.{Event}
 use Rattle.cb_world.specs.declared.shown.Shown.{Shown}
 use Rattle.cb_world.specs.FarState.{FarState}
 use Rattle.cb_world.specs.Played.{Agree, played}
-use Rattle.cb_mutate.specs.Answered.{AbsentAs, AnsweredAs}
+use Rattle.cb_mutate.specs.Answered.{AnsweredAs}
 use Rattle.cb_swapin.proofs.Laws.{by_answer}
 use Rattle.cb_core.specs.OnceHere.{IsThere}
 use Rattle.cb_core.specs.Unavailable.{TurnTells}
 use Rattle.cb_core.proofs.Laws.{IsNever, brought_tells, there_tells}
 use Rattle.cb_core.specs.OnceHere.OnceHere.{away, here}
 use Rattle.cb_core.specs.OnceHere.OnceHereStops.{bringing_stops, call_stops}
-use Rattle.cb_core.specs.Parts.{Holding, WithRoom}
+use Rattle.cb_core.specs.Parts.{Holding}
 use Rattle.cb_core.specs.Parts.WithRoom.{at_once, no_room, won}
 use Rattle.cb_core.specs.Parts.BringsIn.{not_far, was_far}
-use Rattle.cb_core.specs.ReadTurn.{BroughtToRead, StoppedToRead}
+use Rattle.cb_core.specs.ReadTurn.{BroughtToRead}
 use Rattle.cb_core.specs.ReadTurn.BroughtToRead.{worn as first_worn, done as first_done}
 use Rattle.cb_core.specs.Turned.{Brings, ComesIn, Swaps, done, worn}
 use Rattle.cb_core.specs.TurnLeaves.{OutcomeWrites}
@@ -34,10 +34,10 @@ use Rattle.cb_rule.specs.declared.view.View.{View}
 use Rattle.cb_rule.specs.Locking.{Stood}
 use Rattle.cb_rule.specs.Slot.{Sat}
 use Rattle.cb_rule.specs.Steps.{Knows, acted}
-use Rattle.cb_shared.specs.Parts.{Part, grown, nothing_more, sum}
-use Rattle.cb_shared.specs.Places.{Moves, Place}
+use Rattle.cb_shared.specs.Parts.{Part, grown, nothing_more}
+use Rattle.cb_shared.specs.Places.{Place}
 use Rattle.cb_shared.specs.SeatLaws.{Runs, acted_known}
-use Rattle.cb_shared.specs.Turning.{DidAs, IsReadReply, JobReads, Slate, TellsNoPin, Tries, answer_of, held_by, slate_run, slate_shows}
+use Rattle.cb_shared.specs.Turning.{DidAs, IsReadReply, JobReads, Slate, TellsNoPin, Tries, answer_of, slate_run, slate_shows}
 use Rattle.cb_shared.specs.UnderLock.{BringAt, Brought, CameThere, HasSame, IsNoRead, TriesOn, TurnAt, WorkBy}
 use Rattle.cb_shared.proofs.AfterTurn.{acted_is, after_events, after_runs}
 use Rattle.cb_shared.proofs.ReadParts.{grown_nothing}

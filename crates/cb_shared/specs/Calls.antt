@@ -1,6 +1,5 @@
 -- What the calls that try again until they are answered add to the record of their pass.
-use Rattle.std.specs.Prelude.{◌≡◌, ◌⊎◌, ℕ, ◌+◌, ◌*◌, ◌&&◌, ◌-◌, ◌^◌, Bool, true, false, ltb, leb, List, [], ◌∷◌, length, Option, None, Some, Result, Ok}
-use Rattle.cb_member.specs.declared.no_memory.NoMemory.{NoMemory}
+use Rattle.std.specs.Prelude.{◌≡◌, ◌⊎◌, ℕ, ◌+◌, ◌*◌, ◌&&◌, ◌-◌, ◌^◌, Bool, false, ltb, leb, List, [], ◌∷◌, length, Option, None, Some, Ok}
 use Rattle.cb_types.specs.declared.config.Config.{Config}
 use Rattle.cb_types.specs.declared.handle.Handle.{Handle}
 use Rattle.cb_types.specs.declared.job.Job.{Job}

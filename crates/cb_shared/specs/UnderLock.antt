@@ -1,5 +1,5 @@
 -- What the parts of a turn come to, from taking the far lock to giving it back.
-use Rattle.std.specs.Prelude.{◌≡◌, ℕ, ◌*◌, ◌^◌, ◌<◌, true, List, [], ◌∷◌, ◌++◌, Option, None, Some, Result, Ok, Err, IfOk}
+use Rattle.std.specs.Prelude.{◌≡◌, ℕ, ◌<◌, true, List, [], ◌∷◌, ◌++◌, Option, None, Some, Result, Ok, Err, IfOk}
 use Rattle.cb_member.specs.declared.no_memory.NoMemory.{NoMemory}
 use Rattle.cb_types.specs.declared.config.Config.{Config}
 use Rattle.cb_types.specs.declared.handle.Handle.{Handle}
@@ -169,11 +169,11 @@ FreedMoves c freed p q = (d : Part) × Moves p q (grown d p.me.0) × IsQuiet d �
 -- made has the first version.
 pub record IsEnding (c : Config) (job : Job) (r : Option Reply) (far : FarState) (v : View) : Type 0
   where
-  pub holds : v.holds ≡ true
-  pub stood : Stood c v.known far
-  pub adds : AddsTurn v.took far
-  pub did : (n : ℕ) → Did c (turn_of job r far n v)
-  pub makes : Each (λ h. Make v.known.first h v.fresh) (made_by job r)
+    pub holds : v.holds ≡ true
+    pub stood : Stood c v.known far
+    pub adds : AddsTurn v.took far
+    pub did : (n : ℕ) → Did c (turn_of job r far n v)
+    pub makes : Each (λ h. Make v.known.first h v.fresh) (made_by job r)
 
 -- the seat gave the lock back, with the far state in its slot
 pub record GivesFar (c : Config) (job : Job) (r : Option Reply) (far : FarState) (p q : Place)

@@ -1,4 +1,4 @@
-use Rattle.std.proofs.Common.{◌≡◌, ◌<◌, ◌+◌, ◌*◌, ℕ, arith}
+use Rattle.std.proofs.Common.{arith}
 use Rattle.cb_shared.proofs.SeatsAlone.{joins_at}
 use Rattle.cb_shared.proofs.seats.join_as.Goals as goal
 

@@ -11,16 +11,16 @@ pub invariant_of-self : goal.invariant_of-self
 invariant_of-self g c = let d = c.args.self.now in let z = holds_still d.top.now.table_id d.top.now.key d.config d.seat.now c.put_stamp.new.seat
     (Stamped c.args.h.n c.args.version) (holds_of d.top.now.table_id d.top.now.key d.config d.seat.now d.table d.counts d.key d.same d.live
     d.holder d.objects d.hots d.versions d.memory) c.put_stamp.ensures in record {
-  table = z.of.table;
-  counts = d.counts;
-  key = d.key;
-  same = z.of.config;
-  live = z.of.live;
-  may = rights_moved d.allowed (Stamped c.args.h.n c.args.version) d.seat.now c.put_stamp.new.seat
-      c.put_stamp.ensures tt d.may;
-  holder = z.holds;
-  objects = z.sized.objects;
-  hots = z.sized.hots;
-  versions = z.sized.versions;
-  memory = z.sized.memory;
-}
+      table = z.of.table;
+      counts = d.counts;
+      key = d.key;
+      same = z.of.config;
+      live = z.of.live;
+      may = rights_moved d.allowed (Stamped c.args.h.n c.args.version) d.seat.now c.put_stamp.new.seat
+          c.put_stamp.ensures tt d.may;
+      holder = z.holds;
+      objects = z.sized.objects;
+      hots = z.sized.hots;
+      versions = z.sized.versions;
+      memory = z.sized.memory;
+    }
