@@ -22,6 +22,9 @@ pub mod LockAlone
 pub mod ReadParts
 pub mod ReadTurns
 pub mod TurnEnds
+pub mod ReadKept
+pub mod CallSteps
+pub mod WriteParts
 pub mod WorkedGround
 pub mod WorkedRights
 pub mod WorkedPins
@@ -31,3 +34,5 @@ pub mod Filled
 pub mod Closes
 pub mod WorkedClosing
 pub mod WorkedTurns
+pub mod WorkedReads
+pub mod WorkedCalls

@@ -6,6 +6,7 @@ pub mod answers;
 mod board;
 mod closing;
 mod filling;
+pub mod calling;
 mod frames;
 mod freed;
 mod handles;

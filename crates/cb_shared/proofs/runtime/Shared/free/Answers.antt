@@ -1,0 +1,6 @@
+use Rattle.cb_shared.proofs.Resting.{known_below}
+use Rattle.cb_shared.proofs.runtime.Shared.free.Goals as goal
+
+pub turn_until-requires-clause-job : goal.turn_until-requires-clause-job
+turn_until-requires-clause-job g c = known_below c.args.self.now.config c.args.h.n
+    c.args.pass.now.seat.me.0 c.requires.of.rest c.requires.knows
