@@ -4,9 +4,9 @@
 
 pub mod answers;
 mod board;
+pub mod calling;
 mod closing;
 mod filling;
-pub mod calling;
 mod frames;
 mod freed;
 mod handles;
