@@ -22,9 +22,17 @@ pub mod LockAlone
 pub mod ReadParts
 pub mod ReadTurns
 pub mod TurnEnds
+pub mod ReadKept
+pub mod CallSteps
+pub mod WriteParts
 pub mod WorkedGround
 pub mod WorkedRights
 pub mod WorkedPins
 pub mod WorkedWrites
 pub mod WorkedPasses
+pub mod Filled
+pub mod Closes
+pub mod WorkedClosing
 pub mod WorkedTurns
+pub mod WorkedReads
+pub mod WorkedCalls

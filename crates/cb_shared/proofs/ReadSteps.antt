@@ -30,7 +30,8 @@ freed_part h n w v = let e : v.ever ≡ v.ever + 0 = omega arith in
 pub twice_part : (h saw found : ℕ) (v : View)
     → with_look h found (with_look h saw v) ≡ grown (looked_twice h saw found) v
 twice_part h saw found v = let e : v.ever ≡ v.ever + 0 = omega arith in
-    ap (λ (n : ℕ). let z : View = record (with_look h found (with_look h saw v)) { ever = n } in z) e
+    ap (λ (n : ℕ). let z : View = record (with_look h found (with_look h saw v)) { ever = n } in z)
+    e
 
 pub read_part : (h word version : ℕ) (words : List ℕ) (v : View)
     → with_read h word version words (with_look h word v) ≡ grown (read_once h word version words) v
@@ -107,7 +108,8 @@ at_word h saw (Bytes version bytes) p q r g here x =
 at_word h saw (Raced seen found) p q r g here x =
     let m = g.other (λ e. here_empty (sym here ∙ e)) in (
       looked_twice h saw found,
-      moves_as p r (with_look h found (with_look h saw p.me.0)) (grown (looked_twice h saw found) p.me.0)
+      moves_as p r (with_look h found (with_look h saw p.me.0))
+          (grown (looked_twice h saw found) p.me.0)
           (moves_then p q r (with_look h found) (with_look h saw p.me.0) m x.2)
           (twice_part h saw found p.me.0),
       (λ e. x.1 (e ∙ x.0), ap (λ (n : ℕ). looked_twice h n found) (sym x.0)),

@@ -174,6 +174,13 @@ SaysAs (place.Pinned count) r = r ≡ answer.Pinned count
 SaysAs place.Worn r = r ≡ answer.Worn
 SaysAs other r = ⊥
 
+-- it is one
+abbrev pub IsNoReply : WriteAnswer → Type 0
+IsNoReply place.NotHere = Unit {0}
+IsNoReply place.Moving = Unit {0}
+IsNoReply (place.Raced saw found) = Unit {0}
+IsNoReply other = ⊥
+
 -- The last try of a write: in place, or by a turn where a look found the object far.
 abbrev pub WriteEnds : Config → ℕ → ℕ → List ℕ → Reply → View → Part → Type 0
 WriteEnds c h at bytes r v d =
@@ -192,8 +199,8 @@ WriteAnswers c h at bytes r v w = (d : Part)
 
 -- a handle that was made is the pass's own
 abbrev pub TurnGives : Config → Job → Reply → View → View → Type 0
-TurnGives c job r v w = (d : Part)
-    × EndsAtLast AtNone job (TurnEnds c job r) v d × (w ≡ with_own (made_by job (Some r)) (grown d v))
+TurnGives c job r v w = (d : Part) × EndsAtLast AtNone job (TurnEnds c job r) v d
+    × (w ≡ with_own (made_by job (Some r)) (grown d v))
 
 -- what one try comes to: it ends so, or came to nothing
 abbrev pub TurnTries : Config → Job → Option Reply → View → View → Type 0

@@ -13,5 +13,7 @@ pub mod PinLoads
 pub mod Reading
 pub mod Turning
 pub mod UnderLock
+pub mod Sealing
+pub mod Closing
 pub mod Rights
 pub mod Calls

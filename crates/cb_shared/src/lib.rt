@@ -4,6 +4,9 @@
 
 pub mod answers;
 mod board;
+pub mod calling;
+mod closing;
+mod filling;
 mod frames;
 mod freed;
 mod handles;
@@ -14,7 +17,9 @@ mod pinning;
 mod pins;
 mod plays;
 mod reading;
+pub mod refused;
 pub mod runtime;
+pub mod seal;
 mod seat_desk;
 mod seats;
 mod setup;
@@ -26,4 +31,6 @@ mod writing;
 
 pub use answers::{PinAnswer, WriteAnswer};
 pub use pass::{Pass, Pin};
+pub use refused::CloseRefused;
 pub use runtime::Shared;
+pub use seal::Seal;

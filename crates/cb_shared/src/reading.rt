@@ -39,8 +39,8 @@ pub enum ReadAnswer {
 }
 
 /// Reads an object that the seat knows, where it is here: one load of its word, one exchange that
-/// takes a pin, one load of its version and one of each of its words, and one subtraction that gives
-/// the pin back. Takes the memory of its bytes before the pin; where there is none it has looked at
+/// takes a pin, one load of its version and one of each of its words, and one subtraction that
+/// gives the pin back. Takes the memory of its bytes before the pin; where there is none it has looked at
 /// the word alone.
 pub(crate) fn read_pinned(
     top: &Top,
@@ -125,7 +125,8 @@ fn read_at(
 /// Loads the words of a pinned object, which lies at this place, into the room for its bytes.
 fn load_into(top: &Top, seat: &mut Place, config: &Config, place: u32, room: &mut Bytes)
     requires of { IsOf top.now.table_id top.now.key config.now seat.old }
-    requires inside { (j : ℕ) → j < words_for (length room.old) → place + j < 512 * config.now.frames }
+    requires inside { (j : ℕ) → j < words_for (length room.old)
+        → place + j < 512 * config.now.frames }
     requires pin { (p : Stand) × IsUnderPin p place (length room.old) seat.old }
     ensures same { Moves seat.old seat.new seat.old.me.0 }
     ensures bytes { (p : Stand) → IsUnderPin p place (length room.old) seat.old

@@ -93,7 +93,7 @@ fn split_seat(top: &Top, seat: &mut Place, config: &Config, share: u32) -> Place
 }
 
 /// Gives all pins of a pass back.
-fn give_back(top: &Top, pass: &mut Pass, config: &Config)
+pub(crate) fn give_back(top: &Top, pass: &mut Pass, config: &Config)
     requires of { IsOf top.now.table_id top.now.key config.now pass.old.seat }
     requires pins { Each (PinFits config.now) pass.old.seat.me.0.pins }
     ensures { Moves pass.old.seat pass.new.seat (unpinned_all pass.old.seat.me.0) }

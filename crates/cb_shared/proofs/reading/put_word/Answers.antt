@@ -2,7 +2,8 @@ use Rattle.std.proofs.Common.{◌+◌, ◌*◌, ◌-◌, ◌≤◌, ◌<◌, ◌
 use Rattle.cb_shared.proofs.ReadBytes.{replaced_inside, replaced_length, replaced_outside}
 use Rattle.cb_shared.proofs.reading.put_word.Goals as goal
 
-fits : (c : goal.After-overwrite) → 8 * c.args.i + c.most_of_word-end.result ≤ length c.args.room.now
+fits : (c : goal.After-overwrite)
+    → 8 * c.args.i + c.most_of_word-end.result ≤ length c.args.room.now
 fits c = let f = c.most_of_word-end.ensures.fits in let w = c.requires.within in
     let l = c.len.ensures in omega (arith, f, w, l)
 

@@ -1,0 +1,100 @@
+-- Lists that are filled one by one from a part of another list.
+use Rattle.std.proofs.Common.{◌≡◌, ℕ, zero, suc, ◌+◌, ◌*◌, ◌<◌, ◌≤◌, List, [], ◌∷◌, length, get_or, set, sym, refl, ap, ◌∙◌, arith, true≢false, Bool, true, false, Some, None, length-set, get_or-set_other, get_or-set_same}
+use native.Mathlib.Decide.{ℕ_discrete}
+use mathlib.Core.Option.{some, some-injective, some-ne-none}
+use lib.ListN.{get_elem?}
+use Rattle.cb_types.specs.declared.config.Config.{Config}
+use Rattle.cb_world.specs.FarState.{FarState}
+use Rattle.cb_world.specs.Memory.{window}
+use Rattle.cb_world.specs.Plain.{IsSized, Words}
+use Rattle.cb_world.specs.StillDesk.{window_length}
+use Rattle.cb_world.proofs.Laws.{window_at}
+use Rattle.cb_rule.specs.Closing.{desk_of}
+use Rattle.cb_rule.specs.Slot.{Slot}
+use Rattle.cb_rule.specs.Words.{base, stamps}
+
+-- a word that stands there
+pub read_at : (ws : List ℕ) (i x : ℕ) → get_elem? ws i ≡ some x → x ≡ get_or ws i 0
+read_at [] i x e = absurd (some-ne-none x (sym e))
+read_at (w ∷ ws) zero x e = sym (some-injective w x e)
+read_at (w ∷ ws) (suc i) x e = read_at ws i x e
+
+-- The first n words are those of the other list from p on.
+pub record IsFilled (ws : List ℕ) (p n : ℕ) (old new : List ℕ) : Type 0 where
+  pub len : length new ≡ length old
+  pub below : (i : ℕ) → i < n → get_or new i 0 ≡ get_or ws (p + i) 0
+
+pub none_filled : (ws : List ℕ) (p : ℕ) (old : List ℕ) → IsFilled ws p 0 old old
+none_filled ws p old = record { len = refl; below = λ i l. absurd (omega (arith, l)) }
+
+pub more_filled : (ws : List ℕ) (p n x : ℕ) (old new : List ℕ) → n < length old
+    → x ≡ get_or ws (p + n) 0 → IsFilled ws p n old new → IsFilled ws p (n + 1) old (set new n x)
+more_filled ws p n x old new within is f = record {
+  len = length-set new n x ∙ f.len;
+  below = λ i l. elim (ℕ_discrete i n) [
+    | yes at ↦ ap (λ (j : ℕ). get_or (set new n x) j 0) at
+        ∙ get_or-set_same new n x 0 (let e = f.len in omega (arith, e, within)) ∙ is
+        ∙ ap (λ (j : ℕ). get_or ws (p + j) 0) (sym at)
+    | no apart ↦ get_or-set_other new n i x 0 apart ∙ f.below i (omega (arith, l, apart))
+  ];
+}
+
+same_lists : (xs ys : List ℕ) → length xs ≡ length ys
+    → ((i : ℕ) → i < length xs → get_or xs i 0 ≡ get_or ys i 0) → xs ≡ ys
+same_lists [] [] e same = refl
+same_lists [] (y ∷ ys) e same = absurd (omega (arith, e))
+same_lists (x ∷ xs) [] e same = absurd (omega (arith, e))
+same_lists (x ∷ xs) (y ∷ ys) e same =
+    (λ i. same 0 (omega arith) i ∷ same_lists xs ys (omega (arith, e))
+    (λ k l. same (suc k) (omega (arith, l))) i)
+
+-- all of them are a window of it
+pub all_filled : (ws : List ℕ) (p n m : ℕ) (old new : List ℕ) → length old ≡ n → n ≤ m
+    → IsFilled ws p m old new → new ≡ window ws p n
+all_filled ws p n m old new e more f = let z = f.len in let w = window_length ws p n in
+    same_lists new (window ws p n) (omega (arith, z, w, e))
+    (λ i l. let below : i < n = omega (arith, l, z, e) in
+    f.below i (omega (arith, below, more)) ∙ sym (window_at ws p n i below))
+
+module _ (c : Config) (ws : List ℕ) (d : Words) (settings : d.settings ≡ c) (sized : IsSized d)
+  where
+    -- a desk with words put in is as large as before
+    pub words_sized : IsSized record d { words = window ws 1 c.handles }
+    words_sized = record {
+      words = window_length ws 1 c.handles ∙ sym (ap (λ (k : Config). k.handles) settings);
+      versions = sized.versions;
+      memory = sized.memory;
+    }
+
+    pub versions_sized : IsSized record d { versions = window ws (stamps c) c.handles }
+    versions_sized = record {
+      words = sized.words;
+      versions =
+          window_length ws (stamps c) c.handles ∙ sym (ap (λ (k : Config). k.handles) settings);
+      memory = sized.memory;
+    }
+
+    -- with all of them put in it is the desk of the words
+    pub all_put : (x y z : Words) → x ≡ record d { words = window ws 1 c.handles }
+        → y ≡ record x { versions = window ws (stamps c) c.handles }
+        → z ≡ record y { memory = window ws (base c) (512 * c.frames) } → z ≡ desk_of c ws
+    all_put x y z a b e = e
+        ∙ ap (λ (q : Words). let r : Words = record q {
+          memory = window ws (base c) (512 * c.frames);
+        } in r) (b ∙ ap (λ (q : Words). let r : Words = record q {
+          versions = window ws (stamps c) c.handles;
+        } in r) a)
+        ∙ ap (λ (k : Config). let r : Words = record {
+          settings = k;
+          words = window ws 1 c.handles;
+          versions = window ws (stamps c) c.handles;
+          memory = window ws (base c) (512 * c.frames);
+        } in r) settings
+
+-- a far state that stands in a slot is there
+abbrev is_there : Slot → Bool
+is_there None = false
+is_there (Some far) = true
+
+pub not_none : (far : FarState) → Some far ≡ None → ⊥
+not_none far e = true≢false (ap is_there e)

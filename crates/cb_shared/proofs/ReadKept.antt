@@ -1,0 +1,81 @@
+-- What a read under a pin leaves of a pass.
+use Rattle.std.proofs.Common.{◌≡◌, ℕ, ◌<◌, List, [], ◌∷◌, ◌++◌, Result, Ok, Err, sym, refl, ap, ◌∙◌, subst}
+use Rattle.std.specs.Result.{IfOk, OnErr}
+use Rattle.cb_member.specs.declared.no_memory.NoMemory.{NoMemory}
+use Rattle.cb_types.specs.declared.config.Config.{Config}
+use Rattle.cb_ptr.specs.declared.word.State.TheVariants as state
+use Rattle.cb_ptr.specs.Word.{state_of}
+use Rattle.cb_world.specs.declared.entry.Entry.{Entry}
+use Rattle.cb_rule.specs.declared.view.Seen.{Seen}
+use Rattle.cb_rule.specs.declared.view.View.{View}
+use Rattle.cb_rule.specs.Lists.{Each}
+use Rattle.cb_rule.specs.Slot.{Sat}
+use Rattle.cb_shared.specs.declared.reading.ReadAnswer.{ReadAnswer}
+use Rattle.cb_shared.specs.declared.reading.ReadAnswer.TheVariants.{Bytes, Freed, NotHere, Moving, Crowded, Raced}
+use Rattle.cb_shared.specs.Parts.{Part, grown}
+use Rattle.cb_shared.specs.Passes.{IsAtRest}
+use Rattle.cb_shared.specs.Places.{Moves, Place}
+use Rattle.cb_shared.specs.Reading.{ReadFinds, ReadMoves, looked}
+
+-- the part wrote nothing, and read entries of objects that there are
+pub record IsReading (c : Config) (d : Part) : Type 0 where
+  pub wrote : d.written ≡ []
+  pub seen : Each (λ (s : Seen). s.handle < c.handles) d.seen
+
+reading_as : (c : Config) (d e : Part) → d ≡ e → IsReading c e → IsReading c d
+reading_as c d e is x = subst (IsReading c) (sym is) x
+
+finds_reading : (c : Config) (h : ℕ) (a : ReadAnswer) (v : View) (d : Part) → h < c.handles
+    → ReadFinds h a v d → IsReading c d
+finds_reading c h (Bytes version bytes) v d l x =
+    reading_as c d _ x.part (record { wrote = refl; seen = (l, tt) })
+finds_reading c h Freed v d l x = reading_as c d _ x.4 (record { wrote = refl; seen = (l, tt) })
+finds_reading c h NotHere v d l x = reading_as c d _ x.2 (record { wrote = refl; seen = tt })
+finds_reading c h Moving v d l x = reading_as c d _ x.2 (record { wrote = refl; seen = tt })
+finds_reading c h Crowded v d l x = reading_as c d _ x.2 (record { wrote = refl; seen = tt })
+finds_reading c h (Raced saw found) v d l x =
+    reading_as c d _ x.1 (record { wrote = refl; seen = tt })
+
+-- what stands of the seat afterwards
+pub record IsKept (c : Config) (p q : Place) : Type 0 where
+  pub table : q.table_id ≡ p.table_id
+  pub share : q.me.0.share ≡ p.me.0.share
+  pub carries : q.me.1 ≡ p.me.1
+  pub pins : q.me.0.pins ≡ p.me.0.pins
+  pub rest : IsAtRest c q.me.0
+
+each_both : {A : Type 0} (P : A → Type 0) (xs ys : List A) → Each P xs → Each P ys
+    → Each P (xs ++ ys)
+each_both P [] ys a b = b
+each_both P (x ∷ xs) ys a b = (a.0, each_both P xs ys a.1 b)
+
+kept_part : (c : Config) (p q : Place) (d : Part) → IsAtRest c p.me.0
+    → Moves p q (grown d p.me.0) → IsReading c d → IsKept c p q
+kept_part c p q d rest m x = record {
+  table = m.0;
+  share = ap (λ (s : Sat). s.0.share) m.2;
+  carries = ap (λ (s : Sat). s.1) m.2;
+  pins = ap (λ (s : Sat). s.0.pins) m.2;
+  rest = subst (λ (s : Sat). IsAtRest c s.0) (sym m.2) record {
+    config = rest.config;
+    live = rest.live;
+    most = rest.most;
+    claims = rest.claims;
+    out = rest.out;
+    fresh = rest.fresh;
+    written = subst (λ (l : List Entry).
+        Each (λ (e : Entry). e.handle < c.handles) (l ++ p.me.0.written)) (sym x.wrote)
+        rest.written;
+    seen = each_both (λ (s : Seen). s.handle < c.handles) d.seen p.me.0.seen x.seen rest.seen;
+    pins = rest.pins;
+  };
+}
+
+pub kept_read : (c : Config) (h : ℕ) (p q : Place) (r : Result ReadAnswer NoMemory)
+    → IsAtRest c p.me.0 → h < c.handles → IfOk r (λ a. ReadMoves h a p q)
+    → OnErr r ((word : ℕ) × (state_of word ≡ state.Here)
+    × Moves p q (grown (looked h word) p.me.0)) → IsKept c p q
+kept_read c h p q (Ok a) rest l ok err =
+    kept_part c p q ok.0 rest ok.1 (finds_reading c h a p.me.0 ok.0 l ok.2)
+kept_read c h p q (Err e) rest l ok err =
+    kept_part c p q (looked h err.0) rest err.2 (record { wrote = refl; seen = tt })

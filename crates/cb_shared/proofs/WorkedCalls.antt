@@ -1,0 +1,145 @@
+-- Worked calls that try again: what meets each definition, and what breaks one of its parts alone.
+use Rattle.std.proofs.Common.{◌≡◌, ℕ, true, false, List, [], ◌∷◌, length, Option, None, Some, refl, sym, ap, ◌∙◌, subst, inl, inr, arith, lit≤}
+use Rattle.std.proofs.lemmas.Bool.{eqb-false, false≢true}
+use Rattle.cb_types.specs.declared.config.Config.{Config}
+use Rattle.cb_types.specs.declared.job.Job.TheVariants as jobs
+use Rattle.cb_types.specs.declared.reply.Reply.TheVariants as answer
+use Rattle.cb_ptr.specs.Word.{state_of, state_number}
+use Rattle.cb_rule.specs.declared.view.Look.{Look}
+use Rattle.cb_rule.specs.Lists.{Each}
+use Rattle.cb_rule.specs.Steps.{IsNewest, look_at}
+use Rattle.cb_shared.specs.declared.answers.WriteAnswer.TheVariants as place
+use Rattle.cb_shared.specs.Calls.{AtNone, AtThis, EndsAtLast, IsAnswer, IsAnswerTo, IsInVain, IsLack, IsWornOut, IsWrittenOnce, ReadEnds, SaysAs, Stops, WriteFinds, is_to_try_again, may_come_loose, newest_tries, the_handle, written_once}
+use Rattle.cb_shared.specs.Parts.{Part, grown, nothing_more, sum}
+use Rattle.cb_shared.specs.Reading.{looked, looked_freed, looked_twice, read_once}
+use Rattle.cb_shared.proofs.WorkedGround.{away, calm, made, moving, newest_made, not_second, part, pinned, two, version_in}
+use Rattle.cb_shared.proofs.WorkedWrites.{write_it}
+
+-- ---- what is tried again
+abbrev wide : Config
+wide = record { k = 2; r = 1; nodes = 3; frames = 364; room = 6; handles = 2; turns = 0 }
+
+abbrev narrow : Config
+narrow = record { k = 2; r = 1; nodes = 3; frames = 363; room = 6; handles = 2; turns = 0 }
+
+few_loose : is_to_try_again wide (Some (answer.NoRoom 364 1 3)) ≡ true
+few_loose = refl
+
+too_few_frames : is_to_try_again narrow (Some (answer.NoRoom 363 1 3)) ≡ false
+too_few_frames = refl
+
+enough_loose : is_to_try_again wide (Some (answer.NoRoom 364 2 1)) ≡ false
+enough_loose = refl
+
+another_refusal : is_to_try_again wide (Some answer.Worn) ≡ false
+another_refusal = refl
+
+no_memory : is_to_try_again wide None ≡ false
+no_memory = refl
+
+no_turn : newest_tries wide [] ≡ None
+no_turn = refl
+
+lacks_frames : IsLack two (answer.NoRoom 1 0 2)
+lacks_frames = refl
+
+lacks_nodes : IsLack wide (answer.NoRoom 364 2 1)
+lacks_nodes = refl
+
+comes_loose : IsLack wide (answer.NoRoom 364 1 3) → ⊥
+comes_loose e = false≢true (sym e)
+
+moving_lacks_none : IsLack wide answer.Moving → ⊥
+moving_lacks_none x = x
+
+moving_is_no_answer : IsAnswer wide answer.Moving → ⊥
+moving_is_no_answer (inl x) = x
+moving_is_no_answer (inr x) = x
+
+version_is_one : IsAnswerTo wide (jobs.Free (the_handle 1)) (answer.Version 4)
+version_is_one = inl tt
+
+swap_tells_nothing : IsAnswerTo wide (jobs.Swap (the_handle 1)) answer.Freed → ⊥
+swap_tells_nothing x = x
+
+-- ---- tries that came to nothing
+in_vain : IsInVain (AtThis 1) (jobs.Swap (the_handle 1)) (looked 1 moving)
+in_vain = record {
+  looks = look_at 1 moving ∷ [];
+  turns = [];
+  at = (refl, tt);
+  of = tt;
+  part = refl;
+}
+
+at_another : IsInVain (AtThis 1) (jobs.Swap (the_handle 1)) (looked 0 moving) → ⊥
+at_another x = eqb-false 0 1 refl (subst (Each (λ (l : Look). AtThis 1 l.handle))
+    (sym (ap (λ (d : Part). d.looks) x.part)) x.at).0
+
+wrote_in_vain : IsInVain (AtThis 1) (jobs.Swap (the_handle 1))
+    (record (looked 1 moving) { written = made ∷ [] }) → ⊥
+wrote_in_vain x = eqb-false 1 0 refl (ap (λ (d : Part). length d.written) x.part)
+
+pinned_in_vain : IsInVain (AtThis 1) (jobs.Swap (the_handle 1))
+    (record (looked 1 moving) { ever = 1 }) → ⊥
+pinned_in_vain x = eqb-false 1 0 refl (ap (λ (d : Part). d.ever) x.part)
+
+-- ---- a write in place, by what it adds
+written_at_once : IsWrittenOnce 1 1 (12 ∷ []) 4 part (written_once 1 calm 4 (2826 ∷ []) (3082 ∷ []))
+written_at_once = record {
+  word = calm;
+  old = 2826 ∷ [];
+  new = 3082 ∷ [];
+  last = 3;
+  room = (refl, lit≤ tt);
+  bare = refl;
+  newest = newest_made;
+  next = refl;
+  write = write_it;
+  part = refl;
+}
+
+keeps_its_version : IsWrittenOnce 1 1 (12 ∷ []) 3 part
+    (written_once 1 calm 3 (2826 ∷ []) (3082 ∷ [])) → ⊥
+keeps_its_version p = let next = p.next in let e : p.last ≡ 2 = omega (arith, next) in
+    not_second (subst (λ (n : ℕ). IsNewest 1 n part) e p.newest)
+
+writes_twice : IsWrittenOnce 1 1 (12 ∷ []) 4 part
+    (record (written_once 1 calm 4 (2826 ∷ []) (3082 ∷ [])) { written = made ∷ made ∷ [] }) → ⊥
+writes_twice p = eqb-false 2 1 refl (ap (λ (d : Part). length d.written) p.part)
+
+writes_none : IsWrittenOnce 1 1 (12 ∷ []) 4 part
+    (record (written_once 1 calm 4 (2826 ∷ []) (3082 ∷ [])) { written = [] }) → ⊥
+writes_none p = eqb-false 0 1 refl (ap (λ (d : Part). length d.written) p.part)
+
+another_version : IsWrittenOnce 1 1 (12 ∷ []) 5 part
+    (written_once 1 calm 4 (2826 ∷ []) (3082 ∷ [])) → ⊥
+another_version p = eqb-false 4 5 refl (ap (λ (d : Part). version_in d.written) p.part)
+
+-- ---- replies of a write in place
+says_version : SaysAs (place.Ok 4) (answer.Version 4)
+says_version = refl
+
+says_nothing_of_a_race : SaysAs (place.Raced calm pinned) answer.Moving → ⊥
+says_nothing_of_a_race x = x
+
+-- ---- the last try
+reads_freed_at_last : EndsAtLast (AtThis 1) (jobs.Swap (the_handle 1)) (ReadEnds two 1 answer.Freed)
+    part (sum (looked 1 moving) (looked_freed 1 3 0))
+reads_freed_at_last = record {
+  before = looked 1 moving;
+  last = looked_freed 1 3 0;
+  in_vain = in_vain;
+  ends_so = (
+    0,
+    3,
+    refl,
+    record { written = newest_made.written; seen = newest_made.seen; lone = newest_made.lone },
+    refl,
+  );
+  part = refl;
+}
+
+answers_moving : EndsAtLast (AtThis 1) (jobs.Swap (the_handle 1)) (ReadEnds two 1 answer.Moving)
+    part (looked 1 moving) → ⊥
+answers_moving x = x.ends_so.turned.0

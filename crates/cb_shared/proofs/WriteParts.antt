@@ -1,0 +1,139 @@
+-- The parts of writes in place, and of writes that try again.
+use Rattle.std.proofs.Common.{◌≡◌, ◌⊎◌, ℕ, ◌+◌, List, [], ◌∷◌, Option, None, Some, sym, refl, ap, ◌∙◌, subst, arith, inl, inr}
+use Rattle.cb_types.specs.declared.config.Config.{Config}
+use Rattle.cb_types.specs.declared.job.Job.{Job}
+use Rattle.cb_types.specs.declared.job.Job.TheVariants as jobs
+use Rattle.cb_types.specs.declared.reply.Reply.{Reply}
+use Rattle.cb_ptr.specs.declared.word.State.TheVariants as state
+use Rattle.cb_ptr.specs.Word.{len_of, state_of}
+use Rattle.cb_world.specs.Written.{entry}
+use Rattle.cb_rule.specs.declared.view.View.{View}
+use Rattle.cb_rule.specs.Steps.{look_at, with_look}
+use Rattle.cb_shared.specs.declared.answers.WriteAnswer.{WriteAnswer}
+use Rattle.cb_shared.specs.declared.answers.WriteAnswer.TheVariants as place
+use Rattle.cb_shared.specs.Calls.{AtNone, AtThis, EndsAtLast, IsNoReply, IsInVain, SaysAs, Stops, TurnTries, WriteAnswers, WriteEnds, WriteFinds, WriteTries, the_handle, written_once}
+use Rattle.cb_shared.specs.Parts.{Part, Grows, grown}
+use Rattle.cb_shared.specs.Reading.{looked, looked_freed, looked_twice}
+use Rattle.cb_shared.specs.Writing.{WriteGives}
+use Rattle.cb_shared.proofs.CallSteps.{ends_after, look_asks, look_stops, stops_then, vain_look}
+use Rattle.cb_shared.proofs.ReadSteps.{freed_part, look_part, twice_part}
+
+written_part : (h word version : ℕ) (old new : List ℕ) (v : View)
+    → record (with_look h word (with_look h word v)) {
+      written = entry h version (len_of word) old new ∷ v.written;
+    } ≡ grown (written_once h word version old new) v
+written_part h word version old new v = let e : v.ever ≡ v.ever + 0 = omega arith in
+    ap (λ (n : ℕ). let z : View = record (with_look h word (with_look h word v)) {
+      written = entry h version (len_of word) old new ∷ v.written;
+      ever = n;
+    } in z) e
+
+-- what a write in place leaves, as a part of the record
+pub write_finds : (h at : ℕ) (bytes : List ℕ) (a : WriteAnswer) (v w : View)
+    → WriteGives h at bytes a v w → (d : Part) × Grows v d w × WriteFinds h at bytes a v d
+write_finds h at bytes (place.Ok version) v w x = (
+  written_once h x.word version x.old x.new,
+  x.left ∙ written_part h x.word version x.old x.new v,
+  record {
+    word = x.word;
+    old = x.old;
+    new = x.new;
+    last = x.last;
+    room = x.room;
+    bare = x.bare;
+    newest = x.newest;
+    next = x.next;
+    write = x.write;
+    part = refl;
+  },
+)
+write_finds h at bytes place.Freed v w (n, version, is, newest, left) =
+    (looked_freed h version n, left ∙ freed_part h version n v, (n, version, is, newest, refl))
+write_finds h at bytes place.NotHere v w (n, is, left) =
+    (looked h n, left ∙ look_part h n v, (n, is, refl))
+write_finds h at bytes place.Moving v w (n, is, left) =
+    (looked h n, left ∙ look_part h n v, (n, is, refl))
+write_finds h at bytes (place.Range len) v w (n, is, left) =
+    (looked h n, left ∙ look_part h n v, (n, is, refl))
+write_finds h at bytes (place.Pinned count) v w (n, is, left) =
+    (looked h n, left ∙ look_part h n v, (n, is, refl))
+write_finds h at bytes place.Worn v w x = (
+  looked_twice h x.word x.word,
+  x.left ∙ twice_part h x.word x.word v,
+  record { word = x.word; room = x.room; bare = x.bare; newest = x.newest; part = refl },
+)
+write_finds h at bytes (place.Raced saw found) v w (other, left) =
+    (looked_twice h saw found, left ∙ twice_part h saw found v, (other, refl))
+
+-- ---- one try of a write
+pub write_says : (c : Config) (h at : ℕ) (bytes : List ℕ) (a : WriteAnswer) (r : Reply) (v w : View)
+    → SaysAs a r → WriteGives h at bytes a v w → WriteTries c h at bytes (Some r) v w
+write_says c h at bytes a r v w says x = let z = write_finds h at bytes a v w x in
+    (z.0, inl (a, says, z.2), z.1)
+
+pub write_vain : (h at : ℕ) (bytes : List ℕ) (job : Job) (a : WriteAnswer) (v w : View)
+    → IsNoReply a → (a ≡ place.NotHere → ⊥) → WriteGives h at bytes a v w
+    → Stops (AtThis h) job v w
+write_vain h at bytes job (place.Ok version) v w none here x = absurd none
+write_vain h at bytes job place.Freed v w none here x = absurd none
+write_vain h at bytes job place.NotHere v w none here x = absurd (here refl)
+write_vain h at bytes job place.Moving v w none here (n, is, left) =
+    (looked h n, vain_look h n job, left ∙ look_part h n v)
+write_vain h at bytes job (place.Range len) v w none here x = absurd none
+write_vain h at bytes job (place.Pinned count) v w none here x = absurd none
+write_vain h at bytes job place.Worn v w none here x = absurd none
+write_vain h at bytes job (place.Raced saw found) v w none here (other, left) = (
+  looked_twice h saw found,
+  record {
+    looks = look_at h found ∷ look_at h saw ∷ [];
+    turns = [];
+    at = (refl, (refl, tt));
+    of = tt;
+    part = refl;
+  },
+  left ∙ twice_part h saw found v,
+)
+
+-- what a write in place that is no reason for a turn comes to
+pub write_tried : (c : Config) (h at : ℕ) (bytes : List ℕ) (a : WriteAnswer) (o : Option Reply)
+    (v w : View) → ((r : Reply) → o ≡ Some r → SaysAs a r) → (o ≡ None → IsNoReply a)
+    → (a ≡ place.NotHere → ⊥) → WriteGives h at bytes a v w → WriteTries c h at bytes o v w
+write_tried c h at bytes a None v w says none here x =
+    write_vain h at bytes (jobs.Write (the_handle h) at bytes) a v w (none refl) here x
+write_tried c h at bytes a (Some r) v w says none here x =
+    write_says c h at bytes a r v w (says r refl) x
+
+pub away_write_stops : (h at : ℕ) (bytes : List ℕ) (a : WriteAnswer) (v w u : View)
+    → a ≡ place.NotHere → WriteGives h at bytes a v w
+    → Stops AtNone (jobs.Write (the_handle h) at bytes) w u
+    → Stops (AtThis h) (jobs.Write (the_handle h) at bytes) v u
+away_write_stops h at bytes a v w u is x stops =
+    let y = subst (λ (z : WriteAnswer). WriteGives h at bytes z v w) is x in
+    look_stops h y.0 (jobs.Write (the_handle h) at bytes) v w u (looked h y.0) refl
+    (y.2 ∙ look_part h y.0 v) stops
+
+pub away_write_tries : (c : Config) (h at : ℕ) (bytes : List ℕ) (a : WriteAnswer) (o : Option Reply)
+    (v w u : View) → a ≡ place.NotHere → WriteGives h at bytes a v w
+    → TurnTries c (jobs.Write (the_handle h) at bytes) o w u → WriteTries c h at bytes o v u
+away_write_tries c h at bytes a None v w u is x y = away_write_stops h at bytes a v w u is x y
+away_write_tries c h at bytes a (Some r) v w u is x (e, ends, next) =
+    let y = subst (λ (z : WriteAnswer). WriteGives h at bytes z v w) is x in
+    let z = look_asks c h y.0 (jobs.Write (the_handle h) at bytes) r v w u (looked h y.0) e refl y.1
+    (y.2 ∙ look_part h y.0 v) ends refl next in (z.0, inr z.1, z.2)
+
+-- ---- the loop round the tries
+pub write_again : (c : Config) (h at : ℕ) (bytes : List ℕ) (o : Option Reply) (v w u : View)
+    → o ≡ None → Stops (AtThis h) (jobs.Write (the_handle h) at bytes) v w
+    → WriteTries c h at bytes o w u → Stops (AtThis h) (jobs.Write (the_handle h) at bytes) v u
+write_again c h at bytes o v w u is x y =
+    stops_then (AtThis h) (jobs.Write (the_handle h) at bytes) v w u x
+    (subst (λ (z : Option Reply). WriteTries c h at bytes z w u) is y)
+
+pub write_at_last : (c : Config) (h at : ℕ) (bytes : List ℕ) (o : Option Reply) (r : Reply)
+    (v w u : View) → o ≡ Some r → Stops (AtThis h) (jobs.Write (the_handle h) at bytes) v w
+    → WriteTries c h at bytes o w u → WriteAnswers c h at bytes r v u
+write_at_last c h at bytes o r v w u is (d, x, grew) y =
+    let z : WriteTries c h at bytes (Some r) w u =
+    subst (λ (q : Option Reply). WriteTries c h at bytes q w u) is y in
+    ends_after (AtThis h) (jobs.Write (the_handle h) at bytes) (WriteEnds c h at bytes r)
+    (λ (q : View). q) v w u d z.0 x grew z.1 z.2

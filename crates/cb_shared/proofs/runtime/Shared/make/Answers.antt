@@ -1,0 +1,25 @@
+use Rattle.std.proofs.Common.{◌≡◌, ◌≤◌, List, ℕ, length, sym, subst}
+use Rattle.std.specs.Result.{IfOk, OnErr}
+use Rattle.cb_types.specs.declared.job.Job.TheVariants as jobs
+use Rattle.cb_shared.specs.Calls.{AtNone, Stops, TurnGives}
+use Rattle.cb_shared.proofs.CallSteps.{err_always, so_far}
+use Rattle.cb_shared.proofs.runtime.Shared.make.Goals as goal
+
+pub returns-in_err-copy_of-clause-error : goal.returns-in_err-copy_of-clause-error
+returns-in_err-copy_of-clause-error g c = err_always c.from_residual.result _
+    (so_far AtNone (jobs.Make c.args.bytes.now) c.args.pass.now.seat.me.0)
+
+pub turn_until-requires-clause-job : goal.turn_until-requires-clause-job
+turn_until-requires-clause-job g c =
+    subst (λ (l : List ℕ). (1 ≤ length l) × (length l ≤ 1024)) (sym c.in_ok-copy_of.ensures.items)
+    c.requires.size
+
+pub returns-clause-make : goal.returns-clause-make
+returns-clause-make g c = subst (λ (l : List ℕ). IfOk c.turn_until.result (λ reply.
+    TurnGives c.args.self.now.config (jobs.Make l) reply c.args.pass.now.seat.me.0
+    c.turn_until.new.pass.seat.me.0)) c.in_ok-copy_of.ensures.items c.turn_until.ensures.turn
+
+pub returns-clause-error : goal.returns-clause-error
+returns-clause-error g c = subst (λ (l : List ℕ). OnErr c.turn_until.result
+    (Stops AtNone (jobs.Make l) c.args.pass.now.seat.me.0 c.turn_until.new.pass.seat.me.0))
+    c.in_ok-copy_of.ensures.items c.turn_until.ensures.error

@@ -1,0 +1,38 @@
+use Rattle.std.proofs.Common.{◌≡◌, Some}
+use Rattle.cb_types.specs.declared.job.Job.TheVariants as jobs
+use Rattle.cb_shared.specs.Calls.{AtThis, the_handle}
+use Rattle.cb_shared.proofs.CallSteps.{err_always, known_still, read_again, read_at_last, so_far, stops_then}
+use Rattle.cb_shared.proofs.runtime.Shared.read.Goals as goal
+
+pub loop-init : goal.loop-init
+loop-init g c = (
+  c.requires.of,
+  so_far (AtThis c.args.h.n) (jobs.Swap (the_handle c.args.h.n)) c.args.pass.now.seat.me.0,
+)
+
+pub try_read-requires-clause-of : goal.try_read-requires-clause-of
+try_read-requires-clause-of g c = c.loop.invariant.0
+
+pub try_read-requires-clause-knows : goal.try_read-requires-clause-knows
+try_read-requires-clause-knows g c = known_still (AtThis c.args.h.n)
+    (jobs.Swap (the_handle c.args.h.n)) (Some c.args.h.n) c.args.pass.now.seat.me.0
+    c.loop.pass.seat.me.0 c.requires.knows c.loop.invariant.1
+
+pub returns-in_err-reply-clause-error : goal.returns-in_err-reply-clause-error
+returns-in_err-reply-clause-error g c = err_always c.from_residual.result _
+    (stops_then (AtThis c.args.h.n) (jobs.Swap (the_handle c.args.h.n)) c.args.pass.now.seat.me.0
+    c.loop.pass.seat.me.0 c.try_read.new.pass.seat.me.0 c.loop.invariant.1
+    c.in_err-reply.ensures.error)
+
+pub returns-in-Some-2-clause-read : goal.returns-in-Some-2-clause-read
+returns-in-Some-2-clause-read g c = read_at_last c.args.self.now.config c.args.h.n
+    c.in_ok-reply.field-0 c.in-Some-2.reply c.args.pass.now.seat.me.0 c.loop.pass.seat.me.0
+    c.try_read.new.pass.seat.me.0 c.in-Some-2.is c.loop.invariant.1 c.in_ok-reply.ensures.read
+
+pub loop-preserved : goal.loop-preserved
+loop-preserved g c = (
+  c.in_ok-reply.ensures.of,
+  read_again c.args.self.now.config c.args.h.n c.in_ok-reply.field-0 c.args.pass.now.seat.me.0
+      c.loop.pass.seat.me.0 c.try_read.new.pass.seat.me.0 c.in_default.is c.loop.invariant.1
+      c.in_ok-reply.ensures.read,
+)

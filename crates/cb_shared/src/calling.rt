@@ -1,0 +1,371 @@
+//! Reads, writes, makes and frees that try again until they are answered. Each try is a step or a
+//! turn of its own; the loops round them wait, and nothing else does but the turns.
+ghost use Rattle.std.specs.Prelude.{◌≡◌, ◌≤◌, ℕ, true, false, length, None, Some, IfOk, OnErr};
+ghost use Rattle.cb_types.specs.declared.job.Job.TheVariants as jobs;
+ghost use Rattle.cb_types.specs.declared.reply.Reply.{Reply};
+ghost use Rattle.cb_shared.specs.declared.answers.WriteAnswer.TheVariants as places;
+ghost use Rattle.cb_core.specs.Jobs.{IsJob};
+ghost use Rattle.cb_rule.specs.Steps.{Knows};
+ghost use Rattle.cb_shared.specs.Calls.{AtNone, AtThis, IsAnswerTo, IsCalled, IsLack, IsNoReply, ReadGives, ReadTries, SaysAs, Stops, TellsOfIt, TurnGives, TurnTries, WriteAnswers, WriteTries, is_to_try_again, may_come_loose, the_handle};
+ghost use Rattle.cb_shared.specs.Parts.{Part, Grows};
+ghost use Rattle.cb_shared.specs.Passes.{IsPassOf};
+ghost use Rattle.cb_shared.specs.Reading.{ReadFinds, looked};
+ghost use Rattle.cb_shared.specs.Turning.{KnowsOf};
+ghost use Rattle.cb_ptr.specs.declared.word.State.TheVariants as state;
+ghost use Rattle.cb_ptr.specs.Word.{state_of};
+
+use crate::answers::WriteAnswer;
+use crate::handles::count_pins;
+use crate::pass::Pass;
+use crate::reading::{ReadAnswer, read_pinned};
+use crate::runtime::Shared;
+use cb_types::{Bytes, Config, Handle, Job, NoMemory, Reply};
+use std::alloc::Global;
+use std::sync::Wait;
+use std::thread;
+
+/// The most spans that passes keep from being loose at one moment: 20 passes with 16 pins, one read
+/// and one write each.
+const MOST_HELD: u32 = 360;
+
+impl Shared {
+    /// The version and the bytes of an object that the pass knows, under a pin of its own beside
+    /// those of the scope; Freed where it was freed. A far object is brought in by a turn of the
+    /// job Swap; where that can't be, the answer is why: Unavailable, NoRoom, or Worn by the count
+    /// of turns. Tries again where the object is being moved or written, has as many pins as its word
+    /// can count, or another pass came first, and where too few spans were loose but there are so
+    /// many frames that more may come. Waits.
+    pub fn read<R: Wait>(
+        &self,
+        rt: &R,
+        alloc: Global,
+        pass: &mut Pass,
+        h: Handle,
+    ) -> Result<Reply, NoMemory>
+        requires of { IsPassOf self.now pass.old }
+        requires knows { Knows h.n pass.old.seat.me.0 }
+        ensures of { IsPassOf self.now pass.new }
+        ensures read { IfOk result (λ reply. ReadGives self.now.config h.n reply
+            pass.old.seat.me.0 pass.new.seat.me.0) }
+        ensures error { OnErr result (Stops (AtThis h.n) (jobs.Swap (the_handle h.n))
+            pass.old.seat.me.0 pass.new.seat.me.0) }
+    {
+        for _ in rt.forever() {
+            if let Some(reply) = self.try_read(rt, alloc, pass, h)? {
+                return Ok(reply);
+            }
+            thread::yield_now();
+        }
+        unreachable!()
+    }
+
+    /// Writes over a part of an object that the pass knows, `bytes` from the byte number `at` on,
+    /// where it is and has no pins: Version with its next version; Freed where it was freed; Range
+    /// with its length where the bytes go past its end; Pinned with the count of its pins; Worn
+    /// where its version has no next one. A far object is written by a turn of the job Write; where
+    /// it can't be brought in, the answer is why: Unavailable, NoRoom, or Worn by the count of
+    /// turns. Tries again where the object is being moved or written, or another pass came first,
+    /// and where too few spans were loose but there are so many frames that more may come. Waits.
+    pub fn write<R: Wait>(
+        &self,
+        rt: &R,
+        alloc: Global,
+        pass: &mut Pass,
+        h: Handle,
+        at: u32,
+        bytes: &[u8],
+    ) -> Result<Reply, NoMemory>
+        requires of { IsPassOf self.now pass.old }
+        requires knows { Knows h.n pass.old.seat.me.0 }
+        ensures of { IsPassOf self.now pass.new }
+        ensures write { IfOk result (λ reply. WriteAnswers self.now.config h.n at bytes.now reply
+            pass.old.seat.me.0 pass.new.seat.me.0) }
+        ensures error { OnErr result (Stops (AtThis h.n)
+            (jobs.Write (the_handle h.n) at bytes.now) pass.old.seat.me.0 pass.new.seat.me.0) }
+    {
+        for _ in rt.forever() {
+            if let Some(reply) = self.try_write(rt, alloc, pass, h, at, bytes)? {
+                return Ok(reply);
+            }
+            thread::yield_now();
+        }
+        unreachable!()
+    }
+
+    /// Makes an object of these bytes, 1 to 1,024 of them, by a turn of the job Make: Made with its
+    /// handle and version; Full where as many objects as there are handles were made; NoRoom, or
+    /// Worn by the count of turns. Tries again where too few spans were loose but there are so many
+    /// frames that more may come. Waits.
+    pub fn make<R: Wait>(
+        &self,
+        rt: &R,
+        alloc: Global,
+        pass: &mut Pass,
+        bytes: &[u8],
+    ) -> Result<Reply, NoMemory>
+        requires of { IsPassOf self.now pass.old }
+        requires size { (1 ≤ length bytes.now) × (length bytes.now ≤ 1024) }
+        ensures of { IsPassOf self.now pass.new }
+        ensures make { IfOk result (λ reply. TurnGives self.now.config (jobs.Make bytes.now) reply
+            pass.old.seat.me.0 pass.new.seat.me.0) }
+        ensures error { OnErr result (Stops AtNone (jobs.Make bytes.now) pass.old.seat.me.0
+            pass.new.seat.me.0) }
+    {
+        let job = Job::Make {
+            bytes: Bytes::copy_of(alloc, bytes)?,
+        };
+        self.turn_until(rt, alloc, pass, &job)
+    }
+
+    /// Frees an object that the pass knows, by a turn of the job Free: Version with the version
+    /// that it ends at; Freed where it was freed before; Pinned with the count of its pins; Worn where
+    /// its version has no next one, or by the count of turns. Tries again while the object is being
+    /// moved or written. Waits.
+    pub fn free<R: Wait>(
+        &self,
+        rt: &R,
+        alloc: Global,
+        pass: &mut Pass,
+        h: Handle,
+    ) -> Result<Reply, NoMemory>
+        requires of { IsPassOf self.now pass.old }
+        requires knows { Knows h.n pass.old.seat.me.0 }
+        ensures of { IsPassOf self.now pass.new }
+        ensures free { IfOk result (λ reply. TurnGives self.now.config (jobs.Free h) reply
+            pass.old.seat.me.0 pass.new.seat.me.0) }
+        ensures error { OnErr result (Stops AtNone (jobs.Free h) pass.old.seat.me.0
+            pass.new.seat.me.0) }
+    {
+        self.turn_until(rt, alloc, pass, &Job::Free { handle: h })
+    }
+
+    /// Whether a turn with this reply was refused for want of loose spans alone and is made again,
+    /// as the calls above do: with so many frames more spans may come loose. Takes no memory and
+    /// waits for nobody.
+    pub fn is_to_try_again(&self, reply: &Reply) -> bool
+        ensures { result ≡ is_to_try_again self.now.config (Some reply.now) }
+    {
+        match reply {
+            Reply::NoRoom { loose, .. } => comes_loose(&self.config, *loose),
+            _ => false,
+        }
+    }
+
+    /// Turns of a job until one answers the call.
+    fn turn_until<R: Wait>(
+        &self,
+        rt: &R,
+        alloc: Global,
+        pass: &mut Pass,
+        job: &Job,
+    ) -> Result<Reply, NoMemory>
+        requires of { IsPassOf self.now pass.old }
+        requires job { IsJob self.now.config job.now }
+        requires knows { KnowsOf job.now pass.old.seat.me.0 }
+        requires called { IsCalled job.now }
+        ensures of { IsPassOf self.now pass.new }
+        ensures turn { IfOk result (λ reply. TurnGives self.now.config job.now reply
+            pass.old.seat.me.0 pass.new.seat.me.0) }
+        ensures error { OnErr result (Stops AtNone job.now pass.old.seat.me.0
+            pass.new.seat.me.0) }
+    {
+        for _ in rt.forever() {
+            if let Some(reply) = self.try_turn(rt, alloc, pass, job)? {
+                return Ok(reply);
+            }
+            thread::yield_now();
+        }
+        unreachable!()
+    }
+
+    /// A turn of a job; None where it does not answer the call.
+    fn try_turn<R: Wait>(
+        &self,
+        rt: &R,
+        alloc: Global,
+        pass: &mut Pass,
+        job: &Job,
+    ) -> Result<Option<Reply>, NoMemory>
+        requires of { IsPassOf self.now pass.old }
+        requires job { IsJob self.now.config job.now }
+        requires knows { KnowsOf job.now pass.old.seat.me.0 }
+        requires called { IsCalled job.now }
+        ensures of { IsPassOf self.now pass.new }
+        ensures turn { IfOk result (λ o. TurnTries self.now.config job.now o pass.old.seat.me.0
+            pass.new.seat.me.0) }
+        ensures error { OnErr result (Stops AtNone job.now pass.old.seat.me.0
+            pass.new.seat.me.0) }
+    {
+        let reply = self.turn(rt, alloc, pass, job)?;
+        if is_answer(&self.config, job, &reply) {
+            Ok(Some(reply))
+        } else {
+            Ok(None)
+        }
+    }
+
+    /// One read under a pin of its own, or a turn that brings the object in; None where neither
+    /// answers the call.
+    fn try_read<R: Wait>(
+        &self,
+        rt: &R,
+        alloc: Global,
+        pass: &mut Pass,
+        h: Handle,
+    ) -> Result<Option<Reply>, NoMemory>
+        requires of { IsPassOf self.now pass.old }
+        requires knows { Knows h.n pass.old.seat.me.0 }
+        ensures of { IsPassOf self.now pass.new }
+        ensures read { IfOk result (λ o. ReadTries self.now.config h.n o pass.old.seat.me.0
+            pass.new.seat.me.0) }
+        ensures error { OnErr result (Stops (AtThis h.n) (jobs.Swap (the_handle h.n))
+            pass.old.seat.me.0 pass.new.seat.me.0) }
+    {
+        match self.read_beside(alloc, pass, h)? {
+            ReadAnswer::Bytes { version, bytes } => Ok(Some(Reply::Bytes { version, bytes })),
+            ReadAnswer::Freed => Ok(Some(Reply::Freed)),
+            ReadAnswer::NotHere => self.try_turn(rt, alloc, pass, &Job::Swap { handle: h }),
+            ReadAnswer::Moving => Ok(None),
+            ReadAnswer::Crowded => Ok(None),
+            ReadAnswer::Raced { .. } => Ok(None),
+        }
+    }
+
+    /// One write in place, or a turn where the object is far; None where neither answers the call.
+    fn try_write<R: Wait>(
+        &self,
+        rt: &R,
+        alloc: Global,
+        pass: &mut Pass,
+        h: Handle,
+        at: u32,
+        bytes: &[u8],
+    ) -> Result<Option<Reply>, NoMemory>
+        requires of { IsPassOf self.now pass.old }
+        requires knows { Knows h.n pass.old.seat.me.0 }
+        ensures of { IsPassOf self.now pass.new }
+        ensures write { IfOk result (λ o. WriteTries self.now.config h.n at bytes.now o
+            pass.old.seat.me.0 pass.new.seat.me.0) }
+        ensures error { OnErr result (Stops (AtThis h.n)
+            (jobs.Write (the_handle h.n) at bytes.now) pass.old.seat.me.0 pass.new.seat.me.0) }
+    {
+        let answer = self.write_here(pass, h, at, bytes);
+        if is_away(answer) {
+            return self.write_away(rt, alloc, pass, h, at, bytes);
+        }
+        Ok(reply_of(answer))
+    }
+
+    /// A turn that writes over a part of an object.
+    fn write_away<R: Wait>(
+        &self,
+        rt: &R,
+        alloc: Global,
+        pass: &mut Pass,
+        h: Handle,
+        at: u32,
+        bytes: &[u8],
+    ) -> Result<Option<Reply>, NoMemory>
+        requires of { IsPassOf self.now pass.old }
+        requires knows { Knows h.n pass.old.seat.me.0 }
+        ensures of { IsPassOf self.now pass.new }
+        ensures turn { IfOk result (λ o. TurnTries self.now.config
+            (jobs.Write (the_handle h.n) at bytes.now) o pass.old.seat.me.0 pass.new.seat.me.0) }
+        ensures error { OnErr result (Stops AtNone (jobs.Write (the_handle h.n) at bytes.now)
+            pass.old.seat.me.0 pass.new.seat.me.0) }
+    {
+        let job = Job::Write {
+            handle: h,
+            at,
+            bytes: Bytes::copy_of(alloc, bytes)?,
+        };
+        self.try_turn(rt, alloc, pass, &job)
+    }
+
+    /// One read under a pin beside those of the pass.
+    fn read_beside(&self, alloc: Global, pass: &mut Pass, h: Handle) -> Result<ReadAnswer, NoMemory>
+        requires of { IsPassOf self.now pass.old }
+        requires knows { Knows h.n pass.old.seat.me.0 }
+        ensures of { IsPassOf self.now pass.new }
+        ensures read { IfOk result (λ answer. (d : Part)
+            × Grows pass.old.seat.me.0 d pass.new.seat.me.0
+            × ReadFinds h.n answer pass.old.seat.me.0 d) }
+        ensures error { OnErr result ((word : ℕ) × (state_of word ≡ state.Here)
+            × Grows pass.old.seat.me.0 (looked h.n word) pass.new.seat.me.0) }
+    {
+        count_pins(&pass.pins);
+        read_pinned(&self.board.shared, &mut pass.seat, &self.config, alloc, h.n)
+    }
+}
+
+/// Whether a turn of this job with this reply answers its call.
+fn is_answer(config: &Config, job: &Job, reply: &Reply) -> bool
+    ensures yes { result ≡ true → IsAnswerTo config.now job.now reply.now }
+    ensures no { result ≡ false → IsAnswerTo config.now job.now reply.now → ⊥ }
+{
+    match job {
+        Job::Swap { .. } => is_lack(config, reply),
+        _ => tells_of_it(reply) || is_lack(config, reply),
+    }
+}
+
+/// Whether the reply of a make, a write or a free tells of its object.
+fn tells_of_it(reply: &Reply) -> bool
+    ensures yes { result ≡ true → TellsOfIt reply.now }
+    ensures no { result ≡ false → TellsOfIt reply.now → ⊥ }
+{
+    match reply {
+        Reply::Made { .. } | Reply::Version { .. } | Reply::Full { .. } => true,
+        Reply::Freed | Reply::Range { .. } | Reply::Pinned { .. } => true,
+        _ => false,
+    }
+}
+
+/// Whether the reply tells why an object can't be brought in.
+fn is_lack(config: &Config, reply: &Reply) -> bool
+    ensures yes { result ≡ true → IsLack config.now reply.now }
+    ensures no { result ≡ false → IsLack config.now reply.now → ⊥ }
+{
+    match reply {
+        Reply::Unavailable { .. } | Reply::Worn => true,
+        Reply::NoRoom { loose, .. } => !comes_loose(config, *loose),
+        _ => false,
+    }
+}
+
+/// Whether so few loose spans are a reason to try again: too few for an eviction, but with so many
+/// frames more may come loose.
+fn comes_loose(config: &Config, loose: u32) -> bool
+    ensures { result ≡ may_come_loose config.now loose }
+{
+    let config = *config;
+    loose < config.k && 2 * config.k as u64 + MOST_HELD as u64 <= config.frames as u64
+}
+
+/// Whether a write in place found its object far.
+fn is_away(answer: WriteAnswer) -> bool
+    ensures yes { result ≡ true → answer ≡ places.NotHere }
+    ensures no { result ≡ false → answer ≡ places.NotHere → ⊥ }
+{
+    match answer {
+        WriteAnswer::NotHere => true,
+        _ => false,
+    }
+}
+
+/// The reply that says what a write in place was answered; None where it is a reason to try again.
+fn reply_of(answer: WriteAnswer) -> Option<Reply>
+    ensures some { (r : Reply) → result ≡ Some r → SaysAs answer r }
+    ensures none { result ≡ None → IsNoReply answer }
+{
+    match answer {
+        WriteAnswer::Ok { version } => Some(Reply::Version { version }),
+        WriteAnswer::Freed => Some(Reply::Freed),
+        WriteAnswer::Range { len } => Some(Reply::Range { len }),
+        WriteAnswer::Pinned { count } => Some(Reply::Pinned { count }),
+        WriteAnswer::Worn => Some(Reply::Worn),
+        WriteAnswer::NotHere => None,
+        WriteAnswer::Moving => None,
+        WriteAnswer::Raced { .. } => None,
+    }
+}

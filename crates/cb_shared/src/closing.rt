@@ -1,0 +1,113 @@
+//! A runtime is closed.
+ghost use Rattle.std.specs.Prelude.{◌≡◌, ◌<◌, ◌≤◌, ◌+◌, ◌*◌, true, false, Some, replicate, IfOk, IfErr};
+ghost use Rattle.std.specs.Slots.{IsFull, slots_items, slots_len};
+ghost use mathlib.Core.Option.{some};
+ghost use lib.ListN.{get_elem?};
+ghost use Rattle.cb_types.specs.Config.{IsAccepted};
+ghost use Rattle.cb_world.specs.Empty.{empty_words};
+ghost use Rattle.cb_world.specs.FarState.{FarState};
+ghost use Rattle.cb_world.specs.Plain.{IsSized};
+ghost use Rattle.cb_world.specs.Seats.{idle_seat};
+ghost use Rattle.cb_rule.specs.Closing.{desk_of};
+ghost use Rattle.cb_rule.specs.Words.{base};
+ghost use Rattle.cb_shared.specs.Closing.{IsClosedBy, Refuses};
+ghost use Rattle.cb_shared.specs.Passes.{IsPassOf};
+
+use crate::filling::{Rows, fill, take_far};
+use crate::pass::Pass;
+use crate::refused::CloseRefused;
+use crate::runtime::Shared;
+use crate::seal::{Draft, Seal};
+use crate::seats::give_back;
+use crate::starting::WHOLE;
+use cb_types::{Config, NoMemory};
+use cb_world::{PlainDesk, Seats, World};
+use std::alloc::Global;
+
+/// The parts of a world that take memory, made before the table is closed.
+struct Still {
+    desk: PlainDesk,
+    seats: Seats,
+}
+
+impl Shared {
+    /// Closes the runtime with the pass that has the whole share: gives its pins back, and answers
+    /// the world that the words and the far state are, with a seal of that world and of the record
+    /// of the pass. Out comes exactly where the share is below 64; NoMemory where there is no
+    /// memory for the words of the world, which is taken before anything changes. Waits for nobody.
+    pub fn close(self, alloc: Global, pass: Pass) -> Result<(World, Seal), CloseRefused>
+        requires of { IsPassOf self pass }
+        ensures closed { IfOk result (λ r. IsClosedBy self pass r.0 r.1) }
+        ensures refused { IfErr result (λ e. Refuses self pass e) }
+    {
+        let share = pass.share;
+        if is_part(share) {
+            return Err(CloseRefused::Out {
+                shared: self,
+                pass,
+                share,
+            });
+        }
+        match still_world(alloc, self.config) {
+            Ok(still) => Ok(close_whole(self, pass, still)),
+            Err(_none) => Err(CloseRefused::NoMemory { shared: self, pass }),
+        }
+    }
+}
+
+/// Whether a share is less than the whole one.
+fn is_part(share: u32) -> bool
+    ensures part { result ≡ true → share < 64 }
+    ensures whole { result ≡ false → 64 ≤ share }
+{
+    share < WHOLE
+}
+
+/// Words that are 0, and idle seats.
+fn still_world(alloc: Global, config: Config) -> Result<Still, NoMemory>
+    requires { IsAccepted config }
+    ensures desk { IfOk result (λ still. still.desk ≡ empty_words config) }
+    ensures seats { IfOk result (λ still. still.seats ≡ replicate 64 idle_seat) }
+{
+    let seats = Seats::new(alloc)?;
+    let desk = PlainDesk::new(alloc, config)?;
+    Ok(Still { desk, seats })
+}
+
+/// Closes the runtime with the pass that has the whole share.
+fn close_whole(shared: Shared, pass: Pass, still: Still) -> (World, Seal)
+    requires of { IsPassOf shared pass }
+    requires whole { pass.seat.me.0.share ≡ 64 }
+    requires desk { still.desk ≡ empty_words shared.config }
+    requires seats { still.seats ≡ replicate 64 idle_seat }
+    ensures { IsClosedBy shared pass result.0 result.1 }
+{
+    let Shared { config, board } = shared;
+    let mut pass = pass;
+    give_back(&board.shared, &mut pass, &config);
+    let Pass { seat, .. } = pass;
+    let draft = Draft::of(&seat);
+    let world = world_of(board.close_with(seat), still, &config);
+    let seal = draft.seal(&world);
+    (world, seal)
+}
+
+/// The world of a table that is closed, and gives the memory of the table back.
+fn world_of(rows: Rows, still: Still, config: &Config) -> World
+    requires accepted { IsAccepted config.now }
+    requires words { IsFull rows.words }
+    requires slots { IsFull rows.slots }
+    requires count { slots_len rows.words ≡ base config.now + 512 * config.now.frames }
+    requires one { slots_len rows.slots ≡ 1 }
+    requires home { (far : FarState) × (get_elem? (slots_items rows.slots) 0 ≡ some (Some far)) }
+    requires desk { (still.desk.settings ≡ config.now) × IsSized still.desk }
+    ensures desk { result.desk ≡ desk_of config.now (slots_items rows.words) }
+    ensures far { get_elem? (slots_items rows.slots) 0 ≡ some (Some result.far) }
+    ensures seats { result.seats ≡ still.seats }
+{
+    let Still { desk, seats } = still;
+    let mut desk = desk;
+    fill(&rows, &mut desk, config);
+    let far = take_far(rows);
+    World { desk, far, seats }
+}

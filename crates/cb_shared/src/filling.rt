@@ -1,0 +1,109 @@
+//! A closed table, taken apart: its words go into a still desk, and the far state out of its slot.
+ghost use Rattle.std.specs.Prelude.{◌≡◌, ℕ, ◌+◌, ◌*◌, ◌<◌, Some, slice_index};
+ghost use Rattle.std.specs.Slots.{IsFull, slots_items, slots_len};
+ghost use mathlib.Core.Option.{some};
+ghost use lib.ListN.{get_elem?};
+ghost use Rattle.cb_types.specs.Config.{IsAccepted};
+ghost use Rattle.cb_world.specs.FarState.{FarState};
+ghost use Rattle.cb_world.specs.Memory.{window};
+ghost use Rattle.cb_world.specs.Plain.{IsSized};
+ghost use Rattle.cb_rule.specs.Closing.{desk_of};
+ghost use Rattle.cb_rule.specs.Words.{base, stamps};
+
+use atomic_table::Closed;
+use cb_types::{Config, Handle};
+use cb_world::{Far, PlainDesk};
+use std::alloc::Global;
+
+/// The table of the words, which no seat shares any more.
+pub(crate) type Rows = Closed<Option<Far>, Global>;
+
+/// The word with this index.
+fn word(rows: &Rows, i: usize) -> u64
+    requires full { IsFull rows.now.words }
+    requires index { i < slots_len rows.now.words }
+    ensures { result ≡ slice_index (slots_items rows.now.words) i }
+{
+    rows.word(i)
+}
+
+/// Puts the pointer words of all objects.
+fn fill_words(rows: &Rows, desk: &mut PlainDesk, config: &Config)
+    requires full { IsFull rows.now.words }
+    requires words { slots_len rows.now.words ≡ base config.now + 512 * config.now.frames }
+    requires settings { desk.old.settings ≡ config.now }
+    requires sized { IsSized desk.old }
+    ensures { desk.new ≡ record desk.old {
+      words = window (slots_items rows.now.words) 1 config.now.handles;
+    } }
+{
+    for h in 0..config.handles {
+        let found = word(rows, 1 + h as usize);
+        desk.put_word(Handle { n: h }, found);
+    }
+}
+
+/// Puts the version words of all objects.
+fn fill_versions(rows: &Rows, desk: &mut PlainDesk, config: &Config)
+    requires full { IsFull rows.now.words }
+    requires words { slots_len rows.now.words ≡ base config.now + 512 * config.now.frames }
+    requires settings { desk.old.settings ≡ config.now }
+    requires sized { IsSized desk.old }
+    ensures { desk.new ≡ record desk.old {
+      versions = window (slots_items rows.now.words) (stamps config.now) config.now.handles;
+    } }
+{
+    let first = 1 + config.handles as usize;
+    for h in 0..config.handles {
+        let found = word(rows, first + h as usize);
+        desk.stamp(Handle { n: h }, found);
+    }
+}
+
+/// Puts the memory words of all frames.
+fn fill_memory(rows: &Rows, desk: &mut PlainDesk, config: &Config)
+    requires accepted { IsAccepted config.now }
+    requires full { IsFull rows.now.words }
+    requires words { slots_len rows.now.words ≡ base config.now + 512 * config.now.frames }
+    requires settings { desk.old.settings ≡ config.now }
+    requires sized { IsSized desk.old }
+    ensures { desk.new ≡ record desk.old {
+      memory = window (slots_items rows.now.words) (base config.now) (512 * config.now.frames);
+    } }
+{
+    let first = 1 + 2 * config.handles as usize;
+    for place in 0..512 * config.frames {
+        let found = word(rows, first + place as usize);
+        desk.store_word(place, found);
+    }
+}
+
+/// Puts all words of the table into a desk of the same configuration.
+pub(crate) fn fill(rows: &Rows, desk: &mut PlainDesk, config: &Config)
+    requires accepted { IsAccepted config.now }
+    requires full { IsFull rows.now.words }
+    requires words { slots_len rows.now.words ≡ base config.now + 512 * config.now.frames }
+    requires settings { desk.old.settings ≡ config.now }
+    requires sized { IsSized desk.old }
+    ensures { desk.new ≡ desk_of config.now (slots_items rows.now.words) }
+{
+    fill_words(rows, desk, config);
+    fill_versions(rows, desk, config);
+    fill_memory(rows, desk, config);
+}
+
+/// Takes the far state out of its slot, and gives the memory of the table back.
+pub(crate) fn take_far(rows: Rows) -> Far
+    requires full { IsFull rows.slots }
+    requires one { slots_len rows.slots ≡ 1 }
+    requires home { (far : FarState) × (get_elem? (slots_items rows.slots) 0 ≡ some (Some far)) }
+    ensures { get_elem? (slots_items rows.slots) 0 ≡ some (Some result) }
+{
+    let mut rows = rows;
+    let slot = rows.take(0);
+    rows.free();
+    match slot {
+        Some(far) => far,
+        None => unreachable!(),
+    }
+}
