@@ -26,5 +26,6 @@ pub mod WorkedGround
 pub mod WorkedRights
 pub mod WorkedPins
 pub mod WorkedWrites
+pub mod WorkedSteps
 pub mod WorkedPasses
 pub mod WorkedTurns

@@ -4,6 +4,7 @@
 
 pub mod answers;
 mod board;
+mod crossing;
 mod frames;
 mod freed;
 mod handles;
