@@ -29,6 +29,7 @@ pub mod WorkedGround
 pub mod WorkedRights
 pub mod WorkedPins
 pub mod WorkedWrites
+pub mod WorkedSteps
 pub mod WorkedPasses
 pub mod Filled
 pub mod Closes

@@ -6,6 +6,7 @@ pub mod answers;
 mod board;
 pub mod calling;
 mod closing;
+mod crossing;
 mod filling;
 mod frames;
 mod freed;
