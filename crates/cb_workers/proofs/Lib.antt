@@ -1,0 +1,3 @@
+mod Visits
+mod WorkedRules
+mod WorkedWork
