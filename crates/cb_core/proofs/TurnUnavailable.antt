@@ -6,6 +6,7 @@ use Rattle.cb_ptr.specs.declared.word.State.{State}
 use Rattle.cb_ptr.specs.Word.{state_of}
 use Rattle.cb_set.specs.Lost.{lost}
 use Rattle.cb_types.specs.declared.config.Config.{Config}
+use Rattle.cb_types.specs.declared.handle.Handle.{Handle}
 use Rattle.cb_types.specs.declared.handle.SetId.{SetId}
 use Rattle.cb_types.specs.declared.job.Job.{Job}
 use Rattle.cb_types.specs.declared.job.Job.TheVariants as job
@@ -27,6 +28,8 @@ use Rattle.cb_swapin.proofs.Laws.{by_answer, gone_is_broken}
 use Rattle.cb_core.specs.OnceHere.{IsThere, OnceHere, away, here}
 use Rattle.cb_core.specs.Parts.{Holding, WithRoom, WhereItIs, at_once, no_room, won, near, declined, stays_far, brought, not_far, was_far}
 use Rattle.cb_core.specs.FarJobs.{FarStep}
+use Rattle.cb_core.specs.ReadTurn.{BroughtToRead}
+use Rattle.cb_core.specs.ReadTurn.BroughtToRead.{worn as first_worn, done as first_done}
 use Rattle.cb_core.specs.Turned.{Brings, ComesIn, Declines, Does, IsDeclined, Makes, Reads, Swaps, Turned, WinsRoom, Writes, counted, once_counted, worn, done}
 use Rattle.cb_core.specs.Unavailable.{IsInLost, TurnTells, brought_by}
 use Rattle.cb_core.proofs.Counting.{counted_sound}
@@ -344,13 +347,47 @@ module _ {D : Type 0} (run : D → List Event → D → Type 0) (shows : D → S
   does_tells (job.Join node) a b r good does = by_never (job.Join node) a.far r refl
       (far_never (job.Join node) _ b.far r (λ id l x. x) does.1)
 
-  pub turned_tells : (j : Job) (a b : Hold) (r : Reply) → Good a
-      → Turned run shows (Reads run shows) c j a r b → TurnTells j a.far r
-  turned_tells j a b r good (worn end is same ran) = record {
+  -- a turn that was refused for its number tells of no set
+  worn_tells : (j : Job) (far : FarState) (r : Reply) → far.counts.turns ≡ 2 ^ 40 → r ≡ answer.Worn
+      → TurnTells j far r
+  worn_tells j far r end is = record {
     only = λ id l e. absurd (worn_lost id l (sym is ∙ e));
     each = λ h id l asked few lost. absurd (omega (arith, few, end));
   }
     where
       worn_lost : (id : SetId) (l : List Loss) → answer.Worn ≡ answer.Unavailable id l → ⊥
       worn_lost id l e = cc
+
+  pub turned_tells : (j : Job) (a b : Hold) (r : Reply) → Good a
+      → Turned run shows (Reads run shows) c j a r b → TurnTells j a.far r
+  turned_tells j a b r good (worn end is same ran) = worn_tells j a.far r end is
   turned_tells j a b r good (done few does) = does_tells j a b r good does
+
+  -- so the first of the two calls of a read
+  pub brought_tells : (handle : Handle) (a b : Hold) (r : Reply) → Good a
+      → BroughtToRead run shows c handle a r b → TurnTells (job.Read handle) a.far r
+  brought_tells handle a b r good (first_worn end is same ran) =
+      worn_tells (job.Read handle) a.far r end is
+  brought_tells handle a b r good (first_done few come) = by_tells (job.Read handle) a.far handle.n r
+      refl (come_tells (once_counted a (job.Read handle)) b handle.n r
+      (good_counted (job.Read handle) a good) come)
+
+  -- and the second one, where the first found the object or brought it in, and the second tells of
+  -- no set
+  pub there_tells : (handle : Handle) (a b : Hold) (place r : Reply) → Good a
+      → BroughtToRead run shows c handle a place b → IsThere place → IsNever r
+      → TurnTells (job.Read handle) a.far r
+  there_tells handle a b place r good (first_worn end is same ran) (inl stays) never =
+      absurd (worn_stays (sym is ∙ stays))
+    where
+      worn_stays : answer.Worn ≡ answer.Stays → ⊥
+      worn_stays e = cc
+  there_tells handle a b place r good (first_worn end is same ran) (inr swapped) never =
+      absurd (worn_swapped swapped.0 (sym is ∙ swapped.1))
+    where
+      worn_swapped : (f : ℕ) → answer.Worn ≡ answer.Swapped f → ⊥
+      worn_swapped f e = cc
+  there_tells handle a b place r good (first_done few come) there never =
+      let k = once_counted a (job.Read handle) in
+      by_tells (job.Read handle) a.far handle.n r refl (whole_there (there_whole k.far handle.n place
+      there (come_tells k b handle.n place (good_counted (job.Read handle) a good) come)) never)

@@ -8,5 +8,8 @@ pub mod Rule
 pub mod Records
 pub mod Steps
 pub mod Ruled
+pub mod Locking
+pub mod LockSteps
 pub mod Promised
+pub mod OneHistory
 pub mod AsShown

@@ -22,10 +22,6 @@ pub record AreShares (c : Config) (views : List View) : Type 0 where
 abbrev pub Beside : Type 1
 Beside = Config → Table → Shown → Type 0
 
--- nothing, while the far state is no part of the table
-abbrev pub alone : Beside
-alone c s known = Unit {0}
-
 -- the lock and the turns of a view
 pub record IsAlike (v w : View) : Type 0 where
   pub holds : w.holds ≡ v.holds
@@ -33,11 +29,12 @@ pub record IsAlike (v w : View) : Type 0 where
   pub turns : w.turns ≡ v.turns
 
 -- A step on another word than the lock keeps what stands beside, where the seat's lock and turns
--- stay and what is known stays but for the holder. So do a split and a join of seats.
+-- stay and what is known stays but for the holder, who keeps the first version. So do a split and a
+-- join of seats.
 pub record IsSteady (beside : Beside) : Type 0 where
   pub stays : (c : Config) (s : Table) (ws : List ℕ) (known known' : Shown) (id : ℕ) (v w : View)
       → get_elem? s.views id ≡ some v → slice_index ws 0 ≡ slice_index s.words 0 → IsAlike v w
-      → (known' ≡ known) ⊎ (v.holds ≡ true) → beside c s known
+      → (known' ≡ known) ⊎ (v.holds ≡ true) → known'.first ≡ known.first → beside c s known
       → beside c record { words = ws; homes = s.homes; views = slice_set s.views id w } known'
   pub splits : (c : Config) (s : Table) (known : Shown) (id : ℕ) (v left right : View)
       → get_elem? s.views id ≡ some v → IsAlike v left → right.holds ≡ false → right.turns ≡ []

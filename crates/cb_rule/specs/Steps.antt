@@ -8,7 +8,7 @@ use Rattle.cb_world.specs.declared.entry.Entry.{Entry}
 use Rattle.cb_world.specs.declared.event.Event.{Event}
 use Rattle.cb_world.specs.declared.event.Event.TheVariants.{Looked, Claimed, Told, Loaded, Stored, Stamped, Settled}
 use Rattle.cb_world.specs.declared.shown.Shown.{Shown}
-use Rattle.cb_world.specs.Empty.{empty_far, empty_shown}
+use Rattle.cb_world.specs.Empty.{empty_far}
 use Rattle.cb_world.specs.Memory.{words_for}
 use Rattle.cb_world.specs.Played.{Agrees, after}
 use Rattle.cb_world.specs.Written.{adds, entry}
@@ -67,21 +67,6 @@ stamped st m n m' = (h : ℕ) → st.word ≡ 1 + handles_of m + h → Does m (S
 
 abbrev pub settled : Step Slot → Sat → ℕ → Sat → Type 0
 settled st m n m' = (h : ℕ) → st.word ≡ 1 + h → Does m (Settled h n) m'
-
--- between two turns: what was written stands in the record, and the next turn begins. The history
--- has so many entries.
-abbrev pub rested : ℕ → View → View
-rested n v = record v {
-  written = v.fresh ++ v.written;
-  fresh = [];
-  start = v.known;
-  since = n;
-  acts = [];
-}
-
-abbrev pub rests : Step Slot → Sat → ℕ → Sat → Type 0
-rests st m n m' = (count : ℕ) × (m' ≡ (rested count m.0, m.1))
-    × Each (λ (e : Entry). e.handle < m.0.config.handles) (m.0.fresh ++ m.0.written)
 
 -- Any seat, also while another holds the lock.
 
@@ -303,15 +288,9 @@ blank c = record {
   turns = [];
 }
 
--- the view of the first seat: it has the whole share and holds the lock, and no object was made
-abbrev pub opener : ℕ → Config → View
-opener first c = record (blank c) {
-  share = 64;
-  holds = true;
-  start = empty_shown first c;
-  known = empty_shown first c;
-  took = empty_far first c;
-}
+-- the view of the first seat, which has the whole share
+abbrev pub opener : Config → View
+opener c = record (blank c) { share = 64 }
 
 -- all that the view has of entries, as read
 abbrev pub all_seen : View → List Seen

@@ -9,6 +9,8 @@ pub mod Only
 pub mod Parting
 pub mod Begun
 pub mod WriteSteps
+pub mod ReadBytes
+pub mod ReadSteps
 pub mod Tallying
 pub mod FirstPin
 pub mod AfterTurn

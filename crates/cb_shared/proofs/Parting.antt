@@ -2,6 +2,7 @@
 use Rattle.std.proofs.Common.{ℕ, ◌+◌, ◌<◌, ◌≤◌, List, [], ◌∷◌, ◌++◌, map, sym, refl, ap, ◌∙◌, subst, arith}
 use Rattle.cb_types.specs.declared.config.Config.{Config}
 use Rattle.cb_world.specs.declared.entry.Entry.{Entry}
+use Rattle.cb_world.specs.Empty.{empty_far}
 use Rattle.cb_rule.specs.declared.view.Seen.{Seen}
 use Rattle.cb_rule.specs.declared.view.View.{View}
 use Rattle.cb_rule.specs.Lists.{Each}
@@ -27,6 +28,7 @@ rest_right c given v rest some less = record {
   live = some;
   most = let m = rest.most in omega (arith, m, less);
   claims = refl;
+  out = (refl, refl, refl, refl, refl, ap (λ (k : Config). empty_far 1 k) rest.config);
   fresh = refl;
   written = tt;
   seen = each_both (λ (s : Seen). s.handle < c.handles) (map seen_of (v.fresh ++ v.written)) v.seen
@@ -43,6 +45,7 @@ rest_joined c v w a b most = record {
   live = let l = a.live in omega (arith, l);
   most = most;
   claims = ap (λ l. l ++ v.claims) b.claims ∙ a.claims;
+  out = a.out;
   fresh = ap (λ (l : List Entry). l ++ v.fresh) b.fresh ∙ a.fresh;
   written = each_both (λ (e : Entry). e.handle < c.handles) w.written v.written b.written a.written;
   seen = each_both (λ (s : Seen). s.handle < c.handles) w.seen v.seen b.seen a.seen;

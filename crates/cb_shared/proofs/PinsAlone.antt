@@ -1,5 +1,5 @@
 -- The steps of a pin are allowed by the rule of the table, whose key has the configuration.
-use Rattle.std.proofs.Common.{◌≡◌, ℕ, ◌+◌, ◌-◌, ◌%◌, ◌^◌, ◌<◌, ◌≤◌, length, eqb}
+use Rattle.std.proofs.Common.{◌≡◌, ℕ, ◌+◌, ◌-◌, ◌%◌, ◌^◌, ◌<◌, ◌≤◌, get_or, length, eqb, sym, ap, ◌∙◌, subst}
 use mathlib.Core.Option.{none}
 use prog.Atomic.{either}
 use Rattle.atomic_table.specs.Table.{step, Allows}
@@ -10,48 +10,70 @@ use Rattle.cb_ptr.specs.Word.{state_of, pins_of}
 use Rattle.cb_world.specs.Memory.{words_for}
 use Rattle.cb_rule.specs.declared.view.Stand.{Stand}
 use Rattle.cb_rule.specs.Lists.{Has}
-use Rattle.cb_rule.specs.Ruled.{Ruled, alone}
+use Rattle.cb_rule.specs.Locking.{Locked}
+use Rattle.cb_rule.specs.Ruled.{Ruled}
 use Rattle.cb_rule.specs.Seats.{pins_on}
 use Rattle.cb_rule.specs.Slot.{Sat}
 use Rattle.cb_rule.specs.Steps.{Knows, glanced, pinned, unpinned, peeked, dated}
 use Rattle.cb_rule.specs.Words.{base}
-use Rattle.cb_rule.proofs.Laws.{alone_steady, dates, gives_pins, glances, peeks, takes_pin}
+use Rattle.cb_rule.proofs.Laws.{dates, gives_pins, glances, locked_steady, peeks, takes_pin}
+use Rattle.cb_shared.specs.Turning.{Did}
+use Rattle.cb_shared.specs.PinLoads.{read_pin}
 use Rattle.cb_shared.proofs.Alone.{at_key}
 
 module _ (first : ℕ) (c k : Config) (key : k ≡ c) (slots id : ℕ) (me : Sat)
     (live : 1 ≤ me.0.share) where
   pub glances_at : (h : ℕ) → h < c.handles → Knows h me.0
-      → Allows (Ruled alone first k) slots id me (1 + h) (λ n. n)
+      → Allows (Ruled (Locked Did) first k) slots id me (1 + h) (λ n. n)
       (glanced (step slots (1 + h) 0 0 none) me)
   glances_at h l knows = at_key first c k slots id me (1 + h) (λ n. n)
       (glanced (step slots (1 + h) 0 0 none) me) key
-      (glances alone alone_steady first c slots id me live h l knows)
+      (glances (Locked Did) (locked_steady Did) first c slots id me live h l knows)
 
   pub takes_pin_at : (h old new : ℕ) → h < c.handles → state_of old ≡ state.Here
       → pins_of old < 1023 → length me.0.pins ≤ 16 → TakesPin old new
-      → Allows (Ruled alone first k) slots id me (1 + h) (λ x. either (eqb x old) new x)
+      → Allows (Ruled (Locked Did) first k) slots id me (1 + h) (λ x. either (eqb x old) new x)
       (pinned (step slots (1 + h) old new none) me)
   takes_pin_at h old new l here room few t =
       at_key first c k slots id me (1 + h) (λ x. either (eqb x old) new x)
       (pinned (step slots (1 + h) old new none) me) key
-      (takes_pin alone alone_steady first c slots id me live h l old new here room few t)
+      (takes_pin (Locked Did) (locked_steady Did) first c slots id me live h l old new here room few t)
 
   pub gives_pins_at : (h : ℕ) → h < c.handles → 0 < pins_on h me.0
-      → Allows (Ruled alone first k) slots id me (1 + h) (λ n. (n + (2 ^ 64 - 8)) % 2 ^ 64)
+      → Allows (Ruled (Locked Did) first k) slots id me (1 + h) (λ n. (n + (2 ^ 64 - 8)) % 2 ^ 64)
       (unpinned (step slots (1 + h) 8 0 none) me)
   gives_pins_at h l some =
       at_key first c k slots id me (1 + h) (λ n. (n + (2 ^ 64 - 8)) % 2 ^ 64)
       (unpinned (step slots (1 + h) 8 0 none) me) key
-      (gives_pins alone alone_steady first c slots id me live h l some)
+      (gives_pins (Locked Did) (locked_steady Did) first c slots id me live h l some)
 
   pub peeks_at : (p : Stand) (j : ℕ) → Has p me.0.pins → j < words_for p.len
-      → Allows (Ruled alone first k) slots id me (base c + p.place + j) (λ n. n)
+      → Allows (Ruled (Locked Did) first k) slots id me (base c + p.place + j) (λ n. n)
       (peeked (step slots (base c + p.place + j) 0 0 none) me)
   peeks_at p j there lt = at_key first c k slots id me (base c + p.place + j) (λ n. n)
       (peeked (step slots (base c + p.place + j) 0 0 none) me) key
-      (peeks alone alone_steady first c slots id me live p j there lt)
+      (peeks (Locked Did) (locked_steady Did) first c slots id me live p j there lt)
 
-  pub dates_at : (i : ℕ) → Allows (Ruled alone first k) slots id me i (λ n. n)
+  pub dates_at : (i : ℕ) → Allows (Ruled (Locked Did) first k) slots id me i (λ n. n)
       (dated (step slots i 0 0 none) me)
   dates_at i = at_key first c k slots id me i (λ n. n) (dated (step slots i 0 0 none) me) key
-      (dates alone alone_steady first c slots id me i)
+      (dates (Locked Did) (locked_steady Did) first c slots id me i)
+
+  -- a load tells what a peek tells, and leaves the record as a look at a version word does
+  pub reads_pin_at : me.0.config ≡ c → (i : ℕ) → Allows (Ruled (Locked Did) first k) slots id me i (λ n. n)
+      (read_pin (step slots i 0 0 none) me)
+  reads_pin_at same i s r long at low = let a = dates_at i s r long at low in (
+    a.0,
+    a.1,
+    a.2,
+    a.3,
+    (
+      a.4.0,
+      λ p j has lt is.
+          let here = is ∙ ap (λ (x : Config). base x + p.place + j) same in
+          let z = peeks_at p j has lt s r long at
+          (subst (λ (n : ℕ). get_or s.words n 0 < 18446744073709551616) here low) in
+          ap (λ (n : ℕ). get_or s.words n 0) here
+          ∙ (z.4 p j has lt (ap (λ (x : Config). base x + p.place + j) (sym same))).0,
+    ),
+  )

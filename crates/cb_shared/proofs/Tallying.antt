@@ -7,9 +7,11 @@ use Rattle.atomic_table.specs.Table.{step, keeps, Allows}
 use Rattle.cb_types.specs.declared.config.Config.{Config}
 use Rattle.cb_rule.specs.declared.view.View.{View}
 use Rattle.cb_rule.specs.Lists.{total}
-use Rattle.cb_rule.specs.Ruled.{Ruled, alone}
+use Rattle.cb_rule.specs.Locking.{Locked}
+use Rattle.cb_rule.specs.Ruled.{Ruled}
 use Rattle.cb_rule.specs.Seats.{share_of}
 use Rattle.cb_rule.specs.Slot.{Sat}
+use Rattle.cb_shared.specs.Turning.{Did}
 use Rattle.cb_shared.specs.Tallies.{tallied}
 
 set_same : (vs : List View) (id : ℕ) (v : View) → get_elem? vs id ≡ some v → set vs id v ≡ vs
@@ -25,16 +27,16 @@ share_within (x ∷ xs) zero v e =
 share_within (x ∷ xs) (suc id) v e = let z = share_within xs id v e in omega (arith, z)
 
 pub tallies : (first : ℕ) (k : Config) (slots id i : ℕ) (me : Sat)
-    → Allows (Ruled alone first k) slots id me i (λ n. n) (tallied (step slots i 0 0 none) me)
+    → Allows (Ruled (Locked Did) first k) slots id me i (λ n. n) (tallied (step slots i 0 0 none) me)
 tallies first k slots id i me s r _ at _ = (
   me.0,
   keeps,
   tt,
-  subst (λ (ws : List ℕ). Ruled alone first k record {
+  subst (λ (ws : List ℕ). Ruled (Locked Did) first k record {
     words = ws;
     homes = s.homes;
     views = set s.views id me.0;
-  }) (sym (set-get_or s.words i 0)) (subst (λ (vs : List View). Ruled alone first k record {
+  }) (sym (set-get_or s.words i 0)) (subst (λ (vs : List View). Ruled (Locked Did) first k record {
     words = s.words;
     homes = s.homes;
     views = vs;

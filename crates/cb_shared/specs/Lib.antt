@@ -1,4 +1,5 @@
 pub mod Places
+pub mod Parts
 pub mod SeatLaws
 pub mod Handles
 pub mod Passes
@@ -8,4 +9,7 @@ pub mod Pinning
 pub mod Writing
 pub mod Joining
 pub mod Tallies
+pub mod PinLoads
+pub mod Reading
 pub mod Turning
+pub mod UnderLock

@@ -1,23 +1,29 @@
--- What a turn of the holder of the far lock comes to.
-use Rattle.std.specs.Prelude.{◌≡◌, ℕ, List, [], ◌++◌, Result, Ok, Err}
+-- What a turn under the far lock did, and what it leaves of the record of its pass.
+use Rattle.std.specs.Prelude.{◌≡◌, ◌⊎◌, ℕ, List, [], ◌∷◌, ◌++◌, Option, None, Some, Result, Ok, Err, IfOk}
 use Rattle.cb_member.specs.declared.no_memory.NoMemory.{NoMemory}
 use Rattle.cb_types.specs.declared.config.Config.{Config}
 use Rattle.cb_types.specs.declared.job.Job.{Job}
-use Rattle.cb_types.specs.declared.job.Job.TheVariants.{Read, Write, Free}
+use Rattle.cb_types.specs.declared.job.Job.TheVariants.{Make, Read, Write, Free}
 use Rattle.cb_types.specs.declared.reply.Reply.{Reply}
+use Rattle.cb_types.specs.declared.reply.Reply.TheVariants as answer
 use Rattle.cb_world.specs.declared.entry.Entry.{Entry}
 use Rattle.cb_world.specs.declared.event.Event.{Event}
 use Rattle.cb_world.specs.declared.shown.Shown.{Shown}
 use Rattle.cb_world.specs.FarState.{FarState}
 use Rattle.cb_world.specs.Played.{Agree, played}
 use Rattle.cb_core.specs.Parts.{Holding}
-use Rattle.cb_core.specs.Turned.{ReadLacks, Reads, Stopped, Turned}
+use Rattle.cb_core.specs.Turned.{Stopped, Turned}
 use Rattle.cb_core.specs.TurnLeaves.{IsNext, OutcomeWrites}
+use Rattle.cb_core.specs.Unavailable.{TurnTells}
+use Rattle.cb_rule.specs.declared.turn.Turn.{Turn}
+use Rattle.cb_rule.specs.declared.view.Look.{Look}
 use Rattle.cb_rule.specs.declared.view.View.{View}
+use Rattle.cb_rule.specs.Lists.{Each}
 use Rattle.cb_rule.specs.Steps.{Knows}
-use Rattle.cb_shared.specs.Passes.{Stood}
-use Rattle.cb_shared.specs.Places.{Place}
-use Rattle.cb_shared.specs.SeatLaws.{Runs}
+use Rattle.cb_shared.specs.declared.reading.ReadAnswer.{ReadAnswer}
+use Rattle.cb_shared.specs.declared.reading.ReadAnswer.TheVariants as found
+use Rattle.cb_shared.specs.Parts.{Part, grown, nothing_more, sum}
+use Rattle.cb_shared.specs.Reading.{ReadFinds}
 
 -- a desk that is plain data: what is known, and the events so far
 pub record Slate : Type 0 where
@@ -43,55 +49,140 @@ held_by known acts far = record {
   far = far;
 }
 
+-- what a read under a pin is answered, and the answer of the turn that it is part of
+abbrev pub IsReadReply : Reply → Type 0
+IsReadReply (answer.Bytes version bytes) = Unit {0}
+IsReadReply answer.Freed = Unit {0}
+IsReadReply answer.Moving = Unit {0}
+IsReadReply answer.Crowded = Unit {0}
+IsReadReply other = ⊥
+
+-- An object that is here is read under a pin of the pass: nothing is done at the desk, nor at the
+-- far state.
+abbrev pub ReadsByPin : ℕ → Holding Slate → Reply → Holding Slate → Type 0
+ReadsByPin h a r b = (b ≡ a) × IsReadReply r
+
+-- nor is where there is no memory for the bytes
+abbrev pub PinLacks : ℕ → Holding Slate → Holding Slate → Type 0
+PinLacks h a b = b ≡ a
+
 -- A turn of this job, from what was known and the far state that was taken, by these events to the
 -- far state that was given: so answered, or stopped for want of memory.
-abbrev pub Did : Config → Job → Result Reply NoMemory → Shown → List Event → FarState → FarState
-    → Type 0
-Did c job (Ok reply) start es took gave = Turned slate_run slate_shows (Reads slate_run slate_shows)
-    c job (held_by start [] took) reply (held_by (played es start) es gave)
-Did c job (Err e) start es took gave = Stopped slate_run slate_shows
-    (ReadLacks slate_run slate_shows) c job (held_by start [] took)
-    (held_by (played es start) es gave)
+abbrev pub DidAs : Config → Job → Option Reply → Shown → List Event → FarState → FarState → Type 0
+DidAs c job (Some reply) start es took gave = Turned slate_run slate_shows ReadsByPin c job
+    (held_by start [] took) reply (held_by (played es start) es gave)
+DidAs c job None start es took gave = Stopped slate_run slate_shows PinLacks c job
+    (held_by start [] took) (held_by (played es start) es gave)
 
--- a turn that reads, writes or frees an object is asked of a pass that knows it
+-- what a turn in a record did
+abbrev pub Did : Config → Turn → Type 0
+Did c t = DidAs c t.job t.reply t.start t.acts t.took t.gave
+
+-- the reply of a turn as it stands in a record: none where there was no memory
+abbrev pub answer_of : Result Reply NoMemory → Option Reply
+answer_of (Ok reply) = Some reply
+answer_of (Err e) = None
+
+-- the handle that a reply tells of as made
+abbrev pub made_in : Option Reply → List ℕ
+made_in (Some (answer.Made handle version)) = handle.n ∷ []
+made_in reply = []
+
+-- the handle that a turn made
+abbrev pub made_by : Job → Option Reply → List ℕ
+made_by (Make bytes) reply = made_in reply
+made_by job reply = []
+
+-- the object that a job reads, writes or frees
+abbrev pub object_of : Job → Option ℕ
+object_of (Read handle) = Some handle.n
+object_of (Write handle at bytes) = Some handle.n
+object_of (Free handle) = Some handle.n
+object_of job = None
+
+abbrev pub KnowsIt : Option ℕ → View → Type 0
+KnowsIt (Some h) v = Knows h v
+KnowsIt None v = Unit {0}
+
+-- such a turn is asked of a pass that knows the object
 abbrev pub KnowsOf : Job → View → Type 0
-KnowsOf (Read handle) v = Knows handle.n v
-KnowsOf (Write handle at bytes) v = Knows handle.n v
-KnowsOf (Free handle) v = Knows handle.n v
-KnowsOf job v = Unit {0}
+KnowsOf job v = KnowsIt (object_of job) v
 
--- the record after a turn by these events, which wrote these entries; the next turn begins with
--- what is known now, and with a history of so many entries
-abbrev pub after_turn : List Event → List Entry → ℕ → View → View
-after_turn es more n v = record v {
-  written = more ++ v.written;
-  start = played es v.known;
-  since = n;
-  known = played es v.known;
-}
+-- looks at an object, and nothing else
+pub record AreLooksAt (h : ℕ) (d : Part) : Type 0 where
+  pub looks : List Look
+  pub on : Each (λ (l : Look). l.handle ≡ h) looks
+  pub part : d ≡ record nothing_more { looks = looks }
 
--- A turn of the pass with the record v: its events, and what it wrote, which is that of its reply
--- and nothing else. The record has that more.
-pub record TurnBy (c : Config) (job : Job) (r : Result Reply NoMemory) (took gave : FarState)
-    (v w : View) : Type 0 where
-  pub events : List Event
+-- Reads under a pin that came to nothing, of which looks are left, and then one with this answer.
+pub record FindsAtLast (h : ℕ) (a : ReadAnswer) (v : View) (d : Part) : Type 0 where
+  pub before : Part
+  pub last : Part
+  pub lost : AreLooksAt h before
+  pub finds : ReadFinds h a (grown before v) last
+  pub part : d ≡ sum before last
+
+-- nothing, or what a read with this answer adds
+abbrev pub MayFind : ℕ → ReadAnswer → View → Part → Type 0
+MayFind h a v d = (d ≡ nothing_more) ⊎ FindsAtLast h a v d
+
+-- What the read of a job Read adds: its bytes are those that the pin kept. Where the object was not
+-- brought in, no pin was tried.
+abbrev pub PinReads : ℕ → Result Reply NoMemory → View → Part → Type 0
+PinReads h (Ok (answer.Bytes version bytes)) v d = FindsAtLast h (found.Bytes version bytes) v d
+PinReads h (Ok answer.Freed) v d = MayFind h found.Freed v d
+PinReads h (Ok answer.Moving) v d = MayFind h found.Moving v d
+PinReads h (Ok answer.Crowded) v d = FindsAtLast h found.Crowded v d
+PinReads h (Ok other) v d = d ≡ nothing_more
+PinReads h (Err e) v d = AreLooksAt h d
+
+-- no other job reads under a pin
+abbrev pub JobReads : Job → Result Reply NoMemory → View → Part → Type 0
+JobReads (Read handle) r v d = PinReads handle.n r v d
+JobReads job r v d = d ≡ nothing_more
+
+-- the object of a read, a write or a free that was answered Freed
+abbrev pub freed_of : Job → Result Reply NoMemory → Option ℕ
+freed_of job (Ok answer.Freed) = object_of job
+freed_of job r = None
+
+-- its freed entry is read after the turn, by a look at it
+abbrev pub FindsFreed : Option ℕ → View → Part → Type 0
+FindsFreed (Some h) v d = FindsAtLast h found.Freed v d
+FindsFreed None v d = d ≡ nothing_more
+
+-- the part of a turn: the turn, what it wrote, and what was read in it and after it
+abbrev pub turn_part : Turn → List Entry → Part → Part → Part
+turn_part t more within later =
+    record (sum within later) { written = more; turns = t ∷ [] }
+
+-- the handles are known to no other pass
+abbrev pub with_own : List ℕ → View → View
+with_own made v = record v { own = made ++ v.own }
+
+-- What a turn adds to the record v of its pass. It stands there with its job, its reply, what was
+-- known when it began, its events, and the far states that it took and gave, which are those of one
+-- turn more. What it wrote is that of its reply. It is answered Unavailable exactly where it is to
+-- be.
+pub record TurnAdds (c : Config) (job : Job) (r : Result Reply NoMemory) (v : View) (d : Part)
+    : Type 0 where
+  pub turn : Turn
   pub more : List Entry
-  pub count : ℕ
-  pub agree : Agree v.known events
-  pub did : Did c job r v.known events took gave
-  pub next : IsNext took gave
+  pub within : Part
+  pub later : Part
+  pub job_is : turn.job ≡ job
+  pub reply_is : turn.reply ≡ answer_of r
+  pub agree : Agree turn.start turn.acts
+  pub did : Did c turn
+  pub next : IsNext turn.took turn.gave
   pub wrote : OutcomeWrites job r more
-  pub left : w ≡ after_turn events more count v
+  pub tells : IfOk r (λ reply. TurnTells job turn.took reply)
+  pub reads : JobReads job r v within
+  pub finds : FindsFreed (freed_of job r) (with_own (made_by job (answer_of r))
+      (grown (turn_part turn more within nothing_more) v)) later
+  pub part : d ≡ turn_part turn more within later
 
--- So before the turn is ended: what it wrote stands apart, and what is known then is sound for the
--- far state that it gives.
-pub record TurnAt (c : Config) (job : Job) (r : Result Reply NoMemory) (took gave : FarState)
-    (p q : Place) : Type 0 where
-  pub events : List Event
-  pub more : List Entry
-  pub runs : Runs p events q
-  pub did : Did c job r p.me.0.known events took gave
-  pub next : IsNext took gave
-  pub wrote : OutcomeWrites job r more
-  pub fresh : q.me.0.fresh ≡ more
-  pub stood : Stood c q.me.0.known gave
+-- A handle that it made is the pass's own, and all else of the record is as it was.
+abbrev pub TurnBy : Config → Job → Result Reply NoMemory → View → View → Type 0
+TurnBy c job r v w = (d : Part) × TurnAdds c job r v d
+    × (w ≡ with_own (made_by job (answer_of r)) (grown d v))

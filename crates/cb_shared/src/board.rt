@@ -4,17 +4,19 @@ use cb_rule::View;
 use cb_world::Far;
 use std::alloc::Global;
 
-/// The rule that holds between any two steps at the table. Its words are, in order: one that is
-/// left to a lock, the pointer words, the version words, and the memory words.
+/// The rule that holds between any two steps at the table. Its words are, in order: that of the far
+/// lock, the pointer words, the version words, and the memory words. Its one slot has the far state.
 pub struct Words;
 
 impl TableRule<Option<Far>, View, Setup> for Words {
-    ghost use Rattle.cb_rule.specs.Ruled.{Ruled, alone};
+    ghost use Rattle.cb_rule.specs.Locking.{Locked};
+    ghost use Rattle.cb_rule.specs.Ruled.{Ruled};
     ghost use Rattle.cb_rule.specs.Steps.{opener};
+    ghost use Rattle.cb_shared.specs.Turning.{Did};
 
-    ghost holds = { λ k s. Ruled alone k.first k.config s };
+    ghost holds = { λ k s. Ruled (Locked Did) k.first k.config s };
 
-    ghost first = { λ k. opener k.first k.config };
+    ghost first = { λ k. opener k.config };
 }
 
 /// The table of the words, with its memory.

@@ -1,5 +1,5 @@
 //! The handles that a pass has pinned.
-ghost use Rattle.std.specs.Prelude.{◌≡◌, ◌<◌, ℕ, List, [], ◌∷◌, length, IfSome, IfNone};
+ghost use Rattle.std.specs.Prelude.{◌≡◌, ◌<◌, ◌≤◌, ℕ, List, [], ◌∷◌, length, IfSome, IfNone};
 ghost use Rattle.std.specs.List.{remove};
 ghost use Rattle.crossbeam_utils.specs.Padded.{padded_value};
 ghost use Rattle.cb_shared.specs.Handles.{IsFirstAt};
@@ -18,6 +18,14 @@ pub(crate) fn no_pins() -> Pins
     ensures { (padded_value result).items ≡ [] }
 {
     CachePadded::new(ArrayVec::new())
+}
+
+/// How many pins there are.
+pub(crate) fn count_pins(pins: &Pins) -> usize
+    ensures count { result ≡ length (padded_value pins.now).items }
+    ensures few { length (padded_value pins.now).items ≤ 16 }
+{
+    pins.len()
 }
 
 /// Puts the newest pin before the others.

@@ -5,12 +5,15 @@
 pub mod answers;
 mod board;
 mod frames;
+mod freed;
 mod handles;
+mod locking;
 mod own;
 pub mod pass;
 mod pinning;
 mod pins;
 mod plays;
+mod reading;
 pub mod runtime;
 mod seat_desk;
 mod seats;
@@ -18,6 +21,7 @@ mod setup;
 mod starting;
 mod steps;
 pub mod turning;
+mod working;
 mod writing;
 
 pub use answers::{PinAnswer, WriteAnswer};

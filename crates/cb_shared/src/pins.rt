@@ -3,6 +3,7 @@ ghost use Rattle.std.specs.Prelude.{◌≡◌, ◌≢◌, ℕ, ◌+◌, ◌*◌,
 ghost use Rattle.cb_ptr.specs.declared.word.State.TheVariants as state;
 ghost use Rattle.cb_ptr.specs.Word.{state_of, pins_of};
 ghost use Rattle.cb_world.specs.Memory.{words_for};
+ghost use Rattle.cb_rule.specs.declared.view.Stand.{Stand};
 ghost use Rattle.cb_rule.specs.Lists.{Has};
 ghost use Rattle.cb_rule.specs.Seats.{pins_on};
 ghost use Rattle.cb_rule.specs.Steps.{Knows, with_peek, without_pin};
@@ -12,7 +13,7 @@ ghost use Rattle.cb_shared.specs.Glances.{Glances, TakesPin, TellsVersion};
 
 use crate::board::{Place, Top};
 use crate::pass::Pin;
-use crate::plays::{Date, GivePin, Glance, Peek, TakePin};
+use crate::plays::{Date, GivePin, Glance, Peek, ReadPin, TakePin};
 use cb_types::Config;
 
 /// The pointer word of an object that the seat knows.
@@ -73,4 +74,17 @@ pub(crate) fn peek_word(top: &Top, seat: &mut Place, config: &Config, pin: &Pin,
         seat,
         1 + handles + handles + pin.place as usize + index as usize,
     )
+}
+
+/// A memory word of an object that the seat has pinned, which adds nothing to its record.
+pub(crate) fn read_word(top: &Top, seat: &mut Place, config: &Config, place: usize) -> u64
+    requires of { IsOf top.now.table_id top.now.key config.now seat.old }
+    requires place { place < 512 * config.now.frames }
+    ensures same { Moves seat.old seat.new seat.old.me.0 }
+    ensures word { (p : Stand) (j : ℕ) → Has p seat.old.me.0.pins → j < words_for p.len
+        → place ≡ p.place + j → result ≡ slice_index p.words j }
+{
+    let config = *config;
+    let handles = config.handles as usize;
+    top.load::<ReadPin>(seat, 1 + handles + handles + place)
 }

@@ -1,8 +1,14 @@
 //! What each kind of step tells the seat that makes it.
-ghost use Rattle.std.specs.Prelude.{ℕ};
+ghost use Rattle.std.specs.Prelude.{ℕ, [], None, Option as Maybe};
 ghost use Rattle.cb_types.specs.declared.config.Config.{Config};
-ghost use Rattle.cb_rule.specs.Steps.{looked, told, loaded, claimed, stored, stamped, settled, rests, glanced, pinned, unpinned, peeked, dated, read_held, claimed_here, stored_here, stamped_here, settled_here, put_back, blank, left_of, right_of, joined};
+ghost use Rattle.cb_types.specs.declared.job.Job.{Job};
+ghost use Rattle.cb_types.specs.declared.job.Job.TheVariants.{Evict};
+ghost use Rattle.cb_types.specs.declared.reply.Reply.{Reply};
+ghost use Rattle.cb_rule.specs.LockSteps.{gave, took};
+ghost use Rattle.cb_rule.specs.Steps.{looked, told, loaded, claimed, stored, stamped, settled, glanced, pinned, unpinned, peeked, dated, read_held, claimed_here, stored_here, stamped_here, settled_here, put_back, blank, left_of, right_of, joined};
+ghost use Rattle.cb_shared.specs.PinLoads.{read_pin};
 ghost use Rattle.cb_shared.specs.Tallies.{tallied};
+ghost use Rattle.cb_shared.specs.Turning.{made_by};
 
 use atomic_table::{Join, Play, Split};
 use cb_rule::View;
@@ -60,11 +66,32 @@ impl Play<Option<Far>, View> for Settle {
     ghost then = { settled };
 }
 
-/// Between two turns.
-pub struct Rest;
+/// An exchange of the lock's word that takes the far lock and the slot of the far state, or finds
+/// another word.
+pub struct TakeLock;
 
-impl Play<Option<Far>, View> for Rest {
-    ghost then = { rests };
+impl Play<Option<Far>, View> for TakeLock {
+    ghost then = { took };
+}
+
+/// What a turn was asked for, and answered: None where there was no memory. Each call picks it.
+pub trait Deed {
+    ghost job: { Job };
+    ghost reply: { Maybe Reply };
+}
+
+impl Deed for Brand {
+    ghost job = { Evict };
+    ghost reply = { None };
+}
+
+/// A store of the lock's word that gives the far lock and the far state back.
+pub struct GiveLock<W> {
+    deed: PhantomData<W>,
+}
+
+impl<W: Deed> Play<Option<Far>, View> for GiveLock<W> {
+    ghost then = { gave W.job W.reply [] (made_by W.job W.reply) };
 }
 
 // Any seat.
@@ -95,6 +122,13 @@ pub struct Peek;
 
 impl Play<Option<Far>, View> for Peek {
     ghost then = { peeked };
+}
+
+/// A load of such a word that adds nothing to the record.
+pub struct ReadPin;
+
+impl Play<Option<Far>, View> for ReadPin {
+    ghost then = { read_pin };
 }
 
 /// A look at a version word that does not change while the seat has a pin or a claim.

@@ -1,16 +1,19 @@
-ghost use Rattle.std.specs.Prelude.{◌≡◌, ◌+◌, ◌*◌};
+ghost use Rattle.std.specs.Prelude.{◌≡◌, ◌+◌, ◌*◌, ◌≤◌};
+ghost use Rattle.cb_types.specs.Config.{IsAccepted};
 
 use crate::board::Board;
 use cb_types::Config;
-use cb_world::Far;
 
-/// The shared runtime: a table of atomic words at which every pass steps, and the far state.
+/// The shared runtime: a table of atomic words at which every pass steps. The far state lies in its
+/// one slot while no turn is under way.
 #[derive(Drop)]
 pub struct Shared {
     pub(crate) config: Config,
-    pub(crate) far: Far,
     pub(crate) board: Board,
     ghost counts: { board.shared.table_id.words
         ≡ 1 + config.handles + config.handles + 512 * config.frames },
+    ghost slots: { board.shared.table_id.slots ≡ 1 },
     ghost key: { board.shared.key.config ≡ config },
+    ghost first: { 1 ≤ board.shared.key.first },
+    ghost accepted: { IsAccepted config },
 }

@@ -1,7 +1,11 @@
-ghost use Rattle.std.specs.Prelude.{◌≡◌, ◌≤◌, IfOk};
+ghost use Rattle.std.specs.Prelude.{◌≡◌, ℕ, ◌+◌, ◌*◌, ◌≤◌, [], ◌∷◌, length, slice_index, Some, IfOk};
 ghost use Rattle.cb_types.specs.Config.{IsAccepted};
+ghost use Rattle.cb_world.specs.Empty.{empty_far};
+ghost use Rattle.cb_rule.specs.Steps.{opener};
+ghost use Rattle.cb_rule.specs.Words.{base};
 ghost use Rattle.cb_shared.specs.Passes.{IsBegun};
 
+use crate::board::{Board, Place};
 use crate::handles::no_pins;
 use crate::pass::Pass;
 use crate::runtime::Shared;
@@ -36,14 +40,13 @@ impl Shared {
     {
         let count = 1 + 2 * config.handles as usize + 512 * config.frames as usize;
         let words = vec![in alloc; 0u64; count]?;
-        let (board, seat) = Table::of_words(alloc, words.as_slice(), &Setup { config, first })?;
-        let far = Far::new(alloc, first, config)?;
+        let (board, seat) = open_board(alloc, words.as_slice(), &Setup { config, first })?;
         let pass = Pass {
             seat,
             share: WHOLE,
             pins: no_pins(),
         };
-        Ok((Shared { config, far, board }, pass))
+        Ok((Shared { config, board }, pass))
     }
 
     /// The configuration.
@@ -52,4 +55,36 @@ impl Shared {
     {
         self.config
     }
+}
+
+/// The table of these words, which are 0, with the far state of no objects in its slot, and its
+/// first seat.
+fn open_board(alloc: Global, words: &[u64], about: &Setup) -> Result<(Board, Place), NoMemory>
+    requires accepted { IsAccepted about.now.config }
+    requires first { 1 ≤ about.now.first }
+    requires long { length words.now ≡ base about.now.config + 512 * about.now.config.frames }
+    requires zeros { (i : ℕ) → slice_index words.now i ≡ 0 }
+    ensures counts { IfOk result (λ t. (t.0.shared.table_id.words ≡ length words.now)
+        × (t.0.shared.table_id.slots ≡ 1)) }
+    ensures key { IfOk result (λ t. t.0.shared.key ≡ about.now) }
+    ensures seat { IfOk result (λ t. (t.1.table_id ≡ t.0.shared.table_id)
+        × (t.1.me ≡ (opener about.now.config, []))) }
+{
+    let slots = first_slots(alloc, about)?;
+    match Table::new(alloc, words, slots, about) {
+        Ok(opened) => Ok(opened),
+        Err(_refused) => Err(NoMemory),
+    }
+}
+
+/// One slot, with the far state of no objects.
+fn first_slots(alloc: Global, about: &Setup) -> Result<Vec<Option<Far>>, NoMemory>
+    requires accepted { IsAccepted about.now.config }
+    requires first { 1 ≤ about.now.first }
+    ensures { IfOk result (λ slots. slots.items
+        ≡ Some (empty_far about.now.first about.now.config) ∷ []) }
+{
+    let mut slots = Vec::with_capacity(alloc, 1)?;
+    slots.push(Some(Far::new(alloc, about.first, about.config)?))?;
+    Ok(slots)
 }

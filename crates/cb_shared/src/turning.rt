@@ -1,119 +1,104 @@
-ghost use Rattle.std.specs.Prelude.{◌≡◌, ℕ, ◌<◌, true, [], ◌++◌, IfOk};
+//! Turns under the far lock.
+ghost use Rattle.std.specs.Prelude.{◌≡◌, ◌≤◌, ◌^◌, ◌<◌, [], ◌∷◌, length, IfOk, None};
 ghost use Rattle.cb_types.specs.Config.{IsAccepted};
 ghost use Rattle.cb_types.specs.declared.reply.Reply.TheVariants as answer;
-ghost use Rattle.cb_world.specs.declared.entry.Entry.{Entry};
 ghost use Rattle.cb_core.specs.Jobs.{IsJob};
 ghost use Rattle.cb_core.specs.Unavailable.{TurnTells};
-ghost use Rattle.cb_rule.specs.Lists.{Each};
-ghost use Rattle.cb_rule.specs.Steps.{rested};
-ghost use Rattle.cb_shared.specs.Passes.{IsFirst, IsPassOf, Stood};
-ghost use Rattle.cb_shared.specs.Places.{Holds, IsOf, Moves};
-ghost use Rattle.cb_shared.specs.Turning.{KnowsOf, TurnAt, TurnBy};
+ghost use Rattle.cb_shared.specs.Passes.{IsAtRest, IsPassOf};
+ghost use Rattle.cb_shared.specs.Places.{IsOf};
+ghost use Rattle.cb_shared.specs.Turning.{KnowsOf, TurnBy};
+ghost use Rattle.cb_shared.specs.UnderLock.{IsBeginning, TurnWith, TurnedBy};
 
 use crate::board::{Place, Top};
+use crate::freed::{find_freed, freed_of};
+use crate::handles::count_pins;
+use crate::locking::{give_far, lock_far};
 use crate::pass::Pass;
-use crate::plays::Rest;
 use crate::runtime::Shared;
-use crate::seat_desk::SeatDesk;
-use cb_core::turn;
+use crate::working::work;
 use cb_types::{Config, Job, NoMemory, Reply};
 use cb_world::Far;
 use std::alloc::Global;
+use std::sync::Wait;
 
 impl Shared {
-    /// A turn of the first pass, which alone may work at the far state: it is counted and does its
-    /// job, answered as a turn over any desk. What it writes stands in the record of the pass; the
-    /// turn itself is not recorded yet. Where there is no memory, the turn is counted and what its
-    /// parts did before stays.
-    pub fn turn_alone(
-        &mut self,
+    /// A turn of any pass: it takes the far lock, is counted and does its job, and gives the lock
+    /// back, while others pin, unpin, read and write. It is answered as a turn over any desk, but
+    /// that a read is made under a pin beside those of the scope: it tries again where its exchange
+    /// found another word, and is answered Moving or Crowded where the pin's look found a word that
+    /// is Moving or has 1,023 pins. Where there is no memory, the turn is counted and what its parts
+    /// did before stays. Waits for the lock.
+    pub fn turn<R: Wait>(
+        &self,
+        rt: &R,
         alloc: Global,
         pass: &mut Pass,
         job: &Job,
     ) -> Result<Reply, NoMemory>
-        requires of { IsPassOf self.old pass.old }
-        requires is_first { IsFirst self.old pass.old }
-        requires job { IsJob self.old.config job.now }
+        requires of { IsPassOf self.now pass.old }
+        requires job { IsJob self.now.config job.now }
         requires knows { KnowsOf job.now pass.old.seat.me.0 }
-        ensures same { (self.new.config ≡ self.old.config)
-            × (self.new.board.shared ≡ self.old.board.shared) }
-        ensures of { IsPassOf self.new pass.new }
-        ensures is_first { IsFirst self.new pass.new }
-        ensures turn { TurnBy self.old.config job.now result self.old.far self.new.far
-            pass.old.seat.me.0 pass.new.seat.me.0 }
+        ensures of { IsPassOf self.now pass.new }
+        ensures turn { TurnBy self.now.config job.now result pass.old.seat.me.0
+            pass.new.seat.me.0 }
         ensures no_frame { IfOk result (λ reply. reply ≡ answer.NoFrame → ⊥) }
-        ensures unavailable { IfOk result (λ reply. TurnTells job.now self.old.far reply) }
     {
         let config = self.config;
-        let board = &self.board;
-        let reply = turn_by_seat(
-            &board.shared,
-            &mut pass.seat,
-            &config,
-            &mut self.far,
-            alloc,
-            job,
-        );
-        end_turn(&board.shared, &mut pass.seat, &config);
+        let top = &self.board.shared;
+        let _count = count_pins(&pass.pins);
+        let reply = locked_turn(rt, top, &mut pass.seat, &config, alloc, job);
+        find_freed(rt, top, &mut pass.seat, &config, freed_of(job, &reply));
         reply
     }
 }
 
-/// A turn at a desk over a seat.
-fn turn_at_desk<'a>(
-    desk: &mut SeatDesk<'a>,
-    far: &mut Far,
-    alloc: Global,
-    job: &Job,
-) -> Result<Reply, NoMemory>
-    requires config { IsAccepted desk.old.config }
-    requires job { IsJob desk.old.config job.now }
-    requires stood { Stood desk.old.config desk.old.seat.now.me.0.known far.old }
-    requires idle { desk.old.seat.now.me.0.acts ≡ [] }
-    requires fresh { desk.old.seat.now.me.0.fresh ≡ [] }
-    ensures same { desk.new.seat.ghost_name ≡ desk.old.seat.ghost_name }
-    ensures turn { TurnAt desk.old.config job.now result far.old far.new desk.old.seat.now
-        desk.new.seat.now }
-    ensures no_frame { IfOk result (λ reply. reply ≡ answer.NoFrame → ⊥) }
-    ensures unavailable { IfOk result (λ reply. TurnTells job.now far.old reply) }
-{
-    turn(alloc, desk, far, job)
-}
-
-/// A turn by a seat that holds the far lock, at a desk over it.
-fn turn_by_seat(
+/// A turn, from taking the far lock to giving it back.
+fn locked_turn<R: Wait>(
+    rt: &R,
     top: &Top,
     seat: &mut Place,
     config: &Config,
-    far: &mut Far,
     alloc: Global,
     job: &Job,
 ) -> Result<Reply, NoMemory>
-    requires holds { Holds top.now.table_id top.now.key config.now seat.old }
+    requires of { IsOf top.now.table_id top.now.key config.now seat.old }
+    requires rest { IsAtRest config.now seat.old.me.0 }
+    requires slots { seat.old.me.1 ≡ [] }
+    requires few { length seat.old.me.0.pins ≤ 16 }
     requires config { IsAccepted config.now }
     requires job { IsJob config.now job.now }
-    requires stood { Stood config.now seat.old.me.0.known far.old }
-    requires idle { seat.old.me.0.acts ≡ [] }
-    requires fresh { seat.old.me.0.fresh ≡ [] }
-    ensures turn { TurnAt config.now job.now result far.old far.new seat.old seat.new }
+    requires knows { KnowsOf job.now seat.old.me.0 }
+    ensures same { (seat.new.table_id ≡ seat.old.table_id) × (seat.new.id ≡ seat.old.id)
+        × (seat.new.me.1 ≡ []) }
+    ensures turn { TurnedBy config.now job.now result seat.old.me.0 seat.new.me.0 }
     ensures no_frame { IfOk result (λ reply. reply ≡ answer.NoFrame → ⊥) }
-    ensures unavailable { IfOk result (λ reply. TurnTells job.now far.old reply) }
 {
-    let mut desk = SeatDesk {
-        config: *config,
-        top,
-        seat,
-    };
-    turn_at_desk(&mut desk, far, alloc, job)
+    let far = lock_far(rt, top, seat, config);
+    turn_with(rt, top, seat, config, alloc, job, far)
 }
 
-/// Ends a turn: what it wrote goes to what the record has.
-fn end_turn(top: &Top, seat: &mut Place, config: &Config)
+/// The turn of a seat that took the far state, and its end.
+fn turn_with<R: Wait>(
+    rt: &R,
+    top: &Top,
+    seat: &mut Place,
+    config: &Config,
+    alloc: Global,
+    job: &Job,
+    mut far: Far,
+) -> Result<Reply, NoMemory>
     requires of { IsOf top.now.table_id top.now.key config.now seat.old }
-    requires holds { seat.old.me.0.holds ≡ true }
-    ensures { (n : ℕ) × Moves seat.old seat.new (rested n seat.old.me.0)
-        × Each (λ (e : Entry). e.handle < config.now.handles)
-        (seat.old.me.0.fresh ++ seat.old.me.0.written) }
+    requires slots { seat.old.me.1 ≡ (0, None) ∷ [] }
+    requires few { length seat.old.me.0.pins ≤ 16 }
+    requires config { IsAccepted config.now }
+    requires job { IsJob config.now job.now }
+    requires knows { KnowsOf job.now seat.old.me.0 }
+    requires begins { IsBeginning config.now far seat.old.me.0 }
+    ensures turn { TurnWith config.now job.now result far seat.old seat.new }
+    ensures no_frame { IfOk result (λ reply. reply ≡ answer.NoFrame → ⊥) }
+    ensures unavailable { IfOk result (λ reply. TurnTells job.now far reply) }
 {
-    top.load::<Rest>(seat, 0);
+    let reply = work(rt, top, seat, config, &mut far, alloc, job);
+    give_far(top, seat, config, job, &reply, far);
+    reply
 }

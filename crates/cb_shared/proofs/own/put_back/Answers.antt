@@ -2,9 +2,11 @@ use Rattle.std.proofs.Common.{◌+◌, ℕ, List, refl, sym, ap, subst, ◌∙�
 use mathlib.Core.Option.{none}
 use Rattle.atomic_table.specs.Table.{step, Allows}
 use Rattle.cb_rule.specs.declared.view.Held.{Held}
-use Rattle.cb_rule.specs.Ruled.{Ruled, alone}
+use Rattle.cb_rule.specs.Locking.{Locked}
+use Rattle.cb_rule.specs.Ruled.{Ruled}
 use Rattle.cb_rule.specs.Slot.{Sat}
 use Rattle.cb_rule.specs.Steps.{put_back}
+use Rattle.cb_shared.specs.Turning.{Did}
 use Rattle.cb_shared.proofs.Only.{has_only, removed_only}
 use Rattle.cb_shared.proofs.OwnAlone.{puts_back_at}
 use Rattle.cb_shared.proofs.own.put_back.Goals as goal
@@ -16,11 +18,11 @@ store-requires c = let o = c.requires.of in let held = c.requires.held in
       o.table,
       (let z = o.words in let l = c.requires.handle in omega arith),
       subst (λ (w : ℕ).
-          Allows (Ruled alone top.key.first top.key.config) top.table_id.slots seat.id seat.me
+          Allows (Ruled (Locked Did) top.key.first top.key.config) top.table_id.slots seat.id seat.me
           (1 + c.args.h) (λ _. w)
           (λ _. put_back (step top.table_id.slots (1 + c.args.h) w 0 none) seat.me w)) (sym n.word)
           (subst (λ (h : ℕ).
-          Allows (Ruled alone top.key.first top.key.config) top.table_id.slots seat.id seat.me
+          Allows (Ruled (Locked Did) top.key.first top.key.config) top.table_id.slots seat.id seat.me
           (1 + h) (λ _. x.word)
           (λ _. put_back (step top.table_id.slots (1 + h) x.word 0 none) seat.me x.word)) held.1.1
           (puts_back_at top.key.first k top.key.config o.key top.table_id.slots seat.id seat.me

@@ -2,9 +2,11 @@ use Rattle.std.proofs.Common.{◌+◌, ℕ, List, ◌∷◌, refl, sym, ap, subs
 use mathlib.Core.Option.{none}
 use Rattle.atomic_table.specs.Table.{step, Allows}
 use Rattle.cb_rule.specs.declared.view.Held.{Held}
-use Rattle.cb_rule.specs.Ruled.{Ruled, alone}
+use Rattle.cb_rule.specs.Locking.{Locked}
+use Rattle.cb_rule.specs.Ruled.{Ruled}
 use Rattle.cb_rule.specs.Slot.{Sat}
 use Rattle.cb_rule.specs.Steps.{next_entry, settled_here}
+use Rattle.cb_shared.specs.Turning.{Did}
 use Rattle.cb_shared.proofs.Only.{has_only, removed_only}
 use Rattle.cb_shared.proofs.OwnAlone.{settles_here_at}
 use Rattle.cb_shared.proofs.own.settle_own.Goals as goal
@@ -16,7 +18,7 @@ store-requires c = let o = c.requires.of in let held = c.requires.held in
       o.table,
       (let z = o.words in let l = c.requires.handle in omega arith),
       subst (λ (h : ℕ).
-          Allows (Ruled alone top.key.first top.key.config) top.table_id.slots seat.id seat.me (1 + h)
+          Allows (Ruled (Locked Did) top.key.first top.key.config) top.table_id.slots seat.id seat.me (1 + h)
           (λ _. w) (λ _. settled_here (step top.table_id.slots (1 + h) w 0 none) seat.me w)) held.1.1
           (settles_here_at top.key.first k top.key.config o.key top.table_id.slots seat.id seat.me
           o.live o.config x (has_only x seat.me.0.claims held.1.0) w n.write.0 n.write.1 n.next

@@ -3,10 +3,12 @@ use mathlib.Core.Option.{none}
 use Rattle.atomic_table.specs.Table.{step, Allows}
 use Rattle.cb_types.specs.declared.config.Config.{Config}
 use Rattle.cb_rule.specs.declared.view.Held.{Held}
-use Rattle.cb_rule.specs.Ruled.{Ruled, alone}
+use Rattle.cb_rule.specs.Locking.{Locked}
+use Rattle.cb_rule.specs.Ruled.{Ruled}
 use Rattle.cb_rule.specs.Slot.{Sat}
 use Rattle.cb_rule.specs.Steps.{stamped_here, with_stamp}
 use Rattle.cb_rule.specs.Words.{stamps}
+use Rattle.cb_shared.specs.Turning.{Did}
 use Rattle.cb_shared.proofs.Only.{edited_only, has_only}
 use Rattle.cb_shared.proofs.OwnAlone.{stamps_here_at}
 use Rattle.cb_shared.proofs.own.stamp_own.Goals as goal
@@ -18,7 +20,7 @@ store-requires c = let o = c.requires.of in let held = c.requires.held in
       o.table,
       (let z = o.words in let l = c.requires.handle in omega arith),
       subst (λ (h : ℕ).
-          Allows (Ruled alone top.key.first top.key.config) top.table_id.slots seat.id seat.me
+          Allows (Ruled (Locked Did) top.key.first top.key.config) top.table_id.slots seat.id seat.me
           (stamps k + h) (λ _. y)
           (λ _. stamped_here (step top.table_id.slots (stamps k + h) y 0 none) seat.me y)) held.1.1
           (stamps_here_at top.key.first k top.key.config o.key top.table_id.slots seat.id seat.me

@@ -3,10 +3,12 @@ use mathlib.Core.Option.{none}
 use Rattle.atomic_table.specs.Table.{step, Allows}
 use Rattle.cb_types.specs.declared.config.Config.{Config}
 use Rattle.cb_rule.specs.declared.view.Held.{Held}
-use Rattle.cb_rule.specs.Ruled.{Ruled, alone}
+use Rattle.cb_rule.specs.Locking.{Locked}
+use Rattle.cb_rule.specs.Ruled.{Ruled}
 use Rattle.cb_rule.specs.Slot.{Sat}
 use Rattle.cb_rule.specs.Steps.{stored_here, with_word}
 use Rattle.cb_rule.specs.Words.{base}
+use Rattle.cb_shared.specs.Turning.{Did}
 use Rattle.cb_shared.proofs.Only.{edited_only, has_only}
 use Rattle.cb_shared.proofs.OwnAlone.{stores_here_at}
 use Rattle.cb_shared.proofs.own.store_own.Goals as goal
@@ -19,7 +21,7 @@ store-requires c = let o = c.requires.of in let held = c.requires.held in
       o.table,
       (let z = o.words in let l = c.requires.place in omega arith),
       subst (λ (i : ℕ).
-          Allows (Ruled alone top.key.first top.key.config) top.table_id.slots seat.id seat.me i (λ _. y)
+          Allows (Ruled (Locked Did) top.key.first top.key.config) top.table_id.slots seat.id seat.me i (λ _. y)
           (λ _. stored_here (step top.table_id.slots i y 0 none) seat.me y)) here
           (stores_here_at top.key.first k top.key.config o.key top.table_id.slots seat.id seat.me
           o.live o.config x (has_only x seat.me.0.claims held.2.0) j y held.3),

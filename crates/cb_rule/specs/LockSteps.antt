@@ -1,0 +1,115 @@
+-- The steps on the far lock: what they do to the view of the seat that steps, and what they tell.
+use Rattle.std.specs.Prelude.{◌≡◌, ◌≢◌, ◌⊎◌, ℕ, ◌+◌, ◌*◌, ◌^◌, ◌<◌, true, false, List, [], ◌∷◌, ◌++◌, Option, Some}
+use Rattle.atomic_table.specs.Table.{Step}
+use Rattle.cb_types.specs.declared.config.Config.{Config}
+use Rattle.cb_types.specs.declared.job.Job.{Job}
+use Rattle.cb_types.specs.declared.reply.Reply.{Reply}
+use Rattle.cb_world.specs.declared.entry.Entry.{Entry}
+use Rattle.cb_world.specs.declared.object.Object.TheVariants as is
+use Rattle.cb_world.specs.declared.shown.Shown.{Shown}
+use Rattle.cb_world.specs.Empty.{empty_far}
+use Rattle.cb_world.specs.FarState.{FarState}
+use Rattle.cb_world.specs.Shown.{object_at}
+use Rattle.cb_rule.specs.declared.turn.Turn.{Turn}
+use Rattle.cb_rule.specs.declared.view.Seen.{Seen}
+use Rattle.cb_rule.specs.declared.view.View.{View}
+use Rattle.cb_rule.specs.Lists.{Each}
+use Rattle.cb_rule.specs.Locking.{Deeds, Stood}
+use Rattle.cb_rule.specs.Rule.{AreSized}
+use Rattle.cb_rule.specs.Slot.{Slot, Sat}
+use Rattle.cb_rule.specs.Steps.{Knows, freed_seen, nothing}
+
+-- the seat has the lock and this far state, and its turn begins with what is known. The history has
+-- so many entries.
+abbrev pub took_lock : Shown → FarState → ℕ → View → View
+took_lock known far n v = record v {
+  holds = true;
+  start = known;
+  since = n;
+  acts = [];
+  known = known;
+  took = far;
+}
+
+-- what a seat finds that takes the lock, whose word was n
+pub record HasTaken (m : Sat) (n : ℕ) (m' : Sat) : Type 0 where
+  pub known : Shown
+  pub far : FarState
+  pub entries : ℕ
+  pub taken : m' ≡ (took_lock known far entries m.0, (0, Some far) ∷ m.1)
+  pub sized : AreSized m.0.config known
+  pub stood : Stood m.0.config known far
+  pub number : n ≡ 2 * far.counts.turns
+
+-- an exchange of the lock's word that takes the lock and the far state out of its slot, or finds
+-- another word
+abbrev pub took : Step Slot → Sat → ℕ → Sat → Type 0
+took st m n m' = (n ≡ st.first → HasTaken m n m') × (n ≢ st.first → m' ≡ m)
+
+-- the turn that a seat made which gives this far state
+abbrev pub turn_of : Job → Option Reply → FarState → ℕ → View → Turn
+turn_of job reply far n v = record {
+  job = job;
+  reply = reply;
+  start = v.start;
+  since = v.since;
+  until = n;
+  acts = v.acts;
+  took = v.took;
+  gave = far;
+}
+
+-- The seat has given the lock back. Its turn stands in the record; so do the entries that it wrote,
+-- the freed ones that it found and the handles that it made. The rest of the turn is blank.
+abbrev pub gave_lock : Job → Option Reply → FarState → ℕ → List Seen → List ℕ → View → View
+gave_lock job reply far n freed made v = record v {
+  written = v.fresh ++ v.written;
+  fresh = [];
+  seen = freed ++ v.seen;
+  own = made ++ v.own;
+  holds = false;
+  start = nothing;
+  since = 0;
+  acts = [];
+  known = nothing;
+  took = empty_far 1 v.config;
+  turns = turn_of job reply far n v ∷ v.turns;
+}
+
+-- the freed entry of an object of which the record has an entry and the holder knows that it is
+-- empty
+pub record IsFoundFreed (v : View) (s : Seen) : Type 0 where
+  pub handle : ℕ
+  pub version : ℕ
+  pub knows : Knows handle v
+  pub empty : object_at v.known handle ≡ is.Empty version
+  pub entry : s ≡ freed_seen handle version
+
+-- one turn more is counted; or 2^40 were, and the far state is as it was
+abbrev pub AddsTurn : FarState → FarState → Type 0
+AddsTurn far new = ((far.counts.turns < 2 ^ 40) × (new.counts.turns ≡ far.counts.turns + 1))
+    ⊎ ((far.counts.turns ≡ 2 ^ 40) × (new ≡ far))
+
+-- The holder may give the lock back with this far state: what it knows is sound for it, and the turn
+-- did what its job says.
+pub record MayGive (deeds : Deeds) (c : Config) (job : Job) (reply : Option Reply) (far : FarState)
+    (freed : List Seen) (v : View) : Type 0 where
+  pub holds : v.holds ≡ true
+  pub stood : Stood c v.known far
+  pub adds : AddsTurn v.took far
+  pub did : (n : ℕ) → deeds c (turn_of job reply far n v)
+  pub found : Each (IsFoundFreed v) freed
+
+-- what a seat has that gave the lock back, and that its handles are in range
+pub record HasGiven (job : Job) (reply : Option Reply) (far : FarState) (freed : List Seen)
+    (made : List ℕ) (m m' : Sat) : Type 0 where
+  pub entries : ℕ
+  pub given : m' ≡ (gave_lock job reply far entries freed made m.0, [])
+  pub written : Each (λ (e : Entry). e.handle < m.0.config.handles) (m.0.fresh ++ m.0.written)
+  pub seen : Each (λ (s : Seen). s.handle < m.0.config.handles) freed
+
+-- a store of the lock's word that gives the lock back, and the far state that is in hand to its
+-- slot
+abbrev pub gave : Job → Option Reply → List Seen → List ℕ → Step Slot → Sat → ℕ → Sat → Type 0
+gave job reply freed made st m n m' = (far : FarState) → m.1 ≡ (0, Some far) ∷ []
+    → HasGiven job reply far freed made m m'

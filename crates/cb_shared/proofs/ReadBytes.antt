@@ -1,0 +1,89 @@
+-- The bytes of an object are put into their room word by word.
+use Rattle.std.proofs.Common.{◌≡◌, ◌⊎◌, ℕ, ◌+◌, ◌-◌, ◌*◌, ◌/◌, ◌%◌, ◌<◌, ◌≤◌, List, ◌++◌, length, get_or, take, drop, map, sym, ap, ◌∙◌, arith, inl, inr}
+use Rattle.std.proofs.lemmas.Bool.{cases_lt}
+use Rattle.std.proofs.lemmas.List.{ext_get_or, get_or_append_left, get_or-append-add, get_or-append_right, get_or-drop, get_or-take, length-append, length-drop, length-take-le}
+use Rattle.std.proofs.lemmas.List.FromFn.{get_or-map-range_with_len, length-map-range_with_len}
+use Rattle.std.specs.Int.{to_le_bytes, w64}
+use Rattle.std.specs.List.{range_with_len}
+use Rattle.cb_world.specs.Memory.{byte_at, bytes_in}
+
+-- a list with so many of its elements, from a place on, replaced by the first of another
+abbrev pub replaced : ℕ → ℕ → List ℕ → List ℕ → List ℕ
+replaced a e old b = take a old ++ take e b ++ drop (a + length (take e b)) old
+
+module _ (a e : ℕ) (old b : List ℕ) (fits : a + e ≤ length old) (long : e ≤ length b) where
+  front : length (take a old) ≡ a
+  front = length-take-le a old (omega (arith, fits))
+
+  middle : length (take e b) ≡ e
+  middle = length-take-le e b long
+
+  both : length (take a old ++ take e b) ≡ a + e
+  both = let n = length-append (take a old) (take e b) in omega (arith, n, front, middle)
+
+  pub replaced_inside : (j : ℕ) → j < e → get_or (replaced a e old b) (a + j) 0 ≡ get_or b j 0
+  replaced_inside j less =
+      get_or_append_left (take a old ++ take e b) (drop (a + length (take e b)) old) 0 (a + j)
+      (omega (arith, both, less))
+      ∙ ap (λ (n : ℕ). get_or (take a old ++ take e b) (n + j) 0) (sym front)
+      ∙ get_or-append-add (take a old) (take e b) j 0
+      ∙ get_or-take e b j 0 less
+
+  pub replaced_outside : (p : ℕ) → (p < a) ⊎ (a + e ≤ p)
+      → get_or (replaced a e old b) p 0 ≡ get_or old p 0
+  replaced_outside p (inl less) =
+      get_or_append_left (take a old ++ take e b) (drop (a + length (take e b)) old) 0 p
+      (omega (arith, both, less))
+      ∙ get_or_append_left (take a old) (take e b) 0 p (omega (arith, front, less))
+      ∙ get_or-take a old p 0 less
+  replaced_outside p (inr more) =
+      get_or-append_right (take a old ++ take e b) (drop (a + length (take e b)) old) (a + e) p 0
+      both more
+      ∙ get_or-drop (a + length (take e b)) old (p - (a + e)) 0
+      ∙ (let z : a + length (take e b) + (p - (a + e)) ≡ p = omega (arith, middle, more) in
+      ap (λ (n : ℕ). get_or old n 0) z)
+
+  pub replaced_length : length (replaced a e old b) ≡ length old
+  replaced_length =
+      let n = length-append (take a old ++ take e b) (drop (a + length (take e b)) old) in
+      let d = length-drop (a + length (take e b)) old in
+      omega (arith, n, d, both, middle, fits)
+
+-- the word with this number was put into the room, as far as it has place
+pub record IsPutInto (old new : List ℕ) (i x : ℕ) : Type 0 where
+  pub inside : (j : ℕ) → j < 8 → 8 * i + j < length old
+      → get_or new (8 * i + j) 0 ≡ get_or (to_le_bytes w64 x) j 0
+  pub outside : (p : ℕ) → (p < 8 * i) ⊎ (8 * i + 8 ≤ p) → get_or new p 0 ≡ get_or old p 0
+  pub sized : length new ≡ length old
+
+-- the bytes of the first i words stand in the room
+abbrev pub IsFilled : List ℕ → ℕ → List ℕ → Type 0
+IsFilled words i room =
+    (p : ℕ) → p < 8 * i → p < length room → get_or room p 0 ≡ byte_at words p
+
+pub filled_more : (words old new : List ℕ) (i x : ℕ) → x ≡ get_or words i 0
+    → IsPutInto old new i x → IsFilled words i old → IsFilled words (i + 1) new
+filled_more words old new i x is put f p below within = go (cases_lt p (8 * i))
+  where
+    go : (p < 8 * i) ⊎ (8 * i ≤ p) → get_or new p 0 ≡ byte_at words p
+    go (inl less) = put.outside p (inl less)
+        ∙ f p less (let s = put.sized in omega (arith, within, s))
+    go (inr more) =
+        let j = p % 8 in
+        let at : p / 8 ≡ i = omega (arith, below, more) in
+        let split : 8 * i + j ≡ p = omega (arith, at) in
+        let low : j < 8 = omega arith in
+        ap (λ (q : ℕ). get_or new q 0) (sym split)
+        ∙ put.inside j low (let s = put.sized in omega (arith, within, s, split))
+        ∙ ap (λ (w : ℕ). get_or (to_le_bytes w64 w) j 0)
+        (is ∙ ap (λ (n : ℕ). get_or words n 0) (sym at))
+
+pub filled_all : (words room : List ℕ) (n i : ℕ) → length room ≡ n → n ≤ 8 * i
+    → IsFilled words i room → room ≡ bytes_in words n
+unfolding bytes_in
+filled_all words room n i sized all f =
+    ext_get_or 0 room (map (byte_at words) (range_with_len 0 n))
+    (sized ∙ sym (length-map-range_with_len (byte_at words) 0 n))
+    (λ k below. f k (omega (arith, below, sized, all)) below
+    ∙ sym (get_or-map-range_with_len (byte_at words) 0 n k k 0 (omega (arith, below, sized))
+    (omega arith)))

@@ -1,0 +1,53 @@
+-- What a call adds to the record of its pass.
+use Rattle.std.specs.Prelude.{◌≡◌, ℕ, ◌+◌, List, [], ◌++◌}
+use Rattle.cb_world.specs.declared.entry.Entry.{Entry}
+use Rattle.cb_rule.specs.declared.turn.Turn.{Turn}
+use Rattle.cb_rule.specs.declared.view.Look.{Look}
+use Rattle.cb_rule.specs.declared.view.Peeked.{Peeked}
+use Rattle.cb_rule.specs.declared.view.Seen.{Seen}
+use Rattle.cb_rule.specs.declared.view.View.{View}
+
+-- a part of a record, each list the newest first, and how many pins were taken
+pub record Part : Type 0 where
+  pub written : List Entry
+  pub seen : List Seen
+  pub peeked : List Peeked
+  pub ever : ℕ
+  pub looks : List Look
+  pub turns : List Turn
+
+abbrev pub nothing_more : Part
+nothing_more = record {
+  written = [];
+  seen = [];
+  peeked = [];
+  ever = 0;
+  looks = [];
+  turns = [];
+}
+
+-- one part and a later one
+abbrev pub sum : Part → Part → Part
+sum d e = record {
+  written = e.written ++ d.written;
+  seen = e.seen ++ d.seen;
+  peeked = e.peeked ++ d.peeked;
+  ever = d.ever + e.ever;
+  looks = e.looks ++ d.looks;
+  turns = e.turns ++ d.turns;
+}
+
+-- the record with such a part in front
+abbrev pub grown : Part → View → View
+grown d v = record v {
+  written = d.written ++ v.written;
+  seen = d.seen ++ v.seen;
+  peeked = d.peeked ++ v.peeked;
+  ever = v.ever + d.ever;
+  looks = d.looks ++ v.looks;
+  turns = d.turns ++ v.turns;
+}
+
+-- the record grew by this part, and all else of it is as it was
+abbrev pub Grows : View → Part → View → Type 0
+Grows v d w = w ≡ grown d v

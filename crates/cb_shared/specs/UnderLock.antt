@@ -1,0 +1,199 @@
+-- What the parts of a turn come to, from taking the far lock to giving it back.
+use Rattle.std.specs.Prelude.{◌≡◌, ℕ, ◌*◌, ◌^◌, ◌<◌, true, List, [], ◌∷◌, ◌++◌, Option, None, Some, Result, Ok, Err, IfOk}
+use Rattle.cb_member.specs.declared.no_memory.NoMemory.{NoMemory}
+use Rattle.cb_types.specs.declared.config.Config.{Config}
+use Rattle.cb_types.specs.declared.handle.Handle.{Handle}
+use Rattle.cb_types.specs.declared.job.Job.{Job}
+use Rattle.cb_types.specs.declared.job.Job.TheVariants.{Read}
+use Rattle.cb_types.specs.declared.reply.Reply.{Reply}
+use Rattle.cb_types.specs.declared.reply.Reply.TheVariants as answer
+use Rattle.cb_world.specs.declared.entry.Entry.{Entry}
+use Rattle.cb_world.specs.declared.event.Event.{Event}
+use Rattle.cb_world.specs.declared.shown.Shown.{Shown}
+use Rattle.cb_world.specs.FarState.{FarState}
+use Rattle.cb_world.specs.Played.{Agree, played}
+use Rattle.cb_core.specs.ReadTurn.{BroughtToRead, StoppedToRead}
+use Rattle.cb_core.specs.TurnLeaves.{IsNext, OutcomeWrites}
+use Rattle.cb_core.specs.Unavailable.{TurnTells}
+use Rattle.cb_rule.specs.declared.turn.Turn.{Turn}
+use Rattle.cb_rule.specs.declared.view.View.{View}
+use Rattle.cb_rule.specs.Lists.{Each}
+use Rattle.cb_rule.specs.Locking.{Stood}
+use Rattle.cb_rule.specs.LockSteps.{AddsTurn, HasTaken, gave_lock, took_lock, turn_of}
+use Rattle.cb_rule.specs.Rule.{AreSized}
+use Rattle.cb_rule.specs.Slot.{Slot}
+use Rattle.cb_rule.specs.Steps.{acted}
+use Rattle.cb_shared.specs.declared.reading.ReadAnswer.{ReadAnswer}
+use Rattle.cb_shared.specs.declared.reading.ReadAnswer.TheVariants as found
+use Rattle.cb_shared.specs.Parts.{Part, grown, nothing_more}
+use Rattle.cb_shared.specs.Places.{Moves, Place}
+use Rattle.cb_shared.specs.SeatLaws.{Runs}
+use Rattle.cb_shared.specs.Turning.{AreLooksAt, Did, DidAs, FindsAtLast, FindsFreed, JobReads, answer_of, held_by, made_by, slate_run, slate_shows, turn_part, with_own}
+
+-- the same seat, with this view and these slots in hand
+abbrev pub IsAt : Place → Place → View → List (ℕ × Slot) → Type 0
+IsAt p q w slots = (q.table_id ≡ p.table_id) × (q.id ≡ p.id) × (q.me ≡ (w, slots))
+
+-- the seat took the lock where its word was this one
+abbrev pub Takes : ℕ → Place → Place → Type 0
+Takes word p q = (q.table_id ≡ p.table_id) × (q.id ≡ p.id) × HasTaken p.me word q.me
+
+-- the seat took the lock, and the far state out of its slot: what is known then is sound for it
+pub record TakesFar (c : Config) (far : FarState) (p q : Place) : Type 0 where
+  pub known : Shown
+  pub entries : ℕ
+  pub at : IsAt p q (took_lock known far entries p.me.0) ((0, None) ∷ p.me.1)
+  pub sized : AreSized c known
+  pub stood : Stood c known far
+
+-- The seat holds the lock, has its slot in hand, and has done nothing in its turn yet. What it knows
+-- is sound for the far state that it took.
+pub record IsBeginning (c : Config) (far : FarState) (v : View) : Type 0 where
+  pub holds : v.holds ≡ true
+  pub idle : v.acts ≡ []
+  pub fresh : v.fresh ≡ []
+  pub start : v.start ≡ v.known
+  pub took : v.took ≡ far
+  pub sized : AreSized c v.known
+  pub stood : Stood c v.known far
+
+-- The work of a turn at the desk over the seat: its events, by which the turn did its job, and what
+-- they wrote.
+pub record TurnAt (c : Config) (job : Job) (r : Result Reply NoMemory) (took gave : FarState)
+    (p q : Place) : Type 0 where
+  pub events : List Event
+  pub more : List Entry
+  pub runs : Runs p events q
+  pub did : DidAs c job (answer_of r) p.me.0.known events took gave
+  pub next : IsNext took gave
+  pub wrote : OutcomeWrites job r more
+  pub fresh : q.me.0.fresh ≡ more
+  pub stood : Stood c q.me.0.known gave
+
+-- what the first part of a read did
+abbrev pub Brought : Config → Handle → Result Reply NoMemory → Shown → List Event → FarState
+    → FarState → Type 0
+Brought c handle (Ok reply) start es took gave = BroughtToRead slate_run slate_shows c handle
+    (held_by start [] took) reply (held_by (played es start) es gave)
+Brought c handle (Err e) start es took gave = StoppedToRead slate_run slate_shows c handle
+    (held_by start [] took) (held_by (played es start) es gave)
+
+-- The first part of a read at the desk over the seat: it wrote nothing.
+pub record BringAt (c : Config) (handle : Handle) (r : Result Reply NoMemory) (took gave : FarState)
+    (p q : Place) : Type 0 where
+  pub events : List Event
+  pub runs : Runs p events q
+  pub brought : Brought c handle r p.me.0.known events took gave
+  pub next : IsNext took gave
+  pub fresh : q.me.0.fresh ≡ []
+  pub stood : Stood c q.me.0.known gave
+
+-- The work of a turn at the desk, and the read under a pin beside it.
+pub record WorkBy (c : Config) (job : Job) (r : Result Reply NoMemory) (took gave : FarState)
+    (p q : Place) : Type 0 where
+  pub events : List Event
+  pub more : List Entry
+  pub within : Part
+  pub agree : Agree p.me.0.known events
+  pub moves : Moves p q (grown within (acted events p.me.0))
+  pub reads : JobReads job r p.me.0 within
+  pub did : DidAs c job (answer_of r) p.me.0.known events took gave
+  pub next : IsNext took gave
+  pub wrote : OutcomeWrites job r more
+  pub fresh : (acted events p.me.0).fresh ≡ more
+  pub stood : Stood c (played events p.me.0.known) gave
+
+-- any job but Read
+abbrev pub IsNoRead : Job → Type 0
+IsNoRead (Read handle) = ⊥
+IsNoRead job = Unit {0}
+
+-- What the tries to read an object under a pin come to, once it is brought in.
+abbrev pub Tries : ℕ → Result Reply NoMemory → View → Part → Type 0
+Tries h (Ok (answer.Bytes version bytes)) v d =
+    FindsAtLast h (found.Bytes version bytes) v d
+Tries h (Ok answer.Freed) v d = FindsAtLast h found.Freed v d
+Tries h (Ok answer.Moving) v d = FindsAtLast h found.Moving v d
+Tries h (Ok answer.Crowded) v d = FindsAtLast h found.Crowded v d
+Tries h (Ok other) v d = ⊥
+Tries h (Err e) v d = AreLooksAt h d
+
+-- they are so on a seat
+abbrev pub TriesOn : ℕ → Result Reply NoMemory → Place → Place → Type 0
+TriesOn h r p q = (d : Part) × Moves p q (grown d p.me.0) × Tries h r p.me.0 d
+
+-- the answer of a turn for that of its read under a pin
+abbrev pub IsReplyTo : ReadAnswer → Reply → Type 0
+IsReplyTo (found.Bytes version bytes) reply = reply ≡ answer.Bytes version bytes
+IsReplyTo found.Freed reply = reply ≡ answer.Freed
+IsReplyTo found.Moving reply = reply ≡ answer.Moving
+IsReplyTo found.Crowded reply = reply ≡ answer.Crowded
+IsReplyTo other reply = ⊥
+
+-- looks alone are left of it
+abbrev pub IsTriedAgain : ReadAnswer → Type 0
+IsTriedAgain found.NotHere = Unit {0}
+IsTriedAgain (found.Raced saw other) = Unit {0}
+IsTriedAgain a = ⊥
+
+-- the handle, if there is one, is in range
+abbrev pub IsBelow : Config → Option ℕ → Type 0
+IsBelow c (Some h) = h < c.handles
+IsBelow c None = Unit {0}
+
+-- a seat looked for the freed entry of an object, and of one if there is one
+abbrev pub LooksFor : ℕ → Place → Place → Type 0
+LooksFor h p q = (d : Part) × Moves p q (grown d p.me.0) × FindsAtLast h found.Freed p.me.0 d
+
+abbrev pub FreedMoves : Option ℕ → Place → Place → Type 0
+FreedMoves freed p q = (d : Part) × Moves p q (grown d p.me.0) × FindsFreed freed p.me.0 d
+
+-- The seat may give the lock back with this far state, whose turn had this job and this reply.
+pub record IsEnding (c : Config) (job : Job) (r : Option Reply) (far : FarState) (v : View) : Type 0
+  where
+  pub holds : v.holds ≡ true
+  pub stood : Stood c v.known far
+  pub adds : AddsTurn v.took far
+  pub did : (n : ℕ) → Did c (turn_of job r far n v)
+
+-- the seat gave the lock back, with the far state in its slot
+pub record GivesFar (c : Config) (job : Job) (r : Option Reply) (far : FarState) (p q : Place)
+    : Type 0 where
+  pub entries : ℕ
+  pub at : IsAt p q (gave_lock job r far entries [] (made_by job r) p.me.0) []
+  pub written : Each (λ (e : Entry). e.handle < c.handles) (p.me.0.fresh ++ p.me.0.written)
+
+-- A turn of a seat that took the lock, to its end.
+pub record TurnWith (c : Config) (job : Job) (r : Result Reply NoMemory) (took : FarState)
+    (p q : Place) : Type 0 where
+  pub gave : FarState
+  pub events : List Event
+  pub more : List Entry
+  pub within : Part
+  pub entries : ℕ
+  pub agree : Agree p.me.0.known events
+  pub at : IsAt p q (gave_lock job (answer_of r) gave entries [] (made_by job (answer_of r))
+      (grown within (acted events p.me.0))) []
+  pub below : Each (λ (e : Entry). e.handle < c.handles) (more ++ p.me.0.written)
+  pub reads : JobReads job r p.me.0 within
+  pub did : DidAs c job (answer_of r) p.me.0.known events took gave
+  pub next : IsNext took gave
+  pub wrote : OutcomeWrites job r more
+  pub fresh : (acted events p.me.0).fresh ≡ more
+
+-- A turn as it stands in the record of its pass, before a freed entry is looked for.
+pub record TurnedBy (c : Config) (job : Job) (r : Result Reply NoMemory) (v w : View) : Type 0 where
+  pub turn : Turn
+  pub more : List Entry
+  pub within : Part
+  pub job_is : turn.job ≡ job
+  pub reply_is : turn.reply ≡ answer_of r
+  pub agree : Agree turn.start turn.acts
+  pub did : Did c turn
+  pub next : IsNext turn.took turn.gave
+  pub wrote : OutcomeWrites job r more
+  pub below : Each (λ (e : Entry). e.handle < c.handles) (more ++ v.written)
+  pub reads : JobReads job r v within
+  pub tells : IfOk r (λ reply. TurnTells job turn.took reply)
+  pub left : w ≡ with_own (made_by job (answer_of r))
+      (grown (turn_part turn more within nothing_more) v)

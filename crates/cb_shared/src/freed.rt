@@ -1,0 +1,80 @@
+//! The freed entry of an object, after a turn that was answered Freed.
+ghost use Rattle.std.specs.Prelude.{◌≡◌, ◌≢◌, ℕ, ◌<◌, true, false, Option, None, Some};
+ghost use Rattle.cb_ptr.specs.declared.word.State.TheVariants as state;
+ghost use Rattle.cb_ptr.specs.Word.{state_of};
+ghost use Rattle.cb_rule.specs.Steps.{Knows};
+ghost use Rattle.cb_shared.specs.Places.{IsOf};
+ghost use Rattle.cb_shared.specs.Turning.{KnowsIt, freed_of, object_of};
+ghost use Rattle.cb_shared.specs.UnderLock.{FreedMoves, IsBelow, LooksFor};
+
+use crate::board::{Place, Top};
+use crate::pins::glance;
+use cb_ptr::{State, unpack};
+use cb_types::{Config, Handle, Job, NoMemory, Reply};
+use std::sync::Wait;
+
+/// The object of a read, a write or a free that was answered Freed.
+pub(crate) fn freed_of(job: &Job, reply: &Result<Reply, NoMemory>) -> Option<u32>
+    ensures { result ≡ freed_of job.now reply.now }
+{
+    match reply {
+        Ok(Reply::Freed) => object_of(job),
+        _ => None,
+    }
+}
+
+/// The object that a job reads, writes or frees.
+fn object_of(job: &Job) -> Option<u32>
+    ensures { result ≡ object_of job.now }
+{
+    match job {
+        Job::Read { handle } | Job::Write { handle, .. } | Job::Free { handle } => Some(handle.n),
+        _ => None,
+    }
+}
+
+/// Reads the freed entry of the object, if there is one.
+pub(crate) fn find_freed<R: Wait>(
+    rt: &R,
+    top: &Top,
+    seat: &mut Place,
+    config: &Config,
+    freed: Option<u32>,
+)
+    requires of { IsOf top.now.table_id top.now.key config.now seat.old }
+    requires handle { IsBelow config.now freed }
+    requires knows { KnowsIt freed seat.old.me.0 }
+    ensures { FreedMoves freed seat.old seat.new }
+{
+    if let Some(h) = freed {
+        look_freed(rt, top, seat, config, h);
+    }
+}
+
+/// Looks at an object until a look finds it freed, and reads its freed entry. A freed object stays
+/// so, and the first look finds it.
+fn look_freed<R: Wait>(rt: &R, top: &Top, seat: &mut Place, config: &Config, h: u32)
+    requires of { IsOf top.now.table_id top.now.key config.now seat.old }
+    requires handle { h < config.now.handles }
+    requires knows { Knows h seat.old.me.0 }
+    ensures { LooksFor h seat.old seat.new }
+{
+    for _ in rt.forever() {
+        let word = glance(top, seat, config, h);
+        if is_empty(word) {
+            return;
+        }
+    }
+    unreachable!()
+}
+
+/// Whether a word is that of an object that is empty.
+fn is_empty(word: u64) -> bool
+    ensures yes { result ≡ true → state_of word ≡ state.Empty }
+    ensures other { result ≡ false → state_of word ≢ state.Empty }
+{
+    match unpack(word).state {
+        State::Empty => true,
+        _ => false,
+    }
+}

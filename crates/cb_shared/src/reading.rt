@@ -1,0 +1,162 @@
+//! Reads under a pin of their own, which stands beside those of the scope.
+ghost use Rattle.std.specs.Prelude.{◌≡◌, ◌≢◌, ◌⊎◌, ℕ, ◌+◌, ◌*◌, ◌<◌, ◌≤◌, length, slice_index, None, Some, IfOk, OnErr};
+ghost use Rattle.std.specs.Int.{to_le_bytes, w64};
+ghost use Rattle.cb_ptr.specs.declared.word.State.TheVariants as state;
+ghost use Rattle.cb_ptr.specs.Word.{len_of, pins_of, place_of, state_of};
+ghost use Rattle.cb_world.specs.Memory.{bytes_in, words_for};
+ghost use Rattle.cb_rule.specs.declared.view.Stand.{Stand};
+ghost use Rattle.cb_rule.specs.Lists.{Has};
+ghost use Rattle.cb_rule.specs.Steps.{Knows};
+ghost use Rattle.cb_shared.specs.declared.reading.ReadAnswer.{ReadAnswer};
+ghost use Rattle.cb_shared.specs.Parts.{grown};
+ghost use Rattle.cb_shared.specs.Places.{IsOf, Moves};
+ghost use Rattle.cb_shared.specs.Reading.{IsReadRefusal, IsUnderPin, ReadAt, ReadMoves, looked};
+
+use crate::board::{Place, Top};
+use crate::pins::{give_pin, glance, read_word, take_pin, tell_version};
+use cb_ptr::{State, unpack};
+use cb_types::{Bytes, Config, NoMemory};
+use std::alloc::Global;
+
+/// The most pins that a word can count.
+const MOST_COUNTED: u32 = 1023;
+
+/// What one read under a pin of its own found.
+#[derive(Drop)]
+pub enum ReadAnswer {
+    /// The version and the bytes of the object at the pin.
+    Bytes { version: u64, bytes: Bytes },
+    /// The object was freed.
+    Freed,
+    /// The object is far.
+    NotHere,
+    /// The object is being moved or written.
+    Moving,
+    /// The object has as many pins as its word can count.
+    Crowded,
+    /// The word was another one at the exchange than at the look before it.
+    Raced { saw: u64, found: u64 },
+}
+
+/// Reads an object that the seat knows, where it is here: one load of its word, one exchange that
+/// takes a pin, one load of its version and one of each of its words, and one subtraction that gives
+/// the pin back. Takes the memory of its bytes before the pin; where there is none it has looked at
+/// the word alone.
+pub(crate) fn read_pinned(
+    top: &Top,
+    seat: &mut Place,
+    config: &Config,
+    alloc: Global,
+    h: u32,
+) -> Result<ReadAnswer, NoMemory>
+    requires of { IsOf top.now.table_id top.now.key config.now seat.old }
+    requires handle { h < config.now.handles }
+    requires knows { Knows h seat.old.me.0 }
+    requires few { length seat.old.me.0.pins ≤ 16 }
+    ensures read { IfOk result (λ answer. ReadMoves h answer seat.old seat.new) }
+    ensures error { OnErr result ((word : ℕ) × (state_of word ≡ state.Here)
+        × Moves seat.old seat.new (grown (looked h word) seat.old.me.0)) }
+{
+    let saw = glance(top, seat, config, h);
+    match refuse_read(saw) {
+        Some(answer) => Ok(answer),
+        None => {
+            let room = room_for(alloc, saw)?;
+            Ok(read_at(top, seat, config, h, saw, room))
+        }
+    }
+}
+
+/// Why an object is not read, by its word; None where it can be.
+fn refuse_read(word: u64) -> Option<ReadAnswer>
+    ensures refused { (a : ReadAnswer) → result ≡ Some a → IsReadRefusal word a }
+    ensures room { result ≡ None → (state_of word ≡ state.Here) × (pins_of word < 1023) }
+{
+    let fields = unpack(word);
+    match fields.state {
+        State::Empty => Some(ReadAnswer::Freed),
+        State::Far => Some(ReadAnswer::NotHere),
+        State::Moving => Some(ReadAnswer::Moving),
+        State::Here if fields.pins == MOST_COUNTED => Some(ReadAnswer::Crowded),
+        State::Here => None,
+    }
+}
+
+/// Room for the bytes of an object at this word.
+fn room_for(alloc: Global, word: u64) -> Result<Bytes, NoMemory>
+    ensures room { IfOk result (λ room. length room ≡ len_of word) }
+{
+    let len = unpack(word).len as usize;
+    Ok(Bytes::from(vec![in alloc; 0; len]?))
+}
+
+/// The read of an object at the word that was seen, with room for its bytes.
+fn read_at(
+    top: &Top,
+    seat: &mut Place,
+    config: &Config,
+    h: u32,
+    saw: u64,
+    room: Bytes,
+) -> ReadAnswer
+    requires of { IsOf top.now.table_id top.now.key config.now seat.old }
+    requires handle { h < config.now.handles }
+    requires here { state_of saw ≡ state.Here }
+    requires room { pins_of saw < 1023 }
+    requires knows { Knows h seat.old.me.0 }
+    requires few { length seat.old.me.0.pins ≤ 16 }
+    requires long { length room ≡ len_of saw }
+    ensures read { ReadAt h saw result seat.old seat.new }
+{
+    let found = take_pin(top, seat, config, h, saw);
+    if found != saw {
+        return ReadAnswer::Raced { saw, found };
+    }
+    let version = tell_version(top, seat, config, h);
+    let mut room = room;
+    load_into(top, seat, config, unpack(saw).place, &mut room);
+    give_pin(top, seat, config, h);
+    ReadAnswer::Bytes {
+        version,
+        bytes: room,
+    }
+}
+
+/// Loads the words of a pinned object, which lies at this place, into the room for its bytes.
+fn load_into(top: &Top, seat: &mut Place, config: &Config, place: u32, room: &mut Bytes)
+    requires of { IsOf top.now.table_id top.now.key config.now seat.old }
+    requires inside { (j : ℕ) → j < words_for (length room.old) → place + j < 512 * config.now.frames }
+    requires pin { (p : Stand) × IsUnderPin p place (length room.old) seat.old }
+    ensures same { Moves seat.old seat.new seat.old.me.0 }
+    ensures bytes { (p : Stand) → IsUnderPin p place (length room.old) seat.old
+        → room.new ≡ bytes_in p.words (length room.old) }
+{
+    let first = place as usize;
+    for i in 0..room.len().div_ceil(8) {
+        let word = read_word(top, seat, config, first + i);
+        put_word(room, i, word);
+    }
+}
+
+/// Puts the first bytes of a word into the room, as many as it has place for, as word `i` of it.
+fn put_word(room: &mut Bytes, i: usize, word: u64)
+    requires within { 8 * i < length room.old }
+    ensures inside { (j : ℕ) → j < 8 → 8 * i + j < length room.old
+        → slice_index room.new (8 * i + j) ≡ slice_index (to_le_bytes w64 word) j }
+    ensures outside { (p : ℕ) → (p < 8 * i) ⊎ (8 * i + 8 ≤ p)
+        → slice_index room.new p ≡ slice_index room.old p }
+    ensures sized { length room.new ≡ length room.old }
+{
+    let bytes = word.to_le_bytes();
+    let end = most_of_word(room.len() - 8 * i);
+    room.overwrite(8 * i, &bytes[..end]);
+}
+
+/// How many bytes of a word have place where so many are left.
+fn most_of_word(left: usize) -> usize
+    ensures fits { (result ≤ 8) × (result ≤ left) }
+    ensures all { (j : ℕ) → j < 8 → j < left → j < result }
+    ensures rest { (result ≡ left) ⊎ (result ≡ 8) }
+{
+    if left < 8 { left } else { 8 }
+}

@@ -1,0 +1,227 @@
+//! The job of a turn, under the far lock.
+ghost use Rattle.std.specs.Prelude.{◌≡◌, ◌<◌, ◌≤◌, true, false, [], length, None, Some, IfOk};
+ghost use Rattle.cb_types.specs.Config.{IsAccepted};
+ghost use Rattle.cb_types.specs.declared.handle.Handle.{Handle};
+ghost use Rattle.cb_types.specs.declared.job.Job.TheVariants as job;
+ghost use Rattle.cb_types.specs.declared.reply.Reply.{Reply};
+ghost use Rattle.cb_types.specs.declared.reply.Reply.TheVariants as answer;
+ghost use Rattle.cb_core.specs.Jobs.{IsJob};
+ghost use Rattle.cb_core.specs.OnceHere.{IsThere};
+ghost use Rattle.cb_core.specs.Unavailable.{TurnTells};
+ghost use Rattle.cb_rule.specs.Locking.{Stood};
+ghost use Rattle.cb_rule.specs.Steps.{Knows};
+ghost use Rattle.cb_shared.specs.Places.{Holds, IsOf};
+ghost use Rattle.cb_shared.specs.Turning.{KnowsOf};
+ghost use Rattle.cb_shared.specs.UnderLock.{BringAt, IsBeginning, IsNoRead, IsReplyTo, IsTriedAgain, TriesOn, TurnAt, WorkBy};
+
+use crate::board::{Place, Top};
+use crate::reading::{ReadAnswer, read_pinned};
+use crate::seat_desk::SeatDesk;
+use cb_core::{bring_to_read, turn};
+use cb_types::{Config, Handle, Job, NoMemory, Reply};
+use cb_world::Far;
+use std::alloc::Global;
+use std::sync::Wait;
+
+/// Does the job of a turn, by a seat that holds the far lock: a read under a pin of its own, and
+/// every other job at the desk over the seat.
+pub(crate) fn work<R: Wait>(
+    rt: &R,
+    top: &Top,
+    seat: &mut Place,
+    config: &Config,
+    far: &mut Far,
+    alloc: Global,
+    job: &Job,
+) -> Result<Reply, NoMemory>
+    requires of { IsOf top.now.table_id top.now.key config.now seat.old }
+    requires few { length seat.old.me.0.pins ≤ 16 }
+    requires config { IsAccepted config.now }
+    requires job { IsJob config.now job.now }
+    requires knows { KnowsOf job.now seat.old.me.0 }
+    requires begins { IsBeginning config.now far.old seat.old.me.0 }
+    ensures work { WorkBy config.now job.now result far.old far.new seat.old seat.new }
+    ensures no_frame { IfOk result (λ reply. reply ≡ answer.NoFrame → ⊥) }
+    ensures unavailable { IfOk result (λ reply. TurnTells job.now far.old reply) }
+{
+    match read_of(job) {
+        Some(h) => read_by_seat(rt, top, seat, config, far, alloc, h),
+        None => turn_by_seat(top, seat, config, far, alloc, job),
+    }
+}
+
+/// The object that a job reads, None where the job is another one.
+fn read_of(job: &Job) -> Option<Handle>
+    ensures read { (h : Handle) → result ≡ Some h → job.now ≡ job.Read h }
+    ensures other { result ≡ None → IsNoRead job.now }
+{
+    match job {
+        Job::Read { handle } => Some(*handle),
+        _ => None,
+    }
+}
+
+/// A job at the desk over the seat.
+fn turn_by_seat(
+    top: &Top,
+    seat: &mut Place,
+    config: &Config,
+    far: &mut Far,
+    alloc: Global,
+    job: &Job,
+) -> Result<Reply, NoMemory>
+    requires holds { Holds top.now.table_id top.now.key config.now seat.old }
+    requires config { IsAccepted config.now }
+    requires job { IsJob config.now job.now }
+    requires other { IsNoRead job.now }
+    requires stood { Stood config.now seat.old.me.0.known far.old }
+    requires idle { seat.old.me.0.acts ≡ [] }
+    requires fresh { seat.old.me.0.fresh ≡ [] }
+    ensures turn { TurnAt config.now job.now result far.old far.new seat.old seat.new }
+    ensures no_frame { IfOk result (λ reply. reply ≡ answer.NoFrame → ⊥) }
+    ensures unavailable { IfOk result (λ reply. TurnTells job.now far.old reply) }
+{
+    let mut desk = SeatDesk {
+        config: *config,
+        top,
+        seat,
+    };
+    turn_at_desk(&mut desk, far, alloc, job)
+}
+
+fn turn_at_desk<'a>(
+    desk: &mut SeatDesk<'a>,
+    far: &mut Far,
+    alloc: Global,
+    job: &Job,
+) -> Result<Reply, NoMemory>
+    requires config { IsAccepted desk.old.config }
+    requires job { IsJob desk.old.config job.now }
+    requires other { IsNoRead job.now }
+    requires stood { Stood desk.old.config desk.old.seat.now.me.0.known far.old }
+    requires idle { desk.old.seat.now.me.0.acts ≡ [] }
+    requires fresh { desk.old.seat.now.me.0.fresh ≡ [] }
+    ensures same { desk.new.seat.ghost_name ≡ desk.old.seat.ghost_name }
+    ensures turn { TurnAt desk.old.config job.now result far.old far.new desk.old.seat.now
+        desk.new.seat.now }
+    ensures no_frame { IfOk result (λ reply. reply ≡ answer.NoFrame → ⊥) }
+    ensures unavailable { IfOk result (λ reply. TurnTells job.now far.old reply) }
+{
+    turn(alloc, desk, far, job)
+}
+
+/// A read: the object is brought in at the desk over the seat, and read under a pin.
+fn read_by_seat<R: Wait>(
+    rt: &R,
+    top: &Top,
+    seat: &mut Place,
+    config: &Config,
+    far: &mut Far,
+    alloc: Global,
+    h: Handle,
+) -> Result<Reply, NoMemory>
+    requires of { IsOf top.now.table_id top.now.key config.now seat.old }
+    requires few { length seat.old.me.0.pins ≤ 16 }
+    requires config { IsAccepted config.now }
+    requires handle { h.n < config.now.handles }
+    requires knows { Knows h.n seat.old.me.0 }
+    requires begins { IsBeginning config.now far.old seat.old.me.0 }
+    ensures work { WorkBy config.now (job.Read h) result far.old far.new seat.old seat.new }
+    ensures no_frame { IfOk result (λ reply. reply ≡ answer.NoFrame → ⊥) }
+    ensures unavailable { IfOk result (λ reply. TurnTells (job.Read h) far.old reply) }
+{
+    let place = bring_by_seat(top, seat, config, far, h)?;
+    if !is_there(&place) {
+        return Ok(place);
+    }
+    read_tried(rt, top, seat, config, alloc, h.n)
+}
+
+/// Whether a reply is that the object is here: it was so, or was brought in.
+fn is_there(reply: &Reply) -> bool
+    ensures yes { result ≡ true → IsThere reply.now }
+    ensures other { result ≡ false → IsThere reply.now → ⊥ }
+{
+    match reply {
+        Reply::Stays | Reply::Swapped { .. } => true,
+        _ => false,
+    }
+}
+
+/// The first part of a read, at the desk over the seat.
+fn bring_by_seat(
+    top: &Top,
+    seat: &mut Place,
+    config: &Config,
+    far: &mut Far,
+    h: Handle,
+) -> Result<Reply, NoMemory>
+    requires holds { Holds top.now.table_id top.now.key config.now seat.old }
+    requires config { IsAccepted config.now }
+    requires handle { h.n < config.now.handles }
+    requires stood { Stood config.now seat.old.me.0.known far.old }
+    requires idle { seat.old.me.0.acts ≡ [] }
+    requires fresh { seat.old.me.0.fresh ≡ [] }
+    ensures bring { BringAt config.now h result far.old far.new seat.old seat.new }
+    ensures no_frame { IfOk result (λ reply. reply ≡ answer.NoFrame → ⊥) }
+{
+    let mut desk = SeatDesk {
+        config: *config,
+        top,
+        seat,
+    };
+    bring_at_desk(&mut desk, far, h)
+}
+
+fn bring_at_desk<'a>(desk: &mut SeatDesk<'a>, far: &mut Far, h: Handle) -> Result<Reply, NoMemory>
+    requires config { IsAccepted desk.old.config }
+    requires handle { h.n < desk.old.config.handles }
+    requires stood { Stood desk.old.config desk.old.seat.now.me.0.known far.old }
+    requires idle { desk.old.seat.now.me.0.acts ≡ [] }
+    requires fresh { desk.old.seat.now.me.0.fresh ≡ [] }
+    ensures same { desk.new.seat.ghost_name ≡ desk.old.seat.ghost_name }
+    ensures bring { BringAt desk.old.config h result far.old far.new desk.old.seat.now
+        desk.new.seat.now }
+    ensures no_frame { IfOk result (λ reply. reply ≡ answer.NoFrame → ⊥) }
+{
+    bring_to_read(desk, far, h)
+}
+
+/// Reads an object that was brought in, under a pin. It tries again where the exchange found
+/// another word. The object is not far while the seat holds the far lock.
+fn read_tried<R: Wait>(
+    rt: &R,
+    top: &Top,
+    seat: &mut Place,
+    config: &Config,
+    alloc: Global,
+    h: u32,
+) -> Result<Reply, NoMemory>
+    requires of { IsOf top.now.table_id top.now.key config.now seat.old }
+    requires handle { h < config.now.handles }
+    requires knows { Knows h seat.old.me.0 }
+    requires few { length seat.old.me.0.pins ≤ 16 }
+    ensures tries { TriesOn h result seat.old seat.new }
+{
+    for _ in rt.forever() {
+        let found = read_pinned(top, seat, config, alloc, h)?;
+        if let Some(reply) = reply_to(found) {
+            return Ok(reply);
+        }
+    }
+    unreachable!()
+}
+
+/// What a read is answered, None where it is to be tried again.
+fn reply_to(found: ReadAnswer) -> Option<Reply>
+    ensures done { (reply : Reply) → result ≡ Some reply → IsReplyTo found reply }
+    ensures again { result ≡ None → IsTriedAgain found }
+{
+    match found {
+        ReadAnswer::Bytes { version, bytes } => Some(Reply::Bytes { version, bytes }),
+        ReadAnswer::Freed => Some(Reply::Freed),
+        ReadAnswer::Moving => Some(Reply::Moving),
+        ReadAnswer::Crowded => Some(Reply::Crowded),
+        ReadAnswer::NotHere | ReadAnswer::Raced { .. } => None,
+    }
+}
