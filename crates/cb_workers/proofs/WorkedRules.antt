@@ -1,11 +1,10 @@
 -- Worked examples of the rules by which a worker goes on: each reply that they tell apart, and some
 -- that they do not.
-use Rattle.std.specs.Prelude.{◌≡◌, ℕ, [], ◌∷◌, Option, None, Some, refl}
-use Rattle.cb_types.specs.declared.job.Job.{Job}
+use Rattle.std.specs.Prelude.{◌≡◌, [], ◌∷◌, None, Some, refl}
 use Rattle.cb_types.specs.declared.job.Job.TheVariants as job
 use Rattle.cb_types.specs.declared.reply.Reply.TheVariants as answer
 use Rattle.cb_workers.specs.declared.worker.Worker.TheVariants as worker
-use Rattle.cb_workers.specs.Rules.{after_batch, after_pair, end_of, first_job, lane_of, next_job, visit}
+use Rattle.cb_workers.specs.Rules.{after_batch, after_pair, end_of, first_job, lane_of, next_job, owner, visit}
 
 numbers : (lane_of worker.Filter ≡ record { n = 16 }) × (lane_of worker.Evict ≡ record { n = 17 })
     × (lane_of worker.Compact ≡ record { n = 18 }) × (lane_of worker.Rebuild ≡ record { n = 19 })
@@ -43,7 +42,7 @@ batches_begin = (refl, refl, refl, refl, refl, refl)
 -- ---- compactions
 pairs : (first_job worker.Compact ≡ job.Pair)
     × (next_job 3 worker.Compact job.Pair (answer.Pair (record { n = 0 }) (record { n = 1 }))
-        ≡ job.Patch)
+    ≡ job.Patch)
     × (after_pair (answer.Stepped 2) ≡ job.Patch)
     × (after_pair (answer.Unfinished (1 ∷ [])) ≡ job.Patch)
     × (after_pair answer.AllStepped ≡ job.Merge)
@@ -71,3 +70,9 @@ ends = (refl, refl, refl, refl, refl, refl)
 ends_not : (end_of job.Begin ≡ None) × (end_of job.Pair ≡ None) × (end_of job.Rebuild ≡ None)
     × (end_of (visit 2) ≡ None)
 ends_not = (refl, refl, refl, refl)
+
+-- ---- whose job it is
+owners : (owner (visit 2) ≡ Some worker.Filter) × (owner job.Commit ≡ Some worker.Evict)
+    × (owner job.Part ≡ Some worker.Compact) × (owner job.Rebuild ≡ Some worker.Rebuild)
+    × (owner job.Evict ≡ None)
+owners = (refl, refl, refl, refl, refl)

@@ -1,14 +1,13 @@
 -- Worked examples of a worker's work: two turns of the worker that evicts and the one that ends its
 -- batch; and for each part what breaks that part alone.
-use Rattle.std.proofs.Common.{◌≡◌, ℕ, suc, ◌+◌, ◌<◌, List, [], ◌∷◌, ◌++◌, length, Option, None, Some, refl, ap, lit<, arith}
-use Rattle.cb_types.specs.declared.job.Job.{Job}
+use Rattle.std.proofs.Common.{◌≡◌, ℕ, ◌+◌, List, [], ◌∷◌, length, Option, None, Some, refl, ap, lit<, arith}
 use Rattle.cb_types.specs.declared.job.Job.TheVariants as job
 use Rattle.cb_types.specs.declared.reply.Reply.{Reply}
 use Rattle.cb_types.specs.declared.reply.Reply.TheVariants as answer
 use Rattle.cb_types.specs.Jobs.{job_index}
+use Rattle.cb_workers.specs.declared.worker.Worker.{Worker}
 use Rattle.cb_workers.specs.declared.worker.Worker.TheVariants as worker
-use Rattle.cb_workers.specs.Rules.{end_of, visit}
-use Rattle.cb_workers.specs.Work.{Answered, Deed, AreDue, IsCutShort, IsOnly, IsWork, deed_of, deeds_of, due, lacked}
+use Rattle.cb_workers.specs.Work.{Answered, AreOf, Deed, AreDue, IsCutShort, IsWork, deed_of, deeds_of, lacked}
 
 abbrev begun : Answered
 begun = record { job = job.Begin; reply = answer.Batch (record { n = 0 }) }
@@ -44,7 +43,7 @@ abbrev three_deeds : List Deed
 three_deeds = deed_of aborted ∷ deed_of shipped ∷ deed_of begun ∷ []
 
 two_due : AreDue 8 worker.Evict two
-two_due = (refl, refl, tt)
+two_due = (refl, (refl, tt))
 
 works : IsWork 8 worker.Evict 2 two (aborted ∷ []) three_deeds
 works = record {
@@ -79,7 +78,8 @@ not_due : IsWork 8 worker.Evict 2 begun_twice (aborted ∷ []) (deeds_of (aborte
 not_due w = let e : 7 ≡ 8 = ap job_index (w.are_due.0) in omega (arith, e)
 
 -- the first turn ships
-not_first : IsWork 8 worker.Evict 1 (shipped ∷ []) (aborted ∷ []) (deeds_of (aborted ∷ shipped ∷ [])) → ⊥
+not_first : IsWork 8 worker.Evict 1 (shipped ∷ []) (aborted ∷ [])
+    (deeds_of (aborted ∷ shipped ∷ [])) → ⊥
 not_first w = let e : 8 ≡ 7 = ap job_index (w.are_due.0) in omega (arith, e)
 
 -- the batch is left as it is
@@ -134,3 +134,18 @@ not_begun w = let e : 8 ≡ 7 = ap job_index (w.are_due.0) in omega (arith, e)
 -- no turn lacked memory
 not_cut : IsCutShort 8 worker.Evict 3 two (aborted ∷ []) three_deeds → ⊥
 not_cut w = let e : 3 ≡ 4 = ap (λ xs. length xs) w.are in omega (arith, e)
+
+-- ---- whose turns they are
+are_of : AreOf worker.Evict three_deeds
+are_of = (refl, (refl, (refl, tt)))
+
+-- the last of them is another worker's
+not_of : AreOf worker.Evict (deed_of rebuilt ∷ deeds_of two) → ⊥
+not_of are = let e : 3 ≡ 1 = ap (λ o. number_of o) (are.0) in omega (arith, e)
+  where
+    number_of : Option Worker → ℕ
+    number_of (Some worker.Filter) = 0
+    number_of (Some worker.Evict) = 1
+    number_of (Some worker.Compact) = 2
+    number_of (Some worker.Rebuild) = 3
+    number_of None = 4

@@ -1,4 +1,4 @@
--- Which job a worker's next turn has: that follows from the job and the reply of the turn before it.
+-- Which job a worker's next turn has, by the job and the reply of the turn before it.
 use Rattle.std.specs.Prelude.{ℕ, suc, ltb, if◌then◌else◌, Option, Some, None}
 use Rattle.cb_types.specs.declared.handle.Lane.{Lane}
 use Rattle.cb_types.specs.declared.job.Job.{Job}
@@ -76,3 +76,17 @@ end_of job.Patch = Some job.Part
 end_of job.Merge = Some job.Part
 end_of job.Part = Some job.Part
 end_of other = None
+
+-- the worker whose job it is
+abbrev pub owner : Job → Option Worker
+owner (job.Filter handle) = Some worker.Filter
+owner job.Begin = Some worker.Evict
+owner job.Ship = Some worker.Evict
+owner job.Commit = Some worker.Evict
+owner job.Abort = Some worker.Evict
+owner job.Pair = Some worker.Compact
+owner job.Patch = Some worker.Compact
+owner job.Merge = Some worker.Compact
+owner job.Part = Some worker.Compact
+owner job.Rebuild = Some worker.Rebuild
+owner other = None

@@ -3,7 +3,8 @@
 use Rattle.std.specs.Prelude.{◌≡◌, ℕ, ◌<◌, List, [], ◌∷◌, ◌++◌, length, map, Option, Some, None}
 use Rattle.cb_types.specs.declared.job.Job.{Job}
 use Rattle.cb_types.specs.declared.reply.Reply.{Reply}
-use Rattle.cb_workers.specs.Rules.{end_of, first_job, next_job}
+use Rattle.cb_rule.specs.Lists.{Each}
+use Rattle.cb_workers.specs.Rules.{end_of, first_job, next_job, owner}
 use Rattle.cb_workers.specs.declared.worker.Worker.{Worker}
 
 -- a turn that was answered
@@ -33,14 +34,14 @@ lacked job = record {
 }
 
 -- the job that is due behind these turns, the newest first
-abbrev pub due : ℕ → Worker → List Answered → Job
-due handles w [] = first_job w
-due handles w (a ∷ earlier) = next_job handles w a.job a.reply
+abbrev pub job_behind : ℕ → Worker → List Answered → Job
+job_behind handles w [] = first_job w
+job_behind handles w (a ∷ earlier) = next_job handles w a.job a.reply
 
 -- each turn had the job that was due behind those before it
 abbrev pub AreDue : ℕ → Worker → List Answered → Type 0
 AreDue handles w [] = Unit {0}
-AreDue handles w (a ∷ earlier) = (a.job ≡ due handles w earlier) × AreDue handles w earlier
+AreDue handles w (a ∷ earlier) = (a.job ≡ job_behind handles w earlier) × AreDue handles w earlier
 
 -- one turn with this job, or none where there is no such job
 abbrev pub IsOnly : Option Job → List Answered → Type 0
@@ -54,7 +55,7 @@ pub record IsWork (handles : ℕ) (w : Worker) (turns : ℕ) (done ending : List
     (deeds : List Deed) : Type 0 where
   pub number : length done ≡ turns
   pub are_due : AreDue handles w done
-  pub ends : IsOnly (end_of (due handles w done)) ending
+  pub ends : IsOnly (end_of (job_behind handles w done)) ending
   pub are : deeds ≡ deeds_of (ending ++ done)
 
 -- A worker made fewer turns, each with the job that was due. The next one that was due found no
@@ -63,5 +64,9 @@ pub record IsCutShort (handles : ℕ) (w : Worker) (turns : ℕ) (done ending : 
     (deeds : List Deed) : Type 0 where
   pub fewer : length done < turns
   pub are_due : AreDue handles w done
-  pub ends : IsOnly (end_of (due handles w done)) ending
-  pub are : deeds ≡ deeds_of ending ++ (lacked (due handles w done) ∷ deeds_of done)
+  pub ends : IsOnly (end_of (job_behind handles w done)) ending
+  pub are : deeds ≡ deeds_of ending ++ (lacked (job_behind handles w done) ∷ deeds_of done)
+
+-- each of these turns has a job of the worker
+abbrev pub AreOf : Worker → List Deed → Type 0
+AreOf w deeds = Each (λ (d : Deed). owner d.job ≡ Some w) deeds

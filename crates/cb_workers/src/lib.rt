@@ -2,7 +2,10 @@
 //! bodies that make the turns.
 #![tactic(auto)]
 
+mod bodies;
 mod turns;
 mod worker;
+mod working;
 
+pub use bodies::{Stopped, compact_body, evict_body, filter_body, rebuild_body, worker_body};
 pub use worker::Worker;

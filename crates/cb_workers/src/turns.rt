@@ -1,6 +1,12 @@
 ghost use Rattle.std.specs.Prelude.{◌≡◌, ◌<◌, List, [], ◌∷◌, Option};
-ghost use Rattle.cb_workers.specs.Rules.{after_batch, after_pair, after_visit, end_of, next_visit,
-    visited};
+ghost use Rattle.cb_workers.specs.Rules.{
+  after_batch,
+  after_pair,
+  after_visit,
+  end_of,
+  next_visit,
+  visited,
+};
 
 use cb_types::{Handle, Job, Reply};
 
@@ -18,7 +24,11 @@ fn visited(job: &Job) -> u32
 pub(crate) fn after_visit(handles: u32, job: &Job, reply: &Reply) -> Job
     ensures { result ≡ after_visit handles job.now reply.now }
 {
-    Job::Filter { handle: Handle { n: next_visit(handles, visited(job), reply) } }
+    Job::Filter {
+        handle: Handle {
+            n: next_visit(handles, visited(job), reply),
+        },
+    }
 }
 
 /// The handle behind this one; 0 behind one that was never made, and behind the last one.

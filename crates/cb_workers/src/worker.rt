@@ -35,14 +35,16 @@ impl Worker {
         ensures job { result ≡ first_job self }
     {
         match self {
-            Worker::Filter => Job::Filter { handle: Handle { n: 0 } },
+            Worker::Filter => Job::Filter {
+                handle: Handle { n: 0 },
+            },
             Worker::Evict => Job::Begin,
             Worker::Compact => Job::Pair,
             Worker::Rebuild => Job::Rebuild,
         }
     }
 
-    /// The job of the turn behind one with this job and reply, where so many handles are configured.
+    /// The job of the turn behind one with this job and reply, of so many configured handles.
     pub fn next(self, handles: u32, job: &Job, reply: &Reply) -> Job
         ensures job { result ≡ next_job handles self job.now reply.now }
     {
