@@ -1,5 +1,5 @@
--- What follows from a worker's work: each of its turns has a job of that worker, and there are as many
--- turns as it owes, at the least.
+-- What follows from a worker's work: each of its turns has a job of that worker, and there are at
+-- least as many turns as it owes.
 use Rattle.std.proofs.Common.{◌≡◌, ℕ, ◌+◌, ◌≤◌, List, [], ◌∷◌, ◌++◌, length, Option, None, Some, refl, sym, ap, ◌∙◌, subst, arith}
 use Rattle.std.proofs.lemmas.List.{length-append, length-map, map-append}
 use Rattle.cb_types.specs.declared.job.Job.{Job}
