@@ -58,50 +58,72 @@ bits_empty w e = sym (state_number-state_of w) ∙ ap state_number e
 
 module _ (c : Config) (ws : List ℕ) (views : List View) (known : Shown) (es : List Entry)
     (r : Kept c ws views known es) where
-  -- an object that a record knows was made
-  pub known_made : (id h : ℕ) (v : View) → get_elem? views id ≡ some v → Knows h v → 0 < top es h
-  known_made id h v at knows = let ok = (r.seats id v at).lasting in ⊎_elim
-      (λ (k : (e : Entry) × Has e (v.fresh ++ v.written) × (e.handle ≡ h)).
-      of_entry k.0 (each_has (λ e. Has e es) k.0 (v.fresh ++ v.written)
-      (each_append (λ e. Has e es) v.fresh v.written ok.fresh ok.written) k.1) k.2)
+  -- the history has an entry of an object that a record knows
+  known_entry : (id h : ℕ) (v : View) → get_elem? views id ≡ some v → Knows h v
+      → (e : Entry) × Has e es × (e.handle ≡ h)
+  known_entry id h v at knows = let ok = (r.seats id v at).lasting in ⊎_elim
+      (λ (k : (e : Entry) × Has e (v.fresh ++ v.written) × (e.handle ≡ h)). (
+        k.0,
+        each_has (λ e. Has e es) k.0 (v.fresh ++ v.written)
+            (each_append (λ e. Has e es) v.fresh v.written ok.fresh ok.written) k.1,
+        k.2,
+      ))
       (λ (k : (s : Seen) × Has s v.seen × (s.handle ≡ h)).
       let o = each_has (SeenOk es) k.0 v.seen ok.seen k.1 in
-      of_entry o.0 o.1 (ap (λ (s : Seen). s.handle) (sym o.2) ∙ k.2)) knows
-    where
-      of_entry : (e : Entry) → Has e es → e.handle ≡ h → 0 < top es h
-      of_entry e there same = let z = entry_within known.first r.begins e es r.history there in
-          let low = z.0 in let high = z.1 in let b = r.begins in
-          let t : top es e.handle ≡ top es h = ap (top es) same in omega (arith, low, high, b, t)
+      (o.0, o.1, ap (λ (s : Seen). s.handle) (sym o.2) ∙ k.2)) knows
 
-  -- an Empty word of such an object is that of a freed one
-  pub freed : (h : ℕ) → h < c.handles → 0 < top es h → state_of (pointer ws h) ≡ word.Empty
-      → SeenOk es (freed_seen h (top es h))
-  freed h l made empty = go (object_at known h) (r.stand h l) (r.fit h l)
-    where
-      w : ℕ
-      w = pointer ws h
+  -- it was made
+  pub known_made : (id h : ℕ) (v : View) → get_elem? views id ≡ some v → Knows h v → 0 < top es h
+  known_made id h v at knows = let e = known_entry id h v at knows in
+      let z = entry_within known.first r.begins e.0 es r.history e.1 in
+      let low = z.0 in let high = z.1 in let b = r.begins in
+      let t : top es e.0.handle ≡ top es h = ap (top es) e.2 in omega (arith, low, high, b, t)
 
-      go : (o : Object)
-          → Stands c known.first ws h (total (pins_on h) views) (total (claims_on h) views)
-          (top es h) (newest es h) (version_at known h) o
-          → Fits o w → SeenOk es (freed_seen h (top es h))
-      go (is.Empty v) k f = let n = newest_entry es h made in (
+  -- its handle is in range
+  pub known_below : (id h : ℕ) (v : View) → get_elem? views id ≡ some v → Knows h v
+      → h < c.handles
+  known_below id h v at knows = let e = known_entry id h v at knows in
+      subst (λ (j : ℕ). j < c.handles) e.2
+      (each_has (λ (x : Entry). x.handle < c.handles) e.0 es r.within e.1)
+
+  -- one that is known to be empty is freed
+  pub freed_at : (h m : ℕ) → h < c.handles → 0 < top es h → object_at known h ≡ is.Empty m
+      → SeenOk es (freed_seen h m)
+  freed_at h m l made empty = let n = newest_entry es h made in
+      let k = subst (Stands c known.first ws h (total (pins_on h) views)
+      (total (claims_on h) views) (top es h) (newest es h) (version_at known h)) empty
+      (r.stand h l) in (
         n.entry,
         n.there,
         λ i. record {
           handle = sym n.handle i;
-          version = sym n.version i;
+          version = sym (n.version ∙ k.at) i;
           len = ((sym k.has ∙ sym n.has) i).len;
           freed = ((sym k.has ∙ sym n.has) i).freed;
           words = ((sym k.has ∙ sym n.has) i).words;
         },
       )
-      go (is.Far len v words) k f =
+
+  -- and so is one whose word is Empty
+  pub freed : (h : ℕ) → h < c.handles → 0 < top es h → state_of (pointer ws h) ≡ word.Empty
+      → SeenOk es (freed_seen h (top es h))
+  freed h l made empty = go (object_at known h) refl (r.stand h l) (r.fit h l)
+    where
+      w : ℕ
+      w = pointer ws h
+
+      go : (o : Object) → object_at known h ≡ o
+          → Stands c known.first ws h (total (pins_on h) views) (total (claims_on h) views)
+          (top es h) (newest es h) (version_at known h) o
+          → Fits o w → SeenOk es (freed_seen h (top es h))
+      go (is.Empty v) q k f =
+          subst (λ (m : ℕ). SeenOk es (freed_seen h m)) (sym k.at) (freed_at h v l made q)
+      go (is.Far len v words) q k f =
           absurd (let b = bits_empty w empty in let n = f.0 in omega (arith, b, n))
-      go (is.Here len place) k f = absurd (⊎_elim
+      go (is.Here len place) q k f = absurd (⊎_elim
           (λ (s : state_of w ≡ word.Here). other_state word.Here refl (sym s ∙ empty))
           (λ (s : state_of w ≡ word.Moving). other_state word.Moving refl (sym s ∙ empty)) f.3)
-      go (is.Claimed len place v words) k f =
+      go (is.Claimed len place v words) q k f =
           absurd (other_state word.Moving refl (sym f.4 ∙ empty))
 
   -- with the whole share all pins are one's own

@@ -11,6 +11,8 @@ pub mod Pinning
 pub mod Glancing
 pub mod Peeking
 pub mod Seating
+pub mod Flagging
+pub mod Locking
 pub mod Opening
 pub mod Claiming
 pub mod Storing
@@ -20,7 +22,10 @@ pub mod Acting
 pub mod Others
 pub mod Own
 pub mod Allowing
+pub mod Taking
+pub mod Giving
 pub mod Promising
+pub mod Turns
 pub mod Showing
 pub mod Laws
 pub mod WorkedHistory
@@ -28,3 +33,5 @@ pub mod WorkedViews
 pub mod WorkedStands
 pub mod WorkedClaims
 pub mod WorkedPromise
+pub mod WorkedLocking
+pub mod WorkedTurns

@@ -56,7 +56,7 @@ module _ (beside : Beside) (steady : IsSteady beside) (first : ℕ) (c : Config)
     starts = r.starts;
     kept = kept;
     shares = shares_stay c s.views id v w at share live r.shares;
-    far = steady.stays c s ws r.known r.known id v w at lock alike (inl refl) r.far;
+    far = steady.stays c s ws r.known r.known id v w at lock alike (inl refl) refl r.far;
   }
 
   -- what the holder knows is what the rule knows
@@ -72,18 +72,19 @@ module _ (beside : Beside) (steady : IsSteady beside) (first : ℕ) (c : Config)
         homes = s.homes;
         views = set s.views id (act e v);
       }
-  next e i x holds live pos t = record {
-    known = after e v.known;
-    history = adds e v.known ++ r.history;
-    starts = first_stays e v.known ∙ ap (λ (k : Shown). k.first)
-        ((r.kept.seats id v at).knows holds)
-        ∙ r.starts;
-    kept = keeps_rule c s.words (set s.words i x) s.views id v e r.history (mine holds) at holds t;
-    shares = shares_stay c s.views id v (act e v) at refl live r.shares;
-    far = steady.stays c s (set s.words i x) r.known (after e v.known) id v (act e v) at
-        (same_lock s.words i x pos) record { holds = refl; took = refl; turns = refl } (inr holds)
-        r.far;
-  }
+  next e i x holds live pos t =
+      let first_is : (after e v.known).first ≡ r.known.first = first_stays e v.known
+      ∙ ap (λ (k : Shown). k.first) ((r.kept.seats id v at).knows holds) in record {
+        known = after e v.known;
+        history = adds e v.known ++ r.history;
+        starts = first_is ∙ r.starts;
+        kept = keeps_rule c s.words (set s.words i x) s.views id v e r.history (mine holds) at
+            holds t;
+        shares = shares_stay c s.views id v (act e v) at refl live r.shares;
+        far = steady.stays c s (set s.words i x) r.known (after e v.known) id v (act e v) at
+            (same_lock s.words i x pos) record { holds = refl; took = refl; turns = refl }
+            (inr holds) first_is r.far;
+      }
 
   -- a load of the holder
   pub next_load : (e : Event) (i : ℕ) → v.holds ≡ true → 1 ≤ v.share → 0 < i

@@ -1,31 +1,32 @@
--- The rule at the start: no object was made, and every word is 0. And the holder between two turns.
-use Rattle.std.proofs.Common.{◌≡◌, ℕ, zero, suc, ◌+◌, ◌*◌, ◌<◌, ◌≤◌, true, false, List, [], ◌∷◌, ◌++◌, length, get_or, set, replicate, sym, refl, ap, ◌∙◌, subst, arith, true≢false}
-use mathlib.Core.Option.{some, none, some-injective, some-ne-none}
+-- The rule at the start: no object was made, every word is 0, and no turn was counted.
+use Rattle.std.proofs.Common.{◌≡◌, ℕ, zero, suc, ◌+◌, ◌*◌, ◌<◌, ◌≤◌, true, false, List, [], ◌∷◌, length, get_or, replicate, Some, sym, refl, ap, ◌∙◌, subst, arith, true≢false}
+use mathlib.Core.Option.{some, some-injective, some-ne-none}
 use lib.ListN.{get_elem?}
-use Rattle.atomic_table.specs.Table.{step, keeps, opening, Allows}
+use Rattle.atomic_table.specs.Table.{opening}
 use Rattle.cb_types.specs.declared.config.Config.{Config}
+use Rattle.cb_types.specs.declared.config.Field.TheVariants.{Nodes}
+use Rattle.cb_types.specs.Config.{IsAccepted}
 use Rattle.cb_world.specs.declared.entry.Entry.{Entry}
 use Rattle.cb_world.specs.declared.object.Object.{Object}
 use Rattle.cb_world.specs.declared.object.Object.TheVariants as is
 use Rattle.cb_world.specs.declared.shown.Shown.{Shown}
-use Rattle.cb_world.specs.Empty.{empty_shown}
+use Rattle.cb_world.specs.Empty.{empty_far, empty_shown}
+use Rattle.cb_world.specs.FarState.{FarState}
 use Rattle.cb_world.specs.LocalSound.{LiesAt}
 use Rattle.cb_world.specs.Shown.{Fits, never, object_at, version_at}
+use Rattle.cb_world.proofs.Laws.{empty_sound, empty_world_sound}
 use Rattle.cb_rule.specs.declared.view.View.{View}
-use Rattle.cb_rule.specs.History.{Value, WasNow, is_version, newest, no_value, top}
-use Rattle.cb_rule.specs.Lists.{total, Each, Has}
+use Rattle.cb_rule.specs.History.{Value, WasNow, newest, no_value, top}
+use Rattle.cb_rule.specs.Lists.{total, Each}
+use Rattle.cb_rule.specs.Locking.{Deeds, Locked, Stood, TurnStands}
 use Rattle.cb_rule.specs.Records.{OldOk, SeatOk}
 use Rattle.cb_rule.specs.Rule.{Kept}
-use Rattle.cb_rule.specs.Ruled.{Beside, IsSteady, Ruled, alone}
+use Rattle.cb_rule.specs.Ruled.{Ruled}
 use Rattle.cb_rule.specs.Seats.{pins_on, claims_on}
-use Rattle.cb_rule.specs.Slot.{Sat, Slot}
+use Rattle.cb_rule.specs.Slot.{Table}
 use Rattle.cb_rule.specs.Stands.{Stands}
-use Rattle.cb_rule.specs.Steps.{blank, opener, rested, rests}
+use Rattle.cb_rule.specs.Steps.{blank, opener}
 use Rattle.cb_rule.specs.Words.{base, pointer}
-use Rattle.cb_rule.proofs.Calm.{Quiet, still_rule}
-use Rattle.cb_rule.proofs.Counts.{each_append, each_map, times-append}
-use Rattle.cb_rule.proofs.Members.{each_has}
-use Rattle.cb_rule.proofs.Lifting.{any_seat, same_words}
 use Rattle.cb_rule.proofs.Seating.{never_now}
 
 pub same_each : {A : Type 0} (n : ℕ) (x : A) (i : ℕ) → get_or (replicate n x) i x ≡ x
@@ -37,13 +38,30 @@ long : {A : Type 0} (n : ℕ) (x : A) → length (replicate n x) ≡ n
 long zero x = refl
 long (suc n) x = ap suc (long n x)
 
--- nothing stands beside
-pub alone_steady : IsSteady alone
-alone_steady = record {
-  stays = λ c s ws known known' id v w at lock alike why far. tt;
-  splits = λ c s known id v left right at alike holds turns far. tt;
-  joins = λ c s known id v other w at ne there quiet far. tt;
-}
+-- the empty world is sound, with any first version
+pub stood_empty : (first : ℕ) (c : Config) → 1 ≤ first → IsAccepted c
+    → Stood c (empty_shown first c) (empty_far first c)
+stood_empty first c pos accepted = let world = empty_world_sound c accepted in
+    let f = world.configured in let n = world.counted in record {
+      sound = empty_sound first c pos (let z = accepted Nodes in omega (arith, z.1));
+      configured = record {
+        frames = f.frames;
+        homes = f.homes;
+        nodes = f.nodes;
+        room = f.room;
+        codes = record { sets = f.codes.sets; batch = f.codes.batch };
+      };
+      counted = record {
+        kinds = n.kinds;
+        jobs = n.jobs;
+        turns = n.turns;
+        sets = n.sets;
+        keys = n.keys;
+        epoch = n.epoch;
+        given = n.given;
+        no_pair = λ k e. absurd (cc);
+      };
+    }
 
 module _ (first : ℕ) (pos : 1 ≤ first) (c : Config) (ws : List ℕ) (wide : length ws
     ≡ base c + 512 * c.frames) (zeros : (i : ℕ) → get_or ws i 0 ≡ 0) where
@@ -54,14 +72,14 @@ module _ (first : ℕ) (pos : 1 ≤ first) (c : Config) (ws : List ℕ) (wide : 
   nowhere h len place e =
       subst (λ (o : Object). LiesAt o len place) (same_each c.handles never h) e
 
-  one_seat : (j : ℕ) (u : View) → get_elem? (opener first c ∷ []) j ≡ some u
+  one_seat : (j : ℕ) (u : View) → get_elem? (opener c ∷ []) j ≡ some u
       → SeatOk c ws s [] u
-  one_seat zero u e = subst (SeatOk c ws s []) (some-injective (opener first c) u e) record {
+  one_seat zero u e = subst (SeatOk c ws s []) (some-injective (opener c) u e) record {
     same_config = refl;
     pins = tt;
     few = omega arith;
     claims = tt;
-    knows = λ _. refl;
+    knows = λ his. absurd (true≢false (sym his));
     lasting = record {
       written = tt;
       fresh = tt;
@@ -69,14 +87,13 @@ module _ (first : ℕ) (pos : 1 ≤ first) (c : Config) (ws : List ℕ) (wide : 
       peeked = tt;
       reached = omega arith;
       told = tt;
-      began = λ h l. subst (OldOk first [] 0 h) (sym (same_each c.handles never h))
-          (never_now [] h);
+      began = λ h l. never_now [] h;
       past = tt;
     };
   }
   one_seat (suc j) u e = absurd (some-ne-none u (sym e))
 
-  pub kept_opens : Kept c ws (opener first c ∷ []) s []
+  pub kept_opens : Kept c ws (opener c ∷ []) s []
   kept_opens = record {
     wide = wide;
     sized = record {
@@ -104,30 +121,54 @@ module _ (first : ℕ) (pos : 1 ≤ first) (c : Config) (ws : List ℕ) (wide : 
     history = tt;
     within = tt;
     recorded = λ h k. refl;
-    one = let z : 1 + 0 ≤ 1 = omega arith in z;
+    one = let z : 0 + 0 ≤ 1 = omega arith in z;
   }
 
-  pub opens : (beside : Beside) (xs : List Slot)
-      → beside c (opening ws xs (opener first c)) s
-      → Ruled beside first c (opening ws xs (opener first c))
-  opens beside xs far = record {
-    known = s;
-    history = [];
-    starts = refl;
-    kept = kept_opens;
-    shares = record {
-      whole = refl;
-      spent = one_share;
-    };
-    far = far;
-  }
-    where
-      one_share : (j : ℕ) (u : View) → get_elem? (opener first c ∷ []) j ≡ some u → u.share ≡ 0
-          → u ≡ blank c
-      one_share zero u e z0 = absurd
-          (let z : 64 ≡ 0 = ap (λ (x : View). x.share) (some-injective (opener first c) u e) ∙ z0
-          in omega (arith, z))
-      one_share (suc j) u e z0 = absurd (some-ne-none u (sym e))
+  -- no turn was counted, and the far state is in its slot
+  module _ (deeds : Deeds) (accepted : IsAccepted c) where
+    abbrev far : FarState
+    far = empty_far first c
+
+    abbrev start : Table
+    start = opening ws (Some far ∷ []) (opener c)
+
+    one_view : (P : View → Type 0) → P (opener c) → (j : ℕ) (u : View)
+        → get_elem? (opener c ∷ []) j ≡ some u → P u
+    one_view P ok zero u e = subst P (some-injective (opener c) u e) ok
+    one_view P ok (suc j) u e = absurd (some-ne-none u (sym e))
+
+    locked_opens : Locked deeds c start s
+    locked_opens = record {
+      count = 0;
+      chain = λ _. far;
+      empty = refl;
+      reached = refl;
+      sound = λ i le. (s, stood_empty first c pos accepted);
+      free = λ _. record {
+        word = zeros 0;
+        home = refl;
+        stood = stood_empty first c pos accepted;
+      };
+      held = λ some_one. absurd (let z : 0 < 0 + 0 = some_one in omega (arith, z));
+      deep = let z : 0 < 1 = omega arith in z;
+      takers = one_view (λ u. u.holds ≡ true → u.took ≡ far) (λ his. absurd (true≢false (sym his)));
+      turns = one_view (λ u. Each (TurnStands deeds c 0 (λ _. far)) u.turns) tt;
+      once = λ k l. absurd (omega (arith, l));
+    }
+
+    pub opens : Ruled (Locked deeds) first c start
+    opens = record {
+      known = s;
+      history = [];
+      starts = refl;
+      kept = kept_opens;
+      shares = record {
+        whole = refl;
+        spent = one_view (λ u. u.share ≡ 0 → u ≡ blank c)
+            (λ none. absurd (let z : 64 ≡ 0 = none in omega (arith, z)));
+      };
+      far = locked_opens;
+    }
 
 -- what is known now is what the newest entries say
 pub old_now : (c : Config) (ws : List ℕ) (views : List View) (known : Shown) (es : List Entry)
@@ -155,69 +196,3 @@ old_now c ws views known es r h l = go (object_at known h) (r.stand h l)
     go (is.Far len v words) k = (k.born, was v _ k.kept.at k.kept.has)
     go (is.Here len place) k = tt
     go (is.Claimed len place v words) k = (k.born, was v _ k.kept.at k.kept.has)
-
-module _ (beside : Beside) (steady : IsSteady beside) (first : ℕ) (c : Config) (slots id : ℕ)
-    (me : Sat) (live : 1 ≤ me.0.share) (holds : me.0.holds ≡ true) where
-  -- the holder ends a turn: a load of the lock
-  pub ends_turn : Allows (Ruled beside first c) slots id me 0 (λ n. n)
-      (rests (step slots 0 0 0 none) me)
-  ends_turn s r _ at _ = (
-    w,
-    keeps,
-    tt,
-    subst (λ (ws : List ℕ). Ruled beside first c record {
-      words = ws;
-      homes = s.homes;
-      views = set s.views id w;
-    }) (sym (same_words s.words 0))
-        (any_seat beside steady first c s id me.0 at r w s.words es refl live
-        record { holds = refl; took = refl; turns = refl } refl
-        (still_rule c s.words s.views r.known es k id 0 me.0 w at quiet refl)),
-    (
-      length es,
-      refl,
-      each_map (λ e. Has e es) (λ (e : Entry). e.handle < me.0.config.handles)
-          (me.0.fresh ++ me.0.written)
-          (λ e there. subst (λ (q : Config). e.handle < q.handles) (sym ok.same_config)
-          (each_has (λ (x : Entry). x.handle < c.handles) e es k.within there)) all,
-    ),
-  )
-    where
-      k : Kept c s.words s.views r.known r.history
-      k = r.kept
-
-      es : List Entry
-      es = r.history
-
-      w : View
-      w = rested (length es) me.0
-
-      ok : SeatOk c s.words r.known es me.0
-      ok = k.seats id me.0 at
-
-      all : Each (λ e. Has e es) (me.0.fresh ++ me.0.written)
-      all = each_append (λ e. Has e es) me.0.fresh me.0.written ok.lasting.fresh ok.lasting.written
-
-      quiet : Quiet c r.known es 0 me.0 w
-      quiet = record {
-        same_config = refl;
-        claims = refl;
-        wrote = λ a j. (let e = times-append (is_version a j) me.0.fresh me.0.written in
-            omega (arith, e));
-        holds = refl;
-        knows = refl;
-        pins = ok.pins;
-        few = ok.few;
-        others = λ j ne. refl;
-        lasting = record {
-          written = all;
-          fresh = tt;
-          seen = ok.lasting.seen;
-          peeked = ok.lasting.peeked;
-          reached = omega arith;
-          told = tt;
-          began = λ h l. subst (λ (q : Shown). OldOk r.known.first es (length es) h (object_at q h))
-              (sym (ok.knows holds)) (old_now c s.words s.views r.known es k h l);
-          past = ok.lasting.past;
-        };
-      }

@@ -22,7 +22,7 @@ use Rattle.cb_rule.proofs.Counts.{each_append, each_map, each_mapped, times-appe
 use Rattle.cb_rule.proofs.Keeping.{seats_stay}
 
 -- a total to which the new element adds nothing
-total_split : (f : View → ℕ) (vs : List View) (id : ℕ) (v left right : View)
+pub total_split : (f : View → ℕ) (vs : List View) (id : ℕ) (v left right : View)
     → get_elem? vs id ≡ some v → f left ≡ f v → f right ≡ 0
     → total f (set vs id left ++ right ∷ []) ≡ total f vs
 total_split f vs id v left right at same none =
@@ -30,7 +30,7 @@ total_split f vs id v left right at same none =
     let b = total-same f vs id v left at same in omega (arith, a, b, none)
 
 -- or what the other had
-total_joined : (f : View → ℕ) (vs : List View) (id other : ℕ) (v w both spent : View)
+pub total_joined : (f : View → ℕ) (vs : List View) (id other : ℕ) (v w both spent : View)
     → get_elem? vs id ≡ some v → get_elem? (set vs id both) other ≡ some w
     → f both ≡ f v + f w → f spent ≡ 0 → total f (set (set vs id both) other spent) ≡ total f vs
 total_joined f vs id other v w both spent at there e z =

@@ -7,19 +7,20 @@ use Rattle.cb_world.specs.declared.shown.Shown.{Shown}
 use Rattle.cb_world.specs.Shown.{never}
 use Rattle.cb_rule.specs.declared.view.View.{View}
 use Rattle.cb_rule.specs.History.{Value}
+use Rattle.cb_rule.specs.Locking.{Locked}
 use Rattle.cb_rule.specs.Promised.{ClaimsStand, PinsStand, WordsStand}
 use Rattle.cb_rule.specs.Records.{PinOk}
-use Rattle.cb_rule.specs.Ruled.{alone}
 use Rattle.cb_rule.specs.Steps.{blank, opener, stand}
 use Rattle.cb_rule.proofs.Opening.{opens, same_each}
 use Rattle.cb_rule.proofs.Promising.{promises}
 use Rattle.cb_rule.proofs.WorkedHistory.{some_entries}
+use Rattle.cb_rule.proofs.WorkedLocking.{accepted, quiet}
 use Rattle.cb_rule.proofs.WorkedViews.{pair_of}
 
 -- ---- at the start, where every word is 0, the words stand
-at_start : WordsStand 3 pair_of (replicate 517 0) (opener 3 pair_of ∷ [])
-at_start = promises alone 3 pair_of _
-    (opens 3 (omega arith) pair_of (replicate 517 0) refl (same_each 517 0) alone [] tt)
+at_start : WordsStand 3 pair_of (replicate 517 0) (opener pair_of ∷ [])
+at_start = promises (Locked quiet) 3 pair_of _
+    (opens 3 (omega arith) pair_of (replicate 517 0) refl (same_each 517 0) quiet accepted)
 
 -- ---- a pin on object 1, which lies at place 0 and was written
 abbrev lying : Shown

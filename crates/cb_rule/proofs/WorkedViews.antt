@@ -50,7 +50,7 @@ another_word w = let e = w.word in omega (arith, e)
 
 -- ---- the first seat, after it made object 1 and wrote it
 abbrev first_seat : View
-first_seat = record (opener 3 pair_of) { written = written ∷ made ∷ [] }
+first_seat = record (opener pair_of) { written = written ∷ made ∷ [] }
 
 newest_is_written : IsNewest 1 4 first_seat
 newest_is_written = record {

@@ -1,7 +1,6 @@
 -- What a turn leaves of the record of its pass.
-use Rattle.std.proofs.Common.{◌≡◌, ℕ, ◌+◌, ◌*◌, ◌<◌, ◌≤◌, true, List, [], ◌∷◌, ◌++◌, Result, sym, ap, ◌∙◌, subst, append_assoc, append-nil}
-use mathlib.Core.Option.{none}
-use Rattle.atomic_table.specs.Table.{step, Allows}
+use Rattle.std.proofs.Common.{◌≡◌, ℕ, ◌+◌, ◌<◌, ◌≤◌, true, List, [], ◌∷◌, ◌++◌, length, Option, None, Some, Result, refl, sym, ap, ◌∙◌, subst, arith, append_assoc, append-nil}
+use Rattle.std.specs.Prelude.{IfOk}
 use Rattle.atomic_table.specs.Seated.{TableId}
 use Rattle.cb_member.specs.declared.no_memory.NoMemory.{NoMemory}
 use Rattle.cb_types.specs.declared.config.Config.{Config}
@@ -13,21 +12,22 @@ use Rattle.cb_world.specs.declared.shown.Shown.{Shown}
 use Rattle.cb_world.specs.FarState.{FarState}
 use Rattle.cb_world.specs.Played.{after, played}
 use Rattle.cb_world.specs.Written.{written_by}
+use Rattle.cb_core.specs.Unavailable.{TurnTells}
+use Rattle.cb_rule.specs.declared.turn.Turn.{Turn}
 use Rattle.cb_rule.specs.declared.view.View.{View}
 use Rattle.cb_rule.specs.Lists.{Each}
+use Rattle.cb_rule.specs.Locking.{Stood}
+use Rattle.cb_rule.specs.LockSteps.{AddsTurn, gave_lock, took_lock, turn_of}
 use Rattle.cb_rule.specs.Rule.{AreSized}
-use Rattle.cb_rule.specs.Ruled.{Ruled, alone}
-use Rattle.cb_rule.specs.Slot.{Sat}
-use Rattle.cb_rule.specs.Steps.{act, acted, rested, rests}
-use Rattle.cb_rule.proofs.Laws.{alone_steady, ends_turn}
-use Rattle.cb_shared.specs.declared.pass.Pass.{Pass}
-use Rattle.cb_shared.specs.declared.runtime.Shared.{Shared}
+use Rattle.cb_rule.specs.Slot.{Sat, Slot}
+use Rattle.cb_rule.specs.Steps.{Knows, act, acted}
 use Rattle.cb_shared.specs.declared.setup.Setup.{Setup}
-use Rattle.cb_shared.specs.Passes.{IsAtRest, IsFirst, IsPassOf, Stood}
-use Rattle.cb_shared.specs.Places.{Holds, Moves, Place}
+use Rattle.cb_shared.specs.Parts.{Part, grown, nothing_more}
+use Rattle.cb_shared.specs.Passes.{IsAtRest}
+use Rattle.cb_shared.specs.Places.{Holds, IsOf, Moves, Place}
 use Rattle.cb_shared.specs.SeatLaws.{Runs, sized_after}
-use Rattle.cb_shared.specs.Turning.{TurnAt, TurnBy, after_turn}
-use Rattle.cb_shared.proofs.Alone.{at_key}
+use Rattle.cb_shared.specs.Turning.{Did, DidAs, KnowsIt, KnowsOf, answer_of, made_by, object_of, turn_part, with_own}
+use Rattle.cb_shared.specs.UnderLock.{GivesFar, HasSame, IsBeginning, IsEnding, IsQuiet, TakesFar, TurnWith, TurnedBy, WorkBy}
 
 abbrev pub after_events : List Event → View → View
 after_events es v = record v {
@@ -49,124 +49,225 @@ pub sized_played : (c : Config) (es : List Event) (s : Shown) → AreSized c s
 sized_played c [] s z = z
 sized_played c (e ∷ es) s z = sized_played c es (after e s) (sized_after c e s z)
 
-pub rests_at : (first : ℕ) (c k : Config) → k ≡ c → (slots id : ℕ) (me : Sat) → 1 ≤ me.0.share
-    → me.0.holds ≡ true → Allows (Ruled alone first k) slots id me 0 (λ n. n)
-    (rests (step slots 0 0 0 none) me)
-rests_at first c k key slots id me live holds = at_key first c k slots id me 0 (λ n. n)
-    (rests (step slots 0 0 0 none) me) key
-    (ends_turn alone alone_steady first c slots id me live holds)
-
--- the seat holds the lock as before, and is sized
-pub holds_runs : (z : TableId) (k : Setup) (c : Config) (p q : Place) (es : List Event)
-    → Holds z k c p → Runs p es q → Holds z k c q
-holds_runs z k c p q es h r =
-    let v = p.me.0 in
-    let m : q.me ≡ (let y : Sat = (after_events es v, p.me.1) in y) = r.0.2
-    ∙ ap (λ (w : View). let y : Sat = (w, p.me.1) in y) (acted_is es v) in record {
-      of = record {
-        table = r.0.0 ∙ h.of.table;
-        words = h.of.words;
-        key = h.of.key;
-        config = ap (λ (x : Sat). x.0.config) m ∙ h.of.config;
-        live = subst (λ (x : Sat). 1 ≤ x.0.share) (sym m) h.of.live;
-      };
-      holds = ap (λ (x : Sat). x.0.holds) m ∙ h.holds;
-      sized = subst (λ (x : Sat). AreSized c x.0.known) (sym m) (sized_played c es v.known h.sized);
-    }
-
--- the first pass has its seat so
-pub holds_first : (s : Shared) (p : Pass) → s.board.shared.table_id.words
-    ≡ 1 + s.config.handles + s.config.handles + 512 * s.config.frames
-    → s.board.shared.key.config ≡ s.config → IsPassOf s p → IsFirst s p
-    → Holds s.board.shared.table_id s.board.shared.key s.config p.seat
-holds_first s p words key of first = record {
-  of = record {
-    table = of.table;
-    words = words;
-    key = key;
-    config = of.rest.config;
-    live = of.rest.live;
-  };
-  holds = first.holds;
-  sized = first.sized;
+-- a seat that moved to another view is of the table as before
+pub of_moved : (z : TableId) (k : Setup) (c : Config) (p q : Place) → IsOf z k c p
+    → q.table_id ≡ p.table_id → q.me.0.config ≡ p.me.0.config → q.me.0.share ≡ p.me.0.share
+    → IsOf z k c q
+of_moved z k c p q of table config share = record {
+  table = table ∙ of.table;
+  words = of.words;
+  key = of.key;
+  config = config ∙ of.config;
+  live = subst (λ (n : ℕ). 1 ≤ n) (sym share) of.live;
 }
 
--- a turn, and its end
-module _ (c : Config) (job : Job) (r : Result Reply NoMemory) (took gave : FarState) (p m q : Place)
-    (rest : IsAtRest c p.me.0) (idle : p.me.0.acts ≡ []) (t : TurnAt c job r took gave p m) (n : ℕ)
-    (ends : Moves m q (rested n m.me.0))
-    (below : Each (λ (e : Entry). e.handle < c.handles) (m.me.0.fresh ++ m.me.0.written)) where
-  abbrev v : View
-  v = p.me.0
+pub view_is : (p q : Place) (w : View) (slots : List (ℕ × Slot)) → q.me ≡ (w, slots) → q.me.0 ≡ w
+view_is p q w slots e = ap (λ (m : Sat). m.0) e
 
-  middle : m.me.0 ≡ after_events t.events v
-  middle = ap (λ (x : Sat). x.0) t.runs.0.2 ∙ acted_is t.events v
+-- the record after the events of a seat
+pub after_runs : (p q : Place) (es : List Event) → Runs p es q → q.me.0 ≡ after_events es p.me.0
+after_runs p q es r = ap (λ (m : Sat). m.0) r.0.2 ∙ acted_is es p.me.0
 
-  ended : q.me.0 ≡ rested n m.me.0
-  ended = ap (λ (x : Sat). x.0) ends.2
+pub of_runs : (z : TableId) (k : Setup) (c : Config) (p q : Place) (es : List Event) → IsOf z k c p
+    → Runs p es q → IsOf z k c q
+of_runs z k c p q es of r = let m = after_runs p q es r in of_moved z k c p q of r.0.0
+    (ap (λ (x : View). x.config) m) (ap (λ (x : View). x.share) m)
 
-  wrote : written_by t.events v.known v.fresh ≡ t.more
-  wrote = sym (ap (λ (x : View). x.fresh) middle) ∙ t.fresh
+-- ---- the seat that has just taken the lock
+pub begins_taken : (c : Config) (far : FarState) (p q : Place) → IsAtRest c p.me.0
+    → TakesFar c far p q → IsBeginning c far q.me.0
+begins_taken c far p q rest t =
+    let e : q.me.0 ≡ took_lock t.known far t.entries p.me.0 = ap (λ (m : Sat). m.0) t.at.2 in
+    subst (IsBeginning c far) (sym e) record {
+      holds = refl;
+      idle = refl;
+      fresh = rest.fresh;
+      start = refl;
+      took = refl;
+      sized = t.sized;
+      stood = t.stood;
+    }
 
-  pub last : q.me.0 ≡ after_turn t.events t.more n v
-  last = ended ∙ ap (rested n) middle ∙ (λ i. record v {
-    written = wrote i ++ v.written;
-    fresh = sym rest.fresh i;
-    start = played t.events v.known;
-    since = n;
-    acts = sym idle i;
-    known = played t.events v.known;
-  })
+pub holds_begun : (z : TableId) (k : Setup) (c : Config) (far : FarState) (p : Place) → IsOf z k c p
+    → IsBeginning c far p.me.0 → Holds z k c p
+holds_begun z k c far p of b = record { of = of; holds = b.holds; sized = b.sized }
 
-  entries : Each (λ (e : Entry). e.handle < c.handles) (t.more ++ v.written)
-  entries = subst (Each (λ (e : Entry). e.handle < c.handles))
-      (λ i. t.fresh i ++ ap (λ (x : View). x.written) middle i) below
+module _ (c : Config) (far : FarState) (p q : Place) (t : TakesFar c far p q) where
+  taken : q.me.0 ≡ took_lock t.known far t.entries p.me.0
+  taken = ap (λ (m : Sat). m.0) t.at.2
 
-  pub rest_turned : IsAtRest c q.me.0
-  rest_turned = subst (IsAtRest c) (sym last) record {
-    config = rest.config;
-    live = rest.live;
-    most = rest.most;
-    claims = rest.claims;
-    fresh = rest.fresh;
-    written = entries;
-    seen = rest.seen;
-    pins = rest.pins;
-  }
+  of_take : (z : TableId) (k : Setup) → IsOf z k c p → IsOf z k c q
+  of_take z k of = of_moved z k c p q of t.at.0 (ap (λ (v : View). v.config) taken)
+      (ap (λ (v : View). v.share) taken)
 
-  pub table_turned : q.table_id ≡ p.table_id
-  table_turned = ends.0 ∙ t.runs.0.0
+  slots_take : p.me.1 ≡ [] → q.me.1 ≡ (0, None) ∷ []
+  slots_take none = ap (λ (m : Sat). m.1) t.at.2
+      ∙ ap (λ (l : List (ℕ × Slot)). let k : List (ℕ × Slot) = (0, None) ∷ l in k) none
 
-  pub share_turned : q.me.0.share ≡ p.me.0.share
-  share_turned = ap (λ (x : View). x.share) last
+  pins_take : length p.me.0.pins ≤ 16 → length q.me.0.pins ≤ 16
+  pins_take few = subst (λ (v : View). length v.pins ≤ 16) (sym taken) few
 
-  pub pins_turned : q.me.0.pins ≡ p.me.0.pins
-  pins_turned = ap (λ (x : View). x.pins) last
+  knows_take : (o : Option ℕ) → KnowsIt o p.me.0 → KnowsIt o q.me.0
+  knows_take None knows = tt
+  knows_take (Some h) knows = subst (Knows h) (sym taken) knows
 
-  pub carries_turned : q.me.1 ≡ p.me.1
-  carries_turned = ap (λ (x : Sat). x.1) ends.2 ∙ ap (λ (x : Sat). x.1) t.runs.0.2
+pub of_taken : (z : TableId) (k : Setup) (c : Config) (far : FarState) (p q : Place) → IsOf z k c p
+    → TakesFar c far p q → IsOf z k c q
+of_taken z k c far p q of t = of_take c far p q t z k of
 
-  pub holds_turned : p.me.0.holds ≡ true → q.me.0.holds ≡ true
-  holds_turned h = ap (λ (x : View). x.holds) last ∙ h
+pub slots_taken : (c : Config) (far : FarState) (p q : Place) → p.me.1 ≡ [] → TakesFar c far p q
+    → q.me.1 ≡ (0, None) ∷ []
+slots_taken c far p q none t = slots_take c far p q t none
 
-  pub idle_turned : q.me.0.acts ≡ []
-  idle_turned = ap (λ (x : View). x.acts) last ∙ idle
+pub pins_taken : (c : Config) (far : FarState) (p q : Place) → length p.me.0.pins ≤ 16
+    → TakesFar c far p q → length q.me.0.pins ≤ 16
+pins_taken c far p q few t = pins_take c far p q t few
 
-  pub sized_turned : AreSized c p.me.0.known → AreSized c q.me.0.known
-  sized_turned z = subst (λ (x : View). AreSized c x.known) (sym last)
-      (sized_played c t.events v.known z)
+pub knows_taken : (c : Config) (far : FarState) (job : Job) (p q : Place) → KnowsOf job p.me.0
+    → TakesFar c far p q → KnowsOf job q.me.0
+knows_taken c far job p q knows t = knows_take c far p q t (object_of job) knows
 
-  pub stood_turned : Stood c q.me.0.known gave
-  stood_turned = subst (λ (x : View). Stood c x.known gave) (sym ended) t.stood
+-- ---- the work of a turn, and its end
+pub ends_work : (c : Config) (job : Job) (r : Result Reply NoMemory) (took gave : FarState)
+    (p q : Place) → IsBeginning c took p.me.0 → WorkBy c job r took gave p q
+    → IsEnding c job (answer_of r) gave q.me.0
+ends_work c job r took gave p q b w =
+    let v = p.me.0 in let es = w.events in let reply = answer_of r in
+    let m : q.me.0 ≡ grown w.within (after_events es v) = ap (λ (x : Sat). x.0) w.moves.2
+    ∙ ap (grown w.within) (acted_is es v) in record {
+      holds = ap (λ (x : View). x.holds) m ∙ b.holds;
+      stood = subst (λ (x : View). Stood c x.known gave) (sym m) w.stood;
+      adds = subst (λ (x : View). AddsTurn x.took gave) (sym m)
+          (subst (λ (f : FarState). AddsTurn f gave) (sym b.took) w.next);
+      did = λ n. subst (λ (x : View). Did c (turn_of job reply gave n x)) (sym m)
+          (subst (λ (s : Shown). DidAs c job reply s (v.acts ++ es) v.took gave) (sym b.start)
+          (subst (λ (l : List Event). DidAs c job reply v.known (l ++ es) v.took gave) (sym b.idle)
+          (subst (λ (f : FarState). DidAs c job reply v.known es f gave) (sym b.took) w.did)));
+    }
 
-  pub turn_by : TurnBy c job r took gave p.me.0 q.me.0
-  turn_by = record {
-    events = t.events;
-    more = t.more;
-    count = n;
-    agree = t.runs.1;
-    did = t.did;
-    next = t.next;
-    wrote = t.wrote;
-    left = last;
-  }
+pub of_work : (z : TableId) (k : Setup) (c : Config) (job : Job) (r : Result Reply NoMemory)
+    (took gave : FarState) (p q : Place) → IsOf z k c p → WorkBy c job r took gave p q
+    → IsOf z k c q
+of_work z k c job r took gave p q of w =
+    let m : q.me.0 ≡ grown w.within (after_events w.events p.me.0) =
+    ap (λ (x : Sat). x.0) w.moves.2 ∙ ap (grown w.within) (acted_is w.events p.me.0) in
+    of_moved z k c p q of w.moves.0 (ap (λ (x : View). x.config) m) (ap (λ (x : View). x.share) m)
+
+pub turn_with : (c : Config) (job : Job) (r : Result Reply NoMemory) (took gave : FarState)
+    (p m q : Place) → WorkBy c job r took gave p m → GivesFar c job (answer_of r) gave m q
+    → TurnWith c job r took p q
+turn_with c job r took gave p m q w g =
+    let v = p.me.0 in let reply = answer_of r in let made = made_by job reply in
+    let at : m.me.0 ≡ grown w.within (acted w.events v) = ap (λ (x : Sat). x.0) w.moves.2 in
+    let is : m.me.0 ≡ grown w.within (after_events w.events v) = at
+    ∙ ap (grown w.within) (acted_is w.events v) in
+    let fresh : m.me.0.fresh ≡ w.more = ap (λ (x : View). x.fresh) at ∙ w.fresh in
+    let written : m.me.0.written ≡ v.written = ap (λ (x : View). x.written) is
+    ∙ ap (λ (l : List Entry). l ++ v.written) w.quiet.0 in record {
+      gave = gave;
+      events = w.events;
+      more = w.more;
+      within = w.within;
+      entries = g.entries;
+      agree = w.agree;
+      at = (
+        g.at.0 ∙ w.moves.0,
+        g.at.1 ∙ w.moves.1,
+        g.at.2 ∙ ap (λ (x : View).
+            let z : Sat = (gave_lock job reply gave g.entries [] made x, []) in
+            z) at,
+      );
+      below = subst (Each (λ (e : Entry). e.handle < c.handles)) (λ i. fresh i ++ written i)
+          g.written;
+      quiet = w.quiet;
+      range = w.range;
+      reads = w.reads;
+      did = w.did;
+      next = w.next;
+      wrote = w.wrote;
+      fresh = w.fresh;
+    }
+
+-- the turn as it stands then
+abbrev pub turn_told : Job → Result Reply NoMemory → Shown → ℕ → ℕ → List Event → FarState → FarState
+    → Turn
+turn_told job r known since until es took gave = record {
+  job = job;
+  reply = answer_of r;
+  start = known;
+  since = since;
+  until = until;
+  acts = es;
+  took = took;
+  gave = gave;
+}
+
+-- the record of a pass at rest, from taking the lock to giving it back
+pub turned_by : (c : Config) (job : Job) (r : Result Reply NoMemory) (far : FarState) (p m q : Place)
+    → IsAtRest c p.me.0 → TakesFar c far p m → TurnWith c job r far m q
+    → IfOk r (λ reply. TurnTells job far reply) → TurnedBy c job r p.me.0 q.me.0
+turned_by c job r far p m q rest t w tells =
+    let v = p.me.0 in let reply = answer_of r in let made = made_by job reply in
+    let u : View = took_lock t.known far t.entries v in
+    let at : m.me.0 ≡ u = ap (λ (x : Sat). x.0) t.at.2 in
+    let es = w.events in let d = w.within in let z : View = after_events es u in
+    let turn : Turn = turn_told job r t.known t.entries w.entries es far w.gave in
+    let fresh : z.fresh ≡ w.more = ap (λ (x : View). x.fresh) (sym (acted_is es u))
+    ∙ ap (λ (x : View). (acted es x).fresh) (sym at) ∙ w.fresh in
+    let written : m.me.0.written ≡ v.written = ap (λ (x : View). x.written) at in
+    let left : q.me.0 ≡ gave_lock job reply w.gave w.entries [] made (grown d z) =
+    ap (λ (x : Sat). x.0) w.at.2
+    ∙ ap (λ (x : View). gave_lock job reply w.gave w.entries [] made (grown d (acted es x))) at
+    ∙ ap (λ (x : View). gave_lock job reply w.gave w.entries [] made (grown d x)) (acted_is es u) in
+    let known : m.me.0.known ≡ t.known = ap (λ (x : View). x.known) at in record {
+      turn = turn;
+      more = w.more;
+      within = d;
+      job_is = refl;
+      reply_is = refl;
+      agree = subst (λ (s : Shown). Rattle.cb_world.specs.Played.Agree s es) known w.agree;
+      did = subst (λ (s : Shown). DidAs c job reply s es far w.gave) known w.did;
+      next = w.next;
+      wrote = w.wrote;
+      below = subst (λ (l : List Entry). Each (λ (e : Entry). e.handle < c.handles) (w.more ++ l))
+          written w.below;
+      range = w.range;
+      reads = w.reads v (
+        rest.fresh ∙ sym (ap (λ (x : View). x.fresh) at ∙ rest.fresh),
+        sym written,
+        sym (ap (λ (x : View). x.seen) at),
+        sym (ap (λ (x : View). x.share) at),
+        sym (ap (λ (x : View). x.own) at),
+      );
+      tells = tells;
+      left = left ∙ gave_is c job r far v t.known t.entries w.entries es w.gave d w.more made rest fresh
+          w.quiet;
+    }
+  where
+    gave_is : (c : Config) (job : Job) (r : Result Reply NoMemory) (far : FarState) (v : View)
+        (known : Shown) (since until : ℕ) (es : List Event) (gave : FarState) (d : Part)
+        (more : List Entry) (made : List ℕ) → IsAtRest c v
+        → written_by es known v.fresh ≡ more → IsQuiet d
+        → gave_lock job (answer_of r) gave until [] made
+        (grown d (after_events es (took_lock known far since v)))
+        ≡ with_own made (grown (turn_part (turn_told job r known since until es far gave) more d
+        nothing_more) v)
+    gave_is c job r far v known since until es gave d more made rest fresh quiet =
+        let o = rest.out in λ i. record v {
+          written = fresh i ++ ap (λ (l : List Entry). l ++ v.written) quiet.0 i;
+          fresh = sym rest.fresh i;
+          seen = d.seen ++ v.seen;
+          peeked = d.peeked ++ v.peeked;
+          ever = (let e : v.ever + d.ever ≡ v.ever + (d.ever + 0) = omega arith in e) i;
+          looks = d.looks ++ v.looks;
+          own = made ++ v.own;
+          holds = sym o.0 i;
+          start = sym o.1 i;
+          since = sym o.2 i;
+          acts = sym o.3 i;
+          known = sym o.4 i;
+          took = (ap (λ (k : Config). Rattle.cb_world.specs.Empty.empty_far 1 k) rest.config
+              ∙ sym o.5) i;
+          turns = turn_told job r known since until es far gave
+              ∷ ap (λ (l : List Turn). l ++ v.turns) quiet.1 i;
+        }

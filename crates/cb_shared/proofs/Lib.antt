@@ -16,7 +16,12 @@ pub mod FirstPin
 pub mod AfterTurn
 pub mod Mapped
 pub mod Turns
+pub mod LockAlone
+pub mod ReadParts
+pub mod ReadTurns
+pub mod TurnEnds
 pub mod WorkedGround
 pub mod WorkedPins
 pub mod WorkedWrites
 pub mod WorkedPasses
+pub mod WorkedTurns

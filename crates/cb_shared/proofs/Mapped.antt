@@ -1,6 +1,7 @@
 -- A turn at a desk of one kind as one at a desk of another kind.
 use Rattle.std.proofs.Common.{◌≡◌, ℕ, List, [], Option, None, Some}
 use Rattle.cb_types.specs.declared.config.Config.{Config}
+use Rattle.cb_types.specs.declared.handle.Handle.{Handle}
 use Rattle.cb_types.specs.declared.job.Job.{Job}
 use Rattle.cb_types.specs.declared.job.Job.TheVariants.{Make, Read, Write, Free, Swap, Filter, Evict, Begin, Ship, Commit, Abort, Pair, Patch, Merge, Part, Compact, Rebuild, Crash, Join}
 use Rattle.cb_types.specs.declared.reply.Reply.{Reply}
@@ -12,19 +13,22 @@ use Rattle.cb_world.specs.Performs.{Performs}
 use Rattle.cb_world.specs.Sound.{Sound}
 use Rattle.cb_evict.specs.declared.eviction.Eviction.{Eviction}
 use Rattle.cb_evict.specs.declared.eviction.Eviction.TheVariants as eviction
-use Rattle.cb_core.specs.OnceHere.{OnceHere, OnceHereStops}
-use Rattle.cb_core.specs.OnceHere.OnceHere.{away, here}
-use Rattle.cb_core.specs.OnceHere.OnceHereStops.{bringing_stops, call_stops}
 use Rattle.cb_core.specs.Parts.{Holding, WithRoom, WhereItIs, BringsIn, RoomStops, CallStops, NeverLacks}
 use Rattle.cb_core.specs.Parts.WithRoom.{at_once, no_room, won}
 use Rattle.cb_core.specs.Parts.WhereItIs.{near, declined, stays_far, brought}
 use Rattle.cb_core.specs.Parts.BringsIn.{not_far, was_far}
 use Rattle.cb_core.specs.Parts.RoomStops.{at_once as lacks_now, evicting, after}
 use Rattle.cb_core.specs.Parts.CallStops.{near as lacks_near, far as lacks_far, after as lacks_after}
-use Rattle.cb_core.specs.Turned.{BringLacks, Brings, ComeLacks, ComesIn, Declines, Does, EvictLacks, Finds, Makes, MakeLacks, ReadLacks, Reads, Stopped, Stops, SwapLacks, Swaps, Turned, WinsRoom, Writes, done, worn}
+use Rattle.cb_core.specs.ReadTurn.{BroughtToRead, StoppedToRead}
+use Rattle.cb_core.specs.ReadTurn.BroughtToRead.{worn as first_worn, done as first_done}
+use Rattle.cb_core.specs.Turned.{BringLacks, Brings, ComeLacks, ComesIn, Declines, Does, EvictLacks, Finds, Makes, MakeLacks, Stopped, Stops, SwapLacks, Swaps, Turned, WinsRoom, Writes, done, worn}
+use Rattle.cb_shared.specs.UnderLock.{IsNoRead}
 
 module _ {D E : Type 0} (run : D → List Event → D → Type 0) (shows : D → Shown → Type 0)
-    (run' : E → List Event → E → Type 0) (shows' : E → Shown → Type 0) (f : D → E)
+    (reads : ℕ → Holding D → Reply → Holding D → Type 0) (lacks : ℕ → Holding D → Holding D → Type 0)
+    (run' : E → List Event → E → Type 0) (shows' : E → Shown → Type 0)
+    (reads' : ℕ → Holding E → Reply → Holding E → Type 0)
+    (lacks' : ℕ → Holding E → Holding E → Type 0) (f : D → E)
     (back : (d e : D) (es : List Event) → run d es e → run' (f d) es (f e))
     (told : (d : D) (s : Shown) → shows' (f d) s → shows d s) where
   abbrev pub on : Holding D → Holding E
@@ -82,13 +86,6 @@ module _ {D E : Type 0} (run : D → List Event → D → Type 0) (shows : D →
   brings_in P F Q G p e a b r (was_far m o v) =
       was_far (on m) (p a m answer.NotHere o) (e m b r v)
 
-  once_here : (P F : Holding D → Reply → Holding D → Type 0)
-      (Q G : Holding E → Reply → Holding E → Type 0) → Maps P Q → Maps F G
-      → Maps (OnceHere P F) (OnceHere Q G)
-  once_here P F Q G p e a b r (away o off) = away (p a b r o) off
-  once_here P F Q G p e a b r (here m place o there v) =
-      here (on m) place (p a m place o) there (e m b r v)
-
   room_stops : (P : Holding D → Reply → Holding D → Type 0)
       (F : Holding D → Eviction → Holding D → Type 0) (L I : Holding D → Holding D → Type 0)
       (Q : Holding E → Reply → Holding E → Type 0) (G : Holding E → Eviction → Holding E → Type 0)
@@ -112,14 +109,6 @@ module _ {D E : Type 0} (run : D → List Event → D → Type 0) (shows : D →
   call_lacks P F S L I Q G T M J p l s e i a b (lacks_after m n o' g o d v again) =
       lacks_after (on m) (on n) (on o') g (p a m answer.NotHere o) (s m n None d)
       (e n o' (answer.Swapped g) v) (l o' b again)
-
-  once_stops : (P : Holding D → Reply → Holding D → Type 0) (L I : Holding D → Holding D → Type 0)
-      (Q : Holding E → Reply → Holding E → Type 0) (M J : Holding E → Holding E → Type 0)
-      → Maps P Q → MapsLack L M → MapsLack I J
-      → MapsLack (OnceHereStops P L I) (OnceHereStops Q M J)
-  once_stops P L I Q M J p l i a b (bringing_stops o) = bringing_stops (l a b o)
-  once_stops P L I Q M J p l i a b (call_stops m place o there v) =
-      call_stops (on m) place (p a m place o) there (i m b v)
 
   swaps : (h : ℕ) → Maps (Swaps run shows h) (Swaps run' shows' h)
   swaps h a b r (home, at, p) = (home, at, performs a.desk b.desk a.far _ _ _ p)
@@ -150,12 +139,6 @@ module _ {D E : Type 0} (run : D → List Event → D → Type 0) (shows : D →
       → MapsLack (MakeLacks run c bytes) (MakeLacks run' c bytes)
   make_lacks c bytes a b (ran, same, needs) = (back a.desk b.desk [] ran, same, needs)
 
-  reads : (h : ℕ) → Maps (Reads run shows h) (Reads run' shows' h)
-  reads h a b r p = performs a.desk b.desk a.far _ _ _ p
-
-  read_lacks : (h : ℕ) → MapsLack (ReadLacks run shows h) (ReadLacks run' shows' h)
-  read_lacks h a b (same, p) = (same, performs a.desk b.desk a.far _ _ _ p)
-
   writes : (h at : ℕ) (bytes : List ℕ)
       → Maps (Writes run shows h at bytes) (Writes run' shows' h at bytes)
   writes h at bytes a b r p = performs a.desk b.desk a.far _ _ _ p
@@ -178,72 +161,78 @@ module _ {D E : Type 0} (run : D → List Event → D → Type 0) (shows : D →
   come_lacks c h a b (m, find, lacks) =
       (on m, finds h a m answer.NotHere find, bring_lacks c h m b lacks)
 
-  does : (c : Config) (job : Job)
-      → Maps (Does run shows (Reads run shows) c job) (Does run' shows' (Reads run' shows') c job)
-  does c (Make bytes) a b r x = with_room c.frames (Makes run shows c bytes) (WinsRoom run shows c)
+  does : (c : Config) (job : Job) → IsNoRead job
+      → Maps (Does run shows reads c job) (Does run' shows' reads' c job)
+  does c (Make bytes) other a b r x = with_room c.frames (Makes run shows c bytes) (WinsRoom run shows c)
       (Makes run' shows' c bytes) (WinsRoom run' shows' c) (makes c bytes) (wins c) a b r x
-  does c (Read handle) a b r x = once_here (ComesIn run shows c handle.n) (Reads run shows handle.n)
-      (ComesIn run' shows' c handle.n) (Reads run' shows' handle.n) (comes_in c handle.n)
-      (reads handle.n) a b r x
-  does c (Write handle at bytes) a b r x = where_it_is (Writes run shows handle.n at bytes)
+  does c (Read handle) other a b r x = absurd other
+  does c (Write handle at bytes) other a b r x = where_it_is (Writes run shows handle.n at bytes)
       (Brings run shows c handle.n) _ (Writes run' shows' handle.n at bytes)
       (Brings run' shows' c handle.n) _ (writes handle.n at bytes) (declines handle.n at _)
       (brings c handle.n) a b r x
-  does c (Free handle) a b r p = performs a.desk b.desk a.far _ _ _ p
-  does c (Swap handle) a b r x = comes_in c handle.n a b r x
-  does c (Filter handle) a b r p = performs a.desk b.desk a.far _ _ _ p
-  does c Evict a b r p = performs a.desk b.desk a.far _ _ _ p
-  does c Begin a b r p = performs a.desk b.desk a.far _ _ _ p
-  does c Ship a b r p = performs a.desk b.desk a.far _ _ _ p
-  does c Commit a b r p = performs a.desk b.desk a.far _ _ _ p
-  does c Abort a b r p = performs a.desk b.desk a.far _ _ _ p
-  does c Pair a b r (ran, step) = (back a.desk b.desk [] ran, step)
-  does c Patch a b r (ran, step) = (back a.desk b.desk [] ran, step)
-  does c Merge a b r (ran, step) = (back a.desk b.desk [] ran, step)
-  does c Part a b r (ran, step) = (back a.desk b.desk [] ran, step)
-  does c Compact a b r (ran, step) = (back a.desk b.desk [] ran, step)
-  does c Rebuild a b r (ran, step) = (back a.desk b.desk [] ran, step)
-  does c (Crash node) a b r (ran, step) = (back a.desk b.desk [] ran, step)
-  does c (Join node) a b r (ran, step) = (back a.desk b.desk [] ran, step)
+  does c (Free handle) other a b r p = performs a.desk b.desk a.far _ _ _ p
+  does c (Swap handle) other a b r x = comes_in c handle.n a b r x
+  does c (Filter handle) other a b r p = performs a.desk b.desk a.far _ _ _ p
+  does c Evict other a b r p = performs a.desk b.desk a.far _ _ _ p
+  does c Begin other a b r p = performs a.desk b.desk a.far _ _ _ p
+  does c Ship other a b r p = performs a.desk b.desk a.far _ _ _ p
+  does c Commit other a b r p = performs a.desk b.desk a.far _ _ _ p
+  does c Abort other a b r p = performs a.desk b.desk a.far _ _ _ p
+  does c Pair other a b r (ran, step) = (back a.desk b.desk [] ran, step)
+  does c Patch other a b r (ran, step) = (back a.desk b.desk [] ran, step)
+  does c Merge other a b r (ran, step) = (back a.desk b.desk [] ran, step)
+  does c Part other a b r (ran, step) = (back a.desk b.desk [] ran, step)
+  does c Compact other a b r (ran, step) = (back a.desk b.desk [] ran, step)
+  does c Rebuild other a b r (ran, step) = (back a.desk b.desk [] ran, step)
+  does c (Crash node) other a b r (ran, step) = (back a.desk b.desk [] ran, step)
+  does c (Join node) other a b r (ran, step) = (back a.desk b.desk [] ran, step)
 
-  stops : (c : Config) (job : Job) → MapsLack (Stops run shows (ReadLacks run shows) c job)
-      (Stops run' shows' (ReadLacks run' shows') c job)
-  stops c (Make bytes) a b x = room_stops (Makes run shows c bytes) (WinsRoom run shows c)
+  stops : (c : Config) (job : Job) → IsNoRead job
+      → MapsLack (Stops run shows lacks c job) (Stops run' shows' lacks' c job)
+  stops c (Make bytes) other a b x = room_stops (Makes run shows c bytes) (WinsRoom run shows c)
       (MakeLacks run c bytes) (EvictLacks run shows) (Makes run' shows' c bytes)
       (WinsRoom run' shows' c) (MakeLacks run' c bytes) (EvictLacks run' shows') (makes c bytes)
       (make_lacks c bytes) (wins c) evict_lacks a b x
-  stops c (Read handle) a b x = once_stops (ComesIn run shows c handle.n)
-      (ComeLacks run shows c handle.n) (ReadLacks run shows handle.n)
-      (ComesIn run' shows' c handle.n) (ComeLacks run' shows' c handle.n)
-      (ReadLacks run' shows' handle.n) (comes_in c handle.n) (come_lacks c handle.n)
-      (read_lacks handle.n) a b x
-  stops c (Write handle at bytes) a b x = call_lacks (Writes run shows handle.n at bytes)
+  stops c (Read handle) other a b x = absurd other
+  stops c (Write handle at bytes) other a b x = call_lacks (Writes run shows handle.n at bytes)
       (Brings run shows c handle.n) _ NeverLacks (BringLacks run shows c handle.n)
       (Writes run' shows' handle.n at bytes) (Brings run' shows' c handle.n) _ NeverLacks
       (BringLacks run' shows' c handle.n) (writes handle.n at bytes) never_lacks
       (declines handle.n at _) (brings c handle.n) (bring_lacks c handle.n) a b x
-  stops c (Swap handle) a b x = come_lacks c handle.n a b x
-  stops c (Filter handle) a b p = performs a.desk b.desk a.far _ _ _ p
-  stops c Evict a b x = evict_lacks a b x
-  stops c Begin a b x = evict_lacks a b x
-  stops c Ship a b (same, p) = (same, performs a.desk b.desk a.far _ _ _ p)
-  stops c (Free handle) a b x = x
-  stops c Commit a b x = x
-  stops c Abort a b x = x
-  stops c Pair a b (ran, lacks) = (back a.desk b.desk [] ran, lacks)
-  stops c Patch a b (ran, lacks) = (back a.desk b.desk [] ran, lacks)
-  stops c Merge a b (ran, lacks) = (back a.desk b.desk [] ran, lacks)
-  stops c Part a b (ran, lacks) = (back a.desk b.desk [] ran, lacks)
-  stops c Compact a b (ran, lacks) = (back a.desk b.desk [] ran, lacks)
-  stops c Rebuild a b (ran, lacks) = (back a.desk b.desk [] ran, lacks)
-  stops c (Crash node) a b (ran, lacks) = (back a.desk b.desk [] ran, lacks)
-  stops c (Join node) a b (ran, lacks) = (back a.desk b.desk [] ran, lacks)
+  stops c (Swap handle) other a b x = come_lacks c handle.n a b x
+  stops c (Filter handle) other a b p = performs a.desk b.desk a.far _ _ _ p
+  stops c Evict other a b x = evict_lacks a b x
+  stops c Begin other a b x = evict_lacks a b x
+  stops c Ship other a b (same, p) = (same, performs a.desk b.desk a.far _ _ _ p)
+  stops c (Free handle) other a b x = x
+  stops c Commit other a b x = x
+  stops c Abort other a b x = x
+  stops c Pair other a b (ran, lacks) = (back a.desk b.desk [] ran, lacks)
+  stops c Patch other a b (ran, lacks) = (back a.desk b.desk [] ran, lacks)
+  stops c Merge other a b (ran, lacks) = (back a.desk b.desk [] ran, lacks)
+  stops c Part other a b (ran, lacks) = (back a.desk b.desk [] ran, lacks)
+  stops c Compact other a b (ran, lacks) = (back a.desk b.desk [] ran, lacks)
+  stops c Rebuild other a b (ran, lacks) = (back a.desk b.desk [] ran, lacks)
+  stops c (Crash node) other a b (ran, lacks) = (back a.desk b.desk [] ran, lacks)
+  stops c (Join node) other a b (ran, lacks) = (back a.desk b.desk [] ran, lacks)
 
-  pub turned : (c : Config) (job : Job) → Maps (Turned run shows (Reads run shows) c job)
-      (Turned run' shows' (Reads run' shows') c job)
-  turned c job a b r (worn end reply state ran) = worn end reply state (back a.desk b.desk [] ran)
-  turned c job a b r (done few x) = done few (does c job _ b r x)
+  pub turned : (c : Config) (job : Job) → IsNoRead job
+      → Maps (Turned run shows reads c job) (Turned run' shows' reads' c job)
+  turned c job other a b r (worn end reply state ran) = worn end reply state (back a.desk b.desk [] ran)
+  turned c job other a b r (done few x) = done few (does c job other _ b r x)
 
-  pub stopped : (c : Config) (job : Job) → MapsLack (Stopped run shows (ReadLacks run shows) c job)
-      (Stopped run' shows' (ReadLacks run' shows') c job)
-  stopped c job a b x = record { few = x.few; stops = stops c job _ b x.stops }
+  pub stopped : (c : Config) (job : Job) → IsNoRead job
+      → MapsLack (Stopped run shows lacks c job) (Stopped run' shows' lacks' c job)
+  stopped c job other a b x = record { few = x.few; stops = stops c job other _ b x.stops }
+
+  -- the first part of a read
+  pub brought_in : (c : Config) (handle : Handle)
+      → Maps (BroughtToRead run shows c handle) (BroughtToRead run' shows' c handle)
+  brought_in c handle a b r (first_worn end reply state ran) =
+      first_worn end reply state (back a.desk b.desk [] ran)
+  brought_in c handle a b r (first_done few x) = first_done few (comes_in c handle.n _ b r x)
+
+  pub stopped_first : (c : Config) (handle : Handle)
+      → MapsLack (StoppedToRead run shows c handle) (StoppedToRead run' shows' c handle)
+  stopped_first c handle a b x =
+      record { few = x.few; stops = come_lacks c handle.n _ b x.stops }

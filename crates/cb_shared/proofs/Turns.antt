@@ -3,30 +3,45 @@ use Rattle.std.proofs.Common.{◌≡◌, List, [], ◌++◌, Result, Ok, Err, sy
 use Rattle.std.specs.Prelude.{IfOk, OnErr}
 use Rattle.cb_member.specs.declared.no_memory.NoMemory.{NoMemory}
 use Rattle.cb_types.specs.declared.config.Config.{Config}
+use Rattle.cb_types.specs.declared.handle.Handle.{Handle}
 use Rattle.cb_types.specs.declared.job.Job.{Job}
 use Rattle.cb_types.specs.declared.reply.Reply.{Reply}
 use Rattle.cb_world.specs.declared.entry.Entry.{Entry}
 use Rattle.cb_world.specs.declared.event.Event.{Event}
 use Rattle.cb_world.specs.declared.shown.Shown.{Shown}
+use Rattle.cb_world.specs.FarState.{FarState}
 use Rattle.cb_world.specs.Played.{played}
 use Rattle.cb_world.specs.Sound.{Sound}
 use Rattle.cb_core.specs.Parts.{Holding}
+use Rattle.cb_core.specs.ReadTurn.{BroughtToRead, StoppedToRead}
 use Rattle.cb_core.specs.Turned.{ReadLacks, Reads, Stopped, Turned}
-use Rattle.cb_core.specs.TurnLeaves.{OutcomeWrites, TurnLeaves}
+use Rattle.cb_core.specs.TurnLeaves.{IsNext, OutcomeWrites, TurnLeaves}
 use Rattle.cb_rule.specs.declared.view.View.{View}
+use Rattle.cb_rule.specs.Locking.{Stood}
 use Rattle.cb_rule.specs.Slot.{Sat}
 use Rattle.cb_rule.specs.Steps.{acted}
-use Rattle.cb_shared.specs.Passes.{Stood}
 use Rattle.cb_shared.specs.Places.{Place}
 use Rattle.cb_shared.specs.SeatLaws.{Runs, acted_fresh, acted_known}
-use Rattle.cb_shared.specs.Turning.{Did, Slate, TurnAt, held_by, slate_run, slate_shows}
+use Rattle.cb_shared.specs.Turning.{DidAs, PinLacks, ReadsByPin, Slate, answer_of, held_by, slate_run, slate_shows}
+use Rattle.cb_shared.specs.UnderLock.{BringAt, Brought, IsNoRead, TurnAt}
 use Rattle.cb_shared.proofs.AfterTurn.{acted_is}
-use Rattle.cb_shared.proofs.Mapped.{stopped, turned}
+use Rattle.cb_shared.proofs.Mapped.{brought_in, stopped, stopped_first, turned}
+
+-- the events that were run, what they wrote, and that what is known then is sound
+record LeftAt (c : Config) (W : List Entry → Type 0) (runs : List Event → Type 0)
+    (took gave : FarState) (w : View) : Type 0 where
+  pub events : List Event
+  pub more : List Entry
+  pub ran : runs events
+  pub next : IsNext took gave
+  pub wrote : W more
+  pub fresh : w.fresh ≡ more
+  pub stood : Stood c w.known gave
 
 module _ {D : Type 0} (at : D → Place) (run : D → List Event → D → Type 0)
     (shows : D → Shown → Type 0)
     (back : (d e : D) (es : List Event) → run d es e → Runs (at d) es (at e))
-    (shown : (d : D) (s : Shown) → s ≡ (at d).me.0.known → shows d s) (c : Config) (job : Job)
+    (shown : (d : D) (s : Shown) → s ≡ (at d).me.0.known → shows d s) (c : Config)
     (a b : Holding D) (idle : (at a.desk).me.0.acts ≡ []) (fresh : (at a.desk).me.0.fresh ≡ [])
     (stood : Stood c (at a.desk).me.0.known a.far) where
   abbrev slate_of : D → Slate
@@ -69,36 +84,48 @@ module _ {D : Type 0} (at : D → Place) (run : D → List Event → D → Type 
       far = b.far;
     }
 
-    pub did_by : (r : Result Reply NoMemory)
+    -- what the desk did is done at a desk that is plain data
+    as_slate : (P : Holding Slate → Holding Slate → Type 0)
+        → P (record { desk = slate_of a.desk; far = a.far })
+        (record { desk = slate_of b.desk; far = b.far })
+        → P (held_by v.known [] a.far) (held_by (played es v.known) es b.far)
+    as_slate P x = subst (λ (z : Holding Slate). P (held_by v.known [] a.far) z) last_is
+        (subst (λ (z : Holding Slate). P z (record { desk = slate_of b.desk; far = b.far })) first_is x)
+
+    did_by : (job : Job) → IsNoRead job → (r : Result Reply NoMemory)
         → IfOk r (λ q. Turned run shows (Reads run shows) c job a q b)
         → OnErr r (Stopped run shows (ReadLacks run shows) c job a b)
-        → Did c job r v.known es a.far b.far
-    did_by (Ok q) x y = subst (λ (z : Holding Slate).
-        Turned slate_run slate_shows (Reads slate_run slate_shows) c job
-        (held_by v.known [] a.far) q z) last_is
-        (subst (λ (z : Holding Slate). Turned slate_run slate_shows (Reads slate_run slate_shows) c
-        job z q (record { desk = slate_of b.desk; far = b.far })) first_is
-        (turned run shows slate_run slate_shows slate_of slate_ran shown c job a b q x))
-    did_by (Err e) x y = subst (λ (z : Holding Slate).
-        Stopped slate_run slate_shows (ReadLacks slate_run slate_shows) c job
-        (held_by v.known [] a.far) z) last_is
-        (subst (λ (z : Holding Slate). Stopped slate_run slate_shows
-        (ReadLacks slate_run slate_shows) c job z
-        (record { desk = slate_of b.desk; far = b.far })) first_is
-        (stopped run shows slate_run slate_shows slate_of slate_ran shown c job a b y))
+        → DidAs c job (answer_of r) v.known es a.far b.far
+    did_by job other (Ok q) x y = as_slate
+        (λ z w. Turned slate_run slate_shows ReadsByPin c job z q w)
+        (turned run shows (Reads run shows) (ReadLacks run shows) slate_run slate_shows ReadsByPin
+        PinLacks slate_of slate_ran shown c job other a b q x)
+    did_by job other (Err e) x y = as_slate
+        (λ z w. Stopped slate_run slate_shows PinLacks c job z w)
+        (stopped run shows (Reads run shows) (ReadLacks run shows) slate_run slate_shows ReadsByPin
+        PinLacks slate_of slate_ran shown c job other a b y)
 
-  pub turn_at : (r : Result Reply NoMemory)
-      → IfOk r (λ q. Turned run shows (Reads run shows) c job a q b)
-      → OnErr r (Stopped run shows (ReadLacks run shows) c job a b)
-      → TurnLeaves run shows c a b (OutcomeWrites job r)
-      → TurnAt c job r a.far b.far (at a.desk) (at b.desk)
-  turn_at r x y z =
+    brought_by : (handle : Handle) → (r : Result Reply NoMemory)
+        → IfOk r (λ q. BroughtToRead run shows c handle a q b)
+        → OnErr r (StoppedToRead run shows c handle a b)
+        → Brought c handle r v.known es a.far b.far
+    brought_by handle (Ok q) x y = as_slate
+        (λ z w. BroughtToRead slate_run slate_shows c handle z q w)
+        (brought_in run shows (Reads run shows) (ReadLacks run shows) slate_run slate_shows ReadsByPin
+        PinLacks slate_of slate_ran shown c handle a b q x)
+    brought_by handle (Err e) x y = as_slate
+        (λ z w. StoppedToRead slate_run slate_shows c handle z w)
+        (stopped_first run shows (Reads run shows) (ReadLacks run shows) slate_run slate_shows
+        ReadsByPin PinLacks slate_of slate_ran shown c handle a b y)
+
+  left_at : (W : List Entry → Type 0) → TurnLeaves run shows c a b W
+      → LeftAt c W (λ es. run a.desk es b.desk) a.far b.far w
+  left_at W z =
       let after = z.after v.known (shown a.desk v.known refl) stood.sound in
       let known = known_is z.events z.ran in record {
         events = z.events;
         more = after.more;
-        runs = back a.desk b.desk z.events z.ran;
-        did = did_by z.events z.ran r x y;
+        ran = z.ran;
         next = z.next;
         wrote = after.wrote;
         fresh = ap (λ (q : View). q.fresh) (moved z.events z.ran) ∙ acted_fresh z.events v
@@ -110,6 +137,36 @@ module _ {D : Type 0} (at : D → Place) (run : D → List Event → D → Type 
           counted = z.counted;
         };
       }
+
+  pub turn_at : (job : Job) → IsNoRead job → (r : Result Reply NoMemory)
+      → IfOk r (λ q. Turned run shows (Reads run shows) c job a q b)
+      → OnErr r (Stopped run shows (ReadLacks run shows) c job a b)
+      → TurnLeaves run shows c a b (OutcomeWrites job r)
+      → TurnAt c job r a.far b.far (at a.desk) (at b.desk)
+  turn_at job other r x y z = let l = left_at (OutcomeWrites job r) z in record {
+    events = l.events;
+    more = l.more;
+    runs = back a.desk b.desk l.events l.ran;
+    did = did_by l.events l.ran job other r x y;
+    next = l.next;
+    wrote = l.wrote;
+    fresh = l.fresh;
+    stood = l.stood;
+  }
+
+  pub bring_at : (handle : Handle) → (r : Result Reply NoMemory)
+      → IfOk r (λ q. BroughtToRead run shows c handle a q b)
+      → OnErr r (StoppedToRead run shows c handle a b)
+      → TurnLeaves run shows c a b (λ more. more ≡ [])
+      → BringAt c handle r a.far b.far (at a.desk) (at b.desk)
+  bring_at handle r x y z = let l = left_at (λ more. more ≡ []) z in record {
+    events = l.events;
+    runs = back a.desk b.desk l.events l.ran;
+    brought = brought_by l.events l.ran handle r x y;
+    next = l.next;
+    fresh = l.fresh ∙ l.wrote;
+    stood = l.stood;
+  }
 
   -- what holds after each run of the desk holds after the turn
   pub turn_ran : (P : D → Type 0) → ((d : D) (es : List Event) → run a.desk es d → P d)

@@ -40,7 +40,7 @@ abbrev pub part : View
 part = record (blank two) { share = 40; written = made ∷ [] }
 
 abbrev pub whole : View
-whole = record (opener 3 two) { written = made ∷ [] }
+whole = record (opener two) { written = made ∷ [] }
 
 -- a pin on it
 abbrev pub a_pin : ℕ → ℕ → ℕ → ℕ → Pin

@@ -4,9 +4,10 @@ use Rattle.std.proofs.lemmas.Bool.{eqb-false}
 use Rattle.atomic_table.specs.Seated.{TableId}
 use Rattle.atomic_table.specs.Table.{Step}
 use Rattle.cb_types.specs.declared.config.Config.{Config}
-use Rattle.cb_types.specs.declared.config.Field.TheVariants.{K, R, Nodes, Frames, Room, Handles, Turns}
-use Rattle.cb_types.specs.Config.{IsAccepted}
 use Rattle.cb_ptr.specs.Word.{state_number}
+use Rattle.cb_world.specs.declared.event.Event.{Event}
+use Rattle.cb_world.specs.declared.event.Event.TheVariants.{Looked}
+use Rattle.cb_world.specs.declared.shown.Shown.{Shown}
 use Rattle.cb_world.specs.Empty.{empty_far, empty_shown}
 use Rattle.cb_world.specs.FarState.{FarState}
 use Rattle.cb_world.specs.Written.{entry}
@@ -19,10 +20,9 @@ use Rattle.cb_shared.specs.declared.runtime.Shared.{Shared}
 use Rattle.cb_shared.specs.Claims.{IsAsBefore, IsFreshClaim, IsNextOf, IsWithin}
 use Rattle.cb_shared.specs.Handles.{IsFirstAt}
 use Rattle.cb_shared.specs.Joining.{IsSpare, unpinned_all}
-use Rattle.cb_shared.specs.Passes.{IsAtRest, IsBegun, IsFirst, IsPassOf, Stood}
+use Rattle.cb_shared.specs.Passes.{IsAtRest, IsBegun, IsPassOf}
 use Rattle.cb_shared.specs.Places.{Place}
 use Rattle.cb_shared.specs.Tallies.{tallied}
-use Rattle.cb_shared.proofs.Begun.{stood_empty}
 use Rattle.cb_shared.proofs.WorkedGround.{a_stand, calm, made, part, pinned, two, whole}
 use Rattle.cb_shared.proofs.WorkedWrites.{write_it}
 
@@ -42,6 +42,7 @@ at_rest = record {
   live = lit≤ tt;
   most = lit≤ tt;
   claims = refl;
+  out = (refl, refl, refl, refl, refl, refl);
   fresh = refl;
   written = (lit< tt, tt);
   seen = tt;
@@ -60,6 +61,24 @@ too_much_share r = let e : 65 ≤ 64 = r.most in omega (arith, e)
 claims_one : IsAtRest two record part { claims = held_at 1 calm 3 (2826 ∷ []) ∷ [] } → ⊥
 claims_one r = eqb-false 1 0 refl (ap (λ (xs : List Held). length xs) r.claims)
 
+holds_the_lock : IsAtRest two record part { holds = true } → ⊥
+holds_the_lock r = true≢false r.out.0
+
+began_a_turn : IsAtRest two record part { start = empty_shown 1 two } → ⊥
+began_a_turn r = eqb-false 2 0 refl (ap (λ (s : Shown). length s.objects) r.out.1)
+
+began_later : IsAtRest two record part { since = 1 } → ⊥
+began_later r = eqb-false 1 0 refl r.out.2
+
+did_something : IsAtRest two record part { acts = Looked 0 0 ∷ [] } → ⊥
+did_something r = eqb-false 1 0 refl (ap (λ (es : List Event). length es) r.out.3)
+
+knows_the_words : IsAtRest two record part { known = empty_shown 1 two } → ⊥
+knows_the_words r = eqb-false 2 0 refl (ap (λ (s : Shown). length s.objects) r.out.4)
+
+took_a_far_state : IsAtRest two record part { took = empty_far 3 two } → ⊥
+took_a_far_state r = eqb-false 3 1 refl (ap (λ (f : FarState). f.first) r.out.5)
+
 within_a_turn : IsAtRest two record part { fresh = made ∷ [] } → ⊥
 within_a_turn r = eqb-false 1 0 refl (ap length r.fresh)
 
@@ -75,42 +94,7 @@ pins_no_object r = let e : 2 < 2 = r.pins.0.0 in omega (arith, e)
 pins_past_memory : IsAtRest two record part { pins = stand 1 8 512 3 (2826 ∷ []) ∷ [] } → ⊥
 pins_past_memory r = let e : 512 + 0 < 512 = r.pins.0.1 0 (lit< tt) in omega (arith, e)
 
--- ---- the far state that the first pass stands on
-accepted : IsAccepted two
-accepted K = (lit≤ tt, lit≤ tt)
-accepted R = (lit≤ tt, lit≤ tt)
-accepted Nodes = (lit≤ tt, lit≤ tt)
-accepted Frames = (lit≤ tt, lit≤ tt)
-accepted Room = (lit≤ tt, lit≤ tt)
-accepted Handles = (lit≤ tt, lit≤ tt)
-accepted Turns = lit≤ tt
-
-stood : Stood two (empty_shown 3 two) (empty_far 3 two)
-stood = stood_empty 3 two (lit≤ tt) accepted
-
-made_without_version : Stood two (empty_shown 3 two) (record (empty_far 3 two) { made = 1 }) → ⊥
-made_without_version s =
-    let e : 3 ≤ 0 = s.sound.here.known.versioned 0 (lit< tt) in omega (arith, e)
-
-less_room : Stood roomy (empty_shown 3 two) (empty_far 3 two) → ⊥
-less_room s = eqb-false 6 7 refl (s.configured.room)
-
-uncounted_turn : Stood two (empty_shown 3 two) (record (empty_far 3 two) {
-  counts = record { turns = 1; by_job = replicate 19 0; sets = 0; keys = 0 };
-}) → ⊥
-uncounted_turn s = eqb-false 0 1 refl (s.counted.jobs)
-
--- ---- the first pass, and a pass of a runtime: each part is one that cannot be left out
-without_lock : (s : Shared) (p : Pass) → p.seat.me.0.holds ≡ false → IsFirst s p → ⊥
-without_lock s p e f = true≢false (sym f.holds ∙ e)
-
-not_accepted : (s : Shared) (p : Pass) → (IsAccepted s.config → ⊥) → IsFirst s p → ⊥
-not_accepted s p n f = n f.accepted
-
-not_stood : (s : Shared) (p : Pass) → (Stood s.config p.seat.me.0.known s.far → ⊥) → IsFirst s p
-    → ⊥
-not_stood s p n f = n f.stood
-
+-- ---- a pass of a runtime: each part is one that cannot be left out
 of_another_table : (s : Shared) (p : Pass) → (p.seat.table_id ≡ s.board.shared.table_id → ⊥)
     → IsPassOf s p → ⊥
 of_another_table s p n f = n f.table
@@ -122,8 +106,8 @@ spent_pass s p e f = let live = f.rest.live in omega (arith, e, live)
 of_another_config : (s : Shared) (p : Pass) → s.config ≡ roomy → IsBegun 3 two s p → ⊥
 of_another_config s p e b = eqb-false 7 6 refl (ap (λ (c : Config). c.room) (sym e ∙ b.config))
 
-of_another_first : (s : Shared) (p : Pass) → s.far ≡ empty_far 4 two → IsBegun 3 two s p → ⊥
-of_another_first s p e b = eqb-false 4 3 refl (ap (λ (f : FarState). f.first) (sym e ∙ b.far))
+of_another_first : (s : Shared) (p : Pass) → s.board.shared.key.first ≡ 4 → IsBegun 3 two s p → ⊥
+of_another_first s p e b = eqb-false 4 3 refl (sym e ∙ b.first_is)
 
 begun_with_an_entry : (s : Shared) (p : Pass) → p.seat.me.0 ≡ whole → IsBegun 3 two s p → ⊥
 begun_with_an_entry s p e b =
@@ -131,9 +115,6 @@ begun_with_an_entry s p e b =
 
 begun_of_another : (s : Shared) (p : Pass) → (IsPassOf s p → ⊥) → IsBegun 3 two s p → ⊥
 begun_of_another s p n b = n b.of
-
-begun_not_first : (s : Shared) (p : Pass) → (IsFirst s p → ⊥) → IsBegun 3 two s p → ⊥
-begun_not_first s p n b = n b.is_first
 
 -- ---- a claim directly after the exchange
 abbrev claim : Held

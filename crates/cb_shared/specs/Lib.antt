@@ -13,3 +13,4 @@ pub mod PinLoads
 pub mod Reading
 pub mod Turning
 pub mod UnderLock
+pub mod Calls

@@ -1,6 +1,7 @@
 -- What a pass has, and what it is to be one of a shared runtime.
 use Rattle.std.specs.Prelude.{◌≡◌, ℕ, ◌+◌, ◌*◌, ◌<◌, ◌≤◌, false, List, []}
 use Rattle.cb_types.specs.declared.config.Config.{Config}
+use Rattle.cb_types.specs.Config.{IsAccepted}
 use Rattle.cb_world.specs.declared.entry.Entry.{Entry}
 use Rattle.cb_world.specs.Empty.{empty_far}
 use Rattle.cb_world.specs.Memory.{words_for}
@@ -49,6 +50,7 @@ pub record IsAtRest (c : Config) (v : View) : Type 0 where
 
 -- the pass is one of this runtime
 pub record IsPassOf (s : Shared) (p : Pass) : Type 0 where
+  pub accepted : IsAccepted s.config
   pub table : p.seat.table_id ≡ s.board.shared.table_id
   pub rest : IsAtRest s.config p.seat.me.0
 

@@ -122,23 +122,26 @@ pub record FindsAtLast (h : ℕ) (a : ReadAnswer) (v : View) (d : Part) : Type 0
   pub finds : ReadFinds h a (grown before v) last
   pub part : d ≡ sum before last
 
--- nothing, or what a read with this answer adds
-abbrev pub MayFind : ℕ → ReadAnswer → View → Part → Type 0
-MayFind h a v d = (d ≡ nothing_more) ⊎ FindsAtLast h a v d
+-- What the tries to read an object under a pin come to, by the reply: its bytes are those that the
+-- last pin kept. Where there was no memory for them, looks are left.
+abbrev pub Tries : ℕ → Result Reply NoMemory → View → Part → Type 0
+Tries h (Ok (answer.Bytes version bytes)) v d = FindsAtLast h (found.Bytes version bytes) v d
+Tries h (Ok answer.Freed) v d = FindsAtLast h found.Freed v d
+Tries h (Ok answer.Moving) v d = FindsAtLast h found.Moving v d
+Tries h (Ok answer.Crowded) v d = FindsAtLast h found.Crowded v d
+Tries h (Ok other) v d = ⊥
+Tries h (Err e) v d = AreLooksAt h d
 
--- What the read of a job Read adds: its bytes are those that the pin kept. Where the object was not
--- brought in, no pin was tried.
-abbrev pub PinReads : ℕ → Result Reply NoMemory → View → Part → Type 0
-PinReads h (Ok (answer.Bytes version bytes)) v d = FindsAtLast h (found.Bytes version bytes) v d
-PinReads h (Ok answer.Freed) v d = MayFind h found.Freed v d
-PinReads h (Ok answer.Moving) v d = MayFind h found.Moving v d
-PinReads h (Ok answer.Crowded) v d = FindsAtLast h found.Crowded v d
-PinReads h (Ok other) v d = d ≡ nothing_more
-PinReads h (Err e) v d = AreLooksAt h d
+-- the reply tells neither of bytes nor of many pins
+abbrev pub TellsNoPin : Result Reply NoMemory → Type 0
+TellsNoPin (Ok (answer.Bytes version bytes)) = ⊥
+TellsNoPin (Ok answer.Crowded) = ⊥
+TellsNoPin r = Unit {0}
 
--- no other job reads under a pin
+-- A job Read reads under a pin of the pass, where the object is here or could be brought in. No
+-- other job does.
 abbrev pub JobReads : Job → Result Reply NoMemory → View → Part → Type 0
-JobReads (Read handle) r v d = PinReads handle.n r v d
+JobReads (Read handle) r v d = ((d ≡ nothing_more) × TellsNoPin r) ⊎ Tries handle.n r v d
 JobReads job r v d = d ≡ nothing_more
 
 -- the object of a read, a write or a free that was answered Freed

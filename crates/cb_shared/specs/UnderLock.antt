@@ -12,10 +12,12 @@ use Rattle.cb_world.specs.declared.event.Event.{Event}
 use Rattle.cb_world.specs.declared.shown.Shown.{Shown}
 use Rattle.cb_world.specs.FarState.{FarState}
 use Rattle.cb_world.specs.Played.{Agree, played}
+use Rattle.cb_core.specs.OnceHere.{IsThere}
 use Rattle.cb_core.specs.ReadTurn.{BroughtToRead, StoppedToRead}
 use Rattle.cb_core.specs.TurnLeaves.{IsNext, OutcomeWrites}
 use Rattle.cb_core.specs.Unavailable.{TurnTells}
 use Rattle.cb_rule.specs.declared.turn.Turn.{Turn}
+use Rattle.cb_rule.specs.declared.view.Seen.{Seen}
 use Rattle.cb_rule.specs.declared.view.View.{View}
 use Rattle.cb_rule.specs.Lists.{Each}
 use Rattle.cb_rule.specs.Locking.{Stood}
@@ -28,7 +30,7 @@ use Rattle.cb_shared.specs.declared.reading.ReadAnswer.TheVariants as found
 use Rattle.cb_shared.specs.Parts.{Part, grown, nothing_more}
 use Rattle.cb_shared.specs.Places.{Moves, Place}
 use Rattle.cb_shared.specs.SeatLaws.{Runs}
-use Rattle.cb_shared.specs.Turning.{AreLooksAt, Did, DidAs, FindsAtLast, FindsFreed, JobReads, answer_of, held_by, made_by, slate_run, slate_shows, turn_part, with_own}
+use Rattle.cb_shared.specs.Turning.{Did, DidAs, FindsAtLast, FindsFreed, JobReads, Tries, answer_of, held_by, made_by, slate_run, slate_shows, turn_part, with_own}
 
 -- the same seat, with this view and these slots in hand
 abbrev pub IsAt : Place → Place → View → List (ℕ × Slot) → Type 0
@@ -88,6 +90,19 @@ pub record BringAt (c : Config) (handle : Handle) (r : Result Reply NoMemory) (t
   pub fresh : q.me.0.fresh ≡ []
   pub stood : Stood c q.me.0.known gave
 
+-- the part has neither entries that were written nor turns
+abbrev pub IsQuiet : Part → Type 0
+IsQuiet d = (d.written ≡ []) × (d.turns ≡ [])
+
+-- what it has read is of objects in range
+abbrev pub ReadsBelow : Config → Part → Type 0
+ReadsBelow c d = Each (λ (s : Seen). s.handle < c.handles) d.seen
+
+-- the two records have the same entries, the same share and the same own handles
+abbrev pub HasSame : View → View → Type 0
+HasSame u v = (u.fresh ≡ v.fresh) × (u.written ≡ v.written) × (u.seen ≡ v.seen)
+    × (u.share ≡ v.share) × (u.own ≡ v.own)
+
 -- The work of a turn at the desk, and the read under a pin beside it.
 pub record WorkBy (c : Config) (job : Job) (r : Result Reply NoMemory) (took gave : FarState)
     (p q : Place) : Type 0 where
@@ -96,7 +111,9 @@ pub record WorkBy (c : Config) (job : Job) (r : Result Reply NoMemory) (took gav
   pub within : Part
   pub agree : Agree p.me.0.known events
   pub moves : Moves p q (grown within (acted events p.me.0))
-  pub reads : JobReads job r p.me.0 within
+  pub quiet : IsQuiet within
+  pub range : ReadsBelow c within
+  pub reads : (u : View) → HasSame u p.me.0 → JobReads job r u within
   pub did : DidAs c job (answer_of r) p.me.0.known events took gave
   pub next : IsNext took gave
   pub wrote : OutcomeWrites job r more
@@ -108,32 +125,29 @@ abbrev pub IsNoRead : Job → Type 0
 IsNoRead (Read handle) = ⊥
 IsNoRead job = Unit {0}
 
--- What the tries to read an object under a pin come to, once it is brought in.
-abbrev pub Tries : ℕ → Result Reply NoMemory → View → Part → Type 0
-Tries h (Ok (answer.Bytes version bytes)) v d =
-    FindsAtLast h (found.Bytes version bytes) v d
-Tries h (Ok answer.Freed) v d = FindsAtLast h found.Freed v d
-Tries h (Ok answer.Moving) v d = FindsAtLast h found.Moving v d
-Tries h (Ok answer.Crowded) v d = FindsAtLast h found.Crowded v d
-Tries h (Ok other) v d = ⊥
-Tries h (Err e) v d = AreLooksAt h d
-
 -- they are so on a seat
-abbrev pub TriesOn : ℕ → Result Reply NoMemory → Place → Place → Type 0
-TriesOn h r p q = (d : Part) × Moves p q (grown d p.me.0) × Tries h r p.me.0 d
+abbrev pub TriesOn : Config → ℕ → Result Reply NoMemory → Place → Place → Type 0
+TriesOn c h r p q = (d : Part) × Moves p q (grown d p.me.0) × IsQuiet d × ReadsBelow c d
+    × ((u : View) → HasSame u p.me.0 → Tries h r u d)
+
+-- the object is here by the answer of the first part of a read
+abbrev pub CameThere : Result Reply NoMemory → Type 0
+CameThere (Ok place) = IsThere place
+CameThere (Err e) = ⊥
 
 -- the answer of a turn for that of its read under a pin
-abbrev pub IsReplyTo : ReadAnswer → Reply → Type 0
-IsReplyTo (found.Bytes version bytes) reply = reply ≡ answer.Bytes version bytes
-IsReplyTo found.Freed reply = reply ≡ answer.Freed
-IsReplyTo found.Moving reply = reply ≡ answer.Moving
-IsReplyTo found.Crowded reply = reply ≡ answer.Crowded
-IsReplyTo other reply = ⊥
+abbrev pub IsReplyTo : Result ReadAnswer NoMemory → Result Reply NoMemory → Type 0
+IsReplyTo (Ok (found.Bytes version bytes)) reply = reply ≡ Ok (answer.Bytes version bytes)
+IsReplyTo (Ok found.Freed) reply = reply ≡ Ok answer.Freed
+IsReplyTo (Ok found.Moving) reply = reply ≡ Ok answer.Moving
+IsReplyTo (Ok found.Crowded) reply = reply ≡ Ok answer.Crowded
+IsReplyTo (Ok other) reply = ⊥
+IsReplyTo (Err e) reply = reply ≡ Err e
 
 -- looks alone are left of it
-abbrev pub IsTriedAgain : ReadAnswer → Type 0
-IsTriedAgain found.NotHere = Unit {0}
-IsTriedAgain (found.Raced saw other) = Unit {0}
+abbrev pub IsTriedAgain : Result ReadAnswer NoMemory → Type 0
+IsTriedAgain (Ok found.NotHere) = Unit {0}
+IsTriedAgain (Ok (found.Raced saw other)) = Unit {0}
 IsTriedAgain a = ⊥
 
 -- the handle, if there is one, is in range
@@ -142,11 +156,13 @@ IsBelow c (Some h) = h < c.handles
 IsBelow c None = Unit {0}
 
 -- a seat looked for the freed entry of an object, and of one if there is one
-abbrev pub LooksFor : ℕ → Place → Place → Type 0
-LooksFor h p q = (d : Part) × Moves p q (grown d p.me.0) × FindsAtLast h found.Freed p.me.0 d
+abbrev pub LooksFor : Config → ℕ → Place → Place → Type 0
+LooksFor c h p q = (d : Part) × Moves p q (grown d p.me.0) × IsQuiet d × ReadsBelow c d
+    × FindsAtLast h found.Freed p.me.0 d
 
-abbrev pub FreedMoves : Option ℕ → Place → Place → Type 0
-FreedMoves freed p q = (d : Part) × Moves p q (grown d p.me.0) × FindsFreed freed p.me.0 d
+abbrev pub FreedMoves : Config → Option ℕ → Place → Place → Type 0
+FreedMoves c freed p q = (d : Part) × Moves p q (grown d p.me.0) × IsQuiet d × ReadsBelow c d
+    × FindsFreed freed p.me.0 d
 
 -- The seat may give the lock back with this far state, whose turn had this job and this reply.
 pub record IsEnding (c : Config) (job : Job) (r : Option Reply) (far : FarState) (v : View) : Type 0
@@ -175,7 +191,9 @@ pub record TurnWith (c : Config) (job : Job) (r : Result Reply NoMemory) (took :
   pub at : IsAt p q (gave_lock job (answer_of r) gave entries [] (made_by job (answer_of r))
       (grown within (acted events p.me.0))) []
   pub below : Each (λ (e : Entry). e.handle < c.handles) (more ++ p.me.0.written)
-  pub reads : JobReads job r p.me.0 within
+  pub quiet : IsQuiet within
+  pub range : ReadsBelow c within
+  pub reads : (u : View) → HasSame u p.me.0 → JobReads job r u within
   pub did : DidAs c job (answer_of r) p.me.0.known events took gave
   pub next : IsNext took gave
   pub wrote : OutcomeWrites job r more
@@ -193,6 +211,7 @@ pub record TurnedBy (c : Config) (job : Job) (r : Result Reply NoMemory) (v w : 
   pub next : IsNext turn.took turn.gave
   pub wrote : OutcomeWrites job r more
   pub below : Each (λ (e : Entry). e.handle < c.handles) (more ++ v.written)
+  pub range : ReadsBelow c within
   pub reads : JobReads job r v within
   pub tells : IfOk r (λ reply. TurnTells job turn.took reply)
   pub left : w ≡ with_own (made_by job (answer_of r))

@@ -44,10 +44,11 @@ pub(crate) fn find_freed<R: Wait>(
     requires of { IsOf top.now.table_id top.now.key config.now seat.old }
     requires handle { IsBelow config.now freed }
     requires knows { KnowsIt freed seat.old.me.0 }
-    ensures { FreedMoves freed seat.old seat.new }
+    ensures { FreedMoves config.now freed seat.old seat.new }
 {
-    if let Some(h) = freed {
-        look_freed(rt, top, seat, config, h);
+    match freed {
+        Some(h) => look_freed(rt, top, seat, config, h),
+        None => {}
     }
 }
 
@@ -57,7 +58,7 @@ fn look_freed<R: Wait>(rt: &R, top: &Top, seat: &mut Place, config: &Config, h: 
     requires of { IsOf top.now.table_id top.now.key config.now seat.old }
     requires handle { h < config.now.handles }
     requires knows { Knows h seat.old.me.0 }
-    ensures { LooksFor h seat.old seat.new }
+    ensures { LooksFor config.now h seat.old seat.new }
 {
     for _ in rt.forever() {
         let word = glance(top, seat, config, h);

@@ -25,10 +25,10 @@ pub(crate) fn lock_far<R: Wait>(rt: &R, top: &Top, seat: &mut Place, config: &Co
 {
     let mut spins = 0;
     for _ in rt.forever() {
-        if let Some(far) = try_far(top, seat, config) {
-            return far;
+        match try_far(top, seat, config) {
+            Some(far) => return far,
+            None => spins = pause(rt, top, spins),
         }
-        spins = pause(rt, top, spins);
     }
     unreachable!()
 }

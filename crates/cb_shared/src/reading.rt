@@ -156,7 +156,6 @@ fn put_word(room: &mut Bytes, i: usize, word: u64)
 fn most_of_word(left: usize) -> usize
     ensures fits { (result ≤ 8) × (result ≤ left) }
     ensures all { (j : ℕ) → j < 8 → j < left → j < result }
-    ensures rest { (result ≡ left) ⊎ (result ≡ 8) }
 {
     if left < 8 { left } else { 8 }
 }

@@ -1,5 +1,4 @@
 ghost use Rattle.std.specs.Prelude.{◌≡◌, ◌+◌, ◌*◌, ◌≤◌};
-ghost use Rattle.cb_types.specs.Config.{IsAccepted};
 
 use crate::board::Board;
 use cb_types::Config;
@@ -15,5 +14,4 @@ pub struct Shared {
     ghost slots: { board.shared.table_id.slots ≡ 1 },
     ghost key: { board.shared.key.config ≡ config },
     ghost first: { 1 ≤ board.shared.key.first },
-    ghost accepted: { IsAccepted config },
 }

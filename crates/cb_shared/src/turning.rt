@@ -45,7 +45,7 @@ impl Shared {
     {
         let config = self.config;
         let top = &self.board.shared;
-        let _count = count_pins(&pass.pins);
+        count_pins(&pass.pins);
         let reply = locked_turn(rt, top, &mut pass.seat, &config, alloc, job);
         find_freed(rt, top, &mut pass.seat, &config, freed_of(job, &reply));
         reply

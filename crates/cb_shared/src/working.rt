@@ -1,18 +1,18 @@
 //! The job of a turn, under the far lock.
-ghost use Rattle.std.specs.Prelude.{◌≡◌, ◌<◌, ◌≤◌, true, false, [], length, None, Some, IfOk};
+ghost use Rattle.std.specs.Prelude.{◌≡◌, ◌<◌, ◌≤◌, true, false, [], length, None, Some, Result, IfOk};
+ghost use Rattle.cb_member.specs.declared.no_memory.NoMemory.{NoMemory};
 ghost use Rattle.cb_types.specs.Config.{IsAccepted};
 ghost use Rattle.cb_types.specs.declared.handle.Handle.{Handle};
-ghost use Rattle.cb_types.specs.declared.job.Job.TheVariants as job;
+ghost use Rattle.cb_types.specs.declared.job.Job.TheVariants as jobs;
 ghost use Rattle.cb_types.specs.declared.reply.Reply.{Reply};
 ghost use Rattle.cb_types.specs.declared.reply.Reply.TheVariants as answer;
 ghost use Rattle.cb_core.specs.Jobs.{IsJob};
-ghost use Rattle.cb_core.specs.OnceHere.{IsThere};
 ghost use Rattle.cb_core.specs.Unavailable.{TurnTells};
 ghost use Rattle.cb_rule.specs.Locking.{Stood};
 ghost use Rattle.cb_rule.specs.Steps.{Knows};
 ghost use Rattle.cb_shared.specs.Places.{Holds, IsOf};
 ghost use Rattle.cb_shared.specs.Turning.{KnowsOf};
-ghost use Rattle.cb_shared.specs.UnderLock.{BringAt, IsBeginning, IsNoRead, IsReplyTo, IsTriedAgain, TriesOn, TurnAt, WorkBy};
+ghost use Rattle.cb_shared.specs.UnderLock.{BringAt, CameThere, IsBeginning, IsNoRead, IsReplyTo, IsTriedAgain, TriesOn, TurnAt, WorkBy};
 
 use crate::board::{Place, Top};
 use crate::reading::{ReadAnswer, read_pinned};
@@ -52,7 +52,7 @@ pub(crate) fn work<R: Wait>(
 
 /// The object that a job reads, None where the job is another one.
 fn read_of(job: &Job) -> Option<Handle>
-    ensures read { (h : Handle) → result ≡ Some h → job.now ≡ job.Read h }
+    ensures read { (h : Handle) → result ≡ Some h → job.now ≡ jobs.Read h }
     ensures other { result ≡ None → IsNoRead job.now }
 {
     match job {
@@ -126,24 +126,25 @@ fn read_by_seat<R: Wait>(
     requires handle { h.n < config.now.handles }
     requires knows { Knows h.n seat.old.me.0 }
     requires begins { IsBeginning config.now far.old seat.old.me.0 }
-    ensures work { WorkBy config.now (job.Read h) result far.old far.new seat.old seat.new }
+    ensures work { WorkBy config.now (jobs.Read h) result far.old far.new seat.old seat.new }
     ensures no_frame { IfOk result (λ reply. reply ≡ answer.NoFrame → ⊥) }
-    ensures unavailable { IfOk result (λ reply. TurnTells (job.Read h) far.old reply) }
+    ensures unavailable { IfOk result (λ reply. TurnTells (jobs.Read h) far.old reply) }
 {
-    let place = bring_by_seat(top, seat, config, far, h)?;
+    let place = bring_by_seat(top, seat, config, far, h);
     if !is_there(&place) {
-        return Ok(place);
+        return place;
     }
     read_tried(rt, top, seat, config, alloc, h.n)
 }
 
-/// Whether a reply is that the object is here: it was so, or was brought in.
-fn is_there(reply: &Reply) -> bool
-    ensures yes { result ≡ true → IsThere reply.now }
-    ensures other { result ≡ false → IsThere reply.now → ⊥ }
+/// Whether the object is here by the answer of the first part of a read: it was so, or was brought
+/// in.
+fn is_there(place: &Result<Reply, NoMemory>) -> bool
+    ensures yes { result ≡ true → CameThere place.now }
+    ensures other { result ≡ false → CameThere place.now → ⊥ }
 {
-    match reply {
-        Reply::Stays | Reply::Swapped { .. } => true,
+    match place {
+        Ok(Reply::Stays | Reply::Swapped { .. }) => true,
         _ => false,
     }
 }
@@ -201,27 +202,28 @@ fn read_tried<R: Wait>(
     requires handle { h < config.now.handles }
     requires knows { Knows h seat.old.me.0 }
     requires few { length seat.old.me.0.pins ≤ 16 }
-    ensures tries { TriesOn h result seat.old seat.new }
+    ensures { TriesOn config.now h result seat.old seat.new }
 {
     for _ in rt.forever() {
-        let found = read_pinned(top, seat, config, alloc, h)?;
-        if let Some(reply) = reply_to(found) {
-            return Ok(reply);
+        match reply_to(read_pinned(top, seat, config, alloc, h)) {
+            Some(reply) => return reply,
+            None => {}
         }
     }
     unreachable!()
 }
 
 /// What a read is answered, None where it is to be tried again.
-fn reply_to(found: ReadAnswer) -> Option<Reply>
-    ensures done { (reply : Reply) → result ≡ Some reply → IsReplyTo found reply }
+fn reply_to(found: Result<ReadAnswer, NoMemory>) -> Option<Result<Reply, NoMemory>>
+    ensures done { (reply : Result Reply NoMemory) → result ≡ Some reply → IsReplyTo found reply }
     ensures again { result ≡ None → IsTriedAgain found }
 {
     match found {
-        ReadAnswer::Bytes { version, bytes } => Some(Reply::Bytes { version, bytes }),
-        ReadAnswer::Freed => Some(Reply::Freed),
-        ReadAnswer::Moving => Some(Reply::Moving),
-        ReadAnswer::Crowded => Some(Reply::Crowded),
-        ReadAnswer::NotHere | ReadAnswer::Raced { .. } => None,
+        Ok(ReadAnswer::Bytes { version, bytes }) => Some(Ok(Reply::Bytes { version, bytes })),
+        Ok(ReadAnswer::Freed) => Some(Ok(Reply::Freed)),
+        Ok(ReadAnswer::Moving) => Some(Ok(Reply::Moving)),
+        Ok(ReadAnswer::Crowded) => Some(Ok(Reply::Crowded)),
+        Ok(ReadAnswer::NotHere | ReadAnswer::Raced { .. }) => None,
+        Err(e) => Some(Err(e)),
     }
 }

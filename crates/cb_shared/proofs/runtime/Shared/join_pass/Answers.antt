@@ -15,6 +15,7 @@ returns-clause-of c =
     ap (λ (m : Sat). m.0) c.give_back.ensures.2 in
     let left : c.join_in.new.pass.seat.me.0 ≡ joined v (unpinned_all w) =
     ap (λ (m : Sat). m.0) j.joined.2 ∙ ap (joined v) back in record {
+      accepted = c.requires.of.accepted;
       table = j.joined.0 ∙ c.requires.of.table;
       rest = subst (IsAtRest cfg) (sym left) (rest_joined cfg v w c.requires.of.rest
           c.requires.other.rest (subst (λ (x : View). x.share ≤ 64) left j.most));

@@ -15,6 +15,7 @@ unpin_one-requires-clause-held c = let p = c.requires.pin in
 
 pub returns-clause-of : goal.returns-clause-of
 returns-clause-of c = let m = c.unpin_one.ensures.moved in record {
+  accepted = c.requires.of.accepted;
   table = m.0 ∙ c.requires.of.table;
   rest = rest_moved c.args.self.now.config c.args.pass.now.seat c.unpin_one.new.seat
       (without_pin c.args.pin.handle.n c.args.pass.now.seat.me.0) m

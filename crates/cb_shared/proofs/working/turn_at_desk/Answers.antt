@@ -1,6 +1,6 @@
-use Rattle.std.proofs.Common.{◌≡◌, refl, ◌∙◌}
+use Rattle.std.proofs.Common.{◌≡◌, refl}
 use Rattle.cb_shared.proofs.Turns.{turn_at, turn_ran}
-use Rattle.cb_shared.proofs.turning.turn_at_desk.Goals as goal
+use Rattle.cb_shared.proofs.working.turn_at_desk.Goals as goal
 
 pub turn-requires : goal.turn-requires
 turn-requires c = record {
@@ -13,15 +13,15 @@ turn-requires c = record {
 
 pub returns-clause-turn : goal.returns-clause-turn
 returns-clause-turn c = turn_at (λ d. d.seat.now) _ _ (λ d e es x. x.0) (λ d s x. x)
-    c.args.desk.now.config c.args.job.now
+    c.args.desk.now.config
     (record { desk = c.args.desk.now; far = c.args.far.now })
     (record { desk = c.turn.new.desk; far = c.turn.new.far })
-    c.requires.idle c.requires.fresh c.requires.stood c.turn.result c.turn.ensures.turned
-    c.turn.ensures.error c.turn.ensures.leaves
+    c.requires.idle c.requires.fresh c.requires.stood c.args.job.now c.requires.other c.turn.result
+    c.turn.ensures.turned c.turn.ensures.error c.turn.ensures.leaves
 
 pub returns-clause-same : goal.returns-clause-same
 returns-clause-same c = turn_ran (λ d. d.seat.now) _ _ (λ d e es x. x.0) (λ d s x. x)
-    c.args.desk.now.config c.args.job.now
+    c.args.desk.now.config
     (record { desk = c.args.desk.now; far = c.args.far.now })
     (record { desk = c.turn.new.desk; far = c.turn.new.far })
     c.requires.idle c.requires.fresh c.requires.stood

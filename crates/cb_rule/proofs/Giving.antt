@@ -1,0 +1,339 @@
+-- The holder gives the lock back, and the far state to its slot: its turn is one more of the history.
+use Rattle.std.proofs.Common.{◌≡◌, ◌≢◌, ℕ, suc, ◌+◌, ◌*◌, ◌^◌, ◌<◌, ◌≤◌, Bool, true, cond, eqb, List, [], ◌∷◌, ◌++◌, length, set, Option, Some, None, sym, refl, ap, ◌∙◌, subst, inl, inr, ⊎_elim, arith, eq-eqb, ne_eqb, length-set, get_or-set_same, true≢false}
+use mathlib.Core.Option.{some, none}
+use lib.ListN.{get_elem?}
+use native.Mathlib.Decide.{ℕ_discrete}
+use Rattle.atomic_table.specs.Table.{Allows, put_back, rest, step}
+use Rattle.atomic_table.specs.Table.{gives as gives_slot}
+use Rattle.atomic_table.proofs.Lists.{set_here}
+use Rattle.cb_types.specs.declared.config.Config.{Config}
+use Rattle.cb_types.specs.declared.job.Job.{Job}
+use Rattle.cb_types.specs.declared.reply.Reply.{Reply}
+use Rattle.cb_world.specs.declared.entry.Entry.{Entry}
+use Rattle.cb_world.specs.declared.shown.Shown.{Shown}
+use Rattle.cb_world.specs.FarState.{FarState}
+use Rattle.cb_world.specs.Shown.{object_at}
+use Rattle.cb_rule.specs.declared.turn.Turn.{Turn}
+use Rattle.cb_rule.specs.declared.view.Seen.{Seen}
+use Rattle.cb_rule.specs.declared.view.View.{View}
+use Rattle.cb_rule.specs.History.{is_version}
+use Rattle.cb_rule.specs.Lists.{times, total, Each, Has}
+use Rattle.cb_rule.specs.Locking.{Deeds, IsUnlocked, Locked, Stood, TurnStands, is_turn, turn_number, turns_on}
+use Rattle.cb_rule.specs.LockSteps.{HasGiven, IsFoundFreed, MayGive, gave, gave_lock, turn_of}
+use Rattle.cb_rule.specs.Records.{SeenOk}
+use Rattle.cb_rule.specs.Rule.{Kept}
+use Rattle.cb_rule.specs.Ruled.{Ruled}
+use Rattle.cb_rule.specs.Seats.{holding}
+use Rattle.cb_rule.specs.Slot.{Sat, Slot, Table}
+use Rattle.cb_rule.proofs.Counts.{each_append, each_map, hit, miss, times-append, total-at, total-set}
+use Rattle.cb_rule.proofs.Flagging.{flagged, lock_word}
+use Rattle.cb_rule.proofs.Glancing.{freed_at, known_below, known_made}
+use Rattle.cb_rule.proofs.Keeping.{seats_stay}
+use Rattle.cb_rule.proofs.Lifting.{shares_stay}
+use Rattle.cb_rule.proofs.Members.{each_has}
+use Rattle.cb_rule.proofs.Seating.{never_now}
+
+-- ---- far states by how many turns were counted, and one more
+abbrev chain_with : (ℕ → FarState) → ℕ → FarState → ℕ → FarState
+chain_with chain n g k = cond (eqb k n) g (chain k)
+
+chain_at : (chain : ℕ → FarState) (n : ℕ) (g : FarState) → chain_with chain n g n ≡ g
+chain_at chain n g = ap (λ (b : Bool). cond b g (chain n)) (eq-eqb n n refl)
+
+chain_else : (chain : ℕ → FarState) (n k : ℕ) (g : FarState) → k ≢ n
+    → chain_with chain n g k ≡ chain k
+chain_else chain n k g ne = ap (λ (b : Bool). cond b g (chain k)) (ne_eqb k n ne)
+
+module _ (deeds : Deeds) (c : Config) (count : ℕ) (chain : ℕ → FarState) (few : count < 2 ^ 40) where
+  -- where fewer than 2^40 turns were counted each has a number below them
+  counted : (t : Turn) → TurnStands deeds c count chain t
+      → (turn_number t < count) × (t.gave ≡ chain (turn_number t + 1))
+  counted t o = ⊎_elim (λ (a : (turn_number t < count) × (t.gave ≡ chain (turn_number t + 1))). a)
+      (λ (a : (turn_number t ≡ 2 ^ 40) × (count ≡ 2 ^ 40) × (t.gave ≡ t.took)).
+      absurd (let e = a.1 in omega (arith, e, few))) o.gave
+
+  -- the next number stands nowhere
+  no_turn : (ts : List Turn) → Each (TurnStands deeds c count chain) ts
+      → times (is_turn count) ts ≡ 0
+  no_turn [] ok = refl
+  no_turn (t ∷ ts) ok = let less = (counted t ok.0).0 in
+      let off = miss (is_turn count t)
+      (ne_eqb (turn_number t) count (λ e. omega (arith, e, less))) in
+      let rest = no_turn ts ok.1 in omega (arith, off, rest)
+
+  -- a turn stands among those with one more
+  stands_on : (g : FarState) (t : Turn) → TurnStands deeds c count chain t
+      → TurnStands deeds c (count + 1) (chain_with chain (count + 1) g) t
+  stands_on g t o = let a = counted t o in let less = a.0 in record {
+    took = o.took
+        ∙ sym (chain_else chain (count + 1) (turn_number t) g (λ e. omega (arith, e, less)));
+    gave = inl (
+      omega (arith, less),
+      a.1 ∙ sym (chain_else chain (count + 1) (turn_number t + 1) g (λ e. omega (arith, e, less))),
+    );
+    did = o.did;
+  }
+
+total_none : (f : View → ℕ) (vs : List View)
+    → ((j : ℕ) (u : View) → get_elem? vs j ≡ some u → f u ≡ 0) → total f vs ≡ 0
+total_none f [] all = refl
+total_none f (x ∷ xs) all = let a = all 0 x refl in
+    let b = total_none f xs (λ j u there. all (suc j) u there) in omega (arith, a, b)
+
+-- ---- the give, whatever the table is
+module _ (deeds : Deeds) (first : ℕ) (c : Config) (s : Table) (id : ℕ) (v : View)
+    (at : get_elem? s.views id ≡ some v) (r : Ruled (Locked deeds) first c s)
+    (job : Job) (reply : Option Reply) (far : FarState) (freed : List Seen) (made : List ℕ)
+    (may : MayGive deeds c job reply far freed v) where
+  abbrev lock : Locked deeds c s r.known
+  lock = r.far
+
+  abbrev w : View
+  w = gave_lock job reply far (length r.history) freed made v
+
+  abbrev t : Turn
+  t = turn_of job reply far (length r.history) v
+
+  abbrev views : List View
+  views = set s.views id w
+
+  abbrev after : ℕ → Table
+  after n = record {
+    words = set s.words 0 n;
+    homes = set s.homes 0 (some (Some far));
+    views = views;
+  }
+
+  -- nobody holds it now
+  nobody : total holding views ≡ 0
+  nobody = let one = hit v.holds may.holds in let most = r.kept.one in
+      let sum = total-set holding s.views id v w at in
+      let le = total-at holding s.views id v at in omega (arith, one, most, sum, le)
+
+  no_taker : (f : FarState) (j : ℕ) (u : View) → get_elem? views j ≡ some u → u.holds ≡ true
+      → u.took ≡ f
+  no_taker f j u there his = absurd (let le = total-at holding views j u there in
+      let one = hit u.holds his in omega (arith, le, one, nobody))
+
+  number : turn_number t ≡ lock.count
+  number = ap (λ (f : FarState). f.counts.turns) (lock.takers id v at may.holds) ∙ lock.reached
+
+  stood : Stood c r.known far
+  stood = subst (λ (k : Shown). Stood c k far) ((r.kept.seats id v at).knows may.holds) may.stood
+
+  found_seen : Each (SeenOk r.history) freed
+  found_seen = each_map (IsFoundFreed v) (SeenOk r.history) freed
+      (λ x o. let ok = r.kept in
+      subst (SeenOk r.history) (sym o.entry)
+      (freed_at c s.words s.views r.known r.history ok o.handle o.version
+      (known_below c s.words s.views r.known r.history ok id o.handle v at o.knows)
+      (known_made c s.words s.views r.known r.history ok id o.handle v at o.knows)
+      (ap (λ (k : Shown). object_at k o.handle) (sym ((ok.seats id v at).knows may.holds))
+      ∙ o.empty))) may.found
+
+  wrote_all : Each (λ e. Has e r.history) (v.fresh ++ v.written)
+  wrote_all = let k = (r.kept.seats id v at).lasting in
+      each_append (λ e. Has e r.history) v.fresh v.written k.fresh k.written
+
+  kept_given : (n : ℕ) → Kept c (set s.words 0 n) views r.known r.history
+  kept_given n = let k = (r.kept.seats id v at).lasting in
+      flagged c (set s.words 0 n) s.views r.known r.history
+      (lock_word c s.words s.views r.known r.history r.kept n) id v w at record {
+        same_config = refl;
+        pins = refl;
+        claims = refl;
+        wrote = λ a q. (let e = times-append (is_version a q) v.fresh v.written in
+            omega (arith, e));
+        knows = λ his. absurd (true≢false (sym his));
+        lasting = record {
+          written = wrote_all;
+          fresh = tt;
+          seen = each_append (SeenOk r.history) freed v.seen found_seen k.seen;
+          peeked = k.peeked;
+          reached = omega arith;
+          told = tt;
+          began = λ h l. never_now r.history h;
+          past = (record { told = k.told; began = k.began }, k.past);
+        };
+      } (omega (arith, nobody))
+
+  -- the far state in its slot is that after so many turns
+  unlocked : (n count : ℕ) (f : FarState) → f ≡ far → n ≡ 2 * count
+      → IsUnlocked c (after n) r.known count f
+  unlocked n count f same word = record {
+    word = get_or-set_same s.words 0 n 0 (let z = r.kept.wide in omega (arith, z)) ∙ word;
+    home = set_here s.homes 0 (some (Some far)) lock.deep
+        ∙ ap (λ (g : FarState). some (some (Some g))) (sym same);
+    stood = subst (Stood c r.known) (sym same) stood;
+  }
+
+  deep : (n : ℕ) → 0 < length (after n).homes
+  deep n = let d = lock.deep in let q = length-set s.homes 0 (some (Some far)) in
+      omega (arith, d, q)
+
+  -- 2^40 turns were counted before: this one has no number
+  locked_worn : (n : ℕ) → n ≡ 2 * far.counts.turns → v.took.counts.turns ≡ 2 ^ 40 → far ≡ v.took
+      → Locked deeds c (after n) r.known
+  locked_worn n word worn still =
+      let took = lock.takers id v at may.holds in
+      let end : lock.count ≡ 2 ^ 40 = sym number ∙ worn in
+      let same : lock.chain lock.count ≡ far = sym took ∙ sym still in record {
+        count = lock.count;
+        chain = lock.chain;
+        empty = lock.empty;
+        reached = lock.reached;
+        sound = lock.sound;
+        free = λ _. unlocked n lock.count (lock.chain lock.count) same
+            (word ∙ ap (λ (f : FarState). 2 * f.counts.turns) (sym same)
+            ∙ ap (λ (k : ℕ). 2 * k) lock.reached);
+        held = λ some_one. absurd (omega (arith, some_one, nobody));
+        deep = deep n;
+        takers = no_taker (lock.chain lock.count);
+        turns = seats_stay (λ _ u. Each (TurnStands deeds c lock.count lock.chain) u.turns) s.views
+            id w (
+              record {
+                took = took ∙ ap lock.chain (sym number);
+                gave = inr (worn, end, still);
+                did = may.did (length r.history);
+              },
+              lock.turns id v at,
+            ) (λ j u ne there. lock.turns j u there);
+        once = λ k l. let sum = total-set (turns_on k) s.views id v w at in
+            let off = miss (is_turn k t)
+            (ne_eqb (turn_number t) k (λ e. omega (arith, e, number, l))) in
+            let before = lock.once k l in omega (arith, sum, off, before);
+      }
+
+  -- this one is counted
+  locked_next : (n : ℕ) → n ≡ 2 * far.counts.turns → v.took.counts.turns < 2 ^ 40
+      → far.counts.turns ≡ v.took.counts.turns + 1 → Locked deeds c (after n) r.known
+  locked_next n word less up = record {
+    count = lock.count + 1;
+    chain = chain;
+    empty = chain_else lock.chain (lock.count + 1) 0 far (λ e. omega (arith, e)) ∙ lock.empty;
+    reached = ap (λ (f : FarState). f.counts.turns) last ∙ turns_are;
+    sound = all_sound;
+    free = λ _. unlocked n (lock.count + 1) (chain (lock.count + 1)) last
+        (word ∙ ap (λ (k : ℕ). 2 * k) turns_are);
+    held = λ some_one. absurd (omega (arith, some_one, nobody));
+    deep = deep n;
+    takers = no_taker (chain (lock.count + 1));
+    turns = seats_stay (λ _ u. Each (TurnStands deeds c (lock.count + 1) chain) u.turns) s.views
+        id w (mine, longer v.turns (lock.turns id v at))
+        (λ j u ne there. longer u.turns (lock.turns j u there));
+    once = λ k l. elim (ℕ_discrete k lock.count) [
+      | yes e ↦ let sum = total-set (turns_on k) s.views id v w at in
+          let on = hit (is_turn k t) (eq-eqb (turn_number t) k (number ∙ sym e)) in
+          let before : total (turns_on k) s.views ≡ 0 =
+          ap (λ (m : ℕ). total (turns_on m) s.views) e
+          ∙ total_none (turns_on lock.count) s.views
+          (λ j u there. no_turn deeds c lock.count lock.chain few u.turns (lock.turns j u there)) in
+          omega (arith, sum, on, before)
+      | no ne ↦ let sum = total-set (turns_on k) s.views id v w at in
+          let off = miss (is_turn k t) (ne_eqb (turn_number t) k (λ e. ne (sym e ∙ number))) in
+          let before = lock.once k (omega (arith, l, ne)) in omega (arith, sum, off, before)
+    ];
+  }
+    where
+      few : lock.count < 2 ^ 40
+      few = let e = number in omega (arith, e, less)
+
+      turns_are : far.counts.turns ≡ lock.count + 1
+      turns_are = up ∙ ap (λ (k : ℕ). k + 1) number
+
+      chain : ℕ → FarState
+      chain = chain_with lock.chain (lock.count + 1) far
+
+      last : chain (lock.count + 1) ≡ far
+      last = chain_at lock.chain (lock.count + 1) far
+
+      longer : (ts : List Turn) → Each (TurnStands deeds c lock.count lock.chain) ts
+          → Each (TurnStands deeds c (lock.count + 1) chain) ts
+      longer ts ok = each_map (TurnStands deeds c lock.count lock.chain)
+          (TurnStands deeds c (lock.count + 1) chain) ts
+          (λ x o. stands_on deeds c lock.count lock.chain few far x o) ok
+
+      all_sound : (i : ℕ) → i ≤ lock.count + 1 → (k : Shown) × Stood c k (chain i)
+      all_sound i le = elim (ℕ_discrete i (lock.count + 1)) [
+        | yes e ↦ (r.known, subst (Stood c r.known) (sym (ap chain e ∙ last)) stood)
+        | no ne ↦ let z = lock.sound i (omega (arith, le, ne)) in (
+          z.0,
+          subst (Stood c z.0)
+              (sym (chain_else lock.chain (lock.count + 1) i far ne)) z.1,
+        )
+      ]
+
+      mine : TurnStands deeds c (lock.count + 1) chain t
+      mine = record {
+        took = lock.takers id v at may.holds
+            ∙ sym (chain_else lock.chain (lock.count + 1) lock.count far (λ e. omega (arith, e)))
+            ∙ ap chain (sym number);
+        gave = inl (
+          omega (arith, number),
+          sym last ∙ ap (λ (k : ℕ). chain (k + 1)) (sym number),
+        );
+        did = may.did (length r.history);
+      }
+
+  ruled_given : (n : ℕ) → 1 ≤ v.share → n ≡ 2 * far.counts.turns
+      → Ruled (Locked deeds) first c (after n)
+  ruled_given n live word = record {
+    known = r.known;
+    history = r.history;
+    starts = r.starts;
+    kept = kept_given n;
+    shares = shares_stay c s.views id v w at refl live r.shares;
+    far = ⊎_elim
+        (λ (z : (v.took.counts.turns < 2 ^ 40) × (far.counts.turns ≡ v.took.counts.turns + 1)).
+        locked_next n word z.0 z.1)
+        (λ (z : (v.took.counts.turns ≡ 2 ^ 40) × (far ≡ v.took)). locked_worn n word z.0 z.1)
+        may.adds;
+  }
+
+  has_given : (hand : List (ℕ × Slot)) → HasGiven job reply far freed made (v, hand) (w, [])
+  has_given hand = let ok = r.kept in let same = (ok.seats id v at).same_config in record {
+    entries = length r.history;
+    given = refl;
+    written = each_map (λ e. Has e r.history) (λ (e : Entry). e.handle < v.config.handles)
+        (v.fresh ++ v.written)
+        (λ e there. subst (λ (q : Config). e.handle < q.handles) (sym same)
+        (each_has (λ (x : Entry). x.handle < c.handles) e r.history ok.within there)) wrote_all;
+    seen = each_map (IsFoundFreed v) (λ (x : Seen). x.handle < v.config.handles) freed
+        (λ x o. subst (λ (y : Seen). y.handle < v.config.handles) (sym o.entry)
+        (subst (λ (q : Config). o.handle < q.handles) (sym same)
+        (known_below c s.words s.views r.known r.history ok id o.handle v at o.knows))) may.found;
+  }
+
+-- the far state in hand is one
+one_in_hand : (d : FarState) (l : List (ℕ × Slot)) (f g : FarState) → l ≡ (0, Some f) ∷ []
+    → l ≡ (0, Some g) ∷ [] → f ≡ g
+one_in_hand d l f g a b = ap in_hand (sym a ∙ b)
+  where
+    in_hand : List (ℕ × Slot) → FarState
+    in_hand [] = d
+    in_hand ((n, Some x) ∷ xs) = x
+    in_hand ((n, None) ∷ xs) = d
+
+pub gives_lock : (deeds : Deeds) (first : ℕ) (c : Config) (slots id : ℕ) (me : Sat) (job : Job)
+    (reply : Option Reply) (far : FarState) (freed : List Seen) (made : List ℕ) (n : ℕ)
+    → 1 ≤ me.0.share → me.1 ≡ (0, Some far) ∷ [] → MayGive deeds c job reply far freed me.0
+    → n ≡ 2 * far.counts.turns
+    → Allows (Ruled (Locked deeds) first c) slots id me 0 (λ _. n)
+    (λ _. gave job reply freed made (step slots 0 n 0 none) me n)
+gives_lock deeds first c slots id me job reply far freed made n live carried may word s r _ at _ =
+    let w : View = gave_lock job reply far (length r.history) freed made me.0 in (
+      w,
+      gives_slot,
+      tt,
+      subst (λ (l : List (ℕ × Slot)). Ruled (Locked deeds) first c record {
+        words = set s.words 0 n;
+        homes = put_back s.homes l;
+        views = set s.views id w;
+      }) (sym carried) (ruled_given deeds first c s id me.0 at r job reply far freed made may n live
+          word),
+      λ g there. subst (λ (f : FarState). HasGiven job reply f freed made me (w, rest me.1))
+          (one_in_hand far me.1 far g carried there)
+          (subst (λ (l : List (ℕ × Slot)). HasGiven job reply far freed made me (w, rest l))
+          (sym carried) (has_given deeds first c s id me.0 at r job reply far freed made may
+          me.1)),
+    )

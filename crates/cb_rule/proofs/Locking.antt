@@ -1,0 +1,165 @@
+-- The lock, the far state and the turns stay under steps on other words, and where seats are split
+-- and joined.
+use Rattle.std.proofs.Common.{◌≡◌, ◌≢◌, ◌⊎◌, ℕ, ◌+◌, Bool, true, false, cond, List, [], ◌∷◌, ◌++◌, get_or, set, sym, refl, ap, ◌∙◌, subst, ⊎_elim, arith, true≢false}
+use mathlib.Core.Option.{some}
+use lib.ListN.{get_elem?}
+use Rattle.cb_types.specs.declared.config.Config.{Config}
+use Rattle.cb_world.specs.declared.shown.Shown.{Shown}
+use Rattle.cb_world.specs.Empty.{empty_far}
+use Rattle.cb_rule.specs.declared.view.View.{View}
+use Rattle.cb_rule.specs.Lists.{times, total, Each}
+use Rattle.cb_rule.specs.Locking.{Deeds, IsUnlocked, Locked, TurnStands, is_turn, turns_on}
+use Rattle.cb_rule.specs.Ruled.{IsAlike, IsSteady}
+use Rattle.cb_rule.specs.Seats.{holding}
+use Rattle.cb_rule.specs.Slot.{Table}
+use Rattle.cb_rule.specs.Steps.{blank, joined}
+use Rattle.cb_rule.proofs.Counts.{each_append, hit, miss, times-append, total-at, total-same}
+use Rattle.cb_rule.proofs.Keeping.{seats_stay}
+use Rattle.cb_rule.proofs.Seating.{at_snoc, set_else, total_joined, total_split}
+
+module _ (deeds : Deeds) (c : Config) (s : Table) (known : Shown) (r : Locked deeds c s known) where
+  abbrev Takes : ℕ → View → Type 0
+  Takes j u = u.holds ≡ true → u.took ≡ r.chain r.count
+
+  abbrev Turned : ℕ → View → Type 0
+  Turned j u = Each (TurnStands deeds c r.count r.chain) u.turns
+
+  -- the words, the homes and the views may be others, where those that hold are as many
+  unlocked_still : (ws : List ℕ) (views : List View) → get_or ws 0 0 ≡ get_or s.words 0 0
+      → total holding views ≡ total holding s.views → total holding views ≡ 0
+      → IsUnlocked c record { words = ws; homes = s.homes; views = views } known r.count
+      (r.chain r.count)
+  unlocked_still ws views lock same none = let f = r.free (sym same ∙ none) in record {
+    word = lock ∙ f.word;
+    home = f.home;
+    stood = f.stood;
+  }
+
+  module _ (id : ℕ) (v : View) (at : get_elem? s.views id ≡ some v) where
+    locked_stays : (ws : List ℕ) (known' : Shown) (w : View) → get_or ws 0 0 ≡ get_or s.words 0 0
+        → IsAlike v w → (known' ≡ known) ⊎ (v.holds ≡ true) → known'.first ≡ known.first
+        → Locked deeds c record { words = ws; homes = s.homes; views = set s.views id w } known'
+    locked_stays ws known' w lock alike why first = record {
+      count = r.count;
+      chain = r.chain;
+      empty = r.empty ∙ ap (λ (n : ℕ). empty_far n c) (sym first);
+      reached = r.reached;
+      sound = r.sound;
+      free = λ none. ⊎_elim
+          (λ (e : known' ≡ known). subst (λ (k : Shown). IsUnlocked c record {
+            words = ws;
+            homes = s.homes;
+            views = set s.views id w;
+          } k r.count (r.chain r.count)) (sym e)
+          (unlocked_still ws (set s.views id w) lock same none))
+          (λ (h : v.holds ≡ true). absurd (let le = total-at holding s.views id v at in
+          let one = hit v.holds h in omega (arith, le, one, same, none))) why;
+      held = λ some_one. lock ∙ r.held (omega (arith, same, some_one));
+      deep = r.deep;
+      takers = seats_stay Takes s.views id w
+          (λ h. alike.took ∙ r.takers id v at (sym alike.holds ∙ h))
+          (λ j u ne there. r.takers j u there);
+      turns = seats_stay Turned s.views id w
+          (subst (Each (TurnStands deeds c r.count r.chain)) (sym alike.turns) (r.turns id v at))
+          (λ j u ne there. r.turns j u there);
+      once = λ k l. total-same (turns_on k) s.views id v w at
+          (ap (times (λ t. is_turn k t)) alike.turns) ∙ r.once k l;
+    }
+      where
+        same : total holding (set s.views id w) ≡ total holding s.views
+        same = total-same holding s.views id v w at
+            (ap (λ (b : Bool). cond {A = ℕ} b 1 0) alike.holds)
+
+    locked_splits : (left right : View) → IsAlike v left → right.holds ≡ false → right.turns ≡ []
+        → Locked deeds c record {
+          words = s.words;
+          homes = s.homes;
+          views = set s.views id left ++ right ∷ [];
+        } known
+    locked_splits left right alike quiet none = record {
+      count = r.count;
+      chain = r.chain;
+      empty = r.empty;
+      reached = r.reached;
+      sound = r.sound;
+      free = λ z. unlocked_still s.words more refl same z;
+      held = λ some_one. r.held (omega (arith, same, some_one));
+      deep = r.deep;
+      takers = λ j u there. ⊎_elim
+          (λ (t : get_elem? (set s.views id left) j ≡ some u). seats_stay Takes s.views id left
+          (λ h. alike.took ∙ r.takers id v at (sym alike.holds ∙ h))
+          (λ i x _ e. r.takers i x e) j u t)
+          (λ (t : right ≡ u). subst (λ (x : View). Takes j x) t
+          (λ h. absurd (true≢false (sym h ∙ quiet))))
+          (at_snoc (set s.views id left) right u j there);
+      turns = λ j u there. ⊎_elim
+          (λ (t : get_elem? (set s.views id left) j ≡ some u). seats_stay Turned s.views id left
+          (subst (Each (TurnStands deeds c r.count r.chain)) (sym alike.turns) (r.turns id v at))
+          (λ i x _ e. r.turns i x e) j u t)
+          (λ (t : right ≡ u). subst (Each (TurnStands deeds c r.count r.chain))
+          (sym none ∙ ap (λ (x : View). x.turns) t) tt)
+          (at_snoc (set s.views id left) right u j there);
+      once = λ k l. total_split (turns_on k) s.views id v left right at
+          (ap (times (λ t. is_turn k t)) alike.turns) (ap (times (λ t. is_turn k t)) none)
+          ∙ r.once k l;
+    }
+      where
+        more : List View
+        more = set s.views id left ++ right ∷ []
+
+        same : total holding more ≡ total holding s.views
+        same = total_split holding s.views id v left right at
+            (ap (λ (b : Bool). cond {A = ℕ} b 1 0) alike.holds) (miss right.holds quiet)
+
+    locked_joins : (other : ℕ) (w : View) → other ≢ id
+        → get_elem? (set s.views id (joined v w)) other ≡ some w → w.holds ≡ false
+        → Locked deeds c record {
+          words = s.words;
+          homes = s.homes;
+          views = set (set s.views id (joined v w)) other (blank c);
+        } known
+    locked_joins other w ne there quiet = record {
+      count = r.count;
+      chain = r.chain;
+      empty = r.empty;
+      reached = r.reached;
+      sound = r.sound;
+      free = λ z. unlocked_still s.words more refl same z;
+      held = λ some_one. r.held (omega (arith, same, some_one));
+      deep = r.deep;
+      takers = seats_stay Takes (set s.views id both) other (blank c)
+          (λ h. absurd (true≢false (sym h)))
+          (λ j u _. seats_stay Takes s.views id both (r.takers id v at)
+          (λ i x _ e. r.takers i x e) j u);
+      turns = seats_stay Turned (set s.views id both) other (blank c) tt
+          (λ j u _. seats_stay Turned s.views id both
+          (each_append (TurnStands deeds c r.count r.chain) w.turns v.turns
+          (r.turns other w (sym (set_else s.views id other both ne) ∙ there)) (r.turns id v at))
+          (λ i x _ e. r.turns i x e) j u);
+      once = λ k l. total_joined (turns_on k) s.views id other v w both (blank c) at there
+          (let e = times-append (is_turn k) w.turns v.turns in omega (arith, e)) refl
+          ∙ r.once k l;
+    }
+      where
+        both : View
+        both = joined v w
+
+        more : List View
+        more = set (set s.views id both) other (blank c)
+
+        none : holding w ≡ 0
+        none = miss w.holds quiet
+
+        same : total holding more ≡ total holding s.views
+        same = total_joined holding s.views id other v w both (blank c) at there
+            (let z : holding v ≡ holding v + holding w = omega (arith, none) in z) refl
+
+pub locked_steady : (deeds : Deeds) → IsSteady (Locked deeds)
+locked_steady deeds = record {
+  stays = λ c s ws known known' id v w at lock alike why first r.
+      locked_stays deeds c s known r id v at ws known' w lock alike why first;
+  splits = λ c s known id v left right at alike quiet none r.
+      locked_splits deeds c s known r id v at left right alike quiet none;
+  joins = λ c s known id v other w at ne there quiet r.
+      locked_joins deeds c s known r id v at other w ne there quiet;
+}

@@ -1,0 +1,156 @@
+-- A seat takes the lock, and the far state out of its slot.
+use Rattle.std.proofs.Common.{◌≡◌, ℕ, zero, suc, ◌*◌, ◌%◌, ◌<◌, ◌≤◌, true, List, ◌∷◌, length, get_or, set, Some, sym, refl, ap, ◌∙◌, subst, arith, eqb, eq-eqb, ne_eqb, length-set, get_or-set_same}
+use mathlib.Core.Logic.{dite}
+use mathlib.Core.Option.{some, none}
+use lib.ListN.{get_elem?}
+use native.Mathlib.Decide.{ℕ_discrete}
+use prog.Atomic.{either}
+use Rattle.atomic_table.specs.Table.{Allows, keeps, step}
+use Rattle.atomic_table.specs.Table.{takes as takes_slot}
+use Rattle.cb_types.specs.declared.config.Config.{Config}
+use Rattle.cb_world.specs.FarState.{FarState}
+use Rattle.cb_rule.specs.declared.view.View.{View}
+use Rattle.cb_rule.specs.Lists.{total, Each}
+use Rattle.cb_rule.specs.Locking.{Deeds, Locked, Stood, TurnStands, turns_on}
+use Rattle.cb_rule.specs.LockSteps.{HasTaken, took, took_lock}
+use Rattle.cb_rule.specs.Rule.{AreSized, Kept}
+use Rattle.cb_rule.specs.Ruled.{Ruled}
+use Rattle.cb_rule.specs.Seats.{holding}
+use Rattle.cb_rule.specs.Slot.{Sat, Table}
+use Rattle.cb_rule.proofs.Counts.{total-at, total-same, total-set}
+use Rattle.cb_rule.proofs.Flagging.{flagged, lock_word}
+use Rattle.cb_rule.proofs.Keeping.{seats_stay}
+use Rattle.cb_rule.proofs.Lifting.{same_words, set_same, shares_stay}
+use Rattle.cb_rule.proofs.Opening.{old_now}
+
+none_of : (n : ℕ) → (0 < n → ⊥) → n ≡ 0
+none_of zero f = refl
+none_of (suc n) f = absurd (f (omega arith))
+
+module _ (deeds : Deeds) (first : ℕ) (c : Config) (s : Table) (id : ℕ) (me : Sat)
+    (at : get_elem? s.views id ≡ some me.0) (r : Ruled (Locked deeds) first c s)
+    (even : get_or s.words 0 0 % 2 ≡ 0) where
+  abbrev lock : Locked deeds c s r.known
+  lock = r.far
+
+  abbrev far : FarState
+  far = lock.chain lock.count
+
+  abbrev taken : View
+  taken = took_lock r.known far (length r.history) me.0
+
+  abbrev views : List View
+  views = set s.views id taken
+
+  abbrev after : Table
+  after = record { words = set s.words 0 1; homes = set s.homes 0 none; views = views }
+
+  -- no seat holds it while its word is even
+  nobody : total holding s.views ≡ 0
+  nobody = none_of (total holding s.views)
+      (λ some_one. let z = lock.held some_one in omega (arith, z, even))
+
+  not_mine : holding me.0 ≡ 0
+  not_mine = let le = total-at holding s.views id me.0 at in omega (arith, le, nobody)
+
+  one_holds : total holding views ≡ 1
+  one_holds = let sum = total-set holding s.views id me.0 taken at in
+      omega (arith, sum, not_mine, nobody)
+
+  kept_taken : Kept c (set s.words 0 1) views r.known r.history
+  kept_taken = let ok = r.kept.seats id me.0 at in let k = ok.lasting in
+      flagged c (set s.words 0 1) s.views r.known r.history
+      (lock_word c s.words s.views r.known r.history r.kept 1) id me.0 taken at record {
+        same_config = refl;
+        pins = refl;
+        claims = refl;
+        wrote = λ a q. refl;
+        knows = λ _. refl;
+        lasting = record {
+          written = k.written;
+          fresh = k.fresh;
+          seen = k.seen;
+          peeked = k.peeked;
+          reached = omega arith;
+          told = tt;
+          began = old_now c s.words s.views r.known r.history r.kept;
+          past = k.past;
+        };
+      } (omega (arith, one_holds))
+
+  locked_taken : Locked deeds c after r.known
+  locked_taken = record {
+    count = lock.count;
+    chain = lock.chain;
+    empty = lock.empty;
+    reached = lock.reached;
+    sound = lock.sound;
+    free = λ none_holds. absurd (omega (arith, none_holds, one_holds));
+    held = λ _. get_or-set_same s.words 0 1 0 (let z = r.kept.wide in omega (arith, z));
+    deep = let d = lock.deep in let q = length-set s.homes 0 none in omega (arith, d, q);
+    takers = seats_stay (λ _ u. u.holds ≡ true → u.took ≡ far) s.views id taken (λ _. refl)
+        (λ j u ne there. lock.takers j u there);
+    turns = seats_stay (λ _ u. Each (TurnStands deeds c lock.count lock.chain) u.turns) s.views id
+        taken (lock.turns id me.0 at) (λ j u ne there. lock.turns j u there);
+    once = λ k l. total-same (turns_on k) s.views id me.0 taken at refl ∙ lock.once k l;
+  }
+
+  ruled_taken : 1 ≤ me.0.share → Ruled (Locked deeds) first c after
+  ruled_taken live = record {
+    known = r.known;
+    history = r.history;
+    starts = r.starts;
+    kept = kept_taken;
+    shares = shares_stay c s.views id me.0 taken at refl live r.shares;
+    far = locked_taken;
+  }
+
+  has_taken : (n : ℕ) → get_or s.words 0 0 ≡ n
+      → HasTaken me n (taken, (0, Some far) ∷ me.1)
+  has_taken n found = let ok = r.kept.seats id me.0 at in let f = lock.free nobody in record {
+    known = r.known;
+    far = far;
+    entries = length r.history;
+    taken = refl;
+    sized = subst (λ (q : Config). AreSized q r.known) (sym ok.same_config) r.kept.sized;
+    stood = subst (λ (q : Config). Stood q r.known far) (sym ok.same_config) f.stood;
+    number = sym found ∙ f.word ∙ ap (λ (k : ℕ). 2 * k) (sym lock.reached);
+  }
+
+-- the exchange of an even word, which was found before
+pub takes_lock : (deeds : Deeds) (first : ℕ) (c : Config) (slots id : ℕ) (me : Sat) (old : ℕ)
+    → 1 ≤ me.0.share → old % 2 ≡ 0
+    → Allows (Ruled (Locked deeds) first c) slots id me 0 (λ x. either (eqb x old) 1 x)
+    (took (step slots 0 old 1 none) me)
+takes_lock deeds first c slots id me old live even s r _ at _ =
+    let x : ℕ = get_or s.words 0 0 in dite (ℕ_discrete x old)
+    (λ e. let even' : x % 2 ≡ 0 = ap (λ (n : ℕ). n % 2) e ∙ even in
+    let lock : Locked deeds c s r.known = r.far in let far : FarState = lock.chain lock.count in
+    let w : View = took_lock r.known far (length r.history) me.0 in (
+      w,
+      takes_slot 0 (Some far),
+      (lock.free (nobody deeds first c s id me at r even')).home,
+      subst (λ (n : ℕ). Ruled (Locked deeds) first c record {
+        words = set s.words 0 n;
+        homes = set s.homes 0 none;
+        views = set s.views id w;
+      }) (ap (λ b. either b 1 x) (sym (eq-eqb x old e)))
+          (ruled_taken deeds first c s id me at r even' live),
+      (λ _. has_taken deeds first c s id me at r even' x refl, λ ne. absurd (ne e)),
+    ))
+    (λ ne. (
+      me.0,
+      keeps,
+      tt,
+      subst (λ (ws : List ℕ). Ruled (Locked deeds) first c record {
+        words = ws;
+        homes = s.homes;
+        views = set s.views id me.0;
+      }) (sym (ap (set s.words 0) (ap (λ b. either b 1 x) (ne_eqb x old ne)) ∙ same_words s.words 0))
+          (subst (λ (vs : List View). Ruled (Locked deeds) first c record {
+            words = s.words;
+            homes = s.homes;
+            views = vs;
+          }) (sym (set_same s.views id me.0 at)) r),
+      (λ e. absurd (ne e), λ _. refl),
+    ))

@@ -1,0 +1,274 @@
+-- Worked examples of the far lock and of turns in a history: what meets each definition, and what
+-- breaks one part alone.
+use Rattle.std.proofs.Common.{◌≡◌, ℕ, zero, suc, ◌*◌, ◌^◌, ◌<◌, ◌≤◌, true, List, [], ◌∷◌, length, Some, None, replicate, sym, refl, ap, ◌∙◌, subst, inl, inr, ⊎_elim, lit<, lit≤, arith}
+use mathlib.Core.Option.{Option as Maybe, some, none, some-injective, some-ne-none}
+use lib.ListN.{get_elem?}
+use Rattle.cb_types.specs.declared.config.Field.TheVariants.{K, R, Nodes, Frames, Room, Handles, Turns}
+use Rattle.cb_types.specs.Config.{IsAccepted}
+use Rattle.cb_types.specs.declared.job.Job.TheVariants.{Evict}
+use Rattle.cb_world.specs.declared.event.Event.TheVariants.{Looked}
+use Rattle.cb_world.specs.declared.shown.Shown.{Shown}
+use Rattle.cb_world.specs.Empty.{empty_far, empty_shown}
+use Rattle.cb_world.specs.FarState.{FarState}
+use Rattle.cb_world.proofs.Laws.{recounted_sound}
+use Rattle.cb_rule.specs.declared.turn.Turn.{Turn}
+use Rattle.cb_rule.specs.declared.view.View.{View}
+use Rattle.cb_rule.specs.Lists.{total, Each}
+use Rattle.cb_rule.specs.Locking.{Deeds, Locked, Stood, TurnStands, turns_on}
+use Rattle.cb_rule.specs.Seats.{holding}
+use Rattle.cb_rule.specs.Slot.{Slot, Table}
+use Rattle.cb_rule.specs.Steps.{blank}
+use Rattle.cb_rule.proofs.Opening.{stood_empty}
+use Rattle.cb_rule.proofs.WorkedViews.{pair_of}
+
+pub accepted : IsAccepted pair_of
+accepted K = (lit≤ tt, lit≤ tt)
+accepted R = (lit≤ tt, lit≤ tt)
+accepted Nodes = (lit≤ tt, lit≤ tt)
+accepted Frames = (lit≤ tt, lit≤ tt)
+accepted Room = (lit≤ tt, lit≤ tt)
+accepted Handles = (lit≤ tt, lit≤ tt)
+accepted Turns = lit≤ tt
+
+-- ---- the empty world after so many turns that changed nothing
+abbrev pub far : ℕ → FarState
+far n = record (empty_far 3 pair_of) {
+  counts = record { turns = n; by_job = n ∷ replicate 18 0; sets = 0; keys = 0 };
+}
+
+abbrev pub seen : Shown
+seen = empty_shown 3 pair_of
+
+pub stood : (n : ℕ) → n ≤ 2 → Stood pair_of seen (far n)
+stood n few = let e = stood_empty 3 pair_of (lit≤ tt) accepted in
+    let f = e.configured in let k = e.counted in record {
+      sound = recounted_sound seen (empty_far 3 pair_of) n (n ∷ replicate 18 0) 0 e.sound;
+      configured = record {
+        frames = f.frames;
+        homes = f.homes;
+        nodes = f.nodes;
+        room = f.room;
+        codes = record { sets = f.codes.sets; batch = f.codes.batch };
+      };
+      counted = record {
+        kinds = refl;
+        jobs = omega arith;
+        turns = omega (arith, few);
+        sets = omega arith;
+        keys = omega arith;
+        epoch = omega arith;
+        given = omega arith;
+        no_pair = λ m q. absurd (cc);
+      };
+    }
+
+-- one frame more than the far state has; one turn that is of no job
+not_configured : Stood record pair_of { frames = 2 } seen (far 1) → ⊥
+not_configured s = let e : 1 ≡ 2 = s.configured.frames in omega (arith, e)
+
+not_counted : Stood pair_of seen record (far 1) {
+  counts = record { turns = 1; by_job = replicate 19 0; sets = 0; keys = 0 };
+} → ⊥
+not_counted s = let e : 0 ≡ 1 = s.counted.jobs in omega (arith, e)
+
+-- ---- turns that saw nothing
+abbrev pub quiet : Deeds
+quiet c t = t.acts ≡ []
+
+abbrev pub turn : FarState → FarState → Turn
+turn took gave = record {
+  job = Evict;
+  reply = None;
+  start = seen;
+  since = 0;
+  until = 0;
+  acts = [];
+  took = took;
+  gave = gave;
+}
+
+abbrev pub Stands : ℕ → Turn → Type 0
+Stands count t = TurnStands quiet pair_of count far t
+
+pub first_turn : Stands 1 (turn (far 0) (far 1))
+first_turn = record { took = refl; gave = inl (lit< tt, refl); did = refl }
+
+pub second_turn : Stands 2 (turn (far 1) (far 2))
+second_turn = record { took = refl; gave = inl (lit< tt, refl); did = refl }
+
+-- one that was refused after 2^40 turns
+no_number : Stands (2 ^ 40) (turn (far (2 ^ 40)) (far (2 ^ 40)))
+no_number = record { took = refl; gave = inr (refl, refl, refl); did = refl }
+
+another_taken : Stands 1 (turn record (far 0) { made = 1 } (far 1)) → ⊥
+another_taken s = let e : 1 ≡ 0 = ap (λ (f : FarState). f.made) s.took in omega (arith, e)
+
+-- the far state of before is given
+as_before : Stands 1 (turn (far 0) (far 0)) → ⊥
+as_before s = ⊎_elim
+    (λ (a : (0 < 1) × (far 0 ≡ far 1)). let e : 0 ≡ 1 =
+    ap (λ (f : FarState). f.counts.turns) a.1 in omega (arith, e))
+    (λ (a : (0 ≡ 2 ^ 40) × (1 ≡ 2 ^ 40) × (far 0 ≡ far 0)). let e = a.0 in omega (arith, e)) s.gave
+
+-- its number was not counted yet
+too_early : Stands 1 (turn (far 1) (far 2)) → ⊥
+too_early s = ⊎_elim (λ (a : (1 < 1) × (far 2 ≡ far 2)). let l = a.0 in omega (arith, l))
+    (λ (a : (1 ≡ 2 ^ 40) × (1 ≡ 2 ^ 40) × (far 2 ≡ far 1)). let e = a.0 in omega (arith, e)) s.gave
+
+did_else : Stands 1 record (turn (far 0) (far 1)) { acts = Looked 0 0 ∷ [] } → ⊥
+did_else s = let e : 1 ≡ 0 = ap (λ (es : List _). length es) s.did in omega (arith, e)
+
+-- ---- the lock
+abbrev pub seat : List Turn → View
+seat turns = record (blank pair_of) { share = 64; turns = turns }
+
+abbrev pub one_turn : List Turn
+one_turn = turn (far 0) (far 1) ∷ []
+
+abbrev pub table : ℕ → Maybe Slot → View → Table
+table word home v = record { words = word ∷ []; homes = home ∷ []; views = v ∷ [] }
+
+abbrev pub home : ℕ → Maybe Slot
+home n = some (Some (far n))
+
+abbrev Lock : Table → Type 0
+Lock s = Locked quiet pair_of s seen
+
+abbrev number_in : Maybe (Maybe Slot) → ℕ
+number_in (some (some (Some f))) = f.counts.turns
+number_in (some (some None)) = 0
+number_in (some none) = 0
+number_in none = 0
+
+pub one_view : (P : View → Type 0) (v : View) → P v → (j : ℕ) (u : View)
+    → get_elem? (v ∷ []) j ≡ some u → P u
+one_view P v ok zero u e = subst P (some-injective v u e) ok
+one_view P v ok (suc j) u e = absurd (some-ne-none u (sym e))
+
+pub below_one : (k : ℕ) → k < 1 → k ≡ 0
+below_one k l = omega (arith, l)
+
+-- free, after one turn
+pub free : Lock (table 2 (home 1) (seat one_turn))
+free = record {
+  count = 1;
+  chain = far;
+  empty = refl;
+  reached = refl;
+  sound = λ i le. (seen, stood i (omega (arith, le)));
+  free = λ _. record { word = refl; home = refl; stood = stood 1 (lit≤ tt) };
+  held = λ some_one. absurd (omega (arith, some_one));
+  deep = lit< tt;
+  takers = one_view (λ u. u.holds ≡ true → u.took ≡ far 1) (seat one_turn) (λ e. absurd (cc));
+  turns = one_view (λ u. Each (Stands 1) u.turns) (seat one_turn) (first_turn, tt);
+  once = λ k l. ap (λ (n : ℕ). total (λ u. turns_on n u)
+      (seat one_turn ∷ [])) (below_one k l);
+}
+
+-- the seat has it, and the far state is in its hand
+abbrev pub holder : List Turn → View
+holder turns = record (seat turns) { holds = true; took = far 1 }
+
+pub held : Lock (table 1 none (holder one_turn))
+held = record {
+  count = 1;
+  chain = far;
+  empty = refl;
+  reached = refl;
+  sound = λ i le. (seen, stood i (omega (arith, le)));
+  free = λ none_holds. absurd (omega (arith, none_holds));
+  held = λ _. refl;
+  deep = lit< tt;
+  takers = one_view (λ u. u.holds ≡ true → u.took ≡ far 1) (holder one_turn) (λ _. refl);
+  turns = one_view (λ u. Each (Stands 1) u.turns) (holder one_turn) (first_turn, tt);
+  once = λ k l. ap (λ (n : ℕ). total (λ u. turns_on n u)
+      (holder one_turn ∷ [])) (below_one k l);
+}
+
+-- the far state at home has as many turns as the lock's word counts
+at_home : (n word : ℕ) (v : View) → total holding (v ∷ []) ≡ 0
+    → (l : Lock (table word (home n) v)) → (word ≡ 2 * n) × (l.count ≡ n)
+at_home n word v none_holds l = let f = l.free none_holds in
+    let e : n ≡ (l.chain l.count).counts.turns = ap number_in f.home in
+    let r = l.reached in let w = f.word in (omega (arith, e, r, w), omega (arith, e, r))
+
+-- a word that forgets the count, or counts another one
+forgets_the_count : Lock (table 0 (home 1) (seat one_turn)) → ⊥
+forgets_the_count l = let e = (at_home 1 0 (seat one_turn) refl l).0 in omega (arith, e)
+
+not_doubled : Lock (table 1 (home 1) (seat one_turn)) → ⊥
+not_doubled l = let e = (at_home 1 1 (seat one_turn) refl l).0 in omega (arith, e)
+
+-- the slot is empty, or has no far state
+out_of_its_slot : Lock (table 2 none (seat one_turn)) → ⊥
+out_of_its_slot l = some-ne-none _ (sym (some-injective _ _ (l.free refl).home))
+
+abbrev is_there : Maybe (Maybe Slot) → ℕ
+is_there (some (some (Some f))) = 1
+is_there (some (some None)) = 0
+is_there (some none) = 0
+is_there none = 0
+
+given_back_empty : Lock (table 2 (some None) (seat one_turn)) → ⊥
+given_back_empty l = let e : 0 ≡ 1 = ap is_there (l.free refl).home in omega (arith, e)
+
+-- a turn that is not recorded, or twice
+not_recorded : Lock (table 2 (home 1) (seat [])) → ⊥
+not_recorded l = let n = (at_home 1 2 (seat []) refl l).1 in
+    let e : 0 ≡ 1 = l.once 0 (omega (arith, n)) in omega (arith, e)
+
+recorded_twice : Lock (table 2 (home 1) (seat (turn (far 0) (far 1) ∷ one_turn))) → ⊥
+recorded_twice l = let n = (at_home 1 2 (seat (turn (far 0) (far 1) ∷ one_turn)) refl l).1 in
+    let e : 2 ≡ 1 = l.once 0 (omega (arith, n)) in omega (arith, e)
+
+-- a turn that is not the history's
+took_another : Lock (table 4 (home 2) (seat (turn record (far 1) { made = 1 } (far 2) ∷ one_turn)))
+    → ⊥
+took_another l = let ts = l.turns 0 _ refl in let n = (at_home 2 4 _ refl l).1 in ⊎_elim
+    (λ (a : (0 < l.count) × (far 1 ≡ l.chain 1)).
+    let e : 1 ≡ 0 = ap (λ (f : FarState). f.made) (ts.0.took ∙ sym a.1) in omega (arith, e))
+    (λ (a : (0 ≡ 2 ^ 40) × (l.count ≡ 2 ^ 40) × (far 1 ≡ far 0)).
+    let e = a.0 in omega (arith, e)) ts.1.0.gave
+
+-- it begins with another world than the empty one
+began_elsewhere : Lock (table 2 (home 1) (seat (turn record (far 0) { made = 1 } (far 1) ∷ []))) → ⊥
+began_elsewhere l = let ts = l.turns 0 _ refl in
+    let e : 1 ≡ 0 = ap (λ (f : FarState). f.made) (ts.0.took ∙ l.empty) in omega (arith, e)
+
+-- the slot has a far state of more turns than were made
+counted_too_many : Lock (table 2 (home 2) (seat one_turn)) → ⊥
+counted_too_many l = let e = (at_home 2 2 (seat one_turn) refl l).0 in omega (arith, e)
+
+-- a far state of before that was never sound
+abbrev pub no_frames : FarState
+no_frames = record (far 1) { spans = [] }
+
+never_sound : Lock (table 4 (home 2) (seat (turn no_frames (far 2) ∷ turn (far 0) no_frames ∷ [])))
+    → ⊥
+never_sound l = let ts = l.turns 0 _ refl in let n = (at_home 2 4 _ refl l).1 in
+    let s = l.sound 1 (omega (arith, n)) in
+    let e : 0 ≡ 1 = ap (λ (f : FarState). length f.spans) ts.0.took ∙ s.1.configured.frames in
+    omega (arith, e)
+
+-- held, with another word
+held_as_if_free : Lock (table 2 none (holder one_turn)) → ⊥
+held_as_if_free l = let e : 2 ≡ 1 = l.held (lit< tt) in omega (arith, e)
+
+-- the holder took another far state than the last
+took_an_old_one : Lock (table 1 none record (holder one_turn) { took = far 0 }) → ⊥
+took_an_old_one l = let n : 0 ≡ (l.chain l.count).counts.turns =
+    ap (λ (f : FarState). f.counts.turns) (l.takers 0 _ refl refl) in let r = l.reached in ⊎_elim
+    (λ (a : (0 < l.count) × (far 1 ≡ l.chain 1)). let k = a.0 in omega (arith, n, r, k))
+    (λ (a : (0 ≡ 2 ^ 40) × (l.count ≡ 2 ^ 40) × (far 1 ≡ far 0)).
+    let e = a.0 in omega (arith, e)) (l.turns 0 _ refl).0.gave
+
+-- a table without slots
+no_slot : Lock record { words = 1 ∷ []; homes = []; views = holder one_turn ∷ [] } → ⊥
+no_slot l = let e = l.deep in omega (arith, e)
+
+-- a turn that did else than its job
+did_another : Lock (table 2 (home 1) (seat (record (turn (far 0) (far 1)) {
+  acts = Looked 0 0 ∷ [];
+} ∷ []))) → ⊥
+did_another l = let e : 1 ≡ 0 = ap (λ (es : List _). length es) (l.turns 0 _ refl).0.did in
+    omega (arith, e)

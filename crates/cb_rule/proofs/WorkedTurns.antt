@@ -1,0 +1,299 @@
+-- Worked examples of the steps on the far lock and of the one history of turns: what meets each
+-- definition, and what breaks one part alone.
+use Rattle.std.proofs.Common.{◌≡◌, ℕ, zero, suc, ◌+◌, ◌^◌, ◌<◌, false, List, [], ◌∷◌, length, Some, None, sym, refl, ap, inl, inr, ⊎_elim, lit<, lit≤, arith, true≢false}
+use mathlib.Core.Option.{none}
+use Rattle.atomic_table.specs.Table.{Step, step}
+use Rattle.cb_types.specs.declared.job.Job.TheVariants.{Evict}
+use Rattle.cb_world.specs.declared.event.Event.TheVariants.{Looked}
+use Rattle.cb_world.specs.declared.object.Object.TheVariants as is
+use Rattle.cb_world.specs.declared.shown.Shown.{Shown}
+use Rattle.cb_world.specs.Empty.{empty_far}
+use Rattle.cb_world.specs.FarState.{FarState}
+use Rattle.cb_world.specs.Shown.{never}
+use Rattle.cb_rule.specs.declared.turn.Turn.{Turn}
+use Rattle.cb_rule.specs.declared.view.Seen.{Seen}
+use Rattle.cb_rule.specs.declared.view.View.{View}
+use Rattle.cb_rule.specs.Lists.{total, Each, Has}
+use Rattle.cb_rule.specs.Locking.{Stood, turn_number, turns_on}
+use Rattle.cb_rule.specs.LockSteps.{AddsTurn, HasGiven, HasTaken, IsFoundFreed, MayGive, gave_lock, took, took_lock}
+use Rattle.cb_rule.specs.OneHistory.{HasNumber, IsOneHistory, Made, TurnsStand}
+use Rattle.cb_rule.specs.Slot.{Sat, Slot}
+use Rattle.cb_rule.specs.Steps.{freed_seen, version_seen}
+use Rattle.cb_rule.proofs.Members.{each_has}
+use Rattle.cb_rule.proofs.WorkedHistory.{made}
+use Rattle.cb_rule.proofs.WorkedLocking.{far, home, no_frames, one_turn, one_view, quiet, seat, seen, stood, table, turn}
+use Rattle.cb_rule.proofs.WorkedViews.{pair_of}
+
+-- ---- the lock is taken after one turn
+abbrev before : Sat
+before = (seat one_turn, [])
+
+abbrev taken : Shown → FarState → List (ℕ × Slot) → Sat
+taken known f hand = (took_lock known f 0 (seat one_turn), hand)
+
+abbrev in_hand : FarState → List (ℕ × Slot)
+in_hand f = (0, Some f) ∷ []
+
+abbrev holder : Sat
+holder = taken seen (far 1) (in_hand (far 1))
+
+has_taken : HasTaken before 2 holder
+has_taken = record {
+  known = seen;
+  far = far 1;
+  entries = 0;
+  taken = refl;
+  sized = record { objects = refl; hots = refl; versions = refl; memory = refl };
+  stood = stood 1 (lit≤ tt);
+  number = refl;
+}
+
+-- the far state is not in hand
+not_in_hand : HasTaken before 2 (taken seen (far 1) []) → ⊥
+not_in_hand t = let e : 0 ≡ 1 = ap (λ (m : Sat). length m.1) t.taken in omega (arith, e)
+
+knows_too_few : HasTaken before 2 (taken record seen { hots = [] } (far 1) (in_hand (far 1))) → ⊥
+knows_too_few t = let e : 0 ≡ length t.known.hots =
+    ap (λ (m : Sat). length m.0.known.hots) t.taken in let s = t.sized.hots in
+    omega (arith, e, s)
+
+takes_no_frames : HasTaken before 2 (taken seen no_frames (in_hand no_frames)) → ⊥
+takes_no_frames t = let e : 0 ≡ length t.far.spans =
+    ap (λ (m : Sat). length m.0.took.spans) t.taken in let s = t.stood.configured.frames in
+    omega (arith, e, s)
+
+-- the word counted other turns
+another_count : HasTaken before 4 holder → ⊥
+another_count t = let e : 1 ≡ t.far.counts.turns =
+    ap (λ (m : Sat). m.0.took.counts.turns) t.taken in let n = t.number in omega (arith, e, n)
+
+abbrev exchange : Step Slot
+exchange = step 1 0 2 1 none
+
+won : took exchange before 2 holder
+won = (λ _. has_taken, λ ne. absurd (ne refl))
+
+-- where another word was found the view stays
+lost : took exchange before 1 before
+lost = (λ e. absurd (omega (arith, e)), λ _. refl)
+
+won_without_the_lock : took exchange before 2 before → ⊥
+won_without_the_lock t = let k = t.0 refl in
+    true≢false (sym (ap (λ (m : Sat). m.0.holds) k.taken))
+
+lost_and_holds : took exchange before 1 holder → ⊥
+lost_and_holds t =
+    true≢false (ap (λ (m : Sat). m.0.holds) (t.1 (λ e. omega (arith, e))))
+
+-- ---- it is given back with the next far state: the turn stands in front of the one before, and what
+-- it wrote and made in the record
+abbrev at_work : View
+at_work = record (took_lock seen (far 1) 0 (seat one_turn)) { fresh = made ∷ [] }
+
+gives_back : gave_lock Evict None (far 2) 0 [] (1 ∷ []) at_work
+    ≡ record (seat (turn (far 1) (far 2) ∷ one_turn)) { written = made ∷ []; own = 1 ∷ [] }
+gives_back = refl
+
+has_given : HasGiven Evict None (far 2) [] (1 ∷ []) (at_work, in_hand (far 2))
+    (record (seat (turn (far 1) (far 2) ∷ one_turn)) { written = made ∷ []; own = 1 ∷ [] }, [])
+has_given = record {
+  entries = 0;
+  given = refl;
+  written = (lit< tt, tt);
+  seen = tt;
+}
+
+-- the turn is not recorded, or what it wrote
+without_the_turn : HasGiven Evict None (far 2) [] (1 ∷ []) (at_work, in_hand (far 2))
+    (record (seat one_turn) { written = made ∷ []; own = 1 ∷ [] }, []) → ⊥
+without_the_turn g = let e : 1 ≡ 2 = ap (λ (m : Sat). length m.0.turns) g.given in
+    omega (arith, e)
+
+without_its_entry : HasGiven Evict None (far 2) [] (1 ∷ []) (at_work, in_hand (far 2))
+    (record (seat (turn (far 1) (far 2) ∷ one_turn)) { own = 1 ∷ [] }, []) → ⊥
+without_its_entry g = let e : 0 ≡ 1 = ap (λ (m : Sat). length m.0.written) g.given in
+    omega (arith, e)
+
+-- ---- what a give needs
+may_give : MayGive quiet pair_of Evict None (far 2) [] at_work
+may_give = record {
+  holds = refl;
+  stood = stood 2 (lit≤ tt);
+  adds = inl (lit< tt, refl);
+  did = λ n. refl;
+  found = tt;
+}
+
+not_the_holder : MayGive quiet pair_of Evict None (far 2) [] record at_work { holds = false } → ⊥
+not_the_holder m = true≢false (sym m.holds)
+
+not_sound : MayGive quiet pair_of Evict None record (far 2) { spans = [] } [] at_work → ⊥
+not_sound m = let e : 0 ≡ 1 = m.stood.configured.frames in omega (arith, e)
+
+-- the turn is not counted, or twice
+not_counted : AddsTurn (far 1) (far 1) → ⊥
+not_counted a = ⊎_elim (λ (z : (1 < 2 ^ 40) × (1 ≡ 2)). let e = z.1 in omega (arith, e))
+    (λ (z : (1 ≡ 2 ^ 40) × (far 1 ≡ far 1)). let e = z.0 in omega (arith, e)) a
+
+counted_twice : AddsTurn (far 0) (far 2) → ⊥
+counted_twice a = ⊎_elim (λ (z : (0 < 2 ^ 40) × (2 ≡ 1)). let e = z.1 in omega (arith, e))
+    (λ (z : (0 ≡ 2 ^ 40) × (far 2 ≡ far 0)). let e = z.0 in omega (arith, e)) a
+
+refused_for_its_number : AddsTurn (far (2 ^ 40)) (far (2 ^ 40))
+refused_for_its_number = inr (refl, refl)
+
+as_before : MayGive quiet pair_of Evict None (far 1) [] at_work → ⊥
+as_before m = not_counted m.adds
+
+did_else : MayGive quiet pair_of Evict None (far 2) [] record at_work { acts = Looked 0 0 ∷ [] } → ⊥
+did_else m = let e : 1 ≡ 0 = ap (λ (es : List _). length es) (m.did 0) in omega (arith, e)
+
+-- a freed entry that the turn found: of an object that the record knows, and that is empty
+abbrev finder : View
+finder = record at_work {
+  seen = version_seen 1 4 8 (9 ∷ []) ∷ [];
+  fresh = [];
+  known = record seen { objects = never ∷ is.Empty 5 ∷ [] };
+}
+
+found : IsFoundFreed finder (freed_seen 1 5)
+found = record {
+  handle = 1;
+  version = 5;
+  knows = inr (version_seen 1 4 8 (9 ∷ []), inl refl, refl);
+  empty = refl;
+  entry = refl;
+}
+
+not_known : IsFoundFreed record finder { seen = [] } (freed_seen 1 5) → ⊥
+not_known f = ⊎_elim (λ (k : (e : _) × Has e [] × (e.handle ≡ f.handle)). k.1)
+    (λ (k : (s : Seen) × Has s [] × (s.handle ≡ f.handle)). k.1) f.knows
+
+-- ---- two turns are one history
+abbrev two_turns : List Turn
+two_turns = turn (far 1) (far 2) ∷ one_turn
+
+abbrev History : List Turn → ℕ → FarState → Type 0
+History turns count last = IsOneHistory quiet 3 pair_of (seat turns ∷ []) count last
+
+all_made : (P : Turn → Type 0) (turns : List Turn) → Each P turns
+    → (t : Turn) → Made (seat turns ∷ []) t → P t
+all_made P turns ok t m = each_has P t m.0.turns
+    (one_view (λ u. Each P u.turns) (seat turns) ok m.1.0 m.0 m.1.1) m.2
+
+is_made : (turns : List Turn) (t : Turn) → Has t turns → Made (seat turns ∷ []) t
+is_made turns t there = (seat turns, (0, refl), there)
+
+once_each : (k : ℕ) → k < 2 → total (turns_on k) (seat two_turns ∷ []) ≡ 1
+once_each zero l = refl
+once_each (suc zero) l = refl
+once_each (suc (suc k)) l = absurd (omega (arith, l))
+
+one_history : History two_turns 2 (far 2)
+one_history = record {
+  counted = refl;
+  once = once_each;
+  none = λ e. absurd (omega (arith, e));
+  begins = all_made (λ t. turn_number t ≡ 0 → t.took ≡ empty_far 3 pair_of) two_turns
+      ((λ e. absurd (omega (arith, e))), ((λ e. refl), tt));
+  follows = λ t u mt mu. all_made
+      (λ t. turn_number u ≡ turn_number t + 1 → u.took ≡ t.gave) two_turns (
+        (λ e. absurd (let l = below u mu in omega (arith, e, l))),
+        (
+          all_made (λ u. turn_number u ≡ 0 + 1 → u.took ≡ far 1) two_turns
+              ((λ e. refl), ((λ e. absurd (omega (arith, e))), tt)) u mu,
+          tt,
+        ),
+      ) t mt;
+  ends = all_made (λ t. turn_number t + 1 ≡ 2 → t.gave ≡ far 2) two_turns
+      ((λ e. refl), ((λ e. absurd (omega (arith, e))), tt));
+  numbers = all_made (HasNumber 2) two_turns (inl (lit< tt), (inl (lit< tt), tt));
+  sound = all_made (λ t. (k : Shown) × Stood pair_of k t.took) two_turns
+      ((seen, stood 1 (lit≤ tt)), ((seen, stood 0 (lit≤ tt)), tt));
+  did = all_made (λ t. quiet pair_of t) two_turns (refl, (refl, tt));
+}
+  where
+    below : (u : Turn) → Made (seat two_turns ∷ []) u → turn_number u < 2
+    below u mu = all_made (λ x. turn_number x < 2) two_turns (lit< tt, (lit< tt, tt)) u mu
+
+stands : TurnsStand quiet 3 pair_of (table 4 (home 2) (seat two_turns))
+stands = record {
+  one = lit≤ tt;
+  held = λ e. absurd (omega (arith, e));
+  free = λ _. record { count = 2; last = far 2; word = refl; home = refl; history = one_history };
+}
+
+-- no turn, and another far state than the empty world's
+abbrev with_made : FarState → FarState
+with_made f = record f { made = 1 }
+
+made_of : (f g : FarState) → with_made f ≡ g → g.made ≡ 0 → ⊥
+made_of f g e none_made = let n : 1 ≡ g.made = ap (λ (x : FarState). x.made) e in
+    omega (arith, n, none_made)
+
+counts_else : History two_turns 2 (far 1) → ⊥
+counts_else h = let e : 1 ≡ 2 = h.counted in omega (arith, e)
+
+one_is_missing : History (turn (far 1) (far 2) ∷ []) 2 (far 2) → ⊥
+one_is_missing h = let e : 0 ≡ 1 = h.once 0 (lit< tt) in omega (arith, e)
+
+one_stands_twice : History (turn (far 1) (far 2) ∷ two_turns) 2 (far 2) → ⊥
+one_stands_twice h = let e : 2 ≡ 1 = h.once 1 (lit< tt) in omega (arith, e)
+
+not_the_empty_world : History [] 0 (with_made (far 0)) → ⊥
+not_the_empty_world h = made_of (far 0) _ (h.none refl) refl
+
+begins_elsewhere : History (turn (with_made (far 0)) (far 1) ∷ []) 1 (far 1) → ⊥
+begins_elsewhere h = made_of (far 0) _ (h.begins (turn (with_made (far 0)) (far 1))
+    (is_made (turn (with_made (far 0)) (far 1) ∷ []) _ (inl refl)) refl) refl
+
+-- the second turn took another far state than the first gave
+abbrev a_gap : List Turn
+a_gap = turn (with_made (far 1)) (far 2) ∷ one_turn
+
+goes_on_elsewhere : History a_gap 2 (far 2) → ⊥
+goes_on_elsewhere h = made_of (far 1) _ (h.follows (turn (far 0) (far 1))
+    (turn (with_made (far 1)) (far 2)) (is_made a_gap _ (inr (inl refl)))
+    (is_made a_gap _ (inl refl)) refl) refl
+
+-- the slot has another far state than the last gave
+ends_elsewhere : History two_turns 2 (with_made (far 2)) → ⊥
+ends_elsewhere h = let e = h.ends (turn (far 1) (far 2)) (is_made two_turns _ (inl refl)) refl in
+    made_of (far 2) _ (sym e) refl
+
+-- a turn beyond the count
+abbrev beyond : List Turn
+beyond = turn (far 5) (far 6) ∷ two_turns
+
+has_no_number : History beyond 2 (far 2) → ⊥
+has_no_number h = ⊎_elim (λ (l : 5 < 2). omega (arith, l))
+    (λ (a : (5 ≡ 2 ^ 40) × (2 ≡ 2 ^ 40) × (far 6 ≡ far 5)). let e = a.0 in omega (arith, e))
+    (h.numbers (turn (far 5) (far 6)) (is_made beyond _ (inl refl)))
+
+-- a far state between that was never sound
+abbrev unsound : List Turn
+unsound = turn no_frames (far 2) ∷ turn (far 0) no_frames ∷ []
+
+never_sound : History unsound 2 (far 2) → ⊥
+never_sound h = let s = h.sound (turn no_frames (far 2)) (is_made unsound _ (inl refl)) in
+    let e : 0 ≡ 1 = s.1.configured.frames in omega (arith, e)
+
+abbrev loud : List Turn
+loud = record (turn (far 0) (far 1)) { acts = Looked 0 0 ∷ [] } ∷ []
+
+did_another : History loud 1 (far 1) → ⊥
+did_another h = let e : 1 ≡ 0 =
+    ap (λ (es : List _). length es) (h.did _ (is_made loud _ (inl refl))) in omega (arith, e)
+
+-- the word is not twice the count, or the slot is empty
+forgets_the_count : TurnsStand quiet 3 pair_of (table 0 (home 2) (seat two_turns)) → ⊥
+forgets_the_count s = let f = s.free refl in
+    let c : f.count ≡ 0 = (let w = f.word in omega (arith, w)) in
+    ⊎_elim (λ (l : 1 < f.count). omega (arith, l, c))
+    (λ (a : (1 ≡ 2 ^ 40) × (f.count ≡ 2 ^ 40) × (far 2 ≡ far 1)).
+    let e = a.0 in omega (arith, e))
+    (f.history.numbers (turn (far 1) (far 2)) (is_made two_turns _ (inl refl)))
+
+held_as_if_free : TurnsStand quiet 3 pair_of (table 4 none (took_lock seen (far 2) 0
+    (seat two_turns))) → ⊥
+held_as_if_free s = let e : 4 ≡ 1 = s.held refl in omega (arith, e)

@@ -1,0 +1,141 @@
+-- The far lock is taken and given back by the rule of the table, whose key has the configuration.
+use Rattle.std.proofs.Common.{◌≡◌, ℕ, ◌*◌, ◌%◌, ◌<◌, ◌≤◌, List, [], ◌∷◌, ◌++◌, Option, None, Some, sym, refl, ap, ◌∙◌, subst, eqb}
+use mathlib.Core.Option.{none}
+use prog.Atomic.{either}
+use Rattle.atomic_table.specs.Table.{step, rest, Allows}
+use Rattle.cb_types.specs.declared.config.Config.{Config}
+use Rattle.cb_types.specs.declared.job.Job.{Job}
+use Rattle.cb_types.specs.declared.reply.Reply.{Reply}
+use Rattle.cb_world.specs.FarState.{FarState}
+use Rattle.cb_world.specs.declared.entry.Entry.{Entry}
+use Rattle.cb_rule.specs.declared.view.View.{View}
+use Rattle.cb_rule.specs.Lists.{Each}
+use Rattle.cb_rule.specs.Locking.{Locked, Stood}
+use Rattle.cb_rule.specs.LockSteps.{HasGiven, MayGive, gave, gave_lock, took, took_lock}
+use Rattle.cb_rule.specs.Rule.{AreSized}
+use Rattle.cb_rule.specs.Ruled.{Ruled}
+use Rattle.cb_rule.specs.Slot.{Sat, Slot}
+use Rattle.cb_rule.proofs.Laws.{gives_lock, takes_lock}
+use Rattle.cb_shared.specs.Places.{Moves, Place}
+use Rattle.cb_shared.specs.Turning.{Did, made_by}
+use Rattle.cb_shared.specs.UnderLock.{GivesFar, IsEnding, Takes, TakesFar}
+use Rattle.cb_shared.proofs.Alone.{at_key}
+
+pub takes_lock_at : (first : ℕ) (c k : Config) → k ≡ c → (slots id old : ℕ) (me : Sat)
+    → 1 ≤ me.0.share → old % 2 ≡ 0
+    → Allows (Ruled (Locked Did) first k) slots id me 0 (λ x. either (eqb x old) 1 x)
+    (took (step slots 0 old 1 none) me)
+takes_lock_at first c k key slots id old me live even =
+    at_key first c k slots id me 0 (λ x. either (eqb x old) 1 x) (took (step slots 0 old 1 none) me) key
+    (takes_lock Did first c slots id me old live even)
+
+may_give : (c : Config) (job : Job) (reply : Option Reply) (me : Sat) (far : FarState)
+    → IsEnding c job reply far me.0 → MayGive Did c job reply far [] me.0
+may_give c job reply me far e = record {
+  holds = e.holds;
+  stood = e.stood;
+  adds = e.adds;
+  did = e.did;
+  found = tt;
+}
+
+pub gives_lock_at : (first : ℕ) (c k : Config) → k ≡ c → (slots id : ℕ) (me : Sat) (job j : Job)
+    (reply r : Option Reply) → j ≡ job → r ≡ reply → (far : FarState) (n : ℕ) → 1 ≤ me.0.share
+    → me.1 ≡ (0, Some far) ∷ [] → IsEnding c job reply far me.0 → n ≡ 2 * far.counts.turns
+    → Allows (Ruled (Locked Did) first k) slots id me 0 (λ _. n)
+    (λ _. gave j r [] (made_by j r) (step slots 0 n 0 none) me n)
+gives_lock_at first c k key slots id me job j reply r ej er far n live carried ends is =
+    subst (λ (x : Job). Allows (Ruled (Locked Did) first k) slots id me 0 (λ _. n)
+    (λ _. gave x r [] (made_by x r) (step slots 0 n 0 none) me n)) (sym ej)
+    (subst (λ (x : Option Reply). Allows (Ruled (Locked Did) first k) slots id me 0 (λ _. n)
+    (λ _. gave job x [] (made_by job x) (step slots 0 n 0 none) me n)) (sym er)
+    (at_key first c k slots id me 0 (λ _. n)
+    (λ _. gave job reply [] (made_by job reply) (step slots 0 n 0 none) me n) key
+    (gives_lock Did first c slots id me job reply far [] (made_by job reply) n live carried
+    (may_give c job reply me far ends) is)))
+
+-- what the step tells of the seat
+pub gives_far : (c : Config) (job j : Job) (reply r : Option Reply) → j ≡ job → r ≡ reply
+    → (far : FarState) (p q : Place) → p.me.0.config ≡ c → q.table_id ≡ p.table_id → q.id ≡ p.id
+    → HasGiven j r far [] (made_by j r) p.me q.me → GivesFar c job reply far p q
+gives_far c job j reply r ej er far p q key table id h = record {
+  entries = h.entries;
+  at = (
+    table,
+    id,
+    h.given ∙ (λ i. (
+      gave_lock (ej i) (er i) far h.entries [] (made_by (ej i) (er i)) p.me.0,
+      [],
+    )),
+  );
+  written = subst (λ (x : Config). Each (λ (e : Entry). e.handle < x.handles)
+      (p.me.0.fresh ++ p.me.0.written)) key h.written;
+}
+
+abbrev slot_in : Slot → List (ℕ × Slot) → Slot
+slot_in d [] = d
+slot_in d (x ∷ xs) = x.1
+
+abbrev far_in : FarState → Slot → FarState
+far_in d None = d
+far_in d (Some f) = f
+
+pub some_far : (f g : FarState) → Some f ≡ Some g → f ≡ g
+some_far f g e = ap (far_in f) e
+
+-- the seat took the far state that was in the slot
+pub takes_far : (c : Config) (word : ℕ) (far : FarState) (p m q : Place) → p.me.0.config ≡ c
+    → Takes word p m → (q.table_id ≡ m.table_id) × (q.id ≡ m.id)
+    × (q.me ≡ (m.me.0, (0, None) ∷ rest m.me.1)) → m.me.1 ≡ (0, Some far) ∷ rest m.me.1
+    → TakesFar c far p q
+takes_far c word far p m q key (table, id, t) out slot =
+    let had : m.me.1 ≡ (0, Some t.far) ∷ p.me.1 = ap (λ (x : Sat). x.1) t.taken in
+    let same : t.far ≡ far = ap (far_in t.far) (ap (slot_in (Some t.far)) (sym had ∙ slot)) in record {
+      known = t.known;
+      entries = t.entries;
+      at = (
+        out.0 ∙ table,
+        out.1 ∙ id,
+        out.2 ∙ ap (λ (x : Sat). let z : Sat = (x.0, (0, None) ∷ rest x.1) in z) t.taken
+            ∙ ap (λ (f : FarState).
+            let z : Sat = (took_lock t.known f t.entries p.me.0, (0, None) ∷ p.me.1) in
+            z) same,
+      );
+      sized = subst (λ (x : Config). AreSized x t.known) key t.sized;
+      stood = subst (λ (f : FarState). Stood c t.known f) same
+          (subst (λ (x : Config). Stood x t.known t.far) key t.stood);
+    }
+
+-- so where it was not moved before
+pub takes_from : (c : Config) (far : FarState) (p m q : Place) → Moves p m p.me.0
+    → TakesFar c far m q → TakesFar c far p q
+takes_from c far p m q same t = record {
+  known = t.known;
+  entries = t.entries;
+  at = (
+    t.at.0 ∙ same.0,
+    t.at.1 ∙ same.1,
+    t.at.2 ∙ ap (λ (x : Sat).
+        let z : Sat = (took_lock t.known far t.entries x.0, (0, None) ∷ x.1) in
+        z) same.2,
+  );
+  sized = t.sized;
+  stood = t.stood;
+}
+
+-- so where the far state was put into the slot before
+pub gives_from : (c : Config) (job : Job) (reply : Option Reply) (far : FarState) (p m q : Place)
+    → m.table_id ≡ p.table_id → m.id ≡ p.id → m.me.0 ≡ p.me.0 → GivesFar c job reply far m q
+    → GivesFar c job reply far p q
+gives_from c job reply far p m q table id same g = record {
+  entries = g.entries;
+  at = (
+    g.at.0 ∙ table,
+    g.at.1 ∙ id,
+    g.at.2 ∙ ap (λ (v : View).
+        let z : Sat = (gave_lock job reply far g.entries [] (made_by job reply) v, []) in
+        z) same,
+  );
+  written = subst (λ (v : View). Each (λ (e : Entry). e.handle < c.handles) (v.fresh ++ v.written))
+      same g.written;
+}

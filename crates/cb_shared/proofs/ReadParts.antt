@@ -1,0 +1,272 @@
+-- The parts of reads under a pin.
+use Rattle.std.proofs.Common.{◌≡◌, ℕ, ◌+◌, ◌<◌, ◌≤◌, List, [], ◌∷◌, ◌++◌, length, Result, Ok, Err, sym, refl, ap, ◌∙◌, subst, arith, append_assoc}
+use Rattle.std.specs.Prelude.{IfOk, OnErr}
+use Rattle.atomic_table.specs.Seated.{TableId}
+use Rattle.cb_ptr.specs.declared.word.State.TheVariants as state
+use Rattle.cb_ptr.specs.Word.{state_of}
+use Rattle.cb_member.specs.declared.no_memory.NoMemory.{NoMemory}
+use Rattle.cb_types.specs.declared.config.Config.{Config}
+use Rattle.cb_types.specs.declared.reply.Reply.{Reply}
+use Rattle.cb_world.specs.declared.entry.Entry.{Entry}
+use Rattle.cb_rule.specs.declared.view.Look.{Look}
+use Rattle.cb_rule.specs.declared.view.Seen.{Seen}
+use Rattle.cb_rule.specs.declared.view.View.{View}
+use Rattle.cb_rule.specs.History.{is_version}
+use Rattle.cb_rule.specs.Lists.{Each, times}
+use Rattle.cb_rule.specs.Slot.{Sat}
+use Rattle.cb_rule.specs.Steps.{IsNewest, Knows, look_at, with_look}
+use Rattle.cb_shared.specs.declared.reading.ReadAnswer.{ReadAnswer}
+use Rattle.cb_shared.specs.declared.reading.ReadAnswer.TheVariants as found
+use Rattle.cb_shared.specs.declared.setup.Setup.{Setup}
+use Rattle.cb_shared.specs.Parts.{Part, grown, nothing_more, sum}
+use Rattle.cb_shared.specs.Places.{IsOf, Moves, Place}
+use Rattle.cb_shared.specs.Reading.{ReadFinds, ReadMoves, looked}
+use Rattle.cb_shared.specs.Turning.{AreLooksAt, FindsAtLast, Tries}
+use Rattle.cb_shared.specs.UnderLock.{HasSame, IsQuiet, IsReplyTo, IsTriedAgain, LooksFor, ReadsBelow, TriesOn}
+use Rattle.cb_shared.proofs.AfterTurn.{of_moved}
+
+pub grown_nothing : (v : View) → v ≡ grown nothing_more v
+grown_nothing v = let e : v.ever ≡ v.ever + 0 = omega arith in
+    ap (λ (n : ℕ). let z : View = record v { ever = n } in z) e
+
+-- one part after another is one part
+pub grown_sum : (d e : Part) (v : View) → grown e (grown d v) ≡ grown (sum d e) v
+grown_sum d e v = λ i. record v {
+  written = sym (append_assoc e.written d.written v.written) i;
+  seen = sym (append_assoc e.seen d.seen v.seen) i;
+  peeked = sym (append_assoc e.peeked d.peeked v.peeked) i;
+  ever = (let z : v.ever + d.ever + e.ever ≡ v.ever + (d.ever + e.ever) = omega arith in z) i;
+  looks = sym (append_assoc e.looks d.looks v.looks) i;
+  turns = sym (append_assoc e.turns d.turns v.turns) i;
+}
+
+pub looks_quiet : (h : ℕ) (d : Part) → AreLooksAt h d → IsQuiet d
+looks_quiet h d x = (ap (λ (z : Part). z.written) x.part, ap (λ (z : Part). z.turns) x.part)
+
+part_quiet : (d e : Part) → d ≡ e → IsQuiet e → IsQuiet d
+part_quiet d e is q = subst IsQuiet (sym is) q
+
+finds_quiet : (h : ℕ) (a : ReadAnswer) (v : View) (d : Part) → ReadFinds h a v d → IsQuiet d
+finds_quiet h (found.Bytes version bytes) v d x = part_quiet d _ x.part (refl, refl)
+finds_quiet h found.Freed v d x = part_quiet d _ x.4 (refl, refl)
+finds_quiet h found.NotHere v d x = part_quiet d _ x.2 (refl, refl)
+finds_quiet h found.Moving v d x = part_quiet d _ x.2 (refl, refl)
+finds_quiet h found.Crowded v d x = part_quiet d _ x.2 (refl, refl)
+finds_quiet h (found.Raced saw other) v d x = part_quiet d _ x.1 (refl, refl)
+
+each_both : {A : Type 0} (P : A → Type 0) (xs ys : List A) → Each P xs → Each P ys
+    → Each P (xs ++ ys)
+each_both P [] ys a b = b
+each_both P (x ∷ xs) ys a b = (a.0, each_both P xs ys a.1 b)
+
+finds_below : (c : Config) (h : ℕ) (a : ReadAnswer) (v : View) (d : Part) → h < c.handles
+    → ReadFinds h a v d → ReadsBelow c d
+finds_below c h (found.Bytes version bytes) v d l x = subst (ReadsBelow c) (sym x.part) (l, tt)
+finds_below c h found.Freed v d l x = subst (ReadsBelow c) (sym x.4) (l, tt)
+finds_below c h found.NotHere v d l x = subst (ReadsBelow c) (sym x.2) tt
+finds_below c h found.Moving v d l x = subst (ReadsBelow c) (sym x.2) tt
+finds_below c h found.Crowded v d l x = subst (ReadsBelow c) (sym x.2) tt
+finds_below c h (found.Raced saw other) v d l x = subst (ReadsBelow c) (sym x.1) tt
+
+looks_below : (c : Config) (h : ℕ) (d : Part) → AreLooksAt h d → ReadsBelow c d
+looks_below c h d x = subst (ReadsBelow c) (sym x.part) tt
+
+pub last_quiet : (h : ℕ) (a : ReadAnswer) (v : View) (d : Part) → FindsAtLast h a v d → IsQuiet d
+last_quiet h a v d x = let b = looks_quiet h x.before x.lost in
+    let l = finds_quiet h a (grown x.before v) x.last x.finds in part_quiet d (sum x.before x.last)
+    x.part ((λ i. l.0 i ++ b.0 i), (λ i. l.1 i ++ b.1 i))
+
+last_below : (c : Config) (h : ℕ) (a : ReadAnswer) (v : View) (d : Part) → h < c.handles
+    → FindsAtLast h a v d → ReadsBelow c d
+last_below c h a v d l x = subst (ReadsBelow c) (sym x.part)
+    (each_both (λ (s : Seen). s.handle < c.handles) x.last.seen x.before.seen
+    (finds_below c h a (grown x.before v) x.last l x.finds) (looks_below c h x.before x.lost))
+
+-- ---- what is found depends on the entries of the record alone
+newest_same : (h version : ℕ) (u v : View) → HasSame u v → IsNewest h version v
+    → IsNewest h version u
+newest_same h version u v (fresh, written, seen, share, own) n = record {
+  written = subst (Each (λ (x : Entry). x.handle ≡ h → x.version ≤ version))
+      (λ i. sym fresh i ++ sym written i) n.written;
+  seen = subst (Each (λ (x : Seen). x.handle ≡ h → x.version ≤ version)) (sym seen) n.seen;
+  whole = λ is. subst (λ (k : ℕ). 0 < k)
+      (λ i. times (is_version h version) (sym fresh i) + times (is_version h version) (sym written i))
+      (n.whole (sym share ∙ is));
+}
+
+finds_same : (h : ℕ) (a : ReadAnswer) (u v : View) (d : Part) → HasSame u v → ReadFinds h a v d
+    → ReadFinds h a u d
+finds_same h (found.Bytes version bytes) u v d same x = record {
+  word = x.word;
+  words = x.words;
+  here = x.here;
+  newest = newest_same h version (with_look h x.word u) (with_look h x.word v) same x.newest;
+  bytes_are = x.bytes_are;
+  part = x.part;
+}
+finds_same h found.Freed u v d same (word, version, empty, newest, is) =
+    (word, version, empty, newest_same h version u v same newest, is)
+finds_same h found.NotHere u v d same x = x
+finds_same h found.Moving u v d same x = x
+finds_same h found.Crowded u v d same x = x
+finds_same h (found.Raced saw other) u v d same x = x
+
+grown_same : (d : Part) (u v : View) → HasSame u v → HasSame (grown d u) (grown d v)
+grown_same d u v (fresh, written, seen, share, own) = (
+  fresh,
+  ap (λ (l : List Entry). d.written ++ l) written,
+  ap (λ (l : List Seen). d.seen ++ l) seen,
+  share,
+  own,
+)
+
+pub last_same : (h : ℕ) (a : ReadAnswer) (u v : View) (d : Part) → HasSame u v
+    → FindsAtLast h a v d → FindsAtLast h a u d
+last_same h a u v d same x = record {
+  before = x.before;
+  last = x.last;
+  lost = x.lost;
+  finds = finds_same h a (grown x.before u) (grown x.before v) x.last
+      (grown_same x.before u v same) x.finds;
+  part = x.part;
+}
+
+-- ---- looks, and then more of them
+pub no_looks : (h : ℕ) → AreLooksAt h nothing_more
+no_looks h = record { looks = []; on = tt; part = refl }
+
+one_look : (h word : ℕ) (d : Part) → d ≡ looked h word → AreLooksAt h d
+one_look h word d is = record { looks = look_at h word ∷ []; on = (refl, tt); part = is }
+
+pub more_looks : (h : ℕ) (d e : Part) → AreLooksAt h d → AreLooksAt h e → AreLooksAt h (sum d e)
+more_looks h d e x y = record {
+  looks = y.looks ++ x.looks;
+  on = each_both (λ (l : Look). l.handle ≡ h) y.looks x.looks y.on x.on;
+  part = λ i. sum (x.part i) (y.part i);
+}
+
+tried_again : (h : ℕ) (a : ReadAnswer) (v : View) (d : Part) → ReadFinds h a v d
+    → IsTriedAgain (Ok a) → AreLooksAt h d
+tried_again h (found.Bytes version bytes) v d x again = absurd again
+tried_again h found.Freed v d x again = absurd again
+tried_again h found.NotHere v d (word, far, is) again = one_look h word d is
+tried_again h found.Moving v d x again = absurd again
+tried_again h found.Crowded v d x again = absurd again
+tried_again h (found.Raced saw other) v d x again = record {
+  looks = look_at h other ∷ look_at h saw ∷ [];
+  on = (refl, (refl, tt));
+  part = x.1;
+}
+
+pub here_look : (h word : ℕ) → AreLooksAt h (looked h word)
+here_look h word = one_look h word (looked h word) refl
+
+pub found_last : (h : ℕ) (a : ReadAnswer) (v : View) (d e : Part) → AreLooksAt h d
+    → ReadFinds h a (grown d v) e → FindsAtLast h a v (sum d e)
+found_last h a v d e lost x =
+    record { before = d; last = e; lost = lost; finds = x; part = refl }
+
+tries_of : (h : ℕ) (a : ReadAnswer) (reply : Result Reply NoMemory) (v : View) (d : Part)
+    → IsReplyTo (Ok a) reply → FindsAtLast h a v d → Tries h reply v d
+tries_of h (found.Bytes version bytes) reply v d is x =
+    subst (λ (r : Result Reply NoMemory). Tries h r v d) (sym is) x
+tries_of h found.Freed reply v d is x =
+    subst (λ (r : Result Reply NoMemory). Tries h r v d) (sym is) x
+tries_of h found.NotHere reply v d is x = absurd is
+tries_of h found.Moving reply v d is x =
+    subst (λ (r : Result Reply NoMemory). Tries h r v d) (sym is) x
+tries_of h found.Crowded reply v d is x =
+    subst (λ (r : Result Reply NoMemory). Tries h r v d) (sym is) x
+tries_of h (found.Raced saw other) reply v d is x = absurd is
+
+-- ---- the seat after looks
+pub looks_known : (h k : ℕ) (d : Part) (v : View) → AreLooksAt h d → Knows k v
+    → Knows k (grown d v)
+looks_known h k d v x knows = subst (λ (e : Part). Knows k (grown e v)) (sym x.part) knows
+
+pub grown_moves : (p q r : Place) (d e : Part) → Moves p q (grown d p.me.0)
+    → Moves q r (grown e q.me.0) → Moves p r (grown (sum d e) p.me.0)
+grown_moves p q r d e m n = (
+  n.0 ∙ m.0,
+  n.1 ∙ m.1,
+  n.2 ∙ ap (λ (s : Sat). let z : Sat = (grown e s.0, s.1) in z) m.2
+      ∙ ap (λ (x : View). let z : Sat = (x, p.me.1) in z) (grown_sum d e p.me.0),
+)
+
+pub not_moved : (p : Place) → Moves p p (grown nothing_more p.me.0)
+not_moved p = (
+  refl,
+  refl,
+  ap (λ (x : View). let z : Sat = (x, p.me.1) in z) (grown_nothing p.me.0),
+)
+
+-- a seat that grew is of the table as before
+pub of_grown : (z : TableId) (k : Setup) (c : Config) (p q : Place) (d : Part) → IsOf z k c p
+    → Moves p q (grown d p.me.0) → IsOf z k c q
+of_grown z k c p q d of m = let v = ap (λ (s : Sat). s.0) m.2 in
+    of_moved z k c p q of m.0 (ap (λ (x : View). x.config) v) (ap (λ (x : View). x.share) v)
+
+-- a look found the object freed
+pub look_found : (c : Config) (h : ℕ) (p q r : Place) (d : Part) → h < c.handles → AreLooksAt h d → Moves p q (grown d p.me.0)
+    → ReadMoves h found.Freed q r → LooksFor c h p r
+look_found c h p q r d l lost m (e, n, finds) =
+    let at : q.me.0 ≡ grown d p.me.0 = ap (λ (s : Sat). s.0) m.2 in
+    let last = found_last h found.Freed p.me.0 d e lost
+    (subst (λ (v : View). ReadFinds h found.Freed v e) at finds) in (
+      sum d e,
+      grown_moves p q r d e m n,
+      last_quiet h found.Freed p.me.0 (sum d e) last,
+      last_below c h found.Freed p.me.0 (sum d e) l last,
+      last,
+    )
+
+-- a try that came to nothing, and one that is answered
+pub try_lost : (h : ℕ) (a : Result ReadAnswer NoMemory) (p q r : Place) (d : Part) → AreLooksAt h d
+    → Moves p q (grown d p.me.0) → IfOk a (λ x. ReadMoves h x q r) → IsTriedAgain a
+    → (e : Part) × AreLooksAt h e × Moves p r (grown e p.me.0)
+try_lost h (Ok a) p q r d lost m (e, n, finds) again = (
+  sum d e,
+  more_looks h d e lost (tried_again h a q.me.0 e finds again),
+  grown_moves p q r d e m n,
+)
+try_lost h (Err e) p q r d lost m read again = absurd again
+
+try_done : (c : Config) (h : ℕ) (a : ReadAnswer) (reply : Result Reply NoMemory) (p q r : Place)
+    (d : Part) → h < c.handles → AreLooksAt h d → Moves p q (grown d p.me.0) → ReadMoves h a q r → IsReplyTo (Ok a) reply
+    → TriesOn c h reply p r
+try_done c h a reply p q r d l lost m (e, n, finds) is =
+    let at : q.me.0 ≡ grown d p.me.0 = ap (λ (s : Sat). s.0) m.2 in
+    let last = found_last h a p.me.0 d e lost (subst (λ (v : View). ReadFinds h a v e) at finds) in (
+      sum d e,
+      grown_moves p q r d e m n,
+      last_quiet h a p.me.0 (sum d e) last,
+      last_below c h a p.me.0 (sum d e) l last,
+      λ u same. tries_of h a reply u (sum d e) is (last_same h a u p.me.0 (sum d e) same last),
+    )
+
+pub try_ends : (c : Config) (h : ℕ) (a : Result ReadAnswer NoMemory) (reply : Result Reply NoMemory)
+    (p q r : Place) (d : Part) → h < c.handles → AreLooksAt h d → Moves p q (grown d p.me.0)
+    → IfOk a (λ x. ReadMoves h x q r)
+    → OnErr a ((word : ℕ) × (state_of word ≡ state.Here) × Moves q r (grown (looked h word) q.me.0))
+    → IsReplyTo a reply → TriesOn c h reply p r
+try_ends c h (Ok a) reply p q r d l lost m read err is = try_done c h a reply p q r d l lost m read is
+try_ends c h (Err e) reply p q r d l lost m read (word, here, n) is =
+    let more = more_looks h d (looked h word) lost (here_look h word) in
+    subst (λ (x : Result Reply NoMemory). TriesOn c h x p r) (sym is) (
+      sum d (looked h word),
+      grown_moves p q r d (looked h word) m n,
+      looks_quiet h (sum d (looked h word)) more,
+      looks_below c h (sum d (looked h word)) more,
+      λ u same. more,
+    )
+
+-- the seat knows what it knew
+pub looks_know : (h : ℕ) (p q : Place) (d : Part) → AreLooksAt h d → Moves p q (grown d p.me.0)
+    → Knows h p.me.0 → Knows h q.me.0
+looks_know h p q d lost m knows = subst (Knows h) (sym (ap (λ (s : Sat). s.0) m.2))
+    (looks_known h h d p.me.0 lost knows)
+
+pub looks_few : (h : ℕ) (p q : Place) (d : Part) → Moves p q (grown d p.me.0)
+    → length p.me.0.pins ≤ 16 → length q.me.0.pins ≤ 16
+looks_few h p q d m few = subst (λ (v : View). length v.pins ≤ 16)
+    (sym (ap (λ (s : Sat). s.0) m.2)) few

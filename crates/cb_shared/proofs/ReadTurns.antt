@@ -1,0 +1,321 @@
+-- A turn of the job Read, in its two parts.
+use Rattle.std.proofs.Common.{◌≡◌, ℕ, zero, suc, ◌≤◌, length, List, [], ◌∷◌, ◌++◌, Option, None, Some, Result, Ok, Err, sym, refl, ap, ◌∙◌, subst, arith, inl, inr}
+use Rattle.std.specs.Prelude.{IfOk}
+use Rattle.cb_member.specs.declared.no_memory.NoMemory.{NoMemory}
+use Rattle.cb_ptr.specs.declared.word.State.{State}
+use Rattle.cb_ptr.specs.declared.word.State.TheVariants as state
+use Rattle.cb_ptr.specs.Word.{state_of}
+use Rattle.cb_types.specs.declared.config.Config.{Config}
+use Rattle.cb_types.specs.declared.handle.Handle.{Handle}
+use Rattle.cb_types.specs.declared.job.Job.{Job}
+use Rattle.cb_types.specs.declared.job.Job.TheVariants.{Read}
+use Rattle.cb_types.specs.declared.reply.Reply.{Reply}
+use Rattle.cb_types.specs.declared.reply.Reply.TheVariants as answer
+use Rattle.cb_world.specs.declared.entry.Entry.{Entry}
+use Rattle.cb_world.specs.declared.event.Event.{Event}
+use Rattle.cb_world.specs.declared.shown.Shown.{Shown}
+use Rattle.cb_world.specs.FarState.{FarState}
+use Rattle.cb_world.specs.Played.{Agree, played}
+use Rattle.cb_mutate.specs.Answered.{AbsentAs, AnsweredAs}
+use Rattle.cb_swapin.proofs.Laws.{by_answer}
+use Rattle.cb_core.specs.OnceHere.{IsThere}
+use Rattle.cb_core.specs.Unavailable.{TurnTells}
+use Rattle.cb_core.proofs.Laws.{IsNever, brought_tells, there_tells}
+use Rattle.cb_core.specs.OnceHere.OnceHere.{away, here}
+use Rattle.cb_core.specs.OnceHere.OnceHereStops.{bringing_stops, call_stops}
+use Rattle.cb_core.specs.Parts.{Holding, WithRoom}
+use Rattle.cb_core.specs.Parts.WithRoom.{at_once, no_room, won}
+use Rattle.cb_core.specs.Parts.BringsIn.{not_far, was_far}
+use Rattle.cb_core.specs.ReadTurn.{BroughtToRead, StoppedToRead}
+use Rattle.cb_core.specs.ReadTurn.BroughtToRead.{worn as first_worn, done as first_done}
+use Rattle.cb_core.specs.Turned.{Brings, ComesIn, Swaps, done, worn}
+use Rattle.cb_core.specs.TurnLeaves.{OutcomeWrites}
+use Rattle.cb_rule.specs.declared.view.View.{View}
+use Rattle.cb_rule.specs.Locking.{Stood}
+use Rattle.cb_rule.specs.Slot.{Sat}
+use Rattle.cb_rule.specs.Steps.{Knows, acted}
+use Rattle.cb_shared.specs.Parts.{Part, grown, nothing_more, sum}
+use Rattle.cb_shared.specs.Places.{Moves, Place}
+use Rattle.cb_shared.specs.SeatLaws.{Runs, acted_known}
+use Rattle.cb_shared.specs.Turning.{DidAs, IsReadReply, JobReads, Slate, TellsNoPin, Tries, answer_of, held_by, slate_run, slate_shows}
+use Rattle.cb_shared.specs.UnderLock.{BringAt, Brought, CameThere, HasSame, IsNoRead, TriesOn, TurnAt, WorkBy}
+use Rattle.cb_shared.proofs.AfterTurn.{acted_is, after_events, after_runs}
+use Rattle.cb_shared.proofs.ReadParts.{grown_nothing}
+
+-- ---- the first part tells neither of bytes nor of many pins
+absent_plain : (r : Reply) (q : State) (w h : ℕ) (es : List Event)
+    → AnsweredAs q (λ v. r ≡ answer.Stays) w h es r → TellsNoPin (Ok r)
+absent_plain r state.Empty w h es (zero, told, is) = subst (λ (x : Reply). TellsNoPin (Ok x)) (sym is) tt
+absent_plain r state.Empty w h es (suc v, told, is) =
+    subst (λ (x : Reply). TellsNoPin (Ok x)) (sym is) tt
+absent_plain r state.Far w h es is = subst (λ (x : Reply). TellsNoPin (Ok x)) (sym is) tt
+absent_plain r state.Here w h es is = subst (λ (x : Reply). TellsNoPin (Ok x)) (sym is) tt
+absent_plain r state.Moving w h es is = subst (λ (x : Reply). TellsNoPin (Ok x)) (sym is) tt
+
+swap_plain : (h : ℕ) (a b : Holding Slate) (r : Reply) → Swaps slate_run slate_shows h a r b
+    → TellsNoPin (Ok r)
+swap_plain h a b r (home, at, x) = let z = x.rule in
+    subst (λ (q : Reply). TellsNoPin (Ok q)) (sym z.reply) (by_answer (λ (q : Reply). TellsNoPin (Ok q))
+    a.far home.set z.set (λ broken. tt) (λ fine free. tt) (λ f fine free. tt))
+
+bring_plain : (c : Config) (h : ℕ) (a b : Holding Slate) (r : Reply)
+    → Brings slate_run slate_shows c h a r b → TellsNoPin (Ok r)
+bring_plain c h a b r (at_once x off) = swap_plain h a b r x
+bring_plain c h a b r (no_room m why loose nodes x e is) =
+    subst (λ (q : Reply). TellsNoPin (Ok q)) (sym is) tt
+bring_plain c h a b r (won m n id x e again off) = swap_plain h n b r again
+
+come_plain : (c : Config) (h : ℕ) (a b : Holding Slate) (r : Reply)
+    → ComesIn slate_run slate_shows c h a r b → TellsNoPin (Ok r)
+come_plain c h a b r (not_far x off) = let z = x.rule.1 in
+    absent_plain r (state_of z.word) z.word h x.events z.answer
+come_plain c h a b r (was_far m x bring) = bring_plain c h m b r bring
+
+first_plain : (c : Config) (handle : Handle) (a b : Holding Slate) (r : Reply)
+    → BroughtToRead slate_run slate_shows c handle a r b → TellsNoPin (Ok r)
+first_plain c handle a b r (first_worn end is same ran) =
+    subst (λ (q : Reply). TellsNoPin (Ok q)) (sym is) tt
+first_plain c handle a b r (first_done few come) = come_plain c handle.n _ b r come
+
+-- ---- what the turn did
+no_worn_there : (r : Reply) → r ≡ answer.Worn → IsThere r → ⊥
+no_worn_there r is (inl stays) = worn_stays (sym is ∙ stays)
+  where
+    worn_stays : answer.Worn ≡ answer.Stays → ⊥
+    worn_stays e = cc
+no_worn_there r is (inr swapped) = worn_swapped swapped.0 (sym is ∙ swapped.1)
+  where
+    worn_swapped : (f : ℕ) → answer.Worn ≡ answer.Swapped f → ⊥
+    worn_swapped f e = cc
+
+-- the object stays away
+did_away : (c : Config) (handle : Handle) (r : Reply) (start : Shown) (es : List Event)
+    (took gave : FarState) → Brought c handle (Ok r) start es took gave → (IsThere r → ⊥)
+    → DidAs c (Read handle) (Some r) start es took gave
+did_away c handle r start es took gave (first_worn end is same ran) off = worn end is same ran
+did_away c handle r start es took gave (first_done few come) off = done few (away come off)
+
+did_stop : (c : Config) (handle : Handle) (e : NoMemory) (start : Shown) (es : List Event)
+    (took gave : FarState) → Brought c handle (Err e) start es took gave
+    → DidAs c (Read handle) None start es took gave
+did_stop c handle e start es took gave x = record { few = x.few; stops = bringing_stops x.stops }
+
+tries_reply : (h : ℕ) (r : Reply) (v : View) (d : Part) → Tries h (Ok r) v d → IsReadReply r
+tries_reply h (answer.Bytes version bytes) v d x = tt
+tries_reply h answer.Freed v d x = tt
+tries_reply h answer.Moving v d x = tt
+tries_reply h answer.Crowded v d x = tt
+tries_reply h other v d x = absurd x
+
+-- it is here, and is read
+did_read : (c : Config) (handle : Handle) (place : Reply) (r : Result Reply NoMemory) (v : View)
+    (d : Part) (start : Shown) (es : List Event) (took gave : FarState)
+    → Brought c handle (Ok place) start es took gave → IsThere place → Tries handle.n r v d
+    → DidAs c (Read handle) (answer_of r) start es took gave
+did_read c handle place r v d start es took gave (first_worn end is same ran) there x =
+    absurd (no_worn_there place is there)
+did_read c handle place (Ok r) v d start es took gave (first_done few come) there x =
+    done few (here _ place come there (refl, tries_reply handle.n r v d x))
+did_read c handle place (Err e) v d start es took gave (first_done few come) there x =
+    record { few = few; stops = call_stops _ place come there refl }
+
+-- ---- the work of such a turn
+module _ (c : Config) (handle : Handle) (took gave : FarState) (p m : Place) (place : Reply)
+    (b : BringAt c handle (Ok place) took gave p m) where
+  came : m.me.0 ≡ acted b.events p.me.0
+  came = ap (λ (s : Sat). s.0) b.runs.0.2
+
+  fresh_acted : (acted b.events p.me.0).fresh ≡ []
+  fresh_acted = ap (λ (x : View). x.fresh) (sym came) ∙ b.fresh
+
+  stood_acted : Stood c (played b.events p.me.0.known) gave
+  stood_acted = subst (λ (s : Shown). Stood c s gave)
+      (ap (λ (x : View). x.known) came ∙ acted_known b.events p.me.0) b.stood
+
+  work_off : (IsThere place → ⊥) → WorkBy c (Read handle) (Ok place) took gave p m
+  work_off off = record {
+    events = b.events;
+    more = [];
+    within = nothing_more;
+    agree = b.runs.1;
+    moves = (
+      b.runs.0.0,
+      b.runs.0.1,
+      b.runs.0.2 ∙ ap (λ (x : View). let z : Sat = (x, p.me.1) in z)
+          (grown_nothing (acted b.events p.me.0)),
+    );
+    quiet = (refl, refl);
+    range = tt;
+    reads = λ u same. inl (refl, first_plain c handle _ _ place b.brought);
+    did = did_away c handle place p.me.0.known b.events took gave b.brought off;
+    next = b.next;
+    wrote = refl;
+    fresh = fresh_acted;
+    stood = stood_acted;
+  }
+
+  -- the seat has what it had when the turn began
+  same_come : p.me.0.fresh ≡ [] → HasSame p.me.0 m.me.0
+  same_come none = let e = came ∙ acted_is b.events p.me.0 in (
+    none ∙ sym b.fresh,
+    sym (ap (λ (x : View). x.written) e),
+    sym (ap (λ (x : View). x.seen) e),
+    sym (ap (λ (x : View). x.share) e),
+    sym (ap (λ (x : View). x.own) e),
+  )
+
+  work_here : (q : Place) (r : Result Reply NoMemory) → p.me.0.fresh ≡ [] → IsThere place
+      → TriesOn c handle.n r m q → WorkBy c (Read handle) r took gave p q
+  work_here q r none there (d, moves, quiet, range, tries) =
+      let s = same_come none in record {
+        events = b.events;
+        more = [];
+        within = d;
+        agree = b.runs.1;
+        moves = (
+          moves.0 ∙ b.runs.0.0,
+          moves.1 ∙ b.runs.0.1,
+          moves.2 ∙ ap (λ (x : Sat). let z : Sat = (grown d x.0, x.1) in z) b.runs.0.2,
+        );
+        quiet = quiet;
+        range = range;
+        reads = λ u same. inr (tries u (
+          same.0 ∙ s.0,
+          same.1 ∙ s.1,
+          same.2 ∙ s.2,
+          same.3 ∙ s.3,
+          same.4 ∙ s.4,
+        ));
+        did = did_read c handle place r m.me.0 d p.me.0.known b.events took gave b.brought there
+            (tries m.me.0 (refl, refl, refl, refl, refl));
+        next = b.next;
+        wrote = wrote_none r;
+        fresh = fresh_acted;
+        stood = stood_acted;
+      }
+    where
+      wrote_none : (r : Result Reply NoMemory) → OutcomeWrites (Read handle) r []
+      wrote_none (Ok reply) = refl
+      wrote_none (Err e) = refl
+
+-- where there was no memory to bring it in
+work_stopped : (c : Config) (handle : Handle) (e : NoMemory) (took gave : FarState) (p m : Place)
+    → BringAt c handle (Err e) took gave p m → WorkBy c (Read handle) (Err e) took gave p m
+work_stopped c handle e took gave p m b =
+    let came : m.me.0 ≡ acted b.events p.me.0 = ap (λ (s : Sat). s.0) b.runs.0.2 in record {
+      events = b.events;
+      more = [];
+      within = nothing_more;
+      agree = b.runs.1;
+      moves = (
+        b.runs.0.0,
+        b.runs.0.1,
+        b.runs.0.2 ∙ ap (λ (x : View). let z : Sat = (x, p.me.1) in z)
+            (grown_nothing (acted b.events p.me.0)),
+      );
+      quiet = (refl, refl);
+      range = tt;
+      reads = λ u same. inl (refl, tt);
+      did = did_stop c handle e p.me.0.known b.events took gave b.brought;
+      next = b.next;
+      wrote = refl;
+      fresh = ap (λ (x : View). x.fresh) (sym came) ∙ b.fresh;
+      stood = subst (λ (s : Shown). Stood c s gave)
+          (ap (λ (x : View). x.known) came ∙ acted_known b.events p.me.0) b.stood;
+    }
+
+-- by the answer of the first part
+pub work_away : (c : Config) (handle : Handle) (r : Result Reply NoMemory) (took gave : FarState)
+    (p m : Place) → BringAt c handle r took gave p m → (CameThere r → ⊥)
+    → WorkBy c (Read handle) r took gave p m
+work_away c handle (Ok place) took gave p m b off = work_off c handle took gave p m place b off
+work_away c handle (Err e) took gave p m b off = work_stopped c handle e took gave p m b
+
+pub work_read : (c : Config) (handle : Handle) (place r : Result Reply NoMemory)
+    (took gave : FarState) (p m q : Place) → BringAt c handle place took gave p m
+    → p.me.0.fresh ≡ [] → CameThere place → TriesOn c handle.n r m q
+    → WorkBy c (Read handle) r took gave p q
+work_read c handle (Ok place) r took gave p m q b none there tries =
+    work_here c handle took gave p m place b q r none there tries
+work_read c handle (Err e) r took gave p m q b none there tries = absurd there
+
+-- ---- what it tells
+slate_follows : (d e : Slate) (es : List Event) (s : Shown) → slate_run d es e → slate_shows d s
+    → Agree s es × slate_shows e (played es s)
+slate_follows d e es s run shown = (
+  subst (λ (t : Shown). Agree t es) (sym shown) run.1,
+  ap (played es) shown ∙ sym (ap (λ (x : Slate). x.known) run.0),
+)
+
+pub tells_away : (c : Config) (handle : Handle) (r : Result Reply NoMemory) (took gave : FarState)
+    (p m : Place) → BringAt c handle r took gave p m → Stood c p.me.0.known took
+    → IfOk r (λ reply. TurnTells (Read handle) took reply)
+tells_away c handle (Ok r) took gave p m b stood = brought_tells slate_run slate_shows slate_follows c
+    handle _ _ r (p.me.0.known, refl, stood.sound) b.brought
+tells_away c handle (Err e) took gave p m b stood = tt
+
+read_tells_none : (r : Reply) → IsReadReply r → IsNever r
+read_tells_none r is id losses e = subst IsReadReply e is
+
+pub tells_read : (c : Config) (handle : Handle) (place r : Result Reply NoMemory)
+    (took gave : FarState) (p m q : Place) → BringAt c handle place took gave p m
+    → Stood c p.me.0.known took → CameThere place → TriesOn c handle.n r m q
+    → IfOk r (λ reply. TurnTells (Read handle) took reply)
+tells_read c handle (Ok place) (Ok r) took gave p m q b stood there (d, moves, quiet, range, tries) =
+    there_tells slate_run slate_shows slate_follows c handle _ _ place r
+    (p.me.0.known, refl, stood.sound) b.brought there (read_tells_none r
+    (tries_reply handle.n r m.me.0 d (tries m.me.0 (refl, refl, refl, refl, refl))))
+tells_read c handle (Ok place) (Err e) took gave p m q b stood there tries = tt
+tells_read c handle (Err e) (Ok r) took gave p m q b stood there tries = absurd there
+tells_read c handle (Err e) (Err f) took gave p m q b stood there tries = tt
+
+pub no_frame_read : (c : Config) (h : ℕ) (r : Result Reply NoMemory) (m q : Place) → TriesOn c h r m q
+    → IfOk r (λ reply. reply ≡ answer.NoFrame → ⊥)
+no_frame_read c h (Ok r) m q (d, moves, quiet, range, tries) = λ e. subst IsReadReply e
+    (tries_reply h r m.me.0 d (tries m.me.0 (refl, refl, refl, refl, refl)))
+no_frame_read c h (Err e) m q tries = tt
+
+-- the seat knows and pins what it did
+pub knows_come : (h : ℕ) (p m : Place) (es : List Event) → Runs p es m → p.me.0.fresh ≡ []
+    → m.me.0.fresh ≡ [] → Knows h p.me.0 → Knows h m.me.0
+knows_come h p m es runs none after knows =
+    let e : m.me.0 ≡ after_events es p.me.0 = after_runs p m es runs in
+    subst (Knows h) (sym e) (subst (λ (l : List Entry). Knows h (record (after_events es p.me.0) {
+      fresh = l;
+    })) (none ∙ sym (sym (ap (λ (v : View). v.fresh) e) ∙ after)) knows)
+
+pub few_come : (p m : Place) (es : List Event) → Runs p es m → length p.me.0.pins ≤ 16
+    → length m.me.0.pins ≤ 16
+few_come p m es runs few = subst (λ (v : View). length v.pins ≤ 16)
+    (sym (after_runs p m es runs)) few
+
+-- ---- any other job
+pub work_done : (c : Config) (job : Job) (r : Result Reply NoMemory) (took gave : FarState)
+    (p q : Place) → IsNoRead job → TurnAt c job r took gave p q → WorkBy c job r took gave p q
+work_done c job r took gave p q other t =
+    let came : q.me.0 ≡ acted t.events p.me.0 = ap (λ (s : Sat). s.0) t.runs.0.2 in record {
+      events = t.events;
+      more = t.more;
+      within = nothing_more;
+      agree = t.runs.1;
+      moves = (
+        t.runs.0.0,
+        t.runs.0.1,
+        t.runs.0.2 ∙ ap (λ (x : View). let z : Sat = (x, p.me.1) in z)
+            (grown_nothing (acted t.events p.me.0)),
+      );
+      quiet = (refl, refl);
+      range = tt;
+      reads = λ u same. reads_none job other r u;
+      did = t.did;
+      next = t.next;
+      wrote = t.wrote;
+      fresh = ap (λ (x : View). x.fresh) (sym came) ∙ t.fresh;
+      stood = subst (λ (s : Shown). Stood c s gave)
+          (ap (λ (x : View). x.known) came ∙ acted_known t.events p.me.0) t.stood;
+    }
+  where
+    reads_none : (job : Job) → IsNoRead job → (r : Result Reply NoMemory) (u : View)
+        → JobReads job r u nothing_more
+    reads_none (Read handle) never r u = absurd never
+    reads_none job never r u = refl

@@ -1,0 +1,191 @@
+-- Worked turns: what meets each definition, and what breaks one of its parts alone.
+use Rattle.std.proofs.Common.{◌≡◌, ℕ, ◌+◌, ◌^◌, ◌<◌, List, [], ◌∷◌, ◌++◌, length, replicate, Option, None, Some, Result, Ok, Err, refl, sym, ap, ◌∙◌, inl, inr, lit<, lit≤, arith, true≢false}
+use Rattle.std.proofs.lemmas.Bool.{eqb-false}
+use Rattle.cb_types.specs.declared.config.Config.{Config}
+use Rattle.cb_types.specs.declared.handle.Handle.{Handle}
+use Rattle.cb_types.specs.declared.job.Job.{Job}
+use Rattle.cb_types.specs.declared.job.Job.TheVariants as job
+use Rattle.cb_types.specs.declared.reply.Reply.{Reply}
+use Rattle.cb_types.specs.declared.reply.Reply.TheVariants as answer
+use Rattle.cb_types.specs.Jobs.{job_index}
+use Rattle.cb_world.specs.declared.event.Event.{Event}
+use Rattle.cb_world.specs.declared.event.Event.TheVariants.{Looked}
+use Rattle.cb_world.specs.Empty.{empty_far, empty_shown}
+use Rattle.cb_world.specs.FarState.{FarState}
+use Rattle.cb_core.specs.Turned.{done, worn}
+use Rattle.cb_rule.specs.declared.turn.Turn.{Turn}
+use Rattle.cb_rule.specs.declared.view.Look.{Look}
+use Rattle.cb_rule.specs.declared.view.View.{View}
+use Rattle.cb_rule.specs.Steps.{look_at}
+use Rattle.cb_shared.specs.declared.reading.ReadAnswer.TheVariants as found
+use Rattle.cb_shared.specs.Parts.{Part, grown, nothing_more, sum}
+use Rattle.cb_shared.specs.Turning.{AreLooksAt, Did, KnowsOf, ReadsByPin, Slate, TellsNoPin, TurnAdds, TurnBy, answer_of, freed_of, held_by, made_by, object_of, slate_run, turn_part, with_own}
+use Rattle.cb_shared.proofs.WorkedGround.{part, two}
+
+abbrev one : Handle
+one = record { n = 1 }
+
+abbrev none : Handle
+none = record { n = 0 }
+
+-- ---- a desk of plain data
+abbrev begun : Slate
+begun = record { known = empty_shown 3 two; acts = [] }
+
+runs_nothing : slate_run begun [] begun
+runs_nothing = (refl, tt)
+
+-- an event that is not noted
+notes_nothing : slate_run begun (Looked 0 0 ∷ []) begun → ⊥
+notes_nothing r = eqb-false 0 1 refl (ap (λ (s : Slate). length s.acts) r.0)
+
+-- ---- a read under a pin does nothing at the desk
+reads_bytes : ReadsByPin 1 (held_by (empty_shown 3 two) [] (empty_far 3 two))
+    (answer.Bytes 3 (10 ∷ 11 ∷ [])) (held_by (empty_shown 3 two) [] (empty_far 3 two))
+reads_bytes = (refl, tt)
+
+reads_and_works : ReadsByPin 1 (held_by (empty_shown 3 two) [] (empty_far 3 two)) answer.Moving
+    (held_by (empty_shown 3 two) [] (empty_far 4 two)) → ⊥
+reads_and_works r = eqb-false 4 3 refl (ap (λ h. h.far.first) r.0)
+
+reads_done : ReadsByPin 1 (held_by (empty_shown 3 two) [] (empty_far 3 two)) answer.Done
+    (held_by (empty_shown 3 two) [] (empty_far 3 two)) → ⊥
+reads_done r = r.1
+
+-- ---- a turn that was refused for its number
+abbrev full : FarState
+full = record (empty_far 3 two) {
+  counts = record { turns = 2 ^ 40; by_job = replicate 19 0; sets = 0; keys = 0 };
+}
+
+abbrev refused : Turn
+refused = record {
+  job = job.Evict;
+  reply = Some answer.Worn;
+  start = empty_shown 3 two;
+  since = 4;
+  until = 4;
+  acts = [];
+  took = full;
+  gave = full;
+}
+
+refused_did : Did two refused
+refused_did = worn refl refl refl (refl, tt)
+
+-- ---- its object, its handle and its reply
+reads_one : object_of (job.Read one) ≡ Some 1
+reads_one = refl
+
+swaps_none : object_of (job.Swap one) ≡ None
+swaps_none = refl
+
+knows_one : KnowsOf (job.Write one 0 []) part
+knows_one = inl (_, inl refl, refl)
+
+knows_not : KnowsOf (job.Free none) part → ⊥
+knows_not (inl (e, inl is, at)) = eqb-false 1 0 refl (ap (λ x. x.handle) is ∙ at)
+knows_not (inl (e, inr has, at)) = has
+knows_not (inr (s, has, at)) = has
+
+evicts_any : KnowsOf job.Evict part
+evicts_any = tt
+
+made_one : made_by (job.Make (10 ∷ [])) (Some (answer.Made one 3)) ≡ 1 ∷ []
+made_one = refl
+
+made_none : made_by (job.Read one) (Some (answer.Made one 3)) ≡ []
+made_none = refl
+
+freed_one : freed_of (job.Free one) (Ok answer.Freed) ≡ Some 1
+freed_one = refl
+
+freed_none : freed_of (job.Free one) (Ok (answer.Version 4)) ≡ None
+freed_none = refl
+
+-- ---- looks at an object
+two_looks : AreLooksAt 1 record nothing_more { looks = look_at 1 2 ∷ look_at 1 6 ∷ [] }
+two_looks = record { looks = look_at 1 2 ∷ look_at 1 6 ∷ []; on = (refl, (refl, tt)); part = refl }
+
+another_look : AreLooksAt 1 record nothing_more { looks = look_at 0 2 ∷ [] } → ⊥
+another_look a = go a.looks a.on (ap (λ (d : Part). d.looks) a.part)
+  where
+    go : (ls : List Look) → Rattle.cb_rule.specs.Lists.Each (λ (l : Look). l.handle ≡ 1) ls
+        → look_at 0 2 ∷ [] ≡ ls → ⊥
+    go [] on is = eqb-false 1 0 refl (ap length is)
+    go (l ∷ ls) on is = eqb-false 0 1 refl (ap handle is ∙ on.0)
+      where
+        handle : List Look → ℕ
+        handle [] = 1
+        handle (x ∷ xs) = x.handle
+
+and_a_pin : AreLooksAt 1 record nothing_more { ever = 1 } → ⊥
+and_a_pin a = eqb-false 1 0 refl (ap (λ (d : Part). d.ever) a.part)
+
+-- ---- what tells of a pin
+bytes_tell : TellsNoPin (Ok (answer.Bytes 3 [])) → ⊥
+bytes_tell t = t
+
+many_tell : TellsNoPin (Ok answer.Crowded) → ⊥
+many_tell t = t
+
+moving_tells_none : TellsNoPin (Ok answer.Moving)
+moving_tells_none = tt
+
+-- ---- what a turn adds
+abbrev added : Part
+added = turn_part refused [] nothing_more nothing_more
+
+adds_refused : TurnAdds two job.Evict (Ok answer.Worn) part added
+adds_refused = record {
+  turn = refused;
+  more = [];
+  within = nothing_more;
+  later = nothing_more;
+  job_is = refl;
+  reply_is = refl;
+  agree = tt;
+  did = refused_did;
+  next = inr (refl, refl);
+  wrote = refl;
+  tells = record { only = λ id losses is. absurd (worn_lost is); each = λ h id losses asks few lost.
+      absurd (no_one asks); };
+  reads = refl;
+  finds = refl;
+  part = refl;
+}
+  where
+    worn_lost : {id : _} {losses : _} → answer.Worn ≡ answer.Unavailable id losses → ⊥
+    worn_lost e = cc
+    no_one : {h : ℕ} → None ≡ Some h → ⊥
+    no_one e = cc
+
+adds_by : TurnBy two job.Evict (Ok answer.Worn) part (grown added part)
+adds_by = (added, adds_refused, refl)
+
+-- of another job, or another reply
+adds_another_job : TurnAdds two job.Begin (Ok answer.Worn) part added → ⊥
+adds_another_job a = eqb-false 6 7 refl
+    (ap job_index (ap (λ (t : Turn). t.job) (first_turn a.turn (ap (λ (d : Part). d.turns) a.part)) ∙ a.job_is))
+  where
+    first : List Turn → Turn
+    first [] = refused
+    first (t ∷ ts) = t
+    first_turn : (t : Turn) → refused ∷ [] ≡ t ∷ [] → refused ≡ t
+    first_turn t e = ap first e
+
+-- two turns
+adds_two : TurnAdds two job.Evict (Ok answer.Worn) part (record added { turns = refused ∷ refused ∷ [] })
+    → ⊥
+adds_two a = eqb-false 2 1 refl (ap (λ (d : Part). length d.turns) a.part)
+
+-- a pin beside it
+adds_a_pin : TurnAdds two job.Evict (Ok answer.Worn) part (record added { ever = 1 }) → ⊥
+adds_a_pin a = eqb-false 1 0 refl (ap (λ (d : Part). d.ever) a.part
+    ∙ ap (λ (d : Part). d.ever + a.later.ever) a.reads
+    ∙ ap (λ (d : Part). 0 + d.ever) a.finds)
+
+-- another record than its part in front
+keeps_no_turn : TurnBy two job.Evict (Ok answer.Worn) part part → ⊥
+keeps_no_turn (d, a, is) = eqb-false 0 1 refl (ap (λ (v : View). length v.turns) is
+    ∙ ap (λ (e : Part). length (e.turns ++ [])) a.part)

@@ -1,0 +1,71 @@
+use Rattle.std.proofs.Common.{◌≡◌, ◌+◌, ◌*◌, ◌<◌, ◌≤◌, ◌∙◌, ℕ, List, length, refl, sym, ap, subst, arith}
+use Rattle.cb_world.specs.Memory.{words_for}
+use Rattle.cb_rule.specs.declared.view.Stand.{Stand}
+use Rattle.cb_rule.specs.declared.view.View.{View}
+use Rattle.cb_rule.specs.Lists.{Has}
+use Rattle.cb_rule.specs.Slot.{Sat}
+use Rattle.cb_shared.proofs.ReadBytes.{filled_all, filled_more}
+use Rattle.cb_shared.proofs.ReadSteps.{moves_then}
+use Rattle.cb_shared.proofs.WriteSteps.{of_moves}
+use Rattle.cb_shared.proofs.reading.load_into.Goals as goal
+
+pub loop-i-init : goal.loop-i-init
+loop-i-init c = (
+  c.requires.of,
+  (refl, refl, refl),
+  refl,
+  λ p u k low within. absurd (omega (arith, low)),
+)
+
+pub overflow_add-first : goal.overflow_add-first
+overflow_add-first c = omega (
+  arith,
+  c.loop-i-test.true,
+  c.div_ceil-i-end.ensures,
+  c.len.type_inv,
+  c.ranges.place.fits,
+)
+
+pub read_word-word-requires-clause-of : goal.read_word-word-requires-clause-of
+read_word-word-requires-clause-of c = c.loop-i.invariant.0
+
+pub read_word-word-requires-clause-place : goal.read_word-word-requires-clause-place
+read_word-word-requires-clause-place c = c.requires.inside c.loop-i.i
+    (omega (arith, c.loop-i-test.true, c.div_ceil-i-end.ensures, c.len.ensures))
+
+pub put_word-requires : goal.put_word-requires
+put_word-requires c =
+    omega (arith, c.loop-i-test.true, c.div_ceil-i-end.ensures, c.len.ensures, c.loop-i.invariant.2)
+
+pub loop-i-preserved : goal.loop-i-preserved
+loop-i-preserved c = let inv = c.loop-i.invariant in let i = c.loop-i.i in
+    let same = c.read_word-word.ensures.same in let put = c.put_word.ensures in (
+      of_moves c.args.top.now.table_id c.args.top.now.key c.args.config.now c.loop-i.seat
+          c.read_word-word.new.seat c.loop-i.seat.me.0 inv.0 same refl refl,
+      moves_then c.args.seat.now c.loop-i.seat c.read_word-word.new.seat (λ (x : View). x)
+          c.args.seat.now.me.0 inv.1 same,
+      put.sized ∙ inv.2,
+      λ p u.
+          let has : Has p c.loop-i.seat.me.0.pins =
+          subst (Has p) (sym (ap (λ (m : Sat). m.0.pins) inv.1.2)) u.0 in
+          let lt : i < words_for p.len = omega (
+            arith,
+            c.loop-i-test.true,
+            c.div_ceil-i-end.ensures,
+            c.len.ensures,
+            u.2,
+          ) in
+          filled_more p.words c.loop-i.room c.put_word.new.room i c.read_word-word.result
+              (c.read_word-word.ensures.word p i has lt (ap (λ (n : ℕ). n + i) (sym u.1)))
+              (record { inside = put.inside; outside = put.outside; sized = put.sized })
+              (inv.3 p u),
+    )
+
+pub returns-clause-same : goal.returns-clause-same
+returns-clause-same c = c.loop-i.invariant.1
+
+pub returns-clause-bytes : goal.returns-clause-bytes
+returns-clause-bytes c p u =
+    filled_all p.words c.loop-i.room (length c.args.room.now) c.loop-i.i c.loop-i.invariant.2
+    (omega (arith, c.loop-i-test.false, c.div_ceil-i-end.ensures, c.len.ensures))
+    (c.loop-i.invariant.3 p u)

@@ -1,0 +1,211 @@
+-- What the calls that try again until they are answered add to the record of their pass.
+use Rattle.std.specs.Prelude.{◌≡◌, ◌⊎◌, ℕ, ◌+◌, ◌*◌, ◌&&◌, ◌-◌, ◌^◌, Bool, true, false, ltb, leb, List, [], ◌∷◌, length, Option, None, Some, Result, Ok}
+use Rattle.cb_member.specs.declared.no_memory.NoMemory.{NoMemory}
+use Rattle.cb_types.specs.declared.config.Config.{Config}
+use Rattle.cb_types.specs.declared.handle.Handle.{Handle}
+use Rattle.cb_types.specs.declared.job.Job.{Job}
+use Rattle.cb_types.specs.declared.job.Job.TheVariants as jobs
+use Rattle.cb_types.specs.declared.reply.Reply.{Reply}
+use Rattle.cb_types.specs.declared.reply.Reply.TheVariants as answer
+use Rattle.cb_ptr.specs.declared.word.State.TheVariants as state
+use Rattle.cb_ptr.specs.Word.{state_of, len_of, pins_of}
+use Rattle.cb_world.specs.Write.{IsWrite}
+use Rattle.cb_world.specs.Written.{entry}
+use Rattle.cb_rule.specs.declared.turn.Turn.{Turn}
+use Rattle.cb_rule.specs.declared.view.Look.{Look}
+use Rattle.cb_rule.specs.declared.view.View.{View}
+use Rattle.cb_rule.specs.Lists.{Each}
+use Rattle.cb_rule.specs.Steps.{IsNewest, look_at}
+use Rattle.cb_shared.specs.declared.answers.WriteAnswer.{WriteAnswer}
+use Rattle.cb_shared.specs.declared.answers.WriteAnswer.TheVariants as place
+use Rattle.cb_shared.specs.Parts.{Part, Grows, grown, nothing_more, sum}
+use Rattle.cb_shared.specs.Reading.{FindsGone, FindsOther, FindsWord, IsReadHere, looked, looked_twice}
+use Rattle.cb_shared.specs.Turning.{TurnAdds, made_by, with_own}
+use Rattle.cb_shared.specs.Writing.{IsPastEnd, IsPinnedSo, IsRoomFor}
+
+-- Fewer spans than an eviction takes were loose, but with so many frames the next one may find
+-- enough: 20 passes with 16 pins, a read and a write each keep at most 360 spans from being loose,
+-- beside a batch that leaves and one that is to leave.
+abbrev pub may_come_loose : Config → ℕ → Bool
+may_come_loose c loose = ltb loose c.k && leb (2 * c.k + 360) c.frames
+
+-- a turn that was refused for want of loose spans, and that is made again
+abbrev pub is_to_try_again : Config → Option Reply → Bool
+is_to_try_again c (Some (answer.NoRoom frames loose nodes)) = may_come_loose c loose
+is_to_try_again c other = false
+
+-- whether the newest turn is such a one; None where there is no turn
+abbrev pub newest_tries : Config → List Turn → Option Bool
+newest_tries c [] = None
+newest_tries c (t ∷ ts) = Some (is_to_try_again c t.reply)
+
+-- why an object can't be brought in
+abbrev pub IsLack : Config → Reply → Type 0
+IsLack c (answer.Unavailable set lost) = Unit {0}
+IsLack c answer.Worn = Unit {0}
+IsLack c (answer.NoRoom frames loose nodes) = may_come_loose c loose ≡ false
+IsLack c other = ⊥
+
+-- what the reply of a make, a write or a free says of its object
+abbrev pub TellsOfIt : Reply → Type 0
+TellsOfIt (answer.Made handle version) = Unit {0}
+TellsOfIt (answer.Version version) = Unit {0}
+TellsOfIt (answer.Full handles) = Unit {0}
+TellsOfIt answer.Freed = Unit {0}
+TellsOfIt (answer.Range len) = Unit {0}
+TellsOfIt (answer.Pinned count) = Unit {0}
+TellsOfIt other = ⊥
+
+-- a turn so answered is not made again
+abbrev pub IsAnswer : Config → Reply → Type 0
+IsAnswer c r = TellsOfIt r ⊎ IsLack c r
+
+-- nor is one of this job; a swap tells nothing of its object
+abbrev pub IsAnswerTo : Config → Job → Reply → Type 0
+IsAnswerTo c (jobs.Swap handle) r = IsLack c r
+IsAnswerTo c other r = IsAnswer c r
+
+-- the jobs that the calls make turns of
+abbrev pub IsCalled : Job → Type 0
+IsCalled (jobs.Make bytes) = Unit {0}
+IsCalled (jobs.Write handle at bytes) = Unit {0}
+IsCalled (jobs.Free handle) = Unit {0}
+IsCalled (jobs.Swap handle) = Unit {0}
+IsCalled other = ⊥
+
+abbrev pub the_handle : ℕ → Handle
+the_handle h = record { n = h }
+
+-- Tries that came to nothing: looks at such objects and turns of this job, which wrote, read and
+-- pinned nothing.
+pub record IsInVain (on : ℕ → Type 0) (job : Job) (d : Part) : Type 0 where
+  pub looks : List Look
+  pub turns : List Turn
+  pub at : Each (λ (l : Look). on l.handle) looks
+  pub of : Each (λ (t : Turn). t.job ≡ job) turns
+  pub part : d ≡ record nothing_more { looks = looks; turns = turns }
+
+-- looks at this object, and at none
+abbrev pub AtThis : ℕ → ℕ → Type 0
+AtThis h k = k ≡ h
+
+abbrev pub AtNone : ℕ → Type 0
+AtNone h = ⊥
+
+-- there was no memory: the record grew by such tries alone
+abbrev pub Stops : (ℕ → Type 0) → Job → View → View → Type 0
+Stops on job v w = (d : Part) × IsInVain on job d × Grows v d w
+
+-- tries that came to nothing, and then one that ends so
+pub record EndsAtLast (on : ℕ → Type 0) (job : Job) (ends : View → Part → Type 0) (v : View)
+    (d : Part) : Type 0 where
+  pub before : Part
+  pub last : Part
+  pub in_vain : IsInVain on job before
+  pub ends_so : ends (grown before v) last
+  pub part : d ≡ sum before last
+
+-- a turn of the job that answers the call
+abbrev pub TurnEnds : Config → Job → Reply → View → Part → Type 0
+TurnEnds c job r v d = IsAnswerTo c job r × TurnAdds c job (Ok r) v d
+
+-- a look that found the object far, and then such a turn
+pub record AsksFor (c : Config) (job : Job) (r : Reply) (h : ℕ) (v : View) (d : Part) : Type 0 where
+  pub word : ℕ
+  pub later : Part
+  pub away : state_of word ≡ state.Far
+  pub turned : TurnEnds c job r (grown (looked h word) v) later
+  pub part : d ≡ sum (looked h word) later
+
+-- The last try of a read: under a pin of its own, or a look that finds the object freed, or a turn
+-- that can't bring it in.
+abbrev pub ReadEnds : Config → ℕ → Reply → View → Part → Type 0
+ReadEnds c h (answer.Bytes version bytes) v d = IsReadHere h version bytes v d
+ReadEnds c h answer.Freed v d = FindsGone h v d
+ReadEnds c h r v d = AsksFor c (jobs.Swap (the_handle h)) r h v d
+
+-- a look and an exchange that claimed the object at this word, and the entry that was written
+abbrev pub written_once : ℕ → ℕ → ℕ → List ℕ → List ℕ → Part
+written_once h word version old new = record nothing_more {
+  written = entry h version (len_of word) old new ∷ [];
+  looks = look_at h word ∷ look_at h word ∷ [];
+}
+
+-- the object was here and was written: one entry, one version above the newest one, whose contents
+-- are those before with the bytes in them
+pub record IsWrittenOnce (h at : ℕ) (bytes : List ℕ) (version : ℕ) (v : View) (d : Part) : Type 0
+    where
+  pub word : ℕ
+  pub old : List ℕ
+  pub new : List ℕ
+  pub last : ℕ
+  pub room : IsRoomFor at (length bytes) word
+  pub bare : pins_of word ≡ 0
+  pub newest : IsNewest h last v
+  pub next : version ≡ last + 1
+  pub write : IsWrite old at bytes new
+  pub part : d ≡ written_once h word version old new
+
+-- it was claimed at a version that has no next one, and put back as it was
+pub record IsWornOut (h at count : ℕ) (v : View) (d : Part) : Type 0 where
+  pub word : ℕ
+  pub room : IsRoomFor at count word
+  pub bare : pins_of word ≡ 0
+  pub newest : IsNewest h (2 ^ 64 - 1) v
+  pub part : d ≡ looked_twice h word word
+
+-- what a write in place adds, by its answer
+abbrev pub WriteFinds : ℕ → ℕ → List ℕ → WriteAnswer → View → Part → Type 0
+WriteFinds h at bytes (place.Ok version) v d = IsWrittenOnce h at bytes version v d
+WriteFinds h at bytes place.Freed v d = FindsGone h v d
+WriteFinds h at bytes place.NotHere v d = FindsWord h (λ word. state_of word ≡ state.Far) d
+WriteFinds h at bytes place.Moving v d = FindsWord h (λ word. state_of word ≡ state.Moving) d
+WriteFinds h at bytes (place.Range len) v d = FindsWord h (IsPastEnd at (length bytes) len) d
+WriteFinds h at bytes (place.Pinned count) v d =
+    FindsWord h (λ word. IsRoomFor at (length bytes) word × IsPinnedSo h count v word) d
+WriteFinds h at bytes place.Worn v d = IsWornOut h at (length bytes) v d
+WriteFinds h at bytes (place.Raced saw found) v d = FindsOther h saw found d
+
+-- the reply that says what a write in place was answered, where it is no reason to try again
+abbrev pub SaysAs : WriteAnswer → Reply → Type 0
+SaysAs (place.Ok version) r = r ≡ answer.Version version
+SaysAs place.Freed r = r ≡ answer.Freed
+SaysAs (place.Range len) r = r ≡ answer.Range len
+SaysAs (place.Pinned count) r = r ≡ answer.Pinned count
+SaysAs place.Worn r = r ≡ answer.Worn
+SaysAs other r = ⊥
+
+-- The last try of a write: in place, or by a turn where a look found the object far.
+abbrev pub WriteEnds : Config → ℕ → ℕ → List ℕ → Reply → View → Part → Type 0
+WriteEnds c h at bytes r v d =
+    ((a : WriteAnswer) × SaysAs a r × WriteFinds h at bytes a v d)
+    ⊎ AsksFor c (jobs.Write (the_handle h) at bytes) r h v d
+
+-- the record after a read, a write, and a make or a free by turns
+abbrev pub ReadGives : Config → ℕ → Reply → View → View → Type 0
+ReadGives c h r v w = (d : Part)
+    × EndsAtLast (AtThis h) (jobs.Swap (the_handle h)) (ReadEnds c h r) v d × Grows v d w
+
+abbrev pub WriteAnswers : Config → ℕ → ℕ → List ℕ → Reply → View → View → Type 0
+WriteAnswers c h at bytes r v w = (d : Part)
+    × EndsAtLast (AtThis h) (jobs.Write (the_handle h) at bytes) (WriteEnds c h at bytes r) v d
+    × Grows v d w
+
+-- a handle that was made is the pass's own
+abbrev pub TurnGives : Config → Job → Reply → View → View → Type 0
+TurnGives c job r v w = (d : Part)
+    × EndsAtLast AtNone job (TurnEnds c job r) v d × (w ≡ with_own (made_by job (Some r)) (grown d v))
+
+-- what one try comes to: it ends so, or came to nothing
+abbrev pub TurnTries : Config → Job → Option Reply → View → View → Type 0
+TurnTries c job (Some r) v w =
+    (d : Part) × TurnEnds c job r v d × (w ≡ with_own (made_by job (Some r)) (grown d v))
+TurnTries c job None v w = Stops AtNone job v w
+
+abbrev pub ReadTries : Config → ℕ → Option Reply → View → View → Type 0
+ReadTries c h (Some r) v w = (d : Part) × ReadEnds c h r v d × Grows v d w
+ReadTries c h None v w = Stops (AtThis h) (jobs.Swap (the_handle h)) v w
+
+abbrev pub WriteTries : Config → ℕ → ℕ → List ℕ → Option Reply → View → View → Type 0
+WriteTries c h at bytes (Some r) v w = (d : Part) × WriteEnds c h at bytes r v d × Grows v d w
+WriteTries c h at bytes None v w = Stops (AtThis h) (jobs.Write (the_handle h) at bytes) v w
