@@ -99,7 +99,9 @@ fn replies_of(alloc: Global, config: Config, events: &[Event]) -> Result<Replies
     ensures { IfOk result (λ replies. LeadFromEmpty config events.now replies) }
 {
     let mut world = World::new(alloc, config)?;
-    run(alloc, &mut world, events)
+    let replies = run(alloc, &mut world, events);
+    world.end();
+    replies
 }
 
 /// All events that stand at the front of the bytes, up to the first place where none stands that may

@@ -14,12 +14,12 @@ use Rattle.cb_world.specs.Written.{written_by}
 use Rattle.cb_world.proofs.Laws.{played_append, written_append}
 use Rattle.cb_evict.specs.Candidates.{candidates}
 use Rattle.cb_evict.specs.Events.{TouchesOnly, IsSteady}
-use Rattle.cb_evict.specs.Evicting.{TouchesSpans}
-use Rattle.cb_evict.specs.Loading.{LiesInOne, LoadsFrames}
+use Rattle.cb_evict.specs.Evicting.{ReadsFrames, TouchesSpans}
+use Rattle.cb_evict.specs.Loading.{LiesInOne}
 use Rattle.cb_evict.specs.Looking.{IsIn}
 use Rattle.cb_evict.specs.BeginRule.{blank_shard, blank_shards, with_batch, HasBegun}
 use Rattle.cb_evict.specs.BeginEffect.{IsBegun}
-use Rattle.cb_evict.specs.Beginning.{with_reserved, AreParities}
+use Rattle.cb_evict.specs.Beginning.{with_reserved, ReservesFrames}
 use Rattle.cb_evict.proofs.Begun.{sound_begun, rule_begun, effect_begun}
 use Rattle.cb_evict.proofs.Ending.{spans_touched}
 use Rattle.cb_evict.proofs.Events.{AreReads, touches_more, told_words, told_objects}
@@ -89,31 +89,27 @@ noted_far far frames words parities shards = record far {
 }
 
 -- the far state in which it ends
-pub batch_then : (c : Config) (far mid new : FarState) (gs frames : List ℕ) (formers : List Former)
-    (parities : List (List ℕ)) (blank : List Shard) (shards : List (Option Shard)) → gs ≡ frames
-    → mid ≡ with_reserved far blank gs → new ≡ noted_far mid frames formers parities shards
-    → blank ≡ blank_shards (c.k + c.r) → shards ≡ replicate (c.k + c.r) None
+pub batch_then : (c : Config) (far mid new : FarState) (frames : List ℕ) (formers : List Former)
+    (parities : List (List ℕ)) (shards : List (Option Shard))
+    → mid ≡ with_reserved far (blank_shards (c.k + c.r)) frames
+    → new ≡ noted_far mid frames formers parities shards → shards ≡ replicate (c.k + c.r) None
     → new ≡ with_batch c far frames formers parities
-batch_then c far mid new gs frames formers parities blank shards same a b e f =
+batch_then c far mid new frames formers parities shards a b f =
     b ∙ ap (λ (x : FarState). noted_far x frames formers parities shards) a
-    ∙ ap (λ (l : List ℕ). noted_far (with_reserved far blank l) frames formers parities shards) same
-    ∙ ap (λ (l : List Shard). noted_far (with_reserved far l frames) frames formers parities
-    shards) e
     ∙ ap (λ (l : List (Option Shard)). noted_far
-    (with_reserved far (blank_shards (c.k + c.r)) frames) frames
-    formers parities l) f
+    (with_reserved far (blank_shards (c.k + c.r)) frames) frames formers parities l) f
 
 -- ---- the same, of the same lists
 pub blank_count : (blank : List Shard) (n : ℕ) → blank ≡ blank_shards n → length blank ≡ n
 blank_count blank n e = ap (λ (l : List Shard). length l) e ∙ length-replicate n blank_shard
 
-pub loads_as : (runs : List Event → Type 0) (shows : Shown → Type 0) (gs frames : List ℕ)
-    (rows : List (List ℕ)) → gs ≡ frames → LoadsFrames runs shows gs rows
-    → LoadsFrames runs shows frames rows
-loads_as runs shows gs frames rows e x = subst (λ (l : List ℕ). LoadsFrames runs shows l rows) e x
+pub reads_as : (runs : List Event → Type 0) (gs frames : List ℕ) → gs ≡ frames
+    → ReadsFrames runs gs → ReadsFrames runs frames
+reads_as runs gs frames e x = subst (ReadsFrames runs) e x
 
-pub parities_as : (j m k n : ℕ) (rows parities : List (List ℕ)) → j ≡ k → m ≡ n
-    → AreParities j m rows parities → AreParities k n rows parities
-parities_as j m k n rows parities e f a =
-    subst (λ (i : ℕ). AreParities i n rows parities) e
-    (subst (λ (i : ℕ). AreParities j i rows parities) f a)
+pub reserves_as : (runs : List Event → Type 0) (shows : Shown → Type 0) (c : Config)
+    (far new : FarState) (gs frames : List ℕ) (parities : List (List ℕ)) → gs ≡ frames
+    → ReservesFrames runs shows c far new gs parities
+    → ReservesFrames runs shows c far new frames parities
+reserves_as runs shows c far new gs frames parities e x =
+    subst (λ (l : List ℕ). ReservesFrames runs shows c far new l parities) e x

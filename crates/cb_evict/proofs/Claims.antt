@@ -23,7 +23,7 @@ use Rattle.cb_world.specs.Claimed.{IsClaimedAt}
 use Rattle.cb_world.proofs.Laws.{apart, taken_before, lies_within, claimed_from, claim_played, found_more, found_last, taken_more, taken_after_looks, played_append, window_same, put_else, length_put, is_claimed_at, avoids}
 use Rattle.cb_evict.specs.Events.{OnlyLooks, IsSteady}
 use Rattle.cb_evict.specs.Claims.{Keeps, IsClaimedBy, WasHere, IsNone, AreClaimed, AreBack, AreApart}
-use Rattle.cb_evict.proofs.Events.{found_after, looks_change, looks_steady, steady_append}
+use Rattle.cb_evict.proofs.Events.{found_after, looks_append, looks_change, looks_steady, steady_append}
 
 -- both lie at one place, with one length
 abbrev pub SameLies : Object → Object → Type 0
@@ -227,18 +227,27 @@ no_claim_look : (k : ℕ) (before : List Event) (h w v : ℕ) (words : List ℕ)
 no_claim_look k [] h w v words a e = a.0 w (sym e, refl)
 no_claim_look k (x ∷ before) h w v words a e = no_claim_look k before h w v words a.1 e
 
-looks_cool : (h k : ℕ) (es : List Event) (s : Shown) → AreLooks h es → k ≢ h
+pub no_look_left : (k : ℕ) (es fs : List Event) → NoLook k (es ++ fs) → NoLook k es
+no_look_left k [] fs a = tt
+no_look_left k (e ∷ es) fs a = (a.0, no_look_left k es fs a.1)
+
+pub no_look_right : (k : ℕ) (es fs : List Event) → NoLook k (es ++ fs) → NoLook k fs
+no_look_right k [] fs a = a
+no_look_right k (e ∷ es) fs a = no_look_right k es fs a.1
+
+-- an object that is not looked at is as hot as it was
+looks_cool : (k : ℕ) (es : List Event) (s : Shown) → OnlyLooks es → NoLook k es
     → hot_at (played es s) k ≡ hot_at s k
-looks_cool h k [] s a off = refl
-looks_cool h k (Looked j w ∷ es) s a off =
-    looks_cool h k es (record s { hots = set s.hots j (hot_of w) }) a.1 off
-    ∙ get_or-set_other s.hots j k (hot_of w) false (λ e. off (e ∙ a.0))
-looks_cool h k (Claimed j w v ws ∷ es) s a off = absurd a
-looks_cool h k (Settled j w ∷ es) s a off = absurd a
-looks_cool h k (Loaded p x ∷ es) s a off = absurd a
-looks_cool h k (Told j v ∷ es) s a off = absurd a
-looks_cool h k (Stored p x ∷ es) s a off = absurd a
-looks_cool h k (Stamped j v ∷ es) s a off = absurd a
+looks_cool k [] s a quiet = refl
+looks_cool k (Looked j w ∷ es) s a quiet =
+    looks_cool k es (record s { hots = set s.hots j (hot_of w) }) a quiet.1
+    ∙ get_or-set_other s.hots j k (hot_of w) false (λ e. quiet.0 w (sym e, refl))
+looks_cool k (Claimed j w v ws ∷ es) s a quiet = absurd a
+looks_cool k (Settled j w ∷ es) s a quiet = absurd a
+looks_cool k (Loaded p x ∷ es) s a quiet = absurd a
+looks_cool k (Told j v ∷ es) s a quiet = absurd a
+looks_cool k (Stored p x ∷ es) s a quiet = absurd a
+looks_cool k (Stamped j v ∷ es) s a quiet = absurd a
 
 pub claim_one : (far : FarState) (s : Shown) (before : List Event) (h w v : ℕ) (words : List ℕ)
     → LocalSound s far → h < length s.objects → h < length s.versions → h < length s.hots
@@ -300,7 +309,8 @@ claim_one far s before h w v words sound range stamp warm looks agree free =
         cool = λ k quiet. let off = no_claim_look k before h w v words quiet in
             ap (λ (q : Shown). hot_at q k) (played_append before (Claimed h w v words ∷ []) s)
             ∙ get_or-set_other (played before s).hots h k (hot_of w) false off
-            ∙ looks_cool h k before s looks off;
+            ∙ looks_cool k before s (only_looks h before looks)
+            (no_look_left k before (Claimed h w v words ∷ []) quiet);
         keeps = subst (Keeps s) (sym e) keeps;
       },
       subst (λ (q : Shown). LocalSound q far) (sym e)
@@ -385,44 +395,27 @@ claim_one far s before h w v words sound range stamp warm looks agree free =
 
 -- ---- looks claim nothing
 pub claims_nothing : (far : FarState) (s : Shown) (es : List Event) → OnlyLooks es → LocalSound s far
-    → ((h : ℕ) → NoLook h es → hot_at (played es s) h ≡ hot_at s h)
     → AreClaimed es s (played es s) [] × LocalSound (played es s) far × IsSteady es s
-claims_nothing far s es looks sound cool =
+claims_nothing far s es looks sound =
     let l = looks_change es s looks in (
       record {
         taken = All-nil (IsClaimedBy es (played es s));
         were = All-nil (WasHere s);
         others = λ h none. ap (λ (q : Shown). object_at q h) l.2;
-        cool = cool;
+        cool = λ k quiet. looks_cool k es s looks quiet;
         keeps = subst (Keeps s) (sym l.2) (keeps_hots s l.0 l.1);
       },
       subst (λ (q : Shown). LocalSound q far) (sym l.2) (sound_hots far s l.0 sound),
       looks_steady es s looks,
     )
 
-no_last_look : (k : ℕ) (before : List Event) (h w : ℕ) → NoLook k (before ++ Looked h w ∷ []) → k ≢ h
-no_last_look k [] h w a e = a.0 w (sym e, refl)
-no_last_look k (x ∷ before) h w a e = no_last_look k before h w a.1 e
-
-looks_all : (h w : ℕ) (xs : List Event) → AreLooks h xs → AreLooks h (xs ++ Looked h w ∷ [])
-looks_all h w [] a = (refl, tt)
-looks_all h w (Looked k x ∷ es) a = (a.0, looks_all h w es a.1)
-looks_all h w (Claimed k x v words ∷ es) a = absurd a
-looks_all h w (Told k v ∷ es) a = absurd a
-looks_all h w (Loaded p x ∷ es) a = absurd a
-looks_all h w (Stored p x ∷ es) a = absurd a
-looks_all h w (Stamped k v ∷ es) a = absurd a
-looks_all h w (Settled k x ∷ es) a = absurd a
-
 -- an object that could not be claimed
 pub left_one : (far : FarState) (s : Shown) (before : List Event) (h w : ℕ) → LocalSound s far
     → AreLooks h before
     → AreClaimed (before ++ Looked h w ∷ []) s (played (before ++ Looked h w ∷ []) s) []
     × LocalSound (played (before ++ Looked h w ∷ []) s) far × IsSteady (before ++ Looked h w ∷ []) s
-left_one far s before h w sound looks =
-    let all = looks_all h w before looks in
-    claims_nothing far s (before ++ Looked h w ∷ []) (only_looks h (before ++ Looked h w ∷ []) all) sound
-    (λ k quiet. looks_cool h k (before ++ Looked h w ∷ []) s all (no_last_look k before h w quiet))
+left_one far s before h w sound looks = claims_nothing far s (before ++ Looked h w ∷ [])
+    (looks_append before (Looked h w ∷ []) (only_looks h before looks) tt) sound
 
 -- ---- one claim after another
 pub all_left : {X : Type 0} (P : X → Type 0) (xs ys : List X) → All P (xs ++ ys) → All P xs
@@ -432,14 +425,6 @@ all_left P xs ys a k d l = subst P (get_or_append_left xs ys d k l)
 pub all_right : {X : Type 0} (P : X → Type 0) (xs ys : List X) → All P (xs ++ ys) → All P ys
 all_right P xs ys a k d l = subst P (get_or-append-add xs ys k d)
     (a (length xs + k) d (let n = length-append xs ys in omega (arith, l, n)))
-
-pub no_look_left : (k : ℕ) (es fs : List Event) → NoLook k (es ++ fs) → NoLook k es
-no_look_left k [] fs a = tt
-no_look_left k (e ∷ es) fs a = (a.0, no_look_left k es fs a.1)
-
-pub no_look_right : (k : ℕ) (es fs : List Event) → NoLook k (es ++ fs) → NoLook k fs
-no_look_right k [] fs a = a
-no_look_right k (e ∷ es) fs a = no_look_right k es fs a.1
 
 pub claims_append : (far : FarState) (es fs : List Event) (s t u : Shown) (xs ys : List Former)
     → LocalSound t far → AreClaimed es s t xs → AreClaimed fs t u ys

@@ -60,6 +60,7 @@ pub mod BeginFixed
 pub mod CommitFixed
 pub mod AbortFixed
 mod WorkedBegin
+mod WorkedTaking
 mod WorkedRules
 pub mod WorkedWide
 pub mod PutShards

@@ -26,7 +26,6 @@ use Rattle.cb_world.specs.Now.{broken_set, now, now_as}
 use Rattle.cb_world.specs.Now.Now.{held as has, gone as is_lost}
 use Rattle.cb_world.specs.Reserved.{set_from}
 use Rattle.cb_world.specs.Shown.{object_at, never}
-use Rattle.cb_world.specs.Grasped.{IsFree}
 use Rattle.cb_world.specs.Leaving.{LeavingState}
 use Rattle.cb_world.specs.Looks.{IsFound, IsTaken, told_by}
 use Rattle.cb_world.specs.Choices.{numbered}
@@ -38,22 +37,17 @@ use Rattle.cb_world.specs.World.{word_at}
 use Rattle.cb_evict.specs.BeginEffect.{IsClaimedNow, IsBegun, BeginEffect}
 use Rattle.cb_evict.specs.BeginRule.{blank_shards, new_batch, with_batch, HasBegun, IsLeavingAlready, HasBatch, HasLooked, BeginRule}
 use Rattle.cb_evict.specs.Beginning.{AreParities}
-use Rattle.cb_evict.specs.Candidates.{candidates, IsLoose, IsHeldUp}
-use Rattle.cb_evict.specs.declared.eviction.Eviction.TheVariants.{Refused}
-use Rattle.cb_evict.specs.declared.eviction.Lack.TheVariants.{Spans}
-use Rattle.cb_evict.specs.Finding.{FindsFew, FindsLoose}
-use Rattle.cb_evict.proofs.Loose.{held_alone}
-use Rattle.cb_evict.specs.EvictRule.{IsInRow, AreInRows, HasFewSpans, HasFewNodes}
+use Rattle.cb_evict.specs.EvictRule.{IsInRow, AreInRows}
 use Rattle.cb_evict.proofs.Begun.{reserved_kept}
 use Rattle.cb_evict.proofs.NewSet.{set_added_in}
 use Rattle.cb_evict.specs.BeginStep.{frame_rows, AreHeld, IsBegunTo, IsBatchMade, IsBeginStep, is_leaving, few_spans, few_nodes, begins}
 use Rattle.cb_evict.specs.Claims.{AreApart}
 use Rattle.cb_evict.specs.Order.{noted_of, objects_of}
 use Rattle.cb_evict.specs.Claiming.{AreOf}
-use Rattle.cb_evict.specs.Looking.{IsIn, LooksOver}
+use Rattle.cb_evict.specs.Looking.{IsIn}
 use Rattle.cb_evict.proofs.BeginParts.{leaving_batch, spans_batch}
 use Rattle.cb_evict.proofs.Options.{none_some, some_none, some_same}
-use Rattle.cb_evict.proofs.SmallWorlds.{busy, calm, desk, first_object, is_word, lone, moving, one_node, only_object, only_second, pair, pinned, row, row_words, settings, span_with, two_nodes, zero_row}
+use Rattle.cb_evict.proofs.SmallWorlds.{busy, calm, desk, first_object, is_word, lone, moving, one_node, only_object, pair, pinned, row, row_words, settings, span_with, two_nodes, zero_row}
 
 -- ---- words of objects that are claimed
 -- the first object is here, the other one pinned; all memory words are 0
@@ -581,91 +575,6 @@ by_rule = inl told
 -- no span is looked at while a batch is leaving
 not_meanwhile : (new : FarState) (r : Reply) (es : List Event) → HasLooked settings second new r es → ⊥
 not_meanwhile new r es a = none_some _ (sym a.none)
-
--- the looks at both spans find the first one loose
-abbrev looks : List Event
-looks = Looked 0 calm ∷ Looked 1 pinned ∷ []
-
-first_loose : IsLoose looks pair.spans 0
-first_loose h (slot, named) = by slot named
-  where
-    one_zero : (n : ℕ) → suc n ≡ 0 → ⊥
-    one_zero n e = omega (arith, e)
-
-    by : (slot : ℕ) → handle_in (span_in pair.spans 0) slot ≡ Some h
-        → (w : ℕ) × IsFound h w looks × IsFree w
-    by zero e = absurd (none_some h e)
-    by (suc zero) e = (
-      calm,
-      subst (λ (k : ℕ). IsFound k calm looks) (some_same 0 h e)
-          (inr ((refl, refl), ((λ w look. one_zero 0 look.0), tt))),
-      (refl, refl),
-    )
-    by (suc (suc n)) e = absurd (none_some h e)
-
-second_held : IsHeldUp looks pair.spans 1
-second_held = held_alone pair.spans 1 looks 1 pinned only_second (1, refl)
-    (inl (inr ((refl, refl), tt))) (λ free. let e : 1 ≡ 0 = free.1 in omega (arith, e))
-
-over_both : LooksOver (λ es. es ≡ looks) pair.spans (candidates pair) (0 ∷ [])
-over_both = record {
-  events = looks;
-  ran = refl;
-  looks = tt;
-  touches = (
-    (0, (0, lit< tt, refl), (1, refl)),
-    ((1, (1, lit< tt, refl), (1, refl)), tt),
-  );
-  finds = inr (first_loose, refl, (second_held, tt));
-}
-
-finds : FindsLoose (λ es. es ≡ looks) settings pair (0 ∷ []) 2
-finds = record {
-  looks = over_both;
-  enough = lit≤ tt;
-  room = omega (arith, two_nodes);
-  nodes = sym two_nodes;
-}
-
--- the nodes are counted
-not_other_nodes : (runs : List Event → Type 0) → FindsLoose runs settings pair (0 ∷ []) 3 → ⊥
-not_other_nodes runs a = let e = a.nodes in absurd (omega (arith, e, two_nodes))
-
--- too few spans, and then too few nodes, are a refusal
-not_enough : (runs : List Event → Type 0) (n : ℕ) → FindsLoose runs settings pair [] n → ⊥
-not_enough runs n a = let l = a.enough in absurd (omega (arith, l))
-
-not_with_room : (runs : List Event → Type 0) (n : ℕ) → FindsLoose runs settings lone (0 ∷ []) n → ⊥
-not_with_room runs n a = let l = a.room in absurd (omega (arith, l, one_node))
-
-few : FindsFew (λ es. es ≡ looks) (record settings { k = 2 }) pair (Refused Spans 1 2)
-few = record {
-  loose = 0 ∷ [];
-  looks = over_both;
-  few = inl (record { few = lit< tt; reply = refl; state = refl });
-  counts = (refl, sym two_nodes);
-}
-
--- a refusal has its own count
-not_its_count : (runs : List Event → Type 0) → FindsFew runs settings pair (Refused Spans 1 2) → ⊥
-not_its_count runs a = by a.few
-  where
-    count_is : (n m : ℕ) → answer.NoSpans n ≡ answer.NoSpans m → n ≡ m
-    count_is n m e = cc
-
-    spans_nodes : (n m : ℕ) → answer.NoSpans n ≡ answer.NoNodes m → ⊥
-    spans_nodes n m e = cc
-
-    by : HasFewSpans settings pair pair (answer.NoSpans 1) a.loose
-        ⊎ HasFewNodes settings pair pair (answer.NoSpans 1) a.loose → ⊥
-    by (inl x) = let l = x.few in let e = count_is 1 (length a.loose) x.reply in
-        omega (arith, l, e)
-    by (inr x) = spans_nodes 1 _ x.reply
-
--- and the other one beside it, as it is and not another
-not_other_count : (runs : List Event → Type 0)
-    → FindsFew runs (record settings { k = 2 }) pair (Refused Spans 1 1) → ⊥
-not_other_count runs a = let e = a.counts.1 in absurd (omega (arith, e, two_nodes))
 
 -- the parities of the row of zeros
 parities_of : AreParities 1 2 (row ∷ []) (row ∷ [])

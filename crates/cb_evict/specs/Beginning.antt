@@ -5,14 +5,14 @@ use Rattle.cb_gf256.specs.CodeWord.{IsCodeWord}
 use Rattle.cb_gf256.specs.Rows.{HoldBytes}
 use Rattle.cb_member.specs.declared.names.Shard.{Shard}
 use Rattle.cb_types.specs.declared.config.Config.{Config}
-use Rattle.cb_types.specs.declared.reply.Reply.{Reply}
 use Rattle.cb_world.specs.declared.event.Event.{Event}
 use Rattle.cb_world.specs.declared.leaving.Former.{Former}
 use Rattle.cb_world.specs.declared.shown.Shown.{Shown}
 use Rattle.cb_world.specs.FarState.{FarState}
 use Rattle.cb_world.specs.Reserved.{set_from}
-use Rattle.cb_evict.specs.Evicting.{After, EndsClaimed}
-use Rattle.cb_evict.specs.BeginRule.{HasBegun, BeginRule}
+use Rattle.cb_evict.specs.Loading.{LoadsFrames}
+use Rattle.cb_evict.specs.Evicting.{EndsClaimed}
+use Rattle.cb_evict.specs.BeginRule.{HasBegun, blank_shards}
 use Rattle.cb_evict.specs.BeginEffect.{IsBegun}
 
 -- the far state where the set is kept that a batch will be
@@ -30,9 +30,14 @@ pub record AreParities (k n : ℕ) (rows parities : List (List ℕ)) : Type 0 wh
   pub word : IsCodeWord k (length parities) (rows ++ parities)
   pub bytes : HoldBytes (rows ++ parities)
 
--- the rule, where these spans were found loose before
-abbrev pub BeginsAfter : Config → FarState → FarState → Reply → List ℕ → List Event → Type 0
-BeginsAfter c far new r loose es = After (BeginRule c far new r) far loose es
+-- the frames are read, these are the parities of their rows, and the set is kept that they will be
+pub record ReservesFrames (runs : List Event → Type 0) (shows : Shown → Type 0) (c : Config)
+    (far new : FarState) (frames : List ℕ) (parities : List (List ℕ)) : Type 0 where
+  pub rows : List (List ℕ)
+  pub loads : LoadsFrames runs shows frames rows
+  pub count : length rows ≡ length frames
+  pub made : AreParities (length frames) (c.k + c.r) rows parities
+  pub state : new ≡ with_reserved far (blank_shards (c.k + c.r)) frames
 
 -- claimed spans are leaving from here
 abbrev pub BeginsClaimed : (List Event → Type 0) → (Shown → Type 0) → Config → FarState → FarState

@@ -1,8 +1,8 @@
 -- The parts of an eviction.
-use Rattle.std.specs.Prelude.{◌≡◌, ◌≢◌, ℕ, ◌++◌, All, List, length}
+use Rattle.std.specs.Prelude.{◌≡◌, ◌≢◌, ℕ, ◌+◌, ◌++◌, All, List, length}
 use Rattle.std.specs.List.{Contains, AllPairs}
+use Rattle.cb_member.specs.declared.names.Shard.{Shard}
 use Rattle.cb_types.specs.declared.config.Config.{Config}
-use Rattle.cb_types.specs.declared.reply.Reply.{Reply}
 use Rattle.cb_world.specs.declared.event.Event.{Event}
 use Rattle.cb_world.specs.declared.leaving.Former.{Former}
 use Rattle.cb_world.specs.declared.shown.Shown.{Shown}
@@ -13,32 +13,20 @@ use Rattle.cb_world.specs.LocalSound.{LocalSound}
 use Rattle.cb_world.specs.Sound.{Sound}
 use Rattle.cb_world.specs.Still.{IsStill}
 use Rattle.cb_world.specs.FarState.{FarState}
-use Rattle.cb_evict.specs.Candidates.{candidates, AreLoose}
+use Rattle.cb_evict.specs.Candidates.{candidates}
 use Rattle.cb_evict.specs.Events.{TouchesOnly, IsSteady}
 use Rattle.cb_evict.specs.Claims.{AreApart, AreClaimed}
 use Rattle.cb_evict.specs.Claiming.{AreOf}
 use Rattle.cb_evict.specs.Looking.{IsIn}
 use Rattle.cb_evict.specs.Order.{noted_of, objects_of}
-use Rattle.cb_evict.specs.Loading.{LiesInOne}
-use Rattle.cb_evict.specs.declared.eviction.Eviction.{Eviction}
-use Rattle.cb_evict.specs.Eviction.{CountsRule}
-use Rattle.cb_evict.specs.EvictRule.{EvictRule, HasEvicted}
+use Rattle.cb_evict.specs.Loading.{LiesInOne, LoadsFrames, OnlyLoads}
+use Rattle.cb_evict.specs.Storing.{AreShards, KeepsSet}
+use Rattle.cb_evict.specs.EvictRule.{HasEvicted}
 use Rattle.cb_evict.specs.EvictEffect.{IsEvicted}
 
 -- only objects and words of spans that may leave are touched
 abbrev pub TouchesSpans : FarState → List Event → Type 0
 TouchesSpans far es = TouchesOnly (IsIn far.spans (candidates far)) (LiesInOne (candidates far)) es
-
--- the rule of the part behind the looks that found these spans loose
-abbrev pub After : (List Event → Type 0) → FarState → List ℕ → List Event → Type 0
-After rule far loose es = (before : List Event) → AreLoose before far.spans (candidates far) loose
-    → TouchesSpans far before → rule (before ++ es)
-
-abbrev pub RuleAfter : Config → FarState → FarState → Reply → List ℕ → List Event → Type 0
-RuleAfter c far new r loose es = After (EvictRule c far new r) far loose es
-
-abbrev pub CountsAfter : Config → FarState → FarState → Eviction → List ℕ → List Event → Type 0
-CountsAfter c far new e loose es = After (CountsRule c far new e) far loose es
 
 -- k different spans may leave, and these are their objects, in order
 pub record AreTaken (c : Config) (far : FarState) (frames : List ℕ) (formers : List Former)
@@ -91,3 +79,17 @@ abbrev pub LeavesClaimed : (List Event → Type 0) → (Shown → Type 0) → Fa
     → List Former → Type 0
 LeavesClaimed runs shows far frames formers =
     EndsClaimed runs shows far far frames formers (λ es. Unit {0}) IsStill
+
+-- words of these frames are read, and nothing else is done
+abbrev pub ReadsFrames : (List Event → Type 0) → List ℕ → Type 0
+ReadsFrames runs frames = (es : List Event) × runs es × OnlyLoads (LiesInOne frames) es
+
+-- the frames are read, and their rows are stored with their parities as the next set
+pub record StoresFrames (runs : List Event → Type 0) (shows : Shown → Type 0) (c : Config)
+    (far new : FarState) (frames : List ℕ) : Type 0 where
+  pub rows : List (List ℕ)
+  pub shards : List Shard
+  pub loads : LoadsFrames runs shows frames rows
+  pub count : length rows ≡ length frames
+  pub chosen : AreShards far (c.k + c.r) shards
+  pub kept : KeepsSet far new shards frames rows

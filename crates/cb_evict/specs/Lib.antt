@@ -20,8 +20,8 @@ pub mod Committing
 pub mod CommitRule
 pub mod CommitStep
 pub mod Waiting
-pub mod Finding
 pub mod Taking
+pub mod Finding
 pub mod BeginRule
 pub mod BeginEffect
 pub mod Beginning

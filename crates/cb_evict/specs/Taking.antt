@@ -1,30 +1,66 @@
--- The first spans that can be claimed.
-use Rattle.std.specs.Prelude.{◌≡◌, ℕ, List, length}
+-- The front of an eviction and of a begin: k spans are claimed, or it is refused.
+use Rattle.std.specs.Prelude.{◌≡◌, ◌⊎◌, ℕ, ◌+◌, ◌≤◌, ◌++◌, List, [], length, take}
 use Rattle.cb_types.specs.declared.config.Config.{Config}
-use Rattle.cb_types.specs.declared.reply.Reply.TheVariants as answer
 use Rattle.cb_world.specs.declared.event.Event.{Event}
 use Rattle.cb_world.specs.declared.leaving.Former.{Former}
 use Rattle.cb_world.specs.declared.shown.Shown.{Shown}
+use Rattle.cb_world.specs.Choices.{room_count}
 use Rattle.cb_world.specs.FarState.{FarState}
-use Rattle.cb_world.specs.Performs.{Performs}
-use Rattle.cb_world.specs.Sound.{Sound}
+use Rattle.cb_world.specs.Looks.{LooksFirst}
+use Rattle.cb_evict.specs.declared.eviction.Eviction.{Eviction}
+use Rattle.cb_evict.specs.declared.eviction.Eviction.TheVariants.{Refused}
 use Rattle.cb_evict.specs.declared.taking.Taken.{Taken}
-use Rattle.cb_evict.specs.declared.taking.Taken.TheVariants.{TooFew, Enough}
-use Rattle.cb_evict.specs.Claiming.{ClaimsSpans}
-use Rattle.cb_evict.specs.EvictEffect.{EvictEffect}
-use Rattle.cb_evict.specs.Evicting.{RuleAfter}
+use Rattle.cb_evict.specs.declared.taking.Taken.TheVariants.{Few, Enough}
+use Rattle.cb_evict.specs.Candidates.{candidates, AreLoose}
+use Rattle.cb_evict.specs.Claiming.{Claims}
+use Rattle.cb_evict.specs.EvictRule.{HasFewSpans, HasFewNodes}
+use Rattle.cb_evict.specs.Eviction.{reply_of, TellsCounts}
+use Rattle.cb_evict.specs.Evicting.{AreTaken, TouchesSpans}
 
--- k of these spans are claimed
+-- of the spans that may leave these are loose by the last looks
+abbrev pub AreLooseNow : FarState → List ℕ → List Event → Type 0
+AreLooseNow far loose es = AreLoose es far.spans (candidates far) loose
+
+-- where those were loose before, these are so behind the events
+abbrev pub AreLooseStill : FarState → List ℕ → List ℕ → List Event → Type 0
+AreLooseStill far was loose es = (before : List Event) → AreLooseNow far was before
+    → AreLooseNow far loose (before ++ es)
+
+-- Spans that may leave are looked at and claimed, and this is found. In the end these objects are
+-- claimed, and all else is as it was.
+pub record Tries (runs : List Event → Type 0) (shows : Shown → Type 0) (far : FarState)
+    (finds : List Event → Type 0) (formers : List Former) : Type 0 where
+  pub events : List Event
+  pub ran : runs events
+  pub first : LooksFirst events
+  pub touches : TouchesSpans far events
+  pub found : finds events
+  pub claims : Claims shows far events formers
+
+-- fewer than k spans are loose, or fewer than k + r nodes have room; this refusal tells so, and no
+-- object is claimed
+pub record TakesFew (runs : List Event → Type 0) (shows : Shown → Type 0) (c : Config)
+    (far : FarState) (finds : List ℕ → List Event → Type 0) (e : Eviction) : Type 0 where
+  pub loose : List ℕ
+  pub tries : Tries runs shows far (finds loose) []
+  pub few : HasFewSpans c far far (reply_of e) loose ⊎ HasFewNodes c far far (reply_of e) loose
+  pub counts : TellsCounts far loose e
+
+-- enough spans are loose and enough nodes have room: the first k of the loose spans are claimed
 pub record TakesEnough (runs : List Event → Type 0) (shows : Shown → Type 0) (c : Config)
-    (far : FarState) (loose frames : List ℕ) (formers : List Former) : Type 0 where
-  pub claims : ClaimsSpans runs shows far.spans loose c.k frames formers
-  pub count : length frames ≡ c.k
+    (far : FarState) (finds : List ℕ → List Event → Type 0) (frames : List ℕ)
+    (formers : List Former) : Type 0 where
+  pub loose : List ℕ
+  pub tries : Tries runs shows far (finds loose) formers
+  pub enough : c.k ≤ length loose
+  pub first : frames ≡ take c.k loose
+  pub room : c.k + c.r ≤ room_count far.nodes far.members
+  pub taken : AreTaken c far frames formers
 
--- by the answer: too few were claimed and given back, which is a refusal, or k are claimed
-abbrev pub Takes : (List Event → Type 0) → (Shown → Type 0) → Config → FarState → List ℕ → Taken
-    → Type 0
-Takes runs shows c far loose (TooFew spans) = Performs runs (λ s. shows s × Sound s far)
-    (RuleAfter c far far (answer.NoSpans spans) loose) (λ t. Sound t far)
-    (EvictEffect far far (answer.NoSpans spans))
-Takes runs shows c far loose (Enough frames formers) =
-    TakesEnough runs shows c far loose frames.items formers.items
+-- by the answer
+abbrev pub Takes : (List Event → Type 0) → (Shown → Type 0) → Config → FarState
+    → (List ℕ → List Event → Type 0) → Taken → Type 0
+Takes runs shows c far finds (Few lack loose nodes) =
+    TakesFew runs shows c far finds (Refused lack loose nodes)
+Takes runs shows c far finds (Enough frames formers) =
+    TakesEnough runs shows c far finds frames.items formers.items

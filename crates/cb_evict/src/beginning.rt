@@ -1,34 +1,29 @@
-ghost use Rattle.std.specs.Prelude.{◌≡◌, ℕ, ◌^◌, ◌+◌, ◌-◌, ◌<◌, ◌≤◌, ◌≢◌, All, IfOk, OnErr, OnOk, List, None, Some, length, replicate};
-ghost use Rattle.std.specs.List.{Contains, AllPairs};
+ghost use Rattle.std.specs.Prelude.{◌≡◌, ◌^◌, ◌+◌, ◌-◌, ◌<◌, All, IfOk, OnErr, OnOk, List, None, Some, length, replicate};
 ghost use Rattle.std.specs.Option.{option_map};
 ghost use Rattle.cb_types.specs.Config.{IsAccepted};
 ghost use Rattle.cb_types.specs.declared.handle.SetId.{SetId};
 ghost use Rattle.cb_gf256.specs.InRange.{IsInRange};
-ghost use Rattle.cb_gf256.specs.Rows.{HaveLength};
 ghost use Rattle.cb_span.specs.Contents.{Contents};
 ghost use Rattle.cb_types.specs.declared.reply.Reply.TheVariants as answer;
 ghost use Rattle.cb_world.specs.declared.event.Event.{Event};
 ghost use Rattle.cb_world.specs.declared.shown.Shown.{Shown};
 ghost use Rattle.cb_world.specs.World.{IsConfigured};
 ghost use Rattle.cb_world.specs.Still.{IsStill};
-ghost use Rattle.cb_world.specs.Choices.{room_count};
 ghost use Rattle.cb_world.specs.FarState.{span_in};
 ghost use Rattle.cb_world.specs.Sound.{Sound};
 ghost use Rattle.cb_world.specs.Performs.{Performs};
-ghost use Rattle.cb_evict.specs.Candidates.{candidates};
 ghost use Rattle.cb_evict.specs.BeginRule.{BeginRule, blank_shard, blank_shards};
 ghost use Rattle.cb_evict.specs.BeginEffect.{BeginEffect};
-ghost use Rattle.cb_evict.specs.Beginning.{AreParities, BeginsAfter, BeginsClaimed, with_reserved};
-ghost use Rattle.cb_evict.specs.Evicting.{AreTaken, IsReady, LeavesClaimed, TouchesSpans};
+ghost use Rattle.cb_evict.specs.Beginning.{AreParities, BeginsClaimed, ReservesFrames, with_reserved};
+ghost use Rattle.cb_evict.specs.Evicting.{AreTaken, IsReady, LeavesClaimed, ReadsFrames, TouchesSpans};
 
 use crate::claiming::give_back;
 use crate::eviction::refusal;
-use crate::finding::{Found, find_spans};
 use crate::loading::load_frames;
 use crate::storing::{make_parities, next_set};
 use crate::taking::{Taken, take_spans};
 use cb_member::{NodeId, Shard};
-use cb_types::{Config, NoMemory, Reply, Rows, SetId};
+use cb_types::{NoMemory, Reply, Rows, SetId};
 use cb_world::{Desk, Far, Former, KeptSet, Leaving};
 use std::alloc::Global;
 
@@ -39,7 +34,7 @@ const BLANK: Shard = Shard {
     key: 0,
 };
 
-/// The memory that a batch takes before its objects are claimed.
+/// The memory that a batch takes before its frames are read.
 #[derive(Drop)]
 struct Room {
     /// A row for each of its spans.
@@ -48,6 +43,15 @@ struct Room {
     shards: Vec<Option<Shard>>,
     /// A blank shard for each position.
     blank: Vec<Shard>,
+}
+
+/// What a batch has beside its frames and its words.
+#[derive(Drop)]
+struct Reserved {
+    /// The parities of its rows.
+    parities: Rows,
+    /// A place for the shard of each of its positions, none of which has one yet.
+    shards: Vec<Option<Shard>>,
 }
 
 /// Begins to evict k spans: they are leaving from here, as one batch, until a commit or an abort.
@@ -114,54 +118,10 @@ fn begin_new<D: Desk>(desk: &mut D, far: &mut Far) -> Result<Reply, NoMemory>
         IsStill) }
     ensures unchanged { OnErr result (far.new ≡ far.old) }
 {
-    let config = desk.config();
-    let found = find_spans(desk, far, config)?;
-    match found {
-        Found::Few { lack, loose, nodes } => Ok(refusal(lack, loose, nodes)),
-        Found::Loose { frames, .. } => begin_loose(desk, far, config, &frames),
-    }
-}
-
-/// Begins to evict the first k of these spans whose objects can all be claimed.
-fn begin_loose<D: Desk>(
-    desk: &mut D,
-    far: &mut Far,
-    config: Config,
-    loose: &[u32],
-) -> Result<Reply, NoMemory>
-    requires config { (IsAccepted config) × (config ≡ D.settings desk.old) }
-    requires configured { IsConfigured config far.old }
-    requires counts { far.old.counts.sets < 2 ^ 62 }
-    requires none { far.old.leaving ≡ None }
-    requires sound { (s : Shown) × D.shows desk.old s × Sound s far.old }
-    requires among { All (Contains (candidates far.old)) loose.now }
-    requires apart { AllPairs (λ f g. f ≢ g) loose.now }
-    requires enough { config.k ≤ length loose.now }
-    requires room { config.k + config.r ≤ room_count far.old.nodes far.old.members }
-    ensures begun { IfOk result (λ reply. Performs (λ es. D.run desk.old es desk.new)
-        (λ s. D.shows desk.old s × Sound s far.old)
-        (BeginsAfter config far.old far.new reply loose.now)
-        (λ t. Sound t far.new)
-        (BeginEffect far.old far.new reply)) }
-    ensures error { OnErr result (Performs (λ es. D.run desk.old es desk.new)
-        (λ s. D.shows desk.old s × Sound s far.old)
-        (TouchesSpans far.old)
-        (λ t. Sound t far.new)
-        IsStill) }
-    ensures unchanged { OnErr result (far.new ≡ far.old) }
-{
-    let room = room_for(far.alloc, config.k, config.r)?;
-    let taken = take_spans(desk, far, config, loose)?;
+    let taken = take_spans(desk, far)?;
     match taken {
-        Taken::TooFew { spans } => Ok(Reply::NoSpans { loose: spans }),
-        Taken::Enough { frames, formers } => {
-            let Room {
-                mut rows,
-                shards,
-                blank,
-            } = room;
-            begin_claimed(desk, far, &blank, shards, frames, formers, &mut rows)
-        }
+        Taken::Few { lack, loose, nodes } => Ok(refusal(lack, loose, nodes)),
+        Taken::Enough { frames, formers } => begin_claimed(desk, far, frames, formers),
     }
 }
 
@@ -199,36 +159,32 @@ fn blank_shards(alloc: Global, n: u32) -> Result<Vec<Shard>, NoMemory>
 }
 
 /// Lets spans whose objects are claimed leave from here, and gives them back where there is no
-/// memory. The rows have room for the spans; the shards are as many as a set has.
+/// memory.
 fn begin_claimed<D: Desk>(
     desk: &mut D,
     far: &mut Far,
-    blank: &[Shard],
-    shards: Vec<Option<Shard>>,
     frames: Vec<u32>,
     formers: Vec<Former>,
-    rows: &mut Rows,
 ) -> Result<Reply, NoMemory>
     requires config { IsAccepted (D.settings desk.old) }
     requires configured { IsConfigured (D.settings desk.old) far.old }
     requires counts { far.old.counts.sets < 2 ^ 62 }
     requires none { far.old.leaving ≡ None }
     requires taken { AreTaken (D.settings desk.old) far.old frames.items formers.items }
-    requires blank { blank.now ≡ blank_shards ((D.settings desk.old).k + (D.settings desk.old).r) }
-    requires shards { shards.items ≡ replicate ((D.settings desk.old).k + (D.settings desk.old).r) None }
-    requires rows { (length rows.old ≡ length frames.items) × HaveLength 4096 rows.old }
     requires ready { (before : List Event) × (s : Shown)
         × IsReady (λ t. D.shows desk.old t) far.old formers.items before s }
-    ensures reply { IfOk result (λ reply. reply ≡ answer.Batch (record { n = far.old.counts.sets })) }
+    ensures reply { IfOk result (λ reply.
+        reply ≡ answer.Batch (record { n = far.old.counts.sets })) }
     ensures begun { OnOk result (BeginsClaimed (λ es. D.run desk.old es desk.new)
-        (λ s. D.shows desk.old s) (D.settings desk.old) far.old far.new frames.items formers.items) }
+        (λ s. D.shows desk.old s) (D.settings desk.old) far.old far.new
+        frames.items formers.items) }
     ensures error { OnErr result (LeavesClaimed (λ es. D.run desk.old es desk.new)
         (λ s. D.shows desk.old s) far.old frames.items formers.items) }
     ensures unchanged { OnErr result (far.new ≡ far.old) }
 {
-    load_frames(desk, &frames, rows);
-    match reserve(far, blank, &frames, rows) {
-        Ok(parities) => {
+    match reserve_frames(desk, far, &frames) {
+        Ok(reserved) => {
+            let Reserved { parities, shards } = reserved;
             let set = note_batch(far, frames, formers, parities, shards);
             Ok(Reply::Batch { set })
         }
@@ -239,11 +195,44 @@ fn begin_claimed<D: Desk>(
     }
 }
 
+/// Reads the frames, makes the parities of their rows, and keeps the set that they will be under
+/// the next set number. Where there is no memory, the far state has not changed.
+fn reserve_frames<D: Desk>(
+    desk: &mut D,
+    far: &mut Far,
+    frames: &[u32],
+) -> Result<Reserved, NoMemory>
+    requires config { IsAccepted (D.settings desk.old) }
+    requires count { length frames.now ≡ (D.settings desk.old).k }
+    requires there { All (λ f. (span : Contents) × (span_in far.old.spans f ≡ Some span))
+        frames.now }
+    requires below { All (λ f. f < (D.settings desk.old).frames) frames.now }
+    ensures reserved { IfOk result (λ reserved. ReservesFrames (λ es. D.run desk.old es desk.new)
+        (λ s. D.shows desk.old s) (D.settings desk.old) far.old far.new
+        frames.now reserved.parities) }
+    ensures shards { IfOk result (λ reserved. reserved.shards.items
+        ≡ replicate ((D.settings desk.old).k + (D.settings desk.old).r) None) }
+    ensures read { OnErr result (ReadsFrames (λ es. D.run desk.old es desk.new) frames.now) }
+    ensures unchanged { OnErr result (far.new ≡ far.old) }
+{
+    let config = desk.config();
+    let room = room_for(far.alloc, config.k, config.r)?;
+    let Room {
+        mut rows,
+        shards,
+        blank,
+    } = room;
+    load_frames(desk, frames, &mut rows);
+    let parities = reserve(far, &blank, frames, &rows)?;
+    Ok(Reserved { parities, shards })
+}
+
 /// Keeps the set that the spans in these frames will be under the next set number, with as many
 /// shards as there are blank ones. Answers the parities of their rows. Where there is no memory,
 /// nothing has changed.
 fn reserve(far: &mut Far, blank: &[Shard], frames: &[u32], rows: &Rows) -> Result<Rows, NoMemory>
-    requires there { All (λ f. (span : Contents) × (span_in far.old.spans f ≡ Some span)) frames.now }
+    requires there { All (λ f. (span : Contents) × (span_in far.old.spans f ≡ Some span))
+        frames.now }
     requires data_rows { length rows.now ≡ length frames.now }
     requires range { IsInRange (length frames.now) (length blank.now - length frames.now) }
     ensures err { OnErr result (far.new ≡ far.old) }

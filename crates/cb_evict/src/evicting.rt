@@ -1,31 +1,29 @@
-ghost use Rattle.std.specs.Prelude.{◌≡◌, ℕ, ◌^◌, ◌+◌, ◌<◌, ◌≤◌, ◌≢◌, All, IfOk, OnErr, OnOk, List, length};
-ghost use Rattle.std.specs.List.{Contains, AllPairs};
+ghost use Rattle.std.specs.Prelude.{◌≡◌, ◌^◌, ◌+◌, ◌<◌, ◌≤◌, All, IfOk, OnErr, OnOk, List, Some, length};
 ghost use Rattle.cb_types.specs.Config.{IsAccepted};
 ghost use Rattle.cb_gf256.specs.Rows.{HaveLength};
+ghost use Rattle.cb_span.specs.Contents.{Contents};
 ghost use Rattle.cb_world.specs.declared.event.Event.{Event};
 ghost use Rattle.cb_world.specs.declared.shown.Shown.{Shown};
 ghost use Rattle.cb_world.specs.World.{IsConfigured};
 ghost use Rattle.cb_world.specs.Still.{IsStill};
 ghost use Rattle.cb_world.specs.Choices.{room_count};
+ghost use Rattle.cb_world.specs.FarSound.{AreRows};
+ghost use Rattle.cb_world.specs.FarState.{span_in};
 ghost use Rattle.cb_world.specs.Sound.{Sound};
 ghost use Rattle.cb_world.specs.Performs.{Performs};
-ghost use Rattle.cb_evict.specs.Candidates.{candidates};
-ghost use Rattle.cb_evict.specs.Storing.{AreShards};
 ghost use Rattle.cb_evict.specs.EvictRule.{EvictRule};
 ghost use Rattle.cb_evict.specs.EvictEffect.{EvictEffect};
-ghost use Rattle.cb_evict.specs.Evicting.{AreTaken, CountsAfter, IsReady, EvictsClaimed, LeavesClaimed, TouchesSpans};
+ghost use Rattle.cb_evict.specs.Evicting.{AreTaken, EvictsClaimed, IsReady, LeavesClaimed, ReadsFrames, StoresFrames, TouchesSpans};
 ghost use Rattle.cb_evict.specs.Eviction.{CountsRule, reply_of};
 
 use crate::claiming::give_back;
 use crate::closing::close_spans;
-use crate::eviction::{Eviction, Lack, reply_of};
-use crate::finding::{Found, find_spans};
+use crate::eviction::{Eviction, reply_of};
 use crate::loading::load_frames;
 use crate::sending::send;
 use crate::storing::{choose_shards, keep_set, next_number};
 use crate::taking::{Taken, take_spans};
-use cb_member::Shard;
-use cb_types::{Config, NoMemory, Reply, Rows, SetId};
+use cb_types::{NoMemory, Reply, Rows, SetId};
 use cb_world::{Desk, Far, Former};
 
 /// Evicts k spans at once. Of the spans none of whose objects is pinned or claimed, and which are
@@ -79,14 +77,10 @@ pub fn evict_counted<D: Desk>(desk: &mut D, far: &mut Far) -> Result<Eviction, N
         IsStill) }
     ensures unchanged { OnErr result (far.new ≡ far.old) }
 {
-    let config = desk.config();
-    let found = find_spans(desk, far, config)?;
-    match found {
-        Found::Few { lack, loose, nodes } => Ok(Eviction::Refused { lack, loose, nodes }),
-        Found::Loose { frames, nodes } => {
-            let shards = choose_shards(far, config.k + config.r)?;
-            evict_loose(desk, far, config, nodes, &frames, &shards)
-        }
+    let taken = take_spans(desk, far)?;
+    match taken {
+        Taken::Few { lack, loose, nodes } => Ok(Eviction::Refused { lack, loose, nodes }),
+        Taken::Enough { frames, formers } => evict_claimed(desk, far, &frames, &formers),
     }
 }
 
@@ -107,106 +101,47 @@ fn keep_rows(far: &mut Far, rows: Rows)
     far.nodes.keep_table(rows);
 }
 
-/// Evicts the first k of these spans whose objects can all be claimed. So many nodes have room.
-fn evict_loose<D: Desk>(
-    desk: &mut D,
-    far: &mut Far,
-    config: Config,
-    nodes: u32,
-    loose: &[u32],
-    shards: &[Shard],
-) -> Result<Eviction, NoMemory>
-    requires config { (IsAccepted config) × (config ≡ D.settings desk.old) }
-    requires configured { IsConfigured config far.old }
+/// Reads the frames, codes their rows and stores them with their parities as the next set: for each
+/// position, in order, at the node with the fewest rows of those that have room and are not taken
+/// yet. Where there is no memory, the far state has not changed.
+fn store_frames<D: Desk>(desk: &mut D, far: &mut Far, frames: &[u32]) -> Result<(), NoMemory>
+    requires config { IsAccepted (D.settings desk.old) }
+    requires configured { IsConfigured (D.settings desk.old) far.old }
     requires counts { (far.old.counts.sets < 2 ^ 62) × (far.old.counts.keys < 2 ^ 62) }
-    requires sound { (s : Shown) × D.shows desk.old s × Sound s far.old }
-    requires among { All (Contains (candidates far.old)) loose.now }
-    requires apart { AllPairs (λ f g. f ≢ g) loose.now }
-    requires enough { config.k ≤ length loose.now }
-    requires room { config.k + config.r ≤ room_count far.old.nodes far.old.members }
-    requires nodes { nodes ≡ room_count far.old.nodes far.old.members }
-    requires shards { AreShards far.old (config.k + config.r) shards.now }
-    ensures evict { IfOk result (λ eviction. Performs (λ es. D.run desk.old es desk.new)
-        (λ s. D.shows desk.old s × Sound s far.old)
-        (CountsAfter config far.old far.new eviction loose.now)
-        (λ t. Sound t far.new)
-        (EvictEffect far.old far.new (reply_of eviction))) }
-    ensures error { OnErr result (Performs (λ es. D.run desk.old es desk.new)
-        (λ s. D.shows desk.old s × Sound s far.old)
-        (TouchesSpans far.old)
-        (λ t. Sound t far.new)
-        IsStill) }
+    requires room { (D.settings desk.old).k + (D.settings desk.old).r
+        ≤ room_count far.old.nodes far.old.members }
+    requires count { length frames.now ≡ (D.settings desk.old).k }
+    requires there { All (λ f. (span : Contents) × (span_in far.old.spans f ≡ Some span))
+        frames.now }
+    requires below { All (λ f. f < (D.settings desk.old).frames) frames.now }
+    requires rows { AreRows far.old }
+    ensures kept { OnOk result (StoresFrames (λ es. D.run desk.old es desk.new)
+        (λ s. D.shows desk.old s) (D.settings desk.old) far.old far.new frames.now) }
+    ensures read { OnErr result (ReadsFrames (λ es. D.run desk.old es desk.new) frames.now) }
     ensures unchanged { OnErr result (far.new ≡ far.old) }
 {
+    let config = desk.config();
+    let shards = choose_shards(far, config.k + config.r)?;
     let mut rows = spare_rows(far, config.k)?;
-    let eviction = evict_over(desk, far, config, nodes, loose, shards, &mut rows);
+    load_frames(desk, frames, &mut rows);
+    let kept = keep_set(far, &shards, frames, &rows);
     keep_rows(far, rows);
-    eviction
+    kept
 }
 
-/// Evicts the first k of these spans whose objects can all be claimed, over rows that have room for
-/// k spans. So many nodes have room.
-fn evict_over<D: Desk>(
-    desk: &mut D,
-    far: &mut Far,
-    config: Config,
-    nodes: u32,
-    loose: &[u32],
-    shards: &[Shard],
-    rows: &mut Rows,
-) -> Result<Eviction, NoMemory>
-    requires config { (IsAccepted config) × (config ≡ D.settings desk.old) }
-    requires configured { IsConfigured config far.old }
-    requires counts { (far.old.counts.sets < 2 ^ 62) × (far.old.counts.keys < 2 ^ 62) }
-    requires sound { (s : Shown) × D.shows desk.old s × Sound s far.old }
-    requires among { All (Contains (candidates far.old)) loose.now }
-    requires apart { AllPairs (λ f g. f ≢ g) loose.now }
-    requires enough { config.k ≤ length loose.now }
-    requires room { config.k + config.r ≤ room_count far.old.nodes far.old.members }
-    requires nodes { nodes ≡ room_count far.old.nodes far.old.members }
-    requires shards { AreShards far.old (config.k + config.r) shards.now }
-    requires rows { (length rows.old ≡ config.k) × HaveLength 4096 rows.old }
-    ensures evict { IfOk result (λ eviction. Performs (λ es. D.run desk.old es desk.new)
-        (λ s. D.shows desk.old s × Sound s far.old)
-        (CountsAfter config far.old far.new eviction loose.now)
-        (λ t. Sound t far.new)
-        (EvictEffect far.old far.new (reply_of eviction))) }
-    ensures error { OnErr result (Performs (λ es. D.run desk.old es desk.new)
-        (λ s. D.shows desk.old s × Sound s far.old)
-        (TouchesSpans far.old)
-        (λ t. Sound t far.new)
-        IsStill) }
-    ensures unchanged { OnErr result (far.new ≡ far.old) }
-{
-    let taken = take_spans(desk, far, config, loose)?;
-    match taken {
-        Taken::TooFew { spans } => Ok(Eviction::Refused {
-            lack: Lack::Spans,
-            loose: spans,
-            nodes,
-        }),
-        Taken::Enough { frames, formers } => {
-            evict_claimed(desk, far, shards, &frames, &formers, rows)
-        }
-    }
-}
-
-/// Evicts spans whose objects are claimed, and gives them back where there is no memory. The rows
-/// have room for the spans.
+/// Evicts spans whose objects are claimed, and gives them back where there is no memory.
 fn evict_claimed<D: Desk>(
     desk: &mut D,
     far: &mut Far,
-    shards: &[Shard],
     frames: &[u32],
     formers: &[Former],
-    rows: &mut Rows,
 ) -> Result<Eviction, NoMemory>
     requires config { IsAccepted (D.settings desk.old) }
     requires configured { IsConfigured (D.settings desk.old) far.old }
     requires counts { (far.old.counts.sets < 2 ^ 62) × (far.old.counts.keys < 2 ^ 62) }
+    requires room { (D.settings desk.old).k + (D.settings desk.old).r
+        ≤ room_count far.old.nodes far.old.members }
     requires taken { AreTaken (D.settings desk.old) far.old frames.now formers.now }
-    requires shards { AreShards far.old ((D.settings desk.old).k + (D.settings desk.old).r) shards.now }
-    requires rows { (length rows.old ≡ length frames.now) × HaveLength 4096 rows.old }
     requires ready { (before : List Event) × (s : Shown)
         × IsReady (λ t. D.shows desk.old t) far.old formers.now before s }
     ensures set { IfOk result (λ eviction.
@@ -217,9 +152,8 @@ fn evict_claimed<D: Desk>(
         (λ s. D.shows desk.old s) far.old frames.now formers.now) }
     ensures unchanged { OnErr result (far.new ≡ far.old) }
 {
-    load_frames(desk, frames, rows);
     let set = next_number(far);
-    match keep_set(far, shards, frames, rows) {
+    match store_frames(desk, far, frames) {
         Ok(()) => {
             send(desk, formers);
             close_spans(far, set, frames);

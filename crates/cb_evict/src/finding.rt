@@ -35,7 +35,8 @@ pub(crate) fn find_spans<D: Desk>(
     requires config { (IsAccepted config) × (config ≡ D.settings desk.old) }
     requires configured { IsConfigured config far.now }
     requires sound { (s : Shown) × D.shows desk.old s × Sound s far.now }
-    ensures found { IfOk result (Finds (λ es. D.run desk.old es desk.new) config far.now) }
+    ensures found { IfOk result (Finds (λ es. D.run desk.old es desk.new) (λ s. D.shows desk.old s)
+        config far.now) }
     ensures error { OnErr result (D.run desk.old [] desk.new) }
 {
     let frames = candidates(far)?;

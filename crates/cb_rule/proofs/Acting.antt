@@ -10,12 +10,15 @@ use Rattle.cb_ptr.specs.declared.word.State.TheVariants as word
 use Rattle.cb_ptr.specs.Word.{state_of, len_of, place_of, pins_of}
 use Rattle.cb_world.specs.declared.event.Event.{Event}
 use Rattle.cb_world.specs.declared.event.Event.TheVariants.{Looked, Claimed, Stored, Stamped, Settled}
+use Rattle.cb_world.specs.declared.shown.Shown.{Shown}
 use Rattle.cb_world.specs.Settling.{MaySettle}
 use Rattle.cb_world.specs.Shown.{Owns, IsHeld, object_at}
+use Rattle.cb_rule.specs.Own.{AreBound, MayWrite}
 use Rattle.cb_rule.specs.Ruled.{Beside, IsSteady, Ruled}
 use Rattle.cb_rule.specs.Slot.{Sat}
 use Rattle.cb_rule.specs.Steps.{Does, act, claimed, handles_of, settled, stamped, stored}
 use Rattle.cb_rule.specs.Words.{base, pointer, stamp, stamps, words_at}
+use Rattle.cb_rule.proofs.Binding.{settles_within}
 use Rattle.cb_rule.proofs.Claiming.{claim_agrees, claim_steps}
 use Rattle.cb_rule.proofs.Lifting.{mine, next, next_load}
 use Rattle.cb_rule.proofs.Looking.{look_agrees, look_steps}
@@ -34,6 +37,9 @@ module _ (beside : Beside) (steady : IsSteady beside) (first : ℕ) (c : Config)
         keeps,
         tt,
         next beside steady first c s id me.0 at r (Settled h w) (1 + h) w holds live (omega arith)
+            (settles_within c s.views id me.0 at holds r.kept.one m.begins
+            (subst (λ (k : Shown). AreBound c k s.views)
+            (sym ((r.kept.seats id me.0 at).knows holds)) r.bound) h w l may) tt
             (settle_steps c s.words s.views me.0 h w r.history m l may),
         λ h' e. let same : h ≡ h' = omega arith in
             subst (λ (j : ℕ). Does me (Settled j w) (act (Settled h w) me.0, me.1)) same (refl, tt),
@@ -49,23 +55,23 @@ module _ (beside : Beside) (steady : IsSteady beside) (first : ℕ) (c : Config)
         keeps,
         tt,
         next beside steady first c s id me.0 at r (Stored p y) (base c + p) y holds live
-            (omega arith) (store_steps c s.words s.views me.0 r.history m p y l own),
+            (omega arith) tt tt (store_steps c s.words s.views me.0 r.history m p y l own),
         λ p' e. let same : p ≡ p' = omega arith in
             subst (λ (j : ℕ). Does me (Stored j y) (act (Stored p y) me.0, me.1)) same (refl, tt),
       )
 
-  -- the version word of an object that it holds is stored
+  -- the version word of an object that it holds and may write is stored
   pub stamps_version : (h y : ℕ) → h < c.handles → handles_of me ≡ c.handles
-      → IsHeld (object_at me.0.known h)
+      → IsHeld (object_at me.0.known h) → MayWrite h me.0.known me.0
       → Allows (Ruled beside first c) slots id me (stamps c + h) (λ _. y)
       (λ _. stamped (step slots (stamps c + h) y 0 none) me y)
-  stamps_version h y l sized held s r _ at _ =
+  stamps_version h y l sized held may s r _ at _ =
       let m = mine beside steady first c s id me.0 at r holds in (
         act (Stamped h y) me.0,
         keeps,
         tt,
         next beside steady first c s id me.0 at r (Stamped h y) (stamps c + h) y holds live
-            (omega arith) (stamp_steps c s.words s.views me.0 r.history m h y l held),
+            (omega arith) tt may (stamp_steps c s.words s.views me.0 r.history m h y l held),
         λ h' e. let same : h ≡ h' = omega arith in
             subst (λ (j : ℕ). Does me (Stamped j y) (act (Stamped h y) me.0, me.1)) same (refl, tt),
       )
@@ -93,7 +99,7 @@ module _ (beside : Beside) (steady : IsSteady beside) (first : ℕ) (c : Config)
           views = set s.views id (act ev me.0);
         }) (sym one ∙ ap (λ b. either b new x) (sym (eq-eqb x old e)))
             (next beside steady first c s id me.0 at r ev (1 + h) (old + 1) holds live
-            (omega arith)
+            (omega arith) tt tt
             (claim_steps c s.words s.views me.0 r.history m h old l e here bare low)),
         λ h' q. let same : h ≡ h' = omega arith in (
           (λ _. (
@@ -116,7 +122,7 @@ module _ (beside : Beside) (steady : IsSteady beside) (first : ℕ) (c : Config)
           views = set s.views id (act (Looked h x) me.0);
         }) (sym (ap (λ b. either b new x) (ne_eqb x old ne)))
             (next_load beside steady first c s id me.0 at r (Looked h x) (1 + h) holds live
-            (omega arith) (look_steps c s.words s.views me.0 r.history m h l)),
+            (omega arith) tt tt (look_steps c s.words s.views me.0 r.history m h l)),
         λ h' q. let same : h ≡ h' = omega arith in (
           (λ e. absurd (ne e)),
           λ _. subst (λ (j : ℕ). Does me (Looked j x) (act (Looked h x) me.0, me.1)) same

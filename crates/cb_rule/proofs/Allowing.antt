@@ -22,7 +22,7 @@ use Rattle.cb_rule.specs.Lists.{times, Has}
 use Rattle.cb_rule.specs.Ruled.{Beside, IsSteady, Ruled}
 use Rattle.cb_rule.specs.Seats.{claims_it}
 use Rattle.cb_rule.specs.Slot.{Sat, Table}
-use Rattle.cb_rule.specs.Steps.{Finds, claimed_here, next_entry, put_back, settled_here, stamped_here, stored_here, with_claim, with_held, with_look, with_stamp, with_version, with_word, without_claim}
+use Rattle.cb_rule.specs.Steps.{Finds, Knows, claimed_here, next_entry, put_back, settled_here, stamped_here, stored_here, with_claim, with_held, with_look, with_stamp, with_version, with_word, without_claim}
 use Rattle.cb_rule.specs.Words.{base, pointer, stamps}
 use Rattle.cb_rule.proofs.Calm.{still_rule}
 use Rattle.cb_rule.proofs.Claiming.{found_below, found_calm, found_here, found_shared}
@@ -31,6 +31,7 @@ use Rattle.cb_rule.proofs.Keeping.{lies_here}
 use Rattle.cb_rule.proofs.Lifting.{any_seat, same_lock, same_words}
 use Rattle.cb_rule.proofs.Newest.{is_newest}
 use Rattle.cb_rule.proofs.Members.{times_has}
+use Rattle.cb_rule.proofs.Owning.{keeps_all, keeps_claim, keeps_held, keeps_unclaim, keeps_version, known_traces}
 use Rattle.cb_rule.proofs.Own.{own_alone, own_claim, own_ok, own_put_back, own_settle, own_stamp, own_store, record_held}
 
 -- where one element at most passes the test, those that do are the same
@@ -63,7 +64,7 @@ module _ (beside : Beside) (steady : IsSteady beside) (first : ℕ) (c : Config)
         views = set s.views id u;
       }) (sym (same_words s.words (1 + h)))
       (any_seat beside steady first c s id me.0 at r u s.words r.history refl live
-      record { holds = refl; took = refl; turns = refl } refl
+      record { holds = refl; took = refl; turns = refl } (keeps_all me.0 u.looks me.0.peeked) refl
       (still_rule c s.words s.views r.known r.history r.kept id h me.0 u at record {
         same_config = refl;
         claims = refl;
@@ -84,7 +85,8 @@ module _ (beside : Beside) (steady : IsSteady beside) (first : ℕ) (c : Config)
       let is_here = found_here c s.words s.views r.known r.history r.kept h w l found here in
       let k = found_shared c s.words s.views r.known r.history r.kept h w l found here in
       let calm = found_calm c s.words s.views r.known r.history r.kept h w l found here in record {
-        above = is_newest c s.words s.views r.known r.history r.kept r.shares id me.0 h at
+        above = is_newest c s.words s.views r.known r.history r.kept r.shares first r.own id me.0 h
+            at
             (let a = k.born in let b = r.kept.begins in omega arith);
         inside = λ j lt. subst (λ (q : Config). place_of w + j < 512 * q.frames) (sym key)
             (r.kept.inside h (len_of w) (place_of w) (place_of w + j)
@@ -98,11 +100,11 @@ module _ (beside : Beside) (steady : IsSteady beside) (first : ℕ) (c : Config)
       }
 
   -- an object whose word is Here without pins is claimed, where its word is the one that was seen
-  pub claims_here : (h old new : ℕ) → h < c.handles → state_of old ≡ word.Here
+  pub claims_here : (h old new : ℕ) → h < c.handles → Knows h me.0 → state_of old ≡ word.Here
       → pins_of old ≡ 0 → new ≡ old + 1
       → Allows (Ruled beside first c) slots id me (1 + h) (λ x. either (eqb x old) new x)
       (claimed_here (step slots (1 + h) old new none) me)
-  claims_here h old new l here bare one s r _ at _ =
+  claims_here h old new l knows here bare one s r _ at _ =
       let x : ℕ = pointer s.words h in
       let v : ℕ = top r.history h in let words : List ℕ = (newest r.history h).words in
       dite (ℕ_discrete x old)
@@ -118,6 +120,7 @@ module _ (beside : Beside) (steady : IsSteady beside) (first : ℕ) (c : Config)
         }) (ap (λ (j : ℕ). j + 1) e ∙ sym one ∙ ap (λ b. either b new x) (sym (eq-eqb x old e)))
             (any_seat beside steady first c s id me.0 at r u (set s.words (1 + h) (x + 1))
             r.history refl live record { holds = refl; took = refl; turns = refl }
+            (keeps_claim h me.0 (known_traces h me.0 knows) x v words)
             (same_lock s.words (1 + h) (x + 1) (omega arith))
             (own_claim c s.words s.views r.known r.history r.kept id me.0 at h x l refl here'
             (ap pins_of e ∙ bare))),
@@ -168,6 +171,7 @@ module _ (beside : Beside) (steady : IsSteady beside) (first : ℕ) (c : Config)
       tt,
       any_seat beside steady first c s id me.0 at r u (set s.words (base c + x.place + j) y)
           r.history refl live record { holds = refl; took = refl; turns = refl }
+          (keeps_held x.handle (with_word j y) me.0 (λ z. refl))
           (same_lock s.words (base c + x.place + j) y (omega arith))
           (own_store c s.words s.views r.known r.history r.kept id me.0 at x there j y lt),
       λ z i has lt' e. let k = r.kept in
@@ -204,6 +208,7 @@ module _ (beside : Beside) (steady : IsSteady beside) (first : ℕ) (c : Config)
       tt,
       any_seat beside steady first c s id me.0 at r u (set s.words (stamps c + x.handle) y)
           r.history refl live record { holds = refl; took = refl; turns = refl }
+          (keeps_held x.handle (with_stamp y) me.0 (λ z. refl))
           (same_lock s.words (stamps c + x.handle) y (omega arith))
           (own_stamp c s.words s.views r.known r.history r.kept id me.0 at x there y low),
       λ h e. let same : x.handle ≡ h =
@@ -226,7 +231,7 @@ module _ (beside : Beside) (steady : IsSteady beside) (first : ℕ) (c : Config)
           tt,
           any_seat beside steady first c s id me.0 at r u (set s.words (1 + x.handle) w)
               (next_entry x ∷ r.history) refl live
-              record { holds = refl; took = refl; turns = refl }
+              record { holds = refl; took = refl; turns = refl } (keeps_version x me.0 there)
               (same_lock s.words (1 + x.handle) w (omega arith))
               (own_settle c s.words s.views r.known r.history r.kept id me.0 at x there w at' bytes
               up write inside here bare hot fits),
@@ -245,7 +250,7 @@ module _ (beside : Beside) (steady : IsSteady beside) (first : ℕ) (c : Config)
           tt,
           any_seat beside steady first c s id me.0 at r u (set s.words (1 + x.handle) x.word)
               r.history refl live record { holds = refl; took = refl; turns = refl }
-              (same_lock s.words (1 + x.handle) x.word (omega arith))
+              (keeps_unclaim x.handle me.0) (same_lock s.words (1 + x.handle) x.word (omega arith))
               (own_put_back c s.words s.views r.known r.history r.kept id me.0 at x there same_stamp
               same_memory),
           λ h e. let same : x.handle ≡ h = omega (arith, e) in

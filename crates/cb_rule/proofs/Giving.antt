@@ -1,4 +1,4 @@
--- The holder gives the lock back, and the far state to its slot: its turn is one more of the history.
+-- The holder gives the lock back, and the far state to its slot: the history has its turn more.
 use Rattle.std.proofs.Common.{◌≡◌, ◌≢◌, ℕ, suc, ◌+◌, ◌*◌, ◌^◌, ◌<◌, ◌≤◌, Bool, true, cond, eqb, List, [], ◌∷◌, ◌++◌, length, set, Option, Some, None, sym, refl, ap, ◌∙◌, subst, inl, inr, ⊎_elim, arith, eq-eqb, ne_eqb, length-set, get_or-set_same, true≢false}
 use mathlib.Core.Option.{some, none}
 use lib.ListN.{get_elem?}
@@ -21,6 +21,7 @@ use Rattle.cb_rule.specs.Lists.{times, total, Each, Has}
 use Rattle.cb_rule.specs.Locking.{Deeds, IsUnlocked, Locked, Stood, TurnStands, is_turn, turn_number, turns_on}
 use Rattle.cb_rule.specs.LockSteps.{HasGiven, IsFoundFreed, MayGive, gave, gave_lock, turn_of}
 use Rattle.cb_rule.specs.Records.{SeenOk}
+use Rattle.cb_rule.specs.Own.{AreOwn, Make, reads_it, traces, writes_it}
 use Rattle.cb_rule.specs.Rule.{Kept}
 use Rattle.cb_rule.specs.Ruled.{Ruled}
 use Rattle.cb_rule.specs.Seats.{holding}
@@ -31,6 +32,7 @@ use Rattle.cb_rule.proofs.Glancing.{freed_at, known_below, known_made}
 use Rattle.cb_rule.proofs.Keeping.{seats_stay}
 use Rattle.cb_rule.proofs.Lifting.{shares_stay}
 use Rattle.cb_rule.proofs.Members.{each_has}
+use Rattle.cb_rule.proofs.Owning.{known_traces, not_it, own_given}
 use Rattle.cb_rule.proofs.Seating.{never_now}
 
 -- ---- far states by how many turns were counted, and one more
@@ -44,7 +46,8 @@ chain_else : (chain : ℕ → FarState) (n k : ℕ) (g : FarState) → k ≢ n
     → chain_with chain n g k ≡ chain k
 chain_else chain n k g ne = ap (λ (b : Bool). cond b g (chain k)) (ne_eqb k n ne)
 
-module _ (deeds : Deeds) (c : Config) (count : ℕ) (chain : ℕ → FarState) (few : count < 2 ^ 40) where
+module _ (deeds : Deeds) (c : Config) (count : ℕ) (chain : ℕ → FarState)
+    (few : count < 2 ^ 40) where
   -- where fewer than 2^40 turns were counted each has a number below them
   counted : (t : Turn) → TurnStands deeds c count chain t
       → (turn_number t < count) × (t.gave ≡ chain (turn_number t + 1))
@@ -84,7 +87,7 @@ total_none f (x ∷ xs) all = let a = all 0 x refl in
 module _ (deeds : Deeds) (first : ℕ) (c : Config) (s : Table) (id : ℕ) (v : View)
     (at : get_elem? s.views id ≡ some v) (r : Ruled (Locked deeds) first c s)
     (job : Job) (reply : Option Reply) (far : FarState) (freed : List Seen) (made : List ℕ)
-    (may : MayGive deeds c job reply far freed v) where
+    (may : MayGive deeds c job reply far freed made v) where
   abbrev lock : Locked deeds c s r.known
   lock = r.far
 
@@ -275,6 +278,26 @@ module _ (deeds : Deeds) (first : ℕ) (c : Config) (s : Table) (id : ℕ) (v : 
         did = may.did (length r.history);
       }
 
+  -- no freed entry is of an object of which the record had nothing
+  none_found : (h : ℕ) → traces h v ≡ 0 → times (reads_it h) freed ≡ 0
+  none_found h bare = go freed may.found
+    where
+      go : (xs : List Seen) → Each (IsFoundFreed v) xs → times (reads_it h) xs ≡ 0
+      go [] found = refl
+      go (x ∷ xs) found = let o = found.0 in let rest = go xs found.1 in
+          let same : x.handle ≡ o.handle = ap (λ (y : Seen). y.handle) o.entry in
+          let out = not_it o.handle h v (known_traces o.handle v o.knows) bare in
+          let off : cond {A = ℕ} (reads_it h x) 1 0 ≡ 0 =
+          ap (λ (k : ℕ). cond {A = ℕ} (eqb k h) 1 0) same ∙ out in omega (arith, off, rest)
+
+  own_now : AreOwn first views
+  own_now = own_given first s.views id v at r.own w made refl refl refl
+      (subst (λ (n : ℕ). Each (λ h. Make n h v.fresh) made)
+      (ap (λ (k : Shown). k.first) ((r.kept.seats id v at).knows may.holds) ∙ r.starts) may.makes)
+      (λ h bare. let all = times-append (writes_it h) v.fresh v.written in
+      let read = times-append (reads_it h) freed v.seen in let found = none_found h bare in
+      omega (arith, bare, all, read, found))
+
   ruled_given : (n : ℕ) → 1 ≤ v.share → n ≡ 2 * far.counts.turns
       → Ruled (Locked deeds) first c (after n)
   ruled_given n live word = record {
@@ -283,6 +306,8 @@ module _ (deeds : Deeds) (first : ℕ) (c : Config) (s : Table) (id : ℕ) (v : 
     starts = r.starts;
     kept = kept_given n;
     shares = shares_stay c s.views id v w at refl live r.shares;
+    own = own_now;
+    bound = λ h _. inl (stood.sound.here.known.stamped h);
     far = ⊎_elim
         (λ (z : (v.took.counts.turns < 2 ^ 40) × (far.counts.turns ≡ v.took.counts.turns + 1)).
         locked_next n word z.0 z.1)
@@ -316,7 +341,8 @@ one_in_hand d l f g a b = ap in_hand (sym a ∙ b)
 
 pub gives_lock : (deeds : Deeds) (first : ℕ) (c : Config) (slots id : ℕ) (me : Sat) (job : Job)
     (reply : Option Reply) (far : FarState) (freed : List Seen) (made : List ℕ) (n : ℕ)
-    → 1 ≤ me.0.share → me.1 ≡ (0, Some far) ∷ [] → MayGive deeds c job reply far freed me.0
+    → 1 ≤ me.0.share → me.1 ≡ (0, Some far) ∷ []
+    → MayGive deeds c job reply far freed made me.0
     → n ≡ 2 * far.counts.turns
     → Allows (Ruled (Locked deeds) first c) slots id me 0 (λ _. n)
     (λ _. gave job reply freed made (step slots 0 n 0 none) me n)

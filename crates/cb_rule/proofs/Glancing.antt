@@ -1,6 +1,6 @@
 -- Loads of any seat: of a pointer word, of a version word, and of a memory word that it pins or
 -- claims.
-use Rattle.std.proofs.Common.{◌≡◌, ◌≢◌, ◌⊎◌, ℕ, ◌+◌, ◌%◌, ◌^◌, ◌<◌, ◌≤◌, Bool, true, false, List, ◌++◌, get_or, set, sym, refl, ap, ◌∙◌, subst, inl, inr, ⊎_elim, arith, true≢false}
+use Rattle.std.proofs.Common.{◌≡◌, ◌≢◌, ◌⊎◌, ℕ, ◌+◌, ◌%◌, ◌^◌, ◌<◌, ◌≤◌, Bool, true, false, List, get_or, set, sym, refl, ap, ◌∙◌, subst, inl, inr, ⊎_elim, arith, true≢false}
 use mathlib.Core.Option.{some, none}
 use lib.ListN.{get_elem?}
 use Rattle.atomic_table.specs.Table.{step, keeps, Allows}
@@ -22,6 +22,7 @@ use Rattle.cb_rule.specs.declared.view.Stand.{Stand}
 use Rattle.cb_rule.specs.declared.view.View.{View}
 use Rattle.cb_rule.specs.History.{newest, top}
 use Rattle.cb_rule.specs.Lists.{total, Has}
+use Rattle.cb_rule.specs.Own.{AreOwn, IsAlone}
 use Rattle.cb_rule.specs.Records.{PinOk, HeldOk, SeenOk}
 use Rattle.cb_rule.specs.Rule.{Kept}
 use Rattle.cb_rule.specs.Ruled.{AreShares, Beside, IsSteady, Ruled}
@@ -31,11 +32,12 @@ use Rattle.cb_rule.specs.Stands.{Stands}
 use Rattle.cb_rule.specs.Steps.{IsNewest, Knows, LoadsHeld, TellsHeld, TellsPin, dated, freed_seen, glanced, read_held, with_freed, with_look}
 use Rattle.cb_rule.specs.Words.{stamps, base, pointer}
 use Rattle.cb_rule.proofs.Calm.{lies, still_rule}
-use Rattle.cb_rule.proofs.Counts.{each_append, each_map, each_there, total-at}
+use Rattle.cb_rule.proofs.Counts.{each_map, each_there, total-at}
 use Rattle.cb_rule.proofs.Histories.{entry_within, newest_entry}
 use Rattle.cb_rule.proofs.Members.{each_has}
 use Rattle.cb_rule.proofs.Lifting.{any_seat, same_words, set_same}
 use Rattle.cb_rule.proofs.Newest.{is_newest, others_spent, total_alone}
+use Rattle.cb_rule.proofs.Owning.{keeps_freed, known_traces}
 use Rattle.cb_rule.proofs.Pinning.{lost, reread}
 
 abbrev is_empty : State → Bool
@@ -62,12 +64,8 @@ module _ (c : Config) (ws : List ℕ) (views : List View) (known : Shown) (es : 
   known_entry : (id h : ℕ) (v : View) → get_elem? views id ≡ some v → Knows h v
       → (e : Entry) × Has e es × (e.handle ≡ h)
   known_entry id h v at knows = let ok = (r.seats id v at).lasting in ⊎_elim
-      (λ (k : (e : Entry) × Has e (v.fresh ++ v.written) × (e.handle ≡ h)). (
-        k.0,
-        each_has (λ e. Has e es) k.0 (v.fresh ++ v.written)
-            (each_append (λ e. Has e es) v.fresh v.written ok.fresh ok.written) k.1,
-        k.2,
-      ))
+      (λ (k : (e : Entry) × Has e v.written × (e.handle ≡ h)).
+      (k.0, each_has (λ e. Has e es) k.0 v.written ok.written k.1, k.2))
       (λ (k : (s : Seen) × Has s v.seen × (s.handle ≡ h)).
       let o = each_has (SeenOk es) k.0 v.seen ok.seen k.1 in
       (o.0, o.1, ap (λ (s : Seen). s.handle) (sym o.2) ∙ k.2)) knows
@@ -126,11 +124,15 @@ module _ (c : Config) (ws : List ℕ) (views : List View) (known : Shown) (es : 
       go (is.Claimed len place v words) q k f =
           absurd (other_state word.Moving refl (sym f.4 ∙ empty))
 
-  -- with the whole share all pins are one's own
-  pub own_pins : AreShares c views → (id h : ℕ) (v : View) → get_elem? views id ≡ some v
-      → v.share ≡ 64 → total (pins_on h) views ≡ pins_on h v
-  own_pins shares id h v at whole = total_alone (pins_on h) views id v at
-      (λ j u ne there. ap (pins_on h) (others_spent c views id j v u shares at whole ne there))
+  -- where no other view has the object all pins are one's own
+  pub own_pins : AreShares c views → (first : ℕ) → AreOwn first views → (id h : ℕ) (v : View)
+      → get_elem? views id ≡ some v → IsAlone h v → total (pins_on h) views ≡ pins_on h v
+  own_pins shares first own id h v at lone = total_alone (pins_on h) views id v at
+      (λ j u ne there. ⊎_elim
+      (λ (whole : v.share ≡ 64).
+      ap (pins_on h) (others_spent c views id j v u shares at whole ne there))
+      (λ (mine : Has h v.own). let none = own.alone id v at j u there ne h (inl mine) in
+      omega (arith, none)) lone)
 
 module _ (beside : Beside) (steady : IsSteady beside) (first : ℕ) (c : Config) (slots id : ℕ)
     (me : Sat) where
@@ -172,7 +174,7 @@ module _ (beside : Beside) (steady : IsSteady beside) (first : ℕ) (c : Config)
           (λ e. absurd (ne e)),
           (λ _. ap (λ (j : ℕ). let z : Sat = (with_look j x me.0, me.1) in z) same),
           λ here. subst (λ (j : ℕ). (x < 2 ^ 53) × (pins_on j me.0 ≤ pins_of x)
-              × (me.0.share ≡ 64 → pins_of x ≡ pins_on j me.0)) same (pins here),
+              × (IsAlone j me.0 → pins_of x ≡ pins_on j me.0)) same (pins here),
         ),
       )) (empty_or (state_of x))
     where
@@ -189,7 +191,7 @@ module _ (beside : Beside) (steady : IsSteady beside) (first : ℕ) (c : Config)
       made = known_made c s.words s.views r.known r.history k id h me.0 at knows
 
       above : IsNewest h v me.0
-      above = is_newest c s.words s.views r.known r.history k r.shares id me.0 h at made
+      above = is_newest c s.words s.views r.known r.history k r.shares first r.own id me.0 h at made
 
       found : state_of x ≡ word.Empty → Ruled beside first c record {
         words = s.words;
@@ -198,7 +200,8 @@ module _ (beside : Beside) (steady : IsSteady beside) (first : ℕ) (c : Config)
       }
       found e = let ok = k.seats id me.0 at in
           any_seat beside steady first c s id me.0 at r (with_freed h v x me.0) s.words r.history
-          refl live record { holds = refl; took = refl; turns = refl } refl
+          refl live record { holds = refl; took = refl; turns = refl }
+          (keeps_freed h me.0 (known_traces h me.0 knows) v x) refl
           (still_rule c s.words s.views r.known r.history k id h me.0 (with_freed h v x me.0) at
           record {
             same_config = refl;
@@ -216,14 +219,15 @@ module _ (beside : Beside) (steady : IsSteady beside) (first : ℕ) (c : Config)
           } refl)
 
       pins : state_of x ≡ word.Here → (x < 2 ^ 53) × (pins_on h me.0 ≤ pins_of x)
-          × (me.0.share ≡ 64 → pins_of x ≡ pins_on h me.0)
+          × (IsAlone h me.0 → pins_of x ≡ pins_on h me.0)
       pins here = let o = lies c s.words s.views r.known r.history k h l (inl here) in
           let f = subst (λ (z : Object). Fits z x) o.here (k.fit h l) in (
             f.0,
             (let many = total-at (pins_on h) s.views id me.0 at in let n = o.calm.count in
                 omega (arith, many, n)),
-            λ whole. o.calm.count
-                ∙ own_pins c s.words s.views r.known r.history k r.shares id h me.0 at whole,
+            λ lone. o.calm.count
+                ∙ own_pins c s.words s.views r.known r.history k r.shares first r.own id h me.0 at
+                lone,
           )
 
   -- a load under which the view stays as it is

@@ -1,7 +1,9 @@
 -- The lemmas of this crate that other crates cite.
 pub use Rattle.cb_rule.proofs.Acting.{settles, stamps_version, stores, takes_claim}
 pub use Rattle.cb_rule.proofs.Allowing.{claims_here, puts_back, settles_here, stamps_here, stores_here}
-pub use Rattle.cb_rule.proofs.Counts.{each_append, each_map, times-append}
+pub use Rattle.cb_rule.proofs.Closing.{EndsIn, IsAtEnd, closes_table}
+pub use Rattle.cb_rule.proofs.Binding.{entries_acted}
+pub use Rattle.cb_rule.proofs.Counts.{by_case, each_append, each_map, hit, times-append}
 pub use Rattle.cb_rule.proofs.Glancing.{dates, glances, reads_held}
 pub use Rattle.cb_rule.proofs.Giving.{gives_lock}
 pub use Rattle.cb_rule.proofs.Keeping.{sized_after}
@@ -9,10 +11,13 @@ pub use Rattle.cb_rule.proofs.Locking.{locked_steady}
 pub use Rattle.cb_rule.proofs.Looking.{loads, looks, tells}
 pub use Rattle.cb_rule.proofs.Members.{each_has, times_has}
 pub use Rattle.cb_rule.proofs.Opening.{opens, stood_empty}
+pub use Rattle.cb_rule.proofs.Owning.{known_entries}
 pub use Rattle.cb_rule.proofs.Peeking.{peeks}
 pub use Rattle.cb_rule.proofs.Pinning.{gives_pins, takes_pin}
 pub use Rattle.cb_rule.proofs.Promising.{promises}
 pub use Rattle.cb_rule.proofs.Seating.{joins, splits}
+pub use Rattle.cb_rule.proofs.ShownWorld.{world_shown}
 pub use Rattle.cb_rule.proofs.Showing.{is_shown, shown_sound}
 pub use Rattle.cb_rule.proofs.Taking.{takes_lock}
+pub use Rattle.cb_rule.proofs.Told.{are_told}
 pub use Rattle.cb_rule.proofs.Turns.{one_history, turns_stand}

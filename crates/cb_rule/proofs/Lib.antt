@@ -3,6 +3,8 @@ pub mod Members
 pub mod Growing
 pub mod Histories
 pub mod Keeping
+pub mod Owning
+pub mod Binding
 pub mod Lifting
 pub mod Looking
 pub mod Newest
@@ -26,7 +28,12 @@ pub mod Taking
 pub mod Giving
 pub mod Promising
 pub mod Turns
+pub mod Told
 pub mod Showing
+pub mod Lone
+pub mod ClosedWorld
+pub mod ShownWorld
+pub mod Closing
 pub mod Laws
 pub mod WorkedHistory
 pub mod WorkedViews
@@ -35,3 +42,7 @@ pub mod WorkedClaims
 pub mod WorkedPromise
 pub mod WorkedLocking
 pub mod WorkedTurns
+pub mod WorkedTold
+pub mod WorkedOwn
+pub mod WorkedClosing
+pub mod WorkedShown

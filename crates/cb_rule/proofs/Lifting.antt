@@ -10,13 +10,17 @@ use Rattle.cb_world.specs.declared.shown.Shown.{Shown}
 use Rattle.cb_world.specs.Played.{after}
 use Rattle.cb_world.specs.Written.{adds}
 use Rattle.cb_rule.specs.declared.view.View.{View}
+use Rattle.cb_rule.specs.Lists.{Each}
 use Rattle.cb_rule.specs.Rule.{Kept}
+use Rattle.cb_rule.specs.Own.{AreBound, AreOwn, MayWrite}
 use Rattle.cb_rule.specs.Ruled.{AreShares, Beside, IsAlike, IsSteady, Ruled}
 use Rattle.cb_rule.specs.Seats.{share_of}
 use Rattle.cb_rule.specs.Slot.{Table}
 use Rattle.cb_rule.specs.Steps.{act, blank}
 use Rattle.cb_rule.proofs.Counts.{total-same}
 use Rattle.cb_rule.proofs.Keeping.{Steps, first_stays, keeps_rule, seats_stay}
+use Rattle.cb_rule.proofs.Binding.{Stamps, bound_acted, bound_stays}
+use Rattle.cb_rule.proofs.Owning.{Keeps, own_acted, own_kept}
 
 -- a list with an element put where it is
 pub set_same : {A : Type 0} (vs : List A) (id : ℕ) (v : A) → get_elem? vs id ≡ some v
@@ -46,18 +50,30 @@ shares_stay c views id v w at same live r = record {
 module _ (beside : Beside) (steady : IsSteady beside) (first : ℕ) (c : Config) (s : Table)
     (id : ℕ) (v : View) (at : get_elem? s.views id ≡ some v) (r : Ruled beside first c s) where
   -- a step of any seat, under which what is known stays
-  pub any_seat : (w : View) (ws : List ℕ) (es : List Entry) → w.share ≡ v.share → 1 ≤ v.share
-      → IsAlike v w → get_or ws 0 0 ≡ get_or s.words 0 0
+  pub any_step : (w : View) (ws : List ℕ) (es : List Entry) → w.share ≡ v.share → 1 ≤ v.share
+      → IsAlike v w → AreOwn first (set s.views id w)
+      → AreBound c r.known (set s.views id w) → get_or ws 0 0 ≡ get_or s.words 0 0
       → Kept c ws (set s.views id w) r.known es
       → Ruled beside first c record { words = ws; homes = s.homes; views = set s.views id w }
-  any_seat w ws es share live alike lock kept = record {
+  any_step w ws es share live alike own bound lock kept = record {
     known = r.known;
     history = es;
     starts = r.starts;
     kept = kept;
     shares = shares_stay c s.views id v w at share live r.shares;
+    own = own;
+    bound = bound;
     far = steady.stays c s ws r.known r.known id v w at lock alike (inl refl) refl r.far;
   }
+
+  -- one under which no object comes to it that is another's own
+  pub any_seat : (w : View) (ws : List ℕ) (es : List Entry) → w.share ≡ v.share → 1 ≤ v.share
+      → IsAlike v w → Keeps v w → get_or ws 0 0 ≡ get_or s.words 0 0
+      → Kept c ws (set s.views id w) r.known es
+      → Ruled beside first c record { words = ws; homes = s.homes; views = set s.views id w }
+  any_seat w ws es share live alike keeps lock kept = any_step w ws es share live alike
+      (own_kept first s.views id v at r.own w keeps)
+      (bound_stays c r.known s.views id v w at keeps.holds keeps.more r.bound) lock kept
 
   -- what the holder knows is what the rule knows
   pub mine : v.holds ≡ true → Kept c s.words s.views v.known r.history
@@ -66,13 +82,14 @@ module _ (beside : Beside) (steady : IsSteady beside) (first : ℕ) (c : Config)
 
   -- a step of the holder
   pub next : (e : Event) (i x : ℕ) → v.holds ≡ true → 1 ≤ v.share → 0 < i
+      → Each (λ (y : Entry). MayWrite y.handle v.known v) (adds e v.known) → Stamps e v
       → Steps c s.words (set s.words i x) s.views v e r.history
       → Ruled beside first c record {
         words = set s.words i x;
         homes = s.homes;
         views = set s.views id (act e v);
       }
-  next e i x holds live pos t =
+  next e i x holds live pos within stamps t =
       let first_is : (after e v.known).first ≡ r.known.first = first_stays e v.known
       ∙ ap (λ (k : Shown). k.first) ((r.kept.seats id v at).knows holds) in record {
         known = after e v.known;
@@ -81,6 +98,12 @@ module _ (beside : Beside) (steady : IsSteady beside) (first : ℕ) (c : Config)
         kept = keeps_rule c s.words (set s.words i x) s.views id v e r.history (mine holds) at
             holds t;
         shares = shares_stay c s.views id v (act e v) at refl live r.shares;
+        own = own_acted first c s.words s.views id v at r.own e r.history (mine holds) holds
+            (sym (ap (λ (k : Shown). k.first) ((r.kept.seats id v at).knows holds) ∙ r.starts))
+            t.follows t.within within;
+        bound = bound_acted c s.views id v at holds (mine holds).sized e stamps
+            (subst (λ (k : Shown). AreBound c k s.views)
+            (sym ((r.kept.seats id v at).knows holds)) r.bound);
         far = steady.stays c s (set s.words i x) r.known (after e v.known) id v (act e v) at
             (same_lock s.words i x pos) record { holds = refl; took = refl; turns = refl }
             (inr holds) first_is r.far;
@@ -88,12 +111,14 @@ module _ (beside : Beside) (steady : IsSteady beside) (first : ℕ) (c : Config)
 
   -- a load of the holder
   pub next_load : (e : Event) (i : ℕ) → v.holds ≡ true → 1 ≤ v.share → 0 < i
+      → Each (λ (y : Entry). MayWrite y.handle v.known v) (adds e v.known) → Stamps e v
       → Steps c s.words s.words s.views v e r.history
       → Ruled beside first c record {
         words = set s.words i (get_or s.words i 0);
         homes = s.homes;
         views = set s.views id (act e v);
       }
-  next_load e i holds live pos t = next e i (get_or s.words i 0) holds live pos
+  next_load e i holds live pos within stamps t = next e i (get_or s.words i 0) holds live pos
+      within stamps
       (subst (λ (ws : List ℕ). Steps c s.words ws s.views v e r.history)
       (sym (same_words s.words i)) t)

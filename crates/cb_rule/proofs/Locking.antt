@@ -15,7 +15,8 @@ use Rattle.cb_rule.specs.Slot.{Table}
 use Rattle.cb_rule.specs.Steps.{blank, joined}
 use Rattle.cb_rule.proofs.Counts.{each_append, hit, miss, times-append, total-at, total-same}
 use Rattle.cb_rule.proofs.Keeping.{seats_stay}
-use Rattle.cb_rule.proofs.Seating.{at_snoc, set_else, total_joined, total_split}
+use Rattle.cb_rule.proofs.Members.{at_snoc}
+use Rattle.cb_rule.proofs.Seating.{set_else, total_joined, total_split}
 
 module _ (deeds : Deeds) (c : Config) (s : Table) (known : Shown) (r : Locked deeds c s known) where
   abbrev Takes : ℕ → View → Type 0

@@ -111,6 +111,7 @@ module _ (beside : Beside) (steady : IsSteady beside) (first : ℕ) (c : Config)
         keeps,
         tt,
         next_load beside steady first c s id me.0 at r (Looked h x) (1 + h) holds live (omega arith)
+            tt tt
             (look_steps c s.words s.views me.0 r.history m h l),
         λ h' e. let same : h ≡ h' = omega arith in
             subst (λ (j : ℕ). Does me (Looked j x) (act (Looked h x) me.0, me.1)) same
@@ -127,7 +128,7 @@ module _ (beside : Beside) (steady : IsSteady beside) (first : ℕ) (c : Config)
         keeps,
         tt,
         next_load beside steady first c s id me.0 at r (Told h x) (stamps c + h) holds live
-            (omega arith) (tell_steps c s.words s.views me.0 r.history m h),
+            (omega arith) tt tt (tell_steps c s.words s.views me.0 r.history m h),
         λ h' e. let same : h ≡ h' = omega arith in
             subst (λ (j : ℕ). Does me (Told j x) (act (Told h x) me.0, me.1)) same
             (refl, tell_agrees c s.words s.views me.0 r.history m h l),
@@ -143,7 +144,7 @@ module _ (beside : Beside) (steady : IsSteady beside) (first : ℕ) (c : Config)
         keeps,
         tt,
         next_load beside steady first c s id me.0 at r (Loaded p x) (base c + p) holds live
-            (omega arith) (load_steps c s.words s.views me.0 r.history m p),
+            (omega arith) tt tt (load_steps c s.words s.views me.0 r.history m p),
         λ p' e. let same : p ≡ p' = omega arith in
             subst (λ (j : ℕ). Does me (Loaded j x) (act (Loaded p x) me.0, me.1)) same
             (refl, load_agrees c s.words s.views me.0 r.history m p),

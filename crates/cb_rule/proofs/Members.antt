@@ -1,6 +1,6 @@
 -- What stands in a list, and what is counted there.
-use Rattle.std.proofs.Common.{◌≡◌, ℕ, zero, suc, ◌+◌, ◌<◌, ◌≤◌, Bool, true, cond, List, [], ◌∷◌, refl, ap, ◌∙◌, subst, inl, inr, ⊎_elim, arith}
-use mathlib.Core.Option.{some}
+use Rattle.std.proofs.Common.{◌≡◌, ◌⊎◌, ℕ, zero, suc, ◌+◌, ◌<◌, ◌≤◌, Bool, true, cond, List, [], ◌∷◌, ◌++◌, sym, refl, ap, ◌∙◌, subst, inl, inr, ⊎_elim, arith}
+use mathlib.Core.Option.{some, some-injective, some-ne-none}
 use lib.ListN.{get_elem?}
 use Rattle.cb_rule.specs.Lists.{times, total, Each, Has}
 use Rattle.cb_rule.proofs.Counts.{by_case, hit}
@@ -39,3 +39,11 @@ module _ {A : Type 0} where
           → (j : ℕ) × (u : A) × (get_elem? (x ∷ xs) j ≡ some u) × (1 ≤ f u)
       pick zero e rest = let z = rest (omega (arith, e, le)) in (suc z.0, z.1, z.2, z.3)
       pick (suc n) e rest = (0, x, refl, omega (arith, e))
+
+-- an element of a list with one more is one of the list, or that one
+pub at_snoc : {A : Type 0} (vs : List A) (w u : A) (j : ℕ) → get_elem? (vs ++ w ∷ []) j ≡ some u
+    → (get_elem? vs j ≡ some u) ⊎ (w ≡ u)
+at_snoc [] w u zero e = inr (some-injective w u e)
+at_snoc [] w u (suc j) e = absurd (some-ne-none u (sym e))
+at_snoc (x ∷ xs) w u zero e = inl e
+at_snoc (x ∷ xs) w u (suc j) e = at_snoc xs w u j e

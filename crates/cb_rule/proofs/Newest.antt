@@ -1,5 +1,6 @@
--- What a record has of an object is not newer than the newest, which with the whole share it wrote.
-use Rattle.std.proofs.Common.{◌≡◌, ◌≢◌, ℕ, zero, suc, ◌<◌, ◌≤◌, List, [], ◌∷◌, ◌++◌, sym, refl, ap, subst, ⊎_elim, arith}
+-- What a record has of an object is not newer than the newest, which it wrote where no other view has
+-- the object.
+use Rattle.std.proofs.Common.{◌≡◌, ◌≢◌, ℕ, zero, suc, ◌<◌, ◌≤◌, List, [], ◌∷◌, ◌++◌, sym, refl, ap, subst, inl, ⊎_elim, arith}
 use mathlib.Core.Option.{some, some-injective, some-ne-none}
 use lib.ListN.{get_elem?}
 use Rattle.cb_types.specs.declared.config.Config.{Config}
@@ -9,6 +10,7 @@ use Rattle.cb_rule.specs.declared.view.Seen.{Seen}
 use Rattle.cb_rule.specs.declared.view.View.{View}
 use Rattle.cb_rule.specs.History.{top}
 use Rattle.cb_rule.specs.Lists.{total, Has}
+use Rattle.cb_rule.specs.Own.{AreOwn, IsAlone}
 use Rattle.cb_rule.specs.Records.{SeenOk}
 use Rattle.cb_rule.specs.Rule.{Kept}
 use Rattle.cb_rule.specs.Ruled.{AreShares}
@@ -16,6 +18,7 @@ use Rattle.cb_rule.specs.Seats.{share_of, written_on}
 use Rattle.cb_rule.specs.Steps.{IsNewest, blank}
 use Rattle.cb_rule.proofs.Counts.{each_append, each_map, total-two}
 use Rattle.cb_rule.proofs.Histories.{begun, entry_within, once}
+use Rattle.cb_rule.proofs.Owning.{version_of}
 
 -- a total to which one element alone adds
 pub total_alone : {A : Type 0} (f : A → ℕ) (vs : List A) (i : ℕ) (v : A) → get_elem? vs i ≡ some v
@@ -47,7 +50,8 @@ others_spent c views id j v u r at whole ne there =
     r.spent j u there (omega (arith, two, all, whole))
 
 module _ (c : Config) (ws : List ℕ) (views : List View) (known : Shown) (es : List Entry)
-    (r : Kept c ws views known es) (shares : AreShares c views) where
+    (r : Kept c ws views known es) (shares : AreShares c views) (first : ℕ)
+    (own : AreOwn first views) where
   pub is_newest : (id : ℕ) (v : View) (h : ℕ) → get_elem? views id ≡ some v → 0 < top es h
       → IsNewest h (top es h) v
   is_newest id v h at pos = let ok = (r.seats id v at).lasting in record {
@@ -57,14 +61,23 @@ module _ (c : Config) (ws : List ℕ) (views : List View) (known : Shown) (es : 
     seen = each_map (SeenOk es) (λ (s : Seen). s.handle ≡ h → s.version ≤ top es h) v.seen
         (λ s o same. subst (λ (x : Seen). x.handle ≡ h → x.version ≤ top es h) (sym o.2)
         (λ q. below o.0 o.1 q) same) ok.seen;
-    whole = λ all. let lone = total_alone (written_on h (top es h)) views id v at
-        (λ j u ne there. ap (λ (x : View). written_on h (top es h) x)
-        (others_spent c views id j v u shares at all ne there)) in
+    lone = λ alone. let lone = total_alone (written_on h (top es h)) views id v at
+        (λ j u ne there. not_written j u ne there alone) in
         let count = r.recorded h (top es h) in
         let one = once known.first r.begins es h (top es h) r.history in
         let low = born in omega (arith, lone, count, one, low);
   }
     where
+      -- another view did not write it
+      not_written : (j : ℕ) (u : View) → j ≢ id → get_elem? views j ≡ some u → IsAlone h v
+          → written_on h (top es h) u ≡ 0
+      not_written j u ne there alone = ⊎_elim
+          (λ (whole : v.share ≡ 64). ap (λ (x : View). written_on h (top es h) x)
+          (others_spent c views id j v u shares at whole ne there))
+          (λ (mine : Has h v.own). let none = own.alone id v at j u there ne h (inl mine) in
+          let a = version_of h (top es h) u.fresh in let b = version_of h (top es h) u.written in
+          omega (arith, none, a, b)) alone
+
       born : known.first ≤ top es h
       born = ⊎_elim (λ (z : (top es h ≡ 0) × _). let q = z.0 in absurd (omega (arith, pos, q)))
           (λ (z : known.first ≤ top es h). z) (begun known.first r.begins es h r.history)

@@ -1,5 +1,5 @@
 -- The rule at the start: no object was made, every word is 0, and no turn was counted.
-use Rattle.std.proofs.Common.{◌≡◌, ℕ, zero, suc, ◌+◌, ◌*◌, ◌<◌, ◌≤◌, true, false, List, [], ◌∷◌, length, get_or, replicate, Some, sym, refl, ap, ◌∙◌, subst, arith, true≢false}
+use Rattle.std.proofs.Common.{◌≡◌, ℕ, zero, suc, ◌+◌, ◌*◌, ◌<◌, ◌≤◌, true, false, List, [], ◌∷◌, length, get_or, replicate, Some, sym, refl, ap, ◌∙◌, subst, inl, inr, arith, true≢false}
 use mathlib.Core.Option.{some, some-injective, some-ne-none}
 use lib.ListN.{get_elem?}
 use Rattle.atomic_table.specs.Table.{opening}
@@ -27,6 +27,7 @@ use Rattle.cb_rule.specs.Slot.{Table}
 use Rattle.cb_rule.specs.Stands.{Stands}
 use Rattle.cb_rule.specs.Steps.{blank, opener}
 use Rattle.cb_rule.specs.Words.{base, pointer}
+use Rattle.cb_rule.proofs.Owning.{own_one}
 use Rattle.cb_rule.proofs.Seating.{never_now}
 
 pub same_each : {A : Type 0} (n : ℕ) (x : A) (i : ℕ) → get_or (replicate n x) i x ≡ x
@@ -167,6 +168,8 @@ module _ (first : ℕ) (pos : 1 ≤ first) (c : Config) (ws : List ℕ) (wide : 
         spent = one_view (λ u. u.share ≡ 0 → u ≡ blank c)
             (λ none. absurd (let z : 64 ≡ 0 = none in omega (arith, z)));
       };
+      own = own_one first (opener c) refl refl;
+      bound = λ h l. inr (inl (same_each c.handles never h));
       far = locked_opens;
     }
 

@@ -26,12 +26,13 @@ use Rattle.cb_rule.specs.declared.view.Stand.{Stand}
 use Rattle.cb_rule.specs.declared.view.View.{View}
 use Rattle.cb_rule.specs.History.{Value, newest, top}
 use Rattle.cb_rule.specs.Lists.{removed, Each}
+use Rattle.cb_rule.specs.Own.{AreOwn}
 use Rattle.cb_rule.specs.Records.{PinOk, SeenOk, PeekedOk, RecordOk}
 use Rattle.cb_rule.specs.Rule.{Kept}
 use Rattle.cb_rule.specs.Ruled.{Beside, IsSteady, Ruled, AreShares}
 use Rattle.cb_rule.specs.Seats.{pins_it, pins_on}
 use Rattle.cb_rule.specs.Slot.{Sat}
-use Rattle.cb_rule.specs.Steps.{Finds, pinned, unpinned, version_seen, with_look, with_pin, without_pin}
+use Rattle.cb_rule.specs.Steps.{Finds, Knows, pinned, unpinned, version_seen, with_look, with_pin, without_pin}
 use Rattle.cb_rule.specs.Words.{base, pointer}
 use Rattle.cb_rule.proofs.Calm.{Lies, Quiet, calm_rule, lies, still_rule}
 use Rattle.cb_rule.proofs.Counts.{each_removed, hit, miss, times-removed, times-removed_else, total-at, total-set}
@@ -39,6 +40,7 @@ use Rattle.cb_rule.proofs.Histories.{IsEntry, newest_entry}
 use Rattle.cb_rule.proofs.Keeping.{lies_here}
 use Rattle.cb_rule.proofs.Lifting.{any_seat, same_lock, same_words}
 use Rattle.cb_rule.proofs.Newest.{is_newest}
+use Rattle.cb_rule.proofs.Owning.{keeps_all, keeps_pin, keeps_unpin, known_traces}
 
 -- the record with other pins, claims, looks and words that were read
 pub reread : (c : Config) (first : ℕ) (es : List Entry) (v : View) (share ever : ℕ)
@@ -98,14 +100,15 @@ seen_is es h k len words value n e = (
 )
 
 module _ (c : Config) (ws : List ℕ) (views : List View) (known : Shown) (es : List Entry)
-    (r : Kept c ws views known es) (shares : AreShares c views) where
+    (r : Kept c ws views known es) (shares : AreShares c views) (first : ℕ)
+    (own : AreOwn first views) where
   -- what a word tells of an object that lies in local memory and that no one claims
   pub finds : (id h : ℕ) (v : View) → get_elem? views id ≡ some v → h < c.handles
       → (o : Lies c ws views known es r h)
       → Finds h (pointer ws h) (top es h) (newest es h).words v
   finds id h v at l o = let x : ℕ = pointer ws h in
       let f = subst (λ (z : Object). Fits z x) o.here (r.fit h l) in record {
-        above = is_newest c ws views known es r shares id v h at
+        above = is_newest c ws views known es r shares first own id v h at
             (let b = o.born in let p = r.begins in omega (arith, b, p));
         inside = λ j lt. subst (λ (q : Config). place_of x + j < 512 * q.frames)
             (sym (r.seats id v at).same_config)
@@ -145,15 +148,16 @@ module _ (beside : Beside) (steady : IsSteady beside) (first : ℕ) (c : Config)
         views = set s.views id (with_look h x me.0);
       }
   lost s x r at = any_seat beside steady first c s id me.0 at r (with_look h x me.0) s.words
-      r.history refl live record { holds = refl; took = refl; turns = refl } refl
+      r.history refl live record { holds = refl; took = refl; turns = refl }
+      (keeps_all me.0 (with_look h x me.0).looks me.0.peeked) refl
       (still_rule c s.words s.views r.known r.history r.kept id h me.0 (with_look h x me.0) at
       (looks_quiet c s.words s.views r.known r.history r.kept id h x me.0 at) refl)
 
-  pub takes_pin : (old new : ℕ) → state_of old ≡ word.Here → pins_of old < 1023
-      → length me.0.pins ≤ 16 → TakesPin old new
+  pub takes_pin : (old new : ℕ) → Knows h me.0 → state_of old ≡ word.Here
+      → pins_of old < 1023 → length me.0.pins ≤ 16 → TakesPin old new
       → Allows (Ruled beside first c) slots id me (1 + h) (λ x. either (eqb x old) new x)
       (pinned (step slots (1 + h) old new none) me)
-  takes_pin old new here room few t s r _ at _ = let x : ℕ = pointer s.words h in
+  takes_pin old new knows here room few t s r _ at _ = let x : ℕ = pointer s.words h in
       dite (ℕ_discrete x old)
       (λ e. let k = r.kept in let es = r.history in
       let o = lies c s.words s.views r.known es k h l (inl (ap state_of e ∙ here)) in
@@ -186,12 +190,13 @@ module _ (beside : Beside) (steady : IsSteady beside) (first : ℕ) (c : Config)
         }) (ap (λ b. either b new x) (sym (eq-eqb x old e)))
             (any_seat beside steady first c s id me.0 at r w (set s.words (1 + h) new) es refl
             live record { holds = refl; took = refl; turns = refl }
+            (keeps_pin h me.0 (known_traces h me.0 knows) x v words)
             (same_lock s.words (1 + h) new (omega arith)) kept),
         λ h' q. let same : h ≡ h' = omega (arith, q) in (
           (λ _. let p = subst (λ (j : ℕ).
               (let z : Sat = (w, me.1) in z ≡ (with_pin j x v words me.0, me.1))
               × Finds j x v words me.0) same
-              (refl, finds c s.words s.views r.known es k r.shares id h me.0 at l o) in
+              (refl, finds c s.words s.views r.known es k r.shares first r.own id h me.0 at l o) in
               (v, words, p.0, p.1)),
           λ ne. absurd (ne e),
         ),
@@ -242,7 +247,10 @@ module _ (beside : Beside) (steady : IsSteady beside) (first : ℕ) (c : Config)
             others = λ q ne. (let out = miss (eqb h q) (ne_eqb h q (λ y. ne (sym y))) in
                 omega (arith, out));
             lasting = reread c r.known.first es me.0 me.0.share _ _ me.0.claims _ _ me.0.peeked
-                ok.lasting (reads c s.words s.views r.known es k r.shares h l o, ok.lasting.seen)
+                ok.lasting (
+                  reads c s.words s.views r.known es k r.shares first r.own h l o,
+                  ok.lasting.seen,
+                )
                 ok.lasting.peeked;
           }
 
@@ -285,7 +293,7 @@ module _ (beside : Beside) (steady : IsSteady beside) (first : ℕ) (c : Config)
         }) (sym less)
             (any_seat beside steady first c s id me.0 at r w (set s.words (1 + h)
             (x - 8)) es refl live
-            record { holds = refl; took = refl; turns = refl }
+            record { holds = refl; took = refl; turns = refl } (keeps_unpin h me.0)
             (same_lock s.words (1 + h) (x - 8) (omega arith))
             (calm_rule c s.words s.views r.known es k h l o (x - 8) id me.0 w at quiet (
               (let b = f.0 in omega (arith, n, b)),

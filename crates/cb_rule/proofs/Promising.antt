@@ -1,5 +1,5 @@
 -- The rule says what stands of the words and the views alone.
-use Rattle.std.proofs.Common.{◌≡◌, ℕ, ◌+◌, ◌*◌, ◌/◌, ◌%◌, ◌<◌, ◌&&◌, Bool, true, false, eqb, List, [], ◌++◌, sym, refl, ap, ◌∙◌, subst, inl, inr, ⊎_elim, arith, eq-eqb, eqb-true, true≢false}
+use Rattle.std.proofs.Common.{◌≡◌, ℕ, ◌+◌, ◌*◌, ◌/◌, ◌%◌, ◌<◌, ◌&&◌, Bool, true, eqb, List, [], ◌++◌, sym, refl, ap, ◌∙◌, subst, inl, inr, ⊎_elim, arith, eq-eqb, eqb-true}
 use mathlib.Core.Option.{some}
 use lib.ListN.{get_elem?}
 use Rattle.cb_types.specs.declared.config.Config.{Config}
@@ -14,10 +14,10 @@ use Rattle.cb_world.specs.Shown.{Fits, object_at, version_at}
 use Rattle.cb_world.specs.StillDesk.{bits_here, bits_moving}
 use Rattle.cb_rule.specs.declared.view.Held.{Held}
 use Rattle.cb_rule.specs.declared.view.View.{View}
-use Rattle.cb_rule.specs.History.{Value, is_version, newest, top}
+use Rattle.cb_rule.specs.History.{Value, is_version, newest, top, value_of}
 use Rattle.cb_rule.specs.Lists.{total, Each, Has}
-use Rattle.cb_rule.specs.Promised.{ClaimsStand, HeldStands, HereStands, Is, IsLast, Names, PinsStand, WordsStand, Wrote}
-use Rattle.cb_rule.specs.Records.{HeldOk, SeenOk}
+use Rattle.cb_rule.specs.Promised.{ClaimsStand, EntriesStand, HeldStands, HereStands, Is, IsLast, Names, PinsStand, WordsStand, Wrote}
+use Rattle.cb_rule.specs.Records.{HeldOk, PeekedOk, SeenOk}
 use Rattle.cb_rule.specs.Rule.{Kept}
 use Rattle.cb_rule.specs.Ruled.{Beside, Ruled}
 use Rattle.cb_rule.specs.Seats.{pins_on, claims_on, written_on}
@@ -27,11 +27,8 @@ use Rattle.cb_rule.specs.Words.{pointer, words_at}
 use Rattle.cb_rule.proofs.Calm.{lies}
 use Rattle.cb_rule.proofs.Counts.{each_append, times-append}
 use Rattle.cb_rule.proofs.Members.{each_has, has_times, times_has, total_some}
+use Rattle.cb_rule.proofs.Owning.{both_true}
 use Rattle.cb_rule.proofs.Histories.{IsEntry, entry_before, entry_within, newest_entry, once, same_entry, stands}
-
-both_true : (a b : Bool) → (a && b) ≡ true → (a ≡ true) × (b ≡ true)
-both_true true b e = (refl, e)
-both_true false b e = absurd (true≢false (sym e))
 
 has_same : (x e : Entry) (xs : List Entry) → x ≡ e → Has x xs → Has e xs
 has_same x e xs is h = subst (λ (y : Entry). Has y xs) is h
@@ -82,7 +79,7 @@ module _ (c : Config) (ws : List ℕ) (views : List View) (known : Shown) (es : 
         let v = n.version in omega (arith, z, t, v),
   )
 
-  last_top : (e : Entry) → IsLast views e → e.version ≡ top es e.handle
+  pub last_top : (e : Entry) → IsLast views e → e.version ≡ top es e.handle
   last_top e last = let there = wrote_has e last.0 in
       let z = entry_within known.first r.begins e es r.history there in
       let low = z.0 in let high = z.1 in let b = r.begins in
@@ -90,7 +87,16 @@ module _ (c : Config) (ws : List ℕ) (views : List View) (known : Shown) (es : 
       let most = last.1 n.entry (has_wrote n.entry n.there) n.handle in
       let v = n.version in omega (arith, high, most, v)
 
-  pins_stand : (h : ℕ) → h < c.handles → PinsStand ws views h
+  -- and has what the history has as the newest
+  pub last_newest : (e : Entry) → IsLast views e → value_of e ≡ newest es e.handle
+  last_newest e last = let there = wrote_has e last.0 in
+      let low = (entry_within known.first r.begins e es r.history there).0 in
+      let t = last_top e last in let b = r.begins in
+      let n = newest_entry es e.handle (omega (arith, low, t, b)) in
+      ap value_of (same_entry known.first r.begins e n.entry es r.history there n.there
+      (sym n.handle) (t ∙ sym n.version)) ∙ n.has
+
+  pub pins_stand : (h : ℕ) → h < c.handles → PinsStand ws views h
   pins_stand h l = record {
     counted = all;
     here = λ pos. (lies c ws views known es r h l (inr (omega (arith, pos, all)))).calm.state;
@@ -191,6 +197,27 @@ module _ (c : Config) (ws : List ℕ) (views : List View) (known : Shown) (es : 
         words = ap (λ (y : Value). y.words) has;
       }
 
+  pub entries_stand : EntriesStand known.first views
+  entries_stand = record {
+    read = λ s there. let u = there.0 in let at = there.1 in
+        let o = each_has (SeenOk es) s u.seen (r.seats at.0 u at.1).lasting.seen there.2 in
+        (o.0, has_wrote o.0 o.1, o.2);
+    peeked = λ p there. let u = there.0 in let at = there.1 in
+        let o = each_has (PeekedOk es) p u.peeked (r.seats at.0 u at.1).lasting.peeked there.2 in
+        (o.0, has_wrote o.0 o.1, o.2);
+    born = λ e a. (entry_within known.first r.begins e es r.history (wrote_has e a)).0;
+    same = λ e x a b eh ev. same_entry known.first r.begins e x es r.history (wrote_has e a)
+        (wrote_has x b) eh ev;
+    once = λ e k last low high. r.recorded e.handle k
+        ∙ once known.first r.begins es e.handle k r.history
+        ∙ (let t = last_top e last in let one : stands known.first k (top es e.handle) ≡ 1 =
+        omega (arith, t, low, high) in one);
+    goes_on = λ e a. ⊎_elim
+        (λ (z : (e.version ≡ known.first) × (e.before ≡ [])). inl z)
+        (λ (z : _). inr (z.0, has_wrote z.0 z.1, z.2, z.3, z.4, z.5))
+        (entry_before known.first r.begins e es r.history (wrote_has e a));
+  }
+
   pub words_stand : WordsStand known.first c ws views
   words_stand = record {
     pins = pins_stand;
@@ -202,19 +229,7 @@ module _ (c : Config) (ws : List ℕ) (views : List View) (known : Shown) (es : 
         ne ca cb;
     here = here_stands;
     held = held_stands;
-    read = λ s there. let u = there.0 in let at = there.1 in
-        let o = each_has (SeenOk es) s u.seen (r.seats at.0 u at.1).lasting.seen there.2 in
-        (o.0, has_wrote o.0 o.1, o.2);
-    same = λ e x a b eh ev. same_entry known.first r.begins e x es r.history (wrote_has e a)
-        (wrote_has x b) eh ev;
-    once = λ e k last low high. r.recorded e.handle k
-        ∙ once known.first r.begins es e.handle k r.history
-        ∙ (let t = last_top e last in let one : stands known.first k (top es e.handle) ≡ 1 =
-        omega (arith, t, low, high) in one);
-    goes_on = λ e a. ⊎_elim
-        (λ (z : (e.version ≡ known.first) × (e.before ≡ [])). inl z)
-        (λ (z : _). inr (z.0, has_wrote z.0 z.1, z.2, z.3, z.4, z.5))
-        (entry_before known.first r.begins e es r.history (wrote_has e a));
+    entries = entries_stand;
   }
 
 -- the rule of the whole table

@@ -1,7 +1,7 @@
 -- A seat is split, and two are joined.
-use Rattle.std.proofs.Common.{◌≡◌, ◌≢◌, ◌⊎◌, ℕ, zero, suc, ◌+◌, ◌<◌, ◌≤◌, Bool, false, cond, List, [], ◌∷◌, ◌++◌, length, map, set, sym, refl, ap, ◌∙◌, subst, inl, inr, ⊎_elim, arith, true≢false}
+use Rattle.std.proofs.Common.{◌≡◌, ◌≢◌, ℕ, zero, suc, ◌+◌, ◌<◌, ◌≤◌, Bool, false, cond, List, [], ◌∷◌, ◌++◌, length, map, set, sym, refl, ap, ◌∙◌, subst, ⊎_elim, arith, true≢false}
 use Rattle.std.proofs.lemmas.List.{append-nil}
-use mathlib.Core.Option.{some, some-injective, some-ne-none}
+use mathlib.Core.Option.{some}
 use lib.ListN.{get_elem?}
 use Rattle.atomic_table.specs.Table.{Splits, Joins}
 use Rattle.cb_types.specs.declared.config.Config.{Config}
@@ -20,6 +20,9 @@ use Rattle.cb_rule.specs.Stands.{Stands}
 use Rattle.cb_rule.specs.Steps.{blank, joined, left_of, right_of}
 use Rattle.cb_rule.proofs.Counts.{each_append, each_map, each_mapped, times-append, total-same, total-set, total-snoc}
 use Rattle.cb_rule.proofs.Keeping.{seats_stay}
+use Rattle.cb_rule.proofs.Members.{at_snoc}
+use Rattle.cb_rule.proofs.Binding.{bound_joined, bound_split}
+use Rattle.cb_rule.proofs.Owning.{own_joined, own_split}
 
 -- a total to which the new element adds nothing
 pub total_split : (f : View → ℕ) (vs : List View) (id : ℕ) (v left right : View)
@@ -36,13 +39,6 @@ pub total_joined : (f : View → ℕ) (vs : List View) (id other : ℕ) (v w bot
 total_joined f vs id other v w both spent at there e z =
     let a = total-set f vs id v both at in
     let b = total-set f (set vs id both) other w spent there in omega (arith, a, b, e, z)
-
-pub at_snoc : (vs : List View) (w u : View) (j : ℕ) → get_elem? (vs ++ w ∷ []) j ≡ some u
-    → (get_elem? vs j ≡ some u) ⊎ (w ≡ u)
-at_snoc [] w u zero e = inr (some-injective w u e)
-at_snoc [] w u (suc j) e = absurd (some-ne-none u (sym e))
-at_snoc (x ∷ xs) w u zero e = inl e
-at_snoc (x ∷ xs) w u (suc j) e = at_snoc xs w u j e
 
 pub set_else : (vs : List View) (id other : ℕ) (w : View) → other ≢ id
     → get_elem? (set vs id w) other ≡ get_elem? vs other
@@ -281,26 +277,31 @@ shares_joined c views id v other w at there live r = record {
 }
 
 module _ (beside : Beside) (steady : IsSteady beside) (first : ℕ) (c : Config) where
-  pub splits : (id : ℕ) (v : View) (given : ℕ) → 1 ≤ given → given < v.share
+  pub splits : (id : ℕ) (v : View) (given : ℕ) → 1 ≤ given → given < v.share → v.fresh ≡ []
       → Splits (Ruled beside first c) id v (left_of given v) (right_of given v)
-  splits id v given some_share less s r at = record {
+  splits id v given some_share less fresh s r at = record {
     known = r.known;
     history = r.history;
     starts = r.starts;
     kept = kept_splits c s.words s.views r.known r.history r.kept id v given at;
     shares = shares_split c s.views id v given at some_share less r.shares;
+    own = own_split first s.views id v given at fresh r.own;
+    bound = bound_split c r.known s.views id v given at r.bound;
     far = steady.splits c s r.known id v (left_of given v) (right_of given v) at
         record { holds = refl; took = refl; turns = refl } refl refl r.far;
   }
 
   pub joins : (id : ℕ) (v : View) (other : ℕ) (w : View) → 1 ≤ v.share → w.holds ≡ false
-      → w.pins ≡ [] → Joins (Ruled beside first c) id v other w (joined v w) (blank c)
-  joins id v other w live quiet bare s r at ne there = record {
+      → w.pins ≡ [] → v.fresh ≡ [] → Joins (Ruled beside first c) id v other w (joined v w) (blank c)
+  joins id v other w live quiet bare fresh s r at ne there = record {
     known = r.known;
     history = r.history;
     starts = r.starts;
     kept = kept_joins c s.words s.views r.known r.history r.kept id v other w at ne there quiet
         bare;
     shares = shares_joined c s.views id v other w at there live r.shares;
+    own = let at' = sym (set_else s.views id other (joined v w) ne) ∙ there in
+        own_joined first c s.views id v other w at at' fresh (r.own.idle other w at' quiet) r.own;
+    bound = bound_joined c r.known s.views id v other w at there quiet r.bound;
     far = steady.joins c s r.known id v other w at ne there quiet r.far;
   }

@@ -1,5 +1,5 @@
 -- A seat takes the lock, and the far state out of its slot.
-use Rattle.std.proofs.Common.{◌≡◌, ℕ, zero, suc, ◌*◌, ◌%◌, ◌<◌, ◌≤◌, true, List, ◌∷◌, length, get_or, set, Some, sym, refl, ap, ◌∙◌, subst, arith, eqb, eq-eqb, ne_eqb, length-set, get_or-set_same}
+use Rattle.std.proofs.Common.{◌≡◌, ℕ, zero, suc, ◌*◌, ◌%◌, ◌<◌, ◌≤◌, true, List, ◌∷◌, length, get_or, set, Some, sym, refl, ap, ◌∙◌, subst, arith, eqb, eq-eqb, ne_eqb, length-set, get_or-set_same, true≢false}
 use mathlib.Core.Logic.{dite}
 use mathlib.Core.Option.{some, none}
 use lib.ListN.{get_elem?}
@@ -13,15 +13,18 @@ use Rattle.cb_rule.specs.declared.view.View.{View}
 use Rattle.cb_rule.specs.Lists.{total, Each}
 use Rattle.cb_rule.specs.Locking.{Deeds, Locked, Stood, TurnStands, turns_on}
 use Rattle.cb_rule.specs.LockSteps.{HasTaken, took, took_lock}
+use Rattle.cb_rule.specs.Own.{AreOwn, held_on}
 use Rattle.cb_rule.specs.Rule.{AreSized, Kept}
 use Rattle.cb_rule.specs.Ruled.{Ruled}
 use Rattle.cb_rule.specs.Seats.{holding}
 use Rattle.cb_rule.specs.Slot.{Sat, Table}
+use Rattle.cb_rule.proofs.Binding.{bound_by, held_at_most}
 use Rattle.cb_rule.proofs.Counts.{total-at, total-same, total-set}
 use Rattle.cb_rule.proofs.Flagging.{flagged, lock_word}
 use Rattle.cb_rule.proofs.Keeping.{seats_stay}
 use Rattle.cb_rule.proofs.Lifting.{same_words, set_same, shares_stay}
 use Rattle.cb_rule.proofs.Opening.{old_now}
+use Rattle.cb_rule.proofs.Owning.{own_stays}
 
 none_of : (n : ℕ) → (0 < n → ⊥) → n ≡ 0
 none_of zero f = refl
@@ -95,6 +98,12 @@ module _ (deeds : Deeds) (first : ℕ) (c : Config) (s : Table) (id : ℕ) (me :
     once = λ k l. total-same (turns_on k) s.views id me.0 taken at refl ∙ lock.once k l;
   }
 
+  own_taken : AreOwn first views
+  own_taken = own_stays first s.views id me.0 at r.own taken (r.own.made id me.0 at)
+      (λ j u ne there h own. r.own.alone id me.0 at j u there ne h own)
+      (λ j u ne there h own. r.own.alone j u there id me.0 at (λ e. ne (sym e)) h own)
+      (λ off. absurd (true≢false off))
+
   ruled_taken : 1 ≤ me.0.share → Ruled (Locked deeds) first c after
   ruled_taken live = record {
     known = r.known;
@@ -102,6 +111,10 @@ module _ (deeds : Deeds) (first : ℕ) (c : Config) (s : Table) (id : ℕ) (me :
     starts = r.starts;
     kept = kept_taken;
     shares = shares_stay c s.views id me.0 taken at refl live r.shares;
+    own = own_taken;
+    bound = bound_by c r.known s.views views (λ h.
+        let sum = total-set (held_on h) s.views id me.0 taken at in
+        let less = held_at_most h me.0 in omega (arith, sum, less)) r.bound;
     far = locked_taken;
   }
 
@@ -146,7 +159,8 @@ takes_lock deeds first c slots id me old live even s r _ at _ =
         words = ws;
         homes = s.homes;
         views = set s.views id me.0;
-      }) (sym (ap (set s.words 0) (ap (λ b. either b 1 x) (ne_eqb x old ne)) ∙ same_words s.words 0))
+      }) (sym (ap (set s.words 0) (ap (λ b. either b 1 x) (ne_eqb x old ne))
+          ∙ same_words s.words 0))
           (subst (λ (vs : List View). Ruled (Locked deeds) first c record {
             words = s.words;
             homes = s.homes;

@@ -72,7 +72,7 @@ is_freed = record {
   ends = λ ended. refl;
 }
 
-history : IsHistory 3 all_entries
+pub history : IsHistory 3 all_entries
 history = (inr is_freed, (inr is_written, (inl is_other, (inl is_made, tt))))
 
 -- ---- a make, with one part off each

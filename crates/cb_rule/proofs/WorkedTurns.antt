@@ -85,8 +85,8 @@ lost_and_holds : took exchange before 1 holder → ⊥
 lost_and_holds t =
     true≢false (ap (λ (m : Sat). m.0.holds) (t.1 (λ e. omega (arith, e))))
 
--- ---- it is given back with the next far state: the turn stands in front of the one before, and what
--- it wrote and made in the record
+-- ---- it is given back with the next far state: the turn stands in front of the one before, and
+-- what it wrote and made in the record
 abbrev at_work : View
 at_work = record (took_lock seen (far 1) 0 (seat one_turn)) { fresh = made ∷ [] }
 
@@ -115,19 +115,23 @@ without_its_entry g = let e : 0 ≡ 1 = ap (λ (m : Sat). length m.0.written) g.
     omega (arith, e)
 
 -- ---- what a give needs
-may_give : MayGive quiet pair_of Evict None (far 2) [] at_work
+abbrev May : FarState → List ℕ → View → Type 0
+May f made v = MayGive quiet pair_of Evict None f [] made v
+
+may_give : May (far 2) (1 ∷ []) at_work
 may_give = record {
   holds = refl;
   stood = stood 2 (lit≤ tt);
   adds = inl (lit< tt, refl);
   did = λ n. refl;
   found = tt;
+  makes = (lit< tt, tt);
 }
 
-not_the_holder : MayGive quiet pair_of Evict None (far 2) [] record at_work { holds = false } → ⊥
+not_the_holder : May (far 2) (1 ∷ []) record at_work { holds = false } → ⊥
 not_the_holder m = true≢false (sym m.holds)
 
-not_sound : MayGive quiet pair_of Evict None record (far 2) { spans = [] } [] at_work → ⊥
+not_sound : May record (far 2) { spans = [] } (1 ∷ []) at_work → ⊥
 not_sound m = let e : 0 ≡ 1 = m.stood.configured.frames in omega (arith, e)
 
 -- the turn is not counted, or twice
@@ -142,11 +146,15 @@ counted_twice a = ⊎_elim (λ (z : (0 < 2 ^ 40) × (2 ≡ 1)). let e = z.1 in o
 refused_for_its_number : AddsTurn (far (2 ^ 40)) (far (2 ^ 40))
 refused_for_its_number = inr (refl, refl)
 
-as_before : MayGive quiet pair_of Evict None (far 1) [] at_work → ⊥
+as_before : May (far 1) (1 ∷ []) at_work → ⊥
 as_before m = not_counted m.adds
 
-did_else : MayGive quiet pair_of Evict None (far 2) [] record at_work { acts = Looked 0 0 ∷ [] } → ⊥
+did_else : May (far 2) (1 ∷ []) record at_work { acts = Looked 0 0 ∷ [] } → ⊥
 did_else m = let e : 1 ≡ 0 = ap (λ (es : List _). length es) (m.did 0) in omega (arith, e)
+
+-- a handle that the turn did not make
+did_not_make : May (far 2) (0 ∷ []) at_work → ⊥
+did_not_make m = let l : 0 < 0 + 0 = m.makes.0 in omega (arith, l)
 
 -- a freed entry that the turn found: of an object that the record knows, and that is empty
 abbrev finder : View

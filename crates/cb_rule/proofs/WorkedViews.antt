@@ -1,5 +1,5 @@
 -- Worked records of seats: what meets each definition, and what breaks one of its parts alone.
-use Rattle.std.proofs.Common.{◌≡◌, ℕ, zero, suc, [], ◌∷◌, sym, refl, ap, ◌∙◌, inl, inr, arith}
+use Rattle.std.proofs.Common.{◌≡◌, ℕ, zero, suc, [], ◌∷◌, sym, refl, ap, ◌∙◌, inl, inr, ⊎_elim, arith}
 use mathlib.Core.Option.{some, some-injective, some-ne-none}
 use lib.ListN.{get_elem?}
 use Rattle.cb_types.specs.declared.config.Config.{Config}
@@ -56,7 +56,7 @@ newest_is_written : IsNewest 1 4 first_seat
 newest_is_written = record {
   written = ((λ _. omega arith), ((λ _. omega arith), tt));
   seen = tt;
-  whole = λ _. omega arith;
+  lone = λ _. omega arith;
 }
 
 not_made : IsNewest 1 3 first_seat → ⊥
@@ -66,10 +66,21 @@ not_what_was_read : IsNewest 1 3 record (blank pair_of) { seen = freed_seen 1 5 
 not_what_was_read n = let e = n.seen.0 refl in omega (arith, e)
 
 not_another_seat_s : IsNewest 1 5 first_seat → ⊥
-not_another_seat_s n = let e = n.whole refl in omega (arith, e)
+not_another_seat_s n = let e = n.lone (inl refl) in omega (arith, e)
+
+-- nor of its own object
+abbrev owner : View
+owner = record (blank pair_of) { written = written ∷ made ∷ []; own = 1 ∷ [] }
+
+not_its_own : IsNewest 1 5 owner → ⊥
+not_its_own n = let e = n.lone (inr (inl refl)) in omega (arith, e)
 
 knows_made : Knows 1 first_seat
 knows_made = inl (made, inr (inl refl), refl)
+
+-- what a running turn wrote does not count
+knows_no_fresh : Knows 1 record (blank pair_of) { fresh = made ∷ [] } → ⊥
+knows_no_fresh k = ⊎_elim (λ (z : _). z.1) (λ (z : _). z.1) k
 
 -- ---- a seat that is split off has seen what the first has, and wrote nothing
 splits_seen : (right_of 24 first_seat).seen ≡ seen_of written ∷ seen_of made ∷ []

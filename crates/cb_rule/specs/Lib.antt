@@ -3,6 +3,7 @@ pub mod Words
 pub mod History
 pub mod Slot
 pub mod Seats
+pub mod Own
 pub mod Stands
 pub mod Rule
 pub mod Records
@@ -12,4 +13,7 @@ pub mod Locking
 pub mod LockSteps
 pub mod Promised
 pub mod OneHistory
+pub mod Told
 pub mod AsShown
+pub mod Closing
+pub mod ShownWorld

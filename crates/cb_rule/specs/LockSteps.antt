@@ -15,6 +15,7 @@ use Rattle.cb_rule.specs.declared.view.Seen.{Seen}
 use Rattle.cb_rule.specs.declared.view.View.{View}
 use Rattle.cb_rule.specs.Lists.{Each}
 use Rattle.cb_rule.specs.Locking.{Deeds, Stood}
+use Rattle.cb_rule.specs.Own.{Make}
 use Rattle.cb_rule.specs.Rule.{AreSized}
 use Rattle.cb_rule.specs.Slot.{Slot, Sat}
 use Rattle.cb_rule.specs.Steps.{Knows, freed_seen, nothing}
@@ -91,14 +92,15 @@ AddsTurn far new = ((far.counts.turns < 2 ^ 40) × (new.counts.turns ≡ far.cou
     ⊎ ((far.counts.turns ≡ 2 ^ 40) × (new ≡ far))
 
 -- The holder may give the lock back with this far state: what it knows is sound for it, and the turn
--- did what its job says.
+-- did what its job says, and made what is said to be its own.
 pub record MayGive (deeds : Deeds) (c : Config) (job : Job) (reply : Option Reply) (far : FarState)
-    (freed : List Seen) (v : View) : Type 0 where
+    (freed : List Seen) (made : List ℕ) (v : View) : Type 0 where
   pub holds : v.holds ≡ true
   pub stood : Stood c v.known far
   pub adds : AddsTurn v.took far
   pub did : (n : ℕ) → deeds c (turn_of job reply far n v)
   pub found : Each (IsFoundFreed v) freed
+  pub makes : Each (λ h. Make v.known.first h v.fresh) made
 
 -- what a seat has that gave the lock back, and that its handles are in range
 pub record HasGiven (job : Job) (reply : Option Reply) (far : FarState) (freed : List Seen)

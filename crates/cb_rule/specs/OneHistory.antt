@@ -48,7 +48,8 @@ pub record IsFree (deeds : Deeds) (first : ℕ) (c : Config) (s : Table) : Type 
   pub home : get_elem? s.homes 0 ≡ some (some (Some last))
   pub history : IsOneHistory deeds first c s.views count last
 
--- One seat at most holds the lock. Its word is 1 while one does, and else the turns are one history.
+-- One seat at most holds the lock. Its word is 1 while one does, and else the turns are one
+-- history.
 pub record TurnsStand (deeds : Deeds) (first : ℕ) (c : Config) (s : Table) : Type 0 where
   pub one : total holding s.views ≤ 1
   pub held : total holding s.views ≡ 1 → slice_index s.words 0 ≡ 1

@@ -8,10 +8,11 @@ use Rattle.cb_ptr.specs.Word.{state_of, hot_of, pins_of, len_of, place_of}
 use Rattle.cb_world.specs.declared.entry.Entry.{Entry}
 use Rattle.cb_world.specs.Shown.{Covers}
 use Rattle.cb_rule.specs.declared.view.Held.{Held}
+use Rattle.cb_rule.specs.declared.view.Peeked.{Peeked}
 use Rattle.cb_rule.specs.declared.view.Seen.{Seen}
 use Rattle.cb_rule.specs.declared.view.View.{View}
 use Rattle.cb_rule.specs.Lists.{total, Has}
-use Rattle.cb_rule.specs.Records.{seen_of}
+use Rattle.cb_rule.specs.Records.{IsWordOf, seen_of}
 use Rattle.cb_rule.specs.Seats.{pins_on, claims_on, written_on}
 use Rattle.cb_rule.specs.Words.{pointer, stamp, words_at}
 
@@ -26,6 +27,10 @@ Wrote views e = (u : View) × Is views u × Has e (u.fresh ++ u.written)
 -- or as read
 abbrev pub Read : List View → Seen → Type 0
 Read views s = (u : View) × Is views u × Has s u.seen
+
+-- the word stands as peeked in a view
+abbrev pub Peeks : List View → Peeked → Type 0
+Peeks views p = (u : View) × Is views u × Has p u.peeked
 
 -- the entry of its object's greatest version that was written
 abbrev pub IsLast : List View → Entry → Type 0
@@ -72,6 +77,21 @@ GoesOn first views e = ((e.version ≡ first) × (e.before ≡ []))
     ⊎ ((x : Entry) × Wrote views x × (x.handle ≡ e.handle) × (x.version + 1 ≡ e.version)
     × (x.after ≡ e.before) × (x.freed ≡ false))
 
+-- The entries and the words that stand in the views: what was read was written, each version of an
+-- object stands as written in one view, once, and goes on from the one before it.
+pub record EntriesStand (first : ℕ) (views : List View) : Type 0 where
+  pub read : (s : Seen) → Read views s → (e : Entry) × Wrote views e × (s ≡ seen_of e)
+  -- a word that was peeked is one of an entry's
+  pub peeked : (p : Peeked) → Peeks views p → (e : Entry) × Wrote views e × IsWordOf e p
+  pub born : (e : Entry) → Wrote views e → first ≤ e.version
+  -- two entries of one version are the same
+  pub same : (e x : Entry) → Wrote views e → Wrote views x → e.handle ≡ x.handle
+      → e.version ≡ x.version → e ≡ x
+  -- each version from the first to the last is written in one view, once
+  pub once : (e : Entry) (k : ℕ) → IsLast views e → first ≤ k → k ≤ e.version
+      → total (written_on e.handle k) views ≡ 1
+  pub goes_on : (e : Entry) → Wrote views e → GoesOn first views e
+
 pub record WordsStand (first : ℕ) (c : Config) (ws : List ℕ) (views : List View) : Type 0 where
   pub pins : (h : ℕ) → h < c.handles → PinsStand ws views h
   pub few : (u : View) → Is views u → length u.pins ≤ 17
@@ -84,12 +104,4 @@ pub record WordsStand (first : ℕ) (c : Config) (ws : List ℕ) (views : List V
   pub here : (h : ℕ) → h < c.handles → state_of (pointer ws h) ≡ word.Here
       → HereStands c ws views h
   pub held : (u : View) (x : Held) → Is views u → Has x u.claims → HeldStands views x
-  -- an entry that was read was written
-  pub read : (s : Seen) → Read views s → (e : Entry) × Wrote views e × (s ≡ seen_of e)
-  -- two entries of one version are the same
-  pub same : (e x : Entry) → Wrote views e → Wrote views x → e.handle ≡ x.handle
-      → e.version ≡ x.version → e ≡ x
-  -- each version from the first to the last is written in one view, once
-  pub once : (e : Entry) (k : ℕ) → IsLast views e → first ≤ k → k ≤ e.version
-      → total (written_on e.handle k) views ≡ 1
-  pub goes_on : (e : Entry) → Wrote views e → GoesOn first views e
+  pub entries : EntriesStand first views

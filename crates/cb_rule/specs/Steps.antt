@@ -18,6 +18,7 @@ use Rattle.cb_rule.specs.declared.view.Seen.{Seen}
 use Rattle.cb_rule.specs.declared.view.Stand.{Stand}
 use Rattle.cb_rule.specs.declared.view.View.{View}
 use Rattle.cb_rule.specs.Lists.{Each, Has, edited, removed}
+use Rattle.cb_rule.specs.Own.{IsAlone}
 use Rattle.cb_rule.specs.Records.{seen_of}
 use Rattle.cb_rule.specs.Seats.{claims_it, pins_it, pins_on, written_on}
 use Rattle.cb_rule.specs.Slot.{Slot, Sat}
@@ -70,17 +71,17 @@ settled st m n m' = (h : ℕ) → st.word ≡ 1 + h → Does m (Settled h n) m'
 
 -- Any seat, also while another holds the lock.
 
--- the record has an entry of the object
+-- the record has an entry of the object; those of a running turn do not count
 abbrev pub Knows : ℕ → View → Type 0
-Knows h u = ((e : Entry) × Has e (u.fresh ++ u.written) × (e.handle ≡ h))
+Knows h u = ((e : Entry) × Has e u.written × (e.handle ≡ h))
     ⊎ ((s : Seen) × Has s u.seen × (s.handle ≡ h))
 
--- this version of the object is at least all that the record has of it; with the whole share it is
--- one that the record wrote
+-- this version of the object is at least all that the record has of it; where no other view has the
+-- object it is one that the record wrote
 pub record IsNewest (h version : ℕ) (u : View) : Type 0 where
   pub written : Each (λ (e : Entry). e.handle ≡ h → e.version ≤ version) (u.fresh ++ u.written)
   pub seen : Each (λ (s : Seen). s.handle ≡ h → s.version ≤ version) u.seen
-  pub whole : u.share ≡ 64 → 0 < written_on h version u
+  pub lone : IsAlone h u → 0 < written_on h version u
 
 abbrev pub look_at : ℕ → ℕ → Look
 look_at h w = record { handle = h; word = w }
@@ -110,15 +111,15 @@ freed_seen h v = record {
 abbrev pub with_freed : ℕ → ℕ → ℕ → View → View
 with_freed h v w u = record (with_look h w u) { seen = freed_seen h v ∷ u.seen }
 
--- a load of the pointer word of an object that the record knows. With the whole share all pins are
--- its own.
+-- a load of the pointer word of an object that the record knows. Where no other view has the object
+-- all pins are its own.
 abbrev pub glanced : Step Slot → Sat → ℕ → Sat → Type 0
 glanced st m n m' = (h : ℕ) → st.word ≡ 1 + h
     → (state_of n ≡ word.Empty
     → (v : ℕ) × (m' ≡ (with_freed h v n m.0, m.1)) × IsNewest h v m.0)
     × (state_of n ≢ word.Empty → m' ≡ (with_look h n m.0, m.1))
     × (state_of n ≡ word.Here
-    → (n < 2 ^ 53) × (pins_on h m.0 ≤ pins_of n) × (m.0.share ≡ 64 → pins_of n ≡ pins_on h m.0))
+    → (n < 2 ^ 53) × (pins_on h m.0 ≤ pins_of n) × (IsAlone h m.0 → pins_of n ≡ pins_on h m.0))
 
 abbrev pub stand : ℕ → ℕ → ℕ → ℕ → List ℕ → Stand
 stand h len place v words = record {

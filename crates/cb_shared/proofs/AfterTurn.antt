@@ -1,5 +1,5 @@
 -- What a turn leaves of the record of its pass.
-use Rattle.std.proofs.Common.{◌≡◌, ℕ, ◌+◌, ◌<◌, ◌≤◌, true, List, [], ◌∷◌, ◌++◌, length, Option, None, Some, Result, refl, sym, ap, ◌∙◌, subst, arith, append_assoc, append-nil}
+use Rattle.std.proofs.Common.{◌≡◌, ℕ, ◌+◌, ◌<◌, ◌≤◌, List, [], ◌∷◌, ◌++◌, length, Option, None, Some, Result, refl, sym, ap, ◌∙◌, subst, arith, append_assoc, append-nil}
 use Rattle.std.specs.Prelude.{IfOk}
 use Rattle.atomic_table.specs.Seated.{TableId}
 use Rattle.cb_member.specs.declared.no_memory.NoMemory.{NoMemory}
@@ -18,16 +18,18 @@ use Rattle.cb_rule.specs.declared.view.View.{View}
 use Rattle.cb_rule.specs.Lists.{Each}
 use Rattle.cb_rule.specs.Locking.{Stood}
 use Rattle.cb_rule.specs.LockSteps.{AddsTurn, gave_lock, took_lock, turn_of}
+use Rattle.cb_rule.specs.Own.{Make}
 use Rattle.cb_rule.specs.Rule.{AreSized}
 use Rattle.cb_rule.specs.Slot.{Sat, Slot}
 use Rattle.cb_rule.specs.Steps.{Knows, act, acted}
 use Rattle.cb_shared.specs.declared.setup.Setup.{Setup}
 use Rattle.cb_shared.specs.Parts.{Part, grown, nothing_more}
 use Rattle.cb_shared.specs.Passes.{IsAtRest}
-use Rattle.cb_shared.specs.Places.{Holds, IsOf, Moves, Place}
-use Rattle.cb_shared.specs.SeatLaws.{Runs, sized_after}
+use Rattle.cb_shared.specs.Places.{Holds, IsOf, Place}
+use Rattle.cb_shared.specs.SeatLaws.{Runs, acted_known, sized_after}
 use Rattle.cb_shared.specs.Turning.{Did, DidAs, KnowsIt, KnowsOf, answer_of, made_by, object_of, turn_part, with_own}
-use Rattle.cb_shared.specs.UnderLock.{GivesFar, HasSame, IsBeginning, IsEnding, IsQuiet, TakesFar, TurnWith, TurnedBy, WorkBy}
+use Rattle.cb_shared.specs.UnderLock.{GivesFar, IsBeginning, IsEnding, IsQuiet, TakesFar, TurnWith, TurnedBy, WorkBy}
+use Rattle.cb_shared.proofs.MadeFirst.{makes_own}
 
 abbrev pub after_events : List Event → View → View
 after_events es v = record v {
@@ -143,6 +145,14 @@ ends_work c job r took gave p q b w =
           (subst (λ (s : Shown). DidAs c job reply s (v.acts ++ es) v.took gave) (sym b.start)
           (subst (λ (l : List Event). DidAs c job reply v.known (l ++ es) v.took gave) (sym b.idle)
           (subst (λ (f : FarState). DidAs c job reply v.known es f gave) (sym b.took) w.did)));
+      makes = subst (λ (x : View). Each (λ h. Make x.known.first h x.fresh) (made_by job reply))
+          (sym (ap (λ (x : Sat). x.0) w.moves.2))
+          (subst (λ (s : Shown). Each (λ h. Make s.first h (acted es v).fresh) (made_by job reply))
+          (sym (acted_known es v))
+          (subst (λ (l : List Entry). Each (λ h. Make (played es v.known).first h l)
+          (made_by job reply)) (sym w.fresh)
+          (makes_own c job r v.known (played es v.known) es took gave w.more w.did w.wrote
+          w.stood.sound.here.known.first)));
     }
 
 pub of_work : (z : TableId) (k : Setup) (c : Config) (job : Job) (r : Result Reply NoMemory)

@@ -9,6 +9,7 @@ use Rattle.cb_ptr.specs.Word.{state_of, pins_of}
 use Rattle.cb_world.specs.Settling.{MaySettle}
 use Rattle.cb_world.specs.Shown.{Owns, IsHeld, object_at}
 use Rattle.cb_rule.specs.Locking.{Locked}
+use Rattle.cb_rule.specs.Own.{MayWrite}
 use Rattle.cb_rule.specs.Ruled.{Ruled}
 use Rattle.cb_rule.specs.Slot.{Sat}
 use Rattle.cb_rule.specs.Steps.{looked, told, loaded, claimed, stored, stamped, settled, handles_of}
@@ -53,12 +54,13 @@ module _ (first : ℕ) (c k : Config) (key : k ≡ c) (slots id : ℕ) (me : Sat
       (stores (Locked Did) (locked_steady Did) first c slots id me live holds p y l sized own)
 
   pub stamps_at : (h y : ℕ) → h < c.handles → handles_of me ≡ c.handles
-      → IsHeld (object_at me.0.known h)
+      → IsHeld (object_at me.0.known h) → MayWrite h me.0.known me.0
       → Allows (Ruled (Locked Did) first k) slots id me (stamps c + h) (λ _. y)
       (λ _. stamped (step slots (stamps c + h) y 0 none) me y)
-  stamps_at h y l sized held = at_key first c k slots id me (stamps c + h) (λ _. y)
+  stamps_at h y l sized held may = at_key first c k slots id me (stamps c + h) (λ _. y)
       (λ _. stamped (step slots (stamps c + h) y 0 none) me y) key
-      (stamps_version (Locked Did) (locked_steady Did) first c slots id me live holds h y l sized held)
+      (stamps_version (Locked Did) (locked_steady Did) first c slots id me live holds h y l sized
+      held may)
 
   pub settles_at : (h w : ℕ) → h < c.handles → MaySettle me.0.known h w
       → Allows (Ruled (Locked Did) first k) slots id me (1 + h) (λ _. w)

@@ -13,6 +13,8 @@ pub mod ReadBytes
 pub mod ReadSteps
 pub mod Tallying
 pub mod FirstPin
+pub mod MadeFirst
+pub mod Rights
 pub mod AfterTurn
 pub mod Mapped
 pub mod Turns
@@ -21,6 +23,7 @@ pub mod ReadParts
 pub mod ReadTurns
 pub mod TurnEnds
 pub mod WorkedGround
+pub mod WorkedRights
 pub mod WorkedPins
 pub mod WorkedWrites
 pub mod WorkedPasses

@@ -1,5 +1,5 @@
 -- The far lock is taken and given back by the rule of the table, whose key has the configuration.
-use Rattle.std.proofs.Common.{◌≡◌, ℕ, ◌*◌, ◌%◌, ◌<◌, ◌≤◌, List, [], ◌∷◌, ◌++◌, Option, None, Some, sym, refl, ap, ◌∙◌, subst, eqb}
+use Rattle.std.proofs.Common.{◌≡◌, ℕ, ◌*◌, ◌%◌, ◌<◌, ◌≤◌, List, [], ◌∷◌, ◌++◌, Option, None, Some, sym, ap, ◌∙◌, subst, eqb}
 use mathlib.Core.Option.{none}
 use prog.Atomic.{either}
 use Rattle.atomic_table.specs.Table.{step, rest, Allows}
@@ -30,13 +30,14 @@ takes_lock_at first c k key slots id old me live even =
     (takes_lock Did first c slots id me old live even)
 
 may_give : (c : Config) (job : Job) (reply : Option Reply) (me : Sat) (far : FarState)
-    → IsEnding c job reply far me.0 → MayGive Did c job reply far [] me.0
+    → IsEnding c job reply far me.0 → MayGive Did c job reply far [] (made_by job reply) me.0
 may_give c job reply me far e = record {
   holds = e.holds;
   stood = e.stood;
   adds = e.adds;
   did = e.did;
   found = tt;
+  makes = e.makes;
 }
 
 pub gives_lock_at : (first : ℕ) (c k : Config) → k ≡ c → (slots id : ℕ) (me : Sat) (job j : Job)

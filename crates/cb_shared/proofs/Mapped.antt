@@ -1,5 +1,5 @@
 -- A turn at a desk of one kind as one at a desk of another kind.
-use Rattle.std.proofs.Common.{◌≡◌, ℕ, List, [], Option, None, Some}
+use Rattle.std.proofs.Common.{ℕ, List, [], Option, None, Some}
 use Rattle.cb_types.specs.declared.config.Config.{Config}
 use Rattle.cb_types.specs.declared.handle.Handle.{Handle}
 use Rattle.cb_types.specs.declared.job.Job.{Job}

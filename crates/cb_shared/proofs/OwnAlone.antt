@@ -15,7 +15,7 @@ use Rattle.cb_rule.specs.Lists.{Has}
 use Rattle.cb_rule.specs.Locking.{Locked}
 use Rattle.cb_rule.specs.Ruled.{Ruled}
 use Rattle.cb_rule.specs.Slot.{Sat}
-use Rattle.cb_rule.specs.Steps.{claimed_here, read_held, stored_here, stamped_here, settled_here, put_back}
+use Rattle.cb_rule.specs.Steps.{Knows, claimed_here, read_held, stored_here, stamped_here, settled_here, put_back}
 use Rattle.cb_rule.specs.Words.{base, stamps}
 use Rattle.cb_rule.proofs.Laws.{claims_here, locked_steady, puts_back, reads_held, settles_here, stamps_here, stores_here}
 use Rattle.cb_shared.specs.Turning.{Did}
@@ -23,14 +23,15 @@ use Rattle.cb_shared.proofs.Alone.{at_key}
 
 module _ (first : ℕ) (c k : Config) (key : k ≡ c) (slots id : ℕ) (me : Sat)
     (live : 1 ≤ me.0.share) (same : me.0.config ≡ c) where
-  pub claims_here_at : (h old new : ℕ) → h < c.handles → state_of old ≡ state.Here
+  pub claims_here_at : (h old new : ℕ) → h < c.handles → Knows h me.0 → state_of old ≡ state.Here
       → pins_of old ≡ 0 → new ≡ old + 1
       → Allows (Ruled (Locked Did) first k) slots id me (1 + h) (λ x. either (eqb x old) new x)
       (claimed_here (step slots (1 + h) old new none) me)
-  claims_here_at h old new l here bare one =
+  claims_here_at h old new l knows here bare one =
       at_key first c k slots id me (1 + h) (λ x. either (eqb x old) new x)
       (claimed_here (step slots (1 + h) old new none) me) key
-      (claims_here (Locked Did) (locked_steady Did) first c slots id me live same h old new l here bare one)
+      (claims_here (Locked Did) (locked_steady Did) first c slots id me live same h old new
+      l knows here bare one)
 
   pub reads_held_at : (i : ℕ) → Allows (Ruled (Locked Did) first k) slots id me i (λ n. n)
       (read_held (step slots i 0 0 none) me)

@@ -30,14 +30,15 @@ module _ (first : ℕ) (c k : Config) (key : k ≡ c) (slots id : ℕ) (me : Sat
       (glanced (step slots (1 + h) 0 0 none) me) key
       (glances (Locked Did) (locked_steady Did) first c slots id me live h l knows)
 
-  pub takes_pin_at : (h old new : ℕ) → h < c.handles → state_of old ≡ state.Here
+  pub takes_pin_at : (h old new : ℕ) → h < c.handles → Knows h me.0 → state_of old ≡ state.Here
       → pins_of old < 1023 → length me.0.pins ≤ 16 → TakesPin old new
       → Allows (Ruled (Locked Did) first k) slots id me (1 + h) (λ x. either (eqb x old) new x)
       (pinned (step slots (1 + h) old new none) me)
-  takes_pin_at h old new l here room few t =
+  takes_pin_at h old new l knows here room few t =
       at_key first c k slots id me (1 + h) (λ x. either (eqb x old) new x)
       (pinned (step slots (1 + h) old new none) me) key
-      (takes_pin (Locked Did) (locked_steady Did) first c slots id me live h l old new here room few t)
+      (takes_pin (Locked Did) (locked_steady Did) first c slots id me live h l old new
+      knows here room few t)
 
   pub gives_pins_at : (h : ℕ) → h < c.handles → 0 < pins_on h me.0
       → Allows (Ruled (Locked Did) first k) slots id me (1 + h) (λ n. (n + (2 ^ 64 - 8)) % 2 ^ 64)

@@ -1,5 +1,5 @@
 -- The parts of reads under a pin.
-use Rattle.std.proofs.Common.{◌≡◌, ℕ, ◌+◌, ◌<◌, ◌≤◌, List, [], ◌∷◌, ◌++◌, length, Result, Ok, Err, sym, refl, ap, ◌∙◌, subst, arith, append_assoc}
+use Rattle.std.proofs.Common.{◌≡◌, ℕ, ◌+◌, ◌<◌, ◌≤◌, List, [], ◌∷◌, ◌++◌, length, Result, Ok, Err, inl, inr, ⊎_elim, sym, refl, ap, ◌∙◌, subst, arith, append_assoc}
 use Rattle.std.specs.Prelude.{IfOk, OnErr}
 use Rattle.atomic_table.specs.Seated.{TableId}
 use Rattle.cb_ptr.specs.declared.word.State.TheVariants as state
@@ -12,7 +12,7 @@ use Rattle.cb_rule.specs.declared.view.Look.{Look}
 use Rattle.cb_rule.specs.declared.view.Seen.{Seen}
 use Rattle.cb_rule.specs.declared.view.View.{View}
 use Rattle.cb_rule.specs.History.{is_version}
-use Rattle.cb_rule.specs.Lists.{Each, times}
+use Rattle.cb_rule.specs.Lists.{Each, Has, times}
 use Rattle.cb_rule.specs.Slot.{Sat}
 use Rattle.cb_rule.specs.Steps.{IsNewest, Knows, look_at, with_look}
 use Rattle.cb_shared.specs.declared.reading.ReadAnswer.{ReadAnswer}
@@ -89,9 +89,10 @@ newest_same h version u v (fresh, written, seen, share, own) n = record {
   written = subst (Each (λ (x : Entry). x.handle ≡ h → x.version ≤ version))
       (λ i. sym fresh i ++ sym written i) n.written;
   seen = subst (Each (λ (x : Seen). x.handle ≡ h → x.version ≤ version)) (sym seen) n.seen;
-  whole = λ is. subst (λ (k : ℕ). 0 < k)
+  lone = λ is. subst (λ (k : ℕ). 0 < k)
       (λ i. times (is_version h version) (sym fresh i) + times (is_version h version) (sym written i))
-      (n.whole (sym share ∙ is));
+      (n.lone (⊎_elim (λ (e : u.share ≡ 64). inl (sym share ∙ e))
+      (λ (has : Has h u.own). inr (subst (Has h) own has)) is));
 }
 
 finds_same : (h : ℕ) (a : ReadAnswer) (u v : View) (d : Part) → HasSame u v → ReadFinds h a v d

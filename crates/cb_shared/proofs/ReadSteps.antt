@@ -1,7 +1,5 @@
 -- A read under a pin of its own, step by step.
-use Rattle.std.proofs.Common.{◌≡◌, ◌≢◌, ℕ, ◌+◌, ◌*◌, ◌<◌, ◌≤◌, Bool, cond, List, ◌∷◌, sym, refl, ap, ◌∙◌, subst, arith, inl, eq-eqb}
-use mathlib.Core.Option.{none}
-use Rattle.atomic_table.specs.Table.{step, Allows}
+use Rattle.std.proofs.Common.{◌≡◌, ℕ, ◌+◌, Bool, cond, List, ◌∷◌, sym, refl, ap, ◌∙◌, subst, arith, inl, eq-eqb}
 use Rattle.cb_types.specs.declared.config.Config.{Config}
 use Rattle.cb_ptr.specs.declared.word.State.TheVariants as state
 use Rattle.cb_ptr.specs.Word.{state_of, len_of, place_of}
@@ -149,7 +147,7 @@ module _ (c : Config) (h saw v version : ℕ) (words bytes : List ℕ) (p s t : 
   version_told : version ≡ v
   version_told =
       let each : Each (λ (x : Stand). x.handle ≡ h → version ≡ x.version)
-          (with_pin h saw v words p.me.0).pins =
+      (with_pin h saw v words p.me.0).pins =
       subst (Each (λ (x : Stand). x.handle ≡ h → version ≡ x.version))
       (ap (λ (m : Sat). m.0.pins) taken.2) told.tells in each.0 refl
 

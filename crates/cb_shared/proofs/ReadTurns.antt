@@ -1,5 +1,5 @@
 -- A turn of the job Read, in its two parts.
-use Rattle.std.proofs.Common.{◌≡◌, ℕ, zero, suc, ◌≤◌, length, List, [], ◌∷◌, ◌++◌, Option, None, Some, Result, Ok, Err, sym, refl, ap, ◌∙◌, subst, arith, inl, inr}
+use Rattle.std.proofs.Common.{◌≡◌, ℕ, zero, suc, ◌≤◌, length, List, [], None, Some, Result, Ok, Err, sym, refl, ap, ◌∙◌, subst, inl, inr}
 use Rattle.std.specs.Prelude.{IfOk}
 use Rattle.cb_member.specs.declared.no_memory.NoMemory.{NoMemory}
 use Rattle.cb_ptr.specs.declared.word.State.{State}
@@ -11,22 +11,21 @@ use Rattle.cb_types.specs.declared.job.Job.{Job}
 use Rattle.cb_types.specs.declared.job.Job.TheVariants.{Read}
 use Rattle.cb_types.specs.declared.reply.Reply.{Reply}
 use Rattle.cb_types.specs.declared.reply.Reply.TheVariants as answer
-use Rattle.cb_world.specs.declared.entry.Entry.{Entry}
 use Rattle.cb_world.specs.declared.event.Event.{Event}
 use Rattle.cb_world.specs.declared.shown.Shown.{Shown}
 use Rattle.cb_world.specs.FarState.{FarState}
 use Rattle.cb_world.specs.Played.{Agree, played}
-use Rattle.cb_mutate.specs.Answered.{AbsentAs, AnsweredAs}
+use Rattle.cb_mutate.specs.Answered.{AnsweredAs}
 use Rattle.cb_swapin.proofs.Laws.{by_answer}
 use Rattle.cb_core.specs.OnceHere.{IsThere}
 use Rattle.cb_core.specs.Unavailable.{TurnTells}
 use Rattle.cb_core.proofs.Laws.{IsNever, brought_tells, there_tells}
 use Rattle.cb_core.specs.OnceHere.OnceHere.{away, here}
 use Rattle.cb_core.specs.OnceHere.OnceHereStops.{bringing_stops, call_stops}
-use Rattle.cb_core.specs.Parts.{Holding, WithRoom}
+use Rattle.cb_core.specs.Parts.{Holding}
 use Rattle.cb_core.specs.Parts.WithRoom.{at_once, no_room, won}
 use Rattle.cb_core.specs.Parts.BringsIn.{not_far, was_far}
-use Rattle.cb_core.specs.ReadTurn.{BroughtToRead, StoppedToRead}
+use Rattle.cb_core.specs.ReadTurn.{BroughtToRead}
 use Rattle.cb_core.specs.ReadTurn.BroughtToRead.{worn as first_worn, done as first_done}
 use Rattle.cb_core.specs.Turned.{Brings, ComesIn, Swaps, done, worn}
 use Rattle.cb_core.specs.TurnLeaves.{OutcomeWrites}
@@ -34,12 +33,12 @@ use Rattle.cb_rule.specs.declared.view.View.{View}
 use Rattle.cb_rule.specs.Locking.{Stood}
 use Rattle.cb_rule.specs.Slot.{Sat}
 use Rattle.cb_rule.specs.Steps.{Knows, acted}
-use Rattle.cb_shared.specs.Parts.{Part, grown, nothing_more, sum}
-use Rattle.cb_shared.specs.Places.{Moves, Place}
+use Rattle.cb_shared.specs.Parts.{Part, grown, nothing_more}
+use Rattle.cb_shared.specs.Places.{Place}
 use Rattle.cb_shared.specs.SeatLaws.{Runs, acted_known}
-use Rattle.cb_shared.specs.Turning.{DidAs, IsReadReply, JobReads, Slate, TellsNoPin, Tries, answer_of, held_by, slate_run, slate_shows}
+use Rattle.cb_shared.specs.Turning.{DidAs, IsReadReply, JobReads, Slate, TellsNoPin, Tries, answer_of, slate_run, slate_shows}
 use Rattle.cb_shared.specs.UnderLock.{BringAt, Brought, CameThere, HasSame, IsNoRead, TriesOn, TurnAt, WorkBy}
-use Rattle.cb_shared.proofs.AfterTurn.{acted_is, after_events, after_runs}
+use Rattle.cb_shared.proofs.AfterTurn.{acted_is, after_runs}
 use Rattle.cb_shared.proofs.ReadParts.{grown_nothing}
 
 -- ---- the first part tells neither of bytes nor of many pins
@@ -276,13 +275,9 @@ no_frame_read c h (Ok r) m q (d, moves, quiet, range, tries) = λ e. subst IsRea
 no_frame_read c h (Err e) m q tries = tt
 
 -- the seat knows and pins what it did
-pub knows_come : (h : ℕ) (p m : Place) (es : List Event) → Runs p es m → p.me.0.fresh ≡ []
-    → m.me.0.fresh ≡ [] → Knows h p.me.0 → Knows h m.me.0
-knows_come h p m es runs none after knows =
-    let e : m.me.0 ≡ after_events es p.me.0 = after_runs p m es runs in
-    subst (Knows h) (sym e) (subst (λ (l : List Entry). Knows h (record (after_events es p.me.0) {
-      fresh = l;
-    })) (none ∙ sym (sym (ap (λ (v : View). v.fresh) e) ∙ after)) knows)
+pub knows_come : (h : ℕ) (p m : Place) (es : List Event) → Runs p es m → Knows h p.me.0
+    → Knows h m.me.0
+knows_come h p m es runs knows = subst (Knows h) (sym (after_runs p m es runs)) knows
 
 pub few_come : (p m : Place) (es : List Event) → Runs p es m → length p.me.0.pins ≤ 16
     → length m.me.0.pins ≤ 16

@@ -1,5 +1,5 @@
 -- What stands of a record between the calls of its pass stands after each step.
-use Rattle.std.proofs.Common.{◌≡◌, ◌≢◌, ◌⊎◌, ℕ, ◌+◌, ◌<◌, Bool, cond, List, [], ◌∷◌, ◌++◌, sym, refl, ap, ◌∙◌, subst, arith, inl, inr, ⊎_elim, eq-eqb, true, false}
+use Rattle.std.proofs.Common.{◌≡◌, ◌≢◌, ◌⊎◌, ℕ, ◌+◌, ◌<◌, Bool, cond, List, [], ◌∷◌, sym, refl, ap, ◌∙◌, subst, arith, inl, inr, ⊎_elim, eq-eqb, true, false}
 use Rattle.cb_types.specs.declared.config.Config.{Config}
 use Rattle.cb_ptr.specs.declared.word.State.{State}
 use Rattle.cb_ptr.specs.declared.word.State.TheVariants as state
@@ -47,9 +47,8 @@ each_removed P t (x ∷ xs) each =
 -- a record knows handles that are in range
 pub known_below : (c : Config) (h : ℕ) (v : View) → IsAtRest c v → Knows h v → h < c.handles
 known_below c h v rest (inl (e, has, is)) =
-    let here : Has e v.written = subst (λ (l : List Entry). Has e (l ++ v.written)) rest.fresh has in
     subst (λ (n : ℕ). n < c.handles) is
-    (each_has (λ (x : Entry). x.handle < c.handles) e v.written rest.written here)
+    (each_has (λ (x : Entry). x.handle < c.handles) e v.written rest.written has)
 known_below c h v rest (inr (s, has, is)) =
     subst (λ (n : ℕ). n < c.handles) is
     (each_has (λ (x : Seen). x.handle < c.handles) s v.seen rest.seen has)
@@ -146,6 +145,18 @@ rest_glance c h w p q g below rest = ⊎_elim
 
 pub view_of : (p q : Place) (w : View) → Moves p q w → q.me.0 ≡ w
 view_of p q w m = ap (λ (x : Sat). x.0) m.2
+
+-- what was known is known after a look
+pub knows_glance : (h k w : ℕ) (p q : Place) → Glances h w p q → Knows k p.me.0 → Knows k q.me.0
+knows_glance h k w p q g knows = ⊎_elim
+    (λ (e : state_of w ≡ state.Empty). let f = g.freed e in
+    subst (Knows k) (sym (view_of p q (with_freed h f.0 w p.me.0) f.2)) (also f.0 knows))
+    (λ (ne : state_of w ≢ state.Empty).
+    subst (Knows k) (sym (view_of p q (with_look h w p.me.0) (g.other ne))) knows) (by_state w)
+  where
+    also : (v : ℕ) → Knows k p.me.0 → Knows k (with_freed h v w p.me.0)
+    also v (inl x) = inl x
+    also v (inr (s, has, is)) = inr (s, inr has, is)
 
 -- a refusal by the word that was found is answered
 pub refused_gives : (h w : ℕ) (a : PinAnswer) (p q : Place) → Glances h w p q → IsRefusal w a

@@ -1,7 +1,5 @@
 -- A turn as it stands in the record of its pass at its end.
-use Rattle.std.proofs.Common.{◌≡◌, ℕ, suc, ◌+◌, ◌<◌, ◌≤◌, List, [], ◌∷◌, ◌++◌, length, map, Option, None, Some, Result, Ok, refl, sym, ap, ◌∙◌, subst, arith, inl, inr, append_assoc}
-use Rattle.std.specs.Prelude.{IfOk}
-use Rattle.crossbeam_utils.specs.Padded.{padded_value}
+use Rattle.std.proofs.Common.{◌≡◌, ℕ, suc, ◌+◌, ◌<◌, ◌≤◌, List, [], ◌∷◌, ◌++◌, length, Option, None, Some, Result, Ok, refl, sym, ap, ◌∙◌, subst, arith, inl, inr, append_assoc}
 use Rattle.cb_member.specs.declared.no_memory.NoMemory.{NoMemory}
 use Rattle.cb_types.specs.declared.config.Config.{Config}
 use Rattle.cb_types.specs.declared.job.Job.{Job}
@@ -42,26 +40,21 @@ has_behind : {A : Type 0} (x : A) (xs ys : List A) → Has x ys → Has x (xs ++
 has_behind x [] ys has = has
 has_behind x (y ∷ xs) ys has = inr (has_behind x xs ys has)
 
-knows_more : (h : ℕ) (made : List ℕ) (d : Part) (v : View) → v.fresh ≡ [] → Knows h v
+knows_more : (h : ℕ) (made : List ℕ) (d : Part) (v : View) → Knows h v
     → Knows h (with_own made (grown d v))
-knows_more h made d v none (inl (e, has, is)) = inl (
-  e,
-  subst (λ (l : List Entry). Has e (l ++ (d.written ++ v.written))) (sym none)
-      (has_behind e d.written v.written (subst (λ (l : List Entry). Has e (l ++ v.written)) none has)),
-  is,
-)
-knows_more h made d v none (inr (s, has, is)) = inr (s, has_behind s d.seen v.seen has, is)
+knows_more h made d v (inl (e, has, is)) = inl (e, has_behind e d.written v.written has, is)
+knows_more h made d v (inr (s, has, is)) = inr (s, has_behind s d.seen v.seen has, is)
 
-know_more : (o : Option ℕ) (made : List ℕ) (d : Part) (v : View) → v.fresh ≡ [] → KnowsIt o v
+know_more : (o : Option ℕ) (made : List ℕ) (d : Part) (v : View) → KnowsIt o v
     → KnowsIt o (with_own made (grown d v))
-know_more None made d v none knows = tt
-know_more (Some h) made d v none knows = knows_more h made d v none knows
+know_more None made d v knows = tt
+know_more (Some h) made d v knows = knows_more h made d v knows
 
 pub freed_knows : (c : Config) (job : Job) (r : Result Reply NoMemory) (v w : View) → IsAtRest c v
     → TurnedBy c job r v w → KnowsOf job v → KnowsIt (freed_of job r) w
 freed_knows c job r v w rest t knows = subst (KnowsIt (freed_of job r)) (sym t.left)
     (know_more (freed_of job r) (made_by job (answer_of r))
-    (turn_part t.turn t.more t.within nothing_more) v rest.fresh (freed_known job r v knows))
+    (turn_part t.turn t.more t.within nothing_more) v (freed_known job r v knows))
 
 -- ---- the record at the end
 part_more : (turn : Turn) (more : List Entry) (within later : Part) (made : List ℕ) (v : View)

@@ -1,5 +1,5 @@
 -- What the worked examples are about: an object, the words that it may have, and two records.
-use Rattle.std.proofs.Common.{ℕ, List, [], ◌∷◌, refl, arith}
+use Rattle.std.proofs.Common.{◌≡◌, ℕ, List, [], ◌∷◌, refl, inl, inr, ⊎_elim, arith}
 use Rattle.cb_types.specs.declared.config.Config.{Config}
 use Rattle.cb_ptr.specs.Word.{state_of, state_number}
 use Rattle.cb_world.specs.declared.entry.Entry.{Entry}
@@ -7,6 +7,7 @@ use Rattle.cb_world.specs.Written.{entry}
 use Rattle.cb_rule.specs.declared.view.Look.{Look}
 use Rattle.cb_rule.specs.declared.view.Stand.{Stand}
 use Rattle.cb_rule.specs.declared.view.View.{View}
+use Rattle.cb_rule.specs.Own.{IsAlone}
 use Rattle.cb_rule.specs.Steps.{IsNewest, blank, opener, stand}
 use Rattle.cb_shared.specs.declared.pass.Pin.{Pin}
 
@@ -72,19 +73,23 @@ abbrev pub words_in : List Entry → List ℕ
 words_in [] = []
 words_in (x ∷ xs) = x.after
 
+-- others may have its objects
+pub shared_part : (h : ℕ) → IsAlone h part → ⊥
+shared_part h l = ⊎_elim (λ (e : 40 ≡ 64). omega (arith, e)) (λ (n : ⊥). n) l
+
 -- ---- its newest version
 pub newest_made : IsNewest 1 3 part
 newest_made = record {
   written = ((λ _. omega arith), tt);
   seen = tt;
-  whole = λ e. absurd (omega (arith, e));
+  lone = λ l. absurd (shared_part 1 l);
 }
 
 pub newest_later : IsNewest 1 4 part
 newest_later = record {
   written = ((λ _. omega arith), tt);
   seen = tt;
-  whole = λ e. absurd (omega (arith, e));
+  lone = λ l. absurd (shared_part 1 l);
 }
 
 pub not_second : IsNewest 1 2 part → ⊥
@@ -92,4 +97,11 @@ not_second n = let e = n.written.0 refl in omega (arith, e)
 
 -- with the whole share no one else wrote it
 pub not_foreign : IsNewest 1 4 whole → ⊥
-not_foreign n = let e = n.whole refl in omega (arith, e)
+not_foreign n = let e = n.lone (inl refl) in omega (arith, e)
+
+-- nor one of its own objects
+abbrev pub owner : View
+owner = record part { own = 1 ∷ [] }
+
+pub not_foreign_own : IsNewest 1 4 owner → ⊥
+not_foreign_own n = let e = n.lone (inr (inl refl)) in omega (arith, e)

@@ -1,14 +1,11 @@
 -- Worked turns: what meets each definition, and what breaks one of its parts alone.
-use Rattle.std.proofs.Common.{◌≡◌, ℕ, ◌+◌, ◌^◌, ◌<◌, List, [], ◌∷◌, ◌++◌, length, replicate, Option, None, Some, Result, Ok, Err, refl, sym, ap, ◌∙◌, inl, inr, lit<, lit≤, arith, true≢false}
+use Rattle.std.proofs.Common.{◌≡◌, ℕ, ◌+◌, ◌^◌, List, [], ◌∷◌, ◌++◌, length, replicate, Option, None, Some, Ok, refl, ap, ◌∙◌, inl, inr, arith}
 use Rattle.std.proofs.lemmas.Bool.{eqb-false}
-use Rattle.cb_types.specs.declared.config.Config.{Config}
 use Rattle.cb_types.specs.declared.handle.Handle.{Handle}
-use Rattle.cb_types.specs.declared.job.Job.{Job}
 use Rattle.cb_types.specs.declared.job.Job.TheVariants as job
 use Rattle.cb_types.specs.declared.reply.Reply.{Reply}
 use Rattle.cb_types.specs.declared.reply.Reply.TheVariants as answer
 use Rattle.cb_types.specs.Jobs.{job_index}
-use Rattle.cb_world.specs.declared.event.Event.{Event}
 use Rattle.cb_world.specs.declared.event.Event.TheVariants.{Looked}
 use Rattle.cb_world.specs.Empty.{empty_far, empty_shown}
 use Rattle.cb_world.specs.FarState.{FarState}
@@ -17,10 +14,9 @@ use Rattle.cb_rule.specs.declared.turn.Turn.{Turn}
 use Rattle.cb_rule.specs.declared.view.Look.{Look}
 use Rattle.cb_rule.specs.declared.view.View.{View}
 use Rattle.cb_rule.specs.Steps.{look_at}
-use Rattle.cb_shared.specs.declared.reading.ReadAnswer.TheVariants as found
-use Rattle.cb_shared.specs.Parts.{Part, grown, nothing_more, sum}
-use Rattle.cb_shared.specs.Turning.{AreLooksAt, Did, KnowsOf, ReadsByPin, Slate, TellsNoPin, TurnAdds, TurnBy, answer_of, freed_of, held_by, made_by, object_of, slate_run, turn_part, with_own}
-use Rattle.cb_shared.proofs.WorkedGround.{part, two}
+use Rattle.cb_shared.specs.Parts.{Part, grown, nothing_more}
+use Rattle.cb_shared.specs.Turning.{AreLooksAt, Did, KnowsOf, ReadsByPin, Slate, TellsNoPin, TurnAdds, TurnBy, freed_of, held_by, made_by, object_of, slate_run, turn_part}
+use Rattle.cb_shared.proofs.WorkedGround.{made, part, two}
 
 abbrev one : Handle
 one = record { n = 1 }
@@ -72,6 +68,27 @@ refused = record {
 
 refused_did : Did two refused
 refused_did = worn refl refl refl (refl, tt)
+
+-- with another reply, another far state given, an event that was not run, or in a far state with
+-- fewer turns, it is none
+refused_as_done : Did two (record refused { reply = Some answer.Done }) → ⊥
+refused_as_done (worn end is same ran) = done_worn is
+  where
+    done_worn : answer.Done ≡ answer.Worn → ⊥
+    done_worn e = cc
+refused_as_done (done few does) = omega (arith, few)
+
+refused_gave_another : Did two (record refused { gave = record full { first = 4 } }) → ⊥
+refused_gave_another (worn end is same ran) = eqb-false 4 3 refl (ap (λ (f : FarState). f.first) same)
+refused_gave_another (done few does) = omega (arith, few)
+
+refused_and_looked : Did two (record refused { acts = Looked 0 0 ∷ [] }) → ⊥
+refused_and_looked (worn end is same ran) =
+    eqb-false 1 0 refl (ap (λ (t : Slate). length t.acts) ran.0)
+refused_and_looked (done few does) = omega (arith, few)
+
+refused_early : Did two (record refused { reply = None }) → ⊥
+refused_early s = let few = s.few in omega (arith, few)
 
 -- ---- its object, its handle and its reply
 reads_one : object_of (job.Read one) ≡ Some 1
@@ -148,8 +165,11 @@ adds_refused = record {
   did = refused_did;
   next = inr (refl, refl);
   wrote = refl;
-  tells = record { only = λ id losses is. absurd (worn_lost is); each = λ h id losses asks few lost.
-      absurd (no_one asks); };
+  tells = record {
+    only = λ id losses is. absurd (worn_lost is);
+    each = λ h id losses asks few lost.
+        absurd (no_one asks);
+  };
   reads = refl;
   finds = refl;
   part = refl;
@@ -157,6 +177,7 @@ adds_refused = record {
   where
     worn_lost : {id : _} {losses : _} → answer.Worn ≡ answer.Unavailable id losses → ⊥
     worn_lost e = cc
+
     no_one : {h : ℕ} → None ≡ Some h → ⊥
     no_one e = cc
 
@@ -171,8 +192,28 @@ adds_another_job a = eqb-false 6 7 refl
     first : List Turn → Turn
     first [] = refused
     first (t ∷ ts) = t
+
     first_turn : (t : Turn) → refused ∷ [] ≡ t ∷ [] → refused ≡ t
     first_turn t e = ap first e
+
+adds_another_reply : TurnAdds two job.Evict (Ok answer.Done) part added → ⊥
+adds_another_reply a =
+    done_worn (ap told (ap reply_in (ap (λ (d : Part). d.turns) a.part) ∙ a.reply_is))
+  where
+    reply_in : List Turn → Option Reply
+    reply_in [] = None
+    reply_in (t ∷ ts) = t.reply
+
+    told : Option Reply → Reply
+    told None = answer.Freed
+    told (Some r) = r
+
+    done_worn : answer.Worn ≡ answer.Done → ⊥
+    done_worn e = cc
+
+-- an entry that its reply does not tell of
+adds_an_entry : TurnAdds two job.Evict (Ok answer.Worn) part (record added { written = made ∷ [] }) → ⊥
+adds_an_entry a = eqb-false 1 0 refl (ap (λ (d : Part). length d.written) a.part ∙ ap length a.wrote)
 
 -- two turns
 adds_two : TurnAdds two job.Evict (Ok answer.Worn) part (record added { turns = refused ∷ refused ∷ [] })

@@ -1,5 +1,5 @@
 -- Worked writes: what meets each definition, and what breaks one of its parts alone.
-use Rattle.std.proofs.Common.{◌≡◌, ◌⊎◌, ℕ, zero, suc, ◌+◌, ◌<◌, ◌≤◌, List, [], ◌∷◌, length, get_or, refl, sym, ap, ◌∙◌, subst, inl, inr, lit<, lit≤, arith}
+use Rattle.std.proofs.Common.{◌≡◌, ◌⊎◌, ℕ, zero, suc, ◌+◌, ◌<◌, ◌≤◌, List, [], ◌∷◌, length, get_or, refl, sym, ap, ◌∙◌, subst, inl, inr, ⊎_elim, lit<, lit≤, arith}
 use Rattle.std.proofs.lemmas.Bool.{eqb-false}
 use Rattle.cb_ptr.specs.Word.{len_of, pins_of, state_number}
 use Rattle.cb_world.specs.Memory.{byte_at}
@@ -9,7 +9,7 @@ use Rattle.cb_rule.specs.declared.view.View.{View}
 use Rattle.cb_rule.specs.Steps.{IsNewest, with_freed, with_look}
 use Rattle.cb_shared.specs.declared.answers.WriteAnswer.TheVariants.{Ok, Freed, NotHere, Moving, Range, Pinned, Worn, Raced}
 use Rattle.cb_shared.specs.Writing.{IsPastEnd, IsPinnedSo, IsWorn, IsWrittenHere, WriteGives}
-use Rattle.cb_shared.proofs.WorkedGround.{a_stand, away, calm, last_look, last_state, moving, newest_later, newest_made, not_foreign, not_second, part, pinned, version_in, whole, words_in}
+use Rattle.cb_shared.proofs.WorkedGround.{a_stand, away, calm, last_look, last_state, moving, newest_later, newest_made, not_foreign, not_second, owner, part, pinned, shared_part, version_in, whole, words_in}
 
 abbrev looks_of : View → ℕ
 looks_of v = length v.looks
@@ -126,7 +126,7 @@ is_worn = record {
   newest = record {
     written = ((λ _. lit≤ tt), tt);
     seen = tt;
-    whole = λ e. absurd (omega (arith, e));
+    lone = λ l. absurd (⊎_elim (λ (e : 40 ≡ 64). omega (arith, e)) (λ (n : ⊥). n) l);
   };
   left = refl;
 }
@@ -144,7 +144,7 @@ worn_pinned p = eqb-false 1 0 refl (ap (λ (v : View). pins_of (last_look v)) p.
 
 -- it alone writes, and wrote version 3
 not_worn : IsWorn 1 1 1 whole (twice calm whole) → ⊥
-not_worn p = let e : 0 < 0 = p.newest.whole refl in omega (arith, e)
+not_worn p = let e : 0 < 0 = p.newest.lone (inl refl) in omega (arith, e)
 
 worn_and_written : IsWorn 1 1 1 last_made (changed calm 4 (3082 ∷ []) last_made) → ⊥
 worn_and_written p = eqb-false 2 1 refl (ap (λ (v : View). length v.written) p.left)
@@ -167,7 +167,7 @@ abbrev with_one : View
 with_one = record whole { pins = a_stand ∷ [] }
 
 pinned_by_another : IsPinnedSo 1 1 part pinned
-pinned_by_another = (refl, lit≤ tt, λ e. absurd (omega (arith, e)))
+pinned_by_another = (refl, lit≤ tt, λ l. absurd (shared_part 1 l))
 
 pinned_by_itself : IsPinnedSo 1 1 with_one pinned
 pinned_by_itself = (refl, lit≤ tt, λ _. refl)
@@ -179,7 +179,11 @@ no_pins : IsPinnedSo 1 0 part calm → ⊥
 no_pins g = let e : 1 ≤ 0 = g.1 in omega (arith, e)
 
 no_one_else : IsPinnedSo 1 1 whole pinned → ⊥
-no_one_else g = eqb-false 1 0 refl (g.2 refl)
+no_one_else g = eqb-false 1 0 refl (g.2 (inl refl))
+
+-- so it is with its own object
+no_one_of_its_own : IsPinnedSo 1 1 owner pinned → ⊥
+no_one_of_its_own g = eqb-false 1 0 refl (g.2 (inr (inl refl)))
 
 -- ---- the answers, each for its word
 by_write : WriteGives 1 1 (12 ∷ []) (Ok 4) part (changed calm 4 (3082 ∷ []) part)
@@ -216,7 +220,7 @@ range_before_pins g =
     let z : 9 ≤ 8 = subst (λ (n : ℕ). 9 ≤ len_of n) (sym e) g.1.0.1 in omega (arith, z)
 
 by_no_one : WriteGives 1 1 (12 ∷ []) (Pinned 1) whole (with_look 1 pinned whole) → ⊥
-by_no_one g = eqb-false 1 0 refl (g.1.1.2 refl)
+by_no_one g = eqb-false 1 0 refl (g.1.1.2 (inl refl))
 
 by_wear : WriteGives 1 1 (12 ∷ []) Worn last_made (twice calm last_made)
 by_wear = is_worn

@@ -1,20 +1,17 @@
 -- A write of a claimed object, step by step.
-use Rattle.std.proofs.Common.{◌≡◌, ◌≢◌, ◌⊎◌, ℕ, ◌+◌, ◌-◌, ◌*◌, ◌^◌, ◌<◌, ◌≤◌, List, [], ◌∷◌, length, get_or, sym, refl, ap, ◌∙◌, subst, arith, inl, inr}
+use Rattle.std.proofs.Common.{◌≡◌, ℕ, ◌+◌, ◌<◌, ◌≤◌, List, [], ◌∷◌, length, sym, refl, ap, ◌∙◌, subst}
 use Rattle.atomic_table.specs.Seated.{TableId}
 use Rattle.cb_types.specs.declared.config.Config.{Config}
-use Rattle.cb_ptr.specs.declared.word.State.TheVariants as state
-use Rattle.cb_ptr.specs.Word.{state_of, len_of, place_of, pins_of}
-use Rattle.cb_world.specs.Write.{IsWrite}
+use Rattle.cb_ptr.specs.Word.{len_of}
 use Rattle.cb_world.specs.Written.{entry}
 use Rattle.cb_world.specs.declared.entry.Entry.{Entry}
-use Rattle.cb_rule.specs.declared.view.Held.{Held}
 use Rattle.cb_rule.specs.declared.view.View.{View}
 use Rattle.cb_rule.specs.Slot.{Sat}
 use Rattle.cb_rule.specs.Steps.{IsNewest, held_at, with_freed, with_look}
 use Rattle.cb_shared.specs.declared.answers.WriteAnswer.{WriteAnswer}
 use Rattle.cb_shared.specs.declared.answers.WriteAnswer.TheVariants.{Ok, Freed, NotHere, Moving, Range, Pinned, Worn, Raced}
 use Rattle.cb_shared.specs.declared.setup.Setup.{Setup}
-use Rattle.cb_shared.specs.Claims.{unclaimed, with_only}
+use Rattle.cb_shared.specs.Claims.{with_only}
 use Rattle.cb_shared.specs.Glances.{Glances}
 use Rattle.cb_shared.specs.Passes.{IsAtRest}
 use Rattle.cb_shared.specs.Places.{IsOf, Place, Moves}

@@ -1,6 +1,5 @@
 -- What the calls that try again until they are answered add to the record of their pass.
-use Rattle.std.specs.Prelude.{◌≡◌, ◌⊎◌, ℕ, ◌+◌, ◌*◌, ◌&&◌, ◌-◌, ◌^◌, Bool, true, false, ltb, leb, List, [], ◌∷◌, length, Option, None, Some, Result, Ok}
-use Rattle.cb_member.specs.declared.no_memory.NoMemory.{NoMemory}
+use Rattle.std.specs.Prelude.{◌≡◌, ◌⊎◌, ℕ, ◌+◌, ◌*◌, ◌&&◌, ◌-◌, ◌^◌, Bool, false, ltb, leb, List, [], ◌∷◌, length, Option, None, Some, Ok}
 use Rattle.cb_types.specs.declared.config.Config.{Config}
 use Rattle.cb_types.specs.declared.handle.Handle.{Handle}
 use Rattle.cb_types.specs.declared.job.Job.{Job}
@@ -134,17 +133,17 @@ written_once h word version old new = record nothing_more {
 -- the object was here and was written: one entry, one version above the newest one, whose contents
 -- are those before with the bytes in them
 pub record IsWrittenOnce (h at : ℕ) (bytes : List ℕ) (version : ℕ) (v : View) (d : Part) : Type 0
-    where
-  pub word : ℕ
-  pub old : List ℕ
-  pub new : List ℕ
-  pub last : ℕ
-  pub room : IsRoomFor at (length bytes) word
-  pub bare : pins_of word ≡ 0
-  pub newest : IsNewest h last v
-  pub next : version ≡ last + 1
-  pub write : IsWrite old at bytes new
-  pub part : d ≡ written_once h word version old new
+  where
+    pub word : ℕ
+    pub old : List ℕ
+    pub new : List ℕ
+    pub last : ℕ
+    pub room : IsRoomFor at (length bytes) word
+    pub bare : pins_of word ≡ 0
+    pub newest : IsNewest h last v
+    pub next : version ≡ last + 1
+    pub write : IsWrite old at bytes new
+    pub part : d ≡ written_once h word version old new
 
 -- it was claimed at a version that has no next one, and put back as it was
 pub record IsWornOut (h at count : ℕ) (v : View) (d : Part) : Type 0 where

@@ -5,18 +5,19 @@ use Rattle.cb_ptr.specs.declared.word.State.TheVariants as state
 use Rattle.cb_ptr.specs.Word.{state_of, pins_of}
 use Rattle.cb_rule.specs.declared.view.Stand.{Stand}
 use Rattle.cb_rule.specs.Lists.{Each}
+use Rattle.cb_rule.specs.Own.{IsAlone}
 use Rattle.cb_rule.specs.Seats.{pins_on}
 use Rattle.cb_rule.specs.Steps.{IsInside, IsNewest, with_freed, with_look, with_pin}
 use Rattle.cb_shared.specs.Places.{Place, Moves}
 
 -- The look is added to the record. A freed object is read, at its last version; the pins of one that
--- is here are counted in its word, and with the whole share no one else has any.
+-- is here are counted in its word, and where no other pass has it these are the seat's own.
 pub record Glances (h w : ℕ) (p q : Place) : Type 0 where
   pub freed : state_of w ≡ state.Empty → (v : ℕ) × IsNewest h v p.me.0
       × Moves p q (with_freed h v w p.me.0)
   pub other : state_of w ≢ state.Empty → Moves p q (with_look h w p.me.0)
   pub counted : state_of w ≡ state.Here → (pins_on h p.me.0 ≤ pins_of w)
-      × (p.me.0.share ≡ 64 → pins_of w ≡ pins_on h p.me.0)
+      × (IsAlone h p.me.0 → pins_of w ≡ pins_on h p.me.0)
 
 -- A pin was taken at the word that was expected, of the newest version, which is read; or another
 -- word was found, and looked at.

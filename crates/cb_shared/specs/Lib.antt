@@ -13,4 +13,5 @@ pub mod PinLoads
 pub mod Reading
 pub mod Turning
 pub mod UnderLock
+pub mod Rights
 pub mod Calls

@@ -1,5 +1,5 @@
 -- What the parts of a turn come to, from taking the far lock to giving it back.
-use Rattle.std.specs.Prelude.{◌≡◌, ℕ, ◌*◌, ◌^◌, ◌<◌, true, List, [], ◌∷◌, ◌++◌, Option, None, Some, Result, Ok, Err, IfOk}
+use Rattle.std.specs.Prelude.{◌≡◌, ℕ, ◌<◌, true, List, [], ◌∷◌, ◌++◌, Option, None, Some, Result, Ok, Err, IfOk}
 use Rattle.cb_member.specs.declared.no_memory.NoMemory.{NoMemory}
 use Rattle.cb_types.specs.declared.config.Config.{Config}
 use Rattle.cb_types.specs.declared.handle.Handle.{Handle}
@@ -22,6 +22,7 @@ use Rattle.cb_rule.specs.declared.view.View.{View}
 use Rattle.cb_rule.specs.Lists.{Each}
 use Rattle.cb_rule.specs.Locking.{Stood}
 use Rattle.cb_rule.specs.LockSteps.{AddsTurn, HasTaken, gave_lock, took_lock, turn_of}
+use Rattle.cb_rule.specs.Own.{Make}
 use Rattle.cb_rule.specs.Rule.{AreSized}
 use Rattle.cb_rule.specs.Slot.{Slot}
 use Rattle.cb_rule.specs.Steps.{acted}
@@ -164,13 +165,15 @@ abbrev pub FreedMoves : Config → Option ℕ → Place → Place → Type 0
 FreedMoves c freed p q = (d : Part) × Moves p q (grown d p.me.0) × IsQuiet d × ReadsBelow c d
     × FindsFreed freed p.me.0 d
 
--- The seat may give the lock back with this far state, whose turn had this job and this reply.
+-- The seat may give the lock back with this far state, whose turn had this job and this reply. What it
+-- made has the first version.
 pub record IsEnding (c : Config) (job : Job) (r : Option Reply) (far : FarState) (v : View) : Type 0
   where
-  pub holds : v.holds ≡ true
-  pub stood : Stood c v.known far
-  pub adds : AddsTurn v.took far
-  pub did : (n : ℕ) → Did c (turn_of job r far n v)
+    pub holds : v.holds ≡ true
+    pub stood : Stood c v.known far
+    pub adds : AddsTurn v.took far
+    pub did : (n : ℕ) → Did c (turn_of job r far n v)
+    pub makes : Each (λ h. Make v.known.first h v.fresh) (made_by job r)
 
 -- the seat gave the lock back, with the far state in its slot
 pub record GivesFar (c : Config) (job : Job) (r : Option Reply) (far : FarState) (p q : Place)

@@ -5,6 +5,7 @@ use Rattle.cb_ptr.specs.Word.{state_of, len_of, pins_of}
 use Rattle.cb_world.specs.Write.{IsWrite}
 use Rattle.cb_world.specs.Written.{entry}
 use Rattle.cb_rule.specs.declared.view.View.{View}
+use Rattle.cb_rule.specs.Own.{IsAlone}
 use Rattle.cb_rule.specs.Seats.{pins_on}
 use Rattle.cb_rule.specs.Steps.{IsNewest, with_look}
 use Rattle.cb_shared.specs.declared.answers.WriteAnswer.{WriteAnswer}
@@ -22,9 +23,9 @@ IsRoomFor at count n = (state_of n ≡ state.Here) × (at + count ≤ len_of n)
 abbrev pub IsPastEnd : ℕ → ℕ → ℕ → ℕ → Type 0
 IsPastEnd at count len n = (state_of n ≡ state.Here) × (len_of n ≡ len) × (len < at + count)
 
--- it is pinned so often; with the whole share by this pass alone
+-- it is pinned so often; by this pass alone where it has the whole share or the object is its own
 abbrev pub IsPinnedSo : ℕ → ℕ → View → ℕ → Type 0
-IsPinnedSo h count v n = (pins_of n ≡ count) × (1 ≤ count) × (v.share ≡ 64 → count ≡ pins_on h v)
+IsPinnedSo h count v n = (pins_of n ≡ count) × (1 ≤ count) × (IsAlone h v → count ≡ pins_on h v)
 
 -- the object was claimed where it is, at its newest version, and written: one entry more, one
 -- version higher, whose contents are those before with the bytes in them

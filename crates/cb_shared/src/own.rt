@@ -12,13 +12,14 @@ use crate::board::{Place, Top};
 use crate::plays::{ClaimHere, Date, PutBack, ReadHeld, SettleHere, StampHere, StoreHere};
 use cb_types::Config;
 
-/// Claims an object where its word is `saw`, which is here and has no pins, and answers the word
+/// Claims an object that the seat knows where its word is `saw`, which is here and has no pins, and answers the word
 /// that was found.
 pub(crate) fn claim_here(top: &Top, seat: &mut Place, config: &Config, h: u32, saw: u64) -> u64
     requires of { IsOf top.now.table_id top.now.key config.now seat.old }
     requires handle { h < config.now.handles }
     requires here { state_of saw ≡ state.Here }
     requires no_pins { pins_of saw ≡ 0 }
+    requires knows { Knows h seat.old.me.0 }
     requires none { seat.old.me.0.claims ≡ [] }
     ensures { ClaimsHere config.now h saw result seat.old seat.new }
 {

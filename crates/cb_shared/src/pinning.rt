@@ -128,6 +128,7 @@ fn pin_at(
     requires handle { h.n < config.now.handles }
     requires here { state_of saw ≡ state.Here }
     requires few { pins_of saw < 1023 }
+    requires knows { Knows h.n seat.old.me.0 }
     requires pins { (padded_value pins.old).items ≡ handles_of seat.old.me.0.pins }
     requires room { length seat.old.me.0.pins < 16 }
     ensures table { (seat.new.table_id ≡ seat.old.table_id) × (seat.new.me.1 ≡ seat.old.me.1) }

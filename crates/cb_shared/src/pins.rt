@@ -26,13 +26,14 @@ pub(crate) fn glance(top: &Top, seat: &mut Place, config: &Config, h: u32) -> u6
     top.load::<Glance>(seat, 1 + h as usize)
 }
 
-/// Pins an object where its word is `saw`, which is here and has fewer than 1,023 pins, and answers
+/// Pins an object that the seat knows where its word is `saw`, which is here and has fewer than 1,023 pins, and answers
 /// the word that was found.
 pub(crate) fn take_pin(top: &Top, seat: &mut Place, config: &Config, h: u32, saw: u64) -> u64
     requires of { IsOf top.now.table_id top.now.key config.now seat.old }
     requires handle { h < config.now.handles }
     requires here { state_of saw ≡ state.Here }
     requires room { pins_of saw < 1023 }
+    requires knows { Knows h seat.old.me.0 }
     requires few { length seat.old.me.0.pins < 17 }
     ensures { TakesPin config.now h saw result seat.old seat.new }
 {

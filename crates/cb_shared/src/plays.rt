@@ -77,11 +77,13 @@ impl Play<Option<Far>, View> for TakeLock {
 /// What a turn was asked for, and answered: None where there was no memory. Each call picks it.
 pub trait Deed {
     ghost job: { Job };
+
     ghost reply: { Maybe Reply };
 }
 
 impl Deed for Brand {
     ghost job = { Evict };
+
     ghost reply = { None };
 }
 

@@ -1,24 +1,30 @@
-ghost use Rattle.std.specs.Prelude.{◌≡◌, ℕ, true, ◌+◌, ◌*◌, ◌≤◌, length};
+ghost use Rattle.std.specs.Prelude.{◌≡◌, ℕ, true, ◌+◌, ◌*◌, ◌≤◌, length, Some};
+ghost use Rattle.cb_shared.specs.Rights.{rights};
 
 use crate::board::{Place, Top};
 use crate::frames::{load_row, store_row};
 use crate::steps::{load, look, put_stamp, settle, store, take_claim, tell};
 use cb_types::{Config, Handle};
 use cb_world::{Claim, Desk};
+use std::sync::Wait;
 
 /// The words as the holder of the far lock works at them, while others pin, unpin and write: each
-/// call is one atomic step of its seat, and a frame is one step a word.
-#[derive(Drop)]
-pub struct SeatDesk<'a> {
+/// call is one atomic step of its seat, and a frame is one step a word. A turn writes one object at
+/// most, that of its job; of no other object does the version word change.
+pub struct SeatDesk<'a, R: Wait> {
+    pub rt: &'a R,
     pub config: Config,
     pub top: &'a Top,
     pub seat: &'a mut Place,
+    /// The object that the turn may write, if there is one.
+    pub allowed: Option<u32>,
     pub ghost table: { seat.now.table_id ≡ top.now.table_id },
     pub ghost counts: { top.now.table_id.words
         ≡ 1 + config.handles + config.handles + 512 * config.frames },
     pub ghost key: { top.now.key.config ≡ config },
     pub ghost same: { seat.now.me.0.config ≡ config },
     pub ghost live: { 1 ≤ seat.now.me.0.share },
+    pub ghost may: { 1 ≤ rights allowed seat.now.me.0.known seat.now.me.0 },
     pub ghost holder: { seat.now.me.0.holds ≡ true },
     pub ghost objects: { length seat.now.me.0.known.objects ≡ config.handles },
     pub ghost hots: { length seat.now.me.0.known.hots ≡ config.handles },
@@ -26,7 +32,7 @@ pub struct SeatDesk<'a> {
     pub ghost memory: { length seat.now.me.0.known.memory ≡ 512 * config.frames },
 }
 
-impl<'a> Desk for SeatDesk<'a> {
+impl<'a, R: Wait> Desk for SeatDesk<'a, R> {
     ghost use Rattle.std.proofs.Common.{refl, ap, ◌∙◌};
     ghost use Rattle.cb_shared.specs.SeatLaws.{Runs, runs_more, runs_follows};
 
@@ -75,6 +81,7 @@ impl<'a> Desk for SeatDesk<'a> {
     }
 
     fn store_version(&mut self, h: Handle, version: u64) {
+        stay_within(self.rt, self.allowed, h.n);
         put_stamp(self.top, self.seat, &self.config, h.n, version);
     }
 
@@ -101,4 +108,29 @@ impl<'a> Desk for SeatDesk<'a> {
       ap (λ t. length t.versions) a ∙ d.versions,
       ap (λ t. length t.memory) a ∙ d.memory,
     ) };
+}
+
+/// Goes on where the object is the one that the turn may write. No turn stores the version word of
+/// another, but the desk can't tell that of the calls that are made at it; and what a pass reads of
+/// its own objects rests on it that no other pass writes them. So a turn that came here with another
+/// object would stop for good, and write nothing.
+fn stay_within<R: Wait>(rt: &R, allowed: Option<u32>, h: u32)
+    ensures { allowed ≡ Some h }
+{
+    for _ in rt.forever() {
+        if is_allowed(allowed, h) {
+            return;
+        }
+    }
+    unreachable!()
+}
+
+/// Whether the object is the one that may be written.
+fn is_allowed(allowed: Option<u32>, h: u32) -> bool
+    ensures { result ≡ true → allowed ≡ Some h }
+{
+    match allowed {
+        Some(n) => n == h,
+        None => false,
+    }
 }

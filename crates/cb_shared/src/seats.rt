@@ -57,6 +57,7 @@ impl Shared {
 fn split_off(top: &Top, pass: &mut Pass, config: &Config, share: u32) -> Place
     requires of { IsOf top.now.table_id top.now.key config.now pass.old.seat }
     requires share { (1 ≤ share) × (share < pass.old.seat.me.0.share) }
+    requires fresh { pass.old.seat.me.0.fresh ≡ [] }
     ensures left { Moves pass.old.seat pass.new.seat (left_of share pass.old.seat.me.0) }
     ensures right { (result.table_id ≡ pass.old.seat.table_id)
         × (result.me ≡ (right_of share pass.old.seat.me.0, [])) }
@@ -70,6 +71,7 @@ fn split_as<W: Given>(top: &Top, seat: &mut Place, config: &Config, share: u32) 
     requires of { IsOf top.now.table_id top.now.key config.now seat.old }
     requires picks { W.share ≡ share }
     requires share { (1 ≤ share) × (share < seat.old.me.0.share) }
+    requires fresh { seat.old.me.0.fresh ≡ [] }
     ensures left { Moves seat.old seat.new (left_of share seat.old.me.0) }
     ensures right { (result.table_id ≡ seat.old.table_id)
         × (result.me ≡ (right_of share seat.old.me.0, [])) }
@@ -82,6 +84,7 @@ fn split_as<W: Given>(top: &Top, seat: &mut Place, config: &Config, share: u32) 
 fn split_seat(top: &Top, seat: &mut Place, config: &Config, share: u32) -> Place
     requires of { IsOf top.now.table_id top.now.key config.now seat.old }
     requires share { (1 ≤ share) × (share < seat.old.me.0.share) }
+    requires fresh { seat.old.me.0.fresh ≡ [] }
     ensures left { Moves seat.old seat.new (left_of share seat.old.me.0) }
     ensures right { (result.table_id ≡ seat.old.table_id)
         × (result.me ≡ (right_of share seat.old.me.0, [])) }
@@ -121,6 +124,7 @@ fn join_in(top: &Top, pass: &mut Pass, other: Place, share: u32, config: &Config
     requires other { IsSpare top.now.table_id other }
     requires share { share ≡ other.me.0.share }
     requires few { (pass.old.seat.me.0.share ≤ 64) × (share ≤ 64) }
+    requires fresh { pass.old.seat.me.0.fresh ≡ [] }
     ensures joined { Moves pass.old.seat pass.new.seat
         (joined pass.old.seat.me.0 other.me.0) }
     ensures most { pass.new.seat.me.0.share ≤ 64 }
@@ -144,6 +148,7 @@ fn join_as<W: Keyed>(top: &Top, seat: &mut Place, other: Place, config: &Config)
     requires of { IsOf top.now.table_id top.now.key config.now seat.old }
     requires picks { W.key ≡ config.now }
     requires other { IsSpare top.now.table_id other }
+    requires fresh { seat.old.me.0.fresh ≡ [] }
     ensures { Moves seat.old seat.new (joined seat.old.me.0 other.me.0) }
 {
     let _config = config;
@@ -153,6 +158,7 @@ fn join_as<W: Keyed>(top: &Top, seat: &mut Place, other: Place, config: &Config)
 fn join_seats(top: &Top, seat: &mut Place, other: Place, config: &Config)
     requires of { IsOf top.now.table_id top.now.key config.now seat.old }
     requires other { IsSpare top.now.table_id other }
+    requires fresh { seat.old.me.0.fresh ≡ [] }
     ensures { Moves seat.old seat.new (joined seat.old.me.0 other.me.0) }
 {
     join_as::<Brand>(top, seat, other, config)

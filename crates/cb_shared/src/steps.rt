@@ -5,6 +5,7 @@ ghost use Rattle.cb_ptr.specs.Word.{state_of, pins_of};
 ghost use Rattle.cb_world.specs.declared.event.Event.TheVariants.{Looked, Claimed, Told, Loaded, Stored, Stamped, Settled};
 ghost use Rattle.cb_world.specs.Shown.{Owns, IsHeld, object_at};
 ghost use Rattle.cb_world.specs.Settling.{MaySettle};
+ghost use Rattle.cb_rule.specs.Own.{MayWrite};
 ghost use Rattle.cb_shared.specs.Places.{Holds, Acts};
 
 use crate::board::{Place, Top};
@@ -66,11 +67,13 @@ pub(crate) fn store(top: &Top, seat: &mut Place, config: &Config, place: usize, 
     top.store::<Store>(seat, 1 + handles + handles + place, word);
 }
 
-/// Stores the version word of an object that the holder claims, or that is empty or far.
+/// Stores the version word of an object that the holder claims, or that is empty or far, and that it
+/// may write: its record has an entry of it, or it was never made.
 pub(crate) fn put_stamp(top: &Top, seat: &mut Place, config: &Config, h: u32, version: u64)
     requires holds { Holds top.now.table_id top.now.key config.now seat.old }
     requires handle { h < config.now.handles }
     requires held { IsHeld (object_at seat.old.me.0.known h) }
+    requires may { MayWrite h seat.old.me.0.known seat.old.me.0 }
     ensures { Acts seat.old (Stamped h version) seat.new }
 {
     top.store::<Stamp>(seat, 1 + config.handles as usize + h as usize, version);

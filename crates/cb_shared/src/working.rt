@@ -11,6 +11,7 @@ ghost use Rattle.cb_core.specs.Unavailable.{TurnTells};
 ghost use Rattle.cb_rule.specs.Locking.{Stood};
 ghost use Rattle.cb_rule.specs.Steps.{Knows};
 ghost use Rattle.cb_shared.specs.Places.{Holds, IsOf};
+ghost use Rattle.cb_shared.specs.Rights.{writes_of};
 ghost use Rattle.cb_shared.specs.Turning.{KnowsOf};
 ghost use Rattle.cb_shared.specs.UnderLock.{BringAt, CameThere, IsBeginning, IsNoRead, IsReplyTo, IsTriedAgain, TriesOn, TurnAt, WorkBy};
 
@@ -46,7 +47,7 @@ pub(crate) fn work<R: Wait>(
 {
     match read_of(job) {
         Some(h) => read_by_seat(rt, top, seat, config, far, alloc, h),
-        None => turn_by_seat(top, seat, config, far, alloc, job),
+        None => turn_by_seat(rt, top, seat, config, far, alloc, job),
     }
 }
 
@@ -62,7 +63,8 @@ fn read_of(job: &Job) -> Option<Handle>
 }
 
 /// A job at the desk over the seat.
-fn turn_by_seat(
+fn turn_by_seat<R: Wait>(
+    rt: &R,
     top: &Top,
     seat: &mut Place,
     config: &Config,
@@ -74,6 +76,7 @@ fn turn_by_seat(
     requires config { IsAccepted config.now }
     requires job { IsJob config.now job.now }
     requires other { IsNoRead job.now }
+    requires knows { KnowsOf job.now seat.old.me.0 }
     requires stood { Stood config.now seat.old.me.0.known far.old }
     requires idle { seat.old.me.0.acts ≡ [] }
     requires fresh { seat.old.me.0.fresh ≡ [] }
@@ -81,16 +84,47 @@ fn turn_by_seat(
     ensures no_frame { IfOk result (λ reply. reply ≡ answer.NoFrame → ⊥) }
     ensures unavailable { IfOk result (λ reply. TurnTells job.now far.old reply) }
 {
+    let allowed = object_written(job, far);
     let mut desk = SeatDesk {
+        rt,
         config: *config,
         top,
         seat,
+        allowed,
     };
-    turn_at_desk(&mut desk, far, alloc, job)
+    let reply = turn_at_desk(&mut desk, far, alloc, job);
+    let SeatDesk {
+        rt: _,
+        config: _,
+        top: _,
+        seat: _,
+        allowed: _,
+    } = desk;
+    reply
 }
 
-fn turn_at_desk<'a>(
-    desk: &mut SeatDesk<'a>,
+/// The object that a job writes: a make the next handle, a write or a free its own, and every other
+/// job none.
+fn object_written(job: &Job, far: &Far) -> Option<u32>
+    ensures { result ≡ writes_of job.now far.now }
+{
+    match job {
+        Job::Make { .. } => Some(next_handle(far)),
+        Job::Write { handle, .. } => Some(handle.n),
+        Job::Free { handle } => Some(handle.n),
+        _ => None,
+    }
+}
+
+/// The handle that a make gives.
+fn next_handle(far: &Far) -> u32
+    ensures { result ≡ far.now.made }
+{
+    far.made
+}
+
+fn turn_at_desk<'a, R: Wait>(
+    desk: &mut SeatDesk<'a, R>,
     far: &mut Far,
     alloc: Global,
     job: &Job,
@@ -130,7 +164,7 @@ fn read_by_seat<R: Wait>(
     ensures no_frame { IfOk result (λ reply. reply ≡ answer.NoFrame → ⊥) }
     ensures unavailable { IfOk result (λ reply. TurnTells (jobs.Read h) far.old reply) }
 {
-    let place = bring_by_seat(top, seat, config, far, h);
+    let place = bring_by_seat(rt, top, seat, config, far, h);
     if !is_there(&place) {
         return place;
     }
@@ -150,7 +184,8 @@ fn is_there(place: &Result<Reply, NoMemory>) -> bool
 }
 
 /// The first part of a read, at the desk over the seat.
-fn bring_by_seat(
+fn bring_by_seat<R: Wait>(
+    rt: &R,
     top: &Top,
     seat: &mut Place,
     config: &Config,
@@ -167,14 +202,28 @@ fn bring_by_seat(
     ensures no_frame { IfOk result (λ reply. reply ≡ answer.NoFrame → ⊥) }
 {
     let mut desk = SeatDesk {
+        rt,
         config: *config,
         top,
         seat,
+        allowed: None,
     };
-    bring_at_desk(&mut desk, far, h)
+    let reply = bring_at_desk(&mut desk, far, h);
+    let SeatDesk {
+        rt: _,
+        config: _,
+        top: _,
+        seat: _,
+        allowed: _,
+    } = desk;
+    reply
 }
 
-fn bring_at_desk<'a>(desk: &mut SeatDesk<'a>, far: &mut Far, h: Handle) -> Result<Reply, NoMemory>
+fn bring_at_desk<'a, R: Wait>(
+    desk: &mut SeatDesk<'a, R>,
+    far: &mut Far,
+    h: Handle,
+) -> Result<Reply, NoMemory>
     requires config { IsAccepted desk.old.config }
     requires handle { h.n < desk.old.config.handles }
     requires stood { Stood desk.old.config desk.old.seat.now.me.0.known far.old }

@@ -103,6 +103,7 @@ fn write_at(
     requires handle { h < config.now.handles }
     requires room { IsRoomFor at (length bytes.now) saw }
     requires bare { pins_of saw ≡ 0 }
+    requires knows { Knows h seat.old.me.0 }
     ensures table { (seat.new.table_id ≡ seat.old.table_id) × (seat.new.me.1 ≡ seat.old.me.1) }
     ensures share { seat.new.me.0.share ≡ seat.old.me.0.share }
     ensures pins { seat.new.me.0.pins ≡ seat.old.me.0.pins }

@@ -12,5 +12,5 @@ returns-in-None-clause-claims g c = rw c.in-None.is (record {
   more = [];
   noted = sym (append-nil c.args.formers.now.items);
   notes = refl;
-  claims = λ far s a sound. claims_nothing far s [] tt sound (λ h quiet. refl);
+  claims = λ far s a sound. claims_nothing far s [] tt sound;
 })

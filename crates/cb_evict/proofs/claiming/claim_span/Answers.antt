@@ -20,7 +20,7 @@ loop-slot-init g c = (
   [],
   [],
   nothing_yet _ _ c.args.span.now (g.met.D.Desk.none _)
-      (λ far s a sound. claims_nothing far s [] tt sound (λ h quiet. refl)),
+      (λ far s a sound. claims_nothing far s [] tt sound),
   sym (append-nil c.args.formers.now.items),
   omega arith,
   omega arith,

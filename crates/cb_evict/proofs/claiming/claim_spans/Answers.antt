@@ -19,7 +19,7 @@ loop-frame-init g c = let runs = λ (fs : List Event). g.D.Desk.run c.args.desk.
           (sym c.requires.empty.0)
           (subst (λ (l : List Former). Tried runs shows spans loose 0 [] [] l) (sym c.requires.empty.1)
           (tried_none runs shows spans loose (g.met.D.Desk.none _)
-          (λ far s a sound. claims_nothing far s [] tt sound (λ h quiet. refl)))),
+          (λ far s a sound. claims_nothing far s [] tt sound))),
       let e = ap (λ (l : List ℕ). length l) c.requires.empty.0 in omega (arith, e),
       c.requires.room.0,
       c.requires.room.1,

@@ -13,51 +13,47 @@ use Rattle.cb_evict.specs.Evicting.{IsReady}
 use Rattle.cb_evict.specs.Loading.{LiesInOne}
 use Rattle.cb_evict.proofs.Events.{are_reads, first_append}
 use Rattle.cb_evict.proofs.Evicts.{told_all}
-use Rattle.cb_evict.proofs.Ending.{taken_ready, place_in, handles_all, are_read, code_range, kept_parities, IsEnd, end_quiet, ended, state_then, homes_then, end_in, spans_touched, frames_below}
-use Rattle.cb_evict.proofs.NewSet.{can_put, have_room}
+use Rattle.cb_evict.proofs.Ending.{taken_ready, place_in, handles_all, are_read, kept_parities, IsEnd, end_quiet, ended, state_then, homes_then, end_in, spans_touched, frames_below}
 use Rattle.cb_evict.proofs.Restored.{gives_back_ends}
 use Rattle.cb_evict.proofs.Standing.{are_unique}
 use Rattle.cb_evict.proofs.evicting.evict_claimed.Goals as goal
 
-pub load_frames-requires-clause-few : goal.load_frames-requires-clause-few
-load_frames-requires-clause-few g c =
-    let most = c.requires.config K in omega (arith, most.1, c.requires.taken.count)
+pub store_frames-requires-clause-config : goal.store_frames-requires-clause-config
+store_frames-requires-clause-config g c = c.requires.config
 
-pub load_frames-requires-clause-frames : goal.load_frames-requires-clause-frames
-load_frames-requires-clause-frames g c =
+pub store_frames-requires-clause-configured : goal.store_frames-requires-clause-configured
+store_frames-requires-clause-configured g c = c.requires.configured
+
+pub store_frames-requires-clause-counts : goal.store_frames-requires-clause-counts
+store_frames-requires-clause-counts g c = c.requires.counts
+
+pub store_frames-requires-clause-room : goal.store_frames-requires-clause-room
+store_frames-requires-clause-room g c = c.requires.room
+
+pub store_frames-requires-clause-count : goal.store_frames-requires-clause-count
+store_frames-requires-clause-count g c = c.requires.taken.count
+
+pub store_frames-requires-clause-there : goal.store_frames-requires-clause-there
+store_frames-requires-clause-there g c = λ k d l.
+    let x = taken_ready _ c.args.far.now c.args.frames.now c.args.formers.now c.requires.ready.1
+    c.requires.taken c.requires.ready.2.sound.here (get_or c.args.frames.now k d)
+    (place_in c.args.frames.now k d l) in (x.span, x.there)
+
+pub store_frames-requires-clause-below : goal.store_frames-requires-clause-below
+store_frames-requires-clause-below g c =
     let r = c.requires.ready.2 in
     let sized = g.met.D.Desk.sized _ (played c.requires.ready.0 c.requires.ready.1) r.shown in
     frames_below _ c.args.far.now c.args.frames.now c.args.formers.now c.requires.ready.1
     (played c.requires.ready.0 c.requires.ready.1) _ c.requires.taken r.sound.here r.here sized.3
 
-pub keep_set-requires-clause-there : goal.keep_set-requires-clause-there
-keep_set-requires-clause-there g c = λ k d l.
-    let x = taken_ready _ c.args.far.now c.args.frames.now c.args.formers.now c.requires.ready.1
-    c.requires.taken c.requires.ready.2.sound.here (get_or c.args.frames.now k d)
-    (place_in c.args.frames.now k d l) in (x.span, x.there)
-
-pub keep_set-requires-clause-range : goal.keep_set-requires-clause-range
-keep_set-requires-clause-range g c =
-    let range = code_range _ c.requires.config in record {
-      data_least = omega (arith, range.data_least, c.requires.taken.count);
-      data_most = omega (arith, range.data_most, c.requires.taken.count);
-      parities_least = omega (arith, range.parities_least, c.requires.taken.count, c.requires.shards.count);
-      parities_most = omega (arith, range.parities_most, c.requires.taken.count, c.requires.shards.count);
-    }
-
-pub keep_set-requires-clause-can : goal.keep_set-requires-clause-can
-keep_set-requires-clause-can g c =
-    can_put c.args.far.now _ c.args.shards.now c.requires.shards
-    c.requires.ready.2.sound.away.sound.rows
-
-pub keep_set-requires-clause-fits : goal.keep_set-requires-clause-fits
-keep_set-requires-clause-fits g c = have_room c.args.far.now _ c.args.shards.now c.requires.shards
+pub store_frames-requires-clause-rows : goal.store_frames-requires-clause-rows
+store_frames-requires-clause-rows g c = c.requires.ready.2.sound.away.sound.rows
 
 pub send-requires-clause-handles : goal.send-requires-clause-handles
 send-requires-clause-handles g c =
     let r = c.requires.ready.2 in
     let sized = g.met.D.Desk.sized _ (played c.requires.ready.0 c.requires.ready.1) r.shown in
-    let stays = g.met.D.Desk.stays _ _ c.load_frames.ensures.loads.events c.load_frames.ensures.loads.ran in
+    let stays = g.met.D.Desk.stays _ _ c.in-Ok.ensures.kept.loads.events c.in-Ok.ensures.kept.loads.ran in
     handles_all c.requires.ready.0 c.requires.ready.1 _ c.args.formers.now _ r.claimed
     (sized.0 ∙ ap (λ (n : Config). n.handles) (sym stays))
 
@@ -68,11 +64,11 @@ send-requires-clause-apart g c = c.requires.taken.each_once
 pub send-requires-clause-told : goal.send-requires-clause-told
 send-requires-clause-told g c =
     let r = c.requires.ready.2 in let t = played c.requires.ready.0 c.requires.ready.1 in
-    let x = c.load_frames.ensures.loads in
+    let x = c.in-Ok.ensures.kept.loads in
     let reads = are_reads (LiesInOne c.args.frames.now) x.events x.loads in
     let sized = g.met.D.Desk.sized _ t r.shown in (
       t,
-      subst (λ (v : Shown). g.D.Desk.shows c.load_frames.new.desk v) (reads.stays t)
+      subst (λ (v : Shown). g.D.Desk.shows c.store_frames.new.desk v) (reads.stays t)
           (g.met.D.Desk.follows _ _ x.events t x.ran r.shown).1,
       told_all c.args.far.now c.requires.ready.0 c.requires.ready.1 t c.args.formers.now r.claimed
           r.here (sized.1 ∙ sym sized.0),
@@ -82,7 +78,7 @@ pub give_back-requires-clause-handles : goal.give_back-requires-clause-handles
 give_back-requires-clause-handles g c =
     let r = c.requires.ready.2 in
     let sized = g.met.D.Desk.sized _ (played c.requires.ready.0 c.requires.ready.1) r.shown in
-    let stays = g.met.D.Desk.stays _ _ c.load_frames.ensures.loads.events c.load_frames.ensures.loads.ran in
+    let stays = g.met.D.Desk.stays _ _ c.in-Err.ensures.read.0 c.in-Err.ensures.read.1 in
     handles_all c.requires.ready.0 c.requires.ready.1 _ c.args.formers.now _ r.claimed
     (sized.0 ∙ ap (λ (n : Config). n.handles) (sym stays))
 
@@ -92,17 +88,17 @@ give_back-requires-clause-apart g c = c.requires.taken.each_once
 pub give_back-requires-clause-held : goal.give_back-requires-clause-held
 give_back-requires-clause-held g c =
     let r = c.requires.ready.2 in let t = played c.requires.ready.0 c.requires.ready.1 in
-    let x = c.load_frames.ensures.loads in
-    let reads = are_reads (LiesInOne c.args.frames.now) x.events x.loads in (
+    let x = c.in-Err.ensures.read in
+    let reads = are_reads (LiesInOne c.args.frames.now) x.0 x.2 in (
       t,
-      subst (λ (v : Shown). g.D.Desk.shows c.load_frames.new.desk v) (reads.stays t)
-          (g.met.D.Desk.follows _ _ x.events t x.ran r.shown).1,
+      subst (λ (v : Shown). g.D.Desk.shows c.store_frames.new.desk v) (reads.stays t)
+          (g.met.D.Desk.follows _ _ x.0 t x.1 r.shown).1,
       (c.args.far.now, r.here, λ k d l. (r.claimed.taken k d l).at),
     )
 
 pub close_spans-requires-clause-there : goal.close_spans-requires-clause-there
 close_spans-requires-clause-there g c =
-    let kept = c.in-Ok.ensures.kept in λ k d l.
+    let kept = c.in-Ok.ensures.kept.kept in λ k d l.
     let x = taken_ready _ c.args.far.now c.args.frames.now c.args.formers.now c.requires.ready.1
     c.requires.taken c.requires.ready.2.sound.here (get_or c.args.frames.now k d)
     (place_in c.args.frames.now k d l) in
@@ -110,7 +106,7 @@ close_spans-requires-clause-there g c =
 
 pub close_spans-requires-clause-unique : goal.close_spans-requires-clause-unique
 close_spans-requires-clause-unique g c =
-    let kept = c.in-Ok.ensures.kept in let r = c.requires.ready.2 in
+    let kept = c.in-Ok.ensures.kept.kept in let r = c.requires.ready.2 in
     let t = played c.requires.ready.0 c.requires.ready.1 in
     let sized = g.met.D.Desk.sized _ t r.shown in
     subst (λ (f : FarState). AreUnique f.spans (length f.homes)) (sym kept.state)
@@ -122,7 +118,7 @@ close_spans-requires-clause-apart g c = c.requires.taken.apart
 
 pub close_spans-requires-clause-within : goal.close_spans-requires-clause-within
 close_spans-requires-clause-within g c =
-    let kept = c.in-Ok.ensures.kept in
+    let kept = c.in-Ok.ensures.kept.kept in
     subst (λ (y : FarState). All (λ f. (f < length y.frames) × (f < length y.spans)) c.args.frames.now)
     (sym kept.state) (λ k d l.
     let x = taken_ready _ c.args.far.now c.args.frames.now c.args.formers.now c.requires.ready.1
@@ -131,7 +127,7 @@ close_spans-requires-clause-within g c =
 
 pub close_spans-requires-clause-busy : goal.close_spans-requires-clause-busy
 close_spans-requires-clause-busy g c =
-    let kept = c.in-Ok.ensures.kept in
+    let kept = c.in-Ok.ensures.kept.kept in
     subst (λ (y : FarState). All (λ f. ¬ (IsFree y.frames f)) c.args.frames.now)
     (sym kept.state) (λ k d l.
     (taken_ready _ c.args.far.now c.args.frames.now c.args.formers.now c.requires.ready.1
@@ -144,35 +140,34 @@ close_spans-requires-clause-few g c =
 
 pub returns-in-Ok-clause-evict : goal.returns-in-Ok-clause-evict
 returns-in-Ok-clause-evict g c =
-    let x = c.load_frames.ensures.loads in let y = c.send.ensures in
-    let kept = c.in-Ok.ensures.kept in
+    let stored = c.in-Ok.ensures.kept in let x = stored.loads in let y = c.send.ensures in
+    let kept = stored.kept in let shards = stored.shards in
     let far = c.args.far.now in let frames = c.args.frames.now in let formers = c.args.formers.now in
     let reads = are_reads (LiesInOne frames) x.events x.loads in
     let end : IsEnd (LiesInOne frames) formers x.events y.events =
     record { reads = reads; touches = y.touches; quiet = y.quiet } in
     let shows = λ (t : Shown). g.D.Desk.shows c.args.desk.now t in
-    let is = state_then far c.keep_set.new.far c.close_spans.new.far frames c.args.shards.now _
+    let is = state_then far c.store_frames.new.far c.close_spans.new.far frames shards _
     kept.state c.close_spans.ensures.state in
-    let homed = homes_then far c.keep_set.new.far frames c.args.shards.now _ _ _ kept.state
-    (search rules) c.close_spans.ensures.homes in
+    let homed = homes_then far c.store_frames.new.far frames shards _ _ _ kept.state
+    c.next_number-set.ensures c.close_spans.ensures.homes in
     let shown = λ (before : List Event) (s : Shown) (r : IsReady shows far formers before s).
-    subst (λ (v : Shown). g.D.Desk.shows c.load_frames.new.desk v) (reads.stays (played before s))
+    subst (λ (v : Shown). g.D.Desk.shows c.store_frames.new.desk v) (reads.stays (played before s))
     (g.met.D.Desk.follows _ _ x.events (played before s) x.ran r.shown).1 in
     let told = λ (before : List Event) (s : Shown) (r : IsReady shows far formers before s).
     let sized = g.met.D.Desk.sized _ (played before s) r.shown in
     told_all far before s (played before s) formers r.claimed r.here (sized.1 ∙ sym sized.0) in
     let all = λ (before : List Event) (s : Shown) (r : IsReady shows far formers before s).
-    let read = are_read (g.D.Desk.settings c.args.desk.now) far frames formers c.load_frames.new.rows
+    let read = are_read (g.D.Desk.settings c.args.desk.now) far frames formers stored.rows
     kept.parities shows before s c.requires.config r c.requires.taken
-    (kept_parities c.args.shards.now frames _ c.load_frames.new.rows c.requires.shards.count kept)
-    (search rules) x.made in
-    ended (g.D.Desk.settings c.args.desk.now) far c.close_spans.new.far frames formers c.args.shards.now
-    c.load_frames.new.rows kept.parities c.close_spans.new.far.homes (LiesInOne frames) _ _ before
+    (kept_parities shards frames _ stored.rows stored.chosen.count kept) stored.count x.made in
+    ended (g.D.Desk.settings c.args.desk.now) far c.close_spans.new.far frames formers shards
+    stored.rows kept.parities c.close_spans.new.far.homes (LiesInOne frames) _ _ before
     x.events y.events s
     (record {
       read = read.0;
       sent = y.sent (played before s) (shown before s r) (told before s r);
-      chosen = c.requires.shards;
+      chosen = stored.chosen;
       homed = homed;
     }) read.1
     end is r.steady
@@ -197,15 +192,15 @@ returns-in-Ok-clause-evict g c =
 
 pub returns-in-Err-clause-error : goal.returns-in-Err-clause-error
 returns-in-Err-clause-error g c =
-    let x = c.load_frames.ensures.loads in
+    let x = c.in-Err.ensures.read in
     let far = c.args.far.now in let frames = c.args.frames.now in
-    let reads = are_reads (LiesInOne frames) x.events x.loads in
+    let reads = are_reads (LiesInOne frames) x.0 x.2 in
     gives_back_ends far frames c.args.formers.now
-    (λ es. g.D.Desk.run c.args.desk.now es c.load_frames.new.desk)
-    (λ es. g.D.Desk.run c.load_frames.new.desk es c.give_back.new.desk)
+    (λ es. g.D.Desk.run c.args.desk.now es c.store_frames.new.desk)
+    (λ es. g.D.Desk.run c.store_frames.new.desk es c.give_back.new.desk)
     (λ es. g.D.Desk.run c.args.desk.now es c.give_back.new.desk)
-    (λ t. g.D.Desk.shows c.args.desk.now t) (λ t. g.D.Desk.shows c.load_frames.new.desk t) x.events
-    c.requires.taken.among c.requires.taken.of.only reads x.ran c.give_back.ensures
+    (λ t. g.D.Desk.shows c.args.desk.now t) (λ t. g.D.Desk.shows c.store_frames.new.desk t) x.0
+    c.requires.taken.among c.requires.taken.of.only reads x.1 c.give_back.ensures
     (λ es fs a b. g.met.D.Desk.more _ _ _ _ _ a b)
-    (λ before s r. subst (λ (v : Shown). g.D.Desk.shows c.load_frames.new.desk v)
-    (reads.stays (played before s)) (g.met.D.Desk.follows _ _ x.events (played before s) x.ran r.shown).1)
+    (λ before s r. subst (λ (v : Shown). g.D.Desk.shows c.store_frames.new.desk v)
+    (reads.stays (played before s)) (g.met.D.Desk.follows _ _ x.0 (played before s) x.1 r.shown).1)

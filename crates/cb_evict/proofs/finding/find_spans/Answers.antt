@@ -6,7 +6,7 @@ use Rattle.cb_types.specs.declared.reply.Reply.TheVariants as answer
 use Rattle.cb_world.specs.Choices.{room_count}
 use Rattle.cb_world.specs.FarState.{FarState, span_in}
 use Rattle.cb_evict.specs.Candidates.{AreUnique, candidates}
-use Rattle.cb_evict.proofs.Composed.{any_err, looks_as}
+use Rattle.cb_evict.proofs.Composed.{any_err, looks_as, looks_tried}
 use Rattle.cb_evict.proofs.Ending.{place_in}
 use Rattle.cb_evict.proofs.Framing.{candidates_few}
 use Rattle.cb_evict.proofs.Standing.{are_unique, is_standing, candidates_apart}
@@ -46,8 +46,11 @@ returns-then-len-config-clause-found g c =
     let nodes = c.nodes_with_room-nodes.ensures
     ∙ ap (λ (far : FarState). room_count far.nodes far.members) c.far.view_is in record {
       loose = c.find_loose.new.loose.items;
-      looks = looks_as _ _ _ _ _ _ _ (ap (λ (far : FarState). far.spans) c.far.view_is)
-          (c.deref.ensures.value ∙ c.in_ok-frames.ensures.frames) refl c.find_loose.ensures.looks;
+      tries = looks_tried c.args.far.now c.find_loose.new.loose.items
+          (λ es. g.D.Desk.run c.args.desk.now es c.find_loose.new.desk)
+          (λ s. g.D.Desk.shows c.args.desk.now s)
+          (looks_as _ _ _ _ _ _ _ (ap (λ (far : FarState). far.spans) c.far.view_is)
+          (c.deref.ensures.value ∙ c.in_ok-frames.ensures.frames) refl c.find_loose.ensures.looks);
       few = inl (record {
         few = omega (arith, c.if-len-config.true, c.len-2.ensures, c.find_loose.new.loose.ok);
         reply = ap answer.NoSpans (omega (arith, c.len-then-len-config.ensures, c.find_loose.new.loose.ok));
@@ -77,8 +80,11 @@ returns-then-nodes-config-clause-found g c =
     let nodes = c.nodes_with_room-nodes.ensures
     ∙ ap (λ (far : FarState). room_count far.nodes far.members) c.far.view_is in record {
       loose = c.find_loose.new.loose.items;
-      looks = looks_as _ _ _ _ _ _ _ (ap (λ (far : FarState). far.spans) c.far.view_is)
-          (c.deref.ensures.value ∙ c.in_ok-frames.ensures.frames) refl c.find_loose.ensures.looks;
+      tries = looks_tried c.args.far.now c.find_loose.new.loose.items
+          (λ es. g.D.Desk.run c.args.desk.now es c.find_loose.new.desk)
+          (λ s. g.D.Desk.shows c.args.desk.now s)
+          (looks_as _ _ _ _ _ _ _ (ap (λ (far : FarState). far.spans) c.far.view_is)
+          (c.deref.ensures.value ∙ c.in_ok-frames.ensures.frames) refl c.find_loose.ensures.looks);
       few = inr (record {
         enough = omega (arith, c.if-len-config.false, c.len-2.ensures, c.find_loose.new.loose.ok);
         few = omega (arith, nodes, c.if-nodes-config.true);

@@ -1,108 +1,118 @@
 use Rattle.std.proofs.lemmas.Result.{IfOk-from_err}
-use Rattle.std.proofs.Common.{◌<◌, List, get_or, All, sym, ap, ◌∙◌, subst, arith}
-use Rattle.cb_types.specs.declared.reply.Reply.TheVariants as answer
-use Rattle.cb_world.specs.declared.leaving.Former.{Former}
+use Rattle.std.proofs.lemmas.List.{append-nil}
+use Rattle.std.proofs.Common.{◌≢◌, ℕ, List, [], All, sym, subst, ◌∙◌}
+use Rattle.std.specs.List.{Contains, AllPairs}
+use Rattle.cb_types.specs.Config.{IsAccepted}
+use Rattle.cb_types.specs.declared.config.Config.{Config}
+use Rattle.cb_world.specs.declared.event.Event.{Event}
+use Rattle.cb_world.specs.declared.shown.Shown.{Shown}
 use Rattle.cb_world.specs.Played.{played}
-use Rattle.cb_world.specs.FarState.{FarState, span_in}
-use Rattle.cb_evict.specs.Candidates.{AreUnique}
-use Rattle.cb_evict.specs.Claims.{AreApart, IsHeldAt}
-use Rattle.cb_evict.specs.Claiming.{GivesBack}
-use Rattle.cb_evict.proofs.Composed.{any_err, claims_as, claims_back_then}
-use Rattle.cb_evict.proofs.Ending.{handles_all}
-use Rattle.cb_evict.proofs.Standing.{are_unique, ready_frame}
+use Rattle.cb_world.specs.World.{IsConfigured}
+use Rattle.cb_evict.specs.Candidates.{candidates}
+use Rattle.cb_evict.specs.declared.taking.Taken.TheVariants.{Few}
+use Rattle.cb_evict.specs.Finding.{Finds}
+use Rattle.cb_evict.specs.Taking.{AreLooseNow, AreLooseStill, Takes}
+use Rattle.cb_evict.proofs.Composed.{any_err, found_loose, if_map, looked_fails, looked_takes, loose_apart, nothing_done, on_err}
+use Rattle.cb_evict.proofs.Loose.{loose_among}
+use Rattle.cb_evict.proofs.Ending.{place_in}
+use Rattle.cb_evict.proofs.Restored.{looked}
+use Rattle.cb_evict.proofs.Standing.{candidates_apart}
 use Rattle.cb_evict.proofs.taking.take_spans.Goals as goal
 
-pub returns-in_err-frames-clause-error : goal.returns-in_err-frames-clause-error
-returns-in_err-frames-clause-error g c = any_err _ _ (g.met.D.Desk.none _)
+pub find_spans-requires-clause-config : goal.find_spans-requires-clause-config
+find_spans-requires-clause-config g c =
+    (subst IsAccepted (sym c.config-config.ensures) c.requires.config, c.config-config.ensures)
 
-pub returns-in_err-formers-clause-error : goal.returns-in_err-formers-clause-error
-returns-in_err-formers-clause-error g c = any_err _ _ (g.met.D.Desk.none _)
+pub find_spans-requires-clause-configured : goal.find_spans-requires-clause-configured
+find_spans-requires-clause-configured g c =
+    subst (λ (n : Config). IsConfigured n c.args.far.now) (sym c.config-config.ensures) c.requires.configured
 
-pub claim_spans-requires-clause-there : goal.claim_spans-requires-clause-there
-claim_spans-requires-clause-there g c = λ k d l.
-    let x = ready_frame c.args.far.now c.requires.sound.0 _ c.requires.sound.2.here
-    (c.requires.among k d l) in (
-      x.span,
-      ap (λ (far : FarState). span_in far.spans (get_or c.args.loose.now k d)) c.far.view_is ∙ x.there,
-      x.valid,
-    )
+pub find_spans-requires-clause-sound : goal.find_spans-requires-clause-sound
+find_spans-requires-clause-sound g c = c.requires.sound
 
-pub claim_spans-requires-clause-unique : goal.claim_spans-requires-clause-unique
-claim_spans-requires-clause-unique g c =
-    let sized = g.met.D.Desk.sized _ c.requires.sound.0 c.requires.sound.1 in
-    subst (λ (far : FarState). AreUnique far.spans (g.D.Desk.settings c.args.desk.now).handles)
-    (sym c.far.view_is)
-    (are_unique c.args.far.now c.requires.sound.0 _ c.requires.sound.2.here sized.0)
+pub returns-in_err-found-clause-taken : goal.returns-in_err-found-clause-taken
+returns-in_err-found-clause-taken g c = IfOk-from_err _ _ c.from_residual.ensures.0
 
-pub claim_spans-requires-clause-sound : goal.claim_spans-requires-clause-sound
-claim_spans-requires-clause-sound g c =
-    (c.requires.sound.0, c.requires.sound.1, (c.args.far.now, c.requires.sound.2.here))
+pub returns-in_err-found-clause-error : goal.returns-in_err-found-clause-error
+returns-in_err-found-clause-error g c = any_err _ _ (nothing_done c.args.far.now
+    (λ es. g.D.Desk.run c.args.desk.now es c.find_spans.new.desk)
+    (λ s. g.D.Desk.shows c.args.desk.now s) c.in_err-found.ensures.error)
 
-pub give_back-requires-clause-handles : goal.give_back-requires-clause-handles
-give_back-requires-clause-handles g c =
-    let s = c.requires.sound.0 in let x = c.claim_spans.ensures.claims in
-    let a = x.claims c.args.far.now s c.requires.sound.1 c.requires.sound.2.here in
-    let sized = g.met.D.Desk.sized _ (played x.events s)
-    (g.met.D.Desk.follows _ _ x.events s x.ran c.requires.sound.1).1 in
-    subst (λ (l : List Former). All (λ f. f.handle < (g.D.Desk.settings c.claim_spans.new.desk).handles) l)
-    (sym c.deref.ensures.value) (handles_all x.events s (played x.events s) _ _ a.0 sized.0)
+pub returns-in-Few-clause-taken : goal.returns-in-Few-clause-taken
+returns-in-Few-clause-taken g c =
+    let runs = λ (es : List Event). g.D.Desk.run c.args.desk.now es c.find_spans.new.desk in
+    let shows = λ (s : Shown). g.D.Desk.shows c.args.desk.now s in
+    subst (λ (n : Config). Takes runs shows n c.args.far.now (AreLooseNow c.args.far.now)
+    (Few c.in-Few.lack c.in-Few.loose c.in-Few.nodes)) c.config-config.ensures
+    (subst (Finds runs shows c.config-config.result c.args.far.now) c.in-Few.is
+    c.in_ok-found.ensures.found)
 
-pub give_back-requires-clause-apart : goal.give_back-requires-clause-apart
-give_back-requires-clause-apart g c =
-    subst (λ (l : List Former). AreApart l) (sym c.deref.ensures.value) c.claim_spans.ensures.claims.each_once
+pub returns-in-Few-clause-error : goal.returns-in-Few-clause-error
+returns-in-Few-clause-error g c = tt
 
-pub give_back-requires-clause-held : goal.give_back-requires-clause-held
-give_back-requires-clause-held g c =
-    let s = c.requires.sound.0 in let x = c.claim_spans.ensures.claims in
-    let a = x.claims c.args.far.now s c.requires.sound.1 c.requires.sound.2.here in (
+pub claim_first-requires-clause-config : goal.claim_first-requires-clause-config
+claim_first-requires-clause-config g c =
+    let found = found_loose _ _ _ _ _ _ _ c.in-Loose.is c.in_ok-found.ensures.found in
+    let x = found.looks in let stays = g.met.D.Desk.stays _ _ x.events x.ran in
+    (subst IsAccepted (sym c.config-config.ensures) c.requires.config, c.config-config.ensures ∙ sym stays)
+
+pub claim_first-requires-clause-sound : goal.claim_first-requires-clause-sound
+claim_first-requires-clause-sound g c =
+    let found = found_loose _ _ _ _ _ _ _ c.in-Loose.is c.in_ok-found.ensures.found in
+    let x = found.looks in let s = c.requires.sound.0 in (
       played x.events s,
       (g.met.D.Desk.follows _ _ x.events s x.ran c.requires.sound.1).1,
-      (
-        c.args.far.now,
-        a.1,
-        subst (λ (l : List Former). All (IsHeldAt (played x.events s)) l) (sym c.deref.ensures.value)
-            (λ k d l. (a.0.taken k d l).at),
-      ),
+      (looked c.args.far.now x.events s c.requires.sound.2 x.looks).0,
     )
 
-pub returns-then-len-k-clause-taken : goal.returns-then-len-k-clause-taken
-returns-then-len-k-clause-taken g c =
-    let x = claims_as _ _ _ _ c.args.loose.now c.args.config.k _ _
-    (ap (λ (far : FarState). far.spans) c.far.view_is) c.claim_spans.ensures.claims in
-    claims_back_then c.args.config c.args.far.now _ c.args.loose.now c.claim_spans.new.frames.items
-    c.claim_spans.new.formers.items
-    (λ es. g.D.Desk.run c.args.desk.now es c.claim_spans.new.desk)
-    (λ es. g.D.Desk.run c.claim_spans.new.desk es c.give_back.new.desk)
-    (λ es. g.D.Desk.run c.args.desk.now es c.give_back.new.desk)
-    (λ s. g.D.Desk.shows c.args.desk.now s) (λ s. g.D.Desk.shows c.claim_spans.new.desk s)
-    x
-    (subst (λ (l : List Former). GivesBack
-    (λ es. g.D.Desk.run c.claim_spans.new.desk es c.give_back.new.desk)
-    (λ s. g.D.Desk.shows c.claim_spans.new.desk s) l) c.deref.ensures.value c.give_back.ensures)
+pub claim_first-requires-clause-among : goal.claim_first-requires-clause-among
+claim_first-requires-clause-among g c =
+    let found = found_loose _ _ _ _ _ _ _ c.in-Loose.is c.in_ok-found.ensures.found in
+    let x = found.looks in
+    subst (λ (l : List ℕ). All (Contains (candidates c.args.far.now)) l) (sym c.deref.ensures.value)
+    (λ k d l. loose_among x.events c.args.far.now.spans (candidates c.args.far.now)
+    c.in-Loose.frames.items _ x.finds (place_in c.in-Loose.frames.items k d l))
+
+pub claim_first-requires-clause-apart : goal.claim_first-requires-clause-apart
+claim_first-requires-clause-apart g c =
+    let found = found_loose _ _ _ _ _ _ _ c.in-Loose.is c.in_ok-found.ensures.found in
+    let x = found.looks in
+    subst (λ (l : List ℕ). AllPairs (λ f h. f ≢ h) l) (sym c.deref.ensures.value)
+    (loose_apart x.events c.args.far.now (candidates c.args.far.now) c.in-Loose.frames.items
+    (candidates_apart c.args.far.now) x.finds)
+
+pub claim_first-requires-clause-room : goal.claim_first-requires-clause-room
+claim_first-requires-clause-room g c =
+    let found = found_loose _ _ _ _ _ _ _ c.in-Loose.is c.in_ok-found.ensures.found in found.room
+
+pub claim_first-requires-clause-nodes : goal.claim_first-requires-clause-nodes
+claim_first-requires-clause-nodes g c =
+    let found = found_loose _ _ _ _ _ _ _ c.in-Loose.is c.in_ok-found.ensures.found in found.nodes
+
+pub returns-in-Loose-clause-taken : goal.returns-in-Loose-clause-taken
+returns-in-Loose-clause-taken g c =
+    let found = found_loose _ _ _ _ _ _ _ c.in-Loose.is c.in_ok-found.ensures.found in
+    if_map _ _ c.claim_first.result c.claim_first.ensures.taken (λ taken y.
+    looked_takes c.args.far.now c.in-Loose.frames.items
+    (λ es. g.D.Desk.run c.args.desk.now es c.find_spans.new.desk)
+    (λ es. g.D.Desk.run c.find_spans.new.desk es c.claim_first.new.desk)
+    (λ es. g.D.Desk.run c.args.desk.now es c.claim_first.new.desk)
+    (λ s. g.D.Desk.shows c.args.desk.now s) (λ s. g.D.Desk.shows c.find_spans.new.desk s)
+    found.looks
     (λ es fs a b. g.met.D.Desk.more _ _ _ _ _ a b)
-    (λ s a. (g.met.D.Desk.follows _ _ x.events s x.ran a).1)
-    c.requires.among (omega (arith, c.if-len-k.true, c.len.ensures))
-    (ap answer.NoSpans (omega (arith, c.len-then-len-k.ensures, c.claim_spans.new.frames.ok)))
+    (λ es s ran a. (g.met.D.Desk.follows _ _ es s ran a).1)
+    (g.D.Desk.settings c.args.desk.now) c.config-config.result taken c.config-config.ensures
+    (subst (λ (l : List ℕ). Takes (λ es. g.D.Desk.run c.find_spans.new.desk es c.claim_first.new.desk)
+    (λ s. g.D.Desk.shows c.find_spans.new.desk s) c.config-config.result c.args.far.now
+    (AreLooseStill c.args.far.now l) taken) c.deref.ensures.value y))
 
-pub returns-clause-taken : goal.returns-clause-taken
-returns-clause-taken g c =
-    let x = claims_as _ _ _ _ c.args.loose.now c.args.config.k _ _
-    (ap (λ (far : FarState). far.spans) c.far.view_is) c.claim_spans.ensures.claims in record {
-      claims = x;
-      count = omega (arith, c.if-len-k.false, c.len.ensures, x.few, c.claim_spans.new.frames.ok);
-    }
-
-pub returns-in_err-frames-clause-taken : goal.returns-in_err-frames-clause-taken
-returns-in_err-frames-clause-taken g c = IfOk-from_err _ _ c.from_residual.ensures.0
-
-pub returns-in_err-formers-clause-taken : goal.returns-in_err-formers-clause-taken
-returns-in_err-formers-clause-taken g c = IfOk-from_err _ _ c.from_residual-in_err-formers.ensures.0
-
-pub claim_spans-requires-clause-apart : goal.claim_spans-requires-clause-apart
-claim_spans-requires-clause-apart g c = c.requires.apart
-
-pub returns-then-len-k-clause-error : goal.returns-then-len-k-clause-error
-returns-then-len-k-clause-error g c = tt
-
-pub returns-clause-error : goal.returns-clause-error
-returns-clause-error g c = tt
+pub returns-in-Loose-clause-error : goal.returns-in-Loose-clause-error
+returns-in-Loose-clause-error g c =
+    let found = found_loose _ _ _ _ _ _ _ c.in-Loose.is c.in_ok-found.ensures.found in
+    on_err _ _ c.claim_first.result c.claim_first.ensures.error (λ ran.
+    looked_fails c.args.far.now c.in-Loose.frames.items
+    (λ es. g.D.Desk.run c.args.desk.now es c.find_spans.new.desk)
+    (λ es. g.D.Desk.run c.args.desk.now es c.claim_first.new.desk)
+    (λ s. g.D.Desk.shows c.args.desk.now s) found.looks
+    (λ es a. subst (λ (l : List Event). g.D.Desk.run c.args.desk.now l c.claim_first.new.desk)
+    (append-nil es) (g.met.D.Desk.more _ _ _ _ _ a ran)))

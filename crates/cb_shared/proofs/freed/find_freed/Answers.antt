@@ -1,4 +1,4 @@
-use Rattle.std.proofs.Common.{◌≡◌, ℕ, refl, sym, subst}
+use Rattle.std.proofs.Common.{ℕ, refl, sym, subst}
 use Rattle.std.specs.Prelude.{Option}
 use Rattle.cb_shared.specs.Parts.{nothing_more}
 use Rattle.cb_shared.specs.Turning.{FindsFreed}

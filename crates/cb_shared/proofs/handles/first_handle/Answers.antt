@@ -1,4 +1,4 @@
-use Rattle.std.proofs.Common.{◌≡◌, ◌∙◌, ap, sym}
+use Rattle.std.proofs.Common.{◌∙◌, ap, sym}
 use Rattle.cb_shared.proofs.FirstPin.{rest_of, starts_with}
 use Rattle.cb_shared.proofs.handles.first_handle.Goals as goal
 

@@ -1,9 +1,5 @@
-use Rattle.std.proofs.Common.{◌≡◌, ◌∙◌, ◌<◌, ◌+◌, ◌*◌, ℕ, List, [], ap, sym, subst, arith}
-use Rattle.std.specs.Prelude.{Option}
-use Rattle.cb_types.specs.declared.job.Job.{Job}
-use Rattle.cb_types.specs.declared.reply.Reply.{Reply}
-use Rattle.cb_rule.specs.LockSteps.{HasGiven}
-use Rattle.cb_shared.specs.Turning.{answer_of, made_by}
+use Rattle.std.proofs.Common.{arith}
+use Rattle.cb_shared.specs.Turning.{answer_of}
 use Rattle.cb_shared.proofs.LockAlone.{gives_far, gives_lock_at}
 use Rattle.cb_shared.proofs.locking.give_lock_as.Goals as goal
 

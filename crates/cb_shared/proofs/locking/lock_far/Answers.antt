@@ -1,5 +1,4 @@
-use Rattle.std.proofs.Common.{◌≡◌, ◌∙◌, ◌≤◌, ◌+◌, ◌*◌, ℕ, refl, ap, arith}
-use Rattle.cb_rule.specs.Slot.{Sat}
+use Rattle.std.proofs.Common.{◌∙◌, ◌≤◌, refl, arith}
 use Rattle.cb_shared.proofs.LockAlone.{takes_from}
 use Rattle.cb_shared.proofs.WriteSteps.{of_moves}
 use Rattle.cb_shared.proofs.locking.lock_far.Goals as goal

@@ -1,4 +1,4 @@
-use Rattle.std.proofs.Common.{◌≡◌, ◌∙◌, ℕ, List, ◌∷◌, Some, ap, sym, subst}
+use Rattle.std.proofs.Common.{◌∙◌, ℕ, List, ◌∷◌, Some, ap, sym, subst}
 use Rattle.atomic_table.specs.Table.{rest}
 use Rattle.cb_world.specs.FarState.{FarState}
 use Rattle.cb_rule.specs.Slot.{Sat, Slot}

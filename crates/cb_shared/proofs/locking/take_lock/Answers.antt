@@ -1,4 +1,4 @@
-use Rattle.std.proofs.Common.{◌≡◌, ◌∙◌, ◌+◌, ◌*◌, ℕ, sym, subst, arith, eqb-true, eq-eqb}
+use Rattle.std.proofs.Common.{◌∙◌, ℕ, sym, subst, arith, eqb-true, eq-eqb}
 use Rattle.std.proofs.lemmas.Bool.{false≢true}
 use Rattle.cb_rule.specs.LockSteps.{HasTaken}
 use Rattle.cb_shared.proofs.LockAlone.{takes_lock_at}

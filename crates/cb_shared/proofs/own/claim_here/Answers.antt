@@ -13,7 +13,7 @@ compare_exchange-requires c = let o = c.requires.of in (
   o.table,
   (let z = o.words in let l = c.requires.handle in omega arith),
   claims_here_at c.args.top.now.key.first c.args.config.now _ o.key _ _ _ o.live o.config _ _ _
-      c.requires.handle c.requires.here c.requires.no_pins c.claimed.ensures.number,
+      c.requires.handle c.requires.knows c.requires.here c.requires.no_pins c.claimed.ensures.number,
 )
 
 pub returns : goal.returns

@@ -1,4 +1,4 @@
-use Rattle.cb_shared.proofs.Resting.{known_below, refused_gives, rest_glance}
+use Rattle.cb_shared.proofs.Resting.{known_below, knows_glance, refused_gives, rest_glance}
 use Rattle.cb_shared.proofs.pinning.pin_looked.Goals as goal
 
 pub glance-saw-requires-clause-handle : goal.glance-saw-requires-clause-handle
@@ -19,3 +19,7 @@ pub returns-in-Some-clause-pin : goal.returns-in-Some-clause-pin
 returns-in-Some-clause-pin c = refused_gives c.args.h.n c.glance-saw.result c.in-Some.answer
     c.args.seat.now c.glance-saw.new.seat c.glance-saw.ensures
     (c.refuse_pin.ensures.refused c.in-Some.answer c.in-Some.is)
+
+pub pin_at-requires-clause-knows : goal.pin_at-requires-clause-knows
+pin_at-requires-clause-knows c = knows_glance c.args.h.n c.args.h.n c.glance-saw.result
+    c.args.seat.now c.glance-saw.new.seat c.glance-saw.ensures c.requires.knows

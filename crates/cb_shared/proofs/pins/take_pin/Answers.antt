@@ -10,7 +10,7 @@ compare_exchange-requires c = let o = c.requires.of in (
   o.table,
   (let z = o.words in let l = c.requires.handle in omega arith),
   takes_pin_at c.args.top.now.key.first c.args.config.now _ o.key _ _ _ o.live _ _ _
-      c.requires.handle c.requires.here c.requires.room
+      c.requires.handle c.requires.knows c.requires.here c.requires.room
       (let f = c.requires.few in omega (arith, f)) c.pinned.ensures,
 )
 

@@ -1,6 +1,5 @@
-use Rattle.std.proofs.Common.{◌≡◌, ◌+◌, ◌*◌, ◌<◌, ◌≤◌, ◌∙◌, ℕ, List, length, refl, sym, ap, subst, arith}
+use Rattle.std.proofs.Common.{◌+◌, ◌<◌, ◌∙◌, ℕ, length, refl, sym, ap, subst, arith}
 use Rattle.cb_world.specs.Memory.{words_for}
-use Rattle.cb_rule.specs.declared.view.Stand.{Stand}
 use Rattle.cb_rule.specs.declared.view.View.{View}
 use Rattle.cb_rule.specs.Lists.{Has}
 use Rattle.cb_rule.specs.Slot.{Sat}
@@ -56,9 +55,9 @@ loop-i-preserved c = let inv = c.loop-i.invariant in let i = c.loop-i.i in
             u.2,
           ) in
           filled_more p.words c.loop-i.room c.put_word.new.room i c.read_word-word.result
-              (c.read_word-word.ensures.word p i has lt (ap (λ (n : ℕ). n + i) (sym u.1)))
-              (record { inside = put.inside; outside = put.outside; sized = put.sized })
-              (inv.3 p u),
+          (c.read_word-word.ensures.word p i has lt (ap (λ (n : ℕ). n + i) (sym u.1)))
+          (record { inside = put.inside; outside = put.outside; sized = put.sized })
+          (inv.3 p u),
     )
 
 pub returns-clause-same : goal.returns-clause-same

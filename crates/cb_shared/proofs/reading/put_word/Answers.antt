@@ -1,4 +1,4 @@
-use Rattle.std.proofs.Common.{◌≡◌, ◌⊎◌, ◌+◌, ◌*◌, ◌-◌, ◌≤◌, ◌<◌, ◌∙◌, ℕ, List, length, get_or, sym, ap, arith, inl, inr, ⊎_elim}
+use Rattle.std.proofs.Common.{◌+◌, ◌*◌, ◌-◌, ◌≤◌, ◌<◌, ◌∙◌, ℕ, List, length, get_or, ap, arith, inl, inr, ⊎_elim}
 use Rattle.cb_shared.proofs.ReadBytes.{replaced_inside, replaced_length, replaced_outside}
 use Rattle.cb_shared.proofs.reading.put_word.Goals as goal
 

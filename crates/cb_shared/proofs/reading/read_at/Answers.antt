@@ -1,4 +1,4 @@
-use Rattle.std.proofs.Common.{◌≡◌, ◌+◌, ◌*◌, ◌<◌, ◌≤◌, ◌∙◌, ℕ, List, [], length, refl, sym, ap, subst, arith}
+use Rattle.std.proofs.Common.{◌+◌, ◌*◌, ◌<◌, ◌∙◌, ℕ, List, [], refl, sym, ap, subst, arith}
 use Rattle.cb_ptr.specs.declared.word.PtrWord.{PtrWord}
 use Rattle.cb_ptr.specs.Word.{len_of, place_of}
 use Rattle.cb_world.specs.Memory.{bytes_in, words_for}
@@ -6,7 +6,7 @@ use Rattle.cb_rule.specs.declared.view.Stand.{Stand}
 use Rattle.cb_rule.specs.Lists.{times}
 use Rattle.cb_rule.specs.Seats.{pins_it}
 use Rattle.cb_rule.specs.Slot.{Sat}
-use Rattle.cb_rule.specs.Steps.{IsInside, stand, with_pin}
+use Rattle.cb_rule.specs.Steps.{stand, with_pin}
 use Rattle.cb_shared.proofs.ReadSteps.{read_ended, under_pin}
 use Rattle.cb_shared.proofs.Resting.{pins_some}
 use Rattle.cb_shared.proofs.WriteSteps.{of_moves}

@@ -1,7 +1,7 @@
-use Rattle.std.proofs.Common.{◌≡◌, ◌≢◌, ◌≤◌, ℕ, length, refl, sym, subst, ap, ◌∙◌}
+use Rattle.std.proofs.Common.{◌≤◌, length, refl, sym, subst, ◌∙◌}
 use Rattle.cb_rule.specs.declared.view.View.{View}
 use Rattle.cb_rule.specs.Steps.{Knows, with_look}
-use Rattle.cb_shared.proofs.ReadSteps.{at_word, looked_here, refused_moves}
+use Rattle.cb_shared.proofs.ReadSteps.{at_word, refused_moves}
 use Rattle.cb_shared.proofs.Resting.{here_empty, view_of}
 use Rattle.cb_shared.proofs.WriteSteps.{of_moves}
 use Rattle.cb_shared.proofs.reading.read_pinned.Goals as goal

@@ -1,4 +1,4 @@
-use Rattle.std.proofs.Common.{◌≡◌, ℕ, length}
+use Rattle.std.proofs.Common.{length}
 use Rattle.crossbeam_utils.specs.Padded.{padded_value}
 use Rattle.cb_rule.specs.Lists.{Each}
 use Rattle.cb_shared.specs.Passes.{PinFits}

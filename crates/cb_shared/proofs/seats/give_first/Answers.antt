@@ -1,6 +1,6 @@
-use Rattle.std.proofs.Common.{◌≡◌, ◌∙◌, ◌<◌, ℕ, List, ◌∷◌, length, refl, sym, ap, subst, arith}
+use Rattle.std.proofs.Common.{◌∙◌, ◌<◌, ℕ, List, length, refl, sym, ap, subst, arith}
 use Rattle.cb_rule.specs.declared.view.Stand.{Stand}
-use Rattle.cb_rule.specs.Lists.{Each, removed}
+use Rattle.cb_rule.specs.Lists.{Each}
 use Rattle.cb_rule.specs.Seats.{pins_it}
 use Rattle.cb_rule.specs.Slot.{Sat}
 use Rattle.cb_rule.specs.Steps.{without_pin}

@@ -1,4 +1,4 @@
-use Rattle.std.proofs.Common.{◌≡◌, ◌<◌, ◌+◌, ◌*◌, ℕ, arith}
+use Rattle.std.proofs.Common.{arith}
 use Rattle.cb_shared.proofs.SeatsAlone.{joins_at}
 use Rattle.cb_shared.proofs.seats.join_as.Goals as goal
 
@@ -9,7 +9,8 @@ join_seat-requires g c = let o = c.requires.other in (
   o.carries,
   (let z = c.requires.of.words in omega arith),
   joins_at c.args.top.now.key.first c.args.config.now _ _ _ _ _ _ c.requires.of.key
-      c.requires.picks c.requires.of.live o.free o.no_pins,
+      c.requires.picks c.requires.of.live o.free o.no_pins
+      c.requires.fresh,
 )
 
 pub returns : goal.returns

@@ -1,4 +1,4 @@
-use Rattle.std.proofs.Common.{◌≡◌, ◌≤◌, ◌+◌, ℕ, arith}
+use Rattle.std.proofs.Common.{arith}
 use Rattle.cb_shared.proofs.seats.join_in.Goals as goal
 
 pub overflow_add-pass : goal.overflow_add-pass

@@ -9,7 +9,7 @@ split_seat-requires g c = (
   c.requires.of.table,
   (let z = c.requires.of.words in omega arith),
   splits_at c.args.top.now.key.first c.args.top.now.key.config _ _ c.args.share _ c.requires.picks
-      c.requires.share.0 c.requires.share.1,
+      c.requires.share.0 c.requires.share.1 c.requires.fresh,
 )
 
 pub returns-clause-left : goal.returns-clause-left

@@ -1,4 +1,4 @@
-use Rattle.std.proofs.Common.{◌≡◌, ◌<◌, ◌+◌, ◌*◌, ℕ, arith}
+use Rattle.std.proofs.Common.{arith}
 use Rattle.cb_shared.proofs.Tallying.{tallies}
 use Rattle.cb_shared.proofs.seats.tally.Goals as goal
 

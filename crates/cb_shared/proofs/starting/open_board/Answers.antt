@@ -1,6 +1,5 @@
 use Rattle.cb_rule.proofs.Laws.{opens}
 use Rattle.std.proofs.Common.{sym, subst}
-use Rattle.std.specs.Prelude.{Option}
 use Rattle.std.proofs.Common.{List}
 use Rattle.atomic_table.specs.Table.{opening}
 use Rattle.cb_rule.specs.Locking.{Locked}

@@ -7,7 +7,7 @@ store-requires c = let h = c.requires.holds in (
   h.of.table,
   (let z = h.of.words in let l = c.requires.handle in omega arith),
   stamps_at c.args.top.now.key.first c.args.config.now _ h.of.key _ _ _ h.of.live h.holds _ _
-      c.requires.handle h.sized.objects c.requires.held,
+      c.requires.handle h.sized.objects c.requires.held c.requires.may,
 )
 
 pub returns : goal.returns

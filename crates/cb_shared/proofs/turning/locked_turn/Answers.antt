@@ -1,8 +1,5 @@
-use Rattle.std.proofs.Common.{◌≡◌, ◌∙◌, ◌≤◌, length, ap, subst, sym}
-use Rattle.std.specs.Prelude.{None}
-use Rattle.cb_rule.specs.declared.view.View.{View}
+use Rattle.std.proofs.Common.{◌∙◌, ap}
 use Rattle.cb_rule.specs.Slot.{Sat}
-use Rattle.cb_shared.specs.Turning.{KnowsOf}
 use Rattle.cb_shared.proofs.AfterTurn.{begins_taken, knows_taken, of_taken, pins_taken, slots_taken, turned_by}
 use Rattle.cb_shared.proofs.turning.locked_turn.Goals as goal
 

@@ -1,4 +1,4 @@
-use Rattle.std.proofs.Common.{◌≡◌, ◌∙◌, ◌<◌, ◌≤◌, ◌^◌, ap, subst, sym, arith}
+use Rattle.std.proofs.Common.{◌∙◌, ap, arith}
 use Rattle.cb_rule.specs.Slot.{Sat}
 use Rattle.cb_shared.proofs.AfterTurn.{ends_work, of_work, turn_with}
 use Rattle.cb_shared.proofs.turning.turn_with.Goals as goal

@@ -3,7 +3,7 @@ use Rattle.cb_shared.proofs.Turns.{bring_at, turn_ran}
 use Rattle.cb_shared.proofs.working.bring_at_desk.Goals as goal
 
 pub bring_to_read-requires : goal.bring_to_read-requires
-bring_to_read-requires c = record {
+bring_to_read-requires g c = record {
   config = c.requires.config;
   configured = c.requires.stood.configured;
   handle = c.requires.handle;
@@ -12,7 +12,7 @@ bring_to_read-requires c = record {
 }
 
 pub returns-clause-bring : goal.returns-clause-bring
-returns-clause-bring c = bring_at (λ d. d.seat.now) _ _ (λ d e es x. x.0) (λ d s x. x)
+returns-clause-bring g c = bring_at (λ d. d.seat.now) _ _ (λ d e es x. x.0) (λ d s x. x)
     c.args.desk.now.config
     (record { desk = c.args.desk.now; far = c.args.far.now })
     (record { desk = c.bring_to_read.new.desk; far = c.bring_to_read.new.far })
@@ -20,7 +20,7 @@ returns-clause-bring c = bring_at (λ d. d.seat.now) _ _ (λ d e es x. x.0) (λ 
     c.bring_to_read.ensures.brought c.bring_to_read.ensures.error c.bring_to_read.ensures.leaves
 
 pub returns-clause-same : goal.returns-clause-same
-returns-clause-same c = turn_ran (λ d. d.seat.now) _ _ (λ d e es x. x.0) (λ d s x. x)
+returns-clause-same g c = turn_ran (λ d. d.seat.now) _ _ (λ d e es x. x.0) (λ d s x. x)
     c.args.desk.now.config
     (record { desk = c.args.desk.now; far = c.args.far.now })
     (record { desk = c.bring_to_read.new.desk; far = c.bring_to_read.new.far })

@@ -1,4 +1,3 @@
-use Rattle.std.proofs.Common.{◌≡◌, refl}
 use Rattle.cb_shared.proofs.AfterTurn.{holds_begun, of_runs}
 use Rattle.cb_shared.proofs.ReadTurns.{few_come, knows_come, no_frame_read, tells_away, tells_read, work_away, work_read}
 use Rattle.cb_shared.proofs.working.read_by_seat.Goals as goal
@@ -27,7 +26,7 @@ read_tried-requires-clause-of g c = of_runs c.args.top.now.table_id c.args.top.n
 pub read_tried-requires-clause-knows : goal.read_tried-requires-clause-knows
 read_tried-requires-clause-knows g c = let b = c.bring_by_seat-place.ensures.bring in
     knows_come c.args.h.n c.args.seat.now c.bring_by_seat-place.new.seat b.events b.runs
-    c.requires.begins.fresh b.fresh c.requires.knows
+    c.requires.knows
 
 pub read_tried-requires-clause-few : goal.read_tried-requires-clause-few
 read_tried-requires-clause-few g c = let b = c.bring_by_seat-place.ensures.bring in

@@ -3,7 +3,7 @@ use Rattle.cb_shared.proofs.Turns.{turn_at, turn_ran}
 use Rattle.cb_shared.proofs.working.turn_at_desk.Goals as goal
 
 pub turn-requires : goal.turn-requires
-turn-requires c = record {
+turn-requires g c = record {
   config = c.requires.config;
   configured = c.requires.stood.configured;
   job = c.requires.job;
@@ -12,7 +12,7 @@ turn-requires c = record {
 }
 
 pub returns-clause-turn : goal.returns-clause-turn
-returns-clause-turn c = turn_at (λ d. d.seat.now) _ _ (λ d e es x. x.0) (λ d s x. x)
+returns-clause-turn g c = turn_at (λ d. d.seat.now) _ _ (λ d e es x. x.0) (λ d s x. x)
     c.args.desk.now.config
     (record { desk = c.args.desk.now; far = c.args.far.now })
     (record { desk = c.turn.new.desk; far = c.turn.new.far })
@@ -20,7 +20,7 @@ returns-clause-turn c = turn_at (λ d. d.seat.now) _ _ (λ d e es x. x.0) (λ d 
     c.turn.ensures.turned c.turn.ensures.error c.turn.ensures.leaves
 
 pub returns-clause-same : goal.returns-clause-same
-returns-clause-same c = turn_ran (λ d. d.seat.now) _ _ (λ d e es x. x.0) (λ d s x. x)
+returns-clause-same g c = turn_ran (λ d. d.seat.now) _ _ (λ d e es x. x.0) (λ d s x. x)
     c.args.desk.now.config
     (record { desk = c.args.desk.now; far = c.args.far.now })
     (record { desk = c.turn.new.desk; far = c.turn.new.far })

@@ -1,4 +1,4 @@
-use Rattle.std.proofs.Common.{◌≡◌, ◌∙◌, ◌<◌, ◌≤◌, ◌+◌, ◌*◌, ℕ, List, [], ◌∷◌, length, set, refl, sym, ap, subst, arith}
+use Rattle.std.proofs.Common.{◌∙◌, ◌<◌, ◌+◌, ◌*◌, ℕ, set, refl, sym, ap, arith}
 use Rattle.cb_world.specs.Memory.{words_for}
 use Rattle.cb_mutate.proofs.Laws.{write_all, write_more}
 use Rattle.cb_rule.specs.declared.view.Held.{Held}

@@ -1,4 +1,4 @@
-use Rattle.std.proofs.Common.{◌≡◌, ℕ, ◌*◌, List, length}
+use Rattle.std.proofs.Common.{ℕ, ◌*◌, List, length}
 use Rattle.cb_world.specs.Write.{IsWriteBelow}
 use Rattle.cb_rule.specs.declared.view.Held.{Held}
 use Rattle.cb_shared.specs.Claims.{HoldsOnly, IsWithin, with_memory, with_only}

@@ -1,6 +1,6 @@
-use Rattle.std.proofs.Common.{rules, ◌≡◌, ◌∙◌, ◌<◌, ℕ, List, [], ◌∷◌, refl, sym, ap}
+use Rattle.std.proofs.Common.{rules, ◌≡◌, ap}
 use Rattle.cb_rule.specs.Slot.{Sat}
-use Rattle.cb_shared.proofs.WriteSteps.{IsAfter, written_at}
+use Rattle.cb_shared.proofs.WriteSteps.{written_at}
 use Rattle.cb_shared.proofs.writing.write_at.Goals as goal
 
 pub returns-clause-table : goal.returns-clause-table

@@ -1,6 +1,5 @@
-use Rattle.std.proofs.Common.{◌≡◌, ◌∙◌, ◌<◌, ◌≤◌, ◌+◌, ◌*◌, ℕ, List, [], ◌∷◌, length, refl, sym, ap, subst, arith}
+use Rattle.std.proofs.Common.{◌≡◌, ◌∙◌, ◌+◌, ℕ, refl, sym, ap, arith}
 use Rattle.cb_ptr.specs.declared.word.PtrWord.{PtrWord}
-use Rattle.cb_ptr.specs.Word.{fields_of, len_of, place_of}
 use Rattle.cb_ptr.proofs.Laws.{len_of-below}
 use Rattle.cb_rule.specs.declared.view.Held.{Held}
 use Rattle.cb_rule.specs.Slot.{Sat}

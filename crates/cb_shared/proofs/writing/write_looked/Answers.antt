@@ -1,4 +1,4 @@
-use Rattle.cb_shared.proofs.Resting.{known_below, rest_glance}
+use Rattle.cb_shared.proofs.Resting.{known_below, knows_glance, rest_glance}
 use Rattle.cb_shared.proofs.WriteSteps.{refused_writes}
 use Rattle.cb_shared.proofs.writing.write_looked.Goals as goal
 
@@ -20,3 +20,7 @@ pub returns-in-Some-clause-write : goal.returns-in-Some-clause-write
 returns-in-Some-clause-write c = refused_writes c.args.h c.glance-saw.result c.args.at
     c.args.bytes.now c.in-Some.answer c.args.seat.now c.glance-saw.new.seat c.glance-saw.ensures
     (c.refuse_write.ensures.refused c.in-Some.answer c.in-Some.is)
+
+pub write_at-requires-clause-knows : goal.write_at-requires-clause-knows
+write_at-requires-clause-knows c = knows_glance c.args.h c.args.h c.glance-saw.result
+    c.args.seat.now c.glance-saw.new.seat c.glance-saw.ensures c.requires.knows

@@ -1,4 +1,4 @@
-use Rattle.std.proofs.Common.{◌≡◌, ◌∙◌, ◌+◌, ◌≤◌, ℕ, ap, sym, subst}
+use Rattle.std.proofs.Common.{◌≡◌, ◌∙◌, ◌≤◌, ap, sym, subst}
 use Rattle.cb_rule.specs.Slot.{Sat}
 use Rattle.cb_rule.specs.Steps.{joined}
 use Rattle.cb_rule.specs.declared.view.View.{View}

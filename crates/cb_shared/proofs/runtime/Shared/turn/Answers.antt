@@ -1,4 +1,4 @@
-use Rattle.std.proofs.Common.{◌≡◌, ◌∙◌, ℕ, sym, ap, subst}
+use Rattle.std.proofs.Common.{◌∙◌, ℕ, sym, ap, subst}
 use Rattle.std.specs.Prelude.{Option}
 use Rattle.crossbeam_utils.specs.Padded.{padded_value}
 use Rattle.cb_rule.specs.Slot.{Sat}
@@ -42,12 +42,12 @@ find_freed-requires-clause-knows g c =
 pub returns-clause-of : goal.returns-clause-of
 returns-clause-of g c = let f = subst (λ (o : Option ℕ). FreedMoves c.args.self.now.config o
     c.locked_turn-reply.new.seat c.find_freed.new.seat) c.freed_of.ensures c.find_freed.ensures in record {
-  accepted = c.requires.of.accepted;
-  table = c.find_freed.ensures.1.0 ∙ c.locked_turn-reply.ensures.same.0 ∙ c.requires.of.table;
-  rest = rest_turned c.args.self.now.config c.args.job.now c.locked_turn-reply.result
-      c.args.pass.now.seat c.locked_turn-reply.new.seat c.find_freed.new.seat c.requires.of.rest
-      c.locked_turn-reply.ensures.turn f;
-}
+      accepted = c.requires.of.accepted;
+      table = c.find_freed.ensures.1.0 ∙ c.locked_turn-reply.ensures.same.0 ∙ c.requires.of.table;
+      rest = rest_turned c.args.self.now.config c.args.job.now c.locked_turn-reply.result
+          c.args.pass.now.seat c.locked_turn-reply.new.seat c.find_freed.new.seat c.requires.of.rest
+          c.locked_turn-reply.ensures.turn f;
+    }
 
 pub returns-clause-turn : goal.returns-clause-turn
 returns-clause-turn g c = let f = subst (λ (o : Option ℕ). FreedMoves c.args.self.now.config o
@@ -59,11 +59,11 @@ returns-clause-turn g c = let f = subst (λ (o : Option ℕ). FreedMoves c.args.
 pub invariant_of-pass : goal.invariant_of-pass
 invariant_of-pass g c = let f = subst (λ (o : Option ℕ). FreedMoves c.args.self.now.config o
     c.locked_turn-reply.new.seat c.find_freed.new.seat) c.freed_of.ensures c.find_freed.ensures in record {
-  shares = c.args.pass.now.shares ∙ sym (share_turned c.args.self.now.config c.args.job.now
-      c.locked_turn-reply.result c.args.pass.now.seat c.locked_turn-reply.new.seat
-      c.find_freed.new.seat c.requires.of.rest c.locked_turn-reply.ensures.turn f);
-  carries = ap (λ (m : Sat). m.1) c.find_freed.ensures.1.2 ∙ c.locked_turn-reply.ensures.same.2;
-  pinned = c.args.pass.now.pinned ∙ sym (ap handles_of (pins_turned c.args.self.now.config
-      c.args.job.now c.locked_turn-reply.result c.args.pass.now.seat c.locked_turn-reply.new.seat
-      c.find_freed.new.seat c.requires.of.rest c.locked_turn-reply.ensures.turn f));
-}
+      shares = c.args.pass.now.shares ∙ sym (share_turned c.args.self.now.config c.args.job.now
+          c.locked_turn-reply.result c.args.pass.now.seat c.locked_turn-reply.new.seat
+          c.find_freed.new.seat c.requires.of.rest c.locked_turn-reply.ensures.turn f);
+      carries = ap (λ (m : Sat). m.1) c.find_freed.ensures.1.2 ∙ c.locked_turn-reply.ensures.same.2;
+      pinned = c.args.pass.now.pinned ∙ sym (ap handles_of (pins_turned c.args.self.now.config
+          c.args.job.now c.locked_turn-reply.result c.args.pass.now.seat c.locked_turn-reply.new.seat
+          c.find_freed.new.seat c.requires.of.rest c.locked_turn-reply.ensures.turn f));
+    }

@@ -1,0 +1,271 @@
+-- The front of an eviction and of a begin: of two spans the second is held up by a pin, and the
+-- first is claimed.
+use Rattle.std.proofs.Common.{◌≡◌, ◌⊎◌, ℕ, zero, suc, List, [], ◌∷◌, length, take, All, None, refl, sym, ap, ◌∙◌, subst, lit<, lit≤, arith, inl, inr}
+use Rattle.std.specs.FinMap as map
+use Rattle.std.specs.List.{Contains}
+use Rattle.std.proofs.lemmas.List.Elements.{All-nil, All-cons}
+use Rattle.cb_types.specs.declared.reply.Reply.TheVariants as answer
+use Rattle.cb_world.specs.declared.event.Event.{Event}
+use Rattle.cb_world.specs.declared.event.Event.TheVariants.{Looked, Claimed, Stored}
+use Rattle.cb_world.specs.declared.leaving.Former.{Former}
+use Rattle.cb_world.specs.declared.object.Object.TheVariants as is
+use Rattle.cb_world.specs.declared.shown.Shown.{Shown}
+use Rattle.cb_world.specs.FarState.{FarState}
+use Rattle.cb_world.specs.Grasped.{IsFree}
+use Rattle.cb_world.specs.LocalSound.{LocalSound}
+use Rattle.cb_world.specs.Looks.{IsFound, LooksFirst}
+use Rattle.cb_world.specs.Played.{played}
+use Rattle.cb_world.specs.Shown.{object_at}
+use Rattle.cb_evict.specs.declared.eviction.Eviction.TheVariants.{Refused}
+use Rattle.cb_evict.specs.declared.eviction.Lack.TheVariants.{Spans}
+use Rattle.cb_evict.specs.Candidates.{candidates, IsBarred, IsLoose, IsHeldUp}
+use Rattle.cb_evict.specs.Claims.{AreClaimed}
+use Rattle.cb_evict.specs.EvictRule.{HasFewSpans, HasFewNodes}
+use Rattle.cb_evict.specs.Beginning.{ReservesFrames}
+use Rattle.cb_evict.specs.Evicting.{AreTaken, ReadsFrames, StoresFrames, TouchesSpans}
+use Rattle.cb_evict.specs.Finding.{FindsLoose}
+use Rattle.cb_evict.specs.Loading.{LiesInOne, OnlyLoads}
+use Rattle.cb_evict.specs.Looking.{LooksOver}
+use Rattle.cb_evict.specs.Taking.{AreLooseNow, Tries, TakesEnough, TakesFew}
+use Rattle.cb_evict.proofs.Begun.{reserved_kept}
+use Rattle.cb_evict.proofs.Composed.{looks_tried}
+use Rattle.cb_evict.proofs.Loose.{held_alone}
+use Rattle.cb_evict.proofs.Options.{none_some}
+use Rattle.cb_evict.proofs.SmallWorlds.{calm, first_object, heads, lone, one_node, only_first, only_second, pair, pinned, settings, two_nodes}
+use Rattle.cb_evict.proofs.WorkedBegin.{former, of_first}
+
+not_one : (n : ℕ) → suc n ≡ 0 → ⊥
+not_one n e = omega (arith, e)
+
+-- ---- looks
+-- the looks at both spans find the first one loose
+abbrev looks : List Event
+looks = Looked 0 calm ∷ Looked 1 pinned ∷ []
+
+first_loose : IsLoose looks pair.spans 0
+first_loose h named = (
+  calm,
+  subst (λ (k : ℕ). IsFound k calm looks) (only_first h named)
+      (inr ((refl, refl), ((λ w look. not_one 0 look.0), tt))),
+  (refl, refl),
+)
+
+second_held : IsHeldUp looks pair.spans 1
+second_held = held_alone pair.spans 1 looks 1 pinned only_second (1, refl)
+    (inl (inr ((refl, refl), tt))) (λ free. let e : 1 ≡ 0 = free.1 in omega (arith, e))
+
+over_both : LooksOver (λ es. es ≡ looks) pair.spans (candidates pair) (0 ∷ [])
+over_both = record {
+  events = looks;
+  ran = refl;
+  looks = tt;
+  touches = (
+    (0, (0, lit< tt, refl), (1, refl)),
+    ((1, (1, lit< tt, refl), (1, refl)), tt),
+  );
+  finds = inr (first_loose, refl, (second_held, tt));
+}
+
+finds_first : FindsLoose (λ es. es ≡ looks) settings pair (0 ∷ []) 2
+finds_first = record {
+  looks = over_both;
+  enough = lit≤ tt;
+  room = omega (arith, two_nodes);
+  nodes = sym two_nodes;
+}
+
+-- the nodes are counted
+not_other_nodes : (runs : List Event → Type 0) → FindsLoose runs settings pair (0 ∷ []) 3 → ⊥
+not_other_nodes runs a = let e = a.nodes in absurd (omega (arith, e, two_nodes))
+
+-- too few spans, and then too few nodes, are a refusal
+not_enough : (runs : List Event → Type 0) (n : ℕ) → FindsLoose runs settings pair [] n → ⊥
+not_enough runs n a = let l = a.enough in absurd (omega (arith, l))
+
+not_with_room : (runs : List Event → Type 0) (n : ℕ) → FindsLoose runs settings lone (0 ∷ []) n → ⊥
+not_with_room runs n a = let l = a.room in absurd (omega (arith, l, one_node))
+
+few : (shows : Shown → Type 0) → TakesFew (λ es. es ≡ looks) shows (record settings { k = 2 }) pair
+    (AreLooseNow pair) (Refused Spans 1 2)
+few shows = record {
+  loose = 0 ∷ [];
+  tries = looks_tried pair (0 ∷ []) (λ es. es ≡ looks) shows over_both;
+  few = inl (record { few = lit< tt; reply = refl; state = refl });
+  counts = (refl, sym two_nodes);
+}
+
+-- a refusal has its own count
+not_its_count : (runs : List Event → Type 0) (shows : Shown → Type 0)
+    → TakesFew runs shows settings pair (AreLooseNow pair) (Refused Spans 1 2) → ⊥
+not_its_count runs shows a = by a.few
+  where
+    count_is : (n m : ℕ) → answer.NoSpans n ≡ answer.NoSpans m → n ≡ m
+    count_is n m e = cc
+
+    spans_nodes : (n m : ℕ) → answer.NoSpans n ≡ answer.NoNodes m → ⊥
+    spans_nodes n m e = cc
+
+    by : HasFewSpans settings pair pair (answer.NoSpans 1) a.loose
+        ⊎ HasFewNodes settings pair pair (answer.NoSpans 1) a.loose → ⊥
+    by (inl x) = let l = x.few in let e = count_is 1 (length a.loose) x.reply in
+        omega (arith, l, e)
+    by (inr x) = spans_nodes 1 _ x.reply
+
+-- and the other one beside it, as it is and not another
+not_other_count : (runs : List Event → Type 0) (shows : Shown → Type 0)
+    → TakesFew runs shows (record settings { k = 2 }) pair (AreLooseNow pair)
+    (Refused Spans 1 1) → ⊥
+not_other_count runs shows a = let e = a.counts.1 in absurd (omega (arith, e, two_nodes))
+
+-- ---- looks, and the claim of the first span
+abbrev tried : List Event
+tried = Looked 0 calm ∷ Looked 1 pinned ∷ Claimed 0 calm 3 (0 ∷ []) ∷ []
+
+still_loose : IsLoose tried pair.spans 0
+still_loose h named = (
+  calm,
+  subst (λ (k : ℕ). IsFound k calm tried) (only_first h named) (inl (inl (inr ((refl, refl), tt)))),
+  (refl, refl),
+)
+
+still_held : IsHeldUp tried pair.spans 1
+still_held = held_alone pair.spans 1 tried 1 pinned only_second (1, refl)
+    (inl (inr ((refl, refl), ((λ w look. not_one 0 (sym look.0)), tt))))
+    (λ free. let e : 1 ≡ 0 = free.1 in omega (arith, e))
+
+-- over a desk of which nothing is known
+tries : Tries (λ es. es ≡ tried) (λ s. ⊥) pair (AreLooseNow pair (0 ∷ [])) (former ∷ [])
+tries = record {
+  events = tried;
+  ran = refl;
+  first = (tt, tt);
+  touches = (
+    (0, (0, lit< tt, refl), (1, refl)),
+    (
+      (1, (1, lit< tt, refl), (1, refl)),
+      (
+        (0, (0, lit< tt, refl), (1, refl)),
+        tt,
+      ),
+    ),
+  );
+  found = inr (still_loose, refl, (still_held, tt));
+  claims = λ s none here. absurd none;
+}
+
+taken_first : AreTaken settings pair (0 ∷ []) (former ∷ [])
+taken_first = record {
+  count = refl;
+  among = All-cons (Contains (candidates pair)) 0 [] (0, lit< tt, refl)
+      (All-nil (Contains (candidates pair)));
+  apart = λ i j d less within. absurd (omega (arith, less, within));
+  of = of_first;
+  order = refl;
+  each_once = λ i j d less within. absurd (omega (arith, less, within));
+}
+
+enough : TakesEnough (λ es. es ≡ tried) (λ s. ⊥) settings pair (AreLooseNow pair) (0 ∷ [])
+    (former ∷ [])
+enough = record {
+  loose = 0 ∷ [];
+  tries = tries;
+  enough = lit≤ tt;
+  first = refl;
+  room = omega (arith, two_nodes);
+  taken = taken_first;
+}
+
+-- an object is not looked at again once it is claimed
+not_after : (shows : Shown → Type 0) (finds : List Event → Type 0) (formers : List Former)
+    → Tries (λ es. es ≡ Claimed 0 calm 3 (0 ∷ []) ∷ Looked 0 calm ∷ []) shows pair finds formers → ⊥
+not_after shows finds formers a = let x = subst LooksFirst a.ran a.first in x.0.0 calm (refl, refl)
+
+-- nothing is stored
+not_stored : (shows : Shown → Type 0) (finds : List Event → Type 0) (formers : List Former)
+    → Tries (λ es. es ≡ Stored 0 1 ∷ []) shows pair finds formers → ⊥
+not_stored shows finds formers a = subst (TouchesSpans pair) a.ran a.touches
+
+-- a span that was found loose is one of the loose ones
+not_passed_over : (shows : Shown → Type 0) (formers : List Former)
+    → Tries (λ es. es ≡ looks) shows pair (AreLooseNow pair []) formers → ⊥
+not_passed_over shows formers a = by (subst (AreLooseNow pair []) a.ran a.found).0.barred
+  where
+    found_calm : (w : ℕ) → IsFound 0 w looks → calm ≡ w
+    found_calm w (inl (inl e)) = absurd e
+    found_calm w (inl (inr x)) = absurd (not_one 0 x.0.0)
+    found_calm w (inr x) = x.0.1
+
+    by : IsBarred looks pair.spans 0 → ⊥
+    by (h, w, named, found, held) = held (subst IsFree
+        (found_calm w (subst (λ (k : ℕ). IsFound k w looks) (sym (only_first h named)) found))
+        (refl, refl))
+
+-- looks claim no object
+not_claimed : (s : Shown) (shows : Shown → Type 0) (finds : List Event → Type 0) → shows s
+    → LocalSound s pair → object_at s 0 ≡ is.Here 8 0
+    → Tries (λ es. es ≡ looks) shows pair finds (former ∷ []) → ⊥
+not_claimed s shows finds known sound was a =
+    let c = subst (λ (es : List Event). AreClaimed es s (played es s) (former ∷ [])) a.ran
+    (a.claims s known sound).0 in
+    let x = (c.taken 0 former (lit< tt)).at in differ 8 0 x.version x.words (sym was ∙ x.object)
+  where
+    differ : (len place v : ℕ) (xs : List ℕ) → is.Here 8 0 ≡ is.Claimed len place v xs → ⊥
+    differ len place v xs e = cc
+
+-- none of a list is too few
+not_of_none : (runs : List Event → Type 0) (shows : Shown → Type 0) (frames : List ℕ)
+    (formers : List Former)
+    → TakesEnough runs shows settings pair (λ l es. l ≡ []) frames formers → ⊥
+not_of_none runs shows frames formers a =
+    let l = a.enough in let e = ap (λ (l : List ℕ). length l) a.tries.found in omega (arith, l, e)
+
+-- the first loose span goes
+not_the_other : (runs : List Event → Type 0) (shows : Shown → Type 0) (formers : List Former)
+    → TakesEnough runs shows settings pair (λ l es. l ≡ 0 ∷ []) (1 ∷ []) formers → ⊥
+not_the_other runs shows formers a =
+    not_one 0 (heads 1 0 (a.first ∙ ap (λ (l : List ℕ). take 1 l) a.tries.found))
+
+-- one node is too few for two rows
+not_on_one : (runs : List Event → Type 0) (shows : Shown → Type 0)
+    (finds : List ℕ → List Event → Type 0) (frames : List ℕ) (formers : List Former)
+    → TakesEnough runs shows settings lone finds frames formers → ⊥
+not_on_one runs shows finds frames formers a = let l = a.room in omega (arith, l, one_node)
+
+-- each object of the span is noted
+not_without : (runs : List Event → Type 0) (shows : Shown → Type 0)
+    (finds : List ℕ → List Event → Type 0)
+    → TakesEnough runs shows settings pair finds (0 ∷ []) [] → ⊥
+not_without runs shows finds a =
+    let x = a.taken.of.all 0 first_object in let l = x.1.1 in omega (arith, l)
+
+-- ---- the frames are read, and stored or reserved
+nothing_read : ReadsFrames (λ es. es ≡ []) (0 ∷ [])
+nothing_read = ([], refl, tt)
+
+-- and nothing else is done
+not_looked_at : ReadsFrames (λ es. es ≡ looks) (0 ∷ []) → ⊥
+not_looked_at a = subst (OnlyLoads (LiesInOne (0 ∷ []))) a.1 a.2
+
+-- a set is stored
+not_unstored : (runs : List Event → Type 0) (shows : Shown → Type 0)
+    → StoresFrames runs shows settings pair pair (0 ∷ []) → ⊥
+not_unstored runs shows a =
+    let e : 0 ≡ 1 = ap (λ (far : FarState). far.counts.sets) a.kept.state in omega (arith, e)
+
+-- with a row for each frame
+not_two_rows : (runs : List Event → Type 0) (shows : Shown → Type 0) (new : FarState)
+    → (a : StoresFrames runs shows settings pair new (0 ∷ [])) → length a.rows ≡ 2 → ⊥
+not_two_rows runs shows new a two = let e = a.count in omega (arith, e, two)
+
+-- the set is kept that the spans will be
+not_unkept : (runs : List Event → Type 0) (shows : Shown → Type 0) (parities : List (List ℕ))
+    → ReservesFrames runs shows settings pair pair (0 ∷ []) parities → ⊥
+not_unkept runs shows parities a =
+    let none : map.get pair.sets 0 ≡ None = grind (arith, map.gets) in
+    none_some _ (sym none ∙ ap (λ (far : FarState). map.get far.sets 0) a.state
+    ∙ reserved_kept pair.sets 0 _)
+
+-- with as many parities as the code has
+not_unparted : (runs : List Event → Type 0) (shows : Shown → Type 0) (new : FarState)
+    → ReservesFrames runs shows settings pair new (0 ∷ []) [] → ⊥
+not_unparted runs shows new a = let e : 1 ≡ 2 = a.made.count in omega (arith, e)

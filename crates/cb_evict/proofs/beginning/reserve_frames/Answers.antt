@@ -1,0 +1,118 @@
+use Rattle.std.proofs.lemmas.Result.{IfOk-from_err}
+use Rattle.std.proofs.Common.{◌≡◌, ◌+◌, ◌-◌, ℕ, List, [], length, replicate, Option, None, sym, refl, ap, ◌∙◌, subst, arith}
+use Rattle.cb_gf256.specs.InRange.{IsInRange}
+use Rattle.cb_member.specs.declared.names.Shard.{Shard}
+use Rattle.cb_types.specs.declared.config.Config.{Config}
+use Rattle.cb_types.specs.declared.config.Field.TheVariants.{K, R}
+use Rattle.cb_world.specs.FarState.{FarState}
+use Rattle.cb_evict.specs.BeginRule.{blank_shards}
+use Rattle.cb_evict.specs.Beginning.{AreParities, with_reserved}
+use Rattle.cb_evict.proofs.BeginEnd.{blank_count}
+use Rattle.cb_evict.proofs.BeginParts.{no_names}
+use Rattle.cb_evict.proofs.Composed.{any_err, read_err, rows_made}
+use Rattle.cb_evict.proofs.Ending.{code_range}
+use Rattle.cb_evict.proofs.beginning.reserve_frames.Goals as goal
+
+pub room_for-requires : goal.room_for-requires
+room_for-requires g c =
+    let k = ap (λ (n : Config). n.k) c.config-config.ensures in
+    let r = ap (λ (n : Config). n.r) c.config-config.ensures in
+    let most = c.requires.config K in let more = c.requires.config R in
+    omega (arith, k, r, most.1, more.1)
+
+pub returns-in_err-room-clause-reserved : goal.returns-in_err-room-clause-reserved
+returns-in_err-room-clause-reserved g c = IfOk-from_err _ _ c.from_residual.ensures.0
+
+pub returns-in_err-room-clause-shards : goal.returns-in_err-room-clause-shards
+returns-in_err-room-clause-shards g c = IfOk-from_err _ _ c.from_residual.ensures.0
+
+pub returns-in_err-room-clause-read : goal.returns-in_err-room-clause-read
+returns-in_err-room-clause-read g c = read_err
+    (λ es. g.D.Desk.run c.args.desk.now es c.args.desk.now) c.args.frames.now [] _ (g.met.D.Desk.none _) tt
+
+pub returns-in_err-room-clause-unchanged : goal.returns-in_err-room-clause-unchanged
+returns-in_err-room-clause-unchanged g c = any_err _ _ refl
+
+pub load_frames-requires-clause-count : goal.load_frames-requires-clause-count
+load_frames-requires-clause-count g c =
+    (rows_made c.in_ok-room.room.rows c.config-config.result.k (length c.args.frames.now)
+    c.in_ok-room.ensures.rows
+    (c.requires.count ∙ sym (ap (λ (n : Config). n.k) c.config-config.ensures))).0
+
+pub load_frames-requires-clause-few : goal.load_frames-requires-clause-few
+load_frames-requires-clause-few g c =
+    let most = c.requires.config K in omega (arith, most.1, c.requires.count)
+
+pub load_frames-requires-clause-lengths : goal.load_frames-requires-clause-lengths
+load_frames-requires-clause-lengths g c =
+    (rows_made c.in_ok-room.room.rows c.config-config.result.k (length c.args.frames.now)
+    c.in_ok-room.ensures.rows
+    (c.requires.count ∙ sym (ap (λ (n : Config). n.k) c.config-config.ensures))).1
+
+pub load_frames-requires-clause-config : goal.load_frames-requires-clause-config
+load_frames-requires-clause-config g c = c.requires.config
+
+pub load_frames-requires-clause-frames : goal.load_frames-requires-clause-frames
+load_frames-requires-clause-frames g c = c.requires.below
+
+pub reserve-requires-clause-there : goal.reserve-requires-clause-there
+reserve-requires-clause-there g c = c.requires.there
+
+pub reserve-requires-clause-data_rows : goal.reserve-requires-clause-data_rows
+reserve-requires-clause-data_rows g c = c.load_frames.ensures.count
+    ∙ (rows_made c.in_ok-room.room.rows c.config-config.result.k (length c.args.frames.now)
+    c.in_ok-room.ensures.rows
+    (c.requires.count ∙ sym (ap (λ (n : Config). n.k) c.config-config.ensures))).0
+
+pub reserve-requires-clause-range : goal.reserve-requires-clause-range
+reserve-requires-clause-range g c =
+    let same = ap (λ (l : List Shard). length l) c.deref.ensures.value in
+    let many = blank_count _ _ c.in_ok-room.ensures.blank in
+    let k = ap (λ (n : Config). n.k) c.config-config.ensures in
+    let r = ap (λ (n : Config). n.r) c.config-config.ensures in
+    let range = code_range _ c.requires.config in record {
+      data_least = omega (arith, range.data_least, c.requires.count);
+      data_most = omega (arith, range.data_most, c.requires.count);
+      parities_least = omega (arith, range.parities_least, c.requires.count, same, many, k, r);
+      parities_most = omega (arith, range.parities_most, c.requires.count, same, many, k, r);
+    }
+
+pub returns-in_err-parities-clause-reserved : goal.returns-in_err-parities-clause-reserved
+returns-in_err-parities-clause-reserved g c = IfOk-from_err _ _ c.from_residual-in_err-parities.ensures.0
+
+pub returns-in_err-parities-clause-shards : goal.returns-in_err-parities-clause-shards
+returns-in_err-parities-clause-shards g c = IfOk-from_err _ _ c.from_residual-in_err-parities.ensures.0
+
+pub returns-in_err-parities-clause-read : goal.returns-in_err-parities-clause-read
+returns-in_err-parities-clause-read g c =
+    let x = c.load_frames.ensures.loads in read_err
+    (λ es. g.D.Desk.run c.args.desk.now es c.load_frames.new.desk) c.args.frames.now x.events _ x.ran x.loads
+
+pub returns-in_err-parities-clause-unchanged : goal.returns-in_err-parities-clause-unchanged
+returns-in_err-parities-clause-unchanged g c = any_err _ _ c.in_err-parities.ensures.err
+
+pub returns-clause-reserved : goal.returns-clause-reserved
+returns-clause-reserved g c =
+    let blank = c.deref.ensures.value ∙ c.in_ok-room.ensures.blank
+    ∙ ap (λ (n : Config). blank_shards (n.k + n.r)) c.config-config.ensures in record {
+      rows = c.load_frames.new.rows;
+      loads = c.load_frames.ensures.loads;
+      count = c.load_frames.ensures.count
+          ∙ (rows_made c.in_ok-room.room.rows c.config-config.result.k (length c.args.frames.now)
+          c.in_ok-room.ensures.rows
+          (c.requires.count ∙ sym (ap (λ (n : Config). n.k) c.config-config.ensures))).0;
+      made = subst (λ (n : ℕ). AreParities (length c.args.frames.now) n c.load_frames.new.rows c.in_ok-parities.parities)
+          (blank_count _ _ blank) c.in_ok-parities.ensures.parities;
+      state = subst (λ (l : List Shard). c.reserve.new.far ≡ with_reserved c.args.far.now l c.args.frames.now)
+          blank c.in_ok-parities.ensures.state;
+    }
+
+pub returns-clause-shards : goal.returns-clause-shards
+returns-clause-shards g c = c.in_ok-room.ensures.shards
+    ∙ ap (λ (n : Config). no_names (n.k + n.r)) c.config-config.ensures
+
+pub returns-clause-read : goal.returns-clause-read
+returns-clause-read g c = tt
+
+pub returns-clause-unchanged : goal.returns-clause-unchanged
+returns-clause-unchanged g c = tt

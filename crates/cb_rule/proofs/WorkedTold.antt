@@ -1,0 +1,123 @@
+-- Worked examples of what turns were told: what meets the definition, and what breaks one part.
+use Rattle.std.proofs.Common.{◌≡◌, ℕ, zero, suc, ◌<◌, List, [], ◌∷◌, ◌++◌, None, get_or, sym, refl, ap, inl, inr, ⊎_elim, lit≤, arith}
+use Rattle.cb_types.specs.declared.job.Job.TheVariants.{Evict}
+use Rattle.cb_world.specs.declared.entry.Entry.{Entry}
+use Rattle.cb_world.specs.declared.event.Event.{Event}
+use Rattle.cb_world.specs.declared.event.Event.TheVariants.{Claimed}
+use Rattle.cb_world.specs.declared.object.Object.TheVariants as is
+use Rattle.cb_world.specs.Shown.{object_at}
+use Rattle.cb_world.specs.Written.{entry}
+use Rattle.cb_rule.specs.declared.turn.Turn.{Turn}
+use Rattle.cb_rule.specs.declared.view.View.{View}
+use Rattle.cb_rule.specs.Lists.{Each, Has}
+use Rattle.cb_rule.specs.OneHistory.{Made}
+use Rattle.cb_rule.specs.Promised.{Wrote}
+use Rattle.cb_rule.specs.Records.{OldOk, TurnOk}
+use Rattle.cb_rule.specs.Steps.{blank}
+use Rattle.cb_rule.specs.Told.{AreTold}
+use Rattle.cb_rule.proofs.Histories.{entry_before, same_entry}
+use Rattle.cb_rule.proofs.Members.{each_has}
+use Rattle.cb_rule.proofs.WorkedHistory.{history as in_order, made, some_entries, written}
+use Rattle.cb_rule.proofs.WorkedLocking.{far, one_view, seen}
+use Rattle.cb_rule.proofs.WorkedStands.{here}
+use Rattle.cb_rule.proofs.WorkedViews.{pair_of}
+
+-- a turn that found both objects in local memory when the history had two entries, and claimed
+-- object 1 when it had three
+abbrev turn : Event → Turn
+turn e = record {
+  job = Evict;
+  reply = None;
+  start = record seen { objects = is.Here 8 0 ∷ is.Here 8 1 ∷ [] };
+  since = 2;
+  until = 3;
+  acts = e ∷ [];
+  took = far 0;
+  gave = far 1;
+}
+
+abbrev good : Turn
+good = turn (Claimed 1 here 4 (9 ∷ []))
+
+abbrev seat : List Entry → Turn → View
+seat es t = record (blank pair_of) { written = es; turns = t ∷ [] }
+
+abbrev Told : List Entry → Turn → Type 0
+Told es t = AreTold 3 pair_of (seat es t ∷ [])
+
+wrote : (es : List Entry) (t : Turn) (e : Entry) → Has e es → Wrote (seat es t ∷ []) e
+wrote es t e there = (seat es t, (0, refl), there)
+
+good_ok : TurnOk pair_of 3 some_entries good
+good_ok = record {
+  told = (
+    (
+      lit≤ tt,
+      record {
+        newer = [];
+        older = some_entries;
+        parts = refl;
+        low = lit≤ tt;
+        high = lit≤ tt;
+        last = refl;
+        has = refl;
+      },
+    ),
+    tt,
+  );
+  began = began;
+}
+  where
+    began : (h : ℕ) → h < 2 → OldOk 3 some_entries 2 h (object_at good.start h)
+    began zero l = tt
+    began (suc zero) l = tt
+    began (suc (suc h)) l = absurd (omega (arith, l))
+
+told : Told some_entries good
+told = record {
+  history = some_entries;
+  ordered = in_order.1;
+  written = wrote some_entries good;
+  whole = each_has_of;
+  told = λ t m. each_has (TurnOk pair_of 3 some_entries) t m.0.turns
+      (one_view (λ u. Each (TurnOk pair_of 3 some_entries) u.turns) (seat some_entries good)
+      (good_ok, tt) m.1.0 m.0 m.1.1) m.2;
+}
+  where
+    each_has_of : (e : Entry) → Wrote (seat some_entries good ∷ []) e → Has e some_entries
+    each_has_of e w = one_view (λ u. Has e (u.fresh ++ u.written) → Has e some_entries)
+        (seat some_entries good) (λ has. has) w.1.0 w.0 w.1.1 w.2
+
+-- a claim that told of a version below the first
+abbrev too_low : Turn
+too_low = turn (Claimed 1 here 2 [])
+
+told_too_low : Told some_entries too_low → ⊥
+told_too_low k = let made_it : Made (seat some_entries too_low ∷ []) too_low =
+    (seat some_entries too_low, (0, refl), inl refl) in
+    let e = (k.told too_low made_it).told.0.0 in omega (arith, e)
+
+-- no order in which the second version of an object comes without its first
+lone : (e : Entry) → Wrote (seat (written ∷ []) good ∷ []) e → e ≡ written
+lone e w = one_view (λ u. Has e (u.fresh ++ u.written) → e ≡ written) (seat (written ∷ []) good)
+    (λ has. ⊎_elim (λ (q : written ≡ e). sym q) (λ (none : ⊥). absurd none) has) w.1.0 w.0 w.1.1 w.2
+
+without_the_first : Told (written ∷ []) good → ⊥
+without_the_first k = ⊎_elim
+    (λ (z : (4 ≡ 3) × (7 ∷ [] ≡ [])). let e = z.0 in omega (arith, e))
+    (λ (z : _). let n : z.0.version ≡ 4 =
+    ap (λ (x : Entry). x.version) (lone z.0 (k.written z.0 z.1)) in
+    let m = z.3 in omega (arith, n, m))
+    (entry_before 3 (lit≤ tt) written k.history k.ordered
+    (k.whole written (wrote (written ∷ []) good written (inl refl))))
+
+-- nor one with two entries of one version
+abbrev made_else : Entry
+made_else = entry 1 3 8 [] (8 ∷ [])
+
+made_twice : Told (made_else ∷ made ∷ []) good → ⊥
+made_twice k = let es : List Entry = made_else ∷ made ∷ [] in
+    let same = same_entry 3 (lit≤ tt) made_else made k.history k.ordered
+    (k.whole made_else (wrote es good made_else (inl refl)))
+    (k.whole made (wrote es good made (inr (inl refl)))) refl refl in
+    let e : 8 ≡ 7 = ap (λ (x : Entry). get_or x.after 0 0) same in omega (arith, e)

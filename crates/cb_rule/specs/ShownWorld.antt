@@ -1,0 +1,30 @@
+-- The world that the table shows while no seat holds the lock.
+use Rattle.std.specs.Prelude.{◌≡◌, ◌≢◌, ℕ, ◌<◌, Some}
+use mathlib.Core.Option.{some}
+use lib.ListN.{get_elem?}
+use Rattle.cb_types.specs.declared.config.Config.{Config}
+use Rattle.cb_world.specs.declared.entry.Entry.{Entry}
+use Rattle.cb_world.specs.declared.shown.Shown.{Shown}
+use Rattle.cb_world.specs.FarState.{FarState}
+use Rattle.cb_world.specs.Now.{is_gone, now}
+use Rattle.cb_world.specs.Now.Now.{never}
+use Rattle.cb_world.specs.World.{AreCounted, IsConfigured, IsKnown}
+use Rattle.cb_rule.specs.Closing.{desk_of, now_of}
+use Rattle.cb_rule.specs.Lists.{total}
+use Rattle.cb_rule.specs.Promised.{IsLast, Wrote}
+use Rattle.cb_rule.specs.Seats.{claims_on}
+use Rattle.cb_rule.specs.Slot.{Table}
+
+-- The words of the table and the far state in its slot are a sound world, whatever is pinned or
+-- claimed. It holds of each object that no view claims what the last entry left, and an object
+-- without an entry was never made.
+pub record ShowsWorld (c : Config) (s : Table) (far : FarState) : Type 0 where
+  pub home : get_elem? s.homes 0 ≡ some (some (Some far))
+  pub configured : IsConfigured c far
+  pub counted : AreCounted far
+  pub shown : Shown
+  pub known : IsKnown (desk_of c s.words) far shown
+  pub last : (e : Entry) → IsLast s.views e → total (claims_on e.handle) s.views ≡ 0
+      → now shown far e.handle ≡ now_of (is_gone far e.handle) e
+  pub none : (h : ℕ) → h < c.handles → ((e : Entry) → Wrote s.views e → e.handle ≢ h)
+      → now shown far h ≡ never
