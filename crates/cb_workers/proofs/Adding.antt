@@ -1,0 +1,37 @@
+-- Turns that are added to a record, one behind the other.
+use Rattle.std.proofs.Common.{◌≡◌, ℕ, ◌+◌, List, [], ◌++◌, refl, sym, ap, ◌∙◌, append_assoc, arith}
+use Rattle.std.proofs.lemmas.List.{map-append}
+use Rattle.cb_rule.specs.declared.turn.Turn.{Turn}
+use Rattle.cb_rule.specs.declared.view.View.{View}
+use Rattle.cb_shared.specs.Parts.{grown}
+use Rattle.cb_workers.specs.Bodies.{AddsTurns, deed, turns_alone}
+use Rattle.cb_workers.specs.Work.{Deed}
+
+no_pin : (n : ℕ) → n ≡ n + 0
+no_pin n = omega arith
+
+grown_twice : (v : View) → (earlier later : List Turn)
+    → grown (turns_alone later) (grown (turns_alone earlier) v)
+    ≡ grown (turns_alone (later ++ earlier)) v
+grown_twice v earlier later = λ i. record (grown (turns_alone earlier) v) {
+  ever = sym (no_pin (v.ever + 0)) i;
+  turns = sym (append_assoc later earlier v.turns) i;
+}
+
+-- no turns
+pub none_added : (v : View) → AddsTurns [] v v
+none_added v = record {
+  turns = [];
+  are = refl;
+  grows = λ i. record v { ever = no_pin v.ever i };
+}
+
+-- some, and some behind them
+pub both_added : (ds es : List Deed) → (v w u : View) → AddsTurns ds v w → AddsTurns es w u
+    → AddsTurns (es ++ ds) v u
+both_added ds es v w u d e = record {
+  turns = e.turns ++ d.turns;
+  are = map-append deed e.turns d.turns ∙ (λ i. e.are i ++ d.are i);
+  grows = e.grows ∙ ap (λ x. grown (turns_alone e.turns) x) d.grows
+      ∙ grown_twice v d.turns e.turns;
+}

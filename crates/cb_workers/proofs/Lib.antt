@@ -1,0 +1,8 @@
+mod Visits
+pub mod Laws
+mod Quiet
+mod Adding
+mod Steps
+mod WorkedRules
+mod WorkedWork
+mod WorkedBodies

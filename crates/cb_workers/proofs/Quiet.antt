@@ -1,0 +1,85 @@
+-- A turn of a worker brings nothing but itself to the record of its pass.
+use Rattle.std.proofs.Common.{◌≡◌, ℕ, List, [], ◌∷◌, Option, None, Result, Ok, Err, IsOk, refl, ap, ◌∙◌, subst}
+use Rattle.cb_member.specs.declared.no_memory.NoMemory.{NoMemory}
+use Rattle.cb_types.specs.declared.config.Config.{Config}
+use Rattle.cb_types.specs.declared.job.Job.{Job}
+use Rattle.cb_types.specs.declared.job.Job.TheVariants as job
+use Rattle.cb_types.specs.declared.reply.Reply.{Reply}
+use Rattle.cb_types.specs.declared.reply.Reply.TheVariants as answer
+use Rattle.cb_world.specs.declared.entry.Entry.{Entry}
+use Rattle.cb_core.specs.TurnLeaves.{OutcomeWrites, TurnWrites}
+use Rattle.cb_rule.specs.declared.turn.Turn.{Turn}
+use Rattle.cb_rule.specs.declared.view.View.{View}
+use Rattle.cb_shared.specs.Parts.{Part, grown, nothing_more}
+use Rattle.cb_shared.specs.Turning.{DidAs, FindsFreed, JobReads, TurnBy, answer_of, freed_of, made_by, object_of, turn_part, with_own}
+use Rattle.cb_workers.specs.Bodies.{AddsTurns, IsEnd, IsOwed, one_deed, turns_alone}
+
+-- what a worker's job leaves alone: it reads no object under a pin, is about no object that a pass
+-- knows, makes none, and writes no version
+record IsQuiet (work : Job) : Type 0 where
+  pub reads : (r : Result Reply NoMemory) → (v : View) → (d : Part) → JobReads work r v d
+      → d ≡ nothing_more
+  pub object : object_of work ≡ None
+  pub made : (r : Option Reply) → made_by work r ≡ []
+  pub writes : (r : Reply) → (more : List Entry) → TurnWrites work r more → more ≡ []
+
+quiet : (handles : ℕ) → (work : Job) → IsOwed handles work → IsQuiet work
+quiet handles (job.Make bytes) owed = absurd owed
+quiet handles (job.Read handle) owed = absurd owed
+quiet handles (job.Write handle at bytes) owed = absurd owed
+quiet handles (job.Free handle) owed = absurd owed
+quiet handles work owed = record {
+  reads = λ r v d is. is;
+  object = refl;
+  made = λ r. refl;
+  writes = λ r more is. is;
+}
+
+writes_none : (work : Job) → IsQuiet work → (r : Result Reply NoMemory) → (more : List Entry)
+    → OutcomeWrites work r more → more ≡ []
+writes_none work q (Ok r) more is = q.writes r more is
+writes_none work q (Err e) more is = is
+
+freed_none : (work : Job) → object_of work ≡ None → (r : Result Reply NoMemory)
+    → freed_of work r ≡ None
+freed_none work none (Ok answer.Freed) = none
+freed_none work none r = refl
+
+pub adds_turn : (c : Config) → (work : Job) → (r : Result Reply NoMemory) → (v w : View)
+    → IsOwed c.handles work → TurnBy c work r v w → AddsTurns (one_deed work (answer_of r)) v w
+adds_turn c work r v w owed (d, adds, grows) = record {
+  turns = adds.turn ∷ [];
+  are = λ i. record { job = adds.job_is i; reply = adds.reply_is i } ∷ [];
+  grows = grows ∙ ap (λ made. with_own made (grown d v)) (q.made (answer_of r))
+      ∙ ap (λ part. grown part v) alone;
+}
+  where
+    q : IsQuiet work
+    q = quiet c.handles work owed
+
+    within : adds.within ≡ nothing_more
+    within = q.reads r v adds.within adds.reads
+
+    later : adds.later ≡ nothing_more
+    later = subst (λ h. FindsFreed h (with_own (made_by work (answer_of r))
+        (grown (turn_part adds.turn adds.more adds.within nothing_more) v)) adds.later)
+        (freed_none work q.object r) adds.finds
+
+    alone : d ≡ turns_alone (adds.turn ∷ [])
+    alone = adds.part ∙ (λ i. turn_part adds.turn (writes_none work q r adds.more adds.wrote i)
+        (within i) (later i))
+
+-- ---- a job that ends what was begun takes no memory
+ends_with : (c : Config) → (work : Job) → IsEnd work → (t : Turn)
+    → DidAs c work None t.start t.acts t.took t.gave → ⊥
+ends_with c job.Abort is t did = did.stops
+ends_with c job.Part is t did = did.stops.1
+ends_with c work is t did = absurd is
+
+pub takes_no_memory : (c : Config) → (work : Job) → (r : Result Reply NoMemory) → (v w : View)
+    → IsEnd work → TurnBy c work r v w → IsOk r
+takes_no_memory c work (Ok r) v w is by_turn = refl
+takes_no_memory c work (Err e) v w is (d, adds, grows) = absurd (ends_with c work is adds.turn
+    (subst (λ j. DidAs c j None adds.turn.start adds.turn.acts adds.turn.took adds.turn.gave)
+    adds.job_is (subst (λ o. DidAs c adds.turn.job o adds.turn.start adds.turn.acts adds.turn.took
+    adds.turn.gave) adds.reply_is adds.did)))

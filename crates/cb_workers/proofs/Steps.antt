@@ -1,0 +1,186 @@
+-- How turns come to be a worker's work.
+use Rattle.std.proofs.Common.{◌≡◌, ℕ, ◌+◌, ◌<◌, List, [], ◌∷◌, ◌++◌, length, Option, None, Some, Result, Ok, Err, IsOk, OnErr, refl, sym, ap, ◌∙◌, subst, arith}
+use Rattle.std.proofs.lemmas.Bool.{false≢true}
+use Rattle.std.proofs.lemmas.List.{map-append}
+use Rattle.cb_member.specs.declared.no_memory.NoMemory.{NoMemory}
+use Rattle.cb_types.specs.declared.config.Field.TheVariants.{Handles}
+use Rattle.cb_types.specs.declared.job.Job.{Job}
+use Rattle.cb_types.specs.declared.job.Job.TheVariants as job
+use Rattle.cb_types.specs.declared.reply.Reply.{Reply}
+use Rattle.cb_types.specs.declared.reply.Reply.TheVariants as answer
+use Rattle.cb_rule.specs.declared.view.View.{View}
+use Rattle.cb_shared.specs.declared.pass.Pass.{Pass}
+use Rattle.cb_shared.specs.declared.runtime.Shared.{Shared}
+use Rattle.cb_shared.specs.Parts.{Grows, Part}
+use Rattle.cb_shared.specs.Passes.{IsPassOf}
+use Rattle.cb_shared.specs.Turning.{answer_of}
+use Rattle.cb_workers.specs.Rules.{after_batch, after_pair, end_of, first_job, next_job, visited}
+use Rattle.cb_workers.specs.Work.{Answered, IsOnly, deed_of, deeds_of, job_behind, lacked}
+use Rattle.cb_workers.specs.Bodies.{AddsTurns, Cuts, Ends, HasMade, IsOwed, IsStopped, IsWorked, IsEnd, Lacks, Steps, one_deed, turns_alone}
+use Rattle.cb_workers.specs.declared.worker.Worker.{Worker}
+use Rattle.cb_workers.specs.declared.worker.Worker.TheVariants as worker
+use Rattle.cb_workers.proofs.Visits.{next_visit_below}
+use Rattle.cb_workers.proofs.Adding.{both_added, none_added}
+
+-- ---- the jobs that are due are a worker's
+batch_owed : (handles : ℕ) → (r : Reply) → IsOwed handles (after_batch r)
+batch_owed handles (answer.Batch set) = tt
+batch_owed handles (answer.Shipped position) = tt
+batch_owed handles (answer.Short positions) = tt
+batch_owed handles answer.AllShipped = tt
+batch_owed handles answer.NoNode = tt
+batch_owed handles r = tt
+
+pair_owed : (handles : ℕ) → (r : Reply) → IsOwed handles (after_pair r)
+pair_owed handles (answer.Pair a b) = tt
+pair_owed handles (answer.Stepped position) = tt
+pair_owed handles (answer.Unfinished positions) = tt
+pair_owed handles answer.AllStepped = tt
+pair_owed handles (answer.NodeFull node) = tt
+pair_owed handles r = tt
+
+next_owed : (handles : ℕ) → (w : Worker) → (before : Job) → (r : Reply) → 0 < handles
+    → IsOwed handles (next_job handles w before r)
+next_owed handles worker.Filter before r some = next_visit_below handles (visited before) r some
+next_owed handles worker.Evict before r some = batch_owed handles r
+next_owed handles worker.Compact before r some = pair_owed handles r
+next_owed handles worker.Rebuild before r some = tt
+
+first_owed : (handles : ℕ) → (w : Worker) → 0 < handles → IsOwed handles (first_job w)
+first_owed handles worker.Filter some = some
+first_owed handles worker.Evict some = tt
+first_owed handles worker.Compact some = tt
+first_owed handles worker.Rebuild some = tt
+
+behind_owed : (handles : ℕ) → (w : Worker) → (done : List Answered) → 0 < handles
+    → IsOwed handles (job_behind handles w done)
+behind_owed handles w [] some = first_owed handles w some
+behind_owed handles w (a ∷ earlier) some = next_owed handles w a.job a.reply some
+
+pub due_owed : (handles : ℕ) → (w : Worker) → (n : ℕ) → (due : Job) → (v u : View) → 0 < handles
+    → HasMade handles w n due v u → IsOwed handles due
+due_owed handles w n due v u some made =
+    subst (λ j. IsOwed handles j) (sym made.due_is) (behind_owed handles w made.done some)
+
+-- ---- a loop over the turns
+pub none_made : (handles : ℕ) → (w : Worker) → (due : Job) → (v : View) → due ≡ first_job w
+    → HasMade handles w 0 due v v
+none_made handles w due v first = record {
+  done = [];
+  number = refl;
+  are_due = tt;
+  due_is = first;
+  adds = none_added v;
+}
+
+pub one_made : (handles : ℕ) → (w : Worker) → (n : ℕ) → (due new : Job) → (v u t : View)
+    → HasMade handles w n due v u → Steps handles w due new u t → HasMade handles w (n + 1) new v t
+one_made handles w n due new v u t made (reply, next, adds) = record {
+  done = record { job = due; reply = reply } ∷ made.done;
+  number = let e : length made.done ≡ n = made.number in omega (arith, e);
+  are_due = (made.due_is, made.are_due);
+  due_is = next;
+  adds = both_added (deeds_of made.done) (one_deed due (Some reply)) v u t made.adds adds;
+}
+
+pub one_lacked : (handles : ℕ) → (w : Worker) → (n turns : ℕ) → (due new : Job) → (v u t : View)
+    → n < turns → HasMade handles w n due v u → Lacks due new u t → Cuts handles w turns new v t
+one_lacked handles w n turns due new v u t few made (same, adds) = record {
+  done = made.done;
+  fewer = subst (λ k. k < turns) (sym made.number) few;
+  are_due = made.are_due;
+  due_is = same ∙ made.due_is;
+  adds = subst (λ j. AddsTurns (lacked j ∷ deeds_of made.done) v t) (sym same)
+      (both_added (deeds_of made.done) (lacked due ∷ []) v u t made.adds adds);
+}
+
+-- ---- the end
+pub all_worked : (handles : ℕ) → (w : Worker) → (turns : ℕ) → (due : Job) → (v u t : View)
+    → HasMade handles w turns due v u → Ends due u t
+    → (d : Part) × IsWorked handles w turns d × Grows v d t
+all_worked handles w turns due v u t made (ending, only, adds) = (
+  turns_alone all.turns,
+  record {
+    done = made.done;
+    ending = ending;
+    work = record {
+      number = made.number;
+      are_due = made.are_due;
+      ends = subst (λ j. IsOnly (end_of j) ending) made.due_is only;
+      are = all.are ∙ sym (map-append deed_of ending made.done);
+    };
+    alone = refl;
+  },
+  all.grows,
+)
+  where
+    all : AddsTurns (deeds_of ending ++ deeds_of made.done) v t
+    all = both_added (deeds_of made.done) (deeds_of ending) v u t made.adds adds
+
+pub all_stopped : (handles : ℕ) → (w : Worker) → (turns : ℕ) → (due : Job) → (v u t : View)
+    → Cuts handles w turns due v u → Ends due u t
+    → (d : Part) × IsStopped handles w turns d × Grows v d t
+all_stopped handles w turns due v u t cut (ending, only, adds) = (
+  turns_alone all.turns,
+  record {
+    done = cut.done;
+    ending = ending;
+    work = record {
+      fewer = cut.fewer;
+      are_due = cut.are_due;
+      ends = subst (λ j. IsOnly (end_of j) ending) cut.due_is only;
+      are = all.are ∙ ap (λ j. deeds_of ending ++ (lacked j ∷ deeds_of cut.done)) cut.due_is;
+    };
+    alone = refl;
+  },
+  all.grows,
+)
+  where
+    all : AddsTurns (deeds_of ending ++ (lacked due ∷ deeds_of cut.done)) v t
+    all = both_added (lacked due ∷ deeds_of cut.done) (deeds_of ending) v u t cut.adds adds
+
+-- ---- one end
+-- the end of nothing
+pub none_ended : (due : Job) → (v : View) → end_of due ≡ None → Ends due v v
+none_ended due v none = ([], subst (λ o. IsOnly o []) (sym none) refl, none_added v)
+
+pub one_ended : (due last : Job) → (reply : Reply) → (v u : View) → end_of due ≡ Some last
+    → AddsTurns (one_deed last (Some reply)) v u → Ends due v u
+one_ended due last reply v u some adds = (
+  record { job = last; reply = reply } ∷ [],
+  subst (λ o. IsOnly o (record { job = last; reply = reply } ∷ [])) (sym some) (reply, refl),
+  adds,
+)
+
+-- a job that ends something is an abort or a parting
+abbrev IsSomeNot : Option Job → Type 0
+IsSomeNot (Some last) = ⊥
+IsSomeNot None = Unit {0}
+
+abbrev IsSomeEnd : Option Job → Type 0
+IsSomeEnd (Some last) = IsEnd last
+IsSomeEnd None = ⊥
+
+is_end : (due last : Job) → end_of due ≡ Some last → IsEnd last
+is_end job.Ship last e = subst IsSomeEnd e tt
+is_end job.Commit last e = subst IsSomeEnd e tt
+is_end job.Abort last e = subst IsSomeEnd e tt
+is_end job.Patch last e = subst IsSomeEnd e tt
+is_end job.Merge last e = subst IsSomeEnd e tt
+is_end job.Part last e = subst IsSomeEnd e tt
+is_end due last e = absurd (subst IsSomeNot e tt)
+
+pub end_answered : (due last : Job) → (r : Result Reply NoMemory) → (v u : View)
+    → end_of due ≡ Some last → (IsEnd last → IsOk r)
+    → AddsTurns (one_deed last (answer_of r)) v u → Ends due v u
+end_answered due last (Ok reply) v u some ok adds = one_ended due last reply v u some adds
+end_answered due last (Err e) v u some ok adds = absurd (false≢true (ok (is_end due last some)))
+
+-- ---- one pass of one runtime
+pub some_handles : (s : Shared) → (p : Pass) → IsPassOf s p → 0 < s.config.handles
+some_handles s p of = (of.accepted Handles).0
+
+-- what holds of an error, where something holds whatever comes
+pub any_err : {X E : Type 0} → (r : Result X E) → (P : Type 0) → P → OnErr r P
+any_err (Ok x) P p = tt
+any_err (Err e) P p = p

@@ -1,0 +1,114 @@
+-- Worked examples of what the body of a worker adds to a record: a turn of the worker that evicts
+-- and the one that ends its batch; and for each part what breaks that part alone.
+use Rattle.std.proofs.Common.{◌≡◌, suc, ◌+◌, List, [], ◌∷◌, ◌++◌, length, Option, None, Some, refl, ap, ◌∙◌, lit<, arith}
+use Rattle.std.proofs.lemmas.List.{length-append, length-map}
+use Rattle.cb_types.specs.declared.job.Job.{Job}
+use Rattle.cb_types.specs.declared.job.Job.TheVariants as job
+use Rattle.cb_types.specs.declared.reply.Reply.{Reply}
+use Rattle.cb_types.specs.declared.reply.Reply.TheVariants as answer
+use Rattle.cb_world.specs.declared.entry.Entry.{Entry}
+use Rattle.cb_world.specs.declared.shown.Shown.{Shown}
+use Rattle.cb_world.specs.FarState.{FarState}
+use Rattle.cb_rule.specs.declared.turn.Turn.{Turn}
+use Rattle.cb_shared.specs.Parts.{Part}
+use Rattle.cb_workers.specs.Bodies.{IsEnd, IsOwed, IsStopped, IsWorked, turns_alone}
+use Rattle.cb_workers.specs.Rules.{visit}
+use Rattle.cb_workers.specs.Work.{Answered, Deed, deed_of, deeds_of}
+use Rattle.cb_workers.specs.declared.worker.Worker.TheVariants as worker
+
+-- a turn with this job and reply, whatever was known and whatever far state it found
+abbrev turn : Shown → FarState → Job → Option Reply → Turn
+turn start far work reply = record {
+  job = work;
+  reply = reply;
+  start = start;
+  since = 0;
+  until = 0;
+  acts = [];
+  took = far;
+  gave = far;
+}
+
+abbrev begun : Answered
+begun = record { job = job.Begin; reply = answer.Batch (record { n = 0 }) }
+
+abbrev aborted : Answered
+aborted = record { job = job.Abort; reply = answer.Done }
+
+abbrev two_turns : Shown → FarState → List Turn
+two_turns s far = turn s far job.Abort (Some answer.Done)
+    ∷ turn s far job.Begin (Some (answer.Batch (record { n = 0 }))) ∷ []
+
+works : (s : Shown) → (far : FarState) → IsWorked 8 worker.Evict 1 (turns_alone (two_turns s far))
+works s far = record {
+  done = begun ∷ [];
+  ending = aborted ∷ [];
+  work = record {
+    number = refl;
+    are_due = (refl, tt);
+    ends = (answer.Done, refl);
+    are = refl;
+  };
+  alone = refl;
+}
+
+-- no turn was made
+deeds_in : (done ending : List Answered)
+    → length (deeds_of (ending ++ done)) ≡ length ending + length done
+deeds_in done ending = length-map (ending ++ done) deed_of ∙ length-append ending done
+
+not_work : IsWorked 8 worker.Evict 1 (turns_alone []) → ⊥
+not_work w =
+    let number : length w.done ≡ 1 = w.work.number in
+    let all : 0 ≡ length w.ending + length w.done =
+    ap (λ xs. length xs) w.work.are ∙ deeds_in w.done w.ending in
+    omega (arith, number, all)
+
+-- a version was written beside the turns
+not_written : (s : Shown) → (far : FarState) → (e : Entry)
+    → IsWorked 8 worker.Evict 1 (record (turns_alone (two_turns s far)) { written = e ∷ [] }) → ⊥
+not_written s far e w =
+    let same : 1 ≡ 0 = ap (λ (d : Part). length d.written) w.alone in omega (arith, same)
+
+-- a pin was taken
+not_pinned : (s : Shown) → (far : FarState)
+    → IsWorked 8 worker.Evict 1 (record (turns_alone (two_turns s far)) { ever = 1 }) → ⊥
+not_pinned s far w = let same : 1 ≡ 0 = ap (λ (d : Part). d.ever) w.alone in omega (arith, same)
+
+-- the second of two turns found no memory, and the batch was aborted
+stopped : (s : Shown) → (far : FarState) → IsStopped 8 worker.Evict 2
+    (turns_alone (turn s far job.Abort (Some answer.Done) ∷ turn s far job.Ship None
+    ∷ turn s far job.Begin (Some (answer.Batch (record { n = 0 }))) ∷ []))
+stopped s far = record {
+  done = begun ∷ [];
+  ending = aborted ∷ [];
+  work = record {
+    fewer = lit< tt;
+    are_due = (refl, tt);
+    ends = (answer.Done, refl);
+    are = refl;
+  };
+  alone = refl;
+}
+
+-- none did
+some_there : (ds es : List Deed) → (d : Deed) → [] ≡ ds ++ (d ∷ es) → ⊥
+some_there ds es d e =
+    let all : 0 ≡ length (ds ++ (d ∷ es)) = ap (λ xs. length xs) e in
+    let parts : length (ds ++ (d ∷ es)) ≡ length ds + length (d ∷ es) = length-append ds (d ∷ es) in
+    let one : length (d ∷ es) ≡ suc (length es) = refl in
+    omega (arith, all, parts, one)
+
+not_stopped : IsStopped 8 worker.Evict 2 (turns_alone []) → ⊥
+not_stopped w = some_there (deeds_of w.ending) (deeds_of w.done) _ w.work.are
+
+-- ---- the jobs of workers
+owed : IsOwed 8 (visit 7) × IsOwed 8 job.Merge
+owed = (lit< tt, tt)
+
+not_owed : (IsOwed 8 (visit 8) → ⊥) × (IsOwed 8 job.Evict → ⊥)
+    × (IsOwed 8 (job.Crash (record { n = 0 })) → ⊥)
+not_owed = (λ is. omega (arith, is), λ is. is, λ is. is)
+
+ends : IsEnd job.Abort × IsEnd job.Part × (IsEnd job.Commit → ⊥)
+ends = (tt, tt, λ is. is)

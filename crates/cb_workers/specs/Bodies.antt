@@ -1,0 +1,109 @@
+-- What the body of a worker adds to the record of its pass.
+use Rattle.std.specs.Prelude.{◌≡◌, ℕ, ◌<◌, List, [], ◌∷◌, length, map, Option, Some}
+use Rattle.cb_types.specs.declared.job.Job.{Job}
+use Rattle.cb_types.specs.declared.job.Job.TheVariants as job
+use Rattle.cb_types.specs.declared.reply.Reply.{Reply}
+use Rattle.cb_rule.specs.declared.turn.Turn.{Turn}
+use Rattle.cb_rule.specs.declared.view.View.{View}
+use Rattle.cb_shared.specs.declared.pass.Pass.{Pass}
+use Rattle.cb_shared.specs.declared.runtime.Shared.{Shared}
+use Rattle.cb_shared.specs.Parts.{Grows, Part, nothing_more}
+use Rattle.cb_shared.specs.Passes.{IsPassOf}
+use Rattle.cb_workers.specs.Rules.{end_of, next_job}
+use Rattle.cb_workers.specs.Work.{Answered, AreDue, Deed, IsCutShort, IsOnly, IsWork, deeds_of, job_behind, lacked}
+use Rattle.cb_workers.specs.declared.worker.Worker.{Worker}
+
+-- a turn of a record as its job and its reply
+abbrev pub deed : Turn → Deed
+deed t = record {
+  job = t.job;
+  reply = t.reply;
+}
+
+-- turns, and nothing else: no version is written or read, no pin is taken, and no look is made
+-- beside those of the turns
+abbrev pub turns_alone : List Turn → Part
+turns_alone turns = record nothing_more { turns = turns }
+
+-- the work of a worker, as a part of the record of its pass
+pub record IsWorked (handles : ℕ) (w : Worker) (turns : ℕ) (d : Part) : Type 0 where
+  pub done : List Answered
+  pub ending : List Answered
+  pub work : IsWork handles w turns done ending (map deed d.turns)
+  pub alone : d ≡ turns_alone d.turns
+
+-- the work of one that was cut short
+pub record IsStopped (handles : ℕ) (w : Worker) (turns : ℕ) (d : Part) : Type 0 where
+  pub done : List Answered
+  pub ending : List Answered
+  pub work : IsCutShort handles w turns done ending (map deed d.turns)
+  pub alone : d ≡ turns_alone d.turns
+
+-- the pass is one of the runtime, and its record grew by such work
+abbrev pub Works : Shared → Worker → ℕ → Pass → Pass → Type 0
+Works s w turns p q = IsPassOf s q × ((d : Part) × IsWorked s.config.handles w turns d
+    × Grows p.seat.me.0 d q.seat.me.0)
+
+abbrev pub Stops : Shared → Worker → ℕ → Pass → Pass → Type 0
+Stops s w turns p q = IsPassOf s q × ((d : Part) × IsStopped s.config.handles w turns d
+    × Grows p.seat.me.0 d q.seat.me.0)
+
+-- ---- parts of the work
+-- a worker's turn may have such a job
+abbrev pub IsOwed : ℕ → Job → Type 0
+IsOwed handles (job.Filter handle) = handle.n < handles
+IsOwed handles job.Begin = Unit {0}
+IsOwed handles job.Ship = Unit {0}
+IsOwed handles job.Commit = Unit {0}
+IsOwed handles job.Abort = Unit {0}
+IsOwed handles job.Pair = Unit {0}
+IsOwed handles job.Patch = Unit {0}
+IsOwed handles job.Merge = Unit {0}
+IsOwed handles job.Part = Unit {0}
+IsOwed handles job.Rebuild = Unit {0}
+IsOwed handles other = ⊥
+
+-- the job ends what was begun
+abbrev pub IsEnd : Job → Type 0
+IsEnd job.Abort = Unit {0}
+IsEnd job.Part = Unit {0}
+IsEnd other = ⊥
+
+-- the record grew by turns alone, with these jobs and replies
+pub record AddsTurns (deeds : List Deed) (v w : View) : Type 0 where
+  pub turns : List Turn
+  pub are : map deed turns ≡ deeds
+  pub grows : Grows v (turns_alone turns) w
+
+abbrev pub one_deed : Job → Option Reply → List Deed
+one_deed job reply = record { job = job; reply = reply } ∷ []
+
+-- a turn with the job that was due, behind which another one is due
+abbrev pub Steps : ℕ → Worker → Job → Job → View → View → Type 0
+Steps handles w old new v u = (reply : Reply) × (new ≡ next_job handles w old reply)
+    × AddsTurns (one_deed old (Some reply)) v u
+
+-- the turn with the job that is due found no memory
+abbrev pub Lacks : Job → Job → View → View → Type 0
+Lacks old new v u = (new ≡ old) × AddsTurns (lacked old ∷ []) v u
+
+-- what was begun is ended, where this job would go on with it
+abbrev pub Ends : Job → View → View → Type 0
+Ends due v u = (ending : List Answered) × IsOnly (end_of due) ending
+    × AddsTurns (deeds_of ending) v u
+
+-- so many turns were made, and this job is due
+pub record HasMade (handles : ℕ) (w : Worker) (n : ℕ) (due : Job) (v u : View) : Type 0 where
+  pub done : List Answered
+  pub number : length done ≡ n
+  pub are_due : AreDue handles w done
+  pub due_is : due ≡ job_behind handles w done
+  pub adds : AddsTurns (deeds_of done) v u
+
+-- fewer turns were made, and that with the job that is due found no memory
+pub record Cuts (handles : ℕ) (w : Worker) (n : ℕ) (due : Job) (v u : View) : Type 0 where
+  pub done : List Answered
+  pub fewer : length done < n
+  pub are_due : AreDue handles w done
+  pub due_is : due ≡ job_behind handles w done
+  pub adds : AddsTurns (lacked due ∷ deeds_of done) v u

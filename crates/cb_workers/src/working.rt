@@ -1,0 +1,129 @@
+//! How a worker makes its turns.
+ghost use Rattle.std.specs.Prelude.{◌≡◌, IfOk, OnErr, IsOk};
+ghost use Rattle.cb_shared.specs.Passes.{IsPassOf};
+ghost use Rattle.cb_shared.specs.Turning.{answer_of};
+ghost use Rattle.cb_workers.specs.Bodies.{
+  AddsTurns,
+  Cuts,
+  Ends,
+  HasMade,
+  IsEnd,
+  IsOwed,
+  Lacks,
+  Steps,
+  Stops,
+  Works,
+  one_deed,
+};
+ghost use Rattle.cb_workers.specs.Rules.{first_job};
+
+use crate::turns::end_of;
+use crate::worker::Worker;
+use cb_shared::{Pass, Shared};
+use cb_types::{Gate, Job, NoMemory, Reply};
+use std::alloc::Global;
+use std::sync::Wait;
+
+/// A worker's turns, and the end of what it had begun behind the last one, or behind the one for
+/// which there was no memory.
+pub(crate) fn work<R: Wait, G: Gate>(
+    rt: &R,
+    alloc: Global,
+    shared: &Shared,
+    pass: &mut Pass,
+    worker: Worker,
+    turns: u32,
+    gate: &G,
+) -> Result<(), NoMemory>
+    requires of { IsPassOf shared.now pass.old }
+    ensures works { IfOk result (λ _. Works shared.now worker turns pass.old pass.new) }
+    ensures stopped { OnErr result (Stops shared.now worker turns pass.old pass.new) }
+{
+    let mut due = worker.first();
+    let made = make_turns(rt, alloc, shared, pass, worker, turns, gate, &mut due);
+    if end_work(rt, alloc, shared, pass, &due) {
+        gate.after(worker.lane(), turns);
+    }
+    made
+}
+
+/// So many turns, as long as there is memory. What is left is the job that is due: the next one, or
+/// that which found no memory.
+fn make_turns<R: Wait, G: Gate>(
+    rt: &R,
+    alloc: Global,
+    shared: &Shared,
+    pass: &mut Pass,
+    worker: Worker,
+    turns: u32,
+    gate: &G,
+    due: &mut Job,
+) -> Result<(), NoMemory>
+    requires of { IsPassOf shared.now pass.old }
+    requires first { due.old ≡ first_job worker }
+    ensures of { IsPassOf shared.now pass.new }
+    ensures made { IfOk result (λ _. HasMade shared.now.config.handles worker turns due.new
+        pass.old.seat.me.0 pass.new.seat.me.0) }
+    ensures cut { OnErr result (Cuts shared.now.config.handles worker turns due.new
+        pass.old.seat.me.0 pass.new.seat.me.0) }
+{
+    for number in 0..turns {
+        step(rt, alloc, shared, pass, worker, due)?;
+        gate.after(worker.lane(), number);
+    }
+    Ok(())
+}
+
+/// A turn with the job that is due, behind which another one is due.
+fn step<R: Wait>(
+    rt: &R,
+    alloc: Global,
+    shared: &Shared,
+    pass: &mut Pass,
+    worker: Worker,
+    due: &mut Job,
+) -> Result<(), NoMemory>
+    requires of { IsPassOf shared.now pass.old }
+    requires owed { IsOwed shared.now.config.handles due.old }
+    ensures of { IsPassOf shared.now pass.new }
+    ensures steps { IfOk result (λ _. Steps shared.now.config.handles worker due.old due.new
+        pass.old.seat.me.0 pass.new.seat.me.0) }
+    ensures lacks { OnErr result (Lacks due.old due.new pass.old.seat.me.0
+        pass.new.seat.me.0) }
+{
+    let reply = one_turn(rt, alloc, shared, pass, due)?;
+    *due = worker.next(shared.config().handles, due, &reply);
+    Ok(())
+}
+
+/// Ends what was begun, where the job that is due would go on with it. That takes no memory. The
+/// answer is whether there was something to end.
+fn end_work<R: Wait>(rt: &R, alloc: Global, shared: &Shared, pass: &mut Pass, due: &Job) -> bool
+    requires of { IsPassOf shared.now pass.old }
+    ensures of { IsPassOf shared.now pass.new }
+    ensures ends { Ends due.now pass.old.seat.me.0 pass.new.seat.me.0 }
+{
+    if let Some(job) = end_of(due) {
+        let _reply = one_turn(rt, alloc, shared, pass, &job);
+        return true;
+    }
+    false
+}
+
+/// A turn of a worker: nothing but the turn itself comes to the record of its pass.
+fn one_turn<R: Wait>(
+    rt: &R,
+    alloc: Global,
+    shared: &Shared,
+    pass: &mut Pass,
+    job: &Job,
+) -> Result<Reply, NoMemory>
+    requires of { IsPassOf shared.now pass.old }
+    requires owed { IsOwed shared.now.config.handles job.now }
+    ensures of { IsPassOf shared.now pass.new }
+    ensures adds { AddsTurns (one_deed job.now (answer_of result)) pass.old.seat.me.0
+        pass.new.seat.me.0 }
+    ensures memory { IsEnd job.now → IsOk result }
+{
+    shared.turn(rt, alloc, pass, job)
+}
