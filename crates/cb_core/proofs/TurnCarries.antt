@@ -29,7 +29,7 @@ use Rattle.cb_core.specs.Declining.{far_refusal}
 use Rattle.cb_core.specs.Jobs.{IsJob}
 use Rattle.cb_core.specs.Parts.{Holding, NeverDeclined, NeverLacks, at_once, no_room, won}
 use Rattle.cb_core.specs.Turned.{Swaps, SwapLacks, Brings, BringLacks, ComesIn, ComeLacks, Evicts, WinsRoom, EvictLacks, Makes, MakeLacks, Reads, ReadLacks, Writes as WritesAt, Declines, Finds, Does, Stops, IsDeclined}
-use Rattle.cb_core.specs.TurnLeaves.{MakeWrites, WriteWrites, FreeWrites, TurnWrites}
+use Rattle.cb_mutate.specs.JobWrites.{MakeWrites, WriteWrites, FreeWrites, TurnWrites}
 use Rattle.cb_core.proofs.FarJobs.{StaysSound, far_job, note_of}
 use Rattle.cb_core.proofs.TurnComes.{AreLaws, Carries, CarriesLack, Comes, ComesBy, Good, IsNone, IsQuiet, Nil, comes_by, comes_far, comes_more, comes_none, then_none, good_then, with_room, room_stops, where_it_is, brings_in, call_stops, once_here, once_here_stops}
 

@@ -22,7 +22,8 @@ use Rattle.cb_core.specs.Parts.{Holding}
 use Rattle.cb_core.specs.ReadTurn.{BroughtToRead, StoppedToRead}
 use Rattle.cb_core.specs.ReadTurn.BroughtToRead.{worn as first_worn, done as first_done}
 use Rattle.cb_core.specs.Turned.{Reads, ReadLacks, Turned, Stopped, counted, once_counted, worn, done}
-use Rattle.cb_core.specs.TurnLeaves.{OutcomeWrites, TurnLeaves, TurnWrites}
+use Rattle.cb_mutate.specs.JobWrites.{TurnWrites}
+use Rattle.cb_core.specs.TurnLeaves.{OutcomeWrites, TurnLeaves}
 use Rattle.cb_core.proofs.Counting.{counted_sound, job_below}
 use Rattle.cb_core.proofs.FarJobs.{note_of}
 use Rattle.cb_core.proofs.KeptParts.{counted_rises}

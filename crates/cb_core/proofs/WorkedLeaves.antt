@@ -20,7 +20,8 @@ use Rattle.cb_world.specs.declared.homes.Home.{Home}
 use Rattle.cb_world.specs.Written.{Writes, entry, gone}
 use Rattle.cb_world.proofs.Laws.{counted_holds, empty_world_sound, recounted}
 use Rattle.cb_core.specs.Parts.{Holding}
-use Rattle.cb_core.specs.TurnLeaves.{IsNext, TurnLeaves, TurnWrites}
+use Rattle.cb_mutate.specs.JobWrites.{TurnWrites}
+use Rattle.cb_core.specs.TurnLeaves.{IsNext, TurnLeaves}
 use Rattle.cb_core.proofs.Counting.{counted_sound}
 use Rattle.cb_core.proofs.KeptParts.{KeepsNote, counted_rises}
 

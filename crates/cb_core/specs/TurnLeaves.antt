@@ -1,11 +1,9 @@
 -- What a turn leaves over any desk, whatever its outcome.
-use Rattle.std.specs.Prelude.{◌≡◌, ◌⊎◌, ℕ, ◌+◌, ◌^◌, ◌<◌, List, [], ◌∷◌, Result, Ok, Err, length}
+use Rattle.std.specs.Prelude.{◌≡◌, ◌⊎◌, ℕ, ◌+◌, ◌^◌, ◌<◌, List, [], Result, Ok, Err}
 use Rattle.cb_member.specs.declared.no_memory.NoMemory.{NoMemory}
 use Rattle.cb_types.specs.declared.config.Config.{Config}
 use Rattle.cb_types.specs.declared.job.Job.{Job}
-use Rattle.cb_types.specs.declared.job.Job.TheVariants.{Make, Write, Free}
 use Rattle.cb_types.specs.declared.reply.Reply.{Reply}
-use Rattle.cb_types.specs.declared.reply.Reply.TheVariants as answer
 use Rattle.cb_world.specs.declared.entry.Entry.{Entry}
 use Rattle.cb_world.specs.declared.event.Event.{Event}
 use Rattle.cb_world.specs.declared.shown.Shown.{Shown}
@@ -13,35 +11,9 @@ use Rattle.cb_world.specs.FarState.{FarState}
 use Rattle.cb_world.specs.Played.{played}
 use Rattle.cb_world.specs.Sound.{Sound}
 use Rattle.cb_world.specs.World.{AreCounted, IsConfigured}
-use Rattle.cb_world.specs.Write.{IsWrite}
-use Rattle.cb_world.specs.Written.{Writes, entry, gone}
-use Rattle.cb_mutate.specs.WordsOf.{AreWordsOf}
+use Rattle.cb_world.specs.Written.{Writes}
+use Rattle.cb_mutate.specs.JobWrites.{TurnWrites}
 use Rattle.cb_core.specs.Parts.{Holding}
-
--- a make that is answered Made writes the first version of the handle, with its bytes
-abbrev pub MakeWrites : List ℕ → Reply → List Entry → Type 0
-MakeWrites bytes (answer.Made h v) more = (words : List ℕ) × AreWordsOf bytes words
-    × (more ≡ entry h.n v (length bytes) [] words ∷ [])
-MakeWrites bytes r more = more ≡ []
-
--- a write that is answered a version writes that one: the contents with the bytes in them
-abbrev pub WriteWrites : ℕ → ℕ → List ℕ → Reply → List Entry → Type 0
-WriteWrites h at bytes (answer.Version n) more = (len : ℕ) × (old : List ℕ) × (new : List ℕ)
-    × IsWrite old at bytes new × (more ≡ entry h n len old new ∷ [])
-WriteWrites h at bytes r more = more ≡ []
-
--- a free that is answered a version writes that one, which has no contents
-abbrev pub FreeWrites : ℕ → Reply → List Entry → Type 0
-FreeWrites h (answer.Version n) more = (words : List ℕ) × (more ≡ gone h n words ∷ [])
-FreeWrites h r more = more ≡ []
-
--- the versions that a turn with this reply writes: that which a make, a write or a free answered,
--- and no others
-abbrev pub TurnWrites : Job → Reply → List Entry → Type 0
-TurnWrites (Make bytes) r more = MakeWrites bytes r more
-TurnWrites (Write handle at bytes) r more = WriteWrites handle.n at bytes r more
-TurnWrites (Free handle) r more = FreeWrites handle.n r more
-TurnWrites job r more = more ≡ []
 
 -- a turn that found no memory writes none
 abbrev pub OutcomeWrites : Job → Result Reply NoMemory → List Entry → Type 0

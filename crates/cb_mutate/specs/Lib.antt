@@ -19,3 +19,4 @@ pub mod MapCalls
 pub mod MakeStep
 pub mod MapBeside
 pub mod Overwrites
+pub mod JobWrites

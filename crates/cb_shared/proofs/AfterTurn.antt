@@ -23,7 +23,7 @@ use Rattle.cb_rule.specs.Rule.{AreSized}
 use Rattle.cb_rule.specs.Slot.{Sat, Slot}
 use Rattle.cb_rule.specs.Steps.{Knows, act, acted}
 use Rattle.cb_shared.specs.declared.setup.Setup.{Setup}
-use Rattle.cb_shared.specs.Parts.{Part, grown, nothing_more}
+use Rattle.cb_record.specs.Parts.{Part, grown, nothing_more}
 use Rattle.cb_shared.specs.Passes.{IsAtRest}
 use Rattle.cb_shared.specs.Places.{Holds, IsOf, Place}
 use Rattle.cb_shared.specs.SeatLaws.{Runs, acted_known, sized_after}

@@ -11,13 +11,13 @@ use Rattle.cb_types.specs.declared.reply.Reply.TheVariants as answer
 use Rattle.cb_ptr.specs.declared.word.State.TheVariants as state
 use Rattle.cb_ptr.specs.Word.{pins_of, state_of}
 use Rattle.cb_world.specs.declared.entry.Entry.{Entry}
-use Rattle.cb_core.specs.TurnLeaves.{FreeWrites, MakeWrites, WriteWrites}
+use Rattle.cb_mutate.specs.JobWrites.{FreeWrites, MakeWrites, WriteWrites}
 use Rattle.cb_rule.specs.declared.view.Look.{Look}
 use Rattle.cb_rule.specs.declared.view.View.{View}
 use Rattle.cb_rule.specs.Lists.{Each, Has}
 use Rattle.cb_rule.specs.Steps.{Knows, look_at}
 use Rattle.cb_shared.specs.Calls.{AsksFor, AtNone, AtThis, EndsAtLast, IsAnswer, IsAnswerTo, IsCalled, IsInVain, ReadEnds, ReadGives, ReadTries, Stops, TurnEnds, TurnGives, TurnTries, the_handle}
-use Rattle.cb_shared.specs.Parts.{Part, Grows, grown, nothing_more, sum}
+use Rattle.cb_record.specs.Parts.{Part, Grows, grown, nothing_more, sum}
 use Rattle.cb_shared.specs.declared.reading.ReadAnswer.{ReadAnswer}
 use Rattle.cb_shared.specs.declared.reading.ReadAnswer.TheVariants as found
 use Rattle.cb_shared.specs.Reading.{FindsOther, FindsWord, ReadFinds, looked}

@@ -18,7 +18,7 @@ use Rattle.cb_rule.specs.Steps.{IsNewest, Knows, look_at, with_look}
 use Rattle.cb_shared.specs.declared.reading.ReadAnswer.{ReadAnswer}
 use Rattle.cb_shared.specs.declared.reading.ReadAnswer.TheVariants as found
 use Rattle.cb_shared.specs.declared.setup.Setup.{Setup}
-use Rattle.cb_shared.specs.Parts.{Part, grown, nothing_more, sum}
+use Rattle.cb_record.specs.Parts.{Part, grown, nothing_more, sum}
 use Rattle.cb_shared.specs.Places.{IsOf, Moves, Place}
 use Rattle.cb_shared.specs.Reading.{ReadFinds, ReadMoves, looked}
 use Rattle.cb_shared.specs.Turning.{AreLooksAt, FindsAtLast, Tries}

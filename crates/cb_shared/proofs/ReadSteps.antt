@@ -13,7 +13,7 @@ use Rattle.cb_rule.specs.Steps.{IsNewest, stand, with_freed, with_look, with_pin
 use Rattle.cb_shared.specs.declared.reading.ReadAnswer.{ReadAnswer}
 use Rattle.cb_shared.specs.declared.reading.ReadAnswer.TheVariants.{Bytes, Freed, NotHere, Moving, Crowded, Raced}
 use Rattle.cb_shared.specs.Glances.{Glances, TellsVersion}
-use Rattle.cb_shared.specs.Parts.{grown}
+use Rattle.cb_record.specs.Parts.{grown}
 use Rattle.cb_shared.specs.Places.{Place, Moves}
 use Rattle.cb_shared.specs.Reading.{IsReadAt, IsReadRefusal, IsUnderPin, ReadAt, ReadMoves, looked, looked_freed, looked_twice, read_once, with_read}
 use Rattle.cb_shared.proofs.Resting.{far_empty, here_empty, moving_empty, view_of}

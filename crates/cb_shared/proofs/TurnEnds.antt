@@ -14,7 +14,7 @@ use Rattle.cb_rule.specs.Lists.{Each, Has}
 use Rattle.cb_rule.specs.Slot.{Sat}
 use Rattle.cb_rule.specs.Steps.{Knows}
 use Rattle.cb_shared.specs.Handles.{handles_of}
-use Rattle.cb_shared.specs.Parts.{Part, grown, nothing_more}
+use Rattle.cb_record.specs.Parts.{Part, grown, nothing_more}
 use Rattle.cb_shared.specs.Passes.{IsAtRest}
 use Rattle.cb_shared.specs.Places.{Place}
 use Rattle.cb_shared.specs.Turning.{KnowsIt, KnowsOf, TurnBy, answer_of, freed_of, made_by, object_of, turn_part, with_own}

@@ -10,7 +10,7 @@ use Rattle.cb_rule.specs.Lists.{Each}
 use Rattle.cb_rule.specs.Steps.{IsNewest, look_at}
 use Rattle.cb_shared.specs.declared.answers.WriteAnswer.TheVariants as place
 use Rattle.cb_shared.specs.Calls.{AtNone, AtThis, EndsAtLast, IsAnswer, IsAnswerTo, IsInVain, IsLack, IsWornOut, IsWrittenOnce, ReadEnds, SaysAs, Stops, WriteFinds, is_to_try_again, may_come_loose, newest_tries, the_handle, written_once}
-use Rattle.cb_shared.specs.Parts.{Part, grown, nothing_more, sum}
+use Rattle.cb_record.specs.Parts.{Part, grown, nothing_more, sum}
 use Rattle.cb_shared.specs.Reading.{looked, looked_freed, looked_twice, read_once}
 use Rattle.cb_shared.proofs.WorkedGround.{away, calm, made, moving, newest_made, not_second, part, pinned, two, version_in}
 use Rattle.cb_shared.proofs.WorkedWrites.{write_it}

@@ -7,7 +7,7 @@ use Rattle.cb_world.specs.Memory.{bytes_in}
 use Rattle.cb_rule.specs.declared.view.Seen.{Seen}
 use Rattle.cb_rule.specs.Steps.{IsNewest, look_at, with_look}
 use Rattle.cb_shared.specs.declared.reading.ReadAnswer.TheVariants.{Bytes, Freed, NotHere, Moving, Crowded, Raced}
-use Rattle.cb_shared.specs.Parts.{Part, nothing_more}
+use Rattle.cb_record.specs.Parts.{Part, nothing_more}
 use Rattle.cb_shared.specs.Reading.{FindsGone, FindsOther, FindsWord, IsReadHere, ReadFinds, looked, looked_freed, looked_twice, read_once}
 use Rattle.cb_shared.proofs.WorkedGround.{away, calm, full, moving, newest_made, part, pinned, word_in}
 

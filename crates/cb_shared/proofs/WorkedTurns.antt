@@ -14,7 +14,7 @@ use Rattle.cb_rule.specs.declared.turn.Turn.{Turn}
 use Rattle.cb_rule.specs.declared.view.Look.{Look}
 use Rattle.cb_rule.specs.declared.view.View.{View}
 use Rattle.cb_rule.specs.Steps.{look_at}
-use Rattle.cb_shared.specs.Parts.{Part, grown, nothing_more}
+use Rattle.cb_record.specs.Parts.{Part, grown, nothing_more}
 use Rattle.cb_shared.specs.Turning.{AreLooksAt, Did, KnowsOf, ReadsByPin, Slate, TellsNoPin, TurnAdds, TurnBy, freed_of, held_by, made_by, object_of, slate_run, turn_part}
 use Rattle.cb_shared.proofs.WorkedGround.{made, part, two}
 

@@ -12,7 +12,7 @@ use Rattle.cb_rule.specs.Steps.{look_at, with_look}
 use Rattle.cb_shared.specs.declared.answers.WriteAnswer.{WriteAnswer}
 use Rattle.cb_shared.specs.declared.answers.WriteAnswer.TheVariants as place
 use Rattle.cb_shared.specs.Calls.{AtNone, AtThis, EndsAtLast, IsNoReply, IsInVain, SaysAs, Stops, TurnTries, WriteAnswers, WriteEnds, WriteFinds, WriteTries, the_handle, written_once}
-use Rattle.cb_shared.specs.Parts.{Part, Grows, grown}
+use Rattle.cb_record.specs.Parts.{Part, Grows, grown}
 use Rattle.cb_shared.specs.Reading.{looked, looked_freed, looked_twice}
 use Rattle.cb_shared.specs.Writing.{WriteGives}
 use Rattle.cb_shared.proofs.CallSteps.{ends_after, look_asks, look_stops, stops_then, vain_look}

@@ -17,7 +17,7 @@ use Rattle.cb_rule.specs.Lists.{Each}
 use Rattle.cb_rule.specs.Steps.{IsNewest, look_at}
 use Rattle.cb_shared.specs.declared.answers.WriteAnswer.{WriteAnswer}
 use Rattle.cb_shared.specs.declared.answers.WriteAnswer.TheVariants as place
-use Rattle.cb_shared.specs.Parts.{Part, Grows, grown, nothing_more, sum}
+use Rattle.cb_record.specs.Parts.{Part, Grows, grown, nothing_more, sum}
 use Rattle.cb_shared.specs.Reading.{FindsGone, FindsOther, FindsWord, IsReadHere, looked, looked_twice}
 use Rattle.cb_shared.specs.Turning.{TurnAdds, made_by, with_own}
 use Rattle.cb_shared.specs.Writing.{IsPastEnd, IsPinnedSo, IsRoomFor}

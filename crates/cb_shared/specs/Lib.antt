@@ -1,5 +1,4 @@
 pub mod Places
-pub mod Parts
 pub mod SeatLaws
 pub mod Handles
 pub mod Passes

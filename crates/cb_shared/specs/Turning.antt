@@ -22,7 +22,7 @@ use Rattle.cb_rule.specs.Lists.{Each}
 use Rattle.cb_rule.specs.Steps.{Knows}
 use Rattle.cb_shared.specs.declared.reading.ReadAnswer.{ReadAnswer}
 use Rattle.cb_shared.specs.declared.reading.ReadAnswer.TheVariants as found
-use Rattle.cb_shared.specs.Parts.{Part, grown, nothing_more, sum}
+use Rattle.cb_record.specs.Parts.{Part, grown, nothing_more, sum}
 use Rattle.cb_shared.specs.Reading.{ReadFinds}
 
 -- a desk that is plain data: what is known, and the events so far

@@ -28,7 +28,7 @@ use Rattle.cb_rule.specs.Slot.{Slot}
 use Rattle.cb_rule.specs.Steps.{acted}
 use Rattle.cb_shared.specs.declared.reading.ReadAnswer.{ReadAnswer}
 use Rattle.cb_shared.specs.declared.reading.ReadAnswer.TheVariants as found
-use Rattle.cb_shared.specs.Parts.{Part, grown, nothing_more}
+use Rattle.cb_record.specs.Parts.{Part, grown, nothing_more}
 use Rattle.cb_shared.specs.Places.{Moves, Place}
 use Rattle.cb_shared.specs.SeatLaws.{Runs}
 use Rattle.cb_shared.specs.Turning.{Did, DidAs, FindsAtLast, FindsFreed, JobReads, Tries, answer_of, held_by, made_by, slate_run, slate_shows, turn_part, with_own}

@@ -7,7 +7,7 @@ ghost use Rattle.cb_shared.specs.declared.answers.WriteAnswer.TheVariants as pla
 ghost use Rattle.cb_core.specs.Jobs.{IsJob};
 ghost use Rattle.cb_rule.specs.Steps.{Knows};
 ghost use Rattle.cb_shared.specs.Calls.{AtNone, AtThis, IsAnswerTo, IsCalled, IsLack, IsNoReply, ReadGives, ReadTries, SaysAs, Stops, TellsOfIt, TurnGives, TurnTries, WriteAnswers, WriteTries, is_to_try_again, may_come_loose, the_handle};
-ghost use Rattle.cb_shared.specs.Parts.{Part, Grows};
+ghost use Rattle.cb_record.specs.Parts.{Part, Grows};
 ghost use Rattle.cb_shared.specs.Passes.{IsPassOf};
 ghost use Rattle.cb_shared.specs.Reading.{ReadFinds, looked};
 ghost use Rattle.cb_shared.specs.Turning.{KnowsOf};

@@ -8,7 +8,7 @@ ghost use Rattle.cb_rule.specs.declared.view.Stand.{Stand};
 ghost use Rattle.cb_rule.specs.Lists.{Has};
 ghost use Rattle.cb_rule.specs.Steps.{Knows};
 ghost use Rattle.cb_shared.specs.declared.reading.ReadAnswer.{ReadAnswer};
-ghost use Rattle.cb_shared.specs.Parts.{grown};
+ghost use Rattle.cb_record.specs.Parts.{grown};
 ghost use Rattle.cb_shared.specs.Places.{IsOf, Moves};
 ghost use Rattle.cb_shared.specs.Reading.{IsReadRefusal, IsUnderPin, ReadAt, ReadMoves, looked};
 

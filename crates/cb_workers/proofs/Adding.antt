@@ -3,9 +3,9 @@ use Rattle.std.proofs.Common.{◌≡◌, ℕ, ◌+◌, List, [], ◌++◌, refl,
 use Rattle.std.proofs.lemmas.List.{map-append}
 use Rattle.cb_rule.specs.declared.turn.Turn.{Turn}
 use Rattle.cb_rule.specs.declared.view.View.{View}
-use Rattle.cb_shared.specs.Parts.{grown}
-use Rattle.cb_workers.specs.Bodies.{AddsTurns, deed, turns_alone}
-use Rattle.cb_workers.specs.Work.{Deed}
+use Rattle.cb_record.specs.Parts.{grown}
+use Rattle.cb_workers.specs.Bodies.{AddsTurns, turns_alone}
+use Rattle.cb_record.specs.Deeds.{Deed, deed}
 
 no_pin : (n : ℕ) → n ≡ n + 0
 no_pin n = omega arith

@@ -7,7 +7,8 @@ use Rattle.cb_types.specs.declared.job.Job.TheVariants as job
 use Rattle.cb_types.specs.declared.reply.Reply.{Reply}
 use Rattle.cb_types.specs.declared.reply.Reply.TheVariants as answer
 use Rattle.cb_workers.specs.Rules.{after_batch, after_pair, end_of, first_job, next_job, owner}
-use Rattle.cb_workers.specs.Work.{Answered, AreDue, AreOf, Deed, IsCutShort, IsOnly, IsWork, deed_of, deeds_of, job_behind, lacked}
+use Rattle.cb_record.specs.Deeds.{Deed}
+use Rattle.cb_workers.specs.Work.{Answered, AreDue, AreOf, IsCutShort, IsOnly, IsWork, deed_of, deeds_of, job_behind, lacked}
 use Rattle.cb_workers.specs.declared.worker.Worker.{Worker}
 use Rattle.cb_workers.specs.declared.worker.Worker.TheVariants as worker
 

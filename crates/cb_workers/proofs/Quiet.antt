@@ -7,10 +7,11 @@ use Rattle.cb_types.specs.declared.job.Job.TheVariants as job
 use Rattle.cb_types.specs.declared.reply.Reply.{Reply}
 use Rattle.cb_types.specs.declared.reply.Reply.TheVariants as answer
 use Rattle.cb_world.specs.declared.entry.Entry.{Entry}
-use Rattle.cb_core.specs.TurnLeaves.{OutcomeWrites, TurnWrites}
+use Rattle.cb_mutate.specs.JobWrites.{TurnWrites}
+use Rattle.cb_core.specs.TurnLeaves.{OutcomeWrites}
 use Rattle.cb_rule.specs.declared.turn.Turn.{Turn}
 use Rattle.cb_rule.specs.declared.view.View.{View}
-use Rattle.cb_shared.specs.Parts.{Part, grown, nothing_more}
+use Rattle.cb_record.specs.Parts.{Part, grown, nothing_more}
 use Rattle.cb_shared.specs.Turning.{DidAs, FindsFreed, JobReads, TurnBy, answer_of, freed_of, made_by, object_of, turn_part, with_own}
 use Rattle.cb_workers.specs.Bodies.{AddsTurns, IsEnd, IsOwed, one_deed, turns_alone}
 

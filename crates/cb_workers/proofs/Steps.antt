@@ -11,7 +11,7 @@ use Rattle.cb_types.specs.declared.reply.Reply.TheVariants as answer
 use Rattle.cb_rule.specs.declared.view.View.{View}
 use Rattle.cb_shared.specs.declared.pass.Pass.{Pass}
 use Rattle.cb_shared.specs.declared.runtime.Shared.{Shared}
-use Rattle.cb_shared.specs.Parts.{Grows, Part}
+use Rattle.cb_record.specs.Parts.{Grows, Part}
 use Rattle.cb_shared.specs.Passes.{IsPassOf}
 use Rattle.cb_shared.specs.Turning.{answer_of}
 use Rattle.cb_workers.specs.Rules.{after_batch, after_pair, end_of, first_job, next_job, visited}

@@ -10,10 +10,11 @@ use Rattle.cb_world.specs.declared.entry.Entry.{Entry}
 use Rattle.cb_world.specs.declared.shown.Shown.{Shown}
 use Rattle.cb_world.specs.FarState.{FarState}
 use Rattle.cb_rule.specs.declared.turn.Turn.{Turn}
-use Rattle.cb_shared.specs.Parts.{Part}
+use Rattle.cb_record.specs.Parts.{Part}
 use Rattle.cb_workers.specs.Bodies.{IsEnd, IsOwed, IsStopped, IsWorked, turns_alone}
 use Rattle.cb_workers.specs.Rules.{visit}
-use Rattle.cb_workers.specs.Work.{Answered, Deed, deed_of, deeds_of}
+use Rattle.cb_record.specs.Deeds.{Deed}
+use Rattle.cb_workers.specs.Work.{Answered, deed_of, deeds_of}
 use Rattle.cb_workers.specs.declared.worker.Worker.TheVariants as worker
 
 -- a turn with this job and reply, whatever was known and whatever far state it found

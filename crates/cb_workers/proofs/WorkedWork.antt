@@ -7,7 +7,8 @@ use Rattle.cb_types.specs.declared.reply.Reply.TheVariants as answer
 use Rattle.cb_types.specs.Jobs.{job_index}
 use Rattle.cb_workers.specs.declared.worker.Worker.{Worker}
 use Rattle.cb_workers.specs.declared.worker.Worker.TheVariants as worker
-use Rattle.cb_workers.specs.Work.{Answered, AreOf, Deed, AreDue, IsCutShort, IsWork, deed_of, deeds_of, lacked}
+use Rattle.cb_record.specs.Deeds.{Deed}
+use Rattle.cb_workers.specs.Work.{Answered, AreOf, AreDue, IsCutShort, IsWork, deed_of, deeds_of, lacked}
 
 abbrev begun : Answered
 begun = record { job = job.Begin; reply = answer.Batch (record { n = 0 }) }

@@ -7,18 +7,12 @@ use Rattle.cb_rule.specs.declared.turn.Turn.{Turn}
 use Rattle.cb_rule.specs.declared.view.View.{View}
 use Rattle.cb_shared.specs.declared.pass.Pass.{Pass}
 use Rattle.cb_shared.specs.declared.runtime.Shared.{Shared}
-use Rattle.cb_shared.specs.Parts.{Grows, Part, nothing_more}
+use Rattle.cb_record.specs.Parts.{Grows, Part, nothing_more}
 use Rattle.cb_shared.specs.Passes.{IsPassOf}
 use Rattle.cb_workers.specs.Rules.{end_of, next_job}
-use Rattle.cb_workers.specs.Work.{Answered, AreDue, Deed, IsCutShort, IsOnly, IsWork, deeds_of, job_behind, lacked}
+use Rattle.cb_record.specs.Deeds.{Deed, deed}
+use Rattle.cb_workers.specs.Work.{Answered, AreDue, IsCutShort, IsOnly, IsWork, deeds_of, job_behind, lacked}
 use Rattle.cb_workers.specs.declared.worker.Worker.{Worker}
-
--- a turn of a record as its job and its reply
-abbrev pub deed : Turn → Deed
-deed t = record {
-  job = t.job;
-  reply = t.reply;
-}
 
 -- turns, and nothing else: no version is written or read, no pin is taken, and no look is made
 -- beside those of the turns

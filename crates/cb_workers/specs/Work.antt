@@ -4,6 +4,7 @@ use Rattle.std.specs.Prelude.{◌≡◌, ℕ, ◌<◌, List, [], ◌∷◌, ◌+
 use Rattle.cb_types.specs.declared.job.Job.{Job}
 use Rattle.cb_types.specs.declared.reply.Reply.{Reply}
 use Rattle.cb_rule.specs.Lists.{Each}
+use Rattle.cb_record.specs.Deeds.{Deed}
 use Rattle.cb_workers.specs.Rules.{end_of, first_job, next_job, owner}
 use Rattle.cb_workers.specs.declared.worker.Worker.{Worker}
 
@@ -11,11 +12,6 @@ use Rattle.cb_workers.specs.declared.worker.Worker.{Worker}
 pub record Answered : Type 0 where
   pub job : Job
   pub reply : Reply
-
--- a turn as a record of turns has it: none for the reply where there was no memory
-pub record Deed : Type 0 where
-  pub job : Job
-  pub reply : Option Reply
 
 abbrev pub deed_of : Answered → Deed
 deed_of a = record {

@@ -1,6 +1,6 @@
 use Rattle.std.proofs.Common.{ℕ, refl, sym, subst}
 use Rattle.std.specs.Prelude.{Option}
-use Rattle.cb_shared.specs.Parts.{nothing_more}
+use Rattle.cb_record.specs.Parts.{nothing_more}
 use Rattle.cb_shared.specs.Turning.{FindsFreed}
 use Rattle.cb_shared.proofs.ReadParts.{not_moved}
 use Rattle.cb_shared.proofs.freed.find_freed.Goals as goal

@@ -1,6 +1,6 @@
 use Rattle.cb_rule.specs.Steps.{with_look}
 use Rattle.cb_shared.specs.declared.reading.ReadAnswer.TheVariants as found
-use Rattle.cb_shared.specs.Parts.{grown, nothing_more, sum}
+use Rattle.cb_record.specs.Parts.{grown, nothing_more, sum}
 use Rattle.cb_shared.specs.Reading.{looked}
 use Rattle.cb_shared.proofs.ReadParts.{grown_moves, here_look, look_found, looks_know, more_looks, no_looks, not_moved, of_grown}
 use Rattle.cb_shared.proofs.ReadSteps.{look_part, moves_as, refused_moves}

@@ -1,4 +1,4 @@
-use Rattle.cb_shared.specs.Parts.{nothing_more}
+use Rattle.cb_record.specs.Parts.{nothing_more}
 use Rattle.cb_shared.proofs.ReadParts.{looks_few, looks_know, no_looks, not_moved, of_grown, try_ends, try_lost}
 use Rattle.cb_shared.proofs.working.read_tried.Goals as goal
 

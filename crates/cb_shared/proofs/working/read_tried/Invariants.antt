@@ -1,4 +1,4 @@
-use Rattle.cb_shared.specs.Parts.{Part, grown}
+use Rattle.cb_record.specs.Parts.{Part, grown}
 use Rattle.cb_shared.specs.Places.{Moves}
 use Rattle.cb_shared.specs.Turning.{AreLooksAt}
 use Rattle.cb_shared.proofs.working.read_tried.Given as goal

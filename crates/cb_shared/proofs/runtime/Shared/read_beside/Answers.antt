@@ -2,7 +2,7 @@ use Rattle.std.proofs.Common.{◌≡◌, ◌∙◌, ℕ, sym, ap}
 use Rattle.std.proofs.lemmas.Result.{IfOk-weaker, on_err_weaker}
 use Rattle.crossbeam_utils.specs.Padded.{padded_value}
 use Rattle.cb_shared.specs.Handles.{handles_of}
-use Rattle.cb_shared.specs.Parts.{grown}
+use Rattle.cb_record.specs.Parts.{grown}
 use Rattle.cb_shared.specs.Reading.{looked}
 use Rattle.cb_shared.proofs.ReadKept.{kept_read}
 use Rattle.cb_shared.proofs.Resting.{known_below, view_of}

@@ -5,7 +5,7 @@ use Rattle.cb_types.specs.declared.reply.Reply.{Reply}
 use Rattle.cb_rule.specs.declared.view.View.{View}
 use Rattle.cb_shared.specs.declared.reading.ReadAnswer.{ReadAnswer}
 use Rattle.cb_shared.specs.Calls.{the_handle}
-use Rattle.cb_shared.specs.Parts.{Part, Grows, grown}
+use Rattle.cb_record.specs.Parts.{Part, Grows, grown}
 use Rattle.cb_shared.specs.Reading.{ReadFinds, looked}
 use Rattle.cb_shared.proofs.CallSteps.{away_stops, away_tries, err_always, found_bytes, found_crowded, found_freed, found_moving, found_raced, lacks_room}
 use Rattle.cb_shared.proofs.Resting.{known_below}

@@ -1,4 +1,4 @@
--- What a call adds to the record of its pass.
+-- A part of the record of a pass: what a call, a line or a body adds to it.
 use Rattle.std.specs.Prelude.{◌≡◌, ℕ, ◌+◌, List, [], ◌++◌}
 use Rattle.cb_world.specs.declared.entry.Entry.{Entry}
 use Rattle.cb_rule.specs.declared.turn.Turn.{Turn}

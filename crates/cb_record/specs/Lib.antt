@@ -1,0 +1,6 @@
+pub mod Parts
+pub mod Deeds
+pub mod Lists
+pub mod Told
+pub mod Needs
+pub mod Backs

@@ -1,0 +1,19 @@
+-- Lists beside lists.
+use Rattle.std.specs.Prelude.{◌≡◌, ◌⊎◌, ℕ, ◌+◌, List, [], ◌∷◌, ◌++◌}
+
+module _ {A : Type 0} where
+  -- an element of the list has the property
+  abbrev pub HasOne : (A → Type 0) → List A → Type 0
+  HasOne P [] = ⊥
+  HasOne P (x ∷ xs) = P x ⊎ HasOne P xs
+
+-- what the elements give, those of the last one first
+abbrev pub newest_first : {A B : Type 0} → (A → List B) → List A → List B
+newest_first f [] = []
+newest_first f (x ∷ xs) = newest_first f xs ++ f x
+
+-- the one list is the other, less some of its elements
+pub data IsAmong {A : Type 0} : List A → List A → Type 0 where
+  ended : IsAmong [] []
+  beside : (xs : List A) (y : A) (ys : List A) → IsAmong xs ys → IsAmong xs (y ∷ ys)
+  both : (x : A) (xs ys : List A) → IsAmong xs ys → IsAmong (x ∷ xs) (x ∷ ys)
