@@ -3,6 +3,7 @@ pub mod Names
 pub mod GivingBack
 pub mod LinesLeft
 pub mod CompactsHere
+pub mod LineGoes
 pub mod LineStep
 pub mod LinesSoundly
 pub mod LineAnswered

@@ -4,3 +4,4 @@ pub mod Lists
 pub mod Told
 pub mod Needs
 pub mod Backs
+pub mod Rises
