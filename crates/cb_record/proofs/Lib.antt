@@ -1,0 +1,3 @@
+mod Listing
+mod Summing
+pub mod Laws

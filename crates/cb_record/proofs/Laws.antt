@@ -1,0 +1,2 @@
+-- The lemmas of this crate that other crates cite.
+pub use Rattle.cb_record.proofs.Summing.{backs_still, backs_sum, grown-nothing_more, grown-sum, idle_backs, nothing_more-sum, sum-nothing_more, sum-sum, tolds-append}
