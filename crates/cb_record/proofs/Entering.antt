@@ -1,6 +1,5 @@
 -- The changes of calls are the entries of their record.
-use Rattle.std.proofs.Common.{◌≡◌, ◌⊎◌, ℕ, ◌+◌, ◌<◌, ◌≤◌, ◌&&◌, Bool, true, false, cond, eqb, List, [], ◌∷◌, ◌++◌, length, Option, Some, None, sym, refl, ap, ◌∙◌, subst, inl, inr, ⊎_elim, eq-eqb, ne_eqb, eqb-true, true≢false, arith}
-use Rattle.std.specs.List.{AllByRecursion}
+use Rattle.std.proofs.Common.{◌≡◌, ◌⊎◌, ℕ, List, [], ◌∷◌, Option, Some, None, refl, subst, inl, inr}
 use Rattle.cb_types.specs.declared.answer.Answer.{Answer}
 use Rattle.cb_types.specs.declared.reply.Reply.{Reply}
 use Rattle.cb_types.specs.declared.reply.Reply.TheVariants as answer
@@ -8,21 +7,15 @@ use Rattle.cb_types.specs.declared.request.Request.{Request}
 use Rattle.cb_types.specs.declared.request.Request.TheVariants as request
 use Rattle.cb_world.specs.declared.entry.Entry.{Entry}
 use Rattle.cb_rule.specs.declared.view.View.{View}
-use Rattle.cb_rule.specs.History.{is_version}
-use Rattle.cb_rule.specs.Lists.{times, Has}
-use Rattle.cb_rule.proofs.Laws.{by_case, times-append}
 use Rattle.cb_model.specs.Now.{Change}
 use Rattle.cb_model.specs.Now.Change.{Create, Overwrite, Remove}
-use Rattle.cb_model.specs.Called.{Called, calls_behind, changes_to, handle_for, is_about}
+use Rattle.cb_model.specs.Called.{Called, handle_for}
 use Rattle.cb_model.specs.Event.{Event, Subject, change_of, event_of, refusal}
 use Rattle.cb_model.specs.Event.Subject.{NewObject, Contents, Other, Nothing}
 use Rattle.cb_model.specs.Event.Event.{Makes, Shows, Pins, Writes, Frees, FindsFull, FindsUnmade, FindsFreed, FindsEnd, Refused, Wrong}
-use Rattle.cb_record.specs.Backs.{EntersAt, Wrote}
-use Rattle.cb_record.specs.Lists.{HasOne}
-use Rattle.cb_record.specs.Told.{told, tolds}
-use Rattle.cb_record.specs.Upheld.{IsUpheld, Upholds}
-use Rattle.cb_record.proofs.Links.{Fits, IsEntered, StandsFor}
-use Rattle.cb_record.proofs.Listing.{all_append, has_left, has_one_left, has_one_right, has_right}
+use Rattle.cb_record.specs.Backs.{EntersAt}
+use Rattle.cb_record.specs.Upheld.{IsUpheld}
+use Rattle.cb_record.proofs.Links.{StandsFor}
 
 -- an answer changed nothing and entered nothing, or made one change and one entry
 pub record IsOne (handle : Option ℕ) (cs : List (ℕ × Change)) (own : List Entry) : Type 0 where
@@ -114,7 +107,7 @@ module _ (first handles : ℕ) (calls : List Called) (v : View) where
   none_quiet Wrong up = refl
 
   -- each answer changed what it entered
-  enters : (before : List Answer) (handle : Option ℕ) (q : Request) (r : Reply) (own : List Entry)
+  pub enters : (before : List Answer) (handle : Option ℕ) (q : Request) (r : Reply) (own : List Entry)
       → handle_for before q r ≡ handle → IsUpheld first handles calls v handle (event_of q r)
       → EntersAt handle q r own → AreAlike handle (change_of (event_of q r)) own
   enters before handle (request.Make name bytes) r own is up e =

@@ -3,4 +3,6 @@ mod Summing
 mod Links
 mod Ordering
 mod Entering
+mod Pieces
+mod Histories
 pub mod Laws
