@@ -5,4 +5,6 @@ mod Ordering
 mod Entering
 mod Pieces
 mod Histories
+mod Replied
+mod Legality
 pub mod Laws
