@@ -7,4 +7,6 @@ mod Pieces
 mod Histories
 mod Replied
 mod Legality
+mod Meeting
+mod Rising
 pub mod Laws

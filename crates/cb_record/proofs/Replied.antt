@@ -6,9 +6,7 @@ use Rattle.std.proofs.lemmas.List.{ext_get_or}
 use Rattle.std.proofs.lemmas.List.FromFn.{get_or-map-range_with_len}
 use Rattle.cb_types.specs.declared.answer.Answer.{Answer}
 use Rattle.cb_types.specs.declared.reply.Reply.{Reply}
-use Rattle.cb_types.specs.declared.reply.Reply.TheVariants as answer
 use Rattle.cb_types.specs.declared.request.Request.{Request}
-use Rattle.cb_types.specs.declared.request.Request.TheVariants as request
 use Rattle.cb_world.specs.declared.entry.Entry.{Entry}
 use Rattle.cb_world.specs.Memory.{byte_at, bytes_in, words_for}
 use Rattle.cb_mutate.proofs.Laws.{bytes_length}
@@ -19,7 +17,7 @@ use Rattle.cb_rule.specs.Promised.{EntriesStand}
 use Rattle.cb_rule.specs.Records.{seen_of}
 use Rattle.cb_model.specs.declared.object.Object.TheVariants.{Held, Freed}
 use Rattle.cb_model.specs.Called.{Called, calls_behind, history, handle_for}
-use Rattle.cb_model.specs.Event.{Event, Subject, event_of, refusal}
+use Rattle.cb_model.specs.Event.{Event, event_of}
 use Rattle.cb_model.specs.Event.Subject.{NewObject, Contents, Other, Nothing}
 use Rattle.cb_model.specs.Event.Event.{Makes, Shows, Pins, Writes, Frees, FindsFull, FindsUnmade, FindsFreed, FindsEnd, Refused, Wrong}
 use Rattle.cb_model.specs.History.{IsMadeWith, at_version, left_by}
@@ -31,8 +29,9 @@ use Rattle.cb_record.specs.Told.{tolds}
 use Rattle.cb_record.specs.Upheld.{IsSeenLong, IsUpheld, OneLength, Upholds, as_part}
 use Rattle.cb_record.proofs.Histories.{linked, written}
 use Rattle.cb_record.proofs.Links.{AreTrue}
+use Rattle.cb_record.proofs.Meeting.{IsMet, met}
 
-find_one : {A : Type 0} (P : A → Type 0) (xs : List A) → HasOne P xs → (x : A) × Has x xs × P x
+pub find_one : {A : Type 0} (P : A → Type 0) (xs : List A) → HasOne P xs → (x : A) × Has x xs × P x
 find_one P [] h = absurd h
 find_one P (x ∷ xs) h = ⊎_elim (λ (p : P x). (x, inl refl, p))
     (λ (q : HasOne P xs). let z = find_one P xs q in (z.0, inr z.1, z.2)) h
@@ -51,22 +50,6 @@ same_bytes xs ys len same = ext_get_or 0 (bytes_in xs len) (bytes_in ys len)
     (λ k low. let below : k < len = let l = bytes_length xs len in omega (arith, l, low) in
     byte_in xs len k below ∙ ap (λ (w : ℕ). get_or (to_le_bytes w64 w) (k % 8) 0)
     (same (k / 8) (omega (arith, below))) ∙ sym (byte_in ys len k below))
-
--- an answer that asks nothing of the record but what is upheld
-abbrev IsOther : Event → Type 0
-IsOther (Shows version bytes) = ⊥
-IsOther (Pins version) = ⊥
-IsOther FindsFreed = ⊥
-IsOther event = Unit {0}
-
-refusal_other : (s : Subject) (r : Reply) → (s ≡ Contents → ⊥) → IsOther (refusal s r)
-refusal_other Contents r not = absurd (not refl)
-refusal_other NewObject answer.Freed not = tt
-refusal_other NewObject r not = tt
-refusal_other Other answer.Freed not = tt
-refusal_other Other r not = tt
-refusal_other Nothing answer.Freed not = tt
-refusal_other Nothing r not = tt
 
 module _ (first handles : ℕ) (calls : List Called) (v : View) where
   none_true : (e : Event) → IsUpheld first handles calls v None e → IsTrueOf handles calls None e
@@ -148,76 +131,25 @@ module _ (first handles : ℕ) (calls : List Called) (v : View) where
         (ap (bytes_in z.0.words) z.2.3 ∙ sym (same_bytes peeked.words z.0.words (length bytes) word)
         ∙ sym peeked.bytes_are)
 
-    other_true : (e : Event) → IsOther e → IsUpheld first handles calls v (Some h) e
+    -- what an answer tells, by what the record has for it and what is upheld
+    some_true : (e : Event) → IsMet (as_part v) h e → IsUpheld first handles calls v (Some h) e
         → IsTrueOf handles calls (Some h) e
-    other_true (Makes bytes version) o up = up.0
-    other_true (Writes at bytes version) o up = tt
-    other_true (Frees version) o up = tt
-    other_true (Shows version bytes) o up = absurd o
-    other_true (Pins version) o up = absurd o
-    other_true (FindsFull number) o up = up
-    other_true FindsUnmade o up = absurd up
-    other_true FindsFreed o up = absurd o
-    other_true (FindsEnd at bytes len) o up =
+    some_true (Makes bytes version) m up = up.0
+    some_true (Writes at bytes version) m up = tt
+    some_true (Frees version) m up = tt
+    some_true (Shows version bytes) m up = ⊎_elim (read_told version bytes)
+        (λ (peeked : ArePeeked h version bytes v.peeked). peek_told version bytes peeked up) m
+    some_true (Pins version) m up = pin_told version m
+    some_true (FindsFull number) m up = up
+    some_true FindsUnmade m up = absurd up
+    some_true FindsFreed m up = freed_told m
+    some_true (FindsEnd at bytes len) m up =
         (subst (IsMadeWith (history calls h)) up.0.4 (are.long up.0.0 up.0.1 up.0.2 up.0.3), up.1)
-    other_true (Refused NewObject) o up = tt
-    other_true (Refused Nothing) o up = tt
-    other_true (Refused Contents) o up = tt
-    other_true (Refused Other) o up = tt
-    other_true Wrong o up = absurd up
-
-    make_true : (name bytes : List ℕ) (r : Reply)
-        → IsUpheld first handles calls v (Some h) (event_of (request.Make name bytes) r)
-        → IsTrueOf handles calls (Some h) (event_of (request.Make name bytes) r)
-    make_true name bytes (answer.Made given version) up =
-        other_true (event_of (request.Make name bytes) (answer.Made given version)) tt up
-    make_true name bytes r up = other_true (event_of (request.Make name bytes) r) tt up
-
-    read_true : (name : List ℕ) (r : Reply) → Meets (as_part v) (need_of (Some h) (request.Read name) r)
-        → IsUpheld first handles calls v (Some h) (event_of (request.Read name) r)
-        → IsTrueOf handles calls (Some h) (event_of (request.Read name) r)
-    read_true name (answer.Bytes version bytes) m up = read_told version bytes m
-    read_true name answer.Freed m up = freed_told m.0
-    read_true name r m up = other_true (event_of (request.Read name) r) tt up
-
-    write_true : (name : List ℕ) (at : ℕ) (bytes : List ℕ) (r : Reply)
-        → Meets (as_part v) (need_of (Some h) (request.Write name at bytes) r)
-        → IsUpheld first handles calls v (Some h) (event_of (request.Write name at bytes) r)
-        → IsTrueOf handles calls (Some h) (event_of (request.Write name at bytes) r)
-    write_true name at bytes answer.Freed m up = freed_told m.0
-    write_true name at bytes r m up = other_true (event_of (request.Write name at bytes) r) tt up
-
-    free_true : (name : List ℕ) (r : Reply) → Meets (as_part v) (need_of (Some h) (request.Free name) r)
-        → IsUpheld first handles calls v (Some h) (event_of (request.Free name) r)
-        → IsTrueOf handles calls (Some h) (event_of (request.Free name) r)
-    free_true name answer.Freed m up = freed_told m.0
-    free_true name r m up = other_true (event_of (request.Free name) r) tt up
-
-    pin_true : (name : List ℕ) (r : Reply) → Meets (as_part v) (need_of (Some h) (request.Pin name) r)
-        → IsUpheld first handles calls v (Some h) (event_of (request.Pin name) r)
-        → IsTrueOf handles calls (Some h) (event_of (request.Pin name) r)
-    pin_true name (answer.Version version) m up = pin_told version m
-    pin_true name answer.Freed m up = freed_told m.0
-    pin_true name r m up = other_true (event_of (request.Pin name) r) tt up
-
-    peek_true : (name : List ℕ) (r : Reply) → Meets (as_part v) (need_of (Some h) (request.Peek name) r)
-        → IsUpheld first handles calls v (Some h) (event_of (request.Peek name) r)
-        → IsTrueOf handles calls (Some h) (event_of (request.Peek name) r)
-    peek_true name (answer.Bytes version bytes) m up = peek_told version bytes m up
-    peek_true name r m up = other_true (event_of (request.Peek name) r) tt up
-
-    some_true : (q : Request) (r : Reply) → Meets (as_part v) (need_of (Some h) q r)
-        → IsUpheld first handles calls v (Some h) (event_of q r)
-        → IsTrueOf handles calls (Some h) (event_of q r)
-    some_true (request.Make name bytes) r m up = make_true name bytes r up
-    some_true (request.Read name) r m up = read_true name r m up
-    some_true (request.Write name at bytes) r m up = write_true name at bytes r m up
-    some_true (request.Free name) r m up = free_true name r m up
-    some_true (request.Pin name) r m up = pin_true name r m up
-    some_true (request.Peek name) r m up = peek_true name r m up
-    some_true (request.Unpin name) r m up = other_true (refusal Other r) (refusal_other Other r (λ e. absurd cc)) up
-    some_true (request.Filter name) r m up = other_true (refusal Other r) (refusal_other Other r (λ e. absurd cc)) up
-    some_true q r m up = other_true (refusal Nothing r) (refusal_other Nothing r (λ e. absurd cc)) up
+    some_true (Refused NewObject) m up = tt
+    some_true (Refused Nothing) m up = tt
+    some_true (Refused Contents) m up = tt
+    some_true (Refused Other) m up = tt
+    some_true Wrong m up = absurd up
 
   told_true : (entries : EntriesStand first (v ∷ [])) (quiet : v.fresh ≡ []) (long : OneLength v.written)
       → ((h : ℕ) → AreTrue first v.written h (linked first v entries quiet long) (history calls h))
@@ -225,7 +157,8 @@ module _ (first handles : ℕ) (calls : List Called) (v : View) where
       → IsUpheld first handles calls v handle (event_of q r)
       → IsTrueOf handles calls handle (event_of q r)
   told_true entries quiet long are None q r m up = none_true (event_of q r) up
-  told_true entries quiet long are (Some h) q r m up = some_true entries quiet long h (are h) q r m up
+  told_true entries quiet long are (Some h) q r m up =
+      some_true entries quiet long h (are h) (event_of q r) (met (as_part v) h q r m) up
 
   -- what each answer tells is so
   pub all_told : (entries : EntriesStand first (v ∷ [])) (quiet : v.fresh ≡ []) (long : OneLength v.written)
