@@ -22,7 +22,7 @@ none_counted : (h k : ℕ) (es : List Entry)
 none_counted h k [] no_one = refl
 none_counted h k (x ∷ xs) no_one =
     let rest : times (is_version h k) xs ≡ 0 =
-        none_counted h k xs (λ e there. no_one e (inr there)) in
+    none_counted h k xs (λ e there. no_one e (inr there)) in
     by_case (λ b. eqb x.handle h ≡ b
     → cond {A = ℕ} (b && eqb x.version k) 1 0 + times (is_version h k) xs ≡ 0) (eqb x.handle h)
     (λ at _. by_case (λ b. eqb x.version k ≡ b
@@ -49,35 +49,47 @@ find_top h (x ∷ xs) = with_one (ℕ_discrete x.handle h) (find_top h xs)
     with_one (no off) (inr none) = inr (λ e there on. ⊎_elim
         (λ (is : x ≡ e). off (ap (λ (y : Entry). y.handle) is ∙ on))
         (λ (more : Has e xs). none e more on) there)
-    with_one (no off) (inl top) = inl (top.0, record {
-      there = inr top.1.there;
-      handle = top.1.handle;
-      greatest = λ e there on. ⊎_elim
-          (λ (is : x ≡ e). absurd (off (ap (λ (y : Entry). y.handle) is ∙ on)))
-          (λ (more : Has e xs). top.1.greatest e more on) there;
-    })
-    with_one (yes on_x) (inr none) = inl (x, record {
-      there = inl refl;
-      handle = on_x;
-      greatest = λ e there on. ⊎_elim
-          (λ (is : x ≡ e). (let v = ap (λ (y : Entry). y.version) is in omega arith))
-          (λ (more : Has e xs). absurd (none e more on)) there;
-    })
+    with_one (no off) (inl top) = inl (
+      top.0,
+      record {
+        there = inr top.1.there;
+        handle = top.1.handle;
+        greatest = λ e there on. ⊎_elim
+            (λ (is : x ≡ e). absurd (off (ap (λ (y : Entry). y.handle) is ∙ on)))
+            (λ (more : Has e xs). top.1.greatest e more on) there;
+      },
+    )
+    with_one (yes on_x) (inr none) = inl (
+      x,
+      record {
+        there = inl refl;
+        handle = on_x;
+        greatest = λ e there on. ⊎_elim
+            (λ (is : x ≡ e). (let v = ap (λ (y : Entry). y.version) is in omega arith))
+            (λ (more : Has e xs). absurd (none e more on)) there;
+      },
+    )
     with_one (yes on_x) (inl top) = ⊎_elim
-        (λ (lt : top.0.version < x.version). inl (x, record {
-          there = inl refl;
-          handle = on_x;
-          greatest = λ e there on. ⊎_elim
-              (λ (is : x ≡ e). (let v = ap (λ (y : Entry). y.version) is in omega arith))
-              (λ (more : Has e xs). (let g = top.1.greatest e more on in omega (arith, g, lt))) there;
-        }))
-        (λ (ge : x.version ≤ top.0.version). inl (top.0, record {
-          there = inr top.1.there;
-          handle = top.1.handle;
-          greatest = λ e there on. ⊎_elim
-              (λ (is : x ≡ e). (let v = ap (λ (y : Entry). y.version) is in omega (arith, v, ge)))
-              (λ (more : Has e xs). top.1.greatest e more on) there;
-        }))
+        (λ (lt : top.0.version < x.version). inl (
+          x,
+          record {
+            there = inl refl;
+            handle = on_x;
+            greatest = λ e there on. ⊎_elim
+                (λ (is : x ≡ e). (let v = ap (λ (y : Entry). y.version) is in omega arith))
+                (λ (more : Has e xs). (let g = top.1.greatest e more on in omega (arith, g, lt))) there;
+          },
+        ))
+        (λ (ge : x.version ≤ top.0.version). inl (
+          top.0,
+          record {
+            there = inr top.1.there;
+            handle = top.1.handle;
+            greatest = λ e there on. ⊎_elim
+                (λ (is : x ≡ e). (let v = ap (λ (y : Entry). y.version) is in omega (arith, v, ge)))
+                (λ (more : Has e xs). top.1.greatest e more on) there;
+          },
+        ))
         (cases_lt top.0.version x.version)
 
 module _ (first : ℕ) (v : View) (entries : EntriesStand first (v ∷ [])) (quiet : v.fresh ≡ []) where

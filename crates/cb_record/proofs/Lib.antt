@@ -9,4 +9,9 @@ mod Replied
 mod Legality
 mod Meeting
 mod Rising
+mod Known
 pub mod Laws
+mod WorkedParts
+mod WorkedNeeds
+mod WorkedBacks
+mod WorkedRises

@@ -100,8 +100,8 @@ module _ (first : ℕ) (es : List Entry) (h : ℕ) (linked : AreLinked first es)
       let l = link x y hx all.0.there ex all.0.stands.handle next in
       let entry_len = all.0.fits.2 in
       let room : at + length bytes ≤ x.len =
-          let same = linked.long entry_len.0 x entry_len.1 hx (entry_len.2 ∙ sym ex) entry_len.3 kept in
-          omega (arith, same, entry_len.4, all.0.fits.3) in (
+      let same = linked.long entry_len.0 x entry_len.1 hx (entry_len.2 ∙ sym ex) entry_len.3 kept in
+      omega (arith, same, entry_len.4, all.0.fits.3) in (
         y,
         record {
           there = all.0.there;
@@ -120,7 +120,7 @@ module _ (first : ℕ) (es : List Entry) (h : ℕ) (linked : AreLinked first es)
       let y = all.0.entry in
       let z = all.1.0.entry in
       let next : z.version ≡ y.version + 1 =
-          all.1.0.stands.version ∙ run.1.0 ∙ ap (λ (n : ℕ). n + 1) (sym (all.0.stands.version ∙ run.0)) in
+      all.1.0.stands.version ∙ run.1.0 ∙ ap (λ (n : ℕ). n + 1) (sym (all.0.stands.version ∙ run.0)) in
       let l = link y z all.0.there all.1.0.there all.0.stands.handle all.1.0.stands.handle next in
       absurd (true≢false (sym all.0.stands.does ∙ l.1))
 

@@ -71,9 +71,14 @@ ordered_placed : (c : ℕ × Change) (cs : List (ℕ × Change)) → IsOrdered c
 ordered_placed c [] o = (tt, tt)
 ordered_placed c (d ∷ ds) o = by_case
     (λ b. IsOrdered (cond b (c ∷ d ∷ ds) (d ∷ placed c ds))) (nat_le c.0 d.0)
-    (λ is. let le = leb-true c.0 d.0 is in
-    ((le, all_map (λ (e : ℕ × Change). d.0 ≤ e.0) (λ (e : ℕ × Change). c.0 ≤ e.0) ds
-    (λ e l. omega (arith, le, l)) o.0), o))
+    (λ is. let le = leb-true c.0 d.0 is in (
+      (
+        le,
+        all_map (λ (e : ℕ × Change). d.0 ≤ e.0) (λ (e : ℕ × Change). c.0 ≤ e.0) ds
+            (λ e l. omega (arith, le, l)) o.0,
+      ),
+      o,
+    ))
     (λ is. let gt = leb-false c.0 d.0 is in
     (all_placed (λ (e : ℕ × Change). d.0 ≤ e.0) c ds (omega (arith, gt)) o.0, ordered_placed c ds o.1))
 
@@ -104,11 +109,13 @@ versions_run n top (c ∷ cs) s h =
     let high : c.0 ≤ top = omega arith in
     let not_above : (n < c.0 → ⊥) = λ l. (let z = below_none n c.0 cs l s.0 in
     let o = other c.0 n (λ e. absurd (omega arith)) in let k = h n in absurd (omega arith)) in
-    let same : c.0 ≡ n = omega (arith, not_above) in
-    (same, versions_run (n + 1) top cs s.1 (λ k. let m = h k in
-    by_case (λ b. eqb c.0 k ≡ b → times (changes_at k) cs ≡ stands (n + 1) k top) (eqb c.0 k)
-    (λ e _. let q : c.0 ≡ k = eqb-true c.0 k e in let o = own c.0 in
-    let d = subst (λ (j : ℕ). times (changes_at j) (c ∷ cs) ≡ stands n j top) (sym q) m in
-    subst (λ (j : ℕ). times (changes_at j) cs ≡ stands (n + 1) j top) q (omega arith))
-    (λ e _. let ne : c.0 ≢ k = (λ q. true≢false (sym (eq-eqb c.0 k q) ∙ e)) in
-    let o = other c.0 k ne in omega arith) refl))
+    let same : c.0 ≡ n = omega (arith, not_above) in (
+      same,
+      versions_run (n + 1) top cs s.1 (λ k. let m = h k in
+          by_case (λ b. eqb c.0 k ≡ b → times (changes_at k) cs ≡ stands (n + 1) k top) (eqb c.0 k)
+          (λ e _. let q : c.0 ≡ k = eqb-true c.0 k e in let o = own c.0 in
+          let d = subst (λ (j : ℕ). times (changes_at j) (c ∷ cs) ≡ stands n j top) (sym q) m in
+          subst (λ (j : ℕ). times (changes_at j) cs ≡ stands (n + 1) j top) q (omega arith))
+          (λ e _. let ne : c.0 ≢ k = (λ q. true≢false (sym (eq-eqb c.0 k q) ∙ e)) in
+          let o = other c.0 k ne in omega arith) refl),
+    )

@@ -58,12 +58,15 @@ module _ (first : ℕ) (es : List Entry) (h : ℕ) where
         counts = λ k. ap (λ (b : Bool). cond {A = ℕ} b 1 0 + 0)
             (ap (λ (m : ℕ). eqb m k) (sym s.version)
             ∙ ap (λ (b : Bool). b && eqb e.version k) (sym (eq-eqb e.handle h on)));
-        each = (record {
-          entry = e;
-          there = there;
-          stands = subst (λ (m : ℕ). StandsFor m e c) one s;
-          fits = subst (λ (m : ℕ). Fits first es m c) one fits;
-        }, tt);
+        each = (
+          record {
+            entry = e;
+            there = there;
+            stands = subst (λ (m : ℕ). StandsFor m e c) one s;
+            fits = subst (λ (m : ℕ). Fits first es m c) one fits;
+          },
+          tt,
+        );
         all = λ x at on_x. ⊎_elim
             (λ (same : e ≡ x). inl (subst (λ (y : Entry). StandsFor h y c) same
             (subst (λ (m : ℕ). StandsFor m e c) one s)))
@@ -131,7 +134,7 @@ module _ (first handles : ℕ) (calls : List Called) (v : View) where
       let handle = handle_for before a.request a.reply in
       let event = event_of a.request a.reply in
       let within : (e : Entry) → Has e (rest ++ own) → Has e v.written =
-          λ e there. sub e (subst (Has e) (sym wrote.2) there) in
+      λ e there. sub e (subst (Has e) (sym wrote.2) there) in
       subst (λ (ws : List Entry). IsPiece first v.written h
       (changes_to h (calls_behind before (a ∷ after))) ws) (sym wrote.2)
       (piece_append first v.written h (at_it first v.written h handle (change_of event))

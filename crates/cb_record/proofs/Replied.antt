@@ -42,7 +42,7 @@ byte_in words len k below =
     get_or-map-range_with_len (byte_at words) 0 len k k 0 below (omega arith)
 
 -- bytes are those of the words that hold them
-same_bytes : (xs ys : List ℕ) (len : ℕ)
+pub same_bytes : (xs ys : List ℕ) (len : ℕ)
     → ((j : ℕ) → j < words_for len → get_or xs j 0 ≡ get_or ys j 0)
     → bytes_in xs len ≡ bytes_in ys len
 same_bytes xs ys len same = ext_get_or 0 (bytes_in xs len) (bytes_in ys len)
@@ -83,7 +83,7 @@ module _ (first handles : ℕ) (calls : List Called) (v : View) where
     held_seen s version there on at kept =
         let z = entry_seen s there in
         let shows = are.shows z.0 z.1 (ap (λ (x : Seen). x.handle) (sym z.2) ∙ on)
-            (ap (λ (x : Seen). x.freed) (sym z.2) ∙ kept) in
+        (ap (λ (x : Seen). x.freed) (sym z.2) ∙ kept) in
         subst (λ (n : ℕ). at_version (history calls h) n ≡ Some (Held n (bytes_in s.words s.len))) at
         (subst (λ (x : Seen). at_version (history calls h) x.version
         ≡ Some (Held x.version (bytes_in x.words x.len))) (sym z.2) shows)
@@ -117,15 +117,15 @@ module _ (first handles : ℕ) (calls : List Called) (v : View) where
         let z = find_one (IsSeenLong h version (length bytes)) v.seen one in
         let e = entry_seen z.0 z.1 in
         let word : (j : ℕ) → j < words_for (length bytes)
-            → get_or peeked.words j 0 ≡ get_or z.0.words j 0 = λ j low.
-            (let p = entries.peeked _ (v, (0, refl), peeked.each j low) in
-            let w = written first v entries quiet p.0 p.1 in
-            let same : p.0 ≡ e.0 =
-                (linked first v entries quiet long).same p.0 e.0 w e.1
-                (sym p.2.handle ∙ sym z.2.0 ∙ ap (λ (x : Seen). x.handle) e.2)
-                (sym p.2.version ∙ sym z.2.1 ∙ ap (λ (x : Seen). x.version) e.2) in
-            p.2.word ∙ ap (λ (x : Entry). get_or x.after j 0) same
-            ∙ ap (λ (x : Seen). get_or x.words j 0) (sym e.2)) in
+        → get_or peeked.words j 0 ≡ get_or z.0.words j 0 = λ j low.
+        (let p = entries.peeked _ (v, (0, refl), peeked.each j low) in
+        let w = written first v entries quiet p.0 p.1 in
+        let same : p.0 ≡ e.0 =
+        (linked first v entries quiet long).same p.0 e.0 w e.1
+        (sym p.2.handle ∙ sym z.2.0 ∙ ap (λ (x : Seen). x.handle) e.2)
+        (sym p.2.version ∙ sym z.2.1 ∙ ap (λ (x : Seen). x.version) e.2) in
+        p.2.word ∙ ap (λ (x : Entry). get_or x.after j 0) same
+        ∙ ap (λ (x : Seen). get_or x.words j 0) (sym e.2)) in
         held_seen z.0 version z.1 z.2.0 z.2.1 z.2.2
         ∙ ap (λ (b : List ℕ). Some (Held version b))
         (ap (bytes_in z.0.words) z.2.3 ∙ sym (same_bytes peeked.words z.0.words (length bytes) word)
