@@ -12,8 +12,9 @@ use Rattle.cb_rule.specs.Promised.{EntriesStand, Is, IsLast, Wrote}
 use Rattle.cb_rule.proofs.Laws.{by_case}
 use Rattle.cb_model.specs.Now.{Change}
 use Rattle.cb_model.specs.History.{by_version}
+use Rattle.cb_record.specs.Lists.{HasOne}
 use Rattle.cb_record.specs.Upheld.{OneLength}
-use Rattle.cb_record.proofs.Links.{AreLinked, AreTrue, IsEntered, IsRun, StandsFor, are_true}
+use Rattle.cb_record.proofs.Links.{Any, AreLinked, AreTrue, IsEntered, IsMake, IsRun, StandsFor, are_true}
 use Rattle.cb_record.proofs.Ordering.{all_by_version, changes_at, one_by_version, ordered_by_version, stands, times_by_version, versions_run}
 use Rattle.cb_record.proofs.Pieces.{IsPiece}
 
@@ -146,11 +147,15 @@ module _ (first : ℕ) (v : View) (entries : EntriesStand first (v ∷ [])) (qui
   run_none n h (c ∷ cs) none all =
       absurd (none all.0.entry all.0.there all.0.stands.handle)
 
+  still_any : (cs : List (ℕ × Change)) → HasOne Any (by_version cs) → HasOne Any cs
+  still_any [] one = one
+  still_any (c ∷ cs) one = inl tt
+
   -- the changes at an object, in order, are its entries
   pub histories : (long : OneLength v.written) (h : ℕ) (cs : List (ℕ × Change))
-      → IsPiece first v.written h cs v.written
+      → IsPiece first v.written h cs v.written → (HasOne Any cs → HasOne (IsMake first) cs)
       → AreTrue first v.written h (linked long) (by_version cs)
-  histories long h cs piece = are_true first v.written h (linked long) (by_version cs)
+  histories long h cs piece made = are_true first v.written h (linked long) (by_version cs)
       (⊎_elim (λ (z : (e : Entry) × IsTop h v.written e).
       versions_run first z.0.version (by_version cs) (ordered_by_version cs)
       (λ k. times_by_version (changes_at k) cs ∙ piece.counts k ∙ counted h z.0 z.1 k))
@@ -158,6 +163,7 @@ module _ (first : ℕ) (v : View) (entries : EntriesStand first (v ∷ [])) (qui
       run_none first h (by_version cs) none each) (find_top h v.written))
       each
       (λ e there on. one_by_version (StandsFor h e) cs (piece.all e there on))
+      (λ one. one_by_version (IsMake first) cs (made (still_any cs one)))
     where
       each : AllByRecursion (IsEntered first v.written h) (by_version cs)
       each = all_by_version (IsEntered first v.written h) cs piece.each

@@ -13,6 +13,7 @@ use Rattle.cb_record.specs.Upheld.{OneLength, Upholds, as_part}
 use Rattle.cb_record.proofs.Histories.{histories, linked}
 use Rattle.cb_record.proofs.Known.{on_record}
 use Rattle.cb_record.proofs.Links.{AreTrue}
+use Rattle.cb_record.proofs.Making.{made}
 use Rattle.cb_record.proofs.Pieces.{pieces}
 use Rattle.cb_record.proofs.Replied.{all_told}
 
@@ -25,6 +26,7 @@ module _ (first handles : ℕ) (v : View) (answers : List Answer)
       → AreTrue first v.written h (linked first v entries quiet long) (history (calls_of answers) h)
   are_histories h = histories first v entries quiet long h (changes_to h (calls_of answers))
       (pieces first handles (calls_of answers) v h [] answers v.written backs.wrote upheld (λ e there. there))
+      (made first handles (calls_of answers) v h [] answers (λ name e. absurd cc) upheld)
 
   -- so answers whose versions never fall are legal
   pub legal_of_backed : Rising (calls_of answers) → IsLegal first handles answers

@@ -6,6 +6,7 @@ mod Entering
 mod Pieces
 mod Histories
 mod Replied
+mod Making
 mod Legality
 mod Meeting
 mod Rising

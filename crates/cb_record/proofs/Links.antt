@@ -31,8 +31,17 @@ pub record StandsFor (h : ℕ) (e : Entry) (c : ℕ × Change) : Type 0 where
 abbrev pub Fits : ℕ → List Entry → ℕ → ℕ × Change → Type 0
 Fits first es h (v, Create bytes) = v ≡ first
 Fits first es h (v, Overwrite at bytes) =
-    (first < v) × (len : ℕ) × IsLong es h len × (at + length bytes ≤ len)
-Fits first es h (v, Remove) = first < v
+    (len : ℕ) × IsLong es h len × (at + length bytes ≤ len)
+Fits first es h (v, Remove) = Unit {0}
+
+-- it makes the object, at the first version
+abbrev pub IsMake : ℕ → ℕ × Change → Type 0
+IsMake first (v, Create bytes) = v ≡ first
+IsMake first (v, Overwrite at bytes) = ⊥
+IsMake first (v, Remove) = ⊥
+
+abbrev pub Any : ℕ × Change → Type 0
+Any c = Unit {0}
 
 -- the change has its entry, and stands where it may
 pub record IsEntered (first : ℕ) (es : List Entry) (h : ℕ) (c : ℕ × Change) : Type 0 where
@@ -98,10 +107,10 @@ module _ (first : ℕ) (es : List Entry) (h : ℕ) (linked : AreLinked first es)
       let y = all.0.entry in
       let next : y.version ≡ x.version + 1 = all.0.stands.version ∙ run.0 in
       let l = link x y hx all.0.there ex all.0.stands.handle next in
-      let entry_len = all.0.fits.2 in
+      let entry_len = all.0.fits.1 in
       let room : at + length bytes ≤ x.len =
       let same = linked.long entry_len.0 x entry_len.1 hx (entry_len.2 ∙ sym ex) entry_len.3 kept in
-      omega (arith, same, entry_len.4, all.0.fits.3) in (
+      omega (arith, same, entry_len.4, all.0.fits.2) in (
         y,
         record {
           there = all.0.there;
@@ -217,21 +226,38 @@ module _ (first : ℕ) (es : List Entry) (h : ℕ) (linked : AreLinked first es)
         → (version : ℕ) × (left_by cs ≡ Some (Freed version))
     pub long : (e : Entry) → Has e es → e.handle ≡ h → e.freed ≡ false → IsMadeWith cs e.len
 
+  -- no make stands among versions above the first
+  made_first : (n : ℕ) (cs : List (ℕ × Change)) → first < n → IsRun n cs
+      → HasOne (IsMake first) cs → ⊥
+  made_first n [] lt run one = one
+  made_first n ((v, Create bytes) ∷ cs) lt run one = ⊎_elim
+      (λ (is : v ≡ first). let r = run.0 in omega (arith, is, r, lt))
+      (λ (more : HasOne (IsMake first) cs). made_first (n + 1) cs (omega (arith, lt)) run.1 more) one
+  made_first n ((v, Overwrite at bytes) ∷ cs) lt run one = ⊎_elim (λ (none : ⊥). none)
+      (λ (more : HasOne (IsMake first) cs). made_first (n + 1) cs (omega (arith, lt)) run.1 more) one
+  made_first n ((v, Remove) ∷ cs) lt run one = ⊎_elim (λ (none : ⊥). none)
+      (λ (more : HasOne (IsMake first) cs). made_first (n + 1) cs (omega (arith, lt)) run.1 more) one
+
   -- changes that run from the first version, each with its entry, and each entry with its change
   pub are_true : (cs : List (ℕ × Change)) → IsRun first cs
       → AllByRecursion (IsEntered first es h) cs
-      → ((e : Entry) → Has e es → e.handle ≡ h → HasOne (StandsFor h e) cs) → AreTrue cs
-  are_true [] run all one = record {
+      → ((e : Entry) → Has e es → e.handle ≡ h → HasOne (StandsFor h e) cs)
+      → (HasOne Any cs → HasOne (IsMake first) cs) → AreTrue cs
+  are_true [] run all one made = record {
     history = tt;
     shows = λ e he ee kept. absurd (one e he ee);
     freed = λ e he ee gone. absurd (one e he ee);
     long = λ e he ee kept. absurd (one e he ee);
   }
-  are_true ((v, Overwrite at bytes) ∷ later) run all one =
-      absurd (let f = all.0.fits.0 in let r = run.0 in omega (arith, f, r))
-  are_true ((v, Remove) ∷ later) run all one =
-      absurd (let f = all.0.fits in let r = run.0 in omega (arith, f, r))
-  are_true ((v, Create bytes) ∷ later) run all one = record {
+  are_true ((v, Overwrite at bytes) ∷ later) run all one made =
+      absurd (⊎_elim (λ (none : ⊥). none)
+      (λ (more : HasOne (IsMake first) later). made_first (first + 1) later (omega arith) run.1 more)
+      (made (inl tt)))
+  are_true ((v, Remove) ∷ later) run all one made =
+      absurd (⊎_elim (λ (none : ⊥). none)
+      (λ (more : HasOne (IsMake first) later). made_first (first + 1) later (omega arith) run.1 more)
+      (made (inl tt)))
+  are_true ((v, Create bytes) ∷ later) run all one made = record {
     history = (run.0, goes_on_chain (first + 1) (length bytes) x later (ap (λ (n : ℕ). n + 1) (sym at)) does.1 chain);
     shows = λ e he ee kept. shows e he ee kept;
     freed = λ e he ee gone. ends_freed e x v bytes later gone (behind e (one e he ee) (λ d. true≢false (sym gone ∙ d))) chain;

@@ -110,7 +110,7 @@ module _ (first handles : ℕ) (calls : List Called) (v : View) where
       → AllByRecursion (Fits first v.written n) (change_of e)
   fits_upheld n (Makes bytes version) up = (up.1, tt)
   fits_upheld n (Writes at bytes version) up = (up, tt)
-  fits_upheld n (Frees version) up = (up, tt)
+  fits_upheld n (Frees version) up = (tt, tt)
   fits_upheld n (Shows version bytes) up = tt
   fits_upheld n (Pins version) up = tt
   fits_upheld n (FindsFull number) up = tt

@@ -7,7 +7,7 @@ use Rattle.cb_rule.specs.declared.view.View.{View}
 use Rattle.cb_rule.specs.Lists.{Has}
 use Rattle.cb_model.specs.Called.{Called}
 use Rattle.cb_model.specs.Event.Subject.{Contents}
-use Rattle.cb_model.specs.Event.Event.{Makes, Shows, Pins, Writes, Frees, FindsFull, FindsUnmade, FindsFreed, FindsEnd, Refused, Wrong}
+use Rattle.cb_model.specs.Event.Event.{Makes, Shows, Pins, Writes, FindsFull, FindsUnmade, FindsFreed, FindsEnd, Refused, Wrong}
 use Rattle.cb_record.specs.Rises.{AreLanes, HasAllOf, HasVersion, IsBefore, IsBehind, IsKnownTo, IsLane, IsOnRecord, Lane, MayFollowVersion, RisesFrom}
 use Rattle.cb_record.specs.Upheld.{IsLong, IsSeenLong, IsUpheld, OneLength}
 
@@ -143,13 +143,12 @@ module _ (v : View) where
   makes_later u = let e = u.1 in omega (arith, e)
 
   writes : IsUpheld 1 8 [] writer (Some 3) (Writes 3 (7 ∷ []) 2)
-  writes = (omega arith, 4, four_long, omega arith)
+  writes = (4, four_long, omega arith)
 
-  writes_the_first : IsUpheld 1 8 [] writer (Some 3) (Writes 3 (7 ∷ []) 1) → ⊥
-  writes_the_first u = let lt = u.0 in omega (arith, lt)
-
-  frees_the_first : IsUpheld 1 8 [] writer (Some 3) (Frees 1) → ⊥
-  frees_the_first lt = omega (arith, lt)
+  writes_past_the_end : IsUpheld 1 8 [] writer (Some 3) (Writes 4 (7 ∷ []) 2) → ⊥
+  writes_past_the_end u = ⊎_elim (λ (e : entry 3 1 4 [] (5 ∷ []) ≡ u.1.0).
+      let n = ap (λ (x : Entry). x.len) e in let m = u.1.4 in let le = u.2 in
+      omega (arith, n, m, le)) (λ (none : ⊥). none) u.1.1
 
   shows : IsUpheld 1 8 [] writer (Some 3) (Shows 2 (1 ∷ 2 ∷ 3 ∷ 4 ∷ []))
   shows = inl (refl, refl, refl, refl)

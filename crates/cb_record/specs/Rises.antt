@@ -62,7 +62,7 @@ pub record IsLane (lane : Lane) : Type 0 where
 abbrev pub IsBefore : Lane → Called → Type 0
 IsBefore lane call = ((call.lane ≢ lane.number) × (call.lane ≢ 0)) ⊎ IsOnRecord lane.start call
 
--- lanes from 1 on, no two of one number, each of which rises from a record that has all of the first
+-- lanes from 1 on, no two of one number, each of which starts from all that this record has
 abbrev pub AreLanes : View → List Lane → Type 0
 AreLanes first [] = Unit {0}
 AreLanes first (lane ∷ lanes) = IsLane lane × (lane.number ≢ 0) × HasAllOf first lane.start

@@ -7,7 +7,7 @@ use Rattle.cb_rule.specs.Lists.{Has}
 use Rattle.cb_model.specs.Called.{Called, makes}
 use Rattle.cb_model.specs.Event.{Event}
 use Rattle.cb_model.specs.Event.Subject.{NewObject, Nothing}
-use Rattle.cb_model.specs.Event.Event.{Makes, Shows, Writes, Frees, FindsFull, FindsUnmade, FindsEnd, Refused, Wrong}
+use Rattle.cb_model.specs.Event.Event.{Makes, Shows, Writes, FindsFull, FindsUnmade, FindsEnd, Refused, Wrong}
 use Rattle.cb_record.specs.Lists.{HasOne}
 use Rattle.cb_record.specs.Parts.{Part}
 
@@ -37,12 +37,13 @@ abbrev pub IsSeenLong : ℕ → ℕ → ℕ → Seen → Type 0
 IsSeenLong h version len s =
     (s.handle ≡ h) × (s.version ≡ version) × (s.freed ≡ false) × (s.len ≡ len)
 
--- What an answer says beside the record: a make gives one of the handles, at the first version, and
--- every write and free is above it; what is shown is as long as what was read, a write lies within
--- the object or is told its end; full is told where as many were made, and unmade exactly where the
--- name has no handle; and no reply is one that such a line never has.
+-- What an answer says beside the record: a make gives one of the handles, at the first version;
+-- what is shown is as long as what was read; a write lies within the object or is told its end;
+-- full is told where as many were made, and unmade exactly where the name has no handle; and no
+-- reply is one that such a line never has.
 abbrev pub IsUpheld : (first handles : ℕ) → List Called → View → Option ℕ → Event → Type 0
-IsUpheld first handles calls v handle (FindsFull number) = (makes calls ≡ handles) × (number ≡ handles)
+IsUpheld first handles calls v handle (FindsFull number) =
+    (makes calls ≡ handles) × (number ≡ handles)
 IsUpheld first handles calls v handle (Refused NewObject) = Unit {0}
 IsUpheld first handles calls v handle (Refused Nothing) = Unit {0}
 IsUpheld first handles calls v None FindsUnmade = Unit {0}
@@ -51,8 +52,7 @@ IsUpheld first handles calls v (Some h) (Makes bytes version) = (h < handles) ×
 IsUpheld first handles calls v (Some h) (Shows version bytes) =
     HasOne (IsSeenLong h version (length bytes)) v.seen
 IsUpheld first handles calls v (Some h) (Writes at bytes version) =
-    (first < version) × (len : ℕ) × IsLong v.written h len × (at + length bytes ≤ len)
-IsUpheld first handles calls v (Some h) (Frees version) = first < version
+    (len : ℕ) × IsLong v.written h len × (at + length bytes ≤ len)
 IsUpheld first handles calls v (Some h) (FindsEnd at bytes len) =
     IsLong v.written h len × (len < at + length bytes)
 IsUpheld first handles calls v (Some h) FindsUnmade = ⊥
