@@ -5,3 +5,4 @@ pub mod Told
 pub mod Needs
 pub mod Backs
 pub mod Rises
+pub mod Upheld

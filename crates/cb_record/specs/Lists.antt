@@ -1,5 +1,5 @@
 -- Lists beside lists.
-use Rattle.std.specs.Prelude.{◌≡◌, ◌⊎◌, ℕ, ◌+◌, List, [], ◌∷◌, ◌++◌}
+use Rattle.std.specs.Prelude.{◌⊎◌, List, [], ◌∷◌, ◌++◌}
 
 module _ {A : Type 0} where
   -- an element of the list has the property

@@ -1,5 +1,5 @@
 -- Versions that a caller is answered never fall: they are at least all that its record has.
-use Rattle.std.specs.Prelude.{◌≡◌, ◌⊎◌, ℕ, Bool, true, false, List, None, Some}
+use Rattle.std.specs.Prelude.{◌≡◌, ◌≢◌, ◌⊎◌, ℕ, Bool, true, false, List, [], ◌∷◌, None, Some}
 use Rattle.std.specs.List.{AllByRecursion}
 use Rattle.cb_world.specs.declared.entry.Entry.{Entry}
 use Rattle.cb_rule.specs.declared.view.Seen.{Seen}
@@ -7,6 +7,7 @@ use Rattle.cb_rule.specs.declared.view.View.{View}
 use Rattle.cb_rule.specs.Lists.{Has}
 use Rattle.cb_model.specs.Called.{Called}
 use Rattle.cb_model.specs.Event.{Event, version_of}
+use Rattle.cb_model.specs.Event.Event.{FindsFreed}
 use Rattle.cb_model.specs.Legal.{IsNotBelow, Rising}
 
 -- the record has this version of the object, and whether it is the freed one
@@ -30,3 +31,39 @@ IsBehind v call = (h version : ℕ) (freed : Bool) → call.handle ≡ Some h
 pub record RisesFrom (v : View) (calls : List Called) : Type 0 where
   pub behind : AllByRecursion (IsBehind v) calls
   pub rising : Rising calls
+
+-- what an event told of an object stands in the record: its version, and behind freed a freed one
+abbrev pub IsKnownTo : View → ℕ → Event → Type 0
+IsKnownTo v h FindsFreed = (version : ℕ) × HasVersion v h version true
+IsKnownTo v h event = (version : ℕ) → version_of event ≡ Some version
+    → (freed : Bool) × HasVersion v h version freed
+
+-- so of what a call was answered
+abbrev pub IsOnRecord : View → Called → Type 0
+IsOnRecord v call = (h : ℕ) → call.handle ≡ Some h → IsKnownTo v h call.event
+
+-- the second record has all versions of the first, written or read
+abbrev pub HasAllOf : View → View → Type 0
+HasAllOf v w = (h version : ℕ) (freed : Bool) → HasVersion v h version freed
+    → HasVersion w h version freed
+
+-- The calls of a lane, and the record from which it started.
+pub record Lane : Type 0 where
+  pub number : ℕ
+  pub start : View
+  pub calls : List Called
+
+-- each call is the lane's own, and they rise from its start
+pub record IsLane (lane : Lane) : Type 0 where
+  pub own : AllByRecursion (λ (call : Called). call.lane ≡ lane.number) lane.calls
+  pub rises : RisesFrom lane.start lane.calls
+
+-- a call of another lane from 1 on, or one on the record from which the lane started
+abbrev pub IsBefore : Lane → Called → Type 0
+IsBefore lane call = ((call.lane ≢ lane.number) × (call.lane ≢ 0)) ⊎ IsOnRecord lane.start call
+
+-- lanes from 1 on, no two of one number, each of which starts from all that this record has
+abbrev pub AreLanes : View → List Lane → Type 0
+AreLanes first [] = Unit {0}
+AreLanes first (lane ∷ lanes) = IsLane lane × (lane.number ≢ 0) × HasAllOf first lane.start
+    × AllByRecursion (λ (other : Lane). lane.number ≢ other.number) lanes × AreLanes first lanes
