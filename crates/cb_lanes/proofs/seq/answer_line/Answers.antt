@@ -18,3 +18,10 @@ returns-clause-line c = λ later are. ok_then c.rest.result (λ done rests.
 
 pub returns-clause-left : goal.returns-clause-left
 returns-clause-left c = λ later are. (c.take_line-behind.ensures.left later are).0
+
+pub returns-in_err-answer_by-clause-left : goal.returns-in_err-answer_by-clause-left
+returns-in_err-answer_by-clause-left c = λ later are. (c.take_line-behind.ensures.left later are).0
+
+pub returns-clause-losses : goal.returns-clause-losses
+returns-clause-losses c = λ so_far.
+    ok_then c.rest.result (λ done rests. c.in_ok-answer_by.ensures.losses so_far) c.rest.ensures.rests
