@@ -54,7 +54,12 @@ pub(crate) trait Caller {
         ensures well { well self.now lane.new };
 
     /// The end of the lane's newest pin on an object.
-    fn unpin(&self, alloc: Global, lane: &mut Self::State, handle: Handle) -> Result<Reply, NoMemory>
+    fn unpin(
+        &self,
+        alloc: Global,
+        lane: &mut Self::State,
+        handle: Handle,
+    ) -> Result<Reply, NoMemory>
         requires well { well self.now lane.old }
         requires named { may_name self.now lane.old handle.n }
         ensures goes { IfOk result (λ reply. goes self.now (Unpins handle.n) lane.old reply lane.new) }
