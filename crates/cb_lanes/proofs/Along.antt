@@ -40,12 +40,13 @@ use Rattle.cb_lanes.specs.Asked.{answer_to, asked, HasLineReply}
 use Rattle.cb_lanes.specs.Held.{HoldsAnswers}
 use Rattle.cb_lanes.specs.GivingBack.{Rests, lines_of}
 use Rattle.cb_lanes.specs.LineAnswered.{LineAnswered}
-use Rattle.cb_lanes.specs.LineStep.{LineStep, ObjectStep, OtherStep, job_of, PeekStep, not_pinned, shown}
+use Rattle.cb_lanes.specs.LineStep.{LineStep, goes_at}
 use Rattle.cb_lanes.specs.declared.side.Side.{Side}
 use Rattle.cb_lanes.specs.LinesLeft.{AreLanes}
 use Rattle.cb_lanes.specs.Lost.{loss_of, losses_of}
 use Rattle.cb_lanes.specs.Names.{Names, kept_number, handle_at, handle_in, number_after, AreKept, AreReady}
 use Rattle.cb_lanes.specs.Scopes.{KeepScopes, ScopeSays, scope_of}
+use Rattle.cb_lanes.proofs.ByAsk.{by_ask}
 use Rattle.cb_lanes.proofs.CompactGoes.{compact_goes}
 use Rattle.cb_lanes.proofs.GivingBack.{unpin_stands, gives_all}
 use Rattle.cb_lanes.proofs.LineGoes.{read_goes, write_goes, free_goes, filter_goes, make_goes}
@@ -54,6 +55,7 @@ use Rattle.cb_lanes.proofs.NamesKept.{name_within}
 use Rattle.cb_lanes.proofs.Pinning.{pin_goes, pin_settings, peek_goes, unpin_goes, leave_goes}
 use Rattle.cb_lanes.proofs.Recounting.{turn_beside}
 use Rattle.cb_lanes.proofs.Scoping.{Scoped, line_scoped}
+use Rattle.cb_lanes.proofs.SeatGoes.{ask_settings}
 use Rattle.cb_lanes.proofs.ScopesKept.{AreScopes, scopes_none, scopes_push, keep_push, Rested, rests, LeadsOn, leads_push, IsFresh, grown, apart_after, lines_own}
 use Rattle.cb_lanes.proofs.Silent.{unmade_line, still_goes, crash_goes, join_goes}
 use Rattle.cb_lanes.proofs.Turning.{Turning, around, Goes}
@@ -256,50 +258,14 @@ all_push : (answers : List Answer) (a : Answer) → AllByRecursion HasLineReply 
 all_push [] a all is = (is, tt)
 all_push (b ∷ answers) a all is = (all.0, all_push answers a all.1 is)
 
-object_settings : (seat : ℕ) (handle : Option ℕ) (request : Request) (w new : WorldState) (r : Reply)
-    → IsSoundWorld w → seat < 64 → ((h : ℕ) → handle ≡ Some h → h < w.desk.settings.handles)
-    → ObjectStep seat handle request w r new → new.desk.settings ≡ w.desk.settings
-object_settings seat None request w new r sound lt ready step =
-    ap (λ (v : WorldState). v.desk.settings) step.1
-object_settings seat (Some h) (Read name) w new r sound lt ready step =
-    step_settings w new (Turn seat (job.Read (record { n = h }))) r step
-object_settings seat (Some h) (Write name at bytes) w new r sound lt ready step =
-    step_settings w new (Turn seat (job.Write (record { n = h }) at bytes)) r step
-object_settings seat (Some h) (Free name) w new r sound lt ready step =
-    step_settings w new (Turn seat (job.Free (record { n = h }))) r step
-object_settings seat (Some h) (Filter name) w new r sound lt ready step =
-    step_settings w new (Turn seat (job.Filter (record { n = h }))) r step
-object_settings seat (Some h) (Pin name) w new r sound lt ready step =
-    pin_settings seat h w new r step
-object_settings seat (Some h) (Unpin name) w new r sound lt ready step =
-    (unpin_stands w new seat h r sound lt (ready h refl) step).settings
-object_settings seat (Some h) (Peek name) w new r sound lt ready step = peek_settings step
-  where
-    peek_settings : PeekStep seat h w r new → new.desk.settings ≡ w.desk.settings
-    peek_settings (not_pinned none is same) = ap (λ (v : WorldState). v.desk.settings) same
-    peek_settings (shown at newest is same) = ap (λ (v : WorldState). v.desk.settings) same
-object_settings seat (Some h) request w new r sound lt ready step = absurd step
-
-other_settings : (side : Side) (seat : ℕ) (handle : Option ℕ) (request : Request)
-    (o : Option Job) (w new : WorldState) (r : Reply) → IsSoundWorld w → seat < 64
-    → ((h : ℕ) → handle ≡ Some h → h < w.desk.settings.handles)
-    → OtherStep side seat handle request o w r new → new.desk.settings ≡ w.desk.settings
-other_settings side seat handle request (Some j) w new r sound lt ready step =
-    let z = turn_beside j side seat w new r step in
-    ap (λ (d : Words). d.settings) z.counts.desk ∙ step_settings w z.mid (Turn seat j) r z.step
-other_settings side seat handle request None w new r sound lt ready step =
-    object_settings seat handle request w new r sound lt ready step
-
 -- no line changes the configuration
 pub line_settings : (side : Side) (seat : ℕ) (handle : Option ℕ) (request : Request)
     (w new : WorldState) (r : Reply) → IsSoundWorld w → seat < 64 → ((h : ℕ) → handle ≡ Some h → h < w.desk.settings.handles)
     → LineStep side seat handle request w r new → new.desk.settings ≡ w.desk.settings
-line_settings side seat handle (Make name bytes) w new r sound lt ready step =
-    step_settings w new (Turn seat (job.Make bytes)) r step
-line_settings side seat handle Leave w new r sound lt ready step =
-    (gives_all seat w new sound lt step.1).0.settings
 line_settings side seat handle request w new r sound lt ready step =
-    other_settings side seat handle request (job_of request) w new r sound lt ready step
+    by_ask (goes_at side seat) w new r (new.desk.settings ≡ w.desk.settings)
+    (λ ask x. ask_settings side seat ask w new r sound lt x)
+    (λ is same. ap (λ (v : WorldState). v.desk.settings) same) handle request step
 
 -- what the lines after this one need
 along_push : (side : Side) (c : Config) (later : List ℕ) (answers : List Answer) (l : Line)

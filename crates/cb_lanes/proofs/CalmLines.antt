@@ -16,7 +16,8 @@ use Rattle.cb_core.specs.declared.event.Event.TheVariants.{Turn}
 use Rattle.cb_core.specs.Pinning.{PinStep, UnpinStep, given, not_pinned as none_given, pin_refusal, refused, scope_full, taken}
 use Rattle.cb_core.specs.Step.{Step}
 use Rattle.cb_core.proofs.Laws.{IsEased, IsSwapRefusal, IsWhole, MakesEasy, SwapEnds, pin_calm, refused as swap_refused, stays, swap_sound, swap_turn, swapped, turn_calm}
-use Rattle.cb_lanes.specs.LineStep.{LineStep, ObjectStep, OtherStep, job_of, IsInReply, PeekStep, not_pinned, shown, PinLine, at_once, stays_far, swapped_in}
+use Rattle.cb_lanes.specs.LineGoes.{job_of}
+use Rattle.cb_lanes.specs.LineStep.{LineStep, ObjectStep, OtherStep, IsInReply, PeekStep, not_pinned, shown, PinLine, at_once, stays_far, swapped_in}
 use Rattle.cb_lanes.specs.declared.side.Side.{Side}
 use Rattle.cb_lanes.proofs.EasyLines.{IsEasyLine, job_whole}
 use Rattle.cb_lanes.proofs.Lone.{turn_alone}
@@ -74,22 +75,22 @@ module _ (w : WorldState) (sound : IsSoundWorld w) (few : w.far.counts.turns < 2
       by (stays e here) = pin_here m new seat h r here again
       by (swapped f e here) = pin_here m new seat h r here again
 
-  object_calm : (seat : ℕ) (handle : Option ℕ) (request : Request) (new : WorldState) (r : Reply)
+  object_calm : (side : Side) (seat : ℕ) (handle : Option ℕ) (request : Request) (new : WorldState) (r : Reply)
       → ((h : ℕ) → handle ≡ Some h → h < w.desk.settings.handles)
-      → ObjectStep seat handle request w r new → IsEased r
-  object_calm seat None request new r ready x = eased_as r _ tt x.0
-  object_calm seat (Some h) (Pin name) new r ready x = pin_line_calm seat h new r (ready h refl) x
-  object_calm seat (Some h) (Peek name) new r ready x = peek_calm seat h w new r x
-  object_calm seat (Some h) (Unpin name) new r ready x = unpin_calm seat h w new r x
-  object_calm seat (Some h) (Read name) new r ready x =
+      → ObjectStep side seat handle request w r new → IsEased r
+  object_calm side seat None request new r ready x = eased_as r _ tt x.0
+  object_calm side seat (Some h) (Pin name) new r ready x = pin_line_calm seat h new r (ready h refl) x
+  object_calm side seat (Some h) (Peek name) new r ready x = peek_calm seat h w new r x
+  object_calm side seat (Some h) (Unpin name) new r ready x = unpin_calm seat h w new r x
+  object_calm side seat (Some h) (Read name) new r ready x =
       event_calm seat (job.Read (record { n = h })) new r tt x
-  object_calm seat (Some h) (Write name at bytes) new r ready x =
+  object_calm side seat (Some h) (Write name at bytes) new r ready x =
       event_calm seat (job.Write (record { n = h }) at bytes) new r tt x
-  object_calm seat (Some h) (Free name) new r ready x =
+  object_calm side seat (Some h) (Free name) new r ready x =
       event_calm seat (job.Free (record { n = h })) new r tt x
-  object_calm seat (Some h) (Filter name) new r ready x =
+  object_calm side seat (Some h) (Filter name) new r ready x =
       event_calm seat (job.Filter (record { n = h })) new r tt x
-  object_calm seat (Some h) request new r ready x = absurd x
+  object_calm side seat (Some h) request new r ready x = absurd x
 
   other_calm : (side : Side) (seat : ℕ) (handle : Option ℕ) (request : Request) (o : Option Job)
       (new : WorldState) (r : Reply) → ((j : Job) → o ≡ Some j → IsWhole j)
@@ -99,7 +100,7 @@ module _ (w : WorldState) (sound : IsSoundWorld w) (few : w.far.counts.turns < 2
       let z = turn_beside j side seat w new r x in
       event_calm seat j z.mid r (whole j refl) z.step
   other_calm side seat handle request None new r whole ready x =
-      object_calm seat handle request new r ready x
+      object_calm side seat handle request new r ready x
 
   go : (nodes : List ℕ) (side : Side) (seat : ℕ) (handle : Option ℕ) (request : Request)
       (new : WorldState) (r : Reply) → IsEasyLine nodes request

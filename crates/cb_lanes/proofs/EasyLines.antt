@@ -18,7 +18,8 @@ use Rattle.cb_world.proofs.Laws.{seat_beside}
 use Rattle.cb_core.specs.Pinning.{PinStep, UnpinStep, given, not_pinned, refused, scope_full, taken}
 use Rattle.cb_core.proofs.Laws.{CrashedAmong, IsIdle, IsWhole, NamesAmong, none_crashed, pin_far, turn_crashed, turn_idle, unpin_far}
 use Rattle.cb_lanes.specs.GivingBack.{GivesAll, Rests}
-use Rattle.cb_lanes.specs.LineStep.{LineStep, job_of}
+use Rattle.cb_lanes.specs.LineGoes.{job_of}
+use Rattle.cb_lanes.specs.LineStep.{LineStep}
 use Rattle.cb_lanes.specs.declared.side.Side.{Side}
 use Rattle.cb_lanes.proofs.LineKeeps.{IsKept, IsOnObject, MayBe, all_kept, line_kept, rests_kept}
 use Rattle.cb_lanes.proofs.Lone.{turn_seats}

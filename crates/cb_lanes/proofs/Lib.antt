@@ -6,7 +6,6 @@ pub mod LooseSpans
 pub mod EasyLines
 pub mod CalmLines
 pub mod Stamps
-pub mod ByRequest
 pub mod Turning
 pub mod PinLists
 pub mod GivingBack
@@ -20,6 +19,8 @@ pub mod Shown
 pub mod Filtering
 pub mod Scoping
 pub mod ScopesKept
+pub mod ByAsk
+pub mod SeatGoes
 pub mod Along
 pub mod AloneValues
 pub mod AloneReplies
@@ -32,6 +33,7 @@ pub mod EasyWorlds
 pub mod Eases
 pub mod LinesFixed
 pub mod LossOrder
+pub mod WorkedGoes
 pub mod WorkedLines
 pub mod WorkedHere
 pub mod WorkedPins

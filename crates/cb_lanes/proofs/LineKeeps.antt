@@ -11,7 +11,8 @@ use Rattle.cb_core.specs.declared.event.Event.TheVariants.{Turn}
 use Rattle.cb_core.specs.Pinning.{PinStep, UnpinStep}
 use Rattle.cb_core.specs.Step.{Leads, Step, TurnStep, held as other_holds, free}
 use Rattle.cb_lanes.specs.GivingBack.{end_of, GivesAll, Rests}
-use Rattle.cb_lanes.specs.LineStep.{LineStep, ObjectStep, OtherStep, TurnAt, job_of, PeekStep, not_pinned, shown, PinLine, at_once, stays_far, swapped_in}
+use Rattle.cb_lanes.specs.LineGoes.{job_of}
+use Rattle.cb_lanes.specs.LineStep.{LineStep, ObjectStep, OtherStep, TurnAt, PeekStep, not_pinned, shown, PinLine, at_once, stays_far, swapped_in}
 use Rattle.cb_lanes.specs.declared.side.Side.{Side}
 use Rattle.cb_lanes.proofs.Recounting.{IsRecounted, turn_beside}
 
@@ -67,21 +68,21 @@ module _ (P : WorldState → Type 0) (May : Job → Type 0) (k : IsKept P May) w
   peek_kept seat h w new r (not_pinned none is same) p = same_kept w new same p
   peek_kept seat h w new r (shown at newest is same) p = same_kept w new same p
 
-  object_kept : (seat : ℕ) (handle : Option ℕ) (request : Request) (w new : WorldState) (r : Reply)
-      → ObjectStep seat handle request w r new → P w → P new
-  object_kept seat None request w new r x p = same_kept w new x.1 p
-  object_kept seat (Some h) (Pin name) w new r x p = pin_kept seat h w new r x p
-  object_kept seat (Some h) (Peek name) w new r x p = peek_kept seat h w new r x p
-  object_kept seat (Some h) (Unpin name) w new r x p = k.unpin seat h w new r x p
-  object_kept seat (Some h) (Read name) w new r x p =
+  object_kept : (side : Side) (seat : ℕ) (handle : Option ℕ) (request : Request) (w new : WorldState) (r : Reply)
+      → ObjectStep side seat handle request w r new → P w → P new
+  object_kept side seat None request w new r x p = same_kept w new x.1 p
+  object_kept side seat (Some h) (Pin name) w new r x p = pin_kept seat h w new r x p
+  object_kept side seat (Some h) (Peek name) w new r x p = peek_kept seat h w new r x p
+  object_kept side seat (Some h) (Unpin name) w new r x p = k.unpin seat h w new r x p
+  object_kept side seat (Some h) (Read name) w new r x p =
       on_object seat (job.Read (record { n = h })) w new r tt x p
-  object_kept seat (Some h) (Write name at bytes) w new r x p =
+  object_kept side seat (Some h) (Write name at bytes) w new r x p =
       on_object seat (job.Write (record { n = h }) at bytes) w new r tt x p
-  object_kept seat (Some h) (Free name) w new r x p =
+  object_kept side seat (Some h) (Free name) w new r x p =
       on_object seat (job.Free (record { n = h })) w new r tt x p
-  object_kept seat (Some h) (Filter name) w new r x p =
+  object_kept side seat (Some h) (Filter name) w new r x p =
       on_object seat (job.Filter (record { n = h })) w new r tt x p
-  object_kept seat (Some h) request w new r x p = absurd x
+  object_kept side seat (Some h) request w new r x p = absurd x
 
   other_kept : (side : Side) (seat : ℕ) (handle : Option ℕ) (request : Request) (o : Option Job)
       (w new : WorldState) (r : Reply) → ((j : Job) → o ≡ Some j → May j)
@@ -89,7 +90,7 @@ module _ (P : WorldState → Type 0) (May : Job → Type 0) (k : IsKept P May) w
   other_kept side seat handle request (Some j) w new r may x p =
       turn_kept side seat j w new r (may j refl) x p
   other_kept side seat handle request None w new r may x p =
-      object_kept seat handle request w new r x p
+      object_kept side seat handle request w new r x p
 
   gives_kept : (seat : ℕ) (pins : List SeatPin) (replies : List Reply) (w new : WorldState)
       → Leads w (map (end_of seat) pins) replies new → P w → P new

@@ -19,14 +19,15 @@ use Rattle.cb_world.specs.StillWords.{contents_at}
 use Rattle.cb_world.specs.World.{WorldState, IsSoundWorld, word_at}
 use Rattle.cb_world.proofs.Laws.{some_same}
 use Rattle.cb_core.specs.declared.event.Event.TheVariants.{Turn}
-use Rattle.cb_core.specs.Step.{Leads}
+use Rattle.cb_core.specs.Step.{Leads, Step}
 use Rattle.cb_core.specs.Turned.{counted}
 use Rattle.cb_core.proofs.Laws.{newest_fixed, step_fixes, unpin_fixed}
 use Rattle.cb_core.proofs.Laws as core
 use Rattle.cb_local.proofs.Laws.{beside_fixed}
 use Rattle.cb_lanes.specs.Asked.{asked}
 use Rattle.cb_lanes.specs.GivingBack.{GivesAll, Rests, end_of, lines_of}
-use Rattle.cb_lanes.specs.LineStep.{IsInReply, LinesLead, LineStep, ObjectStep, OtherStep, TurnAt, job_of, PeekStep, not_pinned, shown, PinEvent, PinLine, at_once, stays_far, swapped_in, SwapEvent, TurnStep}
+use Rattle.cb_lanes.specs.LineGoes.{job_of}
+use Rattle.cb_lanes.specs.LineStep.{IsInReply, LinesLead, LineStep, ObjectStep, OtherStep, TurnAt, PeekStep, not_pinned, shown, PinEvent, PinLine, at_once, stays_far, swapped_in, SwapEvent}
 use Rattle.cb_lanes.specs.LinesSoundly.{LinesLeadSoundly}
 use Rattle.cb_lanes.specs.CompactsHere.{CompactsHere}
 use Rattle.cb_lanes.specs.declared.side.Side.{Side}
@@ -102,26 +103,26 @@ module _ (seat h : ℕ) (w a b : WorldState) (r q : Reply) (sound : IsSoundWorld
       let same = swap_event m n p o x y in
       pin_event seat h n a b r q (subst (λ (v : WorldState). PinEvent seat h v r a) same.1 u) z
 
-  turn_fixed : (j : Job) → TurnStep seat (Some j) w r a → TurnStep seat (Some j) w q b → AreOne r q a b
+  turn_fixed : (j : Job) → Step w (Turn seat j) r a → Step w (Turn seat j) q b → AreOne r q a b
   turn_fixed j x y = step_fixes w a b (Turn seat j) r q sound x y
 
-object_fixed : (seat : ℕ) (handle : Option ℕ) (request : Request) (w a b : WorldState) (r q : Reply)
-    → IsSoundWorld w → ObjectStep seat handle request w r a → ObjectStep seat handle request w q b
+object_fixed : (side : Side) (seat : ℕ) (handle : Option ℕ) (request : Request) (w a b : WorldState) (r q : Reply)
+    → IsSoundWorld w → ObjectStep side seat handle request w r a → ObjectStep side seat handle request w q b
     → AreOne r q a b
-object_fixed seat None request w a b r q sound x y = (x.0 ∙ sym y.0, x.1 ∙ sym y.1)
-object_fixed seat (Some h) (Pin name) w a b r q sound x y = pin_fixed seat h w a b r q sound x y
-object_fixed seat (Some h) (Peek name) w a b r q sound x y = peek_fixed seat h w a b r q x y
-object_fixed seat (Some h) (Unpin name) w a b r q sound x y =
+object_fixed side seat None request w a b r q sound x y = (x.0 ∙ sym y.0, x.1 ∙ sym y.1)
+object_fixed side seat (Some h) (Pin name) w a b r q sound x y = pin_fixed seat h w a b r q sound x y
+object_fixed side seat (Some h) (Peek name) w a b r q sound x y = peek_fixed seat h w a b r q x y
+object_fixed side seat (Some h) (Unpin name) w a b r q sound x y =
     unpin_fixed seat h w a b r q x y
-object_fixed seat (Some h) (Read name) w a b r q sound x y =
+object_fixed side seat (Some h) (Read name) w a b r q sound x y =
     turn_fixed seat h w a b r q sound (job.Read (record { n = h })) x y
-object_fixed seat (Some h) (Write name at bytes) w a b r q sound x y =
+object_fixed side seat (Some h) (Write name at bytes) w a b r q sound x y =
     turn_fixed seat h w a b r q sound (job.Write (record { n = h }) at bytes) x y
-object_fixed seat (Some h) (Free name) w a b r q sound x y =
+object_fixed side seat (Some h) (Free name) w a b r q sound x y =
     turn_fixed seat h w a b r q sound (job.Free (record { n = h })) x y
-object_fixed seat (Some h) (Filter name) w a b r q sound x y =
+object_fixed side seat (Some h) (Filter name) w a b r q sound x y =
     turn_fixed seat h w a b r q sound (job.Filter (record { n = h })) x y
-object_fixed seat (Some h) request w a b r q sound x y = absurd x
+object_fixed side seat (Some h) request w a b r q sound x y = absurd x
 
 here_fixed : (seat : ℕ) (w a b : WorldState) (r q : Reply) → IsSoundWorld w
     → CompactsHere seat w r a → CompactsHere seat w q b → AreOne r q a b
@@ -148,7 +149,7 @@ other_fixed : (side : Side) (seat : ℕ) (handle : Option ℕ) (request : Reques
 other_fixed side seat handle request (Some j) w a b r q sound x y =
     turn_at_fixed j side seat w a b r q sound x y
 other_fixed side seat handle request None w a b r q sound x y =
-    object_fixed seat handle request w a b r q sound x y
+    object_fixed side seat handle request w a b r q sound x y
 
 -- ---- a line
 -- A line has one reply, and leads from a sound world to one world.

@@ -21,7 +21,8 @@ use Rattle.cb_core.specs.Membership.{crashed, is_down}
 use Rattle.cb_core.specs.Step.{TurnStep, worn, done, held as other_holds, free}
 use Rattle.cb_core.proofs.Laws.{lead_rises, step_rises}
 use Rattle.cb_lanes.specs.GivingBack.{GivesAll, Rests, lines_of}
-use Rattle.cb_lanes.specs.LineStep.{LinesLead, LineStep, ObjectStep, OtherStep, job_of, PeekStep, not_pinned, shown, PinLine, at_once, stays_far, swapped_in}
+use Rattle.cb_lanes.specs.LineGoes.{job_of}
+use Rattle.cb_lanes.specs.LineStep.{LinesLead, LineStep, ObjectStep, OtherStep, PeekStep, not_pinned, shown, PinLine, at_once, stays_far, swapped_in}
 use Rattle.cb_lanes.specs.declared.side.Side.{Side}
 use Rattle.cb_lanes.specs.Lost.{AreInOrder, loss_of, losses_of}
 use Rattle.cb_lanes.proofs.Recounting.{turn_beside}
@@ -47,22 +48,22 @@ peek_rises : (seat h : ℕ) (w new : WorldState) (r : Reply) → PeekStep seat h
 peek_rises seat h w new r (not_pinned n e same) = stays w new same
 peek_rises seat h w new r (shown at x e same) = stays w new same
 
-object_rises : (seat : ℕ) (handle : Option ℕ) (request : Request) (w new : WorldState) (r : Reply)
-    → ObjectStep seat handle request w r new → Rises w new
-object_rises seat None request w new r x = stays w new x.1
-object_rises seat (Some h) (Pin name) w new r x = pin_rises seat h w new r x
-object_rises seat (Some h) (Peek name) w new r x = peek_rises seat h w new r x
-object_rises seat (Some h) (Unpin name) w new r x =
+object_rises : (side : Side) (seat : ℕ) (handle : Option ℕ) (request : Request) (w new : WorldState) (r : Reply)
+    → ObjectStep side seat handle request w r new → Rises w new
+object_rises side seat None request w new r x = stays w new x.1
+object_rises side seat (Some h) (Pin name) w new r x = pin_rises seat h w new r x
+object_rises side seat (Some h) (Peek name) w new r x = peek_rises seat h w new r x
+object_rises side seat (Some h) (Unpin name) w new r x =
     step_rises w new (event.Step seat (atomic.Unpin (record { n = h }))) r x
-object_rises seat (Some h) (Read name) w new r x =
+object_rises side seat (Some h) (Read name) w new r x =
     step_rises w new (Turn seat (job.Read (record { n = h }))) r x
-object_rises seat (Some h) (Write name at bytes) w new r x =
+object_rises side seat (Some h) (Write name at bytes) w new r x =
     step_rises w new (Turn seat (job.Write (record { n = h }) at bytes)) r x
-object_rises seat (Some h) (Free name) w new r x =
+object_rises side seat (Some h) (Free name) w new r x =
     step_rises w new (Turn seat (job.Free (record { n = h }))) r x
-object_rises seat (Some h) (Filter name) w new r x =
+object_rises side seat (Some h) (Filter name) w new r x =
     step_rises w new (Turn seat (job.Filter (record { n = h }))) r x
-object_rises seat (Some h) request w new r x = absurd x
+object_rises side seat (Some h) request w new r x = absurd x
 
 gives_rise : (seat : ℕ) (w new : WorldState) → GivesAll seat w new → Rises w new
 gives_rise seat w new x = lead_rises w new _ _ x
@@ -77,7 +78,7 @@ other_rises side seat handle request (Some j) w new r x =
     let z = turn_beside j side seat w new r x in
     let rise = step_rises w z.mid (Turn seat j) r z.step in
     let same = ap (λ (f : FarState). f.members.epoch) z.counts.far in omega (arith, rise, same)
-other_rises side seat handle request None w new r x = object_rises seat handle request w new r x
+other_rises side seat handle request None w new r x = object_rises side seat handle request w new r x
 
 line_rises : (side : Side) (seat : ℕ) (handle : Option ℕ) (request : Request) (w new : WorldState)
     (r : Reply) → LineStep side seat handle request w r new → Rises w new

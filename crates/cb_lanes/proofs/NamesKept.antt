@@ -1,5 +1,5 @@
 -- The names that are kept.
-use Rattle.std.proofs.Common.{◌≡◌, ℕ, ◌<◌, Bool, true, false, cond, List, Option, Some, None, refl, ap}
+use Rattle.std.proofs.Common.{◌≡◌, ℕ, ◌<◌, Bool, true, false, cond, List, Option, Some, None, refl, sym, ap, ◌∙◌, subst}
 use Rattle.std.specs.Option.{option_map}
 use Rattle.std.specs.HashMap.{UpdatesBy}
 use Rattle.std.specs.Str.{bytes_eq}
@@ -8,7 +8,8 @@ use Rattle.cb_types.specs.declared.handle.Handle.{Handle}
 use Rattle.cb_types.specs.declared.request.Request.TheVariants.{Make}
 use Rattle.cb_types.specs.declared.reply.Reply.{Reply}
 use Rattle.cb_types.specs.declared.reply.Reply.TheVariants as reply
-use Rattle.cb_lanes.specs.Names.{Names, kept_handle, kept_number, handle_at, AreKept}
+use Rattle.cb_lanes.specs.Names.{Names, kept_handle, kept_number, handle_at, AreKept, AreNamed}
+use Rattle.cb_lanes.specs.MayAsk.{StayNamed}
 
 mapped : (test : Bool) (here other : Option Handle) (found : Option Handle)
     → found ≡ cond test here other
@@ -40,3 +41,21 @@ pub name_within : (names : Names) (made : ℕ) (name : Option (List ℕ)) (h : �
     → handle_at names name ≡ Some h → h < made
 name_within names made None h within e = absurd cc
 name_within names made (Some q) h within e = within q h e
+
+-- ---- the handles that may be named
+
+-- one more name, whose handle may be named
+pub made_ready : (named after : ℕ → Type 0) (names kept : Names) (name bytes : List ℕ) (handle : Handle)
+    (version : ℕ) → AreNamed named names → StayNamed named after → after handle.n
+    → AreKept names (Make name bytes) (reply.Made handle version) kept → AreNamed after kept
+made_ready named after names kept name bytes handle version ready stay own are q h e =
+    decide (bytes_eq name q) (sym (are q) ∙ e)
+  where
+    decide : (test : Bool) → cond test (Some handle.n) (kept_number names q) ≡ Some h → after h
+    decide true is = let same : handle.n ≡ h = cc in subst after same own
+    decide false is = stay h (ready q h is)
+
+-- the same names
+pub still_ready : (named after : ℕ → Type 0) (names : Names) → AreNamed named names
+    → StayNamed named after → AreNamed after names
+still_ready named after names ready stay q h e = stay h (ready q h e)

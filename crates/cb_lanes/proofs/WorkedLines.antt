@@ -16,7 +16,8 @@ use Rattle.cb_core.specs.declared.event.Event.TheVariants.{Turn}
 use Rattle.cb_core.specs.Step.{Step, held, free, worn, done}
 use Rattle.cb_core.specs.Turned.{counted}
 use Rattle.cb_lanes.specs.Asked.{HasLineReply}
-use Rattle.cb_lanes.specs.LineStep.{job_of, job_on, LineStep, LinesLead, ObjectStep, OtherStep}
+use Rattle.cb_lanes.specs.LineGoes.{job_of, job_on}
+use Rattle.cb_lanes.specs.LineStep.{LineStep, LinesLead, ObjectStep, OtherStep}
 use Rattle.cb_lanes.specs.declared.side.Side.TheVariants.{Nodes}
 use Rattle.cb_lanes.specs.LinesSoundly.{LinesLeadSoundly}
 use Rattle.cb_lanes.specs.LineAnswered.{LineAnswered}
@@ -213,14 +214,14 @@ module _ (w : WorldState) (names : Names) (none : kept_number names (97 ∷ []) 
       → (line : LineAnswered Nodes reading (1 ∷ []) w names [] new other all)
       → (line.reply ≡ Unmade) × (new ≡ w) × (line.between ≡ w)
   is_unmade new other all line =
-      let step = subst (λ (o : Option ℕ). ObjectStep 1 o (Read (97 ∷ [])) w line.reply line.between) none
+      let step = subst (λ (o : Option ℕ). ObjectStep Nodes 1 o (Read (97 ∷ [])) w line.reply line.between) none
       line.step in (step.0, line.rests ∙ step.1, step.1)
 
   is_answered : IsSoundWorld w → LineAnswered Nodes reading (1 ∷ []) w names [] w names (read_as Unmade)
   is_answered sound = record {
     reply = Unmade;
     between = w;
-    step = subst (λ (o : Option ℕ). ObjectStep 1 o (Read (97 ∷ [])) w Unmade w) (sym none) (refl, refl);
+    step = subst (λ (o : Option ℕ). ObjectStep Nodes 1 o (Read (97 ∷ [])) w Unmade w) (sym none) (refl, refl);
     sound = sound;
     rests = refl;
     holds = λ q. refl;

@@ -261,10 +261,10 @@ newest = record {
       omega (arith, lt, within));
 }
 
-peek_is_shown : CallStep 1 0 (Peek a) held (Bytes 7 bytes) held
+peek_is_shown : CallStep Nodes 1 0 (Peek a) held (Bytes 7 bytes) held
 peek_is_shown = shown 0 newest refl refl
 
-peek_at_another_version : CallStep 1 0 (Peek a) held (Bytes 6 bytes) held → ⊥
+peek_at_another_version : CallStep Nodes 1 0 (Peek a) held (Bytes 6 bytes) held → ⊥
 peek_at_another_version (not_pinned none is same) = absurd cc
 peek_at_another_version (shown at n is same) =
     absurd (let seven : n.pin ≡ pin = only at n.pin n.there in
@@ -274,7 +274,7 @@ peek_at_another_version (shown at n is same) =
     only zero p there = cc
     only (suc at) p there = absurd cc
 
-peek_needs_a_pin : CallStep 2 0 (Peek a) held NotPinned held
+peek_needs_a_pin : CallStep Nodes 2 0 (Peek a) held NotPinned held
 peek_needs_a_pin = not_pinned (λ at p there. absurd cc) refl refl
 
 -- ---- pins of objects that are not here

@@ -1,12 +1,11 @@
 -- A line of a script as a step of the world.
-use Rattle.std.specs.Prelude.{◌≡◌, ℕ, ◌<◌, List, [], ◌∷◌, ◌++◌, length, map, Option, None, Some}
+use Rattle.std.specs.Prelude.{◌≡◌, ℕ, ◌<◌, List, [], ◌∷◌, ◌++◌, length, map, Option}
 use Rattle.cb_ptr.specs.declared.word.State.TheVariants as state
 use Rattle.cb_ptr.specs.Word.{len_of, state_of}
 use Rattle.cb_types.specs.declared.answer.Answer.{Answer}
 use Rattle.cb_types.specs.declared.job.Job.{Job}
 use Rattle.cb_types.specs.declared.job.Job.TheVariants as job
 use Rattle.cb_types.specs.declared.request.Request.{Request}
-use Rattle.cb_types.specs.declared.request.Request.TheVariants.{Make, Read, Write, Free, Pin, Peek, Unpin, Filter, Evict, Begin, Ship, Commit, Abort, Pair, Patch, Merge, Part, Compact, Rebuild, Crash, Join, Leave}
 use Rattle.cb_types.specs.declared.reply.Reply.{Reply}
 use Rattle.cb_types.specs.declared.reply.Reply.TheVariants as answer
 use Rattle.cb_types.specs.Requests.{name_of}
@@ -23,36 +22,7 @@ use Rattle.cb_lanes.specs.CompactsHere.{CompactsHere}
 use Rattle.cb_lanes.specs.declared.side.Side.{Side}
 use Rattle.cb_lanes.specs.declared.side.Side.TheVariants as parities
 use Rattle.cb_lanes.specs.GivingBack.{GivesAll, Rests, lines_of}
-
--- the job of a line about no object, where it is a turn
-abbrev pub job_of : Request → Option Job
-job_of Evict = Some job.Evict
-job_of Begin = Some job.Begin
-job_of Ship = Some job.Ship
-job_of Commit = Some job.Commit
-job_of Abort = Some job.Abort
-job_of Pair = Some job.Pair
-job_of Patch = Some job.Patch
-job_of Merge = Some job.Merge
-job_of Part = Some job.Part
-job_of Compact = Some job.Compact
-job_of Rebuild = Some job.Rebuild
-job_of (Crash node) = Some (job.Crash node)
-job_of (Join node) = Some (job.Join node)
-job_of request = None
-
--- the job of a line on an object, where it is a turn
-abbrev pub job_on : ℕ → Request → Option Job
-job_on h (Read name) = Some (job.Read (record { n = h }))
-job_on h (Write name at bytes) = Some (job.Write (record { n = h }) at bytes)
-job_on h (Free name) = Some (job.Free (record { n = h }))
-job_on h (Filter name) = Some (job.Filter (record { n = h }))
-job_on h request = None
-
--- a turn with a job, where there is one
-abbrev pub TurnStep : ℕ → Option Job → WorldState → Reply → WorldState → Type 0
-TurnStep seat None w r new = ⊥
-TurnStep seat (Some job) w r new = Step w (Turn seat job) r new
+use Rattle.cb_lanes.specs.LineGoes.{Goes, Calls, Pins, Peeks, Unpins, Leaves, CallGoes, ObjectGoes, OtherGoes, LineGoes}
 
 -- A peek leaves the world as it is: a seat without a pin on the object is told so, and one that has
 -- a pin is shown the bytes that the object has, at the version of its newest pin on it.
@@ -93,20 +63,6 @@ pub data PinLine (seat h : ℕ) (w : WorldState) (r : Reply) (new : WorldState) 
   swapped_in : (m : WorldState) (q : Reply) → IsFarToPin seat h w → SwapEvent seat h w q m → IsInReply q
       → PinEvent seat h m r new → PinLine seat h w r new
 
--- a line on the object of this handle: the end of a pin is one step, a peek is no event, and every
--- other but a pin is a turn
-abbrev pub CallStep : ℕ → ℕ → Request → WorldState → Reply → WorldState → Type 0
-CallStep seat h (Pin name) w r new = PinLine seat h w r new
-CallStep seat h (Peek name) w r new = PeekStep seat h w r new
-CallStep seat h (Unpin name) w r new = Step w (event.Step seat (atomic.Unpin (record { n = h }))) r new
-CallStep seat h request w r new = TurnStep seat (job_on h request) w r new
-
--- A line on an object: one whose name has no handle, since its make was refused, makes no event and
--- is answered so.
-abbrev pub ObjectStep : ℕ → Option ℕ → Request → WorldState → Reply → WorldState → Type 0
-ObjectStep seat None request w r new = (r ≡ answer.Unmade) × (new ≡ w)
-ObjectStep seat (Some h) request w r new = CallStep seat h request w r new
-
 -- a compaction, by who makes the parities
 abbrev pub CompactsAt : Side → ℕ → WorldState → Reply → WorldState → Type 0
 CompactsAt parities.Nodes seat w r new = Step w (Turn seat job.Compact) r new
@@ -117,21 +73,36 @@ abbrev pub TurnAt : Job → Side → ℕ → WorldState → Reply → WorldState
 TurnAt job.Compact side seat w r new = CompactsAt side seat w r new
 TurnAt j side seat w r new = Step w (Turn seat j) r new
 
+-- What is asked of the lane of this seat leads from one world to another, where this side makes the
+-- parities of a compaction: a call is a turn, the end of a pin is one step, and a peek is no event.
+-- A lane that leaves gives all its pins back, and is told how many.
+abbrev pub goes_at : Side → ℕ → Goes WorldState
+goes_at side seat (Calls j) w r new = TurnAt j side seat w r new
+goes_at side seat (Pins h) w r new = PinLine seat h w r new
+goes_at side seat (Peeks h) w r new = PeekStep seat h w r new
+goes_at side seat (Unpins h) w r new =
+    Step w (event.Step seat (atomic.Unpin (record { n = h }))) r new
+goes_at side seat Leaves w r new =
+    (r ≡ answer.Left (length (pins_of_seat w.seats seat))) × GivesAll seat w new
+
+-- a line on the object of this handle
+abbrev pub CallStep : Side → ℕ → ℕ → Request → WorldState → Reply → WorldState → Type 0
+CallStep side seat h request w r new = CallGoes (goes_at side seat) h request w r new
+
+-- A line on an object: one whose name has no handle, since its make was refused, makes no event and
+-- is answered so.
+abbrev pub ObjectStep : Side → ℕ → Option ℕ → Request → WorldState → Reply → WorldState → Type 0
+ObjectStep side seat handle request w r new = ObjectGoes (goes_at side seat) handle request w r new
+
 -- a line with a job of its own is a turn, and one that has none is on an object
 abbrev pub OtherStep : Side → ℕ → Option ℕ → Request → Option Job → WorldState → Reply
     → WorldState → Type 0
-OtherStep side seat handle request (Some job) w r new = TurnAt job side seat w r new
-OtherStep side seat handle request None w r new = ObjectStep seat handle request w r new
+OtherStep side seat handle request own w r new =
+    OtherGoes (goes_at side seat) handle request own w r new
 
--- A line of the lane of this seat, whose name has this handle, if it has one: it leads from one
--- world to another, where this side makes the parities of a compaction. A lane that leaves gives
--- all its pins back, and is told how many.
+-- A line of the lane of this seat, whose name has this handle, if it has one.
 abbrev pub LineStep : Side → ℕ → Option ℕ → Request → WorldState → Reply → WorldState → Type 0
-LineStep side seat handle (Make name bytes) w r new = Step w (Turn seat (job.Make bytes)) r new
-LineStep side seat handle Leave w r new =
-    (r ≡ answer.Left (length (pins_of_seat w.seats seat))) × GivesAll seat w new
-LineStep side seat handle request w r new =
-    OtherStep side seat handle request (job_of request) w r new
+LineStep side seat handle request w r new = LineGoes (goes_at side seat) handle request w r new
 
 -- The answers behind those before them lead from one world to another, line by line. Behind its
 -- last line a lane's pins are given back, before the next line.

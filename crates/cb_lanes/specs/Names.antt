@@ -44,9 +44,13 @@ abbrev pub AreKept : Names → Request → Reply → Names → Type 0
 AreKept names request reply kept =
     (name : List ℕ) → kept_number kept name ≡ number_after names request reply name
 
+-- the handle of each name may be named
+abbrev pub AreNamed : (ℕ → Type 0) → Names → Type 0
+AreNamed named names = (name : List ℕ) (h : ℕ) → kept_number names name ≡ Some h → named h
+
 -- each name's handle is one of so many
 abbrev pub AreReady : ℕ → Names → Type 0
-AreReady handles names = (name : List ℕ) (h : ℕ) → kept_number names name ≡ Some h → h < handles
+AreReady handles names = AreNamed (λ h. h < handles) names
 
 -- the request is about an object that was to be made before
 abbrev pub IsOnObject : Request → Type 0

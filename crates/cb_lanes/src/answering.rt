@@ -1,56 +1,44 @@
-ghost use Rattle.std.specs.Prelude.{◌≡◌, ◌↔◌, IsTrue, ◌<◌, ◌≤◌, ℕ, List, Some, IfOk, length};
+ghost use Rattle.std.specs.Prelude.{◌≡◌, ◌<◌, ◌≤◌, ℕ, List, Some, IfOk, length};
 ghost use Rattle.std.specs.Option.{option_map};
 ghost use Rattle.cb_script.specs.Form.{IsRequest};
-ghost use Rattle.cb_world.specs.World.{IsSoundWorld};
-ghost use Rattle.cb_core.specs.Jobs.{IsJob};
-ghost use Rattle.cb_core.specs.Events.{IsAtomic};
-ghost use Rattle.cb_core.specs.Step.{AtomicStep, Step};
-ghost use Rattle.cb_lanes.specs.LineStep.{CompactsAt, IsInReply, LineStep, ObjectStep, PeekStep, PinLine, TurnAt, job_of};
-ghost use Rattle.cb_lanes.specs.Names.{AreKept, AreReady, IsOnObject, handle_in};
+ghost use Rattle.cb_lanes.specs.LineGoes.{Calls, LineGoes, ObjectGoes, job_of};
+ghost use Rattle.cb_lanes.specs.MayAsk.{StayNamed};
+ghost use Rattle.cb_lanes.specs.Names.{AreKept, AreNamed, IsOnObject, handle_in};
 
-use crate::compacting::compact_here;
-use crate::resting::give_back;
-use crate::side::Side;
-use cb_core::{Atomic, Event, step};
-use cb_mutate::read;
+use crate::caller::Caller;
 use cb_types::{Bytes, Handle, Job, Name, NoMemory, Reply, Request};
-use cb_world::World;
 use std::alloc::Global;
 use std::collections::HashMap;
 
-/// Answers one request of the lane of this seat in the world, and keeps the handle of a name that
-/// it makes. This side makes the parities of a compaction. A line costs a look at its name by its
-/// hash, and what its event costs.
-pub(crate) fn reply_to<'a>(
+/// Answers one request of a lane by its caller, and keeps the handle of a name that it makes. A line
+/// costs a look at its name by its hash, and what the caller's call costs.
+pub(crate) fn reply_to<'a, C: Caller>(
     alloc: Global,
-    world: &mut World,
+    caller: &C,
+    lane: &mut C::State,
     names: &mut HashMap<&'a [u8], Handle>,
-    side: Side,
-    seat: u32,
     request: &'a Request,
 ) -> Result<Reply, NoMemory>
-    requires seat { seat < 64 }
-    requires request { IsRequest world.old.desk.settings.nodes request.now }
-    requires ready { AreReady world.old.desk.settings.handles names.old }
-    requires sound { IsSoundWorld world.old }
-    ensures line { IfOk result (λ reply. LineStep side seat (handle_in names.old request.now)
-        request.now world.old reply world.new) }
+    requires request { IsRequest (C.nodes caller.now lane.old) request.now }
+    requires ready { AreNamed (C.may_name caller.now lane.old) names.old }
+    requires well { C.well caller.now lane.old }
+    ensures line { IfOk result (λ reply. LineGoes (C.goes caller.now)
+        (handle_in names.old request.now) request.now lane.old reply lane.new) }
     ensures names { IfOk result (λ reply. AreKept names.old request.now reply names.new) }
-    ensures sound { IsSoundWorld world.new }
+    ensures ready { IfOk result (λ reply. AreNamed (C.may_name caller.now lane.new) names.new) }
+    ensures well { C.well caller.now lane.new }
 {
     match request {
-        Request::Make { name, bytes } => make_named(alloc, world, names, seat, name, bytes),
-        Request::Leave => Ok(Reply::Left {
-            pins: give_back(alloc, world, seat)?,
-        }),
+        Request::Make { name, bytes } => make_named(alloc, caller, lane, names, name, bytes),
+        Request::Leave => caller.leave(alloc, lane),
         _ => match job_of(request) {
-            Some(job) => turn_at(alloc, world, side, seat, job),
-            None => call_named(alloc, world, names, seat, request),
+            Some(job) => caller.turn(alloc, lane, job),
+            None => call_named(alloc, caller, lane, names, request),
         },
     }
 }
 
-/// The job of a line about no object, where it is a turn.
+/// The job of a line about no object, where it is one call.
 fn job_of(request: &Request) -> Option<Job>
     ensures { result ≡ job_of request.now }
 {
@@ -72,71 +60,29 @@ fn job_of(request: &Request) -> Option<Job>
     }
 }
 
-/// A turn of a seat, where this side makes the parities of a compaction.
-fn turn_at(
-    alloc: Global,
-    world: &mut World,
-    side: Side,
-    seat: u32,
-    job: Job,
-) -> Result<Reply, NoMemory>
-    requires seat { seat < 64 }
-    requires job { IsJob world.old.desk.settings job }
-    requires sound { IsSoundWorld world.old }
-    ensures step { IfOk result (λ reply. TurnAt job side seat world.old reply world.new) }
-    ensures sound { IsSoundWorld world.new }
-{
-    match job {
-        Job::Compact => compact_at(alloc, world, side, seat),
-        job => turn_of(alloc, world, seat, job),
-    }
-}
-
-/// A compaction, where this side makes the parities.
-fn compact_at(alloc: Global, world: &mut World, side: Side, seat: u32) -> Result<Reply, NoMemory>
-    requires seat { seat < 64 }
-    requires sound { IsSoundWorld world.old }
-    ensures step { IfOk result (λ reply. CompactsAt side seat world.old reply world.new) }
-    ensures sound { IsSoundWorld world.new }
-{
-    match side {
-        Side::Nodes => turn_of(alloc, world, seat, Job::Compact),
-        Side::Compute => compact_here(alloc, world, seat),
-    }
-}
-
-/// A turn of a seat.
-fn turn_of(alloc: Global, world: &mut World, seat: u32, job: Job) -> Result<Reply, NoMemory>
-    requires seat { seat < 64 }
-    requires job { IsJob world.old.desk.settings job }
-    requires sound { IsSoundWorld world.old }
-    ensures step { IfOk result (λ reply. Step world.old (Event.Turn seat job) reply world.new) }
-    ensures sound { IsSoundWorld world.new }
-{
-    step(alloc, world, &Event::Turn { seat, job })
-}
-
 /// Makes an object, and keeps its handle under the name.
-fn make_named<'a>(
+fn make_named<'a, C: Caller>(
     alloc: Global,
-    world: &mut World,
+    caller: &C,
+    lane: &mut C::State,
     names: &mut HashMap<&'a [u8], Handle>,
-    seat: u32,
     name: &'a Name,
     bytes: &Bytes,
 ) -> Result<Reply, NoMemory>
-    requires seat { seat < 64 }
     requires some_byte { 1 ≤ length bytes.now }
     requires few { length bytes.now ≤ 1024 }
-    requires sound { IsSoundWorld world.old }
-    ensures step { IfOk result (λ reply. Step world.old (Event.Turn seat (Job.Make bytes.now)) reply world.new) }
+    requires ready { AreNamed (C.may_name caller.now lane.old) names.old }
+    requires well { C.well caller.now lane.old }
+    ensures step { IfOk result (λ reply.
+        C.goes caller.now (Calls (Job.Make bytes.now)) lane.old reply lane.new) }
     ensures names { IfOk result (λ reply. AreKept names.old (Request.Make name.now bytes.now) reply names.new) }
-    ensures sound { IsSoundWorld world.new }
+    ensures ready { IfOk result (λ reply. AreNamed (C.may_name caller.now lane.new) names.new) }
+    ensures well { C.well caller.now lane.new }
 {
     let job = Job::Make {
         bytes: bytes.copy(alloc)?,
     };
-    match turn_of(alloc, world, seat, job)? {
+    match caller.turn(alloc, lane, job)? {
         Reply::Made { handle, version } => {
             names.insert(name.as_slice(), handle)?;
             Ok(Reply::Made { handle, version })
@@ -146,23 +92,25 @@ fn make_named<'a>(
 }
 
 /// Answers a line on the object of a name. One whose make was refused has no handle.
-fn call_named<'a>(
+fn call_named<'a, C: Caller>(
     alloc: Global,
-    world: &mut World,
+    caller: &C,
+    lane: &mut C::State,
     names: &HashMap<&'a [u8], Handle>,
-    seat: u32,
     request: &'a Request,
 ) -> Result<Reply, NoMemory>
-    requires seat { seat < 64 }
     requires known { IsOnObject request.now }
-    requires ready { AreReady world.old.desk.settings.handles names.now }
-    requires sound { IsSoundWorld world.old }
-    ensures step { IfOk result (λ reply. ObjectStep seat (handle_in names.now request.now) request.now world.old reply world.new) }
-    ensures sound { IsSoundWorld world.new }
+    requires ready { AreNamed (C.may_name caller.now lane.old) names.now }
+    requires well { C.well caller.now lane.old }
+    ensures step { IfOk result (λ reply. ObjectGoes (C.goes caller.now)
+        (handle_in names.now request.now) request.now lane.old reply lane.new) }
+    ensures stays { IfOk result (λ reply.
+        StayNamed (C.may_name caller.now lane.old) (C.may_name caller.now lane.new)) }
+    ensures well { C.well caller.now lane.new }
 {
     match handle_of(names, request) {
         None => Ok(Reply::Unmade),
-        Some(handle) => call_object(alloc, world, seat, handle, request),
+        Some(handle) => call_object(alloc, caller, lane, handle, request),
     }
 }
 
@@ -175,90 +123,36 @@ fn handle_of<'a>(names: &HashMap<&'a [u8], Handle>, request: &'a Request) -> Opt
 }
 
 /// Answers a line on an object.
-fn call_object(
+fn call_object<C: Caller>(
     alloc: Global,
-    world: &mut World,
-    seat: u32,
+    caller: &C,
+    lane: &mut C::State,
     handle: Handle,
     request: &Request,
 ) -> Result<Reply, NoMemory>
-    requires seat { seat < 64 }
     requires known { IsOnObject request.now }
-    requires within { handle.n < world.old.desk.settings.handles }
-    requires sound { IsSoundWorld world.old }
-    ensures step { IfOk result (λ reply. ObjectStep seat (Some handle.n) request.now world.old reply world.new) }
-    ensures sound { IsSoundWorld world.new }
+    requires named { C.may_name caller.now lane.old handle.n }
+    requires well { C.well caller.now lane.old }
+    ensures step { IfOk result (λ reply. ObjectGoes (C.goes caller.now) (Some handle.n) request.now
+        lane.old reply lane.new) }
+    ensures stays { IfOk result (λ reply.
+        StayNamed (C.may_name caller.now lane.old) (C.may_name caller.now lane.new)) }
+    ensures well { C.well caller.now lane.new }
 {
     match request {
-        Request::Pin { .. } => pin(alloc, world, seat, handle),
-        Request::Unpin { .. } => step_of(alloc, world, seat, Atomic::Unpin { handle }),
-        Request::Peek { .. } => peek(alloc, world, seat, handle),
+        Request::Pin { .. } => caller.pin(alloc, lane, handle),
+        Request::Unpin { .. } => caller.unpin(alloc, lane, handle),
+        Request::Peek { .. } => caller.peek(alloc, lane, handle),
         Request::Write { at, bytes, .. } => {
             let job = Job::Write {
                 handle,
                 at: *at,
                 bytes: bytes.copy(alloc)?,
             };
-            turn_of(alloc, world, seat, job)
+            caller.turn(alloc, lane, job)
         }
-        Request::Free { .. } => turn_of(alloc, world, seat, Job::Free { handle }),
-        Request::Filter { .. } => turn_of(alloc, world, seat, Job::Filter { handle }),
-        _ => turn_of(alloc, world, seat, Job::Read { handle }),
-    }
-}
-
-/// An atomic step of a seat.
-fn step_of(alloc: Global, world: &mut World, seat: u32, atomic: Atomic) -> Result<Reply, NoMemory>
-    requires seat { seat < 64 }
-    requires handle { IsAtomic world.old.desk.settings atomic }
-    requires sound { IsSoundWorld world.old }
-    ensures step { IfOk result (λ reply. AtomicStep seat atomic world.old reply world.new) }
-    ensures sound { IsSoundWorld world.new }
-{
-    step(alloc, world, &Event::Step { seat, atomic })
-}
-
-/// Pins an object. One that is not in local memory is swapped in by a turn before, and where it
-/// can't be, the pin is answered as the swap was.
-fn pin(alloc: Global, world: &mut World, seat: u32, handle: Handle) -> Result<Reply, NoMemory>
-    requires seat { seat < 64 }
-    requires within { handle.n < world.old.desk.settings.handles }
-    requires sound { IsSoundWorld world.old }
-    ensures pin { IfOk result (λ reply. PinLine seat handle.n world.old reply world.new) }
-    ensures sound { IsSoundWorld world.new }
-{
-    let pin = Atomic::Pin { handle };
-    match step_of(alloc, world, seat, pin)? {
-        Reply::NotHere => {
-            let reply = turn_of(alloc, world, seat, Job::Swap { handle })?;
-            if is_in(&reply) {
-                step_of(alloc, world, seat, Atomic::Pin { handle })
-            } else {
-                Ok(reply)
-            }
-        }
-        reply => Ok(reply),
-    }
-}
-
-/// Whether a swap's reply says that the object is in local memory.
-fn is_in(reply: &Reply) -> bool
-    ensures { IsTrue result ↔ IsInReply reply.now }
-{
-    matches!(reply, Reply::Stays | Reply::Swapped { .. })
-}
-
-/// Shows an object on which the seat has a pin: it stays as it is, so it is read as it stands, and
-/// the world is unchanged. Refuses with NotPinned where the seat has no pin on it.
-fn peek(alloc: Global, world: &mut World, seat: u32, handle: Handle) -> Result<Reply, NoMemory>
-    requires seat { seat < 64 }
-    requires within { handle.n < world.old.desk.settings.handles }
-    requires sound { IsSoundWorld world.old }
-    ensures peek { IfOk result (λ reply. PeekStep seat handle.n world.old reply world.new) }
-    ensures sound { IsSoundWorld world.new }
-{
-    match world.seats.newest(seat, handle.n) {
-        None => Ok(Reply::NotPinned),
-        Some(_) => read(alloc, &mut world.desk, &mut world.far, handle),
+        Request::Free { .. } => caller.turn(alloc, lane, Job::Free { handle }),
+        Request::Filter { .. } => caller.turn(alloc, lane, Job::Filter { handle }),
+        _ => caller.turn(alloc, lane, Job::Read { handle }),
     }
 }

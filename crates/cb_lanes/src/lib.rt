@@ -2,8 +2,11 @@
 #![tactic(auto)]
 
 mod answering;
+mod caller;
 mod compacting;
+mod noting;
 mod resting;
+mod seat;
 pub mod seq;
 pub mod side;
 

@@ -1,26 +1,27 @@
-ghost use Rattle.std.specs.Prelude.{◌≡◌, ◌<◌, ◌≤◌, ℕ, List, [], ◌∷◌, ◌++◌, map, slice_index, IfOk};
-ghost use Rattle.std.specs.List.{AllByRecursion, cons_option};
+ghost use Rattle.std.specs.Prelude.{◌≡◌, ◌<◌, ◌≤◌, ℕ, List, [], ◌∷◌, map, slice_index, IfOk};
+ghost use Rattle.std.specs.List.{AllByRecursion};
 ghost use Rattle.cb_model.specs.Legal.{IsLegalInOrder};
 ghost use Rattle.cb_script.specs.Form.{IsRequest, IsScript};
 ghost use Rattle.cb_script.specs.Roomy.{IsAtEase};
 ghost use Rattle.cb_world.specs.Seats.{pins_of_seat};
 ghost use Rattle.cb_world.specs.World.{IsSoundWorld, empty_world};
 ghost use Rattle.cb_lanes.specs.Alone.{HasOwnLines, IsCalm, KeepAlone, fresh_lane};
-ghost use Rattle.cb_lanes.specs.Asked.{answer_to, asked, HasLineReply};
+ghost use Rattle.cb_lanes.specs.Asked.{asked, HasLineReply};
 ghost use Rattle.cb_lanes.specs.Held.{HoldsAnswers};
 ghost use Rattle.cb_lanes.specs.LineAnswered.{LineAnswered};
 ghost use Rattle.cb_lanes.specs.LineStep.{LinesLead};
 ghost use Rattle.cb_lanes.specs.LinesSoundly.{LinesLeadSoundly};
 ghost use Rattle.cb_lanes.specs.LinesLeft.{AreLeft};
-ghost use Rattle.cb_lanes.specs.Lost.{AreInOrder, loss_of, losses_of};
+ghost use Rattle.cb_lanes.specs.Lost.{AreInOrder, losses_of};
 ghost use Rattle.cb_lanes.specs.Names.{AreReady};
 ghost use Rattle.cb_lanes.specs.Scopes.{KeepScopes};
 
-use crate::answering::reply_to;
+use crate::noting::answer_by;
 use crate::resting::{LANES, lines_by_lane, rest, take_line};
+use crate::seat::SeatCaller;
 use crate::side::Side;
 use cb_script::{Line, Script};
-use cb_types::{Answer, Answers, Handle, Loss, Losses, NoMemory, Reply, Request};
+use cb_types::{Answers, Handle, Loss, Losses, NoMemory};
 use cb_world::World;
 use std::alloc::Global;
 use std::collections::HashMap;
@@ -108,52 +109,11 @@ fn answer_line<'a>(
     ensures left { (later : List ℕ) → AreLeft (line.now.lane.n ∷ later) left.old → AreLeft later left.new }
     ensures sound { IsSoundWorld world.new }
 {
-    let seat = u32::from(line.lane.n);
+    let caller = SeatCaller {
+        side,
+        seat: u32::from(line.lane.n),
+    };
     let behind = take_line(left, line.lane.n);
-    let reply = reply_to(alloc, world, names, side, seat, &line.request)?;
-    rest(alloc, world, seat, behind)?;
-    note_answer(alloc, answers, losses, line, reply)
-}
-
-/// Adds the answer of a line, and its loss, where it has one.
-fn note_answer(
-    alloc: Global,
-    answers: &mut Answers,
-    losses: &mut Vec<Loss>,
-    line: &Line,
-    reply: Reply,
-) -> Result<(), NoMemory>
-    ensures answer { IfOk result (λ done. answers.new ≡ answers.old ++ answer_to line.now line.now.request reply ∷ []) }
-    ensures losses { losses.old.items ≡ losses_of answers.old → IfOk result (λ done. losses.new.items ≡ losses_of answers.new) }
-{
-    note_loss(losses, &line.request, &reply)?;
-    answers.push(Answer {
-        lane: line.lane,
-        line: line.line,
-        request: line.request.copy(alloc)?,
-        reply,
-    })
-}
-
-/// Adds the loss of an answered line, where it has one.
-fn note_loss(losses: &mut Vec<Loss>, request: &Request, reply: &Reply) -> Result<(), NoMemory>
-    ensures noted { IfOk result (λ done. losses.new.items ≡ losses.old.items ++ cons_option (loss_of request.now reply.now) []) }
-{
-    if let Some(loss) = loss_of(request, reply) {
-        losses.push(loss)?;
-    }
-    Ok(())
-}
-
-/// The loss of an answered line: the node of a crash that took place, with its epoch.
-fn loss_of(request: &Request, reply: &Reply) -> Option<Loss>
-    ensures { result ≡ loss_of request.now reply.now }
-{
-    match (request, reply) {
-        (Request::Crash { node }, Reply::EpochAt { epoch }) => Some(Loss {
-            node: *node,
-            epoch: *epoch,
-        }),
-        _ => None,
-    }
+    answer_by(alloc, &caller, world, names, answers, losses, line)?;
+    rest(alloc, world, caller.seat, behind)
 }

@@ -11,7 +11,7 @@ use Rattle.cb_world.specs.World.{WorldState}
 use Rattle.cb_lanes.specs.LineStep.{PinEvent, SwapEvent, at_once, stays_far, swapped_in}
 use Rattle.cb_lanes.proofs.FarPins.{far_to_pin}
 use Rattle.cb_lanes.proofs.Shown.{ok_then}
-use Rattle.cb_lanes.proofs.answering.pin.Goals as goal
+use Rattle.cb_lanes.proofs.seat.pin.Goals as goal
 
 pub turn_of-requires-clause-job : goal.turn_of-requires-clause-job
 turn_of-requires-clause-job c = subst (λ (d : Config). c.args.handle.n < d.handles)

@@ -1,5 +1,5 @@
-use Rattle.cb_lanes.proofs.ByRequest.{other_turn}
-use Rattle.cb_lanes.proofs.answering.turn_at.Goals as goal
+use Rattle.cb_lanes.proofs.SeatGoes.{other_turn}
+use Rattle.cb_lanes.proofs.seat.turn_at.Goals as goal
 
 pub returns-in_default-clause-step : goal.returns-in_default-clause-step
 returns-in_default-clause-step c = other_turn c.args.job c.args.side c.args.seat c.args.world.now

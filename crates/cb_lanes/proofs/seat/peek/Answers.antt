@@ -2,7 +2,7 @@ use Rattle.std.proofs.Common.{sym, subst}
 use Rattle.cb_world.specs.World.{WorldState, IsSoundWorld}
 use Rattle.cb_lanes.specs.LineStep.{PeekStep}
 use Rattle.cb_lanes.proofs.Shown.{ok_then, either_way, PeekedAt, peek_is, peek_sound, peek_stopped}
-use Rattle.cb_lanes.proofs.answering.peek.Goals as goal
+use Rattle.cb_lanes.proofs.seat.peek.Goals as goal
 
 pub returns-in-Some-clause-peek : goal.returns-in-Some-clause-peek
 returns-in-Some-clause-peek c =

@@ -3,7 +3,7 @@ use Rattle.cb_types.specs.declared.request.Request.{Request}
 use Rattle.cb_lanes.specs.Asked.{answer_to}
 use Rattle.cb_lanes.proofs.Along.{losses_push}
 use Rattle.cb_lanes.proofs.Shown.{ok_then}
-use Rattle.cb_lanes.proofs.seq.note_answer.Goals as goal
+use Rattle.cb_lanes.proofs.noting.note_answer.Goals as goal
 
 pub returns-clause-answer : goal.returns-clause-answer
 returns-clause-answer c = ok_then c.push.result (λ done added.

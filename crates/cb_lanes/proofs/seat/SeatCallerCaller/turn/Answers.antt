@@ -1,0 +1,16 @@
+use Rattle.cb_lanes.specs.LineGoes.{Calls}
+use Rattle.cb_lanes.proofs.SeatGoes.{may_ask, seat_made, seat_stays}
+use Rattle.cb_lanes.proofs.seat.SeatCallerCaller.turn.Goals as goal
+
+pub turn_at-requires-clause-job : goal.turn_at-requires-clause-job
+turn_at-requires-clause-job c = may_ask c.args.world.now.desk.settings c.args.job c.requires.job
+
+pub returns : goal.returns
+returns c = record {
+  goes = c.turn_at.ensures.step;
+  stays = seat_stays c.args.self.now.side c.args.self.now.seat (Calls c.args.job) c.args.world.now
+      c.turn_at.new.world c.turn_at.result c.requires.well.1 c.requires.well.0 c.turn_at.ensures.step;
+  made = seat_made c.args.self.now.side c.args.self.now.seat c.args.job c.args.world.now
+      c.turn_at.new.world c.turn_at.result c.requires.well.1 c.turn_at.ensures.sound c.turn_at.ensures.step;
+  well = (c.requires.well.0, c.turn_at.ensures.sound);
+}
