@@ -1,2 +1,3 @@
 -- The lemmas of this crate that other crates cite.
+pub use Rattle.cb_record.proofs.Listing.{among_none, has_left, has_one_left, has_one_right, has_right}
 pub use Rattle.cb_record.proofs.Summing.{backs_still, backs_sum, grown-nothing_more, grown-sum, idle_backs, nothing_more-sum, sum-nothing_more, sum-sum, tolds-append}
