@@ -32,6 +32,10 @@ pub mod EasyWorlds
 pub mod Eases
 pub mod LinesFixed
 pub mod LossOrder
+pub mod LineParts
+pub mod LinesBack
+pub mod PinsHeld
+pub mod Trying
 pub mod WorkedLines
 pub mod WorkedHere
 pub mod WorkedPins

@@ -4,6 +4,8 @@ pub mod GivingBack
 pub mod LinesLeft
 pub mod CompactsHere
 pub mod LineGoes
+pub mod Passing
+pub mod Bodies
 pub mod LineStep
 pub mod LinesSoundly
 pub mod LineAnswered

@@ -41,18 +41,18 @@ job_on h (Free name) = Some (job.Free (record { n = h }))
 job_on h (Filter name) = Some (job.Filter (record { n = h }))
 job_on h request = None
 
-module _ {A : Type 0} where
-  -- what is asked leads from one state of whatever answers to another
-  abbrev pub Goes : Type 1
-  Goes = Ask → A → Reply → A → Type 0
+-- what is asked leads from one state of whatever answers to another
+abbrev pub Goes : Type 0 → Type 1
+Goes A = Ask → A → Reply → A → Type 0
 
+module _ {A : Type 0} where
   -- a call with a job, where there is one
-  abbrev pub JobGoes : Goes → Option Job → A → Reply → A → Type 0
+  abbrev pub JobGoes : Goes A → Option Job → A → Reply → A → Type 0
   JobGoes goes None a r b = ⊥
   JobGoes goes (Some j) a r b = goes (Calls j) a r b
 
   -- a line on the object of this handle
-  abbrev pub CallGoes : Goes → ℕ → Request → A → Reply → A → Type 0
+  abbrev pub CallGoes : Goes A → ℕ → Request → A → Reply → A → Type 0
   CallGoes goes h (Pin name) a r b = goes (Pins h) a r b
   CallGoes goes h (Peek name) a r b = goes (Peeks h) a r b
   CallGoes goes h (Unpin name) a r b = goes (Unpins h) a r b
@@ -60,17 +60,17 @@ module _ {A : Type 0} where
 
   -- A line on an object: one whose name has no handle, since its make was refused, asks for nothing
   -- and is answered so.
-  abbrev pub ObjectGoes : Goes → Option ℕ → Request → A → Reply → A → Type 0
+  abbrev pub ObjectGoes : Goes A → Option ℕ → Request → A → Reply → A → Type 0
   ObjectGoes goes None request a r b = (r ≡ answer.Unmade) × (b ≡ a)
   ObjectGoes goes (Some h) request a r b = CallGoes goes h request a r b
 
   -- a line with a job of its own, and one on an object
-  abbrev pub OtherGoes : Goes → Option ℕ → Request → Option Job → A → Reply → A → Type 0
+  abbrev pub OtherGoes : Goes A → Option ℕ → Request → Option Job → A → Reply → A → Type 0
   OtherGoes goes handle request (Some j) a r b = goes (Calls j) a r b
   OtherGoes goes handle request None a r b = ObjectGoes goes handle request a r b
 
   -- a line, whose name has this handle, if it has one
-  abbrev pub LineGoes : Goes → Option ℕ → Request → A → Reply → A → Type 0
+  abbrev pub LineGoes : Goes A → Option ℕ → Request → A → Reply → A → Type 0
   LineGoes goes handle (Make name bytes) a r b = goes (Calls (job.Make bytes)) a r b
   LineGoes goes handle Leave a r b = goes Leaves a r b
   LineGoes goes handle request a r b = OtherGoes goes handle request (job_of request) a r b

@@ -2,10 +2,12 @@
 #![tactic(auto)]
 
 mod answering;
+pub mod body;
 mod compacting;
 mod resting;
 pub mod seq;
 pub mod side;
 
+pub use body::{LaneEnd, Named, Names, Stopped};
 pub use seq::{SeqEnd, run_lines};
 pub use side::Side;
