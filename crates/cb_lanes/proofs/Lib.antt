@@ -34,6 +34,10 @@ pub mod Eases
 pub mod LinesFixed
 pub mod LossOrder
 pub mod WorkedGoes
+pub mod LineParts
+pub mod LinesBack
+pub mod PinsHeld
+pub mod Trying
 pub mod WorkedLines
 pub mod WorkedHere
 pub mod WorkedPins

@@ -6,6 +6,8 @@ pub mod CompactsHere
 pub mod LineGoes
 pub mod MayAsk
 pub mod AnsweredBy
+pub mod Passing
+pub mod Bodies
 pub mod LineStep
 pub mod LinesSoundly
 pub mod LineAnswered

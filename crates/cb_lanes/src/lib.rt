@@ -3,6 +3,7 @@
 
 mod answering;
 mod caller;
+pub mod body;
 mod compacting;
 mod noting;
 mod resting;
@@ -10,5 +11,6 @@ mod seat;
 pub mod seq;
 pub mod side;
 
+pub use body::{LaneEnd, Named, Names, Stopped};
 pub use seq::{SeqEnd, run_lines};
 pub use side::Side;

@@ -1,10 +1,11 @@
 -- What parts back adds up: one part and a later one back the answers of both.
-use Rattle.std.proofs.Common.{◌≡◌, ◌+◌, List, [], ◌∷◌, ◌++◌, map, sym, ap, ◌∙◌, append_assoc, subst, arith}
+use Rattle.std.proofs.Common.{◌≡◌, ◌+◌, List, [], ◌∷◌, ◌++◌, map, sym, ap, ◌∙◌, append_assoc, subst, inl, inr, Some, arith}
 use Rattle.std.specs.List.{flat_map}
 use Rattle.std.proofs.lemmas.List.{append-nil, map-append}
 use Rattle.std.proofs.lemmas.List.Concat.{flat_map-append}
 use Rattle.std.proofs.lemmas.List.Sums.{sum_by-append}
 use Rattle.cb_types.specs.declared.answer.Answer.{Answer}
+use Rattle.cb_types.specs.declared.reply.Reply.TheVariants as answer
 use Rattle.cb_world.specs.declared.entry.Entry.{Entry}
 use Rattle.cb_rule.specs.declared.turn.Turn.{Turn}
 use Rattle.cb_rule.specs.declared.view.View.{View}
@@ -43,7 +44,10 @@ meets_earlier d e (AFreed h) m = (
   has_one_right (IsFreedAs h) e.seen d.seen m.0,
   has_one_right (FindsEmpty h) e.looks d.looks m.1,
 )
-meets_earlier d e (APinned h count) m = has_one_right (FindsPins h count) e.looks d.looks m
+meets_earlier d e (APinned own h count) (inl m) =
+    inl (has_one_right (FindsPins h count) e.looks d.looks m)
+meets_earlier d e (APinned own h count) (inr m) =
+    inr (has_one_right (IsTurnFor own (Some h) (answer.Pinned count)) e.turns d.turns m)
 meets_earlier d e (ATurn own h reply) m = has_one_right (IsTurnFor own h reply) e.turns d.turns m
 
 -- and what the later one has
@@ -60,7 +64,10 @@ meets_later d e (AFreed h) m = (
   has_one_left (IsFreedAs h) e.seen d.seen m.0,
   has_one_left (FindsEmpty h) e.looks d.looks m.1,
 )
-meets_later d e (APinned h count) m = has_one_left (FindsPins h count) e.looks d.looks m
+meets_later d e (APinned own h count) (inl m) =
+    inl (has_one_left (FindsPins h count) e.looks d.looks m)
+meets_later d e (APinned own h count) (inr m) =
+    inr (has_one_left (IsTurnFor own (Some h) (answer.Pinned count)) e.turns d.turns m)
 meets_later d e (ATurn own h reply) m = has_one_left (IsTurnFor own h reply) e.turns d.turns m
 
 abbrev pub happenings : List Turn → List Deed

@@ -30,7 +30,8 @@ peek_needs = refl
 freed_needs : need_of (Some 3) (request.Write (97 ∷ []) 0 []) answer.Freed ≡ AFreed 3
 freed_needs = refl
 
-pinned_needs : need_of (Some 3) (request.Free (97 ∷ [])) (answer.Pinned 1) ≡ APinned 3 1
+pinned_needs : need_of (Some 3) (request.Free (97 ∷ [])) (answer.Pinned 1)
+    ≡ APinned (Some (job.Free (record { n = 3 }))) 3 1
 pinned_needs = refl
 
 full_needs : need_of None (request.Make (97 ∷ []) []) (answer.Full 4)
@@ -142,11 +143,17 @@ freed_unread l m = m.0
 freed_unlooked : Meets (record nothing_more { seen = record seen_two { freed = true } ∷ [] }) (AFreed 3) → ⊥
 freed_unlooked m = m.1
 
-pins_found : (l : Look) → FindsPins 3 1 l → Meets (record nothing_more { looks = l ∷ [] }) (APinned 3 1)
-pins_found l found = inl found
+pins_found : (l : Look) → FindsPins 3 1 l
+    → Meets (record nothing_more { looks = l ∷ [] }) (APinned None 3 1)
+pins_found l found = inl (inl found)
 
-pins_unlooked : Meets nothing_more (APinned 3 1) → ⊥
-pins_unlooked m = m
+pins_unlooked : (own : Option Job) → Meets nothing_more (APinned own 3 1) → ⊥
+pins_unlooked own (inl m) = m
+pins_unlooked own (inr m) = m
+
+pins_told : (t : Turn) → IsTurnFor (Some (job.Free (record { n = 3 }))) (Some 3) (answer.Pinned 1) t
+    → Meets (record nothing_more { turns = t ∷ [] }) (APinned (Some (job.Free (record { n = 3 }))) 3 1)
+pins_told t of = inr (inl of)
 
 -- ---- turns
 abbrev swapped : Job → ℕ

@@ -8,7 +8,7 @@ use Rattle.cb_types.specs.declared.job.Job.TheVariants as job
 use Rattle.cb_types.specs.declared.reply.Reply.{Reply}
 use Rattle.cb_types.specs.declared.reply.Reply.TheVariants as answer
 use Rattle.cb_types.specs.declared.request.Request.{Request}
-use Rattle.cb_types.specs.declared.request.Request.TheVariants.{Make, Read, Write, Free, Pin, Peek}
+use Rattle.cb_types.specs.declared.request.Request.TheVariants.{Make, Read, Write, Free, Pin, Peek, Filter, Evict, Begin, Ship, Commit, Abort, Pair, Patch, Merge, Part, Compact, Rebuild, Crash, Join}
 use Rattle.cb_world.specs.Memory.{bytes_in, words_for}
 use Rattle.cb_rule.specs.declared.turn.Turn.{Turn}
 use Rattle.cb_rule.specs.declared.view.Look.{Look}
@@ -16,7 +16,7 @@ use Rattle.cb_rule.specs.declared.view.Peeked.{Peeked}
 use Rattle.cb_rule.specs.declared.view.Seen.{Seen}
 use Rattle.cb_rule.specs.Lists.{Has}
 use Rattle.cb_record.specs.Lists.{HasOne}
-use Rattle.cb_record.specs.Parts.{Part}
+use Rattle.cb_record.specs.Parts as parts
 
 -- nothing; a version that was read, pinned or peeked; a freed entry; a number of pins; or a turn
 -- with this reply, whose job is the line's own or brings its object in
@@ -26,18 +26,32 @@ pub data Need : Type 0 where
   APin : (h version : ℕ) → Need
   APeek : (h version : ℕ) (bytes : List ℕ) → Need
   AFreed : (h : ℕ) → Need
-  APinned : (h count : ℕ) → Need
+  APinned : (own : Option Job) (h count : ℕ) → Need
   ATurn : (own : Option Job) (h : Option ℕ) (reply : Reply) → Need
 
 abbrev pub the_object : ℕ → Handle
 the_object h = record { n = h }
 
--- the job of a line that is a call on an object
+-- the job of a line that is a call with one
 abbrev pub own_job : Option ℕ → Request → Option Job
 own_job h (Make name bytes) = Some (job.Make bytes)
 own_job (Some h) (Read name) = Some (job.Read (the_object h))
 own_job (Some h) (Write name at bytes) = Some (job.Write (the_object h) at bytes)
 own_job (Some h) (Free name) = Some (job.Free (the_object h))
+own_job (Some h) (Filter name) = Some (job.Filter (the_object h))
+own_job h Evict = Some job.Evict
+own_job h Begin = Some job.Begin
+own_job h Ship = Some job.Ship
+own_job h Commit = Some job.Commit
+own_job h Abort = Some job.Abort
+own_job h Pair = Some job.Pair
+own_job h Patch = Some job.Patch
+own_job h Merge = Some job.Merge
+own_job h Part = Some job.Part
+own_job h Compact = Some job.Compact
+own_job h Rebuild = Some job.Rebuild
+own_job h (Crash node) = Some (job.Crash node)
+own_job h (Join node) = Some (job.Join node)
 own_job h request = None
 
 -- what the line needs, by what it was answered
@@ -45,8 +59,10 @@ abbrev pub need_of : Option ℕ → Request → Reply → Need
 need_of (Some h) (Read name) (answer.Bytes version bytes) = ARead h version bytes
 need_of (Some h) (Pin name) (answer.Version version) = APin h version
 need_of (Some h) (Peek name) (answer.Bytes version bytes) = APeek h version bytes
-need_of (Some h) (Write name at bytes) (answer.Pinned count) = APinned h count
-need_of (Some h) (Free name) (answer.Pinned count) = APinned h count
+need_of (Some h) (Write name at bytes) (answer.Pinned count) =
+    APinned (Some (job.Write (the_object h) at bytes)) h count
+need_of (Some h) (Free name) (answer.Pinned count) =
+    APinned (Some (job.Free (the_object h))) h count
 need_of (Some h) request answer.Freed = AFreed h
 need_of h request (answer.Full handles) = ATurn (own_job h request) h (answer.Full handles)
 need_of h request (answer.NoRoom frames loose nodes) =
@@ -95,12 +111,13 @@ IsJobFor own None j = own ≡ Some j
 abbrev pub IsTurnFor : Option Job → Option ℕ → Reply → Turn → Type 0
 IsTurnFor own h reply t = (t.reply ≡ Some reply) × IsJobFor own h t.job
 
--- the part of a record has what is needed
-abbrev pub Meets : Part → Need → Type 0
+-- A part of a record has what is needed. Pins are found by a look, or by a turn of the line's own.
+abbrev pub Meets : parts.Part → Need → Type 0
 Meets d Nothing = Unit {0}
 Meets d (ARead h version bytes) = HasOne (IsReadAs h version bytes) d.seen
 Meets d (APin h version) = HasOne (IsPinnedAs h version) d.seen
 Meets d (APeek h version bytes) = ArePeeked h version bytes d.peeked
 Meets d (AFreed h) = HasOne (IsFreedAs h) d.seen × HasOne (FindsEmpty h) d.looks
-Meets d (APinned h count) = HasOne (FindsPins h count) d.looks
+Meets d (APinned own h count) = HasOne (FindsPins h count) d.looks
+    ⊎ HasOne (IsTurnFor own (Some h) (answer.Pinned count)) d.turns
 Meets d (ATurn own h reply) = HasOne (IsTurnFor own h reply) d.turns

@@ -17,6 +17,7 @@ use Rattle.cb_rule.specs.declared.view.View.{View}
 use Rattle.cb_rule.specs.Lists.{Each, Has}
 use Rattle.cb_rule.specs.Steps.{Knows, look_at}
 use Rattle.cb_shared.specs.Calls.{AsksFor, AtNone, AtThis, EndsAtLast, IsAnswer, IsAnswerTo, IsCalled, IsInVain, ReadEnds, ReadGives, ReadTries, Stops, TurnEnds, TurnGives, TurnTries, the_handle}
+use Rattle.cb_record.specs.Deeds.{deed, happened, happening}
 use Rattle.cb_record.specs.Parts.{Part, Grows, grown, nothing_more, sum}
 use Rattle.cb_shared.specs.declared.reading.ReadAnswer.{ReadAnswer}
 use Rattle.cb_shared.specs.declared.reading.ReadAnswer.TheVariants as found
@@ -35,7 +36,7 @@ each_never P (x ∷ xs) none = absurd none.0
 
 module _ (on : ℕ → Type 0) (job : Job) where
   pub vain_none : IsInVain on job nothing_more
-  vain_none = record { looks = []; turns = []; at = tt; of = tt; part = refl }
+  vain_none = record { looks = []; turns = []; at = tt; of = tt; idle = tt; part = refl }
 
   pub vain_sum : (d e : Part) → IsInVain on job d → IsInVain on job e → IsInVain on job (sum d e)
   vain_sum d e x y = record {
@@ -43,6 +44,7 @@ module _ (on : ℕ → Type 0) (job : Job) where
     turns = y.turns ++ x.turns;
     at = each_both (λ (l : Look). on l.handle) y.looks x.looks y.at x.at;
     of = each_both _ y.turns x.turns y.of x.of;
+    idle = each_both _ y.turns x.turns y.idle x.idle;
     part = λ i. sum (x.part i) (y.part i);
   }
 
@@ -75,6 +77,7 @@ vain_any on job d x = record {
   turns = x.turns;
   at = each_never (λ (l : Look). on l.handle) x.looks x.at;
   of = x.of;
+  idle = x.idle;
   part = x.part;
 }
 
@@ -84,6 +87,7 @@ vain_look h word job = record {
   turns = [];
   at = (refl, tt);
   of = tt;
+  idle = tt;
   part = refl;
 }
 
@@ -110,18 +114,24 @@ later_none job answer.Freed v d none x =
     subst (λ (o : Option ℕ). FindsFreed o v d) (none refl) x
 later_none job r v d none x = x
 
+make_idle : (bytes : List ℕ) (r : Reply) → ((h : Handle) (v : ℕ) → r ≡ answer.Made h v → ⊥)
+    → happening (jobs.Make bytes) (Some r) ≡ []
+make_idle bytes (answer.Made h v) off = absurd (off h v refl)
+make_idle bytes r off = refl
+
 made_none : (r : Reply) → ((h : Handle) (v : ℕ) → r ≡ answer.Made h v → ⊥) → made_in (Some r) ≡ []
 made_none (answer.Made h v) off = absurd (off h v refl)
 made_none r off = refl
 
 vain_turn : (c : Config) (job : Job) (r : Result Reply NoMemory) (v : View) (d : Part)
     → (x : TurnAdds c job r v d) → x.more ≡ [] → x.within ≡ nothing_more
-    → x.later ≡ nothing_more → IsInVain AtNone job d
-vain_turn c job r v d x more within later = record {
+    → x.later ≡ nothing_more → happening job (answer_of r) ≡ [] → IsInVain AtNone job d
+vain_turn c job r v d x more within later idle = record {
   looks = [];
   turns = x.turn ∷ [];
   at = tt;
   of = (x.job_is, tt);
+  idle = ((λ i. happening (x.job_is i) (x.reply_is i)) ∙ idle, tt);
   part = x.part ∙ (λ i. turn_part x.turn (more i) (within i) (later i));
 }
 
@@ -133,7 +143,7 @@ turn_vain c (jobs.Make bytes) r v d called off x =
     let other : (h : Handle) (w : ℕ) → r ≡ answer.Made h w → ⊥ =
     λ h w e. off (subst (IsAnswerTo c (jobs.Make bytes)) (sym e) (inl tt)) in (
       vain_turn c (jobs.Make bytes) (Ok r) v d x (make_none bytes r x.more other x.wrote) x.reads
-          (later_none (jobs.Make bytes) r _ x.later (λ _. refl) x.finds),
+          (later_none (jobs.Make bytes) r _ x.later (λ _. refl) x.finds) (make_idle bytes r other),
       made_none r other,
     )
 turn_vain c (jobs.Write handle at bytes) r v d called off x = (
@@ -143,7 +153,7 @@ turn_vain c (jobs.Write handle at bytes) r v d called off x = (
       x.reads
       (later_none (jobs.Write handle at bytes) r _ x.later
       (λ e. absurd (off (subst (IsAnswerTo c (jobs.Write handle at bytes)) (sym e) (inl tt))))
-      x.finds),
+      x.finds) refl,
   refl,
 )
 turn_vain c (jobs.Free handle) r v d called off x = (
@@ -151,12 +161,12 @@ turn_vain c (jobs.Free handle) r v d called off x = (
       (free_none handle.n r x.more
       (λ w e. off (subst (IsAnswerTo c (jobs.Free handle)) (sym e) (inl tt))) x.wrote) x.reads
       (later_none (jobs.Free handle) r _ x.later
-      (λ e. absurd (off (subst (IsAnswerTo c (jobs.Free handle)) (sym e) (inl tt)))) x.finds),
+      (λ e. absurd (off (subst (IsAnswerTo c (jobs.Free handle)) (sym e) (inl tt)))) x.finds) refl,
   refl,
 )
 turn_vain c (jobs.Swap handle) r v d called off x = (
   vain_turn c (jobs.Swap handle) (Ok r) v d x x.wrote x.reads
-      (later_none (jobs.Swap handle) r _ x.later (λ _. refl) x.finds),
+      (later_none (jobs.Swap handle) r _ x.later (λ _. refl) x.finds) refl,
   refl,
 )
 turn_vain c job r v d called off x = absurd called
@@ -165,13 +175,13 @@ turn_vain c job r v d called off x = absurd called
 pub turn_stops : (c : Config) (job : Job) (e : NoMemory) (v : View) (d : Part) → IsCalled job
     → TurnAdds c job (Err e) v d → IsInVain AtNone job d × (made_by job None ≡ [])
 turn_stops c (jobs.Make bytes) e v d called x =
-    (vain_turn c (jobs.Make bytes) (Err e) v d x x.wrote x.reads x.finds, refl)
+    (vain_turn c (jobs.Make bytes) (Err e) v d x x.wrote x.reads x.finds refl, refl)
 turn_stops c (jobs.Write handle at bytes) e v d called x =
-    (vain_turn c (jobs.Write handle at bytes) (Err e) v d x x.wrote x.reads x.finds, refl)
+    (vain_turn c (jobs.Write handle at bytes) (Err e) v d x x.wrote x.reads x.finds refl, refl)
 turn_stops c (jobs.Free handle) e v d called x =
-    (vain_turn c (jobs.Free handle) (Err e) v d x x.wrote x.reads x.finds, refl)
+    (vain_turn c (jobs.Free handle) (Err e) v d x x.wrote x.reads x.finds refl, refl)
 turn_stops c (jobs.Swap handle) e v d called x =
-    (vain_turn c (jobs.Swap handle) (Err e) v d x x.wrote x.reads x.finds, refl)
+    (vain_turn c (jobs.Swap handle) (Err e) v d x x.wrote x.reads x.finds refl, refl)
 turn_stops c job e v d called x = absurd called
 
 grows_own : (made : List ℕ) (v w : View) (d : Part) → made ≡ [] → w ≡ with_own made (grown d v)
@@ -284,6 +294,7 @@ found_raced h saw other a v w is (d, grew, f) =
         turns = [];
         at = (refl, (refl, tt));
         of = tt;
+        idle = tt;
         part = x.1;
       },
       grew,
@@ -320,7 +331,7 @@ has_behind : {A : Type 0} (x : A) (xs ys : List A) → Has x ys → Has x (xs ++
 has_behind x [] ys has = has
 has_behind x (y ∷ xs) ys has = inr (has_behind x xs ys has)
 
-known_grown : (h : ℕ) (d : Part) (v : View) → Knows h v → Knows h (grown d v)
+pub known_grown : (h : ℕ) (d : Part) (v : View) → Knows h v → Knows h (grown d v)
 known_grown h d v (inl (e, has, is)) = inl (e, has_behind e d.written v.written has, is)
 known_grown h d v (inr (s, has, is)) = inr (s, has_behind s d.seen v.seen has, is)
 

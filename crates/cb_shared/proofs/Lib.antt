@@ -37,3 +37,4 @@ pub mod WorkedClosing
 pub mod WorkedTurns
 pub mod WorkedReads
 pub mod WorkedCalls
+pub mod Laws

@@ -5,11 +5,13 @@ use Rattle.cb_types.specs.declared.config.Config.{Config}
 use Rattle.cb_types.specs.declared.job.Job.TheVariants as jobs
 use Rattle.cb_types.specs.declared.reply.Reply.TheVariants as answer
 use Rattle.cb_ptr.specs.Word.{state_of, state_number}
+use Rattle.cb_rule.specs.declared.turn.Turn.{Turn}
 use Rattle.cb_rule.specs.declared.view.Look.{Look}
 use Rattle.cb_rule.specs.Lists.{Each}
 use Rattle.cb_rule.specs.Steps.{IsNewest, look_at}
 use Rattle.cb_shared.specs.declared.answers.WriteAnswer.TheVariants as place
 use Rattle.cb_shared.specs.Calls.{AtNone, AtThis, EndsAtLast, IsAnswer, IsAnswerTo, IsInVain, IsLack, IsWornOut, IsWrittenOnce, ReadEnds, SaysAs, Stops, WriteFinds, is_to_try_again, may_come_loose, newest_tries, the_handle, written_once}
+use Rattle.cb_record.specs.Deeds.{Deed, deed, happened, happening}
 use Rattle.cb_record.specs.Parts.{Part, grown, nothing_more, sum}
 use Rattle.cb_shared.specs.Reading.{looked, looked_freed, looked_twice, read_once}
 use Rattle.cb_shared.proofs.WorkedGround.{away, calm, made, moving, newest_made, not_second, part, pinned, two, version_in}
@@ -69,6 +71,7 @@ in_vain = record {
   turns = [];
   at = (refl, tt);
   of = tt;
+  idle = tt;
   part = refl;
 }
 
@@ -83,6 +86,15 @@ wrote_in_vain x = eqb-false 1 0 refl (ap (λ (d : Part). length d.written) x.par
 pinned_in_vain : IsInVain (AtThis 1) (jobs.Swap (the_handle 1))
     (record (looked 1 moving) { ever = 1 }) → ⊥
 pinned_in_vain x = eqb-false 1 0 refl (ap (λ (d : Part). d.ever) x.part)
+
+made_in_vain : (t : Turn) → t.job ≡ jobs.Make (7 ∷ [])
+    → t.reply ≡ Some (answer.Made (the_handle 0) 1)
+    → IsInVain AtNone (jobs.Make (7 ∷ [])) (record nothing_more { turns = t ∷ [] }) → ⊥
+made_in_vain t work reply x =
+    let idle = subst (Each (λ (u : Turn). happened (deed u) ≡ []))
+    (sym (ap (λ (d : Part). d.turns) x.part)) x.idle in
+    eqb-false 1 0 refl (ap (λ (ds : List Deed). length ds)
+    ((λ i. happening (sym work i) (sym reply i)) ∙ idle.0))
 
 -- ---- a write in place, by what it adds
 written_at_once : IsWrittenOnce 1 1 (12 ∷ []) 4 part (written_once 1 calm 4 (2826 ∷ []) (3082 ∷ []))

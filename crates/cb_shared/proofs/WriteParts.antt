@@ -89,6 +89,7 @@ write_vain h at bytes job (place.Raced saw found) v w none here (other, left) = 
     turns = [];
     at = (refl, (refl, tt));
     of = tt;
+    idle = tt;
     part = refl;
   },
   left ∙ twice_part h saw found v,

@@ -17,6 +17,7 @@ use Rattle.cb_rule.specs.Lists.{Each}
 use Rattle.cb_rule.specs.Steps.{IsNewest, look_at}
 use Rattle.cb_shared.specs.declared.answers.WriteAnswer.{WriteAnswer}
 use Rattle.cb_shared.specs.declared.answers.WriteAnswer.TheVariants as place
+use Rattle.cb_record.specs.Deeds.{deed, happened}
 use Rattle.cb_record.specs.Parts.{Part, Grows, grown, nothing_more, sum}
 use Rattle.cb_shared.specs.Reading.{FindsGone, FindsOther, FindsWord, IsReadHere, looked, looked_twice}
 use Rattle.cb_shared.specs.Turning.{TurnAdds, made_by, with_own}
@@ -76,12 +77,13 @@ abbrev pub the_handle : ℕ → Handle
 the_handle h = record { n = h }
 
 -- Tries that came to nothing: looks at such objects and turns of this job, which wrote, read and
--- pinned nothing.
+-- pinned nothing, and by which nothing was made.
 pub record IsInVain (on : ℕ → Type 0) (job : Job) (d : Part) : Type 0 where
   pub looks : List Look
   pub turns : List Turn
   pub at : Each (λ (l : Look). on l.handle) looks
   pub of : Each (λ (t : Turn). t.job ≡ job) turns
+  pub idle : Each (λ (t : Turn). happened (deed t) ≡ []) turns
   pub part : d ≡ record nothing_more { looks = looks; turns = turns }
 
 -- looks at this object, and at none

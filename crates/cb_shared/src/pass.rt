@@ -15,6 +15,20 @@ pub struct Pin {
     pub(crate) place: u32,
 }
 
+impl Default for Pin {
+    ghost is_default = { λ p. p ≡ record { handle = record { n = 0 }; version = 0; len = 0; place = 0 } };
+
+    /// A pin of no version, which no pass has: it fills the free places of arrays.
+    fn default() -> Pin {
+        Pin {
+            handle: Handle { n: 0 },
+            version: 0,
+            len: 0,
+            place: 0,
+        }
+    }
+}
+
 impl Pin {
     /// The object.
     pub fn handle(&self) -> Handle

@@ -140,7 +140,8 @@ fn load_into(top: &Top, seat: &mut Place, config: &Config, place: u32, room: &mu
 }
 
 /// Puts the first bytes of a word into the room, as many as it has place for, as word `i` of it.
-fn put_word(room: &mut Bytes, i: usize, word: u64)
+/// Takes no memory.
+pub fn put_word(room: &mut Bytes, i: usize, word: u64)
     requires within { 8 * i < length room.old }
     ensures inside { (j : ℕ) → j < 8 → 8 * i + j < length room.old
         → slice_index room.new (8 * i + j) ≡ slice_index (to_le_bytes w64 word) j }

@@ -1,0 +1,767 @@
+-- What a line adds to the record of its pass, and that it backs the line's answer.
+use Rattle.std.proofs.Common.{◌≡◌, ◌≢◌, ◌⊎◌, ℕ, zero, suc, ◌+◌, ◌<◌, ◌≤◌, List, [], ◌∷◌, ◌++◌, length, map, slice_index, Option, None, Some, Ok, inl, inr, sym, refl, ap, ◌∙◌, subst, arith}
+use Rattle.std.specs.Prelude.{MatchOption}
+use Rattle.std.specs.List.{flat_map, sum_by, range_with_len}
+use Rattle.std.proofs.lemmas.Bool.{cases_lt}
+use Rattle.std.proofs.lemmas.List.{append-nil}
+use Rattle.std.proofs.lemmas.List.FromFn.{length-map-range_with_len}
+use Rattle.std.proofs.lemmas.List.Sums.{sum_by-cons}
+use Rattle.cb_ptr.specs.declared.word.State.{State}
+use Rattle.cb_ptr.specs.declared.word.State.TheVariants as state
+use Rattle.cb_ptr.specs.Word.{len_of, pins_of, place_of, state_of}
+use Rattle.cb_types.specs.declared.config.Config.{Config}
+use Rattle.cb_types.specs.declared.job.Job.{Job}
+use Rattle.cb_types.specs.declared.job.Job.TheVariants as job
+use Rattle.cb_types.specs.declared.reply.Reply.{Reply}
+use Rattle.cb_types.specs.declared.reply.Reply.TheVariants as answer
+use Rattle.cb_types.specs.declared.request.Request.{Request}
+use Rattle.cb_types.specs.declared.request.Request.TheVariants.{Make, Read, Write, Free, Pin, Peek, Unpin, Filter, Leave}
+use Rattle.cb_types.specs.declared.request.Request.TheVariants as line
+use Rattle.cb_types.specs.Requests.{name_of}
+use Rattle.cb_world.specs.declared.entry.Entry.{Entry}
+use Rattle.cb_world.specs.declared.event.Event.{Event}
+use Rattle.cb_world.specs.declared.shown.Shown.{Shown}
+use Rattle.cb_world.specs.FarState.{FarState}
+use Rattle.cb_world.specs.Memory.{byte_at, bytes_in, words_for}
+use Rattle.cb_world.specs.Write.{IsWrite}
+use Rattle.cb_world.specs.Written.{entry}
+use Rattle.cb_filter.specs.FilterRule.{FilterAs}
+use Rattle.cb_core.specs.Turned.{done, worn}
+use Rattle.cb_mutate.specs.JobWrites.{TurnWrites}
+use Rattle.cb_rule.specs.declared.turn.Turn.{Turn}
+use Rattle.cb_rule.specs.declared.view.Peeked.{Peeked}
+use Rattle.cb_rule.specs.declared.view.Seen.{Seen}
+use Rattle.cb_rule.specs.declared.view.Stand.{Stand}
+use Rattle.cb_rule.specs.declared.view.View.{View}
+use Rattle.cb_rule.specs.Lists.{Each, Has}
+use Rattle.cb_rule.specs.Steps.{Knows, stand, with_look, with_pin, without_pin}
+use Rattle.cb_record.specs.Backs.{Backs, Enters, EntersAt, Tells, happened_at, happened_for, pins_at, pins_for, turn_at, turn_of}
+use Rattle.cb_record.specs.Deeds.{Deed, deed, happened, happening}
+use Rattle.cb_record.specs.Lists.{HasOne, IsAmong, beside, both, ended}
+use Rattle.cb_record.specs.Needs.Need.{AFreed}
+use Rattle.cb_record.specs.Needs.{ArePeeked, FindsEmpty, FindsPins, IsFreedAs, IsJobFor, IsTurnFor, Meets, need_of, own_job, peek_at}
+use Rattle.cb_record.specs.Parts.{Grows, Part, grown, nothing_more, sum}
+use Rattle.cb_record.specs.Told.{Told}
+use Rattle.cb_record.proofs.Laws.{among_none, backs_sum, grown-nothing_more, grown-sum, has_one_left, idle_backs}
+use Rattle.cb_shared.specs.Calls.{AsksFor, AtThis, EndsAtLast, IsInVain, IsLack, ReadEnds, ReadGives, Stops, TurnEnds, TurnGives, WriteAnswers, WriteEnds, WriteFinds, IsWrittenOnce, SaysAs, the_handle, written_once}
+use Rattle.cb_shared.specs.declared.answers.WriteAnswer.{WriteAnswer}
+use Rattle.cb_shared.specs.declared.answers.WriteAnswer.TheVariants as place
+use Rattle.cb_shared.specs.Joining.{unpinned_all}
+use Rattle.cb_shared.specs.Pinning.{FindsFreed}
+use Rattle.cb_shared.specs.declared.reading.ReadAnswer.TheVariants as found
+use Rattle.cb_shared.specs.Reading.{FindsGone, IsReadHere, looked, looked_freed, looked_twice, read_once}
+use Rattle.cb_shared.specs.Turning.{DidAs, FindsAtLast, TurnAdds, TurnBy, made_by, turn_part, with_own}
+use Rattle.cb_shared.proofs.Laws.{freed_part, known_grown}
+use Rattle.cb_lanes.specs.Names.{IsOnObject}
+use Rattle.cb_lanes.specs.LineGoes.{CallGoes, LineGoes, OtherGoes, job_of}
+use Rattle.cb_lanes.specs.Passing.{CallGives, HasNoPin, IsNewestPin, IsNotPinned, IsPinnedOnce, LeaveGoes, PeekGoes, PinEnds, PinGoes, PinsAtLast, UnpinGoes, goes_in, peeks_of}
+
+-- the record grew by this part, but for its pins and the handles that are its own
+abbrev pub Adds : View → Part → View → Type 0
+Adds v d w = w ≡ record (grown d v) { own = w.own; pins = w.pins }
+
+pub adds_by : (v w : View) (d : Part) (own : List ℕ) (pins : List Stand)
+    → w ≡ record (grown d v) { own = own; pins = pins } → Adds v d w
+adds_by v w d own pins is =
+    is ∙ (λ i. record (grown d v) { own = (sym is i).own; pins = (sym is i).pins })
+
+pub adds_grown : (v w : View) (d : Part) → Grows v d w → Adds v d w
+adds_grown v w d is = adds_by v w d v.own v.pins is
+
+pub adds_pins : (v w : View) (pins : List Stand) → w ≡ record v { pins = pins }
+    → Adds v nothing_more w
+adds_pins v w pins is = adds_by v w nothing_more v.own pins
+    (is ∙ ap (λ (z : View). let y : View = record z { pins = pins } in y) (sym (grown-nothing_more v)))
+
+pub adds_none : (v w : View) → w ≡ v → Adds v nothing_more w
+adds_none v w is = adds_grown v w nothing_more (is ∙ sym (grown-nothing_more v))
+
+pub adds_sum : (v m w : View) (d e : Part) → Adds v d m → Adds m e w → Adds v (sum d e) w
+adds_sum v m w d e x y = y ∙ (λ i. record (grown e (x i)) { own = w.own; pins = w.pins })
+    ∙ ap (λ (z : View). let u : View = record z { own = w.own; pins = w.pins } in u)
+    (sym (grown-sum d e v))
+
+pub adds_knows : (h : ℕ) (v w : View) (d : Part) → Adds v d w → Knows h v → Knows h w
+adds_knows h v w d x knows = subst (Knows h) (sym x) (known_grown h d v knows)
+
+-- ---- one answer
+pub one_backs : (d : Part) (t : Told) → Enters t d.written → Tells d t → pins_for t ≤ d.ever
+    → IsAmong (turn_of t) (map deed d.turns)
+    → flat_map (λ (u : Turn). happened (deed u)) d.turns ≡ happened_for t → Backs d (t ∷ [])
+one_backs d t enters tells pins turned happens = record {
+  wrote = (d.written, [], refl, enters, refl);
+  tells = (tells, tt);
+  pins = let e = sum_by-cons pins_for t [] in let z : sum_by pins_for [] ≡ 0 = refl in
+      omega (arith, e, z, pins);
+  turned = turned;
+  happens = happens;
+}
+
+idle_turns : (ts : List Turn) → Each (λ (u : Turn). happened (deed u) ≡ []) ts
+    → flat_map (λ (u : Turn). happened (deed u)) ts ≡ []
+idle_turns [] idle = refl
+idle_turns (t ∷ ts) idle =
+    ap (λ (l : List Deed). l ++ flat_map (λ (u : Turn). happened (deed u)) ts) idle.0
+    ∙ idle_turns ts idle.1
+
+vain_backs : (on : ℕ → Type 0) (j : Job) (d : Part) → IsInVain on j d → Backs d []
+vain_backs on j d x = idle_backs d (ap (λ (z : Part). z.written) x.part)
+    (ap (λ (z : Part). flat_map (λ (u : Turn). happened (deed u)) z.turns) x.part
+    ∙ idle_turns x.turns x.idle)
+
+-- tries that came to nothing stand before what answers the line
+behind_vain : (before last d : Part) (t : Told) → d ≡ sum before last → Backs before []
+    → Backs last (t ∷ []) → Backs d (t ∷ [])
+behind_vain before last d t is vain b =
+    subst (λ (z : Part). Backs z (t ∷ [])) (sym is) (backs_sum before last [] (t ∷ []) vain b)
+
+ends_back : (on : ℕ → Type 0) (j : Job) (P : View → Part → Type 0) (v : View) (d : Part) (t : Told)
+    → (x : EndsAtLast on j P v d) → Backs x.last (t ∷ []) → Backs d (t ∷ [])
+ends_back on j P v d t x b = behind_vain x.before x.last d t x.part (vain_backs on j x.before x.in_vain) b
+
+look_idle : (h word : ℕ) → Backs (looked h word) []
+look_idle h word = idle_backs (looked h word) refl refl
+
+-- ---- an answer by a turn
+-- what a line needs to know of the turns of a job that answer it
+record IsByTurn (j : Job) (h : Option ℕ) (q : Request) (r : Reply) : Type 0 where
+  pub enters : (es : List Entry) → TurnWrites j r es → EntersAt h q r es
+  pub no_pin : pins_at q r ≡ 0
+  pub turned : IsAmong (turn_at h q r) (record { job = j; reply = Some r } ∷ [])
+  pub happens : happening j (Some r) ≡ happened_at q r
+
+turn_backs : (c : Config) (j : Job) (h : Option ℕ) (q : Request) (r : Reply) (v : View) (d : Part)
+    → (x : TurnAdds c j (Ok r) v d) → IsByTurn j h q r
+    → Meets (turn_part x.turn x.more x.within x.later) (need_of h q r)
+    → Backs d (record { handle = h; request = q; reply = r } ∷ [])
+turn_backs c j h q r v d x by meets = subst (λ (z : Part). Backs z (t ∷ [])) (sym x.part)
+    (one_backs e t (by.enters x.more x.wrote) meets
+    (let z = by.no_pin in omega (arith, z))
+    (subst (λ (u : Deed). IsAmong (turn_at h q r) (u ∷ [])) (sym same) by.turned)
+    (append-nil (happened (deed x.turn)) ∙ ap happened same ∙ by.happens))
+  where
+    t : Told
+    t = record { handle = h; request = q; reply = r }
+
+    e : Part
+    e = turn_part x.turn x.more x.within x.later
+
+    same : deed x.turn ≡ record { job = j; reply = Some r }
+    same = λ i. record { job = x.job_is i; reply = x.reply_is i }
+
+job_for : (own : Option Job) (h : Option ℕ) (j k : Job) → own ≡ Some j → k ≡ j → IsJobFor own h k
+job_for own (Some h) j k is same = inl (is ∙ ap (λ (z : Job). Some z) (sym same))
+job_for own None j k is same = is ∙ ap (λ (z : Job). Some z) (sym same)
+
+-- the turn itself is what the line needs
+its_turn : (c : Config) (own : Option Job) (h : Option ℕ) (j : Job) (r : Reply) (v : View) (d : Part)
+    → own ≡ Some j → (x : TurnAdds c j (Ok r) v d) → HasOne (IsTurnFor own h r) (x.turn ∷ [])
+its_turn c own h j r v d is x = inl (x.reply_is, job_for own h j x.turn.job is x.job_is)
+
+its_swap : (c : Config) (own : Option Job) (h : ℕ) (r : Reply) (v : View) (d : Part)
+    → (x : TurnAdds c (job.Swap (the_handle h)) (Ok r) v d)
+    → HasOne (IsTurnFor own (Some h) r) (x.turn ∷ [])
+its_swap c own h r v d x = inl (x.reply_is, inr x.job_is)
+
+-- ---- what a line adds that was answered so
+abbrev pub told_as : Option ℕ → Request → Reply → Told
+told_as h q r = record { handle = h; request = q; reply = r }
+
+abbrev pub LineAdds : View → View → Told → Type 0
+LineAdds v w t = (d : Part) × Adds v d w × Backs d (t ∷ [])
+
+-- nothing: no call was made
+still_backs : (h : Option ℕ) (q : Request) (r : Reply) → EntersAt h q r [] → Meets nothing_more (need_of h q r)
+    → pins_at q r ≡ 0 → turn_at h q r ≡ [] → happened_at q r ≡ []
+    → Backs nothing_more (told_as h q r ∷ [])
+still_backs h q r enters meets pins turned happens =
+    one_backs nothing_more (told_as h q r) enters meets (omega (arith, pins))
+    (subst (λ (l : List Deed). IsAmong l []) (sym turned) ended) (sym happens)
+
+-- ---- a make
+abbrev make_handle : Reply → Option ℕ
+make_handle (answer.Made handle version) = Some handle.n
+make_handle r = None
+
+make_meets : (c : Config) (name bytes : List ℕ) (r : Reply) (v : View) (d : Part)
+    → (x : TurnAdds c (job.Make bytes) (Ok r) v d)
+    → Meets (turn_part x.turn x.more x.within x.later) (need_of (make_handle r) (Make name bytes) r)
+make_meets c name bytes (answer.Full n) v d x = its_turn c _ None (job.Make bytes) _ v d refl x
+make_meets c name bytes (answer.NoRoom f l n) v d x = its_turn c _ None (job.Make bytes) _ v d refl x
+make_meets c name bytes (answer.Unavailable s l) v d x = its_turn c _ None (job.Make bytes) _ v d refl x
+make_meets c name bytes r v d x = tt
+
+make_by : (h : Option ℕ) (name bytes : List ℕ) (r : Reply)
+    → IsByTurn (job.Make bytes) h (Make name bytes) r
+make_by None name bytes r =
+    record { enters = λ es x. x; no_pin = refl; turned = beside [] _ [] ended; happens = refl }
+make_by (Some h) name bytes r =
+    record { enters = λ es x. x; no_pin = refl; turned = beside [] _ [] ended; happens = refl }
+
+make_line : (c : Config) (name bytes : List ℕ) (r : Reply) (v w : View)
+    → TurnGives c (job.Make bytes) r v w
+    → LineAdds v w (told_as (make_handle r) (Make name bytes) r)
+make_line c name bytes r v w (d, x, is) = (
+  d,
+  adds_by v w d (made_by (job.Make bytes) (Some r) ++ v.own) v.pins is,
+  ends_back _ _ _ v d _ x (turn_backs c (job.Make bytes) _ _ r (grown x.before v) x.last x.ends_so.1
+      (make_by (make_handle r) name bytes r) (make_meets c name bytes r (grown x.before v) x.last x.ends_so.1)),
+)
+
+-- ---- a line without a name that is one turn
+abbrev IsPlain : Job → Type 0
+IsPlain (job.Make bytes) = ⊥
+IsPlain (job.Read handle) = ⊥
+IsPlain (job.Write handle at bytes) = ⊥
+IsPlain (job.Free handle) = ⊥
+IsPlain j = Unit {0}
+
+plain_turn : (c : Config) (j : Job) (v w : View) (r : Reply) → IsPlain j → CallGives c j v r w
+    → TurnBy c j (Ok r) v w
+plain_turn c (job.Make bytes) v w r plain x = absurd plain
+plain_turn c (job.Read handle) v w r plain x = absurd plain
+plain_turn c (job.Write handle at bytes) v w r plain x = absurd plain
+plain_turn c (job.Free handle) v w r plain x = absurd plain
+plain_turn c j v w r plain x = x
+
+by_turn : (c : Config) (j : Job) (h : Option ℕ) (q : Request) (r : Reply) (v w : View)
+    → IsByTurn j h q r
+    → ((d : Part) → (x : TurnAdds c j (Ok r) v d)
+    → Meets (turn_part x.turn x.more x.within x.later) (need_of h q r))
+    → TurnBy c j (Ok r) v w → LineAdds v w (told_as h q r)
+by_turn c j h q r v w by meets (d, x, is) = (
+  d,
+  adds_by v w d (made_by j (Some r) ++ v.own) v.pins is,
+  turn_backs c j h q r v d x by (meets d x),
+)
+
+-- what the job of such a line's request tells
+record IsTurnLine (q : Request) (j : Job) : Type 0 where
+  pub plain : IsPlain j
+  pub own : own_job None q ≡ Some j
+  pub by : (r : Reply) → IsByTurn j None q r
+
+-- the turn is the line's own
+deed_turned : (q : Request) (j : Job) (r : Reply)
+    → turn_at None q r ≡ record { job = j; reply = Some r } ∷ []
+    → IsAmong (turn_at None q r) (record { job = j; reply = Some r } ∷ [])
+deed_turned q j r is = subst (λ (l : List Deed). IsAmong l (record { job = j; reply = Some r } ∷ []))
+    (sym is) (both _ [] [] ended)
+
+-- a step of an eviction or a compaction is not one of those that are counted
+step_turned : (q : Request) (j : Job) (r : Reply) → turn_at None q r ≡ []
+    → IsAmong (turn_at None q r) (record { job = j; reply = Some r } ∷ [])
+step_turned q j r is = subst (λ (l : List Deed). IsAmong l (record { job = j; reply = Some r } ∷ []))
+    (sym is) (beside [] _ [] ended)
+
+line_of : (q : Request) (j : Job) → IsPlain j → own_job None q ≡ Some j
+    → ((r : Reply) → (es : List Entry) → TurnWrites j r es → EntersAt None q r es)
+    → ((r : Reply) → pins_at q r ≡ 0)
+    → ((r : Reply) → IsAmong (turn_at None q r) (record { job = j; reply = Some r } ∷ []))
+    → ((r : Reply) → happening j (Some r) ≡ happened_at q r) → IsTurnLine q j
+line_of q j plain own enters no_pin turned happens = record {
+  plain = plain;
+  own = own;
+  by = λ r. record {
+    enters = enters r;
+    no_pin = no_pin r;
+    turned = turned r;
+    happens = happens r;
+  };
+}
+
+turn_line : (q : Request) → MatchOption (job_of q) (Unit {0}) (IsTurnLine q)
+turn_line line.Evict = line_of line.Evict job.Evict tt refl (λ r es x. x) (λ r. refl)
+    (λ r. deed_turned line.Evict job.Evict r refl) (λ r. refl)
+turn_line line.Compact = line_of line.Compact job.Compact tt refl (λ r es x. x) (λ r. refl)
+    (λ r. deed_turned line.Compact job.Compact r refl) (λ r. refl)
+turn_line line.Rebuild = line_of line.Rebuild job.Rebuild tt refl (λ r es x. x) (λ r. refl)
+    (λ r. deed_turned line.Rebuild job.Rebuild r refl) (λ r. refl)
+turn_line (line.Crash node) = line_of (line.Crash node) (job.Crash node) tt refl (λ r es x. x) (λ r. refl)
+    (λ r. deed_turned (line.Crash node) (job.Crash node) r refl) (λ r. refl)
+turn_line (line.Join node) = line_of (line.Join node) (job.Join node) tt refl (λ r es x. x) (λ r. refl)
+    (λ r. deed_turned (line.Join node) (job.Join node) r refl) (λ r. refl)
+turn_line line.Begin = line_of line.Begin job.Begin tt refl (λ r es x. x) (λ r. refl)
+    (λ r. step_turned line.Begin job.Begin r refl) (λ r. refl)
+turn_line line.Ship = line_of line.Ship job.Ship tt refl (λ r es x. x) (λ r. refl)
+    (λ r. step_turned line.Ship job.Ship r refl) (λ r. refl)
+turn_line line.Commit = line_of line.Commit job.Commit tt refl (λ r es x. x) (λ r. refl)
+    (λ r. step_turned line.Commit job.Commit r refl) (λ r. refl)
+turn_line line.Abort = line_of line.Abort job.Abort tt refl (λ r es x. x) (λ r. refl)
+    (λ r. step_turned line.Abort job.Abort r refl) (λ r. refl)
+turn_line line.Pair = line_of line.Pair job.Pair tt refl (λ r es x. x) (λ r. refl)
+    (λ r. step_turned line.Pair job.Pair r refl) (λ r. refl)
+turn_line line.Patch = line_of line.Patch job.Patch tt refl (λ r es x. x) (λ r. refl)
+    (λ r. step_turned line.Patch job.Patch r refl) (λ r. refl)
+turn_line line.Merge = line_of line.Merge job.Merge tt refl (λ r es x. x) (λ r. refl)
+    (λ r. step_turned line.Merge job.Merge r refl) (λ r. refl)
+turn_line line.Part = line_of line.Part job.Part tt refl (λ r es x. x) (λ r. refl)
+    (λ r. step_turned line.Part job.Part r refl) (λ r. refl)
+turn_line q = tt
+
+turn_meets : (c : Config) (q : Request) (j : Job) (r : Reply) (v : View) (d : Part)
+    → own_job None q ≡ Some j → (x : TurnAdds c j (Ok r) v d)
+    → Meets (turn_part x.turn x.more x.within x.later) (need_of None q r)
+turn_meets c q j (answer.Full n) v d own x = its_turn c _ None j _ v d own x
+turn_meets c q j (answer.NoRoom f l n) v d own x = its_turn c _ None j _ v d own x
+turn_meets c q j (answer.Unavailable s l) v d own x = its_turn c _ None j _ v d own x
+turn_meets c q j r v d own x = tt
+
+own_line : (c : Config) (q : Request) (j : Job) (r : Reply) (v w : View) → Some j ≡ job_of q
+    → CallGives c j v r w → LineAdds v w (told_as None q r)
+own_line c q j r v w is x =
+    let l : IsTurnLine q j =
+    subst (λ (o : Option Job). MatchOption o (Unit {0}) (IsTurnLine q)) (sym is) (turn_line q) in
+    by_turn c j None q r v w (l.by r) (λ d y. turn_meets c q j r v d l.own y)
+    (plain_turn c j v w r l.plain x)
+
+-- ---- the pins that a lane gives back
+leave_line : (v w : View) (r : Reply) → LeaveGoes v r w → LineAdds v w (told_as None Leave r)
+leave_line v w r (is, left) = (
+  nothing_more,
+  adds_pins v w [] left,
+  subst (λ (q : Reply). Backs nothing_more (told_as None Leave q ∷ [])) (sym is)
+      (still_backs None Leave _ refl tt refl refl refl),
+)
+
+-- ---- a line on an object whose make was refused
+unmade_line : (q : Request) (v w : View) (r : Reply) → r ≡ answer.Unmade → w ≡ v
+    → IsOnObject q → LineAdds v w (told_as None q r)
+unmade_line q v w r is same on = (
+  nothing_more,
+  adds_none v w same,
+  subst (λ (z : Reply). Backs nothing_more (told_as None q z ∷ [])) (sym is) (by q on),
+)
+  where
+    by : (q : Request) → IsOnObject q
+        → Backs nothing_more (told_as None q answer.Unmade ∷ [])
+    by (Read name) on = still_backs None (Read name) _ refl tt refl refl refl
+    by (Write name at bytes) on = still_backs None (Write name at bytes) _ refl tt refl refl refl
+    by (Free name) on = still_backs None (Free name) _ refl tt refl refl refl
+    by (Pin name) on = still_backs None (Pin name) _ refl tt refl refl refl
+    by (Peek name) on = still_backs None (Peek name) _ refl tt refl refl refl
+    by (Unpin name) on = still_backs None (Unpin name) _ refl tt refl refl refl
+    by (Filter name) on = still_backs None (Filter name) _ refl tt refl refl refl
+    by q on = absurd on
+
+-- ---- a look that found the object far, and a turn that can't bring it in
+look_behind : (h word : ℕ) (later d : Part) (t : Told) → d ≡ sum (looked h word) later
+    → Backs later (t ∷ []) → Backs d (t ∷ [])
+look_behind h word later d t is b = behind_vain (looked h word) later d t is (look_idle h word) b
+
+-- what a line needs of a swap that is its answer
+record IsBySwap (h : ℕ) (q : Request) : Type 0 where
+  pub enters : (r : Reply) → EntersAt (Some h) q r []
+  pub turned : (r : Reply) → turn_at (Some h) q r ≡ []
+  pub happens : (r : Reply) → happened_at q r ≡ []
+  pub no_pin : (c : Config) (r : Reply) → IsLack c r → pins_at q r ≡ 0
+  pub needs : (c : Config) (r : Reply) → IsLack c r → (v : View) (d : Part)
+      → (x : TurnAdds c (job.Swap (the_handle h)) (Ok r) v d)
+      → Meets (turn_part x.turn x.more x.within x.later) (need_of (Some h) q r)
+
+swap_backs : (c : Config) (h : ℕ) (q : Request) (r : Reply) (v : View) (d : Part) → IsBySwap h q
+    → AsksFor c (job.Swap (the_handle h)) r h v d → Backs d (told_as (Some h) q r ∷ [])
+swap_backs c h q r v d by x = look_behind h x.word x.later d (told_as (Some h) q r) x.part
+    (turn_backs c (job.Swap (the_handle h)) (Some h) q r _ x.later x.turned.1 (record {
+      enters = λ es none. subst (EntersAt (Some h) q r) (sym none) (by.enters r);
+      no_pin = by.no_pin c r x.turned.0;
+      turned = subst (λ (l : List Deed). IsAmong l (record { job = job.Swap (the_handle h); reply = Some r } ∷ []))
+          (sym (by.turned r)) (beside [] _ [] ended);
+      happens = sym (by.happens r);
+    }) (by.needs c r x.turned.0 _ x.later x.turned.1))
+
+swap_needs : (c : Config) (own : Option Job) (h : ℕ) (r : Reply) (v : View) (d : Part)
+    → (x : TurnAdds c (job.Swap (the_handle h)) (Ok r) v d)
+    → HasOne (IsTurnFor own (Some h) r) (turn_part x.turn x.more x.within x.later).turns
+swap_needs c own h r v d x = its_swap c own h r v d x
+
+read_by_swap : (h : ℕ) (name : List ℕ) → IsBySwap h (Read name)
+read_by_swap h name = record {
+  enters = λ r. refl;
+  turned = λ r. refl;
+  happens = λ r. refl;
+  no_pin = no_pin;
+  needs = needs;
+}
+  where
+    no_pin : (c : Config) (r : Reply) → IsLack c r → pins_at (Read name) r ≡ 0
+    no_pin c (answer.Bytes version bytes) lack = absurd lack
+    no_pin c r lack = refl
+
+    needs : (c : Config) (r : Reply) → IsLack c r → (v : View) (d : Part)
+        → (x : TurnAdds c (job.Swap (the_handle h)) (Ok r) v d)
+        → Meets (turn_part x.turn x.more x.within x.later) (need_of (Some h) (Read name) r)
+    needs c (answer.Unavailable s l) lack v d x = its_swap c _ h _ v d x
+    needs c (answer.NoRoom f l n) lack v d x = its_swap c _ h _ v d x
+    needs c answer.Worn lack v d x = tt
+    needs c r lack v d x = absurd lack
+
+pin_by_swap : (h : ℕ) (name : List ℕ) → IsBySwap h (Pin name)
+pin_by_swap h name = record {
+  enters = λ r. refl;
+  turned = λ r. refl;
+  happens = λ r. refl;
+  no_pin = no_pin;
+  needs = needs;
+}
+  where
+    no_pin : (c : Config) (r : Reply) → IsLack c r → pins_at (Pin name) r ≡ 0
+    no_pin c (answer.Version version) lack = absurd lack
+    no_pin c r lack = refl
+
+    needs : (c : Config) (r : Reply) → IsLack c r → (v : View) (d : Part)
+        → (x : TurnAdds c (job.Swap (the_handle h)) (Ok r) v d)
+        → Meets (turn_part x.turn x.more x.within x.later) (need_of (Some h) (Pin name) r)
+    needs c (answer.Unavailable s l) lack v d x = its_swap c _ h _ v d x
+    needs c (answer.NoRoom f l n) lack v d x = its_swap c _ h _ v d x
+    needs c answer.Worn lack v d x = tt
+    needs c r lack v d x = absurd lack
+
+-- ---- a look that found the object freed
+freed_backs : (h : ℕ) (q : Request) (version word : ℕ) → EntersAt (Some h) q answer.Freed []
+    → (Meets (looked_freed h version word) (AFreed h)
+    → Meets (looked_freed h version word) (need_of (Some h) q answer.Freed))
+    → state_of word ≡ state.Empty → pins_at q answer.Freed ≡ 0 → turn_at (Some h) q answer.Freed ≡ []
+    → happened_at q answer.Freed ≡ []
+    → Backs (looked_freed h version word) (told_as (Some h) q answer.Freed ∷ [])
+freed_backs h q version word enters needs empty no_pin turned happens =
+    one_backs (looked_freed h version word) (told_as (Some h) q answer.Freed) enters
+    (needs (inl (refl, refl), inl (refl, empty))) (omega (arith, no_pin))
+    (subst (λ (l : List Deed). IsAmong l []) (sym turned) ended) (sym happens)
+
+-- ---- a read
+read_ends : (c : Config) (h : ℕ) (name : List ℕ) (r : Reply) (v : View) (d : Part)
+    → ReadEnds c h r v d → Backs d (told_as (Some h) (Read name) r ∷ [])
+read_ends c h name (answer.Bytes version bytes) v d x =
+    subst (λ (z : Part). Backs z (told_as (Some h) (Read name) (answer.Bytes version bytes) ∷ []))
+    (sym x.part)
+    (one_backs (read_once h x.word version x.words) _ refl (inl (refl, refl, refl, x.bytes_are))
+    (omega arith) ended refl)
+read_ends c h name answer.Freed v d (word, version, empty, newest, is) =
+    subst (λ (z : Part). Backs z (told_as (Some h) (Read name) answer.Freed ∷ [])) (sym is)
+    (freed_backs h (Read name) version word refl (λ m. m) empty refl refl refl)
+read_ends c h name r v d x = swap_backs c h (Read name) r v d (read_by_swap h name) x
+
+read_line : (c : Config) (h : ℕ) (name : List ℕ) (r : Reply) (v w : View) → ReadGives c h r v w
+    → LineAdds v w (told_as (Some h) (Read name) r)
+read_line c h name r v w (d, x, grew) = (
+  d,
+  adds_grown v w d grew,
+  ends_back _ _ _ v d _ x (read_ends c h name r (grown x.before v) x.last x.ends_so),
+)
+
+-- ---- the freed entry that is read behind a turn
+freed_last : (h : ℕ) (v : View) (d : Part) → FindsAtLast h found.Freed v d → Meets d (AFreed h)
+freed_last h v d x = subst (λ (z : Part). Meets z (AFreed h))
+    (sym (x.part ∙ ap (λ (z : Part). sum x.before z) gone.4))
+    (inl (refl, refl), inl (refl, gone.2))
+  where
+    gone : FindsGone h (grown x.before v) x.last
+    gone = x.finds
+
+freed_turn : (h : ℕ) (t : Turn) (more : List Entry) (within later : Part) → Meets later (AFreed h)
+    → Meets (turn_part t more within later) (AFreed h)
+freed_turn h t more within later m = (
+  has_one_left (IsFreedAs h) later.seen within.seen m.0,
+  has_one_left (FindsEmpty h) later.looks within.looks m.1,
+)
+
+-- ---- a write
+write_needs : (c : Config) (h at : ℕ) (name bytes : List ℕ) (r : Reply) (v : View) (d : Part)
+    → (x : TurnAdds c (job.Write (the_handle h) at bytes) (Ok r) v d)
+    → Meets (turn_part x.turn x.more x.within x.later) (need_of (Some h) (Write name at bytes) r)
+write_needs c h at name bytes (answer.Pinned count) v d x =
+    inr (its_turn c _ (Some h) _ _ v d refl x)
+write_needs c h at name bytes answer.Freed v d x =
+    freed_turn h x.turn x.more x.within x.later (freed_last h _ x.later x.finds)
+write_needs c h at name bytes (answer.Full n) v d x = its_turn c _ (Some h) _ _ v d refl x
+write_needs c h at name bytes (answer.NoRoom f l n) v d x = its_turn c _ (Some h) _ _ v d refl x
+write_needs c h at name bytes (answer.Unavailable s l) v d x = its_turn c _ (Some h) _ _ v d refl x
+write_needs c h at name bytes r v d x = tt
+
+write_by : (h at : ℕ) (name bytes : List ℕ) (r : Reply)
+    → IsByTurn (job.Write (the_handle h) at bytes) (Some h) (Write name at bytes) r
+write_by h at name bytes r = record {
+  enters = λ es x. x;
+  no_pin = refl;
+  turned = beside [] _ [] ended;
+  happens = refl;
+}
+
+-- a look alone
+look_backs : (h word : ℕ) (q : Request) (r : Reply) → EntersAt (Some h) q r []
+    → Meets (looked h word) (need_of (Some h) q r) → pins_at q r ≡ 0 → turn_at (Some h) q r ≡ []
+    → happened_at q r ≡ [] → Backs (looked h word) (told_as (Some h) q r ∷ [])
+look_backs h word q r enters meets no_pin turned happens =
+    one_backs (looked h word) (told_as (Some h) q r) enters meets (omega (arith, no_pin))
+    (subst (λ (l : List Deed). IsAmong l []) (sym turned) ended) (sym happens)
+
+write_here : (h at : ℕ) (name bytes : List ℕ) (a : WriteAnswer) (r : Reply) (v : View) (d : Part)
+    → SaysAs a r → WriteFinds h at bytes a v d → Backs d (told_as (Some h) (Write name at bytes) r ∷ [])
+write_here h at name bytes (place.Ok version) r v d says x =
+    subst (λ (q : Reply). Backs d (told_as (Some h) (Write name at bytes) q ∷ [])) (sym says)
+    (subst (λ (z : Part). Backs z (told_as (Some h) (Write name at bytes) (answer.Version version) ∷ []))
+    (sym x.part)
+    (one_backs (written_once h x.word version x.old x.new) _
+    (len_of x.word, x.old, x.new, x.write, refl) tt (omega arith) ended refl))
+write_here h at name bytes place.Freed r v d says (word, version, empty, newest, is) =
+    subst (λ (q : Reply). Backs d (told_as (Some h) (Write name at bytes) q ∷ [])) (sym says)
+    (subst (λ (z : Part). Backs z (told_as (Some h) (Write name at bytes) answer.Freed ∷ [])) (sym is)
+    (freed_backs h (Write name at bytes) version word refl (λ m. m) empty refl refl refl))
+write_here h at name bytes (place.Range len) r v d says (word, past, is) =
+    subst (λ (q : Reply). Backs d (told_as (Some h) (Write name at bytes) q ∷ [])) (sym says)
+    (subst (λ (z : Part). Backs z (told_as (Some h) (Write name at bytes) (answer.Range len) ∷ []))
+    (sym is) (look_backs h word (Write name at bytes) (answer.Range len) refl tt refl refl refl))
+write_here h at name bytes (place.Pinned count) r v d says (word, pinned, is) =
+    subst (λ (q : Reply). Backs d (told_as (Some h) (Write name at bytes) q ∷ [])) (sym says)
+    (subst (λ (z : Part). Backs z (told_as (Some h) (Write name at bytes) (answer.Pinned count) ∷ []))
+    (sym is) (look_backs h word (Write name at bytes) (answer.Pinned count) refl
+    (inl (inl (refl, pinned.1.0))) refl refl refl))
+write_here h at name bytes place.Worn r v d says x =
+    subst (λ (q : Reply). Backs d (told_as (Some h) (Write name at bytes) q ∷ [])) (sym says)
+    (subst (λ (z : Part). Backs z (told_as (Some h) (Write name at bytes) answer.Worn ∷ []))
+    (sym x.part) (one_backs (looked_twice h x.word x.word) _ refl tt (omega arith) ended refl))
+write_here h at name bytes place.NotHere r v d says x = absurd says
+write_here h at name bytes place.Moving r v d says x = absurd says
+write_here h at name bytes (place.Raced saw other) r v d says x = absurd says
+
+write_ends : (c : Config) (h at : ℕ) (name bytes : List ℕ) (r : Reply) (v : View) (d : Part)
+    → WriteEnds c h at bytes r v d → Backs d (told_as (Some h) (Write name at bytes) r ∷ [])
+write_ends c h at name bytes r v d (inl (a, says, x)) = write_here h at name bytes a r v d says x
+write_ends c h at name bytes r v d (inr x) =
+    look_behind h x.word x.later d (told_as (Some h) (Write name at bytes) r) x.part
+    (turn_backs c _ (Some h) _ r _ x.later x.turned.1 (write_by h at name bytes r)
+    (write_needs c h at name bytes r _ x.later x.turned.1))
+
+write_line : (c : Config) (h at : ℕ) (name bytes : List ℕ) (r : Reply) (v w : View)
+    → WriteAnswers c h at bytes r v w → LineAdds v w (told_as (Some h) (Write name at bytes) r)
+write_line c h at name bytes r v w (d, x, grew) = (
+  d,
+  adds_grown v w d grew,
+  ends_back _ _ _ v d _ x (write_ends c h at name bytes r (grown x.before v) x.last x.ends_so),
+)
+
+-- ---- a free
+free_needs : (c : Config) (h : ℕ) (name : List ℕ) (r : Reply) (v : View) (d : Part)
+    → (x : TurnAdds c (job.Free (the_handle h)) (Ok r) v d)
+    → Meets (turn_part x.turn x.more x.within x.later) (need_of (Some h) (Free name) r)
+free_needs c h name (answer.Pinned count) v d x = inr (its_turn c _ (Some h) _ _ v d refl x)
+free_needs c h name answer.Freed v d x =
+    freed_turn h x.turn x.more x.within x.later (freed_last h _ x.later x.finds)
+free_needs c h name (answer.Full n) v d x = its_turn c _ (Some h) _ _ v d refl x
+free_needs c h name (answer.NoRoom f l n) v d x = its_turn c _ (Some h) _ _ v d refl x
+free_needs c h name (answer.Unavailable s l) v d x = its_turn c _ (Some h) _ _ v d refl x
+free_needs c h name r v d x = tt
+
+free_by : (h : ℕ) (name : List ℕ) (r : Reply)
+    → IsByTurn (job.Free (the_handle h)) (Some h) (Free name) r
+free_by h name r = record {
+  enters = λ es x. x;
+  no_pin = refl;
+  turned = beside [] _ [] ended;
+  happens = refl;
+}
+
+free_line : (c : Config) (h : ℕ) (name : List ℕ) (r : Reply) (v w : View)
+    → TurnGives c (job.Free (the_handle h)) r v w → LineAdds v w (told_as (Some h) (Free name) r)
+free_line c h name r v w (d, x, is) = (
+  d,
+  adds_by v w d v.own v.pins is,
+  ends_back _ _ _ v d _ x (turn_backs c _ (Some h) _ r (grown x.before v) x.last x.ends_so.1
+      (free_by h name r) (free_needs c h name r (grown x.before v) x.last x.ends_so.1)),
+)
+
+-- ---- a filter, which is never told that its object was freed
+freed_filter : (s : State) (frames h word : ℕ) (far new : FarState) (es : List Event)
+    → FilterAs s frames h word far new answer.Freed es → ⊥
+freed_filter state.Here frames h word far new es (inl (pinned, is, same)) = absurd cc
+freed_filter state.Here frames h word far new es (inr (claimed, (seat, of, inl x))) =
+    let e = x.reply in absurd cc
+freed_filter state.Here frames h word far new es (inr (claimed, (seat, of, inr (inl x)))) =
+    let e = x.reply in absurd cc
+freed_filter state.Here frames h word far new es (inr (claimed, (seat, of, inr (inr (slot, x))))) =
+    let e = x.reply in absurd cc
+freed_filter state.Empty frames h word far new es ((zero, told, is), same) = absurd cc
+freed_filter state.Empty frames h word far new es ((suc version, told, is), same) = absurd cc
+freed_filter state.Far frames h word far new es (is, same) = absurd cc
+freed_filter state.Moving frames h word far new es (is, same) = absurd cc
+
+filter_off : (c : Config) (h : ℕ) (start : Shown) (es : List Event) (took gave : FarState)
+    → DidAs c (job.Filter (the_handle h)) (Some answer.Freed) start es took gave → ⊥
+filter_off c h start es took gave (worn n is same ran) = absurd cc
+filter_off c h start es took gave (done few does) =
+    freed_filter (state_of does.rule.word) c.frames h does.rule.word _ _ _ does.rule.answer
+
+filter_needs : (c : Config) (h : ℕ) (name : List ℕ) (r : Reply) (v : View) (d : Part)
+    → (x : TurnAdds c (job.Filter (the_handle h)) (Ok r) v d)
+    → Meets (turn_part x.turn x.more x.within x.later) (need_of (Some h) (Filter name) r)
+filter_needs c h name answer.Freed v d x = absurd (filter_off c h x.turn.start x.turn.acts x.turn.took
+    x.turn.gave (subst (λ (j : Job). DidAs c j (Some answer.Freed) x.turn.start x.turn.acts x.turn.took
+    x.turn.gave) x.job_is (subst (λ (o : Option Reply). DidAs c x.turn.job o x.turn.start x.turn.acts
+    x.turn.took x.turn.gave) x.reply_is x.did)))
+filter_needs c h name (answer.Full n) v d x = its_turn c _ (Some h) _ _ v d refl x
+filter_needs c h name (answer.NoRoom f l n) v d x = its_turn c _ (Some h) _ _ v d refl x
+filter_needs c h name (answer.Unavailable s l) v d x = its_turn c _ (Some h) _ _ v d refl x
+filter_needs c h name r v d x = tt
+
+filter_line : (c : Config) (h : ℕ) (name : List ℕ) (r : Reply) (v w : View)
+    → TurnBy c (job.Filter (the_handle h)) (Ok r) v w → LineAdds v w (told_as (Some h) (Filter name) r)
+filter_line c h name r v w x = by_turn c (job.Filter (the_handle h)) (Some h) (Filter name) r v w (record {
+  enters = λ es y. y;
+  no_pin = refl;
+  turned = both _ [] [] ended;
+  happens = refl;
+}) (λ d y. filter_needs c h name r v d y) x
+
+-- ---- a pin
+pin_ends : (c : Config) (h : ℕ) (name : List ℕ) (r : Reply) (v w : View) → PinEnds c h r v w
+    → LineAdds v w (told_as (Some h) (Pin name) r)
+pin_ends c h name (answer.Version version) v w x = (
+  read_once h x.word version x.words,
+  adds_by v w (read_once h x.word version x.words) v.own
+      (stand h (len_of x.word) (place_of x.word) version x.words ∷ v.pins) x.left,
+  one_backs (read_once h x.word version x.words) _ refl (inl (refl, refl, refl)) (omega arith) ended refl,
+)
+pin_ends c h name answer.Freed v w x = (
+  looked_freed h x.1 x.0,
+  adds_grown v w (looked_freed h x.1 x.0) (x.4 ∙ freed_part h x.1 x.0 v),
+  freed_backs h (Pin name) x.1 x.0 refl (λ m. m) x.2 refl refl refl,
+)
+pin_ends c h name answer.ScopeFull v w x = absurd x
+pin_ends c h name r v w x =
+    (x.0, adds_grown v w x.0 x.2, swap_backs c h (Pin name) r v x.0 (pin_by_swap h name) x.1)
+
+pin_at_last : (c : Config) (h : ℕ) (name : List ℕ) (r : Reply) (v w : View)
+    → PinsAtLast c h r v w → LineAdds v w (told_as (Some h) (Pin name) r)
+pin_at_last c h name r v w x = (
+  sum before last,
+  adds_sum v x.between w before last (adds_grown v x.between before x.in_vain.2) ends.1,
+  backs_sum before last [] (told_as (Some h) (Pin name) r ∷ [])
+      (vain_backs (AtThis h) (job.Swap (the_handle h)) before x.in_vain.1) ends.2,
+)
+  where
+    ends : LineAdds x.between w (told_as (Some h) (Pin name) r)
+    ends = pin_ends c h name r x.between w x.ends_so
+
+    before : Part
+    before = x.in_vain.0
+
+    last : Part
+    last = ends.0
+
+pin_line : (c : Config) (h : ℕ) (name : List ℕ) (r : Reply) (v w : View) → PinGoes c h v r w
+    → LineAdds v w (told_as (Some h) (Pin name) r)
+pin_line c h name answer.ScopeFull v w x = (
+  nothing_more,
+  adds_none v w x.1,
+  still_backs (Some h) (Pin name) answer.ScopeFull refl tt refl refl refl,
+)
+pin_line c h name r v w x = pin_at_last c h name r v w x.1
+
+-- ---- a peek
+newest_handle : (h : ℕ) (p : Stand) (ps : List Stand) → IsNewestPin h p ps → p.handle ≡ h
+newest_handle h p [] x = absurd x
+newest_handle h p (q ∷ ps) (inl x) = ap (λ (z : Stand). z.handle) (sym x.1) ∙ x.0
+newest_handle h p (q ∷ ps) (inr x) = newest_handle h p ps x.1
+
+bytes_long : (words : List ℕ) (len : ℕ) → length (bytes_in words len) ≡ len
+unfolding bytes_in
+bytes_long words len = length-map-range_with_len (byte_at words) 0 len
+
+peek_next : (p : Stand) (n j : ℕ) → j < suc n
+    → (j < n → Has (peek_at p.handle p.version p.words j) (peeks_of p n)) → (j < n) ⊎ (n ≤ j)
+    → Has (peek_at p.handle p.version p.words j) (peeks_of p (suc n))
+peek_next p n j less earlier (inl below) = inr (earlier below)
+peek_next p n j less earlier (inr above) = let e : n ≡ j = omega (arith, above, less) in
+    inl (ap (λ (i : ℕ). peek_at p.handle p.version p.words i) e)
+
+peek_in : (p : Stand) (n j : ℕ) → j < n
+    → Has (peek_at p.handle p.version p.words j) (peeks_of p n)
+peek_in p zero j less = absurd (omega (arith, less))
+peek_in p (suc n) j less = peek_next p n j less (peek_in p n j) (cases_lt j n)
+
+not_pinned : (h : ℕ) (q : Request) (r : Reply) (v w : View) → IsNotPinned h r v w
+    → Backs nothing_more (told_as (Some h) q answer.NotPinned ∷ [])
+    → LineAdds v w (told_as (Some h) q r)
+not_pinned h q r v w x b = (
+  nothing_more,
+  adds_none v w x.left,
+  subst (λ (z : Reply). Backs nothing_more (told_as (Some h) q z ∷ [])) (sym x.told) b,
+)
+
+peek_line : (h : ℕ) (name : List ℕ) (r : Reply) (v w : View) → PeekGoes h v r w
+    → LineAdds v w (told_as (Some h) (Peek name) r)
+peek_line h name r v w (inl x) = not_pinned h (Peek name) r v w x
+    (still_backs (Some h) (Peek name) answer.NotPinned refl tt refl refl refl)
+peek_line h name r v w (inr x) = (
+  d,
+  adds_grown v w d (x.peeks.left ∙ ap (λ (z : View).
+      let y : View = record z { peeked = d.peeked ++ v.peeked } in y) (sym (grown-nothing_more v))),
+  subst (λ (z : Reply). Backs d (told_as (Some h) (Peek name) z ∷ [])) (sym x.peeks.told)
+      (one_backs d _ refl (record {
+        words = p.words;
+        bytes_are = ap (bytes_in p.words) (sym (bytes_long p.words p.len));
+        each = λ j less. subst (λ (k : ℕ). Has (peek_at k p.version p.words j) d.peeked)
+            (newest_handle h p v.pins x.newest) (peek_in p (words_for p.len) j
+            (subst (λ (n : ℕ). j < words_for n) (bytes_long p.words p.len) less));
+      }) (omega arith) ended refl),
+)
+  where
+    p : Stand
+    p = x.pin
+
+    d : Part
+    d = record nothing_more { peeked = peeks_of p (words_for p.len) }
+
+-- ---- the end of a pin
+unpin_line : (h : ℕ) (name : List ℕ) (r : Reply) (v w : View) → UnpinGoes h v r w
+    → LineAdds v w (told_as (Some h) (Unpin name) r)
+unpin_line h name r v w (inl x) = not_pinned h (Unpin name) r v w x
+    (still_backs (Some h) (Unpin name) answer.NotPinned refl tt refl refl refl)
+unpin_line h name r v w (inr x) = (
+  nothing_more,
+  adds_pins v w _ x.left,
+  subst (λ (z : Reply). Backs nothing_more (told_as (Some h) (Unpin name) z ∷ [])) (sym x.told)
+      (still_backs (Some h) (Unpin name) answer.Done refl tt refl refl refl),
+)
+
+-- ---- a line, by its request
+call_adds : (c : Config) (h : ℕ) (q : Request) (r : Reply) (v w : View)
+    → CallGoes (goes_in c) h q v r w → LineAdds v w (told_as (Some h) q r)
+call_adds c h (Read name) r v w x = read_line c h name r v w x
+call_adds c h (Write name at bytes) r v w x = write_line c h at name bytes r v w x
+call_adds c h (Free name) r v w x = free_line c h name r v w x
+call_adds c h (Pin name) r v w x = pin_line c h name r v w x
+call_adds c h (Peek name) r v w x = peek_line h name r v w x
+call_adds c h (Unpin name) r v w x = unpin_line h name r v w x
+call_adds c h (Filter name) r v w x = filter_line c h name r v w x
+call_adds c h q r v w x = absurd x
+
+-- the handle that an answered line is about, where its name has this one
+abbrev pub named_for : Option (List ℕ) → Option ℕ → Option ℕ
+named_for None h = None
+named_for (Some name) h = h
+
+abbrev pub about : Option ℕ → Request → Reply → Option ℕ
+about h (Make name bytes) r = make_handle r
+about h q r = named_for (name_of q) h
+
+pub line_adds : (c : Config) (h : Option ℕ) (q : Request) (r : Reply) (v w : View)
+    → LineGoes (goes_in c) h q v r w → LineAdds v w (told_as (about h q r) q r)
+line_adds c h (Make name bytes) r v w x = make_line c name bytes r v w x
+line_adds c h Leave r v w x = leave_line v w r x
+line_adds c h line.Evict r v w x = own_line c line.Evict _ r v w refl x
+line_adds c h line.Begin r v w x = own_line c line.Begin _ r v w refl x
+line_adds c h line.Ship r v w x = own_line c line.Ship _ r v w refl x
+line_adds c h line.Commit r v w x = own_line c line.Commit _ r v w refl x
+line_adds c h line.Abort r v w x = own_line c line.Abort _ r v w refl x
+line_adds c h line.Pair r v w x = own_line c line.Pair _ r v w refl x
+line_adds c h line.Patch r v w x = own_line c line.Patch _ r v w refl x
+line_adds c h line.Merge r v w x = own_line c line.Merge _ r v w refl x
+line_adds c h line.Part r v w x = own_line c line.Part _ r v w refl x
+line_adds c h line.Compact r v w x = own_line c line.Compact _ r v w refl x
+line_adds c h line.Rebuild r v w x = own_line c line.Rebuild _ r v w refl x
+line_adds c h (line.Crash node) r v w x = own_line c (line.Crash node) _ r v w refl x
+line_adds c h (line.Join node) r v w x = own_line c (line.Join node) _ r v w refl x
+line_adds c None q r v w x = unmade_line q v w r x.0 x.1 tt
+line_adds c (Some h) q r v w x = call_adds c h q r v w x

@@ -1,0 +1,150 @@
+-- The tries of a pin, one after another.
+use Rattle.std.proofs.Common.{◌≡◌, ◌⊎◌, ℕ, ◌<◌, List, [], ◌∷◌, length, Option, None, Some, Result, Ok, Err, sym, refl, ap, ◌∙◌, subst, inl, inr}
+use Rattle.std.specs.Result.{IfOk, OnErr}
+use Rattle.cb_member.specs.declared.no_memory.NoMemory.{NoMemory}
+use Rattle.cb_types.specs.declared.config.Config.{Config}
+use Rattle.cb_types.specs.declared.handle.Handle.{Handle}
+use Rattle.cb_types.specs.declared.job.Job.{Job}
+use Rattle.cb_types.specs.declared.job.Job.TheVariants as job
+use Rattle.cb_types.specs.declared.reply.Reply.{Reply}
+use Rattle.cb_types.specs.declared.reply.Reply.TheVariants as answer
+use Rattle.cb_ptr.specs.declared.word.State.TheVariants as state
+use Rattle.cb_ptr.specs.Word.{pins_of, state_of}
+use Rattle.cb_rule.specs.declared.view.Stand.{Stand}
+use Rattle.cb_rule.specs.declared.view.View.{View}
+use Rattle.cb_rule.specs.Steps.{look_at, with_look}
+use Rattle.cb_record.specs.Parts.{Grows, Part, grown}
+use Rattle.cb_shared.specs.declared.answers.PinAnswer.{PinAnswer}
+use Rattle.cb_shared.specs.declared.answers.PinAnswer.TheVariants as found
+use Rattle.cb_shared.specs.declared.pass.Pin.{Pin}
+use Rattle.cb_shared.specs.Calls.{AsksFor, AtNone, AtThis, Stops, TurnTries, the_handle}
+use Rattle.cb_shared.specs.Pinning.{FindsFreed, IsPinned, LooksOnce, PinGives}
+use Rattle.cb_shared.specs.Reading.{looked, looked_twice}
+use Rattle.cb_shared.specs.Turning.{TurnBy}
+use Rattle.cb_shared.proofs.Laws.{look_asks, look_part, look_stops, stops_then, twice_part, vain_look}
+use Rattle.cb_lanes.specs.Passing.{CallGives, IsPinnedOnce, PinEnds, PinGoes, PinTries, PinsAtLast}
+
+abbrev Vain : ℕ → View → View → Type 0
+Vain h v w = Stops (AtThis h) (job.Swap (the_handle h)) v w
+
+pub pinned_once : (h : ℕ) (p : Pin) (version : ℕ) (v w : View) → version ≡ p.version
+    → IsPinned h p v w → IsPinnedOnce h version v w
+pinned_once h p version v w is x = subst (λ (n : ℕ). IsPinnedOnce h n v w) (sym is) (record {
+  word = x.word;
+  words = x.words;
+  here = x.here;
+  newest = x.newest;
+  left = x.left;
+})
+
+pub was_pinned : (h : ℕ) (a : PinAnswer) (p : Pin) (v w : View) → a ≡ found.Pinned p
+    → PinGives h a v w → IsPinned h p v w
+was_pinned h a p v w is x = subst (λ (z : PinAnswer). PinGives h z v w) is x
+
+pub was_full : (h : ℕ) (a : PinAnswer) (v w : View) → a ≡ found.ScopeFull
+    → PinGives h a v w → length v.pins ≡ 16
+was_full h a v w is x =
+    let y : PinGives h found.ScopeFull v w = subst (λ (z : PinAnswer). PinGives h z v w) is x in y.0
+
+pub was_freed : (h : ℕ) (a : PinAnswer) (v w : View) → a ≡ found.Freed → PinGives h a v w
+    → FindsFreed h v w
+was_freed h a v w is x = subst (λ (z : PinAnswer). PinGives h z v w) is x
+
+pub was_far : (h : ℕ) (a : PinAnswer) (v w : View) → a ≡ found.NotHere → PinGives h a v w
+    → LooksOnce h v w (λ n. state_of n ≡ state.Far)
+was_far h a v w is x = subst (λ (z : PinAnswer). PinGives h z v w) is x
+
+looked_once : (h : ℕ) (P : ℕ → Type 0) (v w : View) → LooksOnce h v w P → Vain h v w
+looked_once h P v w (n, is, left) =
+    (looked h n, vain_look h n (job.Swap (the_handle h)), left ∙ look_part h n v)
+
+pub was_moving : (h : ℕ) (a : PinAnswer) (v w : View) → a ≡ found.Moving → PinGives h a v w
+    → Vain h v w
+was_moving h a v w is x = looked_once h (λ n. state_of n ≡ state.Moving) v w
+    (subst (λ (z : PinAnswer). PinGives h z v w) is x)
+
+pub was_crowded : (h : ℕ) (a : PinAnswer) (v w : View) → a ≡ found.Crowded → PinGives h a v w
+    → Vain h v w
+was_crowded h a v w is x =
+    looked_once h (λ n. (state_of n ≡ state.Here) × (pins_of n ≡ 1023)) v w
+    (subst (λ (z : PinAnswer). PinGives h z v w) is x)
+
+pub was_raced : (h saw other : ℕ) (a : PinAnswer) (v w : View) → a ≡ found.Raced saw other
+    → PinGives h a v w → Vain h v w
+was_raced h saw other a v w is x =
+    let y : PinGives h (found.Raced saw other) v w =
+    subst (λ (z : PinAnswer). PinGives h z v w) is x in (
+      looked_twice h saw other,
+      record {
+        looks = look_at h other ∷ look_at h saw ∷ [];
+        turns = [];
+        at = (refl, (refl, tt));
+        of = tt;
+        idle = tt;
+        part = refl;
+      },
+      y.1 ∙ twice_part h saw other v,
+    )
+
+asked_pin : (c : Config) (h : ℕ) (r : Reply) (v w : View) (d : Part)
+    → AsksFor c (job.Swap (the_handle h)) r h v d → Grows v d w → PinEnds c h r v w
+asked_pin c h (answer.Version version) v w d x grew = absurd x.turned.0
+asked_pin c h answer.Freed v w d x grew = absurd x.turned.0
+asked_pin c h answer.ScopeFull v w d x grew = absurd x.turned.0
+asked_pin c h r v w d x grew = (d, x, grew)
+
+-- a look that found the object far, and a turn
+pub brought : (c : Config) (h : ℕ) (o : Option Reply) (v m w : View)
+    → LooksOnce h v m (λ n. state_of n ≡ state.Far) → TurnTries c (job.Swap (the_handle h)) o m w
+    → PinTries c h o v w
+brought c h None v m w (n, far, left) x = look_stops h n (job.Swap (the_handle h)) v m w
+    (looked h n) refl (left ∙ look_part h n v) x
+brought c h (Some r) v m w (n, far, left) (e, ends, next) =
+    let z = look_asks c h n (job.Swap (the_handle h)) r v m w (looked h n) e refl far
+    (left ∙ look_part h n v) ends refl next in asked_pin c h r v w z.0 z.1 z.2
+
+-- ---- the loop round the tries
+pub pin_again : (c : Config) (h : ℕ) (o : Option Reply) (v m w : View) → o ≡ None → Vain h v m
+    → PinTries c h o m w → Vain h v w
+pin_again c h o v m w is x y = stops_then (AtThis h) (job.Swap (the_handle h)) v m w x
+    (subst (λ (z : Option Reply). PinTries c h z m w) is y)
+
+pub pinned_at_last : (c : Config) (h : ℕ) (o : Option Reply) (r : Reply) (v m w : View)
+    → o ≡ Some r → Vain h v m → PinTries c h o m w → PinsAtLast c h r v w
+pinned_at_last c h o r v m w is x y = record {
+  between = m;
+  in_vain = x;
+  ends_so = subst (λ (z : Option Reply). PinTries c h z m w) is y;
+}
+
+pub vain_pins : (h : ℕ) (v w : View) → Vain h v w → w.pins ≡ v.pins
+vain_pins h v w x = ap (λ (z : View). z.pins) x.2
+
+pub pin_goes : (c : Config) (h : ℕ) (r : Reply) (v w : View) → length v.pins < 16
+    → PinsAtLast c h r v w → PinGoes c h v r w
+pin_goes c h answer.ScopeFull v w room x = absurd x.ends_so
+pin_goes c h r v w room x = (room, x)
+
+-- ---- calls
+pub call_is : (c : Config) (j k : Job) (v w : View) (result : Result Reply NoMemory) → j ≡ k
+    → IfOk result (λ r. CallGives c k v r w) → IfOk result (λ r. CallGives c j v r w)
+call_is c j k v w result is x =
+    subst (λ (z : Job). IfOk result (λ r. CallGives c z v r w)) (sym is) x
+
+-- whatever its outcome
+pub either : {A : Type 0} (result : Result A NoMemory) (P : A → Type 0) (Q S : Type 0)
+    → ((r : A) → P r → S) → (Q → S) → IfOk result P → OnErr result Q → S
+either (Ok r) P Q S f g x y = f r x
+either (Err e) P Q S f g x y = g y
+
+pub other_call : (c : Config) (j : Job) (v w : View) (result : Result Reply NoMemory)
+    → ((bytes : List ℕ) → j ≡ job.Make bytes → ⊥) → ((h : Handle) → j ≡ job.Read h → ⊥)
+    → ((h : Handle) (at : ℕ) (bytes : List ℕ) → j ≡ job.Write h at bytes → ⊥)
+    → ((h : Handle) → j ≡ job.Free h → ⊥) → TurnBy c j result v w
+    → IfOk result (λ r. CallGives c j v r w)
+other_call c j v w (Err e) m r k f x = tt
+other_call c (job.Make bytes) v w (Ok q) m r k f x = absurd (m bytes refl)
+other_call c (job.Read h) v w (Ok q) m r k f x = absurd (r h refl)
+other_call c (job.Write h at bytes) v w (Ok q) m r k f x = absurd (k h at bytes refl)
+other_call c (job.Free h) v w (Ok q) m r k f x = absurd (f h refl)
+other_call c j v w (Ok q) m r k f x = x
