@@ -1,5 +1,5 @@
 -- Worked needs: what an answer needs, a part that has it, and what breaks one part alone.
-use Rattle.std.proofs.Common.{◌≡◌, ℕ, true, false, List, [], ◌∷◌, get_or, Some, None, sym, refl, ap, ◌∙◌, subst, inl, inr, ⊎_elim, true≢false, arith}
+use Rattle.std.proofs.Common.{◌≡◌, ℕ, true, false, List, [], ◌∷◌, get_or, Option, Some, None, sym, refl, ap, ◌∙◌, subst, inl, inr, ⊎_elim, true≢false, arith}
 use Rattle.cb_ptr.specs.Word.{pins_of, state_of}
 use Rattle.cb_ptr.specs.declared.word.State.TheVariants as state
 use Rattle.cb_types.specs.declared.job.Job.{Job}
