@@ -7,6 +7,7 @@ mod Pieces
 mod Histories
 mod Replied
 mod Making
+mod Naming
 mod Legality
 mod Meeting
 mod Rising

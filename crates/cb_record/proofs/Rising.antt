@@ -7,7 +7,7 @@ use Rattle.cb_model.specs.Called.{Called}
 use Rattle.cb_model.specs.Event.{Event, version_of}
 use Rattle.cb_model.specs.Event.Event.{Makes, Shows, Pins, Writes, Frees, FindsFull, FindsUnmade, FindsFreed, FindsEnd, Refused, Wrong}
 use Rattle.cb_model.specs.Legal.{IsNotBelow, MayFollow, NeverFalls, Rising}
-use Rattle.cb_record.specs.Rises.{AreLanes, HasAllOf, HasVersion, IsBefore, IsBehind, IsKnownTo, IsLane, IsOnRecord, Lane, MayFollowVersion}
+use Rattle.cb_record.specs.Rises.{RiseTogether, HasAllOf, HasVersion, MayPrecede, IsBehind, IsKnownTo, RisesAlone, IsOnRecord, LaneCalls, MayFollowVersion}
 use Rattle.cb_record.proofs.Listing.{all_append, all_map}
 
 -- no version is answered at all
@@ -52,7 +52,7 @@ follows_known v h (Refused subject) later known behind = λ n e. absurd cc
 follows_known v h Wrong later known behind = λ n e. absurd cc
 
 -- a call of a lane never falls behind one before it
-never_falls : (lane : Lane) (earlier later : Called) → IsBefore lane earlier
+never_falls : (lane : LaneCalls) (earlier later : Called) → MayPrecede lane earlier
     → later.lane ≡ lane.number → IsBehind lane.start later → NeverFalls earlier later
 never_falls lane earlier later before own behind h told on_e on_l = ⊎_elim
     (λ (other : (earlier.lane ≢ lane.number) × (earlier.lane ≢ 0)). ⊎_elim
@@ -62,7 +62,7 @@ never_falls lane earlier later before own behind h told on_e on_l = ⊎_elim
     follows_known lane.start h earlier.event later.event (known h on_e)
     (λ version freed has. behind h version freed on_l has)) before
 
-all_never : (lane : Lane) (earlier : Called) (calls : List Called) → IsBefore lane earlier
+all_never : (lane : LaneCalls) (earlier : Called) (calls : List Called) → MayPrecede lane earlier
     → AllByRecursion (λ (call : Called). call.lane ≡ lane.number) calls
     → AllByRecursion (IsBehind lane.start) calls → AllByRecursion (NeverFalls earlier) calls
 all_never lane earlier [] before own behind = tt
@@ -70,8 +70,8 @@ all_never lane earlier (c ∷ cs) before own behind =
     (never_falls lane earlier c before own.0 behind.0, all_never lane earlier cs before own.1 behind.1)
 
 -- Calls, and behind them those of one more lane.
-pub rising_sum : (lane : Lane) (front : List Called) → Rising front → IsLane lane
-    → AllByRecursion (IsBefore lane) front → Rising (front ++ lane.calls)
+pub rising_sum : (lane : LaneCalls) (front : List Called) → Rising front → RisesAlone lane
+    → AllByRecursion (MayPrecede lane) front → Rising (front ++ lane.calls)
 rising_sum lane [] rising is before = is.rises.rising
 rising_sum lane (c ∷ front) rising is before = (
   all_append (NeverFalls c) front lane.calls rising.0
@@ -79,26 +79,26 @@ rising_sum lane (c ∷ front) rising is before = (
   rising_sum lane front rising.1 is before.1,
 )
 
-abbrev pub calls_in : List Lane → List Called
-calls_in lanes = flat_map (λ (lane : Lane). lane.calls) lanes
+abbrev pub calls_in : List LaneCalls → List Called
+calls_in lanes = flat_map (λ (lane : LaneCalls). lane.calls) lanes
 
 -- a call that each of the lanes may be behind
-abbrev AllBefore : List Lane → Called → Type 0
-AllBefore lanes call = AllByRecursion (λ (lane : Lane). IsBefore lane call) lanes
+abbrev AllBefore : List LaneCalls → Called → Type 0
+AllBefore lanes call = AllByRecursion (λ (lane : LaneCalls). MayPrecede lane call) lanes
 
-heads : (lane : Lane) (lanes : List Lane) (front : List Called)
-    → AllByRecursion (AllBefore (lane ∷ lanes)) front → AllByRecursion (IsBefore lane) front
+heads : (lane : LaneCalls) (lanes : List LaneCalls) (front : List Called)
+    → AllByRecursion (AllBefore (lane ∷ lanes)) front → AllByRecursion (MayPrecede lane) front
 heads lane lanes front all =
-    all_map (AllBefore (lane ∷ lanes)) (IsBefore lane) front (λ c a. a.0) all
+    all_map (AllBefore (lane ∷ lanes)) (MayPrecede lane) front (λ c a. a.0) all
 
-tails : (lane : Lane) (lanes : List Lane) (front : List Called)
+tails : (lane : LaneCalls) (lanes : List LaneCalls) (front : List Called)
     → AllByRecursion (AllBefore (lane ∷ lanes)) front → AllByRecursion (AllBefore lanes) front
 tails lane lanes front all =
     all_map (AllBefore (lane ∷ lanes)) (AllBefore lanes) front (λ c a. a.1) all
 
 -- a lane's own calls are of another lane than those of the others
-own_before : (lane : Lane) (lanes : List Lane) (call : Called) → call.lane ≡ lane.number
-    → lane.number ≢ 0 → AllByRecursion (λ (other : Lane). lane.number ≢ other.number) lanes
+own_before : (lane : LaneCalls) (lanes : List LaneCalls) (call : Called) → call.lane ≡ lane.number
+    → lane.number ≢ 0 → AllByRecursion (λ (other : LaneCalls). lane.number ≢ other.number) lanes
     → AllBefore lanes call
 own_before lane [] call own positive apart = tt
 own_before lane (l ∷ lanes) call own positive apart = (
@@ -106,8 +106,8 @@ own_before lane (l ∷ lanes) call own positive apart = (
   own_before lane lanes call own positive apart.1,
 )
 
-rising_behind : (first : View) (front : List Called) (lanes : List Lane) → Rising front
-    → AllByRecursion (AllBefore lanes) front → AreLanes first lanes
+rising_behind : (first : View) (front : List Called) (lanes : List LaneCalls) → Rising front
+    → AllByRecursion (AllBefore lanes) front → RiseTogether first lanes
     → Rising (front ++ calls_in lanes)
 rising_behind first front [] rising before are = subst Rising (sym (append-nil front)) rising
 rising_behind first front (lane ∷ lanes) rising before are =
@@ -135,7 +135,7 @@ known_more v w h (FindsEnd at bytes len) all known = λ n e. absurd cc
 known_more v w h (Refused subject) all known = λ n e. absurd cc
 known_more v w h Wrong all known = λ n e. absurd cc
 
-all_before : (first : View) (lanes : List Lane) (call : Called) → AreLanes first lanes
+all_before : (first : View) (lanes : List LaneCalls) (call : Called) → RiseTogether first lanes
     → IsOnRecord first call → AllBefore lanes call
 all_before first [] call are known = tt
 all_before first (lane ∷ lanes) call are known = (
@@ -145,8 +145,8 @@ all_before first (lane ∷ lanes) call are known = (
 
 -- The calls of lane 0, whose answers stand in its record, and behind them those of the other lanes,
 -- which started from records that have all of it.
-pub rising_lanes : (first : View) (calls : List Called) (lanes : List Lane) → Rising calls
-    → AllByRecursion (IsOnRecord first) calls → AreLanes first lanes
+pub rising_lanes : (first : View) (calls : List Called) (lanes : List LaneCalls) → Rising calls
+    → AllByRecursion (IsOnRecord first) calls → RiseTogether first lanes
     → Rising (calls ++ calls_in lanes)
 rising_lanes first calls lanes rising known are = rising_behind first calls lanes rising
     (all_map (IsOnRecord first) (AllBefore lanes) calls (λ c k. all_before first lanes c are k) known)

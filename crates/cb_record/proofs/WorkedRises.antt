@@ -8,7 +8,7 @@ use Rattle.cb_rule.specs.Lists.{Has}
 use Rattle.cb_model.specs.Called.{Called}
 use Rattle.cb_model.specs.Event.Subject.{Contents}
 use Rattle.cb_model.specs.Event.Event.{Makes, Shows, Pins, Writes, FindsFull, FindsUnmade, FindsFreed, FindsEnd, Refused, Wrong}
-use Rattle.cb_record.specs.Rises.{AreLanes, HasAllOf, HasVersion, IsBefore, IsBehind, IsKnownTo, IsLane, IsOnRecord, Lane, MayFollowVersion, RisesFrom}
+use Rattle.cb_record.specs.Rises.{RiseTogether, HasAllOf, HasVersion, MayPrecede, IsBehind, IsKnownTo, RisesAlone, IsOnRecord, LaneCalls, MayFollowVersion, RisesFrom}
 use Rattle.cb_record.specs.Upheld.{IsLong, IsSeenLong, IsUpheld, OneLength}
 
 abbrev seen_two : Seen
@@ -86,22 +86,22 @@ module _ (v : View) where
       (λ (none : ⊥). none) s.1) z.1
 
   -- ---- lanes
-  abbrev lane_one : Lane
+  abbrev lane_one : LaneCalls
   lane_one = record { number = 1; start = reader; calls = pins_at 2 ∷ [] }
 
-  is_lane : IsLane lane_one
+  is_lane : RisesAlone lane_one
   is_lane = record { own = (refl, tt); rises = rises }
 
-  of_another_lane : IsLane (record lane_one { number = 2 }) → ⊥
+  of_another_lane : RisesAlone (record lane_one { number = 2 }) → ⊥
   of_another_lane l = let e = l.own.0 in omega (arith, e)
 
-  are_lanes : AreLanes reader (lane_one ∷ [])
+  are_lanes : RiseTogether reader (lane_one ∷ [])
   are_lanes = (is_lane, (λ e. omega (arith, e)), (λ h version freed has. has), tt, tt)
 
-  one_number_twice : AreLanes reader (lane_one ∷ lane_one ∷ []) → ⊥
+  one_number_twice : RiseTogether reader (lane_one ∷ lane_one ∷ []) → ⊥
   one_number_twice l = l.3.0 refl
 
-  with_lane_zero : AreLanes reader (record lane_one { number = 0 } ∷ []) → ⊥
+  with_lane_zero : RiseTogether reader (record lane_one { number = 0 } ∷ []) → ⊥
   with_lane_zero l = l.1 refl
 
   -- a lane that started from a record without what lane 0 read
@@ -112,10 +112,10 @@ module _ (v : View) where
       (all 3 2 false has_two)
 
   -- a call of lane 2 may come before one of lane 1; one of lane 0 has to be on its record
-  lane_two_before : IsBefore lane_one (record { lane = 2; handle = Some 3; event = Pins 7 })
+  lane_two_before : MayPrecede lane_one (record { lane = 2; handle = Some 3; event = Pins 7 })
   lane_two_before = inl ((λ e. omega (arith, e)), (λ e. omega (arith, e)))
 
-  lane_zero_before : IsBefore lane_one (record { lane = 0; handle = Some 3; event = Pins 3 }) → ⊥
+  lane_zero_before : MayPrecede lane_one (record { lane = 0; handle = Some 3; event = Pins 3 }) → ⊥
   lane_zero_before b = ⊎_elim
       (λ (o : (0 ≢ 1) × (0 ≢ 0)). o.1 refl)
       (λ (on : IsOnRecord reader (record { lane = 0; handle = Some 3; event = Pins 3 })).

@@ -48,22 +48,23 @@ HasAllOf v w = (h version : ℕ) (freed : Bool) → HasVersion v h version freed
     → HasVersion w h version freed
 
 -- The calls of a lane, and the record from which it started.
-pub record Lane : Type 0 where
+pub record LaneCalls : Type 0 where
   pub number : ℕ
   pub start : View
   pub calls : List Called
 
 -- each call is the lane's own, and they rise from its start
-pub record IsLane (lane : Lane) : Type 0 where
+pub record RisesAlone (lane : LaneCalls) : Type 0 where
   pub own : AllByRecursion (λ (call : Called). call.lane ≡ lane.number) lane.calls
   pub rises : RisesFrom lane.start lane.calls
 
 -- a call of another lane from 1 on, or one on the record from which the lane started
-abbrev pub IsBefore : Lane → Called → Type 0
-IsBefore lane call = ((call.lane ≢ lane.number) × (call.lane ≢ 0)) ⊎ IsOnRecord lane.start call
+abbrev pub MayPrecede : LaneCalls → Called → Type 0
+MayPrecede lane call = ((call.lane ≢ lane.number) × (call.lane ≢ 0)) ⊎ IsOnRecord lane.start call
 
 -- lanes from 1 on, no two of one number, each of which starts from all that this record has
-abbrev pub AreLanes : View → List Lane → Type 0
-AreLanes first [] = Unit {0}
-AreLanes first (lane ∷ lanes) = IsLane lane × (lane.number ≢ 0) × HasAllOf first lane.start
-    × AllByRecursion (λ (other : Lane). lane.number ≢ other.number) lanes × AreLanes first lanes
+abbrev pub RiseTogether : View → List LaneCalls → Type 0
+RiseTogether first [] = Unit {0}
+RiseTogether first (lane ∷ lanes) = RisesAlone lane × (lane.number ≢ 0) × HasAllOf first lane.start
+    × AllByRecursion (λ (other : LaneCalls). lane.number ≢ other.number) lanes
+    × RiseTogether first lanes
