@@ -13,6 +13,7 @@ use Rattle.cb_world.specs.World.{IsKnown, ArePinned, AreCounted, IsConfigured}
 use Rattle.cb_world.specs.Pairs.{HoldsNoPair}
 pub use Rattle.cb_world.proofs.Laws.{KeepsNote, Rises, RisesBy, rises_more, rises_then, StaysIf}
 use Rattle.cb_core.specs.Parts.{Holding}
+use Rattle.cb_core.proofs.Carried.{KeepsAlong}
 
 -- all is known of a holding with this configuration, and its pins are those of these seats
 pub record IsGood (c : Config) (seats : List SeatState) (a : Holding Words) : Type 0 where
@@ -64,6 +65,15 @@ arrives_more c seats n k a b Z W most p w = record {
   is = w;
   good = p.good;
   rises = rises_more n k a.far b.far most p.rises;
+}
+
+-- along the parts of a job
+pub good_along : (c : Config) (seats : List SeatState) → KeepsAlong (IsGood c seats) (Arrives c seats)
+good_along c seats = record {
+  is = λ n a b Z z. z.is;
+  next = λ n a b Z good z. z.good;
+  more = arrives_more c seats;
+  both = arrives_then c seats;
 }
 
 -- nothing changed

@@ -6,6 +6,7 @@ pub mod NoFrames
 pub mod DeclinedLooks
 pub mod Changes
 pub mod KeptPins
+pub mod Carried
 pub mod KeptParts
 pub mod FewLost
 pub mod RowsHeld
@@ -20,11 +21,9 @@ pub mod StillFarJobs
 pub mod StillBatches
 pub mod StillReads
 pub mod ReadTurns
-pub mod StillTurns
 pub mod TurnComes
 pub mod TurnCarries
 pub mod TurnLeft
-pub mod Mapped
 pub mod WorldKept
 pub mod PinsKept
 pub mod OpenSteps
@@ -69,7 +68,6 @@ pub mod TurnCallsSwap
 pub mod TurnCallsNodes
 pub mod TurnCallsFilter
 pub mod TurnCallsBatch
-pub mod TurnCallsFirst
 pub mod TurnCalls
 pub mod TurnCallsUnavailable
 pub mod Unavailables

@@ -1,39 +1,208 @@
--- What each part of a turn leaves as it was, the parts one after another leave as it was.
-use Rattle.std.proofs.Common.{◌≡◌, ℕ, Option, None, Some, ◌∙◌}
+-- What the parts of a job leave as it was at the still desk: the configuration, the members, the first
+-- version and the count of turns; and, but for the steps of a batch, the batch that is leaving and the
+-- pair that is joining.
+use Rattle.std.proofs.Common.{◌≡◌, ◌⊎◌, ℕ, List, length, Option, refl, ap, ◌∙◌, arith, inl, inr}
+use Rattle.cb_member.specs.Membership.{Membership}
+use Rattle.cb_ptr.specs.declared.word.State.{State}
+use Rattle.cb_ptr.specs.declared.word.State.TheVariants as state
+use Rattle.cb_ptr.specs.Word.{state_of}
+use Rattle.cb_types.specs.declared.config.Config.{Config}
+use Rattle.cb_types.specs.declared.job.Job.{Job}
+use Rattle.cb_types.specs.declared.job.Job.TheVariants.{Free, Filter, Evict, Begin, Ship, Commit, Abort}
 use Rattle.cb_types.specs.declared.reply.Reply.{Reply}
-use Rattle.cb_types.specs.declared.reply.Reply.TheVariants as answer
-use Rattle.cb_evict.specs.declared.eviction.Eviction.{Eviction}
-use Rattle.cb_evict.specs.declared.eviction.Eviction.TheVariants.{Refused, Set}
+use Rattle.cb_world.specs.FarState.{FarState}
+use Rattle.cb_world.specs.Joining.{JoiningState}
+use Rattle.cb_world.specs.Leaving.{LeavingState}
 use Rattle.cb_world.specs.Plain.{Words}
-use Rattle.cb_core.specs.Parts.{Holding, WithRoom, at_once, no_room, won, WhereItIs, near, declined, stays_far, brought, BringsIn, not_far, was_far}
+use Rattle.cb_world.specs.World.{word_at}
+use Rattle.cb_mutate.specs.FreeRule.{LeavesPlace}
+use Rattle.cb_mutate.specs.MakeStep.{IsMakeStep}
+use Rattle.cb_evict.specs.AbortStep.{no_batch as none_to_abort, given_up}
+use Rattle.cb_evict.specs.BeginStep.{is_leaving, few_spans, few_nodes, begins}
+use Rattle.cb_evict.specs.CommitStep.{no_batch as none_to_commit, short, committed}
+use Rattle.cb_evict.specs.declared.eviction.Eviction.{Eviction}
+use Rattle.cb_evict.specs.Eviction.{reply_of}
+use Rattle.cb_evict.specs.EvictStep.{IsEvictStep}
+use Rattle.cb_evict.proofs.Laws.{evict_keeps, evict_settings}
+use Rattle.cb_filter.specs.FilterStep.{refused as refuses, cools, without_slot, moves}
+use Rattle.cb_swapin.proofs.Laws.{keeps_far, settings_stay}
+use Rattle.cb_core.specs.FarJobs.{FarStep}
+use Rattle.cb_core.specs.Parts.{Holding, WithRoom, WhereItIs, NeverDeclined}
+use Rattle.cb_core.specs.Step.{StillAlone, StillMake, StillRead, StillWrite, StillFree, StillEvict, StillRoom, StillSwap, StillBring, StillFilter, StillBegin, StillShip, StillCommit, StillAbort, StillWorks, still_parts}
+use Rattle.cb_core.proofs.Carried.{Along, AreAlong, KeepsAlong, brings, does, itself, where_it_is, with_room}
+use Rattle.cb_core.proofs.Changes.{read_leaves, write_leaves, free_leaves}
+use Rattle.cb_core.proofs.NodesStay.{IsWhole}
 
 -- all that is done by P leaves this as it was
 abbrev pub Leaves : {X A : Type 0} → (Holding Words → X)
     → (Holding Words → A → Holding Words → Type 0) → Type 0
 Leaves {A = A} what P = (a b : Holding Words) (r : A) → P a r b → what b ≡ what a
 
-module _ {X : Type 0} (what : Holding Words → X) where
-  pub room_same : (n : ℕ) (P : Holding Words → Reply → Holding Words → Type 0)
-      (E : Holding Words → Eviction → Holding Words → Type 0) → Leaves what P → Leaves what E
-      → Leaves what (WithRoom n P E)
-  room_same n P E p e a b r (at_once o off) = p a b r o
-  room_same n P E p e a b r (no_room m why loose nodes o v is) =
-      e m b (Refused why loose nodes) v ∙ p a m answer.NoFrame o
-  room_same n P E p e a b r (won m k id o v again off) =
-      p k b r again ∙ e m k (Set id) v ∙ p a m answer.NoFrame o
+-- ---- one part after another
+abbrev Anywhere : Holding Words → Type 0
+Anywhere a = Unit {0}
 
-  pub where_same : (P : Holding Words → Reply → Holding Words → Type 0)
-      (L : Holding Words → Option Reply → Holding Words → Type 0)
-      (E : Holding Words → Reply → Holding Words → Type 0) → Leaves what P → Leaves what L
-      → Leaves what E → Leaves what (WhereItIs P L E)
-  where_same P L E p l e a b r (near o off) = p a b r o
-  where_same P L E p l e a b r (declined m o d) = l m b (Some r) d ∙ p a m answer.NotHere o
-  where_same P L E p l e a b r (stays_far m n o d v off) =
-      e n b r v ∙ l m n None d ∙ p a m answer.NotHere o
-  where_same P L E p l e a b r (brought m n q f o d v again) =
-      p q b r again ∙ e n q (answer.Swapped f) v ∙ l m n None d ∙ p a m answer.NotHere o
+abbrev LeftAs : {X : Type 0} → (Holding Words → X) → ℕ → Holding Words → Holding Words → Type 0 → Type 0
+LeftAs what n a b Z = (what b ≡ what a) × Z
 
-  pub brings_same : (P E : Holding Words → Reply → Holding Words → Type 0) → Leaves what P
-      → Leaves what E → Leaves what (BringsIn P E)
-  brings_same P E p e a b r (not_far o off) = p a b r o
-  brings_same P E p e a b r (was_far m o v) = e m b r v ∙ p a m answer.NotHere o
+along : {X : Type 0} (what : Holding Words → X) → KeepsAlong Anywhere (LeftAs what)
+along what = record {
+  is = λ n a b Z z. z.1;
+  next = λ n a b Z good z. tt;
+  more = λ n k a b Z W most z w. (z.0, w);
+  both = λ n m k a b d Y Z W most y z w. (z.0 ∙ y.0, w);
+}
+
+pub room_same : {X : Type 0} (what : Holding Words → X) (n : ℕ)
+    (P : Holding Words → Reply → Holding Words → Type 0)
+    (V : Holding Words → Eviction → Holding Words → Type 0) → Leaves what P → Leaves what V
+    → Leaves what (WithRoom n P V)
+room_same what n P V p v a b r x = (with_room itself Anywhere (LeftAs what) (along what) n 0 0 0 P P V V
+    (omega arith) (λ a b r good x. (p a b r x, x)) (λ a b e good x. (v a b e x, x)) a b r tt x).0
+
+-- ---- what lasts
+abbrev pub Steady : Type 0
+Steady = Config × Membership × ℕ × ℕ
+
+-- the configuration, the members, the first version and the count of turns
+abbrev pub steady : Holding Words → Steady
+steady a = (a.desk.settings, a.far.members, a.far.first, a.far.counts.turns)
+
+-- and the batch that is leaving and the pair that is joining
+abbrev pub lasting : Holding Words → Steady × Option LeavingState × Option JoiningState
+lasting a = (steady a, a.far.leaving, a.far.joining)
+
+-- by the configuration and the far state behind a part
+begun : (b : Holding Words) (x : Words) (f : FarState) → b.desk.settings ≡ x.settings → b.far ≡ f
+    → steady b ≡ steady (record { desk = x; far = f })
+begun b x f settings far = λ i. (settings i, (far i).members, (far i).first, (far i).counts.turns)
+
+settled : (b : Holding Words) (x : Words) (f : FarState) → b.desk ≡ x → b.far ≡ f
+    → steady b ≡ steady (record { desk = x; far = f })
+settled b x f desk far = λ i. steady (record { desk = desk i; far = far i })
+
+ends : (b : Holding Words) (x : Words) (f : FarState) → b.desk ≡ x → b.far ≡ f
+    → lasting b ≡ lasting (record { desk = x; far = f })
+ends b x f desk far = λ i. lasting (record { desk = desk i; far = far i })
+
+-- ---- each part
+make_lasts : (bytes : List ℕ) → Leaves lasting (StillMake bytes)
+make_lasts bytes a b r step = by step
+  where
+    by : IsMakeStep a.desk b.desk a.far b.far bytes r → lasting b ≡ lasting a
+    by (inl (made, reply, e, same)) = ends b a.desk a.far e same
+    by (inr (more, inl (crammed, reply, e, same))) = ends b a.desk a.far e same
+    by (inr (more, inr (reply, z))) = ends b _ _ z.left z.state
+
+read_lasts : (h : ℕ) → Leaves lasting (StillRead h)
+read_lasts h a b r step = elim (read_leaves a.desk b.desk h r step.0) [
+  | inl e ↦ ends b a.desk a.far e step.1
+  | inr e ↦ ends b _ a.far e step.1
+]
+
+write_lasts : (h at : ℕ) (bytes : List ℕ) → Leaves lasting (StillWrite h at bytes)
+write_lasts h at bytes a b r step = elim (write_leaves a.desk b.desk h at bytes r step.0) [
+  | inl e ↦ ends b a.desk a.far e step.1
+  | inr e ↦ ends b _ a.far e.1.1.left step.1
+]
+
+free_lasts : (h : ℕ) → Leaves lasting (StillFree h)
+free_lasts h a b r step = elim (free_leaves a.desk b.desk a.far b.far h r step) [
+  | inl e ↦ ends b a.desk a.far e.0 e.1
+  | inr e ↦ place (state_of (word_at a.desk h)) (ap (λ (x : Words). x.settings) e.1.1.left) e.1.1.leaves
+]
+  where
+    lasts : (f : FarState) → b.desk.settings ≡ a.desk.settings → b.far ≡ f
+        → lasting b ≡ (steady (record { desk = a.desk; far = f }), f.leaving, f.joining)
+    lasts f same left = λ i. (begun b a.desk f same left i, (left i).leaving, (left i).joining)
+
+    place : (q : State) → b.desk.settings ≡ a.desk.settings → LeavesPlace q a.far b.far h
+        → lasting b ≡ lasting a
+    place state.Here same z = lasts _ same z.left
+    place state.Far same z = lasts _ same z.left
+    place state.Empty same z = absurd z
+    place state.Moving same z = absurd z
+
+evicted : (a b : Holding Words) (r : Reply) → IsEvictStep a.desk b.desk a.far b.far r
+    → lasting b ≡ lasting a
+evicted a b r step =
+    let settings = evict_settings a.desk b.desk a.far b.far r step in
+    let keeps = evict_keeps a.desk b.desk a.far b.far r step in
+    λ i. ((settings i, keeps.members i, keeps.first i, keeps.turns i), keeps.leaving i, keeps.joining i)
+
+swap_lasts : (h : ℕ) → Leaves lasting (StillSwap h)
+swap_lasts h a b r (home, at, step, hold) =
+    let settings = settings_stay a.desk b.desk a.far b.far home.set home.position r step in
+    let keeps = keeps_far a.desk b.desk a.far b.far home.set home.position r step in λ i.
+    ((settings i, keeps.members i, keeps.first i, (keeps.counts i).turns), keeps.leaving i, keeps.joining i)
+
+filter_lasts : (h : ℕ) → Leaves lasting (StillFilter h)
+filter_lasts h a b r (refuses why same state, hold) = ends b a.desk a.far same state
+filter_lasts h a b r (cools seat is place same, hold) = ends b _ _ same place.state
+filter_lasts h a b r (without_slot seat is none same, hold) = ends b a.desk a.far same none.state
+filter_lasts h a b r (moves seat slot is gets same, hold) = ends b _ _ same gets.state
+
+-- the steps of a batch
+begin_stays : Leaves steady StillBegin
+begin_stays a b r (is_leaving batch there reply state same, hold) = settled b a.desk a.far same state
+begin_stays a b r (few_spans none few same, hold) = settled b a.desk a.far same few.state
+begin_stays a b r (few_nodes none few same, hold) = settled b a.desk a.far same few.state
+begin_stays a b r (begins m, hold) = begun b a.desk _ m.begun.held.settings m.begun.state
+
+ship_stays : Leaves steady StillShip
+ship_stays a b r (step, hold) = elim step.ships [
+  | inl z ↦ settled b a.desk a.far step.words z.state
+  | inr (inl z) ↦ settled b a.desk a.far step.words z.state
+  | inr (inr (inl z)) ↦ settled b a.desk a.far step.words z.state
+  | inr (inr (inr z)) ↦ settled b a.desk _ step.words z.state
+]
+
+commit_stays : Leaves steady StillCommit
+commit_stays a b r (none_to_commit n same, hold) = settled b a.desk a.far same n.state
+commit_stays a b r (short z same, hold) = settled b a.desk a.far same z.state
+commit_stays a b r (committed c away, hold) = begun b a.desk _ away.settings c.state
+
+abort_stays : Leaves steady StillAbort
+abort_stays a b r (none_to_abort n same, hold) = settled b a.desk a.far same n.state
+abort_stays a b r (given_up g back, hold) = begun b a.desk _ back.settings g.state
+
+-- ---- a job
+-- what a job leaves: all that lasts; or it is a step of a batch; or it works at the far state alone
+abbrev pub LeftBy : Job → Holding Words → Holding Words → Type 0
+LeftBy job a b = (lasting b ≡ lasting a) ⊎ (((IsWhole job → ⊥) × (steady b ≡ steady a))
+    ⊎ ((r : Reply) × (b.desk ≡ a.desk) × FarStep job a.far b.far r))
+
+alone_left : (job : Job) (a b : Holding Words) (r : Reply) → StillAlone job a r b → LeftBy job a b
+alone_left (Free handle) a b r x = inl (free_lasts handle.n a b r x)
+alone_left (Filter handle) a b r x = inl (filter_lasts handle.n a b r x)
+alone_left Evict a b r x = inl (evicted a b r x.0)
+alone_left Begin a b r x = inr (inl ((λ whole. whole), begin_stays a b r x))
+alone_left Ship a b r x = inr (inl ((λ whole. whole), ship_stays a b r x))
+alone_left Commit a b r x = inr (inl ((λ whole. whole), commit_stays a b r x))
+alone_left Abort a b r x = inr (inl ((λ whole. whole), abort_stays a b r x))
+alone_left job a b r x = inr (inr (r, x.0, x.1))
+
+parts : AreAlong itself Anywhere (LeftAs lasting) still_parts still_parts
+parts = record {
+  frames = λ a good. refl;
+  makes = λ bytes a b r good x. (make_lasts bytes a b r x, x);
+  writes = λ h at bytes a b r good x. (write_lasts h at bytes a b r x, x);
+  finds = λ h a b r good x. (ap lasting x.1, x);
+  declines = λ h at count a b r good x. (ap lasting x.1, x);
+  swaps = λ h a b r good x. (swap_lasts h a b r x, x);
+  wins = λ a b e good x. (evicted a b (reply_of e) x.0.step, x);
+}
+
+reads : (h : ℕ) → Along itself Anywhere (LeftAs lasting) 64
+    (WhereItIs (StillRead h) NeverDeclined (StillBring h))
+    (WhereItIs (StillRead h) NeverDeclined (StillBring h))
+reads h = where_it_is itself Anywhere (LeftAs lasting) (along lasting) 1 1 56 64 (StillRead h) (StillRead h)
+    NeverDeclined NeverDeclined (StillBring h) (StillBring h) (omega arith)
+    (λ a b r good x. (read_lasts h a b r x, x)) (λ a b r good x. (ap lasting x.1, x))
+    (brings itself Anywhere (LeftAs lasting) (along lasting) still_parts still_parts parts h)
+
+pub works_left : (job : Job) (a b : Holding Words) (r : Reply) → StillWorks job a r b → LeftBy job a b
+works_left job a b r x =
+    does itself Anywhere (LeftAs lasting) (along lasting) still_parts still_parts parts
+    (λ j c d Z. LeftBy j c d) _ _ job (λ two c d Z z. inl z.0) reads
+    (λ c d q good y. alone_left job c d q y) a b r tt x

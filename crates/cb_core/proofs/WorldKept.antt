@@ -1,10 +1,9 @@
 -- A turn over the still desk is a step of the world, part by part, and the world stays sound.
-use Rattle.std.proofs.Common.{◌≡◌, ℕ, ◌^◌, ◌<◌, ◌≤◌, List, length, refl, sym, subst, arith}
+use Rattle.std.proofs.Common.{◌≡◌, ℕ, ◌^◌, ◌<◌, ◌≤◌, List, refl, sym, ap, subst, arith}
 use Rattle.cb_types.specs.declared.config.Config.{Config}
 use Rattle.cb_types.specs.declared.job.Job.{Job}
 use Rattle.cb_types.specs.declared.job.Job.TheVariants.{Make, Read, Write, Free, Swap, Filter, Evict, Begin, Ship, Commit, Abort, Crash}
 use Rattle.cb_types.specs.declared.reply.Reply.{Reply}
-use Rattle.cb_types.specs.declared.reply.Reply.TheVariants as answer
 use Rattle.cb_types.specs.Config.{IsAccepted}
 use Rattle.cb_types.specs.Jobs.{job_index}
 use Rattle.cb_world.specs.declared.shown.Shown.{Shown}
@@ -14,11 +13,13 @@ use Rattle.cb_world.specs.Seats.{SeatState}
 use Rattle.cb_world.specs.World.{WorldState, IsKnown, IsConfigured, IsSoundWorld}
 use Rattle.cb_world.proofs.Laws.{open_same, recounted}
 use Rattle.cb_core.specs.Jobs.{IsJob}
-use Rattle.cb_core.specs.Parts.{Holding, NeverLacks, WithRoom}
-use Rattle.cb_core.specs.Step.{StillMake, StillMakeLacks, StillRead, StillReadLacks, StillWrite, StillFind, StillDecline, StillRoom, StillEvictLacks, StillSwap, StillSwapLacks, StillBring, StillBringLacks, StillWorks, StillStops, TurnStep, worn, done, TurnStops}
-use Rattle.cb_core.specs.Turned.{Does, Turned, worn as was_worn, done as was_done, Stopped, counted, once_counted, Makes, MakeLacks, Reads, ReadLacks, Writes, Finds, Declines, WinsRoom, EvictLacks, Swaps, SwapLacks, Brings, BringLacks, Stops as StopsOver, ComesIn, ComeLacks}
+use Rattle.cb_core.specs.OnceHere.{OnceHere, OnceHereStops}
+use Rattle.cb_core.specs.Parts.{Holding, WhereItIs, NeverDeclined, CallStops}
+use Rattle.cb_core.specs.Step.{StillAlone, StillBring, StillBringLacks, StillLacksAlone, StillRead, StillReadLacks, StillWorks, StillStops, still_lacks, still_parts, TurnStep, worn, done, TurnStops}
+use Rattle.cb_core.specs.Turned.{Does, DoesAlone, LacksAlone, Turned, worn as was_worn, done as was_done, Stopped, counted, once_counted, Reads, ReadLacks, Stops as StopsOver, ComesIn, ComeLacks, desk_lacks, desk_parts}
+use Rattle.cb_core.proofs.Carried.{AreAlong, IsMany, LackAlong, come_stops, comes_in, does, itself, once_here, once_here_stops, stops}
 use Rattle.cb_core.proofs.Counting.{counted_sound, job_below}
-use Rattle.cb_core.proofs.KeptParts.{IsGood, Arrives, Carries, CarriesLack, rises_more, arrives_then, arrives_more, counted_rises, ArrivesBy}
+use Rattle.cb_core.proofs.KeptParts.{IsGood, Arrives, Carries, CarriesLack, rises_more, arrives_then, arrives_more, counted_rises, good_along, ArrivesBy}
 use Rattle.cb_core.proofs.StillParts.{Ran, Tells, make_part, read_part, write_part, free_part, find_part, decline_part, evict_part, room_part, swap_part, make_lack, read_lack, evict_lack, swap_lack}
 use Rattle.cb_core.proofs.FarJobs.{note_of}
 use Rattle.cb_core.proofs.Noted.{noted_after}
@@ -26,125 +27,109 @@ use Rattle.cb_core.proofs.StillBatches.{begin_part, ship_part, ship_lack, commit
 use Rattle.cb_core.proofs.StillFilters.{filter_part, filter_lack}
 use Rattle.cb_core.proofs.StillFarJobs.{far_arrives, far_lack, far_part, known_far}
 use Rattle.cb_core.proofs.StillReads.{StillComes, StillComeLacks, reads_where, read_stops_where}
-use Rattle.cb_core.proofs.StillTurns.{with_room, where_it_is, brings_in, room_stops, call_stops, once_here, once_here_stops}
 
 -- ---- jobs
-bring_part : (c : Config) (seats : List SeatState) (h : ℕ) → IsAccepted c
-    → Carries c seats 56 (Brings Ran Tells c h) (StillBring h)
-bring_part c seats h accepted a b r good does =
-    let z = with_room c seats c.frames 16 24 56 (Swaps Ran Tells h) (StillSwap h) (WinsRoom Ran Tells c)
-    StillRoom (omega arith) (swap_part c seats h) (room_part c seats accepted) a b r good does in
-    arrives_more c seats 56 56 a b _ (StillBring h a r b) (omega arith) z
-    (subst (λ (d : Config). WithRoom d.frames (StillSwap h) StillRoom a r b) (sym good.settings) z.is)
+module _ (c : Config) (seats : List SeatState) (accepted : IsAccepted c) where
+  parts : AreAlong itself (IsGood c seats) (Arrives c seats) (desk_parts Ran Tells c) still_parts
+  parts = record {
+    frames = λ a good. ap (λ (d : Config). d.frames) good.settings;
+    makes = make_part c seats;
+    writes = write_part c seats;
+    finds = find_part c seats;
+    declines = decline_part c seats;
+    swaps = swap_part c seats;
+    wins = room_part c seats accepted;
+  }
 
-bring_lack : (c : Config) (seats : List SeatState) (h : ℕ) → IsAccepted c
-    → CarriesLack c seats 56 (BringLacks Ran Tells c h) (StillBringLacks h)
-bring_lack c seats h accepted =
-    room_stops c seats 16 24 56 (Swaps Ran Tells h) (StillSwap h) (WinsRoom Ran Tells c)
-    StillRoom (SwapLacks Ran h) (StillSwapLacks h) (EvictLacks Ran Tells) StillEvictLacks (omega arith)
-    (swap_part c seats h) (swap_lack c seats h) (room_part c seats accepted) (evict_lack c seats)
+  lacks : LackAlong itself (IsGood c seats) (Arrives c seats) (desk_lacks Ran Tells c) still_lacks
+  lacks = record {
+    makes = make_lack c seats;
+    swaps = swap_lack c seats;
+    evicts = evict_lack c seats;
+  }
 
--- an object that comes in
-come_part : (c : Config) (seats : List SeatState) (h : ℕ) → IsAccepted c
-    → Carries c seats 57 (ComesIn Ran Tells c h) (StillComes h)
-come_part c seats h accepted =
-    brings_in c seats 1 56 57 (Finds Ran Tells h) (StillFind h) (Brings Ran Tells c h) (StillBring h)
-    (omega arith) (find_part c seats h) (bring_part c seats h accepted)
+  come_part : (h : ℕ) → Carries c seats 57 (ComesIn Ran Tells c h) (StillComes h)
+  come_part = comes_in itself (IsGood c seats) (Arrives c seats) (good_along c seats) (desk_parts Ran Tells c)
+      still_parts parts
 
-come_lack : (c : Config) (seats : List SeatState) (h : ℕ) → IsAccepted c
-    → CarriesLack c seats 57 (ComeLacks Ran Tells c h) (StillComeLacks h)
-come_lack c seats h accepted a b good (m, found, stops) =
-    let z = find_part c seats h a m answer.NotHere good found in
-    let y = bring_lack c seats h accepted m b z.good stops in
-    arrives_then c seats 1 56 57 a m b _ _ (StillComeLacks h a b) (omega arith) z y (m, z.is, y.is)
+  -- a part whose numbers rise by no more than those of a job may
+  in_job : (n : ℕ) (a b : Holding Words) (Z W : Type 0) → n ≤ 64 → Arrives c seats n a b Z → (Z → W)
+      → Arrives c seats 64 a b W
+  in_job n a b Z W most z w = arrives_more c seats n 64 a b Z W most z (w z.is)
 
--- a part whose numbers rise by no more than those of a job may
-in_job : (c : Config) (seats : List SeatState) (n : ℕ) (a b : Holding Words) (Z : Type 0) → n ≤ 64
-    → Arrives c seats n a b Z → Arrives c seats 64 a b Z
-in_job c seats n a b Z most z = arrives_more c seats n 64 a b Z Z most z z.is
+  many : (job : Job) → IsMany job → (a b : Holding Words) (Z : Type 0) → Arrives c seats 64 a b Z
+      → ArrivesBy (note_of job) c seats 64 a b Z
+  many (Make bytes) two a b Z z = z
+  many (Read handle) two a b Z z = z
+  many (Write handle at bytes) two a b Z z = z
+  many (Swap handle) two a b Z z = z
+  many job two a b Z z = absurd two
 
-works_part : (c : Config) (seats : List SeatState) (job : Job) (a b : Holding Words) (r : Reply)
-    → IsAccepted c → IsJob c job → IsGood c seats a → Does Ran Tells (Reads Ran Tells) c job a r b
-    → ArrivesBy (note_of job) c seats 64 a b (StillWorks job a r b)
-works_part c seats (Make bytes) a b r accepted ok good does =
-    let z = with_room c seats c.frames 1 24 64 (Makes Ran Tells c bytes) (StillMake bytes)
-    (WinsRoom Ran Tells c) StillRoom (omega arith) (make_part c seats bytes) (room_part c seats accepted)
-    a b r good does in
-    arrives_more c seats 64 64 a b _ (StillWorks (Make bytes) a r b) (omega arith) z
-    (subst (λ (d : Config). WithRoom d.frames (StillMake bytes) StillRoom a r b) (sym good.settings) z.is)
-works_part c seats (Read handle) a b r accepted ok good does =
-    let h = handle.n in
-    let z = once_here c seats 57 1 64 (ComesIn Ran Tells c h) (StillComes h) (Reads Ran Tells h)
-    (StillRead h) (omega arith) (come_part c seats h accepted) (read_part c seats h) a b r good does in
-    arrives_more c seats 64 64 a b _ (StillWorks (Read handle) a r b) (omega arith) z
-    (reads_where h a b r z.is)
-works_part c seats (Write handle at bytes) a b r accepted ok good does =
-    let h = handle.n in let count = length bytes in
-    where_it_is c seats 1 1 56 64 (Writes Ran Tells h at bytes) (StillWrite h at bytes)
-    (Declines Ran Tells h at count) (StillDecline h at count) (Brings Ran Tells c h) (StillBring h)
-    (omega arith) (write_part c seats h at bytes) (decline_part c seats h at count)
-    (bring_part c seats h accepted) a b r good does
-works_part c seats (Free handle) a b r accepted ok good does =
-    in_job c seats 1 a b _ (omega arith) (free_part c seats handle.n a b r good does)
-works_part c seats (Swap handle) a b r accepted ok good does =
-    in_job c seats 57 a b _ (omega arith) (come_part c seats handle.n accepted a b r good does)
-works_part c seats Evict a b r accepted ok good does =
-    in_job c seats 24 a b _ (omega arith) (evict_part c seats accepted a b r good does)
-works_part c seats Begin a b r accepted ok good does =
-    in_job c seats 1 a b _ (omega arith) (begin_part c seats a b r good does)
-works_part c seats Ship a b r accepted ok good does =
-    in_job c seats 1 a b _ (omega arith) (ship_part c seats a b r good does)
-works_part c seats Commit a b r accepted ok good does =
-    in_job c seats 1 a b _ (omega arith) (commit_part c seats a b r good does)
-works_part c seats Abort a b r accepted ok good does =
-    in_job c seats 1 a b _ (omega arith) (abort_part c seats a b r good does)
-works_part c seats (Filter handle) a b r accepted ok good does =
-    in_job c seats 1 a b _ (omega arith) (filter_part c seats handle.n a b r good does)
-works_part c seats (Crash node) a b r accepted ok good (ran, crash) =
-    far_arrives c seats (Crash node) a b r (StillWorks (Crash node) a r b) ok good ran.0 crash
-    (ran.0, crash)
-works_part c seats job a b r accepted ok good does = far_part c seats job ok tt a b r good does
+  alone_part : (job : Job) → IsJob c job → (a b : Holding Words) (r : Reply) → IsGood c seats a
+      → DoesAlone Ran Tells c job a r b
+      → ArrivesBy (note_of job) c seats 64 a b (StillAlone job a r b)
+  alone_part (Free handle) ok a b r good x =
+      in_job 1 a b _ _ (omega arith) (free_part c seats handle.n a b r good x) (λ z. z)
+  alone_part (Filter handle) ok a b r good x =
+      in_job 1 a b _ _ (omega arith) (filter_part c seats handle.n a b r good x) (λ z. z)
+  alone_part Evict ok a b r good x =
+      in_job 24 a b _ _ (omega arith) (evict_part c seats accepted a b r good x) (λ z. z)
+  alone_part Begin ok a b r good x =
+      in_job 1 a b _ _ (omega arith) (begin_part c seats a b r good x) (λ z. z)
+  alone_part Ship ok a b r good x =
+      in_job 1 a b _ _ (omega arith) (ship_part c seats a b r good x) (λ z. z)
+  alone_part Commit ok a b r good x =
+      in_job 1 a b _ _ (omega arith) (commit_part c seats a b r good x) (λ z. z)
+  alone_part Abort ok a b r good x =
+      in_job 1 a b _ _ (omega arith) (abort_part c seats a b r good x) (λ z. z)
+  alone_part (Crash node) ok a b r good (ran, crash) =
+      far_arrives c seats (Crash node) a b r (StillAlone (Crash node) a r b) ok good ran.0 crash
+      (ran.0, crash)
+  alone_part job ok a b r good x = far_part c seats job ok tt a b r good x
 
--- a job that found no memory
-never_lack : (c : Config) (seats : List SeatState) → CarriesLack c seats 1 NeverLacks NeverLacks
-never_lack c seats a b good lacks = absurd lacks
+  works_part : (job : Job) (a b : Holding Words) (r : Reply) → IsJob c job → IsGood c seats a
+      → Does Ran Tells (Reads Ran Tells) c job a r b
+      → ArrivesBy (note_of job) c seats 64 a b (StillWorks job a r b)
+  works_part job a b r ok good x = does itself (IsGood c seats) (Arrives c seats) (good_along c seats)
+      (desk_parts Ran Tells c) still_parts parts (λ j. ArrivesBy (note_of j) c seats 64) _ _ job
+      (many job) read (alone_part job ok) a b r good x
+    where
+      read : (h : ℕ) → Carries c seats 64 (OnceHere (ComesIn Ran Tells c h) (Reads Ran Tells h))
+          (WhereItIs (StillRead h) NeverDeclined (StillBring h))
+      read h a b r good x = in_job 64 a b _ _ (omega arith) (once_here itself (IsGood c seats)
+          (Arrives c seats) (good_along c seats) 57 1 64 (ComesIn Ran Tells c h) (Reads Ran Tells h) (StillComes h)
+          (StillRead h) (omega arith) (come_part h) (read_part c seats h) a b r good x)
+          (reads_where h a b r)
 
-stops_part : (c : Config) (seats : List SeatState) (job : Job) (a b : Holding Words)
-    → IsAccepted c → IsGood c seats a → StopsOver Ran Tells (ReadLacks Ran Tells) c job a b
-    → ArrivesBy (note_of job) c seats 64 a b (StillStops job a b)
-stops_part c seats (Make bytes) a b accepted good stops =
-    room_stops c seats 1 24 64 (Makes Ran Tells c bytes) (StillMake bytes) (WinsRoom Ran Tells c)
-    StillRoom (MakeLacks Ran c bytes) (StillMakeLacks bytes) (EvictLacks Ran Tells) StillEvictLacks
-    (omega arith) (make_part c seats bytes) (make_lack c seats bytes) (room_part c seats accepted)
-    (evict_lack c seats) a b good stops
-stops_part c seats (Read handle) a b accepted good stops =
-    let h = handle.n in
-    let z = once_here_stops c seats 57 1 64 (ComesIn Ran Tells c h) (StillComes h)
-    (ComeLacks Ran Tells c h) (StillComeLacks h) (ReadLacks Ran Tells h) (StillReadLacks h) (omega arith)
-    (come_part c seats h accepted) (come_lack c seats h accepted) (read_lack c seats h) a b good stops in
-    arrives_more c seats 64 64 a b _ (StillStops (Read handle) a b) (omega arith) z
-    (read_stops_where h a b z.is)
-stops_part c seats (Write handle at bytes) a b accepted good stops =
-    let h = handle.n in let count = length bytes in
-    call_stops c seats 1 1 56 64 (Writes Ran Tells h at bytes) (StillWrite h at bytes)
-    NeverLacks NeverLacks (Declines Ran Tells h at count) (StillDecline h at count)
-    (Brings Ran Tells c h) (StillBring h) (BringLacks Ran Tells c h) (StillBringLacks h) (omega arith)
-    (write_part c seats h at bytes) (never_lack c seats) (decline_part c seats h at count)
-    (bring_part c seats h accepted) (bring_lack c seats h accepted) a b good stops
-stops_part c seats (Swap handle) a b accepted good stops =
-    in_job c seats 57 a b _ (omega arith) (come_lack c seats handle.n accepted a b good stops)
-stops_part c seats Evict a b accepted good stops =
-    in_job c seats 24 a b _ (omega arith) (evict_lack c seats a b good stops)
-stops_part c seats Begin a b accepted good stops =
-    in_job c seats 24 a b _ (omega arith) (evict_lack c seats a b good stops)
-stops_part c seats Ship a b accepted good stops =
-    in_job c seats 1 a b _ (omega arith) (ship_lack c seats a b good stops)
-stops_part c seats (Filter handle) a b accepted good stops =
-    in_job c seats 1 a b _ (omega arith) (filter_lack c seats handle.n a b good stops)
-stops_part c seats (Free handle) a b accepted good stops = absurd stops
-stops_part c seats Commit a b accepted good stops = absurd stops
-stops_part c seats Abort a b accepted good stops = absurd stops
-stops_part c seats job a b accepted good stops = far_lack c seats job a b good stops
+  -- a job that found no memory
+  alone_lack : (job : Job) (a b : Holding Words) → IsGood c seats a → LacksAlone Ran Tells job a b
+      → ArrivesBy (note_of job) c seats 64 a b (StillLacksAlone job a b)
+  alone_lack (Filter handle) a b good x =
+      in_job 1 a b _ _ (omega arith) (filter_lack c seats handle.n a b good x) (λ z. z)
+  alone_lack Evict a b good x = in_job 24 a b _ _ (omega arith) (evict_lack c seats a b good x) (λ z. z)
+  alone_lack Begin a b good x = in_job 24 a b _ _ (omega arith) (evict_lack c seats a b good x) (λ z. z)
+  alone_lack Ship a b good x = in_job 1 a b _ _ (omega arith) (ship_lack c seats a b good x) (λ z. z)
+  alone_lack (Free handle) a b good x = absurd x
+  alone_lack Commit a b good x = absurd x
+  alone_lack Abort a b good x = absurd x
+  alone_lack job a b good x = far_lack c seats job a b good x
+
+  stops_part : (job : Job) (a b : Holding Words) → IsGood c seats a
+      → StopsOver Ran Tells (ReadLacks Ran Tells) c job a b
+      → ArrivesBy (note_of job) c seats 64 a b (StillStops job a b)
+  stops_part job a b good x = stops itself (IsGood c seats) (Arrives c seats) (good_along c seats)
+      (desk_parts Ran Tells c) still_parts parts (desk_lacks Ran Tells c) still_lacks lacks
+      (λ j. ArrivesBy (note_of j) c seats 64) _ _ job (many job) read (alone_lack job) a b good x
+    where
+      read : (h : ℕ) → CarriesLack c seats 64
+          (OnceHereStops (ComesIn Ran Tells c h) (ComeLacks Ran Tells c h) (ReadLacks Ran Tells h))
+          (CallStops (StillRead h) (StillReadLacks h) NeverDeclined (StillBring h) (StillBringLacks h))
+      read h a b good x = in_job 64 a b _ _ (omega arith) (once_here_stops itself (IsGood c seats)
+          (Arrives c seats) (good_along c seats) 57 1 64 (ComesIn Ran Tells c h) (StillComes h) (ComeLacks Ran Tells c h)
+          (ReadLacks Ran Tells h) (StillComeLacks h) (StillReadLacks h) (omega arith) (come_part h)
+          (come_stops itself (IsGood c seats) (Arrives c seats) (good_along c seats) (desk_parts Ran Tells c) still_parts
+          parts (desk_lacks Ran Tells c) still_lacks lacks h) (read_lack c seats h) a b good x)
+          (read_stops_where h a b)
 
 -- ---- the whole world
 abbrev pub with_job : WorldState → Words → FarState → WorldState
@@ -206,7 +191,7 @@ turn_works w job q y new sound ok (was_worn end reply state ran) =
     }
 turn_works w job q y new sound ok (was_done few does) =
     let b : Holding Words = record { desk = y; far = new } in
-    let z = works_part w.desk.settings w.seats job (once_counted (held w) job) b q sound.config ok
+    let z = works_part w.desk.settings w.seats sound.config job (once_counted (held w) job) b q ok
     (counted_good w job sound) does in
     record { sound = arrived_sound w job b _ sound few z; step = done few z.is refl }
 
@@ -220,7 +205,7 @@ pub turn_stops : (w : WorldState) (job : Job) (y : Words) (new : FarState) → I
     → IsStopped w job y new
 turn_stops w job y new sound stopped =
     let b : Holding Words = record { desk = y; far = new } in
-    let z = stops_part w.desk.settings w.seats job (once_counted (held w) job) b sound.config
+    let z = stops_part w.desk.settings w.seats sound.config job (once_counted (held w) job) b
     (counted_good w job sound) stopped.stops in
     record {
       sound = arrived_sound w job b _ sound stopped.few z;

@@ -7,6 +7,7 @@ pub mod Parts
 pub mod Declining
 pub mod OnceHere
 pub mod FarJobs
+pub mod JobParts
 pub mod Turned
 pub mod Admitting
 pub mod TurnLeaves

@@ -3,7 +3,7 @@ use Rattle.std.specs.Prelude.{◌≡◌, ℕ, ◌^◌, ◌<◌, List, [], ◌∷
 use Rattle.cb_ptr.specs.declared.word.State.TheVariants as state
 use Rattle.cb_ptr.specs.Word.{state_of, len_of}
 use Rattle.cb_types.specs.declared.job.Job.{Job}
-use Rattle.cb_types.specs.declared.job.Job.TheVariants.{Make, Read, Write, Free, Swap, Filter, Evict, Begin, Ship, Commit, Abort, Crash}
+use Rattle.cb_types.specs.declared.job.Job.TheVariants.{Free, Filter, Evict, Begin, Ship, Commit, Abort, Crash}
 use Rattle.cb_types.specs.declared.reply.Reply.{Reply}
 use Rattle.cb_types.specs.declared.reply.Reply.TheVariants as answer
 use Rattle.cb_world.specs.Seats.{SeatState, Holds}
@@ -38,7 +38,8 @@ use Rattle.cb_core.specs.Claiming.{ClaimStep, StoreStep, SettleStep}
 use Rattle.cb_core.specs.Declining.{write_refusal}
 use Rattle.cb_core.specs.FarJobs.{FarLacks, FarStep}
 use Rattle.cb_core.specs.Holding.{GiveStep, NoOtherHolds, TakeStep}
-use Rattle.cb_core.specs.Parts.{Holding, WithRoom, WhereItIs, NeverDeclined, BringsIn, RoomStops, CallStops, NeverLacks}
+use Rattle.cb_core.specs.JobParts.{JobParts, PartLacks, DoesBy, StopsBy}
+use Rattle.cb_core.specs.Parts.{Holding, WithRoom, WhereItIs, NeverDeclined, RoomStops, CallStops}
 use Rattle.cb_core.specs.Pinning.{PinStep, UnpinStep}
 use Rattle.cb_core.specs.Turned.{IsGiven, counted}
 
@@ -111,26 +112,35 @@ abbrev pub StillFar : (FarState → FarState → Reply → Type 0) → Holding W
     → Type 0
 StillFar step a r b = (b.desk ≡ a.desk) × step a.far b.far r × HoldOn a b
 
--- a job once the turn is counted, part by part
-abbrev pub StillWorks : Job → Holding Words → Reply → Holding Words → Type 0
-StillWorks (Make bytes) a r b =
-    WithRoom a.desk.settings.frames (StillMake bytes) StillRoom a r b
-StillWorks (Read handle) a r b =
-    WhereItIs (StillRead handle.n) NeverDeclined (StillBring handle.n) a r b
-StillWorks (Write handle at bytes) a r b = WhereItIs (StillWrite handle.n at bytes)
-    (StillDecline handle.n at (length bytes)) (StillBring handle.n) a r b
-StillWorks (Free handle) a r b = StillFree handle.n a r b
-StillWorks (Swap handle) a r b = BringsIn (StillFind handle.n) (StillBring handle.n) a r b
-StillWorks (Filter handle) a r b = StillFilter handle.n a r b
-StillWorks Evict a r b = StillEvict a r b
-StillWorks Begin a r b = StillBegin a r b
-StillWorks Ship a r b = StillShip a r b
-StillWorks Commit a r b = StillCommit a r b
-StillWorks Abort a r b = StillAbort a r b
+-- a job that is one call
+abbrev pub StillAlone : Job → Holding Words → Reply → Holding Words → Type 0
+StillAlone (Free handle) a r b = StillFree handle.n a r b
+StillAlone (Filter handle) a r b = StillFilter handle.n a r b
+StillAlone Evict a r b = StillEvict a r b
+StillAlone Begin a r b = StillBegin a r b
+StillAlone Ship a r b = StillShip a r b
+StillAlone Commit a r b = StillCommit a r b
+StillAlone Abort a r b = StillAbort a r b
 -- a crash alone may lose what an object holds
-StillWorks (Crash node) a r b = (b.desk ≡ a.desk) × FarStep (Crash node) a.far b.far r
+StillAlone (Crash node) a r b = (b.desk ≡ a.desk) × FarStep (Crash node) a.far b.far r
 -- every other job works at the far state alone
-StillWorks job a r b = StillFar (FarStep job) a r b
+StillAlone job a r b = StillFar (FarStep job) a r b
+
+abbrev pub still_parts : JobParts Words
+still_parts = record {
+  frames = λ a. a.desk.settings.frames;
+  makes = λ bytes. StillMake bytes;
+  writes = λ h at bytes. StillWrite h at bytes;
+  finds = λ h. StillFind h;
+  declines = λ h at count. StillDecline h at count;
+  swaps = λ h. StillSwap h;
+  wins = StillRoom;
+  alone = λ job. StillAlone job;
+}
+
+-- a job once the turn is counted
+abbrev pub StillWorks : Job → Holding Words → Reply → Holding Words → Type 0
+StillWorks = DoesBy still_parts (λ h. WhereItIs (StillRead h) NeverDeclined (StillBring h))
 
 -- A job once the turn is counted: it leads from the words x and a far state to the words y and
 -- another.
@@ -206,24 +216,29 @@ StillFilterLacks h a b =
 abbrev pub StillFarLacks : (FarState → FarState → Type 0) → Holding Words → Holding Words → Type 0
 StillFarLacks lacks a b = (b.desk ≡ a.desk) × lacks a.far b.far
 
--- where a job that found no memory stopped; a free, a commit and an abort take no memory
+-- a job that is one call; a free, a commit and an abort take no memory
+abbrev pub StillLacksAlone : Job → Holding Words → Holding Words → Type 0
+StillLacksAlone (Filter handle) a b = StillFilterLacks handle.n a b
+StillLacksAlone Evict a b = StillEvictLacks a b
+StillLacksAlone Begin a b = StillEvictLacks a b
+StillLacksAlone Ship a b = StillShipLacks a b
+StillLacksAlone (Free handle) a b = ⊥
+StillLacksAlone Commit a b = ⊥
+StillLacksAlone Abort a b = ⊥
+StillLacksAlone job a b = StillFarLacks (FarLacks job) a b
+
+abbrev pub still_lacks : PartLacks Words
+still_lacks = record {
+  makes = λ bytes. StillMakeLacks bytes;
+  swaps = λ h. StillSwapLacks h;
+  evicts = StillEvictLacks;
+  alone = λ job. StillLacksAlone job;
+}
+
+-- where a job that found no memory stopped
 abbrev pub StillStops : Job → Holding Words → Holding Words → Type 0
-StillStops (Make bytes) a b =
-    RoomStops (StillMake bytes) (StillMakeLacks bytes) StillRoom StillEvictLacks a b
-StillStops (Read handle) a b = CallStops (StillRead handle.n) (StillReadLacks handle.n) NeverDeclined
-    (StillBring handle.n) (StillBringLacks handle.n) a b
-StillStops (Write handle at bytes) a b = CallStops (StillWrite handle.n at bytes) NeverLacks
-    (StillDecline handle.n at (length bytes)) (StillBring handle.n) (StillBringLacks handle.n) a b
-StillStops (Swap handle) a b =
-    (m : Holding Words) × StillFind handle.n a answer.NotHere m × StillBringLacks handle.n m b
-StillStops (Filter handle) a b = StillFilterLacks handle.n a b
-StillStops Evict a b = StillEvictLacks a b
-StillStops Begin a b = StillEvictLacks a b
-StillStops Ship a b = StillShipLacks a b
-StillStops (Free handle) a b = ⊥
-StillStops Commit a b = ⊥
-StillStops Abort a b = ⊥
-StillStops job a b = StillFarLacks (FarLacks job) a b
+StillStops = StopsBy still_parts still_lacks
+    (λ h. CallStops (StillRead h) (StillReadLacks h) NeverDeclined (StillBring h) (StillBringLacks h))
 
 -- a claim that found no memory changed nothing; every other step has its reply
 abbrev pub AtomicStops : Atomic → WorldState → WorldState → Type 0

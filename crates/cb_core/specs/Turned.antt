@@ -4,7 +4,7 @@ use Rattle.cb_ptr.specs.Word.{len_of}
 use Rattle.cb_set.specs.SetState.{SetState}
 use Rattle.cb_types.specs.declared.config.Config.{Config}
 use Rattle.cb_types.specs.declared.job.Job.{Job}
-use Rattle.cb_types.specs.declared.job.Job.TheVariants.{Make, Read, Write, Free, Swap, Filter, Evict, Begin, Ship, Commit, Abort}
+use Rattle.cb_types.specs.declared.job.Job.TheVariants.{Free, Filter, Evict, Begin, Ship, Commit, Abort}
 use Rattle.cb_types.specs.declared.reply.Reply.{Reply}
 use Rattle.cb_types.specs.declared.reply.Reply.TheVariants as answer
 use Rattle.cb_types.specs.Jobs.{job_index}
@@ -43,8 +43,9 @@ use Rattle.cb_swapin.specs.SwapEffect.{SwapEffect}
 use Rattle.cb_swapin.specs.SwapRule.{SwapRule}
 use Rattle.cb_core.specs.Declining.{write_refusal}
 use Rattle.cb_core.specs.FarJobs.{FarLacks, FarStep}
+use Rattle.cb_core.specs.JobParts.{JobParts, PartLacks, DoesBy, StopsBy}
 use Rattle.cb_core.specs.OnceHere.{OnceHere, OnceHereStops}
-use Rattle.cb_core.specs.Parts.{Holding, WithRoom, WhereItIs, BringsIn, RoomStops, CallStops, NeverLacks}
+use Rattle.cb_core.specs.Parts.{Holding, WithRoom, BringsIn, RoomStops}
 
 -- the far state with one turn more of the job's kind
 abbrev pub counted : FarState → Job → FarState
@@ -157,27 +158,39 @@ abbrev pub ComesIn : {D : Type 0} → (D → List Event → D → Type 0) → (D
     → Holding D → Reply → Holding D → Type 0
 ComesIn run shows c h = BringsIn (Finds run shows h) (Brings run shows c h)
 
--- What a job does once the turn is counted, part by part. An object that is to be read is first
--- brought in; `reads` says how it is read then.
+-- a job that is one call; every job that has no row works at the far state alone
+abbrev pub DoesAlone : {D : Type 0} → (D → List Event → D → Type 0) → (D → Shown → Type 0) → Config
+    → Job → Holding D → Reply → Holding D → Type 0
+DoesAlone run shows c (Free handle) a r b = Frees run shows handle.n a r b
+DoesAlone run shows c (Filter handle) a r b = Filters run shows c handle.n a r b
+DoesAlone run shows c Evict a r b = Evicts run shows c a r b
+DoesAlone run shows c Begin a r b = Begins run shows c a r b
+DoesAlone run shows c Ship a r b = Ships run shows a r b
+DoesAlone run shows c Commit a r b = Commits run shows a r b
+DoesAlone run shows c Abort a r b = Aborts run shows a r b
+DoesAlone run shows c job a r b = AtFar run (FarStep job) a r b
+
+-- the parts of the jobs at a desk
+abbrev pub desk_parts : {D : Type 0} → (D → List Event → D → Type 0) → (D → Shown → Type 0) → Config
+    → JobParts D
+desk_parts run shows c = record {
+  frames = λ a. c.frames;
+  makes = λ bytes. Makes run shows c bytes;
+  writes = λ h at bytes. Writes run shows h at bytes;
+  finds = λ h. Finds run shows h;
+  declines = λ h at count. Declines run shows h at count;
+  swaps = λ h. Swaps run shows h;
+  wins = WinsRoom run shows c;
+  alone = λ job. DoesAlone run shows c job;
+}
+
+-- What a job does once the turn is counted. An object that is to be read is first brought in; `reads`
+-- says how it is read then.
 abbrev pub Does : {D : Type 0} → (D → List Event → D → Type 0) → (D → Shown → Type 0)
     → (ℕ → Holding D → Reply → Holding D → Type 0) → Config → Job
     → Holding D → Reply → Holding D → Type 0
-Does run shows reads c (Make bytes) a r b =
-    WithRoom c.frames (Makes run shows c bytes) (WinsRoom run shows c) a r b
-Does run shows reads c (Read handle) a r b =
-    OnceHere (ComesIn run shows c handle.n) (reads handle.n) a r b
-Does run shows reads c (Write handle at bytes) a r b = WhereItIs (Writes run shows handle.n at bytes)
-    (Declines run shows handle.n at (length bytes)) (Brings run shows c handle.n) a r b
-Does run shows reads c (Free handle) a r b = Frees run shows handle.n a r b
-Does run shows reads c (Swap handle) a r b = ComesIn run shows c handle.n a r b
-Does run shows reads c (Filter handle) a r b = Filters run shows c handle.n a r b
-Does run shows reads c Evict a r b = Evicts run shows c a r b
-Does run shows reads c Begin a r b = Begins run shows c a r b
-Does run shows reads c Ship a r b = Ships run shows a r b
-Does run shows reads c Commit a r b = Commits run shows a r b
-Does run shows reads c Abort a r b = Aborts run shows a r b
--- every other job works at the far state alone
-Does run shows reads c job a r b = AtFar run (FarStep job) a r b
+Does run shows reads c =
+    DoesBy (desk_parts run shows c) (λ h. OnceHere (ComesIn run shows c h) (reads h))
 
 -- the holding, where one turn more of the job's kind is counted
 abbrev pub once_counted : {D : Type 0} → Holding D → Job → Holding D
@@ -252,27 +265,33 @@ abbrev pub ComeLacks : {D : Type 0} → (D → List Event → D → Type 0) → 
 ComeLacks {D = D} run shows c h a b =
     (m : Holding D) × Finds run shows h a answer.NotHere m × BringLacks run shows c h m b
 
--- Where a job that found no memory stopped. A free, a commit and an abort take no memory. `lacks`
--- says what a read that lacks it leaves.
+-- a job that is one call; a free, a commit and an abort take no memory
+abbrev pub LacksAlone : {D : Type 0} → (D → List Event → D → Type 0) → (D → Shown → Type 0) → Job
+    → Holding D → Holding D → Type 0
+LacksAlone run shows (Filter handle) a b = FilterLacks run shows handle.n a b
+LacksAlone run shows Evict a b = EvictLacks run shows a b
+LacksAlone run shows Begin a b = EvictLacks run shows a b
+LacksAlone run shows Ship a b = ShipLacks run shows a b
+LacksAlone run shows (Free handle) a b = ⊥
+LacksAlone run shows Commit a b = ⊥
+LacksAlone run shows Abort a b = ⊥
+LacksAlone run shows job a b = AtFarLacks run (FarLacks job) a b
+
+-- what the parts leave that find no memory
+abbrev pub desk_lacks : {D : Type 0} → (D → List Event → D → Type 0) → (D → Shown → Type 0) → Config
+    → PartLacks D
+desk_lacks run shows c = record {
+  makes = λ bytes. MakeLacks run c bytes;
+  swaps = λ h. SwapLacks run h;
+  evicts = EvictLacks run shows;
+  alone = λ job. LacksAlone run shows job;
+}
+
+-- Where a job that found no memory stopped. `lacks` says what a read that lacks it leaves.
 abbrev pub Stops : {D : Type 0} → (D → List Event → D → Type 0) → (D → Shown → Type 0)
     → (ℕ → Holding D → Holding D → Type 0) → Config → Job → Holding D → Holding D → Type 0
-Stops run shows lacks c (Make bytes) a b = RoomStops (Makes run shows c bytes) (MakeLacks run c bytes)
-    (WinsRoom run shows c) (EvictLacks run shows) a b
-Stops run shows lacks c (Read handle) a b = OnceHereStops (ComesIn run shows c handle.n)
-    (ComeLacks run shows c handle.n) (lacks handle.n) a b
-Stops run shows lacks c (Write handle at bytes) a b =
-    CallStops (Writes run shows handle.n at bytes) NeverLacks
-    (Declines run shows handle.n at (length bytes)) (Brings run shows c handle.n)
-    (BringLacks run shows c handle.n) a b
-Stops run shows lacks c (Swap handle) a b = ComeLacks run shows c handle.n a b
-Stops run shows lacks c (Filter handle) a b = FilterLacks run shows handle.n a b
-Stops run shows lacks c Evict a b = EvictLacks run shows a b
-Stops run shows lacks c Begin a b = EvictLacks run shows a b
-Stops run shows lacks c Ship a b = ShipLacks run shows a b
-Stops run shows lacks c (Free handle) a b = ⊥
-Stops run shows lacks c Commit a b = ⊥
-Stops run shows lacks c Abort a b = ⊥
-Stops run shows lacks c job a b = AtFarLacks run (FarLacks job) a b
+Stops run shows lacks c = StopsBy (desk_parts run shows c) (desk_lacks run shows c)
+    (λ h. OnceHereStops (ComesIn run shows c h) (ComeLacks run shows c h) (lacks h))
 
 -- a turn that found no memory is counted
 pub record Stopped {D : Type 0} (run : D → List Event → D → Type 0) (shows : D → Shown → Type 0)
