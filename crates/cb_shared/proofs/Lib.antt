@@ -35,5 +35,6 @@ pub mod Filled
 pub mod Closes
 pub mod WorkedClosing
 pub mod WorkedTurns
+pub mod WorkedUnder
 pub mod WorkedReads
 pub mod WorkedCalls

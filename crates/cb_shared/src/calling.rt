@@ -10,7 +10,7 @@ ghost use Rattle.cb_shared.specs.Calls.{AtNone, AtThis, IsAnswerTo, IsCalled, Is
 ghost use Rattle.cb_record.specs.Parts.{Part, Grows};
 ghost use Rattle.cb_shared.specs.Passes.{IsPassOf};
 ghost use Rattle.cb_shared.specs.Reading.{ReadFinds, looked};
-ghost use Rattle.cb_shared.specs.Turning.{KnowsOf};
+ghost use Rattle.cb_shared.specs.Turning.{KnowsOf, answer_of};
 ghost use Rattle.cb_ptr.specs.declared.word.State.TheVariants as state;
 ghost use Rattle.cb_ptr.specs.Word.{state_of};
 
@@ -137,18 +137,6 @@ impl Shared {
             pass.new.seat.me.0) }
     {
         self.turn_until(rt, alloc, pass, &Job::Free { handle: h })
-    }
-
-    /// Whether a turn with this reply was refused for want of loose spans alone and is made again,
-    /// as the calls above do: with so many frames more spans may come loose. Takes no memory and
-    /// waits for nobody.
-    pub fn is_to_try_again(&self, reply: &Reply) -> bool
-        ensures { result ≡ is_to_try_again self.now.config (Some reply.now) }
-    {
-        match reply {
-            Reply::NoRoom { loose, .. } => comes_loose(&self.config, *loose),
-            _ => false,
-        }
     }
 
     /// Turns of a job until one answers the call.
@@ -329,6 +317,17 @@ fn is_lack(config: &Config, reply: &Reply) -> bool
     match reply {
         Reply::Unavailable { .. } | Reply::Worn => true,
         Reply::NoRoom { loose, .. } => !comes_loose(config, *loose),
+        _ => false,
+    }
+}
+
+/// Whether a turn with this reply is made again: it was refused for want of loose spans alone, and
+/// more may come loose.
+pub(crate) fn is_to_try_again(config: &Config, reply: &Result<Reply, NoMemory>) -> bool
+    ensures { result ≡ is_to_try_again config.now (answer_of reply.now) }
+{
+    match reply {
+        Ok(Reply::NoRoom { loose, .. }) => comes_loose(config, *loose),
         _ => false,
     }
 }
