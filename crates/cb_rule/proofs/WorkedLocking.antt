@@ -66,6 +66,10 @@ stood n few = let e = stood_empty 3 pair_of (lit≤ tt) accepted in
 not_configured : Stood record pair_of { frames = 2 } seen (far 1) → ⊥
 not_configured s = let e : 1 ≡ 2 = s.configured.frames in omega (arith, e)
 
+-- another first version is known than the far state has
+not_known : Stood pair_of record seen { first = 4 } (far 1) → ⊥
+not_known s = let e : 4 ≡ 3 = s.sound.here.known.first in omega (arith, e)
+
 not_counted : Stood pair_of seen record (far 1) {
   counts = record { turns = 1; by_job = replicate 19 0; sets = 0; keys = 0 };
 } → ⊥
@@ -198,6 +202,13 @@ forgets_the_count l = let e = (at_home 1 0 (seat one_turn) refl l).0 in omega (a
 
 not_doubled : Lock (table 1 (home 1) (seat one_turn)) → ⊥
 not_doubled l = let e = (at_home 1 1 (seat one_turn) refl l).0 in omega (arith, e)
+
+-- what is known is not sound for the far state at home
+knows_no_memory : Locked quiet pair_of (table 2 (home 1) (seat one_turn)) record seen { memory = [] }
+    → ⊥
+knows_no_memory l = let s = (l.free refl).stood in let n = s.configured.frames in
+    let e : 0 ≡ 512 * length (l.chain l.count).spans = s.sound.here.placed.memory in
+    omega (arith, e, n)
 
 -- the slot is empty, or has no far state
 out_of_its_slot : Lock (table 2 none (seat one_turn)) → ⊥

@@ -1,15 +1,17 @@
 -- Worked examples of the steps on the far lock and of the one history of turns: what meets each
 -- definition, and what breaks one part alone.
-use Rattle.std.proofs.Common.{◌≡◌, ℕ, zero, suc, ◌+◌, ◌^◌, ◌<◌, false, List, [], ◌∷◌, length, Some, None, sym, refl, ap, inl, inr, ⊎_elim, lit<, lit≤, arith, true≢false}
+use Rattle.std.proofs.Common.{◌≡◌, ℕ, zero, suc, ◌+◌, ◌^◌, ◌<◌, ◌≤◌, false, List, [], ◌∷◌, length, Some, None, sym, refl, ap, inl, inr, ⊎_elim, lit<, lit≤, arith, true≢false}
 use mathlib.Core.Option.{none}
 use Rattle.atomic_table.specs.Table.{Step, step}
 use Rattle.cb_types.specs.declared.job.Job.TheVariants.{Evict}
+use Rattle.cb_world.specs.declared.entry.Entry.{Entry}
 use Rattle.cb_world.specs.declared.event.Event.TheVariants.{Looked}
 use Rattle.cb_world.specs.declared.object.Object.TheVariants as is
 use Rattle.cb_world.specs.declared.shown.Shown.{Shown}
 use Rattle.cb_world.specs.Empty.{empty_far}
 use Rattle.cb_world.specs.FarState.{FarState}
 use Rattle.cb_world.specs.Shown.{never}
+use Rattle.cb_world.specs.Written.{entry}
 use Rattle.cb_rule.specs.declared.turn.Turn.{Turn}
 use Rattle.cb_rule.specs.declared.view.Seen.{Seen}
 use Rattle.cb_rule.specs.declared.view.View.{View}
@@ -113,6 +115,24 @@ without_its_entry : HasGiven Evict None (far 2) [] (1 ∷ []) (at_work, in_hand 
     (record (seat (turn (far 1) (far 2) ∷ one_turn)) { own = 1 ∷ [] }, []) → ⊥
 without_its_entry g = let e : 0 ≡ 1 = ap (λ (m : Sat). length m.0.written) g.given in
     omega (arith, e)
+
+-- an entry of an object that is out of range, written or found freed
+abbrev stray : Entry
+stray = entry 2 3 8 [] (7 ∷ [])
+
+wrote_out_of_range : HasGiven Evict None (far 2) [] (1 ∷ [])
+    (record at_work { fresh = stray ∷ [] }, in_hand (far 2))
+    (record (seat (turn (far 1) (far 2) ∷ one_turn)) { written = stray ∷ []; own = 1 ∷ [] }, [])
+    → ⊥
+wrote_out_of_range g = let l : 2 < 2 = g.written.0 in omega (arith, l)
+
+found_out_of_range : HasGiven Evict None (far 2) (freed_seen 2 5 ∷ []) (1 ∷ [])
+    (at_work, in_hand (far 2)) (record (seat (turn (far 1) (far 2) ∷ one_turn)) {
+      written = made ∷ [];
+      seen = freed_seen 2 5 ∷ [];
+      own = 1 ∷ [];
+    }, []) → ⊥
+found_out_of_range g = let l : 2 < 2 = g.seen.0 in omega (arith, l)
 
 -- ---- what a give needs
 abbrev May : FarState → List ℕ → View → Type 0
@@ -305,3 +325,11 @@ forgets_the_count s = let f = s.free refl in
 held_as_if_free : TurnsStand quiet 3 pair_of (table 4 none (took_lock seen (far 2) 0
     (seat two_turns))) → ⊥
 held_as_if_free s = let e : 4 ≡ 1 = s.held refl in omega (arith, e)
+
+-- two seats hold the lock
+two_hold : TurnsStand quiet 3 pair_of record {
+  words = 1 ∷ [];
+  homes = none ∷ [];
+  views = holder.0 ∷ holder.0 ∷ [];
+} → ⊥
+two_hold s = let l : 2 ≤ 1 = s.one in omega (arith, l)

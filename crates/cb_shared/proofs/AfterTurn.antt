@@ -25,7 +25,7 @@ use Rattle.cb_rule.specs.Steps.{Knows, act, acted}
 use Rattle.cb_shared.specs.declared.setup.Setup.{Setup}
 use Rattle.cb_record.specs.Parts.{Part, grown, nothing_more}
 use Rattle.cb_shared.specs.Passes.{IsAtRest}
-use Rattle.cb_shared.specs.Places.{Holds, IsOf, Place}
+use Rattle.cb_shared.specs.Places.{HoldsLock, IsOf, Place}
 use Rattle.cb_shared.specs.SeatLaws.{Runs, acted_known, sized_after}
 use Rattle.cb_shared.specs.Turning.{Did, DidAs, KnowsIt, KnowsOf, answer_of, made_by, object_of, turn_part, with_own}
 use Rattle.cb_shared.specs.UnderLock.{GivesFar, IsBeginning, IsEnding, IsQuiet, TakesFar, TurnWith, TurnedBy, WorkBy}
@@ -91,7 +91,7 @@ begins_taken c far p q rest t =
     }
 
 pub holds_begun : (z : TableId) (k : Setup) (c : Config) (far : FarState) (p : Place) → IsOf z k c p
-    → IsBeginning c far p.me.0 → Holds z k c p
+    → IsBeginning c far p.me.0 → HoldsLock z k c p
 holds_begun z k c far p of b = record { of = of; holds = b.holds; sized = b.sized }
 
 module _ (c : Config) (far : FarState) (p q : Place) (t : TakesFar c far p q) where

@@ -35,6 +35,7 @@ pub mod Filled
 pub mod Closes
 pub mod WorkedClosing
 pub mod WorkedTurns
+pub mod WorkedUnder
 pub mod WorkedReads
 pub mod WorkedCalls
 pub mod Laws

@@ -6,6 +6,7 @@ use Rattle.cb_types.specs.declared.config.Config.{Config}
 use Rattle.cb_ptr.specs.declared.word.State.TheVariants as state
 use Rattle.cb_ptr.specs.Word.{state_of}
 use Rattle.cb_world.specs.declared.entry.Entry.{Entry}
+use Rattle.cb_rule.specs.declared.turn.Turn.{Turn}
 use Rattle.cb_rule.specs.declared.view.Seen.{Seen}
 use Rattle.cb_rule.specs.declared.view.View.{View}
 use Rattle.cb_rule.specs.Lists.{Each}
@@ -16,10 +17,12 @@ use Rattle.cb_record.specs.Parts.{Part, grown}
 use Rattle.cb_shared.specs.Passes.{IsAtRest}
 use Rattle.cb_shared.specs.Places.{Moves, Place}
 use Rattle.cb_shared.specs.Reading.{ReadFinds, ReadMoves, looked}
+use Rattle.cb_shared.specs.Trying.{newest_tries, tries_of}
 
--- the part wrote nothing, and read entries of objects that there are
+-- the part wrote nothing, has no turns, and read entries of objects that there are
 pub record IsReading (c : Config) (d : Part) : Type 0 where
   pub wrote : d.written ≡ []
+  pub turns : d.turns ≡ []
   pub seen : Each (λ (s : Seen). s.handle < c.handles) d.seen
 
 reading_as : (c : Config) (d e : Part) → d ≡ e → IsReading c e → IsReading c d
@@ -28,13 +31,13 @@ reading_as c d e is x = subst (IsReading c) (sym is) x
 finds_reading : (c : Config) (h : ℕ) (a : ReadAnswer) (v : View) (d : Part) → h < c.handles
     → ReadFinds h a v d → IsReading c d
 finds_reading c h (Bytes version bytes) v d l x =
-    reading_as c d _ x.part (record { wrote = refl; seen = (l, tt) })
-finds_reading c h Freed v d l x = reading_as c d _ x.4 (record { wrote = refl; seen = (l, tt) })
-finds_reading c h NotHere v d l x = reading_as c d _ x.2 (record { wrote = refl; seen = tt })
-finds_reading c h Moving v d l x = reading_as c d _ x.2 (record { wrote = refl; seen = tt })
-finds_reading c h Crowded v d l x = reading_as c d _ x.2 (record { wrote = refl; seen = tt })
+    reading_as c d _ x.part (record { wrote = refl; turns = refl; seen = (l, tt) })
+finds_reading c h Freed v d l x = reading_as c d _ x.4 (record { wrote = refl; turns = refl; seen = (l, tt) })
+finds_reading c h NotHere v d l x = reading_as c d _ x.2 (record { wrote = refl; turns = refl; seen = tt })
+finds_reading c h Moving v d l x = reading_as c d _ x.2 (record { wrote = refl; turns = refl; seen = tt })
+finds_reading c h Crowded v d l x = reading_as c d _ x.2 (record { wrote = refl; turns = refl; seen = tt })
 finds_reading c h (Raced saw found) v d l x =
-    reading_as c d _ x.1 (record { wrote = refl; seen = tt })
+    reading_as c d _ x.1 (record { wrote = refl; turns = refl; seen = tt })
 
 -- what stands of the seat afterwards
 pub record IsKept (c : Config) (p q : Place) : Type 0 where
@@ -42,6 +45,7 @@ pub record IsKept (c : Config) (p q : Place) : Type 0 where
   pub share : q.me.0.share ≡ p.me.0.share
   pub carries : q.me.1 ≡ p.me.1
   pub pins : q.me.0.pins ≡ p.me.0.pins
+  pub tries : tries_of q.me.0 ≡ tries_of p.me.0
   pub rest : IsAtRest c q.me.0
 
 each_both : {A : Type 0} (P : A → Type 0) (xs ys : List A) → Each P xs → Each P ys
@@ -56,6 +60,8 @@ kept_part c p q d rest m x = record {
   share = ap (λ (s : Sat). s.0.share) m.2;
   carries = ap (λ (s : Sat). s.1) m.2;
   pins = ap (λ (s : Sat). s.0.pins) m.2;
+  tries = ap (λ (s : Sat). tries_of s.0) m.2
+      ∙ ap (λ (l : List Turn). newest_tries p.me.0.config (l ++ p.me.0.turns)) x.turns;
   rest = subst (λ (s : Sat). IsAtRest c s.0) (sym m.2) record {
     config = rest.config;
     live = rest.live;
@@ -78,4 +84,4 @@ pub kept_read : (c : Config) (h : ℕ) (p q : Place) (r : Result ReadAnswer NoMe
 kept_read c h p q (Ok a) rest l ok err =
     kept_part c p q ok.0 rest ok.1 (finds_reading c h a p.me.0 ok.0 l ok.2)
 kept_read c h p q (Err e) rest l ok err =
-    kept_part c p q (looked h err.0) rest err.2 (record { wrote = refl; seen = tt })
+    kept_part c p q (looked h err.0) rest err.2 (record { wrote = refl; turns = refl; seen = tt })

@@ -37,7 +37,7 @@ use Rattle.cb_record.specs.Parts.{Part, grown, nothing_more}
 use Rattle.cb_shared.specs.Places.{Place}
 use Rattle.cb_shared.specs.SeatLaws.{Runs, acted_known}
 use Rattle.cb_shared.specs.Turning.{DidAs, IsReadReply, JobReads, Slate, TellsNoPin, Tries, answer_of, slate_run, slate_shows}
-use Rattle.cb_shared.specs.UnderLock.{BringAt, Brought, CameThere, HasSame, IsNoRead, TriesOn, TurnAt, WorkBy}
+use Rattle.cb_shared.specs.UnderLock.{BringAt, Brought, CameThere, HasSame, IsNoRead, TriesOn, TurnAtSeat, WorkBy}
 use Rattle.cb_shared.proofs.AfterTurn.{acted_is, after_runs}
 use Rattle.cb_shared.proofs.ReadParts.{grown_nothing}
 
@@ -286,7 +286,7 @@ few_come p m es runs few = subst (λ (v : View). length v.pins ≤ 16)
 
 -- ---- any other job
 pub work_done : (c : Config) (job : Job) (r : Result Reply NoMemory) (took gave : FarState)
-    (p q : Place) → IsNoRead job → TurnAt c job r took gave p q → WorkBy c job r took gave p q
+    (p q : Place) → IsNoRead job → TurnAtSeat c job r took gave p q → WorkBy c job r took gave p q
 work_done c job r took gave p q other t =
     let came : q.me.0 ≡ acted t.events p.me.0 = ap (λ (s : Sat). s.0) t.runs.0.2 in record {
       events = t.events;

@@ -26,7 +26,7 @@ use Rattle.cb_rule.specs.Slot.{Sat}
 use Rattle.cb_rule.specs.Steps.{act, acted}
 use Rattle.cb_rule.proofs.Laws.{entries_acted, hit, known_entries, times-append}
 use Rattle.cb_shared.specs.declared.setup.Setup.{Setup}
-use Rattle.cb_shared.specs.Places.{Acts, Holds, Moves, Place}
+use Rattle.cb_shared.specs.Places.{Acts, HoldsLock, Moves, Place}
 use Rattle.cb_shared.specs.Rights.{rights, unmade, writes_of}
 use Rattle.cb_shared.specs.Turning.{KnowsOf}
 
@@ -212,7 +212,7 @@ pub holds_of : (z : TableId) (k : Setup) (c : Config) (p : Place) → p.table_id
     → z.words ≡ 1 + c.handles + c.handles + 512 * c.frames → k.config ≡ c → p.me.0.config ≡ c
     → 1 ≤ p.me.0.share → p.me.0.holds ≡ true → length p.me.0.known.objects ≡ c.handles
     → length p.me.0.known.hots ≡ c.handles → length p.me.0.known.versions ≡ c.handles
-    → length p.me.0.known.memory ≡ 512 * c.frames → Holds z k c p
+    → length p.me.0.known.memory ≡ 512 * c.frames → HoldsLock z k c p
 holds_of z k c p table words key config live holds objects hots versions memory = record {
   of = record { table = table; words = words; key = key; config = config; live = live };
   holds = holds;

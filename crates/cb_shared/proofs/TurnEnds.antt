@@ -17,6 +17,7 @@ use Rattle.cb_shared.specs.Handles.{handles_of}
 use Rattle.cb_record.specs.Parts.{Part, grown, nothing_more}
 use Rattle.cb_shared.specs.Passes.{IsAtRest}
 use Rattle.cb_shared.specs.Places.{Place}
+use Rattle.cb_shared.specs.Trying.{is_to_try_again, tries_of}
 use Rattle.cb_shared.specs.Turning.{KnowsIt, KnowsOf, TurnBy, answer_of, freed_of, made_by, object_of, turn_part, with_own}
 use Rattle.cb_shared.specs.UnderLock.{FreedMoves, IsBelow, IsQuiet, TurnedBy}
 use Rattle.cb_shared.proofs.Resting.{known_below}
@@ -112,6 +113,10 @@ module _ (c : Config) (job : Job) (r : Result Reply NoMemory) (p m q : Place)
 
   pub pins_turned : q.me.0.pins ≡ v.pins
   pins_turned = ap (λ (x : View). x.pins) left
+
+  pub tries_turned : tries_of q.me.0 ≡ Some (is_to_try_again c (answer_of r))
+  tries_turned = ap tries_of left
+      ∙ (λ i. Some (is_to_try_again (rest.config i) (t.reply_is i)))
 
   pub turn_by : TurnBy c job r v q.me.0
   turn_by = (

@@ -23,7 +23,7 @@ use Rattle.cb_rule.specs.Steps.{acted}
 use Rattle.cb_shared.specs.Places.{Place}
 use Rattle.cb_shared.specs.SeatLaws.{Runs, acted_fresh, acted_known}
 use Rattle.cb_shared.specs.Turning.{DidAs, PinLacks, ReadsByPin, Slate, answer_of, held_by, slate_run, slate_shows}
-use Rattle.cb_shared.specs.UnderLock.{BringAt, Brought, IsNoRead, TurnAt}
+use Rattle.cb_shared.specs.UnderLock.{BringAt, Brought, IsNoRead, TurnAtSeat}
 use Rattle.cb_shared.proofs.AfterTurn.{acted_is}
 use Rattle.cb_shared.proofs.Mapped.{brought_in, stopped, stopped_first, turned}
 
@@ -142,7 +142,7 @@ module _ {D : Type 0} (at : D → Place) (run : D → List Event → D → Type 
       → IfOk r (λ q. Turned run shows (Reads run shows) c job a q b)
       → OnErr r (Stopped run shows (ReadLacks run shows) c job a b)
       → TurnLeaves run shows c a b (OutcomeWrites job r)
-      → TurnAt c job r a.far b.far (at a.desk) (at b.desk)
+      → TurnAtSeat c job r a.far b.far (at a.desk) (at b.desk)
   turn_at job other r x y z = let l = left_at (OutcomeWrites job r) z in record {
     events = l.events;
     more = l.more;

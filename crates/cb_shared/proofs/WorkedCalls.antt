@@ -1,5 +1,5 @@
 -- Worked calls that try again: what meets each definition, and what breaks one of its parts alone.
-use Rattle.std.proofs.Common.{◌≡◌, ℕ, true, false, List, [], ◌∷◌, length, Option, None, Some, refl, sym, ap, ◌∙◌, subst, inl, inr, arith, lit≤}
+use Rattle.std.proofs.Common.{◌≡◌, ℕ, true, false, List, [], ◌∷◌, ◌++◌, length, None, Some, refl, sym, ap, ◌∙◌, subst, inl, inr, arith, lit≤}
 use Rattle.std.proofs.lemmas.Bool.{eqb-false, false≢true}
 use Rattle.cb_types.specs.declared.config.Config.{Config}
 use Rattle.cb_types.specs.declared.job.Job.TheVariants as jobs
@@ -7,14 +7,16 @@ use Rattle.cb_types.specs.declared.reply.Reply.TheVariants as answer
 use Rattle.cb_ptr.specs.Word.{state_of, state_number}
 use Rattle.cb_rule.specs.declared.turn.Turn.{Turn}
 use Rattle.cb_rule.specs.declared.view.Look.{Look}
+use Rattle.cb_rule.specs.declared.view.View.{View}
 use Rattle.cb_rule.specs.Lists.{Each}
 use Rattle.cb_rule.specs.Steps.{IsNewest, look_at}
 use Rattle.cb_shared.specs.declared.answers.WriteAnswer.TheVariants as place
-use Rattle.cb_shared.specs.Calls.{AtNone, AtThis, EndsAtLast, IsAnswer, IsAnswerTo, IsInVain, IsLack, IsWornOut, IsWrittenOnce, ReadEnds, SaysAs, Stops, WriteFinds, is_to_try_again, may_come_loose, newest_tries, the_handle, written_once}
+use Rattle.cb_shared.specs.Calls.{AsksFor, AtNone, AtThis, EndsAtLast, IsAnswer, IsAnswerTo, IsInVain, IsLack, IsWrittenOnce, ReadEnds, SaysAs, TurnGives, WriteAnswers, is_to_try_again, newest_tries, the_handle, written_once}
 use Rattle.cb_record.specs.Deeds.{Deed, deed, happened, happening}
 use Rattle.cb_record.specs.Parts.{Part, grown, nothing_more, sum}
-use Rattle.cb_shared.specs.Reading.{looked, looked_freed, looked_twice, read_once}
+use Rattle.cb_shared.specs.Reading.{looked, looked_freed}
 use Rattle.cb_shared.proofs.WorkedGround.{away, calm, made, moving, newest_made, not_second, part, pinned, two, version_in}
+use Rattle.cb_shared.proofs.WorkedTurns.{adds_worn, worn_part}
 use Rattle.cb_shared.proofs.WorkedWrites.{write_it}
 
 -- ---- what is tried again
@@ -155,3 +157,108 @@ reads_freed_at_last = record {
 answers_moving : EndsAtLast (AtThis 1) (jobs.Swap (the_handle 1)) (ReadEnds two 1 answer.Moving)
     part (looked 1 moving) → ⊥
 answers_moving x = x.ends_so.turned.0
+
+-- ---- a make that was refused for the count of turns
+abbrev make_one : Part
+make_one = sum nothing_more (worn_part (jobs.Make (10 ∷ [])))
+
+gives_worn : TurnGives two (jobs.Make (10 ∷ [])) answer.Worn part (grown make_one part)
+gives_worn = (
+  make_one,
+  record {
+    before = nothing_more;
+    last = worn_part (jobs.Make (10 ∷ []));
+    in_vain = record { looks = []; turns = []; at = tt; of = tt; part = refl };
+    ends_so = (inr tt, adds_worn (jobs.Make (10 ∷ [])) part refl refl);
+    part = refl;
+  },
+  refl,
+)
+
+-- without a turn
+abbrev some_turn : List Turn → ℕ
+some_turn [] = 0
+some_turn (t ∷ ts) = 1
+
+gives_no_turn : TurnGives two (jobs.Make (10 ∷ [])) answer.Worn part part → ⊥
+gives_no_turn (d, x, is) = eqb-false 0 1 refl (ap (λ (v : View). some_turn v.turns) is
+    ∙ ap (λ (e : Part). some_turn (e.turns ++ [])) (x.part ∙ ap (sum x.before) x.ends_so.1.part))
+
+gives_moving : TurnGives two (jobs.Make (10 ∷ [])) answer.Moving part part → ⊥
+gives_moving (d, x, is) = moving_is_no_answer x.ends_so.0
+
+-- ---- a turn that was asked for where a look found the object far
+abbrev swap_one : Part
+swap_one = sum (looked 1 away) (worn_part (jobs.Swap (the_handle 1)))
+
+asks_for : AsksFor two (jobs.Swap (the_handle 1)) answer.Worn 1 part swap_one
+asks_for = record {
+  word = away;
+  later = worn_part (jobs.Swap (the_handle 1));
+  away = refl;
+  turned = (tt, adds_worn (jobs.Swap (the_handle 1)) (grown (looked 1 away) part) refl refl);
+  part = refl;
+}
+
+-- the turn alone, without a look
+asks_blindly : AsksFor two (jobs.Swap (the_handle 1)) answer.Worn 1 part
+    (worn_part (jobs.Swap (the_handle 1))) → ⊥
+asks_blindly a = let t = a.turned.1 in eqb-false 0 1 refl
+    (ap (λ (d : Part). length d.looks) (a.part ∙ ap (sum (looked 1 a.word)) t.part)
+    ∙ (λ i. length ((t.finds i).looks ++ (t.reads i).looks ++ (look_at 1 a.word ∷ []))))
+
+-- the look found it being moved
+asks_of_moving : AsksFor two (jobs.Swap (the_handle 1)) answer.Worn 1 part
+    (sum (looked 1 moving) (worn_part (jobs.Swap (the_handle 1)))) → ⊥
+asks_of_moving a = let t = a.turned.1 in eqb-false 3 1 refl
+    (ap (λ (d : Part). state_number (state_of (word_of d.looks)))
+    (a.part ∙ ap (sum (looked 1 a.word)) t.part)
+    ∙ (λ i. state_number (state_of
+    (word_of ((t.finds i).looks ++ (t.reads i).looks ++ (look_at 1 a.word ∷ [])))))
+    ∙ ap state_number a.away)
+  where
+    word_of : List Look → ℕ
+    word_of [] = 0
+    word_of (l ∷ ls) = l.word
+
+-- ---- a write in place after one try in vain
+abbrev written_late : Part
+written_late = sum (looked 1 moving) (written_once 1 calm 4 (2826 ∷ []) (3082 ∷ []))
+
+writes_at_last : WriteAnswers two 1 1 (12 ∷ []) (answer.Version 4) part (grown written_late part)
+writes_at_last = (
+  written_late,
+  record {
+    before = looked 1 moving;
+    last = written_once 1 calm 4 (2826 ∷ []) (3082 ∷ []);
+    in_vain = record {
+      looks = look_at 1 moving ∷ [];
+      turns = [];
+      at = (refl, tt);
+      of = tt;
+      part = refl;
+    };
+    ends_so = inl (
+      place.Ok 4,
+      refl,
+      record {
+        word = calm;
+        old = 2826 ∷ [];
+        new = 3082 ∷ [];
+        last = 3;
+        room = (refl, lit≤ tt);
+        bare = refl;
+        newest = record {
+          written = newest_made.written;
+          seen = newest_made.seen;
+          lone = newest_made.lone;
+        };
+        next = refl;
+        write = write_it;
+        part = refl;
+      },
+    );
+    part = refl;
+  },
+  refl,
+)

@@ -1,6 +1,6 @@
 -- Worked examples of what the closing of a runtime comes to: what meets each definition, and what
 -- breaks one of its parts alone.
-use Rattle.std.proofs.Common.{◌≡◌, ◌∙◌, ◌<◌, ℕ, [], ◌∷◌, length, replicate, refl, sym, ap, subst, lit<, arith}
+use Rattle.std.proofs.Common.{◌≡◌, ◌∙◌, ℕ, [], ◌∷◌, length, replicate, refl, sym, ap, subst, lit<, arith}
 use Rattle.std.proofs.lemmas.Bool.{eqb-false}
 use Rattle.cb_types.specs.declared.config.Config.{Config}
 use Rattle.cb_world.specs.Empty.{empty_far, empty_words}
@@ -16,7 +16,7 @@ use Rattle.cb_shared.specs.declared.seal.Sealed.{Sealed}
 use Rattle.cb_shared.specs.Closing.{IsClosedBy, Refuses}
 use Rattle.cb_shared.specs.Joining.{unpinned_all}
 use Rattle.cb_shared.specs.Passes.{record_of}
-use Rattle.cb_shared.specs.Sealing.{least, no_view, sealed, sealed_record, sealed_world, unsealed}
+use Rattle.cb_shared.specs.Sealing.{least, sealed, sealed_record, sealed_world, unsealed}
 use Rattle.cb_shared.specs.Turning.{Did}
 use Rattle.cb_shared.proofs.WorkedGround.{a_stand, part, two, whole}
 

@@ -1,14 +1,13 @@
 -- Worked reads under a pin: what meets each definition, and what breaks one of its parts alone.
-use Rattle.std.proofs.Common.{◌≡◌, ◌≢◌, ℕ, ◌<◌, List, [], ◌∷◌, length, refl, sym, ap, ◌∙◌, arith}
+use Rattle.std.proofs.Common.{◌≡◌, ℕ, List, [], ◌∷◌, length, refl, ap, ◌∙◌, arith}
 use Rattle.std.proofs.lemmas.Bool.{eqb-false}
 use Rattle.cb_ptr.specs.Word.{state_of, state_number}
-use Rattle.cb_ptr.specs.declared.word.State.TheVariants as state
 use Rattle.cb_world.specs.Memory.{bytes_in}
 use Rattle.cb_rule.specs.declared.view.Seen.{Seen}
 use Rattle.cb_rule.specs.Steps.{IsNewest, look_at, with_look}
 use Rattle.cb_shared.specs.declared.reading.ReadAnswer.TheVariants.{Bytes, Freed, NotHere, Moving, Crowded, Raced}
-use Rattle.cb_record.specs.Parts.{Part, nothing_more}
-use Rattle.cb_shared.specs.Reading.{FindsGone, FindsOther, FindsWord, IsReadHere, ReadFinds, looked, looked_freed, looked_twice, read_once}
+use Rattle.cb_record.specs.Parts.{Part}
+use Rattle.cb_shared.specs.Reading.{IsReadHere, ReadFinds, looked, looked_freed, looked_twice, read_once}
 use Rattle.cb_shared.proofs.WorkedGround.{away, calm, full, moving, newest_made, part, pinned, word_in}
 
 -- ---- an object that is here

@@ -1,11 +1,10 @@
 -- Worked steps: what each step of a pin and of a write comes to, and what breaks one of its parts
 -- alone.
-use Rattle.std.proofs.Common.{◌≡◌, ◌≢◌, ℕ, suc, ◌+◌, ◌-◌, ◌*◌, ◌^◌, ◌<◌, ◌≤◌, true, false, List, [], ◌∷◌, length, refl, sym, ap, ◌∙◌, subst, inl, ⊎_elim, true≢false, lit<, lit≤, arith}
+use Rattle.std.proofs.Common.{◌≡◌, ℕ, suc, ◌+◌, ◌-◌, ◌^◌, ◌<◌, ◌≤◌, false, List, [], ◌∷◌, length, refl, sym, ap, ◌∙◌, subst, inl, ⊎_elim, true≢false, lit<, lit≤, arith}
 use Rattle.std.proofs.lemmas.Bool.{eqb-false}
 use Rattle.atomic_table.specs.Seated.{TableId}
 use Rattle.cb_types.specs.declared.config.Config.{Config}
-use Rattle.cb_ptr.specs.Word.{len_of, place_of, pins_of, state_of, state_number}
-use Rattle.cb_ptr.specs.declared.word.State.TheVariants as state
+use Rattle.cb_ptr.specs.Word.{state_number}
 use Rattle.cb_world.specs.Memory.{byte_at}
 use Rattle.cb_world.specs.Written.{entry}
 use Rattle.cb_rule.specs.declared.view.Held.{Held}
@@ -25,9 +24,9 @@ use Rattle.cb_shared.specs.declared.setup.Setup.{Setup}
 use Rattle.cb_shared.specs.Claims.{ClaimsHere, HoldsOnly, unclaimed, with_only}
 use Rattle.cb_shared.specs.Glances.{Glances, TakesPin, TellsVersion}
 use Rattle.cb_shared.specs.Pinning.{IsPinnedAt, IsRefusal, PinAt}
-use Rattle.cb_shared.specs.Places.{Holds, IsOf, Moves, Place}
+use Rattle.cb_shared.specs.Places.{HoldsLock, IsOf, Moves, Place}
 use Rattle.cb_shared.specs.Writing.{IsWriteRefusal, IsWrittenAt, WriteAt, WriteClaimed}
-use Rattle.cb_shared.proofs.WorkedGround.{a_pin, a_stand, away, calm, full, last_look, last_state, moving, newest_later, newest_made, not_foreign, not_second, part, pinned, shared_part, two, version_in, whole, words_in}
+use Rattle.cb_shared.proofs.WorkedGround.{a_pin, a_stand, away, calm, full, last_look, moving, newest_later, newest_made, not_second, part, pinned, shared_part, two, version_in, whole, words_in}
 use Rattle.cb_shared.proofs.WorkedWrites.{write_it}
 
 abbrev looks_of : View → ℕ
@@ -446,13 +445,13 @@ of_no_share : (z : TableId) (k : Setup) (p : Place) → p.me.0.share ≡ 0 → I
 of_no_share z k p e o = let live = o.live in omega (arith, e, live)
 
 holds_no_lock : (z : TableId) (k : Setup) (p : Place) → p.me.0.holds ≡ false
-    → Holds z k two p → ⊥
+    → HoldsLock z k two p → ⊥
 holds_no_lock z k p e h = true≢false (sym h.holds ∙ e)
 
 holds_elsewhere : (z : TableId) (k : Setup) (p : Place) → (IsOf z k two p → ⊥)
-    → Holds z k two p → ⊥
+    → HoldsLock z k two p → ⊥
 holds_elsewhere z k p n h = n h.of
 
 holds_unsized : (z : TableId) (k : Setup) (p : Place) → (AreSized two p.me.0.known → ⊥)
-    → Holds z k two p → ⊥
+    → HoldsLock z k two p → ⊥
 holds_unsized z k p n h = n h.sized

@@ -1,7 +1,9 @@
 -- Worked turns: what meets each definition, and what breaks one of its parts alone.
-use Rattle.std.proofs.Common.{◌≡◌, ℕ, ◌+◌, ◌^◌, List, [], ◌∷◌, ◌++◌, length, replicate, Option, None, Some, Ok, refl, ap, ◌∙◌, inl, inr, arith}
+use Rattle.std.proofs.Common.{◌≡◌, ℕ, ◌+◌, ◌^◌, true, false, List, [], ◌∷◌, ◌++◌, length, replicate, Option, None, Some, Ok, refl, ap, ◌∙◌, inl, inr, arith}
 use Rattle.std.proofs.lemmas.Bool.{eqb-false}
+use Rattle.cb_types.specs.declared.config.Config.{Config}
 use Rattle.cb_types.specs.declared.handle.Handle.{Handle}
+use Rattle.cb_types.specs.declared.job.Job.{Job}
 use Rattle.cb_types.specs.declared.job.Job.TheVariants as job
 use Rattle.cb_types.specs.declared.reply.Reply.{Reply}
 use Rattle.cb_types.specs.declared.reply.Reply.TheVariants as answer
@@ -10,12 +12,14 @@ use Rattle.cb_world.specs.declared.event.Event.TheVariants.{Looked}
 use Rattle.cb_world.specs.Empty.{empty_far, empty_shown}
 use Rattle.cb_world.specs.FarState.{FarState}
 use Rattle.cb_core.specs.Turned.{done, worn}
+use Rattle.cb_core.specs.TurnLeaves.{OutcomeWrites}
 use Rattle.cb_rule.specs.declared.turn.Turn.{Turn}
 use Rattle.cb_rule.specs.declared.view.Look.{Look}
 use Rattle.cb_rule.specs.declared.view.View.{View}
-use Rattle.cb_rule.specs.Steps.{look_at}
+use Rattle.cb_rule.specs.Steps.{look_at, opener}
 use Rattle.cb_record.specs.Parts.{Part, grown, nothing_more}
-use Rattle.cb_shared.specs.Turning.{AreLooksAt, Did, KnowsOf, ReadsByPin, Slate, TellsNoPin, TurnAdds, TurnBy, freed_of, held_by, made_by, object_of, slate_run, turn_part}
+use Rattle.cb_shared.specs.Trying.{newest_tries, tries_of}
+use Rattle.cb_shared.specs.Turning.{AreLooksAt, Did, JobReads, KnowsOf, ReadsByPin, Slate, TellsNoPin, TurnAdds, TurnBy, freed_of, held_by, made_by, object_of, slate_run, turn_part}
 use Rattle.cb_shared.proofs.WorkedGround.{made, part, two}
 
 abbrev one : Handle
@@ -230,3 +234,58 @@ adds_a_pin a = eqb-false 1 0 refl (ap (λ (d : Part). d.ever) a.part
 keeps_no_turn : TurnBy two job.Evict (Ok answer.Worn) part part → ⊥
 keeps_no_turn (d, a, is) = eqb-false 0 1 refl (ap (λ (v : View). length v.turns) is
     ∙ ap (λ (e : Part). length (e.turns ++ [])) a.part)
+
+-- ---- a turn of any job that was refused for its number
+abbrev pub worn_turn : Job → Turn
+worn_turn j = record refused { job = j }
+
+abbrev pub worn_part : Job → Part
+worn_part j = turn_part (worn_turn j) [] nothing_more nothing_more
+
+pub adds_worn : (j : Job) (v : View) → OutcomeWrites j (Ok answer.Worn) []
+    → JobReads j (Ok answer.Worn) v nothing_more → TurnAdds two j (Ok answer.Worn) v (worn_part j)
+adds_worn j v wrote reads = record {
+  turn = worn_turn j;
+  more = [];
+  within = nothing_more;
+  later = nothing_more;
+  job_is = refl;
+  reply_is = refl;
+  agree = tt;
+  did = worn refl refl refl (refl, tt);
+  next = inr (refl, refl);
+  wrote = wrote;
+  tells = record {
+    only = λ id losses is. absurd (worn_lost is);
+    each = λ h id losses asks few lost. absurd (omega (arith, few));
+  };
+  reads = reads;
+  finds = refl;
+  part = refl;
+}
+  where
+    worn_lost : {id : _} {losses : _} → answer.Worn ≡ answer.Unavailable id losses → ⊥
+    worn_lost e = cc
+
+-- ---- whether the newest turn is made again
+abbrev wide : Config
+wide = record { k = 2; r = 1; nodes = 3; frames = 364; room = 6; handles = 2; turns = 0 }
+
+abbrev short : Turn
+short = record refused { reply = Some (answer.NoRoom 364 1 3) }
+
+newest_is_made_again : newest_tries wide (short ∷ refused ∷ []) ≡ Some true
+newest_is_made_again = refl
+
+older_does_not_count : newest_tries wide (refused ∷ short ∷ []) ≡ Some false
+older_does_not_count = refl
+
+made_no_turn : tries_of part ≡ None
+made_no_turn = refl
+
+made_again : tries_of (record (opener wide) { turns = short ∷ refused ∷ [] }) ≡ Some true
+made_again = refl
+
+-- with fewer frames it is not
+not_made_again : tries_of (record (opener two) { turns = short ∷ [] }) ≡ Some false
+not_made_again = refl

@@ -1,17 +1,16 @@
 -- The parts of writes in place, and of writes that try again.
-use Rattle.std.proofs.Common.{◌≡◌, ◌⊎◌, ℕ, ◌+◌, List, [], ◌∷◌, Option, None, Some, sym, refl, ap, ◌∙◌, subst, arith, inl, inr}
+use Rattle.std.proofs.Common.{◌≡◌, ℕ, ◌+◌, List, [], ◌∷◌, Option, None, Some, refl, ap, ◌∙◌, subst, arith, inl, inr}
 use Rattle.cb_types.specs.declared.config.Config.{Config}
 use Rattle.cb_types.specs.declared.job.Job.{Job}
 use Rattle.cb_types.specs.declared.job.Job.TheVariants as jobs
 use Rattle.cb_types.specs.declared.reply.Reply.{Reply}
-use Rattle.cb_ptr.specs.declared.word.State.TheVariants as state
-use Rattle.cb_ptr.specs.Word.{len_of, state_of}
+use Rattle.cb_ptr.specs.Word.{len_of}
 use Rattle.cb_world.specs.Written.{entry}
 use Rattle.cb_rule.specs.declared.view.View.{View}
 use Rattle.cb_rule.specs.Steps.{look_at, with_look}
 use Rattle.cb_shared.specs.declared.answers.WriteAnswer.{WriteAnswer}
 use Rattle.cb_shared.specs.declared.answers.WriteAnswer.TheVariants as place
-use Rattle.cb_shared.specs.Calls.{AtNone, AtThis, EndsAtLast, IsNoReply, IsInVain, SaysAs, Stops, TurnTries, WriteAnswers, WriteEnds, WriteFinds, WriteTries, the_handle, written_once}
+use Rattle.cb_shared.specs.Calls.{AtNone, AtThis, IsNoReply, SaysAs, Stops, TurnTries, WriteAnswers, WriteEnds, WriteFinds, WriteTries, the_handle, written_once}
 use Rattle.cb_record.specs.Parts.{Part, Grows, grown}
 use Rattle.cb_shared.specs.Reading.{looked, looked_freed, looked_twice}
 use Rattle.cb_shared.specs.Writing.{WriteGives}

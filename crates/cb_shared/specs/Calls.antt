@@ -1,5 +1,5 @@
 -- What the calls that try again until they are answered add to the record of their pass.
-use Rattle.std.specs.Prelude.{◌≡◌, ◌⊎◌, ℕ, ◌+◌, ◌*◌, ◌&&◌, ◌-◌, ◌^◌, Bool, false, ltb, leb, List, [], ◌∷◌, length, Option, None, Some, Ok}
+use Rattle.std.specs.Prelude.{◌≡◌, ◌⊎◌, ℕ, ◌+◌, ◌-◌, ◌^◌, false, List, [], ◌∷◌, length, Option, None, Some, Ok}
 use Rattle.cb_types.specs.declared.config.Config.{Config}
 use Rattle.cb_types.specs.declared.handle.Handle.{Handle}
 use Rattle.cb_types.specs.declared.job.Job.{Job}
@@ -19,25 +19,10 @@ use Rattle.cb_shared.specs.declared.answers.WriteAnswer.{WriteAnswer}
 use Rattle.cb_shared.specs.declared.answers.WriteAnswer.TheVariants as place
 use Rattle.cb_record.specs.Deeds.{deed, happened}
 use Rattle.cb_record.specs.Parts.{Part, Grows, grown, nothing_more, sum}
+pub use Rattle.cb_shared.specs.Trying.{is_to_try_again, may_come_loose, newest_tries}
 use Rattle.cb_shared.specs.Reading.{FindsGone, FindsOther, FindsWord, IsReadHere, looked, looked_twice}
 use Rattle.cb_shared.specs.Turning.{TurnAdds, made_by, with_own}
 use Rattle.cb_shared.specs.Writing.{IsPastEnd, IsPinnedSo, IsRoomFor}
-
--- Fewer spans than an eviction takes were loose, but with so many frames the next one may find
--- enough: 20 passes with 16 pins, a read and a write each keep at most 360 spans from being loose,
--- beside a batch that leaves and one that is to leave.
-abbrev pub may_come_loose : Config → ℕ → Bool
-may_come_loose c loose = ltb loose c.k && leb (2 * c.k + 360) c.frames
-
--- a turn that was refused for want of loose spans, and that is made again
-abbrev pub is_to_try_again : Config → Option Reply → Bool
-is_to_try_again c (Some (answer.NoRoom frames loose nodes)) = may_come_loose c loose
-is_to_try_again c other = false
-
--- whether the newest turn is such a one; None where there is no turn
-abbrev pub newest_tries : Config → List Turn → Option Bool
-newest_tries c [] = None
-newest_tries c (t ∷ ts) = Some (is_to_try_again c t.reply)
 
 -- why an object can't be brought in
 abbrev pub IsLack : Config → Reply → Type 0

@@ -1,6 +1,7 @@
 pub mod Places
 pub mod SeatLaws
 pub mod Handles
+pub mod Trying
 pub mod Passes
 pub mod Glances
 pub mod Claims

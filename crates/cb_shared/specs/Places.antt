@@ -28,7 +28,7 @@ pub record IsOf (z : TableId) (k : Setup) (c : Config) (p : Place) : Type 0 wher
   pub live : 1 ≤ p.me.0.share
 
 -- and holds the far lock
-pub record Holds (z : TableId) (k : Setup) (c : Config) (p : Place) : Type 0 where
+pub record HoldsLock (z : TableId) (k : Setup) (c : Config) (p : Place) : Type 0 where
   pub of : IsOf z k c p
   pub holds : p.me.0.holds ≡ true
   pub sized : AreSized c p.me.0.known

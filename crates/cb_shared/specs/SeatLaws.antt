@@ -16,7 +16,7 @@ use Rattle.cb_rule.specs.Rule.{AreSized}
 use Rattle.cb_rule.specs.Slot.{Sat}
 use Rattle.cb_rule.specs.Steps.{act, acted}
 use Rattle.cb_shared.specs.declared.setup.Setup.{Setup}
-use Rattle.cb_shared.specs.Places.{Moves, Place, Holds, Acts}
+use Rattle.cb_shared.specs.Places.{Moves, Place, HoldsLock, Acts}
 
 pub acted_known : (es : List Event) (v : View) → (acted es v).known ≡ played es v.known
 acted_known [] v = refl
@@ -100,8 +100,8 @@ sized_after c (Settled h w) s z = record {
 }
 
 -- the seat holds the lock as before
-pub holds_still : (z : TableId) (k : Setup) (c : Config) (p q : Place) (e : Event) → Holds z k c p
-    → Acts p e q → Holds z k c q
+pub holds_still : (z : TableId) (k : Setup) (c : Config) (p q : Place) (e : Event) → HoldsLock z k c p
+    → Acts p e q → HoldsLock z k c q
 holds_still z k c p q e h a = record {
   of = record {
     table = a.0.0 ∙ h.of.table;

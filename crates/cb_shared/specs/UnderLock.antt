@@ -62,7 +62,7 @@ pub record IsBeginning (c : Config) (far : FarState) (v : View) : Type 0 where
 
 -- The work of a turn at the desk over the seat: its events, by which the turn did its job, and what
 -- they wrote.
-pub record TurnAt (c : Config) (job : Job) (r : Result Reply NoMemory) (took gave : FarState)
+pub record TurnAtSeat (c : Config) (job : Job) (r : Result Reply NoMemory) (took gave : FarState)
     (p q : Place) : Type 0 where
   pub events : List Event
   pub more : List Entry

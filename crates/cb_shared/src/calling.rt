@@ -10,7 +10,7 @@ ghost use Rattle.cb_shared.specs.Calls.{AtNone, AtThis, IsAnswerTo, IsCalled, Is
 ghost use Rattle.cb_record.specs.Parts.{Part, Grows};
 ghost use Rattle.cb_shared.specs.Passes.{IsPassOf};
 ghost use Rattle.cb_shared.specs.Reading.{ReadFinds, looked};
-ghost use Rattle.cb_shared.specs.Turning.{KnowsOf};
+ghost use Rattle.cb_shared.specs.Turning.{KnowsOf, answer_of};
 ghost use Rattle.cb_ptr.specs.declared.word.State.TheVariants as state;
 ghost use Rattle.cb_ptr.specs.Word.{state_of};
 
@@ -329,6 +329,17 @@ fn is_lack(config: &Config, reply: &Reply) -> bool
     match reply {
         Reply::Unavailable { .. } | Reply::Worn => true,
         Reply::NoRoom { loose, .. } => !comes_loose(config, *loose),
+        _ => false,
+    }
+}
+
+/// Whether a turn with this reply is made again: it was refused for want of loose spans alone, and
+/// more may come loose.
+pub(crate) fn is_to_try_again(config: &Config, reply: &Result<Reply, NoMemory>) -> bool
+    ensures { result ≡ is_to_try_again config.now (answer_of reply.now) }
+{
+    match reply {
+        Ok(Reply::NoRoom { loose, .. }) => comes_loose(config, *loose),
         _ => false,
     }
 }

@@ -2,7 +2,7 @@
 ghost use Rattle.std.specs.Prelude.{◌≡◌, ℕ, ◌+◌, ◌*◌, ◌^◌, ◌<◌, List, length, All};
 ghost use Rattle.cb_world.specs.FrameWords.{OwnsWords, ReadsFrame, loads_from, stores_from};
 ghost use Rattle.cb_world.specs.RowWords.{words_in};
-ghost use Rattle.cb_shared.specs.Places.{Holds};
+ghost use Rattle.cb_shared.specs.Places.{HoldsLock};
 ghost use Rattle.cb_shared.specs.SeatLaws.{Runs};
 
 use crate::board::{Place, Top};
@@ -16,11 +16,11 @@ const FRAME_WORDS: usize = 512;
 /// Loads the words of a frame, in order, into a row of 4,096 bytes: eight bytes a word, the first
 /// one lowest.
 pub(crate) fn load_row(top: &Top, seat: &mut Place, config: &Config, frame: u32, row: &mut [u8])
-    requires holds { Holds top.now.table_id top.now.key config.now seat.old }
+    requires holds { HoldsLock top.now.table_id top.now.key config.now seat.old }
     requires frame { frame < config.now.frames }
     requires row { length row.old ≡ 4096 }
     ensures reads { ReadsFrame (λ es. Runs seat.old es seat.new) frame row.new }
-    ensures still { Holds top.now.table_id top.now.key config.now seat.new }
+    ensures still { HoldsLock top.now.table_id top.now.key config.now seat.new }
 {
     let mut words = [0u64; FRAME_WORDS];
     load_words(top, seat, config, frame, &mut words);
@@ -35,10 +35,10 @@ fn load_words(
     frame: u32,
     words: &mut [u64; FRAME_WORDS],
 )
-    requires holds { Holds top.now.table_id top.now.key config.now seat.old }
+    requires holds { HoldsLock top.now.table_id top.now.key config.now seat.old }
     requires frame { frame < config.now.frames }
     ensures ran { Runs seat.old (loads_from (512 * frame) words.new) seat.new }
-    ensures still { Holds top.now.table_id top.now.key config.now seat.new }
+    ensures still { HoldsLock top.now.table_id top.now.key config.now seat.new }
     ensures len { length words.new ≡ 512 }
     ensures small { All (λ w. w < 2 ^ 64) words.new }
 {
@@ -50,12 +50,12 @@ fn load_words(
 
 /// Stores the words of a row of 4,096 bytes in a frame that the holder owns, in order.
 pub(crate) fn store_row(top: &Top, seat: &mut Place, config: &Config, frame: u32, row: &[u8])
-    requires holds { Holds top.now.table_id top.now.key config.now seat.old }
+    requires holds { HoldsLock top.now.table_id top.now.key config.now seat.old }
     requires frame { frame < config.now.frames }
     requires row { length row.now ≡ 4096 }
     requires owned { OwnsWords seat.old.me.0.known frame }
     ensures ran { Runs seat.old (stores_from (512 * frame) (words_in row.now)) seat.new }
-    ensures still { Holds top.now.table_id top.now.key config.now seat.new }
+    ensures still { HoldsLock top.now.table_id top.now.key config.now seat.new }
 {
     let mut words = [0u64; FRAME_WORDS];
     LittleEndian::read_u64_into(row, &mut words);

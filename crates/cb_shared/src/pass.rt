@@ -1,6 +1,7 @@
-ghost use Rattle.std.specs.Prelude.{◌≡◌, []};
+ghost use Rattle.std.specs.Prelude.{◌≡◌, [], false, unwrap_or};
 ghost use Rattle.crossbeam_utils.specs.Padded.{padded_value};
 ghost use Rattle.cb_shared.specs.Handles.{handles_of};
+ghost use Rattle.cb_shared.specs.Trying.{newest_tries, tries_of};
 
 use crate::board::Place;
 use crate::handles::Pins;
@@ -53,15 +54,18 @@ impl Pin {
 }
 
 /// What one caller has of the shared runtime: a seat, whose view has all that the caller wrote,
-/// read and pinned, its share, and its pins, which stand on cache lines of their own.
+/// read and pinned, its share, its pins, which stand on cache lines of their own, and whether its
+/// newest turn is made again.
 #[derive(Drop)]
 pub struct Pass {
     pub(crate) seat: Place,
     pub(crate) share: u32,
     pub(crate) pins: Pins,
+    pub(crate) tries: Option<bool>,
     ghost shares: { share ≡ seat.me.0.share },
     ghost carries: { seat.me.1 ≡ [] },
     ghost pinned: { (padded_value pins).items ≡ handles_of seat.me.0.pins },
+    ghost tried: { tries ≡ tries_of seat.me.0 },
 }
 
 impl Pass {
@@ -70,5 +74,15 @@ impl Pass {
         ensures { result ≡ self.now.seat.me.0.share }
     {
         self.share
+    }
+
+    /// Whether the newest turn of the pass was refused for want of loose spans alone and is made
+    /// again, as `Shared::read` does: with so many frames more spans may come loose. False where the
+    /// pass has made no turn. Takes no memory and waits for nobody.
+    pub fn again(&self) -> bool
+        ensures { result ≡ unwrap_or
+            (newest_tries self.now.seat.me.0.config self.now.seat.me.0.turns) false }
+    {
+        self.tries.unwrap_or(false)
     }
 }

@@ -6,6 +6,7 @@ ghost use Rattle.cb_rule.specs.Steps.{joined, left_of, right_of};
 ghost use Rattle.cb_shared.specs.Passes.{IsPassOf, PinFits};
 ghost use Rattle.cb_shared.specs.Joining.{IsSpare, unpinned_all};
 ghost use Rattle.cb_shared.specs.Places.{IsOf, Moves};
+ghost use Rattle.cb_shared.specs.Trying.{newest_tries};
 
 use crate::board::{Place, Top};
 use crate::handles::{first_handle, no_pins};
@@ -32,6 +33,7 @@ impl Shared {
             seat,
             share,
             pins: no_pins(),
+            tries: None,
         }
     }
 
@@ -48,8 +50,9 @@ impl Shared {
         let mut other = other;
         give_back(&self.board.shared, &mut other, &self.config);
         let share = other.share;
+        let tries = other.tries;
         let Pass { seat, .. } = other;
-        join_in(&self.board.shared, pass, seat, share, &self.config);
+        join_in(&self.board.shared, pass, seat, share, tries, &self.config);
     }
 }
 
@@ -118,11 +121,19 @@ fn give_first(top: &Top, pass: &mut Pass, config: &Config, h: u32)
     unpin_one(top, &mut pass.seat, &mut pass.pins, config, h);
 }
 
-/// A pass takes in a seat that has this share.
-fn join_in(top: &Top, pass: &mut Pass, other: Place, share: u32, config: &Config)
+/// A pass takes in a seat that has this share, and whose newest turn is made again or not.
+fn join_in(
+    top: &Top,
+    pass: &mut Pass,
+    other: Place,
+    share: u32,
+    tries: Option<bool>,
+    config: &Config,
+)
     requires of { IsOf top.now.table_id top.now.key config.now pass.old.seat }
     requires other { IsSpare top.now.table_id other }
     requires share { share ≡ other.me.0.share }
+    requires tries { tries ≡ newest_tries config.now other.me.0.turns }
     requires few { (pass.old.seat.me.0.share ≤ 64) × (share ≤ 64) }
     requires fresh { pass.old.seat.me.0.fresh ≡ [] }
     ensures joined { Moves pass.old.seat pass.new.seat
@@ -131,6 +142,7 @@ fn join_in(top: &Top, pass: &mut Pass, other: Place, share: u32, config: &Config
 {
     join_seats(top, &mut pass.seat, other, config);
     pass.share += share;
+    pass.tries = tries.or(pass.tries);
     tally(top, &mut pass.seat, config);
 }
 

@@ -45,6 +45,7 @@ impl Shared {
             seat,
             share: WHOLE,
             pins: no_pins(),
+            tries: None,
         };
         Ok((Shared { config, board }, pass))
     }

@@ -6,7 +6,7 @@ ghost use Rattle.cb_world.specs.declared.event.Event.TheVariants.{Looked, Claime
 ghost use Rattle.cb_world.specs.Shown.{Owns, IsHeld, object_at};
 ghost use Rattle.cb_world.specs.Settling.{MaySettle};
 ghost use Rattle.cb_rule.specs.Own.{MayWrite};
-ghost use Rattle.cb_shared.specs.Places.{Holds, Acts};
+ghost use Rattle.cb_shared.specs.Places.{HoldsLock, Acts};
 
 use crate::board::{Place, Top};
 use crate::plays::{Load, Look, Settle, Stamp, Store, TakeClaim, Tell};
@@ -14,7 +14,7 @@ use cb_types::Config;
 
 /// The pointer word of an object.
 pub(crate) fn look(top: &Top, seat: &mut Place, config: &Config, h: u32) -> u64
-    requires holds { Holds top.now.table_id top.now.key config.now seat.old }
+    requires holds { HoldsLock top.now.table_id top.now.key config.now seat.old }
     requires handle { h < config.now.handles }
     ensures { Acts seat.old (Looked h result) seat.new }
 {
@@ -23,7 +23,7 @@ pub(crate) fn look(top: &Top, seat: &mut Place, config: &Config, h: u32) -> u64
 
 /// The version word of an object.
 pub(crate) fn tell(top: &Top, seat: &mut Place, config: &Config, h: u32) -> u64
-    requires holds { Holds top.now.table_id top.now.key config.now seat.old }
+    requires holds { HoldsLock top.now.table_id top.now.key config.now seat.old }
     requires handle { h < config.now.handles }
     ensures { Acts seat.old (Told h result) seat.new }
 {
@@ -32,7 +32,7 @@ pub(crate) fn tell(top: &Top, seat: &mut Place, config: &Config, h: u32) -> u64
 
 /// A memory word.
 pub(crate) fn load(top: &Top, seat: &mut Place, config: &Config, place: usize) -> u64
-    requires holds { Holds top.now.table_id top.now.key config.now seat.old }
+    requires holds { HoldsLock top.now.table_id top.now.key config.now seat.old }
     requires place { place < 512 * config.now.frames }
     ensures { Acts seat.old (Loaded place result) seat.new }
 {
@@ -43,21 +43,21 @@ pub(crate) fn load(top: &Top, seat: &mut Place, config: &Config, place: usize) -
 
 /// Claims an object where its word is `saw`, and answers the word that was found.
 pub(crate) fn take_claim(top: &Top, seat: &mut Place, config: &Config, h: u32, saw: u64) -> u64
-    requires holds { Holds top.now.table_id top.now.key config.now seat.old }
+    requires holds { HoldsLock top.now.table_id top.now.key config.now seat.old }
     requires handle { h < config.now.handles }
     requires here { state_of saw ≡ state.Here }
     requires no_pins { pins_of saw ≡ 0 }
     ensures won { result ≡ saw → (v : ℕ) × (words : List ℕ)
         × Acts seat.old (Claimed h saw v words) seat.new }
     ensures lost { result ≢ saw → Acts seat.old (Looked h result) seat.new }
-    ensures still { Holds top.now.table_id top.now.key config.now seat.new }
+    ensures still { HoldsLock top.now.table_id top.now.key config.now seat.new }
 {
     top.compare_exchange::<TakeClaim>(seat, 1 + h as usize, saw, cb_ptr::claimed(saw))
 }
 
 /// Stores a memory word at a place that the holder owns.
 pub(crate) fn store(top: &Top, seat: &mut Place, config: &Config, place: usize, word: u64)
-    requires holds { Holds top.now.table_id top.now.key config.now seat.old }
+    requires holds { HoldsLock top.now.table_id top.now.key config.now seat.old }
     requires place { place < 512 * config.now.frames }
     requires owned { Owns seat.old.me.0.known place }
     ensures { Acts seat.old (Stored place word) seat.new }
@@ -70,7 +70,7 @@ pub(crate) fn store(top: &Top, seat: &mut Place, config: &Config, place: usize, 
 /// Stores the version word of an object that the holder claims, or that is empty or far, and that it
 /// may write: its record has an entry of it, or it was never made.
 pub(crate) fn put_stamp(top: &Top, seat: &mut Place, config: &Config, h: u32, version: u64)
-    requires holds { Holds top.now.table_id top.now.key config.now seat.old }
+    requires holds { HoldsLock top.now.table_id top.now.key config.now seat.old }
     requires handle { h < config.now.handles }
     requires held { IsHeld (object_at seat.old.me.0.known h) }
     requires may { MayWrite h seat.old.me.0.known seat.old.me.0 }
@@ -81,7 +81,7 @@ pub(crate) fn put_stamp(top: &Top, seat: &mut Place, config: &Config, h: u32, ve
 
 /// Stores the pointer word of an object that the holder claims, or that is empty or far.
 pub(crate) fn settle(top: &Top, seat: &mut Place, config: &Config, h: u32, word: u64)
-    requires holds { Holds top.now.table_id top.now.key config.now seat.old }
+    requires holds { HoldsLock top.now.table_id top.now.key config.now seat.old }
     requires handle { h < config.now.handles }
     requires may { MaySettle seat.old.me.0.known h word }
     ensures { Acts seat.old (Settled h word) seat.new }

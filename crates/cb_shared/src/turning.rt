@@ -10,6 +10,7 @@ ghost use Rattle.cb_shared.specs.Turning.{KnowsOf, TurnBy};
 ghost use Rattle.cb_shared.specs.UnderLock.{IsBeginning, TurnWith, TurnedBy};
 
 use crate::board::{Place, Top};
+use crate::calling::is_to_try_again;
 use crate::freed::{find_freed, freed_of};
 use crate::handles::count_pins;
 use crate::locking::{give_far, lock_far};
@@ -48,6 +49,7 @@ impl Shared {
         count_pins(&pass.pins);
         let reply = locked_turn(rt, top, &mut pass.seat, &config, alloc, job);
         find_freed(rt, top, &mut pass.seat, &config, freed_of(job, &reply));
+        pass.tries = Some(is_to_try_again(&config, &reply));
         reply
     }
 }

@@ -10,10 +10,10 @@ ghost use Rattle.cb_core.specs.Jobs.{IsJob};
 ghost use Rattle.cb_core.specs.Unavailable.{TurnTells};
 ghost use Rattle.cb_rule.specs.Locking.{Stood};
 ghost use Rattle.cb_rule.specs.Steps.{Knows};
-ghost use Rattle.cb_shared.specs.Places.{Holds, IsOf};
+ghost use Rattle.cb_shared.specs.Places.{HoldsLock, IsOf};
 ghost use Rattle.cb_shared.specs.Rights.{writes_of};
 ghost use Rattle.cb_shared.specs.Turning.{KnowsOf};
-ghost use Rattle.cb_shared.specs.UnderLock.{BringAt, CameThere, IsBeginning, IsNoRead, IsReplyTo, IsTriedAgain, TriesOn, TurnAt, WorkBy};
+ghost use Rattle.cb_shared.specs.UnderLock.{BringAt, CameThere, IsBeginning, IsNoRead, IsReplyTo, IsTriedAgain, TriesOn, TurnAtSeat, WorkBy};
 
 use crate::board::{Place, Top};
 use crate::reading::{ReadAnswer, read_pinned};
@@ -72,7 +72,7 @@ fn turn_by_seat<R: Wait>(
     alloc: Global,
     job: &Job,
 ) -> Result<Reply, NoMemory>
-    requires holds { Holds top.now.table_id top.now.key config.now seat.old }
+    requires holds { HoldsLock top.now.table_id top.now.key config.now seat.old }
     requires config { IsAccepted config.now }
     requires job { IsJob config.now job.now }
     requires other { IsNoRead job.now }
@@ -80,7 +80,7 @@ fn turn_by_seat<R: Wait>(
     requires stood { Stood config.now seat.old.me.0.known far.old }
     requires idle { seat.old.me.0.acts ≡ [] }
     requires fresh { seat.old.me.0.fresh ≡ [] }
-    ensures turn { TurnAt config.now job.now result far.old far.new seat.old seat.new }
+    ensures turn { TurnAtSeat config.now job.now result far.old far.new seat.old seat.new }
     ensures no_frame { IfOk result (λ reply. reply ≡ answer.NoFrame → ⊥) }
     ensures unavailable { IfOk result (λ reply. TurnTells job.now far.old reply) }
 {
@@ -136,7 +136,7 @@ fn turn_at_desk<'a, R: Wait>(
     requires idle { desk.old.seat.now.me.0.acts ≡ [] }
     requires fresh { desk.old.seat.now.me.0.fresh ≡ [] }
     ensures same { desk.new.seat.ghost_name ≡ desk.old.seat.ghost_name }
-    ensures turn { TurnAt desk.old.config job.now result far.old far.new desk.old.seat.now
+    ensures turn { TurnAtSeat desk.old.config job.now result far.old far.new desk.old.seat.now
         desk.new.seat.now }
     ensures no_frame { IfOk result (λ reply. reply ≡ answer.NoFrame → ⊥) }
     ensures unavailable { IfOk result (λ reply. TurnTells job.now far.old reply) }
@@ -192,7 +192,7 @@ fn bring_by_seat<R: Wait>(
     far: &mut Far,
     h: Handle,
 ) -> Result<Reply, NoMemory>
-    requires holds { Holds top.now.table_id top.now.key config.now seat.old }
+    requires holds { HoldsLock top.now.table_id top.now.key config.now seat.old }
     requires config { IsAccepted config.now }
     requires handle { h.n < config.now.handles }
     requires stood { Stood config.now seat.old.me.0.known far.old }

@@ -1,4 +1,4 @@
-use Rattle.std.proofs.Common.{◌≡◌, sym, subst, inl, inr, ⊎_elim, true, false, Bool, ◌∙◌}
+use Rattle.std.proofs.Common.{inr, ⊎_elim}
 use Rattle.cb_shared.specs.Calls.{IsLack, TellsOfIt}
 use Rattle.cb_shared.proofs.CallSteps.{answers_no, answers_yes}
 use Rattle.cb_shared.proofs.calling.is_answer.Goals as goal

@@ -1,12 +1,11 @@
-use Rattle.std.proofs.Common.{rules, ◌≡◌, ap}
+use Rattle.std.proofs.Common.{ap}
 use Rattle.cb_rule.specs.Slot.{Sat}
 use Rattle.cb_shared.proofs.WriteSteps.{written_at}
 use Rattle.cb_shared.proofs.writing.write_at.Goals as goal
 
 pub returns-clause-table : goal.returns-clause-table
 returns-clause-table c =
-    let e : c.claim_here-found.result ≡ c.args.saw = search rules in
-    let y = c.claim_here-found.ensures.won e in
+    let y = c.claim_here-found.ensures.won c.if-found-saw.false in
     (written_at c.args.config.now c.args.h c.args.saw c.args.at c.args.bytes.now
     c.write_claimed.result c.args.seat.now c.claim_here-found.new.seat c.write_claimed.new.seat
     y.0 y.1 c.requires.rest c.requires.handle y.2 y.6 (c.write_claimed.ensures y.0 y.1 (record {
@@ -18,8 +17,7 @@ returns-clause-table c =
 
 pub returns-clause-share : goal.returns-clause-share
 returns-clause-share c =
-    let e : c.claim_here-found.result ≡ c.args.saw = search rules in
-    let y = c.claim_here-found.ensures.won e in
+    let y = c.claim_here-found.ensures.won c.if-found-saw.false in
     (written_at c.args.config.now c.args.h c.args.saw c.args.at c.args.bytes.now
     c.write_claimed.result c.args.seat.now c.claim_here-found.new.seat c.write_claimed.new.seat
     y.0 y.1 c.requires.rest c.requires.handle y.2 y.6 (c.write_claimed.ensures y.0 y.1 (record {
@@ -31,8 +29,7 @@ returns-clause-share c =
 
 pub returns-clause-pins : goal.returns-clause-pins
 returns-clause-pins c =
-    let e : c.claim_here-found.result ≡ c.args.saw = search rules in
-    let y = c.claim_here-found.ensures.won e in
+    let y = c.claim_here-found.ensures.won c.if-found-saw.false in
     (written_at c.args.config.now c.args.h c.args.saw c.args.at c.args.bytes.now
     c.write_claimed.result c.args.seat.now c.claim_here-found.new.seat c.write_claimed.new.seat
     y.0 y.1 c.requires.rest c.requires.handle y.2 y.6 (c.write_claimed.ensures y.0 y.1 (record {
@@ -44,8 +41,7 @@ returns-clause-pins c =
 
 pub returns-clause-rest : goal.returns-clause-rest
 returns-clause-rest c =
-    let e : c.claim_here-found.result ≡ c.args.saw = search rules in
-    let y = c.claim_here-found.ensures.won e in
+    let y = c.claim_here-found.ensures.won c.if-found-saw.false in
     (written_at c.args.config.now c.args.h c.args.saw c.args.at c.args.bytes.now
     c.write_claimed.result c.args.seat.now c.claim_here-found.new.seat c.write_claimed.new.seat
     y.0 y.1 c.requires.rest c.requires.handle y.2 y.6 (c.write_claimed.ensures y.0 y.1 (record {
@@ -57,8 +53,7 @@ returns-clause-rest c =
 
 pub returns-clause-write : goal.returns-clause-write
 returns-clause-write c =
-    let e : c.claim_here-found.result ≡ c.args.saw = search rules in
-    let y = c.claim_here-found.ensures.won e in
+    let y = c.claim_here-found.ensures.won c.if-found-saw.false in
     (written_at c.args.config.now c.args.h c.args.saw c.args.at c.args.bytes.now
     c.write_claimed.result c.args.seat.now c.claim_here-found.new.seat c.write_claimed.new.seat
     y.0 y.1 c.requires.rest c.requires.handle y.2 y.6 (c.write_claimed.ensures y.0 y.1 (record {

@@ -1,4 +1,4 @@
-use Rattle.std.proofs.Common.{◌≡◌, Some}
+use Rattle.std.proofs.Common.{Some}
 use Rattle.cb_types.specs.declared.job.Job.TheVariants as jobs
 use Rattle.cb_shared.specs.Calls.{AtThis, the_handle}
 use Rattle.cb_shared.proofs.CallSteps.{err_always, known_still, read_again, read_at_last, so_far, stops_then}

@@ -1,4 +1,4 @@
-use Rattle.std.proofs.Common.{◌≡◌, ◌∙◌, ℕ, sym, ap}
+use Rattle.std.proofs.Common.{◌∙◌, sym, ap}
 use Rattle.std.proofs.lemmas.Result.{IfOk-weaker, on_err_weaker}
 use Rattle.crossbeam_utils.specs.Padded.{padded_value}
 use Rattle.cb_shared.specs.Handles.{handles_of}
@@ -55,4 +55,5 @@ invariant_of-pass c =
       shares = c.args.pass.now.shares ∙ sym k.share;
       carries = k.carries ∙ c.args.pass.now.carries;
       pinned = c.args.pass.now.pinned ∙ sym (ap handles_of k.pins);
+      tried = c.args.pass.now.tried ∙ sym k.tries;
     }

@@ -1,12 +1,4 @@
-use Rattle.std.proofs.Common.{◌≡◌, ◌∙◌, ℕ, None, Some, Option, refl, sym, ap, subst}
 use Rattle.std.proofs.lemmas.Result.{IfOk-weaker, on_err_weaker}
-use Rattle.cb_types.specs.declared.job.Job.TheVariants as jobs
-use Rattle.cb_types.specs.declared.reply.Reply.{Reply}
-use Rattle.cb_rule.specs.declared.view.View.{View}
-use Rattle.cb_shared.specs.declared.reading.ReadAnswer.{ReadAnswer}
-use Rattle.cb_shared.specs.Calls.{the_handle}
-use Rattle.cb_record.specs.Parts.{Part, Grows, grown}
-use Rattle.cb_shared.specs.Reading.{ReadFinds, looked}
 use Rattle.cb_shared.proofs.CallSteps.{away_stops, away_tries, err_always, found_bytes, found_crowded, found_freed, found_moving, found_raced, lacks_room}
 use Rattle.cb_shared.proofs.Resting.{known_below}
 use Rattle.cb_shared.proofs.runtime.Shared.try_read.Goals as goal

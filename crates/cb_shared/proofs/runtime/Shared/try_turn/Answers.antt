@@ -1,4 +1,3 @@
-use Rattle.std.proofs.Common.{◌≡◌}
 use Rattle.cb_shared.proofs.CallSteps.{err_always, turn_ends, turn_in_vain, turn_without}
 use Rattle.cb_shared.proofs.runtime.Shared.try_turn.Goals as goal
 

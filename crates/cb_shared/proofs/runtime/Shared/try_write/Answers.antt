@@ -1,4 +1,3 @@
-use Rattle.std.proofs.Common.{◌≡◌}
 use Rattle.std.proofs.lemmas.Result.{IfOk-weaker, on_err_weaker}
 use Rattle.cb_shared.proofs.WriteParts.{away_write_stops, away_write_tries, write_tried}
 use Rattle.cb_shared.proofs.runtime.Shared.try_write.Goals as goal

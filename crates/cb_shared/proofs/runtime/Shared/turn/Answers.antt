@@ -1,4 +1,4 @@
-use Rattle.std.proofs.Common.{◌∙◌, ℕ, sym, ap, subst}
+use Rattle.std.proofs.Common.{◌∙◌, ℕ, Bool, Some, sym, ap, subst}
 use Rattle.std.specs.Prelude.{Option}
 use Rattle.crossbeam_utils.specs.Padded.{padded_value}
 use Rattle.cb_rule.specs.Slot.{Sat}
@@ -7,7 +7,7 @@ use Rattle.cb_shared.specs.Handles.{handles_of}
 use Rattle.cb_shared.specs.Turning.{KnowsIt}
 use Rattle.cb_shared.specs.UnderLock.{FreedMoves, IsBelow}
 use Rattle.cb_shared.proofs.AfterTurn.{of_moved}
-use Rattle.cb_shared.proofs.TurnEnds.{few_pins, freed_below, freed_knows, pins_turned, rest_turned, share_turned, turn_by}
+use Rattle.cb_shared.proofs.TurnEnds.{few_pins, freed_below, freed_knows, pins_turned, rest_turned, share_turned, tries_turned, turn_by}
 use Rattle.cb_shared.proofs.runtime.Shared.turn.Goals as goal
 
 pub locked_turn-reply-requires-clause-few : goal.locked_turn-reply-requires-clause-few
@@ -66,4 +66,8 @@ invariant_of-pass g c = let f = subst (λ (o : Option ℕ). FreedMoves c.args.se
       pinned = c.args.pass.now.pinned ∙ sym (ap handles_of (pins_turned c.args.self.now.config
           c.args.job.now c.locked_turn-reply.result c.args.pass.now.seat c.locked_turn-reply.new.seat
           c.find_freed.new.seat c.requires.of.rest c.locked_turn-reply.ensures.turn f));
+      tried = ap (λ (b : Bool). Some b) c.is_to_try_again.ensures ∙ sym (tries_turned
+          c.args.self.now.config c.args.job.now c.locked_turn-reply.result c.args.pass.now.seat
+          c.locked_turn-reply.new.seat c.find_freed.new.seat c.requires.of.rest
+          c.locked_turn-reply.ensures.turn f);
     }

@@ -1,4 +1,3 @@
-use Rattle.std.proofs.Common.{◌≡◌}
 use Rattle.cb_shared.specs.Calls.{AtNone}
 use Rattle.cb_shared.specs.Turning.{object_of}
 use Rattle.cb_shared.proofs.CallSteps.{err_always, known_still, so_far, stops_then, turn_again, turn_at_last}

@@ -1,5 +1,4 @@
-use Rattle.cb_types.specs.declared.job.Job.TheVariants as jobs
-use Rattle.cb_shared.specs.Calls.{AtNone, AtThis, Stops, the_handle}
+use Rattle.cb_shared.specs.Calls.{AtNone, Stops}
 use Rattle.cb_shared.specs.Passes.{IsPassOf}
 use Rattle.cb_shared.proofs.runtime.Shared.turn_until.Given as goal
 
