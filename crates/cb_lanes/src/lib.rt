@@ -2,8 +2,10 @@
 #![tactic(auto)]
 
 mod answering;
+mod asks;
 pub mod body;
 mod compacting;
+mod kept_pins;
 mod resting;
 pub mod seq;
 pub mod side;
