@@ -24,7 +24,7 @@ older = stand 0 8 6 3 (7 ∷ [])
 abbrev pinning : View
 pinning = record (blank two) { pins = newer ∷ older ∷ [] }
 
-one_zero : 1 ≢ 0
+one_zero : ◌≢◌ {A = ℕ} 1 0
 one_zero = eqb-false 1 0 refl
 
 -- ---- the newest pin on an object
@@ -60,5 +60,5 @@ not_full : PinGoes two 1 pinning answer.ScopeFull pinning → ⊥
 not_full x = eqb-false 2 16 refl x.0
 
 -- ---- a front of a list
-front : IsFront (1 ∷ []) (1 ∷ 2 ∷ [])
+front : IsFront {A = ℕ} (1 ∷ []) (1 ∷ 2 ∷ [])
 front = (2 ∷ [], refl)
