@@ -38,6 +38,7 @@ pub mod LineParts
 pub mod LinesBack
 pub mod PinsHeld
 pub mod Trying
+pub mod WorkedPassing
 pub mod WorkedLines
 pub mod WorkedHere
 pub mod WorkedPins

@@ -1,10 +1,13 @@
-//! The lanes of a script: its lines are answered one after the other, on one thread.
+//! The lanes of a script: its lines are answered one after the other, on one thread, or those of one
+//! lane beside others.
 #![tactic(auto)]
 
 mod answering;
-mod caller;
+mod asks;
 pub mod body;
+mod caller;
 mod compacting;
+mod kept_pins;
 mod noting;
 mod resting;
 mod seat;

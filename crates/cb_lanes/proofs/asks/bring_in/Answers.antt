@@ -1,0 +1,24 @@
+use Rattle.std.proofs.Common.{ap}
+use Rattle.cb_types.specs.declared.job.Job.TheVariants as jobs
+use Rattle.cb_rule.specs.declared.view.View.{View}
+use Rattle.cb_shared.proofs.Laws.{turn_ends, turn_in_vain}
+use Rattle.cb_lanes.proofs.asks.bring_in.Goals as goal
+
+pub returns-then-is_lack-clause-turn : goal.returns-then-is_lack-clause-turn
+returns-then-is_lack-clause-turn g c = turn_ends c.args.shared.now.config (jobs.Swap c.args.h)
+    c.in_ok-reply.reply c.args.pass.now.seat.me.0 c.turn.new.pass.seat.me.0
+    (c.is_lack.ensures.yes c.if-is_lack.true) c.in_ok-reply.ensures.turn
+
+pub returns-else-is_lack-clause-turn : goal.returns-else-is_lack-clause-turn
+returns-else-is_lack-clause-turn g c = turn_in_vain c.args.shared.now.config (jobs.Swap c.args.h)
+    c.in_ok-reply.reply c.args.pass.now.seat.me.0 c.turn.new.pass.seat.me.0 tt
+    (c.is_lack.ensures.no c.if-is_lack.false) c.in_ok-reply.ensures.turn
+
+pub returns-then-is_lack-clause-pins : goal.returns-then-is_lack-clause-pins
+returns-then-is_lack-clause-pins g c = ap (λ (z : View). z.pins) c.in_ok-reply.ensures.turn.2
+
+pub returns-else-is_lack-clause-pins : goal.returns-else-is_lack-clause-pins
+returns-else-is_lack-clause-pins g c = ap (λ (z : View). z.pins) c.in_ok-reply.ensures.turn.2
+
+pub returns-in_err-reply-clause-pins : goal.returns-in_err-reply-clause-pins
+returns-in_err-reply-clause-pins g c = ap (λ (z : View). z.pins) c.in_err-reply.ensures.turn.2

@@ -1,0 +1,50 @@
+use Rattle.std.proofs.Common.{ℕ, Some, Option, sym, ap, subst, ◌∙◌, arith}
+use Rattle.std.proofs.lemmas.Result.{IfOk-weaker}
+use Rattle.cb_rule.specs.declared.view.View.{View}
+use Rattle.cb_shared.proofs.Laws.{known_below}
+use Rattle.cb_lanes.proofs.PinsHeld.{held_count, held_more, held_same}
+use Rattle.cb_lanes.proofs.Trying.{brought, pinned_once, was_crowded, was_far, was_freed, was_full, was_moving, was_pinned, was_raced}
+use Rattle.cb_lanes.proofs.asks.try_pin.Goals as goal
+
+pub keep_pin-requires : goal.keep_pin-requires
+keep_pin-requires g c = let e = held_count c.args.pins.now.items
+    c.args.pass.now.seat.me.0 c.requires.held in let r = c.requires.room in
+    omega (arith, e, r)
+
+pub returns-in-Pinned-clause-held : goal.returns-in-Pinned-clause-held
+returns-in-Pinned-clause-held g c = held_more c.args.pins.now.items c.keep_pin.new.pins.items
+    c.args.h.n c.in-Pinned.pin c.args.pass.now.seat.me.0 c.pin.new.pass.seat.me.0
+    (was_pinned c.args.h.n c.pin.result c.in-Pinned.pin _ _ c.in-Pinned.is c.pin.ensures.pin)
+    c.keep_pin.ensures.kept c.requires.held
+
+pub returns-in-Pinned-clause-pin : goal.returns-in-Pinned-clause-pin
+returns-in-Pinned-clause-pin g c = pinned_once c.args.h.n c.in-Pinned.pin _ _ _
+    c.version-version.ensures
+    (was_pinned c.args.h.n c.pin.result c.in-Pinned.pin _ _ c.in-Pinned.is c.pin.ensures.pin)
+
+pub bring_in-requires-clause-handle : goal.bring_in-requires-clause-handle
+bring_in-requires-clause-handle g c = known_below c.args.shared.now.config c.args.h.n
+    c.args.pass.now.seat.me.0 c.requires.of.rest c.requires.knows
+
+pub returns-in-NotHere-clause-pin : goal.returns-in-NotHere-clause-pin
+returns-in-NotHere-clause-pin g c = IfOk-weaker c.bring_in.result _ _
+    (λ o x. brought c.args.shared.now.config c.args.h.n o c.args.pass.now.seat.me.0
+    c.pin.new.pass.seat.me.0 c.bring_in.new.pass.seat.me.0
+    (was_far c.args.h.n c.pin.result _ _ c.in-NotHere.is c.pin.ensures.pin) x)
+    c.bring_in.ensures.turn
+
+pub returns-in-Freed-clause-pin : goal.returns-in-Freed-clause-pin
+returns-in-Freed-clause-pin g c =
+    was_freed c.args.h.n c.pin.result _ _ c.in-Freed.is c.pin.ensures.pin
+
+pub returns-in-Moving-clause-pin : goal.returns-in-Moving-clause-pin
+returns-in-Moving-clause-pin g c =
+    was_moving c.args.h.n c.pin.result _ _ c.in-Moving.is c.pin.ensures.pin
+
+pub returns-in-Crowded-clause-pin : goal.returns-in-Crowded-clause-pin
+returns-in-Crowded-clause-pin g c =
+    was_crowded c.args.h.n c.pin.result _ _ c.in-Crowded.is c.pin.ensures.pin
+
+pub returns-in-Raced-clause-pin : goal.returns-in-Raced-clause-pin
+returns-in-Raced-clause-pin g c =
+    was_raced c.args.h.n _ _ c.pin.result _ _ c.in-Raced.is c.pin.ensures.pin

@@ -1,0 +1,19 @@
+//! The pins that a lane keeps beside its pass, the newest one first.
+ghost use Rattle.std.specs.Prelude.{◌≡◌, ◌<◌, ◌∷◌, length};
+
+use arrayvec::ArrayVec;
+use cb_shared::Pin;
+
+/// The most pins that a lane may have.
+pub(crate) const MOST_PINS: usize = 16;
+
+/// The pins of a lane.
+pub(crate) type KeptPins = ArrayVec<Pin, MOST_PINS>;
+
+/// Keeps a pin that was just taken.
+pub(crate) fn keep_pin(pins: &mut KeptPins, pin: Pin)
+    requires room { length pins.old.items < 16 }
+    ensures kept { pins.new.items ≡ pin ∷ pins.old.items }
+{
+    pins.insert(0, pin);
+}
