@@ -168,7 +168,7 @@ gives_worn = (
   record {
     before = nothing_more;
     last = worn_part (jobs.Make (10 ∷ []));
-    in_vain = record { looks = []; turns = []; at = tt; of = tt; part = refl };
+    in_vain = record { looks = []; turns = []; at = tt; of = tt; idle = tt; part = refl };
     ends_so = (inr tt, adds_worn (jobs.Make (10 ∷ [])) part refl refl);
     part = refl;
   },
@@ -236,6 +236,7 @@ writes_at_last = (
       turns = [];
       at = (refl, tt);
       of = tt;
+      idle = tt;
       part = refl;
     };
     ends_so = inl (
