@@ -165,8 +165,12 @@ made_known : (c : Config) (bytes : List ℕ) (handle : Handle) (version : ℕ) (
 made_known c bytes handle version v w (d, x, is) =
     subst (Knows handle.n) (sym is) (subst (λ (z : Part). Knows handle.n (grown z v)) (sym x.part)
     (subst (λ (z : Part). Knows handle.n (grown (sum x.before z) v)) (sym x.ends_so.1.part)
-    (inl (e, subst (λ (l : List Entry). Has e ((l ++ x.before.written) ++ v.written))
-    (sym x.ends_so.1.wrote.2) (inl refl), refl))))
+    (inl (
+      e,
+      subst (λ (l : List Entry). Has e ((l ++ x.before.written) ++ v.written))
+          (sym x.ends_so.1.wrote.2) (inl refl),
+      refl,
+    ))))
   where
     e : Entry
     e = entry handle.n version (length bytes) [] x.ends_so.1.wrote.0

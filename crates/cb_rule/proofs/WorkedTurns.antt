@@ -127,11 +127,14 @@ wrote_out_of_range : HasGiven Evict None (far 2) [] (1 ∷ [])
 wrote_out_of_range g = let l : 2 < 2 = g.written.0 in omega (arith, l)
 
 found_out_of_range : HasGiven Evict None (far 2) (freed_seen 2 5 ∷ []) (1 ∷ [])
-    (at_work, in_hand (far 2)) (record (seat (turn (far 1) (far 2) ∷ one_turn)) {
-      written = made ∷ [];
-      seen = freed_seen 2 5 ∷ [];
-      own = 1 ∷ [];
-    }, []) → ⊥
+    (at_work, in_hand (far 2)) (
+      record (seat (turn (far 1) (far 2) ∷ one_turn)) {
+        written = made ∷ [];
+        seen = freed_seen 2 5 ∷ [];
+        own = 1 ∷ [];
+      },
+      [],
+    ) → ⊥
 found_out_of_range g = let l : 2 < 2 = g.seen.0 in omega (arith, l)
 
 -- ---- what a give needs
