@@ -36,7 +36,14 @@ pub mod LossOrder
 pub mod WorkedGoes
 pub mod LineParts
 pub mod LinesBack
+pub mod NamesAmong
+pub mod LinesSoFar
+pub mod TurnReplies
+pub mod LineReplies
+pub mod ByPass
+pub mod Peeking
 pub mod PinsHeld
+pub mod PinsEnd
 pub mod Trying
 pub mod WorkedPassing
 pub mod WorkedLines

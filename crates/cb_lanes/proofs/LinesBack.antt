@@ -34,11 +34,11 @@ use Rattle.cb_lanes.specs.Passing.{goes_in}
 use Rattle.cb_lanes.proofs.LineParts.{Adds, about, adds_knows, adds_none, adds_sum, line_adds, told_as}
 
 -- ---- the handles of names
-first_assoc : (a b c : Option ℕ) → first_of (first_of a b) c ≡ first_of a (first_of b c)
+pub first_assoc : (a b c : Option ℕ) → first_of (first_of a b) c ≡ first_of a (first_of b c)
 first_assoc (Some x) b c = refl
 first_assoc None b c = refl
 
-first_none : (a : Option ℕ) → a ≡ first_of a None
+pub first_none : (a : Option ℕ) → a ≡ first_of a None
 first_none (Some x) = refl
 first_none None = refl
 
@@ -160,7 +160,7 @@ handle_kept names kept answers None keep = refl
 handle_kept names kept answers (Some name) keep = keep name
 
 -- ---- the pass knows each of them
-made_known : (c : Config) (bytes : List ℕ) (handle : Handle) (version : ℕ) (v w : View)
+pub made_known : (c : Config) (bytes : List ℕ) (handle : Handle) (version : ℕ) (v w : View)
     → TurnGives c (job.Make bytes) (answer.Made handle version) v w → Knows handle.n w
 made_known c bytes handle version v w (d, x, is) =
     subst (Knows handle.n) (sym is) (subst (λ (z : Part). Knows handle.n (grown z v)) (sym x.part)

@@ -1,17 +1,17 @@
 -- The pins that a lane keeps beside its pass are those of the record.
-use Rattle.std.proofs.Common.{◌≡◌, ◌≢◌, ◌⊎◌, ℕ, zero, suc, ◌+◌, ◌<◌, Bool, true, false, cond, List, [], ◌∷◌, ◌++◌, length, map, get_or, take, drop, inl, inr, sym, refl, ap, ◌∙◌, subst, arith, eq-eqb, ne_eqb}
+use Rattle.std.proofs.Common.{◌≡◌, ◌≢◌, ℕ, zero, suc, ◌+◌, ◌<◌, ◌≤◌, Bool, cond, List, [], ◌∷◌, length, map, get_or, Option, None, Some, IfSome, IfNone, inl, inr, sym, refl, ap, ◌∙◌, subst, arith, eq-eqb, ne_eqb}
 use Rattle.std.specs.List.{remove}
 use Rattle.std.proofs.lemmas.List.{length-map}
-use Rattle.cb_ptr.specs.Word.{len_of, place_of}
+use Rattle.cb_types.specs.declared.reply.Reply.TheVariants as answer
 use Rattle.cb_rule.specs.declared.view.Stand.{Stand}
 use Rattle.cb_rule.specs.declared.view.View.{View}
 use Rattle.cb_rule.specs.Lists.{Has, removed, times}
-use Rattle.cb_rule.specs.Seats.{pins_it, pins_on}
+use Rattle.cb_rule.specs.Seats.{pins_it}
 use Rattle.cb_rule.specs.Steps.{stand}
 use Rattle.cb_shared.specs.declared.pass.Pin.{Pin}
-use Rattle.cb_shared.specs.Passes.{IsPinOf, stand_of}
+use Rattle.cb_shared.specs.Passes.{stand_of}
 use Rattle.cb_shared.specs.Pinning.{IsPinned}
-use Rattle.cb_lanes.specs.Passing.{AreHeld, HasNoMark, HasNoPin, IsNewestAt, IsNewestPin, Mark, mark_in, mark_of, marks_of}
+use Rattle.cb_lanes.specs.Passing.{AreHeld, HasNoMark, HasNoPin, IsNewestAt, IsNewestPin, IsNotPinned, Mark, mark_in, mark_of, marks_of}
 
 pub held_same : (ps : List Pin) (v w : View) → w.pins ≡ v.pins → AreHeld ps v → AreHeld ps w
 held_same ps v w same held = held ∙ ap (λ (l : List Stand). map mark_in l) (sym same)
@@ -108,26 +108,69 @@ pin_there h zero p (q ∷ ps) (s ∷ ss) e new is = record {
 pin_there h (suc at) p (q ∷ ps) (s ∷ ss) e new is = there_behind h at p q ps s ss e new.0
     (pin_there h at p ps ss (ap tail_of e) new.1 is)
 
--- ---- the first pin, whatever its object
-pub first_there : (p q : Pin) (ps : List Pin) (ss : List Stand) → marks_of (q ∷ ps) ≡ map mark_in ss
-    → p ≡ q → IsThere p.handle.n 0 p (q ∷ ps) ss
-first_there p q ps ss e is = pin_there p.handle.n 0 p (q ∷ ps) ss e (ap (λ (z : Pin). z.handle.n) (sym is)) is
-
 -- ---- from the places to the newest
-pub newest_at : (h at : ℕ) (ms : List Mark) (m : Mark) → at < length ms
-    → (get_or ms at m).handle ≡ h
-    → ((i : ℕ) → i < at → (get_or ms i m).handle ≢ h) → IsNewestAt h ms at
-newest_at h at [] m less here before = absurd (omega (arith, less))
-newest_at h zero (x ∷ ms) m less here before = here
-newest_at h (suc at) (x ∷ ms) m less here before = (
-  before 0 (omega arith),
-  newest_at h at ms m (omega (arith, less)) here (λ i low. before (suc i) (omega (arith, low))),
+-- none of the first pins is on the object
+abbrev pub NoneBefore : ℕ → List Pin → ℕ → Type 0
+NoneBefore h ps k = (i : ℕ) (p : Pin) → i < k → (get_or ps i p).handle.n ≢ h
+
+pub newest_at : (h at : ℕ) (ps : List Pin) (p : Pin) → at < length ps
+    → (get_or ps at p).handle.n ≡ h → NoneBefore h ps at → IsNewestAt h (marks_of ps) at
+newest_at h at [] p less here before = absurd (omega (arith, less))
+newest_at h zero (q ∷ ps) p less here before = here
+newest_at h (suc at) (q ∷ ps) p less here before = (
+  before 0 p (omega arith),
+  newest_at h at ps p (omega (arith, less)) here (λ i d low. before (suc i) d (omega (arith, low))),
 )
 
-pub none_at : (h : ℕ) (ms : List Mark) (m : Mark)
-    → ((i : ℕ) → i < length ms → (get_or ms i m).handle ≢ h) → HasNoMark h ms
-none_at h [] m before = tt
-none_at h (x ∷ ms) m before = (
-  before 0 (omega arith),
-  none_at h ms m (λ i low. before (suc i) (omega (arith, low))),
+pub none_at : (h k : ℕ) (ps : List Pin) → length ps ≤ k → NoneBefore h ps k
+    → HasNoMark h (marks_of ps)
+none_at h k [] all before = tt
+none_at h zero (q ∷ ps) all before = absurd (omega (arith, all))
+none_at h (suc k) (q ∷ ps) all before = (
+  before 0 q (omega arith),
+  none_at h k ps (omega (arith, all)) (λ i d low. before (suc i) d (omega (arith, low))),
 )
+
+none_to : (h at : ℕ) (ps : List Pin) (p : Pin) → at < length ps
+    → (get_or ps at p).handle.n ≢ h → NoneBefore h ps at → NoneBefore h ps (suc at)
+none_to h at [] p less off before i d low = absurd (omega (arith, less))
+none_to h zero (q ∷ ps) p less off before zero d low = off
+none_to h zero (q ∷ ps) p less off before (suc i) d low = absurd (omega (arith, low))
+none_to h (suc at) (q ∷ ps) p less off before zero d low = before 0 d (omega arith)
+none_to h (suc at) (q ∷ ps) p less off before (suc i) d low =
+    none_to h at ps p (omega (arith, less)) off
+    (λ j e few. before (suc j) e (omega (arith, few))) i d (omega (arith, low))
+
+-- one place more
+pub none_more : (h at : ℕ) (ps : List Pin) (p : Pin) → at < length ps
+    → (get_or ps at p).handle.n ≢ h → NoneBefore h ps at → NoneBefore h ps (at + 1)
+none_more h at ps p less off before i d low =
+    none_to h at ps p less off before i d (omega (arith, low))
+
+-- the place is one of the list
+pub newest_below : (h at : ℕ) (ps : List Pin) → IsNewestAt h (marks_of ps) at → at < length ps
+newest_below h at [] new = absurd new
+newest_below h zero (q ∷ ps) new = omega arith
+newest_below h (suc at) (q ∷ ps) new = let e = newest_below h at ps new.1 in omega (arith, e)
+
+-- the first pin is the newest one on its object
+pub first_newest : (p : Pin) (ps : List Pin) → 0 < length ps → p ≡ get_or ps 0 p
+    → IsNewestAt p.handle.n (marks_of ps) 0
+first_newest p [] some is = absurd (omega (arith, some))
+first_newest p (q ∷ ps) some is = ap (λ (z : Pin). z.handle.n) (sym is)
+
+-- ---- what a search for the newest pin found
+pub found_at : (h at : ℕ) (xs ps : List Pin) (o : Option ℕ) → o ≡ Some at → xs ≡ ps
+    → IfSome o (λ k. IsNewestAt h (marks_of xs) k) → IsNewestAt h (marks_of ps) at
+found_at h at xs ps o is same new = subst (λ (l : List Pin). IsNewestAt h (marks_of l) at) same
+    (subst (λ (z : Option ℕ). IfSome z (λ k. IsNewestAt h (marks_of xs) k)) is new)
+
+pub found_none : (h : ℕ) (xs ps : List Pin) (o : Option ℕ) (v : View) → AreHeld ps v → o ≡ None
+    → xs ≡ ps → IfNone o (HasNoMark h (marks_of xs)) → IsNotPinned h answer.NotPinned v v
+found_none h xs ps o v held is same none = record {
+  no_pin = none_there h (marks_of ps) v.pins held
+      (subst (λ (l : List Pin). HasNoMark h (marks_of l)) same
+      (subst (λ (z : Option ℕ). IfNone z (HasNoMark h (marks_of xs))) is none));
+  told = refl;
+  left = refl;
+}

@@ -1,5 +1,5 @@
 -- The tries of a pin, one after another.
-use Rattle.std.proofs.Common.{◌≡◌, ◌⊎◌, ℕ, ◌<◌, List, [], ◌∷◌, length, Option, None, Some, Result, Ok, Err, sym, refl, ap, ◌∙◌, subst, inl, inr}
+use Rattle.std.proofs.Common.{◌≡◌, ℕ, ◌<◌, List, [], ◌∷◌, length, Option, None, Some, Result, Ok, Err, sym, refl, ap, ◌∙◌, subst}
 use Rattle.std.specs.Result.{IfOk, OnErr}
 use Rattle.cb_member.specs.declared.no_memory.NoMemory.{NoMemory}
 use Rattle.cb_types.specs.declared.config.Config.{Config}
@@ -10,14 +10,13 @@ use Rattle.cb_types.specs.declared.reply.Reply.{Reply}
 use Rattle.cb_types.specs.declared.reply.Reply.TheVariants as answer
 use Rattle.cb_ptr.specs.declared.word.State.TheVariants as state
 use Rattle.cb_ptr.specs.Word.{pins_of, state_of}
-use Rattle.cb_rule.specs.declared.view.Stand.{Stand}
 use Rattle.cb_rule.specs.declared.view.View.{View}
-use Rattle.cb_rule.specs.Steps.{look_at, with_look}
-use Rattle.cb_record.specs.Parts.{Grows, Part, grown}
+use Rattle.cb_rule.specs.Steps.{look_at}
+use Rattle.cb_record.specs.Parts.{Grows, Part}
 use Rattle.cb_shared.specs.declared.answers.PinAnswer.{PinAnswer}
 use Rattle.cb_shared.specs.declared.answers.PinAnswer.TheVariants as found
 use Rattle.cb_shared.specs.declared.pass.Pin.{Pin}
-use Rattle.cb_shared.specs.Calls.{AsksFor, AtNone, AtThis, Stops, TurnTries, the_handle}
+use Rattle.cb_shared.specs.Calls.{AsksFor, AtThis, Stops, TurnTries, the_handle}
 use Rattle.cb_shared.specs.Pinning.{FindsFreed, IsPinned, LooksOnce, PinGives}
 use Rattle.cb_shared.specs.Reading.{looked, looked_twice}
 use Rattle.cb_shared.specs.Turning.{TurnBy}
@@ -131,11 +130,24 @@ pub call_is : (c : Config) (j k : Job) (v w : View) (result : Result Reply NoMem
 call_is c j k v w result is x =
     subst (λ (z : Job). IfOk result (λ r. CallGives c z v r w)) (sym is) x
 
--- whatever its outcome
-pub either : {A : Type 0} (result : Result A NoMemory) (P : A → Type 0) (Q S : Type 0)
-    → ((r : A) → P r → S) → (Q → S) → IfOk result P → OnErr result Q → S
-either (Ok r) P Q S f g x y = f r x
-either (Err e) P Q S f g x y = g y
+-- it leaves the pins as they are, whatever its outcome
+pins_left : (c : Config) (j : Job) (r : Reply) (v w : View) → CallGives c j v r w
+    → w.pins ≡ v.pins
+pins_left c (job.Make bytes) r v w x = ap (λ (z : View). z.pins) x.2
+pins_left c (job.Read h) r v w x = ap (λ (z : View). z.pins) x.2
+pins_left c (job.Write h at bytes) r v w x = ap (λ (z : View). z.pins) x.2
+pins_left c (job.Free h) r v w x = ap (λ (z : View). z.pins) x.2
+pins_left c j r v w x = ap (λ (z : View). z.pins) x.2
+
+pub call_leaves : (c : Config) (j k : Job) (on : ℕ → Type 0) (v w : View)
+    (result : Result Reply NoMemory) → IfOk result (λ r. CallGives c j v r w)
+    → OnErr result (Stops on k v w) → w.pins ≡ v.pins
+call_leaves c j k on v w (Ok r) x y = pins_left c j r v w x
+call_leaves c j k on v w (Err e) x y = ap (λ (z : View). z.pins) y.2
+
+pub turn_leaves : (c : Config) (j : Job) (v w : View) (result : Result Reply NoMemory)
+    → TurnBy c j result v w → w.pins ≡ v.pins
+turn_leaves c j v w result x = ap (λ (z : View). z.pins) x.2
 
 pub other_call : (c : Config) (j : Job) (v w : View) (result : Result Reply NoMemory)
     → ((bytes : List ℕ) → j ≡ job.Make bytes → ⊥) → ((h : Handle) → j ≡ job.Read h → ⊥)

@@ -8,7 +8,7 @@ use Rattle.cb_types.specs.declared.request.Request.TheVariants.{Read, Write, Fre
 use Rattle.cb_types.specs.declared.reply.Reply.{Reply}
 use Rattle.cb_types.specs.declared.reply.Reply.TheVariants as answer
 use Rattle.cb_ptr.specs.declared.word.State.TheVariants as state
-use Rattle.cb_ptr.specs.Word.{len_of, place_of, state_of}
+use Rattle.cb_ptr.specs.Word.{state_of}
 use Rattle.cb_world.specs.Memory.{bytes_in, words_for}
 use Rattle.cb_rule.specs.declared.view.Peeked.{Peeked}
 use Rattle.cb_rule.specs.declared.view.Stand.{Stand}
@@ -21,7 +21,7 @@ use Rattle.cb_shared.specs.Calls.{AsksFor, AtThis, ReadGives, Stops, TurnGives, 
 use Rattle.cb_shared.specs.Joining.{unpinned_all}
 use Rattle.cb_shared.specs.Pinning.{FindsFreed}
 use Rattle.cb_shared.specs.Turning.{TurnBy}
-use Rattle.cb_lanes.specs.LineGoes.{Ask, Calls, Goes, Leaves, Peeks, Pins, Unpins}
+use Rattle.cb_lanes.specs.LineGoes.{Calls, Goes, Leaves, Peeks, Pins, Unpins}
 
 -- a call: reads, writes, makes and frees try again until they are answered, and every other job is
 -- one turn

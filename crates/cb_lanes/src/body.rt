@@ -1,10 +1,24 @@
-//! What a lane that runs beside others, in a thread of its own, is given and leaves.
-ghost use Rattle.std.specs.Prelude.{◌≡◌, [], ◌∷◌, ◌++◌, OnOk, OnErr};
+//! What a lane answers that runs beside others, in a thread of its own.
+ghost use Rattle.std.specs.Prelude.{◌≡◌, ℕ, List, [], ◌∷◌, ◌++◌, map, IfOk, IfErr, None, OnOk, OnErr};
+ghost use Rattle.std.specs.List.{AllByRecursion};
+ghost use Rattle.cb_script.specs.Form.{IsRequest};
+ghost use Rattle.cb_shared.specs.Passes.{IsPassOf, record_of};
+ghost use Rattle.cb_lanes.specs.Asked.{asked, HasLineReply};
+ghost use Rattle.cb_lanes.specs.Bodies.{AddsBacked, AnswersOne, AreLinesOf, IsFront, KeepHandles, KnowsKept, KnowsNames, LaneGoes, LinesGo};
+ghost use Rattle.cb_lanes.specs.Names.{kept_number};
+ghost use Rattle.cb_lanes.specs.Passing.{AreHeld, goes_in};
 
-use cb_shared::Pass;
-use cb_types::{Answers, Handle, Name, NoMemory};
+use crate::answering::reply_to;
+use crate::asks::leave;
+use crate::kept_pins::KeptPins;
+use crate::passing::{PassCaller, Passing};
+use cb_script::Line;
+use cb_shared::{Pass, Shared};
+use cb_types::{Answer, Answers, Gate, Handle, Lane, Name, NoMemory};
 use std::alloc::Global;
+use std::collections::HashMap;
 use std::marker::Model;
+use std::sync::Wait;
 
 /// What a lane leaves: its answers, one a line, and its pass.
 #[derive(Drop)]
@@ -67,4 +81,138 @@ impl Names {
         self.items.push(item)?;
         Ok(())
     }
+}
+
+/// Answers the lines of one lane in order, in whatever thread it is called. The names are those that
+/// were made before, with their handles. Behind each line the gate is told of it, and behind the
+/// last one all pins are given back. Where there is no memory for a line, the answers before it
+/// and the pass come back. Waits.
+pub fn lane_body<R: Wait, G: Gate>(
+    rt: &R,
+    alloc: Global,
+    shared: &Shared,
+    pass: Pass,
+    lane: Lane,
+    lines: &[Line],
+    names: &Names,
+    gate: &G,
+) -> Result<LaneEnd, Stopped>
+    requires of { IsPassOf shared.now pass }
+    requires pins { (record_of pass).pins ≡ [] }
+    requires lines { AreLinesOf shared.now.config.nodes lane.n lines.now }
+    requires names { KnowsNames (record_of pass) names.now }
+    ensures of { IfOk result (λ end. IsPassOf shared.now end.pass
+        × ((record_of end.pass).pins ≡ [])) }
+    ensures lines { IfOk result (λ end. map asked end.answers ≡ lines.now) }
+    ensures answered { IfOk result (λ end. AllByRecursion HasLineReply end.answers) }
+    ensures goes { IfOk result (λ end. LaneGoes shared.now.config names.now (record_of pass)
+        end.answers (record_of end.pass)) }
+    ensures part { IfOk result (λ end. AddsBacked names.now end.answers (record_of pass)
+        (record_of end.pass)) }
+    ensures stopped { IfErr result (λ s. IsPassOf shared.now s.pass
+        × ((record_of s.pass).pins ≡ []) × IsFront (map asked s.answers) lines.now) }
+{
+    let mut passing = Passing {
+        pass,
+        pins: KeptPins::new(),
+    };
+    let mut answers = Answers::new(alloc);
+    let done = answer_all(
+        rt,
+        alloc,
+        shared,
+        &mut passing,
+        lane,
+        lines,
+        names,
+        &mut answers,
+        gate,
+    );
+    leave(shared, &mut passing.pass, &mut passing.pins);
+    match done {
+        Ok(()) => Ok(LaneEnd {
+            answers,
+            pass: passing.pass,
+        }),
+        Err(_) => Err(Stopped {
+            pass: passing.pass,
+            answers,
+        }),
+    }
+}
+
+/// Answers the lines of a lane, as long as there is memory.
+fn answer_all<'a, R: Wait, G: Gate>(
+    rt: &R,
+    alloc: Global,
+    shared: &Shared,
+    passing: &mut Passing,
+    lane: Lane,
+    lines: &'a [Line],
+    names: &'a Names,
+    answers: &mut Answers,
+    gate: &G,
+) -> Result<(), NoMemory>
+    requires of { IsPassOf shared.now passing.old.pass }
+    requires held { AreHeld passing.old.pins.items (record_of passing.old.pass) }
+    requires lines { AreLinesOf shared.now.config.nodes lane.n lines.now }
+    requires names { KnowsNames (record_of passing.old.pass) names.now }
+    requires none { answers.old ≡ [] }
+    ensures of { IsPassOf shared.now passing.new.pass }
+    ensures held { AreHeld passing.new.pins.items (record_of passing.new.pass) }
+    ensures front { IsFront (map asked answers.new) lines.now }
+    ensures lines { IfOk result (λ _. map asked answers.new ≡ lines.now) }
+    ensures goes { IfOk result (λ _. LinesGo (goes_in shared.now.config) names.now []
+        (record_of passing.old.pass) answers.new (record_of passing.new.pass)) }
+{
+    let mut kept = HashMap::new(alloc);
+    keep_names(&mut kept, names.as_slice())?;
+    for line in lines {
+        answer_one(rt, alloc, shared, passing, &mut kept, answers, line)?;
+        gate.after(lane, line.line);
+    }
+    Ok(())
+}
+
+/// Keeps the handles of names under them.
+fn keep_names<'a>(kept: &mut HashMap<&'a [u8], Handle>, names: &'a [Named]) -> Result<(), NoMemory>
+    requires none { (name : List ℕ) → kept_number kept.old name ≡ None }
+    ensures kept { IfOk result (λ _. KeepHandles kept.new names.now []) }
+{
+    for named in names {
+        if let Some(handle) = named.handle {
+            kept.insert(named.name.as_slice(), handle)?;
+        }
+    }
+    Ok(())
+}
+
+/// Answers a line, and adds its answer.
+fn answer_one<'a, R: Wait>(
+    rt: &R,
+    alloc: Global,
+    shared: &Shared,
+    passing: &mut Passing,
+    kept: &mut HashMap<&'a [u8], Handle>,
+    answers: &mut Answers,
+    line: &'a Line,
+) -> Result<(), NoMemory>
+    requires of { IsPassOf shared.now passing.old.pass }
+    requires held { AreHeld passing.old.pins.items (record_of passing.old.pass) }
+    requires request { IsRequest shared.now.config.nodes line.now.request }
+    requires knows { KnowsKept kept.old (record_of passing.old.pass) }
+    ensures of { IsPassOf shared.now passing.new.pass }
+    ensures held { AreHeld passing.new.pins.items (record_of passing.new.pass) }
+    ensures line { IfOk result (λ _. AnswersOne shared.now.config line.now kept.old kept.new
+        answers.old answers.new (record_of passing.old.pass) (record_of passing.new.pass)) }
+    ensures same { OnErr result (answers.new ≡ answers.old) }
+{
+    let caller = PassCaller { rt, shared };
+    let reply = reply_to(alloc, &caller, passing, kept, &line.request)?;
+    answers.push(Answer {
+        lane: line.lane,
+        line: line.line,
+        request: line.request.copy(alloc)?,
+        reply,
+    })
 }

@@ -9,11 +9,12 @@ mod caller;
 mod compacting;
 mod kept_pins;
 mod noting;
+mod passing;
 mod resting;
 mod seat;
 pub mod seq;
 pub mod side;
 
-pub use body::{LaneEnd, Named, Names, Stopped};
+pub use body::{LaneEnd, Named, Names, Stopped, lane_body};
 pub use seq::{SeqEnd, run_lines};
 pub use side::Side;

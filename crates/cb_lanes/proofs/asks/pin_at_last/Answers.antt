@@ -1,4 +1,4 @@
-use Rattle.std.proofs.Common.{◌≡◌, ◌<◌, List, length, Some, sym, ap, subst}
+use Rattle.std.proofs.Common.{◌<◌, List, length, Some, sym, subst}
 use Rattle.cb_types.specs.declared.job.Job.TheVariants as jobs
 use Rattle.cb_rule.specs.declared.view.Stand.{Stand}
 use Rattle.cb_shared.specs.Calls.{AtThis, the_handle}

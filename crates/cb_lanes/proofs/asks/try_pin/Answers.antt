@@ -1,9 +1,8 @@
-use Rattle.std.proofs.Common.{ℕ, Some, Option, sym, ap, subst, ◌∙◌, arith}
+use Rattle.std.proofs.Common.{arith}
 use Rattle.std.proofs.lemmas.Result.{IfOk-weaker}
-use Rattle.cb_rule.specs.declared.view.View.{View}
 use Rattle.cb_shared.proofs.Laws.{known_below}
-use Rattle.cb_lanes.proofs.PinsHeld.{held_count, held_more, held_same}
-use Rattle.cb_lanes.proofs.Trying.{brought, pinned_once, was_crowded, was_far, was_freed, was_full, was_moving, was_pinned, was_raced}
+use Rattle.cb_lanes.proofs.PinsHeld.{held_count, held_more}
+use Rattle.cb_lanes.proofs.Trying.{brought, pinned_once, was_crowded, was_far, was_freed, was_moving, was_pinned, was_raced}
 use Rattle.cb_lanes.proofs.asks.try_pin.Goals as goal
 
 pub keep_pin-requires : goal.keep_pin-requires

@@ -1,0 +1,49 @@
+use Rattle.std.proofs.Common.{[], ap}
+use Rattle.cb_rule.specs.declared.view.View.{View}
+use Rattle.cb_lanes.proofs.LineReplies.{lines_reply}
+use Rattle.cb_lanes.proofs.LinesBack.{lane_adds}
+use Rattle.cb_lanes.proofs.LinesSoFar.{held_none}
+use Rattle.cb_lanes.proofs.body.lane_body.Goals as goal
+
+pub answer_all-done-requires-clause-held : goal.answer_all-done-requires-clause-held
+answer_all-done-requires-clause-held g c lives within = held_none c.new.result.items
+    c.args.pass.seat.me.0 c.requires.pins c.new.ensures
+
+pub leave-requires-clause-of : goal.leave-requires-clause-of
+leave-requires-clause-of g c = c.answer_all-done.ensures.of
+
+pub leave-requires-clause-held : goal.leave-requires-clause-held
+leave-requires-clause-held g c = c.answer_all-done.ensures.held
+
+pub returns-in-Ok-clause-of : goal.returns-in-Ok-clause-of
+returns-in-Ok-clause-of g c = (
+  c.leave.ensures.of,
+  ap (λ (v : View). v.pins) c.leave.ensures.left,
+)
+
+pub returns-in-Ok-clause-lines : goal.returns-in-Ok-clause-lines
+returns-in-Ok-clause-lines g c = rw c.in-Ok.is at c.answer_all-done.ensures.lines
+
+pub returns-in-Ok-clause-goes : goal.returns-in-Ok-clause-goes
+returns-in-Ok-clause-goes g c = (
+  c.answer_all-done.new.passing.pass.seat.me.0,
+  rw c.in-Ok.is at c.answer_all-done.ensures.goes,
+  c.leave.ensures.left,
+)
+
+pub returns-in-Ok-clause-answered : goal.returns-in-Ok-clause-answered
+returns-in-Ok-clause-answered g c = lines_reply c.args.shared.now.config c.args.names.now []
+    c.answer_all-done.new.answers c.args.pass.seat.me.0 c.answer_all-done.new.passing.pass.seat.me.0
+    (rw c.in-Ok.is at c.answer_all-done.ensures.goes)
+
+pub returns-in-Ok-clause-part : goal.returns-in-Ok-clause-part
+returns-in-Ok-clause-part g c = lane_adds c.args.shared.now.config c.args.names.now
+    c.answer_all-done.new.answers c.args.pass.seat.me.0 c.leave.new.pass.seat.me.0 c.requires.pins
+    (returns-in-Ok-clause-goes g c)
+
+pub returns-in-Err-clause-stopped : goal.returns-in-Err-clause-stopped
+returns-in-Err-clause-stopped g c = (
+  c.leave.ensures.of,
+  ap (λ (v : View). v.pins) c.leave.ensures.left,
+  c.answer_all-done.ensures.front,
+)
