@@ -46,6 +46,8 @@ pub mod PinsHeld
 pub mod PinsEnd
 pub mod Trying
 pub mod WorkedPassing
+pub mod WorkedAsking
+pub mod WorkedBodies
 pub mod WorkedLines
 pub mod WorkedHere
 pub mod WorkedPins

@@ -36,6 +36,9 @@ pub mod Closes
 pub mod WorkedClosing
 pub mod WorkedTurns
 pub mod WorkedUnder
+pub mod WorkedSeat
+pub mod WorkedWork
+pub mod WorkedTurned
 pub mod WorkedReads
 pub mod WorkedCalls
 pub mod Laws

@@ -33,15 +33,15 @@ accepted Handles = (lit≤ tt, lit≤ tt)
 accepted Turns = lit≤ tt
 
 -- ---- the empty world after so many turns that changed nothing
-abbrev far : ℕ → FarState
+abbrev pub far : ℕ → FarState
 far n = record (empty_far 3 two) {
   counts = record { turns = n; by_job = n ∷ replicate 18 0; sets = 0; keys = 0 };
 }
 
-abbrev known : Shown
+abbrev pub known : Shown
 known = empty_shown 3 two
 
-stood : (n : ℕ) → n ≤ 2 ^ 40 → Stood two known (far n)
+pub stood : (n : ℕ) → n ≤ 2 ^ 40 → Stood two known (far n)
 stood n few = let e = stood_empty 3 two (lit≤ tt) accepted in
     let f = e.configured in let k = e.counted in record {
       sound = recounted_sound known (empty_far 3 two) n (n ∷ replicate 18 0) 0 e.sound;
@@ -65,7 +65,7 @@ stood n few = let e = stood_empty 3 two (lit≤ tt) accepted in
     }
 
 -- ---- a turn that begins
-abbrev beginner : FarState → Shown → View
+abbrev pub beginner : FarState → Shown → View
 beginner f k = took_lock k f 0 part
 
 abbrev Begins : View → Type 0
@@ -104,7 +104,7 @@ knows_another_first : Begins (beginner (far 1) (empty_shown 4 two)) → ⊥
 knows_another_first b = eqb-false 4 3 refl b.stood.sound.here.known.first
 
 -- ---- and ends: it was refused for its number
-abbrev last : ℕ
+abbrev pub last : ℕ
 last = 2 ^ 40
 
 abbrev Ends : View → Type 0

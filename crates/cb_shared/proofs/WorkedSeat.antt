@@ -1,0 +1,134 @@
+-- Worked seats that run events, and that take and give back the far lock: what meets each definition,
+-- and what breaks one of its parts alone.
+use Rattle.std.proofs.Common.{◌≡◌, ℕ, suc, ◌<◌, true, false, List, [], ◌∷◌, ◌++◌, length, None, Some, refl, sym, ap, ◌∙◌, subst, true≢false, lit<, lit≤, arith}
+use Rattle.std.proofs.lemmas.Bool.{eqb-false}
+use Rattle.cb_types.specs.declared.job.Job.TheVariants as job
+use Rattle.cb_types.specs.declared.reply.Reply.TheVariants as answer
+use Rattle.cb_world.specs.declared.entry.Entry.{Entry}
+use Rattle.cb_world.specs.declared.event.Event.{Event}
+use Rattle.cb_world.specs.declared.event.Event.TheVariants.{Told}
+use Rattle.cb_world.specs.declared.shown.Shown.{Shown}
+use Rattle.cb_world.specs.Empty.{empty_shown}
+use Rattle.cb_world.specs.FarState.{FarState}
+use Rattle.cb_world.specs.Played.{Agree}
+use Rattle.cb_world.specs.Written.{entry}
+use Rattle.cb_rule.specs.declared.view.View.{View}
+use Rattle.cb_rule.specs.Lists.{Each}
+use Rattle.cb_rule.specs.LockSteps.{gave_lock, took_lock}
+use Rattle.cb_rule.specs.Slot.{Slot, Sat}
+use Rattle.cb_rule.specs.Steps.{act}
+use Rattle.cb_shared.specs.Places.{Moves, Place}
+use Rattle.cb_shared.specs.SeatLaws.{Runs}
+use Rattle.cb_shared.specs.UnderLock.{GivesFar, IsAt, TakesFar}
+use Rattle.cb_shared.proofs.WorkedGround.{part, two}
+use Rattle.cb_shared.proofs.WorkedUnder.{beginner, far, known, last, stood}
+
+-- the seat has this view and these slots
+abbrev pub Has : Place → View → List (ℕ × Slot) → Type 0
+Has p v slots = p.me ≡ (v, slots)
+
+abbrev pub seat : View → List (ℕ × Slot) → Sat
+seat v slots = (v, slots)
+
+-- ---- events of a seat
+-- what an object that was never made is told to be: it has no version
+abbrev pub tells : ℕ → List Event
+tells version = Told 1 version ∷ []
+
+tells_none : Agree known (tells 0)
+tells_none = ((λ _. refl), tt)
+
+pub tells_nine : Agree known (tells 9) → ⊥
+tells_nine a = eqb-false 9 0 refl (a.0 tt)
+
+module _ (p q : Place) where
+  runs : p.me.0.known ≡ known → Moves p q (act (Told 1 0) p.me.0) → Runs p (tells 0) q
+  runs at moves = (moves, subst (λ (s : Shown). Agree s (tells 0)) (sym at) tells_none)
+
+  runs_untrue : p.me.0.known ≡ known → Runs p (tells 9) q → ⊥
+  runs_untrue at r = tells_nine (subst (λ (s : Shown). Agree s (tells 9)) at r.1)
+
+  runs_unnoted : p.me.0.acts ≡ [] → q.me.0.acts ≡ [] → Runs p (tells 0) q → ⊥
+  runs_unnoted none still r = eqb-false 0 1 refl (ap length (sym still
+      ∙ ap (λ (m : Sat). m.0.acts) r.0.2 ∙ ap (λ (es : List Event). es ++ tells 0) none))
+
+  runs_elsewhere : (q.table_id ≡ p.table_id → ⊥) → Runs p (tells 0) q → ⊥
+  runs_elsewhere n r = n r.0.0
+
+-- ---- the lock is taken, with the far state out of its slot
+abbrev beginning : View
+beginning = beginner (far 1) known
+
+module _ (p q : Place) where
+  takes : Has p part [] → q.table_id ≡ p.table_id → q.id ≡ p.id → Has q beginning ((0, None) ∷ [])
+      → TakesFar two (far 1) p q
+  takes at table id me = record {
+    known = known;
+    entries = 0;
+    at = (
+      table,
+      id,
+      me ∙ ap (λ (m : Sat). seat (took_lock known (far 1) 0 m.0) ((0, None) ∷ m.1)) (sym at),
+    );
+    sized = record { objects = refl; hots = refl; versions = refl; memory = refl };
+    stood = stood 1 (lit≤ tt);
+  }
+
+  takes_another : q.me.0.took ≡ far 0 → TakesFar two (far 1) p q → ⊥
+  takes_another is t = eqb-false 0 1 refl (ap (λ (f : FarState). f.counts.turns)
+      (sym is ∙ ap (λ (m : Sat). m.0.took) t.at.2))
+
+  takes_no_slot : q.me.1 ≡ [] → TakesFar two (far 1) p q → ⊥
+  takes_no_slot is t = let e : 0 ≡ suc (length p.me.1) =
+      ap length (sym is ∙ ap (λ (m : Sat). m.1) t.at.2) in omega (arith, e)
+
+  takes_elsewhere : (q.id ≡ p.id → ⊥) → TakesFar two (far 1) p q → ⊥
+  takes_elsewhere n t = n t.at.1
+
+  knows_too_few : q.me.0.known ≡ record known { hots = [] } → TakesFar two (far 1) p q → ⊥
+  knows_too_few is t = eqb-false 0 2 refl (ap (λ (s : Shown). length s.hots)
+      (sym is ∙ ap (λ (m : Sat). m.0.known) t.at.2) ∙ t.sized.hots)
+
+  knows_another_first : q.me.0.known ≡ empty_shown 4 two → TakesFar two (far 1) p q → ⊥
+  knows_another_first is t = eqb-false 4 3 refl (ap (λ (s : Shown). s.first)
+      (sym is ∙ ap (λ (m : Sat). m.0.known) t.at.2) ∙ t.stood.sound.here.known.first)
+
+-- ---- and is given back, with the far state in its slot
+abbrev pub refusing : View
+refusing = beginner (far last) known
+
+abbrev pub gives_back : View → View
+gives_back v = gave_lock job.Evict (Some answer.Worn) (far last) 0 [] [] v
+
+abbrev Gives : Place → Place → Type 0
+Gives p q = GivesFar two job.Evict (Some answer.Worn) (far last) p q
+
+module _ (p q : Place) where
+  gives : p.me.0 ≡ refusing → IsAt p q (gives_back p.me.0) [] → Gives p q
+  gives before at = record {
+    entries = 0;
+    at = at;
+    written = subst (λ (v : View). Each (λ (e : Entry). e.handle < 2) (v.fresh ++ v.written))
+        (sym before) (lit< tt, tt);
+  }
+
+  gives_out_of_range : p.me.0.fresh ≡ [] → p.me.0.written ≡ entry 2 3 8 [] [] ∷ [] → Gives p q → ⊥
+  gives_out_of_range none is g =
+      let few : Each (λ (e : Entry). e.handle < 2) ([] ++ entry 2 3 8 [] [] ∷ []) =
+      subst (λ (es : List Entry). Each (λ (e : Entry). e.handle < 2) (es ++ entry 2 3 8 [] [] ∷ [])) none
+      (subst (λ (es : List Entry). Each (λ (e : Entry). e.handle < 2) (p.me.0.fresh ++ es)) is g.written) in
+      let below = few.0 in omega (arith, below)
+
+  gives_no_lock : q.me.0.holds ≡ true → Gives p q → ⊥
+  gives_no_lock is g = true≢false (sym is ∙ ap (λ (m : Sat). m.0.holds) g.at.2)
+
+  gives_no_slot : (x : ℕ × Slot) → q.me.1 ≡ x ∷ [] → Gives p q → ⊥
+  gives_no_slot x is g = eqb-false 1 0 refl (ap length (sym is ∙ ap (λ (m : Sat). m.1) g.at.2))
+
+  -- the turn does not stand in the record
+  gives_no_turn : q.me.0.turns ≡ [] → Gives p q → ⊥
+  gives_no_turn is g = let e : 0 ≡ suc (length p.me.0.turns) =
+      ap length (sym is ∙ ap (λ (m : Sat). m.0.turns) g.at.2) in omega (arith, e)
+
+  gives_elsewhere : (q.table_id ≡ p.table_id → ⊥) → Gives p q → ⊥
+  gives_elsewhere n g = n g.at.0
