@@ -54,6 +54,7 @@ pub mod Runs
 pub mod WorkedRuns
 pub mod WorkedCalled
 pub mod WorkedParts
+pub mod WorkedJobs
 pub mod WorkedDeclined
 pub mod WorkedLeaves
 pub mod TurnCallsKept
