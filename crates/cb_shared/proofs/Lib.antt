@@ -39,6 +39,8 @@ pub mod WorkedUnder
 pub mod WorkedSeat
 pub mod WorkedWork
 pub mod WorkedTurned
+pub mod WorkedBrought
 pub mod WorkedReads
 pub mod WorkedCalls
+pub mod WorkedTries
 pub mod Laws

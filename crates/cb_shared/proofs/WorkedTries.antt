@@ -1,0 +1,191 @@
+-- Worked tries of the calls: what meets each definition, and what breaks one of its parts alone.
+use Rattle.std.proofs.Common.{◌≡◌, ℕ, ◌^◌, ◌-◌, List, [], ◌∷◌, ◌++◌, length, length-append, None, Some, refl, ap, ◌∙◌, inl, inr, lit≤, lit<, arith}
+use Rattle.std.proofs.lemmas.Bool.{eqb-false}
+use Rattle.cb_types.specs.declared.job.Job.TheVariants as jobs
+use Rattle.cb_types.specs.declared.reply.Reply.TheVariants as answer
+use Rattle.cb_ptr.specs.Word.{len_of, pins_of, state_number, state_of}
+use Rattle.cb_rule.specs.declared.view.Look.{Look}
+use Rattle.cb_rule.specs.declared.view.View.{View}
+use Rattle.cb_rule.specs.Lists.{Each}
+use Rattle.cb_rule.specs.Steps.{IsNewest, look_at, with_look}
+use Rattle.cb_record.specs.Parts.{Part, grown, nothing_more, sum}
+use Rattle.cb_shared.specs.declared.answers.WriteAnswer.TheVariants as place
+use Rattle.cb_shared.specs.Calls.{AtNone, AtThis, IsCalled, IsNoReply, IsWornOut, ReadGives, ReadTries, Stops, TurnEnds, TurnTries, WriteEnds, WriteFinds, WriteTries, the_handle}
+use Rattle.cb_shared.specs.Reading.{looked, looked_freed, looked_twice}
+use Rattle.cb_shared.proofs.WorkedGround.{a_stand, away, calm, moving, newest_made, part, pinned, shared_part, two, whole, word_in}
+use Rattle.cb_shared.proofs.WorkedTurns.{adds_worn, worn_part}
+
+abbrev state_found : Part → ℕ
+state_found d = state_number (state_of (word_in d.looks))
+
+-- ---- a write of one byte in place, by its answer
+abbrev Finds : ℕ → View → Part → Type 0
+Finds at v d = WriteFinds 1 at (12 ∷ []) (place.Range 8) v d
+
+finds_freed : WriteFinds 1 1 (12 ∷ []) place.Freed part (looked_freed 1 3 0)
+finds_freed = (0, 3, refl, newest_made, refl)
+
+finds_freed_here : WriteFinds 1 1 (12 ∷ []) place.Freed part (looked_freed 1 3 calm) → ⊥
+finds_freed_here x = eqb-false 2 0 refl (ap state_found x.4 ∙ ap state_number x.2)
+
+finds_far : WriteFinds 1 1 (12 ∷ []) place.NotHere part (looked 1 away)
+finds_far = (away, refl, refl)
+
+finds_far_here : WriteFinds 1 1 (12 ∷ []) place.NotHere part (looked 1 calm) → ⊥
+finds_far_here x = eqb-false 2 1 refl (ap state_found x.2 ∙ ap state_number x.1)
+
+finds_moving : WriteFinds 1 1 (12 ∷ []) place.Moving part (looked 1 moving)
+finds_moving = (moving, refl, refl)
+
+finds_moving_far : WriteFinds 1 1 (12 ∷ []) place.Moving part (looked 1 away) → ⊥
+finds_moving_far x = eqb-false 1 3 refl (ap state_found x.2 ∙ ap state_number x.1)
+
+finds_its_end : Finds 8 part (looked 1 calm)
+finds_its_end = (calm, (refl, refl, lit< tt), refl)
+
+finds_its_end_early : Finds 7 part (looked 1 calm) → ⊥
+finds_its_end_early x = let past = x.1.2 in omega (arith, past)
+
+finds_a_pin : WriteFinds 1 1 (12 ∷ []) (place.Pinned 1) part (looked 1 pinned)
+finds_a_pin =
+    (pinned, ((refl, lit≤ tt), (refl, lit≤ tt, λ l. absurd (shared_part 1 l))), refl)
+
+finds_two_pins : WriteFinds 1 1 (12 ∷ []) (place.Pinned 2) part (looked 1 pinned) → ⊥
+finds_two_pins x =
+    eqb-false 1 2 refl (ap (λ (d : Part). pins_of (word_in d.looks)) x.2 ∙ x.1.1.0)
+
+-- with the whole share, a pin of another
+finds_another_pin : WriteFinds 1 1 (12 ∷ []) (place.Pinned 1) whole (looked 1 pinned) → ⊥
+finds_another_pin x = eqb-false 1 0 refl (x.1.1.2 (inl refl))
+
+newest_worn : IsNewest 1 (2 ^ 64 - 1) part
+newest_worn = record {
+  written = ((λ _. lit≤ tt), tt);
+  seen = tt;
+  lone = λ l. absurd (shared_part 1 l);
+}
+
+finds_it_worn : WriteFinds 1 1 (12 ∷ []) place.Worn part (looked_twice 1 calm calm)
+finds_it_worn = record {
+  word = calm;
+  room = (refl, lit≤ tt);
+  bare = refl;
+  newest = newest_worn;
+  part = refl;
+}
+
+-- but not for a pass with the whole share that wrote no such version, nor after one look, past the
+-- end, or under a pin
+worn_by_another : IsWornOut 1 1 1 whole (looked_twice 1 calm calm) → ⊥
+worn_by_another x = let some = x.newest.lone (inl refl) in omega (arith, some)
+
+worn_at_once : IsWornOut 1 1 1 part (looked 1 calm) → ⊥
+worn_at_once x = eqb-false 1 2 refl (ap (λ (d : Part). length d.looks) x.part)
+
+worn_past_the_end : IsWornOut 1 8 1 part (looked_twice 1 calm calm) → ⊥
+worn_past_the_end x = let room = x.room.1 in
+    let long : 8 ≡ len_of x.word = ap (λ (d : Part). len_of (word_in d.looks)) x.part in
+    omega (arith, room, long)
+
+worn_under_a_pin : IsWornOut 1 1 1 part (looked_twice 1 pinned pinned) → ⊥
+worn_under_a_pin x =
+    eqb-false 1 0 refl (ap (λ (d : Part). pins_of (word_in d.looks)) x.part ∙ x.bare)
+
+finds_a_race : WriteFinds 1 1 (12 ∷ []) (place.Raced calm pinned) part (looked_twice 1 calm pinned)
+finds_a_race = (eqb-false pinned calm refl, refl)
+
+finds_no_race : WriteFinds 1 1 (12 ∷ []) (place.Raced calm calm) part (looked_twice 1 calm calm) → ⊥
+finds_no_race x = x.0 refl
+
+-- ---- what is tried again, and what ends a write
+a_race_is_no_reply : IsNoReply (place.Raced calm pinned)
+a_race_is_no_reply = tt
+
+an_end_is_one : IsNoReply (place.Range 8) → ⊥
+an_end_is_one x = x
+
+ends_in_place : WriteEnds two 1 8 (12 ∷ []) (answer.Range 8) part (looked 1 calm)
+ends_in_place = inl (place.Range 8, refl, finds_its_end)
+
+ends_moving : (v : View) (d : Part) → TurnEnds two (jobs.Free (the_handle 1)) answer.Moving v d → ⊥
+ends_moving v d (inl x, adds) = x
+ends_moving v d (inr x, adds) = x
+
+a_swap_is_called : IsCalled (jobs.Swap (the_handle 1))
+a_swap_is_called = tt
+
+an_eviction_is_not : IsCalled jobs.Evict → ⊥
+an_eviction_is_not x = x
+
+-- ---- tries that came to nothing
+tried : Stops (AtThis 1) (jobs.Swap (the_handle 1)) part (with_look 1 moving part)
+tried = (
+  looked 1 moving,
+  record {
+    looks = look_at 1 moving ∷ [];
+    turns = [];
+    at = (refl, tt);
+    of = tt;
+    idle = tt;
+    part = refl;
+  },
+  refl,
+)
+
+tried_and_pinned : Stops (AtThis 1) (jobs.Swap (the_handle 1)) part (record part { pins = a_stand ∷ [] }) → ⊥
+tried_and_pinned (d, x, is) = eqb-false 1 0 refl (ap (λ (v : View). length v.pins) is)
+
+-- a make looks at no object
+no_look : (ls : List Look) → Each (λ (l : Look). ⊥) ls → length (ls ++ []) ≡ 0
+no_look [] each = refl
+no_look (l ∷ ls) each = absurd (each.0)
+
+made_and_looked : Stops AtNone (jobs.Make (10 ∷ [])) part (with_look 1 calm part) → ⊥
+made_and_looked (d, x, is) = eqb-false 1 0 refl (ap (λ (v : View). length v.looks) is
+    ∙ ap (λ (e : Part). length (e.looks ++ [])) x.part ∙ no_look x.looks x.at)
+
+-- ---- a read that found the object freed, at once; and one try of each call
+reads_freed : ReadGives two 1 answer.Freed part (grown (sum nothing_more (looked_freed 1 3 0)) part)
+reads_freed = (
+  sum nothing_more (looked_freed 1 3 0),
+  record {
+    before = nothing_more;
+    last = looked_freed 1 3 0;
+    in_vain = record { looks = []; turns = []; at = tt; of = tt; idle = tt; part = refl };
+    ends_so = (0, 3, refl, newest_made, refl);
+    part = refl;
+  },
+  refl,
+)
+
+reads_unread : ReadGives two 1 answer.Freed part (with_look 1 0 part) → ⊥
+reads_unread (d, x, is) =
+    let none : 0 ≡ length (d.seen ++ []) = ap (λ (v : View). length v.seen) is in
+    let seen : length d.seen ≡ length (x.last.seen ++ x.before.seen) = ap (λ (e : Part). length e.seen) x.part in
+    let one : length x.last.seen ≡ 1 = ap (λ (e : Part). length e.seen) x.ends_so.4 in
+    let all = length-append d.seen [] in
+    let both = length-append x.last.seen x.before.seen in
+    omega (arith, none, seen, one, all, both)
+
+tries_a_read : ReadTries two 1 (Some answer.Freed) part (grown (looked_freed 1 3 0) part)
+tries_a_read = (looked_freed 1 3 0, (0, 3, refl, newest_made, refl), refl)
+
+tries_a_read_in_vain : ReadTries two 1 None part (with_look 1 moving part)
+tries_a_read_in_vain = tried
+
+tries_a_write : WriteTries two 1 8 (12 ∷ []) (Some (answer.Range 8)) part (with_look 1 calm part)
+tries_a_write = (looked 1 calm, ends_in_place, refl)
+
+tries_no_write : WriteTries two 1 8 (12 ∷ []) None part (record part { pins = a_stand ∷ [] }) → ⊥
+tries_no_write (d, x, is) = eqb-false 1 0 refl (ap (λ (v : View). length v.pins) is)
+
+tries_a_make : TurnTries two (jobs.Make (10 ∷ [])) (Some answer.Worn) part
+    (grown (worn_part (jobs.Make (10 ∷ []))) part)
+tries_a_make = (
+  worn_part (jobs.Make (10 ∷ [])),
+  (inr tt, adds_worn (jobs.Make (10 ∷ [])) part refl refl),
+  refl,
+)
+
+tries_no_make : TurnTries two (jobs.Make (10 ∷ [])) None part (with_look 1 calm part) → ⊥
+tries_no_make = made_and_looked
