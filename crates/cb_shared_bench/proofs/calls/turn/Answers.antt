@@ -1,0 +1,11 @@
+use Rattle.cb_shared_bench.proofs.Known.{turn_keeps}
+use Rattle.cb_shared_bench.proofs.calls.turn.Goals as goal
+
+pub returns : goal.returns
+returns g c = record {
+  caller = record {
+    of = c.turn-reply.ensures.of;
+    knows = turn_keeps c.args.shared.now.config c.args.job.now c.turn-reply.result _ _
+        c.turn-reply.ensures.turn c.args.h.n c.requires.caller.knows;
+  };
+}

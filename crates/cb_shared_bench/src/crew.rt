@@ -1,0 +1,180 @@
+//! Threads that make the calls of a slice at once, each on an object of its own.
+ghost use Rattle.std.specs.Prelude.{◌<◌, All, IfSome};
+ghost use Rattle.cb_shared.specs.Passes.{IsPassOf};
+ghost use Rattle.cb_shared_bench.specs.Callers.{IsCaller};
+
+use crate::calls::time;
+use crate::deeds::Deed;
+use crate::objects::{begun, object};
+use cb_shared::{Pass, Shared};
+use cb_types::Handle;
+use std::alloc::Global;
+use std::sync::Wait;
+use std::thread;
+use std::thread::Threads;
+use std::time::Clock;
+
+/// What a thread is given.
+#[derive(Drop)]
+struct Part {
+    pass: Pass,
+    handle: Handle,
+    deed: Deed,
+    seed: u8,
+}
+
+/// A pass of a part of the share, which knows the object too.
+fn split(shared: &Shared, first: &mut Pass, h: Handle) -> Pass
+    requires caller { IsCaller shared.now h first.old }
+    requires share { 1 < first.old.seat.me.0.share }
+    ensures of { IsPassOf shared.now first.new }
+    ensures caller { IsCaller shared.now h result }
+{
+    let _h = h;
+    shared.split(first, 1)
+}
+
+/// What one thread is given.
+fn part_for<R: Wait>(
+    rt: &R,
+    alloc: Global,
+    shared: &Shared,
+    first: &mut Pass,
+    deed: Deed,
+    seed: u8,
+) -> Option<Part>
+    requires of { IsPassOf shared.now first.old }
+    ensures of { IsPassOf shared.now first.new }
+    ensures caller { IfSome result (λ x. IsCaller shared.now x.handle x.pass) }
+{
+    match object(rt, alloc, shared, first, deed) {
+        Some(handle) if first.share() > 1 => Some(Part {
+            pass: split(shared, first, handle),
+            handle,
+            deed,
+            seed,
+        }),
+        _ => None,
+    }
+}
+
+/// What one more thread is given; false where there is nothing to give.
+fn deal_one<R: Wait>(
+    rt: &R,
+    alloc: Global,
+    shared: &Shared,
+    first: &mut Pass,
+    deed: Deed,
+    seed: u8,
+    parts: &mut Vec<Part>,
+) -> bool
+    requires of { IsPassOf shared.now first.old }
+    requires callers { All (λ x. IsCaller shared.now x.handle x.pass) parts.old.items }
+    ensures of { IsPassOf shared.now first.new }
+    ensures callers { All (λ x. IsCaller shared.now x.handle x.pass) parts.new.items }
+{
+    match part_for(rt, alloc, shared, first, deed, seed) {
+        Some(part) => parts.push(part).is_ok(),
+        None => false,
+    }
+}
+
+/// What each thread is given.
+fn deal<R: Wait>(
+    rt: &R,
+    alloc: Global,
+    shared: &Shared,
+    first: &mut Pass,
+    deed: Deed,
+    threads: u32,
+) -> Option<Vec<Part>>
+    requires of { IsPassOf shared.now first.old }
+    ensures callers { IfSome result (λ v.
+        All (λ x. IsCaller shared.now x.handle x.pass) v.items) }
+{
+    let mut parts = Vec::new(alloc);
+    for thread in 0..threads {
+        if !deal_one(
+            rt,
+            alloc,
+            shared,
+            first,
+            deed,
+            1 + (thread % 16) as u8,
+            &mut parts,
+        ) {
+            return None;
+        }
+    }
+    Some(parts)
+}
+
+/// The calls of one thread.
+fn work<R: Clock + Wait>(rt: &R, alloc: Global, shared: &Shared, part: Part) -> Option<u64>
+    requires { IsCaller shared.now part.handle part.pass }
+{
+    let Part {
+        mut pass,
+        handle,
+        deed,
+        seed,
+    } = part;
+    time(rt, alloc, shared, &mut pass, handle, deed, seed)
+}
+
+/// The calls of each thread at once; their times.
+fn scatter<R: Clock + Threads + Wait + Sync>(
+    rt: &R,
+    alloc: Global,
+    shared: &Shared,
+    parts: Vec<Part>,
+) -> Option<Vec<Option<u64>>>
+    requires { All (λ x. IsCaller shared.now x.handle x.pass) parts.items }
+{
+    thread::map_vec(
+        rt,
+        parts,
+        &|part: Part| -> Option<u64>
+            requires { IsCaller shared.now part.handle part.pass }
+        { work(rt, alloc, shared, part) },
+    )
+    .ok()
+}
+
+/// The longest time.
+fn longest(times: &[Option<u64>]) -> Option<u64> {
+    let mut most = 0;
+    for time in times {
+        most = most.max((*time)?);
+    }
+    Some(most)
+}
+
+/// The time of the slowest thread.
+fn run<R: Clock + Threads + Wait + Sync>(
+    rt: &R,
+    alloc: Global,
+    shared: &Shared,
+    first: &mut Pass,
+    deed: Deed,
+    threads: u32,
+) -> Option<u64>
+    requires of { IsPassOf shared.now first.old }
+{
+    let parts = deal(rt, alloc, shared, first, deed, threads)?;
+    let times = scatter(rt, alloc, shared, parts)?;
+    longest(times.as_slice())
+}
+
+/// The time of the slowest thread of a slice in nanoseconds, in a runtime of its own.
+pub(crate) fn slice<R: Clock + Threads + Wait + Sync>(
+    rt: &R,
+    alloc: Global,
+    deed: Deed,
+    threads: u32,
+) -> Option<u64> {
+    match begun(alloc) {
+        Ok((shared, mut first)) => run(rt, alloc, &shared, &mut first, deed, threads),
+        Err(_) => None,
+    }
+}

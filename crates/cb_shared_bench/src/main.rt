@@ -1,0 +1,84 @@
+//! Times calls of the shared runtime for `bench/pins`. The words are what is timed (`pin`, `look`,
+//! `peek`, `write8`, `write1024`, `read`, `far`, `turn`, and `stepread` and `stepfar` for the same reads in a
+//! still world), how many threads make these calls, and how many slices are timed. It prints the
+//! least time of a call in picoseconds, over that many slices, or 0 where no slice is asked for.
+#![tactic(auto)]
+
+mod calls;
+mod crew;
+mod deeds;
+mod objects;
+mod replies;
+mod still;
+mod timing;
+
+use crate::deeds::{Deed, calls_of, deed_of};
+use std::alloc::Global;
+use std::process::ExitCode;
+use std::rt::Env;
+use std::sync::Wait;
+use std::thread::Threads;
+use std::time::Clock;
+use std::{env, io};
+
+/// The most threads.
+const MOST_THREADS: u32 = 16;
+
+/// The time of one slice in nanoseconds; None where a call was refused.
+fn slice<R: Clock + Threads + Wait + Sync>(
+    rt: &R,
+    alloc: Global,
+    deed: Deed,
+    threads: u32,
+) -> Option<u64> {
+    match deed {
+        Deed::StepRead => still::slice(rt, alloc, calls_of(deed), false),
+        Deed::StepFar => still::slice(rt, alloc, calls_of(deed), true),
+        _ => crew::slice(rt, alloc, deed, threads),
+    }
+}
+
+/// The least time of a call in picoseconds.
+fn least<R: Clock + Threads + Wait + Sync>(
+    rt: &R,
+    alloc: Global,
+    deed: Deed,
+    threads: u32,
+    slices: u32,
+) -> Option<u64> {
+    if slices == 0 {
+        return Some(0);
+    }
+    let mut least = u64::MAX;
+    for _ in 0..slices {
+        least = least.min(slice(rt, alloc, deed, threads)?);
+    }
+    Some(least.saturating_mul(1000) / u64::from(calls_of(deed).max(1)))
+}
+
+/// The word at a place of the command line, as a number.
+fn number_at<R: Env + AllocGlobal>(rt: &R, place: usize) -> io::Result<u32> {
+    match env::args(rt)?.nth(place) {
+        Some(word) => Ok(word.as_str().parse::<u32>().unwrap_or(0)),
+        None => Ok(0),
+    }
+}
+
+fn main(rt: HostRuntime) -> io::Result<ExitCode> {
+    let deed = match env::args(&rt)?.nth(1) {
+        Some(word) => deed_of(word.as_str()),
+        None => None,
+    };
+    let threads = number_at(&rt, 2)?.clamp(1, MOST_THREADS);
+    let slices = number_at(&rt, 3)?;
+    let Some(deed) = deed else {
+        return Ok(ExitCode::FAILURE);
+    };
+    match least(&rt, rt.alloc(), deed, threads, slices) {
+        Some(least) => {
+            println!(rt; "{least}")?;
+            Ok(ExitCode::SUCCESS)
+        }
+        None => Ok(ExitCode::FAILURE),
+    }
+}

@@ -1,0 +1,91 @@
+//! Runtimes, and objects that are made in them.
+ghost use Rattle.std.specs.Prelude.{◌≤◌, length, IfOk, IfSome};
+ghost use Rattle.cb_shared.specs.Passes.{IsPassOf};
+ghost use Rattle.cb_shared_bench.specs.Callers.{IsCaller, IsMade};
+
+use crate::deeds::Deed;
+use cb_shared::{Pass, Shared};
+use cb_types::{Config, Handle, NoMemory, Reply};
+use std::alloc::Global;
+use std::sync::Wait;
+
+/// One data position, so that one span leaves alone.
+pub(crate) const CONFIG: Config = Config {
+    k: 1,
+    r: 1,
+    nodes: 4,
+    frames: 64,
+    room: 64,
+    handles: 1024,
+    turns: 0,
+};
+
+/// The bytes of each object.
+pub(crate) const BYTES: usize = 1024;
+
+/// The words of each object.
+pub(crate) const WORDS: u32 = 128;
+
+/// How many objects are made before the one that is used, so that the words of those of different
+/// threads stand on different cache lines.
+const APART: u32 = 31;
+
+/// A runtime in which nothing was made, and its first pass.
+pub(crate) fn begun(alloc: Global) -> Result<(Shared, Pass), NoMemory>
+    ensures of { IfOk result (λ r. IsPassOf r.0 r.1) }
+{
+    let Ok(()) = CONFIG.check() else {
+        return Err(NoMemory);
+    };
+    Shared::new(alloc, CONFIG)
+}
+
+/// The handle that a reply tells of as made.
+fn made_in(reply: &Result<Reply, NoMemory>) -> Option<Handle>
+    ensures { IfSome result (IsMade reply.now) }
+{
+    match reply {
+        Ok(Reply::Made { handle, .. }) => Some(*handle),
+        _ => None,
+    }
+}
+
+/// Makes an object of these bytes.
+fn make<R: Wait>(
+    rt: &R,
+    alloc: Global,
+    shared: &Shared,
+    pass: &mut Pass,
+    bytes: &[u8],
+) -> Option<Handle>
+    requires of { IsPassOf shared.now pass.old }
+    requires size { (1 ≤ length bytes.now) × (length bytes.now ≤ 1024) }
+    ensures of { IsPassOf shared.now pass.new }
+    ensures caller { IfSome result (λ h. IsCaller shared.now h pass.new) }
+{
+    let reply = shared.make(rt, alloc, pass, bytes);
+    made_in(&reply)
+}
+
+/// Makes an object for a thread. One that is to leave is the only one.
+pub(crate) fn object<R: Wait>(
+    rt: &R,
+    alloc: Global,
+    shared: &Shared,
+    pass: &mut Pass,
+    deed: Deed,
+) -> Option<Handle>
+    requires of { IsPassOf shared.now pass.old }
+    ensures of { IsPassOf shared.now pass.new }
+    ensures caller { IfSome result (λ h. IsCaller shared.now h pass.new) }
+{
+    let bytes = [1u8; BYTES];
+    let apart = match deed {
+        Deed::ReadFar => 0,
+        _ => APART,
+    };
+    for _ in 0..apart {
+        make(rt, alloc, shared, pass, &bytes)?;
+    }
+    make(rt, alloc, shared, pass, &bytes)
+}

@@ -1,0 +1,16 @@
+//! Replies of turns and reads.
+ghost use Rattle.std.specs.Prelude.{◌≡◌, true, Ok};
+ghost use Rattle.cb_types.specs.declared.reply.Reply.{Reply};
+
+use cb_types::{NoMemory, Reply};
+
+/// Whether a reply is one that is waited for: an object was made or read, a set was put away, or no
+/// row was lost.
+pub(crate) fn is_right(reply: &Result<Reply, NoMemory>) -> bool
+    ensures { result ≡ true → (r : Reply) × (reply.now ≡ Ok r) }
+{
+    matches!(
+        reply,
+        Ok(Reply::Made { .. } | Reply::Bytes { .. } | Reply::Set { .. } | Reply::Whole { .. })
+    )
+}

@@ -1,0 +1,129 @@
+//! How a runtime is closed.
+ghost use Rattle.std.specs.Prelude.{◌≡◌, ◌<◌, length, IfOk};
+ghost use Rattle.cb_world.specs.World.{IsSoundWorld};
+ghost use Rattle.cb_shared.specs.Passes.{IsPassOf};
+
+use crate::notes::{FREED, Note, last, last_word};
+use crate::rounds::len_of;
+use crate::told::{Told, told_of};
+use cb_core::{Event, step};
+use cb_shared::{Pass, Shared};
+use cb_types::{Config, Handle, Job, NoMemory, Reply};
+use cb_world::World;
+use std::alloc::Global;
+use std::mem;
+
+/// What was done before a runtime is closed. Where nothing was noted, the world is not read.
+#[derive(Drop)]
+pub(crate) struct Ended {
+    pub(crate) is_right: bool,
+    pub(crate) objects: Vec<Handle>,
+    pub(crate) notes: Vec<Note>,
+}
+
+/// The reply to a read of an object in a world, after which more may be read.
+fn read_turn(alloc: Global, world: &mut World, h: Handle) -> Result<Reply, NoMemory>
+    requires sound { IsSoundWorld world.old }
+    requires handle { h.n < world.old.desk.settings.handles }
+    ensures sound { IsSoundWorld world.new }
+    ensures settings { IfOk result (λ _. world.new.desk.settings ≡ world.old.desk.settings) }
+{
+    let job = Job::Read { handle: h };
+    step(alloc, world, &Event::Turn { seat: 0, job })
+}
+
+/// The version of an object in a world.
+fn version_of(world: &World, h: Handle) -> u64
+    requires { h.n < world.now.desk.settings.handles }
+{
+    world.desk.tell(h)
+}
+
+/// What a read of an object is to tell by its last version.
+fn wanted(notes: &[Note], object: usize) -> Told {
+    match last_word(notes, object) {
+        Some(FREED) => Told::Freed,
+        Some(word) => Told::Bytes {
+            version: last(notes, object),
+            len: len_of(object),
+            word,
+        },
+        None => Told::Other,
+    }
+}
+
+/// Whether an object has its last version, and a read told it.
+fn is_wanted(notes: &[Note], object: usize, version: u64, told: Told) -> bool {
+    version == last(notes, object) && told == wanted(notes, object)
+}
+
+/// Whether the object with this number has its last version in a world.
+fn is_last(
+    alloc: Global,
+    world: &mut World,
+    config: Config,
+    ended: &Ended,
+    i: usize,
+) -> Result<bool, NoMemory>
+    requires sound { IsSoundWorld world.old }
+    requires settings { world.old.desk.settings ≡ config }
+    requires number { i < length ended.now.objects.items }
+    ensures sound { IsSoundWorld world.new }
+    ensures settings { IfOk result (λ _. world.new.desk.settings ≡ config) }
+{
+    let h = ended.objects[i];
+    if h.n >= config.handles {
+        return Ok(false);
+    }
+    let version = version_of(world, h);
+    let reply = read_turn(alloc, world, h)?;
+    Ok(is_wanted(ended.notes.as_slice(), i, version, told_of(&reply)))
+}
+
+/// Whether no answer was wrong, and each object that was noted has its last version in a world.
+fn are_last(
+    alloc: Global,
+    world: &mut World,
+    config: Config,
+    ended: &Ended,
+) -> Result<bool, NoMemory>
+    requires sound { IsSoundWorld world.old }
+    requires settings { world.old.desk.settings ≡ config }
+{
+    let mut all = ended.is_right;
+    for i in 0..ended.objects.len() {
+        all &= is_last(alloc, world, config, ended, i)?;
+    }
+    Ok(all)
+}
+
+/// The same of a world that is given up.
+fn is_world(alloc: Global, world: World, config: Config, ended: &Ended) -> Result<bool, NoMemory>
+    requires sound { IsSoundWorld world }
+    requires settings { world.desk.settings ≡ config }
+{
+    let mut world = world;
+    let is_right = are_last(alloc, &mut world, config, ended);
+    world.end();
+    is_right
+}
+
+/// Closes a runtime by its first pass; whether no answer was wrong, and the world has all that was
+/// written. A runtime that is not closed is left as it is.
+pub(crate) fn close(
+    alloc: Global,
+    shared: Shared,
+    first: Pass,
+    ended: &Ended,
+) -> Result<bool, NoMemory>
+    requires of { IsPassOf shared first }
+{
+    let config = shared.config();
+    match shared.close(alloc, first) {
+        Ok((world, _seal)) => is_world(alloc, world, config, ended),
+        Err(refused) => {
+            mem::forget(refused);
+            Ok(false)
+        }
+    }
+}
