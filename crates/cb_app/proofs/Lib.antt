@@ -5,3 +5,11 @@ pub mod WorkedCommands
 pub mod WorkedAnswered
 pub mod WorkedDraws
 pub mod WorkedSchedules
+pub mod WorkedThreaded
+mod Lanes
+mod ToldApart
+mod Records
+mod Crews
+mod WorkedLanes
+mod WorkedThreads
+mod WorkedRun

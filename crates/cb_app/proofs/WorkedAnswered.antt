@@ -25,12 +25,13 @@ use Rattle.cb_lanes.specs.LineStep.{LinesLead}
 use Rattle.cb_lanes.specs.Lost.{AreInOrder, losses_of}
 use Rattle.cb_world.specs.Seats.{pins_of_seat}
 use Rattle.cb_world.specs.World.{WorldState, IsSoundWorld, empty_world}
+use Rattle.cb_shared.specs.declared.seal.Seal.{Seal}
 use Rattle.cb_app.specs.declared.ending.Ending.{Ending}
 use Rattle.cb_cli.specs.Taken.{IsTaken}
 use Rattle.cb_cli.specs.Texts.{given_line}
 use Rattle.cb_cli.specs.declared.words.Asked.TheVariants.{Run}
 use Rattle.cb_cli.specs.declared.words.Command.{Command}
-use Rattle.cb_cli.specs.declared.words.Command.TheVariants.{Seq, Local, Check, Rma, Scrub}
+use Rattle.cb_cli.specs.declared.words.Command.TheVariants.{Seq, Threads, Local, Check, Rma, Scrub}
 use Rattle.cb_cli.proofs.Laws.{local_named, seq_named, no_word}
 use Rattle.cb_app.specs.Modes.{Yields}
 use Rattle.cb_app.specs.Outcome.{IsDone, TellsScript}
@@ -48,7 +49,7 @@ abbrev answers : List Answer
 answers = made ∷ answer 3 read_a (replies.Bytes 1 (10 ∷ 11 ∷ [])) ∷ []
 
 abbrev ending_of : WorldState → List Answer → Ending
-ending_of world list = record { config = Some small; answers = list; losses = []; world = Some world }
+ending_of world list = record { config = Some small; answers = list; losses = []; world = Some world; seal = None }
 
 legal : IsLegalInOrder 1 16 answers
 legal = legal_in_order 1 16 answers (
@@ -109,6 +110,7 @@ answered side world there = record {
   holds = there.holds;
   losses = refl;
   in_order = tt;
+  no_seal = refl;
   scopes = (tt, (tt, tt));
   idle = there.idle;
   calm = λ ease. (tt, (tt, tt));
@@ -125,8 +127,12 @@ no_turn_counted side world leads one =
     omega (arith, sym one ∙ ap (λ (w : WorldState). w.far.counts.turns) leads)
 
 no_config : (world : WorldState) → IsAnswered Nodes script
-    (record { config = None; answers = answers; losses = []; world = Some world }) → ⊥
+    (record { config = None; answers = answers; losses = []; world = Some world; seal = None }) → ⊥
 no_config world is = absurd (let e : None ≡ Some small = is.config in cc)
+
+-- a runtime was closed
+a_seal : (end : Ending) (seal : Seal) → end.seal ≡ Some seal → IsAnswered Nodes script end → ⊥
+a_seal end seal there is = absurd (let e : None ≡ Some seal = sym is.no_seal ∙ there in cc)
 
 a_line_left_out : (world : WorldState) → IsAnswered Nodes script (ending_of world (made ∷ [])) → ⊥
 a_line_left_out world is = absurd (omega (arith, ap (λ (lines : List Line). length lines) is.lines))
@@ -263,6 +269,8 @@ not_empty : (old : Ending) (world : WorldState) (command : Command) (bytes due :
     → due ≡ [] → ⊥
 not_empty old world Seq bytes due before is none =
     differ text [] (sym text_is ∙ sym is.3 ∙ none) refl
+not_empty old world Threads bytes due before is none =
+    absurd (let e : None ≡ Some is.2.told.seal = is.2.seal in cc)
 not_empty old world Local bytes due before is none =
     let told : text ++ given_line world.far.nodes.given ≡ [] =
     sym (ap (λ (t : List ℕ). t ++ given_line world.far.nodes.given) text_is) ∙ sym is.3 ∙ none in

@@ -1,16 +1,18 @@
 -- Worked examples: what `check` yields, what `seq` and `local` refuse, and runs.
-use Rattle.std.proofs.Common.{◌≡◌, ℕ, List, [], ◌∷◌, length, Some, None, Ok, Err, refl, sym, ap, ◌∙◌, arith, inl, inr, String, Global, true≢false}
+use Rattle.std.proofs.Common.{◌≡◌, ℕ, List, [], ◌∷◌, length, Some, None, Ok, Err, refl, sym, ap, ◌∙◌, subst, arith, inl, inr, String, Global, true≢false}
 use Rattle.std.specs.Prelude.{codes, string_bytes}
 use Rattle.std.specs.Fmt.{digits}
 use Rattle.cb_types.specs.Config.{IsAccepted}
 use Rattle.cb_types.specs.declared.answer.Answer.{Answer}
 use Rattle.cb_types.specs.declared.config.Config.{Config}
 use Rattle.cb_types.specs.declared.config.Field.TheVariants.{K, R, Nodes, Frames, Room, Handles, Turns}
-use Rattle.cb_types.specs.declared.request.Request.TheVariants.{Compact, Leave}
+use Rattle.cb_types.specs.declared.request.Request.TheVariants.{Begin, Compact, Leave}
 use Rattle.cb_script.specs.declared.fault.Reason.TheVariants.{Header}
 use Rattle.cb_script.specs.declared.script.Mode.TheVariants as modes
 use Rattle.cb_script.specs.declared.script.Script.{Script}
-use Rattle.cb_script.specs.Form.{Spells}
+use Rattle.cb_script.specs.Form.{AreInMode, FitsMode, Spells}
+use Rattle.cb_script.specs.Phrase.{Phrase, phrase_of}
+use Rattle.cb_script.specs.declared.script.Line.{Line}
 use Rattle.cb_script.specs.Spelling.{header_line}
 use Rattle.cb_script.proofs.PublicLaws.{empty_input, script_unique, differ}
 use Rattle.cb_cli.specs.Taken.{IsTaken}
@@ -18,7 +20,7 @@ use Rattle.cb_cli.specs.Texts.{check_text, fault_text}
 use Rattle.cb_cli.specs.declared.outcome.Due.TheVariants as dues
 use Rattle.cb_cli.specs.declared.outcome.Failure.TheVariants.{Read}
 use Rattle.cb_cli.specs.declared.words.Asked.TheVariants.{Run}
-use Rattle.cb_cli.specs.declared.words.Command.TheVariants.{Seq, Local, Check}
+use Rattle.cb_cli.specs.declared.words.Command.TheVariants.{Seq, Threads, Local, Check}
 use Rattle.cb_cli.proofs.Laws.{lane_line, seq_named, check_named, no_word}
 use Rattle.cb_cli.specs.declared.verdict.Verdict.TheVariants.{Done, Refused}
 use Rattle.cb_app.specs.declared.ending.Ending.{Ending}
@@ -26,6 +28,7 @@ use Rattle.cb_app.specs.Modes.{Yields, Refuses, Accepts, IsVerdict}
 use Rattle.cb_app.specs.Outcome.{IsDone, AreWordsRefused, IsScriptRefused, IsDecided, RoseOnRead, RoseOnWrite}
 use Rattle.cb_app.specs.Scripts.{IsChecked}
 use Rattle.cb_app.proofs.Modes.{not_both}
+use Rattle.cb_shared.specs.declared.seal.Seal.{Seal}
 use Rattle.cb_world.specs.World.{WorldState}
 
 -- ---- a script of two lines
@@ -70,19 +73,23 @@ unfolding digits
 text_of_it = refl
 
 abbrev ending : Ending
-ending = record { config = Some small; answers = []; losses = []; world = None }
+ending = record { config = Some small; answers = []; losses = []; world = None; seal = None }
 
 checked : IsChecked script ending
-checked = record { config = refl; no_answers = refl; no_losses = refl; no_world = refl }
+checked = record { config = refl; no_answers = refl; no_losses = refl; no_world = refl; no_seal = refl }
 
-no_config : IsChecked script (record { config = None; answers = []; losses = []; world = None }) → ⊥
+no_config : IsChecked script (record { config = None; answers = []; losses = []; world = None; seal = None }) → ⊥
 no_config is = absurd (let e : None ≡ Some small = is.config in cc)
 
-an_answer : (a : Answer) → IsChecked script (record { config = Some small; answers = a ∷ []; losses = []; world = None }) → ⊥
+an_answer : (a : Answer) → IsChecked script (record { config = Some small; answers = a ∷ []; losses = []; world = None; seal = None }) → ⊥
 an_answer a is = absurd (let e : a ∷ [] ≡ [] = is.no_answers in cc)
 
 a_loss : (end : Ending) → length end.losses ≡ 1 → IsChecked script end → ⊥
 a_loss end one is = omega (arith, sym one ∙ ap length is.no_losses)
+
+-- a seal is left
+a_seal : (end : Ending) → (s : Seal) → end.seal ≡ Some s → IsChecked script end → ⊥
+a_seal end s there is = absurd (let both : None ≡ Some s = sym is.no_seal ∙ there in cc)
 
 -- a world is left
 a_world : (end : Ending) → (w : WorldState) → end.world ≡ Some w → IsChecked script end → ⊥
@@ -104,6 +111,10 @@ header_counted old is =
 another_script : Spells input modes.Seq (record { config = small; lines = [] }) → ⊥
 another_script is = absurd (let e = is.text in cc)
 
+-- `threads` want a runtime closed
+nothing_closed : (old : Ending) (text : List ℕ) → Yields Threads input old ending text → ⊥
+nothing_closed old text is = absurd (let e : None ≡ Some is.2.told.seal = is.2.seal in cc)
+
 -- `seq` wants its lines answered
 nothing_answered : (old : Ending) (text : List ℕ) → Yields Seq input old ending text → ⊥
 nothing_answered old text is =
@@ -119,10 +130,68 @@ seq_accepts = (script, spelled)
 local_accepts : Accepts Local input
 local_accepts = (script, spelled)
 
+threads_accept : Accepts Threads input
+threads_accept = (
+  script,
+  record { short = spelled.short; form = spelled.form; allowed = (λ is. is, (λ is. is, tt)); text = spelled.text },
+)
+
+-- where steps stand, `seq` accepts and `threads` do not
+abbrev stepped : List ℕ
+stepped = codes "carbink 1 k=2 r=2 nodes=6 frames=8 room=64 handles=16 turns=0\n3 begin\n"
+
+abbrev step_script : Script
+step_script = record { config = small; lines = lane_line 3 2 Begin ∷ [] }
+
+step_spelled : Spells stepped modes.Seq step_script
+unfolding header_line digits
+step_spelled = record {
+  short = omega arith;
+  form = record {
+    config = accepted;
+    few = omega arith;
+    lines = (
+      record { lane = record { low = omega arith; first = λ e. absurd (omega (arith, e)) }; line = refl; request = tt; known = tt },
+      tt,
+    );
+  };
+  allowed = (tt, tt);
+  text = refl;
+}
+
+fits_seq : (p : Phrase) → FitsMode p modes.Seq
+fits_seq (Phrase.Making name hex) = tt
+fits_seq (Phrase.Writing name at hex) = tt
+fits_seq (Phrase.Naming verb name) = tt
+fits_seq (Phrase.Facing verb node) = tt
+fits_seq (Phrase.Alone verb) = tt
+
+any_in_seq : (lines : List Line) → AreInMode modes.Seq lines
+any_in_seq [] = tt
+any_in_seq (l ∷ lines) = (fits_seq (phrase_of l.request), any_in_seq lines)
+
+seq_accepts_steps : Accepts Seq stepped
+seq_accepts_steps = (step_script, step_spelled)
+
+threads_accept_no_steps : Accepts Threads stepped → ⊥
+threads_accept_no_steps is =
+    let by_seq : Spells stepped modes.Seq is.0 = record {
+      short = is.1.short;
+      form = is.1.form;
+      allowed = any_in_seq is.0.lines;
+      text = is.1.text;
+    } in
+    let same : is.0 ≡ step_script = script_unique stepped modes.Seq is.0 step_script by_seq step_spelled in
+    (subst (λ (s : Script). AreInMode modes.Threads s.lines) same is.1.allowed).0 tt
+
 -- an input without a header is refused at line 1
 seq_refuses : Refuses Seq [] (codes "script line 1 reason 2 header\n")
 unfolding digits
 seq_refuses = (1, Header, empty_input, refl)
+
+threads_refuse : Refuses Threads [] (codes "script line 1 reason 2 header\n")
+unfolding digits
+threads_refuse = (1, Header, empty_input, refl)
 
 local_refuses : Refuses Local [] (codes "script line 1 reason 2 header\n")
 local_refuses = seq_refuses
@@ -143,6 +212,12 @@ seq_refuses_not text is = not_both Seq input text seq_accepts is
 seq_accepts_not : Accepts Seq [] → ⊥
 seq_accepts_not is = not_both Seq [] (codes "script line 1 reason 2 header\n") is seq_refuses
 
+threads_refuse_not : (text : List ℕ) → Refuses Threads input text → ⊥
+threads_refuse_not text is = not_both Threads input text threads_accept is
+
+threads_accept_not : Accepts Threads [] → ⊥
+threads_accept_not is = not_both Threads [] (codes "script line 1 reason 2 header\n") is threads_refuse
+
 local_refuses_not : (text : List ℕ) → Refuses Local input text → ⊥
 local_refuses_not text is = not_both Local input text local_accepts is
 
@@ -160,7 +235,7 @@ seq_is_not_done : (old new : Ending) (text : List ℕ) → IsVerdict Seq [] old 
 seq_is_not_done old new text is = seq_accepts_not is.0
 
 ending_left : (text : List ℕ)
-    → IsVerdict Seq [] (record { config = None; answers = []; losses = []; world = None }) ending (Refused text) → ⊥
+    → IsVerdict Seq [] (record { config = None; answers = []; losses = []; world = None; seal = None }) ending (Refused text) → ⊥
 ending_left text is =
     absurd (let e : Some small ≡ None = ap (λ (end : Ending). end.config) is.1 in cc)
 

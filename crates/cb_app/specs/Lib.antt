@@ -1,3 +1,6 @@
+pub mod ByLane
+pub mod Crew
+pub mod Threaded
 pub mod Scripts
 pub mod Modes
 pub mod Outcome

@@ -7,7 +7,7 @@ use Rattle.cb_script.specs.First.{First}
 use Rattle.cb_script.specs.Form.{Spells}
 use Rattle.cb_cli.specs.Texts.{check_text}
 use Rattle.cb_cli.specs.declared.words.Command.{Command}
-use Rattle.cb_cli.specs.declared.words.Command.TheVariants.{Seq, Local, Check, Rma, Scrub}
+use Rattle.cb_cli.specs.declared.words.Command.TheVariants.{Seq, Threads, Local, Check, Rma, Scrub}
 use Rattle.cb_cli.specs.declared.verdict.Verdict.{Verdict}
 use Rattle.cb_cli.specs.declared.verdict.Verdict.TheVariants.{Done, Refused}
 use Rattle.cb_lanes.specs.declared.side.Side.{Side}
@@ -15,7 +15,9 @@ use Rattle.cb_lanes.specs.declared.side.Side.TheVariants.{Nodes, Compute}
 use Rattle.cb_rma_text.specs.Verdicts as schedules
 use Rattle.cb_scrub_text.specs.Verdicts as scrubs
 use Rattle.cb_app.specs.declared.ending.Ending.{Ending}
+use Rattle.cb_text.specs.Line.{text_of}
 use Rattle.cb_app.specs.Scripts.{IsAnswered, IsChecked, TellsFault, told_text}
+use Rattle.cb_app.specs.Threaded.{IsThreaded}
 
 -- the command that answers a script where this side makes the parities of a compaction
 abbrev pub command_of : Side → Command
@@ -32,6 +34,9 @@ YieldsAnswers side bytes new text =
 -- the ending and the text that a command yields for bytes
 abbrev pub Yields : Command → List ℕ → (old new : Ending) → List ℕ → Type 0
 Yields Seq bytes old new text = YieldsAnswers Nodes bytes new text
+Yields Threads bytes old new text =
+    (script : Script) × Spells bytes scripts.Threads script
+    × IsThreaded script new × (text ≡ text_of new.answers)
 Yields Local bytes old new text = YieldsAnswers Compute bytes new text
 Yields Check bytes old new text =
     (script : Script) × Spells bytes scripts.Seq script
@@ -42,15 +47,17 @@ Yields Scrub bytes old new text = scrubs.Yields bytes text × (new ≡ old)
 -- the command refuses the bytes, and this text tells where and why
 abbrev pub Refuses : Command → List ℕ → List ℕ → Type 0
 Refuses Seq bytes text = TellsFault (First bytes scripts.Seq) text
+Refuses Threads bytes text = TellsFault (First bytes scripts.Threads) text
 Refuses Local bytes text = TellsFault (First bytes scripts.Seq) text
 Refuses Check bytes text = TellsFault (First bytes scripts.Seq) text
 Refuses Rma bytes text = schedules.Refuses bytes text
 Refuses Scrub bytes text = scrubs.Refuses bytes text
 
--- the bytes have the form that the command wants: `seq`, `local` and `check` want a script, `rma` a
--- schedule, and `scrub` rows
+-- the bytes have the form that the command wants: `seq`, `local` and `check` want a script,
+-- `threads` one without steps, `rma` a schedule, and `scrub` rows
 abbrev pub Accepts : Command → List ℕ → Type 0
 Accepts Seq bytes = (script : Script) × Spells bytes scripts.Seq script
+Accepts Threads bytes = (script : Script) × Spells bytes scripts.Threads script
 Accepts Local bytes = (script : Script) × Spells bytes scripts.Seq script
 Accepts Check bytes = (script : Script) × Spells bytes scripts.Seq script
 Accepts Rma bytes = schedules.Accepts bytes

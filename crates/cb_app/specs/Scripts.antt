@@ -41,6 +41,8 @@ pub record IsAnswered (side : Side) (script : Script) (end : Ending) : Type 0 wh
   -- the crashes that took place, in the order of their epochs
   pub losses : end.losses ≡ losses_of end.answers
   pub in_order : AreInOrder end.losses
+  -- no runtime was closed
+  pub no_seal : end.seal ≡ None
   -- each answer is as its lane's pins say, and at the end no lane has one
   pub scopes : KeepScopes [] end.answers
   pub idle : (seat : ℕ) → pins_of_seat world.seats seat ≡ []
@@ -67,6 +69,7 @@ pub record IsChecked (script : Script) (end : Ending) : Type 0 where
   pub no_answers : end.answers ≡ []
   pub no_losses : end.losses ≡ []
   pub no_world : end.world ≡ None
+  pub no_seal : end.seal ≡ None
 
 -- The script that the plan draws was answered, no line of it with want of room, and this is the
 -- summary of its answers.

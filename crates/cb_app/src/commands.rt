@@ -1,24 +1,31 @@
 ghost use Rattle.std.specs.Prelude.{◌≡◌, ℕ, IfOk, OnErr};
 ghost use Rattle.cb_script.specs.declared.fault.Reason.{Reason};
-ghost use Rattle.cb_script.specs.Form.{IsScript};
+ghost use Rattle.cb_script.specs.declared.script.Mode.TheVariants as scripts;
+ghost use Rattle.cb_script.specs.Form.{AreInMode, IsScript};
 ghost use Rattle.cb_cli.specs.Texts.{fault_text, check_text};
 ghost use Rattle.cb_cli.specs.declared.words.Command.TheVariants as commands;
 ghost use Rattle.cb_types.specs.Table.{IsReplyOf};
 ghost use Rattle.std.specs.List.{AllByRecursion};
 ghost use Rattle.cb_app.specs.Modes.{IsVerdict, command_of};
 ghost use Rattle.cb_app.specs.Scripts.{IsAnswered, IsChecked, told_text};
+ghost use Rattle.cb_app.specs.Threaded.{IsThreaded};
+ghost use Rattle.cb_text.specs.Line.{text_of};
 
 use crate::ending::Ending;
+use crate::threads::run_threads;
 use cb_cli::{Command, Verdict, answers_text, script_fault_text, script_ok_text, with_given};
 use cb_lanes::{Side, run_lines};
 use cb_rma_text::rma_bytes;
 use cb_script::{Mode, Script, ScriptFault, read_script};
 use cb_scrub_text::scrub_bytes;
-use cb_types::{Bytes, NoMemory};
+use cb_types::{Bytes, NoMemory, OpenGate};
 use std::alloc::Global;
+use std::sync::Wait;
+use std::thread::Threads;
 
 /// What a command makes of bytes. The ending is set where they are done with, and else it stays.
-pub fn obey(
+pub fn obey<R: Threads + Wait + Sync>(
+    rt: &R,
     alloc: Global,
     command: Command,
     bytes: &[u8],
@@ -29,6 +36,7 @@ pub fn obey(
 {
     match command {
         Command::Seq => answer_bytes(alloc, Side::Nodes, bytes, end),
+        Command::Threads => thread_bytes(rt, alloc, bytes, end),
         Command::Local => answer_bytes(alloc, Side::Compute, bytes, end),
         Command::Check => check_bytes(alloc, bytes, end),
         Command::Rma => rma_bytes(alloc, bytes),
@@ -67,6 +75,21 @@ fn answer_script(
     ensures kept { OnErr result (end.new ≡ end.old) }
 {
     let ended = answer(alloc, side, script)?;
+    leave_ending(alloc, side, ended, end)
+}
+
+/// The text that tells an ending, which is put in the place of another. Each reply is one that its
+/// line may have.
+fn leave_ending(
+    alloc: Global,
+    side: Side,
+    ended: Ending,
+    end: &mut Ending,
+) -> Result<Bytes, NoMemory>
+    requires { AllByRecursion (λ a. IsReplyOf a.request a.reply) ended.answers }
+    ensures told { IfOk result (λ text. (end.new ≡ ended) × (text ≡ told_text side ended)) }
+    ensures kept { OnErr result (end.new ≡ end.old) }
+{
     let text = told_text(alloc, side, &ended)?;
     end.set(ended);
     Ok(text)
@@ -93,6 +116,41 @@ fn told_text(alloc: Global, side: Side, end: &Ending) -> Result<Bytes, NoMemory>
         Side::Nodes => Ok(text),
         Side::Compute => with_given(alloc, text, end.rows_given()),
     }
+}
+
+/// What `threads` makes of bytes.
+fn thread_bytes<R: Threads + Wait + Sync>(
+    rt: &R,
+    alloc: Global,
+    bytes: &[u8],
+    end: &mut Ending,
+) -> Result<Verdict, NoMemory>
+    ensures verdict { IfOk result (IsVerdict commands.Threads bytes.now end.old end.new) }
+    ensures kept { OnErr result (end.new ≡ end.old) }
+{
+    match read_script(alloc, bytes, Mode::Threads) {
+        Ok(script) => Ok(Verdict::Done(thread_script(rt, alloc, &script, end)?)),
+        Err(fault) => refusal(alloc, fault),
+    }
+}
+
+/// The text that tells the answers of threads to a script. The answers and what they led to are
+/// left in the ending.
+fn thread_script<R: Threads + Wait + Sync>(
+    rt: &R,
+    alloc: Global,
+    script: &Script,
+    end: &mut Ending,
+) -> Result<Bytes, NoMemory>
+    requires script { IsScript script.now }
+    requires mode { AreInMode scripts.Threads script.now.lines }
+    ensures answered { IfOk result (λ text. IsThreaded script.now end.new
+        × (text ≡ text_of end.new.answers)) }
+    ensures kept { OnErr result (end.new ≡ end.old) }
+{
+    let told = run_threads(rt, alloc, script, &OpenGate)?;
+    let ended = Ending::threaded(script.config, told);
+    leave_ending(alloc, Side::Nodes, ended, end)
 }
 
 /// What `check` makes of bytes.

@@ -1,7 +1,9 @@
 ghost use Rattle.std.specs.Prelude.{◌≡◌, [], None, Some};
 ghost use Rattle.cb_app.specs.Scripts.{rows_given};
 
+use crate::threads::ThreadsEnd;
 use cb_lanes::SeqEnd;
+use cb_shared::Seal;
 use cb_types::{Answers, Config, Losses};
 use cb_world::World;
 use std::alloc::Global;
@@ -17,28 +19,38 @@ pub struct Ending {
     pub losses: Losses,
     /// The world that the lines led to, where a script was answered.
     pub world: Option<World>,
+    /// The seal of the runtime that was closed, where threads answered a script.
+    pub seal: Option<Seal>,
 }
 
 impl Ending {
     /// The empty ending. Takes no memory.
     pub fn new(alloc: Global) -> Ending
-        ensures empty { result ≡ record { config = None; answers = []; losses = []; world = None } }
+        ensures empty { result ≡ record {
+          config = None;
+          answers = [];
+          losses = [];
+          world = None;
+          seal = None;
+        } }
     {
         Ending {
             config: None,
             answers: Answers::new(alloc),
             losses: Losses::from(Vec::new(alloc)),
             world: None,
+            seal: None,
         }
     }
 
-    /// The ending of a script of this configuration that was answered.
+    /// The ending of a script of this configuration that was answered on one thread.
     pub(crate) fn answered(config: Config, told: SeqEnd) -> Ending
         ensures { result ≡ record {
           config = Some config;
           answers = told.answers;
           losses = told.losses;
           world = Some told.world;
+          seal = None;
         } }
     {
         Ending {
@@ -46,18 +58,51 @@ impl Ending {
             answers: told.answers,
             losses: told.losses,
             world: Some(told.world),
+            seal: None,
+        }
+    }
+
+    /// The ending of a script of this configuration that threads answered.
+    pub(crate) fn threaded(config: Config, told: ThreadsEnd) -> Ending
+        ensures { result ≡ record {
+          config = Some config;
+          answers = told.answers;
+          losses = told.losses;
+          world = Some told.world;
+          seal = Some told.seal;
+        } }
+    {
+        let ThreadsEnd {
+            answers,
+            losses,
+            world,
+            seal,
+        } = told;
+        Ending {
+            config: Some(config),
+            answers,
+            losses,
+            world: Some(world),
+            seal: Some(seal),
         }
     }
 
     /// The ending of a script of this configuration that was checked. Takes no memory.
     pub(crate) fn checked(alloc: Global, config: Config) -> Ending
-        ensures { result ≡ record { config = Some config; answers = []; losses = []; world = None } }
+        ensures { result ≡ record {
+          config = Some config;
+          answers = [];
+          losses = [];
+          world = None;
+          seal = None;
+        } }
     {
         Ending {
             config: Some(config),
             answers: Answers::new(alloc),
             losses: Losses::from(Vec::new(alloc)),
             world: None,
+            seal: None,
         }
     }
 

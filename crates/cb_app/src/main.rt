@@ -2,10 +2,13 @@
 //! tell.
 #![tactic(auto)]
 
+mod by_lane;
 pub mod commands;
+pub mod crew;
 mod drawn;
 pub mod ending;
 pub mod run;
+pub mod threads;
 pub mod top;
 
 use cb_types::{StdSink, StdSource};

@@ -15,9 +15,12 @@ use crate::ending::Ending;
 use cb_cli::{Asked, Command, Due, Failure, Verdict, WORDS_REFUSED, asked_of, put_all, take_all};
 use cb_types::{Sink, Source};
 use std::alloc::Global;
+use std::sync::Wait;
+use std::thread::Threads;
 
-/// One run, but for the handle of the runtime.
-pub fn run<S: Source, K: Sink>(
+/// One run.
+pub fn run<R: Threads + Wait + Sync, S: Source, K: Sink>(
+    rt: &R,
     alloc: Global,
     words: &[String],
     source: &mut S,
@@ -42,7 +45,7 @@ pub fn run<S: Source, K: Sink>(
         × (result ≢ Err Failure.Read) }
 {
     match asked_of(alloc, words)? {
-        Some(Asked::Run(command)) => run_command(alloc, command, source, sink, end),
+        Some(Asked::Run(command)) => run_command(rt, alloc, command, source, sink, end),
         Some(Asked::Draw(plan)) => run_drawn(alloc, plan, sink, end),
         None => {
             put_all(sink, WORDS_REFUSED)?;
@@ -52,7 +55,8 @@ pub fn run<S: Source, K: Sink>(
 }
 
 /// One run of a command.
-fn run_command<S: Source, K: Sink>(
+fn run_command<R: Threads + Wait + Sync, S: Source, K: Sink>(
+    rt: &R,
     alloc: Global,
     command: Command,
     source: &mut S,
@@ -71,7 +75,7 @@ fn run_command<S: Source, K: Sink>(
         × (length bytes ≤ 1048577) }
     ensures decided { IsDecided command (S.left source.old) result }
 {
-    match judge(alloc, command, source, end)? {
+    match judge(rt, alloc, command, source, end)? {
         Verdict::Done(text) => {
             put_all(sink, text.as_slice())?;
             Ok(Due::Done)
@@ -84,7 +88,8 @@ fn run_command<S: Source, K: Sink>(
 }
 
 /// Takes the bytes of a source, and gives what the command makes of them.
-fn judge<S: Source>(
+fn judge<R: Threads + Wait + Sync, S: Source>(
+    rt: &R,
     alloc: Global,
     command: Command,
     source: &mut S,
@@ -101,5 +106,5 @@ fn judge<S: Source>(
         × (length bytes ≤ 1048577) }
 {
     let bytes = take_all(alloc, source)?;
-    Ok(obey(alloc, command, bytes.as_slice(), end)?)
+    Ok(obey(rt, alloc, command, bytes.as_slice(), end)?)
 }

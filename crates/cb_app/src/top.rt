@@ -23,7 +23,7 @@ use std::thread::Threads;
 /// what the run was beside its text, and answers the exit status: 0 done, 1 words refused, 2 script
 /// refused, 3 reading failed, 4 writing failed, 5 want of memory.
 pub fn carbink_run<R: Threads + Wait + Sync, S: Source, K: Sink>(
-    _rt: &R,
+    rt: &R,
     alloc: Global,
     words: &[String],
     src: &mut S,
@@ -34,10 +34,10 @@ pub fn carbink_run<R: Threads + Wait + Sync, S: Source, K: Sink>(
 
     // 0: the words name a command, and what is put is what it yields for the bytes taken. Of a
     // script `seq` puts the answers that the plain map gives; `local` too, where the compute side
-    // makes the parities of each compaction, and how many rows the nodes gave out; and `check` how
-    // many lines and lanes it has. Of a schedule `rma` puts what is said to each event. Or the
-    // words ask `gen` for a drawn script: its lines are answered as `seq` answers them, and what is
-    // put is the summary.
+    // makes the parities of each compaction, and how many rows the nodes gave out; `threads` the
+    // answers of calls on a runtime that was closed, lane by lane; and `check` how many lines and
+    // lanes it has. Of a schedule `rma` puts what is said to each event. Or the words ask `gen` for
+    // a drawn script: its lines are answered as `seq` answers them, and what is put is the summary.
     ensures done { result ≡ 0
         → TellsScript words.now (S.left src.old) (S.left src.new)
         (K.held out.old) (K.held out.new) end.old end.new
@@ -89,5 +89,5 @@ pub fn carbink_run<R: Threads + Wait + Sync, S: Source, K: Sink>(
     ensures draws { (plan : Plan) → AskFor words.now plan
         → (src.new ≡ src.old) × ((result ≡ 0) ⊎ (4 ≤ result)) }
 {
-    status(run(alloc, words, src, out, end))
+    status(run(rt, alloc, words, src, out, end))
 }

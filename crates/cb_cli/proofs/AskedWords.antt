@@ -31,7 +31,7 @@ use Rattle.cb_cli.specs.Words.Setting.{Seed, Lines, Lanes}
 use Rattle.cb_cli.specs.declared.words.Asked.{Asked}
 use Rattle.cb_cli.specs.declared.words.Asked.TheVariants.{Run, Draw}
 use Rattle.cb_cli.specs.declared.words.Command.{Command}
-use Rattle.cb_cli.specs.declared.words.Command.TheVariants.{Seq, Local, Check, Rma, Scrub}
+use Rattle.cb_cli.specs.declared.words.Command.TheVariants.{Seq, Threads, Local, Check, Rma, Scrub}
 use Rattle.cb_cli.specs.declared.words.Given.{Given as WordsGiven}
 use Rattle.cb_cli.specs.declared.words.Plan.{Plan}
 use Rattle.cb_cli.proofs.FlagWords.{IsPlain, dashes, plain_digits, plain_from}
@@ -201,6 +201,7 @@ texts_of = map string_bytes
 
 plain_command : (c : Command) → IsPlain (word_of c)
 plain_command Seq = plain_from 115 (codes "eq") refl
+plain_command Threads = plain_from 116 (codes "hreads") refl
 plain_command Local = plain_from 108 (codes "ocal") refl
 plain_command Check = plain_from 99 (codes "heck") refl
 plain_command Rma = plain_from 114 (codes "ma") refl

@@ -3,12 +3,12 @@ use Rattle.std.proofs.Common.{◌≡◌, ℕ, Bool, true, false, if◌then◌els
 use Rattle.std.specs.List.{list_any}
 use Rattle.std.specs.Str.{bytes_eq}
 use Rattle.cb_cli.specs.declared.words.Command.{Command}
-use Rattle.cb_cli.specs.declared.words.Command.TheVariants.{Seq, Local, Check, Rma, Scrub}
+use Rattle.cb_cli.specs.declared.words.Command.TheVariants.{Seq, Threads, Local, Check, Rma, Scrub}
 use Rattle.cb_cli.specs.Words.{word_of, Name}
 
 -- the commands
 abbrev commands : List Command
-commands = Seq ∷ Local ∷ Check ∷ Rma ∷ Scrub ∷ []
+commands = Seq ∷ Threads ∷ Local ∷ Check ∷ Rma ∷ Scrub ∷ []
 
 -- the command of a text among these, Seq where it is the word of none
 abbrev command_among : List Command → List ℕ → Command
@@ -23,6 +23,7 @@ is_word text = list_any (λ c. bytes_eq text (word_of c)) commands
 -- a command is that of its word
 back : (c : Command) → command_among commands (word_of c) ≡ c
 back Seq = refl
+back Threads = refl
 back Local = refl
 back Check = refl
 back Rma = refl
@@ -30,6 +31,7 @@ back Scrub = refl
 
 its_word : (c : Command) → is_word (word_of c) ≡ true
 its_word Seq = refl
+its_word Threads = refl
 its_word Local = refl
 its_word Check = refl
 its_word Rma = refl

@@ -9,7 +9,7 @@ use Rattle.clap.specs.Faults.{fault_of}
 use Rattle.clap.proofs.OnLiterals.{clap_on_literals}
 use Rattle.cb_cli.specs.Reader.{reader}
 use Rattle.cb_cli.specs.declared.words.Asked.TheVariants.{Run, Draw}
-use Rattle.cb_cli.specs.declared.words.Command.TheVariants.{Seq, Local, Check, Rma, Scrub}
+use Rattle.cb_cli.specs.declared.words.Command.TheVariants.{Seq, Threads, Local, Check, Rma, Scrub}
 use Rattle.cb_cli.specs.declared.words.Plan.{Plan}
 use Rattle.cb_cli.specs.Words.{word_of, AskFor, Name, NameNone, Setting, is_given, IsPlan, value_of}
 use Rattle.cb_cli.specs.Words.Part.{Word, Given}
@@ -20,6 +20,9 @@ use Rattle.cb_cli.proofs.CommandWords.{is_word as is_command_word, no_word_of}
 
 pub seq_named : (w : String Global) → string_bytes w ≡ codes "seq" → Name (w ∷ []) Seq
 seq_named w is = ap (λ (b : List ℕ). b ∷ []) is
+
+pub threads_named : (w : String Global) → string_bytes w ≡ codes "threads" → Name (w ∷ []) Threads
+threads_named w is = ap (λ (b : List ℕ). b ∷ []) is
 
 pub local_named : (w : String Global) → string_bytes w ≡ codes "local" → Name (w ∷ []) Local
 local_named w is = ap (λ (b : List ℕ). b ∷ []) is
@@ -53,8 +56,8 @@ another_word w text is other (Draw plan) asks = omega (arith, four_words (w ∷ 
 two_dashes : (w : String Global) → string_bytes w ≡ codes "--" → NameNone (w ∷ [])
 two_dashes w is = another_word w (codes "--") is refl
 
-not_yet_threads : (w : String Global) → string_bytes w ≡ codes "threads" → NameNone (w ∷ [])
-not_yet_threads w is = another_word w (codes "threads") is refl
+one_thread : (w : String Global) → string_bytes w ≡ codes "thread" → NameNone (w ∷ [])
+one_thread w is = another_word w (codes "thread") is refl
 
 gen_alone : (w : String Global) → string_bytes w ≡ codes "gen" → NameNone (w ∷ [])
 gen_alone w is = another_word w (codes "gen") is refl

@@ -5,12 +5,13 @@ use Rattle.std.specs.declared.alloc.Global.{Global}
 use Rattle.cb_cli.specs.declared.words.Asked.{Asked}
 use Rattle.cb_cli.specs.declared.words.Asked.TheVariants.{Run, Draw}
 use Rattle.cb_cli.specs.declared.words.Command.{Command}
-use Rattle.cb_cli.specs.declared.words.Command.TheVariants.{Seq, Local, Check, Rma, Scrub}
+use Rattle.cb_cli.specs.declared.words.Command.TheVariants.{Seq, Threads, Local, Check, Rma, Scrub}
 use Rattle.cb_cli.specs.declared.words.Plan.{Plan}
 
 -- the word of a command
 abbrev pub word_of : Command → List ℕ
 word_of Seq = codes "seq"
+word_of Threads = codes "threads"
 word_of Local = codes "local"
 word_of Check = codes "check"
 word_of Rma = codes "rma"

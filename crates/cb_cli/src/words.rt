@@ -26,6 +26,8 @@ const MOST_LANES: u32 = 15;
 pub enum Command {
     /// Answer the lines of a script, in order, on one thread.
     Seq,
+    /// Answer the lines of each lane in a thread of its own, beside the four workers.
+    Threads,
     /// Answer them, with parities made by the compute side where two sets become one, and tell how
     /// many rows the nodes gave out.
     Local,
@@ -217,6 +219,7 @@ fn named(word: &str) -> Option<Command>
 {
     match word {
         "seq" => Some(Command::Seq),
+        "threads" => Some(Command::Threads),
         "local" => Some(Command::Local),
         "check" => Some(Command::Check),
         "rma" => Some(Command::Rma),

@@ -18,6 +18,7 @@ returns c =
       holds = told.holds;
       losses = told.losses;
       in_order = told.in_order;
+      no_seal = refl;
       scopes = told.scopes;
       idle = told.idle;
       calm = told.calm;

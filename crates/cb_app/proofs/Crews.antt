@@ -1,0 +1,352 @@
+-- What lanes and workers leave, one after the other.
+use Rattle.std.proofs.Common.{◌≡◌, ℕ, suc, ◌+◌, ◌-◌, ◌<◌, ◌≤◌, List, [], ◌∷◌, ◌++◌, length, map, inl, inr, refl, sym, ap, ◌∙◌, subst, append_assoc, arith}
+use Rattle.std.specs.Prelude.{All, IfOk, nat_eq, slice_index_or}
+use Rattle.std.specs.List.{AllByRecursion}
+use Rattle.std.proofs.lemmas.Bool.{cases_Bool}
+use Rattle.std.proofs.lemmas.List.{append-nil, map-append}
+use Rattle.std.proofs.lemmas.List.Elements.{All-head, All-nil, All-push, All-tail}
+use Rattle.std.proofs.lemmas.Result.{IfOk-weaker}
+use Rattle.cb_types.specs.declared.answer.Answer.{Answer}
+use Rattle.cb_types.specs.declared.handle.Lane.{Lane as Lane'}
+use Rattle.cb_script.specs.declared.script.Line.{Line}
+use Rattle.cb_script.specs.Form.{AreLines}
+use Rattle.cb_rule.specs.declared.view.View.{View}
+use Rattle.cb_rule.specs.Steps.{joined, left_of, right_of}
+use Rattle.cb_record.specs.Backs.{Backs}
+use Rattle.cb_record.specs.Told.{Told, tolds}
+use Rattle.cb_record.proofs.Laws.{backs_sum, tolds-append}
+use Rattle.cb_shared.specs.declared.pass.Pass.{Pass}
+use Rattle.cb_shared.specs.declared.runtime.Shared.{Shared}
+use Rattle.cb_shared.specs.Joining.{unpinned_all}
+use Rattle.cb_shared.specs.Passes.{IsPassOf, record_of}
+use Rattle.cb_lanes.specs.declared.body.LaneEnd.{LaneEnd}
+use Rattle.cb_lanes.specs.declared.body.Named.{Named}
+use Rattle.cb_lanes.specs.Asked.{HasLineReply, asked}
+use Rattle.cb_lanes.specs.Bodies.{AreLinesOf, KnowsNames}
+use Rattle.cb_workers.specs.declared.worker.Worker.{Worker as Worker'}
+use Rattle.cb_app.specs.ByLane.{AreApart, IsApart, by_lane, flat, lanes_up_to, of_lane}
+use Rattle.cb_app.specs.Crew.{BodyIsReady, IsDealt, IsFresh, IsDealtOne, IsEnded, IsReady, IsTold, TakesIn, lines_due, lines_in, lines_left, part_of}
+use Rattle.cb_app.specs.declared.crew.Body.{Body}
+use Rattle.cb_app.specs.declared.crew.Body.TheVariants.{Lane, Worker}
+use Rattle.cb_app.specs.declared.crew.Ended.{Ended}
+use Rattle.cb_app.specs.declared.crew.Task.{Task}
+use Rattle.cb_app.proofs.Lanes.{apart-push, flat-push, lane_is_apart, no_lines_apart}
+use Rattle.cb_app.proofs.Records.{right_fresh, right_knows_names}
+use Rattle.cb_app.proofs.ToldApart.{tolds_apart}
+
+-- ---- what one thread left is taken in
+
+replies_both : (xs ys : List Answer) → AllByRecursion HasLineReply xs
+    → AllByRecursion HasLineReply ys → AllByRecursion HasLineReply (xs ++ ys)
+replies_both [] ys a b = b
+replies_both (x ∷ xs) ys a b = (a.0, replies_both xs ys a.1 b)
+
+-- the answers and the record of both
+pub taken_in : (s : Shared) (given others : List Answer) (lines : List Line) (a e b : LaneEnd)
+    → a.answers ≡ given ++ others
+    → IsTold s [] (map asked a.answers) a → IsTold s given lines e
+    → IsApart (map asked others) lines
+    → IsPassOf s b.pass
+    → record_of b.pass ≡ joined (record_of a.pass) (unpinned_all (record_of e.pass))
+    → b.answers ≡ a.answers ++ e.answers → TakesIn s given others lines b
+taken_in s given others lines a e b are told ended apart of pass answers =
+    let behind : tolds a.answers e.answers ≡ tolds given e.answers =
+    ap (λ (xs : List Answer). tolds xs e.answers) are
+    ∙ tolds_apart given others e.answers (subst (IsApart (map asked others)) (sym ended.lines_are) apart) in
+    let all : tolds [] a.answers ++ tolds given e.answers ≡ tolds [] b.answers =
+    ap (λ (ts : List Told). tolds [] a.answers ++ ts) (sym behind)
+    ∙ sym (tolds-append [] a.answers e.answers)
+    ∙ ap (λ (xs : List Answer). tolds [] xs) (sym answers) in
+    record {
+      more = e.answers;
+      answers = answers ∙ ap (λ (xs : List Answer). xs ++ e.answers) are ∙ append_assoc given others e.answers;
+      lines_are = ended.lines_are;
+      told = record {
+        of = of;
+        lines_are = refl;
+        replies = subst (AllByRecursion HasLineReply) (sym answers)
+            (replies_both a.answers e.answers told.replies ended.replies);
+        backs = subst (λ (v : View). Backs (part_of v) (tolds [] b.answers)) (sym pass)
+            (subst (Backs (part_of (joined (record_of a.pass) (unpinned_all (record_of e.pass))))) all
+            (backs_sum (part_of (record_of a.pass)) (part_of (record_of e.pass)) (tolds [] a.answers)
+            (tolds given e.answers) told.backs ended.backs));
+      };
+    }
+
+-- ---- one after the other
+
+-- some were taken in, and these are left
+pub record IsTaking (s : Shared) (given : List Answer) (all left : List Ended) (first : LaneEnd)
+    : Type 0 where
+  pub others : List Answer
+  pub answers : first.answers ≡ given ++ others
+  pub told : IsTold s [] (map asked first.answers) first
+  pub ended : All (IsEnded s given) left
+  pub apart : AreApart (map asked others) (map lines_left left)
+  pub lines : map asked others ++ flat (map lines_left left) ≡ flat (map lines_left all)
+
+pub taking_from : (s : Shared) (all : List Ended) (first : LaneEnd)
+    → IsTold s [] (map asked first.answers) first → All (IsEnded s first.answers) all
+    → AreApart [] (map lines_left all) → IsTaking s first.answers all all first
+taking_from s all first told ended apart = record {
+  others = [];
+  answers = sym (append-nil first.answers);
+  told = told;
+  ended = ended;
+  apart = apart;
+  lines = refl;
+}
+
+pub taking_more : (s : Shared) (given : List Answer) (all left : List Ended) (e : Ended) (later : List Ended)
+    (first next : LaneEnd) → (t : IsTaking s given all left first) → left ≡ e ∷ later
+    → TakesIn s given t.others e.lines next → All (IsEnded s given) later
+    → IsTaking s given all later next
+taking_more s given all left e later first next t is takes ended =
+    let both : map asked (t.others ++ takes.more) ≡ map asked t.others ++ e.lines =
+    map-append asked t.others takes.more ∙ ap (λ (ls : List Line). map asked t.others ++ ls) takes.lines_are in
+    let apart : AreApart (map asked t.others) (map lines_left (e ∷ later)) =
+    subst (λ (es : List Ended). AreApart (map asked t.others) (map lines_left es)) is t.apart in
+    record {
+      others = t.others ++ takes.more;
+      answers = takes.answers;
+      told = takes.told;
+      ended = ended;
+      apart = subst (λ (ls : List Line). AreApart ls (map lines_left later)) (sym both) apart.1;
+      lines = ap (λ (ls : List Line). ls ++ flat (map lines_left later)) both
+          ∙ append_assoc (map asked t.others) e.lines (flat (map lines_left later))
+          ∙ ap (λ (es : List Ended). map asked t.others ++ flat (map lines_left es)) (sym is) ∙ t.lines;
+    }
+
+pub taking_all : (s : Shared) (given : List Answer) (all left : List Ended) (first : LaneEnd)
+    → IsTaking s given all left first → left ≡ []
+    → IsTold s [] (map asked given ++ flat (map lines_left all)) first
+taking_all s given all left first t none =
+    let others : map asked t.others ≡ flat (map lines_left all) =
+    sym (append-nil (map asked t.others))
+    ∙ ap (λ (es : List Ended). map asked t.others ++ flat (map lines_left es)) (sym none) ∙ t.lines in
+    let lines : map asked first.answers ≡ map asked given ++ flat (map lines_left all) =
+    ap (map asked) t.answers ∙ map-append asked given t.others
+    ∙ ap (λ (ls : List Line). map asked given ++ ls) others in
+    subst (λ (ls : List Line). IsTold s [] ls first) lines t.told
+
+-- ---- tasks
+
+-- the lines of a lane have its number and their form
+pub of_lane_lines : (nodes n : ℕ) (before after : List Line) → AreLines nodes before after
+    → AreLinesOf nodes n (of_lane n after)
+of_lane_lines nodes n before [] are = tt
+of_lane_lines nodes n before (l ∷ after) are =
+    let later = of_lane_lines nodes n (before ++ l ∷ []) after are.1 in
+    elim (cases_Bool (nat_eq l.lane.n n)) [
+      | inl same ↦
+          let at : l.lane.n ≡ n = grind (arith, same) in
+          rw same ((at, are.0.request), later)
+      | inr other ↦ rw other later
+    ]
+
+pub dealt_none : (s : Shared) (lines : List Line) (p : Pass) → IsPassOf s p
+    → (record_of p).share ≡ 64 → IsDealt s lines 0 0 (record_of p) [] p
+dealt_none s lines p of whole = record {
+  of = of;
+  most = omega (arith, whole);
+  share = (record_of p).share;
+  own = (record_of p).own;
+  left = refl;
+  ready = λ names known are. All-nil (IsReady s names);
+  lines_are = refl;
+  apart = λ are. tt;
+}
+
+-- a lane without lines is passed over
+pub dealt_over : (s : Shared) (lines : List Line) (n m : ℕ) (v : View) (tasks : List Task) (p : Pass)
+    → IsDealt s lines n m v tasks p → of_lane (suc n) lines ≡ []
+    → IsDealt s lines (suc n) (suc m) v tasks p
+dealt_over s lines n m v tasks p d none = record {
+  of = d.of;
+  most = let most = d.most in omega (arith, most);
+  share = d.share;
+  own = d.own;
+  left = d.left;
+  ready = d.ready;
+  lines_are = d.lines_are ∙ sym (append-nil (lanes_up_to n lines))
+      ∙ ap (λ (ls : List Line). lanes_up_to n lines ++ ls) (sym none);
+  apart = d.apart;
+}
+
+-- the record of a pass that was split off one of which tasks were split off
+abbrev rest : View → ℕ → List ℕ → View
+rest v share own = record v { share = share; own = own }
+
+module _ (s : Shared) (lines : List Line) (n m : ℕ) (v : View) (tasks new : List Task) (p q : Pass)
+    (body : Body) (d : IsDealt s lines n m v tasks p)
+    (one : IsDealtOne s body (record_of p) tasks new) (of : IsPassOf s q)
+    (left : record_of q ≡ left_of 1 (record_of p)) (enough : 2 ≤ (record_of p).share) where
+  left_so : record_of q ≡ record v { share = (record_of p).share - 1; own = [] }
+  left_so = left ∙ (λ i. record (d.left i) { share = (record_of p).share - 1; own = [] })
+
+  right_so : record_of one.task.pass ≡ right_of 1 (rest v d.share d.own)
+  right_so = one.right ∙ ap (right_of 1) d.left
+
+  most_so : 64 ≤ (record_of q).share + suc m
+  most_so = let most = d.most in let e = ap (λ (w : View). w.share) left in omega (arith, most, e, enough)
+
+  task_ready : (names : List Named) → KnowsNames v names
+      → BodyIsReady s.config.nodes names (right_of 1 (rest v d.share d.own)) body
+      → IsReady s names one.task
+  task_ready names known ready = record {
+    of = one.of;
+    fresh = subst IsFresh (sym right_so) (right_fresh 1 (rest v d.share d.own));
+    body = subst (λ (w : View). BodyIsReady s.config.nodes names w one.task.body) (sym right_so)
+        (subst (BodyIsReady s.config.nodes names (right_of 1 (rest v d.share d.own))) (sym one.body_is) ready);
+  }
+
+  due_so : map lines_due new ≡ map lines_due tasks ++ lines_in body ∷ []
+  due_so = ap (map lines_due) one.tasks ∙ map-append lines_due tasks (one.task ∷ [])
+      ∙ ap (λ (b : Body). map lines_due tasks ++ lines_in b ∷ []) one.body_is
+
+  flat_so : flat (map lines_due new) ≡ lanes_up_to n lines ++ lines_in body
+  flat_so = ap flat due_so ∙ flat-push (map lines_due tasks) (lines_in body)
+      ∙ ap (λ (ls : List Line). ls ++ lines_in body) d.lines_are
+
+  apart_so : AreLines s.config.nodes [] lines → IsApart (lanes_up_to n lines) (lines_in body)
+      → AreApart [] (map lines_due new)
+  apart_so are is = subst (AreApart []) (sym due_so) (apart-push [] (map lines_due tasks) (lines_in body)
+      (d.apart are) (subst (λ (ls : List Line). IsApart ls (lines_in body)) (sym d.lines_are) is))
+
+  dealt_as : (k : ℕ) → lanes_up_to n lines ++ lines_in body ≡ lanes_up_to k lines
+      → ((names : List Named) → KnowsNames v names → AreLines s.config.nodes [] lines
+      → BodyIsReady s.config.nodes names (right_of 1 (rest v d.share d.own)) body)
+      → (AreLines s.config.nodes [] lines → IsApart (lanes_up_to n lines) (lines_in body))
+      → IsDealt s lines k (suc m) v new q
+  dealt_as k lanes ready apart = record {
+    of = of;
+    most = most_so;
+    share = (record_of p).share - 1;
+    own = [];
+    left = left_so;
+    ready = λ names known are. subst (All (IsReady s names)) (sym one.tasks)
+        (All-push (IsReady s names) tasks one.task (d.ready names known are)
+        (task_ready names known (ready names known are)));
+    lines_are = flat_so ∙ lanes;
+    apart = λ are. apart_so are (apart are);
+  }
+
+next : (n : ℕ) → n + 1 ≡ suc n
+next n = omega arith
+
+dealt_lane_so : (s : Shared) (lines : List Line) (n m : ℕ) (v : View) (tasks new : List Task)
+    (p q : Pass) (lane : Lane') (own : List Line) → IsDealt s lines n m v tasks p
+    → IsDealtOne s (Lane lane own) (record_of p) tasks new → IsPassOf s q
+    → record_of q ≡ left_of 1 (record_of p) → 2 ≤ (record_of p).share
+    → lane.n ≡ suc n → own ≡ of_lane (suc n) lines → IsDealt s lines (n + 1) (m + 1) v new q
+dealt_lane_so s lines n m v tasks new p q lane own d one of left enough at is =
+    subst (λ (k : ℕ). IsDealt s lines k (m + 1) v new q) (sym (next n))
+    (subst (λ (k : ℕ). IsDealt s lines (suc n) k v new q) (sym (next m))
+    (dealt_as s lines n m v tasks new p q (Lane lane own) d one of left enough (suc n)
+    (ap (λ (ls : List Line). lanes_up_to n lines ++ ls) is)
+    (λ names known are. (
+      subst (λ (k : ℕ). AreLinesOf s.config.nodes k own) (sym at)
+          (subst (AreLinesOf s.config.nodes (suc n)) (sym is) (of_lane_lines s.config.nodes (suc n) [] lines are)),
+      right_knows_names names 1 (rest v d.share d.own) known,
+    ))
+    (λ are. subst (IsApart (lanes_up_to n lines)) (sym is) (lane_is_apart s.config.nodes n lines are))))
+
+-- the task of the next lane
+pub dealt_lane : (s : Shared) (lines : List Line) (n m : ℕ) (v : View) (tasks new : List Task)
+    (p q : Pass) (lane : Lane') (own : List Line) → IsDealt s lines n m v tasks p
+    → IsDealtOne s (Lane lane own) (record_of p) tasks new → IsPassOf s q
+    → record_of q ≡ left_of 1 (record_of p) → 2 ≤ (record_of p).share
+    → lane.n ≡ n + 1 → own ≡ of_lane (n + 1) lines → IsDealt s lines (n + 1) (m + 1) v new q
+dealt_lane s lines n m v tasks new p q lane own d one of left enough at is =
+    dealt_lane_so s lines n m v tasks new p q lane own d one of left enough (at ∙ next n)
+    (is ∙ ap (λ (k : ℕ). of_lane k lines) (next n))
+
+-- the task of a worker
+pub dealt_worker : (s : Shared) (lines : List Line) (n m : ℕ) (v : View) (tasks new : List Task)
+    (p q : Pass) (worker : Worker') (turns : ℕ) → IsDealt s lines n m v tasks p
+    → IsDealtOne s (Worker worker turns) (record_of p) tasks new → IsPassOf s q
+    → record_of q ≡ left_of 1 (record_of p) → 2 ≤ (record_of p).share
+    → IsDealt s lines n (m + 1) v new q
+dealt_worker s lines n m v tasks new p q worker turns d one of left enough =
+    subst (λ (k : ℕ). IsDealt s lines n k v new q) (sym (next m))
+    (dealt_as s lines n m v tasks new p q (Worker worker turns) d one of left enough n
+    (append-nil (lanes_up_to n lines)) (λ names known are. tt)
+    (λ are. no_lines_apart (lanes_up_to n lines)))
+
+-- ---- all together
+
+-- of two lists of one length whose elements give the same, the maps are the same
+pub same_maps : {A B C : Type 0} (f : A → C) (g : B → C) (xs : List A) (ys : List B)
+    → length xs ≡ length ys
+    → ((i : ℕ) (d : A) (e : B) → i < length ys → f (slice_index_or xs i d) ≡ g (slice_index_or ys i e))
+    → map f xs ≡ map g ys
+same_maps f g [] [] len each = refl
+same_maps f g [] (y ∷ ys) len each = absurd (omega (arith, len))
+same_maps f g (x ∷ xs) [] len each = absurd (omega (arith, len))
+same_maps {C = C} f g (x ∷ xs) (y ∷ ys) len each =
+    ap (λ (c : C). c ∷ map f xs) (each 0 x y (omega arith))
+    ∙ ap (λ (cs : List C). g y ∷ cs) (same_maps f g xs ys (omega (arith, len))
+    (λ i d e l. each (suc i) d e (omega (arith, l))))
+
+-- the pass of which tasks were split off has all that it had
+pub told_left : (s : Shared) (given : List Answer) (lines : List Line) (a b : LaneEnd) (share : ℕ) (own : List ℕ)
+    → IsTold s given lines a → b.answers ≡ a.answers → IsPassOf s b.pass
+    → record_of b.pass ≡ record (record_of a.pass) { share = share; own = own }
+    → IsTold s given lines b
+told_left s given lines a b share own told same of left = record {
+  of = of;
+  lines_are = ap (map asked) same ∙ told.lines_are;
+  replies = subst (AllByRecursion HasLineReply) (sym same) told.replies;
+  backs = subst (λ (v : View). Backs (part_of v) (tolds given b.answers)) (sym left)
+      (subst (λ (xs : List Answer). Backs (part_of (record_of a.pass)) (tolds given xs)) (sym same) told.backs);
+}
+
+pub told_again : (s : Shared) (given : List Answer) (lines : List Line) (e : LaneEnd)
+    → IsTold s given lines e → IsTold s given (map asked e.answers) e
+told_again s given lines e told =
+    subst (λ (ls : List Line). IsTold s given ls e) (sym told.lines_are) told
+
+-- what is left of the tasks of all lanes and workers
+pub left_apart : (s : Shared) (lines : List Line) (v : View) (tasks : List Task) (p : Pass)
+    (ends : List Ended) → IsDealt s lines 15 19 v tasks p → AreLines s.config.nodes [] lines
+    → map lines_left ends ≡ map lines_due tasks → AreApart [] (map lines_left ends)
+left_apart s lines v tasks p ends dealt are same = subst (AreApart []) (sym same) (dealt.apart are)
+
+pub all_told : (s : Shared) (lines : List Line) (a b c : LaneEnd) (tasks : List Task)
+    (ends : List Ended) → IsTold s [] (of_lane 0 lines) a → b.answers ≡ a.answers
+    → IsDealt s lines 15 19 (record_of a.pass) tasks b.pass
+    → map lines_left ends ≡ map lines_due tasks
+    → IsTold s [] (map asked b.answers ++ flat (map lines_left ends)) c
+    → IsTold s [] (by_lane lines) c
+all_told s lines a b c tasks ends first same dealt lefts told =
+    let own : map asked b.answers ≡ of_lane 0 lines = ap (map asked) same ∙ first.lines_are in
+    let others : flat (map lines_left ends) ≡ lanes_up_to 15 lines = ap flat lefts ∙ dealt.lines_are in
+    let lines_are : map asked b.answers ++ flat (map lines_left ends) ≡ by_lane lines =
+    ap (λ (ls : List Line). ls ++ flat (map lines_left ends)) own
+    ∙ ap (λ (ls : List Line). of_lane 0 lines ++ ls) others in
+    subst (λ (ls : List Line). IsTold s [] ls c) lines_are told
+
+-- the first of those that are left, and the others
+pub first_ended : (s : Shared) (given : List Answer) (left : List Ended) (e : Ended)
+    (later : List Ended) → All (IsEnded s given) left → left ≡ e ∷ later → IsEnded s given e
+first_ended s given left e later all is =
+    All-head (IsEnded s given) e later (subst (All (IsEnded s given)) is all)
+
+pub others_ended : (s : Shared) (given : List Answer) (left : List Ended) (e : Ended)
+    (later : List Ended) → All (IsEnded s given) left → left ≡ e ∷ later
+    → All (IsEnded s given) later
+others_ended s given left e later all is =
+    All-tail (IsEnded s given) e later (subst (All (IsEnded s given)) is all)
+
+pub ended_pass : (s : Shared) (given : List Answer) (e : Ended) → IsEnded s given e
+    → IfOk e.left (λ end. IsPassOf s end.pass)
+ended_pass s given e ended =
+    IfOk-weaker e.left (IsTold s given e.lines) (λ end. IsPassOf s end.pass) (λ end told. told.of) ended
+
+pub first_apart : (s : Shared) (given : List Answer) (all left : List Ended) (e : Ended)
+    (later : List Ended) (first : LaneEnd) → (t : IsTaking s given all left first) → left ≡ e ∷ later
+    → IsApart (map asked t.others) e.lines
+first_apart s given all left e later first t is =
+    let apart : AreApart (map asked t.others) (map lines_left (e ∷ later)) =
+    subst (λ (es : List Ended). AreApart (map asked t.others) (map lines_left es)) is t.apart in
+    apart.0

@@ -1,0 +1,170 @@
+-- The lines of a lane, and that a name that one lane made and uses was made by no other.
+use Rattle.std.proofs.Common.{◌≡◌, ℕ, zero, suc, ◌+◌, ◌<◌, ◌≤◌, Bool, cond, List, [], ◌∷◌, ◌++◌, length, get_or, take, ◌⊎◌, inl, inr, true, sym, ap, ◌∙◌, subst, append_assoc, arith}
+use Rattle.std.specs.Prelude.{nat_eq}
+use Rattle.std.proofs.lemmas.Bool.{cases_Bool}
+use Rattle.std.proofs.lemmas.List.{append-nil}
+use Rattle.std.proofs.lemmas.List.Elements.{filter_more}
+use Rattle.cb_types.specs.declared.request.Request.{Request}
+use Rattle.cb_types.specs.declared.request.Request.TheVariants.{Make, Read, Write, Free, Pin, Peek, Unpin, Filter}
+use Rattle.cb_script.specs.declared.script.Line.{Line}
+use Rattle.cb_script.specs.Form.{AreLines, IsKnown, IsMade, IsNew, KnowsName, Makes, MayFollow}
+use Rattle.cb_script.proofs.PublicLaws.{made_cases}
+use Rattle.cb_app.specs.ByLane.{AreApart, IsApart, IsUsed, Uses, flat, lanes_up_to, of_lane}
+
+-- ---- lists of lines, one behind the other
+
+pub made_in_both : (xs ys : List Line) (lane : ℕ) (name : List ℕ) → IsMade (xs ++ ys) lane name
+    → IsMade xs lane name ⊎ IsMade ys lane name
+made_in_both [] ys lane name is = inr is
+made_in_both (x ∷ xs) ys lane name (inl here) = inl (inl here)
+made_in_both (x ∷ xs) ys lane name (inr later) =
+    elim (made_in_both xs ys lane name later) [ inl p ↦ inl (inr p) | inr q ↦ inr q ]
+
+made_in_front : (xs ys : List Line) (lane : ℕ) (name : List ℕ) → IsMade xs lane name
+    → IsMade (xs ++ ys) lane name
+made_in_front [] ys lane name is = absurd is
+made_in_front (x ∷ xs) ys lane name (inl here) = inl here
+made_in_front (x ∷ xs) ys lane name (inr later) = inr (made_in_front xs ys lane name later)
+
+-- ---- one lane
+
+-- one more line adds itself, where it is of the lane
+pub of_lane_more : (n : ℕ) (lines : List Line) (i : ℕ) (l d : Line) → i < length lines
+    → l ≡ get_or lines i d
+    → of_lane n (take (i + 1) lines)
+    ≡ of_lane n (take i lines) ++ cond (nat_eq l.lane.n n) (l ∷ []) []
+of_lane_more n lines i l d within is = filter_more (λ x. nat_eq x.lane.n n) lines i d within
+    ∙ ap (λ (b : Line). of_lane n (take i lines) ++ cond (nat_eq b.lane.n n) (b ∷ []) []) (sym is)
+
+one_lane : (lane : ℕ) (l : Line) → nat_eq l.lane.n lane ≡ true → l.lane.n ≡ lane
+one_lane lane l is = grind (arith, is)
+
+of_lane_made : (n : ℕ) (lines : List Line) (lane : ℕ) (name : List ℕ)
+    → IsMade (of_lane n lines) lane name → IsMade lines lane name × (lane ≡ n)
+of_lane_made n [] lane name is = absurd is
+of_lane_made n (l ∷ lines) lane name is = elim (cases_Bool (nat_eq l.lane.n n)) [
+  | inl same ↦
+      let is' : IsMade (l ∷ of_lane n lines) lane name =
+      subst (λ (b : Bool). IsMade (cond b (l ∷ of_lane n lines) (of_lane n lines)) lane name) same is in
+      elim is' [
+        | inl here ↦ (inl here, sym here.0 ∙ one_lane n l same)
+        | inr later ↦ let e = of_lane_made n lines lane name later in (inr e.0, e.1)
+      ]
+  | inr other ↦
+      let is' : IsMade (of_lane n lines) lane name =
+      subst (λ (b : Bool). IsMade (cond b (l ∷ of_lane n lines) (of_lane n lines)) lane name) other is in
+      let e = of_lane_made n lines lane name is' in (inr e.0, e.1)
+]
+
+lanes_made : (n : ℕ) (lines : List Line) (lane : ℕ) (name : List ℕ)
+    → IsMade (lanes_up_to n lines) lane name → IsMade lines lane name × (1 ≤ lane) × (lane ≤ n)
+lanes_made zero lines lane name is = absurd is
+lanes_made (suc n) lines lane name is =
+    elim (made_in_both (lanes_up_to n lines) (of_lane (suc n) lines) lane name is) [
+      | inl before ↦ let e = lanes_made n lines lane name before in (e.0, e.1, omega (arith, e.2))
+      | inr here ↦ let e = of_lane_made (suc n) lines lane name here in
+          (e.0, omega (arith, e.1), omega (arith, e.1))
+    ]
+
+-- ---- a name that a line uses is known to its lane
+
+uses_known : (before : List Line) (lane : ℕ) (r : Request) (name : List ℕ) → IsKnown before lane r
+    → Uses r name → KnowsName before lane name
+uses_known before lane (Make made bytes) name is uses = absurd uses
+uses_known before lane (Read q) name is uses = let e : q ≡ name = cc in subst (KnowsName before lane) e is
+uses_known before lane (Write q at bytes) name is uses = let e : q ≡ name = cc in subst (KnowsName before lane) e is
+uses_known before lane (Free q) name is uses = let e : q ≡ name = cc in subst (KnowsName before lane) e is
+uses_known before lane (Pin q) name is uses = let e : q ≡ name = cc in subst (KnowsName before lane) e is
+uses_known before lane (Peek q) name is uses = let e : q ≡ name = cc in subst (KnowsName before lane) e is
+uses_known before lane (Unpin q) name is uses = let e : q ≡ name = cc in subst (KnowsName before lane) e is
+uses_known before lane (Filter q) name is uses = let e : q ≡ name = cc in subst (KnowsName before lane) e is
+uses_known before lane _ name is uses = absurd cc
+
+known_in_front : (xs ys : List Line) (lane : ℕ) (name : List ℕ) → KnowsName xs lane name
+    → KnowsName (xs ++ ys) lane name
+known_in_front xs ys lane name (inl own) = inl (made_in_front xs ys lane name own)
+known_in_front xs ys lane name (inr shared) = inr (made_in_front xs ys 0 name shared)
+
+used_known : (nodes n : ℕ) (before after : List Line) (name : List ℕ) → AreLines nodes before after
+    → IsUsed (of_lane n after) name → KnowsName (before ++ after) n name
+used_known nodes n before [] name are used = absurd used
+used_known nodes n before (l ∷ after) name are used =
+    let later : IsUsed (of_lane n after) name → KnowsName (before ++ l ∷ after) n name =
+    λ q. subst (λ (xs : List Line). KnowsName xs n name) (append_assoc before (l ∷ []) after)
+    (used_known nodes n (before ++ l ∷ []) after name are.1 q) in
+    elim (cases_Bool (nat_eq l.lane.n n)) [
+      | inl same ↦
+          let used' : IsUsed (l ∷ of_lane n after) name =
+          subst (λ (b : Bool). IsUsed (cond b (l ∷ of_lane n after) (of_lane n after)) name) same used in
+          elim used' [
+            | inl here ↦ subst (λ (m : ℕ). KnowsName (before ++ l ∷ after) m name) (one_lane n l same)
+                (known_in_front before (l ∷ after) l.lane.n name (uses_known before l.lane.n l.request name are.0.known here))
+            | inr q ↦ later q
+          ]
+      | inr other ↦
+          later (subst (λ (b : Bool). IsUsed (cond b (l ∷ of_lane n after) (of_lane n after)) name) other used)
+    ]
+
+-- ---- a name has one maker
+
+abbrev HaveOneMaker : List Line → Type 0
+HaveOneMaker lines = (name : List ℕ) (m n : ℕ) → IsMade lines m name → IsMade lines n name → m ≡ n
+
+new_name : (before : List Line) (lane : ℕ) (r : Request) (name : List ℕ) → IsKnown before lane r
+    → Makes r name → IsNew before name
+new_name before lane (Make made bytes) name is makes = subst (IsNew before) makes is
+new_name before lane _ name is makes = absurd makes
+
+one_maker_more : (nodes : ℕ) (before : List Line) (l : Line) → HaveOneMaker before
+    → MayFollow nodes before l → HaveOneMaker (before ++ l ∷ [])
+one_maker_more nodes before l one follows name m n p q =
+    elim (made_cases before l m name p) [
+      | inl m_before ↦ elim (made_cases before l n name q) [
+        | inl n_before ↦ one name m n m_before n_before
+        | inr n_here ↦ absurd (new_name before l.lane.n l.request name follows.known n_here.1 m m_before)
+      ]
+      | inr m_here ↦ elim (made_cases before l n name q) [
+        | inl n_before ↦ absurd (new_name before l.lane.n l.request name follows.known m_here.1 n n_before)
+        | inr n_here ↦ sym m_here.0 ∙ n_here.0
+      ]
+    ]
+
+one_maker_behind : (nodes : ℕ) (before after : List Line) → AreLines nodes before after
+    → HaveOneMaker before → HaveOneMaker (before ++ after)
+one_maker_behind nodes before [] are one = subst HaveOneMaker (sym (append-nil before)) one
+one_maker_behind nodes before (l ∷ after) are one =
+    subst HaveOneMaker (append_assoc before (l ∷ []) after)
+    (one_maker_behind nodes (before ++ l ∷ []) after are.1 (one_maker_more nodes before l one are.0))
+
+one_maker : (nodes : ℕ) (lines : List Line) → AreLines nodes [] lines → HaveOneMaker lines
+one_maker nodes lines are = one_maker_behind nodes [] lines are (λ name m n p q. absurd p)
+
+-- ---- so the lines of a lane are about no name that a lane between 0 and this one made
+
+pub lane_is_apart : (nodes n : ℕ) (lines : List Line) → AreLines nodes [] lines
+    → IsApart (lanes_up_to n lines) (of_lane (suc n) lines)
+lane_is_apart nodes n lines are name used lane made =
+    let at = lanes_made n lines lane name made in
+    elim (used_known nodes (suc n) [] lines name are used) [
+      | inl own ↦ absurd (let e : lane ≡ suc n = one_maker nodes lines are name lane (suc n) at.0 own in omega (arith, e, at.2))
+      | inr shared ↦ absurd (let e : lane ≡ 0 = one_maker nodes lines are name lane 0 at.0 shared in omega (arith, e, at.1))
+    ]
+
+pub no_lines_apart : (before : List Line) → IsApart before []
+no_lines_apart before name used lane made = absurd used
+
+-- ---- one list of lines more
+
+pub flat-push : (lists : List (List Line)) (xs : List Line) → flat (lists ++ xs ∷ []) ≡ flat lists ++ xs
+flat-push [] xs = append-nil xs
+flat-push (ys ∷ lists) xs =
+    ap (λ (zs : List Line). ys ++ zs) (flat-push lists xs) ∙ sym (append_assoc ys (flat lists) xs)
+
+pub apart-push : (before : List Line) (lists : List (List Line)) (xs : List Line) → AreApart before lists
+    → IsApart (before ++ flat lists) xs → AreApart before (lists ++ xs ∷ [])
+apart-push before [] xs are is = (subst (λ (ls : List Line). IsApart ls xs) (append-nil before) is, tt)
+apart-push before (ys ∷ lists) xs are is = (
+  are.0,
+  apart-push (before ++ ys) lists xs are.1
+      (subst (λ (ls : List Line). IsApart ls xs) (sym (append_assoc before ys (flat lists))) is),
+)

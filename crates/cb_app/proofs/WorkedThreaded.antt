@@ -1,0 +1,253 @@
+-- Worked examples: what `threads` leaves and puts for a script of two lanes, and for each part what
+-- breaks it.
+use Rattle.std.proofs.Common.{◌≡◌, ℕ, List, [], ◌∷◌, length, map, Some, None, refl, sym, ap, ◌∙◌, subst, arith, inl, String, Global}
+use Rattle.std.specs.Prelude.{codes, string_bytes}
+use Rattle.std.specs.Fmt.{digits}
+use Rattle.std.proofs.lemmas.List.Sorted.{IsPermutation-refl, length_permutation}
+use Rattle.cb_member.specs.declared.names.Loss.{Loss}
+use Rattle.cb_types.specs.Config.{IsAccepted}
+use Rattle.cb_types.specs.declared.answer.Answer.{Answer}
+use Rattle.cb_types.specs.declared.config.Config.{Config}
+use Rattle.cb_types.specs.declared.config.Field.TheVariants.{K, R, Nodes, Frames, Room, Handles, Turns}
+use Rattle.cb_types.specs.declared.job.Job.TheVariants as job
+use Rattle.cb_types.specs.declared.reply.Reply.{Reply}
+use Rattle.cb_types.specs.declared.reply.Reply.TheVariants as replies
+use Rattle.cb_types.specs.declared.request.Request.{Request}
+use Rattle.cb_types.specs.declared.request.Request.TheVariants.{Evict, Leave}
+use Rattle.cb_script.specs.declared.script.Line.{Line}
+use Rattle.cb_script.specs.declared.script.Mode.TheVariants as modes
+use Rattle.cb_script.specs.declared.script.Script.{Script}
+use Rattle.cb_script.specs.Form.{Spells}
+use Rattle.cb_script.specs.Spelling.{header_line}
+use Rattle.cb_script.proofs.PublicLaws.{differ}
+use Rattle.cb_text.specs.Line.{text_of}
+use Rattle.cb_world.specs.World.{WorldState}
+use Rattle.cb_rule.specs.Closing.{IsClosed}
+use Rattle.cb_rule.specs.Steps.{opener}
+use Rattle.cb_rule.specs.declared.turn.Turn.{Turn}
+use Rattle.cb_rule.specs.declared.view.View.{View}
+use Rattle.cb_record.specs.Backs.{Backs}
+use Rattle.cb_record.specs.Lists.{IsAmong}
+use Rattle.cb_record.specs.Lists.IsAmong.{ended, both}
+use Rattle.cb_record.specs.Told.{tolds}
+use Rattle.cb_shared.specs.Sealing.{sealed, sealed_record, sealed_world}
+use Rattle.cb_shared.specs.Turning.{Did}
+use Rattle.cb_shared.specs.declared.seal.Seal.{Seal}
+use Rattle.cb_shared.specs.declared.seal.Sealed.{Sealed}
+use Rattle.cb_lanes.specs.Asked.{asked}
+use Rattle.cb_cli.specs.declared.words.Command.TheVariants.{Threads}
+use Rattle.cb_cli.proofs.Laws.{lane_line}
+use Rattle.cb_app.specs.Crew.{part_of}
+use Rattle.cb_app.specs.Modes.{Yields}
+use Rattle.cb_app.specs.Outcome.{IsDone}
+use Rattle.cb_app.specs.Threaded.{AreLosses, IsRun, IsThreaded}
+use Rattle.cb_app.specs.declared.ending.Ending.{Ending}
+use Rattle.cb_app.specs.declared.threads.ThreadsEnd.{ThreadsEnd}
+
+-- ---- a script of two lanes, the second one first
+
+abbrev small : Config
+small = record { k = 2; r = 2; nodes = 6; frames = 8; room = 64; handles = 16; turns = 0 }
+
+abbrev input : List ℕ
+input = codes "carbink 1 k=2 r=2 nodes=6 frames=8 room=64 handles=16 turns=0\n2 leave\n1 evict\n"
+
+abbrev script : Script
+script = record { config = small; lines = lane_line 2 2 Leave ∷ lane_line 1 3 Evict ∷ [] }
+
+accepted : IsAccepted small
+accepted K = (omega arith, omega arith)
+accepted R = (omega arith, omega arith)
+accepted Nodes = (omega arith, omega arith)
+accepted Frames = (omega arith, omega arith)
+accepted Room = (omega arith, omega arith)
+accepted Handles = (omega arith, omega arith)
+accepted Turns = omega arith
+
+spelled : Spells input modes.Threads script
+unfolding header_line digits
+spelled = record {
+  short = omega arith;
+  form = record {
+    config = accepted;
+    few = omega arith;
+    lines = (
+      record { lane = record { low = omega arith; first = λ e. absurd (omega (arith, e)) }; line = refl; request = tt; known = tt },
+      (record { lane = record { low = omega arith; first = λ e. absurd (omega (arith, e)) }; line = refl; request = tt; known = tt }, tt),
+    );
+  };
+  allowed = (λ is. is, (λ is. is, tt));
+  text = refl;
+}
+
+-- ---- the answers, by lane, and the record of their calls
+
+abbrev answer : ℕ → ℕ → Request → Reply → Answer
+answer lane line request reply = record { lane = record { n = lane }; line = line; request = request; reply = reply }
+
+abbrev evicted : Answer
+evicted = answer 1 3 Evict (replies.NoSpans 0)
+
+abbrev left : Answer
+left = answer 2 2 Leave (replies.Left 0)
+
+abbrev answers : List Answer
+answers = evicted ∷ left ∷ []
+
+abbrev view_of : List Turn → View
+view_of turns = record (opener small) { turns = turns }
+
+abbrev evicting : Turn → Turn
+evicting t = record t { job = job.Evict; reply = Some (replies.NoSpans 0) }
+
+abbrev told_of : WorldState → Seal → List Answer → List Loss → ThreadsEnd
+told_of world seal list losses = record { answers = list; losses = losses; world = world; seal = seal }
+
+abbrev ending_of : WorldState → Seal → List Answer → Ending
+ending_of world seal list = record {
+  config = Some small;
+  answers = list;
+  losses = [];
+  world = Some world;
+  seal = Some seal;
+}
+
+abbrev first_number : List Line → ℕ
+first_number [] = 0
+first_number (l ∷ lines) = l.line
+
+among_none : {A : Type 0} (xs : List A) → IsAmong xs [] → length xs ≡ 0
+among_none xs ended = refl
+
+-- the world is one that a pass with a turn of the eviction closed, and the seal shows both
+record IsLeft (t : Turn) (world : WorldState) (seal : Seal) : Type 0 where
+  under : seal.mark.view ≡ sealed world (view_of (evicting t ∷ []))
+  closed : IsClosed Did 1 small (view_of (evicting t ∷ [])) world
+
+module _ (t : Turn) (world : WorldState) (seal : Seal) where
+  backs : Backs (part_of (view_of (evicting t ∷ []))) (tolds [] answers)
+  backs = record {
+    wrote = ([], [], refl, refl, ([], [], refl, refl, refl));
+    tells = (tt, (tt, tt));
+    pins = omega arith;
+    turned = both _ _ _ ended;
+    happens = refl;
+  }
+
+  no_losses : AreLosses [] answers
+  no_losses = record {
+    are = IsPermutation-refl [];
+    in_order = λ i j d le low. absurd (omega (arith, low));
+  }
+
+  run : IsLeft t world seal → IsRun script (told_of world seal answers [])
+  run there =
+      let record_is : sealed_record seal ≡ view_of (evicting t ∷ []) =
+      ap (λ (x : Sealed). x.view) there.under in record {
+        lines = refl;
+        replies = (tt, (tt, tt));
+        seal = ap (λ (x : Sealed). x.world) there.under;
+        closed = subst (λ (v : View). IsClosed Did 1 small v world) (sym record_is) there.closed;
+        backs = subst (λ (v : View). Backs (part_of v) (tolds [] answers)) (sym record_is) backs;
+        losses = no_losses;
+      }
+
+  -- the answers stand in the order of the script, or one is left out
+  in_the_order_of_the_script : IsRun script (told_of world seal (left ∷ evicted ∷ []) []) → ⊥
+  in_the_order_of_the_script is =
+      let e : 2 ≡ 3 = ap first_number is.lines in omega (arith, e)
+
+  a_line_left_out : IsRun script (told_of world seal (evicted ∷ []) []) → ⊥
+  a_line_left_out is =
+      let e : 1 ≡ 2 = ap (λ (lines : List Line). length lines) is.lines in omega (arith, e)
+
+  -- an eviction is answered as a leave is
+  another_reply : IsRun script (told_of world seal (answer 1 3 Evict (replies.Left 0) ∷ left ∷ []) []) → ⊥
+  another_reply is = is.replies.0
+
+  -- the seal is that of another world
+  another_world : sealed_world seal ≡ world → (other : WorldState) → world.far.first ≡ 1
+      → other.far.first ≡ 2 → IsRun script (told_of other seal answers []) → ⊥
+  another_world under other first second is =
+      let e : 1 ≡ 2 = sym first ∙ ap (λ (w : WorldState). w.far.first) (sym under ∙ is.seal) ∙ second in
+      omega (arith, e)
+
+  -- the world has another configuration
+  another_configuration : world.desk.settings.handles ≡ 17
+      → IsRun script (told_of world seal answers []) → ⊥
+  another_configuration e is =
+      let n : 17 ≡ 16 = sym e ∙ ap (λ (c : Config). c.handles) is.closed.settings in omega (arith, n)
+
+  -- the eviction was no turn
+  no_turn : sealed_record seal ≡ view_of [] → IsRun script (told_of world seal answers []) → ⊥
+  no_turn e is =
+      let b = subst (λ (v : View). Backs (part_of v) (tolds [] answers)) e is.backs in
+      let n : 1 ≡ 0 = among_none _ b.turned in omega (arith, n)
+
+  -- a crash is told, and none took place
+  a_loss : (loss : Loss) → IsRun script (told_of world seal answers (loss ∷ [])) → ⊥
+  a_loss loss is =
+      let n : 1 ≡ 0 = length_permutation [] (loss ∷ []) is.losses.are in omega (arith, n)
+
+  -- ---- the ending
+
+  threaded : IsLeft t world seal → IsThreaded script (ending_of world seal answers)
+  threaded there = record {
+    told = told_of world seal answers [];
+    run = run there;
+    config = refl;
+    answers = refl;
+    losses = refl;
+    world = refl;
+    seal = refl;
+  }
+
+  no_config : IsThreaded script (record (ending_of world seal answers) { config = None }) → ⊥
+  no_config is = absurd (let e : None ≡ Some small = is.config in cc)
+
+  not_by_lane : IsThreaded script (ending_of world seal (left ∷ evicted ∷ [])) → ⊥
+  not_by_lane is =
+      let e : 2 ≡ 3 = ap first_number (ap (λ (list : List Answer). map asked list) is.answers ∙ is.run.lines) in
+      omega (arith, e)
+
+  a_loss_is_left : (loss : Loss)
+      → IsThreaded script (record (ending_of world seal answers) { losses = loss ∷ [] }) → ⊥
+  a_loss_is_left loss is =
+      let same = subst (λ (losses : List Loss). AreLosses losses is.told.answers) (sym is.losses) is.run.losses in
+      let there = subst (λ (list : List Answer). AreLosses (loss ∷ []) list) (sym is.answers) same in
+      let n : 1 ≡ 0 = length_permutation [] (loss ∷ []) there.are in omega (arith, n)
+
+  no_world : IsThreaded script (record (ending_of world seal answers) { world = None }) → ⊥
+  no_world is = absurd (let e : None ≡ Some is.told.world = is.world in cc)
+
+  no_seal : IsThreaded script (record (ending_of world seal answers) { seal = None }) → ⊥
+  no_seal is = absurd (let e : None ≡ Some is.told.seal = is.seal in cc)
+
+  -- ---- the text, and the run
+
+  abbrev text : List ℕ
+  text = codes "1 evict nospans 0\n2 leave left 0\n"
+
+  text_is : text_of answers ≡ text
+  unfolding digits
+  text_is = refl
+
+  yielded : (old : Ending) → IsLeft t world seal
+      → Yields Threads input old (ending_of world seal answers) text
+  yielded old there = (script, spelled, threaded there, sym text_is)
+
+  -- the lanes stand in the text as in the script
+  as_in_the_script : (old : Ending) → Yields Threads input old (ending_of world seal answers) (codes "2 leave left 0\n1 evict nospans 0\n")
+      → ⊥
+  as_in_the_script old is =
+      differ (codes "2 leave left 0\n1 evict nospans 0\n") text (is.3 ∙ text_is) refl
+
+  done : (w : String Global) (old : Ending) → IsLeft t world seal → string_bytes w ≡ codes "threads"
+      → IsDone (w ∷ []) (Some input) (Some []) old (ending_of world seal answers) text
+  done w old there is = record {
+    command = Threads;
+    words_are = ap (λ (b : List ℕ). b ∷ []) is;
+    bytes = input;
+    taken = record { front = refl; few = omega arith; whole = inl refl };
+    yields = yielded old there;
+  }

@@ -1,0 +1,281 @@
+-- Worked examples: what threads are given and what they leave.
+use Rattle.std.proofs.Common.{◌≡◌, ℕ, ◌+◌, List, [], ◌∷◌, ◌++◌, map, Some, Ok, Err, inl, inr, refl, sym, ap, ◌∙◌, subst, lit≤, arith}
+use Rattle.std.specs.Prelude.{slice_index_or}
+use Rattle.cb_member.specs.declared.no_memory.NoMemory.{NoMemory}
+use Rattle.cb_types.specs.declared.answer.Answer.{Answer}
+use Rattle.cb_types.specs.declared.config.Config.{Config}
+use Rattle.cb_types.specs.declared.reply.Reply.{Reply}
+use Rattle.cb_types.specs.declared.reply.Reply.TheVariants.{Made, Left, Freed}
+use Rattle.cb_types.specs.declared.request.Request.{Request}
+use Rattle.cb_types.specs.declared.request.Request.TheVariants.{Make, Leave, Read}
+use Rattle.cb_script.specs.declared.script.Line.{Line}
+use Rattle.cb_script.specs.Form.{AreLines}
+use Rattle.cb_world.specs.declared.entry.Entry.{Entry}
+use Rattle.cb_rule.specs.declared.turn.Turn.{Turn}
+use Rattle.cb_rule.specs.declared.view.Stand.{Stand}
+use Rattle.cb_rule.specs.declared.view.View.{View}
+use Rattle.cb_rule.specs.Steps.{opener, right_of}
+use Rattle.cb_record.specs.Backs.{Backs}
+use Rattle.cb_record.specs.Parts.{nothing_more}
+use Rattle.cb_record.specs.Told.{tolds}
+use Rattle.cb_shared.specs.declared.pass.Pass.{Pass}
+use Rattle.cb_shared.specs.declared.runtime.Shared.{Shared}
+use Rattle.cb_shared.specs.Passes.{IsPassOf, record_of}
+use Rattle.cb_lanes.specs.declared.body.LaneEnd.{LaneEnd}
+use Rattle.cb_lanes.specs.declared.body.Named.{Named}
+use Rattle.cb_lanes.specs.Asked.{asked}
+use Rattle.cb_workers.specs.declared.worker.Worker.{Worker as Worker'}
+use Rattle.cb_app.specs.Crew.{BodyIsReady, IsDealt, IsDealtOne, IsEnded, IsFresh, IsReady, IsTold, Runs, TakesIn, lines_in, part_of}
+use Rattle.cb_app.specs.declared.crew.Body.{Body}
+use Rattle.cb_app.specs.declared.crew.Body.TheVariants.{Lane, Worker}
+use Rattle.cb_app.specs.declared.crew.Task.{Task}
+use Rattle.cb_app.proofs.Crews.{dealt_none}
+use Rattle.cb_app.proofs.Records.{fresh_idle}
+
+abbrev a : List ℕ
+a = 97 ∷ []
+
+abbrev line : ℕ → Request → Line
+line lane request = record { lane = record { n = lane }; line = 2; request = request }
+
+abbrev lane : ℕ → Request → Body
+lane n request = Lane (record { n = n }) (line n request ∷ [])
+
+abbrev answer : ℕ → Request → Reply → Answer
+answer lane request reply = record { lane = record { n = lane }; line = 2; request = request; reply = reply }
+
+-- ---- the record of a new pass
+
+abbrev clear : View → View
+clear v = record v { pins = []; written = []; turns = [] }
+
+pub is_fresh : (v : View) → IsFresh (clear v)
+is_fresh v = record { pins = refl; written = refl; turns = refl }
+
+a_pin_is_not_fresh : (v : View) (p : Stand) → IsFresh (record (clear v) { pins = p ∷ [] }) → ⊥
+a_pin_is_not_fresh v p fresh = absurd (let e = fresh.pins in cc)
+
+an_entry_is_not_fresh : (v : View) (e : Entry) → IsFresh (record (clear v) { written = e ∷ [] }) → ⊥
+an_entry_is_not_fresh v e fresh = absurd (let e = fresh.written in cc)
+
+a_turn_is_not_fresh : (v : View) (t : Turn) → IsFresh (record (clear v) { turns = t ∷ [] }) → ⊥
+a_turn_is_not_fresh v t fresh = absurd (let e = fresh.turns in cc)
+
+-- ---- what the record of a new pass has
+
+nothing_yet : (c : Config) → part_of (opener c) ≡ nothing_more
+nothing_yet c = refl
+
+-- ---- lines of bodies
+
+lines_of_a_lane : lines_in (lane 2 Leave) ≡ line 2 Leave ∷ []
+lines_of_a_lane = refl
+
+a_worker_has_none : (w : Worker') → lines_in (Worker w 3) ≡ []
+a_worker_has_none w = refl
+
+-- ---- bodies
+
+abbrev none : List Named
+none = []
+
+abbrev named : List Named
+named = record { name = a; handle = Some (record { n = 3 }) } ∷ []
+
+worker_is_ready : (v : View) (w : Worker') → BodyIsReady 2 named v (Worker w 3)
+worker_is_ready v w = tt
+
+lane_is_ready : (v : View) → BodyIsReady 2 none v (lane 2 Leave)
+lane_is_ready v = (((refl, tt), tt), tt)
+
+a_line_of_another_lane : (v : View) → BodyIsReady 2 none v (Lane (record { n = 1 }) (line 2 Leave ∷ [])) → ⊥
+a_line_of_another_lane v ready = let e : 2 ≡ 1 = ready.0.0.0 in absurd (omega (arith, e))
+
+-- the record knows no handle of the name
+an_unknown_name : (v : View) → BodyIsReady 2 named (record (clear v) { seen = [] }) (lane 2 Leave) → ⊥
+an_unknown_name v ready = elim ready.1.0 [ inl written ↦ written.1 | inr seen ↦ seen.1 ]
+
+ends_in_one : (rest : List Entry) (e : Entry) → [] ≡ rest ++ e ∷ [] → ⊥
+ends_in_one [] e is = absurd cc
+ends_in_one (x ∷ rest) e is = absurd cc
+
+-- ---- with a runtime and a pass that has done nothing yet
+
+module _ (s : Shared) (p : Pass) (of : IsPassOf s p) (fresh : IsFresh (record_of p)) where
+  abbrev task : Body → Task
+  task body = record { body = body; pass = p }
+
+  is_ready : (w : Worker') → IsReady s none (task (Worker w 3))
+  is_ready w = record { of = of; fresh = fresh; body = tt }
+
+  another_runtime : (w : Worker') (q : Pass) → (IsPassOf s q → ⊥)
+      → IsReady s none (record { body = Worker w 3; pass = q }) → ⊥
+  another_runtime w q not ready = not ready.of
+
+  a_used_pass : (w : Worker') (q : Pass) → (IsFresh (record_of q) → ⊥)
+      → IsReady s none (record { body = Worker w 3; pass = q }) → ⊥
+  a_used_pass w q not ready = not ready.fresh
+
+  another_lane_is_not_ready : IsReady s none (task (Lane (record { n = 1 }) (line 2 Leave ∷ []))) → ⊥
+  another_lane_is_not_ready ready = let e : 2 ≡ 1 = ready.body.0.0.0 in absurd (omega (arith, e))
+
+  -- ---- what a thread leaves
+
+  abbrev end : List Answer → LaneEnd
+  end answers = record { answers = answers; pass = p }
+
+  idle : Backs (part_of (record_of p)) []
+  idle = fresh_idle (record_of p) fresh
+
+  -- a line that needs nothing of the record
+  left_backed : Backs (part_of (record_of p)) (tolds [] (answer 2 Leave (Left 0) ∷ []))
+  left_backed = record {
+    wrote = ([], [], fresh.written, refl, refl);
+    tells = (tt, tt);
+    pins = idle.pins;
+    turned = idle.turned;
+    happens = idle.happens;
+  }
+
+  is_told : IsTold s [] (line 2 Leave ∷ []) (end (answer 2 Leave (Left 0) ∷ []))
+  is_told = record { of = of; lines_are = refl; replies = (tt, tt); backs = left_backed }
+
+  by_another_pass : (q : Pass) → (IsPassOf s q → ⊥) → IsTold s [] [] (record { answers = []; pass = q }) → ⊥
+  by_another_pass q not told = not told.of
+
+  told_no_line : IsTold s [] [] (end (answer 2 Leave (Left 0) ∷ [])) → ⊥
+  told_no_line told = absurd (let e = told.lines_are in cc)
+
+  told_another_lane : IsTold s [] (line 1 Leave ∷ []) (end (answer 2 Leave (Left 0) ∷ [])) → ⊥
+  told_another_lane told =
+      let e : 2 ≡ 1 = ap (λ (ls : List Line). (slice_index_or ls 0 (line 1 Leave)).lane.n) told.lines_are in
+      absurd (omega (arith, e))
+
+  -- the record backs it as well, but no leave has this reply
+  freed_backed : Backs (part_of (record_of p)) (tolds [] (answer 2 Leave Freed ∷ []))
+  freed_backed = record {
+    wrote = ([], [], fresh.written, refl, refl);
+    tells = (tt, tt);
+    pins = idle.pins;
+    turned = idle.turned;
+    happens = idle.happens;
+  }
+
+  no_reply_of_the_line : IsTold s [] (line 2 Leave ∷ []) (end (answer 2 Leave Freed ∷ [])) → ⊥
+  no_reply_of_the_line told = told.replies.0
+
+  -- who was told of a made object wrote it
+  not_in_the_record : IsTold s [] (line 2 (Make a (1 ∷ [])) ∷ [])
+      (end (answer 2 (Make a (1 ∷ [])) (Made (record { n = 0 }) 1) ∷ [])) → ⊥
+  not_in_the_record told =
+      let wrote = told.backs.wrote in
+      ends_in_one wrote.1 _ (sym fresh.written ∙ wrote.2 ∙ ap (λ (es : List Entry). wrote.1 ++ es) wrote.3.2)
+
+  -- ---- how a thread ends
+
+  none_told : (given : List Answer) → IsTold s given [] (end [])
+  none_told given = record { of = of; lines_are = refl; replies = tt; backs = idle }
+
+  without_memory : (want : NoMemory) → IsEnded s [] (record { lines = line 2 Leave ∷ []; left = Err want })
+  without_memory want = tt
+
+  with_answers : IsEnded s [] (record { lines = line 2 Leave ∷ []; left = Ok (end (answer 2 Leave (Left 0) ∷ [])) })
+  with_answers = is_told
+
+  with_none : IsEnded s [] (record { lines = line 2 Leave ∷ []; left = Ok (end []) }) → ⊥
+  with_none ended = absurd (let e = ended.lines_are in cc)
+
+  runs : (w : Worker') → Runs s none (task (Worker w 3)) (record { lines = []; left = Ok (end []) })
+  runs w = (refl, λ given named. none_told given)
+
+  lost_its_lines : Runs s none (task (lane 2 Leave)) (record { lines = []; left = Ok (end []) }) → ⊥
+  lost_its_lines r = absurd (let e = r.0 in cc)
+
+  did_not_answer : Runs s none (task (lane 2 Leave)) (record { lines = line 2 Leave ∷ []; left = Ok (end []) }) → ⊥
+  did_not_answer r = with_none (r.1 [] (λ name. refl))
+
+  -- ---- one task more
+
+  dealt_one : (v : View) (old : List Task) (body : Body) → record_of p ≡ right_of 1 v
+      → IsDealtOne s body v old (old ++ task body ∷ [])
+  dealt_one v old body right = record { task = task body; tasks = refl; body_is = refl; of = of; right = right }
+
+  no_task_more : (v : View) (body : Body) → IsDealtOne s body v [] [] → ⊥
+  no_task_more v body one = absurd (let e = one.tasks in cc)
+
+  the_task : (v : View) (body : Body) (t : Task) → (one : IsDealtOne s body v [] (t ∷ [])) → t ≡ one.task
+  the_task v body t one = ap (λ (ts : List Task). slice_index_or ts 0 t) one.tasks
+
+  with_another_body : (v : View) (w : Worker') → IsDealtOne s (lane 2 Leave) v [] (task (Worker w 3) ∷ []) → ⊥
+  with_another_body v w one =
+      let e : Worker w 3 ≡ lane 2 Leave =
+      ap (λ (t : Task). t.body) (the_task v (lane 2 Leave) (task (Worker w 3)) one) ∙ one.body_is in
+      absurd cc
+
+  of_another_runtime : (v : View) (body : Body) (q : Pass) → (IsPassOf s q → ⊥)
+      → IsDealtOne s body v [] (record { body = body; pass = q } ∷ []) → ⊥
+  of_another_runtime v body q not one = not (subst (λ (t : Task). IsPassOf s t.pass)
+      (sym (the_task v body (record { body = body; pass = q }) one)) one.of)
+
+  split_off_another : (v : View) (body : Body) → (record_of p ≡ right_of 1 v → ⊥)
+      → IsDealtOne s body v [] (task body ∷ []) → ⊥
+  split_off_another v body not one =
+      not (ap (λ (t : Task). record_of t.pass) (the_task v body (task body) one) ∙ one.right)
+
+  -- ---- all tasks
+
+  is_dealt : (lines : List Line) → (record_of p).share ≡ 64 → IsDealt s lines 0 0 (record_of p) [] p
+  is_dealt lines whole = dealt_none s lines p of whole
+
+  by_a_pass_of_another : (lines : List Line) (q : Pass) → (IsPassOf s q → ⊥)
+      → IsDealt s lines 0 0 (record_of q) [] q → ⊥
+  by_a_pass_of_another lines q not dealt = not dealt.of
+
+  too_much_split_off : (lines : List Line) → (record_of p).share ≡ 63
+      → IsDealt s lines 0 0 (record_of p) [] p → ⊥
+  too_much_split_off lines share dealt = let most = dealt.most in absurd (omega (arith, most, share))
+
+  another_record : (lines : List Line) (ever : ℕ) → (record_of p).ever ≡ ever + 1
+      → IsDealt s lines 0 0 (record (record_of p) { ever = ever }) [] p → ⊥
+  another_record lines ever more dealt =
+      let same : (record_of p).ever ≡ ever = ap (λ (v : View). v.ever) dealt.left in
+      absurd (omega (arith, same, more))
+
+  a_task_is_not_ready : (w : Worker') (q : Pass) → (IsPassOf s q → ⊥)
+      → IsDealt s [] 0 1 (record_of p) (record { body = Worker w 3; pass = q } ∷ []) p → ⊥
+  a_task_is_not_ready w q not dealt =
+      not (dealt.ready none tt tt 0 (task (Worker w 3)) (lit≤ tt)).of
+
+  a_lane_without_task : IsDealt s (line 1 Leave ∷ []) 1 1 (record_of p) [] p → ⊥
+  a_lane_without_task dealt = absurd (let e = dealt.lines_are in cc)
+
+  -- a lane in two parts: the second one is about a name that the first one makes
+  abbrev makes_and_reads : List Line
+  makes_and_reads = record { lane = record { n = 1 }; line = 2; request = Make a (1 ∷ []) }
+      ∷ record { lane = record { n = 1 }; line = 3; request = Read a } ∷ []
+
+  a_lane_in_two_parts : (v : View) → AreLines s.config.nodes [] makes_and_reads
+      → IsDealt s makes_and_reads 1 2 v (task (lane 1 (Make a (1 ∷ [])))
+      ∷ task (Lane (record { n = 1 }) (record { lane = record { n = 1 }; line = 3; request = Read a } ∷ [])) ∷ []) p
+      → ⊥
+  a_lane_in_two_parts v are dealt = (dealt.apart are).1.0 a (inl refl) 1 (inl (refl, refl))
+
+  -- ---- what is taken in
+
+  takes_in : TakesIn s [] [] (line 2 Leave ∷ []) (end (answer 2 Leave (Left 0) ∷ []))
+  takes_in = record {
+    more = answer 2 Leave (Left 0) ∷ [];
+    answers = refl;
+    lines_are = refl;
+    told = is_told;
+  }
+
+  lost_what_was_given : TakesIn s (answer 1 Leave (Left 0) ∷ []) [] [] (end []) → ⊥
+  lost_what_was_given takes = absurd (let e = takes.answers in cc)
+
+  took_no_line_in : TakesIn s [] [] [] (end (answer 2 Leave (Left 0) ∷ [])) → ⊥
+  took_no_line_in takes =
+      let lines : line 2 Leave ∷ [] ≡ [] = ap (map asked) takes.answers ∙ takes.lines_are in absurd cc
+
+  took_a_wrong_reply_in : TakesIn s [] [] (line 2 Leave ∷ []) (end (answer 2 Leave Freed ∷ [])) → ⊥
+  took_a_wrong_reply_in takes = takes.told.replies.0

@@ -1,0 +1,13 @@
+use Rattle.std.proofs.Common.{List, sym, subst}
+use Rattle.cb_shared.specs.Passes.{record_of}
+use Rattle.cb_app.specs.Crew.{IsDealt}
+use Rattle.cb_app.specs.declared.crew.Task.{Task}
+use Rattle.cb_app.proofs.Crews.{dealt_none}
+use Rattle.cb_app.proofs.crew.deal_lanes.Goals as goal
+
+pub loop-before-init : goal.loop-before-init
+loop-before-init c =
+    let s = c.args.shared.now in
+    let p = c.args.pass.now in
+    subst (λ (ts : List Task). IsDealt s c.args.lines.now 0 0 (record_of p) ts p) (sym c.requires.none)
+    (dealt_none s c.args.lines.now p c.requires.of c.requires.whole)

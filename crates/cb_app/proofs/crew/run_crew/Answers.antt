@@ -1,0 +1,37 @@
+use Rattle.std.proofs.Common.{◌≡◌, [], map, refl, sym, ◌∙◌, arith}
+use Rattle.std.proofs.lemmas.Result.{IfOk-weaker}
+use Rattle.cb_shared.specs.Passes.{record_of}
+use Rattle.cb_lanes.specs.declared.body.LaneEnd.{LaneEnd}
+use Rattle.cb_app.specs.ByLane.{by_lane}
+use Rattle.cb_app.specs.Crew.{IsTold, lines_due, lines_left}
+use Rattle.cb_app.proofs.Crews.{all_told, left_apart, same_maps}
+use Rattle.cb_app.proofs.crew.run_crew.Goals as goal
+
+pub gather-requires-clause-apart : goal.gather-requires-clause-apart
+gather-requires-clause-apart g c =
+    let ends = c.in_ok-ends.ends.items in
+    let tasks = c.in_ok-tasks.tasks.items in
+    let same : map lines_left ends ≡ map lines_due tasks =
+    same_maps lines_left lines_due ends tasks
+    (sym c.in_ok-ends.ends.ok.0 ∙ c.in_ok-ends.ensures.len ∙ c.in_ok-tasks.tasks.ok.0)
+    (λ i d e low. c.in_ok-ends.ensures.lines i d e (omega (arith, low, c.in_ok-tasks.tasks.ok.0))) in
+    left_apart c.args.shared.now c.args.lines.now (record_of c.args.first.now.pass) tasks
+    c.deal.new.pass ends c.in_ok-tasks.ensures.dealt c.requires.lines same
+
+pub returns : goal.returns
+returns g c =
+    let s = c.args.shared.now in
+    let lines = c.args.lines.now in
+    let ends = c.in_ok-ends.ends.items in
+    let tasks = c.in_ok-tasks.tasks.items in
+    let same : map lines_left ends ≡ map lines_due tasks =
+    same_maps lines_left lines_due ends tasks
+    (sym c.in_ok-ends.ends.ok.0 ∙ c.in_ok-ends.ensures.len ∙ c.in_ok-tasks.tasks.ok.0)
+    (λ i d e low. c.in_ok-ends.ensures.lines i d e (omega (arith, low, c.in_ok-tasks.tasks.ok.0))) in
+    let a = c.args.first.now in
+    let b : LaneEnd = record { answers = a.answers; pass = c.deal.new.pass } in
+    record {
+      told = IfOk-weaker c.gather.result _ (λ x. IsTold s [] (by_lane lines) c.gather.new.first)
+          (λ x told. all_told s lines a b c.gather.new.first tasks ends c.requires.first refl
+          c.in_ok-tasks.ensures.dealt same told) c.gather.ensures.told;
+    }

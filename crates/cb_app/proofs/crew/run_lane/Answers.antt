@@ -1,0 +1,10 @@
+use Rattle.std.proofs.Common.{◌∙◌}
+use Rattle.cb_shared.specs.Passes.{record_of}
+use Rattle.cb_app.proofs.Records.{lane_told}
+use Rattle.cb_app.proofs.crew.run_lane.Goals as goal
+
+pub returns-in-Ok-clause-ended : goal.returns-in-Ok-clause-ended
+returns-in-Ok-clause-ended g c = λ given named.
+    let end = c.in-Ok.ensures in
+    lane_told c.args.shared.now c.args.names.now (record_of c.args.pass) c.args.lines c.in-Ok.end
+    c.requires.fresh end.of.0 (end.lines ∙ c.as_slice.ensures.items) end.answered end.part given named

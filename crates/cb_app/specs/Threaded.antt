@@ -1,0 +1,48 @@
+-- What a script is answered by threads.
+use Rattle.std.specs.Prelude.{◌≡◌, List, [], map, Some}
+use Rattle.std.specs.List.{AllByRecursion}
+use Rattle.std.specs.List.Sorted.{IsNonDecreasingBy, IsPermutation}
+use Rattle.cb_types.specs.declared.answer.Answer.{Answer}
+use Rattle.cb_member.specs.declared.names.Loss.{Loss}
+use Rattle.cb_script.specs.declared.script.Script.{Script}
+use Rattle.cb_rule.specs.Closing.{IsClosed}
+use Rattle.cb_record.specs.Backs.{Backs}
+use Rattle.cb_record.specs.Told.{tolds}
+use Rattle.cb_shared.specs.Sealing.{sealed_record, sealed_world}
+use Rattle.cb_shared.specs.Turning.{Did}
+use Rattle.cb_lanes.specs.Asked.{HasLineReply, asked}
+use Rattle.cb_lanes.specs.Lost.{losses_of}
+use Rattle.cb_app.specs.ByLane.{by_lane}
+use Rattle.cb_app.specs.Crew.{part_of}
+use Rattle.cb_app.specs.declared.ending.Ending.{Ending}
+use Rattle.cb_app.specs.declared.threads.ThreadsEnd.{ThreadsEnd}
+
+-- the crashes that took place, in the order of their epochs
+pub record AreLosses (losses : List Loss) (answers : List Answer) : Type 0 where
+  pub are : IsPermutation (losses_of answers) losses
+  pub in_order : IsNonDecreasingBy (λ l. l.epoch.n) losses
+
+-- The lines were answered by calls on a runtime that was closed.
+pub record IsRun (script : Script) (end : ThreadsEnd) : Type 0 where
+  -- one answer a line, by lane and then by line, each with the line's lane, number and request
+  pub lines : map asked end.answers ≡ by_lane script.lines
+  -- each of them is one that its line may have
+  pub replies : AllByRecursion HasLineReply end.answers
+  -- the seal is that of the world and of a record that closed such a runtime, so the world is sound
+  -- and holds the last entry of each object, and all turns are one history
+  pub seal : sealed_world end.seal ≡ end.world
+  pub closed : IsClosed Did 1 script.config (sealed_record end.seal) end.world
+  -- the answers are those of calls that stand in the record
+  pub backs : Backs (part_of (sealed_record end.seal)) (tolds [] end.answers)
+  -- the crashes that took place
+  pub losses : AreLosses end.losses end.answers
+
+-- the ending of a script that threads answered
+pub record IsThreaded (script : Script) (end : Ending) : Type 0 where
+  pub told : ThreadsEnd
+  pub run : IsRun script told
+  pub config : end.config ≡ Some script.config
+  pub answers : end.answers ≡ told.answers
+  pub losses : end.losses ≡ told.losses
+  pub world : end.world ≡ Some told.world
+  pub seal : end.seal ≡ Some told.seal

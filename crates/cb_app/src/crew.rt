@@ -1,0 +1,360 @@
+//! The bodies of lanes and workers, each in a thread of its own.
+ghost use Rattle.std.specs.Prelude.{◌≡◌, ◌<◌, ◌≤◌, ◌+◌, ◌++◌, ℕ, List, [], map, All, IfOk, slice_index_or, vec_len};
+ghost use Rattle.cb_types.specs.declared.answer.Answer.{Answer};
+ghost use Rattle.cb_script.specs.Form.{AreLines};
+ghost use Rattle.cb_script.specs.declared.script.Line.{Line};
+ghost use Rattle.cb_rule.specs.declared.view.View.{View};
+ghost use Rattle.cb_rule.specs.Steps.{left_of};
+ghost use Rattle.cb_shared.specs.Passes.{IsPassOf, record_of};
+ghost use Rattle.cb_lanes.specs.Asked.{asked};
+ghost use Rattle.cb_lanes.specs.Bodies.{AreLinesOf, AreNamesOf, KnowsNames};
+ghost use Rattle.cb_app.specs.ByLane.{AreApart, IsApart, by_lane, flat, of_lane};
+ghost use Rattle.cb_app.specs.Crew.{
+  IsDealt,
+  IsDealtOne,
+  IsEnded,
+  IsFresh,
+  IsReady,
+  IsTold,
+  Runs,
+  TakesIn,
+  lines_due,
+  lines_left,
+};
+ghost use Rattle.cb_app.specs.declared.crew.Ended.{Ended};
+ghost use Rattle.cb_app.specs.declared.crew.Task.{Task};
+
+use crate::by_lane::of_lane;
+use cb_lanes::{LaneEnd, Names, lane_body};
+use cb_script::{Line, Lines};
+use cb_shared::{Pass, Shared};
+use cb_types::{Answers, Gate, Lane, NoMemory};
+use cb_workers::{Worker, worker_body};
+use std::alloc::Global;
+use std::sync::Wait;
+use std::thread;
+use std::thread::Threads;
+
+/// What a thread is for: the lines of a lane, or the turns of a worker.
+#[derive(Drop)]
+pub(crate) enum Body {
+    Lane { lane: Lane, lines: Lines },
+    Worker { worker: Worker, turns: u32 },
+}
+
+/// What a thread is given: its body, and a pass of its own.
+#[derive(Drop)]
+pub(crate) struct Task {
+    pub(crate) body: Body,
+    pub(crate) pass: Pass,
+}
+
+/// What a thread leaves: its lines, none of a worker, and its answers with its pass, unless memory
+/// was wanting.
+#[derive(Drop)]
+pub(crate) struct Ended {
+    pub(crate) lines: Lines,
+    pub(crate) left: Result<LaneEnd, NoMemory>,
+}
+
+/// Runs lanes 1 to 15 of these lines beside the four workers, each in a thread of its own where
+/// one can be made, and takes their answers and passes in, lane by lane.
+pub(crate) fn run_crew<R: Threads + Wait + Sync, G: Gate>(
+    rt: &R,
+    alloc: Global,
+    shared: &Shared,
+    first: &mut LaneEnd,
+    lines: &[Line],
+    names: &Names,
+    gate: &G,
+) -> Result<(), NoMemory>
+    requires first { IsTold shared.now [] (of_lane 0 lines.now) first.old }
+    requires whole { (record_of first.old.pass).share ≡ 64 }
+    requires lines { AreLines shared.now.config.nodes [] lines.now }
+    requires names { AreNamesOf names.now first.old.answers }
+    requires known { KnowsNames (record_of first.old.pass) names.now }
+    ensures told { IfOk result (λ _. IsTold shared.now [] (by_lane lines.now) first.new) }
+{
+    let tasks = deal(alloc, shared, &mut first.pass, lines)?;
+    let ends = scatter(rt, alloc, shared, tasks, names, gate)?;
+    gather(shared, first, ends)
+}
+
+/// What each thread is given: the lanes that have lines, in order, and the workers.
+fn deal(
+    alloc: Global,
+    shared: &Shared,
+    pass: &mut Pass,
+    lines: &[Line],
+) -> Result<Vec<Task>, NoMemory>
+    requires of { IsPassOf shared.now pass.old }
+    requires whole { (record_of pass.old).share ≡ 64 }
+    ensures dealt { IfOk result (λ tasks. IsDealt shared.now lines.now 15 19 (record_of pass.old)
+        tasks.items pass.new) }
+{
+    let mut tasks = Vec::new(alloc);
+    deal_lanes(alloc, shared, pass, lines, &mut tasks)?;
+    deal_workers(shared, pass, &mut tasks)?;
+    Ok(tasks)
+}
+
+/// Lanes 1 to 15, where they have lines. All lines are looked at for each of the few lanes.
+fn deal_lanes(
+    alloc: Global,
+    shared: &Shared,
+    pass: &mut Pass,
+    lines: &[Line],
+    tasks: &mut Vec<Task>,
+) -> Result<(), NoMemory>
+    requires of { IsPassOf shared.now pass.old }
+    requires whole { (record_of pass.old).share ≡ 64 }
+    requires none { tasks.old.items ≡ [] }
+    ensures dealt { IfOk result (λ _. IsDealt shared.now lines.now 15 15 (record_of pass.old)
+        tasks.new.items pass.new) }
+{
+    for before in 0..15u8 {
+        deal_lane(alloc, shared, pass, lines, before, tasks)?;
+    }
+    Ok(())
+}
+
+/// The lane behind this one, where it has lines.
+fn deal_lane(
+    alloc: Global,
+    shared: &Shared,
+    pass: &mut Pass,
+    lines: &[Line],
+    before: u8,
+    tasks: &mut Vec<Task>,
+) -> Result<(), NoMemory>
+    requires before { before < 15 }
+    requires of { IsPassOf shared.now pass.old }
+    requires share { 50 ≤ (record_of pass.old).share + before + 1 }
+    ensures dealt { (v : View) → IsDealt shared.now lines.now before before v tasks.old.items pass.old
+        → IfOk result (λ _. IsDealt shared.now lines.now (before + 1) (before + 1) v
+        tasks.new.items pass.new) }
+{
+    let lane = Lane { n: before + 1 };
+    let lines = of_lane(alloc, lines, lane)?;
+    if lines.as_slice().is_empty() {
+        return Ok(());
+    }
+    deal_one(shared, pass, Body::Lane { lane, lines }, tasks)
+}
+
+fn deal_workers(shared: &Shared, pass: &mut Pass, tasks: &mut Vec<Task>) -> Result<(), NoMemory>
+    requires of { IsPassOf shared.now pass.old }
+    requires share { 49 ≤ (record_of pass.old).share }
+    ensures dealt { (lines : List Line) (v : View) → IsDealt shared.now lines 15 15 v tasks.old.items
+        pass.old → IfOk result (λ _. IsDealt shared.now lines 15 19 v tasks.new.items pass.new) }
+{
+    deal_worker(shared, pass, Worker::Filter, tasks)?;
+    deal_worker(shared, pass, Worker::Evict, tasks)?;
+    deal_worker(shared, pass, Worker::Compact, tasks)?;
+    deal_worker(shared, pass, Worker::Rebuild, tasks)
+}
+
+fn deal_worker(
+    shared: &Shared,
+    pass: &mut Pass,
+    worker: Worker,
+    tasks: &mut Vec<Task>,
+) -> Result<(), NoMemory>
+    requires of { IsPassOf shared.now pass.old }
+    requires share { 2 ≤ (record_of pass.old).share }
+    ensures of { IsPassOf shared.now pass.new }
+    ensures share { (record_of pass.new).share + 1 ≡ (record_of pass.old).share }
+    ensures dealt { (lines : List Line) (n m : ℕ) (v : View)
+        → IsDealt shared.now lines n m v tasks.old.items pass.old
+        → IfOk result (λ _. IsDealt shared.now lines n (m + 1) v tasks.new.items pass.new) }
+{
+    let turns = shared.config().turns;
+    deal_one(shared, pass, Body::Worker { worker, turns }, tasks)
+}
+
+/// One task more, with a pass that is split off.
+fn deal_one(
+    shared: &Shared,
+    pass: &mut Pass,
+    body: Body,
+    tasks: &mut Vec<Task>,
+) -> Result<(), NoMemory>
+    requires of { IsPassOf shared.now pass.old }
+    requires share { 2 ≤ (record_of pass.old).share }
+    ensures of { IsPassOf shared.now pass.new }
+    ensures left { record_of pass.new ≡ left_of 1 (record_of pass.old) }
+    ensures task { IfOk result (λ _. IsDealtOne shared.now body (record_of pass.old)
+        tasks.old.items tasks.new.items) }
+{
+    let pass = shared.split(pass, 1);
+    tasks.push(Task { body, pass })?;
+    Ok(())
+}
+
+/// Runs the tasks, each in a thread of its own where one can be made, and gives what they leave in
+/// the order of the tasks.
+fn scatter<R: Threads + Wait + Sync, G: Gate>(
+    rt: &R,
+    alloc: Global,
+    shared: &Shared,
+    tasks: Vec<Task>,
+    names: &Names,
+    gate: &G,
+) -> Result<Vec<Ended>, NoMemory>
+    requires ready { All (IsReady shared.now names.now) tasks.items }
+    ensures len { IfOk result (λ ends. vec_len ends ≡ vec_len tasks) }
+    ensures lines { IfOk result (λ ends. (i : ℕ) (d : Ended) (t : Task) → i < vec_len tasks
+        → lines_left (slice_index_or ends.items i d) ≡ lines_due (slice_index_or tasks.items i t)) }
+    ensures ended { IfOk result (λ ends. (given : List Answer) → AreNamesOf names.now given
+        → All (IsEnded shared.now given) ends.items) }
+{
+    let ends = thread::map_vec(
+        rt,
+        tasks,
+        &|task: Task| -> Ended
+            requires { IsReady shared.now names.now task }
+            ensures { Runs shared.entry.now names.entry.now task result }
+        { run_task(rt, alloc, shared, task, names, gate) },
+    )?;
+    Ok(ends)
+}
+
+/// One thread.
+fn run_task<R: Wait, G: Gate>(
+    rt: &R,
+    alloc: Global,
+    shared: &Shared,
+    task: Task,
+    names: &Names,
+    gate: &G,
+) -> Ended
+    requires ready { IsReady shared.now names.now task }
+    ensures runs { Runs shared.now names.now task result }
+{
+    let Task { body, pass } = task;
+    match body {
+        Body::Lane { lane, lines } => {
+            run_lane(rt, alloc, shared, pass, lane, lines, names, gate)
+        }
+        Body::Worker { worker, turns } => {
+            run_worker(rt, alloc, shared, pass, worker, turns, gate)
+        }
+    }
+}
+
+/// A lane answers its lines.
+fn run_lane<R: Wait, G: Gate>(
+    rt: &R,
+    alloc: Global,
+    shared: &Shared,
+    pass: Pass,
+    lane: Lane,
+    lines: Lines,
+    names: &Names,
+    gate: &G,
+) -> Ended
+    requires of { IsPassOf shared.now pass }
+    requires fresh { IsFresh (record_of pass) }
+    requires lines { AreLinesOf shared.now.config.nodes lane.n lines }
+    requires names { KnowsNames (record_of pass) names.now }
+    ensures lines { result.lines ≡ lines }
+    ensures ended { (given : List Answer) → AreNamesOf names.now given
+        → IfOk result.left (IsTold shared.now given lines) }
+{
+    match lane_body(rt, alloc, shared, pass, lane, lines.as_slice(), names, gate) {
+        Ok(end) => Ended {
+            lines,
+            left: Ok(end),
+        },
+        Err(_stopped) => Ended {
+            lines,
+            left: Err(NoMemory),
+        },
+    }
+}
+
+/// A worker answers no lines.
+fn run_worker<R: Wait, G: Gate>(
+    rt: &R,
+    alloc: Global,
+    shared: &Shared,
+    pass: Pass,
+    worker: Worker,
+    turns: u32,
+    gate: &G,
+) -> Ended
+    requires of { IsPassOf shared.now pass }
+    requires fresh { IsFresh (record_of pass) }
+    ensures lines { result.lines ≡ [] }
+    ensures ended { (given : List Answer) → IfOk result.left (IsTold shared.now given []) }
+{
+    let lines = Lines::new(alloc);
+    let answers = Answers::new(alloc);
+    match worker_body(rt, alloc, shared, pass, worker, turns, gate) {
+        Ok(pass) => Ended {
+            lines,
+            left: Ok(LaneEnd { answers, pass }),
+        },
+        Err(_stopped) => Ended {
+            lines,
+            left: Err(NoMemory),
+        },
+    }
+}
+
+/// Takes the passes in, and puts the answers behind those that there are, thread by thread.
+fn gather(shared: &Shared, first: &mut LaneEnd, ends: Vec<Ended>) -> Result<(), NoMemory>
+    requires first { IsTold shared.now [] (map asked first.old.answers) first.old }
+    requires ended { All (IsEnded shared.now first.old.answers) ends.items }
+    requires apart { AreApart [] (map lines_left ends.items) }
+    ensures told { IfOk result (λ _. IsTold shared.now []
+        (map asked first.old.answers ++ flat (map lines_left ends.items)) first.new) }
+{
+    for ended in ends {
+        take_in(shared, first, ended)?;
+    }
+    Ok(())
+}
+
+/// Takes in what one thread left.
+fn take_in(shared: &Shared, first: &mut LaneEnd, ended: Ended) -> Result<(), NoMemory>
+    requires of { IsPassOf shared.now first.old.pass }
+    requires ended { IfOk ended.left (λ end. IsPassOf shared.now end.pass) }
+    ensures told { (given others : List Answer) → first.old.answers ≡ given ++ others
+        → IsTold shared.now [] (map asked first.old.answers) first.old
+        → IsEnded shared.now given ended → IsApart (map asked others) ended.lines
+        → IfOk result (λ _. TakesIn shared.now given others ended.lines first.new) }
+{
+    let Ended {
+        lines: _lines,
+        left,
+    } = ended;
+    match left {
+        Ok(end) => take_end(shared, first, end),
+        Err(none) => Err(none),
+    }
+}
+
+fn take_end(shared: &Shared, first: &mut LaneEnd, end: LaneEnd) -> Result<(), NoMemory>
+    requires of { IsPassOf shared.now first.old.pass }
+    requires end { IsPassOf shared.now end.pass }
+    ensures told { (given others : List Answer) (lines : List Line)
+        → first.old.answers ≡ given ++ others
+        → IsTold shared.now [] (map asked first.old.answers) first.old
+        → IsTold shared.now given lines end → IsApart (map asked others) lines
+        → IfOk result (λ _. TakesIn shared.now given others lines first.new) }
+{
+    let LaneEnd { answers, pass } = end;
+    shared.join_pass(&mut first.pass, pass);
+    append(&mut first.answers, answers)
+}
+
+/// Puts answers behind others.
+fn append(answers: &mut Answers, more: Answers) -> Result<(), NoMemory>
+    ensures { IfOk result (λ _. answers.new ≡ answers.old ++ more) }
+{
+    for answer in more.into_vec() {
+        answers.push(answer)?;
+    }
+    Ok(())
+}

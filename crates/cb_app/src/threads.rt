@@ -1,0 +1,181 @@
+//! Lanes and workers as threads.
+ghost use Rattle.std.specs.Prelude.{◌≡◌, [], ◌++◌, IfOk};
+ghost use Rattle.std.specs.List.{cons_option};
+ghost use Rattle.cb_script.specs.Form.{AreInMode, AreLines, IsScript};
+ghost use Rattle.cb_script.specs.declared.script.Mode.TheVariants as scripts;
+ghost use Rattle.cb_shared.specs.Closing.{IsClosedBy};
+ghost use Rattle.cb_shared.specs.Passes.{IsBegun, IsPassOf, record_of};
+ghost use Rattle.cb_app.specs.ByLane.{by_lane, of_lane};
+ghost use Rattle.cb_app.specs.Crew.{IsTold, names_in};
+ghost use Rattle.cb_app.specs.Threaded.{AreLosses, IsRun};
+ghost use Rattle.cb_lanes.specs.Bodies.{KnowsNames};
+ghost use Rattle.cb_lanes.specs.Lost.{loss_of, losses_of};
+
+use crate::by_lane::{names_of, of_lane};
+use crate::crew::run_crew;
+use cb_lanes::{LaneEnd, Names, lane_body};
+use cb_script::Script;
+use cb_shared::{Pass, Seal, Shared};
+use cb_types::{Answer, Answers, Gate, Lane, Loss, Losses, NoMemory, Reply, Request};
+use cb_world::World;
+use std::alloc::Global;
+use std::sync::Wait;
+use std::thread::Threads;
+
+/// What a script leaves that was run by threads.
+#[derive(Drop)]
+pub struct ThreadsEnd {
+    /// The answers, one for each line behind the header, by lane and then by line.
+    pub answers: Answers,
+    /// The crashes that took place, in the order of their epochs.
+    pub losses: Losses,
+    /// The world of the runtime that was closed.
+    pub world: World,
+    /// Shows that world, and the record of all calls.
+    pub seal: Seal,
+}
+
+/// Answers the lines of a script: those of lane 0 first, and then those of lanes 1 to 15, each lane
+/// in a thread of its own, beside the four workers, which make as many turns as are configured. The
+/// lanes and workers call one shared runtime, which is closed behind the last of them. A thread
+/// that can't be started is run by the caller. The gate is told of each answered line and of each
+/// turn of a worker.
+pub fn run_threads<R: Threads + Wait + Sync, G: Gate>(
+    rt: &R,
+    alloc: Global,
+    s: &Script,
+    gate: &G,
+) -> Result<ThreadsEnd, NoMemory>
+    requires script { IsScript s.now }
+    requires mode { AreInMode scripts.Threads s.now.lines }
+    ensures run { IfOk result (IsRun s.now) }
+{
+    let (shared, pass) = Shared::new(alloc, s.config)?;
+    let told = run_all(rt, alloc, &shared, pass, s, gate)?;
+    end(alloc, shared, told)
+}
+
+/// The lines of all lanes, and the turns of the workers.
+fn run_all<R: Threads + Wait + Sync, G: Gate>(
+    rt: &R,
+    alloc: Global,
+    shared: &Shared,
+    pass: Pass,
+    s: &Script,
+    gate: &G,
+) -> Result<LaneEnd, NoMemory>
+    requires begun { IsBegun 1 s.now.config shared.now pass }
+    requires lines { AreLines s.now.config.nodes [] s.now.lines }
+    ensures told { IfOk result (IsTold shared.now [] (by_lane s.now.lines)) }
+{
+    let mut told = run_first(rt, alloc, shared, pass, s, gate)?;
+    let names = names_of(alloc, &told.answers)?;
+    run_crew(
+        rt,
+        alloc,
+        shared,
+        &mut told,
+        s.lines.as_slice(),
+        &names,
+        gate,
+    )?;
+    Ok(told)
+}
+
+/// The lines of lane 0, which come before all others.
+fn run_first<R: Wait, G: Gate>(
+    rt: &R,
+    alloc: Global,
+    shared: &Shared,
+    pass: Pass,
+    s: &Script,
+    gate: &G,
+) -> Result<LaneEnd, NoMemory>
+    requires begun { IsBegun 1 s.now.config shared.now pass }
+    requires lines { AreLines s.now.config.nodes [] s.now.lines }
+    ensures told { IfOk result (IsTold shared.now [] (of_lane 0 s.now.lines)) }
+    ensures whole { IfOk result (λ told. (record_of told.pass).share ≡ 64) }
+    ensures known { IfOk result (λ told. KnowsNames (record_of told.pass)
+        (names_in told.answers)) }
+{
+    let lane = Lane { n: 0 };
+    let lines = of_lane(alloc, s.lines.as_slice(), lane)?;
+    let names = Names::new(alloc);
+    match lane_body(
+        rt,
+        alloc,
+        shared,
+        pass,
+        lane,
+        lines.as_slice(),
+        &names,
+        gate,
+    ) {
+        Ok(end) => Ok(end),
+        Err(_stopped) => Err(NoMemory),
+    }
+}
+
+/// Closes the runtime.
+fn end(alloc: Global, shared: Shared, told: LaneEnd) -> Result<ThreadsEnd, NoMemory>
+    requires of { IsPassOf shared told.pass }
+    ensures answers { IfOk result (λ end. end.answers ≡ told.answers) }
+    ensures closed { IfOk result (λ end. IsClosedBy shared told.pass end.world end.seal) }
+    ensures losses { IfOk result (λ end. AreLosses end.losses told.answers) }
+{
+    let LaneEnd { answers, pass } = told;
+    let losses = losses_of(alloc, &answers)?;
+    match shared.close(alloc, pass) {
+        Ok((world, seal)) => Ok(ThreadsEnd {
+            answers,
+            losses,
+            world,
+            seal,
+        }),
+        Err(_refused) => Err(NoMemory),
+    }
+}
+
+/// The crashes that took place, in the order of their epochs.
+fn losses_of(alloc: Global, answers: &Answers) -> Result<Losses, NoMemory>
+    ensures { IfOk result (λ losses. AreLosses losses answers.now) }
+{
+    let mut losses = found_losses(alloc, answers)?;
+    losses.sort_by_key(|loss| loss.epoch.n)?;
+    Ok(Losses::from(losses))
+}
+
+/// The crashes that took place, in the order of the answers.
+fn found_losses(alloc: Global, answers: &Answers) -> Result<Vec<Loss>, NoMemory>
+    ensures { IfOk result (λ losses. losses.items ≡ losses_of answers.now) }
+{
+    let mut losses = Vec::new(alloc);
+    for answer in answers.as_slice() {
+        note_loss(&mut losses, answer)?;
+    }
+    Ok(losses)
+}
+
+/// Adds the loss of an answer, where it tells one.
+fn note_loss(losses: &mut Vec<Loss>, answer: &Answer) -> Result<(), NoMemory>
+    ensures noted { IfOk result (λ _. losses.new.items
+        ≡ losses.old.items ++ cons_option (loss_of answer.now.request answer.now.reply) []) }
+{
+    if let Some(loss) = loss_of(&answer.request, &answer.reply) {
+        losses.push(loss)?;
+    }
+    Ok(())
+}
+
+/// The node of a crash that took place, with its epoch.
+fn loss_of(request: &Request, reply: &Reply) -> Option<Loss>
+    ensures { result ≡ loss_of request.now reply.now }
+{
+    match (request, reply) {
+        (Request::Crash { node }, Reply::EpochAt { epoch }) => Some(Loss {
+            node: *node,
+            epoch: *epoch,
+        }),
+        _ => None,
+    }
+}
