@@ -9,6 +9,7 @@ pub mod Only
 pub mod Parting
 pub mod Begun
 pub mod WriteSteps
+pub mod WholeWord
 pub mod ReadBytes
 pub mod ReadSteps
 pub mod Tallying

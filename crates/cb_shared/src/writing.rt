@@ -18,6 +18,7 @@ use crate::own::{claim_here, load_own, put_back, settle_own, stamp_own, store_ow
 use crate::pass::Pass;
 use crate::pins::glance;
 use crate::runtime::Shared;
+use byteorder::{ByteOrder, LittleEndian};
 use cb_mutate::merged;
 use cb_ptr::{State, claimed, settled, unpack};
 use cb_types::{Config, Handle};
@@ -190,8 +191,19 @@ fn merged_own(
 {
     let end = at + bytes.len() as u32;
     if at <= first && first + 8 <= end {
-        return merged(0, first, at, bytes);
+        return whole_word(first, at, bytes);
     }
     let old = load_own(top, seat, config, place);
     merged(old, first, at, bytes)
+}
+
+/// The word whose first byte is the object's byte `first`, where these bytes cover all of it: one
+/// load of eight of them, and no part of the old word stays.
+fn whole_word(first: u32, at: u32, bytes: &[u8]) -> u64
+    requires from { at ≤ first }
+    requires end { first + 8 ≤ at + length bytes.now }
+    ensures { (old : ℕ) → IsMerged old first at bytes.now result }
+{
+    let from = (first - at) as usize;
+    LittleEndian::read_u64(&bytes[from..from + 8])
 }
