@@ -7,7 +7,7 @@ use crate::notes::{FREED, Note, last, last_word};
 use crate::rounds::len_of;
 use crate::told::{Told, told_of};
 use cb_core::{Event, step};
-use cb_shared::{Pass, Shared};
+use cb_shared::{CloseRefused, Pass, Shared};
 use cb_types::{Config, Handle, Job, NoMemory, Reply};
 use cb_world::World;
 use std::alloc::Global;
@@ -17,6 +17,8 @@ use std::mem;
 #[derive(Drop)]
 pub(crate) struct Ended {
     pub(crate) is_right: bool,
+    /// Whether passes are out, so that the close is to be refused.
+    pub(crate) is_out: bool,
     pub(crate) objects: Vec<Handle>,
     pub(crate) notes: Vec<Note>,
 }
@@ -80,7 +82,8 @@ fn is_last(
     Ok(is_wanted(ended.notes.as_slice(), i, version, told_of(&reply)))
 }
 
-/// Whether no answer was wrong, and each object that was noted has its last version in a world.
+/// Whether no answer was wrong, no pass is out, and each object that was noted has its last version
+/// in a world.
 fn are_last(
     alloc: Global,
     world: &mut World,
@@ -90,7 +93,7 @@ fn are_last(
     requires sound { IsSoundWorld world.old }
     requires settings { world.old.desk.settings ≡ config }
 {
-    let mut all = ended.is_right;
+    let mut all = ended.is_right && !ended.is_out;
     for i in 0..ended.objects.len() {
         all &= is_last(alloc, world, config, ended, i)?;
     }
@@ -108,8 +111,17 @@ fn is_world(alloc: Global, world: World, config: Config, ended: &Ended) -> Resul
     is_right
 }
 
+/// Whether no answer was wrong, and a close is refused as it is where passes are out and the first
+/// one has the share 1.
+fn is_out(refused: &CloseRefused, ended: &Ended) -> bool {
+    match refused {
+        CloseRefused::Out { share, .. } => ended.is_right && ended.is_out && *share == 1,
+        CloseRefused::NoMemory { .. } => false,
+    }
+}
+
 /// Closes a runtime by its first pass; whether no answer was wrong, and the world has all that was
-/// written. A runtime that is not closed is left as it is.
+/// written, or the close is refused as it is to be. A runtime that is not closed is left as it is.
 pub(crate) fn close(
     alloc: Global,
     shared: Shared,
@@ -122,8 +134,9 @@ pub(crate) fn close(
     match shared.close(alloc, first) {
         Ok((world, _seal)) => is_world(alloc, world, config, ended),
         Err(refused) => {
+            let is_out = is_out(&refused, ended);
             mem::forget(refused);
-            Ok(false)
+            Ok(is_out)
         }
     }
 }

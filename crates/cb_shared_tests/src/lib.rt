@@ -9,6 +9,8 @@ mod closed;
 #[cfg(test)]
 mod crew;
 #[cfg(test)]
+mod crowd;
+#[cfg(test)]
 mod making;
 #[cfg(test)]
 mod notes;

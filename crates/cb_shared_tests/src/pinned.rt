@@ -38,7 +38,13 @@ fn told_pin(pin: &Pin, any: u64, every: u64) -> Told {
 }
 
 /// Looks at all words of a pinned object, and gives the pin back where it is not to be kept.
-fn look_at(shared: &Shared, objects: &[Handle], pass: &mut Pass, pin: Pin, is_kept: bool) -> Told
+pub(crate) fn look_at(
+    shared: &Shared,
+    objects: &[Handle],
+    pass: &mut Pass,
+    pin: Pin,
+    is_kept: bool,
+) -> Told
     requires caller { IsCaller shared.now objects.now pass.old }
     requires pin { IsPinOf pin pass.old.seat.me.0 }
     ensures caller { IsCaller shared.now objects.now pass.new }
@@ -72,7 +78,7 @@ fn unpin(shared: &Shared, objects: &[Handle], pass: &mut Pass, pin: Pin)
 }
 
 /// Pins an object, where it is here.
-fn pin(shared: &Shared, objects: &[Handle], pass: &mut Pass, h: Handle) -> PinAnswer
+pub(crate) fn pin(shared: &Shared, objects: &[Handle], pass: &mut Pass, h: Handle) -> PinAnswer
     requires caller { IsCaller shared.now objects.now pass.old }
     requires among { IsAmong h objects.now }
     ensures caller { IsCaller shared.now objects.now pass.new }

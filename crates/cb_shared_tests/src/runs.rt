@@ -5,6 +5,7 @@ ghost use Rattle.cb_shared_tests.specs.Callers.{IsCaller};
 
 use crate::closed::{Ended, close};
 use crate::crew::run_crew;
+use crate::crowd::crowds;
 use crate::making::begun;
 use crate::notes::Note;
 use crate::rounds::Work;
@@ -24,6 +25,7 @@ enum Body {
     Calls,
     Crashes,
     Wears,
+    Crowds,
     Crew(Work),
 }
 
@@ -45,6 +47,7 @@ fn done<R: Threads + Wait + Sync>(
         Body::Calls => calls(rt, alloc, shared, objects, first),
         Body::Crashes => crashes(rt, alloc, shared, objects, first),
         Body::Wears => wears(rt, alloc, shared, objects, first),
+        Body::Crowds => crowds(rt, alloc, shared, objects, first),
         Body::Crew(work) => run_crew(rt, alloc, shared, objects, first, work, notes),
     }
 }
@@ -68,6 +71,7 @@ fn ended<R: Threads + Wait + Sync>(
     }
     Ok(Ended {
         is_right,
+        is_out: matches!(body, Body::Crowds),
         objects,
         notes,
     })
@@ -93,7 +97,7 @@ fn held<R: Threads + Wait + Sync>(
     }
 }
 
-/// Whether no answer was wrong of what is done with a runtime, and it is closed.
+/// Whether no answer was wrong of what is done with a runtime, nor that of its close.
 fn holds<R: Threads + Wait + Sync>(rt: &R, alloc: Global, body: Body) -> Result<bool, NoMemory> {
     let (shared, first) = begun(alloc, matches!(body, Body::Wears))?;
     held(rt, alloc, shared, first, body)
@@ -120,6 +124,14 @@ fn turns_read_back_what_two_crashes_left(rt: HostRuntime) -> Result<(), Fail> {
 #[test]
 fn the_last_version_is_worn(rt: HostRuntime) -> Result<(), Fail> {
     assert!(rt; matches!(holds(&rt, rt.alloc(), Body::Wears), Ok(true)));
+    Ok(())
+}
+
+#[test]
+fn sixty_four_passes_crowd_an_object_and_keep_the_runtime_open(
+    rt: HostRuntime,
+) -> Result<(), Fail> {
+    assert!(rt; matches!(holds(&rt, rt.alloc(), Body::Crowds), Ok(true)));
     Ok(())
 }
 

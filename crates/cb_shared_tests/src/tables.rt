@@ -4,9 +4,9 @@ ghost use Rattle.cb_shared_tests.specs.Callers.{IsCaller};
 
 use crate::asking::{Call, Deed, ask};
 use crate::making::{Way, make};
-use crate::pinned::{join, split};
+use crate::pinned::{join, look_at, pin, split};
 use crate::told::Told;
-use cb_shared::{Pass, Shared};
+use cb_shared::{Pass, PinAnswer, Shared};
 use cb_types::{Handle, NoMemory, Reply};
 use std::alloc::Global;
 use std::sync::Wait;
@@ -14,65 +14,33 @@ use std::sync::Wait;
 /// The number of an object, a call on it, one byte for a write, and what the call is to tell.
 type Line = (usize, Call, u8, Told);
 
-/// Of the first pass, before there is a second one.
-const ALONE: [Line; 2] = [
-    (
-        0,
-        Call::Look,
-        0,
-        Told::Bytes {
-            version: 1,
-            len: 1,
-            word: 1,
-        },
-    ),
-    (0, Call::WriteHere, 2, Told::Version(2)),
-];
-
-/// Of the second pass, which keeps a pin.
-const SECOND: [Line; 2] = [
-    (
-        0,
-        Call::Look,
-        0,
-        Told::Bytes {
-            version: 2,
-            len: 1,
-            word: 2,
-        },
-    ),
-    (
-        0,
-        Call::Hold,
-        0,
-        Told::Bytes {
-            version: 2,
-            len: 1,
-            word: 2,
-        },
-    ),
-];
+/// What the second pass sees by its first pin.
+const KEPT: Told = Told::Bytes {
+    version: 1,
+    len: 1,
+    word: 1,
+};
 
 /// Of the first pass beside that pin: a write and an eviction are refused.
 const BESIDE: [Line; 2] = [
-    (0, Call::WriteHere, 3, Told::Pinned(1)),
+    (0, Call::WriteHere, 2, Told::Pinned(1)),
     (0, Call::Turn(Deed::Evict), 0, Told::NoSpans(0)),
 ];
 
-/// Of the first pass, which took the second one in.
-const BEHIND: [Line; 2] = [
-    (0, Call::WriteHere, 3, Told::Version(3)),
-    (
-        0,
-        Call::Look,
-        0,
-        Told::Bytes {
-            version: 3,
-            len: 1,
-            word: 3,
-        },
-    ),
-];
+/// Of the first pass behind that pin.
+const BEHIND: [Line; 1] = [(0, Call::WriteHere, 2, Told::Version(2))];
+
+/// Of the second pass, which keeps this pin.
+const AGAIN: [Line; 1] = [(
+    0,
+    Call::Hold,
+    0,
+    Told::Bytes {
+        version: 2,
+        len: 1,
+        word: 2,
+    },
+)];
 
 /// Calls that try again.
 const CALLS: [Line; 7] = [
@@ -159,8 +127,36 @@ fn are_answered<R: Wait>(
     Ok(all)
 }
 
-/// The second pass pins and reads the object and keeps a pin, and a write and an eviction of the
-/// first one are refused.
+/// The second pass pins an object, and looks at it and gives the pin back once a write and an
+/// eviction of the first pass were refused.
+fn while_pinned<R: Wait>(
+    rt: &R,
+    alloc: Global,
+    shared: &Shared,
+    objects: &[Handle],
+    first: &mut Pass,
+    second: &mut Pass,
+    object: usize,
+) -> Result<bool, NoMemory>
+    requires caller { IsCaller shared.now objects.now first.old }
+    requires second { IsCaller shared.now objects.now second.old }
+    ensures caller { IsCaller shared.now objects.now first.new }
+    ensures second { IsCaller shared.now objects.now second.new }
+{
+    if object >= objects.len() {
+        return Ok(false);
+    }
+    match pin(shared, objects, second, objects[object]) {
+        PinAnswer::Pinned(kept) => {
+            let is_refused = are_answered(rt, alloc, shared, objects, first, &BESIDE);
+            let told = look_at(shared, objects, second, kept, false);
+            Ok(is_refused? && told == KEPT)
+        }
+        _ => Ok(false),
+    }
+}
+
+/// The same, and then the first pass writes and the second one keeps a pin of what was written.
 fn beside<R: Wait>(
     rt: &R,
     alloc: Global,
@@ -174,9 +170,10 @@ fn beside<R: Wait>(
     ensures caller { IsCaller shared.now objects.now first.new }
     ensures second { IsCaller shared.now objects.now second.new }
 {
-    let is_pinned = are_answered(rt, alloc, shared, objects, second, &SECOND)?;
-    let is_refused = are_answered(rt, alloc, shared, objects, first, &BESIDE)?;
-    Ok(is_pinned && is_refused)
+    let is_kept = while_pinned(rt, alloc, shared, objects, first, second, 0)?;
+    let is_written = are_answered(rt, alloc, shared, objects, first, &BEHIND)?;
+    let is_again = are_answered(rt, alloc, shared, objects, second, &AGAIN)?;
+    Ok(is_kept && is_written && is_again)
 }
 
 /// With a second pass, which is split off and taken in with a pin.
@@ -211,11 +208,8 @@ pub(crate) fn two_passes<R: Wait>(
     ensures caller { OnOk result (IsCaller shared.now objects.new.items first.new) }
 {
     let is_made = make(rt, alloc, shared, objects, first, Way::Turn, &[1u8], 1)?;
-    let objects = objects.as_slice();
-    let is_alone = are_answered(rt, alloc, shared, objects, first, &ALONE)?;
-    let is_right = by_two(rt, alloc, shared, objects, first)?;
-    let is_again = are_answered(rt, alloc, shared, objects, first, &BEHIND)?;
-    Ok(is_made && is_alone && is_right && is_again)
+    let is_right = by_two(rt, alloc, shared, objects.as_slice(), first)?;
+    Ok(is_made && is_right)
 }
 
 /// Whether the configuration is the one that was given, with too few frames to try again.
