@@ -1,5 +1,5 @@
 -- Looks at an object, and at the version word of it, over any desk.
-use Rattle.std.proofs.Common.{◌≡◌, ℕ, zero, suc, true, false, ◌+◌, ◌-◌, ◌^◌, ◌==◌, ◌<◌, ◌≤◌, List, [], ◌∷◌, Option, None, Some, refl, sym, ap, ◌∙◌, subst, inl, inr, if◌then◌else◌, lt-ltb, le-ltb, eq-eqb, ne_eqb}
+use Rattle.std.proofs.Common.{◌≡◌, ℕ, zero, suc, true, false, ◌+◌, ◌-◌, ◌^◌, ◌==◌, ◌<◌, ◌≤◌, List, [], ◌∷◌, Option, None, Some, get_or, refl, sym, ap, ◌∙◌, subst, inl, inr, if◌then◌else◌, lt-ltb, le-ltb, eq-eqb, ne_eqb}
 use Rattle.cb_ptr.specs.declared.word.State.{State}
 use Rattle.cb_ptr.specs.declared.word.State.TheVariants as state
 use Rattle.cb_ptr.specs.Word.{state_of, len_of, place_of}
@@ -7,15 +7,23 @@ use Rattle.cb_types.specs.declared.reply.Reply.{Reply}
 use Rattle.cb_types.specs.declared.reply.Reply.TheVariants as answer
 use Rattle.cb_world.specs.declared.event.Event.{Event}
 use Rattle.cb_world.specs.declared.event.Event.TheVariants.{Looked, Told}
+use Rattle.cb_world.specs.declared.object.Object.{Object}
 use Rattle.cb_world.specs.declared.shown.Shown.{Shown}
 use Rattle.cb_world.specs.FarState.{FarState}
 use Rattle.cb_world.specs.Now.{is_gone}
+use Rattle.cb_world.specs.Performs.{Performs}
+use Rattle.cb_world.specs.Played.{Agree, played}
 use Rattle.cb_world.specs.Reads.{AreReads}
+use Rattle.cb_world.specs.Shown.{never}
+use Rattle.cb_world.specs.Sound.{Sound}
+use Rattle.cb_world.specs.Still.{IsStill}
 use Rattle.cb_world.specs.Touches.{Touches}
 use Rattle.cb_world.proofs.Laws.{look_allowed, look_first, look_found, look_sound, look_still, look_settles_last, look_touches}
 use Rattle.cb_mutate.specs.Answered.{AnsweredAs, EmptyAnswer}
+use Rattle.cb_mutate.specs.WriteRule.{WriteEffect, WriteRule}
 use Rattle.cb_core.specs.Declining.{write_refusal}
 use Rattle.cb_core.specs.Turned.{Declines, Finds}
+use Rattle.cb_core.proofs.FarLooks.{IsAway, found_away}
 
 -- ---- why a write is declined
 pub past_end : (w version at count len : ℕ) → len ≡ len_of w → len < at + count
@@ -45,6 +53,31 @@ may_go_on w version at count len is fits next =
     sym (ap (λ b. if b then Some answer.Worn else None) (ne_eqb version (2 ^ 64 - 1) next))
     ∙ within w version at count len is fits
 
+-- ---- the word of a far object
+-- an object that is known to be far has the word of one
+pub far_word : (shows : Shown → Type 0) (h w : ℕ) → ((s : Shown) × shows s × IsAway s h)
+    → ((s : Shown) → shows s → Agree s (Looked h w ∷ [])) → state_of w ≡ state.Far
+far_word shows h w (s, shown, away) agree =
+    found_away (Looked h w ∷ []) s h w away (agree s shown) tt (inr ((refl, refl), tt))
+
+-- one that a write found far is known to be so behind it
+pub away_after : (runs : List Event → Type 0) (shows then_shows : Shown → Type 0)
+    (far new : FarState) (h at : ℕ) (bytes : List ℕ) (r : Reply)
+    → Performs runs (λ s. shows s × Sound s far) (WriteRule h at bytes r) (λ t. Sound t new)
+    (WriteEffect h at bytes r) → r ≡ answer.NotHere
+    → ((es : List Event) (s : Shown) → runs es → shows s → then_shows (played es s))
+    → ((s : Shown) × shows s × Sound s far) → ((s : Shown) → shows s → IsAway s h)
+    → (s : Shown) × then_shows s × IsAway s h
+away_after runs shows then_shows far new h at bytes r p is follows (s, shown, sound) away =
+    let t = played p.events s in
+    let still : IsStill p.events s t =
+    subst (λ (q : Reply). WriteEffect h at bytes q p.events s t) is (p.effect s (shown, sound)) in
+    let a = away s shown in (
+      t,
+      follows p.events s p.ran shown,
+      (a.0, a.1, a.2, ap (λ (os : List Object). get_or os h never) still.objects ∙ a.3),
+    )
+
 -- ---- a look, and a look at the version word
 module _ {D : Type 0} (run : D → List Event → D → Type 0) (shows : D → Shown → Type 0) (h : ℕ)
     (x y : D) (far : FarState) where
@@ -71,17 +104,17 @@ module _ {D : Type 0} (run : D → List Event → D → Type 0) (shows : D → S
   )
 
   pub declines_by : (at count w v : ℕ) (declined : Option Reply)
-      → run x (Looked h w ∷ Told h v ∷ []) y → is_gone far h ≡ false
+      → run x (Looked h w ∷ Told h v ∷ []) y → is_gone far h ≡ false → state_of w ≡ state.Far
       → declined ≡ write_refusal false (len_of w) v at count
       → Declines run shows h at count (record { desk = x; far = far }) declined
       (record { desk = y; far = far })
-  declines_by at count w v declined ran there is = let es = Told h v ∷ [] in (
+  declines_by at count w v declined ran there away is = let es = Told h v ∷ [] in (
     refl,
     record {
       events = Looked h w ∷ Told h v ∷ [];
       ran = ran;
       looks_first = look_first [] es h w tt (refl, tt);
-      rule = inr (there, (w, v, look_found [] es h w (refl, tt), inr (refl, refl), tt, is));
+      rule = inr (there, (w, v, look_found [] es h w (refl, tt), away, inr (refl, refl), tt, is));
       allowed = λ s k. look_allowed [] es h w s tt (refl, tt);
       sound_after = λ s k. look_sound far s [] es h w k.1 tt (refl, tt);
       effect = λ s k. look_still s [] es h w tt (refl, tt);

@@ -186,7 +186,7 @@ some_same a b e = cc
 pub declined_plain : (h at count : ℕ) (far : FarState) (r : Reply) (es : List Event)
     → IsDeclined h at count far (Some r) es → Plain r
 declined_plain h at count far r es (inl (gone, none, nothing)) = absurd (some_none r none)
-declined_plain h at count far r es (inr (stays, (w, v, found, told, last, is))) =
+declined_plain h at count far r es (inr (stays, (w, v, found, far_word, told, last, is))) =
     by (nat_lt (len_of w) (at + count)) (v == 2 ^ 64 - 1) is
   where
     by : (past worn : Bool) → Some r ≡ (if past then Some (answer.Range (len_of w))

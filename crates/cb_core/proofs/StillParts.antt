@@ -233,7 +233,7 @@ decline_part c seats h at count a b r good (far_same, p) =
     by : IsDeclined h at count a.far r p.events → Refuses at count r (is_gone a.far h) (word_at a.desk h) (stamp_at a.desk h)
     by (inl (gone, none, nothing)) = subst (λ (g : Bool).
         Refuses at count r g (word_at a.desk h) (stamp_at a.desk h)) (sym gone) none
-    by (inr (stays, (w, v, found, told, last, is))) =
+    by (inr (stays, (w, v, found, far_word, told, last, is))) =
         subst (λ (g : Bool). Refuses at count r g (word_at a.desk h) (stamp_at a.desk h)) (sym stays)
         (subst (λ (k : ℕ). Refuses at count r false k (stamp_at a.desk h))
         (sym (found_exact p.events a.desk b.desk h w p.ran.0 p.looks_first found))

@@ -46,7 +46,7 @@ write_writes : (h at : ℕ) (bytes : List ℕ) (r : Reply) (es : List Event) (s 
     × Writes es s more
 write_writes h at bytes (answer.Version n) es s t x = (
   entry h n (len_of x.word) x.words x.new ∷ [],
-  (len_of x.word, x.words, x.new, x.write, refl),
+  (len_of x.word, x.words, x.new, x.write, x.room, refl),
   x.one,
 )
 write_writes h at bytes r es s t x = ([], refl, x.nothing)
@@ -81,7 +81,7 @@ declined_none h at bytes count far r es (inl (gone, none, nothing)) = absurd (so
   where
     some_none : Some r ≡ None → ⊥
     some_none e = cc
-declined_none h at bytes count far r es (inr (stays, (w, v, found, told, last, is))) =
+declined_none h at bytes count far r es (inr (stays, (w, v, found, far_word, told, last, is))) =
     refused_none h at bytes (len_of w) v count r is
 
 swap_none : (h at : ℕ) (bytes : List ℕ) (id p : ℕ) (far new : FarState) (r : Reply)

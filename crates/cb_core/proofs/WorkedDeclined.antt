@@ -61,11 +61,11 @@ abbrev looks : List Event
 looks = Looked 0 16385 ∷ Told 0 3 ∷ []
 
 goes_on : IsDeclined 0 1 1 whole None looks
-goes_on = inr (not_gone, (16385, 3, inr ((refl, refl), ((λ w e. e), tt)), inr (refl, refl), tt, refl))
+goes_on = inr (not_gone, (16385, 3, inr ((refl, refl), ((λ w e. e), tt)), refl, inr (refl, refl), tt, refl))
 
 past_its_end : IsDeclined 0 1 2 whole (Some (answer.Range 2)) looks
 past_its_end =
-    inr (not_gone, (16385, 3, inr ((refl, refl), ((λ w e. e), tt)), inr (refl, refl), tt, refl))
+    inr (not_gone, (16385, 3, inr ((refl, refl), ((λ w e. e), tt)), refl, inr (refl, refl), tt, refl))
 
 not_looked_at : IsDeclined 0 1 2 lost None []
 not_looked_at = inl (gone, refl, refl)
@@ -93,12 +93,12 @@ not_looked (inr x) = x.1.2
 -- no version word was read
 not_told : IsDeclined 0 1 1 whole None (Looked 0 16385 ∷ []) → ⊥
 not_told (inl x) = false≢true (sym not_gone ∙ x.0)
-not_told (inr x) = x.1.3
+not_told (inr x) = x.1.4
 
 -- the version word was read behind a settling
 told_late : IsDeclined 0 1 1 whole None (Looked 0 16385 ∷ Settled 0 0 ∷ Told 0 3 ∷ []) → ⊥
 told_late (inl x) = false≢true (sym not_gone ∙ x.0)
-told_late (inr x) = x.1.4.0
+told_late (inr x) = x.1.5.0
 
 -- ---- rows that were given out in vain
 some_home : (p q : Home) → Some p ≡ Some q → p ≡ q

@@ -55,7 +55,7 @@ at_another_version words x =
 
 written_twice : (e f : Entry) → TurnWrites (Write (handle 0) 0 []) (answer.Version 2) (e ∷ f ∷ []) → ⊥
 written_twice e f x =
-    absurd (let n : 2 ≡ 1 = ap (λ (l : List Entry). length l) x.4 in omega (arith, n))
+    absurd (let n : 2 ≡ 1 = ap (λ (l : List Entry). length l) x.5 in omega (arith, n))
 
 -- a write of no byte leaves the contents, at the next version
 nothing_written : TurnWrites (Write (handle 0) 0 []) (answer.Version 2)
@@ -69,8 +69,16 @@ nothing_written = (
     inside = λ i below. absurd (omega (arith, below));
     outside = λ p below off. refl;
   },
+  omega arith,
   refl,
 )
+
+-- and one past the end of the contents has no version
+written_past_the_end : (old new : List ℕ)
+    → TurnWrites (Write (handle 0) 2 (10 ∷ [])) (answer.Version 2) (entry 0 2 2 old new ∷ []) → ⊥
+written_past_the_end old new x =
+    absurd (let n : 2 ≡ x.0 = ap (λ (l : List Entry). (get_or l 0 none).len) x.5 in
+    let room = x.4 in omega (arith, n, room))
 
 freed : TurnWrites (Free (handle 0)) (answer.Version 2) (gone 0 2 (2826 ∷ []) ∷ [])
 freed = (2826 ∷ [], refl)

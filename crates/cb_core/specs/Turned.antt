@@ -1,6 +1,7 @@
 -- A turn over any desk.
 use Rattle.std.specs.Prelude.{◌≡◌, ◌⊎◌, ℕ, ◌^◌, ◌<◌, ◌≤◌, true, false, List, [], Option, None, Some, length}
-use Rattle.cb_ptr.specs.Word.{len_of}
+use Rattle.cb_ptr.specs.declared.word.State.TheVariants as state
+use Rattle.cb_ptr.specs.Word.{len_of, state_of}
 use Rattle.cb_set.specs.SetState.{SetState}
 use Rattle.cb_types.specs.declared.config.Config.{Config}
 use Rattle.cb_types.specs.declared.job.Job.{Job}
@@ -89,11 +90,12 @@ Finds run shows h =
     (λ far new r. IsStill)
 
 -- a far object is looked at before a write of so many bytes: the write is declined by the length of
--- its word and by its version word, which is read before any word is stored
+-- its word, which is that of a far object, and by its version word, which is read before any word is
+-- stored
 abbrev pub IsDeclined : ℕ → ℕ → ℕ → FarState → Option Reply → List Event → Type 0
 IsDeclined h at count far declined es = ((is_gone far h ≡ true) × (declined ≡ None) × (es ≡ []))
-    ⊎ ((is_gone far h ≡ false) × ((w v : ℕ) × IsFound h w es × IsTold h v es × SettlesLast es
-    × (declined ≡ write_refusal false (len_of w) v at count)))
+    ⊎ ((is_gone far h ≡ false) × ((w v : ℕ) × IsFound h w es × (state_of w ≡ state.Far)
+    × IsTold h v es × SettlesLast es × (declined ≡ write_refusal false (len_of w) v at count)))
 
 abbrev pub Declines : {D : Type 0} → (D → List Event → D → Type 0) → (D → Shown → Type 0) → ℕ → ℕ → ℕ
     → Holding D → Option Reply → Holding D → Type 0

@@ -45,6 +45,8 @@ pub(crate) fn decline<D: Desk>(
     requires handle { h.n < (D.settings desk.old).handles }
     requires homes { h.n < length far.now.homes }
     requires sound { (s : Shown) × D.shows desk.old s × Sound s far.now }
+    requires away { (s : Shown) × D.shows desk.old s
+        × ((len v : ℕ) × (words : List ℕ) × (object_at s h.n ≡ is.Far len v words)) }
     ensures declines { Declines (λ d es e. D.run d es e) (λ d s. D.shows d s) h.n at
         (length bytes.now) (record { desk = desk.old; far = far.now }) result
         (record { desk = desk.new; far = far.now }) }

@@ -5,6 +5,7 @@ pub mod Berths
 pub mod Moved
 pub mod Settled
 pub mod Filtered
+pub mod Unmade
 pub mod FilterStep
 pub mod StepFixed
 pub mod Stays

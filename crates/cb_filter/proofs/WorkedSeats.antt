@@ -282,6 +282,7 @@ rule = record {
   word = word;
   found = inr ((refl, refl), ((λ x e. e), tt));
   settles_last = (tt, tt, tt, tt);
+  unmade = λ e. absurd cc;
   answer = here_moves;
 }
 
@@ -290,10 +291,12 @@ rule_of_none = record {
   word = 0;
   found = inr ((refl, refl), ((λ x e. e), tt));
   settles_last = tt;
+  unmade = λ e. tt;
   answer = (never_made, refl);
 }
 
--- nothing was found; a word was stored behind the pointer word; another answer
+-- nothing was found; a word was stored behind the pointer word; an object that was never made was
+-- changed
 rule_without_a_look : ¬ (FilterRule 3 0 far far answer.Unmade (Told 0 0 ∷ []))
 rule_without_a_look x = found x.found
   where
@@ -304,6 +307,9 @@ rule_without_a_look x = found x.found
 rule_with_a_late_store : ¬ (FilterRule 3 0 far far answer.Unmade
     (Looked 0 0 ∷ Told 0 0 ∷ Settled 0 0 ∷ Stored 0 0 ∷ []))
 rule_with_a_late_store x = x.settles_last.1
+
+rule_of_a_change : ¬ (FilterRule 3 0 far far answer.Unmade (Looked 0 0 ∷ Told 0 0 ∷ Settled 0 0 ∷ []))
+rule_of_a_change x = x.unmade refl
 
 -- ---- no memory
 -- the cold span is full, and frame 2 is free

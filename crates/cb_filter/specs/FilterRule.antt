@@ -1,5 +1,5 @@
 -- The rule of a filter: its reply, and the far state after it.
-use Rattle.std.specs.Prelude.{◌≡◌, ◌≢◌, ◌⊎◌, ℕ, zero, suc, ◌≤◌, List}
+use Rattle.std.specs.Prelude.{◌≡◌, ◌≢◌, ◌⊎◌, ℕ, zero, suc, ◌≤◌, List, [], ◌∷◌}
 use Rattle.cb_ptr.specs.declared.word.State.{State}
 use Rattle.cb_ptr.specs.declared.word.State.TheVariants as word
 use Rattle.cb_ptr.specs.Word.{state_of, hot_of, pins_of}
@@ -7,6 +7,7 @@ use Rattle.cb_span.specs.declared.temp.Temp.{Temp}
 use Rattle.cb_types.specs.declared.reply.Reply.{Reply}
 use Rattle.cb_types.specs.declared.reply.Reply.TheVariants as answer
 use Rattle.cb_world.specs.declared.event.Event.{Event}
+use Rattle.cb_world.specs.declared.event.Event.TheVariants.{Looked, Told, Loaded}
 use Rattle.cb_world.specs.Looks.{IsFound, IsTaken, IsTold}
 use Rattle.cb_world.specs.Touches.{SettlesLast}
 use Rattle.cb_world.specs.FarState.{FarState}
@@ -69,13 +70,23 @@ abbrev pub FilterAs : State → ℕ → ℕ → ℕ → FarState → FarState �
 FilterAs word.Here frames h w far new r es = FilterHere frames h w far new r es
 FilterAs state frames h w far new r es = AbsentAs state h es r × (new ≡ far)
 
+-- every event tells of a word, and nothing else is done
+abbrev pub OnlyTell : List Event → Type 0
+OnlyTell [] = Unit {0}
+OnlyTell (Looked k w ∷ es) = OnlyTell es
+OnlyTell (Told k v ∷ es) = OnlyTell es
+OnlyTell (Loaded p x ∷ es) = OnlyTell es
+OnlyTell (e ∷ es) = ⊥
+
 -- The reply of a filter, and the far state after it, by the word that the last look at the object
--- found, where there are so many frames. Its pointer word is stored last.
+-- found, where there are so many frames. Its pointer word is stored last. An object that is told as
+-- never made is looked at alone.
 pub record FilterRule (frames h : ℕ) (far new : FarState) (r : Reply) (es : List Event)
     : Type 0 where
   pub word : ℕ
   pub found : IsFound h word es
   pub settles_last : SettlesLast es
+  pub unmade : r ≡ answer.Unmade → OnlyTell es
   pub answer : FilterAs (state_of word) frames h word far new r es
 
 -- The object was claimed and needs a new span, for which there was no memory. The far state stays.

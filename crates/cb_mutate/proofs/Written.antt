@@ -82,9 +82,9 @@ back_well far s t first done h w v words sound a back =
 rewritten_well : (far : FarState) (s t : Shown) (first done : List Event) (h w v at : ℕ)
     (words bytes : List ℕ) → Sound s far → IsAfterClaim s h w v words first done
     → IsFound h w (first ++ done) → IsTaken h v words (first ++ done)
-    → IsRewritten (played first s) h w v at words bytes done t
+    → at + length bytes ≤ len_of w → IsRewritten (played first s) h w v at words bytes done t
     → Sound t far × IsWritten h (v + 1) at bytes (first ++ done) s t
-rewritten_well far s t first done h w v at words bytes sound a found taken x =
+rewritten_well far s t first done h w v at words bytes sound a found taken inside x =
     let u = with_rewritten (claimed_from s a.hots h w v words) h w v x.new in
     let all : t ≡ u = x.settled ∙ ap (λ (q : Shown). with_rewritten q h w v x.new) a.at_claim in
     let objects = objects_back s a.hots h w v words true a.here in
@@ -104,6 +104,7 @@ rewritten_well far s t first done h w v at words bytes sound a found taken x =
         words = words;
         new = x.new;
         found = found;
+        room = inside;
         taken = taken;
         next = refl;
         write = x.write;
@@ -148,7 +149,8 @@ write_done far s t first done h w v at words bytes r sound a free found taken (i
       rule = inr (inside, inr (free.1, (v, words, taken, inl (z.0, z.1))));
     }
     ending inside (inr z) =
-        let y = rewritten_well far s t first done h w v at words bytes sound a found taken z.2 in
+        let y = rewritten_well far s t first done h w v at words bytes sound a found taken inside z.2
+        in
         record {
           sound = y.0;
           effect = subst (λ (q : Reply). WriteEffect h at bytes q (first ++ done) s t) (sym z.1)

@@ -1,5 +1,5 @@
 -- The versions that a job writes, by its reply.
-use Rattle.std.specs.Prelude.{◌≡◌, ℕ, List, [], ◌∷◌, length}
+use Rattle.std.specs.Prelude.{◌≡◌, ℕ, ◌+◌, ◌≤◌, List, [], ◌∷◌, length}
 use Rattle.cb_types.specs.declared.job.Job.{Job}
 use Rattle.cb_types.specs.declared.job.Job.TheVariants.{Make, Write, Free}
 use Rattle.cb_types.specs.declared.reply.Reply.{Reply}
@@ -15,10 +15,11 @@ MakeWrites bytes (answer.Made h v) more = (words : List ℕ) × AreWordsOf bytes
     × (more ≡ entry h.n v (length bytes) [] words ∷ [])
 MakeWrites bytes r more = more ≡ []
 
--- a write that is answered a version writes that one: the contents with the bytes in them
+-- a write that is answered a version writes that one: the contents with the bytes in them, for
+-- which there is room
 abbrev pub WriteWrites : ℕ → ℕ → List ℕ → Reply → List Entry → Type 0
 WriteWrites h at bytes (answer.Version n) more = (len : ℕ) × (old : List ℕ) × (new : List ℕ)
-    × IsWrite old at bytes new × (more ≡ entry h n len old new ∷ [])
+    × IsWrite old at bytes new × (at + length bytes ≤ len) × (more ≡ entry h n len old new ∷ [])
 WriteWrites h at bytes r more = more ≡ []
 
 -- a free that is answered a version writes that one, which has no contents

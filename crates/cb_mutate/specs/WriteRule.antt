@@ -31,14 +31,15 @@ WriteHere h at bytes es r w =
 abbrev pub WriteRule : ℕ → ℕ → List ℕ → Reply → List Event → Type 0
 WriteRule h at bytes r es = Answered (WriteHere h at bytes es r) h es r
 
--- the object has its next version, and the words of its contents with the write, of which those
--- that it reaches alone are stored, and is hot
+-- the object, in which the bytes have room, has its next version, and the words of its contents
+-- with the write, of which those that it reaches alone are stored, and is hot
 pub record IsWritten (h n at : ℕ) (bytes : List ℕ) (es : List Event) (s t : Shown) : Type 0 where
   pub word : ℕ
   pub version : ℕ
   pub words : List ℕ
   pub new : List ℕ
   pub found : IsFound h word es
+  pub room : at + length bytes ≤ len_of word
   pub taken : IsTaken h version words es
   pub next : n ≡ version + 1
   pub write : IsWrite words at bytes new

@@ -11,6 +11,7 @@ use Rattle.cb_world.specs.Homes.{home_at}
 use Rattle.cb_core.specs.Parts.{NeverLacks}
 use Rattle.cb_core.specs.Turned.{BringLacks, Brings, Declines, Writes}
 use Rattle.cb_core.proofs.Composing.{bring_lacks_as, brings_as, far_comes, far_kept, far_kept_if, far_stays, far_stops, holding, is_declined, shown_after}
+use Rattle.cb_core.proofs.DeclinedLooks.{away_after}
 use Rattle.cb_core.proofs.Exits.{configured_as, is_near}
 use Rattle.cb_core.proofs.PartsFar.{far_has_home}
 use Rattle.cb_core.proofs.bringing.write_anywhere.Goals as goal
@@ -24,6 +25,14 @@ pub decline-requires-clause-sound : goal.decline-requires-clause-sound
 decline-requires-clause-sound g c =
     shown_after _ _ _ _ _ _ _ c.in_ok-reply.ensures.write
     (λ es s ran a. (g.met.D.Desk.follows _ _ es s ran a).1) c.requires.sound
+
+pub decline-requires-clause-away : goal.decline-requires-clause-away
+decline-requires-clause-away g c =
+    let far = c.is_not_here.ensures.yes c.if-not-is_not_here.false in
+    away_after _ _ _ _ _ c.args.h.n c.args.at c.args.bytes.now c.in_ok-reply.reply
+    c.in_ok-reply.ensures.write far
+    (λ es s ran a. (g.met.D.Desk.follows _ _ es s ran a).1) c.requires.sound
+    (c.in_ok-reply.ensures.away far)
 
 pub returns-in-Some-clause-writes : goal.returns-in-Some-clause-writes
 returns-in-Some-clause-writes g c =

@@ -18,6 +18,7 @@ use Rattle.cb_filter.specs.ClaimEnds.{Ends, FilterEnds, SeatEnds, IsKnownAt}
 use Rattle.cb_filter.proofs.Moved.{slot_here, seat_of, seat_lies}
 use Rattle.cb_filter.proofs.Settled.{settled_well, is_still}
 use Rattle.cb_filter.proofs.Filtered.{IsBegun, filter_done, no_memory, known_at, refused_effect, refused_rule}
+use Rattle.cb_filter.proofs.Unmade.{here_made, look_tells}
 use Rattle.cb_filter.proofs.filtering.filter_one.Goals as goal
 
 pub filter_claimed-requires-clause-numbered : goal.filter_claimed-requires-clause-numbered
@@ -98,6 +99,7 @@ returns-in-Left-clause-filter g c =
         word = w;
         found = look_found before rest.0 h w rest.2;
         settles_last = look_settles_last h w before rest.0 tried.2 rest.2;
+        unmade = λ is. look_tells h w before rest.0 tried.2 rest.2;
         answer = refused_rule (state_of w) _ h w far first rest.0 r rest.3;
       };
       allowed = λ s k. look_allowed before rest.0 h w s tried.2 rest.2;
@@ -163,6 +165,8 @@ returns-in-Claimed-clause-filter g c =
         word = w;
         found = claim_found before done h w v words rest.no_look;
         settles_last = claim_settles_last h w v words before done tried.4 rest.settles_last;
+        unmade = λ is. absurd (here_made (g.D.Desk.settings c.args.desk.now).frames h w far new r
+            (first ++ done) (ended had.0 had.1 had.2).rule is);
         answer = subst (λ (q : State). FilterAs q (g.D.Desk.settings c.args.desk.now).frames h w far
             new r (first ++ done)) (sym tried.5.0) (ended had.0 had.1 had.2).rule;
       };
