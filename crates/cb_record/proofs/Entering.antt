@@ -72,8 +72,8 @@ write_alike h name at bytes (answer.Version v) own e = inr (record {
   entry = _;
   change = (v, Overwrite at bytes);
   changes = refl;
-  entries = e.4;
-  stands = record { handle = refl; version = refl; does = (refl, e.3) };
+  entries = e.5;
+  stands = record { handle = refl; version = refl; does = (refl, e.3, e.4) };
 })
 write_alike h name at bytes r own e = inl (refl, e)
 

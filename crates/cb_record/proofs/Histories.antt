@@ -106,15 +106,35 @@ module _ (first : ℕ) (v : View) (entries : EntriesStand first (v ∷ [])) (qui
   written e w = subst (λ (fs : List Entry). Has e (fs ++ v.written)) quiet
       (subst (λ (u : View). Has e (u.fresh ++ u.written)) (only w.0 w.1) w.2)
 
-  pub linked : OneLength v.written → AreLinked first v.written
-  linked long = record {
+  -- an entry that is not the freed one is as long as its object's first
+  made_long : (n : ℕ) (e : Entry) → Has e v.written → e.version ≤ n → e.freed ≡ false
+      → (x : Entry) × Has x v.written × (x.handle ≡ e.handle) × (x.version ≡ first)
+      × (e.len ≡ x.len)
+  made_long zero e he low kept = ⊎_elim
+      (λ (z : (e.version ≡ first) × (e.before ≡ [])). (e, he, refl, z.0, refl))
+      (λ (z : _). absurd (let next = z.3 in omega (arith, next, low)))
+      (entries.goes_on e (wrote e he))
+  made_long (suc n) e he low kept = ⊎_elim
+      (λ (z : (e.version ≡ first) × (e.before ≡ [])). (e, he, refl, z.0, refl))
+      (λ (z : _).
+      let x = made_long n z.0 (written z.0 z.1) (let next = z.3 in omega (arith, next, low)) z.5 in
+      (x.0, x.1, x.2 ∙ z.2, x.3, z.6 kept ∙ x.4)) (entries.goes_on e (wrote e he))
+
+  -- so all of them have one length
+  pub one_length : OneLength v.written
+  one_length e x he hx on ke kx =
+      let a = made_long e.version e he (omega arith) ke in
+      let b = made_long x.version x hx (omega arith) kx in
+      a.4 ∙ ap (λ (y : Entry). y.len) (entries.same a.0 b.0 (wrote a.0 a.1) (wrote b.0 b.1)
+      (a.2 ∙ on ∙ sym b.2) (a.3 ∙ sym b.3)) ∙ sym b.4
+
+  pub linked : AreLinked first v.written
+  linked = record {
     same = λ e x he hx on at. entries.same e x (wrote e he) (wrote x hx) on at;
     born = λ e he. entries.born e (wrote e he);
     goes_on = λ e he. ⊎_elim (λ (z : (e.version ≡ first) × (e.before ≡ [])). inl z.0)
-        (λ (z : (x : Entry) × Wrote (v ∷ []) x × (x.handle ≡ e.handle) × (x.version + 1 ≡ e.version)
-        × (x.after ≡ e.before) × (x.freed ≡ false)).
-        inr (z.0, written z.0 z.1, z.2, z.3, z.4, z.5)) (entries.goes_on e (wrote e he));
-    long = long;
+        (λ (z : _). inr (z.0, written z.0 z.1, z.2, z.3, z.4, z.5)) (entries.goes_on e (wrote e he));
+    long = one_length;
   }
 
   -- each version from the first to the last is written once, and no other
@@ -152,10 +172,10 @@ module _ (first : ℕ) (v : View) (entries : EntriesStand first (v ∷ [])) (qui
   still_any (c ∷ cs) one = inl tt
 
   -- the changes at an object, in order, are its entries
-  pub histories : (long : OneLength v.written) (h : ℕ) (cs : List (ℕ × Change))
+  pub histories : (h : ℕ) (cs : List (ℕ × Change))
       → IsPiece first v.written h cs v.written → (HasOne Any cs → HasOne (IsMake first) cs)
-      → AreTrue first v.written h (linked long) (by_version cs)
-  histories long h cs piece made = are_true first v.written h (linked long) (by_version cs)
+      → AreTrue first v.written h linked (by_version cs)
+  histories h cs piece made = are_true first v.written h linked (by_version cs)
       (⊎_elim (λ (z : (e : Entry) × IsTop h v.written e).
       versions_run first z.0.version (by_version cs) (ordered_by_version cs)
       (λ k. times_by_version (changes_at k) cs ∙ piece.counts k ∙ counted h z.0 z.1 k))

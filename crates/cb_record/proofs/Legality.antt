@@ -9,7 +9,7 @@ use Rattle.cb_model.specs.Legal.{IsLegal, Rising}
 use Rattle.cb_record.specs.Backs.{Backs}
 use Rattle.cb_record.specs.Rises.{IsOnRecord}
 use Rattle.cb_record.specs.Told.{tolds}
-use Rattle.cb_record.specs.Upheld.{OneLength, Upholds, as_part}
+use Rattle.cb_record.specs.Upheld.{Upholds, as_part}
 use Rattle.cb_record.proofs.Histories.{histories, linked}
 use Rattle.cb_record.proofs.Known.{on_record}
 use Rattle.cb_record.proofs.Links.{AreTrue}
@@ -18,13 +18,13 @@ use Rattle.cb_record.proofs.Pieces.{pieces}
 use Rattle.cb_record.proofs.Replied.{all_told}
 
 module _ (first handles : ℕ) (v : View) (answers : List Answer)
-    (entries : EntriesStand first (v ∷ [])) (quiet : v.fresh ≡ []) (long : OneLength v.written)
+    (entries : EntriesStand first (v ∷ [])) (quiet : v.fresh ≡ [])
     (backs : Backs (as_part v) (tolds [] answers))
     (upheld : AllByRecursion (Upholds first handles (calls_of answers) v) (calls_of answers)) where
   -- the history of each object is that of its entries
   pub are_histories : (h : ℕ)
-      → AreTrue first v.written h (linked first v entries quiet long) (history (calls_of answers) h)
-  are_histories h = histories first v entries quiet long h (changes_to h (calls_of answers))
+      → AreTrue first v.written h (linked first v entries quiet) (history (calls_of answers) h)
+  are_histories h = histories first v entries quiet h (changes_to h (calls_of answers))
       (pieces first handles (calls_of answers) v h [] answers v.written backs.wrote upheld (λ e there. there))
       (made first handles (calls_of answers) v h [] answers (λ name e. absurd cc) upheld)
 
@@ -32,7 +32,7 @@ module _ (first handles : ℕ) (v : View) (answers : List Answer)
   pub legal_of_backed : Rising (calls_of answers) → IsLegal first handles answers
   legal_of_backed rising = record {
     histories = λ h. (are_histories h).history;
-    told = all_told first handles (calls_of answers) v entries quiet long are_histories [] answers backs.tells upheld;
+    told = all_told first handles (calls_of answers) v entries quiet are_histories [] answers backs.tells upheld;
     rising = rising;
   }
 

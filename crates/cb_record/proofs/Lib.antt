@@ -12,6 +12,8 @@ mod Legality
 mod Meeting
 mod Rising
 mod Known
+mod Happening
+mod Upholding
 pub mod Laws
 mod WorkedParts
 mod WorkedNeeds

@@ -13,12 +13,13 @@ use Rattle.cb_model.specs.Now.{Now, Change, changed, overwritten}
 use Rattle.cb_model.specs.Now.Change.{Create, Overwrite, Remove}
 use Rattle.cb_model.specs.History.{GoesOn, IsHistory, IsMadeWith, at_version, left_by}
 use Rattle.cb_record.specs.Lists.{HasOne}
-use Rattle.cb_record.specs.Upheld.{IsLong, OneLength}
+use Rattle.cb_record.specs.Upheld.{OneLength}
 
 -- what an entry has of the change that wrote it
 abbrev pub DoesTo : Entry → Change → Type 0
 DoesTo e (Create bytes) = (e.freed ≡ false) × (e.len ≡ length bytes) × AreWordsOf bytes e.after
-DoesTo e (Overwrite at bytes) = (e.freed ≡ false) × IsWrite e.before at bytes e.after
+DoesTo e (Overwrite at bytes) =
+    (e.freed ≡ false) × IsWrite e.before at bytes e.after × (at + length bytes ≤ e.len)
 DoesTo e Remove = e.freed ≡ true
 
 -- the entry is that of the change
@@ -27,12 +28,11 @@ pub record StandsFor (h : ℕ) (e : Entry) (c : ℕ × Change) : Type 0 where
   pub version : e.version ≡ c.0
   pub does : DoesTo e c.1
 
--- where a change may stand: a make first, and every other above; a write within the bytes
-abbrev pub Fits : ℕ → List Entry → ℕ → ℕ × Change → Type 0
-Fits first es h (v, Create bytes) = v ≡ first
-Fits first es h (v, Overwrite at bytes) =
-    (len : ℕ) × IsLong es h len × (at + length bytes ≤ len)
-Fits first es h (v, Remove) = Unit {0}
+-- where a change may stand: a make first, and every other above
+abbrev pub Fits : ℕ → ℕ × Change → Type 0
+Fits first (v, Create bytes) = v ≡ first
+Fits first (v, Overwrite at bytes) = Unit {0}
+Fits first (v, Remove) = Unit {0}
 
 -- it makes the object, at the first version
 abbrev pub IsMake : ℕ → ℕ × Change → Type 0
@@ -48,7 +48,7 @@ pub record IsEntered (first : ℕ) (es : List Entry) (h : ℕ) (c : ℕ × Chang
   pub entry : Entry
   pub there : Has entry es
   pub stands : StandsFor h entry c
-  pub fits : Fits first es h c
+  pub fits : Fits first c
 
 -- the entries before and after one another
 pub record AreLinked (first : ℕ) (es : List Entry) : Type 0 where
@@ -107,22 +107,22 @@ module _ (first : ℕ) (es : List Entry) (h : ℕ) (linked : AreLinked first es)
       let y = all.0.entry in
       let next : y.version ≡ x.version + 1 = all.0.stands.version ∙ run.0 in
       let l = link x y hx all.0.there ex all.0.stands.handle next in
-      let entry_len = all.0.fits.1 in
-      let room : at + length bytes ≤ x.len =
-      let same = linked.long entry_len.0 x entry_len.1 hx (entry_len.2 ∙ sym ex) entry_len.3 kept in
-      omega (arith, same, entry_len.4, all.0.fits.2) in (
+      let does = all.0.stands.does in
+      let long : y.len ≡ x.len =
+      linked.long y x all.0.there hx (all.0.stands.handle ∙ sym ex) does.0 kept in
+      let room : at + length bytes ≤ x.len = let within = does.2 in omega (arith, long, within) in (
         y,
         record {
           there = all.0.there;
           handle = all.0.stands.handle;
           version = all.0.stands.version;
           next = run.0;
-          kept = all.0.stands.does.0;
-          len = linked.long y x all.0.there hx (all.0.stands.handle ∙ sym ex) all.0.stands.does.0 kept;
+          kept = does.0;
+          len = long;
           room = room;
-          write = subst (λ (old : List ℕ). IsWrite old at bytes y.after) (sym l.0) all.0.stands.does.1;
+          write = subst (λ (old : List ℕ). IsWrite old at bytes y.after) (sym l.0) does.1;
         },
-        chained y later all.0.there all.0.stands.handle all.0.stands.does.0 (subst (λ (n : ℕ). IsRun (n + 1) later) (sym next) run.1) all.1,
+        chained y later all.0.there all.0.stands.handle does.0 (subst (λ (n : ℕ). IsRun (n + 1) later) (sym next) run.1) all.1,
       )
   chained x ((v, Remove) ∷ []) hx ex kept run all = (run.0, refl)
   chained x ((v, Remove) ∷ d ∷ later) hx ex kept run all =

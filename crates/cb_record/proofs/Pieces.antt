@@ -49,7 +49,7 @@ module _ (first : ℕ) (es : List Entry) (h : ℕ) where
         (split e rest own there);
   }
 
-  piece_one : (n : ℕ) (e : Entry) (c : ℕ × Change) → Has e es → StandsFor n e c → Fits first es n c
+  piece_one : (n : ℕ) (e : Entry) (c : ℕ × Change) → Has e es → StandsFor n e c → Fits first c
       → IsPiece (cond (eqb h n) (c ∷ []) []) (e ∷ [])
   piece_one n e c there s fits = by_case (λ b. IsPiece (cond b (c ∷ []) []) (e ∷ [])) (eqb h n)
       (λ is. let one : n ≡ h = sym (eqb-true h n is) in
@@ -63,7 +63,7 @@ module _ (first : ℕ) (es : List Entry) (h : ℕ) where
             entry = e;
             there = there;
             stands = subst (λ (m : ℕ). StandsFor m e c) one s;
-            fits = subst (λ (m : ℕ). Fits first es m c) one fits;
+            fits = fits;
           },
           tt,
         );
@@ -88,7 +88,7 @@ module _ (first : ℕ) (es : List Entry) (h : ℕ) where
 
   piece_of : (handle : Option ℕ) (cs : List (ℕ × Change)) (own : List Entry)
       → AreAlike handle cs own → ((e : Entry) → Has e own → Has e es)
-      → ((n : ℕ) → handle ≡ Some n → AllByRecursion (Fits first es n) cs)
+      → ((n : ℕ) → handle ≡ Some n → AllByRecursion (Fits first) cs)
       → IsPiece (at_it handle cs) own
   piece_of handle cs own alike sub fits = ⊎_elim
       (λ (none : (cs ≡ []) × (own ≡ [])).
@@ -98,7 +98,7 @@ module _ (first : ℕ) (es : List Entry) (h : ℕ) where
       (λ _. piece_none) (λ _. piece_none))))
       (λ (one : IsOne handle cs own).
       let there = sub one.entry (subst (λ (xs : List Entry). Has one.entry xs) (sym one.entries) (inl refl)) in
-      let fit = subst (λ (ds : List (ℕ × Change)). AllByRecursion (Fits first es one.number) ds) one.changes (fits one.number one.about) in
+      let fit = subst (λ (ds : List (ℕ × Change)). AllByRecursion (Fits first) ds) one.changes (fits one.number one.about) in
       subst (λ (k : Option ℕ). IsPiece (at_it k cs) own) (sym one.about)
       (subst (λ (ds : List (ℕ × Change)). IsPiece (at_it (Some one.number) ds) own) (sym one.changes)
       (subst (λ (xs : List Entry). IsPiece (at_it (Some one.number) (one.change ∷ [])) xs) (sym one.entries)
@@ -107,9 +107,9 @@ module _ (first : ℕ) (es : List Entry) (h : ℕ) where
 module _ (first handles : ℕ) (calls : List Called) (v : View) where
   -- a change of an answer that is upheld stands where it may
   fits_upheld : (n : ℕ) (e : Event) → IsUpheld first handles calls v (Some n) e
-      → AllByRecursion (Fits first v.written n) (change_of e)
+      → AllByRecursion (Fits first) (change_of e)
   fits_upheld n (Makes bytes version) up = (up.1, tt)
-  fits_upheld n (Writes at bytes version) up = (up, tt)
+  fits_upheld n (Writes at bytes version) up = (tt, tt)
   fits_upheld n (Frees version) up = (tt, tt)
   fits_upheld n (Shows version bytes) up = tt
   fits_upheld n (Pins version) up = tt

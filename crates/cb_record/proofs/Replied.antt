@@ -26,7 +26,7 @@ use Rattle.cb_record.specs.Backs.{Tells}
 use Rattle.cb_record.specs.Lists.{HasOne}
 use Rattle.cb_record.specs.Needs.{ArePeeked, IsFreedAs, IsPinnedAs, IsReadAs, Meets, need_of}
 use Rattle.cb_record.specs.Told.{tolds}
-use Rattle.cb_record.specs.Upheld.{IsSeenLong, IsUpheld, OneLength, Upholds, as_part}
+use Rattle.cb_record.specs.Upheld.{IsSeenLong, IsUpheld, Upholds, as_part}
 use Rattle.cb_record.proofs.Histories.{linked, written}
 use Rattle.cb_record.proofs.Links.{AreTrue}
 use Rattle.cb_record.proofs.Meeting.{IsMet, met}
@@ -68,9 +68,8 @@ module _ (first handles : ℕ) (calls : List Called) (v : View) where
   none_true (Refused Other) up = absurd up
   none_true Wrong up = absurd up
 
-  module _ (entries : EntriesStand first (v ∷ [])) (quiet : v.fresh ≡ [])
-      (long : OneLength v.written) (h : ℕ)
-      (are : AreTrue first v.written h (linked first v entries quiet long) (history calls h)) where
+  module _ (entries : EntriesStand first (v ∷ [])) (quiet : v.fresh ≡ []) (h : ℕ)
+      (are : AreTrue first v.written h (linked first v entries quiet) (history calls h)) where
     -- what was read is an entry
     entry_seen : (s : Seen) → Has s v.seen → (e : Entry) × Has e v.written × (s ≡ seen_of e)
     entry_seen s there = let z = entries.read s (v, (0, refl), there) in
@@ -121,7 +120,7 @@ module _ (first handles : ℕ) (calls : List Called) (v : View) where
         (let p = entries.peeked _ (v, (0, refl), peeked.each j low) in
         let w = written first v entries quiet p.0 p.1 in
         let same : p.0 ≡ e.0 =
-        (linked first v entries quiet long).same p.0 e.0 w e.1
+        (linked first v entries quiet).same p.0 e.0 w e.1
         (sym p.2.handle ∙ sym z.2.0 ∙ ap (λ (x : Seen). x.handle) e.2)
         (sym p.2.version ∙ sym z.2.1 ∙ ap (λ (x : Seen). x.version) e.2) in
         p.2.word ∙ ap (λ (x : Entry). get_or x.after j 0) same
@@ -151,23 +150,23 @@ module _ (first handles : ℕ) (calls : List Called) (v : View) where
     some_true (Refused Other) m up = tt
     some_true Wrong m up = absurd up
 
-  told_true : (entries : EntriesStand first (v ∷ [])) (quiet : v.fresh ≡ []) (long : OneLength v.written)
-      → ((h : ℕ) → AreTrue first v.written h (linked first v entries quiet long) (history calls h))
+  told_true : (entries : EntriesStand first (v ∷ [])) (quiet : v.fresh ≡ [])
+      → ((h : ℕ) → AreTrue first v.written h (linked first v entries quiet) (history calls h))
       → (handle : Option ℕ) (q : Request) (r : Reply) → Meets (as_part v) (need_of handle q r)
       → IsUpheld first handles calls v handle (event_of q r)
       → IsTrueOf handles calls handle (event_of q r)
-  told_true entries quiet long are None q r m up = none_true (event_of q r) up
-  told_true entries quiet long are (Some h) q r m up =
-      some_true entries quiet long h (are h) (event_of q r) (met (as_part v) h q r m) up
+  told_true entries quiet are None q r m up = none_true (event_of q r) up
+  told_true entries quiet are (Some h) q r m up =
+      some_true entries quiet h (are h) (event_of q r) (met (as_part v) h q r m) up
 
   -- what each answer tells is so
-  pub all_told : (entries : EntriesStand first (v ∷ [])) (quiet : v.fresh ≡ []) (long : OneLength v.written)
-      → ((h : ℕ) → AreTrue first v.written h (linked first v entries quiet long) (history calls h))
+  pub all_told : (entries : EntriesStand first (v ∷ [])) (quiet : v.fresh ≡ [])
+      → ((h : ℕ) → AreTrue first v.written h (linked first v entries quiet) (history calls h))
       → (before after : List Answer) → AllByRecursion (Tells (as_part v)) (tolds before after)
       → AllByRecursion (Upholds first handles calls v) (calls_behind before after)
       → AllByRecursion (λ (call : Called). IsTrueOf handles calls call.handle call.event) (calls_behind before after)
-  all_told entries quiet long are before [] m up = tt
-  all_told entries quiet long are before (a ∷ after) m up = (
-    told_true entries quiet long are (handle_for before a.request a.reply) a.request a.reply m.0 up.0,
-    all_told entries quiet long are (before ++ a ∷ []) after m.1 up.1,
+  all_told entries quiet are before [] m up = tt
+  all_told entries quiet are before (a ∷ after) m up = (
+    told_true entries quiet are (handle_for before a.request a.reply) a.request a.reply m.0 up.0,
+    all_told entries quiet are (before ++ a ∷ []) after m.1 up.1,
   )

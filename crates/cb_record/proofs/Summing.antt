@@ -12,8 +12,8 @@ use Rattle.cb_rule.specs.declared.view.View.{View}
 use Rattle.cb_record.specs.Backs.{Backs, Tells, Wrote, happened_for, pins_for, turn_of}
 use Rattle.cb_record.specs.Deeds.{Deed, deed, happened}
 use Rattle.cb_record.specs.Lists.{IsAmong, newest_first}
-use Rattle.cb_record.specs.Needs.{FindsEmpty, FindsPins, IsFreedAs, IsPinnedAs, IsReadAs, IsTurnFor, Meets, Need, peek_at}
-use Rattle.cb_record.specs.Needs.Need.{Nothing, ARead, APin, APeek, AFreed, APinned, ATurn}
+use Rattle.cb_record.specs.Needs.{FindsEmpty, FindsPast, FindsPins, IsFreedAs, IsOwnTurn, IsPinnedAs, IsReadAs, IsTurnFor, Meets, Need, peek_at}
+use Rattle.cb_record.specs.Needs.Need.{Nothing, ARead, APin, APeek, AFreed, APinned, AnEnd, ATurn}
 use Rattle.cb_record.specs.Parts.{Part, grown, nothing_more, sum}
 use Rattle.cb_record.specs.Told.{Told, told, tolds}
 use Rattle.cb_record.proofs.Listing.{all_append, all_map, among_append, among_none, has_left, has_one_left, has_one_right, has_right, newest_append}
@@ -48,6 +48,10 @@ meets_earlier d e (APinned own h count) (inl m) =
     inl (has_one_right (FindsPins h count) e.looks d.looks m)
 meets_earlier d e (APinned own h count) (inr m) =
     inr (has_one_right (IsTurnFor own (Some h) (answer.Pinned count)) e.turns d.turns m)
+meets_earlier d e (AnEnd own h at count len) (inl m) =
+    inl (has_one_right (FindsPast h at count len) e.looks d.looks m)
+meets_earlier d e (AnEnd own h at count len) (inr m) =
+    inr (has_one_right (IsOwnTurn own (answer.Range len)) e.turns d.turns m)
 meets_earlier d e (ATurn own h reply) m = has_one_right (IsTurnFor own h reply) e.turns d.turns m
 
 -- and what the later one has
@@ -68,6 +72,10 @@ meets_later d e (APinned own h count) (inl m) =
     inl (has_one_left (FindsPins h count) e.looks d.looks m)
 meets_later d e (APinned own h count) (inr m) =
     inr (has_one_left (IsTurnFor own (Some h) (answer.Pinned count)) e.turns d.turns m)
+meets_later d e (AnEnd own h at count len) (inl m) =
+    inl (has_one_left (FindsPast h at count len) e.looks d.looks m)
+meets_later d e (AnEnd own h at count len) (inr m) =
+    inr (has_one_left (IsOwnTurn own (answer.Range len)) e.turns d.turns m)
 meets_later d e (ATurn own h reply) m = has_one_left (IsTurnFor own h reply) e.turns d.turns m
 
 abbrev pub happenings : List Turn → List Deed

@@ -1,5 +1,5 @@
 -- A worked part that backs four lines, and for each field of what backs one that breaks it alone.
-use Rattle.std.proofs.Common.{◌≡◌, false, List, [], ◌∷◌, ◌++◌, length, Some, None, sym, refl, ap, inl, arith, length-append}
+use Rattle.std.proofs.Common.{◌≡◌, ℕ, false, List, [], ◌∷◌, ◌++◌, length, Some, None, sym, refl, ap, inl, arith, length-append}
 use Rattle.cb_types.specs.declared.job.Job.TheVariants as job
 use Rattle.cb_types.specs.declared.reply.Reply.TheVariants as answer
 use Rattle.cb_types.specs.declared.request.Request.TheVariants as request
@@ -72,6 +72,36 @@ read_enters = refl
 
 free_enters : Enters (record { handle = Some 3; request = request.Free (97 ∷ []); reply = answer.Version 2 }) (gone 3 2 [] ∷ [])
 free_enters = ([], refl)
+
+-- a write of no byte at the end of an object of none, and one past that end
+abbrev written_at : ℕ → Told
+written_at at = record {
+  handle = Some 3;
+  request = request.Write (97 ∷ []) at [];
+  reply = answer.Version 2;
+}
+
+abbrev first_len : List Entry → ℕ
+first_len [] = 0
+first_len (e ∷ es) = e.len
+
+write_enters : Enters (written_at 0) (entry 3 2 0 [] [] ∷ [])
+write_enters = (
+  0,
+  [],
+  [],
+  record {
+    sized = refl;
+    inside = λ i below. absurd (omega (arith, below));
+    outside = λ p below off. refl;
+  },
+  omega arith,
+  refl,
+)
+
+past_the_end : Enters (written_at 1) (entry 3 2 0 [] [] ∷ []) → ⊥
+past_the_end e = let len : 0 ≡ e.0 = ap first_len e.5 in let room = e.4 in
+    omega (arith, len, room)
 
 -- a write of a name that has no handle enters nothing
 unmade_enters : Enters (record { handle = None; request = request.Write (97 ∷ []) 0 []; reply = answer.Unmade }) []

@@ -1,6 +1,6 @@
 -- Worked needs: what an answer needs, a part that has it, and what breaks one part alone.
 use Rattle.std.proofs.Common.{◌≡◌, ℕ, true, false, List, [], ◌∷◌, get_or, Option, Some, None, sym, refl, ap, ◌∙◌, subst, inl, inr, ⊎_elim, true≢false, arith}
-use Rattle.cb_ptr.specs.Word.{pins_of, state_of}
+use Rattle.cb_ptr.specs.Word.{len_of, pins_of, state_of}
 use Rattle.cb_ptr.specs.declared.word.State.TheVariants as state
 use Rattle.cb_types.specs.declared.job.Job.{Job}
 use Rattle.cb_types.specs.declared.job.Job.TheVariants as job
@@ -10,8 +10,8 @@ use Rattle.cb_world.specs.Memory.{bytes_in}
 use Rattle.cb_rule.specs.declared.turn.Turn.{Turn}
 use Rattle.cb_rule.specs.declared.view.Look.{Look}
 use Rattle.cb_rule.specs.declared.view.Seen.{Seen}
-use Rattle.cb_record.specs.Needs.{ArePeeked, FindsEmpty, FindsPins, IsFreedAs, IsPinnedAs, IsReadAs, IsTurnFor, Meets, need_of, peek_at, the_object}
-use Rattle.cb_record.specs.Needs.Need.{Nothing, ARead, APin, APeek, AFreed, APinned, ATurn}
+use Rattle.cb_record.specs.Needs.{ArePeeked, FindsEmpty, FindsPast, FindsPins, IsFreedAs, IsOwnTurn, IsPinnedAs, IsReadAs, IsTurnFor, Meets, need_of, peek_at, the_object}
+use Rattle.cb_record.specs.Needs.Need.{Nothing, ARead, APin, APeek, AFreed, APinned, AnEnd, ATurn}
 use Rattle.cb_record.specs.Parts.{nothing_more}
 use Rattle.cb_record.proofs.Replied.{same_bytes}
 
@@ -42,6 +42,10 @@ full_needs = refl
 room_needs : need_of (Some 3) (request.Pin (97 ∷ [])) (answer.NoRoom 1 0 7)
     ≡ ATurn None (Some 3) (answer.NoRoom 1 0 7)
 room_needs = refl
+
+end_needs : need_of (Some 3) (request.Write (97 ∷ []) 2 (1 ∷ [])) (answer.Range 2)
+    ≡ AnEnd (Some (job.Write (record { n = 3 }) 2 (1 ∷ []))) 3 2 1 2
+end_needs = refl
 
 -- a version that was written needs nothing but its entry
 written_needs : need_of (Some 3) (request.Write (97 ∷ []) 0 []) (answer.Version 2) ≡ Nothing
@@ -132,6 +136,28 @@ pins_look l on one = (on, one)
 other_pins : (l : Look) → pins_of l.word ≡ 2 → FindsPins 3 1 l → ⊥
 other_pins l two f = let e = f.1 in omega (arith, two, e)
 
+-- an object of two bytes was found
+end_look : (l : Look) → l.handle ≡ 3 → state_of l.word ≡ state.Here → len_of l.word ≡ 2
+    → FindsPast 3 2 1 2 l
+end_look l on here two = (on, here, two, omega arith)
+
+end_within : (l : Look) → FindsPast 3 1 1 2 l → ⊥
+end_within l f = let e = f.3 in omega (arith, e)
+
+end_of_another : (l : Look) → len_of l.word ≡ 2 → FindsPast 3 4 1 3 l → ⊥
+end_of_another l two f = let e = f.2 in omega (arith, e, two)
+
+end_of_a_moving : (l : Look) → state_of l.word ≡ state.Moving → FindsPast 3 2 1 2 l → ⊥
+end_of_a_moving l moving f = let e : state.Moving ≡ state.Here = sym moving ∙ f.1 in cc
+
+end_found : (l : Look) → FindsPast 3 2 1 2 l
+    → Meets (record nothing_more { looks = l ∷ [] }) (AnEnd None 3 2 1 2)
+end_found l found = inl (inl found)
+
+end_unlooked : (own : Option Job) → Meets nothing_more (AnEnd own 3 2 1 2) → ⊥
+end_unlooked own (inl m) = m
+end_unlooked own (inr m) = m
+
 -- freed is told by an entry and by a look
 freed_found : (l : Look) → FindsEmpty 3 l
     → Meets (record nothing_more { seen = record seen_two { freed = true } ∷ []; looks = l ∷ [] }) (AFreed 3)
@@ -182,6 +208,16 @@ module _ (t : Turn) where
   other_object i = ⊎_elim (λ (e : None ≡ Some (job.Swap (the_object 4))). cc)
       (λ (e : job.Swap (the_object 4) ≡ job.Swap (the_object 3)).
       let n : 4 ≡ 3 = ap swapped e in omega (arith, n)) i.1
+
+  -- the end is told by a turn of its own job alone
+  end_told : Meets (record nothing_more {
+    turns = record t { job = job.Write (the_object 3) 2 (1 ∷ []); reply = Some (answer.Range 2) } ∷ [];
+  }) (AnEnd (Some (job.Write (the_object 3) 2 (1 ∷ []))) 3 2 1 2)
+  end_told = inr (inl (refl, refl))
+
+  end_by_a_swap : IsOwnTurn (Some (job.Write (the_object 3) 2 (1 ∷ []))) (answer.Range 2)
+      (record t { job = job.Swap (the_object 3); reply = Some (answer.Range 2) }) → ⊥
+  end_by_a_swap i = let e = i.1 in cc
 
   turned : Meets (record nothing_more { turns = record t { job = job.Make []; reply = Some (answer.Full 4) } ∷ [] })
       (ATurn (Some (job.Make [])) None (answer.Full 4))

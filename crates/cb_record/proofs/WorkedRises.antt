@@ -142,14 +142,6 @@ module _ (v : View) where
   makes_later : IsUpheld 1 8 [] writer (Some 3) (Makes [] 2) → ⊥
   makes_later u = let e = u.1 in omega (arith, e)
 
-  writes : IsUpheld 1 8 [] writer (Some 3) (Writes 3 (7 ∷ []) 2)
-  writes = (4, four_long, omega arith)
-
-  writes_past_the_end : IsUpheld 1 8 [] writer (Some 3) (Writes 4 (7 ∷ []) 2) → ⊥
-  writes_past_the_end u = ⊎_elim (λ (e : entry 3 1 4 [] (5 ∷ []) ≡ u.1.0).
-      let n = ap (λ (x : Entry). x.len) e in let m = u.1.4 in let le = u.2 in
-      omega (arith, n, m, le)) (λ (none : ⊥). none) u.1.1
-
   shows : IsUpheld 1 8 [] writer (Some 3) (Shows 2 (1 ∷ 2 ∷ 3 ∷ 4 ∷ []))
   shows = inl (refl, refl, refl, refl)
 

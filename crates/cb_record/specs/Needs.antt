@@ -1,7 +1,7 @@
 -- What an answer needs to find in a record.
-use Rattle.std.specs.Prelude.{◌≡◌, ◌⊎◌, ℕ, ◌<◌, false, true, List, length, slice_index, Option, Some, None}
+use Rattle.std.specs.Prelude.{◌≡◌, ◌⊎◌, ℕ, ◌+◌, ◌<◌, false, true, List, length, slice_index, Option, Some, None}
 use Rattle.cb_ptr.specs.declared.word.State.TheVariants as state
-use Rattle.cb_ptr.specs.Word.{pins_of, state_of}
+use Rattle.cb_ptr.specs.Word.{len_of, pins_of, state_of}
 use Rattle.cb_types.specs.declared.handle.Handle.{Handle}
 use Rattle.cb_types.specs.declared.job.Job.{Job}
 use Rattle.cb_types.specs.declared.job.Job.TheVariants as job
@@ -18,8 +18,8 @@ use Rattle.cb_rule.specs.Lists.{Has}
 use Rattle.cb_record.specs.Lists.{HasOne}
 use Rattle.cb_record.specs.Parts as parts
 
--- nothing; a version that was read, pinned or peeked; a freed entry; a number of pins; or a turn
--- with this reply, whose job is the line's own or brings its object in
+-- nothing; a version that was read, pinned or peeked; a freed entry; a number of pins; the end of
+-- an object; or a turn with this reply, whose job is the line's own or brings its object in
 pub data Need : Type 0 where
   Nothing : Need
   ARead : (h version : ℕ) (bytes : List ℕ) → Need
@@ -27,6 +27,7 @@ pub data Need : Type 0 where
   APeek : (h version : ℕ) (bytes : List ℕ) → Need
   AFreed : (h : ℕ) → Need
   APinned : (own : Option Job) (h count : ℕ) → Need
+  AnEnd : (own : Option Job) (h at count len : ℕ) → Need
   ATurn : (own : Option Job) (h : Option ℕ) (reply : Reply) → Need
 
 abbrev pub the_object : ℕ → Handle
@@ -61,6 +62,8 @@ need_of (Some h) (Pin name) (answer.Version version) = APin h version
 need_of (Some h) (Peek name) (answer.Bytes version bytes) = APeek h version bytes
 need_of (Some h) (Write name at bytes) (answer.Pinned count) =
     APinned (Some (job.Write (the_object h) at bytes)) h count
+need_of (Some h) (Write name at bytes) (answer.Range len) =
+    AnEnd (Some (job.Write (the_object h) at bytes)) h at (length bytes) len
 need_of (Some h) (Free name) (answer.Pinned count) =
     APinned (Some (job.Free (the_object h))) h count
 need_of (Some h) request answer.Freed = AFreed h
@@ -103,6 +106,15 @@ FindsEmpty h l = (l.handle ≡ h) × (state_of l.word ≡ state.Empty)
 abbrev pub FindsPins : ℕ → ℕ → Look → Type 0
 FindsPins h count l = (l.handle ≡ h) × (pins_of l.word ≡ count)
 
+-- the object was found here, and so many bytes from the byte number `at` on go past its end
+abbrev pub FindsPast : ℕ → ℕ → ℕ → ℕ → Look → Type 0
+FindsPast h at count len l = (l.handle ≡ h) × (state_of l.word ≡ state.Here)
+    × (len_of l.word ≡ len) × (len < at + count)
+
+-- the job is the line's own
+abbrev pub IsOwnTurn : Option Job → Reply → Turn → Type 0
+IsOwnTurn own reply t = (t.reply ≡ Some reply) × (own ≡ Some t.job)
+
 -- the job is the line's own, or brings its object in
 abbrev pub IsJobFor : Option Job → Option ℕ → Job → Type 0
 IsJobFor own (Some h) j = (own ≡ Some j) ⊎ (j ≡ job.Swap (the_object h))
@@ -111,7 +123,8 @@ IsJobFor own None j = own ≡ Some j
 abbrev pub IsTurnFor : Option Job → Option ℕ → Reply → Turn → Type 0
 IsTurnFor own h reply t = (t.reply ≡ Some reply) × IsJobFor own h t.job
 
--- A part of a record has what is needed. Pins are found by a look, or by a turn of the line's own.
+-- A part of a record has what is needed. Pins and an end are found by a look, or by a turn of the
+-- line's own.
 abbrev pub Meets : parts.Part → Need → Type 0
 Meets d Nothing = Unit {0}
 Meets d (ARead h version bytes) = HasOne (IsReadAs h version bytes) d.seen
@@ -120,4 +133,6 @@ Meets d (APeek h version bytes) = ArePeeked h version bytes d.peeked
 Meets d (AFreed h) = HasOne (IsFreedAs h) d.seen × HasOne (FindsEmpty h) d.looks
 Meets d (APinned own h count) = HasOne (FindsPins h count) d.looks
     ⊎ HasOne (IsTurnFor own (Some h) (answer.Pinned count)) d.turns
+Meets d (AnEnd own h at count len) = HasOne (FindsPast h at count len) d.looks
+    ⊎ HasOne (IsOwnTurn own (answer.Range len)) d.turns
 Meets d (ATurn own h reply) = HasOne (IsTurnFor own h reply) d.turns

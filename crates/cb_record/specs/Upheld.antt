@@ -1,5 +1,5 @@
 -- What an answer says that no record backs by itself: of numbers of handles, of lengths, of names.
-use Rattle.std.specs.Prelude.{◌≡◌, ℕ, ◌+◌, ◌<◌, ◌≤◌, false, List, length, Option, Some, None}
+use Rattle.std.specs.Prelude.{◌≡◌, ℕ, ◌+◌, ◌<◌, false, List, length, Option, Some, None}
 use Rattle.cb_world.specs.declared.entry.Entry.{Entry}
 use Rattle.cb_rule.specs.declared.view.Seen.{Seen}
 use Rattle.cb_rule.specs.declared.view.View.{View}
@@ -7,7 +7,7 @@ use Rattle.cb_rule.specs.Lists.{Has}
 use Rattle.cb_model.specs.Called.{Called, makes}
 use Rattle.cb_model.specs.Event.{Event}
 use Rattle.cb_model.specs.Event.Subject.{NewObject, Nothing}
-use Rattle.cb_model.specs.Event.Event.{Makes, Shows, Writes, FindsFull, FindsUnmade, FindsEnd, Refused, Wrong}
+use Rattle.cb_model.specs.Event.Event.{Makes, Shows, FindsFull, FindsUnmade, FindsEnd, Refused, Wrong}
 use Rattle.cb_record.specs.Lists.{HasOne}
 use Rattle.cb_record.specs.Parts.{Part}
 
@@ -38,7 +38,7 @@ IsSeenLong h version len s =
     (s.handle ≡ h) × (s.version ≡ version) × (s.freed ≡ false) × (s.len ≡ len)
 
 -- What an answer says beside the record: a make gives one of the handles, at the first version;
--- what is shown is as long as what was read; a write lies within the object or is told its end;
+-- what is shown is as long as what was read; a write past the end of the object is told that end;
 -- full is told where as many were made, and unmade exactly where the name has no handle; and no
 -- reply is one that such a line never has.
 abbrev pub IsUpheld : (first handles : ℕ) → List Called → View → Option ℕ → Event → Type 0
@@ -51,8 +51,6 @@ IsUpheld first handles calls v None event = ⊥
 IsUpheld first handles calls v (Some h) (Makes bytes version) = (h < handles) × (version ≡ first)
 IsUpheld first handles calls v (Some h) (Shows version bytes) =
     HasOne (IsSeenLong h version (length bytes)) v.seen
-IsUpheld first handles calls v (Some h) (Writes at bytes version) =
-    (len : ℕ) × IsLong v.written h len × (at + length bytes ≤ len)
 IsUpheld first handles calls v (Some h) (FindsEnd at bytes len) =
     IsLong v.written h len × (len < at + length bytes)
 IsUpheld first handles calls v (Some h) FindsUnmade = ⊥

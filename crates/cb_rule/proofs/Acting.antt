@@ -13,15 +13,17 @@ use Rattle.cb_world.specs.declared.event.Event.TheVariants.{Looked, Claimed, Sto
 use Rattle.cb_world.specs.declared.shown.Shown.{Shown}
 use Rattle.cb_world.specs.Settling.{MaySettle}
 use Rattle.cb_world.specs.Shown.{Owns, IsHeld, object_at}
+use Rattle.cb_world.specs.Written.{adds}
 use Rattle.cb_rule.specs.Own.{AreBound, MayWrite}
 use Rattle.cb_rule.specs.Ruled.{Beside, IsSteady, Ruled}
 use Rattle.cb_rule.specs.Slot.{Sat}
-use Rattle.cb_rule.specs.Steps.{Does, act, claimed, handles_of, settled, stamped, stored}
+use Rattle.cb_rule.specs.Steps.{AreNew, Does, act, claimed, handles_of, settled, stamped, stored}
 use Rattle.cb_rule.specs.Words.{base, pointer, stamp, stamps, words_at}
 use Rattle.cb_rule.proofs.Binding.{settles_within}
 use Rattle.cb_rule.proofs.Claiming.{claim_agrees, claim_steps}
 use Rattle.cb_rule.proofs.Lifting.{mine, next, next_load}
 use Rattle.cb_rule.proofs.Looking.{look_agrees, look_steps}
+use Rattle.cb_rule.proofs.Newest.{are_new}
 use Rattle.cb_rule.proofs.Settled.{settle_steps}
 use Rattle.cb_rule.proofs.Storing.{stamp_steps, store_steps}
 
@@ -32,17 +34,22 @@ module _ (beside : Beside) (steady : IsSteady beside) (first : ℕ) (c : Config)
       → Allows (Ruled beside first c) slots id me (1 + h) (λ _. w)
       (λ _. settled (step slots (1 + h) w 0 none) me w)
   settles h w l may s r _ at _ =
-      let m = mine beside steady first c s id me.0 at r holds in (
+      let m = mine beside steady first c s id me.0 at r holds in
+      let steps = settle_steps c s.words s.views me.0 h w r.history m l may in (
         act (Settled h w) me.0,
         keeps,
         tt,
         next beside steady first c s id me.0 at r (Settled h w) (1 + h) w holds live (omega arith)
             (settles_within c s.views id me.0 at holds r.kept.one m.begins
             (subst (λ (k : Shown). AreBound c k s.views)
-            (sym ((r.kept.seats id me.0 at).knows holds)) r.bound) h w l may) tt
-            (settle_steps c s.words s.views me.0 h w r.history m l may),
+            (sym ((r.kept.seats id me.0 at).knows holds)) r.bound) h w l may) tt steps,
         λ h' e. let same : h ≡ h' = omega arith in
-            subst (λ (j : ℕ). Does me (Settled j w) (act (Settled h w) me.0, me.1)) same (refl, tt),
+            subst (λ (j : ℕ). Does me (Settled j w) (act (Settled h w) me.0, me.1)
+            × AreNew (adds (Settled j w) me.0.known) me.0) same (
+              (refl, tt),
+              are_new c s.words s.views me.0.known r.history m id me.0
+                  (adds (Settled h w) me.0.known) at steps.follows,
+            ),
       )
 
   -- a memory word that it owns is stored

@@ -19,12 +19,13 @@ use Rattle.cb_rule.specs.declared.view.Held.{Held}
 use Rattle.cb_rule.specs.declared.view.View.{View}
 use Rattle.cb_rule.specs.History.{newest, top}
 use Rattle.cb_rule.specs.Lists.{times, Has}
+use Rattle.cb_rule.specs.Records.{LookOk}
 use Rattle.cb_rule.specs.Ruled.{Beside, IsSteady, Ruled}
 use Rattle.cb_rule.specs.Seats.{claims_it}
 use Rattle.cb_rule.specs.Slot.{Sat, Table}
-use Rattle.cb_rule.specs.Steps.{Finds, Knows, claimed_here, next_entry, put_back, settled_here, stamped_here, stored_here, with_claim, with_held, with_look, with_stamp, with_version, with_word, without_claim}
+use Rattle.cb_rule.specs.Steps.{Finds, Knows, claimed_here, look_at, next_entry, put_back, settled_here, stamped_here, stored_here, with_claim, with_held, with_look, with_stamp, with_version, with_word, without_claim}
 use Rattle.cb_rule.specs.Words.{base, pointer, stamps}
-use Rattle.cb_rule.proofs.Calm.{still_rule}
+use Rattle.cb_rule.proofs.Calm.{look_ok, still_rule}
 use Rattle.cb_rule.proofs.Claiming.{found_below, found_calm, found_here, found_shared}
 use Rattle.cb_rule.proofs.Counts.{hit}
 use Rattle.cb_rule.proofs.Keeping.{lies_here}
@@ -51,12 +52,12 @@ module _ (beside : Beside) (steady : IsSteady beside) (first : ℕ) (c : Config)
     (me : Sat) (live : 1 ≤ me.0.share) (key : me.0.config ≡ c) where
   -- a look more leaves the rule
   looked_on : (s : Table) (r : Ruled beside first c s) (at : get_elem? s.views id ≡ some me.0)
-      (h n : ℕ) → 0 < 1 + h → Ruled beside first c record {
+      (h n : ℕ) → h < c.handles → pointer s.words h ≡ n → Ruled beside first c record {
         words = set s.words (1 + h) (get_or s.words (1 + h) 0);
         homes = s.homes;
         views = set s.views id (with_look h n me.0);
       }
-  looked_on s r at h n pos =
+  looked_on s r at h n l found =
       let u : View = with_look h n me.0 in let ok = r.kept.seats id me.0 at in
       subst (λ (ws : List ℕ). Ruled beside first c record {
         words = ws;
@@ -74,7 +75,11 @@ module _ (beside : Beside) (steady : IsSteady beside) (first : ℕ) (c : Config)
         pins = ok.pins;
         few = ok.few;
         others = λ k ne. refl;
-        lasting = record_held c r.known.first r.history me.0 me.0.claims u.looks ok.lasting;
+        lasting = record_held c r.known.first r.history me.0 me.0.claims u.looks (
+          subst (λ (m : ℕ). LookOk r.history (look_at h m)) found
+              (look_ok c s.words s.views r.known r.history r.kept h l),
+          ok.lasting.looks,
+        ) ok.lasting;
       } refl))
 
   -- what was found of an object whose word is Here
@@ -145,7 +150,7 @@ module _ (beside : Beside) (steady : IsSteady beside) (first : ℕ) (c : Config)
           homes = s.homes;
           views = set s.views id (with_look h x me.0);
         }) (sym (ap (λ b. either b new x) (ne_eqb x old ne)))
-            (looked_on s r at h x (omega arith)),
+            (looked_on s r at h x l refl),
         λ h' q. let same : h ≡ h' = omega arith in (
           (λ e. absurd (ne e)),
           λ _. ap (λ (j : ℕ). let m : Sat = (with_look j x me.0, me.1) in m) same,

@@ -1,11 +1,11 @@
 -- Steps under which what is known and the history stay: loads and pins of any seat.
-use Rattle.std.proofs.Common.{◌≡◌, ◌≢◌, ◌⊎◌, ℕ, ◌+◌, ◌<◌, ◌≤◌, Bool, true, cond, List, length, set, sym, refl, ap, ◌∙◌, subst, inl, ⊎_elim, arith, length-set, get_or-set_other, get_or-set_same}
+use Rattle.std.proofs.Common.{◌≡◌, ◌≢◌, ◌⊎◌, ℕ, ◌+◌, ◌<◌, ◌≤◌, Bool, true, false, cond, List, length, set, sym, refl, ap, ◌∙◌, subst, inl, ⊎_elim, arith, length-set, get_or-set_other, get_or-set_same}
 use native.Mathlib.Decide.{ℕ_discrete}
 use mathlib.Core.Option.{some}
 use lib.ListN.{get_elem?}
 use Rattle.cb_types.specs.declared.config.Config.{Config}
 use Rattle.cb_ptr.specs.declared.word.State.TheVariants as word
-use Rattle.cb_ptr.specs.Word.{state_of, hot_of, pins_of}
+use Rattle.cb_ptr.specs.Word.{state_of, hot_of, len_of, pins_of}
 use Rattle.cb_world.specs.declared.entry.Entry.{Entry}
 use Rattle.cb_world.specs.declared.object.Object.{Object}
 use Rattle.cb_world.specs.declared.object.Object.TheVariants as is
@@ -15,14 +15,16 @@ use Rattle.cb_world.specs.Shown.{Fits, object_at, hot_at, version_at}
 use Rattle.cb_world.specs.StillDesk.{bits_here, bits_moving}
 use Rattle.cb_rule.specs.declared.view.Held.{Held}
 use Rattle.cb_rule.specs.declared.view.View.{View}
-use Rattle.cb_rule.specs.History.{holding_words, newest, top}
-use Rattle.cb_rule.specs.Lists.{times, total, Each}
-use Rattle.cb_rule.specs.Records.{PinOk, HeldOk, RecordOk, SeatOk}
+use Rattle.cb_rule.specs.History.{Value, holding_words, newest, top}
+use Rattle.cb_rule.specs.Lists.{times, total, Each, Has}
+use Rattle.cb_rule.specs.Records.{LookOk, PinOk, HeldOk, RecordOk, SeatOk}
 use Rattle.cb_rule.specs.Rule.{StandsIn, Kept}
 use Rattle.cb_rule.specs.Seats.{claims_it, pins_on, claims_on, written_on, holding}
 use Rattle.cb_rule.specs.Stands.{IsCalm, IsTaken, Stands}
+use Rattle.cb_rule.specs.Steps.{look_at}
 use Rattle.cb_rule.specs.Words.{stamps, base, pointer, stamp, words_at}
 use Rattle.cb_rule.proofs.Counts.{each_there, total-at, total-same}
+use Rattle.cb_rule.proofs.Histories.{newest_entry}
 use Rattle.cb_rule.proofs.Keeping.{held_same, seats_stay, stands_same, words_else}
 
 -- what such a step leaves of the view v, but for its pins on the object h
@@ -148,6 +150,38 @@ module _ (c : Config) (ws : List ℕ) (views : List View) (known : Shown) (es : 
           let g = bits_moving (pointer ws h) m.state in omega (arith, b, g))
           (λ (s : 0 < total (pins_on h) views). let n = m.no_pins in omega (arith, n, s))
           why)) k.word
+
+  -- what the word of an object that has contents tells of its length is that of its newest entry
+  pub look_ok : (h : ℕ) → h < c.handles → LookOk es (look_at h (pointer ws h))
+  look_ok h l full = go (object_at known h) (r.stand h l) (r.fit h l)
+    where
+      w : ℕ
+      w = pointer ws h
+
+      entry_of : (len : ℕ) (value : Value) → known.first ≤ top es h → newest es h ≡ value
+          → value.freed ≡ false → value.len ≡ len → len_of w ≡ len
+          → (e : Entry) × Has e es × (e.handle ≡ h) × (e.freed ≡ false) × (e.len ≡ len_of w)
+      entry_of len value born has kept long at =
+          let n = newest_entry es h (let b = r.begins in omega (arith, b, born)) in (
+            n.entry,
+            n.there,
+            n.handle,
+            ap (λ (v : Value). v.freed) (n.has ∙ has) ∙ kept,
+            ap (λ (v : Value). v.len) (n.has ∙ has) ∙ long ∙ sym at,
+          )
+
+      go : (z : Object)
+          → Stands c known.first ws h (total (pins_on h) views) (total (claims_on h) views)
+          (top es h) (newest es h) (version_at known h) z
+          → Fits z w
+          → (e : Entry) × Has e es × (e.handle ≡ h) × (e.freed ≡ false) × (e.len ≡ len_of w)
+      go (is.Empty m) k f = absurd (full (ap state_of f))
+      go (is.Far len m words) k f = entry_of len (holding_words len words)
+          (let b = k.born in let a = k.kept.at in omega (arith, a, b)) k.kept.has refl refl f.1
+      go (is.Claimed len place m words) k f = entry_of len (holding_words len words)
+          (let b = k.born in let a = k.kept.at in omega (arith, a, b)) k.kept.has refl refl f.1
+      go (is.Here len place) k f =
+          entry_of len (holding_words len (newest es h).words) k.born k.held refl refl f.1
 
   -- its word becomes x
   module _ (h : ℕ) (l : h < c.handles) (o : Lies h) (x : ℕ) where

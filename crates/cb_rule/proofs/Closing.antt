@@ -102,6 +102,7 @@ module _ (deeds : Deeds) (first : ℕ) (c : Config) (accepted : IsAccepted c) (s
       idle = refl;
       sound = closed_sound c s.words s.views r.known es k far free.stood unpinned unclaimed
           accepted;
+      calm = r.own.idle id v at end.no_lock;
       entries = subst (λ (n : ℕ). EntriesStand n (v ∷ [])) r.starts
           (lone_entries c s.views id v at spent r.known.first
           (entries_stand c s.words s.views r.known es k));

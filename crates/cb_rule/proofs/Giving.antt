@@ -153,6 +153,7 @@ module _ (deeds : Deeds) (first : ℕ) (c : Config) (s : Table) (id : ℕ) (v : 
           fresh = tt;
           seen = each_append (SeenOk r.history) freed v.seen found_seen k.seen;
           peeked = k.peeked;
+          looks = k.looks;
           reached = omega arith;
           told = tt;
           began = λ h l. never_now r.history h;
@@ -186,6 +187,7 @@ module _ (deeds : Deeds) (first : ℕ) (c : Config) (s : Table) (id : ℕ) (v : 
         empty = lock.empty;
         reached = lock.reached;
         sound = lock.sound;
+        starts = lock.starts;
         free = λ _. unlocked n lock.count (lock.chain lock.count) same
             (word ∙ ap (λ (f : FarState). 2 * f.counts.turns) (sym same)
             ∙ ap (λ (k : ℕ). 2 * k) lock.reached);
@@ -216,6 +218,7 @@ module _ (deeds : Deeds) (first : ℕ) (c : Config) (s : Table) (id : ℕ) (v : 
     empty = chain_else lock.chain (lock.count + 1) 0 far (λ e. omega (arith, e)) ∙ lock.empty;
     reached = ap (λ (f : FarState). f.counts.turns) last ∙ turns_are;
     sound = all_sound;
+    starts = all_start;
     free = λ _. unlocked n (lock.count + 1) (chain (lock.count + 1)) last
         (word ∙ ap (λ (k : ℕ). 2 * k) turns_are);
     held = λ some_one. absurd (omega (arith, some_one, nobody));
@@ -264,6 +267,14 @@ module _ (deeds : Deeds) (first : ℕ) (c : Config) (s : Table) (id : ℕ) (v : 
           subst (Stood c z.0)
               (sym (chain_else lock.chain (lock.count + 1) i far ne)) z.1,
         )
+      ]
+
+      all_start : (i : ℕ) → i ≤ lock.count + 1 → (chain i).first ≡ r.known.first
+      all_start i le = elim (ℕ_discrete i (lock.count + 1)) [
+        | yes e ↦ ap (λ (f : FarState). f.first) (ap chain e ∙ last)
+            ∙ sym stood.sound.here.known.first
+        | no ne ↦ ap (λ (f : FarState). f.first)
+            (chain_else lock.chain (lock.count + 1) i far ne) ∙ lock.starts i (omega (arith, le, ne))
       ]
 
       mine : TurnStands deeds c (lock.count + 1) chain t

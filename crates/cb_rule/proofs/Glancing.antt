@@ -31,7 +31,7 @@ use Rattle.cb_rule.specs.Slot.{Sat, Table}
 use Rattle.cb_rule.specs.Stands.{Stands}
 use Rattle.cb_rule.specs.Steps.{IsNewest, Knows, LoadsHeld, TellsHeld, TellsPin, dated, freed_seen, glanced, read_held, with_freed, with_look}
 use Rattle.cb_rule.specs.Words.{stamps, base, pointer}
-use Rattle.cb_rule.proofs.Calm.{lies, still_rule}
+use Rattle.cb_rule.proofs.Calm.{lies, look_ok, still_rule}
 use Rattle.cb_rule.proofs.Counts.{each_map, each_there, total-at}
 use Rattle.cb_rule.proofs.Histories.{entry_within, newest_entry}
 use Rattle.cb_rule.proofs.Members.{each_has}
@@ -169,7 +169,7 @@ module _ (beside : Beside) (steady : IsSteady beside) (first : ℕ) (c : Config)
           homes = s.homes;
           views = set s.views id (with_look h x me.0);
         }) (sym (same_words s.words (1 + h)))
-            (lost beside steady first c slots id me live h l s x r at),
+            (lost beside steady first c slots id me live h l s x r at refl),
         λ h' q. let same : h ≡ h' = omega (arith, q) in (
           (λ e. absurd (ne e)),
           (λ _. ap (λ (j : ℕ). let z : Sat = (with_look j x me.0, me.1) in z) same),
@@ -214,6 +214,7 @@ module _ (beside : Beside) (steady : IsSteady beside) (first : ℕ) (c : Config)
             others = λ j ne. refl;
             lasting = reread c r.known.first r.history me.0 me.0.share me.0.ever me.0.pins
                 me.0.claims _ _ me.0.peeked ok.lasting
+                (look_ok c s.words s.views r.known r.history k h l, ok.lasting.looks)
                 (freed c s.words s.views r.known r.history k h l made e, ok.lasting.seen)
                 ok.lasting.peeked;
           } refl)
@@ -263,6 +264,8 @@ module _ (beside : Beside) (steady : IsSteady beside) (first : ℕ) (c : Config)
       each_map (HeldOk c s.words r.known r.history)
           (TellsHeld me.0.config i (get_or s.words i 0)) me.0.claims (λ y o e. held y o e)
           ok.claims,
+      each_there (PinOk c r.known r.history) (λ (p : Stand). IsNewest p.handle p.version me.0)
+          (λ (p : Stand). p.handle) me.0.pins (λ p pos o. newest_pin p pos o) ok.pins,
     ),
   )
     where
@@ -277,6 +280,15 @@ module _ (beside : Beside) (steady : IsSteady beside) (first : ℕ) (c : Config)
           let z = lies c s.words s.views r.known r.history r.kept p.handle o.below
           (inr (omega (arith, many, pos))) in
           at_stamp p.handle e ∙ z.calm.stamped ∙ sym o.number
+
+      newest_pin : (p : Stand) → 0 < pins_on p.handle me.0 → PinOk c r.known r.history p
+          → IsNewest p.handle p.version me.0
+      newest_pin p pos o = let many = total-at (pins_on p.handle) s.views id me.0 at in
+          let z = lies c s.words s.views r.known r.history r.kept p.handle o.below
+          (inr (omega (arith, many, pos))) in
+          subst (λ (n : ℕ). IsNewest p.handle n me.0) (sym o.number)
+          (is_newest c s.words s.views r.known r.history r.kept r.shares first r.own id me.0 p.handle
+          at (let b = z.born in let q = r.kept.begins in omega (arith, b, q)))
 
       held : (y : Held) → HeldOk c s.words r.known r.history y
           → i ≡ stamps me.0.config + y.handle → get_or s.words i 0 ≡ y.stamp

@@ -9,10 +9,11 @@ use Rattle.cb_world.specs.declared.object.Object.{Object}
 use Rattle.cb_world.specs.declared.object.Object.TheVariants as is
 use Rattle.cb_world.specs.Shown.{object_at}
 use Rattle.cb_rule.specs.declared.turn.Turn.{Turn}
+use Rattle.cb_rule.specs.declared.view.Look.{Look}
 use Rattle.cb_rule.specs.declared.view.View.{View}
 use Rattle.cb_rule.specs.History.{Value, WasNow}
 use Rattle.cb_rule.specs.Lists.{Has}
-use Rattle.cb_rule.specs.Records.{SeenOk, PeekedOk, TellsOk, OldOk, TurnOk, RecordOk}
+use Rattle.cb_rule.specs.Records.{LookOk, SeenOk, PeekedOk, TellsOk, OldOk, TurnOk, RecordOk}
 use Rattle.cb_rule.proofs.Counts.{each_map}
 
 pub has_more : {A : Type 0} (x : A) (more xs : List A) → Has x xs → Has x (more ++ xs)
@@ -40,9 +41,12 @@ module _ (more es : List Entry) where
     has = w.has;
   }
 
+  look_more : (l : Look) → LookOk es l → LookOk (more ++ es) l
+  look_more l ok full = let z = ok full in (z.0, has_more z.0 more es z.1, z.2, z.3, z.4)
+
   pub tells_more : (first since until until' : ℕ) (e : Event) → until ≤ until'
       → TellsOk first es since until e → TellsOk first (more ++ es) since until' e
-  tells_more first since until until' (ev.Looked h w) le ok = tt
+  tells_more first since until until' (ev.Looked h w) le ok = look_more _ ok
   tells_more first since until until' (ev.Claimed h w v words) le ok =
       (ok.0, now_more since until until' h v _ le ok.1)
   tells_more first since until until' (ev.Told h v) le ok = tt
@@ -79,6 +83,8 @@ module _ (more es : List Entry) where
         (λ s o. (o.0, has_more o.0 more es o.1, o.2)) ok.seen;
     peeked = each_map (PeekedOk es) (PeekedOk (more ++ es)) u.peeked
         (λ p o. (o.0, has_more o.0 more es o.1, o.2)) ok.peeked;
+    looks = each_map (LookOk es) (LookOk (more ++ es)) u.looks
+        (λ l o. look_more l o) ok.looks;
     reached = let a = ok.reached in let b = longer more es in omega (arith, a, b);
     told = each_map (TellsOk first es u.since (length es))
         (TellsOk first (more ++ es) u.since (length (more ++ es))) u.acts

@@ -83,7 +83,7 @@ module _ (first : ℕ) (pos : 1 ≤ first) where
       ⊎ (first ≤ cond b e.version (top es h))) (eqb e.handle h)
       (λ _. inr (follows_above es e (begun es e.handle k.1) k.0).0) (λ _. begun es h k.1)
 
-  above : (e : Entry) (es : List Entry) → IsHistory first (e ∷ es)
+  pub above : (e : Entry) (es : List Entry) → IsHistory first (e ∷ es)
       → (first ≤ e.version) × (top es e.handle < e.version)
   above e es k = follows_above es e (begun es e.handle k.1) k.0
 

@@ -301,6 +301,7 @@ module _ (c : Config) (ws ws' : List ℕ) (views : List View) (id : ℕ) (v : Vi
             (front (adds e v.known) (λ x h. has_front x (adds e v.known) es h)) g.fresh;
         seen = g.seen;
         peeked = g.peeked;
+        looks = g.looks;
         reached = g.reached;
         told = each_append (TellsOk v.known.first more v.since (length more)) v.acts (e ∷ [])
             g.told (t.tells, tt);

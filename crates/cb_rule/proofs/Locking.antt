@@ -46,6 +46,7 @@ module _ (deeds : Deeds) (c : Config) (s : Table) (known : Shown) (r : Locked de
       empty = r.empty ∙ ap (λ (n : ℕ). empty_far n c) (sym first);
       reached = r.reached;
       sound = r.sound;
+      starts = λ i le. r.starts i le ∙ sym first;
       free = λ none. ⊎_elim
           (λ (e : known' ≡ known). subst (λ (k : Shown). IsUnlocked c record {
             words = ws;
@@ -83,6 +84,7 @@ module _ (deeds : Deeds) (c : Config) (s : Table) (known : Shown) (r : Locked de
       empty = r.empty;
       reached = r.reached;
       sound = r.sound;
+      starts = r.starts;
       free = λ z. unlocked_still s.words more refl same z;
       held = λ some_one. r.held (omega (arith, same, some_one));
       deep = r.deep;
@@ -125,6 +127,7 @@ module _ (deeds : Deeds) (c : Config) (s : Table) (known : Shown) (r : Locked de
       empty = r.empty;
       reached = r.reached;
       sound = r.sound;
+      starts = r.starts;
       free = λ z. unlocked_still s.words more refl same z;
       held = λ some_one. r.held (omega (arith, same, some_one));
       deep = r.deep;

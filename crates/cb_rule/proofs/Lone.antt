@@ -11,7 +11,7 @@ use Rattle.cb_rule.specs.declared.view.View.{View}
 use Rattle.cb_rule.specs.Lists.{total, Has}
 use Rattle.cb_rule.specs.Locking.{Deeds, turns_on}
 use Rattle.cb_rule.specs.OneHistory.{IsOneHistory, Made}
-use Rattle.cb_rule.specs.Promised.{EntriesStand, GoesOn, Is, IsLast, Wrote}
+use Rattle.cb_rule.specs.Promised.{EntriesStand, FoundBy, GoesOn, Is, IsLast, Wrote}
 use Rattle.cb_rule.specs.Seats.{written_on}
 use Rattle.cb_rule.specs.Steps.{blank}
 use Rattle.cb_rule.proofs.Newest.{total_alone}
@@ -66,6 +66,12 @@ module _ (c : Config) (views : List View) (id : ℕ) (v : View) (at : get_elem? 
       among (λ (u : View). Has p u.peeked)
           there.0 there.1 there.2,
     ) in (o.0, wrote o.0 o.1, o.2);
+    looked = λ l there full. let o = r.looked l (
+      v,
+      (id, at),
+      among (λ (u : View). FoundBy l u) there.0
+          there.1 there.2,
+    ) full in (o.0, wrote o.0 o.1, o.2, o.3, o.4);
     born = λ e w. r.born e (unwrote e w);
     same = λ e x a b eh ev. r.same e x (unwrote e a) (unwrote x b) eh ev;
     once = λ e k last low high. lone_total (written_on e.handle k) refl
@@ -75,7 +81,7 @@ module _ (c : Config) (views : List View) (id : ℕ) (v : View) (at : get_elem? 
     where
       goes : (e : Entry) → GoesOn first views e → GoesOn first (v ∷ []) e
       goes e (inl z) = inl z
-      goes e (inr z) = inr (z.0, wrote z.0 z.1, z.2, z.3, z.4, z.5)
+      goes e (inr z) = inr (z.0, wrote z.0 z.1, z.2, z.3, z.4, z.5, z.6)
 
   unmade : (t : Turn) → Made (v ∷ []) t → Made views t
   unmade t m = (v, (id, at), among (λ (u : View). Has t u.turns) m.0 m.1 m.2)
@@ -92,5 +98,6 @@ module _ (c : Config) (views : List View) (id : ℕ) (v : View) (at : get_elem? 
     ends = λ t m e. r.ends t (unmade t m) e;
     numbers = λ t m. r.numbers t (unmade t m);
     sound = λ t m. r.sound t (unmade t m);
+    starts = λ t m. r.starts t (unmade t m);
     did = λ t m. r.did t (unmade t m);
   }

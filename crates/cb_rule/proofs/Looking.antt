@@ -21,6 +21,7 @@ use Rattle.cb_rule.specs.Slot.{Sat}
 use Rattle.cb_rule.specs.Stands.{Stands}
 use Rattle.cb_rule.specs.Steps.{Does, act, handles_of, looked, told, loaded}
 use Rattle.cb_rule.specs.Words.{stamps, base, pointer, stamp}
+use Rattle.cb_rule.proofs.Calm.{look_ok}
 use Rattle.cb_rule.proofs.Keeping.{Steps, held_same}
 use Rattle.cb_rule.proofs.Lifting.{mine, next_load}
 
@@ -46,7 +47,7 @@ module _ (c : Config) (ws : List ℕ) (views : List View) (v : View) (es : List 
         ok;
     follows = r.history;
     within = tt;
-    tells = tt;
+    tells = look_ok c ws views v.known es r h l;
   }
 
   pub look_agrees : (h : ℕ) → h < c.handles → Agrees v.known (Looked h (pointer ws h))

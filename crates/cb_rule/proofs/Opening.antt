@@ -86,6 +86,7 @@ module _ (first : ℕ) (pos : 1 ≤ first) (c : Config) (ws : List ℕ) (wide : 
       fresh = tt;
       seen = tt;
       peeked = tt;
+      looks = tt;
       reached = omega arith;
       told = tt;
       began = λ h l. never_now [] h;
@@ -145,6 +146,7 @@ module _ (first : ℕ) (pos : 1 ≤ first) (c : Config) (ws : List ℕ) (wide : 
       empty = refl;
       reached = refl;
       sound = λ i le. (s, stood_empty first c pos accepted);
+      starts = λ i le. refl;
       free = λ _. record {
         word = zeros 0;
         home = refl;

@@ -23,12 +23,13 @@ use Rattle.cb_rule.specs.declared.view.Look.{Look}
 use Rattle.cb_rule.specs.declared.view.View.{View}
 use Rattle.cb_rule.specs.History.{Value, holding_words, newest, top, IsHistory, is_version}
 use Rattle.cb_rule.specs.Lists.{times, total, Each, Has, removed}
-use Rattle.cb_rule.specs.Records.{HeldOk, RecordOk}
+use Rattle.cb_rule.specs.Records.{HeldOk, LookOk, RecordOk}
 use Rattle.cb_rule.specs.Rule.{StandsIn, Kept}
 use Rattle.cb_rule.specs.Seats.{claims_it, claims_on, pins_on, written_on, pins_it}
 use Rattle.cb_rule.specs.Stands.{Stands}
-use Rattle.cb_rule.specs.Steps.{next_entry, with_claim, with_held, with_stamp, with_version, with_word, without_claim}
+use Rattle.cb_rule.specs.Steps.{look_at, next_entry, with_claim, with_held, with_stamp, with_version, with_word, without_claim}
 use Rattle.cb_rule.specs.Words.{stamps, base, pointer, stamp, words_at}
+use Rattle.cb_rule.proofs.Calm.{look_ok}
 use Rattle.cb_rule.proofs.Claiming.{found_below, found_calm, found_here, found_shared}
 use Rattle.cb_rule.proofs.Counts.{each_edited, each_removed_only, hit, miss, times-edited, times-removed, times-removed_else, total-at, total-same, total-set, each_there}
 use Rattle.cb_rule.proofs.Growing.{record_more}
@@ -67,13 +68,14 @@ window_set ws (suc i) x p (suc n) lt fits = let e : p + suc i ≡ (p + 1) + i = 
 
 -- what a record says for good does not rest on its claims and looks
 pub record_held : (c : Config) (first : ℕ) (es : List Entry) (v : View) (claims : List Held)
-    (looks : List Look) → RecordOk c first es v
+    (looks : List Look) → Each (LookOk es) looks → RecordOk c first es v
     → RecordOk c first es (record v { claims = claims; looks = looks })
-record_held c first es v claims looks o = record {
+record_held c first es v claims looks l o = record {
   written = o.written;
   fresh = o.fresh;
   seen = o.seen;
   peeked = o.peeked;
+  looks = l;
   reached = o.reached;
   told = o.told;
   began = o.began;
@@ -166,7 +168,10 @@ module _ (c : Config) (ws : List ℕ) (views : List View) (known : Shown) (es : 
         );
         holds = refl;
         knows = refl;
-        lasting = record_held c known.first es v u.claims u.looks ok.lasting;
+        lasting = record_held c known.first es v u.claims u.looks (
+          subst (λ (n : ℕ). LookOk es (look_at h n)) found (look_ok c ws views known es r h l),
+          ok.lasting.looks,
+        ) ok.lasting;
         wrote = λ a q. (let z : 0 + written_on a q v
             ≡ written_on a q v = omega arith in sym z);
       }
@@ -279,7 +284,7 @@ module _ (c : Config) (ws : List ℕ) (views : List View) (known : Shown) (es : 
               ok.claims;
           holds = refl;
           knows = refl;
-          lasting = record_held c known.first es v u.claims v.looks ok.lasting;
+          lasting = record_held c known.first es v u.claims v.looks ok.lasting.looks ok.lasting;
           wrote = λ a q. (let z : 0 + written_on a q v
               ≡ written_on a q v = omega arith in sym z);
         }
@@ -340,7 +345,7 @@ module _ (c : Config) (ws : List ℕ) (views : List View) (known : Shown) (es : 
               ok.claims;
           holds = refl;
           knows = refl;
-          lasting = record_held c known.first es v u.claims v.looks ok.lasting;
+          lasting = record_held c known.first es v u.claims v.looks ok.lasting.looks ok.lasting;
           wrote = λ a q. (let z : 0 + written_on a q v
               ≡ written_on a q v = omega arith in sym z);
         }
@@ -499,6 +504,7 @@ module _ (c : Config) (ws : List ℕ) (views : List View) (known : Shown) (es : 
             fresh = g.fresh;
             seen = g.seen;
             peeked = g.peeked;
+            looks = g.looks;
             reached = g.reached;
             told = g.told;
             began = g.began;
@@ -544,7 +550,7 @@ module _ (c : Config) (ws : List ℕ) (views : List View) (known : Shown) (es : 
           holds = refl;
           knows = refl;
           lasting = record_held c known.first es v (without_claim x.handle v).claims v.looks
-              (r.seats id v at).lasting;
+              (r.seats id v at).lasting.looks (r.seats id v at).lasting;
           wrote = λ a q. omega arith;
         }
       where

@@ -160,7 +160,7 @@ module _ (beside : Beside) (steady : IsSteady beside) (first : ℕ) (c : Config)
         few = ok.few;
         others = λ i ne. refl;
         lasting = reread c r.known.first r.history me.0 me.0.share me.0.ever me.0.pins me.0.claims
-            me.0.looks me.0.seen _ ok.lasting ok.lasting.seen (
+            me.0.looks me.0.seen _ ok.lasting ok.lasting.looks ok.lasting.seen (
               peeks_entry c s.words s.views r.known r.history k id me.0 at p there j lt n
                   (peeks_word c s.words s.views r.known r.history k id me.0 at p there j lt),
               ok.lasting.peeked,

@@ -27,14 +27,14 @@ use Rattle.cb_rule.specs.declared.view.View.{View}
 use Rattle.cb_rule.specs.History.{Value, newest, top}
 use Rattle.cb_rule.specs.Lists.{removed, Each}
 use Rattle.cb_rule.specs.Own.{AreOwn}
-use Rattle.cb_rule.specs.Records.{PinOk, SeenOk, PeekedOk, RecordOk}
+use Rattle.cb_rule.specs.Records.{LookOk, PinOk, SeenOk, PeekedOk, RecordOk}
 use Rattle.cb_rule.specs.Rule.{Kept}
 use Rattle.cb_rule.specs.Ruled.{Beside, IsSteady, Ruled, AreShares}
 use Rattle.cb_rule.specs.Seats.{pins_it, pins_on}
 use Rattle.cb_rule.specs.Slot.{Sat}
-use Rattle.cb_rule.specs.Steps.{Finds, Knows, pinned, unpinned, version_seen, with_look, with_pin, without_pin}
+use Rattle.cb_rule.specs.Steps.{Finds, Knows, look_at, pinned, unpinned, version_seen, with_look, with_pin, without_pin}
 use Rattle.cb_rule.specs.Words.{base, pointer}
-use Rattle.cb_rule.proofs.Calm.{Lies, Quiet, calm_rule, lies, still_rule}
+use Rattle.cb_rule.proofs.Calm.{Lies, Quiet, calm_rule, lies, look_ok, still_rule}
 use Rattle.cb_rule.proofs.Counts.{each_removed, hit, miss, times-removed, times-removed_else, total-at, total-set}
 use Rattle.cb_rule.proofs.Histories.{IsEntry, newest_entry}
 use Rattle.cb_rule.proofs.Keeping.{lies_here}
@@ -45,8 +45,8 @@ use Rattle.cb_rule.proofs.Owning.{keeps_all, keeps_pin, keeps_unpin, known_trace
 -- the record with other pins, claims, looks and words that were read
 pub reread : (c : Config) (first : ℕ) (es : List Entry) (v : View) (share ever : ℕ)
     (pins : List Stand) (claims : List Held) (looks : List Look) (seen : List Seen)
-    (peeked : List Peeked) → RecordOk c first es v → Each (SeenOk es) seen
-    → Each (PeekedOk es) peeked → RecordOk c first es (record v {
+    (peeked : List Peeked) → RecordOk c first es v → Each (LookOk es) looks
+    → Each (SeenOk es) seen → Each (PeekedOk es) peeked → RecordOk c first es (record v {
       share = share;
       pins = pins;
       ever = ever;
@@ -55,11 +55,12 @@ pub reread : (c : Config) (first : ℕ) (es : List Entry) (v : View) (share ever
       peeked = peeked;
       looks = looks;
     })
-reread c first es v share ever pins claims looks seen peeked ok s p = record {
+reread c first es v share ever pins claims looks seen peeked ok l s p = record {
   written = ok.written;
   fresh = ok.fresh;
   seen = s;
   peeked = p;
+  looks = l;
   reached = ok.reached;
   told = ok.told;
   began = ok.began;
@@ -69,8 +70,8 @@ reread c first es v share ever pins claims looks seen peeked ok s p = record {
 -- a look alone
 pub looks_quiet : (c : Config) (ws : List ℕ) (views : List View) (known : Shown) (es : List Entry)
     (r : Kept c ws views known es) (id h w : ℕ) (v : View) → get_elem? views id ≡ some v
-    → Quiet c known es h v (with_look h w v)
-looks_quiet c ws views known es r id h w v at = let ok = r.seats id v at in record {
+    → LookOk es (look_at h w) → Quiet c known es h v (with_look h w v)
+looks_quiet c ws views known es r id h w v at o = let ok = r.seats id v at in record {
   same_config = refl;
   claims = refl;
   wrote = λ a k. refl;
@@ -80,7 +81,7 @@ looks_quiet c ws views known es r id h w v at = let ok = r.seats id v at in reco
   few = ok.few;
   others = λ k ne. refl;
   lasting = reread c known.first es v v.share v.ever v.pins v.claims _ v.seen v.peeked ok.lasting
-      ok.lasting.seen ok.lasting.peeked;
+      (o, ok.lasting.looks) ok.lasting.seen ok.lasting.peeked;
 }
 
 -- the entry that an exchange found, as read
@@ -140,18 +141,20 @@ pin_below old new f b s p e n = omega arith
 module _ (beside : Beside) (steady : IsSteady beside) (first : ℕ) (c : Config) (slots id : ℕ)
     (me : Sat) (live : 1 ≤ me.0.share) (h : ℕ) (l : h < c.handles) where
   -- an exchange found another word
-  pub lost : (s : Rattle.cb_rule.specs.Slot.Table) (x : ℕ) → Ruled beside first c s
-      → get_elem? s.views id ≡ some me.0
+  pub lost : (s : Rattle.cb_rule.specs.Slot.Table) (x : ℕ) → (r : Ruled beside first c s)
+      → get_elem? s.views id ≡ some me.0 → pointer s.words h ≡ x
       → Ruled beside first c record {
         words = s.words;
         homes = s.homes;
         views = set s.views id (with_look h x me.0);
       }
-  lost s x r at = any_seat beside steady first c s id me.0 at r (with_look h x me.0) s.words
+  lost s x r at found = any_seat beside steady first c s id me.0 at r (with_look h x me.0) s.words
       r.history refl live record { holds = refl; took = refl; turns = refl }
       (keeps_all me.0 (with_look h x me.0).looks me.0.peeked) refl
       (still_rule c s.words s.views r.known r.history r.kept id h me.0 (with_look h x me.0) at
-      (looks_quiet c s.words s.views r.known r.history r.kept id h x me.0 at) refl)
+      (looks_quiet c s.words s.views r.known r.history r.kept id h x me.0 at
+      (subst (λ (n : ℕ). LookOk r.history (look_at h n)) found
+      (look_ok c s.words s.views r.known r.history r.kept h l))) refl)
 
   pub takes_pin : (old new : ℕ) → Knows h me.0 → state_of old ≡ word.Here
       → pins_of old < 1023 → length me.0.pins ≤ 16 → TakesPin old new
@@ -210,7 +213,7 @@ module _ (beside : Beside) (steady : IsSteady beside) (first : ℕ) (c : Config)
           homes = s.homes;
           views = set s.views id (with_look h x me.0);
         }) (sym (ap (set s.words (1 + h)) (ap (λ b. either b new x) (ne_eqb x old ne))
-            ∙ same_words s.words (1 + h))) (lost s x r at),
+            ∙ same_words s.words (1 + h))) (lost s x r at refl),
         λ h' q. let same : h ≡ h' = omega (arith, q) in (
           (λ e. absurd (ne e)),
           λ _. ap (λ (j : ℕ). let z : Sat = (with_look j x me.0, me.1) in z) same,
@@ -247,7 +250,7 @@ module _ (beside : Beside) (steady : IsSteady beside) (first : ℕ) (c : Config)
             others = λ q ne. (let out = miss (eqb h q) (ne_eqb h q (λ y. ne (sym y))) in
                 omega (arith, out));
             lasting = reread c r.known.first es me.0 me.0.share _ _ me.0.claims _ _ me.0.peeked
-                ok.lasting (
+                ok.lasting (look_ok c s.words s.views r.known es k h l, ok.lasting.looks) (
                   reads c s.words s.views r.known es k r.shares first r.own h l o,
                   ok.lasting.seen,
                 )
@@ -281,7 +284,7 @@ module _ (beside : Beside) (steady : IsSteady beside) (first : ℕ) (c : Config)
         others = λ q ne. times-removed_else (pins_it h) (pins_it q) me.0.pins
             (λ p is. ne_eqb p.handle q (λ e. ne (sym e ∙ eqb-true p.handle h is)));
         lasting = reread c r.known.first es me.0 me.0.share me.0.ever _ me.0.claims me.0.looks
-            me.0.seen me.0.peeked ok.lasting ok.lasting.seen ok.lasting.peeked;
+            me.0.seen me.0.peeked ok.lasting ok.lasting.looks ok.lasting.seen ok.lasting.peeked;
       } in (
         w,
         keeps,

@@ -1,23 +1,28 @@
 -- The rule says what stands of the words and the views alone.
-use Rattle.std.proofs.Common.{◌≡◌, ℕ, ◌+◌, ◌*◌, ◌/◌, ◌%◌, ◌<◌, ◌&&◌, Bool, true, eqb, List, [], ◌++◌, sym, refl, ap, ◌∙◌, subst, inl, inr, ⊎_elim, arith, eq-eqb, eqb-true}
+use Rattle.std.proofs.Common.{◌≡◌, ℕ, ◌+◌, ◌*◌, ◌/◌, ◌%◌, ◌<◌, ◌&&◌, ◌≤◌, Bool, true, false, eqb, List, [], ◌++◌, sym, refl, ap, ◌∙◌, subst, inl, inr, ⊎_elim, arith, eq-eqb, eqb-true}
 use mathlib.Core.Option.{some}
 use lib.ListN.{get_elem?}
 use Rattle.cb_types.specs.declared.config.Config.{Config}
 use Rattle.cb_ptr.specs.declared.word.State.TheVariants as word
 use Rattle.cb_ptr.specs.Word.{state_of, pins_of, len_of, place_of}
 use Rattle.cb_world.specs.declared.entry.Entry.{Entry}
+use Rattle.cb_world.specs.declared.event.Event.{Event}
+use Rattle.cb_world.specs.declared.event.Event.TheVariants as ev
 use Rattle.cb_world.specs.declared.object.Object.{Object}
 use Rattle.cb_world.specs.declared.object.Object.TheVariants as is
 use Rattle.cb_world.specs.declared.shown.Shown.{Shown}
 use Rattle.cb_world.specs.LocalSound.{LiesAt}
+use Rattle.cb_world.specs.Looks.{IsLook}
 use Rattle.cb_world.specs.Shown.{Fits, object_at, version_at}
 use Rattle.cb_world.specs.StillDesk.{bits_here, bits_moving}
+use Rattle.cb_rule.specs.declared.turn.Turn.{Turn}
 use Rattle.cb_rule.specs.declared.view.Held.{Held}
+use Rattle.cb_rule.specs.declared.view.Look.{Look}
 use Rattle.cb_rule.specs.declared.view.View.{View}
-use Rattle.cb_rule.specs.History.{Value, is_version, newest, top, value_of}
+use Rattle.cb_rule.specs.History.{Value, WasNow, holding_words, is_version, newest, top, value_of}
 use Rattle.cb_rule.specs.Lists.{total, Each, Has}
 use Rattle.cb_rule.specs.Promised.{ClaimsStand, EntriesStand, HeldStands, HereStands, Is, IsLast, Names, PinsStand, WordsStand, Wrote}
-use Rattle.cb_rule.specs.Records.{HeldOk, PeekedOk, SeenOk}
+use Rattle.cb_rule.specs.Records.{HeldOk, LookOk, PeekedOk, SeenOk, TellsOk, TurnOk}
 use Rattle.cb_rule.specs.Rule.{Kept}
 use Rattle.cb_rule.specs.Ruled.{Beside, Ruled}
 use Rattle.cb_rule.specs.Seats.{pins_on, claims_on, written_on}
@@ -26,6 +31,7 @@ use Rattle.cb_rule.specs.Stands.{IsCalm, IsTaken, Stands}
 use Rattle.cb_rule.specs.Words.{pointer, words_at}
 use Rattle.cb_rule.proofs.Calm.{lies}
 use Rattle.cb_rule.proofs.Counts.{each_append, times-append}
+use Rattle.cb_rule.proofs.Growing.{has_more}
 use Rattle.cb_rule.proofs.Members.{each_has, has_times, times_has, total_some}
 use Rattle.cb_rule.proofs.Owning.{both_true}
 use Rattle.cb_rule.proofs.Histories.{IsEntry, entry_before, entry_within, newest_entry, once, same_entry, stands}
@@ -197,6 +203,34 @@ module _ (c : Config) (ws : List ℕ) (views : List View) (known : Shown) (es : 
         words = ap (λ (y : Value). y.words) has;
       }
 
+  -- a claim of a turn tells the length of an entry too
+  claimed_in : (h w v since until : ℕ) (words : List ℕ) → known.first ≤ v
+      → WasNow es since until h v (holding_words (len_of w) words)
+      → (e : Entry) × Has e es × (e.handle ≡ h) × (e.freed ≡ false) × (e.len ≡ len_of w)
+  claimed_in h w v since until words low was =
+      let n = newest_entry was.older h
+      (let b = r.begins in let t = was.last in omega (arith, b, low, t)) in (
+        n.entry,
+        subst (Has n.entry) (sym was.parts) (has_more n.entry was.newer was.older n.there),
+        n.handle,
+        ap (λ (x : Value). x.freed) (n.has ∙ was.has),
+        ap (λ (x : Value). x.len) (n.has ∙ was.has),
+      )
+
+  looked_in : (l : Look) (since until : ℕ) (e : Event) → TellsOk known.first es since until e
+      → IsLook l.handle l.word e → LookOk es l
+  looked_in l since until (ev.Looked h w) ok is full =
+      let z = ok (λ none. full (ap state_of (sym is.1) ∙ none)) in
+      (z.0, z.1, z.2 ∙ is.0, z.3, z.4 ∙ ap len_of is.1)
+  looked_in l since until (ev.Claimed h w v words) ok is full =
+      let z = claimed_in h w v since until words ok.0 ok.1 in
+      (z.0, z.1, z.2 ∙ is.0, z.3, z.4 ∙ ap len_of is.1)
+  looked_in l since until (ev.Told h v) ok is full = absurd is
+  looked_in l since until (ev.Loaded p x) ok is full = absurd is
+  looked_in l since until (ev.Stored p x) ok is full = absurd is
+  looked_in l since until (ev.Stamped h v) ok is full = absurd is
+  looked_in l since until (ev.Settled h w) ok is full = absurd is
+
   pub entries_stand : EntriesStand known.first views
   entries_stand = record {
     read = λ s there. let u = there.0 in let at = there.1 in
@@ -205,6 +239,16 @@ module _ (c : Config) (ws : List ℕ) (views : List View) (known : Shown) (es : 
     peeked = λ p there. let u = there.0 in let at = there.1 in
         let o = each_has (PeekedOk es) p u.peeked (r.seats at.0 u at.1).lasting.peeked there.2 in
         (o.0, has_wrote o.0 o.1, o.2);
+    looked = λ l there full. let u = there.0 in let at = there.1 in
+        let ok = (r.seats at.0 u at.1).lasting in
+        let o = ⊎_elim (λ (q : Has l u.looks). each_has (LookOk es) l u.looks ok.looks q full)
+        (λ (q : (t : Turn) × Has t u.turns × (e : Event) × Has e t.acts
+        × IsLook l.handle l.word e).
+        let told = (each_has (TurnOk c known.first es) q.0 u.turns ok.past q.1).told in
+        looked_in l q.0.since q.0.until q.2
+        (each_has (TellsOk known.first es q.0.since q.0.until) q.2 q.0.acts told q.3) q.4 full)
+        there.2 in
+        (o.0, has_wrote o.0 o.1, o.2, o.3, o.4);
     born = λ e a. (entry_within known.first r.begins e es r.history (wrote_has e a)).0;
     same = λ e x a b eh ev. same_entry known.first r.begins e x es r.history (wrote_has e a)
         (wrote_has x b) eh ev;
@@ -214,7 +258,7 @@ module _ (c : Config) (ws : List ℕ) (views : List View) (known : Shown) (es : 
         omega (arith, t, low, high) in one);
     goes_on = λ e a. ⊎_elim
         (λ (z : (e.version ≡ known.first) × (e.before ≡ [])). inl z)
-        (λ (z : _). inr (z.0, has_wrote z.0 z.1, z.2, z.3, z.4, z.5))
+        (λ (z : _). inr (z.0, has_wrote z.0 z.1, z.2, z.3, z.4, z.5, z.6))
         (entry_before known.first r.begins e es r.history (wrote_has e a));
   }
 

@@ -12,7 +12,7 @@ use Rattle.cb_rule.specs.declared.view.Stand.{Stand}
 use Rattle.cb_rule.specs.declared.view.View.{View}
 use Rattle.cb_rule.specs.History.{WasNow, is_version, newest, no_value, top}
 use Rattle.cb_rule.specs.Lists.{total, Has}
-use Rattle.cb_rule.specs.Records.{HeldOk, PeekedOk, PinOk, RecordOk, SeatOk, SeenOk, TurnOk, seen_of}
+use Rattle.cb_rule.specs.Records.{HeldOk, LookOk, PeekedOk, PinOk, RecordOk, SeatOk, SeenOk, TurnOk, seen_of}
 use Rattle.cb_rule.specs.Rule.{StandsIn, Kept}
 use Rattle.cb_rule.specs.Ruled.{AreShares, Beside, IsSteady, Ruled}
 use Rattle.cb_rule.specs.Seats.{claims_it, claims_on, holding, pins_it, pins_on, share_of, written_on}
@@ -80,6 +80,7 @@ module _ (c : Config) (ws : List ℕ) (views : List View) (known : Shown) (es : 
           (λ e there. (e, there, refl))
           (each_append (λ e. Has e es) v.fresh v.written ok.fresh ok.written))) ok.seen;
       peeked = tt;
+      looks = tt;
       reached = omega arith;
       told = tt;
       began = λ h l. never_now es h;
@@ -99,6 +100,7 @@ module _ (c : Config) (ws : List ℕ) (views : List View) (known : Shown) (es : 
       fresh = tt;
       seen = tt;
       peeked = tt;
+      looks = tt;
       reached = omega arith;
       told = tt;
       began = λ h l. never_now es h;
@@ -167,6 +169,7 @@ module _ (c : Config) (ws : List ℕ) (views : List View) (known : Shown) (es : 
           fresh = k.fresh;
           seen = k.seen;
           peeked = k.peeked;
+          looks = k.looks;
           reached = k.reached;
           told = k.told;
           began = k.began;
@@ -235,6 +238,7 @@ module _ (c : Config) (ws : List ℕ) (views : List View) (known : Shown) (es : 
           fresh = each_append (λ e. Has e es) w.fresh v.fresh k'.fresh k.fresh;
           seen = each_append (SeenOk es) w.seen v.seen k'.seen k.seen;
           peeked = each_append (PeekedOk es) w.peeked v.peeked k'.peeked k.peeked;
+          looks = each_append (LookOk es) w.looks v.looks k'.looks k.looks;
           reached = k.reached;
           told = k.told;
           began = k.began;

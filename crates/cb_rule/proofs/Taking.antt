@@ -1,5 +1,6 @@
 -- A seat takes the lock, and the far state out of its slot.
-use Rattle.std.proofs.Common.{◌≡◌, ℕ, zero, suc, ◌*◌, ◌%◌, ◌<◌, ◌≤◌, true, List, ◌∷◌, length, get_or, set, Some, sym, refl, ap, ◌∙◌, subst, arith, eqb, eq-eqb, ne_eqb, length-set, get_or-set_same, true≢false}
+use Rattle.std.proofs.Common.{◌≡◌, ℕ, zero, suc, ◌*◌, ◌%◌, ◌<◌, ◌≤◌, true, List, ◌∷◌, length, get_or, set, Some, sym, refl, ap, ◌∙◌, subst, ⊎_elim, arith, eqb, eq-eqb, ne_eqb, length-set, get_or-set_same, true≢false}
+use Rattle.std.proofs.lemmas.Bool.{cases_lt}
 use mathlib.Core.Logic.{dite}
 use mathlib.Core.Option.{some, none}
 use lib.ListN.{get_elem?}
@@ -9,18 +10,24 @@ use Rattle.atomic_table.specs.Table.{Allows, keeps, step}
 use Rattle.atomic_table.specs.Table.{takes as takes_slot}
 use Rattle.cb_types.specs.declared.config.Config.{Config}
 use Rattle.cb_world.specs.FarState.{FarState}
+use Rattle.cb_world.specs.LocalSound.{AreKnown}
+use Rattle.cb_world.specs.Shown.{never, object_at, version_at}
 use Rattle.cb_rule.specs.declared.view.View.{View}
+use Rattle.cb_rule.specs.History.{newest, top}
 use Rattle.cb_rule.specs.Lists.{total, Each}
 use Rattle.cb_rule.specs.Locking.{Deeds, Locked, Stood, TurnStands, turns_on}
 use Rattle.cb_rule.specs.LockSteps.{HasTaken, took, took_lock}
 use Rattle.cb_rule.specs.Own.{AreOwn, held_on}
 use Rattle.cb_rule.specs.Rule.{AreSized, Kept}
 use Rattle.cb_rule.specs.Ruled.{Ruled}
-use Rattle.cb_rule.specs.Seats.{holding}
+use Rattle.cb_rule.specs.Seats.{claims_on, holding, pins_on}
 use Rattle.cb_rule.specs.Slot.{Sat, Table}
+use Rattle.cb_rule.specs.Stands.{Stands}
+use Rattle.cb_rule.specs.Steps.{Knows}
 use Rattle.cb_rule.proofs.Binding.{bound_by, held_at_most}
 use Rattle.cb_rule.proofs.Counts.{total-at, total-same, total-set}
 use Rattle.cb_rule.proofs.Flagging.{flagged, lock_word}
+use Rattle.cb_rule.proofs.Glancing.{known_made, known_below}
 use Rattle.cb_rule.proofs.Keeping.{seats_stay}
 use Rattle.cb_rule.proofs.Lifting.{same_words, set_same, shares_stay}
 use Rattle.cb_rule.proofs.Opening.{old_now}
@@ -74,6 +81,7 @@ module _ (deeds : Deeds) (first : ℕ) (c : Config) (s : Table) (id : ℕ) (me :
           fresh = k.fresh;
           seen = k.seen;
           peeked = k.peeked;
+          looks = k.looks;
           reached = omega arith;
           told = tt;
           began = old_now c s.words s.views r.known r.history r.kept;
@@ -88,6 +96,7 @@ module _ (deeds : Deeds) (first : ℕ) (c : Config) (s : Table) (id : ℕ) (me :
     empty = lock.empty;
     reached = lock.reached;
     sound = lock.sound;
+    starts = lock.starts;
     free = λ none_holds. absurd (omega (arith, none_holds, one_holds));
     held = λ _. get_or-set_same s.words 0 1 0 (let z = r.kept.wide in omega (arith, z));
     deep = let d = lock.deep in let q = length-set s.homes 0 none in omega (arith, d, q);
@@ -118,6 +127,31 @@ module _ (deeds : Deeds) (first : ℕ) (c : Config) (s : Table) (id : ℕ) (me :
     far = locked_taken;
   }
 
+  -- an object that was never made has no entry
+  unwritten : (h : ℕ) → object_at r.known h ≡ never → h < c.handles → top r.history h ≡ 0
+  unwritten h vacant below = let z = r.kept.stand h below in
+      let k = subst (Stands c r.known.first s.words h (total (pins_on h) s.views)
+      (total (claims_on h) s.views) (top r.history h) (newest r.history h) (version_at r.known h))
+      vacant z in k.at
+
+  -- so each object of which the record has one was made
+  was_made : (h : ℕ) → Knows h me.0 → h < far.made
+  was_made h knows = ⊎_elim (λ (less : h < far.made). less) (λ (past : far.made ≤ h). absurd
+      (let vacant = (a.made h (omega (arith, below, sized))).0 past in
+      let zero_ = unwritten h vacant below in omega (arith, zero_, some))) (cases_lt h far.made)
+    where
+      some : 0 < top r.history h
+      some = known_made c s.words s.views r.known r.history r.kept id h me.0 at knows
+
+      below : h < c.handles
+      below = known_below c s.words s.views r.known r.history r.kept id h me.0 at knows
+
+      sized : length r.known.objects ≡ c.handles
+      sized = r.kept.sized.objects
+
+      a : AreKnown r.known far
+      a = (lock.free nobody).stood.sound.here.known
+
   has_taken : (n : ℕ) → get_or s.words 0 0 ≡ n
       → HasTaken me n (taken, (0, Some far) ∷ me.1)
   has_taken n found = let ok = r.kept.seats id me.0 at in let f = lock.free nobody in record {
@@ -127,6 +161,7 @@ module _ (deeds : Deeds) (first : ℕ) (c : Config) (s : Table) (id : ℕ) (me :
     taken = refl;
     sized = subst (λ (q : Config). AreSized q r.known) (sym ok.same_config) r.kept.sized;
     stood = subst (λ (q : Config). Stood q r.known far) (sym ok.same_config) f.stood;
+    made = was_made;
     number = sym found ∙ f.word ∙ ap (λ (k : ℕ). 2 * k) (sym lock.reached);
   }
 

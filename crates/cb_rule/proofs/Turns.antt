@@ -2,6 +2,7 @@
 use Rattle.std.proofs.Common.{◌≡◌, ℕ, ◌+◌, ◌^◌, ◌<◌, ◌≤◌, sym, ap, ◌∙◌, subst, inl, inr, ⊎_elim, arith}
 use Rattle.cb_types.specs.declared.config.Config.{Config}
 use Rattle.cb_world.specs.Empty.{empty_far}
+use Rattle.cb_world.specs.FarState.{FarState}
 use Rattle.cb_rule.specs.declared.turn.Turn.{Turn}
 use Rattle.cb_rule.specs.Locking.{Deeds, Locked, Stood, TurnStands, turn_number}
 use Rattle.cb_rule.specs.OneHistory.{HasNumber, IsOneHistory, Made, TurnsStand}
@@ -40,6 +41,15 @@ module _ (deeds : Deeds) (first : ℕ) (c : Config) (s : Table)
       (λ (a : (turn_number t ≡ 2 ^ 40) × (lock.count ≡ 2 ^ 40) × (t.gave ≡ t.took)).
       absurd (let e = a.0 in let f = a.1 in omega (arith, e, f, le))) (turn_stands t m).gave
 
+  starts : (t : Turn) → Made s.views t → t.gave.first ≡ first
+  starts t m = ⊎_elim
+      (λ (a : (turn_number t < lock.count) × (t.gave ≡ lock.chain (turn_number t + 1))).
+      let less = a.0 in ap (λ (f : FarState). f.first) a.1
+      ∙ lock.starts (turn_number t + 1) (omega (arith, less)) ∙ r.starts)
+      (λ (a : (turn_number t ≡ 2 ^ 40) × (lock.count ≡ 2 ^ 40) × (t.gave ≡ t.took)).
+      ap (λ (f : FarState). f.first) (a.2 ∙ (turn_stands t m).took)
+      ∙ lock.starts (turn_number t) (not_past t m) ∙ r.starts) (turn_stands t m).gave
+
   pub one_history : IsOneHistory deeds first c s.views lock.count (lock.chain lock.count)
   one_history = record {
     counted = lock.reached;
@@ -52,6 +62,7 @@ module _ (deeds : Deeds) (first : ℕ) (c : Config) (s : Table)
     numbers = has_number;
     sound = λ t m. let z = lock.sound (turn_number t) (not_past t m) in
         (z.0, subst (Stood c z.0) (sym (turn_stands t m).took) z.1);
+    starts = starts;
     did = λ t m. (turn_stands t m).did;
   }
 

@@ -1,12 +1,15 @@
 -- Worked examples of what a pass closes: what meets each definition, and what breaks one part alone.
-use Rattle.std.proofs.Common.{◌≡◌, ℕ, zero, suc, ◌≤◌, ◌++◌, get_or, subst, true, false, Bool, List, [], ◌∷◌, Some, None, length, replicate, ◌<◌, sym, refl, ap, ◌∙◌, inl, inr, true≢false, lit<, lit≤, arith}
+use Rattle.std.proofs.Common.{◌≡◌, ℕ, zero, suc, ◌≤◌, ◌++◌, get_or, subst, true, false, Bool, List, [], ◌∷◌, Some, None, length, replicate, ◌<◌, sym, refl, ap, ◌∙◌, inl, inr, ⊎_elim, true≢false, lit<, lit≤, arith}
 use mathlib.Core.Option.{Option as Maybe, some, none, some-injective, some-ne-none}
 use Rattle.atomic_table.specs.Table.{opening}
 use Rattle.cb_types.specs.declared.config.Config.{Config}
 use Rattle.cb_ptr.specs.Word.{state_of}
 use Rattle.cb_world.specs.declared.entry.Entry.{Entry}
+use Rattle.cb_world.specs.declared.event.Event.{Event}
+use Rattle.cb_world.specs.declared.event.Event.TheVariants.{Claimed}
 use Rattle.cb_world.specs.Empty.{empty_far}
 use Rattle.cb_world.specs.FarState.{FarState}
+use Rattle.cb_world.specs.Looks.{IsLook}
 use Rattle.cb_world.specs.Memory.{bytes_in, window}
 use Rattle.cb_world.specs.Now.{Now}
 use Rattle.cb_world.specs.Now.Now.{freed as ended, held, gone}
@@ -16,6 +19,7 @@ use Rattle.cb_world.specs.StillDesk.{window_length}
 use Rattle.cb_world.specs.World.{WorldState}
 use Rattle.cb_world.specs.Written.{entry}
 use Rattle.cb_world.proofs.Laws.{empty_now, empty_value, window_at}
+use Rattle.cb_rule.specs.declared.turn.Turn.{Turn}
 use Rattle.cb_rule.specs.declared.view.Peeked.{Peeked}
 use Rattle.cb_rule.specs.declared.view.Seen.{Seen}
 use Rattle.cb_rule.specs.declared.view.View.{View}
@@ -24,12 +28,12 @@ use Rattle.cb_rule.specs.Lists.{total, Has}
 use Rattle.cb_rule.specs.Promised.{EntriesStand, GoesOn, Is, Wrote}
 use Rattle.cb_rule.specs.Seats.{written_on}
 use Rattle.cb_rule.specs.Slot.{Slot}
-use Rattle.cb_rule.specs.Steps.{freed_seen, opener}
+use Rattle.cb_rule.specs.Steps.{freed_seen, look_at, opener}
 use Rattle.cb_rule.proofs.Closing.{Closes, closing}
 use Rattle.cb_rule.proofs.Opening.{opens, same_each}
 use Rattle.cb_rule.proofs.WorkedHistory.{freed, made, written}
-use Rattle.cb_rule.proofs.WorkedLocking.{accepted, far, quiet}
-use Rattle.cb_rule.proofs.WorkedViews.{pair_of}
+use Rattle.cb_rule.proofs.WorkedLocking.{accepted, far, quiet, turn}
+use Rattle.cb_rule.proofs.WorkedViews.{here_full, here_word, pair_of}
 
 -- ---- the words of a table with two objects and no frame
 abbrev no_frame : Config
@@ -93,6 +97,11 @@ stands : Stands maker
 stands = record {
   read = λ s t. absurd (nothing_read (λ (u : View). u.seen) refl s t.0 t.1 t.2);
   peeked = λ p t. absurd (nothing_read (λ (u : View). u.peeked) refl p t.0 t.1 t.2);
+  looked = λ l t full. absurd (⊎_elim
+      (λ (q : Has l t.0.looks). nothing_read (λ (u : View). u.looks) refl l t.0 t.1 q)
+      (λ (q : (x : Turn) × Has x t.0.turns × (e : Event) × Has e x.acts
+      × IsLook l.handle l.word e).
+      nothing_read (λ (u : View). u.turns) refl q.0 t.0 t.1 q.1) t.2);
   born = λ e w. subst (λ (y : Entry). 3 ≤ y.version) (sym (is_made e w)) (lit≤ tt);
   same = λ e x a b eh ev. is_made e a ∙ sym (is_made x b);
   once = λ e k last low high. let is = is_made e last.0 in
@@ -119,6 +128,29 @@ peeked_another_word s = let v = record maker { peeked = another_word ∷ [] } in
     let o = s.peeked another_word (v, here v, inl refl) in
     let e : 8 ≡ 7 = o.2.word ∙ ap (λ (x : Entry). get_or x.after 0 0)
     (the_one o.0 made (wrote_in v o.0 o.1)) in omega (arith, e)
+
+-- a look that tells another length
+looked_at_another : Stands record maker { looks = look_at 1 (here_word 9) ∷ [] } → ⊥
+looked_at_another s = let v = record maker { looks = look_at 1 (here_word 9) ∷ [] } in
+    let o = s.looked (look_at 1 (here_word 9)) (v, here v, inl (inl refl)) (here_full (here_word 9) refl) in
+    let e : o.0.len ≡ 8 = ap (λ (x : Entry). x.len) (the_one o.0 made (wrote_in v o.0 o.1)) in
+    let n = o.4 in omega (arith, e, n)
+
+-- and one of a turn, which claimed it
+abbrev claiming : View
+claiming = record maker {
+  turns = record (turn (far 0) (far 1)) { acts = Claimed 1 (here_word 9) 3 (7 ∷ []) ∷ [] } ∷ [];
+}
+
+claimed_with_another : Stands claiming → ⊥
+claimed_with_another s =
+    let o = s.looked (look_at 1 (here_word 9)) (
+      claiming,
+      here claiming,
+      inr (_, inl refl, _, inl refl, (refl, refl)),
+    ) (here_full (here_word 9) refl) in
+    let e : o.0.len ≡ 8 = ap (λ (x : Entry). x.len)
+    (the_one o.0 made (wrote_in claiming o.0 o.1)) in let n = o.4 in omega (arith, e, n)
 
 born_early : EntriesStand 4 (maker ∷ []) → ⊥
 born_early s = let e = s.born made (maker, here maker, inl refl) in omega (arith, e)
@@ -154,6 +186,39 @@ goes_on_from_nothing s = let v = record_with (written ∷ []) in
     by (inr z) = let e : z.0.version ≡ 4 = ap (λ (x : Entry). x.version)
         (the_one z.0 written (wrote_in (record_with (written ∷ [])) z.0 z.1)) in
         let n = z.3 in omega (arith, e, n)
+
+-- a write and a free behind the make, and a write that is shorter than it
+abbrev shorter : Entry
+shorter = entry 1 4 7 (7 ∷ []) (9 ∷ [])
+
+abbrev freer : View
+freer = record_with (freed ∷ written ∷ made ∷ [])
+
+a_write_goes_on : GoesOn 3 (freer ∷ []) written
+a_write_goes_on =
+    inr (made, (freer, here freer, inr (inr (inl refl))), refl, refl, refl, refl, λ kept. refl)
+
+a_free_goes_on : GoesOn 3 (freer ∷ []) freed
+a_free_goes_on = inr (
+  written,
+  (freer, here freer, inr (inl refl)),
+  refl,
+  refl,
+  refl,
+  refl,
+  λ kept. absurd (true≢false kept),
+)
+
+goes_on_shorter : GoesOn 3 (record_with (shorter ∷ made ∷ []) ∷ []) shorter → ⊥
+goes_on_shorter (inl z) = let e = z.0 in omega (arith, e)
+goes_on_shorter (inr z) = by (wrote_in (record_with (shorter ∷ made ∷ [])) z.0 z.1)
+  where
+    by : Has z.0 (shorter ∷ made ∷ []) → ⊥
+    by (inl is) = let e : 4 ≡ z.0.version = ap (λ (x : Entry). x.version) is in
+        let n = z.3 in omega (arith, e, n)
+    by (inr (inl is)) = let e : 8 ≡ z.0.len = ap (λ (x : Entry). x.len) is in
+        let n = z.6 refl in omega (arith, e, n)
+    by (inr (inr more)) = more
 
 -- ---- at the start the first pass closes the empty world
 abbrev world_of : FarState → WorldState
@@ -203,6 +268,9 @@ unsound : Closed (opener pair_of) (world_of record (empty_far 3 pair_of) {
   counts = record { turns = 1; by_job = replicate 19 0; sets = 0; keys = 0 };
 }) → ⊥
 unsound k = let e : 0 ≡ 1 = k.sound.counted.jobs in omega (arith, e)
+
+in_a_turn : Closed record (opener pair_of) { fresh = made ∷ [] } (world_of (empty_far 3 pair_of)) → ⊥
+in_a_turn k = let e : 1 ≡ 0 = ap (λ (es : List Entry). length es) k.calm in omega (arith, e)
 
 with_an_entry_unwritten : Closed record (opener pair_of) { seen = freed_seen 1 5 ∷ [] }
     (world_of (empty_far 3 pair_of)) → ⊥

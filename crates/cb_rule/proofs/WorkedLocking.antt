@@ -160,6 +160,7 @@ free = record {
   empty = refl;
   reached = refl;
   sound = λ i le. (seen, stood i (omega (arith, le)));
+  starts = λ i le. refl;
   free = λ _. record { word = refl; home = refl; stood = stood 1 (lit≤ tt) };
   held = λ some_one. absurd (omega (arith, some_one));
   deep = lit< tt;
@@ -180,6 +181,7 @@ held = record {
   empty = refl;
   reached = refl;
   sound = λ i le. (seen, stood i (omega (arith, le)));
+  starts = λ i le. refl;
   free = λ none_holds. absurd (omega (arith, none_holds));
   held = λ _. refl;
   deep = lit< tt;
@@ -259,6 +261,16 @@ never_sound : Lock (table 4 (home 2) (seat (turn no_frames (far 2) ∷ turn (far
 never_sound l = let ts = l.turns 0 _ refl in let n = (at_home 2 4 _ refl l).1 in
     let s = l.sound 1 (omega (arith, n)) in
     let e : 0 ≡ 1 = ap (λ (f : FarState). length f.spans) ts.0.took ∙ s.1.configured.frames in
+    omega (arith, e)
+
+-- a far state of before whose makes give another first version
+abbrev pub from_four : FarState
+from_four = record (far 1) { first = 4 }
+
+starts_elsewhere : Lock (table 4 (home 2) (seat (turn from_four (far 2) ∷ turn (far 0) from_four ∷ [])))
+    → ⊥
+starts_elsewhere l = let ts = l.turns 0 _ refl in let n = (at_home 2 4 _ refl l).1 in
+    let e : 4 ≡ 3 = ap (λ (f : FarState). f.first) ts.0.took ∙ l.starts 1 (omega (arith, n)) in
     omega (arith, e)
 
 -- held, with another word

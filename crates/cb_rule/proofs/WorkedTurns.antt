@@ -20,10 +20,10 @@ use Rattle.cb_rule.specs.Locking.{Stood, turn_number, turns_on}
 use Rattle.cb_rule.specs.LockSteps.{AddsTurn, HasGiven, HasTaken, IsFoundFreed, MayGive, gave_lock, took, took_lock}
 use Rattle.cb_rule.specs.OneHistory.{HasNumber, IsOneHistory, Made, TurnsStand}
 use Rattle.cb_rule.specs.Slot.{Sat, Slot}
-use Rattle.cb_rule.specs.Steps.{freed_seen, version_seen}
+use Rattle.cb_rule.specs.Steps.{Knows, freed_seen, version_seen}
 use Rattle.cb_rule.proofs.Members.{each_has}
 use Rattle.cb_rule.proofs.WorkedHistory.{made}
-use Rattle.cb_rule.proofs.WorkedLocking.{far, home, no_frames, one_turn, one_view, quiet, seat, seen, stood, table, turn}
+use Rattle.cb_rule.proofs.WorkedLocking.{far, from_four, home, no_frames, one_turn, one_view, quiet, seat, seen, stood, table, turn}
 use Rattle.cb_rule.proofs.WorkedViews.{pair_of}
 
 -- ---- the lock is taken after one turn
@@ -39,6 +39,10 @@ in_hand f = (0, Some f) ∷ []
 abbrev holder : Sat
 holder = taken seen (far 1) (in_hand (far 1))
 
+none_known : (h : ℕ) → Knows h (seat one_turn) → ⊥
+none_known h (inl (e, has, is)) = has
+none_known h (inr (s, has, is)) = has
+
 has_taken : HasTaken before 2 holder
 has_taken = record {
   known = seen;
@@ -47,8 +51,18 @@ has_taken = record {
   taken = refl;
   sized = record { objects = refl; hots = refl; versions = refl; memory = refl };
   stood = stood 1 (lit≤ tt);
+  made = λ h knows. absurd (none_known h knows);
   number = refl;
 }
+
+-- an object of which the record has an entry was not made
+abbrev knower : View
+knower = record (seat one_turn) { seen = freed_seen 0 4 ∷ [] }
+
+knows_what_was_not_made : HasTaken (knower, []) 2 (took_lock seen (far 1) 0 knower, in_hand (far 1)) → ⊥
+knows_what_was_not_made t = let e : t.far.made ≡ 0 =
+    sym (ap (λ (m : Sat). m.0.took.made) t.taken) in
+    let less = t.made 0 (inr (freed_seen 0 4, inl refl, refl)) in omega (arith, e, less)
 
 -- the far state is not in hand
 not_in_hand : HasTaken before 2 (taken seen (far 1) []) → ⊥
@@ -241,6 +255,7 @@ one_history = record {
   numbers = all_made (HasNumber 2) two_turns (inl (lit< tt), (inl (lit< tt), tt));
   sound = all_made (λ t. (k : Shown) × Stood pair_of k t.took) two_turns
       ((seen, stood 1 (lit≤ tt)), ((seen, stood 0 (lit≤ tt)), tt));
+  starts = all_made (λ t. t.gave.first ≡ 3) two_turns (refl, (refl, tt));
   did = all_made (λ t. quiet pair_of t) two_turns (refl, (refl, tt));
 }
   where
@@ -308,6 +323,14 @@ unsound = turn no_frames (far 2) ∷ turn (far 0) no_frames ∷ []
 never_sound : History unsound 2 (far 2) → ⊥
 never_sound h = let s = h.sound (turn no_frames (far 2)) (is_made unsound _ (inl refl)) in
     let e : 0 ≡ 1 = s.1.configured.frames in omega (arith, e)
+
+-- makes had another first version behind the first turn
+abbrev from_another : List Turn
+from_another = turn from_four (far 2) ∷ turn (far 0) from_four ∷ []
+
+starts_elsewhere : History from_another 2 (far 2) → ⊥
+starts_elsewhere h = let e : 4 ≡ 3 =
+    h.starts (turn (far 0) from_four) (is_made from_another _ (inr (inl refl))) in omega (arith, e)
 
 abbrev loud : List Turn
 loud = record (turn (far 0) (far 1)) { acts = Looked 0 0 ∷ [] } ∷ []

@@ -40,14 +40,16 @@ pub record HoldsEntries (views : List View) (w : WorldState) : Type 0 where
       → now shown w.far h ≡ never
 
 -- A pass with this record closed the runtime, whose makes gave the version first: the world is
--- sound, and all its seats are idle. The record has all entries, whose last ones the world holds,
--- and all counted turns, which are one history from the empty world to this one.
+-- sound, all its seats are idle, and no turn is under way. The record has all entries, whose last
+-- ones the world holds, and all counted turns, which are one history from the empty world to this
+-- one.
 pub record IsClosed (deeds : Deeds) (first : ℕ) (c : Config) (v : View) (w : WorldState) : Type 0
   where
     pub settings : w.desk.settings ≡ c
     pub begins : w.far.first ≡ first
     pub idle : w.seats ≡ replicate 64 idle_seat
     pub sound : IsSoundWorld w
+    pub calm : v.fresh ≡ []
     pub entries : EntriesStand first (v ∷ [])
     pub holds : HoldsEntries (v ∷ []) w
     pub turns : IsOneHistory deeds first c (v ∷ []) w.far.counts.turns w.far

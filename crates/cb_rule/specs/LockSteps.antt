@@ -32,7 +32,8 @@ took_lock known far n v = record v {
   took = far;
 }
 
--- what a seat finds that takes the lock, whose word was n
+-- What a seat finds that takes the lock, whose word was n. Each object of which its record has an
+-- entry was made by then.
 pub record HasTaken (m : Sat) (n : ℕ) (m' : Sat) : Type 0 where
   pub known : Shown
   pub far : FarState
@@ -40,6 +41,7 @@ pub record HasTaken (m : Sat) (n : ℕ) (m' : Sat) : Type 0 where
   pub taken : m' ≡ (took_lock known far entries m.0, (0, Some far) ∷ m.1)
   pub sized : AreSized m.0.config known
   pub stood : Stood m.0.config known far
+  pub made : (h : ℕ) → Knows h m.0 → h < far.made
   pub number : n ≡ 2 * far.counts.turns
 
 -- an exchange of the lock's word that takes the lock and the far state out of its slot, or finds

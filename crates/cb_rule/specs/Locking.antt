@@ -59,8 +59,9 @@ pub record Locked (deeds : Deeds) (c : Config) (s : Table) (known : Shown) : Typ
   pub chain : ℕ → FarState
   pub empty : chain 0 ≡ empty_far known.first c
   pub reached : (chain count).counts.turns ≡ count
-  -- each far state was sound for what was known then
+  -- each far state was sound for what was known then, and makes gave one first version
   pub sound : (i : ℕ) → i ≤ count → (k : Shown) × Stood c k (chain i)
+  pub starts : (i : ℕ) → i ≤ count → (chain i).first ≡ known.first
   pub free : total holding s.views ≡ 0 → IsUnlocked c s known count (chain count)
   pub held : 0 < total holding s.views → slice_index s.words 0 ≡ 1
   pub deep : 0 < length s.homes

@@ -26,7 +26,7 @@ HasNumber count t = (turn_number t < count)
 
 -- So many turns are counted, and led from the empty world to this far state: each number stands
 -- once, the first turn took the empty world's, each other one what the one before it gave, and the
--- last one gave this.
+-- last one gave this. Makes have one first version in all of them.
 pub record IsOneHistory (deeds : Deeds) (first : ℕ) (c : Config) (views : List View) (count : ℕ)
     (last : FarState) : Type 0 where
   pub counted : last.counts.turns ≡ count
@@ -38,6 +38,7 @@ pub record IsOneHistory (deeds : Deeds) (first : ℕ) (c : Config) (views : List
   pub ends : (t : Turn) → Made views t → turn_number t + 1 ≡ count → t.gave ≡ last
   pub numbers : (t : Turn) → Made views t → HasNumber count t
   pub sound : (t : Turn) → Made views t → (k : Shown) × Stood c k t.took
+  pub starts : (t : Turn) → Made views t → t.gave.first ≡ first
   pub did : (t : Turn) → Made views t → deeds c t
 
 -- No seat holds the lock: its word is twice the count, and the slot has the last far state.

@@ -6,8 +6,12 @@ use Rattle.cb_types.specs.declared.config.Config.{Config}
 use Rattle.cb_ptr.specs.declared.word.State.TheVariants as word
 use Rattle.cb_ptr.specs.Word.{state_of, hot_of, pins_of, len_of, place_of}
 use Rattle.cb_world.specs.declared.entry.Entry.{Entry}
+use Rattle.cb_world.specs.declared.event.Event.{Event}
+use Rattle.cb_world.specs.Looks.{IsLook}
 use Rattle.cb_world.specs.Shown.{Covers}
+use Rattle.cb_rule.specs.declared.turn.Turn.{Turn}
 use Rattle.cb_rule.specs.declared.view.Held.{Held}
+use Rattle.cb_rule.specs.declared.view.Look.{Look}
 use Rattle.cb_rule.specs.declared.view.Peeked.{Peeked}
 use Rattle.cb_rule.specs.declared.view.Seen.{Seen}
 use Rattle.cb_rule.specs.declared.view.View.{View}
@@ -31,6 +35,14 @@ Read views s = (u : View) × Is views u × Has s u.seen
 -- the word stands as peeked in a view
 abbrev pub Peeks : List View → Peeked → Type 0
 Peeks views p = (u : View) × Is views u × Has p u.peeked
+
+-- the word was found by a look of the view, or by a look or a claim of one of its turns
+abbrev pub FoundBy : Look → View → Type 0
+FoundBy l u = Has l u.looks
+    ⊎ ((t : Turn) × Has t u.turns × (e : Event) × Has e t.acts × IsLook l.handle l.word e)
+
+abbrev pub Looked : List View → Look → Type 0
+Looked views l = (u : View) × Is views u × FoundBy l u
 
 -- the entry of its object's greatest version that was written
 abbrev pub IsLast : List View → Entry → Type 0
@@ -71,11 +83,12 @@ pub record HeldStands (views : List View) (x : Held) : Type 0 where
   pub len : last.len ≡ x.len
   pub words : last.after ≡ x.old
 
--- An entry that was written goes on from the one before it, and a make from none.
+-- An entry that was written goes on from the one before it, whose length it has unless it is the
+-- freed one, and a make from none.
 abbrev pub GoesOn : ℕ → List View → Entry → Type 0
 GoesOn first views e = ((e.version ≡ first) × (e.before ≡ []))
     ⊎ ((x : Entry) × Wrote views x × (x.handle ≡ e.handle) × (x.version + 1 ≡ e.version)
-    × (x.after ≡ e.before) × (x.freed ≡ false))
+    × (x.after ≡ e.before) × (x.freed ≡ false) × (e.freed ≡ false → e.len ≡ x.len))
 
 -- The entries and the words that stand in the views: what was read was written, each version of an
 -- object stands as written in one view, once, and goes on from the one before it.
@@ -83,6 +96,9 @@ pub record EntriesStand (first : ℕ) (views : List View) : Type 0 where
   pub read : (s : Seen) → Read views s → (e : Entry) × Wrote views e × (s ≡ seen_of e)
   -- a word that was peeked is one of an entry's
   pub peeked : (p : Peeked) → Peeks views p → (e : Entry) × Wrote views e × IsWordOf e p
+  -- a word that was found not Empty tells the length of an entry of its object
+  pub looked : (l : Look) → Looked views l → state_of l.word ≢ word.Empty → (e : Entry)
+      × Wrote views e × (e.handle ≡ l.handle) × (e.freed ≡ false) × (e.len ≡ len_of l.word)
   pub born : (e : Entry) → Wrote views e → first ≤ e.version
   -- two entries of one version are the same
   pub same : (e x : Entry) → Wrote views e → Wrote views x → e.handle ≡ x.handle

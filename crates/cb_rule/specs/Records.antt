@@ -1,10 +1,11 @@
 -- What a view says is true: of its pins and claims now, of its entries and its turns for good.
-use Rattle.std.specs.Prelude.{◌≡◌, ℕ, ◌+◌, ◌≤◌, ◌<◌, true, List, length, slice_index}
+use Rattle.std.specs.Prelude.{◌≡◌, ◌≢◌, ℕ, ◌+◌, ◌≤◌, ◌<◌, true, false, List, length, slice_index}
 use Rattle.cb_types.specs.declared.config.Config.{Config}
-use Rattle.cb_ptr.specs.Word.{len_of}
+use Rattle.cb_ptr.specs.declared.word.State.TheVariants as word
+use Rattle.cb_ptr.specs.Word.{len_of, state_of}
 use Rattle.cb_world.specs.declared.entry.Entry.{Entry}
 use Rattle.cb_world.specs.declared.event.Event.{Event}
-use Rattle.cb_world.specs.declared.event.Event.TheVariants.{Claimed}
+use Rattle.cb_world.specs.declared.event.Event.TheVariants.{Claimed, Looked}
 use Rattle.cb_world.specs.declared.object.Object.{Object}
 use Rattle.cb_world.specs.declared.object.Object.TheVariants as is
 use Rattle.cb_world.specs.declared.shown.Shown.{Shown}
@@ -12,6 +13,7 @@ use Rattle.cb_world.specs.Memory.{words_for}
 use Rattle.cb_world.specs.Shown.{object_at}
 use Rattle.cb_rule.specs.declared.turn.Turn.{Turn}
 use Rattle.cb_rule.specs.declared.view.Held.{Held}
+use Rattle.cb_rule.specs.declared.view.Look.{Look}
 use Rattle.cb_rule.specs.declared.view.Peeked.{Peeked}
 use Rattle.cb_rule.specs.declared.view.Seen.{Seen}
 use Rattle.cb_rule.specs.declared.view.Stand.{Stand}
@@ -63,10 +65,17 @@ pub record IsWordOf (e : Entry) (p : Peeked) : Type 0 where
 abbrev pub PeekedOk : List Entry → Peeked → Type 0
 PeekedOk es p = (e : Entry) × Has e es × IsWordOf e p
 
--- what a claim told was the object's newest entry at some time of the turn
+-- a word that is not Empty tells the length of an entry that is not the freed one
+abbrev pub LookOk : List Entry → Look → Type 0
+LookOk es l = state_of l.word ≢ word.Empty → (e : Entry) × Has e es × (e.handle ≡ l.handle)
+    × (e.freed ≡ false) × (e.len ≡ len_of l.word)
+
+-- what a claim told was the object's newest entry at some time of the turn, and what a look found
+-- tells the length of an entry
 abbrev pub TellsOk : ℕ → List Entry → ℕ → ℕ → Event → Type 0
 TellsOk first es since until (Claimed h w v words) =
     (first ≤ v) × WasNow es since until h v (holding_words (len_of w) words)
+TellsOk first es since until (Looked h w) = LookOk es (record { handle = h; word = w })
 TellsOk first es since until _ = Unit {0}
 
 -- so was, when the turn began, what was known of an object
@@ -89,6 +98,7 @@ pub record RecordOk (c : Config) (first : ℕ) (es : List Entry) (u : View) : Ty
   pub fresh : Each (λ e. Has e es) u.fresh
   pub seen : Each (SeenOk es) u.seen
   pub peeked : Each (PeekedOk es) u.peeked
+  pub looks : Each (LookOk es) u.looks
   pub reached : u.since ≤ length es
   pub told : Each (TellsOk first es u.since (length es)) u.acts
   pub began : (h : ℕ) → h < c.handles → OldOk first es u.since h (object_at u.start h)

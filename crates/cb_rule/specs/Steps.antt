@@ -66,8 +66,18 @@ stored st m n m' = (p : ℕ) → st.word ≡ 1 + handles_of m + handles_of m + p
 abbrev pub stamped : Step Slot → Sat → ℕ → Sat → Type 0
 stamped st m n m' = (h : ℕ) → st.word ≡ 1 + handles_of m + h → Does m (Stamped h n) m'
 
+-- this version of the object is above all that the record has of it
+pub record IsNew (h version : ℕ) (u : View) : Type 0 where
+  pub written : Each (λ (e : Entry). e.handle ≡ h → e.version < version) (u.fresh ++ u.written)
+  pub seen : Each (λ (s : Seen). s.handle ≡ h → s.version < version) u.seen
+
+abbrev pub AreNew : List Entry → View → Type 0
+AreNew es u = Each (λ (e : Entry). IsNew e.handle e.version u) es
+
+-- what it writes is new to the record
 abbrev pub settled : Step Slot → Sat → ℕ → Sat → Type 0
-settled st m n m' = (h : ℕ) → st.word ≡ 1 + h → Does m (Settled h n) m'
+settled st m n m' = (h : ℕ) → st.word ≡ 1 + h
+    → Does m (Settled h n) m' × AreNew (adds (Settled h n) m.0.known) m.0
 
 -- Any seat, also while another holds the lock.
 
@@ -173,7 +183,8 @@ peeked st m n m' = (p : Stand) (j : ℕ) → Has p m.0.pins → j < words_for p.
     → st.word ≡ base m.0.config + p.place + j
     → (n ≡ slice_index p.words j) × (m' ≡ (with_peek p.handle p.version j n m.0, m.1))
 
--- a load of the version word of an object that the seat pins or claims
+-- A load of the version word of an object that the seat pins or claims. No one writes an object that
+-- is pinned, so all that the record has of it is at most the pin's version.
 abbrev pub TellsPin : Config → ℕ → ℕ → Stand → Type 0
 TellsPin c i n p = i ≡ stamps c + p.handle → n ≡ p.version
 
@@ -183,6 +194,7 @@ TellsHeld c i n x = i ≡ stamps c + x.handle → n ≡ x.stamp
 abbrev pub dated : Step Slot → Sat → ℕ → Sat → Type 0
 dated st m n m' = (m' ≡ m) × Each (TellsPin m.0.config st.word n) m.0.pins
     × Each (TellsHeld m.0.config st.word n) m.0.claims
+    × Each (λ (p : Stand). IsNewest p.handle p.version m.0) m.0.pins
 
 -- a load of a memory word of an object that the seat claims
 abbrev pub LoadsHeld : Config → ℕ → ℕ → Held → Type 0

@@ -21,7 +21,7 @@ use Rattle.cb_rule.specs.LockSteps.{AddsTurn, gave_lock, took_lock, turn_of}
 use Rattle.cb_rule.specs.Own.{Make}
 use Rattle.cb_rule.specs.Rule.{AreSized}
 use Rattle.cb_rule.specs.Slot.{Sat, Slot}
-use Rattle.cb_rule.specs.Steps.{Knows, act, acted}
+use Rattle.cb_rule.specs.Steps.{AreNew, Knows, act, acted}
 use Rattle.cb_shared.specs.declared.setup.Setup.{Setup}
 use Rattle.cb_record.specs.Parts.{Part, grown, nothing_more}
 use Rattle.cb_shared.specs.Passes.{IsAtRest}
@@ -196,6 +196,7 @@ turn_with c job r took gave p m q w g =
       next = w.next;
       wrote = w.wrote;
       fresh = w.fresh;
+      new = w.new;
     }
 
 -- the turn as it stands then
@@ -211,6 +212,15 @@ turn_told job r known since until es took gave = record {
   took = took;
   gave = gave;
 }
+
+-- what is new to the seat that took the lock was so before
+new_taken : (known : Shown) (far : FarState) (n : ℕ) (v : View) (more : List Entry)
+    → AreNew more (took_lock known far n v) → AreNew more v
+new_taken known far n v [] new = tt
+new_taken known far n v (e ∷ more) new = (
+  record { written = new.0.written; seen = new.0.seen },
+  new_taken known far n v more new.1,
+)
 
 -- the record of a pass at rest, from taking the lock to giving it back
 pub turned_by : (c : Config) (job : Job) (r : Result Reply NoMemory) (far : FarState) (p m q : Place)
@@ -239,6 +249,12 @@ turned_by c job r far p m q rest t w tells =
       did = subst (λ (s : Shown). DidAs c job reply s es far w.gave) known w.did;
       next = w.next;
       wrote = w.wrote;
+      new = new_taken t.known far t.entries v w.more
+          (subst (λ (x : View). AreNew w.more x) at w.new);
+      made = λ h knows.
+          let known = t.stood.sound.here.known in
+          let low = known.versioned h (t.made h knows) in
+          let least = known.least in omega (arith, low, least);
       below = subst (λ (l : List Entry). Each (λ (e : Entry). e.handle < c.handles) (w.more ++ l))
           written w.below;
       range = w.range;

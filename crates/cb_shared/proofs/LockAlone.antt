@@ -15,6 +15,7 @@ use Rattle.cb_rule.specs.LockSteps.{HasGiven, MayGive, gave, gave_lock, took, to
 use Rattle.cb_rule.specs.Rule.{AreSized}
 use Rattle.cb_rule.specs.Ruled.{Ruled}
 use Rattle.cb_rule.specs.Slot.{Sat, Slot}
+use Rattle.cb_rule.specs.Steps.{Knows}
 use Rattle.cb_rule.proofs.Laws.{gives_lock, takes_lock}
 use Rattle.cb_shared.specs.Places.{Moves, Place}
 use Rattle.cb_shared.specs.Turning.{Did, made_by}
@@ -105,6 +106,7 @@ takes_far c word far p m q key (table, id, t) out slot =
       sized = subst (λ (x : Config). AreSized x t.known) key t.sized;
       stood = subst (λ (f : FarState). Stood c t.known f) same
           (subst (λ (x : Config). Stood x t.known t.far) key t.stood);
+      made = λ h knows. subst (λ (f : FarState). h < f.made) same (t.made h knows);
     }
 
 -- so where it was not moved before
@@ -122,6 +124,7 @@ takes_from c far p m q same t = record {
   );
   sized = t.sized;
   stood = t.stood;
+  made = λ h knows. t.made h (subst (λ (x : Sat). Knows h x.0) (sym same.2) knows);
 }
 
 -- so where the far state was put into the slot before

@@ -1,5 +1,5 @@
--- What a turn makes has the first version, so it is its pass's own.
-use Rattle.std.proofs.Common.{◌≡◌, ℕ, ◌&&◌, Bool, List, Ok, Err, Result, refl, sym, ap, ◌∙◌, subst, eqb, eq-eqb, arith}
+-- What a turn makes is one of the handles, at the first version, so it is its pass's own.
+use Rattle.std.proofs.Common.{◌≡◌, ℕ, ◌<◌, ◌&&◌, Bool, List, [], ◌∷◌, Ok, Err, Result, Option, Some, refl, sym, ap, ◌∙◌, subst, eqb, eq-eqb, arith}
 use Rattle.cb_member.specs.declared.no_memory.NoMemory.{NoMemory}
 use Rattle.cb_types.specs.declared.config.Config.{Config}
 use Rattle.cb_types.specs.declared.handle.Handle.{Handle}
@@ -7,42 +7,89 @@ use Rattle.cb_types.specs.declared.job.Job.{Job}
 use Rattle.cb_types.specs.declared.job.Job.TheVariants.{Make}
 use Rattle.cb_types.specs.declared.reply.Reply.{Reply}
 use Rattle.cb_types.specs.declared.reply.Reply.TheVariants as answer
+use Rattle.cb_types.specs.declared.request.Request.TheVariants as request
 use Rattle.cb_world.specs.declared.entry.Entry.{Entry}
 use Rattle.cb_world.specs.declared.event.Event.{Event}
 use Rattle.cb_world.specs.declared.shown.Shown.{Shown}
 use Rattle.cb_world.specs.FarState.{FarState}
+use Rattle.cb_world.specs.Played.{played}
+use Rattle.cb_world.specs.World.{WorldState}
+use Rattle.cb_mutate.specs.MakeRule.{MakeRule}
 use Rattle.cb_core.specs.Parts.{Holding, WithRoom, at_once, no_room, won}
 use Rattle.cb_core.specs.Turned.{Makes, Turned, WinsRoom, done, worn}
 use Rattle.cb_core.specs.TurnLeaves.{OutcomeWrites}
-use Rattle.cb_rule.specs.Lists.{Each}
+use Rattle.cb_rule.specs.declared.turn.Turn.{Turn}
+use Rattle.cb_rule.specs.declared.view.View.{View}
+use Rattle.cb_rule.specs.Closing.{IsClosed}
+use Rattle.cb_rule.specs.Lists.{Each, Has}
 use Rattle.cb_rule.specs.Own.{Make as IsMadeIn}
 use Rattle.cb_rule.proofs.Laws.{hit}
-use Rattle.cb_shared.specs.Turning.{DidAs, ReadsByPin, Slate, answer_of, made_by, slate_run, slate_shows}
+use Rattle.cb_record.specs.Backs.{Backs}
+use Rattle.cb_record.specs.Told.{Told}
+use Rattle.cb_record.specs.Upheld.{as_part}
+use Rattle.cb_record.proofs.Laws.{turn_of_make}
+use Rattle.cb_shared.specs.Turning.{Did, DidAs, ReadsByPin, Slate, answer_of, held_by, made_by, slate_run, slate_shows}
 
 -- whether a reply is Made
 abbrev is_made : Reply → ℕ
 is_made (answer.Made h n) = 1
 is_made r = 0
 
--- a make that was answered Made gave the first version of the far state that it left
+-- one of so many handles, at the first version of the far state
+abbrev IsFirst : Config → Handle → ℕ → FarState → Type 0
+IsFirst c h n far = (h.n < c.handles) × (n ≡ far.first)
+
+-- a make that was answered Made gave one, by the far state that it left
 make_is_first : (c : Config) (bytes : List ℕ) (h : Handle) (n : ℕ) (a b : Holding Slate)
-    → Makes slate_run slate_shows c bytes a (answer.Made h n) b → n ≡ b.far.first
-make_is_first c bytes h n a b p = let m = p.rule.1 in
-    m.first ∙ sym (ap (λ (f : FarState). f.first) m.state)
+    → Makes slate_run slate_shows c bytes a (answer.Made h n) b → IsFirst c h n b.far
+make_is_first c bytes h n a b p = let low = p.rule.0 in let m = p.rule.1 in let next = m.next in
+    (omega (arith, low, next), m.first ∙ sym (ap (λ (f : FarState). f.first) m.state))
 
 roomed : (c : Config) (bytes : List ℕ) (h : Handle) (n : ℕ) (a b : Holding Slate)
     → WithRoom c.frames (Makes slate_run slate_shows c bytes) (WinsRoom slate_run slate_shows c) a
-    (answer.Made h n) b → n ≡ b.far.first
+    (answer.Made h n) b → IsFirst c h n b.far
 roomed c bytes h n a b (at_once op ne) = make_is_first c bytes h n a b op
 roomed c bytes h n a b (no_room m why loose nodes op ev is) =
     absurd (let e : 1 ≡ 0 = ap is_made is in omega (arith, e))
 roomed c bytes h n a b (won m q id op ev last ne) = make_is_first c bytes h n q b last
 
 made_is_first : (c : Config) (bytes : List ℕ) (h : Handle) (n : ℕ) (a b : Holding Slate)
-    → Turned slate_run slate_shows ReadsByPin c (Make bytes) a (answer.Made h n) b → n ≡ b.far.first
+    → Turned slate_run slate_shows ReadsByPin c (Make bytes) a (answer.Made h n) b
+    → IsFirst c h n b.far
 made_is_first c bytes h n a b (worn last is same ran) =
     absurd (let e : 1 ≡ 0 = ap is_made is in omega (arith, e))
 made_is_first c bytes h n a b (done less does) = roomed c bytes h n _ b does
+
+-- whether a reply is Full
+abbrev is_full : Reply → ℕ
+is_full (answer.Full n) = 1
+is_full r = 0
+
+-- so many handles there are, and as many were made
+abbrev IsFull : Config → ℕ → FarState → Type 0
+IsFull c n far = (far.made ≡ c.handles) × (n ≡ c.handles)
+
+full_told : (c : Config) (bytes : List ℕ) (n : ℕ) (a b : Holding Slate)
+    → Makes slate_run slate_shows c bytes a (answer.Full n) b → IsFull c n b.far
+full_told c bytes n a b p = by p.rule
+  where
+    by : MakeRule c.handles bytes a.far b.far (answer.Full n) p.events → IsFull c n b.far
+    by (made, told, left) = (ap (λ (f : FarState). f.made) left.0 ∙ made, told)
+
+full_roomed : (c : Config) (bytes : List ℕ) (n : ℕ) (a b : Holding Slate)
+    → WithRoom c.frames (Makes slate_run slate_shows c bytes) (WinsRoom slate_run slate_shows c) a
+    (answer.Full n) b → IsFull c n b.far
+full_roomed c bytes n a b (at_once op ne) = full_told c bytes n a b op
+full_roomed c bytes n a b (no_room m why loose nodes op ev is) =
+    absurd (let e : 1 ≡ 0 = ap is_full is in omega (arith, e))
+full_roomed c bytes n a b (won m q id op ev last ne) = full_told c bytes n q b last
+
+full_turned : (c : Config) (bytes : List ℕ) (n : ℕ) (a b : Holding Slate)
+    → Turned slate_run slate_shows ReadsByPin c (Make bytes) a (answer.Full n) b
+    → IsFull c n b.far
+full_turned c bytes n a b (worn last is same ran) =
+    absurd (let e : 1 ≡ 0 = ap is_full is in omega (arith, e))
+full_turned c bytes n a b (done less does) = full_roomed c bytes n _ b does
 
 -- the first version of what it made is among what it wrote
 of_make : (c : Config) (bytes : List ℕ) (r : Result Reply NoMemory) (start known : Shown)
@@ -52,7 +99,7 @@ of_make : (c : Config) (bytes : List ℕ) (r : Result Reply NoMemory) (start kno
     → Each (λ h. IsMadeIn known.first h more) (made_by (Make bytes) (answer_of r))
 of_make c bytes (Ok (answer.Made h n)) start known es took gave more did wrote first = (
   subst (λ (l : List Entry). IsMadeIn known.first h.n l) (sym wrote.2)
-      (let e = made_is_first c bytes h n _ _ did in
+      (let e = (made_is_first c bytes h n _ _ did).1 in
       let one = hit (eqb h.n h.n && eqb n known.first)
       (ap (λ (b : Bool). b && eqb n known.first) (eq-eqb h.n h.n refl)
       ∙ eq-eqb n known.first (e ∙ sym first)) in omega (arith, one)),
@@ -69,3 +116,41 @@ pub makes_own : (c : Config) (job : Job) (r : Result Reply NoMemory) (start know
 makes_own c (Make bytes) r start known es took gave more did wrote first =
     of_make c bytes r start known es took gave more did wrote first
 makes_own c job r start known es took gave more did wrote first = tt
+
+-- what a make did that stands in a record that closed a runtime
+did_make : (first : ℕ) (c : Config) (v : View) (w : WorldState) → IsClosed Did first c v w
+    → (t : Turn) → Has t v.turns → (bytes : List ℕ) (r : Reply) → t.job ≡ Make bytes
+    → t.reply ≡ Some r → Turned slate_run slate_shows ReadsByPin c (Make bytes)
+    (held_by t.start [] t.took) r (held_by (played t.acts t.start) t.acts t.gave)
+did_make first c v w closed t there bytes r job reply =
+    subst (λ (j : Job). DidAs c j (Some r) t.start t.acts t.took t.gave) job
+    (subst (λ (o : Option Reply). DidAs c t.job o t.start t.acts t.took t.gave) reply
+    (closed.turns.did t (v, (0, refl), there)))
+
+-- its handle and its version
+pub makes_first : (first : ℕ) (c : Config) (v : View) (w : WorldState) → IsClosed Did first c v w
+    → (t : Turn) → Has t v.turns → (bytes : List ℕ) (h : Handle) (n : ℕ) → t.job ≡ Make bytes
+    → t.reply ≡ Some (answer.Made h n) → (h.n < c.handles) × (n ≡ first)
+makes_first first c v w closed t there bytes h n job reply =
+    let z = made_is_first c bytes h n (held_by t.start [] t.took)
+    (held_by (played t.acts t.start) t.acts t.gave)
+    (did_make first c v w closed t there bytes (answer.Made h n) job reply) in
+    (z.0, z.1 ∙ closed.turns.starts t (v, (0, refl), there))
+
+-- and how many it told that there are
+pub makes_full : (first : ℕ) (c : Config) (v : View) (w : WorldState) → IsClosed Did first c v w
+    → (t : Turn) → Has t v.turns → (bytes : List ℕ) (n : ℕ) → t.job ≡ Make bytes
+    → t.reply ≡ Some (answer.Full n) → (t.gave.made ≡ c.handles) × (n ≡ c.handles)
+makes_full first c v w closed t there bytes n job reply =
+    full_turned c bytes n (held_by t.start [] t.took)
+    (held_by (played t.acts t.start) t.acts t.gave)
+    (did_make first c v w closed t there bytes (answer.Full n) job reply)
+
+-- and with each make that such a record backs
+pub makes_backed : (first : ℕ) (c : Config) (v : View) (w : WorldState) → IsClosed Did first c v w
+    → (ts : List Told) → Backs (as_part v) ts → (a : Told) → Has a ts → (name bytes : List ℕ)
+    (h : Handle) (n : ℕ) → a.request ≡ request.Make name bytes → a.reply ≡ answer.Made h n
+    → (h.n < c.handles) × (n ≡ first)
+makes_backed first c v w closed ts backs a there name bytes h n asked told =
+    let t = turn_of_make v ts backs a there name bytes h n asked told in
+    makes_first first c v w closed t.0 t.1 bytes h n t.2 t.3

@@ -11,6 +11,7 @@ use Rattle.cb_types.specs.declared.job.Job.{Job}
 use Rattle.cb_types.specs.declared.job.Job.TheVariants.{Read}
 use Rattle.cb_types.specs.declared.reply.Reply.{Reply}
 use Rattle.cb_types.specs.declared.reply.Reply.TheVariants as answer
+use Rattle.cb_world.specs.declared.entry.Entry.{Entry}
 use Rattle.cb_world.specs.declared.event.Event.{Event}
 use Rattle.cb_world.specs.declared.shown.Shown.{Shown}
 use Rattle.cb_world.specs.FarState.{FarState}
@@ -32,10 +33,10 @@ use Rattle.cb_core.specs.TurnLeaves.{OutcomeWrites}
 use Rattle.cb_rule.specs.declared.view.View.{View}
 use Rattle.cb_rule.specs.Locking.{Stood}
 use Rattle.cb_rule.specs.Slot.{Sat}
-use Rattle.cb_rule.specs.Steps.{Knows, acted}
+use Rattle.cb_rule.specs.Steps.{AreNew, Knows, acted}
 use Rattle.cb_record.specs.Parts.{Part, grown, nothing_more}
 use Rattle.cb_shared.specs.Places.{Place}
-use Rattle.cb_shared.specs.SeatLaws.{Runs, acted_known}
+use Rattle.cb_shared.specs.SeatLaws.{Runs, acted_known, fresh_new}
 use Rattle.cb_shared.specs.Turning.{DidAs, IsReadReply, JobReads, Slate, TellsNoPin, Tries, answer_of, slate_run, slate_shows}
 use Rattle.cb_shared.specs.UnderLock.{BringAt, Brought, CameThere, HasSame, IsNoRead, TriesOn, TurnAtSeat, WorkBy}
 use Rattle.cb_shared.proofs.AfterTurn.{acted_is, after_runs}
@@ -150,6 +151,7 @@ module _ (c : Config) (handle : Handle) (took gave : FarState) (p m : Place) (pl
     next = b.next;
     wrote = refl;
     fresh = fresh_acted;
+    new = tt;
     stood = stood_acted;
   }
 
@@ -190,6 +192,7 @@ module _ (c : Config) (handle : Handle) (took gave : FarState) (p m : Place) (pl
         next = b.next;
         wrote = wrote_none r;
         fresh = fresh_acted;
+        new = tt;
         stood = stood_acted;
       }
     where
@@ -219,6 +222,7 @@ work_stopped c handle e took gave p m b =
       next = b.next;
       wrote = refl;
       fresh = ap (λ (x : View). x.fresh) (sym came) ∙ b.fresh;
+      new = tt;
       stood = subst (λ (s : Shown). Stood c s gave)
           (ap (λ (x : View). x.known) came ∙ acted_known b.events p.me.0) b.stood;
     }
@@ -286,9 +290,12 @@ few_come p m es runs few = subst (λ (v : View). length v.pins ≤ 16)
 
 -- ---- any other job
 pub work_done : (c : Config) (job : Job) (r : Result Reply NoMemory) (took gave : FarState)
-    (p q : Place) → IsNoRead job → TurnAtSeat c job r took gave p q → WorkBy c job r took gave p q
-work_done c job r took gave p q other t =
-    let came : q.me.0 ≡ acted t.events p.me.0 = ap (λ (s : Sat). s.0) t.runs.0.2 in record {
+    (p q : Place) → IsNoRead job → p.me.0.fresh ≡ [] → TurnAtSeat c job r took gave p q
+    → WorkBy c job r took gave p q
+work_done c job r took gave p q other none t =
+    let came : q.me.0 ≡ acted t.events p.me.0 = ap (λ (s : Sat). s.0) t.runs.0.2 in
+    let fresh : (acted t.events p.me.0).fresh ≡ t.more =
+    ap (λ (x : View). x.fresh) (sym came) ∙ t.fresh in record {
       events = t.events;
       more = t.more;
       within = nothing_more;
@@ -305,7 +312,9 @@ work_done c job r took gave p q other t =
       did = t.did;
       next = t.next;
       wrote = t.wrote;
-      fresh = ap (λ (x : View). x.fresh) (sym came) ∙ t.fresh;
+      fresh = fresh;
+      new = subst (λ (l : List Entry). AreNew l p.me.0) fresh
+          (fresh_new p q t.events none t.runs);
       stood = subst (λ (s : Shown). Stood c s gave)
           (ap (λ (x : View). x.known) came ∙ acted_known t.events p.me.0) t.stood;
     }

@@ -132,6 +132,8 @@ module _ (c : Config) (job : Job) (r : Result Reply NoMemory) (p m q : Place)
       did = t.did;
       next = t.next;
       wrote = t.wrote;
+      new = t.new;
+      made = t.made;
       tells = t.tells;
       reads = t.reads;
       finds = subst (λ (x : View). Rattle.cb_shared.specs.Turning.FindsFreed (freed_of job r) x f.0)

@@ -15,7 +15,7 @@ use Rattle.cb_shared.specs.Calls.{AsksFor, AtNone, AtThis, EndsAtLast, IsAnswer,
 use Rattle.cb_record.specs.Deeds.{Deed, deed, happened, happening}
 use Rattle.cb_record.specs.Parts.{Part, grown, nothing_more, sum}
 use Rattle.cb_shared.specs.Reading.{looked, looked_freed}
-use Rattle.cb_shared.proofs.WorkedGround.{away, calm, made, moving, newest_made, not_second, part, pinned, two, version_in}
+use Rattle.cb_shared.proofs.WorkedGround.{away, calm, knows_made, made, moving, newest_made, not_second, part, pinned, two, version_in}
 use Rattle.cb_shared.proofs.WorkedTurns.{adds_worn, worn_part}
 use Rattle.cb_shared.proofs.WorkedWrites.{write_it}
 
@@ -169,7 +169,7 @@ gives_worn = (
     before = nothing_more;
     last = worn_part (jobs.Make (10 ∷ []));
     in_vain = record { looks = []; turns = []; at = tt; of = tt; idle = tt; part = refl };
-    ends_so = (inr tt, adds_worn (jobs.Make (10 ∷ [])) part refl refl);
+    ends_so = (inr tt, adds_worn (jobs.Make (10 ∷ [])) part refl refl knows_made);
     part = refl;
   },
   refl,
@@ -196,7 +196,7 @@ asks_for = record {
   word = away;
   later = worn_part (jobs.Swap (the_handle 1));
   away = refl;
-  turned = (tt, adds_worn (jobs.Swap (the_handle 1)) (grown (looked 1 away) part) refl refl);
+  turned = (tt, adds_worn (jobs.Swap (the_handle 1)) (grown (looked 1 away) part) refl refl knows_made);
   part = refl;
 }
 

@@ -1,5 +1,5 @@
 -- What the worked examples are about: an object, the words that it may have, and two records.
-use Rattle.std.proofs.Common.{◌≡◌, ℕ, List, [], ◌∷◌, refl, inl, inr, ⊎_elim, arith}
+use Rattle.std.proofs.Common.{◌≡◌, ℕ, ◌<◌, List, [], ◌∷◌, ◌++◌, refl, subst, inl, inr, ⊎_elim, arith, ap, ◌∙◌}
 use Rattle.cb_types.specs.declared.config.Config.{Config}
 use Rattle.cb_ptr.specs.Word.{state_of, state_number}
 use Rattle.cb_world.specs.declared.entry.Entry.{Entry}
@@ -8,7 +8,8 @@ use Rattle.cb_rule.specs.declared.view.Look.{Look}
 use Rattle.cb_rule.specs.declared.view.Stand.{Stand}
 use Rattle.cb_rule.specs.declared.view.View.{View}
 use Rattle.cb_rule.specs.Own.{IsAlone}
-use Rattle.cb_rule.specs.Steps.{IsNewest, blank, opener, stand}
+use Rattle.cb_rule.specs.Lists.{Each}
+use Rattle.cb_rule.specs.Steps.{IsNew, IsNewest, Knows, blank, opener, stand}
 use Rattle.cb_shared.specs.declared.pass.Pin.{Pin}
 
 -- two objects at most
@@ -78,6 +79,12 @@ pub shared_part : (h : ℕ) → IsAlone h part → ⊥
 shared_part h l = ⊎_elim (λ (e : 40 ≡ 64). omega (arith, e)) (λ (n : ⊥). n) l
 
 -- ---- its newest version
+-- it is all that they know
+pub knows_made : (h : ℕ) → Knows h part → 1 ≡ h
+knows_made h (inl (e, inl is, at)) = ap (λ (x : Entry). x.handle) is ∙ at
+knows_made h (inl (e, inr none, at)) = absurd none
+knows_made h (inr (s, none, at)) = absurd none
+
 pub newest_made : IsNewest 1 3 part
 newest_made = record {
   written = ((λ _. omega arith), tt);
@@ -105,3 +112,14 @@ owner = record part { own = 1 ∷ [] }
 
 pub not_foreign_own : IsNewest 1 4 owner → ⊥
 not_foreign_own n = let e = n.lone (inr (inl refl)) in omega (arith, e)
+
+-- ---- a version that stands as written is not new
+pub not_new : (v : View) → v.written ≡ made ∷ [] → IsNew 1 3 v → ⊥
+not_new v is new = let few = behind v.fresh v.written new.written in
+    let e = (subst (Each (λ (x : Entry). x.handle ≡ 1 → x.version < 3)) is few).0 refl in
+    omega (arith, e)
+  where
+    behind : (xs ys : List Entry) → Each (λ (x : Entry). x.handle ≡ 1 → x.version < 3) (xs ++ ys)
+        → Each (λ (x : Entry). x.handle ≡ 1 → x.version < 3) ys
+    behind [] ys each = each
+    behind (x ∷ xs) ys each = behind xs ys each.1

@@ -1,27 +1,28 @@
 -- Worked seats that run events, and that take and give back the far lock: what meets each definition,
 -- and what breaks one of its parts alone.
-use Rattle.std.proofs.Common.{◌≡◌, ℕ, suc, ◌<◌, true, false, List, [], ◌∷◌, ◌++◌, length, None, Some, refl, sym, ap, ◌∙◌, subst, true≢false, lit<, lit≤, arith}
+use Rattle.std.proofs.Common.{◌≡◌, ℕ, suc, ◌<◌, true, false, List, [], ◌∷◌, ◌++◌, length, None, Some, inl, refl, sym, ap, ◌∙◌, subst, true≢false, lit<, lit≤, arith}
 use Rattle.std.proofs.lemmas.Bool.{eqb-false}
 use Rattle.cb_types.specs.declared.job.Job.TheVariants as job
 use Rattle.cb_types.specs.declared.reply.Reply.TheVariants as answer
 use Rattle.cb_world.specs.declared.entry.Entry.{Entry}
 use Rattle.cb_world.specs.declared.event.Event.{Event}
-use Rattle.cb_world.specs.declared.event.Event.TheVariants.{Told}
+use Rattle.cb_world.specs.declared.event.Event.TheVariants.{Settled, Told}
+use Rattle.cb_world.specs.declared.object.Object.TheVariants as is
 use Rattle.cb_world.specs.declared.shown.Shown.{Shown}
 use Rattle.cb_world.specs.Empty.{empty_shown}
 use Rattle.cb_world.specs.FarState.{FarState}
 use Rattle.cb_world.specs.Played.{Agree}
-use Rattle.cb_world.specs.Written.{entry}
+use Rattle.cb_world.specs.Written.{entry, written_by}
 use Rattle.cb_rule.specs.declared.view.View.{View}
 use Rattle.cb_rule.specs.Lists.{Each}
 use Rattle.cb_rule.specs.LockSteps.{gave_lock, took_lock}
 use Rattle.cb_rule.specs.Slot.{Slot, Sat}
-use Rattle.cb_rule.specs.Steps.{act}
+use Rattle.cb_rule.specs.Steps.{AreNew, Knows, act}
 use Rattle.cb_shared.specs.Places.{Moves, Place}
 use Rattle.cb_shared.specs.SeatLaws.{Runs}
 use Rattle.cb_shared.specs.UnderLock.{GivesFar, IsAt, TakesFar}
-use Rattle.cb_shared.proofs.WorkedGround.{part, two}
-use Rattle.cb_shared.proofs.WorkedUnder.{beginner, far, known, last, stood}
+use Rattle.cb_shared.proofs.WorkedGround.{made, part, two}
+use Rattle.cb_shared.proofs.WorkedUnder.{beginner, far, known, knows_nothing, last, newcomer, stood}
 
 -- the seat has this view and these slots
 abbrev pub Has : Place → View → List (ℕ × Slot) → Type 0
@@ -43,7 +44,7 @@ tells_nine a = eqb-false 9 0 refl (a.0 tt)
 
 module _ (p q : Place) where
   runs : p.me.0.known ≡ known → Moves p q (act (Told 1 0) p.me.0) → Runs p (tells 0) q
-  runs at moves = (moves, subst (λ (s : Shown). Agree s (tells 0)) (sym at) tells_none)
+  runs at moves = (moves, subst (λ (s : Shown). Agree s (tells 0)) (sym at) tells_none, tt)
 
   runs_untrue : p.me.0.known ≡ known → Runs p (tells 9) q → ⊥
   runs_untrue at r = tells_nine (subst (λ (s : Shown). Agree s (tells 9)) at r.1)
@@ -55,12 +56,37 @@ module _ (p q : Place) where
   runs_elsewhere : (q.table_id ≡ p.table_id → ⊥) → Runs p (tells 0) q → ⊥
   runs_elsewhere n r = n r.0.0
 
--- ---- the lock is taken, with the far state out of its slot
-abbrev beginning : View
-beginning = beginner (far 1) known
+-- an object that is far is freed at a version: the next one, or the one that the record has
+abbrev frees : List Event
+frees = Settled 1 0 ∷ []
+
+abbrev knowing : ℕ → View
+knowing version = record part {
+  known = record known {
+    objects = is.Far 8 3 (2826 ∷ []) ∷ is.Far 8 3 (2826 ∷ []) ∷ [];
+    versions = version ∷ version ∷ [];
+  };
+}
 
 module _ (p q : Place) where
-  takes : Has p part [] → q.table_id ≡ p.table_id → q.id ≡ p.id → Has q beginning ((0, None) ∷ [])
+  runs_free : p.me.0 ≡ knowing 4 → Moves p q (act (Settled 1 0) p.me.0) → Runs p frees q
+  runs_free at moves = (
+    moves,
+    (tt, tt),
+    subst (λ (v : View). AreNew (written_by frees v.known []) v) (sym at)
+        (record { written = ((λ _. omega arith), tt); seen = tt }, tt),
+  )
+
+  runs_old : p.me.0 ≡ knowing 3 → Runs p frees q → ⊥
+  runs_old at r = let z = (subst (λ (v : View). AreNew (written_by frees v.known []) v) at r.2).0 in
+      let low = z.written.0 refl in omega (arith, low)
+
+-- ---- the lock is taken, with the far state out of its slot
+abbrev beginning : View
+beginning = took_lock known (far 1) 0 newcomer
+
+module _ (p q : Place) where
+  takes : Has p newcomer [] → q.table_id ≡ p.table_id → q.id ≡ p.id → Has q beginning ((0, None) ∷ [])
       → TakesFar two (far 1) p q
   takes at table id me = record {
     known = known;
@@ -72,7 +98,13 @@ module _ (p q : Place) where
     );
     sized = record { objects = refl; hots = refl; versions = refl; memory = refl };
     stood = stood 1 (lit≤ tt);
+    made = λ h knows. absurd (knows_nothing h (subst (λ (m : Sat). Knows h m.0) at knows));
   }
+
+  -- an object that the record has was not made
+  takes_unmade : Has p part [] → TakesFar two (far 1) p q → ⊥
+  takes_unmade at t = let less : 1 < 0 = t.made 1 (subst (λ (m : Sat). Knows 1 m.0) (sym at)
+      (inl (made, inl refl, refl))) in omega (arith, less)
 
   takes_another : q.me.0.took ≡ far 0 → TakesFar two (far 1) p q → ⊥
   takes_another is t = eqb-false 0 1 refl (ap (λ (f : FarState). f.counts.turns)

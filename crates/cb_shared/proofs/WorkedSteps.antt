@@ -16,7 +16,7 @@ use Rattle.cb_rule.specs.Own.{IsAlone}
 use Rattle.cb_rule.specs.Rule.{AreSized}
 use Rattle.cb_rule.specs.Seats.{pins_on}
 use Rattle.cb_rule.specs.Slot.{Sat}
-use Rattle.cb_rule.specs.Steps.{IsNewest, held_at, with_freed, with_look, with_pin}
+use Rattle.cb_rule.specs.Steps.{IsNewest, held_at, version_seen, with_freed, with_look, with_pin}
 use Rattle.cb_rule.specs.Words.{base}
 use Rattle.cb_shared.specs.declared.answers.PinAnswer.TheVariants as pins
 use Rattle.cb_shared.specs.declared.answers.WriteAnswer.TheVariants as writes
@@ -358,12 +358,31 @@ loses_unlooked p q e f t = eqb-false 0 1 refl
     ∙ ap (with_look 1 moving) e))
 
 -- ---- the version word of a pinned object
-tells : (p q : Place) → p.me.0.pins ≡ a_stand ∷ [] → Moves p q p.me.0 → TellsVersion two 1 3 p q
+abbrev pinning : View
+pinning = record part { pins = a_stand ∷ [] }
+
+tells : (p q : Place) → p.me.0 ≡ pinning → Moves p q p.me.0 → TellsVersion two 1 3 p q
 tells p q e m = record {
   moves = m;
-  tells = subst (λ xs. Each (λ (s : Stand). s.handle ≡ 1 → 3 ≡ s.version) xs) (sym e)
+  tells = subst (λ (v : View). Each (λ (s : Stand). s.handle ≡ 1 → 3 ≡ s.version) v.pins) (sym e)
       ((λ _. refl), tt);
+  newest = subst (λ (v : View). Each (λ (s : Stand). s.handle ≡ 1 → IsNewest 1 s.version v) v.pins)
+      (sym e) (
+        (λ _. record {
+          written = newest_made.written;
+          seen = tt;
+          lone = λ l. absurd (shared_part 1 l);
+        }),
+        tt,
+      );
 }
+
+-- a version that is older than one that the record has
+tells_an_older : (p q : Place) → p.me.0 ≡ record pinning { seen = version_seen 1 4 8 [] ∷ [] }
+    → TellsVersion two 1 3 p q → ⊥
+tells_an_older p q e t = let z = (subst (λ (v : View).
+    Each (λ (s : Stand). s.handle ≡ 1 → IsNewest 1 s.version v) v.pins) e t.newest).0 refl in
+    let low = z.seen.0 refl in omega (arith, low)
 
 tells_another : (p q : Place) → p.me.0.pins ≡ a_stand ∷ [] → TellsVersion two 1 4 p q → ⊥
 tells_another p q e t = eqb-false 4 3 refl

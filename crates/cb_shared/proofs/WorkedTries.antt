@@ -12,7 +12,7 @@ use Rattle.cb_record.specs.Parts.{Part, grown, nothing_more, sum}
 use Rattle.cb_shared.specs.declared.answers.WriteAnswer.TheVariants as place
 use Rattle.cb_shared.specs.Calls.{AtNone, AtThis, IsCalled, IsNoReply, IsWornOut, ReadGives, ReadTries, Stops, TurnEnds, TurnTries, WriteEnds, WriteFinds, WriteTries, the_handle}
 use Rattle.cb_shared.specs.Reading.{looked, looked_freed, looked_twice}
-use Rattle.cb_shared.proofs.WorkedGround.{a_stand, away, calm, moving, newest_made, part, pinned, shared_part, two, whole, word_in}
+use Rattle.cb_shared.proofs.WorkedGround.{a_stand, away, calm, knows_made, moving, newest_made, part, pinned, shared_part, two, whole, word_in}
 use Rattle.cb_shared.proofs.WorkedTurns.{adds_worn, worn_part}
 
 abbrev state_found : Part → ℕ
@@ -183,7 +183,7 @@ tries_a_make : TurnTries two (jobs.Make (10 ∷ [])) (Some answer.Worn) part
     (grown (worn_part (jobs.Make (10 ∷ []))) part)
 tries_a_make = (
   worn_part (jobs.Make (10 ∷ [])),
-  (inr tt, adds_worn (jobs.Make (10 ∷ [])) part refl refl),
+  (inr tt, adds_worn (jobs.Make (10 ∷ [])) part refl refl knows_made),
   refl,
 )
 

@@ -1,6 +1,6 @@
 -- Worked turns as they stand in a record before a freed entry is looked for: what meets the definition,
 -- and what breaks one of its parts alone.
-use Rattle.std.proofs.Common.{◌≡◌, ℕ, ◌+◌, ◌<◌, List, [], ◌∷◌, ◌++◌, length, Option, None, Some, Ok, refl, sym, ap, ◌∙◌, subst, inl, inr, lit<, arith}
+use Rattle.std.proofs.Common.{◌≡◌, ℕ, ◌+◌, ◌<◌, ◌≤◌, List, [], ◌∷◌, ◌++◌, length, Option, None, Some, Ok, refl, sym, ap, ◌∙◌, subst, inl, inr, lit<, lit≤, arith}
 use Rattle.std.proofs.lemmas.Bool.{eqb-false}
 use Rattle.cb_member.specs.declared.names.Loss.{Loss}
 use Rattle.cb_types.specs.declared.handle.SetId.{SetId}
@@ -9,7 +9,9 @@ use Rattle.cb_types.specs.declared.reply.Reply.{Reply}
 use Rattle.cb_types.specs.declared.reply.Reply.TheVariants as answer
 use Rattle.cb_types.specs.Jobs.{job_index}
 use Rattle.cb_world.specs.declared.entry.Entry.{Entry}
+use Rattle.cb_world.specs.Empty.{empty_shown}
 use Rattle.cb_world.specs.Played.{Agree}
+use Rattle.cb_world.specs.Shown.{version_at}
 use Rattle.cb_world.specs.Written.{entry}
 use Rattle.cb_world.specs.FarState.{FarState}
 use Rattle.cb_core.specs.Turned.{done, worn}
@@ -18,14 +20,14 @@ use Rattle.cb_rule.specs.declared.turn.Turn.{Turn}
 use Rattle.cb_rule.specs.declared.view.Seen.{Seen}
 use Rattle.cb_rule.specs.declared.view.View.{View}
 use Rattle.cb_rule.specs.Lists.{Each}
-use Rattle.cb_rule.specs.Steps.{freed_seen}
+use Rattle.cb_rule.specs.Steps.{AreNew, freed_seen}
 use Rattle.cb_record.specs.Parts.{grown, nothing_more}
 use Rattle.cb_shared.specs.Turning.{Did, turn_part}
 use Rattle.cb_shared.specs.UnderLock.{TurnedBy}
-use Rattle.cb_shared.proofs.WorkedGround.{made, part}
+use Rattle.cb_shared.proofs.WorkedGround.{knows_made, made, not_new, part}
 use Rattle.cb_shared.proofs.WorkedGround as ground
-use Rattle.cb_shared.proofs.WorkedSeat.{tells, tells_nine}
-use Rattle.cb_shared.proofs.WorkedTurns.{worn_turn}
+use Rattle.cb_shared.proofs.WorkedSeat.{tells}
+use Rattle.cb_shared.proofs.WorkedTurns.{aged, worn_turn}
 
 -- a turn that was refused for its number, behind what a record has
 abbrev refused : Turn
@@ -51,6 +53,8 @@ turned = record {
   did = worn refl refl refl (refl, tt);
   next = inr (refl, refl);
   wrote = refl;
+  new = tt;
+  made = λ h known. subst (λ (n : ℕ). 1 ≤ version_at aged n) (knows_made h known) (lit≤ tt);
   below = (lit< tt, tt);
   range = tt;
   reads = refl;
@@ -88,8 +92,17 @@ abbrev untrue : Turn
 untrue = record refused { acts = tells 9 }
 
 of_untrue_events : Turned answer.Worn part (with_turn untrue part) → ⊥
-of_untrue_events x = tells_nine
-    (subst (λ (t : Turn). Agree t.start t.acts) (sym (is_first _ _ x)) x.agree)
+of_untrue_events x =
+    let a = subst (λ (t : Turn). Agree t.start t.acts) (sym (is_first _ _ x)) x.agree in
+    eqb-false 9 8 refl (a.0 tt)
+
+-- an object that the record has was not made when the turn began
+abbrev too_early : Turn
+too_early = record refused { start = empty_shown 3 ground.two }
+
+to_nothing : Turned answer.Worn part (with_turn too_early part) → ⊥
+to_nothing x = let low : 1 ≤ 0 = subst (λ (t : Turn). 1 ≤ version_at t.start 1)
+    (sym (is_first _ _ x)) (x.made 1 (inl (made, inl refl, refl))) in omega (arith, low)
 
 abbrev ended : Turn
 ended = record refused { reply = Some answer.Done }
@@ -116,6 +129,11 @@ to_another_state x =
 with_an_entry : Turned answer.Worn part (record (with_turn refused part) { written = made ∷ made ∷ [] }) → ⊥
 with_an_entry x = eqb-false 2 1 refl (ap (λ (v : View). length v.written) x.left
     ∙ ap (λ (es : List Entry). length (es ++ made ∷ [])) x.wrote)
+
+-- a free at a version that the record has
+of_an_old_version : (w : View)
+    → TurnedBy ground.two (job.Free record { n = 1 }) (Ok (answer.Version 3)) part w → ⊥
+of_an_old_version w x = not_new part refl (subst (λ (l : List Entry). AreNew l part) x.wrote.1 x.new).0
 
 -- the record has an entry of an object out of range
 abbrev beyond : View

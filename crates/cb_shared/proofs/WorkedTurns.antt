@@ -1,5 +1,5 @@
 -- Worked turns: what meets each definition, and what breaks one of its parts alone.
-use Rattle.std.proofs.Common.{◌≡◌, ℕ, ◌+◌, ◌^◌, true, false, List, [], ◌∷◌, ◌++◌, length, replicate, Option, None, Some, Ok, refl, ap, ◌∙◌, inl, inr, arith}
+use Rattle.std.proofs.Common.{◌≡◌, ℕ, ◌+◌, ◌^◌, ◌≤◌, true, false, List, [], ◌∷◌, ◌++◌, length, replicate, Option, None, Some, Ok, refl, sym, ap, ◌∙◌, subst, inl, inr, lit≤, arith}
 use Rattle.std.proofs.lemmas.Bool.{eqb-false}
 use Rattle.cb_types.specs.declared.config.Config.{Config}
 use Rattle.cb_types.specs.declared.handle.Handle.{Handle}
@@ -8,19 +8,22 @@ use Rattle.cb_types.specs.declared.job.Job.TheVariants as job
 use Rattle.cb_types.specs.declared.reply.Reply.{Reply}
 use Rattle.cb_types.specs.declared.reply.Reply.TheVariants as answer
 use Rattle.cb_types.specs.Jobs.{job_index}
+use Rattle.cb_world.specs.declared.entry.Entry.{Entry}
 use Rattle.cb_world.specs.declared.event.Event.TheVariants.{Looked}
+use Rattle.cb_world.specs.declared.shown.Shown.{Shown}
 use Rattle.cb_world.specs.Empty.{empty_far, empty_shown}
 use Rattle.cb_world.specs.FarState.{FarState}
+use Rattle.cb_world.specs.Shown.{version_at}
 use Rattle.cb_core.specs.Turned.{done, worn}
 use Rattle.cb_core.specs.TurnLeaves.{OutcomeWrites}
 use Rattle.cb_rule.specs.declared.turn.Turn.{Turn}
 use Rattle.cb_rule.specs.declared.view.Look.{Look}
 use Rattle.cb_rule.specs.declared.view.View.{View}
-use Rattle.cb_rule.specs.Steps.{look_at, opener}
+use Rattle.cb_rule.specs.Steps.{AreNew, Knows, look_at, opener}
 use Rattle.cb_record.specs.Parts.{Part, grown, nothing_more}
 use Rattle.cb_shared.specs.Trying.{newest_tries, tries_of}
 use Rattle.cb_shared.specs.Turning.{AreLooksAt, Did, JobReads, KnowsOf, ReadsByPin, Slate, TellsNoPin, TurnAdds, TurnBy, freed_of, held_by, made_by, object_of, slate_run, turn_part}
-use Rattle.cb_shared.proofs.WorkedGround.{made, part, two}
+use Rattle.cb_shared.proofs.WorkedGround.{knows_made, made, not_new, part, two}
 
 abbrev one : Handle
 one = record { n = 1 }
@@ -58,11 +61,15 @@ full = record (empty_far 3 two) {
   counts = record { turns = 2 ^ 40; by_job = replicate 19 0; sets = 0; keys = 0 };
 }
 
+-- both objects were made when the turn began
+abbrev pub aged : Shown
+aged = record (empty_shown 3 two) { versions = 8 ∷ 8 ∷ [] }
+
 abbrev refused : Turn
 refused = record {
   job = job.Evict;
   reply = Some answer.Worn;
-  start = empty_shown 3 two;
+  start = aged;
   since = 4;
   until = 4;
   acts = [];
@@ -157,6 +164,9 @@ moving_tells_none = tt
 abbrev added : Part
 added = turn_part refused [] nothing_more nothing_more
 
+was_made : (h : ℕ) → 1 ≡ h → 1 ≤ version_at aged h
+was_made h is = subst (λ (n : ℕ). 1 ≤ version_at aged n) is (lit≤ tt)
+
 adds_refused : TurnAdds two job.Evict (Ok answer.Worn) part added
 adds_refused = record {
   turn = refused;
@@ -169,6 +179,8 @@ adds_refused = record {
   did = refused_did;
   next = inr (refl, refl);
   wrote = refl;
+  new = tt;
+  made = λ h known. was_made h (knows_made h known);
   tells = record {
     only = λ id losses is. absurd (worn_lost is);
     each = λ h id losses asks few lost.
@@ -219,6 +231,25 @@ adds_another_reply a =
 adds_an_entry : TurnAdds two job.Evict (Ok answer.Worn) part (record added { written = made ∷ [] }) → ⊥
 adds_an_entry a = eqb-false 1 0 refl (ap (λ (d : Part). length d.written) a.part ∙ ap length a.wrote)
 
+-- a free at a version that the record has
+adds_an_old_version : (d : Part) → TurnAdds two (job.Free one) (Ok (answer.Version 3)) part d → ⊥
+adds_an_old_version d a =
+    not_new part refl (subst (λ (l : List Entry). AreNew l part) a.wrote.1 a.new).0
+
+-- an object that the record has was not made when the turn began
+abbrev too_early : Turn
+too_early = record refused { start = empty_shown 3 two }
+
+adds_to_nothing : TurnAdds two job.Evict (Ok answer.Worn) part (record added { turns = too_early ∷ [] })
+    → ⊥
+adds_to_nothing a = let low : 1 ≤ 0 = subst (λ (t : Turn). 1 ≤ version_at t.start 1)
+    (sym (ap first (ap (λ (d : Part). d.turns) a.part))) (a.made 1 (inl (made, inl refl, refl))) in
+    omega (arith, low)
+  where
+    first : List Turn → Turn
+    first [] = refused
+    first (t ∷ ts) = t
+
 -- two turns
 adds_two : TurnAdds two job.Evict (Ok answer.Worn) part (record added { turns = refused ∷ refused ∷ [] })
     → ⊥
@@ -243,8 +274,9 @@ abbrev pub worn_part : Job → Part
 worn_part j = turn_part (worn_turn j) [] nothing_more nothing_more
 
 pub adds_worn : (j : Job) (v : View) → OutcomeWrites j (Ok answer.Worn) []
-    → JobReads j (Ok answer.Worn) v nothing_more → TurnAdds two j (Ok answer.Worn) v (worn_part j)
-adds_worn j v wrote reads = record {
+    → JobReads j (Ok answer.Worn) v nothing_more → ((h : ℕ) → Knows h v → 1 ≡ h)
+    → TurnAdds two j (Ok answer.Worn) v (worn_part j)
+adds_worn j v wrote reads knows = record {
   turn = worn_turn j;
   more = [];
   within = nothing_more;
@@ -255,6 +287,8 @@ adds_worn j v wrote reads = record {
   did = worn refl refl refl (refl, tt);
   next = inr (refl, refl);
   wrote = wrote;
+  new = tt;
+  made = λ h known. was_made h (knows h known);
   tells = record {
     only = λ id losses is. absurd (worn_lost is);
     each = λ h id losses asks few lost. absurd (omega (arith, few));

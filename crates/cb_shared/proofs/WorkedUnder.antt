@@ -16,6 +16,7 @@ use Rattle.cb_rule.specs.declared.view.View.{View}
 use Rattle.cb_rule.specs.Locking.{Stood}
 use Rattle.cb_rule.specs.LockSteps.{HasTaken, took_lock}
 use Rattle.cb_rule.specs.Slot.{Sat}
+use Rattle.cb_rule.specs.Steps.{Knows}
 use Rattle.cb_rule.proofs.Laws.{stood_empty}
 use Rattle.cb_shared.specs.declared.reading.ReadAnswer.TheVariants as found
 use Rattle.cb_shared.specs.Calls.{the_handle}
@@ -125,12 +126,19 @@ ends_without_the_lock e = true≢false (sym e.holds)
 ends_unsound : Ends (record (beginner (far last) known) { known = empty_shown 4 two }) → ⊥
 ends_unsound e = eqb-false 4 3 refl e.stood.sound.here.known.first
 
--- ---- the lock is taken by a seat
+-- ---- the lock is taken by a seat, whose record has nothing yet
+abbrev pub newcomer : View
+newcomer = record part { written = [] }
+
+pub knows_nothing : (h : ℕ) → Knows h newcomer → ⊥
+knows_nothing h (inl (e, none, is)) = none
+knows_nothing h (inr (s, none, is)) = none
+
 abbrev before : Sat
-before = (part, [])
+before = (newcomer, [])
 
 abbrev holder : Sat
-holder = (beginner (far 1) known, (0, Some (far 1)) ∷ [])
+holder = (took_lock known (far 1) 0 newcomer, (0, Some (far 1)) ∷ [])
 
 has_taken : HasTaken before 2 holder
 has_taken = record {
@@ -140,6 +148,7 @@ has_taken = record {
   taken = refl;
   sized = record { objects = refl; hots = refl; versions = refl; memory = refl };
   stood = stood 1 (lit≤ tt);
+  made = λ h knows. absurd (knows_nothing h knows);
   number = refl;
 }
 

@@ -18,13 +18,13 @@ use Rattle.cb_rule.specs.declared.view.View.{View}
 use Rattle.cb_rule.specs.Lists.{Each}
 use Rattle.cb_rule.specs.Locking.{Stood}
 use Rattle.cb_rule.specs.Slot.{Sat}
-use Rattle.cb_rule.specs.Steps.{act, acted, freed_seen}
+use Rattle.cb_rule.specs.Steps.{AreNew, act, acted, freed_seen}
 use Rattle.cb_record.specs.Parts.{grown, nothing_more}
 use Rattle.cb_shared.specs.Places.{Place}
 use Rattle.cb_shared.specs.SeatLaws.{acted_known}
 use Rattle.cb_shared.specs.Turning.{DidAs}
 use Rattle.cb_shared.specs.UnderLock.{TurnAtSeat, TurnWith, WorkBy}
-use Rattle.cb_shared.proofs.WorkedGround.{made, two}
+use Rattle.cb_shared.proofs.WorkedGround.{made, not_new, two}
 use Rattle.cb_shared.proofs.WorkedSeat.{Has, gives_back, refusing, seat, tells, tells_nine}
 use Rattle.cb_shared.proofs.WorkedUnder.{far, known, last, stood}
 
@@ -48,7 +48,7 @@ module _ (p q : Place) where
   works at table id me = record {
     events = [];
     more = [];
-    runs = ((table, id, me), tt);
+    runs = ((table, id, me), tt, tt);
     did = worn refl refl refl (refl, tt);
     next = inr (refl, refl);
     wrote = refl;
@@ -111,6 +111,7 @@ module _ (p q : Place) where
     next = inr (refl, refl);
     wrote = refl;
     fresh = ap (λ (m : Sat). m.0.fresh) at;
+    new = tt;
     stood = subst (λ (m : Sat). Stood two m.0.known (far last)) (sym at) (stood last (lit≤ tt));
   }
 
@@ -152,6 +153,11 @@ module _ (p q : Place) where
       let f = acts_keep (λ v. v.ever) (λ e v. refl) w.events p.me.0 in
       let g = ap (λ d. d.ever) (w.reads p.me.0 (refl, refl, refl, refl, refl)) in
       omega (arith, e, f, g, none)
+
+  -- a free at a version that the record has
+  by_an_old_version : p.me.0.written ≡ made ∷ []
+      → WorkBy two (job.Free record { n = 1 }) (Ok (answer.Version 3)) (far 1) (far 2) p q → ⊥
+  by_an_old_version is w = not_new p.me.0 is (subst (λ (l : List Entry). AreNew l p.me.0) w.wrote.1 w.new).0
 
   by_another_end : WorkBy two job.Evict (Ok answer.Done) (far last) (far last) p q → ⊥
   by_another_end w = not_done _ _ _ w.did
@@ -203,6 +209,7 @@ module _ (p q : Place) where
     next = inr (refl, refl);
     wrote = refl;
     fresh = ap (λ (m : Sat). m.0.fresh) at;
+    new = tt;
   }
 
   turns_untrue : p.me.0.acts ≡ [] → p.me.0.known ≡ known → first_acts q.me.0.turns ≡ tells 9
@@ -248,6 +255,11 @@ module _ (p q : Place) where
       let f = acts_keep (λ v. v.ever) (λ e v. refl) t.events p.me.0 in
       let g = ap (λ d. d.ever) (t.reads p.me.0 (refl, refl, refl, refl, refl)) in
       omega (arith, e, f, g, none)
+
+  turns_to_an_old_version : p.me.0.written ≡ made ∷ []
+      → TurnWith two (job.Free record { n = 1 }) (Ok (answer.Version 3)) (far 1) p q → ⊥
+  turns_to_an_old_version is t =
+      not_new p.me.0 is (subst (λ (l : List Entry). AreNew l p.me.0) t.wrote.1 t.new).0
 
   turns_to_another_end : TurnWith two job.Evict (Ok answer.Done) (far last) p q → ⊥
   turns_to_another_end t = not_done _ _ _ t.did

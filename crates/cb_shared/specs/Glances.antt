@@ -26,7 +26,9 @@ pub record TakesPin (c : Config) (h saw w : ℕ) (p q : Place) : Type 0 where
       × Moves p q (with_pin h saw v words p.me.0)
   pub lost : w ≢ saw → Moves p q (with_look h w p.me.0)
 
--- the version word has the version of each pin of the object
+-- The version word has the version of each pin of the object, which is at least all that the record
+-- has of it.
 pub record TellsVersion (c : Config) (h n : ℕ) (p q : Place) : Type 0 where
   pub moves : Moves p q p.me.0
   pub tells : Each (λ (s : Stand). s.handle ≡ h → n ≡ s.version) p.me.0.pins
+  pub newest : Each (λ (s : Stand). s.handle ≡ h → IsNewest h s.version p.me.0) p.me.0.pins

@@ -1,20 +1,22 @@
 -- The laws of the desk over a seat.
-use Rattle.std.proofs.Common.{◌≡◌, ◌≤◌, List, [], ◌∷◌, ◌++◌, sym, refl, ap, ◌∙◌, subst, length-set}
+use Rattle.std.proofs.Common.{◌≡◌, ℕ, ◌≤◌, ◌<◌, List, [], ◌∷◌, ◌++◌, sym, refl, ap, ◌∙◌, subst, length-set, append_assoc, append-nil}
 use Rattle.atomic_table.specs.Seated.{TableId}
 use Rattle.cb_types.specs.declared.config.Config.{Config}
 use Rattle.cb_ptr.specs.Word.{state_of, hot_of, len_of, place_of}
+use Rattle.cb_world.specs.declared.entry.Entry.{Entry}
 use Rattle.cb_world.specs.declared.event.Event.{Event}
 use Rattle.cb_world.specs.declared.event.Event.TheVariants.{Looked, Claimed, Told, Loaded, Stored, Stamped, Settled}
 use Rattle.cb_world.specs.declared.object.Object.TheVariants as is
 use Rattle.cb_world.specs.declared.shown.Shown.{Shown}
 use Rattle.cb_world.specs.Played.{Agree, after, played, settled_by}
 use Rattle.cb_world.specs.Shown.{version_at, object_at}
-use Rattle.cb_world.specs.Written.{written_by}
+use Rattle.cb_world.specs.Written.{adds, written_by}
 use Rattle.cb_world.proofs.Laws.{length_put}
 use Rattle.cb_rule.specs.declared.view.View.{View}
+use Rattle.cb_rule.specs.Lists.{Each}
 use Rattle.cb_rule.specs.Rule.{AreSized}
 use Rattle.cb_rule.specs.Slot.{Sat}
-use Rattle.cb_rule.specs.Steps.{act, acted}
+use Rattle.cb_rule.specs.Steps.{AreNew, IsNew, act, acted}
 use Rattle.cb_shared.specs.declared.setup.Setup.{Setup}
 use Rattle.cb_shared.specs.Places.{Moves, Place, HoldsLock, Acts}
 
@@ -36,13 +38,69 @@ agree_more : (es fs : List Event) (s : Shown) → Agree s es → Agree (played e
 agree_more [] fs s a b = b
 agree_more (e ∷ es) fs s a b = (a.0, agree_more es fs (after e s) a.1 b)
 
--- the seat's view has these events more, and they agree with what it knew
+-- The seat's view has these events more. They agree with what it knew, and what they write is new to
+-- its record.
 abbrev pub Runs : Place → List Event → Place → Type 0
 Runs p es q = Moves p q (acted es p.me.0) × Agree p.me.0.known es
+    × AreNew (written_by es p.me.0.known []) p.me.0
 
 pub known_is : (p q : Place) (es : List Event) → Moves p q (acted es p.me.0)
     → q.me.0.known ≡ played es p.me.0.known
 known_is p q es m = ap (λ (k : Sat). k.0.known) m.2 ∙ acted_known es p.me.0
+
+written_more : (es : List Event) (s : Shown) (old : List Entry)
+    → written_by es s old ≡ written_by es s [] ++ old
+written_more [] s old = refl
+written_more (e ∷ es) s old = let t = after e s in let more = adds e s in
+    written_more es t (more ++ old) ∙ sym (append_assoc (written_by es t []) more old)
+    ∙ ap (λ (l : List Entry). l ++ old)
+    (ap (λ (l : List Entry). written_by es t [] ++ l) (sym (append-nil more))
+    ∙ sym (written_more es t (more ++ [])))
+
+written_then : (es fs : List Event) (s : Shown) (old : List Entry)
+    → written_by (es ++ fs) s old ≡ written_by fs (played es s) (written_by es s old)
+written_then [] fs s old = refl
+written_then (e ∷ es) fs s old = written_then es fs (after e s) (adds e s ++ old)
+
+each_behind : {A : Type 0} (P : A → Type 0) (xs ys : List A) → Each P (xs ++ ys) → Each P ys
+each_behind P [] ys all = all
+each_behind P (x ∷ xs) ys all = each_behind P xs ys all.1
+
+-- what is new after events was so before them
+new_before : (h n : ℕ) (es : List Event) (v : View) → IsNew h n (acted es v) → IsNew h n v
+new_before h n [] v new = new
+new_before h n (e ∷ es) v new = let z = new_before h n es (act e v) new in
+    let P : Entry → Type 0 = λ x. x.handle ≡ h → x.version < n in
+    let more = adds e v.known in record {
+      written = each_behind P more (v.fresh ++ v.written)
+          (subst (Each P) (append_assoc more v.fresh v.written) z.written);
+      seen = z.seen;
+    }
+
+are_new_before : (es : List Event) (v : View) (more : List Entry) → AreNew more (acted es v)
+    → AreNew more v
+are_new_before es v [] new = tt
+are_new_before es v (e ∷ more) new =
+    (new_before e.handle e.version es v new.0, are_new_before es v more new.1)
+
+new_both : (v : View) (more less : List Entry) → AreNew more v → AreNew less v → AreNew (more ++ less) v
+new_both v [] less a b = b
+new_both v (e ∷ more) less a b = (a.0, new_both v more less a.1 b)
+
+new_more : (es fs : List Event) (v : View) → AreNew (written_by es v.known []) v
+    → AreNew (written_by fs (played es v.known) []) (acted es v)
+    → AreNew (written_by (es ++ fs) v.known []) v
+new_more es fs v a b = let s = v.known in
+    subst (λ (l : List Entry). AreNew l v)
+    (sym (written_then es fs s [] ∙ written_more fs (played es s) (written_by es s [])))
+    (new_both v (written_by fs (played es s) []) (written_by es s [])
+    (are_new_before es v (written_by fs (played es s) []) b) a)
+
+-- what a seat wrote that had written nothing in its turn
+pub fresh_new : (p q : Place) (es : List Event) → p.me.0.fresh ≡ [] → Runs p es q
+    → AreNew (acted es p.me.0).fresh p.me.0
+fresh_new p q es none r = subst (λ (l : List Entry). AreNew l p.me.0)
+    (ap (written_by es p.me.0.known) (sym none) ∙ sym (acted_fresh es p.me.0)) r.2
 
 pub runs_more : (p q r : Place) (es fs : List Event) → Runs p es q → Runs q fs r
     → Runs p (es ++ fs) r
@@ -55,6 +113,9 @@ runs_more p q r es fs a b = let m = a.0 in let n = b.0 in (
   ),
   agree_more es fs p.me.0.known a.1
       (subst (λ (s : Shown). Agree s fs) (known_is p q es m) b.1),
+  new_more es fs p.me.0 a.2 (subst (λ (s : Shown). AreNew (written_by fs s []) (acted es p.me.0))
+      (known_is p q es m)
+      (subst (λ (v : View). AreNew (written_by fs q.me.0.known []) v) (ap (λ (k : Sat). k.0) m.2) b.2)),
 )
 
 pub runs_follows : (p q : Place) (es : List Event) (s : Shown) → Runs p es q → s ≡ p.me.0.known

@@ -1,5 +1,5 @@
 -- What a turn under the far lock did, and what it leaves of the record of its pass.
-use Rattle.std.specs.Prelude.{◌≡◌, ◌⊎◌, ℕ, List, [], ◌∷◌, ◌++◌, Option, None, Some, Result, Ok, Err, IfOk}
+use Rattle.std.specs.Prelude.{◌≡◌, ◌⊎◌, ℕ, ◌≤◌, List, [], ◌∷◌, ◌++◌, Option, None, Some, Result, Ok, Err, IfOk}
 use Rattle.cb_member.specs.declared.no_memory.NoMemory.{NoMemory}
 use Rattle.cb_types.specs.declared.config.Config.{Config}
 use Rattle.cb_types.specs.declared.job.Job.{Job}
@@ -11,6 +11,7 @@ use Rattle.cb_world.specs.declared.event.Event.{Event}
 use Rattle.cb_world.specs.declared.shown.Shown.{Shown}
 use Rattle.cb_world.specs.FarState.{FarState}
 use Rattle.cb_world.specs.Played.{Agree, played}
+use Rattle.cb_world.specs.Shown.{version_at}
 use Rattle.cb_core.specs.Parts.{Holding}
 use Rattle.cb_core.specs.Turned.{Stopped, Turned}
 use Rattle.cb_core.specs.TurnLeaves.{IsNext, OutcomeWrites}
@@ -19,7 +20,7 @@ use Rattle.cb_rule.specs.declared.turn.Turn.{Turn}
 use Rattle.cb_rule.specs.declared.view.Look.{Look}
 use Rattle.cb_rule.specs.declared.view.View.{View}
 use Rattle.cb_rule.specs.Lists.{Each}
-use Rattle.cb_rule.specs.Steps.{Knows}
+use Rattle.cb_rule.specs.Steps.{AreNew, Knows}
 use Rattle.cb_shared.specs.declared.reading.ReadAnswer.{ReadAnswer}
 use Rattle.cb_shared.specs.declared.reading.ReadAnswer.TheVariants as found
 use Rattle.cb_record.specs.Parts.{Part, grown, nothing_more, sum}
@@ -165,7 +166,8 @@ with_own made v = record v { own = made ++ v.own }
 
 -- What a turn adds to the record v of its pass. It stands there with its job, its reply, what was
 -- known when it began, its events, and the far states that it took and gave, which are those of one
--- turn more. What it wrote is that of its reply. It is answered Unavailable exactly where it is to
+-- turn more. What it wrote is that of its reply, and new to the record. Each object of which the
+-- record has an entry had a version when it began. It is answered Unavailable exactly where it is to
 -- be.
 pub record TurnAdds (c : Config) (job : Job) (r : Result Reply NoMemory) (v : View) (d : Part)
     : Type 0 where
@@ -179,6 +181,8 @@ pub record TurnAdds (c : Config) (job : Job) (r : Result Reply NoMemory) (v : Vi
   pub did : Did c turn
   pub next : IsNext turn.took turn.gave
   pub wrote : OutcomeWrites job r more
+  pub new : AreNew more v
+  pub made : (h : ℕ) → Knows h v → 1 ≤ version_at turn.start h
   pub tells : IfOk r (λ reply. TurnTells job turn.took reply)
   pub reads : JobReads job r v within
   pub finds : FindsFreed (freed_of job r) (with_own (made_by job (answer_of r))

@@ -1,5 +1,5 @@
 -- What the parts of a turn come to, from taking the far lock to giving it back.
-use Rattle.std.specs.Prelude.{◌≡◌, ℕ, ◌<◌, true, List, [], ◌∷◌, ◌++◌, Option, None, Some, Result, Ok, Err, IfOk}
+use Rattle.std.specs.Prelude.{◌≡◌, ℕ, ◌<◌, ◌≤◌, true, List, [], ◌∷◌, ◌++◌, Option, None, Some, Result, Ok, Err, IfOk}
 use Rattle.cb_member.specs.declared.no_memory.NoMemory.{NoMemory}
 use Rattle.cb_types.specs.declared.config.Config.{Config}
 use Rattle.cb_types.specs.declared.handle.Handle.{Handle}
@@ -10,6 +10,7 @@ use Rattle.cb_types.specs.declared.reply.Reply.TheVariants as answer
 use Rattle.cb_world.specs.declared.entry.Entry.{Entry}
 use Rattle.cb_world.specs.declared.event.Event.{Event}
 use Rattle.cb_world.specs.declared.shown.Shown.{Shown}
+use Rattle.cb_world.specs.Shown.{version_at}
 use Rattle.cb_world.specs.FarState.{FarState}
 use Rattle.cb_world.specs.Played.{Agree, played}
 use Rattle.cb_core.specs.OnceHere.{IsThere}
@@ -25,7 +26,7 @@ use Rattle.cb_rule.specs.LockSteps.{AddsTurn, HasTaken, gave_lock, took_lock, tu
 use Rattle.cb_rule.specs.Own.{Make}
 use Rattle.cb_rule.specs.Rule.{AreSized}
 use Rattle.cb_rule.specs.Slot.{Slot}
-use Rattle.cb_rule.specs.Steps.{acted}
+use Rattle.cb_rule.specs.Steps.{AreNew, Knows, acted}
 use Rattle.cb_shared.specs.declared.reading.ReadAnswer.{ReadAnswer}
 use Rattle.cb_shared.specs.declared.reading.ReadAnswer.TheVariants as found
 use Rattle.cb_record.specs.Parts.{Part, grown, nothing_more}
@@ -41,13 +42,15 @@ IsAt p q w slots = (q.table_id ≡ p.table_id) × (q.id ≡ p.id) × (q.me ≡ (
 abbrev pub Takes : ℕ → Place → Place → Type 0
 Takes word p q = (q.table_id ≡ p.table_id) × (q.id ≡ p.id) × HasTaken p.me word q.me
 
--- the seat took the lock, and the far state out of its slot: what is known then is sound for it
+-- The seat took the lock, and the far state out of its slot: what is known then is sound for it, and
+-- each object of which the record has an entry was made.
 pub record TakesFar (c : Config) (far : FarState) (p q : Place) : Type 0 where
   pub known : Shown
   pub entries : ℕ
   pub at : IsAt p q (took_lock known far entries p.me.0) ((0, None) ∷ p.me.1)
   pub sized : AreSized c known
   pub stood : Stood c known far
+  pub made : (h : ℕ) → Knows h p.me.0 → h < far.made
 
 -- The seat holds the lock, has its slot in hand, and has done nothing in its turn yet. What it knows
 -- is sound for the far state that it took.
@@ -104,7 +107,8 @@ abbrev pub HasSame : View → View → Type 0
 HasSame u v = (u.fresh ≡ v.fresh) × (u.written ≡ v.written) × (u.seen ≡ v.seen)
     × (u.share ≡ v.share) × (u.own ≡ v.own)
 
--- The work of a turn at the desk, and the read under a pin beside it.
+-- The work of a turn at the desk, and the read under a pin beside it. What it wrote is new to the
+-- record.
 pub record WorkBy (c : Config) (job : Job) (r : Result Reply NoMemory) (took gave : FarState)
     (p q : Place) : Type 0 where
   pub events : List Event
@@ -119,6 +123,7 @@ pub record WorkBy (c : Config) (job : Job) (r : Result Reply NoMemory) (took gav
   pub next : IsNext took gave
   pub wrote : OutcomeWrites job r more
   pub fresh : (acted events p.me.0).fresh ≡ more
+  pub new : AreNew more p.me.0
   pub stood : Stood c (played events p.me.0.known) gave
 
 -- any job but Read
@@ -201,6 +206,7 @@ pub record TurnWith (c : Config) (job : Job) (r : Result Reply NoMemory) (took :
   pub next : IsNext took gave
   pub wrote : OutcomeWrites job r more
   pub fresh : (acted events p.me.0).fresh ≡ more
+  pub new : AreNew more p.me.0
 
 -- A turn as it stands in the record of its pass, before a freed entry is looked for.
 pub record TurnedBy (c : Config) (job : Job) (r : Result Reply NoMemory) (v w : View) : Type 0 where
@@ -213,6 +219,8 @@ pub record TurnedBy (c : Config) (job : Job) (r : Result Reply NoMemory) (v w : 
   pub did : Did c turn
   pub next : IsNext turn.took turn.gave
   pub wrote : OutcomeWrites job r more
+  pub new : AreNew more v
+  pub made : (h : ℕ) → Knows h v → 1 ≤ version_at turn.start h
   pub below : Each (λ (e : Entry). e.handle < c.handles) (more ++ v.written)
   pub range : ReadsBelow c within
   pub reads : JobReads job r v within

@@ -5,7 +5,7 @@ ghost use Rattle.cb_ptr.specs.Word.{pins_of, state_of};
 ghost use Rattle.cb_world.specs.Memory.{words_for};
 ghost use Rattle.cb_rule.specs.Lists.{Has};
 ghost use Rattle.cb_rule.specs.Seats.{pins_on};
-ghost use Rattle.cb_rule.specs.Steps.{Knows, with_peek, without_pin};
+ghost use Rattle.cb_rule.specs.Steps.{IsNewest, Knows, with_peek, without_pin};
 ghost use Rattle.cb_shared.specs.declared.answers.PinAnswer.{PinAnswer};
 ghost use Rattle.cb_shared.specs.declared.answers.PinAnswer.TheVariants as answer;
 ghost use Rattle.cb_shared.specs.Handles.{handles_of};
@@ -60,6 +60,25 @@ impl Shared {
             pass.old.seat.me.0 }
     {
         peek_word(&self.board.shared, &mut pass.seat, &self.config, pin, index)
+    }
+
+    /// The version of a pinned object: one load of its version word. No one writes an object while it
+    /// is pinned, so the pass has no version of it that is above this one. Takes no memory and waits
+    /// for nobody.
+    pub fn version(&self, pass: &mut Pass, pin: &Pin) -> u64
+        requires of { IsPassOf self.now pass.old }
+        requires pin { IsPinOf pin.now pass.old.seat.me.0 }
+        ensures of { IsPassOf self.now pass.new }
+        ensures same { pass.new.seat.me.0 ≡ pass.old.seat.me.0 }
+        ensures version { result ≡ pin.now.version }
+        ensures newest { IsNewest pin.now.handle.n pin.now.version pass.old.seat.me.0 }
+    {
+        tell_version(
+            &self.board.shared,
+            &mut pass.seat,
+            &self.config,
+            pin.handle.n,
+        )
     }
 
     /// Gives a pin back: one subtraction. Takes no memory and waits for nobody.

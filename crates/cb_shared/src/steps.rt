@@ -5,7 +5,9 @@ ghost use Rattle.cb_ptr.specs.Word.{state_of, pins_of};
 ghost use Rattle.cb_world.specs.declared.event.Event.TheVariants.{Looked, Claimed, Told, Loaded, Stored, Stamped, Settled};
 ghost use Rattle.cb_world.specs.Shown.{Owns, IsHeld, object_at};
 ghost use Rattle.cb_world.specs.Settling.{MaySettle};
+ghost use Rattle.cb_world.specs.Written.{adds};
 ghost use Rattle.cb_rule.specs.Own.{MayWrite};
+ghost use Rattle.cb_rule.specs.Steps.{AreNew};
 ghost use Rattle.cb_shared.specs.Places.{HoldsLock, Acts};
 
 use crate::board::{Place, Top};
@@ -79,12 +81,14 @@ pub(crate) fn put_stamp(top: &Top, seat: &mut Place, config: &Config, h: u32, ve
     top.store::<Stamp>(seat, 1 + config.handles as usize + h as usize, version);
 }
 
-/// Stores the pointer word of an object that the holder claims, or that is empty or far.
+/// Stores the pointer word of an object that the holder claims, or that is empty or far. The version
+/// that it writes, if it does, is new to the seat's record.
 pub(crate) fn settle(top: &Top, seat: &mut Place, config: &Config, h: u32, word: u64)
     requires holds { HoldsLock top.now.table_id top.now.key config.now seat.old }
     requires handle { h < config.now.handles }
     requires may { MaySettle seat.old.me.0.known h word }
-    ensures { Acts seat.old (Settled h word) seat.new }
+    ensures acts { Acts seat.old (Settled h word) seat.new }
+    ensures new { AreNew (adds (Settled h word) seat.old.me.0.known) seat.old.me.0 }
 {
     top.store::<Settle>(seat, 1 + h as usize, word);
 }

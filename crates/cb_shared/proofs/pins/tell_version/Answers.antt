@@ -1,8 +1,9 @@
-use Rattle.std.proofs.Common.{◌≡◌, ◌+◌, ℕ, List, [], ◌∷◌, sym, arith}
+use Rattle.std.proofs.Common.{◌≡◌, ◌+◌, ℕ, List, [], ◌∷◌, sym, subst, arith}
 use Rattle.cb_types.specs.declared.config.Config.{Config}
 use Rattle.cb_rule.specs.declared.view.Stand.{Stand}
+use Rattle.cb_rule.specs.declared.view.View.{View}
 use Rattle.cb_rule.specs.Lists.{Each}
-use Rattle.cb_rule.specs.Steps.{TellsPin}
+use Rattle.cb_rule.specs.Steps.{IsNewest, TellsPin}
 use Rattle.cb_rule.specs.Words.{stamps}
 use Rattle.cb_shared.proofs.PinsAlone.{dates_at}
 use Rattle.cb_shared.proofs.pins.tell_version.Goals as goal
@@ -22,9 +23,19 @@ tells k c h n (p ∷ ps) e each = (
   tells k c h n ps e each.1,
 )
 
+newest : (h : ℕ) (v : View) (ps : List Stand)
+    → Each (λ (s : Stand). IsNewest s.handle s.version v) ps
+    → Each (λ (s : Stand). s.handle ≡ h → IsNewest h s.version v) ps
+newest h v [] each = tt
+newest h v (p ∷ ps) each = (
+  λ same. subst (λ (n : ℕ). IsNewest n p.version v) same each.0,
+  newest h v ps each.1,
+)
+
 pub returns : goal.returns
 returns c = let t = c.load.ensures.0 in let i = c.load.ensures.1 in record {
   moves = (t, i, c.load.ensures.2.0);
   tells = tells c.args.seat.now.me.0.config c.args.config.now c.args.h c.load.result
       c.args.seat.now.me.0.pins c.requires.of.config c.load.ensures.2.1;
+  newest = newest c.args.h c.args.seat.now.me.0 c.args.seat.now.me.0.pins c.load.ensures.2.3;
 }

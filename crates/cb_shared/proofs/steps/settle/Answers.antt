@@ -10,6 +10,9 @@ store-requires c = let h = c.requires.holds in (
       c.requires.handle c.requires.may,
 )
 
-pub returns : goal.returns
-returns c = let z = c.store.ensures.2 c.args.h refl in
+pub returns-clause-acts : goal.returns-clause-acts
+returns-clause-acts c = let z = (c.store.ensures.2 c.args.h refl).0 in
     ((c.store.ensures.0, c.store.ensures.1, z.0), z.1)
+
+pub returns-clause-new : goal.returns-clause-new
+returns-clause-new c = (c.store.ensures.2 c.args.h refl).1

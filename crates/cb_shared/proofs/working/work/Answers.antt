@@ -36,4 +36,4 @@ returns-in-Some-clause-unavailable g c = subst (λ (j : Job).
 pub returns-in-None-clause-work : goal.returns-in-None-clause-work
 returns-in-None-clause-work g c = work_done c.args.config.now c.args.job.now c.turn_by_seat.result
     c.args.far.now c.turn_by_seat.new.far c.args.seat.now c.turn_by_seat.new.seat
-    (c.read_of.ensures.other c.in-None.is) c.turn_by_seat.ensures.turn
+    (c.read_of.ensures.other c.in-None.is) c.requires.begins.fresh c.turn_by_seat.ensures.turn
