@@ -65,22 +65,22 @@ read_says name handles made handle now answer.Worn m line calm = absurd calm
 read_says name handles made handle now r m line calm = absurd line
 
 -- a change that is done, and one that is refused as pinned
-changed_alone : (u v own : ℕ) → v ≡ u + 1 → own ≡ 0 → answer.Version v ≡ change_alone u own
+pub changed_alone : (u v own : ℕ) → v ≡ u + 1 → own ≡ 0 → answer.Version v ≡ change_alone u own
 changed_alone u v own next none = ap answer.Version next
     ∙ sym (ap (λ (b : Bool). if b then answer.Version (u + 1) else answer.Pinned own) (eq-eqb own 0 none))
 
-pinned_alone : (u count own : ℕ) → count ≡ own → 1 ≤ count → answer.Pinned count ≡ change_alone u own
+pub pinned_alone : (u count own : ℕ) → count ≡ own → 1 ≤ count → answer.Pinned count ≡ change_alone u own
 pinned_alone u count own same some = ap answer.Pinned same
     ∙ sym (ap (λ (b : Bool). if b then answer.Version (u + 1) else answer.Pinned own)
     (ne_eqb own 0 (λ e. absurd (omega (arith, e, same, some)))))
 
-within_alone : (u own past : ℕ) (c : List ℕ) (r : Reply) → past ≤ length c → r ≡ change_alone u own
+pub within_alone : (u own past : ℕ) (c : List ℕ) (r : Reply) → past ≤ length c → r ≡ change_alone u own
     → r ≡ (if nat_le past (length c) then change_alone u own else answer.Range (length c))
 within_alone u own past c r within is = is
     ∙ sym (ap (λ (b : Bool). if b then change_alone u own else answer.Range (length c))
     (le-leb past (length c) within))
 
-past_alone : (u own past len : ℕ) (c : List ℕ) → length c < past → len ≡ length c
+pub past_alone : (u own past len : ℕ) (c : List ℕ) → length c < past → len ≡ length c
     → answer.Range len ≡ (if nat_le past (length c) then change_alone u own else answer.Range (length c))
 past_alone u own past len c over is = ap answer.Range is
     ∙ sym (ap (λ (b : Bool). if b then change_alone u own else answer.Range (length c))
@@ -140,11 +140,11 @@ free_says name handles made handle now own r m line calm tells some = absurd lin
 
 -- ---- by the scope
 
-full_pin : (object : Object) (pins : ℕ) → pins ≡ 16 → answer.ScopeFull ≡ pin_alone (Some object) pins
+pub full_pin : (object : Object) (pins : ℕ) → pins ≡ 16 → answer.ScopeFull ≡ pin_alone (Some object) pins
 full_pin object pins full =
     sym (ap (λ (b : Bool). if b then answer.ScopeFull else pin_object object) (eq-eqb pins 16 full))
 
-room_pin : (object : Object) (pins : ℕ) (r : Reply) → pins ≢ 16 → r ≡ pin_object object
+pub room_pin : (object : Object) (pins : ℕ) (r : Reply) → pins ≢ 16 → r ≡ pin_object object
     → r ≡ pin_alone (Some object) pins
 room_pin object pins r room is = is
     ∙ sym (ap (λ (b : Bool). if b then answer.ScopeFull else pin_object object) (ne_eqb pins 16 room))

@@ -179,7 +179,7 @@ still_backs h q r enters meets pins turned happens =
     (subst (λ (l : List Deed). IsAmong l []) (sym turned) ended) (sym happens)
 
 -- ---- a make
-abbrev make_handle : Reply → Option ℕ
+abbrev pub make_handle : Reply → Option ℕ
 make_handle (answer.Made handle version) = Some handle.n
 make_handle r = None
 
@@ -472,6 +472,8 @@ write_needs : (c : Config) (h at : ℕ) (name bytes : List ℕ) (r : Reply) (v :
     → Meets (turn_part x.turn x.more x.within x.later) (need_of (Some h) (Write name at bytes) r)
 write_needs c h at name bytes (answer.Pinned count) v d x =
     inr (its_turn c _ (Some h) _ _ v d refl x)
+write_needs c h at name bytes (answer.Range len) v d x =
+    inr (inl (x.reply_is, ap (λ (z : Job). Some z) (sym x.job_is)))
 write_needs c h at name bytes answer.Freed v d x =
     freed_turn h x.turn x.more x.within x.later (freed_last h _ x.later x.finds)
 write_needs c h at name bytes (answer.Full n) v d x = its_turn c _ (Some h) _ _ v d refl x
@@ -503,7 +505,7 @@ write_here h at name bytes (place.Ok version) r v d says x =
     (subst (λ (z : Part). Backs z (told_as (Some h) (Write name at bytes) (answer.Version version) ∷ []))
     (sym x.part)
     (one_backs (written_once h x.word version x.old x.new) _
-    (len_of x.word, x.old, x.new, x.write, refl) tt (omega arith) ended refl))
+    (len_of x.word, x.old, x.new, x.write, x.room.1, refl) tt (omega arith) ended refl))
 write_here h at name bytes place.Freed r v d says (word, version, empty, newest, is) =
     subst (λ (q : Reply). Backs d (told_as (Some h) (Write name at bytes) q ∷ [])) (sym says)
     (subst (λ (z : Part). Backs z (told_as (Some h) (Write name at bytes) answer.Freed ∷ [])) (sym is)
@@ -511,7 +513,8 @@ write_here h at name bytes place.Freed r v d says (word, version, empty, newest,
 write_here h at name bytes (place.Range len) r v d says (word, past, is) =
     subst (λ (q : Reply). Backs d (told_as (Some h) (Write name at bytes) q ∷ [])) (sym says)
     (subst (λ (z : Part). Backs z (told_as (Some h) (Write name at bytes) (answer.Range len) ∷ []))
-    (sym is) (look_backs h word (Write name at bytes) (answer.Range len) refl tt refl refl refl))
+    (sym is) (look_backs h word (Write name at bytes) (answer.Range len) refl
+    (inl (inl (refl, past.0, past.1, past.2))) refl refl refl))
 write_here h at name bytes (place.Pinned count) r v d says (word, pinned, is) =
     subst (λ (q : Reply). Backs d (told_as (Some h) (Write name at bytes) q ∷ [])) (sym says)
     (subst (λ (z : Part). Backs z (told_as (Some h) (Write name at bytes) (answer.Pinned count) ∷ []))

@@ -42,7 +42,7 @@ pub first_none : (a : Option ℕ) → a ≡ first_of a None
 first_none (Some x) = refl
 first_none None = refl
 
-handle_append : (given before : List Answer) (name : List ℕ)
+pub handle_append : (given before : List Answer) (name : List ℕ)
     → handle_of (given ++ before) name ≡ first_of (handle_of before name) (handle_of given name)
 handle_append [] before name = first_none (handle_of before name)
 handle_append (a ∷ given) before name =
@@ -50,13 +50,13 @@ handle_append (a ∷ given) before name =
     (handle_append given before name)
     ∙ first_assoc (handle_of before name) (handle_of given name) (handle_made name a.request a.reply)
 
-named_behind : (names : List Named) (given before : List Answer) (o : Option (List ℕ))
+pub named_behind : (names : List Named) (given before : List Answer) (o : Option (List ℕ))
     → AreNamesOf names given → handle_named (given ++ before) o ≡ handle_behind names before o
 named_behind names given before None are = refl
 named_behind names given before (Some name) are = handle_append given before name
     ∙ ap (first_of (handle_of before name)) (are name)
 
-about_for : (before : List Answer) (q : Request) (r : Reply)
+pub about_for : (before : List Answer) (q : Request) (r : Reply)
     → handle_for before q r ≡ about (handle_named before (name_of q)) q r
 about_for before (Make name bytes) (answer.Made handle version) = refl
 about_for before (Make name bytes) r = refl

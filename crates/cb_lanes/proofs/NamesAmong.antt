@@ -88,7 +88,7 @@ given_known (Some h) true v k knows is = subst (λ (n : ℕ). Knows n v) (ap num
 given_known None true v k knows is = absurd cc
 given_known o false v k knows is = absurd cc
 
-among_known : (names : List Named) (v : View) (name : List ℕ) (k : ℕ) → KnowsNames v names
+pub among_known : (names : List Named) (v : View) (name : List ℕ) (k : ℕ) → KnowsNames v names
     → handle_among names name ≡ Some k → Knows k v
 among_known [] v name k knows is = absurd cc
 among_known (n ∷ names) v name k knows is = first_is (handle_among names name) (given_by n name) k

@@ -1,5 +1,5 @@
 -- The words of a pin are peeked one after another, and put into the room for its bytes.
-use Rattle.std.proofs.Common.{◌≡◌, ℕ, zero, suc, ◌+◌, ◌<◌, List, [], ◌∷◌, ◌++◌, length, slice_index, get_or, Option, Some, IfSome, Result, Ok, Err, inr, refl, sym, ap, ◌∙◌, subst, arith}
+use Rattle.std.proofs.Common.{◌≡◌, ℕ, zero, suc, ◌+◌, ◌<◌, List, [], ◌∷◌, ◌++◌, length, slice_index, get_or, Option, Some, IfSome, Result, Ok, Err, inl, inr, refl, sym, ap, ◌∙◌, subst, arith}
 use Rattle.std.specs.Result.{IfOk}
 use Rattle.cb_member.specs.declared.no_memory.NoMemory.{NoMemory}
 use Rattle.cb_types.specs.declared.reply.Reply.{Reply}
@@ -8,11 +8,11 @@ use Rattle.cb_world.specs.Memory.{bytes_in, words_for}
 use Rattle.cb_rule.specs.declared.view.Stand.{Stand}
 use Rattle.cb_rule.specs.declared.view.View.{View}
 use Rattle.cb_rule.specs.Lists.{Has}
-use Rattle.cb_rule.specs.Steps.{with_peek}
+use Rattle.cb_rule.specs.Steps.{IsNewest, with_peek}
 use Rattle.cb_shared.specs.declared.pass.Pin.{Pin}
 use Rattle.cb_shared.specs.Passes.{IsPinOf, stand_of}
 use Rattle.cb_shared.proofs.Laws.{IsFilled, IsPutInto, filled_all, filled_more}
-use Rattle.cb_lanes.specs.Passing.{AreHeld, IsNewestAt, PeekGoes, PeeksAll, marks_of, peeks_of}
+use Rattle.cb_lanes.specs.Passing.{AreHeld, IsNewestAt, IsNewestPin, PeekGoes, PeeksAll, marks_of, peeks_of}
 use Rattle.cb_lanes.proofs.PinsHeld.{IsThere, found_at, newest_below, pin_there}
 
 -- the first words of a pin were peeked, and stand in the room
@@ -20,10 +20,10 @@ pub record PeeksSome (p : Stand) (i : ℕ) (room : List ℕ) (v w : View) : Type
   pub filled : IsFilled p.words i room
   pub left : w ≡ record v { peeked = peeks_of p i ++ v.peeked }
 
-pub peeks_none : (p : Stand) (room : List ℕ) (v : View) → PeeksSome p 0 room v v
-peeks_none p room v = record {
+pub peeks_none : (p : Stand) (room : List ℕ) (v w : View) → w ≡ v → PeeksSome p 0 room v w
+peeks_none p room v w same = record {
   filled = λ k low within. absurd (omega (arith, low));
-  left = refl;
+  left = same;
 }
 
 one_more : (p : Stand) (i x : ℕ) (v : View) → x ≡ slice_index p.words i
@@ -70,6 +70,11 @@ same_there at [] d e low = absurd (omega (arith, low))
 same_there zero (q ∷ ps) d e low = refl
 same_there (suc at) (q ∷ ps) d e low = same_there at ps d e (omega (arith, low))
 
+newest_on : (h : ℕ) (p : Stand) (ps : List Stand) → IsNewestPin h p ps → p.handle ≡ h
+newest_on h p [] x = absurd x
+newest_on h p (q ∷ ps) (inl x) = sym (ap (λ (s : Stand). s.handle) x.1) ∙ x.0
+newest_on h p (q ∷ ps) (inr x) = newest_on h p ps x.1
+
 module _ (h at : ℕ) (d : Pin) (xs ps : List Pin) (o : Option ℕ) (v : View) (held : AreHeld ps v)
     (is : o ≡ Some at) (same : xs ≡ ps)
     (some : IfSome o (λ k. IsNewestAt h (marks_of xs) k)) where
@@ -87,11 +92,14 @@ module _ (h at : ℕ) (d : Pin) (xs ps : List Pin) (o : Option ℕ) (v : View) (
   pub shows_pin : (w : View) (result : Result Reply NoMemory)
       → IfOk result (λ r. (words : List ℕ) → Has (stand_of (get_or xs at d) words) v.pins
       → PeeksAll (stand_of (get_or xs at d) words) r v w)
+      → IfOk result (λ r. IsNewest (get_or xs at d).handle.n (get_or xs at d).version v)
       → IfOk result (λ r. PeekGoes h v r w)
-  shows_pin w (Err e) all = tt
-  shows_pin w (Ok r) all = inr (record {
+  shows_pin w (Err e) all above = tt
+  shows_pin w (Ok r) all above = inr (record {
     pin = stand_of (get_or xs at d) there.words;
     newest = there.newest;
+    above = subst (λ (n : ℕ). IsNewest n (get_or xs at d).version v)
+        (newest_on h (stand_of (get_or xs at d) there.words) v.pins there.newest) above;
     peeks = all there.words there.has;
   })
 

@@ -190,7 +190,7 @@ module _ {D : Type 0} (run : D → List Event → D → Type 0) (shows : D → S
   declined_so : (name bytes : List ℕ) (h at : ℕ) (far : FarState) (r : Reply) (es : List Event)
       → IsDeclined h at (length bytes) far (Some r) es → IsReplyOf (Write name at bytes) r
   declined_so name bytes h at far r es (inl (gone, none, nothing)) = absurd cc
-  declined_so name bytes h at far r es (inr (stays, (w, v, found, told, last, is))) =
+  declined_so name bytes h at far r es (inr (stays, (w, v, found, far_word, told, last, is))) =
       by (nat_lt (len_of w) (at + length bytes)) (v == 2 ^ 64 - 1) is
     where
       same : (x y : Reply) → Some x ≡ Some y → x ≡ y

@@ -100,9 +100,12 @@ writes = (
 
 -- a make and a free by turns that answer them; a turn that says no more than that its object moves
 -- is made again
-makes : (d : Part) → TurnAdds two (job.Make (10 ∷ [])) (Ok (answer.Made one 3)) part d
-    → CallGives two (job.Make (10 ∷ [])) part (answer.Made one 3)
-    (with_own (1 ∷ []) (grown (sum nothing_more d) part))
+abbrev unmade : View
+unmade = record (blank two) { share = 40 }
+
+makes : (d : Part) → TurnAdds two (job.Make (10 ∷ [])) (Ok (answer.Made one 3)) unmade d
+    → CallGives two (job.Make (10 ∷ [])) unmade (answer.Made one 3)
+    (with_own (1 ∷ []) (grown (sum nothing_more d) unmade))
 makes d adds = (
   sum nothing_more d,
   record {

@@ -10,7 +10,8 @@ use Rattle.cb_world.specs.Memory.{bytes_in}
 use Rattle.cb_rule.specs.declared.view.Peeked.{Peeked}
 use Rattle.cb_rule.specs.declared.view.Stand.{Stand}
 use Rattle.cb_rule.specs.declared.view.View.{View}
-use Rattle.cb_rule.specs.Steps.{blank, stand, with_look}
+use Rattle.cb_rule.specs.Own.{IsAlone}
+use Rattle.cb_rule.specs.Steps.{blank, stand, version_seen, with_look}
 use Rattle.cb_shared.specs.declared.pass.Pin.{Pin}
 use Rattle.cb_lanes.specs.LineGoes.{Leaves, Peeks, Pins, Unpins}
 use Rattle.cb_lanes.specs.Passing.{AreHeld, GivesPin, HasNoMark, HasNoPin, IsCall, IsNewestAt, IsNewestPin, IsNotPinned, LeaveGoes, Mark, PeekGoes, PeeksAll, PinGoes, UnpinGoes, goes_in, mark_in, peeks_of}
@@ -115,7 +116,23 @@ peeks_and_gives : PeeksAll newer (answer.Bytes 4 eight) pinning (record peeking 
 peeks_and_gives x = eqb-false 0 2 refl (ap pins_in x.left)
 
 shows : PeekGoes 1 pinning (answer.Bytes 4 eight) peeking
-shows = inr (record { pin = newer; newest = inl (refl, refl); peeks = peeks })
+shows = inr (record {
+  pin = newer;
+  newest = inl (refl, refl);
+  above = record { written = tt; seen = tt; lone = λ l. absurd (not_alone l) };
+  peeks = peeks;
+})
+  where
+    not_alone : IsAlone 1 pinning → ⊥
+    not_alone (inl e) = eqb-false 0 64 refl e
+    not_alone (inr none) = none
+
+-- a version above that of the pin was read
+shows_an_older : (w : View)
+    → PeekGoes 1 (record pinning { seen = version_seen 1 5 8 [] ∷ [] }) (answer.Bytes 4 eight) w → ⊥
+shows_an_older w (inl x) = absurd (let e = x.told in cc)
+shows_an_older w (inr x) = let low = x.above.seen.0 refl in
+    let is : 4 ≡ x.pin.version = ap version_told x.peeks.told in omega (arith, low, is)
 
 -- what a pin on another object has
 shows_another : (w : View) → PeekGoes 0 pinning (answer.Bytes 4 eight) w → ⊥

@@ -8,6 +8,8 @@ pub mod MayAsk
 pub mod AnsweredBy
 pub mod Passing
 pub mod Bodies
+pub mod Rising
+pub mod Suits
 pub mod LineStep
 pub mod LinesSoundly
 pub mod LineAnswered

@@ -83,10 +83,11 @@ pub record PeeksAll (pin : Stand) (r : Reply) (v w : View) : Type 0 where
   pub told : r ≡ answer.Bytes pin.version (bytes_in pin.words pin.len)
   pub left : w ≡ record v { peeked = peeks_of pin (words_for pin.len) ++ v.peeked }
 
--- so each word of the newest pin on the object
+-- so each word of the newest pin on the object, whose version is at least all that the record has
 pub record ShowsPin (h : ℕ) (r : Reply) (v w : View) : Type 0 where
   pub pin : Stand
   pub newest : IsNewestPin h pin v.pins
+  pub above : IsNewest h pin.version v
   pub peeks : PeeksAll pin r v w
 
 -- a pass without a pin on the object is told so, and nothing changes

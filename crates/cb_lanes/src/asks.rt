@@ -4,7 +4,7 @@ ghost use Rattle.std.specs.Prelude.{◌≡◌, ◌<◌, ℕ, List, true, false, 
 ghost use Rattle.cb_types.specs.declared.job.Job.TheVariants as jobs;
 ghost use Rattle.cb_core.specs.Jobs.{IsJob};
 ghost use Rattle.cb_rule.specs.Lists.{Has};
-ghost use Rattle.cb_rule.specs.Steps.{Knows};
+ghost use Rattle.cb_rule.specs.Steps.{IsNewest, Knows};
 ghost use Rattle.cb_shared.specs.Calls.{IsLack, TurnTries, the_handle};
 ghost use Rattle.cb_shared.specs.Joining.{unpinned_all};
 ghost use Rattle.cb_shared.specs.Passes.{IsPassOf, IsPinOf, record_of, stand_of};
@@ -202,16 +202,19 @@ fn peek_at(alloc: Global, shared: &Shared, pass: &mut Pass, pin: &Pin) -> Result
     ensures bytes { IfOk result (λ reply. (words : List ℕ)
         → Has (stand_of pin.now words) (record_of pass.old).pins
         → PeeksAll (stand_of pin.now words) reply (record_of pass.old) (record_of pass.new)) }
+    ensures above { IfOk result (λ reply. IsNewest pin.now.handle.n pin.now.version
+        (record_of pass.old)) }
     ensures same { OnErr result (pass.new ≡ pass.old) }
 {
     let len = pin.len() as usize;
     let mut room = Bytes::from(vec![in alloc; 0; len]?);
+    let version = shared.version(pass, pin);
     for i in 0..len.div_ceil(8) {
         let word = shared.peek(pass, pin, i as u32);
         put_word(&mut room, i, word);
     }
     Ok(Reply::Bytes {
-        version: pin.version(),
+        version,
         bytes: room,
     })
 }

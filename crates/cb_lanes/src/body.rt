@@ -7,6 +7,7 @@ ghost use Rattle.cb_lanes.specs.Asked.{asked, HasLineReply};
 ghost use Rattle.cb_lanes.specs.Bodies.{AddsBacked, AnswersOne, AreLinesOf, IsFront, KeepHandles, KnowsKept, KnowsNames, LaneGoes, LinesGo};
 ghost use Rattle.cb_lanes.specs.Names.{kept_number};
 ghost use Rattle.cb_lanes.specs.Passing.{AreHeld, goes_in};
+ghost use Rattle.cb_lanes.specs.Rising.{LaneRises};
 
 use crate::answering::reply_to;
 use crate::asks::leave;
@@ -108,6 +109,8 @@ pub fn lane_body<R: Wait, G: Gate>(
     ensures goes { IfOk result (λ end. LaneGoes shared.now.config names.now (record_of pass)
         end.answers (record_of end.pass)) }
     ensures part { IfOk result (λ end. AddsBacked names.now end.answers (record_of pass)
+        (record_of end.pass)) }
+    ensures rises { IfOk result (λ end. LaneRises lane.n names.now end.answers (record_of pass)
         (record_of end.pass)) }
     ensures stopped { IfErr result (λ s. IsPassOf shared.now s.pass
         × ((record_of s.pass).pins ≡ []) × IsFront (map asked s.answers) lines.now) }

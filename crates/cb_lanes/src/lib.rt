@@ -8,7 +8,7 @@ pub mod body;
 mod caller;
 mod compacting;
 mod kept_pins;
-mod noting;
+pub mod noting;
 mod passing;
 mod resting;
 mod seat;
@@ -16,5 +16,6 @@ pub mod seq;
 pub mod side;
 
 pub use body::{LaneEnd, Named, Names, Stopped, lane_body};
+pub use noting::note_loss;
 pub use seq::{SeqEnd, run_lines};
 pub use side::Side;

@@ -61,8 +61,9 @@ fn note_answer(
     })
 }
 
-/// Adds the loss of an answered line, where it has one.
-fn note_loss(losses: &mut Vec<Loss>, request: &Request, reply: &Reply) -> Result<(), NoMemory>
+/// Adds the loss of an answered line behind those before it, where it has one: the node of a crash
+/// that took place, with its epoch.
+pub fn note_loss(losses: &mut Vec<Loss>, request: &Request, reply: &Reply) -> Result<(), NoMemory>
     ensures noted { IfOk result (λ done. losses.new.items ≡ losses.old.items ++ cons_option (loss_of request.now reply.now) []) }
 {
     if let Some(loss) = loss_of(request, reply) {

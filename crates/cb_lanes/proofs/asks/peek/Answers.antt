@@ -21,7 +21,7 @@ pub returns-in-Some-clause-peek : goal.returns-in-Some-clause-peek
 returns-in-Some-clause-peek c = shows_pin c.args.h.n c.in-Some.at _ c.as_slice-pins.result.now
     c.args.pins.now.items c.newest_pin.result c.args.pass.now.seat.me.0 c.requires.held
     c.in-Some.is c.as_slice-pins.ensures.value c.newest_pin.ensures.some
-    c.peek_at.new.pass.seat.me.0 c.peek_at.result c.peek_at.ensures.bytes
+    c.peek_at.new.pass.seat.me.0 c.peek_at.result c.peek_at.ensures.bytes c.peek_at.ensures.above
 
 pub returns-in-None-clause-peek : goal.returns-in-None-clause-peek
 returns-in-None-clause-peek c = inl (found_none c.args.h.n c.as_slice-pins.result.now

@@ -8,9 +8,10 @@ use Rattle.cb_lanes.proofs.asks.peek_at.Goals as goal
 pub loop-i-init : goal.loop-i-init
 loop-i-init c = let v = c.in_ok-vec.field-0 in
     let len : vec_len v ≡ length v.items = search rules in (
-      c.requires.of,
+      c.version-version.ensures.of,
       ap length c.from-room.ensures ∙ sym len ∙ c.in_ok-vec.ensures.len ∙ c.len-len.ensures,
-      λ words has. peeks_none (stand_of c.args.pin.now words) _ c.args.pass.now.seat.me.0,
+      λ words has. peeks_none (stand_of c.args.pin.now words) _ c.args.pass.now.seat.me.0
+          c.version-version.new.pass.seat.me.0 c.version-version.ensures.same,
     )
 
 pub peek-word-requires-clause-of : goal.peek-word-requires-clause-of
@@ -62,4 +63,7 @@ returns-clause-bytes c words has = peeks_all (stand_of c.args.pin.now words) c.l
       c.div_ceil-i-end.ensures,
       c.len-len.ensures,
     ))
-    c.version.ensures (c.loop-i.invariant.2 words has)
+    c.version-version.ensures.version (c.loop-i.invariant.2 words has)
+
+pub returns-clause-above : goal.returns-clause-above
+returns-clause-above c = c.version-version.ensures.newest

@@ -1,0 +1,5 @@
+-- What other crates may use of these proofs.
+pub use Rattle.cb_lanes.proofs.FreedLast.{freed_last}
+pub use Rattle.cb_lanes.proofs.LaneRises.{has_joined, has_split, has_taken_in}
+pub use Rattle.cb_lanes.proofs.LinesRise.{lane_on_record}
+pub use Rattle.cb_lanes.proofs.LinesSuit.{are_suited_both, are_suited_more, lane_suits}

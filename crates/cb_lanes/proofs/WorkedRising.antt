@@ -1,0 +1,226 @@
+-- Worked lines that rise: what a call tells of versions, and what lines may not be answered.
+use Rattle.std.proofs.Common.{◌≡◌, ℕ, ◌≤◌, Bool, true, false, List, [], ◌∷◌, None, Some, inl, inr, refl, sym, ap, ◌∙◌, arith, lit<, ⊎_elim}
+use Rattle.std.specs.Prelude.{if◌then◌else◌}
+use Rattle.std.specs.Str.{bytes_eq}
+use Rattle.cb_types.specs.declared.answer.Answer.{Answer}
+use Rattle.cb_types.specs.declared.config.Config.{Config}
+use Rattle.cb_types.specs.declared.handle.Handle.{Handle}
+use Rattle.cb_types.specs.declared.job.Job.{Job}
+use Rattle.cb_types.specs.declared.job.Job.TheVariants as job
+use Rattle.cb_types.specs.declared.request.Request.{Request}
+use Rattle.cb_types.specs.declared.request.Request.TheVariants.{Make, Read, Pin, Peek}
+use Rattle.cb_types.specs.declared.reply.Reply.{Reply}
+use Rattle.cb_types.specs.declared.reply.Reply.TheVariants as answer
+use Rattle.cb_ptr.specs.Word.{len_of}
+use Rattle.cb_world.specs.Memory.{bytes_in}
+use Rattle.cb_world.specs.declared.entry.Entry.{Entry}
+use Rattle.cb_world.specs.Written.{entry, gone}
+use Rattle.cb_rule.specs.declared.view.Stand.{Stand}
+use Rattle.cb_rule.specs.declared.view.View.{View}
+use Rattle.cb_rule.specs.Own.{IsAlone}
+use Rattle.cb_rule.specs.Steps.{blank, stand, with_look, with_pin}
+use Rattle.cb_model.specs.Called.{calls_behind, first_of}
+use Rattle.cb_record.specs.Parts.{Part, grown, nothing_more, sum}
+use Rattle.cb_record.specs.Rises.{HasVersion, RisesAlone}
+use Rattle.cb_shared.specs.Calls.{IsInVain}
+use Rattle.cb_shared.specs.Joining.{unpinned_all}
+use Rattle.cb_shared.specs.Reading.{read_once}
+use Rattle.cb_lanes.specs.declared.body.Named.{Named}
+use Rattle.cb_lanes.specs.Bodies.{AreNamesOf}
+use Rattle.cb_lanes.specs.LineGoes.{Calls, Peeks}
+use Rattle.cb_lanes.specs.Passing.{PeekGoes, PinGoes, peeks_of}
+use Rattle.cb_lanes.specs.Rising.{FreedIsLast, LaneRises}
+use Rattle.cb_lanes.proofs.LinesRise.{lane_rises}
+use Rattle.cb_lanes.proofs.LineVersions.{bytes_version}
+use Rattle.cb_lanes.proofs.TellingNew.{IsAbove, TellsNew}
+use Rattle.cb_lanes.proofs.WorkedPassing.{two}
+
+abbrev a : List ℕ
+a = 97 ∷ []
+
+abbrev of : ℕ → Handle
+of h = record { n = h }
+
+abbrev told : Request → Reply → Answer
+told request reply = record { lane = record { n = 1 }; line = 2; request = request; reply = reply }
+
+-- the pointer word of an object of 8 bytes at place 5, Here; made at version 3, by a pass with a part
+-- of the share
+abbrev calm : ℕ
+calm = 2684420098
+
+abbrev part : View
+part = record (blank two) { share = 40; written = entry 1 3 8 [] (2826 ∷ []) ∷ [] }
+
+-- ---- a version that the record does not have
+has_third : HasVersion part 1 3 false
+has_third = inl (entry 1 3 8 [] (2826 ∷ []), inl refl, refl, refl, refl)
+
+not_above : IsAbove part 1 3 → ⊥
+not_above x = let less = x 3 false has_third in omega (arith, less)
+
+writes_no_new : TellsNew (Calls (job.Write (of 1) 0 [])) part (answer.Version 3) → ⊥
+writes_no_new x = not_above x
+
+frees_no_new : TellsNew (Calls (job.Free (of 1))) part (answer.Version 3) → ⊥
+frees_no_new x = not_above x
+
+makes_no_new : TellsNew (Calls (job.Make [])) part (answer.Made (of 1) 3) → ⊥
+makes_no_new x = not_above x
+
+peeks_less : TellsNew (Peeks 1) part (answer.Bytes 2 []) → ⊥
+peeks_less x = let low = x 3 false has_third in omega (arith, low)
+
+-- ---- a version behind the freed one
+abbrev ended : View
+ended = record (blank two) { written = gone 1 4 [] ∷ entry 1 3 8 [] [] ∷ [] }
+
+is_ended : FreedIsLast ended
+is_ended h last n freed gone has = (omega (arith, up gone, low has), λ same. end has (same ∙ up gone))
+  where
+    up : HasVersion ended h last true → last ≡ 4
+    up (inl (e, inl is, handle, number, held)) = sym (ap (λ (x : Entry). x.version) is ∙ number)
+    up (inl (e, inr (inl is), handle, number, held)) =
+        absurd (let z : false ≡ true = ap (λ (x : Entry). x.freed) is ∙ held in cc)
+    up (inl (e, inr (inr none), handle, number, held)) = absurd none
+    up (inr (s, none, handle, number, held)) = absurd none
+
+    low : HasVersion ended h n freed → n ≤ 4
+    low (inl (e, inl is, handle, number, held)) =
+        let z : 4 ≡ n = ap (λ (x : Entry). x.version) is ∙ number in omega (arith, z)
+    low (inl (e, inr (inl is), handle, number, held)) =
+        let z : 3 ≡ n = ap (λ (x : Entry). x.version) is ∙ number in omega (arith, z)
+    low (inl (e, inr (inr none), handle, number, held)) = absurd none
+    low (inr (s, none, handle, number, held)) = absurd none
+
+    end : HasVersion ended h n freed → n ≡ 4 → freed ≡ true
+    end (inl (e, inl is, handle, number, held)) four = sym (ap (λ (x : Entry). x.freed) is ∙ held)
+    end (inl (e, inr (inl is), handle, number, held)) four =
+        let z : 3 ≡ n = ap (λ (x : Entry). x.version) is ∙ number in absurd (omega (arith, z, four))
+    end (inl (e, inr (inr none), handle, number, held)) four = absurd none
+    end (inr (s, none, handle, number, held)) four = absurd none
+
+freed_once : FreedIsLast (record (blank two) { written = entry 1 3 8 [] [] ∷ gone 1 2 [] ∷ [] }) → ⊥
+freed_once x =
+    let low = (x 1 2 3 false (inl (gone 1 2 [], inr (inl refl), refl, refl, refl))
+    (inl (entry 1 3 8 [] [], inl refl, refl, refl, refl))).0 in omega (arith, low)
+
+freed_and_held : FreedIsLast (record (blank two) { written = entry 1 3 8 [] [] ∷ gone 1 3 [] ∷ [] }) → ⊥
+freed_and_held x =
+    let same : false ≡ true = (x 1 3 3 false (inl (gone 1 3 [], inr (inl refl), refl, refl, refl))
+    (inl (entry 1 3 8 [] [], inl refl, refl, refl, refl))).1 refl in cc
+
+-- ---- a pin at version 3, a read of version 4 under it, and a peek of version 3
+abbrev first_pin : View
+first_pin = with_pin 1 calm 3 (2826 ∷ []) (with_look 1 calm part)
+
+no_tries : (h : ℕ) (j : Job) → IsInVain (λ k. k ≡ h) j nothing_more
+no_tries h j = record { looks = []; turns = []; at = tt; of = tt; idle = tt; part = refl }
+
+shared : IsAlone 1 part → ⊥
+shared l = ⊎_elim (λ (e : 40 ≡ 64). omega (arith, e)) (λ (n : ⊥). n) l
+
+pins : PinGoes two 1 part (answer.Version 3) first_pin
+pins = (
+  lit< tt,
+  record {
+    between = part;
+    in_vain = (nothing_more, no_tries 1 _, refl);
+    ends_so = record {
+      word = calm;
+      words = 2826 ∷ [];
+      here = refl;
+      newest = record {
+        written = ((λ _. omega arith), tt);
+        seen = tt;
+        lone = λ l. absurd (shared l);
+      };
+      left = refl;
+    };
+  },
+)
+
+abbrev seven : List ℕ
+seven = bytes_in (7 ∷ []) (len_of calm)
+
+abbrev then_read : View
+then_read = grown (sum nothing_more (read_once 1 calm 4 (7 ∷ []))) first_pin
+
+abbrev the_pin : Stand
+the_pin = stand 1 8 5 3 (2826 ∷ [])
+
+-- the pin is below what was read, so it can't be shown
+peeks_less_than_read : (w : View) → PeekGoes 1 then_read (answer.Bytes 3 (bytes_in (2826 ∷ []) 8)) w → ⊥
+peeks_less_than_read w (inl x) = absurd (let e = x.told in cc)
+peeks_less_than_read w (inr x) = let low = x.above.seen.0 refl in
+    let is : 3 ≡ x.pin.version = ap bytes_version x.peeks.told in omega (arith, low, is)
+
+-- ---- a pin at version 3, and a peek of it
+abbrev then_peeked : View
+then_peeked = record first_pin { peeked = peeks_of the_pin 1 }
+
+peeks : PeekGoes 1 first_pin (answer.Bytes 3 (bytes_in (2826 ∷ []) 8)) then_peeked
+peeks = inr (record {
+  pin = the_pin;
+  newest = inl (refl, refl);
+  above = record {
+    written = ((λ _. omega arith), tt);
+    seen = ((λ _. omega arith), tt);
+    lone = λ l. absurd (shared l);
+  };
+  peeks = record { told = refl; left = refl };
+})
+
+abbrev names : List Named
+names = record { name = a; handle = Some (of 1) } ∷ []
+
+abbrev lines : List Answer
+lines = told (Pin a) (answer.Version 3) ∷ told (Peek a) (answer.Bytes 3 (bytes_in (2826 ∷ []) 8)) ∷ []
+
+abbrev at_end : View
+at_end = unpinned_all then_peeked
+
+rising : LaneRises 1 names lines part at_end
+rising all more is_last given called = record {
+  own = (refl, (refl, tt));
+  rises = lane_rises two names lines part then_peeked all refl
+      (first_pin, pins, (then_peeked, peeks, refl)) more is_last given called;
+}
+
+-- ---- and what would not rise: lines of another lane, a version below one that the record had, and one
+-- below one that was told before
+abbrev made_it : List Answer
+made_it = told (Make a []) (answer.Made (of 1) 3) ∷ []
+
+is_made : AreNamesOf names made_it
+is_made name = by (bytes_eq a name)
+  where
+    by : (b : Bool) → first_of None (if b then Some 1 else None) ≡ first_of None (if b then Some 1 else None)
+    by b = refl
+
+none_has : (h n : ℕ) (freed : Bool) → HasVersion (blank two) h n freed → ⊥
+none_has h n freed (inl x) = x.1
+none_has h n freed (inr x) = x.1
+
+-- in a record that has nothing each freed version is the last
+falls_alone : (lane : ℕ) (answers : List Answer) (v : View) → LaneRises lane names answers v (blank two)
+    → RisesAlone (record { number = lane; start = v; calls = calls_behind made_it answers })
+falls_alone lane answers v rises = rises (blank two) (λ h n freed has. has)
+    (λ h last n freed gone has. absurd (none_has h last true gone)) made_it is_made
+
+of_another_lane : LaneRises 2 names lines part (blank two) → ⊥
+of_another_lane x = let e = (falls_alone 2 lines part x).own.0 in omega (arith, e)
+
+abbrev less : List Answer
+less = told (Pin a) (answer.Version 2) ∷ []
+
+below_the_record : LaneRises 1 names less part (blank two) → ⊥
+below_the_record x = let low = (falls_alone 1 less part x).rises.behind.0 1 3 false refl has_third in
+    omega (arith, low)
+
+abbrev falling : List Answer
+falling = told (Pin a) (answer.Version 4) ∷ told (Pin a) (answer.Version 3) ∷ []
+
+below_the_last : LaneRises 1 names falling (blank two) (blank two) → ⊥
+below_the_last x = let low = (falls_alone 1 falling (blank two) x).rises.rising.0.0 1 (inl refl) refl refl 4 refl in
+    omega (arith, low)
