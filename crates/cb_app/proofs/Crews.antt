@@ -10,11 +10,14 @@ use Rattle.cb_types.specs.declared.answer.Answer.{Answer}
 use Rattle.cb_types.specs.declared.handle.Lane.{Lane as Lane'}
 use Rattle.cb_script.specs.declared.script.Line.{Line}
 use Rattle.cb_script.specs.Form.{AreLines}
+use Rattle.cb_rule.specs.declared.view.Seen.{Seen}
 use Rattle.cb_rule.specs.declared.view.View.{View}
+use Rattle.cb_rule.specs.Lists.{total}
 use Rattle.cb_rule.specs.Steps.{joined, left_of, right_of}
 use Rattle.cb_record.specs.Backs.{Backs}
 use Rattle.cb_record.specs.Told.{Told, tolds}
-use Rattle.cb_record.proofs.Laws.{backs_sum, tolds-append}
+use Rattle.cb_record.specs.Rises.{HasAllOf}
+use Rattle.cb_record.proofs.Laws.{backs_sum, has_left, has_right, tolds-append}
 use Rattle.cb_shared.specs.declared.pass.Pass.{Pass}
 use Rattle.cb_shared.specs.declared.runtime.Shared.{Shared}
 use Rattle.cb_shared.specs.Joining.{unpinned_all}
@@ -23,16 +26,20 @@ use Rattle.cb_lanes.specs.declared.body.LaneEnd.{LaneEnd}
 use Rattle.cb_lanes.specs.declared.body.Named.{Named}
 use Rattle.cb_lanes.specs.Asked.{HasLineReply, asked}
 use Rattle.cb_lanes.specs.Bodies.{AreLinesOf, KnowsNames}
+use Rattle.cb_lanes.specs.Suits.{AreSuited}
+use Rattle.cb_lanes.proofs.Laws.{are_suited_both, are_suited_more, has_split}
 use Rattle.cb_workers.specs.declared.worker.Worker.{Worker as Worker'}
-use Rattle.cb_app.specs.ByLane.{AreApart, IsApart, by_lane, flat, lanes_up_to, of_lane}
-use Rattle.cb_app.specs.Crew.{BodyIsReady, IsDealt, IsFresh, IsDealtOne, IsEnded, IsReady, IsTold, TakesIn, lines_due, lines_in, lines_left, part_of}
+use Rattle.cb_app.specs.ByLane.{AreApart, AreOfOthers, IsApart, by_lane, flat, lanes_up_to, of_lane}
+use Rattle.cb_app.specs.Crew.{AllMade, AreMade, BodyIsReady, IsDealt, IsFresh, IsDealtOne, IsEnded, IsReady, IsTold, RiseWith, TakesIn, lines_due, lines_in, lines_left, part_of, turns_due, work_in}
 use Rattle.cb_app.specs.declared.crew.Body.{Body}
 use Rattle.cb_app.specs.declared.crew.Body.TheVariants.{Lane, Worker}
 use Rattle.cb_app.specs.declared.crew.Ended.{Ended}
 use Rattle.cb_app.specs.declared.crew.Task.{Task}
-use Rattle.cb_app.proofs.Lanes.{apart-push, flat-push, lane_is_apart, no_lines_apart}
+use Rattle.cb_app.proofs.AnswersRise.{rise_joined}
+use Rattle.cb_app.proofs.Lanes.{apart-push, flat-push, lane_is_apart, lane_is_of_others, no_lines_apart, no_lines_of_others}
 use Rattle.cb_app.proofs.Records.{right_fresh, right_knows_names}
 use Rattle.cb_app.proofs.ToldApart.{tolds_apart}
+use Rattle.cb_app.proofs.WorkDone.{AreOwed, owed_from, owed_more, owed_none}
 
 -- ---- what one thread left is taken in
 
@@ -41,18 +48,29 @@ replies_both : (xs ys : List Answer) → AllByRecursion HasLineReply xs
 replies_both [] ys a b = b
 replies_both (x ∷ xs) ys a b = (a.0, replies_both xs ys a.1 b)
 
+-- what suits the one record or the other suits both together
+both_suit : (xs ys : List Seen) (ts us : List Told) → AreSuited xs ts → AreSuited ys us
+    → AreSuited (ys ++ xs) (ts ++ us)
+both_suit xs ys ts us a b = are_suited_both (ys ++ xs) ts us
+    (are_suited_more xs (ys ++ xs) ts (λ s there. has_right s ys xs there) a)
+    (are_suited_more ys (ys ++ xs) us (λ s there. has_left s ys xs there) b)
+
 -- the answers and the record of both
 pub taken_in : (s : Shared) (given others : List Answer) (lines : List Line) (a e b : LaneEnd)
     → a.answers ≡ given ++ others
     → IsTold s [] (map asked a.answers) a → IsTold s given lines e
-    → IsApart (map asked others) lines
+    → IsApart (map asked others) lines → AreOfOthers (map asked others) lines
     → IsPassOf s b.pass
     → record_of b.pass ≡ joined (record_of a.pass) (unpinned_all (record_of e.pass))
     → b.answers ≡ a.answers ++ e.answers → TakesIn s given others lines b
-taken_in s given others lines a e b are told ended apart of pass answers =
+taken_in s given others lines a e b are told ended apart none of pass answers =
     let behind : tolds a.answers e.answers ≡ tolds given e.answers =
     ap (λ (xs : List Answer). tolds xs e.answers) are
     ∙ tolds_apart given others e.answers (subst (IsApart (map asked others)) (sym ended.lines_are) apart) in
+    let both : RiseWith (joined (record_of a.pass) (unpinned_all (record_of e.pass))) [] (a.answers ++ e.answers) =
+    rise_joined (record_of a.pass) (record_of e.pass) given others e.answers a.answers are
+    (subst (IsApart (map asked others)) (sym ended.lines_are) apart)
+    (subst (AreOfOthers (map asked others)) (sym ended.lines_are) none) told.rises ended.rises in
     let all : tolds [] a.answers ++ tolds given e.answers ≡ tolds [] b.answers =
     ap (λ (ts : List Told). tolds [] a.answers ++ ts) (sym behind)
     ∙ sym (tolds-append [] a.answers e.answers)
@@ -70,6 +88,12 @@ taken_in s given others lines a e b are told ended apart of pass answers =
             (subst (Backs (part_of (joined (record_of a.pass) (unpinned_all (record_of e.pass))))) all
             (backs_sum (part_of (record_of a.pass)) (part_of (record_of e.pass)) (tolds [] a.answers)
             (tolds given e.answers) told.backs ended.backs));
+        suits = subst (λ (v : View). AreSuited v.seen (tolds [] b.answers)) (sym pass)
+            (subst (AreSuited (joined (record_of a.pass) (unpinned_all (record_of e.pass))).seen) all
+            (both_suit (record_of a.pass).seen (record_of e.pass).seen (tolds [] a.answers)
+            (tolds given e.answers) told.suits ended.suits));
+        rises = subst (λ (v : View). RiseWith v [] b.answers) (sym pass)
+            (subst (RiseWith (joined (record_of a.pass) (unpinned_all (record_of e.pass))) []) (sym answers) both);
       };
     }
 
@@ -84,6 +108,8 @@ pub record IsTaking (s : Shared) (given : List Answer) (all left : List Ended) (
   pub ended : All (IsEnded s given) left
   pub apart : AreApart (map asked others) (map lines_left left)
   pub lines : map asked others ++ flat (map lines_left left) ≡ flat (map lines_left all)
+  pub work : (w : Worker') (tasks : List Task) → AllMade w tasks all
+      → AreOwed w tasks left (record_of first.pass)
 
 pub taking_from : (s : Shared) (all : List Ended) (first : LaneEnd)
     → IsTold s [] (map asked first.answers) first → All (IsEnded s first.answers) all
@@ -95,13 +121,15 @@ taking_from s all first told ended apart = record {
   ended = ended;
   apart = apart;
   lines = refl;
+  work = λ w tasks made. owed_from w tasks all (record_of first.pass) made;
 }
 
 pub taking_more : (s : Shared) (given : List Answer) (all left : List Ended) (e : Ended) (later : List Ended)
     (first next : LaneEnd) → (t : IsTaking s given all left first) → left ≡ e ∷ later
     → TakesIn s given t.others e.lines next → All (IsEnded s given) later
-    → IsTaking s given all later next
-taking_more s given all left e later first next t is takes ended =
+    → ((w : Worker') (k : Task) → AreMade w k e → work_in w (record_of first.pass) + turns_due w k
+    ≤ work_in w (record_of next.pass)) → IsTaking s given all later next
+taking_more s given all left e later first next t is takes ended work =
     let both : map asked (t.others ++ takes.more) ≡ map asked t.others ++ e.lines =
     map-append asked t.others takes.more ∙ ap (λ (ls : List Line). map asked t.others ++ ls) takes.lines_are in
     let apart : AreApart (map asked t.others) (map lines_left (e ∷ later)) =
@@ -111,10 +139,12 @@ taking_more s given all left e later first next t is takes ended =
       answers = takes.answers;
       told = takes.told;
       ended = ended;
-      apart = subst (λ (ls : List Line). AreApart ls (map lines_left later)) (sym both) apart.1;
+      apart = subst (λ (ls : List Line). AreApart ls (map lines_left later)) (sym both) apart.2;
       lines = ap (λ (ls : List Line). ls ++ flat (map lines_left later)) both
           ∙ append_assoc (map asked t.others) e.lines (flat (map lines_left later))
           ∙ ap (λ (es : List Ended). map asked t.others ++ flat (map lines_left es)) (sym is) ∙ t.lines;
+      work = λ w tasks made. owed_more w tasks left e later (record_of first.pass) (record_of next.pass) is
+          (t.work w tasks made) (work w);
     }
 
 pub taking_all : (s : Shared) (given : List Answer) (all left : List Ended) (first : LaneEnd)
@@ -128,6 +158,13 @@ taking_all s given all left first t none =
     ap (map asked) t.answers ∙ map-append asked given t.others
     ∙ ap (λ (ls : List Line). map asked given ++ ls) others in
     subst (λ (ls : List Line). IsTold s [] ls first) lines t.told
+
+-- and of the turns that the workers owe all are there
+pub taken_work : (s : Shared) (given : List Answer) (all left : List Ended) (first : LaneEnd)
+    → IsTaking s given all left first → left ≡ [] → (w : Worker') (tasks : List Task)
+    → AllMade w tasks all → total (turns_due w) tasks ≤ work_in w (record_of first.pass)
+taken_work s given all left first t none w tasks made =
+    owed_none w tasks left (record_of first.pass) none (t.work w tasks made)
 
 -- ---- tasks
 
@@ -152,6 +189,7 @@ dealt_none s lines p of whole = record {
   share = (record_of p).share;
   own = (record_of p).own;
   left = refl;
+  starts = All-nil (λ (t : Task). HasAllOf (record_of p) (record_of t.pass));
   ready = λ names known are. All-nil (IsReady s names);
   lines_are = refl;
   apart = λ are. tt;
@@ -167,6 +205,7 @@ dealt_over s lines n m v tasks p d none = record {
   share = d.share;
   own = d.own;
   left = d.left;
+  starts = d.starts;
   ready = d.ready;
   lines_are = d.lines_are ∙ sym (append-nil (lanes_up_to n lines))
       ∙ ap (λ (ls : List Line). lanes_up_to n lines ++ ls) (sym none);
@@ -209,26 +248,32 @@ module _ (s : Shared) (lines : List Line) (n m : ℕ) (v : View) (tasks new : Li
       ∙ ap (λ (ls : List Line). ls ++ lines_in body) d.lines_are
 
   apart_so : AreLines s.config.nodes [] lines → IsApart (lanes_up_to n lines) (lines_in body)
-      → AreApart [] (map lines_due new)
-  apart_so are is = subst (AreApart []) (sym due_so) (apart-push [] (map lines_due tasks) (lines_in body)
-      (d.apart are) (subst (λ (ls : List Line). IsApart ls (lines_in body)) (sym d.lines_are) is))
+      → AreOfOthers (lanes_up_to n lines) (lines_in body) → AreApart [] (map lines_due new)
+  apart_so are is others = subst (AreApart []) (sym due_so) (apart-push [] (map lines_due tasks) (lines_in body)
+      (d.apart are) (subst (λ (ls : List Line). IsApart ls (lines_in body)) (sym d.lines_are) is)
+      (subst (λ (ls : List Line). AreOfOthers ls (lines_in body)) (sym d.lines_are) others))
+
+  start_so : HasAllOf v (record_of one.task.pass)
+  start_so = subst (HasAllOf v) (sym right_so) (has_split 1 (rest v d.share d.own))
 
   dealt_as : (k : ℕ) → lanes_up_to n lines ++ lines_in body ≡ lanes_up_to k lines
       → ((names : List Named) → KnowsNames v names → AreLines s.config.nodes [] lines
       → BodyIsReady s.config.nodes names (right_of 1 (rest v d.share d.own)) body)
       → (AreLines s.config.nodes [] lines → IsApart (lanes_up_to n lines) (lines_in body))
-      → IsDealt s lines k (suc m) v new q
-  dealt_as k lanes ready apart = record {
+      → AreOfOthers (lanes_up_to n lines) (lines_in body) → IsDealt s lines k (suc m) v new q
+  dealt_as k lanes ready apart others = record {
     of = of;
     most = most_so;
     share = (record_of p).share - 1;
     own = [];
     left = left_so;
+    starts = subst (All (λ (t : Task). HasAllOf v (record_of t.pass))) (sym one.tasks)
+        (All-push (λ (t : Task). HasAllOf v (record_of t.pass)) tasks one.task d.starts start_so);
     ready = λ names known are. subst (All (IsReady s names)) (sym one.tasks)
         (All-push (IsReady s names) tasks one.task (d.ready names known are)
         (task_ready names known (ready names known are)));
     lines_are = flat_so ∙ lanes;
-    apart = λ are. apart_so are (apart are);
+    apart = λ are. apart_so are (apart are) others;
   }
 
 next : (n : ℕ) → n + 1 ≡ suc n
@@ -249,7 +294,8 @@ dealt_lane_so s lines n m v tasks new p q lane own d one of left enough at is =
           (subst (AreLinesOf s.config.nodes (suc n)) (sym is) (of_lane_lines s.config.nodes (suc n) [] lines are)),
       right_knows_names names 1 (rest v d.share d.own) known,
     ))
-    (λ are. subst (IsApart (lanes_up_to n lines)) (sym is) (lane_is_apart s.config.nodes n lines are))))
+    (λ are. subst (IsApart (lanes_up_to n lines)) (sym is) (lane_is_apart s.config.nodes n lines are))
+    (subst (AreOfOthers (lanes_up_to n lines)) (sym is) (lane_is_of_others n lines))))
 
 -- the task of the next lane
 pub dealt_lane : (s : Shared) (lines : List Line) (n m : ℕ) (v : View) (tasks new : List Task)
@@ -271,7 +317,7 @@ dealt_worker s lines n m v tasks new p q worker turns d one of left enough =
     subst (λ (k : ℕ). IsDealt s lines n k v new q) (sym (next m))
     (dealt_as s lines n m v tasks new p q (Worker worker turns) d one of left enough n
     (append-nil (lanes_up_to n lines)) (λ names known are. tt)
-    (λ are. no_lines_apart (lanes_up_to n lines)))
+    (λ are. no_lines_apart (lanes_up_to n lines)) (no_lines_of_others (lanes_up_to n lines)))
 
 -- ---- all together
 
@@ -299,6 +345,10 @@ told_left s given lines a b share own told same of left = record {
   replies = subst (AllByRecursion HasLineReply) (sym same) told.replies;
   backs = subst (λ (v : View). Backs (part_of v) (tolds given b.answers)) (sym left)
       (subst (λ (xs : List Answer). Backs (part_of (record_of a.pass)) (tolds given xs)) (sym same) told.backs);
+  suits = subst (λ (v : View). AreSuited v.seen (tolds given b.answers)) (sym left)
+      (subst (λ (xs : List Answer). AreSuited (record_of a.pass).seen (tolds given xs)) (sym same) told.suits);
+  rises = subst (λ (v : View). RiseWith v given b.answers) (sym left)
+      (subst (RiseWith (record_of a.pass) given) (sym same) told.rises);
 }
 
 pub told_again : (s : Shared) (given : List Answer) (lines : List Line) (e : LaneEnd)
@@ -350,3 +400,11 @@ first_apart s given all left e later first t is =
     let apart : AreApart (map asked t.others) (map lines_left (e ∷ later)) =
     subst (λ (es : List Ended). AreApart (map asked t.others) (map lines_left es)) is t.apart in
     apart.0
+
+pub first_of_others : (s : Shared) (given : List Answer) (all left : List Ended) (e : Ended)
+    (later : List Ended) (first : LaneEnd) → (t : IsTaking s given all left first) → left ≡ e ∷ later
+    → AreOfOthers (map asked t.others) e.lines
+first_of_others s given all left e later first t is =
+    let apart : AreApart (map asked t.others) (map lines_left (e ∷ later)) =
+    subst (λ (es : List Ended). AreApart (map asked t.others) (map lines_left es)) is t.apart in
+    apart.1

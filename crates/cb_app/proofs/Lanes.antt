@@ -1,6 +1,7 @@
 -- The lines of a lane, and that a name that one lane made and uses was made by no other.
 use Rattle.std.proofs.Common.{◌≡◌, ℕ, zero, suc, ◌+◌, ◌<◌, ◌≤◌, Bool, cond, List, [], ◌∷◌, ◌++◌, length, get_or, take, ◌⊎◌, inl, inr, true, sym, ap, ◌∙◌, subst, append_assoc, arith}
 use Rattle.std.specs.Prelude.{nat_eq}
+use Rattle.std.specs.List.{AllByRecursion}
 use Rattle.std.proofs.lemmas.Bool.{cases_Bool}
 use Rattle.std.proofs.lemmas.List.{append-nil}
 use Rattle.std.proofs.lemmas.List.Elements.{filter_more}
@@ -9,7 +10,8 @@ use Rattle.cb_types.specs.declared.request.Request.TheVariants.{Make, Read, Writ
 use Rattle.cb_script.specs.declared.script.Line.{Line}
 use Rattle.cb_script.specs.Form.{AreLines, IsKnown, IsMade, IsNew, KnowsName, Makes, MayFollow}
 use Rattle.cb_script.proofs.PublicLaws.{made_cases}
-use Rattle.cb_app.specs.ByLane.{AreApart, IsApart, IsUsed, Uses, flat, lanes_up_to, of_lane}
+use Rattle.cb_model.specs.Legal.{WasTold}
+use Rattle.cb_app.specs.ByLane.{AreApart, AreOfOthers, IsApart, IsUsed, Uses, flat, lanes_up_to, of_lane}
 
 -- ---- lists of lines, one behind the other
 
@@ -153,6 +155,60 @@ lane_is_apart nodes n lines are name used lane made =
 pub no_lines_apart : (before : List Line) → IsApart before []
 no_lines_apart before name used lane made = absurd used
 
+-- ---- nor was the lane told what those lanes were answered
+
+all_lines : (P Q : Line → Type 0) (lines : List Line) → ((l : Line) → P l → Q l)
+    → AllByRecursion P lines → AllByRecursion Q lines
+all_lines P Q [] f all = tt
+all_lines P Q (l ∷ lines) f all = (f l all.0, all_lines P Q lines f all.1)
+
+lines_both : (P : Line → Type 0) (xs ys : List Line) → AllByRecursion P xs → AllByRecursion P ys
+    → AllByRecursion P (xs ++ ys)
+lines_both P [] ys a b = b
+lines_both P (x ∷ xs) ys a b = (a.0, lines_both P xs ys a.1 b)
+
+abbrev IsOf : ℕ → Line → Type 0
+IsOf n l = l.lane.n ≡ n
+
+abbrev IsUpTo : ℕ → Line → Type 0
+IsUpTo n l = (1 ≤ l.lane.n) × (l.lane.n ≤ n)
+
+of_lane_own : (n : ℕ) (lines : List Line) → AllByRecursion (IsOf n) (of_lane n lines)
+of_lane_own n [] = tt
+of_lane_own n (l ∷ lines) = elim (cases_Bool (nat_eq l.lane.n n)) [
+  | inl same ↦ let at = one_lane n l same in let later = of_lane_own n lines in rw same (at, later)
+  | inr other ↦ let later = of_lane_own n lines in rw other later
+]
+
+own_up_to : (n : ℕ) (l : Line) → IsOf (suc n) l → IsUpTo (suc n) l
+own_up_to n l is = (omega (arith, is), omega (arith, is))
+
+up_to_more : (n : ℕ) (l : Line) → IsUpTo n l → IsUpTo (suc n) l
+up_to_more n l is = let below = is.1 in (is.0, omega (arith, below))
+
+lanes_low : (n : ℕ) (lines : List Line) → AllByRecursion (IsUpTo n) (lanes_up_to n lines)
+lanes_low zero lines = tt
+lanes_low (suc n) lines = lines_both (IsUpTo (suc n)) (lanes_up_to n lines) (of_lane (suc n) lines)
+    (all_lines (IsUpTo n) (IsUpTo (suc n)) (lanes_up_to n lines) (up_to_more n) (lanes_low n lines))
+    (all_lines (IsOf (suc n)) (IsUpTo (suc n)) (of_lane (suc n) lines) (own_up_to n)
+    (of_lane_own (suc n) lines))
+
+not_told : (n : ℕ) (b l : Line) → IsUpTo n b → IsOf (suc n) l → WasTold b.lane.n l.lane.n → ⊥
+not_told n b l low own (inl same) = let below = low.1 in omega (arith, below, own, same)
+not_told n b l low own (inr first) = let above = low.0 in omega (arith, above, first)
+
+pub lane_is_of_others : (n : ℕ) (lines : List Line)
+    → AreOfOthers (lanes_up_to n lines) (of_lane (suc n) lines)
+lane_is_of_others n lines = all_lines (IsUpTo n)
+    (λ b. AllByRecursion (λ (l : Line). WasTold b.lane.n l.lane.n → ⊥) (of_lane (suc n) lines))
+    (lanes_up_to n lines)
+    (λ b low. all_lines (IsOf (suc n)) (λ l. WasTold b.lane.n l.lane.n → ⊥) (of_lane (suc n) lines)
+    (λ l own. not_told n b l low own) (of_lane_own (suc n) lines)) (lanes_low n lines)
+
+pub no_lines_of_others : (before : List Line) → AreOfOthers before []
+no_lines_of_others [] = tt
+no_lines_of_others (b ∷ before) = (tt, no_lines_of_others before)
+
 -- ---- one list of lines more
 
 pub flat-push : (lists : List (List Line)) (xs : List Line) → flat (lists ++ xs ∷ []) ≡ flat lists ++ xs
@@ -161,10 +217,17 @@ flat-push (ys ∷ lists) xs =
     ap (λ (zs : List Line). ys ++ zs) (flat-push lists xs) ∙ sym (append_assoc ys (flat lists) xs)
 
 pub apart-push : (before : List Line) (lists : List (List Line)) (xs : List Line) → AreApart before lists
-    → IsApart (before ++ flat lists) xs → AreApart before (lists ++ xs ∷ [])
-apart-push before [] xs are is = (subst (λ (ls : List Line). IsApart ls xs) (append-nil before) is, tt)
-apart-push before (ys ∷ lists) xs are is = (
+    → IsApart (before ++ flat lists) xs → AreOfOthers (before ++ flat lists) xs
+    → AreApart before (lists ++ xs ∷ [])
+apart-push before [] xs are is others = (
+  subst (λ (ls : List Line). IsApart ls xs) (append-nil before) is,
+  subst (λ (ls : List Line). AreOfOthers ls xs) (append-nil before) others,
+  tt,
+)
+apart-push before (ys ∷ lists) xs are is others = (
   are.0,
-  apart-push (before ++ ys) lists xs are.1
-      (subst (λ (ls : List Line). IsApart ls xs) (sym (append_assoc before ys (flat lists))) is),
+  are.1,
+  apart-push (before ++ ys) lists xs are.2
+      (subst (λ (ls : List Line). IsApart ls xs) (sym (append_assoc before ys (flat lists))) is)
+      (subst (λ (ls : List Line). AreOfOthers ls xs) (sym (append_assoc before ys (flat lists))) others),
 )

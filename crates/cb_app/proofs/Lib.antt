@@ -8,8 +8,26 @@ pub mod WorkedSchedules
 pub mod WorkedThreaded
 mod Lanes
 mod ToldApart
+mod AnswersRise
 mod Records
+mod WorkDone
 mod Crews
 mod WorkedLanes
 mod WorkedThreads
 mod WorkedRun
+mod PlainReplies
+mod TurnGoes
+mod TurnStops
+mod TurnKinds
+mod TurnHistory
+mod CountedTurns
+mod WorkCounted
+mod EpochsTold
+mod CrashesTold
+mod AnswersTold
+mod MadeStays
+mod MadeTurns
+mod RangeTold
+mod UpheldTold
+mod Ran
+mod WorkedTelling

@@ -28,8 +28,11 @@ use Rattle.cb_record.specs.Parts.{Part, grown}
 use Rattle.cb_record.specs.Told.{Told, tolds}
 use Rattle.cb_record.proofs.Laws.{backs_sum, idle_backs}
 use Rattle.cb_lanes.specs.declared.body.Named.{Named}
-use Rattle.cb_lanes.specs.Bodies.{AddsBacked, AreNamesOf, KnowsHandle, KnowsNames, handle_among}
+use Rattle.cb_lanes.specs.Bodies.{AddsBacked, AreNamesOf, KnowsHandle, KnowsNames, LaneGoes, handle_among}
 use Rattle.cb_lanes.specs.Lost.{loss_of, losses_of}
+use Rattle.cb_lanes.specs.Rising.{LaneRises}
+use Rattle.cb_lanes.specs.Suits.{AreSuited}
+use Rattle.cb_lanes.proofs.Laws.{lane_suits}
 use Rattle.cb_workers.specs.Bodies.{IsWorked, Works}
 use Rattle.cb_workers.specs.Rules.{owner}
 use Rattle.cb_workers.specs.Work.{AreOf}
@@ -41,7 +44,8 @@ use Rattle.cb_shared.specs.Passes.{IsPassOf, record_of}
 use Rattle.cb_script.specs.declared.script.Line.{Line}
 use Rattle.cb_lanes.specs.declared.body.LaneEnd.{LaneEnd}
 use Rattle.cb_lanes.specs.Asked.{HasLineReply, asked}
-use Rattle.cb_app.specs.Crew.{IsFresh, IsTold, name_made, names_in, part_of}
+use Rattle.cb_app.specs.Crew.{AreKnownTo, IsFresh, IsTold, name_made, names_in, part_of}
+use Rattle.cb_app.proofs.AnswersRise.{lane_rise, none_rise}
 
 -- ---- a pass that was split off
 
@@ -136,6 +140,8 @@ worker_told s w turns p q given answers fresh works none =
       lines_are = ap (map asked) none;
       replies = subst (AllByRecursion HasLineReply) (sym none) tt;
       backs = subst (λ (xs : List Answer). Backs (part_of (record_of q)) (tolds given xs)) (sym none) backs;
+      suits = subst (λ (xs : List Answer). AreSuited (record_of q).seen (tolds given xs)) (sym none) tt;
+      rises = none_rise (record_of q) given answers none;
     }
 
 -- ---- the record knows what was made
@@ -189,16 +195,21 @@ told_known written before (a ∷ after) v (own, rest, is, enters, later) all =
     (λ e has. all e (subst (Has e) (sym is) (has_front e rest own has))))
 
 -- what a lane leaves that began with a new pass
-pub lane_told : (s : Shared) (names : List Named) (v : View) (lines : List Line) (e : LaneEnd)
-    → IsFresh v → IsPassOf s e.pass → map asked e.answers ≡ lines
+pub lane_told : (s : Shared) (lane : ℕ) (names : List Named) (v : View) (lines : List Line) (e : LaneEnd)
+    → IsFresh v → KnowsNames v names → IsPassOf s e.pass → map asked e.answers ≡ lines
     → AllByRecursion HasLineReply e.answers → AddsBacked names e.answers v (record_of e.pass)
-    → (given : List Answer) → AreNamesOf names given → IsTold s given lines e
-lane_told s names v lines e fresh of are replies adds given named = record {
+    → LaneGoes s.config names v e.answers (record_of e.pass)
+    → LaneRises lane names e.answers v (record_of e.pass) → (given : List Answer)
+    → AreNamesOf names given → AreKnownTo v given → IsTold s given lines e
+lane_told s lane names v lines e fresh names_known of are replies adds goes rises given named known = record {
   of = of;
   lines_are = are;
   replies = replies;
   backs = fresh_backs v (record_of e.pass) adds.part adds.own (tolds given e.answers) fresh adds.grows
       (adds.backs given named);
+  suits = lane_suits s.config names e.answers v (record_of e.pass) fresh.pins names_known replies goes given
+      named;
+  rises = lane_rise lane names given e.answers v (record_of e.pass) rises named known;
 }
 
 -- it knows what it made

@@ -9,8 +9,9 @@ use Rattle.cb_types.specs.declared.request.Request.{Request}
 use Rattle.cb_types.specs.declared.request.Request.TheVariants.{Make, Read, Evict, Crash}
 use Rattle.cb_member.specs.declared.names.Loss.{Loss}
 use Rattle.cb_script.specs.declared.script.Line.{Line}
+use Rattle.cb_model.specs.Legal.{WasTold}
 use Rattle.cb_lanes.specs.Lost.{losses_of}
-use Rattle.cb_app.specs.ByLane.{AreApart, IsApart, IsUsed, Uses, by_lane, flat, lanes_up_to, of_lane}
+use Rattle.cb_app.specs.ByLane.{AreApart, AreOfOthers, IsApart, IsUsed, Uses, by_lane, flat, lanes_up_to, of_lane}
 use Rattle.cb_app.specs.Crew.{handle_told, name_made, names_in}
 use Rattle.cb_app.specs.Threaded.{AreLosses}
 
@@ -97,11 +98,35 @@ who_uses_a_name_made_there_is_not apart = apart a (inl refl) 0 (inl (refl, refl)
 nothing_before : (after : List Line) → IsApart [] after
 nothing_before after name used lane made = made
 
-are_apart : AreApart [] ((made_a ∷ []) ∷ (made_b ∷ read_b ∷ []) ∷ [])
-are_apart = (nothing_before (made_a ∷ []), (is_apart, tt))
+-- lane 2 was not told what lane 1 is answered, but what it is answered itself, and lane 0
+not_told : WasTold 1 2 → ⊥
+not_told (inl same) = omega (arith, same)
+not_told (inr first) = omega (arith, first)
 
-the_last_is_not_apart : AreApart [] ((made_a ∷ []) ∷ (read_a ∷ []) ∷ []) → ⊥
-the_last_is_not_apart are = who_uses_a_name_made_there_is_not are.1.0
+of_others : AreOfOthers (read_a ∷ []) (made_b ∷ read_b ∷ [])
+of_others = ((not_told, (not_told, tt)), tt)
+
+of_the_same_lane : AreOfOthers (made_b ∷ []) (read_b ∷ []) → ⊥
+of_the_same_lane none = none.0.0 (inl refl)
+
+behind_lane_0 : AreOfOthers (made_a ∷ []) (read_b ∷ []) → ⊥
+behind_lane_0 none = none.0.0 (inr refl)
+
+abbrev evict : ℕ → Line
+evict lane = line lane 2 Evict
+
+not_made_there : IsApart (evict 1 ∷ []) (made_b ∷ read_b ∷ [])
+not_made_there name used lane (inl made) = made.1
+not_made_there name used lane (inr later) = later
+
+are_apart : AreApart [] ((evict 1 ∷ []) ∷ (made_b ∷ read_b ∷ []) ∷ [])
+are_apart = (nothing_before (evict 1 ∷ []), tt, (not_made_there, ((not_told, (not_told, tt)), tt), tt))
+
+a_lane_in_two : AreApart [] ((evict 2 ∷ []) ∷ (made_b ∷ []) ∷ []) → ⊥
+a_lane_in_two are = are.2.1.0.0 (inl refl)
+
+the_last_is_not_apart : AreApart [] ((line 2 2 (Make a (1 ∷ [])) ∷ []) ∷ (read_a ∷ []) ∷ []) → ⊥
+the_last_is_not_apart are = are.2.0 a (inl refl) 2 (inl (refl, refl))
 
 nor_is_the_first_from_those_before : AreApart (made_a ∷ []) ((read_a ∷ []) ∷ []) → ⊥
 nor_is_the_first_from_those_before are = who_uses_a_name_made_there_is_not are.0

@@ -24,6 +24,7 @@ use Rattle.cb_app.specs.Crew.{IsFresh, part_of}
 use Rattle.cb_app.specs.Threaded.{AreLosses, IsRun, IsThreaded}
 use Rattle.cb_app.specs.declared.ending.Ending.{Ending}
 use Rattle.cb_app.specs.declared.threads.ThreadsEnd.{ThreadsEnd}
+use Rattle.cb_app.proofs.Ran.{is_run as ran}
 use Rattle.cb_app.proofs.Records.{fresh_idle}
 use Rattle.cb_app.proofs.WorkedLanes.{none_from_none}
 
@@ -39,9 +40,9 @@ leave = record { lane = record { n = 2 }; line = 2; request = Leave }
 abbrev loss : Loss
 loss = record { node = record { n = 0 }; epoch = record { n = 2 } }
 
--- with the seal of a runtime that did nothing
+-- with the seal of a runtime that did nothing, whose workers had no turns
 module _ (c : Config) (seal : Seal) (closed : IsClosed Did 1 c (sealed_record seal) (sealed_world seal))
-    (fresh : IsFresh (sealed_record seal)) where
+    (fresh : IsFresh (sealed_record seal)) (none : c.turns ≡ 0) where
   abbrev end : List Answer → ThreadsEnd
   end answers = record { answers = answers; losses = []; world = sealed_world seal; seal = seal }
 
@@ -64,14 +65,8 @@ module _ (c : Config) (seal : Seal) (closed : IsClosed Did 1 c (sealed_record se
   }
 
   is_run : IsRun (script c (leave ∷ [])) (end (answer (Left 0) ∷ []))
-  is_run = record {
-    lines = refl;
-    replies = (tt, tt);
-    seal = refl;
-    closed = closed;
-    backs = backs;
-    losses = no_losses (answer (Left 0) ∷ []) refl;
-  }
+  is_run = ran (script c (leave ∷ [])) (end (answer (Left 0) ∷ [])) refl (tt, tt) refl closed backs (tt, tt)
+      (λ all more last. (tt, (tt, tt))) (no_losses (answer (Left 0) ∷ []) refl) (λ w. omega (arith, none))
 
   a_line_without_an_answer : IsRun (script c (leave ∷ [])) (end []) → ⊥
   a_line_without_an_answer run = absurd (let e = run.lines in cc)

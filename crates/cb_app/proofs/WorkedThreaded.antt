@@ -1,7 +1,8 @@
 -- Worked examples: what `threads` leaves and puts for a script of two lanes, and for each part what
 -- breaks it.
-use Rattle.std.proofs.Common.{◌≡◌, ℕ, List, [], ◌∷◌, length, map, Some, None, refl, sym, ap, ◌∙◌, subst, arith, inl, String, Global}
+use Rattle.std.proofs.Common.{◌≡◌, ℕ, ◌≤◌, List, [], ◌∷◌, length, map, Some, None, refl, sym, ap, ◌∙◌, subst, arith, inl, inr, String, Global}
 use Rattle.std.specs.Prelude.{codes, string_bytes}
+use Rattle.std.specs.List.{range_with_len}
 use Rattle.std.specs.Fmt.{digits}
 use Rattle.std.proofs.lemmas.List.Sorted.{IsPermutation-refl, length_permutation}
 use Rattle.cb_member.specs.declared.names.Loss.{Loss}
@@ -13,7 +14,7 @@ use Rattle.cb_types.specs.declared.job.Job.TheVariants as job
 use Rattle.cb_types.specs.declared.reply.Reply.{Reply}
 use Rattle.cb_types.specs.declared.reply.Reply.TheVariants as replies
 use Rattle.cb_types.specs.declared.request.Request.{Request}
-use Rattle.cb_types.specs.declared.request.Request.TheVariants.{Evict, Leave}
+use Rattle.cb_types.specs.declared.request.Request.TheVariants.{Evict, Leave, Make, Read, Write}
 use Rattle.cb_script.specs.declared.script.Line.{Line}
 use Rattle.cb_script.specs.declared.script.Mode.TheVariants as modes
 use Rattle.cb_script.specs.declared.script.Script.{Script}
@@ -23,6 +24,10 @@ use Rattle.cb_script.proofs.PublicLaws.{differ}
 use Rattle.cb_text.specs.Line.{text_of}
 use Rattle.cb_world.specs.World.{WorldState}
 use Rattle.cb_rule.specs.Closing.{IsClosed}
+use Rattle.cb_model.specs.Called.{calls_of}
+use Rattle.cb_model.specs.Legal.{Rising}
+use Rattle.cb_model.specs.Now.{Now}
+use Rattle.cb_model.specs.declared.object.Object.TheVariants.{Held, Freed}
 use Rattle.cb_rule.specs.Steps.{opener}
 use Rattle.cb_rule.specs.declared.turn.Turn.{Turn}
 use Rattle.cb_rule.specs.declared.view.View.{View}
@@ -35,14 +40,18 @@ use Rattle.cb_shared.specs.Turning.{Did}
 use Rattle.cb_shared.specs.declared.seal.Seal.{Seal}
 use Rattle.cb_shared.specs.declared.seal.Sealed.{Sealed}
 use Rattle.cb_lanes.specs.Asked.{asked}
+use Rattle.cb_workers.specs.Rules.{visit}
+use Rattle.cb_workers.specs.declared.worker.Worker.TheVariants as worker
 use Rattle.cb_cli.specs.declared.words.Command.TheVariants.{Threads}
 use Rattle.cb_cli.proofs.Laws.{lane_line}
 use Rattle.cb_app.specs.Crew.{part_of}
 use Rattle.cb_app.specs.Modes.{Yields}
 use Rattle.cb_app.specs.Outcome.{IsDone}
+use Rattle.cb_app.specs.Telling.{counted_as}
 use Rattle.cb_app.specs.Threaded.{AreLosses, IsRun, IsThreaded}
 use Rattle.cb_app.specs.declared.ending.Ending.{Ending}
 use Rattle.cb_app.specs.declared.threads.ThreadsEnd.{ThreadsEnd}
+use Rattle.cb_app.proofs.Ran.{is_run}
 
 -- ---- a script of two lanes, the second one first
 
@@ -112,6 +121,18 @@ ending_of world seal list = record {
   seal = Some seal;
 }
 
+abbrev a : List ℕ
+a = 97 ∷ []
+
+abbrev first_of_bytes : List ℕ → ℕ
+first_of_bytes [] = 0
+first_of_bytes (b ∷ bytes) = b
+
+abbrev first_byte : Now → ℕ
+first_byte (Some (Held version bytes)) = first_of_bytes bytes
+first_byte (Some (Freed version)) = 0
+first_byte None = 0
+
 abbrev first_number : List Line → ℕ
 first_number [] = 0
 first_number (l ∷ lines) = l.line
@@ -140,17 +161,18 @@ module _ (t : Turn) (world : WorldState) (seal : Seal) where
     in_order = λ i j d le low. absurd (omega (arith, low));
   }
 
+  -- neither is about an object
+  never_falls : Rising (calls_of answers)
+  never_falls = ((λ h told on_e on_l. absurd cc, tt), (tt, tt))
+
   run : IsLeft t world seal → IsRun script (told_of world seal answers [])
   run there =
       let record_is : sealed_record seal ≡ view_of (evicting t ∷ []) =
-      ap (λ (x : Sealed). x.view) there.under in record {
-        lines = refl;
-        replies = (tt, (tt, tt));
-        seal = ap (λ (x : Sealed). x.world) there.under;
-        closed = subst (λ (v : View). IsClosed Did 1 small v world) (sym record_is) there.closed;
-        backs = subst (λ (v : View). Backs (part_of v) (tolds [] answers)) (sym record_is) backs;
-        losses = no_losses;
-      }
+      ap (λ (x : Sealed). x.view) there.under in
+      is_run script (told_of world seal answers []) refl (tt, (tt, tt)) (ap (λ (x : Sealed). x.world) there.under)
+      (subst (λ (v : View). IsClosed Did 1 small v world) (sym record_is) there.closed)
+      (subst (λ (v : View). Backs (part_of v) (tolds [] answers)) (sym record_is) backs)
+      (tt, (tt, tt)) (λ all more last. (tt, never_falls)) no_losses (λ w. omega arith)
 
   -- the answers stand in the order of the script, or one is left out
   in_the_order_of_the_script : IsRun script (told_of world seal (left ∷ evicted ∷ []) []) → ⊥
@@ -184,10 +206,73 @@ module _ (t : Turn) (world : WorldState) (seal : Seal) where
       let b = subst (λ (v : View). Backs (part_of v) (tolds [] answers)) e is.backs in
       let n : 1 ≡ 0 = among_none _ b.turned in omega (arith, n)
 
+  -- a make is told that there are 3 handles, of 16
+  another_number : IsRun script (told_of world seal (answer 1 3 (Make (codes "a") (1 ∷ [])) (replies.Full 3)
+      ∷ left ∷ []) []) → ⊥
+  another_number is = let e : 3 ≡ 16 = is.upheld.0.1 in omega (arith, e)
+
+  -- a name that was not made is told to be freed
+  freed_before_it_was_made : IsRun script (told_of world seal (answer 1 3 (Read (codes "a")) replies.Freed
+      ∷ left ∷ []) []) → ⊥
+  freed_before_it_was_made is = is.upheld.0
+
+  -- a lane reads version 1 of an object of which it wrote version 2
+  abbrev read_before : List Answer
+  read_before = answer 1 2 (Make a (1 ∷ [])) (replies.Made (record { n = 0 }) 1)
+      ∷ answer 1 3 (Write a 0 (2 ∷ [])) (replies.Version 2)
+      ∷ answer 1 4 (Read a) (replies.Bytes 1 (1 ∷ [])) ∷ []
+
+  a_version_that_falls : (s : Script) → IsRun s (told_of world seal read_before []) → ⊥
+  a_version_that_falls s is =
+      let low : 2 ≤ 1 = is.legal.rising.1.0.0 0 (inl refl) refl refl 2 refl in omega (arith, low)
+
+  -- or bytes that version 2 does not have
+  abbrev read_others : List Answer
+  read_others = answer 1 2 (Make a (1 ∷ [])) (replies.Made (record { n = 0 }) 1)
+      ∷ answer 1 3 (Write a 0 (2 ∷ [])) (replies.Version 2)
+      ∷ answer 1 4 (Read a) (replies.Bytes 2 (1 ∷ [])) ∷ []
+
+  bytes_of_no_version : (s : Script) → IsRun s (told_of world seal read_others []) → ⊥
+  bytes_of_no_version s is = absurd (let e : 2 ≡ 1 = ap first_byte is.legal.told.1.1.0 in omega (arith, e))
+
   -- a crash is told, and none took place
   a_loss : (loss : Loss) → IsRun script (told_of world seal answers (loss ∷ [])) → ⊥
   a_loss loss is =
       let n : 1 ≡ 0 = length_permutation [] (loss ∷ []) is.losses.are in omega (arith, n)
+
+  -- the world's epoch is 1, and no answer tells of a crash or a join
+  an_epoch_of_no_line : world.far.members.epoch ≡ 1 → IsRun script (told_of world seal answers []) → ⊥
+  an_epoch_of_no_line one is =
+      let e = length_permutation [] (range_with_len 1 world.far.members.epoch) is.epochs in
+      let n : length (range_with_len 1 world.far.members.epoch) ≡ 1 =
+      ap (λ (n : ℕ). length (range_with_len 1 n)) one in omega (arith, e, n)
+
+  -- a set that lost no more than it has parities is told as one that can't be read
+  a_set_that_is_whole : (loss : Loss) → IsRun script (told_of world seal (answer 1 3 (Read (codes "a"))
+      (replies.Unavailable (record { n = 0 }) (loss ∷ loss ∷ [])) ∷ []) (loss ∷ [])) → ⊥
+  a_set_that_is_whole loss is = let few = is.lost.0.0 in omega (arith, few)
+
+  -- or by a crash that did not take place
+  a_crash_of_no_line : (a b c : Loss) → IsRun script (told_of world seal (answer 1 3 (Read (codes "a"))
+      (replies.Unavailable (record { n = 0 }) (a ∷ b ∷ c ∷ [])) ∷ []) []) → ⊥
+  a_crash_of_no_line a b c is = let low = is.lost.0.1.0.1 in omega (arith, low)
+
+  -- there is no room, with another count of frames, or with spans and nodes enough
+  other_frames : IsRun script (told_of world seal (answer 1 3 (Read (codes "a")) (replies.NoRoom 7 0 0) ∷ []) []) → ⊥
+  other_frames is = let e = is.room.0.0 in omega (arith, e)
+
+  enough_of_both : IsRun script (told_of world seal (answer 1 3 (Read (codes "a")) (replies.NoRoom 8 2 4) ∷ []) []) → ⊥
+  enough_of_both is = elim is.room.0.1 [
+    | inl few ↦ omega (arith, few)
+    | inr few ↦ omega (arith, few)
+  ]
+
+  -- the workers were to make a turn each, and no turn of the filter was counted
+  no_turn_of_a_worker : world.far.counts.turns ≡ 1 → counted_as world.far (visit 0) ≡ 0
+      → IsRun (record script { config = record small { turns = 1 } }) (told_of world seal answers [])
+      → ⊥
+  no_turn_of_a_worker one none is =
+      let some = is.workers (omega (arith, one)) worker.Filter in omega (arith, none, some)
 
   -- ---- the ending
 

@@ -1,9 +1,12 @@
 -- Worked examples: what threads are given and what they leave.
-use Rattle.std.proofs.Common.{◌≡◌, ℕ, ◌+◌, List, [], ◌∷◌, ◌++◌, map, Some, Ok, Err, inl, inr, refl, sym, ap, ◌∙◌, subst, lit≤, arith}
+use Rattle.std.proofs.Common.{◌≡◌, ℕ, ◌+◌, ◌≤◌, Bool, cond, eqb, List, [], ◌∷◌, ◌++◌, map, Some, Ok, Err, inl, inr, refl, sym, ap, ◌∙◌, subst, lit≤, arith}
 use Rattle.std.specs.Prelude.{slice_index_or}
 use Rattle.cb_member.specs.declared.no_memory.NoMemory.{NoMemory}
 use Rattle.cb_types.specs.declared.answer.Answer.{Answer}
 use Rattle.cb_types.specs.declared.config.Config.{Config}
+use Rattle.cb_types.specs.declared.job.Job.{Job}
+use Rattle.cb_types.specs.declared.job.Job.TheVariants as job
+use Rattle.cb_types.specs.Jobs.{job_index}
 use Rattle.cb_types.specs.declared.reply.Reply.{Reply}
 use Rattle.cb_types.specs.declared.reply.Reply.TheVariants.{Made, Left, Freed}
 use Rattle.cb_types.specs.declared.request.Request.{Request}
@@ -14,7 +17,9 @@ use Rattle.cb_world.specs.declared.entry.Entry.{Entry}
 use Rattle.cb_rule.specs.declared.turn.Turn.{Turn}
 use Rattle.cb_rule.specs.declared.view.Stand.{Stand}
 use Rattle.cb_rule.specs.declared.view.View.{View}
+use Rattle.cb_rule.specs.Lists.{times}
 use Rattle.cb_rule.specs.Steps.{opener, right_of}
+use Rattle.cb_rule.proofs.Laws.{by_case}
 use Rattle.cb_record.specs.Backs.{Backs}
 use Rattle.cb_record.specs.Parts.{nothing_more}
 use Rattle.cb_record.specs.Told.{tolds}
@@ -24,11 +29,14 @@ use Rattle.cb_shared.specs.Passes.{IsPassOf, record_of}
 use Rattle.cb_lanes.specs.declared.body.LaneEnd.{LaneEnd}
 use Rattle.cb_lanes.specs.declared.body.Named.{Named}
 use Rattle.cb_lanes.specs.Asked.{asked}
+use Rattle.cb_workers.specs.Rules.{lane_of, visit}
 use Rattle.cb_workers.specs.declared.worker.Worker.{Worker as Worker'}
-use Rattle.cb_app.specs.Crew.{BodyIsReady, IsDealt, IsDealtOne, IsEnded, IsFresh, IsReady, IsTold, Runs, TakesIn, lines_in, part_of}
+use Rattle.cb_workers.specs.declared.worker.Worker.TheVariants as worker
+use Rattle.cb_app.specs.Crew.{AllMade, AreMade, BodyIsReady, IsDealt, IsDealtOne, IsEnded, IsFresh, IsReady, IsTold, Runs, TakesIn, if_same, lines_in, part_of, turns_for, work_in}
 use Rattle.cb_app.specs.declared.crew.Body.{Body}
 use Rattle.cb_app.specs.declared.crew.Body.TheVariants.{Lane, Worker}
 use Rattle.cb_app.specs.declared.crew.Task.{Task}
+use Rattle.cb_app.proofs.AnswersRise.{none_known, none_rise}
 use Rattle.cb_app.proofs.Crews.{dealt_none}
 use Rattle.cb_app.proofs.Records.{fresh_idle}
 
@@ -99,6 +107,36 @@ ends_in_one : (rest : List Entry) (e : Entry) → [] ≡ rest ++ e ∷ [] → �
 ends_in_one [] e is = absurd cc
 ends_in_one (x ∷ rest) e is = absurd cc
 
+-- ---- the turns of workers
+
+-- what is due, and what is in a record: a turn of another worker is no turn of this one
+filter_is_due : turns_for worker.Filter (Worker worker.Filter 3) ≡ 3
+filter_is_due = refl
+
+of_another_worker : turns_for worker.Rebuild (Worker worker.Filter 3) ≡ 0
+of_another_worker = refl
+
+of_a_lane : (w : Worker') → turns_for w (lane 2 Leave) ≡ 0
+of_a_lane w = refl
+
+abbrev is_like : Job → Turn → Bool
+is_like j t = eqb (job_index t.job) (job_index j)
+
+abbrev with_jobs : Turn → View → View
+with_jobs t v = record v {
+  turns = record t { job = job.Ship } ∷ record t { job = job.Evict } ∷ record t { job = job.Begin } ∷ [];
+}
+
+two_of_the_batches : (t : Turn) (v : View) → work_in worker.Evict (with_jobs t v) ≡ 2
+two_of_the_batches t v = refl
+
+none_of_the_pairs : (t : Turn) (v : View) → work_in worker.Compact (with_jobs t v) ≡ 0
+none_of_the_pairs t v = refl
+
+none_due : {n : ℕ} (w other : Worker') → if_same other w 0 ≤ n
+none_due {n = n} w other = by_case (λ b. cond {A = ℕ} b 0 0 ≤ n) (eqb (lane_of other).n (lane_of w).n)
+    (λ e. omega arith) (λ e. omega arith)
+
 -- ---- with a runtime and a pass that has done nothing yet
 
 module _ (s : Shared) (p : Pass) (of : IsPassOf s p) (fresh : IsFresh (record_of p)) where
@@ -138,7 +176,14 @@ module _ (s : Shared) (p : Pass) (of : IsPassOf s p) (fresh : IsFresh (record_of
   }
 
   is_told : IsTold s [] (line 2 Leave ∷ []) (end (answer 2 Leave (Left 0) ∷ []))
-  is_told = record { of = of; lines_are = refl; replies = (tt, tt); backs = left_backed }
+  is_told = record {
+    of = of;
+    lines_are = refl;
+    replies = (tt, tt);
+    backs = left_backed;
+    suits = (tt, tt);
+    rises = λ all more last. (tt, (tt, tt));
+  }
 
   by_another_pass : (q : Pass) → (IsPassOf s q → ⊥) → IsTold s [] [] (record { answers = []; pass = q }) → ⊥
   by_another_pass q not told = not told.of
@@ -164,6 +209,10 @@ module _ (s : Shared) (p : Pass) (of : IsPassOf s p) (fresh : IsFresh (record_of
   no_reply_of_the_line : IsTold s [] (line 2 Leave ∷ []) (end (answer 2 Leave Freed ∷ [])) → ⊥
   no_reply_of_the_line told = told.replies.0
 
+  -- a name without a handle was told that its object is freed
+  freed_without_a_handle : IsTold s [] (line 2 (Read a) ∷ []) (end (answer 2 (Read a) Freed ∷ [])) → ⊥
+  freed_without_a_handle told = told.suits.0
+
   -- who was told of a made object wrote it
   not_in_the_record : IsTold s [] (line 2 (Make a (1 ∷ [])) ∷ [])
       (end (answer 2 (Make a (1 ∷ [])) (Made (record { n = 0 }) 1) ∷ [])) → ⊥
@@ -174,7 +223,14 @@ module _ (s : Shared) (p : Pass) (of : IsPassOf s p) (fresh : IsFresh (record_of
   -- ---- how a thread ends
 
   none_told : (given : List Answer) → IsTold s given [] (end [])
-  none_told given = record { of = of; lines_are = refl; replies = tt; backs = idle }
+  none_told given = record {
+    of = of;
+    lines_are = refl;
+    replies = tt;
+    backs = idle;
+    suits = tt;
+    rises = none_rise (record_of p) given [] refl;
+  }
 
   without_memory : (want : NoMemory) → IsEnded s [] (record { lines = line 2 Leave ∷ []; left = Err want })
   without_memory want = tt
@@ -185,14 +241,32 @@ module _ (s : Shared) (p : Pass) (of : IsPassOf s p) (fresh : IsFresh (record_of
   with_none : IsEnded s [] (record { lines = line 2 Leave ∷ []; left = Ok (end []) }) → ⊥
   with_none ended = absurd (let e = ended.lines_are in cc)
 
-  runs : (w : Worker') → Runs s none (task (Worker w 3)) (record { lines = []; left = Ok (end []) })
-  runs w = (refl, λ given named. none_told given)
+  runs : (w : Worker') → Runs s none (task (Worker w 0)) (record { lines = []; left = Ok (end []) })
+  runs w = (refl, λ given named known. none_told given, λ other. none_due other w)
 
   lost_its_lines : Runs s none (task (lane 2 Leave)) (record { lines = []; left = Ok (end []) }) → ⊥
   lost_its_lines r = absurd (let e = r.0 in cc)
 
   did_not_answer : Runs s none (task (lane 2 Leave)) (record { lines = line 2 Leave ∷ []; left = Ok (end []) }) → ⊥
-  did_not_answer r = with_none (r.1 [] (λ name. refl))
+  did_not_answer r = with_none (r.1 [] (λ name. refl) (none_known (record_of p)))
+
+  -- a worker that has made no turn
+  made_none : Runs s none (task (Worker worker.Filter 3)) (record { lines = []; left = Ok (end []) }) → ⊥
+  made_none r =
+      let made : 3 ≤ work_in worker.Filter (record_of p) = r.2 worker.Filter in
+      let nothing : work_in worker.Filter (record_of p) ≡ 0 =
+      ap (λ (ts : List Turn). times (is_like (visit 0)) ts) fresh.turns in absurd (omega (arith, made, nothing))
+
+  made_without_memory : (w : Worker') (want : NoMemory)
+      → AreMade w (task (Worker w 3)) (record { lines = []; left = Err want })
+  made_without_memory w want = tt
+
+  each_made : (w : Worker')
+      → AllMade w (task (lane 2 Leave) ∷ []) (record { lines = line 2 Leave ∷ []; left = Ok (end []) } ∷ [])
+  each_made w = (omega arith, tt)
+
+  one_is_missing : (w : Worker') → AllMade w (task (Worker w 3) ∷ []) [] → ⊥
+  one_is_missing w all = all
 
   -- ---- one task more
 
@@ -258,7 +332,7 @@ module _ (s : Shared) (p : Pass) (of : IsPassOf s p) (fresh : IsFresh (record_of
       → IsDealt s makes_and_reads 1 2 v (task (lane 1 (Make a (1 ∷ [])))
       ∷ task (Lane (record { n = 1 }) (record { lane = record { n = 1 }; line = 3; request = Read a } ∷ [])) ∷ []) p
       → ⊥
-  a_lane_in_two_parts v are dealt = (dealt.apart are).1.0 a (inl refl) 1 (inl (refl, refl))
+  a_lane_in_two_parts v are dealt = (dealt.apart are).2.0 a (inl refl) 1 (inl (refl, refl))
 
   -- ---- what is taken in
 

@@ -1,11 +1,12 @@
 -- The lines of a script by lane and then by line, and which lanes use names that others made.
 use Rattle.std.specs.Prelude.{◌≡◌, ◌⊎◌, ℕ, zero, suc, nat_eq, List, [], ◌∷◌, ◌++◌, Some}
-use Rattle.std.specs.List.{filter}
+use Rattle.std.specs.List.{AllByRecursion, filter}
 use Rattle.cb_types.specs.declared.request.Request.{Request}
 use Rattle.cb_types.specs.declared.request.Request.TheVariants.{Make}
 use Rattle.cb_types.specs.Requests.{name_of}
 use Rattle.cb_script.specs.declared.script.Line.{Line}
 use Rattle.cb_script.specs.Form.{IsMade}
+use Rattle.cb_model.specs.Legal.{WasTold}
 
 -- the lines of this lane, in order
 abbrev pub of_lane : ℕ → List Line → List Line
@@ -35,10 +36,16 @@ abbrev pub IsApart : List Line → List Line → Type 0
 IsApart before lines = (name : List ℕ) → IsUsed lines name
     → (lane : ℕ) → IsMade before lane name → ⊥
 
+-- none of the lines is of a lane that was told what those before are answered
+abbrev pub AreOfOthers : List Line → List Line → Type 0
+AreOfOthers before lines =
+    AllByRecursion (λ b. AllByRecursion (λ l. WasTold b.lane.n l.lane.n → ⊥) lines) before
+
 -- so each of these lists of lines, behind those before it
 abbrev pub AreApart : List Line → List (List Line) → Type 0
 AreApart before [] = Unit {0}
-AreApart before (lines ∷ later) = IsApart before lines × AreApart (before ++ lines) later
+AreApart before (lines ∷ later) = IsApart before lines × AreOfOthers before lines
+    × AreApart (before ++ lines) later
 
 -- all lines of lists of lines
 abbrev pub flat : List (List Line) → List Line

@@ -1,18 +1,24 @@
 -- What a thread is given, what it leaves, and what lanes and workers leave together.
-use Rattle.std.specs.Prelude.{◌≡◌, ℕ, ◌+◌, ◌≤◌, List, [], ◌∷◌, ◌++◌, map, All, IfOk, Option, Some, None}
+use Rattle.std.specs.Prelude.{◌≡◌, ℕ, ◌+◌, ◌≤◌, cond, eqb, List, [], ◌∷◌, ◌++◌, map, All, IfOk, Option, Some, None}
 use Rattle.std.specs.List.{AllByRecursion, flat_map}
 use Rattle.cb_types.specs.declared.answer.Answer.{Answer}
 use Rattle.cb_types.specs.declared.handle.Handle.{Handle}
+use Rattle.cb_types.specs.declared.job.Job.{Job}
 use Rattle.cb_types.specs.declared.reply.Reply.{Reply}
 use Rattle.cb_types.specs.declared.reply.Reply.TheVariants.{Made}
+use Rattle.cb_types.specs.Jobs.{job_index}
 use Rattle.cb_types.specs.declared.request.Request.{Request}
 use Rattle.cb_types.specs.declared.request.Request.TheVariants.{Make}
 use Rattle.cb_script.specs.declared.script.Line.{Line}
 use Rattle.cb_script.specs.Form.{AreLines}
 use Rattle.cb_rule.specs.declared.view.View.{View}
+use Rattle.cb_rule.specs.Lists.{times}
 use Rattle.cb_rule.specs.Steps.{right_of}
+use Rattle.cb_model.specs.Called.{calls_behind, calls_of}
+use Rattle.cb_model.specs.Legal.{NeverFalls, Rising}
 use Rattle.cb_record.specs.Backs.{Backs}
 use Rattle.cb_record.specs.Parts.{Part}
+use Rattle.cb_record.specs.Rises.{HasAllOf, IsOnRecord}
 use Rattle.cb_record.specs.Told.{tolds}
 use Rattle.cb_shared.specs.declared.pass.Pass.{Pass}
 use Rattle.cb_shared.specs.declared.runtime.Shared.{Shared}
@@ -21,11 +27,16 @@ use Rattle.cb_lanes.specs.declared.body.LaneEnd.{LaneEnd}
 use Rattle.cb_lanes.specs.declared.body.Named.{Named}
 use Rattle.cb_lanes.specs.Asked.{HasLineReply, asked}
 use Rattle.cb_lanes.specs.Bodies.{AreLinesOf, AreNamesOf, KnowsNames}
+use Rattle.cb_lanes.specs.Rising.{FreedIsLast}
+use Rattle.cb_lanes.specs.Suits.{AreSuited}
+use Rattle.cb_workers.specs.Rules.{lane_of}
+use Rattle.cb_workers.specs.declared.worker.Worker.{Worker as Worker'}
 use Rattle.cb_app.specs.ByLane.{AreApart, flat, lanes_up_to}
 use Rattle.cb_app.specs.declared.crew.Body.{Body}
 use Rattle.cb_app.specs.declared.crew.Body.TheVariants.{Lane, Worker}
 use Rattle.cb_app.specs.declared.crew.Ended.{Ended}
 use Rattle.cb_app.specs.declared.crew.Task.{Task}
+use Rattle.cb_app.specs.Telling.{turns_by}
 
 -- all that a record has, as a part
 abbrev pub part_of : View → Part
@@ -63,6 +74,36 @@ lines_due t = lines_in t.body
 abbrev pub lines_left : Ended → List Line
 lines_left e = e.lines
 
+-- how many turns of a record have a job of this kind
+abbrev pub turns_as : View → Job → ℕ
+turns_as v j = times (λ t. eqb (job_index t.job) (job_index j)) v.turns
+
+-- how many turns of a worker a record has
+abbrev pub work_in : Worker' → View → ℕ
+work_in w v = turns_by w (turns_as v)
+
+-- so many, where the one worker is the other
+abbrev pub if_same : Worker' → Worker' → ℕ → ℕ
+if_same worker w turns = cond (eqb (lane_of worker).n (lane_of w).n) turns 0
+
+-- the turns that a thread is to make as this worker
+abbrev pub turns_for : Worker' → Body → ℕ
+turns_for w (Lane lane lines) = 0
+turns_for w (Worker worker turns) = if_same worker w turns
+
+abbrev pub turns_due : Worker' → Task → ℕ
+turns_due w t = turns_for w t.body
+
+-- they stand in what the thread left, unless memory was wanting
+abbrev pub AreMade : Worker' → Task → Ended → Type 0
+AreMade w t e = IfOk e.left (λ end. turns_due w t ≤ work_in w (record_of end.pass))
+
+-- so of each thread
+abbrev pub AllMade : Worker' → List Task → List Ended → Type 0
+AllMade w [] [] = Unit {0}
+AllMade w (t ∷ ts) (e ∷ es) = AreMade w t e × AllMade w ts es
+AllMade w tasks ends = ⊥
+
 -- the record of a pass that has done nothing yet, and may have seen what another one has
 pub record IsFresh (v : View) : Type 0 where
   pub pins : v.pins ≡ []
@@ -80,23 +121,48 @@ pub record IsReady (s : Shared) (names : List Named) (t : Task) : Type 0 where
   pub fresh : IsFresh (record_of t.pass)
   pub body : BodyIsReady s.config.nodes names (record_of t.pass) t.body
 
+-- no version falls from the answers given before to these, or among these
+abbrev pub NeverFall : List Answer → List Answer → Type 0
+NeverFall given answers =
+    AllByRecursion (λ c. AllByRecursion (NeverFalls c) (calls_behind given answers)) (calls_of given)
+    × Rising (calls_behind given answers)
+
+-- so of answers with this record, once it is part of one where each freed version is the last
+abbrev pub RiseWith : View → List Answer → List Answer → Type 0
+RiseWith v given answers =
+    (all : View) → HasAllOf v all → FreedIsLast all → NeverFall given answers
+
+-- what the answers told of versions stands in the record
+abbrev pub StandIn : View → List Answer → Type 0
+StandIn v answers = AllByRecursion (IsOnRecord v) (calls_of answers)
+
+-- or in one that this one has all of
+abbrev pub AreKnownTo : View → List Answer → Type 0
+AreKnownTo v answers = (w : View) × HasAllOf w v × StandIn w answers
+
 -- These lines were answered, one after the other, each by a reply that it may have, and the record
--- of the pass backs the answers, where the answers given before have the names.
+-- of the pass backs the answers, where the answers given before have the names; and they suit the
+-- handles of their names, and what the pass has read; and no version falls.
 pub record IsTold (s : Shared) (given : List Answer) (lines : List Line) (e : LaneEnd) : Type 0
   where
     pub of : IsPassOf s e.pass
     pub lines_are : map asked e.answers ≡ lines
     pub replies : AllByRecursion HasLineReply e.answers
     pub backs : Backs (part_of (record_of e.pass)) (tolds given e.answers)
+    pub suits : AreSuited (record_of e.pass).seen (tolds given e.answers)
+    pub rises : RiseWith (record_of e.pass) given e.answers
 
 -- so a thread ended, unless memory was wanting
 abbrev pub IsEnded : Shared → List Answer → Ended → Type 0
 IsEnded s given e = IfOk e.left (IsTold s given e.lines)
 
 -- a thread left the lines that it was given, and answered them, by whatever answers have the names
+-- and are known to its pass; and a worker made its turns
 abbrev pub Runs : Shared → List Named → Task → Ended → Type 0
 Runs s names t e = (e.lines ≡ lines_due t)
-    × ((given : List Answer) → AreNamesOf names given → IsEnded s given e)
+    × ((given : List Answer) → AreNamesOf names given → AreKnownTo (record_of t.pass) given
+    → IsEnded s given e)
+    × ((w : Worker') → AreMade w t e)
 
 -- One pass more was split off, for this body.
 pub record IsDealtOne (s : Shared) (body : Body) (v : View) (old new : List Task) : Type 0 where
@@ -115,6 +181,7 @@ pub record IsDealt (s : Shared) (lines : List Line) (n m : ℕ) (v : View) (task
   pub share : ℕ
   pub own : List ℕ
   pub left : record_of p ≡ record v { share = share; own = own }
+  pub starts : All (λ t. HasAllOf v (record_of t.pass)) tasks
   pub ready : (names : List Named) → KnowsNames v names → AreLines s.config.nodes [] lines
       → All (IsReady s names) tasks
   pub lines_are : flat (map lines_due tasks) ≡ lanes_up_to n lines

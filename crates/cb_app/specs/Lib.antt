@@ -4,3 +4,4 @@ pub mod Threaded
 pub mod Scripts
 pub mod Modes
 pub mod Outcome
+pub mod Telling

@@ -6,14 +6,18 @@ use Rattle.cb_types.specs.declared.answer.Answer.{Answer}
 use Rattle.cb_member.specs.declared.names.Loss.{Loss}
 use Rattle.cb_script.specs.declared.script.Script.{Script}
 use Rattle.cb_rule.specs.Closing.{IsClosed}
+use Rattle.cb_model.specs.Called.{calls_of}
+use Rattle.cb_model.specs.Legal.{IsLegal}
 use Rattle.cb_record.specs.Backs.{Backs}
 use Rattle.cb_record.specs.Told.{tolds}
+use Rattle.cb_record.specs.Upheld.{Upholds}
 use Rattle.cb_shared.specs.Sealing.{sealed_record, sealed_world}
 use Rattle.cb_shared.specs.Turning.{Did}
 use Rattle.cb_lanes.specs.Asked.{HasLineReply, asked}
 use Rattle.cb_lanes.specs.Lost.{losses_of}
 use Rattle.cb_app.specs.ByLane.{by_lane}
 use Rattle.cb_app.specs.Crew.{part_of}
+use Rattle.cb_app.specs.Telling.{AreEpochs, CountsWorkers, TellsLost, TellsRoom}
 use Rattle.cb_app.specs.declared.ending.Ending.{Ending}
 use Rattle.cb_app.specs.declared.threads.ThreadsEnd.{ThreadsEnd}
 
@@ -34,8 +38,22 @@ pub record IsRun (script : Script) (end : ThreadsEnd) : Type 0 where
   pub closed : IsClosed Did 1 script.config (sealed_record end.seal) end.world
   -- the answers are those of calls that stand in the record
   pub backs : Backs (part_of (sealed_record end.seal)) (tolds [] end.answers)
+  -- and what they say beside the record is so: of the handles that there are, of lengths, of names
+  pub upheld : AllByRecursion (Upholds 1 script.config.handles (calls_of end.answers)
+      (sealed_record end.seal)) (calls_of end.answers)
+  -- so they are legal: those of a map whose operations took place one at a time, and to no lane, nor
+  -- from lane 0 to another, did a version fall
+  pub legal : IsLegal 1 script.config.handles end.answers
   -- the crashes that took place
   pub losses : AreLosses end.losses end.answers
+  -- they and the joins began the epochs up to that of the world, each one of them
+  pub epochs : AreEpochs end.world.far.members.epoch end.answers
+  -- what can't be read lost too much by those crashes
+  pub lost : AllByRecursion (λ a. TellsLost script.config end.losses a.reply) end.answers
+  -- and where there was no room, too few spans were loose or too few nodes had room
+  pub room : AllByRecursion (λ a. TellsRoom script.config a.reply) end.answers
+  -- the workers made as many turns as are configured
+  pub workers : CountsWorkers script.config.turns end.world.far
 
 -- the ending of a script that threads answered
 pub record IsThreaded (script : Script) (end : Ending) : Type 0 where

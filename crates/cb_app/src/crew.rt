@@ -8,8 +8,13 @@ ghost use Rattle.cb_rule.specs.Steps.{left_of};
 ghost use Rattle.cb_shared.specs.Passes.{IsPassOf, record_of};
 ghost use Rattle.cb_lanes.specs.Asked.{asked};
 ghost use Rattle.cb_lanes.specs.Bodies.{AreLinesOf, AreNamesOf, KnowsNames};
-ghost use Rattle.cb_app.specs.ByLane.{AreApart, IsApart, by_lane, flat, of_lane};
+ghost use Rattle.cb_rule.specs.Lists.{total};
+ghost use Rattle.cb_workers.specs.declared.worker.Worker.{Worker as Worker'};
+ghost use Rattle.cb_app.specs.ByLane.{AreApart, AreOfOthers, IsApart, by_lane, flat, of_lane};
 ghost use Rattle.cb_app.specs.Crew.{
+  AllMade,
+  AreKnownTo,
+  AreMade,
   IsDealt,
   IsDealtOne,
   IsEnded,
@@ -17,9 +22,13 @@ ghost use Rattle.cb_app.specs.Crew.{
   IsReady,
   IsTold,
   Runs,
+  StandIn,
   TakesIn,
+  if_same,
   lines_due,
   lines_left,
+  turns_due,
+  work_in,
 };
 ghost use Rattle.cb_app.specs.declared.crew.Ended.{Ended};
 ghost use Rattle.cb_app.specs.declared.crew.Task.{Task};
@@ -73,7 +82,10 @@ pub(crate) fn run_crew<R: Threads + Wait + Sync, G: Gate>(
     requires lines { AreLines shared.now.config.nodes [] lines.now }
     requires names { AreNamesOf names.now first.old.answers }
     requires known { KnowsNames (record_of first.old.pass) names.now }
+    requires stand { StandIn (record_of first.old.pass) first.old.answers }
     ensures told { IfOk result (λ _. IsTold shared.now [] (by_lane lines.now) first.new) }
+    ensures work { IfOk result (λ _. (w : Worker') → shared.now.config.turns
+        ≤ work_in w (record_of first.new.pass)) }
 {
     let tasks = deal(alloc, shared, &mut first.pass, lines)?;
     let ends = scatter(rt, alloc, shared, tasks, names, gate)?;
@@ -91,6 +103,8 @@ fn deal(
     requires whole { (record_of pass.old).share ≡ 64 }
     ensures dealt { IfOk result (λ tasks. IsDealt shared.now lines.now 15 19 (record_of pass.old)
         tasks.items pass.new) }
+    ensures work { IfOk result (λ tasks. (w : Worker') → shared.now.config.turns
+        ≤ total (turns_due w) tasks.items) }
 {
     let mut tasks = Vec::new(alloc);
     deal_lanes(alloc, shared, pass, lines, &mut tasks)?;
@@ -147,6 +161,8 @@ fn deal_workers(shared: &Shared, pass: &mut Pass, tasks: &mut Vec<Task>) -> Resu
     requires share { 49 ≤ (record_of pass.old).share }
     ensures dealt { (lines : List Line) (v : View) → IsDealt shared.now lines 15 15 v tasks.old.items
         pass.old → IfOk result (λ _. IsDealt shared.now lines 15 19 v tasks.new.items pass.new) }
+    ensures work { IfOk result (λ _. (w : Worker') → shared.now.config.turns
+        ≤ total (turns_due w) tasks.new.items) }
 {
     deal_worker(shared, pass, Worker::Filter, tasks)?;
     deal_worker(shared, pass, Worker::Evict, tasks)?;
@@ -167,6 +183,9 @@ fn deal_worker(
     ensures dealt { (lines : List Line) (n m : ℕ) (v : View)
         → IsDealt shared.now lines n m v tasks.old.items pass.old
         → IfOk result (λ _. IsDealt shared.now lines n (m + 1) v tasks.new.items pass.new) }
+    ensures work { IfOk result (λ _. (w : Worker') → total (turns_due w) tasks.new.items
+        ≡ total (turns_due w) tasks.old.items
+        + if_same worker w shared.now.config.turns) }
 {
     let turns = shared.config().turns;
     deal_one(shared, pass, Body::Worker { worker, turns }, tasks)
@@ -206,7 +225,11 @@ fn scatter<R: Threads + Wait + Sync, G: Gate>(
     ensures lines { IfOk result (λ ends. (i : ℕ) (d : Ended) (t : Task) → i < vec_len tasks
         → lines_left (slice_index_or ends.items i d) ≡ lines_due (slice_index_or tasks.items i t)) }
     ensures ended { IfOk result (λ ends. (given : List Answer) → AreNamesOf names.now given
+        → All (λ t. AreKnownTo (record_of t.pass) given) tasks.items
         → All (IsEnded shared.now given) ends.items) }
+    ensures made { IfOk result (λ ends. (w : Worker') (i : ℕ) (d : Ended) (t : Task)
+        → i < vec_len tasks → AreMade w (slice_index_or tasks.items i t)
+        (slice_index_or ends.items i d)) }
 {
     let ends = thread::map_vec(
         rt,
@@ -259,7 +282,8 @@ fn run_lane<R: Wait, G: Gate>(
     requires names { KnowsNames (record_of pass) names.now }
     ensures lines { result.lines ≡ lines }
     ensures ended { (given : List Answer) → AreNamesOf names.now given
-        → IfOk result.left (IsTold shared.now given lines) }
+        → AreKnownTo (record_of pass) given → IfOk result.left (IsTold shared.now given lines) }
+    ensures made { (w : Worker') → IfOk result.left (λ end. 0 ≤ work_in w (record_of end.pass)) }
 {
     match lane_body(rt, alloc, shared, pass, lane, lines.as_slice(), names, gate) {
         Ok(end) => Ended {
@@ -287,6 +311,8 @@ fn run_worker<R: Wait, G: Gate>(
     requires fresh { IsFresh (record_of pass) }
     ensures lines { result.lines ≡ [] }
     ensures ended { (given : List Answer) → IfOk result.left (IsTold shared.now given []) }
+    ensures made { (w : Worker') → IfOk result.left (λ end. if_same worker w turns
+        ≤ work_in w (record_of end.pass)) }
 {
     let lines = Lines::new(alloc);
     let answers = Answers::new(alloc);
@@ -309,6 +335,8 @@ fn gather(shared: &Shared, first: &mut LaneEnd, ends: Vec<Ended>) -> Result<(), 
     requires apart { AreApart [] (map lines_left ends.items) }
     ensures told { IfOk result (λ _. IsTold shared.now []
         (map asked first.old.answers ++ flat (map lines_left ends.items)) first.new) }
+    ensures work { (w : Worker') (tasks : List Task) → AllMade w tasks ends.items
+        → IfOk result (λ _. total (turns_due w) tasks ≤ work_in w (record_of first.new.pass)) }
 {
     for ended in ends {
         take_in(shared, first, ended)?;
@@ -323,7 +351,11 @@ fn take_in(shared: &Shared, first: &mut LaneEnd, ended: Ended) -> Result<(), NoM
     ensures told { (given others : List Answer) → first.old.answers ≡ given ++ others
         → IsTold shared.now [] (map asked first.old.answers) first.old
         → IsEnded shared.now given ended → IsApart (map asked others) ended.lines
+        → AreOfOthers (map asked others) ended.lines
         → IfOk result (λ _. TakesIn shared.now given others ended.lines first.new) }
+    ensures work { (w : Worker') (t : Task) → AreMade w t ended
+        → IfOk result (λ _. work_in w (record_of first.old.pass) + turns_due w t
+        ≤ work_in w (record_of first.new.pass)) }
 {
     let Ended {
         lines: _lines,
@@ -342,7 +374,10 @@ fn take_end(shared: &Shared, first: &mut LaneEnd, end: LaneEnd) -> Result<(), No
         → first.old.answers ≡ given ++ others
         → IsTold shared.now [] (map asked first.old.answers) first.old
         → IsTold shared.now given lines end → IsApart (map asked others) lines
+        → AreOfOthers (map asked others) lines
         → IfOk result (λ _. TakesIn shared.now given others lines first.new) }
+    ensures work { (w : Worker') → IfOk result (λ _. work_in w (record_of first.new.pass)
+        ≡ work_in w (record_of first.old.pass) + work_in w (record_of end.pass)) }
 {
     let LaneEnd { answers, pass } = end;
     shared.join_pass(&mut first.pass, pass);

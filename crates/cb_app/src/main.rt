@@ -7,6 +7,8 @@ pub mod commands;
 pub mod crew;
 mod drawn;
 pub mod ending;
+#[cfg(test)]
+mod gates;
 pub mod run;
 pub mod threads;
 pub mod top;

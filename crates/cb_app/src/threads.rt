@@ -1,22 +1,22 @@
 //! Lanes and workers as threads.
-ghost use Rattle.std.specs.Prelude.{◌≡◌, [], ◌++◌, IfOk};
-ghost use Rattle.std.specs.List.{cons_option};
+ghost use Rattle.std.specs.Prelude.{◌≡◌, ◌≤◌, [], ◌++◌, IfOk};
 ghost use Rattle.cb_script.specs.Form.{AreInMode, AreLines, IsScript};
 ghost use Rattle.cb_script.specs.declared.script.Mode.TheVariants as scripts;
 ghost use Rattle.cb_shared.specs.Closing.{IsClosedBy};
 ghost use Rattle.cb_shared.specs.Passes.{IsBegun, IsPassOf, record_of};
 ghost use Rattle.cb_app.specs.ByLane.{by_lane, of_lane};
-ghost use Rattle.cb_app.specs.Crew.{IsTold, names_in};
+ghost use Rattle.cb_app.specs.Crew.{IsTold, StandIn, names_in, work_in};
 ghost use Rattle.cb_app.specs.Threaded.{AreLosses, IsRun};
 ghost use Rattle.cb_lanes.specs.Bodies.{KnowsNames};
-ghost use Rattle.cb_lanes.specs.Lost.{loss_of, losses_of};
+ghost use Rattle.cb_lanes.specs.Lost.{losses_of};
+ghost use Rattle.cb_workers.specs.declared.worker.Worker.{Worker};
 
 use crate::by_lane::{names_of, of_lane};
 use crate::crew::run_crew;
-use cb_lanes::{LaneEnd, Names, lane_body};
+use cb_lanes::{LaneEnd, Names, lane_body, note_loss};
 use cb_script::Script;
 use cb_shared::{Pass, Seal, Shared};
-use cb_types::{Answer, Answers, Gate, Lane, Loss, Losses, NoMemory, Reply, Request};
+use cb_types::{Answers, Gate, Lane, Loss, Losses, NoMemory};
 use cb_world::World;
 use std::alloc::Global;
 use std::sync::Wait;
@@ -67,6 +67,8 @@ fn run_all<R: Threads + Wait + Sync, G: Gate>(
     requires begun { IsBegun 1 s.now.config shared.now pass }
     requires lines { AreLines s.now.config.nodes [] s.now.lines }
     ensures told { IfOk result (IsTold shared.now [] (by_lane s.now.lines)) }
+    ensures work { IfOk result (λ told. (w : Worker) → shared.now.config.turns
+        ≤ work_in w (record_of told.pass)) }
 {
     let mut told = run_first(rt, alloc, shared, pass, s, gate)?;
     let names = names_of(alloc, &told.answers)?;
@@ -97,6 +99,7 @@ fn run_first<R: Wait, G: Gate>(
     ensures whole { IfOk result (λ told. (record_of told.pass).share ≡ 64) }
     ensures known { IfOk result (λ told. KnowsNames (record_of told.pass)
         (names_in told.answers)) }
+    ensures stand { IfOk result (λ told. StandIn (record_of told.pass) told.answers) }
 {
     let lane = Lane { n: 0 };
     let lines = of_lane(alloc, s.lines.as_slice(), lane)?;
@@ -151,31 +154,7 @@ fn found_losses(alloc: Global, answers: &Answers) -> Result<Vec<Loss>, NoMemory>
 {
     let mut losses = Vec::new(alloc);
     for answer in answers.as_slice() {
-        note_loss(&mut losses, answer)?;
+        note_loss(&mut losses, &answer.request, &answer.reply)?;
     }
     Ok(losses)
-}
-
-/// Adds the loss of an answer, where it tells one.
-fn note_loss(losses: &mut Vec<Loss>, answer: &Answer) -> Result<(), NoMemory>
-    ensures noted { IfOk result (λ _. losses.new.items
-        ≡ losses.old.items ++ cons_option (loss_of answer.now.request answer.now.reply) []) }
-{
-    if let Some(loss) = loss_of(&answer.request, &answer.reply) {
-        losses.push(loss)?;
-    }
-    Ok(())
-}
-
-/// The node of a crash that took place, with its epoch.
-fn loss_of(request: &Request, reply: &Reply) -> Option<Loss>
-    ensures { result ≡ loss_of request.now reply.now }
-{
-    match (request, reply) {
-        (Request::Crash { node }, Reply::EpochAt { epoch }) => Some(Loss {
-            node: *node,
-            epoch: *epoch,
-        }),
-        _ => None,
-    }
 }

@@ -1,4 +1,6 @@
-use Rattle.cb_app.proofs.Crews.{first_apart, first_ended, others_ended, taking_more}
+use Rattle.std.proofs.Common.{sym, ◌∙◌}
+use Rattle.std.proofs.lemmas.List.{nil_from_length}
+use Rattle.cb_app.proofs.Crews.{first_apart, first_ended, first_of_others, others_ended, taken_work, taking_more}
 use Rattle.cb_app.proofs.crew.gather.Goals as goal
 
 pub loop-ended-preserved : goal.loop-ended-preserved
@@ -14,5 +16,12 @@ loop-ended-preserved c =
     let is = c.in-Some.ensures.steps.0 in
     taking_more s given all left e later first c.take_in.new.first t is
     (c.in_ok-take_in.ensures.told given t.others t.answers t.told
-    (first_ended s given left e later t.ended is) (first_apart s given all left e later first t is))
-    (others_ended s given left e later t.ended is)
+    (first_ended s given left e later t.ended is) (first_apart s given all left e later first t is)
+    (first_of_others s given all left e later first t is))
+    (others_ended s given left e later t.ended is) c.in_ok-take_in.ensures.work
+
+pub returns-clause-work : goal.returns-clause-work
+returns-clause-work c = taken_work c.args.shared.now c.args.first.now.answers c.args.ends.items
+    c.loop-ended.ended-iterator.rest.items c.loop-ended.first c.loop-ended.invariant
+    (nil_from_length c.loop-ended.ended-iterator.rest.items
+    (sym c.loop-ended.ended-iterator.rest.ok.0 ∙ c.in-None.ensures.steps.0))

@@ -1,10 +1,12 @@
-use Rattle.std.proofs.Common.{◌≡◌, [], map, refl, sym, ◌∙◌, arith}
+use Rattle.std.proofs.Common.{◌≡◌, ◌≤◌, [], length, map, refl, sym, ◌∙◌, arith}
 use Rattle.std.proofs.lemmas.Result.{IfOk-weaker}
+use Rattle.cb_workers.specs.declared.worker.Worker.{Worker}
 use Rattle.cb_shared.specs.Passes.{record_of}
 use Rattle.cb_lanes.specs.declared.body.LaneEnd.{LaneEnd}
-use Rattle.cb_app.specs.ByLane.{by_lane}
-use Rattle.cb_app.specs.Crew.{IsTold, lines_due, lines_left}
-use Rattle.cb_app.proofs.Crews.{all_told, left_apart, same_maps}
+use Rattle.cb_app.specs.ByLane.{by_lane, of_lane}
+use Rattle.cb_app.specs.Crew.{IsTold, lines_due, lines_left, work_in}
+use Rattle.cb_app.proofs.Crews.{all_told, left_apart, same_maps, told_again, told_left}
+use Rattle.cb_app.proofs.WorkDone.{all_made, for_each}
 use Rattle.cb_app.proofs.crew.run_crew.Goals as goal
 
 pub gather-requires-clause-apart : goal.gather-requires-clause-apart
@@ -17,6 +19,19 @@ gather-requires-clause-apart g c =
     (λ i d e low. c.in_ok-ends.ensures.lines i d e (omega (arith, low, c.in_ok-tasks.tasks.ok.0))) in
     left_apart c.args.shared.now c.args.lines.now (record_of c.args.first.now.pass) tasks
     c.deal.new.pass ends c.in_ok-tasks.ensures.dealt c.requires.lines same
+
+pub gather-requires-clause-first : goal.gather-requires-clause-first
+gather-requires-clause-first g c =
+    let s = c.args.shared.now in
+    let lines = of_lane 0 c.args.lines.now in
+    let a = c.args.first.now in
+    let b : LaneEnd = record { answers = a.answers; pass = c.deal.new.pass } in
+    let d = c.in_ok-tasks.ensures.dealt in
+    told_again s [] lines b (told_left s [] lines a b d.share d.own c.requires.first refl d.of d.left)
+
+pub gather-requires-clause-ended : goal.gather-requires-clause-ended
+gather-requires-clause-ended g c = c.in_ok-ends.ensures.ended c.args.first.now.answers c.requires.names
+    (λ k t low. (record_of c.args.first.now.pass, c.in_ok-tasks.ensures.dealt.starts k t low, c.requires.stand))
 
 pub returns : goal.returns
 returns g c =
@@ -34,4 +49,10 @@ returns g c =
       told = IfOk-weaker c.gather.result _ (λ x. IsTold s [] (by_lane lines) c.gather.new.first)
           (λ x told. all_told s lines a b c.gather.new.first tasks ends c.requires.first refl
           c.in_ok-tasks.ensures.dealt same told) c.gather.ensures.told;
+      work = for_each c.gather.result (λ w. s.config.turns ≤ work_in w (record_of c.gather.new.first.pass)) (λ w.
+          IfOk-weaker c.gather.result _ (λ x. s.config.turns ≤ work_in w (record_of c.gather.new.first.pass))
+          (λ x done. let due = c.in_ok-tasks.ensures.work w in omega (arith, done, due))
+          (c.gather.ensures.work w tasks (all_made w tasks ends
+          (sym c.in_ok-ends.ends.ok.0 ∙ c.in_ok-ends.ensures.len ∙ c.in_ok-tasks.tasks.ok.0)
+          (λ i d t low. c.in_ok-ends.ensures.made w i d t (omega (arith, low, c.in_ok-tasks.tasks.ok.0))))));
     }

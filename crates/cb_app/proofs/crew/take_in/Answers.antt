@@ -1,9 +1,20 @@
+use Rattle.std.proofs.Common.{◌+◌, ◌≤◌}
+use Rattle.std.proofs.lemmas.Result.{IfOk-weaker}
+use Rattle.cb_shared.specs.Passes.{record_of}
+use Rattle.cb_app.specs.Crew.{turns_due, work_in}
+use Rattle.cb_app.proofs.WorkDone.{work_taken}
 use Rattle.cb_app.proofs.crew.take_in.Goals as goal
 
 pub returns-in-Ok : goal.returns-in-Ok
 returns-in-Ok c = record {
-  told = λ given others are told ended apart.
+  told = λ given others are told ended apart none.
       let s = c.args.shared.now in
       let lines = c.args.ended.lines in
-      c.take_end.ensures.told given others lines are told (rw c.in-Ok.is at ended) apart;
+      c.take_end.ensures.told given others lines are told (rw c.in-Ok.is at ended) apart none;
+  work = λ w t made.
+      let old = work_in w (record_of c.args.first.now.pass) in
+      let new = work_in w (record_of c.take_end.new.first.pass) in
+      IfOk-weaker c.take_end.result _ (λ x. old + turns_due w t ≤ new)
+      (λ x sum. work_taken w t c.args.ended c.in-Ok.end old new c.in-Ok.is made sum)
+      (c.take_end.ensures.work w);
 }

@@ -2,9 +2,11 @@ use Rattle.std.proofs.Common.{List, [], refl, sym, ap, ◌∙◌, subst}
 use Rattle.cb_script.specs.Form.{AreLines}
 use Rattle.cb_shared.specs.Passes.{record_of}
 use Rattle.cb_lanes.specs.declared.body.Named.{Named}
-use Rattle.cb_lanes.specs.Bodies.{AreNamesOf}
+use Rattle.cb_lanes.specs.Bodies.{AreNamesOf, KnowsNames}
+use Rattle.cb_lanes.proofs.Laws.{lane_on_record}
 use Rattle.cb_app.specs.ByLane.{of_lane}
 use Rattle.cb_app.specs.Crew.{IsFresh}
+use Rattle.cb_app.proofs.AnswersRise.{none_known}
 use Rattle.cb_app.proofs.Crews.{of_lane_lines}
 use Rattle.cb_app.proofs.Records.{first_known, lane_told, opener_fresh}
 use Rattle.cb_app.proofs.threads.run_first.Goals as goal
@@ -20,13 +22,21 @@ pub returns-in-Ok-clause-told : goal.returns-in-Ok-clause-told
 returns-in-Ok-clause-told g c =
     let named = subst (λ (ns : List Named). AreNamesOf ns []) (sym c.new-names.ensures.empty) (λ name. refl) in
     let fresh = subst IsFresh (sym c.requires.begun.begun) (opener_fresh c.args.s.now.config) in
-    lane_told c.args.shared.now c.new-names.result (record_of c.args.pass) (of_lane 0 c.args.s.now.lines) c.in-Ok.end
-    fresh c.in-Ok.ensures.of.0
+    lane_told c.args.shared.now 0 c.new-names.result (record_of c.args.pass) (of_lane 0 c.args.s.now.lines) c.in-Ok.end
+    fresh (subst (KnowsNames (record_of c.args.pass)) (sym c.new-names.ensures.empty) tt) c.in-Ok.ensures.of.0
     (c.in-Ok.ensures.lines ∙ c.as_slice-2.ensures.items ∙ c.in_ok-lines.ensures ∙ ap (of_lane 0) c.as_slice.ensures.items)
-    c.in-Ok.ensures.answered c.in-Ok.ensures.part [] named
+    c.in-Ok.ensures.answered c.in-Ok.ensures.part c.in-Ok.ensures.goes c.in-Ok.ensures.rises [] named
+    (none_known (record_of c.args.pass))
 
 pub returns-in-Ok-clause-known : goal.returns-in-Ok-clause-known
 returns-in-Ok-clause-known g c =
     let named = subst (λ (ns : List Named). AreNamesOf ns []) (sym c.new-names.ensures.empty) (λ name. refl) in
     first_known c.new-names.result c.in-Ok.end.answers (record_of c.args.pass) (record_of c.in-Ok.end.pass)
     c.in-Ok.ensures.part named
+
+pub returns-in-Ok-clause-stand : goal.returns-in-Ok-clause-stand
+returns-in-Ok-clause-stand g c =
+    let named = subst (λ (ns : List Named). AreNamesOf ns []) (sym c.new-names.ensures.empty) (λ name. refl) in
+    let fresh = subst IsFresh (sym c.requires.begun.begun) (opener_fresh c.args.s.now.config) in
+    lane_on_record c.args.shared.now.config c.new-names.result c.in-Ok.end.answers (record_of c.args.pass)
+    (record_of c.in-Ok.end.pass) fresh.pins c.in-Ok.ensures.goes [] named

@@ -1,0 +1,219 @@
+-- What the answered lines tell that a closed record backs: of sets that lost too much, crashes that
+-- are losses of the run; and of want of room.
+use Rattle.std.proofs.Common.{◌≡◌, ◌⊎◌, ℕ, suc, List, [], ◌∷◌, ◌++◌, Option, None, Some, refl, sym, ap, subst, inl, inr, arith}
+use Rattle.std.specs.List.{AllByRecursion, Contains, cons_option, flat_map}
+use Rattle.std.proofs.lemmas.List.Sorted.{Contains-permutation}
+use Rattle.cb_member.specs.declared.names.Epoch.{Epoch}
+use Rattle.cb_member.specs.declared.names.Loss.{Loss}
+use Rattle.cb_member.specs.declared.names.NodeId.{NodeId}
+use Rattle.cb_types.specs.declared.answer.Answer.{Answer}
+use Rattle.cb_types.specs.declared.config.Config.{Config}
+use Rattle.cb_types.specs.Config.{IsAccepted}
+use Rattle.cb_types.specs.declared.handle.SetId.{SetId}
+use Rattle.cb_types.specs.declared.job.Job.{Job}
+use Rattle.cb_types.specs.declared.job.Job.TheVariants as job
+use Rattle.cb_types.specs.declared.reply.Reply.{Reply}
+use Rattle.cb_types.specs.declared.reply.Reply.TheVariants as answer
+use Rattle.cb_types.specs.declared.request.Request.{Request}
+use Rattle.cb_types.specs.declared.request.Request.TheVariants as line
+use Rattle.cb_world.specs.FarState.{FarState}
+use Rattle.cb_model.specs.Called.{handle_for}
+use Rattle.cb_rule.specs.declared.turn.Turn.{Turn}
+use Rattle.cb_rule.specs.declared.view.View.{View}
+use Rattle.cb_rule.specs.Lists.{Has}
+use Rattle.cb_rule.specs.OneHistory.{IsOneHistory}
+use Rattle.cb_record.specs.Backs.{Backs, Tells, happened_at, happened_for}
+use Rattle.cb_record.specs.Deeds.{Deed, deed, happened, happening}
+use Rattle.cb_record.specs.Lists.{HasOne, newest_first}
+use Rattle.cb_record.specs.Needs.{IsTurnFor, Meets, need_of}
+use Rattle.cb_record.specs.Parts.{Part}
+use Rattle.cb_record.specs.Told.{tolds}
+use Rattle.cb_record.proofs.Laws.{has_left, has_right}
+use Rattle.cb_shared.specs.Turning.{Did}
+use Rattle.cb_lanes.specs.Lost.{loss_of, losses_of}
+use Rattle.cb_app.specs.Crew.{part_of}
+use Rattle.cb_app.specs.Telling.{TellsLost, TellsRoom}
+use Rattle.cb_app.specs.Threaded.{AreLosses}
+use Rattle.cb_app.proofs.CrashesTold.{IsLoss, lost_told, room_told}
+
+-- ---- elements of lists
+has_cases : {A : Type 0} (x : A) (xs ys : List A) → Has x (xs ++ ys) → Has x xs ⊎ Has x ys
+has_cases x [] ys there = inr there
+has_cases x (y ∷ xs) ys (inl e) = inl (inl e)
+has_cases x (y ∷ xs) ys (inr later) = elim (has_cases x xs ys later) [
+  | inl front ↦ inl (inr front)
+  | inr back ↦ inr back
+]
+
+has_flat : {A B : Type 0} (f : A → List B) (a : A) (b : B) (xs : List A) → Has a xs → Has b (f a)
+    → Has b (flat_map f xs)
+has_flat f a b [] there own = absurd there
+has_flat {B = B} f a b (x ∷ xs) (inl e) own =
+    has_left b (f x) (flat_map f xs) (subst (λ y. Has b (f y)) (sym e) own)
+has_flat f a b (x ∷ xs) (inr later) own =
+    has_right b (f x) (flat_map f xs) (has_flat f a b xs later own)
+
+contains_has : {A : Type 0} (x : A) (xs : List A) → Has x xs → Contains xs x
+contains_has x [] there = absurd there
+contains_has x (y ∷ xs) (inl e) = (0, omega arith, e)
+contains_has x (y ∷ xs) (inr later) = let z = contains_has x xs later in let l = z.1 in
+    (suc z.0, omega (arith, l), z.2)
+
+-- ---- a crash of the record is a loss of the answers
+abbrev crashing : NodeId → Epoch → Deed
+crashing node epoch = record { job = job.Crash node; reply = Some (answer.EpochAt epoch) }
+
+abbrev node_in : NodeId → Job → NodeId
+node_in other (job.Crash node) = node
+node_in other j = other
+
+abbrev epoch_in : Epoch → Option Reply → Epoch
+epoch_in other (Some (answer.EpochAt epoch)) = epoch
+epoch_in other r = other
+
+crash_found : (n : NodeId) (r : Reply) (node : NodeId) (epoch : Epoch)
+    → Has (crashing node epoch) (happening (job.Crash n) (Some r))
+    → loss_of (line.Crash n) r ≡ Some (record { node = node; epoch = epoch })
+crash_found n (answer.EpochAt e) node epoch (inl same) = λ i. Some (record {
+  node = node_in n (ap (λ (d : Deed). d.job) same i);
+  epoch = epoch_in e (ap (λ (d : Deed). d.reply) same i);
+})
+crash_found n (answer.EpochAt e) node epoch (inr later) = absurd later
+crash_found n r node epoch there = absurd there
+
+no_make : (bytes : List ℕ) (r : Reply) (node : NodeId) (epoch : Epoch)
+    → Has (crashing node epoch) (happening (job.Make bytes) (Some r)) → ⊥
+no_make bytes (answer.Made handle version) node epoch (inl same) =
+    absurd (let e = ap (λ (d : Deed). d.job) same in cc)
+no_make bytes (answer.Made handle version) node epoch (inr later) = later
+no_make bytes r node epoch there = there
+
+no_join : (n : NodeId) (r : Reply) (node : NodeId) (epoch : Epoch)
+    → Has (crashing node epoch) (happening (job.Join n) (Some r)) → ⊥
+no_join n (answer.EpochAt e) node epoch (inl same) =
+    absurd (let f = ap (λ (d : Deed). d.job) same in cc)
+no_join n (answer.EpochAt e) node epoch (inr later) = later
+no_join n r node epoch there = there
+
+line_found : (q : Request) (r : Reply) (node : NodeId) (epoch : Epoch)
+    → Has (crashing node epoch) (happened_at q r)
+    → loss_of q r ≡ Some (record { node = node; epoch = epoch })
+line_found (line.Make name bytes) r node epoch there = absurd (no_make bytes r node epoch there)
+line_found (line.Crash n) r node epoch there = crash_found n r node epoch there
+line_found (line.Join n) r node epoch there = absurd (no_join n r node epoch there)
+line_found q r node epoch there = absurd there
+
+has_more : (o : Option Loss) (l : Loss) (ls : List Loss) → (o ≡ Some l) ⊎ Has l ls
+    → Has l (cons_option o ls)
+has_more None l ls (inl e) = absurd (let f = e in cc)
+has_more None l ls (inr there) = there
+has_more (Some x) l ls (inl e) = inl (same x l e)
+  where
+    same : (a b : Loss) → Some a ≡ Some b → a ≡ b
+    same a b f = cc
+has_more (Some x) l ls (inr there) = inr there
+
+found_loss : (before after : List Answer) (node : NodeId) (epoch : Epoch)
+    → Has (crashing node epoch) (newest_first happened_for (tolds before after))
+    → Has (let l : Loss = record { node = node; epoch = epoch } in l) (losses_of after)
+found_loss before [] node epoch there = absurd there
+found_loss before (a ∷ after) node epoch there =
+    elim (has_cases (crashing node epoch)
+    (newest_first happened_for (tolds (before ++ a ∷ []) after)) (happened_at a.request a.reply) there) [
+      | inl later ↦ has_more (loss_of a.request a.reply) _ (losses_of after)
+          (inr (found_loss (before ++ a ∷ []) after node epoch later))
+      | inr own ↦ has_more (loss_of a.request a.reply) _ (losses_of after)
+          (inl (line_found a.request a.reply node epoch own))
+    ]
+
+module _ (v : View) (answers : List Answer) (losses : List Loss) (backs : Backs (part_of v) (tolds [] answers))
+    (are : AreLosses losses answers) where
+  is_loss : (loss : Loss) → IsLoss v.turns loss → Contains losses loss
+  is_loss loss crash =
+      let t = crash.turn in
+      let d = crashing loss.node loss.epoch in
+      let is : deed t ≡ d = λ i. record { job = crash.job_is i; reply = crash.reply_is i } in
+      let own : Has d (happened (deed t)) = subst (λ (x : Deed). Has d (happened x)) (sym is) (inl refl) in
+      let all : Has d (flat_map (λ (turn : Turn). happened (deed turn)) v.turns) =
+      has_flat (λ (turn : Turn). happened (deed turn)) t d v.turns crash.there own in
+      Contains-permutation (losses_of answers) losses loss are.are (contains_has loss (losses_of answers)
+      (found_loss [] answers loss.node loss.epoch (subst (Has d) backs.happens all)))
+
+  all_losses : (ls : List Loss) → AllByRecursion (IsLoss v.turns) ls
+      → AllByRecursion (Contains losses) ls
+  all_losses [] each = tt
+  all_losses (l ∷ ls) each = (is_loss l each.0, all_losses ls each.1)
+
+-- ---- the turn of an answer
+find_turn : (own : Option Job) (h : Option ℕ) (r : Reply) (ts : List Turn) → HasOne (IsTurnFor own h r) ts
+    → (t : Turn) × Has t ts × (t.reply ≡ Some r)
+find_turn own h r [] one = absurd one
+find_turn own h r (t ∷ ts) (inl is) = (t, inl refl, is.0)
+find_turn own h r (t ∷ ts) (inr later) = let z = find_turn own h r ts later in (z.0, inr z.1, z.2)
+
+lost_turn : (d : Part) (h : Option ℕ) (q : Request) (id : SetId) (ls : List Loss)
+    → Meets d (need_of h q (answer.Unavailable id ls))
+    → (t : Turn) × Has t d.turns × (t.reply ≡ Some (answer.Unavailable id ls))
+lost_turn d None q id ls x = find_turn _ None _ d.turns x
+lost_turn d (Some h) (line.Read name) id ls x = find_turn _ (Some h) _ d.turns x
+lost_turn d (Some h) (line.Pin name) id ls x = find_turn _ (Some h) _ d.turns x
+lost_turn d (Some h) (line.Peek name) id ls x = find_turn _ (Some h) _ d.turns x
+lost_turn d (Some h) (line.Write name at bytes) id ls x = find_turn _ (Some h) _ d.turns x
+lost_turn d (Some h) (line.Free name) id ls x = find_turn _ (Some h) _ d.turns x
+lost_turn d (Some h) q id ls x = find_turn _ (Some h) _ d.turns x
+
+room_turn : (d : Part) (h : Option ℕ) (q : Request) (f l n : ℕ)
+    → Meets d (need_of h q (answer.NoRoom f l n))
+    → (t : Turn) × Has t d.turns × (t.reply ≡ Some (answer.NoRoom f l n))
+room_turn d None q f l n x = find_turn _ None _ d.turns x
+room_turn d (Some h) (line.Read name) f l n x = find_turn _ (Some h) _ d.turns x
+room_turn d (Some h) (line.Pin name) f l n x = find_turn _ (Some h) _ d.turns x
+room_turn d (Some h) (line.Peek name) f l n x = find_turn _ (Some h) _ d.turns x
+room_turn d (Some h) (line.Write name at bytes) f l n x = find_turn _ (Some h) _ d.turns x
+room_turn d (Some h) (line.Free name) f l n x = find_turn _ (Some h) _ d.turns x
+room_turn d (Some h) q f l n x = find_turn _ (Some h) _ d.turns x
+
+-- ---- all answers of a closed record
+module _ (first : ℕ) (c : Config) (ok : IsAccepted c) (v : View) (count : ℕ) (last : FarState)
+    (one : IsOneHistory Did first c (v ∷ []) count last) (answers : List Answer)
+    (backs : Backs (part_of v) (tolds [] answers)) where
+  lost_reply : (losses : List Loss) → AreLosses losses answers → (h : Option ℕ) (q : Request) (r : Reply)
+      → Meets (part_of v) (need_of h q r) → TellsLost c losses r
+  lost_reply losses are h q (answer.Unavailable id ls) x =
+      let z = lost_turn (part_of v) h q id ls x in
+      let t = lost_told first c ok v count last one z.0 id ls z.1 z.2 in
+      (t.0, all_losses v answers losses backs are ls t.1)
+  lost_reply losses are h q r x = tt
+
+  room_reply : (h : Option ℕ) (q : Request) (r : Reply) → Meets (part_of v) (need_of h q r)
+      → TellsRoom c r
+  room_reply h q (answer.NoRoom f l n) x =
+      let z = room_turn (part_of v) h q f l n x in
+      room_told first c ok v count last one z.0 f l n z.1 z.2
+  room_reply h q r x = tt
+
+  losts : (losses : List Loss) → AreLosses losses answers → (before after : List Answer)
+      → AllByRecursion (Tells (part_of v)) (tolds before after)
+      → AllByRecursion (λ a. TellsLost c losses a.reply) after
+  losts losses are before [] each = tt
+  losts losses are before (a ∷ after) each = (
+    lost_reply losses are (handle_for before a.request a.reply) a.request a.reply each.0,
+    losts losses are (before ++ a ∷ []) after each.1,
+  )
+
+  rooms : (before after : List Answer) → AllByRecursion (Tells (part_of v)) (tolds before after)
+      → AllByRecursion (λ a. TellsRoom c a.reply) after
+  rooms before [] each = tt
+  rooms before (a ∷ after) each = (
+    room_reply (handle_for before a.request a.reply) a.request a.reply each.0,
+    rooms (before ++ a ∷ []) after each.1,
+  )
+
+  -- each loss that an answer tells is one of the run
+  pub answers_lost : (losses : List Loss) → AreLosses losses answers
+      → AllByRecursion (λ a. TellsLost c losses a.reply) answers
+  answers_lost losses are = losts losses are [] answers backs.tells
+
+  -- and each answer tells of room as it was
+  pub answers_room : AllByRecursion (λ a. TellsRoom c a.reply) answers
+  answers_room = rooms [] answers backs.tells

@@ -1,0 +1,198 @@
+-- Each crash that the members know was a turn of a closed record; so a turn that was answered
+-- Unavailable tells crashes of the record. What is of the members alone would fit cb_member.
+use Rattle.std.proofs.Common.{◌≡◌, ◌⊎◌, ℕ, zero, suc, ◌+◌, ◌<◌, true, false, List, [], ◌∷◌, ◌++◌, length, get_or, Option, None, Some, slice_get, refl, sym, ap, ◌∙◌, subst, inl, inr, arith, length-set, get_or-set_same, get_or-set_other}
+use Rattle.std.specs.List.{AllByRecursion, cons_option}
+use Rattle.std.specs.Option.{option_map}
+use Rattle.std.proofs.lemmas.Bool.{cases_eq, cases_lt}
+use Rattle.std.proofs.lemmas.List.{get_or_past}
+use Rattle.cb_member.specs.declared.names.Epoch.{Epoch}
+use Rattle.cb_member.specs.declared.names.Loss.{Loss}
+use Rattle.cb_member.specs.declared.names.NodeId.{NodeId}
+use Rattle.cb_member.specs.declared.names.Shard.{Shard}
+use Rattle.cb_member.specs.Membership.{Membership, NodeState, crashed_at, fresh_node, next_epoch, state_of, with_crash, with_join, with_state}
+use Rattle.cb_member.proofs.Laws.{none_crashed_at_first}
+use Rattle.cb_set.specs.Lost.{lost}
+use Rattle.cb_types.specs.declared.config.Config.{Config}
+use Rattle.cb_types.specs.Config.{IsAccepted}
+use Rattle.cb_types.specs.declared.handle.SetId.{SetId}
+use Rattle.cb_types.specs.declared.job.Job.{Job}
+use Rattle.cb_types.specs.declared.job.Job.TheVariants as job
+use Rattle.cb_types.specs.declared.reply.Reply.{Reply}
+use Rattle.cb_types.specs.declared.reply.Reply.TheVariants as answer
+use Rattle.cb_world.specs.Empty.{empty_far}
+use Rattle.cb_world.specs.FarState.{FarState}
+use Rattle.cb_rule.specs.declared.turn.Turn.{Turn}
+use Rattle.cb_rule.specs.declared.view.View.{View}
+use Rattle.cb_rule.specs.Lists.{Has}
+use Rattle.cb_rule.specs.Locking.{turn_number}
+use Rattle.cb_rule.specs.OneHistory.{IsOneHistory}
+use Rattle.cb_shared.specs.Turning.{Did}
+use Rattle.cb_app.proofs.TurnGoes.{GoesOn}
+use Rattle.cb_app.proofs.TurnHistory.{TellsIf, TurnGoes, at_turn, each_goes}
+
+-- ---- the members, where one node has a new state
+-- a node is that one, or has the state that it had
+by_node : (m : Membership) (node q : NodeId) (s : NodeState)
+    → ((q.n ≡ node.n) × (state_of (with_state m node s) q ≡ s))
+    ⊎ (state_of (with_state m node s) q ≡ state_of m q)
+by_node m node q s = elim (cases_eq q.n node.n) [
+  | inl e ↦ elim (cases_lt node.n (length m.nodes)) [
+    | inl inside ↦ inl (
+      e,
+      ap (λ (n : ℕ). get_or (with_state m node s).nodes n fresh_node) e
+          ∙ get_or-set_same m.nodes node.n s fresh_node inside,
+    )
+    | inr outside ↦ inr (
+        let len = length-set m.nodes node.n s in
+        get_or_past (with_state m node s).nodes q.n fresh_node (omega (arith, len, outside, e))
+        ∙ sym (get_or_past m.nodes q.n fresh_node (omega (arith, outside, e))))
+  ]
+  | inr off ↦ inr (get_or-set_other m.nodes node.n q.n s fresh_node off)
+]
+
+-- an element of a list with one more is one of the list, or that one
+at_last_one : {A : Type 0} (xs : List A) (x y : A) (i : ℕ) → slice_get (xs ++ x ∷ []) i ≡ Some y
+    → (slice_get xs i ≡ Some y) ⊎ (x ≡ y)
+at_last_one [] x y zero e = inr (same x y e)
+  where
+    same : {A : Type 0} (a b : A) → Some a ≡ Some b → a ≡ b
+    same a b f = cc
+at_last_one [] x y (suc i) e = absurd (let f = e in cc)
+at_last_one (z ∷ xs) x y zero e = inl e
+at_last_one (z ∷ xs) x y (suc i) e = at_last_one xs x y i e
+
+-- behind a crash
+crash_cases : (m : Membership) (node q : NodeId) (which : ℕ) (epoch : Epoch)
+    → crashed_at (with_crash m node) q which ≡ Some epoch
+    → (crashed_at m q which ≡ Some epoch) ⊎ ((node ≡ q) × (next_epoch m ≡ epoch))
+crash_cases m node q which epoch e = by (by_node m node q s)
+  where
+    s : NodeState
+    s = record {
+      up = false;
+      incarnation = (state_of m node).incarnation;
+      crashes = (state_of m node).crashes ++ next_epoch m ∷ [];
+    }
+
+    by : ((q.n ≡ node.n) × (state_of (with_state m node s) q ≡ s))
+        ⊎ (state_of (with_state m node s) q ≡ state_of m q)
+        → (crashed_at m q which ≡ Some epoch) ⊎ ((node ≡ q) × (next_epoch m ≡ epoch))
+    by (inl z) = elim (at_last_one (state_of m node).crashes (next_epoch m) epoch which
+        (ap (λ (x : NodeState). slice_get x.crashes which) (sym z.1) ∙ e)) [
+          | inl before ↦ inl (ap (λ (n : ℕ). slice_get (get_or m.nodes n fresh_node).crashes which) z.0 ∙ before)
+          | inr now ↦ inr ((λ i. record { n = sym z.0 i }), now)
+        ]
+    by (inr z) = inl (ap (λ (x : NodeState). slice_get x.crashes which) (sym z) ∙ e)
+
+-- behind a join
+join_cases : (m : Membership) (node q : NodeId) (which : ℕ)
+    → crashed_at (with_join m node) q which ≡ crashed_at m q which
+join_cases m node q which = by (by_node m node q s)
+  where
+    s : NodeState
+    s = record {
+      up = true;
+      incarnation = (state_of m node).incarnation + 1;
+      crashes = (state_of m node).crashes;
+    }
+
+    by : ((q.n ≡ node.n) × (state_of (with_state m node s) q ≡ s))
+        ⊎ (state_of (with_state m node s) q ≡ state_of m q)
+        → crashed_at (with_join m node) q which ≡ crashed_at m q which
+    by (inl z) = ap (λ (x : NodeState). slice_get x.crashes which) z.1
+        ∙ ap (λ (n : ℕ). slice_get (get_or m.nodes n fresh_node).crashes which) (sym z.0)
+    by (inr z) = ap (λ (x : NodeState). slice_get x.crashes which) z
+
+-- ---- the turns
+-- a turn of the record had the node crash at this epoch
+pub record IsCrash (ts : List Turn) (node : NodeId) (epoch : Epoch) : Type 0 where
+  pub turn : Turn
+  pub there : Has turn ts
+  pub job_is : turn.job ≡ job.Crash node
+  pub reply_is : turn.reply ≡ Some (answer.EpochAt epoch)
+
+-- all that the members know of crashes were such turns
+abbrev pub AreCrashes : List Turn → Membership → Type 0
+AreCrashes ts m = (node : NodeId) (which : ℕ) (epoch : Epoch) → crashed_at m node which ≡ Some epoch
+    → IsCrash ts node epoch
+
+-- so each loss was one
+abbrev pub IsLoss : List Turn → Loss → Type 0
+IsLoss ts loss = IsCrash ts loss.node loss.epoch
+
+pub losses_crashed : (ts : List Turn) (m : Membership) → AreCrashes ts m → (shards : List Shard)
+    → AllByRecursion (IsLoss ts) (lost m shards)
+losses_crashed ts m are [] = tt
+losses_crashed ts m are (shard ∷ shards) =
+    by (crashed_at m shard.node shard.incarnation) refl (losses_crashed ts m are shards)
+  where
+    by : (o : Option Epoch) → crashed_at m shard.node shard.incarnation ≡ o
+        → AllByRecursion (IsLoss ts) (lost m shards)
+        → AllByRecursion (IsLoss ts) (cons_option
+        (option_map (λ epoch. let l : Loss = record { node = shard.node; epoch = epoch } in l) o) (lost m shards))
+    by None e rest = rest
+    by (Some epoch) e rest = (are shard.node shard.incarnation epoch e, rest)
+
+crashes_same : (ts : List Turn) (old new : Membership) → new ≡ old → AreCrashes ts old
+    → AreCrashes ts new
+crashes_same ts old new same are = subst (AreCrashes ts) (sym same) are
+
+crashes_after : (ts : List Turn) (t : Turn) → Has t ts → (j : Job) (old new : Membership)
+    (r : Option Reply) → t.job ≡ j → t.reply ≡ r → GoesOn j old new r → AreCrashes ts old
+    → AreCrashes ts new
+crashes_after ts t there (job.Crash node) old new r at tells (inl x) are =
+    crashes_same ts old new x.0 are
+crashes_after ts t there (job.Crash node) old new r at tells (inr x) are =
+    subst (AreCrashes ts) (sym x.0) (λ q which epoch e. elim (crash_cases old node q which epoch e) [
+      | inl before ↦ are q which epoch before
+      | inr now ↦ record {
+        turn = t;
+        there = there;
+        job_is = at ∙ ap (λ (n : NodeId). job.Crash n) now.0;
+        reply_is = tells ∙ x.1 ∙ ap (λ (n : Epoch). Some (answer.EpochAt n)) now.1;
+      }
+    ])
+crashes_after ts t there (job.Join node) old new r at tells (inl x) are =
+    crashes_same ts old new x.0 are
+crashes_after ts t there (job.Join node) old new r at tells (inr x) are =
+    subst (AreCrashes ts) (sym x.0)
+    (λ q which epoch e. are q which epoch (sym (join_cases old node q which) ∙ e))
+crashes_after ts t there j old new r at tells x are = crashes_same ts old new x are
+
+module _ (first : ℕ) (c : Config) (ok : IsAccepted c) (v : View) (count : ℕ) (last : FarState)
+    (one : IsOneHistory Did first c (v ∷ []) count last) where
+  abbrev Known : ℕ → FarState → Type 0
+  Known n far = AreCrashes v.turns far.members
+
+  goes : (t : Turn) → Has t v.turns → TurnGoes c t
+  goes t there = each_goes first c v count last one ok t there
+
+  start : Known 0 (empty_far first c)
+  start node which epoch e =
+      absurd (let none = none_crashed_at_first c.nodes node which in let f = sym none ∙ e in cc)
+
+  step : (t : Turn) → Has t v.turns → turn_number t < count → Known (turn_number t) t.took
+      → Known (suc (turn_number t)) t.gave
+  step t there low before = crashes_after v.turns t there t.job t.took.members t.gave.members t.reply refl
+      refl (goes t there).goes before
+
+  pub found_crashes : (t : Turn) → Has t v.turns → AreCrashes v.turns t.took.members
+  found_crashes t there = at_turn first c v count last one Known start step t there
+
+  -- what a turn that was answered Unavailable tells
+  pub lost_told : (t : Turn) (id : SetId) (losses : List Loss) → Has t v.turns
+      → t.reply ≡ Some (answer.Unavailable id losses)
+      → (c.r < length losses) × AllByRecursion (IsLoss v.turns) losses
+  lost_told t id losses there is =
+      let tells = subst (TellsIf c t.took.members) is (goes t there).tells in (
+        tells.2,
+        subst (AllByRecursion (IsLoss v.turns)) (sym tells.1)
+            (losses_crashed v.turns t.took.members (found_crashes t there) tells.0),
+      )
+
+  -- and one that was answered NoRoom
+  pub room_told : (t : Turn) (frames loose nodes : ℕ) → Has t v.turns
+      → t.reply ≡ Some (answer.NoRoom frames loose nodes)
+      → TellsIf c t.took.members (Some (answer.NoRoom frames loose nodes))
+  room_told t frames loose nodes there is =
+      subst (TellsIf c t.took.members) is (goes t there).tells

@@ -1,0 +1,220 @@
+-- Which operations tell neither of a lost set nor of want of room, and that each leaves the members.
+-- It is of the rules alone, and would fit cb_core beside its NoFrames.
+use Rattle.std.proofs.Common.{◌≡◌, ◌⊎◌, ℕ, zero, suc, ◌+◌, ◌-◌, ◌^◌, ◌==◌, nat_lt, if◌then◌else◌, Bool, true, false, List, None, Some, refl, ap, ◌∙◌, inl, inr}
+use Rattle.cb_ptr.specs.declared.word.State.{State}
+use Rattle.cb_ptr.specs.declared.word.State.TheVariants as word
+use Rattle.cb_ptr.specs.Word.{state_of, len_of}
+use Rattle.cb_types.specs.declared.config.Config.{Config}
+use Rattle.cb_types.specs.declared.reply.Reply.{Reply}
+use Rattle.cb_types.specs.declared.reply.Reply.TheVariants as answer
+use Rattle.cb_world.specs.declared.event.Event.{Event}
+use Rattle.cb_world.specs.FarState.{FarState}
+use Rattle.cb_mutate.specs.Answered.{AbsentAs, AnsweredAs, EmptyAnswer}
+use Rattle.cb_mutate.specs.FreeRule.{FreeAs, FreeFar, FreeHere, FreeRule, LeavesPlace}
+use Rattle.cb_mutate.specs.MakeRule.{MakeRule}
+use Rattle.cb_mutate.specs.WriteRule.{NextVersion, WriteHere, WriteRule}
+use Rattle.cb_evict.specs.AbortRule.{AbortRule, HasNoBatch, HasGivenUp}
+use Rattle.cb_evict.specs.BeginRule.{BeginRule, HasBatch}
+use Rattle.cb_evict.specs.CommitRule.{CommitRule, HasShort, HasCommitted}
+use Rattle.cb_evict.specs.EvictRule.{EvictRule, HasBoth, HasFewNodes, HasFewSpans}
+use Rattle.cb_evict.specs.ShipRule.{ShipRule}
+use Rattle.cb_filter.specs.FilterRule.{EmptyAnswer as EmptyFilter, FilterAs, FilterHere, FilterRule}
+use Rattle.cb_core.specs.Turned.{IsDeclined}
+
+-- whether a reply tells of a lost set, or of want of room
+abbrev tells_lack : Reply → Bool
+tells_lack (answer.Unavailable id lost) = true
+tells_lack (answer.NoRoom frames loose nodes) = true
+tells_lack r = false
+
+-- the reply is neither
+abbrev pub Plain : Reply → Type 0
+Plain r = tells_lack r ≡ false
+
+-- it is this one
+pub off : (r q : Reply) → tells_lack q ≡ false → r ≡ q → Plain r
+off r q other is = ap tells_lack is ∙ other
+
+-- the members are as they were, and the reply is plain
+pub record StaysPlain (far new : FarState) (r : Reply) : Type 0 where
+  pub members : new.members ≡ far.members
+  pub plain : Plain r
+
+members : (far new : FarState) → new ≡ far → new.members ≡ far.members
+members far new same = ap (λ (f : FarState). f.members) same
+
+-- nothing changed, with this reply
+stays : (far new : FarState) (r q : Reply) → tells_lack q ≡ false → r ≡ q → new ≡ far
+    → StaysPlain far new r
+stays far new r q other is same = record { members = members far new same; plain = off r q other is }
+
+-- or the far state is this one
+comes : (far new next : FarState) (r q : Reply) → tells_lack q ≡ false → r ≡ q → new ≡ next
+    → next.members ≡ far.members → StaysPlain far new r
+comes far new next r q other is same keeps = record {
+  members = members next new same ∙ keeps;
+  plain = off r q other is;
+}
+
+-- ---- calls on objects
+absent : (q : State) (h : ℕ) (es : List Event) (r : Reply) → AbsentAs q h es r → Plain r
+absent word.Empty h es r (v, told, e) = by v e
+  where
+    by : (v : ℕ) → EmptyAnswer v r → Plain r
+    by zero e = off r answer.Unmade refl e
+    by (suc n) e = off r answer.Freed refl e
+absent word.Far h es r e = off r answer.NotHere refl e
+absent word.Here h es r e = absurd e
+absent word.Moving h es r e = off r answer.Moving refl e
+
+pub answered : (here : ℕ → Type 0) (q : State) (w h : ℕ) (es : List Event) (r : Reply)
+    → (here w → Plain r) → AnsweredAs q here w h es r → Plain r
+answered here word.Here w h es r f a = f a
+answered here word.Empty w h es r f a = absent word.Empty h es r a
+answered here word.Far w h es r f a = absent word.Far h es r a
+answered here word.Moving w h es r f a = absent word.Moving h es r a
+
+next_plain : (v : ℕ) (r : Reply) → NextVersion v r → Plain r
+next_plain v r (inl (e, is)) = off r answer.Worn refl is
+next_plain v r (inr (l, is)) = off r (answer.Version (v + 1)) refl is
+
+pub make_plain : (handles : ℕ) (bytes : List ℕ) (far new : FarState) (r : Reply) (es : List Event)
+    → MakeRule handles bytes far new r es → StaysPlain far new r
+make_plain handles bytes far new (answer.Full n) es x =
+    record { members = members far new x.2.0; plain = refl }
+make_plain handles bytes far new answer.NoFrame es x =
+    record { members = members far new x.2.0; plain = refl }
+make_plain handles bytes far new (answer.Made h version) es x =
+    record { members = ap (λ (f : FarState). f.members) x.1.state; plain = refl }
+make_plain handles bytes far new r es x = absurd x
+
+pub write_plain : (h at : ℕ) (bytes : List ℕ) (r : Reply) (es : List Event) → WriteRule h at bytes r es
+    → Plain r
+write_plain h at bytes r es a =
+    answered (WriteHere h at bytes es r) (state_of a.word) a.word h es r (by a.word) a.answer
+  where
+    by : (w : ℕ) → WriteHere h at bytes es r w → Plain r
+    by w (inl (past, is)) = off r (answer.Range (len_of w)) refl is
+    by w (inr (fits, inl (some, is))) = off r _ refl is
+    by w (inr (fits, inr (none, (v, words, taken, next)))) = next_plain v r next
+
+free_reply : (h : ℕ) (far new : FarState) (r : Reply) (es : List Event) → FreeRule h far new r es
+    → Plain r
+free_reply h far new r es a = by (state_of a.reply.word) a.reply.word a.reply.answer
+  where
+    here : (w : ℕ) → FreeHere h es r w → Plain r
+    here w (inl (some, is)) = off r _ refl is
+    here w (inr (none, (v, words, taken, next))) = next_plain v r next
+
+    by : (q : State) (w : ℕ) → FreeAs q w h es r → Plain r
+    by word.Far w (v, told, next) = next_plain v r next
+    by word.Here w x = here w x
+    by word.Empty w x = absent word.Empty h es r x
+    by word.Moving w x = absent word.Moving h es r x
+
+leaves_members : (q : State) (far new : FarState) (h : ℕ) → LeavesPlace q far new h
+    → new.members ≡ far.members
+leaves_members word.Here far new h x = ap (λ (f : FarState). f.members) x.left
+leaves_members word.Far far new h x = ap (λ (f : FarState). f.members) x.left
+leaves_members word.Empty far new h x = absurd x
+leaves_members word.Moving far new h x = absurd x
+
+free_members : (w h : ℕ) (r : Reply) (far new : FarState) → FreeFar w h r far new
+    → new.members ≡ far.members
+free_members w h (answer.Version n) far new x = leaves_members (state_of w) far new h x
+free_members w h r far new x = members far new x
+
+pub free_plain : (h : ℕ) (far new : FarState) (r : Reply) (es : List Event) → FreeRule h far new r es
+    → StaysPlain far new r
+free_plain h far new r es a = record {
+  members = free_members a.reply.word h r far new a.state;
+  plain = free_reply h far new r es a;
+}
+
+pub filter_plain : (frames h : ℕ) (far new : FarState) (r : Reply) (es : List Event)
+    → FilterRule frames h far new r es → StaysPlain far new r
+filter_plain frames h far new r es a = by (state_of a.word) a.word a.answer
+  where
+    empty : (v : ℕ) → EmptyFilter v r → Plain r
+    empty zero e = off r answer.Unmade refl e
+    empty (suc n) e = off r answer.NotHere refl e
+
+    here : (w : ℕ) → FilterHere frames h w far new r es → StaysPlain far new r
+    here w (inl (some, is, same)) = stays far new r _ refl is same
+    here w (inr (claimed, (seat, at, inl x))) = stays far new r _ refl x.reply x.state
+    here w (inr (claimed, (seat, at, inr (inl x)))) = stays far new r _ refl x.reply x.state
+    here w (inr (claimed, (seat, at, inr (inr (slot, x))))) =
+        comes far new _ r answer.Moved refl x.reply x.state refl
+
+    by : (q : State) (w : ℕ) → FilterAs q frames h w far new r es → StaysPlain far new r
+    by word.Here w x = here w x
+    by word.Empty w ((v, told, e), same) = record { members = members far new same; plain = empty v e }
+    by word.Far w (e, same) = stays far new r answer.NotHere refl e same
+    by word.Moving w (e, same) = stays far new r answer.Moving refl e same
+
+-- ---- evictions
+pub evict_plain : (c : Config) (far new : FarState) (r : Reply) (es : List Event)
+    → EvictRule c far new r es → StaysPlain far new r
+evict_plain c far new r es a = by a.answered
+  where
+    by : HasFewSpans c far new r a.loose ⊎ (HasFewNodes c far new r a.loose
+        ⊎ HasBoth c far new r a.loose es) → StaysPlain far new r
+    by (inl x) = stays far new r _ refl x.reply x.state
+    by (inr (inl x)) = stays far new r _ refl x.reply x.state
+    by (inr (inr x)) = comes far new _ r _ refl x.reply x.evicted.state refl
+
+pub begin_plain : (c : Config) (far new : FarState) (r : Reply) (es : List Event)
+    → BeginRule c far new r es → StaysPlain far new r
+begin_plain c far new r es (inl a) = stays far new r _ refl a.reply a.state
+begin_plain c far new r es (inr a) = by a.answered
+  where
+    by : HasFewSpans c far new r a.loose ⊎ (HasFewNodes c far new r a.loose
+        ⊎ HasBatch c far new r a.loose es) → StaysPlain far new r
+    by (inl x) = stays far new r _ refl x.reply x.state
+    by (inr (inl x)) = stays far new r _ refl x.reply x.state
+    by (inr (inr x)) = comes far new _ r _ refl x.reply x.begun.state refl
+
+pub ship_plain : (far new : FarState) (r : Reply) (es : List Event) → ShipRule far new r es
+    → StaysPlain far new r
+ship_plain far new r es a = elim a.ships [
+  | inl x ↦ stays far new r answer.NoBatch refl x.reply x.state
+  | inr (inl x) ↦ stays far new r answer.AllShipped refl x.reply x.state
+  | inr (inr (inl x)) ↦ stays far new r answer.NoNode refl x.reply x.state
+  | inr (inr (inr x)) ↦ comes far new _ r (answer.Shipped x.position) refl x.reply x.state refl
+]
+
+pub commit_plain : (far new : FarState) (r : Reply) (es : List Event) → CommitRule far new r es
+    → StaysPlain far new r
+commit_plain far new r es a = by a.answered
+  where
+    by : HasNoBatch far new r ⊎ (HasShort far new r ⊎ HasCommitted far new r) → StaysPlain far new r
+    by (inl x) = stays far new r _ refl x.reply x.state
+    by (inr (inl x)) = stays far new r _ refl x.reply x.state
+    by (inr (inr x)) = comes far new _ r _ refl x.reply x.state refl
+
+pub abort_plain : (far new : FarState) (r : Reply) (es : List Event) → AbortRule far new r es
+    → StaysPlain far new r
+abort_plain far new r es a = by a.answered
+  where
+    by : HasNoBatch far new r ⊎ HasGivenUp far new r → StaysPlain far new r
+    by (inl x) = stays far new r _ refl x.reply x.state
+    by (inr x) = comes far new _ r _ refl x.reply x.state refl
+
+-- ---- a write that is declined
+some_none : (r : Reply) → Some r ≡ None → ⊥
+some_none r e = cc
+
+some_same : (a b : Reply) → Some a ≡ Some b → a ≡ b
+some_same a b e = cc
+
+pub declined_plain : (h at count : ℕ) (far : FarState) (r : Reply) (es : List Event)
+    → IsDeclined h at count far (Some r) es → Plain r
+declined_plain h at count far r es (inl (gone, none, nothing)) = absurd (some_none r none)
+declined_plain h at count far r es (inr (stays, (w, v, found, far_word, told, last, is))) =
+    by (nat_lt (len_of w) (at + count)) (v == 2 ^ 64 - 1) is
+  where
+    by : (past worn : Bool) → Some r ≡ (if past then Some (answer.Range (len_of w))
+        else if worn then Some answer.Worn else None) → Plain r
+    by true worn e = off r (answer.Range (len_of w)) refl (some_same _ _ e)
+    by false true e = off r answer.Worn refl (some_same _ _ e)
+    by false false e = absurd (some_none r e)

@@ -1,0 +1,110 @@
+-- A run by threads: what was told, and what the runtime was closed with.
+use Rattle.std.proofs.Common.{◌≡◌, ℕ, ◌≤◌, List, [], Result, Ok, Err, sym, ap, ◌∙◌, subst}
+use Rattle.std.specs.Prelude.{IfOk, map}
+use Rattle.std.specs.List.{AllByRecursion}
+use Rattle.cb_member.specs.declared.no_memory.NoMemory.{NoMemory}
+use Rattle.cb_types.specs.declared.answer.Answer.{Answer}
+use Rattle.cb_types.specs.declared.config.Config.{Config}
+use Rattle.cb_types.specs.Config.{IsAccepted}
+use Rattle.cb_world.specs.World.{WorldState}
+use Rattle.cb_script.specs.declared.script.Script.{Script}
+use Rattle.cb_rule.specs.declared.view.View.{View}
+use Rattle.cb_rule.specs.Closing.{IsClosed}
+use Rattle.cb_record.specs.Backs.{Backs}
+use Rattle.cb_record.specs.Told.{tolds}
+use Rattle.cb_record.proofs.Laws.{legal_of_backed}
+use Rattle.cb_shared.specs.declared.pass.Pass.{Pass}
+use Rattle.cb_shared.specs.declared.runtime.Shared.{Shared}
+use Rattle.cb_shared.specs.Closing.{IsClosedBy}
+use Rattle.cb_shared.specs.Joining.{unpinned_all}
+use Rattle.cb_shared.specs.Passes.{IsBegun, record_of}
+use Rattle.cb_shared.specs.Sealing.{sealed_record, sealed_world}
+use Rattle.cb_shared.specs.Turning.{Did}
+use Rattle.cb_lanes.specs.declared.body.LaneEnd.{LaneEnd}
+use Rattle.cb_lanes.specs.Asked.{HasLineReply, asked}
+use Rattle.cb_lanes.specs.Suits.{AreSuited}
+use Rattle.cb_lanes.proofs.Laws.{freed_last}
+use Rattle.cb_app.specs.ByLane.{by_lane}
+use Rattle.cb_workers.specs.declared.worker.Worker.{Worker}
+use Rattle.cb_app.specs.Crew.{IsTold, RiseWith, part_of, work_in}
+use Rattle.cb_app.specs.Threaded.{AreLosses, IsRun}
+use Rattle.cb_app.specs.declared.threads.ThreadsEnd.{ThreadsEnd}
+use Rattle.cb_app.proofs.AnswersTold.{answers_lost, answers_room}
+use Rattle.cb_app.proofs.EpochsTold.{are_epochs}
+use Rattle.cb_app.proofs.UpheldTold.{all_upheld}
+use Rattle.cb_app.proofs.WorkCounted.{counts_workers}
+
+-- What a closed record, and answers that it backs, tell of epochs, losses and room.
+pub is_run : (script : Script) (end : ThreadsEnd)
+    → map asked end.answers ≡ by_lane script.lines → AllByRecursion HasLineReply end.answers
+    → sealed_world end.seal ≡ end.world
+    → IsClosed Did 1 script.config (sealed_record end.seal) end.world
+    → Backs (part_of (sealed_record end.seal)) (tolds [] end.answers)
+    → AreSuited (sealed_record end.seal).seen (tolds [] end.answers)
+    → RiseWith (sealed_record end.seal) [] end.answers
+    → AreLosses end.losses end.answers
+    → ((w : Worker) → script.config.turns ≤ work_in w (sealed_record end.seal)) → IsRun script end
+is_run script end lines replies seal closed backs suits rises losses work =
+    let c = script.config in
+    let ok : IsAccepted c = subst IsAccepted closed.settings closed.sound.config in
+    let v = sealed_record end.seal in
+    let far = end.world.far in
+    let upheld = all_upheld 1 c v end.world closed end.answers backs suits in
+    let never = rises v (λ h n freed has. has) (freed_last 1 v closed.entries) in
+    record {
+      lines = lines;
+      replies = replies;
+      seal = seal;
+      closed = closed;
+      backs = backs;
+      upheld = upheld;
+      legal = legal_of_backed 1 c.handles v end.answers closed.entries closed.calm backs upheld never.1;
+      losses = losses;
+      epochs = are_epochs 1 c ok v far.counts.turns far closed.turns end.answers replies backs;
+      lost = answers_lost 1 c ok v far.counts.turns far closed.turns end.answers backs end.losses losses;
+      room = answers_room 1 c ok v far.counts.turns far closed.turns end.answers backs;
+      workers = counts_workers 1 c ok v far.counts.turns far closed.turns c.turns work;
+    }
+
+module _ (script : Script) (shared : Shared) (pass : Pass)
+    (begun : IsBegun 1 script.config shared pass) (told : LaneEnd)
+    (is_told : IsTold shared [] (by_lane script.lines) told)
+    (work : (w : Worker) → shared.config.turns ≤ work_in w (record_of told.pass)) where
+  -- the record of the pass that closed
+  abbrev closing : View
+  closing = unpinned_all (record_of told.pass)
+
+  abbrev born : ℕ
+  born = shared.board.shared.key.first
+
+  configured : (w : WorldState) → IsClosed Did born shared.config closing w
+      → IsClosed Did 1 script.config closing w
+  configured w closed = subst (λ (c : Config). IsClosed Did 1 c closing w) begun.config
+      (subst (λ (n : ℕ). IsClosed Did n shared.config closing w) begun.first_is closed)
+
+  ran : (end : ThreadsEnd) → end.answers ≡ told.answers
+      → IsClosedBy shared told.pass end.world end.seal → AreLosses end.losses told.answers
+      → IsRun script end
+  ran end answers closed losses =
+      let same : sealed_record end.seal ≡ closing = closed.view in
+      is_run script end
+      (ap (λ (l : List Answer). map asked l) answers ∙ is_told.lines_are)
+      (subst (AllByRecursion HasLineReply) (sym answers) is_told.replies) closed.world
+      (subst (λ (v : View). IsClosed Did 1 script.config v end.world) (sym same)
+      (configured end.world closed.closed))
+      (subst (λ (l : List Answer). Backs (part_of (sealed_record end.seal)) (tolds [] l)) (sym answers)
+      (subst (λ (v : View). Backs (part_of v) (tolds [] told.answers)) (sym same) is_told.backs))
+      (subst (λ (l : List Answer). AreSuited (sealed_record end.seal).seen (tolds [] l)) (sym answers)
+      (subst (λ (v : View). AreSuited v.seen (tolds [] told.answers)) (sym same) is_told.suits))
+      (subst (RiseWith (sealed_record end.seal) []) (sym answers)
+      (subst (λ (v : View). RiseWith v [] told.answers) (sym same) is_told.rises))
+      (subst (λ (l : List Answer). AreLosses end.losses l) (sym answers) losses)
+      (λ w. subst (λ (v : View). script.config.turns ≤ work_in w v) (sym same)
+      (subst (λ (c : Config). c.turns ≤ work_in w closing) begun.config (work w)))
+
+  -- unless there was no memory
+  pub if_ran : (r : Result ThreadsEnd NoMemory) → IfOk r (λ end. end.answers ≡ told.answers)
+      → IfOk r (λ end. IsClosedBy shared told.pass end.world end.seal)
+      → IfOk r (λ end. AreLosses end.losses told.answers) → IfOk r (IsRun script)
+  if_ran (Ok end) answers closed losses = ran end answers closed losses
+  if_ran (Err e) answers closed losses = tt

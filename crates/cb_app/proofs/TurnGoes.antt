@@ -1,0 +1,374 @@
+-- What a turn over any desk tells of the members that it found, what it leaves of them, and what it
+-- tells of want of room. It is of the rules alone, and would fit cb_core.
+use Rattle.std.proofs.Common.{◌≡◌, ◌⊎◌, ℕ, ◌+◌, ◌<◌, true, List, [], ◌∷◌, length, Option, None, Some, refl, sym, ap, ◌∙◌, subst, inl, inr, arith}
+use Rattle.std.proofs.lemmas.Bool.{false≢true, ltb-true}
+use Rattle.cb_member.specs.declared.names.Loss.{Loss}
+use Rattle.cb_member.specs.declared.names.NodeId.{NodeId}
+use Rattle.cb_member.specs.declared.names.Shard.{Shard}
+use Rattle.cb_member.specs.Membership.{Membership, next_epoch, with_crash, with_join}
+use Rattle.cb_ptr.specs.Word.{state_of}
+use Rattle.cb_set.specs.Lost.{lost}
+use Rattle.cb_set.specs.SetState.{SetState, parities}
+use Rattle.cb_types.specs.declared.config.Config.{Config}
+use Rattle.cb_types.specs.Config.{IsAccepted}
+use Rattle.cb_types.specs.declared.handle.SetId.{SetId}
+use Rattle.cb_types.specs.declared.job.Job.{Job}
+use Rattle.cb_types.specs.declared.job.Job.TheVariants as job
+use Rattle.cb_types.specs.declared.reply.Reply.{Reply}
+use Rattle.cb_types.specs.declared.reply.Reply.TheVariants as answer
+use Rattle.cb_types.specs.declared.request.Request.{Request}
+use Rattle.cb_types.specs.declared.request.Request.TheVariants as line
+use Rattle.cb_types.specs.Table.{IsReplyOf}
+use Rattle.cb_world.specs.declared.event.Event.{Event}
+use Rattle.cb_world.specs.declared.shown.Shown.{Shown}
+use Rattle.cb_world.specs.FarState.{FarState}
+use Rattle.cb_world.specs.SetWord.{is_broken}
+use Rattle.cb_world.specs.World.{IsConfigured}
+use Rattle.cb_world.proofs.Laws.{recounted}
+use Rattle.cb_evict.specs.declared.eviction.Eviction.TheVariants.{Refused, Set}
+use Rattle.cb_evict.specs.declared.eviction.Lack.{Lack}
+use Rattle.cb_evict.specs.declared.eviction.Lack.TheVariants as lack
+use Rattle.cb_evict.specs.Eviction.{CountsRule}
+use Rattle.cb_evict.specs.EvictRule.{HasBoth, HasFewNodes, HasFewSpans}
+use Rattle.cb_evict.proofs.Laws.{evict_stays}
+use Rattle.cb_swapin.specs.SwapRule.{SwapFar, SwapRule}
+use Rattle.cb_swapin.proofs.Laws.{by_answer}
+use Rattle.cb_compact.proofs.Laws.{begin_laws, merge_laws, now_laws, part_laws, patch_laws}
+use Rattle.cb_rebuild.specs.RebuildStep.{RebuildStep, Restores, surveyed}
+use Rattle.cb_core.specs.Membership.{CrashTurn, JoinTurn, crashed, is_down, is_up, joined}
+use Rattle.cb_core.specs.OnceHere.{OnceHere, away, here}
+use Rattle.cb_core.specs.Parts.{Holding, WithRoom, WhereItIs, at_once, no_room, won, near, declined, stays_far, brought, not_far, was_far}
+use Rattle.cb_core.specs.Turned.{Brings, ComesIn, Declines, Does, Makes, Turned, WinsRoom, Writes, counted, done, worn}
+use Rattle.cb_app.proofs.PlainReplies.{Plain, StaysPlain, abort_plain, answered, begin_plain, commit_plain, declined_plain, evict_plain, filter_plain, free_plain, make_plain, off, ship_plain, write_plain}
+
+-- What a reply tells: of a lost set, all that some shards have lost, more than a set of the
+-- configuration has parities; of want of room, the frames, and that too few spans are loose or too few
+-- nodes have room.
+abbrev pub Tells : Config → Membership → Reply → Type 0
+Tells c m (answer.Unavailable set losses) =
+    (shards : List Shard) × (losses ≡ lost m shards) × (c.r < length losses)
+Tells c m (answer.NoRoom frames loose nodes) =
+    (frames ≡ c.frames) × ((loose < c.k) ⊎ (nodes < c.k + c.r))
+Tells c m r = Unit {0}
+
+plain_tells : (c : Config) (m : Membership) (r : Reply) → Plain r → Tells c m r
+plain_tells c m (answer.Unavailable set losses) plain = absurd (false≢true (sym plain))
+plain_tells c m (answer.NoRoom frames loose nodes) plain = absurd (false≢true (sym plain))
+plain_tells c m r plain = tt
+
+-- the epoch that a turn of this job tells, where its node crashed or joined
+abbrev pub epochs_in : Job → Option Reply → List ℕ
+epochs_in (job.Crash node) (Some (answer.EpochAt epoch)) = epoch.n ∷ []
+epochs_in (job.Join node) (Some (answer.EpochAt epoch)) = epoch.n ∷ []
+epochs_in j r = []
+
+-- the members behind a turn: a crash and a join that take place change a node and tell the next
+-- epoch, and no other turn does
+abbrev pub GoesOn : Job → Membership → Membership → Option Reply → Type 0
+GoesOn (job.Crash node) old new r = ((new ≡ old) × (epochs_in (job.Crash node) r ≡ []))
+    ⊎ ((new ≡ with_crash old node) × (r ≡ Some (answer.EpochAt (next_epoch old))))
+GoesOn (job.Join node) old new r = ((new ≡ old) × (epochs_in (job.Join node) r ≡ []))
+    ⊎ ((new ≡ with_join old node) × (r ≡ Some (answer.EpochAt (next_epoch old))))
+GoesOn j old new r = new ≡ old
+
+-- the members stay, and no epoch is told
+pub stays_on : (j : Job) (old new : Membership) (r : Option Reply) → new ≡ old
+    → epochs_in j r ≡ [] → GoesOn j old new r
+stays_on (job.Crash node) old new r same none = inl (same, none)
+stays_on (job.Join node) old new r same none = inl (same, none)
+stays_on j old new r same none = same
+
+pub none_told : (j : Job) → epochs_in j None ≡ []
+none_told (job.Crash node) = refl
+none_told (job.Join node) = refl
+none_told j = refl
+
+worn_told : (j : Job) → epochs_in j (Some answer.Worn) ≡ []
+worn_told (job.Crash node) = refl
+worn_told (job.Join node) = refl
+worn_told j = refl
+
+-- ---- one operation
+-- the members are as they were, and the reply tells so of them
+pub record Keeps (c : Config) (far new : FarState) (r : Reply) : Type 0 where
+  pub members : new.members ≡ far.members
+  pub tells : Tells c far.members r
+
+pub plain_keeps : (c : Config) (far new : FarState) (r : Reply) → StaysPlain far new r
+    → Keeps c far new r
+plain_keeps c far new r x = record {
+  members = x.members;
+  tells = plain_tells c far.members r x.plain;
+}
+
+same_keeps : (c : Config) (far new : FarState) (r : Reply) → new ≡ far → Plain r → Keeps c far new r
+same_keeps c far new r same plain = record {
+  members = ap (λ (f : FarState). f.members) same;
+  tells = plain_tells c far.members r plain;
+}
+
+-- behind one that left the members
+keeps_behind : (c : Config) (far mid new : FarState) (r : Reply) → mid.members ≡ far.members
+    → Keeps c mid new r → Keeps c far new r
+keeps_behind c far mid new r same x = record {
+  members = x.members ∙ same;
+  tells = subst (λ (m : Membership). Tells c m r) same x.tells;
+}
+
+pub swap_members : (far new : FarState) (id p : ℕ) (set : SetState) (es : List Event) (r : Reply)
+    → SwapFar far new id p set es r → new.members ≡ far.members
+swap_members far new id p set es (answer.Swapped f) x = ap (λ (f : FarState). f.members) x.0.rest
+swap_members far new id p set es r x = ap (λ (f : FarState). f.members) x.0
+
+swap_keeps : (c : Config) (id p : ℕ) (far new : FarState) (r : Reply) (es : List Event)
+    → IsConfigured c far → SwapRule id p far new r es → Keeps c far new r
+swap_keeps c id p far new r es is x = record {
+  members = swap_members far new id p x.set es r x.state;
+  tells = subst (Tells c far.members) (sym x.reply) (by_answer (Tells c far.members) far id x.set
+      (λ broken. (x.set.shards, refl, many broken)) (λ fine free. tt) (λ f fine free. tt));
+}
+  where
+    many : is_broken far.members x.set ≡ true → c.r < length (lost far.members x.set.shards)
+    many broken =
+        let more = ltb-true (parities x.set) (length (lost far.members x.set.shards)) broken in
+        let code = (is.codes.sets id x.set x.there).1 in omega (arith, more, code)
+
+-- a refusal of an eviction tells which of the two there was too little of
+too_few : (c : Config) (far new : FarState) (why : Lack) (loose nodes : ℕ) (es : List Event)
+    → CountsRule c far new (Refused why loose nodes) es → (loose < c.k) ⊎ (nodes < c.k + c.r)
+too_few c far new lack.Spans loose nodes es x = by x.rule.answered
+  where
+    by : HasFewSpans c far new (answer.NoSpans loose) x.rule.loose
+        ⊎ (HasFewNodes c far new (answer.NoSpans loose) x.rule.loose
+        ⊎ HasBoth c far new (answer.NoSpans loose) x.rule.loose es)
+        → (loose < c.k) ⊎ (nodes < c.k + c.r)
+    by (inl few) = inl (let n = x.counts.0 in let f = few.few in omega (arith, n, f))
+    by (inr (inl few)) = absurd (let e = few.reply in cc)
+    by (inr (inr both)) = absurd (let e = both.reply in cc)
+too_few c far new lack.Nodes loose nodes es x = by x.rule.answered
+  where
+    by : HasFewSpans c far new (answer.NoNodes nodes) x.rule.loose
+        ⊎ (HasFewNodes c far new (answer.NoNodes nodes) x.rule.loose
+        ⊎ HasBoth c far new (answer.NoNodes nodes) x.rule.loose es)
+        → (loose < c.k) ⊎ (nodes < c.k + c.r)
+    by (inl few) = absurd (let e = few.reply in cc)
+    by (inr (inl few)) = inr (let n = x.counts.1 in let f = few.few in omega (arith, n, f))
+    by (inr (inr both)) = absurd (let e = both.reply in cc)
+
+-- ---- jobs at the far state alone
+line_plain : (asked : Request) (r : Reply) → IsReplyOf asked r
+    → ((id : SetId) (l : List Loss) → IsReplyOf asked (answer.Unavailable id l) → ⊥)
+    → ((f l n : ℕ) → IsReplyOf asked (answer.NoRoom f l n) → ⊥) → Plain r
+line_plain asked (answer.Unavailable id l) x lost room = absurd (lost id l x)
+line_plain asked (answer.NoRoom f l n) x lost room = absurd (room f l n x)
+line_plain asked r x lost room = refl
+
+restored_plain : (far new : FarState) (id : ℕ) (set : SetState) (r : Reply)
+    → Restores (surveyed far id) id set new r → StaysPlain far new r
+restored_plain far new id set r (inl stuck) = record {
+  members = ap (λ (f : FarState). f.members) stuck.same;
+  plain = off r (answer.Stuck (record { n = id })) refl stuck.reply;
+}
+restored_plain far new id set r (inr z) = record {
+  members = ap (λ (f : FarState). f.members) z.state;
+  plain = off r (answer.Rebuilt (record { n = id }) z.position z.shard.node) refl z.reply;
+}
+
+rebuild_plain : (far new : FarState) (r : Reply) → RebuildStep far new r → StaysPlain far new r
+rebuild_plain far new r (inl none) = record {
+  members = ap (λ (f : FarState). f.members) none.state;
+  plain = off r _ refl none.reply;
+}
+rebuild_plain far new r (inr z) = restored_plain far new z.id z.set r z.restores
+
+-- what a turn leaves and tells
+pub record Goes (c : Config) (j : Job) (far new : FarState) (r : Reply) : Type 0 where
+  pub goes : GoesOn j far.members new.members (Some r)
+  pub tells : Tells c far.members r
+
+crash_goes : (c : Config) (node : NodeId) (far new : FarState) (r : Reply) → CrashTurn node far r new
+    → Goes c (job.Crash node) far new r
+crash_goes c node far new r (crashed up is state) = record {
+  goes = inr (ap (λ (f : FarState). f.members) state, ap (λ (q : Reply). Some q) is);
+  tells = subst (Tells c far.members) (sym is) tt;
+}
+crash_goes c node far new r (is_down down is state) = record {
+  goes = inl (
+    ap (λ (f : FarState). f.members) state,
+    ap (λ (q : Reply). epochs_in (job.Crash node) (Some q)) is,
+  );
+  tells = subst (Tells c far.members) (sym is) tt;
+}
+
+join_goes : (c : Config) (node : NodeId) (far new : FarState) (r : Reply) → JoinTurn node far r new
+    → Goes c (job.Join node) far new r
+join_goes c node far new r (joined down is state) = record {
+  goes = inr (ap (λ (f : FarState). f.members) state, ap (λ (q : Reply). Some q) is);
+  tells = subst (Tells c far.members) (sym is) tt;
+}
+join_goes c node far new r (is_up up is state) = record {
+  goes = inl (
+    ap (λ (f : FarState). f.members) state,
+    ap (λ (q : Reply). epochs_in (job.Join node) (Some q)) is,
+  );
+  tells = subst (Tells c far.members) (sym is) tt;
+}
+
+-- ---- by parts, over any desk, however an object is read that is here
+module _ {D : Type 0} (run : D → List Event → D → Type 0) (shows : D → Shown → Type 0)
+    (reads : ℕ → Holding D → Reply → Holding D → Type 0)
+    (read : (h : ℕ) (a b : Holding D) (r : Reply) → reads h a r b → (b.far ≡ a.far) × Plain r)
+    (c : Config) (accepted : IsAccepted c) where
+  abbrev Hold : Type 0
+  Hold = Holding D
+
+  -- the eviction made room
+  room_won : (m n : Hold) (id : SetId) → IsConfigured c m.far → WinsRoom run shows c m (Set id) n
+      → IsConfigured c n.far × (n.far.members ≡ m.far.members)
+  room_won m n id is x = (
+    (evict_stays c m.far n.far (answer.Set id) x.events accepted x.rule.rule is).configured,
+    (evict_plain c m.far n.far (answer.Set id) x.events x.rule.rule).members,
+  )
+
+  room_lacks : (a m b : Hold) (why : Lack) (loose nodes : ℕ) (r : Reply) → m.far ≡ a.far
+      → WinsRoom run shows c m (Refused why loose nodes) b → r ≡ answer.NoRoom c.frames loose nodes
+      → Keeps c a.far b.far r
+  room_lacks a m b why loose nodes r same x is = record {
+    members = (evict_plain c m.far b.far _ x.events x.rule.rule).members
+        ∙ ap (λ (f : FarState). f.members) same;
+    tells = subst (Tells c a.far.members) (sym is)
+        (refl, too_few c m.far b.far why loose nodes x.events x.rule);
+  }
+
+  bring_keeps : (h : ℕ) (a b : Hold) (r : Reply) → IsConfigured c a.far → Brings run shows c h a r b
+      → Keeps c a.far b.far r
+  bring_keeps h a b r is (at_once (home, at, x) never) =
+      swap_keeps c home.set home.position a.far b.far r x.events is x.rule
+  bring_keeps h a b r is (no_room m why loose nodes (home, at, x) evict e) =
+      room_lacks a m b why loose nodes r x.rule.state.0 evict e
+  bring_keeps h a b r is (won m n id (home, at, x) evict (home', at', y) never) =
+      let same : m.far ≡ a.far = x.rule.state.0 in
+      let w = room_won m n id (subst (IsConfigured c) (sym same) is) evict in
+      keeps_behind c a.far n.far b.far r (w.1 ∙ ap (λ (f : FarState). f.members) same)
+      (swap_keeps c home'.set home'.position n.far b.far r y.events w.0 y.rule)
+
+  pub come_keeps : (h : ℕ) (a b : Hold) (r : Reply) → IsConfigured c a.far → ComesIn run shows c h a r b
+      → Keeps c a.far b.far r
+  come_keeps h a b r is (not_far x never) = same_keeps c a.far b.far r x.rule.0
+      (answered (λ w. r ≡ answer.Stays) (state_of x.rule.1.word) x.rule.1.word h x.events r
+      (λ e. off r answer.Stays refl e) x.rule.1.answer)
+  come_keeps h a b r is (was_far m x bring) =
+      keeps_behind c a.far m.far b.far r (ap (λ (f : FarState). f.members) x.rule.0)
+      (bring_keeps h m b r (subst (IsConfigured c) (sym x.rule.0) is) bring)
+
+  once_keeps : (h : ℕ) (a b : Hold) (r : Reply) → IsConfigured c a.far
+      → OnceHere (ComesIn run shows c h) (reads h) a r b → Keeps c a.far b.far r
+  once_keeps h a b r is (away come off) = come_keeps h a b r is come
+  once_keeps h a b r is (here m place come there call) = let x = read h m b r call in
+      keeps_behind c a.far m.far b.far r (come_keeps h a m place is come).members
+      (same_keeps c m.far b.far r x.0 x.1)
+
+  make_keeps : (bytes : List ℕ) (a b : Hold) (r : Reply) → IsConfigured c a.far
+      → WithRoom c.frames (Makes run shows c bytes) (WinsRoom run shows c) a r b
+      → Keeps c a.far b.far r
+  make_keeps bytes a b r is (at_once x never) =
+      plain_keeps c a.far b.far r (make_plain c.handles bytes a.far b.far r x.events x.rule)
+  make_keeps bytes a b r is (no_room m why loose nodes x evict e) =
+      room_lacks a m b why loose nodes r x.rule.2.0 evict e
+  make_keeps bytes a b r is (won m n id x evict y never) =
+      let same : m.far ≡ a.far = x.rule.2.0 in
+      let w = room_won m n id (subst (IsConfigured c) (sym same) is) evict in
+      keeps_behind c a.far n.far b.far r (w.1 ∙ ap (λ (f : FarState). f.members) same)
+      (plain_keeps c n.far b.far r (make_plain c.handles bytes n.far b.far r y.events y.rule))
+
+  write_keeps : (h at : ℕ) (bytes : List ℕ) (a b : Hold) (r : Reply) → IsConfigured c a.far
+      → WhereItIs (Writes run shows h at bytes) (Declines run shows h at (length bytes))
+      (Brings run shows c h) a r b → Keeps c a.far b.far r
+  write_keeps h at bytes a b r is (near x never) =
+      same_keeps c a.far b.far r x.rule.0 (write_plain h at bytes r x.events x.rule.1)
+  write_keeps h at bytes a b r is (declined m x look) =
+      keeps_behind c a.far m.far b.far r (ap (λ (f : FarState). f.members) x.rule.0)
+      (same_keeps c m.far b.far r look.0
+      (declined_plain h at (length bytes) m.far r look.1.events look.1.rule))
+  write_keeps h at bytes a b r is (stays_far m n x look bring never) =
+      let same : n.far ≡ a.far = look.0 ∙ x.rule.0 in
+      keeps_behind c a.far n.far b.far r (ap (λ (f : FarState). f.members) same)
+      (bring_keeps h n b r (subst (IsConfigured c) (sym same) is) bring)
+  write_keeps h at bytes a b r is (brought m n o f x look bring y) =
+      let same : n.far ≡ a.far = look.0 ∙ x.rule.0 in
+      let k = bring_keeps h n o (answer.Swapped f) (subst (IsConfigured c) (sym same) is) bring in
+      keeps_behind c a.far o.far b.far r (k.members ∙ ap (λ (f : FarState). f.members) same)
+      (same_keeps c o.far b.far r y.rule.0 (write_plain h at bytes r y.events y.rule.1))
+
+  kept : (j : Job) (a b : Hold) (r : Reply)
+      → ((old new : Membership) → new ≡ old → GoesOn j old new (Some r)) → Keeps c a.far b.far r
+      → Goes c j a.far b.far r
+  kept j a b r on x = record { goes = on a.far.members b.far.members x.members; tells = x.tells }
+
+  does_goes : (j : Job) (a b : Hold) (r : Reply) → IsConfigured c a.far
+      → Does run shows reads c j a r b → Goes c j a.far b.far r
+  does_goes (job.Make bytes) a b r is x =
+      kept (job.Make bytes) a b r (λ old new e. e) (make_keeps bytes a b r is x)
+  does_goes (job.Read handle) a b r is x =
+      kept (job.Read handle) a b r (λ old new e. e) (once_keeps handle.n a b r is x)
+  does_goes (job.Write handle at bytes) a b r is x =
+      kept (job.Write handle at bytes) a b r (λ old new e. e) (write_keeps handle.n at bytes a b r is x)
+  does_goes (job.Swap handle) a b r is x =
+      kept (job.Swap handle) a b r (λ old new e. e) (come_keeps handle.n a b r is x)
+  does_goes (job.Free handle) a b r is x = kept (job.Free handle) a b r (λ old new e. e)
+      (plain_keeps c a.far b.far r (free_plain handle.n a.far b.far r x.events x.rule))
+  does_goes (job.Filter handle) a b r is x = kept (job.Filter handle) a b r (λ old new e. e)
+      (plain_keeps c a.far b.far r (filter_plain c.frames handle.n a.far b.far r x.events x.rule))
+  does_goes job.Evict a b r is x = kept job.Evict a b r (λ old new e. e)
+      (plain_keeps c a.far b.far r (evict_plain c a.far b.far r x.events x.rule))
+  does_goes job.Begin a b r is x = kept job.Begin a b r (λ old new e. e)
+      (plain_keeps c a.far b.far r (begin_plain c a.far b.far r x.events x.rule))
+  does_goes job.Ship a b r is x = kept job.Ship a b r (λ old new e. e)
+      (plain_keeps c a.far b.far r (ship_plain a.far b.far r x.events x.rule))
+  does_goes job.Commit a b r is x = kept job.Commit a b r (λ old new e. e)
+      (plain_keeps c a.far b.far r (commit_plain a.far b.far r x.events x.rule))
+  does_goes job.Abort a b r is x = kept job.Abort a b r (λ old new e. e)
+      (plain_keeps c a.far b.far r (abort_plain a.far b.far r x.events x.rule))
+  does_goes job.Pair a b r is x = kept job.Pair a b r (λ old new e. e) (plain_keeps c a.far b.far r
+      (record {
+        members = (begin_laws.leaves a.far b.far r x.1).members;
+        plain = line_plain line.Pair r (begin_laws.answers a.far b.far r x.1) (λ id l z. z) (λ f l n z. z);
+      }))
+  does_goes job.Patch a b r is x = kept job.Patch a b r (λ old new e. e) (plain_keeps c a.far b.far r
+      (record {
+        members = (patch_laws.leaves a.far b.far r x.1).members;
+        plain = line_plain line.Patch r (patch_laws.answers a.far b.far r x.1) (λ id l z. z) (λ f l n z. z);
+      }))
+  does_goes job.Merge a b r is x = kept job.Merge a b r (λ old new e. e) (plain_keeps c a.far b.far r
+      (record {
+        members = (merge_laws.leaves a.far b.far r x.1).members;
+        plain = line_plain line.Merge r (merge_laws.answers a.far b.far r x.1) (λ id l z. z) (λ f l n z. z);
+      }))
+  does_goes job.Part a b r is x = kept job.Part a b r (λ old new e. e) (plain_keeps c a.far b.far r
+      (record {
+        members = (part_laws.leaves a.far b.far r x.1).members;
+        plain = line_plain line.Part r (part_laws.answers a.far b.far r x.1) (λ id l z. z) (λ f l n z. z);
+      }))
+  does_goes job.Compact a b r is x = kept job.Compact a b r (λ old new e. e)
+      (plain_keeps c a.far b.far r (record {
+        members = (now_laws.leaves a.far b.far r x.1).members;
+        plain = line_plain line.Compact r (now_laws.answers a.far b.far r x.1) (λ id l z. z) (λ f l n z. z);
+      }))
+  does_goes job.Rebuild a b r is x = kept job.Rebuild a b r (λ old new e. e)
+      (plain_keeps c a.far b.far r (rebuild_plain a.far b.far r x.1))
+  does_goes (job.Crash node) a b r is x = crash_goes c node a.far b.far r x.1
+  does_goes (job.Join node) a b r is x = join_goes c node a.far b.far r x.1
+
+  -- a turn that was answered
+  pub turned_goes : (j : Job) (a b : Hold) (r : Reply) → IsConfigured c a.far
+      → Turned run shows reads c j a r b → Goes c j a.far b.far r
+  turned_goes j a b r is (worn end e same ran) = record {
+    goes = subst (λ (q : Reply). GoesOn j a.far.members b.far.members (Some q)) (sym e)
+        (stays_on j a.far.members b.far.members (Some answer.Worn)
+        (ap (λ (f : FarState). f.members) same) (worn_told j));
+    tells = subst (Tells c a.far.members) (sym e) tt;
+  }
+  turned_goes j a b r is (done few x) =
+      let z = does_goes j (record { desk = a.desk; far = counted a.far j }) b r
+      (recounted c a.far (counted a.far j).counts is) x in
+      record { goes = z.goes; tells = z.tells }

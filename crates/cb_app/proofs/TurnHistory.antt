@@ -1,0 +1,151 @@
+-- The turns of a closed record, one after another: what each tells, and what holds of the far state
+-- after so many of them. It would fit cb_shared, and its induction cb_rule.
+use Rattle.std.proofs.Common.{◌≡◌, ℕ, zero, suc, ◌+◌, ◌<◌, ◌≤◌, Bool, true, cond, List, [], ◌∷◌, Option, None, Some, refl, sym, ap, subst, inl, inr, arith, eqb-true}
+use Rattle.cb_member.specs.Membership.{Membership}
+use Rattle.cb_types.specs.declared.config.Config.{Config}
+use Rattle.cb_types.specs.Config.{IsAccepted}
+use Rattle.cb_types.specs.declared.job.Job.{Job}
+use Rattle.cb_types.specs.declared.reply.Reply.{Reply}
+use Rattle.cb_types.specs.declared.reply.Reply.TheVariants as answer
+use Rattle.cb_world.specs.declared.event.Event.{Event}
+use Rattle.cb_world.specs.declared.shown.Shown.{Shown}
+use Rattle.cb_world.specs.Empty.{empty_far}
+use Rattle.cb_world.specs.FarState.{FarState}
+use Rattle.cb_world.specs.World.{IsConfigured}
+use Rattle.cb_world.proofs.Laws.{recounted}
+use Rattle.cb_world.specs.Played.{played}
+use Rattle.cb_core.specs.Parts.{Holding}
+use Rattle.cb_core.specs.Turned.{counted}
+use Rattle.cb_rule.specs.declared.turn.Turn.{Turn}
+use Rattle.cb_rule.specs.declared.view.View.{View}
+use Rattle.cb_rule.specs.Lists.{Has, times}
+use Rattle.cb_rule.specs.Locking.{is_turn, turn_number}
+use Rattle.cb_rule.specs.OneHistory.{HasNumber, IsOneHistory, Made}
+use Rattle.cb_rule.proofs.Laws.{by_case}
+use Rattle.cb_shared.specs.Turning.{Did, DidAs, IsReadReply, PinLacks, ReadsByPin, Slate, held_by, slate_run, slate_shows}
+use Rattle.cb_app.proofs.PlainReplies.{Plain}
+use Rattle.cb_app.proofs.TurnGoes.{GoesOn, Tells, none_told, stays_on, turned_goes}
+use Rattle.cb_app.proofs.TurnStops.{stops_same}
+
+-- ---- one turn
+-- what its reply tells, where it has one
+abbrev pub TellsIf : Config → Membership → Option Reply → Type 0
+TellsIf c m None = Unit {0}
+TellsIf c m (Some r) = Tells c m r
+
+-- it leaves the members so, and tells so of those that it found
+pub record TurnGoes (c : Config) (t : Turn) : Type 0 where
+  pub goes : GoesOn t.job t.took.members t.gave.members t.reply
+  pub tells : TellsIf c t.took.members t.reply
+
+read_plain : (r : Reply) → IsReadReply r → Plain r
+read_plain (answer.Unavailable id l) x = absurd x
+read_plain (answer.NoRoom f l n) x = absurd x
+read_plain r x = refl
+
+pins_plain : (h : ℕ) (a b : Holding Slate) (r : Reply) → ReadsByPin h a r b → (b.far ≡ a.far) × Plain r
+pins_plain h a b r x = (ap (λ (z : Holding Slate). z.far) x.0, read_plain r x.1)
+
+lacks_same : (h : ℕ) (a b : Holding Slate) → PinLacks h a b → b.far ≡ a.far
+lacks_same h a b x = ap (λ (z : Holding Slate). z.far) x
+
+did_goes : (c : Config) → IsAccepted c → (j : Job) (reply : Option Reply) (start : Shown)
+    (es : List Event) (took gave : FarState) → IsConfigured c took
+    → DidAs c j reply start es took gave
+    → GoesOn j took.members gave.members reply × TellsIf c took.members reply
+did_goes c ok j (Some r) start es took gave is did =
+    let z = turned_goes slate_run slate_shows ReadsByPin pins_plain c ok j (held_by start [] took)
+    (held_by (played es start) es gave) r is did in
+    (z.goes, z.tells)
+did_goes c ok j None start es took gave is did = (
+  stays_on j took.members gave.members None (stops_same slate_run slate_shows ReadsByPin pins_plain
+      PinLacks lacks_same c ok j (held_by start [] (counted took j))
+      (held_by (played es start) es gave) (recounted c took (counted took j).counts is) did.stops)
+      (none_told j),
+  tt,
+)
+
+pub turn_goes : (c : Config) → IsAccepted c → (t : Turn) → IsConfigured c t.took → Did c t
+    → TurnGoes c t
+turn_goes c ok t is did =
+    let z = did_goes c ok t.job t.reply t.start t.acts t.took t.gave is did in
+    record { goes = z.0; tells = z.1 }
+
+-- ---- all of them
+-- what is counted is there
+has_times : {A : Type 0} (t : A → Bool) (xs : List A) → 1 ≤ times t xs
+    → (x : A) × Has x xs × (t x ≡ true)
+has_times t [] some_one = absurd (omega (arith, some_one))
+has_times {A = A} t (y ∷ xs) some_one = by_case
+    (λ b. 1 ≤ cond b 1 0 + times t xs → (x : A) × Has x (y ∷ xs) × (t x ≡ true)) (t y)
+    (λ is _. (y, inl refl, is))
+    (λ _ le. let z = has_times t xs (omega (arith, le)) in (z.0, inr z.1, z.2)) some_one
+
+module _ (first : ℕ) (c : Config) (v : View) (count : ℕ) (last : FarState)
+    (one : IsOneHistory Did first c (v ∷ []) count last) where
+  made : (t : Turn) → Has t v.turns → Made (v ∷ []) t
+  made t there = (v, (0, refl), there)
+
+  -- each number stands once
+  pub lone : (k : ℕ) → k < count → times (is_turn k) v.turns ≡ 1
+  lone k below = let e = one.once k below in omega (arith, e)
+
+  -- the turn of a number
+  turn_of : (k : ℕ) → k < count → (t : Turn) × Has t v.turns × (turn_number t ≡ k)
+  turn_of k below =
+      let e = lone k below in
+      let z = has_times (is_turn k) v.turns (omega (arith, e)) in
+      (z.0, z.1, eqb-true (turn_number z.0) k z.2)
+
+  pub each_goes : IsAccepted c → (t : Turn) → Has t v.turns → TurnGoes c t
+  each_goes ok t there =
+      turn_goes c ok t (one.sound t (made t there)).1.configured (one.did t (made t there))
+
+  pub number_of : (t : Turn) → Has t v.turns → HasNumber count t
+  number_of t there = one.numbers t (made t there)
+
+  -- P holds after no turn, and each turn keeps it
+  module _ (P : ℕ → FarState → Type 0) (start : P 0 (empty_far first c))
+      (step : (t : Turn) → Has t v.turns → turn_number t < count → P (turn_number t) t.took
+      → P (suc (turn_number t)) t.gave) where
+    -- the far state after so many turns
+    record After (n : ℕ) : Type 0 where
+      far : FarState
+      holds : P n far
+      took : (t : Turn) → Has t v.turns → turn_number t ≡ n → t.took ≡ far
+      end : n ≡ count → far ≡ last
+
+    reached : (n : ℕ) → n ≤ count → After n
+    reached zero low = record {
+      far = empty_far first c;
+      holds = start;
+      took = λ t there is. one.begins t (made t there) is;
+      end = λ is. sym (one.none (sym is));
+    }
+    reached (suc n) low =
+        let before = reached n (omega (arith, low)) in
+        let z = turn_of n (omega (arith, low)) in
+        let t = z.0 in
+        let number : turn_number t ≡ n = z.2 in
+        let from : P (turn_number t) t.took =
+        subst (λ (k : ℕ). P k t.took) (sym number)
+        (subst (P n) (sym (before.took t z.1 number)) before.holds) in
+        record {
+          far = t.gave;
+          holds = subst (λ (k : ℕ). P (suc k) t.gave) number (step t z.1 (omega (arith, number, low)) from);
+          took = λ u there is. one.follows t u (made t z.1) (made u there) (omega (arith, number, is));
+          end = λ is. one.ends t (made t z.1) (omega (arith, number, is));
+        }
+
+    -- so it holds of what each turn took, and of what the last one gave
+    pub at_turn : (t : Turn) → Has t v.turns → P (turn_number t) t.took
+    at_turn t there =
+        let z = reached (turn_number t) (low (number_of t there)) in
+        subst (P (turn_number t)) (sym (z.took t there refl)) z.holds
+      where
+        low : HasNumber count t → turn_number t ≤ count
+        low (inl less) = omega (arith, less)
+        low (inr e) = let a = e.0 in let b = e.1 in omega (arith, a, b)
+
+    pub at_last : P count last
+    at_last = let z = reached count (omega arith) in subst (P count) (z.end refl) z.holds

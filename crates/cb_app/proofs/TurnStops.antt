@@ -1,0 +1,103 @@
+-- A turn that found no memory leaves the members. It is of the rules alone, and would fit cb_core.
+use Rattle.std.proofs.Common.{◌≡◌, ℕ, List, length, ap, ◌∙◌}
+use Rattle.cb_types.specs.declared.config.Config.{Config}
+use Rattle.cb_types.specs.Config.{IsAccepted}
+use Rattle.cb_types.specs.declared.job.Job.{Job}
+use Rattle.cb_types.specs.declared.job.Job.TheVariants as job
+use Rattle.cb_types.specs.declared.reply.Reply.{Reply}
+use Rattle.cb_types.specs.declared.reply.Reply.TheVariants as answer
+use Rattle.cb_world.specs.declared.event.Event.{Event}
+use Rattle.cb_world.specs.declared.shown.Shown.{Shown}
+use Rattle.cb_world.specs.FarState.{FarState}
+use Rattle.cb_world.specs.World.{IsConfigured}
+use Rattle.cb_evict.specs.declared.eviction.Eviction.TheVariants.{Set}
+use Rattle.cb_core.specs.OnceHere.{OnceHereStops, bringing_stops, call_stops}
+use Rattle.cb_core.specs.Parts.{CallStops, Holding, NeverLacks, RoomStops}
+use Rattle.cb_core.specs.Parts.RoomStops.{at_once, evicting, after}
+use Rattle.cb_core.specs.Parts.CallStops.{near as call_near, far as call_far, after as call_after}
+use Rattle.cb_core.specs.Turned.{BringLacks, Brings, ComeLacks, ComesIn, Declines, EvictLacks, MakeLacks, Makes, Stops, SwapLacks, Swaps, WinsRoom, Writes}
+use Rattle.cb_app.proofs.PlainReplies.{Plain, evict_plain, make_plain}
+use Rattle.cb_app.proofs.TurnGoes.{come_keeps, swap_members}
+
+module _ {D : Type 0} (run : D → List Event → D → Type 0) (shows : D → Shown → Type 0)
+    (reads : ℕ → Holding D → Reply → Holding D → Type 0)
+    (read : (h : ℕ) (a b : Holding D) (r : Reply) → reads h a r b → (b.far ≡ a.far) × Plain r)
+    (lacks : ℕ → Holding D → Holding D → Type 0)
+    (lack : (h : ℕ) (a b : Holding D) → lacks h a b → b.far ≡ a.far)
+    (c : Config) (accepted : IsAccepted c) where
+  abbrev Hold : Type 0
+  Hold = Holding D
+
+  -- the members stay
+  abbrev Same : Hold → Hold → Type 0
+  Same a b = b.far.members ≡ a.far.members
+
+  same : (a b : Hold) → b.far ≡ a.far → Same a b
+  same a b e = ap (λ (f : FarState). f.members) e
+
+  evicted : (m n : Hold) (id : _) → WinsRoom run shows c m (Set id) n → Same m n
+  evicted m n id x = (evict_plain c m.far n.far (answer.Set id) x.events x.rule.rule).members
+
+  made : (bytes : List ℕ) (a b : Hold) (r : Reply) → Makes run shows c bytes a r b → Same a b
+  made bytes a b r x = (make_plain c.handles bytes a.far b.far r x.events x.rule).members
+
+  make_stops : (bytes : List ℕ) (a b : Hold)
+      → RoomStops (Makes run shows c bytes) (MakeLacks run c bytes) (WinsRoom run shows c)
+      (EvictLacks run shows) a b → Same a b
+  make_stops bytes a b (at_once x) = same a b x.1
+  make_stops bytes a b (evicting m x y) = same m b y.0 ∙ made bytes a m answer.NoFrame x
+  make_stops bytes a b (after m n id x y z) =
+      same n b z.1 ∙ evicted m n id y ∙ made bytes a m answer.NoFrame x
+
+  swapped : (h : ℕ) (a b : Hold) (r : Reply) → Swaps run shows h a r b → Same a b
+  swapped h a b r (home, at, x) =
+      swap_members a.far b.far home.set home.position x.rule.set x.events r x.rule.state
+
+  given : (h : ℕ) (a b : Hold) → SwapLacks run h a b → Same a b
+  given h a b (ran, (home, set, n, at, there, few, state)) = ap (λ (f : FarState). f.members) state
+
+  bring_stops : (h : ℕ) (a b : Hold) → BringLacks run shows c h a b → Same a b
+  bring_stops h a b (at_once x) = given h a b x
+  bring_stops h a b (evicting m x y) = same m b y.0 ∙ swapped h a m answer.NoFrame x
+  bring_stops h a b (after m n id x y z) =
+      given h n b z ∙ evicted m n id y ∙ swapped h a m answer.NoFrame x
+
+  come_stops : (h : ℕ) (a b : Hold) → ComeLacks run shows c h a b → Same a b
+  come_stops h a b (m, find, x) = bring_stops h m b x ∙ same a m find.rule.0
+
+  once_stops : (h : ℕ) (a b : Hold) → IsConfigured c a.far
+      → OnceHereStops (ComesIn run shows c h) (ComeLacks run shows c h) (lacks h) a b → Same a b
+  once_stops h a b is (bringing_stops x) = come_stops h a b x
+  once_stops h a b is (call_stops m place come there x) =
+      same m b (lack h m b x) ∙ (come_keeps run shows reads read c accepted h a m place is come).members
+
+  write_stops : (h at : ℕ) (bytes : List ℕ) (a b : Hold)
+      → CallStops (Writes run shows h at bytes) NeverLacks (Declines run shows h at (length bytes))
+      (Brings run shows c h) (BringLacks run shows c h) a b → Same a b
+  write_stops h at bytes a b (call_near x) = absurd x
+  write_stops h at bytes a b (call_far m n x look y) =
+      bring_stops h n b y ∙ same m n look.0 ∙ same a m x.rule.0
+  write_stops h at bytes a b (call_after m n o f x look bring y) = absurd y
+
+  pub stops_same : (j : Job) (a b : Hold) → IsConfigured c a.far → Stops run shows lacks c j a b
+      → Same a b
+  stops_same (job.Make bytes) a b is x = make_stops bytes a b x
+  stops_same (job.Read handle) a b is x = once_stops handle.n a b is x
+  stops_same (job.Write handle at bytes) a b is x = write_stops handle.n at bytes a b x
+  stops_same (job.Swap handle) a b is x = come_stops handle.n a b x
+  stops_same (job.Free handle) a b is x = absurd x
+  stops_same (job.Filter handle) a b is x = same a b x.rule.state
+  stops_same job.Evict a b is x = same a b x.0
+  stops_same job.Begin a b is x = same a b x.0
+  stops_same job.Ship a b is x = same a b x.0
+  stops_same job.Commit a b is x = absurd x
+  stops_same job.Abort a b is x = absurd x
+  stops_same job.Pair a b is x = same a b x.1
+  stops_same job.Patch a b is x = same a b x.1
+  stops_same job.Merge a b is x = same a b x.1
+  stops_same job.Part a b is x = absurd x.1
+  stops_same job.Compact a b is x = same a b x.1
+  stops_same job.Rebuild a b is (ran, (id, set, n, first, few, state)) =
+      ap (λ (f : FarState). f.members) state
+  stops_same (job.Crash node) a b is x = same a b x.1.0
+  stops_same (job.Join node) a b is x = absurd x.1

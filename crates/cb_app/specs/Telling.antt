@@ -1,0 +1,60 @@
+-- What the answers of a run tell of crashes and joins, of sets that lost too much, and of room; and
+-- what its world tells of the workers.
+use Rattle.std.specs.Prelude.{◌≡◌, ◌⊎◌, ℕ, ◌+◌, ◌^◌, ◌<◌, ◌≤◌, List, length, Option, None, Some, slice_index}
+use Rattle.std.specs.List.{AllByRecursion, Contains, filter_map, range_with_len}
+use Rattle.std.specs.List.Sorted.{IsPermutation}
+use Rattle.cb_member.specs.declared.names.Loss.{Loss}
+use Rattle.cb_types.specs.declared.answer.Answer.{Answer}
+use Rattle.cb_types.specs.declared.config.Config.{Config}
+use Rattle.cb_types.specs.declared.job.Job.{Job}
+use Rattle.cb_types.specs.declared.job.Job.TheVariants as job
+use Rattle.cb_types.specs.declared.reply.Reply.{Reply}
+use Rattle.cb_types.specs.declared.reply.Reply.TheVariants.{EpochAt, NoRoom, Unavailable}
+use Rattle.cb_types.specs.Jobs.{job_index}
+use Rattle.cb_world.specs.FarState.{FarState}
+use Rattle.cb_workers.specs.Rules.{visit}
+use Rattle.cb_workers.specs.declared.worker.Worker.{Worker}
+use Rattle.cb_workers.specs.declared.worker.Worker.TheVariants as worker
+
+-- the epoch that a crash or a join began
+abbrev pub epoch_of : Reply → Option ℕ
+epoch_of (EpochAt epoch) = Some epoch.n
+epoch_of reply = None
+
+abbrev pub epochs_of : List Answer → List ℕ
+epochs_of answers = filter_map (λ a. epoch_of a.reply) answers
+
+-- each epoch from 1 to the last began by one crash or join that was answered so, and no other did
+abbrev pub AreEpochs : ℕ → List Answer → Type 0
+AreEpochs last answers = IsPermutation (epochs_of answers) (range_with_len 1 last)
+
+-- a set that can't be read has lost more shards than it has parities, each by one of these crashes
+abbrev pub TellsLost : Config → List Loss → Reply → Type 0
+TellsLost c losses (Unavailable set lost) =
+    (c.r < length lost) × AllByRecursion (Contains losses) lost
+TellsLost c losses reply = Unit {0}
+
+-- where there is no room, no frame of all is free, and for a set too few spans are loose or too few
+-- nodes have room
+abbrev pub TellsRoom : Config → Reply → Type 0
+TellsRoom c (NoRoom frames loose nodes) =
+    (frames ≡ c.frames) × ((loose < c.k) ⊎ (nodes < c.k + c.r))
+TellsRoom c reply = Unit {0}
+
+-- how many turns with a job of this kind were counted
+abbrev pub counted_as : FarState → Job → ℕ
+counted_as far j = slice_index far.counts.by_job (job_index j)
+
+-- how many turns a worker made, by how many there are of each kind of its jobs
+abbrev pub turns_by : Worker → (Job → ℕ) → ℕ
+turns_by worker.Filter number = number (visit 0)
+turns_by worker.Evict number =
+    number job.Begin + number job.Ship + number job.Commit + number job.Abort
+turns_by worker.Compact number =
+    number job.Pair + number job.Patch + number job.Merge + number job.Part
+turns_by worker.Rebuild number = number job.Rebuild
+
+-- where fewer than 2^40 turns were counted, so many of each worker are among them, or more
+abbrev pub CountsWorkers : ℕ → FarState → Type 0
+CountsWorkers turns far =
+    far.counts.turns < 2 ^ 40 → (w : Worker) → turns ≤ turns_by w (counted_as far)
