@@ -1,11 +1,13 @@
 /* What tests/faults loads into the program before the C library: one call of a kind fails, the one that FAULT_AT
- * numbers, from 1, and with FAULT_ON each one behind it too. FAULT_KIND is alloc, read or write; reads are those of
- * standard input and writes those of standard output. A read or a write fails with the error FAULT_ERROR, a number; where
+ * numbers, from 1, and with FAULT_ON each one behind it too. FAULT_KIND is alloc, thread, read or write; reads are those of
+ * standard input and writes those of standard output. A thread that fails is not started. A read or a write fails with the error FAULT_ERROR, a number; where
  * that is 0 it moves FAULT_BYTES in place of failing, or fewer. With FAULT_PIECE each read and write moves at the most so
  * many bytes. The file FAULT_MARK is made when the call fails, so that it is known whether it came. */
 #define _GNU_SOURCE
+#include <dlfcn.h>
 #include <errno.h>
 #include <fcntl.h>
+#include <pthread.h>
 #include <stdlib.h>
 #include <string.h>
 #include <sys/syscall.h>
@@ -68,6 +70,13 @@ int posix_memalign(void **block, size_t alignment, size_t size) {
     if (made == NULL) return ENOMEM;
     *block = made;
     return 0;
+}
+
+int pthread_create(pthread_t *thread, const pthread_attr_t *how, void *(*body)(void *), void *given) {
+    int (*start)(pthread_t *, const pthread_attr_t *, void *(*)(void *), void *);
+    if (fails("thread")) return EAGAIN;
+    *(void **)&start = dlsym(RTLD_NEXT, "pthread_create");
+    return start(thread, how, body, given);
 }
 
 ssize_t read(int file, void *bytes, size_t size) {
