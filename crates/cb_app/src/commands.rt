@@ -13,7 +13,7 @@ ghost use Rattle.cb_text.specs.Line.{text_of};
 
 use crate::ending::Ending;
 use crate::threads::run_threads;
-use cb_cli::{Command, Verdict, answers_text, script_fault_text, script_ok_text, with_given};
+use cb_cli::{Command, Verdict, answers_text, answers_text_in_threads, script_fault_text, script_ok_text, with_given};
 use cb_lanes::{Side, run_lines};
 use cb_rma_text::rma_bytes;
 use cb_script::{Mode, Script, ScriptFault, read_script};
@@ -150,7 +150,9 @@ fn thread_script<R: Threads + Wait + Sync>(
 {
     let told = run_threads(rt, alloc, script, &OpenGate)?;
     let ended = Ending::threaded(script.config, told);
-    leave_ending(alloc, Side::Nodes, ended, end)
+    let text = answers_text_in_threads(rt, alloc, &ended.answers)?;
+    end.set(ended);
+    Ok(text)
 }
 
 /// What `check` makes of bytes.

@@ -1,5 +1,6 @@
 ghost use Rattle.std.specs.Prelude.{◌≡◌, ◌++◌, IfOk};
 ghost use Rattle.std.specs.List.{AllByRecursion};
+ghost use Rattle.std.specs.Thread.{IsSync};
 ghost use Rattle.cb_types.specs.Table.{IsReplyOf};
 ghost use Rattle.cb_text.specs.Line.{text_of};
 ghost use Rattle.cb_cli.specs.Texts.{fault_text, check_text, given_line};
@@ -7,22 +8,78 @@ ghost use Rattle.cb_cli.specs.Texts.{fault_text, check_text, given_line};
 use crate::lanes::different_lanes;
 use cb_script::{Reason, Script};
 use cb_text::push_line;
-use cb_types::{Answers, Bytes, NoMemory};
+use cb_types::{Answer, Answers, Bytes, NoMemory};
 use std::alloc::Global;
+use std::thread;
+use std::thread::Threads;
 
 /// What is put where the words of the command line are refused.
 pub const WORDS_REFUSED: &[u8] = b"words refused\n";
+
+/// How often answers are halved whose text is written in threads, and how few are not.
+const HALVINGS: u32 = 3;
+const FEW: usize = 512;
 
 /// The text of answers, a line each. Each reply is one that its line may have.
 pub fn answers_text(alloc: Global, answers: &Answers) -> Result<Bytes, NoMemory>
     requires { AllByRecursion (λ a. IsReplyOf a.request a.reply) answers.now }
     ensures { IfOk result (λ text. text ≡ text_of answers.now) }
 {
+    Ok(Bytes::from(lines_text(alloc, answers.as_slice())?))
+}
+
+/// The same text. That of many answers is written in parts, each in a thread of its own where one
+/// can be made.
+pub fn answers_text_in_threads<R: Threads + Sync>(
+    rt: &R,
+    alloc: Global,
+    answers: &Answers,
+) -> Result<Bytes, NoMemory>
+    requires { AllByRecursion (λ a. IsReplyOf a.request a.reply) answers.now }
+    ensures { IfOk result (λ text. text ≡ text_of answers.now) }
+{
+    Ok(Bytes::from(text_by_halves(rt, alloc, answers.as_slice(), HALVINGS)?))
+}
+
+fn text_by_halves<R: Threads + Sync>(
+    rt: &R,
+    alloc: Global,
+    answers: &[Answer],
+    halvings: u32,
+) -> Result<Vec<u8>, NoMemory>
+    requires { AllByRecursion (λ a. IsReplyOf a.request a.reply) answers.now }
+    ensures { IfOk result (λ text. text.items ≡ text_of answers.now) }
+{
+    if halvings == 0 || answers.len() < FEW {
+        return lines_text(alloc, answers);
+    }
+    let (low, high) = answers.split_at(answers.len() / 2);
+    let less = halvings - 1;
+    let (front, back) = thread::join(
+        rt,
+        || -> Result<Vec<u8>, NoMemory>
+            requires { IsSync R.row × AllByRecursion (λ a. IsReplyOf a.request a.reply) low.now }
+            ensures { IfOk result (λ text. text.items ≡ text_of low.entry.now) }
+        { text_by_halves(rt, alloc, low, less) },
+        || -> Result<Vec<u8>, NoMemory>
+            requires { IsSync R.row × AllByRecursion (λ a. IsReplyOf a.request a.reply) high.now }
+            ensures { IfOk result (λ text. text.items ≡ text_of high.entry.now) }
+        { text_by_halves(rt, alloc, high, less) },
+    );
+    let mut text = front?;
+    text.extend_from_slice(back?.as_slice())?;
+    Ok(text)
+}
+
+fn lines_text(alloc: Global, answers: &[Answer]) -> Result<Vec<u8>, NoMemory>
+    requires { AllByRecursion (λ a. IsReplyOf a.request a.reply) answers.now }
+    ensures { IfOk result (λ text. text.items ≡ text_of answers.now) }
+{
     let mut text = Vec::new(alloc);
-    for answer in answers.as_slice() {
+    for answer in answers {
         push_line(&mut text, answer.lane, &answer.request, &answer.reply)?;
     }
-    Ok(Bytes::from(text))
+    Ok(text)
 }
 
 /// The text, and behind it a line that tells how many rows the nodes gave out.
