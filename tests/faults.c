@@ -1,8 +1,10 @@
-/* What tests/faults loads into the program before the C library: one call of a kind fails, the one that FAULT_AT
- * numbers, from 1, and with FAULT_ON each one behind it too. FAULT_KIND is alloc, thread, read or write; reads are those of
- * standard input and writes those of standard output. A thread that fails is not started. A read or a write fails with the error FAULT_ERROR, a number; where
- * that is 0 it moves FAULT_BYTES in place of failing, or fewer. With FAULT_PIECE each read and write moves at the most so
- * many bytes. The file FAULT_MARK is made when the call fails, so that it is known whether it came. */
+/* What tests/faults loads into the program before the C library: one call of a kind fails, the
+ * one that FAULT_AT numbers, from 1, and with FAULT_ON each one behind it too. FAULT_KIND is
+ * alloc, thread, read or write; reads are those of standard input and writes those of standard
+ * output. A thread that fails is not started. A read or a write fails with the error
+ * FAULT_ERROR, a number; where that is 0 it moves FAULT_BYTES in place of failing, or fewer.
+ * With FAULT_PIECE each read and write moves at the most so many bytes. The file FAULT_MARK is
+ * made when the call fails, so that it is known whether it came. */
 #define _GNU_SOURCE
 #include <dlfcn.h>
 #include <errno.h>
