@@ -18,4 +18,5 @@ pub mod Laws
 mod WorkedParts
 mod WorkedNeeds
 mod WorkedBacks
+mod WorkedWrote
 mod WorkedRises

@@ -16,7 +16,7 @@ use Rattle.cb_record.specs.Parts.{Part, nothing_more}
 use Rattle.cb_record.specs.Told.{Told}
 use Rattle.cb_record.proofs.WorkedParts.{among_length}
 
-no_bytes : bytes_in [] 0 ≡ []
+pub no_bytes : bytes_in [] 0 ≡ []
 unfolding bytes_in
 no_bytes = refl
 
@@ -29,28 +29,28 @@ no_words = record {
 }
 
 -- ---- lines: an object of no bytes is made, read and filtered, and a node crashes
-abbrev make_line : Told
+abbrev pub make_line : Told
 make_line = record {
   handle = Some 3;
   request = request.Make (97 ∷ []) [];
   reply = answer.Made (the_object 3) 1;
 }
 
-abbrev read_line : Told
+abbrev pub read_line : Told
 read_line = record {
   handle = Some 3;
   request = request.Read (97 ∷ []);
   reply = answer.Bytes 1 [];
 }
 
-abbrev filter_line : Told
+abbrev pub filter_line : Told
 filter_line = record {
   handle = Some 3;
   request = request.Filter (97 ∷ []);
   reply = answer.Same;
 }
 
-abbrev crash_line : Told
+abbrev pub crash_line : Told
 crash_line = record {
   handle = None;
   request = request.Crash (record { n = 5 });
@@ -61,7 +61,7 @@ abbrev lines : List Told
 lines = make_line ∷ read_line ∷ filter_line ∷ crash_line ∷ []
 
 -- what each line enters, turns, pins and has happen
-make_enters : Enters make_line (entry 3 1 0 [] [] ∷ [])
+pub make_enters : Enters make_line (entry 3 1 0 [] [] ∷ [])
 make_enters = ([], no_words, refl)
 
 make_enters_none : Enters make_line [] → ⊥
@@ -74,7 +74,7 @@ free_enters : Enters (record { handle = Some 3; request = request.Free (97 ∷ [
 free_enters = ([], refl)
 
 -- a write of no byte at the end of an object of none, and one past that end
-abbrev written_at : ℕ → Told
+abbrev pub written_at : ℕ → Told
 written_at at = record {
   handle = Some 3;
   request = request.Write (97 ∷ []) at [];
@@ -85,7 +85,7 @@ abbrev first_len : List Entry → ℕ
 first_len [] = 0
 first_len (e ∷ es) = e.len
 
-write_enters : Enters (written_at 0) (entry 3 2 0 [] [] ∷ [])
+pub write_enters : Enters (written_at 0) (entry 3 2 0 [] [] ∷ [])
 write_enters = (
   0,
   [],

@@ -46,3 +46,4 @@ pub mod WorkedTold
 pub mod WorkedOwn
 pub mod WorkedClosing
 pub mod WorkedShown
+pub mod WorkedLast

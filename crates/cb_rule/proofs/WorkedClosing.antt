@@ -59,7 +59,7 @@ left_freed : now_of true freed ≡ ended 5
 left_freed = refl
 
 -- ---- a record that made object 1
-abbrev record_with : List Entry → View
+abbrev pub record_with : List Entry → View
 record_with es = record (opener pair_of) { written = es }
 
 abbrev pub maker : View
@@ -69,14 +69,14 @@ abbrev Stands : View → Type 0
 Stands v = EntriesStand 3 (v ∷ [])
 
 -- what a record wrote stands in it
-wrote_in : (v : View) (e : Entry) → Wrote (v ∷ []) e → Has e (v.fresh ++ v.written)
+pub wrote_in : (v : View) (e : Entry) → Wrote (v ∷ []) e → Has e (v.fresh ++ v.written)
 wrote_in v e w = subst (λ (u : View). Has e (u.fresh ++ u.written)) (lone w.0 w.1) w.2
   where
     lone : (u : View) → Is (v ∷ []) u → u ≡ v
     lone u (zero, same) = sym (some-injective v u same)
     lone u (suc j, same) = absurd (some-ne-none u (sym same))
 
-the_one : (e x : Entry) → Has e (x ∷ []) → e ≡ x
+pub the_one : (e x : Entry) → Has e (x ∷ []) → e ≡ x
 the_one e x (inl same) = sym same
 the_one e x (inr more) = absurd more
 
@@ -137,7 +137,7 @@ looked_at_another s = let v = record maker { looks = look_at 1 (here_word 9) ∷
     let n = o.4 in omega (arith, e, n)
 
 -- and one of a turn, which claimed it
-abbrev claiming : View
+abbrev pub claiming : View
 claiming = record maker {
   turns = record (turn (far 0) (far 1)) { acts = Claimed 1 (here_word 9) 3 (7 ∷ []) ∷ [] } ∷ [];
 }
