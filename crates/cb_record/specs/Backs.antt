@@ -5,7 +5,9 @@ use Rattle.cb_types.specs.declared.job.Job.TheVariants as job
 use Rattle.cb_types.specs.declared.reply.Reply.{Reply}
 use Rattle.cb_types.specs.declared.reply.Reply.TheVariants as answer
 use Rattle.cb_types.specs.declared.request.Request.{Request}
-use Rattle.cb_types.specs.declared.request.Request.TheVariants.{Make, Read, Write, Free, Pin, Filter, Evict, Compact, Rebuild, Crash, Join}
+use Rattle.cb_types.specs.declared.request.Request.TheVariants.{Make, Read, Write, Free, Pin}
+use Rattle.cb_types.specs.declared.request.Request.TheVariants.{Filter, Evict, Compact, Rebuild}
+use Rattle.cb_types.specs.declared.request.Request.TheVariants.{Crash, Join}
 use Rattle.cb_world.specs.declared.entry.Entry.{Entry}
 use Rattle.cb_mutate.specs.JobWrites.{TurnWrites}
 use Rattle.cb_record.specs.Deeds.{Deed, deed, happened, happening}
