@@ -39,7 +39,7 @@ pub record IsTop (h : ℕ) (es : List Entry) (e : Entry) : Type 0 where
   pub greatest : (x : Entry) → Has x es → x.handle ≡ h → x.version ≤ e.version
 
 -- there is one, or no entry of the object
-find_top : (h : ℕ) (es : List Entry)
+pub find_top : (h : ℕ) (es : List Entry)
     → ((e : Entry) × IsTop h es e) ⊎ ((e : Entry) → Has e es → e.handle ≡ h → ⊥)
 find_top h [] = inr (λ e there on. there)
 find_top h (x ∷ xs) = with_one (ℕ_discrete x.handle h) (find_top h xs)
@@ -95,7 +95,7 @@ find_top h (x ∷ xs) = with_one (ℕ_discrete x.handle h) (find_top h xs)
 
 module _ (first : ℕ) (v : View) (entries : EntriesStand first (v ∷ [])) (quiet : v.fresh ≡ []) where
   -- what stands in the one record, and what is written in it
-  wrote : (e : Entry) → Has e v.written → Wrote (v ∷ []) e
+  pub wrote : (e : Entry) → Has e v.written → Wrote (v ∷ []) e
   wrote e there = (v, (0, refl), subst (λ (fs : List Entry). Has e (fs ++ v.written)) (sym quiet) there)
 
   only : (u : View) → Is (v ∷ []) u → u ≡ v

@@ -1,6 +1,7 @@
 -- The lemmas of this crate that other crates cite.
 pub use Rattle.cb_record.proofs.Happening.{turn_of_make}
 pub use Rattle.cb_record.proofs.Histories.{linked, one_length}
+pub use Rattle.cb_record.proofs.Lasting.{has_last}
 pub use Rattle.cb_record.proofs.Legality.{are_histories, known_of_backed, legal_of_backed}
 pub use Rattle.cb_record.proofs.Links.{AreLinked, AreTrue}
 pub use Rattle.cb_record.proofs.Naming.{calls_behind-append, calls_same, tolds_same}

@@ -9,6 +9,7 @@ mod Replied
 mod Making
 mod Naming
 mod Legality
+mod Lasting
 mod Meeting
 mod Rising
 mod Known
@@ -20,3 +21,4 @@ mod WorkedNeeds
 mod WorkedBacks
 mod WorkedWrote
 mod WorkedRises
+mod WorkedLeft

@@ -205,7 +205,7 @@ module _ (first : ℕ) (es : List Entry) (h : ℕ) (linked : AreLinked first es)
   -- the freed entry is what all changes leave
   ends_freed : (e x : Entry) (a : ℕ) (b : List ℕ) (cs : List (ℕ × Change)) → e.freed ≡ true
       → HasOne (StandsFor h e) cs → Chain es h x cs
-      → (version : ℕ) × (fold changed (Some (Held a b)) cs ≡ Some (Freed version))
+      → fold changed (Some (Held a b)) cs ≡ Some (Freed e.version)
   ends_freed e x a b [] gone one chain = absurd one
   ends_freed e x a b ((v, Create bytes) ∷ later) gone one chain = absurd chain
   ends_freed e x a b ((v, Overwrite at bytes) ∷ later) gone one chain =
@@ -213,7 +213,9 @@ module _ (first : ℕ) (es : List Entry) (h : ℕ) (linked : AreLinked first es)
       (⊎_elim (λ (s : StandsFor h e (v, Overwrite at bytes)).
       absurd (true≢false (sym gone ∙ s.does.0)))
       (λ (rest : HasOne (StandsFor h e) later). rest) one) chain.2
-  ends_freed e x a b ((v, Remove) ∷ []) gone one chain = (v, refl)
+  ends_freed e x a b ((v, Remove) ∷ []) gone one chain = ⊎_elim
+      (λ (s : StandsFor h e (v, Remove)). ap (λ (n : ℕ). Some (Freed n)) (sym s.version))
+      (λ (none : ⊥). absurd none) one
   ends_freed e x a b ((v, Remove) ∷ d ∷ later) gone one chain =
       absurd (let none : d ∷ later ≡ [] = chain.1 in cc)
 
@@ -223,7 +225,9 @@ module _ (first : ℕ) (es : List Entry) (h : ℕ) (linked : AreLinked first es)
     pub shows : (e : Entry) → Has e es → e.handle ≡ h → e.freed ≡ false
         → at_version cs e.version ≡ Some (Held e.version (bytes_in e.after e.len))
     pub freed : (e : Entry) → Has e es → e.handle ≡ h → e.freed ≡ true
-        → (version : ℕ) × (left_by cs ≡ Some (Freed version))
+        → left_by cs ≡ Some (Freed e.version)
+    -- each change has its entry
+    pub entered : AllByRecursion (IsEntered first es h) cs
     pub long : (e : Entry) → Has e es → e.handle ≡ h → e.freed ≡ false → IsMadeWith cs e.len
 
   -- no make stands among versions above the first
@@ -247,6 +251,7 @@ module _ (first : ℕ) (es : List Entry) (h : ℕ) (linked : AreLinked first es)
     history = tt;
     shows = λ e he ee kept. absurd (one e he ee);
     freed = λ e he ee gone. absurd (one e he ee);
+    entered = tt;
     long = λ e he ee kept. absurd (one e he ee);
   }
   are_true ((v, Overwrite at bytes) ∷ later) run all one made =
@@ -261,6 +266,7 @@ module _ (first : ℕ) (es : List Entry) (h : ℕ) (linked : AreLinked first es)
     history = (run.0, goes_on_chain (first + 1) (length bytes) x later (ap (λ (n : ℕ). n + 1) (sym at)) does.1 chain);
     shows = λ e he ee kept. shows e he ee kept;
     freed = λ e he ee gone. ends_freed e x v bytes later gone (behind e (one e he ee) (λ d. true≢false (sym gone ∙ d))) chain;
+    entered = all;
     long = λ e he ee kept. linked.long e x he all.0.there (ee ∙ sym all.0.stands.handle) kept does.0 ∙ does.1;
   }
     where
@@ -305,3 +311,28 @@ module _ (first : ℕ) (es : List Entry) (h : ℕ) (linked : AreLinked first es)
           ∙ folded e x later he all.0.there ee all.0.stands.handle kept filled
           (let b = linked.born e he in omega (arith, b, at)) (later_one e (one e he ee)) chain
           (cases_lt x.version e.version))
+
+  -- ---- what all changes leave
+  -- none is above such a version
+  none_above : (n : ℕ) (cs : List (ℕ × Change)) → AllByRecursion (IsEntered first es h) cs
+      → ((e : Entry) → Has e es → e.handle ≡ h → e.version ≤ n)
+      → filter (λ c. nat_le c.0 n) cs ≡ cs
+  none_above n [] all most = refl
+  none_above n (c ∷ cs) all most =
+      let e = all.0.entry in let at = all.0.stands.version in
+      let low : c.0 ≤ n = let le = most e all.0.there all.0.stands.handle in omega (arith, le, at) in
+      rw (le-leb c.0 n low) (ap (λ (later : List (ℕ × Change)). c ∷ later) (none_above n cs all.1 most))
+
+  -- it is what the entry with the greatest version has, where that is not the freed one
+  pub leaves_last : (cs : List (ℕ × Change)) → AreTrue cs → (e : Entry) → Has e es → e.handle ≡ h
+      → e.freed ≡ false → ((x : Entry) → Has x es → x.handle ≡ h → x.version ≤ e.version)
+      → left_by cs ≡ Some (Held e.version (bytes_in e.after e.len))
+  leaves_last cs are e there on kept most =
+      ap left_by (sym (none_above e.version cs are.entered most)) ∙ are.shows e there on kept
+
+  -- and an object without an entry has no change
+  pub no_changes : (cs : List (ℕ × Change)) → AreTrue cs
+      → ((e : Entry) → Has e es → e.handle ≡ h → ⊥) → cs ≡ []
+  no_changes [] are none = refl
+  no_changes (c ∷ cs) are none =
+      let all = are.entered in absurd (none all.0.entry all.0.there all.0.stands.handle)

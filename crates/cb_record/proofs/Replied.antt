@@ -104,9 +104,11 @@ module _ (first handles : ℕ) (calls : List Called) (v : View) where
         → (version : ℕ) × (left_by (history calls h) ≡ Some (Freed version))
     freed_told one =
         let z = find_one (IsFreedAs h) v.seen one in
-        let e = entry_seen z.0 z.1 in
-        are.freed e.0 e.1 (ap (λ (x : Seen). x.handle) (sym e.2) ∙ z.2.0)
-        (ap (λ (x : Seen). x.freed) (sym e.2) ∙ z.2.1)
+        let e = entry_seen z.0 z.1 in (
+          e.0.version,
+          are.freed e.0 e.1 (ap (λ (x : Seen). x.handle) (sym e.2) ∙ z.2.0)
+              (ap (λ (x : Seen). x.freed) (sym e.2) ∙ z.2.1),
+        )
 
     -- the words that were peeked are those of the entry that was read
     peek_told : (version : ℕ) (bytes : List ℕ) → ArePeeked h version bytes v.peeked

@@ -6,3 +6,4 @@ pub mod Needs
 pub mod Backs
 pub mod Rises
 pub mod Upheld
+pub mod Left
