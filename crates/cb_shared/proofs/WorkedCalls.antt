@@ -15,7 +15,7 @@ use Rattle.cb_shared.specs.Calls.{AsksFor, AtNone, AtThis, EndsAtLast, IsAnswer,
 use Rattle.cb_record.specs.Deeds.{Deed, deed, happened, happening}
 use Rattle.cb_record.specs.Parts.{Part, grown, nothing_more, sum}
 use Rattle.cb_shared.specs.Reading.{looked, looked_freed}
-use Rattle.cb_shared.proofs.WorkedGround.{away, calm, knows_made, made, moving, newest_made, not_second, part, pinned, two, version_in}
+use Rattle.cb_shared.proofs.WorkedGround.{a_stand, away, calm, knows_made, made, moving, newest_made, not_second, part, pinned, two, version_in}
 use Rattle.cb_shared.proofs.WorkedTurns.{adds_worn, worn_part}
 use Rattle.cb_shared.proofs.WorkedWrites.{write_it}
 
@@ -107,11 +107,17 @@ written_at_once = record {
   last = 3;
   room = (refl, lit≤ tt);
   bare = refl;
+  loose = refl;
   newest = newest_made;
   next = refl;
   write = write_it;
   part = refl;
 }
+
+-- but not under a pin of its own
+writes_what_it_pins : IsWrittenOnce 1 1 (12 ∷ []) 4 (record part { pins = a_stand ∷ [] })
+    (written_once 1 calm 4 (2826 ∷ []) (3082 ∷ [])) → ⊥
+writes_what_it_pins p = eqb-false 1 0 refl p.loose
 
 keeps_its_version : IsWrittenOnce 1 1 (12 ∷ []) 3 part
     (written_once 1 calm 3 (2826 ∷ []) (3082 ∷ [])) → ⊥
@@ -249,6 +255,7 @@ writes_at_last = (
         last = 3;
         room = (refl, lit≤ tt);
         bare = refl;
+        loose = refl;
         newest = record {
           written = newest_made.written;
           seen = newest_made.seen;

@@ -70,6 +70,7 @@ finds_it_worn = record {
   word = calm;
   room = (refl, lit≤ tt);
   bare = refl;
+  loose = refl;
   newest = newest_worn;
   part = refl;
 }
@@ -90,6 +91,9 @@ worn_past_the_end x = let room = x.room.1 in
 worn_under_a_pin : IsWornOut 1 1 1 part (looked_twice 1 pinned pinned) → ⊥
 worn_under_a_pin x =
     eqb-false 1 0 refl (ap (λ (d : Part). pins_of (word_in d.looks)) x.part ∙ x.bare)
+
+worn_under_its_own : IsWornOut 1 1 1 (record part { pins = a_stand ∷ [] }) (looked_twice 1 calm calm) → ⊥
+worn_under_its_own x = eqb-false 1 0 refl x.loose
 
 finds_a_race : WriteFinds 1 1 (12 ∷ []) (place.Raced calm pinned) part (looked_twice 1 calm pinned)
 finds_a_race = (eqb-false pinned calm refl, refl)

@@ -14,6 +14,10 @@ use Rattle.cb_shared.proofs.WorkedGround.{a_stand, away, calm, last_look, last_s
 abbrev looks_of : View → ℕ
 looks_of v = length v.looks
 
+-- the record of a pass that pins the object
+abbrev pinning : View
+pinning = record part { pins = a_stand ∷ [] }
+
 -- ---- 0c in place of the object's byte 1
 pub write_it : IsWrite (2826 ∷ []) 1 (12 ∷ []) (3082 ∷ [])
 write_it = record { sized = refl; inside = inside; outside = outside }
@@ -49,6 +53,7 @@ is_written = record {
   last = 3;
   room = (refl, lit≤ tt);
   bare = refl;
+  loose = refl;
   newest = newest_made;
   next = refl;
   write = write_it;
@@ -64,6 +69,7 @@ is_written_later = record {
   last = 4;
   room = (refl, lit≤ tt);
   bare = refl;
+  loose = refl;
   newest = newest_later;
   next = refl;
   write = write_it;
@@ -90,6 +96,10 @@ while_moving p = eqb-false 3 2 refl (ap last_state p.left ∙ ap state_number p.
 while_pinned : IsWrittenHere 1 1 (12 ∷ []) 4 part (changed pinned 4 (3082 ∷ []) part) → ⊥
 while_pinned p =
     eqb-false 1 0 refl (ap (λ (v : View). pins_of (last_look v)) p.left ∙ p.bare)
+
+-- under a pin that it has itself, and that the word does not count
+while_it_pins : IsWrittenHere 1 1 (12 ∷ []) 4 pinning (changed calm 4 (3082 ∷ []) pinning) → ⊥
+while_it_pins p = eqb-false 1 0 refl p.loose
 
 past_the_end : IsWrittenHere 1 8 (12 ∷ []) 4 part (changed calm 4 (3082 ∷ []) part) → ⊥
 past_the_end p =
@@ -123,6 +133,7 @@ is_worn = record {
   word = calm;
   room = (refl, lit≤ tt);
   bare = refl;
+  loose = refl;
   newest = record {
     written = ((λ _. lit≤ tt), tt);
     seen = tt;
@@ -141,6 +152,9 @@ worn_past_the_end p =
 
 worn_pinned : IsWorn 1 1 1 last_made (twice pinned last_made) → ⊥
 worn_pinned p = eqb-false 1 0 refl (ap (λ (v : View). pins_of (last_look v)) p.left ∙ p.bare)
+
+worn_while_it_pins : IsWorn 1 1 1 pinning (twice calm pinning) → ⊥
+worn_while_it_pins p = eqb-false 1 0 refl p.loose
 
 -- it alone writes, and wrote version 3
 not_worn : IsWorn 1 1 1 whole (twice calm whole) → ⊥

@@ -40,6 +40,7 @@ write_finds h at bytes (place.Ok version) v w x = (
     last = x.last;
     room = x.room;
     bare = x.bare;
+    loose = x.loose;
     newest = x.newest;
     next = x.next;
     write = x.write;
@@ -59,7 +60,14 @@ write_finds h at bytes (place.Pinned count) v w (n, is, left) =
 write_finds h at bytes place.Worn v w x = (
   looked_twice h x.word x.word,
   x.left ∙ twice_part h x.word x.word v,
-  record { word = x.word; room = x.room; bare = x.bare; newest = x.newest; part = refl },
+  record {
+    word = x.word;
+    room = x.room;
+    bare = x.bare;
+    loose = x.loose;
+    newest = x.newest;
+    part = refl;
+  },
 )
 write_finds h at bytes (place.Raced saw found) v w (other, left) =
     (looked_twice h saw found, left ∙ twice_part h saw found v, (other, refl))

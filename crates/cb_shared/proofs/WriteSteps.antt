@@ -2,10 +2,11 @@
 use Rattle.std.proofs.Common.{◌≡◌, ℕ, ◌+◌, ◌<◌, ◌≤◌, List, [], ◌∷◌, length, sym, refl, ap, ◌∙◌, subst}
 use Rattle.atomic_table.specs.Seated.{TableId}
 use Rattle.cb_types.specs.declared.config.Config.{Config}
-use Rattle.cb_ptr.specs.Word.{len_of}
+use Rattle.cb_ptr.specs.Word.{len_of, pins_of}
 use Rattle.cb_world.specs.Written.{entry}
 use Rattle.cb_world.specs.declared.entry.Entry.{Entry}
 use Rattle.cb_rule.specs.declared.view.View.{View}
+use Rattle.cb_rule.specs.Seats.{pins_on}
 use Rattle.cb_rule.specs.Slot.{Sat}
 use Rattle.cb_rule.specs.Steps.{IsNewest, held_at, with_freed, with_look}
 use Rattle.cb_shared.specs.declared.answers.WriteAnswer.{WriteAnswer}
@@ -15,7 +16,7 @@ use Rattle.cb_shared.specs.Claims.{with_only}
 use Rattle.cb_shared.specs.Glances.{Glances}
 use Rattle.cb_shared.specs.Passes.{IsAtRest}
 use Rattle.cb_shared.specs.Places.{IsOf, Place, Moves}
-use Rattle.cb_shared.specs.Writing.{IsWriteRefusal, WriteAt, WriteClaimed, WriteGives}
+use Rattle.cb_shared.specs.Writing.{IsRoomFor, IsWriteRefusal, WriteAt, WriteClaimed, WriteGives}
 use Rattle.cb_shared.proofs.Resting.{far_empty, here_empty, moving_empty, view_of}
 
 pub of_moves : (z : TableId) (k : Setup) (c : Config) (p q : Place) (w : View) → IsOf z k c p
@@ -132,3 +133,52 @@ refused_writes h w at bytes (Pinned k) p q g why = (
 )
 refused_writes h w at bytes Worn p q g why = absurd why
 refused_writes h w at bytes (Raced s f) p q g why = absurd why
+
+-- ---- a look at a word that can be claimed, and then the exchange
+module _ (h w at : ℕ) (bytes : List ℕ) (p m q : Place) (g : Glances h w p m)
+    (room : IsRoomFor at (length bytes) w) (bare : pins_of w ≡ 0) where
+  saw : m.me.0 ≡ with_look h w p.me.0
+  saw = view_of p m (with_look h w p.me.0) (g.other (λ e. here_empty (sym room.0 ∙ e)))
+
+  -- the word counts the pass's own pins too
+  loose : pins_on h p.me.0 ≡ 0
+  loose = let few = (g.counted room.0).0 in omega (arith, few, bare)
+
+  newest_before : (n : ℕ) → IsNewest h n m.me.0 → IsNewest h n p.me.0
+  newest_before n x = let y = subst (IsNewest h n) saw x in
+      record { written = y.written; seen = y.seen; lone = y.lone }
+
+  pub claimed_writes : (a : WriteAnswer) → WriteAt h w at bytes a m.me.0 q.me.0
+      → WriteGives h at bytes a p.me.0 q.me.0
+  claimed_writes (Ok version) x = record {
+    word = w;
+    old = x.old;
+    new = x.new;
+    last = x.last;
+    room = room;
+    bare = bare;
+    loose = loose;
+    newest = newest_before x.last x.newest;
+    next = x.next;
+    write = x.write;
+    left = x.left ∙ ap (λ (v : View). let z : View = record (with_look h w v) {
+      written = entry h version (len_of w) x.old x.new ∷ v.written;
+    } in z) saw;
+  }
+  claimed_writes Worn x = record {
+    word = w;
+    room = room;
+    bare = bare;
+    loose = loose;
+    newest = newest_before _ x.0;
+    left = x.1 ∙ ap (with_look h w) saw;
+  }
+  claimed_writes (Raced seen found) x = (
+    (λ e. x.1 (e ∙ x.0)),
+    x.2 ∙ ap (with_look h found) saw ∙ ap (λ (n : ℕ). with_look h found (with_look h n p.me.0)) (sym x.0),
+  )
+  claimed_writes Freed x = absurd x
+  claimed_writes NotHere x = absurd x
+  claimed_writes Moving x = absurd x
+  claimed_writes (Range len) x = absurd x
+  claimed_writes (Pinned count) x = absurd x

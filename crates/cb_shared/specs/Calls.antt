@@ -14,6 +14,7 @@ use Rattle.cb_rule.specs.declared.turn.Turn.{Turn}
 use Rattle.cb_rule.specs.declared.view.Look.{Look}
 use Rattle.cb_rule.specs.declared.view.View.{View}
 use Rattle.cb_rule.specs.Lists.{Each}
+use Rattle.cb_rule.specs.Seats.{pins_on}
 use Rattle.cb_rule.specs.Steps.{IsNewest, look_at}
 use Rattle.cb_shared.specs.declared.answers.WriteAnswer.{WriteAnswer}
 use Rattle.cb_shared.specs.declared.answers.WriteAnswer.TheVariants as place
@@ -118,7 +119,7 @@ written_once h word version old new = record nothing_more {
 }
 
 -- the object was here and was written: one entry, one version above the newest one, whose contents
--- are those before with the bytes in them
+-- are those before with the bytes in them. No one had a pin on it, nor the pass itself
 pub record IsWrittenOnce (h at : ℕ) (bytes : List ℕ) (version : ℕ) (v : View) (d : Part) : Type 0
   where
     pub word : ℕ
@@ -127,6 +128,7 @@ pub record IsWrittenOnce (h at : ℕ) (bytes : List ℕ) (version : ℕ) (v : Vi
     pub last : ℕ
     pub room : IsRoomFor at (length bytes) word
     pub bare : pins_of word ≡ 0
+    pub loose : pins_on h v ≡ 0
     pub newest : IsNewest h last v
     pub next : version ≡ last + 1
     pub write : IsWrite old at bytes new
@@ -137,6 +139,7 @@ pub record IsWornOut (h at count : ℕ) (v : View) (d : Part) : Type 0 where
   pub word : ℕ
   pub room : IsRoomFor at count word
   pub bare : pins_of word ≡ 0
+  pub loose : pins_on h v ≡ 0
   pub newest : IsNewest h (2 ^ 64 - 1) v
   pub part : d ≡ looked_twice h word word
 

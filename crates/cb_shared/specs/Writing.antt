@@ -28,7 +28,8 @@ abbrev pub IsPinnedSo : ℕ → ℕ → View → ℕ → Type 0
 IsPinnedSo h count v n = (pins_of n ≡ count) × (1 ≤ count) × (IsAlone h v → count ≡ pins_on h v)
 
 -- the object was claimed where it is, at its newest version, and written: one entry more, one
--- version higher, whose contents are those before with the bytes in them
+-- version higher, whose contents are those before with the bytes in them. It has no pins, so the
+-- pass itself has none on it
 pub record IsWrittenHere (h at : ℕ) (bytes : List ℕ) (version : ℕ) (v w : View) : Type 0 where
   pub word : ℕ
   pub old : List ℕ
@@ -36,6 +37,7 @@ pub record IsWrittenHere (h at : ℕ) (bytes : List ℕ) (version : ℕ) (v w : 
   pub last : ℕ
   pub room : IsRoomFor at (length bytes) word
   pub bare : pins_of word ≡ 0
+  pub loose : pins_on h v ≡ 0
   pub newest : IsNewest h last v
   pub next : version ≡ last + 1
   pub write : IsWrite old at bytes new
@@ -48,6 +50,7 @@ pub record IsWorn (h at count : ℕ) (v w : View) : Type 0 where
   pub word : ℕ
   pub room : IsRoomFor at count word
   pub bare : pins_of word ≡ 0
+  pub loose : pins_on h v ≡ 0
   pub newest : IsNewest h (2 ^ 64 - 1) v
   pub left : w ≡ with_look h word (with_look h word v)
 
