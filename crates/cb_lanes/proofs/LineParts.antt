@@ -514,7 +514,7 @@ write_here h at name bytes (place.Range len) r v d says (word, past, is) =
     subst (λ (q : Reply). Backs d (told_as (Some h) (Write name at bytes) q ∷ [])) (sym says)
     (subst (λ (z : Part). Backs z (told_as (Some h) (Write name at bytes) (answer.Range len) ∷ []))
     (sym is) (look_backs h word (Write name at bytes) (answer.Range len) refl
-    (inl (inl (refl, past.0, past.1, past.2))) refl refl refl))
+    (inl (inl (refl, past.0.0, past.0.1, past.0.2))) refl refl refl))
 write_here h at name bytes (place.Pinned count) r v d says (word, pinned, is) =
     subst (λ (q : Reply). Backs d (told_as (Some h) (Write name at bytes) q ∷ [])) (sym says)
     (subst (λ (z : Part). Backs z (told_as (Some h) (Write name at bytes) (answer.Pinned count) ∷ []))

@@ -92,7 +92,11 @@ writes = (
     before = nothing_more;
     last = looked 1 calm;
     in_vain = no_tries _ _;
-    ends_so = inl (place.Range 8, refl, (calm, (refl, refl, lit< tt), refl));
+    ends_so = inl (
+      place.Range 8,
+      refl,
+      (calm, ((refl, refl, lit< tt), λ l. absurd (shared_part l)), refl),
+    );
     part = refl;
   },
   refl,

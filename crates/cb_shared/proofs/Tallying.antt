@@ -19,7 +19,7 @@ set_same [] id v e = refl
 set_same (x ∷ xs) zero v e = ap (λ (y : View). y ∷ xs) (sym (some-injective x v e))
 set_same (x ∷ xs) (suc id) v e = ap (λ (ys : List View). x ∷ ys) (set_same xs id v e)
 
-share_within : (vs : List View) (id : ℕ) (v : View) → get_elem? vs id ≡ some v
+pub share_within : (vs : List View) (id : ℕ) (v : View) → get_elem? vs id ≡ some v
     → v.share ≤ total share_of vs
 share_within [] id v e = absurd (some-ne-none v (sym e))
 share_within (x ∷ xs) zero v e =

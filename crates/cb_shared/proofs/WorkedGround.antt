@@ -1,16 +1,17 @@
 -- What the worked examples are about: an object, the words that it may have, and two records.
-use Rattle.std.proofs.Common.{◌≡◌, ℕ, ◌<◌, List, [], ◌∷◌, ◌++◌, refl, subst, inl, inr, ⊎_elim, arith, ap, ◌∙◌}
+use Rattle.std.proofs.Common.{◌≡◌, ℕ, ◌<◌, false, List, [], ◌∷◌, ◌++◌, refl, subst, inl, inr, ⊎_elim, arith, ap, ◌∙◌, lit<, true≢false}
 use Rattle.cb_types.specs.declared.config.Config.{Config}
 use Rattle.cb_ptr.specs.Word.{state_of, state_number}
 use Rattle.cb_world.specs.declared.entry.Entry.{Entry}
-use Rattle.cb_world.specs.Written.{entry}
+use Rattle.cb_world.specs.Written.{entry, gone}
 use Rattle.cb_rule.specs.declared.view.Look.{Look}
 use Rattle.cb_rule.specs.declared.view.Stand.{Stand}
 use Rattle.cb_rule.specs.declared.view.View.{View}
 use Rattle.cb_rule.specs.Own.{IsAlone}
-use Rattle.cb_rule.specs.Lists.{Each}
+use Rattle.cb_rule.specs.Lists.{Each, Has}
 use Rattle.cb_rule.specs.Steps.{IsNew, IsNewest, Knows, blank, opener, stand}
 use Rattle.cb_shared.specs.declared.pass.Pin.{Pin}
+use Rattle.cb_shared.specs.Glances.{HasLast}
 
 -- two objects at most
 abbrev pub two : Config
@@ -112,6 +113,35 @@ owner = record part { own = 1 ∷ [] }
 
 pub not_foreign_own : IsNewest 1 4 owner → ⊥
 not_foreign_own n = let e = n.lone (inr (inl refl)) in omega (arith, e)
+
+-- ---- its last entry, which the pass with the whole share wrote
+pub newest_whole : IsNewest 1 3 whole
+newest_whole = record {
+  written = ((λ _. omega arith), tt);
+  seen = tt;
+  lone = λ _. lit< tt;
+}
+
+pub has_last : HasLast 1 8 whole
+has_last = record {
+  last = made;
+  wrote = inl refl;
+  handle = refl;
+  newest = newest_whole;
+  held = refl;
+  long = refl;
+}
+
+-- or it was freed then, under whichever pins
+abbrev pub freed_last : View
+freed_last = record whole { written = gone 1 4 (2826 ∷ []) ∷ [] }
+
+pub last_is_freed : (ps : List Stand) → HasLast 1 8 (record freed_last { pins = ps }) → ⊥
+last_is_freed ps x = by x.last x.wrote x.held
+  where
+    by : (e : Entry) → Has e (gone 1 4 (2826 ∷ []) ∷ []) → e.freed ≡ false → ⊥
+    by e (inl is) off = true≢false (ap (λ (z : Entry). z.freed) is ∙ off)
+    by e (inr none) off = none
 
 -- ---- a version that stands as written is not new
 pub not_new : (v : View) → v.written ≡ made ∷ [] → IsNew 1 3 v → ⊥

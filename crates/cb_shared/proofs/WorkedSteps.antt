@@ -1,32 +1,35 @@
 -- Worked steps: what each step of a pin and of a write comes to, and what breaks one of its parts
 -- alone.
-use Rattle.std.proofs.Common.{◌≡◌, ℕ, suc, ◌+◌, ◌-◌, ◌^◌, ◌<◌, ◌≤◌, false, List, [], ◌∷◌, length, refl, sym, ap, ◌∙◌, subst, inl, ⊎_elim, true≢false, lit<, lit≤, arith}
+use Rattle.std.proofs.Common.{◌≡◌, ℕ, suc, ◌+◌, ◌-◌, ◌^◌, ◌<◌, ◌≤◌, false, List, [], ◌∷◌, length, refl, sym, ap, ◌∙◌, subst, inl, inr, ⊎_elim, true≢false, lit<, lit≤, arith}
 use Rattle.std.proofs.lemmas.Bool.{eqb-false}
+use mathlib.Core.Option.{none}
 use Rattle.atomic_table.specs.Seated.{TableId}
+use Rattle.atomic_table.specs.Table.{Step, step}
 use Rattle.cb_types.specs.declared.config.Config.{Config}
-use Rattle.cb_ptr.specs.Word.{state_number}
+use Rattle.cb_ptr.specs.Word.{pins_of, state_number}
+use Rattle.cb_world.specs.declared.entry.Entry.{Entry}
 use Rattle.cb_world.specs.Memory.{byte_at}
 use Rattle.cb_world.specs.Written.{entry}
 use Rattle.cb_rule.specs.declared.view.Held.{Held}
 use Rattle.cb_rule.specs.declared.view.Seen.{Seen}
 use Rattle.cb_rule.specs.declared.view.Stand.{Stand}
 use Rattle.cb_rule.specs.declared.view.View.{View}
-use Rattle.cb_rule.specs.Lists.{Each}
+use Rattle.cb_rule.specs.Lists.{Each, Has}
 use Rattle.cb_rule.specs.Own.{IsAlone}
 use Rattle.cb_rule.specs.Rule.{AreSized}
 use Rattle.cb_rule.specs.Seats.{pins_on}
-use Rattle.cb_rule.specs.Slot.{Sat}
-use Rattle.cb_rule.specs.Steps.{IsNewest, held_at, version_seen, with_freed, with_look, with_pin}
+use Rattle.cb_rule.specs.Slot.{Sat, Slot}
+use Rattle.cb_rule.specs.Steps.{IsNewest, held_at, opener, version_seen, with_freed, with_look, with_pin}
 use Rattle.cb_rule.specs.Words.{base}
 use Rattle.cb_shared.specs.declared.answers.PinAnswer.TheVariants as pins
 use Rattle.cb_shared.specs.declared.answers.WriteAnswer.TheVariants as writes
 use Rattle.cb_shared.specs.declared.setup.Setup.{Setup}
 use Rattle.cb_shared.specs.Claims.{ClaimsHere, HoldsOnly, unclaimed, with_only}
-use Rattle.cb_shared.specs.Glances.{Glances, TakesPin, TellsVersion}
+use Rattle.cb_shared.specs.Glances.{Glances, HasLast, IsLastAlone, TakesPin, TellsVersion, glanced_last}
 use Rattle.cb_shared.specs.Pinning.{IsPinnedAt, IsRefusal, PinAt}
 use Rattle.cb_shared.specs.Places.{HoldsLock, IsOf, Moves, Place}
 use Rattle.cb_shared.specs.Writing.{IsWriteRefusal, IsWrittenAt, WriteAt, WriteClaimed}
-use Rattle.cb_shared.proofs.WorkedGround.{a_pin, a_stand, away, calm, full, last_look, moving, newest_later, newest_made, not_second, part, pinned, shared_part, two, version_in, whole, words_in}
+use Rattle.cb_shared.proofs.WorkedGround.{a_pin, a_stand, away, calm, freed_last, full, has_last, last_is_freed, last_look, made, moving, newest_later, newest_made, not_second, part, pinned, shared_part, two, version_in, whole, words_in}
 use Rattle.cb_shared.proofs.WorkedWrites.{write_it}
 
 abbrev looks_of : View → ℕ
@@ -282,6 +285,7 @@ glanced p q e m = record {
     subst (λ (v : View). pins_on 1 v ≤ 1) (sym e) (lit≤ tt),
     λ l. absurd (shared_part 1 (subst (IsAlone 1) e l)),
   );
+  held = λ _ l. absurd (shared_part 1 (subst (IsAlone 1) e l));
 }
 
 glanced_freed : (p q : Place) → p.me.0 ≡ part → Moves p q (with_freed 1 4 0 p.me.0)
@@ -290,6 +294,7 @@ glanced_freed p q e m = record {
   freed = λ _. (4, subst (λ (v : View). IsNewest 1 4 v) (sym e) newest_later, m);
   other = λ n. absurd (n refl);
   counted = λ h. absurd (eqb-false 0 2 refl (ap state_number h));
+  held = λ h _. absurd (eqb-false 0 2 refl (ap state_number h));
 }
 
 glanced_unlooked : (p q : Place) → p.me.0 ≡ part → q.me.0 ≡ part → Glances 1 calm p q → ⊥
@@ -313,6 +318,61 @@ glanced_uncounted p q e g =
 glanced_foreign : (p q : Place) → p.me.0 ≡ whole → Glances 1 pinned p q → ⊥
 glanced_foreign p q e g = eqb-false 1 0 refl
     ((g.counted refl).1 (inl (ap (λ (v : View). v.share) e)) ∙ ap (pins_on 1) e)
+
+-- with the whole share, where it freed the object
+glanced_gone : (p q : Place) → p.me.0 ≡ freed_last → Glances 1 calm p q → ⊥
+glanced_gone p q e g = last_is_freed [] (subst (HasLast 1 8) e
+    (g.held refl (inl (ap (λ (v : View). v.share) e))))
+
+-- ---- the last entry that a record wrote
+made_is : (e : Entry) → Has e (made ∷ []) → made ≡ e
+made_is e (inl is) = is
+made_is e (inr none) = absurd none
+
+last_unwritten : HasLast 1 8 (opener two) → ⊥
+last_unwritten x = x.wrote
+
+last_of_another : HasLast 0 8 whole → ⊥
+last_of_another x =
+    eqb-false 1 0 refl (ap (λ (e : Entry). e.handle) (made_is x.last x.wrote) ∙ x.handle)
+
+last_but_one : HasLast 1 8 (record whole { seen = version_seen 1 4 8 (2826 ∷ []) ∷ [] }) → ⊥
+last_but_one x = let high : 4 ≤ x.last.version = x.newest.seen.0 refl in
+    let is : 3 ≡ x.last.version = ap (λ (e : Entry). e.version) (made_is x.last x.wrote) in
+    omega (arith, high, is)
+
+last_shorter : HasLast 1 7 whole → ⊥
+last_shorter x =
+    eqb-false 8 7 refl (ap (λ (e : Entry). e.len) (made_is x.last x.wrote) ∙ x.long)
+
+-- ---- a load of the pointer word, as the rule tells it
+abbrev at_one : Step Slot
+at_one = step 1 2 0 0 none
+
+abbrev before : Sat
+before = (whole, [])
+
+abbrev behind : Sat
+behind = (with_look 1 calm whole, [])
+
+loads_last : glanced_last at_one before calm behind
+loads_last = (
+  λ h q. let same : 1 ≡ h = omega (arith, q) in (
+    (λ f. absurd (eqb-false 2 0 refl (ap state_number f))),
+    (λ _. ap (λ (j : ℕ). let z : Sat = (with_look j calm whole, []) in z) same),
+    λ _. subst (λ (j : ℕ). (calm < 2 ^ 53) × (pins_on j whole ≤ pins_of calm)
+        × (IsAlone j whole → pins_of calm ≡ pins_on j whole)) same
+        (lit< tt, lit≤ tt, λ _. refl),
+  ),
+  λ h q here. let same : 1 ≡ h = omega (arith, q) in
+      subst (λ (j : ℕ). IsLastAlone j 8 whole) same (λ _. has_last),
+)
+
+abbrev gone_before : Sat
+gone_before = (freed_last, [])
+
+loads_gone : (m : Sat) → glanced_last at_one gone_before calm m → ⊥
+loads_gone m g = last_is_freed [] (g.1 1 refl refl (inl refl))
 
 -- ---- an exchange of a pin
 abbrev no_frames : Config

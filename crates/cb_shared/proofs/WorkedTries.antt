@@ -12,7 +12,7 @@ use Rattle.cb_record.specs.Parts.{Part, grown, nothing_more, sum}
 use Rattle.cb_shared.specs.declared.answers.WriteAnswer.TheVariants as place
 use Rattle.cb_shared.specs.Calls.{AtNone, AtThis, IsCalled, IsNoReply, IsWornOut, ReadGives, ReadTries, Stops, TurnEnds, TurnTries, WriteEnds, WriteFinds, WriteTries, the_handle}
 use Rattle.cb_shared.specs.Reading.{looked, looked_freed, looked_twice}
-use Rattle.cb_shared.proofs.WorkedGround.{a_stand, away, calm, knows_made, moving, newest_made, part, pinned, shared_part, two, whole, word_in}
+use Rattle.cb_shared.proofs.WorkedGround.{a_stand, away, calm, freed_last, has_last, knows_made, last_is_freed, moving, newest_made, part, pinned, shared_part, two, whole, word_in}
 use Rattle.cb_shared.proofs.WorkedTurns.{adds_worn, worn_part}
 
 abbrev state_found : Part → ℕ
@@ -41,14 +41,24 @@ finds_moving_far : WriteFinds 1 1 (12 ∷ []) place.Moving part (looked 1 away) 
 finds_moving_far x = eqb-false 1 3 refl (ap state_found x.2 ∙ ap state_number x.1)
 
 finds_its_end : Finds 8 part (looked 1 calm)
-finds_its_end = (calm, (refl, refl, lit< tt), refl)
+finds_its_end = (calm, ((refl, refl, lit< tt), λ l. absurd (shared_part 1 l)), refl)
 
 finds_its_end_early : Finds 7 part (looked 1 calm) → ⊥
-finds_its_end_early x = let past = x.1.2 in omega (arith, past)
+finds_its_end_early x = let past = x.1.0.2 in omega (arith, past)
+
+-- with the whole share, that of the last entry, which is not the freed one
+finds_its_own_end : Finds 8 whole (looked 1 calm)
+finds_its_own_end = (calm, ((refl, refl, lit< tt), λ _. has_last), refl)
+
+finds_the_end_of_none : Finds 8 freed_last (looked 1 calm) → ⊥
+finds_the_end_of_none x = last_is_freed [] (x.1.1 (inl refl))
 
 finds_a_pin : WriteFinds 1 1 (12 ∷ []) (place.Pinned 1) part (looked 1 pinned)
-finds_a_pin =
-    (pinned, ((refl, lit≤ tt), (refl, lit≤ tt, λ l. absurd (shared_part 1 l))), refl)
+finds_a_pin = (
+  pinned,
+  ((refl, lit≤ tt), (refl, lit≤ tt, λ l. absurd (shared_part 1 l)), λ l. absurd (shared_part 1 l)),
+  refl,
+)
 
 finds_two_pins : WriteFinds 1 1 (12 ∷ []) (place.Pinned 2) part (looked 1 pinned) → ⊥
 finds_two_pins x =
@@ -92,7 +102,8 @@ worn_under_a_pin : IsWornOut 1 1 1 part (looked_twice 1 pinned pinned) → ⊥
 worn_under_a_pin x =
     eqb-false 1 0 refl (ap (λ (d : Part). pins_of (word_in d.looks)) x.part ∙ x.bare)
 
-worn_under_its_own : IsWornOut 1 1 1 (record part { pins = a_stand ∷ [] }) (looked_twice 1 calm calm) → ⊥
+worn_under_its_own : IsWornOut 1 1 1 (record part { pins = a_stand ∷ [] })
+    (looked_twice 1 calm calm) → ⊥
 worn_under_its_own x = eqb-false 1 0 refl x.loose
 
 finds_a_race : WriteFinds 1 1 (12 ∷ []) (place.Raced calm pinned) part (looked_twice 1 calm pinned)

@@ -8,8 +8,9 @@ use Rattle.cb_world.specs.Written.{entry}
 use Rattle.cb_rule.specs.declared.view.View.{View}
 use Rattle.cb_rule.specs.Steps.{IsNewest, with_freed, with_look}
 use Rattle.cb_shared.specs.declared.answers.WriteAnswer.TheVariants.{Ok, Freed, NotHere, Moving, Range, Pinned, Worn, Raced}
+use Rattle.cb_shared.specs.Glances.{HasLast}
 use Rattle.cb_shared.specs.Writing.{IsPastEnd, IsPinnedSo, IsWorn, IsWrittenHere, WriteGives}
-use Rattle.cb_shared.proofs.WorkedGround.{a_stand, away, calm, last_look, last_state, moving, newest_later, newest_made, not_foreign, not_second, owner, part, pinned, shared_part, version_in, whole, words_in}
+use Rattle.cb_shared.proofs.WorkedGround.{a_stand, away, calm, freed_last, has_last, last_is_freed, last_look, last_state, made, moving, newest_later, newest_made, newest_whole, not_foreign, not_second, owner, part, pinned, shared_part, version_in, whole, words_in}
 
 abbrev looks_of : View → ℕ
 looks_of v = length v.looks
@@ -219,13 +220,54 @@ away_not_moving : WriteGives 1 1 (12 ∷ []) Moving part (with_look 1 away part)
 away_not_moving g = eqb-false 1 3 refl (ap last_state g.2 ∙ ap state_number g.1)
 
 by_range : WriteGives 1 8 (12 ∷ []) (Range 8) part (with_look 1 calm part)
-by_range = (calm, ninth_byte, refl)
+by_range = (calm, (ninth_byte, λ l. absurd (shared_part 1 l)), refl)
 
 in_range : WriteGives 1 7 (12 ∷ []) (Range 8) part (with_look 1 calm part) → ⊥
-in_range g = let e : 8 < 8 = g.1.2 in omega (arith, e)
+in_range g = let e : 8 < 8 = g.1.0.2 in omega (arith, e)
+
+-- of one that no other pass has, the record wrote the last entry
+by_range_of_its_own : WriteGives 1 8 (12 ∷ []) (Range 8) whole (with_look 1 calm whole)
+by_range_of_its_own = (calm, (ninth_byte, λ _. has_last), refl)
+
+range_of_freed : WriteGives 1 8 (12 ∷ []) (Range 8) freed_last (with_look 1 calm freed_last) → ⊥
+range_of_freed g = last_is_freed [] (g.1.1 (inl refl))
 
 by_pins : WriteGives 1 1 (12 ∷ []) (Pinned 1) part (with_look 1 pinned part)
-by_pins = (pinned, ((refl, lit≤ tt), pinned_by_another), refl)
+by_pins =
+    (pinned, ((refl, lit≤ tt), pinned_by_another, λ l. absurd (shared_part 1 l)), refl)
+
+by_its_own_pin : WriteGives 1 1 (12 ∷ []) (Pinned 1) with_one (with_look 1 pinned with_one)
+by_its_own_pin = (
+  pinned,
+  (
+    (refl, lit≤ tt),
+    pinned_by_itself,
+    λ _. record {
+      last = made;
+      wrote = inl refl;
+      handle = refl;
+      newest = record {
+        written = newest_whole.written;
+        seen = newest_whole.seen;
+        lone = newest_whole.lone;
+      };
+      held = refl;
+      long = refl;
+    },
+  ),
+  refl,
+)
+
+abbrev freed_and_pinned : View
+freed_and_pinned = record freed_last { pins = a_stand ∷ [] }
+
+pins_of_freed : WriteGives 1 1 (12 ∷ []) (Pinned 1) freed_and_pinned
+    (with_look 1 pinned freed_and_pinned) → ⊥
+pins_of_freed g = length_at g.0 (ap last_look g.2) (g.1.2 (inl refl))
+  where
+    length_at : (n : ℕ) → pinned ≡ n → HasLast 1 (len_of n) freed_and_pinned → ⊥
+    length_at n is x = last_is_freed (a_stand ∷ [])
+        (subst (λ (k : ℕ). HasLast 1 (len_of k) freed_and_pinned) (sym is) x)
 
 -- the range is tested before the pins
 range_before_pins : WriteGives 1 8 (12 ∷ []) (Pinned 1) part (with_look 1 pinned part) → ⊥

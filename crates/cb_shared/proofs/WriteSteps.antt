@@ -13,7 +13,7 @@ use Rattle.cb_shared.specs.declared.answers.WriteAnswer.{WriteAnswer}
 use Rattle.cb_shared.specs.declared.answers.WriteAnswer.TheVariants.{Ok, Freed, NotHere, Moving, Range, Pinned, Worn, Raced}
 use Rattle.cb_shared.specs.declared.setup.Setup.{Setup}
 use Rattle.cb_shared.specs.Claims.{with_only}
-use Rattle.cb_shared.specs.Glances.{Glances}
+use Rattle.cb_shared.specs.Glances.{Glances, HasLast}
 use Rattle.cb_shared.specs.Passes.{IsAtRest}
 use Rattle.cb_shared.specs.Places.{IsOf, Place, Moves}
 use Rattle.cb_shared.specs.Writing.{IsRoomFor, IsWriteRefusal, WriteAt, WriteClaimed, WriteGives}
@@ -124,11 +124,14 @@ refused_writes h w at bytes NotHere p q g why =
     (w, why, view_of p q (with_look h w p.me.0) (g.other (λ e. far_empty (sym why ∙ e))))
 refused_writes h w at bytes Moving p q g why =
     (w, why, view_of p q (with_look h w p.me.0) (g.other (λ e. moving_empty (sym why ∙ e))))
-refused_writes h w at bytes (Range len) p q g why =
-    (w, why, view_of p q (with_look h w p.me.0) (g.other (λ e. here_empty (sym why.0 ∙ e))))
+refused_writes h w at bytes (Range len) p q g why = (
+  w,
+  (why, λ alone. subst (λ (n : ℕ). HasLast h n p.me.0) why.1 (g.held why.0 alone)),
+  view_of p q (with_look h w p.me.0) (g.other (λ e. here_empty (sym why.0 ∙ e))),
+)
 refused_writes h w at bytes (Pinned k) p q g why = (
   w,
-  (why.0, (why.1, why.2, λ all. sym why.1 ∙ (g.counted why.0.0).1 all)),
+  (why.0, (why.1, why.2, λ all. sym why.1 ∙ (g.counted why.0.0).1 all), g.held why.0.0),
   view_of p q (with_look h w p.me.0) (g.other (λ e. here_empty (sym why.0.0 ∙ e))),
 )
 refused_writes h w at bytes Worn p q g why = absurd why

@@ -18,6 +18,7 @@ use Rattle.cb_rule.specs.Seats.{pins_on}
 use Rattle.cb_rule.specs.Steps.{IsNewest, look_at}
 use Rattle.cb_shared.specs.declared.answers.WriteAnswer.{WriteAnswer}
 use Rattle.cb_shared.specs.declared.answers.WriteAnswer.TheVariants as place
+use Rattle.cb_shared.specs.Glances.{IsLastAlone}
 use Rattle.cb_record.specs.Deeds.{deed, happened}
 use Rattle.cb_record.specs.Parts.{Part, Grows, grown, nothing_more, sum}
 pub use Rattle.cb_shared.specs.Trying.{is_to_try_again, may_come_loose, newest_tries}
@@ -149,9 +150,10 @@ WriteFinds h at bytes (place.Ok version) v d = IsWrittenOnce h at bytes version 
 WriteFinds h at bytes place.Freed v d = FindsGone h v d
 WriteFinds h at bytes place.NotHere v d = FindsWord h (λ word. state_of word ≡ state.Far) d
 WriteFinds h at bytes place.Moving v d = FindsWord h (λ word. state_of word ≡ state.Moving) d
-WriteFinds h at bytes (place.Range len) v d = FindsWord h (IsPastEnd at (length bytes) len) d
-WriteFinds h at bytes (place.Pinned count) v d =
-    FindsWord h (λ word. IsRoomFor at (length bytes) word × IsPinnedSo h count v word) d
+WriteFinds h at bytes (place.Range len) v d =
+    FindsWord h (λ word. IsPastEnd at (length bytes) len word × IsLastAlone h len v) d
+WriteFinds h at bytes (place.Pinned count) v d = FindsWord h (λ word.
+    IsRoomFor at (length bytes) word × IsPinnedSo h count v word × IsLastAlone h (len_of word) v) d
 WriteFinds h at bytes place.Worn v d = IsWornOut h at (length bytes) v d
 WriteFinds h at bytes (place.Raced saw found) v d = FindsOther h saw found d
 

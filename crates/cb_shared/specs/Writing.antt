@@ -11,6 +11,7 @@ use Rattle.cb_rule.specs.Steps.{IsNewest, with_look}
 use Rattle.cb_shared.specs.declared.answers.WriteAnswer.{WriteAnswer}
 use Rattle.cb_shared.specs.declared.answers.WriteAnswer.TheVariants.{Ok, Freed, NotHere, Moving, Range, Pinned, Worn, Raced}
 use Rattle.cb_shared.specs.Claims.{unclaimed}
+use Rattle.cb_shared.specs.Glances.{IsLastAlone}
 use Rattle.cb_shared.specs.Pinning.{LooksOnce, FindsFreed, LoosesRace}
 use Rattle.cb_shared.specs.Places.{Place, Moves}
 
@@ -54,15 +55,17 @@ pub record IsWorn (h at count : ℕ) (v w : View) : Type 0 where
   pub newest : IsNewest h (2 ^ 64 - 1) v
   pub left : w ≡ with_look h word (with_look h word v)
 
--- by the answer
+-- By the answer. One that is refused for its length or its pins is not freed, and where no other pass
+-- has it, it has the length of its last entry, which the record wrote.
 abbrev pub WriteGives : ℕ → ℕ → List ℕ → WriteAnswer → View → View → Type 0
 WriteGives h at bytes (Ok version) v w = IsWrittenHere h at bytes version v w
 WriteGives h at bytes Freed v w = FindsFreed h v w
 WriteGives h at bytes NotHere v w = LooksOnce h v w (λ n. state_of n ≡ state.Far)
 WriteGives h at bytes Moving v w = LooksOnce h v w (λ n. state_of n ≡ state.Moving)
-WriteGives h at bytes (Range len) v w = LooksOnce h v w (IsPastEnd at (length bytes) len)
-WriteGives h at bytes (Pinned count) v w =
-    LooksOnce h v w (λ n. IsRoomFor at (length bytes) n × IsPinnedSo h count v n)
+WriteGives h at bytes (Range len) v w =
+    LooksOnce h v w (λ n. IsPastEnd at (length bytes) len n × IsLastAlone h len v)
+WriteGives h at bytes (Pinned count) v w = LooksOnce h v w (λ n.
+    IsRoomFor at (length bytes) n × IsPinnedSo h count v n × IsLastAlone h (len_of n) v)
 WriteGives h at bytes Worn v w = IsWorn h at (length bytes) v w
 WriteGives h at bytes (Raced saw found) v w = LoosesRace h saw found v w
 
