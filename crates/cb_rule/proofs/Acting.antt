@@ -17,13 +17,14 @@ use Rattle.cb_world.specs.Written.{adds}
 use Rattle.cb_rule.specs.Own.{AreBound, MayWrite}
 use Rattle.cb_rule.specs.Ruled.{Beside, IsSteady, Ruled}
 use Rattle.cb_rule.specs.Slot.{Sat}
-use Rattle.cb_rule.specs.Steps.{AreNew, Does, act, claimed, handles_of, settled, stamped, stored}
+use Rattle.cb_rule.specs.Steps.{AreNew, Does, TellsPins, act, claimed, handles_of, settled, stamped, stored}
 use Rattle.cb_rule.specs.Words.{base, pointer, stamp, stamps, words_at}
 use Rattle.cb_rule.proofs.Binding.{settles_within}
 use Rattle.cb_rule.proofs.Claiming.{claim_agrees, claim_steps}
 use Rattle.cb_rule.proofs.Lifting.{mine, next, next_load}
 use Rattle.cb_rule.proofs.Looking.{look_agrees, look_steps}
 use Rattle.cb_rule.proofs.Newest.{are_new}
+use Rattle.cb_rule.proofs.PinsTold.{tells_pins}
 use Rattle.cb_rule.proofs.Settled.{settle_steps}
 use Rattle.cb_rule.proofs.Storing.{stamp_steps, store_steps}
 
@@ -47,7 +48,7 @@ module _ (beside : Beside) (steady : IsSteady beside) (first : ℕ) (c : Config)
             subst (λ (j : ℕ). Does me (Settled j w) (act (Settled h w) me.0, me.1)
             × AreNew (adds (Settled j w) me.0.known) me.0) same (
               (refl, tt),
-              are_new c s.words s.views me.0.known r.history m id me.0
+              are_new c s.words s.views me.0.known r.history m r.shares first r.own id me.0
                   (adds (Settled h w) me.0.known) at steps.follows,
             ),
       )
@@ -92,6 +93,8 @@ module _ (beside : Beside) (steady : IsSteady beside) (first : ℕ) (c : Config)
       let m = mine beside steady first c s id me.0 at r holds in
       let low = (r.kept.seats id me.0 at).lasting.reached in
       let x : ℕ = pointer s.words h in
+      let tells = tells_pins c s.words s.views me.0.known r.history m r.shares first r.own id h me.0
+      at l in
       dite (ℕ_discrete x old)
       (λ e. let v : ℕ = stamp c s.words h in
       let words : List ℕ = words_at c s.words (place_of old) (len_of old) in
@@ -116,7 +119,8 @@ module _ (beside : Beside) (steady : IsSteady beside) (first : ℕ) (c : Config)
                 same (subst (λ (n : ℕ). Does me (Claimed h n v words) (act ev me.0, me.1)) (sym e)
                 (refl, agrees)),
           )),
-          λ ne. absurd (ne e),
+          (λ ne. absurd (ne e)),
+          subst (λ (j : ℕ). TellsPins j x me.0) same tells,
         ),
       ))
       (λ ne. (
@@ -132,7 +136,8 @@ module _ (beside : Beside) (steady : IsSteady beside) (first : ℕ) (c : Config)
             (omega arith) tt tt (look_steps c s.words s.views me.0 r.history m h l)),
         λ h' q. let same : h ≡ h' = omega arith in (
           (λ e. absurd (ne e)),
-          λ _. subst (λ (j : ℕ). Does me (Looked j x) (act (Looked h x) me.0, me.1)) same
-              (refl, look_agrees c s.words s.views me.0 r.history m h l),
+          (λ _. subst (λ (j : ℕ). Does me (Looked j x) (act (Looked h x) me.0, me.1)) same
+              (refl, look_agrees c s.words s.views me.0 r.history m h l)),
+          subst (λ (j : ℕ). TellsPins j x me.0) same tells,
         ),
       ))

@@ -28,10 +28,11 @@ use Rattle.cb_rule.specs.Seats.{holding}
 use Rattle.cb_rule.specs.Slot.{Sat, Slot, Table}
 use Rattle.cb_rule.proofs.Counts.{each_append, each_map, hit, miss, times-append, total-at, total-set}
 use Rattle.cb_rule.proofs.Flagging.{flagged, lock_word}
-use Rattle.cb_rule.proofs.Glancing.{freed_at, known_below, known_made}
+use Rattle.cb_rule.proofs.Glancing.{freed_at}
 use Rattle.cb_rule.proofs.Keeping.{seats_stay}
 use Rattle.cb_rule.proofs.Lifting.{shares_stay}
 use Rattle.cb_rule.proofs.Members.{each_has}
+use Rattle.cb_rule.proofs.Newest.{known_below, known_made}
 use Rattle.cb_rule.proofs.Owning.{known_traces, not_it, own_given}
 use Rattle.cb_rule.proofs.Seating.{never_now}
 

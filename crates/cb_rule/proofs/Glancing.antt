@@ -1,13 +1,13 @@
 -- Loads of any seat: of a pointer word, of a version word, and of a memory word that it pins or
 -- claims.
-use Rattle.std.proofs.Common.{◌≡◌, ◌≢◌, ◌⊎◌, ℕ, ◌+◌, ◌%◌, ◌^◌, ◌<◌, ◌≤◌, Bool, true, false, List, get_or, set, sym, refl, ap, ◌∙◌, subst, inl, inr, ⊎_elim, arith, true≢false}
+use Rattle.std.proofs.Common.{◌≡◌, ◌≢◌, ◌⊎◌, ℕ, ◌+◌, ◌%◌, ◌<◌, ◌≤◌, Bool, true, false, List, get_or, set, sym, refl, ap, ◌∙◌, subst, inl, inr, ⊎_elim, arith, true≢false}
 use mathlib.Core.Option.{some, none}
 use lib.ListN.{get_elem?}
 use Rattle.atomic_table.specs.Table.{step, keeps, Allows}
 use Rattle.cb_types.specs.declared.config.Config.{Config}
 use Rattle.cb_ptr.specs.declared.word.State.{State}
 use Rattle.cb_ptr.specs.declared.word.State.TheVariants as word
-use Rattle.cb_ptr.specs.Word.{state_of, state_number, pins_of}
+use Rattle.cb_ptr.specs.Word.{state_of, state_number}
 use Rattle.cb_ptr.proofs.Laws.{state_number-state_of}
 use Rattle.cb_world.specs.declared.entry.Entry.{Entry}
 use Rattle.cb_world.specs.declared.object.Object.{Object}
@@ -17,28 +17,26 @@ use Rattle.cb_world.specs.Memory.{words_for}
 use Rattle.cb_world.specs.Shown.{Fits, object_at, version_at}
 use Rattle.cb_world.proofs.Laws.{window_at}
 use Rattle.cb_rule.specs.declared.view.Held.{Held}
-use Rattle.cb_rule.specs.declared.view.Seen.{Seen}
 use Rattle.cb_rule.specs.declared.view.Stand.{Stand}
 use Rattle.cb_rule.specs.declared.view.View.{View}
 use Rattle.cb_rule.specs.History.{newest, top}
-use Rattle.cb_rule.specs.Lists.{total, Has}
-use Rattle.cb_rule.specs.Own.{AreOwn, IsAlone}
+use Rattle.cb_rule.specs.Lists.{total}
 use Rattle.cb_rule.specs.Records.{PinOk, HeldOk, SeenOk}
 use Rattle.cb_rule.specs.Rule.{Kept}
-use Rattle.cb_rule.specs.Ruled.{AreShares, Beside, IsSteady, Ruled}
+use Rattle.cb_rule.specs.Ruled.{Beside, IsSteady, Ruled}
 use Rattle.cb_rule.specs.Seats.{pins_on, claims_on}
 use Rattle.cb_rule.specs.Slot.{Sat, Table}
 use Rattle.cb_rule.specs.Stands.{Stands}
-use Rattle.cb_rule.specs.Steps.{IsNewest, Knows, LoadsHeld, TellsHeld, TellsPin, dated, freed_seen, glanced, read_held, with_freed, with_look}
+use Rattle.cb_rule.specs.Steps.{IsNewest, Knows, LoadsHeld, TellsHeld, TellsPin, TellsPins, dated, freed_seen, glanced, read_held, with_freed, with_look}
 use Rattle.cb_rule.specs.Words.{stamps, base, pointer}
 use Rattle.cb_rule.proofs.Calm.{lies, look_ok, still_rule}
 use Rattle.cb_rule.proofs.Counts.{each_map, each_there, total-at}
-use Rattle.cb_rule.proofs.Histories.{entry_within, newest_entry}
-use Rattle.cb_rule.proofs.Members.{each_has}
+use Rattle.cb_rule.proofs.Histories.{newest_entry}
 use Rattle.cb_rule.proofs.Lifting.{any_seat, same_words, set_same}
-use Rattle.cb_rule.proofs.Newest.{is_newest, others_spent, total_alone}
+use Rattle.cb_rule.proofs.Newest.{is_newest, known_made}
 use Rattle.cb_rule.proofs.Owning.{keeps_freed, known_traces}
 use Rattle.cb_rule.proofs.Pinning.{lost, reread}
+use Rattle.cb_rule.proofs.PinsTold.{tells_pins}
 
 abbrev is_empty : State → Bool
 is_empty word.Empty = true
@@ -60,30 +58,6 @@ bits_empty w e = sym (state_number-state_of w) ∙ ap state_number e
 
 module _ (c : Config) (ws : List ℕ) (views : List View) (known : Shown) (es : List Entry)
     (r : Kept c ws views known es) where
-  -- the history has an entry of an object that a record knows
-  known_entry : (id h : ℕ) (v : View) → get_elem? views id ≡ some v → Knows h v
-      → (e : Entry) × Has e es × (e.handle ≡ h)
-  known_entry id h v at knows = let ok = (r.seats id v at).lasting in ⊎_elim
-      (λ (k : (e : Entry) × Has e v.written × (e.handle ≡ h)).
-      (k.0, each_has (λ e. Has e es) k.0 v.written ok.written k.1, k.2))
-      (λ (k : (s : Seen) × Has s v.seen × (s.handle ≡ h)).
-      let o = each_has (SeenOk es) k.0 v.seen ok.seen k.1 in
-      (o.0, o.1, ap (λ (s : Seen). s.handle) (sym o.2) ∙ k.2)) knows
-
-  -- it was made
-  pub known_made : (id h : ℕ) (v : View) → get_elem? views id ≡ some v → Knows h v → 0 < top es h
-  known_made id h v at knows = let e = known_entry id h v at knows in
-      let z = entry_within known.first r.begins e.0 es r.history e.1 in
-      let low = z.0 in let high = z.1 in let b = r.begins in
-      let t : top es e.0.handle ≡ top es h = ap (top es) e.2 in omega (arith, low, high, b, t)
-
-  -- its handle is in range
-  pub known_below : (id h : ℕ) (v : View) → get_elem? views id ≡ some v → Knows h v
-      → h < c.handles
-  known_below id h v at knows = let e = known_entry id h v at knows in
-      subst (λ (j : ℕ). j < c.handles) e.2
-      (each_has (λ (x : Entry). x.handle < c.handles) e.0 es r.within e.1)
-
   -- one that is known to be empty is freed
   pub freed_at : (h m : ℕ) → h < c.handles → 0 < top es h → object_at known h ≡ is.Empty m
       → SeenOk es (freed_seen h m)
@@ -124,16 +98,6 @@ module _ (c : Config) (ws : List ℕ) (views : List View) (known : Shown) (es : 
       go (is.Claimed len place v words) q k f =
           absurd (other_state word.Moving refl (sym f.4 ∙ empty))
 
-  -- where no other view has the object all pins are one's own
-  pub own_pins : AreShares c views → (first : ℕ) → AreOwn first views → (id h : ℕ) (v : View)
-      → get_elem? views id ≡ some v → IsAlone h v → total (pins_on h) views ≡ pins_on h v
-  own_pins shares first own id h v at lone = total_alone (pins_on h) views id v at
-      (λ j u ne there. ⊎_elim
-      (λ (whole : v.share ≡ 64).
-      ap (pins_on h) (others_spent c views id j v u shares at whole ne there))
-      (λ (mine : Has h v.own). let none = own.alone id v at j u there ne h (inl mine) in
-      omega (arith, none)) lone)
-
 module _ (beside : Beside) (steady : IsSteady beside) (first : ℕ) (c : Config) (slots id : ℕ)
     (me : Sat) where
   -- a load of the pointer word of an object that the record knows
@@ -157,7 +121,7 @@ module _ (beside : Beside) (steady : IsSteady beside) (first : ℕ) (c : Config)
             subst (λ (j : ℕ). IsNewest j v me.0) same above,
           )),
           (λ ne. absurd (ne e)),
-          λ here. absurd (other_state word.Here refl (sym here ∙ e)),
+          subst (λ (j : ℕ). TellsPins j x me.0) same pins,
         ),
       ))
       (λ (ne : state_of x ≢ word.Empty). (
@@ -173,8 +137,7 @@ module _ (beside : Beside) (steady : IsSteady beside) (first : ℕ) (c : Config)
         λ h' q. let same : h ≡ h' = omega (arith, q) in (
           (λ e. absurd (ne e)),
           (λ _. ap (λ (j : ℕ). let z : Sat = (with_look j x me.0, me.1) in z) same),
-          λ here. subst (λ (j : ℕ). (x < 2 ^ 53) × (pins_on j me.0 ≤ pins_of x)
-              × (IsAlone j me.0 → pins_of x ≡ pins_on j me.0)) same (pins here),
+          subst (λ (j : ℕ). TellsPins j x me.0) same pins,
         ),
       )) (empty_or (state_of x))
     where
@@ -219,17 +182,8 @@ module _ (beside : Beside) (steady : IsSteady beside) (first : ℕ) (c : Config)
                 ok.lasting.peeked;
           } refl)
 
-      pins : state_of x ≡ word.Here → (x < 2 ^ 53) × (pins_on h me.0 ≤ pins_of x)
-          × (IsAlone h me.0 → pins_of x ≡ pins_on h me.0)
-      pins here = let o = lies c s.words s.views r.known r.history k h l (inl here) in
-          let f = subst (λ (z : Object). Fits z x) o.here (k.fit h l) in (
-            f.0,
-            (let many = total-at (pins_on h) s.views id me.0 at in let n = o.calm.count in
-                omega (arith, many, n)),
-            λ lone. o.calm.count
-                ∙ own_pins c s.words s.views r.known r.history k r.shares first r.own id h me.0 at
-                lone,
-          )
+      pins : TellsPins h x me.0
+      pins = tells_pins c s.words s.views r.known r.history k r.shares first r.own id h me.0 at l
 
   -- a load under which the view stays as it is
   stays : (i : ℕ) (s : Table) → Ruled beside first c s → get_elem? s.views id ≡ some me.0

@@ -10,6 +10,7 @@ pub mod Looking
 pub mod Newest
 pub mod Calm
 pub mod Pinning
+mod PinsTold
 pub mod Glancing
 pub mod Peeking
 pub mod Seating

@@ -19,11 +19,12 @@ use Rattle.cb_rule.specs.Ruled.{Beside, IsSteady, Ruled}
 use Rattle.cb_rule.specs.Seats.{pins_on, claims_on}
 use Rattle.cb_rule.specs.Slot.{Sat}
 use Rattle.cb_rule.specs.Stands.{Stands}
-use Rattle.cb_rule.specs.Steps.{Does, act, handles_of, looked, told, loaded}
+use Rattle.cb_rule.specs.Steps.{Does, TellsPins, act, handles_of, looked, told, loaded}
 use Rattle.cb_rule.specs.Words.{stamps, base, pointer, stamp}
 use Rattle.cb_rule.proofs.Calm.{look_ok}
 use Rattle.cb_rule.proofs.Keeping.{Steps, held_same}
 use Rattle.cb_rule.proofs.Lifting.{mine, next_load}
+use Rattle.cb_rule.proofs.PinsTold.{tells_pins}
 
 module _ (c : Config) (ws : List ℕ) (views : List View) (v : View) (es : List Entry)
     (r : Kept c ws views v.known es) where
@@ -115,8 +116,11 @@ module _ (beside : Beside) (steady : IsSteady beside) (first : ℕ) (c : Config)
             tt tt
             (look_steps c s.words s.views me.0 r.history m h l),
         λ h' e. let same : h ≡ h' = omega arith in
-            subst (λ (j : ℕ). Does me (Looked j x) (act (Looked h x) me.0, me.1)) same
-            (refl, look_agrees c s.words s.views me.0 r.history m h l),
+            subst (λ (j : ℕ). Does me (Looked j x) (act (Looked h x) me.0, me.1)
+            × TellsPins j x me.0) same (
+              (refl, look_agrees c s.words s.views me.0 r.history m h l),
+              tells_pins c s.words s.views me.0.known r.history m r.shares first r.own id h me.0 at l,
+            ),
       )
 
   pub tells : (h : ℕ) → h < c.handles → handles_of me ≡ c.handles

@@ -1,6 +1,7 @@
 -- What a record has of an object is not newer than the newest, which it wrote where no other view has
--- the object; and entries that come next are new to it.
-use Rattle.std.proofs.Common.{◌≡◌, ◌≢◌, ℕ, zero, suc, ◌<◌, ◌≤◌, List, [], ◌∷◌, ◌++◌, sym, refl, ap, subst, inl, ⊎_elim, arith}
+-- the object; and entries that come next are new to it, and one above the last where it alone has
+-- the object.
+use Rattle.std.proofs.Common.{◌≡◌, ◌≢◌, ℕ, zero, suc, ◌<◌, ◌≤◌, List, [], ◌∷◌, ◌++◌, sym, refl, ap, ◌∙◌, subst, inl, ⊎_elim, arith}
 use mathlib.Core.Option.{some, some-injective, some-ne-none}
 use lib.ListN.{get_elem?}
 use Rattle.cb_types.specs.declared.config.Config.{Config}
@@ -8,16 +9,17 @@ use Rattle.cb_world.specs.declared.entry.Entry.{Entry}
 use Rattle.cb_world.specs.declared.shown.Shown.{Shown}
 use Rattle.cb_rule.specs.declared.view.Seen.{Seen}
 use Rattle.cb_rule.specs.declared.view.View.{View}
-use Rattle.cb_rule.specs.History.{IsHistory, top}
-use Rattle.cb_rule.specs.Lists.{total, Each, Has}
+use Rattle.cb_rule.specs.History.{IsChanged, IsHistory, IsMade, is_version, newest, top}
+use Rattle.cb_rule.specs.Lists.{times, total, Each, Has}
 use Rattle.cb_rule.specs.Own.{AreOwn, IsAlone}
 use Rattle.cb_rule.specs.Records.{SeenOk}
 use Rattle.cb_rule.specs.Rule.{Kept}
 use Rattle.cb_rule.specs.Ruled.{AreShares}
 use Rattle.cb_rule.specs.Seats.{share_of, written_on}
-use Rattle.cb_rule.specs.Steps.{AreNew, IsNew, IsNewest, blank}
-use Rattle.cb_rule.proofs.Counts.{each_append, each_map, total-two}
+use Rattle.cb_rule.specs.Steps.{AreNew, FollowsLast, IsNew, IsNewest, Knows, blank}
+use Rattle.cb_rule.proofs.Counts.{each_append, each_map, times-append, total-two}
 use Rattle.cb_rule.proofs.Histories.{above, begun, entry_within, once, rises}
+use Rattle.cb_rule.proofs.Members.{each_has}
 use Rattle.cb_rule.proofs.Owning.{version_of}
 
 -- a total to which one element alone adds
@@ -87,41 +89,96 @@ module _ (c : Config) (ws : List ℕ) (views : List View) (known : Shown) (es : 
   rises_by (e ∷ more) h k = let low = rises_by more h k.1 in
       let next = rises known.first r.begins e (more ++ es) h k in omega (arith, low, next)
 
-  -- and so are entries that may come next
-  pub are_new : (id : ℕ) (v : View) (more : List Entry) → get_elem? views id ≡ some v
-      → IsHistory known.first (more ++ es) → AreNew more v
-  are_new id v [] at k = tt
-  are_new id v (e ∷ more) at k = (
-    is_new id v e.handle e.version at (let low = rises_by more e.handle k.1 in
-        let high = (above known.first r.begins e (more ++ es) k).1 in omega (arith, low, high)),
-    are_new id v more at k.1,
-  )
+  -- the history has an entry of an object that a record knows
+  known_entry : (id h : ℕ) (v : View) → get_elem? views id ≡ some v → Knows h v
+      → (e : Entry) × Has e es × (e.handle ≡ h)
+  known_entry id h v at knows = let ok = (r.seats id v at).lasting in ⊎_elim
+      (λ (k : (e : Entry) × Has e v.written × (e.handle ≡ h)).
+      (k.0, each_has (λ e. Has e es) k.0 v.written ok.written k.1, k.2))
+      (λ (k : (s : Seen) × Has s v.seen × (s.handle ≡ h)).
+      let o = each_has (SeenOk es) k.0 v.seen ok.seen k.1 in
+      (o.0, o.1, ap (λ (s : Seen). s.handle) (sym o.2) ∙ k.2)) knows
+
+  -- it was made
+  pub known_made : (id h : ℕ) (v : View) → get_elem? views id ≡ some v → Knows h v → 0 < top es h
+  known_made id h v at knows = let e = known_entry id h v at knows in
+      let z = entry_within known.first r.begins e.0 es r.history e.1 in
+      let low = z.0 in let high = z.1 in let b = r.begins in
+      let t : top es e.0.handle ≡ top es h = ap (top es) e.2 in omega (arith, low, high, b, t)
+
+  -- its handle is in range
+  pub known_below : (id h : ℕ) (v : View) → get_elem? views id ≡ some v → Knows h v
+      → h < c.handles
+  known_below id h v at knows = let e = known_entry id h v at knows in
+      subst (λ (j : ℕ). j < c.handles) e.2
+      (each_has (λ (x : Entry). x.handle < c.handles) e.0 es r.within e.1)
+
+  -- an object that has an entry begins with the first version
+  born : (h : ℕ) → 0 < top es h → known.first ≤ top es h
+  born h pos = ⊎_elim (λ (z : (top es h ≡ 0) × _). let q = z.0 in absurd (omega (arith, pos, q)))
+      (λ (z : known.first ≤ top es h). z) (begun known.first r.begins es h r.history)
 
 module _ (c : Config) (ws : List ℕ) (views : List View) (known : Shown) (es : List Entry)
     (r : Kept c ws views known es) (shares : AreShares c views) (first : ℕ)
     (own : AreOwn first views) where
+  -- what no other view has no other view wrote
+  written_alone : (id : ℕ) (v : View) (h n : ℕ) → get_elem? views id ≡ some v → IsAlone h v
+      → total (written_on h n) views ≡ written_on h n v
+  written_alone id v h n at alone = total_alone (written_on h n) views id v at
+      (λ j u ne there. ⊎_elim
+      (λ (whole : v.share ≡ 64). ap (λ (x : View). written_on h n x)
+      (others_spent c views id j v u shares at whole ne there))
+      (λ (mine : Has h v.own). let none = own.alone id v at j u there ne h (inl mine) in
+      let a = version_of h n u.fresh in let b = version_of h n u.written in
+      omega (arith, none, a, b)) alone)
+
   pub is_newest : (id : ℕ) (v : View) (h : ℕ) → get_elem? views id ≡ some v → 0 < top es h
       → IsNewest h (top es h) v
   is_newest id v h at pos = record {
     written = written_below c ws views known es r id v h at;
     seen = seen_below c ws views known es r id v h at;
-    lone = λ alone. let lone = total_alone (written_on h (top es h)) views id v at
-        (λ j u ne there. not_written j u ne there alone) in
+    lone = λ alone. let lone = written_alone id v h (top es h) at alone in
         let count = r.recorded h (top es h) in
         let one = once known.first r.begins es h (top es h) r.history in
-        let low = born in omega (arith, lone, count, one, low);
+        let low = born c ws views known es r h pos in omega (arith, lone, count, one, low);
   }
-    where
-      -- another view did not write it
-      not_written : (j : ℕ) (u : View) → j ≢ id → get_elem? views j ≡ some u → IsAlone h v
-          → written_on h (top es h) u ≡ 0
-      not_written j u ne there alone = ⊎_elim
-          (λ (whole : v.share ≡ 64). ap (λ (x : View). written_on h (top es h) x)
-          (others_spent c views id j v u shares at whole ne there))
-          (λ (mine : Has h v.own). let none = own.alone id v at j u there ne h (inl mine) in
-          let a = version_of h (top es h) u.fresh in let b = version_of h (top es h) u.written in
-          omega (arith, none, a, b)) alone
 
-      born : known.first ≤ top es h
-      born = ⊎_elim (λ (z : (top es h ≡ 0) × _). let q = z.0 in absurd (omega (arith, pos, q)))
-          (λ (z : known.first ≤ top es h). z) (begun known.first r.begins es h r.history)
+  -- where the record alone has the object, its newest entry before one that comes next is there
+  last_there : (id : ℕ) (v : View) (h n : ℕ) (more : List Entry) → get_elem? views id ≡ some v
+      → IsHistory known.first (more ++ es) → 0 < top es h → IsAlone h v → top (more ++ es) h ≡ n
+      → 0 < times (is_version h n) (more ++ (v.fresh ++ v.written))
+  last_there id v h n more at k pos alone is = let lone = written_alone id v h n at alone in
+      let count = r.recorded h n in
+      let one = once known.first r.begins (more ++ es) h n k in
+      let low = born c ws views known es r h pos in
+      let rise = rises_by c ws views known es r more h k in
+      let before = times-append (is_version h n) more es in
+      let behind = times-append (is_version h n) more (v.fresh ++ v.written) in
+      let both = times-append (is_version h n) v.fresh v.written in
+      omega (arith, lone, count, one, low, rise, before, behind, both, is)
+
+  -- and the one that comes next is one above it
+  follows_last : (id : ℕ) (v : View) (e : Entry) (more : List Entry) → get_elem? views id ≡ some v
+      → IsHistory known.first (e ∷ (more ++ es)) → FollowsLast e more v
+  follows_last id v e more at k alone knows =
+      let pos = known_made c ws views known es r id e.handle v at knows in
+      let rise = rises_by c ws views known es r more e.handle k.1 in (
+        top (more ++ es) e.handle,
+        ⊎_elim (λ (m : IsMade known.first (top (more ++ es) e.handle) e).
+            absurd (let n = m.never in omega (arith, pos, rise, n)))
+            (λ (m : IsChanged (top (more ++ es) e.handle) (newest (more ++ es) e.handle) e).
+            m.number) k.0,
+        last_there id v e.handle (top (more ++ es) e.handle) more at k.1 pos alone refl,
+      )
+
+  -- entries that may come next are new to each record
+  pub are_new : (id : ℕ) (v : View) (more : List Entry) → get_elem? views id ≡ some v
+      → IsHistory known.first (more ++ es) → AreNew more v
+  are_new id v [] at k = tt
+  are_new id v (e ∷ more) at k = (
+    is_new c ws views known es r id v e.handle e.version at
+        (let low = rises_by c ws views known es r more e.handle k.1 in
+        let high = (above known.first r.begins e (more ++ es) k).1 in omega (arith, low, high)),
+    follows_last id v e more at k,
+    are_new id v more at k.1,
+  )

@@ -27,9 +27,9 @@ use Rattle.cb_rule.specs.Steps.{Knows}
 use Rattle.cb_rule.proofs.Binding.{bound_by, held_at_most}
 use Rattle.cb_rule.proofs.Counts.{total-at, total-same, total-set}
 use Rattle.cb_rule.proofs.Flagging.{flagged, lock_word}
-use Rattle.cb_rule.proofs.Glancing.{known_made, known_below}
 use Rattle.cb_rule.proofs.Keeping.{seats_stay}
 use Rattle.cb_rule.proofs.Lifting.{same_words, set_same, shares_stay}
+use Rattle.cb_rule.proofs.Newest.{known_below, known_made}
 use Rattle.cb_rule.proofs.Opening.{old_now}
 use Rattle.cb_rule.proofs.Owning.{own_stays}
 

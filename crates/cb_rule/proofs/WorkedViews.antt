@@ -1,17 +1,26 @@
 -- Worked records of seats: what meets each definition, and what breaks one of its parts alone.
-use Rattle.std.proofs.Common.{◌≡◌, ◌≢◌, ℕ, zero, suc, ◌+◌, ◌*◌, [], ◌∷◌, sym, refl, ap, ◌∙◌, inl, inr, ⊎_elim, true≢false, arith}
-use mathlib.Core.Option.{some, some-injective, some-ne-none}
+use Rattle.std.proofs.Common.{◌≡◌, ◌≢◌, ℕ, zero, suc, ◌+◌, ◌*◌, ◌^◌, ◌<◌, [], ◌∷◌, length, sym, refl, ap, ◌∙◌, subst, inl, inr, ⊎_elim, true≢false, lit<, lit≤, arith}
+use Rattle.std.proofs.lemmas.Bool.{eqb-false}
+use mathlib.Core.Option.{some, none as no_slot, some-injective, some-ne-none}
 use lib.ListN.{get_elem?}
+use Rattle.atomic_table.specs.Table.{Step, step}
 use Rattle.cb_types.specs.declared.config.Config.{Config}
 use Rattle.cb_ptr.specs.declared.word.State.TheVariants as word
 use Rattle.cb_ptr.specs.Word.{state_of}
 use Rattle.cb_world.specs.declared.entry.Entry.{Entry}
+use Rattle.cb_world.specs.declared.event.Event.TheVariants.{Looked}
+use Rattle.cb_world.specs.declared.object.Object.TheVariants as is
+use Rattle.cb_world.specs.Written.{entry, gone}
 use Rattle.cb_rule.specs.declared.view.Peeked.{Peeked}
 use Rattle.cb_rule.specs.declared.view.View.{View}
+use Rattle.cb_rule.specs.History.{is_version}
+use Rattle.cb_rule.specs.Lists.{times}
+use Rattle.cb_rule.specs.Own.{IsAlone}
 use Rattle.cb_rule.specs.Records.{IsWordOf, LookOk, PeekedOk, SeenOk, seen_of}
 use Rattle.cb_rule.specs.Ruled.{AreShares}
 use Rattle.cb_rule.specs.Seats.{written_on}
-use Rattle.cb_rule.specs.Steps.{AreNew, IsNew, IsNewest, Knows, blank, freed_seen, joined, left_of, look_at, opener, right_of, version_seen}
+use Rattle.cb_rule.specs.Slot.{Sat, Slot}
+use Rattle.cb_rule.specs.Steps.{AreNew, Does, FollowsLast, IsNew, IsNewest, Knows, TellsPins, act, blank, claimed, freed_seen, joined, left_of, look_at, looked, nothing, opener, right_of, stand, version_seen}
 use Rattle.cb_rule.proofs.WorkedHistory.{all_entries, freed, made, written}
 
 abbrev pub pair_of : Config
@@ -127,18 +136,149 @@ not_what_is_fresh n = let e = n.written.0 refl in omega (arith, e)
 not_what_it_read : IsNew 1 5 record (blank pair_of) { seen = freed_seen 1 5 ∷ [] } → ⊥
 not_what_it_read n = let e = n.seen.0 refl in omega (arith, e)
 
-are_next : AreNew (freed ∷ []) first_seat
-are_next = (is_next, tt)
-
-not_both : AreNew (freed ∷ written ∷ []) first_seat → ⊥
-not_both n = not_what_it_wrote n.1.0
-
 knows_made : Knows 1 first_seat
 knows_made = inl (made, inr (inl refl), refl)
+
+-- ---- it is one above the last
+follows_written : FollowsLast freed [] first_seat
+follows_written = λ _ _. (4, refl, omega arith)
+
+-- which an entry before it may be
+abbrev maker : View
+maker = record (opener pair_of) { written = made ∷ [] }
+
+follows_the_one_before : FollowsLast freed (written ∷ []) maker
+follows_the_one_before = λ _ _. (4, refl, omega arith)
+
+-- no record says how an object goes on that it doesn't know, or that others may have
+abbrev sharer : View
+sharer = record (blank pair_of) { share = 24; written = made ∷ [] }
+
+shares_it : IsAlone 1 sharer → ⊥
+shares_it l = ⊎_elim (λ (e : 24 ≡ 64). omega (arith, e)) (λ (n : ⊥). n) l
+
+knows_no_other : (h : ℕ) → Knows h maker → 1 ≡ h
+knows_no_other h (inl (e, inl is, at)) = ap (λ (x : Entry). x.handle) is ∙ at
+knows_no_other h (inl (e, inr none, at)) = absurd none
+knows_no_other h (inr (s, none, at)) = absurd none
+
+follows_what_others_wrote : FollowsLast freed [] sharer
+follows_what_others_wrote = λ alone _. absurd (shares_it alone)
+
+follows_nothing : FollowsLast (entry 0 3 8 [] []) [] maker
+follows_nothing = λ _ knows. absurd (let e = knows_no_other 0 knows in omega (arith, e))
+
+-- a version is left out
+leaves_one_out : FollowsLast freed [] maker → ⊥
+leaves_one_out f = let z = f (inl refl) (inl (made, inl refl, refl)) in let e = z.1 in
+    let four : z.0 ≡ 4 = omega (arith, e) in
+    let some : 0 < 0 = subst (λ (n : ℕ). 0 < times (is_version 1 n) (made ∷ [])) four z.2 in
+    omega (arith, some)
+
+-- so of an object of its own
+leaves_one_of_its_own_out : FollowsLast (gone 1 6 (9 ∷ [])) [] owner → ⊥
+leaves_one_of_its_own_out f = let z = f (inr (inl refl)) (inl (made, inr (inl refl), refl)) in
+    let e = z.1 in let five : z.0 ≡ 5 = omega (arith, e) in
+    let some : 0 < 0 = subst (λ (n : ℕ). 0 < times (is_version 1 n) (written ∷ made ∷ [])) five z.2 in
+    omega (arith, some)
+
+are_next : AreNew (freed ∷ []) first_seat
+are_next = (is_next, follows_written, tt)
+
+are_both_next : AreNew (freed ∷ written ∷ []) maker
+are_both_next = (
+  record { written = ((λ _. omega arith), tt); seen = tt },
+  follows_the_one_before,
+  (
+    record { written = ((λ _. omega arith), tt); seen = tt },
+    λ _ _. (3, refl, omega arith),
+    tt,
+  ),
+)
+
+not_both : AreNew (freed ∷ written ∷ []) first_seat → ⊥
+not_both n = not_what_it_wrote n.2.0
+
+not_without_the_one_between : AreNew (freed ∷ []) maker → ⊥
+not_without_the_one_between n = leaves_one_out n.1
+
+-- ---- what a pointer word tells of the pins on object 1: Here with none, or with one
+abbrev one_pin : ℕ
+one_pin = here_word 8 + 8
+
+abbrev pinner : View
+pinner = record sharer { pins = stand 1 8 0 3 (7 ∷ []) ∷ [] }
+
+not_here : state_of 65537 ≢ word.Here
+not_here e = far_here e
+  where
+    far_here : word.Far ≡ word.Here → ⊥
+    far_here f = absurd cc
+
+tells_its_pin : TellsPins 1 one_pin pinner
+tells_its_pin = record {
+  here = λ _. (lit< tt, lit≤ tt, λ _. refl);
+  away = λ off. absurd (off refl);
+}
+
+-- others may have pinned it too, where they may have it
+tells_another_pin : TellsPins 1 one_pin sharer
+tells_another_pin = record {
+  here = λ _. (lit< tt, lit≤ tt, λ alone. absurd (shares_it alone));
+  away = λ off. absurd (off refl);
+}
+
+tells_of_no_pins : TellsPins 1 65537 maker
+tells_of_no_pins = record { here = λ e. absurd (not_here e); away = λ _. refl }
+
+too_wide_a_word : TellsPins 1 (2 ^ 53 + one_pin) pinner → ⊥
+too_wide_a_word t = let less : 2 ^ 53 + one_pin < 2 ^ 53 = (t.here refl).0 in omega (arith, less)
+
+without_its_pin : TellsPins 1 (here_word 8) pinner → ⊥
+without_its_pin t = let less = (t.here refl).1 in omega (arith, less)
+
+with_a_foreign_pin : TellsPins 1 one_pin maker → ⊥
+with_a_foreign_pin t = let same : 1 ≡ 0 = (t.here refl).2 (inl refl) in omega (arith, same)
+
+with_a_foreign_pin_on_its_own : TellsPins 1 one_pin owner → ⊥
+with_a_foreign_pin_on_its_own t =
+    let same : 1 ≡ 0 = (t.here refl).2 (inr (inl refl)) in omega (arith, same)
+
+pinned_and_away : TellsPins 1 65537 pinner → ⊥
+pinned_and_away t = let none : 1 ≡ 0 = t.away not_here in omega (arith, none)
 
 -- what a running turn wrote does not count
 knows_no_fresh : Knows 1 record (blank pair_of) { fresh = made ∷ [] } → ⊥
 knows_no_fresh k = ⊎_elim (λ (z : _). z.1) (λ (z : _). z.1) k
+
+-- ---- so a look of the holder, and a claim, at the pointer word of object 1
+abbrev worker : View
+worker = record pinner { known = record nothing { objects = is.Here 8 0 ∷ is.Here 8 0 ∷ [] } }
+
+abbrev at_word : ℕ → Step Slot
+at_word first = step 1 2 first 0 no_slot
+
+looks_there : looked (at_word 0) (worker, []) one_pin (act (Looked 1 one_pin) worker, [])
+looks_there h e = let same : 1 ≡ h = omega (arith, e) in
+    subst (λ (j : ℕ). Does (worker, []) (Looked j one_pin) (act (Looked 1 one_pin) worker, [])
+    × TellsPins j one_pin worker) same (
+      (refl, ((lit< tt, refl, refl, inl refl), λ hot. absurd (true≢false (sym hot)))),
+      record { here = λ _. (lit< tt, lit≤ tt, λ _. refl); away = λ off. absurd (off refl) },
+    )
+
+looks_unnoted : looked (at_word 0) (worker, []) one_pin (worker, []) → ⊥
+looks_unnoted l = eqb-false 0 1 refl (ap (λ (m : Sat). length m.0.acts) (l 1 refl).0.0)
+
+looks_past_its_pin : (m : Sat) → looked (at_word 0) (pinner, []) (here_word 8) m → ⊥
+looks_past_its_pin m l = without_its_pin (l 1 refl).1
+
+-- a claim that another word stopped is such a look; none is made under a pin of its own
+finds_another : claimed (at_word (here_word 8)) (worker, []) one_pin (act (Looked 1 one_pin) worker, [])
+finds_another h e = let z = looks_there h e in
+    ((λ same. absurd (eqb-false one_pin (here_word 8) refl same)), (λ _. z.0), z.1)
+
+claims_past_its_pin : (m : Sat) → claimed (at_word (here_word 8)) (pinner, []) (here_word 8) m → ⊥
+claims_past_its_pin m c = without_its_pin (c 1 refl).2
 
 -- ---- a seat that is split off has seen what the first has, and wrote nothing
 splits_seen : (right_of 24 first_seat).seen ≡ seen_of written ∷ seen_of made ∷ []

@@ -17,12 +17,21 @@ use Rattle.cb_rule.specs.declared.view.Look.{Look}
 use Rattle.cb_rule.specs.declared.view.Seen.{Seen}
 use Rattle.cb_rule.specs.declared.view.Stand.{Stand}
 use Rattle.cb_rule.specs.declared.view.View.{View}
-use Rattle.cb_rule.specs.Lists.{Each, Has, edited, removed}
+use Rattle.cb_rule.specs.History.{is_version}
+use Rattle.cb_rule.specs.Lists.{times, Each, Has, edited, removed}
 use Rattle.cb_rule.specs.Own.{IsAlone}
 use Rattle.cb_rule.specs.Records.{seen_of}
 use Rattle.cb_rule.specs.Seats.{claims_it, pins_it, pins_on, written_on}
 use Rattle.cb_rule.specs.Slot.{Slot, Sat}
 use Rattle.cb_rule.specs.Words.{base, stamps}
+
+-- What a pointer word that is found tells of the pins on its object. Where it is Here it counts
+-- them, and those of the view are among them; where no other view has the object all are its own. An
+-- object whose word is not Here has no pins.
+pub record TellsPins (h n : ℕ) (u : View) : Type 0 where
+  pub here : state_of n ≡ word.Here
+      → (n < 2 ^ 53) × (pins_on h u ≤ pins_of n) × (IsAlone h u → pins_of n ≡ pins_on h u)
+  pub away : state_of n ≢ word.Here → pins_on h u ≡ 0
 
 -- The holder, within a turn.
 
@@ -46,7 +55,7 @@ abbrev pub handles_of : Sat → ℕ
 handles_of m = length m.0.known.objects
 
 abbrev pub looked : Step Slot → Sat → ℕ → Sat → Type 0
-looked st m n m' = (h : ℕ) → st.word ≡ 1 + h → Does m (Looked h n) m'
+looked st m n m' = (h : ℕ) → st.word ≡ 1 + h → Does m (Looked h n) m' × TellsPins h n m.0
 
 abbrev pub told : Step Slot → Sat → ℕ → Sat → Type 0
 told st m n m' = (h : ℕ) → st.word ≡ 1 + handles_of m + h → Does m (Told h n) m'
@@ -59,6 +68,7 @@ abbrev pub claimed : Step Slot → Sat → ℕ → Sat → Type 0
 claimed st m n m' = (h : ℕ) → st.word ≡ 1 + h
     → (n ≡ st.first → (v : ℕ) × (words : List ℕ) × Does m (Claimed h n v words) m')
     × (n ≢ st.first → Does m (Looked h n) m')
+    × TellsPins h n m.0
 
 abbrev pub stored : Step Slot → Sat → ℕ → Sat → Type 0
 stored st m n m' = (p : ℕ) → st.word ≡ 1 + handles_of m + handles_of m + p → Does m (Stored p n) m'
@@ -71,8 +81,23 @@ pub record IsNew (h version : ℕ) (u : View) : Type 0 where
   pub written : Each (λ (e : Entry). e.handle ≡ h → e.version < version) (u.fresh ++ u.written)
   pub seen : Each (λ (s : Seen). s.handle ≡ h → s.version < version) u.seen
 
+-- the record has an entry of the object; those of a running turn do not count
+abbrev pub Knows : ℕ → View → Type 0
+Knows h u = ((e : Entry) × Has e u.written × (e.handle ≡ h))
+    ⊎ ((s : Seen) × Has s u.seen × (s.handle ≡ h))
+
+-- Where no other view has the object of the entry, and the record knows it, the version just below
+-- is one that was written: it is among the entries before, or in the record.
+abbrev pub FollowsLast : Entry → List Entry → View → Type 0
+FollowsLast e before u = IsAlone e.handle u → Knows e.handle u
+    → (last : ℕ) × (e.version ≡ last + 1)
+    × (0 < times (is_version e.handle last) (before ++ (u.fresh ++ u.written)))
+
+-- Each of the entries, the newest first, is new to the record, and so one above the greatest version
+-- that the record and the entries before have of an object that no other view has.
 abbrev pub AreNew : List Entry → View → Type 0
-AreNew es u = Each (λ (e : Entry). IsNew e.handle e.version u) es
+AreNew [] u = Unit {0}
+AreNew (e ∷ es) u = IsNew e.handle e.version u × FollowsLast e es u × AreNew es u
 
 -- what it writes is new to the record
 abbrev pub settled : Step Slot → Sat → ℕ → Sat → Type 0
@@ -80,11 +105,6 @@ settled st m n m' = (h : ℕ) → st.word ≡ 1 + h
     → Does m (Settled h n) m' × AreNew (adds (Settled h n) m.0.known) m.0
 
 -- Any seat, also while another holds the lock.
-
--- the record has an entry of the object; those of a running turn do not count
-abbrev pub Knows : ℕ → View → Type 0
-Knows h u = ((e : Entry) × Has e u.written × (e.handle ≡ h))
-    ⊎ ((s : Seen) × Has s u.seen × (s.handle ≡ h))
 
 -- this version of the object is at least all that the record has of it; where no other view has the
 -- object it is one that the record wrote
@@ -121,15 +141,13 @@ freed_seen h v = record {
 abbrev pub with_freed : ℕ → ℕ → ℕ → View → View
 with_freed h v w u = record (with_look h w u) { seen = freed_seen h v ∷ u.seen }
 
--- a load of the pointer word of an object that the record knows. Where no other view has the object
--- all pins are its own.
+-- a load of the pointer word of an object that the record knows
 abbrev pub glanced : Step Slot → Sat → ℕ → Sat → Type 0
 glanced st m n m' = (h : ℕ) → st.word ≡ 1 + h
     → (state_of n ≡ word.Empty
     → (v : ℕ) × (m' ≡ (with_freed h v n m.0, m.1)) × IsNewest h v m.0)
     × (state_of n ≢ word.Empty → m' ≡ (with_look h n m.0, m.1))
-    × (state_of n ≡ word.Here
-    → (n < 2 ^ 53) × (pins_on h m.0 ≤ pins_of n) × (IsAlone h m.0 → pins_of n ≡ pins_on h m.0))
+    × TellsPins h n m.0
 
 abbrev pub stand : ℕ → ℕ → ℕ → ℕ → List ℕ → Stand
 stand h len place v words = record {

@@ -1,11 +1,13 @@
 -- What a turn leaves of the record of its pass.
-use Rattle.std.proofs.Common.{◌≡◌, ℕ, ◌+◌, ◌<◌, ◌≤◌, List, [], ◌∷◌, ◌++◌, length, Option, None, Some, Result, refl, sym, ap, ◌∙◌, subst, arith, append_assoc, append-nil}
+use Rattle.std.proofs.Common.{◌≡◌, ℕ, ◌+◌, ◌<◌, ◌≤◌, List, [], ◌∷◌, ◌++◌, length, Option, None, Some, Result, Ok, Err, refl, sym, ap, ◌∙◌, subst, arith}
 use Rattle.std.specs.Prelude.{IfOk}
 use Rattle.atomic_table.specs.Seated.{TableId}
 use Rattle.cb_member.specs.declared.no_memory.NoMemory.{NoMemory}
 use Rattle.cb_types.specs.declared.config.Config.{Config}
 use Rattle.cb_types.specs.declared.job.Job.{Job}
+use Rattle.cb_types.specs.declared.job.Job.TheVariants.{Write, Free}
 use Rattle.cb_types.specs.declared.reply.Reply.{Reply}
+use Rattle.cb_types.specs.declared.reply.Reply.TheVariants as answer
 use Rattle.cb_world.specs.declared.entry.Entry.{Entry}
 use Rattle.cb_world.specs.declared.event.Event.{Event}
 use Rattle.cb_world.specs.declared.shown.Shown.{Shown}
@@ -21,30 +23,15 @@ use Rattle.cb_rule.specs.LockSteps.{AddsTurn, gave_lock, took_lock, turn_of}
 use Rattle.cb_rule.specs.Own.{Make}
 use Rattle.cb_rule.specs.Rule.{AreSized}
 use Rattle.cb_rule.specs.Slot.{Sat, Slot}
-use Rattle.cb_rule.specs.Steps.{AreNew, Knows, act, acted}
+use Rattle.cb_rule.specs.Steps.{AreNew, Knows, acted}
 use Rattle.cb_shared.specs.declared.setup.Setup.{Setup}
 use Rattle.cb_record.specs.Parts.{Part, grown, nothing_more}
 use Rattle.cb_shared.specs.Passes.{IsAtRest}
 use Rattle.cb_shared.specs.Places.{HoldsLock, IsOf, Place}
-use Rattle.cb_shared.specs.SeatLaws.{Runs, acted_known, sized_after}
-use Rattle.cb_shared.specs.Turning.{Did, DidAs, KnowsIt, KnowsOf, answer_of, made_by, object_of, turn_part, with_own}
+use Rattle.cb_shared.specs.SeatLaws.{Runs, acted_is, acted_known, after_events, sized_after}
+use Rattle.cb_shared.specs.Turning.{CountsPins, Did, DidAs, KnowsIt, KnowsOf, PinsTold, answer_of, made_by, object_of, turn_part, with_own}
 use Rattle.cb_shared.specs.UnderLock.{GivesFar, IsBeginning, IsEnding, IsQuiet, TakesFar, TurnWith, TurnedBy, WorkBy}
 use Rattle.cb_shared.proofs.MadeFirst.{makes_own}
-
-abbrev pub after_events : List Event → View → View
-after_events es v = record v {
-  known = played es v.known;
-  acts = v.acts ++ es;
-  fresh = written_by es v.known v.fresh;
-}
-
-pub acted_is : (es : List Event) (v : View) → acted es v ≡ after_events es v
-acted_is [] v = λ i. record v { acts = sym (append-nil v.acts) i }
-acted_is (e ∷ es) v = acted_is es (act e v) ∙ (λ i. record v {
-  known = played es (after e v.known);
-  acts = append_assoc v.acts (e ∷ []) es i;
-  fresh = written_by (e ∷ es) v.known v.fresh;
-})
 
 pub sized_played : (c : Config) (es : List Event) (s : Shown) → AreSized c s
     → AreSized c (played es s)
@@ -197,6 +184,7 @@ turn_with c job r took gave p m q w g =
       wrote = w.wrote;
       fresh = w.fresh;
       new = w.new;
+      pins = w.pins;
     }
 
 -- the turn as it stands then
@@ -219,8 +207,25 @@ new_taken : (known : Shown) (far : FarState) (n : ℕ) (v : View) (more : List E
 new_taken known far n v [] new = tt
 new_taken known far n v (e ∷ more) new = (
   record { written = new.0.written; seen = new.0.seen },
-  new_taken known far n v more new.1,
+  new.1,
+  new_taken known far n v more new.2,
 )
+
+-- and so is what a reply tells of its pins
+told_taken : (known : Shown) (far : FarState) (n : ℕ) (v : View) (h : ℕ) (r : Reply)
+    → PinsTold h r (took_lock known far n v) → PinsTold h r v
+told_taken known far n v h (answer.Pinned count) told = told
+told_taken known far n v h (answer.Version k) told = told
+told_taken known far n v h r told = tt
+
+pins_counted : (known : Shown) (far : FarState) (n : ℕ) (v : View) (job : Job)
+    (r : Result Reply NoMemory) → CountsPins job r (took_lock known far n v) → CountsPins job r v
+pins_counted known far n v (Write handle at bytes) (Ok r) counts =
+    told_taken known far n v handle.n r counts
+pins_counted known far n v (Write handle at bytes) (Err e) counts = tt
+pins_counted known far n v (Free handle) (Ok r) counts = told_taken known far n v handle.n r counts
+pins_counted known far n v (Free handle) (Err e) counts = tt
+pins_counted known far n v job r counts = tt
 
 -- the record of a pass at rest, from taking the lock to giving it back
 pub turned_by : (c : Config) (job : Job) (r : Result Reply NoMemory) (far : FarState) (p m q : Place)
@@ -251,6 +256,7 @@ turned_by c job r far p m q rest t w tells =
       wrote = w.wrote;
       new = new_taken t.known far t.entries v w.more
           (subst (λ (x : View). AreNew w.more x) at w.new);
+      pins = pins_counted t.known far t.entries v job r (subst (CountsPins job r) at w.pins);
       made = λ h knows.
           let known = t.stood.sound.here.known in
           let low = known.versioned h (t.made h knows) in

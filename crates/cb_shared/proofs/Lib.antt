@@ -22,6 +22,8 @@ pub mod Mapped
 pub mod Turns
 pub mod LockAlone
 pub mod ReadParts
+pub mod Bringing
+pub mod PinsCounted
 pub mod ReadTurns
 pub mod TurnEnds
 pub mod ReadKept

@@ -17,18 +17,16 @@ use Rattle.cb_world.specs.declared.shown.Shown.{Shown}
 use Rattle.cb_world.specs.FarState.{FarState}
 use Rattle.cb_world.specs.Played.{Agree, played}
 use Rattle.cb_mutate.specs.Answered.{AnsweredAs}
-use Rattle.cb_swapin.proofs.Laws.{by_answer}
 use Rattle.cb_core.specs.OnceHere.{IsThere}
 use Rattle.cb_core.specs.Unavailable.{TurnTells}
 use Rattle.cb_core.proofs.Laws.{IsNever, brought_tells, there_tells}
 use Rattle.cb_core.specs.OnceHere.OnceHere.{away, here}
 use Rattle.cb_core.specs.OnceHere.OnceHereStops.{bringing_stops, call_stops}
 use Rattle.cb_core.specs.Parts.{Holding}
-use Rattle.cb_core.specs.Parts.WithRoom.{at_once, no_room, won}
 use Rattle.cb_core.specs.Parts.BringsIn.{not_far, was_far}
 use Rattle.cb_core.specs.ReadTurn.{BroughtToRead}
 use Rattle.cb_core.specs.ReadTurn.BroughtToRead.{worn as first_worn, done as first_done}
-use Rattle.cb_core.specs.Turned.{Brings, ComesIn, Swaps, done, worn}
+use Rattle.cb_core.specs.Turned.{ComesIn, done, worn}
 use Rattle.cb_core.specs.TurnLeaves.{OutcomeWrites}
 use Rattle.cb_rule.specs.declared.view.View.{View}
 use Rattle.cb_rule.specs.Locking.{Stood}
@@ -36,10 +34,12 @@ use Rattle.cb_rule.specs.Slot.{Sat}
 use Rattle.cb_rule.specs.Steps.{AreNew, Knows, acted}
 use Rattle.cb_record.specs.Parts.{Part, grown, nothing_more}
 use Rattle.cb_shared.specs.Places.{Place}
-use Rattle.cb_shared.specs.SeatLaws.{Runs, acted_known, fresh_new}
+use Rattle.cb_shared.specs.SeatLaws.{Runs, acted_is, acted_known, fresh_new}
 use Rattle.cb_shared.specs.Turning.{DidAs, IsReadReply, JobReads, Slate, TellsNoPin, Tries, answer_of, slate_run, slate_shows}
 use Rattle.cb_shared.specs.UnderLock.{BringAt, Brought, CameThere, HasSame, IsNoRead, TriesOn, TurnAtSeat, WorkBy}
-use Rattle.cb_shared.proofs.AfterTurn.{acted_is, after_runs}
+use Rattle.cb_shared.proofs.AfterTurn.{after_runs}
+use Rattle.cb_shared.proofs.Bringing.{bring_gives}
+use Rattle.cb_shared.proofs.PinsCounted.{counts_pins}
 use Rattle.cb_shared.proofs.ReadParts.{grown_nothing}
 
 -- ---- the first part tells neither of bytes nor of many pins
@@ -52,24 +52,12 @@ absent_plain r state.Far w h es is = subst (λ (x : Reply). TellsNoPin (Ok x)) (
 absent_plain r state.Here w h es is = subst (λ (x : Reply). TellsNoPin (Ok x)) (sym is) tt
 absent_plain r state.Moving w h es is = subst (λ (x : Reply). TellsNoPin (Ok x)) (sym is) tt
 
-swap_plain : (h : ℕ) (a b : Holding Slate) (r : Reply) → Swaps slate_run slate_shows h a r b
-    → TellsNoPin (Ok r)
-swap_plain h a b r (home, at, x) = let z = x.rule in
-    subst (λ (q : Reply). TellsNoPin (Ok q)) (sym z.reply) (by_answer (λ (q : Reply). TellsNoPin (Ok q))
-    a.far home.set z.set (λ broken. tt) (λ fine free. tt) (λ f fine free. tt))
-
-bring_plain : (c : Config) (h : ℕ) (a b : Holding Slate) (r : Reply)
-    → Brings slate_run slate_shows c h a r b → TellsNoPin (Ok r)
-bring_plain c h a b r (at_once x off) = swap_plain h a b r x
-bring_plain c h a b r (no_room m why loose nodes x e is) =
-    subst (λ (q : Reply). TellsNoPin (Ok q)) (sym is) tt
-bring_plain c h a b r (won m n id x e again off) = swap_plain h n b r again
-
 come_plain : (c : Config) (h : ℕ) (a b : Holding Slate) (r : Reply)
     → ComesIn slate_run slate_shows c h a r b → TellsNoPin (Ok r)
 come_plain c h a b r (not_far x off) = let z = x.rule.1 in
     absent_plain r (state_of z.word) z.word h x.events z.answer
-come_plain c h a b r (was_far m x bring) = bring_plain c h m b r bring
+come_plain c h a b r (was_far m x bring) = bring_gives (λ (q : Reply). TellsNoPin (Ok q))
+    (λ id losses. tt) tt (λ f. tt) (λ frames loose nodes. tt) c h m b r bring
 
 first_plain : (c : Config) (handle : Handle) (a b : Holding Slate) (r : Reply)
     → BroughtToRead slate_run slate_shows c handle a r b → TellsNoPin (Ok r)
@@ -152,6 +140,7 @@ module _ (c : Config) (handle : Handle) (took gave : FarState) (p m : Place) (pl
     wrote = refl;
     fresh = fresh_acted;
     new = tt;
+    pins = tt;
     stood = stood_acted;
   }
 
@@ -193,6 +182,7 @@ module _ (c : Config) (handle : Handle) (took gave : FarState) (p m : Place) (pl
         wrote = wrote_none r;
         fresh = fresh_acted;
         new = tt;
+        pins = tt;
         stood = stood_acted;
       }
     where
@@ -223,6 +213,7 @@ work_stopped c handle e took gave p m b =
       wrote = refl;
       fresh = ap (λ (x : View). x.fresh) (sym came) ∙ b.fresh;
       new = tt;
+      pins = tt;
       stood = subst (λ (s : Shown). Stood c s gave)
           (ap (λ (x : View). x.known) came ∙ acted_known b.events p.me.0) b.stood;
     }
@@ -315,6 +306,7 @@ work_done c job r took gave p q other none t =
       fresh = fresh;
       new = subst (λ (l : List Entry). AreNew l p.me.0) fresh
           (fresh_new p q t.events none t.runs);
+      pins = counts_pins c job r p.me.0.known t.events took gave p.me.0 t.did t.runs.3;
       stood = subst (λ (s : Shown). Stood c s gave)
           (ap (λ (x : View). x.known) came ∙ acted_known t.events p.me.0) t.stood;
     }

@@ -10,7 +10,7 @@ use Rattle.cb_world.specs.Played.{after}
 use Rattle.cb_world.specs.Written.{adds}
 use Rattle.cb_rule.specs.Steps.{AreNew}
 use Rattle.cb_shared.specs.Places.{Place, Acts}
-use Rattle.cb_shared.specs.SeatLaws.{Runs, runs_more}
+use Rattle.cb_shared.specs.SeatLaws.{Runs, SaysPins, runs_more}
 use native.Mathlib.Decide.{ℕ_discrete}
 
 loads_last : (p : ℕ) (ws : List ℕ) (w : ℕ)
@@ -30,11 +30,13 @@ stores_last p (x ∷ ws) w =
     ∙ ap (λ (q : ℕ). stores_from (p + 1) ws ++ Stored q w ∷ []) z)
 
 -- one event more, which writes nothing
-pub acts_run : (p q : Place) (e : Event) → adds e p.me.0.known ≡ [] → Acts p e q → Runs p (e ∷ []) q
-acts_run p q e none a = (
+pub acts_run : (p q : Place) (e : Event) → adds e p.me.0.known ≡ [] → SaysPins p.me.0 e → Acts p e q
+    → Runs p (e ∷ []) q
+acts_run p q e none says a = (
   a.0,
   (a.1, tt),
   subst (λ (l : List Entry). AreNew (l ++ []) p.me.0) (sym none) tt,
+  (says, tt),
 )
 
 pub load_more : (p q r : Place) (first i : ℕ) (words : List ℕ) (w : ℕ) → i < length words
@@ -47,7 +49,7 @@ load_more p q r first i words w below long runs acts =
     ∙ ap (λ (n : ℕ). loads_from first (take i words) ++ Loaded (first + n) w ∷ []) long in
     subst (λ (es : List Event). Runs p es r) (sym here)
     (runs_more p q r (loads_from first (take i words)) (Loaded (first + i) w ∷ []) runs
-    (acts_run q r (Loaded (first + i) w) refl acts))
+    (acts_run q r (Loaded (first + i) w) refl tt acts))
 
 pub store_more : (p q r : Place) (first i : ℕ) (done more : List ℕ) (w : ℕ)
     → more ≡ done ++ w ∷ [] → length done ≡ i → Runs p (stores_from first done) q
@@ -58,7 +60,7 @@ store_more p q r first i done more w is long runs acts =
     ∙ ap (λ (n : ℕ). stores_from first done ++ Stored (first + n) w ∷ []) long in
     subst (λ (es : List Event). Runs p es r) (sym here)
     (runs_more p q r (stores_from first done) (Stored (first + i) w ∷ []) runs
-    (acts_run q r (Stored (first + i) w) refl acts))
+    (acts_run q r (Stored (first + i) w) refl tt acts))
 
 -- a store leaves the holder what it owned
 pub owned_still : (p x f : ℕ) (s : Shown) → OwnsWords s f → OwnsWords (after (Stored p x) s) f

@@ -133,6 +133,7 @@ module _ (c : Config) (job : Job) (r : Result Reply NoMemory) (p m q : Place)
       next = t.next;
       wrote = t.wrote;
       new = t.new;
+      pins = t.pins;
       made = t.made;
       tells = t.tells;
       reads = t.reads;

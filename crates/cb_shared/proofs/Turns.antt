@@ -21,10 +21,9 @@ use Rattle.cb_rule.specs.Locking.{Stood}
 use Rattle.cb_rule.specs.Slot.{Sat}
 use Rattle.cb_rule.specs.Steps.{acted}
 use Rattle.cb_shared.specs.Places.{Place}
-use Rattle.cb_shared.specs.SeatLaws.{Runs, acted_fresh, acted_known}
+use Rattle.cb_shared.specs.SeatLaws.{Runs, acted_fresh, acted_is, acted_known}
 use Rattle.cb_shared.specs.Turning.{DidAs, PinLacks, ReadsByPin, Slate, answer_of, held_by, slate_run, slate_shows}
 use Rattle.cb_shared.specs.UnderLock.{BringAt, Brought, IsNoRead, TurnAtSeat}
-use Rattle.cb_shared.proofs.AfterTurn.{acted_is}
 use Rattle.cb_shared.proofs.Mapped.{brought_in, stopped, stopped_first, turned}
 
 -- the events that were run, what they wrote, and that what is known then is sound

@@ -44,7 +44,7 @@ module _ (p q : Place) where
   brings : Has p refusing [] → q.table_id ≡ p.table_id → q.id ≡ p.id → q.me ≡ p.me → Brings (far last) p q
   brings at table id me = record {
     events = [];
-    runs = ((table, id, me), tt, tt);
+    runs = ((table, id, me), tt, tt, tt);
     brought = worn refl refl refl (refl, tt);
     next = inr (refl, refl);
     fresh = ap (λ (m : Sat). m.0.fresh) (me ∙ at);

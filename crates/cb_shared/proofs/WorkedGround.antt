@@ -1,5 +1,5 @@
 -- What the worked examples are about: an object, the words that it may have, and two records.
-use Rattle.std.proofs.Common.{◌≡◌, ℕ, ◌<◌, false, List, [], ◌∷◌, ◌++◌, refl, subst, inl, inr, ⊎_elim, arith, ap, ◌∙◌, lit<, true≢false}
+use Rattle.std.proofs.Common.{◌≡◌, ℕ, ◌+◌, ◌<◌, false, List, [], ◌∷◌, ◌++◌, refl, subst, inl, inr, ⊎_elim, arith, ap, ◌∙◌, lit<, true≢false}
 use Rattle.cb_types.specs.declared.config.Config.{Config}
 use Rattle.cb_ptr.specs.Word.{state_of, state_number}
 use Rattle.cb_world.specs.declared.entry.Entry.{Entry}
@@ -7,9 +7,10 @@ use Rattle.cb_world.specs.Written.{entry, gone}
 use Rattle.cb_rule.specs.declared.view.Look.{Look}
 use Rattle.cb_rule.specs.declared.view.Stand.{Stand}
 use Rattle.cb_rule.specs.declared.view.View.{View}
+use Rattle.cb_rule.specs.History.{is_version}
 use Rattle.cb_rule.specs.Own.{IsAlone}
-use Rattle.cb_rule.specs.Lists.{Each, Has}
-use Rattle.cb_rule.specs.Steps.{IsNew, IsNewest, Knows, blank, opener, stand}
+use Rattle.cb_rule.specs.Lists.{times, Each, Has}
+use Rattle.cb_rule.specs.Steps.{FollowsLast, IsNew, IsNewest, Knows, blank, opener, stand}
 use Rattle.cb_shared.specs.declared.pass.Pin.{Pin}
 use Rattle.cb_shared.specs.Glances.{HasLast}
 
@@ -52,6 +53,13 @@ a_pin h version len place =
 
 abbrev pub a_stand : Stand
 a_stand = stand 1 8 5 3 (2826 ∷ [])
+
+-- the record of a pass with a part of the share that has it, and of one with the whole share
+abbrev pub part_pinned : View
+part_pinned = record part { pins = a_stand ∷ [] }
+
+abbrev pub whole_pinned : View
+whole_pinned = record whole { pins = a_stand ∷ [] }
 
 -- ---- what a record has last
 abbrev pub word_in : List Look → ℕ
@@ -153,3 +161,10 @@ not_new v is new = let few = behind v.fresh v.written new.written in
         → Each (λ (x : Entry). x.handle ≡ 1 → x.version < 3) ys
     behind [] ys each = each
     behind (x ∷ xs) ys each = behind xs ys each.1
+
+-- nor does a version follow that leaves one out
+pub not_after : (words : List ℕ) → FollowsLast (gone 1 5 words) [] whole → ⊥
+not_after words follows = let z = follows (inl refl) (inl (made, inl refl, refl)) in let e = z.1 in
+    let four : z.0 ≡ 4 = omega (arith, e) in
+    let some : 0 < 0 = subst (λ (n : ℕ). 0 < times (is_version 1 n) (made ∷ [])) four z.2 in
+    omega (arith, some)

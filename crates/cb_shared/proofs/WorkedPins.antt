@@ -10,7 +10,7 @@ use Rattle.cb_rule.specs.Steps.{IsNewest, with_freed, with_look, with_pin}
 use Rattle.cb_shared.specs.declared.answers.PinAnswer.TheVariants.{Pinned, ScopeFull, Freed, NotHere, Moving, Crowded, Raced}
 use Rattle.cb_shared.specs.Passes.{IsPinOf}
 use Rattle.cb_shared.specs.Pinning.{FindsFreed, IsPinned, LooksOnce, LoosesRace, PinGives}
-use Rattle.cb_shared.proofs.WorkedGround.{a_pin, a_stand, away, calm, full, last_look, last_state, moving, newest_later, newest_made, not_foreign, not_second, part, pinned, whole}
+use Rattle.cb_shared.proofs.WorkedGround.{a_pin, a_stand, away, calm, full, last_look, last_state, moving, newest_later, newest_made, not_foreign, not_second, part, part_pinned, pinned, whole}
 
 abbrev looks_of : View → ℕ
 looks_of v = length v.looks
@@ -144,27 +144,24 @@ one_look : LoosesRace 1 calm moving part (with_look 1 moving part) → ⊥
 one_look g = eqb-false 1 2 refl (ap looks_of g.1)
 
 -- ---- a pin that the record has, and others
-abbrev with_one : View
-with_one = record part { pins = a_stand ∷ [] }
-
-has_pin : IsPinOf (a_pin 1 3 8 5) with_one
+has_pin : IsPinOf (a_pin 1 3 8 5) part_pinned
 has_pin = (2826 ∷ [], inl refl)
 
 no_pin : IsPinOf (a_pin 1 3 8 5) part → ⊥
 no_pin g = absurd (g.1)
 
-other_object : IsPinOf (a_pin 0 3 8 5) with_one → ⊥
+other_object : IsPinOf (a_pin 0 3 8 5) part_pinned → ⊥
 other_object (words, inl e) = eqb-false 1 0 refl (ap (λ (s : Stand). s.handle) e)
 other_object (words, inr n) = absurd n
 
-other_version : IsPinOf (a_pin 1 4 8 5) with_one → ⊥
+other_version : IsPinOf (a_pin 1 4 8 5) part_pinned → ⊥
 other_version (words, inl e) = eqb-false 3 4 refl (ap (λ (s : Stand). s.version) e)
 other_version (words, inr n) = absurd n
 
-other_length : IsPinOf (a_pin 1 3 16 5) with_one → ⊥
+other_length : IsPinOf (a_pin 1 3 16 5) part_pinned → ⊥
 other_length (words, inl e) = eqb-false 8 16 refl (ap (λ (s : Stand). s.len) e)
 other_length (words, inr n) = absurd n
 
-other_place : IsPinOf (a_pin 1 3 8 6) with_one → ⊥
+other_place : IsPinOf (a_pin 1 3 8 6) part_pinned → ⊥
 other_place (words, inl e) = eqb-false 5 6 refl (ap (λ (s : Stand). s.place) e)
 other_place (words, inr n) = absurd n

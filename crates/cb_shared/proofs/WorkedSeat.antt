@@ -6,7 +6,7 @@ use Rattle.cb_types.specs.declared.job.Job.TheVariants as job
 use Rattle.cb_types.specs.declared.reply.Reply.TheVariants as answer
 use Rattle.cb_world.specs.declared.entry.Entry.{Entry}
 use Rattle.cb_world.specs.declared.event.Event.{Event}
-use Rattle.cb_world.specs.declared.event.Event.TheVariants.{Settled, Told}
+use Rattle.cb_world.specs.declared.event.Event.TheVariants.{Claimed, Looked, Settled, Told}
 use Rattle.cb_world.specs.declared.object.Object.TheVariants as is
 use Rattle.cb_world.specs.declared.shown.Shown.{Shown}
 use Rattle.cb_world.specs.Empty.{empty_shown}
@@ -19,9 +19,9 @@ use Rattle.cb_rule.specs.LockSteps.{gave_lock, took_lock}
 use Rattle.cb_rule.specs.Slot.{Slot, Sat}
 use Rattle.cb_rule.specs.Steps.{AreNew, Knows, act}
 use Rattle.cb_shared.specs.Places.{Moves, Place}
-use Rattle.cb_shared.specs.SeatLaws.{Runs}
+use Rattle.cb_shared.specs.SeatLaws.{Runs, SaysPins}
 use Rattle.cb_shared.specs.UnderLock.{GivesFar, IsAt, TakesFar}
-use Rattle.cb_shared.proofs.WorkedGround.{made, part, two}
+use Rattle.cb_shared.proofs.WorkedGround.{calm, made, part, part_pinned, pinned, shared_part, two}
 use Rattle.cb_shared.proofs.WorkedUnder.{beginner, far, known, knows_nothing, last, newcomer, stood}
 
 -- the seat has this view and these slots
@@ -44,7 +44,12 @@ tells_nine a = eqb-false 9 0 refl (a.0 tt)
 
 module _ (p q : Place) where
   runs : p.me.0.known ≡ known → Moves p q (act (Told 1 0) p.me.0) → Runs p (tells 0) q
-  runs at moves = (moves, subst (λ (s : Shown). Agree s (tells 0)) (sym at) tells_none, tt)
+  runs at moves = (
+    moves,
+    subst (λ (s : Shown). Agree s (tells 0)) (sym at) tells_none,
+    tt,
+    (tt, tt),
+  )
 
   runs_untrue : p.me.0.known ≡ known → Runs p (tells 9) q → ⊥
   runs_untrue at r = tells_nine (subst (λ (s : Shown). Agree s (tells 9)) at r.1)
@@ -73,13 +78,56 @@ module _ (p q : Place) where
   runs_free at moves = (
     moves,
     (tt, tt),
-    subst (λ (v : View). AreNew (written_by frees v.known []) v) (sym at)
-        (record { written = ((λ _. omega arith), tt); seen = tt }, tt),
+    subst (λ (v : View). AreNew (written_by frees v.known []) v) (sym at) (
+      record { written = ((λ _. omega arith), tt); seen = tt },
+      λ alone _. absurd (shared_part 1 alone),
+      tt,
+    ),
+    (tt, tt),
   )
 
   runs_old : p.me.0 ≡ knowing 3 → Runs p frees q → ⊥
   runs_old at r = let z = (subst (λ (v : View). AreNew (written_by frees v.known []) v) at r.2).0 in
       let low = z.written.0 refl in omega (arith, low)
+
+-- a look at an object that the pass has pinned: its word counts the pin, or does not
+abbrev looks_at : ℕ → List Event
+looks_at word = Looked 1 word ∷ []
+
+abbrev looker : View
+looker = record part_pinned {
+  known = record known { objects = is.Here 8 5 ∷ is.Here 8 5 ∷ [] };
+}
+
+says_pinned : SaysPins looker (Looked 1 pinned)
+says_pinned = record {
+  here = λ _. (lit< tt, lit≤ tt, λ alone. absurd (shared_part 1 alone));
+  away = λ off. absurd (off refl);
+}
+
+says_nothing_else : SaysPins looker (Told 1 4)
+says_nothing_else = tt
+
+claims_what_it_pins : (words : List ℕ) → SaysPins looker (Claimed 1 calm 3 words) → ⊥
+claims_what_it_pins words says = let few = (says.here refl).1 in omega (arith, few)
+
+looks_agree : Agree looker.known (looks_at pinned)
+looks_agree = (((lit< tt, refl, refl, inl refl), λ hot. absurd (true≢false (sym hot))), tt)
+
+module _ (p q : Place) where
+  runs_look : p.me.0 ≡ looker → Moves p q (act (Looked 1 pinned) p.me.0)
+      → Runs p (looks_at pinned) q
+  runs_look at moves = (
+    moves,
+    subst (λ (v : View). Agree v.known (looks_at pinned)) (sym at) looks_agree,
+    tt,
+    (subst (λ (v : View). SaysPins v (Looked 1 pinned)) (sym at) says_pinned, tt),
+  )
+
+  runs_uncounted : p.me.0 ≡ looker → Runs p (looks_at calm) q → ⊥
+  runs_uncounted at r =
+      let says = subst (λ (v : View). SaysPins v (Looked 1 calm)) at r.3.0 in
+      let few = (says.here refl).1 in omega (arith, few)
 
 -- ---- the lock is taken, with the far state out of its slot
 abbrev beginning : View

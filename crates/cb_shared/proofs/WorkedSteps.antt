@@ -29,7 +29,7 @@ use Rattle.cb_shared.specs.Glances.{Glances, HasLast, IsLastAlone, TakesPin, Tel
 use Rattle.cb_shared.specs.Pinning.{IsPinnedAt, IsRefusal, PinAt}
 use Rattle.cb_shared.specs.Places.{HoldsLock, IsOf, Moves, Place}
 use Rattle.cb_shared.specs.Writing.{IsWriteRefusal, IsWrittenAt, WriteAt, WriteClaimed}
-use Rattle.cb_shared.proofs.WorkedGround.{a_pin, a_stand, away, calm, freed_last, full, has_last, last_is_freed, last_look, made, moving, newest_later, newest_made, not_second, part, pinned, shared_part, two, version_in, whole, words_in}
+use Rattle.cb_shared.proofs.WorkedGround.{a_pin, a_stand, away, calm, freed_last, full, has_last, last_is_freed, last_look, made, moving, newest_later, newest_made, not_second, part, part_pinned, pinned, shared_part, two, version_in, whole, words_in}
 use Rattle.cb_shared.proofs.WorkedWrites.{write_it}
 
 abbrev looks_of : View → ℕ
@@ -273,10 +273,7 @@ claimed_refused : (p q : Place)
 claimed_refused p q g = g
 
 -- ---- a look of a seat
-abbrev with_one : View
-with_one = record part { pins = a_stand ∷ [] }
-
-glanced : (p q : Place) → p.me.0 ≡ with_one → Moves p q (with_look 1 pinned p.me.0)
+glanced : (p q : Place) → p.me.0 ≡ part_pinned → Moves p q (with_look 1 pinned p.me.0)
     → Glances 1 pinned p q
 glanced p q e m = record {
   freed = λ f. absurd (eqb-false 2 0 refl (ap state_number f));
@@ -310,7 +307,7 @@ glanced_freed_before p q e f g = let z = g.freed refl in
     not_second (subst (λ (n : ℕ). IsNewest 1 n part) (sym same)
     (subst (λ (v : View). IsNewest 1 z.0 v) e z.1))
 
-glanced_uncounted : (p q : Place) → p.me.0 ≡ with_one → Glances 1 calm p q → ⊥
+glanced_uncounted : (p q : Place) → p.me.0 ≡ part_pinned → Glances 1 calm p q → ⊥
 glanced_uncounted p q e g =
     let less : 1 ≤ 0 = subst (λ (v : View). pins_on 1 v ≤ 0) e (g.counted refl).0 in
     omega (arith, less)

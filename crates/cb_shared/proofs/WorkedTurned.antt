@@ -24,7 +24,7 @@ use Rattle.cb_rule.specs.Steps.{AreNew, freed_seen}
 use Rattle.cb_record.specs.Parts.{grown, nothing_more}
 use Rattle.cb_shared.specs.Turning.{Did, turn_part}
 use Rattle.cb_shared.specs.UnderLock.{TurnedBy}
-use Rattle.cb_shared.proofs.WorkedGround.{knows_made, made, not_new, part}
+use Rattle.cb_shared.proofs.WorkedGround.{knows_made, made, not_new, part, part_pinned}
 use Rattle.cb_shared.proofs.WorkedGround as ground
 use Rattle.cb_shared.proofs.WorkedSeat.{tells}
 use Rattle.cb_shared.proofs.WorkedTurns.{aged, worn_turn}
@@ -54,6 +54,7 @@ turned = record {
   next = inr (refl, refl);
   wrote = refl;
   new = tt;
+  pins = tt;
   made = λ h known. subst (λ (n : ℕ). 1 ≤ version_at aged n) (knows_made h known) (lit≤ tt);
   below = (lit< tt, tt);
   range = tt;
@@ -134,6 +135,11 @@ with_an_entry x = eqb-false 2 1 refl (ap (λ (v : View). length v.written) x.lef
 of_an_old_version : (w : View)
     → TurnedBy ground.two (job.Free record { n = 1 }) (Ok (answer.Version 3)) part w → ⊥
 of_an_old_version w x = not_new part refl (subst (λ (l : List Entry). AreNew l part) x.wrote.1 x.new).0
+
+-- one of an object that the pass has pinned
+of_a_pinned_one : (w : View)
+    → TurnedBy ground.two (job.Free record { n = 1 }) (Ok (answer.Version 4)) part_pinned w → ⊥
+of_a_pinned_one w x = eqb-false 1 0 refl x.pins
 
 -- the record has an entry of an object out of range
 abbrev beyond : View

@@ -22,8 +22,8 @@ use Rattle.cb_rule.specs.declared.view.View.{View}
 use Rattle.cb_rule.specs.Steps.{AreNew, Knows, look_at, opener}
 use Rattle.cb_record.specs.Parts.{Part, grown, nothing_more}
 use Rattle.cb_shared.specs.Trying.{newest_tries, tries_of}
-use Rattle.cb_shared.specs.Turning.{AreLooksAt, Did, JobReads, KnowsOf, ReadsByPin, Slate, TellsNoPin, TurnAdds, TurnBy, freed_of, held_by, made_by, object_of, slate_run, turn_part}
-use Rattle.cb_shared.proofs.WorkedGround.{knows_made, made, not_new, part, two}
+use Rattle.cb_shared.specs.Turning.{AreLooksAt, CountsPins, Did, JobReads, KnowsOf, PinsTold, ReadsByPin, Slate, TellsNoPin, TurnAdds, TurnBy, freed_of, held_by, made_by, object_of, slate_run, turn_part}
+use Rattle.cb_shared.proofs.WorkedGround.{a_stand, knows_made, made, not_after, not_new, owner, part, part_pinned, shared_part, two, whole, whole_pinned}
 
 abbrev one : Handle
 one = record { n = 1 }
@@ -160,6 +160,59 @@ many_tell t = t
 moving_tells_none : TellsNoPin (Ok answer.Moving)
 moving_tells_none = tt
 
+-- ---- what a reply tells of the pins on object 1
+abbrev twice_pinned : View
+twice_pinned = record part { pins = a_stand ∷ a_stand ∷ [] }
+
+-- one of its own, and one of another pass
+told_two : PinsTold 1 (answer.Pinned 2) part_pinned
+told_two = (lit≤ tt, lit≤ tt, λ alone. absurd (shared_part 1 alone))
+
+told_its_own : PinsTold 1 (answer.Pinned 1) whole_pinned
+told_its_own = (lit≤ tt, lit≤ tt, λ alone. refl)
+
+told_of_none : PinsTold 1 (answer.Pinned 0) part → ⊥
+told_of_none t = let some = t.0 in omega (arith, some)
+
+told_too_few : PinsTold 1 (answer.Pinned 1) twice_pinned → ⊥
+told_too_few t = let few = t.1 in omega (arith, few)
+
+told_of_others : PinsTold 1 (answer.Pinned 2) whole_pinned → ⊥
+told_of_others t = let same : 2 ≡ 1 = t.2 (inl refl) in omega (arith, same)
+
+told_of_others_on_its_own : PinsTold 1 (answer.Pinned 1) owner → ⊥
+told_of_others_on_its_own t = let same : 1 ≡ 0 = t.2 (inr (inl refl)) in omega (arith, same)
+
+told_a_version : PinsTold 1 (answer.Version 4) part
+told_a_version = refl
+
+told_a_version_pinned : PinsTold 1 (answer.Version 4) part_pinned → ⊥
+told_a_version_pinned t = eqb-false 1 0 refl t
+
+told_nothing : PinsTold 1 answer.Moving part_pinned
+told_nothing = tt
+
+-- so of its object by a write and a free, and by no other job
+counts_by_a_write : CountsPins (job.Write one 0 (10 ∷ [])) (Ok (answer.Pinned 2)) part_pinned
+counts_by_a_write = told_two
+
+counts_by_a_free : CountsPins (job.Free one) (Ok (answer.Version 4)) part
+counts_by_a_free = refl
+
+writes_what_it_pins : CountsPins (job.Write one 0 (10 ∷ [])) (Ok (answer.Version 4)) part_pinned → ⊥
+writes_what_it_pins t = told_a_version_pinned t
+
+frees_what_it_pins : CountsPins (job.Free one) (Ok (answer.Version 4)) part_pinned → ⊥
+frees_what_it_pins t = told_a_version_pinned t
+
+counts_no_other : CountsPins (job.Filter one) (Ok (answer.Pinned 0)) part_pinned
+counts_no_other = tt
+
+worn_counts : (j : Job) (v : View) → CountsPins j (Ok answer.Worn) v
+worn_counts (job.Write h at bytes) v = tt
+worn_counts (job.Free h) v = tt
+worn_counts j v = tt
+
 -- ---- what a turn adds
 abbrev added : Part
 added = turn_part refused [] nothing_more nothing_more
@@ -180,6 +233,7 @@ adds_refused = record {
   next = inr (refl, refl);
   wrote = refl;
   new = tt;
+  pins = tt;
   made = λ h known. was_made h (knows_made h known);
   tells = record {
     only = λ id losses is. absurd (worn_lost is);
@@ -236,6 +290,15 @@ adds_an_old_version : (d : Part) → TurnAdds two (job.Free one) (Ok (answer.Ver
 adds_an_old_version d a =
     not_new part refl (subst (λ (l : List Entry). AreNew l part) a.wrote.1 a.new).0
 
+-- one that leaves a version out, of an object that no other pass has
+adds_past_the_next : (d : Part) → TurnAdds two (job.Free one) (Ok (answer.Version 5)) whole d → ⊥
+adds_past_the_next d a =
+    not_after a.wrote.0 (subst (λ (l : List Entry). AreNew l whole) a.wrote.1 a.new).1
+
+-- and one under a pin of the pass
+adds_what_it_pins : (d : Part) → TurnAdds two (job.Free one) (Ok (answer.Version 4)) part_pinned d → ⊥
+adds_what_it_pins d a = frees_what_it_pins a.pins
+
 -- an object that the record has was not made when the turn began
 abbrev too_early : Turn
 too_early = record refused { start = empty_shown 3 two }
@@ -288,6 +351,7 @@ adds_worn j v wrote reads knows = record {
   next = inr (refl, refl);
   wrote = wrote;
   new = tt;
+  pins = worn_counts j v;
   made = λ h known. was_made h (knows h known);
   tells = record {
     only = λ id losses is. absurd (worn_lost is);

@@ -15,8 +15,9 @@ use Rattle.cb_core.specs.TurnLeaves.{IsNext}
 use Rattle.cb_rule.specs.declared.turn.Turn.{Turn}
 use Rattle.cb_rule.specs.declared.view.Seen.{Seen}
 use Rattle.cb_rule.specs.declared.view.View.{View}
-use Rattle.cb_rule.specs.Lists.{Each}
+use Rattle.cb_rule.specs.Lists.{times, Each}
 use Rattle.cb_rule.specs.Locking.{Stood}
+use Rattle.cb_rule.specs.Seats.{pins_it}
 use Rattle.cb_rule.specs.Slot.{Sat}
 use Rattle.cb_rule.specs.Steps.{AreNew, act, acted, freed_seen}
 use Rattle.cb_record.specs.Parts.{grown, nothing_more}
@@ -24,7 +25,7 @@ use Rattle.cb_shared.specs.Places.{Place}
 use Rattle.cb_shared.specs.SeatLaws.{acted_known}
 use Rattle.cb_shared.specs.Turning.{DidAs}
 use Rattle.cb_shared.specs.UnderLock.{TurnAtSeat, TurnWith, WorkBy}
-use Rattle.cb_shared.proofs.WorkedGround.{made, not_new, two}
+use Rattle.cb_shared.proofs.WorkedGround.{a_stand, made, not_new, two}
 use Rattle.cb_shared.proofs.WorkedSeat.{Has, gives_back, refusing, seat, tells, tells_nine}
 use Rattle.cb_shared.proofs.WorkedUnder.{far, known, last, stood}
 
@@ -48,7 +49,7 @@ module _ (p q : Place) where
   works at table id me = record {
     events = [];
     more = [];
-    runs = ((table, id, me), tt, tt);
+    runs = ((table, id, me), tt, tt, tt);
     did = worn refl refl refl (refl, tt);
     next = inr (refl, refl);
     wrote = refl;
@@ -112,6 +113,7 @@ module _ (p q : Place) where
     wrote = refl;
     fresh = ap (λ (m : Sat). m.0.fresh) at;
     new = tt;
+    pins = tt;
     stood = subst (λ (m : Sat). Stood two m.0.known (far last)) (sym at) (stood last (lit≤ tt));
   }
 
@@ -158,6 +160,11 @@ module _ (p q : Place) where
   by_an_old_version : p.me.0.written ≡ made ∷ []
       → WorkBy two (job.Free record { n = 1 }) (Ok (answer.Version 3)) (far 1) (far 2) p q → ⊥
   by_an_old_version is w = not_new p.me.0 is (subst (λ (l : List Entry). AreNew l p.me.0) w.wrote.1 w.new).0
+
+  -- one of an object that the pass has pinned
+  by_a_pinned_one : p.me.0.pins ≡ a_stand ∷ []
+      → WorkBy two (job.Free record { n = 1 }) (Ok (answer.Version 4)) (far 1) (far 2) p q → ⊥
+  by_a_pinned_one is w = eqb-false 1 0 refl (sym (ap (times (pins_it 1)) is) ∙ w.pins)
 
   by_another_end : WorkBy two job.Evict (Ok answer.Done) (far last) (far last) p q → ⊥
   by_another_end w = not_done _ _ _ w.did
@@ -210,6 +217,7 @@ module _ (p q : Place) where
     wrote = refl;
     fresh = ap (λ (m : Sat). m.0.fresh) at;
     new = tt;
+    pins = tt;
   }
 
   turns_untrue : p.me.0.acts ≡ [] → p.me.0.known ≡ known → first_acts q.me.0.turns ≡ tells 9
@@ -260,6 +268,10 @@ module _ (p q : Place) where
       → TurnWith two (job.Free record { n = 1 }) (Ok (answer.Version 3)) (far 1) p q → ⊥
   turns_to_an_old_version is t =
       not_new p.me.0 is (subst (λ (l : List Entry). AreNew l p.me.0) t.wrote.1 t.new).0
+
+  turns_a_pinned_one : p.me.0.pins ≡ a_stand ∷ []
+      → TurnWith two (job.Free record { n = 1 }) (Ok (answer.Version 4)) (far 1) p q → ⊥
+  turns_a_pinned_one is t = eqb-false 1 0 refl (sym (ap (times (pins_it 1)) is) ∙ t.pins)
 
   turns_to_another_end : TurnWith two job.Evict (Ok answer.Done) (far last) p q → ⊥
   turns_to_another_end t = not_done _ _ _ t.did

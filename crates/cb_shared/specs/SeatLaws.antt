@@ -13,10 +13,11 @@ use Rattle.cb_world.specs.Shown.{version_at, object_at}
 use Rattle.cb_world.specs.Written.{adds, written_by}
 use Rattle.cb_world.proofs.Laws.{length_put}
 use Rattle.cb_rule.specs.declared.view.View.{View}
-use Rattle.cb_rule.specs.Lists.{Each}
+use Rattle.cb_rule.specs.History.{is_version}
+use Rattle.cb_rule.specs.Lists.{times, Each}
 use Rattle.cb_rule.specs.Rule.{AreSized}
 use Rattle.cb_rule.specs.Slot.{Sat}
-use Rattle.cb_rule.specs.Steps.{AreNew, IsNew, act, acted}
+use Rattle.cb_rule.specs.Steps.{AreNew, FollowsLast, IsNew, TellsPins, act, acted}
 use Rattle.cb_shared.specs.declared.setup.Setup.{Setup}
 use Rattle.cb_shared.specs.Places.{Moves, Place, HoldsLock, Acts}
 
@@ -38,11 +39,33 @@ agree_more : (es fs : List Event) (s : Shown) → Agree s es → Agree (played e
 agree_more [] fs s a b = b
 agree_more (e ∷ es) fs s a b = (a.0, agree_more es fs (after e s) a.1 b)
 
+-- the events leave all of the record but what is known, what they are and what they write
+abbrev pub after_events : List Event → View → View
+after_events es v = record v {
+  known = played es v.known;
+  acts = v.acts ++ es;
+  fresh = written_by es v.known v.fresh;
+}
+
+pub acted_is : (es : List Event) (v : View) → acted es v ≡ after_events es v
+acted_is [] v = λ i. record v { acts = sym (append-nil v.acts) i }
+acted_is (e ∷ es) v = acted_is es (act e v) ∙ (λ i. record v {
+  known = played es (after e v.known);
+  acts = append_assoc v.acts (e ∷ []) es i;
+  fresh = written_by (e ∷ es) v.known v.fresh;
+})
+
+-- the word that a look or a claim found tells of the pins of the view
+abbrev pub SaysPins : View → Event → Type 0
+SaysPins v (Looked h w) = TellsPins h w v
+SaysPins v (Claimed h w n words) = TellsPins h w v
+SaysPins v e = Unit {0}
+
 -- The seat's view has these events more. They agree with what it knew, and what they write is new to
--- its record.
+-- its record. The words that were found tell of its pins.
 abbrev pub Runs : Place → List Event → Place → Type 0
 Runs p es q = Moves p q (acted es p.me.0) × Agree p.me.0.known es
-    × AreNew (written_by es p.me.0.known []) p.me.0
+    × AreNew (written_by es p.me.0.known []) p.me.0 × Each (SaysPins p.me.0) es
 
 pub known_is : (p q : Place) (es : List Event) → Moves p q (acted es p.me.0)
     → q.me.0.known ≡ played es p.me.0.known
@@ -62,39 +85,69 @@ written_then : (es fs : List Event) (s : Shown) (old : List Entry)
 written_then [] fs s old = refl
 written_then (e ∷ es) fs s old = written_then es fs (after e s) (adds e s ++ old)
 
-each_behind : {A : Type 0} (P : A → Type 0) (xs ys : List A) → Each P (xs ++ ys) → Each P ys
+pub each_behind : {A : Type 0} (P : A → Type 0) (xs ys : List A) → Each P (xs ++ ys) → Each P ys
 each_behind P [] ys all = all
 each_behind P (x ∷ xs) ys all = each_behind P xs ys all.1
 
+each_both : {A : Type 0} (P : A → Type 0) (xs ys : List A) → Each P xs → Each P ys → Each P (xs ++ ys)
+each_both P [] ys a b = b
+each_both P (x ∷ xs) ys a b = (a.0, each_both P xs ys a.1 b)
+
 -- what is new after events was so before them
-new_before : (h n : ℕ) (es : List Event) (v : View) → IsNew h n (acted es v) → IsNew h n v
-new_before h n [] v new = new
-new_before h n (e ∷ es) v new = let z = new_before h n es (act e v) new in
-    let P : Entry → Type 0 = λ x. x.handle ≡ h → x.version < n in
-    let more = adds e v.known in record {
+new_kept : (h n : ℕ) (es : List Event) (v : View) → IsNew h n (after_events es v) → IsNew h n v
+new_kept h n es v new = let P : Entry → Type 0 = λ x. x.handle ≡ h → x.version < n in
+    let more = written_by es v.known [] in record {
       written = each_behind P more (v.fresh ++ v.written)
-          (subst (Each P) (append_assoc more v.fresh v.written) z.written);
-      seen = z.seen;
+          (subst (Each P) (ap (λ (l : List Entry). l ++ v.written) (written_more es v.known v.fresh)
+          ∙ append_assoc more v.fresh v.written) new.written);
+      seen = new.seen;
     }
 
-are_new_before : (es : List Event) (v : View) (more : List Entry) → AreNew more (acted es v)
-    → AreNew more v
-are_new_before es v [] new = tt
-are_new_before es v (e ∷ more) new =
-    (new_before e.handle e.version es v new.0, are_new_before es v more new.1)
+-- what follows the last after events follows what they wrote
+follows_kept : (e : Entry) (before : List Entry) (es : List Event) (v : View)
+    → FollowsLast e before (after_events es v)
+    → FollowsLast e (before ++ written_by es v.known []) v
+follows_kept e before es v follows alone knows = let z = follows alone knows in
+    let more = written_by es v.known [] in (
+      z.0,
+      z.1,
+      subst (λ (l : List Entry). 0 < times (is_version e.handle z.0) l)
+          (ap (λ (l : List Entry). before ++ (l ++ v.written)) (written_more es v.known v.fresh)
+          ∙ ap (λ (l : List Entry). before ++ l) (append_assoc more v.fresh v.written)
+          ∙ sym (append_assoc before more (v.fresh ++ v.written))) z.2,
+    )
 
-new_both : (v : View) (more less : List Entry) → AreNew more v → AreNew less v → AreNew (more ++ less) v
-new_both v [] less a b = b
-new_both v (e ∷ more) less a b = (a.0, new_both v more less a.1 b)
+new_behind : (es : List Event) (v : View) (more : List Entry) → AreNew more (after_events es v)
+    → AreNew (written_by es v.known []) v → AreNew (more ++ written_by es v.known []) v
+new_behind es v [] new old = old
+new_behind es v (e ∷ more) new old = (
+  new_kept e.handle e.version es v new.0,
+  follows_kept e more es v new.1,
+  new_behind es v more new.2 old,
+)
 
 new_more : (es fs : List Event) (v : View) → AreNew (written_by es v.known []) v
     → AreNew (written_by fs (played es v.known) []) (acted es v)
     → AreNew (written_by (es ++ fs) v.known []) v
-new_more es fs v a b = let s = v.known in
+new_more es fs v a b = let s = v.known in let more = written_by fs (played es s) [] in
     subst (λ (l : List Entry). AreNew l v)
     (sym (written_then es fs s [] ∙ written_more fs (played es s) (written_by es s [])))
-    (new_both v (written_by fs (played es s) []) (written_by es s [])
-    (are_new_before es v (written_by fs (played es s) []) b) a)
+    (new_behind es v more (subst (AreNew more) (acted_is es v) b) a)
+
+-- events change no pins, so what words tell of them after events they tell of those before
+says_kept : (es : List Event) (v : View) (fs : List Event) → Each (SaysPins (after_events es v)) fs
+    → Each (SaysPins v) fs
+says_kept es v [] all = tt
+says_kept es v (Looked h w ∷ fs) all =
+    (record { here = all.0.here; away = all.0.away }, says_kept es v fs all.1)
+says_kept es v (Claimed h w n words ∷ fs) all =
+    (record { here = all.0.here; away = all.0.away }, says_kept es v fs all.1)
+says_kept es v (e ∷ fs) all = (tt, says_kept es v fs all.1)
+
+says_more : (es fs : List Event) (v : View) → Each (SaysPins v) es → Each (SaysPins (acted es v)) fs
+    → Each (SaysPins v) (es ++ fs)
+says_more es fs v a b = each_both (SaysPins v) es fs a
+    (says_kept es v fs (subst (λ (u : View). Each (SaysPins u) fs) (acted_is es v) b))
 
 -- what a seat wrote that had written nothing in its turn
 pub fresh_new : (p q : Place) (es : List Event) → p.me.0.fresh ≡ [] → Runs p es q
@@ -116,6 +169,8 @@ runs_more p q r es fs a b = let m = a.0 in let n = b.0 in (
   new_more es fs p.me.0 a.2 (subst (λ (s : Shown). AreNew (written_by fs s []) (acted es p.me.0))
       (known_is p q es m)
       (subst (λ (v : View). AreNew (written_by fs q.me.0.known []) v) (ap (λ (k : Sat). k.0) m.2) b.2)),
+  says_more es fs p.me.0 a.3
+      (subst (λ (v : View). Each (SaysPins v) fs) (ap (λ (k : Sat). k.0) m.2) b.3),
 )
 
 pub runs_follows : (p q : Place) (es : List Event) (s : Shown) → Runs p es q → s ≡ p.me.0.known

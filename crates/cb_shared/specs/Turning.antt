@@ -20,6 +20,8 @@ use Rattle.cb_rule.specs.declared.turn.Turn.{Turn}
 use Rattle.cb_rule.specs.declared.view.Look.{Look}
 use Rattle.cb_rule.specs.declared.view.View.{View}
 use Rattle.cb_rule.specs.Lists.{Each}
+use Rattle.cb_rule.specs.Own.{IsAlone}
+use Rattle.cb_rule.specs.Seats.{pins_on}
 use Rattle.cb_rule.specs.Steps.{AreNew, Knows}
 use Rattle.cb_shared.specs.declared.reading.ReadAnswer.{ReadAnswer}
 use Rattle.cb_shared.specs.declared.reading.ReadAnswer.TheVariants as found
@@ -155,6 +157,21 @@ abbrev pub FindsFreed : Option ℕ → View → Part → Type 0
 FindsFreed (Some h) v d = FindsAtLast h found.Freed v d
 FindsFreed None v d = d ≡ nothing_more
 
+-- What a write or a free tells of the pins on its object. It is answered Pinned where there are some:
+-- as many at least as the pass has on it, and these alone where no other pass has the object. A
+-- version is answered only where the pass has none.
+abbrev pub PinsTold : ℕ → Reply → View → Type 0
+PinsTold h (answer.Pinned count) v =
+    (1 ≤ count) × (pins_on h v ≤ count) × (IsAlone h v → count ≡ pins_on h v)
+PinsTold h (answer.Version n) v = pins_on h v ≡ 0
+PinsTold h r v = Unit {0}
+
+-- so does a turn of one of these jobs
+abbrev pub CountsPins : Job → Result Reply NoMemory → View → Type 0
+CountsPins (Write handle at bytes) (Ok r) v = PinsTold handle.n r v
+CountsPins (Free handle) (Ok r) v = PinsTold handle.n r v
+CountsPins job r v = Unit {0}
+
 -- the part of a turn: the turn, what it wrote, and what was read in it and after it
 abbrev pub turn_part : Turn → List Entry → Part → Part → Part
 turn_part t more within later =
@@ -166,9 +183,10 @@ with_own made v = record v { own = made ++ v.own }
 
 -- What a turn adds to the record v of its pass. It stands there with its job, its reply, what was
 -- known when it began, its events, and the far states that it took and gave, which are those of one
--- turn more. What it wrote is that of its reply, and new to the record. Each object of which the
--- record has an entry had a version when it began. It is answered Unavailable exactly where it is to
--- be.
+-- turn more. What it wrote is that of its reply, and new to the record: one above the greatest
+-- version that the record has of an object that it knows and no other pass has. A write or a free
+-- counts the pins. Each object of which the record has an entry had a version when it began. It is
+-- answered Unavailable exactly where it is to be.
 pub record TurnAdds (c : Config) (job : Job) (r : Result Reply NoMemory) (v : View) (d : Part)
     : Type 0 where
   pub turn : Turn
@@ -182,6 +200,7 @@ pub record TurnAdds (c : Config) (job : Job) (r : Result Reply NoMemory) (v : Vi
   pub next : IsNext turn.took turn.gave
   pub wrote : OutcomeWrites job r more
   pub new : AreNew more v
+  pub pins : CountsPins job r v
   pub made : (h : ℕ) → Knows h v → 1 ≤ version_at turn.start h
   pub tells : IfOk r (λ reply. TurnTells job turn.took reply)
   pub reads : JobReads job r v within

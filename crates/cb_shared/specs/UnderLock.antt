@@ -32,7 +32,7 @@ use Rattle.cb_shared.specs.declared.reading.ReadAnswer.TheVariants as found
 use Rattle.cb_record.specs.Parts.{Part, grown, nothing_more}
 use Rattle.cb_shared.specs.Places.{Moves, Place}
 use Rattle.cb_shared.specs.SeatLaws.{Runs}
-use Rattle.cb_shared.specs.Turning.{Did, DidAs, FindsAtLast, FindsFreed, JobReads, Tries, answer_of, held_by, made_by, slate_run, slate_shows, turn_part, with_own}
+use Rattle.cb_shared.specs.Turning.{CountsPins, Did, DidAs, FindsAtLast, FindsFreed, JobReads, Tries, answer_of, held_by, made_by, slate_run, slate_shows, turn_part, with_own}
 
 -- the same seat, with this view and these slots in hand
 abbrev pub IsAt : Place → Place → View → List (ℕ × Slot) → Type 0
@@ -108,7 +108,7 @@ HasSame u v = (u.fresh ≡ v.fresh) × (u.written ≡ v.written) × (u.seen ≡ 
     × (u.share ≡ v.share) × (u.own ≡ v.own)
 
 -- The work of a turn at the desk, and the read under a pin beside it. What it wrote is new to the
--- record.
+-- record, and its reply counts the pins.
 pub record WorkBy (c : Config) (job : Job) (r : Result Reply NoMemory) (took gave : FarState)
     (p q : Place) : Type 0 where
   pub events : List Event
@@ -124,6 +124,7 @@ pub record WorkBy (c : Config) (job : Job) (r : Result Reply NoMemory) (took gav
   pub wrote : OutcomeWrites job r more
   pub fresh : (acted events p.me.0).fresh ≡ more
   pub new : AreNew more p.me.0
+  pub pins : CountsPins job r p.me.0
   pub stood : Stood c (played events p.me.0.known) gave
 
 -- any job but Read
@@ -207,6 +208,7 @@ pub record TurnWith (c : Config) (job : Job) (r : Result Reply NoMemory) (took :
   pub wrote : OutcomeWrites job r more
   pub fresh : (acted events p.me.0).fresh ≡ more
   pub new : AreNew more p.me.0
+  pub pins : CountsPins job r p.me.0
 
 -- A turn as it stands in the record of its pass, before a freed entry is looked for.
 pub record TurnedBy (c : Config) (job : Job) (r : Result Reply NoMemory) (v w : View) : Type 0 where
@@ -220,6 +222,7 @@ pub record TurnedBy (c : Config) (job : Job) (r : Result Reply NoMemory) (v w : 
   pub next : IsNext turn.took turn.gave
   pub wrote : OutcomeWrites job r more
   pub new : AreNew more v
+  pub pins : CountsPins job r v
   pub made : (h : ℕ) → Knows h v → 1 ≤ version_at turn.start h
   pub below : Each (λ (e : Entry). e.handle < c.handles) (more ++ v.written)
   pub range : ReadsBelow c within

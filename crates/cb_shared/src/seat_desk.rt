@@ -89,7 +89,7 @@ impl<'a, R: Wait> Desk for SeatDesk<'a, R> {
         settle(self.top, self.seat, &self.config, h.n, word);
     }
 
-    ghost none = { λ d. (((refl, refl, refl), tt, tt), refl, refl, refl) };
+    ghost none = { λ d. (((refl, refl, refl), tt, tt, tt), refl, refl, refl) };
 
     ghost more = { λ d e f es fs a b. (
       runs_more d.seat.now e.seat.now f.seat.now es fs a.0 b.0,

@@ -7,18 +7,19 @@ ghost use Rattle.cb_world.specs.Shown.{Owns, IsHeld, object_at};
 ghost use Rattle.cb_world.specs.Settling.{MaySettle};
 ghost use Rattle.cb_world.specs.Written.{adds};
 ghost use Rattle.cb_rule.specs.Own.{MayWrite};
-ghost use Rattle.cb_rule.specs.Steps.{AreNew};
+ghost use Rattle.cb_rule.specs.Steps.{AreNew, TellsPins};
 ghost use Rattle.cb_shared.specs.Places.{HoldsLock, Acts};
 
 use crate::board::{Place, Top};
 use crate::plays::{Load, Look, Settle, Stamp, Store, TakeClaim, Tell};
 use cb_types::Config;
 
-/// The pointer word of an object.
+/// The pointer word of an object, which tells of the pins on it.
 pub(crate) fn look(top: &Top, seat: &mut Place, config: &Config, h: u32) -> u64
     requires holds { HoldsLock top.now.table_id top.now.key config.now seat.old }
     requires handle { h < config.now.handles }
-    ensures { Acts seat.old (Looked h result) seat.new }
+    ensures acts { Acts seat.old (Looked h result) seat.new }
+    ensures pins { TellsPins h result seat.old.me.0 }
 {
     top.load::<Look>(seat, 1 + h as usize)
 }
@@ -52,6 +53,7 @@ pub(crate) fn take_claim(top: &Top, seat: &mut Place, config: &Config, h: u32, s
     ensures won { result ≡ saw → (v : ℕ) × (words : List ℕ)
         × Acts seat.old (Claimed h saw v words) seat.new }
     ensures lost { result ≢ saw → Acts seat.old (Looked h result) seat.new }
+    ensures pins { TellsPins h result seat.old.me.0 }
     ensures still { HoldsLock top.now.table_id top.now.key config.now seat.new }
 {
     top.compare_exchange::<TakeClaim>(seat, 1 + h as usize, saw, cb_ptr::claimed(saw))

@@ -11,7 +11,7 @@ use Rattle.cb_shared.proofs.Rows.{owned_still, store_more}
 use Rattle.cb_shared.proofs.frames.store_row.Goals as goal
 
 pub loop-i-init : goal.loop-i-init
-loop-i-init c = (c.requires.holds, ((refl, refl, refl), tt, tt), c.requires.owned)
+loop-i-init c = (c.requires.holds, ((refl, refl, refl), tt, tt, tt), c.requires.owned)
 
 pub store-requires-clause-owned : goal.store-requires-clause-owned
 store-requires-clause-owned c = c.loop-i.invariant.2 (512 * c.args.frame + c.loop-i.i)

@@ -15,6 +15,6 @@ returns c = let t = c.load.ensures.0 in let i = c.load.ensures.1 in
     let z = c.load.ensures.2.0 c.args.h refl in record {
       freed = λ e. let y = z.0 e in (y.0, y.2, (t, i, y.1));
       other = λ e. (t, i, z.1 e);
-      counted = λ e. let y = z.2 e in (y.1, y.2);
+      counted = λ e. let y = z.2.here e in (y.1, y.2);
       held = c.load.ensures.2.1 c.args.h refl;
     }

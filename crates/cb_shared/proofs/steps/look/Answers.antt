@@ -10,6 +10,9 @@ load-requires c = let h = c.requires.holds in (
       c.requires.handle,
 )
 
-pub returns : goal.returns
-returns c = let z = c.load.ensures.2 c.args.h refl in
+pub returns-clause-acts : goal.returns-clause-acts
+returns-clause-acts c = let z = (c.load.ensures.2 c.args.h refl).0 in
     ((c.load.ensures.0, c.load.ensures.1, z.0), z.1)
+
+pub returns-clause-pins : goal.returns-clause-pins
+returns-clause-pins c = (c.load.ensures.2 c.args.h refl).1

@@ -27,6 +27,9 @@ pub returns-clause-lost : goal.returns-clause-lost
 returns-clause-lost c e = let z = (c.compare_exchange.ensures.2 c.args.h refl).1 e in
     ((c.compare_exchange.ensures.0, c.compare_exchange.ensures.1, z.0), z.1)
 
+pub returns-clause-pins : goal.returns-clause-pins
+returns-clause-pins c = (c.compare_exchange.ensures.2 c.args.h refl).2
+
 pub returns-clause-still : goal.returns-clause-still
 returns-clause-still c =
     let found = c.compare_exchange.result in
