@@ -48,3 +48,4 @@ pub mod WorkedOwn
 pub mod WorkedClosing
 pub mod WorkedShown
 pub mod WorkedLast
+pub mod WorkedRecords

@@ -23,7 +23,7 @@ use Rattle.cb_rule.specs.declared.turn.Turn.{Turn}
 use Rattle.cb_rule.specs.declared.view.Peeked.{Peeked}
 use Rattle.cb_rule.specs.declared.view.Seen.{Seen}
 use Rattle.cb_rule.specs.declared.view.View.{View}
-use Rattle.cb_rule.specs.Closing.{IsClosed, desk_of, now_of}
+use Rattle.cb_rule.specs.Closing.{HoldsEntries, IsClosed, desk_of, now_of}
 use Rattle.cb_rule.specs.Lists.{total, Has}
 use Rattle.cb_rule.specs.Promised.{EntriesStand, GoesOn, Is, Wrote}
 use Rattle.cb_rule.specs.Seats.{written_on}
@@ -248,6 +248,9 @@ closed : Closed (opener pair_of) (world_of (empty_far 3 pair_of))
 closed = subst (λ (f : FarState). Closed (opener pair_of) (world_of f))
     (ap far_in (sym closes.home)) closes.closed
 
+holds_nothing : HoldsEntries (opener pair_of ∷ []) (world_of (empty_far 3 pair_of))
+holds_nothing = closed.holds
+
 of_another_configuration : Closed (opener pair_of) record (world_of (empty_far 3 pair_of)) {
   desk = desk_of no_frame (replicate 517 0);
 } → ⊥
@@ -286,9 +289,9 @@ pub not_held : (n : ℕ) → is_held (empty_value n) ≡ false
 not_held zero = refl
 not_held (suc n) = refl
 
-without_its_object : Closed maker (world_of (empty_far 3 pair_of)) → ⊥
-without_its_object k = let w = world_of (empty_far 3 pair_of) in let zeros : List ℕ = replicate 517 0 in
-    let last = k.holds.last made (
+holds_not_its_object : HoldsEntries (maker ∷ []) (world_of (empty_far 3 pair_of)) → ⊥
+holds_not_its_object k = let w = world_of (empty_far 3 pair_of) in let zeros : List ℕ = replicate 517 0 in
+    let last = k.last made (
       (maker, here maker, inl refl),
       λ x wrote same.
           let v : x.version ≡ 3 = ap (λ (y : Entry). y.version) (is_made x wrote) in omega (arith, v),
@@ -297,9 +300,12 @@ without_its_object k = let w = world_of (empty_far 3 pair_of) in let zeros : Lis
     subst (λ (n : ℕ). 1 < n) (sym (window_length zeros 1 2)) (lit< tt) in
     let word : state_of (word_at w.desk 1) ≡ state_of 0 =
     ap state_of (window_at zeros 1 2 1 (lit< tt) ∙ same_each 517 0 2) in
-    let nothing = empty_now w.desk w.far k.holds.shown 1 k.holds.known.shows k.holds.known.sound
+    let nothing = empty_now w.desk w.far k.shown 1 k.known.shows k.known.sound
     below word in
     true≢false (sym (ap is_held last) ∙ ap is_held nothing ∙ not_held (stamp_at w.desk 1))
+
+without_its_object : Closed maker (world_of (empty_far 3 pair_of)) → ⊥
+without_its_object k = holds_not_its_object k.holds
 
 -- a turn is counted that does not stand in the record
 without_its_turn : Closed (opener pair_of) (world_of (far 1)) → ⊥

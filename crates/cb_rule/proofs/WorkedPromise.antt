@@ -23,7 +23,7 @@ at_start = promises (Locked quiet) 3 pair_of _
     (opens 3 (omega arith) pair_of (replicate 517 0) refl (same_each 517 0) quiet accepted)
 
 -- ---- a pin on object 1, which lies at place 0 and was written
-abbrev lying : Shown
+abbrev pub lying : Shown
 lying = record {
   first = 3;
   objects = never ∷ is.Here 8 0 ∷ [];
@@ -32,7 +32,7 @@ lying = record {
   memory = [];
 }
 
-pin_ok : PinOk pair_of lying some_entries (stand 1 8 0 4 (9 ∷ []))
+pub pin_ok : PinOk pair_of lying some_entries (stand 1 8 0 4 (9 ∷ []))
 pin_ok = record { below = omega arith; there = refl; number = refl; contents = refl }
 
 no_such_object : PinOk pair_of lying some_entries (stand 2 8 0 0 []) → ⊥

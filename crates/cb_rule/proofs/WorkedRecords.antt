@@ -1,0 +1,195 @@
+-- Worked records of seats, and what stands beside the rule: what meets each definition, and what
+-- breaks one of its parts alone.
+use Rattle.std.proofs.Common.{◌≡◌, ◌≢◌, ℕ, ◌-◌, ◌≤◌, true, false, List, [], ◌∷◌}
+use Rattle.std.proofs.Common.{length, replicate, get_or, sym, refl, ap, inl, inr, true≢false}
+use Rattle.std.proofs.Common.{lit<, lit≤, arith}
+use Rattle.cb_types.specs.declared.config.Config.{Config}
+use Rattle.cb_world.specs.declared.event.Event.TheVariants.{Claimed}
+use Rattle.cb_world.specs.declared.object.Object.TheVariants as is
+use Rattle.cb_world.specs.declared.shown.Shown.{Shown}
+use Rattle.cb_world.specs.Shown.{never}
+use Rattle.cb_rule.specs.declared.view.View.{View}
+use Rattle.cb_rule.specs.History.{Follows, holding_words, no_value, value_of}
+use Rattle.cb_rule.specs.Lists.{total}
+use Rattle.cb_rule.specs.Locking.{is_turn}
+use Rattle.cb_rule.specs.Records.{RecordOk, SeatOk}
+use Rattle.cb_rule.specs.Ruled.{Beside, IsAlike, IsSteady}
+use Rattle.cb_rule.specs.Slot.{Table}
+use Rattle.cb_rule.specs.Steps.{blank, freed_seen, look_at, nothing, opener, stand}
+use Rattle.cb_rule.proofs.Seating.{never_now}
+use Rattle.cb_rule.proofs.WorkedHistory.{freed, made, some_entries, written}
+use Rattle.cb_rule.proofs.WorkedLocking.{far, seen, turn}
+use Rattle.cb_rule.proofs.WorkedPromise.{lying, pin_ok}
+use Rattle.cb_rule.proofs.WorkedViews.{here_full, here_word, pair_of}
+
+-- ---- what entries leave, and which may come next
+left_by_a_write : value_of written ≡ holding_words 8 (9 ∷ [])
+left_by_a_write = refl
+
+left_by_a_free : value_of freed ≡ no_value
+left_by_a_free = refl
+
+make_follows : Follows 3 0 no_value made
+make_follows = inl (record { never = refl; number = refl; kept = refl; nothing = refl })
+
+write_follows_none : Follows 3 0 no_value written → ⊥
+write_follows_none (inl m) = let e = m.number in omega (arith, e)
+write_follows_none (inr c) = true≢false c.there
+
+numbered : (is_turn 1 (turn (far 1) (far 2)) ≡ true) × (is_turn 2 (turn (far 1) (far 2)) ≡ false)
+numbered = (refl, refl)
+
+-- ---- a record that made object 1 and wrote it
+abbrev seat : View
+seat = record (opener pair_of) {
+  written = written ∷ made ∷ [];
+  pins = stand 1 8 0 4 (9 ∷ []) ∷ [];
+}
+
+record_ok : RecordOk pair_of 3 some_entries seat
+record_ok = record {
+  written = (inl refl, (inr (inr (inl refl)), tt));
+  fresh = tt;
+  seen = tt;
+  peeked = tt;
+  looks = tt;
+  reached = lit≤ tt;
+  told = tt;
+  began = λ h low. never_now some_entries h;
+  past = tt;
+}
+
+-- records where there is no entry of all
+abbrev Alone : View → Type 0
+Alone u = RecordOk pair_of 3 [] u
+
+wrote_none : Alone record (opener pair_of) { written = made ∷ [] } → ⊥
+wrote_none r = r.written.0
+
+wrote_none_in_a_turn : Alone record (opener pair_of) { fresh = made ∷ [] } → ⊥
+wrote_none_in_a_turn r = r.fresh.0
+
+read_none : Alone record (opener pair_of) { seen = freed_seen 1 5 ∷ [] } → ⊥
+read_none r = r.seen.0.1
+
+peeked_none : Alone record (opener pair_of) {
+  peeked = record { handle = 1; version = 3; index = 0; word = 7 } ∷ [];
+} → ⊥
+peeked_none r = r.peeked.0.1
+
+looked_at_none : Alone record (opener pair_of) { looks = look_at 1 (here_word 8) ∷ [] } → ⊥
+looked_at_none r = (r.looks.0 (here_full (here_word 8) refl)).1
+
+began_too_late : Alone record (opener pair_of) { since = 1 } → ⊥
+began_too_late r = let e = r.reached in omega (arith, e)
+
+-- a claim that tells of a version below the first one
+told_too_early : Alone record (opener pair_of) {
+  acts = Claimed 1 (here_word 8) 2 (7 ∷ []) ∷ [];
+} → ⊥
+told_too_early r = let e = r.told.0.0 in omega (arith, e)
+
+abbrev away_early : Shown
+away_early = record nothing { objects = never ∷ is.Far 8 2 (7 ∷ []) ∷ [] }
+
+knew_too_early : Alone record (opener pair_of) { start = away_early } → ⊥
+knew_too_early r = let e = (r.began 1 (lit< tt)).0 in omega (arith, e)
+
+turn_told_too_early : Alone record (opener pair_of) {
+  turns = record (turn (far 0) (far 1)) {
+    acts = Claimed 1 (here_word 8) 2 (7 ∷ []) ∷ [];
+  } ∷ [];
+} → ⊥
+turn_told_too_early r = let e = r.past.0.told.0.0 in omega (arith, e)
+
+-- ---- and its seat
+seat_ok : SeatOk pair_of [] lying some_entries seat
+seat_ok = record {
+  same_config = refl;
+  pins = (pin_ok, tt);
+  few = lit≤ tt;
+  claims = tt;
+  knows = λ holds. absurd (true≢false (sym holds));
+  lasting = record_ok;
+}
+
+abbrev Seat : View → Type 0
+Seat u = SeatOk pair_of [] lying some_entries u
+
+of_another_table : Seat record seat { config = record pair_of { room = 7 } } → ⊥
+of_another_table s = let e : 7 ≡ 6 = ap (λ (c : Config). c.room) s.same_config in omega (arith, e)
+
+pins_an_old_version : Seat record seat { pins = stand 1 8 0 3 (9 ∷ []) ∷ [] } → ⊥
+pins_an_old_version s = let e = s.pins.0.number in omega (arith, e)
+
+pins_too_many : Seat record seat { pins = replicate 18 (stand 1 8 0 4 (9 ∷ [])) } → ⊥
+pins_too_many s = let e : 18 ≤ 17 = s.few in omega (arith, e)
+
+claims_no_object : Seat record seat {
+  claims = record {
+    handle = 2;
+    len = 8;
+    place = 0;
+    word = 65538;
+    version = 4;
+    old = 9 ∷ [];
+    stamp = 4;
+    memory = 9 ∷ [];
+  } ∷ [];
+} → ⊥
+claims_no_object s = let e = s.claims.0.below in omega (arith, e)
+
+knows_another_world : Seat record seat { holds = true } → ⊥
+knows_another_world s = let e : 1 ≡ 3 = ap (λ (k : Shown). k.first) (s.knows refl) in
+    omega (arith, e)
+
+lasts_not : Seat record seat { since = 4 } → ⊥
+lasts_not s = let e = s.lasting.reached in omega (arith, e)
+
+-- ---- what may stand beside the rule
+abbrev anything : Beside
+anything c s known = Unit {0}
+
+steady : IsSteady anything
+steady = record {
+  stays = λ c s ws known known' id v w at lock alike same first before. tt;
+  splits = λ c s known id v left right at alike free none before. tt;
+  joins = λ c s known id v other w at off there free before. tt;
+}
+
+alike : (v : View) → IsAlike v v
+alike v = record { holds = refl; took = refl; turns = refl }
+
+-- a fact of another word than the lock
+abbrev word_is_zero : Beside
+word_is_zero c s known = get_or s.words 1 0 ≡ 0
+
+abbrev one_view : List ℕ → Table
+one_view ws = record { words = ws; homes = []; views = seat ∷ [] }
+
+changed_by_a_word : IsSteady word_is_zero → ⊥
+changed_by_a_word b = let e : 1 ≡ 0 = b.stays pair_of (one_view (0 ∷ 0 ∷ [])) (0 ∷ 1 ∷ []) seen seen
+    0 seat seat refl refl (alike seat) (inl refl) refl refl in omega (arith, e)
+
+-- how many seats there are
+abbrev is_one_seat : Beside
+is_one_seat c s known = length s.views ≡ 1
+
+changed_by_a_split : IsSteady is_one_seat → ⊥
+changed_by_a_split b = let e : 2 ≡ 1 = b.splits pair_of (one_view []) seen 0 seat seat
+    (blank pair_of) refl (alike seat) refl refl refl in omega (arith, e)
+
+-- that no seat made two turns
+abbrev turner : View
+turner = record seat { turns = turn (far 0) (far 1) ∷ [] }
+
+abbrev one_turn_each : Beside
+one_turn_each c s known = total (λ (u : View). length u.turns - 1) s.views ≡ 0
+
+changed_by_a_join : IsSteady one_turn_each → ⊥
+changed_by_a_join b = let e : 1 ≡ 0 = b.joins pair_of
+    (record { words = []; homes = []; views = turner ∷ turner ∷ [] }) seen 0 turner 1 turner refl
+    one_zero refl refl refl in omega (arith, e)
+  where
+    one_zero : ◌≢◌ {A = ℕ} 1 0
+    one_zero e = omega (arith, e)
