@@ -64,5 +64,6 @@ pub mod WorkedSuits
 pub mod WorkedLines
 pub mod WorkedHere
 pub mod WorkedPins
+pub mod WorkedSays
 pub mod WorkedAlone
 pub mod Laws

@@ -100,13 +100,13 @@ one_name_less : AreNamesOf [] (made 4 ∷ []) → ⊥
 one_name_less same = some_none (same a)
 
 -- ---- a record that has an entry of object 1
-abbrev part : View
+abbrev pub part : View
 part = record (blank two) { written = entry 1 3 8 [] (2826 ∷ []) ∷ [] }
 
-knows_one : Knows 1 part
+pub knows_one : Knows 1 part
 knows_one = inl (_, inl refl, refl)
 
-knows_no_other : {h : ℕ} → ◌≢◌ {A = ℕ} 1 h → Knows h part → ⊥
+pub knows_no_other : {h : ℕ} → ◌≢◌ {A = ℕ} 1 h → Knows h part → ⊥
 knows_no_other n (inl (e, inl is, at)) = n (ap (λ x. x.handle) is ∙ at)
 knows_no_other n (inl (e, inr has, at)) = absurd has
 knows_no_other n (inr (s, has, at)) = absurd has

@@ -20,10 +20,10 @@ abbrev pub two : Config
 two = record { k = 1; r = 1; nodes = 2; frames = 1; room = 6; handles = 2; turns = 0 }
 
 -- two pins, on object 1 at version 4 and before on object 0 at version 3
-abbrev newer : Stand
+abbrev pub newer : Stand
 newer = stand 1 8 5 4 (2826 ∷ [])
 
-abbrev older : Stand
+abbrev pub older : Stand
 older = stand 0 8 6 3 (7 ∷ [])
 
 abbrev pub pinning : View
@@ -223,7 +223,7 @@ asks_to_leave : goes_in two Leaves pinning (answer.Left 2) (record pinning { pin
 asks_to_leave = left_two
 
 -- ---- the pins that a lane keeps beside its pass
-abbrev kept : Stand → Pin
+abbrev pub kept : Stand → Pin
 kept s = record {
   handle = record { n = s.handle };
   version = s.version;

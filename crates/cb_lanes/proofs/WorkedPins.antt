@@ -26,20 +26,20 @@ use Rattle.cb_lanes.specs.Scopes.{NamedPin, Scope, newest_on, without_newest, na
 
 -- ---- scopes
 
-abbrev a : List ℕ
+abbrev pub a : List ℕ
 a = 97 ∷ []
 
-abbrev b : List ℕ
+abbrev pub b : List ℕ
 b = 98 ∷ []
 
-abbrev c : List ℕ
+abbrev pub c : List ℕ
 c = 99 ∷ []
 
-abbrev on : List ℕ → ℕ → NamedPin
+abbrev pub on : List ℕ → ℕ → NamedPin
 on name version = record { name = name; version = version }
 
 -- a pinned at version 1, then b at 5, then a again, at 2
-abbrev three : Scope
+abbrev pub three : Scope
 three = on a 2 ∷ on b 5 ∷ on a 1 ∷ []
 
 the_newest_counts : newest_on a three ≡ Some 2
@@ -78,7 +78,7 @@ a_leave_takes_all = refl
 a_peek_takes_none : scope_after three (Peek a) (Bytes 2 (7 ∷ [])) ≡ three
 a_peek_takes_none = refl
 
-abbrev by : ℕ → Request → Reply → Answer
+abbrev pub by : ℕ → Request → Reply → Answer
 by lane request reply = record { lane = record { n = lane }; line = 2; request = request; reply = reply }
 
 abbrev two_lanes : List Answer
@@ -92,7 +92,7 @@ the_others_pins = refl
 
 -- ---- what a scope says of an answer
 
-abbrev full : Scope
+abbrev pub full : Scope
 full = replicate 16 (on a 1)
 
 full_is_told : ScopeSays (Some 0) full (Pin b) ScopeFull
@@ -180,7 +180,7 @@ a_filter_tells_none : ScopeSays (Some 0) three (Filter c) (Pinned 0) → ⊥
 a_filter_tells_none says = omega (arith, (says 0 refl).0)
 
 -- a run of one lane, line by line
-abbrev run : ℕ → List Answer
+abbrev pub run : ℕ → List Answer
 run left = by 1 (Make a (7 ∷ [])) (Made (record { n = 0 }) 1) ∷ by 1 (Pin a) (Version 1)
     ∷ by 1 (Peek a) (Bytes 1 (7 ∷ [])) ∷ by 1 Leave (Left left) ∷ []
 

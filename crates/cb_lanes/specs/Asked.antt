@@ -11,7 +11,12 @@ asked a = record { lane = a.lane; line = a.line; request = a.request }
 
 -- the answer to a line, with this request and this reply
 abbrev pub answer_to : Line → Request → Reply → Answer
-answer_to l request reply = record { lane = l.lane; line = l.line; request = request; reply = reply }
+answer_to l request reply = record {
+  lane = l.lane;
+  line = l.line;
+  request = request;
+  reply = reply;
+}
 
 -- the reply is one that the line may have
 abbrev pub HasLineReply : Answer → Type 0

@@ -1,4 +1,5 @@
--- What a lane that runs in a thread of its own is given, and what it adds to the record of its pass.
+-- What a lane that runs in a thread of its own is given, and what it adds to the record of its
+-- pass.
 use Rattle.std.specs.Prelude.{◌≡◌, ℕ, List, [], ◌∷◌, ◌++◌, Option, Some, None, if◌then◌else◌}
 use Rattle.std.specs.List.{AllByRecursion}
 use Rattle.std.specs.Str.{bytes_eq}

@@ -8,8 +8,8 @@ use Rattle.cb_world.specs.World.{WorldState, IsKnown}
 use Rattle.cb_core.specs.NowIn.{AreGone}
 
 -- Whoever holds the world knows of each object what the plain map has at its handle after these
--- answers, or that it is gone: exactly where it is far, and its set has lost more shards than it has
--- parities.
+-- answers, or that it is gone: exactly where it is far, and its set has lost more shards than it
+-- has parities.
 pub record HoldsAnswers (w : WorldState) (answers : List Answer) : Type 0 where
   pub shown : Shown
   pub known : IsKnown w.desk w.far shown

@@ -13,8 +13,9 @@ use Rattle.cb_lanes.specs.Names.{Names, AreKept, handle_in}
 -- A line was answered in a world with these names and answers, where these lanes have the lines
 -- behind it: the line leads to a sound world, with the reply of its answer; its lane rests from
 -- there; the handle of a make is kept, and the answer stands behind those before.
-pub record LineAnswered (side : Side) (line : Line) (later : List ℕ) (w : WorldState) (names : Names)
-    (answers : List Answer) (rested : WorldState) (kept : Names) (all : List Answer) : Type 0 where
+pub record LineAnswered (side : Side) (line : Line) (later : List ℕ) (w : WorldState)
+    (names : Names) (answers : List Answer) (rested : WorldState) (kept : Names)
+    (all : List Answer) : Type 0 where
   pub reply : Reply
   pub between : WorldState
   pub step : LineStep side line.lane.n (handle_in names line.request) line.request w reply between

@@ -22,7 +22,8 @@ use Rattle.cb_lanes.specs.CompactsHere.{CompactsHere}
 use Rattle.cb_lanes.specs.declared.side.Side.{Side}
 use Rattle.cb_lanes.specs.declared.side.Side.TheVariants as parities
 use Rattle.cb_lanes.specs.GivingBack.{GivesAll, Rests, lines_of}
-use Rattle.cb_lanes.specs.LineGoes.{Goes, Calls, Pins, Peeks, Unpins, Leaves, CallGoes, ObjectGoes, OtherGoes, LineGoes}
+use Rattle.cb_lanes.specs.LineGoes.{Goes, Calls, Pins, Peeks, Unpins, Leaves, CallGoes, ObjectGoes}
+use Rattle.cb_lanes.specs.LineGoes.{OtherGoes, LineGoes}
 
 -- A peek leaves the world as it is: a seat without a pin on the object is told so, and one that has
 -- a pin is shown the bytes that the object has, at the version of its newest pin on it.
@@ -60,8 +61,8 @@ pub data PinLine (seat h : ℕ) (w : WorldState) (r : Reply) (new : WorldState) 
   at_once : PinEvent seat h w r new → (r ≡ answer.NotHere → ⊥) → PinLine seat h w r new
   stays_far : IsFarToPin seat h w → SwapEvent seat h w r new → (IsInReply r → ⊥)
       → PinLine seat h w r new
-  swapped_in : (m : WorldState) (q : Reply) → IsFarToPin seat h w → SwapEvent seat h w q m → IsInReply q
-      → PinEvent seat h m r new → PinLine seat h w r new
+  swapped_in : (m : WorldState) (q : Reply) → IsFarToPin seat h w → SwapEvent seat h w q m
+      → IsInReply q → PinEvent seat h m r new → PinLine seat h w r new
 
 -- a compaction, by who makes the parities
 abbrev pub CompactsAt : Side → ℕ → WorldState → Reply → WorldState → Type 0

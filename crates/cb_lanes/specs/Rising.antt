@@ -12,9 +12,9 @@ abbrev pub FreedIsLast : View → Type 0
 FreedIsLast v = (h last n : ℕ) (freed : Bool) → HasVersion v h last true → HasVersion v h n freed
     → (n ≤ last) × (n ≡ last → freed ≡ true)
 
--- The answers of a lane, whatever answers gave the names before, are its own and rise from the record
--- v with which it started, once the record w that it leaves is part of one where each freed version
--- is the last.
+-- The answers of a lane, whatever answers gave the names before, are its own and rise from the
+-- record v with which it started, once the record w that it leaves is part of one where each freed
+-- version is the last.
 abbrev pub LaneRises : ℕ → List Named → List Answer → View → View → Type 0
 LaneRises lane names answers v w = (all : View) → HasAllOf w all → FreedIsLast all
     → (given : List Answer) → AreNamesOf names given

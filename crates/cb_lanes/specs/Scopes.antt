@@ -1,10 +1,12 @@
 -- The scope of a lane: its pins, as the answers tell them.
-use Rattle.std.specs.Prelude.{◌≡◌, ◌↔◌, ℕ, ◌≤◌, List, [], ◌∷◌, ◌++◌, length, nat_eq, Option, None, Some, if◌then◌else◌}
+use Rattle.std.specs.Prelude.{◌≡◌, ◌↔◌, ℕ, ◌≤◌, List, [], ◌∷◌, ◌++◌, length, nat_eq, Option, None}
+use Rattle.std.specs.Prelude.{Some, if◌then◌else◌}
 use Rattle.std.specs.List.{fold, sum_by}
 use Rattle.std.specs.Str.{bytes_eq}
 use Rattle.cb_types.specs.declared.answer.Answer.{Answer}
 use Rattle.cb_types.specs.declared.request.Request.{Request}
-use Rattle.cb_types.specs.declared.request.Request.TheVariants.{Write, Free, Pin, Peek, Unpin, Filter, Leave}
+use Rattle.cb_types.specs.declared.request.Request.TheVariants.{Write, Free, Pin, Peek, Unpin}
+use Rattle.cb_types.specs.declared.request.Request.TheVariants.{Filter, Leave}
 use Rattle.cb_types.specs.declared.reply.Reply.{Reply}
 use Rattle.cb_types.specs.declared.reply.Reply.TheVariants as answer
 use Rattle.cb_types.specs.Requests.{name_of}
@@ -22,7 +24,8 @@ Scope = List NamedPin
 -- the version of the newest pin on the name
 abbrev pub newest_on : List ℕ → Scope → Option ℕ
 newest_on name [] = None
-newest_on name (pin ∷ older) = if bytes_eq pin.name name then Some pin.version else newest_on name older
+newest_on name (pin ∷ older) =
+    if bytes_eq pin.name name then Some pin.version else newest_on name older
 
 -- the scope without its newest pin on the name
 abbrev pub without_newest : List ℕ → Scope → Scope
@@ -45,7 +48,8 @@ scope_after scope request reply = scope
 
 -- a lane's scope after one more answer
 abbrev pub scope_more : ℕ → Scope → Answer → Scope
-scope_more lane scope a = if nat_eq a.lane.n lane then scope_after scope a.request a.reply else scope
+scope_more lane scope a =
+    if nat_eq a.lane.n lane then scope_after scope a.request a.reply else scope
 
 -- a lane's scope after these answers
 abbrev pub scope_of : ℕ → List Answer → Scope

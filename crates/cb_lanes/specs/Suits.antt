@@ -9,8 +9,9 @@ use Rattle.cb_record.specs.Lists.{HasOne}
 use Rattle.cb_record.specs.Told.{Told}
 use Rattle.cb_record.specs.Upheld.{IsSeenLong}
 
--- Unmade is told exactly where the name has no handle, and of such a name nothing else; what is shown
--- is as long as what was read of that version; and no reply is one that such a line never has.
+-- Unmade is told exactly where the name has no handle, and of such a name nothing else; what is
+-- shown is as long as what was read of that version; and no reply is one that such a line never
+-- has.
 abbrev pub Suits : List Seen → Option ℕ → Event → Type 0
 Suits seen handle (FindsFull number) = Unit {0}
 Suits seen handle (Refused NewObject) = Unit {0}

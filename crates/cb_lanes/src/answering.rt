@@ -10,8 +10,8 @@ use cb_types::{Bytes, Handle, Job, Name, NoMemory, Reply, Request};
 use std::alloc::Global;
 use std::collections::HashMap;
 
-/// Answers one request of a lane by its caller, and keeps the handle of a name that it makes. A line
-/// costs a look at its name by its hash, and what the caller's call costs.
+/// Answers one request of a lane by its caller, and keeps the handle of a name that it makes. A
+/// line costs a look at its name by its hash, and what the caller's call costs.
 pub(crate) fn reply_to<'a, C: Caller>(
     alloc: Global,
     caller: &C,
@@ -75,7 +75,8 @@ fn make_named<'a, C: Caller>(
     requires well { C.well caller.now lane.old }
     ensures step { IfOk result (λ reply.
         C.goes caller.now (Calls (Job.Make bytes.now)) lane.old reply lane.new) }
-    ensures names { IfOk result (λ reply. AreKept names.old (Request.Make name.now bytes.now) reply names.new) }
+    ensures names { IfOk result (λ reply.
+        AreKept names.old (Request.Make name.now bytes.now) reply names.new) }
     ensures ready { IfOk result (λ reply. AreNamed (C.may_name caller.now lane.new) names.new) }
     ensures well { C.well caller.now lane.new }
 {

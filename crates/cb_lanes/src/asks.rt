@@ -9,7 +9,8 @@ ghost use Rattle.cb_shared.specs.Calls.{IsLack, TurnTries, the_handle};
 ghost use Rattle.cb_shared.specs.Joining.{unpinned_all};
 ghost use Rattle.cb_shared.specs.Passes.{IsPassOf, IsPinOf, record_of, stand_of};
 ghost use Rattle.cb_shared.specs.Turning.{KnowsOf};
-ghost use Rattle.cb_lanes.specs.Passing.{AreHeld, CallGives, PeekGoes, PeeksAll, PinGoes, PinTries, PinsAtLast, UnpinGoes};
+ghost use Rattle.cb_lanes.specs.Passing.{AreHeld, CallGives, PeekGoes, PeeksAll, PinGoes, PinTries};
+ghost use Rattle.cb_lanes.specs.Passing.{PinsAtLast, UnpinGoes};
 
 use crate::kept_pins::{KeptPins, MOST_PINS, keep_pin, newest_pin};
 use cb_shared::{Pass, Pin, PinAnswer, Shared, put_word};

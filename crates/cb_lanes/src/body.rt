@@ -1,10 +1,12 @@
 //! What a lane answers that runs beside others, in a thread of its own.
-ghost use Rattle.std.specs.Prelude.{◌≡◌, ℕ, List, [], ◌∷◌, ◌++◌, map, IfOk, IfErr, None, OnOk, OnErr};
+ghost use Rattle.std.specs.Prelude.{◌≡◌, ℕ, List, [], ◌∷◌, ◌++◌, map, IfOk, IfErr, None, OnOk};
+ghost use Rattle.std.specs.Prelude.{OnErr};
 ghost use Rattle.std.specs.List.{AllByRecursion};
 ghost use Rattle.cb_script.specs.Form.{IsRequest};
 ghost use Rattle.cb_shared.specs.Passes.{IsPassOf, record_of};
 ghost use Rattle.cb_lanes.specs.Asked.{asked, HasLineReply};
-ghost use Rattle.cb_lanes.specs.Bodies.{AddsBacked, AnswersOne, AreLinesOf, IsFront, KeepHandles, KnowsKept, KnowsNames, LaneGoes, LinesGo};
+ghost use Rattle.cb_lanes.specs.Bodies.{AddsBacked, AnswersOne, AreLinesOf, IsFront, KeepHandles};
+ghost use Rattle.cb_lanes.specs.Bodies.{KnowsKept, KnowsNames, LaneGoes, LinesGo};
 ghost use Rattle.cb_lanes.specs.Names.{kept_number};
 ghost use Rattle.cb_lanes.specs.Passing.{AreHeld, goes_in};
 ghost use Rattle.cb_lanes.specs.Rising.{LaneRises};
@@ -84,9 +86,9 @@ impl Names {
     }
 }
 
-/// Answers the lines of one lane in order, in whatever thread it is called. The names are those that
-/// were made before, with their handles. Behind each line the gate is told of it, and behind the
-/// last one all pins are given back. Where there is no memory for a line, the answers before it
+/// Answers the lines of one lane in order, in whatever thread it is called. The names are those
+/// that were made before, with their handles. Behind each line the gate is told of it, and behind
+/// the last one all pins are given back. Where there is no memory for a line, the answers before it
 /// and the pass come back. Waits.
 pub fn lane_body<R: Wait, G: Gate>(
     rt: &R,

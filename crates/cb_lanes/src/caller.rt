@@ -39,7 +39,8 @@ pub(crate) trait Caller {
     fn pin(&self, alloc: Global, lane: &mut Self::State, handle: Handle) -> Result<Reply, NoMemory>
         requires well { well self.now lane.old }
         requires named { may_name self.now lane.old handle.n }
-        ensures goes { IfOk result (λ reply. goes self.now (Pins handle.n) lane.old reply lane.new) }
+        ensures goes { IfOk result (λ reply.
+            goes self.now (Pins handle.n) lane.old reply lane.new) }
         ensures stays { IfOk result (λ reply.
             StayNamed (may_name self.now lane.old) (may_name self.now lane.new)) }
         ensures well { well self.now lane.new };
@@ -48,7 +49,8 @@ pub(crate) trait Caller {
     fn peek(&self, alloc: Global, lane: &mut Self::State, handle: Handle) -> Result<Reply, NoMemory>
         requires well { well self.now lane.old }
         requires named { may_name self.now lane.old handle.n }
-        ensures goes { IfOk result (λ reply. goes self.now (Peeks handle.n) lane.old reply lane.new) }
+        ensures goes { IfOk result (λ reply.
+            goes self.now (Peeks handle.n) lane.old reply lane.new) }
         ensures stays { IfOk result (λ reply.
             StayNamed (may_name self.now lane.old) (may_name self.now lane.new)) }
         ensures well { well self.now lane.new };
@@ -62,7 +64,8 @@ pub(crate) trait Caller {
     ) -> Result<Reply, NoMemory>
         requires well { well self.now lane.old }
         requires named { may_name self.now lane.old handle.n }
-        ensures goes { IfOk result (λ reply. goes self.now (Unpins handle.n) lane.old reply lane.new) }
+        ensures goes { IfOk result (λ reply.
+            goes self.now (Unpins handle.n) lane.old reply lane.new) }
         ensures stays { IfOk result (λ reply.
             StayNamed (may_name self.now lane.old) (may_name self.now lane.new)) }
         ensures well { well self.now lane.new };

@@ -1,5 +1,5 @@
-//! The lanes of a script: its lines are answered one after the other, on one thread, or those of one
-//! lane beside others.
+//! The lanes of a script: its lines are answered one after the other, on one thread, or those of
+//! one lane beside others.
 #![tactic(auto)]
 
 mod answering;

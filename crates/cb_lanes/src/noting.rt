@@ -48,8 +48,10 @@ fn note_answer(
     line: &Line,
     reply: Reply,
 ) -> Result<(), NoMemory>
-    ensures answer { IfOk result (λ done. answers.new ≡ answers.old ++ answer_to line.now line.now.request reply ∷ []) }
-    ensures losses { losses.old.items ≡ losses_of answers.old → IfOk result (λ done. losses.new.items ≡ losses_of answers.new) }
+    ensures answer { IfOk result (λ done.
+        answers.new ≡ answers.old ++ answer_to line.now line.now.request reply ∷ []) }
+    ensures losses { losses.old.items ≡ losses_of answers.old
+        → IfOk result (λ done. losses.new.items ≡ losses_of answers.new) }
     ensures stopped { OnErr result (answers.new ≡ answers.old) }
 {
     note_loss(losses, &line.request, &reply)?;
@@ -64,7 +66,8 @@ fn note_answer(
 /// Adds the loss of an answered line behind those before it, where it has one: the node of a crash
 /// that took place, with its epoch.
 pub fn note_loss(losses: &mut Vec<Loss>, request: &Request, reply: &Reply) -> Result<(), NoMemory>
-    ensures noted { IfOk result (λ done. losses.new.items ≡ losses.old.items ++ cons_option (loss_of request.now reply.now) []) }
+    ensures noted { IfOk result (λ done.
+        losses.new.items ≡ losses.old.items ++ cons_option (loss_of request.now reply.now) []) }
 {
     if let Some(loss) = loss_of(request, reply) {
         losses.push(loss)?;

@@ -34,8 +34,10 @@ fn give_newest(alloc: Global, world: &mut World, seat: u32) -> Result<(), NoMemo
     requires seat { seat < 64 }
     requires some { 1 ≤ length (pins_of_seat world.old.seats seat) }
     requires sound { IsSoundWorld world.old }
-    ensures gives { IfOk result (λ done. (end : WorldState) → GivesAll seat world.new end → GivesAll seat world.old end) }
-    ensures fewer { IfOk result (λ done. length (pins_of_seat world.old.seats seat) ≡ length (pins_of_seat world.new.seats seat) + 1) }
+    ensures gives { IfOk result (λ done. (end : WorldState) → GivesAll seat world.new end
+        → GivesAll seat world.old end) }
+    ensures fewer { IfOk result (λ done. length (pins_of_seat world.old.seats seat)
+        ≡ length (pins_of_seat world.new.seats seat) + 1) }
     ensures sound { IsSoundWorld world.new }
 {
     let pins = world.seats.pins(seat);
@@ -77,7 +79,8 @@ pub(crate) fn lines_by_lane(lines: &[Line]) -> [u32; LANES]
 pub(crate) fn take_line(left: &mut [u32; LANES], lane: u8) -> u32
     requires lane { lane < 16 }
     requires some { 1 ≤ slice_index left.old lane }
-    ensures left { (later : List ℕ) → AreLeft (lane ∷ later) left.old → AreLeft later left.new × (result ≡ lines_of lane later) }
+    ensures left { (later : List ℕ) → AreLeft (lane ∷ later) left.old
+        → AreLeft later left.new × (result ≡ lines_of lane later) }
 {
     let count = left[usize::from(lane)] - 1;
     left[usize::from(lane)] = count;

@@ -4,7 +4,8 @@ ghost use Rattle.cb_world.specs.World.{IsSoundWorld};
 ghost use Rattle.cb_core.specs.Jobs.{IsJob};
 ghost use Rattle.cb_core.specs.Events.{IsAtomic};
 ghost use Rattle.cb_core.specs.Step.{AtomicStep, Step};
-ghost use Rattle.cb_lanes.specs.LineStep.{CompactsAt, IsInReply, PeekStep, PinLine, TurnAt, goes_at};
+ghost use Rattle.cb_lanes.specs.LineStep.{CompactsAt, IsInReply, PeekStep, PinLine, TurnAt};
+ghost use Rattle.cb_lanes.specs.LineStep.{goes_at};
 
 use crate::caller::Caller;
 use crate::compacting::compact_here;

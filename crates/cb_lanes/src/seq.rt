@@ -105,8 +105,10 @@ fn answer_line<'a>(
     ensures line { (later : List ℕ) → AreLeft (line.now.lane.n ∷ later) left.old
         → IfOk result (λ done. LineAnswered side line.now later world.old names.old answers.old
         world.new names.new answers.new) }
-    ensures losses { losses.old.items ≡ losses_of answers.old → IfOk result (λ done. losses.new.items ≡ losses_of answers.new) }
-    ensures left { (later : List ℕ) → AreLeft (line.now.lane.n ∷ later) left.old → AreLeft later left.new }
+    ensures losses { losses.old.items ≡ losses_of answers.old
+        → IfOk result (λ done. losses.new.items ≡ losses_of answers.new) }
+    ensures left { (later : List ℕ) → AreLeft (line.now.lane.n ∷ later) left.old
+        → AreLeft later left.new }
     ensures sound { IsSoundWorld world.new }
 {
     let caller = SeatCaller {
