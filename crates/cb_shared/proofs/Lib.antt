@@ -45,6 +45,7 @@ pub mod WorkedWork
 pub mod WorkedTurned
 pub mod WorkedBrought
 pub mod WorkedReads
+pub mod WorkedFinds
 pub mod WorkedCalls
 pub mod WorkedTries
 pub mod Laws

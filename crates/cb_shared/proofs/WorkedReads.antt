@@ -11,10 +11,10 @@ use Rattle.cb_shared.specs.Reading.{IsReadHere, ReadFinds, looked, looked_freed,
 use Rattle.cb_shared.proofs.WorkedGround.{away, calm, full, moving, newest_made, part, pinned, word_in}
 
 -- ---- an object that is here
-abbrev eight : List ℕ
+abbrev pub eight : List ℕ
 eight = 10 ∷ 11 ∷ 0 ∷ 0 ∷ 0 ∷ 0 ∷ 0 ∷ 0 ∷ []
 
-eight_bytes : eight ≡ bytes_in (2826 ∷ []) 8
+pub eight_bytes : eight ≡ bytes_in (2826 ∷ []) 8
 unfolding bytes_in
 eight_bytes = refl
 
