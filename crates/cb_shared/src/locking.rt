@@ -23,12 +23,27 @@ pub(crate) fn lock_far<R: Wait>(rt: &R, top: &Top, seat: &mut Place, config: &Co
     requires of { IsOf top.now.table_id top.now.key config.now seat.old }
     ensures { TakesFar config.now result seat.old seat.new }
 {
-    let mut spins = 0;
     for _ in rt.forever() {
+        await_free(rt, top);
         match try_far(top, seat, config) {
             Some(far) => return far,
-            None => spins = pause(rt, top, spins),
+            None => {}
         }
+    }
+    unreachable!()
+}
+
+/// Waits until the lock's word is one that a free lock has. A look at the word alone is short, and
+/// moves no far state.
+fn await_free<R: Wait>(rt: &R, top: &Top)
+    requires word { 0 < top.now.table_id.words }
+{
+    let mut spins = 0;
+    for _ in rt.forever() {
+        if top.peek(0) % 2 == 0 {
+            return;
+        }
+        spins = pause(rt, top, spins);
     }
     unreachable!()
 }

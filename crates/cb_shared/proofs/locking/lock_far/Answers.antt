@@ -1,27 +1,24 @@
-use Rattle.std.proofs.Common.{◌∙◌, ◌≤◌, refl, arith}
+use Rattle.std.proofs.Common.{◌∙◌, refl}
 use Rattle.cb_shared.proofs.LockAlone.{takes_from}
 use Rattle.cb_shared.proofs.WriteSteps.{of_moves}
 use Rattle.cb_shared.proofs.locking.lock_far.Goals as goal
 
 pub loop-init : goal.loop-init
-loop-init g c = ((refl, refl, refl), (let z : 0 ≤ 100 = omega arith in z))
+loop-init g c = (refl, refl, refl)
 
 pub try_far-requires : goal.try_far-requires
 try_far-requires g c = record {
   of = of_moves c.args.top.now.table_id c.args.top.now.key c.args.config.now c.args.seat.now
-      c.loop.seat c.args.seat.now.me.0 c.requires.of c.loop.invariant.0 refl refl;
+      c.loop.seat c.args.seat.now.me.0 c.requires.of c.loop.invariant refl refl;
 }
 
 pub returns-in-Some-try_far : goal.returns-in-Some-try_far
 returns-in-Some-try_far g c = takes_from c.args.config.now c.in-Some-try_far.far c.args.seat.now c.loop.seat
-    c.try_far.new.seat c.loop.invariant.0 (c.try_far.ensures.took c.in-Some-try_far.far c.in-Some-try_far.is)
+    c.try_far.new.seat c.loop.invariant (c.try_far.ensures.took c.in-Some-try_far.far c.in-Some-try_far.is)
 
 pub loop-preserved : goal.loop-preserved
-loop-preserved g c = let i = c.loop.invariant.0 in let m = c.try_far.ensures.held c.in-None-try_far.is in (
-  (
-    m.0 ∙ i.0,
-    m.1 ∙ i.1,
-    m.2 ∙ i.2,
-  ),
-  c.pause-spins.ensures.few,
+loop-preserved g c = let i = c.loop.invariant in let m = c.try_far.ensures.held c.in-None-try_far.is in (
+  m.0 ∙ i.0,
+  m.1 ∙ i.1,
+  m.2 ∙ i.2,
 )
