@@ -19,7 +19,7 @@ use Rattle.cb_rule.specs.Own.{IsAlone}
 use Rattle.cb_rule.specs.Rule.{AreSized}
 use Rattle.cb_rule.specs.Seats.{pins_on}
 use Rattle.cb_rule.specs.Slot.{Sat, Slot}
-use Rattle.cb_rule.specs.Steps.{IsNewest, held_at, opener, version_seen, with_freed, with_look, with_pin}
+use Rattle.cb_rule.specs.Steps.{IsNewest, TellsPins, held_at, opener, version_seen, with_freed, with_look, with_pin}
 use Rattle.cb_rule.specs.Words.{base}
 use Rattle.cb_shared.specs.declared.answers.PinAnswer.TheVariants as pins
 use Rattle.cb_shared.specs.declared.answers.WriteAnswer.TheVariants as writes
@@ -324,7 +324,7 @@ glanced_gone p q e g = last_is_freed [] (subst (HasLast 1 8) e
 -- ---- the last entry that a record wrote
 made_is : (e : Entry) → Has e (made ∷ []) → made ≡ e
 made_is e (inl is) = is
-made_is e (inr none) = absurd none
+made_is e (inr lacks) = absurd lacks
 
 last_unwritten : HasLast 1 8 (opener two) → ⊥
 last_unwritten x = x.wrote
@@ -357,9 +357,10 @@ loads_last = (
   λ h q. let same : 1 ≡ h = omega (arith, q) in (
     (λ f. absurd (eqb-false 2 0 refl (ap state_number f))),
     (λ _. ap (λ (j : ℕ). let z : Sat = (with_look j calm whole, []) in z) same),
-    λ _. subst (λ (j : ℕ). (calm < 2 ^ 53) × (pins_on j whole ≤ pins_of calm)
-        × (IsAlone j whole → pins_of calm ≡ pins_on j whole)) same
-        (lit< tt, lit≤ tt, λ _. refl),
+    subst (λ (j : ℕ). TellsPins j calm whole) same record {
+      here = λ _. (lit< tt, lit≤ tt, λ _. refl);
+      away = λ far. absurd (far refl);
+    },
   ),
   λ h q here. let same : 1 ≡ h = omega (arith, q) in
       subst (λ (j : ℕ). IsLastAlone j 8 whole) same (λ _. has_last),
