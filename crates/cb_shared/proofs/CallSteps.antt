@@ -21,6 +21,7 @@ use Rattle.cb_record.specs.Deeds.{deed, happened, happening}
 use Rattle.cb_record.specs.Parts.{Part, Grows, grown, nothing_more, sum}
 use Rattle.cb_shared.specs.declared.reading.ReadAnswer.{ReadAnswer}
 use Rattle.cb_shared.specs.declared.reading.ReadAnswer.TheVariants as found
+use Rattle.cb_shared.specs.Making.{MakesNew, TriesNew}
 use Rattle.cb_shared.specs.Reading.{FindsOther, FindsWord, ReadFinds, looked}
 use Rattle.cb_shared.specs.Turning.{FindsFreed, KnowsIt, TurnAdds, TurnBy, answer_of, freed_of, made_by, made_in, object_of, turn_part, with_own}
 use Rattle.cb_shared.proofs.ReadParts.{grown_nothing, grown_sum}
@@ -343,6 +344,19 @@ pub known_still : (on : ℕ → Type 0) (job : Job) (o : Option ℕ) (v w : View
     → KnowsIt o v → Stops on job v w → KnowsIt o w
 known_still on job o v w knows (d, x, grew) =
     subst (KnowsIt o) (sym grew) (know_grown o d v knows)
+
+-- a make behind such tries
+new_before : (first : ℕ) (job : Job) (r : Reply) (v w : View) → Stops AtNone job v w
+    → MakesNew first job r w → MakesNew first job r v
+new_before first (jobs.Make bytes) (answer.Made h n) v w x new =
+    (new.0, λ knows. new.1 (known_still AtNone (jobs.Make bytes) (Some h.n) v w knows x))
+new_before first (jobs.Make bytes) r v w x new = tt
+new_before first job r v w x new = tt
+
+pub new_at_last : (first : ℕ) (job : Job) (o : Option Reply) (r : Reply) (v w : View) → o ≡ Some r
+    → Stops AtNone job v w → TriesNew first job o w → MakesNew first job r v
+new_at_last first job o r v w is x new = new_before first job r v w x
+    (subst (λ (z : Option Reply). TriesNew first job z w) is new)
 
 pub stops_then : (on : ℕ → Type 0) (job : Job) (v w u : View) → Stops on job v w
     → Stops on job w u → Stops on job v u

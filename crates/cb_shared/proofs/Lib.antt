@@ -48,4 +48,5 @@ pub mod WorkedReads
 pub mod WorkedFinds
 pub mod WorkedCalls
 pub mod WorkedTries
+pub mod WorkedMaking
 pub mod Laws

@@ -1,6 +1,7 @@
 -- The far lock is taken and given back by the rule of the table, whose key has the configuration.
-use Rattle.std.proofs.Common.{◌≡◌, ℕ, ◌*◌, ◌%◌, ◌<◌, ◌≤◌, List, [], ◌∷◌, ◌++◌, Option, None, Some, sym, ap, ◌∙◌, subst, eqb}
-use mathlib.Core.Option.{none}
+use Rattle.std.proofs.Common.{◌≡◌, ℕ, zero, suc, ◌*◌, ◌%◌, ◌<◌, ◌≤◌, List, [], ◌∷◌, ◌++◌, Option, None, Some, true, set, refl, sym, ap, ◌∙◌, subst, eqb}
+use mathlib.Core.Option.{none, some, some-ne-none}
+use lib.ListN.{get_elem?}
 use prog.Atomic.{either}
 use Rattle.atomic_table.specs.Table.{step, rest, Allows}
 use Rattle.cb_types.specs.declared.config.Config.{Config}
@@ -8,27 +9,52 @@ use Rattle.cb_types.specs.declared.job.Job.{Job}
 use Rattle.cb_types.specs.declared.reply.Reply.{Reply}
 use Rattle.cb_world.specs.FarState.{FarState}
 use Rattle.cb_world.specs.declared.entry.Entry.{Entry}
+use Rattle.cb_world.specs.declared.shown.Shown.{Shown}
 use Rattle.cb_rule.specs.declared.view.View.{View}
 use Rattle.cb_rule.specs.Lists.{Each}
 use Rattle.cb_rule.specs.Locking.{Locked, Stood}
 use Rattle.cb_rule.specs.LockSteps.{HasGiven, MayGive, gave, gave_lock, took, took_lock}
 use Rattle.cb_rule.specs.Rule.{AreSized}
 use Rattle.cb_rule.specs.Ruled.{Ruled}
-use Rattle.cb_rule.specs.Slot.{Sat, Slot}
+use Rattle.cb_rule.specs.Slot.{Sat, Slot, Table}
 use Rattle.cb_rule.specs.Steps.{Knows}
 use Rattle.cb_rule.proofs.Laws.{gives_lock, takes_lock}
+use Rattle.cb_shared.specs.Making.{took_first}
 use Rattle.cb_shared.specs.Places.{Moves, Place}
 use Rattle.cb_shared.specs.Turning.{Did, made_by}
 use Rattle.cb_shared.specs.UnderLock.{GivesFar, IsEnding, Takes, TakesFar}
 use Rattle.cb_shared.proofs.Alone.{at_key}
 
-pub takes_lock_at : (first : ℕ) (c k : Config) → k ≡ c → (slots id old : ℕ) (me : Sat)
-    → 1 ≤ me.0.share → old % 2 ≡ 0
+set_there : (vs : List View) (id : ℕ) (v w : View) → get_elem? vs id ≡ some v
+    → get_elem? (set vs id w) id ≡ some w
+set_there [] id v w e = absurd (some-ne-none v (sym e))
+set_there (x ∷ xs) zero v w e = refl
+set_there (x ∷ xs) (suc id) v w e = set_there xs id v w e
+
+-- the holder of the lock knows which version makes give
+knows_first : (first : ℕ) (c : Config) (s : Table) (id : ℕ) (w : View) → Ruled (Locked Did) first c s
+    → get_elem? s.views id ≡ some w → w.holds ≡ true → w.known.first ≡ first
+knows_first first c s id w r at holds =
+    ap (λ (z : Shown). z.first) ((r.kept.seats id w at).knows holds) ∙ r.starts
+
+pub takes_lock_at : (first one : ℕ) → one ≡ first → (c k : Config) → k ≡ c → (slots id old : ℕ)
+    (me : Sat) → 1 ≤ me.0.share → old % 2 ≡ 0
     → Allows (Ruled (Locked Did) first k) slots id me 0 (λ x. either (eqb x old) 1 x)
-    (took (step slots 0 old 1 none) me)
-takes_lock_at first c k key slots id old me live even =
-    at_key first c k slots id me 0 (λ x. either (eqb x old) 1 x) (took (step slots 0 old 1 none) me) key
-    (takes_lock Did first c slots id me old live even)
+    (took_first one (step slots 0 old 1 none) me)
+takes_lock_at first one is c k key slots id old me live even s r long at low =
+    let a = at_key first c k slots id me 0 (λ x. either (eqb x old) 1 x)
+    (took (step slots 0 old 1 none) me) key (takes_lock Did first c slots id me old live even)
+    s r long at low in (
+      a.0,
+      a.1,
+      a.2,
+      a.3,
+      (
+        a.4,
+        λ e. knows_first first k _ id a.0 a.3 (set_there s.views id me.0 a.0 at)
+            (ap (λ (m : Sat). m.0.holds) (a.4.0 e).taken) ∙ sym is,
+      ),
+    )
 
 may_give : (c : Config) (job : Job) (reply : Option Reply) (me : Sat) (far : FarState)
     → IsEnding c job reply far me.0 → MayGive Did c job reply far [] (made_by job reply) me.0

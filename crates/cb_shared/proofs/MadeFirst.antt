@@ -1,5 +1,6 @@
 -- What a turn makes is one of the handles, at the first version, so it is its pass's own.
-use Rattle.std.proofs.Common.{◌≡◌, ℕ, ◌<◌, ◌&&◌, Bool, List, [], ◌∷◌, Ok, Err, Result, Option, Some, refl, sym, ap, ◌∙◌, subst, eqb, eq-eqb, arith}
+use Rattle.std.proofs.Common.{◌≡◌, ℕ, ◌<◌, ◌&&◌, Bool, List, [], ◌∷◌, Ok, Err, Result, Option, Some, refl, sym, ap, ◌∙◌, subst, eqb, eq-eqb, arith, inl, inr}
+use Rattle.std.specs.Prelude.{IfOk}
 use Rattle.cb_member.specs.declared.no_memory.NoMemory.{NoMemory}
 use Rattle.cb_types.specs.declared.config.Config.{Config}
 use Rattle.cb_types.specs.declared.handle.Handle.{Handle}
@@ -15,6 +16,7 @@ use Rattle.cb_world.specs.FarState.{FarState}
 use Rattle.cb_world.specs.Played.{played}
 use Rattle.cb_world.specs.World.{WorldState}
 use Rattle.cb_mutate.specs.MakeRule.{MakeRule}
+use Rattle.cb_evict.specs.EvictRule.{EvictRule}
 use Rattle.cb_core.specs.Parts.{Holding, WithRoom, at_once, no_room, won}
 use Rattle.cb_core.specs.Turned.{Makes, Turned, WinsRoom, done, worn}
 use Rattle.cb_core.specs.TurnLeaves.{OutcomeWrites}
@@ -23,11 +25,13 @@ use Rattle.cb_rule.specs.declared.view.View.{View}
 use Rattle.cb_rule.specs.Closing.{IsClosed}
 use Rattle.cb_rule.specs.Lists.{Each, Has}
 use Rattle.cb_rule.specs.Own.{Make as IsMadeIn}
+use Rattle.cb_rule.specs.Steps.{Knows}
 use Rattle.cb_rule.proofs.Laws.{hit}
 use Rattle.cb_record.specs.Backs.{Backs}
 use Rattle.cb_record.specs.Told.{Told}
 use Rattle.cb_record.specs.Upheld.{as_part}
 use Rattle.cb_record.proofs.Laws.{turn_of_make}
+use Rattle.cb_shared.specs.Making.{MakesNew}
 use Rattle.cb_shared.specs.Turning.{Did, DidAs, ReadsByPin, Slate, answer_of, held_by, made_by, slate_run, slate_shows}
 
 -- whether a reply is Made
@@ -59,6 +63,69 @@ made_is_first : (c : Config) (bytes : List ℕ) (h : Handle) (n : ℕ) (a b : Ho
 made_is_first c bytes h n a b (worn last is same ran) =
     absurd (let e : 1 ≡ 0 = ap is_made is in omega (arith, e))
 made_is_first c bytes h n a b (done less does) = roomed c bytes h n _ b does
+
+-- ---- the next handle of the far state that was taken, at its first version
+abbrev IsNextOf : Handle → ℕ → FarState → Type 0
+IsNextOf h n far = (h.n ≡ far.made) × (n ≡ far.first)
+
+make_is_next : (c : Config) (bytes : List ℕ) (h : Handle) (n : ℕ) (a b : Holding Slate)
+    → Makes slate_run slate_shows c bytes a (answer.Made h n) b → IsNextOf h n a.far
+make_is_next c bytes h n a b p = let m = p.rule.1 in (m.next, m.first)
+
+-- one that found no room left the far state as it was, and an eviction leaves what was made
+make_found_none : (c : Config) (bytes : List ℕ) (far new : FarState) (es : List Event)
+    → MakeRule c.handles bytes far new answer.NoFrame es → new ≡ far
+make_found_none c bytes far new es (less, place, left) = left.0
+
+evicted_still : (c : Config) (far new : FarState) (r : Reply) (es : List Event)
+    → EvictRule c far new r es → (new.made ≡ far.made) × (new.first ≡ far.first)
+evicted_still c far new r es x = elim x.answered [
+  | inl few ↦ (ap (λ (f : FarState). f.made) few.state, ap (λ (f : FarState). f.first) few.state)
+  | inr (inl few) ↦ (ap (λ (f : FarState). f.made) few.state, ap (λ (f : FarState). f.first) few.state)
+  | inr (inr both) ↦ (
+    ap (λ (f : FarState). f.made) both.evicted.state,
+    ap (λ (f : FarState). f.first) both.evicted.state,
+  )
+]
+
+roomed_next : (c : Config) (bytes : List ℕ) (h : Handle) (n : ℕ) (a b : Holding Slate)
+    → WithRoom c.frames (Makes slate_run slate_shows c bytes) (WinsRoom slate_run slate_shows c) a
+    (answer.Made h n) b → IsNextOf h n a.far
+roomed_next c bytes h n a b (at_once op ne) = make_is_next c bytes h n a b op
+roomed_next c bytes h n a b (no_room m why loose nodes op ev is) =
+    absurd (let e : 1 ≡ 0 = ap is_made is in omega (arith, e))
+roomed_next c bytes h n a b (won m q id op ev last ne) =
+    let z = make_is_next c bytes h n q b last in
+    let e = evicted_still c m.far q.far _ ev.events ev.rule.rule in
+    let s = make_found_none c bytes a.far m.far op.events op.rule in
+    (z.0 ∙ e.0 ∙ ap (λ (f : FarState). f.made) s, z.1 ∙ e.1 ∙ ap (λ (f : FarState). f.first) s)
+
+made_is_next : (c : Config) (bytes : List ℕ) (h : Handle) (n : ℕ) (a b : Holding Slate)
+    → Turned slate_run slate_shows ReadsByPin c (Make bytes) a (answer.Made h n) b
+    → IsNextOf h n a.far
+made_is_next c bytes h n a b (worn last is same ran) =
+    absurd (let e : 1 ≡ 0 = ap is_made is in omega (arith, e))
+made_is_next c bytes h n a b (done less does) = roomed_next c bytes h n _ b does
+
+-- so the record did not know it, where all that it knew was made by then
+of_new : (first : ℕ) (c : Config) (bytes : List ℕ) (r : Result Reply NoMemory) (start : Shown)
+    (es : List Event) (took gave : FarState) (v : View)
+    → DidAs c (Make bytes) (answer_of r) start es took gave → took.first ≡ first
+    → ((h : ℕ) → Knows h v → h < took.made) → IfOk r (λ reply. MakesNew first (Make bytes) reply v)
+of_new first c bytes (Ok (answer.Made h n)) start es took gave v did is made =
+    let z = made_is_next c bytes h n _ _ did in
+    (z.1 ∙ is, λ knows. let less = made h.n knows in let at = z.0 in omega (arith, less, at))
+of_new first c bytes (Ok r) start es took gave v did is made = tt
+of_new first c bytes (Err e) start es took gave v did is made = tt
+
+pub makes_new : (first : ℕ) (c : Config) (job : Job) (r : Result Reply NoMemory) (start : Shown)
+    (es : List Event) (took gave : FarState) (v : View)
+    → DidAs c job (answer_of r) start es took gave → took.first ≡ first
+    → ((h : ℕ) → Knows h v → h < took.made) → IfOk r (λ reply. MakesNew first job reply v)
+makes_new first c (Make bytes) r start es took gave v did is made =
+    of_new first c bytes r start es took gave v did is made
+makes_new first c job (Ok r) start es took gave v did is made = tt
+makes_new first c job (Err e) start es took gave v did is made = tt
 
 -- whether a reply is Full
 abbrev is_full : Reply → ℕ

@@ -134,13 +134,13 @@ pub knows_nothing : (h : ℕ) → Knows h newcomer → ⊥
 knows_nothing h (inl (e, none, is)) = none
 knows_nothing h (inr (s, none, is)) = none
 
-abbrev before : Sat
+abbrev pub before : Sat
 before = (newcomer, [])
 
-abbrev holder : Sat
+abbrev pub holder : Sat
 holder = (took_lock known (far 1) 0 newcomer, (0, Some (far 1)) ∷ [])
 
-has_taken : HasTaken before 2 holder
+pub has_taken : HasTaken before 2 holder
 has_taken = record {
   known = known;
   far = far 1;

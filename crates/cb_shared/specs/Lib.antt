@@ -12,6 +12,7 @@ pub mod Tallies
 pub mod PinLoads
 pub mod Reading
 pub mod Turning
+pub mod Making
 pub mod UnderLock
 pub mod Sealing
 pub mod Closing

@@ -8,6 +8,7 @@ ghost use Rattle.cb_core.specs.Jobs.{IsJob};
 ghost use Rattle.cb_rule.specs.Steps.{Knows};
 ghost use Rattle.cb_shared.specs.Calls.{AtNone, AtThis, IsAnswerTo, IsCalled, IsLack, IsNoReply, ReadGives, ReadTries, SaysAs, Stops, TellsOfIt, TurnGives, TurnTries, WriteAnswers, WriteTries, is_to_try_again, may_come_loose, the_handle};
 ghost use Rattle.cb_record.specs.Parts.{Part, Grows};
+ghost use Rattle.cb_shared.specs.Making.{MakesNew, TriesNew};
 ghost use Rattle.cb_shared.specs.Passes.{IsPassOf};
 ghost use Rattle.cb_shared.specs.Reading.{ReadFinds, looked};
 ghost use Rattle.cb_shared.specs.Turning.{KnowsOf, answer_of};
@@ -108,6 +109,8 @@ impl Shared {
         ensures of { IsPassOf self.now pass.new }
         ensures make { IfOk result (λ reply. TurnGives self.now.config (jobs.Make bytes.now) reply
             pass.old.seat.me.0 pass.new.seat.me.0) }
+        ensures new { IfOk result (λ reply. MakesNew self.now.board.shared.key.first
+            (jobs.Make bytes.now) reply pass.old.seat.me.0) }
         ensures error { OnErr result (Stops AtNone (jobs.Make bytes.now) pass.old.seat.me.0
             pass.new.seat.me.0) }
     {
@@ -166,6 +169,8 @@ impl Shared {
         ensures of { IsPassOf self.now pass.new }
         ensures turn { IfOk result (λ reply. TurnGives self.now.config job.now reply
             pass.old.seat.me.0 pass.new.seat.me.0) }
+        ensures new { IfOk result (λ reply. MakesNew self.now.board.shared.key.first job.now reply
+            pass.old.seat.me.0) }
         ensures error { OnErr result (Stops AtNone job.now pass.old.seat.me.0
             pass.new.seat.me.0) }
     {
@@ -193,6 +198,8 @@ impl Shared {
         ensures of { IsPassOf self.now pass.new }
         ensures turn { IfOk result (λ o. TurnTries self.now.config job.now o pass.old.seat.me.0
             pass.new.seat.me.0) }
+        ensures new { IfOk result (λ o. TriesNew self.now.board.shared.key.first job.now o
+            pass.old.seat.me.0) }
         ensures error { OnErr result (Stops AtNone job.now pass.old.seat.me.0
             pass.new.seat.me.0) }
     {

@@ -7,7 +7,7 @@ ghost use Rattle.cb_shared.specs.Turning.{answer_of};
 ghost use Rattle.cb_shared.specs.UnderLock.{GivesFar, IsEnding, Takes, TakesFar};
 
 use crate::board::{Place, Top};
-use crate::plays::{Deed, GiveLock, TakeLock};
+use crate::plays::{Deed, GiveLock, Opening, TakeLock};
 use cb_types::{Config, Job, NoMemory, Reply};
 use cb_world::Far;
 use std::hint;
@@ -21,7 +21,8 @@ const SPINS: u32 = 100;
 /// Waits until the far lock is free, and takes it with the far state.
 pub(crate) fn lock_far<R: Wait>(rt: &R, top: &Top, seat: &mut Place, config: &Config) -> Far
     requires of { IsOf top.now.table_id top.now.key config.now seat.old }
-    ensures { TakesFar config.now result seat.old seat.new }
+    ensures took { TakesFar config.now result seat.old seat.new }
+    ensures first { seat.new.me.0.known.first ≡ top.now.key.first }
 {
     for _ in rt.forever() {
         await_free(rt, top);
@@ -67,6 +68,8 @@ fn pause<R: Wait>(rt: &R, top: &Top, spins: u32) -> u32
 fn try_far(top: &Top, seat: &mut Place, config: &Config) -> Option<Far>
     requires of { IsOf top.now.table_id top.now.key config.now seat.old }
     ensures took { (far : FarState) → result ≡ Some far → TakesFar config.now far seat.old seat.new }
+    ensures first { (far : FarState) → result ≡ Some far
+        → seat.new.me.0.known.first ≡ top.now.key.first }
     ensures held { result ≡ None → Moves seat.old seat.new seat.old.me.0 }
 {
     let word = top.peek(0);
@@ -81,6 +84,8 @@ fn take_far(top: &Top, seat: &mut Place, config: &Config, word: u64) -> Option<F
     requires of { IsOf top.now.table_id top.now.key config.now seat.old }
     requires even { word % 2 ≡ 0 }
     ensures took { (far : FarState) → result ≡ Some far → TakesFar config.now far seat.old seat.new }
+    ensures first { (far : FarState) → result ≡ Some far
+        → seat.new.me.0.known.first ≡ top.now.key.first }
     ensures lost { result ≡ None → Moves seat.old seat.new seat.old.me.0 }
 {
     if !take_lock(top, seat, config, word) {
@@ -94,10 +99,22 @@ fn take_lock(top: &Top, seat: &mut Place, config: &Config, word: u64) -> bool
     requires of { IsOf top.now.table_id top.now.key config.now seat.old }
     requires even { word % 2 ≡ 0 }
     ensures won { result ≡ true → Takes word seat.old seat.new }
+    ensures first { result ≡ true → seat.new.me.0.known.first ≡ top.now.key.first }
+    ensures lost { result ≡ false → Moves seat.old seat.new seat.old.me.0 }
+{
+    take_lock_as::<Brand>(top, seat, config, word)
+}
+
+fn take_lock_as<W: Opening>(top: &Top, seat: &mut Place, config: &Config, word: u64) -> bool
+    requires of { IsOf top.now.table_id top.now.key config.now seat.old }
+    requires picks { W.first ≡ top.now.key.first }
+    requires even { word % 2 ≡ 0 }
+    ensures won { result ≡ true → Takes word seat.old seat.new }
+    ensures first { result ≡ true → seat.new.me.0.known.first ≡ top.now.key.first }
     ensures lost { result ≡ false → Moves seat.old seat.new seat.old.me.0 }
 {
     let _config = config;
-    top.compare_exchange::<TakeLock>(seat, 0, word, 1) == word
+    top.compare_exchange::<TakeLock<W>>(seat, 0, word, 1) == word
 }
 
 /// The far state, out of the slot that the seat has in hand.

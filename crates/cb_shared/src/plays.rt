@@ -4,9 +4,10 @@ ghost use Rattle.cb_types.specs.declared.config.Config.{Config};
 ghost use Rattle.cb_types.specs.declared.job.Job.{Job};
 ghost use Rattle.cb_types.specs.declared.job.Job.TheVariants.{Evict};
 ghost use Rattle.cb_types.specs.declared.reply.Reply.{Reply};
-ghost use Rattle.cb_rule.specs.LockSteps.{gave, took};
+ghost use Rattle.cb_rule.specs.LockSteps.{gave};
 ghost use Rattle.cb_rule.specs.Steps.{looked, told, loaded, claimed, stored, stamped, settled, pinned, unpinned, peeked, dated, read_held, claimed_here, stored_here, stamped_here, settled_here, put_back, blank, left_of, right_of, joined};
 ghost use Rattle.cb_shared.specs.Glances.{glanced_last};
+ghost use Rattle.cb_shared.specs.Making.{took_first};
 ghost use Rattle.cb_shared.specs.PinLoads.{read_pin};
 ghost use Rattle.cb_shared.specs.Tallies.{tallied};
 ghost use Rattle.cb_shared.specs.Turning.{made_by};
@@ -67,12 +68,23 @@ impl Play<Option<Far>, View> for Settle {
     ghost then = { settled };
 }
 
+/// The version that makes give. Each call picks it.
+pub trait Opening {
+    ghost first: { ℕ };
+}
+
+impl Opening for Brand {
+    ghost first = { 1 };
+}
+
 /// An exchange of the lock's word that takes the far lock and the slot of the far state, or finds
 /// another word.
-pub struct TakeLock;
+pub struct TakeLock<W> {
+    opening: PhantomData<W>,
+}
 
-impl Play<Option<Far>, View> for TakeLock {
-    ghost then = { took };
+impl<W: Opening> Play<Option<Far>, View> for TakeLock<W> {
+    ghost then = { took_first W.first };
 }
 
 /// What a turn was asked for, and answered: None where there was no memory. Each call picks it.

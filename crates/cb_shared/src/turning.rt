@@ -4,6 +4,7 @@ ghost use Rattle.cb_types.specs.Config.{IsAccepted};
 ghost use Rattle.cb_types.specs.declared.reply.Reply.TheVariants as answer;
 ghost use Rattle.cb_core.specs.Jobs.{IsJob};
 ghost use Rattle.cb_core.specs.Unavailable.{TurnTells};
+ghost use Rattle.cb_shared.specs.Making.{MakesNew};
 ghost use Rattle.cb_shared.specs.Passes.{IsAtRest, IsPassOf};
 ghost use Rattle.cb_shared.specs.Places.{IsOf};
 ghost use Rattle.cb_shared.specs.Turning.{KnowsOf, TurnBy};
@@ -42,6 +43,8 @@ impl Shared {
         ensures of { IsPassOf self.now pass.new }
         ensures turn { TurnBy self.now.config job.now result pass.old.seat.me.0
             pass.new.seat.me.0 }
+        ensures new { IfOk result (λ reply. MakesNew self.now.board.shared.key.first job.now reply
+            pass.old.seat.me.0) }
         ensures no_frame { IfOk result (λ reply. reply ≡ answer.NoFrame → ⊥) }
     {
         let config = self.config;
@@ -73,6 +76,7 @@ fn locked_turn<R: Wait>(
     ensures same { (seat.new.table_id ≡ seat.old.table_id) × (seat.new.id ≡ seat.old.id)
         × (seat.new.me.1 ≡ []) }
     ensures turn { TurnedBy config.now job.now result seat.old.me.0 seat.new.me.0 }
+    ensures new { IfOk result (λ reply. MakesNew top.now.key.first job.now reply seat.old.me.0) }
     ensures no_frame { IfOk result (λ reply. reply ≡ answer.NoFrame → ⊥) }
 {
     let far = lock_far(rt, top, seat, config);

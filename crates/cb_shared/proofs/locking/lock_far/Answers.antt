@@ -12,9 +12,13 @@ try_far-requires g c = record {
       c.loop.seat c.args.seat.now.me.0 c.requires.of c.loop.invariant refl refl;
 }
 
-pub returns-in-Some-try_far : goal.returns-in-Some-try_far
-returns-in-Some-try_far g c = takes_from c.args.config.now c.in-Some-try_far.far c.args.seat.now c.loop.seat
+pub returns-in-Some-try_far-clause-took : goal.returns-in-Some-try_far-clause-took
+returns-in-Some-try_far-clause-took g c = takes_from c.args.config.now c.in-Some-try_far.far c.args.seat.now c.loop.seat
     c.try_far.new.seat c.loop.invariant (c.try_far.ensures.took c.in-Some-try_far.far c.in-Some-try_far.is)
+
+pub returns-in-Some-try_far-clause-first : goal.returns-in-Some-try_far-clause-first
+returns-in-Some-try_far-clause-first g c =
+    c.try_far.ensures.first c.in-Some-try_far.far c.in-Some-try_far.is
 
 pub loop-preserved : goal.loop-preserved
 loop-preserved g c = let i = c.loop.invariant in let m = c.try_far.ensures.held c.in-None-try_far.is in (

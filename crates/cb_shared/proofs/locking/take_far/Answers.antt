@@ -22,3 +22,7 @@ returns-clause-took c far is = let p = c.args.seat.now in let q = c.take_out.new
     (takes_far c.args.config.now c.args.word c.take_out.result p c.take_lock.new.seat q
     c.requires.of.config (c.take_lock.ensures.won c.if-not-take_lock.false) c.take_out.ensures.same
     c.take_out.ensures.far)
+
+pub returns-clause-first : goal.returns-clause-first
+returns-clause-first c far is = ap (λ (m : Sat). m.0.known.first) c.take_out.ensures.same.2
+    ∙ c.take_lock.ensures.first c.if-not-take_lock.false

@@ -2,6 +2,7 @@ use Rattle.std.proofs.Common.{◌≤◌, List, ℕ, length, sym, subst}
 use Rattle.std.specs.Result.{IfOk, OnErr}
 use Rattle.cb_types.specs.declared.job.Job.TheVariants as jobs
 use Rattle.cb_shared.specs.Calls.{AtNone, Stops, TurnGives}
+use Rattle.cb_shared.specs.Making.{MakesNew}
 use Rattle.cb_shared.proofs.CallSteps.{err_always, so_far}
 use Rattle.cb_shared.proofs.runtime.Shared.make.Goals as goal
 
@@ -18,6 +19,11 @@ pub returns-clause-make : goal.returns-clause-make
 returns-clause-make g c = subst (λ (l : List ℕ). IfOk c.turn_until.result (λ reply.
     TurnGives c.args.self.now.config (jobs.Make l) reply c.args.pass.now.seat.me.0
     c.turn_until.new.pass.seat.me.0)) c.in_ok-copy_of.ensures.items c.turn_until.ensures.turn
+
+pub returns-clause-new : goal.returns-clause-new
+returns-clause-new g c = subst (λ (l : List ℕ). IfOk c.turn_until.result (λ reply.
+    MakesNew c.args.self.now.board.shared.key.first (jobs.Make l) reply c.args.pass.now.seat.me.0))
+    c.in_ok-copy_of.ensures.items c.turn_until.ensures.new
 
 pub returns-clause-error : goal.returns-clause-error
 returns-clause-error g c = subst (λ (l : List ℕ). OnErr c.turn_until.result

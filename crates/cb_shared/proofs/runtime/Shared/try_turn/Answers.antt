@@ -16,3 +16,6 @@ pub returns-else-is_answer-clause-turn : goal.returns-else-is_answer-clause-turn
 returns-else-is_answer-clause-turn g c = turn_in_vain c.args.self.now.config c.args.job.now
     c.in_ok-reply.reply c.args.pass.now.seat.me.0 c.turn.new.pass.seat.me.0 c.requires.called
     (c.is_answer.ensures.no c.if-is_answer.false) c.in_ok-reply.ensures.turn
+
+pub returns-then-is_answer-clause-new : goal.returns-then-is_answer-clause-new
+returns-then-is_answer-clause-new g c = c.in_ok-reply.ensures.new

@@ -71,3 +71,6 @@ invariant_of-pass g c = let f = subst (λ (o : Option ℕ). FreedMoves c.args.se
           c.locked_turn-reply.new.seat c.find_freed.new.seat c.requires.of.rest
           c.locked_turn-reply.ensures.turn f);
     }
+
+pub returns-clause-new : goal.returns-clause-new
+returns-clause-new g c = c.locked_turn-reply.ensures.new

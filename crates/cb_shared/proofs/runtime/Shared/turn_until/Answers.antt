@@ -1,6 +1,6 @@
 use Rattle.cb_shared.specs.Calls.{AtNone}
 use Rattle.cb_shared.specs.Turning.{object_of}
-use Rattle.cb_shared.proofs.CallSteps.{err_always, known_still, so_far, stops_then, turn_again, turn_at_last}
+use Rattle.cb_shared.proofs.CallSteps.{err_always, known_still, new_at_last, so_far, stops_then, turn_again, turn_at_last}
 use Rattle.cb_shared.proofs.runtime.Shared.turn_until.Goals as goal
 
 pub loop-init : goal.loop-init
@@ -31,3 +31,8 @@ loop-preserved g c = (
       c.args.pass.now.seat.me.0 c.loop.pass.seat.me.0 c.try_turn.new.pass.seat.me.0 c.in_default.is
       c.loop.invariant.1 c.in_ok-reply.ensures.turn,
 )
+
+pub returns-in-Some-2-clause-new : goal.returns-in-Some-2-clause-new
+returns-in-Some-2-clause-new g c = new_at_last c.args.self.now.board.shared.key.first
+    c.args.job.now c.in_ok-reply.field-0 c.in-Some-2.reply c.args.pass.now.seat.me.0
+    c.loop.pass.seat.me.0 c.in-Some-2.is c.loop.invariant.1 c.in_ok-reply.ensures.new
