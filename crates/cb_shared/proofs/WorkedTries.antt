@@ -56,7 +56,11 @@ finds_the_end_of_none x = last_is_freed [] (x.1.1 (inl refl))
 finds_a_pin : WriteFinds 1 1 (12 ∷ []) (place.Pinned 1) part (looked 1 pinned)
 finds_a_pin = (
   pinned,
-  ((refl, lit≤ tt), (refl, lit≤ tt, λ l. absurd (shared_part 1 l)), λ l. absurd (shared_part 1 l)),
+  (
+    (refl, lit≤ tt),
+    (refl, lit≤ tt, (λ l. absurd (shared_part 1 l)), lit≤ tt),
+    λ l. absurd (shared_part 1 l),
+  ),
   refl,
 )
 

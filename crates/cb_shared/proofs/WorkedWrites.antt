@@ -182,10 +182,10 @@ abbrev with_one : View
 with_one = record whole { pins = a_stand ∷ [] }
 
 pinned_by_another : IsPinnedSo 1 1 part pinned
-pinned_by_another = (refl, lit≤ tt, λ l. absurd (shared_part 1 l))
+pinned_by_another = (refl, lit≤ tt, (λ l. absurd (shared_part 1 l)), lit≤ tt)
 
 pinned_by_itself : IsPinnedSo 1 1 with_one pinned
-pinned_by_itself = (refl, lit≤ tt, λ _. refl)
+pinned_by_itself = (refl, lit≤ tt, (λ _. refl), lit≤ tt)
 
 another_count : IsPinnedSo 1 2 part pinned → ⊥
 another_count g = eqb-false 1 2 refl (g.0)
@@ -199,6 +199,13 @@ no_one_else g = eqb-false 1 0 refl (g.2 (inl refl))
 -- so it is with its own object
 no_one_of_its_own : IsPinnedSo 1 1 owner pinned → ⊥
 no_one_of_its_own g = eqb-false 1 0 refl (g.2 (inr (inl refl)))
+
+-- two pins of its own are more than the word counts
+abbrev with_two : View
+with_two = record part { pins = a_stand ∷ a_stand ∷ [] }
+
+fewer_than_its_own : IsPinnedSo 1 1 with_two pinned → ⊥
+fewer_than_its_own g = let e : 2 ≤ 1 = g.3 in omega (arith, e)
 
 -- ---- the answers, each for its word
 by_write : WriteGives 1 1 (12 ∷ []) (Ok 4) part (changed calm 4 (3082 ∷ []) part)

@@ -131,7 +131,16 @@ refused_writes h w at bytes (Range len) p q g why = (
 )
 refused_writes h w at bytes (Pinned k) p q g why = (
   w,
-  (why.0, (why.1, why.2, λ all. sym why.1 ∙ (g.counted why.0.0).1 all), g.held why.0.0),
+  (
+    why.0,
+    (
+      why.1,
+      why.2,
+      (λ all. sym why.1 ∙ (g.counted why.0.0).1 all),
+      (let few = (g.counted why.0.0).0 in let is = why.1 in omega (arith, few, is)),
+    ),
+    g.held why.0.0,
+  ),
   view_of p q (with_look h w p.me.0) (g.other (λ e. here_empty (sym why.0.0 ∙ e))),
 )
 refused_writes h w at bytes Worn p q g why = absurd why

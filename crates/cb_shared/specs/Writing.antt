@@ -24,9 +24,11 @@ IsRoomFor at count n = (state_of n ≡ state.Here) × (at + count ≤ len_of n)
 abbrev pub IsPastEnd : ℕ → ℕ → ℕ → ℕ → Type 0
 IsPastEnd at count len n = (state_of n ≡ state.Here) × (len_of n ≡ len) × (len < at + count)
 
--- it is pinned so often; by this pass alone where it has the whole share or the object is its own
+-- it is pinned so often, the pins of this pass among these; by this pass alone where it has the
+-- whole share or the object is its own
 abbrev pub IsPinnedSo : ℕ → ℕ → View → ℕ → Type 0
 IsPinnedSo h count v n = (pins_of n ≡ count) × (1 ≤ count) × (IsAlone h v → count ≡ pins_on h v)
+    × (pins_on h v ≤ count)
 
 -- the object was claimed where it is, at its newest version, and written: one entry more, one
 -- version higher, whose contents are those before with the bytes in them. It has no pins, so the
