@@ -1,6 +1,6 @@
 -- What the answered lines tell that a closed record backs: of sets that lost too much, crashes that
--- are losses of the run; and of want of room.
-use Rattle.std.proofs.Common.{◌≡◌, ◌⊎◌, ℕ, suc, List, [], ◌∷◌, ◌++◌, Option, None, Some, refl, sym, ap, subst, inl, inr, arith}
+-- are losses of the run; and of want of room, of loose spans and of nodes.
+use Rattle.std.proofs.Common.{◌≡◌, ◌⊎◌, ℕ, suc, List, [], ◌∷◌, ◌++◌, ◌+◌, ◌<◌, Option, None, Some, refl, sym, ap, subst, inl, inr, arith, map}
 use Rattle.std.specs.List.{AllByRecursion, Contains, cons_option, flat_map}
 use Rattle.std.proofs.lemmas.List.Sorted.{Contains-permutation}
 use Rattle.cb_member.specs.declared.names.Epoch.{Epoch}
@@ -16,20 +16,30 @@ use Rattle.cb_types.specs.declared.reply.Reply.{Reply}
 use Rattle.cb_types.specs.declared.reply.Reply.TheVariants as answer
 use Rattle.cb_types.specs.declared.request.Request.{Request}
 use Rattle.cb_types.specs.declared.request.Request.TheVariants as line
+use Rattle.cb_types.specs.Table.{IsReplyOf}
+use Rattle.cb_script.specs.Form.{FitsMode}
+use Rattle.cb_script.specs.Phrase.{phrase_of}
+use Rattle.cb_script.specs.declared.script.Mode.TheVariants as modes
+use Rattle.cb_world.specs.declared.event.Event.{Event}
 use Rattle.cb_world.specs.FarState.{FarState}
+use Rattle.cb_world.specs.Played.{played}
+use Rattle.cb_evict.specs.EvictRule.{EvictRule, HasBoth, HasFewNodes, HasFewSpans}
+use Rattle.cb_core.specs.Parts.{Holding}
+use Rattle.cb_core.specs.Turned.{Turned, counted, done, worn}
 use Rattle.cb_model.specs.Called.{handle_for}
 use Rattle.cb_rule.specs.declared.turn.Turn.{Turn}
 use Rattle.cb_rule.specs.declared.view.View.{View}
 use Rattle.cb_rule.specs.Lists.{Has}
 use Rattle.cb_rule.specs.OneHistory.{IsOneHistory}
-use Rattle.cb_record.specs.Backs.{Backs, Tells, happened_at, happened_for}
+use Rattle.cb_record.specs.Backs.{Backs, Tells, happened_at, happened_for, turn_at, turn_of}
 use Rattle.cb_record.specs.Deeds.{Deed, deed, happened, happening}
-use Rattle.cb_record.specs.Lists.{HasOne, newest_first}
+use Rattle.cb_record.specs.Lists.{HasOne, IsAmong, beside, both, ended, newest_first}
 use Rattle.cb_record.specs.Needs.{IsTurnFor, Meets, need_of}
 use Rattle.cb_record.specs.Parts.{Part}
 use Rattle.cb_record.specs.Told.{tolds}
 use Rattle.cb_record.proofs.Laws.{has_left, has_right}
-use Rattle.cb_shared.specs.Turning.{Did}
+use Rattle.cb_shared.specs.Turning.{Did, DidAs, ReadsByPin, Slate, held_by, slate_run, slate_shows}
+use Rattle.cb_lanes.specs.Asked.{HasLineReply}
 use Rattle.cb_lanes.specs.Lost.{loss_of, losses_of}
 use Rattle.cb_app.specs.Crew.{part_of}
 use Rattle.cb_app.specs.Telling.{TellsLost, TellsRoom}
@@ -145,11 +155,15 @@ module _ (v : View) (answers : List Answer) (losses : List Loss) (backs : Backs 
   all_losses (l ∷ ls) each = (is_loss l each.0, all_losses ls each.1)
 
 -- ---- the turn of an answer
+pub find_for : (own : Option Job) (h : Option ℕ) (r : Reply) (ts : List Turn)
+    → HasOne (IsTurnFor own h r) ts → (t : Turn) × Has t ts × IsTurnFor own h r t
+find_for own h r [] one = absurd one
+find_for own h r (t ∷ ts) (inl is) = (t, inl refl, is)
+find_for own h r (t ∷ ts) (inr later) = let z = find_for own h r ts later in (z.0, inr z.1, z.2)
+
 find_turn : (own : Option Job) (h : Option ℕ) (r : Reply) (ts : List Turn) → HasOne (IsTurnFor own h r) ts
     → (t : Turn) × Has t ts × (t.reply ≡ Some r)
-find_turn own h r [] one = absurd one
-find_turn own h r (t ∷ ts) (inl is) = (t, inl refl, is.0)
-find_turn own h r (t ∷ ts) (inr later) = let z = find_turn own h r ts later in (z.0, inr z.1, z.2)
+find_turn own h r ts one = let z = find_for own h r ts one in (z.0, z.1, z.2.0)
 
 lost_turn : (d : Part) (h : Option ℕ) (q : Request) (id : SetId) (ls : List Loss)
     → Meets d (need_of h q (answer.Unavailable id ls))
@@ -173,6 +187,81 @@ room_turn d (Some h) (line.Write name at bytes) f l n x = find_turn _ (Some h) _
 room_turn d (Some h) (line.Free name) f l n x = find_turn _ (Some h) _ d.turns x
 room_turn d (Some h) q f l n x = find_turn _ (Some h) _ d.turns x
 
+-- ---- the turn of an eviction
+evict_few : (c : Config) (far new : FarState) (r : Reply) (es : List Event) → EvictRule c far new r es
+    → TellsRoom c r
+evict_few c far new r es a = by a.answered
+  where
+    by : HasFewSpans c far new r a.loose ⊎ (HasFewNodes c far new r a.loose
+        ⊎ HasBoth c far new r a.loose es) → TellsRoom c r
+    by (inl x) = subst (TellsRoom c) (sym x.reply) x.few
+    by (inr (inl x)) = subst (TellsRoom c) (sym x.reply) x.few
+    by (inr (inr x)) = subst (TellsRoom c) (sym x.reply) tt
+
+turned_few : (c : Config) (a b : Holding Slate) (r : Reply)
+    → Turned slate_run slate_shows ReadsByPin c job.Evict a r b → TellsRoom c r
+turned_few c a b r (worn end e same ran) = subst (TellsRoom c) (sym e) tt
+turned_few c a b r (done few x) = evict_few c (counted a.far job.Evict) b.far r x.events x.rule
+
+-- a turn that evicts tells so of room
+abbrev Evicts : Config → Deed → Type 0
+Evicts c d = (r : Reply) → d.job ≡ job.Evict → d.reply ≡ Some r → TellsRoom c r
+
+turn_evicts : (c : Config) (t : Turn) → Did c t → Evicts c (deed t)
+turn_evicts c t did r at is = turned_few c (held_by t.start [] t.took)
+    (held_by (played t.acts t.start) t.acts t.gave) r
+    (subst (λ (o : Option Reply). DidAs c job.Evict o t.start t.acts t.took t.gave) is
+    (subst (λ (j : Job). DidAs c j t.reply t.start t.acts t.took t.gave) at did))
+
+all_evict : (c : Config) (ts : List Turn) → ((t : Turn) → Has t ts → Evicts c (deed t)) → (d : Deed)
+    → Has d (map deed ts) → Evicts c d
+all_evict c [] each d there = absurd there
+all_evict c (t ∷ ts) each d (inl is) = subst (Evicts c) is (each t (inl refl))
+all_evict c (t ∷ ts) each d (inr later) =
+    all_evict c ts (λ u there. each u (inr there)) d later
+
+has_among : {A : Type 0} (xs ys : List A) (x : A) → IsAmong xs ys → Has x xs → Has x ys
+has_among _ _ x ended there = absurd there
+has_among _ _ x (beside xs y ys among) there = inr (has_among xs ys x among there)
+has_among _ _ x (both y xs ys among) (inl is) = inl is
+has_among _ _ x (both y xs ys among) (inr later) = inr (has_among xs ys x among later)
+
+-- ---- lines that threads may run
+abbrev pub RunsIn : Request → Type 0
+RunsIn q = FitsMode (phrase_of q) modes.Threads
+
+abbrev pub InThreads : Answer → Type 0
+InThreads a = RunsIn a.request
+
+-- what an evict line tells, its turn tells; a begin is no such line
+spans_line : (c : Config) (h : Option ℕ) (q : Request) (n : ℕ) → RunsIn q
+    → IsReplyOf q (answer.NoSpans n)
+    → ((d : Deed) → Has d (turn_at h q (answer.NoSpans n)) → Evicts c d) → n < c.k
+spans_line c None line.Evict n runs may tells = tells (record {
+  job = job.Evict;
+  reply = Some (answer.NoSpans n);
+}) (inl refl) (answer.NoSpans n) refl refl
+spans_line c (Some h) line.Evict n runs may tells = tells (record {
+  job = job.Evict;
+  reply = Some (answer.NoSpans n);
+}) (inl refl) (answer.NoSpans n) refl refl
+spans_line c h line.Begin n runs may tells = absurd (runs tt)
+spans_line c h q n runs may tells = absurd may
+
+nodes_line : (c : Config) (h : Option ℕ) (q : Request) (n : ℕ) → RunsIn q
+    → IsReplyOf q (answer.NoNodes n)
+    → ((d : Deed) → Has d (turn_at h q (answer.NoNodes n)) → Evicts c d) → n < c.k + c.r
+nodes_line c None line.Evict n runs may tells = tells (record {
+  job = job.Evict;
+  reply = Some (answer.NoNodes n);
+}) (inl refl) (answer.NoNodes n) refl refl
+nodes_line c (Some h) line.Evict n runs may tells = tells (record {
+  job = job.Evict;
+  reply = Some (answer.NoNodes n);
+}) (inl refl) (answer.NoNodes n) refl refl
+nodes_line c h line.Begin n runs may tells = absurd (runs tt)
+nodes_line c h q n runs may tells = absurd may
+
 -- ---- all answers of a closed record
 module _ (first : ℕ) (c : Config) (ok : IsAccepted c) (v : View) (count : ℕ) (last : FarState)
     (one : IsOneHistory Did first c (v ∷ []) count last) (answers : List Answer)
@@ -185,12 +274,15 @@ module _ (first : ℕ) (c : Config) (ok : IsAccepted c) (v : View) (count : ℕ)
       (t.0, all_losses v answers losses backs are ls t.1)
   lost_reply losses are h q r x = tt
 
-  room_reply : (h : Option ℕ) (q : Request) (r : Reply) → Meets (part_of v) (need_of h q r)
+  room_reply : (h : Option ℕ) (q : Request) (r : Reply) → RunsIn q → IsReplyOf q r
+      → ((d : Deed) → Has d (turn_at h q r) → Evicts c d) → Meets (part_of v) (need_of h q r)
       → TellsRoom c r
-  room_reply h q (answer.NoRoom f l n) x =
+  room_reply h q (answer.NoSpans n) runs may tells x = spans_line c h q n runs may tells
+  room_reply h q (answer.NoNodes n) runs may tells x = nodes_line c h q n runs may tells
+  room_reply h q (answer.NoRoom f l n) runs may tells x =
       let z = room_turn (part_of v) h q f l n x in
       room_told first c ok v count last one z.0 f l n z.1 z.2
-  room_reply h q r x = tt
+  room_reply h q r runs may tells x = tt
 
   losts : (losses : List Loss) → AreLosses losses answers → (before after : List Answer)
       → AllByRecursion (Tells (part_of v)) (tolds before after)
@@ -201,13 +293,20 @@ module _ (first : ℕ) (c : Config) (ok : IsAccepted c) (v : View) (count : ℕ)
     losts losses are (before ++ a ∷ []) after each.1,
   )
 
-  rooms : (before after : List Answer) → AllByRecursion (Tells (part_of v)) (tolds before after)
+  rooms : (before after : List Answer) → AllByRecursion HasLineReply after
+      → AllByRecursion InThreads after
+      → ((d : Deed) → Has d (newest_first turn_of (tolds before after)) → Evicts c d)
+      → AllByRecursion (Tells (part_of v)) (tolds before after)
       → AllByRecursion (λ a. TellsRoom c a.reply) after
-  rooms before [] each = tt
-  rooms before (a ∷ after) each = (
-    room_reply (handle_for before a.request a.reply) a.request a.reply each.0,
-    rooms (before ++ a ∷ []) after each.1,
-  )
+  rooms before [] replies runs tells each = tt
+  rooms before (a ∷ after) replies runs tells each =
+      let later : List Deed = newest_first turn_of (tolds (before ++ a ∷ []) after) in
+      let own : List Deed = turn_at (handle_for before a.request a.reply) a.request a.reply in (
+        room_reply (handle_for before a.request a.reply) a.request a.reply runs.0 replies.0
+            (λ d there. tells d (has_right d later own there)) each.0,
+        rooms (before ++ a ∷ []) after replies.1 runs.1
+            (λ d there. tells d (has_left d later own there)) each.1,
+      )
 
   -- each loss that an answer tells is one of the run
   pub answers_lost : (losses : List Loss) → AreLosses losses answers
@@ -215,5 +314,9 @@ module _ (first : ℕ) (c : Config) (ok : IsAccepted c) (v : View) (count : ℕ)
   answers_lost losses are = losts losses are [] answers backs.tells
 
   -- and each answer tells of room as it was
-  pub answers_room : AllByRecursion (λ a. TellsRoom c a.reply) answers
-  answers_room = rooms [] answers backs.tells
+  pub answers_room : AllByRecursion HasLineReply answers → AllByRecursion InThreads answers
+      → AllByRecursion (λ a. TellsRoom c a.reply) answers
+  answers_room replies runs = rooms [] answers replies runs (λ d there. all_evict c v.turns
+      (λ t in_it. turn_evicts c t (one.did t (v, (0, refl), in_it))) d
+      (has_among (newest_first turn_of (tolds [] answers)) (map deed v.turns) d backs.turned there))
+      backs.tells

@@ -11,7 +11,7 @@ use Rattle.cb_script.specs.declared.script.Line.{Line}
 use Rattle.cb_script.specs.Form.{AreLines, IsKnown, IsMade, IsNew, KnowsName, Makes, MayFollow}
 use Rattle.cb_script.proofs.PublicLaws.{made_cases}
 use Rattle.cb_model.specs.Legal.{WasTold}
-use Rattle.cb_app.specs.ByLane.{AreApart, AreOfOthers, IsApart, IsUsed, Uses, flat, lanes_up_to, of_lane}
+use Rattle.cb_app.specs.ByLane.{AreApart, AreOfOthers, IsApart, IsUsed, Uses, by_lane, flat, lanes_up_to, of_lane}
 
 -- ---- lists of lines, one behind the other
 
@@ -208,6 +208,27 @@ lane_is_of_others n lines = all_lines (IsUpTo n)
 pub no_lines_of_others : (before : List Line) → AreOfOthers before []
 no_lines_of_others [] = tt
 no_lines_of_others (b ∷ before) = (tt, no_lines_of_others before)
+
+-- ---- what holds of all lines holds of them by lane
+
+of_lane_all : (P : Line → Type 0) (n : ℕ) (lines : List Line) → AllByRecursion P lines
+    → AllByRecursion P (of_lane n lines)
+of_lane_all P n [] all = tt
+of_lane_all P n (l ∷ lines) all = elim (cases_Bool (nat_eq l.lane.n n)) [
+  | inl same ↦ let at = all.0 in let later = of_lane_all P n lines all.1 in rw same (at, later)
+  | inr other ↦ let later = of_lane_all P n lines all.1 in rw other later
+]
+
+lanes_all : (P : Line → Type 0) (n : ℕ) (lines : List Line) → AllByRecursion P lines
+    → AllByRecursion P (lanes_up_to n lines)
+lanes_all P zero lines all = tt
+lanes_all P (suc n) lines all = lines_both P (lanes_up_to n lines) (of_lane (suc n) lines)
+    (lanes_all P n lines all) (of_lane_all P (suc n) lines all)
+
+pub by_lane_all : (P : Line → Type 0) (lines : List Line) → AllByRecursion P lines
+    → AllByRecursion P (by_lane lines)
+by_lane_all P lines all = lines_both P (of_lane 0 lines) (lanes_up_to 15 lines)
+    (of_lane_all P 0 lines all) (lanes_all P 15 lines all)
 
 -- ---- one list of lines more
 

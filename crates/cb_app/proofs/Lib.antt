@@ -25,6 +25,8 @@ mod WorkCounted
 mod EpochsTold
 mod CrashesTold
 mod AnswersTold
+mod NeverWorn
+mod WornTold
 mod MadeStays
 mod MadeTurns
 mod RangeTold

@@ -1,5 +1,5 @@
 -- A run by threads: what was told, and what the runtime was closed with.
-use Rattle.std.proofs.Common.{◌≡◌, ℕ, ◌≤◌, List, [], Result, Ok, Err, sym, ap, ◌∙◌, subst}
+use Rattle.std.proofs.Common.{◌≡◌, ℕ, ◌≤◌, List, [], ◌∷◌, Result, Ok, Err, sym, ap, ◌∙◌, subst}
 use Rattle.std.specs.Prelude.{IfOk, map}
 use Rattle.std.specs.List.{AllByRecursion}
 use Rattle.cb_member.specs.declared.no_memory.NoMemory.{NoMemory}
@@ -7,6 +7,9 @@ use Rattle.cb_types.specs.declared.answer.Answer.{Answer}
 use Rattle.cb_types.specs.declared.config.Config.{Config}
 use Rattle.cb_types.specs.Config.{IsAccepted}
 use Rattle.cb_world.specs.World.{WorldState}
+use Rattle.cb_script.specs.Form.{AreInMode, FitsMode}
+use Rattle.cb_script.specs.Phrase.{phrase_of}
+use Rattle.cb_script.specs.declared.script.Mode.TheVariants as modes
 use Rattle.cb_script.specs.declared.script.Script.{Script}
 use Rattle.cb_rule.specs.declared.view.View.{View}
 use Rattle.cb_rule.specs.Closing.{IsClosed}
@@ -29,13 +32,21 @@ use Rattle.cb_workers.specs.declared.worker.Worker.{Worker}
 use Rattle.cb_app.specs.Crew.{IsTold, RiseWith, part_of, work_in}
 use Rattle.cb_app.specs.Threaded.{AreLosses, IsRun}
 use Rattle.cb_app.specs.declared.threads.ThreadsEnd.{ThreadsEnd}
-use Rattle.cb_app.proofs.AnswersTold.{answers_lost, answers_room}
+use Rattle.cb_app.proofs.AnswersTold.{InThreads, answers_lost, answers_room}
 use Rattle.cb_app.proofs.EpochsTold.{are_epochs}
+use Rattle.cb_app.proofs.Lanes.{by_lane_all}
 use Rattle.cb_app.proofs.UpheldTold.{all_upheld}
 use Rattle.cb_app.proofs.WorkCounted.{counts_workers}
+use Rattle.cb_app.proofs.WornTold.{answers_worn}
 
--- What a closed record, and answers that it backs, tell of epochs, losses and room.
-pub is_run : (script : Script) (end : ThreadsEnd)
+-- what the lines may be in threads, the answered ones may be
+run_lines : (answers : List Answer) → AreInMode modes.Threads (map asked answers)
+    → AllByRecursion InThreads answers
+run_lines [] fits = tt
+run_lines (a ∷ answers) fits = (fits.0, run_lines answers fits.1)
+
+-- What a closed record, and answers that it backs, tell of epochs, losses, room and what is worn.
+pub is_run : (script : Script) (end : ThreadsEnd) → AreInMode modes.Threads script.lines
     → map asked end.answers ≡ by_lane script.lines → AllByRecursion HasLineReply end.answers
     → sealed_world end.seal ≡ end.world
     → IsClosed Did 1 script.config (sealed_record end.seal) end.world
@@ -44,12 +55,14 @@ pub is_run : (script : Script) (end : ThreadsEnd)
     → RiseWith (sealed_record end.seal) [] end.answers
     → AreLosses end.losses end.answers
     → ((w : Worker) → script.config.turns ≤ work_in w (sealed_record end.seal)) → IsRun script end
-is_run script end lines replies seal closed backs suits rises losses work =
+is_run script end mode lines replies seal closed backs suits rises losses work =
     let c = script.config in
     let ok : IsAccepted c = subst IsAccepted closed.settings closed.sound.config in
     let v = sealed_record end.seal in
     let far = end.world.far in
     let upheld = all_upheld 1 c v end.world closed end.answers backs suits in
+    let runs = run_lines end.answers (subst (AreInMode modes.Threads) (sym lines)
+    (by_lane_all (λ l. FitsMode (phrase_of l.request) modes.Threads) script.lines mode)) in
     let never = rises v (λ h n freed has. has) (freed_last 1 v closed.entries) in
     record {
       lines = lines;
@@ -62,11 +75,13 @@ is_run script end lines replies seal closed backs suits rises losses work =
       losses = losses;
       epochs = are_epochs 1 c ok v far.counts.turns far closed.turns end.answers replies backs;
       lost = answers_lost 1 c ok v far.counts.turns far closed.turns end.answers backs end.losses losses;
-      room = answers_room 1 c ok v far.counts.turns far closed.turns end.answers backs;
+      room = answers_room 1 c ok v far.counts.turns far closed.turns end.answers backs replies runs;
+      worn = answers_worn 1 c v far.counts.turns far closed.turns end.answers replies runs backs;
       workers = counts_workers 1 c ok v far.counts.turns far closed.turns c.turns work;
     }
 
-module _ (script : Script) (shared : Shared) (pass : Pass)
+module _ (script : Script) (mode : AreInMode modes.Threads script.lines) (shared : Shared)
+    (pass : Pass)
     (begun : IsBegun 1 script.config shared pass) (told : LaneEnd)
     (is_told : IsTold shared [] (by_lane script.lines) told)
     (work : (w : Worker) → shared.config.turns ≤ work_in w (record_of told.pass)) where
@@ -87,7 +102,7 @@ module _ (script : Script) (shared : Shared) (pass : Pass)
       → IsRun script end
   ran end answers closed losses =
       let same : sealed_record end.seal ≡ closing = closed.view in
-      is_run script end
+      is_run script end mode
       (ap (λ (l : List Answer). map asked l) answers ∙ is_told.lines_are)
       (subst (AllByRecursion HasLineReply) (sym answers) is_told.replies) closed.world
       (subst (λ (v : View). IsClosed Did 1 script.config v end.world) (sym same)

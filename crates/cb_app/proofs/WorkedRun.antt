@@ -65,7 +65,8 @@ module _ (c : Config) (seal : Seal) (closed : IsClosed Did 1 c (sealed_record se
   }
 
   is_run : IsRun (script c (leave ∷ [])) (end (answer (Left 0) ∷ []))
-  is_run = ran (script c (leave ∷ [])) (end (answer (Left 0) ∷ [])) refl (tt, tt) refl closed backs (tt, tt)
+  is_run = ran (script c (leave ∷ [])) (end (answer (Left 0) ∷ [])) (λ is. is, tt) refl (tt, tt) refl
+      closed backs (tt, tt)
       (λ all more last. (tt, (tt, tt))) (no_losses (answer (Left 0) ∷ []) refl) (λ w. omega (arith, none))
 
   a_line_without_an_answer : IsRun (script c (leave ∷ [])) (end []) → ⊥

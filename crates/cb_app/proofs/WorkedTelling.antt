@@ -1,18 +1,18 @@
--- Worked examples: what answers tell of epochs, of what was lost and of room, and what a world tells
--- of the workers; and what breaks each.
-use Rattle.std.proofs.Common.{◌≡◌, ℕ, ◌^◌, List, [], ◌∷◌, inl, inr, refl, arith}
+-- Worked examples: what answers tell of epochs, of what was lost, of room and of what is worn, and
+-- what a world tells of the workers; and what breaks each.
+use Rattle.std.proofs.Common.{◌≡◌, ℕ, ◌^◌, ◌-◌, List, [], ◌∷◌, inl, inr, refl, arith}
 use Rattle.std.proofs.lemmas.List.Sorted.{length_permutation, sum_by-IsPermutation}
 use Rattle.cb_member.specs.declared.names.Loss.{Loss}
 use Rattle.cb_types.specs.declared.answer.Answer.{Answer}
 use Rattle.cb_types.specs.declared.config.Config.{Config}
 use Rattle.cb_types.specs.declared.reply.Reply.{Reply}
-use Rattle.cb_types.specs.declared.reply.Reply.TheVariants.{Down, EpochAt, NoRoom, Unavailable}
+use Rattle.cb_types.specs.declared.reply.Reply.TheVariants.{Down, EpochAt, Freed, NoNodes, NoRoom, NoSpans, Unavailable, Worn}
 use Rattle.cb_types.specs.declared.request.Request.{Request}
-use Rattle.cb_types.specs.declared.request.Request.TheVariants.{Crash, Join}
+use Rattle.cb_types.specs.declared.request.Request.TheVariants.{Crash, Free, Join, Read, Write}
 use Rattle.cb_world.specs.FarState.{FarState}
 use Rattle.cb_workers.specs.declared.worker.Worker.{Worker}
 use Rattle.cb_workers.specs.declared.worker.Worker.TheVariants as worker
-use Rattle.cb_app.specs.Telling.{AreEpochs, CountsWorkers, TellsLost, TellsRoom, epochs_of}
+use Rattle.cb_app.specs.Telling.{AreEpochs, CountsWorkers, TellsLost, TellsRoom, TellsWorn, epochs_of}
 
 abbrev small : Config
 small = record { k = 2; r = 1; nodes = 4; frames = 3; room = 64; handles = 16; turns = 0 }
@@ -88,6 +88,39 @@ enough tells = elim tells.1 [
   | inl few ↦ omega (arith, few)
   | inr few ↦ omega (arith, few)
 ]
+
+-- an eviction finds one loose span, or two nodes with room
+spans_short : TellsRoom small (NoSpans 1)
+spans_short = omega arith
+
+spans_enough : TellsRoom small (NoSpans 2) → ⊥
+spans_enough few = omega (arith, few)
+
+nodes_short : TellsRoom small (NoNodes 2)
+nodes_short = omega arith
+
+nodes_enough : TellsRoom small (NoNodes 3) → ⊥
+nodes_enough few = omega (arith, few)
+
+-- ---- worn: a read and a crash, once 2^40 turns were counted, and before; a write and a free at any
+-- time
+worn_read : TellsWorn (2 ^ 40) (Read []) Worn
+worn_read = omega arith
+
+worn_too_early : TellsWorn (2 ^ 40 - 1) (Read []) Worn → ⊥
+worn_too_early last = omega (arith, last)
+
+worn_crash_too_early : TellsWorn 7 (Crash (record { n = 0 })) Worn → ⊥
+worn_crash_too_early last = omega (arith, last)
+
+worn_write : TellsWorn 7 (Write [] 0 []) Worn
+worn_write = tt
+
+worn_free : TellsWorn 7 (Free []) Worn
+worn_free = tt
+
+not_worn : TellsWorn 7 (Read []) Freed
+not_worn = tt
 
 -- ---- workers: what was counted of their jobs, from the filter's on
 abbrev counting : FarState → ℕ → List ℕ → FarState

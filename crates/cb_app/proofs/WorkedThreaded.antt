@@ -169,7 +169,7 @@ module _ (t : Turn) (world : WorldState) (seal : Seal) where
   run there =
       let record_is : sealed_record seal ≡ view_of (evicting t ∷ []) =
       ap (λ (x : Sealed). x.view) there.under in
-      is_run script (told_of world seal answers []) refl (tt, (tt, tt)) (ap (λ (x : Sealed). x.world) there.under)
+      is_run script (told_of world seal answers []) spelled.allowed refl (tt, (tt, tt)) (ap (λ (x : Sealed). x.world) there.under)
       (subst (λ (v : View). IsClosed Did 1 small v world) (sym record_is) there.closed)
       (subst (λ (v : View). Backs (part_of v) (tolds [] answers)) (sym record_is) backs)
       (tt, (tt, tt)) (λ all more last. (tt, never_falls)) no_losses (λ w. omega arith)
@@ -266,6 +266,18 @@ module _ (t : Turn) (world : WorldState) (seal : Seal) where
     | inl few ↦ omega (arith, few)
     | inr few ↦ omega (arith, few)
   ]
+
+  -- or an eviction finds too few loose spans or nodes with room, with enough of them
+  enough_spans : IsRun script (told_of world seal (answer 1 3 Evict (replies.NoSpans 2) ∷ left ∷ []) []) → ⊥
+  enough_spans is = let few = is.room.0 in omega (arith, few)
+
+  enough_nodes : IsRun script (told_of world seal (answer 1 3 Evict (replies.NoNodes 4) ∷ left ∷ []) []) → ⊥
+  enough_nodes is = let few = is.room.0 in omega (arith, few)
+
+  -- an eviction is worn, and one turn was counted
+  worn_too_early : world.far.counts.turns ≡ 1
+      → IsRun script (told_of world seal (answer 1 3 Evict replies.Worn ∷ left ∷ []) []) → ⊥
+  worn_too_early one is = let all = is.worn.0 in omega (arith, one, all)
 
   -- the workers were to make a turn each, and no turn of the filter was counted
   no_turn_of_a_worker : world.far.counts.turns ≡ 1 → counted_as world.far (visit 0) ≡ 0

@@ -1,5 +1,5 @@
--- What the answers of a run tell of crashes and joins, of sets that lost too much, and of room; and
--- what its world tells of the workers.
+-- What the answers of a run tell of crashes and joins, of sets that lost too much, of room, and of
+-- what is worn; and what its world tells of the workers.
 use Rattle.std.specs.Prelude.{◌≡◌, ◌⊎◌, ℕ, ◌+◌, ◌^◌, ◌<◌, ◌≤◌, List, length, Option, None, Some, slice_index}
 use Rattle.std.specs.List.{AllByRecursion, Contains, filter_map, range_with_len}
 use Rattle.std.specs.List.Sorted.{IsPermutation}
@@ -9,7 +9,9 @@ use Rattle.cb_types.specs.declared.config.Config.{Config}
 use Rattle.cb_types.specs.declared.job.Job.{Job}
 use Rattle.cb_types.specs.declared.job.Job.TheVariants as job
 use Rattle.cb_types.specs.declared.reply.Reply.{Reply}
-use Rattle.cb_types.specs.declared.reply.Reply.TheVariants.{EpochAt, NoRoom, Unavailable}
+use Rattle.cb_types.specs.declared.reply.Reply.TheVariants.{EpochAt, NoNodes, NoRoom, NoSpans, Unavailable, Worn}
+use Rattle.cb_types.specs.declared.request.Request.{Request}
+use Rattle.cb_types.specs.declared.request.Request.TheVariants.{Free, Write}
 use Rattle.cb_types.specs.Jobs.{job_index}
 use Rattle.cb_world.specs.FarState.{FarState}
 use Rattle.cb_workers.specs.Rules.{visit}
@@ -35,11 +37,25 @@ TellsLost c losses (Unavailable set lost) =
 TellsLost c losses reply = Unit {0}
 
 -- where there is no room, no frame of all is free, and for a set too few spans are loose or too few
--- nodes have room
+-- nodes have room; an eviction tells which of the two it was
 abbrev pub TellsRoom : Config → Reply → Type 0
 TellsRoom c (NoRoom frames loose nodes) =
     (frames ≡ c.frames) × ((loose < c.k) ⊎ (nodes < c.k + c.r))
+TellsRoom c (NoSpans loose) = loose < c.k
+TellsRoom c (NoNodes nodes) = nodes < c.k + c.r
 TellsRoom c reply = Unit {0}
+
+-- where such a line may be answered Worn, when so many turns were counted: where 2^40 were; of a
+-- write and of a free nothing is said, whose object may have its last version
+abbrev pub MayBeWorn : ℕ → Request → Type 0
+MayBeWorn turns (Write name at bytes) = Unit {0}
+MayBeWorn turns (Free name) = Unit {0}
+MayBeWorn turns request = 2 ^ 40 ≤ turns
+
+-- a line is answered Worn only where it may be
+abbrev pub TellsWorn : ℕ → Request → Reply → Type 0
+TellsWorn turns request Worn = MayBeWorn turns request
+TellsWorn turns request reply = Unit {0}
 
 -- how many turns with a job of this kind were counted
 abbrev pub counted_as : FarState → Job → ℕ

@@ -17,7 +17,7 @@ use Rattle.cb_lanes.specs.Asked.{HasLineReply, asked}
 use Rattle.cb_lanes.specs.Lost.{losses_of}
 use Rattle.cb_app.specs.ByLane.{by_lane}
 use Rattle.cb_app.specs.Crew.{part_of}
-use Rattle.cb_app.specs.Telling.{AreEpochs, CountsWorkers, TellsLost, TellsRoom}
+use Rattle.cb_app.specs.Telling.{AreEpochs, CountsWorkers, TellsLost, TellsRoom, TellsWorn}
 use Rattle.cb_app.specs.declared.ending.Ending.{Ending}
 use Rattle.cb_app.specs.declared.threads.ThreadsEnd.{ThreadsEnd}
 
@@ -50,8 +50,12 @@ pub record IsRun (script : Script) (end : ThreadsEnd) : Type 0 where
   pub epochs : AreEpochs end.world.far.members.epoch end.answers
   -- what can't be read lost too much by those crashes
   pub lost : AllByRecursion (λ a. TellsLost script.config end.losses a.reply) end.answers
-  -- and where there was no room, too few spans were loose or too few nodes had room
+  -- where there was no room, too few spans were loose or too few nodes had room; and where an
+  -- eviction tells of the one or the other, there were too few of these
   pub room : AllByRecursion (λ a. TellsRoom script.config a.reply) end.answers
+  -- no answer but to a write or a free is Worn, unless 2^40 turns were counted
+  pub worn : AllByRecursion (λ a. TellsWorn end.world.far.counts.turns a.request a.reply)
+      end.answers
   -- the workers made as many turns as are configured
   pub workers : CountsWorkers script.config.turns end.world.far
 

@@ -189,6 +189,7 @@ make_meets : (c : Config) (name bytes : List ℕ) (r : Reply) (v : View) (d : Pa
 make_meets c name bytes (answer.Full n) v d x = its_turn c _ None (job.Make bytes) _ v d refl x
 make_meets c name bytes (answer.NoRoom f l n) v d x = its_turn c _ None (job.Make bytes) _ v d refl x
 make_meets c name bytes (answer.Unavailable s l) v d x = its_turn c _ None (job.Make bytes) _ v d refl x
+make_meets c name bytes answer.Worn v d x = its_turn c _ None (job.Make bytes) _ v d refl x
 make_meets c name bytes r v d x = tt
 
 make_by : (h : Option ℕ) (name bytes : List ℕ) (r : Reply)
@@ -305,6 +306,7 @@ turn_meets : (c : Config) (q : Request) (j : Job) (r : Reply) (v : View) (d : Pa
 turn_meets c q j (answer.Full n) v d own x = its_turn c _ None j _ v d own x
 turn_meets c q j (answer.NoRoom f l n) v d own x = its_turn c _ None j _ v d own x
 turn_meets c q j (answer.Unavailable s l) v d own x = its_turn c _ None j _ v d own x
+turn_meets c q j answer.Worn v d own x = its_turn c _ None j _ v d own x
 turn_meets c q j r v d own x = tt
 
 own_line : (c : Config) (q : Request) (j : Job) (r : Reply) (v w : View) → Some j ≡ job_of q
@@ -393,7 +395,7 @@ read_by_swap h name = record {
         → Meets (turn_part x.turn x.more x.within x.later) (need_of (Some h) (Read name) r)
     needs c (answer.Unavailable s l) lack v d x = its_swap c _ h _ v d x
     needs c (answer.NoRoom f l n) lack v d x = its_swap c _ h _ v d x
-    needs c answer.Worn lack v d x = tt
+    needs c answer.Worn lack v d x = its_swap c _ h _ v d x
     needs c r lack v d x = absurd lack
 
 pin_by_swap : (h : ℕ) (name : List ℕ) → IsBySwap h (Pin name)
@@ -414,7 +416,7 @@ pin_by_swap h name = record {
         → Meets (turn_part x.turn x.more x.within x.later) (need_of (Some h) (Pin name) r)
     needs c (answer.Unavailable s l) lack v d x = its_swap c _ h _ v d x
     needs c (answer.NoRoom f l n) lack v d x = its_swap c _ h _ v d x
-    needs c answer.Worn lack v d x = tt
+    needs c answer.Worn lack v d x = its_swap c _ h _ v d x
     needs c r lack v d x = absurd lack
 
 -- ---- a look that found the object freed
@@ -554,6 +556,7 @@ free_needs c h name answer.Freed v d x =
 free_needs c h name (answer.Full n) v d x = its_turn c _ (Some h) _ _ v d refl x
 free_needs c h name (answer.NoRoom f l n) v d x = its_turn c _ (Some h) _ _ v d refl x
 free_needs c h name (answer.Unavailable s l) v d x = its_turn c _ (Some h) _ _ v d refl x
+free_needs c h name answer.Worn v d x = its_turn c _ (Some h) _ _ v d refl x
 free_needs c h name r v d x = tt
 
 free_by : (h : ℕ) (name : List ℕ) (r : Reply)
@@ -605,6 +608,7 @@ filter_needs c h name answer.Freed v d x = absurd (filter_off c h x.turn.start x
 filter_needs c h name (answer.Full n) v d x = its_turn c _ (Some h) _ _ v d refl x
 filter_needs c h name (answer.NoRoom f l n) v d x = its_turn c _ (Some h) _ _ v d refl x
 filter_needs c h name (answer.Unavailable s l) v d x = its_turn c _ (Some h) _ _ v d refl x
+filter_needs c h name answer.Worn v d x = its_turn c _ (Some h) _ _ v d refl x
 filter_needs c h name r v d x = tt
 
 filter_line : (c : Config) (h : ℕ) (name : List ℕ) (r : Reply) (v w : View)

@@ -47,6 +47,19 @@ end_needs : need_of (Some 3) (request.Write (97 ∷ []) 2 (1 ∷ [])) (answer.Ra
     ≡ AnEnd (Some (job.Write (record { n = 3 }) 2 (1 ∷ []))) 3 2 1 2
 end_needs = refl
 
+-- a free that is worn needs a turn of its own, and a read one that brings the object in
+worn_needs : need_of (Some 3) (request.Free (97 ∷ [])) answer.Worn
+    ≡ ATurn (Some (job.Free (record { n = 3 }))) (Some 3) answer.Worn
+worn_needs = refl
+
+worn_read_needs : need_of (Some 3) (request.Read (97 ∷ [])) answer.Worn
+    ≡ ATurn (Some (job.Read (record { n = 3 }))) (Some 3) answer.Worn
+worn_read_needs = refl
+
+-- but not a write, which may have found it so in place
+worn_write_needs : need_of (Some 3) (request.Write (97 ∷ []) 0 []) answer.Worn ≡ Nothing
+worn_write_needs = refl
+
 -- a version that was written needs nothing but its entry
 written_needs : need_of (Some 3) (request.Write (97 ∷ []) 0 []) (answer.Version 2) ≡ Nothing
 written_needs = refl

@@ -55,7 +55,7 @@ own_job h (Crash node) = Some (job.Crash node)
 own_job h (Join node) = Some (job.Join node)
 own_job h request = None
 
--- what the line needs, by what it was answered
+-- what the line needs, by what it was answered; a write may find in place that its object is worn
 abbrev pub need_of : Option ℕ → Request → Reply → Need
 need_of (Some h) (Read name) (answer.Bytes version bytes) = ARead h version bytes
 need_of (Some h) (Pin name) (answer.Version version) = APin h version
@@ -72,6 +72,8 @@ need_of h request (answer.NoRoom frames loose nodes) =
     ATurn (own_job h request) h (answer.NoRoom frames loose nodes)
 need_of h request (answer.Unavailable set lost) =
     ATurn (own_job h request) h (answer.Unavailable set lost)
+need_of (Some h) (Write name at bytes) answer.Worn = Nothing
+need_of h request answer.Worn = ATurn (own_job h request) h answer.Worn
 need_of h request reply = Nothing
 
 -- this version was read, and the bytes are those of its words

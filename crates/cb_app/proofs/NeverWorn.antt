@@ -1,0 +1,196 @@
+-- Which turns are answered Worn only once 2^40 were counted: those of every job that writes no
+-- version of an object that there is. It is of the rules alone, and would fit cb_core.
+use Rattle.std.proofs.Common.{◌≡◌, ◌⊎◌, ℕ, zero, suc, ◌^◌, Bool, true, false, List, refl, sym, ap, ◌∙◌, subst, inl, inr}
+use Rattle.std.proofs.lemmas.Bool.{true≢false}
+use Rattle.cb_ptr.specs.declared.word.State.{State}
+use Rattle.cb_ptr.specs.declared.word.State.TheVariants as word
+use Rattle.cb_ptr.specs.Word.{pins_of, state_of}
+use Rattle.cb_types.specs.declared.config.Config.{Config}
+use Rattle.cb_types.specs.declared.job.Job.{Job}
+use Rattle.cb_types.specs.declared.job.Job.TheVariants as job
+use Rattle.cb_types.specs.declared.reply.Reply.{Reply}
+use Rattle.cb_types.specs.declared.reply.Reply.TheVariants as answer
+use Rattle.cb_member.specs.declared.names.NodeId.{NodeId}
+use Rattle.cb_member.specs.Membership.{next_epoch}
+use Rattle.cb_world.specs.declared.event.Event.{Event}
+use Rattle.cb_world.specs.declared.shown.Shown.{Shown}
+use Rattle.cb_world.specs.FarState.{FarState}
+use Rattle.cb_mutate.specs.Answered.{AbsentAs, AnsweredAs, EmptyAnswer}
+use Rattle.cb_mutate.specs.MakeRule.{MakeRule}
+use Rattle.cb_evict.specs.EvictRule.{EvictRule, HasBoth, HasFewNodes, HasFewSpans}
+use Rattle.cb_filter.specs.FilterRule.{EmptyAnswer as EmptyFilter, FilterAs, FilterHere, FilterRule}
+use Rattle.cb_swapin.specs.SwapRule.{SwapRule}
+use Rattle.cb_swapin.proofs.Laws.{by_answer}
+use Rattle.cb_compact.specs.NowStep.{Ends, NowStep}
+use Rattle.cb_rebuild.specs.RebuildStep.{RebuildStep, Restores, surveyed}
+use Rattle.cb_set.specs.SetState.{SetState}
+use Rattle.cb_core.specs.Membership.{CrashTurn, JoinTurn, crashed, is_down, is_up, joined}
+use Rattle.cb_core.specs.OnceHere.{OnceHere, away, here}
+use Rattle.cb_core.specs.Parts.{Holding, WithRoom, at_once, no_room, won, not_far, was_far}
+use Rattle.cb_core.specs.Turned.{Brings, ComesIn, Does, Makes, Turned, WinsRoom, counted, done, worn}
+
+abbrev is_worn : Reply → Bool
+is_worn answer.Worn = true
+is_worn r = false
+
+-- the reply is another one
+abbrev pub Unworn : Reply → Type 0
+Unworn r = is_worn r ≡ false
+
+-- it is this one
+off : (r q : Reply) → is_worn q ≡ false → r ≡ q → Unworn r
+off r q other is = ap is_worn is ∙ other
+
+-- the jobs of the lines that are no write and no free
+abbrev pub WritesNone : Job → Type 0
+WritesNone (job.Make bytes) = Unit {0}
+WritesNone (job.Read handle) = Unit {0}
+WritesNone (job.Swap handle) = Unit {0}
+WritesNone (job.Filter handle) = Unit {0}
+WritesNone job.Evict = Unit {0}
+WritesNone job.Compact = Unit {0}
+WritesNone job.Rebuild = Unit {0}
+WritesNone (job.Crash node) = Unit {0}
+WritesNone (job.Join node) = Unit {0}
+WritesNone j = ⊥
+
+-- ---- one operation
+absent : (q : State) (h : ℕ) (es : List Event) (r : Reply) → AbsentAs q h es r → Unworn r
+absent word.Empty h es r (v, told, e) = by v e
+  where
+    by : (v : ℕ) → EmptyAnswer v r → Unworn r
+    by zero e = off r answer.Unmade refl e
+    by (suc n) e = off r answer.Freed refl e
+absent word.Far h es r e = off r answer.NotHere refl e
+absent word.Here h es r e = absurd e
+absent word.Moving h es r e = off r answer.Moving refl e
+
+found : (q : State) (w h : ℕ) (es : List Event) (r : Reply)
+    → AnsweredAs q (λ x. r ≡ answer.Stays) w h es r → Unworn r
+found word.Here w h es r a = off r answer.Stays refl a
+found word.Empty w h es r a = absent word.Empty h es r a
+found word.Far w h es r a = absent word.Far h es r a
+found word.Moving w h es r a = absent word.Moving h es r a
+
+make_rule : (handles : ℕ) (bytes : List ℕ) (far new : FarState) (r : Reply) (es : List Event)
+    → MakeRule handles bytes far new r es → Unworn r
+make_rule handles bytes far new (answer.Full n) es x = refl
+make_rule handles bytes far new answer.NoFrame es x = refl
+make_rule handles bytes far new (answer.Made h version) es x = refl
+make_rule handles bytes far new r es x = absurd x
+
+swap_rule : (id p : ℕ) (far new : FarState) (r : Reply) (es : List Event)
+    → SwapRule id p far new r es → Unworn r
+swap_rule id p far new r es x = subst Unworn (sym x.reply)
+    (by_answer Unworn far id x.set (λ broken. refl) (λ fine free. refl) (λ f fine free. refl))
+
+filter_rule : (frames h : ℕ) (far new : FarState) (r : Reply) (es : List Event)
+    → FilterRule frames h far new r es → Unworn r
+filter_rule frames h far new r es a = by (state_of a.word) a.word a.answer
+  where
+    empty : (v : ℕ) → EmptyFilter v r → Unworn r
+    empty zero e = off r answer.Unmade refl e
+    empty (suc n) e = off r answer.NotHere refl e
+
+    near : (w : ℕ) → FilterHere frames h w far new r es → Unworn r
+    near w (inl (some, is, same)) = off r (answer.Pinned (pins_of w)) refl is
+    near w (inr (claimed, (seat, at, inl x))) = off r answer.Same refl x.reply
+    near w (inr (claimed, (seat, at, inr (inl x)))) = off r (answer.NoSlot frames) refl x.reply
+    near w (inr (claimed, (seat, at, inr (inr (slot, x))))) = off r answer.Moved refl x.reply
+
+    by : (q : State) (w : ℕ) → FilterAs q frames h w far new r es → Unworn r
+    by word.Here w x = near w x
+    by word.Empty w ((v, told, e), same) = empty v e
+    by word.Far w (e, same) = off r answer.NotHere refl e
+    by word.Moving w (e, same) = off r answer.Moving refl e
+
+evict_rule : (c : Config) (far new : FarState) (r : Reply) (es : List Event) → EvictRule c far new r es
+    → Unworn r
+evict_rule c far new r es a = by a.answered
+  where
+    by : HasFewSpans c far new r a.loose ⊎ (HasFewNodes c far new r a.loose
+        ⊎ HasBoth c far new r a.loose es) → Unworn r
+    by (inl x) = off r _ refl x.reply
+    by (inr (inl x)) = off r _ refl x.reply
+    by (inr (inr x)) = off r _ refl x.reply
+
+now_ends : (far new : FarState) (r : Reply) → Ends far new r → Unworn r
+now_ends far new r (inl full) = off r (answer.NodeFull full.node) refl full.reply
+now_ends far new r (inr merged) = off r (answer.Merged merged.set merged.moved) refl merged.reply
+
+now_step : (far new : FarState) (r : Reply) → NowStep far new r → Unworn r
+now_step far new r (inl x) = off r _ refl x.reply
+now_step far new r (inr (inl x)) = off r answer.NoPair refl x.reply
+now_step far new r (inr (inr x)) = now_ends x.stepped new r x.ends
+
+restores : (far new : FarState) (id : ℕ) (set : SetState) (r : Reply)
+    → Restores (surveyed far id) id set new r → Unworn r
+restores far new id set r (inl stuck) = off r (answer.Stuck (record { n = id })) refl stuck.reply
+restores far new id set r (inr z) =
+    off r (answer.Rebuilt (record { n = id }) z.position z.shard.node) refl z.reply
+
+rebuild_step : (far new : FarState) (r : Reply) → RebuildStep far new r → Unworn r
+rebuild_step far new r (inl none) = off r _ refl none.reply
+rebuild_step far new r (inr z) = restores far new z.id z.set r z.restores
+
+crash_turn : (node : NodeId) (far new : FarState) (r : Reply) → CrashTurn node far r new → Unworn r
+crash_turn node far new r (crashed up is state) = off r (answer.EpochAt (next_epoch far.members)) refl is
+crash_turn node far new r (is_down down is state) = off r (answer.Down node) refl is
+
+join_turn : (node : NodeId) (far new : FarState) (r : Reply) → JoinTurn node far r new → Unworn r
+join_turn node far new r (joined down is state) = off r (answer.EpochAt (next_epoch far.members)) refl is
+join_turn node far new r (is_up up is state) = off r (answer.Up node) refl is
+
+-- ---- by parts, over any desk, however an object is read that is here
+module _ {D : Type 0} (run : D → List Event → D → Type 0) (shows : D → Shown → Type 0)
+    (reads : ℕ → Holding D → Reply → Holding D → Type 0)
+    (read : (h : ℕ) (a b : Holding D) (r : Reply) → reads h a r b → Unworn r) (c : Config) where
+  abbrev Hold : Type 0
+  Hold = Holding D
+
+  brings : (h : ℕ) (a b : Hold) (r : Reply) → Brings run shows c h a r b → Unworn r
+  brings h a b r (at_once (home, at, x) never) =
+      swap_rule home.set home.position a.far b.far r x.events x.rule
+  brings h a b r (no_room m why loose nodes x evict e) =
+      off r (answer.NoRoom c.frames loose nodes) refl e
+  brings h a b r (won m n id x evict (home, at, y) never) =
+      swap_rule home.set home.position n.far b.far r y.events y.rule
+
+  comes : (h : ℕ) (a b : Hold) (r : Reply) → ComesIn run shows c h a r b → Unworn r
+  comes h a b r (not_far x never) =
+      found (state_of x.rule.1.word) x.rule.1.word h x.events r x.rule.1.answer
+  comes h a b r (was_far m x bring) = brings h m b r bring
+
+  once : (h : ℕ) (a b : Hold) (r : Reply) → OnceHere (ComesIn run shows c h) (reads h) a r b → Unworn r
+  once h a b r (away come off) = comes h a b r come
+  once h a b r (here m place come there call) = read h m b r call
+
+  makes : (bytes : List ℕ) (a b : Hold) (r : Reply)
+      → WithRoom c.frames (Makes run shows c bytes) (WinsRoom run shows c) a r b → Unworn r
+  makes bytes a b r (at_once x never) = make_rule c.handles bytes a.far b.far r x.events x.rule
+  makes bytes a b r (no_room m why loose nodes x evict e) =
+      off r (answer.NoRoom c.frames loose nodes) refl e
+  makes bytes a b r (won m n id x evict y never) =
+      make_rule c.handles bytes n.far b.far r y.events y.rule
+
+  does : (j : Job) → WritesNone j → (a b : Hold) (r : Reply) → Does run shows reads c j a r b
+      → Unworn r
+  does (job.Make bytes) none a b r x = makes bytes a b r x
+  does (job.Read handle) none a b r x = once handle.n a b r x
+  does (job.Swap handle) none a b r x = comes handle.n a b r x
+  does (job.Filter handle) none a b r x =
+      filter_rule c.frames handle.n a.far b.far r x.events x.rule
+  does job.Evict none a b r x = evict_rule c a.far b.far r x.events x.rule
+  does job.Compact none a b r x = now_step a.far b.far r x.1
+  does job.Rebuild none a b r x = rebuild_step a.far b.far r x.1
+  does (job.Crash node) none a b r x = crash_turn node a.far b.far r x.1
+  does (job.Join node) none a b r x = join_turn node a.far b.far r x.1
+  does j none a b r x = absurd none
+
+  -- such a turn is answered Worn where 2^40 were counted, and nowhere else
+  pub worn_last : (j : Job) → WritesNone j → (a b : Hold) (r : Reply)
+      → Turned run shows reads c j a r b → r ≡ answer.Worn → a.far.counts.turns ≡ 2 ^ 40
+  worn_last j none a b r (worn end e same ran) is = end
+  worn_last j none a b r (done few x) is =
+      let e : true ≡ false = sym (ap is_worn is)
+      ∙ does j none (record { desk = a.desk; far = counted a.far j }) b r x in absurd (true≢false e)
