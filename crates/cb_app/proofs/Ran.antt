@@ -15,7 +15,7 @@ use Rattle.cb_rule.specs.declared.view.View.{View}
 use Rattle.cb_rule.specs.Closing.{IsClosed}
 use Rattle.cb_record.specs.Backs.{Backs}
 use Rattle.cb_record.specs.Told.{tolds}
-use Rattle.cb_record.proofs.Laws.{legal_of_backed}
+use Rattle.cb_record.proofs.Laws.{has_last, legal_of_backed}
 use Rattle.cb_shared.specs.declared.pass.Pass.{Pass}
 use Rattle.cb_shared.specs.declared.runtime.Shared.{Shared}
 use Rattle.cb_shared.specs.Closing.{IsClosedBy}
@@ -72,6 +72,7 @@ is_run script end mode lines replies seal closed backs suits rises losses work =
       backs = backs;
       upheld = upheld;
       legal = legal_of_backed 1 c.handles v end.answers closed.entries closed.calm backs upheld never.1;
+      holds = has_last Did 1 c v end.world closed c.handles end.answers backs upheld;
       losses = losses;
       epochs = are_epochs 1 c ok v far.counts.turns far closed.turns end.answers replies backs;
       lost = answers_lost 1 c ok v far.counts.turns far closed.turns end.answers backs end.losses losses;

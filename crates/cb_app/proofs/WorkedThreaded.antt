@@ -1,6 +1,6 @@
 -- Worked examples: what `threads` leaves and puts for a script of two lanes, and for each part what
 -- breaks it.
-use Rattle.std.proofs.Common.{◌≡◌, ℕ, ◌≤◌, List, [], ◌∷◌, length, map, Some, None, refl, sym, ap, ◌∙◌, subst, arith, inl, inr, String, Global}
+use Rattle.std.proofs.Common.{◌≡◌, ℕ, ◌<◌, ◌≤◌, Bool, false, true, List, [], ◌∷◌, length, map, Some, None, refl, sym, ap, ◌∙◌, subst, arith, inl, inr, String, Global}
 use Rattle.std.specs.Prelude.{codes, string_bytes}
 use Rattle.std.specs.List.{range_with_len}
 use Rattle.std.specs.Fmt.{digits}
@@ -22,7 +22,11 @@ use Rattle.cb_script.specs.Form.{Spells}
 use Rattle.cb_script.specs.Spelling.{header_line}
 use Rattle.cb_script.proofs.PublicLaws.{differ}
 use Rattle.cb_text.specs.Line.{text_of}
-use Rattle.cb_world.specs.World.{WorldState}
+use Rattle.cb_ptr.specs.declared.word.State.TheVariants as state
+use Rattle.cb_ptr.specs.Word.{state_of}
+use Rattle.cb_world.specs.Now.{is_gone, now}
+use Rattle.cb_world.specs.Now.Now.{gone, held}
+use Rattle.cb_world.specs.World.{WorldState, word_at}
 use Rattle.cb_rule.specs.Closing.{IsClosed}
 use Rattle.cb_model.specs.Called.{calls_of}
 use Rattle.cb_model.specs.Legal.{Rising}
@@ -32,6 +36,7 @@ use Rattle.cb_rule.specs.Steps.{opener}
 use Rattle.cb_rule.specs.declared.turn.Turn.{Turn}
 use Rattle.cb_rule.specs.declared.view.View.{View}
 use Rattle.cb_record.specs.Backs.{Backs}
+use Rattle.cb_record.specs.Left.{now_left}
 use Rattle.cb_record.specs.Lists.{IsAmong}
 use Rattle.cb_record.specs.Lists.IsAmong.{ended, both}
 use Rattle.cb_record.specs.Told.{tolds}
@@ -234,6 +239,45 @@ module _ (t : Turn) (world : WorldState) (seal : Seal) where
 
   bytes_of_no_version : (s : Script) → IsRun s (told_of world seal read_others []) → ⊥
   bytes_of_no_version s is = absurd (let e : 2 ≡ 1 = ap first_byte is.legal.told.1.1.0 in omega (arith, e))
+
+  -- an object has bytes in the world, and no answer is about it
+  an_object_of_no_line : (v : ℕ) (bytes : List ℕ) → 0 < length world.desk.words
+      → (is : IsRun script (told_of world seal answers []))
+      → now is.holds.shown world.far 0 ≡ held v bytes → ⊥
+  an_object_of_no_line v bytes inside is has =
+      absurd (let e = sym has ∙ is.holds.last 0 inside in cc)
+
+  -- a lane wrote version 2 of an object, whose set is whole or has lost too much
+  abbrev wrote_two : List Answer
+  wrote_two = answer 1 2 (Make a (1 ∷ [])) (replies.Made (record { n = 0 }) 1)
+      ∷ answer 1 3 (Write a 0 (2 ∷ [])) (replies.Version 2) ∷ []
+
+  module _ (s : Script) (is : IsRun s (told_of world seal wrote_two []))
+      (inside : 0 < length world.desk.words) where
+    has_two : (lost : Bool) → is_gone world.far 0 ≡ lost
+        → now is.holds.shown world.far 0 ≡ now_left lost (Some (Held 2 (2 ∷ [])))
+    has_two b same = subst (λ (l : Bool). now is.holds.shown world.far 0
+        ≡ now_left l (Some (Held 2 (2 ∷ [])))) same (is.holds.last 0 inside)
+
+    -- the world has version 1 of it
+    an_older_version : is_gone world.far 0 ≡ false
+        → now is.holds.shown world.far 0 ≡ held 1 (1 ∷ []) → ⊥
+    an_older_version whole has = absurd (let e = sym has ∙ has_two false whole in cc)
+
+    -- or lost it with a set that is whole
+    gone_from_a_whole_set : is_gone world.far 0 ≡ false
+        → now is.holds.shown world.far 0 ≡ gone 2 → ⊥
+    gone_from_a_whole_set whole has = absurd (let e = sym has ∙ has_two false whole in cc)
+
+    -- or kept it in one that has lost too much
+    kept_in_a_broken_set : is_gone world.far 0 ≡ true
+        → now is.holds.shown world.far 0 ≡ held 2 (2 ∷ []) → ⊥
+    kept_in_a_broken_set broken has = absurd (let e = sym has ∙ has_two true broken in cc)
+
+    -- or lost it with one in which it was not
+    gone_and_here : state_of (word_at world.desk 0) ≡ state.Here
+        → now is.holds.shown world.far 0 ≡ gone 2 → ⊥
+    gone_and_here here has = absurd (let e = sym here ∙ is.holds.far 0 2 inside has in cc)
 
   -- a crash is told, and none took place
   a_loss : (loss : Loss) → IsRun script (told_of world seal answers (loss ∷ [])) → ⊥

@@ -9,6 +9,7 @@ use Rattle.cb_rule.specs.Closing.{IsClosed}
 use Rattle.cb_model.specs.Called.{calls_of}
 use Rattle.cb_model.specs.Legal.{IsLegal}
 use Rattle.cb_record.specs.Backs.{Backs}
+use Rattle.cb_record.specs.Left.{HasLast}
 use Rattle.cb_record.specs.Told.{tolds}
 use Rattle.cb_record.specs.Upheld.{Upholds}
 use Rattle.cb_shared.specs.Sealing.{sealed_record, sealed_world}
@@ -44,6 +45,8 @@ pub record IsRun (script : Script) (end : ThreadsEnd) : Type 0 where
   -- so they are legal: those of a map whose operations took place one at a time, and to no lane, nor
   -- from lane 0 to another, did a version fall
   pub legal : IsLegal 1 script.config.handles end.answers
+  -- and the world holds of each object the last entry of its history in them, or it is gone
+  pub holds : HasLast end.answers end.world
   -- the crashes that took place
   pub losses : AreLosses end.losses end.answers
   -- they and the joins began the epochs up to that of the world, each one of them
