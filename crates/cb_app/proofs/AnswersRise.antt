@@ -142,7 +142,7 @@ behind_known lane front is known = all_map (IsOnRecord lane.start)
 pub lane_rise : (number : ℕ) (names : List Named) (given answers : List Answer) (v w : View)
     → LaneRises number names answers v w → AreNamesOf names given → AreKnownTo v given
     → RiseWith w given answers
-lane_rise number names given answers v w rises named (u, has, stand) all more last =
+lane_rise number names given answers v w rises named (u, has, stand, first) all more last =
     let calls = calls_behind given answers in
     let lane : LaneCalls = record { number = number; start = v; calls = calls } in
     let is : RisesAlone (record lane { start = u }) =
@@ -151,7 +151,7 @@ lane_rise number names given answers v w rises named (u, has, stand) all more la
 
 -- no answers are told before
 pub none_known : (v : View) → AreKnownTo v []
-none_known v = (v, (λ h n freed has. has), tt)
+none_known v = (v, (λ h n freed has. has), tt, tt)
 
 -- a worker answers nothing
 pub none_rise : (v : View) (given answers : List Answer) → answers ≡ [] → RiseWith v given answers

@@ -26,6 +26,7 @@ use Rattle.cb_lanes.specs.declared.body.LaneEnd.{LaneEnd}
 use Rattle.cb_lanes.specs.declared.body.Named.{Named}
 use Rattle.cb_lanes.specs.Asked.{HasLineReply, asked}
 use Rattle.cb_lanes.specs.Bodies.{AreLinesOf, KnowsNames}
+use Rattle.cb_lanes.specs.Scoped.{AreScoped}
 use Rattle.cb_lanes.specs.Suits.{AreSuited}
 use Rattle.cb_lanes.proofs.Laws.{are_suited_both, are_suited_more, has_split}
 use Rattle.cb_workers.specs.declared.worker.Worker.{Worker as Worker'}
@@ -38,6 +39,7 @@ use Rattle.cb_app.specs.declared.crew.Task.{Task}
 use Rattle.cb_app.proofs.AnswersRise.{rise_joined}
 use Rattle.cb_app.proofs.Lanes.{apart-push, flat-push, lane_is_apart, lane_is_of_others, no_lines_apart, no_lines_of_others}
 use Rattle.cb_app.proofs.Records.{right_fresh, right_knows_names}
+use Rattle.cb_app.proofs.ScopesTold.{scopes_joined}
 use Rattle.cb_app.proofs.ToldApart.{tolds_apart}
 use Rattle.cb_app.proofs.WorkDone.{AreOwed, owed_from, owed_more, owed_none}
 
@@ -64,13 +66,16 @@ pub taken_in : (s : Shared) (given others : List Answer) (lines : List Line) (a 
     → record_of b.pass ≡ joined (record_of a.pass) (unpinned_all (record_of e.pass))
     → b.answers ≡ a.answers ++ e.answers → TakesIn s given others lines b
 taken_in s given others lines a e b are told ended apart none of pass answers =
+    let apart_so : IsApart (map asked others) (map asked e.answers) =
+    subst (IsApart (map asked others)) (sym ended.lines_are) apart in
     let behind : tolds a.answers e.answers ≡ tolds given e.answers =
     ap (λ (xs : List Answer). tolds xs e.answers) are
-    ∙ tolds_apart given others e.answers (subst (IsApart (map asked others)) (sym ended.lines_are) apart) in
+    ∙ tolds_apart given others e.answers apart_so in
+    let none_so : AreOfOthers (map asked others) (map asked e.answers) =
+    subst (AreOfOthers (map asked others)) (sym ended.lines_are) none in
     let both : RiseWith (joined (record_of a.pass) (unpinned_all (record_of e.pass))) [] (a.answers ++ e.answers) =
-    rise_joined (record_of a.pass) (record_of e.pass) given others e.answers a.answers are
-    (subst (IsApart (map asked others)) (sym ended.lines_are) apart)
-    (subst (AreOfOthers (map asked others)) (sym ended.lines_are) none) told.rises ended.rises in
+    rise_joined (record_of a.pass) (record_of e.pass) given others e.answers a.answers are apart_so none_so
+    told.rises ended.rises in
     let all : tolds [] a.answers ++ tolds given e.answers ≡ tolds [] b.answers =
     ap (λ (ts : List Told). tolds [] a.answers ++ ts) (sym behind)
     ∙ sym (tolds-append [] a.answers e.answers)
@@ -94,6 +99,8 @@ taken_in s given others lines a e b are told ended apart none of pass answers =
             (tolds given e.answers) told.suits ended.suits));
         rises = subst (λ (v : View). RiseWith v [] b.answers) (sym pass)
             (subst (RiseWith (joined (record_of a.pass) (unpinned_all (record_of e.pass))) []) (sym answers) both);
+        scopes = subst (AreScoped []) (sym answers)
+            (scopes_joined given others e.answers a.answers are apart_so none_so told.scopes ended.scopes);
       };
     }
 
@@ -293,6 +300,7 @@ dealt_lane_so s lines n m v tasks new p q lane own d one of left enough at is =
       subst (λ (k : ℕ). AreLinesOf s.config.nodes k own) (sym at)
           (subst (AreLinesOf s.config.nodes (suc n)) (sym is) (of_lane_lines s.config.nodes (suc n) [] lines are)),
       right_knows_names names 1 (rest v d.share d.own) known,
+      omega (arith, at),
     ))
     (λ are. subst (IsApart (lanes_up_to n lines)) (sym is) (lane_is_apart s.config.nodes n lines are))
     (subst (AreOfOthers (lanes_up_to n lines)) (sym is) (lane_is_of_others n lines))))
@@ -349,6 +357,7 @@ told_left s given lines a b share own told same of left = record {
       (subst (λ (xs : List Answer). AreSuited (record_of a.pass).seen (tolds given xs)) (sym same) told.suits);
   rises = subst (λ (v : View). RiseWith v given b.answers) (sym left)
       (subst (RiseWith (record_of a.pass) given) (sym same) told.rises);
+  scopes = subst (AreScoped given) (sym same) told.scopes;
 }
 
 pub told_again : (s : Shared) (given : List Answer) (lines : List Line) (e : LaneEnd)

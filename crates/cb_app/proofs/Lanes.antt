@@ -22,7 +22,7 @@ made_in_both (x ∷ xs) ys lane name (inl here) = inl (inl here)
 made_in_both (x ∷ xs) ys lane name (inr later) =
     elim (made_in_both xs ys lane name later) [ inl p ↦ inl (inr p) | inr q ↦ inr q ]
 
-made_in_front : (xs ys : List Line) (lane : ℕ) (name : List ℕ) → IsMade xs lane name
+pub made_in_front : (xs ys : List Line) (lane : ℕ) (name : List ℕ) → IsMade xs lane name
     → IsMade (xs ++ ys) lane name
 made_in_front [] ys lane name is = absurd is
 made_in_front (x ∷ xs) ys lane name (inl here) = inl here
@@ -41,7 +41,7 @@ of_lane_more n lines i l d within is = filter_more (λ x. nat_eq x.lane.n n) lin
 one_lane : (lane : ℕ) (l : Line) → nat_eq l.lane.n lane ≡ true → l.lane.n ≡ lane
 one_lane lane l is = grind (arith, is)
 
-of_lane_made : (n : ℕ) (lines : List Line) (lane : ℕ) (name : List ℕ)
+pub of_lane_made : (n : ℕ) (lines : List Line) (lane : ℕ) (name : List ℕ)
     → IsMade (of_lane n lines) lane name → IsMade lines lane name × (lane ≡ n)
 of_lane_made n [] lane name is = absurd is
 of_lane_made n (l ∷ lines) lane name is = elim (cases_Bool (nat_eq l.lane.n n)) [
@@ -58,7 +58,7 @@ of_lane_made n (l ∷ lines) lane name is = elim (cases_Bool (nat_eq l.lane.n n)
       let e = of_lane_made n lines lane name is' in (inr e.0, e.1)
 ]
 
-lanes_made : (n : ℕ) (lines : List Line) (lane : ℕ) (name : List ℕ)
+pub lanes_made : (n : ℕ) (lines : List Line) (lane : ℕ) (name : List ℕ)
     → IsMade (lanes_up_to n lines) lane name → IsMade lines lane name × (1 ≤ lane) × (lane ≤ n)
 lanes_made zero lines lane name is = absurd is
 lanes_made (suc n) lines lane name is =
@@ -109,10 +109,10 @@ used_known nodes n before (l ∷ after) name are used =
 
 -- ---- a name has one maker
 
-abbrev HaveOneMaker : List Line → Type 0
+abbrev pub HaveOneMaker : List Line → Type 0
 HaveOneMaker lines = (name : List ℕ) (m n : ℕ) → IsMade lines m name → IsMade lines n name → m ≡ n
 
-new_name : (before : List Line) (lane : ℕ) (r : Request) (name : List ℕ) → IsKnown before lane r
+pub new_name : (before : List Line) (lane : ℕ) (r : Request) (name : List ℕ) → IsKnown before lane r
     → Makes r name → IsNew before name
 new_name before lane (Make made bytes) name is makes = subst (IsNew before) makes is
 new_name before lane _ name is makes = absurd makes
@@ -138,7 +138,7 @@ one_maker_behind nodes before (l ∷ after) are one =
     subst HaveOneMaker (append_assoc before (l ∷ []) after)
     (one_maker_behind nodes (before ++ l ∷ []) after are.1 (one_maker_more nodes before l one are.0))
 
-one_maker : (nodes : ℕ) (lines : List Line) → AreLines nodes [] lines → HaveOneMaker lines
+pub one_maker : (nodes : ℕ) (lines : List Line) → AreLines nodes [] lines → HaveOneMaker lines
 one_maker nodes lines are = one_maker_behind nodes [] lines are (λ name m n p q. absurd p)
 
 -- ---- so the lines of a lane are about no name that a lane between 0 and this one made
@@ -167,13 +167,13 @@ lines_both : (P : Line → Type 0) (xs ys : List Line) → AllByRecursion P xs �
 lines_both P [] ys a b = b
 lines_both P (x ∷ xs) ys a b = (a.0, lines_both P xs ys a.1 b)
 
-abbrev IsOf : ℕ → Line → Type 0
+abbrev pub IsOf : ℕ → Line → Type 0
 IsOf n l = l.lane.n ≡ n
 
 abbrev IsUpTo : ℕ → Line → Type 0
 IsUpTo n l = (1 ≤ l.lane.n) × (l.lane.n ≤ n)
 
-of_lane_own : (n : ℕ) (lines : List Line) → AllByRecursion (IsOf n) (of_lane n lines)
+pub of_lane_own : (n : ℕ) (lines : List Line) → AllByRecursion (IsOf n) (of_lane n lines)
 of_lane_own n [] = tt
 of_lane_own n (l ∷ lines) = elim (cases_Bool (nat_eq l.lane.n n)) [
   | inl same ↦ let at = one_lane n l same in let later = of_lane_own n lines in rw same (at, later)

@@ -8,6 +8,8 @@ pub mod WorkedSchedules
 pub mod WorkedThreaded
 mod Lanes
 mod ToldApart
+mod ScopesTold
+mod OneToOne
 mod AnswersRise
 mod Records
 mod WorkDone

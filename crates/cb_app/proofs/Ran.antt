@@ -7,12 +7,13 @@ use Rattle.cb_types.specs.declared.answer.Answer.{Answer}
 use Rattle.cb_types.specs.declared.config.Config.{Config}
 use Rattle.cb_types.specs.Config.{IsAccepted}
 use Rattle.cb_world.specs.World.{WorldState}
-use Rattle.cb_script.specs.Form.{AreInMode, FitsMode}
+use Rattle.cb_script.specs.Form.{AreInMode, AreLines, FitsMode}
 use Rattle.cb_script.specs.Phrase.{phrase_of}
 use Rattle.cb_script.specs.declared.script.Mode.TheVariants as modes
 use Rattle.cb_script.specs.declared.script.Script.{Script}
 use Rattle.cb_rule.specs.declared.view.View.{View}
 use Rattle.cb_rule.specs.Closing.{IsClosed}
+use Rattle.cb_model.specs.Legal.{IsLegal}
 use Rattle.cb_record.specs.Backs.{Backs}
 use Rattle.cb_record.specs.Told.{tolds}
 use Rattle.cb_record.proofs.Laws.{has_last, legal_of_backed}
@@ -25,6 +26,7 @@ use Rattle.cb_shared.specs.Sealing.{sealed_record, sealed_world}
 use Rattle.cb_shared.specs.Turning.{Did}
 use Rattle.cb_lanes.specs.declared.body.LaneEnd.{LaneEnd}
 use Rattle.cb_lanes.specs.Asked.{HasLineReply, asked}
+use Rattle.cb_lanes.specs.Scoped.{AreScoped}
 use Rattle.cb_lanes.specs.Suits.{AreSuited}
 use Rattle.cb_lanes.proofs.Laws.{freed_last}
 use Rattle.cb_app.specs.ByLane.{by_lane}
@@ -35,6 +37,7 @@ use Rattle.cb_app.specs.declared.threads.ThreadsEnd.{ThreadsEnd}
 use Rattle.cb_app.proofs.AnswersTold.{InThreads, answers_lost, answers_room}
 use Rattle.cb_app.proofs.EpochsTold.{are_epochs}
 use Rattle.cb_app.proofs.Lanes.{by_lane_all}
+use Rattle.cb_app.proofs.OneToOne.{one_to_one}
 use Rattle.cb_app.proofs.UpheldTold.{all_upheld}
 use Rattle.cb_app.proofs.WorkCounted.{counts_workers}
 use Rattle.cb_app.proofs.WornTold.{answers_worn}
@@ -47,15 +50,16 @@ run_lines (a ∷ answers) fits = (fits.0, run_lines answers fits.1)
 
 -- What a closed record, and answers that it backs, tell of epochs, losses, room and what is worn.
 pub is_run : (script : Script) (end : ThreadsEnd) → AreInMode modes.Threads script.lines
+    → AreLines script.config.nodes [] script.lines
     → map asked end.answers ≡ by_lane script.lines → AllByRecursion HasLineReply end.answers
     → sealed_world end.seal ≡ end.world
     → IsClosed Did 1 script.config (sealed_record end.seal) end.world
     → Backs (part_of (sealed_record end.seal)) (tolds [] end.answers)
     → AreSuited (sealed_record end.seal).seen (tolds [] end.answers)
-    → RiseWith (sealed_record end.seal) [] end.answers
+    → RiseWith (sealed_record end.seal) [] end.answers → AreScoped [] end.answers
     → AreLosses end.losses end.answers
     → ((w : Worker) → script.config.turns ≤ work_in w (sealed_record end.seal)) → IsRun script end
-is_run script end mode lines replies seal closed backs suits rises losses work =
+is_run script end mode are lines replies seal closed backs suits rises scopes losses work =
     let c = script.config in
     let ok : IsAccepted c = subst IsAccepted closed.settings closed.sound.config in
     let v = sealed_record end.seal in
@@ -64,6 +68,8 @@ is_run script end mode lines replies seal closed backs suits rises losses work =
     let runs = run_lines end.answers (subst (AreInMode modes.Threads) (sym lines)
     (by_lane_all (λ l. FitsMode (phrase_of l.request) modes.Threads) script.lines mode)) in
     let never = rises v (λ h n freed has. has) (freed_last 1 v closed.entries) in
+    let legal : IsLegal 1 c.handles end.answers =
+    legal_of_backed 1 c.handles v end.answers closed.entries closed.calm backs upheld never.1 in
     record {
       lines = lines;
       replies = replies;
@@ -71,8 +77,9 @@ is_run script end mode lines replies seal closed backs suits rises losses work =
       closed = closed;
       backs = backs;
       upheld = upheld;
-      legal = legal_of_backed 1 c.handles v end.answers closed.entries closed.calm backs upheld never.1;
+      legal = legal;
       holds = has_last Did 1 c v end.world closed c.handles end.answers backs upheld;
+      scopes = scopes (one_to_one 1 c.handles c.nodes script.lines end.answers legal are lines);
       losses = losses;
       epochs = are_epochs 1 c ok v far.counts.turns far closed.turns end.answers replies backs;
       lost = answers_lost 1 c ok v far.counts.turns far closed.turns end.answers backs end.losses losses;
@@ -84,6 +91,7 @@ is_run script end mode lines replies seal closed backs suits rises losses work =
 module _ (script : Script) (mode : AreInMode modes.Threads script.lines) (shared : Shared)
     (pass : Pass)
     (begun : IsBegun 1 script.config shared pass) (told : LaneEnd)
+    (are : AreLines script.config.nodes [] script.lines)
     (is_told : IsTold shared [] (by_lane script.lines) told)
     (work : (w : Worker) → shared.config.turns ≤ work_in w (record_of told.pass)) where
   -- the record of the pass that closed
@@ -103,7 +111,7 @@ module _ (script : Script) (mode : AreInMode modes.Threads script.lines) (shared
       → IsRun script end
   ran end answers closed losses =
       let same : sealed_record end.seal ≡ closing = closed.view in
-      is_run script end mode
+      is_run script end mode are
       (ap (λ (l : List Answer). map asked l) answers ∙ is_told.lines_are)
       (subst (AllByRecursion HasLineReply) (sym answers) is_told.replies) closed.world
       (subst (λ (v : View). IsClosed Did 1 script.config v end.world) (sym same)
@@ -114,6 +122,7 @@ module _ (script : Script) (mode : AreInMode modes.Threads script.lines) (shared
       (subst (λ (v : View). AreSuited v.seen (tolds [] told.answers)) (sym same) is_told.suits))
       (subst (RiseWith (sealed_record end.seal) []) (sym answers)
       (subst (λ (v : View). RiseWith v [] told.answers) (sym same) is_told.rises))
+      (subst (AreScoped []) (sym answers) is_told.scopes)
       (subst (λ (l : List Answer). AreLosses end.losses l) (sym answers) losses)
       (λ w. subst (λ (v : View). script.config.turns ≤ work_in w v) (sym same)
       (subst (λ (c : Config). c.turns ≤ work_in w closing) begun.config (work w)))

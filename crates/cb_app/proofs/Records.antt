@@ -31,6 +31,8 @@ use Rattle.cb_lanes.specs.declared.body.Named.{Named}
 use Rattle.cb_lanes.specs.Bodies.{AddsBacked, AreNamesOf, KnowsHandle, KnowsNames, LaneGoes, handle_among}
 use Rattle.cb_lanes.specs.Lost.{loss_of, losses_of}
 use Rattle.cb_lanes.specs.Rising.{LaneRises}
+use Rattle.cb_lanes.specs.Scoped.{LaneScoped}
+use Rattle.cb_lanes.specs.Scopes.{scope_of}
 use Rattle.cb_lanes.specs.Suits.{AreSuited}
 use Rattle.cb_lanes.proofs.Laws.{lane_suits}
 use Rattle.cb_workers.specs.Bodies.{IsWorked, Works}
@@ -46,6 +48,7 @@ use Rattle.cb_lanes.specs.declared.body.LaneEnd.{LaneEnd}
 use Rattle.cb_lanes.specs.Asked.{HasLineReply, asked}
 use Rattle.cb_app.specs.Crew.{AreKnownTo, IsFresh, IsTold, name_made, names_in, part_of}
 use Rattle.cb_app.proofs.AnswersRise.{lane_rise, none_rise}
+use Rattle.cb_app.proofs.ScopesTold.{none_scoped}
 
 -- ---- a pass that was split off
 
@@ -142,6 +145,7 @@ worker_told s w turns p q given answers fresh works none =
       backs = subst (λ (xs : List Answer). Backs (part_of (record_of q)) (tolds given xs)) (sym none) backs;
       suits = subst (λ (xs : List Answer). AreSuited (record_of q).seen (tolds given xs)) (sym none) tt;
       rises = none_rise (record_of q) given answers none;
+      scopes = none_scoped given answers none;
     }
 
 -- ---- the record knows what was made
@@ -199,18 +203,21 @@ pub lane_told : (s : Shared) (lane : ℕ) (names : List Named) (v : View) (lines
     → IsFresh v → KnowsNames v names → IsPassOf s e.pass → map asked e.answers ≡ lines
     → AllByRecursion HasLineReply e.answers → AddsBacked names e.answers v (record_of e.pass)
     → LaneGoes s.config names v e.answers (record_of e.pass)
-    → LaneRises lane names e.answers v (record_of e.pass) → (given : List Answer)
-    → AreNamesOf names given → AreKnownTo v given → IsTold s given lines e
-lane_told s lane names v lines e fresh names_known of are replies adds goes rises given named known = record {
-  of = of;
-  lines_are = are;
-  replies = replies;
-  backs = fresh_backs v (record_of e.pass) adds.part adds.own (tolds given e.answers) fresh adds.grows
-      (adds.backs given named);
-  suits = lane_suits s.config names e.answers v (record_of e.pass) fresh.pins names_known replies goes given
-      named;
-  rises = lane_rise lane names given e.answers v (record_of e.pass) rises named known;
-}
+    → LaneRises lane names e.answers v (record_of e.pass) → LaneScoped lane names e.answers
+    → (given : List Answer) → AreNamesOf names given → AreKnownTo v given → scope_of lane given ≡ []
+    → IsTold s given lines e
+lane_told s lane names v lines e fresh names_known of are replies adds goes rises scoped given named known
+    no_pin = record {
+      of = of;
+      lines_are = are;
+      replies = replies;
+      backs = fresh_backs v (record_of e.pass) adds.part adds.own (tolds given e.answers) fresh adds.grows
+          (adds.backs given named);
+      suits = lane_suits s.config names e.answers v (record_of e.pass) fresh.pins names_known replies goes given
+          named;
+      rises = lane_rise lane names given e.answers v (record_of e.pass) rises named known;
+      scopes = scoped given named no_pin;
+    }
 
 -- it knows what it made
 pub first_known : (names : List Named) (answers : List Answer) (v w : View)

@@ -54,7 +54,7 @@ none_made (a ∷ later) name none =
     ∙ makes_no a.request a.reply name (λ makes. none a.lane.n (inl (refl, makes)))
 
 -- answers that make none of a name stay unseen between others
-unseen : (name : List ℕ) (xs ys zs : List Answer) → MakesNone ys name
+pub unseen : (name : List ℕ) (xs ys zs : List Answer) → MakesNone ys name
     → handle_of (xs ++ (ys ++ zs)) name ≡ handle_of (xs ++ zs) name
 unseen name xs ys zs none =
     let left : handle_of (xs ++ (ys ++ zs)) name ≡ first_of (handle_of (ys ++ zs) name) (handle_of xs name) =

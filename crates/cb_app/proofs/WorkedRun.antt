@@ -1,5 +1,5 @@
 -- Worked examples: what a script by threads leaves, and which ending it has.
-use Rattle.std.proofs.Common.{◌≡◌, List, [], ◌∷◌, Some, None, refl, sym, ap, ◌∙◌, map, subst, arith}
+use Rattle.std.proofs.Common.{◌≡◌, ℕ, List, [], ◌∷◌, Some, None, refl, sym, ap, ◌∙◌, map, subst, arith}
 use Rattle.std.specs.List.Sorted.{IsPermutation}
 use Rattle.std.proofs.lemmas.List.Sorted.{IsPermutation-refl}
 use Rattle.cb_types.specs.declared.answer.Answer.{Answer}
@@ -10,6 +10,7 @@ use Rattle.cb_types.specs.declared.request.Request.TheVariants.{Leave}
 use Rattle.cb_member.specs.declared.names.Loss.{Loss}
 use Rattle.cb_script.specs.declared.script.Line.{Line}
 use Rattle.cb_script.specs.declared.script.Script.{Script}
+use Rattle.cb_script.specs.Form.{AreLines}
 use Rattle.cb_world.specs.World.{WorldState}
 use Rattle.cb_world.specs.declared.entry.Entry.{Entry}
 use Rattle.cb_rule.specs.Closing.{IsClosed}
@@ -40,6 +41,12 @@ leave = record { lane = record { n = 2 }; line = 2; request = Leave }
 abbrev loss : Loss
 loss = record { node = record { n = 0 }; epoch = record { n = 2 } }
 
+are_lines : (nodes : ℕ) → AreLines nodes [] (leave ∷ [])
+are_lines nodes = (
+  record { lane = record { low = omega arith; first = λ e. absurd (omega (arith, e)) }; line = refl; request = tt; known = tt },
+  tt,
+)
+
 -- with the seal of a runtime that did nothing, whose workers had no turns
 module _ (c : Config) (seal : Seal) (closed : IsClosed Did 1 c (sealed_record seal) (sealed_world seal))
     (fresh : IsFresh (sealed_record seal)) (none : c.turns ≡ 0) where
@@ -65,9 +72,12 @@ module _ (c : Config) (seal : Seal) (closed : IsClosed Did 1 c (sealed_record se
   }
 
   is_run : IsRun (script c (leave ∷ [])) (end (answer (Left 0) ∷ []))
-  is_run = ran (script c (leave ∷ [])) (end (answer (Left 0) ∷ [])) (λ is. is, tt) refl (tt, tt) refl
-      closed backs (tt, tt)
-      (λ all more last. (tt, (tt, tt))) (no_losses (answer (Left 0) ∷ []) refl) (λ w. omega (arith, none))
+  is_run = ran (script c (leave ∷ [])) (end (answer (Left 0) ∷ [])) (λ is. is, tt)
+      (are_lines c.nodes) refl (tt, tt) refl closed backs (tt, tt) (λ all more last. (tt, (tt, tt)))
+      (λ one. (refl, tt)) (no_losses (answer (Left 0) ∷ []) refl) (λ w. omega (arith, none))
+
+  a_pin_that_was_not_taken : IsRun (script c (leave ∷ [])) (end (answer (Left 1) ∷ [])) → ⊥
+  a_pin_that_was_not_taken run = absurd (let e : Left 1 ≡ Left 0 = run.scopes.0 in cc)
 
   a_line_without_an_answer : IsRun (script c (leave ∷ [])) (end []) → ⊥
   a_line_without_an_answer run = absurd (let e = run.lines in cc)

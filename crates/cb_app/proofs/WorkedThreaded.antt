@@ -18,7 +18,7 @@ use Rattle.cb_types.specs.declared.request.Request.TheVariants.{Evict, Leave, Ma
 use Rattle.cb_script.specs.declared.script.Line.{Line}
 use Rattle.cb_script.specs.declared.script.Mode.TheVariants as modes
 use Rattle.cb_script.specs.declared.script.Script.{Script}
-use Rattle.cb_script.specs.Form.{Spells}
+use Rattle.cb_script.specs.Form.{AreLines, Spells}
 use Rattle.cb_script.specs.Spelling.{header_line}
 use Rattle.cb_script.proofs.PublicLaws.{differ}
 use Rattle.cb_text.specs.Line.{text_of}
@@ -69,6 +69,12 @@ input = codes "carbink 1 k=2 r=2 nodes=6 frames=8 room=64 handles=16 turns=0\n2 
 abbrev script : Script
 script = record { config = small; lines = lane_line 2 2 Leave ∷ lane_line 1 3 Evict ∷ [] }
 
+are_lines : AreLines small.nodes [] script.lines
+are_lines = (
+  record { lane = record { low = omega arith; first = λ e. absurd (omega (arith, e)) }; line = refl; request = tt; known = tt },
+  (record { lane = record { low = omega arith; first = λ e. absurd (omega (arith, e)) }; line = refl; request = tt; known = tt }, tt),
+)
+
 accepted : IsAccepted small
 accepted K = (omega arith, omega arith)
 accepted R = (omega arith, omega arith)
@@ -85,10 +91,7 @@ spelled = record {
   form = record {
     config = accepted;
     few = omega arith;
-    lines = (
-      record { lane = record { low = omega arith; first = λ e. absurd (omega (arith, e)) }; line = refl; request = tt; known = tt },
-      (record { lane = record { low = omega arith; first = λ e. absurd (omega (arith, e)) }; line = refl; request = tt; known = tt }, tt),
-    );
+    lines = are_lines;
   };
   allowed = (λ is. is, (λ is. is, tt));
   text = refl;
@@ -174,10 +177,11 @@ module _ (t : Turn) (world : WorldState) (seal : Seal) where
   run there =
       let record_is : sealed_record seal ≡ view_of (evicting t ∷ []) =
       ap (λ (x : Sealed). x.view) there.under in
-      is_run script (told_of world seal answers []) spelled.allowed refl (tt, (tt, tt)) (ap (λ (x : Sealed). x.world) there.under)
+      is_run script (told_of world seal answers []) spelled.allowed are_lines refl (tt, (tt, tt))
+      (ap (λ (x : Sealed). x.world) there.under)
       (subst (λ (v : View). IsClosed Did 1 small v world) (sym record_is) there.closed)
       (subst (λ (v : View). Backs (part_of v) (tolds [] answers)) (sym record_is) backs)
-      (tt, (tt, tt)) (λ all more last. (tt, never_falls)) no_losses (λ w. omega arith)
+      (tt, (tt, tt)) (λ all more last. (tt, never_falls)) (λ one. (tt, (refl, tt))) no_losses (λ w. omega arith)
 
   -- the answers stand in the order of the script, or one is left out
   in_the_order_of_the_script : IsRun script (told_of world seal (left ∷ evicted ∷ []) []) → ⊥
@@ -278,6 +282,12 @@ module _ (t : Turn) (world : WorldState) (seal : Seal) where
     gone_and_here : state_of (word_at world.desk 0) ≡ state.Here
         → now is.holds.shown world.far 0 ≡ gone 2 → ⊥
     gone_and_here here has = absurd (let e = sym here ∙ is.holds.far 0 2 inside has in cc)
+
+  -- a lane that took no pin is told of one
+  a_pin_that_was_not_taken : IsRun script (told_of world seal (evicted ∷ answer 2 2 Leave (replies.Left 1) ∷ []) [])
+      → ⊥
+  a_pin_that_was_not_taken is =
+      absurd (let e : ◌≡◌ {A = Reply} (replies.Left 1) (replies.Left 0) = is.scopes.1.0 in cc)
 
   -- a crash is told, and none took place
   a_loss : (loss : Loss) → IsRun script (told_of world seal answers (loss ∷ [])) → ⊥

@@ -29,10 +29,11 @@ use Rattle.cb_shared.specs.Passes.{IsPassOf, record_of}
 use Rattle.cb_lanes.specs.declared.body.LaneEnd.{LaneEnd}
 use Rattle.cb_lanes.specs.declared.body.Named.{Named}
 use Rattle.cb_lanes.specs.Asked.{asked}
+use Rattle.cb_lanes.specs.Scoped.{AreOneToOne}
 use Rattle.cb_workers.specs.Rules.{lane_of, visit}
 use Rattle.cb_workers.specs.declared.worker.Worker.{Worker as Worker'}
 use Rattle.cb_workers.specs.declared.worker.Worker.TheVariants as worker
-use Rattle.cb_app.specs.Crew.{AllMade, AreMade, BodyIsReady, IsDealt, IsDealtOne, IsEnded, IsFresh, IsReady, IsTold, Runs, TakesIn, if_same, lines_in, part_of, turns_for, work_in}
+use Rattle.cb_app.specs.Crew.{AllMade, AreKnownTo, AreMade, BodyIsReady, IsDealt, IsDealtOne, IsEnded, IsFresh, IsReady, IsTold, Runs, TakesIn, if_same, lines_in, part_of, turns_for, work_in}
 use Rattle.cb_app.specs.declared.crew.Body.{Body}
 use Rattle.cb_app.specs.declared.crew.Body.TheVariants.{Lane, Worker}
 use Rattle.cb_app.specs.declared.crew.Task.{Task}
@@ -94,7 +95,10 @@ worker_is_ready : (v : View) (w : Worker') → BodyIsReady 2 named v (Worker w 3
 worker_is_ready v w = tt
 
 lane_is_ready : (v : View) → BodyIsReady 2 none v (lane 2 Leave)
-lane_is_ready v = (((refl, tt), tt), tt)
+lane_is_ready v = (((refl, tt), tt), tt, omega arith)
+
+lane_0_runs_before : (v : View) → BodyIsReady 2 none v (lane 0 Leave) → ⊥
+lane_0_runs_before v ready = let low = ready.2 in absurd (omega (arith, low))
 
 a_line_of_another_lane : (v : View) → BodyIsReady 2 none v (Lane (record { n = 1 }) (line 2 Leave ∷ [])) → ⊥
 a_line_of_another_lane v ready = let e : 2 ≡ 1 = ready.0.0.0 in absurd (omega (arith, e))
@@ -102,6 +106,21 @@ a_line_of_another_lane v ready = let e : 2 ≡ 1 = ready.0.0.0 in absurd (omega 
 -- the record knows no handle of the name
 an_unknown_name : (v : View) → BodyIsReady 2 named (record (clear v) { seen = [] }) (lane 2 Leave) → ⊥
 an_unknown_name v ready = elim ready.1.0 [ inl written ↦ written.1 | inr seen ↦ seen.1 ]
+
+-- ---- answers that are known
+
+are_known : (v : View) → AreKnownTo v (answer 0 Leave (Left 0) ∷ [])
+are_known v = (v, (λ h n freed has. has), ((λ h e. absurd cc, tt), (refl, tt)))
+
+of_another_lane : (v : View) → AreKnownTo v (answer 2 Leave (Left 0) ∷ []) → ⊥
+of_another_lane v is = let e : 2 ≡ 0 = is.3.0 in absurd (omega (arith, e))
+
+-- a make of which the record has nothing
+not_on_record : (v : View) → AreKnownTo (record (clear v) { seen = [] })
+    (answer 0 (Make a (1 ∷ [])) (Made (record { n = 0 }) 1) ∷ []) → ⊥
+not_on_record v (w, has, stand, first) =
+    let there = stand.0 0 refl 1 refl in
+    elim (has 0 1 there.0 there.1) [ inl written ↦ written.1 | inr seen ↦ seen.1 ]
 
 ends_in_one : (rest : List Entry) (e : Entry) → [] ≡ rest ++ e ∷ [] → ⊥
 ends_in_one [] e is = absurd cc
@@ -183,6 +202,7 @@ module _ (s : Shared) (p : Pass) (of : IsPassOf s p) (fresh : IsFresh (record_of
     backs = left_backed;
     suits = (tt, tt);
     rises = λ all more last. (tt, (tt, tt));
+    scopes = λ one. (refl, tt);
   }
 
   by_another_pass : (q : Pass) → (IsPassOf s q → ⊥) → IsTold s [] [] (record { answers = []; pass = q }) → ⊥
@@ -213,6 +233,14 @@ module _ (s : Shared) (p : Pass) (of : IsPassOf s p) (fresh : IsFresh (record_of
   freed_without_a_handle : IsTold s [] (line 2 (Read a) ∷ []) (end (answer 2 (Read a) Freed ∷ [])) → ⊥
   freed_without_a_handle told = told.suits.0
 
+  -- a lane that took no pin is told of one
+  no_name : (r : Reply) → AreOneToOne (answer 2 Leave r ∷ [])
+  no_name r x y g h (inl e) q = absurd cc
+  no_name r x y g h (inr missing) q = absurd missing
+
+  told_of_no_pin : IsTold s [] (line 2 Leave ∷ []) (end (answer 2 Leave (Left 1) ∷ [])) → ⊥
+  told_of_no_pin told = absurd (let e : Left 1 ≡ Left 0 = (told.scopes (no_name (Left 1))).0 in cc)
+
   -- who was told of a made object wrote it
   not_in_the_record : IsTold s [] (line 2 (Make a (1 ∷ [])) ∷ [])
       (end (answer 2 (Make a (1 ∷ [])) (Made (record { n = 0 }) 1) ∷ [])) → ⊥
@@ -230,6 +258,7 @@ module _ (s : Shared) (p : Pass) (of : IsPassOf s p) (fresh : IsFresh (record_of
     backs = idle;
     suits = tt;
     rises = none_rise (record_of p) given [] refl;
+    scopes = λ one. tt;
   }
 
   without_memory : (want : NoMemory) → IsEnded s [] (record { lines = line 2 Leave ∷ []; left = Err want })

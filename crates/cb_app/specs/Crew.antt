@@ -28,6 +28,7 @@ use Rattle.cb_lanes.specs.declared.body.Named.{Named}
 use Rattle.cb_lanes.specs.Asked.{HasLineReply, asked}
 use Rattle.cb_lanes.specs.Bodies.{AreLinesOf, AreNamesOf, KnowsNames}
 use Rattle.cb_lanes.specs.Rising.{FreedIsLast}
+use Rattle.cb_lanes.specs.Scoped.{AreScoped}
 use Rattle.cb_lanes.specs.Suits.{AreSuited}
 use Rattle.cb_workers.specs.Rules.{lane_of}
 use Rattle.cb_workers.specs.declared.worker.Worker.{Worker as Worker'}
@@ -110,9 +111,11 @@ pub record IsFresh (v : View) : Type 0 where
   pub written : v.written ≡ []
   pub turns : v.turns ≡ []
 
--- a lane's lines are its own, and the names that it is given are known to its pass
+-- A lane that runs beside others is not lane 0; its lines are its own, and the names that it is given
+-- are known to its pass.
 abbrev pub BodyIsReady : ℕ → List Named → View → Body → Type 0
-BodyIsReady nodes names v (Lane lane lines) = AreLinesOf nodes lane.n lines × KnowsNames v names
+BodyIsReady nodes names v (Lane lane lines) =
+    AreLinesOf nodes lane.n lines × KnowsNames v names × (1 ≤ lane.n)
 BodyIsReady nodes names v (Worker worker turns) = Unit {0}
 
 -- what a thread has to be given, with these names
@@ -136,13 +139,17 @@ RiseWith v given answers =
 abbrev pub StandIn : View → List Answer → Type 0
 StandIn v answers = AllByRecursion (IsOnRecord v) (calls_of answers)
 
--- or in one that this one has all of
+-- the answers are those of lane 0
+abbrev pub AreFirst : List Answer → Type 0
+AreFirst answers = AllByRecursion (λ a. a.lane.n ≡ 0) answers
+
+-- they are, and stand in a record that this one has all of
 abbrev pub AreKnownTo : View → List Answer → Type 0
-AreKnownTo v answers = (w : View) × HasAllOf w v × StandIn w answers
+AreKnownTo v answers = (w : View) × HasAllOf w v × StandIn w answers × AreFirst answers
 
 -- These lines were answered, one after the other, each by a reply that it may have, and the record
 -- of the pass backs the answers, where the answers given before have the names; and they suit the
--- handles of their names, and what the pass has read; and no version falls.
+-- handles of their names, what the pass has read, and the scopes of their lanes; and no version falls.
 pub record IsTold (s : Shared) (given : List Answer) (lines : List Line) (e : LaneEnd) : Type 0
   where
     pub of : IsPassOf s e.pass
@@ -151,6 +158,7 @@ pub record IsTold (s : Shared) (given : List Answer) (lines : List Line) (e : La
     pub backs : Backs (part_of (record_of e.pass)) (tolds given e.answers)
     pub suits : AreSuited (record_of e.pass).seen (tolds given e.answers)
     pub rises : RiseWith (record_of e.pass) given e.answers
+    pub scopes : AreScoped given e.answers
 
 -- so a thread ended, unless memory was wanting
 abbrev pub IsEnded : Shared → List Answer → Ended → Type 0

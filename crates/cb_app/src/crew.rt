@@ -280,6 +280,7 @@ fn run_lane<R: Wait, G: Gate>(
     requires fresh { IsFresh (record_of pass) }
     requires lines { AreLinesOf shared.now.config.nodes lane.n lines }
     requires names { KnowsNames (record_of pass) names.now }
+    requires other { 1 ≤ lane.n }
     ensures lines { result.lines ≡ lines }
     ensures ended { (given : List Answer) → AreNamesOf names.now given
         → AreKnownTo (record_of pass) given → IfOk result.left (IsTold shared.now given lines) }

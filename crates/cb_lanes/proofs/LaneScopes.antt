@@ -1,5 +1,5 @@
 -- What the lines about pins of a lane beside others are answered: as its scope says.
-use Rattle.std.proofs.Common.{◌≡◌, ◌≢◌, ◌⊎◌, ℕ, ◌<◌, Bool, true, false, cond, List, [], ◌∷◌, ◌++◌, length, Option, None, Some, refl, sym, ap, ◌∙◌, subst, arith, inl, inr, eq-eqb, ne_eqb, if◌then◌else◌, append_assoc}
+use Rattle.std.proofs.Common.{◌≡◌, ◌≢◌, ◌⊎◌, ℕ, ◌<◌, Bool, true, false, cond, List, [], ◌∷◌, ◌++◌, length, map, Option, None, Some, refl, sym, ap, ◌∙◌, subst, arith, inl, inr, eq-eqb, ne_eqb, if◌then◌else◌, append_assoc}
 use Rattle.std.specs.List.{AllByRecursion}
 use Rattle.std.specs.Str.{bytes_eq}
 use native.Mathlib.Decide.{ℕ_discrete}
@@ -21,15 +21,17 @@ use Rattle.cb_rule.specs.declared.view.Stand.{Stand}
 use Rattle.cb_rule.specs.declared.view.View.{View}
 use Rattle.cb_rule.specs.Lists.{removed, times}
 use Rattle.cb_rule.specs.Seats.{pins_it}
-use Rattle.cb_record.specs.Parts.{Part}
+use Rattle.cb_script.specs.declared.script.Line.{Line}
 use Rattle.cb_lanes.specs.declared.body.Named.{Named}
-use Rattle.cb_lanes.specs.Bodies.{AreNamesOf, LaneGoes, LinesGo, handle_among, handle_behind}
+use Rattle.cb_lanes.specs.Asked.{asked}
+use Rattle.cb_lanes.specs.Bodies.{AreLinesOf, AreNamesOf, LaneGoes, LinesGo, handle_among, handle_behind}
 use Rattle.cb_lanes.specs.LineGoes.{LineGoes}
 use Rattle.cb_lanes.specs.Passing.{CallGives, HasNoPin, IsNewestPin, PeekGoes, PinEnds, PinGoes, PinsAtLast, UnpinGoes, goes_in}
 use Rattle.cb_lanes.specs.Scopes.{KeepPins, NamedPin, PeekSays, PinsSay, SaysBy, Scope, UnpinSays, newest_on, scope_after, scope_more, scope_of, without_newest}
+use Rattle.cb_lanes.specs.Scoped.{AreOneToOne, IsMadeAs, LaneScoped}
+use Rattle.cb_lanes.proofs.LaneRises.{answers_of}
 use Rattle.cb_lanes.proofs.LinesBack.{first_assoc, handle_append, named_behind}
 use Rattle.cb_lanes.proofs.PinLists.{AreApart, name_cases}
-use Rattle.cb_lanes.proofs.ScopesKept.{IsFresh}
 
 abbrev one_if : Bool → ℕ
 one_if b = cond b 1 0
@@ -361,41 +363,60 @@ number_more names before a q =
     ap (λ (o : Option ℕ). first_of o (handle_among names q)) (handle_append before (a ∷ []) q)
     ∙ first_assoc (handle_made q a.request a.reply) (handle_of before q) (handle_among names q)
 
-made_none : (number : List ℕ → Option ℕ) (q : List ℕ) (h : ℕ) (request : Request) (r : Reply)
-    → IsFresh number request → number q ≡ Some h → handle_made q request r ≡ None
-made_none number q h (Make made bytes) (answer.Made handle version) fresh is =
-    by (name_cases made q)
+-- ---- names that have one handle, and handles that have one name
+pub made_as_left : (before after : List Answer) (name : List ℕ) (h : ℕ) → IsMadeAs before name h
+    → IsMadeAs (before ++ after) name h
+made_as_left [] after name h made = absurd made
+made_as_left (a ∷ before) after name h (inl here) = inl here
+made_as_left (a ∷ before) after name h (inr later) = inr (made_as_left before after name h later)
+
+pub made_as_right : (before after : List Answer) (name : List ℕ) (h : ℕ) → IsMadeAs after name h
+    → IsMadeAs (before ++ after) name h
+made_as_right [] after name h made = made
+made_as_right (a ∷ before) after name h made = inr (made_as_right before after name h made)
+
+-- a name with a handle was made
+handle_is_made : (answers : List Answer) (name : List ℕ) (h : ℕ) → handle_of answers name ≡ Some h
+    → IsMadeAs answers name h
+handle_is_made [] name h is = absurd cc
+handle_is_made (a ∷ later) name h is =
+    by (handle_of later name) refl is (λ at. handle_is_made later name h at)
   where
-    by : ((bytes_eq made q ≡ true) × (made ≡ q)) ⊎ ((bytes_eq made q ≡ false) × (made ≢ q))
-        → (if bytes_eq made q then Some handle.n else None) ≡ None
-    by (inl same) =
-        absurd (let both : None ≡ Some h = sym fresh ∙ ap number same.1 ∙ is in cc)
-    by (inr off) = ap (λ (b : Bool). if b then Some handle.n else None) off.0
-made_none number q h (Make made bytes) r fresh is = refl
-made_none number q h request r fresh is = refl
+    by : (o : Option ℕ) → handle_of later name ≡ o
+        → first_of o (handle_made name a.request a.reply) ≡ Some h
+        → (handle_of later name ≡ Some h → IsMadeAs later name h) → IsMadeAs (a ∷ later) name h
+    by None at e later_made = inl e
+    by (Some g) at e later_made = inr (later_made (at ∙ e))
 
-number_kept : (names : List Named) (before : List Answer) (a : Answer) (q : List ℕ) (h : ℕ)
-    → IsFresh (number_behind names before) a.request → number_behind names before q ≡ Some h
-    → number_behind names (before ++ a ∷ []) q ≡ Some h
-number_kept names before a q h fresh is = number_more names before a q
-    ∙ ap (λ (o : Option ℕ). first_of o (number_behind names before q))
-    (made_none (number_behind names before) q h a.request a.reply fresh is) ∙ is
+one_to_one_front : (before after : List Answer) → AreOneToOne (before ++ after) → AreOneToOne before
+one_to_one_front before after one a b g h p q =
+    one a b g h (made_as_left before after a g p) (made_as_left before after b h q)
 
--- each make is of a name that has no handle yet
-abbrev pub MakeOnce : List Named → List Answer → List Answer → Type 0
-MakeOnce names before [] = Unit {0}
-MakeOnce names before (a ∷ after) = IsFresh (number_behind names before) a.request
-    × MakeOnce names (before ++ a ∷ []) after
+module _ (names : List Named) (given : List Answer) (are_names : AreNamesOf names given) where
+  behind_made : (before : List Answer) (q : List ℕ) (h : ℕ) → number_behind names before q ≡ Some h
+      → IsMadeAs (given ++ before) q h
+  behind_made before q h is = handle_is_made (given ++ before) q h
+      (named_behind names given before (Some q) are_names ∙ is)
 
-numbers_kept : (names : List Named) (before after : List Answer) (q : List ℕ) (h : ℕ)
-    → MakeOnce names before after → number_behind names before q ≡ Some h
-    → number_behind names (before ++ after) q ≡ Some h
-numbers_kept names before [] q h once is =
-    ap (λ (xs : List Answer). number_behind names xs q) (append-nil before) ∙ is
-numbers_kept names before (a ∷ after) q h once is =
-    ap (λ (xs : List Answer). number_behind names xs q) (sym (append_assoc before (a ∷ []) after))
-    ∙ numbers_kept names (before ++ a ∷ []) after q h once.1
-    (number_kept names before a q h once.0 is)
+  apart_behind : (before : List Answer) → AreOneToOne (given ++ before)
+      → AreApart (number_behind names before)
+  apart_behind before one a b h p q =
+      (one a b h h (behind_made before a h p) (behind_made before b h q)).1 refl
+
+  -- one more answer leaves each handle to its name
+  number_kept : (before : List Answer) (a : Answer) (q : List ℕ) (h : ℕ)
+      → AreOneToOne (given ++ (before ++ a ∷ [])) → number_behind names before q ≡ Some h
+      → number_behind names (before ++ a ∷ []) q ≡ Some h
+  number_kept before a q h one is = number_more names before a q
+      ∙ by (handle_made q a.request a.reply) refl
+    where
+      by : (o : Option ℕ) → handle_made q a.request a.reply ≡ o
+          → first_of o (number_behind names before q) ≡ Some h
+      by None at = is
+      by (Some g) at = ap Some ((one q q g h
+          (made_as_right given (before ++ a ∷ []) q g (made_as_right before (a ∷ []) q g (inl at)))
+          (subst (λ (xs : List Answer). IsMadeAs xs q h) (append_assoc given before (a ∷ []))
+          (made_as_left (given ++ before) (a ∷ []) q h (behind_made before q h is)))).0 refl)
 
 -- ---- all lines of a lane
 scope_push : (lane : ℕ) (given before : List Answer) (a : Answer) → a.lane.n ≡ lane
@@ -410,46 +431,52 @@ scope_push lane given before a own =
 module _ (c : Config) (names : List Named) (lane : ℕ) (given : List Answer)
     (are_names : AreNamesOf names given) where
   lines_scoped : (before after : List Answer) (v w : View)
-      → AllByRecursion (λ (a : Answer). a.lane.n ≡ lane) after → MakeOnce names before after
-      → AreApart (number_behind names (before ++ after))
+      → AllByRecursion (λ (a : Answer). a.lane.n ≡ lane) after
+      → AreOneToOne (given ++ (before ++ after))
       → AreNamedPins (number_behind names before) (scope_of lane (given ++ before)) v.pins
       → LinesGo (goes_in c) names before v after w → KeepPins (given ++ before) after
-  lines_scoped before [] v w own once apart are lines = tt
-  lines_scoped before (a ∷ after) v w own once apart are (m, goes, rest) = (
+  lines_scoped before [] v w own one_each are lines = tt
+  lines_scoped before (a ∷ after) v w own one_each are (m, goes, rest) = (
     subst (λ (o : Option ℕ). SaysBy PinsSay o (scope_of a.lane.n (given ++ before)) a.request a.reply)
         (sym (named_behind names given before (name_of a.request) are_names))
         (subst (λ (n : ℕ). SaysBy PinsSay handle (scope_of n (given ++ before)) a.request a.reply)
         (sym own.0) one.says),
     subst (λ (xs : List Answer). KeepPins xs after) (sym (append_assoc given before (a ∷ [])))
-        (lines_scoped (before ++ a ∷ []) after m w own.1 once.1
-        (subst (λ (xs : List Answer). AreApart (number_behind names xs))
-        (sym (append_assoc before (a ∷ []) after)) apart)
+        (lines_scoped (before ++ a ∷ []) after m w own.1 later
         (subst (λ (s : Scope). AreNamedPins (number_behind names (before ++ a ∷ [])) s m.pins)
         (sym (scope_push lane given before a own.0))
         (named_kept (number_behind names before) (number_behind names (before ++ a ∷ []))
         (scope_after (scope_of lane (given ++ before)) a.request a.reply) m.pins
-        (λ q h is. number_kept names before a q h once.0 is) one.pins)) rest),
+        (λ q h is. number_kept names given are_names before a q h (fewer (before ++ a ∷ []) after later)
+        is) one.pins)) rest),
   )
     where
       handle : Option ℕ
       handle = handle_behind names before (name_of a.request)
 
+      fewer : (front back : List Answer) → AreOneToOne (given ++ (front ++ back))
+          → AreOneToOne (given ++ front)
+      fewer front back all = one_to_one_front (given ++ front) back
+          (subst AreOneToOne (sym (append_assoc given front back)) all)
+
+      later : AreOneToOne (given ++ ((before ++ a ∷ []) ++ after))
+      later = subst (λ (xs : List Answer). AreOneToOne (given ++ xs))
+          (sym (append_assoc before (a ∷ []) after)) one_each
+
       one : IsScoped (number_behind names before) handle (scope_of lane (given ++ before)) a.request
           a.reply m
       one = line_scoped c (number_behind names before)
-          (λ x y h p q. apart x y h (numbers_kept names before (a ∷ after) x h once p)
-          (numbers_kept names before (a ∷ after) y h once q)) handle
+          (apart_behind names given are_names before (fewer before (a ∷ after) one_each)) handle
           (scope_of lane (given ++ before)) a.request a.reply v m
           (λ name e. ap (handle_behind names before) (sym e)) are goes
 
-  -- the lines about pins of a lane that began without one
-  pub lane_scoped : (answers : List Answer) (v w : View) → v.pins ≡ []
-      → scope_of lane given ≡ [] → AllByRecursion (λ (a : Answer). a.lane.n ≡ lane) answers
-      → MakeOnce names [] answers → AreApart (number_behind names answers)
-      → LaneGoes c names v answers w → KeepPins given answers
-  lane_scoped answers v w none scope own once apart (m, lines, left) =
-      subst (λ (xs : List Answer). KeepPins xs answers) (append-nil given)
-      (lines_scoped [] answers v m own once apart
-      (subst (λ (s : Scope). AreNamedPins (number_behind names []) s v.pins)
-      (sym (ap (scope_of lane) (append-nil given) ∙ scope))
-      (subst (AreNamedPins (number_behind names []) []) (sym none) tt)) lines)
+-- the lines about pins of a lane that began without one
+pub lane_scoped : (c : Config) (names : List Named) (nodes lane : ℕ) (lines : List Line)
+    (answers : List Answer) (v w : View) → v.pins ≡ [] → LaneGoes c names v answers w
+    → AreLinesOf nodes lane lines → map asked answers ≡ lines → LaneScoped lane names answers
+lane_scoped c names nodes lane lines answers v w none (m, goes, left) of is given named scope one =
+    subst (λ (xs : List Answer). KeepPins xs answers) (append-nil given)
+    (lines_scoped c names lane given named [] answers v m (answers_of nodes lane lines answers of is) one
+    (subst (λ (s : Scope). AreNamedPins (number_behind names []) s v.pins)
+    (sym (ap (scope_of lane) (append-nil given) ∙ scope))
+    (subst (AreNamedPins (number_behind names []) []) (sym none) tt)) goes)

@@ -1,5 +1,6 @@
 -- What other crates may use of these proofs.
 pub use Rattle.cb_lanes.proofs.FreedLast.{freed_last}
 pub use Rattle.cb_lanes.proofs.LaneRises.{has_joined, has_split, has_taken_in}
+pub use Rattle.cb_lanes.proofs.LaneScopes.{made_as_left, made_as_right}
 pub use Rattle.cb_lanes.proofs.LinesRise.{lane_on_record}
 pub use Rattle.cb_lanes.proofs.LinesSuit.{are_suited_both, are_suited_more, lane_suits}

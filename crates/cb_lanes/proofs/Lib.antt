@@ -36,7 +36,6 @@ pub mod LossOrder
 pub mod WorkedGoes
 pub mod LineParts
 pub mod LinesBack
-pub mod LaneScopes
 pub mod PinsRead
 pub mod LineVersions
 pub mod TellingNew
@@ -44,6 +43,7 @@ pub mod LineRises
 pub mod FreedLast
 pub mod LinesRise
 pub mod LaneRises
+pub mod LaneScopes
 pub mod NamesAmong
 pub mod LinesSoFar
 pub mod TurnReplies
@@ -61,6 +61,7 @@ pub mod WorkedAsking
 pub mod WorkedBodies
 pub mod WorkedRising
 pub mod WorkedSuits
+pub mod WorkedScoped
 pub mod WorkedLines
 pub mod WorkedHere
 pub mod WorkedPins

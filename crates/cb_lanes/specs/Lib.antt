@@ -14,6 +14,7 @@ pub mod LineStep
 pub mod LinesSoundly
 pub mod LineAnswered
 pub mod Scopes
+pub mod Scoped
 pub mod Held
 pub mod Lost
 pub mod Alone

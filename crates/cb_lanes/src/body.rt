@@ -10,6 +10,7 @@ ghost use Rattle.cb_lanes.specs.Bodies.{KnowsKept, KnowsNames, LaneGoes, LinesGo
 ghost use Rattle.cb_lanes.specs.Names.{kept_number};
 ghost use Rattle.cb_lanes.specs.Passing.{AreHeld, goes_in};
 ghost use Rattle.cb_lanes.specs.Rising.{LaneRises};
+ghost use Rattle.cb_lanes.specs.Scoped.{LaneScoped};
 
 use crate::answering::reply_to;
 use crate::asks::leave;
@@ -114,6 +115,7 @@ pub fn lane_body<R: Wait, G: Gate>(
         (record_of end.pass)) }
     ensures rises { IfOk result (λ end. LaneRises lane.n names.now end.answers (record_of pass)
         (record_of end.pass)) }
+    ensures scoped { IfOk result (λ end. LaneScoped lane.n names.now end.answers) }
     ensures stopped { IfErr result (λ s. IsPassOf shared.now s.pass
         × ((record_of s.pass).pins ≡ []) × IsFront (map asked s.answers) lines.now) }
 {

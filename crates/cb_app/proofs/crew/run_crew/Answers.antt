@@ -6,6 +6,7 @@ use Rattle.cb_lanes.specs.declared.body.LaneEnd.{LaneEnd}
 use Rattle.cb_app.specs.ByLane.{by_lane, of_lane}
 use Rattle.cb_app.specs.Crew.{IsTold, lines_due, lines_left, work_in}
 use Rattle.cb_app.proofs.Crews.{all_told, left_apart, same_maps, told_again, told_left}
+use Rattle.cb_app.proofs.ScopesTold.{first_answers}
 use Rattle.cb_app.proofs.WorkDone.{all_made, for_each}
 use Rattle.cb_app.proofs.crew.run_crew.Goals as goal
 
@@ -31,7 +32,12 @@ gather-requires-clause-first g c =
 
 pub gather-requires-clause-ended : goal.gather-requires-clause-ended
 gather-requires-clause-ended g c = c.in_ok-ends.ensures.ended c.args.first.now.answers c.requires.names
-    (λ k t low. (record_of c.args.first.now.pass, c.in_ok-tasks.ensures.dealt.starts k t low, c.requires.stand))
+    (λ k t low. (
+      record_of c.args.first.now.pass,
+      c.in_ok-tasks.ensures.dealt.starts k t low,
+      c.requires.stand,
+      first_answers c.args.lines.now c.args.first.now.answers c.requires.first.lines_are,
+    ))
 
 pub returns : goal.returns
 returns g c =

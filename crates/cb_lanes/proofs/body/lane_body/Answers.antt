@@ -1,6 +1,7 @@
 use Rattle.std.proofs.Common.{[], ap}
 use Rattle.cb_rule.specs.declared.view.View.{View}
 use Rattle.cb_lanes.proofs.LaneRises.{lane_alone}
+use Rattle.cb_lanes.proofs.LaneScopes.{lane_scoped}
 use Rattle.cb_lanes.proofs.LineReplies.{lines_reply}
 use Rattle.cb_lanes.proofs.LinesBack.{lane_adds}
 use Rattle.cb_lanes.proofs.LinesSoFar.{held_none}
@@ -44,6 +45,12 @@ returns-in-Ok-clause-part g c = lane_adds c.args.shared.now.config c.args.names.
 
 pub returns-in-Ok-clause-rises : goal.returns-in-Ok-clause-rises
 returns-in-Ok-clause-rises g c = lane_alone c.args.shared.now.config c.args.names.now
+    c.args.shared.now.config.nodes c.args.lane.n c.args.lines.now c.answer_all-done.new.answers
+    c.args.pass.seat.me.0 c.leave.new.pass.seat.me.0 c.requires.pins
+    (returns-in-Ok-clause-goes g c) c.requires.lines (returns-in-Ok-clause-lines g c)
+
+pub returns-in-Ok-clause-scoped : goal.returns-in-Ok-clause-scoped
+returns-in-Ok-clause-scoped g c = lane_scoped c.args.shared.now.config c.args.names.now
     c.args.shared.now.config.nodes c.args.lane.n c.args.lines.now c.answer_all-done.new.answers
     c.args.pass.seat.me.0 c.leave.new.pass.seat.me.0 c.requires.pins
     (returns-in-Ok-clause-goes g c) c.requires.lines (returns-in-Ok-clause-lines g c)
