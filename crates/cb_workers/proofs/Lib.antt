@@ -6,3 +6,4 @@ mod Steps
 mod WorkedRules
 mod WorkedWork
 mod WorkedBodies
+mod WorkedSteps

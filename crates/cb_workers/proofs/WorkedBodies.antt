@@ -18,7 +18,7 @@ use Rattle.cb_workers.specs.Work.{Answered, deed_of, deeds_of}
 use Rattle.cb_workers.specs.declared.worker.Worker.TheVariants as worker
 
 -- a turn with this job and reply, whatever was known and whatever far state it found
-abbrev turn : Shown → FarState → Job → Option Reply → Turn
+abbrev pub turn : Shown → FarState → Job → Option Reply → Turn
 turn start far work reply = record {
   job = work;
   reply = reply;
@@ -30,17 +30,17 @@ turn start far work reply = record {
   gave = far;
 }
 
-abbrev begun : Answered
+abbrev pub begun : Answered
 begun = record { job = job.Begin; reply = answer.Batch (record { n = 0 }) }
 
-abbrev aborted : Answered
+abbrev pub aborted : Answered
 aborted = record { job = job.Abort; reply = answer.Done }
 
-abbrev two_turns : Shown → FarState → List Turn
+abbrev pub two_turns : Shown → FarState → List Turn
 two_turns s far = turn s far job.Abort (Some answer.Done)
     ∷ turn s far job.Begin (Some (answer.Batch (record { n = 0 }))) ∷ []
 
-works : (s : Shown) → (far : FarState) → IsWorked 8 worker.Evict 1 (turns_alone (two_turns s far))
+pub works : (s : Shown) → (far : FarState) → IsWorked 8 worker.Evict 1 (turns_alone (two_turns s far))
 works s far = record {
   done = begun ∷ [];
   ending = aborted ∷ [];
@@ -54,7 +54,7 @@ works s far = record {
 }
 
 -- no turn was made
-deeds_in : (done ending : List Answered)
+pub deeds_in : (done ending : List Answered)
     → length (deeds_of (ending ++ done)) ≡ length ending + length done
 deeds_in done ending = length-map (ending ++ done) deed_of ∙ length-append ending done
 
@@ -77,7 +77,7 @@ not_pinned : (s : Shown) → (far : FarState)
 not_pinned s far w = let same : 1 ≡ 0 = ap (λ (d : Part). d.ever) w.alone in omega (arith, same)
 
 -- the second of two turns found no memory, and the batch was aborted
-stopped : (s : Shown) → (far : FarState) → IsStopped 8 worker.Evict 2
+pub stopped : (s : Shown) → (far : FarState) → IsStopped 8 worker.Evict 2
     (turns_alone (turn s far job.Abort (Some answer.Done) ∷ turn s far job.Ship None
     ∷ turn s far job.Begin (Some (answer.Batch (record { n = 0 }))) ∷ []))
 stopped s far = record {
@@ -93,7 +93,7 @@ stopped s far = record {
 }
 
 -- none did
-some_there : (ds es : List Deed) → (d : Deed) → [] ≡ ds ++ (d ∷ es) → ⊥
+pub some_there : (ds es : List Deed) → (d : Deed) → [] ≡ ds ++ (d ∷ es) → ⊥
 some_there ds es d e =
     let all : 0 ≡ length (ds ++ (d ∷ es)) = ap (λ xs. length xs) e in
     let parts : length (ds ++ (d ∷ es)) ≡ length ds + length (d ∷ es) = length-append ds (d ∷ es) in

@@ -11,7 +11,8 @@ use Rattle.cb_record.specs.Parts.{Grows, Part, nothing_more}
 use Rattle.cb_shared.specs.Passes.{IsPassOf}
 use Rattle.cb_workers.specs.Rules.{end_of, next_job}
 use Rattle.cb_record.specs.Deeds.{Deed, deed}
-use Rattle.cb_workers.specs.Work.{Answered, AreDue, IsCutShort, IsOnly, IsWork, deeds_of, job_behind, lacked}
+use Rattle.cb_workers.specs.Work.{Answered, AreDue, IsCutShort, IsOnly, IsWork, deeds_of}
+use Rattle.cb_workers.specs.Work.{job_behind, lacked}
 use Rattle.cb_workers.specs.declared.worker.Worker.{Worker}
 
 -- turns, and nothing else: no version is written or read, no pin is taken, and no look is made
