@@ -1,6 +1,6 @@
 -- Worked examples of the parts of a worker's work, and of the work as what a pass adds to its
 -- record: what meets each definition, and what breaks one part alone.
-use Rattle.std.proofs.Common.{◌≡◌, ℕ, suc, ◌+◌, List, [], ◌∷◌, ◌++◌, length, map, Option, None, Some, refl, sym, ap, ◌∙◌, subst, lit<, arith}
+use Rattle.std.proofs.Common.{◌≡◌, ℕ, suc, ◌+◌, ◌<◌, List, [], ◌∷◌, ◌++◌, length, map, Option, None, Some, refl, sym, ap, ◌∙◌, subst, lit<, arith}
 use Rattle.std.proofs.lemmas.List.{length-append, length-map}
 use Rattle.cb_types.specs.declared.job.Job.{Job}
 use Rattle.cb_types.specs.declared.job.Job.TheVariants as job
@@ -254,10 +254,12 @@ module _ (s : Shared) (p q : Pass) (known : Shown) (far : FarState) where
       → Works s worker.Evict 1 p q
   pass_works of eight grows = (
     of,
-    turns_alone (two_turns known far),
-    subst (λ (n : ℕ). IsWorked n worker.Evict 1 (turns_alone (two_turns known far)))
-        (sym eight) (works known far),
-    grows,
+    (
+      turns_alone (two_turns known far),
+      subst (λ (n : ℕ). IsWorked n worker.Evict 1 (turns_alone (two_turns known far)))
+          (sym eight) (works known far),
+      grows,
+    ),
   )
 
   works_elsewhere : (IsPassOf s q → ⊥) → Works s worker.Evict 1 p q → ⊥
@@ -266,9 +268,9 @@ module _ (s : Shared) (p q : Pass) (known : Shown) (far : FarState) where
   -- its record is as it was
   works_not : q.seat.me.0 ≡ grown nothing_more p.seat.me.0 → Works s worker.Evict 1 p q → ⊥
   works_not as_before w =
-      let d = w.1 in let k = w.2 in
+      let d = w.1.0 in let k = w.1.1 in
       let same : length p.seat.me.0.turns ≡ length (d.turns ++ p.seat.me.0.turns) =
-      ap (λ (u : View). length u.turns) (sym as_before ∙ w.3) in
+      ap (λ (u : View). length u.turns) (sym as_before ∙ w.1.2) in
       let one : length k.done ≡ 1 = k.work.number in
       let are : length (map deed d.turns) ≡ length (deeds_of (k.ending ++ k.done)) =
       ap (λ (xs : List Deed). length xs) k.work.are in
@@ -291,10 +293,12 @@ module _ (s : Shared) (p q : Pass) (known : Shown) (far : FarState) where
       → Grows p.seat.me.0 (turns_alone cut_turns) q.seat.me.0 → Stops s worker.Evict 2 p q
   pass_stops of eight grows = (
     of,
-    turns_alone cut_turns,
-    subst (λ (n : ℕ). IsStopped n worker.Evict 2 (turns_alone cut_turns)) (sym eight)
-        (stopped known far),
-    grows,
+    (
+      turns_alone cut_turns,
+      subst (λ (n : ℕ). IsStopped n worker.Evict 2 (turns_alone cut_turns)) (sym eight)
+          (stopped known far),
+      grows,
+    ),
   )
 
   stops_elsewhere : (IsPassOf s q → ⊥) → Stops s worker.Evict 2 p q → ⊥
@@ -302,9 +306,9 @@ module _ (s : Shared) (p q : Pass) (known : Shown) (far : FarState) where
 
   stops_not : q.seat.me.0 ≡ grown nothing_more p.seat.me.0 → Stops s worker.Evict 2 p q → ⊥
   stops_not as_before w =
-      let d = w.1 in let k = w.2 in
+      let d = w.1.0 in let k = w.1.1 in
       let same : length p.seat.me.0.turns ≡ length (d.turns ++ p.seat.me.0.turns) =
-      ap (λ (u : View). length u.turns) (sym as_before ∙ w.3) in
+      ap (λ (u : View). length u.turns) (sym as_before ∙ w.1.2) in
       let none : length d.turns ≡ 0 =
       omega (arith, same, length-append d.turns p.seat.me.0.turns) in
       some_there (deeds_of k.ending) (deeds_of k.done) _ (sym (bare d.turns none) ∙ k.work.are)
