@@ -13,7 +13,10 @@ ghost use Rattle.cb_text.specs.Line.{text_of};
 
 use crate::ending::Ending;
 use crate::threads::run_threads;
-use cb_cli::{Command, Verdict, answers_text, answers_text_in_threads, script_fault_text, script_ok_text, with_given};
+use cb_cli::{
+    Command, Verdict, answers_text, answers_text_in_threads, script_fault_text, script_ok_text,
+    with_given,
+};
 use cb_lanes::{Side, run_lines};
 use cb_rma_text::rma_bytes;
 use cb_script::{Mode, Script, ScriptFault, read_script};

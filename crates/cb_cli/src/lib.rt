@@ -15,6 +15,9 @@ pub use input::{TakeError, take_all};
 pub use lanes::different_lanes;
 pub use outcome::{Due, Failure, status};
 pub use output::{PutFailed, put_all};
-pub use texts::{WORDS_REFUSED, answers_text, answers_text_in_threads, script_fault_text, script_ok_text, with_given};
+pub use texts::{
+    WORDS_REFUSED, answers_text, answers_text_in_threads, script_fault_text, script_ok_text,
+    with_given,
+};
 pub use verdict::Verdict;
 pub use words::{Asked, Command, Plan, asked_of};

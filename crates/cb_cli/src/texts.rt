@@ -18,6 +18,7 @@ pub const WORDS_REFUSED: &[u8] = b"words refused\n";
 
 /// How often answers are halved whose text is written in threads, and how few are not.
 const HALVINGS: u32 = 3;
+
 const FEW: usize = 512;
 
 /// The text of answers, a line each. Each reply is one that its line may have.
