@@ -110,7 +110,7 @@ an_unknown_name v ready = elim ready.1.0 [ inl written ↦ written.1 | inr seen 
 -- ---- answers that are known
 
 are_known : (v : View) → AreKnownTo v (answer 0 Leave (Left 0) ∷ [])
-are_known v = (v, (λ h n freed has. has), ((λ h e. absurd cc, tt), (refl, tt)))
+are_known v = (v, (λ h n freed has. has), ((λ h e. absurd cc), tt), (refl, tt))
 
 of_another_lane : (v : View) → AreKnownTo v (answer 2 Leave (Left 0) ∷ []) → ⊥
 of_another_lane v is = let e : 2 ≡ 0 = is.3.0 in absurd (omega (arith, e))

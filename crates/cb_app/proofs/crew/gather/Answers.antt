@@ -1,7 +1,15 @@
-use Rattle.std.proofs.Common.{sym, ◌∙◌}
+use Rattle.std.proofs.Common.{List, sym, ◌∙◌, subst}
 use Rattle.std.proofs.lemmas.List.{nil_from_length}
-use Rattle.cb_app.proofs.Crews.{first_apart, first_ended, first_of_others, others_ended, taken_work, taking_more}
+use Rattle.cb_app.specs.declared.crew.Ended.{Ended}
+use Rattle.cb_app.proofs.Crews.{IsTaking, first_apart, first_ended, first_of_others, others_ended, taken_work, taking_from, taking_more}
 use Rattle.cb_app.proofs.crew.gather.Goals as goal
+
+pub loop-ended-init : goal.loop-ended-init
+loop-ended-init c = subst (λ (left : List Ended).
+    IsTaking c.args.shared.now c.args.first.now.answers c.args.ends.items left c.args.first.now)
+    (sym c.into_iter-ended-iterator.ensures.into_iter_gives.0)
+    (taking_from c.args.shared.now c.args.ends.items c.args.first.now c.requires.first
+    c.requires.ended c.requires.apart)
 
 pub loop-ended-preserved : goal.loop-ended-preserved
 loop-ended-preserved c =
