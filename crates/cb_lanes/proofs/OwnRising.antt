@@ -14,7 +14,7 @@ use Rattle.cb_rule.specs.declared.view.View.{View}
 use Rattle.cb_rule.specs.Lists.{Has}
 use Rattle.cb_record.specs.Backs.{EntersAt}
 use Rattle.cb_lanes.specs.declared.body.Named.{Named}
-use Rattle.cb_lanes.specs.Bodies.{LinesGo, handle_behind}
+use Rattle.cb_lanes.specs.Bodies.{LaneGoes, LinesGo, handle_behind}
 use Rattle.cb_lanes.specs.KeepsOwn.{KeepsOwn}
 use Rattle.cb_lanes.specs.LineGoes.{Calls, LineGoes}
 use Rattle.cb_lanes.specs.Passing.{goes_in}
@@ -88,9 +88,13 @@ module _ (mine : ℕ → Type 0) where
       lines_rising c names (before ++ a ∷ []) after m w rest
       (line_rises c (handle_behind names before (name_of a.request)) a.request a.reply v m one rising)
 
--- a lane keeps what it has of its own objects
+-- the own objects of a record
+abbrev Mine : View → ℕ → Type 0
+Mine w h = Has h w.own
+
+-- a lane that began with nothing written keeps what it has of its own objects
 pub lane_keeps_own : (c : Config) (names : List Named) (answers : List Answer) (v w all : View)
-    → LinesGo (goes_in c) names [] v answers w → IsWithin w all
-    → AreRising (λ h. Has h w.own) v.written → KeepsOwn w
-lane_keeps_own c names answers v w all goes within rising =
-    keeps_own w all within (lines_rising (λ h. Has h w.own) c names [] answers v w goes rising)
+    → v.written ≡ [] → LaneGoes c names v answers w → IsWithin w all → KeepsOwn w
+lane_keeps_own c names answers v w all none (m, goes, left) within = keeps_own w all within
+    (subst (λ (z : View). AreRising (Mine w) z.written) (sym left)
+    (lines_rising (Mine w) c names [] answers v m goes (subst (AreRising (Mine w)) (sym none) tt)))

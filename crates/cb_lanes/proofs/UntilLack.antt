@@ -38,7 +38,7 @@ module _ (lines : List Line) (lane : ℕ) where
         (sym (not_moved state a none.0)) (until_behind state others own none.1 keep),
   )
 
-  none_until : (state : LaneState) (others : List Answer) → NoneOfLane lane others
+  pub none_until : (state : LaneState) (others : List Answer) → NoneOfLane lane others
       → KeepAloneUntil lines lane state others
   none_until state [] none = tt
   none_until state (a ∷ others) none = λ room. (
