@@ -8,7 +8,6 @@ use Rattle.std.proofs.lemmas.List.Elements.{filter-append}
 use Rattle.std.proofs.lemmas.Slice.Eq.{bytes_eq-Decides}
 use Rattle.cb_types.specs.declared.answer.Answer.{Answer}
 use Rattle.cb_types.specs.declared.config.Config.{Config}
-use Rattle.cb_types.specs.declared.job.Job.TheVariants as job
 use Rattle.cb_types.specs.declared.request.Request.{Request}
 use Rattle.cb_types.specs.declared.request.Request.TheVariants.{Make, Pin}
 use Rattle.cb_types.specs.declared.reply.Reply.{Reply}
@@ -18,11 +17,6 @@ use Rattle.cb_model.specs.Called.{first_of, handle_made, handle_of}
 use Rattle.cb_script.specs.declared.script.Line.{Line}
 use Rattle.cb_script.specs.Form.{AreLines, IsKnown, IsMade, IsNew, KnowsName, Makes}
 use Rattle.cb_rule.specs.declared.view.View.{View}
-use Rattle.cb_rule.specs.Lists.{Has}
-use Rattle.cb_record.specs.Parts.{Part}
-use Rattle.cb_shared.specs.Calls.{the_handle}
-use Rattle.cb_shared.specs.Glances.{HasLast}
-use Rattle.cb_shared.specs.Turning.{TurnAdds}
 use Rattle.cb_lanes.specs.declared.body.Named.{Named}
 use Rattle.cb_lanes.specs.Alone.{HasOwnLines, fresh_lane, is_maker, pins_shared}
 use Rattle.cb_lanes.specs.AloneUntil.{KeepAloneUntil, LaneKeepsAlone}
@@ -244,24 +238,21 @@ own_lines_alone c nodes all lane names answers v w are has shared will line none
     (lane_form nodes all lane names answers are has shared will line)
 
 -- ---- what a lane goes by tells of its own objects
-module _ (c : Config)
-    (range : (h at : ℕ) (bytes : List ℕ) (len : ℕ) (u : View) (d : Part)
-    → TurnAdds c (job.Write (the_handle h) at bytes) (Ok (answer.Range len)) u d → Has h u.own
-    → HasLast h len u) where
-  lines_tell : (names : List Named) (before after : List Answer) (v w : View)
-      → LinesGo (goes_in c) names before v after w → LinesGo (goes_own c) names before v after w
-  lines_tell names before [] v w x = x
-  lines_tell names before (a ∷ after) v w (m, one, rest) = (
-    m,
-    line_less (goes_in c) (goes_own c) v m a.reply (λ ask y. (y, ask_tells c range ask v a.reply m y))
-        (handle_behind names before (name_of a.request)) a.request one,
-    lines_tell names (before ++ a ∷ []) after m w rest,
-  )
+lines_tell : (c : Config) (names : List Named) (before after : List Answer) (v w : View)
+    → LinesGo (goes_in c) names before v after w → LinesGo (goes_own c) names before v after w
+lines_tell c names before [] v w x = x
+lines_tell c names before (a ∷ after) v w (m, one, rest) = (
+  m,
+  line_less (goes_in c) (goes_own c) v m a.reply (λ ask y. (y, ask_tells c ask v a.reply m y))
+      (handle_behind names before (name_of a.request)) a.request one,
+  lines_tell c names (before ++ a ∷ []) after m w rest,
+)
 
-  pub lane_keeps_alone : (nodes lane : ℕ) (names : List Named) (lines : List Line) (answers : List Answer)
-      (v w : View) → v.pins ≡ [] → v.fresh ≡ [] → KnowsNames v names → LaneGoes c names v answers w
-      → map asked answers ≡ lines → AllByRecursion HasLineReply answers
-      → LaneKeepsAlone nodes lane names lines answers w
-  lane_keeps_alone nodes lane names lines answers v w none fresh knows (m, goes, left) are line all script
-      has by_lane shared keeps = own_lines_alone c nodes all lane names answers v w script has shared
-      (are ∙ by_lane) line none fresh knows (m, lines_tell names [] answers v m goes, left) keeps
+pub lane_keeps_alone : (c : Config) (nodes lane : ℕ) (names : List Named) (lines : List Line)
+    (answers : List Answer) (v w : View) → v.pins ≡ [] → v.fresh ≡ [] → KnowsNames v names
+    → LaneGoes c names v answers w → map asked answers ≡ lines
+    → AllByRecursion HasLineReply answers → LaneKeepsAlone nodes lane names lines answers w
+lane_keeps_alone c nodes lane names lines answers v w none fresh knows (m, goes, left) are line all
+    script has by_lane shared keeps =
+    own_lines_alone c nodes all lane names answers v w script has shared (are ∙ by_lane) line none fresh
+    knows (m, lines_tell c names [] answers v m goes, left) keeps

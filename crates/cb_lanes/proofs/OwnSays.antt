@@ -23,7 +23,7 @@ use Rattle.cb_rule.specs.Lists.{Has}
 use Rattle.cb_rule.specs.Promised.{FoundBy}
 use Rattle.cb_rule.specs.Records.{seen_of}
 use Rattle.cb_rule.specs.Seats.{pins_on}
-use Rattle.cb_rule.specs.Steps.{freed_seen, version_seen}
+use Rattle.cb_rule.specs.Steps.{HasLast, freed_seen, version_seen}
 use Rattle.cb_rule.proofs.Laws.{each_has}
 use Rattle.cb_record.specs.Lists.{HasOne}
 use Rattle.cb_record.specs.Needs.{IsReadAs}
@@ -32,7 +32,6 @@ use Rattle.cb_record.proofs.Laws.{has_left, has_right}
 use Rattle.cb_shared.specs.declared.answers.WriteAnswer.{WriteAnswer}
 use Rattle.cb_shared.specs.declared.answers.WriteAnswer.TheVariants as place
 use Rattle.cb_shared.specs.Calls.{ReadGives, SaysAs, TurnGives, WriteAnswers, the_handle}
-use Rattle.cb_shared.specs.Glances.{HasLast}
 use Rattle.cb_lanes.specs.Alone.{change_alone, free_alone, peek_alone, pin_alone, pin_object, read_alone, unpin_alone, write_alone}
 use Rattle.cb_lanes.specs.AloneUntil.{is_lack}
 use Rattle.cb_lanes.specs.KeepsOwn.{AreInOrder, AreLong, AreRead, ComesBehind, ComesNext, last_in}

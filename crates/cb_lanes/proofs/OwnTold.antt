@@ -14,7 +14,6 @@ use Rattle.cb_record.specs.Parts.{Part, grown, nothing_more}
 use Rattle.cb_shared.specs.declared.answers.WriteAnswer.{WriteAnswer}
 use Rattle.cb_shared.specs.declared.answers.WriteAnswer.TheVariants as place
 use Rattle.cb_shared.specs.Calls.{IsInVain, SaysAs, WriteEnds, WriteFinds, the_handle}
-use Rattle.cb_shared.specs.Glances.{HasLast}
 use Rattle.cb_shared.specs.Turning.{TurnAdds}
 use Rattle.cb_lanes.specs.LineGoes.{Ask, Calls}
 use Rattle.cb_lanes.specs.Passing.{goes_in}
@@ -65,17 +64,13 @@ here_tells h at bytes place.NotHere r v d says x own = absurd says
 here_tells h at bytes place.Moving r v d says x own = absurd says
 here_tells h at bytes (place.Raced saw other) r v d says x own = absurd says
 
--- ---- A turn counts the pins. What is not said of it is that a write which it answers as past the end
--- is of an object that was not freed.
-module _ (c : Config)
-    (range : (h at : ℕ) (bytes : List ℕ) (len : ℕ) (u : View) (d : Part)
-    → TurnAdds c (job.Write (the_handle h) at bytes) (Ok (answer.Range len)) u d → Has h u.own
-    → HasLast h len u) where
+-- ---- a turn
+module _ (c : Config) where
   turn_tells : (j : Job) (r : Reply) (u : View) (d : Part) → TurnAdds c j (Ok r) u d
       → TellsOwn (Calls j) u r
   turn_tells (job.Write handle at bytes) (answer.Version version) u d x = λ own. x.pins
   turn_tells (job.Write handle at bytes) (answer.Pinned count) u d x = λ own. (x.pins.2 (inr own), x.pins.0)
-  turn_tells (job.Write handle at bytes) (answer.Range len) u d x = range handle.n at bytes len u d x
+  turn_tells (job.Write handle at bytes) (answer.Range len) u d x = λ own. x.pins (inr own)
   turn_tells (job.Write handle at bytes) r u d x = λ own. tt
   turn_tells (job.Free handle) (answer.Version version) u d x = λ own. x.pins
   turn_tells (job.Free handle) (answer.Pinned count) u d x = λ own. (x.pins.2 (inr own), x.pins.0)
