@@ -31,12 +31,14 @@ use Rattle.cb_lanes.specs.Suits.{AreSuited}
 use Rattle.cb_lanes.proofs.Laws.{are_suited_both, are_suited_more, has_split}
 use Rattle.cb_workers.specs.declared.worker.Worker.{Worker as Worker'}
 use Rattle.cb_app.specs.ByLane.{AreApart, AreOfOthers, IsApart, by_lane, flat, lanes_up_to, of_lane}
-use Rattle.cb_app.specs.Crew.{AllMade, AreMade, BodyIsReady, IsDealt, IsFresh, IsDealtOne, IsEnded, IsReady, IsTold, RiseWith, TakesIn, lines_due, lines_in, lines_left, part_of, turns_due, work_in}
+use Rattle.cb_app.specs.Crew.{AllMade, AreFirst, AreMade, BodyIsReady, IsDealt, IsFresh, IsDealtOne, IsEnded, IsReady, IsTold, RiseWith, TakesIn, lines_due, lines_in, lines_left, part_of, turns_due, work_in}
+use Rattle.cb_app.specs.OwnLines.{KeepAloneWith}
 use Rattle.cb_app.specs.declared.crew.Body.{Body}
 use Rattle.cb_app.specs.declared.crew.Body.TheVariants.{Lane, Worker}
 use Rattle.cb_app.specs.declared.crew.Ended.{Ended}
 use Rattle.cb_app.specs.declared.crew.Task.{Task}
 use Rattle.cb_app.proofs.AnswersRise.{rise_joined}
+use Rattle.cb_app.proofs.LanesAlone.{alone_joined, alone_left}
 use Rattle.cb_app.proofs.Lanes.{apart-push, flat-push, lane_is_apart, lane_is_of_others, no_lines_apart, no_lines_of_others}
 use Rattle.cb_app.proofs.Records.{right_fresh, right_knows_names}
 use Rattle.cb_app.proofs.ScopesTold.{scopes_joined}
@@ -61,11 +63,11 @@ both_suit xs ys ts us a b = are_suited_both (ys ++ xs) ts us
 pub taken_in : (s : Shared) (given others : List Answer) (lines : List Line) (a e b : LaneEnd)
     → a.answers ≡ given ++ others
     → IsTold s [] (map asked a.answers) a → IsTold s given lines e
-    → IsApart (map asked others) lines → AreOfOthers (map asked others) lines
+    → IsApart (map asked others) lines → AreOfOthers (map asked others) lines → AreFirst given
     → IsPassOf s b.pass
     → record_of b.pass ≡ joined (record_of a.pass) (unpinned_all (record_of e.pass))
     → b.answers ≡ a.answers ++ e.answers → TakesIn s given others lines b
-taken_in s given others lines a e b are told ended apart none of pass answers =
+taken_in s given others lines a e b are told ended apart none first of pass answers =
     let apart_so : IsApart (map asked others) (map asked e.answers) =
     subst (IsApart (map asked others)) (sym ended.lines_are) apart in
     let behind : tolds a.answers e.answers ≡ tolds given e.answers =
@@ -101,6 +103,10 @@ taken_in s given others lines a e b are told ended apart none of pass answers =
             (subst (RiseWith (joined (record_of a.pass) (unpinned_all (record_of e.pass))) []) (sym answers) both);
         scopes = subst (AreScoped []) (sym answers)
             (scopes_joined given others e.answers a.answers are apart_so none_so told.scopes ended.scopes);
+        alone = subst (λ (v : View). KeepAloneWith s.config.nodes v [] b.answers) (sym pass)
+            (subst (KeepAloneWith s.config.nodes (joined (record_of a.pass) (unpinned_all (record_of e.pass))) [])
+            (sym answers) (alone_joined s.config.nodes (record_of a.pass) (record_of e.pass) given others
+            e.answers a.answers are first none_so told.alone ended.alone));
       };
     }
 
@@ -358,6 +364,9 @@ told_left s given lines a b share own told same of left = record {
   rises = subst (λ (v : View). RiseWith v given b.answers) (sym left)
       (subst (RiseWith (record_of a.pass) given) (sym same) told.rises);
   scopes = subst (AreScoped given) (sym same) told.scopes;
+  alone = subst (λ (v : View). KeepAloneWith s.config.nodes v given b.answers) (sym left)
+      (subst (KeepAloneWith s.config.nodes (record (record_of a.pass) { share = share; own = own }) given) (sym same)
+      (alone_left s.config.nodes (record_of a.pass) share own given a.answers told.alone));
 }
 
 pub told_again : (s : Shared) (given : List Answer) (lines : List Line) (e : LaneEnd)

@@ -87,7 +87,7 @@ known_in_front : (xs ys : List Line) (lane : ℕ) (name : List ℕ) → KnowsNam
 known_in_front xs ys lane name (inl own) = inl (made_in_front xs ys lane name own)
 known_in_front xs ys lane name (inr shared) = inr (made_in_front xs ys 0 name shared)
 
-used_known : (nodes n : ℕ) (before after : List Line) (name : List ℕ) → AreLines nodes before after
+pub used_known : (nodes n : ℕ) (before after : List Line) (name : List ℕ) → AreLines nodes before after
     → IsUsed (of_lane n after) name → KnowsName (before ++ after) n name
 used_known nodes n before [] name are used = absurd used
 used_known nodes n before (l ∷ after) name are used =

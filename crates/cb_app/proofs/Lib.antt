@@ -10,6 +10,9 @@ mod Lanes
 mod ToldApart
 mod ScopesTold
 mod OneToOne
+mod EntriesTold
+mod OfLane
+mod LanesAlone
 mod AnswersRise
 mod Records
 mod WorkDone

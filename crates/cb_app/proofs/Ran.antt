@@ -1,5 +1,5 @@
 -- A run by threads: what was told, and what the runtime was closed with.
-use Rattle.std.proofs.Common.{◌≡◌, ℕ, ◌≤◌, List, [], ◌∷◌, Result, Ok, Err, sym, ap, ◌∙◌, subst}
+use Rattle.std.proofs.Common.{◌≡◌, ℕ, ◌≤◌, List, [], ◌∷◌, Result, Ok, Err, refl, sym, ap, ◌∙◌, subst}
 use Rattle.std.specs.Prelude.{IfOk, map}
 use Rattle.std.specs.List.{AllByRecursion}
 use Rattle.cb_member.specs.declared.no_memory.NoMemory.{NoMemory}
@@ -29,14 +29,17 @@ use Rattle.cb_lanes.specs.Asked.{HasLineReply, asked}
 use Rattle.cb_lanes.specs.Scoped.{AreScoped}
 use Rattle.cb_lanes.specs.Suits.{AreSuited}
 use Rattle.cb_lanes.proofs.Laws.{freed_last}
+use Rattle.cb_shared.proofs.Laws.{makes_first}
 use Rattle.cb_app.specs.ByLane.{by_lane}
 use Rattle.cb_workers.specs.declared.worker.Worker.{Worker}
 use Rattle.cb_app.specs.Crew.{IsTold, RiseWith, part_of, work_in}
+use Rattle.cb_app.specs.OwnLines.{AreAllOf, KeepAloneWith}
 use Rattle.cb_app.specs.Threaded.{AreLosses, IsRun}
 use Rattle.cb_app.specs.declared.threads.ThreadsEnd.{ThreadsEnd}
 use Rattle.cb_app.proofs.AnswersTold.{InThreads, answers_lost, answers_room}
 use Rattle.cb_app.proofs.EpochsTold.{are_epochs}
 use Rattle.cb_app.proofs.Lanes.{by_lane_all}
+use Rattle.cb_app.proofs.LanesAlone.{alone_unpinned, part_of_itself}
 use Rattle.cb_app.proofs.OneToOne.{one_to_one}
 use Rattle.cb_app.proofs.UpheldTold.{all_upheld}
 use Rattle.cb_app.proofs.WorkCounted.{counts_workers}
@@ -57,9 +60,10 @@ pub is_run : (script : Script) (end : ThreadsEnd) → AreInMode modes.Threads sc
     → Backs (part_of (sealed_record end.seal)) (tolds [] end.answers)
     → AreSuited (sealed_record end.seal).seen (tolds [] end.answers)
     → RiseWith (sealed_record end.seal) [] end.answers → AreScoped [] end.answers
+    → KeepAloneWith script.config.nodes (sealed_record end.seal) [] end.answers
     → AreLosses end.losses end.answers
     → ((w : Worker) → script.config.turns ≤ work_in w (sealed_record end.seal)) → IsRun script end
-is_run script end mode are lines replies seal closed backs suits rises scopes losses work =
+is_run script end mode are lines replies seal closed backs suits rises scopes alone losses work =
     let c = script.config in
     let ok : IsAccepted c = subst IsAccepted closed.settings closed.sound.config in
     let v = sealed_record end.seal in
@@ -70,6 +74,17 @@ is_run script end mode are lines replies seal closed backs suits rises scopes lo
     let never = rises v (λ h n freed has. has) (freed_last 1 v closed.entries) in
     let legal : IsLegal 1 c.handles end.answers =
     legal_of_backed 1 c.handles v end.answers closed.entries closed.calm backs upheld never.1 in
+    let one = one_to_one 1 c.handles c.nodes script.lines end.answers legal are lines in
+    let whole : AreAllOf c.nodes script.lines end.answers v = record {
+      script = are;
+      lines_are = lines;
+      names = one;
+      backs = backs;
+      entries = closed.entries;
+      calm = closed.calm;
+      makes = λ t there bytes handle version job reply.
+          (makes_first 1 c v end.world closed t there bytes handle version job reply).1;
+    } in
     record {
       lines = lines;
       replies = replies;
@@ -79,7 +94,8 @@ is_run script end mode are lines replies seal closed backs suits rises scopes lo
       upheld = upheld;
       legal = legal;
       holds = has_last Did 1 c v end.world closed c.handles end.answers backs upheld;
-      scopes = scopes (one_to_one 1 c.handles c.nodes script.lines end.answers legal are lines);
+      scopes = scopes one;
+      until = λ lane own. alone script.lines end.answers v whole (part_of_itself v) (λ a there. there) lane own refl;
       losses = losses;
       epochs = are_epochs 1 c ok v far.counts.turns far closed.turns end.answers replies backs;
       lost = answers_lost 1 c ok v far.counts.turns far closed.turns end.answers backs end.losses losses;
@@ -123,6 +139,10 @@ module _ (script : Script) (mode : AreInMode modes.Threads script.lines) (shared
       (subst (RiseWith (sealed_record end.seal) []) (sym answers)
       (subst (λ (v : View). RiseWith v [] told.answers) (sym same) is_told.rises))
       (subst (AreScoped []) (sym answers) is_told.scopes)
+      (subst (KeepAloneWith script.config.nodes (sealed_record end.seal) []) (sym answers)
+      (subst (λ (v : View). KeepAloneWith script.config.nodes v [] told.answers) (sym same)
+      (subst (λ (c : Config). KeepAloneWith c.nodes closing [] told.answers) begun.config
+      (alone_unpinned shared.config.nodes (record_of told.pass) told.answers is_told.alone))))
       (subst (λ (l : List Answer). AreLosses end.losses l) (sym answers) losses)
       (λ w. subst (λ (v : View). script.config.turns ≤ work_in w v) (sym same)
       (subst (λ (c : Config). c.turns ≤ work_in w closing) begun.config (work w)))

@@ -28,13 +28,14 @@ use Rattle.cb_record.specs.Parts.{Part, grown}
 use Rattle.cb_record.specs.Told.{Told, tolds}
 use Rattle.cb_record.proofs.Laws.{backs_sum, idle_backs}
 use Rattle.cb_lanes.specs.declared.body.Named.{Named}
-use Rattle.cb_lanes.specs.Bodies.{AddsBacked, AreNamesOf, KnowsHandle, KnowsNames, LaneGoes, handle_among}
+use Rattle.cb_lanes.specs.Bodies.{AddsBacked, AreLinesOf, AreNamesOf, KnowsHandle, KnowsNames, LaneGoes, handle_among}
+use Rattle.cb_lanes.specs.AloneUntil.{LaneKeepsAlone}
 use Rattle.cb_lanes.specs.Lost.{loss_of, losses_of}
 use Rattle.cb_lanes.specs.Rising.{LaneRises}
 use Rattle.cb_lanes.specs.Scoped.{LaneScoped}
 use Rattle.cb_lanes.specs.Scopes.{scope_of}
 use Rattle.cb_lanes.specs.Suits.{AreSuited}
-use Rattle.cb_lanes.proofs.Laws.{lane_suits}
+use Rattle.cb_lanes.proofs.Laws.{answers_of, lane_suits}
 use Rattle.cb_workers.specs.Bodies.{IsWorked, Works}
 use Rattle.cb_workers.specs.Rules.{owner}
 use Rattle.cb_workers.specs.Work.{AreOf}
@@ -48,6 +49,7 @@ use Rattle.cb_lanes.specs.declared.body.LaneEnd.{LaneEnd}
 use Rattle.cb_lanes.specs.Asked.{HasLineReply, asked}
 use Rattle.cb_app.specs.Crew.{AreKnownTo, IsFresh, IsTold, name_made, names_in, part_of}
 use Rattle.cb_app.proofs.AnswersRise.{lane_rise, none_rise}
+use Rattle.cb_app.proofs.LanesAlone.{lane_alone_with, none_alone}
 use Rattle.cb_app.proofs.ScopesTold.{none_scoped}
 
 -- ---- a pass that was split off
@@ -92,10 +94,10 @@ right_knows_names (n ∷ names) given v known =
     (right_knows_handle n.handle given v known.0, right_knows_names names given v known.1)
 
 pub right_fresh : (given : ℕ) (v : View) → IsFresh (right_of given v)
-right_fresh given v = record { pins = refl; written = refl; turns = refl }
+right_fresh given v = record { pins = refl; written = refl; turns = refl; own = refl }
 
 pub opener_fresh : (c : Config) → IsFresh (opener c)
-opener_fresh c = record { pins = refl; written = refl; turns = refl }
+opener_fresh c = record { pins = refl; written = refl; turns = refl; own = refl }
 
 -- ---- a record that grew backs what its new part backs
 
@@ -146,6 +148,7 @@ worker_told s w turns p q given answers fresh works none =
       suits = subst (λ (xs : List Answer). AreSuited (record_of q).seen (tolds given xs)) (sym none) tt;
       rises = none_rise (record_of q) given answers none;
       scopes = none_scoped given answers none;
+      alone = none_alone s.config.nodes (record_of q) given answers none;
     }
 
 -- ---- the record knows what was made
@@ -204,20 +207,30 @@ pub lane_told : (s : Shared) (lane : ℕ) (names : List Named) (v : View) (lines
     → AllByRecursion HasLineReply e.answers → AddsBacked names e.answers v (record_of e.pass)
     → LaneGoes s.config names v e.answers (record_of e.pass)
     → LaneRises lane names e.answers v (record_of e.pass) → LaneScoped lane names e.answers
-    → (given : List Answer) → AreNamesOf names given → AreKnownTo v given → scope_of lane given ≡ []
+    → LaneKeepsAlone s.config.nodes lane names lines e.answers (record_of e.pass)
+    → AreLinesOf s.config.nodes lane lines → (given : List Answer) → AreNamesOf names given → AreKnownTo v given → scope_of lane given ≡ []
     → IsTold s given lines e
-lane_told s lane names v lines e fresh names_known of are replies adds goes rises scoped given named known
-    no_pin = record {
+lane_told s lane names v lines e fresh names_known of are replies adds goes rises scoped alone form given
+    named known no_pin = record {
       of = of;
       lines_are = are;
       replies = replies;
-      backs = fresh_backs v (record_of e.pass) adds.part adds.own (tolds given e.answers) fresh adds.grows
-          (adds.backs given named);
-      suits = lane_suits s.config names e.answers v (record_of e.pass) fresh.pins names_known replies goes given
-          named;
+      backs = backs;
+      suits = suits;
       rises = lane_rise lane names given e.answers v (record_of e.pass) rises named known;
       scopes = scoped given named no_pin;
+      alone = lane_alone_with s.config lane names given e.answers v (record_of e.pass) lines fresh.written
+          fresh.own goes replies (answers_of s.config.nodes lane lines e.answers form are) are alone named
+          known.3 backs suits;
     }
+  where
+    backs : Backs (part_of (record_of e.pass)) (tolds given e.answers)
+    backs = fresh_backs v (record_of e.pass) adds.part adds.own (tolds given e.answers) fresh adds.grows
+        (adds.backs given named)
+
+    suits : AreSuited (record_of e.pass).seen (tolds given e.answers)
+    suits = lane_suits s.config names e.answers v (record_of e.pass) fresh.pins names_known replies goes
+        given named
 
 -- it knows what it made
 pub first_known : (names : List Named) (answers : List Answer) (v w : View)

@@ -1,6 +1,7 @@
 -- Worked examples: the lines of lanes, names of other lanes, names that were made, and losses.
-use Rattle.std.proofs.Common.{◌≡◌, ℕ, zero, suc, ◌≤◌, List, [], ◌∷◌, Some, None, inl, inr, refl, lit≤, arith}
+use Rattle.std.proofs.Common.{◌≡◌, ℕ, zero, suc, ◌≤◌, Bool, true, false, ◌&&◌, List, [], ◌∷◌, Some, None, inl, inr, refl, lit≤, arith}
 use Rattle.std.specs.List.Sorted.{IsNonDecreasingBy, IsPermutation, SwapsInRange, apply_swaps}
+use Rattle.std.proofs.lemmas.Bool.{false≢true}
 use Rattle.std.proofs.lemmas.List.Sorted.{IsPermutation-refl}
 use Rattle.cb_types.specs.declared.answer.Answer.{Answer}
 use Rattle.cb_types.specs.declared.reply.Reply.{Reply}
@@ -192,6 +193,11 @@ one_in_order i (suc j) d le low = absurd (omega (arith, low))
 none_moved : (xs : List Loss) (moves : List (ℕ × ℕ)) → SwapsInRange 0 moves → xs ≡ apply_swaps [] moves → xs ≡ []
 none_moved xs [] below is = is
 none_moved xs (m ∷ moves) below is = let low = below.0 in absurd (omega (arith, low))
+
+-- an answer on no name is to no own line
+pub on_no_name : (b : Bool) → (b && false) ≡ true → ⊥
+on_no_name true is = false≢true is
+on_no_name false is = false≢true is
 
 pub none_from_none : (xs : List Loss) → IsPermutation [] xs → xs ≡ []
 none_from_none xs moved = none_moved xs moved.moves moved.below moved.is

@@ -1,5 +1,6 @@
 -- Worked examples: what a script by threads leaves, and which ending it has.
 use Rattle.std.proofs.Common.{◌≡◌, ℕ, List, [], ◌∷◌, Some, None, refl, sym, ap, ◌∙◌, map, subst, arith}
+use Rattle.std.specs.Prelude.{nat_eq}
 use Rattle.std.specs.List.Sorted.{IsPermutation}
 use Rattle.std.proofs.lemmas.List.Sorted.{IsPermutation-refl}
 use Rattle.cb_types.specs.declared.answer.Answer.{Answer}
@@ -27,7 +28,7 @@ use Rattle.cb_app.specs.declared.ending.Ending.{Ending}
 use Rattle.cb_app.specs.declared.threads.ThreadsEnd.{ThreadsEnd}
 use Rattle.cb_app.proofs.Ran.{is_run as ran}
 use Rattle.cb_app.proofs.Records.{fresh_idle}
-use Rattle.cb_app.proofs.WorkedLanes.{none_from_none}
+use Rattle.cb_app.proofs.WorkedLanes.{none_from_none, on_no_name}
 
 abbrev script : Config → List Line → Script
 script c lines = record { config = c; lines = lines }
@@ -74,7 +75,8 @@ module _ (c : Config) (seal : Seal) (closed : IsClosed Did 1 c (sealed_record se
   is_run : IsRun (script c (leave ∷ [])) (end (answer (Left 0) ∷ []))
   is_run = ran (script c (leave ∷ [])) (end (answer (Left 0) ∷ [])) (λ is. is, tt)
       (are_lines c.nodes) refl (tt, tt) refl closed backs (tt, tt) (λ all more last. (tt, (tt, tt)))
-      (λ one. (refl, tt)) (no_losses (answer (Left 0) ∷ []) refl) (λ w. omega (arith, none))
+      (λ one. (refl, tt)) (λ lines all w whole part among n own same room.
+      (λ mine. absurd (on_no_name (nat_eq 2 n) mine), tt)) (no_losses (answer (Left 0) ∷ []) refl) (λ w. omega (arith, none))
 
   a_pin_that_was_not_taken : IsRun (script c (leave ∷ [])) (end (answer (Left 1) ∷ [])) → ⊥
   a_pin_that_was_not_taken run = absurd (let e : Left 1 ≡ Left 0 = run.scopes.0 in cc)

@@ -1,7 +1,7 @@
 -- Worked examples: what `threads` leaves and puts for a script of two lanes, and for each part what
 -- breaks it.
 use Rattle.std.proofs.Common.{◌≡◌, ℕ, ◌<◌, ◌≤◌, Bool, false, true, List, [], ◌∷◌, length, map, Some, None, refl, sym, ap, ◌∙◌, subst, arith, inl, inr, String, Global}
-use Rattle.std.specs.Prelude.{codes, string_bytes}
+use Rattle.std.specs.Prelude.{nat_eq, codes, string_bytes}
 use Rattle.std.specs.List.{range_with_len}
 use Rattle.std.specs.Fmt.{digits}
 use Rattle.std.proofs.lemmas.List.Sorted.{IsPermutation-refl, length_permutation}
@@ -57,6 +57,7 @@ use Rattle.cb_app.specs.Threaded.{AreLosses, IsRun, IsThreaded}
 use Rattle.cb_app.specs.declared.ending.Ending.{Ending}
 use Rattle.cb_app.specs.declared.threads.ThreadsEnd.{ThreadsEnd}
 use Rattle.cb_app.proofs.Ran.{is_run}
+use Rattle.cb_app.proofs.WorkedLanes.{on_no_name}
 
 -- ---- a script of two lanes, the second one first
 
@@ -181,7 +182,9 @@ module _ (t : Turn) (world : WorldState) (seal : Seal) where
       (ap (λ (x : Sealed). x.world) there.under)
       (subst (λ (v : View). IsClosed Did 1 small v world) (sym record_is) there.closed)
       (subst (λ (v : View). Backs (part_of v) (tolds [] answers)) (sym record_is) backs)
-      (tt, (tt, tt)) (λ all more last. (tt, never_falls)) (λ one. (tt, (refl, tt))) no_losses (λ w. omega arith)
+      (tt, (tt, tt)) (λ all more last. (tt, never_falls)) (λ one. (tt, (refl, tt)))
+      (λ lines all w whole part among n own same room. (λ mine. absurd (on_no_name (nat_eq 1 n) mine),
+      λ none. (λ mine. absurd (on_no_name (nat_eq 2 n) mine), tt))) no_losses (λ w. omega arith)
 
   -- the answers stand in the order of the script, or one is left out
   in_the_order_of_the_script : IsRun script (told_of world seal (left ∷ evicted ∷ []) []) → ⊥

@@ -1,6 +1,6 @@
 -- Worked examples: what threads are given and what they leave.
 use Rattle.std.proofs.Common.{◌≡◌, ℕ, ◌+◌, ◌≤◌, Bool, cond, eqb, List, [], ◌∷◌, ◌++◌, map, Some, Ok, Err, inl, inr, refl, sym, ap, ◌∙◌, subst, lit≤, arith}
-use Rattle.std.specs.Prelude.{slice_index_or}
+use Rattle.std.specs.Prelude.{nat_eq, slice_index_or}
 use Rattle.cb_member.specs.declared.no_memory.NoMemory.{NoMemory}
 use Rattle.cb_types.specs.declared.answer.Answer.{Answer}
 use Rattle.cb_types.specs.declared.config.Config.{Config}
@@ -39,6 +39,8 @@ use Rattle.cb_app.specs.declared.crew.Body.TheVariants.{Lane, Worker}
 use Rattle.cb_app.specs.declared.crew.Task.{Task}
 use Rattle.cb_app.proofs.AnswersRise.{none_known, none_rise}
 use Rattle.cb_app.proofs.Crews.{dealt_none}
+use Rattle.cb_app.proofs.LanesAlone.{none_alone}
+use Rattle.cb_app.proofs.WorkedLanes.{on_no_name}
 use Rattle.cb_app.proofs.Records.{fresh_idle}
 
 abbrev a : List ℕ
@@ -56,10 +58,10 @@ answer lane request reply = record { lane = record { n = lane }; line = 2; reque
 -- ---- the record of a new pass
 
 abbrev clear : View → View
-clear v = record v { pins = []; written = []; turns = [] }
+clear v = record v { pins = []; written = []; turns = []; own = [] }
 
 pub is_fresh : (v : View) → IsFresh (clear v)
-is_fresh v = record { pins = refl; written = refl; turns = refl }
+is_fresh v = record { pins = refl; written = refl; turns = refl; own = refl }
 
 a_pin_is_not_fresh : (v : View) (p : Stand) → IsFresh (record (clear v) { pins = p ∷ [] }) → ⊥
 a_pin_is_not_fresh v p fresh = absurd (let e = fresh.pins in cc)
@@ -69,6 +71,9 @@ an_entry_is_not_fresh v e fresh = absurd (let e = fresh.written in cc)
 
 a_turn_is_not_fresh : (v : View) (t : Turn) → IsFresh (record (clear v) { turns = t ∷ [] }) → ⊥
 a_turn_is_not_fresh v t fresh = absurd (let e = fresh.turns in cc)
+
+an_own_handle_is_not_fresh : (v : View) → IsFresh (record (clear v) { own = 3 ∷ [] }) → ⊥
+an_own_handle_is_not_fresh v fresh = absurd (let e = fresh.own in cc)
 
 -- ---- what the record of a new pass has
 
@@ -203,6 +208,8 @@ module _ (s : Shared) (p : Pass) (of : IsPassOf s p) (fresh : IsFresh (record_of
     suits = (tt, tt);
     rises = λ all more last. (tt, (tt, tt));
     scopes = λ one. (refl, tt);
+    alone = λ lines all w whole part among n own same room.
+        (λ mine. absurd (on_no_name (nat_eq 2 n) mine), tt);
   }
 
   by_another_pass : (q : Pass) → (IsPassOf s q → ⊥) → IsTold s [] [] (record { answers = []; pass = q }) → ⊥
@@ -259,6 +266,7 @@ module _ (s : Shared) (p : Pass) (of : IsPassOf s p) (fresh : IsFresh (record_of
     suits = tt;
     rises = none_rise (record_of p) given [] refl;
     scopes = λ one. tt;
+    alone = none_alone s.config.nodes (record_of p) given [] refl;
   }
 
   without_memory : (want : NoMemory) → IsEnded s [] (record { lines = line 2 Leave ∷ []; left = Err want })

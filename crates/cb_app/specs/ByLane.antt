@@ -1,16 +1,13 @@
 -- The lines of a script by lane and then by line, and which lanes use names that others made.
-use Rattle.std.specs.Prelude.{◌≡◌, ◌⊎◌, ℕ, zero, suc, nat_eq, List, [], ◌∷◌, ◌++◌, Some}
-use Rattle.std.specs.List.{AllByRecursion, filter}
+use Rattle.std.specs.Prelude.{◌≡◌, ◌⊎◌, ℕ, zero, suc, List, [], ◌∷◌, ◌++◌, Some}
+use Rattle.std.specs.List.{AllByRecursion}
 use Rattle.cb_types.specs.declared.request.Request.{Request}
 use Rattle.cb_types.specs.declared.request.Request.TheVariants.{Make}
 use Rattle.cb_types.specs.Requests.{name_of}
 use Rattle.cb_script.specs.declared.script.Line.{Line}
 use Rattle.cb_script.specs.Form.{IsMade}
 use Rattle.cb_model.specs.Legal.{WasTold}
-
--- the lines of this lane, in order
-abbrev pub of_lane : ℕ → List Line → List Line
-of_lane lane lines = filter (λ l. nat_eq l.lane.n lane) lines
+pub use Rattle.cb_lanes.specs.Bodies.{of_lane}
 
 -- those of lane 1, of lane 2, and so on up to this one
 abbrev pub lanes_up_to : ℕ → List Line → List Line

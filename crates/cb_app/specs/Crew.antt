@@ -33,6 +33,7 @@ use Rattle.cb_lanes.specs.Suits.{AreSuited}
 use Rattle.cb_workers.specs.Rules.{lane_of}
 use Rattle.cb_workers.specs.declared.worker.Worker.{Worker as Worker'}
 use Rattle.cb_app.specs.ByLane.{AreApart, flat, lanes_up_to}
+use Rattle.cb_app.specs.OwnLines.{KeepAloneWith}
 use Rattle.cb_app.specs.declared.crew.Body.{Body}
 use Rattle.cb_app.specs.declared.crew.Body.TheVariants.{Lane, Worker}
 use Rattle.cb_app.specs.declared.crew.Ended.{Ended}
@@ -110,6 +111,7 @@ pub record IsFresh (v : View) : Type 0 where
   pub pins : v.pins ≡ []
   pub written : v.written ≡ []
   pub turns : v.turns ≡ []
+  pub own : v.own ≡ []
 
 -- A lane that runs beside others is not lane 0; its lines are its own, and the names that it is given
 -- are known to its pass.
@@ -149,7 +151,8 @@ AreKnownTo v answers = (w : View) × HasAllOf w v × StandIn w answers × AreFir
 
 -- These lines were answered, one after the other, each by a reply that it may have, and the record
 -- of the pass backs the answers, where the answers given before have the names; and they suit the
--- handles of their names, what the pass has read, and the scopes of their lanes; and no version falls.
+-- handles of their names, what the pass has read, and the scopes of their lanes; and no version falls;
+-- and the own lines of lanes are answered as if these were alone.
 pub record IsTold (s : Shared) (given : List Answer) (lines : List Line) (e : LaneEnd) : Type 0
   where
     pub of : IsPassOf s e.pass
@@ -159,6 +162,7 @@ pub record IsTold (s : Shared) (given : List Answer) (lines : List Line) (e : La
     pub suits : AreSuited (record_of e.pass).seen (tolds given e.answers)
     pub rises : RiseWith (record_of e.pass) given e.answers
     pub scopes : AreScoped given e.answers
+    pub alone : KeepAloneWith s.config.nodes (record_of e.pass) given e.answers
 
 -- so a thread ended, unless memory was wanting
 abbrev pub IsEnded : Shared → List Answer → Ended → Type 0

@@ -1,4 +1,5 @@
 pub mod ByLane
+pub mod OwnLines
 pub mod Crew
 pub mod Threaded
 pub mod Scripts

@@ -1,5 +1,5 @@
 -- What a script is answered by threads.
-use Rattle.std.specs.Prelude.{◌≡◌, List, [], map, Some}
+use Rattle.std.specs.Prelude.{◌≡◌, ℕ, List, [], map, Some}
 use Rattle.std.specs.List.{AllByRecursion}
 use Rattle.std.specs.List.Sorted.{IsNonDecreasingBy, IsPermutation}
 use Rattle.cb_types.specs.declared.answer.Answer.{Answer}
@@ -14,6 +14,8 @@ use Rattle.cb_record.specs.Told.{tolds}
 use Rattle.cb_record.specs.Upheld.{Upholds}
 use Rattle.cb_shared.specs.Sealing.{sealed_record, sealed_world}
 use Rattle.cb_shared.specs.Turning.{Did}
+use Rattle.cb_lanes.specs.Alone.{HasOwnLines, fresh_lane}
+use Rattle.cb_lanes.specs.AloneUntil.{KeepAloneUntil}
 use Rattle.cb_lanes.specs.Asked.{HasLineReply, asked}
 use Rattle.cb_lanes.specs.Lost.{losses_of}
 use Rattle.cb_lanes.specs.Scopes.{KeepPins}
@@ -50,6 +52,10 @@ pub record IsRun (script : Script) (end : ThreadsEnd) : Type 0 where
   pub holds : HasLast end.answers end.world
   -- what pin, peek, unpin and leave lines are answered follows from the scopes of their lanes
   pub scopes : KeepPins [] end.answers
+  -- and a lane's own lines are answered by these, by the plain map and by its scope alone, up to the
+  -- first one that is told of a want of room or of a loss
+  pub until : (lane : ℕ) → HasOwnLines script.lines lane
+      → KeepAloneUntil script.lines lane fresh_lane end.answers
   -- the crashes that took place
   pub losses : AreLosses end.losses end.answers
   -- they and the joins began the epochs up to that of the world, each one of them

@@ -13,6 +13,7 @@ ghost use Rattle.cb_workers.specs.declared.worker.Worker.{Worker as Worker'};
 ghost use Rattle.cb_app.specs.ByLane.{AreApart, AreOfOthers, IsApart, by_lane, flat, of_lane};
 ghost use Rattle.cb_app.specs.Crew.{
   AllMade,
+  AreFirst,
   AreKnownTo,
   AreMade,
   IsDealt,
@@ -334,6 +335,7 @@ fn gather(shared: &Shared, first: &mut LaneEnd, ends: Vec<Ended>) -> Result<(), 
     requires first { IsTold shared.now [] (map asked first.old.answers) first.old }
     requires ended { All (IsEnded shared.now first.old.answers) ends.items }
     requires apart { AreApart [] (map lines_left ends.items) }
+    requires of_first { AreFirst first.old.answers }
     ensures told { IfOk result (λ _. IsTold shared.now []
         (map asked first.old.answers ++ flat (map lines_left ends.items)) first.new) }
     ensures work { (w : Worker') (tasks : List Task) → AllMade w tasks ends.items
@@ -352,7 +354,7 @@ fn take_in(shared: &Shared, first: &mut LaneEnd, ended: Ended) -> Result<(), NoM
     ensures told { (given others : List Answer) → first.old.answers ≡ given ++ others
         → IsTold shared.now [] (map asked first.old.answers) first.old
         → IsEnded shared.now given ended → IsApart (map asked others) ended.lines
-        → AreOfOthers (map asked others) ended.lines
+        → AreOfOthers (map asked others) ended.lines → AreFirst given
         → IfOk result (λ _. TakesIn shared.now given others ended.lines first.new) }
     ensures work { (w : Worker') (t : Task) → AreMade w t ended
         → IfOk result (λ _. work_in w (record_of first.old.pass) + turns_due w t
@@ -375,7 +377,7 @@ fn take_end(shared: &Shared, first: &mut LaneEnd, end: LaneEnd) -> Result<(), No
         → first.old.answers ≡ given ++ others
         → IsTold shared.now [] (map asked first.old.answers) first.old
         → IsTold shared.now given lines end → IsApart (map asked others) lines
-        → AreOfOthers (map asked others) lines
+        → AreOfOthers (map asked others) lines → AreFirst given
         → IfOk result (λ _. TakesIn shared.now given others lines first.new) }
     ensures work { (w : Worker') → IfOk result (λ _. work_in w (record_of first.new.pass)
         ≡ work_in w (record_of first.old.pass) + work_in w (record_of end.pass)) }

@@ -31,3 +31,29 @@ module _ {A : Type 0} (goes : Goes A) (a b : A) (r : Reply) (T : Type 0)
   by_ask handle (Make name bytes) x = asks (Calls (job.Make bytes)) x
   by_ask handle Leave x = asks Leaves x
   by_ask handle request x = by_other handle request (job_of request) x
+
+-- ---- what each ask of a line leads to, it leads to by a weaker relation too
+module _ {A : Type 0} (goes less : Goes A) (a b : A) (r : Reply)
+    (each : (ask : Ask) → goes ask a r b → less ask a r b) where
+  object_less : (handle : Option ℕ) (request : Request) → ObjectGoes goes handle request a r b
+      → ObjectGoes less handle request a r b
+  object_less None request x = x
+  object_less (Some h) (Pin name) x = each (Pins h) x
+  object_less (Some h) (Peek name) x = each (Peeks h) x
+  object_less (Some h) (Unpin name) x = each (Unpins h) x
+  object_less (Some h) (Read name) x = each (Calls (job.Read (record { n = h }))) x
+  object_less (Some h) (Write name at bytes) x = each (Calls (job.Write (record { n = h }) at bytes)) x
+  object_less (Some h) (Free name) x = each (Calls (job.Free (record { n = h }))) x
+  object_less (Some h) (Filter name) x = each (Calls (job.Filter (record { n = h }))) x
+  object_less (Some h) request x = absurd x
+
+  other_less : (handle : Option ℕ) (request : Request) (own : Option Job)
+      → OtherGoes goes handle request own a r b → OtherGoes less handle request own a r b
+  other_less handle request (Some j) x = each (Calls j) x
+  other_less handle request None x = object_less handle request x
+
+  pub line_less : (handle : Option ℕ) (request : Request) → LineGoes goes handle request a r b
+      → LineGoes less handle request a r b
+  line_less handle (Make name bytes) x = each (Calls (job.Make bytes)) x
+  line_less handle Leave x = each Leaves x
+  line_less handle request x = other_less handle request (job_of request) x

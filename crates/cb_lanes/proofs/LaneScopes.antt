@@ -376,7 +376,7 @@ made_as_right [] after name h made = made
 made_as_right (a ∷ before) after name h made = inr (made_as_right before after name h made)
 
 -- a name with a handle was made
-handle_is_made : (answers : List Answer) (name : List ℕ) (h : ℕ) → handle_of answers name ≡ Some h
+pub handle_is_made : (answers : List Answer) (name : List ℕ) (h : ℕ) → handle_of answers name ≡ Some h
     → IsMadeAs answers name h
 handle_is_made [] name h is = absurd cc
 handle_is_made (a ∷ later) name h is =

@@ -1,6 +1,12 @@
 -- What other crates may use of these proofs.
+pub use Rattle.cb_lanes.proofs.AloneLines.{maker_of}
 pub use Rattle.cb_lanes.proofs.FreedLast.{freed_last}
-pub use Rattle.cb_lanes.proofs.LaneRises.{has_joined, has_split, has_taken_in}
-pub use Rattle.cb_lanes.proofs.LaneScopes.{made_as_left, made_as_right}
+pub use Rattle.cb_lanes.proofs.LaneRises.{AreOfLane, answers_of, has_joined, has_split, has_taken_in}
+pub use Rattle.cb_lanes.proofs.LaneScopes.{handle_is_made, made_as_left, made_as_right}
 pub use Rattle.cb_lanes.proofs.LinesRise.{lane_on_record}
 pub use Rattle.cb_lanes.proofs.LinesSuit.{are_suited_both, are_suited_more, lane_suits}
+pub use Rattle.cb_lanes.proofs.OwnHandles.{lane_own_made}
+pub use Rattle.cb_lanes.proofs.OwnKept.{IsWithin}
+pub use Rattle.cb_lanes.proofs.OwnRising.{lane_keeps_own}
+pub use Rattle.cb_lanes.proofs.UntilLack.{NoneOfLane, calm_lacks_none, keep_alone, none_lacks}
+pub use Rattle.cb_lanes.proofs.UntilLack.{none_until, until_before, until_behind}

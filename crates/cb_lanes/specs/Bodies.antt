@@ -1,7 +1,8 @@
 -- What a lane that runs in a thread of its own is given, and what it adds to the record of its
 -- pass.
-use Rattle.std.specs.Prelude.{◌≡◌, ℕ, List, [], ◌∷◌, ◌++◌, Option, Some, None, if◌then◌else◌}
-use Rattle.std.specs.List.{AllByRecursion}
+use Rattle.std.specs.Prelude.{◌≡◌, ℕ, nat_eq, List, [], ◌∷◌, ◌++◌, Option, Some, None}
+use Rattle.std.specs.Prelude.{if◌then◌else◌}
+use Rattle.std.specs.List.{AllByRecursion, filter}
 use Rattle.std.specs.Str.{bytes_eq}
 use Rattle.cb_types.specs.declared.answer.Answer.{Answer}
 use Rattle.cb_types.specs.declared.config.Config.{Config}
@@ -22,6 +23,10 @@ use Rattle.cb_lanes.specs.LineGoes.{Goes, LineGoes}
 use Rattle.cb_lanes.specs.Asked.{answer_to}
 use Rattle.cb_lanes.specs.Names.{AreKept, Names, handle_in, kept_number}
 use Rattle.cb_lanes.specs.Passing.{goes_in}
+
+-- the lines of this lane, in order
+abbrev pub of_lane : ℕ → List Line → List Line
+of_lane lane lines = filter (λ l. nat_eq l.lane.n lane) lines
 
 -- the line is of this lane, and its request has its form
 abbrev pub IsLineOf : ℕ → ℕ → Line → Type 0

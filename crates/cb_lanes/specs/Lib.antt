@@ -18,3 +18,5 @@ pub mod Scoped
 pub mod Held
 pub mod Lost
 pub mod Alone
+pub mod KeepsOwn
+pub mod AloneUntil

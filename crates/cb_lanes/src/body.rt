@@ -4,6 +4,7 @@ ghost use Rattle.std.specs.Prelude.{OnErr};
 ghost use Rattle.std.specs.List.{AllByRecursion};
 ghost use Rattle.cb_script.specs.Form.{IsRequest};
 ghost use Rattle.cb_shared.specs.Passes.{IsPassOf, record_of};
+ghost use Rattle.cb_lanes.specs.AloneUntil.{LaneKeepsAlone};
 ghost use Rattle.cb_lanes.specs.Asked.{asked, HasLineReply};
 ghost use Rattle.cb_lanes.specs.Bodies.{AddsBacked, AnswersOne, AreLinesOf, IsFront, KeepHandles};
 ghost use Rattle.cb_lanes.specs.Bodies.{KnowsKept, KnowsNames, LaneGoes, LinesGo};
@@ -116,6 +117,8 @@ pub fn lane_body<R: Wait, G: Gate>(
     ensures rises { IfOk result (λ end. LaneRises lane.n names.now end.answers (record_of pass)
         (record_of end.pass)) }
     ensures scoped { IfOk result (λ end. LaneScoped lane.n names.now end.answers) }
+    ensures alone { IfOk result (λ end. LaneKeepsAlone shared.now.config.nodes lane.n names.now
+        lines.now end.answers (record_of end.pass)) }
     ensures stopped { IfErr result (λ s. IsPassOf shared.now s.pass
         × ((record_of s.pass).pins ≡ []) × IsFront (map asked s.answers) lines.now) }
 {

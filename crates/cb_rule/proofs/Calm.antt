@@ -151,30 +151,41 @@ module _ (c : Config) (ws : List ℕ) (views : List View) (known : Shown) (es : 
           (λ (s : 0 < total (pins_on h) views). let n = m.no_pins in omega (arith, n, s))
           why)) k.word
 
-  -- what the word of an object that has contents tells of its length is that of its newest entry
-  pub look_ok : (h : ℕ) → h < c.handles → LookOk es (look_at h (pointer ws h))
-  look_ok h l full = go (object_at known h) (r.stand h l) (r.fit h l)
+  -- the newest entry of an object that has contents, whose length its word tells
+  pub record HasContents (h : ℕ) : Type 0 where
+    pub entry : Entry
+    pub there : Has entry es
+    pub handle : entry.handle ≡ h
+    pub version : entry.version ≡ top es h
+    pub held : entry.freed ≡ false
+    pub long : entry.len ≡ len_of (pointer ws h)
+    pub made : 0 < top es h
+
+  -- an object has contents where its word is not Empty
+  pub contents : (h : ℕ) → h < c.handles → state_of (pointer ws h) ≢ word.Empty → HasContents h
+  contents h l full = go (object_at known h) (r.stand h l) (r.fit h l)
     where
       w : ℕ
       w = pointer ws h
 
       entry_of : (len : ℕ) (value : Value) → known.first ≤ top es h → newest es h ≡ value
-          → value.freed ≡ false → value.len ≡ len → len_of w ≡ len
-          → (e : Entry) × Has e es × (e.handle ≡ h) × (e.freed ≡ false) × (e.len ≡ len_of w)
+          → value.freed ≡ false → value.len ≡ len → len_of w ≡ len → HasContents h
       entry_of len value born has kept long at =
-          let n = newest_entry es h (let b = r.begins in omega (arith, b, born)) in (
-            n.entry,
-            n.there,
-            n.handle,
-            ap (λ (v : Value). v.freed) (n.has ∙ has) ∙ kept,
-            ap (λ (v : Value). v.len) (n.has ∙ has) ∙ long ∙ sym at,
-          )
+          let made : 0 < top es h = (let b = r.begins in omega (arith, b, born)) in
+          let n = newest_entry es h made in record {
+            entry = n.entry;
+            there = n.there;
+            handle = n.handle;
+            version = n.version;
+            held = ap (λ (v : Value). v.freed) (n.has ∙ has) ∙ kept;
+            long = ap (λ (v : Value). v.len) (n.has ∙ has) ∙ long ∙ sym at;
+            made = made;
+          }
 
       go : (z : Object)
           → Stands c known.first ws h (total (pins_on h) views) (total (claims_on h) views)
           (top es h) (newest es h) (version_at known h) z
-          → Fits z w
-          → (e : Entry) × Has e es × (e.handle ≡ h) × (e.freed ≡ false) × (e.len ≡ len_of w)
+          → Fits z w → HasContents h
       go (is.Empty m) k f = absurd (full (ap state_of f))
       go (is.Far len m words) k f = entry_of len (holding_words len words)
           (let b = k.born in let a = k.kept.at in omega (arith, a, b)) k.kept.has refl refl f.1
@@ -182,6 +193,10 @@ module _ (c : Config) (ws : List ℕ) (views : List View) (known : Shown) (es : 
           (let b = k.born in let a = k.kept.at in omega (arith, a, b)) k.kept.has refl refl f.1
       go (is.Here len place) k f =
           entry_of len (holding_words len (newest es h).words) k.born k.held refl refl f.1
+
+  -- so a look tells of an entry
+  pub look_ok : (h : ℕ) → h < c.handles → LookOk es (look_at h (pointer ws h))
+  look_ok h l full = let n = contents h l full in (n.entry, n.there, n.handle, n.held, n.long)
 
   -- its word becomes x
   module _ (h : ℕ) (l : h < c.handles) (o : Lies h) (x : ℕ) where

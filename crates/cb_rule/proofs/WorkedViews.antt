@@ -1,5 +1,5 @@
 -- Worked records of seats: what meets each definition, and what breaks one of its parts alone.
-use Rattle.std.proofs.Common.{◌≡◌, ◌≢◌, ℕ, zero, suc, ◌+◌, ◌*◌, ◌^◌, ◌<◌, [], ◌∷◌, length, sym, refl, ap, ◌∙◌, subst, inl, inr, ⊎_elim, true≢false, lit<, lit≤, arith}
+use Rattle.std.proofs.Common.{◌≡◌, ◌≢◌, ℕ, zero, suc, ◌+◌, ◌*◌, ◌^◌, ◌<◌, ◌≤◌, false, [], ◌∷◌, length, sym, refl, ap, ◌∙◌, subst, inl, inr, ⊎_elim, true≢false, lit<, lit≤, arith}
 use Rattle.std.proofs.lemmas.Bool.{eqb-false}
 use mathlib.Core.Option.{some, none as no_slot, some-injective, some-ne-none}
 use lib.ListN.{get_elem?}
@@ -14,13 +14,13 @@ use Rattle.cb_world.specs.Written.{entry, gone}
 use Rattle.cb_rule.specs.declared.view.Peeked.{Peeked}
 use Rattle.cb_rule.specs.declared.view.View.{View}
 use Rattle.cb_rule.specs.History.{is_version}
-use Rattle.cb_rule.specs.Lists.{times}
+use Rattle.cb_rule.specs.Lists.{times, Has}
 use Rattle.cb_rule.specs.Own.{IsAlone}
 use Rattle.cb_rule.specs.Records.{IsWordOf, LookOk, PeekedOk, SeenOk, seen_of}
 use Rattle.cb_rule.specs.Ruled.{AreShares}
 use Rattle.cb_rule.specs.Seats.{written_on}
 use Rattle.cb_rule.specs.Slot.{Sat, Slot}
-use Rattle.cb_rule.specs.Steps.{AreNew, Does, FollowsLast, IsNew, IsNewest, Knows, TellsPins, act, blank, claimed, freed_seen, joined, left_of, look_at, looked, nothing, opener, right_of, stand, version_seen}
+use Rattle.cb_rule.specs.Steps.{AreNew, Does, FollowsLast, HasLast, IsNew, IsNewest, Knows, TellsPins, act, blank, claimed, freed_seen, joined, left_of, look_at, looked, nothing, opener, right_of, stand, version_seen}
 use Rattle.cb_rule.proofs.WorkedHistory.{all_entries, freed, made, written}
 
 abbrev pub pair_of : Config
@@ -219,6 +219,7 @@ tells_its_pin : TellsPins 1 one_pin pinner
 tells_its_pin = record {
   here = λ _. (lit< tt, lit≤ tt, λ _. refl);
   away = λ off. absurd (off refl);
+  last = λ _ alone. absurd (shares_it alone);
 }
 
 -- others may have pinned it too, where they may have it
@@ -226,10 +227,34 @@ tells_another_pin : TellsPins 1 one_pin sharer
 tells_another_pin = record {
   here = λ _. (lit< tt, lit≤ tt, λ alone. absurd (shares_it alone));
   away = λ off. absurd (off refl);
+  last = λ _ alone. absurd (shares_it alone);
+}
+
+-- the last entry that the maker wrote, which is of 8 bytes
+made_last : HasLast 1 8 maker
+made_last = record {
+  last = made;
+  wrote = inl refl;
+  handle = refl;
+  newest = record { written = ((λ _. omega arith), tt); seen = tt; lone = λ _. omega arith };
+  held = refl;
+  long = refl;
 }
 
 tells_of_no_pins : TellsPins 1 65537 maker
-tells_of_no_pins = record { here = λ e. absurd (not_here e); away = λ _. refl }
+tells_of_no_pins =
+    record { here = λ e. absurd (not_here e); away = λ _. refl; last = λ _ _. made_last }
+
+-- a word that is Empty tells no length
+tells_no_length : TellsPins 1 0 maker
+tells_no_length = record {
+  here = λ e. absurd (empty_here e);
+  away = λ _. refl;
+  last = λ full. absurd (full refl);
+}
+  where
+    empty_here : word.Empty ≡ word.Here → ⊥
+    empty_here f = absurd cc
 
 too_wide_a_word : TellsPins 1 (2 ^ 53 + one_pin) pinner → ⊥
 too_wide_a_word t = let less : 2 ^ 53 + one_pin < 2 ^ 53 = (t.here refl).0 in omega (arith, less)
@@ -247,6 +272,48 @@ with_a_foreign_pin_on_its_own t =
 pinned_and_away : TellsPins 1 65537 pinner → ⊥
 pinned_and_away t = let none : 1 ≡ 0 = t.away not_here in omega (arith, none)
 
+-- ---- the last entry: the record wrote it, it is this object's, none is newer, it is not the freed
+-- one, and so long
+made_is : (e : Entry) → Has e (made ∷ []) → made ≡ e
+made_is e (inl is) = is
+made_is e (inr none) = absurd none
+
+last_unwritten : HasLast 1 8 (opener pair_of) → ⊥
+last_unwritten x = x.wrote
+
+last_of_another : HasLast 0 8 maker → ⊥
+last_of_another x = eqb-false 1 0 refl
+    (ap (λ (e : Entry). e.handle) (made_is x.last x.wrote) ∙ x.handle)
+
+last_but_one : HasLast 1 8 (record maker { seen = freed_seen 1 5 ∷ [] }) → ⊥
+last_but_one x = let high : 5 ≤ x.last.version = x.newest.seen.0 refl in
+    let is : 3 ≡ x.last.version = ap (λ (e : Entry). e.version) (made_is x.last x.wrote) in
+    omega (arith, high, is)
+
+last_shorter : HasLast 1 7 maker → ⊥
+last_shorter x =
+    eqb-false 8 7 refl (ap (λ (e : Entry). e.len) (made_is x.last x.wrote) ∙ x.long)
+
+abbrev freed_only : View
+freed_only = record maker { written = gone 1 4 (7 ∷ []) ∷ [] }
+
+last_is_freed : HasLast 1 0 freed_only → ⊥
+last_is_freed x = by x.last x.wrote x.held
+  where
+    by : (e : Entry) → Has e (gone 1 4 (7 ∷ []) ∷ []) → e.freed ≡ false → ⊥
+    by e (inl is) off = true≢false (ap (λ (z : Entry). z.freed) is ∙ off)
+    by e (inr none) off = none
+
+-- no word that is not Empty tells another length, of an object that no other view has
+of_another_length_than_its_last : TellsPins 1 57345 maker → ⊥
+of_another_length_than_its_last t = last_shorter (t.last off (inl refl))
+  where
+    off : state_of 57345 ≢ word.Empty
+    off e = absurd (far_empty e)
+      where
+        far_empty : word.Far ≡ word.Empty → ⊥
+        far_empty f = absurd cc
+
 -- what a running turn wrote does not count
 knows_no_fresh : Knows 1 record (blank pair_of) { fresh = made ∷ [] } → ⊥
 knows_no_fresh k = ⊎_elim (λ (z : _). z.1) (λ (z : _). z.1) k
@@ -263,7 +330,11 @@ looks_there h e = let same : 1 ≡ h = omega (arith, e) in
     subst (λ (j : ℕ). Does (worker, []) (Looked j one_pin) (act (Looked 1 one_pin) worker, [])
     × TellsPins j one_pin worker) same (
       (refl, ((lit< tt, refl, refl, inl refl), λ hot. absurd (true≢false (sym hot)))),
-      record { here = λ _. (lit< tt, lit≤ tt, λ _. refl); away = λ off. absurd (off refl) },
+      record {
+        here = λ _. (lit< tt, lit≤ tt, λ _. refl);
+        away = λ off. absurd (off refl);
+        last = λ _ alone. absurd (shares_it alone);
+      },
     )
 
 looks_unnoted : looked (at_word 0) (worker, []) one_pin (worker, []) → ⊥

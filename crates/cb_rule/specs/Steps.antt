@@ -25,13 +25,31 @@ use Rattle.cb_rule.specs.Seats.{claims_it, pins_it, pins_on, written_on}
 use Rattle.cb_rule.specs.Slot.{Slot, Sat}
 use Rattle.cb_rule.specs.Words.{base, stamps}
 
--- What a pointer word that is found tells of the pins on its object. Where it is Here it counts
--- them, and those of the view are among them; where no other view has the object all are its own. An
--- object whose word is not Here has no pins.
+-- this version of the object is at least all that the record has of it; where no other view has the
+-- object it is one that the record wrote
+pub record IsNewest (h version : ℕ) (u : View) : Type 0 where
+  pub written : Each (λ (e : Entry). e.handle ≡ h → e.version ≤ version) (u.fresh ++ u.written)
+  pub seen : Each (λ (s : Seen). s.handle ≡ h → s.version ≤ version) u.seen
+  pub lone : IsAlone h u → 0 < written_on h version u
+
+-- The record wrote the object's last entry, which has this length and is not the freed one.
+pub record HasLast (h len : ℕ) (u : View) : Type 0 where
+  pub last : Entry
+  pub wrote : Has last (u.fresh ++ u.written)
+  pub handle : last.handle ≡ h
+  pub newest : IsNewest h last.version u
+  pub held : last.freed ≡ false
+  pub long : last.len ≡ len
+
+-- What a pointer word that is found tells of its object. Where it is Here it counts the pins, and
+-- those of the view are among them; where no other view has the object all are its own. An object
+-- whose word is not Here has no pins. Where it is not Empty it has the length of the last entry,
+-- which the view wrote if no other view has the object.
 pub record TellsPins (h n : ℕ) (u : View) : Type 0 where
   pub here : state_of n ≡ word.Here
       → (n < 2 ^ 53) × (pins_on h u ≤ pins_of n) × (IsAlone h u → pins_of n ≡ pins_on h u)
   pub away : state_of n ≢ word.Here → pins_on h u ≡ 0
+  pub last : state_of n ≢ word.Empty → IsAlone h u → HasLast h (len_of n) u
 
 -- The holder, within a turn.
 
@@ -105,13 +123,6 @@ settled st m n m' = (h : ℕ) → st.word ≡ 1 + h
     → Does m (Settled h n) m' × AreNew (adds (Settled h n) m.0.known) m.0
 
 -- Any seat, also while another holds the lock.
-
--- this version of the object is at least all that the record has of it; where no other view has the
--- object it is one that the record wrote
-pub record IsNewest (h version : ℕ) (u : View) : Type 0 where
-  pub written : Each (λ (e : Entry). e.handle ≡ h → e.version ≤ version) (u.fresh ++ u.written)
-  pub seen : Each (λ (s : Seen). s.handle ≡ h → s.version ≤ version) u.seen
-  pub lone : IsAlone h u → 0 < written_on h version u
 
 abbrev pub look_at : ℕ → ℕ → Look
 look_at h w = record { handle = h; word = w }

@@ -211,11 +211,19 @@ new_taken known far n v (e ∷ more) new = (
   new_taken known far n v more new.2,
 )
 
--- and so is what a reply tells of its pins
+-- and so is what a reply tells of its object
 told_taken : (known : Shown) (far : FarState) (n : ℕ) (v : View) (h : ℕ) (r : Reply)
     → PinsTold h r (took_lock known far n v) → PinsTold h r v
 told_taken known far n v h (answer.Pinned count) told = told
 told_taken known far n v h (answer.Version k) told = told
+told_taken known far n v h (answer.Range len) told = λ alone. let x = told alone in record {
+  last = x.last;
+  wrote = x.wrote;
+  handle = x.handle;
+  newest = record { written = x.newest.written; seen = x.newest.seen; lone = x.newest.lone };
+  held = x.held;
+  long = x.long;
+}
 told_taken known far n v h r told = tt
 
 pins_counted : (known : Shown) (far : FarState) (n : ℕ) (v : View) (job : Job)

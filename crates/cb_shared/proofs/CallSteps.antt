@@ -17,7 +17,7 @@ use Rattle.cb_rule.specs.declared.view.View.{View}
 use Rattle.cb_rule.specs.Lists.{Each, Has}
 use Rattle.cb_rule.specs.Steps.{Knows, look_at}
 use Rattle.cb_shared.specs.Calls.{AsksFor, AtNone, AtThis, EndsAtLast, IsAnswer, IsAnswerTo, IsCalled, IsInVain, ReadEnds, ReadGives, ReadTries, Stops, TurnEnds, TurnGives, TurnTries, the_handle}
-use Rattle.cb_record.specs.Deeds.{deed, happened, happening}
+use Rattle.cb_record.specs.Deeds.{happening}
 use Rattle.cb_record.specs.Parts.{Part, Grows, grown, nothing_more, sum}
 use Rattle.cb_shared.specs.declared.reading.ReadAnswer.{ReadAnswer}
 use Rattle.cb_shared.specs.declared.reading.ReadAnswer.TheVariants as found

@@ -2,7 +2,6 @@ pub mod Alone
 pub mod Rows
 pub mod Resting
 pub mod Unpinned
-pub mod LastWritten
 pub mod PinsAlone
 pub mod SeatsAlone
 pub mod OwnAlone

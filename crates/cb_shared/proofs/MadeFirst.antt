@@ -1,5 +1,5 @@
 -- What a turn makes is one of the handles, at the first version, so it is its pass's own.
-use Rattle.std.proofs.Common.{◌≡◌, ℕ, ◌<◌, ◌&&◌, Bool, List, [], ◌∷◌, Ok, Err, Result, Option, Some, refl, sym, ap, ◌∙◌, subst, eqb, eq-eqb, arith, inl, inr}
+use Rattle.std.proofs.Common.{◌≡◌, ℕ, ◌<◌, ◌&&◌, Bool, List, [], Ok, Err, Result, Option, Some, refl, sym, ap, ◌∙◌, subst, eqb, eq-eqb, arith, inl, inr}
 use Rattle.std.specs.Prelude.{IfOk}
 use Rattle.cb_member.specs.declared.no_memory.NoMemory.{NoMemory}
 use Rattle.cb_types.specs.declared.config.Config.{Config}

@@ -1,12 +1,12 @@
 -- The steps of a pin are allowed by the rule of the table, whose key has the configuration.
-use Rattle.std.proofs.Common.{◌≡◌, ℕ, ◌+◌, ◌-◌, ◌%◌, ◌^◌, ◌<◌, ◌≤◌, get_or, length, eqb, arith, sym, ap, ◌∙◌, subst}
+use Rattle.std.proofs.Common.{◌≡◌, ℕ, ◌+◌, ◌-◌, ◌%◌, ◌^◌, ◌<◌, ◌≤◌, get_or, length, eqb, sym, ap, ◌∙◌, subst}
 use mathlib.Core.Option.{none}
 use prog.Atomic.{either}
 use Rattle.atomic_table.specs.Table.{step, Allows}
 use Rattle.cb_types.specs.declared.config.Config.{Config}
 use Rattle.cb_ptr.specs.declared.word.State.TheVariants as state
 use Rattle.cb_ptr.specs.Steps.{TakesPin}
-use Rattle.cb_ptr.specs.Word.{len_of, pins_of, state_of}
+use Rattle.cb_ptr.specs.Word.{pins_of, state_of}
 use Rattle.cb_world.specs.Memory.{words_for}
 use Rattle.cb_rule.specs.declared.view.Stand.{Stand}
 use Rattle.cb_rule.specs.Lists.{Has}
@@ -15,34 +15,20 @@ use Rattle.cb_rule.specs.Ruled.{Ruled}
 use Rattle.cb_rule.specs.Seats.{pins_on}
 use Rattle.cb_rule.specs.Slot.{Sat}
 use Rattle.cb_rule.specs.Steps.{Knows, glanced, pinned, unpinned, peeked, dated}
-use Rattle.cb_rule.specs.Words.{base, pointer}
+use Rattle.cb_rule.specs.Words.{base}
 use Rattle.cb_rule.proofs.Laws.{dates, gives_pins, glances, locked_steady, peeks, takes_pin}
 use Rattle.cb_shared.specs.Turning.{Did}
-use Rattle.cb_shared.specs.Glances.{IsLastAlone, glanced_last}
 use Rattle.cb_shared.specs.PinLoads.{read_pin}
 use Rattle.cb_shared.proofs.Alone.{at_key}
-use Rattle.cb_shared.proofs.LastWritten.{has_last}
 
 module _ (first : ℕ) (c k : Config) (key : k ≡ c) (slots id : ℕ) (me : Sat)
     (live : 1 ≤ me.0.share) where
   pub glances_at : (h : ℕ) → h < c.handles → Knows h me.0
       → Allows (Ruled (Locked Did) first k) slots id me (1 + h) (λ n. n)
-      (glanced_last (step slots (1 + h) 0 0 none) me)
-  glances_at h l knows s r long at low =
-      let a = at_key first c k slots id me (1 + h) (λ n. n)
+      (glanced (step slots (1 + h) 0 0 none) me)
+  glances_at h l knows = at_key first c k slots id me (1 + h) (λ n. n)
       (glanced (step slots (1 + h) 0 0 none) me) key
-      (glances (Locked Did) (locked_steady Did) first c slots id me live h l knows) s r long at low in (
-        a.0,
-        a.1,
-        a.2,
-        a.3,
-        (
-          a.4,
-          λ i q here. let same : h ≡ i = omega (arith, q) in
-              subst (λ (j : ℕ). IsLastAlone j (len_of (pointer s.words h)) me.0) same
-              (has_last first k s r id me.0 at h (subst (λ (x : Config). h < x.handles) (sym key) l) here),
-        ),
-      )
+      (glances (Locked Did) (locked_steady Did) first c slots id me live h l knows)
 
   pub takes_pin_at : (h old new : ℕ) → h < c.handles → Knows h me.0 → state_of old ≡ state.Here
       → pins_of old < 1023 → length me.0.pins ≤ 16 → TakesPin old new

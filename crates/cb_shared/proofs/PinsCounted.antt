@@ -1,6 +1,6 @@
--- A write or a free by a turn counts the pins: its reply is by the word that was found last, and each
--- word that was found tells of them.
-use Rattle.std.proofs.Common.{◌≡◌, ℕ, zero, suc, ◌+◌, ◌-◌, ◌^◌, ◌≤◌, Bool, true, false, List, [], ◌∷◌, length, Option, None, Some, Result, Ok, Err, sym, ◌∙◌, subst, inl, inr, arith, refl}
+-- A write or a free by a turn tells of its object: its reply is by the word that was found last, and
+-- each word that was found tells of the pins and of the last entry.
+use Rattle.std.proofs.Common.{◌≡◌, ◌≢◌, ℕ, zero, suc, ◌+◌, ◌-◌, ◌^◌, ◌≤◌, Bool, true, false, List, [], ◌∷◌, ◌++◌, length, Option, None, Some, Result, Ok, Err, sym, ap, ◌∙◌, subst, inl, inr, arith, refl, append_assoc}
 use Rattle.std.specs.Prelude.{nat_lt, ◌==◌, if◌then◌else◌}
 use Rattle.cb_member.specs.declared.no_memory.NoMemory.{NoMemory}
 use Rattle.cb_ptr.specs.declared.word.State.{State}
@@ -12,49 +12,98 @@ use Rattle.cb_types.specs.declared.job.Job.{Job}
 use Rattle.cb_types.specs.declared.job.Job.TheVariants.{Write, Free}
 use Rattle.cb_types.specs.declared.reply.Reply.{Reply}
 use Rattle.cb_types.specs.declared.reply.Reply.TheVariants as answer
+use Rattle.cb_world.specs.declared.entry.Entry.{Entry}
 use Rattle.cb_world.specs.declared.event.Event.{Event}
 use Rattle.cb_world.specs.declared.event.Event.TheVariants.{Looked, Claimed}
-use Rattle.cb_world.specs.declared.shown.Shown.{Shown}
 use Rattle.cb_world.specs.FarState.{FarState}
 use Rattle.cb_world.specs.Looks.{IsFound, IsLook}
+use Rattle.cb_world.specs.Played.{played}
+use Rattle.cb_world.specs.Written.{written_by}
 use Rattle.cb_mutate.specs.Answered.{AbsentAs, AnsweredAs}
 use Rattle.cb_mutate.specs.FreeRule.{FreeAs}
+use Rattle.cb_mutate.specs.JobWrites.{FreeWrites, WriteWrites}
 use Rattle.cb_mutate.specs.WriteRule.{NextVersion, WriteHere}
 use Rattle.cb_core.specs.Parts.{Holding, WhereItIs, near, declined, stays_far, brought}
+use Rattle.cb_core.specs.TurnLeaves.{OutcomeWrites}
 use Rattle.cb_core.specs.Turned.{Brings, Declines, Frees, IsDeclined, Turned, Writes, done, worn}
 use Rattle.cb_rule.specs.declared.view.View.{View}
-use Rattle.cb_rule.specs.Lists.{Each}
 use Rattle.cb_rule.specs.Seats.{pins_on}
-use Rattle.cb_rule.specs.Steps.{TellsPins}
-use Rattle.cb_shared.specs.SeatLaws.{SaysPins, each_behind}
+use Rattle.cb_rule.specs.Steps.{HasLast, TellsPins, act, acted}
+use Rattle.cb_shared.specs.SeatLaws.{SayPins, SaysPins, acted_append, acted_is, after_events, say_behind, still_unwritten}
 use Rattle.cb_shared.specs.Turning.{CountsPins, DidAs, PinsTold, ReadsByPin, Slate, answer_of, held_by, slate_run, slate_shows}
 use Rattle.cb_shared.proofs.Bringing.{bring_gives}
+use Rattle.cb_shared.proofs.Resting.{far_empty, here_empty}
+
+-- the events wrote nothing where the reply is Range
+abbrev pub Unwritten : Reply → List Event → View → Type 0
+Unwritten r es v = (len : ℕ) → r ≡ answer.Range len → written_by es v.known v.fresh ≡ []
+
+-- what a reply tells after events it tells before them
+told_before : (h : ℕ) (es fs : List Event) (r : Reply) (v : View) → Unwritten r (es ++ fs) v
+    → PinsTold h r (after_events es v) → PinsTold h r v
+told_before h es fs (answer.Pinned count) v none told = told
+told_before h es fs (answer.Version n) v none told = told
+told_before h es fs (answer.Range len) v none told = λ alone.
+    let same = still_unwritten es fs v.known v.fresh (none len refl) in
+    let x = subst (λ (l : List Entry). HasLast h len (record v {
+      known = played es v.known;
+      acts = v.acts ++ es;
+      fresh = l;
+    })) same (told alone) in record {
+      last = x.last;
+      wrote = x.wrote;
+      handle = x.handle;
+      newest = record { written = x.newest.written; seen = x.newest.seen; lone = x.newest.lone };
+      held = x.held;
+      long = x.long;
+    }
+told_before h es fs r v none told = tt
+
+module _ (h : ℕ) where
+  -- ---- the word that was found last tells of the object
+  look_tells : (v : View) (w : ℕ) (e : Event) → IsLook h w e → SaysPins v e → TellsPins h w v
+  look_tells v w (Looked k x) is tells =
+      subst (λ (j : ℕ). TellsPins j w v) is.0 (subst (λ (n : ℕ). TellsPins k n v) is.1 tells)
+  look_tells v w (Claimed k x n words) is tells =
+      subst (λ (j : ℕ). TellsPins j w v) is.0 (subst (λ (n : ℕ). TellsPins k n v) is.1 tells)
+  look_tells v w e is tells = absurd is
+
+  -- of the view as it stood when the word was found
+  found_tells : (v : View) (w : ℕ) (es : List Event) → IsFound h w es → SayPins es v
+      → (before : List Event) × (later : List Event) × (es ≡ before ++ later)
+      × TellsPins h w (acted before v)
+  found_tells v w [] found all = absurd found
+  found_tells v w (e ∷ es) (inl later) all = let z = found_tells (act e v) w es later all.1 in
+      (e ∷ z.0, z.1, ap (λ (l : List Event). e ∷ l) z.2, z.3)
+  found_tells v w (e ∷ es) (inr last) all =
+      ([], e ∷ es, refl, look_tells v w e last.0 all.0)
+
+  -- So it is told of the view before all events. What the desk ran last is among all that it ran.
+  by_word : (v : View) (s t : Slate) (es : List Event) (w : ℕ) (r : Reply) → slate_run s es t
+      → SayPins t.acts v → IsFound h w es → Unwritten r t.acts v
+      → ((u : View) → TellsPins h w u → PinsTold h r u) → PinsTold h r v
+  by_word v s t es w r ran all found none tells =
+      let acts : t.acts ≡ s.acts ++ es = ap (λ (q : Slate). q.acts) ran.0 in
+      let z = found_tells (acted s.acts v) w es found (say_behind s.acts es v
+      (subst (λ (l : List Event). SayPins l v) acts all)) in
+      let before : List Event = s.acts ++ z.0 in
+      let whole : t.acts ≡ before ++ z.1 = acts ∙ ap (λ (l : List Event). s.acts ++ l) z.2
+      ∙ sym (append_assoc s.acts z.0 z.1) in
+      told_before h before z.1 r v (subst (λ (l : List Event). Unwritten r l v) whole none)
+      (subst (PinsTold h r) (acted_is before v)
+      (tells (acted before v) (subst (TellsPins h w) (sym (acted_append s.acts z.0 v)) z.3)))
 
 module _ (v : View) (h : ℕ) where
-  -- ---- the word that was found last tells of the pins
-  look_tells : (w : ℕ) (e : Event) → IsLook h w e → SaysPins v e → TellsPins h w v
-  look_tells w (Looked k x) is tells =
-      subst (λ (j : ℕ). TellsPins j w v) is.0 (subst (λ (n : ℕ). TellsPins k n v) is.1 tells)
-  look_tells w (Claimed k x n words) is tells =
-      subst (λ (j : ℕ). TellsPins j w v) is.0 (subst (λ (n : ℕ). TellsPins k n v) is.1 tells)
-  look_tells w e is tells = absurd is
-
-  found_tells : (w : ℕ) (es : List Event) → IsFound h w es → Each (SaysPins v) es → TellsPins h w v
-  found_tells w [] found all = absurd found
-  found_tells w (e ∷ es) (inl later) all = found_tells w es later all.1
-  found_tells w (e ∷ es) (inr last) all = look_tells w e last.0 all.0
-
-  -- what the desk ran last is among all that it ran
-  last_says : (s t : Slate) (es : List Event) → slate_run s es t → Each (SaysPins v) t.acts
-      → Each (SaysPins v) es
-  last_says s t es ran all = each_behind (SaysPins v) s.acts es
-      (subst (λ (q : Slate). Each (SaysPins v) q.acts) ran.0 all)
-
   -- ---- what is answered by that word
   pinned_told : (w : ℕ) (r : Reply) → TellsPins h w v → state_of w ≡ state.Here → 1 ≤ pins_of w
       → r ≡ answer.Pinned (pins_of w) → PinsTold h r v
   pinned_told w r tells here some is = let z = tells.here here in
       subst (λ (q : Reply). PinsTold h q v) (sym is) (some, z.1, z.2)
+
+  range_told : (w len : ℕ) (r : Reply) → TellsPins h w v → state_of w ≢ state.Empty → len_of w ≡ len
+      → r ≡ answer.Range len → PinsTold h r v
+  range_told w len r tells full long is = subst (λ (q : Reply). PinsTold h q v) (sym is)
+      (λ alone. subst (λ (n : ℕ). HasLast h n v) long (tells.last full alone))
 
   version_told : (n : ℕ) (r : Reply) → NextVersion n r → pins_on h v ≡ 0 → PinsTold h r v
   version_told n r (inl (last, is)) none = subst (λ (q : Reply). PinsTold h q v) (sym is) tt
@@ -73,7 +122,7 @@ module _ (v : View) (h : ℕ) where
   write_told at bytes es r w state.Empty e tells x = empty_told es r x
   write_told at bytes es r w state.Far e tells is = subst (λ (q : Reply). PinsTold h q v) (sym is) tt
   write_told at bytes es r w state.Here e tells (inl (past, is)) =
-      subst (λ (q : Reply). PinsTold h q v) (sym is) tt
+      range_told w (len_of w) r tells (λ empty. here_empty (sym e ∙ empty)) refl is
   write_told at bytes es r w state.Here e tells (inr (fits, inl (some, is))) =
       pinned_told w r tells e some is
   write_told at bytes es r w state.Here e tells (inr (fits, inr (none, (n, words, taken, next)))) =
@@ -94,77 +143,88 @@ module _ (v : View) (h : ℕ) where
       version_told n r next (bare w tells e none)
   free_told es r w state.Moving e tells is = subst (λ (q : Reply). PinsTold h q v) (sym is) tt
 
-  -- ---- a write, and a free, by the desk of plain data
-  write_counts : (at : ℕ) (bytes : List ℕ) (a b : Holding Slate) (r : Reply)
-      → Each (SaysPins v) b.desk.acts → Writes slate_run slate_shows h at bytes a r b → PinsTold h r v
-  write_counts at bytes a b r all x = let z = x.rule.1 in
-      write_told at bytes x.events r z.word (state_of z.word) refl
-      (found_tells z.word x.events z.found (last_says a.desk b.desk x.events x.ran all)) z.answer
-
-  pub free_counts : (a b : Holding Slate) (r : Reply) → Each (SaysPins v) b.desk.acts
-      → Frees slate_run slate_shows h a r b → PinsTold h r v
-  free_counts a b r all x = let z = x.rule.reply in
-      free_told x.events r z.word (state_of z.word) refl
-      (found_tells z.word x.events z.found (last_says a.desk b.desk x.events x.ran all)) z.answer
-
   -- where it was declined it was answered neither
-  abbrev Declined : Option Reply → Type 0
+  abbrev pub Declined : Option Reply → Type 0
   Declined None = Unit {0}
   Declined (Some r) = PinsTold h r v
 
-  either_told : (b c : Bool) (len : ℕ)
-      → Declined (if b then Some (answer.Range len) else if c then Some answer.Worn else None)
-  either_told true c len = tt
-  either_told false true len = tt
-  either_told false false len = tt
+  either_told : (w : ℕ) → TellsPins h w v → state_of w ≢ state.Empty → (b c : Bool)
+      → Declined (if b then Some (answer.Range (len_of w)) else if c then Some answer.Worn else None)
+  either_told w tells full true c = λ alone. tells.last full alone
+  either_told w tells full false true = tt
+  either_told w tells full false false = tt
 
-  declined_told : (at count : ℕ) (a b : Holding Slate) (r : Reply)
-      → Declines slate_run slate_shows h at count a (Some r) b → PinsTold h r v
-  declined_told at count a b r x = by x.1.rule
+module _ (v : View) (h : ℕ) where
+  -- ---- a write, and a free, by the desk of plain data
+  write_counts : (at : ℕ) (bytes : List ℕ) (a b : Holding Slate) (r : Reply)
+      → SayPins b.desk.acts v → Unwritten r b.desk.acts v
+      → Writes slate_run slate_shows h at bytes a r b → PinsTold h r v
+  write_counts at bytes a b r all none x = let z = x.rule.1 in
+      by_word h v a.desk b.desk x.events z.word r x.ran all z.found none
+      (λ u tells. write_told u h at bytes x.events r z.word (state_of z.word) refl tells z.answer)
+
+  pub free_counts : (a b : Holding Slate) (r : Reply) → SayPins b.desk.acts v
+      → Unwritten r b.desk.acts v → Frees slate_run slate_shows h a r b → PinsTold h r v
+  free_counts a b r all none x = let z = x.rule.reply in
+      by_word h v a.desk b.desk x.events z.word r x.ran all z.found none
+      (λ u tells. free_told u h x.events r z.word (state_of z.word) refl tells z.answer)
+
+  declined_told : (at count : ℕ) (a b : Holding Slate) (r : Reply) → SayPins b.desk.acts v
+      → Unwritten r b.desk.acts v → Declines slate_run slate_shows h at count a (Some r) b
+      → PinsTold h r v
+  declined_told at count a b r all none x = by x.1.rule
     where
       by : IsDeclined h at count a.far (Some r) x.1.events → PinsTold h r v
-      by (inl (gone, none, idle)) = absurd (some_none none)
+      by (inl (gone, declines, idle)) = absurd (some_none declines)
         where
           some_none : Some r ≡ None → ⊥
           some_none e = cc
-      by (inr (there, (w, n, found, far, told, last, is))) = subst Declined (sym is)
-          (either_told (nat_lt (len_of w) (at + count)) (n == 2 ^ 64 - 1) (len_of w))
+      by (inr (there, (w, n, found, far, told, last, is))) =
+          by_word h v a.desk b.desk x.1.events w r x.1.ran all found none
+          (λ u tells. subst (Declined u h) (sym is)
+          (either_told u h w tells (λ empty. far_empty (sym far ∙ empty))
+          (nat_lt (len_of w) (at + count)) (n == 2 ^ 64 - 1)))
 
   pub where_counts : (c : Config) (at : ℕ) (bytes : List ℕ) (a b : Holding Slate) (r : Reply)
-      → Each (SaysPins v) b.desk.acts
+      → SayPins b.desk.acts v → Unwritten r b.desk.acts v
       → WhereItIs (Writes slate_run slate_shows h at bytes)
       (Declines slate_run slate_shows h at (length bytes)) (Brings slate_run slate_shows c h) a r b
       → PinsTold h r v
-  where_counts c at bytes a b r all (near x off) = write_counts at bytes a b r all x
-  where_counts c at bytes a b r all (declined m x d) = declined_told at (length bytes) m b r d
-  where_counts c at bytes a b r all (stays_far m n x d bring off) = bring_gives
+  where_counts c at bytes a b r all none (near x off) = write_counts at bytes a b r all none x
+  where_counts c at bytes a b r all none (declined m x d) =
+      declined_told at (length bytes) m b r all none d
+  where_counts c at bytes a b r all none (stays_far m n x d bring off) = bring_gives
       (λ (q : Reply). PinsTold h q v) (λ id losses. tt) tt (λ f. tt) (λ frames loose nodes. tt) c h n b r
       bring
-  where_counts c at bytes a b r all (brought m n o f x d bring again) =
-      write_counts at bytes o b r all again
+  where_counts c at bytes a b r all none (brought m n o f x d bring again) =
+      write_counts at bytes o b r all none again
 
 -- ---- the turn
 write_turn : (c : Config) (h : Handle) (at : ℕ) (bytes : List ℕ) (r : Reply) (v : View)
-    (a b : Holding Slate) → Each (SaysPins v) b.desk.acts
+    (a b : Holding Slate) → SayPins b.desk.acts v → Unwritten r b.desk.acts v
     → Turned slate_run slate_shows ReadsByPin c (Write h at bytes) a r b → PinsTold h.n r v
-write_turn c h at bytes r v a b all (worn end is same ran) =
+write_turn c h at bytes r v a b all none (worn end is same ran) =
     subst (λ (q : Reply). PinsTold h.n q v) (sym is) tt
-write_turn c h at bytes r v a b all (done few does) = where_counts v h.n c at bytes _ b r all does
+write_turn c h at bytes r v a b all none (done few does) =
+    where_counts v h.n c at bytes _ b r all none does
 
 free_turn : (c : Config) (h : Handle) (r : Reply) (v : View) (a b : Holding Slate)
-    → Each (SaysPins v) b.desk.acts → Turned slate_run slate_shows ReadsByPin c (Free h) a r b
-    → PinsTold h.n r v
-free_turn c h r v a b all (worn end is same ran) =
+    → SayPins b.desk.acts v → Unwritten r b.desk.acts v
+    → Turned slate_run slate_shows ReadsByPin c (Free h) a r b → PinsTold h.n r v
+free_turn c h r v a b all none (worn end is same ran) =
     subst (λ (q : Reply). PinsTold h.n q v) (sym is) tt
-free_turn c h r v a b all (done few does) = free_counts v h.n _ b r all does
+free_turn c h r v a b all none (done few does) = free_counts v h.n _ b r all none does
 
-pub counts_pins : (c : Config) (job : Job) (r : Result Reply NoMemory) (start : Shown)
-    (es : List Event) (took gave : FarState) (v : View) → DidAs c job (answer_of r) start es took gave
-    → Each (SaysPins v) es → CountsPins job r v
-counts_pins c (Write h at bytes) (Ok r) start es took gave v did all =
-    write_turn c h at bytes r v (held_by start [] took) _ all did
-counts_pins c (Write h at bytes) (Err e) start es took gave v did all = tt
-counts_pins c (Free h) (Ok r) start es took gave v did all =
-    free_turn c h r v (held_by start [] took) _ all did
-counts_pins c (Free h) (Err e) start es took gave v did all = tt
-counts_pins c job r start es took gave v did all = tt
+pub counts_pins : (c : Config) (job : Job) (r : Result Reply NoMemory) (es : List Event)
+    (more : List Entry) (took gave : FarState) (v : View)
+    → DidAs c job (answer_of r) v.known es took gave → SayPins es v → OutcomeWrites job r more
+    → written_by es v.known v.fresh ≡ more → CountsPins job r v
+counts_pins c (Write h at bytes) (Ok r) es more took gave v did all wrote fresh =
+    write_turn c h at bytes r v (held_by v.known [] took) _ all
+    (λ len e. fresh ∙ subst (λ (q : Reply). WriteWrites h.n at bytes q more) e wrote) did
+counts_pins c (Write h at bytes) (Err e) es more took gave v did all wrote fresh = tt
+counts_pins c (Free h) (Ok r) es more took gave v did all wrote fresh =
+    free_turn c h r v (held_by v.known [] took) _ all
+    (λ len e. fresh ∙ subst (λ (q : Reply). FreeWrites h.n q more) e wrote) did
+counts_pins c (Free h) (Err e) es more took gave v did all wrote fresh = tt
+counts_pins c job r es more took gave v did all wrote fresh = tt

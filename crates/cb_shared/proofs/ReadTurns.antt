@@ -34,7 +34,7 @@ use Rattle.cb_rule.specs.Slot.{Sat}
 use Rattle.cb_rule.specs.Steps.{AreNew, Knows, acted}
 use Rattle.cb_record.specs.Parts.{Part, grown, nothing_more}
 use Rattle.cb_shared.specs.Places.{Place}
-use Rattle.cb_shared.specs.SeatLaws.{Runs, acted_is, acted_known, fresh_new}
+use Rattle.cb_shared.specs.SeatLaws.{Runs, acted_fresh, acted_is, acted_known, fresh_new}
 use Rattle.cb_shared.specs.Turning.{DidAs, IsReadReply, JobReads, Slate, TellsNoPin, Tries, answer_of, slate_run, slate_shows}
 use Rattle.cb_shared.specs.UnderLock.{BringAt, Brought, CameThere, HasSame, IsNoRead, TriesOn, TurnAtSeat, WorkBy}
 use Rattle.cb_shared.proofs.AfterTurn.{after_runs}
@@ -306,7 +306,8 @@ work_done c job r took gave p q other none t =
       fresh = fresh;
       new = subst (λ (l : List Entry). AreNew l p.me.0) fresh
           (fresh_new p q t.events none t.runs);
-      pins = counts_pins c job r p.me.0.known t.events took gave p.me.0 t.did t.runs.3;
+      pins = counts_pins c job r t.events t.more took gave p.me.0 t.did t.runs.3 t.wrote
+          (sym (acted_fresh t.events p.me.0) ∙ fresh);
       stood = subst (λ (s : Shown). Stood c s gave)
           (ap (λ (x : View). x.known) came ∙ acted_known t.events p.me.0) t.stood;
     }

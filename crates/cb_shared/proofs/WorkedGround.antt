@@ -1,5 +1,5 @@
 -- What the worked examples are about: an object, the words that it may have, and two records.
-use Rattle.std.proofs.Common.{◌≡◌, ℕ, ◌+◌, ◌<◌, false, List, [], ◌∷◌, ◌++◌, refl, subst, inl, inr, ⊎_elim, arith, ap, ◌∙◌, lit<, true≢false}
+use Rattle.std.proofs.Common.{◌≡◌, ℕ, ◌<◌, false, List, [], ◌∷◌, ◌++◌, refl, subst, inl, inr, ⊎_elim, arith, ap, ◌∙◌, lit<, true≢false}
 use Rattle.cb_types.specs.declared.config.Config.{Config}
 use Rattle.cb_ptr.specs.Word.{state_of, state_number}
 use Rattle.cb_world.specs.declared.entry.Entry.{Entry}
@@ -10,9 +10,8 @@ use Rattle.cb_rule.specs.declared.view.View.{View}
 use Rattle.cb_rule.specs.History.{is_version}
 use Rattle.cb_rule.specs.Own.{IsAlone}
 use Rattle.cb_rule.specs.Lists.{times, Each, Has}
-use Rattle.cb_rule.specs.Steps.{FollowsLast, IsNew, IsNewest, Knows, blank, opener, stand}
+use Rattle.cb_rule.specs.Steps.{FollowsLast, HasLast, IsNew, IsNewest, Knows, blank, opener, stand}
 use Rattle.cb_shared.specs.declared.pass.Pin.{Pin}
-use Rattle.cb_shared.specs.Glances.{HasLast}
 
 -- two objects at most
 abbrev pub two : Config

@@ -1,11 +1,10 @@
 -- Worked makes: what meets each definition, and what breaks one of its parts alone.
-use Rattle.std.proofs.Common.{◌≡◌, List, [], ◌∷◌, length, None, Some, inl, refl, ap}
+use Rattle.std.proofs.Common.{[], ◌∷◌, length, None, Some, inl, refl, ap}
 use Rattle.std.proofs.lemmas.Bool.{eqb-false}
 use mathlib.Core.Option.{none}
 use Rattle.atomic_table.specs.Table.{Step, step}
 use Rattle.cb_types.specs.declared.job.Job.TheVariants as jobs
 use Rattle.cb_types.specs.declared.reply.Reply.TheVariants as answer
-use Rattle.cb_rule.specs.declared.view.View.{View}
 use Rattle.cb_rule.specs.LockSteps.{took_lock}
 use Rattle.cb_rule.specs.Slot.{Sat, Slot}
 use Rattle.cb_shared.specs.Calls.{the_handle}

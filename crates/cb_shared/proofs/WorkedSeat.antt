@@ -1,6 +1,6 @@
 -- Worked seats that run events, and that take and give back the far lock: what meets each definition,
 -- and what breaks one of its parts alone.
-use Rattle.std.proofs.Common.{◌≡◌, ℕ, suc, ◌<◌, true, false, List, [], ◌∷◌, ◌++◌, length, None, Some, inl, refl, sym, ap, ◌∙◌, subst, true≢false, lit<, lit≤, arith}
+use Rattle.std.proofs.Common.{◌≡◌, ℕ, suc, ◌<◌, true, List, [], ◌∷◌, ◌++◌, length, None, Some, inl, refl, sym, ap, ◌∙◌, subst, true≢false, lit<, lit≤, arith}
 use Rattle.std.proofs.lemmas.Bool.{eqb-false}
 use Rattle.cb_types.specs.declared.job.Job.TheVariants as job
 use Rattle.cb_types.specs.declared.reply.Reply.TheVariants as answer
@@ -103,6 +103,7 @@ says_pinned : SaysPins looker (Looked 1 pinned)
 says_pinned = record {
   here = λ _. (lit< tt, lit≤ tt, λ alone. absurd (shared_part 1 alone));
   away = λ off. absurd (off refl);
+  last = λ _ alone. absurd (shared_part 1 alone);
 }
 
 says_nothing_else : SaysPins looker (Told 1 4)

@@ -1,35 +1,34 @@
 -- Worked steps: what each step of a pin and of a write comes to, and what breaks one of its parts
 -- alone.
-use Rattle.std.proofs.Common.{◌≡◌, ℕ, suc, ◌+◌, ◌-◌, ◌^◌, ◌<◌, ◌≤◌, false, List, [], ◌∷◌, length, refl, sym, ap, ◌∙◌, subst, inl, inr, ⊎_elim, true≢false, lit<, lit≤, arith}
+use Rattle.std.proofs.Common.{◌≡◌, ℕ, suc, ◌+◌, ◌-◌, ◌^◌, ◌<◌, ◌≤◌, false, List, [], ◌∷◌, length, refl, sym, ap, ◌∙◌, subst, inl, ⊎_elim, true≢false, lit<, lit≤, arith}
 use Rattle.std.proofs.lemmas.Bool.{eqb-false}
 use mathlib.Core.Option.{none}
 use Rattle.atomic_table.specs.Seated.{TableId}
 use Rattle.atomic_table.specs.Table.{Step, step}
 use Rattle.cb_types.specs.declared.config.Config.{Config}
-use Rattle.cb_ptr.specs.Word.{pins_of, state_number}
-use Rattle.cb_world.specs.declared.entry.Entry.{Entry}
+use Rattle.cb_ptr.specs.Word.{state_number}
 use Rattle.cb_world.specs.Memory.{byte_at}
 use Rattle.cb_world.specs.Written.{entry}
 use Rattle.cb_rule.specs.declared.view.Held.{Held}
 use Rattle.cb_rule.specs.declared.view.Seen.{Seen}
 use Rattle.cb_rule.specs.declared.view.Stand.{Stand}
 use Rattle.cb_rule.specs.declared.view.View.{View}
-use Rattle.cb_rule.specs.Lists.{Each, Has}
+use Rattle.cb_rule.specs.Lists.{Each}
 use Rattle.cb_rule.specs.Own.{IsAlone}
 use Rattle.cb_rule.specs.Rule.{AreSized}
 use Rattle.cb_rule.specs.Seats.{pins_on}
 use Rattle.cb_rule.specs.Slot.{Sat, Slot}
-use Rattle.cb_rule.specs.Steps.{IsNewest, TellsPins, held_at, opener, version_seen, with_freed, with_look, with_pin}
+use Rattle.cb_rule.specs.Steps.{HasLast, IsNewest, TellsPins, glanced as glance_of, held_at, version_seen, with_freed, with_look, with_pin}
 use Rattle.cb_rule.specs.Words.{base}
 use Rattle.cb_shared.specs.declared.answers.PinAnswer.TheVariants as pins
 use Rattle.cb_shared.specs.declared.answers.WriteAnswer.TheVariants as writes
 use Rattle.cb_shared.specs.declared.setup.Setup.{Setup}
 use Rattle.cb_shared.specs.Claims.{ClaimsHere, HoldsOnly, unclaimed, with_only}
-use Rattle.cb_shared.specs.Glances.{Glances, HasLast, IsLastAlone, TakesPin, TellsVersion, glanced_last}
+use Rattle.cb_shared.specs.Glances.{Glances, TakesPin, TellsVersion}
 use Rattle.cb_shared.specs.Pinning.{IsPinnedAt, IsRefusal, PinAt}
 use Rattle.cb_shared.specs.Places.{HoldsLock, IsOf, Moves, Place}
 use Rattle.cb_shared.specs.Writing.{IsWriteRefusal, IsWrittenAt, WriteAt, WriteClaimed}
-use Rattle.cb_shared.proofs.WorkedGround.{a_pin, a_stand, away, calm, freed_last, full, has_last, last_is_freed, last_look, made, moving, newest_later, newest_made, not_second, part, part_pinned, pinned, shared_part, two, version_in, whole, words_in}
+use Rattle.cb_shared.proofs.WorkedGround.{a_pin, a_stand, away, calm, freed_last, full, has_last, last_is_freed, last_look, moving, newest_later, newest_made, not_second, part, part_pinned, pinned, shared_part, two, version_in, whole, words_in}
 use Rattle.cb_shared.proofs.WorkedWrites.{write_it}
 
 abbrev looks_of : View → ℕ
@@ -321,28 +320,7 @@ glanced_gone : (p q : Place) → p.me.0 ≡ freed_last → Glances 1 calm p q �
 glanced_gone p q e g = last_is_freed [] (subst (HasLast 1 8) e
     (g.held refl (inl (ap (λ (v : View). v.share) e))))
 
--- ---- the last entry that a record wrote
-made_is : (e : Entry) → Has e (made ∷ []) → made ≡ e
-made_is e (inl is) = is
-made_is e (inr lacks) = absurd lacks
-
-last_unwritten : HasLast 1 8 (opener two) → ⊥
-last_unwritten x = x.wrote
-
-last_of_another : HasLast 0 8 whole → ⊥
-last_of_another x =
-    eqb-false 1 0 refl (ap (λ (e : Entry). e.handle) (made_is x.last x.wrote) ∙ x.handle)
-
-last_but_one : HasLast 1 8 (record whole { seen = version_seen 1 4 8 (2826 ∷ []) ∷ [] }) → ⊥
-last_but_one x = let high : 4 ≤ x.last.version = x.newest.seen.0 refl in
-    let is : 3 ≡ x.last.version = ap (λ (e : Entry). e.version) (made_is x.last x.wrote) in
-    omega (arith, high, is)
-
-last_shorter : HasLast 1 7 whole → ⊥
-last_shorter x =
-    eqb-false 8 7 refl (ap (λ (e : Entry). e.len) (made_is x.last x.wrote) ∙ x.long)
-
--- ---- a load of the pointer word, as the rule tells it
+-- ---- a load of the pointer word: one that is not Empty tells of the last entry
 abbrev at_one : Step Slot
 at_one = step 1 2 0 0 none
 
@@ -352,25 +330,23 @@ before = (whole, [])
 abbrev behind : Sat
 behind = (with_look 1 calm whole, [])
 
-loads_last : glanced_last at_one before calm behind
-loads_last = (
-  λ h q. let same : 1 ≡ h = omega (arith, q) in (
-    (λ f. absurd (eqb-false 2 0 refl (ap state_number f))),
-    (λ _. ap (λ (j : ℕ). let z : Sat = (with_look j calm whole, []) in z) same),
-    subst (λ (j : ℕ). TellsPins j calm whole) same record {
-      here = λ _. (lit< tt, lit≤ tt, λ _. refl);
-      away = λ far. absurd (far refl);
-    },
-  ),
-  λ h q here. let same : 1 ≡ h = omega (arith, q) in
-      subst (λ (j : ℕ). IsLastAlone j 8 whole) same (λ _. has_last),
+loads_last : glance_of at_one before calm behind
+loads_last h q = let same : 1 ≡ h = omega (arith, q) in (
+  (λ f. absurd (eqb-false 2 0 refl (ap state_number f))),
+  (λ _. ap (λ (j : ℕ). let z : Sat = (with_look j calm whole, []) in z) same),
+  subst (λ (j : ℕ). TellsPins j calm whole) same record {
+    here = λ _. (lit< tt, lit≤ tt, λ _. refl);
+    away = λ far. absurd (far refl);
+    last = λ _ _. has_last;
+  },
 )
 
 abbrev gone_before : Sat
 gone_before = (freed_last, [])
 
-loads_gone : (m : Sat) → glanced_last at_one gone_before calm m → ⊥
-loads_gone m g = last_is_freed [] (g.1 1 refl refl (inl refl))
+loads_gone : (m : Sat) → glance_of at_one gone_before calm m → ⊥
+loads_gone m g = last_is_freed []
+    ((g 1 refl).2.last (λ f. eqb-false 2 0 refl (ap state_number f)) (inl refl))
 
 -- ---- an exchange of a pin
 abbrev no_frames : Config

@@ -19,11 +19,12 @@ use Rattle.cb_core.specs.TurnLeaves.{OutcomeWrites}
 use Rattle.cb_rule.specs.declared.turn.Turn.{Turn}
 use Rattle.cb_rule.specs.declared.view.Look.{Look}
 use Rattle.cb_rule.specs.declared.view.View.{View}
+use Rattle.cb_rule.specs.Lists.{Has}
 use Rattle.cb_rule.specs.Steps.{AreNew, Knows, look_at, opener}
 use Rattle.cb_record.specs.Parts.{Part, grown, nothing_more}
 use Rattle.cb_shared.specs.Trying.{newest_tries, tries_of}
 use Rattle.cb_shared.specs.Turning.{AreLooksAt, CountsPins, Did, JobReads, KnowsOf, PinsTold, ReadsByPin, Slate, TellsNoPin, TurnAdds, TurnBy, freed_of, held_by, made_by, object_of, slate_run, turn_part}
-use Rattle.cb_shared.proofs.WorkedGround.{a_stand, knows_made, made, not_after, not_new, owner, part, part_pinned, shared_part, two, whole, whole_pinned}
+use Rattle.cb_shared.proofs.WorkedGround.{a_stand, freed_last, has_last, knows_made, last_is_freed, made, not_after, not_new, owner, part, part_pinned, shared_part, two, whole, whole_pinned}
 
 abbrev one : Handle
 one = record { n = 1 }
@@ -160,7 +161,7 @@ many_tell t = t
 moving_tells_none : TellsNoPin (Ok answer.Moving)
 moving_tells_none = tt
 
--- ---- what a reply tells of the pins on object 1
+-- ---- what a reply tells of object 1, by its pins and its length
 abbrev twice_pinned : View
 twice_pinned = record part { pins = a_stand ∷ a_stand ∷ [] }
 
@@ -188,6 +189,23 @@ told_a_version = refl
 
 told_a_version_pinned : PinsTold 1 (answer.Version 4) part_pinned → ⊥
 told_a_version_pinned t = eqb-false 1 0 refl t
+
+-- the length of the last entry, which a pass wrote that alone has the object
+told_long : PinsTold 1 (answer.Range 8) whole
+told_long = λ _. has_last
+
+told_longer : PinsTold 1 (answer.Range 9) whole → ⊥
+told_longer t = let x = t (inl refl) in by x.last x.wrote x.long
+  where
+    by : (e : Entry) → Has e (made ∷ []) → e.len ≡ 9 → ⊥
+    by e (inl is) long = eqb-false 8 9 refl (ap (λ (z : Entry). z.len) is ∙ long)
+    by e (inr none) long = none
+
+told_long_of_freed : PinsTold 1 (answer.Range 8) freed_last → ⊥
+told_long_of_freed t = last_is_freed [] (t (inl refl))
+
+told_long_by_others : PinsTold 1 (answer.Range 9) part
+told_long_by_others = λ alone. absurd (shared_part 1 alone)
 
 told_nothing : PinsTold 1 answer.Moving part_pinned
 told_nothing = tt

@@ -6,9 +6,8 @@ use Rattle.cb_world.specs.Memory.{byte_at}
 use Rattle.cb_world.specs.Write.{IsWrite}
 use Rattle.cb_world.specs.Written.{entry}
 use Rattle.cb_rule.specs.declared.view.View.{View}
-use Rattle.cb_rule.specs.Steps.{IsNewest, with_freed, with_look}
+use Rattle.cb_rule.specs.Steps.{HasLast, IsNewest, with_freed, with_look}
 use Rattle.cb_shared.specs.declared.answers.WriteAnswer.TheVariants.{Ok, Freed, NotHere, Moving, Range, Pinned, Worn, Raced}
-use Rattle.cb_shared.specs.Glances.{HasLast}
 use Rattle.cb_shared.specs.Writing.{IsPastEnd, IsPinnedSo, IsWorn, IsWrittenHere, WriteGives}
 use Rattle.cb_shared.proofs.WorkedGround.{a_stand, away, calm, freed_last, has_last, last_is_freed, last_look, last_state, made, moving, newest_later, newest_made, newest_whole, not_foreign, not_second, owner, part, pinned, shared_part, version_in, whole, words_in}
 

@@ -8,12 +8,12 @@ use Rattle.cb_world.specs.declared.entry.Entry.{Entry}
 use Rattle.cb_rule.specs.declared.view.View.{View}
 use Rattle.cb_rule.specs.Seats.{pins_on}
 use Rattle.cb_rule.specs.Slot.{Sat}
-use Rattle.cb_rule.specs.Steps.{IsNewest, held_at, with_freed, with_look}
+use Rattle.cb_rule.specs.Steps.{HasLast, IsNewest, held_at, with_freed, with_look}
 use Rattle.cb_shared.specs.declared.answers.WriteAnswer.{WriteAnswer}
 use Rattle.cb_shared.specs.declared.answers.WriteAnswer.TheVariants.{Ok, Freed, NotHere, Moving, Range, Pinned, Worn, Raced}
 use Rattle.cb_shared.specs.declared.setup.Setup.{Setup}
 use Rattle.cb_shared.specs.Claims.{with_only}
-use Rattle.cb_shared.specs.Glances.{Glances, HasLast}
+use Rattle.cb_shared.specs.Glances.{Glances}
 use Rattle.cb_shared.specs.Passes.{IsAtRest}
 use Rattle.cb_shared.specs.Places.{IsOf, Place, Moves}
 use Rattle.cb_shared.specs.Writing.{IsRoomFor, IsWriteRefusal, WriteAt, WriteClaimed, WriteGives}

@@ -1,37 +1,19 @@
 -- What a look at a pointer word and the steps of a pin come to.
-use Rattle.std.specs.Prelude.{◌≡◌, ◌≢◌, ℕ, ◌+◌, ◌≤◌, false, List, ◌++◌}
-use Rattle.atomic_table.specs.Table.{Step}
+use Rattle.std.specs.Prelude.{◌≡◌, ◌≢◌, ℕ, ◌≤◌, List}
 use Rattle.cb_types.specs.declared.config.Config.{Config}
 use Rattle.cb_ptr.specs.declared.word.State.TheVariants as state
 use Rattle.cb_ptr.specs.Word.{len_of, pins_of, state_of}
-use Rattle.cb_world.specs.declared.entry.Entry.{Entry}
 use Rattle.cb_rule.specs.declared.view.Stand.{Stand}
 use Rattle.cb_rule.specs.declared.view.View.{View}
-use Rattle.cb_rule.specs.Lists.{Each, Has}
+use Rattle.cb_rule.specs.Lists.{Each}
 use Rattle.cb_rule.specs.Own.{IsAlone}
 use Rattle.cb_rule.specs.Seats.{pins_on}
-use Rattle.cb_rule.specs.Slot.{Sat, Slot}
-use Rattle.cb_rule.specs.Steps.{IsInside, IsNewest, glanced, with_freed, with_look, with_pin}
+use Rattle.cb_rule.specs.Steps.{HasLast, IsInside, IsNewest, with_freed, with_look, with_pin}
 use Rattle.cb_shared.specs.Places.{Place, Moves}
 
--- The record wrote the object's last entry, which has this length and is not the freed one.
-pub record HasLast (h len : ℕ) (v : View) : Type 0 where
-  pub last : Entry
-  pub wrote : Has last (v.fresh ++ v.written)
-  pub handle : last.handle ≡ h
-  pub newest : IsNewest h last.version v
-  pub held : last.freed ≡ false
-  pub long : last.len ≡ len
-
--- so where no other pass has the object
+-- the record wrote the object's last entry, of this length, where no other pass has the object
 abbrev pub IsLastAlone : ℕ → ℕ → View → Type 0
 IsLastAlone h len v = IsAlone h v → HasLast h len v
-
--- a load of the pointer word of an object that the record knows, as the rule tells it. One that is
--- here is not freed.
-abbrev pub glanced_last : Step Slot → Sat → ℕ → Sat → Type 0
-glanced_last st m n m' = glanced st m n m' × ((h : ℕ) → st.word ≡ 1 + h → state_of n ≡ state.Here
-    → IsLastAlone h (len_of n) m.0)
 
 -- The look is added to the record. A freed object is read, at its last version; the pins of one that
 -- is here are counted in its word, and where no other pass has it these are the seat's own, and the

@@ -61,11 +61,16 @@ SaysPins v (Looked h w) = TellsPins h w v
 SaysPins v (Claimed h w n words) = TellsPins h w v
 SaysPins v e = Unit {0}
 
+-- so does each of the events of a view, as it stood when it found the word
+abbrev pub SayPins : List Event → View → Type 0
+SayPins [] v = Unit {0}
+SayPins (e ∷ es) v = SaysPins v e × SayPins es (act e v)
+
 -- The seat's view has these events more. They agree with what it knew, and what they write is new to
 -- its record. The words that were found tell of its pins.
 abbrev pub Runs : Place → List Event → Place → Type 0
 Runs p es q = Moves p q (acted es p.me.0) × Agree p.me.0.known es
-    × AreNew (written_by es p.me.0.known []) p.me.0 × Each (SaysPins p.me.0) es
+    × AreNew (written_by es p.me.0.known []) p.me.0 × SayPins es p.me.0
 
 pub known_is : (p q : Place) (es : List Event) → Moves p q (acted es p.me.0)
     → q.me.0.known ≡ played es p.me.0.known
@@ -88,10 +93,6 @@ written_then (e ∷ es) fs s old = written_then es fs (after e s) (adds e s ++ o
 pub each_behind : {A : Type 0} (P : A → Type 0) (xs ys : List A) → Each P (xs ++ ys) → Each P ys
 each_behind P [] ys all = all
 each_behind P (x ∷ xs) ys all = each_behind P xs ys all.1
-
-each_both : {A : Type 0} (P : A → Type 0) (xs ys : List A) → Each P xs → Each P ys → Each P (xs ++ ys)
-each_both P [] ys a b = b
-each_both P (x ∷ xs) ys a b = (a.0, each_both P xs ys a.1 b)
 
 -- what is new after events was so before them
 new_kept : (h n : ℕ) (es : List Event) (v : View) → IsNew h n (after_events es v) → IsNew h n v
@@ -134,20 +135,31 @@ new_more es fs v a b = let s = v.known in let more = written_by fs (played es s)
     (sym (written_then es fs s [] ∙ written_more fs (played es s) (written_by es s [])))
     (new_behind es v more (subst (AreNew more) (acted_is es v) b) a)
 
--- events change no pins, so what words tell of them after events they tell of those before
-says_kept : (es : List Event) (v : View) (fs : List Event) → Each (SaysPins (after_events es v)) fs
-    → Each (SaysPins v) fs
-says_kept es v [] all = tt
-says_kept es v (Looked h w ∷ fs) all =
-    (record { here = all.0.here; away = all.0.away }, says_kept es v fs all.1)
-says_kept es v (Claimed h w n words ∷ fs) all =
-    (record { here = all.0.here; away = all.0.away }, says_kept es v fs all.1)
-says_kept es v (e ∷ fs) all = (tt, says_kept es v fs all.1)
+say_more : (es fs : List Event) (v : View) → SayPins es v → SayPins fs (acted es v)
+    → SayPins (es ++ fs) v
+say_more [] fs v a b = b
+say_more (e ∷ es) fs v a b = (a.0, say_more es fs (act e v) a.1 b)
 
-says_more : (es fs : List Event) (v : View) → Each (SaysPins v) es → Each (SaysPins (acted es v)) fs
-    → Each (SaysPins v) (es ++ fs)
-says_more es fs v a b = each_both (SaysPins v) es fs a
-    (says_kept es v fs (subst (λ (u : View). Each (SaysPins u) fs) (acted_is es v) b))
+-- the last of the events found words after the first ones
+pub say_behind : (es fs : List Event) (v : View) → SayPins (es ++ fs) v → SayPins fs (acted es v)
+say_behind [] fs v all = all
+say_behind (e ∷ es) fs v all = say_behind es fs (act e v) all.1
+
+nothing_behind : (xs ys : List Entry) → xs ++ ys ≡ [] → ys ≡ []
+nothing_behind [] ys e = e
+nothing_behind (x ∷ xs) ys e = absurd (absurd_cons e)
+  where
+    absurd_cons : x ∷ (xs ++ ys) ≡ [] → ⊥
+    absurd_cons q = cc
+
+-- where events wrote nothing at all, the first of them wrote nothing either
+pub still_unwritten : (es fs : List Event) (s : Shown) (old : List Entry)
+    → written_by (es ++ fs) s old ≡ [] → written_by es s old ≡ old
+still_unwritten es fs s old none =
+    let here : written_by es s old ≡ [] =
+    nothing_behind (written_by fs (played es s) []) (written_by es s old)
+    (sym (written_more fs (played es s) (written_by es s old)) ∙ sym (written_then es fs s old) ∙ none) in
+    here ∙ sym (nothing_behind (written_by es s []) old (sym (written_more es s old) ∙ here))
 
 -- what a seat wrote that had written nothing in its turn
 pub fresh_new : (p q : Place) (es : List Event) → p.me.0.fresh ≡ [] → Runs p es q
@@ -169,8 +181,8 @@ runs_more p q r es fs a b = let m = a.0 in let n = b.0 in (
   new_more es fs p.me.0 a.2 (subst (λ (s : Shown). AreNew (written_by fs s []) (acted es p.me.0))
       (known_is p q es m)
       (subst (λ (v : View). AreNew (written_by fs q.me.0.known []) v) (ap (λ (k : Sat). k.0) m.2) b.2)),
-  says_more es fs p.me.0 a.3
-      (subst (λ (v : View). Each (SaysPins v) fs) (ap (λ (k : Sat). k.0) m.2) b.3),
+  say_more es fs p.me.0 a.3
+      (subst (λ (v : View). SayPins fs v) (ap (λ (k : Sat). k.0) m.2) b.3),
 )
 
 pub runs_follows : (p q : Place) (es : List Event) (s : Shown) → Runs p es q → s ≡ p.me.0.known

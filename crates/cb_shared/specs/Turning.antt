@@ -26,6 +26,7 @@ use Rattle.cb_rule.specs.Steps.{AreNew, Knows}
 use Rattle.cb_shared.specs.declared.reading.ReadAnswer.{ReadAnswer}
 use Rattle.cb_shared.specs.declared.reading.ReadAnswer.TheVariants as found
 use Rattle.cb_record.specs.Parts.{Part, grown, nothing_more, sum}
+use Rattle.cb_shared.specs.Glances.{IsLastAlone}
 use Rattle.cb_shared.specs.Reading.{ReadFinds}
 
 -- a desk that is plain data: what is known, and the events so far
@@ -157,13 +158,15 @@ abbrev pub FindsFreed : Option ℕ → View → Part → Type 0
 FindsFreed (Some h) v d = FindsAtLast h found.Freed v d
 FindsFreed None v d = d ≡ nothing_more
 
--- What a write or a free tells of the pins on its object. It is answered Pinned where there are some:
--- as many at least as the pass has on it, and these alone where no other pass has the object. A
--- version is answered only where the pass has none.
+-- What a write or a free tells of its object, by the word that it found last. It is answered Pinned
+-- where there are some pins: as many at least as the pass has on it, and these alone where no other
+-- pass has the object. A version is answered only where the pass has none. Range tells the length of
+-- the last entry, which the pass wrote where no other one has the object.
 abbrev pub PinsTold : ℕ → Reply → View → Type 0
 PinsTold h (answer.Pinned count) v =
     (1 ≤ count) × (pins_on h v ≤ count) × (IsAlone h v → count ≡ pins_on h v)
 PinsTold h (answer.Version n) v = pins_on h v ≡ 0
+PinsTold h (answer.Range len) v = IsLastAlone h len v
 PinsTold h r v = Unit {0}
 
 -- so does a turn of one of these jobs

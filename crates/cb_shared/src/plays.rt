@@ -5,8 +5,7 @@ ghost use Rattle.cb_types.specs.declared.job.Job.{Job};
 ghost use Rattle.cb_types.specs.declared.job.Job.TheVariants.{Evict};
 ghost use Rattle.cb_types.specs.declared.reply.Reply.{Reply};
 ghost use Rattle.cb_rule.specs.LockSteps.{gave};
-ghost use Rattle.cb_rule.specs.Steps.{looked, told, loaded, claimed, stored, stamped, settled, pinned, unpinned, peeked, dated, read_held, claimed_here, stored_here, stamped_here, settled_here, put_back, blank, left_of, right_of, joined};
-ghost use Rattle.cb_shared.specs.Glances.{glanced_last};
+ghost use Rattle.cb_rule.specs.Steps.{looked, told, loaded, claimed, stored, stamped, settled, glanced, pinned, unpinned, peeked, dated, read_held, claimed_here, stored_here, stamped_here, settled_here, put_back, blank, left_of, right_of, joined};
 ghost use Rattle.cb_shared.specs.Making.{took_first};
 ghost use Rattle.cb_shared.specs.PinLoads.{read_pin};
 ghost use Rattle.cb_shared.specs.Tallies.{tallied};
@@ -115,7 +114,7 @@ impl<W: Deed> Play<Option<Far>, View> for GiveLock<W> {
 pub struct Glance;
 
 impl Play<Option<Far>, View> for Glance {
-    ghost then = { glanced_last };
+    ghost then = { glanced };
 }
 
 /// An exchange of a pointer word that takes a pin, or finds another word.

@@ -25,7 +25,7 @@ loop-ended-preserved c =
     taking_more s given all left e later first c.take_in.new.first t is
     (c.in_ok-take_in.ensures.told given t.others t.answers t.told
     (first_ended s given left e later t.ended is) (first_apart s given all left e later first t is)
-    (first_of_others s given all left e later first t is))
+    (first_of_others s given all left e later first t is) c.requires.of_first)
     (others_ended s given left e later t.ended is) c.in_ok-take_in.ensures.work
 
 pub returns-clause-work : goal.returns-clause-work

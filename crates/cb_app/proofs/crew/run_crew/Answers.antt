@@ -30,6 +30,10 @@ gather-requires-clause-first g c =
     let d = c.in_ok-tasks.ensures.dealt in
     told_again s [] lines b (told_left s [] lines a b d.share d.own c.requires.first refl d.of d.left)
 
+pub gather-requires-clause-of_first : goal.gather-requires-clause-of_first
+gather-requires-clause-of_first g c =
+    first_answers c.args.lines.now c.args.first.now.answers c.requires.first.lines_are
+
 pub gather-requires-clause-ended : goal.gather-requires-clause-ended
 gather-requires-clause-ended g c = c.in_ok-ends.ensures.ended c.args.first.now.answers c.requires.names
     (λ k t low. (

@@ -9,11 +9,11 @@ use Rattle.cb_app.proofs.crew.take_end.Goals as goal
 
 pub returns : goal.returns
 returns c = record {
-  told = λ given others lines are told ended apart none.
+  told = λ given others lines are told ended apart none first.
       let s = c.args.shared.now in
       let b : LaneEnd = record { answers = c.append.new.answers; pass = c.join_pass.new.pass } in
       IfOk-weaker c.append.result _ (λ x. TakesIn s given others lines b)
-      (λ x same. taken_in s given others lines c.args.first.now c.args.end b are told ended apart none
+      (λ x same. taken_in s given others lines c.args.first.now c.args.end b are told ended apart none first
       c.join_pass.ensures.of c.join_pass.ensures.joined same) c.append.ensures;
   work = λ w.
       let v = record_of c.args.first.now.pass in

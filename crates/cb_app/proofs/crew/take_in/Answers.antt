@@ -7,10 +7,10 @@ use Rattle.cb_app.proofs.crew.take_in.Goals as goal
 
 pub returns-in-Ok : goal.returns-in-Ok
 returns-in-Ok c = record {
-  told = λ given others are told ended apart none.
+  told = λ given others are told ended apart none first.
       let s = c.args.shared.now in
       let lines = c.args.ended.lines in
-      c.take_end.ensures.told given others lines are told (rw c.in-Ok.is at ended) apart none;
+      c.take_end.ensures.told given others lines are told (rw c.in-Ok.is at ended) apart none first;
   work = λ w t made.
       let old = work_in w (record_of c.args.first.now.pass) in
       let new = work_in w (record_of c.take_end.new.first.pass) in

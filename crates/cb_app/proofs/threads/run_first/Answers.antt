@@ -1,7 +1,9 @@
-use Rattle.std.proofs.Common.{List, [], refl, sym, ap, ◌∙◌, subst}
+use Rattle.std.proofs.Common.{◌≡◌, List, [], refl, sym, ap, ◌∙◌, subst}
+use Rattle.cb_script.specs.declared.script.Line.{Line}
 use Rattle.cb_script.specs.Form.{AreLines}
 use Rattle.cb_shared.specs.Passes.{record_of}
 use Rattle.cb_lanes.specs.declared.body.Named.{Named}
+use Rattle.cb_lanes.specs.AloneUntil.{LaneKeepsAlone}
 use Rattle.cb_lanes.specs.Bodies.{AreNamesOf, KnowsNames}
 use Rattle.cb_lanes.proofs.Laws.{lane_on_record}
 use Rattle.cb_app.specs.ByLane.{of_lane}
@@ -22,11 +24,17 @@ pub returns-in-Ok-clause-told : goal.returns-in-Ok-clause-told
 returns-in-Ok-clause-told g c =
     let named = subst (λ (ns : List Named). AreNamesOf ns []) (sym c.new-names.ensures.empty) (λ name. refl) in
     let fresh = subst IsFresh (sym c.requires.begun.begun) (opener_fresh c.args.s.now.config) in
+    let nodes = c.args.shared.now.config.nodes in
+    let are : AreLines nodes [] c.args.s.now.lines = rw c.requires.begun.config c.requires.lines in
+    let lines : c.as_slice-2.result.now ≡ of_lane 0 c.args.s.now.lines =
+    c.as_slice-2.ensures.items ∙ c.in_ok-lines.ensures ∙ ap (of_lane 0) c.as_slice.ensures.items in
     lane_told c.args.shared.now 0 c.new-names.result (record_of c.args.pass) (of_lane 0 c.args.s.now.lines) c.in-Ok.end
     fresh (subst (KnowsNames (record_of c.args.pass)) (sym c.new-names.ensures.empty) tt) c.in-Ok.ensures.of.0
-    (c.in-Ok.ensures.lines ∙ c.as_slice-2.ensures.items ∙ c.in_ok-lines.ensures ∙ ap (of_lane 0) c.as_slice.ensures.items)
+    (c.in-Ok.ensures.lines ∙ lines)
     c.in-Ok.ensures.answered c.in-Ok.ensures.part c.in-Ok.ensures.goes c.in-Ok.ensures.rises
-    c.in-Ok.ensures.scoped [] named (none_known (record_of c.args.pass)) refl
+    c.in-Ok.ensures.scoped (subst (λ (ls : List Line). LaneKeepsAlone nodes 0 c.new-names.result ls
+    c.in-Ok.end.answers (record_of c.in-Ok.end.pass)) lines c.in-Ok.ensures.alone)
+    (of_lane_lines nodes 0 [] c.args.s.now.lines are) [] named (none_known (record_of c.args.pass)) refl
 
 pub returns-in-Ok-clause-known : goal.returns-in-Ok-clause-known
 returns-in-Ok-clause-known g c =

@@ -1,5 +1,6 @@
 use Rattle.std.proofs.Common.{[], ap}
 use Rattle.cb_rule.specs.declared.view.View.{View}
+use Rattle.cb_lanes.proofs.LaneForm.{lane_keeps_alone}
 use Rattle.cb_lanes.proofs.LaneRises.{lane_alone}
 use Rattle.cb_lanes.proofs.LaneScopes.{lane_scoped}
 use Rattle.cb_lanes.proofs.LineReplies.{lines_reply}
@@ -54,6 +55,13 @@ returns-in-Ok-clause-scoped g c = lane_scoped c.args.shared.now.config c.args.na
     c.args.shared.now.config.nodes c.args.lane.n c.args.lines.now c.answer_all-done.new.answers
     c.args.pass.seat.me.0 c.leave.new.pass.seat.me.0 c.requires.pins
     (returns-in-Ok-clause-goes g c) c.requires.lines (returns-in-Ok-clause-lines g c)
+
+pub returns-in-Ok-clause-alone : goal.returns-in-Ok-clause-alone
+returns-in-Ok-clause-alone g c = lane_keeps_alone c.args.shared.now.config
+    c.args.shared.now.config.nodes c.args.lane.n c.args.names.now c.args.lines.now
+    c.answer_all-done.new.answers c.args.pass.seat.me.0 c.leave.new.pass.seat.me.0 c.requires.pins
+    c.requires.of.rest.fresh c.requires.names (returns-in-Ok-clause-goes g c)
+    (returns-in-Ok-clause-lines g c) (returns-in-Ok-clause-answered g c)
 
 pub returns-in-Err-clause-stopped : goal.returns-in-Err-clause-stopped
 returns-in-Err-clause-stopped g c = (

@@ -1,5 +1,6 @@
-use Rattle.std.proofs.Common.{refl, arith}
+use Rattle.std.proofs.Common.{◌∙◌, refl, sym, arith}
 use Rattle.cb_shared.proofs.PinsAlone.{glances_at}
+use Rattle.cb_shared.proofs.Resting.{here_empty}
 use Rattle.cb_shared.proofs.pins.glance.Goals as goal
 
 pub load-requires : goal.load-requires
@@ -12,9 +13,9 @@ load-requires c = let o = c.requires.of in (
 
 pub returns : goal.returns
 returns c = let t = c.load.ensures.0 in let i = c.load.ensures.1 in
-    let z = c.load.ensures.2.0 c.args.h refl in record {
+    let z = c.load.ensures.2 c.args.h refl in record {
       freed = λ e. let y = z.0 e in (y.0, y.2, (t, i, y.1));
       other = λ e. (t, i, z.1 e);
       counted = λ e. let y = z.2.here e in (y.1, y.2);
-      held = c.load.ensures.2.1 c.args.h refl;
+      held = λ e. z.2.last (λ empty. here_empty (sym e ∙ empty));
     }
