@@ -1,6 +1,9 @@
 -- What other crates may use of these proofs.
+pub use Rattle.cb_lanes.proofs.EasyWorlds.{crash_below, crash_named, crashed_count, crashed_nodes}
 pub use Rattle.cb_lanes.proofs.FreedLast.{freed_last}
 pub use Rattle.cb_lanes.proofs.LaneRises.{has_joined, has_split, has_taken_in}
 pub use Rattle.cb_lanes.proofs.LaneScopes.{made_as_left, made_as_right}
 pub use Rattle.cb_lanes.proofs.LinesRise.{lane_on_record}
 pub use Rattle.cb_lanes.proofs.LinesSuit.{are_suited_both, are_suited_more, lane_suits}
+pub use Rattle.cb_lanes.proofs.RoomBeside.{enough_beside}
+pub use Rattle.cb_lanes.proofs.RowsBeside.{JoinsApart}
